@@ -1,0 +1,3 @@
+pub mod RelRows
+pub mod Blanks
+pub mod IntNumerals

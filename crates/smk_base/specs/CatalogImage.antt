@@ -1,0 +1,38 @@
+-- A checked book as the definitions see it: plans without where they lie in memory.
+use Rattle.std.specs.Prelude.{ℕ, List, map}
+use Rattle.smk_base.specs.declared.value.Kind.{Kind}
+use Rattle.smk_base.specs.declared.catalog.Catalog.{Catalog}
+use Rattle.smk_base.specs.declared.catalog.TableInfo.{TableInfo}
+use Rattle.smk_base.specs.declared.catalog.ViewInfo.{ViewInfo}
+use Rattle.smk_base.specs.declared.catalog.Back.{Back}
+use Rattle.smk_base.specs.declared.catalog.Fwd.{Fwd}
+use Rattle.smk_base.specs.declared.catalog.LinkInfo.{LinkInfo}
+use Rattle.smk_base.specs.Plans.{Expr}
+use Rattle.smk_base.specs.PlanImage.{expr_of}
+
+-- a view
+pub record ViewImage : Type 0 where
+  pub name : List ℕ
+  pub plan : Expr
+  pub names : List (List ℕ)
+  pub kinds : List Kind
+
+-- a checked book
+pub record CatalogImage : Type 0 where
+  pub tables : List TableInfo
+  pub views : List ViewImage
+  pub backs : List Back
+  pub fwds : List Fwd
+  pub links : List LinkInfo
+
+abbrev pub view_image : ViewInfo → ViewImage
+view_image view = record { name = view.name; plan = expr_of view.plan; names = view.names; kinds = view.kinds }
+
+abbrev pub catalog_image : Catalog → CatalogImage
+catalog_image catalog = record {
+  tables = catalog.tables;
+  views = map view_image catalog.views;
+  backs = catalog.backs;
+  fwds = catalog.fwds;
+  links = catalog.links;
+}

@@ -1,0 +1,12 @@
+pub mod Cells
+pub mod Places
+pub mod Values
+pub mod Rels
+pub mod Ints
+pub mod Marks
+pub mod Plans
+pub mod PlanImage
+pub mod Trees
+pub mod TreeImage
+pub mod CatalogImage
+pub mod Picks

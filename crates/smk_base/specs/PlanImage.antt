@@ -1,0 +1,25 @@
+-- Predicates, steps and plans as the definitions see them.
+use Rattle.smk_base.specs.Plans.{Formula, Comparison, Conjunction, Disjunction, Negation, Unary, Selection, Projection, Distinction, Grouping, Expr, Leaf, Apply, Combine}
+use Rattle.smk_base.specs.declared.plan.Pred.{Pred, And', Or', Not'}
+use Rattle.smk_base.specs.declared.plan.Pred.TheVariants.{Cmp}
+use Rattle.smk_base.specs.declared.plan.Op1.{Op1}
+use Rattle.smk_base.specs.declared.plan.Op1.TheVariants.{Select, Project, Distinct, Group}
+use Rattle.smk_base.specs.declared.plan.Plan.{Plan, One', Two'}
+use Rattle.smk_base.specs.declared.plan.Plan.TheVariants.{Scan}
+
+abbrev pub formula_of : Pred → Formula
+formula_of (Cmp col op operand) = Comparison col op operand
+formula_of (And' p left q right) = Conjunction (formula_of left) (formula_of right)
+formula_of (Or' p left q right) = Disjunction (formula_of left) (formula_of right)
+formula_of (Not' p inner) = Negation (formula_of inner)
+
+abbrev pub unary_of : Op1 → Unary
+unary_of (Select pred) = Selection (formula_of pred)
+unary_of (Project items) = Projection items
+unary_of (Distinct items) = Distinction items
+unary_of (Group keys aggs) = Grouping keys aggs
+
+abbrev pub expr_of : Plan → Expr
+expr_of (Scan table) = Leaf table
+expr_of (One' op p input) = Apply (unary_of op) (expr_of input)
+expr_of (Two' op p left q right) = Combine op (expr_of left) (expr_of right)

@@ -1,0 +1,43 @@
+-- Predicates, steps, plans, statements and books as the definitions see them.
+use Rattle.std.specs.Prelude.{List, map}
+use Rattle.smk_base.specs.Trees.{PredImage, CompareNode, AndNode, OrNode, NotNode, TreeImage, ScanNode, StepNode, StepImage, SelectNode, ProjectNode, DistinctNode, GroupNode, JoinNode, UnionAllNode, UnionNode, StmtImage, TableNode, ViewNode, BackNode, FwdNode, LinkNode}
+use Rattle.smk_base.specs.declared.tree.PredTree.{PredTree, And', Or', Not'}
+use Rattle.smk_base.specs.declared.tree.PredTree.TheVariants.{Cmp}
+use Rattle.smk_base.specs.declared.tree.Tree.{Tree, Step'}
+use Rattle.smk_base.specs.declared.tree.Tree.TheVariants.{Scan}
+use Rattle.smk_base.specs.declared.tree.StepTree.{StepTree, Join', UnionAll', Union'}
+use Rattle.smk_base.specs.declared.tree.StepTree.TheVariants.{Select, Project, Distinct, Group}
+use Rattle.smk_base.specs.declared.tree.Stmt.{Stmt}
+use Rattle.smk_base.specs.declared.tree.Stmt.TheVariants.{Table, View, Back, Fwd, Link}
+use Rattle.smk_base.specs.declared.tree.Book.{Book}
+
+abbrev pub pred_image : PredTree → PredImage
+pred_image (Cmp col op term) = CompareNode col op term
+pred_image (And' p left q right) = AndNode (pred_image left) (pred_image right)
+pred_image (Or' p left q right) = OrNode (pred_image left) (pred_image right)
+pred_image (Not' p inner) = NotNode (pred_image inner)
+
+abbrev mutual
+  pub tree_image : Tree → TreeImage
+  tree_image (Scan table) = ScanNode table
+  tree_image (Step' at p input what) = StepNode at (tree_image input) (step_image what)
+
+  pub step_image : StepTree → StepImage
+  step_image (Select pred) = SelectNode (pred_image pred)
+  step_image (Project items) = ProjectNode items
+  step_image (Distinct items) = DistinctNode items
+  step_image (Group keys aggs) = GroupNode keys aggs
+  step_image (Join' p right pairs) = JoinNode (tree_image right) pairs
+  step_image (UnionAll' p right) = UnionAllNode (tree_image right)
+  step_image (Union' p right) = UnionNode (tree_image right)
+
+abbrev pub stmt_image : Stmt → StmtImage
+stmt_image (Table name file cols) = TableNode name file cols
+stmt_image (View name plan) = ViewNode name (tree_image plan)
+stmt_image (Back at view table extra) = BackNode at view table extra
+stmt_image (Fwd at table view) = FwdNode at table view
+stmt_image (Link view table to) = LinkNode view table to
+
+-- the statements of a book, in order
+abbrev pub book_image : Book → List StmtImage
+book_image book = map stmt_image book.stmts

@@ -1,0 +1,40 @@
+-- Books as they are written, without where they lie in memory: the data that the definitions of the grammar and of the typing are over. Parts that hold no box stand as they are declared.
+use Rattle.std.specs.Prelude.{ℕ, List}
+use Rattle.smk_base.specs.declared.plan.CmpOp.{CmpOp}
+use Rattle.smk_base.specs.declared.tree.Word.{Word}
+use Rattle.smk_base.specs.declared.tree.Decl.{Decl}
+use Rattle.smk_base.specs.declared.tree.Extra.{Extra}
+use Rattle.smk_base.specs.declared.tree.ItemTree.{ItemTree}
+use Rattle.smk_base.specs.declared.tree.AggTree.{AggTree}
+use Rattle.smk_base.specs.declared.tree.PairTree.{PairTree}
+use Rattle.smk_base.specs.declared.tree.Term.{Term}
+
+-- a predicate
+pub data PredImage : Type 0 where
+  CompareNode : Word → CmpOp → Term → PredImage
+  AndNode : PredImage → PredImage → PredImage
+  OrNode : PredImage → PredImage → PredImage
+  NotNode : PredImage → PredImage
+
+-- a plan, and a step without its input; the number is the place of the step's first keyword
+mutual
+  pub data TreeImage : Type 0 where
+    ScanNode : Word → TreeImage
+    StepNode : ℕ → TreeImage → StepImage → TreeImage
+
+  pub data StepImage : Type 0 where
+    SelectNode : PredImage → StepImage
+    ProjectNode : List ItemTree → StepImage
+    DistinctNode : List ItemTree → StepImage
+    GroupNode : List Word → List AggTree → StepImage
+    JoinNode : TreeImage → List PairTree → StepImage
+    UnionAllNode : TreeImage → StepImage
+    UnionNode : TreeImage → StepImage
+
+-- a statement; the number is the place of `lineage`
+pub data StmtImage : Type 0 where
+  TableNode : Word → List ℕ → List Decl → StmtImage
+  ViewNode : Word → TreeImage → StmtImage
+  BackNode : ℕ → Word → Word → Extra → StmtImage
+  FwdNode : ℕ → Word → Word → StmtImage
+  LinkNode : Word → Word → List Word → StmtImage

@@ -1,0 +1,43 @@
+//! The data types that the model and the code of Smoke share.
+#![tactic(auto)]
+
+mod catalog;
+mod col_decl;
+mod copied;
+mod fault;
+mod list;
+mod pick;
+mod picks;
+mod plan;
+mod read;
+mod rel;
+mod reply;
+mod token;
+mod tree;
+mod type_fault;
+mod value;
+
+pub use catalog::{
+    Back, BackExtra, Backs, Catalog, ColNames, Column, Columns, Fwd, Fwds, Kinds, LinkInfo,
+    LinkInfos, TableInfo, TableInfos, ViewInfo, ViewInfos,
+};
+pub use col_decl::{ColDecl, ColDecls};
+pub use copied::Copied;
+pub use fault::{BookFault, Fault, FilesFault, LineFault, Many, TableFault};
+pub use list::{ListOf, Rids, Row, Text};
+pub use pick::Pick;
+pub use picks::Picks;
+pub use plan::{Agg, Aggs, CmpOp, Dir, Item, Items, Keys, Op1, Op2, Operand, Pairs, Plan, Pred};
+pub use read::{read_int, without_mark};
+pub use rel::{ROW_LIMIT, Rel};
+pub use reply::{Linked, Linkeds, Refusal, Reply};
+pub use token::TokenKind;
+pub use tree::{
+    AggTree, AggTrees, AggWhat, Book, Decl, Decls, Extra, ItemTree, ItemTrees, Line, LineSpan, Lit,
+    Marks, PairTree, PairTrees, PredTree, StepTree, Stmt, Stmts, Term, Then, Tree, Word, Words,
+};
+pub use type_fault::TypeFault;
+pub use value::{CellRef, Kind, Value};
+
+#[cfg(test)]
+mod tests;

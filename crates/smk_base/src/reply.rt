@@ -1,0 +1,57 @@
+use crate::list::{ListOf, Rids};
+use crate::rel::Rel;
+
+/// The answer to a line of a script.
+#[derive(Drop)]
+pub enum Reply {
+    /// The content of a view.
+    View { rel: Rel },
+    /// Rows of a table, and their rids in the same order.
+    Back { rids: Rids, rows: Rel },
+    /// A declared grouping over rows of a table.
+    Grouped { rel: Rel },
+    /// The marks of a view.
+    Fwd { marks: Rids },
+    /// The rids that a brush selects, and the views that follow it, in the order of their links.
+    Brush { rids: Rids, linked: Linkeds },
+    /// No brush is in force.
+    Cleared,
+    /// The line is refused, and nothing is changed.
+    Refused(Refusal),
+}
+
+/// A view that follows a brush, by its number: its marks that the brush reaches, and its content over the brushed rows.
+#[derive(Drop)]
+pub struct Linked {
+    pub view: u32,
+    pub marks: Rids,
+    pub rel: Rel,
+}
+
+/// The views that follow a brush.
+pub type Linkeds = ListOf<Linked>;
+
+/// Why a line is refused. The names that it speaks of are those of the line.
+#[derive(Debug, Drop, Clone, Copy, PartialEq, Eq)]
+pub enum Refusal {
+    /// The book has no view of this name.
+    UnknownView,
+    /// The book has no table of this name.
+    UnknownTable,
+    /// The book doesn't declare this query.
+    Undeclared,
+    /// The first number of the line that is no row, and how many rows there are.
+    NoRow { row: u32, rows: u32 },
+    /// The book doesn't declare this backward query by the column.
+    NoSplit,
+    /// The literal is an int and the column holds texts, or the other way round.
+    ValueKind,
+    /// The book doesn't declare a grouping for this backward query.
+    NoGroup,
+    /// The book has no link of this view on this table.
+    NotLinked,
+    /// The first linked view, by its number, and its first node in post-order that would have too many rows.
+    RowsLimit { view: u32, node: u32 },
+    /// A grouping is asked for more than one mark.
+    ManyMarks,
+}
