@@ -1,0 +1,110 @@
+-- Tokens that were taken can be completed.
+use Rattle.std.specs.Prelude.{Result, Ok, Err}
+use Rattle.std.proofs.Common.{◌≡◌, ℕ, List, [], ◌∷◌, ◌++◌, ap, ◌∙◌, refl}
+use Rattle.smk_base.specs.declared.token.TokenKind.{TokenKind}
+use Rattle.smk_base.specs.declared.token.TokenKind.TheVariants as kinds
+use Rattle.smk_base.specs.declared.fault.BookFault.{BookFault}
+use Rattle.smk_base.specs.declared.fault.BookFault.TheVariants.{TooMany, BadNumber}
+use Rattle.smk_model.specs.Tokens.{Token}
+use Rattle.smk_model.specs.Grammar.{First, plain_word, IsName, name, IsColumn, plain, string, no_more, int_type, no_default, by_itself, width, column_item, count, no_keys, no_aggs, eq, column_term, compared, no_and, no_or, scan, no_step, group_step, union_step, no_extra, fwd_stmt, no_stmt, mark, all_marks, no_then, clear_line, whole_line}
+use Rattle.smk_model.specs.Machine.{State, Counts, Symbol, Move, Takes, Skips, Wrong, Past, Outside, settle, go_on, through, book_symbols, line_symbols, no_counts, AToken, AName, AColumn, ALiteral, AWidth, AType, ADefault, AnAs, AWhat, AKeys, AnAggs, AFirst, AnItem, ALinked, MoreDecls, MoreItems, MoreKeys, MoreAggs, MorePairs, MoreLinked, ASource, ASteps, AStep, AUnited, APrim, AnAnds, AnOrs, AnOp, ATerm, AStmts, ALineage, AnExtra, ALine, ALineName, ALineColumn, AMarks, AMark, MoreMarks, AThen, AnEnd}
+use Rattle.smk_model.specs.Machine.{fault_at}
+use Rattle.smk_model.specs.GrammarLaws.{NoEnds, TakenAreCompleted}
+use Rattle.smk_model.proofs.Moves.{IsSymbol, AreSymbols, settled, MovesAll}
+
+abbrev tok : TokenKind → List ℕ → Token
+tok k text = record { at = 0; kind = k; text = text }
+
+is_tok : (k : TokenKind) (text : List ℕ) (b : List Token) → First k (tok k text) (tok k text ∷ b) b
+is_tok k text b = record { is_kind = refl; is_first = refl }
+
+a_name : (b : List Token) → IsName (tok kinds.Name [] ∷ b) b (plain_word (tok kinds.Name []))
+a_name b = name (is_tok kinds.Name [] b)
+
+a_column : (b : List Token) → IsColumn (tok kinds.Name [] ∷ b) b (plain_word (tok kinds.Name []))
+a_column b = plain (is_tok kinds.Name [] b)
+
+abbrev Text : Symbol → List Token → Type 0
+Text x b = (a : List Token) × IsSymbol x a b
+
+a_source : (b : List Token) → Text (ASource 0) b
+a_source b = (tok kinds.Scan [] ∷ tok kinds.Name [] ∷ b, (_, scan (is_tok kinds.Scan [] (tok kinds.Name [] ∷ b)) (a_name b)))
+
+-- a shortest text of each symbol
+closes : (x : Symbol) (b : List Token) → Text x b
+closes (AToken k) b = (tok k [] ∷ b, (tok k [], is_tok k [] b))
+closes AName b = (tok kinds.Name [] ∷ b, (_, a_name b))
+closes AColumn b = (tok kinds.Name [] ∷ b, (_, a_column b))
+closes ALiteral b = (tok kinds.Str [] ∷ b, (_, string (is_tok kinds.Str [] b)))
+closes AWidth b = (tok kinds.Number (49 ∷ []) ∷ b, (_, width (is_tok kinds.Number (49 ∷ []) b) refl))
+closes AType b = (tok kinds.Int [] ∷ b, (_, int_type (is_tok kinds.Int [] b)))
+closes ADefault b = (b, (_, no_default))
+closes AnAs b = (b, λ w. (w, by_itself))
+closes AWhat b = (tok kinds.Count [] ∷ b, (_, count (is_tok kinds.Count [] b)))
+closes AKeys b = (b, (_, no_keys))
+closes AnAggs b = (b, (_, no_aggs))
+closes (AFirst n) b = (tok kinds.Name [] ∷ b, (_, a_column b))
+closes (AnItem n) b = (tok kinds.Name [] ∷ b, (_, column_item (a_column b) by_itself))
+closes (ALinked n) b = (tok kinds.Name [] ∷ b, (_, a_name b))
+closes (MoreDecls n) b = (b, ([], no_more))
+closes (MoreItems n) b = (b, ([], no_more))
+closes (MoreKeys n) b = (b, ([], no_more))
+closes (MoreAggs n) b = (b, ([], no_more))
+closes (MorePairs n) b = (b, ([], no_more))
+closes (MoreLinked n) b = (b, ([], no_more))
+closes (ASource d) b = let s = a_source b in (s.0, s.1)
+closes (ASteps d) b = (b, λ x. (x, no_step))
+closes (AStep d) b = (tok kinds.Group [] ∷ b, (_, _, group_step (is_tok kinds.Group [] b) no_keys no_aggs))
+closes (AUnited d) b = let s = a_source b in (s.0, λ z t g. (_, _, union_step g s.1.1))
+closes (APrim d) b = (tok kinds.Name [] ∷ tok kinds.Equal [] ∷ tok kinds.Name [] ∷ b, (_, compared (a_column (tok kinds.Equal [] ∷ tok kinds.Name [] ∷ b)) (eq (is_tok kinds.Equal [] (tok kinds.Name [] ∷ b))) (column_term (a_column b))))
+closes (AnAnds d) b = (b, λ p. (p, no_and))
+closes (AnOrs d) b = (b, λ p. (p, no_or))
+closes AnOp b = (tok kinds.Equal [] ∷ b, (_, eq (is_tok kinds.Equal [] b)))
+closes ATerm b = (tok kinds.Name [] ∷ b, (_, column_term (a_column b)))
+closes (AStmts y) b = (tok kinds.End [] ∷ b, ([], no_stmt (is_tok kinds.End [] b)))
+closes ALineage b = (tok kinds.Fwd [] ∷ tok kinds.Name [] ∷ tok kinds.To [] ∷ tok kinds.Name [] ∷ b, λ z t g. (_, fwd_stmt g (is_tok kinds.Fwd [] (tok kinds.Name [] ∷ tok kinds.To [] ∷ tok kinds.Name [] ∷ b)) (a_name (tok kinds.To [] ∷ tok kinds.Name [] ∷ b)) (is_tok kinds.To [] (tok kinds.Name [] ∷ b)) (a_name b)))
+closes AnExtra b = (b, (_, no_extra))
+closes ALine b = (tok kinds.Clear [] ∷ b, (_, clear_line (is_tok kinds.Clear [] b)))
+closes ALineName b = (tok kinds.Name [] ∷ b, (_, a_name b))
+closes ALineColumn b = (tok kinds.Name [] ∷ b, (_, a_column b))
+closes AMarks b = (tok kinds.All [] ∷ b, (_, all_marks (is_tok kinds.All [] b)))
+closes AMark b = (tok kinds.Number [] ∷ b, (0, mark (is_tok kinds.Number [] b) refl refl))
+closes MoreMarks b = (b, ([], no_more))
+closes AThen b = (b, (_, no_then))
+closes AnEnd b = (tok kinds.End [] ∷ b, (tok kinds.End [], b, is_tok kinds.End [] b))
+
+close_all : (ss : List Symbol) → (a : List Token) × (b : List Token) × AreSymbols ss a b
+close_all [] = ([], [], refl)
+close_all (x ∷ ss) = let r = close_all ss in let h = closes x r.0 in (h.0, r.1, (r.0, h.1, r.2))
+
+abbrev went : Result State BookFault → Result State BookFault
+went r = r
+
+rest_of : Result State BookFault → List Token
+rest_of (Ok s) = s.rest
+rest_of (Err e) = []
+
+not_done : (t : Token) (ts : List Token) (c : Counts) (s : State) → went (Ok (record { rest = t ∷ ts; counts = c })) ≡ went (Ok s) → s.rest ≡ [] → ⊥
+unfolding rest_of
+not_done t ts c s e f = let g : t ∷ ts ≡ [] = ap rest_of e ∙ f in absurd (cc)
+
+not_failed : (f : BookFault) (s : State) → went (Err f) ≡ went (Ok s) → ⊥
+not_failed f s e = absurd (cc)
+
+completes : (ts : List Token) (ss : List Symbol) (c : Counts) (s : State) → NoEnds ts → through ss c ts ≡ Ok s → s.rest ≡ [] → (more : List Token) × (b : List Token) × AreSymbols ss (ts ++ more) b
+completes [] ss c s n e f = close_all ss
+completes (t ∷ ts) [] c s n e f = absurd (not_done t ts c s e f)
+completes (t ∷ ts) (x ∷ ss) c s n e f = by (settle (x ∷ ss) c t) (settled (x ∷ ss) c t n.0) e (λ l d g. completes ts l d s n.1 g f)
+  where
+    by : (m : Move) → MovesAll m (x ∷ ss) t → go_on m c t ts (λ d l. through l d ts) ≡ Ok s → ((l : List Symbol) (d : Counts) → through l d ts ≡ Ok s → (more : List Token) × (b : List Token) × AreSymbols l (ts ++ more) b) → (more : List Token) × (b : List Token) × AreSymbols (x ∷ ss) (t ∷ (ts ++ more)) b
+    by (Takes d l) h g rec = let r = rec l d g in (r.0, r.1, h (ts ++ r.0) r.1 r.2)
+    by Skips h g rec = absurd (not_done t ts c s g f)
+    by Wrong h g rec = absurd (not_failed (fault_at t) s g)
+    by (Past w) h g rec = absurd (not_failed (TooMany t.at w) s g)
+    by Outside h g rec = absurd (not_failed (BadNumber t.at) s g)
+
+pub taken_are_completed : TakenAreCompleted
+taken_are_completed = record {
+  book = λ ts s n e f. let r = completes ts book_symbols no_counts s n e f in (r.0, r.2.1.0, r.2.1.1);
+  line = λ ts s n e f. let r = completes ts line_symbols no_counts s n e f in (r.0, r.2.1.0, whole_line r.2.1.1 r.2.2.1.2);
+}

@@ -1,0 +1,159 @@
+-- The lists of one step, in the form in which a loop makes them.
+use Rattle.std.proofs.Common.{◌≡◌, ℕ, suc, ◌+◌, ◌-◌, ◌<◌, Bool, true, false, cond, List, [], ◌∷◌, ◌++◌, length, map, refl, ap, sym, ◌∙◌, subst, arith, get_or, set, take, nat_lt, inl, inr}
+use Rattle.std.specs.List.{fold, All, AllPairs}
+use Rattle.std.proofs.lemmas.List.{map-append, append-nil, length-append, length-map, get_or-map, get_or-set_same, get_or-set_other, same_lists, length-set, map_more, get_or-take, get_or_default, length-take-le}
+use Rattle.std.proofs.lemmas.List.Elements.{filter-append, All-map}
+use Rattle.std.proofs.lemmas.List.Folds.{list_any_at}
+use Rattle.std.proofs.lemmas.List.Quantifiers.{all_pairs_push}
+use Rattle.std.proofs.lemmas.Bool.{cases_Bool, cases_eq, cases_order, lt-ltb, ltb-true, or_right, false≢true, false_from_ne_true}
+use Rattle.smk_base.specs.Places.{IsPlaces}
+use Rattle.smk_base.specs.declared.plan.Op2.TheVariants.{UnionAll}
+use Rattle.smk_model.specs.Values.{Row, meets}
+use Rattle.smk_model.specs.Plain.{row_eq, image, key_of, add_first, firsts, grouped, step1, step2}
+use Rattle.smk_model.specs.Lineage.{upto, places, row_at, matching, match_at, from1, from_left, from_right}
+use Rattle.smk_model.specs.LocalLaws.{by_key, LocalsAre, ListsGrow}
+use Rattle.smk_model.proofs.Places.{map_map, map_upto, same_below, length_upto, get_or_upto, map_upto_agree, upto_add, places_false}
+use Rattle.smk_model.proofs.Firsts.{row_same, row_is, row_itself, holds, holds_here, firsts_holds, add_known, fold_append}
+use Rattle.smk_model.proofs.CuiWidom.{length_selected, joined_is, length_joined, cui_widom}
+
+-- lists
+
+each_at : {X Y : Type 0} (g : X → Y) (xs : List X) (d : X) → map (λ o. g (get_or xs o d)) (upto (length xs)) ≡ map g xs
+each_at g xs d = sym (map_map g (λ o. get_or xs o d) (upto (length xs))) ∙ ap (map g) (map_upto xs d)
+
+at_each : {X : Type 0} (f g : ℕ → X) (m n : ℕ) (h : ℕ → X) → ((i : ℕ) → i < m → f i ≡ g i) → ((i : ℕ) → i < n → f (m + i) ≡ h i) → map f (upto (m + n)) ≡ map g (upto m) ++ map h (upto n)
+at_each f g m n h left right =
+    ap (map f) (upto_add m n) ∙ map-append f (upto m) (map (λ i. m + i) (upto n))
+    ∙ rw (map_upto_agree f g m left, map_map f (λ i. m + i) (upto n), map_upto_agree (λ i. f (m + i)) h n right) refl
+
+below_is : (o n : ℕ) → o < n → nat_lt o n ≡ true
+below_is o n h = lt-ltb o n h
+
+past_is : (n i : ℕ) → nat_lt (n + i) n ≡ false
+past_is n i = false_from_ne_true (nat_lt (n + i) n) (λ e. let low = ltb-true (n + i) n e in absurd (omega (arith, low)))
+
+every : {X : Type 0} (P : X → Type 0) (f : ℕ → X) (n : ℕ) → ((o : ℕ) → o < n → P (f o)) → All P (map f (upto n))
+every P f n h = All-map P f (upto n) (λ k d l.
+    let low : k < n = omega (arith, l, length_upto n) in
+    subst (λ (o : ℕ). P (f o)) (sym (get_or_upto n k d low)) (h k low))
+
+pub locals_are : LocalsAre
+locals_are = record {
+  selection = λ formula L.
+      let P = places (λ i. meets formula (row_at L i)) (length L) in
+      ap (λ n. map (λ o. get_or P o 0 ∷ []) (upto n)) (sym (length_selected (meets formula) L)) ∙ each_at (λ i. i ∷ []) P 0;
+  projection = λ items L. ap (λ n. map (λ o. o ∷ []) (upto n)) (length-map L (image items));
+  distinction = λ items L. each_at (λ k. places (λ i. row_eq k (image items (row_at L i))) (length L)) (firsts (map (image items) L)) [];
+  grouping = λ keys aggs L.
+      let found = firsts (map (key_of keys) L) in
+      ap (λ n. map (λ o. places (λ i. row_eq (row_at found o) (key_of keys (row_at L i))) (length L)) (upto n)) (length-map found (grouped keys aggs L))
+      ∙ each_at (λ k. places (λ i. row_eq k (key_of keys (row_at L i))) (length L)) found [];
+  join_left = λ pairs L R.
+      ap (λ n. map (λ o. (match_at pairs L R o).0 ∷ []) (upto n)) (sym (length_joined pairs L R)) ∙ each_at (λ (p : ℕ × ℕ). p.0 ∷ []) (matching pairs L R) (0, 0);
+  join_right = λ pairs L R.
+      ap (λ n. map (λ o. (match_at pairs L R o).1 ∷ []) (upto n)) (sym (length_joined pairs L R)) ∙ each_at (λ (p : ℕ × ℕ). p.1 ∷ []) (matching pairs L R) (0, 0);
+  joined = joined_is;
+  union_all_left = λ L R.
+      ap (λ n. map (from_left UnionAll L R) (upto n)) (length-append L R)
+      ∙ at_each (from_left UnionAll L R) (λ i. i ∷ []) (length L) (length R) (λ j. []) (λ i low. rw (below_is i (length L) low) refl) (λ j low. rw (past_is (length L) j) refl);
+  union_all_right = λ L R.
+      ap (λ n. map (from_right UnionAll L R) (upto n)) (length-append L R)
+      ∙ at_each (from_right UnionAll L R) (λ i. []) (length L) (length R) (λ j. j ∷ []) (λ i low. rw (below_is i (length L) low) refl)
+      (λ j low. let e : (length L + j) - length L ≡ j = omega arith in rw (past_is (length L) j, e) refl);
+  union_left = λ L R. each_at (λ k. places (λ i. row_eq k (row_at L i)) (length L)) (firsts (L ++ R)) [];
+  union_right = λ L R. each_at (λ k. places (λ j. row_eq k (row_at R j)) (length R)) (firsts (L ++ R)) [];
+  places_one = λ op L. every (IsPlaces (length L)) (from1 op L) (length (step1 op L)) (λ o h. (cui_widom.one op L o h).places);
+  places_left = λ op L R. every (IsPlaces (length L)) (from_left op L R) (length (step2 op L R)) (λ o h. (cui_widom.two op L R o h).places_left);
+  places_right = λ op L R. every (IsPlaces (length R)) (from_right op L R) (length (step2 op L R)) (λ o h. (cui_widom.two op L R o h).places_right);
+}
+
+-- keys by first occurrence
+
+abbrev pub IsApart : List Row → Type 0
+IsApart keys = AllPairs (λ a b. a ≡ b → ⊥) keys
+
+add_apart : (keys : List Row) (x : Row) → IsApart keys → IsApart (add_first keys x)
+add_apart keys x h = elim (cases_Bool (holds keys x)) [
+  | inl p ↦ rw p h
+  | inr p ↦ rw p (all_pairs_push (λ a b. a ≡ b → ⊥) keys x h (λ k d l e. false≢true (sym p ∙ list_any_at (row_eq x) keys k d l ((row_same x (get_or keys k d)).1 (sym e)))))
+]
+
+fold_apart : (keys xs : List Row) → IsApart keys → IsApart (fold add_first keys xs)
+fold_apart keys [] h = h
+fold_apart keys (x ∷ xs) h = fold_apart (add_first keys x) xs (add_apart keys x h)
+
+-- no two first occurrences are equal
+pub firsts_apart : (xs : List Row) → IsApart (firsts xs)
+firsts_apart xs = fold_apart [] xs (λ i j d h l. absurd (omega arith))
+
+pub firsts_more : (key : Row → Row) (L : List Row) (i : ℕ) → i < length L → firsts (map key (take (i + 1) L)) ≡ add_first (firsts (map key (take i L))) (key (row_at L i))
+firsts_more key L i h = ap firsts (map_more key L i [] h) ∙ fold_append [] (map key (take i L)) (key (row_at L i) ∷ [])
+
+places_more : (t : ℕ → Bool) (i : ℕ) → places t (i + 1) ≡ places t i ++ cond (t i) (i ∷ []) []
+places_more t i = let e : i + 1 ≡ suc i = omega arith in rw e (filter-append t (upto i) (i ∷ []))
+
+map_in : (g h : Row → List ℕ) (keys : List Row) → ((k : Row) → holds keys k ≡ true → g k ≡ h k) → map g keys ≡ map h keys
+map_in g h [] e = refl
+map_in g h (x ∷ xs) e = rw (e x (holds_here x xs), map_in g h xs (λ k q. e k (or_right (row_eq k x) _ q))) refl
+
+known_step : (key : Row → Row) (L keys : List Row) (i p : ℕ) → p < length keys → IsApart keys → row_at keys p ≡ key (row_at L i)
+    → set (by_key key L i keys) p (get_or (by_key key L i keys) p [] ++ i ∷ []) ≡ by_key key L (i + 1) keys
+known_step key L keys i p low apart at =
+    let t = λ (k : Row) (j : ℕ). row_eq k (key (row_at L j)) in
+    let old = by_key key L i keys in
+    let size : length old ≡ length keys = length-map keys (λ k. places (t k) i) in
+    let size2 : length (by_key key L (i + 1) keys) ≡ length keys = length-map keys (λ k. places (t k) (i + 1)) in
+    let size3 = length-set old p (get_or old p [] ++ i ∷ []) in
+    same_lists _ _ (omega arith) (λ k d h.
+    let in_keys : k < length keys = omega arith in
+    let was : get_or old k d ≡ places (t (row_at keys k)) i = get_or-map (λ k. places (t k) i) keys k [] d in_keys in
+    let wants : get_or (by_key key L (i + 1) keys) k d ≡ places (t (row_at keys k)) i ++ cond (t (row_at keys k) i) (i ∷ []) [] = get_or-map (λ k. places (t k) (i + 1)) keys k [] d in_keys ∙ places_more (t (row_at keys k)) i in
+    elim (cases_eq k p) [
+      | inl e ↦ (let hit : t (row_at keys k) i ≡ true = (row_same (row_at keys k) (key (row_at L i))).1 (ap (row_at keys) e ∙ at) in
+          let was2 : get_or old p [] ≡ places (t (row_at keys k)) i = get_or_default old p [] d (omega arith) ∙ ap (λ z. get_or old z d) (sym e) ∙ was in
+          let now : get_or (set old p (get_or old p [] ++ i ∷ [])) k d ≡ get_or old p [] ++ i ∷ [] = ap (λ z. get_or (set old p (get_or old p [] ++ i ∷ [])) z d) e ∙ get_or-set_same old p (get_or old p [] ++ i ∷ []) d (omega arith) in
+          now ∙ ap (λ z. z ++ i ∷ []) was2 ∙ sym (wants ∙ rw hit refl))
+      | inr ne ↦ (let miss : t (row_at keys k) i ≡ false = false_from_ne_true (t (row_at keys k) i) (λ q.
+          let same : row_at keys k ≡ row_at keys p = row_is _ _ q ∙ sym at in
+          elim (cases_order k p) [
+            | inl e ↦ ne e
+            | inr o ↦ elim o [ inl l ↦ apart k p [] l low same | inr g ↦ apart p k [] g in_keys (sym same) ]
+          ]) in
+          get_or-set_other old p k (get_or old p [] ++ i ∷ []) d ne ∙ was ∙ sym (wants ∙ rw miss (append-nil (places (t (row_at keys k)) i))))
+    ])
+
+new_step : (key : Row → Row) (L : List Row) (i : ℕ) → i < length L → holds (firsts (map key (take i L))) (key (row_at L i)) ≡ false
+    → by_key key L i (firsts (map key (take i L))) ++ (i ∷ []) ∷ [] ≡ by_key key L (i + 1) (firsts (map key (take i L)) ++ key (row_at L i) ∷ [])
+new_step key L i h none =
+    let x = key (row_at L i) in
+    let keys = firsts (map key (take i L)) in
+    let t = λ (k : Row) (j : ℕ). row_eq k (key (row_at L j)) in
+    let old_same : by_key key L i keys ≡ by_key key L (i + 1) keys = map_in (λ k. places (t k) i) (λ k. places (t k) (i + 1)) keys (λ k q.
+    let miss : t k i ≡ false = false_from_ne_true (t k i) (λ e. false≢true (sym none ∙ subst (λ (z : Row). holds keys z ≡ true) (row_is k x e) q)) in
+    sym (places_more (t k) i ∙ rw miss (append-nil (places (t k) i)))) in
+    let before : places (t x) i ≡ [] = same_below (t x) (λ j. false) i (λ j l. false_from_ne_true (t x j) (λ e.
+    let here : j < length (take i L) = omega (arith, length-take-le i L (omega arith)) in
+    let is : get_or (map key (take i L)) j [] ≡ key (row_at L j) = get_or-map key (take i L) j [] [] here ∙ ap key (get_or-take i L j [] l) in
+    let there : holds (map key (take i L)) (key (row_at L j)) ≡ true = list_any_at (row_eq (key (row_at L j))) (map key (take i L)) j [] (omega (arith, length-map (take i L) key, here)) ((row_same (key (row_at L j)) _).1 (sym is)) in
+    false≢true (sym none ∙ subst (λ (z : Row). holds keys z ≡ true) (sym (row_is x (key (row_at L j)) e)) (firsts_holds (map key (take i L)) (key (row_at L j)) there)))) ∙ places_false i in
+    let last : places (t x) (i + 1) ≡ i ∷ [] = places_more (t x) i ∙ rw (before, row_itself x) refl in
+    ap (λ z. z ++ (i ∷ []) ∷ []) old_same ∙ ap (λ z. by_key key L (i + 1) keys ++ z ∷ []) (sym last) ∙ sym (map-append (λ k. places (t k) (i + 1)) keys (x ∷ []))
+
+known_keys : (key : Row → Row) (L : List Row) (i p : ℕ) → i < length L → p < length (firsts (map key (take i L))) → row_at (firsts (map key (take i L))) p ≡ key (row_at L i)
+    → firsts (map key (take (i + 1) L)) ≡ firsts (map key (take i L))
+known_keys key L i p h low at =
+    let keys = firsts (map key (take i L)) in
+    firsts_more key L i h ∙ add_known keys (key (row_at L i)) (list_any_at (row_eq (key (row_at L i))) keys p [] low ((row_same (key (row_at L i)) (row_at keys p)).1 (sym at)))
+
+new_keys : (key : Row → Row) (L : List Row) (i : ℕ) → i < length L → holds (firsts (map key (take i L))) (key (row_at L i)) ≡ false
+    → firsts (map key (take (i + 1) L)) ≡ firsts (map key (take i L)) ++ key (row_at L i) ∷ []
+new_keys key L i h none = firsts_more key L i h ∙ rw none refl
+
+pub lists_grow : ListsGrow
+lists_grow = record {
+  known = λ key L i p h low at.
+      known_step key L (firsts (map key (take i L))) i p low (firsts_apart (map key (take i L))) at ∙ ap (by_key key L (i + 1)) (sym (known_keys key L i p h low at));
+  new = λ key L i h none. new_step key L i h none ∙ ap (by_key key L (i + 1)) (sym (new_keys key L i h none));
+  known_keys = known_keys;
+  new_keys = new_keys;
+}

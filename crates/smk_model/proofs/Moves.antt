@@ -1,0 +1,374 @@
+-- What a faultless list of tokens spells.
+use Rattle.std.specs.Prelude.{nat_eq, Option, Some, None, cond, nat_lt, pos, int_le, int_lt, ◌^◌, ℤ, negsuc}
+use Rattle.std.proofs.Common.{◌≡◌, ℕ, ◌+◌, List, [], ◌∷◌, ◌++◌, Bool, true, false, sym, subst, refl}
+use Rattle.std.proofs.lemmas.Bool.{eqb-true}
+use Rattle.smk_base.specs.declared.token.TokenKind.{TokenKind}
+use Rattle.smk_base.specs.declared.token.TokenKind.TheVariants as kinds
+use Rattle.smk_base.specs.declared.fault.Many.{Many}
+use Rattle.smk_base.specs.declared.plan.CmpOp.{CmpOp}
+use Rattle.smk_base.specs.declared.tree.Word.{Word}
+use Rattle.smk_base.specs.declared.tree.Lit.{Lit}
+use Rattle.smk_base.specs.declared.tree.Decl.{Decl}
+use Rattle.smk_base.specs.declared.tree.Extra.{Extra}
+use Rattle.smk_base.specs.declared.tree.ItemTree.{ItemTree}
+use Rattle.smk_base.specs.declared.tree.AggTree.{AggTree}
+use Rattle.smk_base.specs.declared.tree.AggWhat.{AggWhat}
+use Rattle.smk_base.specs.declared.tree.PairTree.{PairTree}
+use Rattle.smk_base.specs.declared.tree.Term.{Term}
+use Rattle.smk_base.specs.declared.tree.Marks.{Marks}
+use Rattle.smk_base.specs.declared.tree.Then.{Then}
+use Rattle.smk_base.specs.declared.tree.Line.{Line}
+use Rattle.smk_base.specs.Trees.{PredImage, AndNode, OrNode, TreeImage, StepNode, StepImage, StmtImage}
+use Rattle.smk_model.specs.Tokens.{Token, int_value}
+use Rattle.smk_model.specs.TokenKinds.{same_kind, kind_code}
+use Rattle.smk_model.specs.Grammar.{First, plain_word, IsName, name, IsColumn, plain, quoted, IsLiteral, number, string, IsFile, file, AreMore, no_more, one_more, listed, IsType, int_type, text_type, IsDefault, no_default, default, IsDecl, decl, IsNamed, by_itself, by_as, IsWidth, width, IsItem, column_item, bin_item, IsWhat, count, sum, min, max, IsAgg, agg, AreKeys, no_keys, keys, AreAggs, no_aggs, aggs, IsPair, pair, IsOp, eq, ne, lt, le, gt, ge, IsTerm, column_term, literal_term, IsPrim, negated, bracketed, compared, conj, AreAnds, no_and, one_and, pred, AreOrs, no_or, one_or, plan, IsSource, scan, inner_plan, AreSteps, no_step, one_step, IsStep, where_step, project_step, distinct_step, group_step, join_step, union_all_step, union_step, IsExtra, no_extra, by_extra, group_extra, IsStmt, table_stmt, view_stmt, back_stmt, fwd_stmt, link_stmt, AreStmts, one_stmt, IsMark, mark, AreMarks, all_marks, listed_marks, IsThen, no_then, where_then, group_then, IsLine, show_line, back_line, fwd_line, brush_line, clear_line}
+use Rattle.smk_model.proofs.Alike.{same_is}
+use Rattle.smk_model.proofs.Leaving.{and_left, and_right}
+use Rattle.smk_model.specs.Machine.{Counts, Tally, Symbol, Move, Takes, Skips, Wrong, Past, Outside, settle, or_next, within, next, no_counts, is_mark, is_short, at_name, at_column, at_first, at_item, at_literal, at_width, at_type, at_default, at_as, at_what, at_keys, at_aggs, at_linked, at_more, at_source, at_steps, at_step, at_united, at_compare, at_prim, at_ands, at_ors, at_op, at_term, at_stmts, at_lineage, at_extra, at_line, at_line_column, at_mark, at_marks, at_then, at_end, at_token, AToken, AName, AColumn, ALiteral, AWidth, AType, ADefault, AnAs, AWhat, AKeys, AnAggs, AFirst, AnItem, ALinked, MoreDecls, MoreItems, MoreKeys, MoreAggs, MorePairs, MoreLinked, ASource, ASteps, AStep, AUnited, APrim, AnAnds, AnOrs, AnOp, ATerm, AStmts, ALineage, AnExtra, ALine, ALineName, ALineColumn, AMarks, AMark, MoreMarks, AThen, AnEnd}
+
+-- the tokens from a to b are the symbol
+abbrev pub IsSymbol : Symbol → List Token → List Token → Type 0
+IsSymbol (AToken k) a b = (t : Token) × First k t a b
+IsSymbol AName a b = (w : Word) × IsName a b w
+IsSymbol AColumn a b = (w : Word) × IsColumn a b w
+IsSymbol ALiteral a b = (l : Lit) × IsLiteral a b l
+IsSymbol AWidth a b = (k : ℤ) × IsWidth a b k
+IsSymbol AType a b = (x : Bool) × IsType a b x
+IsSymbol ADefault a b = (o : Option Lit) × IsDefault a b o
+IsSymbol AnAs a b = (w : Word) → (n : Word) × IsNamed w a b n
+IsSymbol AWhat a b = (x : AggWhat) × IsWhat a b x
+IsSymbol AKeys a b = (ws : List Word) × AreKeys a b ws
+IsSymbol AnAggs a b = (xs : List AggTree) × AreAggs a b xs
+IsSymbol (AFirst k) a b = (w : Word) × IsColumn a b w
+IsSymbol (AnItem k) a b = (x : ItemTree) × IsItem a b x
+IsSymbol (ALinked k) a b = (w : Word) × IsName a b w
+IsSymbol (MoreDecls k) a b = (xs : List Decl) × AreMore IsDecl a b xs
+IsSymbol (MoreItems k) a b = (xs : List ItemTree) × AreMore IsItem a b xs
+IsSymbol (MoreKeys k) a b = (xs : List Word) × AreMore IsColumn a b xs
+IsSymbol (MoreAggs k) a b = (xs : List AggTree) × AreMore IsAgg a b xs
+IsSymbol (MorePairs k) a b = (xs : List PairTree) × AreMore IsPair a b xs
+IsSymbol (MoreLinked k) a b = (xs : List Word) × AreMore IsName a b xs
+IsSymbol (ASource d) a b = (x : TreeImage) × IsSource a b x
+IsSymbol (ASteps d) a b = (x : TreeImage) → (y : TreeImage) × AreSteps a b x y
+IsSymbol (AStep d) a b = (n : ℕ) × (s : StepImage) × IsStep a b n s
+IsSymbol (AUnited d) a b = (z : List Token) → (t : Token) → First kinds.Union t z a → (n : ℕ) × (s : StepImage) × IsStep z b n s
+IsSymbol (APrim d) a b = (p : PredImage) × IsPrim a b p
+IsSymbol (AnAnds d) a b = (p : PredImage) → (q : PredImage) × AreAnds a b p q
+IsSymbol (AnOrs d) a b = (p : PredImage) → (q : PredImage) × AreOrs a b p q
+IsSymbol AnOp a b = (o : CmpOp) × IsOp a b o
+IsSymbol ATerm a b = (x : Term) × IsTerm a b x
+IsSymbol (AStmts y) a b = (ss : List StmtImage) × AreStmts a ss
+IsSymbol ALineage a b = (z : List Token) → (t : Token) → First kinds.Lineage t z a → (s : StmtImage) × IsStmt z b s
+IsSymbol AnExtra a b = (x : Extra) × IsExtra a b x
+IsSymbol ALine a b = (l : Line) × IsLine a b l
+IsSymbol ALineName a b = (w : Word) × IsName a b w
+IsSymbol ALineColumn a b = (w : Word) × IsColumn a b w
+IsSymbol AMarks a b = (m : Marks) × AreMarks a b m
+IsSymbol AMark a b = (m : ℕ) × IsMark a b m
+IsSymbol MoreMarks a b = (ms : List ℕ) × AreMore IsMark a b ms
+IsSymbol AThen a b = (x : Then) × IsThen a b x
+IsSymbol AnEnd a b = (t : Token) × (c : List Token) × First kinds.End t a c
+
+-- one after the other
+abbrev pub AreSymbols : List Symbol → List Token → List Token → Type 0
+AreSymbols [] a b = a ≡ b
+AreSymbols (x ∷ ss) a c = (b : List Token) × IsSymbol x a b × AreSymbols ss b c
+
+split : (l ss : List Symbol) (a c : List Token) → AreSymbols (l ++ ss) a c → (b : List Token) × AreSymbols l a b × AreSymbols ss b c
+split [] ss a c h = (a, refl, h)
+split (x ∷ l) ss a c h = let r = split l ss h.0 c h.2 in (r.0, (h.0, h.1, r.1), r.2)
+
+here : (t : Token) (a : List Token) (k : TokenKind) → t.kind ≡ k → First k t (t ∷ a) a
+here t a k e = record { is_kind = e; is_first = refl }
+
+-- the last of some symbols
+ends : (x : Symbol) (a c : List Token) → AreSymbols (x ∷ []) a c → IsSymbol x a c
+ends x a c h = subst (IsSymbol x a) h.2 h.1
+
+-- a symbol of one token
+alone : (x : Symbol) (z a b : List Token) → a ≡ b → IsSymbol x z a → IsSymbol x z b
+alone x z a b e h = subst (IsSymbol x z) e h
+
+-- what a move says of the token in hand and what comes after it
+abbrev Moves : Move → Symbol → Token → Type 0
+Moves (Takes d l) x t = (a b : List Token) → AreSymbols l a b → IsSymbol x (t ∷ a) b
+Moves Skips x t = (t.kind ≡ kinds.End → ⊥) → (a : List Token) → IsSymbol x a a
+Moves Wrong x t = Unit {0}
+Moves (Past w) x t = Unit {0}
+Moves Outside x t = Unit {0}
+
+lim : (fits : Bool) (what : Many) (m : Move) (x : Symbol) (t : Token) → Moves m x t → Moves (within fits what m) x t
+lim true what m x t h = h
+lim false what m x t h = tt
+
+-- a move that begins with a column
+columns : (c : Counts) (ss : List Symbol) (x : Symbol) (t : Token) → ((a b : List Token) (w : Word) → IsColumn (t ∷ a) a w → AreSymbols ss a b → IsSymbol x (t ∷ a) b) → (short : Bool) (k : TokenKind) → t.kind ≡ k → Moves (at_column c ss short k) x t
+columns c ss x t f short kinds.Name e = lim short _ (Takes c ss) x t (λ a b h. f a b _ (plain (here t a kinds.Name e)) h)
+columns c ss x t f short kinds.Quoted e = lim short _ (Takes c ss) x t (λ a b h. f a b _ (quoted (here t a kinds.Quoted e)) h)
+columns c ss x t f short _ e = tt
+
+firsts : (c : Counts) (n : ℕ) (ss : List Symbol) (x : Symbol) (t : Token) → ((a b : List Token) (w : Word) → IsColumn (t ∷ a) a w → AreSymbols ss a b → IsSymbol x (t ∷ a) b) → (short : Bool) (k : TokenKind) → t.kind ≡ k → Moves (at_first c n ss short k) x t
+firsts c n ss x t f short kinds.Name e = lim (nat_lt n 16) _ _ x t (lim short _ (Takes c ss) x t (λ a b h. f a b _ (plain (here t a kinds.Name e)) h))
+firsts c n ss x t f short kinds.Quoted e = lim (nat_lt n 16) _ _ x t (lim short _ (Takes c ss) x t (λ a b h. f a b _ (quoted (here t a kinds.Quoted e)) h))
+firsts c n ss x t f short _ e = tt
+
+mores : (c : Counts) (ss : List Symbol) (x : Symbol) (t : Token) → ((a b : List Token) → First kinds.Comma t (t ∷ a) a → AreSymbols ss a b → IsSymbol x (t ∷ a) b) → ((a : List Token) → IsSymbol x a a) → (k : TokenKind) → t.kind ≡ k → Moves (at_more c ss k) x t
+mores c ss x t f g kinds.Comma e = λ a b h. f a b (here t a kinds.Comma e) h
+mores c ss x t f g _ e = λ n a. g a
+
+eq_true : (n m : ℕ) → nat_eq n m ≡ true → n ≡ m
+eq_true n m e = eqb-true n m e
+
+tokens_moves : (c : Counts) (k : TokenKind) (x : Symbol) (t : Token) → (k ≡ t.kind → (a b : List Token) → a ≡ b → IsSymbol x (t ∷ a) b) → Moves (at_token c k t.kind) x t
+tokens_moves c k x t f = by (same_kind k t.kind) refl
+  where
+    by : (o : Bool) → same_kind k t.kind ≡ o → Moves (cond o (Takes c []) Wrong) x t
+    by true e = f (same_is k t.kind (eq_true (kind_code k) (kind_code t.kind) e))
+    by false e = tt
+
+sources : (c : Counts) (d : ℕ) (x : Symbol) (t : Token) → ((a b : List Token) (y : TreeImage) → IsSource (t ∷ a) b y → IsSymbol x (t ∷ a) b) → (k : TokenKind) → t.kind ≡ k → Moves (at_source c d k) x t
+sources c d x t f kinds.Scan e = lim (nat_lt c.nodes 64) _ (Takes _ (AName ∷ [])) x t (λ a b h. let n = ends AName a b h in f a b _ (scan (here t a kinds.Scan e) n.1))
+sources c d x t f kinds.Open e = lim (nat_lt d 32) _ (Takes c (ASource (d + 1) ∷ ASteps (d + 1) ∷ AToken kinds.Close ∷ [])) x t
+    (λ a b h. let s = h.2.1 h.1.0 in let k = ends (AToken kinds.Close) h.2.0 b h.2.2 in f a b _ (inner_plan (here t a kinds.Open e) (plan h.1.1 s.1) k.1))
+sources c d x t f _ e = tt
+
+names : (c : Counts) (x : Symbol) (t : Token) → ((a b : List Token) (w : Word) → IsName (t ∷ a) b w → IsSymbol x (t ∷ a) b) → (short : Bool) (k : TokenKind) → t.kind ≡ k → Moves (at_name c short k) x t
+names c x t f short kinds.Name e = lim short _ (Takes c []) x t (λ a b h. f a b (plain_word t) (subst (λ l. IsName (t ∷ a) l (plain_word t)) h (name (here t a kinds.Name e))))
+names c x t f short _ e = tt
+
+literals : (c : Counts) (t : Token) (k : TokenKind) → t.kind ≡ k → Moves (at_literal c k) ALiteral t
+literals c t kinds.Number e = λ a b h. alone ALiteral (t ∷ a) a b h (_, number (here t a kinds.Number e))
+literals c t kinds.Str e = λ a b h. alone ALiteral (t ∷ a) a b h (_, string (here t a kinds.Str e))
+literals c t _ e = tt
+
+widths : (c : Counts) (t : Token) (o : Bool) → int_le (pos 1) (int_value t.text) ≡ o → t.kind ≡ kinds.Number → Moves (cond o (Takes c []) Outside) AWidth t
+widths c t true f e = λ a b h. alone AWidth (t ∷ a) a b h (_, width (here t a kinds.Number e) f)
+widths c t false f e = tt
+
+width_moves : (c : Counts) (t : Token) (k : TokenKind) → t.kind ≡ k → Moves (at_width c (int_value t.text) k) AWidth t
+width_moves c t kinds.Number e = widths c t (int_le (pos 1) (int_value t.text)) refl e
+width_moves c t _ e = tt
+
+type_moves : (c : Counts) (t : Token) (k : TokenKind) → t.kind ≡ k → Moves (at_type c k) AType t
+type_moves c t kinds.Int e = λ a b h. alone AType (t ∷ a) a b h (false, int_type (here t a kinds.Int e))
+type_moves c t kinds.Text e = λ a b h. alone AType (t ∷ a) a b h (true, text_type (here t a kinds.Text e))
+type_moves c t _ e = tt
+
+default_moves : (c : Counts) (t : Token) (k : TokenKind) → t.kind ≡ k → Moves (at_default c k) ADefault t
+default_moves c t kinds.Default e = λ a b h. let l = ends ALiteral a b h in (Some l.0, default (here t a kinds.Default e) l.1)
+default_moves c t _ e = λ n a. (None, no_default)
+
+as_moves : (c : Counts) (t : Token) (k : TokenKind) → t.kind ≡ k → Moves (at_as c k) AnAs t
+as_moves c t kinds.As e = λ a b h w. let l = ends AColumn a b h in (l.0, by_as (here t a kinds.As e) l.1)
+as_moves c t _ e = λ n a w. (w, by_itself)
+
+what_moves : (c : Counts) (t : Token) (k : TokenKind) → t.kind ≡ k → Moves (at_what c k) AWhat t
+what_moves c t kinds.Count e = λ a b h. alone AWhat (t ∷ a) a b h (_, count (here t a kinds.Count e))
+what_moves c t kinds.Sum e = λ a b h. let l = ends AColumn a b h in (_, sum (here t a kinds.Sum e) l.1)
+what_moves c t kinds.Min e = λ a b h. let l = ends AColumn a b h in (_, min (here t a kinds.Min e) l.1)
+what_moves c t kinds.Max e = λ a b h. let l = ends AColumn a b h in (_, max (here t a kinds.Max e) l.1)
+what_moves c t _ e = tt
+
+keys_moves : (c : Counts) (t : Token) (short : Bool) (k : TokenKind) → t.kind ≡ k → Moves (at_keys c short k) AKeys t
+keys_moves c t short kinds.Name e = firsts c 0 (MoreKeys 1 ∷ []) AKeys t (λ a b w p h. let l = ends (MoreKeys 1) a b h in (w ∷ l.0, keys (listed p l.1))) short kinds.Name e
+keys_moves c t short kinds.Quoted e = firsts c 0 (MoreKeys 1 ∷ []) AKeys t (λ a b w p h. let l = ends (MoreKeys 1) a b h in (w ∷ l.0, keys (listed p l.1))) short kinds.Quoted e
+keys_moves c t short _ e = λ n a. ([], no_keys)
+
+aggs_moves : (c : Counts) (t : Token) (k : TokenKind) → t.kind ≡ k → Moves (at_aggs c k) AnAggs t
+aggs_moves c t kinds.OpenBrace e = λ a b h. let k = ends (AToken kinds.CloseBrace) h.2.2.2.0 b h.2.2.2.2 in (_, aggs (here t a kinds.OpenBrace e) (listed (agg h.1.1 h.2.1.1 h.2.2.1.1) h.2.2.2.1.1) k.1)
+aggs_moves c t _ e = λ n a. ([], no_aggs)
+
+item_moves : (c : Counts) (n : ℕ) (t : Token) (short : Bool) (k : TokenKind) → t.kind ≡ k → Moves (at_item c n short k) (AnItem n) t
+item_moves c n t short kinds.Bin e = lim (nat_lt n 16) _ (Takes c (AToken kinds.Open ∷ AColumn ∷ AToken kinds.Comma ∷ AWidth ∷ AToken kinds.Close ∷ AToken kinds.As ∷ AColumn ∷ [])) (AnItem n) t
+    (λ a b h. let m = ends AColumn h.2.2.2.2.2.0 b h.2.2.2.2.2.2 in (_, bin_item (here t a kinds.Bin e) h.1.1 h.2.1.1 h.2.2.1.1 h.2.2.2.1.1 h.2.2.2.2.1.1 h.2.2.2.2.2.1.1 m.1))
+item_moves c n t short kinds.Name e = firsts c n (AnAs ∷ []) (AnItem n) t (λ a b w p h. let l = ends AnAs a b h w in (_, column_item p l.1)) short kinds.Name e
+item_moves c n t short kinds.Quoted e = firsts c n (AnAs ∷ []) (AnItem n) t (λ a b w p h. let l = ends AnAs a b h w in (_, column_item p l.1)) short kinds.Quoted e
+item_moves c n t short _ e = tt
+
+linked_moves : (c : Counts) (n : ℕ) (t : Token) (short : Bool) (k : TokenKind) → t.kind ≡ k → Moves (at_linked c n short k) (ALinked n) t
+linked_moves c n t short kinds.Name e = lim (nat_lt n 64) _ _ (ALinked n) t (lim short _ (Takes c []) (ALinked n) t (λ a b h. alone (ALinked n) (t ∷ a) a b h (_, name (here t a kinds.Name e))))
+linked_moves c n t short _ e = tt
+
+steps_moves : (c : Counts) (d : ℕ) (t : Token) (k : TokenKind) → t.kind ≡ k → Moves (at_steps c d k) (ASteps d) t
+steps_moves c d t kinds.Bar e = λ a b h x. let r = ends (ASteps d) h.0 b h.2 (StepNode h.1.0 x h.1.1) in (r.0, one_step (here t a kinds.Bar e) h.1.2 r.1)
+steps_moves c d t _ e = λ n a x. (x, no_step)
+
+step_moves : (c : Counts) (d : ℕ) (t : Token) (k : TokenKind) → t.kind ≡ k → Moves (at_step c d k) (AStep d) t
+step_moves c d t kinds.Where e = lim (nat_lt c.nodes 64) _ (Takes _ (APrim d ∷ AnAnds d ∷ AnOrs d ∷ [])) (AStep d) t
+    (λ a b h. let s = h.2.1 h.1.0 in let r = ends (AnOrs d) h.2.0 b h.2.2 s.0 in (_, _, where_step (here t a kinds.Where e) (pred (conj h.1.1 s.1) r.1)))
+step_moves c d t kinds.Project e = lim (nat_lt c.nodes 64) _ (Takes _ (AnItem 0 ∷ MoreItems 1 ∷ [])) (AStep d) t (λ a b h. let l = ends (MoreItems 1) h.0 b h.2 in (_, _, project_step (here t a kinds.Project e) (listed h.1.1 l.1)))
+step_moves c d t kinds.Distinct e = lim (nat_lt c.nodes 64) _ (Takes _ (AnItem 0 ∷ MoreItems 1 ∷ [])) (AStep d) t (λ a b h. let l = ends (MoreItems 1) h.0 b h.2 in (_, _, distinct_step (here t a kinds.Distinct e) (listed h.1.1 l.1)))
+step_moves c d t kinds.Group e = lim (nat_lt c.nodes 64) _ (Takes _ (AKeys ∷ AnAggs ∷ [])) (AStep d) t (λ a b h. let l = ends AnAggs h.0 b h.2 in (_, _, group_step (here t a kinds.Group e) h.1.1 l.1))
+step_moves c d t kinds.Join e = lim (nat_lt c.nodes 64) _ (Takes _ (ASource d ∷ AToken kinds.On ∷ AFirst 0 ∷ AToken kinds.Equal ∷ AColumn ∷ MorePairs 1 ∷ [])) (AStep d) t
+    (λ a b h. let l = ends (MorePairs 1) h.2.2.2.2.0 b h.2.2.2.2.2 in (_, _, join_step (here t a kinds.Join e) h.1.1 h.2.1.1 (listed (pair h.2.2.1.1 h.2.2.2.1.1 h.2.2.2.2.1.1) l.1)))
+step_moves c d t kinds.Union e = lim (nat_lt c.nodes 64) _ (Takes _ (AUnited d ∷ [])) (AStep d) t (λ a b h. ends (AUnited d) a b h (t ∷ a) t (here t a kinds.Union e))
+step_moves c d t _ e = tt
+
+united_moves : (c : Counts) (d : ℕ) (t : Token) (k : TokenKind) → t.kind ≡ k → Moves (at_united c d k) (AUnited d) t
+united_moves c d t kinds.All e = λ a b h z u g. let s = ends (ASource d) a b h in (_, _, union_all_step g (here t a kinds.All e) s.1)
+united_moves c d t kinds.Scan e = sources c d (AUnited d) t (λ a b y p z u g. (_, _, union_step g p)) kinds.Scan e
+united_moves c d t kinds.Open e = sources c d (AUnited d) t (λ a b y p z u g. (_, _, union_step g p)) kinds.Open e
+united_moves c d t _ e = tt
+
+compare_moves : (c : Counts) (d : ℕ) (t : Token) (short : Bool) (k : TokenKind) → t.kind ≡ k → Moves (at_compare c short k) (APrim d) t
+compare_moves c d t short k e = lim (nat_lt c.compares 128) _ (at_column (record { nodes = c.nodes; compares = c.compares + 1 }) (AnOp ∷ ATerm ∷ []) short k) (APrim d) t (columns (record { nodes = c.nodes; compares = c.compares + 1 }) (AnOp ∷ ATerm ∷ []) (APrim d) t (λ a b w p h. let x = ends ATerm h.0 b h.2 in (_, compared p h.1.1 x.1)) short k e)
+
+prim_moves : (c : Counts) (d : ℕ) (t : Token) (short : Bool) (k : TokenKind) → t.kind ≡ k → Moves (at_prim c d short k) (APrim d) t
+prim_moves c d t short kinds.Not e = lim (nat_lt d 32) _ (Takes c (APrim (d + 1) ∷ [])) (APrim d) t (λ a b h. let p = ends (APrim (d + 1)) a b h in (_, negated (here t a kinds.Not e) p.1))
+prim_moves c d t short kinds.Open e = lim (nat_lt d 32) _ (Takes c (APrim (d + 1) ∷ AnAnds (d + 1) ∷ AnOrs (d + 1) ∷ AToken kinds.Close ∷ [])) (APrim d) t
+    (λ a b h. let s = h.2.1 h.1.0 in let r = h.2.2.1 s.0 in let k = ends (AToken kinds.Close) h.2.2.0 b h.2.2.2 in (_, bracketed (here t a kinds.Open e) (pred (conj h.1.1 s.1) r.1) k.1))
+prim_moves c d t short kinds.Name e = compare_moves c d t short kinds.Name e
+prim_moves c d t short kinds.Quoted e = compare_moves c d t short kinds.Quoted e
+prim_moves c d t short _ e = tt
+
+ands_moves : (c : Counts) (d : ℕ) (t : Token) (k : TokenKind) → t.kind ≡ k → Moves (at_ands c d k) (AnAnds d) t
+ands_moves c d t kinds.And e = λ a b h p. let r = ends (AnAnds d) h.0 b h.2 (AndNode p h.1.0) in (r.0, one_and (here t a kinds.And e) h.1.1 r.1)
+ands_moves c d t _ e = λ n a p. (p, no_and)
+
+ors_moves : (c : Counts) (d : ℕ) (t : Token) (k : TokenKind) → t.kind ≡ k → Moves (at_ors c d k) (AnOrs d) t
+ors_moves c d t kinds.Or e = λ a b h p. let s = h.2.1 h.1.0 in let r = ends (AnOrs d) h.2.0 b h.2.2 (OrNode p s.0) in (r.0, one_or (here t a kinds.Or e) (conj h.1.1 s.1) r.1)
+ors_moves c d t _ e = λ n a p. (p, no_or)
+
+op_moves : (c : Counts) (t : Token) (k : TokenKind) → t.kind ≡ k → Moves (at_op c k) AnOp t
+op_moves c t kinds.Equal e = λ a b h. alone AnOp (t ∷ a) a b h (_, eq (here t a kinds.Equal e))
+op_moves c t kinds.NotEqual e = λ a b h. alone AnOp (t ∷ a) a b h (_, ne (here t a kinds.NotEqual e))
+op_moves c t kinds.Less e = λ a b h. alone AnOp (t ∷ a) a b h (_, lt (here t a kinds.Less e))
+op_moves c t kinds.LessEqual e = λ a b h. alone AnOp (t ∷ a) a b h (_, le (here t a kinds.LessEqual e))
+op_moves c t kinds.Greater e = λ a b h. alone AnOp (t ∷ a) a b h (_, gt (here t a kinds.Greater e))
+op_moves c t kinds.GreaterEqual e = λ a b h. alone AnOp (t ∷ a) a b h (_, ge (here t a kinds.GreaterEqual e))
+op_moves c t _ e = tt
+
+term_moves : (c : Counts) (t : Token) (short : Bool) (k : TokenKind) → t.kind ≡ k → Moves (at_term c short k) ATerm t
+term_moves c t short kinds.Number e = λ a b h. alone ATerm (t ∷ a) a b h (_, literal_term (number (here t a kinds.Number e)))
+term_moves c t short kinds.Str e = λ a b h. alone ATerm (t ∷ a) a b h (_, literal_term (string (here t a kinds.Str e)))
+term_moves c t short kinds.Name e = columns c [] ATerm t (λ a b w p h. alone ATerm (t ∷ a) a b h (_, column_term p)) short kinds.Name e
+term_moves c t short kinds.Quoted e = columns c [] ATerm t (λ a b w p h. alone ATerm (t ∷ a) a b h (_, column_term p)) short kinds.Quoted e
+term_moves c t short _ e = tt
+
+string_file : (a b : List Token) → IsSymbol (AToken kinds.Str) a b → (n : List ℕ) × IsFile a b n
+string_file a b h = (_, file h.1)
+
+stmts_moves : (y : Tally) (t : Token) (k : TokenKind) → t.kind ≡ k → Moves (at_stmts y k) (AStmts y) t
+stmts_moves y t kinds.Table e = lim (nat_lt y.tables 16) _ (Takes no_counts (AName ∷ AToken kinds.From ∷ AToken kinds.Str ∷ AToken kinds.Open ∷ AFirst 0 ∷ AType ∷ ADefault ∷ MoreDecls 1 ∷ AToken kinds.Close ∷ AStmts (record y { tables = y.tables + 1 }) ∷ [])) (AStmts y) t
+    (λ a b h. (_, one_stmt (table_stmt (here t a kinds.Table e) h.1.1 h.2.1.1 (file h.2.2.1.1) h.2.2.2.1.1 (listed (decl h.2.2.2.2.1.1 h.2.2.2.2.2.1.1 h.2.2.2.2.2.2.1.1) h.2.2.2.2.2.2.2.1.1) h.2.2.2.2.2.2.2.2.1.1) h.2.2.2.2.2.2.2.2.2.1.1))
+stmts_moves y t kinds.View e = lim (nat_lt y.views 64) _ (Takes no_counts (AName ∷ AToken kinds.Equal ∷ ASource 0 ∷ ASteps 0 ∷ AStmts (record y { views = y.views + 1 }) ∷ [])) (AStmts y) t
+    (λ a b h. let s = h.2.2.2.1 h.2.2.1.0 in (_, one_stmt (view_stmt (here t a kinds.View e) h.1.1 h.2.1.1 (plan h.2.2.1.1 s.1)) h.2.2.2.2.1.1))
+stmts_moves y t kinds.Lineage e = lim (nat_lt y.lineages 256) _ (Takes no_counts (ALineage ∷ AStmts (record y { lineages = y.lineages + 1 }) ∷ [])) (AStmts y) t
+    (λ a b h. let s = h.1 (t ∷ a) t (here t a kinds.Lineage e) in (_, one_stmt s.1 h.2.1.1))
+stmts_moves y t kinds.Link e = lim (nat_lt y.links 64) _ (Takes no_counts (AName ∷ AToken kinds.On ∷ AName ∷ AToken kinds.To ∷ ALinked 0 ∷ MoreLinked 1 ∷ AStmts (record y { links = y.links + 1 }) ∷ [])) (AStmts y) t
+    (λ a b h. (_, one_stmt (link_stmt (here t a kinds.Link e) h.1.1 h.2.1.1 h.2.2.1.1 h.2.2.2.1.1 (listed h.2.2.2.2.1.1 h.2.2.2.2.2.1.1)) h.2.2.2.2.2.2.1.1))
+stmts_moves y t kinds.End e = λ n. absurd (n e)
+stmts_moves y t _ e = tt
+
+lineage_moves : (c : Counts) (t : Token) (k : TokenKind) → t.kind ≡ k → Moves (at_lineage c k) ALineage t
+lineage_moves c t kinds.Back e = λ a b h z u g. let x = ends AnExtra h.2.2.0 b h.2.2.2 in (_, back_stmt g (here t a kinds.Back e) h.1.1 h.2.1.1 h.2.2.1.1 x.1)
+lineage_moves c t kinds.Fwd e = λ a b h z u g. let x = ends AName h.2.0 b h.2.2 in (_, fwd_stmt g (here t a kinds.Fwd e) h.1.1 h.2.1.1 x.1)
+lineage_moves c t _ e = tt
+
+extra_moves : (c : Counts) (t : Token) (k : TokenKind) → t.kind ≡ k → Moves (at_extra c k) AnExtra t
+extra_moves c t kinds.By e = λ a b h. let l = ends AColumn a b h in (_, by_extra (here t a kinds.By e) l.1)
+extra_moves c t kinds.Group e = λ a b h. let l = ends AnAggs h.0 b h.2 in (_, group_extra (here t a kinds.Group e) h.1.1 l.1)
+extra_moves c t _ e = λ n a. (_, no_extra)
+
+line_moves : (c : Counts) (t : Token) (k : TokenKind) → t.kind ≡ k → Moves (at_line c k) ALine t
+line_moves c t kinds.Show e = λ a b h. let l = ends ALineName a b h in (_, show_line (here t a kinds.Show e) l.1)
+line_moves c t kinds.Back e = λ a b h. let x = ends AThen h.2.2.2.0 b h.2.2.2.2 in (_, back_line (here t a kinds.Back e) h.1.1 h.2.1.1 h.2.2.1.1 h.2.2.2.1.1 x.1)
+line_moves c t kinds.Fwd e = λ a b h. let x = ends ALineName h.2.2.0 b h.2.2.2 in (_, fwd_line (here t a kinds.Fwd e) h.1.1 h.2.1.1 h.2.2.1.1 x.1)
+line_moves c t kinds.Brush e = λ a b h. let x = ends ALineName h.2.2.0 b h.2.2.2 in (_, brush_line (here t a kinds.Brush e) h.1.1 h.2.1.1 h.2.2.1.1 x.1)
+line_moves c t kinds.Clear e = λ a b h. alone ALine (t ∷ a) a b h (_, clear_line (here t a kinds.Clear e))
+line_moves c t _ e = tt
+
+line_columns : (c : Counts) (t : Token) (k : TokenKind) → t.kind ≡ k → Moves (at_line_column c k) ALineColumn t
+line_columns c t kinds.Name e = λ a b h. alone ALineColumn (t ∷ a) a b h (_, plain (here t a kinds.Name e))
+line_columns c t kinds.Quoted e = λ a b h. alone ALineColumn (t ∷ a) a b h (_, quoted (here t a kinds.Quoted e))
+line_columns c t _ e = tt
+
+then_moves : (c : Counts) (t : Token) (k : TokenKind) → t.kind ≡ k → Moves (at_then c k) AThen t
+then_moves c t kinds.Where e = λ a b h. let l = ends ALiteral h.2.0 b h.2.2 in (_, where_then (here t a kinds.Where e) h.1.1 h.2.1.1 l.1)
+then_moves c t kinds.Group e = λ a b h. alone AThen (t ∷ a) a b h (_, group_then (here t a kinds.Group e))
+then_moves c t _ e = λ n a. (_, no_then)
+
+end_moves : (t : Token) (k : TokenKind) → t.kind ≡ k → Moves (at_end k) AnEnd t
+end_moves t kinds.End e = λ n. absurd (n e)
+end_moves t _ e = tt
+
+mark_of : (v : ℤ) → is_mark v ≡ true → (m : ℕ) × (v ≡ pos m) × (nat_lt m (2 ^ 32) ≡ true)
+mark_of (pos m) e = (m, refl, and_right (int_le (pos 0) (pos m)) (int_lt (pos m) (pos (2 ^ 32))) e)
+mark_of (negsuc n) e = let f : int_le (pos 0) (negsuc n) ≡ true = and_left (int_le (pos 0) (negsuc n)) (int_lt (negsuc n) (pos (2 ^ 32))) e in absurd (cc)
+
+a_mark : (c : Counts) (ss : List Symbol) (x : Symbol) (t : Token) → ((a b : List Token) (m : ℕ) → IsMark (t ∷ a) a m → AreSymbols ss a b → IsSymbol x (t ∷ a) b) → t.kind ≡ kinds.Number → (o : Bool) → is_mark (int_value t.text) ≡ o → Moves (cond o (Takes c ss) Outside) x t
+a_mark c ss x t f e true g = λ a b h. let m = mark_of (int_value t.text) g in f a b m.0 (mark (here t a kinds.Number e) m.1 m.2) h
+a_mark c ss x t f e false g = tt
+
+mark_moves : (c : Counts) (ss : List Symbol) (x : Symbol) (t : Token) → ((a b : List Token) (m : ℕ) → IsMark (t ∷ a) a m → AreSymbols ss a b → IsSymbol x (t ∷ a) b) → (k : TokenKind) → t.kind ≡ k → Moves (at_mark c ss (int_value t.text) k) x t
+mark_moves c ss x t f kinds.Number e = a_mark c ss x t f e (is_mark (int_value t.text)) refl
+mark_moves c ss x t f _ e = tt
+
+marks_moves : (c : Counts) (t : Token) (k : TokenKind) → t.kind ≡ k → Moves (at_marks c (int_value t.text) k) AMarks t
+marks_moves c t kinds.All e = λ a b h. alone AMarks (t ∷ a) a b h (_, all_marks (here t a kinds.All e))
+marks_moves c t kinds.Number e = mark_moves c (MoreMarks ∷ []) AMarks t (λ a b m p h. let l = ends MoreMarks a b h in (_, listed_marks (listed p l.1))) kinds.Number e
+marks_moves c t _ e = tt
+
+moves : (x : Symbol) (c : Counts) (t : Token) → Moves (next c x t) x t
+moves (AToken k) c t = tokens_moves c k (AToken k) t (λ e a b h. alone (AToken k) (t ∷ a) a b h (t, here t a k (sym e)))
+moves AName c t = names c AName t (λ a b w h. (w, h)) (is_short t) t.kind refl
+moves AColumn c t = columns c [] AColumn t (λ a b w p h. alone AColumn (t ∷ a) a b h (w, p)) (is_short t) t.kind refl
+moves ALiteral c t = literals c t t.kind refl
+moves AWidth c t = width_moves c t t.kind refl
+moves AType c t = type_moves c t t.kind refl
+moves ADefault c t = default_moves c t t.kind refl
+moves AnAs c t = as_moves c t t.kind refl
+moves AWhat c t = what_moves c t t.kind refl
+moves AKeys c t = keys_moves c t (is_short t) t.kind refl
+moves AnAggs c t = aggs_moves c t t.kind refl
+moves (AFirst n) c t = firsts c n [] (AFirst n) t (λ a b w p h. alone (AFirst n) (t ∷ a) a b h (w, p)) (is_short t) t.kind refl
+moves (AnItem n) c t = item_moves c n t (is_short t) t.kind refl
+moves (ALinked n) c t = linked_moves c n t (is_short t) t.kind refl
+moves (MoreDecls n) c t = mores c (AFirst n ∷ AType ∷ ADefault ∷ MoreDecls (n + 1) ∷ []) (MoreDecls n) t (λ a b p h. (_, one_more p (decl h.1.1 h.2.1.1 h.2.2.1.1) (ends (MoreDecls (n + 1)) h.2.2.0 b h.2.2.2).1)) (λ a. ([], no_more)) t.kind refl
+moves (MoreItems n) c t = mores c (AnItem n ∷ MoreItems (n + 1) ∷ []) (MoreItems n) t (λ a b p h. (_, one_more p h.1.1 (ends (MoreItems (n + 1)) h.0 b h.2).1)) (λ a. ([], no_more)) t.kind refl
+moves (MoreKeys n) c t = mores c (AFirst n ∷ MoreKeys (n + 1) ∷ []) (MoreKeys n) t (λ a b p h. (_, one_more p h.1.1 (ends (MoreKeys (n + 1)) h.0 b h.2).1)) (λ a. ([], no_more)) t.kind refl
+moves (MoreAggs n) c t = mores c (AFirst n ∷ AToken kinds.Equal ∷ AWhat ∷ MoreAggs (n + 1) ∷ []) (MoreAggs n) t (λ a b p h. (_, one_more p (agg h.1.1 h.2.1.1 h.2.2.1.1) (ends (MoreAggs (n + 1)) h.2.2.0 b h.2.2.2).1)) (λ a. ([], no_more)) t.kind refl
+moves (MorePairs n) c t = mores c (AFirst n ∷ AToken kinds.Equal ∷ AColumn ∷ MorePairs (n + 1) ∷ []) (MorePairs n) t (λ a b p h. (_, one_more p (pair h.1.1 h.2.1.1 h.2.2.1.1) (ends (MorePairs (n + 1)) h.2.2.0 b h.2.2.2).1)) (λ a. ([], no_more)) t.kind refl
+moves (MoreLinked n) c t = mores c (ALinked n ∷ MoreLinked (n + 1) ∷ []) (MoreLinked n) t (λ a b p h. (_, one_more p h.1.1 (ends (MoreLinked (n + 1)) h.0 b h.2).1)) (λ a. ([], no_more)) t.kind refl
+moves (ASource d) c t = sources c d (ASource d) t (λ a b y p. (y, p)) t.kind refl
+moves (ASteps d) c t = steps_moves c d t t.kind refl
+moves (AStep d) c t = step_moves c d t t.kind refl
+moves (AUnited d) c t = united_moves c d t t.kind refl
+moves (APrim d) c t = prim_moves c d t (is_short t) t.kind refl
+moves (AnAnds d) c t = ands_moves c d t t.kind refl
+moves (AnOrs d) c t = ors_moves c d t t.kind refl
+moves AnOp c t = op_moves c t t.kind refl
+moves ATerm c t = term_moves c t (is_short t) t.kind refl
+moves (AStmts y) c t = stmts_moves y t t.kind refl
+moves ALineage c t = lineage_moves c t t.kind refl
+moves AnExtra c t = extra_moves c t t.kind refl
+moves ALine c t = line_moves c t t.kind refl
+moves ALineName c t = tokens_moves c kinds.Name ALineName t (λ e a b h. alone ALineName (t ∷ a) a b h (_, name (here t a kinds.Name (sym e))))
+moves ALineColumn c t = line_columns c t t.kind refl
+moves AMarks c t = marks_moves c t t.kind refl
+moves AMark c t = mark_moves c [] AMark t (λ a b m p h. alone AMark (t ∷ a) a b h (m, p)) t.kind refl
+moves MoreMarks c t = mores c (AMark ∷ MoreMarks ∷ []) MoreMarks t (λ a b p h. (_, one_more p h.1.1 (ends MoreMarks h.0 b h.2).1)) (λ a. ([], no_more)) t.kind refl
+moves AThen c t = then_moves c t t.kind refl
+moves AnEnd c t = end_moves t t.kind refl
+
+abbrev pub MovesAll : Move → List Symbol → Token → Type 0
+MovesAll (Takes d l) ss t = (a b : List Token) → AreSymbols l a b → AreSymbols ss (t ∷ a) b
+MovesAll Skips ss t = (a : List Token) → AreSymbols ss a a
+MovesAll Wrong ss t = Unit {0}
+MovesAll (Past w) ss t = Unit {0}
+MovesAll Outside ss t = Unit {0}
+
+pub settled : (ss : List Symbol) (c : Counts) (t : Token) → (t.kind ≡ kinds.End → ⊥) → MovesAll (settle ss c t) ss t
+settled [] c t no_end = λ a. refl
+settled (x ∷ ss) c t no_end = by (next c x t) (moves x c t) (settle ss c t) (settled ss c t no_end)
+  where
+    by : (m : Move) → Moves m x t → (o : Move) → MovesAll o ss t → MovesAll (or_next m ss o) (x ∷ ss) t
+    by (Takes d l) h o g = λ a b q. let r = split l ss a b q in (r.0, h a r.0 r.1, r.2)
+    by Skips h (Takes d l) g = λ a b q. (t ∷ a, h no_end (t ∷ a), g a b q)
+    by Skips h Skips g = λ a. (a, h no_end a, g a)
+    by Skips h Wrong g = tt
+    by Skips h (Past w) g = tt
+    by Skips h Outside g = tt
+    by Wrong h o g = tt
+    by (Past w) h o g = tt
+    by Outside h o g = tt

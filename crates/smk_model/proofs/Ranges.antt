@@ -1,0 +1,39 @@
+-- The places that an output row comes from are in range.
+use Rattle.std.proofs.Common.{◌≡◌, ℕ, ◌-◌, ◌<◌, List, [], ◌∷◌, ◌++◌, length, map, arith, get_or, nat_lt, inl, inr}
+use Rattle.std.specs.List.{All}
+use Rattle.std.proofs.lemmas.List.{length-append, length-map}
+use Rattle.std.proofs.lemmas.List.Elements.{All-nil}
+use Rattle.std.proofs.lemmas.Bool.{cases_Bool, ltb-true, ltb-false}
+use Rattle.smk_base.specs.declared.plan.Op2.{Op2}
+use Rattle.smk_base.specs.declared.plan.Op2.TheVariants.{Join, UnionAll, Union}
+use Rattle.smk_base.specs.Plans.{Unary, Selection, Projection, Distinction, Grouping}
+use Rattle.smk_model.specs.Values.{Row, meets}
+use Rattle.smk_model.specs.Plain.{row_eq, image, key_of, firsts, step1, step2}
+use Rattle.smk_model.specs.Lineage.{places, row_at, match_at, from1, from_left, from_right}
+use Rattle.smk_model.proofs.Places.{places_below}
+use Rattle.smk_model.proofs.CuiWidom.{selected_below, matched}
+
+one_below : (n i : ℕ) → i < n → All (λ r. r < n) (i ∷ [])
+one_below n i h k d l = let e : k ≡ 0 = omega arith in rw e h
+
+pub from1_below : (op : Unary) (L : List Row) (o : ℕ) → o < length (step1 op L) → All (λ r. r < length L) (from1 op L o)
+from1_below (Selection formula) L o h = one_below (length L) (get_or (places (λ i. meets formula (row_at L i)) (length L)) o 0) (selected_below (meets formula) L o h)
+from1_below (Projection items) L o h = one_below (length L) o (omega (arith, h, length-map L (image items)))
+from1_below (Distinction items) L o h = places_below (λ i. row_eq (row_at (firsts (map (image items) L)) o) (image items (row_at L i))) (length L)
+from1_below (Grouping keys aggs) L o h = places_below (λ i. row_eq (row_at (firsts (map (key_of keys) L)) o) (key_of keys (row_at L i))) (length L)
+
+pub left_below : (op : Op2) (L R : List Row) (o : ℕ) → o < length (step2 op L R) → All (λ r. r < length L) (from_left op L R o)
+left_below (Join pairs) L R o h = one_below (length L) (match_at pairs L R o).0 (matched pairs L R o h).0
+left_below UnionAll L R o h = elim (cases_Bool (nat_lt o (length L))) [
+  | inl p ↦ rw p (one_below (length L) o (ltb-true o (length L) p))
+  | inr p ↦ rw p (All-nil (λ r. r < length L))
+]
+left_below Union L R o h = places_below (λ i. row_eq (row_at (firsts (L ++ R)) o) (row_at L i)) (length L)
+
+pub right_below : (op : Op2) (L R : List Row) (o : ℕ) → o < length (step2 op L R) → All (λ r. r < length R) (from_right op L R o)
+right_below (Join pairs) L R o h = one_below (length R) (match_at pairs L R o).1 (matched pairs L R o h).1
+right_below UnionAll L R o h = elim (cases_Bool (nat_lt o (length L))) [
+  | inl p ↦ rw p (All-nil (λ r. r < length R))
+  | inr p ↦ rw p (one_below (length R) (o - length L) (let g = ltb-false o (length L) p in omega (arith, h, length-append L R)))
+]
+right_below Union L R o h = places_below (λ j. row_eq (row_at (firsts (L ++ R)) o) (row_at R j)) (length R)

@@ -1,0 +1,284 @@
+-- No text of the grammar is unexpected.
+use Rattle.std.specs.Prelude.{Option, None, nat_lt, pos, int_le, int_lt, ◌^◌, ◌&&◌, ℤ}
+use Rattle.std.proofs.Common.{◌≡◌, ℕ, ◌+◌, ◌≤◌, List, [], ◌∷◌, Bool, true, ap, ◌∙◌, sym, subst, refl, arith}
+use Rattle.std.proofs.lemmas.Bool.{le-leb}
+use Rattle.smk_base.specs.declared.token.TokenKind.{TokenKind}
+use Rattle.smk_base.specs.declared.token.TokenKind.TheVariants as kinds
+use Rattle.smk_base.specs.declared.fault.Many.TheVariants.{Tables, Views, Lineages, Links, Columns, Nodes, Compares, Depth, NameBytes}
+use Rattle.smk_base.specs.declared.plan.CmpOp.{CmpOp}
+use Rattle.smk_base.specs.declared.tree.Word.{Word}
+use Rattle.smk_base.specs.declared.tree.Lit.{Lit}
+use Rattle.smk_base.specs.declared.tree.Decl.{Decl}
+use Rattle.smk_base.specs.declared.tree.Extra.{Extra}
+use Rattle.smk_base.specs.declared.tree.ItemTree.{ItemTree}
+use Rattle.smk_base.specs.declared.tree.AggTree.{AggTree}
+use Rattle.smk_base.specs.declared.tree.AggWhat.{AggWhat}
+use Rattle.smk_base.specs.declared.tree.PairTree.{PairTree}
+use Rattle.smk_base.specs.declared.tree.Term.{Term}
+use Rattle.smk_base.specs.declared.tree.Marks.{Marks}
+use Rattle.smk_base.specs.declared.tree.Then.{Then}
+use Rattle.smk_base.specs.declared.tree.Line.{Line}
+use Rattle.smk_base.specs.Trees.{PredImage, TreeImage, StepImage, StmtImage}
+use Rattle.smk_model.specs.Tokens.{Token, head_of, int_value}
+use Rattle.smk_model.specs.Grammar.{First, IsName, name, IsColumn, number, string, IsFile, file, listed, IsType, int_type, text_type, IsDefault, no_default, default, IsDecl, decl, IsNamed, by_itself, by_as, IsWidth, width, IsItem, column_item, bin_item, IsWhat, count, sum, min, max, IsAgg, agg, AreKeys, no_keys, keys, AreAggs, no_aggs, aggs, IsPair, pair, IsOp, eq, ne, lt, le, gt, ge, IsTerm, column_term, literal_term, IsPrim, negated, bracketed, compared, IsConj, conj, AreAnds, no_and, one_and, IsPred, pred, AreOrs, no_or, one_or, IsPlan, plan, IsSource, scan, inner_plan, AreSteps, no_step, one_step, IsStep, where_step, project_step, distinct_step, group_step, join_step, union_all_step, union_step, IsExtra, no_extra, by_extra, group_extra, table_stmt, view_stmt, back_stmt, fwd_stmt, link_stmt, AreStmts, no_stmt, one_stmt, IsMark, mark, AreMarks, all_marks, listed_marks, IsThen, no_then, where_then, group_then, IsLine, show_line, back_line, fwd_line, brush_line, clear_line, IsWholeLine, whole_line}
+use Rattle.smk_model.specs.Machine.{Counts, Tally, Symbol, Skips, Outside, fault_in, book_symbols, line_symbols, no_counts, book_fault, line_fault, is_mark, is_short, at_more, at_default, at_as, at_keys, at_aggs, at_ands, at_ors, at_steps, at_extra, at_then, at_stmts, at_end, AToken, AName, AColumn, AWidth, AType, ADefault, AnAs, AWhat, AKeys, AnAggs, AFirst, AnItem, ALinked, MoreDecls, MoreItems, MoreKeys, MoreAggs, MorePairs, MoreLinked, ASource, ASteps, AStep, AUnited, APrim, AnAnds, AnOrs, AnOp, ATerm, AStmts, AnExtra, ALine, ALineName, ALineColumn, AMarks, AMark, MoreMarks, AThen}
+use Rattle.smk_model.specs.GrammarLaws.{AtMostTooMany, TextsAreRead}
+use Rattle.smk_model.proofs.Unique.{rank, rank_of, ranked, aggs_rank, ors_rank, steps_rank, stmts_rank}
+use Rattle.smk_model.proofs.Reading.{Goes, Gets, on, over, nothing, then_goes, both, taken, limited, holds, of_kind, opens, passes, token_text, literal_text, column_opens, Lists, more_text, listed_text}
+
+abbrev Reads : List Symbol → List Token → List Token → Type 0
+Reads l a b = Goes (Unit {0}) l a b
+
+-- a symbol is nothing before a token that doesn't begin it
+more_skips : (c : Counts) (ss : List Symbol) (k : TokenKind) → 2 ≤ rank k → at_more c ss k ≡ Skips
+more_skips c ss kinds.Comma h = absurd (omega (arith, h))
+more_skips c ss _ h = refl
+
+default_skips : (c : Counts) (k : TokenKind) → 1 ≤ rank k → at_default c k ≡ Skips
+default_skips c kinds.Default h = absurd (omega (arith, h))
+default_skips c _ h = refl
+
+as_skips : (c : Counts) (k : TokenKind) → 1 ≤ rank k → at_as c k ≡ Skips
+as_skips c kinds.As h = absurd (omega (arith, h))
+as_skips c _ h = refl
+
+keys_skips : (c : Counts) (short : Bool) (k : TokenKind) → 3 ≤ rank k → at_keys c short k ≡ Skips
+keys_skips c short kinds.Name h = absurd (omega (arith, h))
+keys_skips c short kinds.Quoted h = absurd (omega (arith, h))
+keys_skips c short _ h = refl
+
+aggs_skips : (c : Counts) (k : TokenKind) → 4 ≤ rank k → at_aggs c k ≡ Skips
+aggs_skips c kinds.OpenBrace h = absurd (omega (arith, h))
+aggs_skips c _ h = refl
+
+ands_skips : (c : Counts) (d : ℕ) (k : TokenKind) → 5 ≤ rank k → at_ands c d k ≡ Skips
+ands_skips c d kinds.And h = absurd (omega (arith, h))
+ands_skips c d _ h = refl
+
+ors_skips : (c : Counts) (d : ℕ) (k : TokenKind) → 6 ≤ rank k → at_ors c d k ≡ Skips
+ors_skips c d kinds.Or h = absurd (omega (arith, h))
+ors_skips c d _ h = refl
+
+steps_skips : (c : Counts) (d : ℕ) (k : TokenKind) → 7 ≤ rank k → at_steps c d k ≡ Skips
+steps_skips c d kinds.Bar h = absurd (omega (arith, h))
+steps_skips c d _ h = refl
+
+extra_skips : (c : Counts) (k : TokenKind) → 8 ≤ rank k → at_extra c k ≡ Skips
+extra_skips c kinds.By h = absurd (omega (arith, h))
+extra_skips c kinds.Group h = absurd (omega (arith, h))
+extra_skips c _ h = refl
+
+then_skips : (c : Counts) (k : TokenKind) → 8 ≤ rank k → at_then c k ≡ Skips
+then_skips c kinds.Where h = absurd (omega (arith, h))
+then_skips c kinds.Group h = absurd (omega (arith, h))
+then_skips c _ h = refl
+
+name_text : {a b : List Token} {w : Word} → IsName a b w → Reads (AName ∷ []) a b
+name_text (name h) = opens h (λ c. limited _ NameBytes tt (taken c)) nothing
+
+column_text : {a b : List Token} {w : Word} → IsColumn a b w → Reads (AColumn ∷ []) a b
+column_text h = column_opens (λ c t. limited _ NameBytes tt (taken c)) (λ c t. limited _ NameBytes tt (taken c)) h nothing
+
+first_text : (k : ℕ) {a b : List Token} {w : Word} → IsColumn a b w → Reads (AFirst k ∷ []) a b
+first_text k h = column_opens (λ c t. limited _ Columns tt (limited _ NameBytes tt (taken c))) (λ c t. limited _ Columns tt (limited _ NameBytes tt (taken c))) h nothing
+
+linked_text : (k : ℕ) {a b : List Token} {w : Word} → IsName a b w → Reads (ALinked k ∷ []) a b
+linked_text k (name h) = opens h (λ c. limited _ Links tt (limited _ NameBytes tt (taken c))) nothing
+
+file_text : {a b : List Token} {n : List ℕ} → IsFile a b n → Reads (AToken kinds.Str ∷ []) a b
+file_text (file h) = token_text h refl
+
+type_text : {a b : List Token} {x : Bool} → IsType a b x → Reads (AType ∷ []) a b
+type_text (int_type h) = opens h (λ c. taken c) nothing
+type_text (text_type h) = opens h (λ c. taken c) nothing
+
+default_text : {a b : List Token} {o : Option Lit} → IsDefault a b o → 1 ≤ rank_of b → Reads (ADefault ∷ []) a b
+default_text {a} no_default n = passes (λ c. default_skips c (head_of a).kind n)
+default_text (default h l) n = opens h (λ c. taken c) (literal_text l)
+
+named_text : {a b : List Token} {w x : Word} → IsNamed w a b x → 1 ≤ rank_of b → Reads (AnAs ∷ []) a b
+named_text {a} by_itself n = passes (λ c. as_skips c (head_of a).kind n)
+named_text (by_as h k) n = opens h (λ c. taken c) (column_text k)
+
+width_text : {a b : List Token} {k : ℤ} → IsWidth a b k → Reads (AWidth ∷ []) a b
+width_text (width h e) = opens h (λ c. holds Outside e (taken c)) nothing
+
+item_text : (k : ℕ) {a b : List Token} {x : ItemTree} → IsItem a b x → 1 ≤ rank_of b → Reads (AnItem k ∷ []) a b
+item_text k (column_item h m) n = column_opens (λ c t. limited _ Columns tt (limited _ NameBytes tt (taken c))) (λ c t. limited _ Columns tt (limited _ NameBytes tt (taken c))) h (named_text m n)
+item_text k (bin_item h o w v x y z m) n = opens h (λ c. limited _ Columns tt (taken c)) (then_goes (token_text o refl) (then_goes (column_text w) (then_goes (token_text v refl) (then_goes (width_text x) (then_goes (token_text y refl) (then_goes (token_text z refl) (column_text m)))))))
+
+what_text : {a b : List Token} {x : AggWhat} → IsWhat a b x → Reads (AWhat ∷ []) a b
+what_text (count h) = opens h (λ c. taken c) nothing
+what_text (sum h k) = opens h (λ c. taken c) (column_text k)
+what_text (min h k) = opens h (λ c. taken c) (column_text k)
+what_text (max h k) = opens h (λ c. taken c) (column_text k)
+
+decls : Lists (Unit {0}) IsDecl MoreDecls (λ k. AFirst k ∷ AType ∷ ADefault ∷ [])
+decls = record { comma = λ c k t. taken c; stops = λ c k t h. more_skips c _ t.kind h; each = each }
+  where
+    each : (k : ℕ) (a b : List Token) (x : Decl) → IsDecl a b x → 1 ≤ rank_of b → Reads (AFirst k ∷ AType ∷ ADefault ∷ []) a b
+    each k a b x (decl h i j) n = then_goes (first_text k h) (then_goes (type_text i) (default_text j n))
+
+some_items : Lists (Unit {0}) IsItem MoreItems (λ k. AnItem k ∷ [])
+some_items = record { comma = λ c k t. taken c; stops = λ c k t h. more_skips c _ t.kind h; each = λ k a b x h n. item_text k h n }
+
+some_keys : Lists (Unit {0}) IsColumn MoreKeys (λ k. AFirst k ∷ [])
+some_keys = record { comma = λ c k t. taken c; stops = λ c k t h. more_skips c _ t.kind h; each = λ k a b x h n. first_text k h }
+
+some_aggs : Lists (Unit {0}) IsAgg MoreAggs (λ k. AFirst k ∷ AToken kinds.Equal ∷ AWhat ∷ [])
+some_aggs = record { comma = λ c k t. taken c; stops = λ c k t h. more_skips c _ t.kind h; each = each }
+  where
+    each : (k : ℕ) (a b : List Token) (x : AggTree) → IsAgg a b x → 1 ≤ rank_of b → Reads (AFirst k ∷ AToken kinds.Equal ∷ AWhat ∷ []) a b
+    each k a b x (agg h i j) n = then_goes (first_text k h) (then_goes (token_text i refl) (what_text j))
+
+some_pairs : Lists (Unit {0}) IsPair MorePairs (λ k. AFirst k ∷ AToken kinds.Equal ∷ AColumn ∷ [])
+some_pairs = record { comma = λ c k t. taken c; stops = λ c k t h. more_skips c _ t.kind h; each = each }
+  where
+    each : (k : ℕ) (a b : List Token) (x : PairTree) → IsPair a b x → 1 ≤ rank_of b → Reads (AFirst k ∷ AToken kinds.Equal ∷ AColumn ∷ []) a b
+    each k a b x (pair h i j) n = then_goes (first_text k h) (then_goes (token_text i refl) (column_text j))
+
+some_linked : Lists (Unit {0}) IsName MoreLinked (λ k. ALinked k ∷ [])
+some_linked = record { comma = λ c k t. taken c; stops = λ c k t h. more_skips c _ t.kind h; each = λ k a b x h n. linked_text k h }
+
+keys_text : {a b : List Token} {ws : List Word} → AreKeys a b ws → 3 ≤ rank_of b → Reads (AKeys ∷ []) a b
+keys_text {a} no_keys n = passes (λ c. keys_skips c _ (head_of a).kind n)
+keys_text (keys (listed h l)) n = column_opens (λ c t. limited (nat_lt 0 16) Columns tt (limited (is_short (of_kind kinds.Name t)) NameBytes tt (taken c))) (λ c t. limited (nat_lt 0 16) Columns tt (limited (is_short (of_kind kinds.Quoted t)) NameBytes tt (taken c))) h (more_text some_keys 1 l (omega (arith, n)))
+
+aggs_text : {a b : List Token} {xs : List AggTree} → AreAggs a b xs → 4 ≤ rank_of b → Reads (AnAggs ∷ []) a b
+aggs_text {a} no_aggs n = passes (λ c. aggs_skips c (head_of a).kind n)
+aggs_text (aggs h l k) n = opens h (λ c. taken c) (both (listed_text some_aggs l (omega (arith, ranked k))) (token_text k refl))
+
+grouping_text : {a b e : List Token} {ws : List Word} {xs : List AggTree} → AreKeys a b ws → AreAggs b e xs → 4 ≤ rank_of e → Reads (AKeys ∷ AnAggs ∷ []) a e
+grouping_text h k n = then_goes (keys_text h (aggs_rank k n)) (aggs_text k n)
+
+op_text : {a b : List Token} {o : CmpOp} → IsOp a b o → Reads (AnOp ∷ []) a b
+op_text (eq h) = opens h (λ c. taken c) nothing
+op_text (ne h) = opens h (λ c. taken c) nothing
+op_text (lt h) = opens h (λ c. taken c) nothing
+op_text (le h) = opens h (λ c. taken c) nothing
+op_text (gt h) = opens h (λ c. taken c) nothing
+op_text (ge h) = opens h (λ c. taken c) nothing
+
+term_text : {a b : List Token} {x : Term} → IsTerm a b x → Reads (ATerm ∷ []) a b
+term_text (column_term h) = column_opens (λ c t. limited _ NameBytes tt (taken c)) (λ c t. limited _ NameBytes tt (taken c)) h nothing
+term_text (literal_term (number h)) = opens h (λ c. taken c) nothing
+term_text (literal_term (string h)) = opens h (λ c. taken c) nothing
+
+mutual
+  prim_text : {a b : List Token} {p : PredImage} → IsPrim a b p → (d : ℕ) → Reads (APrim d ∷ []) a b
+  prim_text (negated h p) d = opens h (λ c. limited _ Depth tt (taken c)) (prim_text p (d + 1))
+  prim_text (bracketed h p k) d = opens h (λ c. limited _ Depth tt (taken c)) (both (pred_text p (omega (arith, ranked k)) (d + 1)) (token_text k refl))
+  prim_text (compared h o x) d = column_opens (λ c t. limited _ Compares tt (limited _ NameBytes tt (taken _))) (λ c t. limited _ Compares tt (limited _ NameBytes tt (taken _))) h (then_goes (op_text o) (term_text x))
+
+  conj_text : {a b : List Token} {p : PredImage} → IsConj a b p → 5 ≤ rank_of b → (d : ℕ) → Reads (APrim d ∷ AnAnds d ∷ []) a b
+  conj_text (conj p l) n d = then_goes (prim_text p d) (ands_text l n d)
+
+  ands_text : {a b : List Token} {p q : PredImage} → AreAnds a b p q → 5 ≤ rank_of b → (d : ℕ) → Reads (AnAnds d ∷ []) a b
+  ands_text {a} no_and n d = passes (λ c. ands_skips c d (head_of a).kind n)
+  ands_text (one_and h p l) n d = opens h (λ c. taken c) (then_goes (prim_text p d) (ands_text l n d))
+
+  pred_text : {a b : List Token} {p : PredImage} → IsPred a b p → 6 ≤ rank_of b → (d : ℕ) → Reads (APrim d ∷ AnAnds d ∷ AnOrs d ∷ []) a b
+  pred_text (pred p l) n d = both (conj_text p (ors_rank l n) d) (ors_text l n d)
+
+  ors_text : {a b : List Token} {p q : PredImage} → AreOrs a b p q → 6 ≤ rank_of b → (d : ℕ) → Reads (AnOrs d ∷ []) a b
+  ors_text {a} no_or n d = passes (λ c. ors_skips c d (head_of a).kind n)
+  ors_text (one_or h p l) n d = opens h (λ c. taken c) (both (conj_text p (ors_rank l n) d) (ors_text l n d))
+
+mutual
+  source_text : {a b : List Token} {x : TreeImage} → IsSource a b x → (d : ℕ) → Reads (ASource d ∷ []) a b
+  source_text (scan h k) d = opens h (λ c. limited _ Nodes tt (taken _)) (name_text k)
+  source_text (inner_plan h p k) d = opens h (λ c. limited _ Depth tt (taken c)) (both (plan_text p (omega (arith, ranked k)) (d + 1)) (token_text k refl))
+
+  united_text : {a b : List Token} {x : TreeImage} → IsSource a b x → (d : ℕ) → Reads (AUnited d ∷ []) a b
+  united_text (scan h k) d = opens h (λ c. limited _ Nodes tt (taken _)) (name_text k)
+  united_text (inner_plan h p k) d = opens h (λ c. limited _ Depth tt (taken c)) (both (plan_text p (omega (arith, ranked k)) (d + 1)) (token_text k refl))
+
+  plan_text : {a b : List Token} {x : TreeImage} → IsPlan a b x → 7 ≤ rank_of b → (d : ℕ) → Reads (ASource d ∷ ASteps d ∷ []) a b
+  plan_text (plan p l) n d = then_goes (source_text p d) (steps_text l n d)
+
+  steps_text : {a b : List Token} {x y : TreeImage} → AreSteps a b x y → 7 ≤ rank_of b → (d : ℕ) → Reads (ASteps d ∷ []) a b
+  steps_text {a} no_step n d = passes (λ c. steps_skips c d (head_of a).kind n)
+  steps_text (one_step h p l) n d = opens h (λ c. taken c) (then_goes (step_text p (steps_rank l n) d) (steps_text l n d))
+
+  step_text : {a b : List Token} {m : ℕ} {x : StepImage} → IsStep a b m x → 6 ≤ rank_of b → (d : ℕ) → Reads (AStep d ∷ []) a b
+  step_text (where_step h p) n d = opens h (λ c. limited _ Nodes tt (taken _)) (pred_text p n d)
+  step_text (project_step h l) n d = opens h (λ c. limited _ Nodes tt (taken _)) (listed_text some_items l (omega (arith, n)))
+  step_text (distinct_step h l) n d = opens h (λ c. limited _ Nodes tt (taken _)) (listed_text some_items l (omega (arith, n)))
+  step_text (group_step h k l) n d = opens h (λ c. limited _ Nodes tt (taken _)) (grouping_text k l (omega (arith, n)))
+  step_text (join_step h p k l) n d = opens h (λ c. limited _ Nodes tt (taken _)) (then_goes (source_text p d) (then_goes (token_text k refl) (listed_text some_pairs l (omega (arith, n)))))
+  step_text (union_all_step h k p) n d = opens h (λ c. limited _ Nodes tt (taken _)) (opens k (λ c. taken c) (source_text p d))
+  step_text (union_step h p) n d = opens h (λ c. limited _ Nodes tt (taken _)) (united_text p d)
+
+extra_text : {a b : List Token} {x : Extra} → IsExtra a b x → 8 ≤ rank_of b → Reads (AnExtra ∷ []) a b
+extra_text {a} no_extra n = passes (λ c. extra_skips c (head_of a).kind n)
+extra_text (by_extra h k) n = opens h (λ c. taken c) (column_text k)
+extra_text (group_extra h k l) n = opens h (λ c. taken c) (grouping_text k l (omega (arith, n)))
+
+end_here : {a b : List Token} {t : Token} → First kinds.End t a b → (head_of a).kind ≡ kinds.End
+end_here h = ap (λ l. (head_of l).kind) h.is_first ∙ h.is_kind
+
+stmts_text : {a : List Token} {ss : List StmtImage} → AreStmts a ss → (y : Tally) → (e : List Token) × Reads (AStmts y ∷ []) a e
+stmts_text {a} (no_stmt h) y = (a, passes (λ c. ap (at_stmts y) (end_here h)))
+stmts_text (one_stmt (table_stmt h n i f j ds k) l) y = let r = stmts_text l (record y { tables = y.tables + 1 }) in (r.0, opens h (λ c. limited _ Tables tt (taken no_counts)) (then_goes (name_text n) (then_goes (token_text i refl) (then_goes (file_text f) (then_goes (token_text j refl) (both (listed_text decls ds (omega (arith, ranked k))) (then_goes (token_text k refl) r.1)))))))
+stmts_text (one_stmt (view_stmt h n q p) l) y = let r = stmts_text l (record y { views = y.views + 1 }) in (r.0, opens h (λ c. limited _ Views tt (taken no_counts)) (then_goes (name_text n) (then_goes (token_text q refl) (both (plan_text p (omega (arith, stmts_rank l)) 0) r.1))))
+stmts_text (one_stmt (back_stmt h i n j m x) l) y = let r = stmts_text l (record y { lineages = y.lineages + 1 }) in (r.0, opens h (λ c. limited _ Lineages tt (taken no_counts)) (then_goes (opens i (λ c. taken c) (then_goes (name_text n) (then_goes (token_text j refl) (then_goes (name_text m) (extra_text x (omega (arith, stmts_rank l))))))) r.1))
+stmts_text (one_stmt (fwd_stmt h i n j m) l) y = let r = stmts_text l (record y { lineages = y.lineages + 1 }) in (r.0, opens h (λ c. limited _ Lineages tt (taken no_counts)) (then_goes (opens i (λ c. taken c) (then_goes (name_text n) (then_goes (token_text j refl) (name_text m)))) r.1))
+stmts_text (one_stmt (link_stmt h n i m j xs) l) y = let r = stmts_text l (record y { links = y.links + 1 }) in (r.0, opens h (λ c. limited _ Links tt (taken no_counts)) (then_goes (name_text n) (then_goes (token_text i refl) (then_goes (name_text m) (then_goes (token_text j refl) (both (listed_text some_linked xs (omega (arith, stmts_rank l))) r.1))))))
+
+book : (a : List Token) (ss : List StmtImage) → AreStmts a ss → AtMostTooMany (book_fault a)
+book a ss h = let r = stmts_text h (record { tables = 0; views = 0; lineages = 0; links = 0 }) in by r.0 (r.1.goes no_counts [])
+  where
+    by : (e : List Token) → Gets (Unit {0}) book_symbols [] no_counts a e → AtMostTooMany (book_fault a)
+    by e (on d f) = subst AtMostTooMany (sym (ap fault_in f)) tt
+    by e (over p at what f) = subst AtMostTooMany (sym (ap fault_in f)) tt
+
+-- in a line there is nothing of which there may be too many
+line_name : {a b : List Token} {w : Word} → IsName a b w → Goes ⊥ (ALineName ∷ []) a b
+line_name (name h) = opens h (λ c. taken c) nothing
+
+line_column : {a b : List Token} {w : Word} → IsColumn a b w → Goes ⊥ (ALineColumn ∷ []) a b
+line_column h = column_opens (λ c t. taken c) (λ c t. taken c) h nothing
+
+mark_holds : (v : ℤ) (m : ℕ) → v ≡ pos m → nat_lt m (2 ^ 32) ≡ true → is_mark v ≡ true
+mark_holds v m e f = ap is_mark e ∙ ap (λ o. int_le (pos 0) (pos m) && o) below ∙ above m
+  where
+    below : int_lt (pos m) (pos (2 ^ 32)) ≡ true
+    below = f
+
+    above : (n : ℕ) → (int_le (pos 0) (pos n) && true) ≡ true
+    above n = ap (λ o. o && true) (le-leb 0 n (omega (arith)))
+
+some_marks : Lists ⊥ IsMark (λ k. MoreMarks) (λ k. AMark ∷ [])
+some_marks = record { comma = λ c k t. taken c; stops = λ c k t h. more_skips c _ t.kind h; each = each }
+  where
+    each : (k : ℕ) (a b : List Token) (x : ℕ) → IsMark a b x → 1 ≤ rank_of b → Goes ⊥ (AMark ∷ []) a b
+    each k a b x (mark {t = t} h e f) n = opens h (λ c. holds Outside (mark_holds (int_value t.text) x e f) (taken c)) nothing
+
+marks_text : {a b : List Token} {m : Marks} → AreMarks a b m → 2 ≤ rank_of b → Goes ⊥ (AMarks ∷ []) a b
+marks_text (all_marks h) n = opens h (λ c. taken c) nothing
+marks_text (listed_marks (listed (mark {t = t} {m = m} h e f) l)) n = opens h (λ c. holds Outside (mark_holds (int_value t.text) m e f) (taken c)) (more_text some_marks 1 l n)
+
+then_text : {a b : List Token} {x : Then} → IsThen a b x → 8 ≤ rank_of b → Goes ⊥ (AThen ∷ []) a b
+then_text {a} no_then n = passes (λ c. then_skips c (head_of a).kind n)
+then_text (where_then h w i l) n = opens h (λ c. taken c) (then_goes (line_column w) (then_goes (token_text i refl) (literal_text l)))
+then_text (group_then h) n = opens h (λ c. taken c) nothing
+
+line_text : {a b : List Token} {l : Line} → IsLine a b l → 8 ≤ rank_of b → Goes ⊥ (ALine ∷ []) a b
+line_text (show_line h w) n = opens h (λ c. taken c) (line_name w)
+line_text (back_line h w m i z x) n = opens h (λ c. taken c) (then_goes (line_name w) (then_goes (marks_text m (omega (arith, ranked i))) (then_goes (token_text i refl) (then_goes (line_name z) (then_text x n)))))
+line_text (fwd_line h w m i z) n = opens h (λ c. taken c) (then_goes (line_name w) (then_goes (marks_text m (omega (arith, ranked i))) (then_goes (token_text i refl) (line_name z))))
+line_text (brush_line h w m i z) n = opens h (λ c. taken c) (then_goes (line_name w) (then_goes (marks_text m (omega (arith, ranked i))) (then_goes (token_text i refl) (line_name z))))
+line_text (clear_line h) n = opens h (λ c. taken c) nothing
+
+whole_text : {a : List Token} {l : Line} → IsWholeLine a l → (e : List Token) × Goes ⊥ line_symbols a e
+whole_text (whole_line {b = b} p h) = (b, then_goes (line_text p (omega (arith, ranked h))) (passes (λ c. ap at_end (end_here h))))
+
+line : (a : List Token) (l : Line) → IsWholeLine a l → line_fault a ≡ None
+line a l h = let r = whole_text h in by r.0 (r.1.goes no_counts [])
+  where
+    by : (e : List Token) → Gets ⊥ line_symbols [] no_counts a e → line_fault a ≡ None
+    by e (on d f) = ap fault_in f
+    by e (over p at what f) = absurd p
+
+pub texts_are_read : TextsAreRead
+texts_are_read = record { book = book; line = line }

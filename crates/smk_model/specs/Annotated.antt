@@ -1,0 +1,79 @@
+-- Annotated meaning: each row with the set of pairs (leaf, rid) that it came from; and the backward and forward meaning read off it.
+use Rattle.std.specs.Prelude.{ℕ, ◌+◌, Bool, false, ◌&&◌, ◌||◌, List, [], ◌++◌, length, map, slice_index_or, nat_eq}
+use Rattle.std.specs.List.{list_any, flat_map, filter, sum_by}
+use Rattle.smk_base.specs.declared.plan.Op2.{Op2}
+use Rattle.smk_base.specs.declared.plan.Op2.TheVariants.{Join, UnionAll, Union}
+use Rattle.smk_base.specs.Plans.{Unary, Selection, Projection, Distinction, Grouping, Expr, Leaf, Apply, Combine}
+use Rattle.smk_model.specs.Values.{Row, meets}
+use Rattle.smk_model.specs.Plain.{row_eq, image, key_of, firsts, grouped, agree, leaves, width, eval}
+use Rattle.smk_model.specs.Lineage.{upto, places, row_at}
+
+-- a set of pairs (leaf, rid), by its test
+abbrev pub Sources : Type 0
+Sources = ℕ → ℕ → Bool
+
+-- a row with the set that it came from
+abbrev pub Marked : Type 0
+Marked = Row × Sources
+
+abbrev pub no_mark : Marked
+no_mark = ([], λ leaf rid. false)
+
+abbrev pub mark_at : List Marked → ℕ → Marked
+mark_at marked i = slice_index_or marked i no_mark
+
+abbrev pub rows_of : List Marked → List Row
+rows_of marked = map (λ m. m.0) marked
+
+-- the union of two sets
+abbrev pub both : Sources → Sources → Sources
+both a b = λ leaf rid. a leaf rid || b leaf rid
+
+-- the union of the sets of the rows that pass a test
+abbrev pub gathered : (Row → Bool) → List Marked → Sources
+gathered test marked = λ leaf rid. list_any (λ m. m.1 leaf rid) (filter (λ m. test m.0) marked)
+
+-- the rows of a scan: row number r has its own pair alone
+abbrev pub scanned : ℕ → List Row → List Marked
+scanned k rows = map (λ i. (row_at rows i, λ leaf rid. nat_eq k leaf && nat_eq i rid)) (upto (length rows))
+
+-- a step keeps the set of a row that it keeps or maps, and unites the sets of the rows that it makes one
+abbrev pub ann1 : Unary → List Marked → List Marked
+ann1 (Selection formula) marked = filter (λ m. meets formula m.0) marked
+ann1 (Projection items) marked = map (λ m. (image items m.0, m.1)) marked
+ann1 (Distinction items) marked = map (λ r. (r, gathered (λ row. row_eq r (image items row)) marked)) (firsts (map (image items) (rows_of marked)))
+ann1 (Grouping keys aggs) marked = map (λ key. (grouped keys aggs (rows_of marked) key, gathered (λ row. row_eq key (key_of keys row)) marked)) (firsts (map (key_of keys) (rows_of marked)))
+
+abbrev pub ann2 : Op2 → List Marked → List Marked → List Marked
+ann2 (Join pairs) ls rs = flat_map (λ l. map (λ r. (l.0 ++ r.0, both l.1 r.1)) (filter (λ r. agree pairs l.0 r.0) rs)) ls
+ann2 UnionAll ls rs = ls ++ rs
+ann2 Union ls rs = map (λ r. (r, both (gathered (row_eq r) ls) (gathered (row_eq r) rs))) (firsts (rows_of ls ++ rows_of rs))
+
+-- the marked rows of a plan whose leaves have the lists of E, and their numbers, from the k-th on
+abbrev pub ann_from : Expr → List (List Row) → ℕ → List Marked
+ann_from (Leaf table) E k = scanned k (slice_index_or E k [])
+ann_from (Apply op input) E k = ann1 op (ann_from input E k)
+ann_from (Combine op left right) E k = ann2 op (ann_from left E k) (ann_from right E (k + width left))
+
+abbrev pub ann : Expr → List (List Row) → List Marked
+ann plan E = ann_from plan E 0
+
+-- whether a set has (leaf, rid) for some leaf that scans the table, where the leaves scan these
+abbrev pub reaches : List ℕ → ℕ → Sources → ℕ → Bool
+reaches scans table set rid = list_any (λ leaf. nat_eq (slice_index_or scans leaf 0) table && set leaf rid) (upto (length scans))
+
+-- whether output row o of a plan came from row rid of a table
+abbrev pub relates : Expr → List (List Row) → ℕ → ℕ → ℕ → Bool
+relates plan E table o rid = reaches (leaves plan) table (mark_at (ann plan E) o).1 rid
+
+-- backward meaning: the rids of a table of n rows that the rows at some place in O came from, ascending
+abbrev pub back : Expr → List (List Row) → List ℕ → ℕ → ℕ → List ℕ
+back plan E O table n = places (λ rid. list_any (λ o. relates plan E table o rid) O) n
+
+-- forward meaning: the places of the rows that came from some rid in S, ascending
+abbrev pub fwd : Expr → List (List Row) → List ℕ → ℕ → List ℕ
+fwd plan E S table = places (λ o. list_any (λ rid. relates plan E table o rid) S) (length (eval plan E))
+
+-- the number of pairs of a row and a rid that it came from
+abbrev pub pairs : Expr → List (List Row) → ℕ → ℕ → ℕ
+pairs plan E table n = sum_by (λ o. length (places (relates plan E table o) n)) (upto (length (eval plan E)))

@@ -1,0 +1,136 @@
+-- A small example worked by hand: two tables, six views over them, their rows, and where these come from.
+use Rattle.std.specs.Prelude.{◌≡◌, ℕ, pos, negsuc, List, [], ◌∷◌, codes}
+use Rattle.std.specs.declared.cmp.Ordering.TheVariants.{Less, Greater}
+use Rattle.smk_base.specs.declared.value.Value.{Value}
+use Rattle.smk_base.specs.declared.value.Value.TheVariants.{Int, Text}
+use Rattle.smk_base.specs.declared.plan.CmpOp.TheVariants.{Ge, Lt}
+use Rattle.smk_base.specs.declared.plan.Operand.TheVariants.{Lit}
+use Rattle.smk_base.specs.declared.plan.Item.TheVariants.{Col, Bin}
+use Rattle.smk_base.specs.declared.plan.Agg.TheVariants.{Count, Sum, Min, Max}
+use Rattle.smk_base.specs.declared.plan.Op2.TheVariants.{Join, UnionAll, Union}
+use Rattle.smk_base.specs.Plans.{Unary, Comparison, Selection, Projection, Distinction, Grouping, Expr, Leaf, Apply, Combine}
+use Rattle.smk_model.specs.Values.{Row, value_cmp, bin}
+use Rattle.smk_model.specs.Plain.{step1, step2, whole}
+use Rattle.smk_model.specs.Annotated.{back, fwd, pairs}
+use Rattle.smk_model.specs.Locals.{back1, fwd1, back_left, fwd_left, back_right, fwd_right}
+use Rattle.smk_model.specs.Composed.{rows_over, backs, forwards}
+
+abbrev pub int : ℕ → Value
+int n = Int (pos n)
+
+abbrev pub north : Value
+north = Text (codes "north")
+
+abbrev pub south : Value
+south = Text (codes "south")
+
+abbrev pub east : Value
+east = Text (codes "east")
+
+-- id, region and amount of each sale
+abbrev pub sales : List Row
+sales = (int 1 ∷ north ∷ int 10 ∷ []) ∷ (int 2 ∷ south ∷ int 20 ∷ []) ∷ (int 3 ∷ north ∷ int 30 ∷ []) ∷ (int 4 ∷ east ∷ int 5 ∷ []) ∷ []
+
+-- name and zone of each region
+abbrev pub regions : List Row
+regions = (north ∷ Text (codes "A") ∷ []) ∷ (south ∷ Text (codes "B") ∷ []) ∷ (east ∷ Text (codes "A") ∷ []) ∷ []
+
+abbrev pub tables : List (List Row)
+tables = sales ∷ regions ∷ []
+
+-- the regions of the sales
+abbrev pub named : Expr
+named = Apply (Projection (Col 1 ∷ [])) (Leaf 0)
+
+abbrev pub large : Unary
+large = Selection (Comparison 2 Ge (Lit (int 10)))
+
+abbrev pub counted : Unary
+counted = Grouping (1 ∷ []) (Count ∷ [])
+
+-- the six views: number and total by region, total by zone, large sales, regions twice, distinct regions, regions with one sale
+abbrev pub by_region : Expr
+by_region = Apply (Grouping (1 ∷ []) (Count ∷ Sum 2 ∷ [])) (Leaf 0)
+
+abbrev pub by_zone : Expr
+by_zone = Apply (Grouping (4 ∷ []) (Sum 2 ∷ [])) (Combine (Join ((1, 0) ∷ [])) (Leaf 0) (Leaf 1))
+
+abbrev pub big : Expr
+big = Apply large (Leaf 0)
+
+abbrev pub pair : Expr
+pair = Combine UnionAll named named
+
+abbrev pub names : Expr
+names = Combine Union named named
+
+abbrev pub few : Expr
+few = Apply (Selection (Comparison 1 Lt (Lit (int 2)))) (Apply counted (Leaf 0))
+
+-- the rows of the views
+pub record ViewsHold : Type 0 where
+  pub by_region_rows : rows_over by_region tables ≡ (north ∷ int 2 ∷ int 40 ∷ []) ∷ (south ∷ int 1 ∷ int 20 ∷ []) ∷ (east ∷ int 1 ∷ int 5 ∷ []) ∷ []
+  pub by_zone_rows : rows_over by_zone tables ≡ (Text (codes "A") ∷ int 45 ∷ []) ∷ (Text (codes "B") ∷ int 20 ∷ []) ∷ []
+  pub big_rows : rows_over big tables ≡ (int 1 ∷ north ∷ int 10 ∷ []) ∷ (int 2 ∷ south ∷ int 20 ∷ []) ∷ (int 3 ∷ north ∷ int 30 ∷ []) ∷ []
+  pub pair_rows : rows_over pair tables ≡ (north ∷ []) ∷ (south ∷ []) ∷ (north ∷ []) ∷ (east ∷ []) ∷ (north ∷ []) ∷ (south ∷ []) ∷ (north ∷ []) ∷ (east ∷ []) ∷ []
+  pub names_rows : rows_over names tables ≡ (north ∷ []) ∷ (south ∷ []) ∷ (east ∷ []) ∷ []
+  pub few_rows : rows_over few tables ≡ (south ∷ int 1 ∷ []) ∷ (east ∷ int 1 ∷ []) ∷ []
+
+-- the rids of the sales and of the regions that their rows came from
+pub record LineagesHold : Type 0 where
+  pub by_region_back : (backs by_region tables 0).lists ≡ (0 ∷ 2 ∷ []) ∷ (1 ∷ []) ∷ (3 ∷ []) ∷ []
+  pub by_zone_back : (backs by_zone tables 0).lists ≡ (0 ∷ 2 ∷ 3 ∷ []) ∷ (1 ∷ []) ∷ []
+  pub by_zone_regions : (backs by_zone tables 1).lists ≡ (0 ∷ 2 ∷ []) ∷ (1 ∷ []) ∷ []
+  pub big_forward : (forwards big tables 0).lists ≡ (0 ∷ []) ∷ (1 ∷ []) ∷ (2 ∷ []) ∷ [] ∷ []
+  pub pair_back : (backs pair tables 0).lists ≡ (0 ∷ []) ∷ (1 ∷ []) ∷ (2 ∷ []) ∷ (3 ∷ []) ∷ (0 ∷ []) ∷ (1 ∷ []) ∷ (2 ∷ []) ∷ (3 ∷ []) ∷ []
+  pub names_back : (backs names tables 0).lists ≡ (0 ∷ 2 ∷ []) ∷ (1 ∷ []) ∷ (3 ∷ []) ∷ []
+  pub names_regions : (backs names tables 1).lists ≡ [] ∷ [] ∷ [] ∷ []
+  -- a mark twice, rids in any order, and a rid that no large sale came from
+  pub by_region_twice : back by_region (whole by_region tables) (0 ∷ 0 ∷ []) 0 4 ≡ 0 ∷ 2 ∷ []
+  pub by_zone_both : back by_zone (whole by_zone tables) (1 ∷ 0 ∷ []) 1 3 ≡ 0 ∷ 1 ∷ 2 ∷ []
+  pub big_of_two : fwd big (whole big tables) (2 ∷ 0 ∷ []) 0 ≡ 0 ∷ 2 ∷ []
+  pub big_of_none : fwd big (whole big tables) (3 ∷ []) 0 ≡ []
+  pub by_zone_pairs : pairs by_zone (whole by_zone tables) 0 4 ≡ 4
+
+-- the lists of one step, backward and forward
+pub record LocalsHold : Type 0 where
+  pub where_back : (back1 large sales).lists ≡ (0 ∷ []) ∷ (1 ∷ []) ∷ (2 ∷ []) ∷ []
+  pub where_forward : (fwd1 large sales).lists ≡ (0 ∷ []) ∷ (1 ∷ []) ∷ (2 ∷ []) ∷ [] ∷ []
+  pub group_back : (back1 counted sales).lists ≡ (0 ∷ 2 ∷ []) ∷ (1 ∷ []) ∷ (3 ∷ []) ∷ []
+  pub group_forward : (fwd1 counted sales).lists ≡ (0 ∷ []) ∷ (1 ∷ []) ∷ (0 ∷ []) ∷ (2 ∷ []) ∷ []
+  pub join_left : (back_left (Join ((1, 0) ∷ [])) sales regions).lists ≡ (0 ∷ []) ∷ (1 ∷ []) ∷ (2 ∷ []) ∷ (3 ∷ []) ∷ []
+  pub join_left_forward : (fwd_left (Join ((1, 0) ∷ [])) sales regions).lists ≡ (0 ∷ []) ∷ (1 ∷ []) ∷ (2 ∷ []) ∷ (3 ∷ []) ∷ []
+  pub join_right : (back_right (Join ((1, 0) ∷ [])) sales regions).lists ≡ (0 ∷ []) ∷ (1 ∷ []) ∷ (0 ∷ []) ∷ (2 ∷ []) ∷ []
+  pub join_right_forward : (fwd_right (Join ((1, 0) ∷ [])) sales regions).lists ≡ (0 ∷ 2 ∷ []) ∷ (1 ∷ []) ∷ (3 ∷ []) ∷ []
+  pub union_left : (back_left Union (rows_over named tables) (rows_over named tables)).lists ≡ (0 ∷ 2 ∷ []) ∷ (1 ∷ []) ∷ (3 ∷ []) ∷ []
+  pub union_left_forward : (fwd_left Union (rows_over named tables) (rows_over named tables)).lists ≡ (0 ∷ []) ∷ (1 ∷ []) ∷ (0 ∷ []) ∷ (2 ∷ []) ∷ []
+  pub union_right : (back_right Union (rows_over named tables) (rows_over named tables)).lists ≡ (0 ∷ 2 ∷ []) ∷ (1 ∷ []) ∷ (3 ∷ []) ∷ []
+  pub union_right_forward : (fwd_right Union (rows_over named tables) (rows_over named tables)).lists ≡ (0 ∷ []) ∷ (1 ∷ []) ∷ (0 ∷ []) ∷ (2 ∷ []) ∷ []
+  pub union_all_left : (back_left UnionAll (rows_over named tables) (rows_over named tables)).lists ≡ (0 ∷ []) ∷ (1 ∷ []) ∷ (2 ∷ []) ∷ (3 ∷ []) ∷ [] ∷ [] ∷ [] ∷ [] ∷ []
+  pub union_all_left_forward : (fwd_left UnionAll (rows_over named tables) (rows_over named tables)).lists ≡ (0 ∷ []) ∷ (1 ∷ []) ∷ (2 ∷ []) ∷ (3 ∷ []) ∷ []
+  pub union_all_right : (back_right UnionAll (rows_over named tables) (rows_over named tables)).lists ≡ [] ∷ [] ∷ [] ∷ [] ∷ (0 ∷ []) ∷ (1 ∷ []) ∷ (2 ∷ []) ∷ (3 ∷ []) ∷ []
+  pub union_all_right_forward : (fwd_right UnionAll (rows_over named tables) (rows_over named tables)).lists ≡ (4 ∷ []) ∷ (5 ∷ []) ∷ (6 ∷ []) ∷ (7 ∷ []) ∷ []
+
+-- floors of negative numbers, groupings of nothing and by nothing, least and greatest values, first occurrences, and the order of a join
+pub record EdgesHold : Type 0 where
+  pub floor_below : bin (negsuc 0) (pos 10) ≡ negsuc 0
+  pub floor_exact : bin (negsuc 9) (pos 10) ≡ negsuc 0
+  pub floor_past : bin (negsuc 10) (pos 10) ≡ negsuc 1
+  pub floor_above : bin (pos 29) (pos 10) ≡ pos 2
+  pub group_nothing : step1 counted [] ≡ []
+  pub group_nothing_by_nothing : step1 (Grouping [] (Count ∷ [])) [] ≡ []
+  pub group_by_nothing : step1 (Grouping [] (Count ∷ Sum 2 ∷ [])) sales ≡ (int 4 ∷ int 65 ∷ []) ∷ []
+  pub group_extremes : step1 (Grouping [] (Min 1 ∷ Max 1 ∷ Min 2 ∷ Max 2 ∷ [])) sales ≡ (east ∷ south ∷ int 5 ∷ int 30 ∷ []) ∷ []
+  pub distinct_regions : step1 (Distinction (Col 1 ∷ [])) sales ≡ (north ∷ []) ∷ (south ∷ []) ∷ (east ∷ []) ∷ []
+  pub binned : step1 (Projection (Bin 2 (pos 20) ∷ [])) sales ≡ (int 0 ∷ []) ∷ (int 1 ∷ []) ∷ (int 1 ∷ []) ∷ (int 0 ∷ []) ∷ []
+  pub self_join : step2 (Join ((1, 1) ∷ [])) sales sales
+      ≡ (int 1 ∷ north ∷ int 10 ∷ int 1 ∷ north ∷ int 10 ∷ []) ∷ (int 1 ∷ north ∷ int 10 ∷ int 3 ∷ north ∷ int 30 ∷ []) ∷ (int 2 ∷ south ∷ int 20 ∷ int 2 ∷ south ∷ int 20 ∷ [])
+      ∷ (int 3 ∷ north ∷ int 30 ∷ int 1 ∷ north ∷ int 10 ∷ []) ∷ (int 3 ∷ north ∷ int 30 ∷ int 3 ∷ north ∷ int 30 ∷ []) ∷ (int 4 ∷ east ∷ int 5 ∷ int 4 ∷ east ∷ int 5 ∷ []) ∷ []
+  pub product : step2 (Join []) regions ((int 7 ∷ []) ∷ []) ≡ (north ∷ Text (codes "A") ∷ int 7 ∷ []) ∷ (south ∷ Text (codes "B") ∷ int 7 ∷ []) ∷ (east ∷ Text (codes "A") ∷ int 7 ∷ []) ∷ []
+  pub shorter_first : value_cmp (Text (codes "ea")) east ≡ Less
+  pub first_byte : value_cmp south (Text (codes "sa")) ≡ Greater
+  pub by_number : value_cmp (Int (negsuc 1)) (int 0) ≡ Less
+
+-- all of it
+abbrev pub ExamplesHold : Type 0
+ExamplesHold = ViewsHold × LineagesHold × LocalsHold × EdgesHold

@@ -1,0 +1,97 @@
+-- Of the limits and ranges that a book of the grammar keeps, those that typing rests on.
+use Rattle.std.specs.Prelude.{ℕ, ◌+◌, ◌≤◌, pos, ◌≤ℤ◌, FitsSigned, Bool, true, false, count_by, List, length, All, Option, Some, None}
+use Rattle.std.specs.Int.{w64}
+use Rattle.smk_base.specs.declared.value.Value.{Value}
+use Rattle.smk_base.specs.declared.value.Value.TheVariants as values
+use Rattle.smk_base.specs.declared.tree.Lit.{Lit}
+use Rattle.smk_base.specs.declared.tree.Decl.{Decl}
+use Rattle.smk_base.specs.declared.tree.ItemTree.{ItemTree}
+use Rattle.smk_base.specs.declared.tree.ItemTree.TheVariants.{Col, Bin}
+use Rattle.smk_base.specs.Trees.{TreeImage, ScanNode, StepNode, StepImage, SelectNode, ProjectNode, DistinctNode, GroupNode, JoinNode, UnionAllNode, UnionNode, StmtImage, TableNode, ViewNode, BackNode, FwdNode, LinkNode}
+
+-- the second part of `bin` is at least 1
+abbrev pub Divides : ItemTree → Type 0
+Divides (Col col name) = Unit {0}
+Divides (Bin col width name) = pos 1 ≤ℤ width
+
+-- a list of at most 16 items
+pub record KeepsItems (items : List ItemTree) : Type 0 where
+  pub few : length items ≤ 16
+  pub divide : All Divides items
+
+-- the lists of items in a plan
+abbrev mutual
+  pub KeepsTree : TreeImage → Type 0
+  KeepsTree (ScanNode word) = Unit {0}
+  KeepsTree (StepNode at input what) = KeepsTree input × KeepsStep what
+
+  pub KeepsStep : StepImage → Type 0
+  KeepsStep (SelectNode pred) = Unit {0}
+  KeepsStep (ProjectNode items) = KeepsItems items
+  KeepsStep (DistinctNode items) = KeepsItems items
+  KeepsStep (GroupNode keys aggs) = Unit {0}
+  KeepsStep (JoinNode source pairs) = KeepsTree source
+  KeepsStep (UnionAllNode source) = KeepsTree source
+  KeepsStep (UnionNode source) = KeepsTree source
+
+-- the nodes of a plan: each scan and each step
+abbrev mutual
+  pub nodes : TreeImage → ℕ
+  nodes (ScanNode word) = 1
+  nodes (StepNode at input what) = nodes input + nodes_of_step what
+
+  pub nodes_of_step : StepImage → ℕ
+  nodes_of_step (SelectNode pred) = 1
+  nodes_of_step (ProjectNode items) = 1
+  nodes_of_step (DistinctNode items) = 1
+  nodes_of_step (GroupNode keys aggs) = 1
+  nodes_of_step (JoinNode source pairs) = nodes source + 1
+  nodes_of_step (UnionAllNode source) = nodes source + 1
+  nodes_of_step (UnionNode source) = nodes source + 1
+
+-- an int is in the range of i64
+abbrev pub IsInRange : Value → Type 0
+IsInRange (values.Int n) = FitsSigned w64 n
+IsInRange (values.Text t) = Unit {0}
+
+-- the default of a declared column, where it is an int, is in the range of i64
+abbrev pub DefaultInRange : Option Lit → Type 0
+DefaultInRange None = Unit {0}
+DefaultInRange (Some literal) = IsInRange literal.value
+
+-- a declaration of at most 16 columns
+pub record KeepsDecls (decls : List Decl) : Type 0 where
+  pub few : length decls ≤ 16
+  pub ranges : All (λ decl. DefaultInRange decl.def) decls
+
+-- a plan of at most 64 nodes
+pub record KeepsPlan (tree : TreeImage) : Type 0 where
+  pub lists : KeepsTree tree
+  pub few : nodes tree ≤ 64
+
+abbrev pub KeepsStmt : StmtImage → Type 0
+KeepsStmt (TableNode name file decls) = KeepsDecls decls
+KeepsStmt (ViewNode name tree) = KeepsPlan tree
+KeepsStmt (BackNode at view table extra) = Unit {0}
+KeepsStmt (FwdNode at table view) = Unit {0}
+KeepsStmt (LinkNode view table to) = Unit {0}
+
+abbrev pub is_table : StmtImage → Bool
+is_table (TableNode name file decls) = true
+is_table (ViewNode name tree) = false
+is_table (BackNode at view table extra) = false
+is_table (FwdNode at table view) = false
+is_table (LinkNode view table to) = false
+
+abbrev pub is_view : StmtImage → Bool
+is_view (TableNode name file decls) = false
+is_view (ViewNode name tree) = true
+is_view (BackNode at view table extra) = false
+is_view (FwdNode at table view) = false
+is_view (LinkNode view table to) = false
+
+-- a book of at most 16 tables and 64 views, whose statements keep their limits
+pub record KeepsLimits (book : List StmtImage) : Type 0 where
+  pub few_tables : count_by is_table book ≤ 16
+  pub few_views : count_by is_view book ≤ 64
+  pub each : All KeepsStmt book

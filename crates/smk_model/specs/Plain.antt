@@ -1,0 +1,113 @@
+-- Plain meaning: relational algebra over lists of rows.
+use Rattle.std.specs.Prelude.{ℕ, ℤ, pos, ◌+◌, ◌+ℤ◌, Bool, cond, ◌&&◌, true, List, [], ◌∷◌, ◌++◌, length, map, slice_index_or}
+use Rattle.std.specs.List.{list_any, flat_map, filter, fold}
+use Rattle.std.specs.Cmp.Lexicographic.{pointwise}
+use Rattle.std.specs.Ordering.{is_lt, is_gt}
+use Rattle.smk_base.specs.declared.value.Value.{Value}
+use Rattle.smk_base.specs.declared.value.Value.TheVariants.{Int, Text}
+use Rattle.smk_base.specs.declared.plan.Item.{Item}
+use Rattle.smk_base.specs.declared.plan.Item.TheVariants.{Col, Bin}
+use Rattle.smk_base.specs.declared.plan.Agg.{Agg}
+use Rattle.smk_base.specs.declared.plan.Agg.TheVariants.{Count, Sum, Min, Max}
+use Rattle.smk_base.specs.declared.plan.Op2.{Op2}
+use Rattle.smk_base.specs.declared.plan.Op2.TheVariants.{Join, UnionAll, Union}
+use Rattle.smk_base.specs.Plans.{Unary, Selection, Projection, Distinction, Grouping, Expr, Leaf, Apply, Combine}
+use Rattle.smk_base.specs.Values.{value_eq}
+use Rattle.smk_model.specs.Values.{Row, value_at, value_cmp, bin, meets}
+
+-- whether two rows are equal
+abbrev pub row_eq : Row → Row → Bool
+row_eq = pointwise value_eq
+
+-- the number of an int, and 0 for a text, which no typed sum or bin meets
+abbrev pub number_of : Value → ℤ
+number_of (Int n) = n
+number_of (Text t) = pos 0
+
+-- an output column of a projection, at a row
+abbrev pub item_at : Row → Item → Value
+item_at row (Col c) = value_at row c
+item_at row (Bin c w) = Int (bin (number_of (value_at row c)) w)
+
+-- the projected row
+abbrev pub image : List Item → Row → Row
+image items row = map (item_at row) items
+
+-- the key of a row
+abbrev pub key_of : List ℕ → Row → Row
+key_of keys row = map (value_at row) keys
+
+-- the members, each at its first occurrence
+abbrev pub add_first : List Row → Row → List Row
+add_first found row = cond (list_any (row_eq row) found) found (found ++ row ∷ [])
+
+abbrev pub firsts : List Row → List Row
+firsts rows = fold add_first [] rows
+
+-- the lesser and the greater of two values
+abbrev pub lesser : Value → Value → Value
+lesser a b = cond (is_lt (value_cmp b a)) b a
+
+abbrev pub greater : Value → Value → Value
+greater a b = cond (is_gt (value_cmp b a)) b a
+
+-- the values combined from the left, of at least one; no group is empty
+abbrev pub combined : (Value → Value → Value) → List Value → Value
+combined f [] = Int (pos 0)
+combined f (v ∷ vs) = fold f v vs
+
+-- the sum of ints
+abbrev pub total : List ℤ → ℤ
+total ns = fold ◌+ℤ◌ (pos 0) ns
+
+-- an aggregate over the rows of a group
+abbrev pub aggregate : List Row → Agg → Value
+aggregate rows Count = Int (pos (length rows))
+aggregate rows (Sum c) = Int (total (map (λ row. number_of (value_at row c)) rows))
+aggregate rows (Min c) = combined lesser (map (λ row. value_at row c) rows)
+aggregate rows (Max c) = combined greater (map (λ row. value_at row c) rows)
+
+-- the row of a group: the key, then the aggregates over the rows with that key
+abbrev pub grouped : List ℕ → List Agg → List Row → Row → Row
+grouped keys aggs rows key = key ++ map (aggregate (filter (λ row. row_eq key (key_of keys row)) rows)) aggs
+
+-- whether two rows have equal values in every pair of columns
+abbrev pub agree : List (ℕ × ℕ) → Row → Row → Bool
+agree [] l r = true
+agree (pair ∷ pairs) l r = value_eq (value_at l pair.0) (value_at r pair.1) && agree pairs l r
+
+-- one step over its input, or over its two inputs
+abbrev pub step1 : Unary → List Row → List Row
+step1 (Selection formula) L = filter (meets formula) L
+step1 (Projection items) L = map (image items) L
+step1 (Distinction items) L = firsts (map (image items) L)
+step1 (Grouping keys aggs) L = map (grouped keys aggs L) (firsts (map (key_of keys) L))
+
+abbrev pub step2 : Op2 → List Row → List Row → List Row
+step2 (Join pairs) L R = flat_map (λ l. map (λ r. l ++ r) (filter (agree pairs l) R)) L
+step2 UnionAll L R = L ++ R
+step2 Union L R = firsts (L ++ R)
+
+-- the tables that the leaves scan, left to right
+abbrev pub leaves : Expr → List ℕ
+leaves (Leaf table) = table ∷ []
+leaves (Apply op input) = leaves input
+leaves (Combine op left right) = leaves left ++ leaves right
+
+-- the number of leaves
+abbrev pub width : Expr → ℕ
+width plan = length (leaves plan)
+
+-- the rows of a plan whose leaves have the lists of E from the k-th on
+abbrev pub eval_from : Expr → List (List Row) → ℕ → List Row
+eval_from (Leaf table) E k = slice_index_or E k []
+eval_from (Apply op input) E k = step1 op (eval_from input E k)
+eval_from (Combine op left right) E k = step2 op (eval_from left E k) (eval_from right E (k + width left))
+
+-- the rows of a plan over one list of rows per leaf
+abbrev pub eval : Expr → List (List Row) → List Row
+eval plan E = eval_from plan E 0
+
+-- one list per leaf, each the whole table
+abbrev pub whole : Expr → List (List Row) → List (List Row)
+whole plan tables = map (λ table. slice_index_or tables table []) (leaves plan)

@@ -1,0 +1,102 @@
+-- The table of the bytes of a file: the records that csv reads, the header, then each record in order, or the first fault.
+use Rattle.std.specs.Prelude.{◌≡◌, ℕ, ◌+◌, ◌≤◌, Bool, ◌==◌, ◌||◌, not, List, [], ◌∷◌, length, map, slice_index_or, All, Option, Some, None, unwrap_or, IfSome, Result, Ok, Err, if◌then◌else◌}
+use Rattle.std.specs.List.{list_all}
+use Rattle.std.specs.Option.{ok_or, option_map}
+use Rattle.std.specs.Cmp.Lexicographic.{pointwise}
+use Rattle.std.specs.Prelude.{nat_eq}
+use Rattle.csv.specs.Reading.{records, default_config}
+use Rattle.smk_base.specs.declared.value.Kind.{Kind}
+use Rattle.smk_base.specs.declared.value.Kind.TheVariants as kinds
+use Rattle.smk_base.specs.declared.value.Value.{Value}
+use Rattle.smk_base.specs.declared.value.Value.TheVariants as values
+use Rattle.smk_base.specs.declared.col_decl.ColDecl.{ColDecl}
+use Rattle.smk_base.specs.declared.fault.TableFault.{TableFault}
+use Rattle.smk_base.specs.declared.fault.TableFault.TheVariants as faults
+use Rattle.smk_base.specs.Rels.{Fits}
+use Rattle.smk_base.specs.Ints.{is_blank, int_of}
+use Rattle.smk_base.specs.Marks.{after_marks}
+
+-- what follows a step that may fail
+abbrev pub then_try : {A B E : Type 0} → Result A E → (A → Result B E) → Result B E
+then_try (Ok x) next = next x
+then_try (Err e) next = Err e
+
+-- a function of each member and its number, from n on
+abbrev pub numbered : {A B : Type 0} → (ℕ → A → B) → ℕ → List A → List B
+numbered f n [] = []
+numbered f n (x ∷ xs) = f n x ∷ numbered f (n + 1) xs
+
+-- all the values in order, or else the first fault
+abbrev pub all_or_first : {A E : Type 0} → List (Result A E) → Result (List A) E
+all_or_first [] = Ok []
+all_or_first (r ∷ rs) = then_try r (λ x. then_try (all_or_first rs) (λ xs. Ok (x ∷ xs)))
+
+-- the places, from n on, at which the header has this name
+abbrev pub places_of : List ℕ → ℕ → List (List ℕ) → List ℕ
+places_of name n [] = []
+places_of name n (field ∷ fields) = if pointwise nat_eq field name then n ∷ places_of name (n + 1) fields else places_of name (n + 1) fields
+
+-- the only place of declared column c
+abbrev pub only_place : ℕ → List ℕ → Result ℕ TableFault
+only_place c [] = Err (faults.MissingColumn c)
+only_place c (p ∷ []) = Ok p
+only_place c (p ∷ q ∷ more) = Err (faults.RepeatedColumn c)
+
+abbrev pub column_place : List (List ℕ) → ℕ → ColDecl → Result ℕ TableFault
+column_place header c decl = only_place c (places_of decl.name 0 header)
+
+-- the value of a text field: a field of no bytes takes the default
+abbrev pub text_value : Option Value → List ℕ → Value
+text_value def [] = unwrap_or def (values.Text [])
+text_value def (b ∷ bs) = values.Text (b ∷ bs)
+
+-- the value of an int field, if it has one: a field of spaces and tabs alone takes the default
+abbrev pub int_value : Option Value → List ℕ → Option Value
+int_value None field = option_map values.Int (int_of field)
+int_value (Some def) field = if list_all is_blank field then Some def else option_map values.Int (int_of field)
+
+abbrev pub field_value : Kind → Option Value → List ℕ → Option Value
+field_value (kinds.Int level) def field = int_value def field
+field_value kinds.Text def field = Some (text_value def field)
+
+-- the value of declared column c in record n, whose field stands at a place
+abbrev pub cell_value : List ℕ → ℕ → List (List ℕ) → ℕ → ColDecl → Result Value TableFault
+cell_value places n record_fields c decl =
+    ok_or (field_value decl.kind decl.def (slice_index_or record_fields (slice_index_or places c 0) [])) (faults.BadInt n c)
+
+-- the row of record n, counted from 1 behind the header
+abbrev pub record_row : List ColDecl → List ℕ → ℕ → ℕ → List (List ℕ) → Result (List Value) TableFault
+record_row cols places width n fields =
+    if n == 1048577 then Err faults.TooManyRows
+    else if length fields == width then all_or_first (numbered (cell_value places n fields) 0 cols)
+    else Err (faults.Ragged n)
+
+-- the rows of all the records, of which the first is the header
+abbrev pub table_of_records : List ColDecl → List (List (List ℕ)) → Result (List (List Value)) TableFault
+table_of_records cols [] = Err faults.NoHeader
+table_of_records cols (header ∷ rest) =
+    then_try (all_or_first (numbered (column_place header) 0 cols)) (λ places.
+    all_or_first (numbered (record_row cols places (length header)) 1 rest))
+
+-- the rows of the bytes of a file, after every byte order mark at its front
+unfoldable pub table_of : List ColDecl → List ℕ → Result (List (List Value)) TableFault
+table_of cols bytes = table_of_records cols (records default_config (after_marks bytes))
+
+-- the kinds of declared columns
+abbrev pub kinds_of : List ColDecl → List Kind
+kinds_of cols = map (λ decl. decl.kind) cols
+
+-- a kind of a base column: a text, or an int of level 0
+abbrev pub IsBase : Kind → Type 0
+IsBase (kinds.Int level) = level ≡ 0
+IsBase kinds.Text = Unit {0}
+
+-- a declared column that a table may have: a base kind, and a default that fits it
+pub record IsBaseColumn (decl : ColDecl) : Type 0 where
+  pub base : IsBase decl.kind
+  pub default_fits : IfSome decl.def (λ v. Fits decl.kind v)
+
+-- declared columns that a table may have: at most 16 such columns
+pub record AreColumns (cols : List ColDecl) : Type 0 where
+  pub few : length cols ≤ 16
+  pub base : All IsBaseColumn cols

@@ -1,0 +1,51 @@
+-- The texts that a run writes.
+use Rattle.std.specs.Prelude.{ℕ, ℤ, pos, List, [], ◌∷◌, ◌++◌, length, map, slice_index_or, codes, decimal}
+use Rattle.std.specs.List.{flat_map}
+use Rattle.std.specs.Fmt.{signed_decimal}
+use Rattle.csv.specs.Writing.{default_writer, row_text}
+use Rattle.smk_base.specs.declared.value.Value.{Value}
+use Rattle.smk_base.specs.declared.value.Value.TheVariants.{Int, Text}
+use Rattle.smk_model.specs.Values.{Row}
+use Rattle.smk_model.specs.Lineage.{upto, row_at}
+
+-- a line: its parts, one after the other, and a line feed
+abbrev pub line : List (List ℕ) → List ℕ
+line parts = flat_map (λ part. part) parts ++ 10 ∷ []
+
+-- one record, as csv writes it with its default writer
+unfoldable pub record_line : List (List ℕ) → List ℕ
+record_line fields = row_text default_writer fields
+
+-- an int in decimal, or the bytes of a text
+abbrev pub value_text : Value → List ℕ
+value_text (Int n) = signed_decimal n
+value_text (Text bytes) = bytes
+
+-- a record for each of the first n rows: its number, by its place, and its values
+abbrev pub row_lines_to : (ℕ → ℕ) → List Row → ℕ → List ℕ
+row_lines_to number rows n = flat_map (λ i. record_line (decimal (number i) ∷ map value_text (row_at rows i))) (upto n)
+
+abbrev pub row_lines : (ℕ → ℕ) → List Row → List ℕ
+row_lines number rows = row_lines_to number rows (length rows)
+
+-- a view: its name and number of rows, the names of its columns, its rows with their places
+abbrev pub view_text : List ℕ → List (List ℕ) → List Row → List ℕ
+view_text name columns rows =
+    line (codes "view " ∷ name ∷ codes " " ∷ decimal (length rows) ∷ []) ++ record_line (codes "row" ∷ columns) ++ row_lines (λ i. i) rows
+
+-- a backward answer: the rows of the table with their rids
+abbrev pub back_text : List ℕ → List ℕ → List (List ℕ) → List ℕ → List Row → List ℕ
+back_text view table columns rids rows =
+    line (codes "back " ∷ view ∷ codes " to " ∷ table ∷ codes " " ∷ decimal (length rows) ∷ []) ++ record_line (codes "rid" ∷ columns) ++ row_lines (λ i. slice_index_or rids i 0) rows
+
+-- a number on a line that is not below the number of rows
+abbrev pub no_row_text : ℕ → ℕ → List ℕ
+no_row_text row rows = line (codes "refused no row " ∷ decimal row ∷ codes " of " ∷ decimal rows ∷ [])
+
+-- a line of a script that isn't in the grammar: its number, and the place of its first wrong token
+abbrev pub bad_line_text : ℕ → ℕ → List ℕ
+bad_line_text number at = line (codes "line " ∷ decimal number ∷ codes " not read at byte " ∷ decimal at ∷ [])
+
+-- the line that says that memory was wanting
+abbrev pub no_memory_text : List ℕ
+no_memory_text = line (codes "smoke: no memory" ∷ [])

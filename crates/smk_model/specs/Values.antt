@@ -1,0 +1,54 @@
+-- Value order, the floor of a quotient, and what a predicate says of a row.
+use Rattle.std.specs.Prelude.{ℕ, ℤ, pos, Bool, not, ◌&&◌, ◌||◌, List, slice_index_or}
+use Rattle.std.specs.declared.cmp.Ordering.{Ordering}
+use Rattle.std.specs.declared.cmp.Ordering.TheVariants.{Less, Greater}
+use Rattle.std.specs.Ordering.{int_cmp, nat_cmp, is_eq, is_ne, is_lt, is_le, is_gt, is_ge}
+use Rattle.std.specs.Cmp.Lexicographic.{slice_cmp}
+use Rattle.std.specs.Int.{int_div_euclid}
+use Rattle.smk_base.specs.declared.value.Value.{Value}
+use Rattle.smk_base.specs.declared.value.Value.TheVariants.{Int, Text}
+use Rattle.smk_base.specs.declared.plan.CmpOp.{CmpOp}
+use Rattle.smk_base.specs.declared.plan.CmpOp.TheVariants.{Eq, Ne, Lt, Le, Gt, Ge}
+use Rattle.smk_base.specs.declared.plan.Operand.{Operand}
+use Rattle.smk_base.specs.declared.plan.Operand.TheVariants.{Col, Lit}
+use Rattle.smk_base.specs.Plans.{Formula, Comparison, Conjunction, Disjunction, Negation}
+
+-- the values of a row, by column
+abbrev pub Row : Type 0
+Row = List Value
+
+-- value order: ints by number; texts by their first differing byte, a proper prefix being less; an int before a text, which no typed comparison meets
+abbrev pub value_cmp : Value → Value → Ordering
+value_cmp (Int a) (Int b) = int_cmp a b
+value_cmp (Text a) (Text b) = slice_cmp nat_cmp a b
+value_cmp (Int a) (Text b) = Less
+value_cmp (Text a) (Int b) = Greater
+
+-- the greatest whole q with q times w at most v, for a w of at least 1: the law bin_is_floor says so
+abbrev pub bin : ℤ → ℤ → ℤ
+bin v w = int_div_euclid v w
+
+-- the value in column c
+abbrev pub value_at : Row → ℕ → Value
+value_at row c = slice_index_or row c (Int (pos 0))
+
+-- whether a comparison holds of values in this order
+abbrev pub holds : CmpOp → Ordering → Bool
+holds Eq order = is_eq order
+holds Ne order = is_ne order
+holds Lt order = is_lt order
+holds Le order = is_le order
+holds Gt order = is_gt order
+holds Ge order = is_ge order
+
+-- the right side of a comparison, at a row
+abbrev pub operand_at : Row → Operand → Value
+operand_at row (Col c) = value_at row c
+operand_at row (Lit v) = v
+
+-- whether a row meets a predicate
+abbrev pub meets : Formula → Row → Bool
+meets (Comparison c op right) row = holds op (value_cmp (value_at row c) (operand_at row right))
+meets (Conjunction a b) row = meets a row && meets b row
+meets (Disjunction a b) row = meets a row || meets b row
+meets (Negation a) row = not (meets a row)

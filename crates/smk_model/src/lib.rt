@@ -1,0 +1,9 @@
+//! The definitions of what Smoke's plans, books, scripts and runs mean, in `specs/`, and the laws over them. No program code uses it when it runs.
+#![tactic(auto)]
+
+pub mod composed_laws;
+pub mod example_laws;
+pub mod grammar_laws;
+pub mod laws;
+pub mod lineage_laws;
+pub mod local_laws;
