@@ -1,0 +1,4 @@
+pub mod Outside
+pub mod MemFiles
+pub mod MemSink
+pub mod StreamSink

@@ -1,0 +1,13 @@
+/// What is told where pieces of work that may run at the same time begin. It changes nothing that a contract sees.
+pub trait Gate {
+    /// Piece `piece` begins. It takes no memory.
+    fn arrive(&self, piece: u32);
+}
+
+/// A gate that returns at once.
+#[derive(Clone, Copy, Debug, Drop)]
+pub struct Idle;
+
+impl Gate for Idle {
+    fn arrive(&self, _piece: u32) {}
+}
