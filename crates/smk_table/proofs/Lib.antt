@@ -1,0 +1,4 @@
+pub mod RecordsAfter
+pub mod FieldPlaces
+pub mod RowValues
+pub mod TableRows

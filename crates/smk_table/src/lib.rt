@@ -1,0 +1,14 @@
+//! Tables read from CSV, and counted looks at their rows.
+#![tactic(auto)]
+
+mod fields;
+mod reading;
+mod records;
+mod table;
+
+pub use records::read_table;
+pub use smk_base::TableFault;
+pub use table::Table;
+
+#[cfg(test)]
+mod tests;

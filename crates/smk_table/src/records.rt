@@ -1,0 +1,104 @@
+ghost use Rattle.std.specs.Prelude.{◌≡◌, ◌⊎◌, ◌<◌, ◌≤◌, [], length, All, IfOk, IfErr, Ok, Err};
+ghost use Rattle.csv.specs.Records.{fields_of};
+ghost use Rattle.smk_base.specs.declared.fault.TableFault.TheVariants.{NoMemory};
+ghost use Rattle.smk_model.specs.Tables.{AreColumns, IsBase, table_of, table_of_records, kinds_of, all_or_first, numbered, record_row};
+ghost use Rattle.smk_table.specs.Reading.{IsBetween, records_left};
+
+use crate::fields::{column_places, read_row};
+use crate::reading::{next_record, reader_of};
+use crate::table::Table;
+use csv::{ByteRecord, Reader};
+use smk_base::{ColDecls, Kind, ROW_LIMIT, Rel, TableFault, without_mark};
+use std::alloc::{AllocError, Global};
+
+/// Reads the bytes of a CSV file as the table of the declared columns: byte order marks at the front are dropped, the first record names the columns, and each further one is a row. The answer is the first fault in order where there is one, or want of memory.
+pub fn read_table(alloc: Global, bytes: &[u8], cols: &ColDecls) -> Result<Table, TableFault>
+    requires { AreColumns cols.now }
+    ensures rows { IfOk result (λ table. table_of cols.now bytes.now ≡ Ok table.rows) }
+    ensures kinds { IfOk result (λ table. table.kinds ≡ kinds_of cols.now) }
+    ensures fault { IfErr result (λ fault. (fault ≡ NoMemory) ⊎ (table_of cols.now bytes.now ≡ Err fault)) }
+{
+    let mut reader = reader_of(alloc, without_mark(bytes));
+    let mut fields = ByteRecord::new(alloc);
+    read_records(alloc, &mut reader, &mut fields, cols)
+}
+
+/// The table of all the records that are left, of which the first is the header.
+fn read_records(
+    alloc: Global,
+    reader: &mut Reader<&[u8]>,
+    fields: &mut ByteRecord,
+    cols: &ColDecls,
+) -> Result<Table, TableFault>
+    requires between { IsBetween reader.old }
+    requires columns { AreColumns cols.now }
+    ensures rows { IfOk result (λ table. table_of_records cols.now (records_left reader.old) ≡ Ok table.rows) }
+    ensures kinds { IfOk result (λ table. table.kinds ≡ kinds_of cols.now) }
+    ensures fault { IfErr result (λ fault. (fault ≡ NoMemory) ⊎ (table_of_records cols.now (records_left reader.old) ≡ Err fault)) }
+{
+    if !next_record(reader, fields)? {
+        return Err(TableFault::NoHeader);
+    }
+    let places = column_places(alloc, fields, cols)?;
+    let width = fields.len();
+    let mut rel = empty_rel(alloc, cols)?;
+    read_rows(
+        alloc,
+        reader,
+        fields,
+        cols,
+        places.as_slice(),
+        width,
+        &mut rel,
+    )?;
+    Ok(Table::of_rel(rel))
+}
+
+/// A Rel of the kinds of the declared columns, with no row.
+fn empty_rel(alloc: Global, cols: &ColDecls) -> Result<Rel, AllocError>
+    requires { AreColumns cols.now }
+    ensures { IfOk result (λ rel. rel ≡ record { kinds = kinds_of cols.now; rows = [] }) }
+{
+    let kinds = kinds_in(alloc, cols)?;
+    Rel::new(alloc, kinds.as_slice())
+}
+
+/// The kinds of the declared columns.
+fn kinds_in(alloc: Global, cols: &ColDecls) -> Result<Vec<Kind>, AllocError>
+    ensures { IfOk result (λ kinds. kinds.items ≡ kinds_of cols.now) }
+{
+    let mut kinds = Vec::with_capacity(alloc, cols.as_slice().len())?;
+    for decl in cols.as_slice() {
+        kinds.push(decl.kind)?;
+    }
+    Ok(kinds)
+}
+
+/// Puts the rows of all the records that are left into an empty Rel.
+fn read_rows(
+    alloc: Global,
+    reader: &mut Reader<&[u8]>,
+    fields: &mut ByteRecord,
+    cols: &ColDecls,
+    places: &[usize],
+    width: usize,
+    rel: &mut Rel,
+) -> Result<(), TableFault>
+    requires between { IsBetween reader.old }
+    requires columns { AreColumns cols.now }
+    requires places { length places.now ≡ length cols.now }
+    requires kinds { rel.old.kinds ≡ kinds_of cols.now }
+    requires empty { rel.old.rows ≡ [] }
+    ensures kinds { rel.new.kinds ≡ kinds_of cols.now }
+    ensures rows { IfOk result (λ _. all_or_first (numbered (record_row cols.now places.now width) 1 (records_left reader.old)) ≡ Ok rel.new.rows) }
+    ensures fault { IfErr result (λ fault. (fault ≡ NoMemory) ⊎ (all_or_first (numbered (record_row cols.now places.now width) 1 (records_left reader.old)) ≡ Err fault)) }
+{
+    for nth in 1..ROW_LIMIT + 2 {
+        if !next_record(reader, fields)? {
+            return Ok(());
+        }
+        let row = read_row(alloc, cols, places, width, nth, fields)?;
+        rel.push_row(row)?;
+    }
+    unreachable!()
+}
