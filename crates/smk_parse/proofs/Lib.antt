@@ -1,0 +1,14 @@
+pub mod Digits
+pub mod Fits
+pub mod Streams
+pub mod Steps
+pub mod Single
+pub mod Listing
+pub mod LineSteps
+pub mod Spelled
+pub mod Cutting
+pub mod BookSteps
+pub mod Sequences
+pub mod BookSpelled
+pub mod PlanSpelled
+pub mod StmtSpelled

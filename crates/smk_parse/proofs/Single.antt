@@ -1,0 +1,166 @@
+-- Single tokens.
+use Rattle.std.specs.Prelude.{cond, nat_eq}
+use Rattle.std.proofs.Common.{◌≡◌, ℕ, ℤ, ◌+◌, ◌-◌, ◌<◌, ◌++◌, length, get_or, take, drop, drop-cons, append_assoc, min, zero, suc, Bool, true, false, List, [], ◌∷◌, ap, ◌∙◌, sym, subst, refl, arith}
+use Rattle.std.specs.Prelude.{IsTrue}
+use Rattle.std.proofs.lemmas.List.{take_all}
+use Rattle.smk_base.specs.declared.token.TokenKind.{TokenKind}
+use Rattle.smk_base.specs.declared.token.TokenKind.TheVariants as kinds
+use Rattle.smk_base.specs.declared.fault.BookFault.{BookFault}
+use Rattle.smk_base.specs.declared.fault.BookFault.TheVariants.{BadToken, Unexpected, BadNumber}
+use Rattle.smk_base.specs.declared.tree.Word.{Word}
+use Rattle.smk_model.specs.Tokens.{Token, head_of, tail_of, is_more, inner, int_value, string_value, undoubled}
+use Rattle.smk_model.specs.TokenKinds.{kind_code, same_kind}
+use Rattle.smk_base.specs.declared.tree.Lit.{Lit}
+use Rattle.smk_base.specs.declared.value.Value.TheVariants as values
+use Rattle.smk_model.specs.Grammar.{First, IsName, name, IsColumn, plain, quoted, IsLiteral, number, string}
+use Rattle.smk_model.specs.Machine.{State, Counts, Takes, Wrong, fault_at, at_token, AToken, ALineName}
+use Rattle.smk_parse.specs.Readers.{Advances}
+use Rattle.smk_parse.specs.Reads.{Leads, Fails}
+use Rattle.smk_parse.proofs.Steps.{opened, open_only, wrong, first_here}
+
+pub unexpected : (t : Token) → (t.kind ≡ kinds.Bad → ⊥) → (t.kind ≡ kinds.Huge → ⊥) → fault_at t ≡ Unexpected t.at
+unexpected t = by t.kind
+  where
+    by : (k : TokenKind) → (k ≡ kinds.Bad → ⊥) → (k ≡ kinds.Huge → ⊥) → fault_at (record { at = t.at; kind = k; text = t.text }) ≡ Unexpected t.at
+    by kinds.Bad h g = absurd (h refl)
+    by kinds.Huge h g = absurd (g refl)
+    by _ h g = refl
+
+-- the kind of a number
+kind_at : List TokenKind → ℕ → TokenKind
+kind_at [] n = kinds.End
+kind_at (k ∷ ks) zero = k
+kind_at (k ∷ ks) (suc n) = kind_at ks n
+
+all_kinds : List TokenKind
+all_kinds = kinds.All ∷ kinds.And ∷ kinds.Append ∷ kinds.As ∷ kinds.Ask ∷ kinds.Back ∷ kinds.Bin ∷ kinds.Brush ∷ kinds.By ∷ kinds.Clear ∷ kinds.Count ∷ kinds.Default ∷ kinds.Distinct ∷ kinds.Fd ∷ kinds.From ∷ kinds.Fwd ∷ kinds.Group ∷ kinds.Int ∷ kinds.Join ∷ kinds.Lineage ∷ kinds.Link ∷ kinds.Max ∷ kinds.Min ∷ kinds.Not ∷ kinds.On ∷ kinds.Or ∷ kinds.Product ∷ kinds.Project ∷ kinds.Scan ∷ kinds.Show ∷ kinds.Sum ∷ kinds.Table ∷ kinds.Text ∷ kinds.Theta ∷ kinds.To ∷ kinds.Union ∷ kinds.View ∷ kinds.Where ∷ kinds.Name ∷ kinds.Quoted ∷ kinds.Number ∷ kinds.Str ∷ kinds.Comma ∷ kinds.Open ∷ kinds.Close ∷ kinds.OpenBrace ∷ kinds.CloseBrace ∷ kinds.Bar ∷ kinds.Equal ∷ kinds.NotEqual ∷ kinds.Less ∷ kinds.LessEqual ∷ kinds.Greater ∷ kinds.GreaterEqual ∷ kinds.End ∷ kinds.Bad ∷ kinds.Huge ∷ []
+
+coded : (k : TokenKind) → kind_at all_kinds (kind_code k) ≡ k
+unfolding kind_at all_kinds
+coded kinds.All = refl
+coded kinds.And = refl
+coded kinds.Append = refl
+coded kinds.As = refl
+coded kinds.Ask = refl
+coded kinds.Back = refl
+coded kinds.Bin = refl
+coded kinds.Brush = refl
+coded kinds.By = refl
+coded kinds.Clear = refl
+coded kinds.Count = refl
+coded kinds.Default = refl
+coded kinds.Distinct = refl
+coded kinds.Fd = refl
+coded kinds.From = refl
+coded kinds.Fwd = refl
+coded kinds.Group = refl
+coded kinds.Int = refl
+coded kinds.Join = refl
+coded kinds.Lineage = refl
+coded kinds.Link = refl
+coded kinds.Max = refl
+coded kinds.Min = refl
+coded kinds.Not = refl
+coded kinds.On = refl
+coded kinds.Or = refl
+coded kinds.Product = refl
+coded kinds.Project = refl
+coded kinds.Scan = refl
+coded kinds.Show = refl
+coded kinds.Sum = refl
+coded kinds.Table = refl
+coded kinds.Text = refl
+coded kinds.Theta = refl
+coded kinds.To = refl
+coded kinds.Union = refl
+coded kinds.View = refl
+coded kinds.Where = refl
+coded kinds.Name = refl
+coded kinds.Quoted = refl
+coded kinds.Number = refl
+coded kinds.Str = refl
+coded kinds.Comma = refl
+coded kinds.Open = refl
+coded kinds.Close = refl
+coded kinds.OpenBrace = refl
+coded kinds.CloseBrace = refl
+coded kinds.Bar = refl
+coded kinds.Equal = refl
+coded kinds.NotEqual = refl
+coded kinds.Less = refl
+coded kinds.LessEqual = refl
+coded kinds.Greater = refl
+coded kinds.GreaterEqual = refl
+coded kinds.End = refl
+coded kinds.Bad = refl
+coded kinds.Huge = refl
+
+pub same_is : (k j : TokenKind) → kind_code k ≡ kind_code j → k ≡ j
+same_is k j e = sym (coded k) ∙ ap (kind_at all_kinds) e ∙ coded j
+
+-- a token of the wanted kind is taken
+pub token_leads : (k : TokenKind) (a b : State) → Advances a.counts a b → kind_code k ≡ kind_code (head_of a.rest).kind → Leads (AToken k ∷ []) a b
+token_leads k a b h e = open_only (AToken k) a b (opened (AToken k) [] a.counts a b h (ap (λ o. cond o (Takes a.counts []) Wrong) (same_code _ _ e)))
+  where
+    same_code : (n m : ℕ) → n ≡ m → nat_eq n m ≡ true
+    same_code n m e = grind arith
+
+pub token_first : (k : TokenKind) (a b : State) → Advances a.counts a b → kind_code k ≡ kind_code (head_of a.rest).kind → First k (head_of a.rest) a.rest b.rest
+token_first k a b h e = first_here k a.counts a b h (sym (same_is k (head_of a.rest).kind e))
+
+pub token_more : (k j : TokenKind) → kind_code k ≡ kind_code j → IsTrue (is_more k) → IsTrue (is_more j)
+token_more k j e h = subst (λ x. IsTrue (is_more x)) (same_is k j e) h
+
+pub token_fails : (k : TokenKind) (a : State) (f : BookFault) → a.rest ≡ head_of a.rest ∷ tail_of a.rest → f ≡ fault_at (head_of a.rest) → (kind_code k ≡ kind_code (head_of a.rest).kind → ⊥) → Fails (AToken k ∷ []) a f
+token_fails k a f h g e = wrong (AToken k) [] a f h g (ap (λ o. cond o (Takes a.counts []) Wrong) (other_code _ _ e))
+  where
+    other_code : (n m : ℕ) → (n ≡ m → ⊥) → nat_eq n m ≡ false
+    other_code n m e = grind arith
+
+pub line_name_leads : (a b : State) → Advances a.counts a b → (head_of a.rest).kind ≡ kinds.Name → Leads (ALineName ∷ []) a b
+line_name_leads a b h e = open_only ALineName a b (opened ALineName [] a.counts a b h (ap (λ k. at_token a.counts kinds.Name k) e))
+
+pub line_name_fails : (a : State) (f : BookFault) → a.rest ≡ head_of a.rest ∷ tail_of a.rest → f ≡ fault_at (head_of a.rest) → ((head_of a.rest).kind ≡ kinds.Name → ⊥) → Fails (ALineName ∷ []) a f
+line_name_fails a f h g e = wrong ALineName [] a f h g (by (head_of a.rest).kind e)
+  where
+    by : (k : TokenKind) → (k ≡ kinds.Name → ⊥) → at_token a.counts kinds.Name k ≡ Wrong
+    by kinds.Name e = absurd (e refl)
+    by _ e = refl
+
+pub name_is : (a b : State) (w : Word) → Advances a.counts a b → (head_of a.rest).kind ≡ kinds.Name → w.name ≡ (head_of a.rest).text → w.at ≡ (head_of a.rest).at → IsName a.rest b.rest w
+name_is a b w h e f g = let n : w ≡ record { name = (head_of a.rest).text; at = (head_of a.rest).at } = λ i. record { name = f i; at = g i } in subst (IsName a.rest b.rest) (sym n) (name (first_here kinds.Name a.counts a b h e))
+
+pub plain_is : (a b : State) (w : Word) → Advances a.counts a b → (head_of a.rest).kind ≡ kinds.Name → w.name ≡ (head_of a.rest).text → w.at ≡ (head_of a.rest).at → IsColumn a.rest b.rest w
+plain_is a b w h e f g = let n : w ≡ record { name = (head_of a.rest).text; at = (head_of a.rest).at } = λ i. record { name = f i; at = g i } in subst (IsColumn a.rest b.rest) (sym n) (plain (first_here kinds.Name a.counts a b h e))
+
+pub quoted_is : (a b : State) (w : Word) → Advances a.counts a b → (head_of a.rest).kind ≡ kinds.Quoted → w.name ≡ inner (head_of a.rest).text → w.at ≡ (head_of a.rest).at → IsColumn a.rest b.rest w
+quoted_is a b w h e f g = let n : w ≡ record { name = inner (head_of a.rest).text; at = (head_of a.rest).at } = λ i. record { name = f i; at = g i } in subst (IsColumn a.rest b.rest) (sym n) (quoted (first_here kinds.Quoted a.counts a b h e))
+
+pub number_is : (a b : State) (l : Lit) (v : ℤ) → Advances a.counts a b → (head_of a.rest).kind ≡ kinds.Number → l.value ≡ values.Int v → v ≡ int_value (head_of a.rest).text → l.at ≡ (head_of a.rest).at → IsLiteral a.rest b.rest l
+number_is a b l v h e f k g = let n : l ≡ record { value = values.Int (int_value (head_of a.rest).text); at = (head_of a.rest).at } = λ i. record { value = (f ∙ ap values.Int k) i; at = g i } in subst (IsLiteral a.rest b.rest) (sym n) (number (first_here kinds.Number a.counts a b h e))
+
+pub string_is : (a b : State) (l : Lit) (v : List ℕ) → Advances a.counts a b → (head_of a.rest).kind ≡ kinds.Str → l.value ≡ values.Text v → v ≡ string_value (head_of a.rest).text → l.at ≡ (head_of a.rest).at → IsLiteral a.rest b.rest l
+string_is a b l v h e f k g = let n : l ≡ record { value = values.Text (string_value (head_of a.rest).text); at = (head_of a.rest).at } = λ i. record { value = (f ∙ ap values.Text k) i; at = g i } in subst (IsLiteral a.rest b.rest) (sym n) (string (first_here kinds.Str a.counts a b h e))
+
+-- the slice between the first byte and the last
+pub inner_slice : (text : List ℕ) → take (length text - 2 - 0) (take (length text - min (length text) 1) (drop (min (length text) 1) text)) ≡ inner text
+inner_slice [] = refl
+inner_slice (b ∷ bs) =
+    let m : min (length (b ∷ bs)) 1 ≡ 1 = omega arith in
+    let n : length (b ∷ bs) - 2 - 0 ≡ length (b ∷ bs) - 2 = omega arith in
+    ap (λ k. take k (take (length (b ∷ bs) - min (length (b ∷ bs)) 1) (drop (min (length (b ∷ bs)) 1) (b ∷ bs)))) n
+    ∙ ap (λ j. take (length (b ∷ bs) - 2) (take (length (b ∷ bs) - j) (drop j (b ∷ bs)))) m
+    ∙ ap (take (length (b ∷ bs) - 2)) (take_all (length (b ∷ bs) - 1) (drop 1 (b ∷ bs)) (omega arith))
+
+-- a byte that is kept, and the second of a pair
+pub kept_byte : (v w bytes : List ℕ) (i : ℕ) → i < length bytes → w ≡ v ++ get_or bytes i 0 ∷ [] → w ++ undoubled (nat_eq (get_or bytes i 0) 34) (drop (i + 1) bytes) ≡ v ++ undoubled false (drop i bytes)
+kept_byte v w bytes i h e =
+    let f : drop i bytes ≡ get_or bytes i 0 ∷ drop (suc i) bytes = drop-cons bytes i 0 h in
+    let g : i + 1 ≡ suc i = omega arith in
+    ap (λ l. l ++ undoubled (nat_eq (get_or bytes i 0) 34) (drop (i + 1) bytes)) e ∙ append_assoc v (get_or bytes i 0 ∷ []) (undoubled (nat_eq (get_or bytes i 0) 34) (drop (i + 1) bytes)) ∙ ap (λ j. v ++ get_or bytes i 0 ∷ undoubled (nat_eq (get_or bytes i 0) 34) (drop j bytes)) g ∙ sym (ap (λ l. v ++ undoubled false l) f)
+
+pub second_byte : (v bytes : List ℕ) (i : ℕ) → i < length bytes → v ++ undoubled false (drop (i + 1) bytes) ≡ v ++ undoubled true (drop i bytes)
+second_byte v bytes i h =
+    let f : drop i bytes ≡ get_or bytes i 0 ∷ drop (suc i) bytes = drop-cons bytes i 0 h in
+    let g : i + 1 ≡ suc i = omega arith in
+    ap (λ j. v ++ undoubled false (drop j bytes)) g ∙ sym (ap (λ l. v ++ undoubled true l) f)

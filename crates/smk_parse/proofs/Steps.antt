@@ -1,0 +1,166 @@
+-- How a symbol and the token in hand go on.
+use Rattle.std.specs.Prelude.{Result, Ok, Err, cond, nat_lt, nat_le}
+use Rattle.std.proofs.Common.{◌≡◌, ℕ, ◌+◌, ◌<◌, ◌≤◌, Bool, true, false, List, [], ◌∷◌, ◌++◌, length, ap, ◌∙◌, sym, subst, refl, append_assoc, append-nil, arith}
+use Rattle.smk_base.specs.declared.token.TokenKind.{TokenKind}
+use Rattle.smk_base.specs.declared.token.TokenKind.TheVariants as kinds
+use Rattle.smk_base.specs.declared.fault.BookFault.{BookFault}
+use Rattle.smk_base.specs.declared.fault.BookFault.TheVariants.{BadToken, Unexpected, TooMany, BadNumber, NoMemory}
+use Rattle.smk_base.specs.declared.fault.Many.{Many}
+use Rattle.smk_model.specs.Tokens.{Token, head_of, tail_of}
+use Rattle.smk_model.specs.Grammar.{First}
+use Rattle.smk_model.specs.Machine.{State, Counts, Symbol, Move, Takes, Skips, Wrong, Past, Outside, through, settle, next, or_next, go_on, fault_at}
+use Rattle.smk_parse.specs.Readers.{Advances}
+use Rattle.smk_parse.specs.Reads.{Leads, Fails, IsFault}
+pub use Rattle.smk_parse.specs.Reads.{Comes}
+
+-- the token in hand stands first
+pub first_here : (k : TokenKind) (c : Counts) (a b : State) → Advances c a b → (head_of a.rest).kind ≡ k → First k (head_of a.rest) a.rest b.rest
+first_here k c a b h e = record { is_kind = e; is_first = h.first }
+
+pub shrinks : (c : Counts) (a b : State) → Advances c a b → length b.rest < length a.rest
+shrinks c a b h = let e = ap length h.first in omega (arith, e)
+
+-- a symbol that a token opens, with what is left of it
+pub record Opens (x : Symbol) (l : List Symbol) (a b : State) : Type 0 where
+  pub opens : (ss : List Symbol) → through (x ∷ ss) a.counts a.rest ≡ through (l ++ ss) b.counts b.rest
+
+pub opened : (x : Symbol) (l : List Symbol) (c : Counts) (a b : State) → Advances c a b → next a.counts x (head_of a.rest) ≡ Takes c l → Opens x l a b
+opened x l c a b h e = record { opens = λ ss. ap (through (x ∷ ss) a.counts) h.first ∙ ap (λ m. go_on (or_next m ss (settle ss a.counts (head_of a.rest))) a.counts (head_of a.rest) b.rest (λ d l. through l d b.rest)) e ∙ ap (λ d. through (l ++ ss) d b.rest) (sym h.counted) }
+
+-- a symbol that is nothing here
+skipped : (x : Symbol) (c : Counts) (ts : List Token) → ts ≡ head_of ts ∷ tail_of ts → next c x (head_of ts) ≡ Skips → (ss : List Symbol) → through (x ∷ ss) c ts ≡ through ss c ts
+skipped x c ts h e [] = ap (through (x ∷ []) c) h ∙ ap (λ m. go_on (or_next m [] Skips) c (head_of ts) (tail_of ts) (λ d l. through l d (tail_of ts))) e ∙ ap (λ l. Ok (record { rest = l; counts = c })) (sym h)
+skipped x c ts h e (s ∷ ss) = ap (through (x ∷ s ∷ ss) c) h ∙ ap (λ m. go_on (or_next m (s ∷ ss) (settle (s ∷ ss) c (head_of ts))) c (head_of ts) (tail_of ts) (λ d l. through l d (tail_of ts))) e ∙ ap (through (s ∷ ss) c) (sym h)
+
+pub skips : (x : Symbol) (a : State) → a.rest ≡ head_of a.rest ∷ tail_of a.rest → next a.counts x (head_of a.rest) ≡ Skips → Leads (x ∷ []) a a
+skips x a h e = record { goes = skipped x a.counts a.rest h e }
+
+pub wrong : (x : Symbol) (ls : List Symbol) (a : State) (f : BookFault) → a.rest ≡ head_of a.rest ∷ tail_of a.rest → f ≡ fault_at (head_of a.rest) → next a.counts x (head_of a.rest) ≡ Wrong → Fails (x ∷ ls) a f
+wrong x ls a f h g e = record { stops = λ ss. faulty f _ (ap (through (x ∷ (ls ++ ss)) a.counts) h ∙ ap (λ m. go_on (or_next m (ls ++ ss) (settle (ls ++ ss) a.counts (head_of a.rest))) a.counts (head_of a.rest) (tail_of a.rest) (λ d l. through l d (tail_of a.rest))) e ∙ ap Err (sym g)) }
+  where
+    faulty : (f : BookFault) (r : Result State BookFault) → r ≡ Err f → IsFault f r
+    faulty NoMemory r e = tt
+    faulty (BadToken at) r e = e
+    faulty (Unexpected at) r e = e
+    faulty (TooMany at what) r e = e
+    faulty (BadNumber at) r e = e
+
+pub past : (x : Symbol) (ls : List Symbol) (a : State) (what : Many) → a.rest ≡ head_of a.rest ∷ tail_of a.rest → next a.counts x (head_of a.rest) ≡ Past what → Fails (x ∷ ls) a (TooMany (head_of a.rest).at what)
+past x ls a what h e = record { stops = λ ss. ap (through (x ∷ (ls ++ ss)) a.counts) h ∙ ap (λ m. go_on (or_next m (ls ++ ss) (settle (ls ++ ss) a.counts (head_of a.rest))) a.counts (head_of a.rest) (tail_of a.rest) (λ d l. through l d (tail_of a.rest))) e }
+
+pub outside : (x : Symbol) (ls : List Symbol) (a : State) → a.rest ≡ head_of a.rest ∷ tail_of a.rest → next a.counts x (head_of a.rest) ≡ Outside → Fails (x ∷ ls) a (BadNumber (head_of a.rest).at)
+outside x ls a h e = record { stops = λ ss. ap (through (x ∷ (ls ++ ss)) a.counts) h ∙ ap (λ m. go_on (or_next m (ls ++ ss) (settle (ls ++ ss) a.counts (head_of a.rest))) a.counts (head_of a.rest) (tail_of a.rest) (λ d l. through l d (tail_of a.rest))) e }
+
+pub no_memory : (ls : List Symbol) (a : State) (f : BookFault) → f ≡ NoMemory → Fails ls a f
+no_memory ls a f e = subst (Fails ls a) (sym e) (record { stops = λ ss. tt })
+
+-- one after the other
+pub then_leads : (x : Symbol) (l : List Symbol) (a b c : State) → Leads (x ∷ []) a b → Leads l b c → Leads (x ∷ l) a c
+then_leads x l a b c h k = record { goes = λ ss. h.goes (l ++ ss) ∙ k.goes ss }
+
+pub lists_lead : (l m : List Symbol) (a b c : State) → Leads l a b → Leads m b c → Leads (l ++ m) a c
+lists_lead l m a b c h k = record { goes = λ ss. ap (λ r. through r a.counts a.rest) (append_assoc l m ss) ∙ h.goes (m ++ ss) ∙ k.goes ss }
+
+moved : (f : BookFault) (r q : Result State BookFault) → r ≡ q → IsFault f q → IsFault f r
+moved f r q e h = subst (IsFault f) (sym e) h
+
+pub then_fails : (x : Symbol) (l : List Symbol) (a b : State) (f : BookFault) → Leads (x ∷ []) a b → Fails l b f → Fails (x ∷ l) a f
+then_fails x l a b f h k = record { stops = λ ss. moved f _ _ (h.goes (l ++ ss)) (k.stops ss) }
+
+pub lists_fail : (l m : List Symbol) (a b : State) (f : BookFault) → Leads l a b → Fails m b f → Fails (l ++ m) a f
+lists_fail l m a b f h k = record { stops = λ ss. moved f _ _ (ap (λ r. through r a.counts a.rest) (append_assoc l m ss) ∙ h.goes (m ++ ss)) (k.stops ss) }
+
+pub first_fails : (x : Symbol) (l : List Symbol) (a : State) (f : BookFault) → Fails (x ∷ []) a f → Fails (x ∷ l) a f
+first_fails x l a f h = record { stops = λ ss. h.stops (l ++ ss) }
+
+pub list_fails : (l m : List Symbol) (a : State) (f : BookFault) → Fails l a f → Fails (l ++ m) a f
+list_fails l m a f h = record { stops = λ ss. moved f _ _ (ap (λ r. through r a.counts a.rest) (append_assoc l m ss)) (h.stops (m ++ ss)) }
+
+pub open_leads : (x : Symbol) (l : List Symbol) (a b c : State) → Opens x l a b → Leads l b c → Leads (x ∷ []) a c
+open_leads x l a b c h k = record { goes = λ ss. h.opens ss ∙ k.goes ss }
+
+pub open_fails : (x : Symbol) (l : List Symbol) (a b : State) (f : BookFault) → Opens x l a b → Fails l b f → Fails (x ∷ []) a f
+open_fails x l a b f h k = record { stops = λ ss. moved f _ _ (h.opens ss) (k.stops ss) }
+
+pub open_only : (x : Symbol) (a b : State) → Opens x [] a b → Leads (x ∷ []) a b
+open_only x a b h = record { goes = h.opens }
+
+pub comes_leads : (ls ms : List Symbol) (a b c : State) → Comes ls ms a b → Leads ms b c → Leads ls a c
+comes_leads ls ms a b c h k = record { goes = λ ss. h.comes ss ∙ k.goes ss }
+
+pub comes_fails : (ls ms : List Symbol) (a b : State) (f : BookFault) → Comes ls ms a b → Fails ms b f → Fails ls a f
+comes_fails ls ms a b f h k = record { stops = λ ss. moved f _ _ (h.comes ss) (k.stops ss) }
+
+-- the first of two symbols leads on to the second
+pub first_comes : (x : Symbol) (l : List Symbol) (a b : State) → Leads (x ∷ []) a b → Comes (x ∷ l) l a b
+first_comes x l a b h = record { comes = λ ss. h.goes (l ++ ss) }
+
+-- one more of a list
+pub more_comes : (ls l : List Symbol) (x y : Symbol) (a b c d : State) → Comes ls (x ∷ []) a b → Opens x (l ++ y ∷ []) b c → Leads l c d → Comes ls (y ∷ []) a d
+more_comes ls l x y a b c d h o k = record { comes = λ ss. h.comes ss ∙ o.opens ss ∙ ap (λ r. through r c.counts c.rest) (append_assoc l (y ∷ []) ss) ∙ k.goes (y ∷ ss) }
+
+-- what a move is with more symbols behind
+abbrev pub with_more : Move → List Symbol → Move
+with_more (Takes c l) more = Takes c (l ++ more)
+with_more Skips more = Skips
+with_more Wrong more = Wrong
+with_more (Past what) more = Past what
+with_more Outside more = Outside
+
+abbrev pub NoSkip : Move → Type 0
+NoSkip (Takes c l) = Unit {0}
+NoSkip Skips = ⊥
+NoSkip Wrong = Unit {0}
+NoSkip (Past what) = Unit {0}
+NoSkip Outside = Unit {0}
+
+-- a symbol that begins with another
+pub begins : (x y : Symbol) (more : List Symbol) (a : State) → a.rest ≡ head_of a.rest ∷ tail_of a.rest → NoSkip (next a.counts y (head_of a.rest)) → next a.counts x (head_of a.rest) ≡ with_more (next a.counts y (head_of a.rest)) more → Comes (x ∷ []) (y ∷ more) a a
+begins x y more a h ok e = record {
+  comes = λ ss.
+      ap (through (x ∷ ss) a.counts) h ∙ ap (λ m. go_on (or_next m ss (settle ss a.counts (head_of a.rest))) a.counts (head_of a.rest) (tail_of a.rest) (λ d l. through l d (tail_of a.rest))) e
+      ∙ by ss (next a.counts y (head_of a.rest)) ok ∙ sym (ap (through (y ∷ (more ++ ss)) a.counts) h);
+}
+  where
+    by : (ss : List Symbol) (m : Move) → NoSkip m → go_on (or_next (with_more m more) ss (settle ss a.counts (head_of a.rest))) a.counts (head_of a.rest) (tail_of a.rest) (λ d l. through l d (tail_of a.rest)) ≡ go_on (or_next m (more ++ ss) (settle (more ++ ss) a.counts (head_of a.rest))) a.counts (head_of a.rest) (tail_of a.rest) (λ d l. through l d (tail_of a.rest))
+    by ss (Takes c l) ok = ap (λ r. through r c (tail_of a.rest)) (append_assoc l more ss)
+    by ss Skips ok = absurd ok
+    by ss Wrong ok = refl
+    by ss (Past what) ok = refl
+    by ss Outside ok = refl
+
+pub open_1 : (x y1 : Symbol) (a s0 s1 : State) → Opens x (y1 ∷ []) a s0 → Leads (y1 ∷ []) s0 s1 → Leads (x ∷ []) a s1
+open_1 x y1 a s0 s1 o h1 = open_leads x (y1 ∷ []) a s0 s1 o (h1)
+
+pub open_2 : (x y1 y2 : Symbol) (a s0 s1 s2 : State) → Opens x (y1 ∷ y2 ∷ []) a s0 → Leads (y1 ∷ []) s0 s1 → Leads (y2 ∷ []) s1 s2 → Leads (x ∷ []) a s2
+open_2 x y1 y2 a s0 s1 s2 o h1 h2 = open_leads x (y1 ∷ y2 ∷ []) a s0 s2 o (then_leads y1 (y2 ∷ []) s0 s1 s2 h1 (h2))
+
+pub open_3 : (x y1 y2 y3 : Symbol) (a s0 s1 s2 s3 : State) → Opens x (y1 ∷ y2 ∷ y3 ∷ []) a s0 → Leads (y1 ∷ []) s0 s1 → Leads (y2 ∷ []) s1 s2 → Leads (y3 ∷ []) s2 s3 → Leads (x ∷ []) a s3
+open_3 x y1 y2 y3 a s0 s1 s2 s3 o h1 h2 h3 = open_leads x (y1 ∷ y2 ∷ y3 ∷ []) a s0 s3 o (then_leads y1 (y2 ∷ y3 ∷ []) s0 s1 s3 h1 (then_leads y2 (y3 ∷ []) s1 s2 s3 h2 (h3)))
+
+pub open_4 : (x y1 y2 y3 y4 : Symbol) (a s0 s1 s2 s3 s4 : State) → Opens x (y1 ∷ y2 ∷ y3 ∷ y4 ∷ []) a s0 → Leads (y1 ∷ []) s0 s1 → Leads (y2 ∷ []) s1 s2 → Leads (y3 ∷ []) s2 s3 → Leads (y4 ∷ []) s3 s4 → Leads (x ∷ []) a s4
+open_4 x y1 y2 y3 y4 a s0 s1 s2 s3 s4 o h1 h2 h3 h4 = open_leads x (y1 ∷ y2 ∷ y3 ∷ y4 ∷ []) a s0 s4 o (then_leads y1 (y2 ∷ y3 ∷ y4 ∷ []) s0 s1 s4 h1 (then_leads y2 (y3 ∷ y4 ∷ []) s1 s2 s4 h2 (then_leads y3 (y4 ∷ []) s2 s3 s4 h3 (h4))))
+
+pub open_5 : (x y1 y2 y3 y4 y5 : Symbol) (a s0 s1 s2 s3 s4 s5 : State) → Opens x (y1 ∷ y2 ∷ y3 ∷ y4 ∷ y5 ∷ []) a s0 → Leads (y1 ∷ []) s0 s1 → Leads (y2 ∷ []) s1 s2 → Leads (y3 ∷ []) s2 s3 → Leads (y4 ∷ []) s3 s4 → Leads (y5 ∷ []) s4 s5 → Leads (x ∷ []) a s5
+open_5 x y1 y2 y3 y4 y5 a s0 s1 s2 s3 s4 s5 o h1 h2 h3 h4 h5 = open_leads x (y1 ∷ y2 ∷ y3 ∷ y4 ∷ y5 ∷ []) a s0 s5 o (then_leads y1 (y2 ∷ y3 ∷ y4 ∷ y5 ∷ []) s0 s1 s5 h1 (then_leads y2 (y3 ∷ y4 ∷ y5 ∷ []) s1 s2 s5 h2 (then_leads y3 (y4 ∷ y5 ∷ []) s2 s3 s5 h3 (then_leads y4 (y5 ∷ []) s3 s4 s5 h4 (h5)))))
+
+pub open_6 : (x y1 y2 y3 y4 y5 y6 : Symbol) (a s0 s1 s2 s3 s4 s5 s6 : State) → Opens x (y1 ∷ y2 ∷ y3 ∷ y4 ∷ y5 ∷ y6 ∷ []) a s0 → Leads (y1 ∷ []) s0 s1 → Leads (y2 ∷ []) s1 s2 → Leads (y3 ∷ []) s2 s3 → Leads (y4 ∷ []) s3 s4 → Leads (y5 ∷ []) s4 s5 → Leads (y6 ∷ []) s5 s6 → Leads (x ∷ []) a s6
+open_6 x y1 y2 y3 y4 y5 y6 a s0 s1 s2 s3 s4 s5 s6 o h1 h2 h3 h4 h5 h6 = open_leads x (y1 ∷ y2 ∷ y3 ∷ y4 ∷ y5 ∷ y6 ∷ []) a s0 s6 o (then_leads y1 (y2 ∷ y3 ∷ y4 ∷ y5 ∷ y6 ∷ []) s0 s1 s6 h1 (then_leads y2 (y3 ∷ y4 ∷ y5 ∷ y6 ∷ []) s1 s2 s6 h2 (then_leads y3 (y4 ∷ y5 ∷ y6 ∷ []) s2 s3 s6 h3 (then_leads y4 (y5 ∷ y6 ∷ []) s3 s4 s6 h4 (then_leads y5 (y6 ∷ []) s4 s5 s6 h5 (h6))))))
+
+pub open_fails_1 : (x y1 : Symbol) (l : List Symbol) (a s0 : State) (f : BookFault) → Opens x (y1 ∷ l) a s0 → Fails (y1 ∷ []) s0 f → Fails (x ∷ []) a f
+open_fails_1 x y1 l a s0 f o h1 = open_fails x (y1 ∷ l) a s0 f o (first_fails y1 l s0 f h1)
+
+pub open_fails_2 : (x y1 y2 : Symbol) (l : List Symbol) (a s0 s1 : State) (f : BookFault) → Opens x (y1 ∷ y2 ∷ l) a s0 → Leads (y1 ∷ []) s0 s1 → Fails (y2 ∷ []) s1 f → Fails (x ∷ []) a f
+open_fails_2 x y1 y2 l a s0 s1 f o h1 h2 = open_fails x (y1 ∷ y2 ∷ l) a s0 f o (then_fails y1 (y2 ∷ l) s0 s1 f h1 (first_fails y2 l s1 f h2))
+
+pub open_fails_3 : (x y1 y2 y3 : Symbol) (l : List Symbol) (a s0 s1 s2 : State) (f : BookFault) → Opens x (y1 ∷ y2 ∷ y3 ∷ l) a s0 → Leads (y1 ∷ []) s0 s1 → Leads (y2 ∷ []) s1 s2 → Fails (y3 ∷ []) s2 f → Fails (x ∷ []) a f
+open_fails_3 x y1 y2 y3 l a s0 s1 s2 f o h1 h2 h3 = open_fails x (y1 ∷ y2 ∷ y3 ∷ l) a s0 f o (then_fails y1 (y2 ∷ y3 ∷ l) s0 s1 f h1 (then_fails y2 (y3 ∷ l) s1 s2 f h2 (first_fails y3 l s2 f h3)))
+
+pub open_fails_4 : (x y1 y2 y3 y4 : Symbol) (l : List Symbol) (a s0 s1 s2 s3 : State) (f : BookFault) → Opens x (y1 ∷ y2 ∷ y3 ∷ y4 ∷ l) a s0 → Leads (y1 ∷ []) s0 s1 → Leads (y2 ∷ []) s1 s2 → Leads (y3 ∷ []) s2 s3 → Fails (y4 ∷ []) s3 f → Fails (x ∷ []) a f
+open_fails_4 x y1 y2 y3 y4 l a s0 s1 s2 s3 f o h1 h2 h3 h4 = open_fails x (y1 ∷ y2 ∷ y3 ∷ y4 ∷ l) a s0 f o (then_fails y1 (y2 ∷ y3 ∷ y4 ∷ l) s0 s1 f h1 (then_fails y2 (y3 ∷ y4 ∷ l) s1 s2 f h2 (then_fails y3 (y4 ∷ l) s2 s3 f h3 (first_fails y4 l s3 f h4))))
+
+pub open_fails_5 : (x y1 y2 y3 y4 y5 : Symbol) (l : List Symbol) (a s0 s1 s2 s3 s4 : State) (f : BookFault) → Opens x (y1 ∷ y2 ∷ y3 ∷ y4 ∷ y5 ∷ l) a s0 → Leads (y1 ∷ []) s0 s1 → Leads (y2 ∷ []) s1 s2 → Leads (y3 ∷ []) s2 s3 → Leads (y4 ∷ []) s3 s4 → Fails (y5 ∷ []) s4 f → Fails (x ∷ []) a f
+open_fails_5 x y1 y2 y3 y4 y5 l a s0 s1 s2 s3 s4 f o h1 h2 h3 h4 h5 = open_fails x (y1 ∷ y2 ∷ y3 ∷ y4 ∷ y5 ∷ l) a s0 f o (then_fails y1 (y2 ∷ y3 ∷ y4 ∷ y5 ∷ l) s0 s1 f h1 (then_fails y2 (y3 ∷ y4 ∷ y5 ∷ l) s1 s2 f h2 (then_fails y3 (y4 ∷ y5 ∷ l) s2 s3 f h3 (then_fails y4 (y5 ∷ l) s3 s4 f h4 (first_fails y5 l s4 f h5)))))
+
+pub open_fails_6 : (x y1 y2 y3 y4 y5 y6 : Symbol) (l : List Symbol) (a s0 s1 s2 s3 s4 s5 : State) (f : BookFault) → Opens x (y1 ∷ y2 ∷ y3 ∷ y4 ∷ y5 ∷ y6 ∷ l) a s0 → Leads (y1 ∷ []) s0 s1 → Leads (y2 ∷ []) s1 s2 → Leads (y3 ∷ []) s2 s3 → Leads (y4 ∷ []) s3 s4 → Leads (y5 ∷ []) s4 s5 → Fails (y6 ∷ []) s5 f → Fails (x ∷ []) a f
+open_fails_6 x y1 y2 y3 y4 y5 y6 l a s0 s1 s2 s3 s4 s5 f o h1 h2 h3 h4 h5 h6 = open_fails x (y1 ∷ y2 ∷ y3 ∷ y4 ∷ y5 ∷ y6 ∷ l) a s0 f o (then_fails y1 (y2 ∷ y3 ∷ y4 ∷ y5 ∷ y6 ∷ l) s0 s1 f h1 (then_fails y2 (y3 ∷ y4 ∷ y5 ∷ y6 ∷ l) s1 s2 f h2 (then_fails y3 (y4 ∷ y5 ∷ y6 ∷ l) s2 s3 f h3 (then_fails y4 (y5 ∷ y6 ∷ l) s3 s4 f h4 (then_fails y5 (y6 ∷ l) s4 s5 f h5 (first_fails y6 l s5 f h6))))))

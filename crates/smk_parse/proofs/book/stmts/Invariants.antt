@@ -1,0 +1,16 @@
+use Rattle.std.proofs.Common.{◌≡◌, [], ◌∷◌, length, map}
+use Rattle.smk_base.specs.TreeImage.{stmt_image}
+use Rattle.smk_model.specs.Machine.{AStmts, book_symbols}
+use Rattle.smk_parse.specs.Tallies.{tally_of}
+use Rattle.smk_parse.specs.Reads.{Comes}
+use Rattle.smk_parse.proofs.StmtSpelled.{EndsStmts}
+use Rattle.smk_parse.proofs.book.stmts.Given as goal
+
+abbrev pub invariant-stmts : goal.invariant-stmts
+invariant-stmts l = record {
+  reads : Comes book_symbols (AStmts (tally_of l.tally) ∷ []) l.fn.reader l.reader;
+  is : EndsStmts l.fn.reader.rest l.reader.rest (map stmt_image l.stmts);
+}
+
+abbrev pub decreases-stmts : goal.decreases-stmts
+decreases-stmts l = length l.reader.rest

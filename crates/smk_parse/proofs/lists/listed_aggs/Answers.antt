@@ -1,0 +1,18 @@
+use Rattle.std.proofs.Common.{◌≡◌, ◌+◌, [], ◌∷◌, sym, subst, arith}
+use Rattle.smk_base.specs.declared.token.TokenKind.TheVariants as kinds
+use Rattle.smk_model.specs.Machine.{AFirst, AWhat, MoreAggs, AToken}
+use Rattle.smk_model.specs.Grammar.{IsAgg}
+use Rattle.smk_parse.proofs.Steps.{more_comes, first_here, shrinks}
+use Rattle.smk_parse.proofs.Listing.{EndsList, goes_list}
+use Rattle.smk_parse.proofs.BookSteps.{more_aggs_open}
+use Rattle.smk_parse.proofs.lists.listed_aggs.Goals as goal
+
+pub commas-preserved : goal.commas-preserved
+commas-preserved c =
+    let k = sym c.in-Comma.ensures.is in
+    record {
+      reads = more_comes (AFirst 0 ∷ AToken kinds.Equal ∷ AWhat ∷ MoreAggs 1 ∷ []) (AFirst c.commas.before ∷ AToken kinds.Equal ∷ AWhat ∷ []) (MoreAggs c.commas.before) (MoreAggs (c.commas.before + 1)) c.args.reader.now c.commas.reader c.advance.new.self c.agg-in-Comma.new.reader c.commas.invariant.reads (more_aggs_open c.commas.before c.commas.reader c.advance.new.self c.advance.ensures k) c.in_ok-next.ensures.reads;
+      is = subst (EndsList IsAgg c.args.reader.now.rest c.agg-in-Comma.new.reader.rest) (sym c.in_ok-push-2.ensures.pushed) (goes_list IsAgg _ _ _ _ _ _ _ c.commas.invariant.is (first_here kinds.Comma c.commas.reader.counts c.commas.reader c.advance.new.self c.advance.ensures k) c.in_ok-next.ensures.is);
+      shrinks = omega (arith, shrinks c.commas.reader.counts c.commas.reader c.advance.new.self c.advance.ensures, c.in_ok-next.ensures.shrinks, c.commas.invariant.shrinks);
+      few = omega (arith, c.in_ok-next.ensures.few);
+    }

@@ -1,0 +1,17 @@
+use Rattle.std.proofs.Common.{◌≡◌, ◌<◌, ◌≤◌, [], ◌∷◌, length}
+use Rattle.smk_model.specs.Machine.{ADefault, AFirst, AType, MoreDecls}
+use Rattle.smk_model.specs.Grammar.{IsDecl}
+use Rattle.smk_parse.proofs.Steps.{Comes}
+use Rattle.smk_parse.proofs.Listing.{EndsList}
+use Rattle.smk_parse.proofs.lists.listed_decls.Given as goal
+
+abbrev pub invariant-commas : goal.invariant-commas
+invariant-commas l = record {
+  reads : Comes (AFirst 0 ∷ AType ∷ ADefault ∷ MoreDecls 1 ∷ []) (MoreDecls l.before ∷ []) l.fn.reader l.reader;
+  is : EndsList IsDecl l.fn.reader.rest l.reader.rest l.list;
+  shrinks : length l.reader.rest < length l.fn.reader.rest;
+  few : l.before ≤ 16;
+}
+
+abbrev pub decreases-commas : goal.decreases-commas
+decreases-commas l = length l.reader.rest

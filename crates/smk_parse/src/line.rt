@@ -1,0 +1,235 @@
+ghost use Rattle.std.specs.Prelude.{◌≡◌, ◌∷◌, [], length, IsTrue, IfOk, IfErr, OnOk, Ok, Err};
+ghost use Rattle.smk_base.specs.declared.token.TokenKind.TheVariants as kinds;
+ghost use Rattle.smk_model.specs.Tokens.{head_of, is_more};
+ghost use Rattle.smk_model.specs.Grammar.{IsColumn, IsLiteral, IsMark, AreListed, AreMarks, IsThen, IsLine, IsWholeLine};
+ghost use Rattle.smk_model.specs.Machine.{ALine, ALineColumn, ALiteral, AMark, MoreMarks, AMarks, AThen, AnEnd};
+ghost use Rattle.smk_parse.specs.Reads.{Reads, Shrinks};
+ghost use Rattle.smk_parse.specs.Answers.{IsLineAnswer};
+
+use crate::reader::Reader;
+use crate::taken::{expect, line_name, literal, quoted_in_hand, text_in_hand, wrong};
+use smk_base::{BookFault, Line, LineFault, Marks, Rids, Then, TokenKind, Word};
+use std::alloc::Global;
+
+/// A column of any length.
+#[tactic(auto, using(crate::proofs::LineSteps::line_plain, crate::proofs::LineSteps::line_quoted, crate::proofs::LineSteps::line_column_fails, crate::proofs::Single::plain_is, crate::proofs::Single::quoted_is, crate::proofs::Steps::no_memory, crate::proofs::Steps::shrinks))]
+fn line_column(alloc: Global, reader: &mut Reader) -> Result<Word, BookFault>
+    ensures reads { Reads (ALineColumn ∷ []) reader.old reader.new result }
+    ensures is { IfOk result (λ word. IsColumn reader.old.rest reader.new.rest word) }
+    ensures shrinks { Shrinks reader.old reader.new result }
+{
+    let at = reader.at();
+    match reader.kind() {
+        TokenKind::Name => {
+            let name = text_in_hand(alloc, reader)?;
+            reader.advance();
+            Ok(Word { name, at })
+        }
+        TokenKind::Quoted => {
+            let name = quoted_in_hand(alloc, reader)?;
+            reader.advance();
+            Ok(Word { name, at })
+        }
+        _ => Err(wrong(reader)),
+    }
+}
+
+/// A mark.
+#[tactic(auto, using(crate::proofs::LineSteps::mark_leads, crate::proofs::LineSteps::mark_outside, crate::proofs::LineSteps::mark_fails, crate::proofs::Spelled::mark_is, crate::proofs::Steps::shrinks))]
+fn mark(reader: &mut Reader) -> Result<u32, BookFault>
+    ensures reads { Reads (AMark ∷ []) reader.old reader.new result }
+    ensures is { IfOk result (λ mark. IsMark reader.old.rest reader.new.rest mark) }
+    ensures shrinks { Shrinks reader.old reader.new result }
+{
+    let at = reader.at();
+    match reader.kind() {
+        TokenKind::Number => {
+            let value = reader.int();
+            if value < 0 || value >= 4_294_967_296 {
+                return Err(BookFault::BadNumber { at });
+            }
+            reader.advance();
+            Ok(value as u32)
+        }
+        _ => Err(wrong(reader)),
+    }
+}
+
+/// One or more marks.
+#[tactic(auto, using(crate::proofs::Steps::first_comes, crate::proofs::Steps::first_fails, crate::proofs::Steps::comes_leads, crate::proofs::LineSteps::more_marks_end, crate::proofs::LineSteps::more_marks_fail, crate::proofs::Listing::begins_list, crate::proofs::Listing::ends_list, crate::proofs::Steps::no_memory))]
+fn listed_marks(alloc: Global, reader: &mut Reader) -> Result<Rids, BookFault>
+    ensures reads { Reads (AMark ∷ MoreMarks ∷ []) reader.old reader.new result }
+    ensures is { IfOk result (λ marks. AreListed IsMark reader.old.rest reader.new.rest marks) }
+    ensures shrinks { Shrinks reader.old reader.new result }
+{
+    let mut marks = Rids::new(alloc);
+    let first = mark(reader)?;
+    marks.push(first)?;
+    'commas: while let TokenKind::Comma = reader.kind() {
+        reader.advance();
+        let next = mark(reader)?;
+        marks.push(next)?;
+    }
+    Ok(marks)
+}
+
+/// The marks of a line.
+#[tactic(auto, using(crate::proofs::LineSteps::marks_all, crate::proofs::LineSteps::marks_begin_leads, crate::proofs::LineSteps::marks_begin_fails, crate::proofs::Spelled::all_is, crate::proofs::Spelled::listed_is, crate::proofs::Steps::shrinks))]
+fn marks(alloc: Global, reader: &mut Reader) -> Result<Marks, BookFault>
+    ensures reads { Reads (AMarks ∷ []) reader.old reader.new result }
+    ensures is { IfOk result (λ marks. AreMarks reader.old.rest reader.new.rest marks) }
+    ensures shrinks { Shrinks reader.old reader.new result }
+{
+    match reader.kind() {
+        TokenKind::All => {
+            reader.advance();
+            Ok(Marks::All)
+        }
+        _ => {
+            let marks = listed_marks(alloc, reader)?;
+            Ok(Marks::Listed(marks))
+        }
+    }
+}
+
+/// What a `back` line asks for besides the rows.
+#[tactic(auto, using(crate::proofs::LineSteps::then_where, crate::proofs::LineSteps::then_group, crate::proofs::LineSteps::then_nothing, crate::proofs::Steps::open_3, crate::proofs::Steps::open_fails_1, crate::proofs::Steps::open_fails_2, crate::proofs::Steps::open_fails_3, crate::proofs::Spelled::where_then_is, crate::proofs::Spelled::group_then_is, crate::proofs::Spelled::no_then_is, crate::proofs::Steps::shrinks))]
+fn then(alloc: Global, reader: &mut Reader) -> Result<Then, BookFault>
+    ensures reads { Reads (AThen ∷ []) reader.old reader.new result }
+    ensures is { IfOk result (λ then. IsThen reader.old.rest reader.new.rest then) }
+{
+    match reader.kind() {
+        TokenKind::Where => {
+            reader.advance();
+            let col = line_column(alloc, reader)?;
+            let _ = expect(reader, TokenKind::Equal)?;
+            let lit = literal(alloc, reader)?;
+            Ok(Then::Matching {
+                col: col.name,
+                value: lit.value,
+            })
+        }
+        TokenKind::Group => {
+            reader.advance();
+            Ok(Then::Grouped)
+        }
+        _ => Ok(Then::Plain),
+    }
+}
+
+#[tactic(auto, using(crate::proofs::LineSteps::show_opens, crate::proofs::Steps::open_1, crate::proofs::Steps::open_fails_1, crate::proofs::Spelled::show_is))]
+fn show_line(alloc: Global, reader: &mut Reader) -> Result<Line, BookFault>
+    requires { (head_of reader.old.rest).kind ≡ kinds.Show }
+    ensures reads { Reads (ALine ∷ []) reader.old reader.new result }
+    ensures is { IfOk result (λ line. IsLine reader.old.rest reader.new.rest line) }
+{
+    reader.advance();
+    let view = line_name(alloc, reader)?;
+    Ok(Line::Show { view: view.name })
+}
+
+#[tactic(auto, using(crate::proofs::LineSteps::back_opens, crate::proofs::Steps::open_5, crate::proofs::Steps::open_fails_1, crate::proofs::Steps::open_fails_2, crate::proofs::Steps::open_fails_3, crate::proofs::Steps::open_fails_4, crate::proofs::Steps::open_fails_5, crate::proofs::Spelled::back_is))]
+fn back_line(alloc: Global, reader: &mut Reader) -> Result<Line, BookFault>
+    requires { (head_of reader.old.rest).kind ≡ kinds.Back }
+    ensures reads { Reads (ALine ∷ []) reader.old reader.new result }
+    ensures is { IfOk result (λ line. IsLine reader.old.rest reader.new.rest line) }
+{
+    reader.advance();
+    let view = line_name(alloc, reader)?;
+    let marks = marks(alloc, reader)?;
+    let _ = expect(reader, TokenKind::To)?;
+    let table = line_name(alloc, reader)?;
+    let then = then(alloc, reader)?;
+    Ok(Line::Back {
+        view: view.name,
+        marks,
+        table: table.name,
+        then,
+    })
+}
+
+#[tactic(auto, using(crate::proofs::LineSteps::fwd_opens, crate::proofs::Steps::open_4, crate::proofs::Steps::open_fails_1, crate::proofs::Steps::open_fails_2, crate::proofs::Steps::open_fails_3, crate::proofs::Steps::open_fails_4, crate::proofs::Spelled::fwd_is))]
+fn fwd_line(alloc: Global, reader: &mut Reader) -> Result<Line, BookFault>
+    requires { (head_of reader.old.rest).kind ≡ kinds.Fwd }
+    ensures reads { Reads (ALine ∷ []) reader.old reader.new result }
+    ensures is { IfOk result (λ line. IsLine reader.old.rest reader.new.rest line) }
+{
+    reader.advance();
+    let table = line_name(alloc, reader)?;
+    let rows = marks(alloc, reader)?;
+    let _ = expect(reader, TokenKind::To)?;
+    let view = line_name(alloc, reader)?;
+    Ok(Line::Fwd {
+        table: table.name,
+        rows,
+        view: view.name,
+    })
+}
+
+#[tactic(auto, using(crate::proofs::LineSteps::brush_opens, crate::proofs::Steps::open_4, crate::proofs::Steps::open_fails_1, crate::proofs::Steps::open_fails_2, crate::proofs::Steps::open_fails_3, crate::proofs::Steps::open_fails_4, crate::proofs::Spelled::brush_is))]
+fn brush_line(alloc: Global, reader: &mut Reader) -> Result<Line, BookFault>
+    requires { (head_of reader.old.rest).kind ≡ kinds.Brush }
+    ensures reads { Reads (ALine ∷ []) reader.old reader.new result }
+    ensures is { IfOk result (λ line. IsLine reader.old.rest reader.new.rest line) }
+{
+    reader.advance();
+    let view = line_name(alloc, reader)?;
+    let marks = marks(alloc, reader)?;
+    let _ = expect(reader, TokenKind::On)?;
+    let table = line_name(alloc, reader)?;
+    Ok(Line::Brush {
+        view: view.name,
+        marks,
+        table: table.name,
+    })
+}
+
+#[tactic(auto, using(crate::proofs::LineSteps::clear_leads, crate::proofs::LineSteps::line_fails, crate::proofs::Spelled::clear_is))]
+fn line(alloc: Global, reader: &mut Reader) -> Result<Line, BookFault>
+    ensures reads { Reads (ALine ∷ []) reader.old reader.new result }
+    ensures is { IfOk result (λ line. IsLine reader.old.rest reader.new.rest line) }
+{
+    match reader.kind() {
+        TokenKind::Show => show_line(alloc, reader),
+        TokenKind::Back => back_line(alloc, reader),
+        TokenKind::Fwd => fwd_line(alloc, reader),
+        TokenKind::Brush => brush_line(alloc, reader),
+        TokenKind::Clear => {
+            reader.advance();
+            Ok(Line::Clear)
+        }
+        _ => Err(wrong(reader)),
+    }
+}
+
+/// A line up to its end.
+#[tactic(auto, using(crate::proofs::LineSteps::end_leads, crate::proofs::LineSteps::end_fails, crate::proofs::Steps::then_leads, crate::proofs::Steps::then_fails, crate::proofs::Steps::first_fails, crate::proofs::Spelled::whole_is))]
+fn whole_line(alloc: Global, reader: &mut Reader) -> Result<Line, BookFault>
+    ensures reads { Reads (ALine ∷ AnEnd ∷ []) reader.old reader.new result }
+    ensures is { IfOk result (λ line. IsWholeLine reader.old.rest line) }
+{
+    let line = line(alloc, reader)?;
+    match reader.kind() {
+        TokenKind::End => Ok(line),
+        _ => Err(wrong(reader)),
+    }
+}
+
+/// The line of a script as a tree: None where it has no token, and the place of its first fault where it isn't a line.
+#[tactic(auto, using(crate::proofs::Spelled::line_answer, crate::proofs::Spelled::unread_bad_token, crate::proofs::Spelled::unread_unexpected, crate::proofs::Spelled::unread_many, crate::proofs::Spelled::unread_bad_number))]
+pub fn parse_line(alloc: Global, line: &[u8]) -> Result<Option<Line>, LineFault>
+    ensures { IsLineAnswer line.now result }
+{
+    let mut reader = Reader::new(line);
+    match reader.kind() {
+        TokenKind::End => Ok(None),
+        _ => match whole_line(alloc, &mut reader) {
+            Ok(line) => Ok(Some(line)),
+            Err(BookFault::NoMemory) => Err(LineFault::NoMemory),
+            Err(BookFault::BadToken { at }) => Err(LineFault::NotALine { at }),
+            Err(BookFault::Unexpected { at }) => Err(LineFault::NotALine { at }),
+            Err(BookFault::TooMany { at, what: _ }) => Err(LineFault::NotALine { at }),
+            Err(BookFault::BadNumber { at }) => Err(LineFault::NotALine { at }),
+        },
+    }
+}

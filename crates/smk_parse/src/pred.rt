@@ -1,0 +1,171 @@
+ghost use Rattle.std.specs.Prelude.{◌≡◌, ◌∷◌, ◌+◌, ◌<◌, ◌≤◌, [], length, IfOk, OnOk};
+ghost use Rattle.smk_base.specs.declared.token.TokenKind.TheVariants as kinds;
+ghost use Rattle.smk_base.specs.TreeImage.{pred_image};
+ghost use Rattle.smk_model.specs.Tokens.{head_of};
+ghost use Rattle.smk_model.specs.Grammar.{IsOp, IsTerm, IsPrim, IsConj, IsPred};
+ghost use Rattle.smk_model.specs.Machine.{AnOp, ATerm, APrim, AnAnds, AnOrs};
+ghost use Rattle.smk_parse.specs.Reads.{Reads, Shrinks};
+
+use crate::names::{column, column_in_hand, is_column, is_short};
+use crate::reader::Reader;
+use crate::taken::{expect, literal, wrong};
+use smk_base::{BookFault, CmpOp, Many, PredTree, Term, TokenKind};
+use std::alloc::Global;
+
+/// A comparison's operator.
+#[tactic(auto, using(crate::proofs::BookSteps::op_equal, crate::proofs::BookSteps::op_notequal, crate::proofs::BookSteps::op_less, crate::proofs::BookSteps::op_lessequal, crate::proofs::BookSteps::op_greater, crate::proofs::BookSteps::op_greaterequal, crate::proofs::BookSteps::op_fails, crate::proofs::BookSpelled::eq_is, crate::proofs::BookSpelled::ne_is, crate::proofs::BookSpelled::lt_is, crate::proofs::BookSpelled::le_is, crate::proofs::BookSpelled::gt_is, crate::proofs::BookSpelled::ge_is, crate::proofs::Steps::shrinks))]
+fn op(reader: &mut Reader) -> Result<CmpOp, BookFault>
+    ensures reads { Reads (AnOp ∷ []) reader.old reader.new result }
+    ensures is { IfOk result (λ op. IsOp reader.old.rest reader.new.rest op) }
+    ensures shrinks { Shrinks reader.old reader.new result }
+{
+    match reader.kind() {
+        TokenKind::Equal => {
+            reader.advance();
+            Ok(CmpOp::Eq)
+        }
+        TokenKind::NotEqual => {
+            reader.advance();
+            Ok(CmpOp::Ne)
+        }
+        TokenKind::Less => {
+            reader.advance();
+            Ok(CmpOp::Lt)
+        }
+        TokenKind::LessEqual => {
+            reader.advance();
+            Ok(CmpOp::Le)
+        }
+        TokenKind::Greater => {
+            reader.advance();
+            Ok(CmpOp::Gt)
+        }
+        TokenKind::GreaterEqual => {
+            reader.advance();
+            Ok(CmpOp::Ge)
+        }
+        _ => Err(wrong(reader)),
+    }
+}
+
+/// The right side of a comparison.
+#[tactic(auto, using(crate::proofs::BookSteps::term_number_leads, crate::proofs::BookSteps::term_number_fails, crate::proofs::BookSteps::term_string_leads, crate::proofs::BookSteps::term_string_fails, crate::proofs::BookSteps::term_column_leads, crate::proofs::BookSteps::term_column_fails, crate::proofs::PlanSpelled::column_term_is, crate::proofs::PlanSpelled::literal_term_is))]
+fn term(alloc: Global, reader: &mut Reader) -> Result<Term, BookFault>
+    ensures reads { Reads (ATerm ∷ []) reader.old reader.new result }
+    ensures is { IfOk result (λ term. IsTerm reader.old.rest reader.new.rest term) }
+    ensures shrinks { Shrinks reader.old reader.new result }
+{
+    match reader.kind() {
+        TokenKind::Number => Ok(Term::Lit(literal(alloc, reader)?)),
+        TokenKind::Str => Ok(Term::Lit(literal(alloc, reader)?)),
+        _ => Ok(Term::Col(column(alloc, reader)?)),
+    }
+}
+
+/// A comparison.
+#[tactic(auto, using(crate::proofs::BookSteps::compare_opens, crate::proofs::BookSteps::compare_many, crate::proofs::BookSteps::compare_long, crate::proofs::BookSteps::prim_fails, crate::proofs::BookSteps::column_more, crate::proofs::BookSpelled::column_is, crate::proofs::Steps::open_2, crate::proofs::Steps::open_fails_1, crate::proofs::Steps::open_fails_2, crate::proofs::Steps::no_memory, crate::proofs::PlanSpelled::compared_is, crate::proofs::Steps::shrinks))]
+fn comparison(alloc: Global, reader: &mut Reader, depth: u32) -> Result<PredTree, BookFault>
+    requires not { (head_of reader.old.rest).kind ≡ kinds.Not → ⊥ }
+    requires open { (head_of reader.old.rest).kind ≡ kinds.Open → ⊥ }
+    ensures reads { Reads (APrim depth ∷ []) reader.old reader.new result }
+    ensures is { IfOk result (λ pred. IsPrim reader.old.rest reader.new.rest (pred_image pred)) }
+    ensures shrinks { Shrinks reader.old reader.new result }
+{
+    let at = reader.at();
+    if !is_column(reader.kind()) {
+        return Err(wrong(reader));
+    }
+    let compares = reader.compares();
+    if compares >= 128 {
+        return Err(BookFault::TooMany {
+            at,
+            what: Many::Compares,
+        });
+    }
+    if !is_short(reader) {
+        return Err(BookFault::TooMany {
+            at,
+            what: Many::NameBytes,
+        });
+    }
+    let left = column_in_hand(alloc, reader)?;
+    let nodes = reader.nodes();
+    reader.advance_to(nodes, compares + 1);
+    let op = op(reader)?;
+    let right = term(alloc, reader)?;
+    Ok(PredTree::Cmp(left, op, right))
+}
+
+/// A predicate without `and` and `or` of its own.
+#[tactic(auto, using(crate::proofs::BookSteps::not_opens, crate::proofs::BookSteps::not_deep, crate::proofs::BookSteps::bracket_opens, crate::proofs::BookSteps::bracket_deep, crate::proofs::Steps::open_1, crate::proofs::Steps::open_fails_1, crate::proofs::Sequences::open_block_3_1, crate::proofs::Sequences::open_block_3_1_fails_1, crate::proofs::Sequences::open_block_3_1_fails_2, crate::proofs::PlanSpelled::negated_is, crate::proofs::PlanSpelled::bracketed_is, crate::proofs::Steps::shrinks, crate::proofs::Steps::no_memory))]
+#[cycle(pred)]
+fn prim(alloc: Global, reader: &mut Reader, depth: u32) -> Result<PredTree, BookFault>
+    requires { depth ≤ 32 }
+    ensures reads { Reads (APrim depth ∷ []) reader.old reader.new result }
+    ensures is { IfOk result (λ pred. IsPrim reader.old.rest reader.new.rest (pred_image pred)) }
+    ensures shrinks { Shrinks reader.old reader.new result }
+{
+    let at = reader.at();
+    match reader.kind() {
+        TokenKind::Not => {
+            if depth >= 32 {
+                return Err(BookFault::TooMany {
+                    at,
+                    what: Many::Depth,
+                });
+            }
+            reader.advance();
+            let inner = prim(alloc, reader, depth + 1)?;
+            Ok(PredTree::Not(Box::new(alloc, inner)?))
+        }
+        TokenKind::Open => {
+            if depth >= 32 {
+                return Err(BookFault::TooMany {
+                    at,
+                    what: Many::Depth,
+                });
+            }
+            reader.advance();
+            let inner = pred(alloc, reader, depth + 1)?;
+            let _ = expect(reader, TokenKind::Close)?;
+            Ok(inner)
+        }
+        _ => comparison(alloc, reader, depth),
+    }
+}
+
+/// Predicates joined by `and`.
+#[tactic(auto, using(crate::proofs::PlanSpelled::ands_begin, crate::proofs::PlanSpelled::ands_first_fail, crate::proofs::PlanSpelled::ands_fail, crate::proofs::PlanSpelled::ands_end, crate::proofs::PlanSpelled::ands_goes, crate::proofs::PlanSpelled::conj_goes_here, crate::proofs::Steps::shrinks, crate::proofs::PlanSpelled::conj_begins, crate::proofs::PlanSpelled::conj_ends, crate::proofs::Steps::no_memory))]
+#[cycle(pred)]
+fn conj(alloc: Global, reader: &mut Reader, depth: u32) -> Result<PredTree, BookFault>
+    requires { depth ≤ 32 }
+    ensures reads { Reads (APrim depth ∷ AnAnds depth ∷ []) reader.old reader.new result }
+    ensures is { IfOk result (λ pred. IsConj reader.old.rest reader.new.rest (pred_image pred)) }
+    ensures shrinks { Shrinks reader.old reader.new result }
+{
+    let mut left = prim(alloc, reader, depth)?;
+    'ands: while let TokenKind::And = reader.kind() {
+        reader.advance();
+        let right = prim(alloc, reader, depth)?;
+        left = PredTree::And(Box::new(alloc, left)?, Box::new(alloc, right)?);
+    }
+    Ok(left)
+}
+
+/// Predicates joined by `or`.
+#[tactic(auto, using(crate::proofs::PlanSpelled::ors_begin, crate::proofs::PlanSpelled::ors_first_fail, crate::proofs::PlanSpelled::ors_fail, crate::proofs::PlanSpelled::ors_end, crate::proofs::PlanSpelled::ors_goes, crate::proofs::PlanSpelled::pred_goes_here, crate::proofs::Steps::shrinks, crate::proofs::PlanSpelled::pred_begins, crate::proofs::PlanSpelled::pred_ends, crate::proofs::Steps::no_memory))]
+#[cycle(pred)]
+pub fn pred(alloc: Global, reader: &mut Reader, depth: u32) -> Result<PredTree, BookFault>
+    requires { depth ≤ 32 }
+    ensures reads { Reads (APrim depth ∷ AnAnds depth ∷ AnOrs depth ∷ []) reader.old reader.new result }
+    ensures is { IfOk result (λ pred. IsPred reader.old.rest reader.new.rest (pred_image pred)) }
+    ensures shrinks { Shrinks reader.old reader.new result }
+{
+    let mut left = conj(alloc, reader, depth)?;
+    'ors: while let TokenKind::Or = reader.kind() {
+        reader.advance();
+        let right = conj(alloc, reader, depth)?;
+        left = PredTree::Or(Box::new(alloc, left)?, Box::new(alloc, right)?);
+    }
+    Ok(left)
+}

@@ -1,0 +1,145 @@
+ghost use Rattle.std.specs.Prelude.{◌≡◌, ◌≤◌, ◌≤ℤ◌, ◌∷◌, pos, length, drop, IsTrue};
+ghost use Rattle.smk_base.specs.declared.token.TokenKind.TheVariants.{Number};
+ghost use Rattle.smk_model.specs.Tokens.{tokens, tokens_from, head_of, tail_of, is_more, int_value};
+ghost use Rattle.smk_model.specs.Machine.{State, Counts, no_counts};
+ghost use Rattle.smk_parse.specs.Readers.{left_at, Stands, Advances};
+
+use crate::front::{Front, front_at};
+use crate::numbers::int_of;
+use smk_base::TokenKind;
+use std::marker::Model;
+
+/// Where a token lies.
+#[derive(Clone, Copy, Debug)]
+struct Found {
+    place: usize,
+    kind: TokenKind,
+    len: usize,
+}
+
+/// The first token from a place on.
+#[tactic(auto, using(crate::proofs::Streams::gap_goes, crate::proofs::Streams::token_goes))]
+fn token_from(text: &[u8], from: usize) -> Found
+    requires { from ≤ length text.now }
+    ensures is { left_at result.kind result.place result.len (drop result.place text.now) ≡ tokens_from 0 from (drop from text.now) }
+    ensures stands { Stands result.kind result.place result.len text.now }
+{
+    let mut place = from;
+    loop {
+        match front_at(&text[place..]) {
+            Front::Between(len) => place += len,
+            Front::Begins(kind, len) => return Found { place, kind, len },
+        }
+    }
+}
+
+/// A text with its next token in hand, and what is counted of its tokens. Contracts see the tokens that are left.
+#[derive(Drop)]
+pub struct Reader<'t> {
+    text: &'t [u8],
+    place: usize,
+    kind: TokenKind,
+    len: usize,
+    nodes: u32,
+    compares: u32,
+}
+
+impl<'t> Model for Reader<'t> {
+    ghost use Rattle.std.specs.Prelude.{drop};
+    ghost use Rattle.smk_model.specs.Machine.{State};
+    ghost use Rattle.smk_parse.specs.Readers.{left_at, Stands};
+
+    ghost Value = { State };
+
+    ghost view = { λ a. record { rest = left_at a.kind a.place a.len (drop a.place a.text.now); counts = record { nodes = a.nodes; compares = a.compares } } };
+
+    ghost invariant = { λ a. Stands a.kind a.place a.len a.text.now };
+}
+
+impl<'t> Reader<'t> {
+    /// The text from its first token on.
+    pub fn new(text: &'t [u8]) -> Reader<'t>
+        ensures { result ≡ record { rest = tokens text.now; counts = no_counts } }
+    {
+        let found = token_from(text, 0);
+        Reader {
+            text,
+            place: found.place,
+            kind: found.kind,
+            len: found.len,
+            nodes: 0,
+            compares: 0,
+        }
+    }
+
+    /// The kind of the token in hand.
+    pub fn kind(&self) -> TokenKind
+        ensures is { result ≡ (head_of self.now.rest).kind }
+        ensures here { self.now.rest ≡ head_of self.now.rest ∷ tail_of self.now.rest }
+    {
+        self.kind
+    }
+
+    /// The place of the token in hand.
+    pub fn at(&self) -> u64
+        ensures { result ≡ (head_of self.now.rest).at }
+    {
+        self.place as u64
+    }
+
+    /// The bytes of the token in hand.
+    pub fn bytes(&self) -> &'t [u8]
+        ensures { result.now ≡ (head_of self.now.rest).text }
+    {
+        let end = self.place + self.len;
+        &self.text[self.place..end]
+    }
+
+    /// The value of the number in hand.
+    pub fn int(&self) -> i128
+        requires { (head_of self.now.rest).kind ≡ Number }
+        ensures is { result ≡ int_value (head_of self.now.rest).text }
+        ensures small { result ≤ℤ pos 9223372036854775807 }
+    {
+        let end = self.place + self.len;
+        int_of(&self.text[self.place..end])
+    }
+
+    /// On to the next token.
+    pub fn advance(&mut self)
+        requires { IsTrue (is_more (head_of self.old.rest).kind) }
+        ensures { Advances self.old.counts self.old self.new }
+    {
+        let found = token_from(self.text, self.place + self.len);
+        self.place = found.place;
+        self.kind = found.kind;
+        self.len = found.len;
+    }
+
+    /// On to the next token, with these counts.
+    pub fn advance_to(&mut self, nodes: u32, compares: u32)
+        requires { IsTrue (is_more (head_of self.old.rest).kind) }
+        ensures { Advances (record { nodes = nodes; compares = compares }) self.old self.new }
+    {
+        let found = token_from(self.text, self.place + self.len);
+        self.place = found.place;
+        self.kind = found.kind;
+        self.len = found.len;
+        self.nodes = nodes;
+        self.compares = compares;
+    }
+
+    /// The number of nodes so far.
+    pub fn nodes(&self) -> u32
+        ensures { result ≡ self.now.counts.nodes }
+    {
+        self.nodes
+    }
+
+    /// The number of comparisons so far.
+    pub fn compares(&self) -> u32
+        ensures { result ≡ self.now.counts.compares }
+    {
+        self.compares
+    }
+}

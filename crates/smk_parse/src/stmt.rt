@@ -1,0 +1,261 @@
+ghost use Rattle.std.specs.Prelude.{◌≡◌, ◌∷◌, ◌<◌, ◌≤◌, [], List, length, IfOk, OnOk};
+ghost use Rattle.smk_base.specs.declared.token.TokenKind.TheVariants as kinds;
+ghost use Rattle.smk_base.specs.TreeImage.{stmt_image};
+ghost use Rattle.smk_model.specs.Tokens.{Token, head_of};
+ghost use Rattle.smk_model.specs.Grammar.{First, IsFile, IsExtra, IsStmt};
+ghost use Rattle.smk_model.specs.Machine.{AToken, AName, AFirst, AType, ADefault, MoreDecls, ASource, ASteps, ALineage, AnExtra, ALinked, MoreLinked};
+ghost use Rattle.smk_parse.specs.Reads.{Reads, Shrinks};
+ghost use Rattle.smk_parse.specs.Tallies.{StmtReads};
+
+use crate::lists::{grouping, listed_decls, listed_linked};
+use crate::names::{column, name};
+use crate::plan::plan;
+use crate::reader::Reader;
+use crate::taken::{expect, string_in_hand, wrong};
+use smk_base::{BookFault, Extra, Many, Stmt, Text, TokenKind};
+use std::alloc::Global;
+
+/// The statements of each kind so far.
+#[derive(Clone, Copy, Debug)]
+pub struct Tally {
+    pub tables: u32,
+    pub views: u32,
+    pub lineages: u32,
+    pub links: u32,
+}
+
+/// The name of a file.
+#[tactic(auto, using(crate::proofs::StmtSpelled::file_leads, crate::proofs::StmtSpelled::file_fails, crate::proofs::StmtSpelled::file_here, crate::proofs::Steps::no_memory, crate::proofs::Steps::shrinks))]
+fn file(alloc: Global, reader: &mut Reader) -> Result<Text, BookFault>
+    ensures reads { Reads (AToken kinds.Str ∷ []) reader.old reader.new result }
+    ensures is { IfOk result (λ file. IsFile reader.old.rest reader.new.rest file) }
+    ensures shrinks { Shrinks reader.old reader.new result }
+{
+    match reader.kind() {
+        TokenKind::Str => {
+            let file = string_in_hand(alloc, reader)?;
+            reader.advance();
+            Ok(file)
+        }
+        _ => Err(wrong(reader)),
+    }
+}
+
+/// A table statement behind its keyword.
+#[tactic(auto, using(crate::proofs::Sequences::seq_table, crate::proofs::Sequences::seq_table_fails_1, crate::proofs::Sequences::seq_table_fails_2, crate::proofs::Sequences::seq_table_fails_3, crate::proofs::Sequences::seq_table_fails_4, crate::proofs::Sequences::seq_table_fails_5, crate::proofs::Sequences::seq_table_fails_6, crate::proofs::StmtSpelled::table_is))]
+fn table_stmt(alloc: Global, reader: &mut Reader) -> Result<Stmt, BookFault>
+    ensures reads { Reads (AName ∷ AToken kinds.From ∷ AToken kinds.Str ∷ AToken kinds.Open ∷ AFirst 0 ∷ AType ∷ ADefault ∷ MoreDecls 1 ∷ AToken kinds.Close ∷ []) reader.old reader.new result }
+    ensures is { IfOk result (λ stmt. (a : List Token) → (t : Token) → First kinds.Table t a reader.old.rest → IsStmt a reader.new.rest (stmt_image stmt)) }
+    ensures shrinks { Shrinks reader.old reader.new result }
+{
+    let name = name(alloc, reader)?;
+    let _ = expect(reader, TokenKind::From)?;
+    let file = file(alloc, reader)?;
+    let _ = expect(reader, TokenKind::Open)?;
+    let cols = listed_decls(alloc, reader)?;
+    let _ = expect(reader, TokenKind::Close)?;
+    Ok(Stmt::Table { name, file, cols })
+}
+
+/// A view statement behind its keyword.
+#[tactic(auto, using(crate::proofs::Sequences::seq_view, crate::proofs::Sequences::seq_view_fails_1, crate::proofs::Sequences::seq_view_fails_2, crate::proofs::Sequences::seq_view_fails_3, crate::proofs::StmtSpelled::view_is))]
+fn view_stmt(alloc: Global, reader: &mut Reader) -> Result<Stmt, BookFault>
+    ensures reads { Reads (AName ∷ AToken kinds.Equal ∷ ASource 0 ∷ ASteps 0 ∷ []) reader.old reader.new result }
+    ensures is { IfOk result (λ stmt. (a : List Token) → (t : Token) → First kinds.View t a reader.old.rest → IsStmt a reader.new.rest (stmt_image stmt)) }
+    ensures shrinks { Shrinks reader.old reader.new result }
+{
+    let name = name(alloc, reader)?;
+    let _ = expect(reader, TokenKind::Equal)?;
+    let plan = plan(alloc, reader, 0)?;
+    Ok(Stmt::View { name, plan })
+}
+
+/// What a backward declaration asks for besides the rows.
+#[tactic(auto, using(crate::proofs::BookSteps::extra_by, crate::proofs::BookSteps::extra_group, crate::proofs::BookSteps::extra_nothing, crate::proofs::Steps::open_1, crate::proofs::Steps::open_fails_1, crate::proofs::Steps::open_leads, crate::proofs::Steps::open_fails, crate::proofs::StmtSpelled::by_is, crate::proofs::StmtSpelled::group_extra_is, crate::proofs::StmtSpelled::no_extra_is, crate::proofs::Steps::shrinks))]
+fn extra(alloc: Global, reader: &mut Reader) -> Result<Extra, BookFault>
+    ensures reads { Reads (AnExtra ∷ []) reader.old reader.new result }
+    ensures is { IfOk result (λ extra. IsExtra reader.old.rest reader.new.rest extra) }
+    ensures shrinks { OnOk result (length reader.new.rest ≤ length reader.old.rest) }
+{
+    let at = reader.at();
+    match reader.kind() {
+        TokenKind::By => {
+            reader.advance();
+            Ok(Extra::By(column(alloc, reader)?))
+        }
+        TokenKind::Group => {
+            reader.advance();
+            let (keys, aggs) = grouping(alloc, reader)?;
+            Ok(Extra::Grouped { at, keys, aggs })
+        }
+        _ => Ok(Extra::Plain),
+    }
+}
+
+/// A backward declaration behind `lineage`, which stands at this place.
+#[tactic(auto, using(crate::proofs::BookSteps::lineage_back, crate::proofs::Steps::open_4, crate::proofs::Steps::open_fails_1, crate::proofs::Steps::open_fails_2, crate::proofs::Steps::open_fails_3, crate::proofs::Steps::open_fails_4, crate::proofs::StmtSpelled::back_is, crate::proofs::Steps::shrinks))]
+fn back_stmt(alloc: Global, reader: &mut Reader, at: u64) -> Result<Stmt, BookFault>
+    requires { (head_of reader.old.rest).kind ≡ kinds.Back }
+    ensures reads { Reads (ALineage ∷ []) reader.old reader.new result }
+    ensures is { IfOk result (λ stmt. (a : List Token) → (t : Token) → First kinds.Lineage t a reader.old.rest → at ≡ t.at → IsStmt a reader.new.rest (stmt_image stmt)) }
+    ensures shrinks { Shrinks reader.old reader.new result }
+{
+    let _kind = reader.kind();
+    reader.advance();
+    let view = name(alloc, reader)?;
+    let _ = expect(reader, TokenKind::To)?;
+    let table = name(alloc, reader)?;
+    let extra = extra(alloc, reader)?;
+    Ok(Stmt::Back {
+        at,
+        view,
+        table,
+        extra,
+    })
+}
+
+/// A forward declaration behind `lineage`, which stands at this place.
+#[tactic(auto, using(crate::proofs::BookSteps::lineage_fwd, crate::proofs::Steps::open_3, crate::proofs::Steps::open_fails_1, crate::proofs::Steps::open_fails_2, crate::proofs::Steps::open_fails_3, crate::proofs::StmtSpelled::fwd_is, crate::proofs::Steps::shrinks))]
+fn fwd_stmt(alloc: Global, reader: &mut Reader, at: u64) -> Result<Stmt, BookFault>
+    requires { (head_of reader.old.rest).kind ≡ kinds.Fwd }
+    ensures reads { Reads (ALineage ∷ []) reader.old reader.new result }
+    ensures is { IfOk result (λ stmt. (a : List Token) → (t : Token) → First kinds.Lineage t a reader.old.rest → at ≡ t.at → IsStmt a reader.new.rest (stmt_image stmt)) }
+    ensures shrinks { Shrinks reader.old reader.new result }
+{
+    let _kind = reader.kind();
+    reader.advance();
+    let table = name(alloc, reader)?;
+    let _ = expect(reader, TokenKind::To)?;
+    let view = name(alloc, reader)?;
+    Ok(Stmt::Fwd { at, table, view })
+}
+
+/// A lineage declaration behind `lineage`, which stands at this place.
+#[tactic(auto, using(crate::proofs::BookSteps::lineage_fails))]
+fn lineage_stmt(alloc: Global, reader: &mut Reader, at: u64) -> Result<Stmt, BookFault>
+    ensures reads { Reads (ALineage ∷ []) reader.old reader.new result }
+    ensures is { IfOk result (λ stmt. (a : List Token) → (t : Token) → First kinds.Lineage t a reader.old.rest → at ≡ t.at → IsStmt a reader.new.rest (stmt_image stmt)) }
+    ensures shrinks { Shrinks reader.old reader.new result }
+{
+    match reader.kind() {
+        TokenKind::Back => back_stmt(alloc, reader, at),
+        TokenKind::Fwd => fwd_stmt(alloc, reader, at),
+        _ => Err(wrong(reader)),
+    }
+}
+
+/// A link statement behind its keyword.
+#[tactic(auto, using(crate::proofs::Sequences::seq_link, crate::proofs::Sequences::seq_link_fails_1, crate::proofs::Sequences::seq_link_fails_2, crate::proofs::Sequences::seq_link_fails_3, crate::proofs::Sequences::seq_link_fails_4, crate::proofs::Sequences::seq_link_fails_5, crate::proofs::StmtSpelled::link_is))]
+fn link_stmt(alloc: Global, reader: &mut Reader) -> Result<Stmt, BookFault>
+    ensures reads { Reads (AName ∷ AToken kinds.On ∷ AName ∷ AToken kinds.To ∷ ALinked 0 ∷ MoreLinked 1 ∷ []) reader.old reader.new result }
+    ensures is { IfOk result (λ stmt. (a : List Token) → (t : Token) → First kinds.Link t a reader.old.rest → IsStmt a reader.new.rest (stmt_image stmt)) }
+    ensures shrinks { Shrinks reader.old reader.new result }
+{
+    let view = name(alloc, reader)?;
+    let _ = expect(reader, TokenKind::On)?;
+    let table = name(alloc, reader)?;
+    let _ = expect(reader, TokenKind::To)?;
+    let to = listed_linked(alloc, reader)?;
+    Ok(Stmt::Link { view, table, to })
+}
+
+#[tactic(auto, using(crate::proofs::BookSteps::table_stmt_comes, crate::proofs::BookSteps::table_stmt_fails, crate::proofs::BookSteps::table_too_many, crate::proofs::Steps::first_here, crate::proofs::Steps::shrinks))]
+fn next_table(alloc: Global, reader: &mut Reader, tally: &mut Tally) -> Result<Stmt, BookFault>
+    requires { (head_of reader.old.rest).kind ≡ kinds.Table }
+    ensures reads { StmtReads tally.old tally.new reader.old reader.new result }
+    ensures is { IfOk result (λ stmt. IsStmt reader.old.rest reader.new.rest (stmt_image stmt)) }
+    ensures shrinks { Shrinks reader.old reader.new result }
+{
+    let at = reader.at();
+    let _kind = reader.kind();
+    if tally.tables >= 16 {
+        return Err(BookFault::TooMany {
+            at,
+            what: Many::Tables,
+        });
+    }
+    reader.advance_to(0, 0);
+    let stmt = table_stmt(alloc, reader)?;
+    tally.tables += 1;
+    Ok(stmt)
+}
+
+#[tactic(auto, using(crate::proofs::BookSteps::view_stmt_comes, crate::proofs::BookSteps::view_stmt_fails, crate::proofs::BookSteps::view_too_many, crate::proofs::Steps::first_here, crate::proofs::Steps::shrinks))]
+fn next_view(alloc: Global, reader: &mut Reader, tally: &mut Tally) -> Result<Stmt, BookFault>
+    requires { (head_of reader.old.rest).kind ≡ kinds.View }
+    ensures reads { StmtReads tally.old tally.new reader.old reader.new result }
+    ensures is { IfOk result (λ stmt. IsStmt reader.old.rest reader.new.rest (stmt_image stmt)) }
+    ensures shrinks { Shrinks reader.old reader.new result }
+{
+    let at = reader.at();
+    let _kind = reader.kind();
+    if tally.views >= 64 {
+        return Err(BookFault::TooMany {
+            at,
+            what: Many::Views,
+        });
+    }
+    reader.advance_to(0, 0);
+    let stmt = view_stmt(alloc, reader)?;
+    tally.views += 1;
+    Ok(stmt)
+}
+
+#[tactic(auto, using(crate::proofs::BookSteps::lineage_stmt_comes, crate::proofs::BookSteps::lineage_stmt_fails, crate::proofs::BookSteps::lineage_too_many, crate::proofs::Steps::first_here, crate::proofs::Steps::shrinks))]
+fn next_lineage(alloc: Global, reader: &mut Reader, tally: &mut Tally) -> Result<Stmt, BookFault>
+    requires { (head_of reader.old.rest).kind ≡ kinds.Lineage }
+    ensures reads { StmtReads tally.old tally.new reader.old reader.new result }
+    ensures is { IfOk result (λ stmt. IsStmt reader.old.rest reader.new.rest (stmt_image stmt)) }
+    ensures shrinks { Shrinks reader.old reader.new result }
+{
+    let at = reader.at();
+    let _kind = reader.kind();
+    if tally.lineages >= 256 {
+        return Err(BookFault::TooMany {
+            at,
+            what: Many::Lineages,
+        });
+    }
+    reader.advance_to(0, 0);
+    let stmt = lineage_stmt(alloc, reader, at)?;
+    tally.lineages += 1;
+    Ok(stmt)
+}
+
+#[tactic(auto, using(crate::proofs::BookSteps::link_stmt_comes, crate::proofs::BookSteps::link_stmt_fails, crate::proofs::BookSteps::link_too_many, crate::proofs::Steps::first_here, crate::proofs::Steps::shrinks))]
+fn next_link(alloc: Global, reader: &mut Reader, tally: &mut Tally) -> Result<Stmt, BookFault>
+    requires { (head_of reader.old.rest).kind ≡ kinds.Link }
+    ensures reads { StmtReads tally.old tally.new reader.old reader.new result }
+    ensures is { IfOk result (λ stmt. IsStmt reader.old.rest reader.new.rest (stmt_image stmt)) }
+    ensures shrinks { Shrinks reader.old reader.new result }
+{
+    let at = reader.at();
+    let _kind = reader.kind();
+    if tally.links >= 64 {
+        return Err(BookFault::TooMany {
+            at,
+            what: Many::Links,
+        });
+    }
+    reader.advance_to(0, 0);
+    let stmt = link_stmt(alloc, reader)?;
+    tally.links += 1;
+    Ok(stmt)
+}
+
+/// A statement, which is counted.
+#[tactic(auto, using(crate::proofs::BookSteps::stmts_fail))]
+pub fn stmt(alloc: Global, reader: &mut Reader, tally: &mut Tally) -> Result<Stmt, BookFault>
+    requires { (head_of reader.old.rest).kind ≡ kinds.End → ⊥ }
+    ensures reads { StmtReads tally.old tally.new reader.old reader.new result }
+    ensures is { IfOk result (λ stmt. IsStmt reader.old.rest reader.new.rest (stmt_image stmt)) }
+    ensures shrinks { Shrinks reader.old reader.new result }
+{
+    match reader.kind() {
+        TokenKind::Table => next_table(alloc, reader, tally),
+        TokenKind::View => next_view(alloc, reader, tally),
+        TokenKind::Lineage => next_lineage(alloc, reader, tally),
+        TokenKind::Link => next_link(alloc, reader, tally),
+        _ => Err(wrong(reader)),
+    }
+}

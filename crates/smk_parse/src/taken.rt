@@ -1,0 +1,143 @@
+ghost use Rattle.std.specs.Prelude.{◌≡◌, ◌∷◌, [], ◌<◌, length, IsTrue, false, IfOk, IfErr, OnOk};
+ghost use Rattle.smk_base.specs.declared.token.TokenKind.TheVariants as kinds;
+ghost use Rattle.smk_base.specs.declared.fault.BookFault.TheVariants.{NoMemory};
+ghost use Rattle.smk_model.specs.Tokens.{head_of, is_more, inner, string_value, undoubled};
+ghost use Rattle.smk_model.specs.TokenKinds.{kind_code};
+ghost use Rattle.smk_model.specs.Grammar.{First, IsName, IsColumn, IsLiteral, plain_word};
+ghost use Rattle.smk_model.specs.Machine.{fault_at, AToken, ALineName, ALiteral};
+ghost use Rattle.smk_parse.specs.Reads.{Reads, Shrinks};
+
+use crate::reader::Reader;
+use smk_base::{BookFault, Lit, Text, TokenKind, Value, Word};
+use std::alloc::Global;
+
+/// The number of a kind.
+fn code(kind: TokenKind) -> u8
+    ensures { result ≡ kind_code kind }
+{
+    kind as u8
+}
+
+/// The fault at a token that may not stand here.
+#[tactic(auto, using(crate::proofs::Single::unexpected))]
+pub fn wrong(reader: &Reader) -> BookFault
+    ensures { result ≡ fault_at (head_of reader.now.rest) }
+{
+    let at = reader.at();
+    match reader.kind() {
+        TokenKind::Bad => BookFault::BadToken { at },
+        TokenKind::Huge => BookFault::BadNumber { at },
+        _ => BookFault::Unexpected { at },
+    }
+}
+
+/// A token of this kind, whose place it gives.
+#[tactic(auto, using(crate::proofs::Single::token_leads, crate::proofs::Single::token_fails, crate::proofs::Single::token_first, crate::proofs::Single::token_more, crate::proofs::Steps::shrinks))]
+pub fn expect(reader: &mut Reader, kind: TokenKind) -> Result<u64, BookFault>
+    requires { IsTrue (is_more kind) }
+    ensures reads { Reads (AToken kind ∷ []) reader.old reader.new result }
+    ensures is { OnOk result (First kind (head_of reader.old.rest) reader.old.rest reader.new.rest) }
+    ensures at { IfOk result (λ at. at ≡ (head_of reader.old.rest).at) }
+    ensures shrinks { Shrinks reader.old reader.new result }
+{
+    let at = reader.at();
+    if code(kind) == code(reader.kind()) {
+        reader.advance();
+        Ok(at)
+    } else {
+        Err(wrong(reader))
+    }
+}
+
+/// The bytes of the token in hand, in memory of their own.
+pub fn text_in_hand(alloc: Global, reader: &Reader) -> Result<Text, BookFault>
+    ensures ok { IfOk result (λ text. text ≡ (head_of reader.now.rest).text) }
+    ensures memory { IfErr result (λ fault. fault ≡ NoMemory) }
+{
+    Ok(Text::from_vec(Vec::from_slice(alloc, reader.bytes())?))
+}
+
+/// The bytes between the backquotes of the token in hand.
+#[tactic(auto, using(crate::proofs::Single::inner_slice))]
+pub fn quoted_in_hand(alloc: Global, reader: &Reader) -> Result<Text, BookFault>
+    ensures ok { IfOk result (λ text. text ≡ inner (head_of reader.now.rest).text) }
+    ensures memory { IfErr result (λ fault. fault ≡ NoMemory) }
+{
+    let bytes = reader.bytes();
+    let len = bytes.len().saturating_sub(2);
+    Ok(Text::from_vec(Vec::from_slice(alloc, &bytes[bytes.len().min(1)..][..len])?))
+}
+
+/// The bytes with each pair of quotes as one.
+#[tactic(auto, using(crate::proofs::Single::kept_byte, crate::proofs::Single::second_byte))]
+fn without_pairs(alloc: Global, bytes: &[u8]) -> Result<Text, BookFault>
+    ensures ok { IfOk result (λ text. text ≡ undoubled false bytes.now) }
+    ensures memory { IfErr result (λ fault. fault ≡ NoMemory) }
+{
+    let mut value = Text::new(alloc);
+    let mut second = false;
+    for b in bytes {
+        if second {
+            second = false;
+            continue;
+        }
+        value.push(*b)?;
+        second = *b == b'"';
+    }
+    Ok(value)
+}
+
+/// The value of the string in hand.
+#[tactic(auto, using(crate::proofs::Single::inner_slice))]
+pub fn string_in_hand(alloc: Global, reader: &Reader) -> Result<Text, BookFault>
+    ensures ok { IfOk result (λ text. text ≡ string_value (head_of reader.now.rest).text) }
+    ensures memory { IfErr result (λ fault. fault ≡ NoMemory) }
+{
+    let bytes = reader.bytes();
+    let len = bytes.len().saturating_sub(2);
+    without_pairs(alloc, &bytes[bytes.len().min(1)..][..len])
+}
+
+/// A literal.
+#[tactic(auto, using(crate::proofs::LineSteps::literal_number, crate::proofs::LineSteps::literal_string, crate::proofs::LineSteps::literal_fails, crate::proofs::Single::number_is, crate::proofs::Single::string_is, crate::proofs::Steps::no_memory, crate::proofs::Steps::shrinks))]
+pub fn literal(alloc: Global, reader: &mut Reader) -> Result<Lit, BookFault>
+    ensures reads { Reads (ALiteral ∷ []) reader.old reader.new result }
+    ensures is { IfOk result (λ lit. IsLiteral reader.old.rest reader.new.rest lit) }
+    ensures shrinks { Shrinks reader.old reader.new result }
+{
+    let at = reader.at();
+    match reader.kind() {
+        TokenKind::Number => {
+            let value = Value::Int(reader.int());
+            reader.advance();
+            Ok(Lit { value, at })
+        }
+        TokenKind::Str => {
+            let text = string_in_hand(alloc, reader)?;
+            reader.advance();
+            Ok(Lit {
+                value: Value::Text(text),
+                at,
+            })
+        }
+        _ => Err(wrong(reader)),
+    }
+}
+
+/// A name of any length.
+#[tactic(auto, using(crate::proofs::Single::line_name_leads, crate::proofs::Single::line_name_fails, crate::proofs::Single::name_is, crate::proofs::Steps::no_memory, crate::proofs::Steps::shrinks))]
+pub fn line_name(alloc: Global, reader: &mut Reader) -> Result<Word, BookFault>
+    ensures reads { Reads (ALineName ∷ []) reader.old reader.new result }
+    ensures is { IfOk result (λ word. IsName reader.old.rest reader.new.rest word) }
+    ensures shrinks { Shrinks reader.old reader.new result }
+{
+    let at = reader.at();
+    match reader.kind() {
+        TokenKind::Name => {
+            let name = text_in_hand(alloc, reader)?;
+            reader.advance();
+            Ok(Word { name, at })
+        }
+        _ => Err(wrong(reader)),
+    }
+}
