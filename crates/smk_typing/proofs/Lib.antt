@@ -1,0 +1,11 @@
+pub mod Lookups
+pub mod Unions
+pub mod DraftsGrow
+pub mod Forms
+pub mod Results
+pub mod StepsFit
+pub mod ListsFit
+pub mod PlansFit
+pub mod NodesKept
+pub mod CatalogsFit
+pub mod Books

@@ -1,0 +1,33 @@
+-- What a rule that gave a result was made of.
+use Rattle.std.proofs.Common.{◌≡◌, ◌+◌, ℕ, suc, Bool, true, false, List, [], ◌∷◌, length, Ok, Err, refl, ap, subst, arith, All}
+use Rattle.smk_base.specs.declared.type_fault.TypeFault.{TypeFault}
+use Rattle.smk_model.specs.Names.{Typed, ◌>>=◌, unless, in_turn}
+
+-- the first of two rules gave a result, from which the second made this one
+pub made_of : {A B : Type 0} (first : Typed A) (next : A → Typed B) (b : B) → (first >>= next) ≡ Ok b → (a : A) × (first ≡ Ok a) × (next a ≡ Ok b)
+made_of (Ok a) next b e = (a, refl, e)
+made_of (Err fault) next b e = absurd (cc e)
+
+-- the fault does not hold where there is a result
+pub unless_ok : {A : Type 0} (wrong : Bool) (fault : TypeFault) (found : Typed A) (a : A) → unless wrong fault found ≡ Ok a → (wrong ≡ false) × (found ≡ Ok a)
+unless_ok true fault found a e = absurd (cc e)
+unless_ok false fault found a e = (refl, e)
+
+pub ok_same : {A : Type 0} (a b : A) → (let found : Typed A = Ok a in found) ≡ Ok b → a ≡ b
+ok_same a b e = cc e
+
+-- what each member of a list keeps, the whole list keeps
+pub in_turn_keeps : {A X : Type 0} (P : A → Type 0) (Q : X → Type 0) (rule : A → X → Typed A) → ((a b : A) (x : X) → P a → Q x → rule a x ≡ Ok b → P b)
+    → (a b : A) (xs : List X) → P a → All Q xs → in_turn rule a xs ≡ Ok b → P b
+in_turn_keeps P Q rule step a b [] held all e = let same : a ≡ b = cc e in subst P same held
+in_turn_keeps P Q rule step a b (x ∷ xs) held all e =
+    let first = made_of (rule a x) (λ more. in_turn rule more xs) b e in
+    in_turn_keeps P Q rule step first.0 b xs (step a first.0 x held (all 0 x (omega arith)) first.1) (λ k d p. all (suc k) d (omega arith)) first.2
+
+-- a list of which each member adds one
+pub in_turn_long : {A X : Type 0} (size : A → ℕ) (rule : A → X → Typed A) → ((a b : A) (x : X) → rule a x ≡ Ok b → size b ≡ size a + 1)
+    → (a b : A) (xs : List X) → in_turn rule a xs ≡ Ok b → size b ≡ size a + length xs
+in_turn_long size rule step a b [] e = let same : a ≡ b = cc e in omega (arith, ap size same)
+in_turn_long size rule step a b (x ∷ xs) e =
+    let first = made_of (rule a x) (λ more. in_turn rule more xs) b e in
+    omega (arith, step a first.0 x first.1, in_turn_long size rule step first.0 b xs first.2)

@@ -1,0 +1,5 @@
+pub mod Answers
+pub mod Images
+pub mod Turns
+pub mod Drafts
+pub mod Rest

@@ -1,0 +1,137 @@
+ghost use Rattle.std.specs.Prelude.{◌≡◌, ◌+◌, ◌≤◌, [], length, IfOk, OnOk};
+ghost use Rattle.std.specs.List.{list_any};
+ghost use Rattle.smk_model.specs.Names.{in_turn, same_name, names_of, kinds_of};
+ghost use Rattle.smk_model.specs.Typing as typing;
+ghost use Rattle.smk_typing.specs.Answers.{Finds};
+
+use crate::columns::{column_named, is_same_sort, kind_of_value};
+use crate::lists::typed_group;
+use crate::typed::Group;
+use smk_base::{
+    BackExtra, ColDecl, ColDecls, ColNames, Column, Decl, Extra, Kind, Kinds, TypeFault, Word,
+};
+use std::alloc::Global;
+
+/// The kind that a declaration gives its column.
+fn declared_kind(text: bool) -> Kind
+    ensures { result ≡ typing.declared_kind text }
+{
+    if text {
+        Kind::Text
+    } else {
+        Kind::Int { level: 0 }
+    }
+}
+
+/// A declared column, unless its default has another kind.
+fn declared_column(alloc: Global, decl: &Decl) -> Result<ColDecl, TypeFault>
+    ensures { Finds result (typing.declared_column decl.now decl.now.def) (λ col. col) }
+{
+    let kind = declared_kind(decl.text);
+    match &decl.def {
+        None => {
+            let name = decl.name.name.copy(alloc)?;
+            Ok(ColDecl {
+                name,
+                kind,
+                def: None,
+            })
+        }
+        Some(literal) => {
+            if !is_same_sort(kind, kind_of_value(&literal.value)) {
+                return Err(TypeFault::KindMismatch { at: literal.at });
+            }
+            let name = decl.name.name.copy(alloc)?;
+            let value = literal.value.copy(alloc)?;
+            Ok(ColDecl {
+                name,
+                kind,
+                def: Some(value),
+            })
+        }
+    }
+}
+
+/// Whether a column is declared under this name. A declaration has at most 16 columns.
+fn is_declared(cols: &[ColDecl], word: &Word) -> bool
+    ensures { result ≡ list_any (λ col. same_name word.now.name col.name) cols.now }
+{
+    cols.iter().any(|col| word.name == col.name)
+}
+
+/// Puts a declared column last.
+fn add_decl(alloc: Global, cols: &mut ColDecls, decl: &Decl) -> Result<(), TypeFault>
+    ensures after { Finds result (typing.decl_after cols.old decl.now) (λ _. cols.new) }
+    ensures longer { OnOk result (length cols.new ≡ length cols.old + 1) }
+{
+    if is_declared(cols.as_slice(), &decl.name) {
+        return Err(TypeFault::DuplicateName { at: decl.name.at });
+    }
+    let col = declared_column(alloc, decl)?;
+    cols.push(col)?;
+    Ok(())
+}
+
+/// The columns of a declaration.
+pub fn declared(alloc: Global, decls: &[Decl]) -> Result<ColDecls, TypeFault>
+    ensures columns { Finds result (in_turn typing.decl_after [] decls.now) (λ cols. cols) }
+    ensures width { IfOk result (λ cols. length cols ≡ length decls.now) }
+{
+    let mut cols = ColDecls::new(alloc);
+    for decl in decls {
+        add_decl(alloc, &mut cols, decl)?;
+    }
+    Ok(cols)
+}
+
+/// The names of columns.
+pub fn names_of_columns(alloc: Global, columns: &[Column]) -> Result<ColNames, TypeFault>
+    ensures { Finds result (Ok (names_of columns.now)) (λ names. names) }
+{
+    let mut names = ColNames::new(alloc);
+    for column in columns {
+        names.push(column.name.copy(alloc)?)?;
+    }
+    Ok(names)
+}
+
+/// The kinds of columns.
+pub fn kinds_of_columns(alloc: Global, columns: &[Column]) -> Result<Kinds, TypeFault>
+    ensures { Finds result (Ok (kinds_of columns.now)) (λ kinds. kinds) }
+{
+    let mut kinds = Kinds::new(alloc);
+    for column in columns {
+        kinds.push(column.kind)?;
+    }
+    Ok(kinds)
+}
+
+/// What a backward declaration asks for over the columns of its table.
+pub fn typed_extra(alloc: Global, columns: &[Column], extra: &Extra) -> Result<BackExtra, TypeFault>
+    requires { length columns.now ≤ 16 }
+    ensures { Finds result (typing.typed_extra columns.now extra.now) (λ asked. asked) }
+{
+    match extra {
+        Extra::Plain => Ok(BackExtra::Plain),
+        Extra::By(word) => {
+            let (number, _) = column_named(columns, word)?;
+            Ok(BackExtra::By(number))
+        }
+        Extra::Grouped { at, keys, aggs } => {
+            let group = typed_group(alloc, columns, *at, keys.as_slice(), aggs.as_slice())?;
+            let Group {
+                keys,
+                aggs,
+                columns,
+            } = group;
+            let names = names_of_columns(alloc, columns.as_slice())?;
+            let kinds = kinds_of_columns(alloc, columns.as_slice())?;
+            Ok(BackExtra::Grouped {
+                keys,
+                aggs,
+                names,
+                kinds,
+            })
+        }
+    }
+}

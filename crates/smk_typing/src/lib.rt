@@ -1,0 +1,22 @@
+//! Typing: a book as it is written becomes a catalog, in which tables, views and columns are numbers that name something and every kind is right.
+#![tactic(auto)]
+
+mod book;
+mod columns;
+mod declared;
+mod draft;
+mod links;
+mod lists;
+mod plan;
+mod predicate;
+mod pushes;
+mod sides;
+mod statements;
+#[cfg(test)]
+mod tests;
+mod typed;
+mod typed_book;
+
+pub use book::check;
+pub use smk_base::TypeFault;
+pub use typed_book::TypedBook;

@@ -1,0 +1,274 @@
+ghost use Rattle.std.specs.Prelude.{◌≡◌, ◌≤◌, ◌+◌, [], length, OnOk, IfOk};
+ghost use Rattle.smk_model.specs.Names.{in_turn};
+ghost use Rattle.smk_model.specs.TypedSteps as steps;
+ghost use Rattle.smk_typing.specs.Answers.{Finds};
+ghost use Rattle.smk_typing.specs.Images.{group_of};
+
+use crate::columns::{column_named, has_column, is_same_sort};
+use crate::typed::Group;
+use smk_base::{
+    Agg, AggTree, AggWhat, Aggs, Column, Columns, Item, ItemTree, Items, Keys, Kind, PairTree,
+    Pairs, TypeFault, Word,
+};
+use std::alloc::Global;
+
+/// A column under a name.
+fn named(alloc: Global, name: &Word, kind: Kind) -> Result<Column, TypeFault>
+    ensures { Finds result (Ok (steps.named name.now kind)) (λ column. column) }
+{
+    let name = name.name.copy(alloc)?;
+    Ok(Column { name, kind })
+}
+
+/// The word that an item has as name.
+fn item_name(tree: &ItemTree) -> &Word
+    ensures { result.now ≡ steps.item_name tree.now }
+{
+    match tree {
+        ItemTree::Col { name, .. } => name,
+        ItemTree::Bin { name, .. } => name,
+    }
+}
+
+/// An item with its kind.
+fn typed_item(columns: &[Column], tree: &ItemTree) -> Result<(Item, Kind), TypeFault>
+    requires { length columns.now ≤ 16 }
+    ensures { Finds result (steps.typed_item columns.now tree.now) (λ item. item) }
+{
+    match tree {
+        ItemTree::Col { col, .. } => {
+            let (number, kind) = column_named(columns, col)?;
+            Ok((Item::Col(number), kind))
+        }
+        ItemTree::Bin { col, width, .. } => {
+            let (number, kind) = column_named(columns, col)?;
+            match kind {
+                Kind::Text => Err(TypeFault::KindMismatch { at: col.at }),
+                Kind::Int { .. } => Ok((
+                    Item::Bin {
+                        col: number,
+                        width: *width,
+                    },
+                    kind,
+                )),
+            }
+        }
+    }
+}
+
+/// Puts an item and its column last.
+fn add_item(
+    alloc: Global,
+    columns: &[Column],
+    items: &mut Items,
+    made: &mut Columns,
+    tree: &ItemTree,
+) -> Result<(), TypeFault>
+    requires { length columns.now ≤ 16 }
+    ensures after { Finds result (steps.item_after columns.now (items.old, made.old) tree.now) (λ _. (items.new, made.new)) }
+    ensures longer { OnOk result (length made.new ≡ length made.old + 1) }
+{
+    let (item, kind) = typed_item(columns, tree)?;
+    let name = item_name(tree);
+    if has_column(made.as_slice(), name) {
+        return Err(TypeFault::DuplicateName { at: name.at });
+    }
+    items.push(item)?;
+    made.push(named(alloc, name, kind)?)?;
+    Ok(())
+}
+
+/// A list of items, and the columns that it makes.
+pub fn typed_items(
+    alloc: Global,
+    columns: &[Column],
+    trees: &[ItemTree],
+) -> Result<(Items, Columns), TypeFault>
+    requires { length columns.now ≤ 16 }
+    ensures items { Finds result (steps.typed_items columns.now trees.now) (λ made. made) }
+    ensures width { IfOk result (λ made. length made.1 ≡ length trees.now) }
+{
+    let mut items = Items::new(alloc);
+    let mut made = Columns::new(alloc);
+    for tree in trees {
+        add_item(alloc, columns, &mut items, &mut made, tree)?;
+    }
+    Ok((items, made))
+}
+
+/// Puts a key and its column last.
+fn add_key(
+    alloc: Global,
+    columns: &[Column],
+    keys: &mut Keys,
+    made: &mut Columns,
+    word: &Word,
+) -> Result<(), TypeFault>
+    requires { length columns.now ≤ 16 }
+    ensures { Finds result (steps.key_after columns.now (keys.old, made.old) word.now) (λ _. (keys.new, made.new)) }
+{
+    let (number, kind) = column_named(columns, word)?;
+    if has_column(made.as_slice(), word) {
+        return Err(TypeFault::DuplicateName { at: word.at });
+    }
+    keys.push(number)?;
+    made.push(named(alloc, word, kind)?)?;
+    Ok(())
+}
+
+/// A list of keys, and the columns that it makes.
+fn typed_keys(
+    alloc: Global,
+    columns: &[Column],
+    words: &[Word],
+) -> Result<(Keys, Columns), TypeFault>
+    requires { length columns.now ≤ 16 }
+    ensures { Finds result (in_turn (steps.key_after columns.now) ([], []) words.now) (λ made. made) }
+{
+    let mut keys = Keys::new(alloc);
+    let mut made = Columns::new(alloc);
+    for word in words {
+        add_key(alloc, columns, &mut keys, &mut made, word)?;
+    }
+    Ok((keys, made))
+}
+
+/// The sum of a column.
+fn typed_sum(word: &Word, number: u32, kind: Kind) -> Result<(Agg, Kind), TypeFault>
+    ensures { Finds result (steps.typed_sum word.now number kind) (λ agg. agg) }
+{
+    match kind {
+        Kind::Text => Err(TypeFault::KindMismatch { at: word.at }),
+        Kind::Int { level } => {
+            if level > 2 {
+                return Err(TypeFault::SumTooDeep { at: word.at });
+            }
+            Ok((Agg::Sum(number), Kind::Int { level: level + 1 }))
+        }
+    }
+}
+
+/// An aggregate with its kind.
+fn typed_agg(columns: &[Column], what: &AggWhat) -> Result<(Agg, Kind), TypeFault>
+    requires { length columns.now ≤ 16 }
+    ensures { Finds result (steps.typed_agg columns.now what.now) (λ agg. agg) }
+{
+    match what {
+        AggWhat::Count => Ok((Agg::Count, Kind::Int { level: 0 })),
+        AggWhat::Sum(word) => {
+            let (number, kind) = column_named(columns, word)?;
+            typed_sum(word, number, kind)
+        }
+        AggWhat::Min(word) => {
+            let (number, kind) = column_named(columns, word)?;
+            Ok((Agg::Min(number), kind))
+        }
+        AggWhat::Max(word) => {
+            let (number, kind) = column_named(columns, word)?;
+            Ok((Agg::Max(number), kind))
+        }
+    }
+}
+
+/// Puts an aggregate and its column last.
+fn add_agg(
+    alloc: Global,
+    columns: &[Column],
+    aggs: &mut Aggs,
+    made: &mut Columns,
+    tree: &AggTree,
+) -> Result<(), TypeFault>
+    requires { length columns.now ≤ 16 }
+    ensures { Finds result (steps.agg_after columns.now (aggs.old, made.old) tree.now) (λ _. (aggs.new, made.new)) }
+{
+    let (agg, kind) = typed_agg(columns, &tree.what)?;
+    if has_column(made.as_slice(), &tree.name) {
+        return Err(TypeFault::DuplicateName { at: tree.name.at });
+    }
+    aggs.push(agg)?;
+    made.push(named(alloc, &tree.name, kind)?)?;
+    Ok(())
+}
+
+/// A list of aggregates, whose columns come after those of the keys.
+fn typed_aggs(
+    alloc: Global,
+    columns: &[Column],
+    of_keys: Columns,
+    trees: &[AggTree],
+) -> Result<(Aggs, Columns), TypeFault>
+    requires { length columns.now ≤ 16 }
+    ensures { Finds result (in_turn (steps.agg_after columns.now) ([], of_keys) trees.now) (λ made. made) }
+{
+    let mut aggs = Aggs::new(alloc);
+    let mut made = of_keys;
+    for tree in trees {
+        add_agg(alloc, columns, &mut aggs, &mut made, tree)?;
+    }
+    Ok((aggs, made))
+}
+
+/// A grouping at the place of `group`.
+pub fn typed_group(
+    alloc: Global,
+    columns: &[Column],
+    at: u64,
+    words: &[Word],
+    trees: &[AggTree],
+) -> Result<Group, TypeFault>
+    requires { length columns.now ≤ 16 }
+    ensures group { Finds result (steps.typed_group columns.now at words.now trees.now) group_of }
+    ensures width { IfOk result (λ group. length group.columns ≤ 16) }
+{
+    let (keys, of_keys) = typed_keys(alloc, columns, words)?;
+    let (aggs, made) = typed_aggs(alloc, columns, of_keys, trees)?;
+    if made.as_slice().is_empty() {
+        return Err(TypeFault::EmptyList { at });
+    }
+    if made.as_slice().len() > 16 {
+        return Err(TypeFault::RowTooWide { at });
+    }
+    Ok(Group {
+        keys,
+        aggs,
+        columns: made,
+    })
+}
+
+/// Puts a pair of a join last.
+fn add_pair(
+    lefts: &[Column],
+    rights: &[Column],
+    pairs: &mut Pairs,
+    tree: &PairTree,
+) -> Result<(), TypeFault>
+    requires left { length lefts.now ≤ 16 }
+    requires right { length rights.now ≤ 16 }
+    ensures { Finds result (steps.pair_after lefts.now rights.now pairs.old tree.now) (λ _. pairs.new) }
+{
+    let (left, left_kind) = column_named(lefts, &tree.left)?;
+    let (right, right_kind) = column_named(rights, &tree.right)?;
+    if !is_same_sort(left_kind, right_kind) {
+        return Err(TypeFault::KindMismatch { at: tree.right.at });
+    }
+    pairs.push((left, right))?;
+    Ok(())
+}
+
+/// The pairs of a join.
+pub fn typed_pairs(
+    alloc: Global,
+    lefts: &[Column],
+    rights: &[Column],
+    trees: &[PairTree],
+) -> Result<Pairs, TypeFault>
+    requires left { length lefts.now ≤ 16 }
+    requires right { length rights.now ≤ 16 }
+    ensures { Finds result (in_turn (steps.pair_after lefts.now rights.now) [] trees.now) (λ pairs. pairs) }
+{
+    let mut pairs = Pairs::new(alloc);
+    for tree in trees {
+        add_pair(lefts, rights, &mut pairs, tree)?;
+    }
+    Ok(pairs)
+}

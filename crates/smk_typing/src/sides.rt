@@ -1,0 +1,113 @@
+ghost use Rattle.std.specs.Prelude.{◌≡◌, ◌≤◌, ◌++◌, length, map, IfOk, OnOk, Ok};
+ghost use Rattle.std.specs.List.{list_any, list_all, zip};
+ghost use Rattle.smk_model.specs.Kinds as kinds;
+ghost use Rattle.smk_model.specs.Names.{has_name, same_sort};
+ghost use Rattle.smk_model.specs.TypedSteps as steps;
+ghost use Rattle.smk_model.specs.TypedSteps.{united_column};
+ghost use Rattle.smk_typing.specs.Answers.{Finds};
+
+use crate::columns::is_same_sort;
+use smk_base::{Column, Columns, Kind, Text, TypeFault};
+use std::alloc::Global;
+
+/// Whether a column has this name.
+fn is_among(name: &Text, columns: &[Column]) -> bool
+    ensures { result ≡ list_any (has_name name.now) columns.now }
+{
+    columns.iter().any(|column| *name == column.name)
+}
+
+/// Whether a name stands on both sides. A row has at most 16 columns.
+fn share_a_name(lefts: &[Column], rights: &[Column]) -> bool
+    ensures { result ≡ steps.share_a_name lefts.now rights.now }
+{
+    lefts.iter().any(|left| is_among(&left.name, rights))
+}
+
+/// The columns of a join, at the place of `join`.
+pub fn joined(at: u64, lefts: Columns, rights: Columns) -> Result<Columns, TypeFault>
+    requires left { length lefts ≤ 16 }
+    requires right { length rights ≤ 16 }
+    ensures columns { Finds result (steps.joined at lefts rights) (λ columns. columns) }
+    ensures width { IfOk result (λ columns. length columns ≤ 16) }
+{
+    if share_a_name(lefts.as_slice(), rights.as_slice()) {
+        return Err(TypeFault::DuplicateName { at });
+    }
+    if lefts.as_slice().len() + rights.as_slice().len() > 16 {
+        return Err(TypeFault::RowTooWide { at });
+    }
+    let mut columns = lefts.into_vec();
+    let mut more = rights.into_vec();
+    columns.append(&mut more)?;
+    Ok(Columns::from_vec(columns))
+}
+
+/// Whether the columns are in each place both ints or both texts, as far as both sides have columns.
+fn are_same_sorts(lefts: &[Column], rights: &[Column]) -> bool
+    ensures { result ≡ list_all (λ sides. same_sort sides.0.kind sides.1.kind) (zip lefts.now rights.now) }
+{
+    lefts
+        .iter()
+        .zip(rights.iter())
+        .all(|(left, right)| is_same_sort(left.kind, right.kind))
+}
+
+/// The kind that holds the values of both.
+fn wider(left: Kind, right: Kind) -> Kind
+    ensures { result ≡ kinds.wider left right }
+{
+    match left {
+        Kind::Int { level: a } => match right {
+            Kind::Int { level: b } => Kind::Int { level: a.max(b) },
+            Kind::Text => left,
+        },
+        Kind::Text => Kind::Text,
+    }
+}
+
+/// The column that is united from a left and a right one.
+fn united_column(alloc: Global, left: &Column, right: &Column) -> Result<Column, TypeFault>
+    ensures { Finds result (Ok (steps.united_column (left.now, right.now))) (λ column. column) }
+{
+    let name = left.name.copy(alloc)?;
+    Ok(Column {
+        name,
+        kind: wider(left.kind, right.kind),
+    })
+}
+
+#[tactic(auto, using(crate::proofs::Unions::take_more_zip, crate::proofs::Unions::take_all_zip))]
+/// The columns that are united from two sides of as many columns.
+fn united_columns(alloc: Global, lefts: &[Column], rights: &[Column]) -> Result<Columns, TypeFault>
+    requires { length lefts.now ≡ length rights.now }
+    ensures columns { Finds result (Ok (map united_column (zip lefts.now rights.now))) (λ columns. columns) }
+    ensures width { IfOk result (λ columns. length columns ≡ length lefts.now) }
+{
+    let mut columns = Columns::new(alloc);
+    for (place, left) in lefts.iter().enumerate() {
+        let column = united_column(alloc, left, &rights[place])?;
+        columns.push(column)?;
+    }
+    Ok(columns)
+}
+
+/// The columns of a union, at the place of `union`.
+pub fn united(
+    alloc: Global,
+    at: u64,
+    lefts: &[Column],
+    rights: &[Column],
+) -> Result<Columns, TypeFault>
+    requires { length lefts.now ≤ 16 }
+    ensures columns { Finds result (steps.united at lefts.now rights.now) (λ columns. columns) }
+    ensures width { IfOk result (λ columns. length columns ≤ 16) }
+{
+    if lefts.len() != rights.len() {
+        return Err(TypeFault::UnionShape { at });
+    }
+    if !are_same_sorts(lefts, rights) {
+        return Err(TypeFault::UnionShape { at });
+    }
+    united_columns(alloc, lefts, rights)
+}

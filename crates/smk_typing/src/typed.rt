@@ -1,0 +1,16 @@
+use smk_base::{Aggs, Columns, Keys, Plan};
+
+/// A plan and the columns that it hands on.
+#[derive(Drop)]
+pub struct Typed {
+    pub plan: Plan,
+    pub columns: Columns,
+}
+
+/// A grouping: its keys, its aggregates, and the columns that it makes.
+#[derive(Drop)]
+pub struct Group {
+    pub keys: Keys,
+    pub aggs: Aggs,
+    pub columns: Columns,
+}
