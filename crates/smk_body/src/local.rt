@@ -1,0 +1,23 @@
+use smk_base::Dir;
+use smk_rid::RidMap;
+
+/// Which lineage of a step with two inputs is wanted.
+#[derive(Clone, Copy, Debug, PartialEq, Eq)]
+pub struct Want {
+    pub left: Dir,
+    pub right: Dir,
+}
+
+/// The lineage of one step on one of its sides. `back` has a list of input places for each output row, `fwd` a list of output places for each input row.
+#[derive(Drop)]
+pub struct Side {
+    pub back: Option<RidMap>,
+    pub fwd: Option<RidMap>,
+}
+
+/// The lineage of one step. It has a right side exactly where the step has two inputs.
+#[derive(Drop)]
+pub struct Local {
+    pub left: Side,
+    pub right: Option<Side>,
+}
