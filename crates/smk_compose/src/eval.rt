@@ -1,0 +1,133 @@
+ghost use Rattle.std.specs.Prelude.{◌≡◌, ◌+◌, ◌<◌, ◌≤◌, ◌^◌, ℕ, length, drop, Some, None, IfOk, IfErr, OnOk};
+ghost use Rattle.smk_base.specs.PlanImage.{expr_of, unary_of};
+ghost use Rattle.smk_model.specs.Plain.{step1, step2, width, eval};
+ghost use Rattle.smk_model.specs.Kinds.{Fits1, Fits2, kinds1, kinds2};
+ghost use Rattle.smk_model.specs.Selection.{each_rows, each_kinds, plan_kinds, PlanFits, nodes, first_full};
+ghost use Rattle.smk_compose.specs.Walk.{full_at, first_full_from};
+ghost use Rattle.smk_compose.specs.declared.fault.EvalFault.TheVariants.{Rows};
+
+use crate::fault::EvalFault;
+use crate::leaves::Leaves;
+use smk_base::{Dir, Op1, Op2, Plan, Rel};
+use smk_body::{OpBody, OpFault, Want};
+use std::alloc::Global;
+use std::thread::Threads;
+
+/// The rows of a plan over one Rel for each of its leaves, its steps carried out by a body. It makes no look. It is refused for `Rows` exactly where some node has more than 1,048,576 rows, at the first such node in post-order.
+#[tactic(auto, using(crate::proofs::Nodes::first_full_is))]
+pub fn eval_leaves<R: Threads + Sync, B: OpBody + Sync>(
+    rt: &R,
+    alloc: Global,
+    body: &B,
+    plan: &Plan,
+    leaves: Leaves,
+) -> Result<Rel, EvalFault>
+    requires leaves { length leaves ≡ width (expr_of plan.now) }
+    requires nodes { nodes (expr_of plan.now) < 2 ^ 32 }
+    requires fits { PlanFits (expr_of plan.now) (each_kinds leaves) }
+    ensures rows { IfOk result (λ rel. rel.rows ≡ eval (expr_of plan.now) (each_rows leaves)) }
+    ensures kinds { IfOk result (λ rel. rel.kinds ≡ plan_kinds (expr_of plan.now) (each_kinds leaves)) }
+    ensures few { OnOk result (first_full (expr_of plan.now) (each_rows leaves) ≡ None) }
+    ensures many { IfErr result (λ e. (node : ℕ) → e ≡ Rows node → first_full (expr_of plan.now) (each_rows leaves) ≡ Some node) }
+{
+    let mut rest = leaves;
+    let mut number = 0;
+    eval_node(rt, alloc, body, plan, &mut rest, &mut number)
+}
+
+#[tactic(auto, using(crate::proofs::Nodes::eval_two, crate::proofs::Lists::rows_behind, crate::proofs::Lists::kinds_behind, crate::proofs::Lists::behind_both, crate::proofs::Nodes::not_full, crate::proofs::Nodes::full))]
+// The rows of a plan over the first of these leaves, which it takes out. Its nodes are numbered from `number` on, which then is the number behind them.
+fn eval_node<R: Threads + Sync, B: OpBody + Sync>(
+    rt: &R,
+    alloc: Global,
+    body: &B,
+    plan: &Plan,
+    leaves: &mut Leaves,
+    number: &mut u32,
+) -> Result<Rel, EvalFault>
+    requires enough { width (expr_of plan.now) ≤ length leaves.old }
+    requires few_nodes { number.old + nodes (expr_of plan.now) < 2 ^ 32 }
+    requires fits { PlanFits (expr_of plan.now) (each_kinds leaves.old) }
+    ensures rest { OnOk result (leaves.new ≡ drop (width (expr_of plan.now)) leaves.old) }
+    ensures counted { OnOk result (number.new ≡ number.old + nodes (expr_of plan.now)) }
+    ensures rows { IfOk result (λ rel. rel.rows ≡ eval (expr_of plan.now) (each_rows leaves.old)) }
+    ensures kinds { IfOk result (λ rel. rel.kinds ≡ plan_kinds (expr_of plan.now) (each_kinds leaves.old)) }
+    ensures few { OnOk result (first_full_from (expr_of plan.now) (each_rows leaves.old) number.old ≡ None) }
+    ensures many { IfErr result (λ e. (node : ℕ) → e ≡ Rows node → first_full_from (expr_of plan.now) (each_rows leaves.old) number.old ≡ Some node) }
+{
+    match plan {
+        Plan::Scan(_) => {
+            let rel = leaves.take_first();
+            let _rows = rel.len();
+            *number += 1;
+            Ok(rel)
+        }
+        Plan::One(op, input) => {
+            let rel = eval_node(rt, alloc, body, input, leaves, number)?;
+            let made = apply_one(rt, alloc, body, op, rel)?;
+            *number += 1;
+            Ok(made)
+        }
+        Plan::Two(op, left, right) => {
+            let l = eval_node(rt, alloc, body, left, leaves, number)?;
+            let r = eval_node(rt, alloc, body, right, leaves, number)?;
+            let made = apply_two(rt, alloc, body, op, l, r, *number)?;
+            *number += 1;
+            Ok(made)
+        }
+    }
+}
+
+// A step with one input. It has at most as many rows as its input.
+fn apply_one<R: Threads + Sync, B: OpBody + Sync>(
+    rt: &R,
+    alloc: Global,
+    body: &B,
+    op: &Op1,
+    rel: Rel,
+) -> Result<Rel, EvalFault>
+    requires { Fits1 (unary_of op.now) rel.kinds }
+    ensures rows { IfOk result (λ made. made.rows ≡ step1 (unary_of op.now) rel.rows) }
+    ensures kinds { IfOk result (λ made. made.kinds ≡ kinds1 (unary_of op.now) rel.kinds) }
+    ensures few { OnOk result (length (step1 (unary_of op.now) rel.rows) ≤ 1048576) }
+    ensures memory { IfErr result (λ e. (node : ℕ) → e ≡ Rows node → ⊥) }
+{
+    let want = Dir {
+        back: false,
+        fwd: false,
+    };
+    let (made, _pending) = body.apply1(rt, alloc, op, rel, want)?;
+    let _rows = made.len();
+    Ok(made)
+}
+
+// A step with two inputs, which is the node with this number.
+fn apply_two<R: Threads + Sync, B: OpBody + Sync>(
+    rt: &R,
+    alloc: Global,
+    body: &B,
+    op: &Op2,
+    left: Rel,
+    right: Rel,
+    number: u32,
+) -> Result<Rel, EvalFault>
+    requires { Fits2 op.now left.kinds right.kinds }
+    ensures rows { IfOk result (λ made. made.rows ≡ step2 op.now left.rows right.rows) }
+    ensures kinds { IfOk result (λ made. made.kinds ≡ kinds2 op.now left.kinds right.kinds) }
+    ensures few { OnOk result (length (step2 op.now left.rows right.rows) ≤ 1048576) }
+    ensures many { IfErr result (λ e. (node : ℕ) → e ≡ Rows node → (1048576 < length (step2 op.now left.rows right.rows)) × (node ≡ number)) }
+{
+    let none = Dir {
+        back: false,
+        fwd: false,
+    };
+    let want = Want {
+        left: none,
+        right: none,
+    };
+    match body.apply2(rt, alloc, op, left, right, want) {
+        Ok((made, _pending)) => Ok(made),
+        Err(OpFault::Rows) => Err(EvalFault::Rows { node: number }),
+        Err(OpFault::NoMemory) => Err(EvalFault::NoMemory),
+    }
+}

@@ -1,0 +1,16 @@
+//! Plans over tables: the rows of their leaves by counted looks, and the rows of the whole plan by the steps of a body.
+#![tactic(auto)]
+
+mod eval;
+mod fault;
+mod fetch;
+mod leaves;
+mod rows;
+
+pub use eval::eval_leaves;
+pub use fault::EvalFault;
+pub use fetch::fetch_leaves;
+pub use leaves::Leaves;
+
+#[cfg(test)]
+mod tests;
