@@ -1,0 +1,15 @@
+//! The texts that Smoke writes. Rows are written with `csv`, numbers with `itoa`.
+#![tactic(auto)]
+
+mod faults;
+mod lines;
+mod names;
+mod page;
+mod replies;
+#[cfg(test)]
+mod tests;
+mod texts;
+
+pub use faults::fault_text;
+pub use replies::reply_text;
+pub use texts::{back_text, bad_line_text, no_memory_text, no_row_text, view_text};

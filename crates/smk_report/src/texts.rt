@@ -1,0 +1,202 @@
+ghost use Rattle.std.specs.Prelude.{◌≡◌, ◌<◌, ◌++◌, ◌∷◌, [], length, map, codes, decimal, IfOk, OnOk, slice_index_or};
+ghost use Rattle.smk_base.specs.Rels.{row_in, IsRelation};
+ghost use Rattle.smk_model.specs.Texts as texts;
+ghost use Rattle.smk_report.specs.Pages.{IsReady, Says, text_on, fields_on};
+
+use crate::lines::line_of;
+use crate::page::Page;
+use itoa::Buffer;
+use smk_base::{ColDecls, ListOf, Rel, Rids, Text};
+use std::alloc::{AllocError, Global};
+
+// The record of the names of the columns.
+fn header(page: &mut Page, first: &[u8], columns: &ListOf<Text>) -> Result<(), AllocError>
+    requires ready { IsReady page.old }
+    requires between { fields_on page.old ≡ [] }
+    ensures { OnOk result (Says page.new (text_on page.old ++ texts.record_line (first.now ∷ columns.now)) []) }
+{
+    page.field(first)?;
+    for column in columns.as_slice() {
+        page.field(column.as_slice())?;
+    }
+    page.end()
+}
+
+#[tactic(auto, using(crate::proofs::Parts::row_width, crate::proofs::Parts::values_more, crate::proofs::Parts::values_all))]
+// The record of a row: a number, and the row's values.
+fn row(page: &mut Page, number: u32, rel: &Rel, i: u32) -> Result<(), AllocError>
+    requires ready { IsReady page.old }
+    requires between { fields_on page.old ≡ [] }
+    requires in_range { i < length rel.now.rows }
+    requires keeps { IsRelation rel.now }
+    ensures { OnOk result (Says page.new (text_on page.old ++ texts.record_line (decimal number ∷ map texts.value_text (row_in rel.now.rows i))) []) }
+{
+    page.number(number)?;
+    for c in 0..rel.width() {
+        page.cell(rel.cell(i, c))?;
+    }
+    page.end()
+}
+
+// The records of all rows, with their places.
+fn numbered_rows(page: &mut Page, rel: &Rel) -> Result<(), AllocError>
+    requires ready { IsReady page.old }
+    requires between { fields_on page.old ≡ [] }
+    ensures { OnOk result (Says page.new (text_on page.old ++ texts.row_lines (λ i. i) rel.now.rows) []) }
+{
+    for i in 0..rel.len() {
+        row(page, i, rel, i)?;
+    }
+    Ok(())
+}
+
+// The records of all rows, with these numbers.
+fn placed_rows(page: &mut Page, rids: &[u32], rel: &Rel) -> Result<(), AllocError>
+    requires ready { IsReady page.old }
+    requires between { fields_on page.old ≡ [] }
+    requires rids { length rids.now ≡ length rel.now.rows }
+    ensures { OnOk result (Says page.new (text_on page.old ++ texts.row_lines (λ i. slice_index_or rids.now i 0) rel.now.rows) []) }
+{
+    for i in 0..rel.len() {
+        row(page, rids[i as usize], rel, i)?;
+    }
+    Ok(())
+}
+
+/// The text of a view: its name and number of rows, the names of its columns, and its rows with their places.
+pub fn view_text(
+    alloc: Global,
+    name: &Text,
+    columns: &ListOf<Text>,
+    rel: &Rel,
+) -> Result<Vec<u8>, AllocError>
+    requires { length columns.now ≡ length rel.now.kinds }
+    ensures { IfOk result (λ text. text.items ≡ texts.view_text name.now columns.now rel.now.rows) }
+{
+    let mut count = Buffer::new();
+    let front = line_of(
+        alloc,
+        &[
+            b"view ",
+            name.as_slice(),
+            b" ",
+            count.format(rel.len()).as_bytes(),
+        ],
+    )?;
+    let mut page = Page::new(alloc, front);
+    header(&mut page, b"row", columns)?;
+    numbered_rows(&mut page, rel)?;
+    page.finish()
+}
+
+// The record of the names of the columns that a table declares.
+#[tactic(auto, using(crate::proofs::Parts::declared_more, crate::proofs::Parts::declared_all))]
+fn table_header(page: &mut Page, columns: &ColDecls) -> Result<(), AllocError>
+    requires ready { IsReady page.old }
+    requires between { fields_on page.old ≡ [] }
+    ensures { OnOk result (Says page.new (text_on page.old ++ texts.record_line (codes "rid" ∷ map (λ column. column.name) columns.now)) []) }
+{
+    page.field(b"rid")?;
+    for column in columns.as_slice() {
+        page.field(column.name.as_slice())?;
+    }
+    page.end()
+}
+
+// The first line of a backward answer.
+fn back_line(alloc: Global, view: &Text, table: &Text, count: u32) -> Result<Vec<u8>, AllocError>
+    ensures { IfOk result (λ text. text.items ≡ texts.line (codes "back " ∷ view.now ∷ codes " to " ∷ table.now ∷ codes " " ∷ decimal count ∷ [])) }
+{
+    let mut number = Buffer::new();
+    line_of(
+        alloc,
+        &[
+            b"back ",
+            view.as_slice(),
+            b" to ",
+            table.as_slice(),
+            b" ",
+            number.format(count).as_bytes(),
+        ],
+    )
+}
+
+/// The text of a backward answer, with the columns that the table declares.
+pub fn rids_text(
+    alloc: Global,
+    view: &Text,
+    table: &Text,
+    columns: &ColDecls,
+    rids: &Rids,
+    rel: &Rel,
+) -> Result<Vec<u8>, AllocError>
+    requires { length rids.now ≡ length rel.now.rows }
+    ensures { IfOk result (λ text. text.items ≡ texts.back_text view.now table.now (map (λ column. column.name) columns.now) rids.now rel.now.rows) }
+{
+    let front = back_line(alloc, view, table, rel.len())?;
+    let mut page = Page::new(alloc, front);
+    table_header(&mut page, columns)?;
+    placed_rows(&mut page, rids.as_slice(), rel)?;
+    page.finish()
+}
+
+/// The text of a backward answer: the rows of the table with their rids.
+pub fn back_text(
+    alloc: Global,
+    view: &Text,
+    table: &Text,
+    columns: &ListOf<Text>,
+    rids: &Rids,
+    rel: &Rel,
+) -> Result<Vec<u8>, AllocError>
+    requires names { length columns.now ≡ length rel.now.kinds }
+    requires rids { length rids.now ≡ length rel.now.rows }
+    ensures { IfOk result (λ text. text.items ≡ texts.back_text view.now table.now columns.now rids.now rel.now.rows) }
+{
+    let front = back_line(alloc, view, table, rel.len())?;
+    let mut page = Page::new(alloc, front);
+    header(&mut page, b"rid", columns)?;
+    placed_rows(&mut page, rids.as_slice(), rel)?;
+    page.finish()
+}
+
+/// The text of a refusal: a number that is no row, of so many rows.
+pub fn no_row_text(alloc: Global, row: u32, rows: u32) -> Result<Vec<u8>, AllocError>
+    ensures { IfOk result (λ text. text.items ≡ texts.no_row_text row rows) }
+{
+    let mut number = Buffer::new();
+    let mut count = Buffer::new();
+    line_of(
+        alloc,
+        &[
+            b"refused no row ",
+            number.format(row).as_bytes(),
+            b" of ",
+            count.format(rows).as_bytes(),
+        ],
+    )
+}
+
+/// The text of a line that isn't in the grammar: its number, and the place of its first wrong token.
+pub fn bad_line_text(alloc: Global, number: u64, at: u64) -> Result<Vec<u8>, AllocError>
+    ensures { IfOk result (λ text. text.items ≡ texts.bad_line_text number at) }
+{
+    let mut nth = Buffer::new();
+    let mut place = Buffer::new();
+    line_of(
+        alloc,
+        &[
+            b"line ",
+            nth.format(number).as_bytes(),
+            b" not read at byte ",
+            place.format(at).as_bytes(),
+        ],
+    )
+}
+
+/// The line that says that memory was wanting. It takes no memory.
+pub fn no_memory_text() -> &'static [u8]
+    ensures { result.now ≡ texts.no_memory_text }
+{
+    b"smoke: no memory\n"
+}
