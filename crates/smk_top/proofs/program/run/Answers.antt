@@ -1,0 +1,28 @@
+use Rattle.std.proofs.Common.{List, ℕ, map, Bor, true, false}
+use Rattle.smk_top.proofs.Endings.{ends_reported, ends_unwritten, ends_exhausted, ends_faulted, done, refusals}
+use Rattle.smk_top.proofs.Said.{is_said}
+use Rattle.smk_top.proofs.program.run.Goals as goal
+
+pub returns-in-Ok-true-clause-ends : goal.returns-in-Ok-true-clause-ends
+returns-in-Ok-true-clause-ends g c =
+    ends_reported (map (λ (w : Bor (List ℕ)). w.now) c.args.words.now) _ _ _ _ _ _ _ true _ (rw c.in-Ok-true.field-0-test at c.in-Ok-true.ensures.works) refusals
+
+pub returns-in-Ok-false-clause-ends : goal.returns-in-Ok-false-clause-ends
+returns-in-Ok-false-clause-ends g c =
+    ends_reported (map (λ (w : Bor (List ℕ)). w.now) c.args.words.now) _ _ _ _ _ _ _ false _ (rw c.in-Ok-false.field-0-test at c.in-Ok-false.ensures.works) done
+
+pub returns-in-Err-At-clause-ends : goal.returns-in-Err-At-clause-ends
+returns-in-Err-At-clause-ends g c =
+    ends_faulted (map (λ (w : Bor (List ℕ)). w.now) c.args.words.now) _ _ _ _ _ _ _ _ c.in-Err-At.fault _ (rw c.in-Err-At.field-0-is at c.in-Err-At.ensures.works) c.say_fault.ensures.said
+
+pub returns-in-Err-Unwritten-clause-ends : goal.returns-in-Err-Unwritten-clause-ends
+returns-in-Err-Unwritten-clause-ends g c =
+    ends_unwritten (map (λ (w : Bor (List ℕ)). w.now) c.args.words.now) _ _ _ _ _ _ _ (rw c.in-Err-Unwritten.field-0-is at c.in-Err-Unwritten.ensures.works)
+
+pub returns-in-Err-Exhausted-clause-ends : goal.returns-in-Err-Exhausted-clause-ends
+returns-in-Err-Exhausted-clause-ends g c =
+    ends_exhausted (map (λ (w : Bor (List ℕ)). w.now) c.args.words.now) _ _ _ _ _ _ _ _ _ (rw c.in-Err-Exhausted.field-0-is at c.in-Err-Exhausted.ensures.works) c.say_no_memory.ensures.said
+
+pub say_fault-requires : goal.say_fault-requires
+say_fault-requires g c =
+    is_said (map (λ (w : Bor (List ℕ)). w.now) c.args.words.now) _ _ c.in-Err-At.fault (rw c.in-Err-At.field-0-is at c.in-Err-At.ensures.works).0

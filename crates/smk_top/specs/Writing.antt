@@ -1,0 +1,25 @@
+-- What the steps of reporting say of what was written.
+use Rattle.std.specs.Prelude.{◌≡◌, ℕ, ℤ, pos, Bool, not, int_lt, List, length, slice_index_or, Option, Result, Ok, Err}
+use Rattle.smk_model.specs.Lineage.{places}
+use Rattle.smk_model.specs.Outcome.{Report}
+use Rattle.smk_outside.specs.Outside.{Appends, AppendsPart}
+use Rattle.smk_top.specs.declared.stop.Stop.{Stop}
+use Rattle.smk_top.specs.declared.stop.Stop.TheVariants.{At, Unwritten, Exhausted}
+
+-- the places of the numbers from a least one on
+abbrev pub kept : ℤ → List ℤ → List ℕ
+kept least numbers = places (λ i. not (int_lt (slice_index_or numbers i (pos 0)) least)) (length numbers)
+
+-- the report was appended whole, and whether a line was refused is told; or a part of it, where `out` failed or memory was wanting
+abbrev pub Writes : Report → Type 0 → Option (List ℕ) → Option (List ℕ) → Result Bool Stop → Type 0
+Writes report rose before after (Ok refused) = Appends before after report.text × (refused ≡ report.refused)
+Writes report rose before after (Err (At fault)) = ⊥
+Writes report rose before after (Err Unwritten) = AppendsPart before after report.text × rose
+Writes report rose before after (Err Exhausted) = AppendsPart before after report.text
+
+-- the text was appended, or a part of it where `out` failed
+abbrev pub Puts : {X : Type 0} → List ℕ → Type 0 → Option (List ℕ) → Option (List ℕ) → Result X Stop → Type 0
+Puts text rose before after (Ok x) = Appends before after text
+Puts text rose before after (Err (At fault)) = ⊥
+Puts text rose before after (Err Unwritten) = AppendsPart before after text × rose
+Puts text rose before after (Err Exhausted) = ⊥

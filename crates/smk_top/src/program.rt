@@ -1,0 +1,106 @@
+ghost use Rattle.std.specs.Prelude.{◌≡◌, ◌≤◌, map};
+ghost use Rattle.smk_model.specs.FaultTexts.{IsSaid};
+ghost use Rattle.smk_outside.specs.Outside.{Rose};
+ghost use Rattle.smk_top.specs.Statuses.{status_of_fault};
+ghost use Rattle.smk_top.specs.Endings.{RunEnds, Works, SaysFault, SaysMemory};
+
+use crate::reading::read_all;
+use crate::reporting::write_report;
+use crate::status::Status;
+use crate::stop::Stop;
+use smk_base::Fault;
+use smk_outside::{Files, Gate, Sink, Steps};
+use smk_report::{fault_text, no_memory_text};
+use std::alloc::Global;
+use std::sync::ledger::Ledger;
+use std::thread::Threads;
+
+// The status of a fault that is said.
+fn status_of(fault: &Fault) -> Status
+    ensures { result ≡ status_of_fault fault.now }
+{
+    match fault {
+        Fault::Usage => Status::Usage,
+        Fault::Book(_) | Fault::Types(_) | Fault::Form { .. } => Status::BadBook,
+        Fault::Table { .. } => Status::BadTable,
+        Fault::FileLong { .. } | Fault::TableRows { .. } => Status::Limit,
+        Fault::ViewRows { .. } | Fault::ViewPairs { .. } => Status::Limit,
+        Fault::Unread { .. } => Status::ReadFault,
+    }
+}
+
+// Says that memory was wanting.
+fn say_no_memory<E: Sink>(err: &mut E) -> Status
+    ensures said { SaysMemory (Rose (E.faults err.old) (E.faults err.new)) (E.written err.old) (E.written err.new) result }
+    ensures later { E.faults err.old ≤ E.faults err.new }
+{
+    match err.put(no_memory_text()) {
+        Ok(()) => Status::NoMemory,
+        Err(_) => Status::WriteFault,
+    }
+}
+
+// Says a fault.
+fn say_fault<E: Sink>(alloc: Global, fault: &Fault, err: &mut E) -> Status
+    requires { IsSaid fault.now }
+    ensures said { SaysFault fault.now (Rose (E.faults err.old) (E.faults err.new)) (E.written err.old) (E.written err.new) result }
+    ensures later { E.faults err.old ≤ E.faults err.new }
+{
+    match fault_text(alloc, fault) {
+        Ok(text) => match err.put(text.as_slice()) {
+            Ok(()) => status_of(fault),
+            Err(_) => Status::WriteFault,
+        },
+        Err(_) => say_no_memory(err),
+    }
+}
+
+// Reads what the words name, and writes the report. It tells whether a line is refused.
+fn work<F: Files, O: Sink>(
+    alloc: Global,
+    words: &[&str],
+    files: &mut F,
+    out: &mut O,
+) -> Result<bool, Stop>
+    ensures works { Works (map (λ w. w.now) words.entry.now) (F.held files.old) (Rose (F.faults files.old) (F.faults files.new)) (Rose (O.faults out.old) (O.faults out.new)) (O.written out.old) (O.written out.new) result }
+    ensures held { F.held files.new ≡ F.held files.old }
+    ensures files_later { F.faults files.old ≤ F.faults files.new }
+    ensures out_later { O.faults out.old ≤ O.faults out.new }
+{
+    let opened = read_all(alloc, words, files)?;
+    write_report(alloc, &opened, out)
+}
+
+/// A run of Smoke. Its `words` are those after the program's name: a book's file name, and a script's where there is one.
+///
+/// It reads the book, the book's table and the script from `files`, evaluates the view, and writes to `out` the text of the view and then
+/// of the reply to each line of the script; where there is a fault, it writes nothing to `out` and one line to `err`. How it may end is
+/// `RunEnds`: what is written is the report of the words and of what the files hold, in which the view is its plan's plain meaning and each
+/// backward answer is what the annotated meaning relates; any other ending has its cause. Only want of memory has none.
+pub fn run<R: Threads + Sync, F: Files, O: Sink, E: Sink, G: Gate + Sync, L: Ledger>(
+    _rt: &R,
+    alloc: Global,
+    words: &[&str],
+    files: &mut F,
+    out: &mut O,
+    err: &mut E,
+    _gate: &G,
+    _steps: &mut Steps<L>,
+) -> Status
+    ensures ends { RunEnds (map (λ w. w.now) words.entry.now) (F.held files.old)
+        (Rose (F.faults files.old) (F.faults files.new)) (Rose (O.faults out.old) (O.faults out.new)) (Rose (E.faults err.old) (E.faults err.new))
+        (O.written out.old) (O.written out.new) (E.written err.old) (E.written err.new) result }
+    ensures held { F.held files.new ≡ F.held files.old }
+    ensures files_later { F.faults files.old ≤ F.faults files.new }
+    ensures out_later { O.faults out.old ≤ O.faults out.new }
+    ensures err_later { E.faults err.old ≤ E.faults err.new }
+    ensures looks { _steps.new ≡ _steps.old }
+{
+    match work(alloc, words, files, out) {
+        Ok(false) => Status::Done,
+        Ok(true) => Status::DoneWithRefusals,
+        Err(Stop::At(fault)) => say_fault(alloc, &fault, err),
+        Err(Stop::Unwritten) => Status::WriteFault,
+        Err(Stop::Exhausted) => say_no_memory(err),
+    }
+}
