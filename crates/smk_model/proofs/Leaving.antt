@@ -1,4 +1,4 @@
--- No symbol of the machine is the end itself.
+-- No symbol of the machine is the end itself, or a token that can't be read.
 use Rattle.std.specs.Prelude.{cond, nat_lt, pos, int_le, ◌&&◌, ℤ}
 use Rattle.std.proofs.Common.{◌≡◌, ℕ, ◌+◌, List, [], ◌∷◌, ◌++◌, Bool, true, false, refl}
 use Rattle.smk_base.specs.declared.token.TokenKind.{TokenKind}
@@ -10,6 +10,8 @@ use Rattle.smk_model.specs.Machine.{Counts, Tally, Symbol, Move, Takes, Skips, W
 
 abbrev pub no_end : Symbol → Bool
 no_end (AToken kinds.End) = false
+no_end (AToken kinds.Bad) = false
+no_end (AToken kinds.Huge) = false
 no_end _ = true
 
 abbrev pub no_ends : List Symbol → Bool

@@ -9,6 +9,7 @@ pub mod Anys
 pub mod Comes
 pub mod Composed
 pub mod Examples
+pub mod RunExamples
 pub mod Locals
 pub mod Parts
 pub mod Leaves
@@ -19,8 +20,12 @@ pub mod Unique
 pub mod Staying
 pub mod Reading
 pub mod Texts
+pub mod Keeping
 pub mod Alike
 pub mod Moves
 pub mod Sound
 pub mod Leaving
 pub mod Completing
+pub mod OneOutcome
+pub mod Closing
+pub mod SomeOutcome

@@ -14,7 +14,7 @@ use Rattle.smk_model.specs.GrammarLaws.{Finishes, FaultlessHaveTrees}
 use Rattle.smk_model.proofs.Leaving.{no_end, no_ends, leaves_none, settles, and_left, and_right}
 use Rattle.smk_model.proofs.Moves.{IsSymbol, AreSymbols, settled, MovesAll}
 
-not_failed : (f : BookFault) (s : State) → Err f ≡ Ok s → ⊥
+pub not_failed : (f : BookFault) (s : State) → Err f ≡ Ok s → ⊥
 not_failed f s e = absurd (cc)
 
 -- at the end what is left to be read is nothing, or the end is wrong
@@ -96,7 +96,7 @@ sound (t ∷ u ∷ ts) (x ∷ ss) c s n f e = by (settle (x ∷ ss) c t) (settle
     by (Past w) k h g rec = absurd (not_failed (TooMany t.at w) s g)
     by Outside k h g rec = absurd (not_failed (BadNumber t.at) s g)
 
-none_is_ok : (r : Result State BookFault) → fault_in r ≡ None → (s : State) × (r ≡ Ok s)
+pub none_is_ok : (r : Result State BookFault) → fault_in r ≡ None → (s : State) × (r ≡ Ok s)
 none_is_ok (Ok s) e = (s, refl)
 none_is_ok (Err f) e = absurd (cc)
 

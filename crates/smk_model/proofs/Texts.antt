@@ -1,10 +1,12 @@
--- No text of the grammar is unexpected.
-use Rattle.std.specs.Prelude.{Option, None, nat_lt, pos, int_le, int_lt, ◌^◌, ◌&&◌, ℤ}
-use Rattle.std.proofs.Common.{◌≡◌, ℕ, ◌+◌, ◌≤◌, List, [], ◌∷◌, Bool, true, ap, ◌∙◌, sym, subst, refl, arith}
-use Rattle.std.proofs.lemmas.Bool.{le-leb}
+-- No text of the grammar is unexpected, and where there are not too many of anything the limits are kept.
+use Rattle.std.specs.Prelude.{Option, None, nat_lt, pos, int_le, int_lt, ◌≤ℤ◌, ◌^◌, ◌&&◌, ℤ, All, count_by, cond, length}
+use Rattle.std.proofs.Common.{◌≡◌, ℕ, ◌+◌, ◌≤◌, List, [], ◌∷◌, Bool, true, false, T, ap, ◌∙◌, sym, subst, refl, arith}
+use Rattle.std.proofs.lemmas.Bool.{le-leb, ltb-true}
+use Rattle.std.proofs.lemmas.List.Elements.{All-nil, All-cons}
+use Rattle.std.proofs.lemmas.List.Sums.{sum_by-cons}
 use Rattle.smk_base.specs.declared.token.TokenKind.{TokenKind}
 use Rattle.smk_base.specs.declared.token.TokenKind.TheVariants as kinds
-use Rattle.smk_base.specs.declared.fault.Many.TheVariants.{Tables, Views, Lineages, Links, Columns, Nodes, Compares, Depth, NameBytes}
+use Rattle.smk_base.specs.declared.fault.Many.TheVariants.{Tables, Views, Lineages, Links, Columns, Compares, Depth, NameBytes}
 use Rattle.smk_base.specs.declared.plan.CmpOp.{CmpOp}
 use Rattle.smk_base.specs.declared.tree.Word.{Word}
 use Rattle.smk_base.specs.declared.tree.Lit.{Lit}
@@ -18,16 +20,62 @@ use Rattle.smk_base.specs.declared.tree.Term.{Term}
 use Rattle.smk_base.specs.declared.tree.Marks.{Marks}
 use Rattle.smk_base.specs.declared.tree.Then.{Then}
 use Rattle.smk_base.specs.declared.tree.Line.{Line}
-use Rattle.smk_base.specs.Trees.{PredImage, TreeImage, StepImage, StmtImage}
+use Rattle.smk_base.specs.Trees.{PredImage, TreeImage, StepImage, StmtImage, TableNode, ViewNode}
 use Rattle.smk_model.specs.Tokens.{Token, head_of, int_value}
 use Rattle.smk_model.specs.Grammar.{First, IsName, name, IsColumn, number, string, IsFile, file, listed, IsType, int_type, text_type, IsDefault, no_default, default, IsDecl, decl, IsNamed, by_itself, by_as, IsWidth, width, IsItem, column_item, bin_item, IsWhat, count, sum, min, max, IsAgg, agg, AreKeys, no_keys, keys, AreAggs, no_aggs, aggs, IsPair, pair, IsOp, eq, ne, lt, le, gt, ge, IsTerm, column_term, literal_term, IsPrim, negated, bracketed, compared, IsConj, conj, AreAnds, no_and, one_and, IsPred, pred, AreOrs, no_or, one_or, IsPlan, plan, IsSource, scan, inner_plan, AreSteps, no_step, one_step, IsStep, where_step, project_step, distinct_step, group_step, join_step, union_all_step, union_step, IsExtra, no_extra, by_extra, group_extra, table_stmt, view_stmt, back_stmt, fwd_stmt, link_stmt, AreStmts, no_stmt, one_stmt, IsMark, mark, AreMarks, all_marks, listed_marks, IsThen, no_then, where_then, group_then, IsLine, show_line, back_line, fwd_line, brush_line, clear_line, IsWholeLine, whole_line}
 use Rattle.smk_model.specs.Machine.{Counts, Tally, Symbol, Skips, Outside, fault_in, book_symbols, line_symbols, no_counts, book_fault, line_fault, is_mark, is_short, at_more, at_default, at_as, at_keys, at_aggs, at_ands, at_ors, at_steps, at_extra, at_then, at_stmts, at_end, AToken, AName, AColumn, AWidth, AType, ADefault, AnAs, AWhat, AKeys, AnAggs, AFirst, AnItem, ALinked, MoreDecls, MoreItems, MoreKeys, MoreAggs, MorePairs, MoreLinked, ASource, ASteps, AStep, AUnited, APrim, AnAnds, AnOrs, AnOp, ATerm, AStmts, AnExtra, ALine, ALineName, ALineColumn, AMarks, AMark, MoreMarks, AThen}
+use Rattle.smk_model.specs.Limits.{Divides, KeepsItems, KeepsTree, KeepsStep, nodes, nodes_of_step, DefaultInRange, KeepsDecls, KeepsPlan, KeepsStmt, is_table, is_view}
 use Rattle.smk_model.specs.GrammarLaws.{AtMostTooMany, TextsAreRead}
 use Rattle.smk_model.proofs.Unique.{rank, rank_of, ranked, aggs_rank, ors_rank, steps_rank, stmts_rank}
-use Rattle.smk_model.proofs.Reading.{Goes, Gets, on, over, nothing, then_goes, both, taken, limited, holds, of_kind, opens, passes, token_text, literal_text, column_opens, Lists, more_text, listed_text}
+use Rattle.smk_model.proofs.Reading.{Ranged, Adds, Goes, Gets, on, over, nothing, told, untold, chain, then_goes, both, ahead, taken, known, checked, limited, one_node, holds, of_kind, opens, opens_with, node_opens, passes, token_text, literal_text, column_opens, Places, Lists, more_text, listed_text, Ends, ends_told, then_ends, opens_ends, ends_pass}
 
 abbrev Reads : List Symbol → List Token → List Token → Type 0
-Reads l a b = Goes (Unit {0}) l a b
+Reads l a b = Goes (Unit {0}) 0 0 (Unit {0}) l a b
+
+-- where F is known behind the text
+abbrev Knows : Type 0 → List Symbol → List Token → List Token → Type 0
+Knows F l a b = Goes (Unit {0}) 0 0 F l a b
+
+-- where also the nodes grow as from m to n
+abbrev Counting : ℕ → ℕ → Type 0 → List Symbol → List Token → List Token → Type 0
+Counting m n F l a b = Goes (Unit {0}) m n F l a b
+
+-- in a line nothing is counted, and there is nothing of which there may be too many
+abbrev Spells : List Symbol → List Token → List Token → Type 0
+Spells l a b = Goes ⊥ 0 0 (Unit {0}) l a b
+
+-- a place within the limit of columns
+abbrev IsPlace : ℕ → Type 0
+IsPlace k = nat_lt k 16 ≡ true
+
+few_places : {T : Type 0} (Fact : ℕ → T → Type 0) (k : ℕ) (xs : List T) → ((k : ℕ) (x : T) → Fact k x → IsPlace k) → k ≤ 16 → Places Fact k xs → k + length xs ≤ 16
+few_places Fact k [] f b h = omega (arith, b)
+few_places Fact k (x ∷ xs) f b h =
+    let u = ltb-true k 16 (f k x h.0) in
+    let v = few_places Fact (k + 1) xs f (omega (arith, u)) h.1 in
+    omega (arith, v)
+
+at_places : {T : Type 0} (Fact : ℕ → T → Type 0) (Q : T → Type 0) (k : ℕ) (xs : List T) → ((k : ℕ) (x : T) → Fact k x → Q x) → Places Fact k xs → All Q xs
+at_places Fact Q k [] f h = All-nil Q
+at_places Fact Q k (x ∷ xs) f h = All-cons Q x xs (f k x h.0) (at_places Fact Q (k + 1) xs f h.1)
+
+abbrev ItemPlace : ℕ → ItemTree → Type 0
+ItemPlace k x = IsPlace k × Divides x
+
+abbrev DeclPlace : ℕ → Decl → Type 0
+DeclPlace k x = IsPlace k × DefaultInRange x.def
+
+kept_items : {xs : List ItemTree} → Places ItemPlace 0 xs → KeepsItems xs
+kept_items {xs} h = record { few = let u = few_places ItemPlace 0 xs (λ k x f. f.0) (omega arith) h in omega (arith, u); divide = at_places ItemPlace Divides 0 xs (λ k x f. f.1) h }
+
+kept_decls : {xs : List Decl} → Places DeclPlace 0 xs → KeepsDecls xs
+kept_decls {xs} h = record { few = let u = few_places DeclPlace 0 xs (λ k x f. f.0) (omega arith) h in omega (arith, u); ranges = at_places DeclPlace (λ x. DefaultInRange x.def) 0 xs (λ k x f. f.1) h }
+
+-- these statements, behind as many tables and views as are counted, keep the limits
+pub record Held (y : Tally) (ss : List StmtImage) : Type 0 where
+  pub few_tables : y.tables ≤ 16 → y.tables + count_by is_table ss ≤ 16
+  pub few_views : y.views ≤ 64 → y.views + count_by is_view ss ≤ 64
+  pub each : All KeepsStmt ss
 
 -- a symbol is nothing before a token that doesn't begin it
 more_skips : (c : Counts) (ss : List Symbol) (k : TokenKind) → 2 ≤ rank k → at_more c ss k ≡ Skips
@@ -79,8 +127,8 @@ name_text (name h) = opens h (λ c. limited _ NameBytes tt (taken c)) nothing
 column_text : {a b : List Token} {w : Word} → IsColumn a b w → Reads (AColumn ∷ []) a b
 column_text h = column_opens (λ c t. limited _ NameBytes tt (taken c)) (λ c t. limited _ NameBytes tt (taken c)) h nothing
 
-first_text : (k : ℕ) {a b : List Token} {w : Word} → IsColumn a b w → Reads (AFirst k ∷ []) a b
-first_text k h = column_opens (λ c t. limited _ Columns tt (limited _ NameBytes tt (taken c))) (λ c t. limited _ Columns tt (limited _ NameBytes tt (taken c))) h nothing
+first_text : (k : ℕ) {a b : List Token} {w : Word} → IsColumn a b w → Knows (IsPlace k) (AFirst k ∷ []) a b
+first_text k h = column_opens (λ c t. checked (nat_lt k 16) Columns tt (λ e. limited _ NameBytes tt (known refl e))) (λ c t. checked (nat_lt k 16) Columns tt (λ e. limited _ NameBytes tt (known refl e))) h nothing
 
 linked_text : (k : ℕ) {a b : List Token} {w : Word} → IsName a b w → Reads (ALinked k ∷ []) a b
 linked_text k (name h) = opens h (λ c. limited _ Links tt (limited _ NameBytes tt (taken c))) nothing
@@ -92,7 +140,7 @@ type_text : {a b : List Token} {x : Bool} → IsType a b x → Reads (AType ∷ 
 type_text (int_type h) = opens h (λ c. taken c) nothing
 type_text (text_type h) = opens h (λ c. taken c) nothing
 
-default_text : {a b : List Token} {o : Option Lit} → IsDefault a b o → 1 ≤ rank_of b → Reads (ADefault ∷ []) a b
+default_text : {a b : List Token} {o : Option Lit} → IsDefault a b o → 1 ≤ rank_of b → Knows (DefaultInRange o) (ADefault ∷ []) a b
 default_text {a} no_default n = passes (λ c. default_skips c (head_of a).kind n)
 default_text (default h l) n = opens h (λ c. taken c) (literal_text l)
 
@@ -103,9 +151,12 @@ named_text (by_as h k) n = opens h (λ c. taken c) (column_text k)
 width_text : {a b : List Token} {k : ℤ} → IsWidth a b k → Reads (AWidth ∷ []) a b
 width_text (width h e) = opens h (λ c. holds Outside e (taken c)) nothing
 
-item_text : (k : ℕ) {a b : List Token} {x : ItemTree} → IsItem a b x → 1 ≤ rank_of b → Reads (AnItem k ∷ []) a b
-item_text k (column_item h m) n = column_opens (λ c t. limited _ Columns tt (limited _ NameBytes tt (taken c))) (λ c t. limited _ Columns tt (limited _ NameBytes tt (taken c))) h (named_text m n)
-item_text k (bin_item h o w v x y z m) n = opens h (λ c. limited _ Columns tt (taken c)) (then_goes (token_text o refl) (then_goes (column_text w) (then_goes (token_text v refl) (then_goes (width_text x) (then_goes (token_text y refl) (then_goes (token_text z refl) (column_text m)))))))
+width_divides : {a b : List Token} {k : ℤ} → IsWidth a b k → pos 1 ≤ℤ k
+width_divides (width h e) = record { le = subst T (sym e) tt }
+
+item_text : (k : ℕ) {a b : List Token} {x : ItemTree} → IsItem a b x → 1 ≤ rank_of b → Knows (ItemPlace k x) (AnItem k ∷ []) a b
+item_text k (column_item h m) n = told (λ r e. (e, tt)) (column_opens {F = IsPlace k} (λ c t. checked (nat_lt k 16) Columns tt (λ e. limited _ NameBytes tt (known refl e))) (λ c t. checked (nat_lt k 16) Columns tt (λ e. limited _ NameBytes tt (known refl e))) h (named_text m n))
+item_text k (bin_item h o w v x y z m) n = opens_with {F = IsPlace k} refl (λ e u. (e, width_divides x)) h (λ c. checked (nat_lt k 16) Columns tt (λ e. known refl e)) (then_goes (token_text o refl) (then_goes (column_text w) (then_goes (token_text v refl) (then_goes (width_text x) (then_goes (token_text y refl) (then_goes (token_text z refl) (column_text m)))))))
 
 what_text : {a b : List Token} {x : AggWhat} → IsWhat a b x → Reads (AWhat ∷ []) a b
 what_text (count h) = opens h (λ c. taken c) nothing
@@ -113,40 +164,40 @@ what_text (sum h k) = opens h (λ c. taken c) (column_text k)
 what_text (min h k) = opens h (λ c. taken c) (column_text k)
 what_text (max h k) = opens h (λ c. taken c) (column_text k)
 
-decls : Lists (Unit {0}) IsDecl MoreDecls (λ k. AFirst k ∷ AType ∷ ADefault ∷ [])
+decls : Lists (Unit {0}) DeclPlace IsDecl MoreDecls (λ k. AFirst k ∷ AType ∷ ADefault ∷ [])
 decls = record { comma = λ c k t. taken c; stops = λ c k t h. more_skips c _ t.kind h; each = each }
   where
-    each : (k : ℕ) (a b : List Token) (x : Decl) → IsDecl a b x → 1 ≤ rank_of b → Reads (AFirst k ∷ AType ∷ ADefault ∷ []) a b
-    each k a b x (decl h i j) n = then_goes (first_text k h) (then_goes (type_text i) (default_text j n))
+    each : (k : ℕ) (a b : List Token) (x : Decl) → IsDecl a b x → 1 ≤ rank_of b → Knows (DeclPlace k x) (AFirst k ∷ AType ∷ ADefault ∷ []) a b
+    each k a b x (decl h i j) n = chain refl (λ e f. (e, f)) (first_text k h) (then_goes (type_text i) (default_text j n))
 
-some_items : Lists (Unit {0}) IsItem MoreItems (λ k. AnItem k ∷ [])
+some_items : Lists (Unit {0}) ItemPlace IsItem MoreItems (λ k. AnItem k ∷ [])
 some_items = record { comma = λ c k t. taken c; stops = λ c k t h. more_skips c _ t.kind h; each = λ k a b x h n. item_text k h n }
 
-some_keys : Lists (Unit {0}) IsColumn MoreKeys (λ k. AFirst k ∷ [])
+some_keys : Lists (Unit {0}) (λ k x. IsPlace k) IsColumn MoreKeys (λ k. AFirst k ∷ [])
 some_keys = record { comma = λ c k t. taken c; stops = λ c k t h. more_skips c _ t.kind h; each = λ k a b x h n. first_text k h }
 
-some_aggs : Lists (Unit {0}) IsAgg MoreAggs (λ k. AFirst k ∷ AToken kinds.Equal ∷ AWhat ∷ [])
+some_aggs : Lists (Unit {0}) (λ k x. IsPlace k) IsAgg MoreAggs (λ k. AFirst k ∷ AToken kinds.Equal ∷ AWhat ∷ [])
 some_aggs = record { comma = λ c k t. taken c; stops = λ c k t h. more_skips c _ t.kind h; each = each }
   where
-    each : (k : ℕ) (a b : List Token) (x : AggTree) → IsAgg a b x → 1 ≤ rank_of b → Reads (AFirst k ∷ AToken kinds.Equal ∷ AWhat ∷ []) a b
-    each k a b x (agg h i j) n = then_goes (first_text k h) (then_goes (token_text i refl) (what_text j))
+    each : (k : ℕ) (a b : List Token) (x : AggTree) → IsAgg a b x → 1 ≤ rank_of b → Knows (IsPlace k) (AFirst k ∷ AToken kinds.Equal ∷ AWhat ∷ []) a b
+    each k a b x (agg h i j) n = ahead (first_text k h) (then_goes (token_text i refl) (what_text j))
 
-some_pairs : Lists (Unit {0}) IsPair MorePairs (λ k. AFirst k ∷ AToken kinds.Equal ∷ AColumn ∷ [])
+some_pairs : Lists (Unit {0}) (λ k x. IsPlace k) IsPair MorePairs (λ k. AFirst k ∷ AToken kinds.Equal ∷ AColumn ∷ [])
 some_pairs = record { comma = λ c k t. taken c; stops = λ c k t h. more_skips c _ t.kind h; each = each }
   where
-    each : (k : ℕ) (a b : List Token) (x : PairTree) → IsPair a b x → 1 ≤ rank_of b → Reads (AFirst k ∷ AToken kinds.Equal ∷ AColumn ∷ []) a b
-    each k a b x (pair h i j) n = then_goes (first_text k h) (then_goes (token_text i refl) (column_text j))
+    each : (k : ℕ) (a b : List Token) (x : PairTree) → IsPair a b x → 1 ≤ rank_of b → Knows (IsPlace k) (AFirst k ∷ AToken kinds.Equal ∷ AColumn ∷ []) a b
+    each k a b x (pair h i j) n = ahead (first_text k h) (then_goes (token_text i refl) (column_text j))
 
-some_linked : Lists (Unit {0}) IsName MoreLinked (λ k. ALinked k ∷ [])
+some_linked : Lists (Unit {0}) (λ k x. Unit {0}) IsName MoreLinked (λ k. ALinked k ∷ [])
 some_linked = record { comma = λ c k t. taken c; stops = λ c k t h. more_skips c _ t.kind h; each = λ k a b x h n. linked_text k h }
 
 keys_text : {a b : List Token} {ws : List Word} → AreKeys a b ws → 3 ≤ rank_of b → Reads (AKeys ∷ []) a b
 keys_text {a} no_keys n = passes (λ c. keys_skips c _ (head_of a).kind n)
-keys_text (keys (listed h l)) n = column_opens (λ c t. limited (nat_lt 0 16) Columns tt (limited (is_short (of_kind kinds.Name t)) NameBytes tt (taken c))) (λ c t. limited (nat_lt 0 16) Columns tt (limited (is_short (of_kind kinds.Quoted t)) NameBytes tt (taken c))) h (more_text some_keys 1 l (omega (arith, n)))
+keys_text (keys (listed h l)) n = column_opens (λ c t. limited (nat_lt 0 16) Columns tt (limited (is_short (of_kind kinds.Name t)) NameBytes tt (taken c))) (λ c t. limited (nat_lt 0 16) Columns tt (limited (is_short (of_kind kinds.Quoted t)) NameBytes tt (taken c))) h (untold (more_text some_keys 1 l (omega (arith, n))))
 
 aggs_text : {a b : List Token} {xs : List AggTree} → AreAggs a b xs → 4 ≤ rank_of b → Reads (AnAggs ∷ []) a b
 aggs_text {a} no_aggs n = passes (λ c. aggs_skips c (head_of a).kind n)
-aggs_text (aggs h l k) n = opens h (λ c. taken c) (both (listed_text some_aggs l (omega (arith, ranked k))) (token_text k refl))
+aggs_text (aggs h l k) n = opens h (λ c. taken c) (both (untold (listed_text some_aggs l (omega (arith, ranked k)))) (token_text k refl))
 
 grouping_text : {a b e : List Token} {ws : List Word} {xs : List AggTree} → AreKeys a b ws → AreAggs b e xs → 4 ≤ rank_of e → Reads (AKeys ∷ AnAggs ∷ []) a e
 grouping_text h k n = then_goes (keys_text h (aggs_rank k n)) (aggs_text k n)
@@ -168,7 +219,7 @@ mutual
   prim_text : {a b : List Token} {p : PredImage} → IsPrim a b p → (d : ℕ) → Reads (APrim d ∷ []) a b
   prim_text (negated h p) d = opens h (λ c. limited _ Depth tt (taken c)) (prim_text p (d + 1))
   prim_text (bracketed h p k) d = opens h (λ c. limited _ Depth tt (taken c)) (both (pred_text p (omega (arith, ranked k)) (d + 1)) (token_text k refl))
-  prim_text (compared h o x) d = column_opens (λ c t. limited _ Compares tt (limited _ NameBytes tt (taken _))) (λ c t. limited _ Compares tt (limited _ NameBytes tt (taken _))) h (then_goes (op_text o) (term_text x))
+  prim_text (compared h o x) d = column_opens (λ c t. limited _ Compares tt (limited _ NameBytes tt (known refl tt))) (λ c t. limited _ Compares tt (limited _ NameBytes tt (known refl tt))) h (then_goes (op_text o) (term_text x))
 
   conj_text : {a b : List Token} {p : PredImage} → IsConj a b p → 5 ≤ rank_of b → (d : ℕ) → Reads (APrim d ∷ AnAnds d ∷ []) a b
   conj_text (conj p l) n d = then_goes (prim_text p d) (ands_text l n d)
@@ -184,30 +235,37 @@ mutual
   ors_text {a} no_or n d = passes (λ c. ors_skips c d (head_of a).kind n)
   ors_text (one_or h p l) n d = opens h (λ c. taken c) (both (conj_text p (ors_rank l n) d) (ors_text l n d))
 
+-- how the nodes of a plan add up: of its source and its steps, and of a step and those behind it
+in_turn : (x y : ℕ) → x + y + 0 ≡ 0 + x + y
+in_turn x y = omega arith
+
+one_further : (x s y : ℕ) → s + y + x ≡ 0 + (x + s) + y
+one_further x s y = omega arith
+
 mutual
-  source_text : {a b : List Token} {x : TreeImage} → IsSource a b x → (d : ℕ) → Reads (ASource d ∷ []) a b
-  source_text (scan h k) d = opens h (λ c. limited _ Nodes tt (taken _)) (name_text k)
-  source_text (inner_plan h p k) d = opens h (λ c. limited _ Depth tt (taken c)) (both (plan_text p (omega (arith, ranked k)) (d + 1)) (token_text k refl))
+  source_text : {a b : List Token} {x : TreeImage} → IsSource a b x → (d : ℕ) → Counting 0 (nodes x) (KeepsTree x) (ASource d ∷ []) a b
+  source_text (scan h k) d = node_opens h (λ c. one_node c _ refl) (name_text k)
+  source_text (inner_plan h p k) d = opens h (λ c. limited _ Depth tt (taken c)) (ahead (plan_text p (omega (arith, ranked k)) (d + 1)) (token_text k refl))
 
-  united_text : {a b : List Token} {x : TreeImage} → IsSource a b x → (d : ℕ) → Reads (AUnited d ∷ []) a b
-  united_text (scan h k) d = opens h (λ c. limited _ Nodes tt (taken _)) (name_text k)
-  united_text (inner_plan h p k) d = opens h (λ c. limited _ Depth tt (taken c)) (both (plan_text p (omega (arith, ranked k)) (d + 1)) (token_text k refl))
+  united_text : {a b : List Token} {x : TreeImage} → IsSource a b x → (d : ℕ) → Counting 0 (nodes x) (KeepsTree x) (AUnited d ∷ []) a b
+  united_text (scan h k) d = node_opens h (λ c. one_node c _ refl) (name_text k)
+  united_text (inner_plan h p k) d = opens h (λ c. limited _ Depth tt (taken c)) (ahead (plan_text p (omega (arith, ranked k)) (d + 1)) (token_text k refl))
 
-  plan_text : {a b : List Token} {x : TreeImage} → IsPlan a b x → 7 ≤ rank_of b → (d : ℕ) → Reads (ASource d ∷ ASteps d ∷ []) a b
-  plan_text (plan p l) n d = then_goes (source_text p d) (steps_text l n d)
+  plan_text : {a b : List Token} {x : TreeImage} → IsPlan a b x → 7 ≤ rank_of b → (d : ℕ) → Counting 0 (nodes x) (KeepsTree x) (ASource d ∷ ASteps d ∷ []) a b
+  plan_text (plan {x = x} {y = y} p l) n d = chain (in_turn (nodes x) (nodes y)) (λ f g. g f) (source_text p d) (steps_text l n d)
 
-  steps_text : {a b : List Token} {x y : TreeImage} → AreSteps a b x y → 7 ≤ rank_of b → (d : ℕ) → Reads (ASteps d ∷ []) a b
-  steps_text {a} no_step n d = passes (λ c. steps_skips c d (head_of a).kind n)
-  steps_text (one_step h p l) n d = opens h (λ c. taken c) (then_goes (step_text p (steps_rank l n) d) (steps_text l n d))
+  steps_text : {a b : List Token} {x y : TreeImage} → AreSteps a b x y → 7 ≤ rank_of b → (d : ℕ) → Counting (nodes x) (nodes y) (KeepsTree x → KeepsTree y) (ASteps d ∷ []) a b
+  steps_text {a} no_step n d = told (λ r u h. h) (passes (λ c. steps_skips c d (head_of a).kind n))
+  steps_text (one_step {x = x} {y = y} {s = s} h p l) n d = opens h (λ c. taken c) (chain (one_further (nodes x) (nodes_of_step s) (nodes y)) (λ f g t. g (t, f)) (step_text p (steps_rank l n) d) (steps_text l n d))
 
-  step_text : {a b : List Token} {m : ℕ} {x : StepImage} → IsStep a b m x → 6 ≤ rank_of b → (d : ℕ) → Reads (AStep d ∷ []) a b
-  step_text (where_step h p) n d = opens h (λ c. limited _ Nodes tt (taken _)) (pred_text p n d)
-  step_text (project_step h l) n d = opens h (λ c. limited _ Nodes tt (taken _)) (listed_text some_items l (omega (arith, n)))
-  step_text (distinct_step h l) n d = opens h (λ c. limited _ Nodes tt (taken _)) (listed_text some_items l (omega (arith, n)))
-  step_text (group_step h k l) n d = opens h (λ c. limited _ Nodes tt (taken _)) (grouping_text k l (omega (arith, n)))
-  step_text (join_step h p k l) n d = opens h (λ c. limited _ Nodes tt (taken _)) (then_goes (source_text p d) (then_goes (token_text k refl) (listed_text some_pairs l (omega (arith, n)))))
-  step_text (union_all_step h k p) n d = opens h (λ c. limited _ Nodes tt (taken _)) (opens k (λ c. taken c) (source_text p d))
-  step_text (union_step h p) n d = opens h (λ c. limited _ Nodes tt (taken _)) (united_text p d)
+  step_text : {a b : List Token} {m : ℕ} {x : StepImage} → IsStep a b m x → 6 ≤ rank_of b → (d : ℕ) → Counting 0 (nodes_of_step x) (KeepsStep x) (AStep d ∷ []) a b
+  step_text (where_step h p) n d = node_opens h (λ c. one_node c _ refl) (pred_text p n d)
+  step_text (project_step h l) n d = told (λ r f. kept_items f) (node_opens h (λ c. one_node c _ refl) (listed_text some_items l (omega (arith, n))))
+  step_text (distinct_step h l) n d = told (λ r f. kept_items f) (node_opens h (λ c. one_node c _ refl) (listed_text some_items l (omega (arith, n))))
+  step_text (group_step h k l) n d = node_opens h (λ c. one_node c _ refl) (grouping_text k l (omega (arith, n)))
+  step_text (join_step h p k l) n d = node_opens h (λ c. one_node c _ refl) (ahead (source_text p d) (then_goes (token_text k refl) (untold (listed_text some_pairs l (omega (arith, n))))))
+  step_text (union_all_step h k p) n d = node_opens h (λ c. one_node c _ refl) (opens k (λ c. taken c) (source_text p d))
+  step_text (union_step h p) n d = node_opens h (λ c. one_node c _ refl) (united_text p d)
 
 extra_text : {a b : List Token} {x : Extra} → IsExtra a b x → 8 ≤ rank_of b → Reads (AnExtra ∷ []) a b
 extra_text {a} no_extra n = passes (λ c. extra_skips c (head_of a).kind n)
@@ -217,26 +275,57 @@ extra_text (group_extra h k l) n = opens h (λ c. taken c) (grouping_text k l (o
 end_here : {a b : List Token} {t : Token} → First kinds.End t a b → (head_of a).kind ≡ kinds.End
 end_here h = ap (λ l. (head_of l).kind) h.is_first ∙ h.is_kind
 
-stmts_text : {a : List Token} {ss : List StmtImage} → AreStmts a ss → (y : Tally) → (e : List Token) × Reads (AStmts y ∷ []) a e
-stmts_text {a} (no_stmt h) y = (a, passes (λ c. ap (at_stmts y) (end_here h)))
-stmts_text (one_stmt (table_stmt h n i f j ds k) l) y = let r = stmts_text l (record y { tables = y.tables + 1 }) in (r.0, opens h (λ c. limited _ Tables tt (taken no_counts)) (then_goes (name_text n) (then_goes (token_text i refl) (then_goes (file_text f) (then_goes (token_text j refl) (both (listed_text decls ds (omega (arith, ranked k))) (then_goes (token_text k refl) r.1)))))))
-stmts_text (one_stmt (view_stmt h n q p) l) y = let r = stmts_text l (record y { views = y.views + 1 }) in (r.0, opens h (λ c. limited _ Views tt (taken no_counts)) (then_goes (name_text n) (then_goes (token_text q refl) (both (plan_text p (omega (arith, stmts_rank l)) 0) r.1))))
-stmts_text (one_stmt (back_stmt h i n j m x) l) y = let r = stmts_text l (record y { lineages = y.lineages + 1 }) in (r.0, opens h (λ c. limited _ Lineages tt (taken no_counts)) (then_goes (opens i (λ c. taken c) (then_goes (name_text n) (then_goes (token_text j refl) (then_goes (name_text m) (extra_text x (omega (arith, stmts_rank l))))))) r.1))
-stmts_text (one_stmt (fwd_stmt h i n j m) l) y = let r = stmts_text l (record y { lineages = y.lineages + 1 }) in (r.0, opens h (λ c. limited _ Lineages tt (taken no_counts)) (then_goes (opens i (λ c. taken c) (then_goes (name_text n) (then_goes (token_text j refl) (name_text m)))) r.1))
-stmts_text (one_stmt (link_stmt h n i m j xs) l) y = let r = stmts_text l (record y { links = y.links + 1 }) in (r.0, opens h (λ c. limited _ Links tt (taken no_counts)) (then_goes (name_text n) (then_goes (token_text i refl) (then_goes (name_text m) (then_goes (token_text j refl) (both (listed_text some_linked xs (omega (arith, stmts_rank l))) r.1))))))
+count_by-cons : (p : StmtImage → Bool) (s : StmtImage) (ss : List StmtImage) → count_by p (s ∷ ss) ≡ cond (p s) 1 0 + count_by p ss
+count_by-cons p s ss = sum_by-cons (λ x. cond (p x) 1 0) s ss
+
+-- one statement more
+held_table : {y : Tally} {w : Word} {n : List ℕ} {ds : List Decl} {ss : List StmtImage} → nat_lt y.tables 16 ≡ true → KeepsDecls ds → Held (record y { tables = y.tables + 1 }) ss → Held y (TableNode w n ds ∷ ss)
+held_table {y} {w} {n} {ds} {ss} e k h = record {
+  few_tables = λ b. (let u = ltb-true y.tables 16 e in let v = h.few_tables (omega (arith, u)) in let q = count_by-cons is_table (TableNode w n ds) ss in omega (arith, v, q));
+  few_views = λ b. (let v = h.few_views b in let q = count_by-cons is_view (TableNode w n ds) ss in omega (arith, v, q));
+  each = All-cons KeepsStmt (TableNode w n ds) ss k h.each;
+}
+
+held_view : {y : Tally} {w : Word} {x : TreeImage} {ss : List StmtImage} → nat_lt y.views 64 ≡ true → KeepsPlan x → Held (record y { views = y.views + 1 }) ss → Held y (ViewNode w x ∷ ss)
+held_view {y} {w} {x} {ss} e k h = record {
+  few_tables = λ b. (let v = h.few_tables b in let q = count_by-cons is_table (ViewNode w x) ss in omega (arith, v, q));
+  few_views = λ b. (let u = ltb-true y.views 64 e in let v = h.few_views (omega (arith, u)) in let q = count_by-cons is_view (ViewNode w x) ss in omega (arith, v, q));
+  each = All-cons KeepsStmt (ViewNode w x) ss k h.each;
+}
+
+held_other : {y z : Tally} {s : StmtImage} {ss : List StmtImage} → z.tables ≡ y.tables → z.views ≡ y.views → is_table s ≡ false → is_view s ≡ false → KeepsStmt s → Held z ss → Held y (s ∷ ss)
+held_other {y} {z} {s} {ss} t v i j k h = record {
+  few_tables = λ b. (let g = h.few_tables (omega (arith, t, b)) in let q = count_by-cons is_table s ss ∙ ap (λ o. cond o 1 0 + count_by is_table ss) i in omega (arith, g, q, t));
+  few_views = λ b. (let g = h.few_views (omega (arith, v, b)) in let q = count_by-cons is_view s ss ∙ ap (λ o. cond o 1 0 + count_by is_view ss) j in omega (arith, g, q, v));
+  each = All-cons KeepsStmt s ss k h.each;
+}
+
+no_more_held : (y : Tally) → Held y []
+no_more_held y = record { few_tables = λ b. omega (arith, b); few_views = λ b. omega (arith, b); each = All-nil KeepsStmt }
+
+pub stmts_text : {a : List Token} {ss : List StmtImage} → AreStmts a ss → (y : Tally) → (e : List Token) × ((c : Counts) → Ends (Unit {0}) (Held y ss) c (AStmts y ∷ []) a e)
+stmts_text {a} (no_stmt h) y = (a, λ c. ends_told (λ u. no_more_held y) (ends_pass c (ap (at_stmts y) (end_here h))))
+stmts_text (one_stmt (table_stmt h n i f j ds k) l) y = let r = stmts_text l (record y { tables = y.tables + 1 }) in (r.0, λ c. ends_told (λ u. held_table u.0 (kept_decls u.1.1) u.1.2) (opens_ends (nat_lt y.tables 16) Tables c tt refl h (then_ends (then_goes (name_text n) (then_goes (token_text i refl) (then_goes (file_text f) (then_goes (token_text j refl) (ahead (listed_text decls ds (omega (arith, ranked k))) (token_text k refl)))))) r.1)))
+stmts_text (one_stmt (view_stmt h n q p) l) y = let r = stmts_text l (record y { views = y.views + 1 }) in (r.0, λ c. ends_told (λ u. held_view u.0 (record { lists = u.1.1; few = u.1.0 }) u.1.2) (opens_ends (nat_lt y.views 64) Views c tt refl h (then_ends (then_goes (name_text n) (then_goes (token_text q refl) (plan_text p (omega (arith, stmts_rank l)) 0))) r.1)))
+stmts_text (one_stmt (back_stmt h i n j m x) l) y = let r = stmts_text l (record y { lineages = y.lineages + 1 }) in (r.0, λ c. ends_told (λ u. held_other refl refl refl refl tt u.1.2) (opens_ends (nat_lt y.lineages 256) Lineages c tt refl h (then_ends (opens i (λ c. taken c) (then_goes (name_text n) (then_goes (token_text j refl) (then_goes (name_text m) (extra_text x (omega (arith, stmts_rank l))))))) r.1)))
+stmts_text (one_stmt (fwd_stmt h i n j m) l) y = let r = stmts_text l (record y { lineages = y.lineages + 1 }) in (r.0, λ c. ends_told (λ u. held_other refl refl refl refl tt u.1.2) (opens_ends (nat_lt y.lineages 256) Lineages c tt refl h (then_ends (opens i (λ c. taken c) (then_goes (name_text n) (then_goes (token_text j refl) (name_text m)))) r.1)))
+stmts_text (one_stmt (link_stmt h n i m j xs) l) y = let r = stmts_text l (record y { links = y.links + 1 }) in (r.0, λ c. ends_told (λ u. held_other refl refl refl refl tt u.1.2) (opens_ends (nat_lt y.links 64) Links c tt refl h (then_ends (then_goes (name_text n) (then_goes (token_text i refl) (then_goes (name_text m) (then_goes (token_text j refl) (listed_text some_linked xs (omega (arith, stmts_rank l))))))) r.1)))
+
+abbrev pub no_tally : Tally
+no_tally = record { tables = 0; views = 0; lineages = 0; links = 0 }
 
 book : (a : List Token) (ss : List StmtImage) → AreStmts a ss → AtMostTooMany (book_fault a)
-book a ss h = let r = stmts_text h (record { tables = 0; views = 0; lineages = 0; links = 0 }) in by r.0 (r.1.goes no_counts [])
+book a ss h = let r = stmts_text h no_tally in by r.0 ((r.1 no_counts).goes [])
   where
-    by : (e : List Token) → Gets (Unit {0}) book_symbols [] no_counts a e → AtMostTooMany (book_fault a)
-    by e (on d f) = subst AtMostTooMany (sym (ap fault_in f)) tt
+    by : (e : List Token) → Gets (Unit {0}) (λ d. Ranged a → Held no_tally ss) book_symbols [] no_counts a e → AtMostTooMany (book_fault a)
+    by e (on d q f) = subst AtMostTooMany (sym (ap fault_in f)) tt
     by e (over p at what f) = subst AtMostTooMany (sym (ap fault_in f)) tt
 
 -- in a line there is nothing of which there may be too many
-line_name : {a b : List Token} {w : Word} → IsName a b w → Goes ⊥ (ALineName ∷ []) a b
+line_name : {a b : List Token} {w : Word} → IsName a b w → Spells (ALineName ∷ []) a b
 line_name (name h) = opens h (λ c. taken c) nothing
 
-line_column : {a b : List Token} {w : Word} → IsColumn a b w → Goes ⊥ (ALineColumn ∷ []) a b
+line_column : {a b : List Token} {w : Word} → IsColumn a b w → Spells (ALineColumn ∷ []) a b
 line_column h = column_opens (λ c t. taken c) (λ c t. taken c) h nothing
 
 mark_holds : (v : ℤ) (m : ℕ) → v ≡ pos m → nat_lt m (2 ^ 32) ≡ true → is_mark v ≡ true
@@ -246,38 +335,38 @@ mark_holds v m e f = ap is_mark e ∙ ap (λ o. int_le (pos 0) (pos m) && o) bel
     below = f
 
     above : (n : ℕ) → (int_le (pos 0) (pos n) && true) ≡ true
-    above n = ap (λ o. o && true) (le-leb 0 n (omega (arith)))
+    above n = ap (λ o. o && true) (le-leb 0 n (omega arith))
 
-some_marks : Lists ⊥ IsMark (λ k. MoreMarks) (λ k. AMark ∷ [])
+some_marks : Lists ⊥ (λ k x. Unit {0}) IsMark (λ k. MoreMarks) (λ k. AMark ∷ [])
 some_marks = record { comma = λ c k t. taken c; stops = λ c k t h. more_skips c _ t.kind h; each = each }
   where
-    each : (k : ℕ) (a b : List Token) (x : ℕ) → IsMark a b x → 1 ≤ rank_of b → Goes ⊥ (AMark ∷ []) a b
+    each : (k : ℕ) (a b : List Token) (x : ℕ) → IsMark a b x → 1 ≤ rank_of b → Spells (AMark ∷ []) a b
     each k a b x (mark {t = t} h e f) n = opens h (λ c. holds Outside (mark_holds (int_value t.text) x e f) (taken c)) nothing
 
-marks_text : {a b : List Token} {m : Marks} → AreMarks a b m → 2 ≤ rank_of b → Goes ⊥ (AMarks ∷ []) a b
+marks_text : {a b : List Token} {m : Marks} → AreMarks a b m → 2 ≤ rank_of b → Spells (AMarks ∷ []) a b
 marks_text (all_marks h) n = opens h (λ c. taken c) nothing
-marks_text (listed_marks (listed (mark {t = t} {m = m} h e f) l)) n = opens h (λ c. holds Outside (mark_holds (int_value t.text) m e f) (taken c)) (more_text some_marks 1 l n)
+marks_text (listed_marks (listed (mark {t = t} {m = m} h e f) l)) n = opens h (λ c. holds Outside (mark_holds (int_value t.text) m e f) (taken c)) (untold (more_text some_marks 1 l n))
 
-then_text : {a b : List Token} {x : Then} → IsThen a b x → 8 ≤ rank_of b → Goes ⊥ (AThen ∷ []) a b
+then_text : {a b : List Token} {x : Then} → IsThen a b x → 8 ≤ rank_of b → Spells (AThen ∷ []) a b
 then_text {a} no_then n = passes (λ c. then_skips c (head_of a).kind n)
-then_text (where_then h w i l) n = opens h (λ c. taken c) (then_goes (line_column w) (then_goes (token_text i refl) (literal_text l)))
+then_text (where_then h w i l) n = opens h (λ c. taken c) (then_goes (line_column w) (then_goes (token_text i refl) (untold (literal_text l))))
 then_text (group_then h) n = opens h (λ c. taken c) nothing
 
-line_text : {a b : List Token} {l : Line} → IsLine a b l → 8 ≤ rank_of b → Goes ⊥ (ALine ∷ []) a b
+line_text : {a b : List Token} {l : Line} → IsLine a b l → 8 ≤ rank_of b → Spells (ALine ∷ []) a b
 line_text (show_line h w) n = opens h (λ c. taken c) (line_name w)
 line_text (back_line h w m i z x) n = opens h (λ c. taken c) (then_goes (line_name w) (then_goes (marks_text m (omega (arith, ranked i))) (then_goes (token_text i refl) (then_goes (line_name z) (then_text x n)))))
 line_text (fwd_line h w m i z) n = opens h (λ c. taken c) (then_goes (line_name w) (then_goes (marks_text m (omega (arith, ranked i))) (then_goes (token_text i refl) (line_name z))))
 line_text (brush_line h w m i z) n = opens h (λ c. taken c) (then_goes (line_name w) (then_goes (marks_text m (omega (arith, ranked i))) (then_goes (token_text i refl) (line_name z))))
 line_text (clear_line h) n = opens h (λ c. taken c) nothing
 
-whole_text : {a : List Token} {l : Line} → IsWholeLine a l → (e : List Token) × Goes ⊥ line_symbols a e
+whole_text : {a : List Token} {l : Line} → IsWholeLine a l → (e : List Token) × Spells line_symbols a e
 whole_text (whole_line {b = b} p h) = (b, then_goes (line_text p (omega (arith, ranked h))) (passes (λ c. ap at_end (end_here h))))
 
 line : (a : List Token) (l : Line) → IsWholeLine a l → line_fault a ≡ None
 line a l h = let r = whole_text h in by r.0 (r.1.goes no_counts [])
   where
-    by : (e : List Token) → Gets ⊥ line_symbols [] no_counts a e → line_fault a ≡ None
-    by e (on d f) = ap fault_in f
+    by : (e : List Token) → Gets ⊥ (Adds 0 0 (Ranged a → Unit {0}) no_counts) line_symbols [] no_counts a e → line_fault a ≡ None
+    by e (on d q f) = ap fault_in f
     by e (over p at what f) = absurd p
 
 pub texts_are_read : TextsAreRead

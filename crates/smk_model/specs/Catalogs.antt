@@ -1,8 +1,6 @@
 -- What every checked book keeps.
-use Rattle.std.specs.Prelude.{◌≡◌, ◌≤◌, ◌<◌, ℕ, List, map, length, Option, Some, None, All}
-use Rattle.smk_base.specs.declared.value.Value.{Value}
+use Rattle.std.specs.Prelude.{◌≡◌, ◌≤◌, ◌<◌, ℕ, List, map, length, All}
 use Rattle.smk_base.specs.declared.value.Kind.{Kind}
-use Rattle.smk_base.specs.declared.col_decl.ColDecl.{ColDecl}
 use Rattle.smk_base.specs.declared.catalog.TableInfo.{TableInfo}
 use Rattle.smk_base.specs.declared.catalog.Back.{Back}
 use Rattle.smk_base.specs.declared.catalog.BackExtra.{BackExtra}
@@ -13,8 +11,8 @@ use Rattle.smk_base.specs.declared.plan.Agg.{Agg}
 use Rattle.smk_base.specs.Plans.{Grouping}
 use Rattle.smk_base.specs.CatalogImage.{CatalogImage, ViewImage}
 use Rattle.smk_model.specs.Names.{kinds_of}
-use Rattle.smk_model.specs.Kinds.{AreAlike, kind_of, GroupFits, kinds1}
-use Rattle.smk_model.specs.Limits.{IsInRange}
+use Rattle.smk_model.specs.Kinds.{GroupFits, kinds1}
+use Rattle.smk_model.specs.Tables.{IsBaseColumn}
 use Rattle.smk_model.specs.Typing.{columns_of, table_at}
 use Rattle.smk_model.specs.Selection.{ScansFit, PlanFits, leaf_kinds, plan_kinds, nodes}
 
@@ -38,14 +36,6 @@ pub record ViewFits (tables : List TableInfo) (view : ViewImage) : Type 0 where
   pub kinds : plan_kinds view.plan (leaf_kinds view.plan (each_table_kinds tables)) ≡ view.kinds
   pub named : length view.names ≡ length view.kinds
   pub few : nodes view.plan ≤ 64
-
--- a default has its column's kind, and is in the range of i64
-abbrev pub DefaultFits : Kind → Option Value → Type 0
-DefaultFits kind None = Unit {0}
-DefaultFits kind (Some value) = AreAlike kind (kind_of value) × IsInRange value
-
-abbrev pub ColumnFits : ColDecl → Type 0
-ColumnFits col = DefaultFits col.kind col.def
 
 -- a grouping over these kinds fits them, and its columns have its kinds and a name each
 pub record GroupingFits (kinds : List Kind) (keys : List ℕ) (aggs : List Agg) (names : List (List ℕ)) (own : List Kind) : Type 0 where
@@ -76,7 +66,7 @@ pub record LinkFits (tables views : ℕ) (link : LinkInfo) : Type 0 where
 
 -- every number names something, and every kind is right
 pub record IsTyped (catalog : CatalogImage) : Type 0 where
-  pub columns : All (λ table. All ColumnFits table.cols) catalog.tables
+  pub columns : All (λ table. All IsBaseColumn table.cols) catalog.tables
   pub views : All (ViewFits catalog.tables) catalog.views
   pub backs : All (BackFits catalog.tables (length catalog.views)) catalog.backs
   pub fwds : All (FwdFits (length catalog.tables) (length catalog.views)) catalog.fwds

@@ -1,5 +1,5 @@
 -- The line that says a fault.
-use Rattle.std.specs.Prelude.{◌≢◌, ⊤, ℕ, List, [], ◌∷◌, ◌++◌, Option, Some, None, IsSome, IsNone, unwrap_or, codes, decimal}
+use Rattle.std.specs.Prelude.{◌≢◌, ⊤, ℕ, List, [], ◌∷◌, ◌++◌, Option, IsSome, IsNone, unwrap_or, codes, decimal}
 use Rattle.smk_base.specs.declared.fault.Fault.{Fault}
 use Rattle.smk_base.specs.declared.fault.Fault.TheVariants.{Usage, Book, Types, Table, FileLong, TableRows, ViewRows, ViewPairs, Unread, Form}
 use Rattle.smk_base.specs.declared.fault.BookFault.{BookFault}

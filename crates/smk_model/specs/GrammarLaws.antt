@@ -5,8 +5,9 @@ use Rattle.smk_base.specs.declared.fault.BookFault.{BookFault}
 use Rattle.smk_base.specs.declared.fault.BookFault.TheVariants.{BadToken, Unexpected, TooMany, BadNumber, NoMemory}
 use Rattle.smk_base.specs.declared.tree.Line.{Line}
 use Rattle.smk_base.specs.Trees.{StmtImage}
-use Rattle.smk_model.specs.Tokens.{Token}
+use Rattle.smk_model.specs.Tokens.{Token, tokens}
 use Rattle.smk_model.specs.Grammar.{AreStmts, IsWholeLine}
+use Rattle.smk_model.specs.Limits.{KeepsLimits}
 use Rattle.smk_model.specs.Machine.{State, through, book_symbols, line_symbols, no_counts, book_fault, line_fault}
 
 -- no fault, or that there are too many of something
@@ -65,3 +66,7 @@ NoEnds (t ∷ ts) = (t.kind ≡ End → ⊥) × NoEnds ts
 pub record TakenAreCompleted : Type 0 where
   pub book : (ts : List Token) (s : State) → NoEnds ts → through book_symbols no_counts ts ≡ Ok s → s.rest ≡ [] → (more : List Token) × (ss : List StmtImage) × AreStmts (ts ++ more) ss
   pub line : (ts : List Token) (s : State) → NoEnds ts → through line_symbols no_counts ts ≡ Ok s → s.rest ≡ [] → (more : List Token) × (l : Line) × IsWholeLine (ts ++ more) l
+
+-- a text that spells a book and has no fault keeps the limits
+abbrev pub FaultlessKeepLimits : Type 0
+FaultlessKeepLimits = (text : List ℕ) (ss : List StmtImage) → AreStmts (tokens text) ss → book_fault (tokens text) ≡ None → KeepsLimits ss

@@ -10,9 +10,13 @@ pub mod Kinds
 pub mod Locals
 pub mod Annotated
 pub mod Texts
-pub mod First
 pub mod Session
+pub mod Forms
+pub mod Reports
 pub mod Outcome
+pub mod OutcomeLaws
+pub mod Looks
+pub mod RunExamples
 pub mod CuiWidom
 pub mod Composed
 pub mod ComposedLaws
@@ -25,6 +29,7 @@ pub mod Grammar
 pub mod GrammarLaws
 pub mod Machine
 pub mod Lines
+pub mod Readings
 pub mod ShownNames
 pub mod FaultTexts
 pub mod ReplyTexts

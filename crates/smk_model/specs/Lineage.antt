@@ -1,5 +1,5 @@
 -- One-step lineage: the places of the inputs that an output row comes from. Every list of places is a filter of places by a test.
-use Rattle.std.specs.Prelude.{ℕ, ◌-◌, Bool, cond, List, [], ◌∷◌, ◌++◌, length, map, slice_index_or, nat_lt}
+use Rattle.std.specs.Prelude.{ℕ, ◌-◌, cond, List, [], ◌∷◌, ◌++◌, length, map, slice_index_or, nat_lt}
 use Rattle.std.specs.List.{flat_map}
 pub use Rattle.smk_base.specs.Places.{upto, places, has}
 use Rattle.smk_base.specs.declared.plan.Op2.{Op2}

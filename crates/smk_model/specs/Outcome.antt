@@ -1,15 +1,31 @@
--- The outcome of a run: a function of its words and of what the files hold.
-use Rattle.std.specs.Prelude.{◌≡◌, ◌≢◌, ◌⊎◌, ℕ, ℤ, Bool, true, false, cond, ◌||◌, nat_eq, nat_lt, List, [], ◌∷◌, ◌++◌, length, map, slice_index_or, Option, Some, None, Result, Ok, Err, Contains, codes}
-use Rattle.std.specs.Option.{ok_or, option_to_list}
-use Rattle.std.specs.List.{list_any, flat_map}
-use Rattle.smk_base.specs.declared.value.Value.TheVariants.{Int}
+-- The outcome of a run, by its words and by what the files hold: its report, or its first fault.
+use Rattle.std.specs.Prelude.{◌≡◌, ◌≢◌, ◌⊎◌, ℕ, Bool, false, cond, nat_eq, nat_lt, List, [], ◌∷◌, ◌++◌, length, map, slice_index_or, Option, Some, None, Result, Ok, Err}
+use Rattle.std.specs.Option.{ok_or}
+use Rattle.std.specs.List.{list_any, list_all}
+use Rattle.smk_base.specs.Marks.{after_marks}
+use Rattle.smk_base.specs.Trees.{StmtImage}
+use Rattle.smk_base.specs.CatalogImage.{CatalogImage, ViewImage}
+use Rattle.smk_base.specs.declared.catalog.TableInfo.{TableInfo}
+use Rattle.smk_base.specs.declared.col_decl.ColDecl.{ColDecl}
+use Rattle.smk_base.specs.declared.value.Kind.TheVariants.{Text}
 use Rattle.smk_base.specs.declared.fault.Fault.{Fault}
-use Rattle.smk_base.specs.declared.fault.Fault.TheVariants.{Usage, Form, Unread}
+use Rattle.smk_base.specs.declared.fault.Fault.TheVariants.{Usage, Book, Types, Form, Table, FileLong, TableRows, ViewRows, Unread}
+use Rattle.smk_base.specs.declared.fault.BookFault.{BookFault}
+use Rattle.smk_base.specs.declared.fault.TableFault.{TableFault}
+use Rattle.smk_base.specs.declared.fault.TableFault.TheVariants as table_faults
 use Rattle.smk_model.specs.Values.{Row}
 use Rattle.smk_model.specs.Plain.{eval, whole}
-use Rattle.smk_model.specs.First.{FirstBook, plan_of, first_book, first_table, first_script}
-use Rattle.smk_model.specs.Session.{Reply, Found, NoRow, is_refused, back_reply}
-use Rattle.smk_model.specs.Texts.{view_text, back_text, no_row_text}
+use Rattle.smk_model.specs.Tokens.{tokens}
+use Rattle.smk_model.specs.Grammar.{AreStmts}
+use Rattle.smk_model.specs.Machine.{book_fault}
+use Rattle.smk_model.specs.Names.{Typed}
+use Rattle.smk_model.specs.Typing.{types}
+use Rattle.smk_model.specs.Tables.{table_of, all_or_first}
+use Rattle.smk_model.specs.Selection.{first_full}
+use Rattle.smk_model.specs.Readings.{Reading, AreReadingsOf}
+use Rattle.smk_model.specs.Session.{Workbook}
+use Rattle.smk_model.specs.Forms.{is_book_answered, is_reading_answered}
+use Rattle.smk_model.specs.Reports.{Report, report_of}
 
 -- what the files hold: the bytes under a name, or none
 abbrev pub Held : Type 0
@@ -44,105 +60,137 @@ next (Err fault) f = Err fault
 abbrev pub file_limit : ℕ
 file_limit = 67108864
 
--- what a file says to a reader of its form, where it can be read, isn't too long and has the form
-abbrev pub formed : {A : Type 0} → List ℕ → Option A → Result A Fault
-formed name content = ok_or content (Form name)
-
+-- the bytes of a file that can be read and isn't too long
 abbrev pub kept_short : List ℕ → List ℕ → Result (List ℕ) Fault
-kept_short name bytes = cond (nat_lt file_limit (length bytes)) (Err (Form name)) (Ok bytes)
+kept_short name bytes = cond (nat_lt file_limit (length bytes)) (Err (FileLong name)) (Ok bytes)
 
 abbrev pub content_of : Held → List ℕ → Result (List ℕ) Fault
 content_of held name = next (ok_or (held name) (Unread name)) (kept_short name)
 
-abbrev pub read_as : {A : Type 0} → (List ℕ → Option A) → Held → List ℕ → Result A Fault
-read_as form held name = next (content_of held name) (λ bytes. formed name (form bytes))
+-- the statements that a text spells, or its first fault
+pub data Parses (text : List ℕ) : Result (List StmtImage) Fault → Type 0 where
+  spells : {stmts : List StmtImage} → AreStmts (tokens text) stmts → book_fault (tokens text) ≡ None → Parses text (Ok stmts)
+  misspells : {fault : BookFault} → book_fault (tokens text) ≡ Some fault → Parses text (Err (Book fault))
 
--- the marks of a script; a run without one has none
-abbrev pub read_script : FirstBook → Held → Option (List ℕ) → Result (List ℕ) Fault
-read_script book held None = Ok []
-read_script book held (Some name) = read_as (first_script book.view book.table) held name
+-- the catalog of a book that is answered
+abbrev pub answered_book : List ℕ → Typed CatalogImage → Result CatalogImage Fault
+answered_book name (Ok catalog) = cond (is_book_answered catalog) (Ok catalog) (Err (Form name))
+answered_book name (Err fault) = Err (Types fault)
 
--- what a run reads
+-- the catalog of the bytes of a book's file, after every byte order mark at its front
+pub data BookSays (name bytes : List ℕ) : Result CatalogImage Fault → Type 0 where
+  unparsed : {fault : Fault} → Parses (after_marks bytes) (Err fault) → BookSays name bytes (Err fault)
+  parsed : {stmts : List StmtImage} {answer : Result CatalogImage Fault} → Parses (after_marks bytes) (Ok stmts) → answered_book name (types stmts) ≡ answer → BookSays name bytes answer
+
+-- one reading of a file after its bytes, or the fault that it has no bytes
+pub data FileSays {A : Type 0} (held : Held) (name : List ℕ) (says : List ℕ → Result A Fault → Type 0) : Result A Fault → Type 0 where
+  unread : {fault : Fault} → content_of held name ≡ Err fault → FileSays held name says (Err fault)
+  read : {bytes : List ℕ} {answer : Result A Fault} → content_of held name ≡ Ok bytes → says bytes answer → FileSays held name says answer
+
+abbrev pub OpensBook : Held → List ℕ → Result CatalogImage Fault → Type 0
+OpensBook held name answer = FileSays held name (BookSays name) answer
+
+-- the name of a declared column
+abbrev pub no_column : ColDecl
+no_column = record { name = []; kind = Text; def = None }
+
+abbrev pub column_name : List ColDecl → ℕ → List ℕ
+column_name cols c = (slice_index_or cols c no_column).name
+
+-- the name of the column that a fault of a table is one of
+abbrev pub faulty_column : List ColDecl → TableFault → Option (List ℕ)
+faulty_column cols (table_faults.MissingColumn c) = Some (column_name cols c)
+faulty_column cols (table_faults.RepeatedColumn c) = Some (column_name cols c)
+faulty_column cols (table_faults.BadInt nth c) = Some (column_name cols c)
+faulty_column cols _ = None
+
+-- the fault of a run that a fault of a table is
+abbrev pub fault_of_table : TableInfo → TableFault → Fault
+fault_of_table table table_faults.TooManyRows = TableRows table.name
+fault_of_table table fault = Table table.name (faulty_column table.cols fault) fault
+
+abbrev pub or_table_fault : TableInfo → Result (List Row) TableFault → Result (List Row) Fault
+or_table_fault table (Ok rows) = Ok rows
+or_table_fault table (Err fault) = Err (fault_of_table table fault)
+
+-- the rows of a table, by its file
+abbrev pub load : Held → TableInfo → Result (List Row) Fault
+load held table = next (content_of held table.file) (λ bytes. or_table_fault table (table_of table.cols bytes))
+
+-- the rows of each table in the book's order, or the first fault
+abbrev pub load_all : Held → List TableInfo → Result (List (List Row)) Fault
+load_all held tables = all_or_first (map (load held) tables)
+
+-- the readings of a script whose lines are answered
+pub data ScriptSays (name bytes : List ℕ) : Result (List Reading) Fault → Type 0 where
+  lines_read : {readings : List Reading} → AreReadingsOf bytes readings → ScriptSays name bytes (cond (list_all is_reading_answered readings) (Ok readings) (Err (Form name)))
+
+-- the readings of a run's script; a run without one has none
+pub data OpensScript (held : Held) : Option (List ℕ) → Result (List Reading) Fault → Type 0 where
+  no_script : OpensScript held None (Ok [])
+  a_script : {name : List ℕ} {answer : Result (List Reading) Fault} → FileSays held name (ScriptSays name) answer → OpensScript held (Some name) answer
+
+-- the rows of a view, unless one of its nodes has more than the limit
+abbrev pub within_limit : ViewImage → Option ℕ → List Row → Result (List Row) Fault
+within_limit view (Some node) rows = Err (ViewRows view.name node)
+within_limit view None rows = Ok rows
+
+abbrev pub view_content : List (List Row) → ViewImage → Result (List Row) Fault
+view_content tables view =
+    let E = whole view.plan tables in
+    within_limit view (first_full view.plan E) (eval view.plan E)
+
+-- the rows of each view in the book's order, or the first fault
+abbrev pub view_contents : Workbook → Result (List (List Row)) Fault
+view_contents book = all_or_first (map (view_content book.tables) book.catalog.views)
+
+-- a run's workbook and its readings
 pub record Inputs : Type 0 where
-  pub book : FirstBook
-  pub numbers : List ℤ
-  pub marks : List ℕ
+  pub book : Workbook
+  pub readings : List Reading
 
-abbrev pub read_book : Held → Words → Result FirstBook Fault
-read_book held words = read_as first_book held words.book
+-- what a run reads, or its first fault: words; the book; the tables in the book's order; the script
+pub data ReadsInputs (words : List (List ℕ)) (held : Held) : Result Inputs Fault → Type 0 where
+  unusable : words_of words ≡ None → ReadsInputs words held (Err Usage)
+  no_book : {ws : Words} {fault : Fault} → words_of words ≡ Some ws → OpensBook held ws.book (Err fault) → ReadsInputs words held (Err fault)
+  no_tables : {ws : Words} {catalog : CatalogImage} {fault : Fault} → words_of words ≡ Some ws → OpensBook held ws.book (Ok catalog)
+      → load_all held catalog.tables ≡ Err fault → ReadsInputs words held (Err fault)
+  no_readings : {ws : Words} {catalog : CatalogImage} {tables : List (List Row)} {fault : Fault} → words_of words ≡ Some ws → OpensBook held ws.book (Ok catalog)
+      → load_all held catalog.tables ≡ Ok tables → OpensScript held ws.script (Err fault) → ReadsInputs words held (Err fault)
+  inputs : {ws : Words} {catalog : CatalogImage} {tables : List (List Row)} {readings : List Reading} → words_of words ≡ Some ws → OpensBook held ws.book (Ok catalog)
+      → load_all held catalog.tables ≡ Ok tables → OpensScript held ws.script (Ok readings)
+      → ReadsInputs words held (Ok (record { book = record { catalog = catalog; tables = tables }; readings = readings }))
 
-abbrev pub read_table : Held → FirstBook → Result (List ℤ) Fault
-read_table held book = read_as (first_table book.column) held book.file
-
--- the inputs, or the first fault: words; book unread, book form; table unread, table form; script unread, script form
-abbrev pub read_from : Held → Words → Result Inputs Fault
-read_from held words =
-    next (read_book held words) (λ book.
-    next (read_table held book) (λ numbers.
-    next (read_script book held words.script) (λ marks.
-    Ok (record { book = book; numbers = numbers; marks = marks }))))
-
-abbrev pub read_inputs : List (List ℕ) → Held → Result Inputs Fault
-read_inputs words held = next (ok_or (words_of words) Usage) (read_from held)
-
--- the rows of the table
-abbrev pub table_rows : List ℤ → List Row
-table_rows numbers = map (λ n. Int n ∷ []) numbers
-
--- what a run writes, and whether a line was refused
-pub record Report : Type 0 where
-  pub text : List ℕ
-  pub refused : Bool
-
-abbrev pub tables_of : Inputs → List (List Row)
-tables_of inputs = table_rows inputs.numbers ∷ []
-
-abbrev pub view_rows : Inputs → List Row
-view_rows inputs = eval (plan_of inputs.book) (whole (plan_of inputs.book) (tables_of inputs))
-
-abbrev pub reply_of : Inputs → ℕ → Reply
-reply_of inputs mark = back_reply (plan_of inputs.book) (tables_of inputs) 0 (mark ∷ [])
-
-abbrev pub reply_text : FirstBook → Reply → List ℕ
-reply_text book (Found rids rows) = back_text book.view book.table (book.column ∷ []) rids rows
-reply_text book (NoRow row rows) = no_row_text row rows
-
--- the view's text, then the replies in the order of the lines
-abbrev pub report_of : Inputs → Report
-report_of inputs = record {
-  text = view_text inputs.book.view (inputs.book.column ∷ []) (view_rows inputs) ++ flat_map (λ mark. reply_text inputs.book (reply_of inputs mark)) inputs.marks;
-  refused = list_any (λ mark. is_refused (reply_of inputs mark)) inputs.marks;
-}
+-- the report of what was read, unless a node of a view has too many rows
+abbrev pub reported : Inputs → Result Report Fault
+reported given = next (view_contents given.book) (λ contents. Ok (report_of given.book given.readings))
 
 -- the outcome of a run: its report or the first fault
-abbrev pub outcome : List (List ℕ) → Held → Result Report Fault
-outcome words held = next (read_inputs words held) (λ inputs. Ok (report_of inputs))
+pub data Outcome (words : List (List ℕ)) (held : Held) : Result Report Fault → Type 0 where
+  unreadable : {fault : Fault} → ReadsInputs words held (Err fault) → Outcome words held (Err fault)
+  read : {inputs : Inputs} {answer : Result Report Fault} → ReadsInputs words held (Ok inputs) → reported inputs ≡ answer → Outcome words held answer
 
--- the files that are read where no fault was met before
-abbrev pub after : {A : Type 0} → Result A Fault → (A → List (List ℕ)) → List (List ℕ)
-after (Ok a) f = f a
-after (Err fault) f = []
-
-abbrev pub files_read : List (List ℕ) → Held → List (List ℕ)
-files_read words held =
-    after (ok_or (words_of words) Usage) (λ ws. ws.book ∷
-    after (read_book held ws) (λ book. book.file ∷
-    after (read_table held book) (λ numbers. option_to_list ws.script)))
+-- a file that is read where no fault was met before
+pub data IsAskedFor (words : List (List ℕ)) (held : Held) : List ℕ → Type 0 where
+  the_book : {ws : Words} → words_of words ≡ Some ws → IsAskedFor words held ws.book
+  a_table : {ws : Words} {catalog : CatalogImage} {tables : List (List Row)} (before : List TableInfo) (table : TableInfo) (behind : List TableInfo) → words_of words ≡ Some ws → OpensBook held ws.book (Ok catalog)
+      → catalog.tables ≡ before ++ table ∷ behind → load_all held before ≡ Ok tables → IsAskedFor words held table.file
+  the_script : {ws : Words} {catalog : CatalogImage} {tables : List (List Row)} {name : List ℕ} → words_of words ≡ Some ws → OpensBook held ws.book (Ok catalog)
+      → load_all held catalog.tables ≡ Ok tables → ws.script ≡ Some name → IsAskedFor words held name
 
 -- a fault that a read may say since it failed: that a file can't be read which is read where no fault was met before
 abbrev pub NamesRead : List (List ℕ) → Held → Fault → Type 0
-NamesRead words held (Unread file) = Contains (files_read words held) file
+NamesRead words held (Unread file) = IsAskedFor words held file
 NamesRead words held _ = ⊥
 
 -- the cause of a fault: it is the run's outcome, or a read failed, which the count of faults shows; where the files don't tell what they hold, what is left of this
 abbrev pub HasCause : List (List ℕ) → Option Held → Type 0 → Fault → Type 0
-HasCause words (Some held) rose fault = (outcome words held ≡ Err fault) ⊎ (rose × NamesRead words held fault)
+HasCause words (Some held) rose fault = Outcome words held (Err fault) ⊎ (rose × NamesRead words held fault)
 HasCause words None rose Usage = words_of words ≡ None
 HasCause words None rose (Unread file) = (words_of words ≢ None) × rose
-HasCause words None rose (Form file) = words_of words ≢ None
-HasCause words None rose _ = ⊥
+HasCause words None rose _ = words_of words ≢ None
 
 -- a report of the run: its outcome, where the files tell what they hold
 abbrev pub IsReport : List (List ℕ) → Option Held → Report → Type 0
-IsReport words (Some held) report = outcome words held ≡ Ok report
+IsReport words (Some held) report = Outcome words held (Ok report)
 IsReport words None report = words_of words ≢ None

@@ -1,5 +1,5 @@
 -- The table of the bytes of a file: the records that csv reads, the header, then each record in order, or the first fault.
-use Rattle.std.specs.Prelude.{◌≡◌, ℕ, ◌+◌, ◌≤◌, Bool, ◌==◌, ◌||◌, not, List, [], ◌∷◌, length, map, slice_index_or, All, Option, Some, None, unwrap_or, IfSome, Result, Ok, Err, if◌then◌else◌}
+use Rattle.std.specs.Prelude.{◌≡◌, ℕ, ◌+◌, ◌≤◌, ◌==◌, List, [], ◌∷◌, length, map, slice_index_or, All, Option, Some, None, unwrap_or, IfSome, Result, Ok, Err, if◌then◌else◌}
 use Rattle.std.specs.List.{list_all}
 use Rattle.std.specs.Option.{ok_or, option_map}
 use Rattle.std.specs.Cmp.Lexicographic.{pointwise}

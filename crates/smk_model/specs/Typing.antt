@@ -1,5 +1,5 @@
 -- Typing: a book's statements in order give its catalog, or the first fault with its place.
-use Rattle.std.specs.Prelude.{ℕ, Bool, false, true, not, ◌&&◌, nat_eq, List, [], ◌∷◌, ◌++◌, map, slice_index_or, Option, Some, None, option_map, ok_or, Ok, Err}
+use Rattle.std.specs.Prelude.{ℕ, Bool, false, true, not, ◌&&◌, nat_eq, List, [], ◌∷◌, ◌++◌, map, slice_index_or, Option, Some, None, ok_or, Ok}
 use Rattle.std.specs.List.{list_any, flat_map}
 use Rattle.smk_base.specs.declared.value.Kind.{Kind}
 use Rattle.smk_base.specs.declared.value.Kind.TheVariants as kinds

@@ -1,8 +1,14 @@
-//! A small example worked by hand, which the definitions compute. It is an empty function whose contract has the example's values.
+//! Small examples worked by hand, which the definitions compute. Each is an empty function whose contract has the example's values.
 
 ghost use Rattle.smk_model.specs.Examples.{ExamplesHold};
+ghost use Rattle.smk_model.specs.RunExamples.{RunsHold};
 
 /// The rows of six views over two tables, the rids that they come from, and the lists of one step.
 pub fn examples_hold()
     ensures { ExamplesHold }
+{}
+
+/// The rows, the texts of the views and the replies of a run, and the faults of a table's file.
+pub fn runs_hold()
+    ensures { RunsHold }
 {}

@@ -3,7 +3,7 @@ ghost use Rattle.smk_base.specs.Trees.{StmtImage};
 ghost use Rattle.smk_base.specs.declared.tree.Line.{Line};
 ghost use Rattle.smk_model.specs.Tokens.{Token};
 ghost use Rattle.smk_model.specs.Grammar.{AreStmts, IsWholeLine};
-ghost use Rattle.smk_model.specs.GrammarLaws.{FaultlessHaveTrees, FaultsStay, TakenAreCompleted, TextsAreRead};
+ghost use Rattle.smk_model.specs.GrammarLaws.{FaultlessHaveTrees, FaultlessKeepLimits, FaultsStay, TakenAreCompleted, TextsAreRead};
 
 /// No tokens are two books.
 #[tactic(auto, using(crate::proofs::Unique::one_book))]
@@ -39,4 +39,10 @@ pub fn faultless_have_trees()
 #[tactic(auto, using(crate::proofs::Completing::taken_are_completed))]
 pub fn taken_are_completed()
     ensures { TakenAreCompleted }
+{}
+
+/// A text that spells a book and has no fault keeps the limits that typing rests on.
+#[tactic(auto, using(crate::proofs::Keeping::faultless_keep_limits))]
+pub fn faultless_keep_limits()
+    ensures { FaultlessKeepLimits }
 {}

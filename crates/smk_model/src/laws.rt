@@ -3,11 +3,15 @@
 pub use crate::composed_laws::{
     backs_compose, forwards_compose, leaves_split, lists_stand, merged_has_both,
 };
-pub use crate::example_laws::examples_hold;
+pub use crate::example_laws::{examples_hold, runs_hold};
 pub use crate::grammar_laws::{
-    faultless_have_trees, faults_stay, one_book, one_line, taken_are_completed, texts_are_read,
+    faultless_have_trees, faultless_keep_limits, faults_stay, one_book, one_line,
+    taken_are_completed, texts_are_read,
 };
 pub use crate::lineage_laws::{
     answers_are_places, bin_is_floor, cui_widom, rows_agree, selection_lineage, step_by_step,
 };
 pub use crate::local_laws::{adds_no_rows, cut, lists_grow, locals_are};
+pub use crate::outcome_laws::{
+    faultless_texts_spell, one_outcome, one_reading, some_outcome, some_reading,
+};

@@ -7,3 +7,4 @@ pub mod grammar_laws;
 pub mod laws;
 pub mod lineage_laws;
 pub mod local_laws;
+pub mod outcome_laws;

@@ -1,0 +1,94 @@
+-- Every run has an outcome, and every script a list of readings.
+use Rattle.std.specs.Prelude.{Option, Some, None, Result, Ok, Err}
+use Rattle.std.proofs.Common.{◌≡◌, ℕ, List, [], ◌∷◌, refl}
+use Rattle.smk_base.specs.CatalogImage.{CatalogImage}
+use Rattle.smk_base.specs.Marks.{after_marks}
+use Rattle.smk_base.specs.Trees.{StmtImage}
+use Rattle.smk_base.specs.declared.token.TokenKind.{TokenKind}
+use Rattle.smk_base.specs.declared.token.TokenKind.TheVariants as kinds
+use Rattle.smk_base.specs.declared.fault.Fault.{Fault}
+use Rattle.smk_base.specs.declared.fault.Fault.TheVariants.{Book}
+use Rattle.smk_base.specs.declared.fault.BookFault.{BookFault}
+use Rattle.smk_model.specs.Values.{Row}
+use Rattle.smk_model.specs.Tokens.{tokens, head_of}
+use Rattle.smk_model.specs.Machine.{book_fault, line_fault}
+use Rattle.smk_model.specs.Lines.{lines, place_of}
+use Rattle.smk_model.specs.Typing.{types}
+use Rattle.smk_model.specs.Readings.{Reading, Nothing, Asks, Unread, IsReading, says_nothing, asks, leaves, AreReadings, no_line, one_line}
+use Rattle.smk_model.specs.Reports.{Report}
+use Rattle.smk_model.specs.Outcome.{Held, Words, Parses, spells, misspells, BookSays, unparsed, parsed, FileSays, unread, read, ScriptSays, lines_read, OpensBook, OpensScript, no_script, a_script, Inputs, ReadsInputs, unusable, no_book, no_tables, no_readings, inputs, Outcome, unreadable, words_of, content_of, load_all, answered_book, reported}
+use Rattle.smk_model.specs.OutcomeLaws.{FaultlessTextsSpell, SomeReading, SomeOutcome}
+use Rattle.smk_model.proofs.Sound.{faultless_have_trees}
+use Rattle.smk_model.proofs.Closing.{book_finishes, line_finishes}
+
+pub faultless_texts_spell : FaultlessTextsSpell
+faultless_texts_spell text e = faultless_have_trees.book (tokens text) (book_finishes text e) e
+
+some_line : (text : List ℕ) → (reading : Reading) × IsReading text reading
+some_line text = by (head_of (tokens text)).kind refl (line_fault (tokens text)) refl
+  where
+    by : (k : TokenKind) → (head_of (tokens text)).kind ≡ k → (f : Option BookFault) → line_fault (tokens text) ≡ f → (reading : Reading) × IsReading text reading
+    by kinds.End q f e = (Nothing, says_nothing q)
+    by _ q (Some f) e = (Unread (place_of f), leaves (λ h. absurd (cc)) e refl)
+    by _ q None e = let r = faultless_have_trees.line (tokens text) (line_finishes text e) e in (Asks r.0, asks (λ h. absurd (cc)) r.1)
+
+some_lines : (texts : List (List ℕ)) → (readings : List Reading) × AreReadings texts readings
+some_lines [] = ([], no_line)
+some_lines (text ∷ texts) = let r = some_line text in let s = some_lines texts in (r.0 ∷ s.0, one_line r.1 s.1)
+
+pub some_reading : SomeReading
+some_reading bytes = some_lines (lines (after_marks bytes))
+
+some_parse : (text : List ℕ) → (answer : Result (List StmtImage) Fault) × Parses text answer
+some_parse text = by (book_fault (tokens text)) refl
+  where
+    by : (f : Option BookFault) → book_fault (tokens text) ≡ f → (answer : Result (List StmtImage) Fault) × Parses text answer
+    by (Some f) e = (Err (Book f), misspells e)
+    by None e = let r = faultless_texts_spell text e in (Ok r.0, spells r.1 e)
+
+some_book : (name bytes : List ℕ) → (answer : Result CatalogImage Fault) × BookSays name bytes answer
+some_book name bytes = let r = some_parse (after_marks bytes) in by r.0 r.1
+  where
+    by : (a : Result (List StmtImage) Fault) → Parses (after_marks bytes) a → (answer : Result CatalogImage Fault) × BookSays name bytes answer
+    by (Ok stmts) p = (answered_book name (types stmts), parsed p refl)
+    by (Err fault) p = (Err fault, unparsed p)
+
+-- a file says something, where all bytes do
+some_file : {A : Type 0} (held : Held) (name : List ℕ) (says : List ℕ → Result A Fault → Type 0) → ((bytes : List ℕ) → (answer : Result A Fault) × says bytes answer) → (answer : Result A Fault) × FileSays held name says answer
+some_file {A} held name says all = by (content_of held name) refl
+  where
+    by : (c : Result (List ℕ) Fault) → content_of held name ≡ c → (answer : Result A Fault) × FileSays held name says answer
+    by (Ok bytes) e = let r = all bytes in (r.0, read e r.1)
+    by (Err fault) e = (Err fault, unread e)
+
+some_script : (held : Held) (s : Option (List ℕ)) → (answer : Result (List Reading) Fault) × OpensScript held s answer
+some_script held None = (Ok [], no_script)
+some_script held (Some name) = let r = some_file held name (ScriptSays name) (λ bytes. let q = some_reading bytes in (_, lines_read q.1)) in (r.0, a_script r.1)
+
+some_inputs : (words : List (List ℕ)) (held : Held) → (answer : Result Inputs Fault) × ReadsInputs words held answer
+some_inputs words held = by (words_of words) refl
+  where
+    scripted : (ws : Words) (catalog : CatalogImage) (tables : List (List Row)) → words_of words ≡ Some ws → OpensBook held ws.book (Ok catalog) → load_all held catalog.tables ≡ Ok tables
+        → (s : Result (List Reading) Fault) → OpensScript held ws.script s → (answer : Result Inputs Fault) × ReadsInputs words held answer
+    scripted ws catalog tables w b t (Ok readings) p = (_, inputs w b t p)
+    scripted ws catalog tables w b t (Err fault) p = (_, no_readings w b t p)
+
+    loaded : (ws : Words) (catalog : CatalogImage) → words_of words ≡ Some ws → OpensBook held ws.book (Ok catalog)
+        → (t : Result (List (List Row)) Fault) → load_all held catalog.tables ≡ t → (answer : Result Inputs Fault) × ReadsInputs words held answer
+    loaded ws catalog w b (Ok tables) e = let r = some_script held ws.script in scripted ws catalog tables w b e r.0 r.1
+    loaded ws catalog w b (Err fault) e = (_, no_tables w b e)
+
+    opened : (ws : Words) → words_of words ≡ Some ws → (b : Result CatalogImage Fault) → OpensBook held ws.book b → (answer : Result Inputs Fault) × ReadsInputs words held answer
+    opened ws w (Ok catalog) p = loaded ws catalog w p (load_all held catalog.tables) refl
+    opened ws w (Err fault) p = (_, no_book w p)
+
+    by : (w : Option Words) → words_of words ≡ w → (answer : Result Inputs Fault) × ReadsInputs words held answer
+    by None e = (_, unusable e)
+    by (Some ws) e = let r = some_file held ws.book (BookSays ws.book) (some_book ws.book) in opened ws e r.0 r.1
+
+pub some_outcome : SomeOutcome
+some_outcome words held = let r = some_inputs words held in by r.0 r.1
+  where
+    by : (a : Result Inputs Fault) → ReadsInputs words held a → (answer : Result Report Fault) × Outcome words held answer
+    by (Ok given) p = (reported given, read p refl)
+    by (Err fault) p = (Err fault, unreadable p)

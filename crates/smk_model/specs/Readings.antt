@@ -1,0 +1,30 @@
+-- What the lines of a script say.
+use Rattle.std.specs.Prelude.{◌≡◌, ℕ, List, [], ◌∷◌, Some}
+use Rattle.smk_base.specs.declared.fault.BookFault.{BookFault}
+use Rattle.smk_base.specs.declared.tree.Line.{Line}
+use Rattle.smk_base.specs.Marks.{after_marks}
+use Rattle.smk_model.specs.Tokens.{tokens, HasNoToken}
+use Rattle.smk_model.specs.Grammar.{IsWholeLine}
+use Rattle.smk_model.specs.Machine.{line_fault}
+use Rattle.smk_model.specs.Lines.{lines, place_of}
+
+-- nothing, a line of the grammar, or the place at which a line leaves the grammar
+pub data Reading : Type 0 where
+  Nothing : Reading
+  Asks : Line → Reading
+  Unread : ℕ → Reading
+
+-- a line without a token says nothing; another one is a line of the grammar, or leaves it at the place of its first fault
+pub data IsReading (text : List ℕ) : Reading → Type 0 where
+  says_nothing : HasNoToken text → IsReading text Nothing
+  asks : {asked : Line} → (HasNoToken text → ⊥) → IsWholeLine (tokens text) asked → IsReading text (Asks asked)
+  leaves : {fault : BookFault} {at : ℕ} → (HasNoToken text → ⊥) → line_fault (tokens text) ≡ Some fault → place_of fault ≡ at → IsReading text (Unread at)
+
+-- one reading for each line, in order
+pub data AreReadings : List (List ℕ) → List Reading → Type 0 where
+  no_line : AreReadings [] []
+  one_line : {text : List ℕ} {reading : Reading} {texts : List (List ℕ)} {readings : List Reading} → IsReading text reading → AreReadings texts readings → AreReadings (text ∷ texts) (reading ∷ readings)
+
+-- the readings of the lines of a script's file, after every byte order mark at its front
+abbrev pub AreReadingsOf : List ℕ → List Reading → Type 0
+AreReadingsOf bytes readings = AreReadings (lines (after_marks bytes)) readings

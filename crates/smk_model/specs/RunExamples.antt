@@ -1,0 +1,96 @@
+-- A small run worked by hand: a book of one table and two views, the lines of a script, and the report.
+use Rattle.std.specs.Prelude.{◌≡◌, ℕ, pos, negsuc, true, false, nat_eq, cond, List, [], ◌∷◌, ◌++◌, Some, None, Ok, Err, codes}
+use Rattle.std.specs.Cmp.Lexicographic.{pointwise}
+use Rattle.smk_base.specs.declared.value.Value.TheVariants.{Int}
+use Rattle.smk_base.specs.declared.value.Kind.TheVariants as kinds
+use Rattle.smk_base.specs.declared.plan.CmpOp.TheVariants.{Ge, Lt}
+use Rattle.smk_base.specs.declared.plan.Operand.TheVariants.{Lit}
+use Rattle.smk_base.specs.declared.catalog.TableInfo.{TableInfo}
+use Rattle.smk_base.specs.declared.catalog.BackExtra.TheVariants as extras
+use Rattle.smk_base.specs.declared.tree.Line.{Line}
+use Rattle.smk_base.specs.declared.tree.Line.TheVariants as lines
+use Rattle.smk_base.specs.declared.tree.Marks.TheVariants as markings
+use Rattle.smk_base.specs.declared.tree.Then.TheVariants as thens
+use Rattle.smk_base.specs.declared.fault.Fault.TheVariants.{Table, TableRows, ViewRows, Unread as unread_fault}
+use Rattle.smk_base.specs.declared.fault.TableFault.TheVariants.{NoHeader, MissingColumn, BadInt, TooManyRows}
+use Rattle.smk_base.specs.Plans.{Leaf, Apply, Selection, Comparison}
+use Rattle.smk_base.specs.CatalogImage.{CatalogImage, ViewImage}
+use Rattle.smk_model.specs.Values.{Row}
+use Rattle.smk_model.specs.Readings.{Reading, Nothing, Asks, Unread}
+use Rattle.smk_model.specs.Session.{Workbook}
+use Rattle.smk_model.specs.Forms.{is_book_answered, is_reading_answered}
+use Rattle.smk_model.specs.Reports.{report_of}
+use Rattle.smk_model.specs.Looks.{start_looks, lines_looks}
+use Rattle.smk_model.specs.Outcome.{Held, load, load_all, view_contents, fault_of_table, within_limit}
+
+abbrev pub int_row : ℕ → Row
+int_row n = Int (pos n) ∷ []
+
+abbrev pub t_table : TableInfo
+t_table = record { name = codes "t"; file = codes "t.csv"; cols = record { name = codes "a"; kind = kinds.Int 0; def = None } ∷ [] }
+
+-- the rows from ten on, and those below
+abbrev pub v_view : ViewImage
+v_view = record { name = codes "v"; plan = Apply (Selection (Comparison 0 Ge (Lit (Int (pos 10))))) (Leaf 0); names = codes "a" ∷ []; kinds = kinds.Int 0 ∷ [] }
+
+abbrev pub w_view : ViewImage
+w_view = record { name = codes "w"; plan = Apply (Selection (Comparison 0 Lt (Lit (Int (pos 10))))) (Leaf 0); names = codes "a" ∷ []; kinds = kinds.Int 0 ∷ [] }
+
+abbrev pub small_catalog : CatalogImage
+small_catalog = record {
+  tables = t_table ∷ [];
+  views = v_view ∷ w_view ∷ [];
+  backs = record { view = 0; table = 0; extra = extras.Plain } ∷ [];
+  fwds = [];
+  links = [];
+}
+
+-- the first view is asked by column as well
+abbrev pub split_catalog : CatalogImage
+split_catalog = record small_catalog { backs = record { view = 0; table = 0; extra = extras.By 0 } ∷ [] }
+
+abbrev pub small_book : Workbook
+small_book = record { catalog = small_catalog; tables = (int_row 5 ∷ int_row 10 ∷ (Int (negsuc 2) ∷ []) ∷ int_row 40 ∷ []) ∷ [] }
+
+abbrev pub held_as : List ℕ → Held
+held_as bytes name = cond (pointwise nat_eq name (codes "t.csv")) (Some bytes) None
+
+abbrev pub back_line : List ℕ → List ℕ → List ℕ → Line
+back_line view marks table = lines.Back view (markings.Listed marks) table thens.Plain
+
+-- back v 1,0,1 to t; nothing; back v 2 to t; back w 0 to t; back x 0 to u; back v 0 to u; a line that isn't one; show w; back v all to t
+abbrev pub small_script : List Reading
+small_script =
+    Asks (back_line (codes "v") (1 ∷ 0 ∷ 1 ∷ []) (codes "t"))
+    ∷ Nothing
+    ∷ Asks (back_line (codes "v") (2 ∷ []) (codes "t"))
+    ∷ Asks (back_line (codes "w") (0 ∷ []) (codes "t"))
+    ∷ Asks (back_line (codes "x") (0 ∷ []) (codes "u"))
+    ∷ Asks (back_line (codes "v") (0 ∷ []) (codes "u"))
+    ∷ Unread 3
+    ∷ Asks (lines.Show (codes "w"))
+    ∷ Asks (lines.Back (codes "v") markings.All (codes "t") thens.Plain)
+    ∷ []
+
+abbrev pub small_text : List ℕ
+small_text =
+    codes "view v 2\nrow,a\n0,10\n1,40\nview w 2\nrow,a\n0,5\n1,-3\n"
+    ++ codes "back v to t 2\nrid,a\n1,10\n3,40\nrefused no row 2 of 2\nrefused undeclared back w to t\nrefused unknown view x\nrefused unknown table u\n"
+    ++ codes "line 7 not read at byte 3\nview w 2\nrow,a\n0,5\n1,-3\nback v to t 2\nrid,a\n1,10\n3,40\n"
+
+pub record RunsHold : Type 0 where
+  pub whole : report_of small_book small_script ≡ record { text = small_text; refused = true }
+  pub nothing_refused : (report_of small_book (Nothing ∷ Asks (lines.Show (codes "v")) ∷ [])).refused ≡ false
+  pub contents : view_contents small_book ≡ Ok ((int_row 10 ∷ int_row 40 ∷ []) ∷ (int_row 5 ∷ (Int (negsuc 2) ∷ []) ∷ []) ∷ [])
+  pub looks_at_start : start_looks small_book ≡ 12
+  pub looks_of_lines : lines_looks small_book small_script ≡ 4
+  pub too_many : within_limit v_view (Some 1) [] ≡ Err (ViewRows (codes "v") 1)
+  pub answered : is_book_answered small_catalog ≡ true
+  pub not_answered : is_book_answered split_catalog ≡ false
+  pub brush_not_answered : is_reading_answered (Asks lines.Clear) ≡ false
+  pub loaded : load_all (held_as (codes "a\n5\n10\n-3\n40\n")) small_catalog.tables ≡ Ok small_book.tables
+  pub missing_file : load (λ name. None) t_table ≡ Err (unread_fault (codes "t.csv"))
+  pub no_header : load (held_as []) t_table ≡ Err (Table (codes "t") None NoHeader)
+  pub no_column : load (held_as (codes "b\n")) t_table ≡ Err (Table (codes "t") (Some (codes "a")) (MissingColumn 0))
+  pub no_int : load (held_as (codes "a\nten\n")) t_table ≡ Err (Table (codes "t") (Some (codes "a")) (BadInt 1 0))
+  pub too_many_rows : fault_of_table t_table TooManyRows ≡ TableRows (codes "t")
