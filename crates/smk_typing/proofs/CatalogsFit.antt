@@ -1,10 +1,13 @@
 -- What the statements of a book declare is there and fits.
-use Rattle.std.proofs.Common.{◌≡◌, ◌∙◌, ◌+◌, ◌<◌, ℕ, not, List, [], ◌∷◌, ◌++◌, length, map, get_or, Option, Some, None, Ok, refl, sym, ap, subst, arith, All, nat_eq}
+use Rattle.std.proofs.Common.{◌≡◌, ◌∙◌, ◌+◌, ◌<◌, ℕ, Bool, true, false, not, List, [], ◌∷◌, ◌++◌, length, map, get_or, Option, Some, None, Ok, refl, sym, ap, subst, arith, All, nat_eq}
 use Rattle.std.specs.Prelude.{ok_or}
 use Rattle.std.specs.List.{list_any}
 use Rattle.std.proofs.lemmas.List.{length-map, length-append, map-append, append-nil, get_or_append_left}
 use Rattle.std.proofs.lemmas.List.Elements.{All-push, All-nil}
 use Rattle.smk_base.specs.declared.value.Kind.{Kind}
+use Rattle.smk_base.specs.declared.value.Value.{Value}
+use Rattle.smk_base.specs.declared.value.Value.TheVariants as values
+use Rattle.smk_base.specs.Rels.{Fits}
 use Rattle.smk_base.specs.declared.tree.Word.{Word}
 use Rattle.smk_base.specs.declared.tree.Lit.{Lit}
 use Rattle.smk_base.specs.declared.tree.Decl.{Decl}
@@ -23,13 +26,14 @@ use Rattle.smk_base.specs.Plans.{Expr, Leaf, Apply, Combine}
 use Rattle.smk_base.specs.Trees.{TreeImage, StmtImage, TableNode, ViewNode, BackNode, FwdNode, LinkNode}
 use Rattle.smk_base.specs.CatalogImage.{CatalogImage, ViewImage}
 use Rattle.smk_model.specs.Names.{in_turn, place_of, same_name, is_taken, column_named, names_of, kinds_of, same_sort}
-use Rattle.smk_model.specs.Kinds.{kind_of}
+use Rattle.smk_model.specs.Kinds.{AreAlike, kind_of}
+use Rattle.smk_model.specs.Tables.{IsBase, IsBaseColumn}
 use Rattle.smk_model.specs.Plain.{leaves}
 use Rattle.smk_model.specs.Selection.{ScansFit, PlanFits, leaf_kinds, plan_kinds}
-use Rattle.smk_model.specs.Limits.{KeepsLimits, KeepsStmt, KeepsDecls, KeepsPlan, DefaultInRange}
+use Rattle.smk_model.specs.Limits.{KeepsLimits, KeepsStmt, KeepsDecls, KeepsPlan, IsInRange, DefaultInRange}
 use Rattle.smk_model.specs.TypedSteps.{TypedPlan, typed_group}
 use Rattle.smk_model.specs.Typing.{types, stmt_after, nothing_declared, columns_of, table_at, no_table, table_named, view_named, typed_plan, declared_kind, declared_column, decl_after, table_after, view_of, view_after, typed_extra, same_back, back_after, same_fwd, fwd_after, same_link, linked_to, all_linked, to_after, link_after}
-use Rattle.smk_model.specs.Catalogs.{table_kinds, each_table_kinds, ViewFits, ColumnFits, ExtraFits, BackFits, FwdFits, LinkFits, IsTyped}
+use Rattle.smk_model.specs.Catalogs.{table_kinds, each_table_kinds, ViewFits, ExtraFits, BackFits, FwdFits, LinkFits, IsTyped}
 use Rattle.smk_typing.proofs.Results.{made_of, unless_ok, in_turn_keeps}
 use Rattle.smk_typing.proofs.StepsFit.{named_is, kinds_long, alike}
 use Rattle.smk_typing.proofs.ListsFit.{group_stands}
@@ -83,23 +87,33 @@ low_more : (n m : ℕ) (ws : List ℕ) → m ≡ n + 1 → All (λ w. w < n) ws 
 low_more n m ws e all = each_imp (λ w. w < n) (λ w. w < m) ws (λ w l. omega (arith, e, l)) all
 
 abbrev ColumnsFit : List ColDecl → Type 0
-ColumnsFit cols = All ColumnFits cols
+ColumnsFit cols = All IsBaseColumn cols
 
-column_stands : (decl : Decl) (def : Option Lit) (col : ColDecl) → DefaultInRange def → declared_column decl def ≡ Ok col → ColumnFits col
+declared_base : (text : Bool) → IsBase (declared_kind text)
+declared_base true = tt
+declared_base false = refl
+
+declared_fits : (text : Bool) (value : Value) → AreAlike (declared_kind text) (kind_of value) → IsInRange value → Fits (declared_kind text) value
+declared_fits true (values.Text bytes) alike range = tt
+declared_fits true (values.Int n) alike range = absurd alike
+declared_fits false (values.Int n) alike range = range
+declared_fits false (values.Text bytes) alike range = absurd alike
+
+column_stands : (decl : Decl) (def : Option Lit) (col : ColDecl) → DefaultInRange def → declared_column decl def ≡ Ok col → IsBaseColumn col
 column_stands decl None col range e =
     let same : (let it : ColDecl = record { name = decl.name.name; kind = declared_kind decl.text; def = None } in it) ≡ col = cc e in
-    subst ColumnFits same tt
+    subst IsBaseColumn same (record { base = declared_base decl.text; default_fits = tt })
 column_stands decl (Some literal) col range e =
     let whole = unless_ok (not (same_sort (declared_kind decl.text) (kind_of literal.value))) (KindMismatch literal.at) (Ok (record { name = decl.name.name; kind = declared_kind decl.text; def = Some literal.value })) col e in
     let same : (let it : ColDecl = record { name = decl.name.name; kind = declared_kind decl.text; def = Some literal.value } in it) ≡ col = cc whole.1 in
-    subst ColumnFits same (alike _ _ whole.0, range)
+    subst IsBaseColumn same (record { base = declared_base decl.text; default_fits = declared_fits decl.text literal.value (alike _ _ whole.0) range })
 
 decl_more : (old new : List ColDecl) (decl : Decl) → ColumnsFit old → DefaultInRange decl.def → decl_after old decl ≡ Ok new → ColumnsFit new
 decl_more old new decl held range e =
     let fresh = unless_ok (list_any (λ col. same_name decl.name.name col.name) old) (DuplicateName decl.name.at) _ new e in
     let col = made_of (declared_column decl decl.def) _ new fresh.1 in
     let same : old ++ col.0 ∷ [] ≡ new = cc col.2 in
-    subst ColumnsFit same (All-push ColumnFits old col.0 held (column_stands decl decl.def col.0 range col.1))
+    subst ColumnsFit same (All-push IsBaseColumn old col.0 held (column_stands decl decl.def col.0 range col.1))
 
 view_there : (views : List ViewImage) (word : Word) (place : Option ℕ) (v : ℕ) → place_of word.name (map (λ view. view.name) views) ≡ place → ok_or place (UnknownView word.at) ≡ Ok v → v < length views
 view_there views word None v p e = absurd (cc e)
@@ -155,7 +169,7 @@ table_kept old new name file decls typed keeps e =
     let fit = in_turn_keeps ColumnsFit (λ decl. DefaultInRange decl.def) decl_after decl_more [] cols.0 decls (All-nil _) keeps.ranges cols.1 in
     let long = one_more old.tables table in
     subst IsTyped same (record {
-      columns = All-push (λ (t : TableInfo). All ColumnFits t.cols) old.tables table typed.columns fit;
+      columns = All-push (λ (t : TableInfo). All IsBaseColumn t.cols) old.tables table typed.columns fit;
       views = each_imp (ViewFits old.tables) (ViewFits (old.tables ++ table ∷ [])) old.views (view_over_more old.tables table) typed.views;
       backs = each_imp (BackFits old.tables (length old.views)) (BackFits (old.tables ++ table ∷ []) (length old.views)) old.backs (back_over_more old.tables table (length old.views)) typed.backs;
       fwds = each_imp (FwdFits (length old.tables) (length old.views)) (FwdFits (length (old.tables ++ table ∷ [])) (length old.views)) old.fwds (λ fwd f. record { table = omega (arith, f.table, long); view = f.view }) typed.fwds;
