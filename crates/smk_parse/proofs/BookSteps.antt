@@ -1,19 +1,18 @@
 -- How the symbols of a book go on.
-use Rattle.std.specs.Prelude.{cond, IsTrue, nat_lt, nat_le, int_le}
-use Rattle.std.proofs.Common.{◌≡◌, ℕ, ℤ, pos, ◌+◌, ◌-◌, ◌<◌, ◌≤◌, Bool, true, false, List, [], ◌∷◌, ◌++◌, length, take, drop, min, ap, ◌∙◌, sym, subst, refl, arith, append_assoc, ◌⊎◌, inl, inr}
+use Rattle.std.specs.Prelude.{cond, IsTrue, nat_lt, int_le}
+use Rattle.std.proofs.Common.{◌≡◌, ℕ, pos, ◌+◌, ◌<◌, ◌≤◌, Bool, true, false, List, [], ◌∷◌, ◌++◌, ap, ◌∙◌, sym, refl, append_assoc, ◌⊎◌, inl, inr}
 use Rattle.std.proofs.lemmas.Bool.{lt-ltb, le-ltb}
 use Rattle.smk_base.specs.declared.token.TokenKind.{TokenKind}
 use Rattle.smk_base.specs.declared.token.TokenKind.TheVariants as kinds
 use Rattle.smk_base.specs.declared.fault.BookFault.{BookFault}
-use Rattle.smk_base.specs.declared.fault.BookFault.TheVariants.{BadToken, Unexpected, TooMany, BadNumber, NoMemory}
-use Rattle.smk_base.specs.declared.fault.Many.{Many}
+use Rattle.smk_base.specs.declared.fault.BookFault.TheVariants.{TooMany, BadNumber}
 use Rattle.smk_base.specs.declared.fault.Many.TheVariants.{Tables, Views, Lineages, Links, Columns, Nodes, Compares, Depth, NameBytes}
-use Rattle.smk_model.specs.Tokens.{Token, head_of, tail_of, int_value, inner, is_more}
-use Rattle.smk_model.specs.Machine.{State, Counts, Tally, no_counts, node_more, Symbol, Move, Takes, Skips, Wrong, Past, Outside, within, fault_at, next, is_short, at_name, at_column, at_first, at_item, at_width, at_type, at_default, at_as, at_what, at_keys, at_aggs, at_linked, at_more, at_source, at_steps, at_step, at_united, at_compare, at_prim, at_ands, at_ors, at_op, at_term, at_stmts, at_lineage, at_extra, at_literal, through, go_on, or_next, settle, AToken, AName, AColumn, ALiteral, AWidth, AType, ADefault, AnAs, AWhat, AKeys, AnAggs, AFirst, AnItem, ALinked, MoreDecls, MoreItems, MoreKeys, MoreAggs, MorePairs, MoreLinked, ASource, ASteps, AStep, AUnited, APrim, AnAnds, AnOrs, AnOp, ATerm, AStmts, ALineage, AnExtra}
+use Rattle.smk_model.specs.Tokens.{head_of, tail_of, int_value, is_more}
+use Rattle.smk_model.specs.Machine.{State, Counts, Tally, no_counts, node_more, Symbol, Takes, Skips, Wrong, Outside, within, fault_at, next, is_short, at_name, at_column, at_first, at_item, at_width, at_type, at_default, at_as, at_what, at_keys, at_aggs, at_linked, at_more, at_source, at_steps, at_step, at_united, at_prim, at_ands, at_ors, at_op, at_term, at_stmts, at_lineage, at_extra, at_literal, through, go_on, or_next, settle, AToken, AName, AColumn, ALiteral, AWidth, AType, ADefault, AnAs, AWhat, AKeys, AnAggs, AFirst, AnItem, ALinked, MoreDecls, MoreItems, MoreKeys, MoreAggs, MorePairs, MoreLinked, ASource, ASteps, AStep, AUnited, APrim, AnAnds, AnOrs, AnOp, ATerm, AStmts, ALineage, AnExtra}
 use Rattle.smk_parse.specs.Readers.{Advances}
 use Rattle.smk_parse.specs.Reads.{Leads, Fails}
 use Rattle.smk_parse.specs.Columns.{is_column}
-use Rattle.smk_parse.proofs.Steps.{Opens, Comes, opened, open_only, wrong, past, outside, skips, begins, NoSkip, with_more, comes_leads, comes_fails, open_fails, open_leads, first_fails, list_fails}
+use Rattle.smk_parse.proofs.Steps.{Opens, Comes, opened, open_only, wrong, past, outside, skips, begins, NoSkip, with_more, comes_leads, comes_fails, open_fails, list_fails}
 use Rattle.smk_parse.proofs.LineSteps.{no_comma}
 
 abbrev pub Here : State → Type 0

@@ -5,8 +5,6 @@ use Rattle.std.proofs.Common.{◌≡◌, ℕ, zero, suc, ◌+◌, ◌-◌, ◌<�
 use Rattle.std.proofs.lemmas.List.{take_all, drop_all, drop-drop, length-drop, length-take, take-take}
 use Rattle.std.proofs.lemmas.Bool.{ltb-true, ltb-false}
 use Rattle.std.proofs.lemmas.List.Folds.{length-prefix_len}
-use Rattle.std.proofs.lemmas.List.Sums.{prefix_len-le-length}
-use Rattle.smk_base.specs.declared.tree.LineSpan.{LineSpan}
 use Rattle.smk_model.specs.Tokens.{no_line_end}
 use Rattle.smk_model.specs.Lines.{lines, lines_after, without_cr}
 use Rattle.smk_parse.specs.Spans.{Cuts}

@@ -1,11 +1,11 @@
 -- A number that is read is in its range.
-use Rattle.std.proofs.Common.{◌≡◌, ℕ, suc, ◌+◌, ◌≤◌, Bool, true, false, List, [], ◌∷◌, ap, ◌∙◌, sym, subst, refl, arith}
+use Rattle.std.proofs.Common.{◌≡◌, ℕ, suc, ◌+◌, Bool, true, false, List, [], ◌∷◌, ap, ◌∙◌, sym, subst, refl, arith}
 use Rattle.std.specs.Prelude.{Option, Some, None, take, drop, length, cond, IsTrue, nat_eq, ◌==◌, ◌&&◌, nat_lt, take_while}
 use Rattle.std.specs.Char.{is_ascii_digit}
 use Rattle.std.specs.Cmp.Lexicographic.{pointwise}
 use Rattle.smk_base.specs.declared.token.TokenKind.{TokenKind}
 use Rattle.smk_base.specs.declared.token.TokenKind.TheVariants as kinds
-use Rattle.smk_model.specs.Tokens.{Front, Between, Begins, front, Keyword, keywords, kind_in, word_kind, number_kind, is_i64, digits_value, minus_front, number_front, word_front, string_front, string_len, quoted_front, or_equal, unequal_front, symbol_front, is_gap, is_letter, is_word_byte, is_quoted_byte, no_line_end}
+use Rattle.smk_model.specs.Tokens.{Front, Begins, front, Keyword, keywords, kind_in, word_kind, number_kind, is_i64, digits_value, minus_front, number_front, string_front, quoted_front, or_equal, unequal_front, symbol_front, is_gap, is_letter, is_word_byte, is_quoted_byte}
 use Rattle.smk_parse.specs.Fronts.{number_fits}
 
 pick : (P : Front → Type 0) (o : Bool) (x y : Front) → (o ≡ true → P x) → (o ≡ false → P y) → P (cond o x y)

@@ -1,12 +1,12 @@
 -- How the symbols of a line go on.
-use Rattle.std.specs.Prelude.{cond, IsTrue, int_le, int_lt, ◌&&◌, ◌^◌}
-use Rattle.std.proofs.Common.{◌≡◌, ℕ, ℤ, pos, ◌+◌, ◌<◌, Bool, true, false, List, [], ◌∷◌, ◌++◌, ap, ◌∙◌, sym, subst, refl, arith}
+use Rattle.std.specs.Prelude.{cond}
+use Rattle.std.proofs.Common.{◌≡◌, ℤ, Bool, true, false, List, [], ◌∷◌, ap, ◌∙◌, refl}
 use Rattle.smk_base.specs.declared.token.TokenKind.{TokenKind}
 use Rattle.smk_base.specs.declared.token.TokenKind.TheVariants as kinds
 use Rattle.smk_base.specs.declared.fault.BookFault.{BookFault}
-use Rattle.smk_base.specs.declared.fault.BookFault.TheVariants.{BadToken, Unexpected, TooMany, BadNumber, NoMemory}
-use Rattle.smk_model.specs.Tokens.{Token, head_of, tail_of, int_value}
-use Rattle.smk_model.specs.Machine.{State, Counts, Symbol, Takes, Skips, Wrong, Past, Outside, fault_at, next, is_mark, at_line, at_line_column, at_literal, at_marks, at_mark, at_then, at_more, at_end, at_token, AToken, ALine, ALineName, ALineColumn, ALiteral, AMarks, AMark, MoreMarks, AThen, AnEnd}
+use Rattle.smk_base.specs.declared.fault.BookFault.TheVariants.{BadNumber}
+use Rattle.smk_model.specs.Tokens.{head_of, tail_of, int_value}
+use Rattle.smk_model.specs.Machine.{State, Counts, Symbol, Takes, Skips, Wrong, Outside, fault_at, is_mark, at_line, at_line_column, at_literal, at_marks, at_mark, at_then, at_more, at_end, AToken, ALine, ALineName, ALineColumn, ALiteral, AMarks, AMark, MoreMarks, AThen, AnEnd}
 use Rattle.smk_parse.specs.Readers.{Advances}
 use Rattle.smk_parse.specs.Reads.{Leads, Fails}
 use Rattle.smk_parse.proofs.Steps.{Opens, Comes, opened, open_only, wrong, outside, skips, begins, NoSkip, with_more, comes_leads, comes_fails, open_fails, first_fails}

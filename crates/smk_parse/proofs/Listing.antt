@@ -1,5 +1,5 @@
 -- Lists with commas, as far as they are read.
-use Rattle.std.proofs.Common.{◌≡◌, ℕ, List, [], ◌∷◌, ◌++◌, ap, ◌∙◌, sym, subst, append_assoc, append-nil}
+use Rattle.std.proofs.Common.{List, [], ◌∷◌, ◌++◌, sym, subst, append_assoc, append-nil}
 use Rattle.smk_base.specs.declared.token.TokenKind.TheVariants as kinds
 use Rattle.smk_model.specs.Tokens.{Token}
 use Rattle.smk_model.specs.Grammar.{First, AreMore, no_more, one_more, AreListed, listed}

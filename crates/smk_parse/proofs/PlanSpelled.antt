@@ -1,35 +1,25 @@
 -- The trees of predicates, plans and statements, from what was read, and the loops that read them.
-use Rattle.std.specs.Prelude.{IsTrue, int_le, nat_le, Option, Some, None}
-use Rattle.std.proofs.Common.{◌≡◌, ℕ, ℤ, pos, ◌+◌, ◌-◌, ◌<◌, ◌≤◌, Bool, true, false, List, [], ◌∷◌, ◌++◌, length, take, drop, ap, ◌∙◌, sym, subst, refl, arith, append_assoc, append-nil}
-use Rattle.std.proofs.lemmas.List.{length-take, length-drop}
+use Rattle.std.proofs.Common.{◌≡◌, ℕ, Bool, true, false, List, [], ◌∷◌, sym, subst}
 use Rattle.smk_base.specs.declared.token.TokenKind.{TokenKind}
 use Rattle.smk_base.specs.declared.token.TokenKind.TheVariants as kinds
 use Rattle.smk_base.specs.declared.plan.CmpOp.{CmpOp}
-use Rattle.smk_base.specs.declared.plan.CmpOp.TheVariants as ops
 use Rattle.smk_base.specs.declared.tree.Word.{Word}
 use Rattle.smk_base.specs.declared.tree.Lit.{Lit}
-use Rattle.smk_base.specs.declared.tree.Decl.{Decl}
-use Rattle.smk_base.specs.declared.tree.Extra.{Extra}
-use Rattle.smk_base.specs.declared.tree.Extra.TheVariants as extras
 use Rattle.smk_base.specs.declared.tree.ItemTree.{ItemTree}
-use Rattle.smk_base.specs.declared.tree.ItemTree.TheVariants as items
 use Rattle.smk_base.specs.declared.tree.AggTree.{AggTree}
-use Rattle.smk_base.specs.declared.tree.AggWhat.{AggWhat}
-use Rattle.smk_base.specs.declared.tree.AggWhat.TheVariants as whats
 use Rattle.smk_base.specs.declared.tree.PairTree.{PairTree}
 use Rattle.smk_base.specs.declared.tree.Term.{Term}
 use Rattle.smk_base.specs.declared.tree.Term.TheVariants as terms
-use Rattle.smk_base.specs.Trees.{PredImage, CompareNode, AndNode, OrNode, NotNode, TreeImage, ScanNode, StepNode, StepImage, SelectNode, ProjectNode, DistinctNode, GroupNode, JoinNode, UnionAllNode, UnionNode, StmtImage, TableNode, ViewNode, BackNode, FwdNode, LinkNode}
-use Rattle.smk_model.specs.Tokens.{Token, head_of, tail_of, int_value, inner, string_value}
-use Rattle.smk_model.specs.Grammar.{First, IsName, name, IsColumn, plain, quoted, plain_word, quoted_word, IsLiteral, IsFile, file, AreListed, IsType, int_type, text_type, IsDefault, no_default, default, IsDecl, decl, IsNamed, by_itself, by_as, IsWidth, width, IsItem, column_item, bin_item, IsWhat, count, sum, min, max, IsAgg, agg, AreKeys, no_keys, keys, AreAggs, no_aggs, aggs, IsPair, pair, IsOp, eq, ne, lt, le, gt, ge, IsTerm, column_term, literal_term, IsPrim, negated, bracketed, compared, IsConj, conj, AreAnds, no_and, one_and, IsPred, pred, AreOrs, no_or, one_or, IsPlan, plan, IsSource, scan, inner_plan, AreSteps, no_step, one_step, IsStep, where_step, project_step, distinct_step, group_step, join_step, union_all_step, union_step, IsExtra, no_extra, by_extra, group_extra, IsStmt, table_stmt, view_stmt, back_stmt, fwd_stmt, link_stmt, AreStmts, no_stmt, one_stmt}
-use Rattle.smk_model.specs.Machine.{State, Counts, is_short}
+use Rattle.smk_base.specs.Trees.{PredImage, CompareNode, AndNode, OrNode, NotNode, TreeImage, ScanNode, StepNode, StepImage, SelectNode, ProjectNode, DistinctNode, GroupNode, JoinNode, UnionAllNode, UnionNode}
+use Rattle.smk_model.specs.Tokens.{Token, head_of}
+use Rattle.smk_model.specs.Grammar.{First, IsName, IsColumn, IsLiteral, AreListed, IsItem, AreKeys, AreAggs, IsPair, IsOp, IsTerm, column_term, literal_term, IsPrim, negated, bracketed, compared, IsConj, conj, AreAnds, no_and, one_and, IsPred, pred, AreOrs, no_or, one_or, IsPlan, plan, IsSource, scan, inner_plan, AreSteps, no_step, one_step, IsStep, where_step, project_step, distinct_step, group_step, join_step, union_all_step, union_step}
+use Rattle.smk_model.specs.Machine.{State, Counts}
 use Rattle.smk_parse.specs.Readers.{Advances}
-use Rattle.smk_parse.specs.Columns.{is_column, column_word}
 use Rattle.smk_base.specs.declared.fault.BookFault.{BookFault}
-use Rattle.smk_model.specs.Machine.{Symbol, Tally, APrim, AnAnds, AnOrs, ASource, ASteps, AStep, AToken, AStmts, through}
+use Rattle.smk_model.specs.Machine.{APrim, AnAnds, AnOrs, ASource, ASteps, AStep}
 use Rattle.smk_parse.specs.Reads.{Leads, Fails}
 use Rattle.smk_parse.specs.Groupings.{IsGrouping, IsUnited, all_kept, repeats_dropped}
-use Rattle.smk_parse.proofs.Steps.{first_here, Opens, Comes, comes_leads, comes_fails, first_comes, first_fails, open_fails, more_comes, list_fails}
+use Rattle.smk_parse.proofs.Steps.{first_here, Comes, comes_leads, comes_fails, first_comes, first_fails, open_fails, more_comes, list_fails}
 use Rattle.smk_parse.proofs.BookSteps.{Here, and_opens, ands_nothing, or_opens, ors_nothing, bar_opens, steps_nothing}
 
 here : (k : TokenKind) (c : Counts) (a b : State) → Advances c a b → (head_of a.rest).kind ≡ k → First k (head_of a.rest) a.rest b.rest

@@ -1,5 +1,5 @@
 -- Symbols one after the other.
-use Rattle.std.proofs.Common.{◌≡◌, List, [], ◌∷◌, ◌++◌}
+use Rattle.std.proofs.Common.{List, [], ◌∷◌}
 use Rattle.smk_base.specs.declared.fault.BookFault.{BookFault}
 use Rattle.smk_model.specs.Machine.{State, Symbol}
 use Rattle.smk_parse.specs.Reads.{Leads, Fails}

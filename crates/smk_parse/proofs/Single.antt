@@ -1,19 +1,19 @@
 -- Single tokens.
 use Rattle.std.specs.Prelude.{cond, nat_eq}
-use Rattle.std.proofs.Common.{◌≡◌, ℕ, ℤ, ◌+◌, ◌-◌, ◌<◌, ◌++◌, length, get_or, take, drop, drop-cons, append_assoc, min, zero, suc, Bool, true, false, List, [], ◌∷◌, ap, ◌∙◌, sym, subst, refl, arith}
+use Rattle.std.proofs.Common.{◌≡◌, ℕ, ℤ, ◌+◌, ◌-◌, ◌<◌, ◌++◌, length, get_or, take, drop, drop-cons, append_assoc, min, zero, suc, true, false, List, [], ◌∷◌, ap, ◌∙◌, sym, subst, refl, arith}
 use Rattle.std.specs.Prelude.{IsTrue}
 use Rattle.std.proofs.lemmas.List.{take_all}
 use Rattle.smk_base.specs.declared.token.TokenKind.{TokenKind}
 use Rattle.smk_base.specs.declared.token.TokenKind.TheVariants as kinds
 use Rattle.smk_base.specs.declared.fault.BookFault.{BookFault}
-use Rattle.smk_base.specs.declared.fault.BookFault.TheVariants.{BadToken, Unexpected, BadNumber}
+use Rattle.smk_base.specs.declared.fault.BookFault.TheVariants.{Unexpected}
 use Rattle.smk_base.specs.declared.tree.Word.{Word}
 use Rattle.smk_model.specs.Tokens.{Token, head_of, tail_of, is_more, inner, int_value, string_value, undoubled}
-use Rattle.smk_model.specs.TokenKinds.{kind_code, same_kind}
+use Rattle.smk_model.specs.TokenKinds.{kind_code}
 use Rattle.smk_base.specs.declared.tree.Lit.{Lit}
 use Rattle.smk_base.specs.declared.value.Value.TheVariants as values
 use Rattle.smk_model.specs.Grammar.{First, IsName, name, IsColumn, plain, quoted, IsLiteral, number, string}
-use Rattle.smk_model.specs.Machine.{State, Counts, Takes, Wrong, fault_at, at_token, AToken, ALineName}
+use Rattle.smk_model.specs.Machine.{State, Takes, Wrong, fault_at, at_token, AToken, ALineName}
 use Rattle.smk_parse.specs.Readers.{Advances}
 use Rattle.smk_parse.specs.Reads.{Leads, Fails}
 use Rattle.smk_parse.proofs.Steps.{opened, open_only, wrong, first_here}

@@ -1,11 +1,9 @@
 -- The trees of lines, from what was read.
-use Rattle.std.specs.Prelude.{IsTrue, nat_lt, ◌^◌, Result, Ok, Err, Option, Some, None}
-use Rattle.std.proofs.Common.{◌≡◌, ℕ, ℤ, pos, ◌<◌, List, [], ◌∷◌, true, ap, ◌∙◌, sym, subst, refl, arith}
+use Rattle.std.specs.Prelude.{nat_lt, ◌^◌, Err, None}
+use Rattle.std.proofs.Common.{◌≡◌, ℕ, pos, ◌<◌, List, [], ◌∷◌, true, ap, ◌∙◌, sym, refl}
 use Rattle.std.proofs.lemmas.Bool.{lt-ltb}
-use Rattle.smk_base.specs.declared.token.TokenKind.{TokenKind}
 use Rattle.smk_base.specs.declared.token.TokenKind.TheVariants as kinds
-use Rattle.smk_base.specs.declared.fault.BookFault.{BookFault}
-use Rattle.smk_base.specs.declared.fault.BookFault.TheVariants.{BadToken, Unexpected, TooMany, BadNumber, NoMemory}
+use Rattle.smk_base.specs.declared.fault.BookFault.TheVariants.{BadToken, Unexpected, TooMany, BadNumber}
 use Rattle.smk_base.specs.declared.tree.Word.{Word}
 use Rattle.smk_base.specs.declared.tree.Lit.{Lit}
 use Rattle.smk_base.specs.declared.tree.Marks.{Marks}

@@ -1,8 +1,7 @@
 -- How a symbol and the token in hand go on.
-use Rattle.std.specs.Prelude.{Result, Ok, Err, cond, nat_lt, nat_le}
-use Rattle.std.proofs.Common.{◌≡◌, ℕ, ◌+◌, ◌<◌, ◌≤◌, Bool, true, false, List, [], ◌∷◌, ◌++◌, length, ap, ◌∙◌, sym, subst, refl, append_assoc, append-nil, arith}
+use Rattle.std.specs.Prelude.{Result, Ok, Err}
+use Rattle.std.proofs.Common.{◌≡◌, ◌<◌, List, [], ◌∷◌, ◌++◌, length, ap, ◌∙◌, sym, subst, refl, append_assoc, arith}
 use Rattle.smk_base.specs.declared.token.TokenKind.{TokenKind}
-use Rattle.smk_base.specs.declared.token.TokenKind.TheVariants as kinds
 use Rattle.smk_base.specs.declared.fault.BookFault.{BookFault}
 use Rattle.smk_base.specs.declared.fault.BookFault.TheVariants.{BadToken, Unexpected, TooMany, BadNumber, NoMemory}
 use Rattle.smk_base.specs.declared.fault.Many.{Many}

@@ -1,13 +1,11 @@
 -- From a place on to the next token.
-use Rattle.std.proofs.Common.{◌≡◌, ℕ, zero, suc, ◌+◌, ◌-◌, ◌<◌, ◌≤◌, Bool, true, false, List, [], ◌∷◌, length, ap, ◌∙◌, sym, subst, refl, arith}
-use Rattle.std.specs.Prelude.{drop, take, cond, IsTrue}
+use Rattle.std.proofs.Common.{◌≡◌, ℕ, zero, suc, ◌+◌, ◌-◌, ◌<◌, ◌≤◌, Bool, true, false, List, [], ◌∷◌, length, ap, ◌∙◌, subst, refl, arith}
+use Rattle.std.specs.Prelude.{drop, take, cond}
 use Rattle.std.proofs.lemmas.List.{drop-drop}
 use Rattle.smk_base.specs.declared.token.TokenKind.{TokenKind}
-use Rattle.smk_base.specs.declared.token.TokenKind.TheVariants.{End, Number}
-use Rattle.smk_model.specs.Tokens.{Token, Between, Begins, front, tokens_from, put, is_more}
-use Rattle.smk_parse.specs.declared.front.Front.TheVariants as fronts
-use Rattle.smk_parse.specs.Fronts.{Within, number_fits}
-use Rattle.smk_parse.specs.Readers.{left_at, Stands}
+use Rattle.smk_base.specs.declared.token.TokenKind.TheVariants.{End}
+use Rattle.smk_model.specs.Tokens.{Between, Begins, front, tokens_from, put, is_more}
+use Rattle.smk_parse.specs.Readers.{left_at}
 
 skipped : (k at : ℕ) (bs : List ℕ) → k ≤ length bs → tokens_from k at bs ≡ tokens_from 0 (at + k) (drop k bs)
 skipped zero at bs h = let e : at ≡ at + 0 = omega arith in ap (λ n. tokens_from 0 n bs) e

@@ -1,7 +1,5 @@
 -- What stands at the front of a text, as the code holds it.
-use Rattle.std.specs.Prelude.{◌≡◌, ℕ, ◌+◌, ◌<◌, ◌≤◌, ◌==◌, Bool, true, false, List, [], ◌∷◌, cond}
-use Rattle.smk_base.specs.declared.token.TokenKind.{TokenKind}
-use Rattle.smk_base.specs.declared.token.TokenKind.TheVariants.{End, Bad}
+use Rattle.std.specs.Prelude.{◌≡◌, ℕ, ◌<◌, ◌≤◌, ◌==◌, Bool, true, false, List, [], ◌∷◌, cond}
 use Rattle.smk_parse.specs.declared.front.Front as code
 use Rattle.smk_parse.specs.declared.front.Front.TheVariants as fronts
 use Rattle.smk_model.specs.Tokens.{Front, Between, Begins, is_i64, digits_value, is_more}

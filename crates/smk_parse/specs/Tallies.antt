@@ -1,5 +1,5 @@
 -- The statements counted, and what a reader of a statement answers.
-use Rattle.std.specs.Prelude.{List, [], ◌∷◌, Result, Ok, Err}
+use Rattle.std.specs.Prelude.{[], ◌∷◌, Result, Ok, Err}
 use Rattle.smk_base.specs.declared.fault.BookFault.{BookFault}
 use Rattle.smk_model.specs.Machine as machine
 use Rattle.smk_model.specs.Machine.{State, AStmts}

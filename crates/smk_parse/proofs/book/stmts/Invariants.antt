@@ -1,4 +1,4 @@
-use Rattle.std.proofs.Common.{◌≡◌, [], ◌∷◌, length, map}
+use Rattle.std.proofs.Common.{[], ◌∷◌, length, map}
 use Rattle.smk_base.specs.TreeImage.{stmt_image}
 use Rattle.smk_model.specs.Machine.{AStmts, book_symbols}
 use Rattle.smk_parse.specs.Tallies.{tally_of}

@@ -1,4 +1,4 @@
-use Rattle.std.proofs.Common.{◌≡◌, ◌<◌, [], ◌∷◌, length}
+use Rattle.std.proofs.Common.{◌<◌, [], ◌∷◌, length}
 use Rattle.smk_model.specs.Machine.{AMark, MoreMarks}
 use Rattle.smk_model.specs.Grammar.{IsMark}
 use Rattle.smk_parse.proofs.Steps.{Comes}

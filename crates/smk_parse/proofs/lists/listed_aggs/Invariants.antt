@@ -1,4 +1,4 @@
-use Rattle.std.proofs.Common.{◌≡◌, ◌<◌, ◌≤◌, [], ◌∷◌, length}
+use Rattle.std.proofs.Common.{◌<◌, ◌≤◌, [], ◌∷◌, length}
 use Rattle.smk_base.specs.declared.token.TokenKind.TheVariants as kinds
 use Rattle.smk_model.specs.Machine.{AFirst, AWhat, MoreAggs, AToken}
 use Rattle.smk_model.specs.Grammar.{IsAgg}

@@ -1,4 +1,4 @@
-use Rattle.std.proofs.Common.{◌≡◌, ◌<◌, ◌≤◌, [], ◌∷◌, length}
+use Rattle.std.proofs.Common.{◌<◌, ◌≤◌, [], ◌∷◌, length}
 use Rattle.smk_model.specs.Machine.{ADefault, AFirst, AType, MoreDecls}
 use Rattle.smk_model.specs.Grammar.{IsDecl}
 use Rattle.smk_parse.proofs.Steps.{Comes}

@@ -1,4 +1,4 @@
-use Rattle.std.proofs.Common.{◌≡◌, ◌<◌, ◌≤◌, [], ◌∷◌, length}
+use Rattle.std.proofs.Common.{◌<◌, ◌≤◌, [], ◌∷◌, length}
 use Rattle.smk_model.specs.Machine.{AnItem, MoreItems}
 use Rattle.smk_model.specs.Grammar.{IsItem}
 use Rattle.smk_parse.proofs.Steps.{Comes}

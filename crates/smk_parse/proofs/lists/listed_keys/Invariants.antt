@@ -1,4 +1,4 @@
-use Rattle.std.proofs.Common.{◌≡◌, ◌<◌, ◌≤◌, [], ◌∷◌, length}
+use Rattle.std.proofs.Common.{◌<◌, ◌≤◌, [], ◌∷◌, length}
 use Rattle.smk_model.specs.Machine.{AFirst, MoreKeys}
 use Rattle.smk_model.specs.Grammar.{IsColumn}
 use Rattle.smk_parse.proofs.Steps.{Comes}

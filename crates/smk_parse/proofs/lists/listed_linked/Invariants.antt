@@ -1,4 +1,4 @@
-use Rattle.std.proofs.Common.{◌≡◌, ◌<◌, ◌≤◌, [], ◌∷◌, length}
+use Rattle.std.proofs.Common.{◌<◌, ◌≤◌, [], ◌∷◌, length}
 use Rattle.smk_model.specs.Machine.{ALinked, MoreLinked}
 use Rattle.smk_model.specs.Grammar.{IsName}
 use Rattle.smk_parse.proofs.Steps.{Comes}

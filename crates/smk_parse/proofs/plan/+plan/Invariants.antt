@@ -1,4 +1,4 @@
-use Rattle.std.proofs.Common.{◌≡◌, ◌+◌, ◌-◌, ◌*◌, ◌<◌, [], ◌∷◌, length}
+use Rattle.std.proofs.Common.{◌+◌, ◌-◌, ◌*◌, ◌<◌, [], ◌∷◌, length}
 use Rattle.smk_base.specs.TreeImage.{tree_image}
 use Rattle.smk_model.specs.Machine.{ASource, ASteps}
 use Rattle.smk_parse.proofs.Steps.{Comes}

@@ -1,4 +1,4 @@
-use Rattle.std.proofs.Common.{◌≡◌, ◌+◌, ◌-◌, ◌*◌, ◌<◌, [], ◌∷◌, length}
+use Rattle.std.proofs.Common.{◌+◌, ◌-◌, ◌*◌, ◌<◌, [], ◌∷◌, length}
 use Rattle.smk_base.specs.TreeImage.{pred_image}
 use Rattle.smk_model.specs.Machine.{APrim, AnAnds, AnOrs}
 use Rattle.smk_parse.proofs.Steps.{Comes}
