@@ -11,6 +11,7 @@ pub use eval::eval_leaves;
 pub use fault::EvalFault;
 pub use fetch::fetch_leaves;
 pub use leaves::Leaves;
+pub use rows::{fetch_rids, fetch_whole};
 
 #[cfg(test)]
 mod tests;
