@@ -1,6 +1,6 @@
 -- The view of a name among the images of views.
-use Rattle.std.proofs.Common.{◌≡◌, ◌∙◌, refl, sym, ap, ℕ, nat_eq, List, [], ◌∷◌, map, Bool, true, false, cond}
-use Rattle.std.specs.Prelude.{Option, Some, None, find, option_map}
+use Rattle.std.proofs.Common.{◌≡◌, ◌∙◌, refl, ap, ℕ, nat_eq, List, [], ◌∷◌, map, Bool, true, false, cond}
+use Rattle.std.specs.Prelude.{Option, Some, find, option_map}
 use Rattle.std.specs.Cmp.Lexicographic.{pointwise}
 use Rattle.smk_base.specs.declared.catalog.Catalog.{Catalog}
 use Rattle.smk_base.specs.declared.catalog.ViewInfo.{ViewInfo}

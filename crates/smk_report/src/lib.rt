@@ -12,4 +12,4 @@ mod texts;
 
 pub use faults::fault_text;
 pub use replies::reply_text;
-pub use texts::{back_text, bad_line_text, no_memory_text, no_row_text, view_text};
+pub use texts::{bad_line_text, no_memory_text, view_text};

@@ -140,26 +140,6 @@ pub fn rids_text(
     page.finish()
 }
 
-/// The text of a backward answer: the rows of the table with their rids.
-pub fn back_text(
-    alloc: Global,
-    view: &Text,
-    table: &Text,
-    columns: &ListOf<Text>,
-    rids: &Rids,
-    rel: &Rel,
-) -> Result<Vec<u8>, AllocError>
-    requires names { length columns.now ≡ length rel.now.kinds }
-    requires rids { length rids.now ≡ length rel.now.rows }
-    ensures { IfOk result (λ text. text.items ≡ texts.back_text view.now table.now columns.now rids.now rel.now.rows) }
-{
-    let front = back_line(alloc, view, table, rel.len())?;
-    let mut page = Page::new(alloc, front);
-    header(&mut page, b"rid", columns)?;
-    placed_rows(&mut page, rids.as_slice(), rel)?;
-    page.finish()
-}
-
 /// The text of a refusal: a number that is no row, of so many rows.
 pub fn no_row_text(alloc: Global, row: u32, rows: u32) -> Result<Vec<u8>, AllocError>
     ensures { IfOk result (λ text. text.items ≡ texts.no_row_text row rows) }

@@ -1,4 +1,4 @@
-use Rattle.std.proofs.Common.{refl, slice_index_or}
+use Rattle.std.proofs.Common.{refl}
 use Rattle.smk_report.specs.Pages.{text_on}
 use Rattle.smk_report.proofs.Parts.{says_more}
 use Rattle.smk_report.proofs.texts.numbered_rows.Goals as goal

@@ -1,4 +1,4 @@
-use Rattle.std.proofs.Common.{ℕ, ◌++◌, [], slice_index_or}
+use Rattle.std.proofs.Common.{ℕ, ◌++◌, []}
 use Rattle.smk_model.specs.Texts.{row_lines_to}
 use Rattle.smk_report.specs.Pages.{Says, text_on}
 use Rattle.smk_report.proofs.texts.numbered_rows.Given as goal
