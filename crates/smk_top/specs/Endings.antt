@@ -3,7 +3,8 @@ use Rattle.std.specs.Prelude.{◌≡◌, ◌⊎◌, ℕ, Bool, List, [], Option,
 use Rattle.smk_base.specs.declared.fault.Fault.{Fault}
 use Rattle.smk_model.specs.FaultTexts.{fault_text}
 use Rattle.smk_model.specs.Texts.{no_memory_text}
-use Rattle.smk_model.specs.Outcome.{Held, Report, IsReport, HasCause}
+use Rattle.smk_model.specs.Reports.{Report}
+use Rattle.smk_model.specs.Outcome.{Held, Inputs, IsReport, HasCause, reported as report_or_fault}
 use Rattle.smk_outside.specs.Outside.{IsPrefix, Appends, AppendsPart}
 use Rattle.smk_top.specs.declared.stop.Stop.{Stop}
 use Rattle.smk_top.specs.declared.stop.Stop.TheVariants.{At, Unwritten, Exhausted}
@@ -44,6 +45,13 @@ Works words held files_rose out_rose before after (Ok refused) = (report : Repor
 Works words held files_rose out_rose before after (Err (At fault)) = HasCause words held files_rose fault × Appends before after []
 Works words held files_rose out_rose before after (Err Unwritten) = (report : Report) × IsReport words held report × AppendsPart before after report.text × out_rose
 Works words held files_rose out_rose before after (Err Exhausted) = (told : List ℕ) × Appends before after told × IsBegun words held told
+
+-- the report of what was read, or the view with too many rows; nothing is written before all views are evaluated
+abbrev pub Reports : Inputs → Type 0 → Option (List ℕ) → Option (List ℕ) → Result Bool Stop → Type 0
+Reports inputs rose before after (Ok refused) = (report : Report) × (report_or_fault inputs ≡ Ok report) × Appends before after report.text × (refused ≡ report.refused)
+Reports inputs rose before after (Err (At fault)) = (report_or_fault inputs ≡ Err fault) × Appends before after []
+Reports inputs rose before after (Err Unwritten) = (report : Report) × (report_or_fault inputs ≡ Ok report) × AppendsPart before after report.text × rose
+Reports inputs rose before after (Err Exhausted) = Appends before after [] ⊎ ((report : Report) × (report_or_fault inputs ≡ Ok report) × AppendsPart before after report.text)
 
 -- it is said that memory was wanting, or a part of that where `err` failed
 abbrev pub SaysMemory : Type 0 → Option (List ℕ) → Option (List ℕ) → Status → Type 0

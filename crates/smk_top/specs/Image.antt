@@ -1,21 +1,25 @@
--- What the parts of a first book say.
-use Rattle.std.specs.Prelude.{ℕ, ℤ, List, Option, option_map}
-use Rattle.std.specs.Borrow.{Bor}
-use Rattle.smk_model.specs.First as forms
-use Rattle.smk_top.specs.declared.first.FirstBook.{FirstBook}
+-- Words, lines and books as the definitions see them.
+use Rattle.std.specs.Prelude.{List}
+use Rattle.smk_base.specs.Rels.{Relation}
+use Rattle.smk_base.specs.CatalogImage.{catalog_image}
+use Rattle.smk_base.specs.declared.catalog.Catalog.{Catalog}
+use Rattle.smk_model.specs.Readings as readings
+use Rattle.smk_model.specs.Selection.{each_rows}
+use Rattle.smk_model.specs.Session.{Workbook}
+use Rattle.smk_model.specs.Outcome as outcomes
+use Rattle.smk_top.specs.declared.words.RunWords.{RunWords}
+use Rattle.smk_top.specs.declared.script.Reading.{Reading}
+use Rattle.smk_top.specs.declared.script.Reading.TheVariants.{Nothing, Asks, Unread}
 
--- the book as the definitions see it
-abbrev pub book_image : FirstBook → forms.FirstBook
-book_image b = record { table = b.table; file = b.file; column = b.column; view = b.view; least = b.least }
+abbrev pub words_image : RunWords → outcomes.Words
+words_image words = record { book = words.book; script = words.script }
 
--- the names and the file of a first line, and what follows it
-abbrev pub table_image : Option (Bor (List ℕ) × Bor (List ℕ) × Bor (List ℕ) × Bor (List ℕ)) → Option (List ℕ × List ℕ × List ℕ × List ℕ)
-table_image parts = option_map (λ p. (p.0.now, p.1.now, p.2.now, p.3.now)) parts
+-- what a line says
+abbrev pub reading_image : Reading → readings.Reading
+reading_image Nothing = readings.Nothing
+reading_image (Asks line) = readings.Asks line
+reading_image (Unread at) = readings.Unread at
 
--- the name and the least value of a second line, and what follows it
-abbrev pub view_image : Option (Bor (List ℕ) × ℤ × Bor (List ℕ)) → Option (List ℕ × ℤ × List ℕ)
-view_image parts = option_map (λ p. (p.0.now, p.1, p.2.now)) parts
-
--- the book of its parts
-abbrev pub parts_image : Option (Bor (List ℕ) × Bor (List ℕ) × Bor (List ℕ) × Bor (List ℕ) × ℤ) → Option forms.FirstBook
-parts_image parts = option_map (λ p. record { table = p.0.now; file = p.1.now; column = p.2.now; view = p.3.now; least = p.4 }) parts
+-- a checked book with its tables
+abbrev pub workbook_image : Catalog → List Relation → Workbook
+workbook_image catalog tables = record { catalog = catalog_image catalog; tables = each_rows tables }

@@ -1,7 +1,7 @@
-pub mod Seen
 pub mod Image
+pub mod Passing
+pub mod Loaded
 pub mod Statuses
 pub mod Endings
 pub mod Reading
-pub mod Opened
 pub mod Writing

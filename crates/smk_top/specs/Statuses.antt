@@ -2,7 +2,7 @@
 use Rattle.std.specs.Prelude.{ℕ, cond}
 use Rattle.smk_base.specs.declared.fault.Fault.{Fault}
 use Rattle.smk_base.specs.declared.fault.Fault.TheVariants as faults
-use Rattle.smk_model.specs.Outcome.{Report}
+use Rattle.smk_model.specs.Reports.{Report}
 use Rattle.smk_top.specs.declared.status.Status.{Status}
 use Rattle.smk_top.specs.declared.status.Status.TheVariants.{Done, DoneWithRefusals, Usage, BadBook, BadTable, Limit, ReadFault, WriteFault, NoMemory}
 

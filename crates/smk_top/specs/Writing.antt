@@ -1,14 +1,9 @@
 -- What the steps of reporting say of what was written.
-use Rattle.std.specs.Prelude.{◌≡◌, ℕ, ℤ, pos, Bool, not, int_lt, List, length, slice_index_or, Option, Result, Ok, Err}
-use Rattle.smk_model.specs.Lineage.{places}
-use Rattle.smk_model.specs.Outcome.{Report}
+use Rattle.std.specs.Prelude.{◌≡◌, ℕ, Bool, List, Option, Result, Ok, Err}
+use Rattle.smk_model.specs.Reports.{Report}
 use Rattle.smk_outside.specs.Outside.{Appends, AppendsPart}
 use Rattle.smk_top.specs.declared.stop.Stop.{Stop}
 use Rattle.smk_top.specs.declared.stop.Stop.TheVariants.{At, Unwritten, Exhausted}
-
--- the places of the numbers from a least one on
-abbrev pub kept : ℤ → List ℤ → List ℕ
-kept least numbers = places (λ i. not (int_lt (slice_index_or numbers i (pos 0)) least)) (length numbers)
 
 -- the report was appended whole, and whether a line was refused is told; or a part of it, where `out` failed or memory was wanting
 abbrev pub Writes : Report → Type 0 → Option (List ℕ) → Option (List ℕ) → Result Bool Stop → Type 0
@@ -23,3 +18,10 @@ Puts text rose before after (Ok x) = Appends before after text
 Puts text rose before after (Err (At fault)) = ⊥
 Puts text rose before after (Err Unwritten) = AppendsPart before after text × rose
 Puts text rose before after (Err Exhausted) = ⊥
+
+-- the same for a text in pieces, between which memory may be wanting
+abbrev pub PutsPieces : {X : Type 0} → List ℕ → Type 0 → Option (List ℕ) → Option (List ℕ) → Result X Stop → Type 0
+PutsPieces text rose before after (Ok x) = Appends before after text
+PutsPieces text rose before after (Err (At fault)) = ⊥
+PutsPieces text rose before after (Err Unwritten) = AppendsPart before after text × rose
+PutsPieces text rose before after (Err Exhausted) = AppendsPart before after text

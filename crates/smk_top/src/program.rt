@@ -1,11 +1,16 @@
-ghost use Rattle.std.specs.Prelude.{◌≡◌, ◌≤◌, map};
+ghost use Rattle.std.specs.Prelude.{◌≡◌, ◌≤◌, ◌+◌, map};
 ghost use Rattle.smk_model.specs.FaultTexts.{IsSaid};
 ghost use Rattle.smk_outside.specs.Outside.{Rose};
 ghost use Rattle.smk_top.specs.Statuses.{status_of_fault};
-ghost use Rattle.smk_top.specs.Endings.{RunEnds, Works, SaysFault, SaysMemory};
+ghost use Rattle.smk_top.specs.Endings.{RunEnds, Works, Reports, SaysFault, SaysMemory};
+ghost use Rattle.smk_top.specs.Loaded.{inputs_image};
+ghost use Rattle.smk_top.specs.Reading.{AreAnswered, IsSayable, RunLooks};
+ghost use Rattle.smk_model.specs.Looks.{run_looks};
 
+use crate::inputs::Inputs;
 use crate::reading::read_all;
 use crate::reporting::write_report;
+use crate::starting::start;
 use crate::status::Status;
 use crate::stop::Stop;
 use smk_base::Fault;
@@ -55,37 +60,65 @@ fn say_fault<E: Sink>(alloc: Global, fault: &Fault, err: &mut E) -> Status
     }
 }
 
-// Reads what the words name, and writes the report. It tells whether a line is refused.
-fn work<F: Files, O: Sink>(
+// Evaluates the views of what was read, and writes the report. It tells whether a line is refused or unread.
+fn report<R: Threads + Sync, O: Sink, L: Ledger>(
+    rt: &R,
+    alloc: Global,
+    inputs: Inputs,
+    out: &mut O,
+    steps: &mut Steps<L>,
+) -> Result<bool, Stop>
+    requires { AreAnswered (inputs_image inputs).readings }
+    ensures works { Reports (inputs_image inputs) (Rose (O.faults out.old) (O.faults out.new)) (O.written out.old) (O.written out.new) result }
+    ensures said { IsSayable result }
+    ensures out_later { O.faults out.old ≤ O.faults out.new }
+    ensures looks { steps.new ≤ steps.old + run_looks (inputs_image inputs) }
+{
+    let Inputs {
+        book,
+        tables,
+        readings,
+    } = inputs;
+    let session = start(rt, alloc, book, tables, steps)?;
+    write_report(alloc, &session, readings.as_slice(), out, steps)
+}
+
+// Reads what the words name, and writes the report. It tells whether a line is refused or unread.
+fn work<R: Threads + Sync, F: Files, O: Sink, L: Ledger>(
+    rt: &R,
     alloc: Global,
     words: &[&str],
     files: &mut F,
     out: &mut O,
+    steps: &mut Steps<L>,
 ) -> Result<bool, Stop>
     ensures works { Works (map (λ w. w.now) words.entry.now) (F.held files.old) (Rose (F.faults files.old) (F.faults files.new)) (Rose (O.faults out.old) (O.faults out.new)) (O.written out.old) (O.written out.new) result }
+    ensures said { IsSayable result }
     ensures held { F.held files.new ≡ F.held files.old }
     ensures files_later { F.faults files.old ≤ F.faults files.new }
     ensures out_later { O.faults out.old ≤ O.faults out.new }
+    ensures looks { RunLooks (map (λ w. w.now) words.entry.now) (F.held files.old) steps.old steps.new }
 {
-    let opened = read_all(alloc, words, files)?;
-    write_report(alloc, &opened, out)
+    let inputs = read_all(alloc, words, files)?;
+    report(rt, alloc, inputs, out, steps)
 }
 
 /// A run of Smoke. Its `words` are those after the program's name: a book's file name, and a script's where there is one.
 ///
-/// It reads the book, the book's table and the script from `files`, evaluates the view, and writes to `out` the text of the view and then
+/// It reads the book, the book's tables and the script from `files`, evaluates the views, and writes to `out` the text of each view and then
 /// of the reply to each line of the script; where there is a fault, it writes nothing to `out` and one line to `err`. How it may end is
-/// `RunEnds`: what is written is the report of the words and of what the files hold, in which the view is its plan's plain meaning and each
-/// backward answer is what the annotated meaning relates; any other ending has its cause. Only want of memory has none.
+/// `RunEnds`: what is written is the report of the words and of what the files hold, in which each view is its plan's plain meaning, each
+/// declared backward answer is what the annotated meaning relates, and exactly the undeclared queries are refused as undeclared; any other
+/// ending has its cause. Only want of memory has none.
 pub fn run<R: Threads + Sync, F: Files, O: Sink, E: Sink, G: Gate + Sync, L: Ledger>(
-    _rt: &R,
+    rt: &R,
     alloc: Global,
     words: &[&str],
     files: &mut F,
     out: &mut O,
     err: &mut E,
     _gate: &G,
-    _steps: &mut Steps<L>,
+    steps: &mut Steps<L>,
 ) -> Status
     ensures ends { RunEnds (map (λ w. w.now) words.entry.now) (F.held files.old)
         (Rose (F.faults files.old) (F.faults files.new)) (Rose (O.faults out.old) (O.faults out.new)) (Rose (E.faults err.old) (E.faults err.new))
@@ -94,9 +127,9 @@ pub fn run<R: Threads + Sync, F: Files, O: Sink, E: Sink, G: Gate + Sync, L: Led
     ensures files_later { F.faults files.old ≤ F.faults files.new }
     ensures out_later { O.faults out.old ≤ O.faults out.new }
     ensures err_later { E.faults err.old ≤ E.faults err.new }
-    ensures looks { _steps.new ≡ _steps.old }
+    ensures looks { RunLooks (map (λ w. w.now) words.entry.now) (F.held files.old) steps.old steps.new }
 {
-    match work(alloc, words, files, out) {
+    match work(rt, alloc, words, files, out, steps) {
         Ok(false) => Status::Done,
         Ok(true) => Status::DoneWithRefusals,
         Err(Stop::At(fault)) => say_fault(alloc, &fault, err),

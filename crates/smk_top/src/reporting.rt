@@ -1,87 +1,27 @@
-ghost use Rattle.std.specs.Prelude.{◌≡◌, ◌<◌, ◌≤◌, ◌∷◌, [], length, slice_index_or, IfOk, OnOk, All};
-ghost use Rattle.std.specs.List.{list_any, flat_map};
-ghost use Rattle.smk_base.specs.declared.value.Value.TheVariants as values;
-ghost use Rattle.smk_base.specs.declared.value.Kind.TheVariants as kinds;
-ghost use Rattle.smk_model.specs.Lineage.{sub};
-ghost use Rattle.smk_model.specs.Session.{is_refused};
-ghost use Rattle.smk_model.specs.Outcome as outcomes;
+// The report of a run, text by text.
+ghost use Rattle.std.specs.Prelude.{◌≡◌, ◌≤◌, ◌<◌, ◌+◌, length, map, IfOk, IfSome, IfNone, IsTrue};
+ghost use Rattle.std.specs.List.{list_any};
+ghost use Rattle.smk_base.specs.CatalogImage.{catalog_image};
+ghost use Rattle.smk_model.specs.Forms.{is_reading_answered};
+ghost use Rattle.smk_model.specs.Readings.{Nothing};
+ghost use Rattle.smk_model.specs.Session as sessions;
+ghost use Rattle.smk_model.specs.Reports as reports;
+ghost use Rattle.smk_model.specs.Looks.{line_looks, lines_looks};
 ghost use Rattle.smk_outside.specs.Outside.{Rose};
-ghost use Rattle.smk_top.specs.Image.{book_image};
-ghost use Rattle.smk_top.specs.Opened.{inputs_image};
-ghost use Rattle.smk_top.specs.Writing.{kept, Puts, Writes};
+ghost use Rattle.smk_top.specs.Image.{reading_image};
+ghost use Rattle.smk_top.specs.Loaded.{session_image};
+ghost use Rattle.smk_top.specs.Reading.{AreAnswered};
+ghost use Rattle.smk_top.specs.Writing.{Puts, PutsPieces, Writes};
 
-use crate::opened::Opened;
+use crate::answers::answer;
+use crate::script::Reading;
+use crate::session::Session;
 use crate::stop::Stop;
-use smk_base::{Kind, ListOf, Rel, Rids, Row, Text, Value};
-use smk_outside::Sink;
-use smk_report::{back_text, no_row_text, view_text};
+use smk_base::Reply;
+use smk_outside::{Sink, Steps};
+use smk_report::{bad_line_text, reply_text, view_text};
 use std::alloc::{AllocError, Global};
-
-// The places of the numbers from a least one on.
-#[tactic(auto, using(crate::proofs::Views::places_keep, crate::proofs::Views::places_drop))]
-fn kept_rids(alloc: Global, opened: &Opened) -> Result<Vec<u32>, AllocError>
-    ensures { IfOk result (λ rids. rids.items ≡ kept opened.now.book.least opened.now.numbers.items) }
-{
-    let numbers = opened.numbers.as_slice();
-    let mut rids = Vec::new(alloc);
-    for rid in 0..numbers.len() {
-        if numbers[rid] >= opened.book.least {
-            rids.push(rid as u32)?;
-        }
-    }
-    Ok(rids)
-}
-
-// The row of one int.
-fn row_of(alloc: Global, number: i64) -> Result<Row, AllocError>
-    ensures { IfOk result (λ row. row ≡ values.Int number ∷ []) }
-{
-    let mut row = Row::new(alloc);
-    row.push(Value::Int(i128::from(number)))?;
-    Ok(row)
-}
-
-// The rows of the table at these places.
-#[tactic(auto, using(crate::proofs::Views::sub_more, crate::proofs::Views::row_of_number))]
-fn rows_at(alloc: Global, numbers: &[i64], rids: &[u32]) -> Result<Rel, AllocError>
-    requires few { length rids.now ≤ 1048576 }
-    requires below { All (λ rid. rid < length numbers.now) rids.now }
-    ensures { IfOk result (λ rel. rel ≡ record { kinds = kinds.Int 0 ∷ []; rows = sub (outcomes.table_rows numbers.now) rids.now }) }
-{
-    let mut rel = Rel::new(alloc, &[Kind::Int { level: 0 }])?;
-    for rid in rids {
-        rel.push_row(row_of(alloc, numbers[*rid as usize])?)?;
-    }
-    Ok(rel)
-}
-
-// The text of the reply to a line with this mark.
-fn reply_text(
-    alloc: Global,
-    opened: &Opened,
-    columns: &ListOf<Text>,
-    rids: &[u32],
-    mark: u32,
-) -> Result<Vec<u8>, AllocError>
-    requires columns { columns.now ≡ opened.now.book.column ∷ [] }
-    requires rids { rids.now ≡ kept opened.now.book.least opened.now.numbers.items }
-    ensures { IfOk result (λ text. text.items ≡ outcomes.reply_text (book_image opened.now.book) (outcomes.reply_of (inputs_image opened.now) mark)) }
-{
-    if mark as usize >= rids.len() {
-        return no_row_text(alloc, mark, rids.len() as u32);
-    }
-    let mut found = Rids::new(alloc);
-    found.push(rids[mark as usize])?;
-    let rows = rows_at(alloc, opened.numbers.as_slice(), found.as_slice())?;
-    back_text(
-        alloc,
-        &opened.book.view,
-        &opened.book.table,
-        columns,
-        &found,
-        &rows,
-    )
-}
+use std::sync::ledger::Ledger;
 
 // Writes a text.
 fn put<O: Sink>(out: &mut O, text: &[u8]) -> Result<(), Stop>
@@ -94,52 +34,106 @@ fn put<O: Sink>(out: &mut O, text: &[u8]) -> Result<(), Stop>
     }
 }
 
-// Writes the replies to the lines, in order, and tells whether one is refused.
-fn write_replies<O: Sink>(
-    alloc: Global,
-    opened: &Opened,
-    columns: &ListOf<Text>,
-    rids: &[u32],
-    marks: &[u32],
-    out: &mut O,
-) -> Result<bool, Stop>
-    requires columns { columns.now ≡ opened.now.book.column ∷ [] }
-    requires rids { rids.now ≡ kept opened.now.book.least opened.now.numbers.items }
-    ensures written { Writes (record {
-      text = flat_map (λ mark. outcomes.reply_text (book_image opened.now.book) (outcomes.reply_of (inputs_image opened.now) mark)) marks.now;
-      refused = list_any (λ mark. is_refused (outcomes.reply_of (inputs_image opened.now) mark)) marks.now;
-    })
+// The text of the view with this number.
+fn text_of_view(alloc: Global, session: &Session, number: usize) -> Result<Vec<u8>, AllocError>
+    requires { number < length session.now.views.items }
+    ensures { IfOk result (λ text. text.items ≡ reports.text_of_view (session_image session.now) (sessions.view_at (catalog_image session.now.book) number)) }
+{
+    let view = &session.book.catalog().views.as_slice()[number];
+    view_text(alloc, &view.name, &view.names, &session.views[number])
+}
+
+// Writes the texts of all views, in the book's order.
+fn write_views<O: Sink>(alloc: Global, session: &Session, out: &mut O) -> Result<(), Stop>
+    ensures written { PutsPieces (reports.views_text (session_image session.now) (catalog_image session.now.book).views)
         (Rose (O.faults out.old) (O.faults out.new)) (O.written out.old) (O.written out.new) result }
     ensures later { O.faults out.old ≤ O.faults out.new }
 {
-    let mut refused = false;
-    for mark in marks {
-        let text = reply_text(alloc, opened, columns, rids, *mark)?;
+    for number in 0..session.views.len() {
+        let text = text_of_view(alloc, session, number)?;
         put(out, text.as_slice())?;
-        if *mark as usize >= rids.len() {
-            refused = true;
-        }
     }
-    Ok(refused)
+    Ok(())
 }
 
-/// Writes the report of what was read: the view's text, then the replies. It tells whether a line is refused.
-pub fn write_report<O: Sink>(alloc: Global, opened: &Opened, out: &mut O) -> Result<bool, Stop>
-    ensures written { Writes (outcomes.report_of (inputs_image opened.now)) (Rose (O.faults out.old) (O.faults out.new)) (O.written out.old) (O.written out.new) result }
-    ensures later { O.faults out.old ≤ O.faults out.new }
+// Whether a reply is a refusal.
+fn has_refused(reply: &Reply) -> bool
+    ensures { result ≡ sessions.is_refused reply.now }
 {
-    let rids = kept_rids(alloc, opened)?;
-    let mut columns = ListOf::new(alloc);
-    columns.push(opened.book.column.copy(alloc)?)?;
-    let rows = rows_at(alloc, opened.numbers.as_slice(), rids.as_slice())?;
-    let text = view_text(alloc, &opened.book.view, &columns, &rows)?;
-    put(out, text.as_slice())?;
-    write_replies(
-        alloc,
-        opened,
-        &columns,
-        rids.as_slice(),
-        opened.marks.as_slice(),
-        out,
-    )
+    match reply {
+        Reply::Refused(_) => true,
+        _ => false,
+    }
+}
+
+// The text of the line with this number, and whether it is refused or unread; None where it says nothing.
+fn text_of_reading<L: Ledger>(
+    alloc: Global,
+    session: &Session,
+    number: u64,
+    reading: &Reading,
+    steps: &mut Steps<L>,
+) -> Result<Option<(Vec<u8>, bool)>, AllocError>
+    requires { IsTrue (is_reading_answered (reading_image reading.now)) }
+    ensures told { IfOk result (λ told. IfSome told (λ p. (p.0.items ≡ reports.text_of_reading (session_image session.now) number (reading_image reading.now))
+        × (p.1 ≡ reports.is_turned_down (session_image session.now) (reading_image reading.now)))) }
+    ensures nothing { IfOk result (λ told. IfNone told (reading_image reading.now ≡ Nothing)) }
+    ensures looks { steps.new ≤ steps.old + line_looks (session_image session.now) (reading_image reading.now) }
+{
+    match reading {
+        Reading::Nothing => Ok(None),
+        Reading::Asks(line) => {
+            let reply = answer(alloc, session, line, steps)?;
+            let text = reply_text(alloc, session.book.catalog(), line, &reply)?;
+            Ok(Some((text, has_refused(&reply))))
+        }
+        Reading::Unread(at) => Ok(Some((bad_line_text(alloc, number, *at)?, true))),
+    }
+}
+
+// Writes the texts of the lines, in order, and tells whether one is refused or unread.
+fn write_readings<O: Sink, L: Ledger>(
+    alloc: Global,
+    session: &Session,
+    readings: &[Reading],
+    out: &mut O,
+    steps: &mut Steps<L>,
+) -> Result<bool, Stop>
+    requires { AreAnswered (map reading_image readings.now) }
+    ensures written { Writes (record {
+      text = reports.readings_text (session_image session.now) 1 (map reading_image readings.now);
+      refused = list_any (reports.is_turned_down (session_image session.now)) (map reading_image readings.now);
+    })
+        (Rose (O.faults out.old) (O.faults out.new)) (O.written out.old) (O.written out.new) result }
+    ensures later { O.faults out.old ≤ O.faults out.new }
+    ensures looks { steps.new ≤ steps.old + lines_looks (session_image session.now) (map reading_image readings.now) }
+{
+    let mut turned_down = false;
+    let mut number = 0;
+    for reading in readings {
+        number += 1;
+        if let Some((text, down)) = text_of_reading(alloc, session, number, reading, steps)? {
+            put(out, text.as_slice())?;
+            turned_down = turned_down || down;
+        }
+    }
+    Ok(turned_down)
+}
+
+/// Writes the report: the texts of the views, then those of the lines. It tells whether a line is refused or unread.
+pub fn write_report<O: Sink, L: Ledger>(
+    alloc: Global,
+    session: &Session,
+    readings: &[Reading],
+    out: &mut O,
+    steps: &mut Steps<L>,
+) -> Result<bool, Stop>
+    requires { AreAnswered (map reading_image readings.now) }
+    ensures written { Writes (reports.report_of (session_image session.now) (map reading_image readings.now))
+        (Rose (O.faults out.old) (O.faults out.new)) (O.written out.old) (O.written out.new) result }
+    ensures later { O.faults out.old ≤ O.faults out.new }
+    ensures looks { steps.new ≤ steps.old + lines_looks (session_image session.now) (map reading_image readings.now) }
+{
+    write_views(alloc, session, out)?;
+    write_readings(alloc, session, readings, out, steps)
 }

@@ -24,7 +24,23 @@ const REPORT: &[u8] =
 const USAGE: &[u8] =
     b"usage: smoke [--mode inject|defer] [--workers 1..64] (BOOK [SCRIPT] | --demo N)\n";
 
-const HELD: [(&[u8], &[u8]); 12] = [
+const SALES: &[u8] = b"table sales from \"sales.csv\" (id int, region text, amount int)
+table regions from \"regions.csv\" (name text, zone text)
+view by_zone = scan sales | join scan regions on region = name | group zone {total = sum amount}
+view big = scan sales | where amount >= 10
+lineage back big to sales
+";
+
+const SALES_VIEWS: &[u8] =
+    b"view by_zone 2\nrow,zone,total\n0,A,45\n1,B,20\nview big 3\nrow,id,region,amount\n0,1,north,10\n1,2,south,20\n2,3,north,30\n";
+
+const LINES: &[u8] =
+    b"\xEF\xBB\xBF# the first two\r\nback big 1,0,1 to sales\r\n\r\nback big 2,7,9 to sales\nback big back to sales\nback small 0 to stores\nback big 9 to stores\nback by_zone 9 to sales\nshow by_zone";
+
+const REPLIES: &[u8] =
+    b"back big to sales 2\nrid,id,region,amount\n0,1,north,10\n1,2,south,20\nrefused no row 7 of 3\nline 5 not read at byte 9\nrefused unknown view small\nrefused unknown table stores\nrefused undeclared back by_zone to sales\nview by_zone 2\nrow,zone,total\n0,A,45\n1,B,20\n";
+
+const HELD: [(&[u8], &[u8]); 19] = [
     (b"book.smk", BOOK),
     (b"t.csv", TABLE),
     (b"script", SCRIPT),
@@ -37,8 +53,16 @@ const HELD: [(&[u8], &[u8]); 12] = [
         b"table to from \"t.csv\" (a int)\nview v = scan to | where a >= 10\nlineage back v to to\n",
     ),
     (
-        b"cut.smk",
-        b"table t from \"t.csv\" (a int)\nview v = scan t | where a >= 10\nlineage back v to t",
+        b"marked.smk",
+        b"\xEF\xBB\xBFtable t from \"t.csv\" (a int)\nview v = scan u\nlineage fwd t to v\n",
+    ),
+    (
+        b"forward.smk",
+        b"table t from \"absent.csv\" (a int)\nview v = scan t\nlineage fwd t to v\n",
+    ),
+    (
+        b"grouped.smk",
+        b"table t from \"absent.csv\" (a int)\nview v = scan t | project a\nlineage back v to t\n",
     ),
     (
         b"absent.smk",
@@ -52,6 +76,14 @@ const HELD: [(&[u8], &[u8]); 12] = [
     (b"cut", b"back v 1 to t"),
     (b"mark", b"back v 4294967296 to t\n"),
     (b"last", b"back v 0 to t\nback v 4294967295 to t\n"),
+    (b"brush", b"show v\nbrush v 0 on t\n"),
+    (b"sales.smk", SALES),
+    (
+        b"sales.csv",
+        b"id,region,amount\n1,north,10\n2,south,20\n3,north,30\n4,east,5\n",
+    ),
+    (b"regions.csv", b"name,zone\nnorth,A\nsouth,B\neast,A\n"),
+    (b"lines", LINES),
 ];
 
 fn text(alloc: Global, bytes: &[u8]) -> Result<Text, AllocError> {
@@ -116,7 +148,7 @@ fn run_over<R: Threads + Sync>(
 
 #[test]
 fn whole_runs(rt: HostRuntime) -> Result<(), Fail> {
-    let cases: [(&[&str], u8, &[u8], &[u8]); 16] = [
+    let cases: [(&[&str], u8, &[u8], &[u8]); 19] = [
         (&["book.smk", "script"], 1, REPORT, b""),
         (&["book.smk"], 0, VIEW, b""),
         (
@@ -125,18 +157,46 @@ fn whole_runs(rt: HostRuntime) -> Result<(), Fail> {
             b"view v 2\nrow,a\n0,10\n1,40\nback v to t 1\nrid,a\n1,10\nrefused no row 4294967295 of 2\n",
             b"",
         ),
-        (&["above.smk", "script"], 3, b"", b"smoke: form above.smk\n"),
-        (&["keyword.smk"], 3, b"", b"smoke: form keyword.smk\n"),
-        (&["cut.smk", "absent"], 3, b"", b"smoke: form cut.smk\n"),
+        (&["above.smk"], 0, b"view v 1\nrow,a\n0,40\n", b""),
         (
-            &["absent.smk", "cut"],
+            &["keyword.smk"],
+            3,
+            b"",
+            b"smoke: book: unexpected token at byte 6\n",
+        ),
+        (
+            &["marked.smk", "absent"],
+            3,
+            b"",
+            b"smoke: book: unknown table at byte 43\n",
+        ),
+        (&["forward.smk"], 3, b"", b"smoke: form forward.smk\n"),
+        (&["grouped.smk"], 3, b"", b"smoke: form grouped.smk\n"),
+        (
+            &["absent.smk", "brush"],
             6,
             b"",
             b"smoke: cannot read absent.csv\n",
         ),
-        (&["words.smk", "cut"], 3, b"", b"smoke: form words.csv\n"),
-        (&["book.smk", "cut"], 3, b"", b"smoke: form cut\n"),
-        (&["book.smk", "mark"], 3, b"", b"smoke: form mark\n"),
+        (
+            &["words.smk", "brush"],
+            4,
+            b"",
+            b"smoke: table t: record 1 column a is no int\n",
+        ),
+        (
+            &["book.smk", "cut"],
+            0,
+            b"view v 2\nrow,a\n0,10\n1,40\nback v to t 1\nrid,a\n3,40\n",
+            b"",
+        ),
+        (
+            &["book.smk", "mark"],
+            1,
+            b"view v 2\nrow,a\n0,10\n1,40\nline 1 not read at byte 7\n",
+            b"",
+        ),
+        (&["book.smk", "brush"], 3, b"", b"smoke: form brush\n"),
         (
             &["book.smk", "absent"],
             6,
@@ -160,6 +220,17 @@ fn whole_runs(rt: HostRuntime) -> Result<(), Fail> {
         assert_eq!(rt; ran.out.bytes(), *out);
         assert_eq!(rt; ran.err.bytes(), *err);
     }
+    Ok(())
+}
+
+#[test]
+fn a_book_of_two_tables(rt: HostRuntime) -> Result<(), Fail> {
+    let ran = run_over(&rt, rt.alloc(), &["sales.smk", "lines"], &[], &[], &[])?;
+    assert_eq!(rt; ran.err.bytes(), b"".as_slice());
+    assert_eq!(rt; ran.status.code(), 1);
+    let written = ran.out.bytes();
+    assert!(rt; written.starts_with(SALES_VIEWS));
+    assert_eq!(rt; &written[SALES_VIEWS.len()..], REPLIES);
     Ok(())
 }
 

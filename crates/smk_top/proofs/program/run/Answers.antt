@@ -1,6 +1,5 @@
 use Rattle.std.proofs.Common.{List, ℕ, map, Bor, true, false}
 use Rattle.smk_top.proofs.Endings.{ends_reported, ends_unwritten, ends_exhausted, ends_faulted, done, refusals}
-use Rattle.smk_top.proofs.Said.{is_said}
 use Rattle.smk_top.proofs.program.run.Goals as goal
 
 pub returns-in-Ok-true-clause-ends : goal.returns-in-Ok-true-clause-ends
@@ -24,5 +23,4 @@ returns-in-Err-Exhausted-clause-ends g c =
     ends_exhausted (map (λ (w : Bor (List ℕ)). w.now) c.args.words.now) _ _ _ _ _ _ _ _ _ (rw c.in-Err-Exhausted.field-0-is at c.in-Err-Exhausted.ensures.works) c.say_no_memory.ensures.said
 
 pub say_fault-requires : goal.say_fault-requires
-say_fault-requires g c =
-    is_said (map (λ (w : Bor (List ℕ)). w.now) c.args.words.now) _ _ c.in-Err-At.fault (rw c.in-Err-At.field-0-is at c.in-Err-At.ensures.works).0
+say_fault-requires g c = rw c.in-Err-At.field-0-is at c.in-Err-At.ensures.said

@@ -1,0 +1,23 @@
+// What a run reads.
+ghost use Rattle.std.specs.Prelude.{◌≡◌, map};
+ghost use Rattle.smk_base.specs.CatalogImage.{catalog_image};
+ghost use Rattle.smk_model.specs.Catalogs.{each_table_kinds};
+ghost use Rattle.smk_model.specs.Forms.{IsBookAnswered};
+ghost use Rattle.smk_model.specs.Selection.{each_kinds};
+ghost use Rattle.smk_top.specs.Image.{reading_image};
+ghost use Rattle.smk_top.specs.Reading.{AreAnswered};
+
+use crate::script::Reading;
+use smk_table::Table;
+use smk_typing::TypedBook;
+
+/// What a run reads.
+#[derive(Drop)]
+pub struct Inputs {
+    pub book: TypedBook,
+    pub tables: Vec<Table>,
+    pub readings: Vec<Reading>,
+    ghost kinds: { each_kinds tables.items ≡ each_table_kinds book.tables },
+    ghost answered: { IsBookAnswered (catalog_image book) },
+    ghost lines: { AreAnswered (map reading_image readings.items) },
+}

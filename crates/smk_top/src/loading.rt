@@ -1,0 +1,100 @@
+// The tables of a book, from their files.
+ghost use Rattle.std.specs.Prelude.{◌≡◌, ◌≢◌, ◌≤◌, All, IfOk};
+ghost use Rattle.smk_model.specs.Tables as csv_tables;
+ghost use Rattle.smk_model.specs.Tables.{AreColumns};
+ghost use Rattle.smk_model.specs.Catalogs.{table_kinds, each_table_kinds};
+ghost use Rattle.smk_model.specs.Selection.{each_rows, each_kinds};
+ghost use Rattle.smk_model.specs.FaultTexts.{IsSaid};
+ghost use Rattle.smk_model.specs.Outcome as outcomes;
+ghost use Rattle.smk_base.specs.declared.fault.TableFault.TheVariants as table_faults;
+ghost use Rattle.smk_outside.specs.Outside.{Rose};
+ghost use Rattle.smk_top.specs.Reading.{Answers, Reads, Loads, IsSayable};
+
+use crate::files::content;
+use crate::stop::Stop;
+use smk_base::{ColDecls, Fault, TableFault, TableInfo, Text};
+use smk_outside::Files;
+use smk_table::{Table, read_table};
+use std::alloc::{AllocError, Global};
+
+// The name of the column that a fault of a table is one of.
+fn faulty_column(
+    alloc: Global,
+    cols: &ColDecls,
+    fault: TableFault,
+) -> Result<Option<Text>, AllocError>
+    ensures { IfOk result (λ name. name ≡ outcomes.faulty_column cols.now fault) }
+{
+    match fault {
+        TableFault::MissingColumn { col }
+        | TableFault::RepeatedColumn { col }
+        | TableFault::BadInt { col, .. } => match cols.as_slice().get(col as usize) {
+            Some(column) => Ok(Some(column.name.copy(alloc)?)),
+            None => Ok(Some(Text::new(alloc))),
+        },
+        _ => Ok(None),
+    }
+}
+
+// The fault of a run that a fault of a table is.
+fn fault_of_table(alloc: Global, info: &TableInfo, fault: TableFault) -> Result<Fault, AllocError>
+    requires { fault ≢ table_faults.NoMemory }
+    ensures is { IfOk result (λ said. said ≡ outcomes.fault_of_table info.now fault) }
+    ensures said { IfOk result (λ said. IsSaid said) }
+{
+    let table = info.name.copy(alloc)?;
+    if let TableFault::TooManyRows = fault {
+        return Ok(Fault::TableRows { table });
+    }
+    let col = faulty_column(alloc, &info.cols, fault)?;
+    Ok(Fault::Table { table, col, fault })
+}
+
+// The table of the bytes of its file.
+#[tactic(auto, using(crate::proofs::TableLoads::kinds_declared))]
+fn table_of(alloc: Global, info: &TableInfo, bytes: &[u8]) -> Result<Table, Stop>
+    requires { AreColumns info.now.cols }
+    ensures answers { Answers (λ answer. outcomes.or_table_fault info.now (csv_tables.table_of info.now.cols bytes.now) ≡ answer) (λ table. table.rows) result }
+    ensures kinds { IfOk result (λ table. table.kinds ≡ table_kinds info.now) }
+    ensures said { IsSayable result }
+{
+    match read_table(alloc, bytes, &info.cols) {
+        Ok(table) => Ok(table),
+        Err(TableFault::NoMemory) => Err(Stop::Exhausted),
+        Err(fault) => Err(Stop::At(fault_of_table(alloc, info, fault)?)),
+    }
+}
+
+// A table, by its file.
+fn load<F: Files>(alloc: Global, files: &mut F, info: &TableInfo) -> Result<Table, Stop>
+    requires { AreColumns info.now.cols }
+    ensures read { Reads (F.held files.old) (Rose (F.faults files.old) (F.faults files.new)) info.now.file
+        (λ held answer. outcomes.load held info.now ≡ answer) (λ table. table.rows) result }
+    ensures kinds { IfOk result (λ table. table.kinds ≡ table_kinds info.now) }
+    ensures said { IsSayable result }
+    ensures held { F.held files.new ≡ F.held files.old }
+    ensures later { F.faults files.old ≤ F.faults files.new }
+{
+    let bytes = content(alloc, files, &info.file)?;
+    table_of(alloc, info, bytes.as_slice())
+}
+
+/// The tables of a book, in its order.
+pub fn load_all<F: Files>(
+    alloc: Global,
+    files: &mut F,
+    infos: &[TableInfo],
+) -> Result<Vec<Table>, Stop>
+    requires { All (λ info. AreColumns info.cols) infos.now }
+    ensures read { Loads (F.held files.old) (Rose (F.faults files.old) (F.faults files.new)) infos.now (λ tables. each_rows tables.items) result }
+    ensures kinds { IfOk result (λ tables. each_kinds tables.items ≡ each_table_kinds infos.now) }
+    ensures said { IsSayable result }
+    ensures held { F.held files.new ≡ F.held files.old }
+    ensures later { F.faults files.old ≤ F.faults files.new }
+{
+    let mut tables = Vec::new(alloc);
+    for info in infos {
+        tables.push(load(alloc, files, info)?)?;
+    }
+    Ok(tables)
+}

@@ -1,0 +1,75 @@
+// A book, from its file to its catalog.
+ghost use Rattle.std.specs.Prelude.{◌≡◌, ◌≤◌, IfOk};
+ghost use Rattle.smk_base.specs.TreeImage.{book_image};
+ghost use Rattle.smk_base.specs.CatalogImage.{catalog_image};
+ghost use Rattle.smk_base.specs.Marks.{after_marks};
+ghost use Rattle.smk_model.specs.Limits.{KeepsLimits};
+ghost use Rattle.smk_model.specs.Typing.{types};
+ghost use Rattle.smk_model.specs.Forms as forms;
+ghost use Rattle.smk_model.specs.Outcome as outcomes;
+ghost use Rattle.smk_outside.specs.Outside.{Rose};
+ghost use Rattle.smk_top.specs.Reading.{Answers, Reads, IsSayable};
+
+use crate::files::content;
+use crate::forms::is_book_answered;
+use crate::stop::Stop;
+use smk_base::{Book, BookFault, Fault, Text, TypeFault, without_mark};
+use smk_outside::Files;
+use smk_parse::parse_book;
+use smk_typing::{TypedBook, check};
+use std::alloc::Global;
+
+// The statements of a text.
+#[tactic(auto, using(crate::proofs::FileReads::spelt, crate::proofs::FileReads::keeps_limits, crate::proofs::FileReads::misspelt))]
+fn parsed(alloc: Global, text: &[u8]) -> Result<Book, Stop>
+    ensures answers { Answers (outcomes.Parses text.now) book_image result }
+    ensures kept { IfOk result (λ book. KeepsLimits (book_image book)) }
+    ensures said { IsSayable result }
+{
+    match parse_book(alloc, text) {
+        Ok(book) => Ok(book),
+        Err(BookFault::NoMemory) => Err(Stop::Exhausted),
+        Err(fault) => Err(Stop::At(Fault::Book(fault))),
+    }
+}
+
+// The checked book of statements.
+fn checked(alloc: Global, name: &Text, book: Book) -> Result<TypedBook, Stop>
+    requires { KeepsLimits (book_image book) }
+    ensures answers { Answers (λ answer. outcomes.answered_book name.now (types (book_image book)) ≡ answer) catalog_image result }
+    ensures said { IsSayable result }
+{
+    match check(alloc, book) {
+        Ok(typed) => {
+            if is_book_answered(typed.catalog()) {
+                return Ok(typed);
+            }
+            let file = name.copy(alloc)?;
+            Err(Stop::At(Fault::Form { file }))
+        }
+        Err(TypeFault::NoMemory) => Err(Stop::Exhausted),
+        Err(fault) => Err(Stop::At(Fault::Types(fault))),
+    }
+}
+
+// The checked book of the bytes of a file.
+fn book_of(alloc: Global, name: &Text, bytes: &[u8]) -> Result<TypedBook, Stop>
+    ensures answers { Answers (outcomes.BookSays name.now bytes.now) catalog_image result }
+    ensures said { IsSayable result }
+{
+    let book = parsed(alloc, without_mark(bytes))?;
+    checked(alloc, name, book)
+}
+
+/// The checked book of a file.
+pub fn open_book<F: Files>(alloc: Global, files: &mut F, name: &Text) -> Result<TypedBook, Stop>
+    ensures read { Reads (F.held files.old) (Rose (F.faults files.old) (F.faults files.new)) name.now
+        (λ held. outcomes.OpensBook held name.now) catalog_image result }
+    ensures answered { IfOk result (λ book. forms.IsBookAnswered (catalog_image book)) }
+    ensures said { IsSayable result }
+    ensures held { F.held files.new ≡ F.held files.old }
+    ensures later { F.faults files.old ≤ F.faults files.new }
+{
+    let bytes = content(alloc, files, name)?;
+    book_of(alloc, name, bytes.as_slice())
+}
