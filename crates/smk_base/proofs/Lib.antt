@@ -1,3 +1,12 @@
 pub mod RelRows
 pub mod Blanks
 pub mod IntNumerals
+pub mod Texts
+pub mod Codes
+pub mod Recoding
+pub mod Kept
+pub mod Made
+pub mod Pushed
+pub mod Rows
+pub mod Relating
+pub mod Ascents

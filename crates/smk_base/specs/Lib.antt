@@ -2,6 +2,7 @@ pub mod Cells
 pub mod Places
 pub mod Values
 pub mod Rels
+pub mod Widths
 pub mod Ints
 pub mod Marks
 pub mod Plans
@@ -10,3 +11,12 @@ pub mod Trees
 pub mod TreeImage
 pub mod CatalogImage
 pub mod Picks
+pub mod Dicts
+pub mod TextColumns
+pub mod NextTexts
+pub mod Images
+pub mod Columns
+pub mod Stores
+pub mod Relations
+pub mod IntColumns
+pub mod Needs

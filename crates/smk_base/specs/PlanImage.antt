@@ -1,12 +1,15 @@
 -- Predicates, steps and plans as the definitions see them.
-use Rattle.smk_base.specs.Plans.{Formula, Comparison, Conjunction, Disjunction, Negation, Unary, Selection, Projection, Distinction, Grouping, Expr, Leaf, Apply, Combine}
+use Rattle.smk_base.specs.Plans.{Formula, Comparison, Conjunction, Disjunction, Negation, Unary, Selection, Projection, Distinction, Grouping, Binary, Equijoin, ThetaJoin, CrossProduct, BagUnion, SetUnion, Expr, Leaf, Apply, Combine}
 use Rattle.smk_base.specs.declared.plan.Pred.{Pred, And', Or', Not'}
 use Rattle.smk_base.specs.declared.plan.Pred.TheVariants.{Cmp}
 use Rattle.smk_base.specs.declared.plan.Op1.{Op1}
 use Rattle.smk_base.specs.declared.plan.Op1.TheVariants.{Select, Project, Distinct, Group}
+use Rattle.smk_base.specs.declared.plan.Op2.{Op2}
+use Rattle.smk_base.specs.declared.plan.Op2.TheVariants.{Join, Theta, Product, UnionAll, Union}
 use Rattle.smk_base.specs.declared.plan.Plan.{Plan, One', Two'}
 use Rattle.smk_base.specs.declared.plan.Plan.TheVariants.{Scan}
 
+-- each without where it lies in memory
 abbrev pub formula_of : Pred → Formula
 formula_of (Cmp col op operand) = Comparison col op operand
 formula_of (And' p left q right) = Conjunction (formula_of left) (formula_of right)
@@ -19,7 +22,14 @@ unary_of (Project items) = Projection items
 unary_of (Distinct items) = Distinction items
 unary_of (Group keys aggs) = Grouping keys aggs
 
+abbrev pub binary_of : Op2 → Binary
+binary_of (Join pairs) = Equijoin pairs
+binary_of (Theta pred) = ThetaJoin (formula_of pred)
+binary_of Product = CrossProduct
+binary_of UnionAll = BagUnion
+binary_of Union = SetUnion
+
 abbrev pub expr_of : Plan → Expr
 expr_of (Scan table) = Leaf table
 expr_of (One' op p input) = Apply (unary_of op) (expr_of input)
-expr_of (Two' op p left q right) = Combine op (expr_of left) (expr_of right)
+expr_of (Two' op p left q right) = Combine (binary_of op) (expr_of left) (expr_of right)

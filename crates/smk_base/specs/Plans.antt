@@ -4,7 +4,6 @@ use Rattle.smk_base.specs.declared.plan.CmpOp.{CmpOp}
 use Rattle.smk_base.specs.declared.plan.Operand.{Operand}
 use Rattle.smk_base.specs.declared.plan.Item.{Item}
 use Rattle.smk_base.specs.declared.plan.Agg.{Agg}
-use Rattle.smk_base.specs.declared.plan.Op2.{Op2}
 
 -- a test of a row, as a formula over comparisons
 pub data Formula : Type 0 where
@@ -20,8 +19,16 @@ pub data Unary : Type 0 where
   Distinction : List Item → Unary
   Grouping : List ℕ → List Agg → Unary
 
+-- a step with two inputs: rows of both sides beside each other where they are equal in every pair of columns, where they meet a formula together, or always; or the rows of both sides, all of them or each once
+pub data Binary : Type 0 where
+  Equijoin : List (ℕ × ℕ) → Binary
+  ThetaJoin : Formula → Binary
+  CrossProduct : Binary
+  BagUnion : Binary
+  SetUnion : Binary
+
 -- a plan, as an expression over the tables with these numbers
 pub data Expr : Type 0 where
   Leaf : ℕ → Expr
   Apply : Unary → Expr → Expr
-  Combine : Op2 → Expr → Expr → Expr
+  Combine : Binary → Expr → Expr → Expr

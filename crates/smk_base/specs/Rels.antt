@@ -1,7 +1,7 @@
 -- What a Rel means: kinds of columns and rows of values that fit them.
-use Rattle.std.specs.Prelude.{ℕ, zero, suc, ◌+◌, ◌*◌, ◌^◌, ◌≤◌, ℤ, pos, neg_ℤ, ◌≤ℤ◌, FitsSigned, List, [], ◌∷◌, length, take, drop, slice_index_or, All}
+use Rattle.std.specs.Prelude.{◌≡◌, ℕ, zero, suc, ◌+◌, ◌*◌, ◌^◌, ◌<◌, ◌≤◌, ℤ, pos, neg_ℤ, ◌≤ℤ◌, FitsSigned, List, [], ◌∷◌, ◌++◌, length, map, slice_index, slice_index_or, All}
 use Rattle.std.specs.List.{AllZip}
-use Rattle.std.specs.Int.{w64}
+use Rattle.std.specs.Int.{w64, int_div_euclid}
 use Rattle.smk_base.specs.declared.value.Kind.{Kind}
 use Rattle.smk_base.specs.declared.value.Kind.TheVariants as kinds
 use Rattle.smk_base.specs.declared.value.Value.{Value}
@@ -52,7 +52,50 @@ row_in rows i = slice_index_or rows i []
 abbrev pub value_in : List Value → ℕ → Value
 value_in row c = slice_index_or row c (values.Int (pos 0))
 
--- the first n rows of cells that lie row after row, each of this width
-abbrev pub cut_rows : ℕ → ℕ → List Value → List (List Value)
-cut_rows width zero cells = []
-cut_rows width (suc n) cells = take width cells ∷ cut_rows width n (drop width cells)
+-- the values in column c of rows
+abbrev pub column_values : ℕ → List (List Value) → List Value
+column_values c rows = map (λ row. value_in row c) rows
+
+-- the text of a value, and none for an int
+abbrev pub text_of : Value → List ℕ
+text_of (values.Int n) = []
+text_of (values.Text t) = t
+
+-- the texts in column c of rows
+abbrev pub column_texts : ℕ → List (List Value) → List (List ℕ)
+column_texts c rows = map (λ row. text_of (value_in row c)) rows
+
+-- the number of a value, and 0 for a text
+abbrev pub number_of : Value → ℤ
+number_of (values.Int n) = n
+number_of (values.Text t) = pos 0
+
+-- the number of the bin of this width that has a value
+abbrev pub bin_of : ℤ → Value → Value
+bin_of width value = values.Int (int_div_euclid (number_of value) width)
+
+-- the rows at these places
+abbrev pub rows_at : List (List Value) → List ℕ → List (List Value)
+rows_at rows places = map (row_in rows) places
+
+-- the values of a row at these columns
+abbrev pub picked : List ℕ → List Value → List Value
+picked cols row = map (value_in row) cols
+
+-- each row with the one at the same place behind it
+abbrev pub beside_rows : List (List Value) → List (List Value) → List (List Value)
+beside_rows (left ∷ lefts) (right ∷ rights) = (left ++ right) ∷ beside_rows lefts rights
+beside_rows _ _ = []
+
+-- whether each value that fits the right kind fits the left one
+abbrev pub IsWider : Kind → Kind → Type 0
+IsWider (kinds.Int a) (kinds.Int b) = b ≤ a
+IsWider (kinds.Int a) kinds.Text = ⊥
+IsWider kinds.Text (kinds.Int b) = ⊥
+IsWider kinds.Text kinds.Text = Unit {0}
+
+-- codes that are equal exactly where the values are
+pub record AreCodesOf (of_values : List Value) (codes : List ℕ) : Type 0 where
+  pub long : length codes ≡ length of_values
+  pub same : (i j : ℕ) → i < length of_values → j < length of_values → slice_index codes i ≡ slice_index codes j → value_in of_values i ≡ value_in of_values j
+  pub alike : (i j : ℕ) → i < length of_values → j < length of_values → value_in of_values i ≡ value_in of_values j → slice_index codes i ≡ slice_index codes j

@@ -3,19 +3,24 @@
 
 mod catalog;
 mod col_decl;
+mod columns;
 mod copied;
+mod dict;
 mod fault;
 mod list;
+mod need;
 mod pick;
 mod picks;
 mod plan;
 mod read;
 mod rel;
 mod reply;
+mod text_column;
 mod token;
 mod tree;
 mod type_fault;
 mod value;
+mod value_column;
 
 pub use catalog::{
     Back, BackExtra, Backs, Catalog, ColNames, Column, Columns, Fwd, Fwds, Kinds, LinkInfo,
@@ -23,8 +28,10 @@ pub use catalog::{
 };
 pub use col_decl::{ColDecl, ColDecls};
 pub use copied::Copied;
+pub use dict::Dict;
 pub use fault::{BookFault, Fault, FilesFault, LineFault, Many, TableFault};
 pub use list::{ListOf, Rids, Row, Text};
+pub use need::{Need, Needed};
 pub use pick::Pick;
 pub use picks::Picks;
 pub use plan::{Agg, Aggs, CmpOp, Dir, Item, Items, Keys, Op1, Op2, Operand, Pairs, Plan, Pred};
@@ -38,6 +45,7 @@ pub use tree::{
 };
 pub use type_fault::TypeFault;
 pub use value::{CellRef, Kind, Value};
+pub use value_column::Ints;
 
 #[cfg(test)]
 mod tests;

@@ -1,5 +1,5 @@
 ghost use Rattle.std.specs.Prelude.{◌≡◌, IfOk};
-ghost use Rattle.smk_base.specs.PlanImage.{formula_of, unary_of};
+ghost use Rattle.smk_base.specs.PlanImage.{binary_of, formula_of, unary_of};
 
 use crate::list::ListOf;
 use crate::value::Value;
@@ -72,7 +72,12 @@ pub enum Op1 {
 /// A step with two inputs.
 #[derive(Drop)]
 pub enum Op2 {
+    /// The rows with equal values in every pair.
     Join(Pairs),
+    /// The rows that meet the predicate together; its columns are numbered over the left columns followed by the right ones.
+    Theta(Pred),
+    /// All rows of both.
+    Product,
     UnionAll,
     Union,
 }
@@ -144,12 +149,14 @@ impl Op1 {
 }
 
 impl Op2 {
-    /// A copy that is equal to its original.
+    /// A copy that does the same.
     pub fn copy(&self, alloc: Global) -> Result<Op2, AllocError>
-        ensures { IfOk result (λ copy. copy ≡ self.now) }
+        ensures { IfOk result (λ copy. binary_of copy ≡ binary_of self.now) }
     {
         match self {
             Op2::Join(pairs) => Ok(Op2::Join(pairs.copy(alloc)?)),
+            Op2::Theta(pred) => Ok(Op2::Theta(pred.copy(alloc)?)),
+            Op2::Product => Ok(Op2::Product),
             Op2::UnionAll => Ok(Op2::UnionAll),
             Op2::Union => Ok(Op2::Union),
         }

@@ -1,10 +1,22 @@
-ghost use Rattle.std.specs.Prelude.{◌≡◌, ◌+◌, ◌<◌, ◌≤◌, [], ◌∷◌, ◌++◌, length, All, IfOk, OnOk, OnErr};
+ghost use Rattle.std.specs.Prelude.{◌≡◌, ◌≢◌, ◌+◌, ◌<◌, ◌≤◌, ◌≤ℤ◌, [], ◌∷◌, ◌++◌, length, map, pos, All, IfOk, OnOk, OnErr, vec_len};
+ghost use Rattle.std.specs.List.{AllZip};
 ghost use Rattle.smk_base.specs.Cells.{value_of_cell};
-ghost use Rattle.smk_base.specs.Rels.{IsRelation, RowFits, Fits, IsColumn, kind_in, row_in, value_in};
+ghost use Rattle.smk_base.specs.Columns.{IsColumnOf};
+ghost use Rattle.smk_base.specs.Dicts.{code_or_last};
+ghost use Rattle.smk_base.specs.IntColumns.{numbers_of};
+ghost use Rattle.smk_base.specs.Rels.{IsRelation, RowFits, Fits, IsColumn, IsWithin, IsWider, AreCodesOf, kind_in, row_in, value_in, column_values, text_of, column_texts, bin_of, rows_at, picked, beside_rows};
+ghost use Rattle.smk_base.specs.TextColumns.{text_firsts, text_in};
+ghost use Rattle.smk_base.specs.declared.value.Kind.TheVariants as kinds;
+ghost use Rattle.smk_base.specs.declared.value.Value.TheVariants as values;
 
-use crate::copied::Copied;
+use crate::columns::{
+    append_each, copy_each, empty_columns, gather_each, make_each_ready, pick_each, push_each,
+    widen_each,
+};
+use crate::dict::Dict;
 use crate::list::Row;
-use crate::value::{CellRef, Kind, Value};
+use crate::value::{CellRef, Kind};
+use crate::value_column::{Ints, ValueColumn};
 use std::alloc::{AllocError, Global};
 use std::marker::Model;
 
@@ -14,27 +26,19 @@ pub const ROW_LIMIT: u32 = 1_048_576;
 /// Rows of values that fit the kinds of their columns: at most 16 columns, the int ones of level at most 3, and at most 1,048,576 rows. Contracts see the kinds and the list of rows.
 #[derive(Drop)]
 pub struct Rel {
-    kinds: Vec<Kind>,
+    columns: Vec<ValueColumn>,
     count: u32,
-    // The values of all rows, one row after the other.
-    cells: Vec<Value>,
 }
 
 impl Model for Rel {
-    ghost use Rattle.std.specs.Prelude.{◌≡◌, ◌*◌, ◌≤◌, length, All, vec_len};
-    ghost use Rattle.smk_base.specs.Rels.{Relation, IsColumn, RowFits, cut_rows};
+    ghost use Rattle.smk_base.specs.Rels.{Relation};
+    ghost use Rattle.smk_base.specs.Relations.{relation_of, AreColumns};
 
     ghost Value = { Relation };
 
-    ghost view = { λ a. record { kinds = a.kinds.items; rows = cut_rows (length a.kinds.items) a.count a.cells.items } };
+    ghost view = { λ a. relation_of a.count a.columns.items };
 
-    ghost invariant = { λ a. record {
-      few_columns : length a.kinds.items ≤ 16;
-      low_levels : All IsColumn a.kinds.items;
-      few_rows : a.count ≤ 1048576;
-      whole : length a.cells.items ≡ a.count * length a.kinds.items;
-      fit : All (RowFits a.kinds.items) (cut_rows (length a.kinds.items) a.count a.cells.items);
-    } };
+    ghost invariant = { λ a. AreColumns a.count a.columns.items };
 }
 
 impl Rel {
@@ -45,9 +49,8 @@ impl Rel {
         ensures { IfOk result (λ rel. rel ≡ record { kinds = kinds.now; rows = [] }) }
     {
         Ok(Rel {
-            kinds: Vec::from_slice(alloc, kinds)?,
+            columns: empty_columns(alloc, kinds)?,
             count: 0,
-            cells: Vec::new(alloc),
         })
     }
 
@@ -65,7 +68,7 @@ impl Rel {
         ensures few { result ≤ 16 }
         ensures keeps { IsRelation self.now }
     {
-        self.kinds.len() as u32
+        self.columns.len() as u32
     }
 
     /// The kind of column c. It takes no memory.
@@ -74,7 +77,7 @@ impl Rel {
         ensures kind { result ≡ kind_in self.now.kinds c }
         ensures low_level { IsColumn result }
     {
-        self.kinds[c as usize]
+        self.columns[c as usize].kind()
     }
 
     /// The value in column c of row i. It takes no memory.
@@ -84,8 +87,49 @@ impl Rel {
         ensures value { value_of_cell result ≡ value_in (row_in self.now.rows i) c }
         ensures fits { Fits (kind_in self.now.kinds c) (value_of_cell result) }
     {
-        let width = self.kinds.len();
-        self.cells[i as usize * width + c as usize].as_cell()
+        self.columns[c as usize].cell(i)
+    }
+
+    /// The texts of column c, each at its first occurrence. It takes no memory.
+    pub fn dict(&self, c: u32) -> &Dict
+        requires column { c < length self.now.kinds }
+        requires text { kind_in self.now.kinds c ≡ kinds.Text }
+        ensures { result.now.texts ≡ text_firsts (column_texts c self.now.rows) }
+    {
+        self.columns[c as usize].texts().dict()
+    }
+
+    /// The code of the text in column c of row i. It takes no memory.
+    pub fn code(&self, i: u32, c: u32) -> u32
+        requires row { i < length self.now.rows }
+        requires column { c < length self.now.kinds }
+        requires text { kind_in self.now.kinds c ≡ kinds.Text }
+        ensures code { result ≡ code_or_last (text_firsts (column_texts c self.now.rows)) (text_of (value_in (row_in self.now.rows i) c)) }
+        ensures within { result < length (text_firsts (column_texts c self.now.rows)) }
+        ensures text { text_in (text_firsts (column_texts c self.now.rows)) result ≡ text_of (value_in (row_in self.now.rows i) c) }
+    {
+        self.columns[c as usize].texts().code(i)
+    }
+
+    /// The codes of the texts in column c, row by row: equal ones exactly where the texts are equal. It takes no memory.
+    pub fn codes(&self, c: u32) -> &[u32]
+        requires column { c < length self.now.kinds }
+        requires text { kind_in self.now.kinds c ≡ kinds.Text }
+        ensures equal { AreCodesOf (column_values c self.now.rows) result.now }
+        ensures codes { result.now ≡ map (code_or_last (text_firsts (column_texts c self.now.rows))) (column_texts c self.now.rows) }
+        ensures within { All (λ code. code < length (text_firsts (column_texts c self.now.rows))) result.now }
+        ensures texts { map (text_in (text_firsts (column_texts c self.now.rows))) result.now ≡ column_texts c self.now.rows }
+    {
+        self.columns[c as usize].texts().codes()
+    }
+
+    /// The numbers in column c, row by row. It takes no memory.
+    pub fn ints(&self, c: u32) -> Ints<'_>
+        requires column { c < length self.now.kinds }
+        requires int { kind_in self.now.kinds c ≢ kinds.Text }
+        ensures { map values.Int (numbers_of result) ≡ column_values c self.now.rows }
+    {
+        self.columns[c as usize].ints()
     }
 
     /// Puts a row last. On an error the row is dropped.
@@ -96,8 +140,21 @@ impl Rel {
         ensures pushed { OnOk result (self.new.rows ≡ self.old.rows ++ row ∷ []) }
         ensures kept { OnErr result (self.new ≡ self.old) }
     {
-        let mut values = row.into_vec();
-        self.cells.append(&mut values)?;
+        let alloc = *self.columns.allocator();
+        let cells = cells_of(alloc, &row)?;
+        self.push_cells(cells.as_slice())
+    }
+
+    /// Puts the row of these values last. It takes memory where the columns grow, and for a text that its column hasn't yet.
+    pub fn push_cells(&mut self, cells: &[CellRef]) -> Result<(), AllocError>
+        requires room { length self.old.rows < 1048576 }
+        requires fits { RowFits self.old.kinds (map value_of_cell cells.now) }
+        ensures kinds { self.new.kinds ≡ self.old.kinds }
+        ensures pushed { OnOk result (self.new.rows ≡ self.old.rows ++ map value_of_cell cells.now ∷ []) }
+        ensures kept { OnErr result (self.new ≡ self.old) }
+    {
+        make_each_ready(&mut self.columns, cells, self.count)?;
+        push_each(&mut self.columns, cells, self.count);
         self.count += 1;
         Ok(())
     }
@@ -107,9 +164,118 @@ impl Rel {
         ensures { IfOk result (λ copy. copy ≡ self.now) }
     {
         Ok(Rel {
-            kinds: Vec::from_slice(alloc, self.kinds.as_slice())?,
+            columns: copy_each(alloc, self.columns.as_slice(), self.count)?,
             count: self.count,
-            cells: Value::copy_items(alloc, self.cells.as_slice())?,
         })
     }
+
+    /// The rows at these places, in this order.
+    pub fn gather(&self, alloc: Global, places: &[u32]) -> Result<Rel, AllocError>
+        requires within { All (λ place. place < length self.now.rows) places.now }
+        requires few { length places.now ≤ 1048576 }
+        ensures { IfOk result (λ made. made ≡ record { kinds = self.now.kinds; rows = rows_at self.now.rows places.now }) }
+    {
+        Ok(Rel {
+            columns: gather_each(alloc, self.columns.as_slice(), self.count, places)?,
+            count: places.len() as u32,
+        })
+    }
+
+    /// These columns, in this order.
+    pub fn pick_columns(&self, alloc: Global, cols: &[u32]) -> Result<Rel, AllocError>
+        requires within { All (λ c. c < length self.now.kinds) cols.now }
+        requires few { length cols.now ≤ 16 }
+        ensures { IfOk result (λ made. made ≡ record { kinds = map (kind_in self.now.kinds) cols.now; rows = map (picked cols.now) self.now.rows }) }
+    {
+        Ok(Rel {
+            columns: pick_each(alloc, self.columns.as_slice(), self.count, cols)?,
+            count: self.count,
+        })
+    }
+
+    /// These rows and then those of the other, whose kinds are the same or narrower ones.
+    pub fn followed_by(self, alloc: Global, other: &Rel) -> Result<Rel, AllocError>
+        requires wider { AllZip IsWider self.kinds other.now.kinds }
+        requires few { length self.rows + length other.now.rows ≤ 1048576 }
+        ensures { IfOk result (λ made. made ≡ record { kinds = self.kinds; rows = self.rows ++ other.now.rows }) }
+    {
+        let _other = &other.columns;
+        let Rel { columns, count } = self;
+        Ok(Rel {
+            columns: append_each(alloc, columns, count, other.columns.as_slice(), other.count)?,
+            count: count + other.count,
+        })
+    }
+
+    /// The same rows in columns of these kinds, none of which is narrower than its column.
+    pub fn widened(self, alloc: Global, kinds: &[Kind]) -> Result<Rel, AllocError>
+        requires low_levels { All IsColumn kinds.now }
+        requires wider { AllZip IsWider kinds.now self.kinds }
+        ensures { IfOk result (λ made. made ≡ record { kinds = kinds.now; rows = self.rows }) }
+    {
+        let Rel { columns, count } = self;
+        Ok(Rel {
+            columns: widen_each(alloc, columns, count, kinds)?,
+            count,
+        })
+    }
+
+    /// Each row with the one at the same place in the other behind it.
+    pub fn beside(self, right: Rel) -> Result<Rel, AllocError>
+        requires long { length self.rows ≡ length right.rows }
+        requires few { length self.kinds + length right.kinds ≤ 16 }
+        ensures { IfOk result (λ made. made ≡ record { kinds = self.kinds ++ right.kinds; rows = beside_rows self.rows right.rows }) }
+    {
+        let Rel { columns, count } = self;
+        let Rel { columns: more, .. } = right;
+        let mut columns = columns;
+        let mut more = more;
+        columns.append(&mut more)?;
+        Ok(Rel { columns, count })
+    }
+
+    /// One column of the kind of column c: for each row the number of the bin of this width that has its number there, which is the quotient rounded down.
+    pub fn bins(&self, alloc: Global, c: u32, width: i64) -> Result<Rel, AllocError>
+        requires column { c < length self.now.kinds }
+        requires int { kind_in self.now.kinds c ≢ kinds.Text }
+        requires width { pos 1 ≤ℤ width }
+        ensures { IfOk result (λ made. made ≡ record { kinds = kind_in self.now.kinds c ∷ []; rows = map (λ row. bin_of width (value_in row c) ∷ []) self.now.rows }) }
+    {
+        let column = self.columns[c as usize].bins(alloc, width)?;
+        of_column(alloc, column, self.count)
+    }
+
+    /// One column of ints of this level.
+    pub fn of_ints(alloc: Global, level: u8, numbers: Vec<i128>) -> Result<Rel, AllocError>
+        requires low_level { level ≤ 3 }
+        requires few { vec_len numbers ≤ 1048576 }
+        requires within { All (IsWithin level) numbers.items }
+        ensures { IfOk result (λ made. made ≡ record { kinds = kinds.Int level ∷ []; rows = map (λ n. values.Int n ∷ []) numbers.items }) }
+    {
+        let count = numbers.len() as u32;
+        let column = ValueColumn::of_ints(alloc, level, numbers)?;
+        of_column(alloc, column, count)
+    }
+}
+
+// The values of a row where they lie in it.
+fn cells_of(alloc: Global, row: &Row) -> Result<Vec<CellRef<'_>>, AllocError>
+    ensures { IfOk result (λ made. map value_of_cell made.items ≡ row.now) }
+{
+    let values = row.as_slice();
+    let mut made = Vec::with_capacity(alloc, values.len())?;
+    for value in values {
+        made.push(value.as_cell())?;
+    }
+    Ok(made)
+}
+
+// One column with so many rows.
+fn of_column(alloc: Global, column: ValueColumn, count: u32) -> Result<Rel, AllocError>
+    requires { IsColumnOf count column }
+    ensures { IfOk result (λ made. made ≡ record { kinds = column.kind ∷ []; rows = map (λ value. value ∷ []) column.cells }) }
+{
+    let mut columns = Vec::with_capacity(alloc, 1)?;
+    columns.push(column)?;
+    Ok(Rel { columns, count })
 }

@@ -1,5 +1,6 @@
 use super::*;
 use std::alloc::{AllocError, Global};
+use std::fmt::Write;
 use std::test::Fail;
 
 fn text(alloc: Global, bytes: &[u8]) -> Result<Text, AllocError> {
@@ -44,26 +45,56 @@ fn marks_at_the_front(rt: HostRuntime) {
     }
 }
 
-fn small_rel(alloc: Global) -> Result<Rel, AllocError> {
-    let mut rel = Rel::new(alloc, &[Kind::Text, Kind::Int { level: 0 }])?;
-    let mut row = Row::new(alloc);
-    row.push(Value::Text(text(alloc, b"x,\xFF")?))?;
-    row.push(Value::Int(-7))?;
-    rel.push_row(row)?;
-    Ok(rel)
+// The cells of all rows, one after the other.
+fn cells_text(alloc: Global, rel: &Rel) -> Result<String, Fail> {
+    let mut text = String::new(alloc);
+    for i in 0..rel.len() {
+        for c in 0..rel.width() {
+            match rel.cell(i, c) {
+                CellRef::Int(number) => write!(text, "{number} ")?,
+                CellRef::Text(bytes) => write!(text, "{bytes:?} ")?,
+            }
+        }
+    }
+    Ok(text)
 }
 
 #[test]
-fn rows_of_a_rel(rt: HostRuntime) -> Result<(), Fail> {
+fn columns_of_texts(rt: HostRuntime) -> Result<(), Fail> {
     let alloc = rt.alloc();
-    let rel = small_rel(alloc)?;
-    let copy = rel.copy(alloc)?;
-    assert_eq!(rt; copy.len(), 1);
-    assert_eq!(rt; copy.width(), 2);
-    assert!(rt; copy.kind(0) == Kind::Text);
-    let first = copy.cell(0, 0).to_value(alloc)?;
-    assert!(rt; first == Value::Text(text(alloc, b"x,\xFF")?));
-    let second = copy.cell(0, 1).to_value(alloc)?;
-    assert!(rt; second == Value::Int(-7));
+    let mut regions = Rel::new(alloc, &[Kind::Text, Kind::Text])?;
+    regions.push_cells(&[CellRef::Text(b"n"), CellRef::Text(b"A")])?;
+    regions.push_cells(&[CellRef::Text(b"s"), CellRef::Text(b"B")])?;
+    regions.push_cells(&[CellRef::Text(b"e"), CellRef::Text(b"A")])?;
+    assert_eq!(rt; regions.codes(1), [0, 1, 0].as_slice());
+    assert_eq!(rt; regions.dict(1).len(), 2);
+    assert_eq!(rt;
+        cells_text(alloc, &regions)?.as_str(),
+        "[110] [65] [115] [66] [101] [65] "
+    );
+    let turned = regions.pick_columns(alloc, &[1, 0])?;
+    let last = turned.gather(alloc, &[2, 1])?;
+    assert_eq!(rt; last.codes(0), [0, 1].as_slice());
+    assert_eq!(rt;
+        cells_text(alloc, &last)?.as_str(),
+        "[65] [101] [66] [115] "
+    );
+    let both = last.followed_by(alloc, &regions)?;
+    assert_eq!(rt; both.codes(0), [0, 1, 2, 3, 4].as_slice());
+    assert_eq!(rt; both.codes(1), [0, 1, 2, 3, 2].as_slice());
+    Ok(())
+}
+
+#[test]
+fn columns_of_ints(rt: HostRuntime) -> Result<(), Fail> {
+    let alloc = rt.alloc();
+    let small = Rel::of_ints(alloc, 0, vec![in alloc; -7, 7]?)?;
+    let bins = small.bins(alloc, 0, 2)?;
+    assert_eq!(rt; cells_text(alloc, &bins)?.as_str(), "-4 3 ");
+    let wide = small.widened(alloc, &[Kind::Int { level: 1 }])?;
+    assert!(rt; wide.kind(0) == Kind::Int { level: 1 });
+    let both = wide.beside(bins)?;
+    let copy = both.copy(alloc)?;
+    assert_eq!(rt; cells_text(alloc, &copy)?.as_str(), "-7 -4 7 3 ");
     Ok(())
 }

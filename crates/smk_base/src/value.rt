@@ -1,5 +1,6 @@
 ghost use Rattle.std.specs.Prelude.{◌≡◌, IfOk};
 ghost use Rattle.smk_base.specs.Cells.{value_of_cell};
+ghost use Rattle.smk_base.specs.Widths as widths;
 
 use crate::list::Text;
 use std::alloc::{AllocError, Global};
@@ -24,6 +25,23 @@ pub enum CellRef<'a> {
 pub enum Kind {
     Int { level: u8 },
     Text,
+}
+
+impl Kind {
+    /// The kind that holds the values of both, which are both ints or both texts: an int has the greater level.
+    pub fn wider(self, other: Kind) -> Kind
+        ensures { result ≡ widths.wider self other }
+    {
+        match self {
+            Kind::Int { level } => match other {
+                Kind::Int { level: other_level } => Kind::Int {
+                    level: level.max(other_level),
+                },
+                Kind::Text => self,
+            },
+            Kind::Text => Kind::Text,
+        }
+    }
 }
 
 impl Value {

@@ -1,33 +1,34 @@
-use Rattle.std.proofs.Common.{◌≡◌, ◌+◌, ◌*◌, ◌<◌, length, rules, ◌∙◌}
-use Rattle.smk_base.proofs.RelRows.{length-cut_rows, place_below, value_in-cut_rows, Fits-value_in}
+use Rattle.std.proofs.Common.{◌≡◌, ◌∙◌, ap, sym}
+use Rattle.std.proofs.lemmas.List.{length-map, get_or_read}
 use Rattle.smk_base.specs.Cells.{value_of_cell}
-use Rattle.smk_base.specs.Rels.{value_in, row_in, cut_rows}
+use Rattle.smk_base.specs.Rels.{value_in, row_in}
+use Rattle.smk_base.proofs.RelRows.{Fits-value_in}
+use Rattle.smk_base.specs.Images.{ColumnImage}
+use Rattle.smk_base.specs.Relations.{column_in, kinds_of, rows_of}
+use Rattle.smk_base.proofs.Rows.{length-rows_of, value_in-rows_of, IsRelation-columns}
+use Rattle.smk_base.proofs.Relating.{long-at}
 use Rattle.smk_base.proofs.rel.Rel.cell.Goals as goal
-use Rattle.smk_base.proofs.rel.Rel.cell.Goals.{After-as_cell}
+use Rattle.smk_base.proofs.rel.Rel.cell.Goals.{After-cell}
 
-pub index-requires : goal.index-requires
-index-requires c =
-    let row = rw (← c.self.view_is, length-cut_rows) at c.requires.row in
-    let column = rw (← c.self.view_is) at c.requires.column in
-    let width : c.len-width.result ≡ length c.self.inside.kinds.items = search rules in
-    let below = place_below (length c.self.inside.kinds.items) c.self.inside.count c.args.i c.args.c row column in
-    let whole = c.self.invariant.whole in
-    let bound : c.args.i * c.len-width.result + c.args.c < length c.self.inside.cells.items = rw (width, whole) below in
-    search rules
+pub cell-requires : goal.cell-requires
+cell-requires c =
+    let row = rw (← c.self.view_is, length-rows_of) at c.requires.row in
+    let below = rw (← c.self.view_is, length-map) at c.requires.column in
+    let column : c.index.result.now ≡ column_in c.self.inside.columns.items c.args.c = get_or_read c.self.inside.columns.items c.args.c _ below c.index.ensures _ in
+    rw (column, long-at c.self.inside.count c.self.inside.columns.items c.args.c c.self.invariant.each below) row
 
-cell_is : (c : After-as_cell) → value_of_cell c.as_cell.result ≡ value_in (row_in (cut_rows (length c.self.inside.kinds.items) c.self.inside.count c.self.inside.cells.items) c.args.i) c.args.c
-cell_is c =
-    let row = rw (← c.self.view_is, length-cut_rows) at c.requires.row in
-    let column = rw (← c.self.view_is) at c.requires.column in
-    let width : c.len-width.result ≡ length c.self.inside.kinds.items = search rules in
-    let at = rw width at c.index.ensures in
-    c.as_cell.ensures ∙ value_in-cut_rows _ c.self.inside.count c.self.inside.cells.items c.args.i c.args.c _ c.self.invariant.whole row column at
+value_is : (c : After-cell) → value_of_cell c.cell.result ≡ value_in (row_in (rows_of c.self.inside.count c.self.inside.columns.items) c.args.i) c.args.c
+value_is c =
+    let row = rw (← c.self.view_is, length-rows_of) at c.requires.row in
+    let below = rw (← c.self.view_is, length-map) at c.requires.column in
+    let column : c.index.result.now ≡ column_in c.self.inside.columns.items c.args.c = get_or_read c.self.inside.columns.items c.args.c _ below c.index.ensures _ in
+    c.cell.ensures ∙ ap (λ (column : ColumnImage). value_in column.cells c.args.i) column ∙ sym (value_in-rows_of c.self.inside.count c.self.inside.columns.items c.args.i c.args.c row below)
 
 pub returns-clause-value : goal.returns-clause-value
-returns-clause-value c = rw (← c.self.view_is) (cell_is c)
+returns-clause-value c = rw (← c.self.view_is) (value_is c)
 
 pub returns-clause-fits : goal.returns-clause-fits
 returns-clause-fits c =
     let row = rw (← c.self.view_is) at c.requires.row in
-    let column = rw (← c.self.view_is) at c.requires.column in
-    rw (cell_is c, ← c.self.view_is) (Fits-value_in c.self.inside.kinds.items _ c.args.i c.args.c c.self.invariant.fit row column)
+    let below = rw (← c.self.view_is) at c.requires.column in
+    rw (value_is c, ← c.self.view_is) (Fits-value_in (kinds_of c.self.inside.columns.items) (rows_of c.self.inside.count c.self.inside.columns.items) c.args.i c.args.c (IsRelation-columns _ _ c.self.invariant).fit row below)

@@ -1,16 +1,9 @@
 use Rattle.std.proofs.Common.{sym}
-use Rattle.smk_base.proofs.RelRows.{length-cut_rows}
+use Rattle.smk_base.proofs.Rows.{length-rows_of, IsRelation-columns}
 use Rattle.smk_base.proofs.rel.Rel.len.Goals as goal
 
 pub returns-clause-count : goal.returns-clause-count
-returns-clause-count c = rw (← c.self.view_is) (sym (length-cut_rows _ _ _))
+returns-clause-count c = rw (← c.self.view_is) (sym (length-rows_of _ _))
 
 pub returns-clause-keeps : goal.returns-clause-keeps
-returns-clause-keeps c =
-    let inv = c.self.invariant in
-    rw (← c.self.view_is) (record {
-      few_columns = inv.few_columns;
-      low_levels = inv.low_levels;
-      few_rows = rw length-cut_rows inv.few_rows;
-      fit = inv.fit;
-    })
+returns-clause-keeps c = rw (← c.self.view_is) (IsRelation-columns _ _ c.self.invariant)

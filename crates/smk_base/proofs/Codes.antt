@@ -1,0 +1,89 @@
+-- The codes of texts in a list of different texts.
+use Rattle.std.proofs.Common.{◌≡◌, ℕ, suc, ◌+◌, ◌<◌, Bool, true, false, List, [], ◌∷◌, length, take, get_or, refl, sym, ◌∙◌, arith, true≢false, Decides, inl, inr, Some}
+use Rattle.std.proofs.lemmas.List.Quantifiers.{position-Some}
+use Rattle.std.specs.Cmp.{unsigned_Decides}
+use Rattle.std.specs.List.{list_any, position_or_len}
+use Rattle.std.proofs.lemmas.Bool.{cases_order, cases_Bool}
+use Rattle.std.proofs.lemmas.List.{take_more, get_or-take, length-take-le, get_or_push, length_push, get_or_default, get_or_append_left}
+use Rattle.std.proofs.lemmas.List.Folds.{list_any_at, list_any_none}
+use Rattle.std.proofs.lemmas.Map.Keys.{apart_from_distinct}
+use Rattle.std.proofs.lemmas.Slice.Eq.{slice_eq-Decides}
+use Rattle.smk_base.specs.Dicts.{text_eq, code_in, code_or_last, with_text, AreTexts}
+
+pub text_same : (a b : List ℕ) → Decides (text_eq a b) (a ≡ b)
+text_same a b = slice_eq-Decides unsigned_Decides a b (text_eq a b) refl
+
+pub text_apart : (a b : List ℕ) → text_eq a b ≡ false → text_eq b a ≡ false
+text_apart a b e = elim (cases_Bool (text_eq b a)) [ inl h ↦ absurd (true≢false (sym ((text_same a b).1 (sym ((text_same b a).0 h))) ∙ e)) | inr h ↦ h ]
+
+-- the first that passes
+pub found_at : {X : Type 0} (p : X → Bool) (xs : List X) (d : X) → list_any p xs ≡ true → (position_or_len p xs < length xs) × (p (get_or xs (position_or_len p xs) d) ≡ true)
+found_at p [] d h = absurd (true≢false (sym h))
+found_at p (x ∷ xs) d h = elim (cases_Bool (p x)) [
+  | inl e ↦ rw e (omega arith, e)
+  | inr e ↦ (
+      let rest : list_any p xs ≡ true = rw e at h in
+      let f = found_at p xs d rest in
+      let next : 1 + position_or_len p xs ≡ suc (position_or_len p xs) = omega arith in
+      rw (e, next) (omega (arith, f.0), f.1))
+]
+
+pub none_at : {X : Type 0} (p : X → Bool) (xs : List X) → list_any p xs ≡ false → position_or_len p xs ≡ length xs
+none_at p [] h = refl
+none_at p (x ∷ xs) h = elim (cases_Bool (p x)) [
+  | inl e ↦ (let no : true ≡ false = rw e at h in absurd (true≢false no))
+  | inr e ↦ (let rest : list_any p xs ≡ false = rw e at h in rw e (omega (arith, none_at p xs rest)))
+]
+
+-- a text that is there stays where it is
+pub with_text-there : (texts : List (List ℕ)) (k : ℕ) → k < length texts → with_text texts (get_or texts k []) ≡ texts
+with_text-there texts k h =
+    let t = get_or texts k [] in
+    let there : list_any (text_eq t) texts ≡ true = list_any_at (text_eq t) texts k [] h ((text_same t t).1 refl) in
+    rw there refl
+
+-- a text that has a code is there
+pub with_text-known : (texts : List (List ℕ)) (t : List ℕ) (code : ℕ) → code_in texts t ≡ Some code → texts ≡ with_text texts t
+with_text-known texts t code e =
+    let f = position-Some (text_eq t) texts code [] e in
+    let there : list_any (text_eq t) texts ≡ true = list_any_at (text_eq t) texts code [] f.0 f.1 in
+    rw there refl
+
+-- the code of a text is its place
+pub code-at : (texts : List (List ℕ)) (k : ℕ) → AreTexts texts → k < length texts → code_or_last texts (get_or texts k []) ≡ k
+code-at texts k different h =
+    let t = get_or texts k [] in
+    let f = found_at (text_eq t) texts [] (list_any_at (text_eq t) texts k [] h ((text_same t t).1 refl)) in
+    let j = code_or_last texts t in
+    elim (cases_order j k) [
+      | inl e ↦ e
+      | inr (inl less) ↦ absurd (true≢false (sym f.1 ∙ text_apart (get_or texts j []) t (apart_from_distinct text_eq texts j k [] different less h)))
+      | inr (inr more) ↦ absurd (true≢false (sym f.1 ∙ apart_from_distinct text_eq texts k j [] different more f.0))
+    ]
+
+-- the code of an added text is within, and is its
+pub added : (texts : List (List ℕ)) (t : List ℕ) → (code_or_last texts t < length (with_text texts t)) × (get_or (with_text texts t) (code_or_last texts t) [] ≡ t)
+added texts t = elim (cases_Bool (list_any (text_eq t) texts)) [
+  | inl there ↦ (let f = found_at (text_eq t) texts [] there in rw there (f.0, sym ((text_same _ _).0 f.1)))
+  | inr new ↦ (
+      let last = none_at (text_eq t) texts new in
+      rw (new, last) (omega (arith, length_push texts t), get_or_push texts t [] (length texts) refl))
+]
+
+-- the texts before stay where they are
+pub kept : (texts : List (List ℕ)) (t : List ℕ) (k : ℕ) → k < length texts → get_or (with_text texts t) k [] ≡ get_or texts k []
+kept texts t k h = elim (cases_Bool (list_any (text_eq t) texts)) [
+  | inl there ↦ rw there refl
+  | inr new ↦ rw new (get_or_append_left texts (t ∷ []) [] k h)
+]
+
+-- different texts are added one after the other
+pub with_text-take : (texts : List (List ℕ)) (k : ℕ) → AreTexts texts → k < length texts → with_text (take k texts) (get_or texts k []) ≡ take (k + 1) texts
+with_text-take texts k different h =
+    let t = get_or texts k [] in
+    let new : list_any (text_eq t) (take k texts) ≡ false = list_any_none (text_eq t) (take k texts) (λ j d p.
+    let long : length (take k texts) ≡ k = length-take-le k texts (omega arith) in
+    let below : j < k = omega (arith, p, long) in
+    let same : get_or (take k texts) j d ≡ get_or texts j [] = get_or-take k texts j d below ∙ get_or_default texts j d [] (omega arith) in
+    rw same (text_apart (get_or texts j []) t (apart_from_distinct text_eq texts j k [] different below h))) in
+    rw new (sym (take_more texts k [] h))

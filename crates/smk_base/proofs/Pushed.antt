@@ -1,0 +1,86 @@
+-- A row put into columns, one value after the other.
+use Rattle.std.proofs.Common.{◌≡◌, ◌≢◌, ℕ, ◌+◌, ◌<◌, ◌≤◌, List, [], ◌∷◌, ◌++◌, length, map, set, refl, sym, subst, ◌∙◌, arith, inl, inr, pos}
+use Rattle.std.proofs.lemmas.Bool.{cases_eq}
+use Rattle.std.proofs.lemmas.List.{get_or-map, length-map, get_or-set_same, get_or-set_other, length-set}
+use Rattle.std.proofs.lemmas.List.Elements.{All-from_get_or}
+use Rattle.std.proofs.lemmas.Slice.Zip.{AllZip-long}
+use Rattle.smk_base.specs.declared.value.CellRef.{CellRef}
+use Rattle.smk_base.specs.declared.value.Kind.{Kind}
+use Rattle.smk_base.specs.declared.value.Kind.TheVariants as kinds
+use Rattle.smk_base.specs.declared.value.Value.{Value}
+use Rattle.smk_base.specs.declared.value.Value.TheVariants as values
+use Rattle.smk_base.specs.Cells.{value_of_cell, cell_in}
+use Rattle.smk_base.specs.Rels.{Fits, RowFits, kind_in, value_in}
+use Rattle.smk_base.proofs.RelRows.{AllZip-at}
+use Rattle.smk_base.specs.Images.{ColumnImage}
+use Rattle.smk_base.specs.Columns.{IsColumnOf}
+use Rattle.smk_base.specs.Relations.{column_in, kinds_of, AreMade}
+
+pub wide_row : (columns : List ColumnImage) (row : List Value) → RowFits (kinds_of columns) row → length row ≡ length columns
+wide_row columns row fits = AllZip-long Fits (kinds_of columns) row fits ∙ length-map columns (λ column. column.kind)
+
+pub kind_in-kinds_of : (columns : List ColumnImage) (c : ℕ) → c < length columns → kind_in (kinds_of columns) c ≡ (column_in columns c).kind
+kind_in-kinds_of columns c h = get_or-map (λ column. column.kind) columns c _ kinds.Text h
+
+-- a value of a row that fits fits its column
+pub fits_at : (columns : List ColumnImage) (row : List Value) (c : ℕ) → RowFits (kinds_of columns) row → c < length columns → Fits (column_in columns c).kind (value_in row c)
+fits_at columns row c fits h =
+    let kind = kind_in-kinds_of columns c h in
+    let long : c < length (kinds_of columns) = omega (arith, h, length-map columns (λ column. column.kind)) in
+    subst (λ k. Fits k (value_in row c)) kind (AllZip-at Fits (kinds_of columns) row c kinds.Text (values.Int (pos 0)) fits long)
+
+-- the first c columns have the values of the row, the rest are as before
+pub record IsPushed (count c : ℕ) (old now : List ColumnImage) (value_at : ℕ → Value) : Type 0 where
+  pub wide : length now ≡ length old
+  pub rest : (k : ℕ) → c ≤ k → column_in now k ≡ column_in old k
+  pub kinds : (k : ℕ) → k < c → (column_in now k).kind ≡ (column_in old k).kind
+  pub cells : (k : ℕ) → k < c → (column_in now k).cells ≡ (column_in old k).cells ++ value_at k ∷ []
+  pub each : (k : ℕ) → k < c → IsColumnOf (count + 1) (column_in now k)
+
+pub IsPushed-none : (count : ℕ) (old : List ColumnImage) (value_at : ℕ → Value) → IsPushed count 0 old old value_at
+IsPushed-none count old value_at = record {
+  wide = refl;
+  rest = λ k h. refl;
+  kinds = λ k h. absurd (omega arith);
+  cells = λ k h. absurd (omega arith);
+  each = λ k h. absurd (omega arith);
+}
+
+pub IsPushed-more : (count c : ℕ) (old now : List ColumnImage) (value_at : ℕ → Value) (column : ColumnImage) → c < length old → IsPushed count c old now value_at
+    → column.kind ≡ (column_in old c).kind → column.cells ≡ (column_in old c).cells ++ value_at c ∷ [] → IsColumnOf (count + 1) column
+    → IsPushed count (c + 1) old (set now c column) value_at
+IsPushed-more count c old now value_at column h so e f is =
+    let here : column_in (set now c column) c ≡ column = get_or-set_same now c column _ (omega (arith, so.wide)) in
+    let other : (k : ℕ) → k ≢ c → column_in (set now c column) k ≡ column_in now k = (λ k ne. get_or-set_other now c k column _ ne) in
+    record {
+      wide = length-set now c column ∙ so.wide;
+      rest = λ k p. (let ne : k ≢ c = omega arith in other k ne ∙ so.rest k (omega arith));
+      kinds = λ k p. elim (cases_eq k c) [ inl at ↦ rw (at, here) e | inr ne ↦ (let o = other k ne in rw o (so.kinds k (omega arith))) ];
+      cells = λ k p. elim (cases_eq k c) [ inl at ↦ rw (at, here) f | inr ne ↦ (let o = other k ne in rw o (so.cells k (omega arith))) ];
+      each = λ k p. elim (cases_eq k c) [ inl at ↦ rw (at, here) is | inr ne ↦ (let o = other k ne in rw o (so.each k (omega arith))) ];
+    }
+
+pub AreMade-pushed : (count c : ℕ) (old now : List ColumnImage) (value_at : ℕ → Value) → length old ≤ c → IsPushed count c old now value_at
+    → AreMade (count + 1) (length old) (λ k. (column_in old k).kind) (λ k. (column_in old k).cells ++ value_at k ∷ []) now
+AreMade-pushed count c old now value_at h so = record {
+  long = so.wide;
+  kinds = λ k p. so.kinds k (omega arith);
+  cells = λ k p. so.cells k (omega arith);
+  each = All-from_get_or (IsColumnOf (count + 1)) now _ (λ k p. so.each k (omega (arith, so.wide)));
+}
+
+-- the values of cells
+pub value_in-cells : (cells : List CellRef) (k : ℕ) → k < length cells → value_in (map value_of_cell cells) k ≡ value_of_cell (cell_in cells k)
+value_in-cells cells k h = get_or-map value_of_cell cells k _ (values.Int (pos 0)) h
+
+pub long_cells : (columns : List ColumnImage) (cells : List CellRef) → RowFits (kinds_of columns) (map value_of_cell cells) → length cells ≡ length columns
+long_cells columns cells fits = sym (length-map cells value_of_cell) ∙ wide_row columns (map value_of_cell cells) fits
+
+pub cells_fit : (columns : List ColumnImage) (cells : List CellRef) → RowFits (kinds_of columns) (map value_of_cell cells) → (k : ℕ) → k < length columns → Fits (column_in columns k).kind (value_of_cell (cell_in cells k))
+cells_fit columns cells fits k h =
+    let low : k < length cells = omega (arith, h, long_cells columns cells fits) in
+    subst (Fits (column_in columns k).kind) (value_in-cells cells k low) (fits_at columns (map value_of_cell cells) k fits h)
+
+-- columns of the same cells at other words for them
+pub AreMade-alike : (count n : ℕ) (kind : ℕ → Kind) (cells others : ℕ → List Value) (made : List ColumnImage) → ((k : ℕ) → k < n → cells k ≡ others k) → AreMade count n kind cells made → AreMade count n kind others made
+AreMade-alike count n kind cells others made same so = record { long = so.long; kinds = so.kinds; cells = λ k h. so.cells k h ∙ same k h; each = so.each }

@@ -1,0 +1,135 @@
+-- Dictionaries of first occurrences.
+use Rattle.std.proofs.Common.{◌≡◌, ℕ, suc, ◌+◌, ◌<◌, ◌≤◌, List, [], ◌∷◌, ◌++◌, length, map, get_or, refl, Some, ap, sym, subst, ◌∙◌, arith, inl, inr, All, set, replicate}
+use Rattle.std.specs.Cmp.{decided}
+use Rattle.std.proofs.lemmas.Map.Keys.{IsDistinct-push, IsDistinct-from_apart}
+use Rattle.std.specs.Prelude.{fold}
+use Rattle.std.specs.List.{list_any, slice_get}
+use Rattle.std.proofs.lemmas.Bool.{cases_Bool, cases_eq}
+use Rattle.std.proofs.lemmas.List.{get_or-map, map_push, length_push, length-map, get_or-set_same, get_or-set_other, length-set, get_or-replicate, length-replicate, ext_get_or}
+use Rattle.std.proofs.lemmas.List.Elements.{All-push}
+use Rattle.std.proofs.lemmas.List.Quantifiers.{position-Some}
+use Rattle.std.proofs.lemmas.Option.{slice_get-get_or}
+use Rattle.smk_base.specs.Dicts.{text_eq, code_in, code_or_last, with_text, AreTexts}
+use Rattle.smk_base.proofs.Codes.{added, kept, with_text-there, code-at, text_same}
+use Rattle.smk_base.specs.TextColumns.{text_in, text_firsts, texts_at, AreCodes, AreRecoded}
+
+fold_push : {A B : Type 0} (f : B → A → B) (b : B) (xs : List A) (x : A) → fold f b (xs ++ x ∷ []) ≡ f (fold f b xs) x
+fold_push f b [] x = refl
+fold_push f b (y ∷ ys) x = fold_push f (f b y) ys x
+
+pub text_firsts_push : (texts : List (List ℕ)) (t : List ℕ) → text_firsts (texts ++ t ∷ []) ≡ with_text (text_firsts texts) t
+text_firsts_push texts t = fold_push with_text [] texts t
+
+pub length_with_text : (dict : List (List ℕ)) (t : List ℕ) → length dict ≤ length (with_text dict t)
+length_with_text dict t = elim (cases_Bool (list_any (text_eq t) dict)) [
+  | inl e ↦ rw e (omega arith)
+  | inr e ↦ rw e (omega (arith, length_push dict t))
+]
+
+pub length_with_text-most : (dict : List (List ℕ)) (t : List ℕ) → length (with_text dict t) ≤ length dict + 1
+length_with_text-most dict t = elim (cases_Bool (list_any (text_eq t) dict)) [
+  | inl e ↦ rw e (omega arith)
+  | inr e ↦ rw e (omega (arith, length_push dict t))
+]
+
+few_firsts_from : (found texts : List (List ℕ)) → length (fold with_text found texts) ≤ length found + length texts
+few_firsts_from found [] = omega arith
+few_firsts_from found (t ∷ ts) = omega (arith, few_firsts_from (with_text found t) ts, length_with_text-most found t)
+
+pub few_firsts : (texts : List (List ℕ)) → length (text_firsts texts) ≤ length texts
+few_firsts texts = omega (arith, few_firsts_from [] texts)
+
+-- codes within stay the same texts where a text is added
+pub texts_at-with_text : (dict : List (List ℕ)) (t : List ℕ) (codes : List ℕ) → ((k : ℕ) → k < length codes → get_or codes k 0 < length dict) → texts_at (with_text dict t) codes ≡ texts_at dict codes
+texts_at-with_text dict t [] h = refl
+texts_at-with_text dict t (code ∷ codes) h = rw (kept dict t code (h 0 (omega arith)), texts_at-with_text dict t codes (λ k p. h (suc k) (omega arith))) refl
+
+pub texts_at_add : (dict : List (List ℕ)) (codes : List ℕ) (t : List ℕ) → All (λ code. code < length dict) codes → texts_at (with_text dict t) (codes ++ code_or_last dict t ∷ []) ≡ texts_at dict codes ++ t ∷ []
+texts_at_add dict codes t within =
+    let old = texts_at-with_text dict t codes (λ k p. within k 0 p) in
+    map_push (text_in (with_text dict t)) codes (code_or_last dict t) ∙ rw (old, (added dict t).1) refl
+
+-- one more text
+pub AreCodes-add : (dict : List (List ℕ)) (codes : List ℕ) (t : List ℕ) → AreCodes dict codes → length codes < 1048576 → AreCodes (with_text dict t) (codes ++ code_or_last dict t ∷ [])
+AreCodes-add dict codes t is room =
+    let at = texts_at_add dict codes t is.within in
+    record {
+      few = omega (arith, length_push codes (code_or_last dict t), room);
+      within = All-push (λ code. code < length (with_text dict t)) codes (code_or_last dict t) (λ k d p. omega (arith, is.within k d p, length_with_text dict t)) (added dict t).0;
+      firsts = rw (at, text_firsts_push (texts_at dict codes) t) (ap (λ found. with_text found t) is.firsts);
+    }
+
+AreTexts-with_text : (dict : List (List ℕ)) (t : List ℕ) → AreTexts dict → AreTexts (with_text dict t)
+AreTexts-with_text dict t h = elim (cases_Bool (list_any (text_eq t) dict)) [
+  | inl e ↦ rw e h
+  | inr e ↦ rw e (IsDistinct-push (decided text_eq text_same) dict t h e)
+]
+
+AreTexts-from : (found texts : List (List ℕ)) → AreTexts found → AreTexts (fold with_text found texts)
+AreTexts-from found [] h = h
+AreTexts-from found (t ∷ ts) h = AreTexts-from (with_text found t) ts (AreTexts-with_text found t h)
+
+pub AreTexts-firsts : (texts : List (List ℕ)) → AreTexts (text_firsts texts)
+AreTexts-firsts texts = AreTexts-from [] texts (IsDistinct-from_apart text_eq [] (λ i j d p q. absurd (omega arith)))
+
+pub few_dict : (dict : List (List ℕ)) (codes : List ℕ) → AreCodes dict codes → length dict ≤ 1048576
+few_dict dict codes is = omega (arith, few_firsts (texts_at dict codes), ap length is.firsts, length-map codes (text_in dict), is.few)
+
+-- the code of a text that is there is the one that it has
+pub code-is : (dict : List (List ℕ)) (codes : List ℕ) (i d : ℕ) → AreCodes dict codes → i < length codes → get_or codes i d ≡ code_or_last (text_firsts (texts_at dict codes)) (text_in (texts_at dict codes) i)
+code-is dict codes i d is h =
+    let at : text_in (texts_at dict codes) i ≡ text_in dict (get_or codes i d) = get_or-map (text_in dict) codes i d [] h in
+    let different : AreTexts dict = subst AreTexts (sym is.firsts) (AreTexts-firsts (texts_at dict codes)) in
+    rw (at, ← is.firsts) (sym (code-at dict (get_or codes i d) different (is.within i d h)))
+
+-- no text has a new code yet
+pub AreRecoded-none : (old new : List (List ℕ)) (table : List ℕ) (n : ℕ) → n ≡ length old → table ≡ replicate n 4294967295 → AreRecoded old new table
+AreRecoded-none old new table n e f =
+    let none : (k : ℕ) → k < length old → get_or table k 0 ≡ 4294967295 = (λ k h. rw f (get_or-replicate n k 4294967295 0 (omega arith))) in
+    record {
+      long = rw f (length-replicate n 4294967295 ∙ e);
+      within = λ k h p. absurd (omega (arith, none k h));
+      same = λ k h p. absurd (omega (arith, none k h));
+    }
+
+-- a text that goes last keeps the codes, and has its own
+pub AreRecoded-add : (old new : List (List ℕ)) (table : List ℕ) (k : ℕ) → k < length old → AreRecoded old new table → AreRecoded old (with_text new (text_in old k)) (set table k (code_or_last new (text_in old k)))
+AreRecoded-add old new table k h is =
+    let t = text_in old k in
+    let code = code_or_last new t in
+    let both : (j : ℕ) → j < length old → get_or (set table k code) j 0 < 4294967295 → (get_or (set table k code) j 0 < length (with_text new t)) × (text_in (with_text new t) (get_or (set table k code) j 0) ≡ text_in old j) = (λ j p q. elim (cases_eq j k) [
+      | inl e ↦ (
+          let here : get_or (set table k code) j 0 ≡ code = ap (λ i. get_or (set table k code) i 0) e ∙ get_or-set_same table k code 0 (omega (arith, is.long)) in
+          rw (here, e) (added new t))
+      | inr ne ↦ (
+          let there : get_or (set table k code) j 0 ≡ get_or table j 0 = get_or-set_other table k j code 0 ne in
+          let low : get_or table j 0 < 4294967295 = omega (arith, there, q) in
+          rw there (omega (arith, is.within j p low, length_with_text new t), kept new t (get_or table j 0) (is.within j p low) ∙ is.same j p low))
+    ]) in
+    record {
+      long = length-set table k code ∙ is.long;
+      within = λ j p q. (both j p q).0;
+      same = λ j p q. (both j p q).1;
+    }
+
+-- a code that is there, put last
+pub AreCodes-push : (dict : List (List ℕ)) (codes : List ℕ) (code : ℕ) → AreCodes dict codes → length codes < 1048576 → code < length dict → AreCodes dict (codes ++ code ∷ [])
+AreCodes-push dict codes code is room h = record {
+  few = omega (arith, length_push codes code, room);
+  within = All-push (λ code. code < length dict) codes code is.within h;
+  firsts = rw (map_push (text_in dict) codes code, text_firsts_push (texts_at dict codes) (text_in dict code), ← is.firsts) (sym (with_text-there dict code h));
+}
+
+-- each code is that of its text
+pub codes-are : (dict : List (List ℕ)) (codes : List ℕ) → AreCodes dict codes → codes ≡ map (code_or_last (text_firsts (texts_at dict codes))) (texts_at dict codes)
+codes-are dict codes is =
+    let texts = texts_at dict codes in
+    let long : length texts ≡ length codes = length-map codes (text_in dict) in
+    ext_get_or 0 codes (map (code_or_last (text_firsts texts)) texts) (sym (length-map texts (code_or_last (text_firsts texts)) ∙ long))
+    (λ i h. code-is dict codes i 0 is h ∙ sym (get_or-map (code_or_last (text_firsts texts)) texts i [] 0 (omega (arith, long))))
+
+-- the code of a text that is there has it
+pub slice_get-code : (texts : List (List ℕ)) (t : List ℕ) (code : ℕ) → code_in texts t ≡ Some code → slice_get texts code ≡ Some t
+slice_get-code texts t code e =
+    let f = position-Some (text_eq t) texts code [] e in
+    slice_get-get_or texts code [] f.0 ∙ ap Some (sym ((text_same _ _).0 f.1))

@@ -1,0 +1,33 @@
+use Rattle.std.proofs.Common.{◌≡◌, ◌≢◌, ◌<◌, ◌∙◌, arith, length}
+use Rattle.std.proofs.lemmas.List.{get_or_read, length-set, get_or-set_other}
+use Rattle.smk_base.specs.Relations.{column_in}
+use Rattle.smk_base.proofs.Made.{AreMade_push}
+use Rattle.smk_base.proofs.columns.append_each.Goals as goal
+
+pub append-requires-clause-few : goal.append-requires-clause-few
+append-requires-clause-few c =
+    let below : c.loop-c.c < length c.loop-c.columns.items = omega (arith, c.loop-c.invariant.wide, c.requires.wide) in
+    let column : c.replace-column.result ≡ column_in c.args.columns.items c.loop-c.c = c.replace-column.ensures.value ∙ get_or_read c.loop-c.columns.items c.loop-c.c _ below c.index_mut.ensures.value _ ∙ c.loop-c.invariant.rest c.loop-c.c (omega arith) in
+    let other : c.index-others-c.result ≡ column_in c.args.others.now c.loop-c.c = get_or_read c.args.others.now c.loop-c.c _ c.loop-c-test.true c.index-others-c.is _ in
+    rw (column, other, (c.requires.each c.loop-c.c _ (omega (arith, c.requires.wide))).long, (c.requires.others c.loop-c.c _ c.loop-c-test.true).long) c.requires.few
+
+pub append-requires-clause-wider : goal.append-requires-clause-wider
+append-requires-clause-wider c =
+    let below : c.loop-c.c < length c.loop-c.columns.items = omega (arith, c.loop-c.invariant.wide, c.requires.wide) in
+    let column : c.replace-column.result ≡ column_in c.args.columns.items c.loop-c.c = c.replace-column.ensures.value ∙ get_or_read c.loop-c.columns.items c.loop-c.c _ below c.index_mut.ensures.value _ ∙ c.loop-c.invariant.rest c.loop-c.c (omega arith) in
+    let other : c.index-others-c.result ≡ column_in c.args.others.now c.loop-c.c = get_or_read c.args.others.now c.loop-c.c _ c.loop-c-test.true c.index-others-c.is _ in
+    rw (column, other) (c.requires.wider c.loop-c.c (omega (arith, c.requires.wide)))
+
+pub loop-c-preserved : goal.loop-c-preserved
+loop-c-preserved c =
+    let below : c.loop-c.c < length c.loop-c.columns.items = omega (arith, c.loop-c.invariant.wide, c.requires.wide) in
+    let column : c.replace-column.result ≡ column_in c.args.columns.items c.loop-c.c = c.replace-column.ensures.value ∙ get_or_read c.loop-c.columns.items c.loop-c.c _ below c.index_mut.ensures.value _ ∙ c.loop-c.invariant.rest c.loop-c.c (omega arith) in
+    let other : c.index-others-c.result ≡ column_in c.args.others.now c.loop-c.c = get_or_read c.args.others.now c.loop-c.c _ c.loop-c-test.true c.index-others-c.is _ in
+    let kind = rw column at c.in_ok-append.ensures.kind in
+    let cells = rw (column, other) at c.in_ok-append.ensures.cells in
+    let keeps = rw (column, other, (c.requires.each c.loop-c.c _ (omega (arith, c.requires.wide))).long, (c.requires.others c.loop-c.c _ c.loop-c-test.true).long) at c.in_ok-append.ensures.keeps in
+    record {
+      wide = length-set c.loop-c.columns.items c.loop-c.c c.replace-column.new.dest ∙ c.loop-c.invariant.wide;
+      rest = λ k p. (let ne : k ≢ c.loop-c.c = omega arith in get_or-set_other c.loop-c.columns.items c.loop-c.c k c.replace-column.new.dest _ ne ∙ c.loop-c.invariant.rest k (omega arith));
+      made = rw c.in_ok-push.ensures.items (AreMade_push _ c.loop-c.c _ _ _ c.in_ok-append.field-0 kind cells keeps c.loop-c.invariant.made);
+    }

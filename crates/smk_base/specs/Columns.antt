@@ -1,0 +1,18 @@
+-- Columns of values.
+use Rattle.std.specs.Prelude.{◌≡◌, ℕ, ◌<◌, ◌≤◌, Some, List, length, All}
+use Rattle.smk_base.specs.declared.value.Kind.TheVariants as kinds
+use Rattle.smk_base.specs.declared.value.Value.{Value}
+use Rattle.smk_base.specs.Rels.{IsColumn, Fits, text_of}
+use Rattle.smk_base.specs.Images.{ColumnImage}
+
+-- values of the column's kind for this many rows
+pub record IsColumnOf (count : ℕ) (column : ColumnImage) : Type 0 where
+  pub long : length column.cells ≡ count
+  pub few : count ≤ 1048576
+  pub low : IsColumn column.kind
+  pub fit : All (Fits column.kind) column.cells
+
+-- whether a value can be put last without memory
+pub record IsReady (column : ColumnImage) (value : Value) : Type 0 where
+  pub room : 0 < column.room
+  pub next : column.kind ≡ kinds.Text → column.next ≡ Some (text_of value)

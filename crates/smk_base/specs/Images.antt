@@ -1,0 +1,11 @@
+-- What contracts see of a column.
+use Rattle.std.specs.Prelude.{ℕ, List, Option}
+use Rattle.smk_base.specs.declared.value.Kind.{Kind}
+use Rattle.smk_base.specs.declared.value.Value.{Value}
+
+-- the kind and the values of a column, how many more fit without memory, and the text that does
+pub record ColumnImage : Type 0 where
+  pub kind : Kind
+  pub cells : List Value
+  pub room : ℕ
+  pub next : Option (List ℕ)

@@ -1,0 +1,9 @@
+-- The numbers of a column of ints.
+use Rattle.std.specs.Prelude.{ℕ, ℤ, List}
+use Rattle.smk_base.specs.declared.value_column.Ints.{Ints}
+use Rattle.smk_base.specs.declared.value_column.Ints.TheVariants.{Small, Wide}
+
+-- the numbers, whatever their width in memory
+abbrev pub numbers_of : Ints → List ℤ
+numbers_of (Small ints) = ints.now
+numbers_of (Wide ints) = ints.now

@@ -1,0 +1,40 @@
+-- Relations as columns beside each other.
+use Rattle.std.specs.Prelude.{◌≡◌, ℕ, ◌<◌, ◌≤◌, List, [], length, map, None, slice_index_or, All}
+use Rattle.std.specs.List.{range_with_len}
+use Rattle.smk_base.specs.declared.value.Kind.{Kind}
+use Rattle.smk_base.specs.declared.value.Kind.TheVariants as kinds
+use Rattle.smk_base.specs.declared.value.Value.{Value}
+use Rattle.smk_base.specs.Rels.{Relation, value_in}
+use Rattle.smk_base.specs.Images.{ColumnImage}
+use Rattle.smk_base.specs.Columns.{IsColumnOf}
+
+-- column c
+abbrev pub column_in : List ColumnImage → ℕ → ColumnImage
+column_in columns c = slice_index_or columns c (record { kind = kinds.Text; cells = []; room = 0; next = None })
+
+abbrev pub kinds_of : List ColumnImage → List Kind
+kinds_of columns = map (λ column. column.kind) columns
+
+-- row i: the value of each column there
+abbrev pub row_at : List ColumnImage → ℕ → List Value
+row_at columns i = map (λ column. value_in column.cells i) columns
+
+-- the first rows of columns
+abbrev pub rows_of : ℕ → List ColumnImage → List (List Value)
+rows_of count columns = map (row_at columns) (range_with_len 0 count)
+
+abbrev pub relation_of : ℕ → List ColumnImage → Relation
+relation_of count columns = record { kinds = kinds_of columns; rows = rows_of count columns }
+
+-- few columns of as many rows, and the values of each of its kind
+pub record AreColumns (count : ℕ) (columns : List ColumnImage) : Type 0 where
+  pub few_columns : length columns ≤ 16
+  pub few_rows : count ≤ 1048576
+  pub each : All (IsColumnOf count) columns
+
+-- the kind and the cells that the k-th column has
+pub record AreMade (count n : ℕ) (kind_at : ℕ → Kind) (cells_at : ℕ → List Value) (made : List ColumnImage) : Type 0 where
+  pub long : length made ≡ n
+  pub kinds : (k : ℕ) → k < n → (column_in made k).kind ≡ kind_at k
+  pub cells : (k : ℕ) → k < n → (column_in made k).cells ≡ cells_at k
+  pub each : All (IsColumnOf count) made

@@ -1,0 +1,33 @@
+-- Columns of texts.
+use Rattle.std.specs.Prelude.{◌≡◌, ℕ, ◌<◌, ◌≤◌, List, [], length, map, slice_index, slice_index_or, All, fold}
+use Rattle.smk_base.specs.Dicts.{with_text}
+
+-- the texts of a column, how many more fit without memory, and how many of them may be new
+pub record TextImage : Type 0 where
+  pub texts : List (List ℕ)
+  pub room : ℕ
+  pub dict_room : ℕ
+
+-- the text of row i
+abbrev pub text_in : List (List ℕ) → ℕ → List ℕ
+text_in texts i = slice_index_or texts i []
+
+-- the texts, each at its first occurrence
+abbrev pub text_firsts : List (List ℕ) → List (List ℕ)
+text_firsts texts = fold with_text [] texts
+
+-- the texts with these codes
+abbrev pub texts_at : List (List ℕ) → List ℕ → List (List ℕ)
+texts_at dict codes = map (text_in dict) codes
+
+-- codes within a dictionary that has their texts at their first occurrences
+pub record AreCodes (dict : List (List ℕ)) (codes : List ℕ) : Type 0 where
+  pub few : length codes ≤ 1048576
+  pub within : All (λ code. code < length dict) codes
+  pub firsts : dict ≡ text_firsts (texts_at dict codes)
+
+-- new codes for the old ones that have one
+pub record AreRecoded (old new : List (List ℕ)) (table : List ℕ) : Type 0 where
+  pub long : length table ≡ length old
+  pub within : (k : ℕ) → k < length old → slice_index table k < 4294967295 → slice_index table k < length new
+  pub same : (k : ℕ) → k < length old → slice_index table k < 4294967295 → text_in new (slice_index table k) ≡ text_in old k

@@ -1,0 +1,154 @@
+//! Loops over the columns of a relation.
+ghost use Rattle.std.specs.Prelude.{◌≡◌, ℕ, ◌<◌, ◌≤◌, ◌+◌, [], ◌∷◌, ◌++◌, length, map, All, IfOk, OnOk, slice_index, slice_index_or};
+ghost use Rattle.smk_base.specs.Cells.{value_of_cell, cell_in};
+ghost use Rattle.smk_base.specs.Rels.{IsColumn, IsWider, Fits, kind_in, value_in};
+ghost use Rattle.smk_base.specs.Columns.{IsColumnOf, IsReady};
+ghost use Rattle.smk_base.specs.Relations.{column_in, AreMade};
+
+use crate::value::{CellRef, Kind};
+use crate::value_column::ValueColumn;
+use std::alloc::{AllocError, Global};
+use std::mem;
+
+/// Columns of these kinds with no row.
+pub(crate) fn empty_columns(alloc: Global, kinds: &[Kind]) -> Result<Vec<ValueColumn>, AllocError>
+    requires { All IsColumn kinds.now }
+    ensures { IfOk result (λ made. AreMade 0 (length kinds.now) (kind_in kinds.now) (λ k. []) made.items) }
+{
+    let mut made = Vec::with_capacity(alloc, kinds.len())?;
+    for kind in kinds {
+        made.push(ValueColumn::new(alloc, *kind))?;
+    }
+    Ok(made)
+}
+
+/// Makes all the room that a row needs to go last.
+pub(crate) fn make_each_ready(
+    columns: &mut Vec<ValueColumn>,
+    cells: &[CellRef],
+    count: u32,
+) -> Result<(), AllocError>
+    requires each { All (IsColumnOf count) columns.old.items }
+    requires long { length cells.now ≡ length columns.old.items }
+    requires fits { (k : ℕ) → k < length columns.old.items → Fits (column_in columns.old.items k).kind (value_of_cell (cell_in cells.now k)) }
+    ensures same { AreMade count (length columns.old.items) (λ k. (column_in columns.old.items k).kind) (λ k. (column_in columns.old.items k).cells) columns.new.items }
+    ensures ready { OnOk result ((k : ℕ) → k < length columns.old.items → IsReady (column_in columns.new.items k) (value_of_cell (cell_in cells.now k))) }
+{
+    for c in 0..columns.len() {
+        columns[c].make_ready(cells[c])?;
+    }
+    Ok(())
+}
+
+/// Puts a row last that is ready to go there.
+pub(crate) fn push_each(columns: &mut Vec<ValueColumn>, cells: &[CellRef], count: u32)
+    requires few { count < 1048576 }
+    requires each { All (IsColumnOf count) columns.old.items }
+    requires long { length cells.now ≡ length columns.old.items }
+    requires fits { (k : ℕ) → k < length columns.old.items → Fits (column_in columns.old.items k).kind (value_of_cell (cell_in cells.now k)) }
+    requires ready { (k : ℕ) → k < length columns.old.items → IsReady (column_in columns.old.items k) (value_of_cell (cell_in cells.now k)) }
+    ensures { AreMade (count + 1) (length columns.old.items) (λ k. (column_in columns.old.items k).kind) (λ k. (column_in columns.old.items k).cells ++ value_of_cell (cell_in cells.now k) ∷ []) columns.new.items }
+{
+    for c in 0..columns.len() {
+        columns[c].push(cells[c]);
+    }
+}
+
+/// The rows at these places, in this order.
+pub(crate) fn gather_each(
+    alloc: Global,
+    columns: &[ValueColumn],
+    count: u32,
+    places: &[u32],
+) -> Result<Vec<ValueColumn>, AllocError>
+    requires each { All (IsColumnOf count) columns.now }
+    requires within { All (λ place. place < count) places.now }
+    requires few { length places.now ≤ 1048576 }
+    ensures { IfOk result (λ made. AreMade (length places.now) (length columns.now) (λ k. (column_in columns.now k).kind) (λ k. map (value_in (column_in columns.now k).cells) places.now) made.items) }
+{
+    let mut made = Vec::with_capacity(alloc, columns.len())?;
+    for column in columns {
+        made.push(column.gather(alloc, places)?)?;
+    }
+    Ok(made)
+}
+
+/// Copies of the columns.
+pub(crate) fn copy_each(
+    alloc: Global,
+    columns: &[ValueColumn],
+    count: u32,
+) -> Result<Vec<ValueColumn>, AllocError>
+    requires { All (IsColumnOf count) columns.now }
+    ensures { IfOk result (λ made. AreMade count (length columns.now) (λ k. (column_in columns.now k).kind) (λ k. (column_in columns.now k).cells) made.items) }
+{
+    let mut made = Vec::with_capacity(alloc, columns.len())?;
+    for column in columns {
+        made.push(column.copy(alloc)?)?;
+    }
+    Ok(made)
+}
+
+/// Copies of these columns, in this order.
+pub(crate) fn pick_each(
+    alloc: Global,
+    columns: &[ValueColumn],
+    count: u32,
+    cols: &[u32],
+) -> Result<Vec<ValueColumn>, AllocError>
+    requires each { All (IsColumnOf count) columns.now }
+    requires within { All (λ c. c < length columns.now) cols.now }
+    ensures { IfOk result (λ made. AreMade count (length cols.now) (λ k. (column_in columns.now (slice_index cols.now k)).kind) (λ k. (column_in columns.now (slice_index cols.now k)).cells) made.items) }
+{
+    let mut made = Vec::with_capacity(alloc, cols.len())?;
+    for c in cols {
+        made.push(columns[*c as usize].copy(alloc)?)?;
+    }
+    Ok(made)
+}
+
+/// The columns with the rows of others behind their own.
+pub(crate) fn append_each(
+    alloc: Global,
+    columns: Vec<ValueColumn>,
+    count: u32,
+    others: &[ValueColumn],
+    more: u32,
+) -> Result<Vec<ValueColumn>, AllocError>
+    requires each { All (IsColumnOf count) columns.items }
+    requires others { All (IsColumnOf more) others.now }
+    requires few { count + more ≤ 1048576 }
+    requires wide { length columns.items ≡ length others.now }
+    requires wider { (k : ℕ) → k < length columns.items → IsWider (column_in columns.items k).kind (column_in others.now k).kind }
+    ensures { IfOk result (λ made. AreMade (count + more) (length columns.items) (λ k. (column_in columns.items k).kind) (λ k. (column_in columns.items k).cells ++ (column_in others.now k).cells) made.items) }
+{
+    let mut columns = columns;
+    let mut made = Vec::with_capacity(alloc, others.len())?;
+    for c in 0..others.len() {
+        let column = mem::replace(&mut columns[c], ValueColumn::new(alloc, Kind::Text));
+        made.push(column.append(alloc, &others[c])?)?;
+    }
+    Ok(made)
+}
+
+/// The same values in columns of these kinds, none of which is a narrower one.
+pub(crate) fn widen_each(
+    alloc: Global,
+    columns: Vec<ValueColumn>,
+    count: u32,
+    kinds: &[Kind],
+) -> Result<Vec<ValueColumn>, AllocError>
+    requires each { All (IsColumnOf count) columns.items }
+    requires low { All IsColumn kinds.now }
+    requires wide { length columns.items ≡ length kinds.now }
+    requires wider { (k : ℕ) → k < length columns.items → IsWider (kind_in kinds.now k) (column_in columns.items k).kind }
+    ensures { IfOk result (λ made. AreMade count (length columns.items) (kind_in kinds.now) (λ k. (column_in columns.items k).cells) made.items) }
+{
+    let mut columns = columns;
+    let mut made = Vec::with_capacity(alloc, kinds.len())?;
+    for c in 0..kinds.len() {
+        let column = mem::replace(&mut columns[c], ValueColumn::new(alloc, Kind::Text));
+        made.push(column.widened(alloc, kinds[c])?)?;
+    }
+    Ok(made)
+}

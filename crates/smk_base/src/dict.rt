@@ -1,0 +1,127 @@
+ghost use Rattle.std.specs.Prelude.{◌≡◌, ◌<◌, ◌≤◌, ◌+◌, [], length, take, IfOk, OnOk, OnErr, IsOk, slice_index_or};
+ghost use Rattle.smk_base.specs.Dicts.{AreTexts, code_in, code_or_last, with_text};
+
+use crate::list::Text;
+use indexmap::IndexSet;
+use std::alloc::{AllocError, Global};
+use std::marker::Model;
+
+/// Different texts, each with the place of its first occurrence as its code. Contracts see the list of them, and how many more fit without memory.
+#[derive(Drop)]
+pub struct Dict {
+    texts: IndexSet<Vec<u8>>,
+}
+
+impl Model for Dict {
+    ghost use Rattle.std.specs.Prelude.{length, ◌≤◌};
+    ghost use Rattle.indexmap.specs.IndexSet.{spare};
+    ghost use Rattle.smk_base.specs.Dicts.{DictImage, AreTexts, texts_of};
+
+    ghost Value = { DictImage };
+
+    ghost view = { λ a. record { texts = texts_of a.texts.keys; room = spare a.texts } };
+
+    ghost invariant = { λ a. record { different : AreTexts (texts_of a.texts.keys); few : length a.texts.keys ≤ 2097152 } };
+}
+
+impl Dict {
+    /// No text. It takes no memory.
+    pub fn new(alloc: Global) -> Dict
+        ensures { result.texts ≡ [] }
+    {
+        Dict {
+            texts: IndexSet::new(alloc),
+        }
+    }
+
+    /// How many texts there are. It takes no memory.
+    pub fn len(&self) -> u32
+        ensures count { result ≡ length self.now.texts }
+        ensures distinct { AreTexts self.now.texts }
+        ensures few { length self.now.texts ≤ 2097152 }
+    {
+        self.texts.len() as u32
+    }
+
+    /// The text with this code. It takes no memory.
+    pub fn text(&self, i: u32) -> &[u8]
+        requires { i < length self.now.texts }
+        ensures { result.now ≡ slice_index_or self.now.texts i [] }
+    {
+        match self.texts.get_index(i as usize) {
+            Some(text) => text.as_slice(),
+            None => unreachable!(),
+        }
+    }
+
+    /// The code of a text, None exactly where it isn't there. It takes no memory.
+    pub fn code_of(&self, text: &Text) -> Option<u32>
+        ensures { result ≡ code_in self.now.texts text.now }
+    {
+        self.code_of_bytes(text.as_slice())
+    }
+
+    /// The code of a text, None exactly where it isn't there. It takes no memory.
+    pub fn code_of_bytes(&self, text: &[u8]) -> Option<u32>
+        ensures { result ≡ code_in self.now.texts text.now }
+    {
+        match self.texts.get_index_of(text) {
+            Some(place) => Some(place as u32),
+            None => None,
+        }
+    }
+
+    /// Makes room for one more text, so that the next add needs no memory.
+    pub fn reserve(&mut self) -> Result<(), AllocError>
+        ensures same { self.new.texts ≡ self.old.texts }
+        ensures room { OnOk result (0 < self.new.room) }
+    {
+        self.texts.reserve(1)
+    }
+
+    /// The code of a text, which goes last where it isn't there. After an error the texts are as before, and there is none where there was room.
+    pub fn add(&mut self, text: Text) -> Result<u32, AllocError>
+        requires { length self.old.texts < 2097152 }
+        ensures code { IfOk result (λ code. code ≡ code_or_last self.old.texts text) }
+        ensures texts { OnOk result (self.new.texts ≡ with_text self.old.texts text) }
+        ensures kept { OnErr result (self.new.texts ≡ self.old.texts) }
+        ensures succeeds { 0 < self.old.room → IsOk result }
+    {
+        let (code, _) = self.texts.insert_full(text.into_vec())?;
+        Ok(code as u32)
+    }
+
+    /// The code of a text, which goes last where it isn't there. It takes memory only for a new text. After an error the texts are as before.
+    pub fn add_bytes(&mut self, text: &[u8]) -> Result<u32, AllocError>
+        requires { length self.old.texts < 2097152 }
+        ensures code { IfOk result (λ code. code ≡ code_or_last self.old.texts text.now) }
+        ensures texts { OnOk result (self.new.texts ≡ with_text self.old.texts text.now) }
+        ensures kept { OnErr result (self.new.texts ≡ self.old.texts) }
+    {
+        match self.code_of_bytes(text) {
+            Some(code) => Ok(code),
+            None => {
+                let alloc = *self.texts.allocator();
+                self.add(Text::from_vec(Vec::from_slice(alloc, text)?))
+            }
+        }
+    }
+
+    /// A copy with the same texts.
+    pub fn copy(&self, alloc: Global) -> Result<Dict, AllocError>
+        ensures { IfOk result (λ copy. copy.texts ≡ self.now.texts) }
+    {
+        let mut copy = Dict::new(alloc);
+        for i in 0..self.len() {
+            copy.add(Text::from_vec(Vec::from_slice(alloc, self.text(i))?))?;
+        }
+        Ok(copy)
+    }
+
+    /// Keeps the first texts.
+    pub fn truncate(&mut self, len: u32)
+        ensures { self.new.texts ≡ take len self.old.texts }
+    {
+        self.texts.truncate(len as usize);
+    }
+}
