@@ -4,13 +4,11 @@ use Rattle.std.specs.List.{list_any, flat_map, filter}
 use Rattle.std.proofs.lemmas.List.{map-append, length-map, map-id, get_or_append_left, get_or-append_right, get_or-map}
 use Rattle.std.proofs.lemmas.List.Elements.{filter_agree}
 use Rattle.std.proofs.lemmas.Bool.{cases_Bool, ltb-true, ltb-false}
-use Rattle.smk_base.specs.declared.plan.Op2.{Op2}
-use Rattle.smk_base.specs.declared.plan.Op2.TheVariants.{Join, UnionAll, Union}
-use Rattle.smk_base.specs.Plans.{Formula, Unary, Selection, Projection, Distinction, Grouping, Expr, Leaf, Apply, Combine}
+use Rattle.smk_base.specs.Plans.{Formula, Unary, Selection, Projection, Distinction, Grouping, Binary, Equijoin, ThetaJoin, CrossProduct, BagUnion, SetUnion, Expr, Leaf, Apply, Combine}
 use Rattle.smk_model.specs.Values.{Row, meets}
-use Rattle.smk_model.specs.Plain.{row_eq, image, key_of, firsts, grouped, agree, step1, step2, width, eval_from}
-use Rattle.smk_model.specs.Lineage.{upto, places, row_at, matching, from1, from_left, from_right}
-use Rattle.smk_model.specs.Annotated.{Marked, no_mark, mark_at, rows_of, both, gathered, ann1, ann2, ann_from}
+use Rattle.smk_model.specs.Plain.{row_eq, image, key_of, firsts, grouped, agree, meets_together, always, nested, step1, step2, width, eval_from}
+use Rattle.smk_model.specs.Lineage.{upto, places, row_at, matching, match_at, from1, from_left, from_right}
+use Rattle.smk_model.specs.Annotated.{Marked, no_mark, mark_at, rows_of, both, gathered, nested_marks, ann1, ann2, ann_from}
 use Rattle.smk_model.specs.LineageLaws.{RowsAgree, united, StepByStep}
 use Rattle.smk_model.proofs.Places.{filter_map, map_map, map_flat_map, flat_map_map, flat_map_agree, map_upto, at_places}
 
@@ -39,20 +37,22 @@ rows_one (Distinction items) marked =
 rows_one (Grouping keys aggs) marked =
     map_map (λ m. m.0) (λ key. (grouped keys aggs (rows_of marked) key, gathered (λ row. row_eq key (key_of keys row)) marked)) (firsts (map (key_of keys) (rows_of marked)))
 
-rows_join : (pairs : List (ℕ × ℕ)) (ls rs : List Marked) → rows_of (ann2 (Join pairs) ls rs) ≡ step2 (Join pairs) (rows_of ls) (rows_of rs)
-rows_join pairs ls rs =
-    let inner = λ (l : Marked). filter (λ r. agree pairs l.0 r.0) rs in
+rows_nested : (test : Row → Row → Bool) (ls rs : List Marked) → rows_of (nested_marks test ls rs) ≡ nested test (rows_of ls) (rows_of rs)
+rows_nested test ls rs =
+    let inner = λ (l : Marked). filter (λ r. test l.0 r.0) rs in
     let join : Marked → Marked → Marked = λ l r. (l.0 ++ r.0, both l.1 r.1) in
-    let each : (l : Marked) → map (λ m. m.0) (map (join l) (inner l)) ≡ map (λ r. l.0 ++ r) (filter (agree pairs l.0) (rows_of rs)) = λ l.
-    map_map (λ m. m.0) (join l) (inner l) ∙ sym (map_map (λ r. l.0 ++ r) (λ m. m.0) (inner l)) ∙ ap (map (λ r. l.0 ++ r)) (sym (filter_map (agree pairs l.0) (λ m. m.0) rs)) in
+    let each : (l : Marked) → map (λ m. m.0) (map (join l) (inner l)) ≡ map (λ r. l.0 ++ r) (filter (test l.0) (rows_of rs)) = λ l.
+    map_map (λ m. m.0) (join l) (inner l) ∙ sym (map_map (λ r. l.0 ++ r) (λ m. m.0) (inner l)) ∙ ap (map (λ r. l.0 ++ r)) (sym (filter_map (test l.0) (λ m. m.0) rs)) in
     map_flat_map (λ m. m.0) (λ l. map (join l) (inner l)) ls
-    ∙ flat_map_agree _ (λ l. map (λ r. l.0 ++ r) (filter (agree pairs l.0) (rows_of rs))) each ls
-    ∙ sym (flat_map_map (λ l. map (λ r. l ++ r) (filter (agree pairs l) (rows_of rs))) (λ m. m.0) ls)
+    ∙ flat_map_agree _ (λ l. map (λ r. l.0 ++ r) (filter (test l.0) (rows_of rs))) each ls
+    ∙ sym (flat_map_map (λ l. map (λ r. l ++ r) (filter (test l) (rows_of rs))) (λ m. m.0) ls)
 
-rows_two : (op : Op2) (ls rs : List Marked) → rows_of (ann2 op ls rs) ≡ step2 op (rows_of ls) (rows_of rs)
-rows_two (Join pairs) ls rs = rows_join pairs ls rs
-rows_two UnionAll ls rs = map-append (λ m. m.0) ls rs
-rows_two Union ls rs =
+rows_two : (op : Binary) (ls rs : List Marked) → rows_of (ann2 op ls rs) ≡ step2 op (rows_of ls) (rows_of rs)
+rows_two (Equijoin pairs) ls rs = rows_nested (agree pairs) ls rs
+rows_two (ThetaJoin formula) ls rs = rows_nested (meets_together formula) ls rs
+rows_two CrossProduct ls rs = rows_nested always ls rs
+rows_two BagUnion ls rs = map-append (λ m. m.0) ls rs
+rows_two SetUnion ls rs =
     let rows = firsts (rows_of ls ++ rows_of rs) in
     map_map (λ m. m.0) (λ r. (r, both (gathered (row_eq r) ls) (gathered (row_eq r) rs))) rows ∙ map-id rows
 
@@ -123,39 +123,41 @@ step_one (Grouping keys aggs) marked o leaf rid h =
     ap (λ (m : Marked). m.1 leaf rid) (get_or-map (λ key. (grouped keys aggs (rows_of marked) key, gathered (λ row. row_eq key (key_of keys row)) marked)) found o [] no_mark low)
     ∙ gathered_is (λ row. row_eq (row_at found o) (key_of keys row)) marked leaf rid
 
-matching_marks : (pairs : List (ℕ × ℕ)) (ls rs : List Marked)
-    → flat_map (λ i. map (λ j. (i, j)) (places (λ j. agree pairs (mark_at ls i).0 (mark_at rs j).0) (length rs))) (upto (length ls)) ≡ matching pairs (rows_of ls) (rows_of rs)
-matching_marks pairs ls rs =
+matching_marks : (test : Row → Row → Bool) (ls rs : List Marked)
+    → flat_map (λ i. map (λ j. (i, j)) (places (λ j. test (mark_at ls i).0 (mark_at rs j).0) (length rs))) (upto (length ls)) ≡ matching test (rows_of ls) (rows_of rs)
+matching_marks test ls rs =
     let L = rows_of ls in
     let R = rows_of rs in
-    let inner = λ (i : ℕ). map (λ j. (i, j)) (places (λ j. agree pairs (row_at L i) (row_at R j)) (length R)) in
+    let inner = λ (i : ℕ). map (λ j. (i, j)) (places (λ j. test (row_at L i) (row_at R j)) (length R)) in
     flat_map_agree _ inner (λ i.
-    ap (map (λ j. (i, j))) (filter_agree (λ j. agree pairs (mark_at ls i).0 (mark_at rs j).0) (λ j. agree pairs (row_at L i) (row_at R j)) (λ j. rw (row_of_mark ls i, row_of_mark rs j) refl) (upto (length rs))
-    ∙ ap (places (λ j. agree pairs (row_at L i) (row_at R j))) (sym (length-map rs (λ m. m.0))))) (upto (length ls))
+    ap (map (λ j. (i, j))) (filter_agree (λ j. test (mark_at ls i).0 (mark_at rs j).0) (λ j. test (row_at L i) (row_at R j)) (λ j. rw (row_of_mark ls i, row_of_mark rs j) refl) (upto (length rs))
+    ∙ ap (places (λ j. test (row_at L i) (row_at R j))) (sym (length-map rs (λ m. m.0))))) (upto (length ls))
     ∙ ap (λ n. flat_map inner (upto n)) (sym (length-map ls (λ m. m.0)))
 
-step_join : (pairs : List (ℕ × ℕ)) (ls rs : List Marked) (o leaf rid : ℕ) → o < length (step2 (Join pairs) (rows_of ls) (rows_of rs))
-    → (mark_at (ann2 (Join pairs) ls rs) o).1 leaf rid ≡ both (united ls (from_left (Join pairs) (rows_of ls) (rows_of rs) o)) (united rs (from_right (Join pairs) (rows_of ls) (rows_of rs) o)) leaf rid
-step_join pairs ls rs o leaf rid h =
-    let M = matching pairs (rows_of ls) (rows_of rs) in
+step_nested : (test : Row → Row → Bool) (ls rs : List Marked) (o leaf rid : ℕ) → o < length (nested test (rows_of ls) (rows_of rs))
+    → (mark_at (nested_marks test ls rs) o).1 leaf rid ≡ both (united ls ((match_at test (rows_of ls) (rows_of rs) o).0 ∷ [])) (united rs ((match_at test (rows_of ls) (rows_of rs) o).1 ∷ [])) leaf rid
+step_nested test ls rs o leaf rid h =
+    let M = matching test (rows_of ls) (rows_of rs) in
     let join : Marked → Marked → Marked = λ l r. (l.0 ++ r.0, both l.1 r.1) in
     let pair : ℕ × ℕ → Marked = λ p. join (mark_at ls p.0) (mark_at rs p.1) in
-    let is : ann2 (Join pairs) ls rs ≡ map pair M = nested_is (λ (l r : Marked). agree pairs l.0 r.0) join ls rs no_mark no_mark ∙ ap (map pair) (matching_marks pairs ls rs) in
-    let low : o < length M = omega (arith, h, ap length (sym (rows_join pairs ls rs) ∙ ap rows_of is), length-map (map pair M) (λ (m : Marked). m.0), length-map M pair) in
+    let is : nested_marks test ls rs ≡ map pair M = nested_is (λ (l r : Marked). test l.0 r.0) join ls rs no_mark no_mark ∙ ap (map pair) (matching_marks test ls rs) in
+    let low : o < length M = omega (arith, h, ap length (sym (rows_nested test ls rs) ∙ ap rows_of is), length-map (map pair M) (λ (m : Marked). m.0), length-map M pair) in
     ap (λ (marked : List Marked). (mark_at marked o).1 leaf rid) is ∙ ap (λ (m : Marked). m.1 leaf rid) (get_or-map pair M o (0, 0) no_mark low)
     ∙ or_both ((mark_at ls (get_or M o (0, 0)).0).1 leaf rid) ((mark_at rs (get_or M o (0, 0)).1).1 leaf rid)
 
-step_two : (op : Op2) (ls rs : List Marked) (o leaf rid : ℕ) → o < length (step2 op (rows_of ls) (rows_of rs))
+step_two : (op : Binary) (ls rs : List Marked) (o leaf rid : ℕ) → o < length (step2 op (rows_of ls) (rows_of rs))
     → (mark_at (ann2 op ls rs) o).1 leaf rid ≡ both (united ls (from_left op (rows_of ls) (rows_of rs) o)) (united rs (from_right op (rows_of ls) (rows_of rs) o)) leaf rid
-step_two (Join pairs) ls rs o leaf rid h = step_join pairs ls rs o leaf rid h
-step_two UnionAll ls rs o leaf rid h =
+step_two (Equijoin pairs) ls rs o leaf rid h = step_nested (agree pairs) ls rs o leaf rid h
+step_two (ThetaJoin formula) ls rs o leaf rid h = step_nested (meets_together formula) ls rs o leaf rid h
+step_two CrossProduct ls rs o leaf rid h = step_nested always ls rs o leaf rid h
+step_two BagUnion ls rs o leaf rid h =
     let n = length (rows_of ls) in
     let same : n ≡ length ls = length-map ls (λ (m : Marked). m.0) in
     elim (cases_Bool (nat_lt o n)) [
       | inl p ↦ rw p (ap (λ (m : Marked). m.1 leaf rid) (get_or_append_left ls rs no_mark o (omega (arith, ltb-true o n p, same))) ∙ or_twice ((mark_at ls o).1 leaf rid))
       | inr p ↦ rw p (ap (λ (m : Marked). m.1 leaf rid) (get_or-append_right ls rs n o no_mark (sym same) (ltb-false o n p)) ∙ or_false _)
     ]
-step_two Union ls rs o leaf rid h =
+step_two SetUnion ls rs o leaf rid h =
     let found = firsts (rows_of ls ++ rows_of rs) in
     let row = row_at found o in
     ap (λ (m : Marked). m.1 leaf rid) (get_or-map (λ r. (r, both (gathered (row_eq r) ls) (gathered (row_eq r) rs))) found o [] no_mark h)

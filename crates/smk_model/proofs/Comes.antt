@@ -3,8 +3,7 @@ use Rattle.std.proofs.Common.{◌≡◌, ℕ, ◌+◌, ◌<◌, Bool, List, [], 
 use Rattle.std.specs.List.{list_any}
 use Rattle.std.proofs.lemmas.List.{length-append, get_or_append_left, get_or-append-add, get_or-map}
 use Rattle.std.proofs.lemmas.Bool.{cases_Bool, eqb-true}
-use Rattle.smk_base.specs.declared.plan.Op2.{Op2}
-use Rattle.smk_base.specs.Plans.{Expr, Leaf, Apply, Combine}
+use Rattle.smk_base.specs.Plans.{Binary, Expr, Leaf, Apply, Combine}
 use Rattle.smk_model.specs.Values.{Row}
 use Rattle.smk_model.specs.Plain.{step1, step2, leaves, width, eval_from, whole}
 use Rattle.smk_model.specs.Lineage.{upto, row_at, from1, from_left, from_right}
@@ -34,13 +33,13 @@ comes (Combine op left right) tables table o rid =
 abbrev pub IsPart : List ℕ → List (List Row) → List (List Row) → Expr → ℕ → Type 0
 IsPart scans E tables plan k = (j : ℕ) → j < width plan → (k + j < length scans) × (get_or scans (k + j) 0 ≡ get_or (leaves plan) j 0) × (get_or E (k + j) [] ≡ table_at tables (get_or (leaves plan) j 0))
 
-part_left : (scans : List ℕ) (E tables : List (List Row)) (op : Op2) (a b : Expr) (k : ℕ) → IsPart scans E tables (Combine op a b) k → IsPart scans E tables a k
+part_left : (scans : List ℕ) (E tables : List (List Row)) (op : Binary) (a b : Expr) (k : ℕ) → IsPart scans E tables (Combine op a b) k → IsPart scans E tables a k
 part_left scans E tables op a b k part j l =
     let all = part j (omega (arith, l, length-append (leaves a) (leaves b))) in
     let same : get_or (leaves a ++ leaves b) j 0 ≡ get_or (leaves a) j 0 = get_or_append_left (leaves a) (leaves b) 0 j l in
     (all.0, all.1 ∙ same, all.2 ∙ ap (table_at tables) same)
 
-part_right : (scans : List ℕ) (E tables : List (List Row)) (op : Op2) (a b : Expr) (k : ℕ) → IsPart scans E tables (Combine op a b) k → IsPart scans E tables b (k + width a)
+part_right : (scans : List ℕ) (E tables : List (List Row)) (op : Binary) (a b : Expr) (k : ℕ) → IsPart scans E tables (Combine op a b) k → IsPart scans E tables b (k + width a)
 part_right scans E tables op a b k part j l =
     let all = part (width a + j) (omega (arith, l, length-append (leaves a) (leaves b))) in
     let e : (k + width a) + j ≡ k + (width a + j) = omega arith in

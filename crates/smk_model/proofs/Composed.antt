@@ -27,7 +27,7 @@ use Rattle.smk_model.proofs.Comes.{rows_in, comes, rows_whole, relates_comes}
 abbrev pub lists_by : (ℕ → ℕ → Bool) → ℕ → ℕ → Lists
 lists_by f k n = record { lists = map (λ o. places (f o) n) (upto k); bound = n }
 
-abbrev bounded : ℕ → List (List ℕ) → Lists
+abbrev pub bounded : ℕ → List (List ℕ) → Lists
 bounded n lists = record { lists = lists; bound = n }
 
 pub length_lists : (f : ℕ → ℕ → Bool) (k n : ℕ) → length (lists_by f k n).lists ≡ k

@@ -6,11 +6,9 @@ use Rattle.std.proofs.lemmas.List.Elements.{filter-append, All-get_or, filter_pa
 use Rattle.std.proofs.lemmas.Bool.{eq-eqb, cases_Bool, or_left, or_right, false≢true, ltb-true, ltb-false}
 use Rattle.smk_base.specs.declared.plan.Item.{Item}
 use Rattle.smk_base.specs.declared.plan.Agg.{Agg}
-use Rattle.smk_base.specs.declared.plan.Op2.{Op2}
-use Rattle.smk_base.specs.declared.plan.Op2.TheVariants.{Join, UnionAll, Union}
-use Rattle.smk_base.specs.Plans.{Formula, Unary, Selection, Projection, Distinction, Grouping}
+use Rattle.smk_base.specs.Plans.{Formula, Unary, Selection, Projection, Distinction, Grouping, Binary, Equijoin, ThetaJoin, CrossProduct, BagUnion, SetUnion}
 use Rattle.smk_model.specs.Values.{Row, meets}
-use Rattle.smk_model.specs.Plain.{row_eq, image, key_of, aggregate, firsts, grouped, agree, step1, step2}
+use Rattle.smk_model.specs.Plain.{row_eq, image, key_of, aggregate, firsts, grouped, agree, meets_together, always, nested, step1, step2}
 use Rattle.smk_model.specs.Lineage.{upto, places, has, row_at, sub, matching, match_at, from1, from_left, from_right}
 use Rattle.smk_model.specs.CuiWidom.{CuiWidom1, CuiWidom2}
 use Rattle.smk_model.specs.LineageLaws.{CuiWidom}
@@ -43,7 +41,7 @@ selected_row f L o h =
 passes_at : (f : Row → Bool) (L : List Row) (o : ℕ) → o < length (filter f L) → f (row_at (filter f L) o) ≡ true
 passes_at f L o h = All-get_or (λ x. f x ≡ true) (filter f L) o [] h (filter_passes f L)
 
-of_selection : (formula : Formula) (L : List Row) (o : ℕ) → o < length (filter (meets formula) L) → CuiWidom1 (Selection formula) L o (from1 (Selection formula) L o)
+of_selection : (formula : Formula) (L : List Row) (o : ℕ) → o < length (filter (meets formula) L) → CuiWidom1 (step1 (Selection formula)) L o (from1 (Selection formula) L o)
 of_selection formula L o h =
     let f = meets formula in
     let p = get_or (places (λ i. f (row_at L i)) (length L)) o 0 in
@@ -59,7 +57,7 @@ of_selection formula L o h =
           single A' p (omega (arith, length-map A' (row_at L), ap length (all_pass f L A' g.each), ap length g.exact)) (all p (single_has p));
     }
 
-of_projection : (items : List Item) (L : List Row) (o : ℕ) → o < length (map (image items) L) → CuiWidom1 (Projection items) L o (from1 (Projection items) L o)
+of_projection : (items : List Item) (L : List Row) (o : ℕ) → o < length (map (image items) L) → CuiWidom1 (step1 (Projection items)) L o (from1 (Projection items) L o)
 of_projection items L o h =
     let low : o < length L = omega (arith, h, length-map L (image items)) in
     record {
@@ -70,7 +68,7 @@ of_projection items L o h =
 
 -- distinction and grouping
 
-of_distinction : (items : List Item) (L : List Row) (o : ℕ) → o < length (firsts (map (image items) L)) → CuiWidom1 (Distinction items) L o (from1 (Distinction items) L o)
+of_distinction : (items : List Item) (L : List Row) (o : ℕ) → o < length (firsts (map (image items) L)) → CuiWidom1 (step1 (Distinction items)) L o (from1 (Distinction items) L o)
 of_distinction items L o h =
     let k = row_at (firsts (map (image items) L)) o in
     let there : holds (map (image items) L) k ≡ true = firsts_from (map (image items) L) k (holds_at (firsts (map (image items) L)) o h) in
@@ -92,7 +90,7 @@ filter_twice : (f : Row → Bool) (xs : List Row) → filter f (filter f xs) ≡
 filter_twice f [] = refl
 filter_twice f (x ∷ xs) = elim (cases_Bool (f x)) [ inl p ↦ rw (p, p) (ap (λ t. x ∷ t) (filter_twice f xs)) | inr p ↦ rw p (filter_twice f xs) ]
 
-of_grouping : (keys : List ℕ) (aggs : List Agg) (L : List Row) (o : ℕ) → o < length (map (grouped keys aggs L) (firsts (map (key_of keys) L))) → CuiWidom1 (Grouping keys aggs) L o (from1 (Grouping keys aggs) L o)
+of_grouping : (keys : List ℕ) (aggs : List Agg) (L : List Row) (o : ℕ) → o < length (map (grouped keys aggs L) (firsts (map (key_of keys) L))) → CuiWidom1 (step1 (Grouping keys aggs)) L o (from1 (Grouping keys aggs) L o)
 of_grouping keys aggs L o h =
     let found = firsts (map (key_of keys) L) in
     let k = row_at found o in
@@ -113,16 +111,16 @@ of_grouping keys aggs L o h =
           all_of_key (key_of keys) L k one.0 (from1 (Grouping keys aggs) L o) A' is refl there all one.1;
     }
 
-of_one : (op : Unary) (L : List Row) (o : ℕ) → o < length (step1 op L) → CuiWidom1 op L o (from1 op L o)
+of_one : (op : Unary) (L : List Row) (o : ℕ) → o < length (step1 op L) → CuiWidom1 (step1 op) L o (from1 op L o)
 of_one (Selection formula) L o h = of_selection formula L o h
 of_one (Projection items) L o h = of_projection items L o h
 of_one (Distinction items) L o h = of_distinction items L o h
 of_one (Grouping keys aggs) L o h = of_grouping keys aggs L o h
 
--- join
+-- nested loops
 
-pub joined_is : (pairs : List (ℕ × ℕ)) (L R : List Row) → step2 (Join pairs) L R ≡ map (λ p. row_at L p.0 ++ row_at R p.1) (matching pairs L R)
-joined_is pairs L R = nested_is (agree pairs) (λ l r. l ++ r) L R [] []
+pub nested_rows : (test : Row → Row → Bool) (L R : List Row) → nested test L R ≡ map (λ p. row_at L p.0 ++ row_at R p.1) (matching test L R)
+nested_rows test L R = nested_is test (λ l r. l ++ r) L R [] []
 
 all_matching : (t : ℕ → ℕ → Bool) (m n : ℕ) (xs : List ℕ) → All (λ r. r < m) xs → All (λ (p : ℕ × ℕ). (p.0 < m) × (p.1 < n) × (t p.0 p.1 ≡ true)) (flat_map (λ i. map (λ j. (i, j)) (places (t i) n)) xs)
 all_matching t m n [] h = All-nil (λ (p : ℕ × ℕ). (p.0 < m) × (p.1 < n) × (t p.0 p.1 ≡ true))
@@ -132,35 +130,35 @@ all_matching t m n (x ∷ xs) h =
     (All-map (λ (p : ℕ × ℕ). (p.0 < m) × (p.1 < n) × (t p.0 p.1 ≡ true)) (λ j. (x, j)) (places (t x) n) inner)
     (all_matching t m n xs (λ k d l. h (suc k) d (omega arith)))
 
-pub length_joined : (pairs : List (ℕ × ℕ)) (L R : List Row) → length (matching pairs L R) ≡ length (step2 (Join pairs) L R)
-length_joined pairs L R = sym (length-map (matching pairs L R) (λ (p : ℕ × ℕ). row_at L p.0 ++ row_at R p.1)) ∙ sym (ap length (joined_is pairs L R))
+pub length_matching : (test : Row → Row → Bool) (L R : List Row) → length (matching test L R) ≡ length (nested test L R)
+length_matching test L R = sym (length-map (matching test L R) (λ (p : ℕ × ℕ). row_at L p.0 ++ row_at R p.1)) ∙ sym (ap length (nested_rows test L R))
 
--- a matching pair is in range, and its rows agree
-pub matched : (pairs : List (ℕ × ℕ)) (L R : List Row) (o : ℕ) → o < length (step2 (Join pairs) L R)
-    → ((match_at pairs L R o).0 < length L) × ((match_at pairs L R o).1 < length R) × (agree pairs (row_at L (match_at pairs L R o).0) (row_at R (match_at pairs L R o).1) ≡ true)
-matched pairs L R o h = all_matching (λ i j. agree pairs (row_at L i) (row_at R j)) (length L) (length R) (upto (length L)) (upto_below (length L)) o (0, 0) (omega (arith, h, length_joined pairs L R))
+-- a matching pair is in range, and its rows pass
+pub matched : (test : Row → Row → Bool) (L R : List Row) (o : ℕ) → o < length (nested test L R)
+    → ((match_at test L R o).0 < length L) × ((match_at test L R o).1 < length R) × (test (row_at L (match_at test L R o).0) (row_at R (match_at test L R o).1) ≡ true)
+matched test L R o h = all_matching (λ i j. test (row_at L i) (row_at R j)) (length L) (length R) (upto (length L)) (upto_below (length L)) o (0, 0) (omega (arith, h, length_matching test L R))
 
 some_long : {X : Type 0} (xs : List X) → xs ≢ [] → 1 ≤ length xs
 some_long [] h = absurd (h refl)
 some_long (x ∷ xs) h = omega arith
 
 -- each left row alone gives something, so there are at least as many rows as left rows
-at_least : (pairs : List (ℕ × ℕ)) (L R : List Row) (A : List ℕ) → ((a : ℕ) → has A a ≡ true → step2 (Join pairs) (sub L (a ∷ [])) R ≢ []) → length A ≤ length (step2 (Join pairs) (sub L A) R)
-at_least pairs L R [] h = omega arith
-at_least pairs L R (x ∷ xs) h =
-    let mine = map (λ r. row_at L x ++ r) (filter (agree pairs (row_at L x)) R) in
+at_least : (test : Row → Row → Bool) (L R : List Row) (A : List ℕ) → ((a : ℕ) → has A a ≡ true → nested test (sub L (a ∷ [])) R ≢ []) → length A ≤ length (nested test (sub L A) R)
+at_least test L R [] h = omega arith
+at_least test L R (x ∷ xs) h =
+    let mine = map (λ r. row_at L x ++ r) (filter (test (row_at L x)) R) in
     let one : 1 ≤ length mine = some_long mine (λ e. h x (or_left (nat_eq x x) _ (eq-eqb x x refl)) (append-nil mine ∙ e)) in
-    let rest : length xs ≤ length (step2 (Join pairs) (sub L xs) R) = at_least pairs L R xs (λ a q. h a (or_right (nat_eq a x) _ q)) in
-    omega (arith, length-append mine (step2 (Join pairs) (sub L xs) R))
+    let rest : length xs ≤ length (nested test (sub L xs) R) = at_least test L R xs (λ a q. h a (or_right (nat_eq a x) _ q)) in
+    omega (arith, length-append mine (nested test (sub L xs) R))
 
-of_join : (pairs : List (ℕ × ℕ)) (L R : List Row) (o : ℕ) → o < length (step2 (Join pairs) L R) → CuiWidom2 (Join pairs) L R o (from_left (Join pairs) L R o) (from_right (Join pairs) L R o)
-of_join pairs L R o h =
-    let join = step2 (Join pairs) in
-    let i = (match_at pairs L R o).0 in
-    let j = (match_at pairs L R o).1 in
-    let fits = matched pairs L R o h in
+of_nested : (test : Row → Row → Bool) (L R : List Row) (o : ℕ) → o < length (nested test L R) → CuiWidom2 (nested test) L R o ((match_at test L R o).0 ∷ []) ((match_at test L R o).1 ∷ [])
+of_nested test L R o h =
+    let join = nested test in
+    let i = (match_at test L R o).0 in
+    let j = (match_at test L R o).1 in
+    let fits = matched test L R o h in
     let row : row_at (join L R) o ≡ row_at L i ++ row_at R j =
-    ap (λ t. row_at t o) (joined_is pairs L R) ∙ get_or-map (λ p. row_at L p.0 ++ row_at R p.1) (matching pairs L R) o (0, 0) [] (omega (arith, h, length_joined pairs L R)) in
+    ap (λ t. row_at t o) (nested_rows test L R) ∙ get_or-map (λ p. row_at L p.0 ++ row_at R p.1) (matching test L R) o (0, 0) [] (omega (arith, h, length_matching test L R)) in
     let here : join (row_at L i ∷ []) (row_at R j ∷ []) ≡ (row_at L i ++ row_at R j) ∷ [] = rw fits.2 refl in
     record {
       places_left = one_place (length L) i fits.0;
@@ -171,17 +169,17 @@ of_join pairs L R o h =
         each_right = λ b q. subst (λ (z : ℕ). join (row_at L i ∷ []) (row_at R z ∷ []) ≢ []) (sym (has_single j b q)) (λ e. (cc));
       };
       maximal = λ A' B' isA isB allA allB g.
-          let A'-is : A' ≡ i ∷ [] = single A' i (omega (arith, at_least pairs L (sub R B') A' g.each_left, ap length g.exact)) (allA i (single_has i)) in
+          let A'-is : A' ≡ i ∷ [] = single A' i (omega (arith, at_least test L (sub R B') A' g.each_left, ap length g.exact)) (allA i (single_has i)) in
           let right : (b : ℕ) → has B' b ≡ true → join (row_at L i ∷ []) (row_at R b ∷ []) ≢ [] = λ b q. subst (λ (z : List ℕ). join (sub L z) (row_at R b ∷ []) ≢ []) A'-is (g.each_right b q) in
-          let all : filter (agree pairs (row_at L i)) (sub R B') ≡ sub R B' = all_pass (agree pairs (row_at L i)) R B' (λ b q e. right b q (ap (λ t. map (λ r. row_at L i ++ r) t ++ []) e)) in
+          let all : filter (test (row_at L i)) (sub R B') ≡ sub R B' = all_pass (test (row_at L i)) R B' (λ b q e. right b q (ap (λ t. map (λ r. row_at L i ++ r) t ++ []) e)) in
           let one : join (row_at L i ∷ []) (sub R B') ≡ row_at (join L R) o ∷ [] = subst (λ (z : List ℕ). join (sub L z) (sub R B') ≡ row_at (join L R) o ∷ []) A'-is g.exact in
-          let mine = map (λ r. row_at L i ++ r) (filter (agree pairs (row_at L i)) (sub R B')) in
-          (A'-is, single B' j (omega (arith, ap length one, ap length (append-nil mine), length-map (filter (agree pairs (row_at L i)) (sub R B')) (λ r. row_at L i ++ r), ap length all, length-map B' (row_at R))) (allB j (single_has j)));
+          let mine = map (λ r. row_at L i ++ r) (filter (test (row_at L i)) (sub R B')) in
+          (A'-is, single B' j (omega (arith, ap length one, ap length (append-nil mine), length-map (filter (test (row_at L i)) (sub R B')) (λ r. row_at L i ++ r), ap length all, length-map B' (row_at R))) (allB j (single_has j)));
     }
 
 -- unions
 
-from_the_left : (L R : List Row) (o : ℕ) → o < length L → CuiWidom2 UnionAll L R o (o ∷ []) []
+from_the_left : (L R : List Row) (o : ℕ) → o < length L → CuiWidom2 (step2 BagUnion) L R o (o ∷ []) []
 from_the_left L R o h = record {
   places_left = one_place (length L) o h;
   places_right = no_place (length R);
@@ -196,7 +194,7 @@ from_the_left L R o h = record {
       (A'-is, nil_from_length B' (omega (arith, ap length A'-is)));
 }
 
-from_the_right : (L R : List Row) (o : ℕ) → length L ≤ o → o < length (L ++ R) → CuiWidom2 UnionAll L R o [] ((o - length L) ∷ [])
+from_the_right : (L R : List Row) (o : ℕ) → length L ≤ o → o < length (L ++ R) → CuiWidom2 (step2 BagUnion) L R o [] ((o - length L) ∷ [])
 from_the_right L R o h low = record {
   places_left = no_place (length L);
   places_right = one_place (length R) (o - length L) (omega (arith, h, low, length-append L R));
@@ -211,12 +209,12 @@ from_the_right L R o h low = record {
       (nil_from_length A' (omega (arith, ap length B'-is)), B'-is);
 }
 
-of_union : (L R : List Row) (o : ℕ) → o < length (firsts (L ++ R)) → CuiWidom2 Union L R o (from_left Union L R o) (from_right Union L R o)
+of_union : (L R : List Row) (o : ℕ) → o < length (firsts (L ++ R)) → CuiWidom2 (step2 SetUnion) L R o (from_left SetUnion L R o) (from_right SetUnion L R o)
 of_union L R o h =
     let k = row_at (firsts (L ++ R)) o in
     let there : holds (L ++ R) k ≡ true = firsts_from (L ++ R) k (holds_at (firsts (L ++ R)) o h) in
-    let A = from_left Union L R o in
-    let B = from_right Union L R o in
+    let A = from_left SetUnion L R o in
+    let B = from_right SetUnion L R o in
     let subs : sub L A ++ sub R B ≡ filter (row_eq k) (L ++ R) = rw (at_places (row_eq k) L [], at_places (row_eq k) R []) (sym (filter-append (row_eq k) L R)) in
     record {
       places_left = places_are (λ i. row_eq k (row_at L i)) (length L);
@@ -234,13 +232,15 @@ of_union L R o h =
           );
     }
 
-of_two : (op : Op2) (L R : List Row) (o : ℕ) → o < length (step2 op L R) → CuiWidom2 op L R o (from_left op L R o) (from_right op L R o)
-of_two (Join pairs) L R o h = of_join pairs L R o h
-of_two UnionAll L R o h = elim (cases_Bool (nat_lt o (length L))) [
+of_two : (op : Binary) (L R : List Row) (o : ℕ) → o < length (step2 op L R) → CuiWidom2 (step2 op) L R o (from_left op L R o) (from_right op L R o)
+of_two (Equijoin pairs) L R o h = of_nested (agree pairs) L R o h
+of_two (ThetaJoin formula) L R o h = of_nested (meets_together formula) L R o h
+of_two CrossProduct L R o h = of_nested always L R o h
+of_two BagUnion L R o h = elim (cases_Bool (nat_lt o (length L))) [
   | inl p ↦ rw p (from_the_left L R o (ltb-true o (length L) p))
   | inr p ↦ rw p (from_the_right L R o (ltb-false o (length L) p) h)
 ]
-of_two Union L R o h = of_union L R o h
+of_two SetUnion L R o h = of_union L R o h
 
 pub cui_widom : CuiWidom
 cui_widom = record { one = of_one; two = of_two }

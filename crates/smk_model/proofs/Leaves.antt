@@ -1,8 +1,7 @@
 -- The lists of a plan's leaves, and those of its inputs.
 use Rattle.std.proofs.Common.{◌≡◌, ℕ, ◌+◌, ◌<◌, List, [], ◌++◌, length, refl, ap, sym, ◌∙◌, arith, get_or, take, drop}
 use Rattle.std.proofs.lemmas.List.{length-append, get_or_append_left, get_or-append-add, get_or-take, get_or-drop}
-use Rattle.smk_base.specs.declared.plan.Op2.{Op2}
-use Rattle.smk_base.specs.Plans.{Expr, Leaf, Apply, Combine}
+use Rattle.smk_base.specs.Plans.{Binary, Expr, Leaf, Apply, Combine}
 use Rattle.smk_model.specs.Values.{Row}
 use Rattle.smk_model.specs.Plain.{step1, step2, leaves, width, eval_from, eval}
 use Rattle.smk_model.specs.ComposedLaws.{LeavesSplit}
@@ -25,7 +24,7 @@ eval_same (Combine op a b) E k F m same =
     ap (λ i. get_or E i []) first ∙ same (width a + j) (omega (arith, l, length-append (leaves a) (leaves b))) ∙ ap (λ i. get_or F i []) (sym second) in
     rw (eval_same a E k F m left, eval_same b E (k + width a) F (m + width a) right) refl
 
-split_at : (op : Op2) (a b : Expr) (E X Y : List (List Row)) → IsSame a E 0 X 0 → IsSame b E (0 + width a) Y 0 → eval (Combine op a b) E ≡ step2 op (eval a X) (eval b Y)
+split_at : (op : Binary) (a b : Expr) (E X Y : List (List Row)) → IsSame a E 0 X 0 → IsSame b E (0 + width a) Y 0 → eval (Combine op a b) E ≡ step2 op (eval a X) (eval b Y)
 split_at op a b E X Y left right = rw (eval_same a E 0 X 0 left, eval_same b E (0 + width a) Y 0 right) refl
 
 pub leaves_split : LeavesSplit

@@ -11,6 +11,12 @@ pub mod Composed
 pub mod Examples
 pub mod RunExamples
 pub mod Locals
+pub mod Directions
+pub mod Classes
+pub mod OneEach
+pub mod Bulk
+pub mod Counts
+pub mod NodeFaults
 pub mod Parts
 pub mod Leaves
 pub mod Pairs

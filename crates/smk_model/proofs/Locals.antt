@@ -5,16 +5,17 @@ use Rattle.std.proofs.lemmas.List.{map-append, append-nil, length-append, length
 use Rattle.std.proofs.lemmas.List.Elements.{filter-append, All-map}
 use Rattle.std.proofs.lemmas.List.Folds.{list_any_at}
 use Rattle.std.proofs.lemmas.List.Quantifiers.{all_pairs_push}
-use Rattle.std.proofs.lemmas.Bool.{cases_Bool, cases_eq, cases_order, lt-ltb, ltb-true, or_right, false≢true, false_from_ne_true}
+use Rattle.std.proofs.lemmas.Bool.{cases_Bool, cases_eq, cases_order, lt-ltb, le-ltb, or_right, false≢true, false_from_ne_true}
 use Rattle.smk_base.specs.Places.{IsPlaces}
-use Rattle.smk_base.specs.declared.plan.Op2.TheVariants.{UnionAll}
+use Rattle.smk_base.specs.Plans.{Formula, Binary, Equijoin, ThetaJoin, CrossProduct, BagUnion, SetUnion}
 use Rattle.smk_model.specs.Values.{Row, meets}
-use Rattle.smk_model.specs.Plain.{row_eq, image, key_of, add_first, firsts, grouped, step1, step2}
+use Rattle.smk_model.specs.Plain.{row_eq, image, key_of, add_first, firsts, grouped, agree, meets_together, always, nested, is_join, joins, step1, step2}
 use Rattle.smk_model.specs.Lineage.{upto, places, row_at, matching, match_at, from1, from_left, from_right}
+use Rattle.smk_model.specs.Locals.{back_left, back_right}
 use Rattle.smk_model.specs.LocalLaws.{by_key, LocalsAre, ListsGrow}
 use Rattle.smk_model.proofs.Places.{map_map, map_upto, same_below, length_upto, get_or_upto, map_upto_agree, upto_add, places_false}
 use Rattle.smk_model.proofs.Firsts.{row_same, row_is, row_itself, holds, holds_here, firsts_holds, add_known, fold_append}
-use Rattle.smk_model.proofs.CuiWidom.{length_selected, joined_is, length_joined, cui_widom}
+use Rattle.smk_model.proofs.CuiWidom.{length_selected, nested_rows, length_matching, cui_widom}
 
 -- lists
 
@@ -26,16 +27,22 @@ at_each f g m n h left right =
     ap (map f) (upto_add m n) ∙ map-append f (upto m) (map (λ i. m + i) (upto n))
     ∙ rw (map_upto_agree f g m left, map_map f (λ i. m + i) (upto n), map_upto_agree (λ i. f (m + i)) h n right) refl
 
-below_is : (o n : ℕ) → o < n → nat_lt o n ≡ true
-below_is o n h = lt-ltb o n h
-
-past_is : (n i : ℕ) → nat_lt (n + i) n ≡ false
-past_is n i = false_from_ne_true (nat_lt (n + i) n) (λ e. let low = ltb-true (n + i) n e in absurd (omega (arith, low)))
-
 every : {X : Type 0} (P : X → Type 0) (f : ℕ → X) (n : ℕ) → ((o : ℕ) → o < n → P (f o)) → All P (map f (upto n))
 every P f n h = All-map P f (upto n) (λ k d l.
     let low : k < n = omega (arith, l, length_upto n) in
     subst (λ (o : ℕ). P (f o)) (sym (get_or_upto n k d low)) (h k low))
+
+-- what holds of every nested loop holds of every join
+every_join : (P : Binary → (Row → Row → Bool) → Type 0) → ((pairs : List (ℕ × ℕ)) → P (Equijoin pairs) (agree pairs)) → ((formula : Formula) → P (ThetaJoin formula) (meets_together formula)) → P CrossProduct always
+    → (op : Binary) → is_join op ≡ true → P op (joins op)
+every_join P equal theta product (Equijoin pairs) e = equal pairs
+every_join P equal theta product (ThetaJoin formula) e = theta formula
+every_join P equal theta product CrossProduct e = product
+every_join P equal theta product BagUnion e = absurd (false≢true e)
+every_join P equal theta product SetUnion e = absurd (false≢true e)
+
+nested_lists : (test : Row → Row → Bool) (L R : List Row) (g : ℕ × ℕ → List ℕ) → map (λ o. g (match_at test L R o)) (upto (length (nested test L R))) ≡ map g (matching test L R)
+nested_lists test L R g = ap (λ n. map (λ o. g (match_at test L R o)) (upto n)) (sym (length_matching test L R)) ∙ each_at g (matching test L R) (0, 0)
 
 pub locals_are : LocalsAre
 locals_are = record {
@@ -48,18 +55,19 @@ locals_are = record {
       let found = firsts (map (key_of keys) L) in
       ap (λ n. map (λ o. places (λ i. row_eq (row_at found o) (key_of keys (row_at L i))) (length L)) (upto n)) (length-map found (grouped keys aggs L))
       ∙ each_at (λ k. places (λ i. row_eq k (key_of keys (row_at L i))) (length L)) found [];
-  join_left = λ pairs L R.
-      ap (λ n. map (λ o. (match_at pairs L R o).0 ∷ []) (upto n)) (sym (length_joined pairs L R)) ∙ each_at (λ (p : ℕ × ℕ). p.0 ∷ []) (matching pairs L R) (0, 0);
-  join_right = λ pairs L R.
-      ap (λ n. map (λ o. (match_at pairs L R o).1 ∷ []) (upto n)) (sym (length_joined pairs L R)) ∙ each_at (λ (p : ℕ × ℕ). p.1 ∷ []) (matching pairs L R) (0, 0);
-  joined = joined_is;
+  join_left = λ op L R e. every_join (λ op test. (back_left op L R).lists ≡ map (λ p. p.0 ∷ []) (matching test L R))
+      (λ pairs. nested_lists (agree pairs) L R (λ p. p.0 ∷ [])) (λ formula. nested_lists (meets_together formula) L R (λ p. p.0 ∷ [])) (nested_lists always L R (λ p. p.0 ∷ [])) op e;
+  join_right = λ op L R e. every_join (λ op test. (back_right op L R).lists ≡ map (λ p. p.1 ∷ []) (matching test L R))
+      (λ pairs. nested_lists (agree pairs) L R (λ p. p.1 ∷ [])) (λ formula. nested_lists (meets_together formula) L R (λ p. p.1 ∷ [])) (nested_lists always L R (λ p. p.1 ∷ [])) op e;
+  joined = λ op L R e. every_join (λ op test. step2 op L R ≡ map (λ p. row_at L p.0 ++ row_at R p.1) (matching test L R))
+      (λ pairs. nested_rows (agree pairs) L R) (λ formula. nested_rows (meets_together formula) L R) (nested_rows always L R) op e;
   union_all_left = λ L R.
-      ap (λ n. map (from_left UnionAll L R) (upto n)) (length-append L R)
-      ∙ at_each (from_left UnionAll L R) (λ i. i ∷ []) (length L) (length R) (λ j. []) (λ i low. rw (below_is i (length L) low) refl) (λ j low. rw (past_is (length L) j) refl);
+      ap (λ n. map (from_left BagUnion L R) (upto n)) (length-append L R)
+      ∙ at_each (from_left BagUnion L R) (λ i. i ∷ []) (length L) (length R) (λ j. []) (λ i low. rw (lt-ltb i (length L) low) refl) (λ j low. rw (le-ltb (length L + j) (length L) (omega arith)) refl);
   union_all_right = λ L R.
-      ap (λ n. map (from_right UnionAll L R) (upto n)) (length-append L R)
-      ∙ at_each (from_right UnionAll L R) (λ i. []) (length L) (length R) (λ j. j ∷ []) (λ i low. rw (below_is i (length L) low) refl)
-      (λ j low. let e : (length L + j) - length L ≡ j = omega arith in rw (past_is (length L) j, e) refl);
+      ap (λ n. map (from_right BagUnion L R) (upto n)) (length-append L R)
+      ∙ at_each (from_right BagUnion L R) (λ i. []) (length L) (length R) (λ j. j ∷ []) (λ i low. rw (lt-ltb i (length L) low) refl)
+      (λ j low. let e : (length L + j) - length L ≡ j = omega arith in rw (le-ltb (length L + j) (length L) (omega arith), e) refl);
   union_left = λ L R. each_at (λ k. places (λ i. row_eq k (row_at L i)) (length L)) (firsts (L ++ R)) [];
   union_right = λ L R. each_at (λ k. places (λ j. row_eq k (row_at R j)) (length R)) (firsts (L ++ R)) [];
   places_one = λ op L. every (IsPlaces (length L)) (from1 op L) (length (step1 op L)) (λ o h. (cui_widom.one op L o h).places);

@@ -1,14 +1,12 @@
 -- The places that an output row comes from are in range.
-use Rattle.std.proofs.Common.{◌≡◌, ℕ, ◌-◌, ◌<◌, List, [], ◌∷◌, ◌++◌, length, map, arith, get_or, nat_lt, inl, inr}
+use Rattle.std.proofs.Common.{◌≡◌, ℕ, ◌-◌, ◌<◌, Bool, List, [], ◌∷◌, ◌++◌, length, map, arith, get_or, nat_lt, inl, inr}
 use Rattle.std.specs.List.{All}
 use Rattle.std.proofs.lemmas.List.{length-append, length-map}
 use Rattle.std.proofs.lemmas.List.Elements.{All-nil}
 use Rattle.std.proofs.lemmas.Bool.{cases_Bool, ltb-true, ltb-false}
-use Rattle.smk_base.specs.declared.plan.Op2.{Op2}
-use Rattle.smk_base.specs.declared.plan.Op2.TheVariants.{Join, UnionAll, Union}
-use Rattle.smk_base.specs.Plans.{Unary, Selection, Projection, Distinction, Grouping}
+use Rattle.smk_base.specs.Plans.{Unary, Selection, Projection, Distinction, Grouping, Binary, Equijoin, ThetaJoin, CrossProduct, BagUnion, SetUnion}
 use Rattle.smk_model.specs.Values.{Row, meets}
-use Rattle.smk_model.specs.Plain.{row_eq, image, key_of, firsts, step1, step2}
+use Rattle.smk_model.specs.Plain.{row_eq, image, key_of, firsts, agree, meets_together, always, nested, step1, step2}
 use Rattle.smk_model.specs.Lineage.{places, row_at, match_at, from1, from_left, from_right}
 use Rattle.smk_model.proofs.Places.{places_below}
 use Rattle.smk_model.proofs.CuiWidom.{selected_below, matched}
@@ -22,18 +20,28 @@ from1_below (Projection items) L o h = one_below (length L) o (omega (arith, h, 
 from1_below (Distinction items) L o h = places_below (λ i. row_eq (row_at (firsts (map (image items) L)) o) (image items (row_at L i))) (length L)
 from1_below (Grouping keys aggs) L o h = places_below (λ i. row_eq (row_at (firsts (map (key_of keys) L)) o) (key_of keys (row_at L i))) (length L)
 
-pub left_below : (op : Op2) (L R : List Row) (o : ℕ) → o < length (step2 op L R) → All (λ r. r < length L) (from_left op L R o)
-left_below (Join pairs) L R o h = one_below (length L) (match_at pairs L R o).0 (matched pairs L R o h).0
-left_below UnionAll L R o h = elim (cases_Bool (nat_lt o (length L))) [
+matched_left : (test : Row → Row → Bool) (L R : List Row) (o : ℕ) → o < length (nested test L R) → All (λ r. r < length L) ((match_at test L R o).0 ∷ [])
+matched_left test L R o h = one_below (length L) (match_at test L R o).0 (matched test L R o h).0
+
+matched_right : (test : Row → Row → Bool) (L R : List Row) (o : ℕ) → o < length (nested test L R) → All (λ r. r < length R) ((match_at test L R o).1 ∷ [])
+matched_right test L R o h = one_below (length R) (match_at test L R o).1 (matched test L R o h).1
+
+pub left_below : (op : Binary) (L R : List Row) (o : ℕ) → o < length (step2 op L R) → All (λ r. r < length L) (from_left op L R o)
+left_below (Equijoin pairs) L R o h = matched_left (agree pairs) L R o h
+left_below (ThetaJoin formula) L R o h = matched_left (meets_together formula) L R o h
+left_below CrossProduct L R o h = matched_left always L R o h
+left_below BagUnion L R o h = elim (cases_Bool (nat_lt o (length L))) [
   | inl p ↦ rw p (one_below (length L) o (ltb-true o (length L) p))
   | inr p ↦ rw p (All-nil (λ r. r < length L))
 ]
-left_below Union L R o h = places_below (λ i. row_eq (row_at (firsts (L ++ R)) o) (row_at L i)) (length L)
+left_below SetUnion L R o h = places_below (λ i. row_eq (row_at (firsts (L ++ R)) o) (row_at L i)) (length L)
 
-pub right_below : (op : Op2) (L R : List Row) (o : ℕ) → o < length (step2 op L R) → All (λ r. r < length R) (from_right op L R o)
-right_below (Join pairs) L R o h = one_below (length R) (match_at pairs L R o).1 (matched pairs L R o h).1
-right_below UnionAll L R o h = elim (cases_Bool (nat_lt o (length L))) [
+pub right_below : (op : Binary) (L R : List Row) (o : ℕ) → o < length (step2 op L R) → All (λ r. r < length R) (from_right op L R o)
+right_below (Equijoin pairs) L R o h = matched_right (agree pairs) L R o h
+right_below (ThetaJoin formula) L R o h = matched_right (meets_together formula) L R o h
+right_below CrossProduct L R o h = matched_right always L R o h
+right_below BagUnion L R o h = elim (cases_Bool (nat_lt o (length L))) [
   | inl p ↦ rw p (All-nil (λ r. r < length R))
   | inr p ↦ rw p (one_below (length R) (o - length L) (let g = ltb-false o (length L) p in omega (arith, h, length-append L R)))
 ]
-right_below Union L R o h = places_below (λ j. row_eq (row_at (firsts (L ++ R)) o) (row_at R j)) (length R)
+right_below SetUnion L R o h = places_below (λ j. row_eq (row_at (firsts (L ++ R)) o) (row_at R j)) (length R)

@@ -52,7 +52,8 @@ marked L i = (row_at L i, λ leaf rid. nat_eq 0 leaf && nat_eq i rid)
 marks_chosen : (plan : Expr) (L : List Row) → is_selection plan ≡ true → ann plan (L ∷ []) ≡ map (marked L) (chosen plan L)
 marks_chosen plan L h = marks_are plan L h ∙ filter_map (λ m. selects plan m.0) (marked L) (upto (length L))
 
-one_leaf : (plan : Expr) → is_selection plan ≡ true → leaves plan ≡ selected_table plan ∷ []
+-- its only leaf scans that table
+pub one_leaf : (plan : Expr) → is_selection plan ≡ true → leaves plan ≡ selected_table plan ∷ []
 one_leaf (Leaf table) h = refl
 one_leaf (Apply (Selection formula) input) h = one_leaf input h
 one_leaf (Apply (Projection items) input) h = absurd (false≢true h)

@@ -1,11 +1,9 @@
 -- Annotated meaning: each row with the set of pairs (leaf, rid) that it came from; and the backward and forward meaning read off it.
 use Rattle.std.specs.Prelude.{ℕ, ◌+◌, Bool, false, ◌&&◌, ◌||◌, List, [], ◌++◌, length, map, slice_index_or, nat_eq}
 use Rattle.std.specs.List.{list_any, flat_map, filter, sum_by}
-use Rattle.smk_base.specs.declared.plan.Op2.{Op2}
-use Rattle.smk_base.specs.declared.plan.Op2.TheVariants.{Join, UnionAll, Union}
-use Rattle.smk_base.specs.Plans.{Unary, Selection, Projection, Distinction, Grouping, Expr, Leaf, Apply, Combine}
+use Rattle.smk_base.specs.Plans.{Unary, Selection, Projection, Distinction, Grouping, Binary, Equijoin, ThetaJoin, CrossProduct, BagUnion, SetUnion, Expr, Leaf, Apply, Combine}
 use Rattle.smk_model.specs.Values.{Row, meets}
-use Rattle.smk_model.specs.Plain.{row_eq, image, key_of, firsts, grouped, agree, leaves, width, eval}
+use Rattle.smk_model.specs.Plain.{row_eq, image, key_of, firsts, grouped, agree, meets_together, always, leaves, width, eval}
 use Rattle.smk_model.specs.Lineage.{upto, places, row_at}
 
 -- a set of pairs (leaf, rid), by its test
@@ -44,10 +42,16 @@ ann1 (Projection items) marked = map (λ m. (image items m.0, m.1)) marked
 ann1 (Distinction items) marked = map (λ r. (r, gathered (λ row. row_eq r (image items row)) marked)) (firsts (map (image items) (rows_of marked)))
 ann1 (Grouping keys aggs) marked = map (λ key. (grouped keys aggs (rows_of marked) key, gathered (λ row. row_eq key (key_of keys row)) marked)) (firsts (map (key_of keys) (rows_of marked)))
 
-abbrev pub ann2 : Op2 → List Marked → List Marked → List Marked
-ann2 (Join pairs) ls rs = flat_map (λ l. map (λ r. (l.0 ++ r.0, both l.1 r.1)) (filter (λ r. agree pairs l.0 r.0) rs)) ls
-ann2 UnionAll ls rs = ls ++ rs
-ann2 Union ls rs = map (λ r. (r, both (gathered (row_eq r) ls) (gathered (row_eq r) rs))) (firsts (rows_of ls ++ rows_of rs))
+-- the rows of a nested loop, each with the sets of its two rows united
+abbrev pub nested_marks : (Row → Row → Bool) → List Marked → List Marked → List Marked
+nested_marks test ls rs = flat_map (λ l. map (λ r. (l.0 ++ r.0, both l.1 r.1)) (filter (λ r. test l.0 r.0) rs)) ls
+
+abbrev pub ann2 : Binary → List Marked → List Marked → List Marked
+ann2 (Equijoin pairs) ls rs = nested_marks (agree pairs) ls rs
+ann2 (ThetaJoin formula) ls rs = nested_marks (meets_together formula) ls rs
+ann2 CrossProduct ls rs = nested_marks always ls rs
+ann2 BagUnion ls rs = ls ++ rs
+ann2 SetUnion ls rs = map (λ r. (r, both (gathered (row_eq r) ls) (gathered (row_eq r) rs))) (firsts (rows_of ls ++ rows_of rs))
 
 -- the marked rows of a plan whose leaves have the lists of E, and their numbers, from the k-th on
 abbrev pub ann_from : Expr → List (List Row) → ℕ → List Marked

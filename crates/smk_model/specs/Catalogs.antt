@@ -13,7 +13,7 @@ use Rattle.smk_base.specs.CatalogImage.{CatalogImage, ViewImage}
 use Rattle.smk_model.specs.Names.{kinds_of}
 use Rattle.smk_model.specs.Kinds.{GroupFits, kinds1}
 use Rattle.smk_model.specs.Tables.{IsBaseColumn}
-use Rattle.smk_model.specs.Typing.{columns_of, table_at}
+use Rattle.smk_model.specs.Typing.{columns_of, info_at}
 use Rattle.smk_model.specs.Selection.{ScansFit, PlanFits, leaf_kinds, plan_kinds, nodes}
 
 -- the limits of tables, views and declared columns
@@ -53,7 +53,7 @@ ExtraFits kinds (Grouped keys aggs names own) = GroupingFits kinds keys aggs nam
 pub record BackFits (tables : List TableInfo) (views : ℕ) (back : Back) : Type 0 where
   pub view : back.view < views
   pub table : back.table < length tables
-  pub extra : ExtraFits (table_kinds (table_at tables back.table)) back.extra
+  pub extra : ExtraFits (table_kinds (info_at tables back.table)) back.extra
 
 pub record FwdFits (tables views : ℕ) (fwd : Fwd) : Type 0 where
   pub table : fwd.table < tables

@@ -2,8 +2,7 @@
 use Rattle.std.specs.Prelude.{◌≡◌, ℕ, ◌<◌, ◌≤◌, false, List, [], ◌∷◌, ◌++◌, length, take, drop, nat_eq}
 use Rattle.std.specs.List.{All}
 use Rattle.smk_base.specs.Places.{Lists, has, IsPlaces, pairs_of, list_at, own_lists, empty_lists, members_at, composed, merged, inverted}
-use Rattle.smk_base.specs.declared.plan.Op2.{Op2}
-use Rattle.smk_base.specs.Plans.{Unary, Expr, Leaf, Apply, Combine}
+use Rattle.smk_base.specs.Plans.{Unary, Binary, Expr, Leaf, Apply, Combine}
 use Rattle.smk_model.specs.Values.{Row}
 use Rattle.smk_model.specs.Plain.{step1, step2, leaves, width, eval, whole}
 use Rattle.smk_model.specs.Locals.{back1, fwd1, back_left, fwd_left, back_right, fwd_right}
@@ -14,13 +13,13 @@ use Rattle.smk_model.specs.Composed.{table_at, rows_over, backs, forwards}
 pub record BacksCompose : Type 0 where
   pub rows_scan : (table : ℕ) (tables : List (List Row)) → rows_over (Leaf table) tables ≡ table_at tables table
   pub rows_one : (op : Unary) (input : Expr) (tables : List (List Row)) → rows_over (Apply op input) tables ≡ step1 op (rows_over input tables)
-  pub rows_two : (op : Op2) (left right : Expr) (tables : List (List Row)) → rows_over (Combine op left right) tables ≡ step2 op (rows_over left tables) (rows_over right tables)
+  pub rows_two : (op : Binary) (left right : Expr) (tables : List (List Row)) → rows_over (Combine op left right) tables ≡ step2 op (rows_over left tables) (rows_over right tables)
   -- each row of a scanned table comes from itself, and from no row of another table
   pub scan : (table : ℕ) (tables : List (List Row)) → backs (Leaf table) tables table ≡ own_lists (length (table_at tables table))
   pub other : (scanned table : ℕ) (tables : List (List Row)) → nat_eq scanned table ≡ false → backs (Leaf scanned) tables table ≡ empty_lists (length (table_at tables scanned)) (length (table_at tables table))
   -- a step's own lists are composed with those of its inputs, and those by two inputs are merged
   pub one : (op : Unary) (input : Expr) (tables : List (List Row)) (table : ℕ) → backs (Apply op input) tables table ≡ composed (back1 op (rows_over input tables)) (backs input tables table)
-  pub two : (op : Op2) (left right : Expr) (tables : List (List Row)) (table : ℕ)
+  pub two : (op : Binary) (left right : Expr) (tables : List (List Row)) (table : ℕ)
       → backs (Combine op left right) tables table ≡ merged (composed (back_left op (rows_over left tables) (rows_over right tables)) (backs left tables table)) (composed (back_right op (rows_over left tables) (rows_over right tables)) (backs right tables table))
 
 -- the forward lists, node by node: those of the inputs, composed with a step's own
@@ -28,7 +27,7 @@ pub record ForwardsCompose : Type 0 where
   pub scan : (table : ℕ) (tables : List (List Row)) → forwards (Leaf table) tables table ≡ own_lists (length (table_at tables table))
   pub other : (scanned table : ℕ) (tables : List (List Row)) → nat_eq scanned table ≡ false → forwards (Leaf scanned) tables table ≡ empty_lists (length (table_at tables table)) (length (table_at tables scanned))
   pub one : (op : Unary) (input : Expr) (tables : List (List Row)) (table : ℕ) → forwards (Apply op input) tables table ≡ composed (forwards input tables table) (fwd1 op (rows_over input tables))
-  pub two : (op : Op2) (left right : Expr) (tables : List (List Row)) (table : ℕ)
+  pub two : (op : Binary) (left right : Expr) (tables : List (List Row)) (table : ℕ)
       → forwards (Combine op left right) tables table ≡ merged (composed (forwards left tables table) (fwd_left op (rows_over left tables) (rows_over right tables))) (composed (forwards right tables table) (fwd_right op (rows_over left tables) (rows_over right tables)))
 
 -- what the lists say of a plan
@@ -56,8 +55,8 @@ pub record ListsStand : Type 0 where
 
 -- the rows of a plan of two inputs, whose leaves' lists are those of the left input and then those of the right one
 pub record LeavesSplit : Type 0 where
-  pub append : (op : Op2) (left right : Expr) (E F : List (List Row)) → length E ≡ width left → eval (Combine op left right) (E ++ F) ≡ step2 op (eval left E) (eval right F)
-  pub cut : (op : Op2) (left right : Expr) (E : List (List Row)) → eval (Combine op left right) E ≡ step2 op (eval left (take (width left) E)) (eval right (drop (width left) E))
+  pub append : (op : Binary) (left right : Expr) (E F : List (List Row)) → length E ≡ width left → eval (Combine op left right) (E ++ F) ≡ step2 op (eval left E) (eval right F)
+  pub cut : (op : Binary) (left right : Expr) (E : List (List Row)) → eval (Combine op left right) E ≡ step2 op (eval left (take (width left) E)) (eval right (drop (width left) E))
 
 -- merged lists have at least the members of each side, so a side with too many has too many merged
 pub record MergedHasBoth : Type 0 where

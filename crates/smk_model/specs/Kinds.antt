@@ -1,5 +1,5 @@
 -- When a step fits the kinds of its inputs, and the kinds of its output. Columns are numbers here, so the rules on their names have no part in it.
-use Rattle.std.specs.Prelude.{ℕ, ◌+◌, ◌<◌, ◌≤◌, max, pos, ◌≤ℤ◌, List, [], ◌∷◌, ◌++◌, length, map, All}
+use Rattle.std.specs.Prelude.{T, ℕ, ◌+◌, ◌<◌, ◌≤◌, pos, ◌≤ℤ◌, List, [], ◌∷◌, ◌++◌, length, map, All}
 use Rattle.std.specs.List.{AllZip}
 use Rattle.smk_base.specs.declared.value.Value.{Value}
 use Rattle.smk_base.specs.declared.value.Value.TheVariants as values
@@ -11,17 +11,14 @@ use Rattle.smk_base.specs.declared.plan.Item.{Item}
 use Rattle.smk_base.specs.declared.plan.Item.TheVariants as items
 use Rattle.smk_base.specs.declared.plan.Agg.{Agg}
 use Rattle.smk_base.specs.declared.plan.Agg.TheVariants.{Count, Sum, Min, Max}
-use Rattle.smk_base.specs.declared.plan.Op2.{Op2}
-use Rattle.smk_base.specs.declared.plan.Op2.TheVariants.{Join, UnionAll, Union}
-use Rattle.smk_base.specs.Plans.{Formula, Comparison, Conjunction, Disjunction, Negation, Unary, Selection, Projection, Distinction, Grouping}
+use Rattle.smk_base.specs.Plans.{Formula, Comparison, Conjunction, Disjunction, Negation, Unary, Selection, Projection, Distinction, Grouping, Binary, Equijoin, ThetaJoin, CrossProduct, BagUnion, SetUnion}
 use Rattle.smk_base.specs.Rels.{kind_in}
+pub use Rattle.smk_base.specs.Widths.{wider}
+use Rattle.smk_model.specs.Names.{same_sort}
 
 -- both ints or both texts; levels may differ
 abbrev pub AreAlike : Kind → Kind → Type 0
-AreAlike (Int a) (Int b) = Unit {0}
-AreAlike (Int a) Text = ⊥
-AreAlike Text (Int b) = ⊥
-AreAlike Text Text = Unit {0}
+AreAlike left right = T (same_sort left right)
 
 -- the kind of a literal
 abbrev pub kind_of : Value → Kind
@@ -78,10 +75,19 @@ pub record GroupFits (kinds : List Kind) (keys : List ℕ) (aggs : List Agg) : T
   pub some : 0 < length keys + length aggs
   pub few : length keys + length aggs ≤ 16
 
+-- both sides have at most 16 columns together
+abbrev pub FewTogether : List Kind → List Kind → Type 0
+FewTogether ls rs = length ls + length rs ≤ 16
+
 -- pairs fit, and both sides have at most 16 columns together
 pub record JoinFits (ls rs : List Kind) (pairs : List (ℕ × ℕ)) : Type 0 where
   pub each : All (PairFits ls rs) pairs
-  pub few : length ls + length rs ≤ 16
+  pub few : FewTogether ls rs
+
+-- a formula fits the left kinds followed by the right ones, and these are at most 16
+pub record ThetaFits (ls rs : List Kind) (formula : Formula) : Type 0 where
+  pub fits : FormulaFits (ls ++ rs) formula
+  pub few : FewTogether ls rs
 
 -- whether a step fits the kinds of its input
 abbrev pub Fits1 : Unary → List Kind → Type 0
@@ -91,10 +97,12 @@ Fits1 (Distinction items) kinds = ItemsFit kinds items
 Fits1 (Grouping keys aggs) kinds = GroupFits kinds keys aggs
 
 -- whether a step fits the kinds of its two inputs: a union has as many columns on both sides, alike in each place
-abbrev pub Fits2 : Op2 → List Kind → List Kind → Type 0
-Fits2 (Join pairs) ls rs = JoinFits ls rs pairs
-Fits2 UnionAll ls rs = AllZip AreAlike ls rs
-Fits2 Union ls rs = AllZip AreAlike ls rs
+abbrev pub Fits2 : Binary → List Kind → List Kind → Type 0
+Fits2 (Equijoin pairs) ls rs = JoinFits ls rs pairs
+Fits2 (ThetaJoin formula) ls rs = ThetaFits ls rs formula
+Fits2 CrossProduct ls rs = FewTogether ls rs
+Fits2 BagUnion ls rs = AllZip AreAlike ls rs
+Fits2 SetUnion ls rs = AllZip AreAlike ls rs
 
 -- the kind of an output column: bin keeps the level
 abbrev pub kind_of_item : List Kind → Item → Kind
@@ -113,13 +121,7 @@ kind_of_agg kinds (Sum c) = summed (kind_in kinds c)
 kind_of_agg kinds (Min c) = kind_in kinds c
 kind_of_agg kinds (Max c) = kind_in kinds c
 
--- the kind that holds the values of both: an int has the greater level
-abbrev pub wider : Kind → Kind → Kind
-wider (Int a) (Int b) = Int (max a b)
-wider (Int a) Text = Int a
-wider Text right = Text
-
--- the same for each place of two lists
+-- the wider kind in each place of two lists
 abbrev pub wider_kinds : List Kind → List Kind → List Kind
 wider_kinds [] rs = []
 wider_kinds (l ∷ ls) [] = []
@@ -132,7 +134,9 @@ kinds1 (Projection items) kinds = map (kind_of_item kinds) items
 kinds1 (Distinction items) kinds = map (kind_of_item kinds) items
 kinds1 (Grouping keys aggs) kinds = map (kind_in kinds) keys ++ map (kind_of_agg kinds) aggs
 
-abbrev pub kinds2 : Op2 → List Kind → List Kind → List Kind
-kinds2 (Join pairs) ls rs = ls ++ rs
-kinds2 UnionAll ls rs = wider_kinds ls rs
-kinds2 Union ls rs = wider_kinds ls rs
+abbrev pub kinds2 : Binary → List Kind → List Kind → List Kind
+kinds2 (Equijoin pairs) ls rs = ls ++ rs
+kinds2 (ThetaJoin formula) ls rs = ls ++ rs
+kinds2 CrossProduct ls rs = ls ++ rs
+kinds2 BagUnion ls rs = wider_kinds ls rs
+kinds2 SetUnion ls rs = wider_kinds ls rs

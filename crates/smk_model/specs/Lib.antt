@@ -8,6 +8,7 @@ pub mod Plain
 pub mod Lineage
 pub mod Kinds
 pub mod Locals
+pub mod Classes
 pub mod Annotated
 pub mod Texts
 pub mod Session
@@ -22,6 +23,8 @@ pub mod Composed
 pub mod ComposedLaws
 pub mod LineageLaws
 pub mod LocalLaws
+pub mod DirectionLaws
+pub mod ClassLaws
 pub mod Examples
 pub mod TokenKinds
 pub mod Tokens
@@ -35,3 +38,5 @@ pub mod FaultTexts
 pub mod ReplyTexts
 pub mod Tables
 pub mod Selection
+pub mod NodeFaults
+pub mod Workload

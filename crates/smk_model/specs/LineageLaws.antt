@@ -2,8 +2,7 @@
 use Rattle.std.specs.Prelude.{◌≡◌, ℕ, ℤ, pos, ◌+◌, ◌<◌, ◌+ℤ◌, ◌*ℤ◌, ◌≤ℤ◌, ◌<ℤ◌, Bool, true, false, ◌&&◌, List, [], ◌∷◌, length, slice_index_or, nat_eq}
 use Rattle.std.specs.List.{filter, list_any, All}
 use Rattle.smk_base.specs.Places.{IsPlaces}
-use Rattle.smk_base.specs.declared.plan.Op2.{Op2}
-use Rattle.smk_base.specs.Plans.{Unary, Selection, Projection, Distinction, Grouping, Expr, Leaf, Apply, Combine}
+use Rattle.smk_base.specs.Plans.{Unary, Selection, Projection, Distinction, Grouping, Binary, Expr, Leaf, Apply, Combine}
 use Rattle.smk_model.specs.Values.{Row, bin, meets}
 use Rattle.smk_model.specs.Plain.{step1, step2, width, eval_from, eval}
 use Rattle.smk_model.specs.Lineage.{places, row_at, sub, from1, from_left, from_right}
@@ -71,7 +70,7 @@ united marked A = λ leaf rid. list_any (λ i. (mark_at marked i).1 leaf rid) A
 pub record StepByStep : Type 0 where
   pub one : (op : Unary) (input : Expr) (E : List (List Row)) (k o leaf rid : ℕ) → o < length (eval_from (Apply op input) E k)
       → (mark_at (ann_from (Apply op input) E k) o).1 leaf rid ≡ united (ann_from input E k) (from1 op (eval_from input E k) o) leaf rid
-  pub two : (op : Op2) (left right : Expr) (E : List (List Row)) (k o leaf rid : ℕ) → o < length (eval_from (Combine op left right) E k)
+  pub two : (op : Binary) (left right : Expr) (E : List (List Row)) (k o leaf rid : ℕ) → o < length (eval_from (Combine op left right) E k)
       → (mark_at (ann_from (Combine op left right) E k) o).1 leaf rid
       ≡ both (united (ann_from left E k) (from_left op (eval_from left E k) (eval_from right E (k + width left)) o))
       (united (ann_from right E (k + width left)) (from_right op (eval_from left E k) (eval_from right E (k + width left)) o)) leaf rid
@@ -84,8 +83,8 @@ pub record BinIsFloor : Type 0 where
 
 -- the places of one step meet the conditions of Cui and Widom, for every step
 pub record CuiWidom : Type 0 where
-  pub one : (op : Unary) (L : List Row) (o : ℕ) → o < length (step1 op L) → CuiWidom1 op L o (from1 op L o)
-  pub two : (op : Op2) (L R : List Row) (o : ℕ) → o < length (step2 op L R) → CuiWidom2 op L R o (from_left op L R o) (from_right op L R o)
+  pub one : (op : Unary) (L : List Row) (o : ℕ) → o < length (step1 op L) → CuiWidom1 (step1 op) L o (from1 op L o)
+  pub two : (op : Binary) (L R : List Row) (o : ℕ) → o < length (step2 op L R) → CuiWidom2 (step2 op) L R o (from_left op L R o) (from_right op L R o)
 
 -- the answers to backward and forward queries are ascending, without repeats and in range
 pub record AnswersArePlaces : Type 0 where

@@ -13,9 +13,9 @@ use Rattle.smk_base.specs.declared.type_fault.TypeFault.TheVariants.{UnknownColu
 abbrev pub Typed : Type 0 → Type 0
 Typed A = Result A TypeFault
 
--- one rule after another: the first fault is the fault
+-- one step after another: the first fault is the fault
 infixl 10 ◌>>=◌
-abbrev pub ◌>>=◌ : {A B : Type 0} → Typed A → (A → Typed B) → Typed B
+abbrev pub ◌>>=◌ : {A B E : Type 0} → Result A E → (A → Result B E) → Result B E
 (Ok a) >>= next = next a
 (Err fault) >>= next = Err fault
 

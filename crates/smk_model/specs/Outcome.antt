@@ -18,7 +18,7 @@ use Rattle.smk_model.specs.Plain.{eval, whole}
 use Rattle.smk_model.specs.Tokens.{tokens}
 use Rattle.smk_model.specs.Grammar.{AreStmts}
 use Rattle.smk_model.specs.Machine.{book_fault}
-use Rattle.smk_model.specs.Names.{Typed}
+use Rattle.smk_model.specs.Names.{Typed, ◌>>=◌}
 use Rattle.smk_model.specs.Typing.{types}
 use Rattle.smk_model.specs.Tables.{table_of, all_or_first}
 use Rattle.smk_model.specs.Selection.{first_full}
@@ -51,11 +51,6 @@ plain_words (a ∷ b ∷ c ∷ rest) = None
 abbrev pub words_of : List (List ℕ) → Option Words
 words_of words = cond (list_any is_option words) None (plain_words words)
 
--- what comes next where there is no fault yet
-abbrev pub next : {A B : Type 0} → Result A Fault → (A → Result B Fault) → Result B Fault
-next (Ok a) f = f a
-next (Err fault) f = Err fault
-
 -- the most bytes that a file may have
 abbrev pub file_limit : ℕ
 file_limit = 67108864
@@ -65,7 +60,7 @@ abbrev pub kept_short : List ℕ → List ℕ → Result (List ℕ) Fault
 kept_short name bytes = cond (nat_lt file_limit (length bytes)) (Err (FileLong name)) (Ok bytes)
 
 abbrev pub content_of : Held → List ℕ → Result (List ℕ) Fault
-content_of held name = next (ok_or (held name) (Unread name)) (kept_short name)
+content_of held name = ok_or (held name) (Unread name) >>= kept_short name
 
 -- the statements that a text spells, or its first fault
 pub data Parses (text : List ℕ) : Result (List StmtImage) Fault → Type 0 where
@@ -115,7 +110,7 @@ or_table_fault table (Err fault) = Err (fault_of_table table fault)
 
 -- the rows of a table, by its file
 abbrev pub load : Held → TableInfo → Result (List Row) Fault
-load held table = next (content_of held table.file) (λ bytes. or_table_fault table (table_of table.cols bytes))
+load held table = content_of held table.file >>= λ bytes. or_table_fault table (table_of table.cols bytes)
 
 -- the rows of each table in the book's order, or the first fault
 abbrev pub load_all : Held → List TableInfo → Result (List (List Row)) Fault
@@ -163,7 +158,7 @@ pub data ReadsInputs (words : List (List ℕ)) (held : Held) : Result Inputs Fau
 
 -- the report of what was read, unless a node of a view has too many rows
 abbrev pub reported : Inputs → Result Report Fault
-reported given = next (view_contents given.book) (λ contents. Ok (report_of given.book given.readings))
+reported given = view_contents given.book >>= λ contents. Ok (report_of given.book given.readings)
 
 -- the outcome of a run: its report or the first fault
 pub data Outcome (words : List (List ℕ)) (held : Held) : Result Report Fault → Type 0 where

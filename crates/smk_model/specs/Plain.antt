@@ -1,28 +1,23 @@
 -- Plain meaning: relational algebra over lists of rows.
-use Rattle.std.specs.Prelude.{ℕ, ℤ, pos, ◌+◌, ◌+ℤ◌, Bool, cond, ◌&&◌, true, List, [], ◌∷◌, ◌++◌, length, map, slice_index_or}
+use Rattle.std.specs.Prelude.{ℕ, ℤ, pos, ◌+◌, ◌+ℤ◌, Bool, cond, ◌&&◌, true, false, List, [], ◌∷◌, ◌++◌, length, map, slice_index_or}
 use Rattle.std.specs.List.{list_any, flat_map, filter, fold}
 use Rattle.std.specs.Cmp.Lexicographic.{pointwise}
 use Rattle.std.specs.Ordering.{is_lt, is_gt}
 use Rattle.smk_base.specs.declared.value.Value.{Value}
-use Rattle.smk_base.specs.declared.value.Value.TheVariants.{Int, Text}
+use Rattle.smk_base.specs.declared.value.Value.TheVariants.{Int}
 use Rattle.smk_base.specs.declared.plan.Item.{Item}
 use Rattle.smk_base.specs.declared.plan.Item.TheVariants.{Col, Bin}
 use Rattle.smk_base.specs.declared.plan.Agg.{Agg}
 use Rattle.smk_base.specs.declared.plan.Agg.TheVariants.{Count, Sum, Min, Max}
-use Rattle.smk_base.specs.declared.plan.Op2.{Op2}
-use Rattle.smk_base.specs.declared.plan.Op2.TheVariants.{Join, UnionAll, Union}
-use Rattle.smk_base.specs.Plans.{Unary, Selection, Projection, Distinction, Grouping, Expr, Leaf, Apply, Combine}
+use Rattle.smk_base.specs.Plans.{Formula, Unary, Selection, Projection, Distinction, Grouping, Binary, Equijoin, ThetaJoin, CrossProduct, BagUnion, SetUnion, Expr, Leaf, Apply, Combine}
 use Rattle.smk_base.specs.Values.{value_eq}
+pub use Rattle.smk_base.specs.Rels.{number_of}
+use Rattle.smk_base.specs.Rels.{picked}
 use Rattle.smk_model.specs.Values.{Row, value_at, value_cmp, bin, meets}
 
 -- whether two rows are equal
 abbrev pub row_eq : Row → Row → Bool
 row_eq = pointwise value_eq
-
--- the number of an int, and 0 for a text, which no typed sum or bin meets
-abbrev pub number_of : Value → ℤ
-number_of (Int n) = n
-number_of (Text t) = pos 0
 
 -- an output column of a projection, at a row
 abbrev pub item_at : Row → Item → Value
@@ -35,7 +30,7 @@ image items row = map (item_at row) items
 
 -- the key of a row
 abbrev pub key_of : List ℕ → Row → Row
-key_of keys row = map (value_at row) keys
+key_of keys row = picked keys row
 
 -- the members, each at its first occurrence
 abbrev pub add_first : List Row → Row → List Row
@@ -76,6 +71,34 @@ abbrev pub agree : List (ℕ × ℕ) → Row → Row → Bool
 agree [] l r = true
 agree (pair ∷ pairs) l r = value_eq (value_at l pair.0) (value_at r pair.1) && agree pairs l r
 
+-- whether a left row followed by a right row meets a formula
+abbrev pub meets_together : Formula → Row → Row → Bool
+meets_together formula l r = meets formula (l ++ r)
+
+-- the test that every pair of rows passes
+abbrev pub always : Row → Row → Bool
+always l r = true
+
+-- for each left row in order, each right row in order that passes the test with it: the left row followed by the right row
+abbrev pub nested : (Row → Row → Bool) → List Row → List Row → List Row
+nested test L R = flat_map (λ l. map (λ r. l ++ r) (filter (test l) R)) L
+
+-- whether a step puts rows of both sides beside each other
+abbrev pub is_join : Binary → Bool
+is_join (Equijoin pairs) = true
+is_join (ThetaJoin formula) = true
+is_join CrossProduct = true
+is_join BagUnion = false
+is_join SetUnion = false
+
+-- the test of a join's nested loop; a union puts no rows beside each other
+abbrev pub joins : Binary → Row → Row → Bool
+joins (Equijoin pairs) = agree pairs
+joins (ThetaJoin formula) = meets_together formula
+joins CrossProduct = always
+joins BagUnion = λ l r. false
+joins SetUnion = λ l r. false
+
 -- one step over its input, or over its two inputs
 abbrev pub step1 : Unary → List Row → List Row
 step1 (Selection formula) L = filter (meets formula) L
@@ -83,10 +106,12 @@ step1 (Projection items) L = map (image items) L
 step1 (Distinction items) L = firsts (map (image items) L)
 step1 (Grouping keys aggs) L = map (grouped keys aggs L) (firsts (map (key_of keys) L))
 
-abbrev pub step2 : Op2 → List Row → List Row → List Row
-step2 (Join pairs) L R = flat_map (λ l. map (λ r. l ++ r) (filter (agree pairs l) R)) L
-step2 UnionAll L R = L ++ R
-step2 Union L R = firsts (L ++ R)
+abbrev pub step2 : Binary → List Row → List Row → List Row
+step2 (Equijoin pairs) L R = nested (agree pairs) L R
+step2 (ThetaJoin formula) L R = nested (meets_together formula) L R
+step2 CrossProduct L R = nested always L R
+step2 BagUnion L R = L ++ R
+step2 SetUnion L R = firsts (L ++ R)
 
 -- the tables that the leaves scan, left to right
 abbrev pub leaves : Expr → List ℕ
@@ -108,6 +133,14 @@ eval_from (Combine op left right) E k = step2 op (eval_from left E k) (eval_from
 abbrev pub eval : Expr → List (List Row) → List Row
 eval plan E = eval_from plan E 0
 
+-- the rows of the table with this number
+abbrev pub table_at : List (List Row) → ℕ → List Row
+table_at tables table = slice_index_or tables table []
+
 -- one list per leaf, each the whole table
 abbrev pub whole : Expr → List (List Row) → List (List Row)
-whole plan tables = map (λ table. slice_index_or tables table []) (leaves plan)
+whole plan tables = map (table_at tables) (leaves plan)
+
+-- the rows of a plan over whole tables
+abbrev pub rows_over : Expr → List (List Row) → List Row
+rows_over plan tables = eval plan (whole plan tables)

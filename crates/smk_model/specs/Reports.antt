@@ -6,7 +6,8 @@ use Rattle.smk_model.specs.Tables.{numbered}
 use Rattle.smk_model.specs.Texts.{view_text, bad_line_text}
 use Rattle.smk_model.specs.ReplyTexts.{reply_text}
 use Rattle.smk_model.specs.Readings.{Reading, Nothing, Asks, Unread}
-use Rattle.smk_model.specs.Session.{Workbook, rows_of_plan, reply, is_refused}
+use Rattle.smk_model.specs.Plain.{rows_over}
+use Rattle.smk_model.specs.Session.{Workbook, reply, is_refused}
 
 -- what a run writes, and whether a line was refused or unread
 pub record Report : Type 0 where
@@ -15,7 +16,7 @@ pub record Report : Type 0 where
 
 -- the text of a view as it is first evaluated
 abbrev pub text_of_view : Workbook → ViewImage → List ℕ
-text_of_view book view = view_text view.name view.names (rows_of_plan book view.plan)
+text_of_view book view = view_text view.name view.names (rows_over view.plan book.tables)
 
 -- the text of the line with this number; a line that says nothing has none
 abbrev pub text_of_reading : Workbook → ℕ → Reading → List ℕ

@@ -6,7 +6,7 @@ use Rattle.smk_base.specs.declared.pick.Pick.{Pick}
 use Rattle.smk_base.specs.Rels.{Relation}
 use Rattle.smk_base.specs.Plans.{Expr, Leaf, Apply, Combine}
 use Rattle.smk_model.specs.Values.{Row}
-use Rattle.smk_model.specs.Plain.{leaves, width, eval}
+use Rattle.smk_model.specs.Plain.{leaves, width, eval, table_at}
 use Rattle.smk_model.specs.Lineage.{sub}
 use Rattle.smk_model.specs.Kinds.{Fits1, Fits2, kinds1, kinds2}
 
@@ -29,7 +29,7 @@ kept_rows None rows = rows
 
 -- one list per leaf: the picked rows of a table that is picked, else the whole table
 abbrev pub selected : List (List Row) → List Pick → ℕ → List Row
-selected tables picks table = kept_rows (picked picks table) (slice_index_or tables table [])
+selected tables picks table = kept_rows (picked picks table) (table_at tables table)
 
 abbrev pub over : Expr → List (List Row) → List Pick → List (List Row)
 over plan tables picks = map (selected tables picks) (leaves plan)
@@ -45,7 +45,7 @@ rows_in lists = sum_by length lists
 -- a pick names a table, and rows of it
 pub record PickFits (tables : List (List Row)) (pick : Pick) : Type 0 where
   pub known : pick.table < length tables
-  pub rows : All (λ rid. rid < length (slice_index_or tables pick.table [])) pick.rids
+  pub rows : All (λ rid. rid < length (table_at tables pick.table)) pick.rids
 
 -- whether every leaf of a plan scans one of n tables
 abbrev pub ScansFit : ℕ → Expr → Type 0

@@ -1,10 +1,8 @@
 -- What a session answers.
-use Rattle.std.specs.Prelude.{ℕ, Bool, true, false, cond, ◌&&◌, ◌||◌, nat_eq, nat_le, List, [], length, slice_index_or, position, Option, Some, None}
-use Rattle.std.specs.List.{find, list_any}
-use Rattle.smk_base.specs.Plans.{Expr, Leaf}
+use Rattle.std.specs.Prelude.{ℕ, Bool, true, false, cond, nat_le, List, [], length, slice_index_or, position, Option, Some, None}
+use Rattle.std.specs.List.{find}
+use Rattle.smk_base.specs.Plans.{Leaf}
 use Rattle.smk_base.specs.CatalogImage.{CatalogImage, ViewImage}
-use Rattle.smk_base.specs.declared.catalog.Back.{Back}
-use Rattle.smk_base.specs.declared.catalog.LinkInfo.{LinkInfo}
 use Rattle.smk_base.specs.declared.tree.Line.{Line}
 use Rattle.smk_base.specs.declared.tree.Line.TheVariants as lines
 use Rattle.smk_base.specs.declared.tree.Marks.{Marks}
@@ -15,11 +13,12 @@ use Rattle.smk_base.specs.declared.reply.Refusal.{Refusal}
 use Rattle.smk_base.specs.declared.reply.Refusal.TheVariants.{UnknownView, UnknownTable, Undeclared, NoRow}
 use Rattle.smk_model.specs.Values.{Row}
 use Rattle.smk_model.specs.Names.{same_name}
-use Rattle.smk_model.specs.Plain.{eval, whole}
+use Rattle.smk_model.specs.Plain.{table_at, whole, rows_over}
 use Rattle.smk_model.specs.Lineage.{upto, sub}
 use Rattle.smk_model.specs.Annotated.{back}
-use Rattle.smk_model.specs.Typing.{table_at}
+use Rattle.smk_model.specs.Typing.{info_at}
 use Rattle.smk_model.specs.Catalogs.{table_kinds}
+pub use Rattle.smk_model.specs.Workload.{is_back, is_link, declares_back}
 
 -- a checked book, and the rows of its tables
 pub record Workbook : Type 0 where
@@ -42,24 +41,11 @@ view_at catalog v = slice_index_or catalog.views v no_view
 
 -- the rows of a table
 abbrev pub rows_of_table : Workbook → ℕ → List Row
-rows_of_table book t = slice_index_or book.tables t []
+rows_of_table book t = table_at book.tables t
 
--- the rows of a plan, and of a view as it is first evaluated
-abbrev pub rows_of_plan : Workbook → Expr → List Row
-rows_of_plan book plan = eval plan (whole plan book.tables)
-
+-- the rows of a view as it is first evaluated
 abbrev pub rows_of_view : Workbook → ℕ → List Row
-rows_of_view book v = rows_of_plan book (view_at book.catalog v).plan
-
--- a backward query is declared by a backward declaration in any form, and by a link
-abbrev pub is_back : ℕ → ℕ → Back → Bool
-is_back v t declared = nat_eq declared.view v && nat_eq declared.table t
-
-abbrev pub is_link : ℕ → ℕ → LinkInfo → Bool
-is_link v t link = nat_eq link.view v && nat_eq link.table t
-
-abbrev pub declares_back : CatalogImage → ℕ → ℕ → Bool
-declares_back catalog v t = list_any (is_back v t) catalog.backs || list_any (is_link v t) catalog.links
+rows_of_view book v = rows_over (view_at book.catalog v).plan book.tables
 
 -- the numbers that a line writes, and the places among n that it marks
 abbrev pub written : Marks → List ℕ
@@ -86,7 +72,7 @@ unless_outside None rows answer = answer
 
 -- the rows of a table with these rids
 abbrev pub rows_reply : Workbook → ℕ → List ℕ → Reply
-rows_reply book t rids = replies.Back rids (record { kinds = table_kinds (table_at book.catalog.tables t); rows = sub (rows_of_table book t) rids })
+rows_reply book t rids = replies.Back rids (record { kinds = table_kinds (info_at book.catalog.tables t); rows = sub (rows_of_table book t) rids })
 
 -- the rids of a table that the rows of a view at these places came from
 abbrev pub rids_back : Workbook → ℕ → ℕ → List ℕ → List ℕ

@@ -15,11 +15,7 @@ use Rattle.smk_base.specs.declared.fault.TableFault.TheVariants as faults
 use Rattle.smk_base.specs.Rels.{Fits}
 use Rattle.smk_base.specs.Ints.{is_blank, int_of}
 use Rattle.smk_base.specs.Marks.{after_marks}
-
--- what follows a step that may fail
-abbrev pub then_try : {A B E : Type 0} → Result A E → (A → Result B E) → Result B E
-then_try (Ok x) next = next x
-then_try (Err e) next = Err e
+use Rattle.smk_model.specs.Names.{◌>>=◌}
 
 -- a function of each member and its number, from n on
 abbrev pub numbered : {A B : Type 0} → (ℕ → A → B) → ℕ → List A → List B
@@ -29,7 +25,10 @@ numbered f n (x ∷ xs) = f n x ∷ numbered f (n + 1) xs
 -- all the values in order, or else the first fault
 abbrev pub all_or_first : {A E : Type 0} → List (Result A E) → Result (List A) E
 all_or_first [] = Ok []
-all_or_first (r ∷ rs) = then_try r (λ x. then_try (all_or_first rs) (λ xs. Ok (x ∷ xs)))
+all_or_first (r ∷ rs) = do
+  x ← r
+  xs ← all_or_first rs
+  Ok (x ∷ xs)
 
 -- the places, from n on, at which the header has this name
 abbrev pub places_of : List ℕ → ℕ → List (List ℕ) → List ℕ
@@ -75,8 +74,8 @@ record_row cols places width n fields =
 abbrev pub table_of_records : List ColDecl → List (List (List ℕ)) → Result (List (List Value)) TableFault
 table_of_records cols [] = Err faults.NoHeader
 table_of_records cols (header ∷ rest) =
-    then_try (all_or_first (numbered (column_place header) 0 cols)) (λ places.
-    all_or_first (numbered (record_row cols places (length header)) 1 rest))
+    all_or_first (numbered (column_place header) 0 cols) >>= λ places.
+    all_or_first (numbered (record_row cols places (length header)) 1 rest)
 
 -- the rows of the bytes of a file, after every byte order mark at its front
 unfoldable pub table_of : List ColDecl → List ℕ → Result (List (List Value)) TableFault

@@ -20,9 +20,7 @@ use Rattle.smk_base.specs.declared.plan.Agg.{Agg}
 use Rattle.smk_base.specs.declared.plan.Agg.TheVariants as aggs
 use Rattle.smk_base.specs.declared.catalog.Column.{Column}
 use Rattle.smk_base.specs.declared.type_fault.TypeFault.TheVariants.{KindMismatch, DuplicateName, SumTooDeep, UnionShape, EmptyList, RowTooWide}
-use Rattle.smk_base.specs.declared.plan.Op2.{Op2}
-use Rattle.smk_base.specs.declared.plan.Op2.TheVariants as ops
-use Rattle.smk_base.specs.Plans.{Formula, Comparison, Conjunction, Disjunction, Negation, Expr, Apply, Combine, Selection, Projection, Distinction, Grouping}
+use Rattle.smk_base.specs.Plans.{Formula, Comparison, Conjunction, Disjunction, Negation, Selection, Projection, Distinction, Grouping, Binary, Equijoin, Expr, Apply, Combine}
 use Rattle.smk_base.specs.Trees.{PredImage, CompareNode, AndNode, OrNode, NotNode}
 use Rattle.smk_model.specs.Kinds.{kind_of, wider}
 use Rattle.smk_model.specs.Names.{Typed, ◌>>=◌, unless, in_turn, has_name, column_named, same_sort, is_text}
@@ -196,9 +194,9 @@ abbrev pub joined_plan : ℕ → List PairTree → TypedPlan → TypedPlan → T
 joined_plan at trees left right = do
   pairs ← in_turn (pair_after left.columns right.columns) [] trees
   columns ← joined at left.columns right.columns
-  Ok (record { plan = Combine (ops.Join pairs) left.plan right.plan; columns = columns })
+  Ok (record { plan = Combine (Equijoin pairs) left.plan right.plan; columns = columns })
 
-abbrev pub united_plan : Op2 → ℕ → TypedPlan → TypedPlan → Typed TypedPlan
+abbrev pub united_plan : Binary → ℕ → TypedPlan → TypedPlan → Typed TypedPlan
 united_plan op at left right = do
   columns ← united at left.columns right.columns
   Ok (record { plan = Combine op left.plan right.plan; columns = columns })

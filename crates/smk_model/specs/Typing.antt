@@ -8,7 +8,6 @@ use Rattle.smk_base.specs.declared.tree.Lit.{Lit}
 use Rattle.smk_base.specs.declared.tree.Decl.{Decl}
 use Rattle.smk_base.specs.declared.tree.Extra.{Extra}
 use Rattle.smk_base.specs.declared.tree.Extra.TheVariants as extras
-use Rattle.smk_base.specs.declared.plan.Op2.TheVariants as ops
 use Rattle.smk_base.specs.declared.col_decl.ColDecl.{ColDecl}
 use Rattle.smk_base.specs.declared.catalog.Column.{Column}
 use Rattle.smk_base.specs.declared.catalog.TableInfo.{TableInfo}
@@ -18,7 +17,7 @@ use Rattle.smk_base.specs.declared.catalog.BackExtra.TheVariants as back_extras
 use Rattle.smk_base.specs.declared.catalog.Fwd.{Fwd}
 use Rattle.smk_base.specs.declared.catalog.LinkInfo.{LinkInfo}
 use Rattle.smk_base.specs.declared.type_fault.TypeFault.TheVariants.{UnknownTable, UnknownView, DuplicateName, KindMismatch, SelfLink, RepeatedDeclaration}
-use Rattle.smk_base.specs.Plans.{Leaf}
+use Rattle.smk_base.specs.Plans.{BagUnion, SetUnion, Leaf}
 use Rattle.smk_base.specs.Trees.{TreeImage, ScanNode, StepNode, StepImage, SelectNode, ProjectNode, DistinctNode, GroupNode, JoinNode, UnionAllNode, UnionNode, StmtImage, TableNode, ViewNode, BackNode, FwdNode, LinkNode}
 use Rattle.smk_base.specs.CatalogImage.{ViewImage, CatalogImage}
 use Rattle.smk_model.specs.Kinds.{kind_of}
@@ -36,8 +35,8 @@ abbrev pub no_table : TableInfo
 no_table = record { name = []; file = []; cols = [] }
 
 -- the table with this number
-abbrev pub table_at : List TableInfo → ℕ → TableInfo
-table_at tables t = slice_index_or tables t no_table
+abbrev pub info_at : List TableInfo → ℕ → TableInfo
+info_at tables t = slice_index_or tables t no_table
 
 -- the number of the table that a word names: declared before, else UnknownTable at the word
 abbrev pub table_named : List TableInfo → Word → Typed ℕ
@@ -50,7 +49,7 @@ view_named views word = ok_or (place_of word.name (map (λ view. view.name) view
 -- a plan over tables, and a step at its place over a typed input: the input first, then the second source, then the lists, then the step as a whole
 abbrev mutual
   pub typed_plan : List TableInfo → TreeImage → Typed TypedPlan
-  typed_plan tables (ScanNode word) = table_named tables word >>= λ t. Ok (record { plan = Leaf t; columns = columns_of (table_at tables t) })
+  typed_plan tables (ScanNode word) = table_named tables word >>= λ t. Ok (record { plan = Leaf t; columns = columns_of (info_at tables t) })
   typed_plan tables (StepNode at input what) = typed_plan tables input >>= λ left. typed_step tables what at left
 
   pub typed_step : List TableInfo → StepImage → ℕ → TypedPlan → Typed TypedPlan
@@ -59,8 +58,8 @@ abbrev mutual
   typed_step tables (DistinctNode items) at left = distinct left items
   typed_step tables (GroupNode keys aggs) at left = grouped at left keys aggs
   typed_step tables (JoinNode source pairs) at left = typed_plan tables source >>= λ right. joined_plan at pairs left right
-  typed_step tables (UnionAllNode source) at left = typed_plan tables source >>= λ right. united_plan ops.UnionAll at left right
-  typed_step tables (UnionNode source) at left = typed_plan tables source >>= λ right. united_plan ops.Union at left right
+  typed_step tables (UnionAllNode source) at left = typed_plan tables source >>= λ right. united_plan BagUnion at left right
+  typed_step tables (UnionNode source) at left = typed_plan tables source >>= λ right. united_plan SetUnion at left right
 
 -- the kind that a declaration gives its column
 abbrev pub declared_kind : Bool → Kind
@@ -125,7 +124,7 @@ abbrev pub back_after : CatalogImage → ℕ → Word → Word → Extra → Typ
 back_after catalog at view table extra = do
   v ← view_named catalog.views view
   t ← table_named catalog.tables table
-  asked ← typed_extra (columns_of (table_at catalog.tables t)) extra
+  asked ← typed_extra (columns_of (info_at catalog.tables t)) extra
   new_back catalog at (record { view = v; table = t; extra = asked })
 
 -- whether two forward declarations have the same table and view

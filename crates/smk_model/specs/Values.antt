@@ -1,5 +1,5 @@
 -- Value order, the floor of a quotient, and what a predicate says of a row.
-use Rattle.std.specs.Prelude.{ℕ, ℤ, pos, Bool, not, ◌&&◌, ◌||◌, List, slice_index_or}
+use Rattle.std.specs.Prelude.{ℕ, ℤ, Bool, not, ◌&&◌, ◌||◌, List}
 use Rattle.std.specs.declared.cmp.Ordering.{Ordering}
 use Rattle.std.specs.declared.cmp.Ordering.TheVariants.{Less, Greater}
 use Rattle.std.specs.Ordering.{int_cmp, nat_cmp, is_eq, is_ne, is_lt, is_le, is_gt, is_ge}
@@ -11,6 +11,7 @@ use Rattle.smk_base.specs.declared.plan.CmpOp.{CmpOp}
 use Rattle.smk_base.specs.declared.plan.CmpOp.TheVariants.{Eq, Ne, Lt, Le, Gt, Ge}
 use Rattle.smk_base.specs.declared.plan.Operand.{Operand}
 use Rattle.smk_base.specs.declared.plan.Operand.TheVariants.{Col, Lit}
+use Rattle.smk_base.specs.Rels.{value_in}
 use Rattle.smk_base.specs.Plans.{Formula, Comparison, Conjunction, Disjunction, Negation}
 
 -- the values of a row, by column
@@ -30,7 +31,7 @@ bin v w = int_div_euclid v w
 
 -- the value in column c
 abbrev pub value_at : Row → ℕ → Value
-value_at row c = slice_index_or row c (Int (pos 0))
+value_at row c = value_in row c
 
 -- whether a comparison holds of values in this order
 abbrev pub holds : CmpOp → Ordering → Bool

@@ -1,9 +1,12 @@
 //! All laws, by name.
 
+pub use crate::class_laws::{bulk, classes_are};
 pub use crate::composed_laws::{
     backs_compose, forwards_compose, leaves_split, lists_stand, merged_has_both,
 };
+pub use crate::direction_laws::{inverses, one_each, pairs_forward};
 pub use crate::example_laws::{examples_hold, runs_hold};
+pub use crate::fault_laws::{first_of_all, nothing_asked};
 pub use crate::grammar_laws::{
     faultless_have_trees, faultless_keep_limits, faults_stay, one_book, one_line,
     taken_are_completed, texts_are_read,

@@ -1,8 +1,11 @@
 //! The definitions of what Smoke's plans, books, scripts and runs mean, in `specs/`, and the laws over them. No program code uses it when it runs.
 #![tactic(auto)]
 
+pub mod class_laws;
 pub mod composed_laws;
+pub mod direction_laws;
 pub mod example_laws;
+pub mod fault_laws;
 pub mod grammar_laws;
 pub mod laws;
 pub mod lineage_laws;

@@ -1,0 +1,38 @@
+-- The declared workload: which lineage queries a book declares, and which lineage each view needs for them.
+use Rattle.std.specs.Prelude.{ℕ, Bool, ◌&&◌, ◌||◌, nat_eq, List, length, map}
+use Rattle.std.specs.List.{list_any, filter}
+use Rattle.smk_base.specs.Places.{upto, has}
+use Rattle.smk_base.specs.Needs.{is_needed}
+use Rattle.smk_base.specs.CatalogImage.{CatalogImage}
+use Rattle.smk_base.specs.declared.catalog.Back.{Back}
+use Rattle.smk_base.specs.declared.catalog.Fwd.{Fwd}
+use Rattle.smk_base.specs.declared.catalog.LinkInfo.{LinkInfo}
+use Rattle.smk_base.specs.declared.need.Needed.{Needed}
+
+-- the backward query of a view to a table is declared by a backward declaration in any form, and by a link of the view on the table
+abbrev pub is_back : ℕ → ℕ → Back → Bool
+is_back v t declared = nat_eq declared.view v && nat_eq declared.table t
+
+abbrev pub is_link : ℕ → ℕ → LinkInfo → Bool
+is_link v t link = nat_eq link.view v && nat_eq link.table t
+
+abbrev pub declares_back : CatalogImage → ℕ → ℕ → Bool
+declares_back catalog v t = list_any (is_back v t) catalog.backs || list_any (is_link v t) catalog.links
+
+-- the forward query of a table to a view is declared by a forward declaration, and by a link on the table to the view
+abbrev pub is_fwd : ℕ → ℕ → Fwd → Bool
+is_fwd v t declared = nat_eq declared.view v && nat_eq declared.table t
+
+abbrev pub is_linked : ℕ → ℕ → LinkInfo → Bool
+is_linked v t link = has link.to v && nat_eq link.table t
+
+abbrev pub declares_fwd : CatalogImage → ℕ → ℕ → Bool
+declares_fwd catalog v t = list_any (is_fwd v t) catalog.fwds || list_any (is_linked v t) catalog.links
+
+-- a table in the directions of the declared queries between it and a view
+abbrev pub needed_at : CatalogImage → ℕ → ℕ → Needed
+needed_at catalog v t = record { table = t; dir = record { back = declares_back catalog v t; fwd = declares_fwd catalog v t } }
+
+-- the needs of a view: of the tables in order those that some declared query of the view names, in exactly its directions
+abbrev pub needs : CatalogImage → ℕ → List Needed
+needs catalog v = filter is_needed (map (needed_at catalog v) (upto (length catalog.tables)))
