@@ -22,8 +22,8 @@ impl<L: Ledger> Model for Steps<L> {
 }
 
 impl<L: Ledger> Steps<L> {
-    /// A counter at 0, over a ledger that nothing was written in.
-    pub fn new(blank: Blank) -> Steps<L>
+    /// A counter at 0, over a ledger that nothing was written in. Only `main` and tests have the runtime itself to give, so no library call makes a counter of its own.
+    pub fn new(_system: HostRuntime, blank: Blank) -> Steps<L>
         requires name { L.name ≡ blank.name }
         requires parts { L.parts ≡ blank.parts }
         requires some { 0 < blank.parts }
