@@ -11,12 +11,13 @@ use Rattle.smk_base.specs.declared.fault.TableFault.{TableFault}
 use Rattle.smk_base.specs.Rels.{Fits, RowFits}
 use Rattle.smk_base.specs.Ints.{is_blank, int_of}
 use Rattle.smk_base.proofs.IntNumerals.{IsIntText-int_of}
-use Rattle.smk_model.specs.Tables.{then_try, all_or_first, numbered, cell_value, field_value, int_value, text_value, kinds_of, IsBase, IsBaseColumn}
+use Rattle.smk_model.specs.Names.{◌>>=◌}
+use Rattle.smk_model.specs.Tables.{all_or_first, numbered, cell_value, field_value, int_value, text_value, kinds_of, IsBase, IsBaseColumn}
 
 -- both steps gave a value
-pub then_try-ok : {A B E : Type 0} (r : Result A E) (next : A → Result B E) (y : B) → then_try r next ≡ Ok y → (x : A) × (r ≡ Ok x) × (next x ≡ Ok y)
-then_try-ok (Ok x) next y e = (x, refl, e)
-then_try-ok (Err f) next y e = absurd (cc)
+pub made_from : {A B E : Type 0} (r : Result A E) (next : A → Result B E) (y : B) → ◌>>=◌ r next ≡ Ok y → (x : A) × (r ≡ Ok x) × (next x ≡ Ok y)
+made_from (Ok x) next y e = (x, refl, e)
+made_from (Err f) next y e = absurd (cc)
 
 -- the int of a field fits level 0
 int_fits : (field : List ℕ) (o : Option ℤ) (x : Value) → int_of field ≡ o → option_map values.Int o ≡ Some x → Fits (kinds.Int 0) x
@@ -53,8 +54,8 @@ pub row_fits : (places : List ℕ) (n : ℕ) (fields : List (List ℕ)) (c : ℕ
 row_fits places n fields c [] [] base e = tt
 row_fits places n fields c [] (x ∷ xs) base e = absurd (cc)
 row_fits places n fields c (decl ∷ decls) row base e =
-    let first = then_try-ok _ _ row e in
-    let rest = then_try-ok _ _ row first.2 in
+    let first = made_from _ _ row e in
+    let rest = made_from _ _ row first.2 in
     let here = base 0 decl (omega arith) in
     let fits = value_fits decl.kind decl.def _ first.0 here.base here.default_fits (ok_or-ok _ _ first.0 first.1) in
     let same : first.0 ∷ rest.0 ≡ row = cc in

@@ -7,7 +7,8 @@ use Rattle.smk_base.specs.declared.col_decl.ColDecl.{ColDecl}
 use Rattle.smk_base.specs.Rels.{Relation, IsRelation, Fits, IsColumn, row_in}
 use Rattle.smk_base.specs.Marks.{after_marks}
 use Rattle.csv.specs.Reading.{records, default_config}
-use Rattle.smk_model.specs.Tables.{then_try, all_or_first, numbered, kinds_of, IsBase, IsBaseColumn, table_of, table_of_records}
+use Rattle.smk_model.specs.Names.{◌>>=◌}
+use Rattle.smk_model.specs.Tables.{all_or_first, numbered, kinds_of, IsBase, IsBaseColumn, table_of, table_of_records}
 
 -- the rows so far, and then those of the rest
 abbrev pub behind : {B E : Type 0} → List B → List B → Result (List B) E
@@ -15,10 +16,10 @@ behind done rest = Ok (done ++ rest)
 
 -- one more row
 pub all_or_first-step : {A B E : Type 0} (f : ℕ → A → Result B E) (n : ℕ) (x : A) (xs : List A) (done : List B) (y : B) → f n x ≡ Ok y
-    → then_try (all_or_first (numbered f n (x ∷ xs))) (behind done) ≡ then_try (all_or_first (numbered f (n + 1) xs)) (behind (done ++ y ∷ []))
+    → ◌>>=◌ (all_or_first (numbered f n (x ∷ xs))) (behind done) ≡ ◌>>=◌ (all_or_first (numbered f (n + 1) xs)) (behind (done ++ y ∷ []))
 all_or_first-step {A} {B} {E} f n x xs done y e = rw e (by (all_or_first (numbered f (n + 1) xs)))
   where
-    by : (r : Result (List B) E) → then_try (then_try r (λ ys. Ok (y ∷ ys))) (behind {E = E} done) ≡ then_try r (behind (done ++ y ∷ []))
+    by : (r : Result (List B) E) → ◌>>=◌ (◌>>=◌ r (λ ys. Ok (y ∷ ys))) (behind {E = E} done) ≡ ◌>>=◌ r (behind (done ++ y ∷ []))
     by (Ok ys) = ap (λ l. Ok l) (sym (append_assoc done (y ∷ []) ys))
     by (Err e) = refl
 

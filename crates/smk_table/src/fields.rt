@@ -1,14 +1,19 @@
-ghost use Rattle.std.specs.Prelude.{◌≡◌, ◌≢◌, ◌⊎◌, ◌<◌, ◌≤◌, [], length, All, IfOk, IfErr, Ok, Err, slice_index_or};
+ghost use Rattle.std.specs.Prelude.{◌≡◌, ◌≢◌, ◌⊎◌, ◌<◌, ◌≤◌, ◌+◌, [], ◌∷◌, ◌++◌, length, IfOk, IfErr, OnOk, Ok, Err, slice_index_or};
 ghost use Rattle.std.specs.List.{list_all};
+ghost use Rattle.std.specs.Option.{option_map};
 ghost use Rattle.csv.specs.Records.{fields_of};
 ghost use Rattle.smk_base.specs.declared.fault.TableFault.TheVariants.{NoMemory};
 ghost use Rattle.smk_base.specs.Ints.{is_blank};
-ghost use Rattle.smk_base.specs.Rels.{RowFits};
+ghost use Rattle.smk_base.specs.Cells.{value_of_cell};
 ghost use Rattle.smk_model.specs.Tables.{AreColumns, all_or_first, numbered, column_place, cell_value, field_value, int_value, text_value, record_row, kinds_of};
+ghost use Rattle.smk_table.specs.Growing.{with_row};
 
 use csv::ByteRecord;
-use smk_base::{ColDecl, ColDecls, Kind, ROW_LIMIT, Row, TableFault, Text, Value, read_int};
-use std::alloc::{AllocError, Global};
+use smk_base::{CellRef, ColDecl, ColDecls, Kind, ROW_LIMIT, Rel, TableFault, Value, read_int};
+use std::alloc::Global;
+
+// How many columns a table has at most.
+const MOST_COLUMNS: usize = 16;
 
 /// The field at a place, and no bytes past the last.
 fn field_at(fields: &ByteRecord, place: usize) -> &[u8]
@@ -60,78 +65,82 @@ fn is_blank_field(field: &[u8]) -> bool
 }
 
 /// The value of a field in an int column, if it has one.
-fn read_int_value(
-    alloc: Global,
-    def: &Option<Value>,
-    field: &[u8],
-) -> Result<Option<Value>, AllocError>
-    ensures { IfOk result (λ value. value ≡ int_value def.now field.now) }
+fn int_cell<'a>(def: &'a Option<Value>, field: &[u8]) -> Option<CellRef<'a>>
+    ensures { option_map value_of_cell result ≡ int_value def.now field.now }
 {
     match def {
-        Some(value) if is_blank_field(field) => Ok(Some(value.copy(alloc)?)),
-        _ => Ok(read_int(field).map(|number| Value::Int(i128::from(number)))),
+        Some(value) if is_blank_field(field) => Some(value.as_cell()),
+        _ => match read_int(field) {
+            Some(number) => Some(CellRef::Int(i128::from(number))),
+            None => None,
+        },
     }
 }
 
 /// The value of a field in a text column.
-fn read_text_value(alloc: Global, def: &Option<Value>, field: &[u8]) -> Result<Value, AllocError>
-    ensures { IfOk result (λ value. value ≡ text_value def.now field.now) }
+fn text_cell<'a>(def: &'a Option<Value>, field: &'a [u8]) -> CellRef<'a>
+    ensures { value_of_cell result ≡ text_value def.now field.now }
 {
     match def {
-        Some(value) if field.is_empty() => value.copy(alloc),
-        _ => Ok(Value::Text(Text::from_vec(Vec::from_slice(alloc, field)?))),
+        Some(value) if field.is_empty() => value.as_cell(),
+        _ => CellRef::Text(field),
     }
 }
 
 /// The value of a field in a declared column, if it has one.
-fn read_value(alloc: Global, decl: &ColDecl, field: &[u8]) -> Result<Option<Value>, AllocError>
-    ensures { IfOk result (λ value. value ≡ field_value decl.now.kind decl.now.def field.now) }
+fn field_cell<'a>(decl: &'a ColDecl, field: &'a [u8]) -> Option<CellRef<'a>>
+    ensures { option_map value_of_cell result ≡ field_value decl.now.kind decl.now.def field.now }
 {
     match decl.kind {
-        Kind::Int { level: _ } => read_int_value(alloc, &decl.def, field),
-        Kind::Text => Ok(Some(read_text_value(alloc, &decl.def, field)?)),
+        Kind::Int { level: _ } => int_cell(&decl.def, field),
+        Kind::Text => Some(text_cell(&decl.def, field)),
     }
 }
 
-/// The values of record number nth in the declared columns, whose fields stand at these places.
-fn read_values(
-    alloc: Global,
-    cols: &ColDecls,
+/// Puts the values of record number nth in the declared columns, whose fields stand at these places, last.
+fn push_values<'a>(
+    rel: &mut Rel,
+    cols: &'a ColDecls,
     places: &[usize],
     nth: u32,
-    fields: &ByteRecord,
-) -> Result<Row, TableFault>
-    requires few { length cols.now ≤ 16 }
+    fields: &'a ByteRecord,
+) -> Result<(), TableFault>
+    requires columns { AreColumns cols.now }
     requires places { length places.now ≡ length cols.now }
-    ensures ok { IfOk result (λ row. all_or_first (numbered (cell_value places.now nth (fields_of fields.now)) 0 cols.now) ≡ Ok row) }
+    requires kinds { rel.old.kinds ≡ kinds_of cols.now }
+    requires room { length rel.old.rows < 1048576 }
+    ensures kinds { rel.new.kinds ≡ rel.old.kinds }
+    ensures pushed { OnOk result (with_row rel.old.rows (all_or_first (numbered (cell_value places.now nth (fields_of fields.now)) 0 cols.now)) ≡ Ok rel.new.rows) }
     ensures fault { IfErr result (λ fault. (fault ≡ NoMemory) ⊎ (all_or_first (numbered (cell_value places.now nth (fields_of fields.now)) 0 cols.now) ≡ Err fault)) }
 {
-    let mut values = Vec::with_capacity(alloc, places.len())?;
+    let mut cells = [CellRef::Int(0); MOST_COLUMNS];
     for (c, decl) in cols.as_slice().iter().enumerate() {
-        match read_value(alloc, decl, field_at(fields, places[c]))? {
-            Some(value) => values.push(value)?,
-            None => {
-                return Err(TableFault::BadInt { nth, col: c as u32 });
-            }
+        match field_cell(decl, field_at(fields, places[c])) {
+            Some(cell) => cells[c] = cell,
+            None => return Err(TableFault::BadInt { nth, col: c as u32 }),
         }
     }
-    Ok(Row::from_vec(values))
+    rel.push_cells(&cells[..places.len()])?;
+    Ok(())
 }
 
-/// The row of record number nth, counted from 1 behind a header of this width.
-pub(crate) fn read_row(
-    alloc: Global,
-    cols: &ColDecls,
+/// Puts the row of record number nth, counted from 1 behind a header of this width, last.
+pub(crate) fn push_record<'a>(
+    rel: &mut Rel,
+    cols: &'a ColDecls,
     places: &[usize],
     width: usize,
     nth: u32,
-    fields: &ByteRecord,
-) -> Result<Row, TableFault>
+    fields: &'a ByteRecord,
+) -> Result<(), TableFault>
     requires columns { AreColumns cols.now }
     requires places { length places.now ≡ length cols.now }
-    ensures ok { IfOk result (λ row. record_row cols.now places.now width nth (fields_of fields.now) ≡ Ok row) }
+    requires kinds { rel.old.kinds ≡ kinds_of cols.now }
+    requires count { length rel.old.rows + 1 ≡ nth }
+    requires few { length rel.old.rows ≤ 1048576 }
+    ensures kinds { rel.new.kinds ≡ rel.old.kinds }
+    ensures pushed { OnOk result (with_row rel.old.rows (record_row cols.now places.now width nth (fields_of fields.now)) ≡ Ok rel.new.rows) }
     ensures room { IfOk result (λ _. nth ≢ 1048577) }
-    ensures fits { IfOk result (λ row. RowFits (kinds_of cols.now) row) }
     ensures fault { IfErr result (λ fault. (fault ≡ NoMemory) ⊎ (record_row cols.now places.now width nth (fields_of fields.now) ≡ Err fault)) }
 {
     if nth == ROW_LIMIT + 1 {
@@ -140,5 +149,5 @@ pub(crate) fn read_row(
     if fields.len() != width {
         return Err(TableFault::Ragged { nth });
     }
-    read_values(alloc, cols, places, nth, fields)
+    push_values(rel, cols, places, nth, fields)
 }

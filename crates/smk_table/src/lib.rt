@@ -9,6 +9,3 @@ mod table;
 pub use records::read_table;
 pub use smk_base::TableFault;
 pub use table::Table;
-
-#[cfg(test)]
-mod tests;

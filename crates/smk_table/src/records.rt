@@ -4,7 +4,7 @@ ghost use Rattle.smk_base.specs.declared.fault.TableFault.TheVariants.{NoMemory}
 ghost use Rattle.smk_model.specs.Tables.{AreColumns, IsBase, table_of, table_of_records, kinds_of, all_or_first, numbered, record_row};
 ghost use Rattle.smk_table.specs.Reading.{IsBetween, records_left};
 
-use crate::fields::{column_places, read_row};
+use crate::fields::{column_places, push_record};
 use crate::reading::{next_record, reader_of};
 use crate::table::Table;
 use csv::{ByteRecord, Reader};
@@ -42,15 +42,7 @@ fn read_records(
     let places = column_places(alloc, fields, cols)?;
     let width = fields.len();
     let mut rel = empty_rel(alloc, cols)?;
-    read_rows(
-        alloc,
-        reader,
-        fields,
-        cols,
-        places.as_slice(),
-        width,
-        &mut rel,
-    )?;
+    read_rows(reader, fields, cols, places.as_slice(), width, &mut rel)?;
     Ok(Table::of_rel(rel))
 }
 
@@ -76,7 +68,6 @@ fn kinds_in(alloc: Global, cols: &ColDecls) -> Result<Vec<Kind>, AllocError>
 
 /// Puts the rows of all the records that are left into an empty Rel.
 fn read_rows(
-    alloc: Global,
     reader: &mut Reader<&[u8]>,
     fields: &mut ByteRecord,
     cols: &ColDecls,
@@ -97,8 +88,7 @@ fn read_rows(
         if !next_record(reader, fields)? {
             return Ok(());
         }
-        let row = read_row(alloc, cols, places, width, nth, fields)?;
-        rel.push_row(row)?;
+        push_record(rel, cols, places, width, nth, fields)?;
     }
     unreachable!()
 }

@@ -1,6 +1,6 @@
-ghost use Rattle.std.specs.Prelude.{◌≡◌, ◌+◌, ◌<◌, ◌≤◌, [], length, All, OnOk, OnErr};
+ghost use Rattle.std.specs.Prelude.{◌≡◌, ◌+◌, ◌<◌, ◌≤◌, [], length, All, IfOk, OnOk, OnErr};
 ghost use Rattle.smk_base.specs.Cells.{value_of_cell};
-ghost use Rattle.smk_base.specs.Rels.{IsRelation, Fits, kind_in, row_in, value_in};
+ghost use Rattle.smk_base.specs.Rels.{IsRelation, Fits, kind_in, row_in, rows_at, value_in};
 ghost use Rattle.smk_model.specs.Tables.{IsBase};
 
 use smk_base::{CellRef, Kind, Rel, Row};
@@ -85,6 +85,31 @@ impl Table {
         filled
     }
 
+    /// The rows at these rids, in this order. It is one look for each, also where it wants memory.
+    pub fn gather<L: Ledger>(
+        &self,
+        alloc: Global,
+        rids: &[u32],
+        steps: &mut Steps<L>,
+    ) -> Result<Rel, AllocError>
+        requires inside { All (λ rid. rid < length self.now.rows) rids.now }
+        requires few { length rids.now ≤ 1048576 }
+        ensures rows { IfOk result (λ rel. rel ≡ record { kinds = self.now.kinds; rows = rows_at self.now.rows rids.now }) }
+        ensures looks { steps.new ≡ steps.old + length rids.now }
+    {
+        count_looks(rids.len() as u32, steps);
+        self.rel.gather(alloc, rids)
+    }
+
+    /// All rows. It is one look for each, also where it wants memory.
+    pub fn whole<L: Ledger>(&self, alloc: Global, steps: &mut Steps<L>) -> Result<Rel, AllocError>
+        ensures rows { IfOk result (λ rel. rel ≡ self.now) }
+        ensures looks { steps.new ≡ steps.old + length self.now.rows }
+    {
+        count_looks(self.rel.len(), steps);
+        self.rel.copy(alloc)
+    }
+
     /// The value of a column at a rid. It is one look and takes no memory.
     pub fn cell<L: Ledger>(&self, rid: u32, col: u32, steps: &mut Steps<L>) -> CellRef<'_>
         requires row { rid < length self.now.rows }
@@ -108,4 +133,13 @@ fn fill_row(alloc: Global, rel: &Rel, row: u32, into: &mut Row) -> Result<(), Al
         into.push(rel.cell(row, c).to_value(alloc)?)?;
     }
     Ok(())
+}
+
+/// Counts so many looks.
+fn count_looks<L: Ledger>(looks: u32, steps: &mut Steps<L>)
+    ensures { steps.new ≡ steps.old + looks }
+{
+    for _look in 0..looks {
+        steps.tick();
+    }
 }

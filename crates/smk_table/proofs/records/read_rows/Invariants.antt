@@ -1,5 +1,6 @@
 use Rattle.std.proofs.Common.{◌≡◌, ◌≤◌, ◌+◌, ◌++◌, length, Ok}
-use Rattle.smk_model.specs.Tables.{all_or_first, numbered, record_row, then_try, kinds_of}
+use Rattle.smk_model.specs.Names.{◌>>=◌}
+use Rattle.smk_model.specs.Tables.{all_or_first, numbered, record_row, kinds_of}
 use Rattle.smk_table.specs.Reading.{IsBetween, records_left}
 use Rattle.smk_table.proofs.records.read_rows.Given as goal
 
@@ -10,5 +11,5 @@ invariant-loop-nth l = record {
   count : length l.rel.rows + 1 ≡ l.nth;
   few : length l.rel.rows ≤ 1048576;
   whole : all_or_first (numbered (record_row l.cols l.places l.width) 1 (records_left l.fn.reader))
-      ≡ then_try (all_or_first (numbered (record_row l.cols l.places l.width) l.nth (records_left l.reader))) (λ rest. Ok (l.rel.rows ++ rest));
+      ≡ ◌>>=◌ (all_or_first (numbered (record_row l.cols l.places l.width) l.nth (records_left l.reader))) (λ rest. Ok (l.rel.rows ++ rest));
 }
