@@ -18,6 +18,3 @@ pub use book::parse_book;
 pub use line::parse_line;
 pub use script::line_at;
 pub use smk_base::{BookFault, LineFault, LineSpan, Many};
-
-#[cfg(test)]
-mod tests;
