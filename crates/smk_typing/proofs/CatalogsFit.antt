@@ -32,7 +32,7 @@ use Rattle.smk_model.specs.Plain.{leaves}
 use Rattle.smk_model.specs.Selection.{ScansFit, PlanFits, leaf_kinds, plan_kinds}
 use Rattle.smk_model.specs.Limits.{KeepsLimits, KeepsStmt, KeepsDecls, KeepsPlan, IsInRange, DefaultInRange}
 use Rattle.smk_model.specs.TypedSteps.{TypedPlan, typed_group}
-use Rattle.smk_model.specs.Typing.{types, stmt_after, nothing_declared, columns_of, table_at, no_table, table_named, view_named, typed_plan, declared_kind, declared_column, decl_after, table_after, view_of, view_after, typed_extra, same_back, back_after, same_fwd, fwd_after, same_link, linked_to, all_linked, to_after, link_after}
+use Rattle.smk_model.specs.Typing.{types, stmt_after, nothing_declared, columns_of, info_at, no_table, table_named, view_named, typed_plan, declared_kind, declared_column, decl_after, table_after, view_of, view_after, typed_extra, same_back, back_after, same_fwd, fwd_after, same_link, linked_to, all_linked, to_after, link_after}
 use Rattle.smk_model.specs.Catalogs.{table_kinds, each_table_kinds, ViewFits, ExtraFits, BackFits, FwdFits, LinkFits, IsTyped}
 use Rattle.smk_typing.proofs.Results.{made_of, unless_ok, in_turn_keeps}
 use Rattle.smk_typing.proofs.StepsFit.{named_is, kinds_long, alike}
@@ -197,11 +197,11 @@ back_kept : (old new : CatalogImage) (at : ℕ) (view table : Word) (extra : Ext
 back_kept old new at view table extra typed e =
     let v = made_of (view_named old.views view) _ new e in
     let t = made_of (table_named old.tables table) _ new v.2 in
-    let asked = made_of (typed_extra (columns_of (table_at old.tables t.0)) extra) _ new t.2 in
+    let asked = made_of (typed_extra (columns_of (info_at old.tables t.0)) extra) _ new t.2 in
     let back : Back = record { view = v.0; table = t.0; extra = asked.0 } in
     let fresh = unless_ok (list_any (same_back back) old.backs) (RepeatedDeclaration at) (Ok (record old { backs = old.backs ++ back ∷ [] })) new asked.2 in
     let same : (let it : CatalogImage = record old { backs = old.backs ++ back ∷ [] } in it) ≡ new = cc fresh.1 in
-    let fit : BackFits old.tables (length old.views) back = record { view = view_is old.views view v.0 v.1; table = table_is old.tables table t.0 t.1; extra = extra_stands (columns_of (table_at old.tables t.0)) extra asked.0 asked.1 } in
+    let fit : BackFits old.tables (length old.views) back = record { view = view_is old.views view v.0 v.1; table = table_is old.tables table t.0 t.1; extra = extra_stands (columns_of (info_at old.tables t.0)) extra asked.0 asked.1 } in
     subst IsTyped same (record { columns = typed.columns; views = typed.views; backs = All-push (BackFits old.tables (length old.views)) old.backs back typed.backs fit; fwds = typed.fwds; links = typed.links })
 
 fwd_kept : (old new : CatalogImage) (at : ℕ) (table view : Word) → IsTyped old → fwd_after old at table view ≡ Ok new → IsTyped new

@@ -9,3 +9,4 @@ pub mod PlansFit
 pub mod NodesKept
 pub mod CatalogsFit
 pub mod Books
+pub mod NeedsBelow

@@ -8,12 +8,10 @@ use Rattle.std.proofs.lemmas.List.Elements.{All-push, All-nil}
 use Rattle.smk_base.specs.declared.value.Kind.{Kind}
 use Rattle.smk_base.specs.declared.tree.Word.{Word}
 use Rattle.smk_base.specs.declared.tree.PairTree.{PairTree}
-use Rattle.smk_base.specs.declared.plan.Op2.{Op2}
-use Rattle.smk_base.specs.declared.plan.Op2.TheVariants as ops
 use Rattle.smk_base.specs.declared.catalog.Column.{Column}
 use Rattle.smk_base.specs.declared.catalog.TableInfo.{TableInfo}
 use Rattle.smk_base.specs.declared.type_fault.TypeFault.TheVariants.{KindMismatch, DuplicateName, RowTooWide, UnionShape, UnknownTable}
-use Rattle.smk_base.specs.Plans.{Expr, Leaf, Apply, Combine, Unary, Selection, Projection, Distinction, Grouping}
+use Rattle.smk_base.specs.Plans.{Expr, Leaf, Apply, Combine, Unary, Selection, Projection, Distinction, Grouping, Binary, Equijoin, BagUnion, SetUnion}
 use Rattle.smk_base.specs.Trees.{TreeImage, ScanNode, StepNode, StepImage, SelectNode, ProjectNode, DistinctNode, GroupNode, JoinNode, UnionAllNode, UnionNode}
 use Rattle.smk_base.specs.Rels.{kind_in}
 use Rattle.smk_model.specs.Names.{in_turn, place_of, same_name, column_named, kinds_of, same_sort}
@@ -22,7 +20,7 @@ use Rattle.smk_model.specs.Plain.{leaves, width}
 use Rattle.smk_model.specs.Selection.{ScansFit, PlanFits, leaf_kinds, plan_kinds}
 use Rattle.smk_model.specs.Limits.{KeepsTree, KeepsStep}
 use Rattle.smk_model.specs.TypedSteps.{TypedPlan, typed_pred, typed_items, typed_group, pair_after, share_a_name, joined, same_shape, united_column, united, united_plan}
-use Rattle.smk_model.specs.Typing.{table_named, table_at, no_table, columns_of, typed_plan, typed_step}
+use Rattle.smk_model.specs.Typing.{table_named, info_at, no_table, columns_of, typed_plan, typed_step}
 use Rattle.smk_model.specs.Catalogs.{table_kinds, each_table_kinds}
 use Rattle.smk_typing.proofs.Results.{made_of, unless_ok, in_turn_keeps}
 use Rattle.smk_typing.proofs.StepsFit.{named_is, kinds_long, alike, pred_fits}
@@ -69,7 +67,7 @@ wider_same (l ∷ ls) [] e = absurd (omega (arith, e))
 wider_same (l ∷ ls) (r ∷ rs) e = let even : length ls ≡ length rs = omega (arith, e) in ap (λ ks. wider l.kind r.kind ∷ ks) (wider_same ls rs even)
 
 -- what two inputs make fits them, and the columns have its kinds
-abbrev Fits2Made : Op2 → List Column → List Column → List Column → Type 0
+abbrev Fits2Made : Binary → List Column → List Column → List Column → Type 0
 Fits2Made op lefts rights columns = Fits2 op (kinds_of lefts) (kinds_of rights) × (kinds2 op (kinds_of lefts) (kinds_of rights) ≡ kinds_of columns)
 
 united_parts : (at : ℕ) (lefts rights columns : List Column) → united at lefts rights ≡ Ok columns → AllZip AreAlike (kinds_of lefts) (kinds_of rights) × (wider_kinds (kinds_of lefts) (kinds_of rights) ≡ kinds_of columns)
@@ -80,7 +78,7 @@ united_parts at lefts rights columns e =
     let same : map united_column (zip lefts rights) ≡ columns = cc whole.1 in
     (shapes_fit lefts rights even both.1, wider_same lefts rights even ∙ ap kinds_of same)
 
-joined_parts : (at : ℕ) (trees : List PairTree) (pairs : List (ℕ × ℕ)) (lefts rights columns : List Column) → in_turn (pair_after lefts rights) [] trees ≡ Ok pairs → joined at lefts rights ≡ Ok columns → Fits2Made (ops.Join pairs) lefts rights columns
+joined_parts : (at : ℕ) (trees : List PairTree) (pairs : List (ℕ × ℕ)) (lefts rights columns : List Column) → in_turn (pair_after lefts rights) [] trees ≡ Ok pairs → joined at lefts rights ≡ Ok columns → Fits2Made (Equijoin pairs) lefts rights columns
 joined_parts at trees pairs lefts rights columns paired e =
     let fit = in_turn_keeps (PairsFit lefts rights) (λ w. Unit {0}) (pair_after lefts rights) (pair_more lefts rights) [] pairs trees (All-nil _) (λ k d p. tt) paired in
     let first = unless_ok (share_a_name lefts rights) (DuplicateName at) _ columns e in
@@ -97,7 +95,7 @@ pub record Stands (tables : List TableInfo) (typed : TypedPlan) : Type 0 where
   pub fits : (more : List (List Kind)) → PlanFits typed.plan (leaf_kinds typed.plan (each_table_kinds tables) ++ more)
   pub kinds : (more : List (List Kind)) → plan_kinds typed.plan (leaf_kinds typed.plan (each_table_kinds tables) ++ more) ≡ kinds_of typed.columns
 
-scan_stands : (tables : List TableInfo) (t : ℕ) → t < length tables → Stands tables (record { plan = Leaf t; columns = columns_of (table_at tables t) })
+scan_stands : (tables : List TableInfo) (t : ℕ) → t < length tables → Stands tables (record { plan = Leaf t; columns = columns_of (info_at tables t) })
 scan_stands tables t below = record {
   scans = below;
   fits = λ more. tt;
@@ -113,7 +111,7 @@ step_stands tables left op columns stands fits e = record {
 }
 
 -- the leaves of both inputs
-leaves_two : (K : List (List Kind)) (a b : Expr) (op : Op2) (more : List (List Kind)) → leaf_kinds (Combine op a b) K ++ more ≡ leaf_kinds a K ++ (leaf_kinds b K ++ more)
+leaves_two : (K : List (List Kind)) (a b : Expr) (op : Binary) (more : List (List Kind)) → leaf_kinds (Combine op a b) K ++ more ≡ leaf_kinds a K ++ (leaf_kinds b K ++ more)
 leaves_two K a b op more = ap (λ l. l ++ more) (map-append (λ table. get_or K table []) (leaves a) (leaves b)) ∙ append_assoc (leaf_kinds a K) (leaf_kinds b K) more
 
 behind_left : (K : List (List Kind)) (a : Expr) (more : List (List Kind)) → drop (width a) (leaf_kinds a K ++ more) ≡ more
@@ -121,7 +119,7 @@ behind_left K a more =
     let long : length (leaf_kinds a K) ≡ width a = length-map (leaves a) (λ table. get_or K table []) in
     ap (λ n. drop n (leaf_kinds a K ++ more)) (sym long) ∙ drop-append_seam (leaf_kinds a K) more
 
-both_stand : (tables : List TableInfo) (left right : TypedPlan) (op : Op2) (columns : List Column) → Stands tables left → Stands tables right → Fits2Made op left.columns right.columns columns
+both_stand : (tables : List TableInfo) (left right : TypedPlan) (op : Binary) (columns : List Column) → Stands tables left → Stands tables right → Fits2Made op left.columns right.columns columns
     → Stands tables (record { plan = Combine op left.plan right.plan; columns = columns })
 both_stand tables left right op columns l r made =
     let K : List (List Kind) = each_table_kinds tables in
@@ -152,7 +150,7 @@ table_there tables word (Some c) t p e =
 pub table_is : (tables : List TableInfo) (word : Word) (t : ℕ) → table_named tables word ≡ Ok t → t < length tables
 table_is tables word t e = table_there tables word (place_of word.name (map (λ table. table.name) tables)) t refl e
 
-united_stands : (tables : List TableInfo) (at : ℕ) (op : Op2) (left right typed : TypedPlan) → ((l r : List Kind) → AllZip AreAlike l r → Fits2 op l r) → ((l r : List Kind) → kinds2 op l r ≡ wider_kinds l r)
+united_stands : (tables : List TableInfo) (at : ℕ) (op : Binary) (left right typed : TypedPlan) → ((l r : List Kind) → AllZip AreAlike l r → Fits2 op l r) → ((l r : List Kind) → kinds2 op l r ≡ wider_kinds l r)
     → Stands tables left → Stands tables right → united_plan op at left right ≡ Ok typed → Stands tables typed
 united_stands tables at op left right typed fits kinds l r e =
     let made = made_of (united at left.columns right.columns) _ typed e in
@@ -165,7 +163,7 @@ mutual
   pub plan_stands : (tables : List TableInfo) (tree : TreeImage) (typed : TypedPlan) → KeepsTree tree → typed_plan tables tree ≡ Ok typed → Stands tables typed
   plan_stands tables (ScanNode word) typed keeps e =
       let found = made_of (table_named tables word) _ typed e in
-      let same : (let it : TypedPlan = record { plan = Leaf found.0; columns = columns_of (table_at tables found.0) } in it) ≡ typed = cc found.2 in
+      let same : (let it : TypedPlan = record { plan = Leaf found.0; columns = columns_of (info_at tables found.0) } in it) ≡ typed = cc found.2 in
       subst (Stands tables) same (scan_stands tables found.0 (table_is tables word found.0 found.1))
   plan_stands tables (StepNode at input what) typed keeps e =
       let left = made_of (typed_plan tables input) _ typed e in
@@ -196,11 +194,11 @@ mutual
       let paired = made_of (in_turn (pair_after left.columns right.0.columns) [] pairs) _ typed right.2 in
       let made = made_of (joined at left.columns right.0.columns) _ typed paired.2 in
       let fit = joined_parts at pairs paired.0 left.columns right.0.columns made.0 paired.1 made.1 in
-      let same : (let it : TypedPlan = record { plan = Combine (ops.Join paired.0) left.plan right.0.plan; columns = made.0 } in it) ≡ typed = cc made.2 in
-      subst (Stands tables) same (both_stand tables left right.0 (ops.Join paired.0) made.0 stands (plan_stands tables source right.0 keeps right.1) fit)
+      let same : (let it : TypedPlan = record { plan = Combine (Equijoin paired.0) left.plan right.0.plan; columns = made.0 } in it) ≡ typed = cc made.2 in
+      subst (Stands tables) same (both_stand tables left right.0 (Equijoin paired.0) made.0 stands (plan_stands tables source right.0 keeps right.1) fit)
   stepped_stands tables (UnionAllNode source) at left typed keeps stands e =
       let right = made_of (typed_plan tables source) _ typed e in
-      united_stands tables at ops.UnionAll left right.0 typed (λ l r f. f) (λ l r. refl) stands (plan_stands tables source right.0 keeps right.1) right.2
+      united_stands tables at BagUnion left right.0 typed (λ l r f. f) (λ l r. refl) stands (plan_stands tables source right.0 keeps right.1) right.2
   stepped_stands tables (UnionNode source) at left typed keeps stands e =
       let right = made_of (typed_plan tables source) _ typed e in
-      united_stands tables at ops.Union left right.0 typed (λ l r f. f) (λ l r. refl) stands (plan_stands tables source right.0 keeps right.1) right.2
+      united_stands tables at SetUnion left right.0 typed (λ l r f. f) (λ l r. refl) stands (plan_stands tables source right.0 keeps right.1) right.2

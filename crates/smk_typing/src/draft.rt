@@ -85,7 +85,7 @@ impl Draft {
     pub fn columns(&self, alloc: Global, table: u32) -> Result<Columns, TypeFault>
         requires draft { IsDraft self.now }
         requires within { table < length self.now.catalog.tables }
-        ensures columns { Finds result (Ok (typing.columns_of (typing.table_at self.now.catalog.tables table))) (λ columns. columns) }
+        ensures columns { Finds result (Ok (typing.columns_of (typing.info_at self.now.catalog.tables table))) (λ columns. columns) }
         ensures width { IfOk result (λ columns. length columns ≤ 16) }
     {
         columns_of(alloc, &self.catalog.tables.as_slice()[table as usize])

@@ -7,16 +7,16 @@ mod declared;
 mod draft;
 mod links;
 mod lists;
+mod needs;
 mod plan;
 mod predicate;
 mod pushes;
 mod sides;
 mod statements;
-#[cfg(test)]
-mod tests;
 mod typed;
 mod typed_book;
 
 pub use book::check;
+pub use needs::needed;
 pub use smk_base::TypeFault;
 pub use typed_book::TypedBook;

@@ -1,4 +1,5 @@
 ghost use Rattle.std.specs.Prelude.{◌≤◌, length, IfOk};
+ghost use Rattle.smk_base.specs.PlanImage.{binary_of};
 ghost use Rattle.smk_base.specs.TreeImage.{pred_image, tree_image, step_image};
 ghost use Rattle.smk_model.specs.Limits.{KeepsTree, KeepsStep, KeepsItems};
 ghost use Rattle.smk_model.specs.TypedSteps as steps;
@@ -126,7 +127,7 @@ fn united_plan(
     right: Typed,
 ) -> Result<Typed, TypeFault>
     requires { length left.columns ≤ 16 }
-    ensures plan { Finds result (steps.united_plan op at (plan_of left) (plan_of right)) plan_of }
+    ensures plan { Finds result (steps.united_plan (binary_of op) at (plan_of left) (plan_of right)) plan_of }
     ensures width { IfOk result (λ typed. length typed.columns ≤ 16) }
 {
     let Typed {

@@ -1,13 +1,12 @@
 ghost use Rattle.std.specs.Prelude.{◌≡◌, ◌≤◌, ◌++◌, length, map, IfOk, OnOk, Ok};
 ghost use Rattle.std.specs.List.{list_any, list_all, zip};
-ghost use Rattle.smk_model.specs.Kinds as kinds;
 ghost use Rattle.smk_model.specs.Names.{has_name, same_sort};
 ghost use Rattle.smk_model.specs.TypedSteps as steps;
 ghost use Rattle.smk_model.specs.TypedSteps.{united_column};
 ghost use Rattle.smk_typing.specs.Answers.{Finds};
 
 use crate::columns::is_same_sort;
-use smk_base::{Column, Columns, Kind, Text, TypeFault};
+use smk_base::{Column, Columns, Text, TypeFault};
 use std::alloc::Global;
 
 /// Whether a column has this name.
@@ -53,19 +52,6 @@ fn are_same_sorts(lefts: &[Column], rights: &[Column]) -> bool
         .all(|(left, right)| is_same_sort(left.kind, right.kind))
 }
 
-/// The kind that holds the values of both.
-fn wider(left: Kind, right: Kind) -> Kind
-    ensures { result ≡ kinds.wider left right }
-{
-    match left {
-        Kind::Int { level: a } => match right {
-            Kind::Int { level: b } => Kind::Int { level: a.max(b) },
-            Kind::Text => left,
-        },
-        Kind::Text => Kind::Text,
-    }
-}
-
 /// The column that is united from a left and a right one.
 fn united_column(alloc: Global, left: &Column, right: &Column) -> Result<Column, TypeFault>
     ensures { Finds result (Ok (steps.united_column (left.now, right.now))) (λ column. column) }
@@ -73,7 +59,7 @@ fn united_column(alloc: Global, left: &Column, right: &Column) -> Result<Column,
     let name = left.name.copy(alloc)?;
     Ok(Column {
         name,
-        kind: wider(left.kind, right.kind),
+        kind: left.kind.wider(right.kind),
     })
 }
 
