@@ -1,8 +1,15 @@
-//! Keys by their first occurrence.
+//! Keys by their first occurrence: a table of keys, and the classes of rows with equal keys.
 #![tactic(auto)]
 
+mod both;
+mod classes;
+mod columns;
+mod ints;
+mod numbers;
+mod pairs;
 mod table;
 #[cfg(test)]
 mod tests;
 
+pub use classes::Classes;
 pub use table::KeyTable;

@@ -1,6 +1,7 @@
-use crate::KeyTable;
-use smk_base::{Row, Text, Value};
+use crate::{Classes, KeyTable};
+use smk_base::{CellRef, Kind, Rel, Row, Text, Value};
 use std::alloc::{AllocError, Global};
+use std::process::Abort;
 use std::test::Fail;
 
 // A key of one text and one int.
@@ -57,5 +58,53 @@ fn an_int_is_no_text(rt: HostRuntime) -> Result<(), Fail> {
     assert_eq!(rt; table.find_or_add(text)?, 1);
     assert_eq!(rt; table.find(&Row::new(alloc)), None);
     assert_eq!(rt; table.find_or_add(Row::new(alloc))?, 2);
+    Ok(())
+}
+
+// Whether classes are these.
+fn expect_classes(rt: &impl Abort, made: &Classes, of: &[u32], firsts: &[u32]) {
+    assert_eq!(rt; made.of(), of);
+    assert_eq!(rt; made.firsts(), firsts);
+}
+
+#[test]
+fn rows_in_classes(rt: HostRuntime) -> Result<(), Fail> {
+    let alloc = rt.alloc();
+    let int = Kind::Int { level: 0 };
+    let mut rel = Rel::new(alloc, &[Kind::Text, int, int])?;
+    expect_classes(&rt, &Classes::of_rows(alloc, &rel, &[0, 1])?, &[], &[]);
+    rel.push_cells(&[CellRef::Text(b"b"), CellRef::Int(7), CellRef::Int(900_000)])?;
+    rel.push_cells(&[CellRef::Text(b"a"), CellRef::Int(-2), CellRef::Int(-9)])?;
+    rel.push_cells(&[CellRef::Text(b"b"), CellRef::Int(7), CellRef::Int(5)])?;
+    rel.push_cells(&[CellRef::Text(b""), CellRef::Int(-2), CellRef::Int(900_000)])?;
+    rel.push_cells(&[CellRef::Text(b"b"), CellRef::Int(3), CellRef::Int(900_000)])?;
+    let by_text = Classes::of_rows(alloc, &rel, &[0])?;
+    expect_classes(&rt, &by_text, &[0, 1, 0, 2, 0], &[0, 1, 3]);
+    let by_near_ints = Classes::of_rows(alloc, &rel, &[1])?;
+    expect_classes(&rt, &by_near_ints, &[0, 1, 0, 1, 2], &[0, 1, 4]);
+    let by_far_ints = Classes::of_rows(alloc, &rel, &[2])?;
+    expect_classes(&rt, &by_far_ints, &[0, 1, 2, 0, 0], &[0, 1, 2]);
+    let by_three = Classes::of_rows(alloc, &rel, &[2, 0, 1])?;
+    expect_classes(&rt, &by_three, &[0, 1, 2, 3, 4], &[0, 1, 2, 3, 4]);
+    let by_none = Classes::of_rows(alloc, &rel, &[])?;
+    expect_classes(&rt, &by_none, &[0, 0, 0, 0, 0], &[0]);
+    Ok(())
+}
+
+#[test]
+fn rows_of_two_sides_in_classes(rt: HostRuntime) -> Result<(), Fail> {
+    let alloc = rt.alloc();
+    let mut left = Rel::new(alloc, &[Kind::Text, Kind::Int { level: 0 }])?;
+    left.push_cells(&[CellRef::Text(b"b"), CellRef::Int(7)])?;
+    left.push_cells(&[CellRef::Text(b"a"), CellRef::Int(7)])?;
+    let mut right = Rel::new(alloc, &[Kind::Int { level: 1 }, Kind::Text])?;
+    right.push_cells(&[CellRef::Int(-1), CellRef::Text(b"c")])?;
+    right.push_cells(&[CellRef::Int(7), CellRef::Text(b"a")])?;
+    let texts = Classes::of_both(alloc, &left, &[0], &right, &[1])?;
+    expect_classes(&rt, &texts, &[0, 1, 2, 1], &[0, 1, 2]);
+    let ints = Classes::of_both(alloc, &left, &[1], &right, &[0])?;
+    expect_classes(&rt, &ints, &[0, 0, 1, 0], &[0, 2]);
+    let all = Classes::of_both(alloc, &left, &[0, 1], &right, &[1, 0])?;
+    expect_classes(&rt, &all, &[0, 1, 2, 1], &[0, 1, 2]);
     Ok(())
 }

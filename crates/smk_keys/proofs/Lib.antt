@@ -1,0 +1,10 @@
+pub mod Classing
+pub mod Coded
+pub mod Firsts
+pub mod Heights
+pub mod Numbered
+pub mod Paired
+pub mod Placed
+pub mod Rowed
+pub mod Tabled
+pub mod Worded

@@ -1,0 +1,39 @@
+-- Keys in classes of equal ones.
+use Rattle.std.specs.Prelude.{ℕ, ◌<◌, Bool, List, [], ◌∷◌, ◌++◌, length, map, fold, if◌then◌else◌}
+use Rattle.std.specs.List.{list_any, position_or_len}
+use Rattle.smk_base.specs.declared.value.Value.{Value}
+use Rattle.smk_base.specs.declared.value.Kind.{Kind}
+use Rattle.smk_base.specs.declared.value.Kind.TheVariants.{Int, Text}
+use Rattle.smk_base.specs.Rels.{kind_in}
+use Rattle.smk_keys.specs.Keys.{key_eq}
+
+-- the class of each item, and for each class the place of its first item
+pub record ClassesImage : Type 0 where
+  pub of : List ℕ
+  pub firsts : List ℕ
+
+-- the items, each at its first occurrence
+abbrev pub first_items : {X : Type 0} → (X → X → Bool) → List X → List X
+first_items eq items = fold (λ found item. if list_any (eq item) found then found else found ++ item ∷ []) [] items
+
+-- for each item its place among the items at their first occurrences, and for each of these the place where it comes first
+abbrev pub classing_of : {X : Type 0} → (X → X → Bool) → List X → ClassesImage
+classing_of eq items = record {
+  of = map (λ item. position_or_len (eq item) (first_items eq items)) items;
+  firsts = map (λ item. position_or_len (eq item) items) (first_items eq items);
+}
+
+-- the classes of keys
+abbrev pub classes_of : List (List Value) → ClassesImage
+classes_of keys = classing_of key_eq keys
+
+-- both ints or both texts; levels may differ
+abbrev pub AreAlike : Kind → Kind → Type 0
+AreAlike (Int a) (Int b) = Unit {0}
+AreAlike (Int a) Text = ⊥
+AreAlike Text (Int b) = ⊥
+AreAlike Text Text = Unit {0}
+
+-- both columns are there, of ints or of texts
+abbrev pub AreAlikeColumns : List Kind → List Kind → ℕ → ℕ → Type 0
+AreAlikeColumns lefts rights c d = (c < length lefts) × (d < length rights) × AreAlike (kind_in lefts c) (kind_in rights d)

@@ -1,0 +1,38 @@
+//! Numbers of the rows of one relation.
+ghost use Rattle.std.specs.Prelude.{◌≡◌, ◌<◌, ◌≤◌, [], length, map, pos, All, IfOk};
+ghost use Rattle.smk_base.specs.Rels.{column_values, picked};
+ghost use Rattle.smk_base.specs.declared.value.Value.TheVariants.{Int};
+ghost use Rattle.smk_keys.specs.Numbers.{AreNumbers};
+
+use crate::ints::int_numbers;
+use crate::numbers::{Numbers, zeros};
+use crate::pairs::pair_numbers;
+use smk_base::{Kind, Rel};
+use std::alloc::{AllocError, Global};
+
+/// Numbers of the keys of rows: of their values in these columns.
+pub(crate) fn row_numbers(alloc: Global, rel: &Rel, cols: &[u32]) -> Result<Numbers, AllocError>
+    requires { All (λ c. c < length rel.now.kinds) cols.now }
+    ensures { IfOk result (λ made. AreNumbers [] (map (picked cols.now) rel.now.rows) made.count made.of.items) }
+{
+    let mut made = zeros(alloc, rel.len())?;
+    for c in cols {
+        made = pair_numbers(alloc, made, column_numbers(alloc, rel, *c)?)?;
+    }
+    Ok(made)
+}
+
+// Numbers of the values in a column: the codes of texts, which are numbers already, or those of the ints.
+fn column_numbers(alloc: Global, rel: &Rel, c: u32) -> Result<Numbers, AllocError>
+    requires { c < length rel.now.kinds }
+    ensures { IfOk result (λ made. AreNumbers (Int (pos 0)) (column_values c rel.now.rows) made.count made.of.items) }
+{
+    let _rows = rel.len();
+    match rel.kind(c) {
+        Kind::Text => Ok(Numbers {
+            of: Vec::from_slice(alloc, rel.codes(c))?,
+            count: rel.dict(c).len(),
+        }),
+        Kind::Int { .. } => int_numbers(alloc, rel.ints(c)),
+    }
+}

@@ -1,0 +1,70 @@
+//! Numbers of pairs of numbers.
+ghost use Rattle.std.specs.Prelude.{◌≡◌, ◌≤◌, ◌<◌, ◌+◌, ◌*◌, ◌^◌, ℕ, length, All, IfOk, slice_index};
+ghost use Rattle.std.specs.List.{zip};
+ghost use Rattle.smk_keys.specs.Numbers.{AreNumbers};
+
+use crate::numbers::{Numbers, table_limit};
+use indexmap::IndexSet;
+use std::alloc::{AllocError, Global};
+
+/// Numbers of the pairs that lie at the same places: the right ones where the left are all the same, else as in a table with a row for each left number where that has few places, and else in the order in which they come.
+pub(crate) fn pair_numbers(
+    alloc: Global,
+    left: Numbers,
+    right: Numbers,
+) -> Result<Numbers, AllocError>
+    requires few { length left.of.items ≤ 2097152 }
+    requires long { length right.of.items ≡ length left.of.items }
+    requires left { All (λ number. number < left.count) left.of.items }
+    requires right { All (λ number. number < right.count) right.of.items }
+    ensures { IfOk result (λ made. AreNumbers (0, 0) (zip left.of.items right.of.items) made.count made.of.items) }
+{
+    if left.count <= 1 {
+        return Ok(right);
+    }
+    let places = u64::from(left.count) * u64::from(right.count);
+    let limit = table_limit(left.of.len());
+    if places < limit {
+        let of = table_places(alloc, left.of.as_slice(), right.of.as_slice(), right.count)?;
+        return Ok(Numbers {
+            of,
+            count: places as u32,
+        });
+    }
+    hashed_pairs(alloc, left.of.as_slice(), right.of.as_slice())
+}
+
+// The places of pairs in a table with this width.
+fn table_places(
+    alloc: Global,
+    lefts: &[u32],
+    rights: &[u32],
+    width: u32,
+) -> Result<Vec<u32>, AllocError>
+    requires long { length rights.now ≡ length lefts.now }
+    requires fits { (k : ℕ) → k < length lefts.now → slice_index lefts.now k * width + slice_index rights.now k < 2 ^ 32 }
+    ensures long { IfOk result (λ places. length places.items ≡ length lefts.now) }
+    ensures at { IfOk result (λ places. (k : ℕ) → k < length lefts.now → slice_index places.items k ≡ slice_index lefts.now k * width + slice_index rights.now k) }
+{
+    let mut places = Vec::with_capacity(alloc, lefts.len())?;
+    for i in 0..lefts.len() {
+        places.push(lefts[i] * width + rights[i])?;
+    }
+    Ok(places)
+}
+
+// Numbers of pairs in the order in which they come.
+fn hashed_pairs(alloc: Global, lefts: &[u32], rights: &[u32]) -> Result<Numbers, AllocError>
+    requires few { length lefts.now ≤ 2097152 }
+    requires long { length rights.now ≡ length lefts.now }
+    ensures { IfOk result (λ made. AreNumbers (0, 0) (zip lefts.now rights.now) made.count made.of.items) }
+{
+    let mut seen = IndexSet::new(alloc);
+    let mut of = Vec::with_capacity(alloc, lefts.len())?;
+    for i in 0..lefts.len() {
+        let (number, _) = seen.insert_full((lefts[i], rights[i]))?;
+        of.push(number as u32)?;
+    }
+    let count = seen.len() as u32;
+    Ok(Numbers { of, count })
+}
