@@ -1,9 +1,22 @@
--- The lists that a rid map holds in one of its two forms.
-use Rattle.std.specs.Prelude.{ℕ, List, map, option_to_list}
+-- The two forms in which a rid map holds its lists.
+use Rattle.std.specs.Prelude.{◌≡◌, ℕ, List}
+use Rattle.smk_base.specs.Places.{pairs_of}
+use Rattle.smk_rid.specs.Maps.{IsMap, IsSingle}
 use Rattle.smk_rid.specs.declared.map.Held.{Held}
 use Rattle.smk_rid.specs.declared.map.Held.TheVariants.{Array, Index}
 
--- an array has at most one rid for each list, an index has the lists themselves
+-- the lists, in whichever form
 abbrev pub lists_of : Held → List (List ℕ)
-lists_of (Array rids) = map option_to_list rids.items
-lists_of (Index lists) = lists.items
+lists_of (Array lists) = lists
+lists_of (Index lists) = lists
+
+-- the form is an array just where each list has at most one rid
+abbrev pub IsChosen : Held → Type 0
+IsChosen (Array lists) = IsSingle lists
+IsChosen (Index lists) = IsSingle lists → ⊥
+
+-- the lists are those of a rid map, in the form that is theirs, and their rids are counted
+pub record IsHeld (held : Held) (bound pairs : ℕ) : Type 0 where
+  pub map : IsMap (record { lists = lists_of held; bound = bound })
+  pub counted : pairs ≡ pairs_of (lists_of held)
+  pub chosen : IsChosen held

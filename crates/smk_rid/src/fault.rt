@@ -1,3 +1,7 @@
+ghost use Rattle.std.specs.Prelude.{◌≡◌};
+ghost use Rattle.smk_rid.specs.declared.fault.RidFault.TheVariants.{NoMemory};
+
+use std::alloc::AllocError;
 use thiserror::Error;
 
 /// Why a rid map wasn't made.
@@ -8,4 +12,12 @@ pub enum RidFault {
     Pairs,
     #[error("no memory")]
     NoMemory,
+}
+
+impl From<AllocError> for RidFault {
+    ghost from_gives = { λ e f. f ≡ NoMemory };
+
+    fn from(_: AllocError) -> Self {
+        RidFault::NoMemory
+    }
 }

@@ -1,11 +1,22 @@
 //! Maps from the rows of one list to rids of another.
 #![tactic(auto)]
 
+mod array;
+mod compose;
+mod distinct;
 mod fault;
+mod fill;
+mod grow;
+mod invert;
 mod map;
+mod merge;
+mod own;
+mod packed;
 mod short;
 #[cfg(test)]
 mod tests;
 
 pub use fault::RidFault;
-pub use map::RidMap;
+pub use fill::RidFill;
+pub use grow::RidGrow;
+pub use map::{PAIR_LIMIT, RidMap};

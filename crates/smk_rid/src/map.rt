@@ -1,13 +1,19 @@
-ghost use Rattle.std.specs.Prelude.{◌≡◌, ◌<◌, ◌≤◌, [], length, IfOk, slice_index_or};
-ghost use Rattle.std.specs.List.{All};
-ghost use Rattle.smk_base.specs.Places.{IsPlaces, pairs_of};
-ghost use Rattle.smk_rid.specs.Maps.{none_of};
+ghost use Rattle.std.specs.Prelude.{◌≡◌, ◌<◌, ◌≤◌, ◌↔◌, [], length, take, slice_index_or, IfOk, IfSome, IsTrue, is_none, Option};
+ghost use Rattle.std.specs.List.{All, concat};
+ghost use Rattle.std.specs.Option.{option_to_list};
+ghost use Rattle.smk_base.specs.Places.{IsPlaces, pairs_of, own_lists, empty_lists};
+ghost use Rattle.smk_rid.specs.Packing.{one_of};
+ghost use Rattle.smk_rid.specs.Maps.{IsMap, IsSingle, array_lists};
 
-use crate::short::ShortRids;
+use crate::array::{NONE, RidArray};
+use crate::packed::Packed;
 use std::alloc::{AllocError, Global};
 use std::marker::Model;
 
-/// For each row of one list the rids that it has in another, ascending without repeats and below a bound. Contracts see the lists and the bound.
+/// How many pairs of a row and a rid a RidMap may have.
+pub const PAIR_LIMIT: u32 = 16_777_216;
+
+/// For each row of one list the rids that it has in another, ascending without repeats and below a bound: at most 16,777,216 together. Contracts see the lists and the bound.
 #[derive(Drop)]
 pub struct RidMap {
     held: Held,
@@ -15,37 +21,65 @@ pub struct RidMap {
     pairs: u32,
 }
 
-// A rid array, where each list has at most one rid, or a rid index.
+// A rid array where each list has at most one rid, else a rid index.
 #[derive(Drop)]
 enum Held {
-    Array(Vec<Option<u32>>),
-    Index(Vec<ShortRids>),
+    Array(RidArray),
+    Index(Packed),
 }
 
 impl Model for RidMap {
     ghost use Rattle.std.specs.Prelude.{◌≡◌};
     ghost use Rattle.smk_base.specs.Places.{Lists, pairs_of};
     ghost use Rattle.smk_rid.specs.Maps.{IsMap};
-    ghost use Rattle.smk_rid.specs.Held.{lists_of};
+    ghost use Rattle.smk_rid.specs.Held.{lists_of, IsHeld};
 
     ghost Value = { Lists };
 
     ghost view = { λ a. record { lists = lists_of a.held; bound = a.bound } };
 
-    ghost invariant = { λ a. IsMap (record { lists = lists_of a.held; bound = a.bound }) × (a.pairs ≡ pairs_of (lists_of a.held)) };
+    ghost invariant = { λ a. IsHeld a.held a.bound a.pairs };
 }
 
 impl RidMap {
+    /// One list for each of so many places, of that place alone.
+    pub fn identity(alloc: Global, len: u32) -> Result<RidMap, AllocError>
+        requires { len ≤ 1048576 }
+        ensures { IfOk result (λ made. made ≡ own_lists len) }
+    {
+        let mut rids = Vec::with_capacity(alloc, len as usize)?;
+        for i in 0..len {
+            rids.push(i)?;
+        }
+        Ok(RidMap::of_array(RidArray::of(rids), len, len))
+    }
+
     /// So many empty lists.
     pub fn empty(alloc: Global, len: u32, bound: u32) -> Result<RidMap, AllocError>
-        ensures { IfOk result (λ made. made ≡ none_of len bound) }
+        ensures { IfOk result (λ made. made ≡ empty_lists len bound) }
     {
-        let rids = vec![in alloc; None; len as usize]?;
-        Ok(RidMap {
-            held: Held::Array(rids),
-            bound,
-            pairs: 0,
-        })
+        let rids = vec![in alloc; NONE; len as usize]?;
+        Ok(RidMap::of_array(RidArray::of(rids), bound, 0))
+    }
+
+    /// One list for each of these, of its rid alone, or empty.
+    pub fn from_array(alloc: Global, of: &[Option<u32>], bound: u32) -> Result<RidMap, AllocError>
+        requires few { length of.now ≤ 1048576 }
+        requires below { All (λ rid. IfSome rid (λ r. r < bound)) of.now }
+        ensures { IfOk result (λ made. made ≡ array_lists of.now bound) }
+    {
+        let mut rids = Vec::with_capacity(alloc, of.len())?;
+        let mut pairs = 0;
+        for rid in of {
+            match *rid {
+                Some(r) => {
+                    rids.push(r)?;
+                    pairs += 1;
+                }
+                None => rids.push(NONE)?,
+            }
+        }
+        Ok(RidMap::of_array(RidArray::of(rids), bound, pairs))
     }
 
     /// How many lists there are. It takes no memory.
@@ -53,7 +87,7 @@ impl RidMap {
         ensures { result ≡ length self.now.lists }
     {
         match &self.held {
-            Held::Array(rids) => rids.len() as u32,
+            Held::Array(lists) => lists.len() as u32,
             Held::Index(lists) => lists.len() as u32,
         }
     }
@@ -68,9 +102,25 @@ impl RidMap {
     /// How many rids all lists have together. It takes no memory.
     pub fn pairs(&self) -> u32
         ensures counted { result ≡ pairs_of self.now.lists }
-        ensures few { result ≤ 16777216 }
+        ensures few { result ≤ PAIR_LIMIT }
+        ensures keeps { IsMap self.now }
     {
         self.pairs
+    }
+
+    /// A copy.
+    pub fn copy(&self, alloc: Global) -> Result<RidMap, AllocError>
+        ensures { IfOk result (λ copy. copy ≡ self.now) }
+    {
+        let held = match &self.held {
+            Held::Array(lists) => Held::Array(lists.copy(alloc)?),
+            Held::Index(lists) => Held::Index(lists.copy(alloc)?),
+        };
+        Ok(RidMap {
+            held,
+            bound: self.bound,
+            pairs: self.pairs,
+        })
     }
 
     /// The rids of a list. It takes no memory.
@@ -80,7 +130,65 @@ impl RidMap {
         ensures set { IsPlaces self.now.bound result.now }
         ensures below { All (λ rid. rid < self.now.bound) result.now }
     {
-        self.held.at(i)
+        self.held.at(i as usize)
+    }
+
+    /// How many rids the lists before i have. It takes no memory. It is read off, but for an array with empty lists, where the rids before i are counted.
+    pub fn start(&self, i: u32) -> u32
+        requires { i ≤ length self.now.lists }
+        ensures { result ≡ pairs_of (take i self.now.lists) }
+    {
+        match &self.held {
+            Held::Array(lists) => {
+                if self.pairs as usize == lists.len() {
+                    lists.start_of_full(i)
+                } else {
+                    lists.start(i)
+                }
+            }
+            Held::Index(lists) => lists.start(i as usize),
+        }
+    }
+
+    /// All lists one after the other, unless none has two rids or more. It takes no memory.
+    pub fn packed(&self) -> Option<&[u32]>
+        ensures none { IsTrue (is_none result) ↔ IsSingle self.now.lists }
+        ensures all { IfSome result (λ rids. rids.now ≡ concat self.now.lists) }
+    {
+        match &self.held {
+            Held::Array(_) => None,
+            Held::Index(lists) => Some(lists.all()),
+        }
+    }
+
+    // The map that has these lists.
+    fn of_array(lists: RidArray, bound: u32, pairs: u32) -> RidMap
+        requires map { IsMap (record { lists = lists; bound = bound }) }
+        requires single { IsSingle lists }
+        requires pairs { pairs ≡ pairs_of lists }
+        ensures { result ≡ record { lists = lists; bound = bound } }
+    {
+        RidMap {
+            held: Held::Array(lists),
+            bound,
+            pairs,
+        }
+    }
+
+    // The map that has these lists, as an array where each has at most one rid.
+    pub(crate) fn of_packed(lists: Packed, bound: u32) -> RidMap
+        requires { IsMap (record { lists = lists; bound = bound }) }
+        ensures { result ≡ record { lists = lists; bound = bound } }
+    {
+        let pairs = lists.pairs();
+        if lists.is_single() {
+            return RidMap::of_array(lists.into_array(), bound, pairs);
+        }
+        RidMap {
+            held: Held::Index(lists),
+            bound,
+            pairs,
+        }
     }
 }
 
@@ -88,13 +196,13 @@ impl Held {
     ghost use Rattle.smk_rid.specs.Held.{lists_of};
 
     // The rids of a list.
-    fn at(&self, i: u32) -> &[u32]
+    fn at(&self, i: usize) -> &[u32]
         requires { i < length (lists_of self.now) }
         ensures { result.now ≡ slice_index_or (lists_of self.now) i [] }
     {
         match self {
-            Held::Array(rids) => rids[i as usize].as_slice(),
-            Held::Index(lists) => lists[i as usize].as_slice(),
+            Held::Array(lists) => lists.at(i),
+            Held::Index(lists) => lists.at(i),
         }
     }
 }

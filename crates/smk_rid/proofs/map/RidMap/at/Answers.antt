@@ -6,7 +6,7 @@ use Rattle.smk_rid.proofs.map.RidMap.at.Goals as goal
 
 pub returns-clause-set : goal.returns-clause-set
 returns-clause-set c =
-    let kept : IsMap c.args.self.now = subst IsMap c.self.view_is c.self.invariant.0 in
+    let kept : IsMap c.args.self.now = subst IsMap c.self.view_is c.self.invariant.map in
     let is : c.at.result.now ≡ get_or c.args.self.now.lists c.args.i [] = c.at.ensures ∙ ap (λ (m : Lists). get_or m.lists c.args.i []) c.self.view_is in
     rw is (kept.sets c.args.i [] c.requires)
 

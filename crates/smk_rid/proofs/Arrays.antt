@@ -1,0 +1,87 @@
+-- Lists of at most one rid.
+use Rattle.std.proofs.Common.{◌≡◌, ◌∙◌, ◌<◌, ◌≤◌, ℕ, zero, suc, length, List, [], ◌∷◌, ◌++◌, refl, sym, ap, subst, map, arith, get_or, take, drop, Option, None, Some, false}
+use Rattle.std.specs.Option.{option_to_list, IfSome}
+use Rattle.std.specs.List.{All}
+use Rattle.std.proofs.Math.ListN.{replicate}
+use Rattle.std.proofs.lemmas.List.{length-map, map-append, length-take-le, length-drop, length-replicate}
+use Rattle.std.proofs.lemmas.List.Elements.{All-map, All-weaker, All-take, All-drop, All-replicate}
+use Rattle.std.proofs.lemmas.List.Sums.{sum_by-le, sum_by-take-drop, sum_by-cons}
+use Rattle.std.proofs.lemmas.List.Folds.{sum_by-replicate}
+use Rattle.smk_base.specs.Places.{upto, IsPlaces, pairs_of, own_lists, empty_lists}
+use Rattle.smk_rid.specs.Maps.{IsMap, IsSingle, array_lists}
+use Rattle.smk_rid.specs.Packing.{one_of}
+use Rattle.smk_rid.proofs.Sets.{none_pass, nil_is, grown, upto_below, length-upto}
+use Rattle.smk_rid.proofs.Packs.{one_is}
+
+-- one place is a set of places
+pub one_place : (n i : ℕ) → i < n → IsPlaces n (i ∷ [])
+one_place n i h = subst (λ (z : List ℕ). IsPlaces n (z ++ i ∷ [])) (none_pass i) (grown (λ r. false) n i h)
+
+-- lists of at most one rid have no more rids than there are lists
+pub pairs_single : (lists : List (List ℕ)) → IsSingle lists → pairs_of lists ≤ length lists
+pairs_single lists h = omega (arith, sum_by-le (length {A = ℕ}) 1 lists h)
+
+-- where each has one, as many stand before a list as there are lists before it
+pub start_full : (lists : List (List ℕ)) (i : ℕ) → IsSingle lists → pairs_of lists ≡ length lists → i ≤ length lists → i ≡ pairs_of (take i lists)
+start_full lists i h full low =
+    omega (arith, full, sum_by-take-drop (length {A = ℕ}) lists i, pairs_single (take i lists) (All-take (λ l. length l ≤ 1) i lists h), pairs_single (drop i lists) (All-drop (λ l. length l ≤ 1) i lists h), length-take-le i lists low, length-drop i lists)
+
+pub ones-upto : (n : ℕ) → n ≤ 4294967295 → map one_of (upto n) ≡ map (λ i. i ∷ []) (upto n)
+ones-upto zero h = refl
+ones-upto (suc n) h =
+    map-append one_of (upto n) (n ∷ [])
+    ∙ rw (ones-upto n (omega arith), one_is n (omega arith)) (sym (map-append (λ i. i ∷ []) (upto n) (n ∷ [])))
+
+pairs_ones : (xs : List ℕ) → pairs_of (map (λ i. i ∷ []) xs) ≡ length xs
+pairs_ones [] = refl
+pairs_ones (x ∷ xs) = omega (arith, sum_by-cons (length {A = ℕ}) (x ∷ []) (map (λ i. i ∷ []) xs), pairs_ones xs)
+
+pub pairs-own : (n : ℕ) → pairs_of (map (λ i. i ∷ []) (upto n)) ≡ n
+pairs-own n = pairs_ones (upto n) ∙ length-upto n
+
+pub IsMap-own_lists : (n : ℕ) → n ≤ 1048576 → IsMap (own_lists n)
+IsMap-own_lists n h = record {
+  sets = All-map (IsPlaces n) (λ i. i ∷ []) (upto n) (All-weaker (λ i. i < n) (λ i. IsPlaces n (i ∷ [])) (one_place n) (upto n) (upto_below n));
+  short = omega (arith, length-map (upto n) (λ i. i ∷ []), length-upto n);
+  few = omega (arith, pairs-own n);
+}
+
+pub single-own : (n : ℕ) → IsSingle (map (λ i. i ∷ []) (upto n))
+single-own n = All-map (λ l. length l ≤ 1) (λ i. i ∷ []) (upto n) (λ k d l. omega arith)
+
+-- numbers that stand for none are empty lists
+pub ones-replicate : (n : ℕ) → map one_of (replicate n 4294967295) ≡ replicate n []
+ones-replicate zero = refl
+ones-replicate (suc n) = ap (λ (z : List (List ℕ)). [] ∷ z) (ones-replicate n)
+
+pub pairs-replicate : (n : ℕ) → pairs_of (replicate n []) ≡ 0
+pairs-replicate n = omega (arith, sum_by-replicate (length {A = ℕ}) n [])
+
+pub IsMap-empty_lists : (n bound : ℕ) → n < 4294967296 → IsMap (empty_lists n bound)
+IsMap-empty_lists n bound h = record {
+  sets = All-replicate (IsPlaces bound) n [] (nil_is bound);
+  short = omega (arith, length-replicate n (let e : List ℕ = [] in e));
+  few = omega (arith, pairs-replicate n);
+}
+
+pub single-empty : (n : ℕ) → IsSingle (replicate n [])
+single-empty n = All-replicate (λ l. length l ≤ 1) n [] (omega arith)
+
+-- optional rids
+option_set : (n : ℕ) (o : Option ℕ) → IfSome o (λ r. r < n) → IsPlaces n (option_to_list o)
+option_set n None h = nil_is n
+option_set n (Some r) h = one_place n r h
+
+option_single : (o : Option ℕ) → length (option_to_list o) ≤ 1
+option_single None = omega arith
+option_single (Some r) = omega arith
+
+pub single-options : (of : List (Option ℕ)) → IsSingle (map option_to_list of)
+single-options of = All-map (λ l. length l ≤ 1) option_to_list of (λ k d l. option_single (get_or of k d))
+
+pub IsMap-array_lists : (of : List (Option ℕ)) (bound : ℕ) → length of ≤ 1048576 → All (λ o. IfSome o (λ r. r < bound)) of → IsMap (array_lists of bound)
+IsMap-array_lists of bound few below = record {
+  sets = All-map (IsPlaces bound) option_to_list of (λ k d l. option_set bound (get_or of k d) (below k d l));
+  short = omega (arith, length-map {B = List ℕ} of option_to_list);
+  few = omega (arith, pairs_single (map option_to_list of) (single-options of), length-map {B = List ℕ} of option_to_list);
+}
