@@ -21,42 +21,12 @@ use Rattle.smk_model.specs.Kinds.{IsInt, IsSummed, AreAlike, ItemFits, kind_of_i
 abbrev pub Between : ℕ → ℤ → Type 0
 Between m n = (neg_ℤ (pos m) ≤ℤ n) × (n ≤ℤ pos m)
 
-below_between : (m a q : ℕ) → q ≤ a → Between m (pos a) → Between m (pos q)
-below_between m a q h w = (omega (arith, ints), omega (arith, ints))
-
-above_between : (m a q : ℕ) → q ≤ a → Between m (negsuc a) → Between m (negsuc q)
-above_between m a q h w = (omega (arith, ints), omega (arith, ints))
-
 between_more : (m o : ℕ) (n : ℤ) → m ≤ o → Between m n → Between o n
 between_more m o n h w = (omega (arith, ints), omega (arith, ints))
-
-within_below : (k a q : ℕ) → q ≤ a → IsWithin k (pos a) → IsWithin k (pos q)
-within_below zero a q h w = omega (arith, ints)
-within_below (suc k) a q h w = below_between (2 ^ (63 + 20 * suc k)) a q h w
-
-within_above : (k a q : ℕ) → q ≤ a → IsWithin k (negsuc a) → IsWithin k (negsuc q)
-within_above zero a q h w = omega (arith, ints)
-within_above (suc k) a q h w = above_between (2 ^ (63 + 20 * suc k)) a q h w
-
--- bin keeps the range of a level
-pub bin_within : (k : ℕ) (n w : ℤ) → IsWithin k n → pos 1 ≤ℤ w → IsWithin k (bin n w)
-bin_within k (pos a) (pos b) f h = within_below k a (a / b) (div-le_self a b) f
-bin_within k (pos a) (negsuc b) f h = absurd (omega (arith, ints))
-bin_within k (negsuc a) (pos b) f h = within_above k a (a / b) (div-le_self a b) f
-bin_within k (negsuc a) (negsuc b) f h = absurd (omega (arith, ints))
-
-bin_fits : (k : Kind) (v : Value) (w : ℤ) → Fits k v → IsInt k → pos 1 ≤ℤ w → Fits k (values.Int (bin (number_of v) w))
-bin_fits (kinds.Int level) (values.Int n) w f i h = bin_within level n w f h
-bin_fits (kinds.Int level) (values.Text t) w f i h = absurd f
-bin_fits kinds.Text v w f i h = absurd i
 
 -- a value of a row that fits
 pub value_fits : (columns : List Kind) (row : Row) (c : ℕ) → RowFits columns row → c < length columns → Fits (kind_in columns c) (value_at row c)
 value_fits columns row c r f = AllZip-at Fits columns row c kinds.Text (values.Int (pos 0)) r f
-
-item_fits : (columns : List Kind) (row : Row) (item : Item) → RowFits columns row → ItemFits columns item → Fits (kind_of_item columns item) (item_at row item)
-item_fits columns row (Col c) r f = value_fits columns row c r f
-item_fits columns row (Bin c w) r f = bin_fits (kind_in columns c) (value_at row c) w (value_fits columns row c r f.0) f.1 f.2
 
 -- the head and the rest of what holds of each
 pub All-head : {X : Type 0} (P : X → Type 0) (x : X) (xs : List X) → All P (x ∷ xs) → P x
@@ -64,23 +34,6 @@ All-head P x xs h = h 0 x (omega arith)
 
 pub All-rest : {X : Type 0} (P : X → Type 0) (x : X) (xs : List X) → All P (x ∷ xs) → All P xs
 All-rest P x xs h = λ k d l. h (suc k) d (omega arith)
-
--- the image of a row fits
-pub image_fits : (columns : List Kind) (row : Row) (items : List Item) → RowFits columns row → All (ItemFits columns) items → RowFits (map (kind_of_item columns) items) (image items row)
-image_fits columns row [] r f = tt
-image_fits columns row (item ∷ items) r f = (item_fits columns row item r (All-head (ItemFits columns) item items f), image_fits columns row items r (All-rest (ItemFits columns) item items f))
-
--- the key of a row fits
-pub key_fits : (columns : List Kind) (row : Row) (keys : List ℕ) → RowFits columns row → All (λ c. c < length columns) keys → RowFits (map (kind_in columns) keys) (key_of keys row)
-key_fits columns row [] r f = tt
-key_fits columns row (c ∷ keys) r f = (value_fits columns row c r (All-head (λ c. c < length columns) c keys f), key_fits columns row keys r (All-rest (λ c. c < length columns) c keys f))
-
--- two rows after each other fit
-pub joined_fits : (ls rs : List Kind) (l r : Row) → RowFits ls l → RowFits rs r → RowFits (ls ++ rs) (l ++ r)
-joined_fits [] rs [] r f g = g
-joined_fits [] rs (v ∷ l) r f g = absurd f
-joined_fits (k ∷ ls) rs [] r f g = absurd f
-joined_fits (k ∷ ls) rs (v ∷ l) r f g = (f.0, joined_fits ls rs l r f.1 g)
 
 -- a higher level holds the values of a lower one
 pub within_more : (a b : ℕ) (n : ℤ) → a ≤ b → IsWithin a n → IsWithin b n
@@ -90,34 +43,6 @@ within_more zero (suc b) n h w =
 within_more (suc a) zero n h w = absurd (omega arith)
 within_more (suc a) (suc b) n h w =
     between_more (2 ^ (63 + 20 * suc a)) (2 ^ (63 + 20 * suc b)) n (pow-le-pow_right {n = 2} (omega arith) {i = 63 + 20 * suc a} {j = 63 + 20 * suc b} (omega arith)) w
-
-left_fits : (k j : Kind) (v : Value) → AreAlike k j → Fits k v → Fits (wider k j) v
-left_fits (kinds.Int a) (kinds.Int b) (values.Int n) h f = within_more a (max a b) n (omega arith) f
-left_fits (kinds.Int a) (kinds.Int b) (values.Text t) h f = absurd f
-left_fits (kinds.Int a) kinds.Text v h f = absurd h
-left_fits kinds.Text (kinds.Int b) v h f = absurd h
-left_fits kinds.Text kinds.Text v h f = f
-
-right_fits : (k j : Kind) (v : Value) → AreAlike k j → Fits j v → Fits (wider k j) v
-right_fits (kinds.Int a) (kinds.Int b) (values.Int n) h f = within_more b (max a b) n (omega arith) f
-right_fits (kinds.Int a) (kinds.Int b) (values.Text t) h f = absurd f
-right_fits (kinds.Int a) kinds.Text v h f = absurd h
-right_fits kinds.Text (kinds.Int b) v h f = absurd h
-right_fits kinds.Text kinds.Text v h f = f
-
--- a row of either side of a union fits the wider kinds
-pub left_row_fits : (ls rs : List Kind) (row : Row) → AllZip AreAlike ls rs → RowFits ls row → RowFits (wider_kinds ls rs) row
-left_row_fits [] rs row h f = f
-left_row_fits (k ∷ ls) [] row h f = absurd h
-left_row_fits (k ∷ ls) (j ∷ rs) [] h f = absurd f
-left_row_fits (k ∷ ls) (j ∷ rs) (v ∷ row) h f = (left_fits k j v h.0 f.0, left_row_fits ls rs row h.1 f.1)
-
-pub right_row_fits : (ls rs : List Kind) (row : Row) → AllZip AreAlike ls rs → RowFits rs row → RowFits (wider_kinds ls rs) row
-right_row_fits [] [] row h f = f
-right_row_fits [] (j ∷ rs) row h f = absurd h
-right_row_fits (k ∷ ls) [] row h f = absurd h
-right_row_fits (k ∷ ls) (j ∷ rs) [] h f = absurd f
-right_row_fits (k ∷ ls) (j ∷ rs) (v ∷ row) h f = (right_fits k j v h.0 f.0, right_row_fits ls rs row h.1 f.1)
 
 -- the size of a value of a level
 pub within_between : (k : ℕ) (n : ℤ) → IsWithin k n → Between (2 ^ (63 + 20 * k)) n
@@ -139,14 +64,6 @@ total_within k ns all few =
     let e : 63 + 20 * suc k ≡ (63 + 20 * k) + 20 = omega arith in
     let next : 2 ^ (63 + 20 * suc k) ≡ m * 1048576 = ap (λ z. 2 ^ z) e ∙ pow-add 2 (63 + 20 * k) 20 in
     between_more ((0 + length ns) * m) (2 ^ (63 + 20 * suc k)) (total ns) (rw next (omega (arith, mul-le-mul_left m few))) bound
-
--- the kinds of a step's columns are kinds of columns
-item_column : (columns : List Kind) (item : Item) → All IsColumn columns → ItemFits columns item → IsColumn (kind_of_item columns item)
-item_column columns (Col c) all f = all c kinds.Text f
-item_column columns (Bin c w) all f = all c kinds.Text f.0
-
-pub item_columns : (columns : List Kind) (items : List Item) → All IsColumn columns → All (ItemFits columns) items → All IsColumn (map (kind_of_item columns) items)
-item_columns columns items all f = All-map IsColumn (kind_of_item columns) items (All-weaker (ItemFits columns) (λ item. IsColumn (kind_of_item columns item)) (λ item h. item_column columns item all h) items f)
 
 wider_column : (k j : Kind) → IsColumn k → IsColumn j → IsColumn (wider k j)
 wider_column (kinds.Int a) (kinds.Int b) h f = omega arith

@@ -1,2 +1,11 @@
 pub mod Fitting
-pub mod Firsts
+pub mod Classing
+pub mod Besides
+pub mod Turning
+pub mod Folding
+pub mod Pairing
+pub mod Uniting
+pub mod Aggregating
+pub mod Partnering
+pub mod Gathering
+pub mod Siding

@@ -1,1 +1,3 @@
 pub mod Locals
+pub mod Halves
+pub mod Pieces

@@ -1,9 +1,8 @@
 -- The lineage of one step on exactly the wanted sides, in exactly the wanted directions.
 use Rattle.std.specs.Prelude.{Bool, true, false, not, ◌&&◌, List, Option, Some, None}
 use Rattle.smk_base.specs.Places.{Lists}
-use Rattle.smk_base.specs.Plans.{Unary}
+use Rattle.smk_base.specs.Plans.{Unary, Binary}
 use Rattle.smk_base.specs.declared.plan.Dir.{Dir}
-use Rattle.smk_base.specs.declared.plan.Op2.{Op2}
 use Rattle.smk_model.specs.Values.{Row}
 use Rattle.smk_model.specs.Locals.{back1, fwd1, back_left, fwd_left, back_right, fwd_right}
 use Rattle.smk_body.specs.declared.local.Side.{Side}
@@ -24,7 +23,7 @@ abbrev pub local1 : Unary → List Row → Dir → Local
 local1 op L want = record { left = side_of want (back1 op L) (fwd1 op L); right = None }
 
 -- the wanted lineage of a step with two inputs
-abbrev pub local2 : Op2 → List Row → List Row → Want → Local
+abbrev pub local2 : Binary → List Row → List Row → Want → Local
 local2 op L R want = record {
   left = side_of want.left (back_left op L R) (fwd_left op L R);
   right = Some (side_of want.right (back_right op L R) (fwd_right op L R));

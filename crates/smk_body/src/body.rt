@@ -1,11 +1,17 @@
 ghost use Rattle.std.specs.Prelude.{◌≡◌, ◌<◌, ◌≤◌, ◌||◌, Bool, length, IfOk, IfErr, OnOk, IsTrue};
-ghost use Rattle.smk_base.specs.PlanImage.{unary_of};
+ghost use Rattle.smk_base.specs.PlanImage.{binary_of, unary_of};
+ghost use Rattle.smk_base.specs.Plans.{Binary, Unary};
+ghost use Rattle.smk_base.specs.Rels.{Relation};
+ghost use Rattle.smk_base.specs.declared.plan.Dir.{Dir};
 ghost use Rattle.smk_model.specs.Plain.{step1, step2};
 ghost use Rattle.smk_model.specs.Kinds.{Fits1, Fits2, kinds1, kinds2};
 ghost use Rattle.smk_body.specs.Locals.{local1, local2, is_nothing, is_nothing2};
+ghost use Rattle.smk_body.specs.Pieces.{ArePieces};
 ghost use Rattle.smk_body.specs.declared.local.Local.{Local};
+ghost use Rattle.smk_body.specs.declared.local.Want.{Want};
 
 use crate::local::{Local, Want};
+use crate::pieces::{Cut, InPieces, Piece, made1, made2};
 use smk_base::{Dir, Op1, Op2, Rel};
 use std::alloc::{AllocError, Global};
 use std::thread::Threads;
@@ -34,7 +40,7 @@ impl From<AllocError> for OpFault {
 /// How the steps of a plan are carried out: their rows, and the wanted lineage of each.
 ///
 /// A caller uses `captures`, `apply1`, `apply2` and `finish`. A body that cuts no step into pieces says in `whole1` and `whole2` what it does.
-pub trait OpBody {
+pub trait OpBody: InPieces {
     /// The lineage of a step, or what it is made from.
     type Pending: Drop;
 
@@ -43,6 +49,12 @@ pub trait OpBody {
 
     // Whether lineage may be wanted.
     ghost may_capture: { Self → Bool };
+
+    // What a body promises of what a step with one input leaves pending, beyond its meaning. One that says nothing promises nothing.
+    ghost leaves1: { Self → Unary → Relation → Dir → Self.Pending → Type 0 } = { λ _ _ _ _ _. Unit {0} };
+
+    // The same of a step with two inputs.
+    ghost leaves2: { Self → Binary → Relation → Relation → Want → Self.Pending → Type 0 } = { λ _ _ _ _ _ _. Unit {0} };
 
     /// Whether lineage may be wanted of this body. It takes no memory.
     fn captures(&self) -> bool
@@ -60,7 +72,30 @@ pub trait OpBody {
         requires captured { IsTrue (may_capture self.now || is_nothing want) }
         ensures kinds { IfOk result (λ made. made.0.kinds ≡ kinds1 (unary_of op.now) input.kinds) }
         ensures rows { IfOk result (λ made. made.0.rows ≡ step1 (unary_of op.now) input.rows) }
-        ensures lineage { IfOk result (λ made. meaning self.now made.1 ≡ local1 (unary_of op.now) input.rows want) };
+        ensures lineage { IfOk result (λ made. meaning self.now made.1 ≡ local1 (unary_of op.now) input.rows want) }
+        ensures left { IfOk result (λ made. leaves1 self.now (unary_of op.now) input want made.1) };
+
+    /// A step over its input, from what its pieces have made.
+    fn gather1(
+        &self,
+        alloc: Global,
+        op: &Op1,
+        input: Rel,
+        want: Dir,
+        _cut: Cut,
+        _made: Vec<Piece>,
+    ) -> Result<(Rel, Self::Pending), AllocError>
+        requires fits { Fits1 (unary_of op.now) input.kinds }
+        requires captured { IsTrue (may_capture self.now || is_nothing want) }
+        requires cut { Self.cuts1 self.now (unary_of op.now) input want _cut }
+        requires made { ArePieces (Self.makes1 self.now (unary_of op.now) input want _cut) _cut.pieces _made.items }
+        ensures kinds { IfOk result (λ made. made.0.kinds ≡ kinds1 (unary_of op.now) input.kinds) }
+        ensures rows { IfOk result (λ made. made.0.rows ≡ step1 (unary_of op.now) input.rows) }
+        ensures lineage { IfOk result (λ made. meaning self.now made.1 ≡ local1 (unary_of op.now) input.rows want) }
+        ensures left { IfOk result (λ made. leaves1 self.now (unary_of op.now) input want made.1) }
+    {
+        self.whole1(alloc, op, input, want)
+    }
 
     /// A step over its two inputs, all in this thread.
     fn whole2(
@@ -71,13 +106,38 @@ pub trait OpBody {
         right: Rel,
         want: Want,
     ) -> Result<(Rel, Self::Pending), OpFault>
-        requires fits { Fits2 op.now left.kinds right.kinds }
+        requires fits { Fits2 (binary_of op.now) left.kinds right.kinds }
         requires captured { IsTrue (may_capture self.now || is_nothing2 want) }
-        ensures kinds { IfOk result (λ made. made.0.kinds ≡ kinds2 op.now left.kinds right.kinds) }
-        ensures rows { IfOk result (λ made. made.0.rows ≡ step2 op.now left.rows right.rows) }
-        ensures lineage { IfOk result (λ made. meaning self.now made.1 ≡ local2 op.now left.rows right.rows want) }
-        ensures few { OnOk result (length (step2 op.now left.rows right.rows) ≤ 1048576) }
-        ensures many { IfErr result (λ e. e ≡ OpFault.Rows → 1048576 < length (step2 op.now left.rows right.rows)) };
+        ensures kinds { IfOk result (λ made. made.0.kinds ≡ kinds2 (binary_of op.now) left.kinds right.kinds) }
+        ensures rows { IfOk result (λ made. made.0.rows ≡ step2 (binary_of op.now) left.rows right.rows) }
+        ensures lineage { IfOk result (λ made. meaning self.now made.1 ≡ local2 (binary_of op.now) left.rows right.rows want) }
+        ensures left { IfOk result (λ made. leaves2 self.now (binary_of op.now) left right want made.1) }
+        ensures few { OnOk result (length (step2 (binary_of op.now) left.rows right.rows) ≤ 1048576) }
+        ensures many { IfErr result (λ e. e ≡ OpFault.Rows → 1048576 < length (step2 (binary_of op.now) left.rows right.rows)) };
+
+    /// A step over its two inputs, from what its pieces have made. It has at most 1,048,576 rows.
+    fn gather2(
+        &self,
+        _alloc: Global,
+        _op: &Op2,
+        _left: Rel,
+        _right: Rel,
+        _want: Want,
+        _cut: Cut,
+        _made: Vec<Piece>,
+    ) -> Result<(Rel, Self::Pending), AllocError>
+        requires fits { Fits2 (binary_of _op.now) _left.kinds _right.kinds }
+        requires captured { IsTrue (may_capture self.now || is_nothing2 _want) }
+        requires cut { Self.cuts2 self.now (binary_of _op.now) _left _right _want _cut }
+        requires made { ArePieces (Self.makes2 self.now (binary_of _op.now) _left _right _want _cut) _cut.pieces _made.items }
+        requires few { length (step2 (binary_of _op.now) _left.rows _right.rows) ≤ 1048576 }
+        ensures kinds { IfOk result (λ made. made.0.kinds ≡ kinds2 (binary_of _op.now) _left.kinds _right.kinds) }
+        ensures rows { IfOk result (λ made. made.0.rows ≡ step2 (binary_of _op.now) _left.rows _right.rows) }
+        ensures lineage { IfOk result (λ made. meaning self.now made.1 ≡ local2 (binary_of _op.now) _left.rows _right.rows _want) }
+        ensures left { IfOk result (λ made. leaves2 self.now (binary_of _op.now) _left _right _want made.1) }
+    {
+        Err(AllocError)
+    }
 
     /// The lineage that is pending.
     fn finish<R: Threads + Sync>(
@@ -91,7 +151,7 @@ pub trait OpBody {
     /// A step over its input: its rows, and the wanted lineage as what is pending. Lineage may be wanted only where the body captures.
     final fn apply1<R: Threads + Sync>(
         &self,
-        _rt: &R,
+        rt: &R,
         alloc: Global,
         op: &Op1,
         input: Rel,
@@ -104,14 +164,19 @@ pub trait OpBody {
         ensures kinds { IfOk result (λ made. made.0.kinds ≡ kinds1 (unary_of op.now) input.kinds) }
         ensures rows { IfOk result (λ made. made.0.rows ≡ step1 (unary_of op.now) input.rows) }
         ensures lineage { IfOk result (λ made. meaning self.now made.1 ≡ local1 (unary_of op.now) input.rows want) }
+        ensures left { IfOk result (λ made. leaves1 self.now (unary_of op.now) input want made.1) }
     {
-        self.whole1(alloc, op, input, want)
+        let Some(cut) = self.cut1(alloc, op, &input, want)? else {
+            return self.whole1(alloc, op, input, want);
+        };
+        let made = made1(rt, alloc, self, op, &input, want, &cut)?;
+        self.gather1(alloc, op, input, want, cut, made)
     }
 
     /// A step over its two inputs, likewise. It is refused for `Rows` exactly where it has more than 1,048,576 rows.
     final fn apply2<R: Threads + Sync>(
         &self,
-        _rt: &R,
+        rt: &R,
         alloc: Global,
         op: &Op2,
         left: Rel,
@@ -120,14 +185,19 @@ pub trait OpBody {
     ) -> Result<(Rel, Self::Pending), OpFault>
     where
         Self: Sync + Sized,
-        requires fits { Fits2 op.now left.kinds right.kinds }
+        requires fits { Fits2 (binary_of op.now) left.kinds right.kinds }
         requires captured { IsTrue (may_capture self.now || is_nothing2 want) }
-        ensures kinds { IfOk result (λ made. made.0.kinds ≡ kinds2 op.now left.kinds right.kinds) }
-        ensures rows { IfOk result (λ made. made.0.rows ≡ step2 op.now left.rows right.rows) }
-        ensures lineage { IfOk result (λ made. meaning self.now made.1 ≡ local2 op.now left.rows right.rows want) }
-        ensures few { OnOk result (length (step2 op.now left.rows right.rows) ≤ 1048576) }
-        ensures many { IfErr result (λ e. e ≡ OpFault.Rows → 1048576 < length (step2 op.now left.rows right.rows)) }
+        ensures kinds { IfOk result (λ made. made.0.kinds ≡ kinds2 (binary_of op.now) left.kinds right.kinds) }
+        ensures rows { IfOk result (λ made. made.0.rows ≡ step2 (binary_of op.now) left.rows right.rows) }
+        ensures lineage { IfOk result (λ made. meaning self.now made.1 ≡ local2 (binary_of op.now) left.rows right.rows want) }
+        ensures left { IfOk result (λ made. leaves2 self.now (binary_of op.now) left right want made.1) }
+        ensures few { OnOk result (length (step2 (binary_of op.now) left.rows right.rows) ≤ 1048576) }
+        ensures many { IfErr result (λ e. e ≡ OpFault.Rows → 1048576 < length (step2 (binary_of op.now) left.rows right.rows)) }
     {
-        self.whole2(alloc, op, left, right, want)
+        let Some(cut) = self.cut2(alloc, op, &left, &right, want)? else {
+            return self.whole2(alloc, op, left, right, want);
+        };
+        let made = made2(rt, alloc, self, op, &left, &right, want, &cut)?;
+        Ok(self.gather2(alloc, op, left, right, want, cut, made)?)
     }
 }

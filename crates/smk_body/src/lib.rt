@@ -1,10 +1,33 @@
 //! What every body of the operators does: plain rows, and the wanted lineage of one step.
 #![tactic(auto)]
 
+mod aggregates;
 mod body;
+mod classes;
+mod group;
+mod join;
+mod lists;
 mod local;
+mod pairs;
+mod pieces;
+mod project;
 mod rows;
+mod select;
+pub mod steps;
+mod unions;
 
 pub use body::{OpBody, OpFault};
+pub use classes::{first_rows, row_classes};
+pub use group::group_rows;
+pub use join::{joined, matched, partners_of};
+pub use lists::{
+    marked_lists, own_side, side_of_classes, side_of_places, side_of_sources, side_of_stretch,
+    single_lists, turned_lists,
+};
 pub use local::{Local, Side, Want};
-pub use rows::{compare, copy_row, image_row, key_row, meets_at};
+pub use pairs::{Matches, Partners};
+pub use pieces::{Cut, InPieces, Piece};
+pub use project::images;
+pub use rows::{compare, meets_at};
+pub use select::{selected, selected_rows};
+pub use unions::{union_all_rows, union_classes, union_rows};

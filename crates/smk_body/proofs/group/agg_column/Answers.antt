@@ -1,0 +1,12 @@
+use Rattle.std.proofs.Common.{◌≡◌, ◌∷◌, [], ℕ, List, length, map, subst, IfOk, true, false}
+use Rattle.smk_base.specs.Rels.{Relation, kind_in}
+use Rattle.smk_model.specs.Values.{Row}
+use Rattle.smk_body.proofs.Aggregating.{least_rows, greatest_rows}
+use Rattle.smk_body.proofs.Besides.{relation}
+use Rattle.smk_body.proofs.group.agg_column.Goals as goal
+
+pub returns-in-Min : goal.returns-in-Min
+returns-in-Min c = rw c.in-Min.is (subst (λ (z : List Row). IfOk c.best_column.result (λ made. made ≡ relation (kind_in c.args.rel.now.kinds c.in-Min.c ∷ []) z)) (least_rows c.args.rel.now.rows c.in-Min.c c.args.classes.now.of (length c.args.rel.now.rows) (length c.args.classes.now.firsts)) c.best_column.ensures)
+
+pub returns-in-Max : goal.returns-in-Max
+returns-in-Max c = rw c.in-Max.is (subst (λ (z : List Row). IfOk c.best_column-in-Max.result (λ made. made ≡ relation (kind_in c.args.rel.now.kinds c.in-Max.c ∷ []) z)) (greatest_rows c.args.rel.now.rows c.in-Max.c c.args.classes.now.of (length c.args.rel.now.rows) (length c.args.classes.now.firsts)) c.best_column-in-Max.ensures)

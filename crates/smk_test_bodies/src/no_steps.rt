@@ -1,0 +1,58 @@
+ghost use Rattle.std.specs.Prelude.{◌≡◌, false};
+
+use smk_base::{Dir, Op1, Op2, Rel};
+use smk_body::{InPieces, Local, OpBody, OpFault, Want};
+use std::alloc::{AllocError, Global};
+use std::thread::Threads;
+
+/// A body whose steps always want memory. It promises that none leaves anything pending.
+#[derive(Drop)]
+pub struct NoSteps;
+
+impl InPieces for NoSteps {}
+
+impl OpBody for NoSteps {
+    type Pending = Local;
+
+    ghost meaning = { λ body local. local };
+
+    ghost may_capture = { λ body. false };
+
+    ghost leaves1 = { λ body op input want pending. ⊥ };
+
+    ghost leaves2 = { λ body op left right want pending. ⊥ };
+
+    fn captures(&self) -> bool {
+        false
+    }
+
+    fn whole1(
+        &self,
+        _alloc: Global,
+        _op: &Op1,
+        _input: Rel,
+        _want: Dir,
+    ) -> Result<(Rel, Local), AllocError> {
+        Err(AllocError)
+    }
+
+    fn whole2(
+        &self,
+        _alloc: Global,
+        _op: &Op2,
+        _left: Rel,
+        _right: Rel,
+        _want: Want,
+    ) -> Result<(Rel, Local), OpFault> {
+        Err(OpFault::NoMemory)
+    }
+
+    fn finish<R: Threads + Sync>(
+        &self,
+        _rt: &R,
+        _alloc: Global,
+        pending: Local,
+    ) -> Result<Local, AllocError> {
+        Ok(pending)
+    }
+}
