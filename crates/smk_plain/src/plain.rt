@@ -1,18 +1,16 @@
 ghost use Rattle.std.specs.Prelude.{◌≡◌, None, false};
 
-use crate::distinct::distinct;
-use crate::group::group;
-use crate::join::join;
-use crate::select::{project, select};
-use crate::unions::{union, union_all};
 use smk_base::{Dir, Op1, Op2, Rel};
-use smk_body::{Local, OpBody, OpFault, Side, Want};
+use smk_body::steps::{distinct, group, join, select, union};
+use smk_body::{InPieces, Local, OpBody, OpFault, Side, Want, images, union_all_rows};
 use std::alloc::{AllocError, Global};
 use std::thread::Threads;
 
 /// The plain body: rows alone. No lineage may be wanted of it.
 #[derive(Drop)]
 pub struct Plain;
+
+impl InPieces for Plain {}
 
 impl OpBody for Plain {
     type Pending = Local;
@@ -33,10 +31,10 @@ impl OpBody for Plain {
         _want: Dir,
     ) -> Result<(Rel, Local), AllocError> {
         let rel = match op {
-            Op1::Select(pred) => select(alloc, &input, pred)?,
-            Op1::Project(items) => project(alloc, &input, items.as_slice())?,
-            Op1::Distinct(items) => distinct(alloc, &input, items.as_slice())?,
-            Op1::Group(keys, aggs) => group(alloc, &input, keys.as_slice(), aggs.as_slice())?,
+            Op1::Select(pred) => select(alloc, &input, pred)?.0,
+            Op1::Project(items) => images(alloc, &input, items.as_slice())?,
+            Op1::Distinct(items) => distinct(alloc, &input, items.as_slice())?.0,
+            Op1::Group(keys, aggs) => group(alloc, &input, keys.as_slice(), aggs.as_slice())?.0,
         };
         Ok((rel, no_local(None)))
     }
@@ -50,9 +48,11 @@ impl OpBody for Plain {
         _want: Want,
     ) -> Result<(Rel, Local), OpFault> {
         let rel = match op {
-            Op2::Join(pairs) => join(alloc, &left, &right, pairs.as_slice())?,
-            Op2::UnionAll => union_all(alloc, &left, &right)?,
-            Op2::Union => union(alloc, &left, &right)?,
+            Op2::Join(_) => join(alloc, op, &left, &right)?.0,
+            Op2::Theta(_) => join(alloc, op, &left, &right)?.0,
+            Op2::Product => join(alloc, op, &left, &right)?.0,
+            Op2::UnionAll => union_all_rows(alloc, left, &right)?,
+            Op2::Union => union(alloc, &left, &right)?.0,
         };
         let _rows = rel.len();
         Ok((rel, no_local(Some(no_side()))))
