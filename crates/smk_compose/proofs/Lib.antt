@@ -1,2 +1,14 @@
 pub mod Lists
 pub mod Nodes
+pub mod Wants
+pub mod Owns
+pub mod Chains
+pub mod Finds
+pub mod Togethers
+pub mod Aheads
+pub mod Ones
+pub mod Alone
+pub mod Twos
+pub mod Counts
+pub mod Scans
+pub mod Bridge

@@ -1,16 +1,16 @@
 -- Lists of Rels and of rids.
-use Rattle.std.proofs.Common.{◌≡◌, ◌∙◌, ◌+◌, ◌<◌, ◌≤◌, ℕ, zero, suc, List, [], ◌∷◌, ◌++◌, length, map, take, drop, get_or, All, Bool, true, Option, Some, None, refl, sym, ap, subst, arith, inl, inr, nat_eq, eqb-true}
-use Rattle.std.specs.List.{sum_by, find}
+use Rattle.std.proofs.Common.{◌≡◌, ◌∙◌, ◌+◌, ◌<◌, ◌≤◌, ℕ, zero, suc, List, [], ◌∷◌, ◌++◌, length, map, drop, get_or, All, Bool, true, Some, None, refl, sym, ap, subst, arith, inl, inr, nat_eq}
+use Rattle.std.specs.List.{find}
 use Rattle.std.proofs.Math.Seq.{drop-nil}
 use Rattle.std.proofs.Math.ListN.{get_or-map}
 use Rattle.std.proofs.lemmas.Bool.{cases_Bool}
-use Rattle.std.proofs.lemmas.List.{map-append, drop-map, length-map, length-take, get_or_default}
+use Rattle.std.proofs.lemmas.List.{map-append, drop-map, length-map, get_or_default}
 use Rattle.std.proofs.lemmas.List.Sums.{sum_by-append}
 use Rattle.smk_base.specs.Rels.{Relation}
 use Rattle.smk_base.specs.Picks.{IsAscending}
 use Rattle.smk_base.specs.declared.pick.Pick.{Pick}
 use Rattle.smk_model.specs.Values.{Row}
-use Rattle.smk_model.specs.Lineage.{sub, row_at}
+use Rattle.smk_model.specs.Lineage.{sub}
 use Rattle.smk_model.specs.Selection.{each_rows, each_kinds, rows_in, picked, kept_rows, selected, PickFits}
 use Rattle.smk_compose.specs.Fetched.{table_of, leaf_over}
 
@@ -40,19 +40,15 @@ at_least A up (suc i) p =
     let more = up i (suc i) (omega arith) p in
     omega arith
 
-pub ascending_short : (A : List ℕ) (n : ℕ) → IsAscending A → All (λ i. i < n) A → length A ≤ n
+ascending_short : (A : List ℕ) (n : ℕ) → IsAscending A → All (λ i. i < n) A → length A ≤ n
 ascending_short [] n up low = omega arith
 ascending_short (x ∷ xs) n up low =
     let last = at_least (x ∷ xs) up (length xs) (omega arith) in
     let below = low (length xs) 0 (omega arith) in
     omega arith
 
--- room for one more row, where fewer rids were read than there are
-pub room : (L : List Row) (rids : List ℕ) (i : ℕ) (rows : List Row) → IsAscending rids → All (λ rid. rid < length L) rids → length L ≤ 1048576 → i < length rids → rows ≡ sub L (take i rids) → length rows < 1048576
-room L rids i rows up low few inside e =
-    let short = ascending_short rids (length L) up low in
-    let long : length rows ≡ length (take i rids) = ap (length {A = Row}) e ∙ length-map (take i rids) (row_at L) in
-    omega (arith, short, long, length-take {A = ℕ}, inside, few)
+pub few_rids : (rids : List ℕ) (n : ℕ) → IsAscending rids → All (λ rid. rid < n) rids → n ≤ 1048576 → length rids ≤ 1048576
+few_rids rids n up low few = omega (arith, ascending_short rids n up low)
 
 -- what is found in a list is one of its members, and passes the test
 pub found : (P : Pick → Type 0) (test : Pick → Bool) (picks : List Pick) (x : Pick) → Some x ≡ find test picks → All P picks → P x

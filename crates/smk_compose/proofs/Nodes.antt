@@ -1,22 +1,21 @@
 -- The nodes of a plan in post-order, and the first that has too many rows.
-use Rattle.std.proofs.Common.{◌≡◌, ◌∙◌, ◌+◌, ◌<◌, ◌≤◌, ℕ, zero, suc, Bool, true, false, cond, List, [], ◌∷◌, ◌++◌, length, map, drop, get_or, Option, Some, None, refl, sym, ap, subst, arith, inl, inr}
+use Rattle.std.proofs.Common.{◌≡◌, ◌∙◌, ◌+◌, ◌<◌, ◌≤◌, ℕ, List, [], ◌∷◌, ◌++◌, length, drop, get_or, Some, None, refl, sym, ap, subst, arith, inl, inr}
 use Rattle.std.specs.List.{position_from}
-use Rattle.std.specs.Option.{option_or}
 use Rattle.std.proofs.lemmas.Bool.{cases_Bool}
-use Rattle.std.proofs.lemmas.List.{length-append, get_or-drop}
+use Rattle.std.proofs.lemmas.List.{get_or-drop}
 use Rattle.std.proofs.lemmas.Iterator.Adapters.{position_from-zero}
-use Rattle.smk_base.specs.declared.plan.Op2.{Op2}
-use Rattle.smk_base.specs.Plans.{Expr, Leaf, Apply, Combine}
+use Rattle.smk_base.specs.Plans.{Binary, Expr, Leaf, Apply, Combine}
 use Rattle.smk_model.specs.Values.{Row}
-use Rattle.smk_model.specs.Plain.{step2, leaves, width, eval}
+use Rattle.smk_model.specs.Plain.{step2, width, eval}
 use Rattle.smk_base.specs.declared.value.Kind.{Kind}
 use Rattle.smk_model.specs.Kinds.{Fits2}
 use Rattle.smk_model.specs.Selection.{plan_kinds, PlanFits, node_rows, nodes, is_full, first_full}
 use Rattle.smk_model.proofs.Leaves.{IsSame, eval_same}
+use Rattle.smk_model.proofs.NodeFaults.{position_from-append, nodes_long}
 use Rattle.smk_compose.specs.Walk.{full_at, first_full_from}
 
 -- the rows of a step with two inputs, whose right leaves follow the left ones
-pub eval_two : (op : Op2) (a b : Expr) (E : List (List Row)) → eval (Combine op a b) E ≡ step2 op (eval a E) (eval b (drop (width a) E))
+pub eval_two : (op : Binary) (a b : Expr) (E : List (List Row)) → eval (Combine op a b) E ≡ step2 op (eval a E) (eval b (drop (width a) E))
 eval_two op a b E =
     let right : IsSame b E (0 + width a) (drop (width a) E) 0 = λ j l.
     let e : (0 + width a) + j ≡ width a + j = omega arith in
@@ -36,20 +35,6 @@ full rows number many = elim (cases_Bool (is_full rows)) [
   | inr e ↦ absurd (grind (arith, e, many))
 ]
 
-position_from-append : (t : List Row → Bool) (n : ℕ) (xs ys : List (List Row)) → position_from t n (xs ++ ys) ≡ option_or (position_from t n xs) (position_from t (n + length xs) ys)
-position_from-append t n [] ys = let e : n + 0 ≡ n = omega arith in rw e refl
-position_from-append t n (x ∷ xs) ys = elim (cases_Bool (t x)) [
-  | inl e ↦ rw e refl
-  | inr e ↦ let f : n + suc (length xs) ≡ (n + 1) + length xs = omega arith in rw (e, f) (position_from-append t (n + 1) xs ys)
-]
-
-nodes_long : (plan : Expr) (E : List (List Row)) → length (node_rows plan E) ≡ nodes plan
-nodes_long (Leaf table) E = refl
-nodes_long (Apply op input) E = omega (arith, nodes_long input E, length-append (node_rows input E) (eval (Apply op input) E ∷ []))
-nodes_long (Combine op a b) E =
-    let all = node_rows b (drop (width a) E) ++ eval (Combine op a b) E ∷ [] in
-    omega (arith, nodes_long a E, nodes_long b (drop (width a) E), length-append (node_rows a E) all, length-append (node_rows b (drop (width a) E)) (eval (Combine op a b) E ∷ []))
-
 walk_is : (plan : Expr) (E : List (List Row)) (n : ℕ) → first_full_from plan E n ≡ position_from is_full n (node_rows plan E)
 walk_is (Leaf table) E n = refl
 walk_is (Apply op input) E n =
@@ -63,16 +48,16 @@ walk_is (Combine op a b) E n =
 pub first_full_is : (plan : Expr) (E : List (List Row)) → first_full_from plan E 0 ≡ first_full plan E
 first_full_is plan E = walk_is plan E 0 ∙ sym (position_from-zero is_full (node_rows plan E))
 
-pub combine_same : (op : Op2) {a c b d : Expr} → a ≡ c → b ≡ d → Combine op a b ≡ Combine op c d
+pub combine_same : (op : Binary) {a c b d : Expr} → a ≡ c → b ≡ d → Combine op a b ≡ Combine op c d
 combine_same op e f = rw (e, f) refl
 
 -- what a step with two inputs asks of the kinds of its right input's leaves, and of its own inputs
-pub right_fits : (op : Op2) (a b plan : Expr) (K M : List (List Kind)) → plan ≡ Combine op a b → PlanFits plan K → M ≡ drop (width a) K → PlanFits b M
+pub right_fits : (op : Binary) (a b plan : Expr) (K M : List (List Kind)) → plan ≡ Combine op a b → PlanFits plan K → M ≡ drop (width a) K → PlanFits b M
 right_fits op a b plan K M e fits same =
     let all : PlanFits (Combine op a b) K = subst (λ (x : Expr). PlanFits x K) e fits in
     subst (λ (k : List (List Kind)). PlanFits b k) (sym same) all.1
 
-pub step_fits : (op : Op2) (a b plan : Expr) (K M : List (List Kind)) (ls rs : List Kind) → plan ≡ Combine op a b → PlanFits plan K → M ≡ drop (width a) K → ls ≡ plan_kinds a K → rs ≡ plan_kinds b M → Fits2 op ls rs
+pub step_fits : (op : Binary) (a b plan : Expr) (K M : List (List Kind)) (ls rs : List Kind) → plan ≡ Combine op a b → PlanFits plan K → M ≡ drop (width a) K → ls ≡ plan_kinds a K → rs ≡ plan_kinds b M → Fits2 op ls rs
 step_fits op a b plan K M ls rs e fits same l r =
     let all : PlanFits (Combine op a b) K = subst (λ (x : Expr). PlanFits x K) e fits in
     let right : plan_kinds b (drop (width a) K) ≡ rs = sym (r ∙ ap (plan_kinds b) same) in

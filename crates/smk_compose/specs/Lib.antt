@@ -1,2 +1,5 @@
 pub mod Fetched
 pub mod Walk
+pub mod Kept
+pub mod Over
+pub mod Through

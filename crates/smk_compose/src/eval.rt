@@ -1,5 +1,5 @@
 ghost use Rattle.std.specs.Prelude.{◌≡◌, ◌+◌, ◌<◌, ◌≤◌, ◌^◌, ℕ, length, drop, Some, None, IfOk, IfErr, OnOk};
-ghost use Rattle.smk_base.specs.PlanImage.{expr_of, unary_of};
+ghost use Rattle.smk_base.specs.PlanImage.{binary_of, expr_of, unary_of};
 ghost use Rattle.smk_model.specs.Plain.{step1, step2, width, eval};
 ghost use Rattle.smk_model.specs.Kinds.{Fits1, Fits2, kinds1, kinds2};
 ghost use Rattle.smk_model.specs.Selection.{each_rows, each_kinds, plan_kinds, PlanFits, nodes, first_full};
@@ -111,11 +111,11 @@ fn apply_two<R: Threads + Sync, B: OpBody + Sync>(
     right: Rel,
     number: u32,
 ) -> Result<Rel, EvalFault>
-    requires { Fits2 op.now left.kinds right.kinds }
-    ensures rows { IfOk result (λ made. made.rows ≡ step2 op.now left.rows right.rows) }
-    ensures kinds { IfOk result (λ made. made.kinds ≡ kinds2 op.now left.kinds right.kinds) }
-    ensures few { OnOk result (length (step2 op.now left.rows right.rows) ≤ 1048576) }
-    ensures many { IfErr result (λ e. (node : ℕ) → e ≡ Rows node → (1048576 < length (step2 op.now left.rows right.rows)) × (node ≡ number)) }
+    requires { Fits2 (binary_of op.now) left.kinds right.kinds }
+    ensures rows { IfOk result (λ made. made.rows ≡ step2 (binary_of op.now) left.rows right.rows) }
+    ensures kinds { IfOk result (λ made. made.kinds ≡ kinds2 (binary_of op.now) left.kinds right.kinds) }
+    ensures few { OnOk result (length (step2 (binary_of op.now) left.rows right.rows) ≤ 1048576) }
+    ensures many { IfErr result (λ e. (node : ℕ) → e ≡ Rows node → (1048576 < length (step2 (binary_of op.now) left.rows right.rows)) × (node ≡ number)) }
 {
     let none = Dir {
         back: false,

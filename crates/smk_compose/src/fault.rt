@@ -22,3 +22,26 @@ impl From<AllocError> for EvalFault {
         EvalFault::NoMemory
     }
 }
+
+/// Why a plan wasn't run.
+#[derive(Debug, Drop, Clone, Copy, PartialEq, Eq, Error)]
+pub enum RunFault {
+    /// The node with this number has more than 1,048,576 rows.
+    #[error("too many rows at a node")]
+    Rows { node: u32 },
+    /// The node has more than 16,777,216 pairs of a row and a rid of this needed table.
+    #[error("too many pairs at a node")]
+    Pairs { node: u32, table: u32 },
+    #[error("no memory")]
+    NoMemory,
+}
+
+impl From<AllocError> for RunFault {
+    ghost use Rattle.smk_compose.specs.declared.fault.RunFault.TheVariants.{NoMemory};
+
+    ghost from_gives = { λ e f. f ≡ NoMemory };
+
+    fn from(_e: AllocError) -> RunFault {
+        RunFault::NoMemory
+    }
+}

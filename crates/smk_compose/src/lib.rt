@@ -1,17 +1,23 @@
-//! Plans over tables: the rows of their leaves by counted looks, and the rows of the whole plan by the steps of a body.
+//! Plans over tables: the rows of their leaves by counted looks, the rows of the whole plan by the steps of a body, and the lineage that is needed, composed from the leaves upward.
 #![tactic(auto)]
 
+mod chain;
 mod eval;
 mod fault;
 mod fetch;
+mod fill;
+mod kept;
 mod leaves;
+mod pass;
 mod rows;
+mod run;
+mod scan;
+mod step;
 
 pub use eval::eval_leaves;
-pub use fault::EvalFault;
+pub use fault::{EvalFault, RunFault};
 pub use fetch::fetch_leaves;
+pub use kept::{KeptMap, Kepts, Run};
 pub use leaves::Leaves;
 pub use rows::{fetch_rids, fetch_whole};
-
-#[cfg(test)]
-mod tests;
+pub use run::run_plan;

@@ -1,0 +1,87 @@
+-- The maps of a plan whose last step has one input, from those of its input.
+use Rattle.std.proofs.Common.{◌≡◌, ◌∙◌, ◌+◌, ℕ, Bool, true, false, ◌&&◌, List, length, map, get_or, Option, Some, None, refl, sym, ap, subst, All}
+use Rattle.std.specs.Option.{option_or}
+use Rattle.std.proofs.lemmas.List.{length-map}
+use Rattle.std.proofs.lemmas.List.Elements.{All-map}
+use Rattle.smk_base.specs.Places.{Lists, has, upto, composed}
+use Rattle.smk_base.specs.Plans.{Unary, Expr, Apply}
+use Rattle.smk_model.specs.Values.{Row}
+use Rattle.smk_model.specs.Plain.{step1, leaves}
+use Rattle.smk_model.specs.Lineage.{places, from1}
+use Rattle.smk_model.specs.Locals.{back1, fwd1}
+use Rattle.smk_model.specs.Composed.{rows_over, backs, forwards}
+use Rattle.smk_model.specs.Selection.{nodes}
+use Rattle.smk_model.proofs.Places.{map_map, length_upto}
+use Rattle.smk_model.proofs.Composed.{backs_compose, forwards_compose, lists_stand}
+use Rattle.smk_body.specs.Locals.{wanted}
+use Rattle.smk_model.specs.NodeFaults.{NodeFault}
+use Rattle.smk_compose.specs.Kept.{held_at}
+use Rattle.smk_compose.specs.Through.{chained, Chains, through, side1, Passes, node_fault}
+use Rattle.smk_compose.specs.Over.{fault_over, walk_fault}
+use Rattle.smk_compose.specs.declared.kept.KeptMap.{KeptMap}
+use Rattle.smk_base.specs.declared.need.Needed.{Needed}
+use Rattle.smk_compose.proofs.Wants.{mk_same, map_agree}
+
+-- one map
+
+pub first_wants : (w : Bool) (B X Y : Lists) → composed B X ≡ Y → chained (Some B) (wanted w X) ≡ wanted w Y
+first_wants true B X Y e = ap Some e
+first_wants false B X Y e = refl
+
+pub last_wants : (w : Bool) (X F Y : Lists) → composed X F ≡ Y → chained (wanted w X) (Some F) ≡ wanted w Y
+last_wants true X F Y e = ap Some e
+last_wants false X F Y e = refl
+
+pub first_fits : (w : Bool) (B X : Lists) → B.bound ≡ length X.lists → Chains (Some B) (wanted w X)
+first_fits true B X h = h
+first_fits false B X h = tt
+
+pub last_fits : (w : Bool) (X F : Lists) → X.bound ≡ length F.lists → Chains (wanted w X) (Some F)
+last_fits true X F h = h
+last_fits false X F h = tt
+
+pub node_same : {m n : ℕ} {R S : List Row} {A B : List KeptMap} → m ≡ n → R ≡ S → A ≡ B → node_fault m R A ≡ node_fault n S B
+node_same p q r = rw (p, q, r) refl
+
+through_is : (op : Unary) (input : Expr) (tables : List (List Row)) (n : Needed) → through (side1 op (rows_over input tables)) (held_at input tables n) ≡ held_at (Apply op input) tables n
+through_is op input tables n = mk_same refl
+    (first_wants (n.dir.back && has (leaves input) n.table) (back1 op (rows_over input tables)) (backs input tables n.table) (backs (Apply op input) tables n.table) (sym (backs_compose.one op input tables n.table)))
+    (last_wants (n.dir.fwd && has (leaves input) n.table) (forwards input tables n.table) (fwd1 op (rows_over input tables)) (forwards (Apply op input) tables n.table) (sym (forwards_compose.one op input tables n.table)))
+
+pub maps_through : (op : Unary) (input : Expr) (tables : List (List Row)) (need : List Needed) → map (through (side1 op (rows_over input tables))) (map (held_at input tables) need) ≡ map (held_at (Apply op input) tables) need
+maps_through op input tables need =
+    map_map (through (side1 op (rows_over input tables))) (held_at input tables) need
+    ∙ map_agree (λ n. through (side1 op (rows_over input tables)) (held_at input tables n)) (held_at (Apply op input) tables) need (λ i d l. through_is op input tables (get_or need i d))
+
+passes_at : (op : Unary) (input : Expr) (tables : List (List Row)) (n : Needed) → Passes (side1 op (rows_over input tables)) (held_at input tables n)
+passes_at op input tables n =
+    let L = rows_over input tables in
+    let long = lists_stand.backs_long input tables n.table in
+    let size : length (fwd1 op L).lists ≡ length L = length-map (upto (length L)) (λ i. places (λ o. has (from1 op L o) i) (length (step1 op L))) ∙ length_upto (length L) in
+    record {
+      back = first_fits (n.dir.back && has (leaves input) n.table) (back1 op L) (backs input tables n.table) (sym long);
+      fwd = last_fits (n.dir.fwd && has (leaves input) n.table) (forwards input tables n.table) (fwd1 op L) (sym size);
+    }
+
+-- what the walk knows of its input
+
+pub one_held : (plan : Expr) (op : Unary) (input : Expr) (tables : List (List Row)) (need : List Needed) (L : List Row) (below : List KeptMap) → plan ≡ Apply op input → L ≡ rows_over input tables → below ≡ map (held_at input tables) need
+    → map (through (side1 op L)) below ≡ map (held_at plan tables) need
+one_held plan op input tables need L below e rows maps =
+    ap (λ (M : List Row). map (through (side1 op M)) below) rows
+    ∙ ap (map (through (side1 op (rows_over input tables)))) maps
+    ∙ maps_through op input tables need
+    ∙ ap (λ (p : Expr). map (held_at p tables) need) (sym e)
+
+pub one_all_pass : (op : Unary) (input : Expr) (tables : List (List Row)) (need : List Needed) (L : List Row) (below : List KeptMap) → L ≡ rows_over input tables → below ≡ map (held_at input tables) need → All (Passes (side1 op L)) below
+one_all_pass op input tables need L below rows maps =
+    let here : All (Passes (side1 op (rows_over input tables))) (map (held_at input tables) need) = All-map (Passes (side1 op (rows_over input tables))) (held_at input tables) need (λ k d l. passes_at op input tables (get_or need k d)) in
+    subst (λ (M : List Row). All (Passes (side1 op M)) below) (sym rows) (subst (λ (l : List KeptMap). All (Passes (side1 op (rows_over input tables))) l) (sym maps) here)
+
+pub one_fault : (plan : Expr) (op : Unary) (input : Expr) (tables : List (List Row)) (need : List Needed) (L : List Row) (below : List KeptMap) (node m : ℕ)
+    → plan ≡ Apply op input → L ≡ rows_over input tables → below ≡ map (held_at input tables) need → m ≡ node + nodes input → walk_fault input tables need node ≡ None
+    → node_fault m (step1 op L) (map (through (side1 op L)) below) ≡ walk_fault plan tables need node
+one_fault plan op input tables need L below node m e rows maps number none =
+    node_same number (ap (step1 op) rows) (one_held (Apply op input) op input tables need L below refl rows maps)
+    ∙ ap (λ (o : Option NodeFault). option_or o (fault_over (Apply op input) tables need (node + nodes input))) (sym none)
+    ∙ ap (λ (p : Expr). walk_fault p tables need node) (sym e)

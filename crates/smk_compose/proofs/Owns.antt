@@ -1,0 +1,41 @@
+-- Maps composed with an identity.
+use Rattle.std.proofs.Common.{◌≡◌, ◌∙◌, ℕ, List, [], ◌∷◌, length, map, get_or, nat_eq, refl, sym, ap, subst, All}
+use Rattle.std.specs.List.{list_any}
+use Rattle.std.proofs.lemmas.List.Elements.{All-get_or}
+use Rattle.smk_base.specs.Places.{Lists, IsPlaces, upto, has, list_at, own_lists, members_at, composed}
+use Rattle.smk_rid.specs.Maps.{IsMap}
+use Rattle.smk_rid.proofs.Sets.{is_below}
+use Rattle.smk_model.proofs.Places.{map_map, map_upto, map_upto_agree, same_below, get_or_map_upto}
+use Rattle.smk_model.proofs.Anys.{any_below, or_false}
+use Rattle.smk_compose.proofs.Wants.{map_agree, lists_same}
+
+-- the places that a set reaches through an identity are the set
+own_members : (n : ℕ) (A : List ℕ) → IsPlaces n A → members_at (own_lists n) A ≡ A
+own_members n A set =
+    same_below (λ r. list_any (λ i. has (list_at (own_lists n) i) r) A) (has A) n (λ r low.
+    any_below (λ i. has (list_at (own_lists n) i) r) (nat_eq r) n A (is_below n A set) (λ i l.
+    ap (λ (x : List ℕ). has x r) (get_or_map_upto (λ (k : ℕ). k ∷ []) n i [] l) ∙ or_false (nat_eq r i)))
+    ∙ set
+
+pub composed_own : (a b : Lists) → IsMap a → b ≡ own_lists (length b.lists) → a.bound ≡ length b.lists → composed a b ≡ a
+composed_own a b is own bound =
+    let n = length b.lists in
+    let sets : All (IsPlaces n) a.lists = subst (λ k. All (IsPlaces k) a.lists) bound is.sets in
+    ap (composed a) own
+    ∙ lists_same (map_agree (members_at (own_lists n)) (λ (A : List ℕ). A) a.lists (λ i d low. own_members n (get_or a.lists i d) (sets i d low)) ∙ map_own a.lists) (sym bound)
+  where
+    map_own : (xs : List (List ℕ)) → map (λ (A : List ℕ). A) xs ≡ xs
+    map_own [] = refl
+    map_own (x ∷ xs) = ap (λ t. x ∷ t) (map_own xs)
+
+pub own_composed : (a b : Lists) → IsMap b → a ≡ own_lists (length a.lists) → a.bound ≡ length b.lists → composed a b ≡ b
+own_composed a b is own bound =
+    let m = length a.lists in
+    let long : m ≡ length b.lists = sym (ap (λ (x : Lists). x.bound) own) ∙ bound in
+    ap (λ (x : Lists). composed x b) (own ∙ ap own_lists long)
+    ∙ lists_same
+    (map_map (members_at b) (λ (i : ℕ). i ∷ []) (upto (length b.lists))
+    ∙ map_upto_agree (λ i. members_at b (i ∷ [])) (λ i. list_at b i) (length b.lists) (λ i low.
+    same_below (λ r. list_any (λ k. has (list_at b k) r) (i ∷ [])) (has (list_at b i)) b.bound (λ r l. or_false (has (list_at b i) r))
+    ∙ All-get_or (IsPlaces b.bound) b.lists i [] low is.sets)
+    ∙ map_upto b.lists []) refl

@@ -1,0 +1,85 @@
+-- The maps of both inputs of a step, one after the other.
+use Rattle.std.proofs.Common.{◌≡◌, ◌∙◌, ◌<◌, ℕ, zero, suc, List, [], ◌∷◌, length, get_or, Option, IsTrue, is_some, refl, sym, ap, subst, arith}
+use Rattle.smk_base.specs.Places.{Lists}
+use Rattle.smk_base.specs.declared.plan.Dir.{Dir}
+use Rattle.smk_base.specs.Plans.{Binary}
+use Rattle.smk_model.specs.Values.{Row}
+use Rattle.smk_model.specs.Locals.{back_left, fwd_left, back_right, fwd_right}
+use Rattle.smk_body.specs.Locals.{side_of, local2}
+use Rattle.smk_body.specs.declared.local.Side.{Side}
+use Rattle.smk_body.specs.declared.local.Local.{Local}
+use Rattle.smk_body.specs.declared.local.Want.{Want}
+use Rattle.smk_compose.specs.Through.{joined, Joins, together, together_all, Meets, want_of, right_of, map_at, no_map, side_left, side_right}
+use Rattle.smk_compose.specs.declared.kept.KeptMap.{KeptMap}
+use Rattle.smk_compose.proofs.Wants.{mk_same, full, chained_back, chained_fwd, passes_wanted}
+
+pub together_long : (ls rs : Side) (lefts rights : List KeptMap) → length lefts ≡ length rights → length (together_all ls rs lefts rights) ≡ length lefts
+together_long ls rs [] rights long = refl
+together_long ls rs (l ∷ lefts) [] long = absurd (omega arith)
+together_long ls rs (l ∷ lefts) (r ∷ rights) long = let e : length lefts ≡ length rights = omega arith in omega (arith, together_long ls rs lefts rights e)
+
+pub together_at : (ls rs : Side) (lefts rights : List KeptMap) (i : ℕ) (d : KeptMap) → length lefts ≡ length rights → i < length lefts → get_or (together_all ls rs lefts rights) i d ≡ together ls rs (map_at lefts i) (map_at rights i)
+together_at ls rs [] rights i d long low = absurd (omega arith)
+together_at ls rs (l ∷ lefts) [] i d long low = absurd (omega arith)
+together_at ls rs (l ∷ lefts) (r ∷ rights) zero d long low = refl
+together_at ls rs (l ∷ lefts) (r ∷ rights) (suc i) d long low = together_at ls rs lefts rights i d (omega arith) (omega arith)
+
+pub together_agree : (ls rs ms ns : Side) (lefts rights : List KeptMap)
+    → ((i : ℕ) → i < length lefts → i < length rights → together ls rs (map_at lefts i) (map_at rights i) ≡ together ms ns (map_at lefts i) (map_at rights i))
+    → together_all ls rs lefts rights ≡ together_all ms ns lefts rights
+together_agree ls rs ms ns [] rights h = refl
+together_agree ls rs ms ns (l ∷ lefts) [] h = refl
+together_agree ls rs ms ns (l ∷ lefts) (r ∷ rights) h =
+    let here : together ls rs l r ≡ together ms ns l r = h 0 (omega arith) (omega arith) in
+    let rest : together_all ls rs lefts rights ≡ together_all ms ns lefts rights = together_agree ls rs ms ns lefts rights (λ i p q. h (suc i) (omega arith) (omega arith)) in
+    rw (here, rest) refl
+
+pub joined_same : {a b x y : Option Lists} → a ≡ b → x ≡ y → joined a x ≡ joined b y
+joined_same p q = rw (p, q) refl
+
+pub together_wanted : (B F C G : Lists) (lefts rights : List KeptMap)
+    → together_all (side_of (want_of lefts) B F) (side_of (want_of rights) C G) lefts rights ≡ together_all (full B F) (full C G) lefts rights
+together_wanted B F C G lefts rights = together_agree (side_of (want_of lefts) B F) (side_of (want_of rights) C G) (full B F) (full C G) lefts rights (λ i p q.
+    mk_same refl
+    (joined_same (chained_back lefts B i no_map p) (chained_back rights C i no_map q))
+    (joined_same (chained_fwd lefts F i no_map p) (chained_fwd rights G i no_map q)))
+
+-- the maps of a step with two inputs
+pub two_maps : (op : Binary) (L R : List Row) (lefts rights : List KeptMap) (want : Want) (m : Local) → want.left ≡ want_of lefts → want.right ≡ want_of rights → m ≡ local2 op L R want
+    → together_all m.left (right_of m) lefts rights ≡ together_all (side_left op L R) (side_right op L R) lefts rights
+two_maps op L R lefts rights want m left right is =
+    ap (λ (l : Local). together_all l.left (right_of l) lefts rights) is
+    ∙ ap (λ (w : Dir). together_all (side_of w (back_left op L R) (fwd_left op L R)) (side_of want.right (back_right op L R) (fwd_right op L R)) lefts rights) left
+    ∙ ap (λ (w : Dir). together_all (side_of (want_of lefts) (back_left op L R) (fwd_left op L R)) (side_of w (back_right op L R) (fwd_right op L R)) lefts rights) right
+    ∙ together_wanted (back_left op L R) (fwd_left op L R) (back_right op L R) (fwd_right op L R) lefts rights
+
+-- what a merge of wanted lists asks
+pub joins_along : {a b x y : Option Lists} → a ≡ b → x ≡ y → Joins a x → Joins b y
+joins_along {a} {b} {x} {y} p q h = subst (λ (z : Option Lists). Joins b z) q (subst (λ (z : Option Lists). Joins z x) p h)
+
+meets_wanted : (B F C G : Lists) (lefts rights : List KeptMap) (i : ℕ) → i < length lefts → i < length rights → Meets (full B F) (full C G) (map_at lefts i) (map_at rights i)
+    → Meets (side_of (want_of lefts) B F) (side_of (want_of rights) C G) (map_at lefts i) (map_at rights i)
+meets_wanted B F C G lefts rights i p q h = record {
+  left = passes_wanted (want_of lefts) B F (map_at lefts i) h.left;
+  right = passes_wanted (want_of rights) C G (map_at rights i) h.right;
+  matches = record {
+    back = joins_along (sym (chained_back lefts B i no_map p)) (sym (chained_back rights C i no_map q)) h.matches.back;
+    fwd = joins_along (sym (chained_fwd lefts F i no_map p)) (sym (chained_fwd rights G i no_map q)) h.matches.fwd;
+  };
+}
+
+pub two_meets : (op : Binary) (L R : List Row) (lefts rights : List KeptMap) (want : Want) (m : Local) → want.left ≡ want_of lefts → want.right ≡ want_of rights → m ≡ local2 op L R want → length lefts ≡ length rights
+    → ((i : ℕ) → i < length lefts → Meets (side_left op L R) (side_right op L R) (map_at lefts i) (map_at rights i))
+    → (i : ℕ) → i < length lefts → Meets m.left (right_of m) (map_at lefts i) (map_at rights i)
+two_meets op L R lefts rights want m left right is long h i p =
+    let at = λ (l r : Side). Meets l r (map_at lefts i) (map_at rights i) in
+    let here = meets_wanted (back_left op L R) (fwd_left op L R) (back_right op L R) (fwd_right op L R) lefts rights i p (omega arith) (h i p) in
+    let one = subst (λ (w : Dir). at (side_of w (back_left op L R) (fwd_left op L R)) (side_of (want_of rights) (back_right op L R) (fwd_right op L R))) (sym left) here in
+    let two = subst (λ (w : Dir). at (side_of want.left (back_left op L R) (fwd_left op L R)) (side_of w (back_right op L R) (fwd_right op L R))) (sym right) one in
+    subst (λ (l : Local). at l.left (right_of l)) (sym is) two
+
+pub two_sides : (op : Binary) (L R : List Row) (want : Want) (m : Local) → m ≡ local2 op L R want → IsTrue (is_some m.right)
+two_sides op L R want m is = subst (λ (l : Local). IsTrue (is_some l.right)) (sym is) refl
+
+pub lists_same : (ls rs : Side) {us vs xs ys : List KeptMap} → us ≡ vs → xs ≡ ys → together_all ls rs us xs ≡ together_all ls rs vs ys
+lists_same ls rs p q = rw (p, q) refl

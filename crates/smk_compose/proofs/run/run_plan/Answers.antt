@@ -1,0 +1,51 @@
+use Rattle.std.proofs.Common.{◌≡◌, ◌∙◌, ◌<◌, ℕ, List, length, map, get_or, Option, sym, ap, subst}
+use Rattle.std.proofs.lemmas.Result.{err_from_is_err_and}
+use Rattle.smk_base.specs.PlanImage.{expr_of}
+use Rattle.smk_model.specs.Values.{Row}
+use Rattle.smk_model.specs.Plain.{whole}
+use Rattle.smk_model.specs.Composed.{table_at, rows_over}
+use Rattle.smk_model.specs.Selection.{each_rows, each_kinds}
+use Rattle.smk_model.specs.NodeFaults.{NodeFault, first_fault}
+use Rattle.smk_compose.specs.Kept.{held_at, asked_of}
+use Rattle.smk_compose.specs.Through.{IsFirst, filled, map_at, no_need}
+use Rattle.smk_compose.specs.Over.{walk_fault}
+use Rattle.smk_compose.specs.declared.fault.RunFault.{RunFault}
+use Rattle.smk_base.specs.declared.need.Needed.{Needed}
+use Rattle.smk_compose.proofs.Bridge.{fits_whole, kinds_whole, walk_whole, kept_whole}
+use Rattle.smk_compose.proofs.run.run_plan.Goals as goal
+
+pub run_node-requires-clause-fits : goal.run_node-requires-clause-fits
+run_node-requires-clause-fits g c κs within = fits_whole (expr_of c.args.plan.now) (each_kinds c.args.tables.now) c.requires.fits
+
+pub returns-in_err-rel-clause-fault : goal.returns-in_err-rel-clause-fault
+returns-in_err-rel-clause-fault g c =
+    let p = err_from_is_err_and c.from_residual.result c.from_residual.ensures.1 in
+    let plan = expr_of c.args.plan.now in
+    let T = each_rows c.args.tables.now in
+    let same : walk_fault plan T c.as_slice.result.now 0 ≡ first_fault plan (whole plan T) (asked_of T c.args.need.now) =
+    ap (λ (n : List Needed). walk_fault plan T n 0) c.as_slice.ensures.needed ∙ walk_whole plan T c.args.need.now c.as_slice.ensures.keeps.directed in
+    rw p.1 (subst (λ (e : RunFault). IsFirst e (first_fault plan (whole plan T) (asked_of T c.args.need.now))) (sym p.2)
+    (subst (λ (f : Option NodeFault). IsFirst c.in_err-rel.field-0.0 f) same c.in_err-rel.ensures.fault))
+
+pub returns-clause-kinds : goal.returns-clause-kinds
+returns-clause-kinds g c = c.in_ok-rel.ensures.kinds ∙ kinds_whole (expr_of c.args.plan.now) (each_kinds c.args.tables.now)
+
+pub returns-clause-kept : goal.returns-clause-kept
+returns-clause-kept g c =
+    let plan = expr_of c.args.plan.now in
+    let T = each_rows c.args.tables.now in
+    let held = c.in_ok-rel.field-0.kept in
+    let made = c.in_ok-kept.kept in
+    let need = c.args.need.now in
+    let maps : held ≡ map (held_at plan T) need = c.in_ok-rel.ensures.kept ∙ ap (map (held_at plan T)) c.as_slice.ensures.needed in
+    let size : c.len-rows.result ≡ length (rows_over plan T) = c.len-rows.ensures.count ∙ ap (length {A = Row}) c.in_ok-rel.ensures.rows in
+    let each = subst (λ (n : List Needed). (i : ℕ) → i < length n → map_at made i ≡ filled (get_or n i no_need).dir c.len-rows.result (length (table_at T (get_or n i no_need).table)) (map_at held i)) c.as_slice-2.ensures.needed c.in_ok-kept.ensures.each in
+    kept_whole plan T need held made c.len-rows.result maps size c.in_ok-kept.ensures.long each
+
+pub returns-clause-none : goal.returns-clause-none
+returns-clause-none g c =
+    let plan = expr_of c.args.plan.now in
+    let T = each_rows c.args.tables.now in
+    let same : walk_fault plan T c.as_slice.result.now 0 ≡ first_fault plan (whole plan T) (asked_of T c.args.need.now) =
+    ap (λ (n : List Needed). walk_fault plan T n 0) c.as_slice.ensures.needed ∙ walk_whole plan T c.args.need.now c.as_slice.ensures.keeps.directed in
+    sym same ∙ c.in_ok-rel.ensures.none

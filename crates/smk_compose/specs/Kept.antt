@@ -1,0 +1,31 @@
+-- The maps that a plan keeps of the tables that are needed.
+use Rattle.std.specs.Prelude.{ℕ, ◌<◌, ◌&&◌, List, length, map, All}
+use Rattle.smk_base.specs.Places.{has}
+use Rattle.smk_base.specs.Plans.{Expr}
+use Rattle.smk_base.specs.declared.need.Needed.{Needed}
+use Rattle.smk_model.specs.Values.{Row}
+use Rattle.smk_model.specs.Plain.{leaves}
+use Rattle.smk_model.specs.Composed.{table_at, backs, forwards}
+use Rattle.smk_body.specs.Locals.{wanted}
+use Rattle.smk_model.specs.NodeFaults.{Asked}
+use Rattle.smk_compose.specs.declared.kept.KeptMap.{KeptMap}
+
+-- each table that is needed is one of n tables
+abbrev pub NeedFits : ℕ → List Needed → Type 0
+NeedFits n need = All (λ needed. needed.table < n) need
+
+-- the backward and forward lists of a plan to a needed table, in the needed directions
+abbrev pub kept_at : Expr → List (List Row) → Needed → KeptMap
+kept_at plan tables need = record { table = need.table; back = wanted need.dir.back (backs plan tables need.table); fwd = wanted need.dir.fwd (forwards plan tables need.table) }
+
+-- the same, where the plan scans the table
+abbrev pub held_at : Expr → List (List Row) → Needed → KeptMap
+held_at plan tables need = record {
+  table = need.table;
+  back = wanted (need.dir.back && has (leaves plan) need.table) (backs plan tables need.table);
+  fwd = wanted (need.dir.fwd && has (leaves plan) need.table) (forwards plan tables need.table);
+}
+
+-- the tables that are asked for, each with the number of its rows
+abbrev pub asked_of : List (List Row) → List Needed → List Asked
+asked_of tables need = map (λ n. (n.table, length (table_at tables n.table))) need

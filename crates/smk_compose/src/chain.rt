@@ -1,0 +1,142 @@
+//! One map of a table through a step: composed with the step's own list, and merged with that of the other input.
+
+ghost use Rattle.std.specs.Prelude.{◌≡◌, ◌<◌, ◌≤◌, true, false, length, Some, IfOk, IfErr, IsTrue};
+ghost use Rattle.smk_base.specs.Places.{pairs_of, composed};
+ghost use Rattle.smk_compose.specs.Through.{chained, chain_of, joined, is_heavy, Chains, Joins};
+ghost use Rattle.smk_rid.specs.declared.fault.RidFault.TheVariants.{Pairs};
+
+use smk_rid::{RidFault, RidMap};
+use std::alloc::Global;
+
+// What two maps composed are: none, one of them where the other one is an identity, or a new one.
+#[derive(Drop)]
+enum Composed {
+    Nothing,
+    First,
+    Second,
+    Made(RidMap),
+}
+
+fn chain(
+    alloc: Global,
+    first: &Option<RidMap>,
+    second: &Option<RidMap>,
+) -> Result<Composed, RidFault>
+    requires { Chains first.now second.now }
+    ensures made { IfOk result (λ chain. chain_of chain first.now second.now ≡ chained first.now second.now) }
+    ensures few { IfOk result (λ _. is_heavy (chained first.now second.now) ≡ false) }
+    ensures many { IfErr result (λ e. e ≡ Pairs → is_heavy (chained first.now second.now) ≡ true) }
+{
+    match (first, second) {
+        (Some(a), Some(b)) => chain_maps(alloc, a, b),
+        (Some(_), None) => Ok(Composed::Nothing),
+        (None, _) => Ok(Composed::Nothing),
+    }
+}
+
+#[tactic(auto, using(crate::proofs::Owns::composed_own, crate::proofs::Owns::own_composed))]
+fn chain_maps(alloc: Global, a: &RidMap, b: &RidMap) -> Result<Composed, RidFault>
+    requires { a.now.bound ≡ length b.now.lists }
+    ensures made { IfOk result (λ chain. chain_of chain (Some a.now) (Some b.now) ≡ Some (composed a.now b.now)) }
+    ensures few { IfOk result (λ _. pairs_of (composed a.now b.now).lists ≤ 16777216) }
+    ensures many { IfErr result (λ e. e ≡ Pairs → 16777216 < pairs_of (composed a.now b.now).lists) }
+{
+    let _pairs = a.pairs();
+    let _pairs = b.pairs();
+    if b.is_identity() {
+        Ok(Composed::First)
+    } else if a.is_identity() {
+        Ok(Composed::Second)
+    } else {
+        Ok(Composed::Made(a.compose(alloc, b)?))
+    }
+}
+
+/// The backward map of a table through a step. The step's list is handed on where that is the map, unless it serves a later table too.
+pub(crate) fn pass_back(
+    alloc: Global,
+    step: &mut Option<RidMap>,
+    below: Option<RidMap>,
+    serves_later: bool,
+) -> Result<Option<RidMap>, RidFault>
+    requires { Chains step.old below }
+    ensures made { IfOk result (λ made. made ≡ chained step.old below) }
+    ensures few { IfOk result (λ _. is_heavy (chained step.old below) ≡ false) }
+    ensures many { IfErr result (λ e. e ≡ Pairs → is_heavy (chained step.old below) ≡ true) }
+    ensures kept { IsTrue serves_later → step.new ≡ step.old }
+{
+    match chain(alloc, step, &below)? {
+        Composed::Nothing => Ok(None),
+        Composed::First => lent(alloc, step, serves_later),
+        Composed::Second => Ok(below),
+        Composed::Made(map) => Ok(Some(map)),
+    }
+}
+
+/// The forward map, likewise.
+pub(crate) fn pass_fwd(
+    alloc: Global,
+    below: Option<RidMap>,
+    step: &mut Option<RidMap>,
+    serves_later: bool,
+) -> Result<Option<RidMap>, RidFault>
+    requires { Chains below step.old }
+    ensures made { IfOk result (λ made. made ≡ chained below step.old) }
+    ensures few { IfOk result (λ _. is_heavy (chained below step.old) ≡ false) }
+    ensures many { IfErr result (λ e. e ≡ Pairs → is_heavy (chained below step.old) ≡ true) }
+    ensures kept { IsTrue serves_later → step.new ≡ step.old }
+{
+    match chain(alloc, &below, step)? {
+        Composed::Nothing => Ok(None),
+        Composed::First => Ok(below),
+        Composed::Second => lent(alloc, step, serves_later),
+        Composed::Made(map) => Ok(Some(map)),
+    }
+}
+
+// A map, or a copy where it serves once more.
+fn lent(
+    alloc: Global,
+    map: &mut Option<RidMap>,
+    serves_later: bool,
+) -> Result<Option<RidMap>, RidFault>
+    ensures given { IfOk result (λ given. given ≡ map.old) }
+    ensures memory { IfErr result (λ e. e ≡ Pairs → ⊥) }
+    ensures kept { IsTrue serves_later → map.new ≡ map.old }
+{
+    if !serves_later {
+        return Ok(map.take());
+    }
+    match map {
+        Some(m) => Ok(Some(m.copy(alloc)?)),
+        None => Ok(None),
+    }
+}
+
+/// The maps by two inputs merged, or the one that there is.
+pub(crate) fn join(
+    alloc: Global,
+    left: Option<RidMap>,
+    right: Option<RidMap>,
+) -> Result<Option<RidMap>, RidFault>
+    requires { Joins left right }
+    ensures made { IfOk result (λ made. made ≡ joined left right) }
+    ensures few { IfOk result (λ _. is_heavy (joined left right) ≡ false) }
+    ensures many { IfErr result (λ e. e ≡ Pairs → is_heavy (joined left right) ≡ true) }
+{
+    match (left, right) {
+        (Some(a), Some(b)) => {
+            let made = a.merge(alloc, &b)?;
+            Ok(Some(made))
+        }
+        (Some(a), None) => {
+            let _pairs = a.pairs();
+            Ok(Some(a))
+        }
+        (None, Some(b)) => {
+            let _pairs = b.pairs();
+            Ok(Some(b))
+        }
+        (None, None) => Ok(None),
+    }
+}

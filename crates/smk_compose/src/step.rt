@@ -1,0 +1,138 @@
+ghost use Rattle.std.specs.Prelude.{◌≡◌, ◌||◌, ◌<◌, ℕ, IsTrue, is_some, length, map, All, IfOk, IfErr, OnOk, None};
+ghost use Rattle.smk_base.specs.PlanImage.{binary_of, unary_of};
+ghost use Rattle.smk_model.specs.Plain.{step1, step2};
+ghost use Rattle.smk_model.specs.Kinds.{Fits1, Fits2, kinds1, kinds2};
+ghost use Rattle.smk_body.specs.Locals.{is_nothing, is_nothing2};
+ghost use Rattle.smk_compose.specs.Through.{through, together_all, side1, side_left, side_right, right_of, want_of, map_at, Passes, Meets, pairs_fault, node_fault, IsFirst};
+
+use crate::fault::RunFault;
+use crate::kept::{Kepts, Run};
+use crate::pass::{meet_all, pass_all, wants};
+use smk_base::{Op1, Op2, Rel};
+use smk_body::{OpBody, OpFault, Want};
+use std::alloc::Global;
+use std::thread::Threads;
+
+/// A step with one input, which is the node with this number: its rows, and the maps of its input through it.
+pub(crate) fn run_one<R: Threads + Sync, B: OpBody + Sync>(
+    rt: &R,
+    alloc: Global,
+    body: &B,
+    op: &Op1,
+    input: Rel,
+    below: Kepts,
+    node: u32,
+) -> Result<Run, RunFault>
+    requires fits { Fits1 (unary_of op.now) input.kinds }
+    requires captured { IsTrue (B.may_capture body.now || is_nothing (want_of below)) }
+    requires passes { All (Passes (side1 (unary_of op.now) input.rows)) below }
+    ensures rows { IfOk result (λ run. run.rel.rows ≡ step1 (unary_of op.now) input.rows) }
+    ensures kinds { IfOk result (λ run. run.rel.kinds ≡ kinds1 (unary_of op.now) input.kinds) }
+    ensures kept { IfOk result (λ run. run.kept ≡ map (through (side1 (unary_of op.now) input.rows)) below) }
+    ensures none { OnOk result (node_fault node (step1 (unary_of op.now) input.rows) (map (through (side1 (unary_of op.now) input.rows)) below) ≡ None) }
+    ensures fault { IfErr result (λ e. IsFirst e (node_fault node (step1 (unary_of op.now) input.rows) (map (through (side1 (unary_of op.now) input.rows)) below))) }
+{
+    let _rows = input.len();
+    let want = wants(below.as_slice());
+    let (rel, pending) = body.apply1(rt, alloc, op, input, want)?;
+    if below.as_slice().is_empty() {
+        return Ok(Run { rel, kept: below });
+    }
+    let kept = finish_one(rt, alloc, body, pending, below, node)?;
+    Ok(Run { rel, kept })
+}
+
+// The maps of the input through a step with one input, by its lineage that is pending.
+fn finish_one<R: Threads + Sync, B: OpBody + Sync>(
+    rt: &R,
+    alloc: Global,
+    body: &B,
+    pending: B::Pending,
+    below: Kepts,
+    node: u32,
+) -> Result<Kepts, RunFault>
+    requires { All (Passes (B.meaning body.now pending).left) below }
+    ensures made { IfOk result (λ made. made ≡ map (through (B.meaning body.now pending).left) below) }
+    ensures none { IfOk result (λ _. pairs_fault node (map (through (B.meaning body.now pending).left) below) ≡ None) }
+    ensures fault { IfErr result (λ e. IsFirst e (pairs_fault node (map (through (B.meaning body.now pending).left) below))) }
+{
+    let mut local = body.finish(rt, alloc, pending)?;
+    let mut maps = below.into_vec();
+    pass_all(alloc, &mut local.left, &mut maps, node)?;
+    Ok(Kepts::from_vec(maps))
+}
+
+/// A step with two inputs, which is the node with this number: its rows, and the maps of its inputs through it.
+pub(crate) fn run_two<R: Threads + Sync, B: OpBody + Sync>(
+    rt: &R,
+    alloc: Global,
+    body: &B,
+    op: &Op2,
+    left: Run,
+    right: Run,
+    node: u32,
+) -> Result<Run, RunFault>
+    requires fits { Fits2 (binary_of op.now) left.rel.kinds right.rel.kinds }
+    requires captured { IsTrue (B.may_capture body.now || is_nothing2 (record { left = want_of left.kept; right = want_of right.kept })) }
+    requires long { length left.kept ≡ length right.kept }
+    requires meets { (i : ℕ) → i < length left.kept → Meets (side_left (binary_of op.now) left.rel.rows right.rel.rows) (side_right (binary_of op.now) left.rel.rows right.rel.rows) (map_at left.kept i) (map_at right.kept i) }
+    ensures rows { IfOk result (λ run. run.rel.rows ≡ step2 (binary_of op.now) left.rel.rows right.rel.rows) }
+    ensures kinds { IfOk result (λ run. run.rel.kinds ≡ kinds2 (binary_of op.now) left.rel.kinds right.rel.kinds) }
+    ensures kept { IfOk result (λ run. run.kept ≡ together_all (side_left (binary_of op.now) left.rel.rows right.rel.rows) (side_right (binary_of op.now) left.rel.rows right.rel.rows) left.kept right.kept) }
+    ensures none { OnOk result (node_fault node (step2 (binary_of op.now) left.rel.rows right.rel.rows) (together_all (side_left (binary_of op.now) left.rel.rows right.rel.rows) (side_right (binary_of op.now) left.rel.rows right.rel.rows) left.kept right.kept) ≡ None) }
+    ensures fault { IfErr result (λ e. IsFirst e (node_fault node (step2 (binary_of op.now) left.rel.rows right.rel.rows) (together_all (side_left (binary_of op.now) left.rel.rows right.rel.rows) (side_right (binary_of op.now) left.rel.rows right.rel.rows) left.kept right.kept))) }
+{
+    let Run {
+        rel: left_rel,
+        kept: left_kept,
+    } = left;
+    let Run {
+        rel: right_rel,
+        kept: right_kept,
+    } = right;
+    let want = Want {
+        left: wants(left_kept.as_slice()),
+        right: wants(right_kept.as_slice()),
+    };
+    match body.apply2(rt, alloc, op, left_rel, right_rel, want) {
+        Ok((rel, pending)) => {
+            if left_kept.as_slice().is_empty() {
+                return Ok(Run {
+                    rel,
+                    kept: left_kept,
+                });
+            }
+            let kept = finish_two(rt, alloc, body, pending, left_kept, right_kept, node)?;
+            Ok(Run { rel, kept })
+        }
+        Err(OpFault::Rows) => Err(RunFault::Rows { node }),
+        Err(OpFault::NoMemory) => Err(RunFault::NoMemory),
+    }
+}
+
+// The maps of the inputs through a step with two inputs, by its lineage that is pending.
+fn finish_two<R: Threads + Sync, B: OpBody + Sync>(
+    rt: &R,
+    alloc: Global,
+    body: &B,
+    pending: B::Pending,
+    left: Kepts,
+    right: Kepts,
+    node: u32,
+) -> Result<Kepts, RunFault>
+    requires sides { IsTrue (is_some (B.meaning body.now pending).right) }
+    requires long { length left ≡ length right }
+    requires meets { (i : ℕ) → i < length left → Meets (B.meaning body.now pending).left (right_of (B.meaning body.now pending)) (map_at left i) (map_at right i) }
+    ensures made { IfOk result (λ made. made ≡ together_all (B.meaning body.now pending).left (right_of (B.meaning body.now pending)) left right) }
+    ensures none { IfOk result (λ _. pairs_fault node (together_all (B.meaning body.now pending).left (right_of (B.meaning body.now pending)) left right) ≡ None) }
+    ensures fault { IfErr result (λ e. IsFirst e (pairs_fault node (together_all (B.meaning body.now pending).left (right_of (B.meaning body.now pending)) left right))) }
+{
+    let mut local = body.finish(rt, alloc, pending)?;
+    let mut lefts = left.into_vec();
+    let mut rights = right.into_vec();
+    match &mut local.right {
+        Some(side) => meet_all(alloc, &mut local.left, side, &mut lefts, &mut rights, node)?,
+        None => unreachable!(),
+    }
+    Ok(Kepts::from_vec(lefts))
+}
