@@ -6,8 +6,6 @@ mod lines;
 mod names;
 mod page;
 mod replies;
-#[cfg(test)]
-mod tests;
 mod texts;
 
 pub use faults::fault_text;

@@ -23,7 +23,12 @@ use Rattle.smk_model.specs.Session.{no_view, view_at}
 use Rattle.smk_model.specs.Forms.{selects_from, is_back_answered, is_book_answered}
 use Rattle.smk_top.specs.Image.{workbook_image}
 use Rattle.smk_top.specs.Passing.{passed_of}
+use Rattle.smk_model.proofs.Selections.{one_leaf}
 use Rattle.smk_top.proofs.ViewRows.{as_many, looks_within}
+
+-- exactly so many looks are at most so many
+pub at_most : (a b : ℕ) → a ≡ b → a ≤ b
+at_most a b e = omega (arith, e)
 
 -- one more place, which passes or not
 pub places_keep : (test : ℕ → Bool) (n : ℕ) → test n ≡ true → places test (n + 1) ≡ places test n ++ n ∷ []
@@ -40,15 +45,6 @@ chain_kinds (Apply (Projection items) input) kinds h = absurd (false≢true h)
 chain_kinds (Apply (Distinction items) input) kinds h = absurd (false≢true h)
 chain_kinds (Apply (Grouping keys aggs) input) kinds h = absurd (false≢true h)
 chain_kinds (Combine op left right) kinds h = absurd (false≢true h)
-
--- its only leaf scans that table
-one_leaf : (plan : Expr) → is_selection plan ≡ true → leaves plan ≡ selected_table plan ∷ []
-one_leaf (Leaf table) h = refl
-one_leaf (Apply (Selection formula) input) h = one_leaf input h
-one_leaf (Apply (Projection items) input) h = absurd (false≢true h)
-one_leaf (Apply (Distinction items) input) h = absurd (false≢true h)
-one_leaf (Apply (Grouping keys aggs) input) h = absurd (false≢true h)
-one_leaf (Combine op left right) h = absurd (false≢true h)
 
 pub chain_leaf : (plan : Expr) (K : List (List Kind)) → is_selection plan ≡ true → leaf_kinds plan K ≡ get_or K (selected_table plan) [] ∷ []
 chain_leaf plan K h = rw (one_leaf plan h) refl

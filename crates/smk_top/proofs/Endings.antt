@@ -5,11 +5,12 @@ use Rattle.smk_base.specs.declared.fault.Fault.{Fault}
 use Rattle.smk_base.specs.declared.fault.Fault.TheVariants.{Usage, Book, Types, Form, Table, FileLong, TableRows, ViewRows, ViewPairs, Unread}
 use Rattle.smk_outside.specs.Outside.{Appends}
 use Rattle.smk_model.specs.Values.{Row}
-use Rattle.smk_model.specs.Tables.{then_try, all_or_first}
+use Rattle.smk_model.specs.Names.{◌>>=◌}
+use Rattle.smk_model.specs.Tables.{all_or_first}
 use Rattle.smk_model.specs.Reports.{Report, report_of}
 use Rattle.smk_model.specs.Readings.{Reading}
 use Rattle.smk_model.specs.Session.{Workbook}
-use Rattle.smk_model.specs.Outcome.{Held, Inputs, next, within_limit, view_content, view_contents, reported as report_or_fault, words_of, unreadable, read, IsReport, HasCause}
+use Rattle.smk_model.specs.Outcome.{Held, Inputs, within_limit, view_content, view_contents, reported as report_or_fault, words_of, unreadable, read, IsReport, HasCause}
 use Rattle.smk_top.specs.declared.status.Status.{Status}
 use Rattle.smk_top.specs.declared.status.Status.TheVariants.{Done, DoneWithRefusals, WriteFault}
 use Rattle.smk_top.specs.declared.stop.Stop.{Stop}
@@ -34,15 +35,10 @@ unfolding OnlyViews IsOfViews
 views_within view (Some node) rows = tt
 views_within view None rows = tt
 
-views_then : {A B : Type 0} (r : Result A Fault) (f : A → Result B Fault) → OnlyViews r → ((a : A) → OnlyViews (f a)) → OnlyViews (then_try r f)
+views_then : {A B : Type 0} (r : Result A Fault) (f : A → Result B Fault) → OnlyViews r → ((a : A) → OnlyViews (f a)) → OnlyViews (r >>= f)
 unfolding OnlyViews
 views_then (Ok a) f h each = each a
 views_then (Err fault) f h each = h
-
-views_next : {A B : Type 0} (r : Result A Fault) (f : A → Result B Fault) → OnlyViews r → ((a : A) → OnlyViews (f a)) → OnlyViews (next r f)
-unfolding OnlyViews
-views_next (Ok a) f h each = each a
-views_next (Err fault) f h each = h
 
 views_all : (tables : List (List Row)) (views : List ViewImage) → OnlyViews (all_or_first (map (view_content tables) views))
 unfolding OnlyViews
@@ -52,7 +48,7 @@ views_all tables (view ∷ views) =
 
 views_reported : (inputs : Inputs) → OnlyViews (report_or_fault inputs)
 unfolding OnlyViews
-views_reported inputs = views_next (view_contents inputs.book) _ (views_all inputs.book.tables inputs.book.catalog.views) (λ contents. tt)
+views_reported inputs = views_then (view_contents inputs.book) _ (views_all inputs.book.tables inputs.book.catalog.views) (λ contents. tt)
 
 untold_views : (words : List (List ℕ)) (rose : Type 0) (fault : Fault) → words_of words ≢ None → IsOfViews fault → HasCause words None rose fault
 unfolding IsOfViews
@@ -99,7 +95,7 @@ report_written inputs book readings contents rose a b r is same_book same_readin
     same = ap (λ k. report_of k readings) same_book ∙ ap (report_of inputs.book) same_readings
 
     found : report_or_fault inputs ≡ Ok (report_of inputs.book inputs.readings)
-    found = ap (λ v. next v (λ c. Ok (report_of inputs.book inputs.readings))) is
+    found = ap (λ v. v >>= (λ c. Ok (report_of inputs.book inputs.readings))) is
 
     by : (r : Result Bool Stop) → Writes (report_of inputs.book inputs.readings) rose a b r → Reports inputs rose a b r
     by (Ok refused) v = (report_of inputs.book inputs.readings, found, v.0, v.1)

@@ -5,13 +5,14 @@ use Rattle.std.proofs.lemmas.List.{take_all, length-take}
 use Rattle.std.proofs.lemmas.Bool.Decides.{nat_tests}
 use Rattle.smk_base.specs.declared.fault.Fault.TheVariants.{FileLong, Unread}
 use Rattle.smk_outside.specs.Outside.{IsFrontOf}
-use Rattle.smk_model.specs.Outcome.{Held, next, kept_short, content_of}
+use Rattle.smk_model.specs.Names.{◌>>=◌}
+use Rattle.smk_model.specs.Outcome.{Held, kept_short, content_of}
 use Rattle.smk_top.specs.declared.stop.Stop.TheVariants.{At}
 use Rattle.smk_top.specs.Reading.{Reads}
 
 -- a front that passes the limit
 passed : (found : Option (List ℕ)) (name front : List ℕ) → IsSomeAnd found (λ whole. front ≡ take 67108865 whole) → 67108864 < length front
-    → next (ok_or found (Unread name)) (kept_short name) ≡ Err (FileLong name)
+    → (ok_or found (Unread name) >>= kept_short name) ≡ Err (FileLong name)
 passed None name front is h = absurd is
 passed (Some whole) name front is h =
     let long : 67108864 < length whole = omega (arith, h, ap length is, length-take {A = ℕ} 67108865 whole) in
@@ -19,7 +20,7 @@ passed (Some whole) name front is h =
 
 -- a front within the limit is the whole
 within : (found : Option (List ℕ)) (name front : List ℕ) → IsSomeAnd found (λ whole. front ≡ take 67108865 whole) → length front ≤ 67108864
-    → next (ok_or found (Unread name)) (kept_short name) ≡ Ok front
+    → (ok_or found (Unread name) >>= kept_short name) ≡ Ok front
 within None name front is h = absurd is
 within (Some whole) name front is h =
     let short : length whole ≤ 67108864 = omega (arith, h, ap length is, length-take {A = ℕ} 67108865 whole) in

@@ -15,7 +15,7 @@ use Rattle.smk_base.specs.declared.reply.Reply.TheVariants as replies
 use Rattle.smk_model.specs.Lineage.{row_at}
 use Rattle.smk_model.specs.Names.{same_name}
 use Rattle.smk_model.specs.Catalogs.{IsCatalog, table_kinds}
-use Rattle.smk_model.specs.Typing.{column_of, columns_of, no_table, table_at}
+use Rattle.smk_model.specs.Typing.{column_of, columns_of, no_table, info_at}
 use Rattle.smk_model.specs.Forms.{is_line_answered}
 use Rattle.smk_model.specs.ReplyTexts.{IsReplyTo, view_named, table_named, names_of_table}
 use Rattle.smk_model.specs.Session.{Workbook, view_at, no_view, view_place, table_place, rows_of_table, rows_of_view, rids_back, declares_back, written, marked, first_outside, unless_outside, or_refused, rows_reply, back_reply, view_reply, reply}
@@ -26,7 +26,7 @@ use Rattle.smk_top.proofs.Lookups.{find_placed}
 view_found : (catalog : CatalogImage) (name : List ℕ) (v : ℕ) → view_place catalog name ≡ Some v → view_named catalog name ≡ Some (view_at catalog v)
 view_found catalog name v h = find_placed (λ view. same_name view.name name) catalog.views v no_view h
 
-table_found : (catalog : CatalogImage) (name : List ℕ) (t : ℕ) → table_place catalog name ≡ Some t → table_named catalog name ≡ Some (table_at catalog.tables t)
+table_found : (catalog : CatalogImage) (name : List ℕ) (t : ℕ) → table_place catalog name ≡ Some t → table_named catalog name ≡ Some (info_at catalog.tables t)
 table_found catalog name t h = find_placed (λ table. same_name table.name name) catalog.tables t no_table h
 
 -- a table has a name for each kind
@@ -52,7 +52,7 @@ rows_fit book view table marks t n rids None h =
       tt,
       record {
         known = rw found refl;
-        named = rw found (names_long (table_at book.catalog.tables t));
+        named = rw found (names_long (info_at book.catalog.tables t));
         placed = sym (length-map rids (row_at (rows_of_table book t)));
       },
     )

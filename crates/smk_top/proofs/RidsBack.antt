@@ -21,11 +21,12 @@ use Rattle.smk_model.specs.Annotated.{back}
 use Rattle.smk_model.specs.Lineage.{sub}
 use Rattle.smk_model.specs.LineageLaws.{is_selection, selected_table, selects, chosen}
 use Rattle.smk_model.specs.Selection.{each_rows, each_kinds}
-use Rattle.smk_model.specs.Typing.{table_at, no_table}
+use Rattle.smk_model.specs.Typing.{info_at, no_table}
 use Rattle.smk_model.specs.Catalogs.{IsCatalog, BackFits, table_kinds, each_table_kinds}
 use Rattle.smk_model.specs.Forms.{is_none, is_plain, is_back_answered, selects_from, IsBookAnswered}
 use Rattle.smk_model.specs.Session.{Workbook, view_at, rows_of_table, rows_of_view, rids_back, written, marked, first_outside, unless_outside, rows_reply, back_reply}
 use Rattle.smk_model.specs.Outcome.{view_contents}
+use Rattle.smk_model.proofs.Selections.{one_leaf}
 use Rattle.smk_model.proofs.Places.{places_are, upto_below}
 use Rattle.smk_model.proofs.Selections.{selections}
 use Rattle.smk_top.specs.Image.{workbook_image}
@@ -33,15 +34,6 @@ use Rattle.smk_top.specs.Passing.{passed_of, picked_below, back_at}
 use Rattle.smk_top.proofs.Lookups.{all_at}
 use Rattle.smk_top.proofs.Picked.{none_outside}
 use Rattle.smk_top.proofs.ViewParts.{views_long, view_rows_are}
-
--- a chain of selections has one leaf
-one_leaf : (plan : Expr) → is_selection plan ≡ true → leaves plan ≡ selected_table plan ∷ []
-one_leaf (Leaf table) h = refl
-one_leaf (Apply (Selection formula) input) h = one_leaf input h
-one_leaf (Apply (Projection items) input) h = absurd (false≢true h)
-one_leaf (Apply (Distinction items) input) h = absurd (false≢true h)
-one_leaf (Apply (Grouping keys aggs) input) h = absurd (false≢true h)
-one_leaf (Combine op left right) h = absurd (false≢true h)
 
 -- a plan that selects from a table
 pub record Selects (book : Workbook) (v t : ℕ) : Type 0 where
@@ -141,7 +133,7 @@ table_rows catalog tables views passed number rel held low is =
     ap (λ (r : Relation). r.rows) is ∙ sym (get_or-map (λ (r : Relation). r.rows) tables (back_at catalog.backs number).table rel [] (table_low catalog tables views passed number held low))
 
 pub kinds_at : (catalog : Catalog) (tables views : List Relation) (passed : List (List ℕ)) (number : ℕ) (rel : Relation) → Holds catalog tables views passed → number < length catalog.backs → rel ≡ get_or tables (back_at catalog.backs number).table rel
-    → rel.kinds ≡ table_kinds (table_at catalog.tables (back_at catalog.backs number).table)
+    → rel.kinds ≡ table_kinds (info_at catalog.tables (back_at catalog.backs number).table)
 kinds_at catalog tables views passed number rel held low is =
     let t : ℕ = (back_at catalog.backs number).table in
     ap (λ (r : Relation). r.kinds) is ∙ sym (get_or-map (λ (r : Relation). r.kinds) tables t rel [] (table_low catalog tables views passed number held low)) ∙ ap (λ kinds. get_or kinds t []) held.kinds
@@ -238,11 +230,11 @@ told_here {catalog} {tables} {views} {passed} {number} {b} at view table rel all
     let view_here : view ≡ get_or views d.view view = subst (λ (b : Back). view ≡ get_or views b.view view) at.is is in
     let here : table ≡ get_or tables d.table table = subst (λ (b : Back). table ≡ get_or tables b.table table) at.is table_is in
     let rows : table.rows ≡ rows_of_table book d.table = table_rows catalog tables views passed number table at.held at.low here in
-    let kinds : table.kinds ≡ table_kinds (table_at catalog.tables d.table) = kinds_at catalog tables views passed number table at.held at.low here in
+    let kinds : table.kinds ≡ table_kinds (info_at catalog.tables d.table) = kinds_at catalog tables views passed number table at.held at.low here in
     let all' : all ≡ passed_of book d = passed_is catalog tables views passed number all at.held at.low all_is in
     let long : n ≡ length (rows_of_view book d.view) = count ∙ view_count catalog tables views passed number view at.held at.low view_here in
     let picked' : rids ≡ picked_below (length (rows_of_table book d.table)) (passed_of book d) (marked marks (length (passed_of book d))) =
     picked ∙ ap (λ (l : List Row). picked_below (length l) all (marked marks (length all))) rows ∙ ap (λ (l : List ℕ). picked_below (length (rows_of_table book d.table)) l (marked marks (length l))) all' in
-    let rel' : rel ≡ record { kinds = table_kinds (table_at catalog.tables d.table); rows = sub (rows_of_table book d.table) rids } =
-    told ∙ ap (λ (k : List Kind). the_rel k (sub table.rows rids)) kinds ∙ ap (λ (l : List Row). the_rel (table_kinds (table_at catalog.tables d.table)) (sub l rids)) rows in
+    let rel' : rel ≡ record { kinds = table_kinds (info_at catalog.tables d.table); rows = sub (rows_of_table book d.table) rids } =
+    told ∙ ap (λ (k : List Kind). the_rel k (sub table.rows rids)) kinds ∙ ap (λ (l : List Row). the_rel (table_kinds (info_at catalog.tables d.table)) (sub l rids)) rows in
     ap (replies.Back rids) rel' ∙ told_is catalog tables number marks n rids at.held.answered at.low long inside picked'

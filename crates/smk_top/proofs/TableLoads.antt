@@ -8,7 +8,8 @@ use Rattle.smk_base.specs.declared.catalog.Column.{Column}
 use Rattle.smk_base.specs.declared.fault.Fault.{Fault}
 use Rattle.smk_base.specs.declared.catalog.TableInfo.{TableInfo}
 use Rattle.smk_model.specs.Values.{Row}
-use Rattle.smk_model.specs.Tables.{then_try, all_or_first, kinds_of}
+use Rattle.smk_model.specs.Names.{◌>>=◌}
+use Rattle.smk_model.specs.Tables.{all_or_first, kinds_of}
 use Rattle.smk_model.specs.Catalogs.{table_kinds, each_table_kinds}
 use Rattle.smk_model.specs.Selection.{each_rows, each_kinds}
 use Rattle.smk_model.specs.Outcome.{Held, load}
@@ -23,12 +24,12 @@ use Rattle.smk_top.proofs.ViewParts.{first_then}
 then_value : {A E : Type 0} (rs : List (Result A E)) (r : Result A E) (xs : List A) (x : A) → all_or_first rs ≡ Ok xs → r ≡ Ok x → all_or_first (rs ++ r ∷ []) ≡ Ok (xs ++ x ∷ [])
 then_value [] r xs x e f = let none : [] ≡ xs = cc e in rw f (rw (sym none) refl)
 then_value (q ∷ rs) r xs x e f = let at = first_then q (all_or_first rs) xs e in
-    ap (λ t. then_try t (λ z. then_try (all_or_first (rs ++ r ∷ [])) (λ zs. Ok (z ∷ zs)))) at.2 ∙ ap (λ t. then_try t (λ zs. Ok (at.0 ∷ zs))) (then_value rs r at.1 x at.3 f) ∙ ap (λ l. Ok (l ++ x ∷ [])) (sym at.4)
+    ap (λ t. ◌>>=◌ t (λ z. ◌>>=◌ (all_or_first (rs ++ r ∷ [])) (λ zs. Ok (z ∷ zs)))) at.2 ∙ ap (λ t. ◌>>=◌ t (λ zs. Ok (at.0 ∷ zs))) (then_value rs r at.1 x at.3 f) ∙ ap (λ l. Ok (l ++ x ∷ [])) (sym at.4)
 
 then_fault : {A E : Type 0} (rs : List (Result A E)) (r : Result A E) (more : List (Result A E)) (xs : List A) (fault : E) → all_or_first rs ≡ Ok xs → r ≡ Err fault → all_or_first (rs ++ r ∷ more) ≡ Err fault
 then_fault [] r more xs fault e f = rw f refl
 then_fault (q ∷ rs) r more xs fault e f = let at = first_then q (all_or_first rs) xs e in
-    ap (λ t. then_try t (λ z. then_try (all_or_first (rs ++ r ∷ more)) (λ zs. Ok (z ∷ zs)))) at.2 ∙ ap (λ t. then_try t (λ zs. Ok (at.0 ∷ zs))) (then_fault rs r more at.1 fault at.3 f)
+    ap (λ t. ◌>>=◌ t (λ z. ◌>>=◌ (all_or_first (rs ++ r ∷ more)) (λ zs. Ok (z ∷ zs)))) at.2 ∙ ap (λ t. ◌>>=◌ t (λ zs. Ok (at.0 ∷ zs))) (then_fault rs r more at.1 fault at.3 f)
 
 -- one table more
 pub load_more : {X Y : Type 0} (rows : X → List (List Row)) (row : Y → List Row) (held : Option Held) (rose_first rose_here rose : Type 0) (done : List TableInfo) (info : TableInfo) (before after : X) (y : Y)

@@ -8,15 +8,17 @@ use Rattle.smk_base.specs.declared.catalog.TableInfo.{TableInfo}
 use Rattle.smk_base.specs.declared.catalog.ViewInfo.{ViewInfo}
 use Rattle.smk_model.specs.Values.{Row}
 use Rattle.smk_model.specs.Catalogs.{ViewFits}
-use Rattle.smk_model.specs.Tables.{then_try, all_or_first}
+use Rattle.smk_model.specs.Names.{◌>>=◌}
+use Rattle.smk_model.specs.Tables.{all_or_first}
 use Rattle.smk_model.specs.Selection.{each_rows, each_kinds}
-use Rattle.smk_model.specs.Session.{Workbook, view_at, no_view, rows_of_plan}
+use Rattle.smk_model.specs.Plain.{rows_over}
+use Rattle.smk_model.specs.Session.{Workbook, view_at, no_view}
 use Rattle.smk_model.specs.Outcome.{within_limit, view_content, view_contents}
 use Rattle.smk_model.specs.Texts.{view_text}
 use Rattle.smk_model.specs.Reports.{text_of_view}
 
 -- the values of which there are all
-pub first_then : {A E : Type 0} (r : Result A E) (rest : Result (List A) E) (all : List A) → then_try r (λ x. then_try rest (λ xs. Ok (x ∷ xs))) ≡ Ok all
+pub first_then : {A E : Type 0} (r : Result A E) (rest : Result (List A) E) (all : List A) → ◌>>=◌ r (λ x. ◌>>=◌ rest (λ xs. Ok (x ∷ xs))) ≡ Ok all
     → (y : A) × (ys : List A) × (r ≡ Ok y) × (rest ≡ Ok ys) × (all ≡ y ∷ ys)
 first_then (Ok y) (Ok ys) all h = (y, ys, refl, refl, cc)
 first_then (Ok y) (Err e) all h = cc
@@ -49,7 +51,7 @@ pub views_long : (book : Workbook) (rels : List Relation) → view_contents book
 views_long book rels h = sym (length-map rels (λ rel. rel.rows)) ∙ values_long (view_content book.tables) book.catalog.views (each_rows rels) h
 
 pub view_rows_are : (book : Workbook) (rels : List Relation) (v : ℕ) (rel d : Relation) → view_contents book ≡ Ok (each_rows rels) → v < length rels → rel ≡ get_or rels v d
-    → rel.rows ≡ rows_of_plan book (view_at book.catalog v).plan
+    → rel.rows ≡ rows_over (view_at book.catalog v).plan book.tables
 view_rows_are book rels v rel d h less is =
     ap (λ r. r.rows) is
     ∙ sym (get_or-map (λ rel. rel.rows) rels v d [] less)
@@ -83,4 +85,4 @@ pub view_text_is : (book : Workbook) (views : List ViewInfo) (rels : List Relati
     → v < length rels → v < length views → view ≡ get_or views v e → rel ≡ get_or rels v d → view_text view.name view.names rel.rows ≡ text_of_view book (view_at book.catalog v)
 view_text_is book views rels v view e rel d are contents less within same is =
     let here : view_image view ≡ view_at book.catalog v = view_at_is views v view e no_view within same ∙ ap (λ l. get_or l v no_view) (sym are) in
-    ap (view_text view.name view.names) (view_rows_are book rels v rel d contents less is ∙ ap (λ (w : ViewImage). rows_of_plan book w.plan) (sym here)) ∙ ap (text_of_view book) here
+    ap (view_text view.name view.names) (view_rows_are book rels v rel d contents less is ∙ ap (λ (w : ViewImage). rows_over w.plan book.tables) (sym here)) ∙ ap (text_of_view book) here

@@ -9,7 +9,8 @@ use Rattle.smk_base.specs.declared.catalog.TableInfo.{TableInfo}
 use Rattle.smk_base.specs.declared.catalog.ViewInfo.{ViewInfo}
 use Rattle.smk_base.specs.declared.fault.Fault.{Fault}
 use Rattle.smk_model.specs.Values.{Row}
-use Rattle.smk_model.specs.Tables.{then_try, all_or_first}
+use Rattle.smk_model.specs.Names.{◌>>=◌}
+use Rattle.smk_model.specs.Tables.{all_or_first}
 use Rattle.smk_model.specs.Selection.{each_rows, each_kinds}
 use Rattle.smk_model.specs.Catalogs.{each_table_kinds, ViewFits}
 use Rattle.smk_model.specs.Outcome.{view_content}
@@ -19,11 +20,11 @@ use Rattle.smk_top.specs.Reading.{Answers}
 
 -- the rows of the views so far, and then those of the rest
 abbrev pub views_from : List (List Row) → List ViewInfo → ℕ → List (List Row) → Result (List (List Row)) Fault
-views_from T views i done = then_try (all_or_first (map (view_content T) (map view_image (drop i views)))) (λ rest. Ok (done ++ rest))
+views_from T views i done = ◌>>=◌ (all_or_first (map (view_content T) (map view_image (drop i views)))) (λ rest. Ok (done ++ rest))
 
 -- one more view
 from_here : (T : List (List Row)) (views : List ViewInfo) (i : ℕ) (view : ViewInfo) (done : List (List Row)) → i < length views → view ≡ get_or views i view
-    → views_from T views i done ≡ then_try (all_or_first (view_content T (view_image view) ∷ map (view_content T) (map view_image (drop (i + 1) views)))) (λ rest. Ok (done ++ rest))
+    → views_from T views i done ≡ ◌>>=◌ (all_or_first (view_content T (view_image view) ∷ map (view_content T) (map view_image (drop (i + 1) views)))) (λ rest. Ok (done ++ rest))
 from_here T views i view done low is =
     let cut : drop i views ≡ view ∷ drop (i + 1) views = rw add-one (drop-cons views i view low ∙ ap (λ v. v ∷ drop (suc i) views) (sym is)) in
     rw cut refl
@@ -32,7 +33,7 @@ from_next : (T : List (List Row)) (views : List ViewInfo) (i : ℕ) (view : View
     → view_content T (view_image view) ≡ Ok rows → views_from T views i done ≡ views_from T views (i + 1) (done ++ rows ∷ [])
 from_next T views i view done rows low is e = from_here T views i view done low is ∙ rw e (by (all_or_first (map (view_content T) (map view_image (drop (i + 1) views)))))
   where
-    by : (r : Result (List (List Row)) Fault) → then_try (then_try r (λ rest. Ok (rows ∷ rest))) (λ rest. Ok (done ++ rest)) ≡ then_try r (λ rest. Ok ((done ++ rows ∷ []) ++ rest))
+    by : (r : Result (List (List Row)) Fault) → ◌>>=◌ (◌>>=◌ r (λ rest. Ok (rows ∷ rest))) (λ rest. Ok (done ++ rest)) ≡ ◌>>=◌ r (λ rest. Ok ((done ++ rows ∷ []) ++ rest))
     by (Ok rest) = ap (λ l. Ok l) (sym (append_assoc done (rows ∷ []) rest))
     by (Err fault) = refl
 

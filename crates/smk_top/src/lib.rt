@@ -21,6 +21,3 @@ mod words;
 
 pub use program::run;
 pub use status::Status;
-
-#[cfg(test)]
-mod tests;

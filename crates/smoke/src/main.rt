@@ -15,6 +15,7 @@ use std::thread::Threads;
 
 // A run with a counter of looks over this ledger.
 fn counted_run<R: Threads + Sync, F: Files, O: Sink, E: Sink, L: Ledger>(
+    system: HostRuntime,
     rt: &R,
     alloc: Global,
     words: &[&str],
@@ -27,7 +28,7 @@ fn counted_run<R: Threads + Sync, F: Files, O: Sink, E: Sink, L: Ledger>(
     requires parts { L.parts ≡ blank.parts }
     requires some { 0 < blank.parts }
 {
-    let mut steps: Steps<L> = Steps::new(blank);
+    let mut steps: Steps<L> = Steps::new(system, blank);
     smk_top::run(rt, alloc, words, files, out, err, &Idle, &mut steps)
 }
 
@@ -64,6 +65,7 @@ fn main(rt: HostRuntime) -> ExitCode {
     let mut err = ErrSink::new(rt.stderr());
     let status = match words_of(rt.alloc(), all.as_slice()) {
         Ok(words) => counted_run::<_, _, _, _, Brand>(
+            rt,
             &rt,
             rt.alloc(),
             words.as_slice(),
@@ -76,6 +78,3 @@ fn main(rt: HostRuntime) -> ExitCode {
     };
     ExitCode::from(status.code())
 }
-
-#[cfg(test)]
-mod tests;

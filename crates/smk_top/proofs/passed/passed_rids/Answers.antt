@@ -4,7 +4,7 @@ use Rattle.smk_base.specs.Rels.{Relation}
 use Rattle.smk_model.specs.LineageLaws.{chosen}
 use Rattle.smk_top.specs.Image.{workbook_image}
 use Rattle.smk_top.specs.Passing.{passed_of}
-use Rattle.smk_top.proofs.Chosen.{declared_at, given_chain, given_fits, given_passed, given_looks, looks_past, mapped_more}
+use Rattle.smk_top.proofs.Chosen.{at_most, declared_at, given_chain, given_fits, given_passed, given_looks, looks_past, mapped_more}
 use Rattle.smk_top.proofs.passed.passed_rids.Goals as goal
 
 pub returns-in_err-rel-clause-looks : goal.returns-in_err-rel-clause-looks
@@ -13,7 +13,7 @@ returns-in_err-rel-clause-looks g c =
     let tables = c.args.tables.now in
     let backs = c.as_slice-back-items.result.now in
     let given = declared_at catalog tables backs c.loop-back.back-index c.back-item.result c.requires.checked c.requires.kinds c.requires.answered c.as_slice-back-items.ensures c.loop-back-test.true c.back-item.is in
-    looks_past catalog tables backs c.loop-back.back-index c.back-item.result c.index-tables-back.result c.args.steps.now c.loop-back.steps c.fetch_whole.new.steps given c.index-tables-back.is c.as_slice-back-items.ensures c.loop-back-test.true c.back-item.is c.loop-back.invariant.looks c.fetch_whole.ensures.looks
+    looks_past catalog tables backs c.loop-back.back-index c.back-item.result c.index-tables-back.result c.args.steps.now c.loop-back.steps c.fetch_whole.new.steps given c.index-tables-back.is c.as_slice-back-items.ensures c.loop-back-test.true c.back-item.is c.loop-back.invariant.looks (at_most _ _ c.fetch_whole.ensures.looks)
 
 pub passed-requires-clause-fits : goal.passed-requires-clause-fits
 passed-requires-clause-fits g c =
@@ -35,7 +35,7 @@ returns-in_err-passed-clause-looks g c =
     let tables = c.args.tables.now in
     let backs = c.as_slice-back-items.result.now in
     let given = declared_at catalog tables backs c.loop-back.back-index c.back-item.result c.requires.checked c.requires.kinds c.requires.answered c.as_slice-back-items.ensures c.loop-back-test.true c.back-item.is in
-    looks_past catalog tables backs c.loop-back.back-index c.back-item.result c.index-tables-back.result c.args.steps.now c.loop-back.steps c.fetch_whole.new.steps given c.index-tables-back.is c.as_slice-back-items.ensures c.loop-back-test.true c.back-item.is c.loop-back.invariant.looks c.fetch_whole.ensures.looks
+    looks_past catalog tables backs c.loop-back.back-index c.back-item.result c.index-tables-back.result c.args.steps.now c.loop-back.steps c.fetch_whole.new.steps given c.index-tables-back.is c.as_slice-back-items.ensures c.loop-back-test.true c.back-item.is c.loop-back.invariant.looks (at_most _ _ c.fetch_whole.ensures.looks)
 
 pub returns-in_err-push-clause-looks : goal.returns-in_err-push-clause-looks
 returns-in_err-push-clause-looks g c =
@@ -43,7 +43,7 @@ returns-in_err-push-clause-looks g c =
     let tables = c.args.tables.now in
     let backs = c.as_slice-back-items.result.now in
     let given = declared_at catalog tables backs c.loop-back.back-index c.back-item.result c.requires.checked c.requires.kinds c.requires.answered c.as_slice-back-items.ensures c.loop-back-test.true c.back-item.is in
-    looks_past catalog tables backs c.loop-back.back-index c.back-item.result c.index-tables-back.result c.args.steps.now c.loop-back.steps c.fetch_whole.new.steps given c.index-tables-back.is c.as_slice-back-items.ensures c.loop-back-test.true c.back-item.is c.loop-back.invariant.looks c.fetch_whole.ensures.looks
+    looks_past catalog tables backs c.loop-back.back-index c.back-item.result c.index-tables-back.result c.args.steps.now c.loop-back.steps c.fetch_whole.new.steps given c.index-tables-back.is c.as_slice-back-items.ensures c.loop-back-test.true c.back-item.is c.loop-back.invariant.looks (at_most _ _ c.fetch_whole.ensures.looks)
 
 pub loop-back-preserved : goal.loop-back-preserved
 loop-back-preserved g c =
@@ -60,5 +60,5 @@ loop-back-preserved g c =
       lists = mapped_more (passed_of (workbook_image catalog tables)) catalog.backs i declared c.loop-back.lists.items c.push.new.self.items c.in_ok-passed.field-0
           (rw (sym c.as_slice-back-items.ensures) c.loop-back-test.true) (rw c.as_slice-back-items.ensures at c.back-item.is) c.in_ok-push.ensures.items c.loop-back.invariant.lists
           (given_passed catalog tables declared view rel given (rw c.as_slice.ensures at c.index-as_slice-back.is) c.index-tables-back.is ∙ sym rids);
-      looks = given_looks catalog tables backs i declared rel c.args.steps.now c.loop-back.steps c.fetch_whole.new.steps given c.index-tables-back.is c.as_slice-back-items.ensures c.loop-back-test.true c.back-item.is c.loop-back.invariant.looks c.fetch_whole.ensures.looks;
+      looks = given_looks catalog tables backs i declared rel c.args.steps.now c.loop-back.steps c.fetch_whole.new.steps given c.index-tables-back.is c.as_slice-back-items.ensures c.loop-back-test.true c.back-item.is c.loop-back.invariant.looks (at_most _ _ c.fetch_whole.ensures.looks);
     }

@@ -1,4 +1,0 @@
-use Rattle.smoke.proofs.tests.the_shop.Given as goal
-
-abbrev pub ghosts-counted_run : goal.ghosts-counted_run
-ghosts-counted_run g a = record { name = a.blank.name; parts = a.blank.parts }
