@@ -1,0 +1,156 @@
+use crate::section::{Head, Part, Section};
+use anyhow::{Context, Result};
+use smk_base::Text;
+use smk_outside::MemFiles;
+use std::alloc::{AllocError, Global};
+
+/// What has to come of each run of a case.
+#[derive(Drop)]
+pub struct Ending {
+    pub status: u8,
+    pub out: Vec<u8>,
+    pub err: Vec<u8>,
+}
+
+/// What a case wants. It has to name a status.
+pub fn ending_of(alloc: Global, case: &[Section<'_>]) -> Result<Ending> {
+    Ok(Ending {
+        status: status_of(case).context("the case wants no status")?,
+        out: bytes_of(alloc, case, Part::Out)?,
+        err: bytes_of(alloc, case, Part::Err)?,
+    })
+}
+
+fn status_of(case: &[Section<'_>]) -> Option<u8> {
+    for section in case {
+        if let Head::Status(status) = section.head {
+            return Some(status);
+        }
+    }
+    None
+}
+
+// The bytes of all sections of a part, one behind the other.
+fn bytes_of(alloc: Global, sections: &[Section<'_>], wanted: Part<'_>) -> Result<Vec<u8>> {
+    let mut bytes = Vec::new(alloc);
+    for section in sections {
+        if let Head::Bytes(part, form) = section.head
+            && part.is(wanted)
+        {
+            let piece = form
+                .bytes(alloc, section.body)?
+                .context("an escape isn't one")?;
+            bytes.extend_from_slice(&piece)?;
+        }
+    }
+    Ok(bytes)
+}
+
+/// The words of each run of a case. A case that names none has one run, with the word `book.smk`.
+pub fn runs_of<'a>(alloc: Global, case: &[Section<'a>]) -> Result<Vec<Vec<&'a str>>, AllocError> {
+    let mut runs = Vec::new(alloc);
+    for section in case {
+        if let Head::Words(first) = section.head {
+            runs.push(words_of(alloc, first, section.body)?)?;
+        }
+    }
+    if runs.is_empty() {
+        runs.push(words_of(alloc, "book.smk", None)?)?;
+    }
+    Ok(runs)
+}
+
+// The words of a head, and one for each line.
+fn words_of<'a>(
+    alloc: Global,
+    first: &'a str,
+    body: Option<&'a str>,
+) -> Result<Vec<&'a str>, AllocError> {
+    let mut words = Vec::new(alloc);
+    if !first.is_empty() {
+        for word in first.split(' ') {
+            words.push(word)?;
+        }
+    }
+    if let Some(body) = body {
+        for word in body.split('\n') {
+            words.push(word)?;
+        }
+    }
+    Ok(words)
+}
+
+/// The files of a case: its own, and those shared ones that it has not and that it is not without.
+pub fn files_of(alloc: Global, shared: &[Section<'_>], case: &[Section<'_>]) -> Result<MemFiles> {
+    let mut files = Vec::new(alloc);
+    add_files(alloc, &mut files, case, case)?;
+    add_files(alloc, &mut files, shared, case)?;
+    Ok(MemFiles::new(files, reads_of(alloc, case)?))
+}
+
+fn add_files(
+    alloc: Global,
+    files: &mut Vec<(Text, Text)>,
+    sections: &[Section<'_>],
+    case: &[Section<'_>],
+) -> Result<()> {
+    for section in sections {
+        if let Head::Bytes(Part::File(name), _) = section.head
+            && !is_without(case, name)
+            && !is_there(files, name)
+        {
+            let bytes = bytes_of(alloc, sections, Part::File(name))?;
+            let name = Vec::from_slice(alloc, name.as_bytes())?;
+            files.push((Text::from_vec(name), Text::from_vec(bytes)))?;
+        }
+    }
+    Ok(())
+}
+
+fn is_without(case: &[Section<'_>], name: &str) -> bool {
+    for section in case {
+        if let Head::Without(other) = section.head
+            && other == name
+        {
+            return true;
+        }
+    }
+    false
+}
+
+fn is_there(files: &[(Text, Text)], name: &str) -> bool {
+    for (other, _) in files {
+        if other.as_slice() == name.as_bytes() {
+            return true;
+        }
+    }
+    false
+}
+
+// The numbers of the reads that are to fail.
+fn reads_of(alloc: Global, case: &[Section<'_>]) -> Result<Vec<u32>, AllocError> {
+    let mut reads = Vec::new(alloc);
+    for section in case {
+        if let Head::FailingRead(call) = section.head {
+            reads.push(call)?;
+        }
+    }
+    Ok(reads)
+}
+
+/// The numbers of the puts to `out` or to `err` that are to fail, and after how many bytes.
+pub fn puts_of(
+    alloc: Global,
+    case: &[Section<'_>],
+    sink: Part<'_>,
+) -> Result<Vec<(u32, u64)>, AllocError> {
+    let mut puts = Vec::new(alloc);
+    for section in case {
+        if let Head::FailingPut(part, call, count) = section.head
+            && part.is(sink)
+        {
+            puts.push((call, count))?;
+        }
+    }
+    Ok(puts)
+}

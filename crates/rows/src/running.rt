@@ -1,0 +1,66 @@
+ghost use Rattle.std.specs.Prelude.{◌≡◌, ◌<◌};
+
+use crate::case::{files_of, puts_of};
+use crate::section::{Part, Section};
+use anyhow::Result;
+use smk_outside::{Idle, MemFiles, MemSink, Steps};
+use smk_top::Status;
+use std::alloc::Global;
+use std::marker::Brand;
+use std::sync::ledger::{Blank, Ledger};
+use std::thread::Threads;
+
+/// How many bytes a sink has room for.
+const ROOM: u64 = 16_777_216;
+
+/// What a run came to.
+#[derive(Drop)]
+pub struct Ran {
+    pub status: Status,
+    pub out: MemSink,
+    pub err: MemSink,
+}
+
+// A run with a counter of looks over this ledger.
+fn counted_run<R: Threads + Sync, L: Ledger>(
+    system: HostRuntime,
+    rt: &R,
+    alloc: Global,
+    words: &[&str],
+    files: &mut MemFiles,
+    out: &mut MemSink,
+    err: &mut MemSink,
+    blank: Blank,
+) -> Status
+    requires name { L.name ≡ blank.name }
+    requires parts { L.parts ≡ blank.parts }
+    requires some { 0 < blank.parts }
+{
+    let mut steps: Steps<L> = Steps::new(system, blank);
+    smk_top::run(rt, alloc, words, files, out, err, &Idle, &mut steps)
+}
+
+/// Runs a case with these words.
+pub fn run_words<R: Threads + Sync>(
+    system: HostRuntime,
+    rt: &R,
+    alloc: Global,
+    words: &[&str],
+    shared: &[Section<'_>],
+    case: &[Section<'_>],
+) -> Result<Ran> {
+    let mut files = files_of(alloc, shared, case)?;
+    let mut out = MemSink::new(alloc, puts_of(alloc, case, Part::Out)?, ROOM)?;
+    let mut err = MemSink::new(alloc, puts_of(alloc, case, Part::Err)?, ROOM)?;
+    let status = counted_run::<_, Brand>(
+        system,
+        rt,
+        alloc,
+        words,
+        &mut files,
+        &mut out,
+        &mut err,
+        Blank::new(1),
+    );
+    Ok(Ran { status, out, err })
+}

@@ -1,0 +1,38 @@
+ghost use Rattle.std.specs.Prelude.{◌≡◌, [], ◌∷◌, IfOk};
+ghost use Rattle.smk_base.specs.declared.value.Kind.TheVariants as kinds;
+
+use smk_base::{CellRef, CmpOp, Dir, Kind, Op1, Operand, Pred, Rel, Row, Value};
+use smk_body::OpBody;
+use smk_plain::Plain;
+use std::alloc::{AllocError, Global};
+use std::test::Fail;
+
+const NONE: Dir = Dir {
+    back: false,
+    fwd: false,
+};
+
+// One row of an int.
+fn one_row(alloc: Global, number: i64) -> Result<Rel, AllocError>
+    ensures { IfOk result (λ rel. rel.kinds ≡ kinds.Int 0 ∷ []) }
+{
+    let mut rel = Rel::new(alloc, &[Kind::Int { level: 0 }])?;
+    let mut row = Row::new(alloc);
+    row.push(Value::Int(number as i128))?;
+    rel.push_row(row)?;
+    Ok(rel)
+}
+
+// A run asks the plain body for rows alone, and never for lineage.
+#[test]
+fn the_plain_body_has_no_lineage(rt: HostRuntime) -> Result<(), Fail> {
+    let alloc = rt.alloc();
+    let op = Op1::Select(Pred::Cmp(0, CmpOp::Ge, Operand::Lit(Value::Int(10))));
+    let (made, pending) = Plain.apply1(&rt, alloc, &op, one_row(alloc, 10)?, NONE)?;
+    assert_eq!(rt; (made.len(), made.width()), (1, 1));
+    assert!(rt; matches!(made.cell(0, 0), CellRef::Int(10)));
+    let local = Plain.finish(&rt, alloc, pending)?;
+    assert!(rt; local.left.back.is_none() && local.left.fwd.is_none() && local.right.is_none());
+    assert!(rt; !Plain.captures());
+    Ok(())
+}
