@@ -3,7 +3,7 @@ use Rattle.std.proofs.Common.{◌≡◌, ℕ, suc, ◌+◌, ◌<◌, Bool, true,
 use Rattle.std.proofs.lemmas.List.Quantifiers.{position-Some}
 use Rattle.std.specs.Cmp.{unsigned_Decides}
 use Rattle.std.specs.List.{list_any, position_or_len}
-use Rattle.std.proofs.lemmas.Bool.{cases_order, cases_Bool}
+use Rattle.std.proofs.lemmas.Bool.{cases_order, cases_Bool, lt-ltb}
 use Rattle.std.proofs.lemmas.List.{take_more, get_or-take, length-take-le, get_or_push, length_push, get_or_default, get_or_append_left}
 use Rattle.std.proofs.lemmas.List.Folds.{list_any_at, list_any_none}
 use Rattle.std.proofs.lemmas.Map.Keys.{apart_from_distinct}
@@ -60,6 +60,10 @@ code-at texts k different h =
       | inr (inl less) ↦ absurd (true≢false (sym f.1 ∙ text_apart (get_or texts j []) t (apart_from_distinct text_eq texts j k [] different less h)))
       | inr (inr more) ↦ absurd (true≢false (sym f.1 ∙ apart_from_distinct text_eq texts k j [] different more f.0))
     ]
+
+-- a text is found at its place
+pub code_in-at : (texts : List (List ℕ)) (k : ℕ) → AreTexts texts → k < length texts → code_in texts (get_or texts k []) ≡ Some k
+code_in-at texts k different h = rw (code-at texts k different h, lt-ltb k (length texts) h) refl
 
 -- the code of an added text is within, and is its
 pub added : (texts : List (List ℕ)) (t : List ℕ) → (code_or_last texts t < length (with_text texts t)) × (get_or (with_text texts t) (code_or_last texts t) [] ≡ t)

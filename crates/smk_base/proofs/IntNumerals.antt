@@ -1,18 +1,13 @@
 -- The number that an optional sign and digits write, and the int that bytes write.
-use Rattle.std.proofs.Common.{◌≡◌, ◌∙◌, ◌<◌, ℕ, Bool, true, false, cond, ◌&&◌, ◌==◌, List, [], ◌∷◌, ◌++◌, length, drop, ℤ, pos, negsuc, ◌^◌, nat_lt, refl, sym, ap, arith, true≢false, Option, Some, None, IfSome, IfNone, Result, Ok, Err, Bor, MatchResult}
+use Rattle.std.proofs.Common.{◌≡◌, ◌∙◌, ◌<◌, ◌≤◌, ◌+◌, ◌*◌, ℕ, Bool, true, false, cond, ◌&&◌, ◌==◌, List, [], ◌∷◌, ◌++◌, length, drop, ℤ, pos, negsuc, ◌^◌, nat_lt, refl, sym, ap, arith, true≢false, Option, Some, None, IfSome, IfNone}
 use Rattle.std.specs.List.{list_all}
-use Rattle.std.specs.Result.{result_ok}
-use Rattle.std.specs.Char.{is_ascii_digit}
-use Rattle.std.specs.Str.{all_ascii_digits, IsAscii, IsUtf8}
-use Rattle.std.specs.Str.Parse.{without_leading_sign, signed_digits_value, digits_value, ParsesSigned, IsNumeral}
+use Rattle.std.specs.Char.{is_ascii_digit, digit_value}
+use Rattle.std.specs.Str.{all_ascii_digits}
+use Rattle.std.specs.Str.Parse.{without_leading_sign, signed_digits_value, digits_value_after}
 use Rattle.std.specs.Int.{w64}
 use Rattle.std.specs.Int.RustNames.{FitsSigned}
 use Rattle.std.proofs.lemmas.Bool.{eqb-true, ltb-true, lt-ltb}
 use Rattle.std.proofs.lemmas.Bool.Decides.{nat_tests}
-use Rattle.std.proofs.lemmas.Str.{IsUtf8-from_ascii}
-use Rattle.std.proofs.lemmas.Str.Ascii.{IsAscii-nil, IsAscii-cons}
-use Rattle.std.proofs.lemmas.Fmt.{IsAscii-from_digits}
-use Rattle.std.proofs.lemmas.Str.Parse.{IsNumeralModel, numerals_by_value, tells_all_ascii_digits}
 use Rattle.smk_base.specs.Ints.{after_blanks, before_blanks, is_i64, is_numeral, numeral_int, int_of, IsIntText}
 use Rattle.smk_base.proofs.Blanks.{cases_on, is_solid, before_blanks-append, before_blanks-solid, after_blanks-append, after_blanks-solid, blanks_before, blanks_behind}
 
@@ -46,18 +41,6 @@ numeral_solid (c ∷ cs) h =
     (λ d. digits_solid (c ∷ cs) d)
     h
 
-own : IsNumeralModel (λ ds. all_ascii_digits ds ≡ true) (digits_value 10)
-own = numerals_by_value _ tells_all_ascii_digits
-
-numeral_ascii : (text : List ℕ) → all_ascii_digits (without_leading_sign text) ≡ true → IsAscii text
-numeral_ascii [] h = IsAscii-nil
-numeral_ascii (c ∷ cs) h =
-    sign_cases c cs (IsAscii (c ∷ cs))
-    (λ e d. IsAscii-cons c cs (omega arith) (IsAscii-from_digits cs (own.to cs d)))
-    (λ e d. IsAscii-cons c cs (omega arith) (IsAscii-from_digits cs (own.to cs d)))
-    (λ d. IsAscii-from_digits (c ∷ cs) (own.to (c ∷ cs) d))
-    h
-
 i64_fits : (z : ℤ) → is_i64 z ≡ true → FitsSigned w64 z
 i64_fits (pos n) h = record { sfits = ltb-true n (2 ^ 63) h }
 i64_fits (negsuc n) h = record { sfits = ltb-true n (2 ^ 63) h }
@@ -74,27 +57,10 @@ both false b h = absurd (true≢false (sym h))
 digits_of : (ds : List ℕ) → is_numeral ds ≡ true → (0 < length ds) × (all_ascii_digits ds ≡ true)
 digits_of ds h = let t = both (nat_lt 0 (length ds)) (all_ascii_digits ds) h in (ltb-true 0 (length ds) t.0, t.1)
 
-numeral_from : (ds : List ℕ) → IsNumeral 10 ds → is_numeral ds ≡ true
-numeral_from ds h = rw (lt-ltb 0 (length ds) h.0, own.from ds h.1) refl
-
-is_int_numeral : List ℕ → Bool
-is_int_numeral text = is_numeral (without_leading_sign text) && is_i64 (signed_digits_value 10 text)
-
--- parse reads the number
-pub parse-numeral_int : {E : Type 0} (text : List ℕ) (r : Result ℤ E) → ParsesSigned w64 10 text r → result_ok r ≡ numeral_int text
-parse-numeral_int text (Ok x) h =
-    rw (numeral_from (without_leading_sign text) h.0.0, fits_i64 (signed_digits_value 10 text) h.0.1) (ap Some h.1)
-parse-numeral_int text (Err e) h =
-    cases_on (is_numeral (without_leading_sign text) && is_i64 (signed_digits_value 10 text)) (λ b. None ≡ cond b (Some (signed_digits_value 10 text)) None)
-    (λ t. let u = both _ _ t in let d = digits_of (without_leading_sign text) u.0 in absurd (h ((d.0, own.to (without_leading_sign text) d.1), i64_fits _ u.1)))
-    (λ _. refl)
-
--- bytes that are no UTF-8 write no number
-pub numeral_int-not_utf8 : (text : List ℕ) → ¬ (IsUtf8 text) → None ≡ numeral_int text
-numeral_int-not_utf8 text h =
-    cases_on (is_numeral (without_leading_sign text) && is_i64 (signed_digits_value 10 text)) (λ b. None ≡ cond b (Some (signed_digits_value 10 text)) None)
-    (λ t. let u = both _ _ t in let d = digits_of (without_leading_sign text) u.0 in absurd (h (IsUtf8-from_ascii text (numeral_ascii text d.1))))
-    (λ _. refl)
+-- a number is at most what it and the digits behind it write
+pub le-digits_value_after : (n : ℕ) (ds : List ℕ) → n ≤ digits_value_after 10 n ds
+le-digits_value_after n [] = omega arith
+le-digits_value_after n (d ∷ ds) = omega (arith, le-digits_value_after (n * 10 + digit_value d) ds)
 
 -- what a number says of its text
 numeral_int-some : (text : List ℕ) (n : ℤ) → numeral_int text ≡ Some n → (is_numeral (without_leading_sign text) ≡ true) × (n ≡ signed_digits_value 10 text) × FitsSigned w64 n
@@ -154,12 +120,3 @@ some_says bytes (Some n) e = IsIntText-int_of bytes n (sym e)
 pub none_says : (bytes : List ℕ) (o : Option ℤ) → o ≡ int_of bytes → IfNone o ((n : ℤ) → ¬ (IsIntText bytes n))
 none_says bytes None e = λ n t. let bad : None ≡ Some n = e ∙ int_of-IsIntText bytes n t in cc
 none_says bytes (Some n) e = tt
-
--- what from_utf8 says where it gave no text, and where it gave one
-pub utf8_none : {E : Type 0} (text : List ℕ) (V : E → Type 0) (r : Result (Bor (List ℕ)) E) → MatchResult r (λ s. (s.now ≡ text) × IsUtf8 text) (λ e. (¬ (IsUtf8 text)) × V e) → result_ok r ≡ None → ¬ (IsUtf8 text)
-utf8_none text V (Ok s) h e = absurd (cc)
-utf8_none text V (Err x) h e = h.0
-
-pub utf8_some : {E : Type 0} (text : List ℕ) (V : E → Type 0) (r : Result (Bor (List ℕ)) E) (s : Bor (List ℕ)) → MatchResult r (λ s. (s.now ≡ text) × IsUtf8 text) (λ e. (¬ (IsUtf8 text)) × V e) → result_ok r ≡ Some s → s.now ≡ text
-utf8_some text V (Ok x) s h e = let same : x ≡ s = cc in rw (← same) h.0
-utf8_some text V (Err x) s h e = absurd (cc)

@@ -9,7 +9,7 @@ use Rattle.smk_base.specs.declared.value.Kind.{Kind}
 use Rattle.smk_base.specs.declared.value.Kind.TheVariants as kinds
 use Rattle.smk_base.specs.declared.value.Value.{Value}
 use Rattle.smk_base.specs.declared.value.Value.TheVariants as values
-use Rattle.smk_base.specs.Rels.{IsWithin, IsWider, IsColumn, Fits, value_in, number_of, bin_of}
+use Rattle.smk_base.specs.Rels.{IsWithin, IsWider, IsColumn, Fits, value_in, bin_of}
 use Rattle.smk_base.specs.Images.{ColumnImage}
 use Rattle.smk_base.specs.Columns.{IsColumnOf}
 

@@ -1,14 +1,15 @@
 -- Columns of values.
-use Rattle.std.specs.Prelude.{◌≡◌, ℕ, ◌<◌, ◌≤◌, Some, List, length, All}
+use Rattle.std.specs.Prelude.{◌≡◌, ℕ, ◌<◌, ◌≤◌, Some, length, All}
 use Rattle.smk_base.specs.declared.value.Kind.TheVariants as kinds
 use Rattle.smk_base.specs.declared.value.Value.{Value}
 use Rattle.smk_base.specs.Rels.{IsColumn, Fits, text_of}
 use Rattle.smk_base.specs.Images.{ColumnImage}
+use Rattle.smk_base.specs.declared.rel.TheConstants.{ROW_LIMIT}
 
 -- values of the column's kind for this many rows
 pub record IsColumnOf (count : ℕ) (column : ColumnImage) : Type 0 where
   pub long : length column.cells ≡ count
-  pub few : count ≤ 1048576
+  pub few : count ≤ ROW_LIMIT
   pub low : IsColumn column.kind
   pub fit : All (Fits column.kind) column.cells
 

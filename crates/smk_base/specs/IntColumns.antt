@@ -1,5 +1,5 @@
 -- The numbers of a column of ints.
-use Rattle.std.specs.Prelude.{ℕ, ℤ, List}
+use Rattle.std.specs.Prelude.{ℤ, List}
 use Rattle.smk_base.specs.declared.value_column.Ints.{Ints}
 use Rattle.smk_base.specs.declared.value_column.Ints.TheVariants.{Small, Wide}
 

@@ -1,5 +1,5 @@
 -- A column as it lies in memory.
-use Rattle.std.specs.Prelude.{ℕ, ◌-◌, List, map, Option, Some, None, slice_get, nat_lt, if◌then◌else◌, vec_len, vec_capacity}
+use Rattle.std.specs.Prelude.{ℕ, ◌-◌, List, map, Option, None, vec_len, vec_capacity}
 use Rattle.smk_base.specs.declared.value.Kind.{Kind}
 use Rattle.smk_base.specs.declared.value.Kind.TheVariants as kinds
 use Rattle.smk_base.specs.declared.value.Value.{Value}

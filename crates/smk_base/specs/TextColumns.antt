@@ -1,6 +1,8 @@
 -- Columns of texts.
 use Rattle.std.specs.Prelude.{◌≡◌, ℕ, ◌<◌, ◌≤◌, List, [], length, map, slice_index, slice_index_or, All, fold}
 use Rattle.smk_base.specs.Dicts.{with_text}
+use Rattle.smk_base.specs.declared.rel.TheConstants.{ROW_LIMIT}
+use Rattle.smk_base.specs.declared.text_column.TheConstants.{NO_CODE}
 
 -- the texts of a column, how many more fit without memory, and how many of them may be new
 pub record TextImage : Type 0 where
@@ -22,12 +24,12 @@ texts_at dict codes = map (text_in dict) codes
 
 -- codes within a dictionary that has their texts at their first occurrences
 pub record AreCodes (dict : List (List ℕ)) (codes : List ℕ) : Type 0 where
-  pub few : length codes ≤ 1048576
+  pub few : length codes ≤ ROW_LIMIT
   pub within : All (λ code. code < length dict) codes
   pub firsts : dict ≡ text_firsts (texts_at dict codes)
 
 -- new codes for the old ones that have one
 pub record AreRecoded (old new : List (List ℕ)) (table : List ℕ) : Type 0 where
   pub long : length table ≡ length old
-  pub within : (k : ℕ) → k < length old → slice_index table k < 4294967295 → slice_index table k < length new
-  pub same : (k : ℕ) → k < length old → slice_index table k < 4294967295 → text_in new (slice_index table k) ≡ text_in old k
+  pub within : (k : ℕ) → k < length old → slice_index table k < NO_CODE → slice_index table k < length new
+  pub same : (k : ℕ) → k < length old → slice_index table k < NO_CODE → text_in new (slice_index table k) ≡ text_in old k

@@ -5,6 +5,7 @@ ghost use Rattle.smk_base.specs.Rels.{IsColumn, IsWider, Fits, kind_in, value_in
 ghost use Rattle.smk_base.specs.Columns.{IsColumnOf, IsReady};
 ghost use Rattle.smk_base.specs.Relations.{column_in, AreMade};
 
+use crate::rel::ROW_LIMIT;
 use crate::value::{CellRef, Kind};
 use crate::value_column::ValueColumn;
 use std::alloc::{AllocError, Global};
@@ -42,7 +43,7 @@ pub(crate) fn make_each_ready(
 
 /// Puts a row last that is ready to go there.
 pub(crate) fn push_each(columns: &mut Vec<ValueColumn>, cells: &[CellRef], count: u32)
-    requires few { count < 1048576 }
+    requires few { count < ROW_LIMIT }
     requires each { All (IsColumnOf count) columns.old.items }
     requires long { length cells.now ≡ length columns.old.items }
     requires fits { (k : ℕ) → k < length columns.old.items → Fits (column_in columns.old.items k).kind (value_of_cell (cell_in cells.now k)) }
@@ -63,7 +64,7 @@ pub(crate) fn gather_each(
 ) -> Result<Vec<ValueColumn>, AllocError>
     requires each { All (IsColumnOf count) columns.now }
     requires within { All (λ place. place < count) places.now }
-    requires few { length places.now ≤ 1048576 }
+    requires few { length places.now ≤ ROW_LIMIT }
     ensures { IfOk result (λ made. AreMade (length places.now) (length columns.now) (λ k. (column_in columns.now k).kind) (λ k. map (value_in (column_in columns.now k).cells) places.now) made.items) }
 {
     let mut made = Vec::with_capacity(alloc, columns.len())?;
@@ -117,7 +118,7 @@ pub(crate) fn append_each(
 ) -> Result<Vec<ValueColumn>, AllocError>
     requires each { All (IsColumnOf count) columns.items }
     requires others { All (IsColumnOf more) others.now }
-    requires few { count + more ≤ 1048576 }
+    requires few { count + more ≤ ROW_LIMIT }
     requires wide { length columns.items ≡ length others.now }
     requires wider { (k : ℕ) → k < length columns.items → IsWider (column_in columns.items k).kind (column_in others.now k).kind }
     ensures { IfOk result (λ made. AreMade (count + more) (length columns.items) (λ k. (column_in columns.items k).kind) (λ k. (column_in columns.items k).cells ++ (column_in others.now k).cells) made.items) }

@@ -1,4 +1,4 @@
-ghost use Rattle.std.specs.Prelude.{◌≡◌, ◌<◌, ◌≤◌, ◌+◌, [], length, take, IfOk, OnOk, OnErr, IsOk, slice_index_or};
+ghost use Rattle.std.specs.Prelude.{◌≡◌, ◌<◌, ◌≤◌, ◌+◌, [], length, take, Some, IfOk, IfSome, OnOk, OnErr, IsOk, slice_index_or};
 ghost use Rattle.smk_base.specs.Dicts.{AreTexts, code_in, code_or_last, with_text};
 
 use crate::list::Text;
@@ -6,10 +6,15 @@ use indexmap::IndexSet;
 use std::alloc::{AllocError, Global};
 use std::marker::Model;
 
+// How many seats a dictionary has for texts that are found without their hash.
+const SEATS: usize = 1024;
+
 /// Different texts, each with the place of its first occurrence as its code. Contracts see the list of them, and how many more fit without memory.
 #[derive(Drop)]
 pub struct Dict {
     texts: IndexSet<Vec<u8>>,
+    // A code at the seat of its text, or any other number: who reads one compares the text.
+    seats: Vec<u32>,
 }
 
 impl Model for Dict {
@@ -31,6 +36,7 @@ impl Dict {
     {
         Dict {
             texts: IndexSet::new(alloc),
+            seats: Vec::new(alloc),
         }
     }
 
@@ -65,9 +71,47 @@ impl Dict {
     pub fn code_of_bytes(&self, text: &[u8]) -> Option<u32>
         ensures { result ≡ code_in self.now.texts text.now }
     {
+        match self.seated(text) {
+            Some(code) => Some(code),
+            None => self.searched(text),
+        }
+    }
+
+    // The code of a text by its hash.
+    fn searched(&self, text: &[u8]) -> Option<u32>
+        ensures { result ≡ code_in self.now.texts text.now }
+    {
         match self.texts.get_index_of(text) {
             Some(place) => Some(place as u32),
             None => None,
+        }
+    }
+
+    // The code at the seat of a text, if it is the text's.
+    fn seated(&self, text: &[u8]) -> Option<u32>
+        ensures { IfSome result (λ code. code_in self.now.texts text.now ≡ Some code) }
+    {
+        let code = *self.seats.get(seat_of(text))?;
+        if code < self.len() && self.text(code) == text {
+            Some(code)
+        } else {
+            None
+        }
+    }
+
+    // Puts a code at a seat, if there is memory for seats.
+    fn seat(&mut self, seat: usize, code: u32)
+        ensures texts { self.new.texts ≡ self.old.texts }
+        ensures room { self.new.room ≡ self.old.room }
+    {
+        if self.seats.is_empty() {
+            let alloc = *self.texts.allocator();
+            if let Ok(seats) = vec![in alloc; 0u32; SEATS] {
+                self.seats = seats;
+            }
+        }
+        if let Some(place) = self.seats.get_mut(seat) {
+            *place = code;
         }
     }
 
@@ -81,6 +125,20 @@ impl Dict {
 
     /// The code of a text, which goes last where it isn't there. After an error the texts are as before, and there is none where there was room.
     pub fn add(&mut self, text: Text) -> Result<u32, AllocError>
+        requires { length self.old.texts < 2097152 }
+        ensures code { IfOk result (λ code. code ≡ code_or_last self.old.texts text) }
+        ensures texts { OnOk result (self.new.texts ≡ with_text self.old.texts text) }
+        ensures kept { OnErr result (self.new.texts ≡ self.old.texts) }
+        ensures succeeds { 0 < self.old.room → IsOk result }
+    {
+        let seat = seat_of(text.as_slice());
+        let code = self.insert(text)?;
+        self.seat(seat, code);
+        Ok(code)
+    }
+
+    // The same, but that the text gets no seat.
+    fn insert(&mut self, text: Text) -> Result<u32, AllocError>
         requires { length self.old.texts < 2097152 }
         ensures code { IfOk result (λ code. code ≡ code_or_last self.old.texts text) }
         ensures texts { OnOk result (self.new.texts ≡ with_text self.old.texts text) }
@@ -123,5 +181,16 @@ impl Dict {
         ensures { self.new.texts ≡ take len self.old.texts }
     {
         self.texts.truncate(len as usize);
+    }
+}
+
+// The seat of a text, by its last bytes, in which short texts differ most.
+fn seat_of(text: &[u8]) -> usize
+    ensures { result < SEATS }
+{
+    match text {
+        [.., first, last] => (usize::from(*first) * 37 + usize::from(*last)) % SEATS,
+        [last] => usize::from(*last),
+        [] => 0,
     }
 }

@@ -1,6 +1,7 @@
 //! The data types that the model and the code of Smoke share.
 #![tactic(auto)]
 
+mod brush;
 mod catalog;
 mod col_decl;
 mod columns;
@@ -22,6 +23,7 @@ mod type_fault;
 mod value;
 mod value_column;
 
+pub use brush::BrushOn;
 pub use catalog::{
     Back, BackExtra, Backs, Catalog, ColNames, Column, Columns, Fwd, Fwds, Kinds, LinkInfo,
     LinkInfos, TableInfo, TableInfos, ViewInfo, ViewInfos,
@@ -46,6 +48,3 @@ pub use tree::{
 pub use type_fault::TypeFault;
 pub use value::{CellRef, Kind, Value};
 pub use value_column::Ints;
-
-#[cfg(test)]
-mod tests;

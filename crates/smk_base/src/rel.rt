@@ -134,7 +134,7 @@ impl Rel {
 
     /// Puts a row last. On an error the row is dropped.
     pub fn push_row(&mut self, row: Row) -> Result<(), AllocError>
-        requires room { length self.old.rows < 1048576 }
+        requires room { length self.old.rows < ROW_LIMIT }
         requires fits { RowFits self.old.kinds row }
         ensures kinds { self.new.kinds ≡ self.old.kinds }
         ensures pushed { OnOk result (self.new.rows ≡ self.old.rows ++ row ∷ []) }
@@ -147,7 +147,7 @@ impl Rel {
 
     /// Puts the row of these values last. It takes memory where the columns grow, and for a text that its column hasn't yet.
     pub fn push_cells(&mut self, cells: &[CellRef]) -> Result<(), AllocError>
-        requires room { length self.old.rows < 1048576 }
+        requires room { length self.old.rows < ROW_LIMIT }
         requires fits { RowFits self.old.kinds (map value_of_cell cells.now) }
         ensures kinds { self.new.kinds ≡ self.old.kinds }
         ensures pushed { OnOk result (self.new.rows ≡ self.old.rows ++ map value_of_cell cells.now ∷ []) }
@@ -172,7 +172,7 @@ impl Rel {
     /// The rows at these places, in this order.
     pub fn gather(&self, alloc: Global, places: &[u32]) -> Result<Rel, AllocError>
         requires within { All (λ place. place < length self.now.rows) places.now }
-        requires few { length places.now ≤ 1048576 }
+        requires few { length places.now ≤ ROW_LIMIT }
         ensures { IfOk result (λ made. made ≡ record { kinds = self.now.kinds; rows = rows_at self.now.rows places.now }) }
     {
         Ok(Rel {
@@ -196,7 +196,7 @@ impl Rel {
     /// These rows and then those of the other, whose kinds are the same or narrower ones.
     pub fn followed_by(self, alloc: Global, other: &Rel) -> Result<Rel, AllocError>
         requires wider { AllZip IsWider self.kinds other.now.kinds }
-        requires few { length self.rows + length other.now.rows ≤ 1048576 }
+        requires few { length self.rows + length other.now.rows ≤ ROW_LIMIT }
         ensures { IfOk result (λ made. made ≡ record { kinds = self.kinds; rows = self.rows ++ other.now.rows }) }
     {
         let _other = &other.columns;
@@ -248,7 +248,7 @@ impl Rel {
     /// One column of ints of this level.
     pub fn of_ints(alloc: Global, level: u8, numbers: Vec<i128>) -> Result<Rel, AllocError>
         requires low_level { level ≤ 3 }
-        requires few { vec_len numbers ≤ 1048576 }
+        requires few { vec_len numbers ≤ ROW_LIMIT }
         requires within { All (IsWithin level) numbers.items }
         ensures { IfOk result (λ made. made ≡ record { kinds = kinds.Int level ∷ []; rows = map (λ n. values.Int n ∷ []) numbers.items }) }
     {

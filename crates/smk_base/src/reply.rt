@@ -16,11 +16,13 @@ pub enum Reply {
     Brush { rids: Rids, linked: Linkeds },
     /// No brush is in force.
     Cleared,
+    /// The views that followed a brush that was taken away, in the order of their links.
+    ClearedOne { linked: Linkeds },
     /// The line is refused, and nothing is changed.
     Refused(Refusal),
 }
 
-/// A view that follows a brush, by its number: its marks that the brush reaches, and its content over the brushed rows.
+/// A view that follows a brush, by its number: its marks that the rows now selected for it reach, and its content over these rows.
 #[derive(Drop)]
 pub struct Linked {
     pub view: u32,

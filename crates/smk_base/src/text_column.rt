@@ -5,6 +5,7 @@ ghost use Rattle.smk_base.specs.TextColumns.{text_firsts, text_in, AreRecoded};
 
 use crate::dict::Dict;
 use crate::list::Text;
+use crate::rel::ROW_LIMIT;
 use std::alloc::{AllocError, Global};
 use std::marker::Model;
 
@@ -51,7 +52,7 @@ impl TextColumn {
     /// The number of rows. It takes no memory.
     pub fn len(&self) -> u32
         ensures count { result ≡ length self.now.texts }
-        ensures few { result ≤ 1048576 }
+        ensures few { result ≤ ROW_LIMIT }
     {
         self.codes.len() as u32
     }
@@ -109,7 +110,7 @@ impl TextColumn {
 
     /// Puts the next text last.
     pub fn push_next(&mut self, next: Next)
-        requires few { length self.old.texts < 1048576 }
+        requires few { length self.old.texts < ROW_LIMIT }
         requires room { 0 < self.old.room }
         requires next { IsSome (next_text (text_firsts self.old.texts) self.old.dict_room next) }
         ensures { IfSome (next_text (text_firsts self.old.texts) self.old.dict_room next) (λ text. self.new.texts ≡ self.old.texts ++ text ∷ []) }
@@ -129,7 +130,7 @@ impl TextColumn {
 
     /// Puts a text last, and gives its code.
     pub fn push(&mut self, text: Text) -> Result<u32, AllocError>
-        requires { length self.old.texts < 1048576 }
+        requires { length self.old.texts < ROW_LIMIT }
         ensures code { IfOk result (λ code. code ≡ code_or_last (text_firsts self.old.texts) text) }
         ensures pushed { OnOk result (self.new.texts ≡ self.old.texts ++ text ∷ []) }
         ensures kept { OnErr result (self.new.texts ≡ self.old.texts) }
@@ -145,7 +146,7 @@ impl TextColumn {
 
     // Puts the text with this code last.
     fn push_code(&mut self, code: u32) -> Result<(), AllocError>
-        requires room { length self.old.texts < 1048576 }
+        requires room { length self.old.texts < ROW_LIMIT }
         requires code { code < length (text_firsts self.old.texts) }
         ensures pushed { OnOk result (self.new.texts ≡ self.old.texts ++ text_in (text_firsts self.old.texts) code ∷ []) }
         ensures succeeds { 0 < self.old.room → IsOk result }
@@ -162,7 +163,7 @@ impl TextColumn {
         code: u32,
         recoded: &mut [u32],
     ) -> Result<(), AllocError>
-        requires room { length self.old.texts < 1048576 }
+        requires room { length self.old.texts < ROW_LIMIT }
         requires code { code < length dict.now.texts }
         requires recoded { AreRecoded dict.now.texts (text_firsts self.old.texts) recoded.old }
         ensures pushed { OnOk result (self.new.texts ≡ self.old.texts ++ text_in dict.now.texts code ∷ []) }
@@ -181,7 +182,7 @@ impl TextColumn {
     /// The texts of these rows, in this order.
     pub fn gather(&self, alloc: Global, places: &[u32]) -> Result<TextColumn, AllocError>
         requires within { All (λ place. place < length self.now.texts) places.now }
-        requires few { length places.now ≤ 1048576 }
+        requires few { length places.now ≤ ROW_LIMIT }
         ensures { IfOk result (λ made. made.texts ≡ map (text_in self.now.texts) places.now) }
     {
         let mut made = TextColumn {
@@ -202,7 +203,7 @@ impl TextColumn {
 
     /// Puts the texts of another column last. After an error the column may have some of them.
     pub fn append(&mut self, alloc: Global, other: &TextColumn) -> Result<(), AllocError>
-        requires { length self.old.texts + length other.now.texts ≤ 1048576 }
+        requires { length self.old.texts + length other.now.texts ≤ ROW_LIMIT }
         ensures { OnOk result (self.new.texts ≡ self.old.texts ++ other.now.texts) }
     {
         self.codes.reserve(other.codes.len())?;

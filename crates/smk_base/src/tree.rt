@@ -199,6 +199,10 @@ pub enum Line {
         table: Text,
     },
     Clear,
+    ClearOne {
+        view: Text,
+        table: Text,
+    },
 }
 
 /// Where a line of a script lies: its bytes from `start` up to `end`, without its line end. The next line begins at `next`.

@@ -10,6 +10,7 @@ ghost use Rattle.smk_base.specs.declared.value.Value.TheVariants as values;
 ghost use Rattle.smk_base.specs.Columns.{IsColumnOf, IsReady};
 ghost use Rattle.smk_base.specs.Stores.{kind_in_store, cells_in};
 
+use crate::rel::ROW_LIMIT;
 use crate::text_column::{Next, TextColumn};
 use crate::value::{CellRef, Kind};
 use std::alloc::{AllocError, Global};
@@ -130,7 +131,7 @@ impl ValueColumn {
 
     /// Puts a value last that is ready to go there.
     pub fn push(&mut self, cell: CellRef)
-        requires few { length self.old.cells < 1048576 }
+        requires few { length self.old.cells < ROW_LIMIT }
         requires fits { Fits self.old.kind (value_of_cell cell) }
         requires ready { IsReady self.old (value_of_cell cell) }
         ensures kind { self.new.kind ≡ self.old.kind }
@@ -147,7 +148,7 @@ impl ValueColumn {
     /// The values of these rows, in this order.
     pub fn gather(&self, alloc: Global, places: &[u32]) -> Result<ValueColumn, AllocError>
         requires within { All (λ place. place < length self.now.cells) places.now }
-        requires few { length places.now ≤ 1048576 }
+        requires few { length places.now ≤ ROW_LIMIT }
         ensures kind { IfOk result (λ made. made.kind ≡ self.now.kind) }
         ensures cells { IfOk result (λ made. made.cells ≡ map (value_in self.now.cells) places.now) }
         ensures keeps { IfOk result (λ made. IsColumnOf (length places.now) made) }
@@ -159,7 +160,7 @@ impl ValueColumn {
 
     /// The column with the values of another one behind its own. The other's kind is the same or a narrower one.
     pub fn append(self, alloc: Global, other: &ValueColumn) -> Result<ValueColumn, AllocError>
-        requires few { length self.cells + length other.now.cells ≤ 1048576 }
+        requires few { length self.cells + length other.now.cells ≤ ROW_LIMIT }
         requires wider { IsWider self.kind other.now.kind }
         ensures kind { IfOk result (λ made. made.kind ≡ self.kind) }
         ensures cells { IfOk result (λ made. made.cells ≡ self.cells ++ other.now.cells) }
@@ -202,7 +203,7 @@ impl ValueColumn {
     /// A column of these ints, each in the range of the level.
     pub fn of_ints(alloc: Global, level: u8, numbers: Vec<i128>) -> Result<ValueColumn, AllocError>
         requires low { level ≤ 3 }
-        requires few { vec_len numbers ≤ 1048576 }
+        requires few { vec_len numbers ≤ ROW_LIMIT }
         requires within { All (IsWithin level) numbers.items }
         ensures kind { IfOk result (λ made. made.kind ≡ kinds.Int level) }
         ensures cells { IfOk result (λ made. made.cells ≡ map values.Int numbers.items) }
@@ -233,7 +234,7 @@ impl ValueColumn {
 // The values at these places, in this order.
 fn gathered(alloc: Global, store: &Store, places: &[u32]) -> Result<Store, AllocError>
     requires within { All (λ place. place < length (cells_in store.now)) places.now }
-    requires few { length places.now ≤ 1048576 }
+    requires few { length places.now ≤ ROW_LIMIT }
     ensures kind { IfOk result (λ made. kind_in_store made ≡ kind_in_store store.now) }
     ensures cells { IfOk result (λ made. cells_in made ≡ map (value_in (cells_in store.now)) places.now) }
 {
@@ -249,7 +250,7 @@ fn gathered(alloc: Global, store: &Store, places: &[u32]) -> Result<Store, Alloc
 
 // The values of both, of the kind of the first, which is not the narrower one.
 fn appended(alloc: Global, store: Store, other: &Store) -> Result<Store, AllocError>
-    requires few { length (cells_in store) + length (cells_in other.now) ≤ 1048576 }
+    requires few { length (cells_in store) + length (cells_in other.now) ≤ ROW_LIMIT }
     requires wider { IsWider (kind_in_store store) (kind_in_store other.now) }
     requires fit { All (Fits (kind_in_store other.now)) (cells_in other.now) }
     ensures kind { IfOk result (λ made. kind_in_store made ≡ kind_in_store store) }
@@ -455,7 +456,7 @@ fn make_text_ready(texts: &mut TextColumn, next: &mut Next, cell: CellRef) -> Re
 
 // Puts the text last that is ready to go there.
 fn put_text(texts: &mut TextColumn, next: &mut Next, cell: CellRef)
-    requires few { length texts.old.texts < 1048576 }
+    requires few { length texts.old.texts < ROW_LIMIT }
     requires room { 0 < texts.old.room }
     requires fits { Fits kinds.Text (value_of_cell cell) }
     requires next { next_text (text_firsts texts.old.texts) texts.old.dict_room next.old ≡ Some (text_of (value_of_cell cell)) }

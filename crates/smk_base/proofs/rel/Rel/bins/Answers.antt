@@ -3,7 +3,7 @@ use Rattle.std.proofs.lemmas.List.{length-map, get_or_read}
 use Rattle.smk_base.specs.Images.{ColumnImage}
 use Rattle.smk_base.specs.Rels.{Relation, bin_of}
 use Rattle.smk_base.specs.Relations.{column_in}
-use Rattle.smk_base.proofs.Relating.{long-at, one-bins}
+use Rattle.smk_base.proofs.Relating.{one-bins}
 use Rattle.smk_base.proofs.rel.Rel.bins.Goals as goal
 
 pub returns : goal.returns

@@ -1,6 +1,6 @@
-use Rattle.std.proofs.Common.{◌≡◌, ◌∙◌, ap, sym, subst}
+use Rattle.std.proofs.Common.{◌≡◌, ◌∙◌}
 use Rattle.std.proofs.lemmas.List.{length-map, get_or_read}
-use Rattle.smk_base.specs.Rels.{AreCodesOf, column_texts, column_values}
+use Rattle.smk_base.specs.Rels.{column_texts}
 use Rattle.smk_base.specs.Relations.{column_in, rows_of}
 use Rattle.smk_base.proofs.Relating.{column_texts-rows_of, column_values-rows_of, AreCodesOf-texts}
 use Rattle.smk_base.proofs.rel.Rel.codes.Goals as goal

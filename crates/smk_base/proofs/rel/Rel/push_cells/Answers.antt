@@ -1,4 +1,4 @@
-use Rattle.std.proofs.Common.{◌≡◌, ◌<◌, ◌+◌, ◌∙◌, ℕ, ap, sym, arith, rules, length, map, ◌++◌, ◌∷◌, []}
+use Rattle.std.proofs.Common.{◌≡◌, ◌<◌, ◌+◌, ◌∙◌, ap, sym, arith, rules, length, map, ◌++◌, ◌∷◌, []}
 use Rattle.smk_base.specs.Cells.{value_of_cell}
 use Rattle.smk_base.specs.Rels.{Relation, RowFits, value_in}
 use Rattle.smk_base.specs.Relations.{column_in, kinds_of, rows_of, relation_of}

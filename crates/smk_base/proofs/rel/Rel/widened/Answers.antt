@@ -1,4 +1,3 @@
-use Rattle.smk_base.proofs.Rows.{AreColumns-made}
 use Rattle.smk_base.proofs.Relating.{made-widened, kinds-wide, kinds-wider}
 use Rattle.smk_base.proofs.rel.Rel.widened.Goals as goal
 
