@@ -1,7 +1,7 @@
 -- Lists in one direction from those in the other.
 use Rattle.std.proofs.Common.{◌≡◌, ◌∙◌, ◌<◌, ℕ, List, [], length, map, refl, sym, ap, get_or}
 use Rattle.std.proofs.lemmas.List.{length-map}
-use Rattle.smk_base.specs.Places.{Lists, IsPlaces, upto, places, has, inverted}
+use Rattle.smk_base.specs.Places.{IsPlaces, upto, places, has, inverted}
 use Rattle.smk_model.specs.Plain.{step1, step2}
 use Rattle.smk_model.specs.Lineage.{from1, from_left, from_right}
 use Rattle.smk_model.specs.Locals.{back_lists, fwd_lists}

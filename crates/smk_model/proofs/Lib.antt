@@ -10,6 +10,10 @@ pub mod Comes
 pub mod Composed
 pub mod Examples
 pub mod RunExamples
+pub mod SessionExamples
+pub mod Replies
+pub mod Finds
+pub mod RepliesFit
 pub mod Locals
 pub mod Directions
 pub mod Classes

@@ -1,5 +1,5 @@
 -- The lists of one step, in the form in which a loop makes them.
-use Rattle.std.proofs.Common.{◌≡◌, ℕ, suc, ◌+◌, ◌-◌, ◌<◌, Bool, true, false, cond, List, [], ◌∷◌, ◌++◌, length, map, refl, ap, sym, ◌∙◌, subst, arith, get_or, set, take, nat_lt, inl, inr}
+use Rattle.std.proofs.Common.{◌≡◌, ℕ, suc, ◌+◌, ◌-◌, ◌<◌, Bool, true, false, cond, List, [], ◌∷◌, ◌++◌, length, map, refl, ap, sym, ◌∙◌, subst, arith, get_or, set, take, inl, inr}
 use Rattle.std.specs.List.{fold, All, AllPairs}
 use Rattle.std.proofs.lemmas.List.{map-append, append-nil, length-append, length-map, get_or-map, get_or-set_same, get_or-set_other, same_lists, length-set, map_more, get_or-take, get_or_default, length-take-le}
 use Rattle.std.proofs.lemmas.List.Elements.{filter-append, All-map}

@@ -1,6 +1,6 @@
 -- Steps whose rows each have one place in the other direction.
-use Rattle.std.proofs.Common.{◌≡◌, ◌∙◌, ◌<◌, ◌≤◌, ◌+◌, ◌-◌, ℕ, true, false, cond, List, [], ◌∷◌, ◌++◌, length, map, refl, sym, ap, arith, All, get_or, nat_eq, nat_lt, inl, inr}
-use Rattle.std.proofs.lemmas.List.{length-map, length-append, map-id, get_or_default, get_or-map}
+use Rattle.std.proofs.Common.{◌≡◌, ◌∙◌, ◌<◌, ◌+◌, ◌-◌, ℕ, true, cond, List, [], ◌∷◌, ◌++◌, length, map, refl, sym, ap, arith, All, get_or, nat_eq, nat_lt, inl, inr}
+use Rattle.std.proofs.lemmas.List.{length-map, length-append, get_or_default, get_or-map}
 use Rattle.std.proofs.lemmas.Bool.{cases_eq, cases_lt, cases_Bool, eq-eqb, ne_eqb, lt-ltb, le-ltb}
 use Rattle.smk_base.specs.Places.{Lists, upto, places, has, own_lists, inverted}
 use Rattle.smk_base.specs.declared.plan.Item.{Item}

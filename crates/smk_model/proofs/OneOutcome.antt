@@ -8,8 +8,8 @@ use Rattle.smk_base.specs.declared.fault.Fault.{Fault}
 use Rattle.smk_base.specs.declared.fault.Fault.TheVariants.{Form}
 use Rattle.smk_model.specs.Readings.{Reading, Asks, IsReading, says_nothing, asks, leaves, AreReadings, no_line, one_line}
 use Rattle.smk_model.specs.Forms.{is_reading_answered}
-use Rattle.smk_model.specs.Outcome.{Held, Words, Parses, spells, misspells, BookSays, unparsed, parsed, FileSays, unread, read, ScriptSays, lines_read, OpensBook, OpensScript, no_script, a_script, Inputs, ReadsInputs, unusable, no_book, no_tables, no_readings, inputs, unreadable}
-use Rattle.smk_model.specs.OutcomeLaws.{OneReading, OneOutcome}
+use Rattle.smk_model.specs.Outcome.{Held, Words, book_of, script_of, Parses, spells, misspells, BookSays, unparsed, parsed, FileSays, unread, read, ScriptSays, lines_read, OpensBook, OpensScript, no_script, a_script, Inputs, ReadsInputs, unusable, no_book, no_tables, no_readings, inputs, unreadable}
+use Rattle.smk_model.specs.OutcomeLaws.{OneReading, OneInputs, OneOutcome}
 use Rattle.smk_model.proofs.Unique.{one_book, one_line as one_asked}
 use Rattle.smk_model.proofs.Texts.{texts_are_read}
 
@@ -59,15 +59,15 @@ same_file {A} {held} {name} {says} {a} {b} one (read {bytes} h p) (read {bytes =
 same_words : {read : Option Words} {u v : Words} → read ≡ Some u → read ≡ Some v → v ≡ u
 same_words h k = cc
 
-same_opened : {held : Held} {u v : Words} {a b : Result CatalogImage Fault} → v ≡ u → OpensBook held u.book a → OpensBook held v.book b → a ≡ b
-same_opened {held} {u} {v} {a} {b} e p q = same_file (λ bytes x y h k. same_book h k) p (subst (λ (w : Words). OpensBook held w.book b) e q)
+same_opened : {held : Held} {u v : Words} {a b : Result CatalogImage Fault} → v ≡ u → OpensBook held (book_of u) a → OpensBook held (book_of v) b → a ≡ b
+same_opened {held} {u} {v} {a} {b} e p q = same_file (λ bytes x y h k. same_book h k) p (subst (λ (w : Words). OpensBook held (book_of w) b) e q)
 
 same_scripts : {held : Held} {s : Option (List ℕ)} {a b : Result (List Reading) Fault} → OpensScript held s a → OpensScript held s b → a ≡ b
 same_scripts no_script no_script = refl
 same_scripts (a_script p) (a_script q) = same_file (λ bytes x y h k. same_script h k) p q
 
-same_read : {held : Held} {u v : Words} {a b : Result (List Reading) Fault} → v ≡ u → OpensScript held u.script a → OpensScript held v.script b → a ≡ b
-same_read {held} {u} {v} {a} {b} e p q = same_scripts p (subst (λ (w : Words). OpensScript held w.script b) e q)
+same_read : {held : Held} {u v : Words} {a b : Result (List Reading) Fault} → v ≡ u → OpensScript held (script_of u) a → OpensScript held (script_of v) b → a ≡ b
+same_read {held} {u} {v} {a} {b} e p q = same_scripts p (subst (λ (w : Words). OpensScript held (script_of w) b) e q)
 
 same_inputs : {words : List (List ℕ)} {held : Held} {a b : Result Inputs Fault} → ReadsInputs words held a → ReadsInputs words held b → a ≡ b
 same_inputs (unusable w) (unusable v) = refl
@@ -95,6 +95,9 @@ same_inputs (inputs w b t s) (no_book v c) = let e = same_words w v in let o = s
 same_inputs (inputs w b t s) (no_tables v c u) = let e = same_words w v in let o = same_opened e b c in absurd (cc)
 same_inputs (inputs w b t s) (no_readings v c u r) = let e = same_words w v in let o = same_opened e b c in let f = same_read e s r in absurd (cc)
 same_inputs (inputs w b t s) (inputs v c u r) = let e = same_words w v in let o = same_opened e b c in let f = same_read e s r in cc
+
+pub one_inputs : OneInputs
+one_inputs words held a b p q = same_inputs p q
 
 pub one_outcome : OneOutcome
 one_outcome words held a b (unreadable p) (unreadable q) = let e = same_inputs p q in cc

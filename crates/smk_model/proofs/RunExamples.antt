@@ -13,11 +13,15 @@ pub runs : RunsHold
 unfolding digits record_line fields_text is_blank table_of records_from next_record int_of
 runs = record {
   whole = refl;
-  nothing_refused = refl;
-  contents = refl;
+  turned_down = refl;
+  nothing_turned_down = refl;
+  first_v = refl;
+  first_w = refl;
+  no_fault = refl;
   looks_at_start = refl;
   looks_of_lines = refl;
-  too_many = refl;
+  too_many_of_a_view = refl;
+  too_many_pairs = refl;
   answered = refl;
   not_answered = refl;
   brush_not_answered = refl;

@@ -16,7 +16,7 @@ use Rattle.smk_model.specs.Lines.{lines, place_of}
 use Rattle.smk_model.specs.Typing.{types}
 use Rattle.smk_model.specs.Readings.{Reading, Nothing, Asks, Unread, IsReading, says_nothing, asks, leaves, AreReadings, no_line, one_line}
 use Rattle.smk_model.specs.Reports.{Report}
-use Rattle.smk_model.specs.Outcome.{Held, Words, Parses, spells, misspells, BookSays, unparsed, parsed, FileSays, unread, read, ScriptSays, lines_read, OpensBook, OpensScript, no_script, a_script, Inputs, ReadsInputs, unusable, no_book, no_tables, no_readings, inputs, Outcome, unreadable, words_of, content_of, load_all, answered_book, reported}
+use Rattle.smk_model.specs.Outcome.{Held, Words, book_of, script_of, Parses, spells, misspells, BookSays, unparsed, parsed, FileSays, unread, read, ScriptSays, lines_read, OpensBook, OpensScript, no_script, a_script, Inputs, ReadsInputs, unusable, no_book, no_tables, no_readings, inputs, Outcome, unreadable, words_of, content_of, load_all, answered_book, reported}
 use Rattle.smk_model.specs.OutcomeLaws.{FaultlessTextsSpell, SomeReading, SomeOutcome}
 use Rattle.smk_model.proofs.Sound.{faultless_have_trees}
 use Rattle.smk_model.proofs.Closing.{book_finishes, line_finishes}
@@ -68,23 +68,23 @@ some_script held (Some name) = let r = some_file held name (ScriptSays name) (λ
 some_inputs : (words : List (List ℕ)) (held : Held) → (answer : Result Inputs Fault) × ReadsInputs words held answer
 some_inputs words held = by (words_of words) refl
   where
-    scripted : (ws : Words) (catalog : CatalogImage) (tables : List (List Row)) → words_of words ≡ Some ws → OpensBook held ws.book (Ok catalog) → load_all held catalog.tables ≡ Ok tables
-        → (s : Result (List Reading) Fault) → OpensScript held ws.script s → (answer : Result Inputs Fault) × ReadsInputs words held answer
+    scripted : (ws : Words) (catalog : CatalogImage) (tables : List (List Row)) → words_of words ≡ Some ws → OpensBook held (book_of ws) (Ok catalog) → load_all held catalog.tables ≡ Ok tables
+        → (s : Result (List Reading) Fault) → OpensScript held (script_of ws) s → (answer : Result Inputs Fault) × ReadsInputs words held answer
     scripted ws catalog tables w b t (Ok readings) p = (_, inputs w b t p)
     scripted ws catalog tables w b t (Err fault) p = (_, no_readings w b t p)
 
-    loaded : (ws : Words) (catalog : CatalogImage) → words_of words ≡ Some ws → OpensBook held ws.book (Ok catalog)
+    loaded : (ws : Words) (catalog : CatalogImage) → words_of words ≡ Some ws → OpensBook held (book_of ws) (Ok catalog)
         → (t : Result (List (List Row)) Fault) → load_all held catalog.tables ≡ t → (answer : Result Inputs Fault) × ReadsInputs words held answer
-    loaded ws catalog w b (Ok tables) e = let r = some_script held ws.script in scripted ws catalog tables w b e r.0 r.1
+    loaded ws catalog w b (Ok tables) e = let r = some_script held (script_of ws) in scripted ws catalog tables w b e r.0 r.1
     loaded ws catalog w b (Err fault) e = (_, no_tables w b e)
 
-    opened : (ws : Words) → words_of words ≡ Some ws → (b : Result CatalogImage Fault) → OpensBook held ws.book b → (answer : Result Inputs Fault) × ReadsInputs words held answer
+    opened : (ws : Words) → words_of words ≡ Some ws → (b : Result CatalogImage Fault) → OpensBook held (book_of ws) b → (answer : Result Inputs Fault) × ReadsInputs words held answer
     opened ws w (Ok catalog) p = loaded ws catalog w p (load_all held catalog.tables) refl
     opened ws w (Err fault) p = (_, no_book w p)
 
     by : (w : Option Words) → words_of words ≡ w → (answer : Result Inputs Fault) × ReadsInputs words held answer
     by None e = (_, unusable e)
-    by (Some ws) e = let r = some_file held ws.book (BookSays ws.book) (some_book ws.book) in opened ws e r.0 r.1
+    by (Some ws) e = let r = some_file held (book_of ws) (BookSays (book_of ws)) (some_book (book_of ws)) in opened ws e r.0 r.1
 
 pub some_outcome : SomeOutcome
 some_outcome words held = let r = some_inputs words held in by r.0 r.1

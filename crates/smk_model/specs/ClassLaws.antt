@@ -1,5 +1,5 @@
 -- Laws of classes of keys, and what rows that are gathered in bulk give of a step.
-use Rattle.std.specs.Prelude.{◌≡◌, ℕ, ◌+◌, ◌<◌, Bool, true, not, List, ◌++◌, length, map, take, slice_index_or, nat_eq}
+use Rattle.std.specs.Prelude.{◌≡◌, ℕ, ◌+◌, ◌<◌, true, not, List, ◌++◌, length, map, take, slice_index_or, nat_eq}
 use Rattle.std.specs.List.{list_any, filter, All}
 use Rattle.smk_base.specs.Plans.{Formula, Selection, Distinction, Grouping, Binary, SetUnion}
 use Rattle.smk_base.specs.Rels.{beside_rows}

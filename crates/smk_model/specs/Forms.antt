@@ -1,7 +1,6 @@
 -- The books and lines that are answered; others are refused by their form until they are.
-use Rattle.std.specs.Prelude.{ℕ, Bool, true, false, not, ◌&&◌, nat_eq, List, IsTrue}
+use Rattle.std.specs.Prelude.{Bool, true, false, not, ◌&&◌, List, IsTrue}
 use Rattle.std.specs.List.{list_all, list_any}
-use Rattle.smk_base.specs.Plans.{Expr}
 use Rattle.smk_base.specs.CatalogImage.{CatalogImage}
 use Rattle.smk_base.specs.declared.catalog.Back.{Back}
 use Rattle.smk_base.specs.declared.catalog.BackExtra.{BackExtra}
@@ -10,30 +9,24 @@ use Rattle.smk_base.specs.declared.tree.Line.{Line}
 use Rattle.smk_base.specs.declared.tree.Line.TheVariants as lines
 use Rattle.smk_base.specs.declared.tree.Then.{Then}
 use Rattle.smk_base.specs.declared.tree.Then.TheVariants as thens
-use Rattle.smk_model.specs.LineageLaws.{is_selection, selected_table}
 use Rattle.smk_model.specs.Readings.{Reading, Nothing, Asks, Unread}
-use Rattle.smk_model.specs.Session.{view_at}
-
--- a scan of this table with selections alone
-abbrev pub selects_from : ℕ → Expr → Bool
-selects_from t plan = is_selection plan && nat_eq (selected_table plan) t
 
 abbrev pub is_plain : BackExtra → Bool
 is_plain extras.Plain = true
 is_plain (extras.By column) = false
 is_plain (extras.Grouped keys aggs names kinds) = false
 
--- a plain backward declaration of a view that scans and selects
-abbrev pub is_back_answered : CatalogImage → Back → Bool
-is_back_answered catalog declared = is_plain declared.extra && selects_from declared.table (view_at catalog declared.view).plan
+-- a plain backward declaration
+abbrev pub is_back_answered : Back → Bool
+is_back_answered declared = is_plain declared.extra
 
 -- whether a list has no member
 abbrev pub is_none : {A : Type 0} → List A → Bool
 is_none members = not (list_any (λ member. true) members)
 
--- a book without links and forward declarations, whose backward declarations are such
+-- a book without links, whose backward declarations are plain
 abbrev pub is_book_answered : CatalogImage → Bool
-is_book_answered catalog = is_none catalog.links && (is_none catalog.fwds && list_all (is_back_answered catalog) catalog.backs)
+is_book_answered catalog = is_none catalog.links && list_all is_back_answered catalog.backs
 
 abbrev pub IsBookAnswered : CatalogImage → Type 0
 IsBookAnswered catalog = IsTrue (is_book_answered catalog)
@@ -43,13 +36,14 @@ asks_rows thens.Plain = true
 asks_rows (thens.Matching column value) = false
 asks_rows thens.Grouped = false
 
--- a line that shows a view, or asks a backward query for its rows
+-- a line that shows a view, or asks a backward query for its rows or a forward query
 abbrev pub is_line_answered : Line → Bool
 is_line_answered (lines.Show view) = true
 is_line_answered (lines.Back view marks table then) = asks_rows then
-is_line_answered (lines.Fwd table rows view) = false
+is_line_answered (lines.Fwd table rows view) = true
 is_line_answered (lines.Brush view marks table) = false
 is_line_answered lines.Clear = false
+is_line_answered (lines.ClearOne view table) = false
 
 -- a line that says nothing or isn't in the grammar is never refused by its form
 abbrev pub is_reading_answered : Reading → Bool

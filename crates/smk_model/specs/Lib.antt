@@ -12,6 +12,10 @@ pub mod Classes
 pub mod Annotated
 pub mod Texts
 pub mod Session
+pub mod Replies
+pub mod Opening
+pub mod ReplyLaws
+pub mod SessionExamples
 pub mod Forms
 pub mod Reports
 pub mod Outcome

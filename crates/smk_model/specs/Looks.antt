@@ -1,38 +1,64 @@
--- How often a run looks at base rows: at most once a row of each leaf of each view, once a row of the table of each backward declaration, and once a row that a reply tells.
-use Rattle.std.specs.Prelude.{ℕ, ◌+◌, length, List}
+-- How often a run looks at base rows: at most once a row of each leaf of each view, once a row of the table of each declared split and grouping, and for each line what it prints or makes anew.
+use Rattle.std.specs.Prelude.{ℕ, ◌+◌, length, Ok, Err}
 use Rattle.std.specs.List.{sum_by}
-use Rattle.smk_base.specs.CatalogImage.{ViewImage}
+use Rattle.smk_base.specs.CatalogImage.{CatalogImage, ViewImage}
+use Rattle.smk_base.specs.declared.brush.BrushOn.{BrushOn}
 use Rattle.smk_base.specs.declared.catalog.Back.{Back}
+use Rattle.smk_base.specs.declared.catalog.BackExtra.{BackExtra}
+use Rattle.smk_base.specs.declared.catalog.BackExtra.TheVariants as extras
 use Rattle.smk_base.specs.declared.reply.Reply.{Reply}
 use Rattle.smk_base.specs.declared.reply.Reply.TheVariants as replies
-use Rattle.smk_model.specs.Plain.{whole}
+use Rattle.smk_base.specs.declared.tree.Line.{Line}
+use Rattle.smk_base.specs.declared.tree.Line.TheVariants as lines
+use Rattle.smk_model.specs.Plain.{whole, table_at}
 use Rattle.smk_model.specs.Selection.{rows_in}
-use Rattle.smk_model.specs.Readings.{Reading, Nothing, Asks, Unread}
-use Rattle.smk_model.specs.Session.{Workbook, rows_of_table, reply}
-use Rattle.smk_model.specs.Outcome.{Inputs}
+use Rattle.smk_model.specs.Session.{Workbook, State, linked, leaves_now}
+use Rattle.smk_model.specs.Replies.{Asked, reply, linked_pair, brush_of, brushed, cleared}
 
+-- those for the first content of a view, and for a declaration that keeps more than rows
 abbrev pub looks_of_view : Workbook → ViewImage → ℕ
 looks_of_view book view = rows_in (whole view.plan book.tables)
 
+abbrev pub looks_of_extra : BackExtra → ℕ → ℕ
+looks_of_extra extras.Plain rows = 0
+looks_of_extra (extras.By column) rows = rows
+looks_of_extra (extras.Grouped keys aggs names kinds) rows = rows
+
 abbrev pub looks_of_back : Workbook → Back → ℕ
-looks_of_back book declared = length (rows_of_table book declared.table)
+looks_of_back book declared = looks_of_extra declared.extra (length (table_at book.tables declared.table))
 
 -- those before the first line
 abbrev pub start_looks : Workbook → ℕ
 start_looks book = sum_by (looks_of_view book) book.catalog.views + sum_by (looks_of_back book) book.catalog.backs
 
-abbrev pub looks_of_reply : Reply → ℕ
-looks_of_reply (replies.Back rids rows) = length rids
-looks_of_reply _ = 0
+-- rows that are printed with their rids are one look each
+abbrev pub looks_of_rows : Reply → ℕ
+looks_of_rows (replies.View rel) = 0
+looks_of_rows (replies.Back rids rows) = length rids
+looks_of_rows (replies.Grouped rel) = 0
+looks_of_rows (replies.Fwd marks) = 0
+looks_of_rows (replies.Brush rids linked) = 0
+looks_of_rows replies.Cleared = 0
+looks_of_rows (replies.ClearedOne linked) = 0
+looks_of_rows (replies.Refused refusal) = 0
 
-abbrev pub line_looks : Workbook → Reading → ℕ
-line_looks book Nothing = 0
-line_looks book (Asks asked) = looks_of_reply (reply book asked)
-line_looks book (Unread at) = 0
+-- each linked view is made anew from the rows selected for it, in the state that the line would leave
+abbrev pub looks_of_linked : CatalogImage → State → ℕ → ℕ → ℕ
+looks_of_linked catalog state v t = sum_by (λ w. rows_in (leaves_now catalog state w)) (linked catalog v t)
 
-abbrev pub lines_looks : Workbook → List Reading → ℕ
-lines_looks book readings = sum_by (line_looks book) readings
+abbrev pub looks_of_brush : CatalogImage → State → Asked BrushOn → ℕ
+looks_of_brush catalog state (Ok brush) = looks_of_linked catalog (brushed state brush) brush.view brush.table
+looks_of_brush catalog state (Err refusal) = 0
 
--- those of a run that reads this
-abbrev pub run_looks : Inputs → ℕ
-run_looks given = start_looks given.book + lines_looks given.book given.readings
+abbrev pub looks_of_clear : CatalogImage → State → Asked (ℕ × ℕ) → ℕ
+looks_of_clear catalog state (Ok p) = looks_of_linked catalog (cleared state p.0 p.1) p.0 p.1
+looks_of_clear catalog state (Err refusal) = 0
+
+-- those of a line
+abbrev pub line_looks : CatalogImage → State → Line → ℕ
+line_looks catalog state (lines.Show view) = 0
+line_looks catalog state (lines.Back view marks table then) = looks_of_rows (reply catalog state (lines.Back view marks table then)).0
+line_looks catalog state (lines.Fwd table rows view) = 0
+line_looks catalog state (lines.Brush view marks table) = looks_of_brush catalog state (brush_of catalog state view marks table)
+line_looks catalog state lines.Clear = 0
+line_looks catalog state (lines.ClearOne view table) = looks_of_clear catalog state (linked_pair catalog view table)

@@ -1,10 +1,11 @@
 -- The first fault of a plan's nodes: too many rows, or too many pairs with a table that is asked for.
-use Rattle.std.specs.Prelude.{◌≡◌, ℕ, ◌+◌, Bool, cond, nat_lt, List, [], ◌∷◌, ◌++◌, map, drop, Option, Some, None, option_map}
+use Rattle.std.specs.Prelude.{◌≡◌, ℕ, ◌+◌, Bool, cond, nat_lt, List, [], ◌∷◌, ◌++◌, length, map, drop, Option, Some, None, option_map}
 use Rattle.std.specs.List.{find, filter}
 use Rattle.std.specs.Option.{option_or}
 use Rattle.smk_base.specs.Plans.{Expr, Leaf, Apply, Combine}
+use Rattle.smk_base.specs.declared.need.Needed.{Needed}
 use Rattle.smk_model.specs.Values.{Row}
-use Rattle.smk_model.specs.Plain.{width, eval}
+use Rattle.smk_model.specs.Plain.{width, eval, table_at}
 use Rattle.smk_model.specs.Annotated.{pairs}
 use Rattle.smk_model.specs.Selection.{nodes, is_full, first_full}
 
@@ -20,6 +21,10 @@ pair_limit = 16777216
 -- a table that is asked for, and the number of its rows
 abbrev pub Asked : Type 0
 Asked = ℕ × ℕ
+
+-- the tables that are needed, each with the number of its rows
+abbrev pub asked_of : List (List Row) → List Needed → List Asked
+asked_of tables need = map (λ n. (n.table, length (table_at tables n.table))) need
 
 -- whether the last node of a plan has more pairs with a table than the limit
 abbrev pub is_crowded : Expr → List (List Row) → Asked → Bool

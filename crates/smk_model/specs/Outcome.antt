@@ -1,40 +1,45 @@
 -- The outcome of a run, by its words and by what the files hold: its report, or its first fault.
-use Rattle.std.specs.Prelude.{◌≡◌, ◌≢◌, ◌⊎◌, ℕ, Bool, false, cond, nat_eq, nat_lt, List, [], ◌∷◌, ◌++◌, length, map, slice_index_or, Option, Some, None, Result, Ok, Err}
+use Rattle.std.specs.Prelude.{◌≡◌, ◌≢◌, ◌⊎◌, ℕ, ◌+◌, Bool, false, cond, nat_eq, nat_lt, List, [], ◌∷◌, ◌++◌, length, map, slice_index_or, Option, Some, None, Result, Ok, Err}
 use Rattle.std.specs.Option.{ok_or}
 use Rattle.std.specs.List.{list_any, list_all}
 use Rattle.smk_base.specs.Marks.{after_marks}
 use Rattle.smk_base.specs.Trees.{StmtImage}
-use Rattle.smk_base.specs.CatalogImage.{CatalogImage, ViewImage}
+use Rattle.smk_base.specs.CatalogImage.{CatalogImage}
 use Rattle.smk_base.specs.declared.catalog.TableInfo.{TableInfo}
 use Rattle.smk_base.specs.declared.col_decl.ColDecl.{ColDecl}
 use Rattle.smk_base.specs.declared.value.Kind.TheVariants.{Text}
 use Rattle.smk_base.specs.declared.fault.Fault.{Fault}
-use Rattle.smk_base.specs.declared.fault.Fault.TheVariants.{Usage, Book, Types, Form, Table, FileLong, TableRows, ViewRows, Unread}
+use Rattle.smk_base.specs.declared.fault.Fault.TheVariants.{Usage, Book, Types, Form, Table, FileLong, TableRows, Unread}
 use Rattle.smk_base.specs.declared.fault.BookFault.{BookFault}
 use Rattle.smk_base.specs.declared.fault.TableFault.{TableFault}
 use Rattle.smk_base.specs.declared.fault.TableFault.TheVariants as table_faults
 use Rattle.smk_model.specs.Values.{Row}
-use Rattle.smk_model.specs.Plain.{eval, whole}
 use Rattle.smk_model.specs.Tokens.{tokens}
 use Rattle.smk_model.specs.Grammar.{AreStmts}
 use Rattle.smk_model.specs.Machine.{book_fault}
 use Rattle.smk_model.specs.Names.{Typed, ◌>>=◌}
 use Rattle.smk_model.specs.Typing.{types}
 use Rattle.smk_model.specs.Tables.{table_of, all_or_first}
-use Rattle.smk_model.specs.Selection.{first_full}
 use Rattle.smk_model.specs.Readings.{Reading, AreReadingsOf}
 use Rattle.smk_model.specs.Session.{Workbook}
+use Rattle.smk_model.specs.Opening.{ViewFault, first_view_fault, fault_named}
 use Rattle.smk_model.specs.Forms.{is_book_answered, is_reading_answered}
-use Rattle.smk_model.specs.Reports.{Report, report_of}
+use Rattle.smk_model.specs.Looks.{start_looks}
+use Rattle.smk_model.specs.Reports.{Report, report_of, script_told}
 
 -- what the files hold: the bytes under a name, or none
 abbrev pub Held : Type 0
 Held = List ℕ → Option (List ℕ)
 
--- the words of a run: the book's file, and the script's
-pub record Words : Type 0 where
-  pub book : List ℕ
-  pub script : Option (List ℕ)
+-- where the texts of a run come from: the file of the book, and that of the script where there is one
+pub data Words : Type 0 where
+  Files : List ℕ → Option (List ℕ) → Words
+
+abbrev pub book_of : Words → List ℕ
+book_of (Files book script) = book
+
+abbrev pub script_of : Words → Option (List ℕ)
+script_of (Files book script) = script
 
 -- whether a word is written as an option
 abbrev pub is_option : List ℕ → Bool
@@ -44,8 +49,8 @@ is_option (b ∷ bs) = nat_eq b 45
 -- one or two words, none of them an option
 abbrev pub plain_words : List (List ℕ) → Option Words
 plain_words [] = None
-plain_words (book ∷ []) = Some (record { book = book; script = None })
-plain_words (book ∷ script ∷ []) = Some (record { book = book; script = Some script })
+plain_words (book ∷ []) = Some (Files book None)
+plain_words (book ∷ script ∷ []) = Some (Files book (Some script))
 plain_words (a ∷ b ∷ c ∷ rest) = None
 
 abbrev pub words_of : List (List ℕ) → Option Words
@@ -125,20 +130,6 @@ pub data OpensScript (held : Held) : Option (List ℕ) → Result (List Reading)
   no_script : OpensScript held None (Ok [])
   a_script : {name : List ℕ} {answer : Result (List Reading) Fault} → FileSays held name (ScriptSays name) answer → OpensScript held (Some name) answer
 
--- the rows of a view, unless one of its nodes has more than the limit
-abbrev pub within_limit : ViewImage → Option ℕ → List Row → Result (List Row) Fault
-within_limit view (Some node) rows = Err (ViewRows view.name node)
-within_limit view None rows = Ok rows
-
-abbrev pub view_content : List (List Row) → ViewImage → Result (List Row) Fault
-view_content tables view =
-    let E = whole view.plan tables in
-    within_limit view (first_full view.plan E) (eval view.plan E)
-
--- the rows of each view in the book's order, or the first fault
-abbrev pub view_contents : Workbook → Result (List (List Row)) Fault
-view_contents book = all_or_first (map (view_content book.tables) book.catalog.views)
-
 -- a run's workbook and its readings
 pub record Inputs : Type 0 where
   pub book : Workbook
@@ -147,18 +138,26 @@ pub record Inputs : Type 0 where
 -- what a run reads, or its first fault: words; the book; the tables in the book's order; the script
 pub data ReadsInputs (words : List (List ℕ)) (held : Held) : Result Inputs Fault → Type 0 where
   unusable : words_of words ≡ None → ReadsInputs words held (Err Usage)
-  no_book : {ws : Words} {fault : Fault} → words_of words ≡ Some ws → OpensBook held ws.book (Err fault) → ReadsInputs words held (Err fault)
-  no_tables : {ws : Words} {catalog : CatalogImage} {fault : Fault} → words_of words ≡ Some ws → OpensBook held ws.book (Ok catalog)
+  no_book : {ws : Words} {fault : Fault} → words_of words ≡ Some ws → OpensBook held (book_of ws) (Err fault) → ReadsInputs words held (Err fault)
+  no_tables : {ws : Words} {catalog : CatalogImage} {fault : Fault} → words_of words ≡ Some ws → OpensBook held (book_of ws) (Ok catalog)
       → load_all held catalog.tables ≡ Err fault → ReadsInputs words held (Err fault)
-  no_readings : {ws : Words} {catalog : CatalogImage} {tables : List (List Row)} {fault : Fault} → words_of words ≡ Some ws → OpensBook held ws.book (Ok catalog)
-      → load_all held catalog.tables ≡ Ok tables → OpensScript held ws.script (Err fault) → ReadsInputs words held (Err fault)
-  inputs : {ws : Words} {catalog : CatalogImage} {tables : List (List Row)} {readings : List Reading} → words_of words ≡ Some ws → OpensBook held ws.book (Ok catalog)
-      → load_all held catalog.tables ≡ Ok tables → OpensScript held ws.script (Ok readings)
+  no_readings : {ws : Words} {catalog : CatalogImage} {tables : List (List Row)} {fault : Fault} → words_of words ≡ Some ws → OpensBook held (book_of ws) (Ok catalog)
+      → load_all held catalog.tables ≡ Ok tables → OpensScript held (script_of ws) (Err fault) → ReadsInputs words held (Err fault)
+  inputs : {ws : Words} {catalog : CatalogImage} {tables : List (List Row)} {readings : List Reading} → words_of words ≡ Some ws → OpensBook held (book_of ws) (Ok catalog)
+      → load_all held catalog.tables ≡ Ok tables → OpensScript held (script_of ws) (Ok readings)
       → ReadsInputs words held (Ok (record { book = record { catalog = catalog; tables = tables }; readings = readings }))
 
--- the report of what was read, unless a node of a view has too many rows
+-- the report of what was read, unless a node of a view has too many rows, or too many pairs with a table that the view needs
+abbrev pub unless_view_fault : Inputs → Option ViewFault → Result Report Fault
+unless_view_fault given (Some found) = Err (fault_named given.book.catalog found)
+unless_view_fault given None = Ok (report_of given.book given.readings)
+
 abbrev pub reported : Inputs → Result Report Fault
-reported given = view_contents given.book >>= λ contents. Ok (report_of given.book given.readings)
+reported given = unless_view_fault given (first_view_fault given.book)
+
+-- the most looks of a run that reads this
+abbrev pub run_looks : Inputs → ℕ
+run_looks given = start_looks given.book + (script_told given.book given.readings).looks
 
 -- the outcome of a run: its report or the first fault
 pub data Outcome (words : List (List ℕ)) (held : Held) : Result Report Fault → Type 0 where
@@ -167,11 +166,11 @@ pub data Outcome (words : List (List ℕ)) (held : Held) : Result Report Fault �
 
 -- a file that is read where no fault was met before
 pub data IsAskedFor (words : List (List ℕ)) (held : Held) : List ℕ → Type 0 where
-  the_book : {ws : Words} → words_of words ≡ Some ws → IsAskedFor words held ws.book
-  a_table : {ws : Words} {catalog : CatalogImage} {tables : List (List Row)} (before : List TableInfo) (table : TableInfo) (behind : List TableInfo) → words_of words ≡ Some ws → OpensBook held ws.book (Ok catalog)
+  the_book : {ws : Words} → words_of words ≡ Some ws → IsAskedFor words held (book_of ws)
+  a_table : {ws : Words} {catalog : CatalogImage} {tables : List (List Row)} (before : List TableInfo) (table : TableInfo) (behind : List TableInfo) → words_of words ≡ Some ws → OpensBook held (book_of ws) (Ok catalog)
       → catalog.tables ≡ before ++ table ∷ behind → load_all held before ≡ Ok tables → IsAskedFor words held table.file
-  the_script : {ws : Words} {catalog : CatalogImage} {tables : List (List Row)} {name : List ℕ} → words_of words ≡ Some ws → OpensBook held ws.book (Ok catalog)
-      → load_all held catalog.tables ≡ Ok tables → ws.script ≡ Some name → IsAskedFor words held name
+  the_script : {ws : Words} {catalog : CatalogImage} {tables : List (List Row)} {name : List ℕ} → words_of words ≡ Some ws → OpensBook held (book_of ws) (Ok catalog)
+      → load_all held catalog.tables ≡ Ok tables → script_of ws ≡ Some name → IsAskedFor words held name
 
 -- a fault that a read may say since it failed: that a file can't be read which is read where no fault was met before
 abbrev pub NamesRead : List (List ℕ) → Held → Fault → Type 0

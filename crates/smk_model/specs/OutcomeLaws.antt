@@ -7,11 +7,15 @@ use Rattle.smk_model.specs.Grammar.{AreStmts}
 use Rattle.smk_model.specs.Machine.{book_fault}
 use Rattle.smk_model.specs.Readings.{Reading, AreReadingsOf}
 use Rattle.smk_model.specs.Reports.{Report}
-use Rattle.smk_model.specs.Outcome.{Held, Outcome}
+use Rattle.smk_model.specs.Outcome.{Held, Inputs, ReadsInputs, Outcome}
 
 -- a script's bytes have one list of readings
 abbrev pub OneReading : Type 0
 OneReading = (bytes : List ℕ) (a b : List Reading) → AreReadingsOf bytes a → AreReadingsOf bytes b → a ≡ b
+
+-- words and files have one list of inputs, or one fault in reading them
+abbrev pub OneInputs : Type 0
+OneInputs = (words : List (List ℕ)) (held : Held) (a b : Result Inputs Fault) → ReadsInputs words held a → ReadsInputs words held b → a ≡ b
 
 -- words and files have one outcome
 abbrev pub OneOutcome : Type 0

@@ -1,5 +1,6 @@
 -- The texts of replies to the lines of a script.
-use Rattle.std.specs.Prelude.{◌≡◌, ⊤, ℕ, List, [], ◌∷◌, length, map, find, nat_eq, Option, Some, None, IsSome, codes}
+use Rattle.std.specs.Prelude.{◌≡◌, ◌<◌, ⊤, ℕ, List, [], ◌∷◌, ◌++◌, length, map, find, nat_eq, Option, Some, None, IsSome, All, codes, decimal}
+use Rattle.std.specs.List.{flat_map}
 use Rattle.std.specs.Cmp.Lexicographic.{pointwise}
 use Rattle.smk_base.specs.Rels.{Relation}
 use Rattle.smk_base.specs.CatalogImage.{CatalogImage, ViewImage}
@@ -8,12 +9,17 @@ use Rattle.smk_base.specs.declared.tree.Line.{Line}
 use Rattle.smk_base.specs.declared.tree.Line.TheVariants as lines
 use Rattle.smk_base.specs.declared.tree.Then.{Then}
 use Rattle.smk_base.specs.declared.tree.Then.TheVariants as thens
+use Rattle.smk_base.specs.declared.reply.Linked.{Linked}
 use Rattle.smk_base.specs.declared.reply.Reply.{Reply}
-use Rattle.smk_base.specs.declared.reply.Reply.TheVariants.{View, Back, Refused}
+use Rattle.smk_base.specs.declared.reply.Reply.TheVariants.{View, Back, Grouped, Fwd, Brush, Cleared, ClearedOne, Refused}
 use Rattle.smk_base.specs.declared.reply.Refusal.{Refusal}
 use Rattle.smk_base.specs.declared.reply.Refusal.TheVariants as refusals
 use Rattle.smk_model.specs.Values.{Row}
-use Rattle.smk_model.specs.Texts.{line, view_text, back_text, no_row_text}
+use Rattle.smk_model.specs.ShownNames.{shown}
+use Rattle.smk_model.specs.Session.{view_place, table_place, view_at}
+use Rattle.smk_model.specs.Replies as asked_for
+use Rattle.smk_model.specs.Replies.{grouping_of}
+use Rattle.smk_model.specs.Texts.{line, numbers_line, view_text, back_text, group_text, fwd_text, brush_text, no_row_text}
 
 -- the view of this name, and the table
 abbrev pub view_named : CatalogImage → List ℕ → Option ViewImage
@@ -38,6 +44,7 @@ view_in (lines.Back view marks table then) = view
 view_in (lines.Fwd table rows view) = view
 view_in (lines.Brush view marks table) = view
 view_in lines.Clear = []
+view_in (lines.ClearOne view table) = view
 
 abbrev pub table_in : Line → List ℕ
 table_in (lines.Show view) = []
@@ -45,12 +52,43 @@ table_in (lines.Back view marks table then) = table
 table_in (lines.Fwd table rows view) = table
 table_in (lines.Brush view marks table) = table
 table_in lines.Clear = []
+table_in (lines.ClearOne view table) = table
+
+-- the column that a line names, in `back .. where`
+abbrev pub column_of : Then → List ℕ
+column_of thens.Plain = []
+column_of (thens.Matching column value) = column
+column_of thens.Grouped = []
+
+abbrev pub column_in : Line → List ℕ
+column_in (lines.Show view) = []
+column_in (lines.Back view marks table then) = column_of then
+column_in (lines.Fwd table rows view) = []
+column_in (lines.Brush view marks table) = []
+column_in lines.Clear = []
+column_in (lines.ClearOne view table) = []
 
 -- a query as a line asks it
 abbrev pub query_words : Line → List (List ℕ)
+query_words (lines.Show view) = []
 query_words (lines.Back view marks table then) = codes "back " ∷ view ∷ codes " to " ∷ table ∷ []
 query_words (lines.Fwd table rows view) = codes "fwd " ∷ table ∷ codes " to " ∷ view ∷ []
-query_words _ = []
+query_words (lines.Brush view marks table) = []
+query_words lines.Clear = []
+query_words (lines.ClearOne view table) = []
+
+-- the grouping of a view's backward query to a table, by their names
+abbrev pub grouping_between : CatalogImage → Option ℕ → Option ℕ → Option asked_for.Grouped
+grouping_between catalog (Some v) (Some t) = grouping_of catalog v t
+grouping_between catalog (Some v) None = None
+grouping_between catalog None table = None
+
+abbrev pub grouping_named : CatalogImage → List ℕ → List ℕ → Option asked_for.Grouped
+grouping_named catalog view table = grouping_between catalog (view_place catalog view) (table_place catalog table)
+
+abbrev pub names_of_grouping : Option asked_for.Grouped → List (List ℕ)
+names_of_grouping None = []
+names_of_grouping (Some grouped) = grouped.names
 
 -- a content of a view, where the catalog has the view and it has as many columns
 pub record IsContent (catalog : CatalogImage) (view : List ℕ) (rel : Relation) : Type 0 where
@@ -63,34 +101,84 @@ pub record AreRowsOf (catalog : CatalogImage) (table : List ℕ) (rids : List �
   pub named : length (names_of_table (table_named catalog table)) ≡ length rel.kinds
   pub placed : length rids ≡ length rel.rows
 
+-- groups, where the catalog declares the grouping and it has as many columns
+pub record AreGroupsOf (catalog : CatalogImage) (view table : List ℕ) (rel : Relation) : Type 0 where
+  pub known : IsSome (grouping_named catalog view table)
+  pub named : length (names_of_grouping (grouping_named catalog view table)) ≡ length rel.kinds
+
+-- a linked view, where the catalog has the view and it has as many columns
+pub record IsLinkedIn (catalog : CatalogImage) (linked : Linked) : Type 0 where
+  pub known : linked.view < length catalog.views
+  pub named : length (view_at catalog linked.view).names ≡ length linked.rel.kinds
+
 -- whether a `back` line asks for rows, and not for a grouping
 abbrev pub AsksRows : Then → Type 0
+AsksRows thens.Plain = ⊤
+AsksRows (thens.Matching column value) = ⊤
 AsksRows thens.Grouped = ⊥
-AsksRows _ = ⊤
+
+abbrev pub AsksGroups : Then → Type 0
+AsksGroups thens.Plain = ⊥
+AsksGroups (thens.Matching column value) = ⊥
+AsksGroups thens.Grouped = ⊤
+
+abbrev pub AsksValue : Then → Type 0
+AsksValue thens.Plain = ⊥
+AsksValue (thens.Matching column value) = ⊤
+AsksValue thens.Grouped = ⊥
+
+-- whether a refusal of a change of brushes is one that its text can say: a view with too many rows is one of the catalog
+abbrev pub IsRefusalOfChange : CatalogImage → Refusal → Type 0
+IsRefusalOfChange catalog refusals.UnknownView = ⊤
+IsRefusalOfChange catalog refusals.UnknownTable = ⊤
+IsRefusalOfChange catalog refusals.NotLinked = ⊤
+IsRefusalOfChange catalog (refusals.NoRow row rows) = ⊤
+IsRefusalOfChange catalog (refusals.RowsLimit view node) = view < length catalog.views
+IsRefusalOfChange catalog _ = ⊥
 
 -- whether a line can be refused so
-abbrev pub IsRefusalOf : Line → Refusal → Type 0
-IsRefusalOf (lines.Show view) refusals.UnknownView = ⊤
-IsRefusalOf (lines.Back view marks table then) refusals.UnknownView = ⊤
-IsRefusalOf (lines.Back view marks table then) refusals.UnknownTable = ⊤
-IsRefusalOf (lines.Back view marks table then) refusals.Undeclared = ⊤
-IsRefusalOf (lines.Back view marks table then) (refusals.NoRow row rows) = ⊤
-IsRefusalOf _ _ = ⊥
+abbrev pub IsRefusalOf : CatalogImage → Line → Refusal → Type 0
+IsRefusalOf catalog (lines.Show view) refusals.UnknownView = ⊤
+IsRefusalOf catalog (lines.Back view marks table then) refusals.UnknownView = ⊤
+IsRefusalOf catalog (lines.Back view marks table then) refusals.UnknownTable = ⊤
+IsRefusalOf catalog (lines.Back view marks table then) refusals.Undeclared = ⊤
+IsRefusalOf catalog (lines.Back view marks table then) (refusals.NoRow row rows) = ⊤
+IsRefusalOf catalog (lines.Back view marks table then) refusals.NoSplit = AsksValue then
+IsRefusalOf catalog (lines.Back view marks table then) refusals.ValueKind = AsksValue then
+IsRefusalOf catalog (lines.Back view marks table then) refusals.NoGroup = AsksGroups then
+IsRefusalOf catalog (lines.Back view marks table then) refusals.ManyMarks = AsksGroups then
+IsRefusalOf catalog (lines.Fwd table rows view) refusals.UnknownView = ⊤
+IsRefusalOf catalog (lines.Fwd table rows view) refusals.UnknownTable = ⊤
+IsRefusalOf catalog (lines.Fwd table rows view) refusals.Undeclared = ⊤
+IsRefusalOf catalog (lines.Fwd table rows view) (refusals.NoRow row rows_of) = ⊤
+IsRefusalOf catalog (lines.Brush view marks table) refusal = IsRefusalOfChange catalog refusal
+IsRefusalOf catalog (lines.ClearOne view table) refusal = IsRefusalOfChange catalog refusal
+IsRefusalOf catalog _ _ = ⊥
 
 -- whether a reply is one to a line: it is of a kind that the line has, what its text looks up stands in the catalog, its rows have a value for each name printed over them, and rows that are printed with rids are as many as these
 abbrev pub IsReplyTo : CatalogImage → Line → Reply → Type 0
 IsReplyTo catalog (lines.Show view) (View rel) = IsContent catalog view rel
 IsReplyTo catalog (lines.Back view marks table then) (Back rids rows) = AsksRows then × AreRowsOf catalog table rids rows
-IsReplyTo catalog asked (Refused refusal) = IsRefusalOf asked refusal
+IsReplyTo catalog (lines.Back view marks table then) (Grouped rel) = AsksGroups then × AreGroupsOf catalog view table rel
+IsReplyTo catalog (lines.Fwd table rows view) (Fwd marks) = ⊤
+IsReplyTo catalog (lines.Brush view marks table) (Brush rids linked) = All (IsLinkedIn catalog) linked
+IsReplyTo catalog lines.Clear Cleared = ⊤
+IsReplyTo catalog (lines.ClearOne view table) (ClearedOne linked) = All (IsLinkedIn catalog) linked
+IsReplyTo catalog asked (Refused refusal) = IsRefusalOf catalog asked refusal
 IsReplyTo _ _ _ = ⊥
 
 -- why a line is refused
-abbrev pub refusal_text : Line → Refusal → List ℕ
-refusal_text asked refusals.UnknownView = line (codes "refused unknown view " ∷ view_in asked ∷ [])
-refusal_text asked refusals.UnknownTable = line (codes "refused unknown table " ∷ table_in asked ∷ [])
-refusal_text asked refusals.Undeclared = line (codes "refused undeclared " ∷ query_words asked)
-refusal_text asked (refusals.NoRow row rows) = no_row_text row rows
-refusal_text asked _ = []
+abbrev pub refusal_text : CatalogImage → Line → Refusal → List ℕ
+refusal_text catalog asked refusals.UnknownView = line (codes "refused unknown view " ∷ view_in asked ∷ [])
+refusal_text catalog asked refusals.UnknownTable = line (codes "refused unknown table " ∷ table_in asked ∷ [])
+refusal_text catalog asked refusals.Undeclared = line (codes "refused undeclared " ∷ query_words asked)
+refusal_text catalog asked (refusals.NoRow row rows) = no_row_text row rows
+refusal_text catalog asked refusals.NoSplit = line (codes "refused no split of " ∷ view_in asked ∷ codes " to " ∷ table_in asked ∷ codes " by " ∷ shown (column_in asked) ∷ [])
+refusal_text catalog asked refusals.ValueKind = line (codes "refused wrong kind for " ∷ shown (column_in asked) ∷ [])
+refusal_text catalog asked refusals.NoGroup = line (codes "refused no grouping of " ∷ view_in asked ∷ codes " to " ∷ table_in asked ∷ [])
+refusal_text catalog asked refusals.NotLinked = line (codes "refused not linked " ∷ view_in asked ∷ codes " on " ∷ table_in asked ∷ [])
+refusal_text catalog asked (refusals.RowsLimit view node) = line (codes "refused too many rows in " ∷ (view_at catalog view).name ∷ codes " at node " ∷ decimal node ∷ [])
+refusal_text catalog asked refusals.ManyMarks = line (codes "refused more than one mark" ∷ [])
 
 -- the text of the content of a view, with the names of its columns
 abbrev pub content_text : CatalogImage → List ℕ → List Row → List ℕ
@@ -100,9 +188,24 @@ content_text catalog view rows = view_text view (names_of_view (view_named catal
 abbrev pub rids_text : CatalogImage → List ℕ → List ℕ → List ℕ → List Row → List ℕ
 rids_text catalog view table rids rows = back_text view table (names_of_table (table_named catalog table)) rids rows
 
+-- the text of groups, with the names of the declared grouping
+abbrev pub groups_text : CatalogImage → List ℕ → List ℕ → List Row → List ℕ
+groups_text catalog view table rows = group_text view table (names_of_grouping (grouping_named catalog view table)) rows
+
+-- the text of a linked view: its marks, and its content
+abbrev pub linked_text : CatalogImage → Linked → List ℕ
+linked_text catalog linked =
+    line (codes "linked " ∷ (view_at catalog linked.view).name ∷ codes " " ∷ decimal (length linked.marks) ∷ [])
+    ++ numbers_line (codes "marks") linked.marks
+    ++ view_text (view_at catalog linked.view).name (view_at catalog linked.view).names linked.rel.rows
+
 -- the text of a reply to a line
 abbrev pub reply_text : CatalogImage → Line → Reply → List ℕ
 reply_text catalog asked (View rel) = content_text catalog (view_in asked) rel.rows
 reply_text catalog asked (Back rids rows) = rids_text catalog (view_in asked) (table_in asked) rids rows.rows
-reply_text catalog asked (Refused refusal) = refusal_text asked refusal
-reply_text catalog asked _ = []
+reply_text catalog asked (Grouped rel) = groups_text catalog (view_in asked) (table_in asked) rel.rows
+reply_text catalog asked (Fwd marks) = fwd_text (table_in asked) (view_in asked) marks
+reply_text catalog asked (Brush rids linked) = brush_text (view_in asked) (table_in asked) rids ++ flat_map (linked_text catalog) linked
+reply_text catalog asked Cleared = line (codes "cleared" ∷ [])
+reply_text catalog asked (ClearedOne linked) = line (codes "cleared " ∷ view_in asked ∷ codes " on " ∷ table_in asked ∷ []) ++ flat_map (linked_text catalog) linked
+reply_text catalog asked (Refused refusal) = refusal_text catalog asked refusal

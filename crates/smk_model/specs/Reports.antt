@@ -1,45 +1,109 @@
--- The report of a run: the texts of the views in the book's order, then those of the replies in the order of the lines.
-use Rattle.std.specs.Prelude.{ℕ, Bool, true, false, List, [], ◌++◌}
-use Rattle.std.specs.List.{list_any, flat_map}
-use Rattle.smk_base.specs.CatalogImage.{ViewImage}
-use Rattle.smk_model.specs.Tables.{numbered}
+-- The report of a run: the texts of the views in the book's order, then those of the lines, one after the other.
+use Rattle.std.specs.Prelude.{ℕ, ◌+◌, Bool, ◌||◌, cond, nat_lt, List, [], ◌∷◌, ◌++◌, length, map}
+use Rattle.std.specs.List.{flat_map}
+use Rattle.smk_base.specs.CatalogImage.{CatalogImage, ViewImage}
+use Rattle.smk_base.specs.declared.tree.Line.{Line}
+use Rattle.smk_base.specs.declared.reply.Reply.{Reply}
+use Rattle.smk_model.specs.Values.{Row}
+use Rattle.smk_model.specs.Plain.{rows_over}
 use Rattle.smk_model.specs.Texts.{view_text, bad_line_text}
 use Rattle.smk_model.specs.ReplyTexts.{reply_text}
 use Rattle.smk_model.specs.Readings.{Reading, Nothing, Asks, Unread}
-use Rattle.smk_model.specs.Plain.{rows_over}
-use Rattle.smk_model.specs.Session.{Workbook, reply, is_refused}
+use Rattle.smk_model.specs.Session.{Workbook, State, first_state}
+use Rattle.smk_model.specs.Replies.{reply, is_refused}
+use Rattle.smk_model.specs.Looks.{line_looks}
 
--- what a run writes, and whether a line was refused or unread
-pub record Report : Type 0 where
+-- what lines come to: their texts, how many have a reply, how many of these are refusals, how many aren't in the grammar, and the most looks at base rows that they take
+pub record Told : Type 0 where
   pub text : List ℕ
-  pub refused : Bool
+  pub replies : ℕ
+  pub refused : ℕ
+  pub unread : ℕ
+  pub looks : ℕ
 
--- the text of a view as it is first evaluated
-abbrev pub text_of_view : Workbook → ViewImage → List ℕ
-text_of_view book view = view_text view.name view.names (rows_over view.plan book.tables)
+-- lines that come to nothing, and those of one part after those of another
+abbrev pub nothing_told : Told
+nothing_told = record { text = []; replies = 0; refused = 0; unread = 0; looks = 0 }
 
--- the text of the line with this number; a line that says nothing has none
-abbrev pub text_of_reading : Workbook → ℕ → Reading → List ℕ
-text_of_reading book number Nothing = []
-text_of_reading book number (Asks asked) = reply_text book.catalog asked (reply book asked)
-text_of_reading book number (Unread at) = bad_line_text number at
-
--- whether a line is refused or unread
-abbrev pub is_turned_down : Workbook → Reading → Bool
-is_turned_down book Nothing = false
-is_turned_down book (Asks asked) = is_refused (reply book asked)
-is_turned_down book (Unread at) = true
-
--- the texts of the views, and those of the lines from a number on
-abbrev pub views_text : Workbook → List ViewImage → List ℕ
-views_text book views = flat_map (text_of_view book) views
-
-abbrev pub readings_text : Workbook → ℕ → List Reading → List ℕ
-readings_text book number readings = flat_map (λ text. text) (numbered (text_of_reading book) number readings)
-
--- lines are numbered from 1
-abbrev pub report_of : Workbook → List Reading → Report
-report_of book readings = record {
-  text = views_text book book.catalog.views ++ readings_text book 1 readings;
-  refused = list_any (is_turned_down book) readings;
+abbrev pub followed_by : Told → Told → Told
+followed_by a b = record {
+  text = a.text ++ b.text;
+  replies = a.replies + b.replies;
+  refused = a.refused + b.refused;
+  unread = a.unread + b.unread;
+  looks = a.looks + b.looks;
 }
+
+-- a line with its reply
+abbrev pub reply_told : CatalogImage → State → Line → Reply → Told
+reply_told catalog state asked answer = record {
+  text = reply_text catalog asked answer;
+  replies = 1;
+  refused = cond (is_refused answer) 1 0;
+  unread = 0;
+  looks = line_looks catalog state asked;
+}
+
+-- what the line with a number comes to in a state, and the state after it; a line that says nothing has no text
+abbrev pub line_told : CatalogImage → State → ℕ → Reading → Told
+line_told catalog state number Nothing = nothing_told
+line_told catalog state number (Asks asked) = reply_told catalog state asked (reply catalog state asked).0
+line_told catalog state number (Unread at) = record { text = bad_line_text number at; replies = 0; refused = 0; unread = 1; looks = 0 }
+
+abbrev pub state_after : CatalogImage → State → Reading → State
+state_after catalog state Nothing = state
+state_after catalog state (Asks asked) = (reply catalog state asked).1
+state_after catalog state (Unread at) = state
+
+-- the walk over the lines from a state on, numbered from a number on
+abbrev pub lines_told : CatalogImage → State → ℕ → List Reading → Told
+lines_told catalog state number [] = nothing_told
+lines_told catalog state number (reading ∷ readings) =
+    followed_by (line_told catalog state number reading) (lines_told catalog (state_after catalog state reading) (number + 1) readings)
+
+-- lines are numbered from 1, and the first meets no brush
+abbrev pub script_told : Workbook → List Reading → Told
+script_told book readings = lines_told book.catalog (first_state book) 1 readings
+
+-- the name of a view, and the number of its rows
+pub record Size : Type 0 where
+  pub name : List ℕ
+  pub rows : ℕ
+
+-- what a run writes, and what is told of it
+pub record Report : Type 0 where
+  pub sizes : List Size
+  pub replies : ℕ
+  pub refused : ℕ
+  pub unread : ℕ
+  pub text : List ℕ
+
+-- the rows of a view as it is first evaluated, their number and their text
+abbrev pub view_rows : Workbook → ViewImage → List Row
+view_rows book view = rows_over view.plan book.tables
+
+abbrev pub size_of_view : Workbook → ViewImage → Size
+size_of_view book view = record { name = view.name; rows = length (view_rows book view) }
+
+abbrev pub text_of_view : Workbook → ViewImage → List ℕ
+text_of_view book view = view_text view.name view.names (view_rows book view)
+
+abbrev pub views_text : Workbook → List ℕ
+views_text book = flat_map (text_of_view book) book.catalog.views
+
+-- the report of what the lines come to
+abbrev pub report_told : Workbook → Told → Report
+report_told book told = record {
+  sizes = map (size_of_view book) book.catalog.views;
+  replies = told.replies;
+  refused = told.refused;
+  unread = told.unread;
+  text = views_text book ++ told.text;
+}
+
+abbrev pub report_of : Workbook → List Reading → Report
+report_of book readings = report_told book (script_told book readings)
+
+-- whether a line of a report is refused or unread
+abbrev pub is_turned_down : Report → Bool
+is_turned_down report = nat_lt 0 report.refused || nat_lt 0 report.unread

@@ -11,17 +11,19 @@ use Rattle.smk_base.specs.declared.tree.Line.{Line}
 use Rattle.smk_base.specs.declared.tree.Line.TheVariants as lines
 use Rattle.smk_base.specs.declared.tree.Marks.TheVariants as markings
 use Rattle.smk_base.specs.declared.tree.Then.TheVariants as thens
-use Rattle.smk_base.specs.declared.fault.Fault.TheVariants.{Table, TableRows, ViewRows, Unread as unread_fault}
+use Rattle.smk_base.specs.declared.fault.Fault.TheVariants.{Table, TableRows, ViewRows, ViewPairs, Unread as unread_fault}
 use Rattle.smk_base.specs.declared.fault.TableFault.TheVariants.{NoHeader, MissingColumn, BadInt, TooManyRows}
 use Rattle.smk_base.specs.Plans.{Leaf, Apply, Selection, Comparison}
 use Rattle.smk_base.specs.CatalogImage.{CatalogImage, ViewImage}
 use Rattle.smk_model.specs.Values.{Row}
 use Rattle.smk_model.specs.Readings.{Reading, Nothing, Asks, Unread}
-use Rattle.smk_model.specs.Session.{Workbook}
+use Rattle.smk_model.specs.Session.{Workbook, first_state, first_content}
+use Rattle.smk_model.specs.Opening.{first_view_fault, named_fault}
+use Rattle.smk_model.specs.NodeFaults.{FullRows, FullPairs}
 use Rattle.smk_model.specs.Forms.{is_book_answered, is_reading_answered}
-use Rattle.smk_model.specs.Reports.{report_of}
-use Rattle.smk_model.specs.Looks.{start_looks, lines_looks}
-use Rattle.smk_model.specs.Outcome.{Held, load, load_all, view_contents, fault_of_table, within_limit}
+use Rattle.smk_model.specs.Reports.{report_of, script_told, is_turned_down}
+use Rattle.smk_model.specs.Looks.{start_looks}
+use Rattle.smk_model.specs.Outcome.{Held, load, load_all, fault_of_table}
 
 abbrev pub int_row : ℕ → Row
 int_row n = Int (pos n) ∷ []
@@ -79,12 +81,22 @@ small_text =
     ++ codes "line 7 not read at byte 3\nview w 2\nrow,a\n0,5\n1,-3\nback v to t 2\nrid,a\n1,10\n3,40\n"
 
 pub record RunsHold : Type 0 where
-  pub whole : report_of small_book small_script ≡ record { text = small_text; refused = true }
-  pub nothing_refused : (report_of small_book (Nothing ∷ Asks (lines.Show (codes "v")) ∷ [])).refused ≡ false
-  pub contents : view_contents small_book ≡ Ok ((int_row 10 ∷ int_row 40 ∷ []) ∷ (int_row 5 ∷ (Int (negsuc 2) ∷ []) ∷ []) ∷ [])
-  pub looks_at_start : start_looks small_book ≡ 12
-  pub looks_of_lines : lines_looks small_book small_script ≡ 4
-  pub too_many : within_limit v_view (Some 1) [] ≡ Err (ViewRows (codes "v") 1)
+  pub whole : report_of small_book small_script ≡ record {
+    sizes = record { name = codes "v"; rows = 2 } ∷ record { name = codes "w"; rows = 2 } ∷ [];
+    replies = 7;
+    refused = 4;
+    unread = 1;
+    text = small_text;
+  }
+  pub turned_down : is_turned_down (report_of small_book small_script) ≡ true
+  pub nothing_turned_down : is_turned_down (report_of small_book (Nothing ∷ Asks (lines.Show (codes "v")) ∷ [])) ≡ false
+  pub first_v : first_content small_catalog (first_state small_book) 0 ≡ int_row 10 ∷ int_row 40 ∷ []
+  pub first_w : first_content small_catalog (first_state small_book) 1 ≡ int_row 5 ∷ (Int (negsuc 2) ∷ []) ∷ []
+  pub no_fault : first_view_fault small_book ≡ None
+  pub looks_at_start : start_looks small_book ≡ 8
+  pub looks_of_lines : (script_told small_book small_script).looks ≡ 4
+  pub too_many_of_a_view : named_fault small_catalog (codes "v") (FullRows 1) ≡ ViewRows (codes "v") 1
+  pub too_many_pairs : named_fault small_catalog (codes "v") (FullPairs 1 0) ≡ ViewPairs (codes "v") 1 (codes "t")
   pub answered : is_book_answered small_catalog ≡ true
   pub not_answered : is_book_answered split_catalog ≡ false
   pub brush_not_answered : is_reading_answered (Asks lines.Clear) ≡ false

@@ -1,29 +1,30 @@
--- What a session answers.
-use Rattle.std.specs.Prelude.{ℕ, Bool, true, false, cond, nat_le, List, [], length, slice_index_or, position, Option, Some, None}
-use Rattle.std.specs.List.{find}
+-- What a session stands at: the rows of the tables and the brushes in force, and what each view shows there.
+use Rattle.std.specs.Prelude.{ℕ, Bool, not, cond, ◌&&◌, nat_eq, List, [], ◌∷◌, ◌++◌, length, map, position, slice_index_or, Option}
+use Rattle.std.specs.List.{list_all, list_any, filter, flat_map}
+use Rattle.smk_base.specs.Places.{places, has, upto}
 use Rattle.smk_base.specs.Plans.{Leaf}
 use Rattle.smk_base.specs.CatalogImage.{CatalogImage, ViewImage}
-use Rattle.smk_base.specs.declared.tree.Line.{Line}
-use Rattle.smk_base.specs.declared.tree.Line.TheVariants as lines
-use Rattle.smk_base.specs.declared.tree.Marks.{Marks}
-use Rattle.smk_base.specs.declared.tree.Marks.TheVariants as markings
-use Rattle.smk_base.specs.declared.reply.Reply.{Reply}
-use Rattle.smk_base.specs.declared.reply.Reply.TheVariants as replies
-use Rattle.smk_base.specs.declared.reply.Refusal.{Refusal}
-use Rattle.smk_base.specs.declared.reply.Refusal.TheVariants.{UnknownView, UnknownTable, Undeclared, NoRow}
+use Rattle.smk_base.specs.declared.brush.BrushOn.{BrushOn}
+use Rattle.smk_base.specs.declared.pick.Pick.{Pick}
 use Rattle.smk_model.specs.Values.{Row}
 use Rattle.smk_model.specs.Names.{same_name}
-use Rattle.smk_model.specs.Plain.{table_at, whole, rows_over}
-use Rattle.smk_model.specs.Lineage.{upto, sub}
-use Rattle.smk_model.specs.Annotated.{back}
-use Rattle.smk_model.specs.Typing.{info_at}
-use Rattle.smk_model.specs.Catalogs.{table_kinds}
-pub use Rattle.smk_model.specs.Workload.{is_back, is_link, declares_back}
+use Rattle.smk_model.specs.Plain.{table_at, rows_over, eval}
+use Rattle.smk_model.specs.Selection.{over}
+use Rattle.smk_model.specs.Workload.{is_link}
 
 -- a checked book, and the rows of its tables
 pub record Workbook : Type 0 where
   pub catalog : CatalogImage
   pub tables : List (List Row)
+
+-- the rows of every table, and the brushes in force, at most one for each pair of a view and a table
+pub record State : Type 0 where
+  pub tables : List (List Row)
+  pub brushes : List BrushOn
+
+-- a session begins with no brush
+abbrev pub first_state : Workbook → State
+first_state book = record { tables = book.tables; brushes = [] }
 
 -- the number of the view, and of the table, with this name
 abbrev pub view_place : CatalogImage → List ℕ → Option ℕ
@@ -40,72 +41,53 @@ abbrev pub view_at : CatalogImage → ℕ → ViewImage
 view_at catalog v = slice_index_or catalog.views v no_view
 
 -- the rows of a table
-abbrev pub rows_of_table : Workbook → ℕ → List Row
-rows_of_table book t = table_at book.tables t
+abbrev pub rows_of_table : State → ℕ → List Row
+rows_of_table state t = table_at state.tables t
 
--- the rows of a view as it is first evaluated
-abbrev pub rows_of_view : Workbook → ℕ → List Row
-rows_of_view book v = rows_over (view_at book.catalog v).plan book.tables
+-- the rows of a view as it is first evaluated; a mark is the place of one of them
+abbrev pub first_content : CatalogImage → State → ℕ → List Row
+first_content catalog state v = rows_over (view_at catalog v).plan state.tables
 
--- the numbers that a line writes, and the places among n that it marks
-abbrev pub written : Marks → List ℕ
-written markings.All = []
-written (markings.Listed marks) = marks
+-- the views that the links of a view on a table name, in the book's order
+abbrev pub linked : CatalogImage → ℕ → ℕ → List ℕ
+linked catalog v t = flat_map (λ link. link.to) (filter (is_link v t) catalog.links)
 
-abbrev pub marked : Marks → ℕ → List ℕ
-marked markings.All n = upto n
-marked (markings.Listed marks) n = marks
+-- whether a brush selects rows of a table for a view: the brush is on the table, and its links name the view
+abbrev pub concerns : CatalogImage → ℕ → ℕ → BrushOn → Bool
+concerns catalog w t brush = nat_eq brush.table t && has (linked catalog brush.view t) w
 
--- the first number as written that is not below n
-abbrev pub first_outside : List ℕ → ℕ → Option ℕ
-first_outside marks n = find (nat_le n) marks
+-- the rids of a table that are selected for a view: those that every brush has which concerns them; without such a brush all
+abbrev pub selected_for : CatalogImage → State → ℕ → ℕ → List ℕ
+selected_for catalog state w t =
+    places (λ rid. list_all (λ brush. has brush.rids rid) (filter (concerns catalog w t) state.brushes)) (length (rows_of_table state t))
 
--- what is answered about what is found, or else the refusal
-abbrev pub or_refused : {A : Type 0} → Option A → Refusal → (A → Reply) → Reply
-or_refused (Some a) refusal answer = answer a
-or_refused None refusal answer = replies.Refused refusal
+-- the rows selected for a view, of every table
+abbrev pub picks_for : CatalogImage → State → ℕ → List Pick
+picks_for catalog state w = map (λ t. record { table = t; rids = selected_for catalog state w t }) (upto (length state.tables))
 
--- the answer, unless there is a number that is no row
-abbrev pub unless_outside : Option ℕ → ℕ → Reply → Reply
-unless_outside (Some row) rows answer = replies.Refused (NoRow row rows)
-unless_outside None rows answer = answer
+-- one list of rows for each leaf of a view's plan: those selected for the view
+abbrev pub leaves_now : CatalogImage → State → ℕ → List (List Row)
+leaves_now catalog state w = over (view_at catalog w).plan state.tables (picks_for catalog state w)
 
--- the rows of a table with these rids
-abbrev pub rows_reply : Workbook → ℕ → List ℕ → Reply
-rows_reply book t rids = replies.Back rids (record { kinds = table_kinds (info_at book.catalog.tables t); rows = sub (rows_of_table book t) rids })
+-- the content of a view: its plan over the rows selected for it
+abbrev pub content : CatalogImage → State → ℕ → List Row
+content catalog state w = eval (view_at catalog w).plan (leaves_now catalog state w)
 
--- the rids of a table that the rows of a view at these places came from
-abbrev pub rids_back : Workbook → ℕ → ℕ → List ℕ → List ℕ
-rids_back book v t O =
-    let plan = (view_at book.catalog v).plan in
-    back plan (whole plan book.tables) O t (length (rows_of_table book t))
+-- whether a brush is that of a view and a table
+abbrev pub is_brush : ℕ → ℕ → BrushOn → Bool
+is_brush v t brush = nat_eq brush.view v && nat_eq brush.table t
 
--- the answer to a declared backward query
-abbrev pub back_reply : Workbook → ℕ → ℕ → Marks → Reply
-back_reply book v t marks =
-    let n = length (rows_of_view book v) in
-    unless_outside (first_outside (written marks) n) n (rows_reply book t (rids_back book v t (marked marks n)))
+-- a brush in place of the one of its view and table, or put last where there is none
+abbrev pub with_brush : BrushOn → List BrushOn → List BrushOn
+with_brush brush brushes =
+    cond (list_any (is_brush brush.view brush.table) brushes)
+    (map (λ old. cond (is_brush brush.view brush.table old) brush old) brushes)
+    (brushes ++ brush ∷ [])
 
--- the content of a view
-abbrev pub view_reply : Workbook → ℕ → Reply
-view_reply book v = replies.View (record { kinds = (view_at book.catalog v).kinds; rows = rows_of_view book v })
+-- the brushes without that of a view and a table
+abbrev pub without_brush : ℕ → ℕ → List BrushOn → List BrushOn
+without_brush v t brushes = filter (λ brush. not (is_brush v t brush)) brushes
 
--- the answers where the view, and the table, are known and the query is declared, or else the refusal
-abbrev pub named_view_reply : Workbook → List ℕ → Reply
-named_view_reply book view = or_refused (view_place book.catalog view) UnknownView (view_reply book)
-
-abbrev pub named_back_reply : Workbook → List ℕ → Marks → List ℕ → Reply
-named_back_reply book view marks table =
-    or_refused (view_place book.catalog view) UnknownView (λ v.
-    or_refused (table_place book.catalog table) UnknownTable (λ t.
-    cond (declares_back book.catalog v t) (back_reply book v t marks) (replies.Refused Undeclared)))
-
--- the reply to a line that shows a view or asks a backward query for its rows; no other line is answered yet
-abbrev pub reply : Workbook → Line → Reply
-reply book (lines.Show view) = named_view_reply book view
-reply book (lines.Back view marks table then) = named_back_reply book view marks table
-reply book _ = replies.Cleared
-
-abbrev pub is_refused : Reply → Bool
-is_refused (replies.Refused refusal) = true
-is_refused _ = false
+-- the same rows under other brushes
+abbrev pub under : State → List BrushOn → State
+under state brushes = record { tables = state.tables; brushes = brushes }

@@ -38,6 +38,25 @@ abbrev pub back_text : List ℕ → List ℕ → List (List ℕ) → List ℕ �
 back_text view table columns rids rows =
     line (codes "back " ∷ view ∷ codes " to " ∷ table ∷ codes " " ∷ decimal (length rows) ∷ []) ++ record_line (codes "rid" ∷ columns) ++ row_lines (λ i. slice_index_or rids i 0) rows
 
+-- a declared grouping of a backward answer: the names of its columns, its rows with their places
+abbrev pub group_text : List ℕ → List ℕ → List (List ℕ) → List Row → List ℕ
+group_text view table columns rows =
+    line (codes "group " ∷ view ∷ codes " to " ∷ table ∷ codes " " ∷ decimal (length rows) ∷ []) ++ record_line (codes "row" ∷ columns) ++ row_lines (λ i. i) rows
+
+-- a word, and each number after a space
+abbrev pub numbers_line : List ℕ → List ℕ → List ℕ
+numbers_line word numbers = line (word ∷ flat_map (λ n. codes " " ∷ decimal n ∷ []) numbers)
+
+-- a forward answer: the marks of the view
+abbrev pub fwd_text : List ℕ → List ℕ → List ℕ → List ℕ
+fwd_text table view marks =
+    line (codes "fwd " ∷ table ∷ codes " to " ∷ view ∷ codes " " ∷ decimal (length marks) ∷ []) ++ numbers_line (codes "marks") marks
+
+-- the rids that a brush selects; the linked views follow
+abbrev pub brush_text : List ℕ → List ℕ → List ℕ → List ℕ
+brush_text view table rids =
+    line (codes "brush " ∷ view ∷ codes " on " ∷ table ∷ codes " " ∷ decimal (length rids) ∷ []) ++ numbers_line (codes "rids") rids
+
 -- a number on a line that is not below the number of rows
 abbrev pub no_row_text : ℕ → ℕ → List ℕ
 no_row_text row rows = line (codes "refused no row " ∷ decimal row ∷ codes " of " ∷ decimal rows ∷ [])

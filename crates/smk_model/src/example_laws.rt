@@ -2,6 +2,7 @@
 
 ghost use Rattle.smk_model.specs.Examples.{ExamplesHold};
 ghost use Rattle.smk_model.specs.RunExamples.{RunsHold};
+ghost use Rattle.smk_model.specs.SessionExamples.{SessionsHold};
 
 /// The rows of six views over two tables, the rids that they come from, and the lists of one step.
 pub fn examples_hold()
@@ -11,4 +12,9 @@ pub fn examples_hold()
 /// The rows, the texts of the views and the replies of a run, and the faults of a table's file.
 pub fn runs_hold()
     ensures { RunsHold }
+{}
+
+/// What sessions answer over the same tables: backward and forward queries, splits and groupings, and brushes one after the other.
+pub fn sessions_hold()
+    ensures { SessionsHold }
 {}

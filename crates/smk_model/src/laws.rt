@@ -5,7 +5,7 @@ pub use crate::composed_laws::{
     backs_compose, forwards_compose, leaves_split, lists_stand, merged_has_both,
 };
 pub use crate::direction_laws::{inverses, one_each, pairs_forward};
-pub use crate::example_laws::{examples_hold, runs_hold};
+pub use crate::example_laws::{examples_hold, runs_hold, sessions_hold};
 pub use crate::fault_laws::{first_of_all, nothing_asked};
 pub use crate::grammar_laws::{
     faultless_have_trees, faultless_keep_limits, faults_stay, one_book, one_line,
@@ -16,5 +16,6 @@ pub use crate::lineage_laws::{
 };
 pub use crate::local_laws::{adds_no_rows, cut, lists_grow, locals_are};
 pub use crate::outcome_laws::{
-    faultless_texts_spell, one_outcome, one_reading, some_outcome, some_reading,
+    faultless_texts_spell, one_inputs, one_outcome, one_reading, some_outcome, some_reading,
 };
+pub use crate::reply_laws::{first_contents, marks_stay, refused_stay, replies_fit};

@@ -11,3 +11,4 @@ pub mod laws;
 pub mod lineage_laws;
 pub mod local_laws;
 pub mod outcome_laws;
+pub mod reply_laws;

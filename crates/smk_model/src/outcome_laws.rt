@@ -1,9 +1,15 @@
-ghost use Rattle.smk_model.specs.OutcomeLaws.{FaultlessTextsSpell, OneOutcome, OneReading, SomeOutcome, SomeReading};
+ghost use Rattle.smk_model.specs.OutcomeLaws.{FaultlessTextsSpell, OneInputs, OneOutcome, OneReading, SomeOutcome, SomeReading};
 
 /// No bytes of a script have two lists of readings.
 #[tactic(auto, using(crate::proofs::OneOutcome::one_reading))]
 pub fn one_reading()
     ensures { OneReading }
+{}
+
+/// No words and files have two readings of the inputs.
+#[tactic(auto, using(crate::proofs::OneOutcome::one_inputs))]
+pub fn one_inputs()
+    ensures { OneInputs }
 {}
 
 /// No words and files have two outcomes.

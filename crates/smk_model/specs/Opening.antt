@@ -1,0 +1,43 @@
+-- What a session begins with: the first content of each view and the lineage that is needed for it; or the first view with a node that is too big.
+use Rattle.std.specs.Prelude.{ℕ, List, [], ◌∷◌, length, Option, None, option_map}
+use Rattle.std.specs.Option.{option_or}
+use Rattle.smk_base.specs.Places.{upto}
+use Rattle.smk_base.specs.CatalogImage.{CatalogImage}
+use Rattle.smk_base.specs.declared.fault.Fault.{Fault}
+use Rattle.smk_base.specs.declared.fault.Fault.TheVariants.{ViewRows, ViewPairs}
+use Rattle.smk_model.specs.Plain.{whole}
+use Rattle.smk_model.specs.Typing.{info_at}
+use Rattle.smk_model.specs.NodeFaults.{NodeFault, FullRows, FullPairs, first_fault, asked_of}
+use Rattle.smk_model.specs.Workload.{needs}
+use Rattle.smk_model.specs.Session.{Workbook, view_at}
+
+-- a view, by its number, and the fault of one of its nodes
+pub record ViewFault : Type 0 where
+  pub view : ℕ
+  pub fault : NodeFault
+
+-- the first of a view's nodes that has too many rows, or too many pairs with a table that the view needs
+abbrev pub fault_of_view : Workbook → ℕ → Option NodeFault
+fault_of_view book v =
+    let plan = (view_at book.catalog v).plan in
+    first_fault plan (whole plan book.tables) (asked_of book.tables (needs book.catalog v))
+
+abbrev pub view_fault : Workbook → ℕ → Option ViewFault
+view_fault book v = option_map (λ fault. record { view = v; fault = fault }) (fault_of_view book v)
+
+-- the first value that a list's members have
+abbrev pub first_some : {A B : Type 0} → (A → Option B) → List A → Option B
+first_some value [] = None
+first_some value (a ∷ more) = option_or (value a) (first_some value more)
+
+-- the first of the views, in the book's order, with a fault
+abbrev pub first_view_fault : Workbook → Option ViewFault
+first_view_fault book = first_some (view_fault book) (upto (length book.catalog.views))
+
+-- the same, with names
+abbrev pub named_fault : CatalogImage → List ℕ → NodeFault → Fault
+named_fault catalog view (FullRows node) = ViewRows view node
+named_fault catalog view (FullPairs node table) = ViewPairs view node (info_at catalog.tables table).name
+
+abbrev pub fault_named : CatalogImage → ViewFault → Fault
+fault_named catalog found = named_fault catalog (view_at catalog found.view).name found.fault
