@@ -108,7 +108,7 @@ fn push_values<'a>(
     requires columns { AreColumns cols.now }
     requires places { length places.now ≡ length cols.now }
     requires kinds { rel.old.kinds ≡ kinds_of cols.now }
-    requires room { length rel.old.rows < 1048576 }
+    requires room { length rel.old.rows < ROW_LIMIT }
     ensures kinds { rel.new.kinds ≡ rel.old.kinds }
     ensures pushed { OnOk result (with_row rel.old.rows (all_or_first (numbered (cell_value places.now nth (fields_of fields.now)) 0 cols.now)) ≡ Ok rel.new.rows) }
     ensures fault { IfErr result (λ fault. (fault ≡ NoMemory) ⊎ (all_or_first (numbered (cell_value places.now nth (fields_of fields.now)) 0 cols.now) ≡ Err fault)) }
@@ -137,10 +137,10 @@ pub(crate) fn push_record<'a>(
     requires places { length places.now ≡ length cols.now }
     requires kinds { rel.old.kinds ≡ kinds_of cols.now }
     requires count { length rel.old.rows + 1 ≡ nth }
-    requires few { length rel.old.rows ≤ 1048576 }
+    requires few { length rel.old.rows ≤ ROW_LIMIT }
     ensures kinds { rel.new.kinds ≡ rel.old.kinds }
     ensures pushed { OnOk result (with_row rel.old.rows (record_row cols.now places.now width nth (fields_of fields.now)) ≡ Ok rel.new.rows) }
-    ensures room { IfOk result (λ _. nth ≢ 1048577) }
+    ensures room { IfOk result (λ _. nth ≢ ROW_LIMIT + 1) }
     ensures fault { IfErr result (λ fault. (fault ≡ NoMemory) ⊎ (record_row cols.now places.now width nth (fields_of fields.now) ≡ Err fault)) }
 {
     if nth == ROW_LIMIT + 1 {

@@ -3,7 +3,7 @@ ghost use Rattle.smk_base.specs.Cells.{value_of_cell};
 ghost use Rattle.smk_base.specs.Rels.{IsRelation, Fits, kind_in, row_in, rows_at, value_in};
 ghost use Rattle.smk_model.specs.Tables.{IsBase};
 
-use smk_base::{CellRef, Kind, Rel, Row};
+use smk_base::{CellRef, Kind, ROW_LIMIT, Rel, Row};
 use smk_outside::Steps;
 use std::alloc::{AllocError, Global};
 use std::marker::Model;
@@ -93,7 +93,7 @@ impl Table {
         steps: &mut Steps<L>,
     ) -> Result<Rel, AllocError>
         requires inside { All (λ rid. rid < length self.now.rows) rids.now }
-        requires few { length rids.now ≤ 1048576 }
+        requires few { length rids.now ≤ ROW_LIMIT }
         ensures rows { IfOk result (λ rel. rel ≡ record { kinds = self.now.kinds; rows = rows_at self.now.rows rids.now }) }
         ensures looks { steps.new ≡ steps.old + length rids.now }
     {

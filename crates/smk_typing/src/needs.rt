@@ -1,4 +1,4 @@
-ghost use Rattle.std.specs.Prelude.{◌≡◌, IfOk};
+ghost use Rattle.std.specs.Prelude.{◌≡◌, ◌<◌, length, All, IfOk};
 ghost use Rattle.std.specs.List.{list_any};
 ghost use Rattle.smk_base.specs.CatalogImage.{catalog_image};
 ghost use Rattle.smk_base.specs.Places.{has};
@@ -11,7 +11,8 @@ use std::alloc::{AllocError, Global};
 #[tactic(auto, using(crate::proofs::NeedsBelow::needs_below))]
 /// The lineage that the declared queries of a view need: exactly their tables, in their directions.
 pub fn needed(alloc: Global, book: &TypedBook, view: u32) -> Result<Need, AllocError>
-    ensures { IfOk result (λ need. need ≡ needs (catalog_image book.now) view) }
+    ensures needs { IfOk result (λ need. need ≡ needs (catalog_image book.now) view) }
+    ensures tables { IfOk result (λ need. All (λ needed. needed.table < length book.now.tables) need) }
 {
     let catalog = book.catalog();
     let mut need = Need::new(alloc);

@@ -1,6 +1,7 @@
 use Rattle.std.proofs.Common.{◌≡◌, ◌≤◌, ◌+◌, ◌++◌, length, Ok}
 use Rattle.smk_model.specs.Names.{◌>>=◌}
 use Rattle.smk_model.specs.Tables.{all_or_first, numbered, record_row, kinds_of}
+use Rattle.smk_base.specs.declared.rel.TheConstants.{ROW_LIMIT}
 use Rattle.smk_table.specs.Reading.{IsBetween, records_left}
 use Rattle.smk_table.proofs.records.read_rows.Given as goal
 
@@ -9,7 +10,7 @@ invariant-loop-nth l = record {
   between : IsBetween l.reader;
   kinds : l.rel.kinds ≡ kinds_of l.cols;
   count : length l.rel.rows + 1 ≡ l.nth;
-  few : length l.rel.rows ≤ 1048576;
+  few : length l.rel.rows ≤ ROW_LIMIT;
   whole : all_or_first (numbered (record_row l.cols l.places l.width) 1 (records_left l.fn.reader))
       ≡ ◌>>=◌ (all_or_first (numbered (record_row l.cols l.places l.width) l.nth (records_left l.reader))) (λ rest. Ok (l.rel.rows ++ rest));
 }
