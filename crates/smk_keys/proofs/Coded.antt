@@ -1,5 +1,5 @@
 -- Items that have the places of their equals among those that came.
-use Rattle.std.proofs.Common.{◌≡◌, ℕ, suc, ◌+◌, ◌<◌, ◌≤◌, Bool, true, false, List, [], ◌∷◌, ◌++◌, length, get_or, if◌then◌else◌, refl, ap, sym, ◌∙◌, arith, true≢false, Decides, inl, inr}
+use Rattle.std.proofs.Common.{◌≡◌, ℕ, ◌+◌, ◌<◌, ◌≤◌, Bool, true, false, List, [], ◌∷◌, ◌++◌, length, get_or, if◌then◌else◌, refl, ap, sym, ◌∙◌, arith, true≢false, Decides, inl, inr}
 use Rattle.std.specs.Cmp.{decided}
 use Rattle.std.specs.List.{list_any, position_or_len, IsDistinct}
 use Rattle.std.proofs.lemmas.Bool.{cases_order, cases_Bool, cases_lt}

@@ -8,3 +8,4 @@ pub mod Placed
 pub mod Rowed
 pub mod Tabled
 pub mod Worded
+pub mod Ordered

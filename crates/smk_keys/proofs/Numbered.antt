@@ -1,9 +1,9 @@
 -- Items numbered by first occurrence, one after the other.
-use Rattle.std.proofs.Common.{◌≡◌, ℕ, ◌+◌, ◌<◌, Bool, true, false, not, List, [], ◌∷◌, ◌++◌, length, get_or, if◌then◌else◌, refl, ◌∙◌, arith, Decides, inl, inr}
+use Rattle.std.proofs.Common.{◌≡◌, ℕ, ◌+◌, ◌<◌, Bool, List, [], ◌∷◌, ◌++◌, length, get_or, if◌then◌else◌, refl, ◌∙◌, arith, Decides, inl, inr}
 use Rattle.std.specs.List.{list_any, position_or_len}
 use Rattle.std.proofs.lemmas.Bool.{cases_Bool, cases_lt}
 use Rattle.std.proofs.lemmas.List.{get_or_push, get_or_append_left, length_push}
-use Rattle.smk_base.proofs.Codes.{found_at, none_at}
+use Rattle.smk_base.proofs.Codes.{none_at}
 use Rattle.smk_keys.proofs.Coded.{IsCoded, IsCoded-none, IsCoded-more, AreNumbers-coded}
 use Rattle.smk_keys.proofs.Firsts.{AreClasses}
 

@@ -1,5 +1,5 @@
 -- Pairs of numbers.
-use Rattle.std.proofs.Common.{◌≡◌, ℕ, ◌+◌, ◌*◌, ◌<◌, ◌≤◌, Bool, true, List, length, get_or, nat_eq, ◌&&◌, refl, ap, sym, ◌∙◌, arith, Decides, All, inl, inr}
+use Rattle.std.proofs.Common.{◌≡◌, ℕ, ◌+◌, ◌*◌, ◌<◌, ◌≤◌, Bool, List, length, get_or, nat_eq, ◌&&◌, ap, sym, ◌∙◌, arith, Decides, All, inl, inr}
 use Rattle.std.specs.Cmp.{unsigned_Decides}
 use Rattle.std.specs.List.{zip}
 use Rattle.std.proofs.lemmas.Bool.{and_parts, and_from, cases_order}

@@ -1,5 +1,5 @@
 -- Numbers of rows, column by column.
-use Rattle.std.proofs.Common.{◌≡◌, ℕ, zero, suc, ◌+◌, ◌-◌, ◌<◌, ◌≤◌, ℤ, pos, List, [], ◌∷◌, ◌++◌, length, map, get_or, nat_eq, refl, ap, sym, subst, ◌∙◌, arith, All, inl, inr, replicate, length-append, Decides}
+use Rattle.std.proofs.Common.{◌≡◌, ℕ, zero, suc, ◌+◌, ◌-◌, ◌<◌, ℤ, pos, List, [], ◌∷◌, ◌++◌, length, map, take, get_or, nat_eq, refl, ap, sym, subst, ◌∙◌, arith, All, inl, inr, replicate, length-append, Decides}
 use Rattle.std.specs.List.{zip}
 use Rattle.std.proofs.lemmas.Bool.{cases_lt}
 use Rattle.std.proofs.lemmas.List.{get_or_append_left, get_or-append_right, get_or_default, get_or-map, get_or-replicate, length-map, length-replicate, map-append, map_push, same_from_push, same_lists}
@@ -84,6 +84,32 @@ AreNumbers-more rows cols c a b count lefts rights of =
     let of_values : length (column_values c rows) ≡ length rows = length-map rows (λ (row : List Value). value_in row c) in
     AreNumbers-pairs (map (picked cols) rows) (map (picked (cols ++ c ∷ [])) rows) (column_values c rows) a b count lefts rights of (omega arith) (omega arith) (λ i h. longer_key rows cols c i (omega arith))
 
+-- numbers of values are numbers of the keys of one value each
+AreNumbers-ones : (keys : List (List Value)) (of_values : List Value) (count : ℕ) (of : List ℕ) → length keys ≡ length of_values
+    → ((i : ℕ) → i < length keys → get_or keys i [] ≡ get_or of_values i (values.Int (pos 0)) ∷ [])
+    → AreNumbers (values.Int (pos 0)) of_values count of → AreNumbers [] keys count of
+AreNumbers-ones keys of_values count of e key are = record {
+  long = are.long ∙ sym e;
+  below = are.below;
+  same = λ i j p q f. (let one = are.same i j (omega arith) (omega arith) f in key i p ∙ ap (λ (v : Value). v ∷ []) one ∙ sym (key j q));
+  alike = λ i j p q f. are.alike i j (omega arith) (omega arith) (same_from_push [] [] (get_or of_values i (values.Int (pos 0))) (get_or of_values j (values.Int (pos 0))) (sym (key i p) ∙ f ∙ key j q)).1;
+}
+
+pub take_one : (cols : List ℕ) → (length cols ≡ 0 → ⊥) → take 1 cols ≡ get_or cols 0 0 ∷ []
+take_one [] h = absurd (h refl)
+take_one (c ∷ cols) h = refl
+
+pub take_none : (cols : List ℕ) → length cols ≡ 0 → take 1 cols ≡ []
+take_none [] h = refl
+take_none (c ∷ cols) h = absurd (omega arith)
+
+pub AreNumbers-one : (rows : List (List Value)) (c count : ℕ) (of : List ℕ) → AreNumbers (values.Int (pos 0)) (column_values c rows) count of → AreNumbers [] (map (picked (c ∷ [])) rows) count of
+AreNumbers-one rows c count of are =
+    let keys = length-map rows (picked (c ∷ [])) in
+    let of_values : length (column_values c rows) ≡ length rows = length-map rows (λ (row : List Value). value_in row c) in
+    AreNumbers-ones (map (picked (c ∷ [])) rows) (column_values c rows) count of (keys ∙ sym of_values)
+    (λ i h. longer_key rows [] c i (omega arith) ∙ ap (λ (front : List Value). front ++ get_or (column_values c rows) i (values.Int (pos 0)) ∷ []) (empty_key rows i)) are
+
 -- a key of both sides with one more column
 both_longer_key : (ls rs : List (List Value)) (cols others : List ℕ) (c d i : ℕ) → i < length ls + length rs
     → get_or (map (picked (cols ++ c ∷ [])) ls ++ map (picked (others ++ d ∷ [])) rs) i []
@@ -115,6 +141,15 @@ AreNumbers-both_more ls rs cols others c d a b count lefts rights of =
     let longer : length (map (picked (cols ++ c ∷ [])) ls ++ map (picked (others ++ d ∷ [])) rs) ≡ length ls + length rs = both_long ls rs (picked (cols ++ c ∷ [])) (picked (others ++ d ∷ [])) in
     let of_values : length (column_values c ls ++ column_values d rs) ≡ length ls + length rs = both_long ls rs (λ (row : List Value). value_in row c) (λ (row : List Value). value_in row d) in
     AreNumbers-pairs _ _ (column_values c ls ++ column_values d rs) a b count lefts rights of (omega arith) (omega arith) (λ i h. both_longer_key ls rs cols others c d i (omega arith))
+
+pub AreNumbers-both_one : (ls rs : List (List Value)) (c d count : ℕ) (of : List ℕ) → AreNumbers (values.Int (pos 0)) (column_values c ls ++ column_values d rs) count of
+    → AreNumbers [] (map (picked (c ∷ [])) ls ++ map (picked (d ∷ [])) rs) count of
+AreNumbers-both_one ls rs c d count of are =
+    let keys : length (map (picked (c ∷ [])) ls ++ map (picked (d ∷ [])) rs) ≡ length ls + length rs = both_long ls rs (picked (c ∷ [])) (picked (d ∷ [])) in
+    let of_values : length (column_values c ls ++ column_values d rs) ≡ length ls + length rs = both_long ls rs (λ (row : List Value). value_in row c) (λ (row : List Value). value_in row d) in
+    AreNumbers-ones _ (column_values c ls ++ column_values d rs) count of (keys ∙ sym of_values)
+    (λ i h. both_longer_key ls rs [] [] c d i (omega arith)
+    ∙ ap (λ (front : List Value). front ++ get_or (column_values c ls ++ column_values d rs) i (values.Int (pos 0)) ∷ []) (ap (λ (list : List (List Value)). get_or list i []) (sym (map-append (picked []) ls rs)) ∙ empty_key (ls ++ rs) i)) are
 
 -- numbers of what values have are numbers of the values
 pub AreNumbers-map : {A : Type 0} (f : A → Value) (inner : (a b : A) → f a ≡ f b → a ≡ b) (none : A) (items : List A) (count : ℕ) (of : List ℕ) → AreNumbers none items count of → AreNumbers (values.Int (pos 0)) (map f items) count of

@@ -1,3 +1,4 @@
 pub mod Classes
 pub mod Keys
 pub mod Numbers
+pub mod Orders

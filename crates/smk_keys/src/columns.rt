@@ -1,5 +1,5 @@
 //! Numbers of the rows of one relation.
-ghost use Rattle.std.specs.Prelude.{◌≡◌, ◌<◌, ◌≤◌, [], length, map, pos, All, IfOk};
+ghost use Rattle.std.specs.Prelude.{◌≡◌, ◌<◌, ◌≤◌, [], length, map, take, pos, All, IfOk};
 ghost use Rattle.smk_base.specs.Rels.{column_values, picked};
 ghost use Rattle.smk_base.specs.declared.value.Value.TheVariants.{Int};
 ghost use Rattle.smk_keys.specs.Numbers.{AreNumbers};
@@ -15,10 +15,24 @@ pub(crate) fn row_numbers(alloc: Global, rel: &Rel, cols: &[u32]) -> Result<Numb
     requires { All (λ c. c < length rel.now.kinds) cols.now }
     ensures { IfOk result (λ made. AreNumbers [] (map (picked cols.now) rel.now.rows) made.count made.of.items) }
 {
-    let mut made = zeros(alloc, rel.len())?;
-    for c in cols {
-        made = pair_numbers(alloc, made, column_numbers(alloc, rel, *c)?)?;
+    let _rows = rel.len();
+    let mut made = first_numbers(alloc, rel, cols)?;
+    for k in 1..cols.len() {
+        made = pair_numbers(alloc, made, column_numbers(alloc, rel, cols[k])?)?;
     }
+    Ok(made)
+}
+
+// Numbers of the values in the first of these columns; of no column all rows have the same.
+fn first_numbers(alloc: Global, rel: &Rel, cols: &[u32]) -> Result<Numbers, AllocError>
+    requires { All (λ c. c < length rel.now.kinds) cols.now }
+    ensures { IfOk result (λ made. AreNumbers [] (map (picked (take 1 cols.now)) rel.now.rows) made.count made.of.items) }
+{
+    if cols.is_empty() {
+        let made = zeros(alloc, rel.len())?;
+        return Ok(made);
+    }
+    let made = column_numbers(alloc, rel, cols[0])?;
     Ok(made)
 }
 

@@ -8,8 +8,6 @@ mod ints;
 mod numbers;
 mod pairs;
 mod table;
-#[cfg(test)]
-mod tests;
 
 pub use classes::Classes;
 pub use table::KeyTable;

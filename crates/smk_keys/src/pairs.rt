@@ -59,7 +59,7 @@ fn hashed_pairs(alloc: Global, lefts: &[u32], rights: &[u32]) -> Result<Numbers,
     requires long { length rights.now ≡ length lefts.now }
     ensures { IfOk result (λ made. AreNumbers (0, 0) (zip lefts.now rights.now) made.count made.of.items) }
 {
-    let mut seen = IndexSet::new(alloc);
+    let mut seen = IndexSet::with_capacity(alloc, lefts.len())?;
     let mut of = Vec::with_capacity(alloc, lefts.len())?;
     for i in 0..lefts.len() {
         let (number, _) = seen.insert_full((lefts[i], rights[i]))?;

@@ -1,9 +1,10 @@
 -- Lists of at most one rid.
-use Rattle.std.proofs.Common.{◌≡◌, ◌∙◌, ◌<◌, ◌≤◌, ℕ, zero, suc, length, List, [], ◌∷◌, ◌++◌, refl, sym, ap, subst, map, arith, get_or, take, drop, Option, None, Some, false}
+use Rattle.std.proofs.Common.{◌≡◌, ◌∙◌, ◌<◌, ◌≤◌, ℕ, zero, suc, length, List, [], ◌∷◌, ◌++◌, refl, sym, ap, subst, map, arith, get_or, set, take, drop, Option, None, Some, false, inl, inr}
+use Rattle.std.proofs.lemmas.Bool.{cases_eq, eq-eqb, ne_eqb}
 use Rattle.std.specs.Option.{option_to_list, IfSome}
 use Rattle.std.specs.List.{All}
 use Rattle.std.proofs.Math.ListN.{replicate}
-use Rattle.std.proofs.lemmas.List.{length-map, map-append, length-take-le, length-drop, length-replicate}
+use Rattle.std.proofs.lemmas.List.{length-map, map-append, length-take-le, length-drop, length-replicate, same_lists, get_or-map, map-set}
 use Rattle.std.proofs.lemmas.List.Elements.{All-map, All-weaker, All-take, All-drop, All-replicate}
 use Rattle.std.proofs.lemmas.List.Sums.{sum_by-le, sum_by-take-drop, sum_by-cons}
 use Rattle.std.proofs.lemmas.List.Folds.{sum_by-replicate}
@@ -32,7 +33,7 @@ ones-upto (suc n) h =
     map-append one_of (upto n) (n ∷ [])
     ∙ rw (ones-upto n (omega arith), one_is n (omega arith)) (sym (map-append (λ i. i ∷ []) (upto n) (n ∷ [])))
 
-pairs_ones : (xs : List ℕ) → pairs_of (map (λ i. i ∷ []) xs) ≡ length xs
+pub pairs_ones : (xs : List ℕ) → pairs_of (map (λ i. i ∷ []) xs) ≡ length xs
 pairs_ones [] = refl
 pairs_ones (x ∷ xs) = omega (arith, sum_by-cons (length {A = ℕ}) (x ∷ []) (map (λ i. i ∷ []) xs), pairs_ones xs)
 
@@ -48,6 +49,25 @@ IsMap-own_lists n h = record {
 
 pub single-own : (n : ℕ) → IsSingle (map (λ i. i ∷ []) (upto n))
 single-own n = All-map (λ l. length l ≤ 1) (λ i. i ∷ []) (upto n) (λ k d l. omega arith)
+
+-- rids below a bound stand for lists of one each
+pub ones_are : (rids : List ℕ) (bound : ℕ) → bound < 4294967296 → All (λ r. r < bound) rids → map one_of rids ≡ map (λ r. r ∷ []) rids
+ones_are rids bound h below =
+    let long : length (map one_of rids) ≡ length rids = length-map rids one_of in
+    let long2 : length (map (λ (r : ℕ). r ∷ []) rids) ≡ length rids = length-map rids (λ r. r ∷ []) in
+    same_lists (map one_of rids) (map (λ r. r ∷ []) rids) (long ∙ sym long2) (λ k d low.
+    let lowk : k < length rids = omega (arith, low, long) in
+    get_or-map one_of rids k 0 d lowk ∙ one_is (get_or rids k 0) (omega (arith, below k 0 lowk)) ∙ sym (get_or-map (λ r. r ∷ []) rids k 0 d lowk))
+
+pub IsMap-ones : (rids : List ℕ) (bound : ℕ) → length rids ≤ 1048576 → All (λ r. r < bound) rids → IsMap (record { lists = map (λ r. r ∷ []) rids; bound = bound })
+IsMap-ones rids bound few below = record {
+  sets = All-map (IsPlaces bound) (λ r. r ∷ []) rids (All-weaker (λ r. r < bound) (λ r. IsPlaces bound (r ∷ [])) (one_place bound) rids below);
+  short = omega (arith, length-map rids (λ r. r ∷ []));
+  few = omega (arith, pairs_ones rids);
+}
+
+pub single-ones : (rids : List ℕ) → IsSingle (map (λ r. r ∷ []) rids)
+single-ones rids = All-map (λ l. length l ≤ 1) (λ r. r ∷ []) rids (λ k d l. omega arith)
 
 -- numbers that stand for none are empty lists
 pub ones-replicate : (n : ℕ) → map one_of (replicate n 4294967295) ≡ replicate n []
@@ -66,6 +86,21 @@ IsMap-empty_lists n bound h = record {
 
 pub single-empty : (n : ℕ) → IsSingle (replicate n [])
 single-empty n = All-replicate (λ l. length l ≤ 1) n [] (omega arith)
+
+-- numbers stand for lists of at most one rid
+one_single : (r : ℕ) → length (one_of r) ≤ 1
+one_single r = elim (cases_eq r 4294967295) [
+  | inl none ↦ rw (eq-eqb r 4294967295 none) (omega arith)
+  | inr some ↦ rw (ne_eqb r 4294967295 some) (omega arith)
+]
+
+pub single-ones_of : (rids : List ℕ) → IsSingle (map one_of rids)
+single-ones_of rids = All-map (λ l. length l ≤ 1) one_of rids (λ k d l. one_single (get_or rids k d))
+
+-- a rid that is set in the place of none is the last of its list
+pub ones-set : (rids : List ℕ) (bound i rid : ℕ) → rid < bound → bound < 4294967296 → get_or (map one_of rids) i [] ≡ [] → map one_of (set rids i rid) ≡ set (map one_of rids) i (get_or (map one_of rids) i [] ++ rid ∷ [])
+ones-set rids bound i rid below h free =
+    map-set one_of rids i rid ∙ ap (set (map one_of rids) i) (one_is rid (omega arith) ∙ ap (λ (front : List ℕ). front ++ rid ∷ []) (sym free))
 
 -- optional rids
 option_set : (n : ℕ) (o : Option ℕ) → IfSome o (λ r. r < n) → IsPlaces n (option_to_list o)

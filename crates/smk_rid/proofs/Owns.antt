@@ -1,5 +1,5 @@
 -- Maps in which each place has itself alone.
-use Rattle.std.proofs.Common.{◌≡◌, ◌∙◌, ◌<◌, ℕ, List, [], ◌∷◌, length, map, get_or, refl, sym, ap, arith}
+use Rattle.std.proofs.Common.{◌≡◌, ◌∙◌, ◌<◌, ℕ, List, [], ◌∷◌, length, map, get_or, refl, sym, ap}
 use Rattle.std.proofs.lemmas.List.{same_lists, length-map, get_or_default}
 use Rattle.smk_base.specs.Places.{Lists, upto, own_lists}
 use Rattle.smk_rid.proofs.Sets.{length-upto, at_upto}

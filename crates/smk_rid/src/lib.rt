@@ -9,14 +9,14 @@ mod fill;
 mod grow;
 mod invert;
 mod map;
+mod marks;
 mod merge;
 mod own;
 mod packed;
 mod short;
-#[cfg(test)]
-mod tests;
 
 pub use fault::RidFault;
 pub use fill::RidFill;
 pub use grow::RidGrow;
 pub use map::{PAIR_LIMIT, RidMap};
+pub use marks::RidMarks;

@@ -1,7 +1,8 @@
-ghost use Rattle.std.specs.Prelude.{◌≡◌, ◌<◌, ◌≤◌, ◌↔◌, [], length, take, slice_index_or, IfOk, IfSome, IsTrue, is_none, Option};
+ghost use Rattle.std.specs.Prelude.{◌≡◌, ◌<◌, ◌≤◌, ◌↔◌, [], ◌∷◌, length, map, take, slice_index_or, IfOk, IfSome, IsTrue, is_none, Option};
 ghost use Rattle.std.specs.List.{All, concat};
 ghost use Rattle.std.specs.Option.{option_to_list};
 ghost use Rattle.smk_base.specs.Places.{IsPlaces, pairs_of, own_lists, empty_lists};
+ghost use Rattle.smk_base.specs.declared.rel.TheConstants.{ROW_LIMIT};
 ghost use Rattle.smk_rid.specs.Packing.{one_of};
 ghost use Rattle.smk_rid.specs.Maps.{IsMap, IsSingle, array_lists};
 
@@ -44,7 +45,7 @@ impl Model for RidMap {
 impl RidMap {
     /// One list for each of so many places, of that place alone.
     pub fn identity(alloc: Global, len: u32) -> Result<RidMap, AllocError>
-        requires { len ≤ 1048576 }
+        requires { len ≤ ROW_LIMIT }
         ensures { IfOk result (λ made. made ≡ own_lists len) }
     {
         let mut rids = Vec::with_capacity(alloc, len as usize)?;
@@ -64,7 +65,7 @@ impl RidMap {
 
     /// One list for each of these, of its rid alone, or empty.
     pub fn from_array(alloc: Global, of: &[Option<u32>], bound: u32) -> Result<RidMap, AllocError>
-        requires few { length of.now ≤ 1048576 }
+        requires few { length of.now ≤ ROW_LIMIT }
         requires below { All (λ rid. IfSome rid (λ r. r < bound)) of.now }
         ensures { IfOk result (λ made. made ≡ array_lists of.now bound) }
     {
@@ -80,6 +81,16 @@ impl RidMap {
             }
         }
         Ok(RidMap::of_array(RidArray::of(rids), bound, pairs))
+    }
+
+    /// One list for each of these rids, of it alone, in their memory. It takes no memory.
+    pub fn of_rids(rids: Vec<u32>, bound: u32) -> RidMap
+        requires few { length rids.items ≤ ROW_LIMIT }
+        requires below { All (λ rid. rid < bound) rids.items }
+        ensures { result ≡ record { lists = map (λ rid. rid ∷ []) rids.items; bound = bound } }
+    {
+        let pairs = rids.len() as u32;
+        RidMap::of_array(RidArray::of(rids), bound, pairs)
     }
 
     /// How many lists there are. It takes no memory.
@@ -162,7 +173,7 @@ impl RidMap {
     }
 
     // The map that has these lists.
-    fn of_array(lists: RidArray, bound: u32, pairs: u32) -> RidMap
+    pub(crate) fn of_array(lists: RidArray, bound: u32, pairs: u32) -> RidMap
         requires map { IsMap (record { lists = lists; bound = bound }) }
         requires single { IsSingle lists }
         requires pairs { pairs ≡ pairs_of lists }

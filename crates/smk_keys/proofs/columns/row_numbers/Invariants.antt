@@ -3,5 +3,5 @@ use Rattle.smk_base.specs.Rels.{picked}
 use Rattle.smk_keys.specs.Numbers.{AreNumbers}
 use Rattle.smk_keys.proofs.columns.row_numbers.Given as goal
 
-abbrev pub invariant-loop-c : goal.invariant-loop-c
-invariant-loop-c l = AreNumbers [] (map (picked (take l.c-index l.cols)) l.rel.rows) l.made.count l.made.of.items
+abbrev pub invariant-loop-k : goal.invariant-loop-k
+invariant-loop-k l = AreNumbers [] (map (picked (take l.k l.cols)) l.rel.rows) l.made.count l.made.of.items
