@@ -1,13 +1,13 @@
 -- The numbers of the classes of rows.
-use Rattle.std.proofs.Common.{◌≡◌, ◌∙◌, ◌<◌, ◌≤◌, ℕ, false, true, List, [], length, sym, ap, arith, get_or, nat_eq, take, drop, ◌-◌}
+use Rattle.std.proofs.Common.{◌≡◌, ◌∙◌, ◌<◌, ◌≤◌, ℕ, true, List, [], length, sym, ap, arith, get_or, nat_eq, take, drop, ◌-◌}
 use Rattle.std.proofs.lemmas.List.{get_or-map, length-map, length-drop, get_or_default, take_all}
 use Rattle.std.proofs.lemmas.List.Sums.{fails_before_first}
-use Rattle.std.proofs.lemmas.Bool.{eq-eqb, false≢true}
+use Rattle.std.proofs.lemmas.Bool.{false≢true}
 use Rattle.smk_model.specs.Values.{Row}
 use Rattle.smk_model.specs.Plain.{row_eq, firsts}
 use Rattle.smk_model.specs.Lineage.{row_at}
 use Rattle.smk_model.specs.Classes.{classes, first_places}
-use Rattle.smk_model.proofs.Classes.{place_in, found_below, found_at, same_place, key_test, known_key, class_at, first_below, classes_are}
+use Rattle.smk_model.proofs.Classes.{place_in, found_at, same_place, key_test, known_key, class_at, first_below, classes_are}
 use Rattle.smk_model.proofs.Firsts.{row_same, holds_at, firsts_from}
 use Rattle.smk_model.proofs.Locals.{firsts_apart}
 use Rattle.smk_model.proofs.Sizes.{firsts_short}

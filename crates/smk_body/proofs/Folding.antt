@@ -1,19 +1,19 @@
 -- One value for each class, place by place.
-use Rattle.std.proofs.Common.{◌≡◌, ◌≢◌, ◌∙◌, ◌<◌, ◌≤◌, ◌+◌, ◌^◌, ℕ, zero, suc, ℤ, pos, ◌+ℤ◌, FitsSigned, Bool, true, false, cond, List, [], ◌∷◌, ◌++◌, length, map, take, refl, sym, ap, subst, arith, All, get_or, set, nat_eq, inl, inr, add-one}
+use Rattle.std.proofs.Common.{◌≡◌, ◌≢◌, ◌∙◌, ◌<◌, ◌≤◌, ◌+◌, ℕ, zero, suc, ℤ, pos, ◌+ℤ◌, FitsSigned, Bool, true, false, cond, List, [], ◌∷◌, ◌++◌, length, map, refl, sym, ap, arith, All, get_or, set, nat_eq, inl, inr, add-one}
 use Rattle.std.proofs.Math.ListN.{replicate}
-use Rattle.std.specs.List.{fold, filter}
+use Rattle.std.specs.List.{fold}
 use Rattle.std.specs.Int.{w128}
 use Rattle.std.proofs.lemmas.Int.{ints}
-use Rattle.std.proofs.lemmas.List.{get_or-set_same, get_or-set_other, length-set, length-map, append-nil, same_lists, get_or-map, length_push, map-append, get_or-replicate, length-replicate, get_or_read, set-get_or}
+use Rattle.std.proofs.lemmas.List.{get_or-set_same, get_or-set_other, length-set, length-map, append-nil, same_lists, length_push, map-append, get_or-replicate, length-replicate, get_or_read, set-get_or}
 use Rattle.std.proofs.lemmas.List.Elements.{filter-append, All-map, All-weaker, All-push}
 use Rattle.std.proofs.lemmas.List.Sums.{fold-append}
-use Rattle.std.proofs.lemmas.Bool.{cases_Bool, cases_eq, cases_lt, eq-eqb, ne_eqb}
+use Rattle.std.proofs.lemmas.Bool.{cases_Bool, cases_eq, eq-eqb, ne_eqb}
 use Rattle.smk_base.specs.declared.value.Value.{Value}
 use Rattle.smk_base.specs.Places.{upto, places, has}
 use Rattle.smk_base.specs.Rels.{IsWithin}
 use Rattle.smk_model.specs.Plain.{total, combined}
 use Rattle.smk_model.specs.Locals.{singles}
-use Rattle.smk_model.proofs.Places.{get_or_map_upto, length_upto, map_upto_agree, map_map, places_below, same_below, places_false, upto_below}
+use Rattle.smk_model.proofs.Places.{get_or_map_upto, map_upto_agree, map_map, places_below, same_below, places_false, upto_below}
 use Rattle.smk_model.proofs.Directions.{length_each}
 use Rattle.smk_body.proofs.Fitting.{total_within}
 use Rattle.smk_body.proofs.Turning.{single_at}

@@ -1,10 +1,12 @@
 -- The lineage of a side from what the first half of a step found.
-use Rattle.std.proofs.Common.{◌≡◌, ◌∙◌, ◌<◌, ◌≤◌, ◌+◌, ◌-◌, ℕ, List, ◌++◌, length, map, take, drop, refl, sym, ap, arith, All, subst, zero-add, None, Some}
+use Rattle.std.proofs.Common.{◌≡◌, ◌∙◌, ◌<◌, ◌≤◌, ◌+◌, ◌-◌, ℕ, List, ◌++◌, length, map, take, drop, refl, sym, ap, arith, All, get_or, subst, zero-add, None, Some}
+use Rattle.std.specs.List.{AllPairs}
 use Rattle.std.proofs.lemmas.List.{map-append, map-id, length-map, get_or_default}
 use Rattle.std.proofs.lemmas.List.Elements.{All-take, All-drop}
 use Rattle.std.proofs.Math.Seq.{take-append_seam, drop-append_seam}
-use Rattle.smk_base.specs.Places.{Lists, upto, own_lists, inverted}
+use Rattle.smk_base.specs.Places.{Lists, upto, own_lists, inverted, IsPlaces}
 use Rattle.smk_base.specs.declared.plan.Dir.{Dir}
+use Rattle.smk_rid.proofs.Rising.{rising_is}
 use Rattle.smk_model.specs.Values.{Row}
 use Rattle.smk_model.specs.Plain.{firsts}
 use Rattle.smk_model.specs.Locals.{singles}
@@ -78,3 +80,13 @@ pub stretch_below : (from len n : ℕ) → from + len ≤ n → All (λ r. r < n
 stretch_below from len n h = λ k d l.
     let low : k < len = omega (arith, l, length_each (λ i. from + i) len) in
     rw (get_or_map_upto (λ i. from + i) len k d low) (omega arith)
+
+-- a stretch of numbers is a set
+pub stretch_set : (from len n : ℕ) → from + len ≤ n → IsPlaces n (map (λ i. from + i) (upto len))
+stretch_set from len n h = rising_is n (map (λ i. from + i) (upto len)) (λ i j d lt low.
+    let long = length_each (λ i. from + i) len in
+    omega (arith, get_or_map_upto (λ i. from + i) len i d (omega (arith, low, long)), get_or_map_upto (λ i. from + i) len j d (omega (arith, low, long)))) (stretch_below from len n h)
+
+-- numbers that rise where they are read rise
+pub rising_at : (of : List ℕ) → ((i j : ℕ) → i < j → j < length of → get_or of i 0 < get_or of j 0) → AllPairs (λ x y. x < y) of
+rising_at of up i j d lt low = omega (arith, up i j lt low, get_or_default of i d 0 (omega arith), get_or_default of j d 0 low)

@@ -1,5 +1,5 @@
 -- The rows of both sides of a union.
-use Rattle.std.proofs.Common.{◌≡◌, ◌∙◌, ◌<◌, ◌≤◌, ◌+◌, ◌-◌, ℕ, suc, List, [], ◌∷◌, ◌++◌, length, map, take, drop, max, not, refl, sym, ap, subst, arith, All, get_or, inl, inr}
+use Rattle.std.proofs.Common.{◌≡◌, ◌∙◌, ◌<◌, ◌≤◌, ◌+◌, ◌-◌, ℕ, List, [], ◌∷◌, ◌++◌, length, map, take, drop, not, refl, sym, ap, subst, arith, All, get_or, inl, inr}
 use Rattle.std.specs.List.{AllZip, AllPairs, list_any}
 use Rattle.std.proofs.lemmas.List.{map-append, length-append, get_or_append_left, get_or-append_right, get_or_default, get_or-drop, length-drop, take-append-drop}
 use Rattle.std.proofs.lemmas.Bool.{cases_eq}

@@ -2,6 +2,7 @@
 use Rattle.std.specs.Prelude.{◌≡◌, ◌≢◌, ℕ, ◌<◌, ◌≤◌, nat_eq, Bool, cond, List, length, map, slice_index, All}
 use Rattle.std.specs.List.{flat_map, fold}
 use Rattle.std.specs.Ordering.{is_lt, is_gt}
+use Rattle.smk_base.specs.declared.rel.TheConstants.{ROW_LIMIT}
 use Rattle.smk_base.specs.Places.{upto, places}
 use Rattle.smk_base.specs.Plans.{Formula}
 use Rattle.smk_base.specs.declared.value.Value.{Value}
@@ -35,7 +36,7 @@ halves_of pairs = record { lefts = lefts_of pairs; rights = rights_of pairs }
 
 -- at most 1,048,576 pairs of a place below m and one below n
 pub record AreWithin (m n : ℕ) (pairs : PlacePairs) : Type 0 where
-  pub few : length pairs.lefts ≤ 1048576
+  pub few : length pairs.lefts ≤ ROW_LIMIT
   pub long : length pairs.rights ≡ length pairs.lefts
   pub lefts : All (λ i. i < m) pairs.lefts
   pub rights : All (λ j. j < n) pairs.rights

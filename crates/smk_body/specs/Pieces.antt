@@ -1,5 +1,6 @@
 -- What the pieces of a step have made.
 use Rattle.std.specs.Prelude.{◌≡◌, ◌<◌, ◌↔◌, ℕ, List, Result, IfOk, length, sum_by, slice_index_or}
+use Rattle.smk_base.specs.declared.rel.TheConstants.{ROW_LIMIT}
 use Rattle.smk_base.specs.Places.{upto}
 
 -- that these were made by n pieces, in the order of their numbers: what piece p has made is what f says of p
@@ -12,4 +13,4 @@ EachIs {X} {E} f n made = (p : ℕ) (d : Result X E) → p < n → IfOk (slice_i
 
 -- that what f counts over n pieces is more than 1,048,576 exactly where the number of rows is
 abbrev pub CountRows : (ℕ → ℕ) → ℕ → ℕ → Type 0
-CountRows f n rows = (1048576 < sum_by f (upto n)) ↔ (1048576 < rows)
+CountRows f n rows = (ROW_LIMIT < sum_by f (upto n)) ↔ (ROW_LIMIT < rows)

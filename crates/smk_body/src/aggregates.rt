@@ -6,6 +6,7 @@ ghost use Rattle.smk_model.specs.Plain.{number_of, total};
 ghost use Rattle.smk_model.specs.Lineage.{row_at};
 ghost use Rattle.smk_model.specs.Kinds.{IsSummed};
 ghost use Rattle.smk_body.specs.Halves.{AreNumbered, best_place, class_places, improves_on};
+ghost use Rattle.smk_base.specs.declared.rel.TheConstants.{ROW_LIMIT};
 
 use crate::lists::counted;
 use crate::rows::compare;
@@ -15,7 +16,7 @@ use std::alloc::{AllocError, Global};
 
 /// How many places each class has.
 pub fn counts(alloc: Global, of: &[u32], count: u32) -> Result<Vec<i128>, AllocError>
-    requires few { length of.now ≤ 1048576 }
+    requires few { length of.now ≤ ROW_LIMIT }
     requires below { All (λ p. p < count) of.now }
     ensures counts { IfOk result (λ v. v.items ≡ map (λ p. pos (length (class_places of.now (length of.now) p))) (upto count)) }
     ensures long { IfOk result (λ v. vec_len v ≡ count) }
@@ -59,7 +60,7 @@ fn small_sums(
     count: u32,
 ) -> Result<Vec<i128>, AllocError>
     requires long { length of.now ≡ length numbers.now }
-    requires few { length numbers.now ≤ 1048576 }
+    requires few { length numbers.now ≤ ROW_LIMIT }
     requires within { All (IsWithin 2) numbers.now }
     requires below { All (λ p. p < count) of.now }
     ensures sums { IfOk result (λ v. v.items ≡ map (λ p. total (map (λ i. slice_index_or numbers.now i (pos 0)) (class_places of.now (length of.now) p))) (upto count)) }
@@ -82,7 +83,7 @@ fn wide_sums(
     count: u32,
 ) -> Result<Vec<i128>, AllocError>
     requires long { length of.now ≡ length numbers.now }
-    requires few { length numbers.now ≤ 1048576 }
+    requires few { length numbers.now ≤ ROW_LIMIT }
     requires within { All (IsWithin 2) numbers.now }
     requires below { All (λ p. p < count) of.now }
     ensures sums { IfOk result (λ v. v.items ≡ map (λ p. total (map (λ i. slice_index_or numbers.now i (pos 0)) (class_places of.now (length of.now) p))) (upto count)) }

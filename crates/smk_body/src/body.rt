@@ -9,6 +9,7 @@ ghost use Rattle.smk_body.specs.Locals.{local1, local2, is_nothing, is_nothing2}
 ghost use Rattle.smk_body.specs.Pieces.{ArePieces};
 ghost use Rattle.smk_body.specs.declared.local.Local.{Local};
 ghost use Rattle.smk_body.specs.declared.local.Want.{Want};
+ghost use Rattle.smk_base.specs.declared.rel.TheConstants.{ROW_LIMIT};
 
 use crate::local::{Local, Want};
 use crate::pieces::{Cut, InPieces, Piece, made1, made2};
@@ -112,8 +113,8 @@ pub trait OpBody: InPieces {
         ensures rows { IfOk result (λ made. made.0.rows ≡ step2 (binary_of op.now) left.rows right.rows) }
         ensures lineage { IfOk result (λ made. meaning self.now made.1 ≡ local2 (binary_of op.now) left.rows right.rows want) }
         ensures left { IfOk result (λ made. leaves2 self.now (binary_of op.now) left right want made.1) }
-        ensures few { OnOk result (length (step2 (binary_of op.now) left.rows right.rows) ≤ 1048576) }
-        ensures many { IfErr result (λ e. e ≡ OpFault.Rows → 1048576 < length (step2 (binary_of op.now) left.rows right.rows)) };
+        ensures few { OnOk result (length (step2 (binary_of op.now) left.rows right.rows) ≤ ROW_LIMIT) }
+        ensures many { IfErr result (λ e. e ≡ OpFault.Rows → ROW_LIMIT < length (step2 (binary_of op.now) left.rows right.rows)) };
 
     /// A step over its two inputs, from what its pieces have made. It has at most 1,048,576 rows.
     fn gather2(
@@ -130,7 +131,7 @@ pub trait OpBody: InPieces {
         requires captured { IsTrue (may_capture self.now || is_nothing2 _want) }
         requires cut { Self.cuts2 self.now (binary_of _op.now) _left _right _want _cut }
         requires made { ArePieces (Self.makes2 self.now (binary_of _op.now) _left _right _want _cut) _cut.pieces _made.items }
-        requires few { length (step2 (binary_of _op.now) _left.rows _right.rows) ≤ 1048576 }
+        requires few { length (step2 (binary_of _op.now) _left.rows _right.rows) ≤ ROW_LIMIT }
         ensures kinds { IfOk result (λ made. made.0.kinds ≡ kinds2 (binary_of _op.now) _left.kinds _right.kinds) }
         ensures rows { IfOk result (λ made. made.0.rows ≡ step2 (binary_of _op.now) _left.rows _right.rows) }
         ensures lineage { IfOk result (λ made. meaning self.now made.1 ≡ local2 (binary_of _op.now) _left.rows _right.rows _want) }
@@ -191,8 +192,8 @@ pub trait OpBody: InPieces {
         ensures rows { IfOk result (λ made. made.0.rows ≡ step2 (binary_of op.now) left.rows right.rows) }
         ensures lineage { IfOk result (λ made. meaning self.now made.1 ≡ local2 (binary_of op.now) left.rows right.rows want) }
         ensures left { IfOk result (λ made. leaves2 self.now (binary_of op.now) left right want made.1) }
-        ensures few { OnOk result (length (step2 (binary_of op.now) left.rows right.rows) ≤ 1048576) }
-        ensures many { IfErr result (λ e. e ≡ OpFault.Rows → 1048576 < length (step2 (binary_of op.now) left.rows right.rows)) }
+        ensures few { OnOk result (length (step2 (binary_of op.now) left.rows right.rows) ≤ ROW_LIMIT) }
+        ensures many { IfErr result (λ e. e ≡ OpFault.Rows → ROW_LIMIT < length (step2 (binary_of op.now) left.rows right.rows)) }
     {
         let Some(cut) = self.cut2(alloc, op, &left, &right, want)? else {
             return self.whole2(alloc, op, left, right, want);

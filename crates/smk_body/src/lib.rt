@@ -19,10 +19,10 @@ mod unions;
 pub use body::{OpBody, OpFault};
 pub use classes::{first_rows, row_classes};
 pub use group::group_rows;
-pub use join::{joined, matched, partners_of};
+pub use join::{joined, joined_onto, matched, partners_of};
 pub use lists::{
-    marked_lists, own_side, side_of_classes, side_of_places, side_of_sources, side_of_stretch,
-    single_lists, turned_lists,
+    marked_lists, own_side, side_from_classes, side_from_places, side_from_runs, side_from_sources,
+    side_of_classes, side_of_places, side_of_sources, side_of_stretch, single_lists, turned_lists,
 };
 pub use local::{Local, Side, Want};
 pub use pairs::{Matches, Partners};

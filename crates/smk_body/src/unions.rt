@@ -16,7 +16,7 @@ pub fn union_all_rows(alloc: Global, left: Rel, right: &Rel) -> Result<Rel, OpFa
     requires { AllZip AreAlike left.kinds right.now.kinds }
     ensures kinds { IfOk result (λ made. made.kinds ≡ wider_kinds left.kinds right.now.kinds) }
     ensures rows { IfOk result (λ made. made.rows ≡ left.rows ++ right.now.rows) }
-    ensures many { IfErr result (λ e. e ≡ Rows → 1048576 < length (left.rows ++ right.now.rows)) }
+    ensures many { IfErr result (λ e. e ≡ Rows → ROW_LIMIT < length (left.rows ++ right.now.rows)) }
 {
     if left.len() + right.len() > ROW_LIMIT {
         return Err(OpFault::Rows);
@@ -28,7 +28,7 @@ pub fn union_all_rows(alloc: Global, left: Rel, right: &Rel) -> Result<Rel, OpFa
 // The left rows, then the right rows, which are few.
 fn put_behind(alloc: Global, left: Rel, right: &Rel) -> Result<Rel, AllocError>
     requires alike { AllZip AreAlike left.kinds right.now.kinds }
-    requires few { length left.rows + length right.now.rows ≤ 1048576 }
+    requires few { length left.rows + length right.now.rows ≤ ROW_LIMIT }
     ensures kinds { IfOk result (λ made. made.kinds ≡ wider_kinds left.kinds right.now.kinds) }
     ensures rows { IfOk result (λ made. made.rows ≡ left.rows ++ right.now.rows) }
 {
@@ -44,8 +44,8 @@ fn put_behind(alloc: Global, left: Rel, right: &Rel) -> Result<Rel, AllocError>
 pub fn union_classes(alloc: Global, left: &Rel, right: &Rel) -> Result<Classes, OpFault>
     requires { AllZip AreAlike left.now.kinds right.now.kinds }
     ensures classes { IfOk result (λ made. made ≡ classes_of (left.now.rows ++ right.now.rows)) }
-    ensures few { IfOk result (λ made. length made.firsts ≤ 1048576) }
-    ensures many { IfErr result (λ e. e ≡ Rows → 1048576 < length (firsts (left.now.rows ++ right.now.rows))) }
+    ensures few { IfOk result (λ made. length made.firsts ≤ ROW_LIMIT) }
+    ensures many { IfErr result (λ e. e ≡ Rows → ROW_LIMIT < length (firsts (left.now.rows ++ right.now.rows))) }
 {
     let _left_rows = left.len();
     let _right_rows = right.len();
@@ -66,7 +66,7 @@ pub fn union_rows(
 ) -> Result<Rel, AllocError>
     requires alike { AllZip AreAlike left.now.kinds right.now.kinds }
     requires classes { classes.now ≡ classes_of (left.now.rows ++ right.now.rows) }
-    requires few { length classes.now.firsts ≤ 1048576 }
+    requires few { length classes.now.firsts ≤ ROW_LIMIT }
     ensures kinds { IfOk result (λ made. made.kinds ≡ wider_kinds left.now.kinds right.now.kinds) }
     ensures rows { IfOk result (λ made. made.rows ≡ firsts (left.now.rows ++ right.now.rows)) }
 {

@@ -48,9 +48,9 @@ impl OpBody for Inject {
         want: Want,
     ) -> Result<(Rel, Local), OpFault> {
         let (rel, local) = match op {
-            Op2::Join(_) => join(alloc, op, &left, &right, want)?,
-            Op2::Theta(_) => join(alloc, op, &left, &right, want)?,
-            Op2::Product => join(alloc, op, &left, &right, want)?,
+            Op2::Join(_) => join(alloc, op, left, &right, want)?,
+            Op2::Theta(_) => join(alloc, op, left, &right, want)?,
+            Op2::Product => join(alloc, op, left, &right, want)?,
             Op2::UnionAll => union_all(alloc, left, &right, want)?,
             Op2::Union => union(alloc, &left, &right, want)?,
         };

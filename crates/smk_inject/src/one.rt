@@ -8,7 +8,7 @@ ghost use Rattle.smk_model.specs.Plain.{step1};
 ghost use Rattle.smk_body.specs.Locals.{local1};
 
 use smk_base::{Agg, Dir, Item, Pred, Rel};
-use smk_body::{Local, Side, images, own_side, side_of_classes, side_of_places, steps};
+use smk_body::{Local, Side, images, own_side, side_from_classes, side_from_places, steps};
 use std::alloc::{AllocError, Global};
 
 /// The rows that meet a predicate, in order. Each comes from the row at its place.
@@ -19,7 +19,7 @@ pub fn select(alloc: Global, rel: &Rel, pred: &Pred, want: Dir) -> Result<(Rel, 
     ensures lineage { IfOk result (λ made. made.1 ≡ local1 (Selection (formula_of pred.now)) rel.now.rows want) }
 {
     let (made, places) = steps::select(alloc, rel, pred)?;
-    let side = side_of_places(alloc, places.as_slice(), rel.len(), want)?;
+    let side = side_from_places(alloc, places, rel.len(), want)?;
     Ok((made, of_one(side)))
 }
 
@@ -54,7 +54,7 @@ pub fn distinct(
 {
     let _rows = rel.len();
     let (made, classes) = steps::distinct(alloc, rel, items)?;
-    let side = side_of_classes(alloc, classes.of(), made.len(), want)?;
+    let side = side_from_classes(alloc, classes.into_of(), made.len(), want)?;
     Ok((made, of_one(side)))
 }
 
@@ -73,7 +73,7 @@ pub fn group(
 {
     let _rows = rel.len();
     let (made, groups) = steps::group(alloc, rel, keys, aggs)?;
-    let side = side_of_classes(alloc, groups.of(), made.len(), want)?;
+    let side = side_from_classes(alloc, groups.into_of(), made.len(), want)?;
     Ok((made, of_one(side)))
 }
 

@@ -1,7 +1,7 @@
 ghost use Rattle.std.specs.Prelude.{◌≡◌, None, false};
 
 use smk_base::{Dir, Op1, Op2, Rel};
-use smk_body::steps::{distinct, group, join, select, union};
+use smk_body::steps::{distinct, group, join_onto, select, union};
 use smk_body::{InPieces, Local, OpBody, OpFault, Side, Want, images, union_all_rows};
 use std::alloc::{AllocError, Global};
 use std::thread::Threads;
@@ -48,9 +48,9 @@ impl OpBody for Plain {
         _want: Want,
     ) -> Result<(Rel, Local), OpFault> {
         let rel = match op {
-            Op2::Join(_) => join(alloc, op, &left, &right)?.0,
-            Op2::Theta(_) => join(alloc, op, &left, &right)?.0,
-            Op2::Product => join(alloc, op, &left, &right)?.0,
+            Op2::Join(_) => join_onto(alloc, op, left, &right)?.0,
+            Op2::Theta(_) => join_onto(alloc, op, left, &right)?.0,
+            Op2::Product => join_onto(alloc, op, left, &right)?.0,
             Op2::UnionAll => union_all_rows(alloc, left, &right)?,
             Op2::Union => union(alloc, &left, &right)?.0,
         };

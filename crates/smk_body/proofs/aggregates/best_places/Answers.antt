@@ -1,10 +1,8 @@
-use Rattle.std.proofs.Common.{◌≡◌, ◌∙◌, ◌<◌, ℕ, List, length, map, ap, sym, subst, refl, arith, All, get_or, cond, set, Vec, Global}
-use Rattle.std.proofs.lemmas.List.{get_or_read, set-get_or, length-map}
-use Rattle.std.proofs.lemmas.List.Elements.{All-map}
+use Rattle.std.proofs.Common.{◌≡◌, ◌∙◌, ◌<◌, ℕ, length, map, ap, sym, arith, get_or, cond, set, Vec, Global}
 use Rattle.smk_base.specs.Places.{upto}
 use Rattle.smk_model.specs.Values.{value_at}
 use Rattle.smk_model.specs.Lineage.{row_at}
-use Rattle.smk_model.proofs.Places.{map_upto, places_below, get_or_map_upto}
+use Rattle.smk_model.proofs.Places.{map_upto}
 use Rattle.smk_model.proofs.Directions.{length_each}
 use Rattle.smk_body.specs.Halves.{best_place, class_places}
 use Rattle.smk_body.proofs.Folding.{best_step, best_there, bests_below, class_known, kept}

@@ -1,4 +1,4 @@
-use Rattle.std.proofs.Common.{◌≡◌, ◌∙◌, ℕ, ℤ, pos, ap, sym, arith, get_or, rules, to_z, of_z, to_z-of_z, w64}
+use Rattle.std.proofs.Common.{◌≡◌, ◌∙◌, pos, arith, get_or, rules, to_z, of_z, to_z-of_z, w64}
 use Rattle.std.proofs.lemmas.List.{get_or_default}
 use Rattle.smk_body.proofs.Folding.{constant, sum_step, SumStep}
 use Rattle.smk_body.proofs.aggregates.small_sums.Goals as goal

@@ -1,5 +1,5 @@
-use Rattle.std.proofs.Common.{◌≡◌, ◌∙◌, ℕ, ℤ, List, length, map, ap, subst, sym, arith, IfOk}
-use Rattle.smk_body.proofs.Aggregating.{ints_low, ints_long, sums_are}
+use Rattle.std.proofs.Common.{◌≡◌, ℤ, List, subst, IfOk}
+use Rattle.smk_body.proofs.Aggregating.{ints_low, sums_are}
 use Rattle.smk_body.proofs.aggregates.sums.Goals as goal
 
 pub small_sums-requires-clause-within : goal.small_sums-requires-clause-within

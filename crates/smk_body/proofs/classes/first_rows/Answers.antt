@@ -1,4 +1,4 @@
-use Rattle.std.proofs.Common.{◌∙◌, List, ℕ, length, ap, arith}
+use Rattle.std.proofs.Common.{◌∙◌, List, ℕ, ap, arith}
 use Rattle.smk_base.specs.Rels.{rows_at, Relation}
 use Rattle.smk_keys.specs.Classes.{ClassesImage}
 use Rattle.smk_model.proofs.Classes.{first_keys}

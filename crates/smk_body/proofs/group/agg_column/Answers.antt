@@ -1,5 +1,5 @@
-use Rattle.std.proofs.Common.{◌≡◌, ◌∷◌, [], ℕ, List, length, map, subst, IfOk, true, false}
-use Rattle.smk_base.specs.Rels.{Relation, kind_in}
+use Rattle.std.proofs.Common.{◌≡◌, ◌∷◌, [], List, length, subst, IfOk}
+use Rattle.smk_base.specs.Rels.{kind_in}
 use Rattle.smk_model.specs.Values.{Row}
 use Rattle.smk_body.proofs.Aggregating.{least_rows, greatest_rows}
 use Rattle.smk_body.proofs.Besides.{relation}

@@ -1,5 +1,4 @@
-use Rattle.std.proofs.Common.{◌≡◌, ◌∙◌, ◌∷◌, [], ℕ, List, length, map, ap, refl, arith, get_or}
-use Rattle.smk_base.specs.Places.{upto}
+use Rattle.std.proofs.Common.{◌∙◌, ◌∷◌, [], ℕ, List, length, map, ap, arith, get_or}
 use Rattle.smk_base.specs.Rels.{Relation, picked, rows_at, kind_in}
 use Rattle.smk_model.specs.Values.{value_at}
 use Rattle.smk_model.specs.Lineage.{row_at}

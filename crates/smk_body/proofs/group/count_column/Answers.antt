@@ -1,10 +1,4 @@
-use Rattle.std.proofs.Common.{◌≡◌, ◌∙◌, ◌<◌, ◌∷◌, [], ℕ, ℤ, List, length, map, ap, sym, refl, arith, pos, All}
-use Rattle.smk_base.specs.Places.{upto}
-use Rattle.smk_base.specs.Rels.{Relation, IsWithin}
-use Rattle.smk_base.specs.declared.value.Value.TheVariants.{Int}
-use Rattle.smk_model.specs.Values.{Row}
-use Rattle.smk_model.proofs.Directions.{length_each}
-use Rattle.smk_body.specs.Halves.{class_places}
+use Rattle.std.proofs.Common.{◌∙◌, length, ap, refl, arith}
 use Rattle.smk_body.proofs.Aggregating.{counted_rows, counts_within, counts_is}
 use Rattle.smk_body.proofs.Besides.{related, ints_of}
 use Rattle.smk_body.proofs.group.count_column.Goals as goal

@@ -1,4 +1,4 @@
-use Rattle.std.proofs.Common.{◌≡◌, ◌∙◌, ◌<◌, ◌+◌, ◌++◌, ◌∷◌, [], ℕ, List, length, map, take, ap, refl, sym, subst, arith, get_or, append_assoc}
+use Rattle.std.proofs.Common.{◌≡◌, ◌∙◌, ◌+◌, ◌++◌, ◌∷◌, [], ℕ, List, length, map, take, ap, sym, subst, arith, get_or, append_assoc}
 use Rattle.std.proofs.lemmas.List.{map_more, length-map, length-append, length-take-le, take_all, append-nil}
 use Rattle.smk_base.specs.declared.plan.Agg.TheVariants.{Count}
 use Rattle.smk_base.specs.declared.plan.Agg.{Agg}
@@ -7,7 +7,6 @@ use Rattle.smk_base.specs.Rels.{Relation, kind_in, picked, rows_at, beside_rows}
 use Rattle.smk_keys.specs.Classes.{ClassesImage, classes_of}
 use Rattle.smk_model.specs.Values.{Row}
 use Rattle.smk_model.specs.Plain.{aggregate, key_of}
-use Rattle.smk_model.specs.Classes.{classes, first_places}
 use Rattle.smk_model.specs.Lineage.{row_at, sub}
 use Rattle.smk_model.specs.Kinds.{kind_of_agg}
 use Rattle.smk_model.proofs.Directions.{length_each}

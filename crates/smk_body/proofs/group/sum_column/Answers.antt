@@ -1,11 +1,7 @@
-use Rattle.std.proofs.Common.{◌≡◌, ◌∙◌, ◌<◌, ◌+◌, ◌∷◌, [], ℕ, suc, ℤ, List, length, map, ap, sym, refl, arith, All}
-use Rattle.smk_base.specs.Places.{upto}
-use Rattle.smk_base.specs.Rels.{Relation, IsWithin, kind_in}
+use Rattle.std.proofs.Common.{◌≡◌, ◌∙◌, ◌∷◌, [], suc, ℤ, length, map, ap, refl, arith}
+use Rattle.smk_base.specs.Rels.{kind_in}
 use Rattle.smk_base.specs.declared.value.Value.TheVariants as values
 use Rattle.smk_base.specs.declared.value.Kind.{Kind}
-use Rattle.smk_base.specs.declared.value.Kind.TheVariants as kinds
-use Rattle.smk_model.specs.Kinds.{summed}
-use Rattle.smk_body.specs.Halves.{class_places}
 use Rattle.smk_body.proofs.Aggregating.{summed_rows, sums_within, level_of, sums_is, level_up}
 use Rattle.smk_body.proofs.Besides.{related, relation}
 use Rattle.smk_body.proofs.group.sum_column.Goals as goal

@@ -1,6 +1,5 @@
-use Rattle.std.proofs.Common.{◌≡◌, ◌∙◌, ◌+◌, ◌++◌, ◌∷◌, [], List, map, take, length, ap, sym, arith, get_or}
+use Rattle.std.proofs.Common.{◌≡◌, ◌∙◌, ◌+◌, ◌++◌, ◌∷◌, [], map, take, length, ap, sym, arith, get_or}
 use Rattle.std.proofs.lemmas.List.{map_more, length-map, length-take-le}
-use Rattle.smk_base.specs.declared.value.Kind.{Kind}
 use Rattle.smk_base.specs.declared.plan.Item.TheVariants.{Col}
 use Rattle.smk_base.specs.Rels.{Relation, beside_rows}
 use Rattle.smk_model.specs.Values.{Row}

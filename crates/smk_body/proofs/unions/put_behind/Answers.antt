@@ -1,7 +1,5 @@
-use Rattle.std.proofs.Common.{◌≡◌, ◌∙◌, List, ap}
-use Rattle.smk_base.specs.declared.value.Kind.{Kind}
+use Rattle.std.proofs.Common.{◌∙◌, ap}
 use Rattle.smk_base.specs.Rels.{Relation}
-use Rattle.smk_model.specs.Kinds.{wider_kinds}
 use Rattle.smk_body.proofs.Fitting.{wider_columns}
 use Rattle.smk_body.proofs.Uniting.{left_wider, right_wider}
 use Rattle.smk_body.proofs.unions.put_behind.Goals as goal

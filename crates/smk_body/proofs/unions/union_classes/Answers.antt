@@ -1,11 +1,7 @@
-use Rattle.std.proofs.Common.{◌≡◌, ◌∙◌, ◌<◌, ◌++◌, List, ℕ, length, map, ap, sym, arith, All, subst}
-use Rattle.std.proofs.lemmas.List.Elements.{All-weaker}
-use Rattle.std.proofs.lemmas.Slice.Zip.{AllZip-long}
+use Rattle.std.proofs.Common.{◌≡◌, ◌∙◌, ◌++◌, List, ℕ, length, map, ap, arith}
 use Rattle.smk_base.specs.Places.{upto}
-use Rattle.smk_base.specs.Rels.{Fits, RowFits, picked}
+use Rattle.smk_base.specs.Rels.{picked}
 use Rattle.smk_keys.specs.Classes.{ClassesImage, classes_of}
-use Rattle.smk_model.specs.Values.{Row}
-use Rattle.smk_model.specs.Kinds.{AreAlike}
 use Rattle.smk_body.proofs.Classing.{length_firsts}
 use Rattle.smk_body.proofs.Partnering.{alike_all}
 use Rattle.smk_body.proofs.Uniting.{all_columns_of}

@@ -1,7 +1,6 @@
-use Rattle.std.proofs.Common.{◌≡◌, ◌∙◌, ◌<◌, ◌≤◌, ◌++◌, ◌-◌, List, ℕ, length, map, take, drop, ap, sym, arith, All, subst, get_or}
+use Rattle.std.proofs.Common.{◌≡◌, ◌∙◌, ◌<◌, ◌≤◌, ◌++◌, ◌-◌, List, ℕ, length, map, take, drop, ap, sym, All, subst, get_or}
 use Rattle.smk_base.specs.Rels.{Relation, rows_at}
 use Rattle.smk_keys.specs.Classes.{ClassesImage}
-use Rattle.smk_model.specs.Values.{Row}
 use Rattle.smk_model.specs.Classes.{first_places}
 use Rattle.smk_model.proofs.Classes.{first_keys, first_below}
 use Rattle.smk_body.proofs.Classing.{rest_of}

@@ -6,11 +6,11 @@ use Rattle.smk_model.proofs.OneEach.{one_each}
 use Rattle.smk_body.proofs.Siding.{by_targets, classes_below, one_side}
 use Rattle.smk_inject.proofs.one.distinct.Goals as goal
 
-pub side_of_classes-requires-clause-below : goal.side_of_classes-requires-clause-below
-side_of_classes-requires-clause-below c =
+pub side_from_classes-requires-clause-below : goal.side_from_classes-requires-clause-below
+side_from_classes-requires-clause-below c =
     let rows = c.args.rel.now.rows in
     let keys = map (image c.args.items.now) rows in
-    let of : c.of.result.now ≡ classes keys = c.of.ensures ∙ ap (λ (m : ClassesImage). m.of) c.in_ok-made.ensures.classes in
+    let of : c.into_of.result.items ≡ classes keys = c.into_of.ensures ∙ ap (λ (m : ClassesImage). m.of) c.in_ok-made.ensures.classes in
     let long : c.len.result ≡ length (firsts keys) = c.len.ensures.count ∙ ap length c.in_ok-made.ensures.rows in
     rw (of, long) (classes_below keys)
 
@@ -18,6 +18,6 @@ pub returns-clause-lineage : goal.returns-clause-lineage
 returns-clause-lineage c =
     let rows = c.args.rel.now.rows in
     let keys = map (image c.args.items.now) rows in
-    let of : c.of.result.now ≡ classes keys = c.of.ensures ∙ ap (λ (m : ClassesImage). m.of) c.in_ok-made.ensures.classes in
+    let of : c.into_of.result.items ≡ classes keys = c.into_of.ensures ∙ ap (λ (m : ClassesImage). m.of) c.in_ok-made.ensures.classes in
     let long : c.len.result ≡ length (firsts keys) = c.len.ensures.count ∙ ap length c.in_ok-made.ensures.rows in
     c.of_one.ensures ∙ ap one_side (c.in_ok-side.ensures ∙ by_targets c.args.want of long (one_each.distinction c.args.items.now rows))
