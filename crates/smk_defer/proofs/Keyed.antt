@@ -1,0 +1,98 @@
+-- Keys of rows, and their places among first occurrences.
+use Rattle.std.proofs.Common.{◌≡◌, ◌∙◌, ◌<◌, ◌≤◌, ◌+◌, ℕ, true, None, Some, List, [], ◌∷◌, ◌++◌, not, length, map, refl, sym, ap, subst, arith, All, get_or, nat_eq, inl, inr}
+use Rattle.std.proofs.lemmas.List.{get_or-map, length-map, same_lists}
+use Rattle.std.proofs.lemmas.List.Elements.{All-map, All-weaker}
+use Rattle.std.proofs.lemmas.List.Sums.{passes_at_first, prefix_len-le-length}
+use Rattle.std.proofs.lemmas.Map.Made.{AllPairs-from_IsDistinct}
+use Rattle.std.proofs.lemmas.Slice.Zip.{AllZip-long}
+use Rattle.std.proofs.lemmas.Bool.{cases_Bool, cases_lt, eq-eqb, lt-ltb, ne_eqb, false≢true}
+use Rattle.smk_base.specs.Places.{upto}
+use Rattle.smk_base.specs.declared.value.Kind.{Kind}
+use Rattle.smk_base.specs.Rels.{Fits, RowFits, picked, rows_at}
+use Rattle.smk_keys.specs.Keys.{AreKeys, place_of, with_key}
+use Rattle.smk_model.specs.Values.{Row}
+use Rattle.smk_model.specs.Plain.{row_eq, key_of, add_first, firsts}
+use Rattle.smk_model.specs.Lineage.{row_at}
+use Rattle.smk_model.specs.Classes.{places_in, classes, first_places}
+use Rattle.smk_model.proofs.Places.{map_upto}
+use Rattle.smk_model.proofs.Firsts.{row_same, row_is, holds, holds_at, fold_append, add_firsts}
+use Rattle.smk_model.proofs.Classes.{place_in, found_below, found_at, same_place, first_below, classes_are}
+use Rattle.smk_model.proofs.Bulk.{bulk}
+use Rattle.smk_body.proofs.Classing.{few_firsts}
+
+-- first occurrences have no other first occurrences than themselves
+pub firsts_twice : (xs : List Row) → firsts (firsts xs) ≡ firsts xs
+firsts_twice xs = add_firsts [] [] xs
+
+-- a table of first occurrences with one more key
+pub with_more : (xs : List Row) (x : Row) → with_key (firsts xs) x ≡ firsts (xs ++ x ∷ [])
+with_more xs x =
+    let added : with_key (firsts xs) x ≡ add_first (firsts xs) x = elim (cases_Bool (holds (firsts xs) x)) [ inl p ↦ rw p refl | inr p ↦ rw p refl ] in
+    added ∙ sym (fold_append [] xs (x ∷ []))
+
+-- the keys at the first places of their classes
+pub keys_first : (cols : List ℕ) (rows : List Row) (A : List ℕ) → A ≡ first_places (map (key_of cols) rows) → map (picked cols) (rows_at rows A) ≡ firsts (map (key_of cols) rows)
+keys_first cols rows A e = ap (λ (z : List ℕ). map (picked cols) (rows_at rows z)) e ∙ sym (bulk.keys cols rows)
+
+-- their places are those of rows
+pub firsts_within : (cols : List ℕ) (rows : List Row) → All (λ i. i < length rows) (first_places (map (key_of cols) rows))
+firsts_within cols rows = subst (λ n. All (λ i. i < n) (first_places (map (key_of cols) rows))) (length-map rows (key_of cols)) (first_below (map (key_of cols) rows))
+
+pub firsts_few : (cols : List ℕ) (rows : List Row) → length (first_places (map (key_of cols) rows)) ≤ length rows
+firsts_few cols rows = omega (arith, few_firsts (map (key_of cols) rows), length-map rows (key_of cols))
+
+-- rows are their own keys by all columns, and the rows at all places are the rows
+pub whole_rows : (kinds : List Kind) (rows : List Row) (cols : List ℕ) → All (RowFits kinds) rows → cols ≡ upto (length kinds) → map (picked cols) rows ≡ rows
+whole_rows kinds rows cols fit e =
+    let long : All (λ (row : Row). length row ≡ length kinds) rows = All-weaker (RowFits kinds) (λ row. length row ≡ length kinds) (λ row fits. AllZip-long Fits kinds row fits) rows fit in
+    ap (λ (z : List ℕ). map (picked z) rows) e ∙ bulk.whole (length kinds) rows long
+
+pub all_rows : (rows : List Row) (places : List ℕ) → places ≡ upto (length rows) → rows_at rows places ≡ rows
+all_rows rows places e = ap (rows_at rows) e ∙ map_upto rows []
+
+-- a place among keys is at most their number, which it is for a key that isn't there
+pub place_within : (keys : List Row) (key : Row) → place_in keys key < length keys + 1
+place_within keys key = omega (arith, prefix_len-le-length (λ k. not (row_eq key k)) keys)
+
+pub places_within : (keys rows : List Row) → All (λ p. p < length keys + 1) (places_in keys rows)
+places_within keys rows = All-map (λ p. p < length keys + 1) (place_in keys) rows (λ k d h. place_within keys (get_or rows k d))
+
+pub place_none : (keys : List Row) (key : Row) → place_of keys key ≡ None → place_in keys key ≡ length keys
+place_none keys key h = elim (cases_lt (place_in keys key) (length keys)) [
+  | inl low ↦ (let there : place_of keys key ≡ Some (place_in keys key) = rw (lt-ltb (place_in keys key) (length keys) low) refl in absurd (cc))
+  | inr high ↦ omega (arith, high, place_within keys key)
+]
+
+-- the place of a key that is there, where no two are equal
+pub place_here : (keys : List Row) (key : Row) (p : ℕ) → AreKeys keys → p < length keys → row_at keys p ≡ key → place_in keys key ≡ p
+place_here keys key p apart low e =
+    let there : holds keys key ≡ true = subst (λ (k : Row). holds keys k ≡ true) e (holds_at keys p low) in
+    same_place keys (place_in keys key) p (AllPairs-from_IsDistinct row_same keys apart) (found_below keys key there) low (found_at keys key there ∙ sym e)
+
+-- the place of a key is that of its class
+pub by_class : (keys rows : List Row) → map (λ p. get_or (places_in keys (firsts rows)) p 0) (classes rows) ≡ places_in keys rows
+by_class keys rows =
+    let at = classes_are.stand rows in
+    let f = λ (p : ℕ). get_or (places_in keys (firsts rows)) p 0 in
+    same_lists (map f (classes rows)) (places_in keys rows) (length-map (classes rows) f ∙ length-map rows (place_in (firsts rows)) ∙ sym (length-map rows (place_in keys))) (λ i d h.
+    let low : i < length rows = omega (arith, h, length-map (classes rows) f, length-map rows (place_in (firsts rows))) in
+    get_or-map f (classes rows) i 0 d (omega (arith, low, at.long))
+    ∙ get_or-map (place_in keys) (firsts rows) (get_or (classes rows) i 0) [] 0 (at.below i low)
+    ∙ ap (place_in keys) (at.at i low)
+    ∙ sym (get_or-map (place_in keys) rows i [] d low))
+
+-- each class has a place in the table of the classes' keys
+pub class_within : (keys rows : List Row) (of table : List ℕ) (i : ℕ) → of ≡ classes rows → table ≡ places_in keys (firsts rows) → i < length of → get_or of i 0 < length table
+class_within keys rows of table i e f h =
+    let low : i < length rows = omega (arith, h, ap length e, length-map rows (place_in (firsts rows))) in
+    omega (arith, ap (λ (z : List ℕ). get_or z i 0) e, (classes_are.stand rows).below i low, ap length f, length-map (firsts rows) (place_in keys))
+
+-- of two keys, the second of which is there, the places are the same exactly where the keys are
+pub place_test : (keys : List Row) (a b : Row) → holds keys b ≡ true → nat_eq (place_in keys a) (place_in keys b) ≡ row_eq a b
+place_test keys a b h = elim (cases_Bool (row_eq a b)) [
+  | inl same ↦ rw same (eq-eqb (place_in keys a) (place_in keys b) (ap (place_in keys) (row_is a b same)))
+  | inr differ ↦ rw differ (ne_eqb (place_in keys a) (place_in keys b) (λ e.
+      let low : place_in keys a < length keys = omega (arith, e, found_below keys b h) in
+      let hit : row_eq a (row_at keys (place_in keys a)) ≡ true = passes_at_first (row_eq a) keys [] low in
+      false≢true (sym differ ∙ ap (row_eq a) (sym (ap (row_at keys) e ∙ found_at keys b h)) ∙ hit)))
+]

@@ -1,0 +1,43 @@
+-- What the body that defers leaves pending: the step of the call, its inputs and what is wanted, its keys and the number of its rows.
+use Rattle.std.specs.Prelude.{◌≡◌, length, Some, None, false}
+use Rattle.smk_base.specs.Plans.{Unary, Binary}
+use Rattle.smk_base.specs.PlanImage.{unary_of, binary_of}
+use Rattle.smk_base.specs.Rels.{Relation}
+use Rattle.smk_base.specs.declared.plan.Dir.{Dir}
+use Rattle.smk_model.specs.Plain.{step1, step2}
+use Rattle.smk_body.specs.declared.local.Want.{Want}
+use Rattle.smk_defer.specs.declared.kept.Kept.{Kept}
+use Rattle.smk_defer.specs.declared.kept.KeptOp.{KeptOp}
+use Rattle.smk_defer.specs.declared.kept.KeptOp.TheVariants.{One, Two}
+use Rattle.smk_defer.specs.Kept.{keys1, keys2}
+
+-- that a kept step is this one, with one input or with two
+abbrev pub IsOne : Unary → KeptOp → Type 0
+IsOne op (One kept) = unary_of kept ≡ op
+IsOne op (Two kept) = ⊥
+
+abbrev pub IsTwo : Binary → KeptOp → Type 0
+IsTwo op (One kept) = ⊥
+IsTwo op (Two kept) = binary_of kept ≡ op
+
+-- what is wanted of a step with one input: on its right side nothing
+abbrev pub left_want : Dir → Want
+left_want want = record { left = want; right = record { back = false; fwd = false } }
+
+-- what is left of a step with one input
+pub record Leaves1 (step : Unary) (input : Relation) (asked : Dir) (kept : Kept) : Type 0 where
+  pub op : IsOne step kept.op
+  pub keys : kept.keys ≡ keys1 step input.rows
+  pub left : kept.left ≡ input
+  pub right : kept.right ≡ None
+  pub want : kept.want ≡ left_want asked
+  pub out_rows : kept.out_rows ≡ length (step1 step input.rows)
+
+-- what is left of a step with two inputs
+pub record Leaves2 (step : Binary) (first second : Relation) (asked : Want) (kept : Kept) : Type 0 where
+  pub op : IsTwo step kept.op
+  pub keys : kept.keys ≡ keys2 step first.rows second.rows
+  pub left : kept.left ≡ first
+  pub right : kept.right ≡ Some second
+  pub want : kept.want ≡ asked
+  pub out_rows : kept.out_rows ≡ length (step2 step first.rows second.rows)
