@@ -15,8 +15,8 @@ use Rattle.smk_model.proofs.Anys.{or_false}
 use Rattle.smk_model.proofs.Comes.{IsPart, rows_part, rows_whole}
 use Rattle.smk_model.proofs.Composed.{lists_stand}
 use Rattle.smk_body.specs.Locals.{wanted}
-use Rattle.smk_model.specs.NodeFaults.{NodeFault, FullRows, FullPairs, Asked, pair_limit, is_crowded, fault_at, first_fault_from, first_fault}
-use Rattle.smk_compose.specs.Kept.{held_at, kept_at, asked_of}
+use Rattle.smk_model.specs.NodeFaults.{NodeFault, FullRows, FullPairs, Asked, asked_of, pair_limit, is_crowded, fault_at, first_fault_from, first_fault}
+use Rattle.smk_compose.specs.Kept.{held_at, kept_at}
 use Rattle.smk_compose.specs.Through.{is_heavy, has_heavy, pairs_fault, or_empty, filled, map_at, no_map, no_need}
 use Rattle.smk_compose.specs.Over.{kinds_over, FitsOver, fault_over, walk_fault}
 use Rattle.smk_compose.specs.declared.kept.KeptMap.{KeptMap}

@@ -7,7 +7,6 @@ use Rattle.smk_model.specs.Values.{Row}
 use Rattle.smk_model.specs.Plain.{leaves}
 use Rattle.smk_model.specs.Composed.{table_at, backs, forwards}
 use Rattle.smk_body.specs.Locals.{wanted}
-use Rattle.smk_model.specs.NodeFaults.{Asked}
 use Rattle.smk_compose.specs.declared.kept.KeptMap.{KeptMap}
 
 -- each table that is needed is one of n tables
@@ -25,7 +24,3 @@ held_at plan tables need = record {
   back = wanted (need.dir.back && has (leaves plan) need.table) (backs plan tables need.table);
   fwd = wanted (need.dir.fwd && has (leaves plan) need.table) (forwards plan tables need.table);
 }
-
--- the tables that are asked for, each with the number of its rows
-abbrev pub asked_of : List (List Row) → List Needed → List Asked
-asked_of tables need = map (λ n. (n.table, length (table_at tables n.table))) need

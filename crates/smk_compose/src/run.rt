@@ -3,8 +3,8 @@ ghost use Rattle.smk_base.specs.PlanImage.{expr_of};
 ghost use Rattle.smk_model.specs.Plain.{whole};
 ghost use Rattle.smk_model.specs.Composed.{rows_over};
 ghost use Rattle.smk_model.specs.Selection.{each_rows, each_kinds, leaf_kinds, plan_kinds, rows_in, PlanFits, ScansFit, nodes};
-ghost use Rattle.smk_model.specs.NodeFaults.{first_fault};
-ghost use Rattle.smk_compose.specs.Kept.{NeedFits, kept_at, held_at, asked_of};
+ghost use Rattle.smk_model.specs.NodeFaults.{first_fault, asked_of};
+ghost use Rattle.smk_compose.specs.Kept.{NeedFits, kept_at, held_at};
 ghost use Rattle.smk_compose.specs.Through.{IsFirst};
 ghost use Rattle.smk_compose.specs.Over.{kinds_over, FitsOver, walk_fault};
 

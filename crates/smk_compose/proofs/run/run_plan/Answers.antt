@@ -5,8 +5,8 @@ use Rattle.smk_model.specs.Values.{Row}
 use Rattle.smk_model.specs.Plain.{whole}
 use Rattle.smk_model.specs.Composed.{table_at, rows_over}
 use Rattle.smk_model.specs.Selection.{each_rows, each_kinds}
-use Rattle.smk_model.specs.NodeFaults.{NodeFault, first_fault}
-use Rattle.smk_compose.specs.Kept.{held_at, asked_of}
+use Rattle.smk_model.specs.NodeFaults.{NodeFault, first_fault, asked_of}
+use Rattle.smk_compose.specs.Kept.{held_at}
 use Rattle.smk_compose.specs.Through.{IsFirst, filled, map_at, no_need}
 use Rattle.smk_compose.specs.Over.{walk_fault}
 use Rattle.smk_compose.specs.declared.fault.RunFault.{RunFault}
