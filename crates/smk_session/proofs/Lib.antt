@@ -1,0 +1,7 @@
+mod KeptOf
+mod Lookups
+mod Marked
+mod Opened
+mod Rids
+mod Starts
+mod Turns

@@ -1,0 +1,157 @@
+-- What the kept parts of a session answer.
+use Rattle.std.proofs.Common.{◌≡◌, ℕ, ◌<◌, Bool, true, false, cond, List, [], length, map, get_or, refl, ap, sym, ◌∙◌, subst, arith, Ok, Err, Option, Some, None}
+use Rattle.std.proofs.lemmas.List.{get_or-map, length-map}
+use Rattle.smk_base.specs.CatalogImage.{CatalogImage, ViewImage, view_image, catalog_image}
+use Rattle.smk_base.specs.Places.{Lists, upto}
+use Rattle.smk_base.specs.Plans.{Expr}
+use Rattle.smk_base.specs.Rels.{Relation}
+use Rattle.smk_base.specs.declared.catalog.Catalog.{Catalog}
+use Rattle.smk_base.specs.declared.catalog.ViewInfo.{ViewInfo}
+use Rattle.smk_base.specs.declared.reply.Reply.TheVariants as replies
+use Rattle.smk_base.specs.declared.reply.Refusal.TheVariants.{Undeclared}
+use Rattle.smk_base.specs.declared.tree.Marks.{Marks}
+use Rattle.smk_base.specs.declared.tree.Then.{Then}
+use Rattle.smk_base.specs.declared.tree.Then.TheVariants as thens
+use Rattle.smk_base.specs.declared.value.Kind.{Kind}
+use Rattle.smk_model.specs.Values.{Row}
+use Rattle.smk_model.specs.Names.{◌>>=◌}
+use Rattle.smk_model.specs.Composed.{backs, forwards}
+use Rattle.smk_model.specs.Catalogs.{IsCatalog, ViewFits, table_kinds, each_table_kinds}
+use Rattle.smk_model.specs.Selection.{each_kinds}
+use Rattle.smk_model.specs.Typing.{info_at, no_table}
+use Rattle.smk_model.specs.Replies.{Asked, known_pair, named_back, named_fwd, content_of, provided, unless_row, first_outside, written, marked, marks_fwd, rids_of, back_reply, fwd_reply}
+use Rattle.smk_model.specs.Session.{Workbook, State, view_at, no_view, rows_of_table}
+use Rattle.smk_model.specs.Workload.{declares_back, declares_fwd}
+use Rattle.smk_model.proofs.Places.{get_or_map_upto, length_upto}
+use Rattle.smk_model.proofs.Replies.{first_contents}
+use Rattle.smk_compose.specs.declared.kept.Run.{Run}
+use Rattle.smk_session.specs.Answers.{kept_back, members_asked, rows_told, back_by, fwd_by, BacksFit}
+use Rattle.smk_session.specs.Sessions.{AreOpened, workbook_image, state_over, opened}
+use Rattle.smk_session.proofs.KeptOf.{kept_back_is, kept_fwd_is}
+use Rattle.smk_session.proofs.Marked.{backs_asked, forwards_asked}
+
+-- the view, the table and its kinds are those of the book
+
+pub views_long : (catalog : Catalog) (tables : List Relation) (views : List Run) → AreOpened catalog tables views → length views ≡ length catalog.views
+views_long catalog tables views o =
+    ap (length {A = Run}) o.views_are
+    ∙ length-map (upto (length (catalog_image catalog).views)) (opened (workbook_image catalog tables))
+    ∙ length_upto (length (catalog_image catalog).views)
+    ∙ length-map catalog.views _
+
+pub tables_long : (catalog : Catalog) (tables : List Relation) → each_kinds tables ≡ each_table_kinds catalog.tables → length tables ≡ length catalog.tables
+tables_long catalog tables kinds = sym (length-map tables (λ (rel : Relation). rel.kinds)) ∙ ap (length {A = List Kind}) kinds ∙ length-map catalog.tables table_kinds
+
+pub run_is : (catalog : Catalog) (tables : List Relation) (views : List Run) (v : ℕ) (run : Run) → AreOpened catalog tables views → v < length catalog.views → run ≡ get_or views v run
+    → run ≡ opened (workbook_image catalog tables) v
+run_is catalog tables views v run o low is =
+    let book : Workbook = workbook_image catalog tables in
+    let long : v < length (catalog_image catalog).views = omega (arith, low, length-map catalog.views view_image) in
+    is ∙ ap (λ (runs : List Run). get_or runs v run) o.views_are ∙ get_or_map_upto (opened book) (length (catalog_image catalog).views) v run long
+
+-- a table with rows of its own
+abbrev rel_of : List Kind → List Row → Relation
+rel_of kinds rows = record { kinds = kinds; rows = rows }
+
+pub table_is : (catalog : Catalog) (tables : List Relation) (t : ℕ) (table : Relation) → each_kinds tables ≡ each_table_kinds catalog.tables → t < length catalog.tables → table ≡ get_or tables t table
+    → table ≡ rel_of (table_kinds (info_at catalog.tables t)) (rows_of_table (state_over tables) t)
+table_is catalog tables t table kinds_are low is =
+    let less : t < length tables = omega (arith, low, tables_long catalog tables kinds_are) in
+    let rows : table.rows ≡ rows_of_table (state_over tables) t = ap (λ (r : Relation). r.rows) is ∙ sym (get_or-map (λ (r : Relation). r.rows) tables t table [] less) in
+    let kinds : table.kinds ≡ table_kinds (info_at catalog.tables t) =
+    ap (λ (r : Relation). r.kinds) is ∙ sym (get_or-map (λ (r : Relation). r.kinds) tables t table [] less) ∙ ap (λ (k : List (List Kind)). get_or k t []) kinds_are
+    ∙ get_or-map table_kinds catalog.tables t no_table [] low in
+    ap (λ k. rel_of k table.rows) kinds ∙ ap (rel_of (table_kinds (info_at catalog.tables t))) rows
+
+-- a backward query
+
+provided_then : {A B : Type 0} (b : Bool) (a : A) (next : A → Asked B) → ◌>>=◌ (cond b (Ok a) (Err Undeclared)) next ≡ provided b Undeclared (next a)
+provided_then true a next = refl
+provided_then false a next = refl
+
+pub back_is : (catalog : Catalog) (tables : List Relation) (views : List Run) (v t : ℕ) (run : Run) (table : Relation) (marks : Marks)
+    → AreOpened catalog tables views → v < length catalog.views → t < length catalog.tables → run ≡ get_or views v run → table ≡ get_or tables t table
+    → back_by run.kept t table marks ≡ provided (declares_back (catalog_image catalog) v t) Undeclared (back_reply (catalog_image catalog) (state_over tables) v t marks thens.Plain)
+back_is catalog tables views v t run table marks o low_v low_t is_v is_t =
+    let image : CatalogImage = catalog_image catalog in
+    let state : State = state_over tables in
+    let plan : Expr = (view_at image v).plan in
+    ap (λ (r : Run). back_by r.kept t table marks) (run_is catalog tables views v run o low_v is_v)
+    ∙ ap (λ (l : Asked Lists). ◌>>=◌ l (λ map. ◌>>=◌ (members_asked map marks) (λ rids. Ok (rows_told table rids)))) (kept_back_is image plan state.tables v t low_t)
+    ∙ provided_then (declares_back image v t) (backs plan state.tables t) (λ map. ◌>>=◌ (members_asked map marks) (λ rids. Ok (rows_told table rids)))
+    ∙ ap (λ (l : Asked (List ℕ)). provided (declares_back image v t) Undeclared (◌>>=◌ l (λ rids. Ok (rows_told table rids)))) (backs_asked plan state.tables t marks)
+    ∙ ap (λ (r : Relation). provided (declares_back image v t) Undeclared (◌>>=◌ (rids_of image state v t marks) (λ rids. Ok (rows_told r rids)))) (table_is catalog tables t table o.kinds low_t is_t)
+
+ok_is : (b : Bool) (m n : Lists) → cond b (Ok m) (Err Undeclared) ≡ Ok n → n ≡ m
+ok_is true m n h = cc
+ok_is false m n h = absurd (cc)
+
+pub backs_fit : (catalog : Catalog) (tables : List Relation) (views : List Run) (v t : ℕ) (run : Run) (table : Relation)
+    → AreOpened catalog tables views → v < length catalog.views → t < length catalog.tables → run ≡ get_or views v run → table ≡ get_or tables t table
+    → BacksFit run.kept t (length table.rows)
+backs_fit catalog tables views v t run table o low_v low_t is_v is_t map kept =
+    let image : CatalogImage = catalog_image catalog in
+    let state : State = state_over tables in
+    let plan : Expr = (view_at image v).plan in
+    let known : cond (declares_back image v t) (Ok (backs plan state.tables t)) (Err Undeclared) ≡ Ok map =
+    sym (kept_back_is image plan state.tables v t low_t) ∙ ap (λ (r : Run). kept_back r.kept t) (sym (run_is catalog tables views v run o low_v is_v)) ∙ kept in
+    ap (λ (m : Lists). m.bound) (ok_is (declares_back image v t) (backs plan state.tables t) map known)
+    ∙ ap (λ (r : Relation). length r.rows) (sym (table_is catalog tables t table o.kinds low_t is_t))
+
+-- a forward query
+
+then_row : {A B : Type 0} (outside : Option ℕ) (n : ℕ) (a : A) (told : A → B) → ◌>>=◌ (unless_row outside n (Ok a)) (λ x. Ok (told x)) ≡ unless_row outside n (Ok (told a))
+then_row (Some row) n a told = refl
+then_row None n a told = refl
+
+pub fwd_is : (catalog : Catalog) (tables : List Relation) (views : List Run) (v t : ℕ) (run : Run) (rows : Marks)
+    → AreOpened catalog tables views → v < length catalog.views → t < length catalog.tables → run ≡ get_or views v run
+    → fwd_by run.kept t rows ≡ provided (declares_fwd (catalog_image catalog) v t) Undeclared (fwd_reply (catalog_image catalog) (state_over tables) v t rows)
+fwd_is catalog tables views v t run rows o low_v low_t is_v =
+    let image : CatalogImage = catalog_image catalog in
+    let state : State = state_over tables in
+    let plan : Expr = (view_at image v).plan in
+    let n : ℕ = length (rows_of_table state t) in
+    ap (λ (r : Run). fwd_by r.kept t rows) (run_is catalog tables views v run o low_v is_v)
+    ∙ ap (λ (l : Asked Lists). ◌>>=◌ l (λ map. ◌>>=◌ (members_asked map rows) (λ marks. Ok (replies.Fwd marks)))) (kept_fwd_is image plan state.tables v t low_t)
+    ∙ provided_then (declares_fwd image v t) (forwards plan state.tables t) (λ map. ◌>>=◌ (members_asked map rows) (λ marks. Ok (replies.Fwd marks)))
+    ∙ ap (λ (l : Asked (List ℕ)). provided (declares_fwd image v t) Undeclared (◌>>=◌ l (λ marks. Ok (replies.Fwd marks)))) (forwards_asked plan state.tables t rows)
+    ∙ ap (provided (declares_fwd image v t) Undeclared) (then_row (first_outside (written rows) n) n (marks_fwd image state v t (marked rows n)) replies.Fwd)
+
+-- a view of a checked book
+
+pub view_is : (catalog : Catalog) (v : ℕ) (view : ViewInfo) → v < length catalog.views → view ≡ get_or catalog.views v view → view_image view ≡ view_at (catalog_image catalog) v
+view_is catalog v view low is = ap view_image is ∙ sym (get_or-map view_image catalog.views v view no_view low)
+
+pub view_fits : (catalog : Catalog) (v : ℕ) (view : ViewInfo) → IsCatalog (catalog_image catalog) → v < length catalog.views → view ≡ get_or catalog.views v view → ViewFits catalog.tables (view_image view)
+view_fits catalog v view checked low is =
+    let long : v < length (catalog_image catalog).views = omega (arith, low, length-map catalog.views view_image) in
+    subst (λ (w : ViewImage). ViewFits catalog.tables w) (sym (view_is catalog v view low is)) (checked.typed.views v no_view long)
+
+-- the content of a view that is shown
+pub shown : (catalog : Catalog) (tables : List Relation) (views : List Run) (v : ℕ) (run : Run) → AreOpened catalog tables views → v < length catalog.views → run ≡ get_or views v run
+    → run.rel ≡ content_of (catalog_image catalog) (state_over tables) v
+shown catalog tables views v run o low is =
+    ap (λ (r : Run). r.rel) (run_is catalog tables views v run o low is)
+    ∙ ap (rel_of (view_at (catalog_image catalog) v).kinds) (sym (first_contents (workbook_image catalog tables) v))
+
+-- the answers to lines that name a view and a table
+
+pub named_back_is : (catalog : Catalog) (tables : List Relation) (views : List Run) (view_name table_name : List ℕ) (v t : ℕ) (run : Run) (table : Relation) (marks : Marks) (then : Then)
+    → AreOpened catalog tables views → known_pair (catalog_image catalog) view_name table_name ≡ Ok (v, t) → v < length catalog.views → t < length catalog.tables → run ≡ get_or views v run → table ≡ get_or tables t table → then ≡ thens.Plain
+    → back_by run.kept t table marks ≡ named_back (catalog_image catalog) (state_over tables) view_name marks table_name then
+named_back_is catalog tables views view_name table_name v t run table marks then o named low_v low_t is_v is_t plain =
+    let image : CatalogImage = catalog_image catalog in
+    let state : State = state_over tables in
+    back_is catalog tables views v t run table marks o low_v low_t is_v is_t
+    ∙ ap (λ (h : Then). provided (declares_back image v t) Undeclared (back_reply image state v t marks h)) (sym plain)
+    ∙ ap (λ (a : Asked (ℕ × ℕ)). ◌>>=◌ a (λ p. provided (declares_back image p.0 p.1) Undeclared (back_reply image state p.0 p.1 marks then))) (sym named)
+
+pub named_fwd_is : (catalog : Catalog) (tables : List Relation) (views : List Run) (view_name table_name : List ℕ) (v t : ℕ) (run : Run) (rows : Marks)
+    → AreOpened catalog tables views → known_pair (catalog_image catalog) view_name table_name ≡ Ok (v, t) → v < length catalog.views → t < length catalog.tables → run ≡ get_or views v run
+    → fwd_by run.kept t rows ≡ named_fwd (catalog_image catalog) (state_over tables) table_name rows view_name
+named_fwd_is catalog tables views view_name table_name v t run rows o named low_v low_t is_v =
+    let image : CatalogImage = catalog_image catalog in
+    let state : State = state_over tables in
+    fwd_is catalog tables views v t run rows o low_v low_t is_v
+    ∙ ap (λ (a : Asked (ℕ × ℕ)). ◌>>=◌ a (λ p. provided (declares_fwd image p.0 p.1) Undeclared (fwd_reply image state p.0 p.1 rows))) (sym named)

@@ -1,0 +1,22 @@
+-- Rids that are places are ascending, and those of rows that are there.
+use Rattle.std.proofs.Common.{◌≡◌, ℕ, ◌<◌, Bool, List, subst, arith, All}
+use Rattle.std.specs.List.{AllPairs}
+use Rattle.std.proofs.lemmas.List.Kept.{AllPairs-filter}
+use Rattle.smk_base.specs.Places.{IsPlaces, upto, places, has}
+use Rattle.smk_base.specs.Picks.{IsAscending}
+use Rattle.smk_model.proofs.Places.{length_upto, get_or_upto}
+use Rattle.smk_model.proofs.QueryAnswers.{answers_are_places}
+
+upto_rises : (n : ℕ) → AllPairs (λ x y. x < y) (upto n)
+upto_rises n i j d h k =
+    let long = length_upto n in
+    rw (get_or_upto n i d (omega arith), get_or_upto n j d (omega arith)) h
+
+places_ascend : (test : ℕ → Bool) (n : ℕ) → IsAscending (places test n)
+places_ascend test n i j h l = AllPairs-filter (λ x y. x < y) test (upto n) (upto_rises n) i j 0 h l
+
+pub rids_ascend : (n : ℕ) (rids : List ℕ) → IsPlaces n rids → IsAscending rids
+rids_ascend n rids are = subst (λ (l : List ℕ). IsAscending l) are (places_ascend (has rids) n)
+
+pub rids_low : (bound n : ℕ) (rids : List ℕ) → IsPlaces bound rids → bound ≡ n → All (λ rid. rid < n) rids
+rids_low bound n rids are same = subst (λ (k : ℕ). All (λ rid. rid < k) rids) same (answers_are_places.below bound rids are)

@@ -1,0 +1,14 @@
+use Rattle.std.proofs.Common.{◌∙◌, ap, position, rules, tests}
+use Rattle.std.proofs.lemmas.Iterator.{YieldsList-from_slice}
+use Rattle.std.proofs.lemmas.Iterator.Search.{position_from_yields_List}
+use Rattle.smk_base.specs.CatalogImage.{ViewImage, view_image}
+use Rattle.smk_base.specs.declared.catalog.ViewInfo.{ViewInfo}
+use Rattle.smk_model.specs.Names.{same_name}
+use Rattle.smk_session.proofs.Lookups.{position_mapped}
+use Rattle.smk_session.proofs.names.view_place.Goals as goal
+
+pub returns : goal.returns
+returns c =
+    position_from_yields_List (λ (view : ViewInfo). same_name view.name c.args.name.now) _ _ c.position.result c.position.ensures.ran (YieldsList-from_slice c.as_slice.result.now cc) (λ x b q k. search (rules, tests))
+    ∙ ap (position (λ (view : ViewInfo). same_name view.name c.args.name.now)) c.as_slice.ensures
+    ∙ position_mapped (λ (view : ViewImage). same_name view.name c.args.name.now) view_image c.args.catalog.now.views

@@ -1,0 +1,17 @@
+//! Sessions: the views of a book over its tables, with the lineage that its declared queries need, and the answers to the lines of a script.
+#![tactic(auto)]
+
+mod answer;
+mod fault;
+mod lineage;
+mod marks;
+mod mode;
+mod names;
+mod opening;
+mod session;
+mod turned;
+
+pub use answer::has_refused;
+pub use fault::StartFault;
+pub use mode::Mode;
+pub use session::Session;

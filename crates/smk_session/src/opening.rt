@@ -1,0 +1,93 @@
+// The views of a book over its tables, with the lineage that its declared queries need.
+ghost use Rattle.std.specs.Prelude.{◌≡◌, ◌<◌, ◌≤◌, ◌+◌, None, Option, length, option_map, IfOk, IfErr, OnOk, IsTrue};
+ghost use Rattle.std.specs.List.{sum_by};
+ghost use Rattle.smk_base.specs.CatalogImage.{catalog_image, view_image};
+ghost use Rattle.smk_model.specs.Catalogs.{ViewFits, each_table_kinds};
+ghost use Rattle.smk_model.specs.Looks.{looks_of_view};
+ghost use Rattle.smk_model.specs.NodeFaults.{NodeFault};
+ghost use Rattle.smk_model.specs.Opening.{view_fault, first_view_fault};
+ghost use Rattle.smk_model.specs.Selection.{each_kinds};
+ghost use Rattle.smk_model.specs.Session.{view_at};
+ghost use Rattle.smk_compose.specs.Through.{IsFirst};
+ghost use Rattle.smk_session.specs.Sessions.{AreOpened, IsStartFault, fault_in, opened, workbook_image};
+
+use crate::fault::StartFault;
+use smk_base::ViewInfo;
+use smk_body::OpBody;
+use smk_compose::{Run, RunFault, run_plan};
+use smk_outside::Steps;
+use smk_table::Table;
+use smk_typing::{TypedBook, needed};
+use std::alloc::Global;
+use std::sync::ledger::Ledger;
+use std::thread::Threads;
+
+// The fault of a view.
+fn at_view(view: u32, fault: RunFault) -> StartFault
+    ensures { (first : Option NodeFault) → IsFirst fault first → IsStartFault result (option_map (fault_in view) first) }
+{
+    match fault {
+        RunFault::Rows { node } => StartFault::Rows { view, node },
+        RunFault::Pairs { node, table } => StartFault::Pairs { view, node, table },
+        RunFault::NoMemory => StartFault::NoMemory,
+    }
+}
+
+// The view with this number.
+fn view_of(book: &TypedBook, v: u32) -> &ViewInfo
+    requires { v < length book.now.views }
+    ensures view { view_image result.now ≡ view_at (catalog_image book.now) v }
+    ensures fits { ViewFits book.now.tables (view_image result.now) }
+{
+    &book.catalog().views.as_slice()[v as usize]
+}
+
+// The view with this number: its first content, and exactly the lineage that is needed.
+fn open_view<R: Threads + Sync, B: OpBody + Sync, L: Ledger>(
+    rt: &R,
+    alloc: Global,
+    body: &B,
+    book: &TypedBook,
+    tables: &[Table],
+    v: u32,
+    steps: &mut Steps<L>,
+) -> Result<Run, StartFault>
+    requires kinds { each_kinds tables.now ≡ each_table_kinds book.now.tables }
+    requires captures { IsTrue (B.may_capture body.now) }
+    requires view { v < length book.now.views }
+    ensures run { IfOk result (λ run. run ≡ opened (workbook_image book.now tables.now) v) }
+    ensures none { OnOk result (view_fault (workbook_image book.now tables.now) v ≡ None) }
+    ensures fault { IfErr result (λ e. IsStartFault e (view_fault (workbook_image book.now tables.now) v)) }
+    ensures looks { steps.new ≤ steps.old + looks_of_view (workbook_image book.now tables.now) (view_at (workbook_image book.now tables.now).catalog v) }
+{
+    let need = needed(alloc, book, v)?;
+    let view = view_of(book, v);
+    match run_plan(rt, alloc, body, &view.plan, tables, &need, steps) {
+        Ok(run) => Ok(run),
+        Err(fault) => Err(at_view(v, fault)),
+    }
+}
+
+// All views in the book's order, or the first that is too big.
+pub(crate) fn open_views<R: Threads + Sync, B: OpBody + Sync, L: Ledger>(
+    rt: &R,
+    alloc: Global,
+    body: &B,
+    book: &TypedBook,
+    tables: &[Table],
+    steps: &mut Steps<L>,
+) -> Result<Vec<Run>, StartFault>
+    requires kinds { each_kinds tables.now ≡ each_table_kinds book.now.tables }
+    requires captures { IsTrue (B.may_capture body.now) }
+    ensures opened { IfOk result (λ views. AreOpened book.now tables.now views.items) }
+    ensures none { OnOk result (first_view_fault (workbook_image book.now tables.now) ≡ None) }
+    ensures fault { IfErr result (λ e. IsStartFault e (first_view_fault (workbook_image book.now tables.now))) }
+    ensures looks { steps.new ≤ steps.old + sum_by (looks_of_view (workbook_image book.now tables.now)) (workbook_image book.now tables.now).catalog.views }
+{
+    let count = book.catalog().views.as_slice().len();
+    let mut views = Vec::with_capacity(alloc, count)?;
+    for v in 0..count as u32 {
+        views.push(open_view(rt, alloc, body, book, tables, v, steps)?)?;
+    }
+    Ok(views)
+}

@@ -1,0 +1,130 @@
+ghost use Rattle.std.specs.Prelude.{◌≡◌, ◌≤◌, ◌<◌, ◌+◌, length, slice_index_or, None, IfOk, IfErr, OnOk, OnErr, IsTrue};
+ghost use Rattle.smk_base.specs.CatalogImage.{catalog_image};
+ghost use Rattle.smk_model.specs.Catalogs.{IsCatalog, each_table_kinds};
+ghost use Rattle.smk_model.specs.Forms.{is_line_answered};
+ghost use Rattle.smk_model.specs.Looks.{start_looks, line_looks};
+ghost use Rattle.smk_model.specs.Opening.{first_view_fault};
+ghost use Rattle.smk_model.specs.Replies as replies;
+ghost use Rattle.smk_model.specs.Selection.{each_kinds};
+ghost use Rattle.smk_session.specs.Sessions.{workbook_image, state_of, IsStartFault, opened, workbook_of};
+
+use crate::answer::answer_to;
+use crate::fault::StartFault;
+use crate::mode::Mode;
+use crate::opening::open_views;
+use crate::turned::Turned;
+use smk_base::{Catalog, Line, Rel, Reply};
+use smk_compose::Run;
+use smk_inject::Inject;
+use smk_outside::{Gate, Steps};
+use smk_table::Table;
+use smk_typing::TypedBook;
+use std::alloc::{AllocError, Global};
+use std::marker::Model;
+use std::sync::ledger::Ledger;
+use std::thread::Threads;
+
+/// A checked book over its tables: for each view its first content and the lineage that the declared queries need.
+#[derive(Drop)]
+pub struct Session {
+    book: TypedBook,
+    tables: Vec<Table>,
+    views: Vec<Run>,
+    mode: Mode,
+    workers: u32,
+}
+
+impl Model for Session {
+    ghost use Rattle.smk_base.specs.contracts.catalog.Catalog as held;
+    ghost use Rattle.std.specs.Coded.{codes};
+    ghost use Rattle.smk_session.specs.Sessions.{SessionImage, IsSession};
+
+    ghost Value = { SessionImage };
+
+    ghost coded = { Prim.hlevel (codes, held.the_row.coded) };
+
+    ghost view = { λ a. record { catalog = a.book; tables = a.tables.items; views = a.views.items; mode = a.mode; workers = a.workers } };
+
+    ghost invariant = { λ a. IsSession (record { catalog = a.book; tables = a.tables.items; views = a.views.items; mode = a.mode; workers = a.workers }) };
+}
+
+impl Session {
+    /// A session of this book over these tables, or the first view with a node that is too big. Each row of a leaf is at most one look, also where it is refused.
+    ///
+    /// Lineage is captured by the body of `mode`. On a fault the book and the tables are dropped.
+    pub fn start<R: Threads + Sync, G: Gate + Sync, L: Ledger>(
+        rt: &R,
+        alloc: Global,
+        book: TypedBook,
+        tables: Vec<Table>,
+        mode: Mode,
+        workers: u32,
+        _gate: &G,
+        steps: &mut Steps<L>,
+    ) -> Result<Session, StartFault>
+        requires kinds { each_kinds tables.items ≡ each_table_kinds book.tables }
+        requires workers { workers ≡ 1 }
+        ensures book { IfOk result (λ session. session.catalog ≡ book) }
+        ensures tables { IfOk result (λ session. session.tables ≡ tables.items) }
+        ensures mode { IfOk result (λ session. session.mode ≡ mode) }
+        ensures workers { IfOk result (λ session. session.workers ≡ workers) }
+        ensures none { OnOk result (first_view_fault (workbook_image book tables.items) ≡ None) }
+        ensures fault { IfErr result (λ e. IsStartFault e (first_view_fault (workbook_image book tables.items))) }
+        ensures looks { steps.new ≤ steps.old + start_looks (workbook_image book tables.items) }
+    {
+        let views = match mode {
+            Mode::Inject => open_views(rt, alloc, &Inject, &book, tables.as_slice(), steps)?,
+        };
+        Ok(Session {
+            book,
+            tables,
+            views,
+            mode,
+            workers,
+        })
+    }
+
+    /// The first content of the view with this number. It takes no memory.
+    pub fn first(&self, view: u32) -> &Rel
+        requires { view < length self.now.catalog.views }
+        ensures rows { result.now ≡ (opened (workbook_of self.now) view).rel }
+    {
+        &self.views[view as usize].rel
+    }
+
+    /// The book. It takes no memory.
+    pub fn catalog(&self) -> &Catalog
+        ensures book { result.now ≡ self.now.catalog }
+        ensures checked { IsCatalog (catalog_image self.now.catalog) }
+    {
+        self.book.catalog()
+    }
+
+    /// The reply to a line. Rows of a table are one look each, and nothing else is looked at. After an error the session is as it was.
+    pub fn answer<R: Threads + Sync, G: Gate + Sync, L: Ledger>(
+        &mut self,
+        _rt: &R,
+        alloc: Global,
+        line: &Line,
+        _gate: &G,
+        steps: &mut Steps<L>,
+    ) -> Result<Reply, AllocError>
+        requires answered { IsTrue (is_line_answered line.now) }
+        ensures reply { IfOk result (λ told. (told, state_of self.new) ≡ replies.reply (catalog_image self.old.catalog) (state_of self.old) line.now) }
+        ensures book { self.new.catalog ≡ self.old.catalog }
+        ensures tables { self.new.tables ≡ self.old.tables }
+        ensures views { self.new.views ≡ self.old.views }
+        ensures mode { self.new.mode ≡ self.old.mode }
+        ensures workers { self.new.workers ≡ self.old.workers }
+        ensures kept { OnErr result (self.new ≡ self.old) }
+        ensures looks { steps.new ≤ steps.old + line_looks (catalog_image self.old.catalog) (state_of self.old) line.now }
+    {
+        let catalog = self.book.catalog();
+        let tables = self.tables.as_slice();
+        match answer_to(alloc, catalog, tables, self.views.as_slice(), line, steps) {
+            Ok(reply) => Ok(reply),
+            Err(Turned::Refused(refusal)) => Ok(Reply::Refused(refusal)),
+            Err(Turned::Exhausted) => Err(AllocError),
+        }
+    }
+}
