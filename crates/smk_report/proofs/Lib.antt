@@ -1,2 +1,3 @@
-pub mod Parts
+pub mod FullViews
 pub mod Named
+pub mod Parts

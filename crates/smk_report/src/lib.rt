@@ -1,10 +1,14 @@
 //! The texts that Smoke writes. Rows are written with `csv`, numbers with `itoa`.
 #![tactic(auto)]
 
+mod answers;
 mod faults;
 mod lines;
+mod linked;
+mod lookup;
 mod names;
 mod page;
+mod refusals;
 mod replies;
 mod texts;
 

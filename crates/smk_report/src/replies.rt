@@ -1,37 +1,17 @@
-ghost use Rattle.std.specs.Prelude.{◌≡◌, ◌≢◌, find, option_map, nat_eq, IfOk};
-ghost use Rattle.std.specs.Option.{option_copied};
-ghost use Rattle.std.specs.Cmp.Lexicographic.{pointwise};
-ghost use Rattle.smk_base.specs.CatalogImage.{catalog_image, view_image};
-ghost use Rattle.smk_base.specs.declared.reply.Refusal.TheVariants as refusals;
-ghost use Rattle.smk_base.specs.declared.tree.Line.TheVariants as lines;
+ghost use Rattle.std.specs.Prelude.{◌≡◌, ◌++◌, ◌∷◌, [], codes, All, IfOk};
+ghost use Rattle.std.specs.List.{flat_map};
+ghost use Rattle.smk_base.specs.CatalogImage.{catalog_image};
 ghost use Rattle.smk_model.specs.ReplyTexts as texts;
+ghost use Rattle.smk_model.specs.Texts.{line, brush_text};
 
+use crate::answers::{brush_text, fwd_text, group_text};
 use crate::lines::line_of;
-use crate::texts::{no_row_text, rids_text, view_text};
-use smk_base::{Catalog, Line, Refusal, Rel, Reply, Rids, TableInfo, Text, ViewInfo};
+use crate::linked::with_linked;
+use crate::lookup::{grouping_named, table_named, view_named};
+use crate::refusals::refusal_text;
+use crate::texts::{rids_text, view_text};
+use smk_base::{Catalog, Line, Linked, Rel, Reply, Rids, Text};
 use std::alloc::{AllocError, Global};
-
-// The view of this name.
-fn view_named<'c>(catalog: &'c Catalog, name: &Text) -> Option<&'c ViewInfo>
-    ensures { option_copied result ≡ find (λ view. pointwise nat_eq (view_image view).name name.now) catalog.now.views }
-{
-    catalog
-        .views
-        .as_slice()
-        .iter()
-        .find(|view| view.name == *name)
-}
-
-// The table of this name.
-fn table_named<'c>(catalog: &'c Catalog, name: &Text) -> Option<&'c TableInfo>
-    ensures { option_copied result ≡ texts.table_named (catalog_image catalog.now) name.now }
-{
-    catalog
-        .tables
-        .as_slice()
-        .iter()
-        .find(|table| table.name == *name)
-}
 
 // The text of the content of a view.
 fn content_text(
@@ -67,30 +47,55 @@ fn found_text(
     }
 }
 
-// The line of a refused line.
-fn refusal_text(alloc: Global, asked: &Line, refusal: Refusal) -> Result<Vec<u8>, AllocError>
-    requires { texts.IsRefusalOf asked.now refusal }
-    ensures { IfOk result (λ text. text.items ≡ texts.refusal_text asked.now refusal) }
+// The text of groups.
+fn groups_text(
+    alloc: Global,
+    catalog: &Catalog,
+    view: &Text,
+    table: &Text,
+    rel: &Rel,
+) -> Result<Vec<u8>, AllocError>
+    requires { texts.AreGroupsOf (catalog_image catalog.now) view.now table.now rel.now }
+    ensures { IfOk result (λ text. text.items ≡ texts.groups_text (catalog_image catalog.now) view.now table.now rel.now.rows) }
 {
-    match (asked, refusal) {
-        (Line::Show { view } | Line::Back { view, .. }, Refusal::UnknownView) => {
-            line_of(alloc, &[b"refused unknown view ", view.as_slice()])
-        }
-        (Line::Back { table, .. }, Refusal::UnknownTable) => {
-            line_of(alloc, &[b"refused unknown table ", table.as_slice()])
-        }
-        (Line::Back { view, table, .. }, Refusal::Undeclared) => line_of(
-            alloc,
-            &[
-                b"refused undeclared back ",
-                view.as_slice(),
-                b" to ",
-                table.as_slice(),
-            ],
-        ),
-        (Line::Back { .. }, Refusal::NoRow { row, rows }) => no_row_text(alloc, row, rows),
-        _ => unreachable!(),
+    match grouping_named(catalog, view, table) {
+        Some(names) => group_text(alloc, view, table, names, rel),
+        None => unreachable!(),
     }
+}
+
+// The text of a brush, and of the views that follow it.
+fn brushed_text(
+    alloc: Global,
+    catalog: &Catalog,
+    view: &Text,
+    table: &Text,
+    rids: &Rids,
+    linked: &[Linked],
+) -> Result<Vec<u8>, AllocError>
+    requires { All (texts.IsLinkedIn (catalog_image catalog.now)) linked.now }
+    ensures { IfOk result (λ text. text.items ≡ brush_text view.now table.now rids.now ++ flat_map (texts.linked_text (catalog_image catalog.now)) linked.now) }
+{
+    let front = brush_text(alloc, view, table, rids.as_slice())?;
+    with_linked(alloc, catalog, front, linked)
+}
+
+// The text of the end of a brush, and of the views that followed it.
+fn cleared_text(
+    alloc: Global,
+    catalog: &Catalog,
+    view: &Text,
+    table: &Text,
+    linked: &[Linked],
+) -> Result<Vec<u8>, AllocError>
+    requires { All (texts.IsLinkedIn (catalog_image catalog.now)) linked.now }
+    ensures { IfOk result (λ text. text.items ≡ line (codes "cleared " ∷ view.now ∷ codes " on " ∷ table.now ∷ []) ++ flat_map (texts.linked_text (catalog_image catalog.now)) linked.now) }
+{
+    let front = line_of(
+        alloc,
+        &[b"cleared ", view.as_slice(), b" on ", table.as_slice()],
+    )?;
+    with_linked(alloc, catalog, front, linked)
 }
 
 /// The text of a reply to a line of a script.
@@ -108,7 +113,29 @@ pub fn reply_text(
         (Line::Back { view, table, .. }, Reply::Back { rids, rows }) => {
             found_text(alloc, cat, view, table, rids, rows)
         }
-        (_, Reply::Refused(refusal)) => refusal_text(alloc, line, *refusal),
-        _ => unreachable!(),
+        (Line::Back { view, table, .. }, Reply::Grouped { rel }) => {
+            groups_text(alloc, cat, view, table, rel)
+        }
+        (Line::Fwd { table, view, .. }, Reply::Fwd { marks }) => {
+            fwd_text(alloc, table, view, marks.as_slice())
+        }
+        (Line::Brush { view, table, .. }, Reply::Brush { rids, linked }) => {
+            brushed_text(alloc, cat, view, table, rids, linked.as_slice())
+        }
+        (Line::Clear, Reply::Cleared) => line_of(alloc, &[b"cleared"]),
+        (Line::ClearOne { view, table }, Reply::ClearedOne { linked }) => {
+            cleared_text(alloc, cat, view, table, linked.as_slice())
+        }
+        (_, Reply::Refused(refusal)) => refusal_text(alloc, cat, line, *refusal),
+        (
+            _,
+            Reply::View { .. }
+            | Reply::Back { .. }
+            | Reply::Grouped { .. }
+            | Reply::Fwd { .. }
+            | Reply::Brush { .. }
+            | Reply::Cleared
+            | Reply::ClearedOne { .. },
+        ) => unreachable!(),
     }
 }

@@ -3,11 +3,22 @@ ghost use Rattle.smk_base.specs.Rels.{row_in, IsRelation};
 ghost use Rattle.smk_model.specs.Texts as texts;
 ghost use Rattle.smk_report.specs.Pages.{IsReady, Says, text_on, fields_on};
 
-use crate::lines::line_of;
+use crate::lines::{add_line, line_of};
 use crate::page::Page;
 use itoa::Buffer;
 use smk_base::{ColDecls, ListOf, Rel, Rids, Text};
 use std::alloc::{AllocError, Global};
+
+// How many bytes are reserved for a field; most are shorter.
+const FIELD_BYTES: usize = 8;
+
+// Reserves room for the records of rows, so that a long text rarely moves while it grows.
+fn reserve_rows(text: &mut Vec<u8>, rel: &Rel) -> Result<(), AllocError>
+    ensures { text.new.items ≡ text.old.items }
+{
+    let fields = rel.len() as usize * (rel.width() as usize + 1);
+    text.reserve(fields * FIELD_BYTES)
+}
 
 // The record of the names of the columns.
 fn header(page: &mut Page, first: &[u8], columns: &ListOf<Text>) -> Result<(), AllocError>
@@ -63,6 +74,49 @@ fn placed_rows(page: &mut Page, rids: &[u32], rel: &Rel) -> Result<(), AllocErro
     Ok(())
 }
 
+/// A text with the records of the names of columns and of rows with their places behind it.
+pub fn with_rows(
+    alloc: Global,
+    front: Vec<u8>,
+    columns: &ListOf<Text>,
+    rel: &Rel,
+) -> Result<Vec<u8>, AllocError>
+    requires { length columns.now ≡ length rel.now.kinds }
+    ensures { IfOk result (λ text. text.items ≡ front.items ++ texts.record_line (codes "row" ∷ columns.now) ++ texts.row_lines (λ i. i) rel.now.rows) }
+{
+    let mut text = front;
+    reserve_rows(&mut text, rel)?;
+    let mut page = Page::new(alloc, text);
+    header(&mut page, b"row", columns)?;
+    numbered_rows(&mut page, rel)?;
+    page.finish()
+}
+
+/// A text with the text of a view behind it.
+pub fn with_view(
+    alloc: Global,
+    front: Vec<u8>,
+    name: &Text,
+    columns: &ListOf<Text>,
+    rel: &Rel,
+) -> Result<Vec<u8>, AllocError>
+    requires { length columns.now ≡ length rel.now.kinds }
+    ensures { IfOk result (λ text. text.items ≡ front.items ++ texts.view_text name.now columns.now rel.now.rows) }
+{
+    let mut text = front;
+    let mut count = Buffer::new();
+    add_line(
+        &mut text,
+        &[
+            b"view ",
+            name.as_slice(),
+            b" ",
+            count.format(rel.len()).as_bytes(),
+        ],
+    )?;
+    with_rows(alloc, text, columns, rel)
+}
+
 /// The text of a view: its name and number of rows, the names of its columns, and its rows with their places.
 pub fn view_text(
     alloc: Global,
@@ -73,20 +127,7 @@ pub fn view_text(
     requires { length columns.now ≡ length rel.now.kinds }
     ensures { IfOk result (λ text. text.items ≡ texts.view_text name.now columns.now rel.now.rows) }
 {
-    let mut count = Buffer::new();
-    let front = line_of(
-        alloc,
-        &[
-            b"view ",
-            name.as_slice(),
-            b" ",
-            count.format(rel.len()).as_bytes(),
-        ],
-    )?;
-    let mut page = Page::new(alloc, front);
-    header(&mut page, b"row", columns)?;
-    numbered_rows(&mut page, rel)?;
-    page.finish()
+    with_view(alloc, Vec::new(alloc), name, columns, rel)
 }
 
 // The record of the names of the columns that a table declares.
@@ -133,7 +174,8 @@ pub fn rids_text(
     requires { length rids.now ≡ length rel.now.rows }
     ensures { IfOk result (λ text. text.items ≡ texts.back_text view.now table.now (map (λ column. column.name) columns.now) rids.now rel.now.rows) }
 {
-    let front = back_line(alloc, view, table, rel.len())?;
+    let mut front = back_line(alloc, view, table, rel.len())?;
+    reserve_rows(&mut front, rel)?;
     let mut page = Page::new(alloc, front);
     table_header(&mut page, columns)?;
     placed_rows(&mut page, rids.as_slice(), rel)?;

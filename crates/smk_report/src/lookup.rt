@@ -1,0 +1,96 @@
+// What a line names, as the catalog has it.
+ghost use Rattle.std.specs.Prelude.{◌≡◌, ◌<◌, None, length, cond, option_map};
+ghost use Rattle.std.specs.Option.{option_copied};
+ghost use Rattle.smk_base.specs.CatalogImage.{catalog_image, view_image};
+ghost use Rattle.smk_model.specs.Replies.{grouping_in, grouping_of};
+ghost use Rattle.smk_model.specs.ReplyTexts as texts;
+ghost use Rattle.smk_model.specs.Session as session;
+ghost use Rattle.smk_model.specs.Workload.{is_back};
+
+use smk_base::{Back, BackExtra, Catalog, ColNames, TableInfo, Text, ViewInfo};
+
+/// The view of this name.
+pub fn view_named<'c>(catalog: &'c Catalog, name: &Text) -> Option<&'c ViewInfo>
+    ensures { option_map view_image (option_copied result) ≡ texts.view_named (catalog_image catalog.now) name.now }
+{
+    catalog
+        .views
+        .as_slice()
+        .iter()
+        .find(|view| view.name == *name)
+}
+
+/// The table of this name.
+pub fn table_named<'c>(catalog: &'c Catalog, name: &Text) -> Option<&'c TableInfo>
+    ensures { option_copied result ≡ texts.table_named (catalog_image catalog.now) name.now }
+{
+    catalog
+        .tables
+        .as_slice()
+        .iter()
+        .find(|table| table.name == *name)
+}
+
+/// The view of this number.
+pub fn view_at(catalog: &Catalog, view: u32) -> &ViewInfo
+    requires { view < length catalog.now.views }
+    ensures { view_image result.now ≡ session.view_at (catalog_image catalog.now) view }
+{
+    &catalog.views.as_slice()[view as usize]
+}
+
+// The number of the view of this name.
+fn view_place(catalog: &Catalog, name: &Text) -> Option<usize>
+    ensures { result ≡ session.view_place (catalog_image catalog.now) name.now }
+{
+    catalog
+        .views
+        .as_slice()
+        .iter()
+        .position(|view| view.name == *name)
+}
+
+// The number of the table of this name.
+fn table_place(catalog: &Catalog, name: &Text) -> Option<usize>
+    ensures { result ≡ session.table_place (catalog_image catalog.now) name.now }
+{
+    catalog
+        .tables
+        .as_slice()
+        .iter()
+        .position(|table| table.name == *name)
+}
+
+// The names of the grouping that a declaration has for a view's backward query to a table.
+fn grouping_names(declared: &Back, view: usize, table: usize) -> Option<&ColNames>
+    ensures { option_copied result ≡ cond (is_back view table declared.now) (option_map (λ grouped. grouped.names) (grouping_in declared.now.extra)) None }
+{
+    if declared.view as usize != view || declared.table as usize != table {
+        return None;
+    }
+    match &declared.extra {
+        BackExtra::Grouped { names, .. } => Some(names),
+        BackExtra::Plain | BackExtra::By(_) => None,
+    }
+}
+
+// The names of the first grouping that is declared for a view's backward query to a table.
+fn first_grouping(catalog: &Catalog, view: usize, table: usize) -> Option<&ColNames>
+    ensures { option_copied result ≡ option_map (λ grouped. grouped.names) (grouping_of (catalog_image catalog.now) view table) }
+{
+    for declared in catalog.backs.as_slice() {
+        if let Some(names) = grouping_names(declared, view, table) {
+            return Some(names);
+        }
+    }
+    None
+}
+
+/// The names of the grouping that is declared for the backward query of a view to a table.
+pub fn grouping_named<'c>(catalog: &'c Catalog, view: &Text, table: &Text) -> Option<&'c ColNames>
+    ensures { option_copied result ≡ option_map (λ grouped. grouped.names) (texts.grouping_named (catalog_image catalog.now) view.now table.now) }
+{
+    let view = view_place(catalog, view)?;
+    let table = table_place(catalog, table)?;
+    first_grouping(catalog, view, table)
+}

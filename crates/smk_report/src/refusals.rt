@@ -1,0 +1,160 @@
+// Why a line is refused.
+ghost use Rattle.std.specs.Prelude.{◌≡◌, ◌<◌, ◌∷◌, [], length, codes, decimal, IfOk};
+ghost use Rattle.smk_base.specs.CatalogImage.{catalog_image};
+ghost use Rattle.smk_base.specs.declared.reply.Refusal.TheVariants as refusals;
+ghost use Rattle.smk_model.specs.ReplyTexts as texts;
+ghost use Rattle.smk_model.specs.Session.{view_at};
+ghost use Rattle.smk_model.specs.ShownNames.{shown as shown_name};
+ghost use Rattle.smk_model.specs.Texts.{line};
+
+use crate::lines::line_of;
+use crate::lookup::view_at;
+use crate::names::shown;
+use crate::texts::no_row_text;
+use itoa::Buffer;
+use smk_base::{Catalog, Line, Refusal, Then};
+use std::alloc::{AllocError, Global};
+
+// The view that a line names.
+fn view_in(asked: &Line) -> &[u8]
+    ensures { result.now ≡ texts.view_in asked.now }
+{
+    match asked {
+        Line::Show { view }
+        | Line::Back { view, .. }
+        | Line::Fwd { view, .. }
+        | Line::Brush { view, .. }
+        | Line::ClearOne { view, .. } => view.as_slice(),
+        Line::Clear => b"",
+    }
+}
+
+// The table that a line names.
+fn table_in(asked: &Line) -> &[u8]
+    ensures { result.now ≡ texts.table_in asked.now }
+{
+    match asked {
+        Line::Back { table, .. }
+        | Line::Fwd { table, .. }
+        | Line::Brush { table, .. }
+        | Line::ClearOne { table, .. } => table.as_slice(),
+        Line::Show { .. } | Line::Clear => b"",
+    }
+}
+
+// The column that a line names.
+fn column_in(asked: &Line) -> &[u8]
+    ensures { result.now ≡ texts.column_in asked.now }
+{
+    match asked {
+        Line::Back {
+            then: Then::Matching { col, .. },
+            ..
+        } => col.as_slice(),
+        Line::Back { .. }
+        | Line::Show { .. }
+        | Line::Fwd { .. }
+        | Line::Brush { .. }
+        | Line::Clear
+        | Line::ClearOne { .. } => b"",
+    }
+}
+
+// A line that speaks of two names.
+fn pair_text(
+    alloc: Global,
+    first: &[u8],
+    from: &[u8],
+    between: &[u8],
+    to: &[u8],
+) -> Result<Vec<u8>, AllocError>
+    ensures { IfOk result (λ text. text.items ≡ line (first.now ∷ from.now ∷ between.now ∷ to.now ∷ [])) }
+{
+    line_of(alloc, &[first, from, between, to])
+}
+
+// A query that the book doesn't declare, as the line asks it.
+fn undeclared_text(alloc: Global, catalog: &Catalog, asked: &Line) -> Result<Vec<u8>, AllocError>
+    requires { texts.IsRefusalOf (catalog_image catalog.now) asked.now refusals.Undeclared }
+    ensures { IfOk result (λ text. text.items ≡ texts.refusal_text (catalog_image catalog.now) asked.now refusals.Undeclared) }
+{
+    let view = view_in(asked);
+    let table = table_in(asked);
+    match asked {
+        Line::Back { .. } => pair_text(alloc, b"refused undeclared back ", view, b" to ", table),
+        Line::Fwd { .. } => pair_text(alloc, b"refused undeclared fwd ", table, b" to ", view),
+        Line::Show { .. } | Line::Brush { .. } | Line::Clear | Line::ClearOne { .. } =>
+            unreachable!(),
+    }
+}
+
+// A split that the book doesn't declare.
+fn no_split_text(alloc: Global, asked: &Line) -> Result<Vec<u8>, AllocError>
+    ensures { IfOk result (λ text. text.items ≡ line (codes "refused no split of " ∷ texts.view_in asked.now ∷ codes " to " ∷ texts.table_in asked.now ∷ codes " by " ∷ shown_name (texts.column_in asked.now) ∷ [])) }
+{
+    let column = shown(alloc, column_in(asked))?;
+    line_of(
+        alloc,
+        &[
+            b"refused no split of ",
+            view_in(asked),
+            b" to ",
+            table_in(asked),
+            b" by ",
+            column.as_slice(),
+        ],
+    )
+}
+
+// A literal that is not of the column's kind.
+fn value_kind_text(alloc: Global, asked: &Line) -> Result<Vec<u8>, AllocError>
+    ensures { IfOk result (λ text. text.items ≡ line (codes "refused wrong kind for " ∷ shown_name (texts.column_in asked.now) ∷ [])) }
+{
+    let column = shown(alloc, column_in(asked))?;
+    line_of(alloc, &[b"refused wrong kind for ", column.as_slice()])
+}
+
+// A view that would have too many rows, and the node.
+fn full_text(alloc: Global, catalog: &Catalog, view: u32, node: u32) -> Result<Vec<u8>, AllocError>
+    requires { view < length catalog.now.views }
+    ensures { IfOk result (λ text. text.items ≡ line (codes "refused too many rows in " ∷ (view_at (catalog_image catalog.now) view).name ∷ codes " at node " ∷ decimal node ∷ [])) }
+{
+    let mut number = Buffer::new();
+    let info = view_at(catalog, view);
+    line_of(
+        alloc,
+        &[
+            b"refused too many rows in ",
+            info.name.as_slice(),
+            b" at node ",
+            number.format(node).as_bytes(),
+        ],
+    )
+}
+
+/// The line of a refused line.
+#[tactic(auto, using(crate::proofs::FullViews::full_view))]
+pub fn refusal_text(
+    alloc: Global,
+    catalog: &Catalog,
+    asked: &Line,
+    refusal: Refusal,
+) -> Result<Vec<u8>, AllocError>
+    requires { texts.IsRefusalOf (catalog_image catalog.now) asked.now refusal }
+    ensures { IfOk result (λ text. text.items ≡ texts.refusal_text (catalog_image catalog.now) asked.now refusal) }
+{
+    let view = view_in(asked);
+    let table = table_in(asked);
+    match refusal {
+        Refusal::UnknownView => line_of(alloc, &[b"refused unknown view ", view]),
+        Refusal::UnknownTable => line_of(alloc, &[b"refused unknown table ", table]),
+        Refusal::Undeclared => undeclared_text(alloc, catalog, asked),
+        Refusal::NoRow { row, rows } => no_row_text(alloc, row, rows),
+        Refusal::NoSplit => no_split_text(alloc, asked),
+        Refusal::ValueKind => value_kind_text(alloc, asked),
+        Refusal::NoGroup => pair_text(alloc, b"refused no grouping of ", view, b" to ", table),
+        Refusal::NotLinked => pair_text(alloc, b"refused not linked ", view, b" on ", table),
+        Refusal::RowsLimit { view, node } => full_text(alloc, catalog, view, node),
+        Refusal::ManyMarks => line_of(alloc, &[b"refused more than one mark"]),
+    }
+}
