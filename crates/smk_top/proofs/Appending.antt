@@ -1,15 +1,12 @@
 -- What was written, one text after the other.
-use Rattle.std.proofs.Common.{◌≡◌, ◌∙◌, ◌<◌, ◌+◌, ◌++◌, ◌∷◌, [], ℕ, Bool, List, length, take, drop, get_or, Option, Some, None, Result, Ok, Err, refl, sym, ap, append_assoc, append-nil, take-append-drop}
-use Rattle.std.specs.Prelude.{◌||◌}
-use Rattle.std.specs.List.{flat_map, list_any}
+use Rattle.std.proofs.Common.{◌≡◌, ◌∙◌, ◌<◌, ◌+◌, ◌++◌, ◌∷◌, [], ℕ, List, length, take, drop, get_or, Option, Some, None, Result, Ok, Err, refl, sym, ap, append_assoc, append-nil, take-append-drop}
+use Rattle.std.specs.List.{flat_map}
 use Rattle.std.proofs.lemmas.List.{take_more}
 use Rattle.std.proofs.lemmas.List.Concat.{flat_map-append}
-use Rattle.std.proofs.lemmas.List.Folds.{list_any_more}
 use Rattle.smk_outside.specs.Outside.{Appends, AppendsPart}
-use Rattle.smk_model.specs.Reports.{Report}
 use Rattle.smk_top.specs.declared.stop.Stop.{Stop}
 use Rattle.smk_top.specs.declared.stop.Stop.TheVariants.{At, Unwritten, Exhausted}
-use Rattle.smk_top.specs.Writing.{Puts, PutsPieces, Writes}
+use Rattle.smk_top.specs.Writing.{Puts, PutsPieces}
 
 -- nothing, and one after the other
 pub appends_none : (a : Option (List ℕ)) → Appends a a []
@@ -46,16 +43,6 @@ pub appends_next : {A : Type 0} (f : A → List ℕ) (xs : List A) (i : ℕ) (x 
     → Appends a b (flat_map f (take i xs)) → Appends b c text → Appends a c (flat_map f (take (i + 1) xs))
 appends_next f xs i x d a b c text h is same p q = rw (one_more f xs i x d h is) (rw (← same) (appends_more a b c (flat_map f (take i xs)) text p q))
 
--- a member without a text
-pub appends_kept : {A : Type 0} (f : A → List ℕ) (xs : List A) (i : ℕ) (x d : A) (a b : Option (List ℕ)) → i < length xs → x ≡ get_or xs i d → f x ≡ []
-    → Appends a b (flat_map f (take i xs)) → Appends a b (flat_map f (take (i + 1) xs))
-appends_kept f xs i x d a b h is none p = appends_next f xs i x d a b b [] h is (sym none) p (appends_none b)
-
--- whether a member passes a test, as far as the i-th
-pub any_next : {A : Type 0} (g : A → Bool) (xs : List A) (i : ℕ) (x d : A) (now more : Bool) → i < length xs → x ≡ get_or xs i d → more ≡ g x
-    → now ≡ list_any g (take i xs) → (now || more) ≡ list_any g (take (i + 1) xs)
-any_next g xs i x d now more h is same told = rw (list_any_more g xs i d h) (rw (← is) (rw (same, told) refl))
-
 -- stopped before the i-th member
 pub want_here : {A : Type 0} (f : A → List ℕ) (xs : List A) (i : ℕ) (a b : Option (List ℕ)) → Appends a b (flat_map f (take i xs)) → AppendsPart a b (flat_map f xs)
 want_here f xs i a b p = front_of a b (flat_map f (take i xs)) (flat_map f (drop i xs)) (flat_map f xs) p (whole_is f xs i)
@@ -69,24 +56,33 @@ fails_here X f xs i x d a b c rose_here rose text Unwritten h is same wide p q =
     (front_more a b c (flat_map f (take i xs)) text (flat_map f (drop (i + 1) xs)) (flat_map f xs) p q.0 (whole_is f xs (i + 1) ∙ ap (λ z. z ++ flat_map f (drop (i + 1) xs)) (one_more f xs i x d h is ∙ ap (λ z. flat_map f (take i xs) ++ z) (sym same))), wide q.1)
 fails_here X f xs i x d a b c rose_here rose text Exhausted h is same wide p q = absurd q
 
--- a stop in the whole of a text, and in the first part of a report
-pub stops_whole : (X : Type 0) (report : Report) (a b : Option (List ℕ)) (rose : Type 0) (stop : Stop) → PutsPieces {X = X} report.text rose a b (Err stop) → Writes report rose a b (Err stop)
-stops_whole X report a b rose (At fault) p = p
-stops_whole X report a b rose Unwritten p = p
-stops_whole X report a b rose Exhausted p = p
-
 part_more : (a b : Option (List ℕ)) (text rest whole : List ℕ) → whole ≡ text ++ rest → AppendsPart a b text → AppendsPart a b whole
 part_more a b text rest whole is p = (p.0, (p.1.0 ++ rest, is ∙ rw p.1.1 (append_assoc p.0 p.1.0 rest)), p.2)
 
-pub first_stops : (X : Type 0) (report : Report) (a b : Option (List ℕ)) (rose : Type 0) (text rest : List ℕ) (stop : Stop) → report.text ≡ text ++ rest → PutsPieces {X = X} text rose a b (Err stop) → Writes report rose a b (Err stop)
-first_stops X report a b rose text rest (At fault) is p = p
-first_stops X report a b rose text rest Unwritten is p = (part_more a b text rest report.text is p.0, p.1)
-first_stops X report a b rose text rest Exhausted is p = part_more a b text rest report.text is p
+-- a stop in the first part of a text
+pub first_stops : (X Y : Type 0) (a b : Option (List ℕ)) (rose : Type 0) (text rest whole : List ℕ) (stop : Stop) → whole ≡ text ++ rest → PutsPieces {X = X} text rose a b (Err stop) → PutsPieces {X = Y} whole rose a b (Err stop)
+first_stops X Y a b rose text rest whole (At fault) is p = p
+first_stops X Y a b rose text rest whole Unwritten is p = (part_more a b text rest whole is p.0, p.1)
+first_stops X Y a b rose text rest whole Exhausted is p = part_more a b text rest whole is p
+
+-- a stop in the part that follows what is written
+pub next_stops : (X Y : Type 0) (a b c : Option (List ℕ)) (rose_here rose : Type 0) (text more rest whole : List ℕ) (stop : Stop) → whole ≡ (text ++ more) ++ rest → (rose_here → rose)
+    → Appends a b text → PutsPieces {X = X} more rose_here b c (Err stop) → PutsPieces {X = Y} whole rose a c (Err stop)
+next_stops X Y a b c rose_here rose text more rest whole (At fault) is wide p q = q
+next_stops X Y a b c rose_here rose text more rest whole Unwritten is wide p q = (front_more a b c text more rest whole p q.0 is, wide q.1)
+next_stops X Y a b c rose_here rose text more rest whole Exhausted is wide p q = front_more a b c text more rest whole p q is
 
 -- the rest after the first part
-pub then_rest : (report : Report) (a b c : Option (List ℕ)) (rose_here rose : Type 0) (text rest : List ℕ) (result : Result Bool Stop) → report.text ≡ text ++ rest → (rose_here → rose)
-    → Appends a b text → Writes (record { text = rest; refused = report.refused }) rose_here b c result → Writes report rose a c result
-then_rest report a b c rose_here rose text rest (Ok refused) is wide p q = (rw is (appends_more a b c text rest p q.0), q.1)
-then_rest report a b c rose_here rose text rest (Err (At fault)) is wide p q = q
-then_rest report a b c rose_here rose text rest (Err Unwritten) is wide p q = (front_more a b c text rest [] report.text p q.0 (is ∙ sym (append-nil (text ++ rest))), wide q.1)
-then_rest report a b c rose_here rose text rest (Err Exhausted) is wide p q = front_more a b c text rest [] report.text p q (is ∙ sym (append-nil (text ++ rest)))
+pub then_rest : (X : Type 0) (a b c : Option (List ℕ)) (rose_here rose : Type 0) (text rest : List ℕ) (result : Result X Stop) → (rose_here → rose)
+    → Appends a b text → PutsPieces rest rose_here b c result → PutsPieces (text ++ rest) rose a c result
+then_rest X a b c rose_here rose text rest (Ok x) wide p q = appends_more a b c text rest p q
+then_rest X a b c rose_here rose text rest (Err stop) wide p q = next_stops X X a b c rose_here rose text rest [] (text ++ rest) stop (sym (append-nil (text ++ rest))) wide p q
+
+-- a stop before anything is written, and one in a text that is put at once
+pub none_written : (a : Option (List ℕ)) (text : List ℕ) → AppendsPart a a text
+none_written a text = ([], (text, refl), appends_none a)
+
+pub put_stops : (X Y : Type 0) (a b : Option (List ℕ)) (rose : Type 0) (text whole : List ℕ) (stop : Stop) → text ≡ whole → Puts {X = X} text rose a b (Err stop) → PutsPieces {X = Y} whole rose a b (Err stop)
+put_stops X Y a b rose text whole (At fault) is p = absurd p
+put_stops X Y a b rose text whole Unwritten is p = rw (← is) p
+put_stops X Y a b rose text whole Exhausted is p = absurd p

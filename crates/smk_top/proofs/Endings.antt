@@ -1,67 +1,53 @@
 -- How a run ends, from what its work comes to and what is said.
-use Rattle.std.proofs.Common.{◌≡◌, ◌≢◌, ◌∙◌, ◌∷◌, [], ℕ, Bool, true, false, List, map, Option, Some, None, Result, Ok, Err, refl, ap, subst, inl, inr}
-use Rattle.smk_base.specs.CatalogImage.{ViewImage}
+use Rattle.std.proofs.Common.{◌≡◌, ◌≢◌, ◌∙◌, [], ℕ, List, Option, Some, None, option_map, Result, Ok, Err, IfOk, refl, ap, subst, inl, inr}
+use Rattle.smk_base.specs.CatalogImage.{CatalogImage}
 use Rattle.smk_base.specs.declared.fault.Fault.{Fault}
-use Rattle.smk_base.specs.declared.fault.Fault.TheVariants.{Usage, Book, Types, Form, Table, FileLong, TableRows, ViewRows, ViewPairs, Unread}
+use Rattle.smk_base.specs.declared.fault.Fault.TheVariants.{ViewRows, ViewPairs}
 use Rattle.smk_outside.specs.Outside.{Appends}
-use Rattle.smk_model.specs.Values.{Row}
-use Rattle.smk_model.specs.Names.{◌>>=◌}
-use Rattle.smk_model.specs.Tables.{all_or_first}
+use Rattle.smk_model.specs.NodeFaults.{NodeFault, FullRows, FullPairs}
+use Rattle.smk_model.specs.Opening.{ViewFault, first_view_fault, named_fault, fault_named}
 use Rattle.smk_model.specs.Reports.{Report, report_of}
 use Rattle.smk_model.specs.Readings.{Reading}
-use Rattle.smk_model.specs.Session.{Workbook}
-use Rattle.smk_model.specs.Outcome.{Held, Inputs, within_limit, view_content, view_contents, reported as report_or_fault, words_of, unreadable, read, IsReport, HasCause}
+use Rattle.smk_model.specs.Session.{Workbook, view_at}
+use Rattle.smk_model.specs.Outcome.{Held, Inputs, unless_view_fault, reported as report_or_fault, words_of, unreadable, read, IsReport, HasCause}
+use Rattle.smk_top.specs.declared.counts.Counts.{Counts}
 use Rattle.smk_top.specs.declared.status.Status.{Status}
-use Rattle.smk_top.specs.declared.status.Status.TheVariants.{Done, DoneWithRefusals, WriteFault}
+use Rattle.smk_top.specs.declared.status.Status.TheVariants.{WriteFault}
 use Rattle.smk_top.specs.declared.stop.Stop.{Stop}
 use Rattle.smk_top.specs.declared.stop.Stop.TheVariants.{At, Unwritten, Exhausted}
 use Rattle.smk_top.specs.Statuses.{status_of_report}
-use Rattle.smk_top.specs.Reading.{ReadsAll, IsInputs, HasReadCause}
-use Rattle.smk_top.specs.Writing.{Writes}
+use Rattle.smk_top.specs.Reading.{ReadsAll, IsInputs, HasReadCause, Starts}
+use Rattle.smk_top.specs.Writing.{PutsPieces, counts_of}
 use Rattle.smk_top.specs.Endings.{IsBegun, reported, faulted, unwritten, exhausted, fault_unsaid, memory_unsaid, RunEnds, Works, Reports, SaysMemory, SaysFault}
 use Rattle.smk_top.proofs.Appending.{appends_none}
 
--- a fault of the views is too many rows of a node
+-- a fault of the views is that of a node
 IsOfViews : Fault → Type 0
 IsOfViews (ViewRows view node) = Unit {0}
+IsOfViews (ViewPairs view node name) = Unit {0}
 IsOfViews _ = ⊥
 
-OnlyViews : {A : Type 0} → Result A Fault → Type 0
-OnlyViews (Ok a) = Unit {0}
+OnlyViews : Result Report Fault → Type 0
+OnlyViews (Ok report) = Unit {0}
 OnlyViews (Err fault) = IsOfViews fault
 
-views_within : (view : ViewImage) (full : Option ℕ) (rows : List Row) → OnlyViews (within_limit view full rows)
+views_reported : (given : Inputs) → OnlyViews (report_or_fault given)
 unfolding OnlyViews IsOfViews
-views_within view (Some node) rows = tt
-views_within view None rows = tt
+views_reported given = by (first_view_fault given.book)
+  where
+    named : (catalog : CatalogImage) (view : List ℕ) (fault : NodeFault) → IsOfViews (named_fault catalog view fault)
+    named catalog view (FullRows node) = tt
+    named catalog view (FullPairs node table) = tt
 
-views_then : {A B : Type 0} (r : Result A Fault) (f : A → Result B Fault) → OnlyViews r → ((a : A) → OnlyViews (f a)) → OnlyViews (r >>= f)
-unfolding OnlyViews
-views_then (Ok a) f h each = each a
-views_then (Err fault) f h each = h
-
-views_all : (tables : List (List Row)) (views : List ViewImage) → OnlyViews (all_or_first (map (view_content tables) views))
-unfolding OnlyViews
-views_all tables [] = tt
-views_all tables (view ∷ views) =
-    views_then (view_content tables view) _ (views_within view _ _) (λ x. views_then (all_or_first (map (view_content tables) views)) _ (views_all tables views) (λ xs. tt))
-
-views_reported : (inputs : Inputs) → OnlyViews (report_or_fault inputs)
-unfolding OnlyViews
-views_reported inputs = views_then (view_contents inputs.book) _ (views_all inputs.book.tables inputs.book.catalog.views) (λ contents. tt)
+    by : (found : Option ViewFault) → OnlyViews (unless_view_fault given found)
+    by (Some found) = named given.book.catalog (view_at given.book.catalog found.view).name found.fault
+    by None = tt
 
 untold_views : (words : List (List ℕ)) (rose : Type 0) (fault : Fault) → words_of words ≢ None → IsOfViews fault → HasCause words None rose fault
 unfolding IsOfViews
 untold_views words rose (ViewRows view node) some h = some
-untold_views words rose Usage some h = absurd h
-untold_views words rose (Book fault) some h = absurd h
-untold_views words rose (Types fault) some h = absurd h
-untold_views words rose (Form file) some h = absurd h
-untold_views words rose (Table name column fault) some h = absurd h
-untold_views words rose (FileLong file) some h = absurd h
-untold_views words rose (TableRows name) some h = absurd h
-untold_views words rose (ViewPairs view node name) some h = absurd h
-untold_views words rose (Unread file) some h = absurd h
+untold_views words rose (ViewPairs view node name) some h = some
+untold_views words rose _ some h = absurd h
 
 -- the report of the inputs is that of the run, and so is their fault
 report_is : (words : List (List ℕ)) (held : Option Held) (inputs : Inputs) (report : Report) → IsInputs words held inputs → report_or_fault inputs ≡ Ok report → IsReport words held report
@@ -86,43 +72,51 @@ stops words held files_rose out_rose image a (At fault) cause = (read_cause word
 stops words held files_rose out_rose image a Unwritten h = absurd h
 stops words held files_rose out_rose image a Exhausted h = ([], appends_none a, inl refl)
 
--- the report of what was read is written, or its writing stops
-pub report_written : (inputs : Inputs) (book : Workbook) (readings : List Reading) (contents : List (List Row)) (rose : Type 0) (a b : Option (List ℕ)) (r : Result Bool Stop) → view_contents inputs.book ≡ Ok contents
-    → book ≡ inputs.book → readings ≡ inputs.readings → Writes (report_of book readings) rose a b r → Reports inputs rose a b r
-report_written inputs book readings contents rose a b r is same_book same_readings w = by r (subst (λ (report : Report). Writes report rose a b r) same w)
+-- a fault of the start is that of the report
+pub not_started : (X : Type 0) (given : Inputs) (book : Workbook) (rose : Type 0) (a : Option (List ℕ)) (stop : Stop) → book ≡ given.book → Starts {X = X} book (Err stop) → Reports given rose a a (Err stop)
+not_started X given book rose a stop same starts = by stop (first_view_fault given.book) refl (subst (λ (k : Workbook). Starts {X = X} k (Err stop)) same starts)
   where
-    same : report_of book readings ≡ report_of inputs.book inputs.readings
-    same = ap (λ k. report_of k readings) same_book ∙ ap (report_of inputs.book) same_readings
+    by : (stop : Stop) (found : Option ViewFault) → first_view_fault given.book ≡ found → Starts {X = X} given.book (Err stop) → Reports given rose a a (Err stop)
+    by (At fault) None e h = absurd (cc)
+    by (At fault) (Some found) e h = (ap (unless_view_fault given) e ∙ ap (λ f. Err f) (some_is e h), appends_none a)
+      where
+        some_is : first_view_fault given.book ≡ Some found → option_map (fault_named given.book.catalog) (first_view_fault given.book) ≡ Some fault → fault_named given.book.catalog found ≡ fault
+        some_is e h = cc
+    by Unwritten found e h = absurd h
+    by Exhausted found e h = inl (appends_none a)
 
-    found : report_or_fault inputs ≡ Ok (report_of inputs.book inputs.readings)
-    found = ap (λ v. v >>= (λ c. Ok (report_of inputs.book inputs.readings))) is
+-- the report of what was read is written, or its writing stops
+pub report_written : (given : Inputs) (book : Workbook) (readings : List Reading) (rose : Type 0) (a b : Option (List ℕ)) (r : Result Counts Stop) → first_view_fault given.book ≡ None
+    → book ≡ given.book → readings ≡ given.readings → PutsPieces (report_of book readings).text rose a b r → IfOk r (λ counts. counts ≡ counts_of (report_of book readings)) → Reports given rose a b r
+report_written given book readings rose a b r none same_book same_readings w c =
+    by r (subst (λ (report : Report). PutsPieces report.text rose a b r) same w) (subst (λ (report : Report). IfOk r (λ counts. counts ≡ counts_of report)) same c)
+  where
+    same : report_of book readings ≡ report_of given.book given.readings
+    same = ap (λ k. report_of k readings) same_book ∙ ap (report_of given.book) same_readings
 
-    by : (r : Result Bool Stop) → Writes (report_of inputs.book inputs.readings) rose a b r → Reports inputs rose a b r
-    by (Ok refused) v = (report_of inputs.book inputs.readings, found, v.0, v.1)
-    by (Err (At fault)) v = absurd v
-    by (Err Unwritten) v = (report_of inputs.book inputs.readings, found, v.0, v.1)
-    by (Err Exhausted) v = inr (report_of inputs.book inputs.readings, found, v)
+    found : report_or_fault given ≡ Ok (report_of given.book given.readings)
+    found = ap (unless_view_fault given) none
+
+    by : (r : Result Counts Stop) → PutsPieces (report_of given.book given.readings).text rose a b r → IfOk r (λ counts. counts ≡ counts_of (report_of given.book given.readings)) → Reports given rose a b r
+    by (Ok counts) v c = (report_of given.book given.readings, found, v, c)
+    by (Err (At fault)) v c = absurd v
+    by (Err Unwritten) v c = (report_of given.book given.readings, found, v.0, v.1)
+    by (Err Exhausted) v c = inr (report_of given.book given.readings, found, v)
 
 -- the report is written, or there is none, or the writing stops
-pub reports : (words : List (List ℕ)) (held : Option Held) (files_rose out_rose : Type 0) (inputs : Inputs) (a b : Option (List ℕ)) (result : Result Bool Stop)
+pub reports : (words : List (List ℕ)) (held : Option Held) (files_rose out_rose : Type 0) (inputs : Inputs) (a b : Option (List ℕ)) (result : Result Counts Stop)
     → IsInputs words held inputs → Reports inputs out_rose a b result → Works words held files_rose out_rose a b result
-reports words held files_rose out_rose inputs a b (Ok refused) is w = (w.0, report_is words held inputs w.0 is w.1, w.2, w.3)
+reports words held files_rose out_rose inputs a b (Ok counts) is w = (w.0, report_is words held inputs w.0 is w.1, w.2, w.3)
 reports words held files_rose out_rose inputs a b (Err (At fault)) is w = (cause_is words held files_rose inputs fault is w.0, w.1)
 reports words held files_rose out_rose inputs a b (Err Unwritten) is w = (w.0, report_is words held inputs w.0 is w.1, w.2, w.3)
 reports words held files_rose out_rose inputs a b (Err Exhausted) is (inl nothing) = ([], nothing, inl refl)
 reports words held files_rose out_rose inputs a b (Err Exhausted) is (inr (report, ok, part)) = (part.0, part.2, inr (report, report_is words held inputs report is ok, part.1))
 
 -- the endings
-pub ends_reported : (words : List (List ℕ)) (held : Option Held) (files_rose out_rose err_rose : Type 0) (a b e : Option (List ℕ)) (refused : Bool) (status : Status)
-    → Works words held files_rose out_rose a b (Ok refused) → ((report : Report) → refused ≡ report.refused → status ≡ status_of_report report) → RunEnds words held files_rose out_rose err_rose a b e e status
-ends_reported words held files_rose out_rose err_rose a b e refused status w is =
+pub ends_reported : (words : List (List ℕ)) (held : Option Held) (files_rose out_rose err_rose : Type 0) (a b e : Option (List ℕ)) (counts : Counts) (status : Status)
+    → Works words held files_rose out_rose a b (Ok counts) → ((report : Report) → counts ≡ counts_of report → status ≡ status_of_report report) → RunEnds words held files_rose out_rose err_rose a b e e status
+ends_reported words held files_rose out_rose err_rose a b e counts status w is =
     (w.0.text, [], w.2, appends_none e, rw (is w.0 w.3) (reported w.0 w.1))
-
-pub done : (report : Report) → false ≡ report.refused → Done ≡ status_of_report report
-done report e = rw (← e) refl
-
-pub refusals : (report : Report) → true ≡ report.refused → DoneWithRefusals ≡ status_of_report report
-refusals report e = rw (← e) refl
 
 pub ends_unwritten : (words : List (List ℕ)) (held : Option Held) (files_rose out_rose err_rose : Type 0) (a b e : Option (List ℕ))
     → Works words held files_rose out_rose a b (Err Unwritten) → RunEnds words held files_rose out_rose err_rose a b e e WriteFault

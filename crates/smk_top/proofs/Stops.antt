@@ -8,7 +8,7 @@ use Rattle.smk_base.specs.declared.fault.Fault.TheVariants.{Usage, Book, Types, 
 use Rattle.smk_outside.specs.Outside.{Rose}
 use Rattle.smk_model.specs.Values.{Row}
 use Rattle.smk_model.specs.Readings.{Reading}
-use Rattle.smk_model.specs.Outcome.{Held, Words, Inputs, words_of, OpensBook, OpensScript, unusable, no_book, no_tables, no_readings, inputs, the_book, a_table, the_script, HasCause}
+use Rattle.smk_model.specs.Outcome.{Held, Words, Inputs, words_of, book_of, script_of, OpensBook, OpensScript, unusable, no_book, no_tables, no_readings, inputs, the_book, a_table, the_script, HasCause}
 use Rattle.smk_top.specs.declared.stop.Stop.{Stop}
 use Rattle.smk_top.specs.declared.stop.Stop.TheVariants.{At, Unwritten, Exhausted}
 use Rattle.smk_top.specs.Reading.{Reads, Loads, unread_among, UntoldCause, IsInputs, HasReadCause, ReadsAll, IsAt}
@@ -59,7 +59,7 @@ unusable_words words None rose none = none
 
 -- the book
 pub book_stops : {X Y : Type 0} (image : X → CatalogImage) (whole : Y → Inputs) (words : List (List ℕ)) (w : Words) (held : Option Held) (rose : Type 0) (stop : Stop)
-    → words_of words ≡ Some w → Reads held rose w.book (λ h. OpensBook h w.book) image (Err stop) → ReadsAll {X = Y} words held rose whole (Err stop)
+    → words_of words ≡ Some w → Reads held rose (book_of w) (λ h. OpensBook h (book_of w)) image (Err stop) → ReadsAll {X = Y} words held rose whole (Err stop)
 book_stops image whole words w (Some held) rose (At fault) is (inl err) = inl (no_book is err)
 book_stops image whole words w (Some held) rose (At fault) is (inr (up, name)) = inr (up, rw name (the_book is))
 book_stops image whole words w (Some held) rose Unwritten is h = h
@@ -71,7 +71,7 @@ book_stops image whole words w None rose Exhausted is h = tt
 -- the tables
 pub tables_stop : {X Y Z : Type 0} (image : X → CatalogImage) (rows : Z → List (List Row)) (whole : Y → Inputs) (words : List (List ℕ)) (w : Words) (book : X) (held : Option Held) (rose_before rose_here rose : Type 0) (stop : Stop)
     → words_of words ≡ Some w → (rose_here → rose)
-    → Reads held rose_before w.book (λ h. OpensBook h w.book) image (Ok book)
+    → Reads held rose_before (book_of w) (λ h. OpensBook h (book_of w)) image (Ok book)
     → Loads held rose_here (image book).tables rows (Err stop) → ReadsAll {X = Y} words held rose whole (Err stop)
 tables_stop image rows whole words w book (Some held) rose_before rose_here rose (At fault) is wide ok (inl err) = inl (no_tables is ok err)
 tables_stop image rows whole words w book (Some held) rose_before rose_here rose (At fault) is wide ok (inr (up, unread_among before table behind are loaded name)) = inr (wide up, rw name (a_table before table behind is ok are loaded))
@@ -85,9 +85,9 @@ tables_stop image rows whole words w book None rose_before rose_here rose Exhaus
 pub script_stops : {X Y Z V : Type 0} (image : X → CatalogImage) (rows : Z → List (List Row)) (readings : V → List Reading) (whole : Y → Inputs) (words : List (List ℕ)) (w : Words) (book : X) (tables : Z)
     (held : Option Held) (rose_first rose_second rose_here rose : Type 0) (stop : Stop)
     → words_of words ≡ Some w → (rose_here → rose)
-    → Reads held rose_first w.book (λ h. OpensBook h w.book) image (Ok book)
+    → Reads held rose_first (book_of w) (λ h. OpensBook h (book_of w)) image (Ok book)
     → Loads held rose_second (image book).tables rows (Ok tables)
-    → (script : Option (List ℕ)) → w.script ≡ script
+    → (script : Option (List ℕ)) → (script_of w) ≡ script
     → Reads held rose_here (unwrap_or script []) (λ h. OpensScript h script) readings (Err stop) → (IsNone script → IsAt {X = V} (Err stop) → ⊥)
     → ReadsAll {X = Y} words held rose whole (Err stop)
 script_stops image rows readings whole words w book tables (Some held) r1 r2 r3 rose (At fault) is wide ok fine script same (inl err) some = inl (no_readings is ok fine (rw same err))
@@ -103,9 +103,9 @@ script_stops image rows readings whole words w book tables None r1 r2 r3 rose Ex
 pub all_read : {X Z V : Type 0} (image : X → CatalogImage) (rows : Z → List (List Row)) (readings : V → List Reading) (words : List (List ℕ)) (w : Words) (book : X) (tables : Z) (script : V)
     (held : Option Held) (rose_first rose_second rose_third : Type 0)
     → words_of words ≡ Some w
-    → Reads held rose_first w.book (λ h. OpensBook h w.book) image (Ok book)
+    → Reads held rose_first (book_of w) (λ h. OpensBook h (book_of w)) image (Ok book)
     → Loads held rose_second (image book).tables rows (Ok tables)
-    → Reads held rose_third (unwrap_or w.script []) (λ h. OpensScript h w.script) readings (Ok script)
+    → Reads held rose_third (unwrap_or (script_of w) []) (λ h. OpensScript h (script_of w)) readings (Ok script)
     → IsInputs words held (record { book = record { catalog = image book; tables = rows tables }; readings = readings script })
 all_read image rows readings words w book tables script (Some held) r1 r2 r3 is ok fine read = inputs is ok fine read
 all_read image rows readings words w book tables script None r1 r2 r3 is ok fine read = some_words words w is

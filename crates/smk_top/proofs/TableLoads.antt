@@ -18,7 +18,13 @@ use Rattle.smk_top.specs.declared.stop.Stop.TheVariants.{At, Unwritten, Exhauste
 use Rattle.smk_top.specs.Reading.{Reads, Loads, unread_among}
 use Rattle.smk_model.proofs.Places.{map_map}
 use Rattle.smk_top.proofs.Stops.{untold_within}
-use Rattle.smk_top.proofs.ViewParts.{first_then}
+
+-- the values of which there are all
+first_then : {A E : Type 0} (r : Result A E) (rest : Result (List A) E) (all : List A) → ◌>>=◌ r (λ x. ◌>>=◌ rest (λ xs. Ok (x ∷ xs))) ≡ Ok all
+    → (y : A) × (ys : List A) × (r ≡ Ok y) × (rest ≡ Ok ys) × (all ≡ y ∷ ys)
+first_then (Ok y) (Ok ys) all h = (y, ys, refl, refl, cc)
+first_then (Ok y) (Err e) all h = cc
+first_then (Err e) rest all h = cc
 
 -- all values up to one, and that one, or the fault in its place
 then_value : {A E : Type 0} (rs : List (Result A E)) (r : Result A E) (xs : List A) (x : A) → all_or_first rs ≡ Ok xs → r ≡ Ok x → all_or_first (rs ++ r ∷ []) ≡ Ok (xs ++ x ∷ [])

@@ -1,16 +1,18 @@
 -- How a run may end: its status, what it has appended to `out`, and what to `err`.
-use Rattle.std.specs.Prelude.{◌≡◌, ◌⊎◌, ℕ, Bool, List, [], Option, Result, Ok, Err}
+use Rattle.std.specs.Prelude.{◌≡◌, ◌⊎◌, ℕ, List, [], Option, Result, Ok, Err}
 use Rattle.smk_base.specs.declared.fault.Fault.{Fault}
 use Rattle.smk_model.specs.FaultTexts.{fault_text}
 use Rattle.smk_model.specs.Texts.{no_memory_text}
 use Rattle.smk_model.specs.Reports.{Report}
 use Rattle.smk_model.specs.Outcome.{Held, Inputs, IsReport, HasCause, reported as report_or_fault}
 use Rattle.smk_outside.specs.Outside.{IsPrefix, Appends, AppendsPart}
+use Rattle.smk_top.specs.declared.counts.Counts.{Counts}
 use Rattle.smk_top.specs.declared.stop.Stop.{Stop}
 use Rattle.smk_top.specs.declared.stop.Stop.TheVariants.{At, Unwritten, Exhausted}
 use Rattle.smk_top.specs.declared.status.Status.{Status}
 use Rattle.smk_top.specs.declared.status.Status.TheVariants.{WriteFault, NoMemory}
 use Rattle.smk_top.specs.Statuses.{status_of_report, status_of_fault}
+use Rattle.smk_top.specs.Writing.{counts_of}
 
 -- nothing, or the front of a report of the run
 abbrev pub IsBegun : List (List ℕ) → Option Held → List ℕ → Type 0
@@ -39,16 +41,16 @@ abbrev pub RunEnds : List (List ℕ) → Option Held → Type 0 → Type 0 → T
 RunEnds words held files_rose out_rose err_rose out_before out_after err_before err_after status =
     (told : List ℕ) × (said : List ℕ) × Appends out_before out_after told × Appends err_before err_after said × Ends words held files_rose out_rose err_rose status told said
 
--- what the work of a run comes to, before anything is said: a report, whether a line of it is refused; or why it stops
-abbrev pub Works : List (List ℕ) → Option Held → Type 0 → Type 0 → Option (List ℕ) → Option (List ℕ) → Result Bool Stop → Type 0
-Works words held files_rose out_rose before after (Ok refused) = (report : Report) × IsReport words held report × Appends before after report.text × (refused ≡ report.refused)
+-- what the work of a run comes to, before anything is said: a report and its counts; or why it stops
+abbrev pub Works : List (List ℕ) → Option Held → Type 0 → Type 0 → Option (List ℕ) → Option (List ℕ) → Result Counts Stop → Type 0
+Works words held files_rose out_rose before after (Ok counts) = (report : Report) × IsReport words held report × Appends before after report.text × (counts ≡ counts_of report)
 Works words held files_rose out_rose before after (Err (At fault)) = HasCause words held files_rose fault × Appends before after []
 Works words held files_rose out_rose before after (Err Unwritten) = (report : Report) × IsReport words held report × AppendsPart before after report.text × out_rose
 Works words held files_rose out_rose before after (Err Exhausted) = (told : List ℕ) × Appends before after told × IsBegun words held told
 
--- the report of what was read, or the view with too many rows; nothing is written before all views are evaluated
-abbrev pub Reports : Inputs → Type 0 → Option (List ℕ) → Option (List ℕ) → Result Bool Stop → Type 0
-Reports inputs rose before after (Ok refused) = (report : Report) × (report_or_fault inputs ≡ Ok report) × Appends before after report.text × (refused ≡ report.refused)
+-- the report of what was read, or the first fault of a view; nothing is written before all views are evaluated
+abbrev pub Reports : Inputs → Type 0 → Option (List ℕ) → Option (List ℕ) → Result Counts Stop → Type 0
+Reports inputs rose before after (Ok counts) = (report : Report) × (report_or_fault inputs ≡ Ok report) × Appends before after report.text × (counts ≡ counts_of report)
 Reports inputs rose before after (Err (At fault)) = (report_or_fault inputs ≡ Err fault) × Appends before after []
 Reports inputs rose before after (Err Unwritten) = (report : Report) × (report_or_fault inputs ≡ Ok report) × AppendsPart before after report.text × rose
 Reports inputs rose before after (Err Exhausted) = Appends before after [] ⊎ ((report : Report) × (report_or_fault inputs ≡ Ok report) × AppendsPart before after report.text)

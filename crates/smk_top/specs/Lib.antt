@@ -1,7 +1,7 @@
 pub mod Image
-pub mod Passing
 pub mod Loaded
 pub mod Statuses
 pub mod Endings
 pub mod Reading
 pub mod Writing
+pub mod Completeness

@@ -1,5 +1,5 @@
 -- What the steps of a run say before anything is written.
-use Rattle.std.specs.Prelude.{◌≡◌, ◌≢◌, ◌⊎◌, ◌≤◌, ◌+◌, ℕ, List, ◌∷◌, ◌++◌, Option, Some, None, Result, Ok, Err, IsTrue}
+use Rattle.std.specs.Prelude.{◌≡◌, ◌≢◌, ◌⊎◌, ◌≤◌, ◌+◌, ℕ, List, ◌∷◌, ◌++◌, Option, Some, None, option_map, Result, Ok, Err, IsTrue}
 use Rattle.std.specs.List.{list_all}
 use Rattle.smk_base.specs.declared.fault.Fault.{Fault}
 use Rattle.smk_base.specs.declared.fault.Fault.TheVariants.{Usage, Unread}
@@ -8,8 +8,9 @@ use Rattle.smk_model.specs.Values.{Row}
 use Rattle.smk_model.specs.FaultTexts.{IsSaid}
 use Rattle.smk_model.specs.Forms.{is_reading_answered}
 use Rattle.smk_model.specs.Readings.{Reading}
-use Rattle.smk_model.specs.Looks.{run_looks}
-use Rattle.smk_model.specs.Outcome.{Held, Inputs, ReadsInputs, NamesRead, words_of, load_all, HasCause}
+use Rattle.smk_model.specs.Session.{Workbook}
+use Rattle.smk_model.specs.Opening.{first_view_fault, fault_named}
+use Rattle.smk_model.specs.Outcome.{Held, Inputs, ReadsInputs, NamesRead, words_of, load_all, HasCause, run_looks}
 use Rattle.smk_top.specs.declared.stop.Stop.{Stop}
 use Rattle.smk_top.specs.declared.stop.Stop.TheVariants.{At, Unwritten, Exhausted}
 
@@ -68,6 +69,13 @@ ReadsAll words held rose image (Ok x) = IsInputs words held (image x)
 ReadsAll words held rose image (Err (At fault)) = HasReadCause words held rose fault
 ReadsAll words held rose image (Err Unwritten) = ⊥
 ReadsAll words held rose image (Err Exhausted) = Unit {0}
+
+-- no view has a fault, or it is the first one; or memory is wanting
+abbrev pub Starts : {X : Type 0} → Workbook → Result X Stop → Type 0
+Starts book (Ok x) = first_view_fault book ≡ None
+Starts book (Err (At fault)) = option_map (fault_named book.catalog) (first_view_fault book) ≡ Some fault
+Starts book (Err Unwritten) = ⊥
+Starts book (Err Exhausted) = Unit {0}
 
 -- no look was made, or at most those of a run that reads such inputs
 abbrev pub RunLooks : List (List ℕ) → Option Held → ℕ → ℕ → Type 0

@@ -2,7 +2,7 @@
 use Rattle.std.specs.Prelude.{ℕ, cond}
 use Rattle.smk_base.specs.declared.fault.Fault.{Fault}
 use Rattle.smk_base.specs.declared.fault.Fault.TheVariants as faults
-use Rattle.smk_model.specs.Reports.{Report}
+use Rattle.smk_model.specs.Reports.{Report, is_turned_down}
 use Rattle.smk_top.specs.declared.status.Status.{Status}
 use Rattle.smk_top.specs.declared.status.Status.TheVariants.{Done, DoneWithRefusals, Usage, BadBook, BadTable, Limit, ReadFault, WriteFault, NoMemory}
 
@@ -19,7 +19,7 @@ code_of NoMemory = 8
 
 -- the status of a whole report
 abbrev pub status_of_report : Report → Status
-status_of_report report = cond report.refused DoneWithRefusals Done
+status_of_report report = cond (is_turned_down report) DoneWithRefusals Done
 
 -- the status of a fault
 abbrev pub status_of_fault : Fault → Status

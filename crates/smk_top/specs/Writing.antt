@@ -1,16 +1,10 @@
--- What the steps of reporting say of what was written.
-use Rattle.std.specs.Prelude.{◌≡◌, ℕ, Bool, List, Option, Result, Ok, Err}
-use Rattle.smk_model.specs.Reports.{Report}
+-- What the steps of reporting say of what was written and counted.
+use Rattle.std.specs.Prelude.{ℕ, List, Option, Result, Ok, Err}
+use Rattle.smk_model.specs.Reports.{Told, Report}
 use Rattle.smk_outside.specs.Outside.{Appends, AppendsPart}
+use Rattle.smk_top.specs.declared.counts.Counts.{Counts}
 use Rattle.smk_top.specs.declared.stop.Stop.{Stop}
 use Rattle.smk_top.specs.declared.stop.Stop.TheVariants.{At, Unwritten, Exhausted}
-
--- the report was appended whole, and whether a line was refused is told; or a part of it, where `out` failed or memory was wanting
-abbrev pub Writes : Report → Type 0 → Option (List ℕ) → Option (List ℕ) → Result Bool Stop → Type 0
-Writes report rose before after (Ok refused) = Appends before after report.text × (refused ≡ report.refused)
-Writes report rose before after (Err (At fault)) = ⊥
-Writes report rose before after (Err Unwritten) = AppendsPart before after report.text × rose
-Writes report rose before after (Err Exhausted) = AppendsPart before after report.text
 
 -- the text was appended, or a part of it where `out` failed
 abbrev pub Puts : {X : Type 0} → List ℕ → Type 0 → Option (List ℕ) → Option (List ℕ) → Result X Stop → Type 0
@@ -25,3 +19,10 @@ PutsPieces text rose before after (Ok x) = Appends before after text
 PutsPieces text rose before after (Err (At fault)) = ⊥
 PutsPieces text rose before after (Err Unwritten) = AppendsPart before after text × rose
 PutsPieces text rose before after (Err Exhausted) = AppendsPart before after text
+
+-- the counts of what lines come to, and of a report
+abbrev pub counts_told : Told → Counts
+counts_told told = record { replies = told.replies; refused = told.refused; unread = told.unread }
+
+abbrev pub counts_of : Report → Counts
+counts_of report = record { replies = report.replies; refused = report.refused; unread = report.unread }

@@ -1,8 +1,6 @@
 // What a run reads.
 ghost use Rattle.std.specs.Prelude.{◌≡◌, map};
-ghost use Rattle.smk_base.specs.CatalogImage.{catalog_image};
 ghost use Rattle.smk_model.specs.Catalogs.{each_table_kinds};
-ghost use Rattle.smk_model.specs.Forms.{IsBookAnswered};
 ghost use Rattle.smk_model.specs.Selection.{each_kinds};
 ghost use Rattle.smk_top.specs.Image.{reading_image};
 ghost use Rattle.smk_top.specs.Reading.{AreAnswered};
@@ -18,6 +16,5 @@ pub struct Inputs {
     pub tables: Vec<Table>,
     pub readings: Vec<Reading>,
     ghost kinds: { each_kinds tables.items ≡ each_table_kinds book.tables },
-    ghost answered: { IsBookAnswered (catalog_image book) },
     ghost lines: { AreAnswered (map reading_image readings.items) },
 }

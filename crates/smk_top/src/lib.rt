@@ -1,23 +1,22 @@
 //! The top call of Smoke: a run, from its words to its report.
 #![tactic(auto)]
 
-mod answers;
+mod counts;
 mod files;
 mod forms;
 mod inputs;
+mod laws;
 mod loading;
 mod opening;
-mod passed;
 mod program;
 mod reading;
 mod reporting;
 mod script;
-mod session;
 mod starting;
 mod status;
 mod stop;
-mod views;
 mod words;
 
+pub use laws::completeness;
 pub use program::run;
 pub use status::Status;

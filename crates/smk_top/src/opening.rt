@@ -5,7 +5,6 @@ ghost use Rattle.smk_base.specs.CatalogImage.{catalog_image};
 ghost use Rattle.smk_base.specs.Marks.{after_marks};
 ghost use Rattle.smk_model.specs.Limits.{KeepsLimits};
 ghost use Rattle.smk_model.specs.Typing.{types};
-ghost use Rattle.smk_model.specs.Forms as forms;
 ghost use Rattle.smk_model.specs.Outcome as outcomes;
 ghost use Rattle.smk_outside.specs.Outside.{Rose};
 ghost use Rattle.smk_top.specs.Reading.{Answers, Reads, IsSayable};
@@ -65,7 +64,6 @@ fn book_of(alloc: Global, name: &Text, bytes: &[u8]) -> Result<TypedBook, Stop>
 pub fn open_book<F: Files>(alloc: Global, files: &mut F, name: &Text) -> Result<TypedBook, Stop>
     ensures read { Reads (F.held files.old) (Rose (F.faults files.old) (F.faults files.new)) name.now
         (λ held. outcomes.OpensBook held name.now) catalog_image result }
-    ensures answered { IfOk result (λ book. forms.IsBookAnswered (catalog_image book)) }
     ensures said { IsSayable result }
     ensures held { F.held files.new ≡ F.held files.old }
     ensures later { F.faults files.old ≤ F.faults files.new }

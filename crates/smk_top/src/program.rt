@@ -1,12 +1,15 @@
 ghost use Rattle.std.specs.Prelude.{◌≡◌, ◌≤◌, ◌+◌, map};
 ghost use Rattle.smk_model.specs.FaultTexts.{IsSaid};
 ghost use Rattle.smk_outside.specs.Outside.{Rose};
-ghost use Rattle.smk_top.specs.Statuses.{status_of_fault};
+ghost use Rattle.smk_model.specs.Reports.{Report};
+ghost use Rattle.smk_top.specs.Statuses.{status_of_fault, status_of_report};
+ghost use Rattle.smk_top.specs.Writing.{counts_of};
 ghost use Rattle.smk_top.specs.Endings.{RunEnds, Works, Reports, SaysFault, SaysMemory};
 ghost use Rattle.smk_top.specs.Loaded.{inputs_image};
 ghost use Rattle.smk_top.specs.Reading.{AreAnswered, IsSayable, RunLooks};
-ghost use Rattle.smk_model.specs.Looks.{run_looks};
+ghost use Rattle.smk_model.specs.Outcome.{run_looks};
 
+use crate::counts::Counts;
 use crate::inputs::Inputs;
 use crate::reading::read_all;
 use crate::reporting::write_report;
@@ -31,6 +34,17 @@ fn status_of(fault: &Fault) -> Status
         Fault::FileLong { .. } | Fault::TableRows { .. } => Status::Limit,
         Fault::ViewRows { .. } | Fault::ViewPairs { .. } => Status::Limit,
         Fault::Unread { .. } => Status::ReadFault,
+    }
+}
+
+// The status of a whole report with these counts.
+fn status_of_counts(counts: Counts) -> Status
+    ensures { (report : Report) → counts ≡ counts_of report → result ≡ status_of_report report }
+{
+    if counts.refused > 0 || counts.unread > 0 {
+        Status::DoneWithRefusals
+    } else {
+        Status::Done
     }
 }
 
@@ -60,14 +74,15 @@ fn say_fault<E: Sink>(alloc: Global, fault: &Fault, err: &mut E) -> Status
     }
 }
 
-// Evaluates the views of what was read, and writes the report. It tells whether a line is refused or unread.
-fn report<R: Threads + Sync, O: Sink, L: Ledger>(
+// Evaluates the views of what was read, and writes the report. It tells the counts of its lines.
+fn report<R: Threads + Sync, G: Gate + Sync, O: Sink, L: Ledger>(
     rt: &R,
     alloc: Global,
     inputs: Inputs,
+    gate: &G,
     out: &mut O,
     steps: &mut Steps<L>,
-) -> Result<bool, Stop>
+) -> Result<Counts, Stop>
     requires { AreAnswered (inputs_image inputs).readings }
     ensures works { Reports (inputs_image inputs) (Rose (O.faults out.old) (O.faults out.new)) (O.written out.old) (O.written out.new) result }
     ensures said { IsSayable result }
@@ -79,19 +94,28 @@ fn report<R: Threads + Sync, O: Sink, L: Ledger>(
         tables,
         readings,
     } = inputs;
-    let session = start(rt, alloc, book, tables, steps)?;
-    write_report(alloc, &session, readings.as_slice(), out, steps)
+    let mut session = start(rt, alloc, book, tables, gate, steps)?;
+    write_report(
+        rt,
+        alloc,
+        &mut session,
+        readings.as_slice(),
+        gate,
+        out,
+        steps,
+    )
 }
 
-// Reads what the words name, and writes the report. It tells whether a line is refused or unread.
-fn work<R: Threads + Sync, F: Files, O: Sink, L: Ledger>(
+// Reads what the words name, and writes the report. It tells the counts of its lines.
+fn work<R: Threads + Sync, F: Files, O: Sink, G: Gate + Sync, L: Ledger>(
     rt: &R,
     alloc: Global,
     words: &[&str],
     files: &mut F,
     out: &mut O,
+    gate: &G,
     steps: &mut Steps<L>,
-) -> Result<bool, Stop>
+) -> Result<Counts, Stop>
     ensures works { Works (map (λ w. w.now) words.entry.now) (F.held files.old) (Rose (F.faults files.old) (F.faults files.new)) (Rose (O.faults out.old) (O.faults out.new)) (O.written out.old) (O.written out.new) result }
     ensures said { IsSayable result }
     ensures held { F.held files.new ≡ F.held files.old }
@@ -100,7 +124,7 @@ fn work<R: Threads + Sync, F: Files, O: Sink, L: Ledger>(
     ensures looks { RunLooks (map (λ w. w.now) words.entry.now) (F.held files.old) steps.old steps.new }
 {
     let inputs = read_all(alloc, words, files)?;
-    report(rt, alloc, inputs, out, steps)
+    report(rt, alloc, inputs, gate, out, steps)
 }
 
 /// A run of Smoke. Its `words` are those after the program's name: a book's file name, and a script's where there is one.
@@ -108,8 +132,8 @@ fn work<R: Threads + Sync, F: Files, O: Sink, L: Ledger>(
 /// It reads the book, the book's tables and the script from `files`, evaluates the views, and writes to `out` the text of each view and then
 /// of the reply to each line of the script; where there is a fault, it writes nothing to `out` and one line to `err`. How it may end is
 /// `RunEnds`: what is written is the report of the words and of what the files hold, in which each view is its plan's plain meaning, each
-/// declared backward answer is what the annotated meaning relates, and exactly the undeclared queries are refused as undeclared; any other
-/// ending has its cause. Only want of memory has none.
+/// declared backward and forward answer is what the annotated meaning relates, and exactly the undeclared queries are refused as undeclared;
+/// any other ending has its cause. Only want of memory has none. `completeness` says when the report is whole.
 pub fn run<R: Threads + Sync, F: Files, O: Sink, E: Sink, G: Gate + Sync, L: Ledger>(
     rt: &R,
     alloc: Global,
@@ -117,7 +141,7 @@ pub fn run<R: Threads + Sync, F: Files, O: Sink, E: Sink, G: Gate + Sync, L: Led
     files: &mut F,
     out: &mut O,
     err: &mut E,
-    _gate: &G,
+    gate: &G,
     steps: &mut Steps<L>,
 ) -> Status
     ensures ends { RunEnds (map (λ w. w.now) words.entry.now) (F.held files.old)
@@ -129,9 +153,8 @@ pub fn run<R: Threads + Sync, F: Files, O: Sink, E: Sink, G: Gate + Sync, L: Led
     ensures err_later { E.faults err.old ≤ E.faults err.new }
     ensures looks { RunLooks (map (λ w. w.now) words.entry.now) (F.held files.old) steps.old steps.new }
 {
-    match work(rt, alloc, words, files, out, steps) {
-        Ok(false) => Status::Done,
-        Ok(true) => Status::DoneWithRefusals,
+    match work(rt, alloc, words, files, out, gate, steps) {
+        Ok(counts) => status_of_counts(counts),
         Err(Stop::At(fault)) => say_fault(alloc, &fault, err),
         Err(Stop::Unwritten) => Status::WriteFault,
         Err(Stop::Exhausted) => say_no_memory(err),

@@ -1,27 +1,26 @@
 // The report of a run, text by text.
-ghost use Rattle.std.specs.Prelude.{◌≡◌, ◌≤◌, ◌<◌, ◌+◌, length, map, IfOk, IfSome, IfNone, IsTrue};
-ghost use Rattle.std.specs.List.{list_any};
+ghost use Rattle.std.specs.Prelude.{◌≡◌, ◌≤◌, ◌<◌, ◌+◌, length, map, IfOk, IsTrue};
 ghost use Rattle.smk_base.specs.CatalogImage.{catalog_image};
-ghost use Rattle.smk_model.specs.Forms.{is_reading_answered};
-ghost use Rattle.smk_model.specs.Readings.{Nothing};
-ghost use Rattle.smk_model.specs.Session as sessions;
+ghost use Rattle.smk_model.specs.Forms.{is_line_answered, is_reading_answered};
+ghost use Rattle.smk_model.specs.Readings as readings;
 ghost use Rattle.smk_model.specs.Reports as reports;
-ghost use Rattle.smk_model.specs.Looks.{line_looks, lines_looks};
+ghost use Rattle.smk_model.specs.Session.{view_at};
 ghost use Rattle.smk_outside.specs.Outside.{Rose};
+ghost use Rattle.smk_session.specs.Sessions.{state_of, workbook_of};
 ghost use Rattle.smk_top.specs.Image.{reading_image};
-ghost use Rattle.smk_top.specs.Loaded.{session_image};
 ghost use Rattle.smk_top.specs.Reading.{AreAnswered};
-ghost use Rattle.smk_top.specs.Writing.{Puts, PutsPieces, Writes};
+ghost use Rattle.smk_top.specs.Writing.{Puts, PutsPieces, counts_told, counts_of};
 
-use crate::answers::answer;
+use crate::counts::Counts;
 use crate::script::Reading;
-use crate::session::Session;
 use crate::stop::Stop;
-use smk_base::Reply;
-use smk_outside::{Sink, Steps};
+use smk_base::Line;
+use smk_outside::{Gate, Sink, Steps};
 use smk_report::{bad_line_text, reply_text, view_text};
+use smk_session::{Session, has_refused};
 use std::alloc::{AllocError, Global};
 use std::sync::ledger::Ledger;
+use std::thread::Threads;
 
 // Writes a text.
 fn put<O: Sink>(out: &mut O, text: &[u8]) -> Result<(), Stop>
@@ -35,105 +34,147 @@ fn put<O: Sink>(out: &mut O, text: &[u8]) -> Result<(), Stop>
 }
 
 // The text of the view with this number.
-fn text_of_view(alloc: Global, session: &Session, number: usize) -> Result<Vec<u8>, AllocError>
-    requires { number < length session.now.views.items }
-    ensures { IfOk result (λ text. text.items ≡ reports.text_of_view (session_image session.now) (sessions.view_at (catalog_image session.now.book) number)) }
+fn text_of_view(alloc: Global, session: &Session, number: u32) -> Result<Vec<u8>, AllocError>
+    requires { number < length session.now.catalog.views }
+    ensures { IfOk result (λ text. text.items ≡ reports.text_of_view (workbook_of session.now) (view_at (catalog_image session.now.catalog) number)) }
 {
-    let view = &session.book.catalog().views.as_slice()[number];
-    view_text(alloc, &view.name, &view.names, &session.views[number])
+    let view = &session.catalog().views.as_slice()[number as usize];
+    view_text(alloc, &view.name, &view.names, session.first(number))
 }
 
 // Writes the texts of all views, in the book's order.
 fn write_views<O: Sink>(alloc: Global, session: &Session, out: &mut O) -> Result<(), Stop>
-    ensures written { PutsPieces (reports.views_text (session_image session.now) (catalog_image session.now.book).views)
+    ensures written { PutsPieces (reports.views_text (workbook_of session.now))
         (Rose (O.faults out.old) (O.faults out.new)) (O.written out.old) (O.written out.new) result }
     ensures later { O.faults out.old ≤ O.faults out.new }
 {
-    for number in 0..session.views.len() {
+    for number in 0..session.catalog().views.as_slice().len() as u32 {
         let text = text_of_view(alloc, session, number)?;
         put(out, text.as_slice())?;
     }
     Ok(())
 }
 
-// Whether a reply is a refusal.
-fn has_refused(reply: &Reply) -> bool
-    ensures { result ≡ sessions.is_refused reply.now }
-{
-    match reply {
-        Reply::Refused(_) => true,
-        _ => false,
-    }
-}
-
-// The text of the line with this number, and whether it is refused or unread; None where it says nothing.
-fn text_of_reading<L: Ledger>(
+// Writes the text of the reply to a line.
+fn write_reply<R: Threads + Sync, G: Gate + Sync, O: Sink, L: Ledger>(
+    rt: &R,
     alloc: Global,
-    session: &Session,
-    number: u64,
-    reading: &Reading,
-    steps: &mut Steps<L>,
-) -> Result<Option<(Vec<u8>, bool)>, AllocError>
-    requires { IsTrue (is_reading_answered (reading_image reading.now)) }
-    ensures told { IfOk result (λ told. IfSome told (λ p. (p.0.items ≡ reports.text_of_reading (session_image session.now) number (reading_image reading.now))
-        × (p.1 ≡ reports.is_turned_down (session_image session.now) (reading_image reading.now)))) }
-    ensures nothing { IfOk result (λ told. IfNone told (reading_image reading.now ≡ Nothing)) }
-    ensures looks { steps.new ≤ steps.old + line_looks (session_image session.now) (reading_image reading.now) }
-{
-    match reading {
-        Reading::Nothing => Ok(None),
-        Reading::Asks(line) => {
-            let reply = answer(alloc, session, line, steps)?;
-            let text = reply_text(alloc, session.book.catalog(), line, &reply)?;
-            Ok(Some((text, has_refused(&reply))))
-        }
-        Reading::Unread(at) => Ok(Some((bad_line_text(alloc, number, *at)?, true))),
-    }
-}
-
-// Writes the texts of the lines, in order, and tells whether one is refused or unread.
-fn write_readings<O: Sink, L: Ledger>(
-    alloc: Global,
-    session: &Session,
-    readings: &[Reading],
+    session: &mut Session,
+    line: &Line,
+    gate: &G,
     out: &mut O,
     steps: &mut Steps<L>,
-) -> Result<bool, Stop>
-    requires { AreAnswered (map reading_image readings.now) }
-    ensures written { Writes (record {
-      text = reports.readings_text (session_image session.now) 1 (map reading_image readings.now);
-      refused = list_any (reports.is_turned_down (session_image session.now)) (map reading_image readings.now);
-    })
+) -> Result<Counts, Stop>
+    requires { IsTrue (is_line_answered line.now) }
+    ensures written { PutsPieces (reports.line_told (catalog_image session.old.catalog) (state_of session.old) 0 (readings.Asks line.now)).text
         (Rose (O.faults out.old) (O.faults out.new)) (O.written out.old) (O.written out.new) result }
+    ensures counts { IfOk result (λ counts. counts ≡ counts_told (reports.line_told (catalog_image session.old.catalog) (state_of session.old) 0 (readings.Asks line.now))) }
+    ensures after { IfOk result (λ counts. state_of session.new ≡ reports.state_after (catalog_image session.old.catalog) (state_of session.old) (readings.Asks line.now)) }
+    ensures book { session.new.catalog ≡ session.old.catalog }
     ensures later { O.faults out.old ≤ O.faults out.new }
-    ensures looks { steps.new ≤ steps.old + lines_looks (session_image session.now) (map reading_image readings.now) }
+    ensures looks { steps.new ≤ steps.old + (reports.line_told (catalog_image session.old.catalog) (state_of session.old) 0 (readings.Asks line.now)).looks }
 {
-    let mut turned_down = false;
+    let reply = session.answer(rt, alloc, line, gate, steps)?;
+    let text = reply_text(alloc, session.catalog(), line, &reply)?;
+    put(out, text.as_slice())?;
+    Ok(Counts {
+        replies: 1,
+        refused: if has_refused(&reply) { 1 } else { 0 },
+        unread: 0,
+    })
+}
+
+// Writes the text of the line with this number, where it has one.
+fn write_line<R: Threads + Sync, G: Gate + Sync, O: Sink, L: Ledger>(
+    rt: &R,
+    alloc: Global,
+    session: &mut Session,
+    number: u64,
+    reading: &Reading,
+    gate: &G,
+    out: &mut O,
+    steps: &mut Steps<L>,
+) -> Result<Counts, Stop>
+    requires { IsTrue (is_reading_answered (reading_image reading.now)) }
+    ensures written { PutsPieces (reports.line_told (catalog_image session.old.catalog) (state_of session.old) number (reading_image reading.now)).text
+        (Rose (O.faults out.old) (O.faults out.new)) (O.written out.old) (O.written out.new) result }
+    ensures counts { IfOk result (λ counts. counts ≡ counts_told (reports.line_told (catalog_image session.old.catalog) (state_of session.old) number (reading_image reading.now))) }
+    ensures after { IfOk result (λ counts. state_of session.new ≡ reports.state_after (catalog_image session.old.catalog) (state_of session.old) (reading_image reading.now)) }
+    ensures book { session.new.catalog ≡ session.old.catalog }
+    ensures later { O.faults out.old ≤ O.faults out.new }
+    ensures looks { steps.new ≤ steps.old + (reports.line_told (catalog_image session.old.catalog) (state_of session.old) number (reading_image reading.now)).looks }
+{
+    match reading {
+        Reading::Nothing => Ok(Counts {
+            replies: 0,
+            refused: 0,
+            unread: 0,
+        }),
+        Reading::Asks(line) => write_reply(rt, alloc, session, line, gate, out, steps),
+        Reading::Unread(at) => {
+            let text = bad_line_text(alloc, number, *at)?;
+            put(out, text.as_slice())?;
+            Ok(Counts {
+                replies: 0,
+                refused: 0,
+                unread: 1,
+            })
+        }
+    }
+}
+
+// Writes the texts of the lines, in order, and counts them.
+fn write_lines<R: Threads + Sync, G: Gate + Sync, O: Sink, L: Ledger>(
+    rt: &R,
+    alloc: Global,
+    session: &mut Session,
+    readings: &[Reading],
+    gate: &G,
+    out: &mut O,
+    steps: &mut Steps<L>,
+) -> Result<Counts, Stop>
+    requires { AreAnswered (map reading_image readings.now) }
+    ensures written { PutsPieces (reports.lines_told (catalog_image session.old.catalog) (state_of session.old) 1 (map reading_image readings.now)).text
+        (Rose (O.faults out.old) (O.faults out.new)) (O.written out.old) (O.written out.new) result }
+    ensures counts { IfOk result (λ counts. counts ≡ counts_told (reports.lines_told (catalog_image session.old.catalog) (state_of session.old) 1 (map reading_image readings.now))) }
+    ensures later { O.faults out.old ≤ O.faults out.new }
+    ensures looks { steps.new ≤ steps.old + (reports.lines_told (catalog_image session.old.catalog) (state_of session.old) 1 (map reading_image readings.now)).looks }
+{
+    let mut counts = Counts {
+        replies: 0,
+        refused: 0,
+        unread: 0,
+    };
     let mut number = 0;
     for reading in readings {
         number += 1;
-        if let Some((text, down)) = text_of_reading(alloc, session, number, reading, steps)? {
-            put(out, text.as_slice())?;
-            turned_down = turned_down || down;
-        }
+        let line = write_line(rt, alloc, session, number, reading, gate, out, steps)?;
+        counts = Counts {
+            replies: counts.replies + line.replies,
+            refused: counts.refused + line.refused,
+            unread: counts.unread + line.unread,
+        };
     }
-    Ok(turned_down)
+    Ok(counts)
 }
 
-/// Writes the report: the texts of the views, then those of the lines. It tells whether a line is refused or unread.
-pub fn write_report<O: Sink, L: Ledger>(
+/// Writes the report: the texts of the views, then those of the lines, each before the next line is answered. It tells what it counted.
+pub fn write_report<R: Threads + Sync, G: Gate + Sync, O: Sink, L: Ledger>(
+    rt: &R,
     alloc: Global,
-    session: &Session,
+    session: &mut Session,
     readings: &[Reading],
+    gate: &G,
     out: &mut O,
     steps: &mut Steps<L>,
-) -> Result<bool, Stop>
+) -> Result<Counts, Stop>
     requires { AreAnswered (map reading_image readings.now) }
-    ensures written { Writes (reports.report_of (session_image session.now) (map reading_image readings.now))
+    ensures written { PutsPieces (reports.report_of (workbook_of session.old) (map reading_image readings.now)).text
         (Rose (O.faults out.old) (O.faults out.new)) (O.written out.old) (O.written out.new) result }
+    ensures counts { IfOk result (λ counts. counts ≡ counts_of (reports.report_of (workbook_of session.old) (map reading_image readings.now))) }
     ensures later { O.faults out.old ≤ O.faults out.new }
-    ensures looks { steps.new ≤ steps.old + lines_looks (session_image session.now) (map reading_image readings.now) }
+    ensures looks { steps.new ≤ steps.old + (reports.script_told (workbook_of session.old) (map reading_image readings.now)).looks }
 {
     write_views(alloc, session, out)?;
-    write_readings(alloc, session, readings, out, steps)
+    write_lines(rt, alloc, session, readings, gate, out, steps)
 }

@@ -1,47 +1,81 @@
 // A session, from what a run reads.
-ghost use Rattle.std.specs.Prelude.{◌≡◌, ◌≤◌, ◌+◌, IfOk};
-ghost use Rattle.smk_model.specs.Looks.{start_looks};
-ghost use Rattle.smk_base.specs.CatalogImage.{catalog_image};
+ghost use Rattle.std.specs.Prelude.{◌≡◌, ◌≤◌, ◌+◌, [], map, slice_index_or, IfOk};
 ghost use Rattle.smk_model.specs.Catalogs.{each_table_kinds};
-ghost use Rattle.smk_model.specs.Forms.{IsBookAnswered};
-ghost use Rattle.smk_model.specs.Outcome as outcomes;
-ghost use Rattle.smk_model.specs.Selection.{each_rows, each_kinds};
-ghost use Rattle.smk_top.specs.Image.{workbook_image};
-ghost use Rattle.smk_top.specs.Loaded.{session_image};
-ghost use Rattle.smk_top.specs.Reading.{Answers, IsSayable};
+ghost use Rattle.smk_model.specs.Looks.{start_looks};
+ghost use Rattle.smk_model.specs.Selection.{each_kinds};
+ghost use Rattle.smk_session.specs.Sessions.{workbook_image, workbook_of};
+ghost use Rattle.smk_top.specs.Reading.{Starts, IsSayable};
 
-use crate::passed::passed_rids;
-use crate::session::Session;
 use crate::stop::Stop;
-use crate::views::view_rels;
-use smk_outside::Steps;
+use smk_base::{Fault, TableInfo, Text, ViewInfo};
+use smk_outside::{Gate, Steps};
+use smk_session::{Mode, Session, StartFault};
 use smk_table::Table;
 use smk_typing::TypedBook;
-use std::alloc::Global;
+use std::alloc::{AllocError, Global};
 use std::sync::ledger::Ledger;
 use std::thread::Threads;
 
-/// A session over these tables, or the first view with too many rows.
-pub fn start<R: Threads + Sync, L: Ledger>(
+// The names of views.
+fn view_names(alloc: Global, views: &[ViewInfo]) -> Result<Vec<Text>, AllocError>
+    ensures { IfOk result (λ names. names.items ≡ map (λ view. view.name) views.now) }
+{
+    let mut names = Vec::with_capacity(alloc, views.len())?;
+    for view in views {
+        names.push(view.name.copy(alloc)?)?;
+    }
+    Ok(names)
+}
+
+// The names of tables.
+fn table_names(alloc: Global, tables: &[TableInfo]) -> Result<Vec<Text>, AllocError>
+    ensures { IfOk result (λ names. names.items ≡ map (λ table. table.name) tables.now) }
+{
+    let mut names = Vec::with_capacity(alloc, tables.len())?;
+    for table in tables {
+        names.push(table.name.copy(alloc)?)?;
+    }
+    Ok(names)
+}
+
+// The name at a place, and the empty one past the last.
+fn name_at(alloc: Global, names: Vec<Text>, place: u32) -> Text
+    ensures { result ≡ slice_index_or names.items place [] }
+{
+    match names.into_iter().nth(place as usize) {
+        Some(name) => name,
+        None => Text::new(alloc),
+    }
+}
+
+/// A session over these tables, or the first view with a node that is too big. The names that a fault says are copied before, since the book is dropped with it.
+pub fn start<R: Threads + Sync, G: Gate + Sync, L: Ledger>(
     rt: &R,
     alloc: Global,
     book: TypedBook,
     tables: Vec<Table>,
+    gate: &G,
     steps: &mut Steps<L>,
 ) -> Result<Session, Stop>
     requires kinds { each_kinds tables.items ≡ each_table_kinds book.tables }
-    requires answered { IsBookAnswered (catalog_image book) }
-    ensures answers { Answers (λ answer. outcomes.view_contents (workbook_image book tables.items) ≡ answer) (λ session. each_rows session.views.items) result }
-    ensures book { IfOk result (λ session. session_image session ≡ workbook_image book tables.items) }
+    ensures starts { Starts (workbook_image book tables.items) result }
+    ensures book { IfOk result (λ session. workbook_of session ≡ workbook_image book tables.items) }
     ensures looks { steps.new ≤ steps.old + start_looks (workbook_image book tables.items) }
     ensures said { IsSayable result }
 {
-    let views = view_rels(rt, alloc, book.catalog(), tables.as_slice(), steps)?;
-    let passed = passed_rids(alloc, book.catalog(), tables.as_slice(), steps)?;
-    Ok(Session {
-        book,
-        tables,
-        views,
-        passed,
-    })
+    let views = view_names(alloc, book.catalog().views.as_slice())?;
+    let names = table_names(alloc, book.catalog().tables.as_slice())?;
+    match Session::start(rt, alloc, book, tables, Mode::Inject, 1, gate, steps) {
+        Ok(session) => Ok(session),
+        Err(StartFault::Rows { view, node }) => {
+            let view = name_at(alloc, views, view);
+            Err(Stop::At(Fault::ViewRows { view, node }))
+        }
+        Err(StartFault::Pairs { view, node, table }) => {
+            let view = name_at(alloc, views, view);
+            let table = name_at(alloc, names, table);
+            Err(Stop::At(Fault::ViewPairs { view, node, table }))
+        }
+        Err(StartFault::NoMemory) => Err(Stop::Exhausted),
+    }
 }

@@ -6,4 +6,4 @@ use Rattle.smk_top.proofs.program.report.Goals as goal
 
 pub returns-clause-works : goal.returns-clause-works
 returns-clause-works g c =
-    report_written (inputs_image c.args.inputs) _ _ _ _ _ _ _ c.in_ok-session.ensures.answers c.in_ok-session.ensures.book (ap (map reading_image) c.as_slice.ensures.value) c.write_report.ensures.written
+    report_written (inputs_image c.args.inputs) _ _ _ _ _ c.write_report.result c.in_ok-session.ensures.starts c.in_ok-session.ensures.book (ap (map reading_image) c.as_slice.ensures.value) c.write_report.ensures.written c.write_report.ensures.counts

@@ -1,14 +1,10 @@
-use Rattle.std.proofs.Common.{List, ℕ, map, Bor, true, false}
-use Rattle.smk_top.proofs.Endings.{ends_reported, ends_unwritten, ends_exhausted, ends_faulted, done, refusals}
+use Rattle.std.proofs.Common.{List, ℕ, map, Bor}
+use Rattle.smk_top.proofs.Endings.{ends_reported, ends_unwritten, ends_exhausted, ends_faulted}
 use Rattle.smk_top.proofs.program.run.Goals as goal
 
-pub returns-in-Ok-true-clause-ends : goal.returns-in-Ok-true-clause-ends
-returns-in-Ok-true-clause-ends g c =
-    ends_reported (map (λ (w : Bor (List ℕ)). w.now) c.args.words.now) _ _ _ _ _ _ _ true _ (rw c.in-Ok-true.field-0-test at c.in-Ok-true.ensures.works) refusals
-
-pub returns-in-Ok-false-clause-ends : goal.returns-in-Ok-false-clause-ends
-returns-in-Ok-false-clause-ends g c =
-    ends_reported (map (λ (w : Bor (List ℕ)). w.now) c.args.words.now) _ _ _ _ _ _ _ false _ (rw c.in-Ok-false.field-0-test at c.in-Ok-false.ensures.works) done
+pub returns-in-Ok-clause-ends : goal.returns-in-Ok-clause-ends
+returns-in-Ok-clause-ends g c =
+    ends_reported (map (λ (w : Bor (List ℕ)). w.now) c.args.words.now) _ _ _ _ _ _ _ c.in-Ok.counts _ c.in-Ok.ensures.works c.status_of_counts.ensures
 
 pub returns-in-Err-At-clause-ends : goal.returns-in-Err-At-clause-ends
 returns-in-Err-At-clause-ends g c =

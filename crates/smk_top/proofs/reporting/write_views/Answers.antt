@@ -1,25 +1,29 @@
-use Rattle.std.proofs.Common.{◌∙◌, refl, arith}
+use Rattle.std.proofs.Common.{◌∙◌, ◌<◌, ap, length, refl, arith}
+use Rattle.std.proofs.lemmas.List.{length-map}
 use Rattle.std.proofs.lemmas.Result.{err_from_is_err_and}
-use Rattle.smk_base.specs.CatalogImage.{catalog_image}
+use Rattle.smk_base.specs.CatalogImage.{catalog_image, view_image}
+use Rattle.smk_base.specs.declared.catalog.Catalog.{Catalog}
+use Rattle.smk_base.specs.declared.catalog.ViewInfo.{ViewInfo}
 use Rattle.smk_outside.specs.Outside.{Rose}
 use Rattle.smk_model.specs.Reports.{text_of_view}
 use Rattle.smk_model.specs.Session.{no_view}
-use Rattle.smk_top.specs.Loaded.{session_image}
+use Rattle.smk_session.specs.Sessions.{workbook_of}
 use Rattle.smk_top.proofs.Stops.{rose_within}
 use Rattle.smk_top.proofs.Appending.{want_here, fails_here}
-use Rattle.smk_top.proofs.ViewParts.{views_long}
 use Rattle.smk_top.proofs.reporting.write_views.Goals as goal
 
 pub returns-in_err-text-clause-written : goal.returns-in_err-text-clause-written
 returns-in_err-text-clause-written g c =
     let p = err_from_is_err_and c.from_residual.result c.from_residual.ensures.1 in
-    rw (p.1, p.2) (want_here (text_of_view (session_image c.args.session.now)) (catalog_image c.args.session.now.book).views c.loop-number.number _ _ c.loop-number.invariant.written)
+    rw (p.1, p.2) (want_here (text_of_view (workbook_of c.args.session.now)) (catalog_image c.args.session.now.catalog).views c.loop-number.number _ _ c.loop-number.invariant.written)
 
 pub returns-in_err-put-clause-written : goal.returns-in_err-put-clause-written
 returns-in_err-put-clause-written g c =
     let p = err_from_is_err_and c.from_residual-in_err-put.result c.from_residual-in_err-put.ensures.1 in
     let session = c.args.session.now in
+    let low : c.loop-number.number < length (catalog_image session.catalog).views =
+    omega (arith, c.loop-number-test.true, ap (length {A = ViewInfo}) (c.as_slice.ensures ∙ ap (λ (b : Catalog). b.views) c.catalog.ensures.book), length-map session.catalog.views view_image) in
     let wide : Rose (g.O.Sink.faults c.loop-number.out) (g.O.Sink.faults c.put.new.out) → Rose (g.O.Sink.faults c.args.out.now) (g.O.Sink.faults c.put.new.out) =
     λ up. rose_within _ _ _ _ c.loop-number.invariant.later c.in_err-put.ensures.later (omega arith) up in
-    rw (p.1, p.2) (fails_here (Unit {0}) (text_of_view (session_image session)) (catalog_image session.book).views c.loop-number.number _ no_view _ _ _ _ _ c.as_slice.result.now _
-    (omega (arith, views_long (session_image session) session.views.items session.views_are)) refl (c.as_slice.ensures.value ∙ c.in_ok-text.ensures) wide c.loop-number.invariant.written c.in_err-put.ensures.text)
+    rw (p.1, p.2) (fails_here (Unit {0}) (text_of_view (workbook_of session)) (catalog_image session.catalog).views c.loop-number.number _ no_view _ _ _ _ _ c.as_slice-in-loop-number.result.now _
+    low refl (c.as_slice-in-loop-number.ensures.value ∙ c.in_ok-text.ensures) wide c.loop-number.invariant.written c.in_err-put.ensures.text)

@@ -1,18 +1,18 @@
-use Rattle.std.proofs.Common.{◌≡◌, refl, arith}
-use Rattle.std.proofs.lemmas.Result.{err_from_is_err_and}
-use Rattle.smk_model.specs.Outcome.{view_contents}
-use Rattle.smk_top.specs.Image.{workbook_image}
-use Rattle.smk_top.proofs.ViewRows.{stops_alike}
+use Rattle.std.proofs.Common.{◌∙◌, ap, map}
+use Rattle.smk_base.specs.declared.catalog.Catalog.{Catalog}
+use Rattle.smk_base.specs.declared.catalog.TableInfo.{TableInfo}
+use Rattle.smk_base.specs.declared.catalog.ViewInfo.{ViewInfo}
+use Rattle.smk_top.proofs.StartNames.{rows_named, pairs_named}
 use Rattle.smk_top.proofs.starting.start.Goals as goal
 
-pub returns-in_err-views-clause-answers : goal.returns-in_err-views-clause-answers
-returns-in_err-views-clause-answers g c =
-    let p = err_from_is_err_and c.from_residual.result c.from_residual.ensures.1 in
-    let same : view_contents (workbook_image c.catalog.result.now c.as_slice.result.now) ≡ view_contents (workbook_image c.args.book c.args.tables.items) = rw (c.catalog.ensures.value, c.as_slice.ensures.value) refl in
-    rw (p.1, p.2) (stops_alike _ _ _ same c.in_err-views.ensures.answers)
+pub returns-in-Err-Rows-clause-starts : goal.returns-in-Err-Rows-clause-starts
+returns-in-Err-Rows-clause-starts g c =
+    rows_named c.args.book _ c.in_ok-views.views.items c.name_at-view.result c.in-Err-Rows.view c.in-Err-Rows.node (rw c.in-Err-Rows.field-0-is at c.in-Err-Rows.ensures.fault)
+    (c.in_ok-views.ensures ∙ ap (map (λ (view : ViewInfo). view.name)) (c.as_slice.ensures ∙ ap (λ (b : Catalog). b.views) c.catalog.ensures.value)) c.name_at-view.ensures
 
-pub returns-in_err-passed-clause-looks : goal.returns-in_err-passed-clause-looks
-returns-in_err-passed-clause-looks g c =
-    let views = rw (c.catalog.ensures.value, c.as_slice.ensures.value) at c.view_rels.ensures.looks in
-    let passed = rw (c.catalog-2.ensures.value, c.as_slice-2.ensures.value) at c.passed_rids.ensures.looks in
-    omega (arith, views, passed)
+pub returns-in-Err-Pairs-clause-starts : goal.returns-in-Err-Pairs-clause-starts
+returns-in-Err-Pairs-clause-starts g c =
+    pairs_named c.args.book _ c.in_ok-views.views.items c.in_ok-names.names.items c.name_at-view-in-Err-Pairs.result c.name_at-table.result c.in-Err-Pairs.view c.in-Err-Pairs.node c.in-Err-Pairs.table (rw c.in-Err-Pairs.field-0-is at c.in-Err-Pairs.ensures.fault)
+    (c.in_ok-views.ensures ∙ ap (map (λ (view : ViewInfo). view.name)) (c.as_slice.ensures ∙ ap (λ (b : Catalog). b.views) c.catalog.ensures.value))
+    (c.in_ok-names.ensures ∙ ap (map (λ (table : TableInfo). table.name)) (c.as_slice-2.ensures ∙ ap (λ (b : Catalog). b.tables) c.catalog-2.ensures.value))
+    c.name_at-view-in-Err-Pairs.ensures c.name_at-table.ensures

@@ -1,0 +1,7 @@
+/// How many lines have a reply, how many of these replies are refusals, and how many lines aren't in the grammar.
+#[derive(Clone, Copy, Debug, Drop, PartialEq, Eq)]
+pub struct Counts {
+    pub replies: u64,
+    pub refused: u64,
+    pub unread: u64,
+}
