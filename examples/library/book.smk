@@ -58,3 +58,8 @@ view twice_late = (scan loans | where fee >= 400 | project loan, `code lent`, `c
 lineage back very_late to loans
 lineage back noted to loans
 lineage back young to members
+lineage back late_fiction to loans
+lineage back late_fiction to titles
+lineage back by_town to members
+lineage back strangers to loans
+lineage fwd titles to late_fiction

@@ -10,6 +10,12 @@ view pair = scan sales | project region | union all (scan sales | project region
 view names = scan sales | project region | union (scan sales | project region)
 view few = scan sales | group region {n = count} | where n < 2
 
-# The sales behind a row of these two views can be asked for.
+# The sales or regions behind a row of a view, and the rows of a view that a sale or a region is in.
 lineage back big to sales
 lineage back north to sales
+lineage back by_region to sales
+lineage back by_zone to sales
+lineage back by_zone to regions
+lineage back names to sales
+lineage fwd sales to by_zone
+lineage fwd regions to by_zone
