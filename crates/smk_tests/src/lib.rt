@@ -7,11 +7,29 @@ mod bodies;
 #[cfg(test)]
 mod captures;
 #[cfg(test)]
+mod composed;
+#[cfg(test)]
 mod copies;
+#[cfg(test)]
+mod crowded;
+#[cfg(test)]
+mod deferred;
+#[cfg(test)]
+mod dictionaries;
 #[cfg(test)]
 mod fixtures;
 #[cfg(test)]
+mod keys;
+#[cfg(test)]
 mod leaves;
+#[cfg(test)]
+mod one_steps;
+#[cfg(test)]
+mod opened;
+#[cfg(test)]
+mod rids;
+#[cfg(test)]
+mod sessions;
 #[cfg(test)]
 mod tables;
 #[cfg(test)]

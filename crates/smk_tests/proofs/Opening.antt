@@ -1,0 +1,50 @@
+-- What a checked book gives for its tables and views.
+use Rattle.std.proofs.Common.{◌≡◌, ◌∙◌, ◌<◌, ◌^◌, ℕ, List, length, map, get_or, All, Ok, sym, ap, subst, arith}
+use Rattle.std.proofs.lemmas.List.{get_or-map, length-map}
+use Rattle.smk_base.specs.Rels.{Relation}
+use Rattle.smk_base.specs.PlanImage.{expr_of}
+use Rattle.smk_base.specs.CatalogImage.{view_image}
+use Rattle.smk_base.specs.TreeImage.{book_image}
+use Rattle.smk_base.specs.declared.value.Kind.{Kind}
+use Rattle.smk_base.specs.declared.tree.Book.{Book}
+use Rattle.smk_base.specs.declared.col_decl.ColDecl.{ColDecl}
+use Rattle.smk_base.specs.declared.catalog.Column.{Column}
+use Rattle.smk_base.specs.declared.catalog.TableInfo.{TableInfo}
+use Rattle.smk_base.specs.declared.catalog.ViewInfo.{ViewInfo}
+use Rattle.smk_model.specs.Limits.{KeepsLimits}
+use Rattle.smk_model.specs.Tables.{kinds_of}
+use Rattle.smk_model.specs.Catalogs.{ViewFits, table_kinds, each_table_kinds}
+use Rattle.smk_model.specs.Selection.{ScansFit, PlanFits, leaf_kinds, each_kinds, nodes}
+use Rattle.smk_model.proofs.Keeping.{faultless_keep_limits}
+use Rattle.smk_model.proofs.Places.{map_map}
+use Rattle.smk_parse.specs.Answers.{IsBookAnswer}
+
+-- a book that was parsed keeps the limits
+pub keeps_limits : (text : List ℕ) (book : Book) → IsBookAnswer text (Ok book) → KeepsLimits (book_image book)
+keeps_limits text book is = faultless_keep_limits text (book_image book) is.0 is.1
+
+-- the kinds of a table are those of its declared columns
+pub kinds_declared : (info : TableInfo) (kinds : List Kind) → kinds ≡ kinds_of info.cols → kinds ≡ table_kinds info
+kinds_declared info kinds is = is ∙ sym (map_map (λ (column : Column). column.kind) (λ (col : ColDecl). record { name = col.name; kind = col.kind }) info.cols)
+
+-- there are as many tables as infos
+pub as_many : (tables : List Relation) (infos : List TableInfo) → each_kinds tables ≡ each_table_kinds infos → length infos ≡ length tables
+as_many tables infos e = sym (length-map infos table_kinds) ∙ sym (ap length e) ∙ length-map tables (λ rel. rel.kinds)
+
+-- a view fits the tables
+fits : (infos : List TableInfo) (views : List ViewInfo) (i : ℕ) (view : ViewInfo) → All (ViewFits infos) (map view_image views) → i < length views → view ≡ get_or views i view → ViewFits infos (view_image view)
+fits infos views i view each low is =
+    let long : i < length (map view_image views) = omega (arith, low, length-map views view_image) in
+    let at : get_or (map view_image views) i (view_image view) ≡ view_image view = get_or-map view_image views i view (view_image view) low ∙ ap view_image (sym is) in
+    subst (λ v. ViewFits infos v) at (each i (view_image view) long)
+
+pub scans_at : (tables : List Relation) (infos : List TableInfo) (views : List ViewInfo) (i : ℕ) (view : ViewInfo) → each_kinds tables ≡ each_table_kinds infos → All (ViewFits infos) (map view_image views) → i < length views → view ≡ get_or views i view
+    → ScansFit (length tables) (expr_of view.plan)
+scans_at tables infos views i view e each low is = subst (λ n. ScansFit n (expr_of view.plan)) (as_many tables infos e) (fits infos views i view each low is).scans
+
+pub fits_at : (tables : List Relation) (infos : List TableInfo) (views : List ViewInfo) (i : ℕ) (view : ViewInfo) → each_kinds tables ≡ each_table_kinds infos → All (ViewFits infos) (map view_image views) → i < length views → view ≡ get_or views i view
+    → PlanFits (expr_of view.plan) (leaf_kinds (expr_of view.plan) (each_kinds tables))
+fits_at tables infos views i view e each low is = let plan = expr_of view.plan in subst (λ K. PlanFits plan (leaf_kinds plan K)) (sym e) (fits infos views i view each low is).fits
+
+pub few_at : (infos : List TableInfo) (views : List ViewInfo) (i : ℕ) (view : ViewInfo) → All (ViewFits infos) (map view_image views) → i < length views → view ≡ get_or views i view → nodes (expr_of view.plan) < 2 ^ 32
+few_at infos views i view each low is = omega (arith, (fits infos views i view each low is).few)

@@ -1,0 +1,178 @@
+//! Books with their tables, from texts, and the lineage of their views as a text.
+
+ghost use Rattle.std.specs.Prelude.{◌≡◌, ◌||◌, ◌<◌, IsTrue, nat_eq, length, All, IfOk};
+ghost use Rattle.smk_base.specs.TreeImage.{book_image};
+ghost use Rattle.smk_model.specs.Limits.{KeepsLimits};
+ghost use Rattle.smk_model.specs.Tables.{AreColumns};
+ghost use Rattle.smk_model.specs.Catalogs.{table_kinds, each_table_kinds};
+ghost use Rattle.smk_model.specs.Selection.{each_kinds};
+ghost use Rattle.smk_compose.specs.Kept.{NeedFits};
+
+use smk_base::{Book, CellRef, Need, Rel, TableInfo};
+use smk_body::OpBody;
+use smk_compose::{KeptMap, Run, RunFault, run_plan};
+use smk_outside::Steps;
+use smk_parse::parse_book;
+use smk_rid::RidMap;
+use smk_table::{Table, read_table};
+use smk_typing::{TypedBook, check, needed};
+use std::alloc::{AllocError, Global};
+use std::marker::Brand;
+use std::sync::ledger::{Blank, Ledger};
+use std::test::Fail;
+use std::thread::Threads;
+
+/// A checked book, and its tables.
+#[derive(Drop)]
+pub(crate) struct Opened {
+    pub book: TypedBook,
+    pub tables: Vec<Table>,
+    ghost kinds: { each_kinds tables.items ≡ each_table_kinds book.tables },
+}
+
+// The statements of a text.
+#[tactic(auto, using(crate::proofs::Opening::keeps_limits))]
+fn parsed(alloc: Global, text: &str) -> Result<Book, Fail>
+    ensures { IfOk result (λ book. KeepsLimits (book_image book)) }
+{
+    Ok(parse_book(alloc, text.as_bytes())?)
+}
+
+// The table of the bytes of its file.
+#[tactic(auto, using(crate::proofs::Opening::kinds_declared))]
+fn table_of(alloc: Global, info: &TableInfo, bytes: &[u8]) -> Result<Table, Fail>
+    requires { AreColumns info.now.cols }
+    ensures { IfOk result (λ table. table.kinds ≡ table_kinds info.now) }
+{
+    Ok(read_table(alloc, bytes, &info.cols)?)
+}
+
+// The tables of the bytes of their files, in the same order.
+fn tables_of(alloc: Global, infos: &[TableInfo], files: &[&[u8]]) -> Result<Vec<Table>, Fail>
+    requires { All (λ info. AreColumns info.cols) infos.now }
+    ensures { IfOk result (λ tables. each_kinds tables.items ≡ each_table_kinds infos.now) }
+{
+    let mut tables = Vec::new(alloc);
+    for i in 0..infos.len() {
+        let bytes = match files.get(i) {
+            Some(bytes) => *bytes,
+            None => b"".as_slice(),
+        };
+        tables.push(table_of(alloc, &infos[i], bytes)?)?;
+    }
+    Ok(tables)
+}
+
+/// The book of a text, with tables of the bytes of their files.
+pub(crate) fn open_book(alloc: Global, text: &str, files: &[&[u8]]) -> Result<Opened, Fail> {
+    let book = check(alloc, parsed(alloc, text)?)?;
+    let tables = tables_of(alloc, book.catalog().tables.as_slice(), files)?;
+    Ok(Opened { book, tables })
+}
+
+/// What a view needs, by the declared queries.
+#[tactic(auto, using(crate::proofs::Opening::as_many))]
+pub(crate) fn need_of(alloc: Global, opened: &Opened, view: u32) -> Result<Need, AllocError>
+    ensures { IfOk result (λ need. NeedFits (length opened.now.tables.items) need) }
+{
+    needed(alloc, &opened.book, view)
+}
+
+// A run of a view with a counter of looks over this ledger.
+fn counted<R: Threads + Sync + AllocGlobal, B: OpBody + Sync, L: Ledger>(
+    rt: &R,
+    system: HostRuntime,
+    body: &B,
+    opened: &Opened,
+    view: u32,
+    need: &Need,
+    blank: Blank,
+) -> Result<Run, RunFault>
+    requires name { L.name ≡ blank.name }
+    requires parts { L.parts ≡ blank.parts }
+    requires some { 0 < blank.parts }
+    requires view { view < length opened.now.book.views }
+    requires need { NeedFits (length opened.now.tables.items) need.now }
+    requires captured { IsTrue (B.may_capture body.now || nat_eq (length need.now) 0) }
+{
+    let mut steps: Steps<L> = Steps::new(system, blank);
+    let info = &opened.book.catalog().views.as_slice()[view as usize];
+    run_plan(
+        rt,
+        rt.alloc(),
+        body,
+        &info.plan,
+        opened.tables.as_slice(),
+        need,
+        &mut steps,
+    )
+}
+
+/// A view's rows and the needed lineage, by a body.
+pub(crate) fn ran<R: Threads + Sync + AllocGlobal, B: OpBody + Sync>(
+    rt: &R,
+    system: HostRuntime,
+    body: &B,
+    opened: &Opened,
+    view: u32,
+    need: &Need,
+) -> Result<Run, RunFault>
+    requires view { view < length opened.now.book.views }
+    requires need { NeedFits (length opened.now.tables.items) need.now }
+    requires captured { IsTrue (B.may_capture body.now || nat_eq (length need.now) 0) }
+{
+    counted::<R, B, Brand>(rt, system, body, opened, view, need, Blank::new(1))
+}
+
+// Writes the cells of row i, each with a space behind it.
+fn write_row(text: &mut String, rel: &Rel, i: u32) -> Result<(), Fail>
+    requires { i < length rel.now.rows }
+{
+    for c in 0..rel.width() {
+        match rel.cell(i, c) {
+            CellRef::Int(number) => write!(text, "{number} ")?,
+            CellRef::Text(bytes) => {
+                let word = str::from_utf8(bytes)?;
+                write!(text, "{word} ")?;
+            }
+        }
+    }
+    text.push('\n')?;
+    Ok(())
+}
+
+// Writes the lists of a map and their bound, where there is one.
+fn write_map(text: &mut String, way: &str, map: &Option<RidMap>) -> Result<(), Fail> {
+    let Some(map) = map else {
+        return Ok(());
+    };
+    write!(text, "{way} ")?;
+    for i in 0..map.len() {
+        let rids = map.at(i);
+        write!(text, "{rids:?} ")?;
+    }
+    let bound = map.bound();
+    writeln!(text, "below {bound}")?;
+    Ok(())
+}
+
+/// The cells of a relation, a row a line.
+pub(crate) fn rows_shown(alloc: Global, rel: &Rel) -> Result<String, Fail> {
+    let mut text = String::new(alloc);
+    for i in 0..rel.len() {
+        write_row(&mut text, rel, i)?;
+    }
+    Ok(text)
+}
+
+/// The lists that are kept, a direction a line.
+pub(crate) fn maps_shown(alloc: Global, kept: &[KeptMap]) -> Result<String, Fail> {
+    let mut text = String::new(alloc);
+    for map in kept {
+        let table = map.table;
+        writeln!(text, "table {table}")?;
+        write_map(&mut text, "back", &map.back)?;
+        write_map(&mut text, "fwd", &map.fwd)?;
+    }
+    Ok(text)
+}
