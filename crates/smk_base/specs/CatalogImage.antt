@@ -1,5 +1,5 @@
 -- A checked book as the definitions see it: plans without where they lie in memory.
-use Rattle.std.specs.Prelude.{ℕ, List, map}
+use Rattle.std.specs.Prelude.{ℕ, List, map, Option, position}
 use Rattle.smk_base.specs.declared.value.Kind.{Kind}
 use Rattle.smk_base.specs.declared.catalog.Catalog.{Catalog}
 use Rattle.smk_base.specs.declared.catalog.TableInfo.{TableInfo}
@@ -7,6 +7,7 @@ use Rattle.smk_base.specs.declared.catalog.ViewInfo.{ViewInfo}
 use Rattle.smk_base.specs.declared.catalog.Back.{Back}
 use Rattle.smk_base.specs.declared.catalog.Fwd.{Fwd}
 use Rattle.smk_base.specs.declared.catalog.LinkInfo.{LinkInfo}
+use Rattle.smk_base.specs.Dicts.{text_eq}
 use Rattle.smk_base.specs.Plans.{Expr}
 use Rattle.smk_base.specs.PlanImage.{expr_of}
 
@@ -36,3 +37,10 @@ catalog_image catalog = record {
   fwds = catalog.fwds;
   links = catalog.links;
 }
+
+-- the number of the view, and of the table, with this name
+abbrev pub view_place : CatalogImage → List ℕ → Option ℕ
+view_place catalog name = position (λ view. text_eq view.name name) catalog.views
+
+abbrev pub table_place : CatalogImage → List ℕ → Option ℕ
+table_place catalog name = position (λ table. text_eq table.name name) catalog.tables

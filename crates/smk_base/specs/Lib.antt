@@ -17,6 +17,7 @@ pub mod NextTexts
 pub mod Images
 pub mod Columns
 pub mod Stores
+pub mod Holds
 pub mod Relations
 pub mod IntColumns
 pub mod Needs

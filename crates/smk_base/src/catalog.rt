@@ -1,3 +1,6 @@
+ghost use Rattle.std.specs.Prelude.{◌≡◌, ◌<◌, length, IfSome};
+ghost use Rattle.smk_base.specs.CatalogImage as images;
+
 use crate::col_decl::ColDecls;
 use crate::list::{ListOf, Rids, Text};
 use crate::plan::{Aggs, Keys, Plan};
@@ -11,6 +14,30 @@ pub struct Catalog {
     pub backs: Backs,
     pub fwds: Fwds,
     pub links: LinkInfos,
+}
+
+impl Catalog {
+    /// The number of the view of this name, of the first one if there were several. It takes no memory.
+    pub fn view_place(&self, name: &Text) -> Option<usize>
+        ensures place { result ≡ images.view_place (images.catalog_image self.now) name.now }
+        ensures within { IfSome result (λ v. v < length self.now.views) }
+    {
+        self.views
+            .as_slice()
+            .iter()
+            .position(|view| view.name == *name)
+    }
+
+    /// The number of the table of this name, of the first one if there were several. It takes no memory.
+    pub fn table_place(&self, name: &Text) -> Option<usize>
+        ensures place { result ≡ images.table_place (images.catalog_image self.now) name.now }
+        ensures within { IfSome result (λ t. t < length self.now.tables) }
+    {
+        self.tables
+            .as_slice()
+            .iter()
+            .position(|table| table.name == *name)
+    }
 }
 
 /// A table: its name, the file that holds it, and its columns.

@@ -6,26 +6,26 @@ ghost use Rattle.smk_base.specs.Columns.{IsColumnOf, IsReady};
 ghost use Rattle.smk_base.specs.Relations.{column_in, AreMade};
 
 use crate::rel::ROW_LIMIT;
+use crate::rel_column::RelColumn;
 use crate::value::{CellRef, Kind};
-use crate::value_column::ValueColumn;
 use std::alloc::{AllocError, Global};
 use std::mem;
 
 /// Columns of these kinds with no row.
-pub(crate) fn empty_columns(alloc: Global, kinds: &[Kind]) -> Result<Vec<ValueColumn>, AllocError>
+pub(crate) fn empty_columns(alloc: Global, kinds: &[Kind]) -> Result<Vec<RelColumn>, AllocError>
     requires { All IsColumn kinds.now }
     ensures { IfOk result (λ made. AreMade 0 (length kinds.now) (kind_in kinds.now) (λ k. []) made.items) }
 {
     let mut made = Vec::with_capacity(alloc, kinds.len())?;
     for kind in kinds {
-        made.push(ValueColumn::new(alloc, *kind))?;
+        made.push(RelColumn::new(alloc, *kind))?;
     }
     Ok(made)
 }
 
 /// Makes all the room that a row needs to go last.
 pub(crate) fn make_each_ready(
-    columns: &mut Vec<ValueColumn>,
+    columns: &mut Vec<RelColumn>,
     cells: &[CellRef],
     count: u32,
 ) -> Result<(), AllocError>
@@ -35,14 +35,15 @@ pub(crate) fn make_each_ready(
     ensures same { AreMade count (length columns.old.items) (λ k. (column_in columns.old.items k).kind) (λ k. (column_in columns.old.items k).cells) columns.new.items }
     ensures ready { OnOk result ((k : ℕ) → k < length columns.old.items → IsReady (column_in columns.new.items k) (value_of_cell (cell_in cells.now k))) }
 {
+    let alloc = *columns.allocator();
     for c in 0..columns.len() {
-        columns[c].make_ready(cells[c])?;
+        columns[c].make_ready(alloc, cells[c])?;
     }
     Ok(())
 }
 
 /// Puts a row last that is ready to go there.
-pub(crate) fn push_each(columns: &mut Vec<ValueColumn>, cells: &[CellRef], count: u32)
+pub(crate) fn push_each(columns: &mut Vec<RelColumn>, cells: &[CellRef], count: u32)
     requires few { count < ROW_LIMIT }
     requires each { All (IsColumnOf count) columns.old.items }
     requires long { length cells.now ≡ length columns.old.items }
@@ -58,10 +59,10 @@ pub(crate) fn push_each(columns: &mut Vec<ValueColumn>, cells: &[CellRef], count
 /// The rows at these places, in this order.
 pub(crate) fn gather_each(
     alloc: Global,
-    columns: &[ValueColumn],
+    columns: &[RelColumn],
     count: u32,
     places: &[u32],
-) -> Result<Vec<ValueColumn>, AllocError>
+) -> Result<Vec<RelColumn>, AllocError>
     requires each { All (IsColumnOf count) columns.now }
     requires within { All (λ place. place < count) places.now }
     requires few { length places.now ≤ ROW_LIMIT }
@@ -77,9 +78,9 @@ pub(crate) fn gather_each(
 /// Copies of the columns.
 pub(crate) fn copy_each(
     alloc: Global,
-    columns: &[ValueColumn],
+    columns: &[RelColumn],
     count: u32,
-) -> Result<Vec<ValueColumn>, AllocError>
+) -> Result<Vec<RelColumn>, AllocError>
     requires { All (IsColumnOf count) columns.now }
     ensures { IfOk result (λ made. AreMade count (length columns.now) (λ k. (column_in columns.now k).kind) (λ k. (column_in columns.now k).cells) made.items) }
 {
@@ -90,13 +91,28 @@ pub(crate) fn copy_each(
     Ok(made)
 }
 
+/// Lets copies share the values of each column.
+pub(crate) fn share_each(
+    alloc: Global,
+    columns: &mut Vec<RelColumn>,
+    count: u32,
+) -> Result<(), AllocError>
+    requires { All (IsColumnOf count) columns.old.items }
+    ensures { AreMade count (length columns.old.items) (λ k. (column_in columns.old.items k).kind) (λ k. (column_in columns.old.items k).cells) columns.new.items }
+{
+    for c in 0..columns.len() {
+        columns[c].share(alloc)?;
+    }
+    Ok(())
+}
+
 /// Copies of these columns, in this order.
 pub(crate) fn pick_each(
     alloc: Global,
-    columns: &[ValueColumn],
+    columns: &[RelColumn],
     count: u32,
     cols: &[u32],
-) -> Result<Vec<ValueColumn>, AllocError>
+) -> Result<Vec<RelColumn>, AllocError>
     requires each { All (IsColumnOf count) columns.now }
     requires within { All (λ c. c < length columns.now) cols.now }
     ensures { IfOk result (λ made. AreMade count (length cols.now) (λ k. (column_in columns.now (slice_index cols.now k)).kind) (λ k. (column_in columns.now (slice_index cols.now k)).cells) made.items) }
@@ -111,11 +127,11 @@ pub(crate) fn pick_each(
 /// The columns with the rows of others behind their own.
 pub(crate) fn append_each(
     alloc: Global,
-    columns: Vec<ValueColumn>,
+    columns: Vec<RelColumn>,
     count: u32,
-    others: &[ValueColumn],
+    others: &[RelColumn],
     more: u32,
-) -> Result<Vec<ValueColumn>, AllocError>
+) -> Result<Vec<RelColumn>, AllocError>
     requires each { All (IsColumnOf count) columns.items }
     requires others { All (IsColumnOf more) others.now }
     requires few { count + more ≤ ROW_LIMIT }
@@ -126,7 +142,7 @@ pub(crate) fn append_each(
     let mut columns = columns;
     let mut made = Vec::with_capacity(alloc, others.len())?;
     for c in 0..others.len() {
-        let column = mem::replace(&mut columns[c], ValueColumn::new(alloc, Kind::Text));
+        let column = mem::replace(&mut columns[c], RelColumn::new(alloc, Kind::Text));
         made.push(column.append(alloc, &others[c])?)?;
     }
     Ok(made)
@@ -135,10 +151,10 @@ pub(crate) fn append_each(
 /// The same values in columns of these kinds, none of which is a narrower one.
 pub(crate) fn widen_each(
     alloc: Global,
-    columns: Vec<ValueColumn>,
+    columns: Vec<RelColumn>,
     count: u32,
     kinds: &[Kind],
-) -> Result<Vec<ValueColumn>, AllocError>
+) -> Result<Vec<RelColumn>, AllocError>
     requires each { All (IsColumnOf count) columns.items }
     requires low { All IsColumn kinds.now }
     requires wide { length columns.items ≡ length kinds.now }
@@ -148,7 +164,7 @@ pub(crate) fn widen_each(
     let mut columns = columns;
     let mut made = Vec::with_capacity(alloc, kinds.len())?;
     for c in 0..kinds.len() {
-        let column = mem::replace(&mut columns[c], ValueColumn::new(alloc, Kind::Text));
+        let column = mem::replace(&mut columns[c], RelColumn::new(alloc, Kind::Text));
         made.push(column.widened(alloc, kinds[c])?)?;
     }
     Ok(made)

@@ -6,6 +6,7 @@ mod catalog;
 mod col_decl;
 mod columns;
 mod copied;
+mod demo;
 mod dict;
 mod fault;
 mod list;
@@ -15,7 +16,9 @@ mod picks;
 mod plan;
 mod read;
 mod rel;
+mod rel_column;
 mod reply;
+mod size;
 mod text_column;
 mod token;
 mod tree;
@@ -30,6 +33,7 @@ pub use catalog::{
 };
 pub use col_decl::{ColDecl, ColDecls};
 pub use copied::Copied;
+pub use demo::{DEMO_BOOK, DEMO_SCRIPT, Demo, DemoFile, DemoFiles};
 pub use dict::Dict;
 pub use fault::{BookFault, Fault, FilesFault, LineFault, Many, TableFault};
 pub use list::{ListOf, Rids, Row, Text};
@@ -40,7 +44,8 @@ pub use plan::{Agg, Aggs, CmpOp, Dir, Item, Items, Keys, Op1, Op2, Operand, Pair
 pub use read::{read_int, without_mark};
 pub use rel::{ROW_LIMIT, Rel};
 pub use reply::{Linked, Linkeds, Refusal, Reply};
-pub use token::TokenKind;
+pub use size::{Size, Sizes};
+pub use token::{KEYWORDS, TokenKind};
 pub use tree::{
     AggTree, AggTrees, AggWhat, Book, Decl, Decls, Extra, ItemTree, ItemTrees, Line, LineSpan, Lit,
     Marks, PairTree, PairTrees, PredTree, StepTree, Stmt, Stmts, Term, Then, Tree, Word, Words,

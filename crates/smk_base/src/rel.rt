@@ -11,10 +11,11 @@ ghost use Rattle.smk_base.specs.declared.value.Value.TheVariants as values;
 
 use crate::columns::{
     append_each, copy_each, empty_columns, gather_each, make_each_ready, pick_each, push_each,
-    widen_each,
+    share_each, widen_each,
 };
 use crate::dict::Dict;
 use crate::list::Row;
+use crate::rel_column::RelColumn;
 use crate::value::{CellRef, Kind};
 use crate::value_column::{Ints, ValueColumn};
 use std::alloc::{AllocError, Global};
@@ -26,7 +27,7 @@ pub const ROW_LIMIT: u32 = 1_048_576;
 /// Rows of values that fit the kinds of their columns: at most 16 columns, the int ones of level at most 3, and at most 1,048,576 rows. Contracts see the kinds and the list of rows.
 #[derive(Drop)]
 pub struct Rel {
-    columns: Vec<ValueColumn>,
+    columns: Vec<RelColumn>,
     count: u32,
 }
 
@@ -159,6 +160,16 @@ impl Rel {
         Ok(())
     }
 
+    /// The same rows, whose values copies share: a copy then counts its columns, and copies no value.
+    pub fn shared(self, alloc: Global) -> Result<Rel, AllocError>
+        ensures { IfOk result (λ rel. rel ≡ self) }
+    {
+        let Rel { columns, count } = self;
+        let mut columns = columns;
+        share_each(alloc, &mut columns, count)?;
+        Ok(Rel { columns, count })
+    }
+
     /// A copy that is equal to its original.
     pub fn copy(&self, alloc: Global) -> Result<Rel, AllocError>
         ensures { IfOk result (λ copy. copy ≡ self.now) }
@@ -254,7 +265,7 @@ impl Rel {
     {
         let count = numbers.len() as u32;
         let column = ValueColumn::of_ints(alloc, level, numbers)?;
-        of_column(alloc, column, count)
+        of_column(alloc, RelColumn::own(column), count)
     }
 }
 
@@ -271,7 +282,7 @@ fn cells_of(alloc: Global, row: &Row) -> Result<Vec<CellRef<'_>>, AllocError>
 }
 
 // One column with so many rows.
-fn of_column(alloc: Global, column: ValueColumn, count: u32) -> Result<Rel, AllocError>
+fn of_column(alloc: Global, column: RelColumn, count: u32) -> Result<Rel, AllocError>
     requires { IsColumnOf count column }
     ensures { IfOk result (λ made. made ≡ record { kinds = column.kind ∷ []; rows = map (λ value. value ∷ []) column.cells }) }
 {

@@ -1,5 +1,5 @@
 /// The kind of a token of books and of script lines. The variants up to `Where` are the keywords.
-#[derive(Clone, Copy, Debug)]
+#[derive(Clone, Copy, Debug, PartialEq, Eq)]
 pub enum TokenKind {
     All,
     And,
@@ -66,3 +66,45 @@ pub enum TokenKind {
     /// A whole number outside the range of i64.
     Huge,
 }
+
+/// The keywords, each with its kind.
+pub const KEYWORDS: [(&[u8], TokenKind); 38] = [
+    (b"all", TokenKind::All),
+    (b"and", TokenKind::And),
+    (b"append", TokenKind::Append),
+    (b"as", TokenKind::As),
+    (b"ask", TokenKind::Ask),
+    (b"back", TokenKind::Back),
+    (b"bin", TokenKind::Bin),
+    (b"brush", TokenKind::Brush),
+    (b"by", TokenKind::By),
+    (b"clear", TokenKind::Clear),
+    (b"count", TokenKind::Count),
+    (b"default", TokenKind::Default),
+    (b"distinct", TokenKind::Distinct),
+    (b"fd", TokenKind::Fd),
+    (b"from", TokenKind::From),
+    (b"fwd", TokenKind::Fwd),
+    (b"group", TokenKind::Group),
+    (b"int", TokenKind::Int),
+    (b"join", TokenKind::Join),
+    (b"lineage", TokenKind::Lineage),
+    (b"link", TokenKind::Link),
+    (b"max", TokenKind::Max),
+    (b"min", TokenKind::Min),
+    (b"not", TokenKind::Not),
+    (b"on", TokenKind::On),
+    (b"or", TokenKind::Or),
+    (b"product", TokenKind::Product),
+    (b"project", TokenKind::Project),
+    (b"scan", TokenKind::Scan),
+    (b"show", TokenKind::Show),
+    (b"sum", TokenKind::Sum),
+    (b"table", TokenKind::Table),
+    (b"text", TokenKind::Text),
+    (b"theta", TokenKind::Theta),
+    (b"to", TokenKind::To),
+    (b"union", TokenKind::Union),
+    (b"view", TokenKind::View),
+    (b"where", TokenKind::Where),
+];

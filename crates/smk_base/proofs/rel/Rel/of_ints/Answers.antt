@@ -4,4 +4,6 @@ use Rattle.smk_base.proofs.Relating.{one-ints}
 use Rattle.smk_base.proofs.rel.Rel.of_ints.Goals as goal
 
 pub returns : goal.returns
-returns c = subst (λ (rel : Relation). IfOk c.of_column.result (λ made. made ≡ rel)) (one-ints c.args.level c.args.numbers.items c.in_ok-column.column c.in_ok-column.ensures.kind c.in_ok-column.ensures.cells) c.of_column.ensures
+returns c =
+    let made = rw c.own.ensures at c.of_column.ensures in
+    subst (λ (rel : Relation). IfOk c.of_column.result (λ made. made ≡ rel)) (one-ints c.args.level c.args.numbers.items c.in_ok-column.column c.in_ok-column.ensures.kind c.in_ok-column.ensures.cells) made
