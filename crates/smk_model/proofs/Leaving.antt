@@ -6,7 +6,7 @@ use Rattle.smk_base.specs.declared.token.TokenKind.TheVariants as kinds
 use Rattle.smk_base.specs.declared.fault.Many.{Many}
 use Rattle.smk_model.specs.Tokens.{Token, int_value}
 use Rattle.smk_model.specs.TokenKinds.{same_kind}
-use Rattle.smk_model.specs.Machine.{Counts, Tally, Symbol, Move, Takes, Skips, Wrong, Past, Outside, settle, or_next, within, next, no_counts, is_mark, is_short, at_name, at_column, at_first, at_item, at_literal, at_width, at_type, at_default, at_as, at_what, at_keys, at_aggs, at_linked, at_more, at_source, at_steps, at_step, at_united, at_prim, at_ands, at_ors, at_op, at_term, at_stmts, at_lineage, at_extra, at_line, at_line_column, at_mark, at_marks, at_then, at_end, AToken, AName, AColumn, ALiteral, AWidth, AType, ADefault, AnAs, AWhat, AKeys, AnAggs, AFirst, AnItem, ALinked, MoreDecls, MoreItems, MoreKeys, MoreAggs, MorePairs, MoreLinked, ASource, ASteps, AStep, AUnited, APrim, AnAnds, AnOrs, AnOp, ATerm, AStmts, ALineage, AnExtra, ALine, ALineName, ALineColumn, AMarks, AMark, MoreMarks, AThen, AnEnd}
+use Rattle.smk_model.specs.Machine.{Counts, Tally, Symbol, Move, Takes, Skips, Wrong, Past, Outside, settle, or_next, within, next, no_counts, is_mark, is_short, at_name, at_column, at_first, at_item, at_literal, at_width, at_type, at_default, at_as, at_what, at_keys, at_aggs, at_linked, at_more, at_source, at_steps, at_step, at_united, at_prim, at_ands, at_ors, at_op, at_term, at_stmts, at_lineage, at_extra, at_line, at_line_column, at_mark, at_marks, at_then, at_cleared, at_end, AToken, AName, AColumn, ALiteral, AWidth, AType, ADefault, AnAs, AWhat, AKeys, AnAggs, AFirst, AnItem, ALinked, MoreDecls, MoreItems, MoreKeys, MoreAggs, MorePairs, MoreLinked, ASource, ASteps, AStep, AUnited, APrim, AnAnds, AnOrs, AnOp, ATerm, AStmts, ALineage, AnExtra, ALine, ALineName, ALineColumn, AMarks, AMark, MoreMarks, AThen, ACleared, AnEnd}
 
 abbrev pub no_end : Symbol → Bool
 no_end (AToken kinds.End) = false
@@ -173,6 +173,10 @@ some_marks : (c : Counts) (v : ℤ) (k : TokenKind) → leaves_none (at_marks c 
 some_marks c v kinds.Number = a_mark c (MoreMarks ∷ []) v kinds.Number refl
 some_marks c v _ = refl
 
+a_cleared : (c : Counts) (k : TokenKind) → leaves_none (at_cleared c k) ≡ true
+a_cleared c kinds.Name = refl
+a_cleared c _ = refl
+
 an_end : (k : TokenKind) → leaves_none (at_end k) ≡ true
 an_end kinds.End = refl
 an_end _ = refl
@@ -217,6 +221,7 @@ leaves AMarks c t = some_marks c (int_value t.text) t.kind
 leaves AMark c t = a_mark c [] (int_value t.text) t.kind refl
 leaves MoreMarks c t = more c _ t.kind refl
 leaves AThen c t = a_then c t.kind
+leaves ACleared c t = a_cleared c t.kind
 leaves AnEnd c t = an_end t.kind
 
 pub and_left : (a b : Bool) → (a && b) ≡ true → a ≡ true

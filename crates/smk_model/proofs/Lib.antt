@@ -10,6 +10,7 @@ pub mod Comes
 pub mod Composed
 pub mod Examples
 pub mod RunExamples
+pub mod LineExamples
 pub mod SessionExamples
 pub mod Replies
 pub mod Finds
@@ -39,3 +40,12 @@ pub mod Completing
 pub mod OneOutcome
 pub mod Closing
 pub mod SomeOutcome
+pub mod BareRecords
+pub mod DemoTexts
+pub mod DemoSizes
+pub mod DemoReading
+pub mod IntTexts
+pub mod DemoRows
+pub mod DemoTokens
+pub mod DemoExamples
+pub mod InOrder

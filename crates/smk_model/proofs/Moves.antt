@@ -1,7 +1,6 @@
 -- What a faultless list of tokens spells.
-use Rattle.std.specs.Prelude.{nat_eq, Option, Some, None, cond, nat_lt, pos, int_le, int_lt, ◌^◌, ℤ, negsuc}
+use Rattle.std.specs.Prelude.{Option, Some, None, cond, nat_lt, pos, int_le, int_lt, ◌^◌, ℤ, negsuc}
 use Rattle.std.proofs.Common.{◌≡◌, ℕ, ◌+◌, List, [], ◌∷◌, ◌++◌, Bool, true, false, sym, subst, refl}
-use Rattle.std.proofs.lemmas.Bool.{eqb-true}
 use Rattle.smk_base.specs.declared.token.TokenKind.{TokenKind}
 use Rattle.smk_base.specs.declared.token.TokenKind.TheVariants as kinds
 use Rattle.smk_base.specs.declared.fault.Many.{Many}
@@ -20,11 +19,11 @@ use Rattle.smk_base.specs.declared.tree.Then.{Then}
 use Rattle.smk_base.specs.declared.tree.Line.{Line}
 use Rattle.smk_base.specs.Trees.{PredImage, AndNode, OrNode, TreeImage, StepNode, StepImage, StmtImage}
 use Rattle.smk_model.specs.Tokens.{Token, int_value}
-use Rattle.smk_model.specs.TokenKinds.{same_kind, kind_code}
-use Rattle.smk_model.specs.Grammar.{First, plain_word, IsName, name, IsColumn, plain, quoted, IsLiteral, number, string, IsFile, file, AreMore, no_more, one_more, listed, IsType, int_type, text_type, IsDefault, no_default, default, IsDecl, decl, IsNamed, by_itself, by_as, IsWidth, width, IsItem, column_item, bin_item, IsWhat, count, sum, min, max, IsAgg, agg, AreKeys, no_keys, keys, AreAggs, no_aggs, aggs, IsPair, pair, IsOp, eq, ne, lt, le, gt, ge, IsTerm, column_term, literal_term, IsPrim, negated, bracketed, compared, conj, AreAnds, no_and, one_and, pred, AreOrs, no_or, one_or, plan, IsSource, scan, inner_plan, AreSteps, no_step, one_step, IsStep, where_step, project_step, distinct_step, group_step, join_step, union_all_step, union_step, IsExtra, no_extra, by_extra, group_extra, IsStmt, table_stmt, view_stmt, back_stmt, fwd_stmt, link_stmt, AreStmts, one_stmt, IsMark, mark, AreMarks, all_marks, listed_marks, IsThen, no_then, where_then, group_then, IsLine, show_line, back_line, fwd_line, brush_line, clear_line}
+use Rattle.smk_model.specs.TokenKinds.{same_kind}
+use Rattle.smk_model.specs.Grammar.{First, plain_word, IsName, name, IsColumn, plain, quoted, IsLiteral, number, string, IsFile, file, AreMore, no_more, one_more, listed, IsType, int_type, text_type, IsDefault, no_default, default, IsDecl, decl, IsNamed, by_itself, by_as, IsWidth, width, IsItem, column_item, bin_item, IsWhat, count, sum, min, max, IsAgg, agg, AreKeys, no_keys, keys, AreAggs, no_aggs, aggs, IsPair, pair, IsOp, eq, ne, lt, le, gt, ge, IsTerm, column_term, literal_term, IsPrim, negated, bracketed, compared, conj, AreAnds, no_and, one_and, pred, AreOrs, no_or, one_or, plan, IsSource, scan, inner_plan, AreSteps, no_step, one_step, IsStep, where_step, project_step, distinct_step, group_step, join_step, union_all_step, union_step, IsExtra, no_extra, by_extra, group_extra, IsStmt, table_stmt, view_stmt, back_stmt, fwd_stmt, link_stmt, AreStmts, one_stmt, IsMark, mark, AreMarks, all_marks, listed_marks, IsThen, no_then, where_then, group_then, IsLine, show_line, back_line, fwd_line, brush_line, clear_line, clear_one_line}
 use Rattle.smk_model.proofs.Alike.{same_is}
 use Rattle.smk_model.proofs.Leaving.{and_left, and_right}
-use Rattle.smk_model.specs.Machine.{Counts, Tally, Symbol, Move, Takes, Skips, Wrong, Past, Outside, settle, or_next, within, next, no_counts, is_mark, is_short, at_name, at_column, at_first, at_item, at_literal, at_width, at_type, at_default, at_as, at_what, at_keys, at_aggs, at_linked, at_more, at_source, at_steps, at_step, at_united, at_compare, at_prim, at_ands, at_ors, at_op, at_term, at_stmts, at_lineage, at_extra, at_line, at_line_column, at_mark, at_marks, at_then, at_end, at_token, AToken, AName, AColumn, ALiteral, AWidth, AType, ADefault, AnAs, AWhat, AKeys, AnAggs, AFirst, AnItem, ALinked, MoreDecls, MoreItems, MoreKeys, MoreAggs, MorePairs, MoreLinked, ASource, ASteps, AStep, AUnited, APrim, AnAnds, AnOrs, AnOp, ATerm, AStmts, ALineage, AnExtra, ALine, ALineName, ALineColumn, AMarks, AMark, MoreMarks, AThen, AnEnd}
+use Rattle.smk_model.specs.Machine.{Counts, Tally, Symbol, Move, Takes, Skips, Wrong, Past, Outside, settle, or_next, within, next, no_counts, is_mark, is_short, at_name, at_column, at_first, at_item, at_literal, at_width, at_type, at_default, at_as, at_what, at_keys, at_aggs, at_linked, at_more, at_source, at_steps, at_step, at_united, at_compare, at_prim, at_ands, at_ors, at_op, at_term, at_stmts, at_lineage, at_extra, at_line, at_line_column, at_mark, at_marks, at_then, at_cleared, at_end, at_token, AToken, AName, AColumn, ALiteral, AWidth, AType, ADefault, AnAs, AWhat, AKeys, AnAggs, AFirst, AnItem, ALinked, MoreDecls, MoreItems, MoreKeys, MoreAggs, MorePairs, MoreLinked, ASource, ASteps, AStep, AUnited, APrim, AnAnds, AnOrs, AnOp, ATerm, AStmts, ALineage, AnExtra, ALine, ALineName, ALineColumn, AMarks, AMark, MoreMarks, AThen, ACleared, AnEnd}
 
 -- the tokens from a to b are the symbol
 abbrev pub IsSymbol : Symbol → List Token → List Token → Type 0
@@ -67,6 +66,7 @@ IsSymbol AMarks a b = (m : Marks) × AreMarks a b m
 IsSymbol AMark a b = (m : ℕ) × IsMark a b m
 IsSymbol MoreMarks a b = (ms : List ℕ) × AreMore IsMark a b ms
 IsSymbol AThen a b = (x : Then) × IsThen a b x
+IsSymbol ACleared a b = (z : List Token) → (t : Token) → First kinds.Clear t z a → (l : Line) × IsLine z b l
 IsSymbol AnEnd a b = (t : Token) × (c : List Token) × First kinds.End t a c
 
 -- one after the other
@@ -116,14 +116,11 @@ mores : (c : Counts) (ss : List Symbol) (x : Symbol) (t : Token) → ((a b : Lis
 mores c ss x t f g kinds.Comma e = λ a b h. f a b (here t a kinds.Comma e) h
 mores c ss x t f g _ e = λ n a. g a
 
-eq_true : (n m : ℕ) → nat_eq n m ≡ true → n ≡ m
-eq_true n m e = eqb-true n m e
-
 tokens_moves : (c : Counts) (k : TokenKind) (x : Symbol) (t : Token) → (k ≡ t.kind → (a b : List Token) → a ≡ b → IsSymbol x (t ∷ a) b) → Moves (at_token c k t.kind) x t
 tokens_moves c k x t f = by (same_kind k t.kind) refl
   where
     by : (o : Bool) → same_kind k t.kind ≡ o → Moves (cond o (Takes c []) Wrong) x t
-    by true e = f (same_is k t.kind (eq_true (kind_code k) (kind_code t.kind) e))
+    by true e = f (same_is k t.kind e)
     by false e = tt
 
 sources : (c : Counts) (d : ℕ) (x : Symbol) (t : Token) → ((a b : List Token) (y : TreeImage) → IsSource (t ∷ a) b y → IsSymbol x (t ∷ a) b) → (k : TokenKind) → t.kind ≡ k → Moves (at_source c d k) x t
@@ -275,7 +272,7 @@ line_moves c t kinds.Show e = λ a b h. let l = ends ALineName a b h in (_, show
 line_moves c t kinds.Back e = λ a b h. let x = ends AThen h.2.2.2.0 b h.2.2.2.2 in (_, back_line (here t a kinds.Back e) h.1.1 h.2.1.1 h.2.2.1.1 h.2.2.2.1.1 x.1)
 line_moves c t kinds.Fwd e = λ a b h. let x = ends ALineName h.2.2.0 b h.2.2.2 in (_, fwd_line (here t a kinds.Fwd e) h.1.1 h.2.1.1 h.2.2.1.1 x.1)
 line_moves c t kinds.Brush e = λ a b h. let x = ends ALineName h.2.2.0 b h.2.2.2 in (_, brush_line (here t a kinds.Brush e) h.1.1 h.2.1.1 h.2.2.1.1 x.1)
-line_moves c t kinds.Clear e = λ a b h. alone ALine (t ∷ a) a b h (_, clear_line (here t a kinds.Clear e))
+line_moves c t kinds.Clear e = λ a b h. ends ACleared a b h (t ∷ a) t (here t a kinds.Clear e)
 line_moves c t _ e = tt
 
 line_columns : (c : Counts) (t : Token) (k : TokenKind) → t.kind ≡ k → Moves (at_line_column c k) ALineColumn t
@@ -287,6 +284,10 @@ then_moves : (c : Counts) (t : Token) (k : TokenKind) → t.kind ≡ k → Moves
 then_moves c t kinds.Where e = λ a b h. let l = ends ALiteral h.2.0 b h.2.2 in (_, where_then (here t a kinds.Where e) h.1.1 h.2.1.1 l.1)
 then_moves c t kinds.Group e = λ a b h. alone AThen (t ∷ a) a b h (_, group_then (here t a kinds.Group e))
 then_moves c t _ e = λ n a. (_, no_then)
+
+cleared_moves : (c : Counts) (t : Token) (k : TokenKind) → t.kind ≡ k → Moves (at_cleared c k) ACleared t
+cleared_moves c t kinds.Name e = λ a b h z u g. let x = ends ALineName h.0 b h.2 in (_, clear_one_line g (name (here t a kinds.Name e)) h.1.1 x.1)
+cleared_moves c t _ e = λ n a z u g. (_, clear_line g)
 
 end_moves : (t : Token) (k : TokenKind) → t.kind ≡ k → Moves (at_end k) AnEnd t
 end_moves t kinds.End e = λ n. absurd (n e)
@@ -349,6 +350,7 @@ moves AMarks c t = marks_moves c t t.kind refl
 moves AMark c t = mark_moves c [] AMark t (λ a b m p h. alone AMark (t ∷ a) a b h (m, p)) t.kind refl
 moves MoreMarks c t = mores c (AMark ∷ MoreMarks ∷ []) MoreMarks t (λ a b p h. (_, one_more p h.1.1 (ends MoreMarks h.0 b h.2).1)) (λ a. ([], no_more)) t.kind refl
 moves AThen c t = then_moves c t t.kind refl
+moves ACleared c t = cleared_moves c t t.kind refl
 moves AnEnd c t = end_moves t t.kind refl
 
 abbrev pub MovesAll : Move → List Symbol → Token → Type 0

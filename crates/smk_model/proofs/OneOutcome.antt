@@ -8,7 +8,8 @@ use Rattle.smk_base.specs.declared.fault.Fault.{Fault}
 use Rattle.smk_base.specs.declared.fault.Fault.TheVariants.{Form}
 use Rattle.smk_model.specs.Readings.{Reading, Asks, IsReading, says_nothing, asks, leaves, AreReadings, no_line, one_line}
 use Rattle.smk_model.specs.Forms.{is_reading_answered}
-use Rattle.smk_model.specs.Outcome.{Held, Words, book_of, script_of, Parses, spells, misspells, BookSays, unparsed, parsed, FileSays, unread, read, ScriptSays, lines_read, OpensBook, OpensScript, no_script, a_script, Inputs, ReadsInputs, unusable, no_book, no_tables, no_readings, inputs, unreadable}
+use Rattle.smk_model.specs.Words.{Words, book_of, script_of}
+use Rattle.smk_model.specs.Outcome.{Held, Parses, spells, misspells, BookSays, unparsed, parsed, FileSays, unread, read, ScriptSays, lines_read, OpensBook, OpensScript, no_script, a_script, Inputs, ReadsInputs, unusable, no_book, no_tables, no_readings, inputs, unreadable}
 use Rattle.smk_model.specs.OutcomeLaws.{OneReading, OneInputs, OneOutcome}
 use Rattle.smk_model.proofs.Unique.{one_book, one_line as one_asked}
 use Rattle.smk_model.proofs.Texts.{texts_are_read}

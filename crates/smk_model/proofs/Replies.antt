@@ -27,7 +27,7 @@ all_kept [] = refl
 all_kept (x ∷ xs) = ap (λ l. x ∷ l) (all_kept xs)
 
 -- the rows at all rids are all rows
-whole_sub : (rows : List Row) → sub rows (places (λ rid. true) (length rows)) ≡ rows
+pub whole_sub : (rows : List Row) → sub rows (places (λ rid. true) (length rows)) ≡ rows
 whole_sub rows = ap (sub rows) (all_kept (upto (length rows))) ∙ map_upto rows []
 
 -- a pick of all rows of a table

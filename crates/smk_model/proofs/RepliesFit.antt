@@ -7,7 +7,7 @@ use Rattle.std.specs.List.{All, filter, list_any, flat_map}
 use Rattle.std.proofs.lemmas.List.{length-map}
 use Rattle.std.proofs.lemmas.List.Elements.{All-filter, All-nil, All-head, All-tail, All-cons, All-append}
 use Rattle.std.proofs.lemmas.List.Quantifiers.{position-Some}
-use Rattle.smk_base.specs.CatalogImage.{CatalogImage, ViewImage}
+use Rattle.smk_base.specs.CatalogImage.{CatalogImage, ViewImage, view_place, table_place}
 use Rattle.smk_base.specs.declared.catalog.Back.{Back}
 use Rattle.smk_base.specs.declared.catalog.BackExtra.{BackExtra}
 use Rattle.smk_base.specs.declared.catalog.BackExtra.TheVariants as extras
@@ -31,7 +31,7 @@ use Rattle.smk_model.specs.Typing.{column_of, columns_of, no_table, info_at}
 use Rattle.smk_model.specs.Workload.{is_back, is_link, declares_back, declares_fwd}
 use Rattle.smk_model.specs.Selection.{first_full}
 use Rattle.smk_model.specs.ReplyTexts.{IsReplyTo, IsRefusalOf, IsRefusalOfChange, IsLinkedIn, AreRowsOf, AreGroupsOf, IsContent, view_named, table_named, names_of_table, grouping_named}
-use Rattle.smk_model.specs.Session.{State, view_at, no_view, view_place, table_place, rows_of_table, linked, selected_for, leaves_now}
+use Rattle.smk_model.specs.Session.{State, view_at, no_view, rows_of_table, linked, selected_for, leaves_now}
 use Rattle.smk_model.specs.Replies.{Asked, Grouped, provided, unless_row, unless_outside, written, first_outside, known_view, known_pair, content_of, rows_at_rids, rids_of, split_column, column_place, is_split, is_of_column, part, cube, is_one, grouping_in, first_grouping, grouping_of, back_reply, named_back, fwd_reply, named_fwd, marks_fwd, linked_pair, brush_of, unless_full, linked_now, all_linked, brushed, cleared, named_view, or_refused, answer_to}
 use Rattle.smk_model.specs.ReplyLaws.{RepliesFit}
 use Rattle.smk_model.proofs.Finds.{find_placed}

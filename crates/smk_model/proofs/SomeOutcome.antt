@@ -16,7 +16,8 @@ use Rattle.smk_model.specs.Lines.{lines, place_of}
 use Rattle.smk_model.specs.Typing.{types}
 use Rattle.smk_model.specs.Readings.{Reading, Nothing, Asks, Unread, IsReading, says_nothing, asks, leaves, AreReadings, no_line, one_line}
 use Rattle.smk_model.specs.Reports.{Report}
-use Rattle.smk_model.specs.Outcome.{Held, Words, book_of, script_of, Parses, spells, misspells, BookSays, unparsed, parsed, FileSays, unread, read, ScriptSays, lines_read, OpensBook, OpensScript, no_script, a_script, Inputs, ReadsInputs, unusable, no_book, no_tables, no_readings, inputs, Outcome, unreadable, words_of, content_of, load_all, answered_book, reported}
+use Rattle.smk_model.specs.Words.{Words, book_of, script_of, words_of}
+use Rattle.smk_model.specs.Outcome.{Held, Parses, spells, misspells, BookSays, unparsed, parsed, FileSays, unread, read, ScriptSays, lines_read, OpensBook, OpensScript, no_script, a_script, Inputs, ReadsInputs, unusable, no_book, no_tables, no_readings, inputs, Outcome, unreadable, content_of, load_all, answered_book, reported}
 use Rattle.smk_model.specs.OutcomeLaws.{FaultlessTextsSpell, SomeReading, SomeOutcome}
 use Rattle.smk_model.proofs.Sound.{faultless_have_trees}
 use Rattle.smk_model.proofs.Closing.{book_finishes, line_finishes}

@@ -8,8 +8,8 @@ use Rattle.smk_base.specs.declared.fault.BookFault.TheVariants.{TooMany, BadNumb
 use Rattle.smk_base.specs.declared.tree.Line.{Line}
 use Rattle.smk_base.specs.Trees.{StmtImage}
 use Rattle.smk_model.specs.Tokens.{Token}
-use Rattle.smk_model.specs.Grammar.{AreStmts, no_stmt, no_default, by_itself, no_keys, no_aggs, no_more, no_step, no_and, no_or, no_extra, no_then, IsWholeLine, whole_line}
-use Rattle.smk_model.specs.Machine.{State, Counts, Symbol, Move, Takes, Skips, Wrong, Past, Outside, through, settle, next, go_on, or_next, fault_in, fault_at, book_symbols, line_symbols, no_counts, book_fault, line_fault, ADefault, AnAs, AKeys, AnAggs, MoreDecls, MoreItems, MoreKeys, MoreAggs, MorePairs, MoreLinked, ASteps, AnAnds, AnOrs, AStmts, AnExtra, MoreMarks, AThen, AnEnd, AToken}
+use Rattle.smk_model.specs.Grammar.{AreStmts, no_stmt, no_default, by_itself, no_keys, no_aggs, no_more, no_step, no_and, no_or, no_extra, no_then, clear_line, IsWholeLine, whole_line}
+use Rattle.smk_model.specs.Machine.{State, Counts, Symbol, Move, Takes, Skips, Wrong, Past, Outside, through, settle, next, go_on, or_next, fault_in, fault_at, book_symbols, line_symbols, no_counts, book_fault, line_fault, ADefault, AnAs, AKeys, AnAggs, MoreDecls, MoreItems, MoreKeys, MoreAggs, MorePairs, MoreLinked, ASteps, AnAnds, AnOrs, AStmts, AnExtra, MoreMarks, AThen, ACleared, AnEnd, AToken}
 use Rattle.smk_model.specs.GrammarLaws.{Finishes, FaultlessHaveTrees}
 use Rattle.smk_model.proofs.Leaving.{no_end, no_ends, leaves_none, settles, and_left, and_right}
 use Rattle.smk_model.proofs.Moves.{IsSymbol, AreSymbols, settled, MovesAll}
@@ -50,6 +50,7 @@ at_end (AStmts y) c t h = ([], no_stmt (record { is_kind = refl; is_first = refl
 at_end AnExtra c t h = (_, no_extra)
 at_end MoreMarks c t h = ([], no_more)
 at_end AThen c t h = (_, no_then)
+at_end ACleared c t h = λ z u g. (_, clear_line g)
 at_end AnEnd c t h = (the_end t, [], record { is_kind = refl; is_first = refl })
 at_end (AToken k) c t h = token_at_end k c t h
 at_end _ c t h = tt

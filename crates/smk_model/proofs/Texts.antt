@@ -22,8 +22,8 @@ use Rattle.smk_base.specs.declared.tree.Then.{Then}
 use Rattle.smk_base.specs.declared.tree.Line.{Line}
 use Rattle.smk_base.specs.Trees.{PredImage, TreeImage, StepImage, StmtImage, TableNode, ViewNode}
 use Rattle.smk_model.specs.Tokens.{Token, head_of, int_value}
-use Rattle.smk_model.specs.Grammar.{First, IsName, name, IsColumn, number, string, IsFile, file, listed, IsType, int_type, text_type, IsDefault, no_default, default, IsDecl, decl, IsNamed, by_itself, by_as, IsWidth, width, IsItem, column_item, bin_item, IsWhat, count, sum, min, max, IsAgg, agg, AreKeys, no_keys, keys, AreAggs, no_aggs, aggs, IsPair, pair, IsOp, eq, ne, lt, le, gt, ge, IsTerm, column_term, literal_term, IsPrim, negated, bracketed, compared, IsConj, conj, AreAnds, no_and, one_and, IsPred, pred, AreOrs, no_or, one_or, IsPlan, plan, IsSource, scan, inner_plan, AreSteps, no_step, one_step, IsStep, where_step, project_step, distinct_step, group_step, join_step, union_all_step, union_step, IsExtra, no_extra, by_extra, group_extra, table_stmt, view_stmt, back_stmt, fwd_stmt, link_stmt, AreStmts, no_stmt, one_stmt, IsMark, mark, AreMarks, all_marks, listed_marks, IsThen, no_then, where_then, group_then, IsLine, show_line, back_line, fwd_line, brush_line, clear_line, IsWholeLine, whole_line}
-use Rattle.smk_model.specs.Machine.{Counts, Tally, Symbol, Skips, Outside, fault_in, book_symbols, line_symbols, no_counts, book_fault, line_fault, is_mark, is_short, at_more, at_default, at_as, at_keys, at_aggs, at_ands, at_ors, at_steps, at_extra, at_then, at_stmts, at_end, AToken, AName, AColumn, AWidth, AType, ADefault, AnAs, AWhat, AKeys, AnAggs, AFirst, AnItem, ALinked, MoreDecls, MoreItems, MoreKeys, MoreAggs, MorePairs, MoreLinked, ASource, ASteps, AStep, AUnited, APrim, AnAnds, AnOrs, AnOp, ATerm, AStmts, AnExtra, ALine, ALineName, ALineColumn, AMarks, AMark, MoreMarks, AThen}
+use Rattle.smk_model.specs.Grammar.{First, IsName, name, IsColumn, number, string, IsFile, file, listed, IsType, int_type, text_type, IsDefault, no_default, default, IsDecl, decl, IsNamed, by_itself, by_as, IsWidth, width, IsItem, column_item, bin_item, IsWhat, count, sum, min, max, IsAgg, agg, AreKeys, no_keys, keys, AreAggs, no_aggs, aggs, IsPair, pair, IsOp, eq, ne, lt, le, gt, ge, IsTerm, column_term, literal_term, IsPrim, negated, bracketed, compared, IsConj, conj, AreAnds, no_and, one_and, IsPred, pred, AreOrs, no_or, one_or, IsPlan, plan, IsSource, scan, inner_plan, AreSteps, no_step, one_step, IsStep, where_step, project_step, distinct_step, group_step, join_step, union_all_step, union_step, IsExtra, no_extra, by_extra, group_extra, table_stmt, view_stmt, back_stmt, fwd_stmt, link_stmt, AreStmts, no_stmt, one_stmt, IsMark, mark, AreMarks, all_marks, listed_marks, IsThen, no_then, where_then, group_then, IsLine, show_line, back_line, fwd_line, brush_line, clear_line, clear_one_line, IsWholeLine, whole_line}
+use Rattle.smk_model.specs.Machine.{Counts, Tally, Symbol, Skips, Outside, fault_in, book_symbols, line_symbols, no_counts, book_fault, line_fault, is_mark, is_short, at_more, at_default, at_as, at_keys, at_aggs, at_ands, at_ors, at_steps, at_extra, at_then, at_cleared, at_stmts, at_end, AToken, AName, AColumn, AWidth, AType, ADefault, AnAs, AWhat, AKeys, AnAggs, AFirst, AnItem, ALinked, MoreDecls, MoreItems, MoreKeys, MoreAggs, MorePairs, MoreLinked, ASource, ASteps, AStep, AUnited, APrim, AnAnds, AnOrs, AnOp, ATerm, AStmts, AnExtra, ALine, ALineName, ALineColumn, AMarks, AMark, MoreMarks, AThen}
 use Rattle.smk_model.specs.Limits.{Divides, KeepsItems, KeepsTree, KeepsStep, nodes, nodes_of_step, DefaultInRange, KeepsDecls, KeepsPlan, KeepsStmt, is_table, is_view}
 use Rattle.smk_model.specs.GrammarLaws.{AtMostTooMany, TextsAreRead}
 use Rattle.smk_model.proofs.Unique.{rank, rank_of, ranked, aggs_rank, ors_rank, steps_rank, stmts_rank}
@@ -120,6 +120,10 @@ then_skips : (c : Counts) (k : TokenKind) → 8 ≤ rank k → at_then c k ≡ S
 then_skips c kinds.Where h = absurd (omega (arith, h))
 then_skips c kinds.Group h = absurd (omega (arith, h))
 then_skips c _ h = refl
+
+cleared_skips : (c : Counts) (k : TokenKind) → 3 ≤ rank k → at_cleared c k ≡ Skips
+cleared_skips c kinds.Name h = absurd (omega (arith, h))
+cleared_skips c _ h = refl
 
 name_text : {a b : List Token} {w : Word} → IsName a b w → Reads (AName ∷ []) a b
 name_text (name h) = opens h (λ c. limited _ NameBytes tt (taken c)) nothing
@@ -357,7 +361,8 @@ line_text (show_line h w) n = opens h (λ c. taken c) (line_name w)
 line_text (back_line h w m i z x) n = opens h (λ c. taken c) (then_goes (line_name w) (then_goes (marks_text m (omega (arith, ranked i))) (then_goes (token_text i refl) (then_goes (line_name z) (then_text x n)))))
 line_text (fwd_line h w m i z) n = opens h (λ c. taken c) (then_goes (line_name w) (then_goes (marks_text m (omega (arith, ranked i))) (then_goes (token_text i refl) (line_name z))))
 line_text (brush_line h w m i z) n = opens h (λ c. taken c) (then_goes (line_name w) (then_goes (marks_text m (omega (arith, ranked i))) (then_goes (token_text i refl) (line_name z))))
-line_text (clear_line h) n = opens h (λ c. taken c) nothing
+line_text {b = b} (clear_line h) n = opens h (λ c. taken c) (passes (λ c. cleared_skips c (head_of b).kind (omega (arith, n))))
+line_text (clear_one_line h (name w) i z) n = opens h (λ c. taken c) (opens w (λ c. taken c) (then_goes (token_text i refl) (line_name z)))
 
 whole_text : {a : List Token} {l : Line} → IsWholeLine a l → (e : List Token) × Spells line_symbols a e
 whole_text (whole_line {b = b} p h) = (b, then_goes (line_text p (omega (arith, ranked h))) (passes (λ c. ap at_end (end_here h))))

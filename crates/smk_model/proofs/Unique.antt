@@ -18,9 +18,10 @@ use Rattle.smk_base.specs.declared.tree.Marks.{Marks}
 use Rattle.smk_base.specs.declared.tree.Marks.TheVariants as markings
 use Rattle.smk_base.specs.declared.tree.Then.{Then}
 use Rattle.smk_base.specs.declared.tree.Line.{Line}
+use Rattle.smk_base.specs.declared.tree.Line.TheVariants as lines
 use Rattle.smk_base.specs.Trees.{PredImage, NotNode, TreeImage, ScanNode, StepImage, SelectNode, ProjectNode, DistinctNode, UnionAllNode, UnionNode, StmtImage}
 use Rattle.smk_model.specs.Tokens.{Token, head_of, tail_of, int_value, string_value}
-use Rattle.smk_model.specs.Grammar.{First, plain_word, quoted_word, IsName, name, IsColumn, plain, quoted, IsLiteral, number, string, IsFile, file, AreMore, no_more, one_more, AreListed, listed, IsType, int_type, text_type, IsDefault, no_default, default, IsDecl, decl, IsNamed, by_itself, by_as, IsWidth, width, IsItem, column_item, bin_item, IsWhat, count, sum, min, max, IsAgg, agg, AreKeys, no_keys, keys, AreAggs, no_aggs, aggs, IsPair, pair, IsOp, eq, ne, lt, le, gt, ge, IsTerm, column_term, literal_term, IsPrim, negated, bracketed, compared, IsConj, conj, AreAnds, no_and, one_and, IsPred, pred, AreOrs, no_or, one_or, IsPlan, plan, IsSource, scan, inner_plan, AreSteps, no_step, one_step, IsStep, where_step, project_step, distinct_step, group_step, join_step, union_all_step, union_step, IsExtra, no_extra, by_extra, group_extra, IsStmt, table_stmt, view_stmt, back_stmt, fwd_stmt, link_stmt, AreStmts, no_stmt, one_stmt, IsMark, mark, AreMarks, all_marks, listed_marks, IsThen, no_then, where_then, group_then, IsLine, show_line, back_line, fwd_line, brush_line, clear_line, IsWholeLine, whole_line}
+use Rattle.smk_model.specs.Grammar.{First, plain_word, quoted_word, IsName, name, IsColumn, plain, quoted, IsLiteral, number, string, IsFile, file, AreMore, no_more, one_more, AreListed, listed, IsType, int_type, text_type, IsDefault, no_default, default, IsDecl, decl, IsNamed, by_itself, by_as, IsWidth, width, IsItem, column_item, bin_item, IsWhat, count, sum, min, max, IsAgg, agg, AreKeys, no_keys, keys, AreAggs, no_aggs, aggs, IsPair, pair, IsOp, eq, ne, lt, le, gt, ge, IsTerm, column_term, literal_term, IsPrim, negated, bracketed, compared, IsConj, conj, AreAnds, no_and, one_and, IsPred, pred, AreOrs, no_or, one_or, IsPlan, plan, IsSource, scan, inner_plan, AreSteps, no_step, one_step, IsStep, where_step, project_step, distinct_step, group_step, join_step, union_all_step, union_step, IsExtra, no_extra, by_extra, group_extra, IsStmt, table_stmt, view_stmt, back_stmt, fwd_stmt, link_stmt, AreStmts, no_stmt, one_stmt, IsMark, mark, AreMarks, all_marks, listed_marks, IsThen, no_then, where_then, group_then, IsLine, show_line, back_line, fwd_line, brush_line, clear_line, clear_one_line, IsWholeLine, whole_line}
 
 -- how strongly a token continues what stands before it
 abbrev pub rank : TokenKind → ℕ
@@ -443,32 +444,39 @@ one_then e (group_then h0) no_then n m = absurd (omega (arith, same_rank e, rank
 one_then e (group_then h0) (where_then k0 k1 k2 k3) n m = let r = same_at e h0 k0 in absurd (cc)
 one_then e (group_then h0) (group_then k0) n m = (refl, (same_at e h0 k0).2)
 
+-- the keyword that begins a line
+abbrev opener : Line → TokenKind
+opener (lines.Show view) = kinds.Show
+opener (lines.Back view marks table then) = kinds.Back
+opener (lines.Fwd table rows view) = kinds.Fwd
+opener (lines.Brush view marks table) = kinds.Brush
+opener lines.Clear = kinds.Clear
+opener (lines.ClearOne view table) = kinds.Clear
+
+first_kind : {k : TokenKind} {t : Token} {a b : List Token} → First k t a b → (head_of a).kind ≡ k
+first_kind h = ap (λ l. (head_of l).kind) h.is_first ∙ h.is_kind
+
+opening : {a b : List Token} {x : Line} → IsLine a b x → (head_of a).kind ≡ opener x
+opening (show_line h w) = first_kind h
+opening (back_line h w m i z x) = first_kind h
+opening (fwd_line h w m i z) = first_kind h
+opening (brush_line h w m i z) = first_kind h
+opening (clear_line h) = first_kind h
+opening (clear_one_line h w i z) = first_kind h
+
+same_opener : {a a' b c : List Token} {x y : Line} → a ≡ a' → IsLine a b x → IsLine a' c y → opener x ≡ opener y
+same_opener e p q = sym (opening p) ∙ ap (λ l. (head_of l).kind) e ∙ opening q
+
 one_line_at : {a a' b c : List Token} {x y : Line} → a ≡ a' → IsLine a b x → IsLine a' c y → 8 ≤ rank_of b → 8 ≤ rank_of c → (x ≡ y) × (b ≡ c)
 one_line_at e (show_line h0 h1) (show_line k0 k1) n m = let r0 = same_at e h0 k0 in let r1 = one_name r0.2 h1 k1 in (cc, r1.1)
-one_line_at e (show_line h0 h1) (back_line k0 k1 k2 k3 k4 k5) n m = let r = same_at e h0 k0 in absurd (cc)
-one_line_at e (show_line h0 h1) (fwd_line k0 k1 k2 k3 k4) n m = let r = same_at e h0 k0 in absurd (cc)
-one_line_at e (show_line h0 h1) (brush_line k0 k1 k2 k3 k4) n m = let r = same_at e h0 k0 in absurd (cc)
-one_line_at e (show_line h0 h1) (clear_line k0) n m = let r = same_at e h0 k0 in absurd (cc)
-one_line_at e (back_line h0 h1 h2 h3 h4 h5) (show_line k0 k1) n m = let r = same_at e h0 k0 in absurd (cc)
 one_line_at e (back_line h0 h1 h2 h3 h4 h5) (back_line k0 k1 k2 k3 k4 k5) n m = let r0 = same_at e h0 k0 in let r1 = one_name r0.2 h1 k1 in let r2 = one_marks r1.1 h2 k2 (omega (arith, ranked h3)) (omega (arith, ranked k3)) in let r3 = same_at r2.1 h3 k3 in let r4 = one_name r3.2 h4 k4 in let r5 = one_then r4.1 h5 k5 n m in (cc, r5.1)
-one_line_at e (back_line h0 h1 h2 h3 h4 h5) (fwd_line k0 k1 k2 k3 k4) n m = let r = same_at e h0 k0 in absurd (cc)
-one_line_at e (back_line h0 h1 h2 h3 h4 h5) (brush_line k0 k1 k2 k3 k4) n m = let r = same_at e h0 k0 in absurd (cc)
-one_line_at e (back_line h0 h1 h2 h3 h4 h5) (clear_line k0) n m = let r = same_at e h0 k0 in absurd (cc)
-one_line_at e (fwd_line h0 h1 h2 h3 h4) (show_line k0 k1) n m = let r = same_at e h0 k0 in absurd (cc)
-one_line_at e (fwd_line h0 h1 h2 h3 h4) (back_line k0 k1 k2 k3 k4 k5) n m = let r = same_at e h0 k0 in absurd (cc)
 one_line_at e (fwd_line h0 h1 h2 h3 h4) (fwd_line k0 k1 k2 k3 k4) n m = let r0 = same_at e h0 k0 in let r1 = one_name r0.2 h1 k1 in let r2 = one_marks r1.1 h2 k2 (omega (arith, ranked h3)) (omega (arith, ranked k3)) in let r3 = same_at r2.1 h3 k3 in let r4 = one_name r3.2 h4 k4 in (cc, r4.1)
-one_line_at e (fwd_line h0 h1 h2 h3 h4) (brush_line k0 k1 k2 k3 k4) n m = let r = same_at e h0 k0 in absurd (cc)
-one_line_at e (fwd_line h0 h1 h2 h3 h4) (clear_line k0) n m = let r = same_at e h0 k0 in absurd (cc)
-one_line_at e (brush_line h0 h1 h2 h3 h4) (show_line k0 k1) n m = let r = same_at e h0 k0 in absurd (cc)
-one_line_at e (brush_line h0 h1 h2 h3 h4) (back_line k0 k1 k2 k3 k4 k5) n m = let r = same_at e h0 k0 in absurd (cc)
-one_line_at e (brush_line h0 h1 h2 h3 h4) (fwd_line k0 k1 k2 k3 k4) n m = let r = same_at e h0 k0 in absurd (cc)
 one_line_at e (brush_line h0 h1 h2 h3 h4) (brush_line k0 k1 k2 k3 k4) n m = let r0 = same_at e h0 k0 in let r1 = one_name r0.2 h1 k1 in let r2 = one_marks r1.1 h2 k2 (omega (arith, ranked h3)) (omega (arith, ranked k3)) in let r3 = same_at r2.1 h3 k3 in let r4 = one_name r3.2 h4 k4 in (cc, r4.1)
-one_line_at e (brush_line h0 h1 h2 h3 h4) (clear_line k0) n m = let r = same_at e h0 k0 in absurd (cc)
-one_line_at e (clear_line h0) (show_line k0 k1) n m = let r = same_at e h0 k0 in absurd (cc)
-one_line_at e (clear_line h0) (back_line k0 k1 k2 k3 k4 k5) n m = let r = same_at e h0 k0 in absurd (cc)
-one_line_at e (clear_line h0) (fwd_line k0 k1 k2 k3 k4) n m = let r = same_at e h0 k0 in absurd (cc)
-one_line_at e (clear_line h0) (brush_line k0 k1 k2 k3 k4) n m = let r = same_at e h0 k0 in absurd (cc)
 one_line_at e (clear_line h0) (clear_line k0) n m = (refl, (same_at e h0 k0).2)
+one_line_at e (clear_line h0) (clear_one_line k0 (name k1) k2 k3) n m = let r = same_at e h0 k0 in absurd (omega (arith, same_rank r.2, ranked k1, n))
+one_line_at e (clear_one_line h0 (name h1) h2 h3) (clear_line k0) n m = let r = same_at e h0 k0 in absurd (omega (arith, same_rank r.2, ranked h1, m))
+one_line_at e (clear_one_line h0 h1 h2 h3) (clear_one_line k0 k1 k2 k3) n m = let r0 = same_at e h0 k0 in let r1 = one_name r0.2 h1 k1 in let r2 = same_at r1.1 h2 k2 in let r3 = one_name r2.2 h3 k3 in (cc, r3.1)
+one_line_at e p q n m = let r = same_opener e p q in absurd (cc)
 
 pub one_line : (a : List Token) (l u : Line) → IsWholeLine a l → IsWholeLine a u → l ≡ u
 one_line a l u (whole_line p h) (whole_line q k) = (one_line_at refl p q (omega (arith, ranked h)) (omega (arith, ranked k))).0

@@ -1,6 +1,6 @@
 -- The books and lines that are answered; others are refused by their form until they are.
-use Rattle.std.specs.Prelude.{Bool, true, false, not, ◌&&◌, List, IsTrue}
-use Rattle.std.specs.List.{list_all, list_any}
+use Rattle.std.specs.Prelude.{Bool, true, false, IsTrue}
+use Rattle.std.specs.List.{list_all}
 use Rattle.smk_base.specs.CatalogImage.{CatalogImage}
 use Rattle.smk_base.specs.declared.catalog.Back.{Back}
 use Rattle.smk_base.specs.declared.catalog.BackExtra.{BackExtra}
@@ -20,13 +20,9 @@ is_plain (extras.Grouped keys aggs names kinds) = false
 abbrev pub is_back_answered : Back → Bool
 is_back_answered declared = is_plain declared.extra
 
--- whether a list has no member
-abbrev pub is_none : {A : Type 0} → List A → Bool
-is_none members = not (list_any (λ member. true) members)
-
--- a book without links, whose backward declarations are plain
+-- a book whose backward declarations are plain
 abbrev pub is_book_answered : CatalogImage → Bool
-is_book_answered catalog = is_none catalog.links && list_all is_back_answered catalog.backs
+is_book_answered catalog = list_all is_back_answered catalog.backs
 
 abbrev pub IsBookAnswered : CatalogImage → Type 0
 IsBookAnswered catalog = IsTrue (is_book_answered catalog)
@@ -36,14 +32,14 @@ asks_rows thens.Plain = true
 asks_rows (thens.Matching column value) = false
 asks_rows thens.Grouped = false
 
--- a line that shows a view, or asks a backward query for its rows or a forward query
+-- every line but a backward query for a part of the rows or for a grouping of them
 abbrev pub is_line_answered : Line → Bool
 is_line_answered (lines.Show view) = true
 is_line_answered (lines.Back view marks table then) = asks_rows then
 is_line_answered (lines.Fwd table rows view) = true
-is_line_answered (lines.Brush view marks table) = false
-is_line_answered lines.Clear = false
-is_line_answered (lines.ClearOne view table) = false
+is_line_answered (lines.Brush view marks table) = true
+is_line_answered lines.Clear = true
+is_line_answered (lines.ClearOne view table) = true
 
 -- a line that says nothing or isn't in the grammar is never refused by its form
 abbrev pub is_reading_answered : Reading → Bool

@@ -215,6 +215,7 @@ pub data IsLine : List Token → List Token → Line → Type 0 where
   fwd_line : {a b c d e f : List Token} {t u : Token} {w z : Word} {m : Marks} → First kinds.Fwd t a b → IsName b c w → AreMarks c d m → First kinds.To u d e → IsName e f z → IsLine a f (lines.Fwd w.name m z.name)
   brush_line : {a b c d e f : List Token} {t u : Token} {w z : Word} {m : Marks} → First kinds.Brush t a b → IsName b c w → AreMarks c d m → First kinds.On u d e → IsName e f z → IsLine a f (lines.Brush w.name m z.name)
   clear_line : {a b : List Token} {t : Token} → First kinds.Clear t a b → IsLine a b lines.Clear
+  clear_one_line : {a b c d e : List Token} {t u : Token} {w z : Word} → First kinds.Clear t a b → IsName b c w → First kinds.On u c d → IsName d e z → IsLine a e (lines.ClearOne w.name z.name)
 
 -- a line, up to the end
 pub data IsWholeLine : List Token → Line → Type 0 where

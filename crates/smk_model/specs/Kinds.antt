@@ -1,5 +1,5 @@
 -- When a step fits the kinds of its inputs, and the kinds of its output. Columns are numbers here, so the rules on their names have no part in it.
-use Rattle.std.specs.Prelude.{T, ℕ, ◌+◌, ◌<◌, ◌≤◌, pos, ◌≤ℤ◌, List, [], ◌∷◌, ◌++◌, length, map, All}
+use Rattle.std.specs.Prelude.{ℕ, ◌+◌, ◌<◌, ◌≤◌, pos, ◌≤ℤ◌, List, [], ◌∷◌, ◌++◌, length, map, All}
 use Rattle.std.specs.List.{AllZip}
 use Rattle.smk_base.specs.declared.value.Value.{Value}
 use Rattle.smk_base.specs.declared.value.Value.TheVariants as values
@@ -13,12 +13,7 @@ use Rattle.smk_base.specs.declared.plan.Agg.{Agg}
 use Rattle.smk_base.specs.declared.plan.Agg.TheVariants.{Count, Sum, Min, Max}
 use Rattle.smk_base.specs.Plans.{Formula, Comparison, Conjunction, Disjunction, Negation, Unary, Selection, Projection, Distinction, Grouping, Binary, Equijoin, ThetaJoin, CrossProduct, BagUnion, SetUnion}
 use Rattle.smk_base.specs.Rels.{kind_in}
-pub use Rattle.smk_base.specs.Widths.{wider}
-use Rattle.smk_model.specs.Names.{same_sort}
-
--- both ints or both texts; levels may differ
-abbrev pub AreAlike : Kind → Kind → Type 0
-AreAlike left right = T (same_sort left right)
+pub use Rattle.smk_base.specs.Widths.{AreAlike, wider}
 
 -- the kind of a literal
 abbrev pub kind_of : Value → Kind

@@ -17,11 +17,16 @@ pub mod Opening
 pub mod ReplyLaws
 pub mod SessionExamples
 pub mod Forms
+pub mod Words
 pub mod Reports
+pub mod Demo
+pub mod DemoExamples
+pub mod DemoLaws
 pub mod Outcome
 pub mod OutcomeLaws
 pub mod Looks
 pub mod RunExamples
+pub mod LineExamples
 pub mod CuiWidom
 pub mod Composed
 pub mod ComposedLaws

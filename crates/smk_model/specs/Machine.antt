@@ -39,7 +39,7 @@ pub data Symbol : Type 0 where
   AnOp ATerm : Symbol
   AStmts : Tally → Symbol
   ALineage AnExtra : Symbol
-  ALine ALineName ALineColumn AMarks AMark MoreMarks AThen AnEnd : Symbol
+  ALine ALineName ALineColumn AMarks AMark MoreMarks AThen ACleared AnEnd : Symbol
 
 -- what a token does: it is taken, with these counts, and these symbols are left of the first; or the first symbol is nothing here; or the token is wrong; or it begins one thing too many; or its number is out of range
 pub data Move : Type 0 where
@@ -209,7 +209,7 @@ at_line c kinds.Show = Takes c (ALineName ∷ [])
 at_line c kinds.Back = Takes c (ALineName ∷ AMarks ∷ AToken kinds.To ∷ ALineName ∷ AThen ∷ [])
 at_line c kinds.Fwd = Takes c (ALineName ∷ AMarks ∷ AToken kinds.To ∷ ALineName ∷ [])
 at_line c kinds.Brush = Takes c (ALineName ∷ AMarks ∷ AToken kinds.On ∷ ALineName ∷ [])
-at_line c kinds.Clear = Takes c []
+at_line c kinds.Clear = Takes c (ACleared ∷ [])
 at_line c _ = Wrong
 
 -- in a line a name may have any length
@@ -233,6 +233,11 @@ abbrev pub at_then : Counts → TokenKind → Move
 at_then c kinds.Where = Takes c (ALineColumn ∷ AToken kinds.Equal ∷ ALiteral ∷ [])
 at_then c kinds.Group = Takes c []
 at_then c _ = Skips
+
+-- a view and a table, or nothing
+abbrev pub at_cleared : Counts → TokenKind → Move
+at_cleared c kinds.Name = Takes c (AToken kinds.On ∷ ALineName ∷ [])
+at_cleared c _ = Skips
 
 abbrev pub at_end : TokenKind → Move
 at_end kinds.End = Skips
@@ -282,6 +287,7 @@ next c AMarks t = at_marks c (int_value t.text) t.kind
 next c AMark t = at_mark c [] (int_value t.text) t.kind
 next c MoreMarks t = at_more c (AMark ∷ MoreMarks ∷ []) t.kind
 next c AThen t = at_then c t.kind
+next c ACleared t = at_cleared c t.kind
 next c AnEnd t = at_end t.kind
 
 -- the first symbol that isn't nothing here takes the token

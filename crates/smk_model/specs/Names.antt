@@ -4,6 +4,7 @@ use Rattle.std.specs.List.{list_any}
 use Rattle.std.specs.Cmp.Lexicographic.{pointwise}
 use Rattle.smk_base.specs.declared.value.Kind.{Kind}
 use Rattle.smk_base.specs.declared.value.Kind.TheVariants as kinds
+pub use Rattle.smk_base.specs.Widths.{same_sort}
 use Rattle.smk_base.specs.declared.tree.Word.{Word}
 use Rattle.smk_base.specs.declared.catalog.Column.{Column}
 use Rattle.smk_base.specs.declared.type_fault.TypeFault.{TypeFault}
@@ -58,13 +59,6 @@ column_at columns c = slice_index_or columns c (record { name = []; kind = kinds
 -- the number and the kind of the column that a word names: known, else UnknownColumn at the word
 abbrev pub column_named : List Column → Word → Typed (ℕ × Kind)
 column_named columns word = ok_or (option_map (λ c. (c, (column_at columns c).kind)) (position (has_name word.name) columns)) (UnknownColumn word.at)
-
--- whether two kinds are both ints, of any levels, or both texts
-abbrev pub same_sort : Kind → Kind → Bool
-same_sort (kinds.Int a) (kinds.Int b) = true
-same_sort (kinds.Int a) kinds.Text = false
-same_sort kinds.Text (kinds.Int b) = false
-same_sort kinds.Text kinds.Text = true
 
 abbrev pub is_text : Kind → Bool
 is_text (kinds.Int level) = false

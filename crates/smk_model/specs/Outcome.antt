@@ -1,7 +1,7 @@
 -- The outcome of a run, by its words and by what the files hold: its report, or its first fault.
-use Rattle.std.specs.Prelude.{◌≡◌, ◌≢◌, ◌⊎◌, ℕ, ◌+◌, Bool, false, cond, nat_eq, nat_lt, List, [], ◌∷◌, ◌++◌, length, map, slice_index_or, Option, Some, None, Result, Ok, Err}
+use Rattle.std.specs.Prelude.{◌≡◌, ◌≢◌, ◌⊎◌, ℕ, ◌+◌, cond, nat_lt, List, [], ◌∷◌, ◌++◌, length, map, slice_index_or, Option, Some, None, Result, Ok, Err}
 use Rattle.std.specs.Option.{ok_or}
-use Rattle.std.specs.List.{list_any, list_all}
+use Rattle.std.specs.List.{list_all}
 use Rattle.smk_base.specs.Marks.{after_marks}
 use Rattle.smk_base.specs.Trees.{StmtImage}
 use Rattle.smk_base.specs.CatalogImage.{CatalogImage}
@@ -13,6 +13,7 @@ use Rattle.smk_base.specs.declared.fault.Fault.TheVariants.{Usage, Book, Types, 
 use Rattle.smk_base.specs.declared.fault.BookFault.{BookFault}
 use Rattle.smk_base.specs.declared.fault.TableFault.{TableFault}
 use Rattle.smk_base.specs.declared.fault.TableFault.TheVariants as table_faults
+use Rattle.smk_model.specs.Words.{Words, words_of, book_of, script_of}
 use Rattle.smk_model.specs.Values.{Row}
 use Rattle.smk_model.specs.Tokens.{tokens}
 use Rattle.smk_model.specs.Grammar.{AreStmts}
@@ -30,31 +31,6 @@ use Rattle.smk_model.specs.Reports.{Report, report_of, script_told}
 -- what the files hold: the bytes under a name, or none
 abbrev pub Held : Type 0
 Held = List ℕ → Option (List ℕ)
-
--- where the texts of a run come from: the file of the book, and that of the script where there is one
-pub data Words : Type 0 where
-  Files : List ℕ → Option (List ℕ) → Words
-
-abbrev pub book_of : Words → List ℕ
-book_of (Files book script) = book
-
-abbrev pub script_of : Words → Option (List ℕ)
-script_of (Files book script) = script
-
--- whether a word is written as an option
-abbrev pub is_option : List ℕ → Bool
-is_option [] = false
-is_option (b ∷ bs) = nat_eq b 45
-
--- one or two words, none of them an option
-abbrev pub plain_words : List (List ℕ) → Option Words
-plain_words [] = None
-plain_words (book ∷ []) = Some (Files book None)
-plain_words (book ∷ script ∷ []) = Some (Files book (Some script))
-plain_words (a ∷ b ∷ c ∷ rest) = None
-
-abbrev pub words_of : List (List ℕ) → Option Words
-words_of words = cond (list_any is_option words) None (plain_words words)
 
 -- the most bytes that a file may have
 abbrev pub file_limit : ℕ

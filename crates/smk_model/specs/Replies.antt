@@ -6,7 +6,7 @@ use Rattle.smk_base.specs.Places.{upto}
 use Rattle.smk_base.specs.Plans.{Grouping}
 use Rattle.smk_base.specs.Rels.{Relation}
 use Rattle.smk_base.specs.Values.{value_eq}
-use Rattle.smk_base.specs.CatalogImage.{CatalogImage}
+use Rattle.smk_base.specs.CatalogImage.{CatalogImage, view_place, table_place}
 use Rattle.smk_base.specs.declared.brush.BrushOn.{BrushOn}
 use Rattle.smk_base.specs.declared.catalog.Back.{Back}
 use Rattle.smk_base.specs.declared.catalog.BackExtra.{BackExtra}
@@ -37,7 +37,7 @@ use Rattle.smk_model.specs.Tables.{all_or_first}
 use Rattle.smk_model.specs.Typing.{info_at, columns_of}
 use Rattle.smk_model.specs.Catalogs.{table_kinds}
 use Rattle.smk_model.specs.Workload.{is_back, is_link, declares_back, declares_fwd}
-use Rattle.smk_model.specs.Session.{State, view_place, table_place, view_at, rows_of_table, first_content, linked, selected_for, leaves_now, content, with_brush, without_brush, under}
+use Rattle.smk_model.specs.Session.{State, view_at, rows_of_table, first_content, linked, selected_for, leaves_now, content, with_brush, without_brush, under}
 
 -- what is asked for, or why the line is refused
 abbrev pub Asked : Type 0 → Type 0

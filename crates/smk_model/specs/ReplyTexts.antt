@@ -3,7 +3,7 @@ use Rattle.std.specs.Prelude.{◌≡◌, ◌<◌, ⊤, ℕ, List, [], ◌∷◌,
 use Rattle.std.specs.List.{flat_map}
 use Rattle.std.specs.Cmp.Lexicographic.{pointwise}
 use Rattle.smk_base.specs.Rels.{Relation}
-use Rattle.smk_base.specs.CatalogImage.{CatalogImage, ViewImage}
+use Rattle.smk_base.specs.CatalogImage.{CatalogImage, ViewImage, view_place, table_place}
 use Rattle.smk_base.specs.declared.catalog.TableInfo.{TableInfo}
 use Rattle.smk_base.specs.declared.tree.Line.{Line}
 use Rattle.smk_base.specs.declared.tree.Line.TheVariants as lines
@@ -16,7 +16,7 @@ use Rattle.smk_base.specs.declared.reply.Refusal.{Refusal}
 use Rattle.smk_base.specs.declared.reply.Refusal.TheVariants as refusals
 use Rattle.smk_model.specs.Values.{Row}
 use Rattle.smk_model.specs.ShownNames.{shown}
-use Rattle.smk_model.specs.Session.{view_place, table_place, view_at}
+use Rattle.smk_model.specs.Session.{view_at}
 use Rattle.smk_model.specs.Replies as asked_for
 use Rattle.smk_model.specs.Replies.{grouping_of}
 use Rattle.smk_model.specs.Texts.{line, numbers_line, view_text, back_text, group_text, fwd_text, brush_text, no_row_text}

@@ -4,6 +4,7 @@ use Rattle.std.specs.List.{flat_map}
 use Rattle.smk_base.specs.CatalogImage.{CatalogImage, ViewImage}
 use Rattle.smk_base.specs.declared.tree.Line.{Line}
 use Rattle.smk_base.specs.declared.reply.Reply.{Reply}
+use Rattle.smk_base.specs.declared.size.Size.{Size}
 use Rattle.smk_model.specs.Values.{Row}
 use Rattle.smk_model.specs.Plain.{rows_over}
 use Rattle.smk_model.specs.Texts.{view_text, bad_line_text}
@@ -64,11 +65,6 @@ lines_told catalog state number (reading ∷ readings) =
 -- lines are numbered from 1, and the first meets no brush
 abbrev pub script_told : Workbook → List Reading → Told
 script_told book readings = lines_told book.catalog (first_state book) 1 readings
-
--- the name of a view, and the number of its rows
-pub record Size : Type 0 where
-  pub name : List ℕ
-  pub rows : ℕ
 
 -- what a run writes, and what is told of it
 pub record Report : Type 0 where

@@ -99,7 +99,7 @@ pub record RunsHold : Type 0 where
   pub too_many_pairs : named_fault small_catalog (codes "v") (FullPairs 1 0) ≡ ViewPairs (codes "v") 1 (codes "t")
   pub answered : is_book_answered small_catalog ≡ true
   pub not_answered : is_book_answered split_catalog ≡ false
-  pub brush_not_answered : is_reading_answered (Asks lines.Clear) ≡ false
+  pub clear_answered : is_reading_answered (Asks lines.Clear) ≡ true
   pub loaded : load_all (held_as (codes "a\n5\n10\n-3\n40\n")) small_catalog.tables ≡ Ok small_book.tables
   pub missing_file : load (λ name. None) t_table ≡ Err (unread_fault (codes "t.csv"))
   pub no_header : load (held_as []) t_table ≡ Err (Table (codes "t") None NoHeader)

@@ -1,5 +1,5 @@
 -- What a session stands at: the rows of the tables and the brushes in force, and what each view shows there.
-use Rattle.std.specs.Prelude.{ℕ, Bool, not, cond, ◌&&◌, nat_eq, List, [], ◌∷◌, ◌++◌, length, map, position, slice_index_or, Option}
+use Rattle.std.specs.Prelude.{ℕ, Bool, not, cond, ◌&&◌, nat_eq, List, [], ◌∷◌, ◌++◌, length, map, slice_index_or}
 use Rattle.std.specs.List.{list_all, list_any, filter, flat_map}
 use Rattle.smk_base.specs.Places.{places, has, upto}
 use Rattle.smk_base.specs.Plans.{Leaf}
@@ -7,7 +7,6 @@ use Rattle.smk_base.specs.CatalogImage.{CatalogImage, ViewImage}
 use Rattle.smk_base.specs.declared.brush.BrushOn.{BrushOn}
 use Rattle.smk_base.specs.declared.pick.Pick.{Pick}
 use Rattle.smk_model.specs.Values.{Row}
-use Rattle.smk_model.specs.Names.{same_name}
 use Rattle.smk_model.specs.Plain.{table_at, rows_over, eval}
 use Rattle.smk_model.specs.Selection.{over}
 use Rattle.smk_model.specs.Workload.{is_link}
@@ -25,13 +24,6 @@ pub record State : Type 0 where
 -- a session begins with no brush
 abbrev pub first_state : Workbook → State
 first_state book = record { tables = book.tables; brushes = [] }
-
--- the number of the view, and of the table, with this name
-abbrev pub view_place : CatalogImage → List ℕ → Option ℕ
-view_place catalog name = position (λ view. same_name view.name name) catalog.views
-
-abbrev pub table_place : CatalogImage → List ℕ → Option ℕ
-table_place catalog name = position (λ table. same_name table.name name) catalog.tables
 
 -- the view with this number
 abbrev pub no_view : ViewImage

@@ -1,9 +1,10 @@
 -- Tokens of books and of script lines: at each place the longest.
-use Rattle.std.specs.Prelude.{◌≡◌, ℕ, zero, suc, ◌+◌, ◌-◌, ◌*◌, ◌^◌, ◌==◌, ◌||◌, ◌&&◌, Bool, true, false, List, [], ◌∷◌, drop, length, take, take_while, Option, Some, None, nat_eq, nat_lt, nat_le, if◌then◌else◌, codes, not, ℤ, pos, neg_ℤ}
+use Rattle.std.specs.Prelude.{◌≡◌, ℕ, zero, suc, ◌+◌, ◌-◌, ◌*◌, ◌^◌, ◌==◌, ◌||◌, ◌&&◌, Bool, true, false, List, [], ◌∷◌, drop, length, map, take, take_while, Option, Some, None, nat_eq, nat_lt, nat_le, if◌then◌else◌, not, ℤ, pos, neg_ℤ}
 use Rattle.std.specs.Char.{is_ascii_digit, is_ascii_alphabetic}
 use Rattle.std.specs.Cmp.Lexicographic.{pointwise}
 use Rattle.smk_base.specs.declared.token.TokenKind.{TokenKind}
-use Rattle.smk_base.specs.declared.token.TokenKind.TheVariants.{All, And, Append, As, Ask, Back, Bin, Brush, By, Clear, Count, Default, Distinct, Fd, From, Fwd, Group, Int, Join, Lineage, Link, Max, Min, Not, On, Or, Product, Project, Scan, Show, Sum, Table, Text, Theta, To, Union, View, Where, Name, Quoted, Number, Str, Comma, Open, Close, OpenBrace, CloseBrace, Bar, Equal, NotEqual, Less, LessEqual, Greater, GreaterEqual, End, Bad, Huge}
+use Rattle.smk_base.specs.declared.token.TheConstants.{KEYWORDS}
+use Rattle.smk_base.specs.declared.token.TokenKind.TheVariants.{Name, Quoted, Number, Str, Comma, Open, Close, OpenBrace, CloseBrace, Bar, Equal, NotEqual, Less, LessEqual, Greater, GreaterEqual, End, Bad, Huge}
 
 -- a token of a text: its place, its kind and its bytes
 pub record Token : Type 0 where
@@ -34,46 +35,7 @@ pub record Keyword : Type 0 where
 
 -- the keywords
 abbrev pub keywords : List Keyword
-keywords =
-    record { word = codes "all"; kind = All }
-    ∷ record { word = codes "and"; kind = And }
-    ∷ record { word = codes "append"; kind = Append }
-    ∷ record { word = codes "as"; kind = As }
-    ∷ record { word = codes "ask"; kind = Ask }
-    ∷ record { word = codes "back"; kind = Back }
-    ∷ record { word = codes "bin"; kind = Bin }
-    ∷ record { word = codes "brush"; kind = Brush }
-    ∷ record { word = codes "by"; kind = By }
-    ∷ record { word = codes "clear"; kind = Clear }
-    ∷ record { word = codes "count"; kind = Count }
-    ∷ record { word = codes "default"; kind = Default }
-    ∷ record { word = codes "distinct"; kind = Distinct }
-    ∷ record { word = codes "fd"; kind = Fd }
-    ∷ record { word = codes "from"; kind = From }
-    ∷ record { word = codes "fwd"; kind = Fwd }
-    ∷ record { word = codes "group"; kind = Group }
-    ∷ record { word = codes "int"; kind = Int }
-    ∷ record { word = codes "join"; kind = Join }
-    ∷ record { word = codes "lineage"; kind = Lineage }
-    ∷ record { word = codes "link"; kind = Link }
-    ∷ record { word = codes "max"; kind = Max }
-    ∷ record { word = codes "min"; kind = Min }
-    ∷ record { word = codes "not"; kind = Not }
-    ∷ record { word = codes "on"; kind = On }
-    ∷ record { word = codes "or"; kind = Or }
-    ∷ record { word = codes "product"; kind = Product }
-    ∷ record { word = codes "project"; kind = Project }
-    ∷ record { word = codes "scan"; kind = Scan }
-    ∷ record { word = codes "show"; kind = Show }
-    ∷ record { word = codes "sum"; kind = Sum }
-    ∷ record { word = codes "table"; kind = Table }
-    ∷ record { word = codes "text"; kind = Text }
-    ∷ record { word = codes "theta"; kind = Theta }
-    ∷ record { word = codes "to"; kind = To }
-    ∷ record { word = codes "union"; kind = Union }
-    ∷ record { word = codes "view"; kind = View }
-    ∷ record { word = codes "where"; kind = Where }
-    ∷ []
+keywords = map (λ k. record { word = k.0.now; kind = k.1 }) KEYWORDS
 
 -- the kind that the list gives the word, or this one
 abbrev pub kind_in : List Keyword → TokenKind → List ℕ → TokenKind

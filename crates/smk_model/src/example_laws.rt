@@ -1,12 +1,20 @@
 //! Small examples worked by hand, which the definitions compute. Each is an empty function whose contract has the example's values.
 
+ghost use Rattle.smk_model.specs.DemoExamples.{DemosHold};
 ghost use Rattle.smk_model.specs.Examples.{ExamplesHold};
+ghost use Rattle.smk_model.specs.LineExamples.{LinesHold};
 ghost use Rattle.smk_model.specs.RunExamples.{RunsHold};
 ghost use Rattle.smk_model.specs.SessionExamples.{SessionsHold};
 
 /// The rows of six views over two tables, the rids that they come from, and the lists of one step.
 pub fn examples_hold()
     ensures { ExamplesHold }
+{}
+
+/// The trees of lines, and the places at which texts leave the grammar.
+#[tactic(auto, using(crate::proofs::LineExamples::lines_hold))]
+pub fn lines_hold()
+    ensures { LinesHold }
 {}
 
 /// The rows, the texts of the views and the replies of a run, and the faults of a table's file.
@@ -17,4 +25,9 @@ pub fn runs_hold()
 /// What sessions answer over the same tables: backward and forward queries, splits and groupings, and brushes one after the other.
 pub fn sessions_hold()
     ensures { SessionsHold }
+{}
+
+/// The files of the demo of one flight, and the summary of a small report.
+pub fn demos_hold()
+    ensures { DemosHold }
 {}

@@ -3,6 +3,7 @@
 
 pub mod class_laws;
 pub mod composed_laws;
+pub mod demo_laws;
 pub mod direction_laws;
 pub mod example_laws;
 pub mod fault_laws;
