@@ -43,7 +43,7 @@ fn read_records(
     let width = fields.len();
     let mut rel = empty_rel(alloc, cols)?;
     read_rows(reader, fields, cols, places.as_slice(), width, &mut rel)?;
-    Ok(Table::of_rel(rel))
+    Ok(Table::of_rel(rel.shared(alloc)?))
 }
 
 /// A Rel of the kinds of the declared columns, with no row.
