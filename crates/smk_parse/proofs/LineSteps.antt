@@ -6,7 +6,7 @@ use Rattle.smk_base.specs.declared.token.TokenKind.TheVariants as kinds
 use Rattle.smk_base.specs.declared.fault.BookFault.{BookFault}
 use Rattle.smk_base.specs.declared.fault.BookFault.TheVariants.{BadNumber}
 use Rattle.smk_model.specs.Tokens.{head_of, tail_of, int_value}
-use Rattle.smk_model.specs.Machine.{State, Counts, Symbol, Takes, Skips, Wrong, Outside, fault_at, is_mark, at_line, at_line_column, at_literal, at_marks, at_mark, at_then, at_more, at_end, AToken, ALine, ALineName, ALineColumn, ALiteral, AMarks, AMark, MoreMarks, AThen, AnEnd}
+use Rattle.smk_model.specs.Machine.{State, Counts, Symbol, Takes, Skips, Wrong, Outside, fault_at, is_mark, at_line, at_line_column, at_literal, at_marks, at_mark, at_then, at_more, at_cleared, at_end, AToken, ALine, ALineName, ALineColumn, ALiteral, AMarks, AMark, MoreMarks, AThen, ACleared, AnEnd}
 use Rattle.smk_parse.specs.Readers.{Advances}
 use Rattle.smk_parse.specs.Reads.{Leads, Fails}
 use Rattle.smk_parse.proofs.Steps.{Opens, Comes, opened, open_only, wrong, outside, skips, begins, NoSkip, with_more, comes_leads, comes_fails, open_fails, first_fails}
@@ -26,8 +26,18 @@ fwd_opens a b h e = opened ALine _ a.counts a b h (ap (at_line a.counts) e)
 pub brush_opens : (a b : State) → Advances a.counts a b → (head_of a.rest).kind ≡ kinds.Brush → Opens ALine (ALineName ∷ AMarks ∷ AToken kinds.On ∷ ALineName ∷ []) a b
 brush_opens a b h e = opened ALine _ a.counts a b h (ap (at_line a.counts) e)
 
-pub clear_leads : (a b : State) → Advances a.counts a b → (head_of a.rest).kind ≡ kinds.Clear → Leads (ALine ∷ []) a b
-clear_leads a b h e = open_only ALine a b (opened ALine [] a.counts a b h (ap (at_line a.counts) e))
+pub clear_opens : (a b : State) → Advances a.counts a b → (head_of a.rest).kind ≡ kinds.Clear → Opens ALine (ACleared ∷ []) a b
+clear_opens a b h e = opened ALine _ a.counts a b h (ap (at_line a.counts) e)
+
+pub cleared_one : (a b : State) → Advances a.counts a b → (head_of a.rest).kind ≡ kinds.Name → Opens ACleared (AToken kinds.On ∷ ALineName ∷ []) a b
+cleared_one a b h e = opened ACleared _ a.counts a b h (ap (at_cleared a.counts) e)
+
+pub cleared_all : (a : State) → Here a → ((head_of a.rest).kind ≡ kinds.Name → ⊥) → Leads (ACleared ∷ []) a a
+cleared_all a h n = skips ACleared a h (by (head_of a.rest).kind n)
+  where
+    by : (k : TokenKind) → (k ≡ kinds.Name → ⊥) → at_cleared a.counts k ≡ Skips
+    by kinds.Name n = absurd (n refl)
+    by _ n = refl
 
 pub line_fails : (a : State) (f : BookFault) → Here a → f ≡ fault_at (head_of a.rest) → ((head_of a.rest).kind ≡ kinds.Show → ⊥) → ((head_of a.rest).kind ≡ kinds.Back → ⊥) → ((head_of a.rest).kind ≡ kinds.Fwd → ⊥) → ((head_of a.rest).kind ≡ kinds.Brush → ⊥) → ((head_of a.rest).kind ≡ kinds.Clear → ⊥) → Fails (ALine ∷ []) a f
 line_fails a f h g p q r s t = wrong ALine [] a f h g (by (head_of a.rest).kind p q r s t)

@@ -1,6 +1,6 @@
 -- Single tokens.
 use Rattle.std.specs.Prelude.{cond, nat_eq}
-use Rattle.std.proofs.Common.{◌≡◌, ℕ, ℤ, ◌+◌, ◌-◌, ◌<◌, ◌++◌, length, get_or, take, drop, drop-cons, append_assoc, min, zero, suc, true, false, List, [], ◌∷◌, ap, ◌∙◌, sym, subst, refl, arith}
+use Rattle.std.proofs.Common.{◌≡◌, ℕ, ℤ, ◌+◌, ◌-◌, ◌<◌, ◌++◌, length, get_or, take, drop, drop-cons, append_assoc, min, suc, true, false, List, [], ◌∷◌, ap, ◌∙◌, sym, subst, refl, arith}
 use Rattle.std.specs.Prelude.{IsTrue}
 use Rattle.std.proofs.lemmas.List.{take_all}
 use Rattle.smk_base.specs.declared.token.TokenKind.{TokenKind}
@@ -9,7 +9,7 @@ use Rattle.smk_base.specs.declared.fault.BookFault.{BookFault}
 use Rattle.smk_base.specs.declared.fault.BookFault.TheVariants.{Unexpected}
 use Rattle.smk_base.specs.declared.tree.Word.{Word}
 use Rattle.smk_model.specs.Tokens.{Token, head_of, tail_of, is_more, inner, int_value, string_value, undoubled}
-use Rattle.smk_model.specs.TokenKinds.{kind_code}
+use Rattle.smk_model.specs.TokenKinds.{same_kind}
 use Rattle.smk_base.specs.declared.tree.Lit.{Lit}
 use Rattle.smk_base.specs.declared.value.Value.TheVariants as values
 use Rattle.smk_model.specs.Grammar.{First, IsName, name, IsColumn, plain, quoted, IsLiteral, number, string}
@@ -28,23 +28,17 @@ unexpected t = by t.kind
     by _ h g = refl
 
 -- a token of the wanted kind is taken
-pub token_leads : (k : TokenKind) (a b : State) → Advances a.counts a b → kind_code k ≡ kind_code (head_of a.rest).kind → Leads (AToken k ∷ []) a b
-token_leads k a b h e = open_only (AToken k) a b (opened (AToken k) [] a.counts a b h (ap (λ o. cond o (Takes a.counts []) Wrong) (same_code _ _ e)))
-  where
-    same_code : (n m : ℕ) → n ≡ m → nat_eq n m ≡ true
-    same_code n m e = grind arith
+pub token_leads : (k : TokenKind) (a b : State) → Advances a.counts a b → same_kind k (head_of a.rest).kind ≡ true → Leads (AToken k ∷ []) a b
+token_leads k a b h e = open_only (AToken k) a b (opened (AToken k) [] a.counts a b h (ap (λ o. cond o (Takes a.counts []) Wrong) e))
 
-pub token_first : (k : TokenKind) (a b : State) → Advances a.counts a b → kind_code k ≡ kind_code (head_of a.rest).kind → First k (head_of a.rest) a.rest b.rest
+pub token_first : (k : TokenKind) (a b : State) → Advances a.counts a b → same_kind k (head_of a.rest).kind ≡ true → First k (head_of a.rest) a.rest b.rest
 token_first k a b h e = first_here k a.counts a b h (sym (same_is k (head_of a.rest).kind e))
 
-pub token_more : (k j : TokenKind) → kind_code k ≡ kind_code j → IsTrue (is_more k) → IsTrue (is_more j)
+pub token_more : (k j : TokenKind) → same_kind k j ≡ true → IsTrue (is_more k) → IsTrue (is_more j)
 token_more k j e h = subst (λ x. IsTrue (is_more x)) (same_is k j e) h
 
-pub token_fails : (k : TokenKind) (a : State) (f : BookFault) → a.rest ≡ head_of a.rest ∷ tail_of a.rest → f ≡ fault_at (head_of a.rest) → (kind_code k ≡ kind_code (head_of a.rest).kind → ⊥) → Fails (AToken k ∷ []) a f
-token_fails k a f h g e = wrong (AToken k) [] a f h g (ap (λ o. cond o (Takes a.counts []) Wrong) (other_code _ _ e))
-  where
-    other_code : (n m : ℕ) → (n ≡ m → ⊥) → nat_eq n m ≡ false
-    other_code n m e = grind arith
+pub token_fails : (k : TokenKind) (a : State) (f : BookFault) → a.rest ≡ head_of a.rest ∷ tail_of a.rest → f ≡ fault_at (head_of a.rest) → same_kind k (head_of a.rest).kind ≡ false → Fails (AToken k ∷ []) a f
+token_fails k a f h g e = wrong (AToken k) [] a f h g (ap (λ o. cond o (Takes a.counts []) Wrong) e)
 
 pub line_name_leads : (a b : State) → Advances a.counts a b → (head_of a.rest).kind ≡ kinds.Name → Leads (ALineName ∷ []) a b
 line_name_leads a b h e = open_only ALineName a b (opened ALineName [] a.counts a b h (ap (λ k. at_token a.counts kinds.Name k) e))

@@ -1,6 +1,6 @@
 -- The trees of lines, from what was read.
 use Rattle.std.specs.Prelude.{nat_lt, ◌^◌, Err, None}
-use Rattle.std.proofs.Common.{◌≡◌, ℕ, pos, ◌<◌, List, [], ◌∷◌, true, ap, ◌∙◌, sym, refl}
+use Rattle.std.proofs.Common.{◌≡◌, ℕ, pos, ◌<◌, List, [], ◌∷◌, true, ap, ◌∙◌, sym, subst, refl}
 use Rattle.std.proofs.lemmas.Bool.{lt-ltb}
 use Rattle.smk_base.specs.declared.token.TokenKind.TheVariants as kinds
 use Rattle.smk_base.specs.declared.fault.BookFault.TheVariants.{BadToken, Unexpected, TooMany, BadNumber}
@@ -13,7 +13,7 @@ use Rattle.smk_base.specs.declared.tree.Then.TheVariants as thens
 use Rattle.smk_base.specs.declared.tree.Line.{Line}
 use Rattle.smk_base.specs.declared.tree.Line.TheVariants as lines
 use Rattle.smk_model.specs.Tokens.{Token, head_of, tail_of, int_value, tokens}
-use Rattle.smk_model.specs.Grammar.{First, IsName, IsColumn, IsLiteral, IsMark, mark, AreListed, AreMarks, all_marks, listed_marks, IsThen, no_then, where_then, group_then, IsLine, show_line, back_line, fwd_line, brush_line, clear_line, IsWholeLine, whole_line}
+use Rattle.smk_model.specs.Grammar.{First, IsName, name, IsColumn, IsLiteral, IsMark, mark, AreListed, AreMarks, all_marks, listed_marks, IsThen, no_then, where_then, group_then, IsLine, show_line, back_line, fwd_line, brush_line, clear_line, clear_one_line, IsWholeLine, whole_line}
 use Rattle.smk_model.specs.Machine.{State, ALine, AnEnd, through, no_counts, line_fault, fault_in}
 use Rattle.smk_base.specs.declared.fault.Many.{Many}
 use Rattle.smk_base.specs.declared.fault.LineFault.TheVariants as line_faults
@@ -55,8 +55,11 @@ fwd_is a b c d e f u w z m h k i j l o = fwd_line (first_here kinds.Fwd a.counts
 pub brush_is : (a b : State) (c d e f : List Token) (u : Token) (w z : Word) (m : Marks) → Advances a.counts a b → (head_of a.rest).kind ≡ kinds.Brush → IsName b.rest c w → AreMarks c d m → First kinds.On u d e → IsName e f z → IsLine a.rest f (lines.Brush w.name m z.name)
 brush_is a b c d e f u w z m h k i j l o = brush_line (first_here kinds.Brush a.counts a b h k) i j l o
 
-pub clear_is : (a b : State) → Advances a.counts a b → (head_of a.rest).kind ≡ kinds.Clear → IsLine a.rest b.rest lines.Clear
-clear_is a b h e = clear_line (first_here kinds.Clear a.counts a b h e)
+pub clear_is : (b : List Token) → (a : List Token) (t : Token) → First kinds.Clear t a b → IsLine a b lines.Clear
+clear_is b a t h = clear_line h
+
+pub clear_one_is : (b c : State) (d e : List Token) (u : Token) (v : List ℕ) (z : Word) → Advances b.counts b c → (head_of b.rest).kind ≡ kinds.Name → v ≡ (head_of b.rest).text → First kinds.On u c.rest d → IsName d e z → (a : List Token) (t : Token) → First kinds.Clear t a b.rest → IsLine a e (lines.ClearOne v z.name)
+clear_one_is b c d e u v z h k f i j a t g = subst (λ n. IsLine a e (lines.ClearOne n z.name)) (sym f) (clear_one_line g (name (first_here kinds.Name b.counts b c h k)) i j)
 
 pub whole_is : (a b : List Token) (l : Line) → IsLine a b l → b ≡ head_of b ∷ tail_of b → (head_of b).kind ≡ kinds.End → IsWholeLine a l
 whole_is a b l h k e = whole_line h (record { is_kind = e; is_first = k })

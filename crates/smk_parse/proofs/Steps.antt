@@ -127,39 +127,3 @@ begins x y more a h ok e = record {
     by ss Wrong ok = refl
     by ss (Past what) ok = refl
     by ss Outside ok = refl
-
-pub open_1 : (x y1 : Symbol) (a s0 s1 : State) → Opens x (y1 ∷ []) a s0 → Leads (y1 ∷ []) s0 s1 → Leads (x ∷ []) a s1
-open_1 x y1 a s0 s1 o h1 = open_leads x (y1 ∷ []) a s0 s1 o (h1)
-
-pub open_2 : (x y1 y2 : Symbol) (a s0 s1 s2 : State) → Opens x (y1 ∷ y2 ∷ []) a s0 → Leads (y1 ∷ []) s0 s1 → Leads (y2 ∷ []) s1 s2 → Leads (x ∷ []) a s2
-open_2 x y1 y2 a s0 s1 s2 o h1 h2 = open_leads x (y1 ∷ y2 ∷ []) a s0 s2 o (then_leads y1 (y2 ∷ []) s0 s1 s2 h1 (h2))
-
-pub open_3 : (x y1 y2 y3 : Symbol) (a s0 s1 s2 s3 : State) → Opens x (y1 ∷ y2 ∷ y3 ∷ []) a s0 → Leads (y1 ∷ []) s0 s1 → Leads (y2 ∷ []) s1 s2 → Leads (y3 ∷ []) s2 s3 → Leads (x ∷ []) a s3
-open_3 x y1 y2 y3 a s0 s1 s2 s3 o h1 h2 h3 = open_leads x (y1 ∷ y2 ∷ y3 ∷ []) a s0 s3 o (then_leads y1 (y2 ∷ y3 ∷ []) s0 s1 s3 h1 (then_leads y2 (y3 ∷ []) s1 s2 s3 h2 (h3)))
-
-pub open_4 : (x y1 y2 y3 y4 : Symbol) (a s0 s1 s2 s3 s4 : State) → Opens x (y1 ∷ y2 ∷ y3 ∷ y4 ∷ []) a s0 → Leads (y1 ∷ []) s0 s1 → Leads (y2 ∷ []) s1 s2 → Leads (y3 ∷ []) s2 s3 → Leads (y4 ∷ []) s3 s4 → Leads (x ∷ []) a s4
-open_4 x y1 y2 y3 y4 a s0 s1 s2 s3 s4 o h1 h2 h3 h4 = open_leads x (y1 ∷ y2 ∷ y3 ∷ y4 ∷ []) a s0 s4 o (then_leads y1 (y2 ∷ y3 ∷ y4 ∷ []) s0 s1 s4 h1 (then_leads y2 (y3 ∷ y4 ∷ []) s1 s2 s4 h2 (then_leads y3 (y4 ∷ []) s2 s3 s4 h3 (h4))))
-
-pub open_5 : (x y1 y2 y3 y4 y5 : Symbol) (a s0 s1 s2 s3 s4 s5 : State) → Opens x (y1 ∷ y2 ∷ y3 ∷ y4 ∷ y5 ∷ []) a s0 → Leads (y1 ∷ []) s0 s1 → Leads (y2 ∷ []) s1 s2 → Leads (y3 ∷ []) s2 s3 → Leads (y4 ∷ []) s3 s4 → Leads (y5 ∷ []) s4 s5 → Leads (x ∷ []) a s5
-open_5 x y1 y2 y3 y4 y5 a s0 s1 s2 s3 s4 s5 o h1 h2 h3 h4 h5 = open_leads x (y1 ∷ y2 ∷ y3 ∷ y4 ∷ y5 ∷ []) a s0 s5 o (then_leads y1 (y2 ∷ y3 ∷ y4 ∷ y5 ∷ []) s0 s1 s5 h1 (then_leads y2 (y3 ∷ y4 ∷ y5 ∷ []) s1 s2 s5 h2 (then_leads y3 (y4 ∷ y5 ∷ []) s2 s3 s5 h3 (then_leads y4 (y5 ∷ []) s3 s4 s5 h4 (h5)))))
-
-pub open_6 : (x y1 y2 y3 y4 y5 y6 : Symbol) (a s0 s1 s2 s3 s4 s5 s6 : State) → Opens x (y1 ∷ y2 ∷ y3 ∷ y4 ∷ y5 ∷ y6 ∷ []) a s0 → Leads (y1 ∷ []) s0 s1 → Leads (y2 ∷ []) s1 s2 → Leads (y3 ∷ []) s2 s3 → Leads (y4 ∷ []) s3 s4 → Leads (y5 ∷ []) s4 s5 → Leads (y6 ∷ []) s5 s6 → Leads (x ∷ []) a s6
-open_6 x y1 y2 y3 y4 y5 y6 a s0 s1 s2 s3 s4 s5 s6 o h1 h2 h3 h4 h5 h6 = open_leads x (y1 ∷ y2 ∷ y3 ∷ y4 ∷ y5 ∷ y6 ∷ []) a s0 s6 o (then_leads y1 (y2 ∷ y3 ∷ y4 ∷ y5 ∷ y6 ∷ []) s0 s1 s6 h1 (then_leads y2 (y3 ∷ y4 ∷ y5 ∷ y6 ∷ []) s1 s2 s6 h2 (then_leads y3 (y4 ∷ y5 ∷ y6 ∷ []) s2 s3 s6 h3 (then_leads y4 (y5 ∷ y6 ∷ []) s3 s4 s6 h4 (then_leads y5 (y6 ∷ []) s4 s5 s6 h5 (h6))))))
-
-pub open_fails_1 : (x y1 : Symbol) (l : List Symbol) (a s0 : State) (f : BookFault) → Opens x (y1 ∷ l) a s0 → Fails (y1 ∷ []) s0 f → Fails (x ∷ []) a f
-open_fails_1 x y1 l a s0 f o h1 = open_fails x (y1 ∷ l) a s0 f o (first_fails y1 l s0 f h1)
-
-pub open_fails_2 : (x y1 y2 : Symbol) (l : List Symbol) (a s0 s1 : State) (f : BookFault) → Opens x (y1 ∷ y2 ∷ l) a s0 → Leads (y1 ∷ []) s0 s1 → Fails (y2 ∷ []) s1 f → Fails (x ∷ []) a f
-open_fails_2 x y1 y2 l a s0 s1 f o h1 h2 = open_fails x (y1 ∷ y2 ∷ l) a s0 f o (then_fails y1 (y2 ∷ l) s0 s1 f h1 (first_fails y2 l s1 f h2))
-
-pub open_fails_3 : (x y1 y2 y3 : Symbol) (l : List Symbol) (a s0 s1 s2 : State) (f : BookFault) → Opens x (y1 ∷ y2 ∷ y3 ∷ l) a s0 → Leads (y1 ∷ []) s0 s1 → Leads (y2 ∷ []) s1 s2 → Fails (y3 ∷ []) s2 f → Fails (x ∷ []) a f
-open_fails_3 x y1 y2 y3 l a s0 s1 s2 f o h1 h2 h3 = open_fails x (y1 ∷ y2 ∷ y3 ∷ l) a s0 f o (then_fails y1 (y2 ∷ y3 ∷ l) s0 s1 f h1 (then_fails y2 (y3 ∷ l) s1 s2 f h2 (first_fails y3 l s2 f h3)))
-
-pub open_fails_4 : (x y1 y2 y3 y4 : Symbol) (l : List Symbol) (a s0 s1 s2 s3 : State) (f : BookFault) → Opens x (y1 ∷ y2 ∷ y3 ∷ y4 ∷ l) a s0 → Leads (y1 ∷ []) s0 s1 → Leads (y2 ∷ []) s1 s2 → Leads (y3 ∷ []) s2 s3 → Fails (y4 ∷ []) s3 f → Fails (x ∷ []) a f
-open_fails_4 x y1 y2 y3 y4 l a s0 s1 s2 s3 f o h1 h2 h3 h4 = open_fails x (y1 ∷ y2 ∷ y3 ∷ y4 ∷ l) a s0 f o (then_fails y1 (y2 ∷ y3 ∷ y4 ∷ l) s0 s1 f h1 (then_fails y2 (y3 ∷ y4 ∷ l) s1 s2 f h2 (then_fails y3 (y4 ∷ l) s2 s3 f h3 (first_fails y4 l s3 f h4))))
-
-pub open_fails_5 : (x y1 y2 y3 y4 y5 : Symbol) (l : List Symbol) (a s0 s1 s2 s3 s4 : State) (f : BookFault) → Opens x (y1 ∷ y2 ∷ y3 ∷ y4 ∷ y5 ∷ l) a s0 → Leads (y1 ∷ []) s0 s1 → Leads (y2 ∷ []) s1 s2 → Leads (y3 ∷ []) s2 s3 → Leads (y4 ∷ []) s3 s4 → Fails (y5 ∷ []) s4 f → Fails (x ∷ []) a f
-open_fails_5 x y1 y2 y3 y4 y5 l a s0 s1 s2 s3 s4 f o h1 h2 h3 h4 h5 = open_fails x (y1 ∷ y2 ∷ y3 ∷ y4 ∷ y5 ∷ l) a s0 f o (then_fails y1 (y2 ∷ y3 ∷ y4 ∷ y5 ∷ l) s0 s1 f h1 (then_fails y2 (y3 ∷ y4 ∷ y5 ∷ l) s1 s2 f h2 (then_fails y3 (y4 ∷ y5 ∷ l) s2 s3 f h3 (then_fails y4 (y5 ∷ l) s3 s4 f h4 (first_fails y5 l s4 f h5)))))
-
-pub open_fails_6 : (x y1 y2 y3 y4 y5 y6 : Symbol) (l : List Symbol) (a s0 s1 s2 s3 s4 s5 : State) (f : BookFault) → Opens x (y1 ∷ y2 ∷ y3 ∷ y4 ∷ y5 ∷ y6 ∷ l) a s0 → Leads (y1 ∷ []) s0 s1 → Leads (y2 ∷ []) s1 s2 → Leads (y3 ∷ []) s2 s3 → Leads (y4 ∷ []) s3 s4 → Leads (y5 ∷ []) s4 s5 → Fails (y6 ∷ []) s5 f → Fails (x ∷ []) a f
-open_fails_6 x y1 y2 y3 y4 y5 y6 l a s0 s1 s2 s3 s4 s5 f o h1 h2 h3 h4 h5 h6 = open_fails x (y1 ∷ y2 ∷ y3 ∷ y4 ∷ y5 ∷ y6 ∷ l) a s0 f o (then_fails y1 (y2 ∷ y3 ∷ y4 ∷ y5 ∷ y6 ∷ l) s0 s1 f h1 (then_fails y2 (y3 ∷ y4 ∷ y5 ∷ y6 ∷ l) s1 s2 f h2 (then_fails y3 (y4 ∷ y5 ∷ y6 ∷ l) s2 s3 f h3 (then_fails y4 (y5 ∷ y6 ∷ l) s3 s4 f h4 (then_fails y5 (y6 ∷ l) s4 s5 f h5 (first_fails y6 l s5 f h6))))))

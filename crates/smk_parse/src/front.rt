@@ -1,10 +1,11 @@
-ghost use Rattle.std.specs.Prelude.{◌≡◌, ◌+◌, ◌<◌, ◌≤◌, length, take_while, IfSome, true, false, drop, None};
+ghost use Rattle.std.specs.Prelude.{◌≡◌, ◌+◌, ◌<◌, ◌≤◌, length, map, take_while, IfSome, true, false, drop, None};
+ghost use Rattle.smk_base.specs.declared.token.TokenKind.TheVariants.{Name};
 ghost use Rattle.std.specs.Char.{is_ascii_digit};
-ghost use Rattle.smk_model.specs.Tokens.{is_gap, string_front, minus_front, is_letter, is_word_byte, is_quoted_byte, no_line_end, word_kind, string_len, front, quoted_front, or_equal, unequal_front, symbol_front};
+ghost use Rattle.smk_model.specs.Tokens.{is_gap, string_front, minus_front, is_letter, is_word_byte, is_quoted_byte, no_line_end, kind_in, word_kind, string_len, front, quoted_front, or_equal, unequal_front, symbol_front};
 ghost use Rattle.smk_parse.specs.Fronts.{front_of, Within};
 
 use crate::numbers::kind_of_number;
-use smk_base::TokenKind;
+use smk_base::{KEYWORDS, TokenKind};
 
 /// What stands at the front of a text: bytes that mean nothing, or a token, with their number.
 #[derive(Clone, Copy, Debug)]
@@ -59,89 +60,24 @@ fn quoted_len(bytes: &[u8]) -> usize
         .count()
 }
 
-/// The keyword that a word is, or a name.
-fn kind_of_word(text: &[u8]) -> TokenKind
-    ensures { result ≡ word_kind text.now }
+/// The kind that a table gives a word, or a name.
+fn kind_among(mut table: &[(&[u8], TokenKind)], word: &[u8]) -> TokenKind
+    ensures { result ≡ kind_in (map (λ k. record { word = k.0.now; kind = k.1 }) table.entry.now) Name word.now }
 {
-    if text == b"all".as_slice() {
-        TokenKind::All
-    } else if text == b"and".as_slice() {
-        TokenKind::And
-    } else if text == b"append".as_slice() {
-        TokenKind::Append
-    } else if text == b"as".as_slice() {
-        TokenKind::As
-    } else if text == b"ask".as_slice() {
-        TokenKind::Ask
-    } else if text == b"back".as_slice() {
-        TokenKind::Back
-    } else if text == b"bin".as_slice() {
-        TokenKind::Bin
-    } else if text == b"brush".as_slice() {
-        TokenKind::Brush
-    } else if text == b"by".as_slice() {
-        TokenKind::By
-    } else if text == b"clear".as_slice() {
-        TokenKind::Clear
-    } else if text == b"count".as_slice() {
-        TokenKind::Count
-    } else if text == b"default".as_slice() {
-        TokenKind::Default
-    } else if text == b"distinct".as_slice() {
-        TokenKind::Distinct
-    } else if text == b"fd".as_slice() {
-        TokenKind::Fd
-    } else if text == b"from".as_slice() {
-        TokenKind::From
-    } else if text == b"fwd".as_slice() {
-        TokenKind::Fwd
-    } else if text == b"group".as_slice() {
-        TokenKind::Group
-    } else if text == b"int".as_slice() {
-        TokenKind::Int
-    } else if text == b"join".as_slice() {
-        TokenKind::Join
-    } else if text == b"lineage".as_slice() {
-        TokenKind::Lineage
-    } else if text == b"link".as_slice() {
-        TokenKind::Link
-    } else if text == b"max".as_slice() {
-        TokenKind::Max
-    } else if text == b"min".as_slice() {
-        TokenKind::Min
-    } else if text == b"not".as_slice() {
-        TokenKind::Not
-    } else if text == b"on".as_slice() {
-        TokenKind::On
-    } else if text == b"or".as_slice() {
-        TokenKind::Or
-    } else if text == b"product".as_slice() {
-        TokenKind::Product
-    } else if text == b"project".as_slice() {
-        TokenKind::Project
-    } else if text == b"scan".as_slice() {
-        TokenKind::Scan
-    } else if text == b"show".as_slice() {
-        TokenKind::Show
-    } else if text == b"sum".as_slice() {
-        TokenKind::Sum
-    } else if text == b"table".as_slice() {
-        TokenKind::Table
-    } else if text == b"text".as_slice() {
-        TokenKind::Text
-    } else if text == b"theta".as_slice() {
-        TokenKind::Theta
-    } else if text == b"to".as_slice() {
-        TokenKind::To
-    } else if text == b"union".as_slice() {
-        TokenKind::Union
-    } else if text == b"view".as_slice() {
-        TokenKind::View
-    } else if text == b"where".as_slice() {
-        TokenKind::Where
-    } else {
-        TokenKind::Name
+    while let [entry, rest @ ..] = table {
+        if word == entry.0 {
+            return entry.1;
+        }
+        table = rest;
     }
+    TokenKind::Name
+}
+
+/// The keyword that a word is, or a name.
+fn kind_of_word(word: &[u8]) -> TokenKind
+    ensures { result ≡ word_kind word.now }
+{
+    kind_among(&KEYWORDS, word)
 }
 
 /// How far a text between quotes goes, behind its first quote.

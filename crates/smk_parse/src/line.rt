@@ -1,8 +1,8 @@
-ghost use Rattle.std.specs.Prelude.{◌≡◌, ◌∷◌, [], length, IsTrue, IfOk, IfErr, OnOk, Ok, Err};
+ghost use Rattle.std.specs.Prelude.{◌≡◌, ◌∷◌, [], List, length, IsTrue, IfOk, IfErr, OnOk, Ok, Err};
 ghost use Rattle.smk_base.specs.declared.token.TokenKind.TheVariants as kinds;
-ghost use Rattle.smk_model.specs.Tokens.{head_of, is_more};
-ghost use Rattle.smk_model.specs.Grammar.{IsColumn, IsLiteral, IsMark, AreListed, AreMarks, IsThen, IsLine, IsWholeLine};
-ghost use Rattle.smk_model.specs.Machine.{ALine, ALineColumn, ALiteral, AMark, MoreMarks, AMarks, AThen, AnEnd};
+ghost use Rattle.smk_model.specs.Tokens.{Token, head_of, is_more};
+ghost use Rattle.smk_model.specs.Grammar.{First, IsColumn, IsLiteral, IsMark, AreListed, AreMarks, IsThen, IsLine, IsWholeLine};
+ghost use Rattle.smk_model.specs.Machine.{ALine, ALineColumn, ALiteral, AMark, MoreMarks, AMarks, AThen, ACleared, AnEnd};
 ghost use Rattle.smk_parse.specs.Reads.{Reads, Shrinks};
 ghost use Rattle.smk_parse.specs.Answers.{IsLineAnswer};
 
@@ -12,7 +12,7 @@ use smk_base::{BookFault, Line, LineFault, Marks, Rids, Then, TokenKind, Word};
 use std::alloc::Global;
 
 /// A column of any length.
-#[tactic(auto, using(crate::proofs::LineSteps::line_plain, crate::proofs::LineSteps::line_quoted, crate::proofs::LineSteps::line_column_fails, crate::proofs::Single::plain_is, crate::proofs::Single::quoted_is, crate::proofs::Steps::no_memory, crate::proofs::Steps::shrinks))]
+#[tactic(auto, using(crate::proofs::LineSteps::line_plain, crate::proofs::LineSteps::line_quoted, crate::proofs::LineSteps::line_column_fails, crate::proofs::Single::plain_is, crate::proofs::Single::quoted_is, crate::proofs::Sequences::in_order))]
 fn line_column(alloc: Global, reader: &mut Reader) -> Result<Word, BookFault>
     ensures reads { Reads (ALineColumn ∷ []) reader.old reader.new result }
     ensures is { IfOk result (λ word. IsColumn reader.old.rest reader.new.rest word) }
@@ -35,7 +35,7 @@ fn line_column(alloc: Global, reader: &mut Reader) -> Result<Word, BookFault>
 }
 
 /// A mark.
-#[tactic(auto, using(crate::proofs::LineSteps::mark_leads, crate::proofs::LineSteps::mark_outside, crate::proofs::LineSteps::mark_fails, crate::proofs::Spelled::mark_is, crate::proofs::Steps::shrinks))]
+#[tactic(auto, using(crate::proofs::LineSteps::mark_leads, crate::proofs::LineSteps::mark_outside, crate::proofs::LineSteps::mark_fails, crate::proofs::Spelled::mark_is, crate::proofs::Sequences::in_order))]
 fn mark(reader: &mut Reader) -> Result<u32, BookFault>
     ensures reads { Reads (AMark ∷ []) reader.old reader.new result }
     ensures is { IfOk result (λ mark. IsMark reader.old.rest reader.new.rest mark) }
@@ -56,7 +56,7 @@ fn mark(reader: &mut Reader) -> Result<u32, BookFault>
 }
 
 /// One or more marks.
-#[tactic(auto, using(crate::proofs::Steps::first_comes, crate::proofs::Steps::first_fails, crate::proofs::Steps::comes_leads, crate::proofs::LineSteps::more_marks_end, crate::proofs::LineSteps::more_marks_fail, crate::proofs::Listing::begins_list, crate::proofs::Listing::ends_list, crate::proofs::Steps::no_memory))]
+#[tactic(auto, using(crate::proofs::Steps::first_comes, crate::proofs::Steps::comes_leads, crate::proofs::LineSteps::more_marks_end, crate::proofs::LineSteps::more_marks_fail, crate::proofs::Listing::begins_list, crate::proofs::Listing::ends_list, crate::proofs::Sequences::in_order))]
 fn listed_marks(alloc: Global, reader: &mut Reader) -> Result<Rids, BookFault>
     ensures reads { Reads (AMark ∷ MoreMarks ∷ []) reader.old reader.new result }
     ensures is { IfOk result (λ marks. AreListed IsMark reader.old.rest reader.new.rest marks) }
@@ -74,7 +74,7 @@ fn listed_marks(alloc: Global, reader: &mut Reader) -> Result<Rids, BookFault>
 }
 
 /// The marks of a line.
-#[tactic(auto, using(crate::proofs::LineSteps::marks_all, crate::proofs::LineSteps::marks_begin_leads, crate::proofs::LineSteps::marks_begin_fails, crate::proofs::Spelled::all_is, crate::proofs::Spelled::listed_is, crate::proofs::Steps::shrinks))]
+#[tactic(auto, using(crate::proofs::LineSteps::marks_all, crate::proofs::LineSteps::marks_begin_leads, crate::proofs::LineSteps::marks_begin_fails, crate::proofs::Spelled::all_is, crate::proofs::Spelled::listed_is, crate::proofs::Sequences::in_order))]
 fn marks(alloc: Global, reader: &mut Reader) -> Result<Marks, BookFault>
     ensures reads { Reads (AMarks ∷ []) reader.old reader.new result }
     ensures is { IfOk result (λ marks. AreMarks reader.old.rest reader.new.rest marks) }
@@ -93,7 +93,7 @@ fn marks(alloc: Global, reader: &mut Reader) -> Result<Marks, BookFault>
 }
 
 /// What a `back` line asks for besides the rows.
-#[tactic(auto, using(crate::proofs::LineSteps::then_where, crate::proofs::LineSteps::then_group, crate::proofs::LineSteps::then_nothing, crate::proofs::Steps::open_3, crate::proofs::Steps::open_fails_1, crate::proofs::Steps::open_fails_2, crate::proofs::Steps::open_fails_3, crate::proofs::Spelled::where_then_is, crate::proofs::Spelled::group_then_is, crate::proofs::Spelled::no_then_is, crate::proofs::Steps::shrinks))]
+#[tactic(auto, using(crate::proofs::LineSteps::then_where, crate::proofs::LineSteps::then_group, crate::proofs::LineSteps::then_nothing, crate::proofs::Spelled::where_then_is, crate::proofs::Spelled::group_then_is, crate::proofs::Spelled::no_then_is, crate::proofs::Sequences::in_order))]
 fn then(alloc: Global, reader: &mut Reader) -> Result<Then, BookFault>
     ensures reads { Reads (AThen ∷ []) reader.old reader.new result }
     ensures is { IfOk result (λ then. IsThen reader.old.rest reader.new.rest then) }
@@ -117,7 +117,7 @@ fn then(alloc: Global, reader: &mut Reader) -> Result<Then, BookFault>
     }
 }
 
-#[tactic(auto, using(crate::proofs::LineSteps::show_opens, crate::proofs::Steps::open_1, crate::proofs::Steps::open_fails_1, crate::proofs::Spelled::show_is))]
+#[tactic(auto, using(crate::proofs::LineSteps::show_opens, crate::proofs::Spelled::show_is, crate::proofs::Sequences::in_order))]
 fn show_line(alloc: Global, reader: &mut Reader) -> Result<Line, BookFault>
     requires { (head_of reader.old.rest).kind ≡ kinds.Show }
     ensures reads { Reads (ALine ∷ []) reader.old reader.new result }
@@ -128,7 +128,7 @@ fn show_line(alloc: Global, reader: &mut Reader) -> Result<Line, BookFault>
     Ok(Line::Show { view: view.name })
 }
 
-#[tactic(auto, using(crate::proofs::LineSteps::back_opens, crate::proofs::Steps::open_5, crate::proofs::Steps::open_fails_1, crate::proofs::Steps::open_fails_2, crate::proofs::Steps::open_fails_3, crate::proofs::Steps::open_fails_4, crate::proofs::Steps::open_fails_5, crate::proofs::Spelled::back_is))]
+#[tactic(auto, using(crate::proofs::LineSteps::back_opens, crate::proofs::Spelled::back_is, crate::proofs::Sequences::in_order))]
 fn back_line(alloc: Global, reader: &mut Reader) -> Result<Line, BookFault>
     requires { (head_of reader.old.rest).kind ≡ kinds.Back }
     ensures reads { Reads (ALine ∷ []) reader.old reader.new result }
@@ -148,7 +148,7 @@ fn back_line(alloc: Global, reader: &mut Reader) -> Result<Line, BookFault>
     })
 }
 
-#[tactic(auto, using(crate::proofs::LineSteps::fwd_opens, crate::proofs::Steps::open_4, crate::proofs::Steps::open_fails_1, crate::proofs::Steps::open_fails_2, crate::proofs::Steps::open_fails_3, crate::proofs::Steps::open_fails_4, crate::proofs::Spelled::fwd_is))]
+#[tactic(auto, using(crate::proofs::LineSteps::fwd_opens, crate::proofs::Spelled::fwd_is, crate::proofs::Sequences::in_order))]
 fn fwd_line(alloc: Global, reader: &mut Reader) -> Result<Line, BookFault>
     requires { (head_of reader.old.rest).kind ≡ kinds.Fwd }
     ensures reads { Reads (ALine ∷ []) reader.old reader.new result }
@@ -166,7 +166,7 @@ fn fwd_line(alloc: Global, reader: &mut Reader) -> Result<Line, BookFault>
     })
 }
 
-#[tactic(auto, using(crate::proofs::LineSteps::brush_opens, crate::proofs::Steps::open_4, crate::proofs::Steps::open_fails_1, crate::proofs::Steps::open_fails_2, crate::proofs::Steps::open_fails_3, crate::proofs::Steps::open_fails_4, crate::proofs::Spelled::brush_is))]
+#[tactic(auto, using(crate::proofs::LineSteps::brush_opens, crate::proofs::Spelled::brush_is, crate::proofs::Sequences::in_order))]
 fn brush_line(alloc: Global, reader: &mut Reader) -> Result<Line, BookFault>
     requires { (head_of reader.old.rest).kind ≡ kinds.Brush }
     ensures reads { Reads (ALine ∷ []) reader.old reader.new result }
@@ -184,7 +184,28 @@ fn brush_line(alloc: Global, reader: &mut Reader) -> Result<Line, BookFault>
     })
 }
 
-#[tactic(auto, using(crate::proofs::LineSteps::clear_leads, crate::proofs::LineSteps::line_fails, crate::proofs::Spelled::clear_is))]
+/// What a `clear` line clears: every brush, or the one of a view on a table.
+#[tactic(auto, using(crate::proofs::LineSteps::cleared_one, crate::proofs::LineSteps::cleared_all, crate::proofs::Spelled::clear_is, crate::proofs::Spelled::clear_one_is, crate::proofs::Sequences::in_order))]
+fn cleared(alloc: Global, reader: &mut Reader) -> Result<Line, BookFault>
+    ensures reads { Reads (ACleared ∷ []) reader.old reader.new result }
+    ensures is { IfOk result (λ line. (a : List Token) → (t : Token) → First kinds.Clear t a reader.old.rest → IsLine a reader.new.rest line) }
+{
+    match reader.kind() {
+        TokenKind::Name => {
+            let view = text_in_hand(alloc, reader)?;
+            reader.advance();
+            let _ = expect(reader, TokenKind::On)?;
+            let table = line_name(alloc, reader)?;
+            Ok(Line::ClearOne {
+                view,
+                table: table.name,
+            })
+        }
+        _ => Ok(Line::Clear),
+    }
+}
+
+#[tactic(auto, using(crate::proofs::LineSteps::line_fails, crate::proofs::LineSteps::clear_opens, crate::proofs::Sequences::in_order))]
 fn line(alloc: Global, reader: &mut Reader) -> Result<Line, BookFault>
     ensures reads { Reads (ALine ∷ []) reader.old reader.new result }
     ensures is { IfOk result (λ line. IsLine reader.old.rest reader.new.rest line) }
@@ -196,14 +217,14 @@ fn line(alloc: Global, reader: &mut Reader) -> Result<Line, BookFault>
         TokenKind::Brush => brush_line(alloc, reader),
         TokenKind::Clear => {
             reader.advance();
-            Ok(Line::Clear)
+            cleared(alloc, reader)
         }
         _ => Err(wrong(reader)),
     }
 }
 
 /// A line up to its end.
-#[tactic(auto, using(crate::proofs::LineSteps::end_leads, crate::proofs::LineSteps::end_fails, crate::proofs::Steps::then_leads, crate::proofs::Steps::then_fails, crate::proofs::Steps::first_fails, crate::proofs::Spelled::whole_is))]
+#[tactic(auto, using(crate::proofs::LineSteps::end_leads, crate::proofs::LineSteps::end_fails, crate::proofs::Spelled::whole_is, crate::proofs::Sequences::in_order))]
 fn whole_line(alloc: Global, reader: &mut Reader) -> Result<Line, BookFault>
     ensures reads { Reads (ALine ∷ AnEnd ∷ []) reader.old reader.new result }
     ensures is { IfOk result (λ line. IsWholeLine reader.old.rest line) }

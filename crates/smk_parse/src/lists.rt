@@ -17,7 +17,7 @@ use smk_base::{
 use std::alloc::Global;
 
 /// Whether a declared column is a text.
-#[tactic(auto, using(crate::proofs::BookSteps::type_int, crate::proofs::BookSteps::type_text, crate::proofs::BookSteps::type_fails, crate::proofs::BookSpelled::int_type_is, crate::proofs::BookSpelled::text_type_is, crate::proofs::Steps::shrinks))]
+#[tactic(auto, using(crate::proofs::BookSteps::type_int, crate::proofs::BookSteps::type_text, crate::proofs::BookSteps::type_fails, crate::proofs::BookSpelled::int_type_is, crate::proofs::BookSpelled::text_type_is, crate::proofs::Sequences::in_order))]
 fn is_text(reader: &mut Reader) -> Result<bool, BookFault>
     ensures reads { Reads (AType ∷ []) reader.old reader.new result }
     ensures is { IfOk result (λ text. IsType reader.old.rest reader.new.rest text) }
@@ -37,7 +37,7 @@ fn is_text(reader: &mut Reader) -> Result<bool, BookFault>
 }
 
 /// The default of a declared column.
-#[tactic(auto, using(crate::proofs::BookSteps::default_opens, crate::proofs::BookSteps::default_nothing, crate::proofs::Steps::open_1, crate::proofs::Steps::open_fails_1, crate::proofs::BookSpelled::default_is, crate::proofs::BookSpelled::no_default_is, crate::proofs::Steps::shrinks))]
+#[tactic(auto, using(crate::proofs::BookSteps::default_opens, crate::proofs::BookSteps::default_nothing, crate::proofs::BookSpelled::default_is, crate::proofs::BookSpelled::no_default_is, crate::proofs::Sequences::in_order))]
 fn default(alloc: Global, reader: &mut Reader) -> Result<Option<Lit>, BookFault>
     ensures reads { Reads (ADefault ∷ []) reader.old reader.new result }
     ensures is { IfOk result (λ lit. IsDefault reader.old.rest reader.new.rest lit) }
@@ -54,7 +54,7 @@ fn default(alloc: Global, reader: &mut Reader) -> Result<Option<Lit>, BookFault>
 }
 
 /// A declared column, of which so many stand before.
-#[tactic(auto, using(crate::proofs::Sequences::seq_three, crate::proofs::Sequences::seq_three_fails_1, crate::proofs::Sequences::seq_three_fails_2, crate::proofs::Sequences::seq_three_fails_3, crate::proofs::BookSpelled::decl_is))]
+#[tactic(auto, using(crate::proofs::BookSpelled::decl_is, crate::proofs::Sequences::in_order))]
 fn decl(alloc: Global, reader: &mut Reader, before: u32) -> Result<Decl, BookFault>
     ensures reads { Reads (AFirst before ∷ AType ∷ ADefault ∷ []) reader.old reader.new result }
     ensures is { IfOk result (λ decl. IsDecl reader.old.rest reader.new.rest decl) }
@@ -68,7 +68,7 @@ fn decl(alloc: Global, reader: &mut Reader, before: u32) -> Result<Decl, BookFau
 }
 
 /// The output name of a column: its own, unless `as` gives another.
-#[tactic(auto, using(crate::proofs::BookSteps::as_opens, crate::proofs::BookSteps::as_nothing, crate::proofs::Steps::open_1, crate::proofs::Steps::open_fails_1, crate::proofs::Steps::no_memory, crate::proofs::BookSpelled::as_is, crate::proofs::BookSpelled::itself_is, crate::proofs::Steps::shrinks))]
+#[tactic(auto, using(crate::proofs::BookSteps::as_opens, crate::proofs::BookSteps::as_nothing, crate::proofs::BookSpelled::as_is, crate::proofs::BookSpelled::itself_is, crate::proofs::Sequences::in_order))]
 fn named(alloc: Global, reader: &mut Reader, col: &Word) -> Result<Word, BookFault>
     ensures reads { Reads (AnAs ∷ []) reader.old reader.new result }
     ensures is { IfOk result (λ name. IsNamed col.now reader.old.rest reader.new.rest name) }
@@ -103,7 +103,7 @@ fn bin(col: Word, width: i64, name: Word) -> ItemTree
 }
 
 /// The second part of `bin`.
-#[tactic(auto, using(crate::proofs::BookSteps::width_leads, crate::proofs::BookSteps::width_outside, crate::proofs::BookSteps::width_fails, crate::proofs::BookSpelled::width_is, crate::proofs::Steps::shrinks))]
+#[tactic(auto, using(crate::proofs::BookSteps::width_leads, crate::proofs::BookSteps::width_outside, crate::proofs::BookSteps::width_fails, crate::proofs::BookSpelled::width_is, crate::proofs::Sequences::in_order))]
 fn width(reader: &mut Reader) -> Result<i64, BookFault>
     ensures reads { Reads (AWidth ∷ []) reader.old reader.new result }
     ensures is { IfOk result (λ width. IsWidth reader.old.rest reader.new.rest width) }
@@ -126,7 +126,7 @@ fn width(reader: &mut Reader) -> Result<i64, BookFault>
     }
 }
 
-#[tactic(auto, using(crate::proofs::BookSteps::bin_opens, crate::proofs::BookSteps::bin_many, crate::proofs::Sequences::open_bin, crate::proofs::Steps::open_fails_1, crate::proofs::Steps::open_fails_2, crate::proofs::Steps::open_fails_3, crate::proofs::Steps::open_fails_4, crate::proofs::Steps::open_fails_5, crate::proofs::Steps::open_fails_6, crate::proofs::Sequences::open_bin_fails_7, crate::proofs::BookSpelled::bin_item_is))]
+#[tactic(auto, using(crate::proofs::BookSteps::bin_opens, crate::proofs::BookSteps::bin_many, crate::proofs::BookSpelled::bin_item_is, crate::proofs::Sequences::in_order))]
 fn bin_item(alloc: Global, reader: &mut Reader, before: u32) -> Result<ItemTree, BookFault>
     requires { (head_of reader.old.rest).kind ≡ kinds.Bin }
     ensures reads { Reads (AnItem before ∷ []) reader.old reader.new result }
@@ -153,7 +153,7 @@ fn bin_item(alloc: Global, reader: &mut Reader, before: u32) -> Result<ItemTree,
     Ok(bin(col, width, name))
 }
 
-#[tactic(auto, using(crate::proofs::Sequences::seq_two, crate::proofs::Sequences::seq_two_fails_1, crate::proofs::Sequences::seq_two_fails_2, crate::proofs::BookSpelled::column_item_is))]
+#[tactic(auto, using(crate::proofs::BookSpelled::column_item_is, crate::proofs::Sequences::in_order))]
 fn column_item(alloc: Global, reader: &mut Reader, before: u32) -> Result<ItemTree, BookFault>
     ensures reads { Reads (AFirst before ∷ AnAs ∷ []) reader.old reader.new result }
     ensures is { IfOk result (λ item. IsItem reader.old.rest reader.new.rest item) }
@@ -180,7 +180,7 @@ fn item(alloc: Global, reader: &mut Reader, before: u32) -> Result<ItemTree, Boo
 }
 
 /// What an aggregate computes.
-#[tactic(auto, using(crate::proofs::BookSteps::what_count, crate::proofs::BookSteps::what_sum, crate::proofs::BookSteps::what_min, crate::proofs::BookSteps::what_max, crate::proofs::BookSteps::what_fails, crate::proofs::Steps::open_1, crate::proofs::Steps::open_fails_1, crate::proofs::BookSpelled::count_is, crate::proofs::BookSpelled::sum_is, crate::proofs::BookSpelled::min_is, crate::proofs::BookSpelled::max_is, crate::proofs::Steps::shrinks))]
+#[tactic(auto, using(crate::proofs::BookSteps::what_count, crate::proofs::BookSteps::what_sum, crate::proofs::BookSteps::what_min, crate::proofs::BookSteps::what_max, crate::proofs::BookSteps::what_fails, crate::proofs::BookSpelled::count_is, crate::proofs::BookSpelled::sum_is, crate::proofs::BookSpelled::min_is, crate::proofs::BookSpelled::max_is, crate::proofs::Sequences::in_order))]
 fn what(alloc: Global, reader: &mut Reader) -> Result<AggWhat, BookFault>
     ensures reads { Reads (AWhat ∷ []) reader.old reader.new result }
     ensures is { IfOk result (λ what. IsWhat reader.old.rest reader.new.rest what) }
@@ -208,7 +208,7 @@ fn what(alloc: Global, reader: &mut Reader) -> Result<AggWhat, BookFault>
 }
 
 /// An aggregate, of which so many stand before.
-#[tactic(auto, using(crate::proofs::Sequences::seq_three, crate::proofs::Sequences::seq_three_fails_1, crate::proofs::Sequences::seq_three_fails_2, crate::proofs::Sequences::seq_three_fails_3, crate::proofs::BookSpelled::agg_is))]
+#[tactic(auto, using(crate::proofs::BookSpelled::agg_is, crate::proofs::Sequences::in_order))]
 fn agg(alloc: Global, reader: &mut Reader, before: u32) -> Result<AggTree, BookFault>
     ensures reads { Reads (AFirst before ∷ AToken kinds.Equal ∷ AWhat ∷ []) reader.old reader.new result }
     ensures is { IfOk result (λ agg. IsAgg reader.old.rest reader.new.rest agg) }
@@ -222,7 +222,7 @@ fn agg(alloc: Global, reader: &mut Reader, before: u32) -> Result<AggTree, BookF
 }
 
 /// A pair of a join, of which so many stand before.
-#[tactic(auto, using(crate::proofs::Sequences::seq_three, crate::proofs::Sequences::seq_three_fails_1, crate::proofs::Sequences::seq_three_fails_2, crate::proofs::Sequences::seq_three_fails_3, crate::proofs::BookSpelled::pair_is))]
+#[tactic(auto, using(crate::proofs::BookSpelled::pair_is, crate::proofs::Sequences::in_order))]
 fn pair(alloc: Global, reader: &mut Reader, before: u32) -> Result<PairTree, BookFault>
     ensures reads { Reads (AFirst before ∷ AToken kinds.Equal ∷ AColumn ∷ []) reader.old reader.new result }
     ensures is { IfOk result (λ pair. IsPair reader.old.rest reader.new.rest pair) }
@@ -236,7 +236,7 @@ fn pair(alloc: Global, reader: &mut Reader, before: u32) -> Result<PairTree, Boo
 }
 
 /// One or more declared columns.
-#[tactic(auto, using(crate::proofs::BookSteps::first_decls_come, crate::proofs::BookSteps::first_decls_fail, crate::proofs::BookSteps::more_decls_leads, crate::proofs::BookSteps::more_decls_fail, crate::proofs::Listing::begins_list, crate::proofs::Listing::ends_list, crate::proofs::Steps::no_memory))]
+#[tactic(auto, using(crate::proofs::BookSteps::first_decls_come, crate::proofs::BookSteps::first_decls_fail, crate::proofs::BookSteps::more_decls_leads, crate::proofs::BookSteps::more_decls_fail, crate::proofs::Listing::begins_list, crate::proofs::Listing::ends_list, crate::proofs::Sequences::in_order))]
 pub fn listed_decls(alloc: Global, reader: &mut Reader) -> Result<Decls, BookFault>
     ensures reads { Reads (AFirst 0 ∷ AType ∷ ADefault ∷ MoreDecls 1 ∷ []) reader.old reader.new result }
     ensures is { IfOk result (λ list. AreListed IsDecl reader.old.rest reader.new.rest list) }
@@ -256,7 +256,7 @@ pub fn listed_decls(alloc: Global, reader: &mut Reader) -> Result<Decls, BookFau
 }
 
 /// One or more output columns.
-#[tactic(auto, using(crate::proofs::BookSteps::first_items_come, crate::proofs::BookSteps::first_items_fail, crate::proofs::BookSteps::more_items_leads, crate::proofs::BookSteps::more_items_fail, crate::proofs::Listing::begins_list, crate::proofs::Listing::ends_list, crate::proofs::Steps::no_memory))]
+#[tactic(auto, using(crate::proofs::BookSteps::first_items_come, crate::proofs::BookSteps::first_items_fail, crate::proofs::BookSteps::more_items_leads, crate::proofs::BookSteps::more_items_fail, crate::proofs::Listing::begins_list, crate::proofs::Listing::ends_list, crate::proofs::Sequences::in_order))]
 pub fn listed_items(alloc: Global, reader: &mut Reader) -> Result<ItemTrees, BookFault>
     ensures reads { Reads (AnItem 0 ∷ MoreItems 1 ∷ []) reader.old reader.new result }
     ensures is { IfOk result (λ list. AreListed IsItem reader.old.rest reader.new.rest list) }
@@ -276,7 +276,7 @@ pub fn listed_items(alloc: Global, reader: &mut Reader) -> Result<ItemTrees, Boo
 }
 
 /// One or more keys.
-#[tactic(auto, using(crate::proofs::BookSteps::first_keys_come, crate::proofs::BookSteps::first_keys_fail, crate::proofs::BookSteps::more_keys_leads, crate::proofs::BookSteps::more_keys_fail, crate::proofs::Listing::begins_list, crate::proofs::Listing::ends_list, crate::proofs::Steps::no_memory))]
+#[tactic(auto, using(crate::proofs::BookSteps::first_keys_come, crate::proofs::BookSteps::first_keys_fail, crate::proofs::BookSteps::more_keys_leads, crate::proofs::BookSteps::more_keys_fail, crate::proofs::Listing::begins_list, crate::proofs::Listing::ends_list, crate::proofs::Sequences::in_order))]
 pub fn listed_keys(alloc: Global, reader: &mut Reader) -> Result<Words, BookFault>
     ensures reads { Reads (AFirst 0 ∷ MoreKeys 1 ∷ []) reader.old reader.new result }
     ensures is { IfOk result (λ list. AreListed IsColumn reader.old.rest reader.new.rest list) }
@@ -296,7 +296,7 @@ pub fn listed_keys(alloc: Global, reader: &mut Reader) -> Result<Words, BookFaul
 }
 
 /// One or more aggregates.
-#[tactic(auto, using(crate::proofs::BookSteps::first_aggs_come, crate::proofs::BookSteps::first_aggs_fail, crate::proofs::BookSteps::more_aggs_leads, crate::proofs::BookSteps::more_aggs_fail, crate::proofs::Listing::begins_list, crate::proofs::Listing::ends_list, crate::proofs::Steps::no_memory))]
+#[tactic(auto, using(crate::proofs::BookSteps::first_aggs_come, crate::proofs::BookSteps::first_aggs_fail, crate::proofs::BookSteps::more_aggs_leads, crate::proofs::BookSteps::more_aggs_fail, crate::proofs::Listing::begins_list, crate::proofs::Listing::ends_list, crate::proofs::Sequences::in_order))]
 pub fn listed_aggs(alloc: Global, reader: &mut Reader) -> Result<AggTrees, BookFault>
     ensures reads { Reads (AFirst 0 ∷ AToken kinds.Equal ∷ AWhat ∷ MoreAggs 1 ∷ []) reader.old reader.new result }
     ensures is { IfOk result (λ list. AreListed IsAgg reader.old.rest reader.new.rest list) }
@@ -316,7 +316,7 @@ pub fn listed_aggs(alloc: Global, reader: &mut Reader) -> Result<AggTrees, BookF
 }
 
 /// One or more pairs.
-#[tactic(auto, using(crate::proofs::BookSteps::first_pairs_come, crate::proofs::BookSteps::first_pairs_fail, crate::proofs::BookSteps::more_pairs_leads, crate::proofs::BookSteps::more_pairs_fail, crate::proofs::Listing::begins_list, crate::proofs::Listing::ends_list, crate::proofs::Steps::no_memory))]
+#[tactic(auto, using(crate::proofs::BookSteps::first_pairs_come, crate::proofs::BookSteps::first_pairs_fail, crate::proofs::BookSteps::more_pairs_leads, crate::proofs::BookSteps::more_pairs_fail, crate::proofs::Listing::begins_list, crate::proofs::Listing::ends_list, crate::proofs::Sequences::in_order))]
 pub fn listed_pairs(alloc: Global, reader: &mut Reader) -> Result<PairTrees, BookFault>
     ensures reads { Reads (AFirst 0 ∷ AToken kinds.Equal ∷ AColumn ∷ MorePairs 1 ∷ []) reader.old reader.new result }
     ensures is { IfOk result (λ list. AreListed IsPair reader.old.rest reader.new.rest list) }
@@ -336,7 +336,7 @@ pub fn listed_pairs(alloc: Global, reader: &mut Reader) -> Result<PairTrees, Boo
 }
 
 /// One or more linked views.
-#[tactic(auto, using(crate::proofs::BookSteps::first_linked_come, crate::proofs::BookSteps::first_linked_fail, crate::proofs::BookSteps::more_linked_leads, crate::proofs::BookSteps::more_linked_fail, crate::proofs::Listing::begins_list, crate::proofs::Listing::ends_list, crate::proofs::Steps::no_memory))]
+#[tactic(auto, using(crate::proofs::BookSteps::first_linked_come, crate::proofs::BookSteps::first_linked_fail, crate::proofs::BookSteps::more_linked_leads, crate::proofs::BookSteps::more_linked_fail, crate::proofs::Listing::begins_list, crate::proofs::Listing::ends_list, crate::proofs::Sequences::in_order))]
 pub fn listed_linked(alloc: Global, reader: &mut Reader) -> Result<Words, BookFault>
     ensures reads { Reads (ALinked 0 ∷ MoreLinked 1 ∷ []) reader.old reader.new result }
     ensures is { IfOk result (λ list. AreListed IsName reader.old.rest reader.new.rest list) }
@@ -369,7 +369,7 @@ fn keys(alloc: Global, reader: &mut Reader) -> Result<Words, BookFault>
 }
 
 /// The aggregates of a grouping.
-#[tactic(auto, using(crate::proofs::BookSteps::aggs_opens, crate::proofs::BookSteps::aggs_nothing, crate::proofs::Sequences::open_block_4_1, crate::proofs::Sequences::open_block_4_1_fails_1, crate::proofs::Sequences::open_block_4_1_fails_2, crate::proofs::BookSpelled::aggs_are, crate::proofs::BookSpelled::no_aggs_is, crate::proofs::Steps::shrinks))]
+#[tactic(auto, using(crate::proofs::BookSteps::aggs_opens, crate::proofs::BookSteps::aggs_nothing, crate::proofs::BookSpelled::aggs_are, crate::proofs::BookSpelled::no_aggs_is, crate::proofs::Sequences::in_order))]
 fn aggs(alloc: Global, reader: &mut Reader) -> Result<AggTrees, BookFault>
     ensures reads { Reads (AnAggs ∷ []) reader.old reader.new result }
     ensures is { IfOk result (λ list. AreAggs reader.old.rest reader.new.rest list) }
@@ -387,7 +387,7 @@ fn aggs(alloc: Global, reader: &mut Reader) -> Result<AggTrees, BookFault>
 }
 
 /// The keys and the aggregates of a grouping.
-#[tactic(auto, using(crate::proofs::Sequences::seq_two, crate::proofs::Sequences::seq_two_fails_1, crate::proofs::Sequences::seq_two_fails_2, crate::proofs::PlanSpelled::grouping_is))]
+#[tactic(auto, using(crate::proofs::PlanSpelled::grouping_is, crate::proofs::Sequences::in_order))]
 pub fn grouping(alloc: Global, reader: &mut Reader) -> Result<(Words, AggTrees), BookFault>
     ensures reads { Reads (AKeys ∷ AnAggs ∷ []) reader.old reader.new result }
     ensures is { IfOk result (λ both. IsGrouping reader.old.rest reader.new.rest both.0 both.1) }

@@ -16,7 +16,7 @@ use smk_base::{BookFault, Many, StepTree, TokenKind, Tree};
 use std::alloc::Global;
 
 /// A selection.
-#[tactic(auto, using(crate::proofs::BookSteps::where_opens, crate::proofs::BookSteps::where_many, crate::proofs::Steps::open_leads, crate::proofs::Steps::open_fails, crate::proofs::PlanSpelled::where_is, crate::proofs::Steps::shrinks))]
+#[tactic(auto, using(crate::proofs::BookSteps::where_opens, crate::proofs::BookSteps::where_many, crate::proofs::PlanSpelled::where_is, crate::proofs::Sequences::in_order))]
 fn where_step(alloc: Global, reader: &mut Reader, depth: u32) -> Result<StepTree, BookFault>
     requires kind { (head_of reader.old.rest).kind ≡ kinds.Where }
     requires depth { depth ≤ 32 }
@@ -39,7 +39,7 @@ fn where_step(alloc: Global, reader: &mut Reader, depth: u32) -> Result<StepTree
 }
 
 /// A projection.
-#[tactic(auto, using(crate::proofs::BookSteps::project_opens, crate::proofs::BookSteps::project_many, crate::proofs::Steps::open_leads, crate::proofs::Steps::open_fails, crate::proofs::PlanSpelled::project_is, crate::proofs::Steps::shrinks))]
+#[tactic(auto, using(crate::proofs::BookSteps::project_opens, crate::proofs::BookSteps::project_many, crate::proofs::PlanSpelled::project_is, crate::proofs::Sequences::in_order))]
 fn project_step(alloc: Global, reader: &mut Reader, depth: u32) -> Result<StepTree, BookFault>
     requires { (head_of reader.old.rest).kind ≡ kinds.Project }
     ensures reads { Reads (AStep depth ∷ []) reader.old reader.new result }
@@ -62,7 +62,7 @@ fn project_step(alloc: Global, reader: &mut Reader, depth: u32) -> Result<StepTr
 }
 
 /// A projection without repeats.
-#[tactic(auto, using(crate::proofs::BookSteps::distinct_opens, crate::proofs::BookSteps::distinct_many, crate::proofs::Steps::open_leads, crate::proofs::Steps::open_fails, crate::proofs::PlanSpelled::distinct_is, crate::proofs::Steps::shrinks))]
+#[tactic(auto, using(crate::proofs::BookSteps::distinct_opens, crate::proofs::BookSteps::distinct_many, crate::proofs::PlanSpelled::distinct_is, crate::proofs::Sequences::in_order))]
 fn distinct_step(alloc: Global, reader: &mut Reader, depth: u32) -> Result<StepTree, BookFault>
     requires { (head_of reader.old.rest).kind ≡ kinds.Distinct }
     ensures reads { Reads (AStep depth ∷ []) reader.old reader.new result }
@@ -85,7 +85,7 @@ fn distinct_step(alloc: Global, reader: &mut Reader, depth: u32) -> Result<StepT
 }
 
 /// A grouping.
-#[tactic(auto, using(crate::proofs::BookSteps::group_opens, crate::proofs::BookSteps::group_many, crate::proofs::Steps::open_leads, crate::proofs::Steps::open_fails, crate::proofs::PlanSpelled::group_is, crate::proofs::Steps::shrinks))]
+#[tactic(auto, using(crate::proofs::BookSteps::group_opens, crate::proofs::BookSteps::group_many, crate::proofs::PlanSpelled::group_is, crate::proofs::Sequences::in_order))]
 fn group_step(alloc: Global, reader: &mut Reader, depth: u32) -> Result<StepTree, BookFault>
     requires { (head_of reader.old.rest).kind ≡ kinds.Group }
     ensures reads { Reads (AStep depth ∷ []) reader.old reader.new result }
@@ -108,7 +108,7 @@ fn group_step(alloc: Global, reader: &mut Reader, depth: u32) -> Result<StepTree
 }
 
 /// A table, or a plan in parentheses.
-#[tactic(auto, using(crate::proofs::BookSteps::scan_opens, crate::proofs::BookSteps::scan_many, crate::proofs::BookSteps::inner_opens, crate::proofs::BookSteps::inner_deep, crate::proofs::BookSteps::source_fails, crate::proofs::Steps::open_1, crate::proofs::Steps::open_fails_1, crate::proofs::Sequences::open_block_2_1, crate::proofs::Sequences::open_block_2_1_fails_1, crate::proofs::Sequences::open_block_2_1_fails_2, crate::proofs::PlanSpelled::scan_is, crate::proofs::PlanSpelled::inner_is, crate::proofs::Steps::shrinks))]
+#[tactic(auto, using(crate::proofs::BookSteps::scan_opens, crate::proofs::BookSteps::scan_many, crate::proofs::BookSteps::inner_opens, crate::proofs::BookSteps::inner_deep, crate::proofs::BookSteps::source_fails, crate::proofs::PlanSpelled::scan_is, crate::proofs::PlanSpelled::inner_is, crate::proofs::Sequences::in_order))]
 #[cycle(plan)]
 fn source(alloc: Global, reader: &mut Reader, depth: u32) -> Result<Tree, BookFault>
     requires { depth ≤ 32 }
@@ -147,7 +147,7 @@ fn source(alloc: Global, reader: &mut Reader, depth: u32) -> Result<Tree, BookFa
 }
 
 /// A join.
-#[tactic(auto, using(crate::proofs::BookSteps::join_opens, crate::proofs::BookSteps::join_many, crate::proofs::Sequences::open_block_1_1_4, crate::proofs::Sequences::open_block_1_1_4_fails_1, crate::proofs::Sequences::open_block_1_1_4_fails_2, crate::proofs::Sequences::open_block_1_1_4_fails_3, crate::proofs::PlanSpelled::join_is, crate::proofs::Steps::shrinks, crate::proofs::Steps::no_memory))]
+#[tactic(auto, using(crate::proofs::BookSteps::join_opens, crate::proofs::BookSteps::join_many, crate::proofs::PlanSpelled::join_is, crate::proofs::Sequences::in_order))]
 #[cycle(plan)]
 fn join_step(alloc: Global, reader: &mut Reader, depth: u32) -> Result<StepTree, BookFault>
     requires kind { (head_of reader.old.rest).kind ≡ kinds.Join }
@@ -174,7 +174,7 @@ fn join_step(alloc: Global, reader: &mut Reader, depth: u32) -> Result<StepTree,
 }
 
 /// What a union unites with, and whether it keeps repeats.
-#[tactic(auto, using(crate::proofs::BookSteps::all_opens, crate::proofs::BookSteps::united_leads, crate::proofs::BookSteps::united_fails, crate::proofs::Steps::open_1, crate::proofs::Steps::open_fails_1, crate::proofs::PlanSpelled::all_united, crate::proofs::PlanSpelled::not_united, crate::proofs::Steps::shrinks))]
+#[tactic(auto, using(crate::proofs::BookSteps::all_opens, crate::proofs::BookSteps::united_leads, crate::proofs::BookSteps::united_fails, crate::proofs::PlanSpelled::all_united, crate::proofs::PlanSpelled::not_united, crate::proofs::Sequences::in_order))]
 #[cycle(plan)]
 fn united(alloc: Global, reader: &mut Reader, depth: u32) -> Result<(bool, Tree), BookFault>
     requires { depth ≤ 32 }
@@ -196,7 +196,7 @@ fn united(alloc: Global, reader: &mut Reader, depth: u32) -> Result<(bool, Tree)
 }
 
 /// A union.
-#[tactic(auto, using(crate::proofs::BookSteps::union_opens, crate::proofs::BookSteps::union_many, crate::proofs::Steps::open_1, crate::proofs::Steps::open_fails_1, crate::proofs::PlanSpelled::union_all_is, crate::proofs::PlanSpelled::union_is, crate::proofs::Steps::shrinks, crate::proofs::Steps::no_memory))]
+#[tactic(auto, using(crate::proofs::BookSteps::union_opens, crate::proofs::BookSteps::union_many, crate::proofs::PlanSpelled::union_all_is, crate::proofs::PlanSpelled::union_is, crate::proofs::Sequences::in_order))]
 #[cycle(plan)]
 fn union_step(alloc: Global, reader: &mut Reader, depth: u32) -> Result<StepTree, BookFault>
     requires kind { (head_of reader.old.rest).kind ≡ kinds.Union }
@@ -246,7 +246,7 @@ fn step(alloc: Global, reader: &mut Reader, depth: u32) -> Result<StepTree, Book
 }
 
 /// A source with its steps.
-#[tactic(auto, using(crate::proofs::PlanSpelled::steps_begin, crate::proofs::PlanSpelled::steps_first_fail, crate::proofs::PlanSpelled::steps_fail, crate::proofs::PlanSpelled::steps_end, crate::proofs::PlanSpelled::steps_go, crate::proofs::PlanSpelled::plan_goes_here, crate::proofs::Steps::shrinks, crate::proofs::PlanSpelled::plan_begins, crate::proofs::PlanSpelled::plan_ends, crate::proofs::Steps::no_memory))]
+#[tactic(auto, using(crate::proofs::PlanSpelled::steps_begin, crate::proofs::PlanSpelled::steps_first_fail, crate::proofs::PlanSpelled::steps_fail, crate::proofs::PlanSpelled::steps_end, crate::proofs::PlanSpelled::steps_go, crate::proofs::PlanSpelled::plan_goes_here, crate::proofs::PlanSpelled::plan_begins, crate::proofs::PlanSpelled::plan_ends, crate::proofs::Sequences::in_order))]
 #[cycle(plan)]
 pub fn plan(alloc: Global, reader: &mut Reader, depth: u32) -> Result<Tree, BookFault>
     requires { depth ≤ 32 }

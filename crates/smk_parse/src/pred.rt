@@ -13,7 +13,7 @@ use smk_base::{BookFault, CmpOp, Many, PredTree, Term, TokenKind};
 use std::alloc::Global;
 
 /// A comparison's operator.
-#[tactic(auto, using(crate::proofs::BookSteps::op_equal, crate::proofs::BookSteps::op_notequal, crate::proofs::BookSteps::op_less, crate::proofs::BookSteps::op_lessequal, crate::proofs::BookSteps::op_greater, crate::proofs::BookSteps::op_greaterequal, crate::proofs::BookSteps::op_fails, crate::proofs::BookSpelled::eq_is, crate::proofs::BookSpelled::ne_is, crate::proofs::BookSpelled::lt_is, crate::proofs::BookSpelled::le_is, crate::proofs::BookSpelled::gt_is, crate::proofs::BookSpelled::ge_is, crate::proofs::Steps::shrinks))]
+#[tactic(auto, using(crate::proofs::BookSteps::op_equal, crate::proofs::BookSteps::op_notequal, crate::proofs::BookSteps::op_less, crate::proofs::BookSteps::op_lessequal, crate::proofs::BookSteps::op_greater, crate::proofs::BookSteps::op_greaterequal, crate::proofs::BookSteps::op_fails, crate::proofs::BookSpelled::eq_is, crate::proofs::BookSpelled::ne_is, crate::proofs::BookSpelled::lt_is, crate::proofs::BookSpelled::le_is, crate::proofs::BookSpelled::gt_is, crate::proofs::BookSpelled::ge_is, crate::proofs::Sequences::in_order))]
 fn op(reader: &mut Reader) -> Result<CmpOp, BookFault>
     ensures reads { Reads (AnOp ∷ []) reader.old reader.new result }
     ensures is { IfOk result (λ op. IsOp reader.old.rest reader.new.rest op) }
@@ -63,7 +63,7 @@ fn term(alloc: Global, reader: &mut Reader) -> Result<Term, BookFault>
 }
 
 /// A comparison.
-#[tactic(auto, using(crate::proofs::BookSteps::compare_opens, crate::proofs::BookSteps::compare_many, crate::proofs::BookSteps::compare_long, crate::proofs::BookSteps::prim_fails, crate::proofs::BookSteps::column_more, crate::proofs::BookSpelled::column_is, crate::proofs::Steps::open_2, crate::proofs::Steps::open_fails_1, crate::proofs::Steps::open_fails_2, crate::proofs::Steps::no_memory, crate::proofs::PlanSpelled::compared_is, crate::proofs::Steps::shrinks))]
+#[tactic(auto, using(crate::proofs::BookSteps::compare_opens, crate::proofs::BookSteps::compare_many, crate::proofs::BookSteps::compare_long, crate::proofs::BookSteps::prim_fails, crate::proofs::BookSteps::column_more, crate::proofs::BookSpelled::column_is, crate::proofs::PlanSpelled::compared_is, crate::proofs::Sequences::in_order))]
 fn comparison(alloc: Global, reader: &mut Reader, depth: u32) -> Result<PredTree, BookFault>
     requires not { (head_of reader.old.rest).kind ≡ kinds.Not → ⊥ }
     requires open { (head_of reader.old.rest).kind ≡ kinds.Open → ⊥ }
@@ -97,7 +97,7 @@ fn comparison(alloc: Global, reader: &mut Reader, depth: u32) -> Result<PredTree
 }
 
 /// A predicate without `and` and `or` of its own.
-#[tactic(auto, using(crate::proofs::BookSteps::not_opens, crate::proofs::BookSteps::not_deep, crate::proofs::BookSteps::bracket_opens, crate::proofs::BookSteps::bracket_deep, crate::proofs::Steps::open_1, crate::proofs::Steps::open_fails_1, crate::proofs::Sequences::open_block_3_1, crate::proofs::Sequences::open_block_3_1_fails_1, crate::proofs::Sequences::open_block_3_1_fails_2, crate::proofs::PlanSpelled::negated_is, crate::proofs::PlanSpelled::bracketed_is, crate::proofs::Steps::shrinks, crate::proofs::Steps::no_memory))]
+#[tactic(auto, using(crate::proofs::BookSteps::not_opens, crate::proofs::BookSteps::not_deep, crate::proofs::BookSteps::bracket_opens, crate::proofs::BookSteps::bracket_deep, crate::proofs::PlanSpelled::negated_is, crate::proofs::PlanSpelled::bracketed_is, crate::proofs::Sequences::in_order))]
 #[cycle(pred)]
 fn prim(alloc: Global, reader: &mut Reader, depth: u32) -> Result<PredTree, BookFault>
     requires { depth ≤ 32 }
@@ -135,7 +135,7 @@ fn prim(alloc: Global, reader: &mut Reader, depth: u32) -> Result<PredTree, Book
 }
 
 /// Predicates joined by `and`.
-#[tactic(auto, using(crate::proofs::PlanSpelled::ands_begin, crate::proofs::PlanSpelled::ands_first_fail, crate::proofs::PlanSpelled::ands_fail, crate::proofs::PlanSpelled::ands_end, crate::proofs::PlanSpelled::ands_goes, crate::proofs::PlanSpelled::conj_goes_here, crate::proofs::Steps::shrinks, crate::proofs::PlanSpelled::conj_begins, crate::proofs::PlanSpelled::conj_ends, crate::proofs::Steps::no_memory))]
+#[tactic(auto, using(crate::proofs::PlanSpelled::ands_begin, crate::proofs::PlanSpelled::ands_first_fail, crate::proofs::PlanSpelled::ands_fail, crate::proofs::PlanSpelled::ands_end, crate::proofs::PlanSpelled::ands_goes, crate::proofs::PlanSpelled::conj_goes_here, crate::proofs::PlanSpelled::conj_begins, crate::proofs::PlanSpelled::conj_ends, crate::proofs::Sequences::in_order))]
 #[cycle(pred)]
 fn conj(alloc: Global, reader: &mut Reader, depth: u32) -> Result<PredTree, BookFault>
     requires { depth ≤ 32 }
@@ -153,7 +153,7 @@ fn conj(alloc: Global, reader: &mut Reader, depth: u32) -> Result<PredTree, Book
 }
 
 /// Predicates joined by `or`.
-#[tactic(auto, using(crate::proofs::PlanSpelled::ors_begin, crate::proofs::PlanSpelled::ors_first_fail, crate::proofs::PlanSpelled::ors_fail, crate::proofs::PlanSpelled::ors_end, crate::proofs::PlanSpelled::ors_goes, crate::proofs::PlanSpelled::pred_goes_here, crate::proofs::Steps::shrinks, crate::proofs::PlanSpelled::pred_begins, crate::proofs::PlanSpelled::pred_ends, crate::proofs::Steps::no_memory))]
+#[tactic(auto, using(crate::proofs::PlanSpelled::ors_begin, crate::proofs::PlanSpelled::ors_first_fail, crate::proofs::PlanSpelled::ors_fail, crate::proofs::PlanSpelled::ors_end, crate::proofs::PlanSpelled::ors_goes, crate::proofs::PlanSpelled::pred_goes_here, crate::proofs::PlanSpelled::pred_begins, crate::proofs::PlanSpelled::pred_ends, crate::proofs::Sequences::in_order))]
 #[cycle(pred)]
 pub fn pred(alloc: Global, reader: &mut Reader, depth: u32) -> Result<PredTree, BookFault>
     requires { depth ≤ 32 }

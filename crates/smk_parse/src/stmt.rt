@@ -25,7 +25,7 @@ pub struct Tally {
 }
 
 /// The name of a file.
-#[tactic(auto, using(crate::proofs::StmtSpelled::file_leads, crate::proofs::StmtSpelled::file_fails, crate::proofs::StmtSpelled::file_here, crate::proofs::Steps::no_memory, crate::proofs::Steps::shrinks))]
+#[tactic(auto, using(crate::proofs::StmtSpelled::file_leads, crate::proofs::StmtSpelled::file_fails, crate::proofs::StmtSpelled::file_here, crate::proofs::Sequences::in_order))]
 fn file(alloc: Global, reader: &mut Reader) -> Result<Text, BookFault>
     ensures reads { Reads (AToken kinds.Str ∷ []) reader.old reader.new result }
     ensures is { IfOk result (λ file. IsFile reader.old.rest reader.new.rest file) }
@@ -42,7 +42,7 @@ fn file(alloc: Global, reader: &mut Reader) -> Result<Text, BookFault>
 }
 
 /// A table statement behind its keyword.
-#[tactic(auto, using(crate::proofs::Sequences::seq_table, crate::proofs::Sequences::seq_table_fails_1, crate::proofs::Sequences::seq_table_fails_2, crate::proofs::Sequences::seq_table_fails_3, crate::proofs::Sequences::seq_table_fails_4, crate::proofs::Sequences::seq_table_fails_5, crate::proofs::Sequences::seq_table_fails_6, crate::proofs::StmtSpelled::table_is))]
+#[tactic(auto, using(crate::proofs::StmtSpelled::table_is, crate::proofs::Sequences::in_order))]
 fn table_stmt(alloc: Global, reader: &mut Reader) -> Result<Stmt, BookFault>
     ensures reads { Reads (AName ∷ AToken kinds.From ∷ AToken kinds.Str ∷ AToken kinds.Open ∷ AFirst 0 ∷ AType ∷ ADefault ∷ MoreDecls 1 ∷ AToken kinds.Close ∷ []) reader.old reader.new result }
     ensures is { IfOk result (λ stmt. (a : List Token) → (t : Token) → First kinds.Table t a reader.old.rest → IsStmt a reader.new.rest (stmt_image stmt)) }
@@ -58,7 +58,7 @@ fn table_stmt(alloc: Global, reader: &mut Reader) -> Result<Stmt, BookFault>
 }
 
 /// A view statement behind its keyword.
-#[tactic(auto, using(crate::proofs::Sequences::seq_view, crate::proofs::Sequences::seq_view_fails_1, crate::proofs::Sequences::seq_view_fails_2, crate::proofs::Sequences::seq_view_fails_3, crate::proofs::StmtSpelled::view_is))]
+#[tactic(auto, using(crate::proofs::StmtSpelled::view_is, crate::proofs::Sequences::in_order))]
 fn view_stmt(alloc: Global, reader: &mut Reader) -> Result<Stmt, BookFault>
     ensures reads { Reads (AName ∷ AToken kinds.Equal ∷ ASource 0 ∷ ASteps 0 ∷ []) reader.old reader.new result }
     ensures is { IfOk result (λ stmt. (a : List Token) → (t : Token) → First kinds.View t a reader.old.rest → IsStmt a reader.new.rest (stmt_image stmt)) }
@@ -71,7 +71,7 @@ fn view_stmt(alloc: Global, reader: &mut Reader) -> Result<Stmt, BookFault>
 }
 
 /// What a backward declaration asks for besides the rows.
-#[tactic(auto, using(crate::proofs::BookSteps::extra_by, crate::proofs::BookSteps::extra_group, crate::proofs::BookSteps::extra_nothing, crate::proofs::Steps::open_1, crate::proofs::Steps::open_fails_1, crate::proofs::Steps::open_leads, crate::proofs::Steps::open_fails, crate::proofs::StmtSpelled::by_is, crate::proofs::StmtSpelled::group_extra_is, crate::proofs::StmtSpelled::no_extra_is, crate::proofs::Steps::shrinks))]
+#[tactic(auto, using(crate::proofs::BookSteps::extra_by, crate::proofs::BookSteps::extra_group, crate::proofs::BookSteps::extra_nothing, crate::proofs::StmtSpelled::by_is, crate::proofs::StmtSpelled::group_extra_is, crate::proofs::StmtSpelled::no_extra_is, crate::proofs::Sequences::in_order))]
 fn extra(alloc: Global, reader: &mut Reader) -> Result<Extra, BookFault>
     ensures reads { Reads (AnExtra ∷ []) reader.old reader.new result }
     ensures is { IfOk result (λ extra. IsExtra reader.old.rest reader.new.rest extra) }
@@ -93,7 +93,7 @@ fn extra(alloc: Global, reader: &mut Reader) -> Result<Extra, BookFault>
 }
 
 /// A backward declaration behind `lineage`, which stands at this place.
-#[tactic(auto, using(crate::proofs::BookSteps::lineage_back, crate::proofs::Steps::open_4, crate::proofs::Steps::open_fails_1, crate::proofs::Steps::open_fails_2, crate::proofs::Steps::open_fails_3, crate::proofs::Steps::open_fails_4, crate::proofs::StmtSpelled::back_is, crate::proofs::Steps::shrinks))]
+#[tactic(auto, using(crate::proofs::BookSteps::lineage_back, crate::proofs::StmtSpelled::back_is, crate::proofs::Sequences::in_order))]
 fn back_stmt(alloc: Global, reader: &mut Reader, at: u64) -> Result<Stmt, BookFault>
     requires { (head_of reader.old.rest).kind ≡ kinds.Back }
     ensures reads { Reads (ALineage ∷ []) reader.old reader.new result }
@@ -115,7 +115,7 @@ fn back_stmt(alloc: Global, reader: &mut Reader, at: u64) -> Result<Stmt, BookFa
 }
 
 /// A forward declaration behind `lineage`, which stands at this place.
-#[tactic(auto, using(crate::proofs::BookSteps::lineage_fwd, crate::proofs::Steps::open_3, crate::proofs::Steps::open_fails_1, crate::proofs::Steps::open_fails_2, crate::proofs::Steps::open_fails_3, crate::proofs::StmtSpelled::fwd_is, crate::proofs::Steps::shrinks))]
+#[tactic(auto, using(crate::proofs::BookSteps::lineage_fwd, crate::proofs::StmtSpelled::fwd_is, crate::proofs::Sequences::in_order))]
 fn fwd_stmt(alloc: Global, reader: &mut Reader, at: u64) -> Result<Stmt, BookFault>
     requires { (head_of reader.old.rest).kind ≡ kinds.Fwd }
     ensures reads { Reads (ALineage ∷ []) reader.old reader.new result }
@@ -145,7 +145,7 @@ fn lineage_stmt(alloc: Global, reader: &mut Reader, at: u64) -> Result<Stmt, Boo
 }
 
 /// A link statement behind its keyword.
-#[tactic(auto, using(crate::proofs::Sequences::seq_link, crate::proofs::Sequences::seq_link_fails_1, crate::proofs::Sequences::seq_link_fails_2, crate::proofs::Sequences::seq_link_fails_3, crate::proofs::Sequences::seq_link_fails_4, crate::proofs::Sequences::seq_link_fails_5, crate::proofs::StmtSpelled::link_is))]
+#[tactic(auto, using(crate::proofs::StmtSpelled::link_is, crate::proofs::Sequences::in_order))]
 fn link_stmt(alloc: Global, reader: &mut Reader) -> Result<Stmt, BookFault>
     ensures reads { Reads (AName ∷ AToken kinds.On ∷ AName ∷ AToken kinds.To ∷ ALinked 0 ∷ MoreLinked 1 ∷ []) reader.old reader.new result }
     ensures is { IfOk result (λ stmt. (a : List Token) → (t : Token) → First kinds.Link t a reader.old.rest → IsStmt a reader.new.rest (stmt_image stmt)) }
@@ -159,7 +159,7 @@ fn link_stmt(alloc: Global, reader: &mut Reader) -> Result<Stmt, BookFault>
     Ok(Stmt::Link { view, table, to })
 }
 
-#[tactic(auto, using(crate::proofs::BookSteps::table_stmt_comes, crate::proofs::BookSteps::table_stmt_fails, crate::proofs::BookSteps::table_too_many, crate::proofs::Steps::first_here, crate::proofs::Steps::shrinks))]
+#[tactic(auto, using(crate::proofs::BookSteps::table_stmt_comes, crate::proofs::BookSteps::table_stmt_fails, crate::proofs::BookSteps::table_too_many, crate::proofs::Sequences::in_order))]
 fn next_table(alloc: Global, reader: &mut Reader, tally: &mut Tally) -> Result<Stmt, BookFault>
     requires { (head_of reader.old.rest).kind ≡ kinds.Table }
     ensures reads { StmtReads tally.old tally.new reader.old reader.new result }
@@ -180,7 +180,7 @@ fn next_table(alloc: Global, reader: &mut Reader, tally: &mut Tally) -> Result<S
     Ok(stmt)
 }
 
-#[tactic(auto, using(crate::proofs::BookSteps::view_stmt_comes, crate::proofs::BookSteps::view_stmt_fails, crate::proofs::BookSteps::view_too_many, crate::proofs::Steps::first_here, crate::proofs::Steps::shrinks))]
+#[tactic(auto, using(crate::proofs::BookSteps::view_stmt_comes, crate::proofs::BookSteps::view_stmt_fails, crate::proofs::BookSteps::view_too_many, crate::proofs::Sequences::in_order))]
 fn next_view(alloc: Global, reader: &mut Reader, tally: &mut Tally) -> Result<Stmt, BookFault>
     requires { (head_of reader.old.rest).kind ≡ kinds.View }
     ensures reads { StmtReads tally.old tally.new reader.old reader.new result }
@@ -201,7 +201,7 @@ fn next_view(alloc: Global, reader: &mut Reader, tally: &mut Tally) -> Result<St
     Ok(stmt)
 }
 
-#[tactic(auto, using(crate::proofs::BookSteps::lineage_stmt_comes, crate::proofs::BookSteps::lineage_stmt_fails, crate::proofs::BookSteps::lineage_too_many, crate::proofs::Steps::first_here, crate::proofs::Steps::shrinks))]
+#[tactic(auto, using(crate::proofs::BookSteps::lineage_stmt_comes, crate::proofs::BookSteps::lineage_stmt_fails, crate::proofs::BookSteps::lineage_too_many, crate::proofs::Sequences::in_order))]
 fn next_lineage(alloc: Global, reader: &mut Reader, tally: &mut Tally) -> Result<Stmt, BookFault>
     requires { (head_of reader.old.rest).kind ≡ kinds.Lineage }
     ensures reads { StmtReads tally.old tally.new reader.old reader.new result }
@@ -222,7 +222,7 @@ fn next_lineage(alloc: Global, reader: &mut Reader, tally: &mut Tally) -> Result
     Ok(stmt)
 }
 
-#[tactic(auto, using(crate::proofs::BookSteps::link_stmt_comes, crate::proofs::BookSteps::link_stmt_fails, crate::proofs::BookSteps::link_too_many, crate::proofs::Steps::first_here, crate::proofs::Steps::shrinks))]
+#[tactic(auto, using(crate::proofs::BookSteps::link_stmt_comes, crate::proofs::BookSteps::link_stmt_fails, crate::proofs::BookSteps::link_too_many, crate::proofs::Sequences::in_order))]
 fn next_link(alloc: Global, reader: &mut Reader, tally: &mut Tally) -> Result<Stmt, BookFault>
     requires { (head_of reader.old.rest).kind ≡ kinds.Link }
     ensures reads { StmtReads tally.old tally.new reader.old reader.new result }

@@ -2,7 +2,6 @@ ghost use Rattle.std.specs.Prelude.{◌≡◌, ◌∷◌, [], ◌<◌, length, I
 ghost use Rattle.smk_base.specs.declared.token.TokenKind.TheVariants as kinds;
 ghost use Rattle.smk_base.specs.declared.fault.BookFault.TheVariants.{NoMemory};
 ghost use Rattle.smk_model.specs.Tokens.{head_of, is_more, inner, string_value, undoubled};
-ghost use Rattle.smk_model.specs.TokenKinds.{kind_code};
 ghost use Rattle.smk_model.specs.Grammar.{First, IsName, IsColumn, IsLiteral, plain_word};
 ghost use Rattle.smk_model.specs.Machine.{fault_at, AToken, ALineName, ALiteral};
 ghost use Rattle.smk_parse.specs.Reads.{Reads, Shrinks};
@@ -10,13 +9,6 @@ ghost use Rattle.smk_parse.specs.Reads.{Reads, Shrinks};
 use crate::reader::Reader;
 use smk_base::{BookFault, Lit, Text, TokenKind, Value, Word};
 use std::alloc::Global;
-
-/// The number of a kind.
-fn code(kind: TokenKind) -> u8
-    ensures { result ≡ kind_code kind }
-{
-    kind as u8
-}
 
 /// The fault at a token that may not stand here.
 #[tactic(auto, using(crate::proofs::Single::unexpected))]
@@ -32,7 +24,7 @@ pub fn wrong(reader: &Reader) -> BookFault
 }
 
 /// A token of this kind, whose place it gives.
-#[tactic(auto, using(crate::proofs::Single::token_leads, crate::proofs::Single::token_fails, crate::proofs::Single::token_first, crate::proofs::Single::token_more, crate::proofs::Steps::shrinks))]
+#[tactic(auto, using(crate::proofs::Single::token_leads, crate::proofs::Single::token_fails, crate::proofs::Single::token_first, crate::proofs::Single::token_more, crate::proofs::Sequences::in_order))]
 pub fn expect(reader: &mut Reader, kind: TokenKind) -> Result<u64, BookFault>
     requires { IsTrue (is_more kind) }
     ensures reads { Reads (AToken kind ∷ []) reader.old reader.new result }
@@ -41,7 +33,7 @@ pub fn expect(reader: &mut Reader, kind: TokenKind) -> Result<u64, BookFault>
     ensures shrinks { Shrinks reader.old reader.new result }
 {
     let at = reader.at();
-    if code(kind) == code(reader.kind()) {
+    if kind == reader.kind() {
         reader.advance();
         Ok(at)
     } else {
@@ -99,7 +91,7 @@ pub fn string_in_hand(alloc: Global, reader: &Reader) -> Result<Text, BookFault>
 }
 
 /// A literal.
-#[tactic(auto, using(crate::proofs::LineSteps::literal_number, crate::proofs::LineSteps::literal_string, crate::proofs::LineSteps::literal_fails, crate::proofs::Single::number_is, crate::proofs::Single::string_is, crate::proofs::Steps::no_memory, crate::proofs::Steps::shrinks))]
+#[tactic(auto, using(crate::proofs::LineSteps::literal_number, crate::proofs::LineSteps::literal_string, crate::proofs::LineSteps::literal_fails, crate::proofs::Single::number_is, crate::proofs::Single::string_is, crate::proofs::Sequences::in_order))]
 pub fn literal(alloc: Global, reader: &mut Reader) -> Result<Lit, BookFault>
     ensures reads { Reads (ALiteral ∷ []) reader.old reader.new result }
     ensures is { IfOk result (λ lit. IsLiteral reader.old.rest reader.new.rest lit) }
@@ -125,7 +117,7 @@ pub fn literal(alloc: Global, reader: &mut Reader) -> Result<Lit, BookFault>
 }
 
 /// A name of any length.
-#[tactic(auto, using(crate::proofs::Single::line_name_leads, crate::proofs::Single::line_name_fails, crate::proofs::Single::name_is, crate::proofs::Steps::no_memory, crate::proofs::Steps::shrinks))]
+#[tactic(auto, using(crate::proofs::Single::line_name_leads, crate::proofs::Single::line_name_fails, crate::proofs::Single::name_is, crate::proofs::Sequences::in_order))]
 pub fn line_name(alloc: Global, reader: &mut Reader) -> Result<Word, BookFault>
     ensures reads { Reads (ALineName ∷ []) reader.old reader.new result }
     ensures is { IfOk result (λ word. IsName reader.old.rest reader.new.rest word) }
