@@ -4,6 +4,7 @@ pub mod Besides
 pub mod Turning
 pub mod Folding
 pub mod Pairing
+pub mod Joining
 pub mod Uniting
 pub mod Aggregating
 pub mod Partnering

@@ -1,11 +1,12 @@
 -- The lineage of a side from what the first half of a step found.
-use Rattle.std.proofs.Common.{◌≡◌, ◌∙◌, ◌<◌, ◌≤◌, ◌+◌, ◌-◌, ℕ, List, ◌++◌, length, map, take, drop, refl, sym, ap, arith, All, get_or, subst, zero-add, None, Some}
-use Rattle.std.specs.List.{AllPairs}
-use Rattle.std.proofs.lemmas.List.{map-append, map-id, length-map, get_or_default}
+use Rattle.std.proofs.Common.{◌≡◌, ◌∙◌, ◌<◌, ◌≤◌, ◌+◌, ◌-◌, ℕ, List, ◌++◌, length, map, take, drop, refl, sym, ap, arith, All, subst, zero-add, None, Some, []}
+use Rattle.std.proofs.Math.ListN.{replicate}
+use Rattle.std.proofs.lemmas.List.{map-append, map-id, length-map, length-replicate, get_or_default}
 use Rattle.std.proofs.lemmas.List.Elements.{All-take, All-drop}
 use Rattle.std.proofs.Math.Seq.{take-append_seam, drop-append_seam}
 use Rattle.smk_base.specs.Places.{Lists, upto, own_lists, inverted, IsPlaces}
 use Rattle.smk_base.specs.declared.plan.Dir.{Dir}
+use Rattle.smk_base.specs.declared.plan.Item.{Item}
 use Rattle.smk_rid.proofs.Rising.{rising_is}
 use Rattle.smk_model.specs.Values.{Row}
 use Rattle.smk_model.specs.Plain.{firsts}
@@ -13,6 +14,7 @@ use Rattle.smk_model.specs.Locals.{singles}
 use Rattle.smk_model.specs.Classes.{places_in, classes}
 use Rattle.smk_model.specs.DirectionLaws.{HasSources, HasTargets}
 use Rattle.smk_model.proofs.Places.{get_or_map_upto}
+use Rattle.smk_model.proofs.OneEach.{one_each}
 use Rattle.smk_model.proofs.Directions.{length_each}
 use Rattle.smk_model.proofs.Parts.{map_agree}
 use Rattle.smk_model.proofs.Classes.{place_in, classes_are}
@@ -87,6 +89,9 @@ stretch_set from len n h = rising_is n (map (λ i. from + i) (upto len)) (λ i j
     let long = length_each (λ i. from + i) len in
     omega (arith, get_or_map_upto (λ i. from + i) len i d (omega (arith, low, long)), get_or_map_upto (λ i. from + i) len j d (omega (arith, low, long)))) (stretch_below from len n h)
 
--- numbers that rise where they are read rise
-pub rising_at : (of : List ℕ) → ((i j : ℕ) → i < j → j < length of → get_or of i 0 < get_or of j 0) → AllPairs (λ x y. x < y) of
-rising_at of up i j d lt low = omega (arith, up i j lt low, get_or_default of i d 0 (omega arith), get_or_default of j d 0 low)
+-- all places in order are the same both ways
+pub all_turned : (of : List ℕ) (n : ℕ) → of ≡ upto n → inverted (singles of n) ≡ singles of n
+all_turned of n e =
+    let rows : List Row = replicate n [] in
+    let none : List Item = [] in
+    rw e (subst (λ (k : ℕ). inverted (singles (upto k) k) ≡ singles (upto k) k) (length-replicate n (let row : Row = [] in row)) (sym (one_each.projected none rows).backward ∙ (one_each.projection none rows).backward))

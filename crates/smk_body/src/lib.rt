@@ -21,8 +21,9 @@ pub use classes::{first_rows, row_classes};
 pub use group::group_rows;
 pub use join::{joined, joined_onto, matched, partners_of};
 pub use lists::{
-    marked_lists, own_side, side_from_classes, side_from_places, side_from_runs, side_from_sources,
-    side_of_classes, side_of_places, side_of_sources, side_of_stretch, single_lists, turned_lists,
+    marked_lists, own_side, side_from_classes, side_from_places, side_from_runs, side_of_classes,
+    side_of_places, side_of_sources, side_of_stretch, side_with_forward, single_lists,
+    turned_lists, turned_lists_if,
 };
 pub use local::{Local, Side, Want};
 pub use pairs::{Matches, Partners};

@@ -11,8 +11,9 @@ use Rattle.smk_base.specs.declared.value.Value.{Value}
 use Rattle.smk_base.specs.declared.value.Value.TheVariants as values
 use Rattle.smk_base.specs.Rels.{Fits, RowFits, kind_in, row_in, value_in, picked, column_values, column_texts, text_of}
 use Rattle.smk_base.specs.Values.{value_same}
+use Rattle.smk_base.specs.Widths.{AreAlike}
 use Rattle.smk_base.proofs.RelRows.{Fits-value_in}
-use Rattle.smk_keys.specs.Classes.{ClassesImage, AreAlike, classing_of, classes_of}
+use Rattle.smk_keys.specs.Classes.{ClassesImage, classing_of, classes_of}
 use Rattle.smk_keys.specs.Keys.{key_eq}
 use Rattle.smk_keys.specs.Numbers.{AreNumbers}
 use Rattle.smk_keys.proofs.Classing.{classing-numbers}

@@ -3,8 +3,8 @@ use Rattle.std.specs.Prelude.{ℕ, ◌<◌, Bool, List, [], ◌∷◌, ◌++◌,
 use Rattle.std.specs.List.{list_any, position_or_len}
 use Rattle.smk_base.specs.declared.value.Value.{Value}
 use Rattle.smk_base.specs.declared.value.Kind.{Kind}
-use Rattle.smk_base.specs.declared.value.Kind.TheVariants.{Int, Text}
 use Rattle.smk_base.specs.Rels.{kind_in}
+use Rattle.smk_base.specs.Widths.{AreAlike}
 use Rattle.smk_keys.specs.Keys.{key_eq}
 
 -- the class of each item, and for each class the place of its first item
@@ -26,13 +26,6 @@ classing_of eq items = record {
 -- the classes of keys
 abbrev pub classes_of : List (List Value) → ClassesImage
 classes_of keys = classing_of key_eq keys
-
--- both ints or both texts; levels may differ
-abbrev pub AreAlike : Kind → Kind → Type 0
-AreAlike (Int a) (Int b) = Unit {0}
-AreAlike (Int a) Text = ⊥
-AreAlike Text (Int b) = ⊥
-AreAlike Text Text = Unit {0}
 
 -- both columns are there, of ints or of texts
 abbrev pub AreAlikeColumns : List Kind → List Kind → ℕ → ℕ → Type 0

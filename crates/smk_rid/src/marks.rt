@@ -1,4 +1,4 @@
-ghost use Rattle.std.specs.Prelude.{◌≡◌, ◌<◌, ◌≤◌, [], length, IfOk};
+ghost use Rattle.std.specs.Prelude.{◌≡◌, ◌<◌, ◌≤◌, ◌↔◌, [], length, IfOk, IsTrue};
 ghost use Rattle.smk_base.specs.Places.{empty_lists, list_at};
 ghost use Rattle.smk_rid.specs.Maps.{with_rid_at};
 
@@ -41,6 +41,14 @@ impl RidMarks {
             bound,
             pairs: 0,
         })
+    }
+
+    /// Whether a list has no rid yet. It takes no memory.
+    pub fn is_free(&self, i: u32) -> bool
+        requires { i < length self.now.lists }
+        ensures { IsTrue result ↔ (list_at self.now i ≡ []) }
+    {
+        self.rids[i as usize] == NONE
     }
 
     /// Sets the rid of a list that has none yet. It takes no memory.
