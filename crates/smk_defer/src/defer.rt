@@ -44,6 +44,7 @@ impl OpBody for Defer {
         input: Rel,
         want: Dir,
     ) -> Result<(Rel, Kept), AllocError> {
+        let input = input.shared(alloc)?;
         let (rel, keys) = rows1(alloc, op, &input)?;
         let kept = Kept {
             op: KeptOp::One(op.copy(alloc)?),

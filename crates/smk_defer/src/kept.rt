@@ -1,4 +1,5 @@
 ghost use Rattle.std.specs.Prelude.{◌≡◌, ◌≤◌, length};
+ghost use Rattle.smk_base.specs.declared.rel.TheConstants.{ROW_LIMIT};
 ghost use Rattle.smk_defer.specs.Kept.{StepFits, step_keys, step_rows};
 
 use smk_base::{Op1, Op2, Rel};
@@ -27,5 +28,5 @@ pub struct Kept {
     pub ghost fits: { ∥ StepFits op left right ∥₁ },
     pub ghost keys_are: { keys ≡ step_keys op left right },
     pub ghost rows_are: { out_rows ≡ length (step_rows op left right) },
-    pub ghost few: { out_rows ≤ 1048576 },
+    pub ghost few: { out_rows ≤ ROW_LIMIT },
 }

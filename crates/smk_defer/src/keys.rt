@@ -4,6 +4,7 @@ ghost use Rattle.std.specs.Prelude.{◌≡◌, ◌<◌, ◌≤◌, All, IfOk, le
 ghost use Rattle.std.specs.Bool.{OnTrue};
 ghost use Rattle.smk_base.specs.Cells.{value_of_cell};
 ghost use Rattle.smk_base.specs.Rels.{picked, row_in, rows_at};
+ghost use Rattle.smk_base.specs.declared.rel.TheConstants.{ROW_LIMIT};
 ghost use Rattle.smk_keys.specs.Classes.{classes_of};
 ghost use Rattle.smk_keys.specs.Keys.{place_or_last};
 ghost use Rattle.smk_model.specs.Classes.{places_in};
@@ -44,7 +45,7 @@ pub(crate) fn row_keys(alloc: Global, rel: &Rel) -> Result<KeyTable, AllocError>
 fn keys_at(alloc: Global, rel: &Rel, cols: &[u32], places: &[u32]) -> Result<KeyTable, AllocError>
     requires columns { All (λ c. c < length rel.now.kinds) cols.now }
     requires within { All (λ i. i < length rel.now.rows) places.now }
-    requires few { length places.now ≤ 1048576 }
+    requires few { length places.now ≤ ROW_LIMIT }
     ensures { IfOk result (λ made. made ≡ firsts (map (picked cols.now) (rows_at rel.now.rows places.now))) }
 {
     let mut made = KeyTable::new(alloc);
@@ -95,7 +96,7 @@ fn found_at(
 ) -> Result<Vec<u32>, AllocError>
     requires columns { All (λ c. c < length rel.now.kinds) cols.now }
     requires within { All (λ i. i < length rel.now.rows) places.now }
-    requires few { length places.now ≤ 1048576 }
+    requires few { length places.now ≤ ROW_LIMIT }
     ensures { IfOk result (λ made. made.items ≡ places_in keys.now (map (picked cols.now) (rows_at rel.now.rows places.now))) }
 {
     let mut made = Vec::with_capacity(alloc, places.len())?;

@@ -31,6 +31,7 @@ impl OpBody for Inject {
         input: Rel,
         want: Dir,
     ) -> Result<(Rel, Local), AllocError> {
+        let input = input.shared(alloc)?;
         match op {
             Op1::Select(pred) => select(alloc, &input, pred, want),
             Op1::Project(items) => project(alloc, &input, items.as_slice(), want),

@@ -30,6 +30,7 @@ impl OpBody for Plain {
         input: Rel,
         _want: Dir,
     ) -> Result<(Rel, Local), AllocError> {
+        let input = input.shared(alloc)?;
         let rel = match op {
             Op1::Select(pred) => select(alloc, &input, pred)?.0,
             Op1::Project(items) => images(alloc, &input, items.as_slice())?,
