@@ -59,7 +59,10 @@ pub fn run_plan<R: Threads + Sync, B: OpBody + Sync, L: Ledger>(
     )?;
     let rows = rel.len();
     let kept = fill(alloc, kept, need.as_slice(), rows, tables)?;
-    Ok(Run { rel, kept })
+    Ok(Run {
+        rel: rel.shared(alloc)?,
+        kept,
+    })
 }
 
 // A plan's rows, and the needed lineage to the tables that it scans. Its nodes are numbered from `number` on, which then is the number behind them.

@@ -1,6 +1,7 @@
 use Rattle.std.proofs.Common.{◌≡◌, ◌∙◌, ◌<◌, ℕ, List, length, map, get_or, Option, sym, ap, subst}
 use Rattle.std.proofs.lemmas.Result.{err_from_is_err_and}
 use Rattle.smk_base.specs.PlanImage.{expr_of}
+use Rattle.smk_base.specs.Rels.{Relation}
 use Rattle.smk_model.specs.Values.{Row}
 use Rattle.smk_model.specs.Plain.{whole}
 use Rattle.smk_model.specs.Composed.{table_at, rows_over}
@@ -28,7 +29,7 @@ returns-in_err-rel-clause-fault g c =
     (subst (λ (f : Option NodeFault). IsFirst c.in_err-rel.field-0.0 f) same c.in_err-rel.ensures.fault))
 
 pub returns-clause-kinds : goal.returns-clause-kinds
-returns-clause-kinds g c = c.in_ok-rel.ensures.kinds ∙ kinds_whole (expr_of c.args.plan.now) (each_kinds c.args.tables.now)
+returns-clause-kinds g c = ap (λ (rel : Relation). rel.kinds) c.in_ok-shared.ensures ∙ c.in_ok-rel.ensures.kinds ∙ kinds_whole (expr_of c.args.plan.now) (each_kinds c.args.tables.now)
 
 pub returns-clause-kept : goal.returns-clause-kept
 returns-clause-kept g c =
