@@ -1,0 +1,51 @@
+-- Filters of which every member is kept, or none, and filters of filters.
+use Rattle.std.proofs.Common.{◌≡◌, suc, Bool, true, false, List, [], ◌∷◌, ◌&&◌, ◌||◌, refl, ap, arith, inl, inr, filter}
+use Rattle.std.specs.List.{All, list_any}
+use Rattle.std.proofs.lemmas.Bool.{cases_Bool, false≢true}
+
+pub and_true : (a b : Bool) → b ≡ true → (a && b) ≡ a
+and_true true b h = h
+and_true false b h = refl
+
+pub and_false : (a b : Bool) → b ≡ false → (a && b) ≡ false
+and_false true b h = h
+and_false false b h = refl
+
+pub and_first : (a b : Bool) → (a && b) ≡ true → a ≡ true
+and_first true b h = refl
+and_first false b h = absurd (false≢true h)
+
+pub and_second : (a b : Bool) → (a && b) ≡ true → b ≡ true
+and_second true b h = h
+and_second false b h = absurd (false≢true h)
+
+pub filter_none : {X : Type 0} (p : X → Bool) (xs : List X) → All (λ x. p x ≡ false) xs → filter p xs ≡ []
+filter_none p [] h = refl
+filter_none p (x ∷ xs) h =
+    let here : p x ≡ false = h 0 x (omega arith) in
+    rw here (filter_none p xs (λ k d l. h (suc k) d (omega arith)))
+
+pub filter_all : {X : Type 0} (p : X → Bool) (xs : List X) → All (λ x. p x ≡ true) xs → filter p xs ≡ xs
+filter_all p [] h = refl
+filter_all p (x ∷ xs) h =
+    let here : p x ≡ true = h 0 x (omega arith) in
+    rw here (ap (λ z. x ∷ z) (filter_all p xs (λ k d l. h (suc k) d (omega arith))))
+
+pub filter_filter : {X : Type 0} (p q : X → Bool) (xs : List X) → filter q (filter p xs) ≡ filter (λ x. p x && q x) xs
+filter_filter p q [] = refl
+filter_filter p q (x ∷ xs) = elim (cases_Bool (p x)) [
+  | inl t ↦ rw t (elim (cases_Bool (q x)) [ inl u ↦ rw u (ap (λ z. x ∷ z) (filter_filter p q xs)) | inr u ↦ rw u (filter_filter p q xs) ])
+  | inr t ↦ rw t (filter_filter p q xs)
+]
+
+-- some member passes both tests, of which the second is the same for all
+pub any_and : {X : Type 0} (p : X → Bool) (b : Bool) (xs : List X) → list_any (λ x. p x && b) xs ≡ (list_any p xs && b)
+any_and p b [] = refl
+any_and p b (x ∷ xs) = elim (cases_Bool (p x)) [
+  | inl t ↦ rw (t, any_and p b xs) (or_and b (list_any p xs))
+  | inr t ↦ rw t (any_and p b xs)
+]
+  where
+    or_and : (b c : Bool) → (b || (c && b)) ≡ b
+    or_and true c = refl
+    or_and false c = and_false c false refl

@@ -1,0 +1,173 @@
+-- Lists one after the other as an order of their rids, and other lists as places in it.
+use Rattle.std.proofs.Common.{◌≡◌, ◌∙◌, ◌<◌, ◌≤◌, ◌+◌, ℕ, zero, suc, Bool, true, false, cond, List, [], ◌∷◌, ◌++◌, ◌&&◌, ◌||◌, length, map, take, drop, refl, sym, ap, arith, inl, inr, filter, get_or, nat_eq, nat_lt}
+use Rattle.std.specs.List.{All, concat, list_any}
+use Rattle.std.proofs.lemmas.Bool.{cases_Bool, cases_lt, eq-eqb, eqb-true, ne_eqb, lt-ltb, le-ltb, false≢true}
+use Rattle.std.proofs.lemmas.List.{length-append, length-map, get_or-map, append-nil, map-append, append_assoc}
+use Rattle.std.proofs.lemmas.List.Elements.{filter-append}
+use Rattle.std.proofs.lemmas.List.Folds.{concat-append}
+use Rattle.std.proofs.lemmas.List.Sums.{sum_by-cons, sum_by_more_le}
+use Rattle.smk_base.specs.Places.{Lists, IsPlaces, upto, places, has, list_at, pairs_of, members_at, composed, inverted}
+use Rattle.smk_model.specs.Locals.{singles}
+use Rattle.smk_model.proofs.Places.{same_below, at_places, places_false, length_upto, get_or_map_upto, has_places, map_upto_agree}
+use Rattle.smk_model.proofs.Pairs.{filter_le}
+use Rattle.smk_body.proofs.Folding.{length_places-le}
+use Rattle.smk_rid.proofs.Sets.{is_below}
+use Rattle.smk_rid.proofs.Packs.{length-concat}
+use Rattle.smk_skip.specs.Parts.{ranks, ranked}
+use Rattle.smk_skip.proofs.Filters.{and_second, filter_all, filter_filter}
+
+-- the list at a place, behind those before it and before those after it
+pub split_at : (lists : List (List ℕ)) (i : ℕ) → i < length lists → concat lists ≡ (concat (take i lists) ++ get_or lists i []) ++ concat (drop (suc i) lists)
+split_at [] i h = absurd (omega arith)
+split_at (x ∷ xs) zero h = refl
+split_at (x ∷ xs) (suc i) h =
+    ap (λ z. x ++ z) (split_at xs i (omega arith))
+    ∙ sym (append_assoc x (concat (take i xs) ++ get_or xs i []) (concat (drop (suc i) xs)))
+    ∙ ap (λ z. z ++ concat (drop (suc i) xs)) (sym (append_assoc x (concat (take i xs)) (get_or xs i [])))
+
+-- one list more
+pub concat_more : (lists : List (List ℕ)) (i : ℕ) → i < length lists → concat (take (i + 1) lists) ≡ concat (take i lists) ++ get_or lists i []
+concat_more [] i h = absurd (omega arith)
+concat_more (x ∷ xs) zero h = append-nil x
+concat_more (x ∷ xs) (suc i) h =
+    let next : suc i + 1 ≡ suc (i + 1) = omega arith in
+    ap (λ k. concat (take k (x ∷ xs))) next
+    ∙ ap (λ z. x ++ z) (concat_more xs i (omega arith))
+    ∙ sym (append_assoc x (concat (take i xs)) (get_or xs i []))
+
+eq_sym : (a b : ℕ) → nat_eq a b ≡ nat_eq b a
+eq_sym a b = elim (cases_Bool (nat_eq b a)) [
+  | inl p ↦ eq-eqb a b (sym (eqb-true b a p)) ∙ sym p
+  | inr p ↦ ne_eqb a b (λ e. absurd (false≢true (sym p ∙ eq-eqb b a (sym e)))) ∙ sym p
+]
+
+-- tests that agree at each member
+pub any_agree : {X : Type 0} (f g : X → Bool) (xs : List X) → All (λ x. f x ≡ g x) xs → list_any f xs ≡ list_any g xs
+any_agree f g [] h = refl
+any_agree f g (x ∷ xs) h =
+    let here : f x ≡ g x = h 0 x (omega arith) in
+    let rest : list_any f xs ≡ list_any g xs = any_agree f g xs (λ k d l. h (suc k) d (omega arith)) in
+    rw (here, rest) refl
+
+-- functions that agree at each member
+pub map_agree : {X Y : Type 0} (f g : X → Y) (xs : List X) → All (λ x. f x ≡ g x) xs → map f xs ≡ map g xs
+map_agree f g [] h = refl
+map_agree f g (x ∷ xs) h =
+    let here : f x ≡ g x = h 0 x (omega arith) in
+    let rest : map f xs ≡ map g xs = map_agree f g xs (λ k d l. h (suc k) d (omega arith)) in
+    rw (here, rest) refl
+
+-- for each rid below n the places where an order has it
+places_at : (order : List ℕ) (n k i : ℕ) → k < length order → i < n → has (list_at (inverted (singles order n)) i) k ≡ nat_eq (get_or order k 0) i
+places_at order n k i l h =
+    let long : length (singles order n).lists ≡ length order = length-map order (λ r. r ∷ []) in
+    let own : list_at (singles order n) k ≡ get_or order k 0 ∷ [] = get_or-map (λ r. r ∷ []) order k 0 [] l in
+    let at : list_at (inverted (singles order n)) i ≡ places (λ j. has (list_at (singles order n) j) i) (length (singles order n).lists) = get_or_map_upto (λ r. places (λ j. has (list_at (singles order n) j) r) (length (singles order n).lists)) n i [] h in
+    ap (λ z. has z k) at
+    ∙ has_places (λ j. has (list_at (singles order n) j) i) (length (singles order n).lists) k (omega (arith, long))
+    ∙ ap (λ z. has z i) own ∙ or_none (nat_eq i (get_or order k 0)) ∙ eq_sym i (get_or order k 0)
+  where
+    or_none : (b : Bool) → (b || false) ≡ b
+    or_none true = refl
+    or_none false = refl
+
+members_are : (order A : List ℕ) (n : ℕ) → All (λ r. r < n) A → members_at (inverted (singles order n)) A ≡ ranks order A
+members_are order A n low =
+    let long : length (singles order n).lists ≡ length order = length-map order (λ r. r ∷ []) in
+    ap (places (λ k. list_any (λ i. has (list_at (inverted (singles order n)) i) k) A)) long
+    ∙ same_below (λ k. list_any (λ i. has (list_at (inverted (singles order n)) i) k) A) (λ k. has A (get_or order k 0)) (length order) (λ k l.
+    any_agree (λ i. has (list_at (inverted (singles order n)) i) k) (nat_eq (get_or order k 0)) A (λ j d s. places_at order n k (get_or A j d) l (low j d s)))
+
+-- a map composed with the places of an order
+pub composed_is : (order : List ℕ) (n : ℕ) (m : Lists) → All (IsPlaces m.bound) m.lists → m.bound ≡ n → composed m (inverted (singles order n)) ≡ ranked order m
+composed_is order n m sets e =
+    let each : map (members_at (inverted (singles order n))) m.lists ≡ map (ranks order) m.lists =
+    map_agree (members_at (inverted (singles order n))) (ranks order) m.lists (λ k d l. members_are order (get_or m.lists k d) n (low k d l)) in
+    let long : length (singles order n).lists ≡ length order = length-map order (λ r. r ∷ []) in
+    rw (each, long) refl
+  where
+    low : (k : ℕ) (d : List ℕ) → k < length m.lists → All (λ r. r < n) (get_or m.lists k d)
+    low k d l = let is = is_below m.bound (get_or m.lists k d) (sets k d l) in rw e at is
+
+-- one where a test passes
+abbrev tally : Bool → ℕ
+tally b = cond b 1 0
+
+counted : (t : ℕ → Bool) (n : ℕ) → length (places t (suc n)) ≡ length (places t n) + tally (t n)
+counted t n =
+    ap length (filter-append t (upto n) (n ∷ [])) ∙ elim (cases_Bool (t n)) [
+      | inl p ↦ rw p (length-append (places t n) (n ∷ []))
+      | inr p ↦ rw p (length-append (places t n) [])
+    ]
+
+count_both : (a b c : ℕ → Bool) (n : ℕ) → ((i : ℕ) → tally (a i) + tally (b i) ≡ tally (c i)) → length (places a n) + length (places b n) ≡ length (places c n)
+count_both a b c zero h = refl
+count_both a b c (suc n) h = omega (arith, counted a n, counted b n, counted c n, h n, count_both a b c n h)
+
+split_tally : (x C : ℕ) (b : Bool) → tally (nat_lt x C && b) + tally (nat_eq C x && b) ≡ tally (nat_lt x (suc C) && b)
+split_tally x C b = elim (cases_lt x C) [
+  | inl l ↦ rw (lt-ltb x C l, ne_eqb C x (λ e. absurd (omega arith)), lt-ltb x (suc C) (omega arith)) (omega arith)
+  | inr g ↦ elim (cases_lt C x) [
+    | inl up ↦ rw (le-ltb x C g, ne_eqb C x (λ e. absurd (omega arith)), le-ltb x (suc C) (omega arith)) refl
+    | inr le ↦ rw (le-ltb x C g, eq-eqb C x (omega arith), lt-ltb x (suc C) (omega arith)) (omega arith)
+  ]
+]
+
+-- of lists by the number of each place, every place with a number below C has one
+once_each : (t : ℕ → Bool) (o : ℕ → ℕ) (n C : ℕ) → length (filter t (concat (map (λ r. places (λ i. nat_eq r (o i)) n) (upto C)))) ≡ length (places (λ i. nat_lt (o i) C && t i) n)
+once_each t o n zero = sym (ap length (same_below (λ i. nat_lt (o i) 0 && t i) (λ i. false) n (λ i l. ap (λ b. b && t i) (le-ltb (o i) 0 (omega arith))) ∙ places_false n))
+once_each t o n (suc C) =
+    let F = λ (r : ℕ). places (λ i. nat_eq r (o i)) n in
+    let before = concat (map F (upto C)) in
+    let parts : concat (map F (upto (suc C))) ≡ before ++ F C = ap concat (map-append F (upto C) (C ∷ [])) ∙ concat-append (map F (upto C)) (F C ∷ []) ∙ ap (λ z. before ++ z) (append-nil (F C)) in
+    let kept : length (filter t (concat (map F (upto (suc C))))) ≡ length (filter t before) + length (filter t (F C)) = ap (λ z. length (filter t z)) parts ∙ ap length (filter-append t before (F C)) ∙ length-append (filter t before) (filter t (F C)) in
+    let last : length (filter t (F C)) ≡ length (places (λ i. nat_eq C (o i) && t i) n) = ap length (filter_filter (λ i. nat_eq C (o i)) t (upto n)) in
+    let both = count_both (λ i. nat_lt (o i) C && t i) (λ i. nat_eq C (o i) && t i) (λ i. nat_lt (o i) (suc C) && t i) n (λ i. split_tally (o i) C (t i)) in
+    omega (arith, kept, last, both, once_each t o n C)
+
+-- the places that have each number
+pub turned_is : (of : List ℕ) (C : ℕ) → (inverted (singles of C)).lists ≡ map (λ r. places (λ i. nat_eq r (get_or of i 0)) (length of)) (upto C)
+turned_is of C =
+    let long : length (singles of C).lists ≡ length of = length-map of (λ r. r ∷ []) in
+    ap (λ n. map (λ r. places (λ i. has (list_at (singles of C) i) r) n) (upto C)) long
+    ∙ map_upto_agree (λ r. places (λ i. has (list_at (singles of C) i) r) (length of)) (λ r. places (λ i. nat_eq r (get_or of i 0)) (length of)) C (λ r low.
+    same_below (λ i. has (list_at (singles of C) i) r) (λ i. nat_eq r (get_or of i 0)) (length of) (λ i l.
+    ap (λ z. has z r) (get_or-map (λ r. r ∷ []) of i 0 [] l) ∙ or_none (nat_eq r (get_or of i 0))))
+  where
+    or_none : (b : Bool) → (b || false) ≡ b
+    or_none true = refl
+    or_none false = refl
+
+-- no place is there twice
+pub once : (of : List ℕ) (C : ℕ) (t : ℕ → Bool) → length (filter t (concat (inverted (singles of C)).lists)) ≤ length (places t (length of))
+once of C t =
+    let o = λ (i : ℕ). get_or of i 0 in
+    let same : length (filter t (concat (inverted (singles of C)).lists)) ≡ length (places (λ i. nat_lt (o i) C && t i) (length of)) = ap (λ z. length (filter t (concat z))) (turned_is of C) ∙ once_each t o (length of) C in
+    omega (arith, same, filter_le (λ i. nat_lt (o i) C && t i) t (λ i h. and_second (nat_lt (o i) C) (t i) h) (upto (length of)))
+
+-- the places that a list has in an order without repeats are no more than its rids
+ranks_few : (order A : List ℕ) (n : ℕ) → ((t : ℕ → Bool) → length (filter t order) ≤ length (places t n)) → IsPlaces n A → length (ranks order A) ≤ length A
+ranks_few order A n apart set =
+    let kept : map (λ k. get_or order k 0) (ranks order A) ≡ filter (has A) order = at_places (has A) order 0 in
+    omega (arith, ap length kept, length-map (ranks order A) (λ k. get_or order k 0), apart (has A), ap length set)
+
+pairs_less : (f : List ℕ → List ℕ) (lists : List (List ℕ)) → All (λ A. length (f A) ≤ length A) lists → pairs_of (map f lists) ≤ pairs_of lists
+pairs_less f [] h = omega arith
+pairs_less f (x ∷ xs) h =
+    let here : length (f x) ≤ length x = h 0 x (omega arith) in
+    omega (arith, here, sum_by-cons (length {A = ℕ}) x xs, sum_by-cons (length {A = ℕ}) (f x) (map f xs), pairs_less f xs (λ k d l. h (suc k) d (omega arith)))
+
+pub ranked_few : (order : List ℕ) (m : Lists) → ((t : ℕ → Bool) → length (filter t order) ≤ length (places t m.bound)) → All (IsPlaces m.bound) m.lists → pairs_of (ranked order m).lists ≤ pairs_of m.lists
+ranked_few order m apart sets = pairs_less (ranks order) m.lists (λ k d l. ranks_few order (get_or m.lists k d) m.bound apart (sets k d l))
+
+-- one list for each rid
+pub turned_long : (order : List ℕ) (n : ℕ) → length (inverted (singles order n)).lists ≡ n
+turned_long order n = length-map (upto n) (λ r. places (λ i. has (list_at (singles order n) i) r) (length (singles order n).lists)) ∙ length_upto n
+
+-- a list lies within the order
+pub within_order : (lists : List (List ℕ)) (i : ℕ) → i < length lists → pairs_of (take i lists) + length (get_or lists i []) ≤ length (concat lists)
+within_order lists i h = omega (arith, sum_by_more_le (length {A = ℕ}) lists i [] h, length-concat lists)
+
+-- an order without repeats is no longer than its rids are many
+pub order_few : (order : List ℕ) (n : ℕ) → ((t : ℕ → Bool) → length (filter t order) ≤ length (places t n)) → length order ≤ n
+order_few order n apart = omega (arith, apart (λ i. true), ap length (filter_all (λ i. true) order (λ k d l. refl)), length_places-le (λ i. true) n)

@@ -1,0 +1,9 @@
+//! The lists of a map split by the values of a column, so that the rids with a value are found without the others.
+#![tactic(auto)]
+
+mod order;
+mod runs;
+mod split;
+mod values;
+
+pub use split::Split;
