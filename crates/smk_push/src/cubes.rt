@@ -1,0 +1,60 @@
+ghost use Rattle.std.specs.Prelude.{◌≡◌, ◌<◌, ◌≤◌, ◌+◌, length, IfOk};
+ghost use Rattle.smk_model.specs.Kinds.{GroupFits};
+ghost use Rattle.smk_push.specs.Cubes.{cube_at, cubes_of};
+
+use crate::group::group_at;
+use smk_base::{Aggs, Keys, Rel};
+use smk_outside::Steps;
+use smk_rid::RidMap;
+use smk_table::Table;
+use std::alloc::{AllocError, Global};
+use std::marker::Model;
+use std::sync::ledger::Ledger;
+
+/// A grouping of the rows of a table, made for each list of a map. Contracts see the list of the groups.
+#[derive(Drop)]
+pub struct Cubes {
+    groups: Vec<Rel>,
+}
+
+impl Model for Cubes {
+    ghost use Rattle.std.specs.Prelude.{List};
+    ghost use Rattle.smk_base.specs.Rels.{Relation};
+
+    ghost Value = { List Relation };
+
+    ghost view = { λ a. a.groups.items };
+}
+
+impl Cubes {
+    /// For each list of a map to the rows of this table the grouping of the rows at its rids, in their order. It is at most one look for each row of the table, also where it wants memory.
+    pub fn build<L: Ledger>(
+        alloc: Global,
+        map: &RidMap,
+        table: &Table,
+        keys: &Keys,
+        aggs: &Aggs,
+        steps: &mut Steps<L>,
+    ) -> Result<Cubes, AllocError>
+        requires fits { GroupFits table.now.kinds keys.now aggs.now }
+        requires bound { map.now.bound ≡ length table.now.rows }
+        ensures groups { IfOk result (λ cubes. cubes ≡ cubes_of map.now table.now keys.now aggs.now) }
+        ensures looks { steps.new ≤ steps.old + length table.now.rows }
+    {
+        let rel = table.whole(alloc, steps)?;
+        let mut groups = Vec::with_capacity(alloc, map.len() as usize)?;
+        for mark in 0..map.len() {
+            let made = group_at(alloc, &rel, map.at(mark), keys.as_slice(), aggs.as_slice())?;
+            groups.push(made)?;
+        }
+        Ok(Cubes { groups })
+    }
+
+    /// The groups of a mark. It takes no memory and looks at nothing.
+    pub fn groups(&self, mark: u32) -> &Rel
+        requires { mark < length self.now }
+        ensures { result.now ≡ cube_at self.now mark }
+    {
+        &self.groups[mark as usize]
+    }
+}

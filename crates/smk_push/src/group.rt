@@ -1,0 +1,86 @@
+//! The groups of some rows of a relation.
+ghost use Rattle.std.specs.Prelude.{◌≡◌, ◌<◌, ◌≤◌, length, map, All, IfOk};
+ghost use Rattle.smk_base.specs.Places.{IsPlaces};
+ghost use Rattle.smk_base.specs.Cells.{value_of_cell};
+ghost use Rattle.smk_base.specs.Rels.{kind_in, row_in, rows_at};
+ghost use Rattle.smk_base.specs.declared.rel.TheConstants.{ROW_LIMIT};
+ghost use Rattle.smk_model.specs.Kinds.{GroupFits};
+ghost use Rattle.smk_push.specs.Cubes.{cube_of};
+
+use smk_base::{Agg, CellRef, Kind, Rel};
+use smk_body::group_rows;
+use smk_keys::Classes;
+use std::alloc::{AllocError, Global};
+
+// Rows are put one by one where they are fewer than one in so many; else column by column, in a pass over the texts that each column has.
+const PUT_SHARE: u32 = 16;
+
+/// The grouping of the rows at these rids, in their order.
+pub(crate) fn group_at(
+    alloc: Global,
+    rel: &Rel,
+    rids: &[u32],
+    keys: &[u32],
+    aggs: &[Agg],
+) -> Result<Rel, AllocError>
+    requires fits { GroupFits rel.now.kinds keys.now aggs.now }
+    requires set { IsPlaces (length rel.now.rows) rids.now }
+    ensures { IfOk result (λ made. made ≡ cube_of rel.now keys.now aggs.now rids.now) }
+{
+    let _rows = rel.len();
+    let rows = rows_of(alloc, rel, rids)?;
+    let classes = Classes::of_rows(alloc, &rows, keys)?;
+    let made = group_rows(alloc, &rows, &classes, keys, aggs)?;
+    Ok(made)
+}
+
+// The rows at these rids.
+fn rows_of(alloc: Global, rel: &Rel, rids: &[u32]) -> Result<Rel, AllocError>
+    requires within { All (λ rid. rid < length rel.now.rows) rids.now }
+    requires few { length rids.now ≤ ROW_LIMIT }
+    ensures { IfOk result (λ made. made ≡ record { kinds = rel.now.kinds; rows = rows_at rel.now.rows rids.now }) }
+{
+    if rids.len() < (rel.len() / PUT_SHARE) as usize {
+        return put_rows(alloc, rel, rids);
+    }
+    rel.gather(alloc, rids)
+}
+
+// The rows at these rids, put one by one.
+fn put_rows(alloc: Global, rel: &Rel, rids: &[u32]) -> Result<Rel, AllocError>
+    requires within { All (λ rid. rid < length rel.now.rows) rids.now }
+    requires few { length rids.now ≤ ROW_LIMIT }
+    ensures { IfOk result (λ made. made ≡ record { kinds = rel.now.kinds; rows = rows_at rel.now.rows rids.now }) }
+{
+    let _rows = rel.len();
+    let kinds = kinds_of(alloc, rel)?;
+    let mut made = Rel::new(alloc, kinds.as_slice())?;
+    for rid in rids {
+        let cells = cells_of(alloc, rel, *rid)?;
+        made.push_cells(cells.as_slice())?;
+    }
+    Ok(made)
+}
+
+// The kinds of the columns.
+fn kinds_of(alloc: Global, rel: &Rel) -> Result<Vec<Kind>, AllocError>
+    ensures { IfOk result (λ made. made.items ≡ rel.now.kinds) }
+{
+    let mut made = Vec::with_capacity(alloc, rel.width() as usize)?;
+    for c in 0..rel.width() {
+        made.push(rel.kind(c))?;
+    }
+    Ok(made)
+}
+
+// The cells of a row where they lie.
+fn cells_of(alloc: Global, rel: &Rel, row: u32) -> Result<Vec<CellRef<'_>>, AllocError>
+    requires { row < length rel.now.rows }
+    ensures { IfOk result (λ made. map value_of_cell made.items ≡ row_in rel.now.rows row) }
+{
+    let mut made = Vec::with_capacity(alloc, rel.width() as usize)?;
+    for c in 0..rel.width() {
+        made.push(rel.cell(row, c))?;
+    }
+    Ok(made)
+}
