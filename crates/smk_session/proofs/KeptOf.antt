@@ -21,7 +21,7 @@ use Rattle.smk_session.specs.Answers.{is_of_table, kept_back, kept_fwd}
 
 -- the place t among the places that pass
 
-find_mapped : {X Y : Type 0} (p : Y → Bool) (f : X → Y) (xs : List X) → find p (map f xs) ≡ option_map f (find (λ x. p (f x)) xs)
+pub find_mapped : {X Y : Type 0} (p : Y → Bool) (f : X → Y) (xs : List X) → find p (map f xs) ≡ option_map f (find (λ x. p (f x)) xs)
 find_mapped p f [] = refl
 find_mapped p f (x ∷ xs) = elim (cases_Bool (p (f x))) [
   | inl t ↦ rw t refl
@@ -40,7 +40,7 @@ one_more q n t =
     ∙ find-append (λ i. nat_eq i t) (filter q (upto n)) (filter q (n ∷ []))
     ∙ ap (option_or (find (λ i. nat_eq i t) (filter q (upto n)))) (last_found q n t)
 
-past : (q : ℕ → Bool) (n t : ℕ) → n ≤ t → find (λ i. nat_eq i t) (places q n) ≡ None
+pub past : (q : ℕ → Bool) (n t : ℕ) → n ≤ t → find (λ i. nat_eq i t) (places q n) ≡ None
 past q zero t h = refl
 past q (suc n) t h = one_more q n t ∙ rw (past q n t (omega arith), ne_eqb n t (λ e. absurd (omega arith))) refl
 
@@ -48,7 +48,7 @@ or_none : {X : Type 0} (o : Option X) → option_or o None ≡ o
 or_none (Some x) = refl
 or_none None = refl
 
-found : (q : ℕ → Bool) (n t : ℕ) → t < n → find (λ i. nat_eq i t) (places q n) ≡ cond (q t) (Some t) None
+pub found : (q : ℕ → Bool) (n t : ℕ) → t < n → find (λ i. nat_eq i t) (places q n) ≡ cond (q t) (Some t) None
 found q zero t h = absurd (omega arith)
 found q (suc n) t h = one_more q n t ∙ elim (cases_lt t n) [
   | inl l ↦ rw (found q n t l, ne_eqb n t (λ e. absurd (omega arith))) (or_none (cond (q t) (Some t) None))

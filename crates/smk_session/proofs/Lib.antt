@@ -1,7 +1,13 @@
+mod Brushed
+mod Followers
+mod InForce
 mod KeptOf
-mod Lookups
+mod Linked
 mod Marked
+mod Merging
 mod Opened
 mod Rids
+mod Selected
+mod Shown
 mod Starts
 mod Turns

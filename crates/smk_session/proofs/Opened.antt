@@ -5,6 +5,7 @@ use Rattle.smk_base.specs.CatalogImage.{CatalogImage, ViewImage, view_image, cat
 use Rattle.smk_base.specs.Places.{Lists, upto}
 use Rattle.smk_base.specs.Plans.{Expr}
 use Rattle.smk_base.specs.Rels.{Relation}
+use Rattle.smk_base.specs.declared.brush.BrushOn.{BrushOn}
 use Rattle.smk_base.specs.declared.catalog.Catalog.{Catalog}
 use Rattle.smk_base.specs.declared.catalog.ViewInfo.{ViewInfo}
 use Rattle.smk_base.specs.declared.reply.Reply.TheVariants as replies
@@ -19,11 +20,10 @@ use Rattle.smk_model.specs.Composed.{backs, forwards}
 use Rattle.smk_model.specs.Catalogs.{IsCatalog, ViewFits, table_kinds, each_table_kinds}
 use Rattle.smk_model.specs.Selection.{each_kinds}
 use Rattle.smk_model.specs.Typing.{info_at, no_table}
-use Rattle.smk_model.specs.Replies.{Asked, known_pair, named_back, named_fwd, content_of, provided, unless_row, first_outside, written, marked, marks_fwd, rids_of, back_reply, fwd_reply}
+use Rattle.smk_model.specs.Replies.{Asked, known_pair, named_back, named_fwd, provided, unless_row, first_outside, written, marked, marks_fwd, rids_of, back_reply, fwd_reply}
 use Rattle.smk_model.specs.Session.{Workbook, State, view_at, no_view, rows_of_table}
 use Rattle.smk_model.specs.Workload.{declares_back, declares_fwd}
 use Rattle.smk_model.proofs.Places.{get_or_map_upto, length_upto}
-use Rattle.smk_model.proofs.Replies.{first_contents}
 use Rattle.smk_compose.specs.declared.kept.Run.{Run}
 use Rattle.smk_session.specs.Answers.{kept_back, members_asked, rows_told, back_by, fwd_by, BacksFit}
 use Rattle.smk_session.specs.Sessions.{AreOpened, workbook_image, state_over, opened}
@@ -53,11 +53,11 @@ run_is catalog tables views v run o low is =
 abbrev rel_of : List Kind → List Row → Relation
 rel_of kinds rows = record { kinds = kinds; rows = rows }
 
-pub table_is : (catalog : Catalog) (tables : List Relation) (t : ℕ) (table : Relation) → each_kinds tables ≡ each_table_kinds catalog.tables → t < length catalog.tables → table ≡ get_or tables t table
-    → table ≡ rel_of (table_kinds (info_at catalog.tables t)) (rows_of_table (state_over tables) t)
-table_is catalog tables t table kinds_are low is =
+pub table_is : (catalog : Catalog) (tables : List Relation) (brushes : List BrushOn) (t : ℕ) (table : Relation) → each_kinds tables ≡ each_table_kinds catalog.tables → t < length catalog.tables → table ≡ get_or tables t table
+    → table ≡ rel_of (table_kinds (info_at catalog.tables t)) (rows_of_table (state_over tables brushes) t)
+table_is catalog tables brushes t table kinds_are low is =
     let less : t < length tables = omega (arith, low, tables_long catalog tables kinds_are) in
-    let rows : table.rows ≡ rows_of_table (state_over tables) t = ap (λ (r : Relation). r.rows) is ∙ sym (get_or-map (λ (r : Relation). r.rows) tables t table [] less) in
+    let rows : table.rows ≡ rows_of_table (state_over tables brushes) t = ap (λ (r : Relation). r.rows) is ∙ sym (get_or-map (λ (r : Relation). r.rows) tables t table [] less) in
     let kinds : table.kinds ≡ table_kinds (info_at catalog.tables t) =
     ap (λ (r : Relation). r.kinds) is ∙ sym (get_or-map (λ (r : Relation). r.kinds) tables t table [] less) ∙ ap (λ (k : List (List Kind)). get_or k t []) kinds_are
     ∙ get_or-map table_kinds catalog.tables t no_table [] low in
@@ -69,20 +69,20 @@ provided_then : {A B : Type 0} (b : Bool) (a : A) (next : A → Asked B) → ◌
 provided_then true a next = refl
 provided_then false a next = refl
 
-pub back_is : (catalog : Catalog) (tables : List Relation) (views : List Run) (v t : ℕ) (run : Run) (table : Relation) (marks : Marks)
+pub back_is : (catalog : Catalog) (tables : List Relation) (brushes : List BrushOn) (views : List Run) (v t : ℕ) (run : Run) (table : Relation) (marks : Marks)
     → AreOpened catalog tables views → v < length catalog.views → t < length catalog.tables → run ≡ get_or views v run → table ≡ get_or tables t table
-    → back_by run.kept t table marks ≡ provided (declares_back (catalog_image catalog) v t) Undeclared (back_reply (catalog_image catalog) (state_over tables) v t marks thens.Plain)
-back_is catalog tables views v t run table marks o low_v low_t is_v is_t =
+    → back_by run.kept t table marks ≡ provided (declares_back (catalog_image catalog) v t) Undeclared (back_reply (catalog_image catalog) (state_over tables brushes) v t marks thens.Plain)
+back_is catalog tables brushes views v t run table marks o low_v low_t is_v is_t =
     let image : CatalogImage = catalog_image catalog in
-    let state : State = state_over tables in
+    let state : State = state_over tables brushes in
     let plan : Expr = (view_at image v).plan in
     ap (λ (r : Run). back_by r.kept t table marks) (run_is catalog tables views v run o low_v is_v)
     ∙ ap (λ (l : Asked Lists). ◌>>=◌ l (λ map. ◌>>=◌ (members_asked map marks) (λ rids. Ok (rows_told table rids)))) (kept_back_is image plan state.tables v t low_t)
     ∙ provided_then (declares_back image v t) (backs plan state.tables t) (λ map. ◌>>=◌ (members_asked map marks) (λ rids. Ok (rows_told table rids)))
     ∙ ap (λ (l : Asked (List ℕ)). provided (declares_back image v t) Undeclared (◌>>=◌ l (λ rids. Ok (rows_told table rids)))) (backs_asked plan state.tables t marks)
-    ∙ ap (λ (r : Relation). provided (declares_back image v t) Undeclared (◌>>=◌ (rids_of image state v t marks) (λ rids. Ok (rows_told r rids)))) (table_is catalog tables t table o.kinds low_t is_t)
+    ∙ ap (λ (r : Relation). provided (declares_back image v t) Undeclared (◌>>=◌ (rids_of image state v t marks) (λ rids. Ok (rows_told r rids)))) (table_is catalog tables brushes t table o.kinds low_t is_t)
 
-ok_is : (b : Bool) (m n : Lists) → cond b (Ok m) (Err Undeclared) ≡ Ok n → n ≡ m
+pub ok_is : (b : Bool) (m n : Lists) → cond b (Ok m) (Err Undeclared) ≡ Ok n → n ≡ m
 ok_is true m n h = cc
 ok_is false m n h = absurd (cc)
 
@@ -91,12 +91,12 @@ pub backs_fit : (catalog : Catalog) (tables : List Relation) (views : List Run) 
     → BacksFit run.kept t (length table.rows)
 backs_fit catalog tables views v t run table o low_v low_t is_v is_t map kept =
     let image : CatalogImage = catalog_image catalog in
-    let state : State = state_over tables in
+    let state : State = state_over tables [] in
     let plan : Expr = (view_at image v).plan in
     let known : cond (declares_back image v t) (Ok (backs plan state.tables t)) (Err Undeclared) ≡ Ok map =
     sym (kept_back_is image plan state.tables v t low_t) ∙ ap (λ (r : Run). kept_back r.kept t) (sym (run_is catalog tables views v run o low_v is_v)) ∙ kept in
     ap (λ (m : Lists). m.bound) (ok_is (declares_back image v t) (backs plan state.tables t) map known)
-    ∙ ap (λ (r : Relation). length r.rows) (sym (table_is catalog tables t table o.kinds low_t is_t))
+    ∙ ap (λ (r : Relation). length r.rows) (sym (table_is catalog tables [] t table o.kinds low_t is_t))
 
 -- a forward query
 
@@ -104,12 +104,12 @@ then_row : {A B : Type 0} (outside : Option ℕ) (n : ℕ) (a : A) (told : A →
 then_row (Some row) n a told = refl
 then_row None n a told = refl
 
-pub fwd_is : (catalog : Catalog) (tables : List Relation) (views : List Run) (v t : ℕ) (run : Run) (rows : Marks)
+pub fwd_is : (catalog : Catalog) (tables : List Relation) (brushes : List BrushOn) (views : List Run) (v t : ℕ) (run : Run) (rows : Marks)
     → AreOpened catalog tables views → v < length catalog.views → t < length catalog.tables → run ≡ get_or views v run
-    → fwd_by run.kept t rows ≡ provided (declares_fwd (catalog_image catalog) v t) Undeclared (fwd_reply (catalog_image catalog) (state_over tables) v t rows)
-fwd_is catalog tables views v t run rows o low_v low_t is_v =
+    → fwd_by run.kept t rows ≡ provided (declares_fwd (catalog_image catalog) v t) Undeclared (fwd_reply (catalog_image catalog) (state_over tables brushes) v t rows)
+fwd_is catalog tables brushes views v t run rows o low_v low_t is_v =
     let image : CatalogImage = catalog_image catalog in
-    let state : State = state_over tables in
+    let state : State = state_over tables brushes in
     let plan : Expr = (view_at image v).plan in
     let n : ℕ = length (rows_of_table state t) in
     ap (λ (r : Run). fwd_by r.kept t rows) (run_is catalog tables views v run o low_v is_v)
@@ -128,30 +128,23 @@ view_fits catalog v view checked low is =
     let long : v < length (catalog_image catalog).views = omega (arith, low, length-map catalog.views view_image) in
     subst (λ (w : ViewImage). ViewFits catalog.tables w) (sym (view_is catalog v view low is)) (checked.typed.views v no_view long)
 
--- the content of a view that is shown
-pub shown : (catalog : Catalog) (tables : List Relation) (views : List Run) (v : ℕ) (run : Run) → AreOpened catalog tables views → v < length catalog.views → run ≡ get_or views v run
-    → run.rel ≡ content_of (catalog_image catalog) (state_over tables) v
-shown catalog tables views v run o low is =
-    ap (λ (r : Run). r.rel) (run_is catalog tables views v run o low is)
-    ∙ ap (rel_of (view_at (catalog_image catalog) v).kinds) (sym (first_contents (workbook_image catalog tables) v))
-
 -- the answers to lines that name a view and a table
 
-pub named_back_is : (catalog : Catalog) (tables : List Relation) (views : List Run) (view_name table_name : List ℕ) (v t : ℕ) (run : Run) (table : Relation) (marks : Marks) (then : Then)
+pub named_back_is : (catalog : Catalog) (tables : List Relation) (brushes : List BrushOn) (views : List Run) (view_name table_name : List ℕ) (v t : ℕ) (run : Run) (table : Relation) (marks : Marks) (then : Then)
     → AreOpened catalog tables views → known_pair (catalog_image catalog) view_name table_name ≡ Ok (v, t) → v < length catalog.views → t < length catalog.tables → run ≡ get_or views v run → table ≡ get_or tables t table → then ≡ thens.Plain
-    → back_by run.kept t table marks ≡ named_back (catalog_image catalog) (state_over tables) view_name marks table_name then
-named_back_is catalog tables views view_name table_name v t run table marks then o named low_v low_t is_v is_t plain =
+    → back_by run.kept t table marks ≡ named_back (catalog_image catalog) (state_over tables brushes) view_name marks table_name then
+named_back_is catalog tables brushes views view_name table_name v t run table marks then o named low_v low_t is_v is_t plain =
     let image : CatalogImage = catalog_image catalog in
-    let state : State = state_over tables in
-    back_is catalog tables views v t run table marks o low_v low_t is_v is_t
+    let state : State = state_over tables brushes in
+    back_is catalog tables brushes views v t run table marks o low_v low_t is_v is_t
     ∙ ap (λ (h : Then). provided (declares_back image v t) Undeclared (back_reply image state v t marks h)) (sym plain)
     ∙ ap (λ (a : Asked (ℕ × ℕ)). ◌>>=◌ a (λ p. provided (declares_back image p.0 p.1) Undeclared (back_reply image state p.0 p.1 marks then))) (sym named)
 
-pub named_fwd_is : (catalog : Catalog) (tables : List Relation) (views : List Run) (view_name table_name : List ℕ) (v t : ℕ) (run : Run) (rows : Marks)
+pub named_fwd_is : (catalog : Catalog) (tables : List Relation) (brushes : List BrushOn) (views : List Run) (view_name table_name : List ℕ) (v t : ℕ) (run : Run) (rows : Marks)
     → AreOpened catalog tables views → known_pair (catalog_image catalog) view_name table_name ≡ Ok (v, t) → v < length catalog.views → t < length catalog.tables → run ≡ get_or views v run
-    → fwd_by run.kept t rows ≡ named_fwd (catalog_image catalog) (state_over tables) table_name rows view_name
-named_fwd_is catalog tables views view_name table_name v t run rows o named low_v low_t is_v =
+    → fwd_by run.kept t rows ≡ named_fwd (catalog_image catalog) (state_over tables brushes) table_name rows view_name
+named_fwd_is catalog tables brushes views view_name table_name v t run rows o named low_v low_t is_v =
     let image : CatalogImage = catalog_image catalog in
-    let state : State = state_over tables in
-    fwd_is catalog tables views v t run rows o low_v low_t is_v
+    let state : State = state_over tables brushes in
+    fwd_is catalog tables brushes views v t run rows o low_v low_t is_v
     ∙ ap (λ (a : Asked (ℕ × ℕ)). ◌>>=◌ a (λ p. provided (declares_fwd image p.0 p.1) Undeclared (fwd_reply image state p.0 p.1 rows))) (sym named)

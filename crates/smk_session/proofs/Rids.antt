@@ -1,6 +1,7 @@
 -- Rids that are places are ascending, and those of rows that are there.
 use Rattle.std.proofs.Common.{◌≡◌, ℕ, ◌<◌, Bool, List, subst, arith, All}
-use Rattle.std.specs.List.{AllPairs}
+use Rattle.std.specs.List.{AllPairs, filter}
+use Rattle.std.proofs.lemmas.List.{get_or_default}
 use Rattle.std.proofs.lemmas.List.Kept.{AllPairs-filter}
 use Rattle.smk_base.specs.Places.{IsPlaces, upto, places, has}
 use Rattle.smk_base.specs.Picks.{IsAscending}
@@ -12,7 +13,7 @@ upto_rises n i j d h k =
     let long = length_upto n in
     rw (get_or_upto n i d (omega arith), get_or_upto n j d (omega arith)) h
 
-places_ascend : (test : ℕ → Bool) (n : ℕ) → IsAscending (places test n)
+pub places_ascend : (test : ℕ → Bool) (n : ℕ) → IsAscending (places test n)
 places_ascend test n i j h l = AllPairs-filter (λ x y. x < y) test (upto n) (upto_rises n) i j 0 h l
 
 pub rids_ascend : (n : ℕ) (rids : List ℕ) → IsPlaces n rids → IsAscending rids
@@ -20,3 +21,10 @@ rids_ascend n rids are = subst (λ (l : List ℕ). IsAscending l) are (places_as
 
 pub rids_low : (bound n : ℕ) (rids : List ℕ) → IsPlaces bound rids → bound ≡ n → All (λ rid. rid < n) rids
 rids_low bound n rids are same = subst (λ (k : ℕ). All (λ rid. rid < k) rids) same (answers_are_places.below bound rids are)
+
+-- those that pass of ascending rids are ascending
+pub filter_ascends : (test : ℕ → Bool) (rids : List ℕ) → IsAscending rids → IsAscending (filter test rids)
+filter_ascends test rids rises i j h l = AllPairs-filter (λ x y. x < y) test rids (pairs_of rids rises) i j 0 h l
+  where
+    pairs_of : (xs : List ℕ) → IsAscending xs → AllPairs (λ x y. x < y) xs
+    pairs_of xs up m n d less low = rw (get_or_default xs m d 0 (omega (arith, less, low)), get_or_default xs n d 0 low) (up m n less low)

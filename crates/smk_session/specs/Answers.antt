@@ -1,9 +1,12 @@
 -- What a call says that works out what a line asks for, and what is asked of the lineage that is kept.
-use Rattle.std.specs.Prelude.{◌≡◌, ℕ, Result, Ok, Err, MatchResult, Bool, nat_eq, List, length, ok_or}
-use Rattle.std.specs.List.{find}
+use Rattle.std.specs.Prelude.{◌≡◌, ◌<◌, ℕ, Result, Ok, Err, MatchResult, Bool, cond, false, List, [], ◌∷◌, nat_eq, length, map, set, ok_or, Option, Some, None, All}
+use Rattle.std.specs.List.{find, filter, list_all, list_any}
 use Rattle.std.specs.Option.{option_and_then}
-use Rattle.smk_base.specs.Places.{Lists, members_at}
+use Rattle.smk_base.specs.CatalogImage.{CatalogImage, catalog_image}
+use Rattle.smk_base.specs.Places.{IsPlaces, Lists, has, members_at, places, upto}
 use Rattle.smk_base.specs.Rels.{Relation}
+use Rattle.smk_base.specs.declared.brush.BrushOn.{BrushOn}
+use Rattle.smk_base.specs.declared.pick.Pick.{Pick}
 use Rattle.smk_base.specs.declared.tree.Marks.{Marks}
 use Rattle.smk_base.specs.declared.reply.Reply.{Reply}
 use Rattle.smk_base.specs.declared.reply.Reply.TheVariants as replies
@@ -12,8 +15,13 @@ use Rattle.smk_base.specs.declared.reply.Refusal.TheVariants.{Undeclared}
 use Rattle.smk_model.specs.Lineage.{sub}
 use Rattle.smk_model.specs.Looks.{looks_of_rows}
 use Rattle.smk_model.specs.Names.{◌>>=◌}
-use Rattle.smk_model.specs.Replies.{Asked, unless_outside, marked}
+use Rattle.smk_model.specs.Replies.{Asked, is_refused, unless_outside, marked}
+use Rattle.smk_model.specs.Session.{State, concerns, selected_for, under}
 use Rattle.smk_compose.specs.declared.kept.KeptMap.{KeptMap}
+use Rattle.smk_session.specs.Sessions.{AreInForce, AreOpened, content_kept, state_over}
+use Rattle.smk_session.specs.declared.held.Held.{Held}
+use Rattle.smk_session.specs.declared.turn.Change.{Change}
+use Rattle.smk_session.specs.declared.turn.Content.{Content}
 use Rattle.smk_session.specs.declared.turned.Turned.{Turned}
 use Rattle.smk_session.specs.declared.turned.Turned.TheVariants.{Refused}
 
@@ -63,3 +71,66 @@ looks_of_asked (Err refusal) = 0
 -- the backward lists that are kept of a table hold rids of its rows
 abbrev pub BacksFit : List KeptMap → ℕ → ℕ → Type 0
 BacksFit kept table rows = (map : Lists) → kept_back kept table ≡ Ok map → map.bound ≡ rows
+
+-- what a line reads of a session is what every session keeps
+pub record IsHeld (held : Held) : Type 0 where
+  pub opened : AreOpened held.catalog.now held.tables.now held.views.now
+  pub in_force : AreInForce held.catalog.now held.tables.now held.brushes.now held.contents.now
+
+abbrev pub book_of : Held → CatalogImage
+book_of held = catalog_image held.catalog.now
+
+-- the rows of its tables under some brushes, and under those in force
+abbrev pub state_at : Held → List BrushOn → State
+state_at held brushes = state_over held.tables.now brushes
+
+abbrev pub state_held : Held → State
+state_held held = state_at held held.brushes.now
+
+-- the state after a line
+abbrev pub next_of : State → Option Change → State
+next_of state None = state
+next_of state (Some change) = under state change.brushes
+
+-- contents with these in the place of those of their views
+abbrev pub placed : List Content → List (Option Relation) → List (Option Relation)
+placed [] contents = contents
+placed (content ∷ more) contents = set (placed more contents) content.view content.rel
+
+-- what is kept of a view in a state
+abbrev pub content_at : CatalogImage → State → ℕ → Content
+content_at catalog state w = record { view = w; rel = content_kept catalog state w }
+
+-- a change comes with a reply that is no refusal, and leaves what every session keeps
+pub record Changes (held : Held) (reply : Reply) (change : Change) : Type 0 where
+  pub answered : is_refused reply ≡ false
+  pub known : All (λ content. content.view < length held.contents.now) change.contents
+  pub in_force : AreInForce held.catalog.now held.tables.now change.brushes (placed change.contents held.contents.now)
+
+-- the brushes on a table with so many rows are on rids of it, ascending and without repeats
+abbrev pub AreOn : ℕ → ℕ → List BrushOn → Type 0
+AreOn t n brushes = All (λ brush. brush.table ≡ t → IsPlaces n brush.rids) brushes
+
+-- the rids among n that all brushes have which concern a view on a table, where there is one
+abbrev pub chosen_of : CatalogImage → List BrushOn → ℕ → ℕ → ℕ → Option (List ℕ)
+chosen_of catalog brushes w t n =
+    cond (list_any (concerns catalog w t) brushes)
+    (Some (places (λ rid. list_all (λ brush. has brush.rids rid) (filter (concerns catalog w t) brushes)) n))
+    None
+
+-- those that are left of the rids chosen so far under one more brush
+abbrev pub narrowed_by : Option (List ℕ) → List ℕ → List ℕ
+narrowed_by (Some chosen) rids = filter (has rids) chosen
+narrowed_by None rids = rids
+
+-- the rids chosen, or all of n
+abbrev pub rids_or_all : Option (List ℕ) → ℕ → List ℕ
+rids_or_all (Some rids) n = rids
+rids_or_all None n = upto n
+
+-- the picks of those of the first n tables that some brush concerns
+abbrev pub pick_for : CatalogImage → State → ℕ → ℕ → Pick
+pick_for catalog state w t = record { table = t; rids = selected_for catalog state w t }
+
+abbrev pub picks_chosen : CatalogImage → State → ℕ → ℕ → List Pick
+picks_chosen catalog state w n = map (pick_for catalog state w) (filter (λ t. list_any (concerns catalog w t) state.brushes) (upto n))

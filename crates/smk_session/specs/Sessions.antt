@@ -1,15 +1,18 @@
 -- What callers see of a session, and what every session keeps.
-use Rattle.std.specs.Prelude.{◌≡◌, ◌≤◌, ℕ, List, [], length, map, Option, Some}
-use Rattle.smk_base.specs.CatalogImage.{catalog_image}
-use Rattle.smk_base.specs.Places.{upto}
+use Rattle.std.specs.Prelude.{◌≡◌, ◌<◌, ◌≤◌, ℕ, Bool, cond, List, [], length, map, Option, Some, None, All}
+use Rattle.std.specs.List.{list_any}
+use Rattle.smk_base.specs.CatalogImage.{CatalogImage, catalog_image}
+use Rattle.smk_base.specs.Places.{IsPlaces, has, upto}
 use Rattle.smk_base.specs.Rels.{Relation}
+use Rattle.smk_base.specs.declared.brush.BrushOn.{BrushOn}
 use Rattle.smk_base.specs.declared.catalog.Catalog.{Catalog}
 use Rattle.smk_model.specs.Catalogs.{IsCatalog, each_table_kinds}
 use Rattle.smk_model.specs.NodeFaults.{NodeFault, FullRows, FullPairs}
 use Rattle.smk_model.specs.Opening.{ViewFault}
 use Rattle.smk_model.specs.Plain.{rows_over}
+use Rattle.smk_model.specs.Replies.{content_of}
 use Rattle.smk_model.specs.Selection.{each_kinds, each_rows}
-use Rattle.smk_model.specs.Session.{Workbook, State, view_at}
+use Rattle.smk_model.specs.Session.{Workbook, State, linked, rows_of_table, view_at}
 use Rattle.smk_model.specs.Workload.{needs}
 use Rattle.smk_compose.specs.Kept.{kept_at}
 use Rattle.smk_compose.specs.declared.kept.Run.{Run}
@@ -21,23 +24,24 @@ use Rattle.smk_session.specs.declared.fault.StartFault.TheVariants.{Rows, Pairs,
 abbrev pub workbook_image : Catalog → List Relation → Workbook
 workbook_image catalog tables = record { catalog = catalog_image catalog; tables = each_rows tables }
 
--- its book, the tables, for each view the first content with the lineage that is kept, the mode of capture and the number of workers
+-- its book, the tables, for each view the first content with the lineage that is kept, the brushes in force, the mode of capture and the number of workers
 pub record SessionImage : Type 0 where
   pub catalog : Catalog
   pub tables : List Relation
   pub views : List Run
+  pub brushes : List BrushOn
   pub mode : Mode
   pub workers : ℕ
 
 abbrev pub workbook_of : SessionImage → Workbook
 workbook_of session = workbook_image session.catalog session.tables
 
--- the state over these tables with no brush, which is the one that a session is in
-abbrev pub state_over : List Relation → State
-state_over tables = record { tables = each_rows tables; brushes = [] }
+-- the rows of these tables under these brushes, which is what a session stands at
+abbrev pub state_over : List Relation → List BrushOn → State
+state_over tables brushes = record { tables = each_rows tables; brushes = brushes }
 
 abbrev pub state_of : SessionImage → State
-state_of session = state_over session.tables
+state_of session = state_over session.tables session.brushes
 
 -- the first content of a view, and exactly the lineage that is needed for it
 abbrev pub opened : Workbook → ℕ → Run
@@ -55,9 +59,32 @@ pub record AreOpened (catalog : Catalog) (tables : List Relation) (views : List 
   pub kinds : each_kinds tables ≡ each_table_kinds catalog.tables
   pub views_are : views ≡ opened_views (workbook_image catalog tables)
 
--- the views are opened, and there are a few workers
-pub record IsSession (session : SessionImage) : Type 0 where
+-- whether a view follows a brush: the brush's links name it
+abbrev pub follows : CatalogImage → ℕ → BrushOn → Bool
+follows catalog w brush = has (linked catalog brush.view brush.table) w
+
+-- the content that is kept of a view beside its first one: that under the brushes in force, exactly where it follows one of them
+abbrev pub content_kept : CatalogImage → State → ℕ → Option Relation
+content_kept catalog state w = cond (list_any (follows catalog w) state.brushes) (Some (content_of catalog state w)) None
+
+abbrev pub contents_kept : CatalogImage → State → List (Option Relation)
+contents_kept catalog state = map (content_kept catalog state) (upto (length catalog.views))
+
+-- a brush is of a view, and on rows of a table that are there, ascending and without repeats
+pub record BrushFits (catalog : Catalog) (tables : List Relation) (brush : BrushOn) : Type 0 where
+  pub view : brush.view < length catalog.views
+  pub table : brush.table < length catalog.tables
+  pub rids : IsPlaces (length (rows_of_table (state_over tables []) brush.table)) brush.rids
+
+-- the brushes fit, and what is kept beside the first contents is what the views show under them
+pub record AreInForce (catalog : Catalog) (tables : List Relation) (brushes : List BrushOn) (contents : List (Option Relation)) : Type 0 where
+  pub brushes_fit : All (BrushFits catalog tables) brushes
+  pub contents_are : contents ≡ contents_kept (catalog_image catalog) (state_over tables brushes)
+
+-- the views are opened, the brushes in force, and there are a few workers
+pub record IsSession (session : SessionImage) (contents : List (Option Relation)) : Type 0 where
   pub opened : AreOpened session.catalog session.tables session.views
+  pub in_force : AreInForce session.catalog session.tables session.brushes contents
   pub some_workers : 1 ≤ session.workers
   pub few_workers : session.workers ≤ 64
 

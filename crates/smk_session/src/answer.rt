@@ -1,21 +1,23 @@
-ghost use Rattle.std.specs.Prelude.{◌≡◌, ◌<◌, ◌≤◌, ◌+◌, Ok, IfOk, IfErr, IsTrue, length};
-ghost use Rattle.smk_base.specs.CatalogImage.{catalog_image};
+ghost use Rattle.std.specs.Prelude.{◌≡◌, ◌<◌, ◌≤◌, ◌+◌, Ok, None, IfOk, IfErr, IfSome, IsTrue, length};
 ghost use Rattle.smk_model.specs.Forms.{is_line_answered, asks_rows};
 ghost use Rattle.smk_model.specs.Looks.{line_looks};
 ghost use Rattle.smk_model.specs.Replies as replies;
-ghost use Rattle.smk_session.specs.Answers.{Gives, Turns, BacksFit, back_by, fwd_by, looks_of_asked};
-ghost use Rattle.smk_session.specs.Sessions.{AreOpened, state_over};
+ghost use Rattle.smk_session.specs.Answers.{Gives, Turns, BacksFit, IsHeld, Changes, book_of, state_held, next_of, back_by, fwd_by, looks_of_asked};
 
+use crate::brushing::{brush, clear, clear_one};
+use crate::held::Held;
 use crate::lineage::{back_map, fwd_map};
 use crate::marks::marked_members;
 use crate::names::{known_pair, known_view};
+use crate::turn::Turn;
 use crate::turned::Turned;
-use smk_base::{Catalog, Line, Marks, Reply, Text, Then};
+use smk_base::{Line, Marks, Rel, Reply, Text, Then};
 use smk_compose::{Run, fetch_rids};
 use smk_outside::Steps;
 use smk_table::Table;
 use std::alloc::Global;
 use std::sync::ledger::Ledger;
+use std::thread::Threads;
 
 /// Whether a reply is a refusal. It takes no memory.
 pub fn has_refused(reply: &Reply) -> bool
@@ -27,19 +29,25 @@ pub fn has_refused(reply: &Reply) -> bool
     }
 }
 
-// The content of a view. Where no brush is in force, it is the first content.
-fn show(
-    alloc: Global,
-    catalog: &Catalog,
-    tables: &[Table],
-    views: &[Run],
-    view: &Text,
-) -> Result<Reply, Turned>
-    requires { AreOpened catalog.now tables.now views.now }
-    ensures { Gives result (replies.named_view (catalog_image catalog.now) (state_over tables.now) view.now) }
+// What a view shows: the content that is kept under the brushes in force, or else its first content.
+fn content<'a>(held: &'a Held<'_>, v: usize) -> &'a Rel
+    requires held { IsHeld held.now }
+    requires view { v < length held.now.catalog.now.views }
+    ensures { result.now ≡ replies.content_of (book_of held.now) (state_held held.now) v }
 {
-    let v = known_view(catalog, view)?;
-    let rel = views[v].rel.copy(alloc)?;
+    match &held.contents[v] {
+        Some(rel) => rel,
+        None => &held.views[v].rel,
+    }
+}
+
+// The content of a view under the brushes in force.
+fn show(alloc: Global, held: &Held<'_>, view: &Text) -> Result<Reply, Turned>
+    requires { IsHeld held.now }
+    ensures { Gives result (replies.named_view (book_of held.now) (state_held held.now) view.now) }
+{
+    let v = known_view(held.catalog, view)?;
+    let rel = content(held, v).copy(alloc)?;
     Ok(Reply::View { rel })
 }
 
@@ -65,23 +73,21 @@ fn back_rows<L: Ledger>(
 // The answer to a backward query. Splits and groupings are not answered yet.
 fn back<L: Ledger>(
     alloc: Global,
-    catalog: &Catalog,
-    tables: &[Table],
-    views: &[Run],
+    held: &Held<'_>,
     view: &Text,
     marks: &Marks,
     table: &Text,
     then: &Then,
     steps: &mut Steps<L>,
 ) -> Result<Reply, Turned>
-    requires opened { AreOpened catalog.now tables.now views.now }
+    requires opened { IsHeld held.now }
     requires answered { IsTrue (asks_rows then.now) }
-    ensures gives { Gives result (replies.named_back (catalog_image catalog.now) (state_over tables.now) view.now marks.now table.now then.now) }
-    ensures looks { steps.new ≤ steps.old + looks_of_asked (replies.named_back (catalog_image catalog.now) (state_over tables.now) view.now marks.now table.now then.now) }
+    ensures gives { Gives result (replies.named_back (book_of held.now) (state_held held.now) view.now marks.now table.now then.now) }
+    ensures looks { steps.new ≤ steps.old + looks_of_asked (replies.named_back (book_of held.now) (state_held held.now) view.now marks.now table.now then.now) }
 {
-    let (v, t) = known_pair(catalog, view, table)?;
+    let (v, t) = known_pair(held.catalog, view, table)?;
     match then {
-        Then::Plain => back_rows(alloc, &views[v], t, &tables[t], marks, steps),
+        Then::Plain => back_rows(alloc, &held.views[v], t, &held.tables[t], marks, steps),
         Then::Matching { .. } => unreachable!(),
         Then::Grouped => unreachable!(),
     }
@@ -99,48 +105,54 @@ fn fwd_marks(alloc: Global, run: &Run, t: usize, rows: &Marks) -> Result<Reply, 
 // The answer to a forward query.
 fn fwd(
     alloc: Global,
-    catalog: &Catalog,
-    tables: &[Table],
-    views: &[Run],
+    held: &Held<'_>,
     table: &Text,
     rows: &Marks,
     view: &Text,
 ) -> Result<Reply, Turned>
-    requires { AreOpened catalog.now tables.now views.now }
-    ensures { Gives result (replies.named_fwd (catalog_image catalog.now) (state_over tables.now) table.now rows.now view.now) }
+    requires { IsHeld held.now }
+    ensures { Gives result (replies.named_fwd (book_of held.now) (state_held held.now) table.now rows.now view.now) }
 {
-    let (v, t) = known_pair(catalog, view, table)?;
-    fwd_marks(alloc, &views[v], t, rows)
+    let (v, t) = known_pair(held.catalog, view, table)?;
+    fwd_marks(alloc, &held.views[v], t, rows)
 }
 
-// What a line is answered, while no brush is in force. Brushes are not answered yet.
-pub(crate) fn answer_to<L: Ledger>(
+// A reply that leaves the session as it is.
+fn stays(reply: Reply) -> Result<Turn, Turned>
+    ensures { result ≡ Ok (record { reply = reply; change = None }) }
+{
+    Ok(Turn {
+        reply,
+        change: None,
+    })
+}
+
+// What a line is answered, and what it changes. Splits and groupings are not answered yet.
+pub(crate) fn answer_to<R: Threads + Sync, L: Ledger>(
+    rt: &R,
     alloc: Global,
-    catalog: &Catalog,
-    tables: &[Table],
-    views: &[Run],
+    held: &Held<'_>,
     line: &Line,
     steps: &mut Steps<L>,
-) -> Result<Reply, Turned>
-    requires opened { AreOpened catalog.now tables.now views.now }
+) -> Result<Turn, Turned>
+    requires held { IsHeld held.now }
     requires answered { IsTrue (is_line_answered line.now) }
-    ensures told { IfOk result (λ told. replies.answer_to (catalog_image catalog.now) (state_over tables.now) line.now ≡ Ok (told, state_over tables.now)) }
-    ensures turned { IfErr result (λ turned. Turns turned (replies.answer_to (catalog_image catalog.now) (state_over tables.now) line.now)) }
-    ensures looks { steps.new ≤ steps.old + line_looks (catalog_image catalog.now) (state_over tables.now) line.now }
+    ensures told { IfOk result (λ turn. replies.answer_to (book_of held.now) (state_held held.now) line.now ≡ Ok (turn.reply, next_of (state_held held.now) turn.change)) }
+    ensures turned { IfErr result (λ turned. Turns turned (replies.answer_to (book_of held.now) (state_held held.now) line.now)) }
+    ensures changes { IfOk result (λ turn. IfSome turn.change (Changes held.now turn.reply)) }
+    ensures looks { steps.new ≤ steps.old + line_looks (book_of held.now) (state_held held.now) line.now }
 {
     match line {
-        Line::Show { view } => show(alloc, catalog, tables, views, view),
+        Line::Show { view } => stays(show(alloc, held, view)?),
         Line::Back {
             view,
             marks,
             table,
             then,
-        } => back(
-            alloc, catalog, tables, views, view, marks, table, then, steps,
-        ),
-        Line::Fwd { table, rows, view } => fwd(alloc, catalog, tables, views, table, rows, view),
-        Line::Brush { .. } => unreachable!(),
-        Line::Clear => unreachable!(),
-        Line::ClearOne { .. } => unreachable!(),
+        } => stays(back(alloc, held, view, marks, table, then, steps)?),
+        Line::Fwd { table, rows, view } => stays(fwd(alloc, held, table, rows, view)?),
+        Line::Brush { view, marks, table } => brush(rt, alloc, held, view, marks, table, steps),
+        Line::Clear => Ok(clear(alloc, held)?),
+        Line::ClearOne { view, table } => clear_one(rt, alloc, held, view, table, steps),
     }
 }

@@ -2,13 +2,20 @@
 #![tactic(auto)]
 
 mod answer;
+mod brushes;
+mod brushing;
+mod chosen;
 mod fault;
+mod following;
+mod held;
 mod lineage;
+mod links;
 mod marks;
 mod mode;
 mod names;
 mod opening;
 mod session;
+mod turn;
 mod turned;
 
 pub use answer::has_refused;

@@ -33,7 +33,7 @@ pub(crate) fn check_marks(marks: &Marks, rows: u32) -> Result<(), Turned>
 }
 
 // The places below n.
-fn all_places(alloc: Global, n: u32) -> Result<Vec<u32>, AllocError>
+pub(crate) fn all_places(alloc: Global, n: u32) -> Result<Vec<u32>, AllocError>
     ensures { IfOk result (λ places. places.items ≡ upto n) }
 {
     let mut places = Vec::with_capacity(alloc, n as usize)?;

@@ -1,8 +1,9 @@
 // The views of a book over its tables, with the lineage that its declared queries need.
-ghost use Rattle.std.specs.Prelude.{◌≡◌, ◌<◌, ◌≤◌, ◌+◌, None, Option, length, option_map, IfOk, IfErr, OnOk, IsTrue};
+ghost use Rattle.std.specs.Prelude.{◌≡◌, ◌<◌, ◌≤◌, ◌+◌, None, Option, length, map, option_map, IfOk, IfErr, OnOk, IsTrue};
 ghost use Rattle.std.specs.List.{sum_by};
 ghost use Rattle.smk_base.specs.CatalogImage.{catalog_image, view_image};
-ghost use Rattle.smk_model.specs.Catalogs.{ViewFits, each_table_kinds};
+ghost use Rattle.smk_base.specs.Places.{upto};
+ghost use Rattle.smk_model.specs.Catalogs.{IsCatalog, ViewFits, each_table_kinds};
 ghost use Rattle.smk_model.specs.Looks.{looks_of_view};
 ghost use Rattle.smk_model.specs.NodeFaults.{NodeFault};
 ghost use Rattle.smk_model.specs.Opening.{view_fault, first_view_fault};
@@ -12,13 +13,16 @@ ghost use Rattle.smk_compose.specs.Through.{IsFirst};
 ghost use Rattle.smk_session.specs.Sessions.{AreOpened, IsStartFault, fault_in, opened, workbook_image};
 
 use crate::fault::StartFault;
-use smk_base::ViewInfo;
+use crate::mode::Mode;
+use smk_base::{Catalog, Rel, ViewInfo};
 use smk_body::OpBody;
 use smk_compose::{Run, RunFault, run_plan};
+use smk_defer::Defer;
+use smk_inject::Inject;
 use smk_outside::Steps;
 use smk_table::Table;
 use smk_typing::{TypedBook, needed};
-use std::alloc::Global;
+use std::alloc::{AllocError, Global};
 use std::sync::ledger::Ledger;
 use std::thread::Threads;
 
@@ -34,12 +38,13 @@ fn at_view(view: u32, fault: RunFault) -> StartFault
 }
 
 // The view with this number.
-fn view_of(book: &TypedBook, v: u32) -> &ViewInfo
-    requires { v < length book.now.views }
-    ensures view { view_image result.now ≡ view_at (catalog_image book.now) v }
-    ensures fits { ViewFits book.now.tables (view_image result.now) }
+pub(crate) fn view_of(catalog: &Catalog, v: u32) -> &ViewInfo
+    requires checked { IsCatalog (catalog_image catalog.now) }
+    requires view { v < length catalog.now.views }
+    ensures view { view_image result.now ≡ view_at (catalog_image catalog.now) v }
+    ensures fits { ViewFits catalog.now.tables (view_image result.now) }
 {
-    &book.catalog().views.as_slice()[v as usize]
+    &catalog.views.as_slice()[v as usize]
 }
 
 // The view with this number: its first content, and exactly the lineage that is needed.
@@ -61,7 +66,7 @@ fn open_view<R: Threads + Sync, B: OpBody + Sync, L: Ledger>(
     ensures looks { steps.new ≤ steps.old + looks_of_view (workbook_image book.now tables.now) (view_at (workbook_image book.now tables.now).catalog v) }
 {
     let need = needed(alloc, book, v)?;
-    let view = view_of(book, v);
+    let view = view_of(book.catalog(), v);
     match run_plan(rt, alloc, body, &view.plan, tables, &need, steps) {
         Ok(run) => Ok(run),
         Err(fault) => Err(at_view(v, fault)),
@@ -69,7 +74,7 @@ fn open_view<R: Threads + Sync, B: OpBody + Sync, L: Ledger>(
 }
 
 // All views in the book's order, or the first that is too big.
-pub(crate) fn open_views<R: Threads + Sync, B: OpBody + Sync, L: Ledger>(
+fn open_views<R: Threads + Sync, B: OpBody + Sync, L: Ledger>(
     rt: &R,
     alloc: Global,
     body: &B,
@@ -90,4 +95,36 @@ pub(crate) fn open_views<R: Threads + Sync, B: OpBody + Sync, L: Ledger>(
         views.push(open_view(rt, alloc, body, book, tables, v, steps)?)?;
     }
     Ok(views)
+}
+
+// All views in the book's order, their lineage captured by the body of a mode.
+pub(crate) fn open_by<R: Threads + Sync, L: Ledger>(
+    rt: &R,
+    alloc: Global,
+    mode: Mode,
+    book: &TypedBook,
+    tables: &[Table],
+    steps: &mut Steps<L>,
+) -> Result<Vec<Run>, StartFault>
+    requires kinds { each_kinds tables.now ≡ each_table_kinds book.now.tables }
+    ensures opened { IfOk result (λ views. AreOpened book.now tables.now views.items) }
+    ensures none { OnOk result (first_view_fault (workbook_image book.now tables.now) ≡ None) }
+    ensures fault { IfErr result (λ e. IsStartFault e (first_view_fault (workbook_image book.now tables.now))) }
+    ensures looks { steps.new ≤ steps.old + sum_by (looks_of_view (workbook_image book.now tables.now)) (workbook_image book.now tables.now).catalog.views }
+{
+    match mode {
+        Mode::Inject => open_views(rt, alloc, &Inject, book, tables, steps),
+        Mode::Defer => open_views(rt, alloc, &Defer, book, tables, steps),
+    }
+}
+
+// No content is kept beside the first ones of so many views.
+pub(crate) fn no_contents(alloc: Global, count: usize) -> Result<Vec<Option<Rel>>, AllocError>
+    ensures { IfOk result (λ contents. contents.items ≡ map (λ w. None) (upto count)) }
+{
+    let mut contents = Vec::with_capacity(alloc, count)?;
+    for _view in 0..count {
+        contents.push(None)?;
+    }
+    Ok(contents)
 }

@@ -1,4 +1,4 @@
-ghost use Rattle.std.specs.Prelude.{◌≡◌, ◌≤◌, ◌<◌, ◌+◌, length, slice_index_or, None, IfOk, IfErr, OnOk, OnErr, IsTrue};
+ghost use Rattle.std.specs.Prelude.{◌≡◌, ◌≤◌, ◌<◌, ◌+◌, [], true, length, slice_index_or, None, IfOk, IfErr, OnOk, OnErr, IsTrue};
 ghost use Rattle.smk_base.specs.CatalogImage.{catalog_image};
 ghost use Rattle.smk_model.specs.Catalogs.{IsCatalog, each_table_kinds};
 ghost use Rattle.smk_model.specs.Forms.{is_line_answered};
@@ -10,12 +10,13 @@ ghost use Rattle.smk_session.specs.Sessions.{workbook_image, state_of, IsStartFa
 
 use crate::answer::answer_to;
 use crate::fault::StartFault;
+use crate::held::Held;
 use crate::mode::Mode;
-use crate::opening::open_views;
+use crate::opening::{no_contents, open_by};
+use crate::turn::{Brushes, Turn, place};
 use crate::turned::Turned;
 use smk_base::{Catalog, Line, Rel, Reply};
 use smk_compose::Run;
-use smk_inject::Inject;
 use smk_outside::{Gate, Steps};
 use smk_table::Table;
 use smk_typing::TypedBook;
@@ -24,12 +25,14 @@ use std::marker::Model;
 use std::sync::ledger::Ledger;
 use std::thread::Threads;
 
-/// A checked book over its tables: for each view its first content and the lineage that the declared queries need.
+/// A checked book over its tables: for each view its first content and the lineage that the declared queries need; and the brushes in force.
 #[derive(Drop)]
 pub struct Session {
     book: TypedBook,
     tables: Vec<Table>,
     views: Vec<Run>,
+    brushes: Brushes,
+    contents: Vec<Option<Rel>>,
     mode: Mode,
     workers: u32,
 }
@@ -43,15 +46,15 @@ impl Model for Session {
 
     ghost coded = { Prim.hlevel (codes, held.the_row.coded) };
 
-    ghost view = { λ a. record { catalog = a.book; tables = a.tables.items; views = a.views.items; mode = a.mode; workers = a.workers } };
+    ghost view = { λ a. record { catalog = a.book; tables = a.tables.items; views = a.views.items; brushes = a.brushes; mode = a.mode; workers = a.workers } };
 
-    ghost invariant = { λ a. IsSession (record { catalog = a.book; tables = a.tables.items; views = a.views.items; mode = a.mode; workers = a.workers }) };
+    ghost invariant = { λ a. IsSession (record { catalog = a.book; tables = a.tables.items; views = a.views.items; brushes = a.brushes; mode = a.mode; workers = a.workers }) a.contents.items };
 }
 
 impl Session {
     /// A session of this book over these tables, or the first view with a node that is too big. Each row of a leaf is at most one look, also where it is refused.
     ///
-    /// Lineage is captured by the body of `mode`. On a fault the book and the tables are dropped.
+    /// No brush is in force. Lineage is captured by the body of `mode`. On a fault the book and the tables are dropped.
     pub fn start<R: Threads + Sync, G: Gate + Sync, L: Ledger>(
         rt: &R,
         alloc: Global,
@@ -66,19 +69,21 @@ impl Session {
         requires workers { workers ≡ 1 }
         ensures book { IfOk result (λ session. session.catalog ≡ book) }
         ensures tables { IfOk result (λ session. session.tables ≡ tables.items) }
+        ensures brushes { IfOk result (λ session. session.brushes ≡ []) }
         ensures mode { IfOk result (λ session. session.mode ≡ mode) }
         ensures workers { IfOk result (λ session. session.workers ≡ workers) }
         ensures none { OnOk result (first_view_fault (workbook_image book tables.items) ≡ None) }
         ensures fault { IfErr result (λ e. IsStartFault e (first_view_fault (workbook_image book tables.items))) }
         ensures looks { steps.new ≤ steps.old + start_looks (workbook_image book tables.items) }
     {
-        let views = match mode {
-            Mode::Inject => open_views(rt, alloc, &Inject, &book, tables.as_slice(), steps)?,
-        };
+        let views = open_by(rt, alloc, mode, &book, tables.as_slice(), steps)?;
+        let contents = no_contents(alloc, views.len())?;
         Ok(Session {
             book,
             tables,
             views,
+            brushes: Brushes::new(alloc),
+            contents,
             mode,
             workers,
         })
@@ -100,10 +105,10 @@ impl Session {
         self.book.catalog()
     }
 
-    /// The reply to a line. Rows of a table are one look each, and nothing else is looked at. After an error the session is as it was.
+    /// The reply to a line, after which the brushes in force are those of the next state. Rows of a table that are answered are one look each, and so are the rows that are selected for the views that follow a brush. After an error, and after a line that is refused, the session is as it was.
     pub fn answer<R: Threads + Sync, G: Gate + Sync, L: Ledger>(
         &mut self,
-        _rt: &R,
+        rt: &R,
         alloc: Global,
         line: &Line,
         _gate: &G,
@@ -111,6 +116,7 @@ impl Session {
     ) -> Result<Reply, AllocError>
         requires answered { IsTrue (is_line_answered line.now) }
         ensures reply { IfOk result (λ told. (told, state_of self.new) ≡ replies.reply (catalog_image self.old.catalog) (state_of self.old) line.now) }
+        ensures refused { IfOk result (λ told. replies.is_refused told ≡ true → self.new ≡ self.old) }
         ensures book { self.new.catalog ≡ self.old.catalog }
         ensures tables { self.new.tables ≡ self.old.tables }
         ensures views { self.new.views ≡ self.old.views }
@@ -119,10 +125,22 @@ impl Session {
         ensures kept { OnErr result (self.new ≡ self.old) }
         ensures looks { steps.new ≤ steps.old + line_looks (catalog_image self.old.catalog) (state_of self.old) line.now }
     {
-        let catalog = self.book.catalog();
-        let tables = self.tables.as_slice();
-        match answer_to(alloc, catalog, tables, self.views.as_slice(), line, steps) {
-            Ok(reply) => Ok(reply),
+        let held = Held {
+            catalog: self.book.catalog(),
+            tables: self.tables.as_slice(),
+            views: self.views.as_slice(),
+            brushes: self.brushes.as_slice(),
+            contents: self.contents.as_slice(),
+        };
+        match answer_to(rt, alloc, &held, line, steps) {
+            Ok(Turn { reply, change }) => match change {
+                None => Ok(reply),
+                Some(change) => {
+                    place(self.contents.as_mut_slice(), change.contents);
+                    self.brushes = change.brushes;
+                    Ok(reply)
+                }
+            },
             Err(Turned::Refused(refusal)) => Ok(Reply::Refused(refusal)),
             Err(Turned::Exhausted) => Err(AllocError),
         }

@@ -1,0 +1,274 @@
+-- What is asked of a view that follows brushes, by what is kept of it.
+use Rattle.std.proofs.Common.{◌≡◌, ℕ, ◌+◌, ◌<◌, Bool, true, false, ◌||◌, cond, List, [], ◌∷◌, ◌++◌, length, map, take, get_or, refl, ap, sym, ◌∙◌, subst, arith, Option, Some, None, All, Ok, Err}
+use Rattle.std.specs.List.{list_any}
+use Rattle.std.proofs.lemmas.List.{length-map, map-append, take_more}
+use Rattle.smk_base.specs.CatalogImage.{CatalogImage, ViewImage, catalog_image, view_image}
+use Rattle.smk_base.specs.Picks.{IsAscending}
+use Rattle.smk_base.specs.Places.{IsPlaces, Lists, has, members_at}
+use Rattle.smk_base.specs.PlanImage.{expr_of}
+use Rattle.smk_base.specs.Plans.{Expr}
+use Rattle.smk_base.specs.Rels.{Relation}
+use Rattle.smk_base.specs.declared.brush.BrushOn.{BrushOn}
+use Rattle.smk_base.specs.declared.catalog.Catalog.{Catalog}
+use Rattle.smk_base.specs.declared.catalog.ViewInfo.{ViewInfo}
+use Rattle.smk_base.specs.declared.pick.Pick.{Pick}
+use Rattle.smk_base.specs.declared.reply.Linked.{Linked}
+use Rattle.smk_base.specs.declared.reply.Refusal.{Refusal}
+use Rattle.smk_base.specs.declared.reply.Refusal.TheVariants.{Undeclared}
+use Rattle.smk_base.specs.declared.tree.Marks.{Marks}
+use Rattle.smk_base.specs.declared.value.Kind.{Kind}
+use Rattle.smk_model.specs.Composed.{backs, forwards}
+use Rattle.smk_model.specs.Values.{Row}
+use Rattle.smk_model.specs.Catalogs.{IsCatalog, ViewFits, each_table_kinds}
+use Rattle.smk_model.specs.Plain.{eval}
+use Rattle.smk_model.specs.Replies.{Asked, content_of, linked_now, marks_fwd, rids_of, unless_full}
+use Rattle.smk_model.specs.Selection.{PickFits, PlanFits, ScansFit, each_kinds, each_rows, first_full, leaf_kinds, over, plan_kinds}
+use Rattle.smk_model.specs.Session.{State, concerns, leaves_now, linked, rows_of_table, selected_for, view_at}
+use Rattle.smk_model.specs.Workload.{declares_back, declares_fwd, is_link}
+use Rattle.smk_model.proofs.Composed.{lists_stand}
+use Rattle.smk_model.proofs.Places.{places_below}
+use Rattle.smk_compose.specs.declared.kept.Run.{Run}
+use Rattle.smk_session.specs.Answers.{AreOn, Turns, chosen_of, content_at, kept_back, kept_fwd, members_asked, picks_chosen, rids_or_all}
+use Rattle.smk_session.specs.declared.turned.Turned.{Turned}
+use Rattle.smk_session.specs.Sessions.{AreOpened, BrushFits, follows, state_over}
+use Rattle.smk_session.specs.declared.turn.Content.{Content}
+use Rattle.smk_session.proofs.Rids.{rids_ascend}
+use Rattle.smk_session.proofs.Selected.{chosen_or_all, picks_fit, picks_more, picks_same, same_leaves}
+use Rattle.smk_session.proofs.KeptOf.{kept_back_is, kept_fwd_is}
+use Rattle.smk_session.proofs.Linked.{has_item, linked_declares, linked_low}
+use Rattle.smk_session.proofs.Marked.{backs_asked}
+use Rattle.smk_session.proofs.Opened.{ok_is, run_is, tables_long}
+
+-- the lists that are kept of a declared query
+
+abbrev plan_of : Catalog → ℕ → Expr
+plan_of catalog v = (view_at (catalog_image catalog) v).plan
+
+pub fwd_lists : (catalog : Catalog) (tables : List Relation) (views : List Run) (w t : ℕ) (run : Run) (map : Lists) → AreOpened catalog tables views → w < length catalog.views → t < length catalog.tables → run ≡ get_or views w run
+    → kept_fwd run.kept t ≡ Ok map → map ≡ forwards (plan_of catalog w) (each_rows tables) t
+fwd_lists catalog tables views w t run map o low_w low_t is kept =
+    ok_is (declares_fwd (catalog_image catalog) w t) (forwards (plan_of catalog w) (each_rows tables) t) map
+    (sym (kept_fwd_is (catalog_image catalog) (plan_of catalog w) (each_rows tables) w t low_t) ∙ ap (λ (r : Run). kept_fwd r.kept t) (sym (run_is catalog tables views w run o low_w is)) ∙ kept)
+
+pub back_lists : (catalog : Catalog) (tables : List Relation) (views : List Run) (v t : ℕ) (run : Run) (map : Lists) → AreOpened catalog tables views → v < length catalog.views → t < length catalog.tables → run ≡ get_or views v run
+    → kept_back run.kept t ≡ Ok map → map ≡ backs (plan_of catalog v) (each_rows tables) t
+back_lists catalog tables views v t run map o low_v low_t is kept =
+    ok_is (declares_back (catalog_image catalog) v t) (backs (plan_of catalog v) (each_rows tables) t) map
+    (sym (kept_back_is (catalog_image catalog) (plan_of catalog v) (each_rows tables) v t low_t) ∙ ap (λ (r : Run). kept_back r.kept t) (sym (run_is catalog tables views v run o low_v is)) ∙ kept)
+
+-- a declared query is never refused
+
+never : {X E : Type 0} (b : Bool) (m : X) (e f : E) → b ≡ true → cond b (Ok m) (Err e) ≡ Err f → ⊥
+never true m e f is h = cc
+never false m e f is h = cc
+
+pub fwd_kept : (catalog : Catalog) (tables : List Relation) (views : List Run) (w t : ℕ) (run : Run) (refusal : Refusal) → AreOpened catalog tables views → w < length catalog.views → t < length catalog.tables → run ≡ get_or views w run
+    → declares_fwd (catalog_image catalog) w t ≡ true → kept_fwd run.kept t ≡ Err refusal → ⊥
+fwd_kept catalog tables views w t run refusal o low_w low_t is declared h =
+    never (declares_fwd (catalog_image catalog) w t) (forwards (plan_of catalog w) (each_rows tables) t) Undeclared refusal declared
+    (sym (kept_fwd_is (catalog_image catalog) (plan_of catalog w) (each_rows tables) w t low_t) ∙ ap (λ (r : Run). kept_fwd r.kept t) (sym (run_is catalog tables views w run o low_w is)) ∙ h)
+
+pub back_kept : (catalog : Catalog) (tables : List Relation) (views : List Run) (v t : ℕ) (run : Run) (refusal : Refusal) → AreOpened catalog tables views → v < length catalog.views → t < length catalog.tables → run ≡ get_or views v run
+    → declares_back (catalog_image catalog) v t ≡ true → kept_back run.kept t ≡ Err refusal → ⊥
+back_kept catalog tables views v t run refusal o low_v low_t is declared h =
+    never (declares_back (catalog_image catalog) v t) (backs (plan_of catalog v) (each_rows tables) t) Undeclared refusal declared
+    (sym (kept_back_is (catalog_image catalog) (plan_of catalog v) (each_rows tables) v t low_t) ∙ ap (λ (r : Run). kept_back r.kept t) (sym (run_is catalog tables views v run o low_v is)) ∙ h)
+
+or_right : (a b : Bool) → b ≡ true → (a || b) ≡ true
+or_right true b h = refl
+or_right false b h = h
+
+-- a link declares its backward query
+pub link_declares : (catalog : CatalogImage) (v t : ℕ) → list_any (is_link v t) catalog.links ≡ true → declares_back catalog v t ≡ true
+link_declares catalog v t h = or_right _ (list_any (is_link v t) catalog.links) h
+
+-- the rids that marks select
+
+pub rids_asked : (catalog : Catalog) (tables : List Relation) (brushes : List BrushOn) (v t : ℕ) (map : Lists) (marks : Marks) → map ≡ backs (plan_of catalog v) (each_rows tables) t
+    → members_asked map marks ≡ rids_of (catalog_image catalog) (state_over tables brushes) v t marks
+rids_asked catalog tables brushes v t map marks are = ap (λ m. members_asked m marks) are ∙ backs_asked (plan_of catalog v) (each_rows tables) t marks
+
+-- brushes on a table are on its rows
+
+abbrev rows_count : List Relation → ℕ → ℕ
+rows_count tables t = length (rows_of_table (state_over tables []) t)
+
+are_on : (catalog : Catalog) (tables : List Relation) (brushes : List BrushOn) (t : ℕ) → All (BrushFits catalog tables) brushes → AreOn t (rows_count tables t) brushes
+are_on catalog tables brushes t fit k d low = λ same. subst (λ n. IsPlaces n (get_or brushes k d).rids) (ap (rows_count tables) same) (fit k d low).rids
+
+-- what is chosen under brushes that are on rows of their tables
+pub chosen_there : (catalog : Catalog) (tables : List Relation) (brushes : List BrushOn) (w t : ℕ) (chosen : Option (List ℕ)) → All (BrushFits catalog tables) brushes
+    → ((n : ℕ) → AreOn t n brushes → chosen ≡ chosen_of (catalog_image catalog) brushes w t n) → chosen ≡ chosen_of (catalog_image catalog) brushes w t (rows_count tables t)
+chosen_there catalog tables brushes w t chosen fit made = made (rows_count tables t) (are_on catalog tables brushes t fit)
+
+-- the marks that the selected rows reach
+
+all_long : (catalog : Catalog) (tables : List Relation) (w t : ℕ) (map : Lists) → map ≡ forwards (plan_of catalog w) (each_rows tables) t → length map.lists ≡ rows_count tables t
+all_long catalog tables w t map are = ap (λ (m : Lists). length m.lists) are ∙ lists_stand.forwards_long (plan_of catalog w) (each_rows tables) t
+
+chosen_rids : (catalog : Catalog) (tables : List Relation) (brushes : List BrushOn) (w t : ℕ) (map : Lists) (chosen : Option (List ℕ)) → map ≡ forwards (plan_of catalog w) (each_rows tables) t
+    → chosen ≡ chosen_of (catalog_image catalog) brushes w t (rows_count tables t) → rids_or_all chosen (length map.lists) ≡ selected_for (catalog_image catalog) (state_over tables brushes) w t
+chosen_rids catalog tables brushes w t map chosen are made =
+    ap (λ (c : Option (List ℕ)). rids_or_all c (length map.lists)) made
+    ∙ ap (rids_or_all (chosen_of (catalog_image catalog) brushes w t (rows_count tables t))) (all_long catalog tables w t map are)
+    ∙ chosen_or_all (catalog_image catalog) (state_over tables brushes) w t
+
+pub chosen_inside : (catalog : Catalog) (tables : List Relation) (brushes : List BrushOn) (w t : ℕ) (map : Lists) (chosen : Option (List ℕ)) → map ≡ forwards (plan_of catalog w) (each_rows tables) t
+    → chosen ≡ chosen_of (catalog_image catalog) brushes w t (rows_count tables t) → All (λ rid. rid < length map.lists) (rids_or_all chosen (length map.lists))
+chosen_inside catalog tables brushes w t map chosen are made =
+    subst (λ (l : List ℕ). All (λ rid. rid < length map.lists) l) (sym (chosen_rids catalog tables brushes w t map chosen are made))
+    (subst (λ (n : ℕ). All (λ rid. rid < n) (selected_for (catalog_image catalog) (state_over tables brushes) w t)) (sym (all_long catalog tables w t map are))
+    (places_below _ (rows_count tables t)))
+
+pub marks_reached : (catalog : Catalog) (tables : List Relation) (brushes : List BrushOn) (w t : ℕ) (map : Lists) (chosen : Option (List ℕ)) (marks : List ℕ) → map ≡ forwards (plan_of catalog w) (each_rows tables) t
+    → chosen ≡ chosen_of (catalog_image catalog) brushes w t (rows_count tables t) → marks ≡ members_at map (rids_or_all chosen (length map.lists))
+    → marks ≡ marks_fwd (catalog_image catalog) (state_over tables brushes) w t (selected_for (catalog_image catalog) (state_over tables brushes) w t)
+marks_reached catalog tables brushes w t map chosen marks are made reached =
+    reached
+    ∙ ap (members_at map) (chosen_rids catalog tables brushes w t map chosen are made)
+    ∙ ap (λ m. members_at m (selected_for (catalog_image catalog) (state_over tables brushes) w t)) are
+    ∙ lists_stand.forward_of (plan_of catalog w) (each_rows tables) (selected_for (catalog_image catalog) (state_over tables brushes) w t) t (places_below _ (rows_count tables t))
+
+-- what is given can't be refused
+pub given_never : {A B : Type 0} (given : A) (asked : Asked B) (turned : Turned) → Turns turned (Ok given) → Turns turned asked
+given_never given asked turned turns refusal is = absurd (cc (turns refusal is))
+
+pub fwd_never : {B : Type 0} (catalog : Catalog) (tables : List Relation) (views : List Run) (w t : ℕ) (run : Run) (asked : Asked B) (turned : Turned) → AreOpened catalog tables views → w < length catalog.views → t < length catalog.tables
+    → run ≡ get_or views w run → declares_fwd (catalog_image catalog) w t ≡ true → Turns turned (kept_fwd run.kept t) → Turns turned asked
+fwd_never catalog tables views w t run asked turned o low_w low_t is declared turns refusal e = absurd (fwd_kept catalog tables views w t run refusal o low_w low_t is declared (turns refusal e))
+
+-- the leaves of a view over what is picked
+
+tables_of : (tables : List Relation) → length (each_rows tables) ≡ length tables
+tables_of tables = length-map tables (λ (r : Relation). r.rows)
+
+leaves_are : (catalog : Catalog) (tables : List Relation) (brushes : List BrushOn) (w : ℕ) (picks : List Pick) → picks ≡ picks_chosen (catalog_image catalog) (state_over tables brushes) w (length tables)
+    → over (plan_of catalog w) (each_rows tables) picks ≡ leaves_now (catalog_image catalog) (state_over tables brushes) w
+leaves_are catalog tables brushes w picks are =
+    ap (over (plan_of catalog w) (each_rows tables)) (are ∙ ap (picks_chosen (catalog_image catalog) (state_over tables brushes) w) (sym (tables_of tables))) ∙ same_leaves (catalog_image catalog) (state_over tables brushes) w
+
+pub picks_known : (catalog : Catalog) (tables : List Relation) (brushes : List BrushOn) (w : ℕ) (picks : List Pick) → picks ≡ picks_chosen (catalog_image catalog) (state_over tables brushes) w (length tables) → All (PickFits (each_rows tables)) picks
+picks_known catalog tables brushes w picks are =
+    subst (λ (l : List Pick). All (PickFits (each_rows tables)) l) (sym (are ∙ ap (picks_chosen (catalog_image catalog) (state_over tables brushes) w) (sym (tables_of tables))))
+    (picks_fit (catalog_image catalog) (state_over tables brushes) w)
+
+-- the content of a view over them
+
+pub scans_known : (catalog : Catalog) (tables : List Relation) (view : ViewInfo) → each_kinds tables ≡ each_table_kinds catalog.tables → ViewFits catalog.tables (view_image view) → ScansFit (length tables) (expr_of view.plan)
+scans_known catalog tables view kinds fits = subst (λ (n : ℕ). ScansFit n (expr_of view.plan)) (sym (tables_long catalog tables kinds)) fits.scans
+
+leaves_kinds : (catalog : Catalog) (tables leaves : List Relation) (plan : Expr) → each_kinds tables ≡ each_table_kinds catalog.tables → each_kinds leaves ≡ leaf_kinds plan (each_kinds tables) → each_kinds leaves ≡ leaf_kinds plan (each_table_kinds catalog.tables)
+leaves_kinds catalog tables leaves plan kinds of = of ∙ ap (leaf_kinds plan) kinds
+
+pub leaves_fit : (catalog : Catalog) (tables leaves : List Relation) (view : ViewInfo) → each_kinds tables ≡ each_table_kinds catalog.tables → ViewFits catalog.tables (view_image view) → each_kinds leaves ≡ leaf_kinds (expr_of view.plan) (each_kinds tables)
+    → PlanFits (expr_of view.plan) (each_kinds leaves)
+leaves_fit catalog tables leaves view kinds fits of = subst (λ (K : List (List Kind)). PlanFits (expr_of view.plan) K) (sym (leaves_kinds catalog tables leaves (expr_of view.plan) kinds of)) fits.fits
+
+pub leaves_over : (catalog : Catalog) (tables : List Relation) (brushes : List BrushOn) (w : ℕ) (picks : List Pick) (view : ViewInfo) → view_image view ≡ view_at (catalog_image catalog) w
+    → picks ≡ picks_chosen (catalog_image catalog) (state_over tables brushes) w (length tables) → over (expr_of view.plan) (each_rows tables) picks ≡ leaves_now (catalog_image catalog) (state_over tables brushes) w
+leaves_over catalog tables brushes w picks view is are = ap (λ (v : ViewImage). over v.plan (each_rows tables) picks) is ∙ leaves_are catalog tables brushes w picks are
+
+pub full_over : (catalog : Catalog) (tables leaves : List Relation) (brushes : List BrushOn) (w : ℕ) (picks : List Pick) (view : ViewInfo) → view_image view ≡ view_at (catalog_image catalog) w
+    → picks ≡ picks_chosen (catalog_image catalog) (state_over tables brushes) w (length tables) → each_rows leaves ≡ over (expr_of view.plan) (each_rows tables) picks
+    → first_full (expr_of view.plan) (each_rows leaves) ≡ first_full (view_at (catalog_image catalog) w).plan (leaves_now (catalog_image catalog) (state_over tables brushes) w)
+full_over catalog tables leaves brushes w picks view is are of =
+    ap (λ (v : ViewImage). first_full v.plan (each_rows leaves)) is
+    ∙ ap (first_full (view_at (catalog_image catalog) w).plan) (of ∙ leaves_over catalog tables brushes w picks view is are)
+
+abbrev rel_with : List Kind → List Row → Relation
+rel_with kinds rows = record { kinds = kinds; rows = rows }
+
+pub content_over : (catalog : Catalog) (tables leaves : List Relation) (brushes : List BrushOn) (w : ℕ) (picks : List Pick) (view : ViewInfo) (rel : Relation) → each_kinds tables ≡ each_table_kinds catalog.tables
+    → view_image view ≡ view_at (catalog_image catalog) w → ViewFits catalog.tables (view_image view) → picks ≡ picks_chosen (catalog_image catalog) (state_over tables brushes) w (length tables)
+    → each_rows leaves ≡ over (expr_of view.plan) (each_rows tables) picks → each_kinds leaves ≡ leaf_kinds (expr_of view.plan) (each_kinds tables)
+    → rel.rows ≡ eval (expr_of view.plan) (each_rows leaves) → rel.kinds ≡ plan_kinds (expr_of view.plan) (each_kinds leaves) → rel ≡ content_of (catalog_image catalog) (state_over tables brushes) w
+content_over catalog tables leaves brushes w picks view rel kinds is fits are rows_of kinds_of rows_are kinds_are =
+    let image : CatalogImage = catalog_image catalog in
+    let rows : rel.rows ≡ eval (view_at image w).plan (leaves_now image (state_over tables brushes) w) =
+    rows_are ∙ ap (λ (v : ViewImage). eval v.plan (each_rows leaves)) is ∙ ap (eval (view_at image w).plan) (rows_of ∙ leaves_over catalog tables brushes w picks view is are) in
+    let named : rel.kinds ≡ (view_at image w).kinds =
+    kinds_are ∙ ap (plan_kinds (expr_of view.plan)) (leaves_kinds catalog tables leaves (expr_of view.plan) kinds kinds_of) ∙ fits.kinds ∙ ap (λ (v : ViewImage). v.kinds) is in
+    ap (λ (k : List Kind). rel_with k rel.rows) named ∙ ap (rel_with (view_at image w).kinds) rows
+
+-- one pick more
+
+pub rids_rise : (catalog : Catalog) (tables : List Relation) (brushes : List BrushOn) → All (BrushFits catalog tables) brushes → All (λ (b : BrushOn). IsAscending b.rids) brushes
+rids_rise catalog tables brushes fit k d low = rids_ascend (rows_count tables (get_or brushes k d).table) (get_or brushes k d).rids (fit k d low).rids
+
+some_is : {X : Type 0} (b : Bool) (x y : X) → cond b (Some x) None ≡ Some y → (b ≡ true) × (y ≡ x)
+some_is true x y h = (refl, cc)
+some_is false x y h = absurd (cc)
+
+none_is : {X : Type 0} (b : Bool) (x : X) → cond b (Some x) None ≡ None → b ≡ false
+none_is true x h = absurd (cc)
+none_is false x h = refl
+
+abbrev pick_with : ℕ → List ℕ → Pick
+pick_with t rids = record { table = t; rids = rids }
+
+pub pick_more : (catalog : Catalog) (tables : List Relation) (brushes : List BrushOn) (w t : ℕ) (chosen : Option (List ℕ)) (rids : List ℕ) (picks : List Pick) → All (BrushFits catalog tables) brushes
+    → ((n : ℕ) → AreOn t n brushes → chosen ≡ chosen_of (catalog_image catalog) brushes w t n) → chosen ≡ Some rids
+    → picks ≡ picks_chosen (catalog_image catalog) (state_over tables brushes) w t → picks ++ pick_with t rids ∷ [] ≡ picks_chosen (catalog_image catalog) (state_over tables brushes) w (t + 1)
+pick_more catalog tables brushes w t chosen rids picks fit made some are =
+    let p = some_is (list_any (concerns (catalog_image catalog) w t) brushes) _ rids (sym (chosen_there catalog tables brushes w t chosen fit made) ∙ some) in
+    ap (λ l. l ++ pick_with t rids ∷ []) are
+    ∙ ap (λ r. picks_chosen (catalog_image catalog) (state_over tables brushes) w t ++ pick_with t r ∷ []) p.1
+    ∙ sym (picks_more (catalog_image catalog) (state_over tables brushes) w t p.0)
+
+pub pick_none : (catalog : Catalog) (tables : List Relation) (brushes : List BrushOn) (w t : ℕ) (chosen : Option (List ℕ)) (picks : List Pick) → All (BrushFits catalog tables) brushes
+    → ((n : ℕ) → AreOn t n brushes → chosen ≡ chosen_of (catalog_image catalog) brushes w t n) → chosen ≡ None
+    → picks ≡ picks_chosen (catalog_image catalog) (state_over tables brushes) w t → picks ≡ picks_chosen (catalog_image catalog) (state_over tables brushes) w (t + 1)
+pick_none catalog tables brushes w t chosen picks fit made none are =
+    are ∙ sym (picks_same (catalog_image catalog) (state_over tables brushes) w t (none_is (list_any (concerns (catalog_image catalog) w t) brushes) _ (sym (chosen_there catalog tables brushes w t chosen fit made) ∙ none)))
+
+-- a view that is shown
+
+abbrev linked_with : ℕ → List ℕ → Relation → Linked
+linked_with w marks rel = record { view = w; marks = marks; rel = rel }
+
+abbrev pub given : List ℕ → Asked (List ℕ)
+given marks = Ok marks
+
+abbrev shows : Linked → Asked Linked
+shows linked = Ok linked
+
+given_is : (marks made : List ℕ) → given marks ≡ given made → marks ≡ made
+given_is marks made h = cc
+
+pub shown_is : (catalog : CatalogImage) (state : State) (t w : ℕ) (marks : List ℕ) (rel : Relation) → first_full (view_at catalog w).plan (leaves_now catalog state w) ≡ None → rel ≡ content_of catalog state w
+    → given (marks_fwd catalog state w t (selected_for catalog state w t)) ≡ given marks → linked_now catalog state t w ≡ shows (linked_with w marks rel)
+shown_is catalog state t w marks rel few is are =
+    let reached : List ℕ = marks_fwd catalog state w t (selected_for catalog state w t) in
+    ap (λ (first : Option ℕ). unless_full first (linked_with w reached (content_of catalog state w))) few
+    ∙ ap (λ (r : Relation). shows (linked_with w reached r)) (sym is)
+    ∙ ap (λ (m : List ℕ). shows (linked_with w m rel)) (given_is reached marks are)
+
+pub shown_never : (catalog : CatalogImage) (state : State) (t w : ℕ) (turned : Turned)
+    → ((linked : Linked) → linked.view ≡ w → Turns turned (unless_full (first_full (view_at catalog w).plan (leaves_now catalog state w)) linked)) → Turns turned (linked_now catalog state t w)
+shown_never catalog state t w turned many = many (linked_with w (marks_fwd catalog state w t (selected_for catalog state w t)) (content_of catalog state w)) refl
+
+-- the views that links name
+
+pub named_low : (catalog : Catalog) (v t i : ℕ) (ws : List ℕ) → IsCatalog (catalog_image catalog) → ws ≡ linked (catalog_image catalog) v t → i < length ws → get_or ws i 0 < length catalog.views
+named_low catalog v t i ws checked are low =
+    let all : All (λ w. w < length (catalog_image catalog).views) ws = subst (λ (l : List ℕ). All (λ w. w < length (catalog_image catalog).views) l) (sym are) (linked_low (catalog_image catalog) (length catalog.tables) (length (catalog_image catalog).views) v t checked.typed.links) in
+    omega (arith, all i 0 low, length-map catalog.views view_image)
+
+pub named_declares : (catalog : Catalog) (v t i : ℕ) (ws : List ℕ) → ws ≡ linked (catalog_image catalog) v t → i < length ws → declares_fwd (catalog_image catalog) (get_or ws i 0) t ≡ true
+named_declares catalog v t i ws are low =
+    linked_declares (catalog_image catalog) v t (get_or ws i 0) (ap (λ (l : List ℕ). has l (get_or ws i 0)) (sym are) ∙ has_item ws i 0 low)
+
+-- one view more
+
+pub mapped_more : {X Y : Type 0} (f : X → Y) (xs : List X) (i : ℕ) (d : X) (ys : List Y) (y : Y) → i < length xs → ys ≡ map f (take i xs) → y ≡ f (get_or xs i d) → ys ++ y ∷ [] ≡ map f (take (i + 1) xs)
+mapped_more f xs i d ys y low are is =
+    ap (λ l. l ++ y ∷ []) are ∙ ap (λ z. map f (take i xs) ++ z ∷ []) is ∙ sym (map-append f (take i xs) (get_or xs i d ∷ [])) ∙ ap (map f) (sym (take_more xs i d low))
+
+abbrev kept_from : CatalogImage → List BrushOn → ℕ → Relation → Content
+kept_from catalog brushes view rel = record { view = view; rel = cond (list_any (follows catalog view) brushes) (Some rel) None }
+
+pub keeps_more : (catalog : CatalogImage) (state : State) (ws : List ℕ) (i : ℕ) (one : Linked) (made : Content) (contents : List Content) → i < length ws → contents ≡ map (content_at catalog state) (take i ws)
+    → made ≡ kept_from catalog state.brushes one.view one.rel → one.view ≡ get_or ws i 0 → one.rel ≡ content_of catalog state (get_or ws i 0) → contents ++ made ∷ [] ≡ map (content_at catalog state) (take (i + 1) ws)
+keeps_more catalog state ws i one made contents low are kept is shows_it =
+    mapped_more (content_at catalog state) ws i 0 contents made low are
+    (kept ∙ ap (λ view. kept_from catalog state.brushes view one.rel) is ∙ ap (kept_from catalog state.brushes (get_or ws i 0)) shows_it)

@@ -1,0 +1,52 @@
+-- What two ascending lists have in common, in one pass over both.
+use Rattle.std.proofs.Common.{◌≡◌, ℕ, ◌+◌, ◌<◌, ◌≤◌, Bool, true, false, cond, List, [], ◌∷◌, ◌++◌, length, take, get_or, ap, sym, ◌∙◌, arith, nat_eq, inl, inr}
+use Rattle.std.specs.List.{filter}
+use Rattle.std.proofs.lemmas.Bool.{cases_lt, eq-eqb, ne_eqb}
+use Rattle.std.proofs.lemmas.List.{append-nil, get_or_default, take_more}
+use Rattle.std.proofs.lemmas.List.Elements.{filter-append}
+use Rattle.std.proofs.lemmas.List.Folds.{list_any_at, list_any_none}
+use Rattle.smk_base.specs.Picks.{IsAscending}
+use Rattle.smk_base.specs.Places.{has}
+
+has_there : (others : List ℕ) (place x : ℕ) → place < length others → get_or others place 0 ≡ x → has others x ≡ true
+has_there others place x low is = list_any_at (nat_eq x) others place 0 low (eq-eqb x (get_or others place 0) (sym is))
+
+-- a number between two neighbours isn't there
+has_none : (others : List ℕ) (place x : ℕ) → IsAscending others → ((k : ℕ) → k < place → get_or others k 0 < x) → (place < length others → x < get_or others place 0) → has others x ≡ false
+has_none others place x rises less more = list_any_none (nat_eq x) others (λ k d low. ne_eqb x (get_or others k d) (λ e. differs k low (e ∙ get_or_default others k d 0 low)))
+  where
+    differs : (k : ℕ) → k < length others → x ≡ get_or others k 0 → ⊥
+    differs k low e = elim (cases_lt k place) [
+      | inl l ↦ (let h = less k l in omega (arith, e, h))
+      | inr g ↦ elim (cases_lt place k) [
+        | inl l ↦ (let a = rises place k l low in let b = more (omega (arith, l, low)) in omega (arith, a, b, e))
+        | inr h ↦ (let same : k ≡ place = omega (arith, g, h) in let b = more (omega (arith, same, low)) in let f = rw same at e in omega (arith, b, f))
+      ]
+    ]
+
+one_more : (others ones : List ℕ) (i x : ℕ) (b : Bool) → i < length ones → x ≡ get_or ones i 0 → has others x ≡ b → filter (has others) (take (i + 1) ones) ≡ filter (has others) (take i ones) ++ cond b (x ∷ []) []
+one_more others ones i x b low is has_is =
+    ap (filter (has others)) (take_more ones i 0 low ∙ ap (λ y. take i ones ++ y ∷ []) (sym is)) ∙ filter-append (has others) (take i ones) (x ∷ [])
+    ∙ ap (λ c. filter (has others) (take i ones) ++ cond c (x ∷ []) []) has_is
+
+pub common_more : (others ones made : List ℕ) (i x place : ℕ) → i < length ones → x ≡ get_or ones i 0 → place < length others → get_or others place 0 ≡ x → made ≡ filter (has others) (take i ones)
+    → made ++ x ∷ [] ≡ filter (has others) (take (i + 1) ones)
+common_more others ones made i x place low is there same made_is = ap (λ l. l ++ x ∷ []) made_is ∙ sym (one_more others ones i x true low is (has_there others place x there same))
+
+pub common_same : (others ones made : List ℕ) (i x place : ℕ) → IsAscending others → i < length ones → x ≡ get_or ones i 0 → ((k : ℕ) → k < place → get_or others k 0 < x) → (place < length others → x < get_or others place 0)
+    → made ≡ filter (has others) (take i ones) → made ≡ filter (has others) (take (i + 1) ones)
+common_same others ones made i x place rises low is less more made_is =
+    made_is ∙ sym (append-nil (filter (has others) (take i ones))) ∙ sym (one_more others ones i x false low is (has_none others place x rises less more))
+
+-- those passed are less than those that come
+pub less_here : (others ones : List ℕ) (i x from place : ℕ) → i < length ones → x ≡ get_or ones i 0 → ((k m : ℕ) → k < from → i ≤ m → m < length ones → get_or others k 0 < get_or ones m 0)
+    → ((k : ℕ) → from ≤ k → k < place → get_or others k 0 < x) → (k : ℕ) → k < place → get_or others k 0 < x
+less_here others ones i x from place low is passed less k l = elim (cases_lt k from) [
+  | inl h ↦ (let p = passed k i h (omega arith) low in omega (arith, p, is))
+  | inr g ↦ less k g l
+]
+
+pub passed_next : (others ones : List ℕ) (i x place : ℕ) → IsAscending ones → x ≡ get_or ones i 0 → ((k : ℕ) → k < place → get_or others k 0 < x)
+    → (k m : ℕ) → k < place → i + 1 ≤ m → m < length ones → get_or others k 0 < get_or ones m 0
+passed_next others ones i x place rises is less k m l past low =
+    let a = less k l in let b = rises i m (omega (arith, past)) low in omega (arith, a, b, is)

@@ -1,0 +1,13 @@
+use smk_base::{BrushOn, Catalog, Rel};
+use smk_compose::Run;
+use smk_table::Table;
+
+// What a session holds, as a line reads it: the book, the tables, the views as they are first evaluated, the brushes in force, and the contents that are kept under them.
+#[derive(Drop)]
+pub(crate) struct Held<'a> {
+    pub(crate) catalog: &'a Catalog,
+    pub(crate) tables: &'a [Table],
+    pub(crate) views: &'a [Run],
+    pub(crate) brushes: &'a [BrushOn],
+    pub(crate) contents: &'a [Option<Rel>],
+}
