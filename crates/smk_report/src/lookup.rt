@@ -39,28 +39,6 @@ pub fn view_at(catalog: &Catalog, view: u32) -> &ViewInfo
     &catalog.views.as_slice()[view as usize]
 }
 
-// The number of the view of this name.
-fn view_place(catalog: &Catalog, name: &Text) -> Option<usize>
-    ensures { result ≡ session.view_place (catalog_image catalog.now) name.now }
-{
-    catalog
-        .views
-        .as_slice()
-        .iter()
-        .position(|view| view.name == *name)
-}
-
-// The number of the table of this name.
-fn table_place(catalog: &Catalog, name: &Text) -> Option<usize>
-    ensures { result ≡ session.table_place (catalog_image catalog.now) name.now }
-{
-    catalog
-        .tables
-        .as_slice()
-        .iter()
-        .position(|table| table.name == *name)
-}
-
 // The names of the grouping that a declaration has for a view's backward query to a table.
 fn grouping_names(declared: &Back, view: usize, table: usize) -> Option<&ColNames>
     ensures { option_copied result ≡ cond (is_back view table declared.now) (option_map (λ grouped. grouped.names) (grouping_in declared.now.extra)) None }
@@ -90,7 +68,7 @@ fn first_grouping(catalog: &Catalog, view: usize, table: usize) -> Option<&ColNa
 pub fn grouping_named<'c>(catalog: &'c Catalog, view: &Text, table: &Text) -> Option<&'c ColNames>
     ensures { option_copied result ≡ option_map (λ grouped. grouped.names) (texts.grouping_named (catalog_image catalog.now) view.now table.now) }
 {
-    let view = view_place(catalog, view)?;
-    let table = table_place(catalog, table)?;
+    let view = catalog.view_place(view)?;
+    let table = catalog.table_place(table)?;
     first_grouping(catalog, view, table)
 }

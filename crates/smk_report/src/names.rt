@@ -4,6 +4,7 @@ ghost use Rattle.std.specs.Cmp.Lexicographic.{pointwise};
 ghost use Rattle.smk_model.specs.ShownNames as names;
 ghost use Rattle.smk_model.specs.Tokens.{is_letter, is_word_byte};
 
+use smk_base::{KEYWORDS, TokenKind};
 use std::alloc::{AllocError, Global};
 
 // Whether a word begins with this byte.
@@ -32,58 +33,18 @@ fn is_word(bytes: &[u8]) -> bool
     }
 }
 
-// Whether the bytes are one of these words.
-fn is_among(words: &[&[u8]], bytes: &[u8]) -> bool
-    ensures { result ≡ list_any (λ word. pointwise nat_eq bytes.now word.now) words.now }
+// Whether the bytes are one of the table's words.
+fn is_among(table: &[(&[u8], TokenKind)], bytes: &[u8]) -> bool
+    ensures { result ≡ list_any (λ entry. pointwise nat_eq bytes.now entry.0.now) table.now }
 {
-    words.iter().any(|word| bytes == *word)
+    table.iter().any(|entry| bytes == entry.0)
 }
 
 // Whether the bytes are a keyword.
 fn is_keyword(bytes: &[u8]) -> bool
     ensures { result ≡ names.is_keyword bytes.now }
 {
-    let words: [&[u8]; 38] = [
-        b"all",
-        b"and",
-        b"append",
-        b"as",
-        b"ask",
-        b"back",
-        b"bin",
-        b"brush",
-        b"by",
-        b"clear",
-        b"count",
-        b"default",
-        b"distinct",
-        b"fd",
-        b"from",
-        b"fwd",
-        b"group",
-        b"int",
-        b"join",
-        b"lineage",
-        b"link",
-        b"max",
-        b"min",
-        b"not",
-        b"on",
-        b"or",
-        b"product",
-        b"project",
-        b"scan",
-        b"show",
-        b"sum",
-        b"table",
-        b"text",
-        b"theta",
-        b"to",
-        b"union",
-        b"view",
-        b"where",
-    ];
-    is_among(&words, bytes)
+    is_among(&KEYWORDS, bytes)
 }
 
 // Whether the bytes are a word that is no keyword.
