@@ -9,7 +9,8 @@ use Rattle.smk_model.specs.Opening.{ViewFault, first_view_fault, named_fault, fa
 use Rattle.smk_model.specs.Reports.{Report, report_of}
 use Rattle.smk_model.specs.Readings.{Reading}
 use Rattle.smk_model.specs.Session.{Workbook, view_at}
-use Rattle.smk_model.specs.Outcome.{Held, Inputs, unless_view_fault, reported as report_or_fault, words_of, unreadable, read, IsReport, HasCause}
+use Rattle.smk_model.specs.Words.{words_of}
+use Rattle.smk_model.specs.Outcome.{Held, Inputs, unless_view_fault, reported as report_or_fault, unreadable, read, IsReport, HasCause}
 use Rattle.smk_top.specs.declared.counts.Counts.{Counts}
 use Rattle.smk_top.specs.declared.status.Status.{Status}
 use Rattle.smk_top.specs.declared.status.Status.TheVariants.{WriteFault}

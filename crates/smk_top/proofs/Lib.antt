@@ -11,3 +11,4 @@ mod FileReads
 mod TableLoads
 mod ListTests
 mod ScriptReads
+mod WordsTaken

@@ -1,13 +1,8 @@
 -- Tests of lists.
-use Rattle.std.proofs.Common.{◌≡◌, ◌∙◌, ◌≤◌, ◌<◌, ℕ, Bool, true, false, IsTrue, List, [], ◌∷◌, length, map, get_or, refl, ap, sym, arith}
+use Rattle.std.proofs.Common.{◌≡◌, ◌∙◌, ◌<◌, ℕ, Bool, true, false, IsTrue, List, length, map, get_or, refl, ap, sym, arith}
 use Rattle.std.specs.List.{list_all}
 use Rattle.std.proofs.lemmas.List.{get_or-map, length-map}
 use Rattle.std.proofs.lemmas.List.Folds.{list_all_at}
-use Rattle.smk_model.specs.Forms.{is_none}
-
-pub not_none : {A : Type 0} (xs : List A) → 1 ≤ length xs → false ≡ is_none xs
-not_none [] h = absurd (omega arith)
-not_none (x ∷ xs) h = refl
 
 -- a test that all images pass
 from_false : (b : Bool) → (b ≡ false → ⊥) → IsTrue b

@@ -1,6 +1,6 @@
 -- Why a run stops where a file is read.
-use Rattle.std.proofs.Common.{◌≡◌, ◌≢◌, ◌<◌, ◌≤◌, ℕ, List, Option, Some, None, Ok, Err, [], refl, arith, inl, inr}
-use Rattle.std.specs.Prelude.{◌⊎◌, unwrap_or, IsNone}
+use Rattle.std.proofs.Common.{◌≡◌, ◌≢◌, ◌<◌, ◌≤◌, ℕ, List, Option, Some, None, Ok, Err, [], refl, sym, ap, arith, inl, inr}
+use Rattle.std.specs.Prelude.{◌⊎◌, unwrap_or, option_map, IsNone}
 use Rattle.std.proofs.lemmas.Bool.{cases_lt}
 use Rattle.smk_base.specs.CatalogImage.{CatalogImage}
 use Rattle.smk_base.specs.declared.fault.Fault.{Fault}
@@ -8,9 +8,12 @@ use Rattle.smk_base.specs.declared.fault.Fault.TheVariants.{Usage, Book, Types, 
 use Rattle.smk_outside.specs.Outside.{Rose}
 use Rattle.smk_model.specs.Values.{Row}
 use Rattle.smk_model.specs.Readings.{Reading}
-use Rattle.smk_model.specs.Outcome.{Held, Words, Inputs, words_of, book_of, script_of, OpensBook, OpensScript, unusable, no_book, no_tables, no_readings, inputs, the_book, a_table, the_script, HasCause}
+use Rattle.smk_model.specs.Words.{Words, Invocation, invocation_of, words_of, book_of, script_of}
+use Rattle.smk_model.specs.Outcome.{Held, Inputs, OpensBook, OpensScript, unusable, no_book, no_tables, no_readings, inputs, the_book, a_table, the_script, HasCause}
+use Rattle.smk_top.specs.declared.words.RunWords.{RunWords}
 use Rattle.smk_top.specs.declared.stop.Stop.{Stop}
 use Rattle.smk_top.specs.declared.stop.Stop.TheVariants.{At, Unwritten, Exhausted}
+use Rattle.smk_top.specs.Image.{invocation_image, words_image}
 use Rattle.smk_top.specs.Reading.{Reads, Loads, unread_among, UntoldCause, IsInputs, HasReadCause, ReadsAll, IsAt}
 
 -- a count that rose in a part rose in the whole
@@ -21,6 +24,11 @@ rose_within start before after end s m e (inr last) = at_last (cases_lt 18446744
     at_last : (18446744073709551615 < end) ⊎ (end ≤ 18446744073709551615) → Rose start end
     at_last (inl above) = inl (omega arith)
     at_last (inr upto) = inr (omega arith)
+
+-- the texts of what words are seen to ask for
+pub texts_asked : (words : List (List ℕ)) (found : Option RunWords) → option_map invocation_image found ≡ invocation_of words → words_of words ≡ option_map words_image found
+texts_asked words (Some found) is = ap (option_map (λ (a : Invocation). a.texts)) (sym is)
+texts_asked words None is = ap (option_map (λ (a : Invocation). a.texts)) (sym is)
 
 -- words that are none are not some
 some_words : (words : List (List ℕ)) (w : Words) → words_of words ≡ Some w → words_of words ≢ None

@@ -16,26 +16,9 @@ use Rattle.smk_model.specs.Outcome.{Held, load}
 use Rattle.smk_top.specs.declared.stop.Stop.{Stop}
 use Rattle.smk_top.specs.declared.stop.Stop.TheVariants.{At, Unwritten, Exhausted}
 use Rattle.smk_top.specs.Reading.{Reads, Loads, unread_among}
+use Rattle.smk_model.proofs.InOrder.{then_value, then_fault}
 use Rattle.smk_model.proofs.Places.{map_map}
 use Rattle.smk_top.proofs.Stops.{untold_within}
-
--- the values of which there are all
-first_then : {A E : Type 0} (r : Result A E) (rest : Result (List A) E) (all : List A) → ◌>>=◌ r (λ x. ◌>>=◌ rest (λ xs. Ok (x ∷ xs))) ≡ Ok all
-    → (y : A) × (ys : List A) × (r ≡ Ok y) × (rest ≡ Ok ys) × (all ≡ y ∷ ys)
-first_then (Ok y) (Ok ys) all h = (y, ys, refl, refl, cc)
-first_then (Ok y) (Err e) all h = cc
-first_then (Err e) rest all h = cc
-
--- all values up to one, and that one, or the fault in its place
-then_value : {A E : Type 0} (rs : List (Result A E)) (r : Result A E) (xs : List A) (x : A) → all_or_first rs ≡ Ok xs → r ≡ Ok x → all_or_first (rs ++ r ∷ []) ≡ Ok (xs ++ x ∷ [])
-then_value [] r xs x e f = let none : [] ≡ xs = cc e in rw f (rw (sym none) refl)
-then_value (q ∷ rs) r xs x e f = let at = first_then q (all_or_first rs) xs e in
-    ap (λ t. ◌>>=◌ t (λ z. ◌>>=◌ (all_or_first (rs ++ r ∷ [])) (λ zs. Ok (z ∷ zs)))) at.2 ∙ ap (λ t. ◌>>=◌ t (λ zs. Ok (at.0 ∷ zs))) (then_value rs r at.1 x at.3 f) ∙ ap (λ l. Ok (l ++ x ∷ [])) (sym at.4)
-
-then_fault : {A E : Type 0} (rs : List (Result A E)) (r : Result A E) (more : List (Result A E)) (xs : List A) (fault : E) → all_or_first rs ≡ Ok xs → r ≡ Err fault → all_or_first (rs ++ r ∷ more) ≡ Err fault
-then_fault [] r more xs fault e f = rw f refl
-then_fault (q ∷ rs) r more xs fault e f = let at = first_then q (all_or_first rs) xs e in
-    ap (λ t. ◌>>=◌ t (λ z. ◌>>=◌ (all_or_first (rs ++ r ∷ more)) (λ zs. Ok (z ∷ zs)))) at.2 ∙ ap (λ t. ◌>>=◌ t (λ zs. Ok (at.0 ∷ zs))) (then_fault rs r more at.1 fault at.3 f)
 
 -- one table more
 pub load_more : {X Y : Type 0} (rows : X → List (List Row)) (row : Y → List Row) (held : Option Held) (rose_first rose_here rose : Type 0) (done : List TableInfo) (info : TableInfo) (before after : X) (y : Y)

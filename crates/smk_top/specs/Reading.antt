@@ -10,7 +10,8 @@ use Rattle.smk_model.specs.Forms.{is_reading_answered}
 use Rattle.smk_model.specs.Readings.{Reading}
 use Rattle.smk_model.specs.Session.{Workbook}
 use Rattle.smk_model.specs.Opening.{first_view_fault, fault_named}
-use Rattle.smk_model.specs.Outcome.{Held, Inputs, ReadsInputs, NamesRead, words_of, load_all, HasCause, run_looks}
+use Rattle.smk_model.specs.Words.{words_of}
+use Rattle.smk_model.specs.Outcome.{Held, Inputs, ReadsInputs, NamesRead, load_all, HasCause, run_looks}
 use Rattle.smk_top.specs.declared.stop.Stop.{Stop}
 use Rattle.smk_top.specs.declared.stop.Stop.TheVariants.{At, Unwritten, Exhausted}
 

@@ -16,26 +16,15 @@ fn is_plain(extra: &BackExtra) -> bool
     }
 }
 
-// Whether a list has no member.
-fn is_none<T>(members: &[T]) -> bool
-    ensures { result ≡ forms.is_none members.now }
-{
-    match members {
-        [] => true,
-        [_, ..] => false,
-    }
-}
-
 /// Whether a checked book is answered.
 pub fn is_book_answered(catalog: &Catalog) -> bool
     ensures { result ≡ forms.is_book_answered (catalog_image catalog.now) }
 {
-    is_none(catalog.links.as_slice())
-        && catalog
-            .backs
-            .as_slice()
-            .iter()
-            .all(|back| is_plain(&back.extra))
+    catalog
+        .backs
+        .as_slice()
+        .iter()
+        .all(|back| is_plain(&back.extra))
 }
 
 fn asks_rows(then: &Then) -> bool
@@ -52,9 +41,12 @@ fn is_line_answered(line: &Line) -> bool
     ensures { result ≡ forms.is_line_answered line.now }
 {
     match line {
-        Line::Show { .. } | Line::Fwd { .. } => true,
         Line::Back { then, .. } => asks_rows(then),
-        Line::Brush { .. } | Line::Clear | Line::ClearOne { .. } => false,
+        Line::Show { .. }
+        | Line::Fwd { .. }
+        | Line::Brush { .. }
+        | Line::Clear
+        | Line::ClearOne { .. } => true,
     }
 }
 

@@ -12,6 +12,7 @@ mod program;
 mod reading;
 mod reporting;
 mod script;
+mod settings;
 mod starting;
 mod status;
 mod stop;

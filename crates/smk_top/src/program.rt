@@ -90,11 +90,12 @@ fn report<R: Threads + Sync, G: Gate + Sync, O: Sink, L: Ledger>(
     ensures looks { steps.new ≤ steps.old + run_looks (inputs_image inputs) }
 {
     let Inputs {
+        settings,
         book,
         tables,
         readings,
     } = inputs;
-    let mut session = start(rt, alloc, book, tables, gate, steps)?;
+    let mut session = start(rt, alloc, book, tables, settings, gate, steps)?;
     write_report(
         rt,
         alloc,
@@ -127,13 +128,16 @@ fn work<R: Threads + Sync, F: Files, O: Sink, G: Gate + Sync, L: Ledger>(
     report(rt, alloc, inputs, gate, out, steps)
 }
 
-/// A run of Smoke. Its `words` are those after the program's name: a book's file name, and a script's where there is one.
+/// A run of Smoke. Its `words` are those after the program's name: a book's file name, and a script's where there is one; and `--mode`, which
+/// says when lineage is made and changes nothing of what is written.
 ///
 /// It reads the book, the book's tables and the script from `files`, evaluates the views, and writes to `out` the text of each view and then
 /// of the reply to each line of the script; where there is a fault, it writes nothing to `out` and one line to `err`. How it may end is
 /// `RunEnds`: what is written is the report of the words and of what the files hold, in which each view is its plan's plain meaning, each
-/// declared backward and forward answer is what the annotated meaning relates, and exactly the undeclared queries are refused as undeclared;
-/// any other ending has its cause. Only want of memory has none. `completeness` says when the report is whole.
+/// declared backward and forward answer is what the annotated meaning relates, exactly the undeclared queries are refused as undeclared, and
+/// a view that a brush is linked to is its plan's plain meaning over the rows that the brushes in force select for it. Books that declare a
+/// backward query with `by` or `group`, and scripts that ask one with `where` or `group`, are refused by their form. Any other ending has its
+/// cause. Only want of memory has none. `completeness` says when the report is whole.
 pub fn run<R: Threads + Sync, F: Files, O: Sink, E: Sink, G: Gate + Sync, L: Ledger>(
     rt: &R,
     alloc: Global,

@@ -1,5 +1,5 @@
 // The report of a run, text by text.
-ghost use Rattle.std.specs.Prelude.{◌≡◌, ◌≤◌, ◌<◌, ◌+◌, length, map, IfOk, IsTrue};
+ghost use Rattle.std.specs.Prelude.{◌≡◌, ◌≤◌, ◌<◌, ◌+◌, [], length, map, IfOk, IsTrue};
 ghost use Rattle.smk_base.specs.CatalogImage.{catalog_image};
 ghost use Rattle.smk_model.specs.Forms.{is_line_answered, is_reading_answered};
 ghost use Rattle.smk_model.specs.Readings as readings;
@@ -158,7 +158,7 @@ fn write_lines<R: Threads + Sync, G: Gate + Sync, O: Sink, L: Ledger>(
     Ok(counts)
 }
 
-/// Writes the report: the texts of the views, then those of the lines, each before the next line is answered. It tells what it counted.
+/// Writes the report of a session that begins: the texts of the views, then those of the lines, each before the next line is answered. It tells what it counted.
 pub fn write_report<R: Threads + Sync, G: Gate + Sync, O: Sink, L: Ledger>(
     rt: &R,
     alloc: Global,
@@ -168,7 +168,8 @@ pub fn write_report<R: Threads + Sync, G: Gate + Sync, O: Sink, L: Ledger>(
     out: &mut O,
     steps: &mut Steps<L>,
 ) -> Result<Counts, Stop>
-    requires { AreAnswered (map reading_image readings.now) }
+    requires answered { AreAnswered (map reading_image readings.now) }
+    requires begun { session.old.brushes ≡ [] }
     ensures written { PutsPieces (reports.report_of (workbook_of session.old) (map reading_image readings.now)).text
         (Rose (O.faults out.old) (O.faults out.new)) (O.written out.old) (O.written out.new) result }
     ensures counts { IfOk result (λ counts. counts ≡ counts_of (reports.report_of (workbook_of session.old) (map reading_image readings.now))) }

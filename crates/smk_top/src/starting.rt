@@ -6,10 +6,11 @@ ghost use Rattle.smk_model.specs.Selection.{each_kinds};
 ghost use Rattle.smk_session.specs.Sessions.{workbook_image, workbook_of};
 ghost use Rattle.smk_top.specs.Reading.{Starts, IsSayable};
 
+use crate::settings::Settings;
 use crate::stop::Stop;
 use smk_base::{Fault, TableInfo, Text, ViewInfo};
 use smk_outside::{Gate, Steps};
-use smk_session::{Mode, Session, StartFault};
+use smk_session::{Session, StartFault};
 use smk_table::Table;
 use smk_typing::TypedBook;
 use std::alloc::{AllocError, Global};
@@ -54,18 +55,21 @@ pub fn start<R: Threads + Sync, G: Gate + Sync, L: Ledger>(
     alloc: Global,
     book: TypedBook,
     tables: Vec<Table>,
+    settings: Settings,
     gate: &G,
     steps: &mut Steps<L>,
 ) -> Result<Session, Stop>
     requires kinds { each_kinds tables.items ≡ each_table_kinds book.tables }
     ensures starts { Starts (workbook_image book tables.items) result }
     ensures book { IfOk result (λ session. workbook_of session ≡ workbook_image book tables.items) }
+    ensures mode { IfOk result (λ session. session.mode ≡ settings.mode) }
     ensures looks { steps.new ≤ steps.old + start_looks (workbook_image book tables.items) }
+    ensures begun { IfOk result (λ session. session.brushes ≡ []) }
     ensures said { IsSayable result }
 {
     let views = view_names(alloc, book.catalog().views.as_slice())?;
     let names = table_names(alloc, book.catalog().tables.as_slice())?;
-    match Session::start(rt, alloc, book, tables, Mode::Inject, 1, gate, steps) {
+    match Session::start(rt, alloc, book, tables, settings.mode, 1, gate, steps) {
         Ok(session) => Ok(session),
         Err(StartFault::Rows { view, node }) => {
             let view = name_at(alloc, views, view);

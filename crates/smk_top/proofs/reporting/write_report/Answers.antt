@@ -20,4 +20,11 @@ returns-clause-written g c =
     let book = workbook_of c.args.session.now in
     let wide : Rose (g.O.Sink.faults c.write_views.new.out) (g.O.Sink.faults c.write_lines.new.out) → Rose (g.O.Sink.faults c.args.out.now) (g.O.Sink.faults c.write_lines.new.out) =
     λ up. rose_within _ _ _ _ c.in_ok-write_views.ensures.later c.write_lines.ensures.later (omega arith) up in
-    then_rest Counts _ _ _ _ _ (views_text book) (script_told book (map reading_image c.args.readings.now)).text c.write_lines.result wide c.in_ok-write_views.ensures.written c.write_lines.ensures.written
+    let told = rw c.requires.begun at c.write_lines.ensures.written in
+    then_rest Counts _ _ _ _ _ (views_text book) (script_told book (map reading_image c.args.readings.now)).text c.write_lines.result wide c.in_ok-write_views.ensures.written told
+
+pub returns-clause-counts : goal.returns-clause-counts
+returns-clause-counts g c = rw c.requires.begun at c.write_lines.ensures.counts
+
+pub returns-clause-looks : goal.returns-clause-looks
+returns-clause-looks g c = rw c.requires.begun at c.write_lines.ensures.looks

@@ -1,0 +1,7 @@
+use smk_session::Mode;
+
+/// What options say of how a run works. What it writes doesn't depend on it.
+#[derive(Clone, Copy)]
+pub struct Settings {
+    pub mode: Mode,
+}
