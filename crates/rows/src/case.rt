@@ -46,27 +46,62 @@ fn bytes_of(alloc: Global, sections: &[Section<'_>], wanted: Part<'_>) -> Result
     Ok(bytes)
 }
 
-/// The words of each run of a case. A case that names none has one run, with the word `book.smk`.
-pub fn runs_of<'a>(alloc: Global, case: &[Section<'a>]) -> Result<Vec<Vec<&'a str>>, AllocError> {
+/// The words of each run of a case. A case that names none has one run, with the word `book.smk`. Each is made once with each mode that the
+/// case names, or else its archive; where neither names any, it is made as it stands.
+pub fn runs_of<'a>(
+    alloc: Global,
+    shared: &[Section<'a>],
+    case: &[Section<'a>],
+) -> Result<Vec<Vec<&'a str>>, AllocError> {
+    let modes = modes_of(case).or(modes_of(shared)).unwrap_or("");
     let mut runs = Vec::new(alloc);
     for section in case {
         if let Head::Words(first) = section.head {
-            runs.push(words_of(alloc, first, section.body)?)?;
+            add_runs(alloc, &mut runs, modes, first, section.body)?;
         }
     }
     if runs.is_empty() {
-        runs.push(words_of(alloc, "book.smk", None)?)?;
+        add_runs(alloc, &mut runs, modes, "book.smk", None)?;
     }
     Ok(runs)
 }
 
-// The words of a head, and one for each line.
-fn words_of<'a>(
+// The modes that a case or an archive names.
+fn modes_of<'a>(sections: &[Section<'a>]) -> Option<&'a str> {
+    for section in sections {
+        if let Head::Modes(modes) = section.head {
+            return Some(modes);
+        }
+    }
+    None
+}
+
+// Adds the words of a run for each of the modes.
+fn add_runs<'a>(
     alloc: Global,
+    runs: &mut Vec<Vec<&'a str>>,
+    modes: &'a str,
     first: &'a str,
     body: Option<&'a str>,
-) -> Result<Vec<&'a str>, AllocError> {
-    let mut words = Vec::new(alloc);
+) -> Result<(), AllocError> {
+    for mode in modes.split(' ') {
+        let mut words = Vec::new(alloc);
+        if !mode.is_empty() {
+            words.push("--mode")?;
+            words.push(mode)?;
+        }
+        add_words(&mut words, first, body)?;
+        runs.push(words)?;
+    }
+    Ok(())
+}
+
+// Adds the words of a head, and one for each line.
+fn add_words<'a>(
+    words: &mut Vec<&'a str>,
+    first: &'a str,
+    body: Option<&'a str>,
+) -> Result<(), AllocError> {
     if !first.is_empty() {
         for word in first.split(' ') {
             words.push(word)?;
@@ -77,7 +112,7 @@ fn words_of<'a>(
             words.push(word)?;
         }
     }
-    Ok(words)
+    Ok(())
 }
 
 /// The files of a case: its own, and those shared ones that it has not and that it is not without.

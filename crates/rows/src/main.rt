@@ -24,7 +24,7 @@ fn run_case<R: Threads + Sync + Print + AllocGlobal>(
     let (name, rest) = text.split_once(" --").context("a case has no name")?;
     let case = section::sections(rt.alloc(), rest)?;
     let wanted = case::ending_of(rt.alloc(), &case)?;
-    for words in case::runs_of(rt.alloc(), &case)?.iter() {
+    for words in case::runs_of(rt.alloc(), shared, &case)?.iter() {
         let ran = running::run_words(system, rt, rt.alloc(), words, shared, &case)?;
         compare::print_differences(rt, archive, name, words, &wanted, &ran)?;
     }
