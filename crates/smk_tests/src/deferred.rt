@@ -1,9 +1,6 @@
 ghost use Rattle.std.specs.Prelude.{◌<◌, IsTrue, length};
 
-use crate::one_steps::{
-    joins_one_of_each_side, keeps_places, meets_all, meets_by_predicate, reaches_groups,
-    unites_all, unites_equals,
-};
+use crate::one_steps::have_their_lists;
 use crate::opened::{Opened, maps_shown, need_of, open_book, ran};
 use smk_body::OpBody;
 use smk_defer::Defer;
@@ -32,15 +29,7 @@ const REGIONS: &[u8] = b"name,zone\nnorth,A\nsouth,B\neast,A\n";
 // A step that is finished later has the lists of one that captures as it runs.
 #[test]
 fn a_deferred_step_has_its_lists(rt: HostRuntime) -> Result<(), Fail> {
-    let alloc = rt.alloc();
-    assert!(rt; keeps_places(&rt, alloc, &Defer)?);
-    assert!(rt; reaches_groups(&rt, alloc, &Defer)?);
-    assert!(rt; joins_one_of_each_side(&rt, alloc, &Defer)?);
-    assert!(rt; meets_by_predicate(&rt, alloc, &Defer)?);
-    assert!(rt; meets_all(&rt, alloc, &Defer)?);
-    assert!(rt; unites_equals(&rt, alloc, &Defer)?);
-    assert!(rt; unites_all(&rt, alloc, &Defer)?);
-    Ok(())
+    have_their_lists(&rt, rt.alloc(), &Defer)
 }
 
 // The lists that a view keeps of what is declared, by a body.

@@ -3,6 +3,7 @@ ghost use Rattle.smk_model.specs.Tables.{AreColumns};
 
 use smk_base::{ColDecl, ColDecls, Kind, Text};
 use std::alloc::{AllocError, Global};
+use std::test::Fail;
 
 pub(crate) fn text(alloc: Global, bytes: &[u8]) -> Result<Text, AllocError>
     ensures { IfOk result (λ text. text ≡ bytes.now) }
@@ -22,4 +23,9 @@ pub(crate) fn one_column(alloc: Global) -> Result<ColDecls, AllocError>
         def: None,
     })?;
     Ok(decls)
+}
+
+/// A test goes on where this holds, and else it fails with these words.
+pub(crate) fn want(holds: bool, words: &'static str) -> Result<(), Fail> {
+    if holds { Ok(()) } else { Err(Fail::new(words)) }
 }

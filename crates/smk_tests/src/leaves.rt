@@ -57,7 +57,7 @@ fn ints(alloc: Global, rel: &Rel) -> Result<Vec<u8>, Fail> {
     Ok(out)
 }
 
-// A run picks no rows, so far.
+// A run picks rows only under a brush.
 #[test]
 fn a_leaf_has_the_picked_rows(rt: HostRuntime) -> Result<(), Fail> {
     let alloc = rt.alloc();

@@ -15,6 +15,8 @@ mod crowded;
 #[cfg(test)]
 mod deferred;
 #[cfg(test)]
+mod demos;
+#[cfg(test)]
 mod dictionaries;
 #[cfg(test)]
 mod fixtures;
@@ -26,6 +28,8 @@ mod leaves;
 mod one_steps;
 #[cfg(test)]
 mod opened;
+#[cfg(test)]
+mod partitions;
 #[cfg(test)]
 mod rids;
 #[cfg(test)]

@@ -5,7 +5,7 @@ ghost use Rattle.smk_base.specs.PlanImage.{binary_of, unary_of};
 ghost use Rattle.smk_base.specs.declared.value.Kind.TheVariants as kinds;
 ghost use Rattle.smk_model.specs.Kinds.{Fits1, Fits2};
 
-use crate::fixtures::text;
+use crate::fixtures::{text, want};
 use smk_base::{
     Agg, Aggs, CmpOp, Dir, Keys, Kind, Op1, Op2, Operand, Pairs, Pred, Rel, Row, Value,
 };
@@ -188,8 +188,8 @@ fn is_right(local: &Local, back: &[&[u32]], fwd: &[&[u32]]) -> bool {
     }
 }
 
-/// Whether each row that a selection keeps comes from its place.
-pub(crate) fn keeps_places<R: Threads + Sync, B: OpBody + Sync>(
+// Whether each row that a selection keeps comes from its place.
+fn keeps_places<R: Threads + Sync, B: OpBody + Sync>(
     rt: &R,
     alloc: Global,
     body: &B,
@@ -202,8 +202,8 @@ pub(crate) fn keeps_places<R: Threads + Sync, B: OpBody + Sync>(
     Ok(side && local.right.is_none())
 }
 
-/// Whether each row reaches its group, and only the wanted lists are given.
-pub(crate) fn reaches_groups<R: Threads + Sync, B: OpBody + Sync>(
+// Whether each row reaches its group, and only the wanted lists are given.
+fn reaches_groups<R: Threads + Sync, B: OpBody + Sync>(
     rt: &R,
     alloc: Global,
     body: &B,
@@ -218,8 +218,8 @@ pub(crate) fn reaches_groups<R: Threads + Sync, B: OpBody + Sync>(
     Ok(both && has_lists(&local.left.back, 4, back) && local.left.fwd.is_none())
 }
 
-/// Whether each row of a join comes from one of each side.
-pub(crate) fn joins_one_of_each_side<R: Threads + Sync, B: OpBody + Sync>(
+// Whether each row of a join comes from one of each side.
+fn joins_one_of_each_side<R: Threads + Sync, B: OpBody + Sync>(
     rt: &R,
     alloc: Global,
     body: &B,
@@ -233,8 +233,8 @@ pub(crate) fn joins_one_of_each_side<R: Threads + Sync, B: OpBody + Sync>(
     Ok(is_side(&local.left, own, own) && right)
 }
 
-/// The same of a theta join.
-pub(crate) fn meets_by_predicate<R: Threads + Sync, B: OpBody + Sync>(
+// The same of a theta join.
+fn meets_by_predicate<R: Threads + Sync, B: OpBody + Sync>(
     rt: &R,
     alloc: Global,
     body: &B,
@@ -252,8 +252,8 @@ pub(crate) fn meets_by_predicate<R: Threads + Sync, B: OpBody + Sync>(
     Ok(left && right)
 }
 
-/// The same of a product.
-pub(crate) fn meets_all<R: Threads + Sync, B: OpBody + Sync>(
+// The same of a product.
+fn meets_all<R: Threads + Sync, B: OpBody + Sync>(
     rt: &R,
     alloc: Global,
     body: &B,
@@ -267,8 +267,8 @@ pub(crate) fn meets_all<R: Threads + Sync, B: OpBody + Sync>(
     Ok(is_side(&local.left, own, own) && is_right(&local, &[&[0], &[0], &[0]], &[&[0, 1, 2]]))
 }
 
-/// Whether each row of a union comes from the rows that equal it, on both sides.
-pub(crate) fn unites_equals<R: Threads + Sync, B: OpBody + Sync>(
+// Whether each row of a union comes from the rows that equal it, on both sides.
+fn unites_equals<R: Threads + Sync, B: OpBody + Sync>(
     rt: &R,
     alloc: Global,
     body: &B,
@@ -283,8 +283,8 @@ pub(crate) fn unites_equals<R: Threads + Sync, B: OpBody + Sync>(
     Ok(is_side(&local.left, back, fwd) && is_right(&local, back, fwd))
 }
 
-/// Whether each row of a union of all rows comes from itself.
-pub(crate) fn unites_all<R: Threads + Sync, B: OpBody + Sync>(
+// Whether each row of a union of all rows comes from itself.
+fn unites_all<R: Threads + Sync, B: OpBody + Sync>(
     rt: &R,
     alloc: Global,
     body: &B,
@@ -298,4 +298,21 @@ pub(crate) fn unites_all<R: Threads + Sync, B: OpBody + Sync>(
     let left = is_side(&local.left, back, &[&[0], &[1], &[2], &[3]]);
     let back: &[&[u32]] = &[&[], &[], &[], &[], &[0], &[1], &[2], &[3]];
     Ok(left && is_right(&local, back, &[&[4], &[5], &[6], &[7]]))
+}
+
+/// That each step has its lists by a body.
+pub(crate) fn have_their_lists<R: Threads + Sync, B: OpBody + Sync>(
+    rt: &R,
+    alloc: Global,
+    body: &B,
+) -> Result<(), Fail>
+    requires { IsTrue (B.may_capture body.now) }
+{
+    want(keeps_places(rt, alloc, body)?, "a selection")?;
+    want(reaches_groups(rt, alloc, body)?, "a grouping")?;
+    want(joins_one_of_each_side(rt, alloc, body)?, "a join")?;
+    want(meets_by_predicate(rt, alloc, body)?, "a theta join")?;
+    want(meets_all(rt, alloc, body)?, "a product")?;
+    want(unites_equals(rt, alloc, body)?, "a union")?;
+    want(unites_all(rt, alloc, body)?, "a union of all rows")
 }

@@ -2,6 +2,7 @@
 
 ghost use Rattle.std.specs.Prelude.{◌≡◌, ◌<◌};
 
+use crate::fixtures::want;
 use crate::opened::{Opened, open_book};
 use smk_base::{Line, Refusal, Reply, Then};
 use smk_outside::{Idle, Steps};
@@ -89,10 +90,6 @@ fn is_refused(reply: &Reply, wanted: Refusal) -> bool {
         Reply::Refused(refusal) => *refusal == wanted,
         _ => false,
     }
-}
-
-fn want(holds: bool, line: &'static str) -> Result<(), Fail> {
-    if holds { Ok(()) } else { Err(Fail::new(line)) }
 }
 
 // Backward queries: repeats, all marks, a join, a table that the view doesn't scan, and a query that only a link declares.
