@@ -29,8 +29,6 @@ mod one_steps;
 #[cfg(test)]
 mod opened;
 #[cfg(test)]
-mod partitions;
-#[cfg(test)]
 mod rids;
 #[cfg(test)]
 mod sessions;
