@@ -1,11 +1,11 @@
 -- Predicates, steps, plans, statements and books as the definitions see them.
 use Rattle.std.specs.Prelude.{List, map}
-use Rattle.smk_base.specs.Trees.{PredImage, CompareNode, AndNode, OrNode, NotNode, TreeImage, ScanNode, StepNode, StepImage, SelectNode, ProjectNode, DistinctNode, GroupNode, JoinNode, UnionAllNode, UnionNode, StmtImage, TableNode, ViewNode, BackNode, FwdNode, LinkNode}
+use Rattle.smk_base.specs.Trees.{PredImage, CompareNode, AndNode, OrNode, NotNode, TreeImage, ScanNode, StepNode, StepImage, SelectNode, ProjectNode, DistinctNode, GroupNode, JoinNode, ThetaNode, ProductNode, UnionAllNode, UnionNode, StmtImage, TableNode, ViewNode, BackNode, FwdNode, LinkNode}
 use Rattle.smk_base.specs.declared.tree.PredTree.{PredTree, And', Or', Not'}
 use Rattle.smk_base.specs.declared.tree.PredTree.TheVariants.{Cmp}
 use Rattle.smk_base.specs.declared.tree.Tree.{Tree, Step'}
 use Rattle.smk_base.specs.declared.tree.Tree.TheVariants.{Scan}
-use Rattle.smk_base.specs.declared.tree.StepTree.{StepTree, Join', UnionAll', Union'}
+use Rattle.smk_base.specs.declared.tree.StepTree.{StepTree, Join', Theta', Product', UnionAll', Union'}
 use Rattle.smk_base.specs.declared.tree.StepTree.TheVariants.{Select, Project, Distinct, Group}
 use Rattle.smk_base.specs.declared.tree.Stmt.{Stmt}
 use Rattle.smk_base.specs.declared.tree.Stmt.TheVariants.{Table, View, Back, Fwd, Link}
@@ -28,6 +28,8 @@ abbrev mutual
   step_image (Distinct items) = DistinctNode items
   step_image (Group keys aggs) = GroupNode keys aggs
   step_image (Join' p right pairs) = JoinNode (tree_image right) pairs
+  step_image (Theta' p right pred) = ThetaNode (tree_image right) (pred_image pred)
+  step_image (Product' p right) = ProductNode (tree_image right)
   step_image (UnionAll' p right) = UnionAllNode (tree_image right)
   step_image (Union' p right) = UnionNode (tree_image right)
 

@@ -28,6 +28,8 @@ mutual
     DistinctNode : List ItemTree → StepImage
     GroupNode : List Word → List AggTree → StepImage
     JoinNode : TreeImage → List PairTree → StepImage
+    ThetaNode : TreeImage → PredImage → StepImage
+    ProductNode : TreeImage → StepImage
     UnionAllNode : TreeImage → StepImage
     UnionNode : TreeImage → StepImage
 

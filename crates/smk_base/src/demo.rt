@@ -1,5 +1,10 @@
 use crate::list::{ListOf, Text};
 
+/// The names that stand for files of the demo's book and script. Its tables have the names that its book has for them.
+pub const DEMO_BOOK_NAME: &[u8] = b"demo.smk";
+
+pub const DEMO_SCRIPT_NAME: &[u8] = b"demo.script";
+
 /// The book of the demo.
 pub const DEMO_BOOK: &[u8] = b"\
 table flights from \"flights.csv\" (id int, carrier text, hour int, delay int, airport text)\n\

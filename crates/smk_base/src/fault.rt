@@ -94,10 +94,6 @@ pub enum Fault {
     Unread {
         file: Text,
     },
-    /// A file has a form that isn't read yet.
-    Form {
-        file: Text,
-    },
 }
 
 /// What a book may have too many of.

@@ -33,7 +33,9 @@ pub use catalog::{
 };
 pub use col_decl::{ColDecl, ColDecls};
 pub use copied::Copied;
-pub use demo::{DEMO_BOOK, DEMO_SCRIPT, Demo, DemoFile, DemoFiles};
+pub use demo::{
+    DEMO_BOOK, DEMO_BOOK_NAME, DEMO_SCRIPT, DEMO_SCRIPT_NAME, Demo, DemoFile, DemoFiles,
+};
 pub use dict::Dict;
 pub use fault::{BookFault, Fault, FilesFault, LineFault, Many, TableFault};
 pub use list::{ListOf, Rids, Row, Text};

@@ -102,7 +102,7 @@ pub enum Tree {
     },
 }
 
-/// A step as it is written, without its input. The box of a join or a union is the second source.
+/// A step as it is written, without its input. The box of a join, a theta join, a product or a union is the second source.
 #[cycle(tree)]
 #[derive(Drop)]
 pub enum StepTree {
@@ -111,6 +111,8 @@ pub enum StepTree {
     Distinct(ItemTrees),
     Group(Words, AggTrees),
     Join(Box<Tree>, PairTrees),
+    Theta(Box<Tree>, PredTree),
+    Product(Box<Tree>),
     UnionAll(Box<Tree>),
     Union(Box<Tree>),
 }
