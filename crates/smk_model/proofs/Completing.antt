@@ -7,7 +7,7 @@ use Rattle.smk_base.specs.declared.fault.BookFault.{BookFault}
 use Rattle.smk_base.specs.declared.fault.BookFault.TheVariants.{TooMany, BadNumber}
 use Rattle.smk_model.specs.Tokens.{Token}
 use Rattle.smk_model.specs.Grammar.{First, plain_word, IsName, name, IsColumn, plain, string, no_more, int_type, no_default, by_itself, width, column_item, count, no_keys, no_aggs, eq, column_term, compared, no_and, no_or, scan, no_step, group_step, union_step, no_extra, fwd_stmt, no_stmt, mark, all_marks, no_then, clear_line, whole_line}
-use Rattle.smk_model.specs.Machine.{State, Counts, Symbol, Move, Takes, Skips, Wrong, Past, Outside, settle, go_on, through, book_symbols, line_symbols, no_counts, AToken, AName, AColumn, ALiteral, AWidth, AType, ADefault, AnAs, AWhat, AKeys, AnAggs, AFirst, AnItem, ALinked, MoreDecls, MoreItems, MoreKeys, MoreAggs, MorePairs, MoreLinked, ASource, ASteps, AStep, AUnited, APrim, AnAnds, AnOrs, AnOp, ATerm, AStmts, ALineage, AnExtra, ALine, ALineName, ALineColumn, AMarks, AMark, MoreMarks, AThen, ACleared, AnEnd}
+use Rattle.smk_model.specs.Machine.{State, Counts, Symbol, Move, Takes, Skips, Wrong, Past, Outside, settle, go_on, through, book_symbols, line_symbols, no_counts, AToken, AName, AColumn, ALiteral, AWidth, AType, ADefault, AnAs, AWhat, AKeys, AnAggs, AFirst, AnItem, ALinked, MoreDecls, MoreItems, MoreKeys, MoreAggs, MorePairs, MoreLinked, ASource, ASteps, AStep, AUnited, APrim, AnAnds, AnOrs, AnOn, AnOp, ATerm, AStmts, ALineage, AnExtra, ALine, ALineName, ALineColumn, AMarks, AMark, MoreMarks, AThen, ACleared, AnEnd}
 use Rattle.smk_model.specs.Machine.{fault_at}
 use Rattle.smk_model.specs.GrammarLaws.{NoEnds, TakenAreCompleted}
 use Rattle.smk_model.proofs.Moves.{IsSymbol, AreSymbols, settled, MovesAll}
@@ -59,6 +59,7 @@ closes (AUnited d) b = let s = a_source b in (s.0, λ z t g. (_, _, union_step g
 closes (APrim d) b = (tok kinds.Name [] ∷ tok kinds.Equal [] ∷ tok kinds.Name [] ∷ b, (_, compared (a_column (tok kinds.Equal [] ∷ tok kinds.Name [] ∷ b)) (eq (is_tok kinds.Equal [] (tok kinds.Name [] ∷ b))) (column_term (a_column b))))
 closes (AnAnds d) b = (b, λ p. (p, no_and))
 closes (AnOrs d) b = (b, λ p. (p, no_or))
+closes AnOn b = (tok kinds.On [] ∷ b, (_, is_tok kinds.On [] b))
 closes AnOp b = (tok kinds.Equal [] ∷ b, (_, eq (is_tok kinds.Equal [] b)))
 closes ATerm b = (tok kinds.Name [] ∷ b, (_, column_term (a_column b)))
 closes (AStmts y) b = (tok kinds.End [] ∷ b, ([], no_stmt (is_tok kinds.End [] b)))

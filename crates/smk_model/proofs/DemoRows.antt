@@ -5,7 +5,8 @@ use Rattle.std.proofs.lemmas.Bool.{ne_eqb}
 use Rattle.smk_base.specs.Places.{upto}
 use Rattle.smk_model.specs.Tables.{table_of, record_row, numbered, all_or_first}
 use Rattle.smk_model.specs.Demo.{flight, flights, airports}
-use Rattle.smk_model.specs.DemoLaws.{flight_columns, flight_row, airport_columns, airport_row, DemosAreRows}
+use Rattle.smk_model.specs.DemoBook.{flight_columns, flight_row, airport_columns, airport_row}
+use Rattle.smk_model.specs.DemoLaws.{DemosAreRows}
 use Rattle.smk_model.proofs.DemoReading.{read}
 use Rattle.smk_model.proofs.DemoTexts.{small_delay}
 use Rattle.smk_model.proofs.IntTexts.{int_of_decimal, int_of_signed}

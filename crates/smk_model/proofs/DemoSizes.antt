@@ -46,7 +46,7 @@ short_airports : length airports ≤ file_limit
 unfolding record_line fields_text is_blank digits
 short_airports = omega arith
 
-of_two : (P : DemoFile → Type 0) (a b : DemoFile) → P a → P b → All P (a ∷ b ∷ [])
+pub of_two : (P : DemoFile → Type 0) (a b : DemoFile) → P a → P b → All P (a ∷ b ∷ [])
 of_two P a b ha hb = All-cons P a (b ∷ []) ha (All-cons P b [] hb (All-nil P))
 
 pub short : DemosAreShort

@@ -1,12 +1,12 @@
 -- No symbol of the machine is the end itself, or a token that can't be read.
-use Rattle.std.specs.Prelude.{cond, nat_lt, pos, int_le, ◌&&◌, ℤ}
+use Rattle.std.specs.Prelude.{Option, Some, None, cond, nat_lt, pos, int_le, ◌&&◌, ℤ}
 use Rattle.std.proofs.Common.{◌≡◌, ℕ, ◌+◌, List, [], ◌∷◌, ◌++◌, Bool, true, false, refl}
 use Rattle.smk_base.specs.declared.token.TokenKind.{TokenKind}
 use Rattle.smk_base.specs.declared.token.TokenKind.TheVariants as kinds
 use Rattle.smk_base.specs.declared.fault.Many.{Many}
 use Rattle.smk_model.specs.Tokens.{Token, int_value}
 use Rattle.smk_model.specs.TokenKinds.{same_kind}
-use Rattle.smk_model.specs.Machine.{Counts, Tally, Symbol, Move, Takes, Skips, Wrong, Past, Outside, settle, or_next, within, next, no_counts, is_mark, is_short, at_name, at_column, at_first, at_item, at_literal, at_width, at_type, at_default, at_as, at_what, at_keys, at_aggs, at_linked, at_more, at_source, at_steps, at_step, at_united, at_prim, at_ands, at_ors, at_op, at_term, at_stmts, at_lineage, at_extra, at_line, at_line_column, at_mark, at_marks, at_then, at_cleared, at_end, AToken, AName, AColumn, ALiteral, AWidth, AType, ADefault, AnAs, AWhat, AKeys, AnAggs, AFirst, AnItem, ALinked, MoreDecls, MoreItems, MoreKeys, MoreAggs, MorePairs, MoreLinked, ASource, ASteps, AStep, AUnited, APrim, AnAnds, AnOrs, AnOp, ATerm, AStmts, ALineage, AnExtra, ALine, ALineName, ALineColumn, AMarks, AMark, MoreMarks, AThen, ACleared, AnEnd}
+use Rattle.smk_model.specs.Machine.{Counts, Tally, Symbol, Move, Takes, Skips, Wrong, Past, Outside, settle, or_next, within, next, no_counts, is_mark, is_short, at_name, at_column, at_first, at_item, at_literal, at_width, at_type, at_default, at_as, at_what, at_keys, at_aggs, at_linked, at_more, at_source, at_steps, step_symbols, node_move, at_on, at_united, at_prim, at_ands, at_ors, at_op, at_term, at_stmts, at_lineage, at_extra, at_line, at_line_column, at_mark, at_marks, at_then, at_cleared, at_end, AToken, AName, AColumn, ALiteral, AWidth, AType, ADefault, AnAs, AWhat, AKeys, AnAggs, AFirst, AnItem, ALinked, MoreDecls, MoreItems, MoreKeys, MoreAggs, MorePairs, MoreLinked, ASource, ASteps, AStep, AUnited, APrim, AnAnds, AnOrs, AnOn, AnOp, ATerm, AStmts, ALineage, AnExtra, ALine, ALineName, ALineColumn, AMarks, AMark, MoreMarks, AThen, ACleared, AnEnd}
 
 abbrev pub no_end : Symbol → Bool
 no_end (AToken kinds.End) = false
@@ -137,14 +137,21 @@ some_ors : (c : Counts) (d : ℕ) (k : TokenKind) → leaves_none (at_ors c d k)
 some_ors c d kinds.All = refl
 some_ors c d _ = refl
 
-a_step : (c : Counts) (d : ℕ) (k : TokenKind) → leaves_none (at_step c d k) ≡ true
-a_step c d kinds.Where = lim (nat_lt c.nodes 64) _ (Takes _ (APrim d ∷ AnAnds d ∷ AnOrs d ∷ [])) refl
-a_step c d kinds.Project = lim (nat_lt c.nodes 64) _ (Takes _ (AnItem 0 ∷ MoreItems 1 ∷ [])) refl
-a_step c d kinds.Distinct = lim (nat_lt c.nodes 64) _ (Takes _ (AnItem 0 ∷ MoreItems 1 ∷ [])) refl
-a_step c d kinds.Group = lim (nat_lt c.nodes 64) _ (Takes _ (AKeys ∷ AnAggs ∷ [])) refl
-a_step c d kinds.Join = lim (nat_lt c.nodes 64) _ (Takes _ (ASource d ∷ AToken kinds.On ∷ AFirst 0 ∷ AToken kinds.Equal ∷ AColumn ∷ MorePairs 1 ∷ [])) refl
-a_step c d kinds.Union = lim (nat_lt c.nodes 64) _ (Takes _ (AUnited d ∷ [])) refl
-a_step c d _ = refl
+abbrev step_leaves : Option (List Symbol) → Bool
+step_leaves (Some l) = no_ends l
+step_leaves None = true
+
+step_ends : (d : ℕ) (k : TokenKind) → step_leaves (step_symbols d k) ≡ true
+step_ends d kinds.All = refl
+step_ends d _ = refl
+
+a_step : (c : Counts) (l : Option (List Symbol)) → step_leaves l ≡ true → leaves_none (node_move c l) ≡ true
+a_step c (Some l) h = lim (nat_lt c.nodes 64) _ (Takes _ l) h
+a_step c None h = refl
+
+an_on : (c : Counts) (k : TokenKind) → leaves_none (at_on c k) ≡ true
+an_on c kinds.All = refl
+an_on c _ = refl
 
 a_prim : (c : Counts) (d : ℕ) (short : Bool) (k : TokenKind) → leaves_none (at_prim c d short k) ≡ true
 a_prim c d short kinds.Not = lim (nat_lt d 32) _ (Takes c (APrim (d + 1) ∷ [])) refl
@@ -204,11 +211,12 @@ leaves (MorePairs n) c t = more c _ t.kind refl
 leaves (MoreLinked n) c t = more c _ t.kind refl
 leaves (ASource d) c t = a_source c d t.kind
 leaves (ASteps d) c t = some_steps c d t.kind
-leaves (AStep d) c t = a_step c d t.kind
+leaves (AStep d) c t = a_step c (step_symbols d t.kind) (step_ends d t.kind)
 leaves (AUnited d) c t = an_united c d t.kind
 leaves (APrim d) c t = a_prim c d (is_short t) t.kind
 leaves (AnAnds d) c t = some_ands c d t.kind
 leaves (AnOrs d) c t = some_ors c d t.kind
+leaves AnOn c t = an_on c t.kind
 leaves AnOp c t = a_op c t.kind
 leaves ATerm c t = a_term c (is_short t) t.kind
 leaves (AStmts y) c t = some_stmts y t.kind

@@ -11,6 +11,8 @@ pub mod Composed
 pub mod Examples
 pub mod RunExamples
 pub mod LineExamples
+pub mod BookExamples
+pub mod TypingExamples
 pub mod SessionExamples
 pub mod Replies
 pub mod Finds
@@ -47,5 +49,11 @@ pub mod DemoReading
 pub mod IntTexts
 pub mod DemoRows
 pub mod DemoTokens
+pub mod DemoBook
+pub mod DemoScript
+pub mod DemoOpened
+pub mod FewPairs
+pub mod DemoWithin
+mod DemoReported
 pub mod DemoExamples
 pub mod InOrder

@@ -4,7 +4,7 @@ use Rattle.smk_model.specs.Tokens.{Token}
 use Rattle.smk_model.specs.Grammar.{First, name, all_marks, brush_line, clear_line, clear_one_line, whole_line}
 use Rattle.smk_model.specs.LineExamples.{LinesHold}
 
-stands : {t : Token} {b : List Token} → First t.kind t (t ∷ b) b
+pub stands : {t : Token} {b : List Token} → First t.kind t (t ∷ b) b
 stands = record { is_kind = refl; is_first = refl }
 
 pub lines_hold : LinesHold

@@ -20,10 +20,10 @@ use Rattle.smk_base.specs.declared.tree.Line.{Line}
 use Rattle.smk_base.specs.Trees.{PredImage, AndNode, OrNode, TreeImage, StepNode, StepImage, StmtImage}
 use Rattle.smk_model.specs.Tokens.{Token, int_value}
 use Rattle.smk_model.specs.TokenKinds.{same_kind}
-use Rattle.smk_model.specs.Grammar.{First, plain_word, IsName, name, IsColumn, plain, quoted, IsLiteral, number, string, IsFile, file, AreMore, no_more, one_more, listed, IsType, int_type, text_type, IsDefault, no_default, default, IsDecl, decl, IsNamed, by_itself, by_as, IsWidth, width, IsItem, column_item, bin_item, IsWhat, count, sum, min, max, IsAgg, agg, AreKeys, no_keys, keys, AreAggs, no_aggs, aggs, IsPair, pair, IsOp, eq, ne, lt, le, gt, ge, IsTerm, column_term, literal_term, IsPrim, negated, bracketed, compared, conj, AreAnds, no_and, one_and, pred, AreOrs, no_or, one_or, plan, IsSource, scan, inner_plan, AreSteps, no_step, one_step, IsStep, where_step, project_step, distinct_step, group_step, join_step, union_all_step, union_step, IsExtra, no_extra, by_extra, group_extra, IsStmt, table_stmt, view_stmt, back_stmt, fwd_stmt, link_stmt, AreStmts, one_stmt, IsMark, mark, AreMarks, all_marks, listed_marks, IsThen, no_then, where_then, group_then, IsLine, show_line, back_line, fwd_line, brush_line, clear_line, clear_one_line}
+use Rattle.smk_model.specs.Grammar.{First, plain_word, IsName, name, IsColumn, plain, quoted, IsLiteral, number, string, IsFile, file, AreMore, no_more, one_more, listed, IsType, int_type, text_type, IsDefault, no_default, default, IsDecl, decl, IsNamed, by_itself, by_as, IsWidth, width, IsItem, column_item, bin_item, IsWhat, count, sum, min, max, IsAgg, agg, AreKeys, no_keys, keys, AreAggs, no_aggs, aggs, IsPair, pair, IsOp, eq, ne, lt, le, gt, ge, IsTerm, column_term, literal_term, IsPrim, negated, bracketed, compared, conj, AreAnds, no_and, one_and, pred, AreOrs, no_or, one_or, plan, IsSource, scan, inner_plan, AreSteps, no_step, one_step, IsStep, where_step, project_step, distinct_step, group_step, join_step, theta_step, product_step, union_all_step, union_step, IsExtra, no_extra, by_extra, group_extra, IsStmt, table_stmt, view_stmt, back_stmt, fwd_stmt, link_stmt, AreStmts, one_stmt, IsMark, mark, AreMarks, all_marks, listed_marks, IsThen, no_then, where_then, group_then, IsLine, show_line, back_line, fwd_line, brush_line, clear_line, clear_one_line}
 use Rattle.smk_model.proofs.Alike.{same_is}
 use Rattle.smk_model.proofs.Leaving.{and_left, and_right}
-use Rattle.smk_model.specs.Machine.{Counts, Tally, Symbol, Move, Takes, Skips, Wrong, Past, Outside, settle, or_next, within, next, no_counts, is_mark, is_short, at_name, at_column, at_first, at_item, at_literal, at_width, at_type, at_default, at_as, at_what, at_keys, at_aggs, at_linked, at_more, at_source, at_steps, at_step, at_united, at_compare, at_prim, at_ands, at_ors, at_op, at_term, at_stmts, at_lineage, at_extra, at_line, at_line_column, at_mark, at_marks, at_then, at_cleared, at_end, at_token, AToken, AName, AColumn, ALiteral, AWidth, AType, ADefault, AnAs, AWhat, AKeys, AnAggs, AFirst, AnItem, ALinked, MoreDecls, MoreItems, MoreKeys, MoreAggs, MorePairs, MoreLinked, ASource, ASteps, AStep, AUnited, APrim, AnAnds, AnOrs, AnOp, ATerm, AStmts, ALineage, AnExtra, ALine, ALineName, ALineColumn, AMarks, AMark, MoreMarks, AThen, ACleared, AnEnd}
+use Rattle.smk_model.specs.Machine.{Counts, Tally, Symbol, Move, Takes, Skips, Wrong, Past, Outside, settle, or_next, within, next, no_counts, is_mark, is_short, at_name, at_column, at_first, at_item, at_literal, at_width, at_type, at_default, at_as, at_what, at_keys, at_aggs, at_linked, at_more, at_source, at_steps, at_step, step_symbols, node_move, at_on, at_united, at_compare, at_prim, at_ands, at_ors, at_op, at_term, at_stmts, at_lineage, at_extra, at_line, at_line_column, at_mark, at_marks, at_then, at_cleared, at_end, at_token, AToken, AName, AColumn, ALiteral, AWidth, AType, ADefault, AnAs, AWhat, AKeys, AnAggs, AFirst, AnItem, ALinked, MoreDecls, MoreItems, MoreKeys, MoreAggs, MorePairs, MoreLinked, ASource, ASteps, AStep, AUnited, APrim, AnAnds, AnOrs, AnOn, AnOp, ATerm, AStmts, ALineage, AnExtra, ALine, ALineName, ALineColumn, AMarks, AMark, MoreMarks, AThen, ACleared, AnEnd}
 
 -- the tokens from a to b are the symbol
 abbrev pub IsSymbol : Symbol → List Token → List Token → Type 0
@@ -54,6 +54,7 @@ IsSymbol (AUnited d) a b = (z : List Token) → (t : Token) → First kinds.Unio
 IsSymbol (APrim d) a b = (p : PredImage) × IsPrim a b p
 IsSymbol (AnAnds d) a b = (p : PredImage) → (q : PredImage) × AreAnds a b p q
 IsSymbol (AnOrs d) a b = (p : PredImage) → (q : PredImage) × AreOrs a b p q
+IsSymbol AnOn a b = (t : Token) × First kinds.On t a b
 IsSymbol AnOp a b = (o : CmpOp) × IsOp a b o
 IsSymbol ATerm a b = (x : Term) × IsTerm a b x
 IsSymbol (AStmts y) a b = (ss : List StmtImage) × AreStmts a ss
@@ -190,16 +191,29 @@ steps_moves : (c : Counts) (d : ℕ) (t : Token) (k : TokenKind) → t.kind ≡ 
 steps_moves c d t kinds.Bar e = λ a b h x. let r = ends (ASteps d) h.0 b h.2 (StepNode h.1.0 x h.1.1) in (r.0, one_step (here t a kinds.Bar e) h.1.2 r.1)
 steps_moves c d t _ e = λ n a x. (x, no_step)
 
-step_moves : (c : Counts) (d : ℕ) (t : Token) (k : TokenKind) → t.kind ≡ k → Moves (at_step c d k) (AStep d) t
-step_moves c d t kinds.Where e = lim (nat_lt c.nodes 64) _ (Takes _ (APrim d ∷ AnAnds d ∷ AnOrs d ∷ [])) (AStep d) t
-    (λ a b h. let s = h.2.1 h.1.0 in let r = ends (AnOrs d) h.2.0 b h.2.2 s.0 in (_, _, where_step (here t a kinds.Where e) (pred (conj h.1.1 s.1) r.1)))
-step_moves c d t kinds.Project e = lim (nat_lt c.nodes 64) _ (Takes _ (AnItem 0 ∷ MoreItems 1 ∷ [])) (AStep d) t (λ a b h. let l = ends (MoreItems 1) h.0 b h.2 in (_, _, project_step (here t a kinds.Project e) (listed h.1.1 l.1)))
-step_moves c d t kinds.Distinct e = lim (nat_lt c.nodes 64) _ (Takes _ (AnItem 0 ∷ MoreItems 1 ∷ [])) (AStep d) t (λ a b h. let l = ends (MoreItems 1) h.0 b h.2 in (_, _, distinct_step (here t a kinds.Distinct e) (listed h.1.1 l.1)))
-step_moves c d t kinds.Group e = lim (nat_lt c.nodes 64) _ (Takes _ (AKeys ∷ AnAggs ∷ [])) (AStep d) t (λ a b h. let l = ends AnAggs h.0 b h.2 in (_, _, group_step (here t a kinds.Group e) h.1.1 l.1))
-step_moves c d t kinds.Join e = lim (nat_lt c.nodes 64) _ (Takes _ (ASource d ∷ AToken kinds.On ∷ AFirst 0 ∷ AToken kinds.Equal ∷ AColumn ∷ MorePairs 1 ∷ [])) (AStep d) t
-    (λ a b h. let l = ends (MorePairs 1) h.2.2.2.2.0 b h.2.2.2.2.2 in (_, _, join_step (here t a kinds.Join e) h.1.1 h.2.1.1 (listed (pair h.2.2.1.1 h.2.2.2.1.1 h.2.2.2.2.1.1) l.1)))
-step_moves c d t kinds.Union e = lim (nat_lt c.nodes 64) _ (Takes _ (AUnited d ∷ [])) (AStep d) t (λ a b h. ends (AUnited d) a b h (t ∷ a) t (here t a kinds.Union e))
-step_moves c d t _ e = tt
+-- what the symbols of a step say with its keyword before them
+abbrev StepMoves : ℕ → Token → Option (List Symbol) → Type 0
+StepMoves d t (Some l) = (a b : List Token) → AreSymbols l a b → IsSymbol (AStep d) (t ∷ a) b
+StepMoves d t None = Unit {0}
+
+step_is : (d : ℕ) (t : Token) (k : TokenKind) → t.kind ≡ k → StepMoves d t (step_symbols d k)
+step_is d t kinds.Where e = λ a b h. let s = h.2.1 h.1.0 in let r = ends (AnOrs d) h.2.0 b h.2.2 s.0 in (_, _, where_step (here t a kinds.Where e) (pred (conj h.1.1 s.1) r.1))
+step_is d t kinds.Project e = λ a b h. let l = ends (MoreItems 1) h.0 b h.2 in (_, _, project_step (here t a kinds.Project e) (listed h.1.1 l.1))
+step_is d t kinds.Distinct e = λ a b h. let l = ends (MoreItems 1) h.0 b h.2 in (_, _, distinct_step (here t a kinds.Distinct e) (listed h.1.1 l.1))
+step_is d t kinds.Group e = λ a b h. let l = ends AnAggs h.0 b h.2 in (_, _, group_step (here t a kinds.Group e) h.1.1 l.1)
+step_is d t kinds.Join e = λ a b h. let l = ends (MorePairs 1) h.2.2.2.2.0 b h.2.2.2.2.2 in (_, _, join_step (here t a kinds.Join e) h.1.1 h.2.1.1 (listed (pair h.2.2.1.1 h.2.2.2.1.1 h.2.2.2.2.1.1) l.1))
+step_is d t kinds.Theta e = λ a b h. let s = h.2.2.2.1 h.2.2.1.0 in let r = ends (AnOrs d) h.2.2.2.0 b h.2.2.2.2 s.0 in (_, _, theta_step (here t a kinds.Theta e) h.1.1 h.2.1.1 (pred (conj h.2.2.1.1 s.1) r.1))
+step_is d t kinds.Product e = λ a b h. let s = ends (ASource d) a b h in (_, _, product_step (here t a kinds.Product e) s.1)
+step_is d t kinds.Union e = λ a b h. ends (AUnited d) a b h (t ∷ a) t (here t a kinds.Union e)
+step_is d t _ e = tt
+
+step_moves : (c : Counts) (d : ℕ) (t : Token) (l : Option (List Symbol)) → StepMoves d t l → Moves (node_move c l) (AStep d) t
+step_moves c d t (Some l) h = lim (nat_lt c.nodes 64) _ (Takes _ l) (AStep d) t h
+step_moves c d t None h = tt
+
+on_moves : (c : Counts) (t : Token) (k : TokenKind) → t.kind ≡ k → Moves (at_on c k) AnOn t
+on_moves c t kinds.On e = λ a b h. alone AnOn (t ∷ a) a b h (t, here t a kinds.On e)
+on_moves c t _ e = tt
 
 united_moves : (c : Counts) (d : ℕ) (t : Token) (k : TokenKind) → t.kind ≡ k → Moves (at_united c d k) (AUnited d) t
 united_moves c d t kinds.All e = λ a b h z u g. let s = ends (ASource d) a b h in (_, _, union_all_step g (here t a kinds.All e) s.1)
@@ -333,11 +347,12 @@ moves (MorePairs n) c t = mores c (AFirst n ∷ AToken kinds.Equal ∷ AColumn �
 moves (MoreLinked n) c t = mores c (ALinked n ∷ MoreLinked (n + 1) ∷ []) (MoreLinked n) t (λ a b p h. (_, one_more p h.1.1 (ends (MoreLinked (n + 1)) h.0 b h.2).1)) (λ a. ([], no_more)) t.kind refl
 moves (ASource d) c t = sources c d (ASource d) t (λ a b y p. (y, p)) t.kind refl
 moves (ASteps d) c t = steps_moves c d t t.kind refl
-moves (AStep d) c t = step_moves c d t t.kind refl
+moves (AStep d) c t = step_moves c d t (step_symbols d t.kind) (step_is d t t.kind refl)
 moves (AUnited d) c t = united_moves c d t t.kind refl
 moves (APrim d) c t = prim_moves c d t (is_short t) t.kind refl
 moves (AnAnds d) c t = ands_moves c d t t.kind refl
 moves (AnOrs d) c t = ors_moves c d t t.kind refl
+moves AnOn c t = on_moves c t t.kind refl
 moves AnOp c t = op_moves c t t.kind refl
 moves ATerm c t = term_moves c t (is_short t) t.kind refl
 moves (AStmts y) c t = stmts_moves y t t.kind refl

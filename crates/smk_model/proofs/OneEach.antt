@@ -21,7 +21,7 @@ use Rattle.smk_model.proofs.Classes.{key_test, found_below, known_key, class_at}
 
 -- tests of one place
 
-same_test : (a b : ℕ) → nat_eq a b ≡ nat_eq b a
+pub same_test : (a b : ℕ) → nat_eq a b ≡ nat_eq b a
 same_test a b = elim (cases_eq a b) [
   | inl e ↦ eq-eqb a b e ∙ sym (eq-eqb b a (sym e))
   | inr ne ↦ ne_eqb a b ne ∙ sym (ne_eqb b a (λ e. ne (sym e)))

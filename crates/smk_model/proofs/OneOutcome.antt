@@ -1,20 +1,17 @@
 -- A run has one outcome, and a script one list of readings.
-use Rattle.std.specs.Prelude.{Option, Some, Result, Ok, Err, cond}
-use Rattle.std.specs.List.{list_all}
+use Rattle.std.specs.Prelude.{Option, Some, Result, Ok, Err}
 use Rattle.std.proofs.Common.{◌≡◌, ℕ, List, ap, subst, refl}
 use Rattle.smk_base.specs.CatalogImage.{CatalogImage}
 use Rattle.smk_base.specs.Trees.{StmtImage}
 use Rattle.smk_base.specs.declared.fault.Fault.{Fault}
-use Rattle.smk_base.specs.declared.fault.Fault.TheVariants.{Form}
 use Rattle.smk_model.specs.Readings.{Reading, Asks, IsReading, says_nothing, asks, leaves, AreReadings, no_line, one_line}
-use Rattle.smk_model.specs.Forms.{is_reading_answered}
-use Rattle.smk_model.specs.Words.{Words, book_of, script_of}
-use Rattle.smk_model.specs.Outcome.{Held, Parses, spells, misspells, BookSays, unparsed, parsed, FileSays, unread, read, ScriptSays, lines_read, OpensBook, OpensScript, no_script, a_script, Inputs, ReadsInputs, unusable, no_book, no_tables, no_readings, inputs, unreadable}
+use Rattle.smk_model.specs.Words.{Words, words_of}
+use Rattle.smk_model.specs.Outcome.{Held, Parses, spells, misspells, BookSays, unparsed, parsed, FileSays, unread, read, ScriptSays, lines_read, OpensBook, OpensScript, no_script, a_script, Inputs, ReadsFiles, no_book, no_tables, no_readings, inputs, source_of, book_of, script_of, ReadsInputs, unusable, usable, unreadable}
 use Rattle.smk_model.specs.OutcomeLaws.{OneReading, OneInputs, OneOutcome}
 use Rattle.smk_model.proofs.Unique.{one_book, one_line as one_asked}
 use Rattle.smk_model.proofs.Texts.{texts_are_read}
 
-same_reading : {text : List ℕ} {a b : Reading} → IsReading text a → IsReading text b → a ≡ b
+pub same_reading : {text : List ℕ} {a b : Reading} → IsReading text a → IsReading text b → a ≡ b
 same_reading (says_nothing h) (says_nothing k) = refl
 same_reading (says_nothing h) (asks n w) = absurd (n h)
 same_reading (says_nothing h) (leaves n f p) = absurd (n h)
@@ -25,7 +22,7 @@ same_reading (leaves n f p) (says_nothing k) = absurd (n k)
 same_reading (leaves n f p) (asks m v) = let e = texts_are_read.line _ _ v in absurd (cc)
 same_reading (leaves n f p) (leaves m g q) = cc
 
-same_readings : {texts : List (List ℕ)} {a b : List Reading} → AreReadings texts a → AreReadings texts b → a ≡ b
+pub same_readings : {texts : List (List ℕ)} {a b : List Reading} → AreReadings texts a → AreReadings texts b → a ≡ b
 same_readings no_line no_line = refl
 same_readings (one_line p l) (one_line q m) = let r = same_reading p q in let s = same_readings l m in cc
 
@@ -38,14 +35,14 @@ same_parse (spells p h) (misspells k) = absurd (cc)
 same_parse (misspells h) (spells q k) = absurd (cc)
 same_parse (misspells h) (misspells k) = cc
 
-same_book : {name bytes : List ℕ} {a b : Result CatalogImage Fault} → BookSays name bytes a → BookSays name bytes b → a ≡ b
+same_book : {bytes : List ℕ} {a b : Result CatalogImage Fault} → BookSays bytes a → BookSays bytes b → a ≡ b
 same_book (unparsed p) (unparsed q) = let r = same_parse p q in cc
 same_book (unparsed p) (parsed q k) = let r = same_parse p q in absurd (cc)
 same_book (parsed p h) (unparsed q) = let r = same_parse p q in absurd (cc)
 same_book (parsed p h) (parsed q k) = let r = same_parse p q in cc
 
-same_script : {name bytes : List ℕ} {a b : Result (List Reading) Fault} → ScriptSays name bytes a → ScriptSays name bytes b → a ≡ b
-same_script {name} (lines_read p) (lines_read q) = ap (λ readings. cond (list_all is_reading_answered readings) (Ok readings) (Err (Form name))) (same_readings p q)
+same_script : {bytes : List ℕ} {a b : Result (List Reading) Fault} → ScriptSays bytes a → ScriptSays bytes b → a ≡ b
+same_script (lines_read p) (lines_read q) = ap Ok (same_readings p q)
 
 -- a file says one thing, where its bytes do
 same_file : {A : Type 0} {held : Held} {name : List ℕ} {says : List ℕ → Result A Fault → Type 0} {a b : Result A Fault}
@@ -57,45 +54,40 @@ same_file {A} {held} {name} {says} {a} {b} one (read {bytes} h p) (read {bytes =
     let e : others ≡ bytes = cc in
     one bytes a b p (subst (λ l. says l b) e q)
 
+same_opened : {held : Held} {book : List ℕ} {a b : Result CatalogImage Fault} → OpensBook held book a → OpensBook held book b → a ≡ b
+same_opened p q = same_file (λ bytes x y h k. same_book h k) p q
+
+same_read : {held : Held} {s : Option (List ℕ)} {a b : Result (List Reading) Fault} → OpensScript held s a → OpensScript held s b → a ≡ b
+same_read no_script no_script = refl
+same_read (a_script p) (a_script q) = same_file (λ bytes x y h k. same_script h k) p q
+
+same_files : {held : Held} {book : List ℕ} {script : Option (List ℕ)} {a b : Result Inputs Fault} → ReadsFiles held book script a → ReadsFiles held book script b → a ≡ b
+same_files (no_book b) (no_book c) = let o = same_opened b c in cc
+same_files (no_book b) (no_tables c u) = let o = same_opened b c in absurd (cc)
+same_files (no_book b) (no_readings c u r) = let o = same_opened b c in absurd (cc)
+same_files (no_book b) (inputs c u r) = let o = same_opened b c in absurd (cc)
+same_files (no_tables b t) (no_book c) = let o = same_opened b c in absurd (cc)
+same_files (no_tables b t) (no_tables c u) = let o = same_opened b c in cc
+same_files (no_tables b t) (no_readings c u r) = let o = same_opened b c in absurd (cc)
+same_files (no_tables b t) (inputs c u r) = let o = same_opened b c in absurd (cc)
+same_files (no_readings b t s) (no_book c) = let o = same_opened b c in absurd (cc)
+same_files (no_readings b t s) (no_tables c u) = let o = same_opened b c in absurd (cc)
+same_files (no_readings b t s) (no_readings c u r) = let o = same_opened b c in let f = same_read s r in cc
+same_files (no_readings b t s) (inputs c u r) = let o = same_opened b c in let f = same_read s r in absurd (cc)
+same_files (inputs b t s) (no_book c) = let o = same_opened b c in absurd (cc)
+same_files (inputs b t s) (no_tables c u) = let o = same_opened b c in absurd (cc)
+same_files (inputs b t s) (no_readings c u r) = let o = same_opened b c in let f = same_read s r in absurd (cc)
+same_files (inputs b t s) (inputs c u r) = let o = same_opened b c in let f = same_read s r in cc
+
 same_words : {read : Option Words} {u v : Words} → read ≡ Some u → read ≡ Some v → v ≡ u
 same_words h k = cc
 
-same_opened : {held : Held} {u v : Words} {a b : Result CatalogImage Fault} → v ≡ u → OpensBook held (book_of u) a → OpensBook held (book_of v) b → a ≡ b
-same_opened {held} {u} {v} {a} {b} e p q = same_file (λ bytes x y h k. same_book h k) p (subst (λ (w : Words). OpensBook held (book_of w) b) e q)
-
-same_scripts : {held : Held} {s : Option (List ℕ)} {a b : Result (List Reading) Fault} → OpensScript held s a → OpensScript held s b → a ≡ b
-same_scripts no_script no_script = refl
-same_scripts (a_script p) (a_script q) = same_file (λ bytes x y h k. same_script h k) p q
-
-same_read : {held : Held} {u v : Words} {a b : Result (List Reading) Fault} → v ≡ u → OpensScript held (script_of u) a → OpensScript held (script_of v) b → a ≡ b
-same_read {held} {u} {v} {a} {b} e p q = same_scripts p (subst (λ (w : Words). OpensScript held (script_of w) b) e q)
-
 same_inputs : {words : List (List ℕ)} {held : Held} {a b : Result Inputs Fault} → ReadsInputs words held a → ReadsInputs words held b → a ≡ b
 same_inputs (unusable w) (unusable v) = refl
-same_inputs (unusable w) (no_book v c) = absurd (cc)
-same_inputs (unusable w) (no_tables v c u) = absurd (cc)
-same_inputs (unusable w) (no_readings v c u r) = absurd (cc)
-same_inputs (unusable w) (inputs v c u r) = absurd (cc)
-same_inputs (no_book w b) (unusable v) = absurd (cc)
-same_inputs (no_book w b) (no_book v c) = let e = same_words w v in let o = same_opened e b c in cc
-same_inputs (no_book w b) (no_tables v c u) = let e = same_words w v in let o = same_opened e b c in absurd (cc)
-same_inputs (no_book w b) (no_readings v c u r) = let e = same_words w v in let o = same_opened e b c in absurd (cc)
-same_inputs (no_book w b) (inputs v c u r) = let e = same_words w v in let o = same_opened e b c in absurd (cc)
-same_inputs (no_tables w b t) (unusable v) = absurd (cc)
-same_inputs (no_tables w b t) (no_book v c) = let e = same_words w v in let o = same_opened e b c in absurd (cc)
-same_inputs (no_tables w b t) (no_tables v c u) = let e = same_words w v in let o = same_opened e b c in cc
-same_inputs (no_tables w b t) (no_readings v c u r) = let e = same_words w v in let o = same_opened e b c in absurd (cc)
-same_inputs (no_tables w b t) (inputs v c u r) = let e = same_words w v in let o = same_opened e b c in absurd (cc)
-same_inputs (no_readings w b t s) (unusable v) = absurd (cc)
-same_inputs (no_readings w b t s) (no_book v c) = let e = same_words w v in let o = same_opened e b c in absurd (cc)
-same_inputs (no_readings w b t s) (no_tables v c u) = let e = same_words w v in let o = same_opened e b c in absurd (cc)
-same_inputs (no_readings w b t s) (no_readings v c u r) = let e = same_words w v in let o = same_opened e b c in let f = same_read e s r in cc
-same_inputs (no_readings w b t s) (inputs v c u r) = let e = same_words w v in let o = same_opened e b c in let f = same_read e s r in absurd (cc)
-same_inputs (inputs w b t s) (unusable v) = absurd (cc)
-same_inputs (inputs w b t s) (no_book v c) = let e = same_words w v in let o = same_opened e b c in absurd (cc)
-same_inputs (inputs w b t s) (no_tables v c u) = let e = same_words w v in let o = same_opened e b c in absurd (cc)
-same_inputs (inputs w b t s) (no_readings v c u r) = let e = same_words w v in let o = same_opened e b c in let f = same_read e s r in absurd (cc)
-same_inputs (inputs w b t s) (inputs v c u r) = let e = same_words w v in let o = same_opened e b c in let f = same_read e s r in cc
+same_inputs (unusable w) (usable v q) = absurd (cc)
+same_inputs (usable w p) (unusable v) = absurd (cc)
+same_inputs {held = held} {b = b} (usable w p) (usable v q) =
+    same_files p (subst (λ (ws : Words). ReadsFiles (source_of ws held) (book_of ws) (script_of ws) b) (same_words w v) q)
 
 pub one_inputs : OneInputs
 one_inputs words held a b p q = same_inputs p q

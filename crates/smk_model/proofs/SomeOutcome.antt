@@ -16,8 +16,8 @@ use Rattle.smk_model.specs.Lines.{lines, place_of}
 use Rattle.smk_model.specs.Typing.{types}
 use Rattle.smk_model.specs.Readings.{Reading, Nothing, Asks, Unread, IsReading, says_nothing, asks, leaves, AreReadings, no_line, one_line}
 use Rattle.smk_model.specs.Reports.{Report}
-use Rattle.smk_model.specs.Words.{Words, book_of, script_of, words_of}
-use Rattle.smk_model.specs.Outcome.{Held, Parses, spells, misspells, BookSays, unparsed, parsed, FileSays, unread, read, ScriptSays, lines_read, OpensBook, OpensScript, no_script, a_script, Inputs, ReadsInputs, unusable, no_book, no_tables, no_readings, inputs, Outcome, unreadable, content_of, load_all, answered_book, reported}
+use Rattle.smk_model.specs.Words.{Words, words_of}
+use Rattle.smk_model.specs.Outcome.{Held, Parses, spells, misspells, BookSays, unparsed, parsed, FileSays, unread, read, ScriptSays, lines_read, OpensBook, OpensScript, no_script, a_script, Inputs, ReadsFiles, no_book, no_tables, no_readings, inputs, source_of, book_of, script_of, ReadsInputs, unusable, usable, Outcome, unreadable, content_of, load_all, or_type_fault, reported}
 use Rattle.smk_model.specs.OutcomeLaws.{FaultlessTextsSpell, SomeReading, SomeOutcome}
 use Rattle.smk_model.proofs.Sound.{faultless_have_trees}
 use Rattle.smk_model.proofs.Closing.{book_finishes, line_finishes}
@@ -47,11 +47,11 @@ some_parse text = by (book_fault (tokens text)) refl
     by (Some f) e = (Err (Book f), misspells e)
     by None e = let r = faultless_texts_spell text e in (Ok r.0, spells r.1 e)
 
-some_book : (name bytes : List ℕ) → (answer : Result CatalogImage Fault) × BookSays name bytes answer
-some_book name bytes = let r = some_parse (after_marks bytes) in by r.0 r.1
+some_book : (bytes : List ℕ) → (answer : Result CatalogImage Fault) × BookSays bytes answer
+some_book bytes = let r = some_parse (after_marks bytes) in by r.0 r.1
   where
-    by : (a : Result (List StmtImage) Fault) → Parses (after_marks bytes) a → (answer : Result CatalogImage Fault) × BookSays name bytes answer
-    by (Ok stmts) p = (answered_book name (types stmts), parsed p refl)
+    by : (a : Result (List StmtImage) Fault) → Parses (after_marks bytes) a → (answer : Result CatalogImage Fault) × BookSays bytes answer
+    by (Ok stmts) p = (or_type_fault (types stmts), parsed p refl)
     by (Err fault) p = (Err fault, unparsed p)
 
 -- a file says something, where all bytes do
@@ -64,28 +64,31 @@ some_file {A} held name says all = by (content_of held name) refl
 
 some_script : (held : Held) (s : Option (List ℕ)) → (answer : Result (List Reading) Fault) × OpensScript held s answer
 some_script held None = (Ok [], no_script)
-some_script held (Some name) = let r = some_file held name (ScriptSays name) (λ bytes. let q = some_reading bytes in (_, lines_read q.1)) in (r.0, a_script r.1)
+some_script held (Some name) = let r = some_file held name ScriptSays (λ bytes. let q = some_reading bytes in (Ok q.0, lines_read q.1)) in (r.0, a_script r.1)
+
+some_files : (held : Held) (book : List ℕ) (script : Option (List ℕ)) → (answer : Result Inputs Fault) × ReadsFiles held book script answer
+some_files held book script = let r = some_file held book BookSays some_book in opened r.0 r.1
+  where
+    scripted : (catalog : CatalogImage) (tables : List (List Row)) → OpensBook held book (Ok catalog) → load_all held catalog.tables ≡ Ok tables
+        → (s : Result (List Reading) Fault) → OpensScript held script s → (answer : Result Inputs Fault) × ReadsFiles held book script answer
+    scripted catalog tables b t (Ok readings) p = (_, inputs b t p)
+    scripted catalog tables b t (Err fault) p = (_, no_readings b t p)
+
+    loaded : (catalog : CatalogImage) → OpensBook held book (Ok catalog)
+        → (t : Result (List (List Row)) Fault) → load_all held catalog.tables ≡ t → (answer : Result Inputs Fault) × ReadsFiles held book script answer
+    loaded catalog b (Ok tables) e = let r = some_script held script in scripted catalog tables b e r.0 r.1
+    loaded catalog b (Err fault) e = (_, no_tables b e)
+
+    opened : (b : Result CatalogImage Fault) → OpensBook held book b → (answer : Result Inputs Fault) × ReadsFiles held book script answer
+    opened (Ok catalog) p = loaded catalog p (load_all held catalog.tables) refl
+    opened (Err fault) p = (_, no_book p)
 
 some_inputs : (words : List (List ℕ)) (held : Held) → (answer : Result Inputs Fault) × ReadsInputs words held answer
 some_inputs words held = by (words_of words) refl
   where
-    scripted : (ws : Words) (catalog : CatalogImage) (tables : List (List Row)) → words_of words ≡ Some ws → OpensBook held (book_of ws) (Ok catalog) → load_all held catalog.tables ≡ Ok tables
-        → (s : Result (List Reading) Fault) → OpensScript held (script_of ws) s → (answer : Result Inputs Fault) × ReadsInputs words held answer
-    scripted ws catalog tables w b t (Ok readings) p = (_, inputs w b t p)
-    scripted ws catalog tables w b t (Err fault) p = (_, no_readings w b t p)
-
-    loaded : (ws : Words) (catalog : CatalogImage) → words_of words ≡ Some ws → OpensBook held (book_of ws) (Ok catalog)
-        → (t : Result (List (List Row)) Fault) → load_all held catalog.tables ≡ t → (answer : Result Inputs Fault) × ReadsInputs words held answer
-    loaded ws catalog w b (Ok tables) e = let r = some_script held (script_of ws) in scripted ws catalog tables w b e r.0 r.1
-    loaded ws catalog w b (Err fault) e = (_, no_tables w b e)
-
-    opened : (ws : Words) → words_of words ≡ Some ws → (b : Result CatalogImage Fault) → OpensBook held (book_of ws) b → (answer : Result Inputs Fault) × ReadsInputs words held answer
-    opened ws w (Ok catalog) p = loaded ws catalog w p (load_all held catalog.tables) refl
-    opened ws w (Err fault) p = (_, no_book w p)
-
     by : (w : Option Words) → words_of words ≡ w → (answer : Result Inputs Fault) × ReadsInputs words held answer
     by None e = (_, unusable e)
-    by (Some ws) e = let r = some_file held (book_of ws) (BookSays (book_of ws)) (some_book (book_of ws)) in opened ws e r.0 r.1
+    by (Some ws) e = let r = some_files (source_of ws held) (book_of ws) (script_of ws) in (r.0, usable e r.1)
 
 pub some_outcome : SomeOutcome
 some_outcome words held = let r = some_inputs words held in by r.0 r.1

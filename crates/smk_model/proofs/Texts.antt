@@ -22,8 +22,8 @@ use Rattle.smk_base.specs.declared.tree.Then.{Then}
 use Rattle.smk_base.specs.declared.tree.Line.{Line}
 use Rattle.smk_base.specs.Trees.{PredImage, TreeImage, StepImage, StmtImage, TableNode, ViewNode}
 use Rattle.smk_model.specs.Tokens.{Token, head_of, int_value}
-use Rattle.smk_model.specs.Grammar.{First, IsName, name, IsColumn, number, string, IsFile, file, listed, IsType, int_type, text_type, IsDefault, no_default, default, IsDecl, decl, IsNamed, by_itself, by_as, IsWidth, width, IsItem, column_item, bin_item, IsWhat, count, sum, min, max, IsAgg, agg, AreKeys, no_keys, keys, AreAggs, no_aggs, aggs, IsPair, pair, IsOp, eq, ne, lt, le, gt, ge, IsTerm, column_term, literal_term, IsPrim, negated, bracketed, compared, IsConj, conj, AreAnds, no_and, one_and, IsPred, pred, AreOrs, no_or, one_or, IsPlan, plan, IsSource, scan, inner_plan, AreSteps, no_step, one_step, IsStep, where_step, project_step, distinct_step, group_step, join_step, union_all_step, union_step, IsExtra, no_extra, by_extra, group_extra, table_stmt, view_stmt, back_stmt, fwd_stmt, link_stmt, AreStmts, no_stmt, one_stmt, IsMark, mark, AreMarks, all_marks, listed_marks, IsThen, no_then, where_then, group_then, IsLine, show_line, back_line, fwd_line, brush_line, clear_line, clear_one_line, IsWholeLine, whole_line}
-use Rattle.smk_model.specs.Machine.{Counts, Tally, Symbol, Skips, Outside, fault_in, book_symbols, line_symbols, no_counts, book_fault, line_fault, is_mark, is_short, at_more, at_default, at_as, at_keys, at_aggs, at_ands, at_ors, at_steps, at_extra, at_then, at_cleared, at_stmts, at_end, AToken, AName, AColumn, AWidth, AType, ADefault, AnAs, AWhat, AKeys, AnAggs, AFirst, AnItem, ALinked, MoreDecls, MoreItems, MoreKeys, MoreAggs, MorePairs, MoreLinked, ASource, ASteps, AStep, AUnited, APrim, AnAnds, AnOrs, AnOp, ATerm, AStmts, AnExtra, ALine, ALineName, ALineColumn, AMarks, AMark, MoreMarks, AThen}
+use Rattle.smk_model.specs.Grammar.{First, IsName, name, IsColumn, number, string, IsFile, file, listed, IsType, int_type, text_type, IsDefault, no_default, default, IsDecl, decl, IsNamed, by_itself, by_as, IsWidth, width, IsItem, column_item, bin_item, IsWhat, count, sum, min, max, IsAgg, agg, AreKeys, no_keys, keys, AreAggs, no_aggs, aggs, IsPair, pair, IsOp, eq, ne, lt, le, gt, ge, IsTerm, column_term, literal_term, IsPrim, negated, bracketed, compared, IsConj, conj, AreAnds, no_and, one_and, IsPred, pred, AreOrs, no_or, one_or, IsPlan, plan, IsSource, scan, inner_plan, AreSteps, no_step, one_step, IsStep, where_step, project_step, distinct_step, group_step, join_step, theta_step, product_step, union_all_step, union_step, IsExtra, no_extra, by_extra, group_extra, table_stmt, view_stmt, back_stmt, fwd_stmt, link_stmt, AreStmts, no_stmt, one_stmt, IsMark, mark, AreMarks, all_marks, listed_marks, IsThen, no_then, where_then, group_then, IsLine, show_line, back_line, fwd_line, brush_line, clear_line, clear_one_line, IsWholeLine, whole_line}
+use Rattle.smk_model.specs.Machine.{Counts, Tally, Symbol, Skips, Outside, fault_in, book_symbols, line_symbols, no_counts, book_fault, line_fault, is_mark, is_short, at_more, at_default, at_as, at_keys, at_aggs, at_ands, at_ors, at_steps, at_extra, at_then, at_cleared, at_stmts, at_end, AToken, AName, AColumn, AWidth, AType, ADefault, AnAs, AWhat, AKeys, AnAggs, AFirst, AnItem, ALinked, MoreDecls, MoreItems, MoreKeys, MoreAggs, MorePairs, MoreLinked, ASource, ASteps, AStep, AUnited, APrim, AnAnds, AnOrs, AnOn, AnOp, ATerm, AStmts, AnExtra, ALine, ALineName, ALineColumn, AMarks, AMark, MoreMarks, AThen}
 use Rattle.smk_model.specs.Limits.{Divides, KeepsItems, KeepsTree, KeepsStep, nodes, nodes_of_step, DefaultInRange, KeepsDecls, KeepsPlan, KeepsStmt, is_table, is_view}
 use Rattle.smk_model.specs.GrammarLaws.{AtMostTooMany, TextsAreRead}
 use Rattle.smk_model.proofs.Unique.{rank, rank_of, ranked, aggs_rank, ors_rank, steps_rank, stmts_rank}
@@ -206,6 +206,9 @@ aggs_text (aggs h l k) n = opens h (λ c. taken c) (both (untold (listed_text so
 grouping_text : {a b e : List Token} {ws : List Word} {xs : List AggTree} → AreKeys a b ws → AreAggs b e xs → 4 ≤ rank_of e → Reads (AKeys ∷ AnAggs ∷ []) a e
 grouping_text h k n = then_goes (keys_text h (aggs_rank k n)) (aggs_text k n)
 
+on_text : {a b : List Token} {t : Token} → First kinds.On t a b → Reads (AnOn ∷ []) a b
+on_text h = opens h (λ c. known refl tt) nothing
+
 op_text : {a b : List Token} {o : CmpOp} → IsOp a b o → Reads (AnOp ∷ []) a b
 op_text (eq h) = opens h (λ c. taken c) nothing
 op_text (ne h) = opens h (λ c. taken c) nothing
@@ -268,6 +271,8 @@ mutual
   step_text (distinct_step h l) n d = told (λ r f. kept_items f) (node_opens h (λ c. one_node c _ refl) (listed_text some_items l (omega (arith, n))))
   step_text (group_step h k l) n d = node_opens h (λ c. one_node c _ refl) (grouping_text k l (omega (arith, n)))
   step_text (join_step h p k l) n d = node_opens h (λ c. one_node c _ refl) (ahead (source_text p d) (then_goes (token_text k refl) (untold (listed_text some_pairs l (omega (arith, n))))))
+  step_text (theta_step h p k q) n d = node_opens h (λ c. one_node c _ refl) (ahead (source_text p d) (then_goes (on_text k) (pred_text q n d)))
+  step_text (product_step h p) n d = node_opens h (λ c. one_node c _ refl) (source_text p d)
   step_text (union_all_step h k p) n d = node_opens h (λ c. one_node c _ refl) (opens k (λ c. taken c) (source_text p d))
   step_text (union_step h p) n d = node_opens h (λ c. one_node c _ refl) (united_text p d)
 

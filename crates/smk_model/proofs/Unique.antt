@@ -19,9 +19,9 @@ use Rattle.smk_base.specs.declared.tree.Marks.TheVariants as markings
 use Rattle.smk_base.specs.declared.tree.Then.{Then}
 use Rattle.smk_base.specs.declared.tree.Line.{Line}
 use Rattle.smk_base.specs.declared.tree.Line.TheVariants as lines
-use Rattle.smk_base.specs.Trees.{PredImage, NotNode, TreeImage, ScanNode, StepImage, SelectNode, ProjectNode, DistinctNode, UnionAllNode, UnionNode, StmtImage}
+use Rattle.smk_base.specs.Trees.{PredImage, NotNode, TreeImage, ScanNode, StepImage, SelectNode, ProjectNode, DistinctNode, GroupNode, JoinNode, ThetaNode, ProductNode, UnionAllNode, UnionNode, StmtImage}
 use Rattle.smk_model.specs.Tokens.{Token, head_of, tail_of, int_value, string_value}
-use Rattle.smk_model.specs.Grammar.{First, plain_word, quoted_word, IsName, name, IsColumn, plain, quoted, IsLiteral, number, string, IsFile, file, AreMore, no_more, one_more, AreListed, listed, IsType, int_type, text_type, IsDefault, no_default, default, IsDecl, decl, IsNamed, by_itself, by_as, IsWidth, width, IsItem, column_item, bin_item, IsWhat, count, sum, min, max, IsAgg, agg, AreKeys, no_keys, keys, AreAggs, no_aggs, aggs, IsPair, pair, IsOp, eq, ne, lt, le, gt, ge, IsTerm, column_term, literal_term, IsPrim, negated, bracketed, compared, IsConj, conj, AreAnds, no_and, one_and, IsPred, pred, AreOrs, no_or, one_or, IsPlan, plan, IsSource, scan, inner_plan, AreSteps, no_step, one_step, IsStep, where_step, project_step, distinct_step, group_step, join_step, union_all_step, union_step, IsExtra, no_extra, by_extra, group_extra, IsStmt, table_stmt, view_stmt, back_stmt, fwd_stmt, link_stmt, AreStmts, no_stmt, one_stmt, IsMark, mark, AreMarks, all_marks, listed_marks, IsThen, no_then, where_then, group_then, IsLine, show_line, back_line, fwd_line, brush_line, clear_line, clear_one_line, IsWholeLine, whole_line}
+use Rattle.smk_model.specs.Grammar.{First, plain_word, quoted_word, IsName, name, IsColumn, plain, quoted, IsLiteral, number, string, IsFile, file, AreMore, no_more, one_more, AreListed, listed, IsType, int_type, text_type, IsDefault, no_default, default, IsDecl, decl, IsNamed, by_itself, by_as, IsWidth, width, IsItem, column_item, bin_item, IsWhat, count, sum, min, max, IsAgg, agg, AreKeys, no_keys, keys, AreAggs, no_aggs, aggs, IsPair, pair, IsOp, eq, ne, lt, le, gt, ge, IsTerm, column_term, literal_term, IsPrim, negated, bracketed, compared, IsConj, conj, AreAnds, no_and, one_and, IsPred, pred, AreOrs, no_or, one_or, IsPlan, plan, IsSource, scan, inner_plan, AreSteps, no_step, one_step, IsStep, where_step, project_step, distinct_step, group_step, join_step, theta_step, product_step, union_all_step, union_step, IsExtra, no_extra, by_extra, group_extra, IsStmt, table_stmt, view_stmt, back_stmt, fwd_stmt, link_stmt, AreStmts, no_stmt, one_stmt, IsMark, mark, AreMarks, all_marks, listed_marks, IsThen, no_then, where_then, group_then, IsLine, show_line, back_line, fwd_line, brush_line, clear_line, clear_one_line, IsWholeLine, whole_line}
 
 -- how strongly a token continues what stands before it
 abbrev pub rank : TokenKind → ℕ
@@ -289,6 +289,32 @@ source_rank : {a b : List Token} {x : TreeImage} → IsSource a b x → {t : Tok
 source_rank (scan h p) e k = let r = same_at e h k in absurd (cc)
 source_rank (inner_plan h p i) e k = let r = same_at e h k in absurd (cc)
 
+first_kind : {k : TokenKind} {t : Token} {a b : List Token} → First k t a b → (head_of a).kind ≡ k
+first_kind h = ap (λ l. (head_of l).kind) h.is_first ∙ h.is_kind
+
+-- the keyword that begins a step
+abbrev step_opener : StepImage → TokenKind
+step_opener (SelectNode test) = kinds.Where
+step_opener (ProjectNode items) = kinds.Project
+step_opener (DistinctNode items) = kinds.Distinct
+step_opener (GroupNode ws xs) = kinds.Group
+step_opener (JoinNode source pairs) = kinds.Join
+step_opener (ThetaNode source test) = kinds.Theta
+step_opener (ProductNode source) = kinds.Product
+step_opener (UnionAllNode source) = kinds.Union
+step_opener (UnionNode source) = kinds.Union
+
+step_opening : {a b : List Token} {o : ℕ} {x : StepImage} → IsStep a b o x → (head_of a).kind ≡ step_opener x
+step_opening (where_step h p) = first_kind h
+step_opening (project_step h l) = first_kind h
+step_opening (distinct_step h l) = first_kind h
+step_opening (group_step h k l) = first_kind h
+step_opening (join_step h p k l) = first_kind h
+step_opening (theta_step h p k q) = first_kind h
+step_opening (product_step h p) = first_kind h
+step_opening (union_all_step h k p) = first_kind h
+step_opening (union_step h p) = first_kind h
+
 mutual
   one_source : {a a' b c : List Token} {x y : TreeImage} → a ≡ a' → IsSource a b x → IsSource a' c y → (x ≡ y) × (b ≡ c)
   one_source e (scan h p) (scan k q) = let r = same_at e h k in let s = one_name r.2 p q in (ap ScanNode s.0, s.1)
@@ -313,54 +339,17 @@ mutual
 
   the_step : {a a' b c : List Token} {o o' : ℕ} {x y : StepImage} → a ≡ a' → IsStep a b o x → IsStep a' c o' y → 6 ≤ rank_of b → 6 ≤ rank_of c → (o ≡ o') × (x ≡ y) × (b ≡ c)
   the_step e (where_step h0 h1) (where_step k0 k1) n m = let r = same_at e h0 k0 in let s = one_pred r.2 h1 k1 n m in (ap (λ t. t.at) r.1, ap SelectNode s.0, s.1)
-  the_step e (where_step h0 h1) (project_step k0 k1) n m = let r = same_at e h0 k0 in absurd (cc)
-  the_step e (where_step h0 h1) (distinct_step k0 k1) n m = let r = same_at e h0 k0 in absurd (cc)
-  the_step e (where_step h0 h1) (group_step k0 k1 k2) n m = let r = same_at e h0 k0 in absurd (cc)
-  the_step e (where_step h0 h1) (join_step k0 k1 k2 k3) n m = let r = same_at e h0 k0 in absurd (cc)
-  the_step e (where_step h0 h1) (union_all_step k0 k1 k2) n m = let r = same_at e h0 k0 in absurd (cc)
-  the_step e (where_step h0 h1) (union_step k0 k1) n m = let r = same_at e h0 k0 in absurd (cc)
-  the_step e (project_step h0 h1) (where_step k0 k1) n m = let r = same_at e h0 k0 in absurd (cc)
   the_step e (project_step h0 h1) (project_step k0 k1) n m = let r = same_at e h0 k0 in let s = one_list one_item r.2 h1 k1 (omega (arith, n)) (omega (arith, m)) in (ap (λ t. t.at) r.1, ap ProjectNode s.0, s.1)
-  the_step e (project_step h0 h1) (distinct_step k0 k1) n m = let r = same_at e h0 k0 in absurd (cc)
-  the_step e (project_step h0 h1) (group_step k0 k1 k2) n m = let r = same_at e h0 k0 in absurd (cc)
-  the_step e (project_step h0 h1) (join_step k0 k1 k2 k3) n m = let r = same_at e h0 k0 in absurd (cc)
-  the_step e (project_step h0 h1) (union_all_step k0 k1 k2) n m = let r = same_at e h0 k0 in absurd (cc)
-  the_step e (project_step h0 h1) (union_step k0 k1) n m = let r = same_at e h0 k0 in absurd (cc)
-  the_step e (distinct_step h0 h1) (where_step k0 k1) n m = let r = same_at e h0 k0 in absurd (cc)
-  the_step e (distinct_step h0 h1) (project_step k0 k1) n m = let r = same_at e h0 k0 in absurd (cc)
   the_step e (distinct_step h0 h1) (distinct_step k0 k1) n m = let r = same_at e h0 k0 in let s = one_list one_item r.2 h1 k1 (omega (arith, n)) (omega (arith, m)) in (ap (λ t. t.at) r.1, ap DistinctNode s.0, s.1)
-  the_step e (distinct_step h0 h1) (group_step k0 k1 k2) n m = let r = same_at e h0 k0 in absurd (cc)
-  the_step e (distinct_step h0 h1) (join_step k0 k1 k2 k3) n m = let r = same_at e h0 k0 in absurd (cc)
-  the_step e (distinct_step h0 h1) (union_all_step k0 k1 k2) n m = let r = same_at e h0 k0 in absurd (cc)
-  the_step e (distinct_step h0 h1) (union_step k0 k1) n m = let r = same_at e h0 k0 in absurd (cc)
-  the_step e (group_step h0 h1 h2) (where_step k0 k1) n m = let r = same_at e h0 k0 in absurd (cc)
-  the_step e (group_step h0 h1 h2) (project_step k0 k1) n m = let r = same_at e h0 k0 in absurd (cc)
-  the_step e (group_step h0 h1 h2) (distinct_step k0 k1) n m = let r = same_at e h0 k0 in absurd (cc)
   the_step e (group_step h0 h1 h2) (group_step k0 k1 k2) n m = let r = same_at e h0 k0 in let s = one_keys r.2 h1 k1 (aggs_rank h2 (omega (arith, n))) (aggs_rank k2 (omega (arith, m))) in let u = one_aggs s.1 h2 k2 (omega (arith, n)) (omega (arith, m)) in (ap (λ t. t.at) r.1, cc, u.1)
-  the_step e (group_step h0 h1 h2) (join_step k0 k1 k2 k3) n m = let r = same_at e h0 k0 in absurd (cc)
-  the_step e (group_step h0 h1 h2) (union_all_step k0 k1 k2) n m = let r = same_at e h0 k0 in absurd (cc)
-  the_step e (group_step h0 h1 h2) (union_step k0 k1) n m = let r = same_at e h0 k0 in absurd (cc)
-  the_step e (join_step h0 h1 h2 h3) (where_step k0 k1) n m = let r = same_at e h0 k0 in absurd (cc)
-  the_step e (join_step h0 h1 h2 h3) (project_step k0 k1) n m = let r = same_at e h0 k0 in absurd (cc)
-  the_step e (join_step h0 h1 h2 h3) (distinct_step k0 k1) n m = let r = same_at e h0 k0 in absurd (cc)
-  the_step e (join_step h0 h1 h2 h3) (group_step k0 k1 k2) n m = let r = same_at e h0 k0 in absurd (cc)
   the_step e (join_step h0 h1 h2 h3) (join_step k0 k1 k2 k3) n m = let r = same_at e h0 k0 in let s = one_source r.2 h1 k1 in let u = same_at s.1 h2 k2 in let v = one_list one_pair u.2 h3 k3 (omega (arith, n)) (omega (arith, m)) in (ap (λ t. t.at) r.1, cc, v.1)
-  the_step e (join_step h0 h1 h2 h3) (union_all_step k0 k1 k2) n m = let r = same_at e h0 k0 in absurd (cc)
-  the_step e (join_step h0 h1 h2 h3) (union_step k0 k1) n m = let r = same_at e h0 k0 in absurd (cc)
-  the_step e (union_all_step h0 h1 h2) (where_step k0 k1) n m = let r = same_at e h0 k0 in absurd (cc)
-  the_step e (union_all_step h0 h1 h2) (project_step k0 k1) n m = let r = same_at e h0 k0 in absurd (cc)
-  the_step e (union_all_step h0 h1 h2) (distinct_step k0 k1) n m = let r = same_at e h0 k0 in absurd (cc)
-  the_step e (union_all_step h0 h1 h2) (group_step k0 k1 k2) n m = let r = same_at e h0 k0 in absurd (cc)
-  the_step e (union_all_step h0 h1 h2) (join_step k0 k1 k2 k3) n m = let r = same_at e h0 k0 in absurd (cc)
+  the_step e (theta_step h0 h1 h2 h3) (theta_step k0 k1 k2 k3) n m = let r = same_at e h0 k0 in let s = one_source r.2 h1 k1 in let u = same_at s.1 h2 k2 in let v = one_pred u.2 h3 k3 n m in (ap (λ t. t.at) r.1, cc, v.1)
+  the_step e (product_step h0 h1) (product_step k0 k1) n m = let r = same_at e h0 k0 in let u = one_source r.2 h1 k1 in (ap (λ t. t.at) r.1, ap ProductNode u.0, u.1)
   the_step e (union_all_step h0 h1 h2) (union_all_step k0 k1 k2) n m = let r = same_at e h0 k0 in let s = same_at r.2 h1 k1 in let u = one_source s.2 h2 k2 in (ap (λ t. t.at) r.1, ap UnionAllNode u.0, u.1)
   the_step e (union_all_step h0 h1 h2) (union_step k0 k1) n m = let r = same_at e h0 k0 in absurd (source_rank k1 (sym r.2) h1)
-  the_step e (union_step h0 h1) (where_step k0 k1) n m = let r = same_at e h0 k0 in absurd (cc)
-  the_step e (union_step h0 h1) (project_step k0 k1) n m = let r = same_at e h0 k0 in absurd (cc)
-  the_step e (union_step h0 h1) (distinct_step k0 k1) n m = let r = same_at e h0 k0 in absurd (cc)
-  the_step e (union_step h0 h1) (group_step k0 k1 k2) n m = let r = same_at e h0 k0 in absurd (cc)
-  the_step e (union_step h0 h1) (join_step k0 k1 k2 k3) n m = let r = same_at e h0 k0 in absurd (cc)
   the_step e (union_step h0 h1) (union_all_step k0 k1 k2) n m = let r = same_at e h0 k0 in absurd (source_rank h1 r.2 k1)
   the_step e (union_step h0 h1) (union_step k0 k1) n m = let r = same_at e h0 k0 in let u = one_source r.2 h1 k1 in (ap (λ t. t.at) r.1, ap UnionNode u.0, u.1)
+  the_step e p q n m = let r = sym (step_opening p) ∙ ap (λ l. (head_of l).kind) e ∙ step_opening q in absurd (cc)
 
 one_extra : {a a' b c : List Token} {x y : Extra} → a ≡ a' → IsExtra a b x → IsExtra a' c y → 8 ≤ rank_of b → 8 ≤ rank_of c → (x ≡ y) × (b ≡ c)
 one_extra e no_extra no_extra n m = (refl, e)
@@ -452,9 +441,6 @@ opener (lines.Fwd table rows view) = kinds.Fwd
 opener (lines.Brush view marks table) = kinds.Brush
 opener lines.Clear = kinds.Clear
 opener (lines.ClearOne view table) = kinds.Clear
-
-first_kind : {k : TokenKind} {t : Token} {a b : List Token} → First k t a b → (head_of a).kind ≡ k
-first_kind h = ap (λ l. (head_of l).kind) h.is_first ∙ h.is_kind
 
 opening : {a b : List Token} {x : Line} → IsLine a b x → (head_of a).kind ≡ opener x
 opening (show_line h w) = first_kind h

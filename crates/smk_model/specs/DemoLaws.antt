@@ -1,18 +1,20 @@
--- Laws of the demo: no text of it passes a limit, and its tables are read as they were made.
-use Rattle.std.specs.Prelude.{◌≡◌, ℕ, ◌*◌, ◌/◌, ◌%◌, ◌≤◌, pos, ◌-ℤ◌, List, [], ◌∷◌, ◌++◌, length, map, All, None, Ok, codes, decimal}
+-- Laws of the demo: no text of it passes a limit, its tables are read as they were made, and its book and script say what they should.
+use Rattle.std.specs.Prelude.{◌≡◌, ℕ, ◌≤◌, List, length, map, All, Some, None, Ok}
 use Rattle.csv.specs.Reading.{records, default_config}
-use Rattle.smk_base.specs.Places.{upto}
 use Rattle.smk_base.specs.Marks.{after_marks}
-use Rattle.smk_base.specs.declared.col_decl.ColDecl.{ColDecl}
-use Rattle.smk_base.specs.declared.value.Value.TheVariants as values
-use Rattle.smk_model.specs.Values.{Row}
+use Rattle.smk_base.specs.Trees.{StmtImage}
 use Rattle.smk_model.specs.Tables.{table_of}
 use Rattle.smk_model.specs.Tokens.{tokens}
 use Rattle.smk_model.specs.Lines.{lines}
+use Rattle.smk_model.specs.Typing.{types}
+use Rattle.smk_model.specs.Readings.{AreReadingsOf}
+use Rattle.smk_model.specs.Opening.{first_view_fault}
 use Rattle.smk_model.specs.Machine.{book_fault, line_fault}
-use Rattle.smk_model.specs.Outcome.{file_limit}
-use Rattle.smk_model.specs.SessionExamples.{int_column, text_column}
-use Rattle.smk_model.specs.Demo.{demo_of, two_digits, flights, flight_records, airports, airport_records}
+use Rattle.smk_model.specs.Outcome.{file_limit, Held, Parses, load_all, Outcome}
+use Rattle.smk_model.specs.Reports.{report_of}
+use Rattle.smk_model.specs.Words.{Demo, words_of}
+use Rattle.smk_model.specs.Demo.{demo_of, flights, flight_records, airports, airport_records}
+use Rattle.smk_model.specs.DemoBook.{flight_columns, flight_rows, airport_columns, airport_rows, demo_catalog, demo_workbook, demo_readings}
 
 -- no text of the demo has more bytes than a file may have
 pub record AreShort (n : ℕ) : Type 0 where
@@ -31,29 +33,10 @@ pub record AreRead (n : ℕ) : Type 0 where
 abbrev pub DemosAreRead : Type 0
 DemosAreRead = (n : ℕ) → AreRead n
 
--- the columns that the book of the demo declares for its tables, and the rows that the tables have
-abbrev pub flight_columns : List ColDecl
-flight_columns = int_column (codes "id") ∷ text_column (codes "carrier") ∷ int_column (codes "hour") ∷ int_column (codes "delay") ∷ text_column (codes "airport") ∷ []
-
-abbrev pub flight_row : ℕ → Row
-flight_row i =
-    values.Int (pos i)
-    ∷ values.Text (codes "C" ++ decimal (i / 3 % 10))
-    ∷ values.Int (pos (5 * i % 24))
-    ∷ values.Int (pos (37 * i % 240) -ℤ pos 60)
-    ∷ values.Text (codes "A" ++ two_digits (11 * i % 40))
-    ∷ []
-
-abbrev pub airport_columns : List ColDecl
-airport_columns = text_column (codes "code") ∷ text_column (codes "state") ∷ []
-
-abbrev pub airport_row : ℕ → Row
-airport_row i = values.Text (codes "A" ++ two_digits i) ∷ values.Text (codes "S" ++ decimal (i % 8)) ∷ []
-
 -- the tables are read without a fault
 pub record AreRows (n : ℕ) : Type 0 where
-  pub flights_are : table_of flight_columns (flights n) ≡ Ok (map flight_row (upto n))
-  pub airports_are : table_of airport_columns airports ≡ Ok (map airport_row (upto 40))
+  pub flights_are : table_of flight_columns (flights n) ≡ Ok (flight_rows n)
+  pub airports_are : table_of airport_columns airports ≡ Ok airport_rows
 
 abbrev pub DemosAreRows : Type 0
 DemosAreRows = (n : ℕ) → n ≤ 200000 → AreRows n
@@ -65,3 +48,26 @@ pub record AreFaultless (n : ℕ) : Type 0 where
 
 abbrev pub DemosAreFaultless : Type 0
 DemosAreFaultless = (n : ℕ) → AreFaultless n
+
+-- files that hold the tables of the demo
+abbrev pub HoldsTables : ℕ → Held → Type 0
+HoldsTables n held = All (λ file. held file.name ≡ Some file.bytes) (demo_of n).files
+
+-- the book spells statements whose catalog is the demo's, the tables are loaded from files that hold them, and each line of the script is read
+pub record AreOpened (n : ℕ) : Type 0 where
+  pub stmts : List StmtImage
+  pub book : Parses (after_marks (demo_of n).book) (Ok stmts)
+  pub catalog : types stmts ≡ Ok demo_catalog
+  pub tables : (held : Held) → HoldsTables n held → load_all held demo_catalog.tables ≡ Ok (demo_workbook n).tables
+  pub script : AreReadingsOf (demo_of n).script demo_readings
+
+abbrev pub DemosAreOpened : Type 0
+DemosAreOpened = (n : ℕ) → n ≤ 200000 → AreOpened n
+
+-- no node of a view has too many rows, or too many pairs with a table
+abbrev pub DemosAreWithin : Type 0
+DemosAreWithin = (n : ℕ) → n ≤ 200000 → first_view_fault (demo_workbook n) ≡ None
+
+-- words that call for a demo have its report, whatever the files hold
+abbrev pub DemosAreReported : Type 0
+DemosAreReported = (words : List (List ℕ)) (held : Held) (n : ℕ) → words_of words ≡ Some (Demo n) → Outcome words held (Ok (report_of (demo_workbook n) demo_readings))

@@ -1,7 +1,7 @@
 -- The line that says a fault.
 use Rattle.std.specs.Prelude.{◌≢◌, ⊤, ℕ, List, [], ◌∷◌, ◌++◌, Option, IsSome, IsNone, unwrap_or, codes, decimal}
 use Rattle.smk_base.specs.declared.fault.Fault.{Fault}
-use Rattle.smk_base.specs.declared.fault.Fault.TheVariants.{Usage, Book, Types, Table, FileLong, TableRows, ViewRows, ViewPairs, Unread, Form}
+use Rattle.smk_base.specs.declared.fault.Fault.TheVariants.{Usage, Book, Types, Table, FileLong, TableRows, ViewRows, ViewPairs, Unread}
 use Rattle.smk_base.specs.declared.fault.BookFault.{BookFault}
 use Rattle.smk_base.specs.declared.fault.BookFault.TheVariants as book
 use Rattle.smk_base.specs.declared.fault.Many.{Many}
@@ -101,4 +101,3 @@ fault_text (TableRows name) = line (codes "smoke: limit: rows of table " ∷ nam
 fault_text (ViewRows view node) = line (codes "smoke: limit: rows of view " ∷ view ∷ codes " at node " ∷ decimal node ∷ [])
 fault_text (ViewPairs view node name) = line (codes "smoke: limit: lineage of view " ∷ view ∷ codes " at node " ∷ decimal node ∷ codes " to table " ∷ name ∷ [])
 fault_text (Unread file) = line (codes "smoke: cannot read " ∷ file ∷ [])
-fault_text (Form file) = line (codes "smoke: form " ∷ file ∷ [])

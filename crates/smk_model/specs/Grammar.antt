@@ -24,7 +24,7 @@ use Rattle.smk_base.specs.declared.tree.Then.{Then}
 use Rattle.smk_base.specs.declared.tree.Then.TheVariants as thens
 use Rattle.smk_base.specs.declared.tree.Line.{Line}
 use Rattle.smk_base.specs.declared.tree.Line.TheVariants as lines
-use Rattle.smk_base.specs.Trees.{PredImage, CompareNode, AndNode, OrNode, NotNode, TreeImage, ScanNode, StepNode, StepImage, SelectNode, ProjectNode, DistinctNode, GroupNode, JoinNode, UnionAllNode, UnionNode, StmtImage, TableNode, ViewNode, BackNode, FwdNode, LinkNode}
+use Rattle.smk_base.specs.Trees.{PredImage, CompareNode, AndNode, OrNode, NotNode, TreeImage, ScanNode, StepNode, StepImage, SelectNode, ProjectNode, DistinctNode, GroupNode, JoinNode, ThetaNode, ProductNode, UnionAllNode, UnionNode, StmtImage, TableNode, ViewNode, BackNode, FwdNode, LinkNode}
 use Rattle.smk_model.specs.Tokens.{Token, inner, int_value, string_value}
 
 -- a is this token of this kind, and then b
@@ -171,6 +171,8 @@ mutual
     distinct_step : {a b c : List Token} {t : Token} {xs : List ItemTree} → First kinds.Distinct t a b → AreListed IsItem b c xs → IsStep a c t.at (DistinctNode xs)
     group_step : {a b c d : List Token} {t : Token} {ws : List Word} {xs : List AggTree} → First kinds.Group t a b → AreKeys b c ws → AreAggs c d xs → IsStep a d t.at (GroupNode ws xs)
     join_step : {a b c d e : List Token} {t u : Token} {x : TreeImage} {ps : List PairTree} → First kinds.Join t a b → IsSource b c x → First kinds.On u c d → AreListed IsPair d e ps → IsStep a e t.at (JoinNode x ps)
+    theta_step : {a b c d e : List Token} {t u : Token} {x : TreeImage} {p : PredImage} → First kinds.Theta t a b → IsSource b c x → First kinds.On u c d → IsPred d e p → IsStep a e t.at (ThetaNode x p)
+    product_step : {a b c : List Token} {t : Token} {x : TreeImage} → First kinds.Product t a b → IsSource b c x → IsStep a c t.at (ProductNode x)
     union_all_step : {a b c d : List Token} {t u : Token} {x : TreeImage} → First kinds.Union t a b → First kinds.All u b c → IsSource c d x → IsStep a d t.at (UnionAllNode x)
     union_step : {a b c : List Token} {t : Token} {x : TreeImage} → First kinds.Union t a b → IsSource b c x → IsStep a c t.at (UnionNode x)
 

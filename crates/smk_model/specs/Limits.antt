@@ -7,7 +7,7 @@ use Rattle.smk_base.specs.declared.tree.Lit.{Lit}
 use Rattle.smk_base.specs.declared.tree.Decl.{Decl}
 use Rattle.smk_base.specs.declared.tree.ItemTree.{ItemTree}
 use Rattle.smk_base.specs.declared.tree.ItemTree.TheVariants.{Col, Bin}
-use Rattle.smk_base.specs.Trees.{TreeImage, ScanNode, StepNode, StepImage, SelectNode, ProjectNode, DistinctNode, GroupNode, JoinNode, UnionAllNode, UnionNode, StmtImage, TableNode, ViewNode, BackNode, FwdNode, LinkNode}
+use Rattle.smk_base.specs.Trees.{TreeImage, ScanNode, StepNode, StepImage, SelectNode, ProjectNode, DistinctNode, GroupNode, JoinNode, ThetaNode, ProductNode, UnionAllNode, UnionNode, StmtImage, TableNode, ViewNode, BackNode, FwdNode, LinkNode}
 
 -- the second part of `bin` is at least 1
 abbrev pub Divides : ItemTree → Type 0
@@ -31,6 +31,8 @@ abbrev mutual
   KeepsStep (DistinctNode items) = KeepsItems items
   KeepsStep (GroupNode keys aggs) = Unit {0}
   KeepsStep (JoinNode source pairs) = KeepsTree source
+  KeepsStep (ThetaNode source pred) = KeepsTree source
+  KeepsStep (ProductNode source) = KeepsTree source
   KeepsStep (UnionAllNode source) = KeepsTree source
   KeepsStep (UnionNode source) = KeepsTree source
 
@@ -46,6 +48,8 @@ abbrev mutual
   nodes_of_step (DistinctNode items) = 1
   nodes_of_step (GroupNode keys aggs) = 1
   nodes_of_step (JoinNode source pairs) = nodes source + 1
+  nodes_of_step (ThetaNode source pred) = nodes source + 1
+  nodes_of_step (ProductNode source) = nodes source + 1
   nodes_of_step (UnionAllNode source) = nodes source + 1
   nodes_of_step (UnionNode source) = nodes source + 1
 

@@ -16,7 +16,7 @@ pub record Tally : Type 0 where
   pub lineages : ℕ
   pub links : ℕ
 
--- the nodes in this view and the comparisons in this where so far
+-- the nodes in this view and the comparisons in this predicate so far
 pub record Counts : Type 0 where
   pub nodes : ℕ
   pub compares : ℕ
@@ -36,7 +36,7 @@ pub data Symbol : Type 0 where
   AFirst AnItem ALinked : ℕ → Symbol
   MoreDecls MoreItems MoreKeys MoreAggs MorePairs MoreLinked : ℕ → Symbol
   ASource ASteps AStep AUnited APrim AnAnds AnOrs : ℕ → Symbol
-  AnOp ATerm : Symbol
+  AnOn AnOp ATerm : Symbol
   AStmts : Tally → Symbol
   ALineage AnExtra : Symbol
   ALine ALineName ALineColumn AMarks AMark MoreMarks AThen ACleared AnEnd : Symbol
@@ -127,9 +127,9 @@ abbrev pub at_more : Counts → List Symbol → TokenKind → Move
 at_more c ss kinds.Comma = Takes c ss
 at_more c ss _ = Skips
 
--- one node more
+-- one node more, with none of its comparisons yet
 abbrev pub node_more : Counts → Counts
-node_more c = record { nodes = c.nodes + 1; compares = c.compares }
+node_more c = record { nodes = c.nodes + 1; compares = 0 }
 
 abbrev pub at_source : Counts → ℕ → TokenKind → Move
 at_source c d kinds.Scan = within (nat_lt c.nodes 64) Nodes (Takes (node_more c) (AName ∷ []))
@@ -140,14 +140,29 @@ abbrev pub at_steps : Counts → ℕ → TokenKind → Move
 at_steps c d kinds.Bar = Takes c (AStep d ∷ ASteps d ∷ [])
 at_steps c d _ = Skips
 
+-- what follows the keyword of a step
+abbrev pub step_symbols : ℕ → TokenKind → Option (List Symbol)
+step_symbols d kinds.Where = Some (APrim d ∷ AnAnds d ∷ AnOrs d ∷ [])
+step_symbols d kinds.Project = Some (AnItem 0 ∷ MoreItems 1 ∷ [])
+step_symbols d kinds.Distinct = Some (AnItem 0 ∷ MoreItems 1 ∷ [])
+step_symbols d kinds.Group = Some (AKeys ∷ AnAggs ∷ [])
+step_symbols d kinds.Join = Some (ASource d ∷ AToken kinds.On ∷ AFirst 0 ∷ AToken kinds.Equal ∷ AColumn ∷ MorePairs 1 ∷ [])
+step_symbols d kinds.Theta = Some (ASource d ∷ AnOn ∷ APrim d ∷ AnAnds d ∷ AnOrs d ∷ [])
+step_symbols d kinds.Product = Some (ASource d ∷ [])
+step_symbols d kinds.Union = Some (AUnited d ∷ [])
+step_symbols d _ = None
+
+abbrev pub node_move : Counts → Option (List Symbol) → Move
+node_move c (Some ss) = within (nat_lt c.nodes 64) Nodes (Takes (node_more c) ss)
+node_move c None = Wrong
+
 abbrev pub at_step : Counts → ℕ → TokenKind → Move
-at_step c d kinds.Where = within (nat_lt c.nodes 64) Nodes (Takes (record { nodes = c.nodes + 1; compares = 0 }) (APrim d ∷ AnAnds d ∷ AnOrs d ∷ []))
-at_step c d kinds.Project = within (nat_lt c.nodes 64) Nodes (Takes (node_more c) (AnItem 0 ∷ MoreItems 1 ∷ []))
-at_step c d kinds.Distinct = within (nat_lt c.nodes 64) Nodes (Takes (node_more c) (AnItem 0 ∷ MoreItems 1 ∷ []))
-at_step c d kinds.Group = within (nat_lt c.nodes 64) Nodes (Takes (node_more c) (AKeys ∷ AnAggs ∷ []))
-at_step c d kinds.Join = within (nat_lt c.nodes 64) Nodes (Takes (node_more c) (ASource d ∷ AToken kinds.On ∷ AFirst 0 ∷ AToken kinds.Equal ∷ AColumn ∷ MorePairs 1 ∷ []))
-at_step c d kinds.Union = within (nat_lt c.nodes 64) Nodes (Takes (node_more c) (AUnited d ∷ []))
-at_step c d _ = Wrong
+at_step c d kind = node_move c (step_symbols d kind)
+
+-- the `on` of a theta join: no comparison before it counts
+abbrev pub at_on : Counts → TokenKind → Move
+at_on c kinds.On = Takes (record { nodes = c.nodes; compares = 0 }) []
+at_on c _ = Wrong
 
 abbrev pub at_united : Counts → ℕ → TokenKind → Move
 at_united c d kinds.All = Takes c (ASource d ∷ [])
@@ -275,6 +290,7 @@ next c (AUnited d) t = at_united c d t.kind
 next c (APrim d) t = at_prim c d (is_short t) t.kind
 next c (AnAnds d) t = at_ands c d t.kind
 next c (AnOrs d) t = at_ors c d t.kind
+next c AnOn t = at_on c t.kind
 next c AnOp t = at_op c t.kind
 next c ATerm t = at_term c (is_short t) t.kind
 next c (AStmts y) t = at_stmts y t.kind

@@ -1,19 +1,23 @@
 -- The outcome of a run, by its words and by what the files hold: its report, or its first fault.
-use Rattle.std.specs.Prelude.{◌≡◌, ◌≢◌, ◌⊎◌, ℕ, ◌+◌, cond, nat_lt, List, [], ◌∷◌, ◌++◌, length, map, slice_index_or, Option, Some, None, Result, Ok, Err}
+use Rattle.std.specs.Prelude.{◌≡◌, ◌⊎◌, ⊤, ℕ, ◌+◌, cond, nat_lt, nat_eq, List, [], ◌∷◌, ◌++◌, length, map, slice_index_or, Option, Some, None, option_map, Result, Ok, Err}
 use Rattle.std.specs.Option.{ok_or}
-use Rattle.std.specs.List.{list_all}
+use Rattle.std.specs.List.{find}
+use Rattle.std.specs.Cmp.Lexicographic.{pointwise}
 use Rattle.smk_base.specs.Marks.{after_marks}
 use Rattle.smk_base.specs.Trees.{StmtImage}
 use Rattle.smk_base.specs.CatalogImage.{CatalogImage}
 use Rattle.smk_base.specs.declared.catalog.TableInfo.{TableInfo}
 use Rattle.smk_base.specs.declared.col_decl.ColDecl.{ColDecl}
+use Rattle.smk_base.specs.declared.demo.Demo.{Demo as DemoTexts}
+use Rattle.smk_base.specs.declared.demo.DemoFile.{DemoFile}
+use Rattle.smk_base.specs.declared.demo.TheConstants.{DEMO_BOOK_NAME, DEMO_SCRIPT_NAME}
 use Rattle.smk_base.specs.declared.value.Kind.TheVariants.{Text}
 use Rattle.smk_base.specs.declared.fault.Fault.{Fault}
-use Rattle.smk_base.specs.declared.fault.Fault.TheVariants.{Usage, Book, Types, Form, Table, FileLong, TableRows, Unread}
+use Rattle.smk_base.specs.declared.fault.Fault.TheVariants.{Usage, Book, Types, Table, FileLong, TableRows, Unread}
 use Rattle.smk_base.specs.declared.fault.BookFault.{BookFault}
 use Rattle.smk_base.specs.declared.fault.TableFault.{TableFault}
 use Rattle.smk_base.specs.declared.fault.TableFault.TheVariants as table_faults
-use Rattle.smk_model.specs.Words.{Words, words_of, book_of, script_of}
+use Rattle.smk_model.specs.Words.{Words, Files, Demo, words_of}
 use Rattle.smk_model.specs.Values.{Row}
 use Rattle.smk_model.specs.Tokens.{tokens}
 use Rattle.smk_model.specs.Grammar.{AreStmts}
@@ -24,9 +28,9 @@ use Rattle.smk_model.specs.Tables.{table_of, all_or_first}
 use Rattle.smk_model.specs.Readings.{Reading, AreReadingsOf}
 use Rattle.smk_model.specs.Session.{Workbook}
 use Rattle.smk_model.specs.Opening.{ViewFault, first_view_fault, fault_named}
-use Rattle.smk_model.specs.Forms.{is_book_answered, is_reading_answered}
 use Rattle.smk_model.specs.Looks.{start_looks}
 use Rattle.smk_model.specs.Reports.{Report, report_of, script_told}
+use Rattle.smk_model.specs.Demo.{demo_of, summary_of}
 
 -- what the files hold: the bytes under a name, or none
 abbrev pub Held : Type 0
@@ -48,15 +52,15 @@ pub data Parses (text : List ℕ) : Result (List StmtImage) Fault → Type 0 whe
   spells : {stmts : List StmtImage} → AreStmts (tokens text) stmts → book_fault (tokens text) ≡ None → Parses text (Ok stmts)
   misspells : {fault : BookFault} → book_fault (tokens text) ≡ Some fault → Parses text (Err (Book fault))
 
--- the catalog of a book that is answered
-abbrev pub answered_book : List ℕ → Typed CatalogImage → Result CatalogImage Fault
-answered_book name (Ok catalog) = cond (is_book_answered catalog) (Ok catalog) (Err (Form name))
-answered_book name (Err fault) = Err (Types fault)
+-- the catalog of statements, or their first fault of typing
+abbrev pub or_type_fault : Typed CatalogImage → Result CatalogImage Fault
+or_type_fault (Ok catalog) = Ok catalog
+or_type_fault (Err fault) = Err (Types fault)
 
 -- the catalog of the bytes of a book's file, after every byte order mark at its front
-pub data BookSays (name bytes : List ℕ) : Result CatalogImage Fault → Type 0 where
-  unparsed : {fault : Fault} → Parses (after_marks bytes) (Err fault) → BookSays name bytes (Err fault)
-  parsed : {stmts : List StmtImage} {answer : Result CatalogImage Fault} → Parses (after_marks bytes) (Ok stmts) → answered_book name (types stmts) ≡ answer → BookSays name bytes answer
+pub data BookSays (bytes : List ℕ) : Result CatalogImage Fault → Type 0 where
+  unparsed : {fault : Fault} → Parses (after_marks bytes) (Err fault) → BookSays bytes (Err fault)
+  parsed : {stmts : List StmtImage} {answer : Result CatalogImage Fault} → Parses (after_marks bytes) (Ok stmts) → or_type_fault (types stmts) ≡ answer → BookSays bytes answer
 
 -- one reading of a file after its bytes, or the fault that it has no bytes
 pub data FileSays {A : Type 0} (held : Held) (name : List ℕ) (says : List ℕ → Result A Fault → Type 0) : Result A Fault → Type 0 where
@@ -64,7 +68,7 @@ pub data FileSays {A : Type 0} (held : Held) (name : List ℕ) (says : List ℕ 
   read : {bytes : List ℕ} {answer : Result A Fault} → content_of held name ≡ Ok bytes → says bytes answer → FileSays held name says answer
 
 abbrev pub OpensBook : Held → List ℕ → Result CatalogImage Fault → Type 0
-OpensBook held name answer = FileSays held name (BookSays name) answer
+OpensBook held name answer = FileSays held name BookSays answer
 
 -- the name of a declared column
 abbrev pub no_column : ColDecl
@@ -97,31 +101,58 @@ load held table = content_of held table.file >>= λ bytes. or_table_fault table 
 abbrev pub load_all : Held → List TableInfo → Result (List (List Row)) Fault
 load_all held tables = all_or_first (map (load held) tables)
 
--- the readings of a script whose lines are answered
-pub data ScriptSays (name bytes : List ℕ) : Result (List Reading) Fault → Type 0 where
-  lines_read : {readings : List Reading} → AreReadingsOf bytes readings → ScriptSays name bytes (cond (list_all is_reading_answered readings) (Ok readings) (Err (Form name)))
+-- the readings of the bytes of a script's file; every script has some
+pub data ScriptSays (bytes : List ℕ) : Result (List Reading) Fault → Type 0 where
+  lines_read : {readings : List Reading} → AreReadingsOf bytes readings → ScriptSays bytes (Ok readings)
 
 -- the readings of a run's script; a run without one has none
 pub data OpensScript (held : Held) : Option (List ℕ) → Result (List Reading) Fault → Type 0 where
   no_script : OpensScript held None (Ok [])
-  a_script : {name : List ℕ} {answer : Result (List Reading) Fault} → FileSays held name (ScriptSays name) answer → OpensScript held (Some name) answer
+  a_script : {name : List ℕ} {answer : Result (List Reading) Fault} → FileSays held name ScriptSays answer → OpensScript held (Some name) answer
 
 -- a run's workbook and its readings
 pub record Inputs : Type 0 where
   pub book : Workbook
   pub readings : List Reading
 
--- what a run reads, or its first fault: words; the book; the tables in the book's order; the script
+-- what is read under these names of a book and a script, or the first fault: the book; the tables in the book's order; the script
+pub data ReadsFiles (held : Held) (book : List ℕ) (script : Option (List ℕ)) : Result Inputs Fault → Type 0 where
+  no_book : {fault : Fault} → OpensBook held book (Err fault) → ReadsFiles held book script (Err fault)
+  no_tables : {catalog : CatalogImage} {fault : Fault} → OpensBook held book (Ok catalog) → load_all held catalog.tables ≡ Err fault → ReadsFiles held book script (Err fault)
+  no_readings : {catalog : CatalogImage} {tables : List (List Row)} {fault : Fault} → OpensBook held book (Ok catalog)
+      → load_all held catalog.tables ≡ Ok tables → OpensScript held script (Err fault) → ReadsFiles held book script (Err fault)
+  inputs : {catalog : CatalogImage} {tables : List (List Row)} {readings : List Reading} → OpensBook held book (Ok catalog)
+      → load_all held catalog.tables ≡ Ok tables → OpensScript held script (Ok readings)
+      → ReadsFiles held book script (Ok (record { book = record { catalog = catalog; tables = tables }; readings = readings }))
+
+-- the bytes of the first of these files with a name
+abbrev pub file_named : List DemoFile → Held
+file_named files name = option_map (λ (file : DemoFile). file.bytes) (find (λ file. pointwise nat_eq file.name name) files)
+
+-- the bytes of a text of a demo by its name, as of a file
+abbrev pub text_named : DemoTexts → Held
+text_named texts name =
+    cond (pointwise nat_eq name DEMO_BOOK_NAME.now) (Some texts.book)
+    (cond (pointwise nat_eq name DEMO_SCRIPT_NAME.now) (Some texts.script)
+    (file_named texts.files name))
+
+-- where a run finds its texts, and under which names: in the files; a demo, in its own texts
+abbrev pub source_of : Words → Held → Held
+source_of (Files book script) held = held
+source_of (Demo n) held = text_named (demo_of n)
+
+abbrev pub book_of : Words → List ℕ
+book_of (Files book script) = book
+book_of (Demo n) = DEMO_BOOK_NAME.now
+
+abbrev pub script_of : Words → Option (List ℕ)
+script_of (Files book script) = script
+script_of (Demo n) = Some DEMO_SCRIPT_NAME.now
+
+-- what a run reads, or its first fault
 pub data ReadsInputs (words : List (List ℕ)) (held : Held) : Result Inputs Fault → Type 0 where
   unusable : words_of words ≡ None → ReadsInputs words held (Err Usage)
-  no_book : {ws : Words} {fault : Fault} → words_of words ≡ Some ws → OpensBook held (book_of ws) (Err fault) → ReadsInputs words held (Err fault)
-  no_tables : {ws : Words} {catalog : CatalogImage} {fault : Fault} → words_of words ≡ Some ws → OpensBook held (book_of ws) (Ok catalog)
-      → load_all held catalog.tables ≡ Err fault → ReadsInputs words held (Err fault)
-  no_readings : {ws : Words} {catalog : CatalogImage} {tables : List (List Row)} {fault : Fault} → words_of words ≡ Some ws → OpensBook held (book_of ws) (Ok catalog)
-      → load_all held catalog.tables ≡ Ok tables → OpensScript held (script_of ws) (Err fault) → ReadsInputs words held (Err fault)
-  inputs : {ws : Words} {catalog : CatalogImage} {tables : List (List Row)} {readings : List Reading} → words_of words ≡ Some ws → OpensBook held (book_of ws) (Ok catalog)
-      → load_all held catalog.tables ≡ Ok tables → OpensScript held (script_of ws) (Ok readings)
-      → ReadsInputs words held (Ok (record { book = record { catalog = catalog; tables = tables }; readings = readings }))
+  usable : {ws : Words} {answer : Result Inputs Fault} → words_of words ≡ Some ws → ReadsFiles (source_of ws held) (book_of ws) (script_of ws) answer → ReadsInputs words held answer
 
 -- the report of what was read, unless a node of a view has too many rows, or too many pairs with a table that the view needs
 abbrev pub unless_view_fault : Inputs → Option ViewFault → Result Report Fault
@@ -140,27 +171,55 @@ pub data Outcome (words : List (List ℕ)) (held : Held) : Result Report Fault �
   unreadable : {fault : Fault} → ReadsInputs words held (Err fault) → Outcome words held (Err fault)
   read : {inputs : Inputs} {answer : Result Report Fault} → ReadsInputs words held (Ok inputs) → reported inputs ≡ answer → Outcome words held answer
 
+-- what a run writes of its report: its text; a demo, the summary
+abbrev pub written_for : Option Words → Report → List ℕ
+written_for (Some (Files book script)) report = report.text
+written_for (Some (Demo n)) report = summary_of n report
+written_for None report = []
+
+abbrev pub written_of : List (List ℕ) → Report → List ℕ
+written_of words report = written_for (words_of words) report
+
 -- a file that is read where no fault was met before
-pub data IsAskedFor (words : List (List ℕ)) (held : Held) : List ℕ → Type 0 where
-  the_book : {ws : Words} → words_of words ≡ Some ws → IsAskedFor words held (book_of ws)
-  a_table : {ws : Words} {catalog : CatalogImage} {tables : List (List Row)} (before : List TableInfo) (table : TableInfo) (behind : List TableInfo) → words_of words ≡ Some ws → OpensBook held (book_of ws) (Ok catalog)
-      → catalog.tables ≡ before ++ table ∷ behind → load_all held before ≡ Ok tables → IsAskedFor words held table.file
-  the_script : {ws : Words} {catalog : CatalogImage} {tables : List (List Row)} {name : List ℕ} → words_of words ≡ Some ws → OpensBook held (book_of ws) (Ok catalog)
-      → load_all held catalog.tables ≡ Ok tables → script_of ws ≡ Some name → IsAskedFor words held name
+pub data IsAskedFor (held : Held) (book : List ℕ) (script : Option (List ℕ)) : List ℕ → Type 0 where
+  the_book : IsAskedFor held book script book
+  a_table : {catalog : CatalogImage} {tables : List (List Row)} (before : List TableInfo) (table : TableInfo) (behind : List TableInfo) → OpensBook held book (Ok catalog)
+      → catalog.tables ≡ before ++ table ∷ behind → load_all held before ≡ Ok tables → IsAskedFor held book script table.file
+  the_script : {catalog : CatalogImage} {tables : List (List Row)} {name : List ℕ} → OpensBook held book (Ok catalog)
+      → load_all held catalog.tables ≡ Ok tables → script ≡ Some name → IsAskedFor held book script name
 
 -- a fault that a read may say since it failed: that a file can't be read which is read where no fault was met before
-abbrev pub NamesRead : List (List ℕ) → Held → Fault → Type 0
-NamesRead words held (Unread file) = IsAskedFor words held file
-NamesRead words held _ = ⊥
+abbrev pub NamesAsked : Held → List ℕ → Option (List ℕ) → Fault → Type 0
+NamesAsked held book script (Unread file) = IsAskedFor held book script file
+NamesAsked held book script _ = ⊥
 
--- the cause of a fault: it is the run's outcome, or a read failed, which the count of faults shows; where the files don't tell what they hold, what is left of this
+-- the same for the files of a run; a demo reads none
+abbrev pub NamesRead : Option Words → Held → Fault → Type 0
+NamesRead (Some (Files book script)) held fault = NamesAsked held book script fault
+NamesRead (Some (Demo n)) held fault = ⊥
+NamesRead None held fault = ⊥
+
+-- files that hold nothing
+abbrev pub nothing_held : Held
+nothing_held name = None
+
+-- what is so of a run by what its files hold: where they don't tell it, only a rest of it is known; a run that reads no file doesn't depend on it
+abbrev pub WhereTold : Option Held → Option Words → Type 0 → (Held → Type 0) → Type 0
+WhereTold (Some held) words rest is = is held
+WhereTold None (Some (Files book script)) rest is = rest
+WhereTold None (Some (Demo n)) rest is = is nothing_held
+WhereTold None None rest is = is nothing_held
+
+-- what is left of the cause of a fault where the files don't tell what they hold
+abbrev pub UntoldCause : Type 0 → Fault → Type 0
+UntoldCause rose Usage = ⊥
+UntoldCause rose (Unread file) = rose
+UntoldCause rose _ = ⊤
+
+-- the cause of a fault: it is the run's outcome, or a read failed, which the count of faults shows
 abbrev pub HasCause : List (List ℕ) → Option Held → Type 0 → Fault → Type 0
-HasCause words (Some held) rose fault = Outcome words held (Err fault) ⊎ (rose × NamesRead words held fault)
-HasCause words None rose Usage = words_of words ≡ None
-HasCause words None rose (Unread file) = (words_of words ≢ None) × rose
-HasCause words None rose _ = words_of words ≢ None
+HasCause words held rose fault = WhereTold held (words_of words) (UntoldCause rose fault) (λ held. Outcome words held (Err fault) ⊎ (rose × NamesRead (words_of words) held fault))
 
--- a report of the run: its outcome, where the files tell what they hold
+-- a report of the run: its outcome
 abbrev pub IsReport : List (List ℕ) → Option Held → Report → Type 0
-IsReport words (Some held) report = Outcome words held (Ok report)
-IsReport words None report = words_of words ≢ None
+IsReport words held report = WhereTold held (words_of words) ⊤ (λ held. Outcome words held (Ok report))

@@ -20,7 +20,6 @@ use Rattle.smk_model.specs.Readings.{Reading, Nothing, Asks, Unread}
 use Rattle.smk_model.specs.Session.{Workbook, first_state, first_content}
 use Rattle.smk_model.specs.Opening.{first_view_fault, named_fault}
 use Rattle.smk_model.specs.NodeFaults.{FullRows, FullPairs}
-use Rattle.smk_model.specs.Forms.{is_book_answered, is_reading_answered}
 use Rattle.smk_model.specs.Reports.{report_of, script_told, is_turned_down}
 use Rattle.smk_model.specs.Looks.{start_looks}
 use Rattle.smk_model.specs.Outcome.{Held, load, load_all, fault_of_table}
@@ -46,10 +45,6 @@ small_catalog = record {
   fwds = [];
   links = [];
 }
-
--- the first view is asked by column as well
-abbrev pub split_catalog : CatalogImage
-split_catalog = record small_catalog { backs = record { view = 0; table = 0; extra = extras.By 0 } ∷ [] }
 
 abbrev pub small_book : Workbook
 small_book = record { catalog = small_catalog; tables = (int_row 5 ∷ int_row 10 ∷ (Int (negsuc 2) ∷ []) ∷ int_row 40 ∷ []) ∷ [] }
@@ -97,9 +92,6 @@ pub record RunsHold : Type 0 where
   pub looks_of_lines : (script_told small_book small_script).looks ≡ 4
   pub too_many_of_a_view : named_fault small_catalog (codes "v") (FullRows 1) ≡ ViewRows (codes "v") 1
   pub too_many_pairs : named_fault small_catalog (codes "v") (FullPairs 1 0) ≡ ViewPairs (codes "v") 1 (codes "t")
-  pub answered : is_book_answered small_catalog ≡ true
-  pub not_answered : is_book_answered split_catalog ≡ false
-  pub clear_answered : is_reading_answered (Asks lines.Clear) ≡ true
   pub loaded : load_all (held_as (codes "a\n5\n10\n-3\n40\n")) small_catalog.tables ≡ Ok small_book.tables
   pub missing_file : load (λ name. None) t_table ≡ Err (unread_fault (codes "t.csv"))
   pub no_header : load (held_as []) t_table ≡ Err (Table (codes "t") None NoHeader)

@@ -20,7 +20,7 @@ use Rattle.smk_base.specs.declared.plan.Agg.{Agg}
 use Rattle.smk_base.specs.declared.plan.Agg.TheVariants as aggs
 use Rattle.smk_base.specs.declared.catalog.Column.{Column}
 use Rattle.smk_base.specs.declared.type_fault.TypeFault.TheVariants.{KindMismatch, DuplicateName, SumTooDeep, UnionShape, EmptyList, RowTooWide}
-use Rattle.smk_base.specs.Plans.{Formula, Comparison, Conjunction, Disjunction, Negation, Selection, Projection, Distinction, Grouping, Binary, Equijoin, Expr, Apply, Combine}
+use Rattle.smk_base.specs.Plans.{Formula, Comparison, Conjunction, Disjunction, Negation, Selection, Projection, Distinction, Grouping, Binary, Equijoin, ThetaJoin, CrossProduct, Expr, Apply, Combine}
 use Rattle.smk_base.specs.Trees.{PredImage, CompareNode, AndNode, OrNode, NotNode}
 use Rattle.smk_model.specs.Kinds.{kind_of, wider}
 use Rattle.smk_model.specs.Names.{Typed, ◌>>=◌, unless, in_turn, has_name, column_named, same_sort, is_text}
@@ -144,7 +144,7 @@ pair_after lefts rights made pair = do
 abbrev pub share_a_name : List Column → List Column → Bool
 share_a_name lefts rights = list_any (λ left. list_any (has_name left.name) rights) lefts
 
--- the columns of a join, at the place of `join`: no name stands on both sides, and there are at most 16
+-- the columns of both sides, at the place of `join`, `theta` or `product`: no name stands on both sides, and there are at most 16
 abbrev pub joined : ℕ → List Column → List Column → Typed (List Column)
 joined at lefts rights =
     unless (share_a_name lefts rights) (DuplicateName at)
@@ -195,6 +195,18 @@ joined_plan at trees left right = do
   pairs ← in_turn (pair_after left.columns right.columns) [] trees
   columns ← joined at left.columns right.columns
   Ok (record { plan = Combine (Equijoin pairs) left.plan right.plan; columns = columns })
+
+-- a theta join, at the place of `theta`: the columns of both sides stand, then the predicate over the left ones followed by the right ones
+abbrev pub theta_plan : ℕ → PredImage → TypedPlan → TypedPlan → Typed TypedPlan
+theta_plan at tree left right = do
+  columns ← joined at left.columns right.columns
+  formula ← typed_pred columns tree
+  Ok (record { plan = Combine (ThetaJoin formula) left.plan right.plan; columns = columns })
+
+abbrev pub product_plan : ℕ → TypedPlan → TypedPlan → Typed TypedPlan
+product_plan at left right = do
+  columns ← joined at left.columns right.columns
+  Ok (record { plan = Combine CrossProduct left.plan right.plan; columns = columns })
 
 abbrev pub united_plan : Binary → ℕ → TypedPlan → TypedPlan → Typed TypedPlan
 united_plan op at left right = do

@@ -18,11 +18,11 @@ use Rattle.smk_base.specs.declared.catalog.Fwd.{Fwd}
 use Rattle.smk_base.specs.declared.catalog.LinkInfo.{LinkInfo}
 use Rattle.smk_base.specs.declared.type_fault.TypeFault.TheVariants.{UnknownTable, UnknownView, DuplicateName, KindMismatch, SelfLink, RepeatedDeclaration}
 use Rattle.smk_base.specs.Plans.{BagUnion, SetUnion, Leaf}
-use Rattle.smk_base.specs.Trees.{TreeImage, ScanNode, StepNode, StepImage, SelectNode, ProjectNode, DistinctNode, GroupNode, JoinNode, UnionAllNode, UnionNode, StmtImage, TableNode, ViewNode, BackNode, FwdNode, LinkNode}
+use Rattle.smk_base.specs.Trees.{TreeImage, ScanNode, StepNode, StepImage, SelectNode, ProjectNode, DistinctNode, GroupNode, JoinNode, ThetaNode, ProductNode, UnionAllNode, UnionNode, StmtImage, TableNode, ViewNode, BackNode, FwdNode, LinkNode}
 use Rattle.smk_base.specs.CatalogImage.{ViewImage, CatalogImage}
 use Rattle.smk_model.specs.Kinds.{kind_of}
 use Rattle.smk_model.specs.Names.{Typed, ◌>>=◌, unless, in_turn, same_name, place_of, is_taken, names_of, kinds_of, column_named, same_sort}
-use Rattle.smk_model.specs.TypedSteps.{TypedPlan, typed_group, selected, projected, distinct, grouped, joined_plan, united_plan}
+use Rattle.smk_model.specs.TypedSteps.{TypedPlan, typed_group, selected, projected, distinct, grouped, joined_plan, theta_plan, product_plan, united_plan}
 
 -- a declared column, and the columns of a table
 abbrev pub column_of : ColDecl → Column
@@ -58,6 +58,8 @@ abbrev mutual
   typed_step tables (DistinctNode items) at left = distinct left items
   typed_step tables (GroupNode keys aggs) at left = grouped at left keys aggs
   typed_step tables (JoinNode source pairs) at left = typed_plan tables source >>= λ right. joined_plan at pairs left right
+  typed_step tables (ThetaNode source pred) at left = typed_plan tables source >>= λ right. theta_plan at pred left right
+  typed_step tables (ProductNode source) at left = typed_plan tables source >>= λ right. product_plan at left right
   typed_step tables (UnionAllNode source) at left = typed_plan tables source >>= λ right. united_plan BagUnion at left right
   typed_step tables (UnionNode source) at left = typed_plan tables source >>= λ right. united_plan SetUnion at left right
 

@@ -1,9 +1,11 @@
 -- The words of a run: what clap takes, by its own rule for this command, and what it is asked for.
-use Rattle.std.specs.Prelude.{ℕ, true, cond, List, [], ◌∷◌, Option, Some, None, option_map, option_and_then, codes}
+use Rattle.std.specs.Prelude.{ℕ, ◌+◌, ℤ, pos, negsuc, true, ◌&&◌, nat_lt, cond, List, [], ◌∷◌, Option, Some, None, option_map, option_and_then, codes}
 use Rattle.std.specs.Str.{bytes_eq}
 use Rattle.clap.specs.Words.{App, Rule, new_app, new_rule, with_rule, matches_of, first_of, fault_of}
 use Rattle.clap.specs.Simple.{on_top}
 use Rattle.clap.specs.Kinds.{Kinds}
+use Rattle.clap.specs.declared.builder.value_parser.ValueParser.TheVariants as parsers
+use Rattle.smk_base.specs.Ints.{int_of}
 
 -- when a step's lineage is made: while the step runs, or from what it kept
 pub data Mode : Type 0 where
@@ -14,23 +16,26 @@ pub data Mode : Type 0 where
 pub record Settings : Type 0 where
   pub mode : Mode
 
--- where the texts of a run come from: the file of the book, and that of the script where there is one
+-- where the texts of a run come from: the file of the book, and that of the script where there is one; or the demo of so many flights
 pub data Words : Type 0 where
   Files : List ℕ → Option (List ℕ) → Words
-
-abbrev pub book_of : Words → List ℕ
-book_of (Files book script) = book
-
-abbrev pub script_of : Words → Option (List ℕ)
-script_of (Files book script) = script
+  Demo : ℕ → Words
 
 -- the option `--mode`, which is inject where it isn't there
 abbrev pub mode_rule : Rule
 mode_rule = record (new_rule (codes "mode")) { long = Some (codes "mode"); defaults = codes "inject" ∷ [] }
 
+-- the most flights that a demo may have
+abbrev pub most_flights : ℕ
+most_flights = 200000
+
+-- the option `--demo` with a number of flights
+abbrev pub demo_rule : Rule
+demo_rule = record (new_rule (codes "demo")) { long = Some (codes "demo"); parser = Some (parsers.Signed (pos 1) (pos 200000)) }
+
 -- the command: its options, and then the places of the book and the script
 abbrev pub smoke_app : App
-smoke_app = with_rule (with_rule (with_rule (on_top (λ s. record s { no_binary_name = true }) (new_app (codes "smoke"))) mode_rule) (new_rule (codes "book"))) (new_rule (codes "script"))
+smoke_app = with_rule (with_rule (with_rule (with_rule (on_top (λ s. record s { no_binary_name = true }) (new_app (codes "smoke"))) mode_rule) demo_rule) (new_rule (codes "book"))) (new_rule (codes "script"))
 
 -- a value for options and places, by their names
 abbrev pub Values : Type 0
@@ -48,9 +53,20 @@ mode_named text = cond (bytes_eq text (codes "inject")) (Some Inject) (cond (byt
 abbrev pub settings_in : Values → Option Settings
 settings_in values = option_map (λ mode. record { mode = mode }) (option_and_then mode_named (values (codes "mode")))
 
--- the texts that they ask for, unless the book is missing
+-- the demo of a number of flights, unless there may not be so many
+abbrev pub demo_sized : ℤ → Option Words
+demo_sized (pos n) = cond (nat_lt 0 n && nat_lt n (most_flights + 1)) (Some (Demo n)) None
+demo_sized (negsuc n) = None
+
+-- the texts that are asked for by the values of `--demo`, of the book and of the script: those of a demo or those of files, of which exactly one is given
+abbrev pub texts_named : Option (List ℕ) → Option (List ℕ) → Option (List ℕ) → Option Words
+texts_named None (Some book) script = Some (Files book script)
+texts_named None None script = None
+texts_named (Some number) None script = option_and_then demo_sized (int_of number)
+texts_named (Some number) (Some book) script = None
+
 abbrev pub texts_in : Values → Option Words
-texts_in values = option_map (λ book. Files book (values (codes "script"))) (values (codes "book"))
+texts_in values = texts_named (values (codes "demo")) (values (codes "book")) (values (codes "script"))
 
 -- what a run is called for
 pub record Invocation : Type 0 where
@@ -70,7 +86,7 @@ abbrev pub where_taken : {A : Type 0} → Kinds → Option A → Option A
 where_taken [] found = found
 where_taken (kind ∷ kinds) found = None
 
--- what the words of a run call it for: none exactly where clap doesn't take them, and so too where they ask for help, where the mode isn't known, or where the book is missing
+-- what the words of a run call it for: none exactly where clap doesn't take them, and so too where they ask for help, where the mode isn't known, or where both of a book and a demo are given or none of them
 abbrev pub invocation_of : List (List ℕ) → Option Invocation
 invocation_of words = where_taken (fault_of smoke_app words) (invocation_in (value_given words))
 

@@ -21,3 +21,18 @@ pub fn demos_are_rows()
 pub fn demos_are_faultless()
     ensures { laws.DemosAreFaultless }
 {}
+
+/// Its book has the catalog of two tables and five views, its tables are loaded from files that hold them, and each line of its script is read.
+pub fn demos_are_opened()
+    ensures { laws.DemosAreOpened }
+{}
+
+/// No view of it has too many rows, or too many pairs with a table.
+pub fn demos_are_within()
+    ensures { laws.DemosAreWithin }
+{}
+
+/// A run of a demo has a report, whatever the files hold: each line of its script is read, and no fault comes.
+pub fn demos_are_reported()
+    ensures { laws.DemosAreReported }
+{}

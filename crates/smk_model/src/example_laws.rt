@@ -1,10 +1,12 @@
 //! Small examples worked by hand, which the definitions compute. Each is an empty function whose contract has the example's values.
 
+ghost use Rattle.smk_model.specs.BookExamples.{BooksHold};
 ghost use Rattle.smk_model.specs.DemoExamples.{DemosHold};
 ghost use Rattle.smk_model.specs.Examples.{ExamplesHold};
 ghost use Rattle.smk_model.specs.LineExamples.{LinesHold};
 ghost use Rattle.smk_model.specs.RunExamples.{RunsHold};
 ghost use Rattle.smk_model.specs.SessionExamples.{SessionsHold};
+ghost use Rattle.smk_model.specs.TypingExamples.{TypingsHold};
 
 /// The rows of six views over two tables, the rids that they come from, and the lists of one step.
 pub fn examples_hold()
@@ -15,6 +17,17 @@ pub fn examples_hold()
 #[tactic(auto, using(crate::proofs::LineExamples::lines_hold))]
 pub fn lines_hold()
     ensures { LinesHold }
+{}
+
+/// The trees of a theta join and a product, and the places at which texts of views leave the grammar.
+#[tactic(auto, using(crate::proofs::BookExamples::books_hold))]
+pub fn books_hold()
+    ensures { BooksHold }
+{}
+
+/// The plans and the columns of a theta join and of a product, and the order of their faults.
+pub fn typings_hold()
+    ensures { TypingsHold }
 {}
 
 /// The rows, the texts of the views and the replies of a run, and the faults of a table's file.
