@@ -3,7 +3,8 @@ ghost use Rattle.smk_base.specs.Cells.{value_of_cell};
 ghost use Rattle.smk_base.specs.Rels.{IsRelation, Fits, kind_in, row_in, rows_at, value_in};
 ghost use Rattle.smk_model.specs.Tables.{IsBase};
 
-use smk_base::{CellRef, Kind, ROW_LIMIT, Rel, Row};
+use crate::chosen::Chosen;
+use smk_base::{CellRef, Kind, ROW_LIMIT, Rel, Rids, Row};
 use smk_outside::Steps;
 use std::alloc::{AllocError, Global};
 use std::marker::Model;
@@ -108,6 +109,38 @@ impl Table {
     {
         count_looks(self.rel.len(), steps);
         self.rel.copy(alloc)
+    }
+
+    /// The rows at these rids, in this order, to be gathered later. It is one look for each, at once and also where it wants memory.
+    pub fn choose<L: Ledger>(
+        &self,
+        alloc: Global,
+        rids: &[u32],
+        steps: &mut Steps<L>,
+    ) -> Result<Chosen, AllocError>
+        requires inside { All (λ rid. rid < length self.now.rows) rids.now }
+        requires few { length rids.now ≤ ROW_LIMIT }
+        ensures rows { IfOk result (λ chosen. chosen ≡ record { kinds = self.now.kinds; rows = rows_at self.now.rows rids.now }) }
+        ensures looks { steps.new ≡ steps.old + length rids.now }
+    {
+        let looks = rids.len() as u32;
+        count_looks(looks, steps);
+        let rel = self.rel.copy(alloc)?;
+        let rids = Vec::from_slice(alloc, rids)?;
+        Ok(Chosen::at_rids(rel, Rids::from_vec(rids)))
+    }
+
+    /// All rows, to be gathered later. It is one look for each, at once and also where it wants memory.
+    pub fn choose_all<L: Ledger>(
+        &self,
+        alloc: Global,
+        steps: &mut Steps<L>,
+    ) -> Result<Chosen, AllocError>
+        ensures rows { IfOk result (λ chosen. chosen ≡ self.now) }
+        ensures looks { steps.new ≡ steps.old + length self.now.rows }
+    {
+        count_looks(self.rel.len(), steps);
+        Ok(Chosen::of_rel(self.rel.copy(alloc)?))
     }
 
     /// The value of a column at a rid. It is one look and takes no memory.

@@ -1,0 +1,90 @@
+ghost use Rattle.std.specs.Prelude.{◌≡◌, ◌<◌, ◌≤◌, length, map, All, IfOk};
+ghost use Rattle.smk_base.specs.Rels.{kind_in, picked, rows_at};
+ghost use Rattle.smk_base.specs.declared.rel.TheConstants.{ROW_LIMIT};
+
+use smk_base::{Rel, Rids};
+use std::alloc::{AllocError, Global};
+use std::marker::Model;
+
+/// Rows of a table that are chosen and not gathered yet: the table's columns, which it shares, and the rids of some rows or none where it has all of them. Each row was counted as a look when it was chosen. Contracts see the kinds and the list of the chosen rows.
+#[derive(Drop)]
+pub struct Chosen {
+    rel: Rel,
+    rids: Option<Rids>,
+}
+
+impl Model for Chosen {
+    ghost use Rattle.smk_base.specs.Rels.{Relation};
+    ghost use Rattle.smk_table.specs.Choosing.{chosen_of, AreInside};
+
+    ghost Value = { Relation };
+
+    ghost view = { λ a. chosen_of a.rel a.rids };
+
+    ghost invariant = { λ a. AreInside a.rel a.rids };
+}
+
+impl Chosen {
+    /// All rows of a Rel. It takes no memory.
+    pub fn of_rel(rel: Rel) -> Chosen
+        ensures { result ≡ rel }
+    {
+        Chosen { rel, rids: None }
+    }
+
+    // The rows at these rids.
+    pub(crate) fn at_rids(rel: Rel, rids: Rids) -> Chosen
+        requires inside { All (λ rid. rid < length rel.rows) rids }
+        requires few { length rids ≤ ROW_LIMIT }
+        ensures { result ≡ record { kinds = rel.kinds; rows = rows_at rel.rows rids } }
+    {
+        Chosen {
+            rel,
+            rids: Some(rids),
+        }
+    }
+
+    #[tactic(auto, using(crate::proofs::Choices::rows_at_long))]
+    /// The number of rows. It takes no memory.
+    pub fn len(&self) -> u32
+        ensures count { result ≡ length self.now.rows }
+        ensures few { result ≤ ROW_LIMIT }
+    {
+        match &self.rids {
+            Some(rids) => rids.as_slice().len() as u32,
+            None => self.rel.len(),
+        }
+    }
+
+    /// The number of columns. It takes no memory.
+    pub fn width(&self) -> u32
+        ensures count { result ≡ length self.now.kinds }
+        ensures few { result ≤ 16 }
+    {
+        self.rel.width()
+    }
+
+    /// The rows with all their columns.
+    pub fn rel(self, alloc: Global) -> Result<Rel, AllocError>
+        ensures { IfOk result (λ rel. rel ≡ self) }
+    {
+        let Chosen { rel, rids } = self;
+        match rids {
+            Some(rids) => rel.gather(alloc, rids.as_slice()),
+            None => Ok(rel),
+        }
+    }
+
+    /// The rows with these columns alone, in this order.
+    pub fn columns(&self, alloc: Global, cols: &[u32]) -> Result<Rel, AllocError>
+        requires within { All (λ c. c < length self.now.kinds) cols.now }
+        requires few { length cols.now ≤ 16 }
+        ensures { IfOk result (λ made. made ≡ record { kinds = map (kind_in self.now.kinds) cols.now; rows = map (picked cols.now) self.now.rows }) }
+    {
+        let whole = self.rel.pick_columns(alloc, cols)?;
+        match &self.rids {
+            Some(rids) => whole.gather(alloc, rids.as_slice()),
+            None => Ok(whole),
+        }
+    }
+}
