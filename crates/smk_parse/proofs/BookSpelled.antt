@@ -69,11 +69,15 @@ int_type_is a b h e = int_type (here kinds.Int a.counts a b h e)
 pub text_type_is : (a b : State) → Advances a.counts a b → (head_of a.rest).kind ≡ kinds.Text → IsType a.rest b.rest true
 text_type_is a b h e = text_type (here kinds.Text a.counts a b h e)
 
+pub ruleset is_text_trees = (int_type_is, text_type_is)
+
 pub no_default_is : (a : List Token) → IsDefault a a None
 no_default_is a = no_default
 
 pub default_is : (a b : State) (c : List Token) (l : Lit) → Advances a.counts a b → (head_of a.rest).kind ≡ kinds.Default → IsLiteral b.rest c l → IsDefault a.rest c (Some l)
 default_is a b c l h e k = default (here kinds.Default a.counts a b h e) k
+
+pub ruleset default_trees = (default_is, no_default_is)
 
 pub decl_is : (a b c d : List Token) (w : Word) (x : Bool) (o : Option Lit) → IsColumn a b w → IsType b c x → IsDefault c d o → IsDecl a d (record { name = w; text = x; def = o })
 decl_is a b c d w x o h k l = decl h k l
@@ -83,6 +87,8 @@ itself_is a w v e f = let n : v ≡ w = λ i. record { name = e i; at = f i } in
 
 pub as_is : (a b : State) (c : List Token) (w n : Word) → Advances a.counts a b → (head_of a.rest).kind ≡ kinds.As → IsColumn b.rest c n → IsNamed w a.rest c n
 as_is a b c w n h e k = by_as (here kinds.As a.counts a b h e) k
+
+pub ruleset named_trees = (as_is, itself_is)
 
 pub width_is : (a b : State) (v : ℤ) → Advances a.counts a b → (head_of a.rest).kind ≡ kinds.Number → v ≡ int_value (head_of a.rest).text → int_le (pos 1) (int_value (head_of a.rest).text) ≡ true → IsWidth a.rest b.rest v
 width_is a b v h e f o = subst (IsWidth a.rest b.rest) (sym f) (width (here kinds.Number a.counts a b h e) o)
@@ -105,6 +111,8 @@ min_is a b c w h e k = min (here kinds.Min a.counts a b h e) k
 pub max_is : (a b : State) (c : List Token) (w : Word) → Advances a.counts a b → (head_of a.rest).kind ≡ kinds.Max → IsColumn b.rest c w → IsWhat a.rest c (whats.Max w)
 max_is a b c w h e k = max (here kinds.Max a.counts a b h e) k
 
+pub ruleset what_trees = (count_is, sum_is, min_is, max_is)
+
 pub agg_is : (a b c d : List Token) (t : Token) (w : Word) (x : AggWhat) → IsColumn a b w → First kinds.Equal t b c → IsWhat c d x → IsAgg a d (record { name = w; what = x })
 agg_is a b c d t w x h k l = agg h k l
 
@@ -117,11 +125,15 @@ no_keys_is a = no_keys
 pub keys_are : (a b : List Token) (ws : List Word) → AreListed IsColumn a b ws → AreKeys a b ws
 keys_are a b ws h = keys h
 
+pub ruleset keys_trees = (keys_are, no_keys_is)
+
 pub no_aggs_is : (a : List Token) → AreAggs a a []
 no_aggs_is a = no_aggs
 
 pub aggs_are : (a b : State) (c d : List Token) (u : Token) (xs : List AggTree) → Advances a.counts a b → (head_of a.rest).kind ≡ kinds.OpenBrace → AreListed IsAgg b.rest c xs → First kinds.CloseBrace u c d → AreAggs a.rest d xs
 aggs_are a b c d u xs h e k l = aggs (here kinds.OpenBrace a.counts a b h e) k l
+
+pub ruleset aggs_trees = (aggs_are, no_aggs_is)
 
 pub eq_is : (a b : State) → Advances a.counts a b → (head_of a.rest).kind ≡ kinds.Equal → IsOp a.rest b.rest ops.Eq
 eq_is a b h e = eq (here kinds.Equal a.counts a b h e)
@@ -140,3 +152,5 @@ gt_is a b h e = gt (here kinds.Greater a.counts a b h e)
 
 pub ge_is : (a b : State) → Advances a.counts a b → (head_of a.rest).kind ≡ kinds.GreaterEqual → IsOp a.rest b.rest ops.Ge
 ge_is a b h e = ge (here kinds.GreaterEqual a.counts a b h e)
+
+pub ruleset op_trees = (eq_is, ne_is, lt_is, le_is, gt_is, ge_is)

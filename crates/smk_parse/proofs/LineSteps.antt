@@ -9,7 +9,7 @@ use Rattle.smk_model.specs.Tokens.{head_of, tail_of, int_value}
 use Rattle.smk_model.specs.Machine.{State, Counts, Symbol, Takes, Skips, Wrong, Outside, fault_at, is_mark, at_line, at_line_column, at_literal, at_marks, at_mark, at_then, at_more, at_cleared, at_end, AToken, ALine, ALineName, ALineColumn, ALiteral, AMarks, AMark, MoreMarks, AThen, ACleared, AnEnd}
 use Rattle.smk_parse.specs.Readers.{Advances}
 use Rattle.smk_parse.specs.Reads.{Leads, Fails}
-use Rattle.smk_parse.proofs.Steps.{Opens, Comes, opened, open_only, wrong, outside, skips, begins, NoSkip, with_more, comes_leads, comes_fails, open_fails, first_fails}
+use Rattle.smk_parse.proofs.Steps.{Opens, Comes, opened, open_only, wrong, outside, skips, begins, NoSkip, with_more, first_comes, comes_leads, comes_fails, open_fails, first_fails}
 
 abbrev Here : State → Type 0
 Here a = a.rest ≡ head_of a.rest ∷ tail_of a.rest
@@ -39,6 +39,8 @@ cleared_all a h n = skips ACleared a h (by (head_of a.rest).kind n)
     by kinds.Name n = absurd (n refl)
     by _ n = refl
 
+pub ruleset cleared_goes = (cleared_one, cleared_all)
+
 pub line_fails : (a : State) (f : BookFault) → Here a → f ≡ fault_at (head_of a.rest) → ((head_of a.rest).kind ≡ kinds.Show → ⊥) → ((head_of a.rest).kind ≡ kinds.Back → ⊥) → ((head_of a.rest).kind ≡ kinds.Fwd → ⊥) → ((head_of a.rest).kind ≡ kinds.Brush → ⊥) → ((head_of a.rest).kind ≡ kinds.Clear → ⊥) → Fails (ALine ∷ []) a f
 line_fails a f h g p q r s t = wrong ALine [] a f h g (by (head_of a.rest).kind p q r s t)
   where
@@ -64,6 +66,8 @@ line_column_fails a f h g p q = wrong ALineColumn [] a f h g (by (head_of a.rest
     by kinds.Quoted p q = absurd (q refl)
     by _ p q = refl
 
+pub ruleset line_column_goes = (line_plain, line_quoted, line_column_fails)
+
 pub literal_number : (a b : State) → Advances a.counts a b → (head_of a.rest).kind ≡ kinds.Number → Leads (ALiteral ∷ []) a b
 literal_number a b h e = open_only ALiteral a b (opened ALiteral [] a.counts a b h (ap (at_literal a.counts) e))
 
@@ -78,6 +82,8 @@ literal_fails a f h g p q = wrong ALiteral [] a f h g (by (head_of a.rest).kind 
     by kinds.Str p q = absurd (q refl)
     by _ p q = refl
 
+pub ruleset literal_goes = (literal_number, literal_string, literal_fails)
+
 pub mark_leads : (a b : State) → Advances a.counts a b → (head_of a.rest).kind ≡ kinds.Number → is_mark (int_value (head_of a.rest).text) ≡ true → Leads (AMark ∷ []) a b
 mark_leads a b h e o = open_only AMark a b (opened AMark [] a.counts a b h (ap (at_mark a.counts [] (int_value (head_of a.rest).text)) e ∙ ap (λ x. cond x (Takes a.counts []) Outside) o))
 
@@ -90,6 +96,8 @@ mark_fails a f h g p = wrong AMark [] a f h g (by (head_of a.rest).kind p)
     by : (k : TokenKind) → (k ≡ kinds.Number → ⊥) → at_mark a.counts [] (int_value (head_of a.rest).text) k ≡ Wrong
     by kinds.Number p = absurd (p refl)
     by _ p = refl
+
+pub ruleset mark_goes = (mark_leads, mark_outside, mark_fails)
 
 pub marks_all : (a b : State) → Advances a.counts a b → (head_of a.rest).kind ≡ kinds.All → Leads (AMarks ∷ []) a b
 marks_all a b h e = open_only AMarks a b (opened AMarks [] a.counts a b h (ap (at_marks a.counts (int_value (head_of a.rest).text)) e))
@@ -123,6 +131,8 @@ marks_begin_leads a b h p k = comes_leads _ _ a a b (marks_begin a h p) k
 pub marks_begin_fails : (a : State) (f : BookFault) → Here a → ((head_of a.rest).kind ≡ kinds.All → ⊥) → Fails (AMark ∷ MoreMarks ∷ []) a f → Fails (AMarks ∷ []) a f
 marks_begin_fails a f h p k = comes_fails _ _ a a f (marks_begin a h p) k
 
+pub ruleset marks_goes = (marks_all, marks_begin_leads, marks_begin_fails)
+
 pub more_marks_open : (a b : State) → Advances a.counts a b → (head_of a.rest).kind ≡ kinds.Comma → Opens MoreMarks (AMark ∷ MoreMarks ∷ []) a b
 more_marks_open a b h e = opened MoreMarks _ a.counts a b h (ap (at_more a.counts (AMark ∷ MoreMarks ∷ [])) e)
 
@@ -136,6 +146,8 @@ no_comma c ss _ p = refl
 
 pub more_marks_end : (a : State) → Here a → ((head_of a.rest).kind ≡ kinds.Comma → ⊥) → Leads (MoreMarks ∷ []) a a
 more_marks_end a h p = skips MoreMarks a h (no_comma a.counts (AMark ∷ MoreMarks ∷ []) (head_of a.rest).kind p)
+
+pub ruleset listed_marks_goes = (first_comes, comes_leads, more_marks_end, more_marks_fail)
 
 pub then_where : (a b : State) → Advances a.counts a b → (head_of a.rest).kind ≡ kinds.Where → Opens AThen (ALineColumn ∷ AToken kinds.Equal ∷ ALiteral ∷ []) a b
 then_where a b h e = opened AThen _ a.counts a b h (ap (at_then a.counts) e)
@@ -151,6 +163,8 @@ then_nothing a h p q = skips AThen a h (by (head_of a.rest).kind p q)
     by kinds.Group p q = absurd (q refl)
     by _ p q = refl
 
+pub ruleset then_goes = (then_where, then_group, then_nothing)
+
 pub end_leads : (a : State) → Here a → (head_of a.rest).kind ≡ kinds.End → Leads (AnEnd ∷ []) a a
 end_leads a h e = skips AnEnd a h (ap at_end e)
 
@@ -160,3 +174,5 @@ end_fails a f h g p = wrong AnEnd [] a f h g (by (head_of a.rest).kind p)
     by : (k : TokenKind) → (k ≡ kinds.End → ⊥) → at_end k ≡ Wrong
     by kinds.End p = absurd (p refl)
     by _ p = refl
+
+pub ruleset whole_line_goes = (end_leads, end_fails)

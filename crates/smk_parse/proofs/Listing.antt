@@ -16,3 +16,5 @@ goes_list IsX o a b c t xs x h f k = record { ends = λ d zs m. subst (AreListed
 
 pub ends_list : {T : Type 0} (IsX : List Token → List Token → T → Type 0) (a b : List Token) (xs : List T) → EndsList IsX a b xs → AreListed IsX a b xs
 ends_list IsX a b xs h = subst (AreListed IsX a b) (append-nil xs) (h.ends b [] no_more)
+
+pub ruleset list_trees = (begins_list, ends_list)

@@ -10,9 +10,9 @@ use Rattle.smk_base.specs.declared.tree.AggTree.{AggTree}
 use Rattle.smk_base.specs.declared.tree.PairTree.{PairTree}
 use Rattle.smk_base.specs.declared.tree.Term.{Term}
 use Rattle.smk_base.specs.declared.tree.Term.TheVariants as terms
-use Rattle.smk_base.specs.Trees.{PredImage, CompareNode, AndNode, OrNode, NotNode, TreeImage, ScanNode, StepNode, StepImage, SelectNode, ProjectNode, DistinctNode, GroupNode, JoinNode, UnionAllNode, UnionNode}
+use Rattle.smk_base.specs.Trees.{PredImage, CompareNode, AndNode, OrNode, NotNode, TreeImage, ScanNode, StepNode, StepImage, SelectNode, ProjectNode, DistinctNode, GroupNode, JoinNode, ThetaNode, ProductNode, UnionAllNode, UnionNode}
 use Rattle.smk_model.specs.Tokens.{Token, head_of}
-use Rattle.smk_model.specs.Grammar.{First, IsName, IsColumn, IsLiteral, AreListed, IsItem, AreKeys, AreAggs, IsPair, IsOp, IsTerm, column_term, literal_term, IsPrim, negated, bracketed, compared, IsConj, conj, AreAnds, no_and, one_and, IsPred, pred, AreOrs, no_or, one_or, IsPlan, plan, IsSource, scan, inner_plan, AreSteps, no_step, one_step, IsStep, where_step, project_step, distinct_step, group_step, join_step, union_all_step, union_step}
+use Rattle.smk_model.specs.Grammar.{First, IsName, IsColumn, IsLiteral, AreListed, IsItem, AreKeys, AreAggs, IsPair, IsOp, IsTerm, column_term, literal_term, IsPrim, negated, bracketed, compared, IsConj, conj, AreAnds, no_and, one_and, IsPred, pred, AreOrs, no_or, one_or, IsPlan, plan, IsSource, scan, inner_plan, AreSteps, no_step, one_step, IsStep, where_step, project_step, distinct_step, group_step, join_step, theta_step, product_step, union_all_step, union_step}
 use Rattle.smk_model.specs.Machine.{State, Counts}
 use Rattle.smk_parse.specs.Readers.{Advances}
 use Rattle.smk_base.specs.declared.fault.BookFault.{BookFault}
@@ -20,6 +20,7 @@ use Rattle.smk_model.specs.Machine.{APrim, AnAnds, AnOrs, ASource, ASteps, AStep
 use Rattle.smk_parse.specs.Reads.{Leads, Fails}
 use Rattle.smk_parse.specs.Groupings.{IsGrouping, IsUnited, all_kept, repeats_dropped}
 use Rattle.smk_parse.proofs.Steps.{first_here, Comes, comes_leads, comes_fails, first_comes, first_fails, open_fails, more_comes, list_fails}
+use Rattle.smk_parse.proofs.BookSpelled.{column_is}
 use Rattle.smk_parse.proofs.BookSteps.{Here, and_opens, ands_nothing, or_opens, ors_nothing, bar_opens, steps_nothing}
 
 here : (k : TokenKind) (c : Counts) (a b : State) → Advances c a b → (head_of a.rest).kind ≡ k → First k (head_of a.rest) a.rest b.rest
@@ -34,14 +35,20 @@ column_term_is a b w h = column_term h
 pub literal_term_is : (a b : List Token) (l : Lit) → IsLiteral a b l → IsTerm a b (terms.Lit l)
 literal_term_is a b l h = literal_term h
 
+pub ruleset term_trees = (column_term_is, literal_term_is)
+
 pub compared_is : (a b c d : List Token) (w : Word) (o : CmpOp) (x : Term) → IsColumn a b w → IsOp b c o → IsTerm c d x → IsPrim a d (CompareNode w o x)
 compared_is a b c d w o x h k l = compared h k l
+
+pub ruleset comparison_trees = (column_is, compared_is)
 
 pub negated_is : (a b : State) (c : List Token) (p : PredImage) → Advances a.counts a b → (head_of a.rest).kind ≡ kinds.Not → IsPrim b.rest c p → IsPrim a.rest c (NotNode p)
 negated_is a b c p h e k = negated (here kinds.Not a.counts a b h e) k
 
 pub bracketed_is : (a b : State) (c d : List Token) (u : Token) (p : PredImage) → Advances a.counts a b → (head_of a.rest).kind ≡ kinds.Open → IsPred b.rest c p → First kinds.Close u c d → IsPrim a.rest d p
 bracketed_is a b c d u p h e k l = bracketed (here kinds.Open a.counts a b h e) k l
+
+pub ruleset prim_trees = (negated_is, bracketed_is)
 
 -- with these behind it, the conjunction so far becomes the whole
 pub record EndsConj (a b : List Token) (p : PredImage) : Type 0 where
@@ -136,14 +143,24 @@ scan_is c a b d w h e k = scan (here kinds.Scan c a b h e) k
 pub inner_is : (a b : State) (c d : List Token) (u : Token) (x : TreeImage) → Advances a.counts a b → (head_of a.rest).kind ≡ kinds.Open → IsPlan b.rest c x → First kinds.Close u c d → IsSource a.rest d x
 inner_is a b c d u x h e k l = inner_plan (here kinds.Open a.counts a b h e) k l
 
+pub ruleset source_trees = (scan_is, inner_is)
+
 pub join_is : (c : Counts) (a b : State) (d e g : List Token) (u : Token) (x : TreeImage) (ps : List PairTree) → Advances c a b → (head_of a.rest).kind ≡ kinds.Join → IsSource b.rest d x → First kinds.On u d e → AreListed IsPair e g ps → IsStep a.rest g (head_of a.rest).at (JoinNode x ps)
 join_is c a b d e g u x ps h i k l m = join_step (here kinds.Join c a b h i) k l m
+
+pub theta_is : (c : Counts) (a b : State) (d e g : List Token) (u : Token) (x : TreeImage) (p : PredImage) → Advances c a b → (head_of a.rest).kind ≡ kinds.Theta → IsSource b.rest d x → First kinds.On u d e → IsPred e g p → IsStep a.rest g (head_of a.rest).at (ThetaNode x p)
+theta_is c a b d e g u x p h i k l m = theta_step (here kinds.Theta c a b h i) k l m
+
+pub product_is : (c : Counts) (a b : State) (d : List Token) (x : TreeImage) → Advances c a b → (head_of a.rest).kind ≡ kinds.Product → IsSource b.rest d x → IsStep a.rest d (head_of a.rest).at (ProductNode x)
+product_is c a b d x h i k = product_step (here kinds.Product c a b h i) k
 
 pub all_united : (a b : State) (c : List Token) (x : TreeImage) → Advances a.counts a b → (head_of a.rest).kind ≡ kinds.All → IsSource b.rest c x → IsUnited a.rest c true x
 all_united a b c x h e k = all_kept (here kinds.All a.counts a b h e) k
 
 pub not_united : (a b : List Token) (x : TreeImage) → IsSource a b x → IsUnited a b false x
 not_united a b x h = repeats_dropped h
+
+pub ruleset united_trees = (all_united, not_united)
 
 pub union_all_is : (c : Counts) (a b : State) (d : List Token) (o : Bool) (x : TreeImage) → Advances c a b → (head_of a.rest).kind ≡ kinds.Union → IsUnited b.rest d o x → o ≡ true → IsStep a.rest d (head_of a.rest).at (UnionAllNode x)
 union_all_is c a b d true x h e (all_kept i k) f = union_all_step (here kinds.Union c a b h e) i k
@@ -153,21 +170,35 @@ pub union_is : (c : Counts) (a b : State) (d : List Token) (o : Bool) (x : TreeI
 union_is c a b d true x h e (all_kept i k) f = absurd (cc)
 union_is c a b d false x h e (repeats_dropped k) f = union_step (here kinds.Union c a b h e) k
 
+pub ruleset union_trees = (union_all_is, union_is)
+
 -- one more in a loop
 pub ands_goes : (d : ℕ) (a b c e : State) → Comes (APrim d ∷ AnAnds d ∷ []) (AnAnds d ∷ []) a b → Advances b.counts b c → (head_of b.rest).kind ≡ kinds.And → Leads (APrim d ∷ []) c e → Comes (APrim d ∷ AnAnds d ∷ []) (AnAnds d ∷ []) a e
 ands_goes d a b c e h k i g = more_comes (APrim d ∷ AnAnds d ∷ []) (APrim d ∷ []) (AnAnds d) (AnAnds d) a b c e h (and_opens d b c k i) g
 
+pub ruleset conj_reads = (ands_begin, ands_first_fail, ands_fail, ands_end, ands_goes)
+
 pub conj_goes_here : (o : List Token) (a b : State) (c : List Token) (p q : PredImage) → EndsConj o a.rest p → Advances a.counts a b → (head_of a.rest).kind ≡ kinds.And → IsPrim b.rest c q → EndsConj o c (AndNode p q)
 conj_goes_here o a b c p q h k e i = conj_goes o a.rest b.rest c (head_of a.rest) p q h (here kinds.And a.counts a b k e) i
+
+pub ruleset conj_trees = (conj_goes_here, conj_begins, conj_ends)
 
 pub ors_goes : (d : ℕ) (a b c e : State) → Comes (APrim d ∷ AnAnds d ∷ AnOrs d ∷ []) (AnOrs d ∷ []) a b → Advances b.counts b c → (head_of b.rest).kind ≡ kinds.Or → Leads (APrim d ∷ AnAnds d ∷ []) c e → Comes (APrim d ∷ AnAnds d ∷ AnOrs d ∷ []) (AnOrs d ∷ []) a e
 ors_goes d a b c e h k i g = more_comes (APrim d ∷ AnAnds d ∷ AnOrs d ∷ []) (APrim d ∷ AnAnds d ∷ []) (AnOrs d) (AnOrs d) a b c e h (or_opens d b c k i) g
 
+pub ruleset pred_reads = (ors_begin, ors_first_fail, ors_fail, ors_end, ors_goes)
+
 pub pred_goes_here : (o : List Token) (a b : State) (c : List Token) (p q : PredImage) → EndsPred o a.rest p → Advances a.counts a b → (head_of a.rest).kind ≡ kinds.Or → IsConj b.rest c q → EndsPred o c (OrNode p q)
 pred_goes_here o a b c p q h k e i = pred_goes o a.rest b.rest c (head_of a.rest) p q h (here kinds.Or a.counts a b k e) i
+
+pub ruleset pred_trees = (pred_goes_here, pred_begins, pred_ends)
 
 pub steps_go : (d : ℕ) (a b c e : State) → Comes (ASource d ∷ ASteps d ∷ []) (ASteps d ∷ []) a b → Advances b.counts b c → (head_of b.rest).kind ≡ kinds.Bar → Leads (AStep d ∷ []) c e → Comes (ASource d ∷ ASteps d ∷ []) (ASteps d ∷ []) a e
 steps_go d a b c e h k i g = more_comes (ASource d ∷ ASteps d ∷ []) (AStep d ∷ []) (ASteps d) (ASteps d) a b c e h (bar_opens d b c k i) g
 
 pub plan_goes_here : (o : List Token) (a b : State) (c : List Token) (n m : ℕ) (x : TreeImage) (s : StepImage) → EndsPlan o a.rest x → Advances a.counts a b → (head_of a.rest).kind ≡ kinds.Bar → m ≡ n → IsStep b.rest c n s → EndsPlan o c (StepNode m x s)
 plan_goes_here o a b c n m x s h k e f i = subst (λ j. EndsPlan o c (StepNode j x s)) (sym f) (plan_goes o a.rest b.rest c (head_of a.rest) n x s h (here kinds.Bar a.counts a b k e) i)
+
+pub ruleset plan_reads = (steps_begin, steps_first_fail, steps_fail, steps_end, steps_go)
+
+pub ruleset plan_trees = (plan_goes_here, plan_begins, plan_ends)

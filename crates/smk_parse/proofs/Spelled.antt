@@ -34,6 +34,8 @@ all_is a b h e = all_marks (first_here kinds.All a.counts a b h e)
 pub listed_is : (a b : List Token) (ms : List ℕ) → AreListed IsMark a b ms → AreMarks a b (markings.Listed ms)
 listed_is a b ms h = listed_marks h
 
+pub ruleset marks_trees = (all_is, listed_is)
+
 pub no_then_is : (a : List Token) → IsThen a a thens.Plain
 no_then_is a = no_then
 
@@ -42,6 +44,8 @@ group_then_is a b h e = group_then (first_here kinds.Group a.counts a b h e)
 
 pub where_then_is : (a b : State) (c d e : List Token) (u : Token) (w : Word) (l : Lit) → Advances a.counts a b → (head_of a.rest).kind ≡ kinds.Where → IsColumn b.rest c w → First kinds.Equal u c d → IsLiteral d e l → IsThen a.rest e (thens.Matching w.name l.value)
 where_then_is a b c d e u w l h g i j k = where_then (first_here kinds.Where a.counts a b h g) i j k
+
+pub ruleset then_trees = (where_then_is, group_then_is, no_then_is)
 
 pub show_is : (a b : State) (c : List Token) (w : Word) → Advances a.counts a b → (head_of a.rest).kind ≡ kinds.Show → IsName b.rest c w → IsLine a.rest c (lines.Show w.name)
 show_is a b c w h g i = show_line (first_here kinds.Show a.counts a b h g) i
@@ -61,6 +65,8 @@ clear_is b a t h = clear_line h
 pub clear_one_is : (b c : State) (d e : List Token) (u : Token) (v : List ℕ) (z : Word) → Advances b.counts b c → (head_of b.rest).kind ≡ kinds.Name → v ≡ (head_of b.rest).text → First kinds.On u c.rest d → IsName d e z → (a : List Token) (t : Token) → First kinds.Clear t a b.rest → IsLine a e (lines.ClearOne v z.name)
 clear_one_is b c d e u v z h k f i j a t g = subst (λ n. IsLine a e (lines.ClearOne n z.name)) (sym f) (clear_one_line g (name (first_here kinds.Name b.counts b c h k)) i j)
 
+pub ruleset cleared_trees = (clear_is, clear_one_is)
+
 pub whole_is : (a b : List Token) (l : Line) → IsLine a b l → b ≡ head_of b ∷ tail_of b → (head_of b).kind ≡ kinds.End → IsWholeLine a l
 whole_is a b l h k e = whole_line h (record { is_kind = e; is_first = k })
 
@@ -78,3 +84,5 @@ unread_bad_number a text at e k n = (λ h. n (ap (λ s. (head_of s.rest).kind) e
 
 pub unread_many : (a : State) (text : List ℕ) (at : ℕ) (what : Many) → a ≡ record { rest = tokens text; counts = no_counts } → Fails (ALine ∷ AnEnd ∷ []) a (TooMany at what) → ((head_of a.rest).kind ≡ kinds.End → ⊥) → IsLineAnswer text (Err (line_faults.NotALine at))
 unread_many a text at what e k n = (λ h. n (ap (λ s. (head_of s.rest).kind) e ∙ h), (TooMany at what, (ap (λ s. fault_in (through (ALine ∷ AnEnd ∷ []) s.counts s.rest)) (sym e) ∙ ap fault_in (k.stops []), refl)))
+
+pub ruleset line_answers = (line_answer, unread_bad_token, unread_unexpected, unread_many, unread_bad_number)

@@ -46,6 +46,8 @@ file_fails a f h g e = wrong (AToken kinds.Str) [] a f h g (by (head_of a.rest).
 pub file_here : (a b : State) (n : List ℕ) → Advances a.counts a b → (head_of a.rest).kind ≡ kinds.Str → n ≡ string_value (head_of a.rest).text → IsFile a.rest b.rest n
 file_here a b n h e f = subst (IsFile a.rest b.rest) (sym f) (file (here kinds.Str a.counts a b h e))
 
+pub ruleset file_goes = (file_leads, file_fails, file_here)
+
 pub table_is : (a b c d e f g h : List Token) (t u v x : Token) (w : Word) (n : List ℕ) (ds : List Decl) → First kinds.Table t a b → IsName b c w → First kinds.From u c d → IsFile d e n → First kinds.Open v e f → AreListed IsDecl f g ds → First kinds.Close x g h → IsStmt a h (TableNode w n ds)
 table_is a b c d e f g h t u v x w n ds i j k l m o p = table_stmt i j k l m o p
 
@@ -63,6 +65,8 @@ by_is a b c w h e k = by_extra (here kinds.By a.counts a b h e) k
 
 pub group_extra_is : (a b : State) (c : List Token) (n : ℕ) (ws : List Word) (xs : List AggTree) → Advances a.counts a b → (head_of a.rest).kind ≡ kinds.Group → n ≡ (head_of a.rest).at → IsGrouping b.rest c ws xs → IsExtra a.rest c (extras.Grouped n ws xs)
 group_extra_is a b c n ws xs h e f k = subst (λ m. IsExtra a.rest c (extras.Grouped m ws xs)) (sym f) (group_extra (here kinds.Group a.counts a b h e) k.keys k.aggs)
+
+pub ruleset extra_trees = (by_is, group_extra_is, no_extra_is)
 
 pub back_is : (z : List Token) (a b : State) (c d e g : List Token) (t v : Token) (n : ℕ) (w y : Word) (x : Extra) → First kinds.Lineage t z a.rest → n ≡ t.at → Advances a.counts a b → (head_of a.rest).kind ≡ kinds.Back → IsName b.rest c w → First kinds.To v c d → IsName d e y → IsExtra e g x → IsStmt z g (BackNode n w y x)
 back_is z a b c d e g t v n w y x h f i j k l m o = subst (λ m. IsStmt z g (BackNode m w y x)) (sym f) (back_stmt h (here kinds.Back a.counts a b i j) k l m o)
@@ -94,6 +98,8 @@ stmts_fail y z a b f h k = comes_fails _ _ a b f h k
 
 pub stmts_end : (y z : Tally) (a b : State) → Comes (AStmts y ∷ []) (AStmts z ∷ []) a b → Here b → (head_of b.rest).kind ≡ kinds.End → Leads (AStmts y ∷ []) a b
 stmts_end y z a b h k e = comes_leads _ _ a b b h (end_skips z b k e)
+
+pub ruleset stmts_goes = (stmts_same, stmts_go, stmts_fail, stmts_end, stmts_begin, stmts_go_on, stmts_done)
 
 pub book_read : (a b : State) (text : List ℕ) → a ≡ record { rest = tokens text; counts = no_counts } → Leads book_symbols a b → book_fault (tokens text) ≡ None
 book_read a b text e h = ap (λ s. fault_in (through book_symbols s.counts s.rest)) (sym e) ∙ ap fault_in (h.goes [])

@@ -25,7 +25,7 @@ fn at_end(reader: &Reader) -> bool
 }
 
 /// The statements up to the end.
-#[tactic(auto, using(crate::proofs::StmtSpelled::stmts_same, crate::proofs::StmtSpelled::stmts_go, crate::proofs::StmtSpelled::stmts_fail, crate::proofs::StmtSpelled::stmts_end, crate::proofs::StmtSpelled::stmts_begin, crate::proofs::StmtSpelled::stmts_go_on, crate::proofs::StmtSpelled::stmts_done, crate::proofs::Sequences::in_order))]
+#[tactic(auto, using(crate::proofs::StmtSpelled::stmts_goes, crate::proofs::Sequences::in_order))]
 fn stmts(alloc: Global, reader: &mut Reader) -> Result<Stmts, BookFault>
     ensures reads { Reads book_symbols reader.old reader.new result }
     ensures is { IfOk result (λ stmts. AreStmts reader.old.rest (map stmt_image stmts)) }

@@ -12,7 +12,7 @@ use smk_base::{BookFault, Line, LineFault, Marks, Rids, Then, TokenKind, Word};
 use std::alloc::Global;
 
 /// A column of any length.
-#[tactic(auto, using(crate::proofs::LineSteps::line_plain, crate::proofs::LineSteps::line_quoted, crate::proofs::LineSteps::line_column_fails, crate::proofs::Single::plain_is, crate::proofs::Single::quoted_is, crate::proofs::Sequences::in_order))]
+#[tactic(auto, using(crate::proofs::LineSteps::line_column_goes, crate::proofs::Single::line_column_trees, crate::proofs::Sequences::in_order))]
 fn line_column(alloc: Global, reader: &mut Reader) -> Result<Word, BookFault>
     ensures reads { Reads (ALineColumn ∷ []) reader.old reader.new result }
     ensures is { IfOk result (λ word. IsColumn reader.old.rest reader.new.rest word) }
@@ -35,7 +35,7 @@ fn line_column(alloc: Global, reader: &mut Reader) -> Result<Word, BookFault>
 }
 
 /// A mark.
-#[tactic(auto, using(crate::proofs::LineSteps::mark_leads, crate::proofs::LineSteps::mark_outside, crate::proofs::LineSteps::mark_fails, crate::proofs::Spelled::mark_is, crate::proofs::Sequences::in_order))]
+#[tactic(auto, using(crate::proofs::LineSteps::mark_goes, crate::proofs::Spelled::mark_is, crate::proofs::Sequences::in_order))]
 fn mark(reader: &mut Reader) -> Result<u32, BookFault>
     ensures reads { Reads (AMark ∷ []) reader.old reader.new result }
     ensures is { IfOk result (λ mark. IsMark reader.old.rest reader.new.rest mark) }
@@ -56,7 +56,7 @@ fn mark(reader: &mut Reader) -> Result<u32, BookFault>
 }
 
 /// One or more marks.
-#[tactic(auto, using(crate::proofs::Steps::first_comes, crate::proofs::Steps::comes_leads, crate::proofs::LineSteps::more_marks_end, crate::proofs::LineSteps::more_marks_fail, crate::proofs::Listing::begins_list, crate::proofs::Listing::ends_list, crate::proofs::Sequences::in_order))]
+#[tactic(auto, using(crate::proofs::LineSteps::listed_marks_goes, crate::proofs::Listing::list_trees, crate::proofs::Sequences::in_order))]
 fn listed_marks(alloc: Global, reader: &mut Reader) -> Result<Rids, BookFault>
     ensures reads { Reads (AMark ∷ MoreMarks ∷ []) reader.old reader.new result }
     ensures is { IfOk result (λ marks. AreListed IsMark reader.old.rest reader.new.rest marks) }
@@ -74,7 +74,7 @@ fn listed_marks(alloc: Global, reader: &mut Reader) -> Result<Rids, BookFault>
 }
 
 /// The marks of a line.
-#[tactic(auto, using(crate::proofs::LineSteps::marks_all, crate::proofs::LineSteps::marks_begin_leads, crate::proofs::LineSteps::marks_begin_fails, crate::proofs::Spelled::all_is, crate::proofs::Spelled::listed_is, crate::proofs::Sequences::in_order))]
+#[tactic(auto, using(crate::proofs::LineSteps::marks_goes, crate::proofs::Spelled::marks_trees, crate::proofs::Sequences::in_order))]
 fn marks(alloc: Global, reader: &mut Reader) -> Result<Marks, BookFault>
     ensures reads { Reads (AMarks ∷ []) reader.old reader.new result }
     ensures is { IfOk result (λ marks. AreMarks reader.old.rest reader.new.rest marks) }
@@ -93,7 +93,7 @@ fn marks(alloc: Global, reader: &mut Reader) -> Result<Marks, BookFault>
 }
 
 /// What a `back` line asks for besides the rows.
-#[tactic(auto, using(crate::proofs::LineSteps::then_where, crate::proofs::LineSteps::then_group, crate::proofs::LineSteps::then_nothing, crate::proofs::Spelled::where_then_is, crate::proofs::Spelled::group_then_is, crate::proofs::Spelled::no_then_is, crate::proofs::Sequences::in_order))]
+#[tactic(auto, using(crate::proofs::LineSteps::then_goes, crate::proofs::Spelled::then_trees, crate::proofs::Sequences::in_order))]
 fn then(alloc: Global, reader: &mut Reader) -> Result<Then, BookFault>
     ensures reads { Reads (AThen ∷ []) reader.old reader.new result }
     ensures is { IfOk result (λ then. IsThen reader.old.rest reader.new.rest then) }
@@ -185,7 +185,7 @@ fn brush_line(alloc: Global, reader: &mut Reader) -> Result<Line, BookFault>
 }
 
 /// What a `clear` line clears: every brush, or the one of a view on a table.
-#[tactic(auto, using(crate::proofs::LineSteps::cleared_one, crate::proofs::LineSteps::cleared_all, crate::proofs::Spelled::clear_is, crate::proofs::Spelled::clear_one_is, crate::proofs::Sequences::in_order))]
+#[tactic(auto, using(crate::proofs::LineSteps::cleared_goes, crate::proofs::Spelled::cleared_trees, crate::proofs::Sequences::in_order))]
 fn cleared(alloc: Global, reader: &mut Reader) -> Result<Line, BookFault>
     ensures reads { Reads (ACleared ∷ []) reader.old reader.new result }
     ensures is { IfOk result (λ line. (a : List Token) → (t : Token) → First kinds.Clear t a reader.old.rest → IsLine a reader.new.rest line) }
@@ -224,7 +224,7 @@ fn line(alloc: Global, reader: &mut Reader) -> Result<Line, BookFault>
 }
 
 /// A line up to its end.
-#[tactic(auto, using(crate::proofs::LineSteps::end_leads, crate::proofs::LineSteps::end_fails, crate::proofs::Spelled::whole_is, crate::proofs::Sequences::in_order))]
+#[tactic(auto, using(crate::proofs::LineSteps::whole_line_goes, crate::proofs::Spelled::whole_is, crate::proofs::Sequences::in_order))]
 fn whole_line(alloc: Global, reader: &mut Reader) -> Result<Line, BookFault>
     ensures reads { Reads (ALine ∷ AnEnd ∷ []) reader.old reader.new result }
     ensures is { IfOk result (λ line. IsWholeLine reader.old.rest line) }
@@ -237,7 +237,7 @@ fn whole_line(alloc: Global, reader: &mut Reader) -> Result<Line, BookFault>
 }
 
 /// The line of a script as a tree: None where it has no token, and the place of its first fault where it isn't a line.
-#[tactic(auto, using(crate::proofs::Spelled::line_answer, crate::proofs::Spelled::unread_bad_token, crate::proofs::Spelled::unread_unexpected, crate::proofs::Spelled::unread_many, crate::proofs::Spelled::unread_bad_number))]
+#[tactic(auto, using(crate::proofs::Spelled::line_answers))]
 pub fn parse_line(alloc: Global, line: &[u8]) -> Result<Option<Line>, LineFault>
     ensures { IsLineAnswer line.now result }
 {

@@ -17,7 +17,7 @@ use smk_base::{
 use std::alloc::Global;
 
 /// Whether a declared column is a text.
-#[tactic(auto, using(crate::proofs::BookSteps::type_int, crate::proofs::BookSteps::type_text, crate::proofs::BookSteps::type_fails, crate::proofs::BookSpelled::int_type_is, crate::proofs::BookSpelled::text_type_is, crate::proofs::Sequences::in_order))]
+#[tactic(auto, using(crate::proofs::BookSteps::is_text_goes, crate::proofs::BookSpelled::is_text_trees, crate::proofs::Sequences::in_order))]
 fn is_text(reader: &mut Reader) -> Result<bool, BookFault>
     ensures reads { Reads (AType ∷ []) reader.old reader.new result }
     ensures is { IfOk result (λ text. IsType reader.old.rest reader.new.rest text) }
@@ -37,7 +37,7 @@ fn is_text(reader: &mut Reader) -> Result<bool, BookFault>
 }
 
 /// The default of a declared column.
-#[tactic(auto, using(crate::proofs::BookSteps::default_opens, crate::proofs::BookSteps::default_nothing, crate::proofs::BookSpelled::default_is, crate::proofs::BookSpelled::no_default_is, crate::proofs::Sequences::in_order))]
+#[tactic(auto, using(crate::proofs::BookSteps::default_goes, crate::proofs::BookSpelled::default_trees, crate::proofs::Sequences::in_order))]
 fn default(alloc: Global, reader: &mut Reader) -> Result<Option<Lit>, BookFault>
     ensures reads { Reads (ADefault ∷ []) reader.old reader.new result }
     ensures is { IfOk result (λ lit. IsDefault reader.old.rest reader.new.rest lit) }
@@ -68,7 +68,7 @@ fn decl(alloc: Global, reader: &mut Reader, before: u32) -> Result<Decl, BookFau
 }
 
 /// The output name of a column: its own, unless `as` gives another.
-#[tactic(auto, using(crate::proofs::BookSteps::as_opens, crate::proofs::BookSteps::as_nothing, crate::proofs::BookSpelled::as_is, crate::proofs::BookSpelled::itself_is, crate::proofs::Sequences::in_order))]
+#[tactic(auto, using(crate::proofs::BookSteps::named_goes, crate::proofs::BookSpelled::named_trees, crate::proofs::Sequences::in_order))]
 fn named(alloc: Global, reader: &mut Reader, col: &Word) -> Result<Word, BookFault>
     ensures reads { Reads (AnAs ∷ []) reader.old reader.new result }
     ensures is { IfOk result (λ name. IsNamed col.now reader.old.rest reader.new.rest name) }
@@ -103,7 +103,7 @@ fn bin(col: Word, width: i64, name: Word) -> ItemTree
 }
 
 /// The second part of `bin`.
-#[tactic(auto, using(crate::proofs::BookSteps::width_leads, crate::proofs::BookSteps::width_outside, crate::proofs::BookSteps::width_fails, crate::proofs::BookSpelled::width_is, crate::proofs::Sequences::in_order))]
+#[tactic(auto, using(crate::proofs::BookSteps::width_goes, crate::proofs::BookSpelled::width_is, crate::proofs::Sequences::in_order))]
 fn width(reader: &mut Reader) -> Result<i64, BookFault>
     ensures reads { Reads (AWidth ∷ []) reader.old reader.new result }
     ensures is { IfOk result (λ width. IsWidth reader.old.rest reader.new.rest width) }
@@ -126,7 +126,7 @@ fn width(reader: &mut Reader) -> Result<i64, BookFault>
     }
 }
 
-#[tactic(auto, using(crate::proofs::BookSteps::bin_opens, crate::proofs::BookSteps::bin_many, crate::proofs::BookSpelled::bin_item_is, crate::proofs::Sequences::in_order))]
+#[tactic(auto, using(crate::proofs::BookSteps::bin_item_goes, crate::proofs::BookSpelled::bin_item_is, crate::proofs::Sequences::in_order))]
 fn bin_item(alloc: Global, reader: &mut Reader, before: u32) -> Result<ItemTree, BookFault>
     requires { (head_of reader.old.rest).kind ≡ kinds.Bin }
     ensures reads { Reads (AnItem before ∷ []) reader.old reader.new result }
@@ -180,7 +180,7 @@ fn item(alloc: Global, reader: &mut Reader, before: u32) -> Result<ItemTree, Boo
 }
 
 /// What an aggregate computes.
-#[tactic(auto, using(crate::proofs::BookSteps::what_count, crate::proofs::BookSteps::what_sum, crate::proofs::BookSteps::what_min, crate::proofs::BookSteps::what_max, crate::proofs::BookSteps::what_fails, crate::proofs::BookSpelled::count_is, crate::proofs::BookSpelled::sum_is, crate::proofs::BookSpelled::min_is, crate::proofs::BookSpelled::max_is, crate::proofs::Sequences::in_order))]
+#[tactic(auto, using(crate::proofs::BookSteps::what_goes, crate::proofs::BookSpelled::what_trees, crate::proofs::Sequences::in_order))]
 fn what(alloc: Global, reader: &mut Reader) -> Result<AggWhat, BookFault>
     ensures reads { Reads (AWhat ∷ []) reader.old reader.new result }
     ensures is { IfOk result (λ what. IsWhat reader.old.rest reader.new.rest what) }
@@ -236,7 +236,7 @@ fn pair(alloc: Global, reader: &mut Reader, before: u32) -> Result<PairTree, Boo
 }
 
 /// One or more declared columns.
-#[tactic(auto, using(crate::proofs::BookSteps::first_decls_come, crate::proofs::BookSteps::first_decls_fail, crate::proofs::BookSteps::more_decls_leads, crate::proofs::BookSteps::more_decls_fail, crate::proofs::Listing::begins_list, crate::proofs::Listing::ends_list, crate::proofs::Sequences::in_order))]
+#[tactic(auto, using(crate::proofs::BookSteps::listed_decls_goes, crate::proofs::Listing::list_trees, crate::proofs::Sequences::in_order))]
 pub fn listed_decls(alloc: Global, reader: &mut Reader) -> Result<Decls, BookFault>
     ensures reads { Reads (AFirst 0 ∷ AType ∷ ADefault ∷ MoreDecls 1 ∷ []) reader.old reader.new result }
     ensures is { IfOk result (λ list. AreListed IsDecl reader.old.rest reader.new.rest list) }
@@ -256,7 +256,7 @@ pub fn listed_decls(alloc: Global, reader: &mut Reader) -> Result<Decls, BookFau
 }
 
 /// One or more output columns.
-#[tactic(auto, using(crate::proofs::BookSteps::first_items_come, crate::proofs::BookSteps::first_items_fail, crate::proofs::BookSteps::more_items_leads, crate::proofs::BookSteps::more_items_fail, crate::proofs::Listing::begins_list, crate::proofs::Listing::ends_list, crate::proofs::Sequences::in_order))]
+#[tactic(auto, using(crate::proofs::BookSteps::listed_items_goes, crate::proofs::Listing::list_trees, crate::proofs::Sequences::in_order))]
 pub fn listed_items(alloc: Global, reader: &mut Reader) -> Result<ItemTrees, BookFault>
     ensures reads { Reads (AnItem 0 ∷ MoreItems 1 ∷ []) reader.old reader.new result }
     ensures is { IfOk result (λ list. AreListed IsItem reader.old.rest reader.new.rest list) }
@@ -276,7 +276,7 @@ pub fn listed_items(alloc: Global, reader: &mut Reader) -> Result<ItemTrees, Boo
 }
 
 /// One or more keys.
-#[tactic(auto, using(crate::proofs::BookSteps::first_keys_come, crate::proofs::BookSteps::first_keys_fail, crate::proofs::BookSteps::more_keys_leads, crate::proofs::BookSteps::more_keys_fail, crate::proofs::Listing::begins_list, crate::proofs::Listing::ends_list, crate::proofs::Sequences::in_order))]
+#[tactic(auto, using(crate::proofs::BookSteps::listed_keys_goes, crate::proofs::Listing::list_trees, crate::proofs::Sequences::in_order))]
 pub fn listed_keys(alloc: Global, reader: &mut Reader) -> Result<Words, BookFault>
     ensures reads { Reads (AFirst 0 ∷ MoreKeys 1 ∷ []) reader.old reader.new result }
     ensures is { IfOk result (λ list. AreListed IsColumn reader.old.rest reader.new.rest list) }
@@ -296,7 +296,7 @@ pub fn listed_keys(alloc: Global, reader: &mut Reader) -> Result<Words, BookFaul
 }
 
 /// One or more aggregates.
-#[tactic(auto, using(crate::proofs::BookSteps::first_aggs_come, crate::proofs::BookSteps::first_aggs_fail, crate::proofs::BookSteps::more_aggs_leads, crate::proofs::BookSteps::more_aggs_fail, crate::proofs::Listing::begins_list, crate::proofs::Listing::ends_list, crate::proofs::Sequences::in_order))]
+#[tactic(auto, using(crate::proofs::BookSteps::listed_aggs_goes, crate::proofs::Listing::list_trees, crate::proofs::Sequences::in_order))]
 pub fn listed_aggs(alloc: Global, reader: &mut Reader) -> Result<AggTrees, BookFault>
     ensures reads { Reads (AFirst 0 ∷ AToken kinds.Equal ∷ AWhat ∷ MoreAggs 1 ∷ []) reader.old reader.new result }
     ensures is { IfOk result (λ list. AreListed IsAgg reader.old.rest reader.new.rest list) }
@@ -316,7 +316,7 @@ pub fn listed_aggs(alloc: Global, reader: &mut Reader) -> Result<AggTrees, BookF
 }
 
 /// One or more pairs.
-#[tactic(auto, using(crate::proofs::BookSteps::first_pairs_come, crate::proofs::BookSteps::first_pairs_fail, crate::proofs::BookSteps::more_pairs_leads, crate::proofs::BookSteps::more_pairs_fail, crate::proofs::Listing::begins_list, crate::proofs::Listing::ends_list, crate::proofs::Sequences::in_order))]
+#[tactic(auto, using(crate::proofs::BookSteps::listed_pairs_goes, crate::proofs::Listing::list_trees, crate::proofs::Sequences::in_order))]
 pub fn listed_pairs(alloc: Global, reader: &mut Reader) -> Result<PairTrees, BookFault>
     ensures reads { Reads (AFirst 0 ∷ AToken kinds.Equal ∷ AColumn ∷ MorePairs 1 ∷ []) reader.old reader.new result }
     ensures is { IfOk result (λ list. AreListed IsPair reader.old.rest reader.new.rest list) }
@@ -336,7 +336,7 @@ pub fn listed_pairs(alloc: Global, reader: &mut Reader) -> Result<PairTrees, Boo
 }
 
 /// One or more linked views.
-#[tactic(auto, using(crate::proofs::BookSteps::first_linked_come, crate::proofs::BookSteps::first_linked_fail, crate::proofs::BookSteps::more_linked_leads, crate::proofs::BookSteps::more_linked_fail, crate::proofs::Listing::begins_list, crate::proofs::Listing::ends_list, crate::proofs::Sequences::in_order))]
+#[tactic(auto, using(crate::proofs::BookSteps::listed_linked_goes, crate::proofs::Listing::list_trees, crate::proofs::Sequences::in_order))]
 pub fn listed_linked(alloc: Global, reader: &mut Reader) -> Result<Words, BookFault>
     ensures reads { Reads (ALinked 0 ∷ MoreLinked 1 ∷ []) reader.old reader.new result }
     ensures is { IfOk result (λ list. AreListed IsName reader.old.rest reader.new.rest list) }
@@ -356,7 +356,7 @@ pub fn listed_linked(alloc: Global, reader: &mut Reader) -> Result<Words, BookFa
 }
 
 /// The keys of a grouping.
-#[tactic(auto, using(crate::proofs::BookSteps::keys_begin_leads, crate::proofs::BookSteps::keys_begin_fails, crate::proofs::BookSteps::keys_nothing, crate::proofs::BookSpelled::keys_are, crate::proofs::BookSpelled::no_keys_is))]
+#[tactic(auto, using(crate::proofs::BookSteps::keys_goes, crate::proofs::BookSpelled::keys_trees))]
 fn keys(alloc: Global, reader: &mut Reader) -> Result<Words, BookFault>
     ensures reads { Reads (AKeys ∷ []) reader.old reader.new result }
     ensures is { IfOk result (λ list. AreKeys reader.old.rest reader.new.rest list) }
@@ -369,7 +369,7 @@ fn keys(alloc: Global, reader: &mut Reader) -> Result<Words, BookFault>
 }
 
 /// The aggregates of a grouping.
-#[tactic(auto, using(crate::proofs::BookSteps::aggs_opens, crate::proofs::BookSteps::aggs_nothing, crate::proofs::BookSpelled::aggs_are, crate::proofs::BookSpelled::no_aggs_is, crate::proofs::Sequences::in_order))]
+#[tactic(auto, using(crate::proofs::BookSteps::aggs_goes, crate::proofs::BookSpelled::aggs_trees, crate::proofs::Sequences::in_order))]
 fn aggs(alloc: Global, reader: &mut Reader) -> Result<AggTrees, BookFault>
     ensures reads { Reads (AnAggs ∷ []) reader.old reader.new result }
     ensures is { IfOk result (λ list. AreAggs reader.old.rest reader.new.rest list) }

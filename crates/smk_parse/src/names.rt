@@ -34,7 +34,7 @@ pub fn is_short(reader: &Reader) -> bool
 }
 
 /// A name of at most 64 bytes.
-#[tactic(auto, using(crate::proofs::BookSteps::name_leads, crate::proofs::BookSteps::name_long, crate::proofs::BookSteps::name_fails, crate::proofs::Single::name_is, crate::proofs::Sequences::in_order))]
+#[tactic(auto, using(crate::proofs::BookSteps::name_goes, crate::proofs::Single::name_is, crate::proofs::Sequences::in_order))]
 pub fn name(alloc: Global, reader: &mut Reader) -> Result<Word, BookFault>
     ensures reads { Reads (AName ∷ []) reader.old reader.new result }
     ensures is { IfOk result (λ word. IsName reader.old.rest reader.new.rest word) }
@@ -77,7 +77,7 @@ pub fn column_in_hand(alloc: Global, reader: &Reader) -> Result<Word, BookFault>
 }
 
 /// A column of at most 64 bytes.
-#[tactic(auto, using(crate::proofs::BookSteps::column_leads, crate::proofs::BookSteps::column_long, crate::proofs::BookSteps::column_fails, crate::proofs::BookSteps::column_more, crate::proofs::BookSpelled::column_is, crate::proofs::Sequences::in_order))]
+#[tactic(auto, using(crate::proofs::BookSteps::column_goes, crate::proofs::BookSpelled::column_is, crate::proofs::Sequences::in_order))]
 pub fn column(alloc: Global, reader: &mut Reader) -> Result<Word, BookFault>
     ensures reads { Reads (AColumn ∷ []) reader.old reader.new result }
     ensures is { IfOk result (λ word. IsColumn reader.old.rest reader.new.rest word) }
@@ -99,7 +99,7 @@ pub fn column(alloc: Global, reader: &mut Reader) -> Result<Word, BookFault>
 }
 
 /// The column that begins a member of a list, of which so many stand before.
-#[tactic(auto, using(crate::proofs::BookSteps::first_leads, crate::proofs::BookSteps::first_many, crate::proofs::BookSteps::first_long, crate::proofs::BookSteps::first_wrong, crate::proofs::BookSteps::column_more, crate::proofs::BookSpelled::column_is, crate::proofs::Sequences::in_order))]
+#[tactic(auto, using(crate::proofs::BookSteps::first_column_goes, crate::proofs::BookSpelled::column_is, crate::proofs::Sequences::in_order))]
 pub fn first_column(alloc: Global, reader: &mut Reader, before: u32) -> Result<Word, BookFault>
     ensures reads { Reads (AFirst before ∷ []) reader.old reader.new result }
     ensures is { IfOk result (λ word. IsColumn reader.old.rest reader.new.rest word) }
@@ -128,7 +128,7 @@ pub fn first_column(alloc: Global, reader: &mut Reader, before: u32) -> Result<W
 }
 
 /// A linked view, of which so many stand before.
-#[tactic(auto, using(crate::proofs::BookSteps::linked_leads, crate::proofs::BookSteps::linked_many, crate::proofs::BookSteps::linked_long, crate::proofs::BookSteps::linked_fails, crate::proofs::Single::name_is, crate::proofs::Sequences::in_order))]
+#[tactic(auto, using(crate::proofs::BookSteps::linked_goes, crate::proofs::Single::name_is, crate::proofs::Sequences::in_order))]
 pub fn linked(alloc: Global, reader: &mut Reader, before: u32) -> Result<Word, BookFault>
     ensures reads { Reads (ALinked before ∷ []) reader.old reader.new result }
     ensures is { IfOk result (λ word. IsName reader.old.rest reader.new.rest word) }

@@ -1,28 +1,31 @@
-ghost use Rattle.std.specs.Prelude.{◌≡◌, ◌∷◌, ◌+◌, ◌<◌, ◌≤◌, [], length, IfOk, OnOk};
+ghost use Rattle.std.specs.Prelude.{◌≡◌, ◌∷◌, ◌+◌, ◌<◌, ◌≤◌, [], length, IsTrue, IfOk, IfErr, OnOk};
 ghost use Rattle.smk_base.specs.declared.token.TokenKind.TheVariants as kinds;
+ghost use Rattle.smk_base.specs.declared.fault.BookFault.TheVariants.{TooMany};
+ghost use Rattle.smk_base.specs.declared.fault.Many.TheVariants.{Nodes};
 ghost use Rattle.smk_base.specs.TreeImage.{tree_image, step_image};
-ghost use Rattle.smk_model.specs.Tokens.{head_of};
+ghost use Rattle.smk_model.specs.Tokens.{head_of, tail_of, is_more};
 ghost use Rattle.smk_model.specs.Grammar.{IsSource, IsPlan, IsStep};
-ghost use Rattle.smk_model.specs.Machine.{ASource, ASteps, AStep, AUnited};
+ghost use Rattle.smk_model.specs.Machine.{node_more, ASource, ASteps, AStep, AUnited};
+ghost use Rattle.smk_parse.specs.Readers.{Advances};
 ghost use Rattle.smk_parse.specs.Reads.{Reads, Shrinks};
 ghost use Rattle.smk_parse.specs.Groupings.{IsUnited};
 
 use crate::lists::{grouping, listed_items, listed_pairs};
 use crate::names::name;
-use crate::pred::pred;
+use crate::pred::{on, pred};
 use crate::reader::Reader;
 use crate::taken::{expect, wrong};
 use smk_base::{BookFault, Many, StepTree, TokenKind, Tree};
 use std::alloc::Global;
 
-/// A selection.
-#[tactic(auto, using(crate::proofs::BookSteps::where_opens, crate::proofs::BookSteps::where_many, crate::proofs::PlanSpelled::where_is, crate::proofs::Sequences::in_order))]
-fn where_step(alloc: Global, reader: &mut Reader, depth: u32) -> Result<StepTree, BookFault>
-    requires kind { (head_of reader.old.rest).kind ≡ kinds.Where }
-    requires depth { depth ≤ 32 }
-    ensures reads { Reads (AStep depth ∷ []) reader.old reader.new result }
-    ensures is { IfOk result (λ step. IsStep reader.old.rest reader.new.rest (head_of reader.old.rest).at (step_image step)) }
-    ensures shrinks { Shrinks reader.old reader.new result }
+/// The token in hand is taken, and makes a node of the plan.
+fn take_node(reader: &mut Reader) -> Result<(), BookFault>
+    requires { IsTrue (is_more (head_of reader.old.rest).kind) }
+    ensures taken { OnOk result (Advances (node_more reader.old.counts) reader.old reader.new) }
+    ensures few { OnOk result (reader.old.counts.nodes < 64) }
+    ensures many { IfErr result (λ fault. 64 ≤ reader.old.counts.nodes) }
+    ensures fault { IfErr result (λ fault. fault ≡ TooMany (head_of reader.old.rest).at Nodes) }
+    ensures here { reader.old.rest ≡ head_of reader.old.rest ∷ tail_of reader.old.rest }
 {
     let at = reader.at();
     let _kind = reader.kind();
@@ -34,81 +37,61 @@ fn where_step(alloc: Global, reader: &mut Reader, depth: u32) -> Result<StepTree
         });
     }
     reader.advance_to(nodes + 1, 0);
-    let pred = pred(alloc, reader, depth)?;
-    Ok(StepTree::Select(pred))
+    Ok(())
+}
+
+/// A selection.
+#[tactic(auto, using(crate::proofs::BookSteps::step_goes, crate::proofs::PlanSpelled::where_is, crate::proofs::Sequences::in_order))]
+fn where_step(alloc: Global, reader: &mut Reader, depth: u32) -> Result<StepTree, BookFault>
+    requires kind { (head_of reader.old.rest).kind ≡ kinds.Where }
+    requires depth { depth ≤ 32 }
+    ensures reads { Reads (AStep depth ∷ []) reader.old reader.new result }
+    ensures is { IfOk result (λ step. IsStep reader.old.rest reader.new.rest (head_of reader.old.rest).at (step_image step)) }
+    ensures shrinks { Shrinks reader.old reader.new result }
+{
+    take_node(reader)?;
+    Ok(StepTree::Select(pred(alloc, reader, depth)?))
 }
 
 /// A projection.
-#[tactic(auto, using(crate::proofs::BookSteps::project_opens, crate::proofs::BookSteps::project_many, crate::proofs::PlanSpelled::project_is, crate::proofs::Sequences::in_order))]
+#[tactic(auto, using(crate::proofs::BookSteps::step_goes, crate::proofs::PlanSpelled::project_is, crate::proofs::Sequences::in_order))]
 fn project_step(alloc: Global, reader: &mut Reader, depth: u32) -> Result<StepTree, BookFault>
     requires { (head_of reader.old.rest).kind ≡ kinds.Project }
     ensures reads { Reads (AStep depth ∷ []) reader.old reader.new result }
     ensures is { IfOk result (λ step. IsStep reader.old.rest reader.new.rest (head_of reader.old.rest).at (step_image step)) }
     ensures shrinks { Shrinks reader.old reader.new result }
 {
-    let at = reader.at();
-    let _kind = reader.kind();
-    let nodes = reader.nodes();
-    if nodes >= 64 {
-        return Err(BookFault::TooMany {
-            at,
-            what: Many::Nodes,
-        });
-    }
-    let compares = reader.compares();
-    reader.advance_to(nodes + 1, compares);
-    let items = listed_items(alloc, reader)?;
-    Ok(StepTree::Project(items))
+    take_node(reader)?;
+    Ok(StepTree::Project(listed_items(alloc, reader)?))
 }
 
 /// A projection without repeats.
-#[tactic(auto, using(crate::proofs::BookSteps::distinct_opens, crate::proofs::BookSteps::distinct_many, crate::proofs::PlanSpelled::distinct_is, crate::proofs::Sequences::in_order))]
+#[tactic(auto, using(crate::proofs::BookSteps::step_goes, crate::proofs::PlanSpelled::distinct_is, crate::proofs::Sequences::in_order))]
 fn distinct_step(alloc: Global, reader: &mut Reader, depth: u32) -> Result<StepTree, BookFault>
     requires { (head_of reader.old.rest).kind ≡ kinds.Distinct }
     ensures reads { Reads (AStep depth ∷ []) reader.old reader.new result }
     ensures is { IfOk result (λ step. IsStep reader.old.rest reader.new.rest (head_of reader.old.rest).at (step_image step)) }
     ensures shrinks { Shrinks reader.old reader.new result }
 {
-    let at = reader.at();
-    let _kind = reader.kind();
-    let nodes = reader.nodes();
-    if nodes >= 64 {
-        return Err(BookFault::TooMany {
-            at,
-            what: Many::Nodes,
-        });
-    }
-    let compares = reader.compares();
-    reader.advance_to(nodes + 1, compares);
-    let items = listed_items(alloc, reader)?;
-    Ok(StepTree::Distinct(items))
+    take_node(reader)?;
+    Ok(StepTree::Distinct(listed_items(alloc, reader)?))
 }
 
 /// A grouping.
-#[tactic(auto, using(crate::proofs::BookSteps::group_opens, crate::proofs::BookSteps::group_many, crate::proofs::PlanSpelled::group_is, crate::proofs::Sequences::in_order))]
+#[tactic(auto, using(crate::proofs::BookSteps::step_goes, crate::proofs::PlanSpelled::group_is, crate::proofs::Sequences::in_order))]
 fn group_step(alloc: Global, reader: &mut Reader, depth: u32) -> Result<StepTree, BookFault>
     requires { (head_of reader.old.rest).kind ≡ kinds.Group }
     ensures reads { Reads (AStep depth ∷ []) reader.old reader.new result }
     ensures is { IfOk result (λ step. IsStep reader.old.rest reader.new.rest (head_of reader.old.rest).at (step_image step)) }
     ensures shrinks { Shrinks reader.old reader.new result }
 {
-    let at = reader.at();
-    let _kind = reader.kind();
-    let nodes = reader.nodes();
-    if nodes >= 64 {
-        return Err(BookFault::TooMany {
-            at,
-            what: Many::Nodes,
-        });
-    }
-    let compares = reader.compares();
-    reader.advance_to(nodes + 1, compares);
+    take_node(reader)?;
     let (keys, aggs) = grouping(alloc, reader)?;
     Ok(StepTree::Group(keys, aggs))
 }
 
 /// A table, or a plan in parentheses.
-#[tactic(auto, using(crate::proofs::BookSteps::scan_opens, crate::proofs::BookSteps::scan_many, crate::proofs::BookSteps::inner_opens, crate::proofs::BookSteps::inner_deep, crate::proofs::BookSteps::source_fails, crate::proofs::PlanSpelled::scan_is, crate::proofs::PlanSpelled::inner_is, crate::proofs::Sequences::in_order))]
+#[tactic(auto, using(crate::proofs::BookSteps::source_goes, crate::proofs::PlanSpelled::source_trees, crate::proofs::Sequences::in_order))]
 #[cycle(plan)]
 fn source(alloc: Global, reader: &mut Reader, depth: u32) -> Result<Tree, BookFault>
     requires { depth ≤ 32 }
@@ -119,15 +102,7 @@ fn source(alloc: Global, reader: &mut Reader, depth: u32) -> Result<Tree, BookFa
     let at = reader.at();
     match reader.kind() {
         TokenKind::Scan => {
-            let nodes = reader.nodes();
-            if nodes >= 64 {
-                return Err(BookFault::TooMany {
-                    at,
-                    what: Many::Nodes,
-                });
-            }
-            let compares = reader.compares();
-            reader.advance_to(nodes + 1, compares);
+            take_node(reader)?;
             Ok(Tree::Scan(name(alloc, reader)?))
         }
         TokenKind::Open => {
@@ -147,7 +122,7 @@ fn source(alloc: Global, reader: &mut Reader, depth: u32) -> Result<Tree, BookFa
 }
 
 /// A join.
-#[tactic(auto, using(crate::proofs::BookSteps::join_opens, crate::proofs::BookSteps::join_many, crate::proofs::PlanSpelled::join_is, crate::proofs::Sequences::in_order))]
+#[tactic(auto, using(crate::proofs::BookSteps::step_goes, crate::proofs::PlanSpelled::join_is, crate::proofs::Sequences::in_order))]
 #[cycle(plan)]
 fn join_step(alloc: Global, reader: &mut Reader, depth: u32) -> Result<StepTree, BookFault>
     requires kind { (head_of reader.old.rest).kind ≡ kinds.Join }
@@ -156,25 +131,47 @@ fn join_step(alloc: Global, reader: &mut Reader, depth: u32) -> Result<StepTree,
     ensures is { IfOk result (λ step. IsStep reader.old.rest reader.new.rest (head_of reader.old.rest).at (step_image step)) }
     ensures shrinks { Shrinks reader.old reader.new result }
 {
-    let at = reader.at();
-    let _kind = reader.kind();
-    let nodes = reader.nodes();
-    if nodes >= 64 {
-        return Err(BookFault::TooMany {
-            at,
-            what: Many::Nodes,
-        });
-    }
-    let compares = reader.compares();
-    reader.advance_to(nodes + 1, compares);
+    take_node(reader)?;
     let right = source(alloc, reader, depth)?;
     let _ = expect(reader, TokenKind::On)?;
     let pairs = listed_pairs(alloc, reader)?;
     Ok(StepTree::Join(Box::new(alloc, right)?, pairs))
 }
 
+/// A theta join.
+#[tactic(auto, using(crate::proofs::BookSteps::step_goes, crate::proofs::PlanSpelled::theta_is, crate::proofs::Sequences::in_order))]
+#[cycle(plan)]
+fn theta_step(alloc: Global, reader: &mut Reader, depth: u32) -> Result<StepTree, BookFault>
+    requires kind { (head_of reader.old.rest).kind ≡ kinds.Theta }
+    requires depth { depth ≤ 32 }
+    ensures reads { Reads (AStep depth ∷ []) reader.old reader.new result }
+    ensures is { IfOk result (λ step. IsStep reader.old.rest reader.new.rest (head_of reader.old.rest).at (step_image step)) }
+    ensures shrinks { Shrinks reader.old reader.new result }
+{
+    take_node(reader)?;
+    let right = source(alloc, reader, depth)?;
+    on(reader)?;
+    let pred = pred(alloc, reader, depth)?;
+    Ok(StepTree::Theta(Box::new(alloc, right)?, pred))
+}
+
+/// A product.
+#[tactic(auto, using(crate::proofs::BookSteps::step_goes, crate::proofs::PlanSpelled::product_is, crate::proofs::Sequences::in_order))]
+#[cycle(plan)]
+fn product_step(alloc: Global, reader: &mut Reader, depth: u32) -> Result<StepTree, BookFault>
+    requires kind { (head_of reader.old.rest).kind ≡ kinds.Product }
+    requires depth { depth ≤ 32 }
+    ensures reads { Reads (AStep depth ∷ []) reader.old reader.new result }
+    ensures is { IfOk result (λ step. IsStep reader.old.rest reader.new.rest (head_of reader.old.rest).at (step_image step)) }
+    ensures shrinks { Shrinks reader.old reader.new result }
+{
+    take_node(reader)?;
+    let right = source(alloc, reader, depth)?;
+    Ok(StepTree::Product(Box::new(alloc, right)?))
+}
+
 /// What a union unites with, and whether it keeps repeats.
-#[tactic(auto, using(crate::proofs::BookSteps::all_opens, crate::proofs::BookSteps::united_leads, crate::proofs::BookSteps::united_fails, crate::proofs::PlanSpelled::all_united, crate::proofs::PlanSpelled::not_united, crate::proofs::Sequences::in_order))]
+#[tactic(auto, using(crate::proofs::BookSteps::united_goes, crate::proofs::PlanSpelled::united_trees, crate::proofs::Sequences::in_order))]
 #[cycle(plan)]
 fn united(alloc: Global, reader: &mut Reader, depth: u32) -> Result<(bool, Tree), BookFault>
     requires { depth ≤ 32 }
@@ -196,7 +193,7 @@ fn united(alloc: Global, reader: &mut Reader, depth: u32) -> Result<(bool, Tree)
 }
 
 /// A union.
-#[tactic(auto, using(crate::proofs::BookSteps::union_opens, crate::proofs::BookSteps::union_many, crate::proofs::PlanSpelled::union_all_is, crate::proofs::PlanSpelled::union_is, crate::proofs::Sequences::in_order))]
+#[tactic(auto, using(crate::proofs::BookSteps::step_goes, crate::proofs::PlanSpelled::union_trees, crate::proofs::Sequences::in_order))]
 #[cycle(plan)]
 fn union_step(alloc: Global, reader: &mut Reader, depth: u32) -> Result<StepTree, BookFault>
     requires kind { (head_of reader.old.rest).kind ≡ kinds.Union }
@@ -205,17 +202,7 @@ fn union_step(alloc: Global, reader: &mut Reader, depth: u32) -> Result<StepTree
     ensures is { IfOk result (λ step. IsStep reader.old.rest reader.new.rest (head_of reader.old.rest).at (step_image step)) }
     ensures shrinks { Shrinks reader.old reader.new result }
 {
-    let at = reader.at();
-    let _kind = reader.kind();
-    let nodes = reader.nodes();
-    if nodes >= 64 {
-        return Err(BookFault::TooMany {
-            at,
-            what: Many::Nodes,
-        });
-    }
-    let compares = reader.compares();
-    reader.advance_to(nodes + 1, compares);
+    take_node(reader)?;
     let (all, right) = united(alloc, reader, depth)?;
     let right = Box::new(alloc, right)?;
     if all {
@@ -240,13 +227,15 @@ fn step(alloc: Global, reader: &mut Reader, depth: u32) -> Result<StepTree, Book
         TokenKind::Distinct => distinct_step(alloc, reader, depth),
         TokenKind::Group => group_step(alloc, reader, depth),
         TokenKind::Join => join_step(alloc, reader, depth),
+        TokenKind::Theta => theta_step(alloc, reader, depth),
+        TokenKind::Product => product_step(alloc, reader, depth),
         TokenKind::Union => union_step(alloc, reader, depth),
         _ => Err(wrong(reader)),
     }
 }
 
 /// A source with its steps.
-#[tactic(auto, using(crate::proofs::PlanSpelled::steps_begin, crate::proofs::PlanSpelled::steps_first_fail, crate::proofs::PlanSpelled::steps_fail, crate::proofs::PlanSpelled::steps_end, crate::proofs::PlanSpelled::steps_go, crate::proofs::PlanSpelled::plan_goes_here, crate::proofs::PlanSpelled::plan_begins, crate::proofs::PlanSpelled::plan_ends, crate::proofs::Sequences::in_order))]
+#[tactic(auto, using(crate::proofs::PlanSpelled::plan_reads, crate::proofs::PlanSpelled::plan_trees, crate::proofs::Sequences::in_order))]
 #[cycle(plan)]
 pub fn plan(alloc: Global, reader: &mut Reader, depth: u32) -> Result<Tree, BookFault>
     requires { depth ≤ 32 }

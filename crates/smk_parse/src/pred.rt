@@ -2,8 +2,8 @@ ghost use Rattle.std.specs.Prelude.{◌≡◌, ◌∷◌, ◌+◌, ◌<◌, ◌�
 ghost use Rattle.smk_base.specs.declared.token.TokenKind.TheVariants as kinds;
 ghost use Rattle.smk_base.specs.TreeImage.{pred_image};
 ghost use Rattle.smk_model.specs.Tokens.{head_of};
-ghost use Rattle.smk_model.specs.Grammar.{IsOp, IsTerm, IsPrim, IsConj, IsPred};
-ghost use Rattle.smk_model.specs.Machine.{AnOp, ATerm, APrim, AnAnds, AnOrs};
+ghost use Rattle.smk_model.specs.Grammar.{First, IsOp, IsTerm, IsPrim, IsConj, IsPred};
+ghost use Rattle.smk_model.specs.Machine.{AnOn, AnOp, ATerm, APrim, AnAnds, AnOrs};
 ghost use Rattle.smk_parse.specs.Reads.{Reads, Shrinks};
 
 use crate::names::{column, column_in_hand, is_column, is_short};
@@ -12,8 +12,25 @@ use crate::taken::{expect, literal, wrong};
 use smk_base::{BookFault, CmpOp, Many, PredTree, Term, TokenKind};
 use std::alloc::Global;
 
+/// The `on` before a predicate, whose comparisons are counted from none.
+#[tactic(auto, using(crate::proofs::BookSteps::on_goes, crate::proofs::Sequences::in_order))]
+pub fn on(reader: &mut Reader) -> Result<(), BookFault>
+    ensures reads { Reads (AnOn ∷ []) reader.old reader.new result }
+    ensures is { OnOk result (First kinds.On (head_of reader.old.rest) reader.old.rest reader.new.rest) }
+    ensures shrinks { Shrinks reader.old reader.new result }
+{
+    match reader.kind() {
+        TokenKind::On => {
+            let nodes = reader.nodes();
+            reader.advance_to(nodes, 0);
+            Ok(())
+        }
+        _ => Err(wrong(reader)),
+    }
+}
+
 /// A comparison's operator.
-#[tactic(auto, using(crate::proofs::BookSteps::op_equal, crate::proofs::BookSteps::op_notequal, crate::proofs::BookSteps::op_less, crate::proofs::BookSteps::op_lessequal, crate::proofs::BookSteps::op_greater, crate::proofs::BookSteps::op_greaterequal, crate::proofs::BookSteps::op_fails, crate::proofs::BookSpelled::eq_is, crate::proofs::BookSpelled::ne_is, crate::proofs::BookSpelled::lt_is, crate::proofs::BookSpelled::le_is, crate::proofs::BookSpelled::gt_is, crate::proofs::BookSpelled::ge_is, crate::proofs::Sequences::in_order))]
+#[tactic(auto, using(crate::proofs::BookSteps::op_goes, crate::proofs::BookSpelled::op_trees, crate::proofs::Sequences::in_order))]
 fn op(reader: &mut Reader) -> Result<CmpOp, BookFault>
     ensures reads { Reads (AnOp ∷ []) reader.old reader.new result }
     ensures is { IfOk result (λ op. IsOp reader.old.rest reader.new.rest op) }
@@ -49,7 +66,7 @@ fn op(reader: &mut Reader) -> Result<CmpOp, BookFault>
 }
 
 /// The right side of a comparison.
-#[tactic(auto, using(crate::proofs::BookSteps::term_number_leads, crate::proofs::BookSteps::term_number_fails, crate::proofs::BookSteps::term_string_leads, crate::proofs::BookSteps::term_string_fails, crate::proofs::BookSteps::term_column_leads, crate::proofs::BookSteps::term_column_fails, crate::proofs::PlanSpelled::column_term_is, crate::proofs::PlanSpelled::literal_term_is))]
+#[tactic(auto, using(crate::proofs::BookSteps::term_goes, crate::proofs::PlanSpelled::term_trees))]
 fn term(alloc: Global, reader: &mut Reader) -> Result<Term, BookFault>
     ensures reads { Reads (ATerm ∷ []) reader.old reader.new result }
     ensures is { IfOk result (λ term. IsTerm reader.old.rest reader.new.rest term) }
@@ -63,7 +80,7 @@ fn term(alloc: Global, reader: &mut Reader) -> Result<Term, BookFault>
 }
 
 /// A comparison.
-#[tactic(auto, using(crate::proofs::BookSteps::compare_opens, crate::proofs::BookSteps::compare_many, crate::proofs::BookSteps::compare_long, crate::proofs::BookSteps::prim_fails, crate::proofs::BookSteps::column_more, crate::proofs::BookSpelled::column_is, crate::proofs::PlanSpelled::compared_is, crate::proofs::Sequences::in_order))]
+#[tactic(auto, using(crate::proofs::BookSteps::comparison_goes, crate::proofs::PlanSpelled::comparison_trees, crate::proofs::Sequences::in_order))]
 fn comparison(alloc: Global, reader: &mut Reader, depth: u32) -> Result<PredTree, BookFault>
     requires not { (head_of reader.old.rest).kind ≡ kinds.Not → ⊥ }
     requires open { (head_of reader.old.rest).kind ≡ kinds.Open → ⊥ }
@@ -97,7 +114,7 @@ fn comparison(alloc: Global, reader: &mut Reader, depth: u32) -> Result<PredTree
 }
 
 /// A predicate without `and` and `or` of its own.
-#[tactic(auto, using(crate::proofs::BookSteps::not_opens, crate::proofs::BookSteps::not_deep, crate::proofs::BookSteps::bracket_opens, crate::proofs::BookSteps::bracket_deep, crate::proofs::PlanSpelled::negated_is, crate::proofs::PlanSpelled::bracketed_is, crate::proofs::Sequences::in_order))]
+#[tactic(auto, using(crate::proofs::BookSteps::prim_goes, crate::proofs::PlanSpelled::prim_trees, crate::proofs::Sequences::in_order))]
 #[cycle(pred)]
 fn prim(alloc: Global, reader: &mut Reader, depth: u32) -> Result<PredTree, BookFault>
     requires { depth ≤ 32 }
@@ -135,7 +152,7 @@ fn prim(alloc: Global, reader: &mut Reader, depth: u32) -> Result<PredTree, Book
 }
 
 /// Predicates joined by `and`.
-#[tactic(auto, using(crate::proofs::PlanSpelled::ands_begin, crate::proofs::PlanSpelled::ands_first_fail, crate::proofs::PlanSpelled::ands_fail, crate::proofs::PlanSpelled::ands_end, crate::proofs::PlanSpelled::ands_goes, crate::proofs::PlanSpelled::conj_goes_here, crate::proofs::PlanSpelled::conj_begins, crate::proofs::PlanSpelled::conj_ends, crate::proofs::Sequences::in_order))]
+#[tactic(auto, using(crate::proofs::PlanSpelled::conj_reads, crate::proofs::PlanSpelled::conj_trees, crate::proofs::Sequences::in_order))]
 #[cycle(pred)]
 fn conj(alloc: Global, reader: &mut Reader, depth: u32) -> Result<PredTree, BookFault>
     requires { depth ≤ 32 }
@@ -153,7 +170,7 @@ fn conj(alloc: Global, reader: &mut Reader, depth: u32) -> Result<PredTree, Book
 }
 
 /// Predicates joined by `or`.
-#[tactic(auto, using(crate::proofs::PlanSpelled::ors_begin, crate::proofs::PlanSpelled::ors_first_fail, crate::proofs::PlanSpelled::ors_fail, crate::proofs::PlanSpelled::ors_end, crate::proofs::PlanSpelled::ors_goes, crate::proofs::PlanSpelled::pred_goes_here, crate::proofs::PlanSpelled::pred_begins, crate::proofs::PlanSpelled::pred_ends, crate::proofs::Sequences::in_order))]
+#[tactic(auto, using(crate::proofs::PlanSpelled::pred_reads, crate::proofs::PlanSpelled::pred_trees, crate::proofs::Sequences::in_order))]
 #[cycle(pred)]
 pub fn pred(alloc: Global, reader: &mut Reader, depth: u32) -> Result<PredTree, BookFault>
     requires { depth ≤ 32 }

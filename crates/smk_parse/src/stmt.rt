@@ -25,7 +25,7 @@ pub struct Tally {
 }
 
 /// The name of a file.
-#[tactic(auto, using(crate::proofs::StmtSpelled::file_leads, crate::proofs::StmtSpelled::file_fails, crate::proofs::StmtSpelled::file_here, crate::proofs::Sequences::in_order))]
+#[tactic(auto, using(crate::proofs::StmtSpelled::file_goes, crate::proofs::Sequences::in_order))]
 fn file(alloc: Global, reader: &mut Reader) -> Result<Text, BookFault>
     ensures reads { Reads (AToken kinds.Str ∷ []) reader.old reader.new result }
     ensures is { IfOk result (λ file. IsFile reader.old.rest reader.new.rest file) }
@@ -71,7 +71,7 @@ fn view_stmt(alloc: Global, reader: &mut Reader) -> Result<Stmt, BookFault>
 }
 
 /// What a backward declaration asks for besides the rows.
-#[tactic(auto, using(crate::proofs::BookSteps::extra_by, crate::proofs::BookSteps::extra_group, crate::proofs::BookSteps::extra_nothing, crate::proofs::StmtSpelled::by_is, crate::proofs::StmtSpelled::group_extra_is, crate::proofs::StmtSpelled::no_extra_is, crate::proofs::Sequences::in_order))]
+#[tactic(auto, using(crate::proofs::BookSteps::extra_goes, crate::proofs::StmtSpelled::extra_trees, crate::proofs::Sequences::in_order))]
 fn extra(alloc: Global, reader: &mut Reader) -> Result<Extra, BookFault>
     ensures reads { Reads (AnExtra ∷ []) reader.old reader.new result }
     ensures is { IfOk result (λ extra. IsExtra reader.old.rest reader.new.rest extra) }
@@ -159,7 +159,7 @@ fn link_stmt(alloc: Global, reader: &mut Reader) -> Result<Stmt, BookFault>
     Ok(Stmt::Link { view, table, to })
 }
 
-#[tactic(auto, using(crate::proofs::BookSteps::table_stmt_comes, crate::proofs::BookSteps::table_stmt_fails, crate::proofs::BookSteps::table_too_many, crate::proofs::Sequences::in_order))]
+#[tactic(auto, using(crate::proofs::BookSteps::next_table_goes, crate::proofs::Sequences::in_order))]
 fn next_table(alloc: Global, reader: &mut Reader, tally: &mut Tally) -> Result<Stmt, BookFault>
     requires { (head_of reader.old.rest).kind ≡ kinds.Table }
     ensures reads { StmtReads tally.old tally.new reader.old reader.new result }
@@ -180,7 +180,7 @@ fn next_table(alloc: Global, reader: &mut Reader, tally: &mut Tally) -> Result<S
     Ok(stmt)
 }
 
-#[tactic(auto, using(crate::proofs::BookSteps::view_stmt_comes, crate::proofs::BookSteps::view_stmt_fails, crate::proofs::BookSteps::view_too_many, crate::proofs::Sequences::in_order))]
+#[tactic(auto, using(crate::proofs::BookSteps::next_view_goes, crate::proofs::Sequences::in_order))]
 fn next_view(alloc: Global, reader: &mut Reader, tally: &mut Tally) -> Result<Stmt, BookFault>
     requires { (head_of reader.old.rest).kind ≡ kinds.View }
     ensures reads { StmtReads tally.old tally.new reader.old reader.new result }
@@ -201,7 +201,7 @@ fn next_view(alloc: Global, reader: &mut Reader, tally: &mut Tally) -> Result<St
     Ok(stmt)
 }
 
-#[tactic(auto, using(crate::proofs::BookSteps::lineage_stmt_comes, crate::proofs::BookSteps::lineage_stmt_fails, crate::proofs::BookSteps::lineage_too_many, crate::proofs::Sequences::in_order))]
+#[tactic(auto, using(crate::proofs::BookSteps::next_lineage_goes, crate::proofs::Sequences::in_order))]
 fn next_lineage(alloc: Global, reader: &mut Reader, tally: &mut Tally) -> Result<Stmt, BookFault>
     requires { (head_of reader.old.rest).kind ≡ kinds.Lineage }
     ensures reads { StmtReads tally.old tally.new reader.old reader.new result }
@@ -222,7 +222,7 @@ fn next_lineage(alloc: Global, reader: &mut Reader, tally: &mut Tally) -> Result
     Ok(stmt)
 }
 
-#[tactic(auto, using(crate::proofs::BookSteps::link_stmt_comes, crate::proofs::BookSteps::link_stmt_fails, crate::proofs::BookSteps::link_too_many, crate::proofs::Sequences::in_order))]
+#[tactic(auto, using(crate::proofs::BookSteps::next_link_goes, crate::proofs::Sequences::in_order))]
 fn next_link(alloc: Global, reader: &mut Reader, tally: &mut Tally) -> Result<Stmt, BookFault>
     requires { (head_of reader.old.rest).kind ≡ kinds.Link }
     ensures reads { StmtReads tally.old tally.new reader.old reader.new result }

@@ -24,7 +24,7 @@ pub fn wrong(reader: &Reader) -> BookFault
 }
 
 /// A token of this kind, whose place it gives.
-#[tactic(auto, using(crate::proofs::Single::token_leads, crate::proofs::Single::token_fails, crate::proofs::Single::token_first, crate::proofs::Single::token_more, crate::proofs::Sequences::in_order))]
+#[tactic(auto, using(crate::proofs::Single::expect_goes, crate::proofs::Sequences::in_order))]
 pub fn expect(reader: &mut Reader, kind: TokenKind) -> Result<u64, BookFault>
     requires { IsTrue (is_more kind) }
     ensures reads { Reads (AToken kind ∷ []) reader.old reader.new result }
@@ -91,7 +91,7 @@ pub fn string_in_hand(alloc: Global, reader: &Reader) -> Result<Text, BookFault>
 }
 
 /// A literal.
-#[tactic(auto, using(crate::proofs::LineSteps::literal_number, crate::proofs::LineSteps::literal_string, crate::proofs::LineSteps::literal_fails, crate::proofs::Single::number_is, crate::proofs::Single::string_is, crate::proofs::Sequences::in_order))]
+#[tactic(auto, using(crate::proofs::LineSteps::literal_goes, crate::proofs::Single::literal_trees, crate::proofs::Sequences::in_order))]
 pub fn literal(alloc: Global, reader: &mut Reader) -> Result<Lit, BookFault>
     ensures reads { Reads (ALiteral ∷ []) reader.old reader.new result }
     ensures is { IfOk result (λ lit. IsLiteral reader.old.rest reader.new.rest lit) }
@@ -117,7 +117,7 @@ pub fn literal(alloc: Global, reader: &mut Reader) -> Result<Lit, BookFault>
 }
 
 /// A name of any length.
-#[tactic(auto, using(crate::proofs::Single::line_name_leads, crate::proofs::Single::line_name_fails, crate::proofs::Single::name_is, crate::proofs::Sequences::in_order))]
+#[tactic(auto, using(crate::proofs::Single::line_name_goes, crate::proofs::Sequences::in_order))]
 pub fn line_name(alloc: Global, reader: &mut Reader) -> Result<Word, BookFault>
     ensures reads { Reads (ALineName ∷ []) reader.old reader.new result }
     ensures is { IfOk result (λ word. IsName reader.old.rest reader.new.rest word) }

@@ -1,8 +1,8 @@
 -- A typed plan has as many nodes as its tree.
 use Rattle.std.proofs.Common.{◌≡◌, ◌∙◌, ◌+◌, ℕ, List, [], Ok, sym, ap, arith}
 use Rattle.smk_base.specs.declared.catalog.TableInfo.{TableInfo}
-use Rattle.smk_base.specs.Plans.{Leaf, Apply, Combine, Unary, Selection, Projection, Distinction, Grouping, Binary, Equijoin, BagUnion, SetUnion}
-use Rattle.smk_base.specs.Trees.{TreeImage, ScanNode, StepNode, StepImage, SelectNode, ProjectNode, DistinctNode, GroupNode, JoinNode, UnionAllNode, UnionNode}
+use Rattle.smk_base.specs.Plans.{Leaf, Apply, Combine, Unary, Selection, Projection, Distinction, Grouping, Binary, Equijoin, ThetaJoin, CrossProduct, BagUnion, SetUnion}
+use Rattle.smk_base.specs.Trees.{TreeImage, ScanNode, StepNode, StepImage, SelectNode, ProjectNode, DistinctNode, GroupNode, JoinNode, ThetaNode, ProductNode, UnionAllNode, UnionNode}
 use Rattle.smk_model.specs.Names.{in_turn}
 use Rattle.smk_model.specs.Selection.{nodes}
 use Rattle.smk_model.specs.Limits as limits
@@ -55,6 +55,17 @@ mutual
       let made = made_of (joined at left.columns right.0.columns) _ typed paired.2 in
       let same : (let it : TypedPlan = record { plan = Combine (Equijoin paired.0) left.plan right.0.plan; columns = made.0 } in it) ≡ typed = cc made.2 in
       omega (arith, two_inputs left right.0 typed (Equijoin paired.0) (ap (λ (it : TypedPlan). it.plan) same), plan_nodes tables source right.0 right.1)
+  step_nodes tables (ThetaNode source pred) at left typed e =
+      let right = made_of (typed_plan tables source) _ typed e in
+      let whole = made_of (joined at left.columns right.0.columns) _ typed right.2 in
+      let made = made_of (typed_pred whole.0 pred) _ typed whole.2 in
+      let same : (let it : TypedPlan = record { plan = Combine (ThetaJoin made.0) left.plan right.0.plan; columns = whole.0 } in it) ≡ typed = cc made.2 in
+      omega (arith, two_inputs left right.0 typed (ThetaJoin made.0) (ap (λ (it : TypedPlan). it.plan) same), plan_nodes tables source right.0 right.1)
+  step_nodes tables (ProductNode source) at left typed e =
+      let right = made_of (typed_plan tables source) _ typed e in
+      let whole = made_of (joined at left.columns right.0.columns) _ typed right.2 in
+      let same : (let it : TypedPlan = record { plan = Combine CrossProduct left.plan right.0.plan; columns = whole.0 } in it) ≡ typed = cc whole.2 in
+      omega (arith, two_inputs left right.0 typed CrossProduct (ap (λ (it : TypedPlan). it.plan) same), plan_nodes tables source right.0 right.1)
   step_nodes tables (UnionAllNode source) at left typed e =
       let right = made_of (typed_plan tables source) _ typed e in
       omega (arith, united_nodes at BagUnion left right.0 typed right.2, plan_nodes tables source right.0 right.1)

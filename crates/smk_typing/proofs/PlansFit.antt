@@ -11,11 +11,11 @@ use Rattle.smk_base.specs.declared.tree.PairTree.{PairTree}
 use Rattle.smk_base.specs.declared.catalog.Column.{Column}
 use Rattle.smk_base.specs.declared.catalog.TableInfo.{TableInfo}
 use Rattle.smk_base.specs.declared.type_fault.TypeFault.TheVariants.{KindMismatch, DuplicateName, RowTooWide, UnionShape, UnknownTable}
-use Rattle.smk_base.specs.Plans.{Expr, Leaf, Apply, Combine, Unary, Selection, Projection, Distinction, Grouping, Binary, Equijoin, BagUnion, SetUnion}
-use Rattle.smk_base.specs.Trees.{TreeImage, ScanNode, StepNode, StepImage, SelectNode, ProjectNode, DistinctNode, GroupNode, JoinNode, UnionAllNode, UnionNode}
+use Rattle.smk_base.specs.Plans.{Formula, Expr, Leaf, Apply, Combine, Unary, Selection, Projection, Distinction, Grouping, Binary, Equijoin, ThetaJoin, CrossProduct, BagUnion, SetUnion}
+use Rattle.smk_base.specs.Trees.{PredImage, TreeImage, ScanNode, StepNode, StepImage, SelectNode, ProjectNode, DistinctNode, GroupNode, JoinNode, ThetaNode, ProductNode, UnionAllNode, UnionNode}
 use Rattle.smk_base.specs.Rels.{kind_in}
 use Rattle.smk_model.specs.Names.{in_turn, place_of, same_name, column_named, kinds_of, same_sort}
-use Rattle.smk_model.specs.Kinds.{AreAlike, PairFits, Fits1, Fits2, kinds1, kinds2, wider, wider_kinds}
+use Rattle.smk_model.specs.Kinds.{AreAlike, FormulaFits, PairFits, Fits1, Fits2, FewTogether, kinds1, kinds2, wider, wider_kinds}
 use Rattle.smk_model.specs.Plain.{leaves, width}
 use Rattle.smk_model.specs.Selection.{ScansFit, PlanFits, leaf_kinds, plan_kinds}
 use Rattle.smk_model.specs.Limits.{KeepsTree, KeepsStep}
@@ -78,14 +78,25 @@ united_parts at lefts rights columns e =
     let same : map united_column (zip lefts rights) ≡ columns = cc whole.1 in
     (shapes_fit lefts rights even both.1, wider_same lefts rights even ∙ ap kinds_of same)
 
-joined_parts : (at : ℕ) (trees : List PairTree) (pairs : List (ℕ × ℕ)) (lefts rights columns : List Column) → in_turn (pair_after lefts rights) [] trees ≡ Ok pairs → joined at lefts rights ≡ Ok columns → Fits2Made (Equijoin pairs) lefts rights columns
-joined_parts at trees pairs lefts rights columns paired e =
-    let fit = in_turn_keeps (PairsFit lefts rights) (λ w. Unit {0}) (pair_after lefts rights) (pair_more lefts rights) [] pairs trees (All-nil _) (λ k d p. tt) paired in
+-- the columns of both sides are few together, and have the kinds of both sides
+joined_whole : (at : ℕ) (lefts rights columns : List Column) → joined at lefts rights ≡ Ok columns → FewTogether (kinds_of lefts) (kinds_of rights) × (kinds_of lefts ++ kinds_of rights ≡ kinds_of columns)
+joined_whole at lefts rights columns e =
     let first = unless_ok (share_a_name lefts rights) (DuplicateName at) _ columns e in
     let second = unless_ok (nat_lt 16 (length lefts + length rights)) (RowTooWide at) (Ok (lefts ++ rights)) columns first.1 in
     let same : lefts ++ rights ≡ columns = cc second.1 in
     let few : length lefts + length rights ≤ 16 = grind (arith, second.0) in
-    (record { each = fit; few = omega (arith, few, kinds_long lefts, kinds_long rights) }, sym (map-append (λ (c : Column). c.kind) lefts rights) ∙ ap kinds_of same)
+    (omega (arith, few, kinds_long lefts, kinds_long rights), sym (map-append (λ (c : Column). c.kind) lefts rights) ∙ ap kinds_of same)
+
+joined_parts : (at : ℕ) (trees : List PairTree) (pairs : List (ℕ × ℕ)) (lefts rights columns : List Column) → in_turn (pair_after lefts rights) [] trees ≡ Ok pairs → joined at lefts rights ≡ Ok columns → Fits2Made (Equijoin pairs) lefts rights columns
+joined_parts at trees pairs lefts rights columns paired e =
+    let fit = in_turn_keeps (PairsFit lefts rights) (λ w. Unit {0}) (pair_after lefts rights) (pair_more lefts rights) [] pairs trees (All-nil _) (λ k d p. tt) paired in
+    let whole = joined_whole at lefts rights columns e in
+    (record { each = fit; few = whole.0 }, whole.1)
+
+theta_parts : (at : ℕ) (tree : PredImage) (formula : Formula) (lefts rights columns : List Column) → joined at lefts rights ≡ Ok columns → typed_pred columns tree ≡ Ok formula → Fits2Made (ThetaJoin formula) lefts rights columns
+theta_parts at tree formula lefts rights columns e typed =
+    let whole = joined_whole at lefts rights columns e in
+    (record { fits = subst (λ (ks : List Kind). FormulaFits ks formula) (sym whole.1) (pred_fits columns tree formula typed); few = whole.0 }, whole.1)
 
 -- plans
 
@@ -196,6 +207,19 @@ mutual
       let fit = joined_parts at pairs paired.0 left.columns right.0.columns made.0 paired.1 made.1 in
       let same : (let it : TypedPlan = record { plan = Combine (Equijoin paired.0) left.plan right.0.plan; columns = made.0 } in it) ≡ typed = cc made.2 in
       subst (Stands tables) same (both_stand tables left right.0 (Equijoin paired.0) made.0 stands (plan_stands tables source right.0 keeps right.1) fit)
+  stepped_stands tables (ThetaNode source pred) at left typed keeps stands e =
+      let right = made_of (typed_plan tables source) _ typed e in
+      let whole = made_of (joined at left.columns right.0.columns) _ typed right.2 in
+      let made = made_of (typed_pred whole.0 pred) _ typed whole.2 in
+      let fit = theta_parts at pred made.0 left.columns right.0.columns whole.0 whole.1 made.1 in
+      let same : (let it : TypedPlan = record { plan = Combine (ThetaJoin made.0) left.plan right.0.plan; columns = whole.0 } in it) ≡ typed = cc made.2 in
+      subst (Stands tables) same (both_stand tables left right.0 (ThetaJoin made.0) whole.0 stands (plan_stands tables source right.0 keeps right.1) fit)
+  stepped_stands tables (ProductNode source) at left typed keeps stands e =
+      let right = made_of (typed_plan tables source) _ typed e in
+      let whole = made_of (joined at left.columns right.0.columns) _ typed right.2 in
+      let fit = joined_whole at left.columns right.0.columns whole.0 whole.1 in
+      let same : (let it : TypedPlan = record { plan = Combine CrossProduct left.plan right.0.plan; columns = whole.0 } in it) ≡ typed = cc whole.2 in
+      subst (Stands tables) same (both_stand tables left right.0 CrossProduct whole.0 stands (plan_stands tables source right.0 keeps right.1) fit)
   stepped_stands tables (UnionAllNode source) at left typed keeps stands e =
       let right = made_of (typed_plan tables source) _ typed e in
       united_stands tables at BagUnion left right.0 typed (λ l r f. f) (λ l r. refl) stands (plan_stands tables source right.0 keeps right.1) right.2

@@ -118,6 +118,61 @@ fn joined_plan(
     })
 }
 
+/// `theta` over two typed inputs, at its place.
+fn theta_plan(
+    alloc: Global,
+    at: u64,
+    tree: &PredTree,
+    left: Typed,
+    right: Typed,
+) -> Result<Typed, TypeFault>
+    requires left { length left.columns ≤ 16 }
+    requires right { length right.columns ≤ 16 }
+    ensures plan { Finds result (steps.theta_plan at (pred_image tree.now) (plan_of left) (plan_of right)) plan_of }
+    ensures width { IfOk result (λ typed. length typed.columns ≤ 16) }
+{
+    let Typed {
+        plan: left_plan,
+        columns: lefts,
+    } = left;
+    let Typed {
+        plan: right_plan,
+        columns: rights,
+    } = right;
+    let columns = joined(at, lefts, rights)?;
+    let pred = typed_pred(alloc, columns.as_slice(), tree)?;
+    let left = Box::new(alloc, left_plan)?;
+    let right = Box::new(alloc, right_plan)?;
+    Ok(Typed {
+        plan: Plan::Two(Op2::Theta(pred), left, right),
+        columns,
+    })
+}
+
+/// `product` over two typed inputs, at its place.
+fn product_plan(alloc: Global, at: u64, left: Typed, right: Typed) -> Result<Typed, TypeFault>
+    requires left { length left.columns ≤ 16 }
+    requires right { length right.columns ≤ 16 }
+    ensures plan { Finds result (steps.product_plan at (plan_of left) (plan_of right)) plan_of }
+    ensures width { IfOk result (λ typed. length typed.columns ≤ 16) }
+{
+    let Typed {
+        plan: left_plan,
+        columns: lefts,
+    } = left;
+    let Typed {
+        plan: right_plan,
+        columns: rights,
+    } = right;
+    let columns = joined(at, lefts, rights)?;
+    let left = Box::new(alloc, left_plan)?;
+    let right = Box::new(alloc, right_plan)?;
+    Ok(Typed {
+        plan: Plan::Two(Op2::Product, left, right),
+        columns,
+    })
+}
+
 /// A union of two typed inputs, at its place.
 fn united_plan(
     alloc: Global,
@@ -187,6 +242,14 @@ fn typed_step(
         StepTree::Join(source, pairs) => {
             let right = typed_plan(alloc, draft, source)?;
             joined_plan(alloc, at, pairs.as_slice(), left, right)
+        }
+        StepTree::Theta(source, pred) => {
+            let right = typed_plan(alloc, draft, source)?;
+            theta_plan(alloc, at, pred, left, right)
+        }
+        StepTree::Product(source) => {
+            let right = typed_plan(alloc, draft, source)?;
+            product_plan(alloc, at, left, right)
         }
         StepTree::UnionAll(source) => {
             let right = typed_plan(alloc, draft, source)?;

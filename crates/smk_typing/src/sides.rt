@@ -23,7 +23,7 @@ fn share_a_name(lefts: &[Column], rights: &[Column]) -> bool
     lefts.iter().any(|left| is_among(&left.name, rights))
 }
 
-/// The columns of a join, at the place of `join`.
+/// The columns of both sides, at the place of `join`, `theta` or `product`.
 pub fn joined(at: u64, lefts: Columns, rights: Columns) -> Result<Columns, TypeFault>
     requires left { length lefts ≤ 16 }
     requires right { length rights ≤ 16 }

@@ -11,6 +11,12 @@ decreases-source l = (32 - l.depth) * 8
 abbrev pub decreases-join_step : goal.decreases-join_step
 decreases-join_step l = (32 - l.depth) * 8 + 1
 
+abbrev pub decreases-theta_step : goal.decreases-theta_step
+decreases-theta_step l = (32 - l.depth) * 8 + 1
+
+abbrev pub decreases-product_step : goal.decreases-product_step
+decreases-product_step l = (32 - l.depth) * 8 + 1
+
 abbrev pub decreases-united : goal.decreases-united
 decreases-united l = (32 - l.depth) * 8 + 1
 
