@@ -1,15 +1,15 @@
 -- Numbers of rows, column by column.
-use Rattle.std.proofs.Common.{◌≡◌, ℕ, zero, suc, ◌+◌, ◌-◌, ◌<◌, ℤ, pos, List, [], ◌∷◌, ◌++◌, length, map, take, get_or, nat_eq, refl, ap, sym, subst, ◌∙◌, arith, All, inl, inr, replicate, length-append, Decides}
-use Rattle.std.specs.List.{zip}
+use Rattle.std.proofs.Common.{◌≡◌, ℕ, zero, suc, ◌+◌, ◌-◌, ◌<◌, ◌≤◌, ℤ, pos, List, [], ◌∷◌, ◌++◌, length, map, take, drop, get_or, nat_eq, refl, ap, sym, subst, ◌∙◌, arith, All, inl, inr, replicate, length-append, Decides}
+use Rattle.std.specs.List.{zip, slice_range}
 use Rattle.std.proofs.lemmas.Bool.{cases_lt}
-use Rattle.std.proofs.lemmas.List.{get_or_append_left, get_or-append_right, get_or_default, get_or-map, get_or-replicate, length-map, length-replicate, map-append, map_push, same_from_push, same_lists}
+use Rattle.std.proofs.lemmas.List.{get_or_append_left, get_or-append_right, get_or_default, get_or-map, get_or-replicate, get_or-take, get_or-drop, length-drop, length-take-le, take-map, drop-map, take_all, length-map, length-replicate, map-append, map_push, same_from_push, same_lists}
 use Rattle.std.proofs.lemmas.Slice.Eq.{slice_eq-Decides}
 use Rattle.std.proofs.lemmas.Slice.Zip.{length-zip, get_or-zip}
 use Rattle.smk_base.specs.declared.value.Kind.{Kind}
 use Rattle.smk_base.specs.declared.value.Kind.TheVariants as kinds
 use Rattle.smk_base.specs.declared.value.Value.{Value}
 use Rattle.smk_base.specs.declared.value.Value.TheVariants as values
-use Rattle.smk_base.specs.Rels.{Fits, RowFits, kind_in, row_in, value_in, picked, column_values, column_texts, text_of}
+use Rattle.smk_base.specs.Rels.{AreCodesOf, Fits, RowFits, kind_in, row_in, value_in, picked, column_values, column_texts, text_of}
 use Rattle.smk_base.specs.Values.{value_same}
 use Rattle.smk_base.specs.Widths.{AreAlike}
 use Rattle.smk_base.proofs.RelRows.{Fits-value_in}
@@ -196,3 +196,44 @@ pub AreNumbers-texts : (lks rks : List Kind) (ls rs : List (List Value)) (c d co
 AreNumbers-texts lks rks ls rs c d count of fit fits h k e f are =
     let all : map values.Text (column_texts c ls ++ column_texts d rs) ≡ column_values c ls ++ column_values d rs = map-append values.Text (column_texts c ls) (column_texts d rs) ∙ (λ t. texts-are lks ls c fit h e t ++ texts-are rks rs d fits k f t) in
     subst (λ items. AreNumbers (values.Int (pos 0)) items count of) all (AreNumbers-map values.Text (λ a b g. cc) [] (column_texts c ls ++ column_texts d rs) count of are)
+
+-- how many items there are from one place up to another
+pub length-range : {X : Type 0} (items : List X) (from to : ℕ) → from ≤ to → to ≤ length items → length (slice_range items from to) ≡ to - from
+length-range items from to order within = length-take-le (to - from) (drop from items) (omega (arith, length-drop from items))
+
+-- those from the first place up to the end are all
+pub whole-range : {X : Type 0} (items : List X) (n : ℕ) → n ≡ length items → slice_range items 0 n ≡ items
+whole-range items n e = take_all (n - 0) items (omega arith)
+
+-- numbers of items are, of those from one place up to another, their numbers
+pub AreNumbers-range : {X : Type 0} (none : X) (items : List X) (count : ℕ) (of : List ℕ) (from to : ℕ) → AreNumbers none items count of → from ≤ to → to ≤ length items → AreNumbers none (slice_range items from to) count (slice_range of from to)
+AreNumbers-range {X} none items count of from to are order within =
+    let long_items : length (slice_range items from to) ≡ to - from = length-range items from to order within in
+    let long_of : length (slice_range of from to) ≡ to - from = length-range of from to order (omega (arith, are.long)) in
+    let item_at : (i : ℕ) → i < to - from → get_or (slice_range items from to) i none ≡ get_or items (from + i) none = (λ i h. get_or-take (to - from) (drop from items) i none h ∙ get_or-drop from items i none) in
+    let number_at : (i : ℕ) → i < to - from → get_or (slice_range of from to) i 0 ≡ get_or of (from + i) 0 = (λ i h. get_or-take (to - from) (drop from of) i 0 h ∙ get_or-drop from of i 0) in
+    record {
+      long = long_of ∙ sym long_items;
+      below = λ i d h. rw (get_or_default (slice_range of from to) i d 0 h, number_at i (omega arith)) (are.below (from + i) 0 (omega (arith, are.long)));
+      same = λ i j h l e. item_at i (omega arith) ∙ are.same (from + i) (from + j) (omega arith) (omega arith) (sym (number_at i (omega arith)) ∙ e ∙ number_at j (omega arith)) ∙ sym (item_at j (omega arith));
+      alike = λ i j h l e. number_at i (omega arith) ∙ are.alike (from + i) (from + j) (omega arith) (omega arith) (sym (item_at i (omega arith)) ∙ e ∙ item_at j (omega arith)) ∙ sym (number_at j (omega arith));
+    }
+
+-- the values in a column of the rows from one place up to another
+pub column-range : (c : ℕ) (rows : List (List Value)) (from to : ℕ) → column_values c (slice_range rows from to) ≡ slice_range (column_values c rows) from to
+column-range c rows from to =
+    let g = λ (row : List Value). value_in row c in
+    sym (take-map g (to - from) (drop from rows)) ∙ ap (take (to - from)) (sym (drop-map g from rows))
+
+-- numbers of the ints of a column
+pub AreNumbers-ints_range : (c : ℕ) (rows : List (List Value)) (ns : List ℤ) (from to count : ℕ) (of : List ℕ) → map values.Int ns ≡ column_values c rows → AreNumbers (pos 0) (slice_range ns from to) count of → AreNumbers (values.Int (pos 0)) (column_values c (slice_range rows from to)) count of
+AreNumbers-ints_range c rows ns from to count of e are =
+    let all : map values.Int (slice_range ns from to) ≡ column_values c (slice_range rows from to) =
+    sym (take-map values.Int (to - from) (drop from ns)) ∙ ap (take (to - from)) (sym (drop-map values.Int from ns)) ∙ ap (λ (vs : List Value). slice_range vs from to) e ∙ sym (column-range c rows from to) in
+    subst (λ items. AreNumbers (values.Int (pos 0)) items count of) all (AreNumbers-map values.Int (λ a b g. cc) (pos 0) (slice_range ns from to) count of are)
+
+-- the codes of the texts of a column are numbers
+pub AreNumbers-codes_range : (c : ℕ) (rows : List (List Value)) (codes : List ℕ) (from to count : ℕ) → AreCodesOf (column_values c rows) codes → All (λ code. code < count) codes → from ≤ to → to ≤ length rows → AreNumbers (values.Int (pos 0)) (column_values c (slice_range rows from to)) count (slice_range codes from to)
+AreNumbers-codes_range c rows codes from to count are below order within =
+    let long : length (column_values c rows) ≡ length rows = length-map rows (λ (row : List Value). value_in row c) in
+    rw (column-range c rows from to) (AreNumbers-range (values.Int (pos 0)) (column_values c rows) count codes from to (record { long = are.long; below = below; same = are.same; alike = are.alike }) order (omega arith))

@@ -1,5 +1,5 @@
 //! Numbers of the rows of one relation.
-ghost use Rattle.std.specs.Prelude.{◌≡◌, ◌<◌, ◌≤◌, [], length, map, take, pos, All, IfOk};
+ghost use Rattle.std.specs.Prelude.{◌≡◌, ◌<◌, ◌≤◌, [], length, map, take, pos, slice_range, All, IfOk};
 ghost use Rattle.smk_base.specs.Rels.{column_values, picked};
 ghost use Rattle.smk_base.specs.declared.value.Value.TheVariants.{Int};
 ghost use Rattle.smk_keys.specs.Numbers.{AreNumbers};
@@ -10,43 +10,68 @@ use crate::pairs::pair_numbers;
 use smk_base::{Kind, Rel};
 use std::alloc::{AllocError, Global};
 
-/// Numbers of the keys of rows: of their values in these columns.
-pub(crate) fn row_numbers(alloc: Global, rel: &Rel, cols: &[u32]) -> Result<Numbers, AllocError>
-    requires { All (λ c. c < length rel.now.kinds) cols.now }
-    ensures { IfOk result (λ made. AreNumbers [] (map (picked cols.now) rel.now.rows) made.count made.of.items) }
+/// Numbers of the keys of the rows from one place up to another: of their values in these columns.
+pub(crate) fn row_numbers(
+    alloc: Global,
+    rel: &Rel,
+    cols: &[u32],
+    from: u32,
+    to: u32,
+) -> Result<Numbers, AllocError>
+    requires columns { All (λ c. c < length rel.now.kinds) cols.now }
+    requires order { from ≤ to }
+    requires within { to ≤ length rel.now.rows }
+    ensures { IfOk result (λ made. AreNumbers [] (map (picked cols.now) (slice_range rel.now.rows from to)) made.count made.of.items) }
 {
     let _rows = rel.len();
-    let mut made = first_numbers(alloc, rel, cols)?;
+    let mut made = first_numbers(alloc, rel, cols, from, to)?;
     for k in 1..cols.len() {
-        made = pair_numbers(alloc, made, column_numbers(alloc, rel, cols[k])?)?;
+        let more = column_numbers(alloc, rel, cols[k], from, to)?;
+        made = pair_numbers(alloc, made, more)?;
     }
     Ok(made)
 }
 
 // Numbers of the values in the first of these columns; of no column all rows have the same.
-fn first_numbers(alloc: Global, rel: &Rel, cols: &[u32]) -> Result<Numbers, AllocError>
-    requires { All (λ c. c < length rel.now.kinds) cols.now }
-    ensures { IfOk result (λ made. AreNumbers [] (map (picked (take 1 cols.now)) rel.now.rows) made.count made.of.items) }
+fn first_numbers(
+    alloc: Global,
+    rel: &Rel,
+    cols: &[u32],
+    from: u32,
+    to: u32,
+) -> Result<Numbers, AllocError>
+    requires columns { All (λ c. c < length rel.now.kinds) cols.now }
+    requires order { from ≤ to }
+    requires within { to ≤ length rel.now.rows }
+    ensures { IfOk result (λ made. AreNumbers [] (map (picked (take 1 cols.now)) (slice_range rel.now.rows from to)) made.count made.of.items) }
 {
     if cols.is_empty() {
-        let made = zeros(alloc, rel.len())?;
+        let made = zeros(alloc, to - from)?;
         return Ok(made);
     }
-    let made = column_numbers(alloc, rel, cols[0])?;
+    let made = column_numbers(alloc, rel, cols[0], from, to)?;
     Ok(made)
 }
 
 // Numbers of the values in a column: the codes of texts, which are numbers already, or those of the ints.
-fn column_numbers(alloc: Global, rel: &Rel, c: u32) -> Result<Numbers, AllocError>
-    requires { c < length rel.now.kinds }
-    ensures { IfOk result (λ made. AreNumbers (Int (pos 0)) (column_values c rel.now.rows) made.count made.of.items) }
+fn column_numbers(
+    alloc: Global,
+    rel: &Rel,
+    c: u32,
+    from: u32,
+    to: u32,
+) -> Result<Numbers, AllocError>
+    requires column { c < length rel.now.kinds }
+    requires order { from ≤ to }
+    requires within { to ≤ length rel.now.rows }
+    ensures { IfOk result (λ made. AreNumbers (Int (pos 0)) (column_values c (slice_range rel.now.rows from to)) made.count made.of.items) }
 {
     let _rows = rel.len();
     match rel.kind(c) {
         Kind::Text => Ok(Numbers {
-            of: Vec::from_slice(alloc, rel.codes(c))?,
+            of: Vec::from_slice(alloc, &rel.codes(c)[from as usize..to as usize])?,
             count: rel.dict(c).len(),
         }),
-        Kind::Int { .. } => int_numbers(alloc, rel.ints(c)),
+        Kind::Int { .. } => int_numbers(alloc, rel.ints(c), from, to),
     }
 }

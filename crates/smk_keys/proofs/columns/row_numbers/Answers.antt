@@ -1,4 +1,5 @@
 use Rattle.std.proofs.Common.{get_or, take}
+use Rattle.std.specs.List.{slice_range}
 use Rattle.std.proofs.lemmas.List.{take_more}
 use Rattle.smk_keys.proofs.Rowed.{AreNumbers-more}
 use Rattle.smk_keys.proofs.columns.row_numbers.Goals as goal
@@ -6,4 +7,4 @@ use Rattle.smk_keys.proofs.columns.row_numbers.Goals as goal
 pub loop-k-preserved : goal.loop-k-preserved
 loop-k-preserved c =
     rw (take_more c.args.cols.now c.loop-k.k 0 c.loop-k-test.true)
-    (AreNumbers-more c.args.rel.now.rows (take c.loop-k.k c.args.cols.now) (get_or c.args.cols.now c.loop-k.k 0) _ _ _ _ _ _ c.loop-k.invariant c.in_ok-column_numbers.ensures c.in_ok-made-2.ensures)
+    (AreNumbers-more (slice_range c.args.rel.now.rows c.args.from c.args.to) (take c.loop-k.k c.args.cols.now) (get_or c.args.cols.now c.loop-k.k 0) _ _ _ _ _ _ c.loop-k.invariant c.in_ok-more.ensures c.in_ok-made-2.ensures)
