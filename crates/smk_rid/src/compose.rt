@@ -3,7 +3,7 @@ ghost use Rattle.std.specs.List.{All};
 ghost use Rattle.smk_base.specs.Places.{IsPlaces, composed, members_at, pairs_of};
 ghost use Rattle.smk_rid.specs.declared.fault.RidFault.TheVariants.{Pairs};
 
-use crate::distinct::make_set;
+use crate::distinct::{count_at, is_dense, make_set, marked_at};
 use crate::fault::RidFault;
 use crate::map::{PAIR_LIMIT, RidMap};
 use crate::packed::Packed;
@@ -17,8 +17,7 @@ impl RidMap {
         ensures rids { IfOk result (λ rids. rids ≡ members_at self.now places.now) }
         ensures set { IfOk result (λ rids. IsPlaces self.now.bound rids) }
     {
-        let mut rids = Vec::new(alloc);
-        gather(alloc, &mut rids, self, places)?;
+        let rids = joined(alloc, self, places)?;
         Ok(Rids::from_vec(rids))
     }
 
@@ -36,6 +35,20 @@ impl RidMap {
         }
         Ok(RidMap::of_packed(made, next.bound()))
     }
+}
+
+// The rids of the lists at these places, ascending without repeats: marked where they are many, so that no list is copied, else gathered.
+fn joined(alloc: Global, map: &RidMap, places: &[u32]) -> Result<Vec<u32>, AllocError>
+    requires { All (λ p. p < length map.now.lists) places.now }
+    ensures { IfOk result (λ rids. rids.items ≡ members_at map.now places.now) }
+{
+    let count = count_at(map, places);
+    if places.len() > 1 && is_dense(count, map.bound()) {
+        return marked_at(alloc, map, places, count);
+    }
+    let mut rids = Vec::with_capacity(alloc, count as usize)?;
+    gather(alloc, &mut rids, map, places)?;
+    Ok(rids)
 }
 
 // Puts the rids of the lists at these places last, as one list, unless there are too many pairs then. The memory of `rids` is used again for each list that is made of several.

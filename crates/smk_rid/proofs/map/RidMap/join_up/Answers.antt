@@ -2,4 +2,4 @@ use Rattle.smk_rid.proofs.Joins.{members_set}
 use Rattle.smk_rid.proofs.map.RidMap.join_up.Goals as goal
 
 pub returns-clause-set : goal.returns-clause-set
-returns-clause-set c = rw (c.from_vec.ensures, c.in_ok-gather.ensures) (members_set c.args.self.now c.args.places.now)
+returns-clause-set c = rw (c.from_vec.ensures, c.in_ok-rids.ensures) (members_set c.args.self.now c.args.places.now)
