@@ -3,3 +3,4 @@ pub mod Walk
 pub mod Kept
 pub mod Over
 pub mod Through
+pub mod Narrowed

@@ -8,8 +8,10 @@ ghost use Rattle.smk_compose.specs.declared.fault.EvalFault.TheVariants.{Rows};
 
 use crate::fault::EvalFault;
 use crate::leaves::Leaves;
+use crate::narrow::{Narrowed, narrow};
 use smk_base::{Dir, Op1, Op2, Plan, Rel};
 use smk_body::{OpBody, OpFault, Want};
+use smk_table::Chosen;
 use std::alloc::Global;
 use std::thread::Threads;
 
@@ -57,14 +59,24 @@ fn eval_node<R: Threads + Sync, B: OpBody + Sync>(
 {
     match plan {
         Plan::Scan(_) => {
-            let rel = leaves.take_first();
-            let _rows = rel.len();
+            let leaf = leaves.take_first();
+            let _rows = leaf.len();
             *number += 1;
-            Ok(rel)
+            Ok(leaf.rel(alloc)?)
         }
         Plan::One(op, input) => {
-            let rel = eval_node(rt, alloc, body, input, leaves, number)?;
-            let made = apply_one(rt, alloc, body, op, rel)?;
+            let made = match &**input {
+                Plan::Scan(_) => {
+                    let leaf = leaves.take_first();
+                    let _rows = leaf.len();
+                    *number += 1;
+                    apply_leaf(rt, alloc, body, op, leaf)?
+                }
+                _ => {
+                    let rel = eval_node(rt, alloc, body, input, leaves, number)?;
+                    apply_one(rt, alloc, body, op, rel)?
+                }
+            };
             *number += 1;
             Ok(made)
         }
@@ -76,6 +88,24 @@ fn eval_node<R: Threads + Sync, B: OpBody + Sync>(
             Ok(made)
         }
     }
+}
+
+// A step over a leaf, of which only the columns are gathered that it names.
+fn apply_leaf<R: Threads + Sync, B: OpBody + Sync>(
+    rt: &R,
+    alloc: Global,
+    body: &B,
+    op: &Op1,
+    leaf: Chosen,
+) -> Result<Rel, EvalFault>
+    requires { Fits1 (unary_of op.now) leaf.kinds }
+    ensures rows { IfOk result (λ made. made.rows ≡ step1 (unary_of op.now) leaf.rows) }
+    ensures kinds { IfOk result (λ made. made.kinds ≡ kinds1 (unary_of op.now) leaf.kinds) }
+    ensures few { OnOk result (length (step1 (unary_of op.now) leaf.rows) ≤ 1048576) }
+    ensures memory { IfErr result (λ e. (node : ℕ) → e ≡ Rows node → ⊥) }
+{
+    let Narrowed { op, rel } = narrow(alloc, op, leaf)?;
+    apply_one(rt, alloc, body, &op, rel)
 }
 
 // A step with one input. It has at most as many rows as its input.

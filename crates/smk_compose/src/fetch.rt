@@ -7,10 +7,10 @@ ghost use Rattle.smk_model.specs.Selection.{each_rows, each_kinds, selected, ove
 ghost use Rattle.smk_compose.specs.Fetched.{leaf_over};
 
 use crate::leaves::Leaves;
-use crate::rows::{fetch_rids, fetch_whole};
-use smk_base::{Pick, Picks, Plan, Rel};
+use crate::rows::choose_rids;
+use smk_base::{Pick, Picks, Plan};
 use smk_outside::Steps;
-use smk_table::Table;
+use smk_table::{Chosen, Table};
 use std::alloc::{AllocError, Global};
 use std::sync::ledger::Ledger;
 
@@ -52,8 +52,8 @@ fn fetch_node<L: Ledger>(
 {
     match plan {
         Plan::Scan(table) => {
-            let rel = fetch_leaf(alloc, *table, tables, picks, steps)?;
-            leaves.push(rel)
+            let leaf = fetch_leaf(alloc, *table, tables, picks, steps)?;
+            leaves.push_chosen(leaf)
         }
         Plan::One(_, input) => fetch_node(alloc, input, tables, picks, leaves, steps),
         Plan::Two(_, left, right) => {
@@ -71,16 +71,16 @@ fn fetch_leaf<L: Ledger>(
     tables: &[Table],
     picks: &Picks,
     steps: &mut Steps<L>,
-) -> Result<Rel, AllocError>
+) -> Result<Chosen, AllocError>
     requires known { table < length tables.now }
     requires picks { All (PickFits (each_rows tables.now)) picks.now }
-    ensures leaf { IfOk result (λ rel. rel ≡ leaf_over tables.now picks.now table) }
+    ensures leaf { IfOk result (λ leaf. leaf ≡ leaf_over tables.now picks.now table) }
     ensures looks { steps.new ≤ steps.old + length (selected (each_rows tables.now) picks.now table) }
 {
     let scanned = &tables[table as usize];
     match pick_of(picks.as_slice(), table) {
-        Some(pick) => fetch_rids(alloc, scanned, pick.rids.as_slice(), steps),
-        None => fetch_whole(alloc, scanned, steps),
+        Some(pick) => choose_rids(alloc, scanned, pick.rids.as_slice(), steps),
+        None => scanned.choose_all(alloc, steps),
     }
 }
 

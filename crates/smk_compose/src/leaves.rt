@@ -1,14 +1,15 @@
 ghost use Rattle.std.specs.Prelude.{◌≡◌, ◌<◌, [], ◌∷◌, ◌++◌, length, OnOk, OnErr};
 
 use smk_base::Rel;
+use smk_table::Chosen;
 use std::alloc::{AllocError, Global};
 use std::collections::VecDeque;
 use std::marker::Model;
 
-/// One Rel for each leaf of a plan, left to right. Contracts see the list of them.
+/// One Rel for each leaf of a plan, left to right, gathered or chosen. Contracts see the list of them.
 #[derive(Drop)]
 pub struct Leaves {
-    rels: VecDeque<Rel>,
+    leaves: VecDeque<Chosen>,
 }
 
 impl Model for Leaves {
@@ -17,7 +18,7 @@ impl Model for Leaves {
 
     ghost Value = { List Relation };
 
-    ghost view = { λ a. a.rels.items };
+    ghost view = { λ a. a.leaves.items };
 }
 
 impl Leaves {
@@ -26,7 +27,7 @@ impl Leaves {
         ensures { result ≡ [] }
     {
         Leaves {
-            rels: VecDeque::new(alloc),
+            leaves: VecDeque::new(alloc),
         }
     }
 
@@ -35,17 +36,25 @@ impl Leaves {
         ensures pushed { OnOk result (self.new ≡ self.old ++ rel ∷ []) }
         ensures kept { OnErr result (self.new ≡ self.old) }
     {
-        self.rels.push_back(rel)?;
+        self.push_chosen(Chosen::of_rel(rel))
+    }
+
+    /// Puts the chosen rows of one more leaf last. On an error they are dropped.
+    pub(crate) fn push_chosen(&mut self, leaf: Chosen) -> Result<(), AllocError>
+        ensures pushed { OnOk result (self.new ≡ self.old ++ leaf ∷ []) }
+        ensures kept { OnErr result (self.new ≡ self.old) }
+    {
+        self.leaves.push_back(leaf)?;
         Ok(())
     }
 
     /// Takes the first one out. It takes no memory.
-    pub(crate) fn take_first(&mut self) -> Rel
+    pub(crate) fn take_first(&mut self) -> Chosen
         requires { 0 < length self.old }
         ensures { self.old ≡ result ∷ self.new }
     {
-        match self.rels.pop_front() {
-            Some(rel) => rel,
+        match self.leaves.pop_front() {
+            Some(leaf) => leaf,
             None => unreachable!(),
         }
     }

@@ -8,6 +8,7 @@ mod fetch;
 mod fill;
 mod kept;
 mod leaves;
+mod narrow;
 mod pass;
 mod rows;
 mod run;

@@ -4,7 +4,7 @@ ghost use Rattle.smk_model.specs.Lineage.{sub};
 
 use smk_base::Rel;
 use smk_outside::Steps;
-use smk_table::Table;
+use smk_table::{Chosen, Table};
 use std::alloc::{AllocError, Global};
 use std::sync::ledger::Ledger;
 
@@ -22,6 +22,22 @@ pub fn fetch_rids<L: Ledger>(
 {
     let _rows = table.len();
     table.gather(alloc, rids, steps)
+}
+
+/// The same rows, to be gathered later, one look each at once, also where it wants memory.
+pub(crate) fn choose_rids<L: Ledger>(
+    alloc: Global,
+    table: &Table,
+    rids: &[u32],
+    steps: &mut Steps<L>,
+) -> Result<Chosen, AllocError>
+    requires ascending { IsAscending rids.now }
+    requires inside { All (λ rid. rid < length table.now.rows) rids.now }
+    ensures rows { IfOk result (λ chosen. chosen ≡ record { kinds = table.now.kinds; rows = sub table.now.rows rids.now }) }
+    ensures looks { steps.new ≡ steps.old + length rids.now }
+{
+    let _rows = table.len();
+    table.choose(alloc, rids, steps)
 }
 
 /// All rows of a table, one look each, also where it wants memory.

@@ -6,14 +6,14 @@ use Rattle.smk_model.specs.Selection.{PickFits, each_rows}
 use Rattle.smk_compose.proofs.Lists.{found, found_passes, rids_inside}
 use Rattle.smk_compose.proofs.fetch.fetch_leaf.Goals as goal
 
-pub fetch_rids-requires-clause-ascending : goal.fetch_rids-requires-clause-ascending
-fetch_rids-requires-clause-ascending g c =
+pub choose_rids-requires-clause-ascending : goal.choose_rids-requires-clause-ascending
+choose_rids-requires-clause-ascending g c =
     let test = λ (pick : Pick). nat_eq pick.table c.args.table in
     let e : Some c.in-Some.pick.now ≡ find test c.args.picks.now = c.in-Some.ensures ∙ ap (find test) c.as_slice.ensures.picks in
     subst IsAscending (sym c.as_slice-in-Some.ensures) (found (λ (pick : Pick). IsAscending pick.rids) test c.args.picks.now c.in-Some.pick.now e c.as_slice.ensures.keeps.by_rid)
 
-pub fetch_rids-requires-clause-inside : goal.fetch_rids-requires-clause-inside
-fetch_rids-requires-clause-inside g c =
+pub choose_rids-requires-clause-inside : goal.choose_rids-requires-clause-inside
+choose_rids-requires-clause-inside g c =
     let test = λ (pick : Pick). nat_eq pick.table c.args.table in
     let e : Some c.in-Some.pick.now ≡ find test c.args.picks.now = c.in-Some.ensures ∙ ap (find test) c.as_slice.ensures.picks in
     let same : c.in-Some.pick.now.table ≡ c.args.table = eqb-true c.in-Some.pick.now.table c.args.table (found_passes test c.args.picks.now c.in-Some.pick.now e) in

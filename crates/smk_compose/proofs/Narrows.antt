@@ -1,0 +1,265 @@
+-- A step over the columns that it names is the step over all columns.
+use Rattle.std.proofs.Common.{◌≡◌, ◌∙◌, ◌+◌, ◌<◌, ◌≤◌, ℕ, suc, pos, true, not, List, [], ◌∷◌, ◌++◌, length, map, filter, get_or, All, Some, None, nat_lt, refl, sym, ap, subst, arith, inl, inr, nat_eq, eqb-true, eq-eqb}
+use Rattle.std.specs.List.{position, position_or_len}
+use Rattle.std.proofs.lemmas.Bool.{cases_Bool, false≢true, or_left, or_right}
+use Rattle.std.proofs.lemmas.List.{get_or-map, length-map}
+use Rattle.std.proofs.lemmas.List.Filters.{length-filter_both}
+use Rattle.std.proofs.lemmas.List.Elements.{filter_agree, All-map}
+use Rattle.std.proofs.lemmas.List.Folds.{list_any_at}
+use Rattle.smk_base.specs.Places.{has, upto}
+use Rattle.smk_base.specs.Rels.{kind_in, value_in, picked}
+use Rattle.smk_base.specs.declared.value.Value.TheVariants.{Int}
+use Rattle.smk_base.specs.declared.value.Kind.{Kind}
+use Rattle.smk_base.specs.declared.plan.Item.{Item}
+use Rattle.smk_base.specs.declared.plan.Item.TheVariants as items
+use Rattle.smk_base.specs.declared.plan.Agg.{Agg}
+use Rattle.smk_base.specs.declared.plan.Agg.TheVariants.{Count, Sum, Min, Max}
+use Rattle.smk_base.specs.Plans.{Unary, Selection, Projection, Distinction, Grouping}
+use Rattle.smk_model.specs.Values.{Row, value_at}
+use Rattle.smk_model.specs.Plain.{item_at, image, key_of, firsts, number_of, total, combined, lesser, greater, aggregate, grouped, row_eq, step1}
+use Rattle.smk_model.specs.Kinds.{ItemFits, AggFits, ItemsFit, IsInt, IsSummed, Fits1, kind_of_item, kind_of_agg, summed, kinds1}
+use Rattle.smk_model.proofs.Places.{filter_map, map_map, has_places, places_below, length_upto}
+use Rattle.smk_model.proofs.Parts.{map_agree}
+use Rattle.smk_compose.specs.Narrowed.{is_of, reads, is_named, named, place_of, item_among, agg_among, step_among, names_columns}
+
+-- the place of a column that is there
+
+first_low : (cols : List ℕ) (c : ℕ) → has cols c ≡ true → position_or_len (nat_eq c) cols < length cols
+first_low [] c h = absurd (false≢true h)
+first_low (x ∷ xs) c h = elim (cases_Bool (nat_eq c x)) [
+  | inl e ↦ rw e (omega arith)
+  | inr e ↦ (let rest : has xs c ≡ true = rw e at h in let low = first_low xs c rest in rw e (omega (arith, low)))
+]
+
+first_is : (cols : List ℕ) (c d : ℕ) → has cols c ≡ true → get_or cols (position_or_len (nat_eq c) cols) d ≡ c
+first_is [] c d h = absurd (false≢true h)
+first_is (x ∷ xs) c d h = elim (cases_Bool (nat_eq c x)) [
+  | inl e ↦ rw e (sym (eqb-true c x e))
+  | inr e ↦ (
+      let rest : has xs c ≡ true = rw e at h in
+      let is = first_is xs c d rest in
+      let next : 1 + position_or_len (nat_eq c) xs ≡ suc (position_or_len (nat_eq c) xs) = omega arith in
+      rw e (rw next is))
+]
+
+place_first : (cols : List ℕ) (c : ℕ) → has cols c ≡ true → place_of cols c ≡ position_or_len (nat_eq c) cols
+unfolding place_of
+place_first cols c h =
+    let low = first_low cols c h in
+    elim (cases_Bool (nat_lt (position_or_len (nat_eq c) cols) (length cols))) [
+      | inl e ↦ rw e refl
+      | inr e ↦ absurd (grind (arith, e, low))
+    ]
+
+place_low : (cols : List ℕ) (c : ℕ) → has cols c ≡ true → place_of cols c < length cols
+place_low cols c h = rw (place_first cols c h) (first_low cols c h)
+
+place_is : (cols : List ℕ) (c d : ℕ) → has cols c ≡ true → get_or cols (place_of cols c) d ≡ c
+place_is cols c d h = rw (place_first cols c h) (first_is cols c d h)
+
+pub place_found : (cols : List ℕ) (c i : ℕ) → position (nat_eq c) cols ≡ Some i → i ≡ place_of cols c
+unfolding place_of
+place_found cols c i e = rw e refl
+
+pub place_missing : (cols : List ℕ) (c : ℕ) → position (nat_eq c) cols ≡ None → 0 ≡ place_of cols c
+unfolding place_of
+place_missing cols c e = rw e refl
+
+-- what is read there of the picked columns
+read_there : {X : Type 0} (f : ℕ → X) (cols : List ℕ) (c : ℕ) (d : X) → has cols c ≡ true → get_or (map f cols) (place_of cols c) d ≡ f c
+read_there f cols c d h = get_or-map f cols (place_of cols c) 0 d (place_low cols c h) ∙ ap f (place_is cols c 0 h)
+
+value_there : (cols : List ℕ) (row : Row) (c : ℕ) → has cols c ≡ true → value_in (picked cols row) (place_of cols c) ≡ value_in row c
+value_there cols row c h = read_there (value_in row) cols c _ h
+
+kind_there : (cols : List ℕ) (kinds : List Kind) (c : ℕ) → has cols c ≡ true → kind_in (map (kind_in kinds) cols) (place_of cols c) ≡ kind_in kinds c
+kind_there cols kinds c h = read_there (kind_in kinds) cols c _ h
+
+long_there : (cols : List ℕ) (kinds : List Kind) (c : ℕ) → has cols c ≡ true → place_of cols c < length (map (kind_in kinds) cols)
+long_there cols kinds c h = omega (arith, length-map cols (kind_in kinds), place_low cols c h)
+
+-- whether the columns have what an output column, an aggregate and a step name
+
+abbrev HasItem : List ℕ → Item → Type 0
+HasItem cols (items.Col c) = has cols c ≡ true
+HasItem cols (items.Bin c w) = has cols c ≡ true
+
+abbrev HasAgg : List ℕ → Agg → Type 0
+HasAgg cols Count = Unit {0}
+HasAgg cols (Sum c) = has cols c ≡ true
+HasAgg cols (Min c) = has cols c ≡ true
+HasAgg cols (Max c) = has cols c ≡ true
+
+-- lists of them
+
+each_agrees : {X Y : Type 0} (P : X → Type 0) (f g : X → Y) (xs : List X) → All P xs → ((x : X) → P x → f x ≡ g x) → map f xs ≡ map g xs
+each_agrees P f g [] all h = refl
+each_agrees P f g (x ∷ xs) all h = rw (h x (all 0 x (omega arith)), each_agrees P f g xs (λ k d p. all (suc k) d (omega arith)) h) refl
+
+each_fits : {X : Type 0} (P Q R : X → Type 0) (xs : List X) → All P xs → All Q xs → ((x : X) → P x → Q x → R x) → All R xs
+each_fits P Q R xs p q h k d low = h (get_or xs k d) (p k d low) (q k d low)
+
+item_there : (cols : List ℕ) (row : Row) (item : Item) → HasItem cols item → item_at (picked cols row) (item_among cols item) ≡ item_at row item
+item_there cols row (items.Col c) h = value_there cols row c h
+item_there cols row (items.Bin c w) h = rw (value_there cols row c h) refl
+
+image_there : (cols : List ℕ) (of : List Item) (row : Row) → All (HasItem cols) of → image (map (item_among cols) of) (picked cols row) ≡ image of row
+image_there cols of row all =
+    map_map (item_at (picked cols row)) (item_among cols) of ∙ each_agrees (HasItem cols) (λ item. item_at (picked cols row) (item_among cols item)) (item_at row) of all (item_there cols row)
+
+key_there : (cols keys : List ℕ) (row : Row) → All (λ c. has cols c ≡ true) keys → key_of (map (place_of cols) keys) (picked cols row) ≡ key_of keys row
+key_there cols keys row all =
+    map_map (value_in (picked cols row)) (place_of cols) keys ∙ each_agrees (λ c. has cols c ≡ true) (λ c. value_in (picked cols row) (place_of cols c)) (value_in row) keys all (value_there cols row)
+
+column_there : (cols : List ℕ) (rows : List Row) (c : ℕ) → has cols c ≡ true → map (λ row. value_at row (place_of cols c)) (map (picked cols) rows) ≡ map (λ row. value_at row c) rows
+column_there cols rows c h =
+    map_map (λ row. value_at row (place_of cols c)) (picked cols) rows ∙ map_agree (λ row. value_at (picked cols row) (place_of cols c)) (λ row. value_at row c) (λ row. value_there cols row c h) rows
+
+numbers_there : (cols : List ℕ) (rows : List Row) (c : ℕ) → has cols c ≡ true → map (λ row. number_of (value_at row (place_of cols c))) (map (picked cols) rows) ≡ map (λ row. number_of (value_at row c)) rows
+numbers_there cols rows c h =
+    map_map (λ row. number_of (value_at row (place_of cols c))) (picked cols) rows
+    ∙ map_agree (λ row. number_of (value_at (picked cols row) (place_of cols c))) (λ row. number_of (value_at row c)) (λ row. ap number_of (value_there cols row c h)) rows
+
+agg_there : (cols : List ℕ) (rows : List Row) (agg : Agg) → HasAgg cols agg → aggregate (map (picked cols) rows) (agg_among cols agg) ≡ aggregate rows agg
+agg_there cols rows Count h = ap (λ n. Int (pos n)) (length-map rows (picked cols))
+agg_there cols rows (Sum c) h = ap (λ ns. Int (total ns)) (numbers_there cols rows c h)
+agg_there cols rows (Min c) h = ap (combined lesser) (column_there cols rows c h)
+agg_there cols rows (Max c) h = ap (combined greater) (column_there cols rows c h)
+
+members_there : (cols keys : List ℕ) (rows : List Row) (key : Row) → All (λ c. has cols c ≡ true) keys
+    → filter (λ row. row_eq key (key_of (map (place_of cols) keys) row)) (map (picked cols) rows) ≡ map (picked cols) (filter (λ row. row_eq key (key_of keys row)) rows)
+members_there cols keys rows key all =
+    let keys' = map (place_of cols) keys in
+    filter_map (λ row. row_eq key (key_of keys' row)) (picked cols) rows
+    ∙ ap (map (picked cols)) (filter_agree (λ row. row_eq key (key_of keys' (picked cols row))) (λ row. row_eq key (key_of keys row)) (λ row. ap (row_eq key) (key_there cols keys row all)) rows)
+
+group_there : (cols keys : List ℕ) (aggs : List Agg) (rows : List Row) (key : Row) → All (λ c. has cols c ≡ true) keys → All (HasAgg cols) aggs
+    → grouped (map (place_of cols) keys) (map (agg_among cols) aggs) (map (picked cols) rows) key ≡ grouped keys aggs rows key
+group_there cols keys aggs rows key all each =
+    let group = filter (λ row. row_eq key (key_of keys row)) rows in
+    ap (λ members. key ++ map (aggregate members) (map (agg_among cols) aggs)) (members_there cols keys rows key all)
+    ∙ ap (λ z. key ++ z) (map_map (aggregate (map (picked cols) group)) (agg_among cols) aggs ∙ each_agrees (HasAgg cols) (λ agg. aggregate (map (picked cols) group) (agg_among cols agg)) (aggregate group) aggs each (agg_there cols group))
+
+-- a step
+
+abbrev HasStep : List ℕ → Unary → Type 0
+HasStep cols (Selection formula) = ⊥
+HasStep cols (Projection of) = All (HasItem cols) of
+HasStep cols (Distinction of) = All (HasItem cols) of
+HasStep cols (Grouping keys aggs) = All (λ c. has cols c ≡ true) keys × All (HasAgg cols) aggs
+
+images_there : (cols : List ℕ) (of : List Item) (L : List Row) → All (HasItem cols) of → map (image (map (item_among cols) of)) (map (picked cols) L) ≡ map (image of) L
+images_there cols of L all =
+    map_map (image (map (item_among cols) of)) (picked cols) L ∙ map_agree (λ row. image (map (item_among cols) of) (picked cols row)) (image of) (λ row. image_there cols of row all) L
+
+keys_there : (cols keys : List ℕ) (L : List Row) → All (λ c. has cols c ≡ true) keys → map (key_of (map (place_of cols) keys)) (map (picked cols) L) ≡ map (key_of keys) L
+keys_there cols keys L all =
+    map_map (key_of (map (place_of cols) keys)) (picked cols) L ∙ map_agree (λ row. key_of (map (place_of cols) keys) (picked cols row)) (key_of keys) (λ row. key_there cols keys row all) L
+
+step_there : (cols : List ℕ) (op : Unary) (L : List Row) → HasStep cols op → step1 (step_among cols op) (map (picked cols) L) ≡ step1 op L
+step_there cols (Selection formula) L h = absurd h
+step_there cols (Projection of) L h = images_there cols of L h
+step_there cols (Distinction of) L h = ap firsts (images_there cols of L h)
+step_there cols (Grouping keys aggs) L h =
+    let keys' = map (place_of cols) keys in
+    let aggs' = map (agg_among cols) aggs in
+    ap (λ ks. map (grouped keys' aggs' (map (picked cols) L)) (firsts ks)) (keys_there cols keys L h.0)
+    ∙ map_agree (grouped keys' aggs' (map (picked cols) L)) (grouped keys aggs L) (λ key. group_there cols keys aggs L key h.0 h.1) (firsts (map (key_of keys) L))
+
+item_kind : (cols : List ℕ) (kinds : List Kind) (item : Item) → HasItem cols item → kind_of_item (map (kind_in kinds) cols) (item_among cols item) ≡ kind_of_item kinds item
+item_kind cols kinds (items.Col c) h = kind_there cols kinds c h
+item_kind cols kinds (items.Bin c w) h = kind_there cols kinds c h
+
+agg_kind : (cols : List ℕ) (kinds : List Kind) (agg : Agg) → HasAgg cols agg → kind_of_agg (map (kind_in kinds) cols) (agg_among cols agg) ≡ kind_of_agg kinds agg
+agg_kind cols kinds Count h = refl
+agg_kind cols kinds (Sum c) h = ap summed (kind_there cols kinds c h)
+agg_kind cols kinds (Min c) h = kind_there cols kinds c h
+agg_kind cols kinds (Max c) h = kind_there cols kinds c h
+
+item_kinds : (cols : List ℕ) (kinds : List Kind) (of : List Item) → All (HasItem cols) of → map (kind_of_item (map (kind_in kinds) cols)) (map (item_among cols) of) ≡ map (kind_of_item kinds) of
+item_kinds cols kinds of all =
+    map_map (kind_of_item (map (kind_in kinds) cols)) (item_among cols) of ∙ each_agrees (HasItem cols) (λ item. kind_of_item (map (kind_in kinds) cols) (item_among cols item)) (kind_of_item kinds) of all (item_kind cols kinds)
+
+kinds_there : (cols : List ℕ) (op : Unary) (kinds : List Kind) → HasStep cols op → kinds1 (step_among cols op) (map (kind_in kinds) cols) ≡ kinds1 op kinds
+kinds_there cols (Selection formula) kinds h = absurd h
+kinds_there cols (Projection of) kinds h = item_kinds cols kinds of h
+kinds_there cols (Distinction of) kinds h = item_kinds cols kinds of h
+kinds_there cols (Grouping keys aggs) kinds h =
+    let fewer = map (kind_in kinds) cols in
+    let first : map (kind_in fewer) (map (place_of cols) keys) ≡ map (kind_in kinds) keys =
+    map_map (kind_in fewer) (place_of cols) keys ∙ each_agrees (λ c. has cols c ≡ true) (λ c. kind_in fewer (place_of cols c)) (kind_in kinds) keys h.0 (kind_there cols kinds) in
+    let rest : map (kind_of_agg fewer) (map (agg_among cols) aggs) ≡ map (kind_of_agg kinds) aggs =
+    map_map (kind_of_agg fewer) (agg_among cols) aggs ∙ each_agrees (HasAgg cols) (λ agg. kind_of_agg fewer (agg_among cols agg)) (kind_of_agg kinds) aggs h.1 (agg_kind cols kinds) in
+    rw (first, rest) refl
+
+item_fits : (cols : List ℕ) (kinds : List Kind) (item : Item) → HasItem cols item → ItemFits kinds item → ItemFits (map (kind_in kinds) cols) (item_among cols item)
+item_fits cols kinds (items.Col c) h fits = long_there cols kinds c h
+item_fits cols kinds (items.Bin c w) h fits = (long_there cols kinds c h, subst IsInt (sym (kind_there cols kinds c h)) fits.1, fits.2)
+
+agg_fits : (cols : List ℕ) (kinds : List Kind) (agg : Agg) → HasAgg cols agg → AggFits kinds agg → AggFits (map (kind_in kinds) cols) (agg_among cols agg)
+agg_fits cols kinds Count h fits = tt
+agg_fits cols kinds (Sum c) h fits = (long_there cols kinds c h, subst IsSummed (sym (kind_there cols kinds c h)) fits.1)
+agg_fits cols kinds (Min c) h fits = long_there cols kinds c h
+agg_fits cols kinds (Max c) h fits = long_there cols kinds c h
+
+items_fit : (cols : List ℕ) (kinds : List Kind) (of : List Item) → All (HasItem cols) of → ItemsFit kinds of → ItemsFit (map (kind_in kinds) cols) (map (item_among cols) of)
+items_fit cols kinds of all fits = record {
+  each = All-map (ItemFits (map (kind_in kinds) cols)) (item_among cols) of (each_fits (HasItem cols) (ItemFits kinds) (λ item. ItemFits (map (kind_in kinds) cols) (item_among cols item)) of all fits.each (item_fits cols kinds));
+  few = omega (arith, fits.few, length-map of (item_among cols));
+}
+
+fits_there : (cols : List ℕ) (op : Unary) (kinds : List Kind) → HasStep cols op → Fits1 op kinds → Fits1 (step_among cols op) (map (kind_in kinds) cols)
+fits_there cols (Selection formula) kinds h fits = absurd h
+fits_there cols (Projection of) kinds h fits = items_fit cols kinds of h fits
+fits_there cols (Distinction of) kinds h fits = items_fit cols kinds of h fits
+fits_there cols (Grouping keys aggs) kinds h fits =
+    let fewer = map (kind_in kinds) cols in
+    record {
+      keyed = All-map (λ c. c < length fewer) (place_of cols) keys (λ k d low. long_there cols kinds (get_or keys k d) (h.0 k d low));
+      each = All-map (AggFits fewer) (agg_among cols) aggs (each_fits (HasAgg cols) (AggFits kinds) (λ agg. AggFits fewer (agg_among cols agg)) aggs h.1 fits.each (agg_fits cols kinds));
+      some = omega (arith, fits.some, length-map keys (place_of cols), length-map aggs (agg_among cols));
+      few = omega (arith, fits.few, length-map keys (place_of cols), length-map aggs (agg_among cols));
+    }
+
+-- the named columns have what the step names
+
+has_named : (op : Unary) (n c : ℕ) → c < n → is_named op c ≡ true → has (named op n) c ≡ true
+has_named op n c low h = has_places (is_named op) n c low ∙ h
+
+item_named : (op : Unary) (kinds : List Kind) (item : Item) → ItemFits kinds item → ((c : ℕ) → is_of c item ≡ true → is_named op c ≡ true) → HasItem (named op (length kinds)) item
+item_named op kinds (items.Col c) fits h = has_named op (length kinds) c fits (h c (eq-eqb c c refl))
+item_named op kinds (items.Bin c w) fits h = has_named op (length kinds) c fits.0 (h c (eq-eqb c c refl))
+
+agg_named : (op : Unary) (kinds : List Kind) (agg : Agg) → AggFits kinds agg → ((c : ℕ) → reads c agg ≡ true → is_named op c ≡ true) → HasAgg (named op (length kinds)) agg
+agg_named op kinds Count fits h = tt
+agg_named op kinds (Sum c) fits h = has_named op (length kinds) c fits.0 (h c (eq-eqb c c refl))
+agg_named op kinds (Min c) fits h = has_named op (length kinds) c fits (h c (eq-eqb c c refl))
+agg_named op kinds (Max c) fits h = has_named op (length kinds) c fits (h c (eq-eqb c c refl))
+
+has_step : (op : Unary) (kinds : List Kind) → names_columns op ≡ true → Fits1 op kinds → HasStep (named op (length kinds)) op
+has_step (Selection formula) kinds names fits = absurd (false≢true names)
+has_step (Projection of) kinds names fits = λ k d low.
+    item_named (Projection of) kinds (get_or of k d) (fits.each k d low) (λ c e. list_any_at (is_of c) of k d low e)
+has_step (Distinction of) kinds names fits = λ k d low.
+    item_named (Distinction of) kinds (get_or of k d) (fits.each k d low) (λ c e. list_any_at (is_of c) of k d low e)
+has_step (Grouping keys aggs) kinds names fits = (
+  λ k d low. let c = get_or keys k d in has_named (Grouping keys aggs) (length kinds) c (fits.keyed k d low) (or_left (has keys c) _ (list_any_at (nat_eq c) keys k d low (eq-eqb c c refl))),
+  λ k d low. agg_named (Grouping keys aggs) kinds (get_or aggs k d) (fits.each k d low) (λ c e. or_right (has keys c) _ (list_any_at (reads c) aggs k d low e)),
+)
+
+-- over the named columns of a leaf
+
+pub few_named : (op : Unary) (n : ℕ) → length (named op n) ≤ n
+few_named op n = omega (arith, length-filter_both (is_named op) (λ c. not (is_named op c)) (λ c. refl) (upto n), length_upto n)
+
+pub named_below : (op : Unary) (n : ℕ) → All (λ c. c < n) (named op n)
+named_below op n = places_below (is_named op) n
+
+pub narrowed_rows : (op : Unary) (kinds : List Kind) (L : List Row) → names_columns op ≡ true → Fits1 op kinds → step1 (step_among (named op (length kinds)) op) (map (picked (named op (length kinds))) L) ≡ step1 op L
+narrowed_rows op kinds L names fits = step_there (named op (length kinds)) op L (has_step op kinds names fits)
+
+pub narrowed_kinds : (op : Unary) (kinds : List Kind) → names_columns op ≡ true → Fits1 op kinds → kinds1 (step_among (named op (length kinds)) op) (map (kind_in kinds) (named op (length kinds))) ≡ kinds1 op kinds
+narrowed_kinds op kinds names fits = kinds_there (named op (length kinds)) op kinds (has_step op kinds names fits)
+
+pub narrowed_fits : (op : Unary) (kinds : List Kind) → names_columns op ≡ true → Fits1 op kinds → Fits1 (step_among (named op (length kinds)) op) (map (kind_in kinds) (named op (length kinds)))
+narrowed_fits op kinds names fits = fits_there (named op (length kinds)) op kinds (has_step op kinds names fits) fits
