@@ -12,9 +12,6 @@ use smk_body::group_rows;
 use smk_keys::Classes;
 use std::alloc::{AllocError, Global};
 
-// Rows are put one by one where they are fewer than one in so many; else column by column, in a pass over the texts that each column has.
-const PUT_SHARE: u32 = 16;
-
 /// The grouping of the rows at these rids, in their order.
 pub(crate) fn group_at(
     alloc: Global,
@@ -40,10 +37,22 @@ fn rows_of(alloc: Global, rel: &Rel, rids: &[u32]) -> Result<Rel, AllocError>
     requires few { length rids.now ≤ ROW_LIMIT }
     ensures { IfOk result (λ made. made ≡ record { kinds = rel.now.kinds; rows = rows_at rel.now.rows rids.now }) }
 {
-    if rids.len() < (rel.len() / PUT_SHARE) as usize {
+    // Columns are gathered in a pass over the texts that each of them has.
+    if (rids.len() as u64) < texts_in(rel) {
         return put_rows(alloc, rel, rids);
     }
     rel.gather(alloc, rids)
+}
+
+// How many texts the columns have together.
+fn texts_in(rel: &Rel) -> u64 {
+    let mut texts = 0u64;
+    for c in 0..rel.width() {
+        if let Kind::Text = rel.kind(c) {
+            texts = texts.saturating_add(u64::from(rel.dict(c).len()));
+        }
+    }
+    texts
 }
 
 // The rows at these rids, put one by one.
