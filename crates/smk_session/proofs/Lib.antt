@@ -1,4 +1,6 @@
+mod BackAnswers
 mod Brushed
+mod Declared
 mod Followers
 mod InForce
 mod KeptOf

@@ -25,7 +25,7 @@ none_outside (m ∷ ms) n h = elim (cases_Bool (nat_le n m)) [
 ]
 
 -- what is asked for is the same where it is the same for marks that are rows
-same_row : {A : Type 0} (outside : Option ℕ) (n : ℕ) (a b : Asked A) → (outside ≡ None → a ≡ b) → unless_row outside n a ≡ unless_row outside n b
+pub same_row : {A : Type 0} (outside : Option ℕ) (n : ℕ) (a b : Asked A) → (outside ≡ None → a ≡ b) → unless_row outside n a ≡ unless_row outside n b
 same_row (Some row) n a b h = refl
 same_row None n a b h = h refl
 

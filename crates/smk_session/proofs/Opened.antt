@@ -1,5 +1,5 @@
 -- What the kept parts of a session answer.
-use Rattle.std.proofs.Common.{◌≡◌, ℕ, ◌<◌, Bool, true, false, cond, List, [], length, map, get_or, refl, ap, sym, ◌∙◌, subst, arith, Ok, Err, Option, Some, None}
+use Rattle.std.proofs.Common.{◌≡◌, ℕ, ◌<◌, Bool, true, false, cond, List, [], length, get_or, refl, ap, sym, ◌∙◌, subst, arith, Ok, Err, Option, Some, None}
 use Rattle.std.proofs.lemmas.List.{get_or-map, length-map}
 use Rattle.smk_base.specs.CatalogImage.{CatalogImage, ViewImage, view_image, catalog_image}
 use Rattle.smk_base.specs.Places.{Lists, upto}
@@ -11,7 +11,6 @@ use Rattle.smk_base.specs.declared.catalog.ViewInfo.{ViewInfo}
 use Rattle.smk_base.specs.declared.reply.Reply.TheVariants as replies
 use Rattle.smk_base.specs.declared.reply.Refusal.TheVariants.{Undeclared}
 use Rattle.smk_base.specs.declared.tree.Marks.{Marks}
-use Rattle.smk_base.specs.declared.tree.Then.{Then}
 use Rattle.smk_base.specs.declared.tree.Then.TheVariants as thens
 use Rattle.smk_base.specs.declared.value.Kind.{Kind}
 use Rattle.smk_model.specs.Values.{Row}
@@ -20,12 +19,12 @@ use Rattle.smk_model.specs.Composed.{backs, forwards}
 use Rattle.smk_model.specs.Catalogs.{IsCatalog, ViewFits, table_kinds, each_table_kinds}
 use Rattle.smk_model.specs.Selection.{each_kinds}
 use Rattle.smk_model.specs.Typing.{info_at, no_table}
-use Rattle.smk_model.specs.Replies.{Asked, known_pair, named_back, named_fwd, provided, unless_row, first_outside, written, marked, marks_fwd, rids_of, back_reply, fwd_reply}
+use Rattle.smk_model.specs.Replies.{Asked, known_pair, named_fwd, provided, unless_row, first_outside, written, marked, marks_fwd, rids_of, back_reply, fwd_reply}
 use Rattle.smk_model.specs.Session.{Workbook, State, view_at, no_view, rows_of_table}
 use Rattle.smk_model.specs.Workload.{declares_back, declares_fwd}
 use Rattle.smk_model.proofs.Places.{get_or_map_upto, length_upto}
 use Rattle.smk_compose.specs.declared.kept.Run.{Run}
-use Rattle.smk_session.specs.Answers.{kept_back, members_asked, rows_told, back_by, fwd_by, BacksFit}
+use Rattle.smk_session.specs.Answers.{members_asked, rows_told, back_by, fwd_by}
 use Rattle.smk_session.specs.Sessions.{AreOpened, workbook_image, state_over, opened}
 use Rattle.smk_session.proofs.KeptOf.{kept_back_is, kept_fwd_is}
 use Rattle.smk_session.proofs.Marked.{backs_asked, forwards_asked}
@@ -65,14 +64,14 @@ table_is catalog tables brushes t table kinds_are low is =
 
 -- a backward query
 
-provided_then : {A B : Type 0} (b : Bool) (a : A) (next : A → Asked B) → ◌>>=◌ (cond b (Ok a) (Err Undeclared)) next ≡ provided b Undeclared (next a)
+pub provided_then : {A B : Type 0} (b : Bool) (a : A) (next : A → Asked B) → ◌>>=◌ (cond b (Ok a) (Err Undeclared)) next ≡ provided b Undeclared (next a)
 provided_then true a next = refl
 provided_then false a next = refl
 
-pub back_is : (catalog : Catalog) (tables : List Relation) (brushes : List BrushOn) (views : List Run) (v t : ℕ) (run : Run) (table : Relation) (marks : Marks)
+pub plain_is : (catalog : Catalog) (tables : List Relation) (brushes : List BrushOn) (views : List Run) (v t : ℕ) (run : Run) (table : Relation) (marks : Marks)
     → AreOpened catalog tables views → v < length catalog.views → t < length catalog.tables → run ≡ get_or views v run → table ≡ get_or tables t table
     → back_by run.kept t table marks ≡ provided (declares_back (catalog_image catalog) v t) Undeclared (back_reply (catalog_image catalog) (state_over tables brushes) v t marks thens.Plain)
-back_is catalog tables brushes views v t run table marks o low_v low_t is_v is_t =
+plain_is catalog tables brushes views v t run table marks o low_v low_t is_v is_t =
     let image : CatalogImage = catalog_image catalog in
     let state : State = state_over tables brushes in
     let plan : Expr = (view_at image v).plan in
@@ -86,21 +85,9 @@ pub ok_is : (b : Bool) (m n : Lists) → cond b (Ok m) (Err Undeclared) ≡ Ok n
 ok_is true m n h = cc
 ok_is false m n h = absurd (cc)
 
-pub backs_fit : (catalog : Catalog) (tables : List Relation) (views : List Run) (v t : ℕ) (run : Run) (table : Relation)
-    → AreOpened catalog tables views → v < length catalog.views → t < length catalog.tables → run ≡ get_or views v run → table ≡ get_or tables t table
-    → BacksFit run.kept t (length table.rows)
-backs_fit catalog tables views v t run table o low_v low_t is_v is_t map kept =
-    let image : CatalogImage = catalog_image catalog in
-    let state : State = state_over tables [] in
-    let plan : Expr = (view_at image v).plan in
-    let known : cond (declares_back image v t) (Ok (backs plan state.tables t)) (Err Undeclared) ≡ Ok map =
-    sym (kept_back_is image plan state.tables v t low_t) ∙ ap (λ (r : Run). kept_back r.kept t) (sym (run_is catalog tables views v run o low_v is_v)) ∙ kept in
-    ap (λ (m : Lists). m.bound) (ok_is (declares_back image v t) (backs plan state.tables t) map known)
-    ∙ ap (λ (r : Relation). length r.rows) (sym (table_is catalog tables [] t table o.kinds low_t is_t))
-
 -- a forward query
 
-then_row : {A B : Type 0} (outside : Option ℕ) (n : ℕ) (a : A) (told : A → B) → ◌>>=◌ (unless_row outside n (Ok a)) (λ x. Ok (told x)) ≡ unless_row outside n (Ok (told a))
+pub then_row : {A B : Type 0} (outside : Option ℕ) (n : ℕ) (a : A) (told : A → B) → ◌>>=◌ (unless_row outside n (Ok a)) (λ x. Ok (told x)) ≡ unless_row outside n (Ok (told a))
 then_row (Some row) n a told = refl
 then_row None n a told = refl
 
@@ -129,16 +116,6 @@ view_fits catalog v view checked low is =
     subst (λ (w : ViewImage). ViewFits catalog.tables w) (sym (view_is catalog v view low is)) (checked.typed.views v no_view long)
 
 -- the answers to lines that name a view and a table
-
-pub named_back_is : (catalog : Catalog) (tables : List Relation) (brushes : List BrushOn) (views : List Run) (view_name table_name : List ℕ) (v t : ℕ) (run : Run) (table : Relation) (marks : Marks) (then : Then)
-    → AreOpened catalog tables views → known_pair (catalog_image catalog) view_name table_name ≡ Ok (v, t) → v < length catalog.views → t < length catalog.tables → run ≡ get_or views v run → table ≡ get_or tables t table → then ≡ thens.Plain
-    → back_by run.kept t table marks ≡ named_back (catalog_image catalog) (state_over tables brushes) view_name marks table_name then
-named_back_is catalog tables brushes views view_name table_name v t run table marks then o named low_v low_t is_v is_t plain =
-    let image : CatalogImage = catalog_image catalog in
-    let state : State = state_over tables brushes in
-    back_is catalog tables brushes views v t run table marks o low_v low_t is_v is_t
-    ∙ ap (λ (h : Then). provided (declares_back image v t) Undeclared (back_reply image state v t marks h)) (sym plain)
-    ∙ ap (λ (a : Asked (ℕ × ℕ)). ◌>>=◌ a (λ p. provided (declares_back image p.0 p.1) Undeclared (back_reply image state p.0 p.1 marks then))) (sym named)
 
 pub named_fwd_is : (catalog : Catalog) (tables : List Relation) (brushes : List BrushOn) (views : List Run) (view_name table_name : List ℕ) (v t : ℕ) (run : Run) (rows : Marks)
     → AreOpened catalog tables views → known_pair (catalog_image catalog) view_name table_name ≡ Ok (v, t) → v < length catalog.views → t < length catalog.tables → run ≡ get_or views v run

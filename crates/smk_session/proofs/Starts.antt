@@ -7,10 +7,12 @@ use Rattle.std.proofs.lemmas.List.{map-append}
 use Rattle.std.proofs.lemmas.List.Sums.{sum_by_more, sum_by-take-le}
 use Rattle.smk_base.specs.CatalogImage.{ViewImage}
 use Rattle.smk_base.specs.Places.{upto}
+use Rattle.smk_base.specs.Rels.{Relation}
+use Rattle.smk_base.specs.declared.catalog.Catalog.{Catalog}
 use Rattle.smk_model.specs.Opening.{ViewFault, first_some}
 use Rattle.smk_model.specs.Looks.{looks_of_view, looks_of_back, start_looks}
 use Rattle.smk_model.specs.Session.{Workbook, no_view}
-use Rattle.smk_session.specs.Sessions.{IsStartFault}
+use Rattle.smk_session.specs.Sessions.{IsStartFault, workbook_image}
 use Rattle.smk_session.specs.declared.fault.StartFault.{StartFault}
 use Rattle.smk_session.specs.declared.fault.StartFault.TheVariants.{Rows, Pairs, NoMemory}
 
@@ -60,6 +62,18 @@ pub start_within : (book : Workbook) (start after : ℕ) → after ≤ start + s
 start_within book start after h =
     let all : start_looks book ≡ sum_by (looks_of_view book) book.catalog.views + sum_by (looks_of_back book) book.catalog.backs = refl in
     omega (arith, h, all)
+
+pub start_whole : (catalog held : Catalog) (tables near far : List Relation) (start between after : ℕ) → near ≡ tables → held ≡ catalog → far ≡ tables
+    → between ≤ start + sum_by (looks_of_view (workbook_image catalog near)) (workbook_image catalog near).catalog.views → after ≤ between + sum_by (looks_of_back (workbook_image held far)) held.backs
+    → after ≤ start + start_looks (workbook_image catalog tables)
+start_whole catalog held tables near far start between after near_is held_is far_is first second =
+    let book : Workbook = workbook_image catalog tables in
+    let views : sum_by (looks_of_view (workbook_image catalog near)) book.catalog.views ≡ sum_by (looks_of_view book) book.catalog.views =
+    ap (λ (T : List Relation). sum_by (looks_of_view (workbook_image catalog T)) book.catalog.views) near_is in
+    let backs : sum_by (looks_of_back (workbook_image held far)) held.backs ≡ sum_by (looks_of_back book) book.catalog.backs =
+    ap (λ (c : Catalog). sum_by (looks_of_back (workbook_image c far)) c.backs) held_is ∙ ap (λ (T : List Relation). sum_by (looks_of_back (workbook_image catalog T)) catalog.backs) far_is in
+    let all : start_looks book ≡ sum_by (looks_of_view book) book.catalog.views + sum_by (looks_of_back book) book.catalog.backs = refl in
+    omega (arith, first, second, views, backs, all)
 
 -- one value more
 pub views_more : {X : Type 0} (value : ℕ → X) (n : ℕ) (before after : List X) (x : X) → after ≡ before ++ x ∷ [] → before ≡ map value (upto n) → x ≡ value n → after ≡ map value (upto (n + 1))

@@ -18,7 +18,7 @@ use Rattle.smk_model.specs.Names.{◌>>=◌}
 use Rattle.smk_model.specs.Replies.{Asked, is_refused, unless_outside, marked}
 use Rattle.smk_model.specs.Session.{State, concerns, selected_for, under}
 use Rattle.smk_compose.specs.declared.kept.KeptMap.{KeptMap}
-use Rattle.smk_session.specs.Sessions.{AreInForce, AreOpened, content_kept, state_over}
+use Rattle.smk_session.specs.Sessions.{AreExtras, AreInForce, AreOpened, content_kept, state_over}
 use Rattle.smk_session.specs.declared.held.Held.{Held}
 use Rattle.smk_session.specs.declared.turn.Change.{Change}
 use Rattle.smk_session.specs.declared.turn.Content.{Content}
@@ -75,6 +75,7 @@ BacksFit kept table rows = (map : Lists) → kept_back kept table ≡ Ok map →
 -- what a line reads of a session is what every session keeps
 pub record IsHeld (held : Held) : Type 0 where
   pub opened : AreOpened held.catalog.now held.tables.now held.views.now
+  pub extras : AreExtras held.catalog.now held.tables.now held.splits.now held.cubes.now
   pub in_force : AreInForce held.catalog.now held.tables.now held.brushes.now held.contents.now
 
 abbrev pub book_of : Held → CatalogImage

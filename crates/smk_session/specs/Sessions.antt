@@ -16,6 +16,9 @@ use Rattle.smk_model.specs.Session.{Workbook, State, linked, rows_of_table, view
 use Rattle.smk_model.specs.Workload.{needs}
 use Rattle.smk_compose.specs.Kept.{kept_at}
 use Rattle.smk_compose.specs.declared.kept.Run.{Run}
+use Rattle.smk_session.specs.Extras.{splits_of, all_cubes}
+use Rattle.smk_session.specs.declared.extra.CubesOn.{CubesOn}
+use Rattle.smk_session.specs.declared.extra.SplitOn.{SplitOn}
 use Rattle.smk_session.specs.declared.mode.Mode.{Mode}
 use Rattle.smk_session.specs.declared.fault.StartFault.{StartFault}
 use Rattle.smk_session.specs.declared.fault.StartFault.TheVariants.{Rows, Pairs, NoMemory}
@@ -59,6 +62,11 @@ pub record AreOpened (catalog : Catalog) (tables : List Relation) (views : List 
   pub kinds : each_kinds tables ≡ each_table_kinds catalog.tables
   pub views_are : views ≡ opened_views (workbook_image catalog tables)
 
+-- what is kept for the declarations that ask for more than rows is what they mean over the tables
+pub record AreExtras (catalog : Catalog) (tables : List Relation) (splits : List SplitOn) (cubes : List CubesOn) : Type 0 where
+  pub splits_are : splits ≡ splits_of (workbook_image catalog tables)
+  pub cubes_are : cubes ≡ all_cubes (workbook_image catalog tables)
+
 -- whether a view follows a brush: the brush's links name it
 abbrev pub follows : CatalogImage → ℕ → BrushOn → Bool
 follows catalog w brush = has (linked catalog brush.view brush.table) w
@@ -81,9 +89,10 @@ pub record AreInForce (catalog : Catalog) (tables : List Relation) (brushes : Li
   pub brushes_fit : All (BrushFits catalog tables) brushes
   pub contents_are : contents ≡ contents_kept (catalog_image catalog) (state_over tables brushes)
 
--- the views are opened, the brushes in force, and there are a few workers
-pub record IsSession (session : SessionImage) (contents : List (Option Relation)) : Type 0 where
+-- the views are opened, what the declarations ask for is made, the brushes are in force, and there are a few workers
+pub record IsSession (session : SessionImage) (contents : List (Option Relation)) (splits : List SplitOn) (cubes : List CubesOn) : Type 0 where
   pub opened : AreOpened session.catalog session.tables session.views
+  pub extras : AreExtras session.catalog session.tables splits cubes
   pub in_force : AreInForce session.catalog session.tables session.brushes contents
   pub some_workers : 1 ≤ session.workers
   pub few_workers : session.workers ≤ 64

@@ -1,20 +1,19 @@
-ghost use Rattle.std.specs.Prelude.{◌≡◌, ◌<◌, ◌≤◌, ◌+◌, Ok, None, IfOk, IfErr, IfSome, IsTrue, length};
-ghost use Rattle.smk_model.specs.Forms.{is_line_answered, asks_rows};
+ghost use Rattle.std.specs.Prelude.{◌≡◌, ◌<◌, ◌≤◌, ◌+◌, Ok, None, IfOk, IfErr, IfSome, length};
 ghost use Rattle.smk_model.specs.Looks.{line_looks};
 ghost use Rattle.smk_model.specs.Replies as replies;
-ghost use Rattle.smk_session.specs.Answers.{Gives, Turns, BacksFit, IsHeld, Changes, book_of, state_held, next_of, back_by, fwd_by, looks_of_asked};
+ghost use Rattle.smk_session.specs.Answers.{Gives, Turns, IsHeld, Changes, book_of, state_held, next_of, fwd_by, looks_of_asked};
 
+use crate::backward::{back_rows, groups, matching_rows, pair_of};
 use crate::brushing::{brush, clear, clear_one};
 use crate::held::Held;
-use crate::lineage::{back_map, fwd_map};
+use crate::lineage::fwd_map;
 use crate::marks::marked_members;
 use crate::names::{known_pair, known_view};
 use crate::turn::Turn;
 use crate::turned::Turned;
 use smk_base::{Line, Marks, Rel, Reply, Text, Then};
-use smk_compose::{Run, fetch_rids};
+use smk_compose::Run;
 use smk_outside::Steps;
-use smk_table::Table;
 use std::alloc::Global;
 use std::sync::ledger::Ledger;
 use std::thread::Threads;
@@ -51,26 +50,7 @@ fn show(alloc: Global, held: &Held<'_>, view: &Text) -> Result<Reply, Turned>
     Ok(Reply::View { rel })
 }
 
-// The rows of a table that the marked rows of a view came from, by the kept lineage. Only these rows are looked at.
-fn back_rows<L: Ledger>(
-    alloc: Global,
-    run: &Run,
-    t: usize,
-    table: &Table,
-    marks: &Marks,
-    steps: &mut Steps<L>,
-) -> Result<Reply, Turned>
-    requires { BacksFit run.now.kept t (length table.now.rows) }
-    ensures gives { Gives result (back_by run.now.kept t table.now marks.now) }
-    ensures looks { steps.new ≤ steps.old + looks_of_asked (back_by run.now.kept t table.now marks.now) }
-{
-    let map = back_map(run, t)?;
-    let rids = marked_members(alloc, map, marks)?;
-    let rows = fetch_rids(alloc, table, rids.as_slice(), steps)?;
-    Ok(Reply::Back { rids, rows })
-}
-
-// The answer to a backward query. Splits and groupings are not answered yet.
+// The answer to a backward query: the rows, those of them with a value, or a declared grouping of them.
 fn back<L: Ledger>(
     alloc: Global,
     held: &Held<'_>,
@@ -80,16 +60,16 @@ fn back<L: Ledger>(
     then: &Then,
     steps: &mut Steps<L>,
 ) -> Result<Reply, Turned>
-    requires opened { IsHeld held.now }
-    requires answered { IsTrue (asks_rows then.now) }
+    requires { IsHeld held.now }
     ensures gives { Gives result (replies.named_back (book_of held.now) (state_held held.now) view.now marks.now table.now then.now) }
     ensures looks { steps.new ≤ steps.old + looks_of_asked (replies.named_back (book_of held.now) (state_held held.now) view.now marks.now table.now then.now) }
 {
     let (v, t) = known_pair(held.catalog, view, table)?;
+    let pair = pair_of(held, v, t);
     match then {
-        Then::Plain => back_rows(alloc, &held.views[v], t, &held.tables[t], marks, steps),
-        Then::Matching { .. } => unreachable!(),
-        Then::Grouped => unreachable!(),
+        Then::Plain => back_rows(alloc, &pair, marks, steps),
+        Then::Matching { col, value } => matching_rows(alloc, &pair, marks, col, value, steps),
+        Then::Grouped => groups(alloc, &pair, marks),
     }
 }
 
@@ -127,7 +107,7 @@ fn stays(reply: Reply) -> Result<Turn, Turned>
     })
 }
 
-// What a line is answered, and what it changes. Splits and groupings are not answered yet.
+// What a line is answered, and what it changes.
 pub(crate) fn answer_to<R: Threads + Sync, L: Ledger>(
     rt: &R,
     alloc: Global,
@@ -136,7 +116,6 @@ pub(crate) fn answer_to<R: Threads + Sync, L: Ledger>(
     steps: &mut Steps<L>,
 ) -> Result<Turn, Turned>
     requires held { IsHeld held.now }
-    requires answered { IsTrue (is_line_answered line.now) }
     ensures told { IfOk result (λ turn. replies.answer_to (book_of held.now) (state_held held.now) line.now ≡ Ok (turn.reply, next_of (state_held held.now) turn.change)) }
     ensures turned { IfErr result (λ turned. Turns turned (replies.answer_to (book_of held.now) (state_held held.now) line.now)) }
     ensures changes { IfOk result (λ turn. IfSome turn.change (Changes held.now turn.reply)) }

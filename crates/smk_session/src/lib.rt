@@ -2,14 +2,17 @@
 #![tactic(auto)]
 
 mod answer;
+mod backward;
 mod brushes;
 mod brushing;
 mod chosen;
+mod extra;
 mod fault;
 mod following;
 mod held;
 mod lineage;
 mod links;
+mod making;
 mod marks;
 mod mode;
 mod names;

@@ -1,7 +1,6 @@
-ghost use Rattle.std.specs.Prelude.{◌≡◌, ◌≤◌, ◌<◌, ◌+◌, [], true, length, slice_index_or, None, IfOk, IfErr, OnOk, OnErr, IsTrue};
+ghost use Rattle.std.specs.Prelude.{◌≡◌, ◌≤◌, ◌<◌, ◌+◌, [], true, length, slice_index_or, None, IfOk, IfErr, OnOk, OnErr};
 ghost use Rattle.smk_base.specs.CatalogImage.{catalog_image};
 ghost use Rattle.smk_model.specs.Catalogs.{IsCatalog, each_table_kinds};
-ghost use Rattle.smk_model.specs.Forms.{is_line_answered};
 ghost use Rattle.smk_model.specs.Looks.{start_looks, line_looks};
 ghost use Rattle.smk_model.specs.Opening.{first_view_fault};
 ghost use Rattle.smk_model.specs.Replies as replies;
@@ -9,8 +8,10 @@ ghost use Rattle.smk_model.specs.Selection.{each_kinds};
 ghost use Rattle.smk_session.specs.Sessions.{workbook_image, state_of, IsStartFault, opened, workbook_of};
 
 use crate::answer::answer_to;
+use crate::extra::{Groupings, Splits};
 use crate::fault::StartFault;
 use crate::held::Held;
+use crate::making::{Opened, make_extras};
 use crate::mode::Mode;
 use crate::opening::{no_contents, open_by};
 use crate::turn::{Brushes, Turn, place};
@@ -25,12 +26,14 @@ use std::marker::Model;
 use std::sync::ledger::Ledger;
 use std::thread::Threads;
 
-/// A checked book over its tables: for each view its first content and the lineage that the declared queries need; and the brushes in force.
+/// A checked book over its tables: for each view its first content and the lineage that the declared queries need; for each declared split the lineage by the values of its column, and for each declared grouping its groups; and the brushes in force.
 #[derive(Drop)]
 pub struct Session {
     book: TypedBook,
     tables: Vec<Table>,
     views: Vec<Run>,
+    splits: Splits,
+    cubes: Groupings,
     brushes: Brushes,
     contents: Vec<Option<Rel>>,
     mode: Mode,
@@ -48,11 +51,11 @@ impl Model for Session {
 
     ghost view = { λ a. record { catalog = a.book; tables = a.tables.items; views = a.views.items; brushes = a.brushes; mode = a.mode; workers = a.workers } };
 
-    ghost invariant = { λ a. IsSession (record { catalog = a.book; tables = a.tables.items; views = a.views.items; brushes = a.brushes; mode = a.mode; workers = a.workers }) a.contents.items };
+    ghost invariant = { λ a. IsSession (record { catalog = a.book; tables = a.tables.items; views = a.views.items; brushes = a.brushes; mode = a.mode; workers = a.workers }) a.contents.items a.splits a.cubes };
 }
 
 impl Session {
-    /// A session of this book over these tables, or the first view with a node that is too big. Each row of a leaf is at most one look, also where it is refused.
+    /// A session of this book over these tables, or the first view with a node that is too big. Each row of a leaf is at most one look, and so is each row of the table of a declared split or grouping, also where it is refused.
     ///
     /// No brush is in force. Lineage is captured by the body of `mode`. On a fault the book and the tables are dropped.
     pub fn start<R: Threads + Sync, G: Gate + Sync, L: Ledger>(
@@ -77,11 +80,19 @@ impl Session {
         ensures looks { steps.new ≤ steps.old + start_looks (workbook_image book tables.items) }
     {
         let views = open_by(rt, alloc, mode, &book, tables.as_slice(), steps)?;
+        let opened = Opened {
+            book: book.catalog(),
+            tables: tables.as_slice(),
+            views: views.as_slice(),
+        };
+        let extras = make_extras(alloc, &opened, steps)?;
         let contents = no_contents(alloc, views.len())?;
         Ok(Session {
             book,
             tables,
             views,
+            splits: extras.splits,
+            cubes: extras.cubes,
             brushes: Brushes::new(alloc),
             contents,
             mode,
@@ -105,7 +116,7 @@ impl Session {
         self.book.catalog()
     }
 
-    /// The reply to a line, after which the brushes in force are those of the next state. Rows of a table that are answered are one look each, and so are the rows that are selected for the views that follow a brush. After an error, and after a line that is refused, the session is as it was.
+    /// The reply to a line, after which the brushes in force are those of the next state. Rows of a table that are answered are one look each, those without the value that is asked for and those of a grouping none, and so are the rows that are selected for the views that follow a brush. After an error, and after a line that is refused, the session is as it was.
     pub fn answer<R: Threads + Sync, G: Gate + Sync, L: Ledger>(
         &mut self,
         rt: &R,
@@ -114,7 +125,6 @@ impl Session {
         _gate: &G,
         steps: &mut Steps<L>,
     ) -> Result<Reply, AllocError>
-        requires answered { IsTrue (is_line_answered line.now) }
         ensures reply { IfOk result (λ told. (told, state_of self.new) ≡ replies.reply (catalog_image self.old.catalog) (state_of self.old) line.now) }
         ensures refused { IfOk result (λ told. replies.is_refused told ≡ true → self.new ≡ self.old) }
         ensures book { self.new.catalog ≡ self.old.catalog }
@@ -129,6 +139,8 @@ impl Session {
             catalog: self.book.catalog(),
             tables: self.tables.as_slice(),
             views: self.views.as_slice(),
+            splits: self.splits.as_slice(),
+            cubes: self.cubes.as_slice(),
             brushes: self.brushes.as_slice(),
             contents: self.contents.as_slice(),
         };

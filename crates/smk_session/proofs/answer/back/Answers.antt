@@ -1,33 +1,53 @@
-use Rattle.std.proofs.Common.{◌≤◌, ◌+◌, ap, get_or, subst, arith}
-use Rattle.smk_base.specs.Rels.{Relation}
+use Rattle.std.proofs.Common.{◌≤◌, ◌+◌, subst}
 use Rattle.smk_base.specs.declared.reply.Reply.{Reply}
-use Rattle.smk_compose.specs.declared.kept.Run.{Run}
 use Rattle.smk_model.specs.Replies.{Asked}
 use Rattle.smk_session.specs.Answers.{Gives, looks_of_asked}
-use Rattle.smk_session.proofs.Opened.{views_long, tables_long, backs_fit, named_back_is}
+use Rattle.smk_session.proofs.BackAnswers.{answered_is, back_is, backs_fit, cubes_fit, grouped_is, matching_is, splits_fit}
 use Rattle.smk_session.proofs.answer.back.Goals as goal
 
-pub bounds-held-v : goal.bounds-held-v
-bounds-held-v g c = omega (arith, c.in_ok-v.ensures.view, views_long c.args.held.now.catalog.now c.args.held.now.tables.now c.args.held.now.views.now c.requires.opened.opened)
-
-pub bounds-held-t : goal.bounds-held-t
-bounds-held-t g c = omega (arith, c.in_ok-v.ensures.table, tables_long c.args.held.now.catalog.now c.args.held.now.tables.now c.requires.opened.opened.kinds)
-
 pub back_rows-requires : goal.back_rows-requires
-back_rows-requires g c =
-    backs_fit c.args.held.now.catalog.now c.args.held.now.tables.now c.args.held.now.views.now c.in_ok-v.v c.in_ok-v.t (get_or c.args.held.now.views.now c.in_ok-v.v c.index-held-v.result) (get_or c.args.held.now.tables.now c.in_ok-v.t c.index-held-t.result) c.requires.opened.opened
-    c.in_ok-v.ensures.view c.in_ok-v.ensures.table (ap (λ (r : Run). get_or c.args.held.now.views.now c.in_ok-v.v r) c.index-held-v.is) (ap (λ (r : Relation). get_or c.args.held.now.tables.now c.in_ok-v.t r) c.index-held-t.is)
+back_rows-requires g c = backs_fit c.args.held.now.tables.now c.args.held.now.views.now c.pair_of-pair.result c.pair_of-pair.ensures.held
 
-pub returns-clause-gives : goal.returns-clause-gives
-returns-clause-gives g c =
+pub matching_rows-requires-clause-backs : goal.matching_rows-requires-clause-backs
+matching_rows-requires-clause-backs g c = backs_fit c.args.held.now.tables.now c.args.held.now.views.now c.pair_of-pair.result c.pair_of-pair.ensures.held
+
+pub matching_rows-requires-clause-splits : goal.matching_rows-requires-clause-splits
+matching_rows-requires-clause-splits g c = splits_fit c.args.held.now.tables.now c.args.held.now.views.now c.pair_of-pair.result c.pair_of-pair.ensures.held
+
+pub groups-requires : goal.groups-requires
+groups-requires g c = cubes_fit c.args.held.now.tables.now c.args.held.now.views.now c.pair_of-pair.result c.pair_of-pair.ensures.held
+
+pub returns-in-Plain-clause-gives : goal.returns-in-Plain-clause-gives
+returns-in-Plain-clause-gives g c =
     subst (λ (a : Asked Reply). Gives c.back_rows.result a)
-    (named_back_is c.args.held.now.catalog.now c.args.held.now.tables.now c.args.held.now.brushes.now c.args.held.now.views.now c.args.view.now c.args.table.now c.in_ok-v.v c.in_ok-v.t (get_or c.args.held.now.views.now c.in_ok-v.v c.index-held-v.result) (get_or c.args.held.now.tables.now c.in_ok-v.t c.index-held-t.result) c.args.marks.now c.args.then.now c.requires.opened.opened
-    c.in_ok-v.ensures.gives c.in_ok-v.ensures.view c.in_ok-v.ensures.table (ap (λ (r : Run). get_or c.args.held.now.views.now c.in_ok-v.v r) c.index-held-v.is) (ap (λ (r : Relation). get_or c.args.held.now.tables.now c.in_ok-v.t r) c.index-held-t.is) c.in-Plain.is)
+    (answered_is c.args.held.now c.pair_of-pair.result c.args.view.now c.args.table.now c.in_ok-v.v c.in_ok-v.t c.args.marks.now c.args.then.now _ _ c.in_ok-v.ensures.gives c.pair_of-pair.ensures.view c.pair_of-pair.ensures.table c.pair_of-pair.ensures.catalog c.in-Plain.is
+    (back_is c.args.held.now.tables.now c.args.held.now.brushes.now c.args.held.now.views.now c.pair_of-pair.result c.args.marks.now c.pair_of-pair.ensures.held))
     c.back_rows.ensures.gives
 
-pub returns-clause-looks : goal.returns-clause-looks
-returns-clause-looks g c =
+pub returns-in-Plain-clause-looks : goal.returns-in-Plain-clause-looks
+returns-in-Plain-clause-looks g c =
     subst (λ (a : Asked Reply). c.back_rows.new.steps ≤ c.args.steps.now + looks_of_asked a)
-    (named_back_is c.args.held.now.catalog.now c.args.held.now.tables.now c.args.held.now.brushes.now c.args.held.now.views.now c.args.view.now c.args.table.now c.in_ok-v.v c.in_ok-v.t (get_or c.args.held.now.views.now c.in_ok-v.v c.index-held-v.result) (get_or c.args.held.now.tables.now c.in_ok-v.t c.index-held-t.result) c.args.marks.now c.args.then.now c.requires.opened.opened
-    c.in_ok-v.ensures.gives c.in_ok-v.ensures.view c.in_ok-v.ensures.table (ap (λ (r : Run). get_or c.args.held.now.views.now c.in_ok-v.v r) c.index-held-v.is) (ap (λ (r : Relation). get_or c.args.held.now.tables.now c.in_ok-v.t r) c.index-held-t.is) c.in-Plain.is)
+    (answered_is c.args.held.now c.pair_of-pair.result c.args.view.now c.args.table.now c.in_ok-v.v c.in_ok-v.t c.args.marks.now c.args.then.now _ _ c.in_ok-v.ensures.gives c.pair_of-pair.ensures.view c.pair_of-pair.ensures.table c.pair_of-pair.ensures.catalog c.in-Plain.is
+    (back_is c.args.held.now.tables.now c.args.held.now.brushes.now c.args.held.now.views.now c.pair_of-pair.result c.args.marks.now c.pair_of-pair.ensures.held))
     c.back_rows.ensures.looks
+
+pub returns-in-Matching-clause-gives : goal.returns-in-Matching-clause-gives
+returns-in-Matching-clause-gives g c =
+    subst (λ (a : Asked Reply). Gives c.matching_rows.result a)
+    (answered_is c.args.held.now c.pair_of-pair.result c.args.view.now c.args.table.now c.in_ok-v.v c.in_ok-v.t c.args.marks.now c.args.then.now _ _ c.in_ok-v.ensures.gives c.pair_of-pair.ensures.view c.pair_of-pair.ensures.table c.pair_of-pair.ensures.catalog c.in-Matching.is
+    (matching_is c.args.held.now.tables.now c.args.held.now.brushes.now c.args.held.now.views.now c.pair_of-pair.result c.args.marks.now c.in-Matching.col c.in-Matching.value c.pair_of-pair.ensures.held))
+    c.matching_rows.ensures.gives
+
+pub returns-in-Matching-clause-looks : goal.returns-in-Matching-clause-looks
+returns-in-Matching-clause-looks g c =
+    subst (λ (a : Asked Reply). c.matching_rows.new.steps ≤ c.args.steps.now + looks_of_asked a)
+    (answered_is c.args.held.now c.pair_of-pair.result c.args.view.now c.args.table.now c.in_ok-v.v c.in_ok-v.t c.args.marks.now c.args.then.now _ _ c.in_ok-v.ensures.gives c.pair_of-pair.ensures.view c.pair_of-pair.ensures.table c.pair_of-pair.ensures.catalog c.in-Matching.is
+    (matching_is c.args.held.now.tables.now c.args.held.now.brushes.now c.args.held.now.views.now c.pair_of-pair.result c.args.marks.now c.in-Matching.col c.in-Matching.value c.pair_of-pair.ensures.held))
+    c.matching_rows.ensures.looks
+
+pub returns-in-Grouped-clause-gives : goal.returns-in-Grouped-clause-gives
+returns-in-Grouped-clause-gives g c =
+    subst (λ (a : Asked Reply). Gives c.groups.result a)
+    (answered_is c.args.held.now c.pair_of-pair.result c.args.view.now c.args.table.now c.in_ok-v.v c.in_ok-v.t c.args.marks.now c.args.then.now _ _ c.in_ok-v.ensures.gives c.pair_of-pair.ensures.view c.pair_of-pair.ensures.table c.pair_of-pair.ensures.catalog c.in-Grouped.is
+    (grouped_is c.args.held.now.tables.now c.args.held.now.brushes.now c.args.held.now.views.now c.pair_of-pair.result c.args.marks.now c.pair_of-pair.ensures.held))
+    c.groups.ensures

@@ -1,0 +1,183 @@
+-- What is kept for the declarations, one after the other, and where it is found.
+use Rattle.std.proofs.Common.{◌≡◌, ℕ, ◌+◌, ◌<◌, ◌≤◌, Bool, true, false, ◌&&◌, ◌||◌, cond, List, [], ◌∷◌, ◌++◌, length, take, get_or, refl, ap, sym, ◌∙◌, subst, arith, nat_eq, Option, Some, None, Ok, Err, ok_or, option_map, All, inl, inr, find}
+use Rattle.std.specs.List.{cons_option, filter, filter_map, list_any, sum_by}
+use Rattle.std.specs.Option.{option_or, option_to_list}
+use Rattle.std.proofs.lemmas.Bool.{cases_Bool, eq-eqb, eqb-true, false≢true}
+use Rattle.std.proofs.lemmas.List.{length-map, take_more}
+use Rattle.std.proofs.lemmas.List.Elements.{All-head, All-tail, filter_map-append}
+use Rattle.std.proofs.lemmas.List.Folds.{list_any_at}
+use Rattle.std.proofs.lemmas.List.Sums.{sum_by_more}
+use Rattle.smk_base.specs.CatalogImage.{catalog_image, view_image}
+use Rattle.smk_base.specs.Places.{Lists}
+use Rattle.smk_base.specs.Rels.{Relation}
+use Rattle.smk_base.specs.declared.catalog.Back.{Back}
+use Rattle.smk_base.specs.declared.catalog.BackExtra.{BackExtra}
+use Rattle.smk_base.specs.declared.catalog.BackExtra.TheVariants as extras
+use Rattle.smk_base.specs.declared.catalog.Catalog.{Catalog}
+use Rattle.smk_base.specs.declared.catalog.TableInfo.{TableInfo}
+use Rattle.smk_base.specs.declared.reply.Refusal.TheVariants.{Undeclared}
+use Rattle.smk_base.specs.declared.value.Kind.{Kind}
+use Rattle.smk_model.specs.Catalogs.{BackFits, ExtraFits, GroupingFits, IsCatalog, table_kinds}
+use Rattle.smk_model.specs.Replies.{Grouped, first_grouping, grouping_in, is_by, is_split}
+use Rattle.smk_model.specs.Session.{Workbook, view_at}
+use Rattle.smk_model.specs.Typing.{info_at}
+use Rattle.smk_model.specs.Workload.{is_back, is_link}
+use Rattle.smk_compose.specs.declared.kept.Run.{Run}
+use Rattle.smk_session.specs.Answers.{kept_back}
+use Rattle.smk_session.specs.Extras.{backs_of, split_on, cubes_on, split_for, cubes_for, split_in, cubes_in, is_split_on, are_cubes_on}
+use Rattle.smk_session.specs.Making.{IsDeclared}
+use Rattle.smk_session.specs.Sessions.{AreOpened, workbook_image}
+use Rattle.smk_session.specs.declared.extra.CubesOn.{CubesOn}
+use Rattle.smk_session.specs.declared.extra.SplitOn.{SplitOn}
+use Rattle.smk_session.proofs.KeptOf.{kept_back_is}
+use Rattle.smk_session.proofs.Opened.{run_is}
+
+-- each declaration of a checked book is declared by it
+
+pub is_declared : (catalog : Catalog) (i : ℕ) (d : Back) → IsCatalog (catalog_image catalog) → i < length catalog.backs → IsDeclared catalog (get_or catalog.backs i d)
+is_declared catalog i d checked low =
+    let declared : Back = get_or catalog.backs i d in
+    let own : is_back declared.view declared.table declared ≡ true = rw (eq-eqb declared.view declared.view refl, eq-eqb declared.table declared.table refl) refl in
+    record {
+      fits = checked.typed.backs i d low;
+      declares = ap (λ b. b || list_any (is_link declared.view declared.table) catalog.links) (list_any_at (is_back declared.view declared.table) catalog.backs i d low own);
+    }
+
+-- so its lineage is kept
+
+pub declared_kept : (catalog : Catalog) (tables : List Relation) (views : List Run) (declared : Back) (run : Run) → AreOpened catalog tables views → IsDeclared catalog declared → run ≡ get_or views declared.view run
+    → kept_back run.kept declared.table ≡ Ok (backs_of (workbook_image catalog tables) declared.view declared.table)
+declared_kept catalog tables views declared run o d is =
+    let book : Workbook = workbook_image catalog tables in
+    let low : declared.view < length catalog.views = omega (arith, d.fits.view, length-map catalog.views view_image) in
+    ap (λ (r : Run). kept_back r.kept declared.table) (run_is catalog tables views declared.view run o low is)
+    ∙ kept_back_is book.catalog (view_at book.catalog declared.view).plan book.tables declared.view declared.table d.fits.table
+    ∙ ap (λ (b : Bool). cond b (Ok (backs_of book declared.view declared.table)) (Err Undeclared)) d.declares
+
+pub told_some : {X : Type 0} (value : X → Lists) (told : Option X) (x : X) (found : Option Lists) (m : Lists) → option_map value told ≡ found → told ≡ Some x → ok_or found Undeclared ≡ Ok m → value x ≡ m
+told_some value told x found m is some kept =
+    let here : ok_or (Some (value x)) Undeclared ≡ Ok m = ap (λ o. ok_or (option_map value o) Undeclared) (sym some) ∙ ap (λ o. ok_or o Undeclared) is ∙ kept in
+    cc
+
+pub told_none : {X : Type 0} (value : X → Lists) (told : Option X) (found : Option Lists) (m : Lists) → option_map value told ≡ found → told ≡ None → ok_or found Undeclared ≡ Ok m → ⊥
+told_none value told found m is none kept =
+    let here : ok_or (option_map value None) Undeclared ≡ Ok m = ap (λ o. ok_or (option_map value o) Undeclared) (sym none) ∙ ap (λ o. ok_or o Undeclared) is ∙ kept in
+    absurd (cc)
+
+-- what is kept for one declaration more
+
+one_kept : {X Y : Type 0} (h : X → Option Y) (x : X) → filter_map h (x ∷ []) ≡ option_to_list (h x)
+one_kept h x = by (h x)
+  where
+    by : {Y : Type 0} (o : Option Y) → cons_option o [] ≡ option_to_list o
+    by None = refl
+    by (Some y) = refl
+
+pub kept_more : {X Y : Type 0} (h : X → Option Y) (xs : List X) (i : ℕ) (d : X) → i < length xs → filter_map h (take (i + 1) xs) ≡ filter_map h (take i xs) ++ option_to_list (h (get_or xs i d))
+kept_more h xs i d low =
+    ap (filter_map h) (take_more xs i d low)
+    ∙ filter_map-append h (take i xs) (get_or xs i d ∷ [])
+    ∙ ap (λ l. filter_map h (take i xs) ++ l) (one_kept h (get_or xs i d))
+
+pub kept_next : {X Y : Type 0} (h : X → Option Y) (xs : List X) (i : ℕ) (x : X) (before after : List Y) → i < length xs → x ≡ get_or xs i x → before ≡ filter_map h (take i xs) → after ≡ before ++ option_to_list (h x)
+    → after ≡ filter_map h (take (i + 1) xs)
+kept_next h xs i x before after low is are pushed =
+    pushed ∙ ap (λ l. l ++ option_to_list (h x)) are ∙ ap (λ y. filter_map h (take i xs) ++ option_to_list (h y)) is ∙ sym (kept_more h xs i x low)
+
+pub looks_next : (f : Back → ℕ) (xs : List Back) (i start before after : ℕ) (x : Back) → i < length xs → x ≡ get_or xs i x → before ≤ start + sum_by f (take i xs) → after ≤ before + f x → after ≤ start + sum_by f (take (i + 1) xs)
+looks_next f xs i start before after x low is so_far here = omega (arith, so_far, here, ap f is, sum_by_more f xs i x low)
+
+-- the split by a column is found exactly where it is declared
+
+both : (a b : Bool) → (a && b) ≡ true → (a ≡ true) × (b ≡ true)
+both true true h = (refl, refl)
+both true false h = absurd (false≢true h)
+both false b h = absurd (false≢true h)
+
+and_false : (a : Bool) → (a && false) ≡ false
+and_false true = refl
+and_false false = refl
+
+same_split : (book : Workbook) (w u column v t c : ℕ) → ((nat_eq w v && nat_eq u t) && nat_eq column c) ≡ true → split_on book w u column ≡ split_on book v t c
+same_split book w u column v t c h =
+    let pair = both (nat_eq w v && nat_eq u t) (nat_eq column c) h in
+    let names = both (nat_eq w v) (nat_eq u t) pair.0 in
+    rw (eqb-true w v names.0, eqb-true u t names.1, eqb-true column c pair.1) refl
+
+split_more : (book : Workbook) (v t c w u : ℕ) (extra : BackExtra) (kept : List SplitOn) (more : Bool) → find (is_split_on v t c) kept ≡ cond more (Some (split_on book v t c)) None
+    → find (is_split_on v t c) (cons_option (split_for book w u extra) kept) ≡ cond (((nat_eq w v && nat_eq u t) && is_by c extra) || more) (Some (split_on book v t c)) None
+split_more book v t c w u extras.Plain kept more h = rw (and_false (nat_eq w v && nat_eq u t)) h
+split_more book v t c w u (extras.Grouped keys aggs names kinds) kept more h = rw (and_false (nat_eq w v && nat_eq u t)) h
+split_more book v t c w u (extras.By column) kept more h = elim (cases_Bool ((nat_eq w v && nat_eq u t) && nat_eq column c)) [
+  | inl e ↦ rw (e) (ap (λ (split : SplitOn). Some split) (same_split book w u column v t c e))
+  | inr e ↦ rw (e) h
+]
+
+pub split_found : (book : Workbook) (v t c : ℕ) (declarations : List Back) → find (is_split_on v t c) (filter_map (split_in book) declarations) ≡ cond (list_any (is_split v t c) declarations) (Some (split_on book v t c)) None
+split_found book v t c [] = refl
+split_found book v t c (declared ∷ more) =
+    split_more book v t c declared.view declared.table declared.extra (filter_map (split_in book) more) (list_any (is_split v t c) more) (split_found book v t c more)
+
+-- a split that is found is by the column
+pub found_column : (v t c : ℕ) (splits : List SplitOn) (split : SplitOn) → find (is_split_on v t c) splits ≡ Some split → split.col ≡ c
+found_column v t c [] split h = absurd (cc)
+found_column v t c (first ∷ more) split h = elim (cases_Bool (is_split_on v t c first)) [
+  | inl e ↦
+      (let is : Some first ≡ Some split = rw e at h in
+      let same : first ≡ split = cc in
+      ap (λ (s : SplitOn). s.col) (sym same) ∙ eqb-true first.col c (both (nat_eq first.view v && nat_eq first.table t) (nat_eq first.col c) e).1)
+  | inr e ↦ (let there : find (is_split_on v t c) more ≡ Some split = rw e at h in found_column v t c more split there)
+]
+
+-- the groups are found exactly where a grouping is declared, and are those of the first one
+
+abbrev pub cubes_of_grouped : Workbook → ℕ → ℕ → Grouped → CubesOn
+cubes_of_grouped book v t grouped = cubes_on book v t grouped.keys grouped.aggs
+
+cubes_here : (book : Workbook) (v t w u : ℕ) (extra : BackExtra) (kept : List CubesOn) (more : Option Grouped) → (nat_eq w v && nat_eq u t) ≡ true → find (are_cubes_on v t) kept ≡ option_map (cubes_of_grouped book v t) more
+    → find (are_cubes_on v t) (cons_option (cubes_for book w u extra) kept) ≡ option_map (cubes_of_grouped book v t) (option_or (grouping_in extra) more)
+cubes_here book v t w u extras.Plain kept more e h = h
+cubes_here book v t w u (extras.By column) kept more e h = h
+cubes_here book v t w u (extras.Grouped keys aggs names kinds) kept more e h =
+    let pair = both (nat_eq w v) (nat_eq u t) e in
+    let same : cubes_on book w u keys aggs ≡ cubes_on book v t keys aggs = rw (eqb-true w v pair.0, eqb-true u t pair.1) refl in
+    rw e (ap (λ (cubes : CubesOn). Some cubes) same)
+
+cubes_elsewhere : (book : Workbook) (v t w u : ℕ) (extra : BackExtra) (kept : List CubesOn) → (nat_eq w v && nat_eq u t) ≡ false → find (are_cubes_on v t) (cons_option (cubes_for book w u extra) kept) ≡ find (are_cubes_on v t) kept
+cubes_elsewhere book v t w u extras.Plain kept e = refl
+cubes_elsewhere book v t w u (extras.By column) kept e = refl
+cubes_elsewhere book v t w u (extras.Grouped keys aggs names kinds) kept e = rw e refl
+
+pub cubes_found : (book : Workbook) (v t : ℕ) (declarations : List Back)
+    → find (are_cubes_on v t) (filter_map (cubes_in book) declarations) ≡ option_map (cubes_of_grouped book v t) (first_grouping (filter (is_back v t) declarations))
+cubes_found book v t [] = refl
+cubes_found book v t (declared ∷ more) = elim (cases_Bool (is_back v t declared)) [
+  | inl e ↦ rw e (cubes_here book v t declared.view declared.table declared.extra (filter_map (cubes_in book) more) (first_grouping (filter (is_back v t) more)) e (cubes_found book v t more))
+  | inr e ↦ rw e (cubes_elsewhere book v t declared.view declared.table declared.extra (filter_map (cubes_in book) more) e ∙ cubes_found book v t more)
+]
+
+-- a declared grouping fits its table
+
+abbrev Fits : List Kind → Grouped → Type 0
+Fits kinds grouped = GroupingFits kinds grouped.keys grouped.aggs grouped.names grouped.kinds
+
+fits_here : (kinds : List Kind) (extra : BackExtra) (more : Option Grouped) (grouped : Grouped) → ExtraFits kinds extra → (more ≡ Some grouped → Fits kinds grouped) → option_or (grouping_in extra) more ≡ Some grouped → Fits kinds grouped
+fits_here kinds extras.Plain more grouped fits rest h = rest h
+fits_here kinds (extras.By column) more grouped fits rest h = rest h
+fits_here kinds (extras.Grouped keys aggs names own) more grouped fits rest h =
+    let is : record { keys = keys; aggs = aggs; names = names; kinds = own } ≡ grouped = cc in
+    subst (Fits kinds) is fits
+
+pub grouping_fits : (tables : List TableInfo) (views v t : ℕ) (declarations : List Back) (grouped : Grouped) → All (BackFits tables views) declarations → first_grouping (filter (is_back v t) declarations) ≡ Some grouped
+    → Fits (table_kinds (info_at tables t)) grouped
+grouping_fits tables views v t [] grouped all h = absurd (cc)
+grouping_fits tables views v t (declared ∷ more) grouped all h =
+    let rest = grouping_fits tables views v t more grouped (All-tail (BackFits tables views) declared more all) in
+    elim (cases_Bool (is_back v t declared)) [
+      | inl e ↦
+          (let here : option_or (grouping_in declared.extra) (first_grouping (filter (is_back v t) more)) ≡ Some grouped = rw e at h in
+          let same : declared.table ≡ t = eqb-true declared.table t (both (nat_eq declared.view v) (nat_eq declared.table t) e).1 in
+          let fits : ExtraFits (table_kinds (info_at tables t)) declared.extra = subst (λ (k : ℕ). ExtraFits (table_kinds (info_at tables k)) declared.extra) same (All-head (BackFits tables views) declared more all).extra in
+          fits_here (table_kinds (info_at tables t)) declared.extra (first_grouping (filter (is_back v t) more)) grouped fits rest here)
+      | inr e ↦ (let there : first_grouping (filter (is_back v t) more) ≡ Some grouped = rw e at h in rest there)
+    ]

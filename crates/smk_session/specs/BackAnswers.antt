@@ -1,0 +1,79 @@
+-- What the calls say that work out the parts of a backward answer.
+use Rattle.std.specs.Prelude.{◌≡◌, ◌<◌, ℕ, nat_eq, List, [], ◌∷◌, length, slice_index_or, ok_or, Ok, Err}
+use Rattle.std.specs.List.{find, list_all}
+use Rattle.smk_base.specs.CatalogImage.{CatalogImage, catalog_image}
+use Rattle.smk_base.specs.Places.{Lists}
+use Rattle.smk_base.specs.Rels.{Relation}
+use Rattle.smk_base.specs.declared.reply.Reply.{Reply}
+use Rattle.smk_base.specs.declared.reply.Reply.TheVariants as replies
+use Rattle.smk_base.specs.declared.reply.Refusal.TheVariants.{ManyMarks, NoGroup, NoSplit, ValueKind}
+use Rattle.smk_base.specs.declared.tree.Marks.{Marks}
+use Rattle.smk_base.specs.declared.tree.Marks.TheVariants as markings
+use Rattle.smk_base.specs.declared.value.Value.{Value}
+use Rattle.smk_model.specs.Names.{◌>>=◌}
+use Rattle.smk_model.specs.Replies.{Asked, column_place, is_of_column, marked, provided, unless_outside}
+use Rattle.smk_compose.specs.declared.kept.Run.{Run}
+use Rattle.smk_push.specs.Cubes.{cube_at}
+use Rattle.smk_skip.specs.Splits.{SplitImage, members_with}
+use Rattle.smk_session.specs.Answers.{kept_back, rows_told, within_asked}
+use Rattle.smk_session.specs.Extras.{is_split_on, are_cubes_on}
+use Rattle.smk_session.specs.Sessions.{AreExtras, AreOpened}
+use Rattle.smk_session.specs.declared.extra.CubesOn.{CubesOn}
+use Rattle.smk_session.specs.declared.extra.SplitOn.{SplitOn}
+use Rattle.smk_session.specs.declared.backward.Pair.{Pair}
+
+-- what a session holds of a view and a table
+pub record IsPairOf (tables : List Relation) (views : List Run) (pair : Pair) : Type 0 where
+  pub opened : AreOpened pair.catalog.now tables views
+  pub extras : AreExtras pair.catalog.now tables pair.splits.now pair.cubes.now
+  pub view : pair.view < length pair.catalog.now.views
+  pub table : pair.table < length pair.catalog.now.tables
+  pub run_is : pair.run.now ≡ slice_index_or views pair.view pair.run.now
+  pub rows_are : pair.rows.now ≡ slice_index_or tables pair.table pair.rows.now
+
+-- the split that is kept by the column of this name, and the groups that are kept
+abbrev pub split_asked : Pair → List ℕ → Asked SplitOn
+split_asked pair name =
+    ok_or (column_place (catalog_image pair.catalog.now) pair.table name) NoSplit >>= λ c.
+    ok_or (find (is_split_on pair.view pair.table c) pair.splits.now) NoSplit
+
+abbrev pub cubes_asked : Pair → Asked CubesOn
+cubes_asked pair = ok_or (find (are_cubes_on pair.view pair.table) pair.cubes.now) NoGroup
+
+-- nothing, unless a value is of another sort than the column
+abbrev pub sort_asked : CatalogImage → ℕ → ℕ → Value → Asked (Unit {0})
+sort_asked catalog t c value = provided (is_of_column catalog t c value) ValueKind (Ok tt)
+
+-- the members with a value of the lists at the marked places
+abbrev pub with_value_asked : SplitImage → Marks → Value → Asked (List ℕ)
+with_value_asked split marks value = unless_outside marks (length split.map.lists) (Ok (members_with split (marked marks (length split.map.lists)) value))
+
+-- the one mark of a line
+abbrev pub one_asked : Marks → Asked ℕ
+one_asked markings.All = Err ManyMarks
+one_asked (markings.Listed []) = Err ManyMarks
+one_asked (markings.Listed (mark ∷ more)) = provided (list_all (nat_eq mark) more) ManyMarks (Ok mark)
+
+-- the answers by what is kept
+abbrev pub matching_by : Pair → Marks → List ℕ → Value → Asked Reply
+matching_by pair marks name value =
+    kept_back pair.run.now.kept pair.table >>= λ map.
+    split_asked pair name >>= λ split.
+    sort_asked (catalog_image pair.catalog.now) pair.table split.col value >>= λ same.
+    with_value_asked split.split marks value >>= λ rids.
+    Ok (rows_told pair.rows.now rids)
+
+abbrev pub grouped_by : Pair → Marks → Asked Reply
+grouped_by pair marks =
+    kept_back pair.run.now.kept pair.table >>= λ map.
+    cubes_asked pair >>= λ kept.
+    one_asked marks >>= λ mark.
+    within_asked marks (length map.lists) >>= λ within.
+    Ok (replies.Grouped (cube_at kept.cubes mark))
+
+-- the split that is kept is one of the lists that are kept, and there are groups for each of them
+abbrev pub SplitsFit : Pair → Type 0
+SplitsFit pair = (map : Lists) (name : List ℕ) (split : SplitOn) → kept_back pair.run.now.kept pair.table ≡ Ok map → split_asked pair name ≡ Ok split → split.split.map ≡ map
+
+abbrev pub CubesFit : Pair → Type 0
+CubesFit pair = (map : Lists) (kept : CubesOn) → kept_back pair.run.now.kept pair.table ≡ Ok map → cubes_asked pair ≡ Ok kept → length kept.cubes ≡ length map.lists

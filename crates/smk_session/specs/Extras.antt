@@ -1,0 +1,65 @@
+-- What is kept for the backward declarations that ask for more than rows: a split for each column, and the groups of each grouping.
+use Rattle.std.specs.Prelude.{ℕ, Bool, ◌&&◌, nat_eq, List, Option, Some, None}
+use Rattle.std.specs.List.{filter_map}
+use Rattle.smk_base.specs.Places.{Lists}
+use Rattle.smk_base.specs.Rels.{Relation}
+use Rattle.smk_base.specs.declared.catalog.Back.{Back}
+use Rattle.smk_base.specs.declared.catalog.BackExtra.{BackExtra}
+use Rattle.smk_base.specs.declared.catalog.BackExtra.TheVariants as extras
+use Rattle.smk_base.specs.declared.plan.Agg.{Agg}
+use Rattle.smk_model.specs.Catalogs.{table_kinds}
+use Rattle.smk_model.specs.Composed.{backs}
+use Rattle.smk_model.specs.Plain.{table_at}
+use Rattle.smk_model.specs.Session.{Workbook, view_at}
+use Rattle.smk_model.specs.Typing.{info_at}
+use Rattle.smk_push.specs.Cubes.{cubes_of}
+use Rattle.smk_session.specs.declared.extra.CubesOn.{CubesOn}
+use Rattle.smk_session.specs.declared.extra.SplitOn.{SplitOn}
+
+-- the backward lists of a view to a table
+abbrev pub backs_of : Workbook → ℕ → ℕ → Lists
+backs_of book v t = backs (view_at book.catalog v).plan book.tables t
+
+-- the rows of a table, with its kinds
+abbrev pub table_of : Workbook → ℕ → Relation
+table_of book t = record { kinds = table_kinds (info_at book.catalog.tables t); rows = table_at book.tables t }
+
+-- these lists split by a column of the table
+abbrev pub split_on : Workbook → ℕ → ℕ → ℕ → SplitOn
+split_on book v t c = record { view = v; table = t; col = c; split = record { map = backs_of book v t; rows = (table_of book t).rows; col = c } }
+
+-- a grouping of the rows of the table, made for each of these lists
+abbrev pub cubes_on : Workbook → ℕ → ℕ → List ℕ → List Agg → CubesOn
+cubes_on book v t keys aggs = record { view = v; table = t; cubes = cubes_of (backs_of book v t) (table_of book t) keys aggs }
+
+-- the split, and the groups, that are asked for besides the rows
+abbrev pub split_for : Workbook → ℕ → ℕ → BackExtra → Option SplitOn
+split_for book v t extras.Plain = None
+split_for book v t (extras.By column) = Some (split_on book v t column)
+split_for book v t (extras.Grouped keys aggs names kinds) = None
+
+abbrev pub cubes_for : Workbook → ℕ → ℕ → BackExtra → Option CubesOn
+cubes_for book v t extras.Plain = None
+cubes_for book v t (extras.By column) = None
+cubes_for book v t (extras.Grouped keys aggs names kinds) = Some (cubes_on book v t keys aggs)
+
+-- those of a declaration
+abbrev pub split_in : Workbook → Back → Option SplitOn
+split_in book declared = split_for book declared.view declared.table declared.extra
+
+abbrev pub cubes_in : Workbook → Back → Option CubesOn
+cubes_in book declared = cubes_for book declared.view declared.table declared.extra
+
+-- one split for each column that is declared, and the groups of each declared grouping, in the order of the declarations
+abbrev pub splits_of : Workbook → List SplitOn
+splits_of book = filter_map (split_in book) book.catalog.backs
+
+abbrev pub all_cubes : Workbook → List CubesOn
+all_cubes book = filter_map (cubes_in book) book.catalog.backs
+
+-- whether a split is that of a view's backward query by a column, and groups those of a view's backward query
+abbrev pub is_split_on : ℕ → ℕ → ℕ → SplitOn → Bool
+is_split_on v t c split = (nat_eq split.view v && nat_eq split.table t) && nat_eq split.col c
+
+abbrev pub are_cubes_on : ℕ → ℕ → CubesOn → Bool
+are_cubes_on v t cubes = nat_eq cubes.view v && nat_eq cubes.table t
