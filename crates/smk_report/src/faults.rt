@@ -240,6 +240,5 @@ pub fn fault_text(alloc: Global, fault: &Fault) -> Result<Vec<u8>, AllocError>
         Fault::ViewRows { view, node } => rows_text(alloc, view, *node),
         Fault::ViewPairs { view, node, table } => pairs_text(alloc, view, *node, table),
         Fault::Unread { file } => line_of(alloc, &[b"smoke: cannot read ", file.as_slice()]),
-        Fault::Form { file } => line_of(alloc, &[b"smoke: form ", file.as_slice()]),
     }
 }
