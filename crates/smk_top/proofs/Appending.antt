@@ -1,11 +1,20 @@
 -- What was written, one text after the other.
-use Rattle.std.proofs.Common.{◌≡◌, ◌∙◌, ◌<◌, ◌+◌, ◌++◌, ◌∷◌, [], ℕ, List, length, take, drop, get_or, Option, Some, None, Result, Ok, Err, refl, sym, ap, append_assoc, append-nil, take-append-drop}
+use Rattle.std.proofs.Common.{◌≡◌, ◌∙◌, ◌<◌, ◌+◌, ◌++◌, ◌∷◌, [], ℕ, List, length, take, drop, get_or, Option, Some, None, Result, Ok, Err, IfOk, refl, sym, ap, subst, append_assoc, append-nil, take-append-drop, arith}
+use Rattle.std.specs.Prelude.{IfErr}
 use Rattle.std.specs.List.{flat_map}
-use Rattle.std.proofs.lemmas.List.{take_more}
+use Rattle.smk_base.specs.CatalogImage.{catalog_image}
+use Rattle.smk_model.specs.Readings.{Reading}
+use Rattle.smk_model.specs.Reports.{Told, report_told, views_text, lines_told, script_told, report_of}
+use Rattle.smk_model.specs.Selection.{each_rows}
+use Rattle.smk_model.specs.Session.{Workbook}
+use Rattle.smk_session.specs.Sessions.{SessionImage, state_of, workbook_of}
+use Rattle.std.proofs.lemmas.List.{take_more, length-append}
 use Rattle.std.proofs.lemmas.List.Concat.{flat_map-append}
 use Rattle.smk_outside.specs.Outside.{Appends, AppendsPart}
 use Rattle.smk_top.specs.declared.stop.Stop.{Stop}
 use Rattle.smk_top.specs.declared.stop.Stop.TheVariants.{At, Unwritten, Exhausted}
+use Rattle.smk_top.specs.declared.counts.Counts.{Counts}
+use Rattle.smk_top.specs.Counting.{counts_together, counts_told, counts_of, text_counted}
 use Rattle.smk_top.specs.Writing.{Puts, PutsPieces}
 
 -- nothing, and one after the other
@@ -22,7 +31,7 @@ appends_more (Some a) (Some b) None x y p q = absurd q
 appends_more (Some a) (Some b) (Some c) x y p q = q ∙ rw p (append_assoc a x y)
 
 -- a front of the whole
-front_of : (a b : Option (List ℕ)) (x rest whole : List ℕ) → Appends a b x → whole ≡ x ++ rest → AppendsPart a b whole
+pub front_of : (a b : Option (List ℕ)) (x rest whole : List ℕ) → Appends a b x → whole ≡ x ++ rest → AppendsPart a b whole
 front_of a b x rest whole p is = (x, (rest, is), p)
 
 front_more : (a b c : Option (List ℕ)) (x y rest whole : List ℕ) → Appends a b x → AppendsPart b c y → whole ≡ (x ++ y) ++ rest → AppendsPart a c whole
@@ -36,7 +45,7 @@ front_more a b c x y rest whole p q is =
 whole_is : {A : Type 0} (f : A → List ℕ) (xs : List A) (i : ℕ) → flat_map f xs ≡ flat_map f (take i xs) ++ flat_map f (drop i xs)
 whole_is f xs i = sym (ap (flat_map f) (take-append-drop i xs)) ∙ flat_map-append f (take i xs) (drop i xs)
 
-one_more : {A : Type 0} (f : A → List ℕ) (xs : List A) (i : ℕ) (x d : A) → i < length xs → x ≡ get_or xs i d → flat_map f (take (i + 1) xs) ≡ flat_map f (take i xs) ++ f x
+pub one_more : {A : Type 0} (f : A → List ℕ) (xs : List A) (i : ℕ) (x d : A) → i < length xs → x ≡ get_or xs i d → flat_map f (take (i + 1) xs) ≡ flat_map f (take i xs) ++ f x
 one_more f xs i x d h is = rw (take_more xs i d h) (rw is (flat_map-append f (take i xs) (get_or xs i d ∷ []) ∙ ap (λ z. flat_map f (take i xs) ++ z) (append-nil (f (get_or xs i d)))))
 
 pub appends_next : {A : Type 0} (f : A → List ℕ) (xs : List A) (i : ℕ) (x d : A) (a b c : Option (List ℕ)) (text : List ℕ) → i < length xs → x ≡ get_or xs i d → text ≡ f x
@@ -86,3 +95,38 @@ pub put_stops : (X Y : Type 0) (a b : Option (List ℕ)) (rose : Type 0) (text w
 put_stops X Y a b rose text whole (At fault) is p = absurd p
 put_stops X Y a b rose text whole Unwritten is p = rw (← is) p
 put_stops X Y a b rose text whole Exhausted is p = absurd p
+
+-- memory is wanting
+pub wants_stop : (X : Type 0) (a b : Option (List ℕ)) (rose : Type 0) (text : List ℕ) (stop : Stop) → stop ≡ Exhausted → AppendsPart a b text → PutsPieces {X = X} text rose a b (Err stop)
+wants_stop X a b rose text stop is part = rw is part
+
+-- the counts with a text more
+pub counted_more : (counts more : Counts) (text next : List ℕ) (whole : List ℕ) → counts ≡ text_counted whole → more ≡ counts_together counts (text_counted text) → next ≡ whole ++ text → more ≡ text_counted next
+counted_more counts more text next whole counted is same =
+    is ∙ ap (λ k. counts_together k (text_counted text)) counted ∙ ap (λ n. record { replies = 0; refused = 0; unread = 0; bytes = n }) (sym (ap length same ∙ length-append whole text))
+
+-- both parts are written, and then memory may be wanting
+pub whole_part : (X : Type 0) (a b c : Option (List ℕ)) (rose : Type 0) (text rest : List ℕ) (result : Result X Stop) → IfErr result (λ stop. stop ≡ Exhausted)
+    → Appends a b text → Appends b c rest → PutsPieces (text ++ rest) rose a c result
+whole_part X a b c rose text rest (Ok x) wants p q = appends_more a b c text rest p q
+whole_part X a b c rose text rest (Err stop) wants p q = wants_stop X a c rose (text ++ rest) stop wants (front_of a c (text ++ rest) [] (text ++ rest) (appends_more a b c text rest p q) (sym (append-nil (text ++ rest))))
+
+-- the counts of the views and of the lines are those of the report
+pub report_counts : (book : Workbook) (told : Told) (views lines : Counts) (result : Result Counts Stop) → views ≡ text_counted (views_text book) → lines ≡ counts_told told → IfOk result (λ both. both ≡ counts_together views lines)
+    → IfOk result (λ counts. counts ≡ counts_of (report_told book told))
+report_counts book told views lines (Ok both) e f g =
+    g ∙ ap (λ k. counts_together k lines) e ∙ ap (counts_together (text_counted (views_text book))) f
+    ∙ same _ _ _ _ _ _ _ _ (omega arith) (omega arith) (omega arith) (sym (length-append (views_text book) told.text))
+  where
+    same : (r r' f f' u u' n n' : ℕ) → r ≡ r' → f ≡ f' → u ≡ u' → n ≡ n' → ◌≡◌ {A = Counts} (record { replies = r; refused = f; unread = u; bytes = n }) (record { replies = r'; refused = f'; unread = u'; bytes = n' })
+    same r r' f f' u u' n n' a b c d = rw (a, b, c, d) refl
+report_counts book told views lines (Err stop) e f g = g
+
+-- the lines of a session that begins
+begun_told : (session : SessionImage) (said : List Reading) → session.brushes ≡ [] → lines_told (catalog_image session.catalog) (state_of session) 1 said ≡ script_told (workbook_of session) said
+begun_told session said begun = ap (λ b. lines_told (catalog_image session.catalog) (record { tables = each_rows session.tables; brushes = b }) 1 said) begun
+
+pub then_lines : (X : Type 0) (session : SessionImage) (said : List Reading) (a b c : Option (List ℕ)) (rose_here rose : Type 0) (result : Result X Stop) → session.brushes ≡ [] → (rose_here → rose)
+    → Appends a b (views_text (workbook_of session)) → PutsPieces (lines_told (catalog_image session.catalog) (state_of session) 1 said).text rose_here b c result → PutsPieces (report_of (workbook_of session) said).text rose a c result
+then_lines X session said a b c rose_here rose result begun wide p q =
+    then_rest X a b c rose_here rose (views_text (workbook_of session)) (script_told (workbook_of session) said).text result wide p (subst (λ (t : Told). PutsPieces t.text rose_here b c result) (begun_told session said begun) q)

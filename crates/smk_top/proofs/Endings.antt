@@ -1,24 +1,29 @@
 -- How a run ends, from what its work comes to and what is said.
-use Rattle.std.proofs.Common.{◌≡◌, ◌≢◌, ◌∙◌, [], ℕ, List, Option, Some, None, option_map, Result, Ok, Err, IfOk, refl, ap, subst, inl, inr}
+use Rattle.std.proofs.Common.{◌≡◌, ◌∙◌, [], ℕ, List, map, Option, Some, None, option_map, Result, Ok, Err, IfOk, refl, ap, sym, subst, inl, inr, arith}
+use Rattle.std.specs.Prelude.{◌⊎◌, ⊤}
 use Rattle.smk_base.specs.CatalogImage.{CatalogImage}
+use Rattle.smk_base.specs.declared.demo.TheConstants.{DEMO_BOOK_NAME, DEMO_SCRIPT_NAME}
 use Rattle.smk_base.specs.declared.fault.Fault.{Fault}
-use Rattle.smk_base.specs.declared.fault.Fault.TheVariants.{ViewRows, ViewPairs}
-use Rattle.smk_outside.specs.Outside.{Appends}
+use Rattle.smk_base.specs.declared.fault.Fault.TheVariants.{Usage, ViewRows, ViewPairs}
+use Rattle.smk_base.specs.declared.size.Size.{Size}
+use Rattle.smk_outside.specs.Outside.{IsPrefix, Appends, AppendsPart, Rose}
+use Rattle.smk_model.specs.Demo.{demo_of, summary, summary_of}
 use Rattle.smk_model.specs.NodeFaults.{NodeFault, FullRows, FullPairs}
 use Rattle.smk_model.specs.Opening.{ViewFault, first_view_fault, named_fault, fault_named}
-use Rattle.smk_model.specs.Reports.{Report, report_of}
-use Rattle.smk_model.specs.Readings.{Reading}
+use Rattle.smk_model.specs.Reports.{Report, report_of, size_of_view}
+use Rattle.smk_model.specs.Readings.{Reading, AreReadingsOf}
 use Rattle.smk_model.specs.Session.{Workbook, view_at}
-use Rattle.smk_model.specs.Words.{words_of}
-use Rattle.smk_model.specs.Outcome.{Held, Inputs, unless_view_fault, reported as report_or_fault, unreadable, read, IsReport, HasCause}
+use Rattle.smk_model.specs.Words.{Words, Files, Demo, words_of}
+use Rattle.smk_model.specs.Outcome.{Held, Inputs, text_named, unless_view_fault, reported as report_or_fault, ReadsInputs, unusable, usable, Outcome, unreadable, read, written_for, written_of, NamesRead, nothing_held, WhereTold, UntoldCause, IsReport, HasCause}
 use Rattle.smk_top.specs.declared.counts.Counts.{Counts}
 use Rattle.smk_top.specs.declared.status.Status.{Status}
 use Rattle.smk_top.specs.declared.status.Status.TheVariants.{WriteFault}
 use Rattle.smk_top.specs.declared.stop.Stop.{Stop}
 use Rattle.smk_top.specs.declared.stop.Stop.TheVariants.{At, Unwritten, Exhausted}
 use Rattle.smk_top.specs.Statuses.{status_of_report}
-use Rattle.smk_top.specs.Reading.{ReadsAll, IsInputs, HasReadCause, Starts}
-use Rattle.smk_top.specs.Writing.{PutsPieces, counts_of}
+use Rattle.smk_top.specs.Reading.{ReadsAll, IsInputs, Starts}
+use Rattle.smk_top.specs.Counting.{counts_of}
+use Rattle.smk_top.specs.Writing.{Puts, PutsPieces}
 use Rattle.smk_top.specs.Endings.{IsBegun, reported, faulted, unwritten, exhausted, fault_unsaid, memory_unsaid, RunEnds, Works, Reports, SaysMemory, SaysFault}
 use Rattle.smk_top.proofs.Appending.{appends_none}
 
@@ -44,40 +49,84 @@ views_reported given = by (first_view_fault given.book)
     by (Some found) = named given.book.catalog (view_at given.book.catalog found.view).name found.fault
     by None = tt
 
-untold_views : (words : List (List ℕ)) (rose : Type 0) (fault : Fault) → words_of words ≢ None → IsOfViews fault → HasCause words None rose fault
+untold_views : (rose : Type 0) (fault : Fault) → IsOfViews fault → UntoldCause rose fault
 unfolding IsOfViews
-untold_views words rose (ViewRows view node) some h = some
-untold_views words rose (ViewPairs view node name) some h = some
-untold_views words rose _ some h = absurd h
+untold_views rose (ViewRows view node) h = tt
+untold_views rose (ViewPairs view node name) h = tt
+untold_views rose _ h = absurd h
+
+-- what follows for all files follows where they don't tell
+where_told : (held : Option Held) (ws : Option Words) (A B : Type 0) (P Q : Held → Type 0) → (A → B) → ((h : Held) → P h → Q h) → WhereTold held ws A P → WhereTold held ws B Q
+where_told (Some held) ws A B P Q f g is = g held is
+where_told None (Some (Files book script)) A B P Q f g is = f is
+where_told None (Some (Demo n)) A B P Q f g is = g nothing_held is
+where_told None None A B P Q f g is = g nothing_held is
+
+-- the same for words that name no file
+where_demo : (held : Option Held) (ws : Option Words) (n : ℕ) (A : Type 0) (P : Held → Type 0) → ws ≡ Some (Demo n) → ((h : Held) → P h) → WhereTold held ws A P
+where_demo (Some held) ws n A P is all = all held
+where_demo None ws n A P is all = rw is (all nothing_held)
+
+where_unusable : (held : Option Held) (ws : Option Words) (A : Type 0) (P : Held → Type 0) → ws ≡ None → ((h : Held) → P h) → WhereTold held ws A P
+where_unusable (Some held) ws A P is all = all held
+where_unusable None ws A P is all = rw is (all nothing_held)
 
 -- the report of the inputs is that of the run, and so is their fault
 report_is : (words : List (List ℕ)) (held : Option Held) (inputs : Inputs) (report : Report) → IsInputs words held inputs → report_or_fault inputs ≡ Ok report → IsReport words held report
-report_is words (Some held) inputs report is ok = read is ok
-report_is words None inputs report is ok = is
+report_is words held inputs report is ok = where_told held (words_of words) ⊤ ⊤ (λ h. ReadsInputs words h (Ok inputs)) (λ h. Outcome words h (Ok report)) (λ t. t) (λ h p. read p ok) is
 
 cause_is : (words : List (List ℕ)) (held : Option Held) (rose : Type 0) (inputs : Inputs) (fault : Fault) → IsInputs words held inputs → report_or_fault inputs ≡ Err fault → HasCause words held rose fault
 unfolding OnlyViews
-cause_is words (Some held) rose inputs fault is err = inl (read is err)
-cause_is words None rose inputs fault is err = untold_views words rose fault is (subst (λ (r : Result Report Fault). OnlyViews r) err (views_reported inputs))
+cause_is words held rose inputs fault is err =
+    where_told held (words_of words) ⊤ (UntoldCause rose fault) (λ h. ReadsInputs words h (Ok inputs)) (λ h. Outcome words h (Err fault) ⊎ (rose × NamesRead (words_of words) h fault))
+    (λ t. untold_views rose fault (subst (λ (r : Result Report Fault). OnlyViews r) err (views_reported inputs))) (λ h p. inl (read p err)) is
 
--- the cause of a fault in reading is one of the run's
-read_cause : (words : List (List ℕ)) (held : Option Held) (rose : Type 0) (fault : Fault) → HasReadCause words held rose fault → HasCause words held rose fault
-read_cause words (Some held) rose fault (inl err) = inl (unreadable err)
-read_cause words (Some held) rose fault (inr named) = inr named
-read_cause words None rose fault h = h
+-- the words are those of no run
+pub usage_stops : (words : List (List ℕ)) (held : Option Held) (files_rose out_rose : Type 0) (a : Option (List ℕ)) → words_of words ≡ None → Works words held files_rose out_rose a a (Err (At Usage))
+usage_stops words held files_rose out_rose a none = (where_unusable held (words_of words) (UntoldCause files_rose Usage) _ none (λ h. inl (unreadable (unusable none))), appends_none a)
 
--- the reading stops
-pub stops : {X : Type 0} (words : List (List ℕ)) (held : Option Held) (files_rose out_rose : Type 0) (image : X → Inputs) (a : Option (List ℕ)) (stop : Stop)
-    → ReadsAll words held files_rose image (Err stop) → Works words held files_rose out_rose a a (Err stop)
-stops words held files_rose out_rose image a (At fault) cause = (read_cause words held files_rose fault cause, appends_none a)
-stops words held files_rose out_rose image a Unwritten h = absurd h
-stops words held files_rose out_rose image a Exhausted h = ([], appends_none a, inl refl)
+-- the reading of files stops
+files_cause : {X : Type 0} (words : List (List ℕ)) (book : List ℕ) (script : Option (List ℕ)) (held : Option Held) (rose : Type 0) (workbook : X → Workbook) (bytes : X → List ℕ) (fault : Fault)
+    → words_of words ≡ Some (Files book script) → ReadsAll held rose book script workbook bytes (Err (At fault)) → HasCause words held rose fault
+files_cause words book script (Some held) rose workbook bytes fault is (inl err) = inl (unreadable (usable is err))
+files_cause words book script (Some held) rose workbook bytes fault is (inr (up, named)) = inr (up, subst (λ (ws : Option Words). NamesRead ws held fault) (sym is) named)
+files_cause words book script None rose workbook bytes fault is h = rw is h
+
+pub files_stop : {X : Type 0} (words : List (List ℕ)) (book : List ℕ) (script : Option (List ℕ)) (held : Option Held) (rose out_rose : Type 0) (workbook : X → Workbook) (bytes : X → List ℕ) (a : Option (List ℕ)) (stop : Stop)
+    → words_of words ≡ Some (Files book script) → ReadsAll held rose book script workbook bytes (Err stop) → Works words held rose out_rose a a (Err stop)
+files_stop words book script held rose out_rose workbook bytes a (At fault) is h = (files_cause words book script held rose workbook bytes fault is h, appends_none a)
+files_stop words book script (Some held) rose out_rose workbook bytes a Unwritten is h = absurd h
+files_stop words book script None rose out_rose workbook bytes a Unwritten is h = absurd h
+files_stop words book script held rose out_rose workbook bytes a Exhausted is h = ([], appends_none a, inl refl)
+
+pub files_read : {X : Type 0} (words : List (List ℕ)) (book : List ℕ) (script : Option (List ℕ)) (held : Option Held) (rose : Type 0) (workbook : X → Workbook) (bytes : X → List ℕ) (x : X) (readings : List Reading)
+    → words_of words ≡ Some (Files book script) → ReadsAll held rose book script workbook bytes (Ok x) → AreReadingsOf (bytes x) readings → IsInputs words held (record { book = workbook x; readings = readings })
+files_read words book script (Some held) rose workbook bytes x readings is h are = usable is (h readings are)
+files_read words book script None rose workbook bytes x readings is h are = rw is tt
+
+-- no read of a demo's texts fails
+pub never_rose : Rose 0 0 → ⊥
+never_rose (inl less) = omega (arith, less)
+never_rose (inr last) = omega (arith, last)
+
+-- the reading of a demo stops
+pub demo_stops : {X : Type 0} (words : List (List ℕ)) (n : ℕ) (held : Option Held) (rose out_rose : Type 0) (workbook : X → Workbook) (bytes : X → List ℕ) (a : Option (List ℕ)) (stop : Stop)
+    → words_of words ≡ Some (Demo n) → ReadsAll (Some (text_named (demo_of n))) (Rose 0 0) DEMO_BOOK_NAME.now (Some DEMO_SCRIPT_NAME.now) workbook bytes (Err stop) → Works words held rose out_rose a a (Err stop)
+demo_stops words n held rose out_rose workbook bytes a (At fault) is (inl err) = (where_demo held (words_of words) n (UntoldCause rose fault) _ is (λ h. inl (unreadable (usable is err))), appends_none a)
+demo_stops words n held rose out_rose workbook bytes a (At fault) is (inr (up, named)) = absurd (never_rose up)
+demo_stops words n held rose out_rose workbook bytes a Unwritten is h = absurd h
+demo_stops words n held rose out_rose workbook bytes a Exhausted is h = ([], appends_none a, inl refl)
+
+pub demo_read : {X : Type 0} (words : List (List ℕ)) (n : ℕ) (held : Option Held) (workbook : X → Workbook) (bytes : X → List ℕ) (x : X) (readings : List Reading)
+    → words_of words ≡ Some (Demo n) → ReadsAll (Some (text_named (demo_of n))) (Rose 0 0) DEMO_BOOK_NAME.now (Some DEMO_SCRIPT_NAME.now) workbook bytes (Ok x) → AreReadingsOf (bytes x) readings
+    → IsInputs words held (record { book = workbook x; readings = readings })
+demo_read words n held workbook bytes x readings is h are = where_demo held (words_of words) n ⊤ _ is (λ held. usable is (h readings are))
 
 -- a fault of the start is that of the report
-pub not_started : (X : Type 0) (given : Inputs) (book : Workbook) (rose : Type 0) (a : Option (List ℕ)) (stop : Stop) → book ≡ given.book → Starts {X = X} book (Err stop) → Reports given rose a a (Err stop)
-not_started X given book rose a stop same starts = by stop (first_view_fault given.book) refl (subst (λ (k : Workbook). Starts {X = X} k (Err stop)) same starts)
+pub not_started : (X : Type 0) (writes : Report → List ℕ) (given : Inputs) (book : Workbook) (rose : Type 0) (a : Option (List ℕ)) (stop : Stop) → book ≡ given.book → Starts {X = X} book (Err stop) → Reports writes given rose a a (Err stop)
+not_started X writes given book rose a stop same starts = by stop (first_view_fault given.book) refl (subst (λ (k : Workbook). Starts {X = X} k (Err stop)) same starts)
   where
-    by : (stop : Stop) (found : Option ViewFault) → first_view_fault given.book ≡ found → Starts {X = X} given.book (Err stop) → Reports given rose a a (Err stop)
+    by : (stop : Stop) (found : Option ViewFault) → first_view_fault given.book ≡ found → Starts {X = X} given.book (Err stop) → Reports writes given rose a a (Err stop)
     by (At fault) None e h = absurd (cc)
     by (At fault) (Some found) e h = (ap (unless_view_fault given) e ∙ ap (λ f. Err f) (some_is e h), appends_none a)
       where
@@ -86,38 +135,70 @@ not_started X given book rose a stop same starts = by stop (first_view_fault giv
     by Unwritten found e h = absurd h
     by Exhausted found e h = inl (appends_none a)
 
+-- no view has a fault, so that there is a report
+found_report : (given : Inputs) → first_view_fault given.book ≡ None → report_or_fault given ≡ Ok (report_of given.book given.readings)
+found_report given none = ap (unless_view_fault given) none
+
 -- the report of what was read is written, or its writing stops
-pub report_written : (given : Inputs) (book : Workbook) (readings : List Reading) (rose : Type 0) (a b : Option (List ℕ)) (r : Result Counts Stop) → first_view_fault given.book ≡ None
-    → book ≡ given.book → readings ≡ given.readings → PutsPieces (report_of book readings).text rose a b r → IfOk r (λ counts. counts ≡ counts_of (report_of book readings)) → Reports given rose a b r
-report_written given book readings rose a b r none same_book same_readings w c =
-    by r (subst (λ (report : Report). PutsPieces report.text rose a b r) same w) (subst (λ (report : Report). IfOk r (λ counts. counts ≡ counts_of report)) same c)
+pub report_written : (given : Inputs) (book : Workbook) (rose : Type 0) (a b : Option (List ℕ)) (r : Result Counts Stop) → first_view_fault given.book ≡ None
+    → book ≡ given.book → PutsPieces (report_of book given.readings).text rose a b r → IfOk r (λ counts. counts ≡ counts_of (report_of book given.readings)) → Reports (λ report. report.text) given rose a b r
+report_written given book rose a b r none same w c =
+    by r (subst (λ (k : Workbook). PutsPieces (report_of k given.readings).text rose a b r) same w) (subst (λ (k : Workbook). IfOk r (λ counts. counts ≡ counts_of (report_of k given.readings))) same c)
   where
-    same : report_of book readings ≡ report_of given.book given.readings
-    same = ap (λ k. report_of k readings) same_book ∙ ap (report_of given.book) same_readings
-
-    found : report_or_fault given ≡ Ok (report_of given.book given.readings)
-    found = ap (unless_view_fault given) none
-
-    by : (r : Result Counts Stop) → PutsPieces (report_of given.book given.readings).text rose a b r → IfOk r (λ counts. counts ≡ counts_of (report_of given.book given.readings)) → Reports given rose a b r
-    by (Ok counts) v c = (report_of given.book given.readings, found, v, c)
+    by : (r : Result Counts Stop) → PutsPieces (report_of given.book given.readings).text rose a b r → IfOk r (λ counts. counts ≡ counts_of (report_of given.book given.readings)) → Reports (λ report. report.text) given rose a b r
+    by (Ok counts) v c = (report_of given.book given.readings, found_report given none, v, c)
     by (Err (At fault)) v c = absurd v
-    by (Err Unwritten) v c = (report_of given.book given.readings, found, v.0, v.1)
-    by (Err Exhausted) v c = inr (report_of given.book given.readings, found, v)
+    by (Err Unwritten) v c = (report_of given.book given.readings, found_report given none, v.0, v.1)
+    by (Err Exhausted) v c = inr (report_of given.book given.readings, found_report given none, v)
+
+-- a report that is only measured stops for want of memory alone
+pub measured_stops : (X : Type 0) (writes : Report → List ℕ) (given : Inputs) (text : List ℕ) (rose : Type 0) (a : Option (List ℕ)) (stop : Stop) → PutsPieces {X = X} text (Rose 0 0) None None (Err stop) → Reports writes given rose a a (Err stop)
+measured_stops X writes given text rose a (At fault) w = absurd w
+measured_stops X writes given text rose a Unwritten w = absurd (never_rose w.1)
+measured_stops X writes given text rose a Exhausted w = inl (appends_none a)
+
+-- the summary of a report
+summary_same : (n : ℕ) (given : Inputs) (book : Workbook) (sizes : List Size) (counts : Counts) (text : List ℕ) → book ≡ given.book → sizes ≡ map (size_of_view book) book.catalog.views
+    → counts ≡ counts_of (report_of book given.readings) → text ≡ summary n sizes counts.replies counts.refused counts.bytes → text ≡ summary_of n (report_of given.book given.readings)
+summary_same n given book sizes counts text same are counted is =
+    is ∙ rw (are, counted) (ap (λ k. summary_of n (report_of k given.readings)) same)
+
+pub summary_written : (n : ℕ) (given : Inputs) (book : Workbook) (sizes : List Size) (counts : Counts) (text : List ℕ) (rose : Type 0) (a b : Option (List ℕ)) → first_view_fault given.book ≡ None
+    → book ≡ given.book → sizes ≡ map (size_of_view book) book.catalog.views → counts ≡ counts_of (report_of book given.readings) → text ≡ summary n sizes counts.replies counts.refused counts.bytes
+    → Appends a b text → Reports (summary_of n) given rose a b (Ok counts)
+summary_written n given book sizes counts text rose a b none same are counted is put =
+    (report_of given.book given.readings, found_report given none, rw (← summary_same n given book sizes counts text same are counted is) put, counted ∙ ap (λ k. counts_of (report_of k given.readings)) same)
+
+pub summary_stops : (X : Type 0) (n : ℕ) (given : Inputs) (book : Workbook) (sizes : List Size) (counts : Counts) (text : List ℕ) (rose : Type 0) (a b : Option (List ℕ)) (stop : Stop) → first_view_fault given.book ≡ None
+    → book ≡ given.book → sizes ≡ map (size_of_view book) book.catalog.views → counts ≡ counts_of (report_of book given.readings) → text ≡ summary n sizes counts.replies counts.refused counts.bytes
+    → Puts {X = X} text rose a b (Err stop) → Reports (summary_of n) given rose a b (Err stop)
+summary_stops X n given book sizes counts text rose a b (At fault) none same are counted is put = absurd put
+summary_stops X n given book sizes counts text rose a b Unwritten none same are counted is put =
+    (report_of given.book given.readings, found_report given none, rw (← summary_same n given book sizes counts text same are counted is) put.0, put.1)
+summary_stops X n given book sizes counts text rose a b Exhausted none same are counted is put = absurd put
+
+-- what is written for the words
+pub files_write : (words : List (List ℕ)) (book : List ℕ) (script : Option (List ℕ)) → words_of words ≡ Some (Files book script) → (report : Report) → report.text ≡ written_of words report
+files_write words book script is report = ap (λ ws. written_for ws report) (sym is)
+
+pub demo_writes : (words : List (List ℕ)) (n : ℕ) → words_of words ≡ Some (Demo n) → (report : Report) → summary_of n report ≡ written_of words report
+demo_writes words n is report = ap (λ ws. written_for ws report) (sym is)
 
 -- the report is written, or there is none, or the writing stops
-pub reports : (words : List (List ℕ)) (held : Option Held) (files_rose out_rose : Type 0) (inputs : Inputs) (a b : Option (List ℕ)) (result : Result Counts Stop)
-    → IsInputs words held inputs → Reports inputs out_rose a b result → Works words held files_rose out_rose a b result
-reports words held files_rose out_rose inputs a b (Ok counts) is w = (w.0, report_is words held inputs w.0 is w.1, w.2, w.3)
-reports words held files_rose out_rose inputs a b (Err (At fault)) is w = (cause_is words held files_rose inputs fault is w.0, w.1)
-reports words held files_rose out_rose inputs a b (Err Unwritten) is w = (w.0, report_is words held inputs w.0 is w.1, w.2, w.3)
-reports words held files_rose out_rose inputs a b (Err Exhausted) is (inl nothing) = ([], nothing, inl refl)
-reports words held files_rose out_rose inputs a b (Err Exhausted) is (inr (report, ok, part)) = (part.0, part.2, inr (report, report_is words held inputs report is ok, part.1))
+pub reports : (writes : Report → List ℕ) (words : List (List ℕ)) (held : Option Held) (files_rose out_rose : Type 0) (inputs : Inputs) (a b : Option (List ℕ)) (result : Result Counts Stop)
+    → ((report : Report) → writes report ≡ written_of words report) → IsInputs words held inputs → Reports writes inputs out_rose a b result → Works words held files_rose out_rose a b result
+reports writes words held files_rose out_rose inputs a b (Ok counts) same is w = (w.0, report_is words held inputs w.0 is w.1, subst (λ (t : List ℕ). Appends a b t) (same w.0) w.2, w.3)
+reports writes words held files_rose out_rose inputs a b (Err (At fault)) same is w = (cause_is words held files_rose inputs fault is w.0, w.1)
+reports writes words held files_rose out_rose inputs a b (Err Unwritten) same is w = (w.0, report_is words held inputs w.0 is w.1, subst (λ (t : List ℕ). AppendsPart a b t) (same w.0) w.2, w.3)
+reports writes words held files_rose out_rose inputs a b (Err Exhausted) same is (inl nothing) = ([], nothing, inl refl)
+reports writes words held files_rose out_rose inputs a b (Err Exhausted) same is (inr (report, ok, part)) =
+    (part.0, part.2, inr (report, report_is words held inputs report is ok, subst (λ (t : List ℕ). IsPrefix part.0 t) (same report) part.1))
 
 -- the endings
 pub ends_reported : (words : List (List ℕ)) (held : Option Held) (files_rose out_rose err_rose : Type 0) (a b e : Option (List ℕ)) (counts : Counts) (status : Status)
     → Works words held files_rose out_rose a b (Ok counts) → ((report : Report) → counts ≡ counts_of report → status ≡ status_of_report report) → RunEnds words held files_rose out_rose err_rose a b e e status
 ends_reported words held files_rose out_rose err_rose a b e counts status w is =
-    (w.0.text, [], w.2, appends_none e, rw (is w.0 w.3) (reported w.0 w.1))
+    (written_of words w.0, [], w.2, appends_none e, rw (is w.0 w.3) (reported w.0 w.1))
 
 pub ends_unwritten : (words : List (List ℕ)) (held : Option Held) (files_rose out_rose err_rose : Type 0) (a b e : Option (List ℕ))
     → Works words held files_rose out_rose a b (Err Unwritten) → RunEnds words held files_rose out_rose err_rose a b e e WriteFault

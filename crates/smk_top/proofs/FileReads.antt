@@ -1,10 +1,9 @@
 -- What is read of a file follows from its content.
 use Rattle.std.proofs.Common.{◌≡◌, ◌≢◌, ℕ, List, Option, Some, None, Result, Ok, Err, refl, inl, inr, subst}
-use Rattle.std.specs.Prelude.{cond, Bool, true, false}
 use Rattle.smk_base.specs.CatalogImage.{CatalogImage}
 use Rattle.smk_base.specs.Marks.{after_marks}
 use Rattle.smk_base.specs.declared.fault.Fault.{Fault}
-use Rattle.smk_base.specs.declared.fault.Fault.TheVariants.{Book, Types, Form}
+use Rattle.smk_base.specs.declared.fault.Fault.TheVariants.{Book, Types}
 use Rattle.smk_base.specs.declared.fault.BookFault.{BookFault}
 use Rattle.smk_base.specs.declared.fault.BookFault.TheVariants as book_faults
 use Rattle.smk_base.specs.declared.tree.Book.{Book as Statements}
@@ -15,14 +14,13 @@ use Rattle.smk_base.specs.declared.tree.Line.{Line}
 use Rattle.smk_model.specs.Names.{Typed}
 use Rattle.smk_model.specs.Typing.{types}
 use Rattle.smk_model.specs.Readings.{Nothing, Asks, Unread as Unread', IsReading, says_nothing, asks, leaves}
-use Rattle.smk_model.specs.Forms.{is_book_answered}
-use Rattle.smk_model.specs.Outcome.{Held, content_of, Parses, spells, misspells, BookSays, unparsed, parsed, answered_book, FileSays, unread, read}
+use Rattle.smk_model.specs.Outcome.{Held, content_of, Parses, spells, misspells, BookSays, unparsed, parsed, or_type_fault, FileSays, unread, read, UntoldCause}
 use Rattle.smk_model.specs.Limits.{KeepsLimits}
 use Rattle.smk_model.proofs.Keeping.{faultless_keep_limits}
 use Rattle.smk_parse.specs.Answers.{IsBookAnswer, IsLineAnswer}
 use Rattle.smk_top.specs.declared.stop.Stop.{Stop}
 use Rattle.smk_top.specs.declared.stop.Stop.TheVariants.{At, Unwritten, Exhausted}
-use Rattle.smk_top.specs.Reading.{Answers, Reads, UntoldCause}
+use Rattle.smk_top.specs.Reading.{Answers, Reads}
 
 -- the file is read, and then its bytes say this
 pub says_after : {A X Y : Type 0} (image : X → A) (content : Y → List ℕ) (held : Option Held) (rose : Type 0) (name bytes : List ℕ) (y : Y) (says : List ℕ → Result A Fault → Type 0) (r : Result X Stop)
@@ -87,27 +85,23 @@ pub says_fault : (text : List ℕ) (at : ℕ) → IsLineAnswer text (Err (line_f
 says_fault text at is = leaves is.0 is.1.1.0 is.1.1.1
 
 -- the bytes of a book's file say no fault of a file that isn't read
-book_typed : (name : List ℕ) (answer : Typed CatalogImage) (rose : Type 0) (fault : Fault) → answered_book name answer ≡ Err fault → UntoldCause rose fault
-book_typed name (Ok catalog) rose fault e = by (is_book_answered catalog) e
-  where
-    by : (answered : Bool) → cond answered (Ok catalog) (Err (Form name)) ≡ Err fault → UntoldCause rose fault
-    by true f = absurd (cc f)
-    by false f = let same : Form name ≡ fault = cc f in subst (UntoldCause rose) same tt
-book_typed name (Err found) rose fault e = let same : Types found ≡ fault = cc e in subst (UntoldCause rose) same tt
+book_typed : (answer : Typed CatalogImage) (rose : Type 0) (fault : Fault) → or_type_fault answer ≡ Err fault → UntoldCause rose fault
+book_typed (Ok catalog) rose fault e = absurd (cc)
+book_typed (Err found) rose fault e = let same : Types found ≡ fault = cc in subst (UntoldCause rose) same tt
 
-pub book_untold : (name bytes : List ℕ) (rose : Type 0) (fault : Fault) → BookSays name bytes (Err fault) → UntoldCause rose fault
-book_untold name bytes rose fault (unparsed (misspells is)) = tt
-book_untold name bytes rose fault (parsed {stmts = stmts} is e) = book_typed name (types stmts) rose fault e
+pub book_untold : (bytes : List ℕ) (rose : Type 0) (fault : Fault) → BookSays bytes (Err fault) → UntoldCause rose fault
+book_untold bytes rose fault (unparsed (misspells is)) = tt
+book_untold bytes rose fault (parsed {stmts = stmts} is e) = book_typed (types stmts) rose fault e
 
 -- a book's file, after its text was parsed, or was not
-pub book_unparsed : {X Y : Type 0} (trees : X → List StmtImage) (image : Y → CatalogImage) (name bytes text : List ℕ) (stop : Stop) → text ≡ after_marks bytes → Answers {X = X} (Parses text) trees (Err stop) → Answers {X = Y} (BookSays name bytes) image (Err stop)
-book_unparsed trees image name bytes text (At fault) same is = unparsed (subst (λ (t : List ℕ). Parses t (Err fault)) same is)
-book_unparsed trees image name bytes text Unwritten same is = is
-book_unparsed trees image name bytes text Exhausted same is = tt
+pub book_unparsed : {X Y : Type 0} (trees : X → List StmtImage) (image : Y → CatalogImage) (bytes text : List ℕ) (stop : Stop) → text ≡ after_marks bytes → Answers {X = X} (Parses text) trees (Err stop) → Answers {X = Y} (BookSays bytes) image (Err stop)
+book_unparsed trees image bytes text (At fault) same is = unparsed (subst (λ (t : List ℕ). Parses t (Err fault)) same is)
+book_unparsed trees image bytes text Unwritten same is = is
+book_unparsed trees image bytes text Exhausted same is = tt
 
-pub book_says : {X Y : Type 0} (trees : X → List StmtImage) (image : Y → CatalogImage) (name bytes text : List ℕ) (book : X) (r : Result Y Stop) → text ≡ after_marks bytes → Answers (Parses text) trees (Ok book)
-    → Answers (λ answer. answered_book name (types (trees book)) ≡ answer) image r → Answers (BookSays name bytes) image r
-book_says trees image name bytes text book (Ok typed) same is e = parsed (subst (λ (t : List ℕ). Parses t (Ok (trees book))) same is) e
-book_says trees image name bytes text book (Err (At fault)) same is e = parsed (subst (λ (t : List ℕ). Parses t (Ok (trees book))) same is) e
-book_says trees image name bytes text book (Err Unwritten) same is e = e
-book_says trees image name bytes text book (Err Exhausted) same is e = tt
+pub book_says : {X Y : Type 0} (trees : X → List StmtImage) (image : Y → CatalogImage) (bytes text : List ℕ) (book : X) (r : Result Y Stop) → text ≡ after_marks bytes → Answers (Parses text) trees (Ok book)
+    → Answers (λ answer. or_type_fault (types (trees book)) ≡ answer) image r → Answers (BookSays bytes) image r
+book_says trees image bytes text book (Ok typed) same is e = parsed (subst (λ (t : List ℕ). Parses t (Ok (trees book))) same is) e
+book_says trees image bytes text book (Err (At fault)) same is e = parsed (subst (λ (t : List ℕ). Parses t (Ok (trees book))) same is) e
+book_says trees image bytes text book (Err Unwritten) same is e = e
+book_says trees image bytes text book (Err Exhausted) same is e = tt

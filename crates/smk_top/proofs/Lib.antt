@@ -9,6 +9,5 @@ mod Completes
 mod ReplyFits
 mod FileReads
 mod TableLoads
-mod ListTests
 mod ScriptReads
 mod WordsTaken

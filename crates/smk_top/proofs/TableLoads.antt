@@ -8,7 +8,6 @@ use Rattle.smk_base.specs.declared.catalog.Column.{Column}
 use Rattle.smk_base.specs.declared.fault.Fault.{Fault}
 use Rattle.smk_base.specs.declared.catalog.TableInfo.{TableInfo}
 use Rattle.smk_model.specs.Values.{Row}
-use Rattle.smk_model.specs.Names.{◌>>=◌}
 use Rattle.smk_model.specs.Tables.{all_or_first, kinds_of}
 use Rattle.smk_model.specs.Catalogs.{table_kinds, each_table_kinds}
 use Rattle.smk_model.specs.Selection.{each_rows, each_kinds}

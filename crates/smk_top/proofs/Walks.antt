@@ -1,11 +1,19 @@
 -- The walk over the lines of a script, one part after the other.
-use Rattle.std.proofs.Common.{◌≡◌, ◌∙◌, ◌<◌, ◌≤◌, ◌+◌, ◌++◌, ◌∷◌, [], ℕ, Bool, true, false, cond, List, length, map, take, drop, get_or, refl, sym, ap, append_assoc, append-nil, take-append-drop, arith}
-use Rattle.std.proofs.lemmas.List.{map-append, take_more, take_all, length-take, length-map}
+use Rattle.std.proofs.Common.{◌≡◌, ◌∙◌, ◌≤◌, ◌+◌, ◌++◌, ◌∷◌, [], ℕ, List, length, drop, Option, Err, refl, sym, ap, subst, append_assoc, append-nil, arith}
+use Rattle.std.proofs.lemmas.List.{length-append, drop_all}
 use Rattle.smk_base.specs.CatalogImage.{CatalogImage}
-use Rattle.smk_model.specs.Readings.{Reading, Nothing, Asks, Unread}
-use Rattle.smk_model.specs.Replies.{is_refused, reply}
+use Rattle.smk_model.specs.Lines.{lines}
+use Rattle.smk_model.specs.Readings.{Reading, IsReading, AreReadings, no_line}
 use Rattle.smk_model.specs.Reports.{Told, nothing_told, followed_by, line_told, state_after, lines_told}
 use Rattle.smk_model.specs.Session.{State}
+use Rattle.smk_model.proofs.OneOutcome.{same_readings}
+use Rattle.smk_outside.specs.Outside.{Appends, AppendsPart}
+use Rattle.smk_top.specs.declared.counts.Counts.{Counts}
+use Rattle.smk_top.specs.declared.stop.Stop.{Stop}
+use Rattle.smk_top.specs.Counting.{counts_together, counts_told}
+use Rattle.smk_top.specs.Writing.{PutsPieces}
+use Rattle.smk_top.proofs.Appending.{appends_none, appends_more, front_of, next_stops}
+use Rattle.smk_top.proofs.ScriptReads.{readings_more, rest_said}
 
 -- the state after lines
 abbrev pub state_through : CatalogImage → State → List Reading → State
@@ -44,98 +52,98 @@ told_append catalog state n m (reading ∷ before) behind is =
     ap (followed_by (line_told catalog state n reading)) (told_append catalog (state_after catalog state reading) (n + 1) m before behind (omega (arith, is)))
     ∙ sym (followed_assoc (line_told catalog state n reading) (lines_told catalog (state_after catalog state reading) (n + 1) before) _)
 
--- the lines before the i-th, which are numbered from 1, and the state that they leave
-abbrev pub so_far : {X : Type 0} → CatalogImage → State → (X → Reading) → List X → ℕ → Told
-so_far catalog state image lines i = lines_told catalog state 1 (map image (take i lines))
+-- the lines of a script before a place, with what they say, and what they come to: what is written, the state that they leave, and the looks
+pub record IsWalked (catalog : CatalogImage) (state : State) (script : List ℕ) (from number : ℕ) (before after : Option (List ℕ)) (now : State) (first looks : ℕ) : Type 0 where
+  pub texts : List (List ℕ)
+  pub said : List Reading
+  pub cut : lines script ≡ texts ++ lines (drop from script)
+  pub reads : AreReadings texts said
+  pub count : number ≡ length said
+  pub written : Appends before after (lines_told catalog state 1 said).text
+  pub leaves : now ≡ state_through catalog state said
+  pub looked : looks ≤ first + (lines_told catalog state 1 said).looks
 
-abbrev pub state_there : {X : Type 0} → CatalogImage → State → (X → Reading) → List X → ℕ → State
-state_there catalog state image lines i = state_through catalog state (map image (take i lines))
+-- the same with the counts of the lines
+abbrev pub Walks : CatalogImage → State → List ℕ → ℕ → ℕ → Option (List ℕ) → Option (List ℕ) → State → ℕ → ℕ → Counts → Type 0
+Walks catalog state script from number before after now first looks counts =
+    (walked : IsWalked catalog state script from number before after now first looks) × (counts ≡ counts_told (lines_told catalog state 1 walked.said))
 
-one_more : {X : Type 0} (image : X → Reading) (lines : List X) (i : ℕ) (x d : X) → i < length lines → x ≡ get_or lines i d → map image (take (i + 1) lines) ≡ map image (take i lines) ++ image x ∷ []
-one_more image lines i x d low is = ap (map image) (take_more lines i d low) ∙ map-append image (take i lines) (get_or lines i d ∷ []) ∙ ap (λ y. map image (take i lines) ++ image y ∷ []) (sym is)
+-- before the first line
+pub walk_begins : (catalog : CatalogImage) (state now : State) (script : List ℕ) (a : Option (List ℕ)) (first : ℕ) → now ≡ state
+    → Walks catalog state script 0 0 a a now first first (counts_told nothing_told)
+walk_begins catalog state now script a first same =
+    (record { texts = []; said = []; cut = refl; reads = no_line; count = refl; written = appends_none a; leaves = same; looked = omega arith }, refl)
 
-long : {X : Type 0} (image : X → Reading) (lines : List X) (i : ℕ) → i ≤ length lines → length (map image (take i lines)) ≡ i
-long image lines i low = omega (arith, low, length-map (take i lines) image, length-take i lines)
+-- what lines come to with one more
+told_on : (catalog k : CatalogImage) (state now : State) (number : ℕ) (said : List Reading) (reading : Reading) → number ≡ length said → k ≡ catalog → now ≡ state_through catalog state said
+    → lines_told catalog state 1 (said ++ reading ∷ []) ≡ followed_by (lines_told catalog state 1 said) (line_told k now (number + 1) reading)
+told_on catalog k state now number said reading count e f =
+    told_append catalog state 1 (number + 1) said (reading ∷ []) (omega (arith, count))
+    ∙ ap (followed_by (lines_told catalog state 1 said)) (followed_none (line_told catalog (state_through catalog state said) (number + 1) reading))
+    ∙ rw (e, f) refl
 
-told_next : {X : Type 0} (catalog : CatalogImage) (state : State) (image : X → Reading) (lines : List X) (i n : ℕ) (x d : X) → i < length lines → x ≡ get_or lines i d → n ≡ i + 1
-    → so_far catalog state image lines (i + 1) ≡ followed_by (so_far catalog state image lines i) (line_told catalog (state_there catalog state image lines i) n (image x))
-told_next catalog state image lines i n x d low is number =
-    ap (lines_told catalog state 1) (one_more image lines i x d low is)
-    ∙ told_append catalog state 1 n (map image (take i lines)) (image x ∷ []) (omega (arith, number, long image lines i (omega (arith, low))))
-    ∙ ap (followed_by (so_far catalog state image lines i)) (followed_none (line_told catalog (state_there catalog state image lines i) n (image x)))
+counts_on : (a b : Told) → counts_together (counts_told a) (counts_told b) ≡ counts_told (followed_by a b)
+counts_on a b = ap (λ n. record { replies = a.replies + b.replies; refused = a.refused + b.refused; unread = a.unread + b.unread; bytes = n }) (sym (length-append a.text b.text))
 
-state_next : {X : Type 0} (catalog : CatalogImage) (state : State) (image : X → Reading) (lines : List X) (i : ℕ) (x d : X) → i < length lines → x ≡ get_or lines i d
-    → state_there catalog state image lines (i + 1) ≡ state_after catalog (state_there catalog state image lines i) (image x)
-state_next catalog state image lines i x d low is =
-    ap (state_through catalog state) (one_more image lines i x d low is) ∙ through_more catalog state (map image (take i lines)) (image x)
+-- behind the next line
+pub walk_on : (catalog k : CatalogImage) (state now later : State) (script line : List ℕ) (from next number : ℕ) (a b c : Option (List ℕ)) (first looks more : ℕ) (reading : Reading)
+    → (walked : IsWalked catalog state script from number a b now first looks) → k ≡ catalog
+    → lines (drop from script) ≡ line ∷ lines (drop next script) → IsReading line reading
+    → Appends b c (line_told k now (number + 1) reading).text → later ≡ state_after k now reading → more ≤ looks + (line_told k now (number + 1) reading).looks
+    → (on : IsWalked catalog state script next (number + 1) a c later first more)
+    × ((counts one both : Counts) → counts ≡ counts_told (lines_told catalog state 1 walked.said) → one ≡ counts_told (line_told k now (number + 1) reading) → both ≡ counts_together counts one
+    → both ≡ counts_told (lines_told catalog state 1 on.said))
+walk_on catalog k state now later script line from next number a b c first looks more reading walked same cut is put after looked =
+    let here = told_on catalog k state now number walked.said reading walked.count same walked.leaves in
+    let on : IsWalked catalog state script next (number + 1) a c later first more = record {
+      texts = walked.texts ++ line ∷ [];
+      said = walked.said ++ reading ∷ [];
+      cut = walked.cut ∙ ap (λ rest. walked.texts ++ rest) cut ∙ sym (append_assoc walked.texts (line ∷ []) (lines (drop next script)));
+      reads = readings_more walked.texts walked.said line reading walked.reads is;
+      count = omega (arith, walked.count, length-append walked.said (reading ∷ []));
+      written = rw here (appends_more a b c (lines_told catalog state 1 walked.said).text (line_told k now (number + 1) reading).text walked.written put);
+      leaves = after ∙ rw (same, walked.leaves) (sym (through_more catalog state walked.said reading));
+      looked = omega (arith, looked, walked.looked, ap (λ (t : Told). t.looks) here);
+    } in
+    (on, λ counts one both e f g. g ∙ rw (e, f) (counts_on (lines_told catalog state 1 walked.said) (line_told k now (number + 1) reading)) ∙ ap counts_told (sym here))
 
--- the whole begins with what comes so far
-told_rest : {X : Type 0} (catalog : CatalogImage) (state : State) (image : X → Reading) (lines : List X) (i : ℕ)
-    → lines_told catalog state 1 (map image lines) ≡ followed_by (so_far catalog state image lines i) (lines_told catalog (state_there catalog state image lines i) (1 + length (map image (take i lines))) (map image (drop i lines)))
-told_rest catalog state image lines i =
-    ap (λ l. lines_told catalog state 1 (map image l)) (sym (take-append-drop i lines))
-    ∙ ap (lines_told catalog state 1) (map-append image (take i lines) (drop i lines))
-    ∙ told_append catalog state 1 (1 + length (map image (take i lines))) (map image (take i lines)) (map image (drop i lines)) refl
+-- the lines so far are the first of all
+all_told : (catalog : CatalogImage) (state : State) (texts behind : List (List ℕ)) (script : List ℕ) (done said : List Reading) → lines script ≡ texts ++ behind → AreReadings texts done → AreReadings (lines script) said
+    → (rest : Told) × (lines_told catalog state 1 said ≡ followed_by (lines_told catalog state 1 done) rest)
+all_told catalog state texts behind script done said cut reads all =
+    let more = rest_said texts behind done said reads (subst (λ (l : List (List ℕ)). AreReadings l said) cut all) in
+    (lines_told catalog (state_through catalog state done) (1 + length done) more.0, ap (lines_told catalog state 1) more.1 ∙ told_append catalog state 1 (1 + length done) done more.0 refl)
 
-pub told_all : {X : Type 0} (catalog : CatalogImage) (state : State) (image : X → Reading) (lines : List X) (i : ℕ) → length lines ≤ i → so_far catalog state image lines i ≡ lines_told catalog state 1 (map image lines)
-told_all catalog state image lines i all = ap (λ l. lines_told catalog state 1 (map image l)) (take_all i lines all)
+-- memory is wanting behind these lines
+pub walk_wants : (catalog : CatalogImage) (state now : State) (script : List ℕ) (from number : ℕ) (a b : Option (List ℕ)) (first looks : ℕ) → IsWalked catalog state script from number a b now first looks
+    → (said : List Reading) → AreReadings (lines script) said
+    → AppendsPart a b (lines_told catalog state 1 said).text × (looks ≤ first + (lines_told catalog state 1 said).looks)
+walk_wants catalog state now script from number a b first looks walked said all =
+    let rest = all_told catalog state walked.texts _ script walked.said said walked.cut walked.reads all in
+    (front_of a b (lines_told catalog state 1 walked.said).text rest.0.text _ walked.written (ap (λ (t : Told). t.text) rest.1), omega (arith, walked.looked, ap (λ (t : Told). t.looks) rest.1))
 
--- a line in the same state of the same book
-same_line : (k catalog : CatalogImage) (s state : State) (n : ℕ) (reading : Reading) → k ≡ catalog → s ≡ state → line_told k s n reading ≡ line_told catalog state n reading
-same_line k catalog s state n reading e f = rw (e, f) refl
+-- the writing stops in the next line
+pub walk_stops : (X Y : Type 0) (catalog k : CatalogImage) (state now : State) (script line : List ℕ) (from next number : ℕ) (a b c : Option (List ℕ)) (rose_here rose : Type 0) (first looks more : ℕ) (reading : Reading) (stop : Stop)
+    → IsWalked catalog state script from number a b now first looks → k ≡ catalog
+    → lines (drop from script) ≡ line ∷ lines (drop next script) → IsReading line reading → (rose_here → rose)
+    → PutsPieces {X = X} (line_told k now (number + 1) reading).text rose_here b c (Err stop) → more ≤ looks + (line_told k now (number + 1) reading).looks
+    → (said : List Reading) → AreReadings (lines script) said
+    → PutsPieces {X = Y} (lines_told catalog state 1 said).text rose a c (Err stop) × (more ≤ first + (lines_told catalog state 1 said).looks)
+walk_stops X Y catalog k state now script line from next number a b c rose_here rose first looks more reading stop walked same cut is wide put looked said all =
+    let here = told_on catalog k state now number walked.said reading walked.count same walked.leaves in
+    let cut : lines script ≡ (walked.texts ++ line ∷ []) ++ lines (drop next script) = walked.cut ∙ ap (λ rest. walked.texts ++ rest) cut ∙ sym (append_assoc walked.texts (line ∷ []) (lines (drop next script))) in
+    let rest = all_told catalog state (walked.texts ++ line ∷ []) _ script (walked.said ++ reading ∷ []) said cut (readings_more walked.texts walked.said line reading walked.reads is) all in
+    let whole = rest.1 ∙ ap (λ t. followed_by t rest.0) here in (
+      next_stops X Y a b c rose_here rose (lines_told catalog state 1 walked.said).text (line_told k now (number + 1) reading).text rest.0.text _ stop (ap (λ (t : Told). t.text) whole) wide walked.written put,
+      omega (arith, walked.looked, looked, ap (λ (t : Told). t.looks) whole),
+    )
 
--- what comes so far with the i-th line, which is answered in this state
-pub told_here : {X : Type 0} (catalog k : CatalogImage) (state s : State) (image : X → Reading) (lines : List X) (i n : ℕ) (x d : X) → i < length lines → x ≡ get_or lines i d → n ≡ i + 1
-    → k ≡ catalog → s ≡ state_there catalog state image lines i
-    → so_far catalog state image lines (i + 1) ≡ followed_by (so_far catalog state image lines i) (line_told k s n (image x))
-told_here catalog k state s image lines i n x d low is number e f =
-    told_next catalog state image lines i n x d low is number
-    ∙ ap (followed_by (so_far catalog state image lines i)) (sym (same_line k catalog s (state_there catalog state image lines i) n (image x) e f))
-
-pub state_here : {X : Type 0} (catalog k : CatalogImage) (state s after : State) (image : X → Reading) (lines : List X) (i : ℕ) (x d : X) → i < length lines → x ≡ get_or lines i d
-    → k ≡ catalog → s ≡ state_there catalog state image lines i → after ≡ state_after k s (image x) → after ≡ state_there catalog state image lines (i + 1)
-state_here catalog k state s after image lines i x d low is e f h =
-    h ∙ ap (λ c. state_after c s (image x)) e ∙ ap (λ t. state_after catalog t (image x)) f ∙ sym (state_next catalog state image lines i x d low is)
-
--- the same among all lines
-pub line_within : {X : Type 0} (catalog k : CatalogImage) (state s : State) (image : X → Reading) (lines : List X) (i n : ℕ) (x d : X) → i < length lines → x ≡ get_or lines i d → n ≡ i + 1
-    → k ≡ catalog → s ≡ state_there catalog state image lines i
-    → (rest : Told) × (lines_told catalog state 1 (map image lines) ≡ followed_by (followed_by (so_far catalog state image lines i) (line_told k s n (image x))) rest)
-line_within catalog k state s image lines i n x d low is number e f =
-    let rest : Told = lines_told catalog (state_there catalog state image lines (i + 1)) (1 + length (map image (take (i + 1) lines))) (map image (drop (i + 1) lines)) in
-    (rest, told_rest catalog state image lines (i + 1) ∙ ap (λ t. followed_by t rest) (told_here catalog k state s image lines i n x d low is number e f))
-
--- each line is counted at most once
-pub record IsFew (told : Told) (n : ℕ) : Type 0 where
-  pub replies : told.replies ≤ n
-  pub refused : told.refused ≤ n
-  pub unread : told.unread ≤ n
-
-at_most_one : (refused : Bool) → cond refused 1 0 ≤ 1
-at_most_one true = omega arith
-at_most_one false = omega arith
-
-line_few : (catalog : CatalogImage) (state : State) (n : ℕ) (reading : Reading) → IsFew (line_told catalog state n reading) 1
-line_few catalog state n Nothing = record { replies = omega arith; refused = omega arith; unread = omega arith }
-line_few catalog state n (Asks asked) = record { replies = omega arith; refused = at_most_one (is_refused (reply catalog state asked).0); unread = omega arith }
-line_few catalog state n (Unread at) = record { replies = omega arith; refused = omega arith; unread = omega arith }
-
-lines_few : (catalog : CatalogImage) (state : State) (n : ℕ) (readings : List Reading) → IsFew (lines_told catalog state n readings) (length readings)
-lines_few catalog state n [] = record { replies = omega arith; refused = omega arith; unread = omega arith }
-lines_few catalog state n (reading ∷ readings) =
-    let here = line_few catalog state n reading in
-    let more = lines_few catalog (state_after catalog state reading) (n + 1) readings in
-    record {
-      replies = omega (arith, here.replies, more.replies);
-      refused = omega (arith, here.refused, more.refused);
-      unread = omega (arith, here.unread, more.unread);
-    }
-
-pub few_here : {X : Type 0} (catalog k : CatalogImage) (state s : State) (image : X → Reading) (lines : List X) (i n : ℕ) (x d : X) → i < length lines → x ≡ get_or lines i d → n ≡ i + 1
-    → k ≡ catalog → s ≡ state_there catalog state image lines i
-    → IsFew (followed_by (so_far catalog state image lines i) (line_told k s n (image x))) (i + 1)
-few_here catalog k state s image lines i n x d low is number e f =
-    let all = lines_few catalog state 1 (map image (take (i + 1) lines)) in
-    let size : length (map image (take (i + 1) lines)) ≡ i + 1 = long image lines (i + 1) (omega (arith, low)) in
-    let here = told_here catalog k state s image lines i n x d low is number e f in
-    rw (here, size) at all
+-- behind the last line
+pub walk_ends : (catalog : CatalogImage) (state now : State) (script : List ℕ) (from number : ℕ) (a b : Option (List ℕ)) (first looks : ℕ) (counts : Counts) → Walks catalog state script from number a b now first looks counts → from ≡ length script
+    → (said : List Reading) → AreReadings (lines script) said
+    → Appends a b (lines_told catalog state 1 said).text × (counts ≡ counts_told (lines_told catalog state 1 said)) × (looks ≤ first + (lines_told catalog state 1 said).looks)
+walk_ends catalog state now script from number a b first looks counts (walked, counted) end said all =
+    let rest : lines (drop from script) ≡ [] = ap lines (drop_all from script (omega (arith, end))) in
+    let whole : lines script ≡ walked.texts = walked.cut ∙ ap (λ l. walked.texts ++ l) rest ∙ append-nil walked.texts in
+    let same : walked.said ≡ said = same_readings walked.reads (subst (λ (l : List (List ℕ)). AreReadings l said) whole all) in
+    subst (λ (s : List Reading). Appends a b (lines_told catalog state 1 s).text × (counts ≡ counts_told (lines_told catalog state 1 s)) × (looks ≤ first + (lines_told catalog state 1 s).looks)) same (walked.written, counted, walked.looked)

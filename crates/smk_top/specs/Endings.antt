@@ -4,7 +4,7 @@ use Rattle.smk_base.specs.declared.fault.Fault.{Fault}
 use Rattle.smk_model.specs.FaultTexts.{fault_text}
 use Rattle.smk_model.specs.Texts.{no_memory_text}
 use Rattle.smk_model.specs.Reports.{Report}
-use Rattle.smk_model.specs.Outcome.{Held, Inputs, IsReport, HasCause, reported as report_or_fault}
+use Rattle.smk_model.specs.Outcome.{Held, Inputs, IsReport, HasCause, written_of, reported as report_or_fault}
 use Rattle.smk_outside.specs.Outside.{IsPrefix, Appends, AppendsPart}
 use Rattle.smk_top.specs.declared.counts.Counts.{Counts}
 use Rattle.smk_top.specs.declared.stop.Stop.{Stop}
@@ -12,20 +12,20 @@ use Rattle.smk_top.specs.declared.stop.Stop.TheVariants.{At, Unwritten, Exhauste
 use Rattle.smk_top.specs.declared.status.Status.{Status}
 use Rattle.smk_top.specs.declared.status.Status.TheVariants.{WriteFault, NoMemory}
 use Rattle.smk_top.specs.Statuses.{status_of_report, status_of_fault}
-use Rattle.smk_top.specs.Writing.{counts_of}
+use Rattle.smk_top.specs.Counting.{counts_of}
 
--- nothing, or the front of a report of the run
+-- nothing, or the front of what the run writes of a report
 abbrev pub IsBegun : List (List ℕ) → Option Held → List ℕ → Type 0
-IsBegun words held part = (part ≡ []) ⊎ ((report : Report) × IsReport words held report × IsPrefix part report.text)
+IsBegun words held part = (part ≡ []) ⊎ ((report : Report) × IsReport words held report × IsPrefix part (written_of words report))
 
 -- the ending of a run of these words over these files, by whether the counts of faults of files, `out` and `err` rose in it
 pub data Ends (words : List (List ℕ)) (held : Option Held) (files_rose out_rose err_rose : Type 0) : Status → List ℕ → List ℕ → Type 0 where
-  -- the report is whole, and nothing is said
-  reported : (report : Report) → IsReport words held report → Ends words held files_rose out_rose err_rose (status_of_report report) report.text []
+  -- what is written of the report is whole, and nothing is said
+  reported : (report : Report) → IsReport words held report → Ends words held files_rose out_rose err_rose (status_of_report report) (written_of words report) []
   -- a fault is said, and nothing is reported
   faulted : (fault : Fault) → HasCause words held files_rose fault → Ends words held files_rose out_rose err_rose (status_of_fault fault) [] (fault_text fault)
-  -- `out` failed in the report
-  unwritten : (report : Report) (part : List ℕ) → IsReport words held report → IsPrefix part report.text → out_rose
+  -- `out` failed in it
+  unwritten : (report : Report) (part : List ℕ) → IsReport words held report → IsPrefix part (written_of words report) → out_rose
       → Ends words held files_rose out_rose err_rose WriteFault part []
   -- memory was wanting, and this is said
   exhausted : (part : List ℕ) → IsBegun words held part → Ends words held files_rose out_rose err_rose NoMemory part no_memory_text
@@ -43,17 +43,17 @@ RunEnds words held files_rose out_rose err_rose out_before out_after err_before 
 
 -- what the work of a run comes to, before anything is said: a report and its counts; or why it stops
 abbrev pub Works : List (List ℕ) → Option Held → Type 0 → Type 0 → Option (List ℕ) → Option (List ℕ) → Result Counts Stop → Type 0
-Works words held files_rose out_rose before after (Ok counts) = (report : Report) × IsReport words held report × Appends before after report.text × (counts ≡ counts_of report)
+Works words held files_rose out_rose before after (Ok counts) = (report : Report) × IsReport words held report × Appends before after (written_of words report) × (counts ≡ counts_of report)
 Works words held files_rose out_rose before after (Err (At fault)) = HasCause words held files_rose fault × Appends before after []
-Works words held files_rose out_rose before after (Err Unwritten) = (report : Report) × IsReport words held report × AppendsPart before after report.text × out_rose
+Works words held files_rose out_rose before after (Err Unwritten) = (report : Report) × IsReport words held report × AppendsPart before after (written_of words report) × out_rose
 Works words held files_rose out_rose before after (Err Exhausted) = (told : List ℕ) × Appends before after told × IsBegun words held told
 
--- the report of what was read, or the first fault of a view; nothing is written before all views are evaluated
-abbrev pub Reports : Inputs → Type 0 → Option (List ℕ) → Option (List ℕ) → Result Counts Stop → Type 0
-Reports inputs rose before after (Ok counts) = (report : Report) × (report_or_fault inputs ≡ Ok report) × Appends before after report.text × (counts ≡ counts_of report)
-Reports inputs rose before after (Err (At fault)) = (report_or_fault inputs ≡ Err fault) × Appends before after []
-Reports inputs rose before after (Err Unwritten) = (report : Report) × (report_or_fault inputs ≡ Ok report) × AppendsPart before after report.text × rose
-Reports inputs rose before after (Err Exhausted) = Appends before after [] ⊎ ((report : Report) × (report_or_fault inputs ≡ Ok report) × AppendsPart before after report.text)
+-- what is written of the report of what was read, or the first fault of a view; nothing is written before all views are evaluated
+abbrev pub Reports : (Report → List ℕ) → Inputs → Type 0 → Option (List ℕ) → Option (List ℕ) → Result Counts Stop → Type 0
+Reports writes inputs rose before after (Ok counts) = (report : Report) × (report_or_fault inputs ≡ Ok report) × Appends before after (writes report) × (counts ≡ counts_of report)
+Reports writes inputs rose before after (Err (At fault)) = (report_or_fault inputs ≡ Err fault) × Appends before after []
+Reports writes inputs rose before after (Err Unwritten) = (report : Report) × (report_or_fault inputs ≡ Ok report) × AppendsPart before after (writes report) × rose
+Reports writes inputs rose before after (Err Exhausted) = Appends before after [] ⊎ ((report : Report) × (report_or_fault inputs ≡ Ok report) × AppendsPart before after (writes report))
 
 -- it is said that memory was wanting, or a part of that where `err` failed
 abbrev pub SaysMemory : Type 0 → Option (List ℕ) → Option (List ℕ) → Status → Type 0

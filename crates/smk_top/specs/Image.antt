@@ -1,11 +1,13 @@
--- Words, lines and books as the definitions see them.
+-- Words and lines as the definitions see them.
 use Rattle.smk_model.specs.Readings as readings
-use Rattle.smk_model.specs.Words.{Invocation, Files}
+use Rattle.smk_model.specs.Words.{Invocation}
 use Rattle.smk_model.specs.Words as calls
 use Rattle.smk_session.specs.declared.mode.Mode.{Mode}
 use Rattle.smk_session.specs.declared.mode.Mode.TheVariants.{Inject, Defer}
 use Rattle.smk_top.specs.declared.settings.Settings.{Settings}
-use Rattle.smk_top.specs.declared.words.RunWords.{RunWords}
+use Rattle.smk_top.specs.declared.called.RunTexts.{RunTexts}
+use Rattle.smk_top.specs.declared.called.RunTexts.TheVariants.{Files, Demo}
+use Rattle.smk_top.specs.declared.called.RunWords.{RunWords}
 use Rattle.smk_top.specs.declared.script.Reading.{Reading}
 use Rattle.smk_top.specs.declared.script.Reading.TheVariants.{Nothing, Asks, Unread}
 
@@ -16,12 +18,13 @@ mode_image Defer = calls.Defer
 abbrev pub settings_image : Settings → calls.Settings
 settings_image settings = record { mode = mode_image settings.mode }
 
-abbrev pub words_image : RunWords → calls.Words
-words_image words = Files words.book words.script
+abbrev pub texts_image : RunTexts → calls.Words
+texts_image (Files book script) = calls.Files book script
+texts_image (Demo flights) = calls.Demo flights.count
 
 -- what a run is called for
 abbrev pub invocation_image : RunWords → Invocation
-invocation_image words = record { settings = settings_image words.settings; texts = words_image words }
+invocation_image words = record { settings = settings_image words.settings; texts = texts_image words.texts }
 
 -- what a line says
 abbrev pub reading_image : Reading → readings.Reading

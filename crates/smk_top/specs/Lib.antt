@@ -5,4 +5,5 @@ pub mod Statuses
 pub mod Endings
 pub mod Reading
 pub mod Writing
+pub mod Counting
 pub mod Completeness

@@ -1,9 +1,17 @@
 -- What a run reads, as the definitions see it.
-use Rattle.std.specs.Prelude.{map}
+use Rattle.std.specs.Prelude.{ℕ, List}
 use Rattle.smk_model.specs.Outcome as outcomes
+use Rattle.smk_model.specs.Readings.{Reading}
+use Rattle.smk_model.specs.Session.{Workbook}
 use Rattle.smk_session.specs.Sessions.{workbook_image}
 use Rattle.smk_top.specs.declared.inputs.Inputs.{Inputs}
-use Rattle.smk_top.specs.Image.{reading_image}
 
-abbrev pub inputs_image : Inputs → outcomes.Inputs
-inputs_image inputs = record { book = workbook_image inputs.book inputs.tables.items; readings = map reading_image inputs.readings.items }
+abbrev pub workbook_read : Inputs → Workbook
+workbook_read inputs = workbook_image inputs.book inputs.tables.items
+
+abbrev pub script_bytes : Inputs → List ℕ
+script_bytes inputs = inputs.script.items
+
+-- with what the lines of the script say
+abbrev pub inputs_with : Inputs → List Reading → outcomes.Inputs
+inputs_with inputs said = record { book = workbook_read inputs; readings = said }

@@ -26,7 +26,6 @@ abbrev pub status_of_fault : Fault → Status
 status_of_fault faults.Usage = Usage
 status_of_fault (faults.Book fault) = BadBook
 status_of_fault (faults.Types fault) = BadBook
-status_of_fault (faults.Form file) = BadBook
 status_of_fault (faults.Table table column fault) = BadTable
 status_of_fault (faults.FileLong file) = Limit
 status_of_fault (faults.TableRows table) = Limit

@@ -1,8 +1,6 @@
--- What the steps of reporting say of what was written and counted.
+-- What the steps of reporting say of what was written.
 use Rattle.std.specs.Prelude.{ℕ, List, Option, Result, Ok, Err}
-use Rattle.smk_model.specs.Reports.{Told, Report}
 use Rattle.smk_outside.specs.Outside.{Appends, AppendsPart}
-use Rattle.smk_top.specs.declared.counts.Counts.{Counts}
 use Rattle.smk_top.specs.declared.stop.Stop.{Stop}
 use Rattle.smk_top.specs.declared.stop.Stop.TheVariants.{At, Unwritten, Exhausted}
 
@@ -19,10 +17,3 @@ PutsPieces text rose before after (Ok x) = Appends before after text
 PutsPieces text rose before after (Err (At fault)) = ⊥
 PutsPieces text rose before after (Err Unwritten) = AppendsPart before after text × rose
 PutsPieces text rose before after (Err Exhausted) = AppendsPart before after text
-
--- the counts of what lines come to, and of a report
-abbrev pub counts_told : Told → Counts
-counts_told told = record { replies = told.replies; refused = told.refused; unread = told.unread }
-
-abbrev pub counts_of : Report → Counts
-counts_of report = record { replies = report.replies; refused = report.refused; unread = report.unread }

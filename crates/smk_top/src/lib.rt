@@ -1,12 +1,15 @@
 //! The top call of Smoke: a run, from its words to its report.
 #![tactic(auto)]
 
+mod called;
+mod counting;
 mod counts;
+mod demo_texts;
 mod files;
-mod forms;
 mod inputs;
 mod laws;
 mod loading;
+mod nowhere;
 mod opening;
 mod program;
 mod reading;
@@ -16,6 +19,7 @@ mod settings;
 mod starting;
 mod status;
 mod stop;
+mod summarizing;
 mod words;
 
 pub use laws::completeness;

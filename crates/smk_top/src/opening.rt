@@ -10,7 +10,6 @@ ghost use Rattle.smk_outside.specs.Outside.{Rose};
 ghost use Rattle.smk_top.specs.Reading.{Answers, Reads, IsSayable};
 
 use crate::files::content;
-use crate::forms::is_book_answered;
 use crate::stop::Stop;
 use smk_base::{Book, BookFault, Fault, Text, TypeFault, without_mark};
 use smk_outside::Files;
@@ -33,31 +32,25 @@ fn parsed(alloc: Global, text: &[u8]) -> Result<Book, Stop>
 }
 
 // The checked book of statements.
-fn checked(alloc: Global, name: &Text, book: Book) -> Result<TypedBook, Stop>
+fn checked(alloc: Global, book: Book) -> Result<TypedBook, Stop>
     requires { KeepsLimits (book_image book) }
-    ensures answers { Answers (λ answer. outcomes.answered_book name.now (types (book_image book)) ≡ answer) catalog_image result }
+    ensures answers { Answers (λ answer. outcomes.or_type_fault (types (book_image book)) ≡ answer) catalog_image result }
     ensures said { IsSayable result }
 {
     match check(alloc, book) {
-        Ok(typed) => {
-            if is_book_answered(typed.catalog()) {
-                return Ok(typed);
-            }
-            let file = name.copy(alloc)?;
-            Err(Stop::At(Fault::Form { file }))
-        }
+        Ok(typed) => Ok(typed),
         Err(TypeFault::NoMemory) => Err(Stop::Exhausted),
         Err(fault) => Err(Stop::At(Fault::Types(fault))),
     }
 }
 
 // The checked book of the bytes of a file.
-fn book_of(alloc: Global, name: &Text, bytes: &[u8]) -> Result<TypedBook, Stop>
-    ensures answers { Answers (outcomes.BookSays name.now bytes.now) catalog_image result }
+fn book_of(alloc: Global, bytes: &[u8]) -> Result<TypedBook, Stop>
+    ensures answers { Answers (outcomes.BookSays bytes.now) catalog_image result }
     ensures said { IsSayable result }
 {
     let book = parsed(alloc, without_mark(bytes))?;
-    checked(alloc, name, book)
+    checked(alloc, book)
 }
 
 /// The checked book of a file.
@@ -69,5 +62,5 @@ pub fn open_book<F: Files>(alloc: Global, files: &mut F, name: &Text) -> Result<
     ensures later { F.faults files.old ≤ F.faults files.new }
 {
     let bytes = content(alloc, files, name)?;
-    book_of(alloc, name, bytes.as_slice())
+    book_of(alloc, bytes.as_slice())
 }

@@ -1,21 +1,26 @@
-ghost use Rattle.std.specs.Prelude.{◌≡◌, ◌≤◌, ◌+◌, map};
+ghost use Rattle.std.specs.Prelude.{◌≡◌, ◌≤◌, ◌+◌, List, map};
 ghost use Rattle.smk_model.specs.FaultTexts.{IsSaid};
-ghost use Rattle.smk_outside.specs.Outside.{Rose};
-ghost use Rattle.smk_model.specs.Reports.{Report};
-ghost use Rattle.smk_top.specs.Statuses.{status_of_fault, status_of_report};
-ghost use Rattle.smk_top.specs.Writing.{counts_of};
-ghost use Rattle.smk_top.specs.Endings.{RunEnds, Works, Reports, SaysFault, SaysMemory};
-ghost use Rattle.smk_top.specs.Loaded.{inputs_image};
-ghost use Rattle.smk_top.specs.Reading.{AreAnswered, IsSayable, RunLooks};
 ghost use Rattle.smk_model.specs.Outcome.{run_looks};
+ghost use Rattle.smk_model.specs.Readings.{Reading, AreReadingsOf};
+ghost use Rattle.smk_model.specs.Reports.{Report};
+ghost use Rattle.smk_outside.specs.Outside.{Rose};
+ghost use Rattle.smk_top.specs.Counting.{counts_of};
+ghost use Rattle.smk_top.specs.Endings.{RunEnds, Works, Reports, SaysFault, SaysMemory};
+ghost use Rattle.smk_top.specs.Loaded.{inputs_with};
+ghost use Rattle.smk_top.specs.Reading.{IsSayable, RunLooks};
+ghost use Rattle.smk_top.specs.Statuses.{status_of_fault, status_of_report};
 
+use crate::called::RunTexts;
 use crate::counts::Counts;
 use crate::inputs::Inputs;
 use crate::reading::read_all;
 use crate::reporting::write_report;
+use crate::settings::Settings;
 use crate::starting::start;
 use crate::status::Status;
 use crate::stop::Stop;
+use crate::summarizing::{read_demo, summarize};
+use crate::words::read_words;
 use smk_base::Fault;
 use smk_outside::{Files, Gate, Sink, Steps};
 use smk_report::{fault_text, no_memory_text};
@@ -29,7 +34,7 @@ fn status_of(fault: &Fault) -> Status
 {
     match fault {
         Fault::Usage => Status::Usage,
-        Fault::Book(_) | Fault::Types(_) | Fault::Form { .. } => Status::BadBook,
+        Fault::Book(_) | Fault::Types(_) => Status::BadBook,
         Fault::Table { .. } => Status::BadTable,
         Fault::FileLong { .. } | Fault::TableRows { .. } => Status::Limit,
         Fault::ViewRows { .. } | Fault::ViewPairs { .. } => Status::Limit,
@@ -78,36 +83,29 @@ fn say_fault<E: Sink>(alloc: Global, fault: &Fault, err: &mut E) -> Status
 fn report<R: Threads + Sync, G: Gate + Sync, O: Sink, L: Ledger>(
     rt: &R,
     alloc: Global,
+    settings: Settings,
     inputs: Inputs,
     gate: &G,
     out: &mut O,
     steps: &mut Steps<L>,
 ) -> Result<Counts, Stop>
-    requires { AreAnswered (inputs_image inputs).readings }
-    ensures works { Reports (inputs_image inputs) (Rose (O.faults out.old) (O.faults out.new)) (O.written out.old) (O.written out.new) result }
+    ensures works { (said : List Reading) → AreReadingsOf inputs.script.items said
+        → Reports (λ report. report.text) (inputs_with inputs said) (Rose (O.faults out.old) (O.faults out.new)) (O.written out.old) (O.written out.new) result }
     ensures said { IsSayable result }
     ensures out_later { O.faults out.old ≤ O.faults out.new }
-    ensures looks { steps.new ≤ steps.old + run_looks (inputs_image inputs) }
+    ensures looks { (said : List Reading) → AreReadingsOf inputs.script.items said → steps.new ≤ steps.old + run_looks (inputs_with inputs said) }
 {
     let Inputs {
-        settings,
         book,
         tables,
-        readings,
+        script,
     } = inputs;
     let mut session = start(rt, alloc, book, tables, settings, gate, steps)?;
-    write_report(
-        rt,
-        alloc,
-        &mut session,
-        readings.as_slice(),
-        gate,
-        out,
-        steps,
-    )
+    let script = script.as_slice();
+    write_report(rt, alloc, &mut session, script, gate, out, steps)
 }
 
-// Reads what the words name, and writes the report. It tells the counts of its lines.
+// Reads what the words name, and writes the report, or a demo's summary. It tells the counts of the report's lines.
 fn work<R: Threads + Sync, F: Files, O: Sink, G: Gate + Sync, L: Ledger>(
     rt: &R,
     alloc: Global,
@@ -124,20 +122,31 @@ fn work<R: Threads + Sync, F: Files, O: Sink, G: Gate + Sync, L: Ledger>(
     ensures out_later { O.faults out.old ≤ O.faults out.new }
     ensures looks { RunLooks (map (λ w. w.now) words.entry.now) (F.held files.old) steps.old steps.new }
 {
-    let inputs = read_all(alloc, words, files)?;
-    report(rt, alloc, inputs, gate, out, steps)
+    let Some(call) = read_words(alloc, words)? else {
+        return Err(Stop::At(Fault::Usage));
+    };
+    match &call.texts {
+        RunTexts::Files { book, script } => {
+            let inputs = read_all(alloc, files, book, script.as_ref())?;
+            report(rt, alloc, call.settings, inputs, gate, out, steps)
+        }
+        RunTexts::Demo(flights) => {
+            let inputs = read_demo(alloc, *flights)?;
+            summarize(rt, alloc, *flights, call.settings, inputs, gate, out, steps)
+        }
+    }
 }
 
-/// A run of Smoke. Its `words` are those after the program's name: a book's file name, and a script's where there is one; and `--mode`, which
-/// says when lineage is made and changes nothing of what is written.
+/// A run of Smoke. Its `words` are those after the program's name: a book's file name, and a script's where there is one, or `--demo` with a
+/// number of flights; and `--mode`, which says when lineage is made and changes nothing of what is written.
 ///
 /// It reads the book, the book's tables and the script from `files`, evaluates the views, and writes to `out` the text of each view and then
-/// of the reply to each line of the script; where there is a fault, it writes nothing to `out` and one line to `err`. How it may end is
-/// `RunEnds`: what is written is the report of the words and of what the files hold, in which each view is its plan's plain meaning, each
-/// declared backward and forward answer is what the annotated meaning relates, exactly the undeclared queries are refused as undeclared, and
-/// a view that a brush is linked to is its plan's plain meaning over the rows that the brushes in force select for it. Books that declare a
-/// backward query with `by` or `group`, and scripts that ask one with `where` or `group`, are refused by their form. Any other ending has its
-/// cause. Only want of memory has none. `completeness` says when the report is whole.
+/// of the reply to each line of the script; where there is a fault, it writes nothing to `out` and one line to `err`. With `--demo` no file is
+/// read: texts that it makes stand in their place, and of the report a summary is written. How it may end is `RunEnds`: what is written is the
+/// report of the words and of what the files hold, in which each view is its plan's plain meaning, each declared backward and forward answer
+/// is what the annotated meaning relates, exactly the undeclared queries are refused as undeclared, and a view that a brush is linked to is
+/// its plan's plain meaning over the rows that the brushes in force select for it. Any other ending has its cause. Only want of memory has
+/// none. `completeness` says when the report is whole.
 pub fn run<R: Threads + Sync, F: Files, O: Sink, E: Sink, G: Gate + Sync, L: Ledger>(
     rt: &R,
     alloc: Global,

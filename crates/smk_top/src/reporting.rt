@@ -1,29 +1,33 @@
 // The report of a run, text by text.
-ghost use Rattle.std.specs.Prelude.{◌≡◌, ◌≤◌, ◌<◌, ◌+◌, [], length, map, IfOk, IsTrue};
+ghost use Rattle.std.specs.Prelude.{◌≡◌, ◌≤◌, ◌<◌, ◌+◌, [], length, List, IfOk};
 ghost use Rattle.smk_base.specs.CatalogImage.{catalog_image};
-ghost use Rattle.smk_model.specs.Forms.{is_line_answered, is_reading_answered};
+ghost use Rattle.smk_base.specs.Marks.{after_marks};
+ghost use Rattle.smk_model.specs.Lines.{lines};
 ghost use Rattle.smk_model.specs.Readings as readings;
+ghost use Rattle.smk_model.specs.Readings.{AreReadings, AreReadingsOf};
 ghost use Rattle.smk_model.specs.Reports as reports;
 ghost use Rattle.smk_model.specs.Session.{view_at};
 ghost use Rattle.smk_outside.specs.Outside.{Rose};
 ghost use Rattle.smk_session.specs.Sessions.{state_of, workbook_of};
 ghost use Rattle.smk_top.specs.Image.{reading_image};
-ghost use Rattle.smk_top.specs.Reading.{AreAnswered};
-ghost use Rattle.smk_top.specs.Writing.{Puts, PutsPieces, counts_told, counts_of};
+ghost use Rattle.smk_top.specs.Counting.{counts_told, counts_of, text_counted};
+ghost use Rattle.smk_top.specs.Writing.{Puts, PutsPieces};
 
+use crate::counting::{NOTHING, together};
 use crate::counts::Counts;
-use crate::script::Reading;
+use crate::script::{Reading, reading_of};
 use crate::stop::Stop;
-use smk_base::Line;
+use smk_base::{Line, without_mark};
 use smk_outside::{Gate, Sink, Steps};
+use smk_parse::line_at;
 use smk_report::{bad_line_text, reply_text, view_text};
 use smk_session::{Session, has_refused};
 use std::alloc::{AllocError, Global};
 use std::sync::ledger::Ledger;
 use std::thread::Threads;
 
-// Writes a text.
-fn put<O: Sink>(out: &mut O, text: &[u8]) -> Result<(), Stop>
+/// Writes a text.
+pub fn put<O: Sink>(out: &mut O, text: &[u8]) -> Result<(), Stop>
     ensures text { Puts text.now (Rose (O.faults out.old) (O.faults out.new)) (O.written out.old) (O.written out.new) result }
     ensures later { O.faults out.old ≤ O.faults out.new }
 {
@@ -42,17 +46,27 @@ fn text_of_view(alloc: Global, session: &Session, number: u32) -> Result<Vec<u8>
     view_text(alloc, &view.name, &view.names, session.first(number))
 }
 
-// Writes the texts of all views, in the book's order.
-fn write_views<O: Sink>(alloc: Global, session: &Session, out: &mut O) -> Result<(), Stop>
+// Writes the texts of all views, in the book's order, and counts their bytes.
+fn write_views<O: Sink>(alloc: Global, session: &Session, out: &mut O) -> Result<Counts, Stop>
     ensures written { PutsPieces (reports.views_text (workbook_of session.now))
         (Rose (O.faults out.old) (O.faults out.new)) (O.written out.old) (O.written out.new) result }
+    ensures counts { IfOk result (λ counts. counts ≡ text_counted (reports.views_text (workbook_of session.now))) }
     ensures later { O.faults out.old ≤ O.faults out.new }
 {
+    let mut counts = NOTHING;
     for number in 0..session.catalog().views.as_slice().len() as u32 {
         let text = text_of_view(alloc, session, number)?;
+        let more = together(
+            counts,
+            Counts {
+                bytes: text.len() as u64,
+                ..NOTHING
+            },
+        )?;
         put(out, text.as_slice())?;
+        counts = more;
     }
-    Ok(())
+    Ok(counts)
 }
 
 // Writes the text of the reply to a line.
@@ -65,7 +79,6 @@ fn write_reply<R: Threads + Sync, G: Gate + Sync, O: Sink, L: Ledger>(
     out: &mut O,
     steps: &mut Steps<L>,
 ) -> Result<Counts, Stop>
-    requires { IsTrue (is_line_answered line.now) }
     ensures written { PutsPieces (reports.line_told (catalog_image session.old.catalog) (state_of session.old) 0 (readings.Asks line.now)).text
         (Rose (O.faults out.old) (O.faults out.new)) (O.written out.old) (O.written out.new) result }
     ensures counts { IfOk result (λ counts. counts ≡ counts_told (reports.line_told (catalog_image session.old.catalog) (state_of session.old) 0 (readings.Asks line.now))) }
@@ -81,6 +94,7 @@ fn write_reply<R: Threads + Sync, G: Gate + Sync, O: Sink, L: Ledger>(
         replies: 1,
         refused: if has_refused(&reply) { 1 } else { 0 },
         unread: 0,
+        bytes: text.len() as u64,
     })
 }
 
@@ -95,7 +109,6 @@ fn write_line<R: Threads + Sync, G: Gate + Sync, O: Sink, L: Ledger>(
     out: &mut O,
     steps: &mut Steps<L>,
 ) -> Result<Counts, Stop>
-    requires { IsTrue (is_reading_answered (reading_image reading.now)) }
     ensures written { PutsPieces (reports.line_told (catalog_image session.old.catalog) (state_of session.old) number (reading_image reading.now)).text
         (Rose (O.faults out.old) (O.faults out.new)) (O.written out.old) (O.written out.new) result }
     ensures counts { IfOk result (λ counts. counts ≡ counts_told (reports.line_told (catalog_image session.old.catalog) (state_of session.old) number (reading_image reading.now))) }
@@ -105,77 +118,69 @@ fn write_line<R: Threads + Sync, G: Gate + Sync, O: Sink, L: Ledger>(
     ensures looks { steps.new ≤ steps.old + (reports.line_told (catalog_image session.old.catalog) (state_of session.old) number (reading_image reading.now)).looks }
 {
     match reading {
-        Reading::Nothing => Ok(Counts {
-            replies: 0,
-            refused: 0,
-            unread: 0,
-        }),
+        Reading::Nothing => Ok(NOTHING),
         Reading::Asks(line) => write_reply(rt, alloc, session, line, gate, out, steps),
         Reading::Unread(at) => {
             let text = bad_line_text(alloc, number, *at)?;
             put(out, text.as_slice())?;
             Ok(Counts {
-                replies: 0,
-                refused: 0,
                 unread: 1,
+                bytes: text.len() as u64,
+                ..NOTHING
             })
         }
     }
 }
 
-// Writes the texts of the lines, in order, and counts them.
+// Writes the texts of the lines of a script, each before the next line is read, and counts them.
 fn write_lines<R: Threads + Sync, G: Gate + Sync, O: Sink, L: Ledger>(
     rt: &R,
     alloc: Global,
     session: &mut Session,
-    readings: &[Reading],
+    script: &[u8],
     gate: &G,
     out: &mut O,
     steps: &mut Steps<L>,
 ) -> Result<Counts, Stop>
-    requires { AreAnswered (map reading_image readings.now) }
-    ensures written { PutsPieces (reports.lines_told (catalog_image session.old.catalog) (state_of session.old) 1 (map reading_image readings.now)).text
+    ensures written { (said : List readings.Reading) → AreReadings (lines script.now) said → PutsPieces (reports.lines_told (catalog_image session.old.catalog) (state_of session.old) 1 said).text
         (Rose (O.faults out.old) (O.faults out.new)) (O.written out.old) (O.written out.new) result }
-    ensures counts { IfOk result (λ counts. counts ≡ counts_told (reports.lines_told (catalog_image session.old.catalog) (state_of session.old) 1 (map reading_image readings.now))) }
+    ensures counts { (said : List readings.Reading) → AreReadings (lines script.now) said → IfOk result (λ counts. counts ≡ counts_told (reports.lines_told (catalog_image session.old.catalog) (state_of session.old) 1 said)) }
     ensures later { O.faults out.old ≤ O.faults out.new }
-    ensures looks { steps.new ≤ steps.old + (reports.lines_told (catalog_image session.old.catalog) (state_of session.old) 1 (map reading_image readings.now)).looks }
+    ensures looks { (said : List readings.Reading) → AreReadings (lines script.now) said → steps.new ≤ steps.old + (reports.lines_told (catalog_image session.old.catalog) (state_of session.old) 1 said).looks }
 {
-    let mut counts = Counts {
-        replies: 0,
-        refused: 0,
-        unread: 0,
-    };
+    let mut counts = NOTHING;
     let mut number = 0;
-    for reading in readings {
+    let mut from = 0;
+    while let Some(span) = line_at(script, from) {
         number += 1;
-        let line = write_line(rt, alloc, session, number, reading, gate, out, steps)?;
-        counts = Counts {
-            replies: counts.replies + line.replies,
-            refused: counts.refused + line.refused,
-            unread: counts.unread + line.unread,
-        };
+        let reading = reading_of(alloc, &script[span.start..span.end])?;
+        let line = write_line(rt, alloc, session, number, &reading, gate, out, steps)?;
+        // Only what the next line says is kept beside it.
+        drop(reading);
+        from = span.next;
+        counts = together(counts, line)?;
     }
     Ok(counts)
 }
 
-/// Writes the report of a session that begins: the texts of the views, then those of the lines, each before the next line is answered. It tells what it counted.
+/// Writes the report of a session that begins: the texts of the views, then those of the lines of a script, each before the next line is read. It tells what it counted.
 pub fn write_report<R: Threads + Sync, G: Gate + Sync, O: Sink, L: Ledger>(
     rt: &R,
     alloc: Global,
     session: &mut Session,
-    readings: &[Reading],
+    script: &[u8],
     gate: &G,
     out: &mut O,
     steps: &mut Steps<L>,
 ) -> Result<Counts, Stop>
-    requires answered { AreAnswered (map reading_image readings.now) }
-    requires begun { session.old.brushes ≡ [] }
-    ensures written { PutsPieces (reports.report_of (workbook_of session.old) (map reading_image readings.now)).text
+    requires { session.old.brushes ≡ [] }
+    ensures written { (said : List readings.Reading) → AreReadingsOf script.now said → PutsPieces (reports.report_of (workbook_of session.old) said).text
         (Rose (O.faults out.old) (O.faults out.new)) (O.written out.old) (O.written out.new) result }
-    ensures counts { IfOk result (λ counts. counts ≡ counts_of (reports.report_of (workbook_of session.old) (map reading_image readings.now))) }
+    ensures counts { (said : List readings.Reading) → AreReadingsOf script.now said → IfOk result (λ counts. counts ≡ counts_of (reports.report_of (workbook_of session.old) said)) }
     ensures later { O.faults out.old ≤ O.faults out.new }
-    ensures looks { steps.new ≤ steps.old + (reports.script_told (workbook_of session.old) (map reading_image readings.now)).looks }
+    ensures looks { (said : List readings.Reading) → AreReadingsOf script.now said → steps.new ≤ steps.old + (reports.script_told (workbook_of session.old) said).looks }
 {
-    write_views(alloc, session, out)?;
-    write_lines(rt, alloc, session, readings, gate, out, steps)
+    let views = write_views(alloc, session, out)?;
+    let lines = write_lines(rt, alloc, session, without_mark(script), gate, out, steps)?;
+    together(views, lines)
 }

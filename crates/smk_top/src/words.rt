@@ -2,31 +2,38 @@
 ghost use Rattle.std.specs.Prelude.{◌≡◌, IfOk, false, map};
 ghost use Rattle.std.specs.Option.{option_map};
 ghost use Rattle.clap.specs.Words.{app_of, rule_of, new_rule};
-ghost use Rattle.smk_model.specs.Words.{invocation_in, invocation_of, mode_named, mode_rule, settings_in, smoke_app};
-ghost use Rattle.smk_top.specs.Image.{invocation_image, mode_image, settings_image};
+ghost use Rattle.smk_model.specs.Words as calls;
+ghost use Rattle.smk_top.specs.Image.{invocation_image, mode_image, settings_image, texts_image};
 ghost use Rattle.smk_top.specs.WordsTaken.{MatchesOf, values_of};
 
+use crate::called::{Flights, RunTexts, RunWords};
 use crate::settings::Settings;
+use clap::builder::ValueParser;
 use clap::error::ErrorKind;
 use clap::{Arg, ArgMatches, Command};
-use smk_base::Text;
+use smk_base::{Text, read_int};
 use smk_session::Mode;
 use std::alloc::{AllocError, Global};
 
-/// What a run is called for: how it works, the book's file, and the script's.
-#[derive(Drop)]
-pub struct RunWords {
-    pub settings: Settings,
-    pub book: Text,
-    pub script: Option<Text>,
-}
+// The most flights that a demo may have.
+const MOST_FLIGHTS: i64 = 200_000;
 
 // The option `--mode`.
 fn mode_arg<'a>(alloc: Global) -> Arg<'a>
-    ensures rule { rule_of result ≡ mode_rule }
+    ensures rule { rule_of result ≡ calls.mode_rule }
     ensures local { result.global ≡ false }
 {
     Arg::new(alloc, "mode").long("mode").default_value("inject")
+}
+
+// The option `--demo`.
+fn demo_arg<'a>(alloc: Global) -> Arg<'a>
+    ensures rule { rule_of result ≡ calls.demo_rule }
+    ensures local { result.global ≡ false }
+{
+    Arg::new(alloc, "demo")
+        .long("demo")
+        .value_parser(ValueParser::Signed(1, MOST_FLIGHTS))
 }
 
 // A place of this name.
@@ -39,11 +46,12 @@ fn place_arg<'a>(alloc: Global, name: &'a str) -> Arg<'a>
 
 // The command of a run: its options, and then its places.
 fn smoke_command<'a>(alloc: Global) -> Result<Command<'a>, AllocError>
-    ensures { IfOk result (λ command. app_of command ≡ smoke_app) }
+    ensures { IfOk result (λ command. app_of command ≡ calls.smoke_app) }
 {
     let plain = Command::new(alloc, "smoke").no_binary_name(true);
     let with_mode = plain.arg(mode_arg(alloc))?;
-    let with_book = with_mode.arg(place_arg(alloc, "book"))?;
+    let with_demo = with_mode.arg(demo_arg(alloc))?;
+    let with_book = with_demo.arg(place_arg(alloc, "book"))?;
     let with_script = with_book.arg(place_arg(alloc, "script"))?;
     Ok(with_script)
 }
@@ -63,7 +71,7 @@ fn matches_in<'a>(alloc: Global, words: &'a [&'a str]) -> Result<Option<ArgMatch
 
 // The mode of a name.
 fn mode_of(name: &str) -> Option<Mode>
-    ensures { option_map mode_image result ≡ mode_named name.now }
+    ensures { option_map mode_image result ≡ calls.mode_named name.now }
 {
     match name {
         "inject" => Some(Mode::Inject),
@@ -74,7 +82,7 @@ fn mode_of(name: &str) -> Option<Mode>
 
 // The settings, unless the mode isn't known.
 fn settings_of(matches: &ArgMatches<'_>) -> Option<Settings>
-    ensures { option_map settings_image result ≡ settings_in (values_of matches.now) }
+    ensures { option_map settings_image result ≡ calls.settings_in (values_of matches.now) }
 {
     let mode = mode_of(matches.get_str("mode")?)?;
     Some(Settings { mode })
@@ -97,26 +105,51 @@ fn text_if_any(alloc: Global, word: Option<&str>) -> Result<Option<Text>, AllocE
     }
 }
 
-// What matches call a run for, unless the mode isn't known or the book is missing.
+// The demo of a number of flights, unless there may not be so many.
+fn demo_sized(number: i64) -> Option<RunTexts>
+    ensures { option_map texts_image result ≡ calls.demo_sized number }
+{
+    if number < 1 || number > MOST_FLIGHTS {
+        return None;
+    }
+    Some(RunTexts::Demo(Flights {
+        count: number as u32,
+    }))
+}
+
+// The texts that matches ask for, those of a demo or those of files, unless none or both are given.
+fn texts_in(alloc: Global, matches: &ArgMatches<'_>) -> Result<Option<RunTexts>, AllocError>
+    ensures { IfOk result (λ found. option_map texts_image found ≡ calls.texts_in (values_of matches.now)) }
+{
+    match (matches.get_str("demo"), matches.get_str("book")) {
+        (None, Some(book)) => Ok(Some(RunTexts::Files {
+            book: text_of(alloc, book)?,
+            script: text_if_any(alloc, matches.get_str("script"))?,
+        })),
+        (Some(number), None) => Ok(match read_int(number.as_bytes()) {
+            Some(number) => demo_sized(number),
+            None => None,
+        }),
+        _ => Ok(None),
+    }
+}
+
+// What matches call a run for, unless the mode isn't known or the texts aren't said.
 fn called_for(alloc: Global, matches: &ArgMatches<'_>) -> Result<Option<RunWords>, AllocError>
-    ensures { IfOk result (λ found. option_map invocation_image found ≡ invocation_in (values_of matches.now)) }
+    ensures { IfOk result (λ found. option_map invocation_image found ≡ calls.invocation_in (values_of matches.now)) }
 {
     let Some(settings) = settings_of(matches) else {
         return Ok(None);
     };
-    let Some(book) = matches.get_str("book") else {
-        return Ok(None);
-    };
-    Ok(Some(RunWords {
-        settings,
-        book: text_of(alloc, book)?,
-        script: text_if_any(alloc, matches.get_str("script"))?,
-    }))
+    match texts_in(alloc, matches)? {
+        Some(texts) => Ok(Some(RunWords { settings, texts })),
+        None => Ok(None),
+    }
 }
 
 /// What the words of a run call it for, or none where they are not those of a run.
 pub fn read_words(alloc: Global, words: &[&str]) -> Result<Option<RunWords>, AllocError>
-    ensures { IfOk result (λ found. option_map invocation_image found ≡ invocation_of (map (λ w. w.now) words.entry.now)) }
+    ensures { IfOk result (λ found. option_map invocation_image found ≡ calls.invocation_of (map (λ w. w.now) words.entry.now)) }
 {
     match matches_in(alloc, words)? {
         Some(matches) => called_for(alloc, &matches),

@@ -9,8 +9,8 @@ use Rattle.smk_top.proofs.opening.open_book.Goals as goal
 pub returns-in_err-bytes-clause-read : goal.returns-in_err-bytes-clause-read
 returns-in_err-bytes-clause-read g c =
     let p = err_from_is_err_and c.from_residual.result c.from_residual.ensures.1 in
-    rw (p.1, p.2) (says_stop catalog_image (λ (bytes : Vec ℕ Global). bytes.items) (g.F.Files.held c.args.files.now) (Rose (g.F.Files.faults c.args.files.now) (g.F.Files.faults c.content.new.files)) c.args.name.now (BookSays c.args.name.now) c.in_err-bytes.field-0.0 c.in_err-bytes.ensures.read)
+    rw (p.1, p.2) (says_stop catalog_image (λ (bytes : Vec ℕ Global). bytes.items) (g.F.Files.held c.args.files.now) (Rose (g.F.Files.faults c.args.files.now) (g.F.Files.faults c.content.new.files)) c.args.name.now BookSays c.in_err-bytes.field-0.0 c.in_err-bytes.ensures.read)
 
 pub returns-clause-read : goal.returns-clause-read
 returns-clause-read g c =
-    says_after catalog_image (λ (bytes : Vec ℕ Global). bytes.items) _ _ c.args.name.now c.as_slice.result.now c.in_ok-bytes.bytes (BookSays c.args.name.now) _ c.in_ok-bytes.ensures.read c.as_slice.ensures.value (λ fault is. book_untold _ _ _ fault is) c.book_of.ensures.answers
+    says_after catalog_image (λ (bytes : Vec ℕ Global). bytes.items) _ _ c.args.name.now c.as_slice.result.now c.in_ok-bytes.bytes BookSays _ c.in_ok-bytes.ensures.read c.as_slice.ensures.value (λ fault is. book_untold _ _ fault is) c.book_of.ensures.answers

@@ -1,9 +1,10 @@
-use Rattle.std.proofs.Common.{map, ap}
-use Rattle.smk_top.specs.Image.{reading_image}
-use Rattle.smk_top.specs.Loaded.{inputs_image}
+use Rattle.std.proofs.Common.{ℕ, List, sym, subst}
+use Rattle.smk_model.specs.Readings.{AreReadingsOf}
+use Rattle.smk_top.specs.Loaded.{inputs_with}
 use Rattle.smk_top.proofs.Endings.{report_written}
 use Rattle.smk_top.proofs.program.report.Goals as goal
 
 pub returns-clause-works : goal.returns-clause-works
-returns-clause-works g c =
-    report_written (inputs_image c.args.inputs) _ _ _ _ _ c.write_report.result c.in_ok-session.ensures.starts c.in_ok-session.ensures.book (ap (map reading_image) c.as_slice.ensures.value) c.write_report.ensures.written c.write_report.ensures.counts
+returns-clause-works g c said are =
+    let here : AreReadingsOf c.as_slice-script.result.now said = subst (λ (l : List ℕ). AreReadingsOf l said) (sym c.as_slice-script.ensures.value) are in
+    report_written (inputs_with c.args.inputs said) _ _ _ _ c.write_report.result c.in_ok-session.ensures.starts c.in_ok-session.ensures.book (c.write_report.ensures.written said here) (c.write_report.ensures.counts said here)

@@ -1,0 +1,29 @@
+// What the words of a run call it for.
+ghost use Rattle.std.specs.Prelude.{◌≤◌};
+
+use crate::settings::Settings;
+use smk_base::Text;
+
+/// A number of flights that a demo may have.
+#[derive(Clone, Copy, Drop)]
+pub struct Flights {
+    pub count: u32,
+    ghost some: { 1 ≤ count },
+    ghost few: { count ≤ 200000 },
+}
+
+/// Where the texts of a run come from.
+#[derive(Drop)]
+pub enum RunTexts {
+    /// The book's file, and the script's where there is one.
+    Files { book: Text, script: Option<Text> },
+    /// The demo of so many flights.
+    Demo(Flights),
+}
+
+/// What a run is called for: how it works, and where its texts come from.
+#[derive(Drop)]
+pub struct RunWords {
+    pub settings: Settings,
+    pub texts: RunTexts,
+}

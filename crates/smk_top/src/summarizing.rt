@@ -1,0 +1,114 @@
+// The run of a demo, of whose report only a summary is written.
+ghost use Rattle.std.specs.Prelude.{◌≡◌, ◌≤◌, ◌<◌, ◌+◌, List, Some, length, map, IfOk};
+ghost use Rattle.smk_base.specs.CatalogImage.{catalog_image};
+ghost use Rattle.smk_base.specs.declared.demo.TheConstants.{DEMO_BOOK_NAME, DEMO_SCRIPT_NAME};
+ghost use Rattle.smk_model.specs.Demo.{demo_of, summary_of};
+ghost use Rattle.smk_model.specs.Outcome as outcomes;
+ghost use Rattle.smk_model.specs.Readings.{Reading, AreReadingsOf};
+ghost use Rattle.smk_model.specs.Reports.{size_of_view};
+ghost use Rattle.smk_model.specs.Session.{view_at};
+ghost use Rattle.smk_outside.specs.Outside.{Rose};
+ghost use Rattle.smk_session.specs.Sessions.{workbook_of};
+ghost use Rattle.smk_top.specs.Endings.{Reports};
+ghost use Rattle.smk_top.specs.Loaded.{workbook_read, script_bytes, inputs_with};
+ghost use Rattle.smk_top.specs.Reading.{ReadsAll, IsSayable};
+
+use crate::called::Flights;
+use crate::counts::Counts;
+use crate::demo_texts::DemoTexts;
+use crate::inputs::Inputs;
+use crate::nowhere::Nowhere;
+use crate::reading::read_all;
+use crate::reporting::{put, write_report};
+use crate::settings::Settings;
+use crate::starting::start;
+use crate::stop::Stop;
+use smk_base::{DEMO_BOOK_NAME, DEMO_SCRIPT_NAME, ListOf, Size, Sizes, Text};
+use smk_demo::{demo, summary_text};
+use smk_outside::{Gate, Sink, Steps};
+use smk_session::Session;
+use std::alloc::{AllocError, Global};
+use std::sync::ledger::Ledger;
+use std::thread::Threads;
+
+/// What is read of the texts of a demo.
+pub fn read_demo(alloc: Global, flights: Flights) -> Result<Inputs, Stop>
+    ensures read { ReadsAll (Some (outcomes.text_named (demo_of flights.count))) (Rose 0 0) DEMO_BOOK_NAME.now (Some DEMO_SCRIPT_NAME.now) workbook_read script_bytes result }
+    ensures said { IsSayable result }
+{
+    let mut texts = DemoTexts {
+        texts: demo(alloc, flights.count)?,
+    };
+    let book = name_of(alloc, DEMO_BOOK_NAME)?;
+    let script = name_of(alloc, DEMO_SCRIPT_NAME)?;
+    read_all(alloc, &mut texts, &book, Some(&script))
+}
+
+// A name of these bytes.
+fn name_of(alloc: Global, bytes: &[u8]) -> Result<Text, AllocError>
+    ensures { IfOk result (λ name. name ≡ bytes.now) }
+{
+    Ok(Text::from_vec(Vec::from_slice(alloc, bytes)?))
+}
+
+// The sizes of the views, as they are first evaluated.
+fn sizes_of(alloc: Global, session: &Session) -> Result<Sizes, AllocError>
+    ensures { IfOk result (λ sizes. sizes ≡ map (size_of_view (workbook_of session.now)) (catalog_image session.now.catalog).views) }
+{
+    let mut sizes = ListOf::new(alloc);
+    for number in 0..session.catalog().views.as_slice().len() as u32 {
+        sizes.push(size_of(alloc, session, number)?)?;
+    }
+    Ok(sizes)
+}
+
+// The size of the view with this number.
+fn size_of(alloc: Global, session: &Session, number: u32) -> Result<Size, AllocError>
+    requires { number < length session.now.catalog.views }
+    ensures { IfOk result (λ size. size ≡ size_of_view (workbook_of session.now) (view_at (catalog_image session.now.catalog) number)) }
+{
+    Ok(Size {
+        name: session.catalog().views.as_slice()[number as usize]
+            .name
+            .copy(alloc)?,
+        rows: session.first(number).len(),
+    })
+}
+
+/// Evaluates the views of a demo and answers its script, and writes the summary of the report. It tells the counts of the report's lines.
+pub fn summarize<R: Threads + Sync, G: Gate + Sync, O: Sink, L: Ledger>(
+    rt: &R,
+    alloc: Global,
+    flights: Flights,
+    settings: Settings,
+    inputs: Inputs,
+    gate: &G,
+    out: &mut O,
+    steps: &mut Steps<L>,
+) -> Result<Counts, Stop>
+    ensures works { (said : List Reading) → AreReadingsOf inputs.script.items said
+        → Reports (summary_of flights.count) (inputs_with inputs said) (Rose (O.faults out.old) (O.faults out.new)) (O.written out.old) (O.written out.new) result }
+    ensures said { IsSayable result }
+    ensures out_later { O.faults out.old ≤ O.faults out.new }
+    ensures looks { (said : List Reading) → AreReadingsOf inputs.script.items said → steps.new ≤ steps.old + outcomes.run_looks (inputs_with inputs said) }
+{
+    let Inputs {
+        book,
+        tables,
+        script,
+    } = inputs;
+    let mut session = start(rt, alloc, book, tables, settings, gate, steps)?;
+    let script = script.as_slice();
+    let counts = write_report(rt, alloc, &mut session, script, gate, &mut Nowhere, steps)?;
+    let sizes = sizes_of(alloc, &session)?;
+    let text = summary_text(
+        alloc,
+        flights.count,
+        &sizes,
+        counts.replies,
+        counts.refused,
+        counts.bytes,
+    )?;
+    put(out, text.as_slice())?;
+    Ok(counts)
+}
