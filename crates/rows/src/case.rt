@@ -1,5 +1,5 @@
 use crate::section::{Head, Part, Section};
-use anyhow::{Context, Result};
+use anyhow::{Context, Result, bail};
 use smk_base::Text;
 use smk_outside::MemFiles;
 use std::alloc::{AllocError, Global};
@@ -116,18 +116,65 @@ fn add_words<'a>(
 }
 
 /// The files of a case: its own, and those shared ones that it has not and that it is not without.
-pub fn files_of(alloc: Global, shared: &[Section<'_>], case: &[Section<'_>]) -> Result<MemFiles> {
-    let mut files = Vec::new(alloc);
-    add_files(alloc, &mut files, case, case)?;
-    add_files(alloc, &mut files, shared, case)?;
+pub fn files_of<'a>(
+    alloc: Global,
+    shared: &[Section<'a>],
+    case: &[Section<'a>],
+) -> Result<MemFiles> {
+    let files = named_files(alloc, shared, case)?;
     Ok(MemFiles::new(files, reads_of(alloc, case)?))
 }
 
-fn add_files(
+/// The files of a case, where that of a name is cut behind so many bytes.
+pub fn cut_files_of<'a>(
+    alloc: Global,
+    shared: &[Section<'a>],
+    case: &[Section<'a>],
+    name: &str,
+    len: usize,
+) -> Result<MemFiles> {
+    let mut files = Vec::new(alloc);
+    for (other, bytes) in named_files(alloc, shared, case)? {
+        let mut bytes = bytes.into_vec();
+        if other.as_slice() == name.as_bytes() {
+            bytes.truncate(len);
+        }
+        files.push((other, Text::from_vec(bytes)))?;
+    }
+    Ok(MemFiles::new(files, reads_of(alloc, case)?))
+}
+
+/// The number of bytes that a file of a case has. It has to be there.
+pub fn len_of<'a>(
+    alloc: Global,
+    shared: &[Section<'a>],
+    case: &[Section<'a>],
+    name: &str,
+) -> Result<usize> {
+    for (other, bytes) in named_files(alloc, shared, case)?.iter() {
+        if other.as_slice() == name.as_bytes() {
+            return Ok(bytes.as_slice().len());
+        }
+    }
+    bail!("there is no file {name} to cut")
+}
+
+fn named_files<'a>(
+    alloc: Global,
+    shared: &[Section<'a>],
+    case: &[Section<'a>],
+) -> Result<Vec<(Text, Text)>> {
+    let mut files = Vec::new(alloc);
+    add_files(alloc, &mut files, case, case)?;
+    add_files(alloc, &mut files, shared, case)?;
+    Ok(files)
+}
+
+fn add_files<'a>(
     alloc: Global,
     files: &mut Vec<(Text, Text)>,
-    sections: &[Section<'_>],
-    case: &[Section<'_>],
+    sections: &[Section<'a>],
+    case: &[Section<'a>],
 ) -> Result<()> {
     for section in sections {
         if let Head::Bytes(Part::File(name), _) = section.head

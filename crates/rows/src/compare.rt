@@ -36,8 +36,8 @@ fn print_difference<R: Print>(rt: &R, what: &str, want: &[u8], got: &[u8]) -> io
     println!(rt; "    got    {}", got.escape_ascii())
 }
 
-// Prints which run it is.
-fn print_title<R: Print>(rt: &R, archive: &str, case: &str, words: &[&str]) -> io::Result<()> {
+/// Prints which run it is.
+pub fn print_title<R: Print>(rt: &R, archive: &str, case: &str, words: &[&str]) -> io::Result<()> {
     print!(rt; "{archive}: {case}, run with")?;
     for word in words {
         print!(rt; " {word}")?;

@@ -5,10 +5,12 @@
 mod case;
 mod compare;
 mod content;
+mod cut;
 mod running;
 mod section;
 
 use anyhow::{Context, Result};
+use running::{ROOM, run_words};
 use section::Section;
 use std::thread::Threads;
 use std::{env, fs};
@@ -25,8 +27,10 @@ fn run_case<R: Threads + Sync + Print + AllocGlobal>(
     let case = section::sections(rt.alloc(), rest)?;
     let wanted = case::ending_of(rt.alloc(), &case)?;
     for words in case::runs_of(rt.alloc(), shared, &case)?.iter() {
-        let ran = running::run_words(system, rt, rt.alloc(), words, shared, &case)?;
+        let files = case::files_of(rt.alloc(), shared, &case)?;
+        let ran = run_words(system, rt, rt.alloc(), words, files, &case, ROOM)?;
         compare::print_differences(rt, archive, name, words, &wanted, &ran)?;
+        cut::run_cuts(system, rt, archive, name, words, shared, &case)?;
     }
     Ok(())
 }

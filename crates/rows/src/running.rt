@@ -1,6 +1,6 @@
 ghost use Rattle.std.specs.Prelude.{◌≡◌, ◌<◌};
 
-use crate::case::{files_of, puts_of};
+use crate::case::puts_of;
 use crate::section::{Part, Section};
 use anyhow::Result;
 use smk_outside::{Idle, MemFiles, MemSink, Steps};
@@ -10,8 +10,11 @@ use std::marker::Brand;
 use std::sync::ledger::{Blank, Ledger};
 use std::thread::Threads;
 
-/// How many bytes a sink has room for.
-const ROOM: u64 = 16_777_216;
+/// How many bytes a sink of a run has room for.
+pub const ROOM: u64 = 16_777_216;
+
+/// How many where a file is cut, of which there are many runs.
+pub const CUT_ROOM: u64 = 65_536;
 
 /// What a run came to.
 #[derive(Drop)]
@@ -40,18 +43,18 @@ fn counted_run<R: Threads + Sync, L: Ledger>(
     smk_top::run(rt, alloc, words, files, out, err, &Idle, &mut steps)
 }
 
-/// Runs a case with these words.
+/// Runs a case with these words over these files, and with sinks of this room.
 pub fn run_words<R: Threads + Sync>(
     system: HostRuntime,
     rt: &R,
     alloc: Global,
     words: &[&str],
-    shared: &[Section<'_>],
+    mut files: MemFiles,
     case: &[Section<'_>],
+    room: u64,
 ) -> Result<Ran> {
-    let mut files = files_of(alloc, shared, case)?;
-    let mut out = MemSink::new(alloc, puts_of(alloc, case, Part::Out)?, ROOM)?;
-    let mut err = MemSink::new(alloc, puts_of(alloc, case, Part::Err)?, ROOM)?;
+    let mut out = MemSink::new(alloc, puts_of(alloc, case, Part::Out)?, room)?;
+    let mut err = MemSink::new(alloc, puts_of(alloc, case, Part::Err)?, room)?;
     let status = counted_run::<_, Brand>(
         system,
         rt,

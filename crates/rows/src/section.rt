@@ -37,6 +37,15 @@ pub enum Head<'a> {
     FailingRead(u32),
     /// The put of this number to `out` or `err` fails after so many bytes.
     FailingPut(Part<'a>, u32, u64),
+    /// Each run is made with every proper front of a file, too.
+    Cut(Cut<'a>),
+}
+
+/// The name of a file that is cut, and the statuses of which the run of each of its fronts has one, with blanks between them.
+#[derive(Clone, Copy)]
+pub struct Cut<'a> {
+    pub file: &'a str,
+    pub statuses: &'a str,
 }
 
 /// A section: its head, and its lines without the last line feed, or None where it has no line.
@@ -78,6 +87,10 @@ fn head_of(line: &str) -> Option<Head<'_>> {
         "err" => Some(Head::Bytes(Part::Err, Form::read(rest)?)),
         "status" => Some(Head::Status(rest.parse().ok()?)),
         "fails" => failure_of(rest),
+        "cut" => {
+            let (file, statuses) = rest.split_once(": ")?;
+            Some(Head::Cut(Cut { file, statuses }))
+        }
         _ => None,
     }
 }
