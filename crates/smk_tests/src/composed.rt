@@ -6,6 +6,7 @@ use crate::opened::{Opened, maps_shown, need_of, open_book, ran, rows_shown};
 use smk_base::Need;
 use smk_body::OpBody;
 use smk_compose::Run;
+use smk_defer::Defer;
 use smk_inject::Inject;
 use smk_plain::Plain;
 use smk_test_bodies::{Calls, Counted};
@@ -25,6 +26,7 @@ view names = scan sales | project region | union (scan sales | project region)
 view few = scan sales | group region {n = count} | where n < 2
 lineage back by_region to sales by amount
 lineage back by_zone to regions
+lineage fwd regions to by_zone
 lineage back by_zone to sales group region {n = count}
 lineage back big to sales
 lineage fwd sales to big
@@ -54,7 +56,7 @@ const CONTENTS: [Content; 6] = [
     },
     Content {
         rows: "A 45 \nB 20 \n",
-        maps: "table 0\nback [0, 2, 3] [1] below 4\nfwd [0] [1] [0] [0] below 2\ntable 1\nback [0, 2] [1] below 3\n",
+        maps: "table 0\nback [0, 2, 3] [1] below 4\nfwd [0] [1] [0] [0] below 2\ntable 1\nback [0, 2] [1] below 3\nfwd [0] [1] [0] below 2\n",
     },
     Content {
         rows: "1 north 10 \n2 south 20 \n3 north 30 \n",
@@ -152,6 +154,10 @@ fn views_keep_what_is_needed(rt: HostRuntime) -> Result<(), Fail> {
         let content = &CONTENTS[view as usize];
         assert!(rt;
             has_content(&rt, rt, &Inject, &shop, view, content)?,
+            "view {view}"
+        );
+        assert!(rt;
+            has_content(&rt, rt, &Defer, &shop, view, content)?,
             "view {view}"
         );
         assert!(rt;

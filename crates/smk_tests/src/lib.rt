@@ -13,8 +13,6 @@ mod copies;
 #[cfg(test)]
 mod crowded;
 #[cfg(test)]
-mod deferred;
-#[cfg(test)]
 mod demos;
 #[cfg(test)]
 mod dictionaries;
