@@ -21,7 +21,7 @@ use Rattle.smk_top.specs.declared.status.Status.TheVariants.{WriteFault}
 use Rattle.smk_top.specs.declared.stop.Stop.{Stop}
 use Rattle.smk_top.specs.declared.stop.Stop.TheVariants.{At, Unwritten, Exhausted}
 use Rattle.smk_top.specs.Statuses.{status_of_report}
-use Rattle.smk_top.specs.Reading.{ReadsAll, IsInputs, Starts}
+use Rattle.smk_top.specs.Reading.{ReadsAll, IsInputs, Starts, IsSayable}
 use Rattle.smk_top.specs.Counting.{counts_of}
 use Rattle.smk_top.specs.Writing.{Puts, PutsPieces}
 use Rattle.smk_top.specs.Endings.{IsBegun, reported, faulted, unwritten, exhausted, fault_unsaid, memory_unsaid, RunEnds, Works, Reports, SaysMemory, SaysFault}
@@ -150,6 +150,13 @@ report_written given book rose a b r none same w c =
     by (Err (At fault)) v c = absurd v
     by (Err Unwritten) v c = (report_of given.book given.readings, found_report given none, v.0, v.1)
     by (Err Exhausted) v c = inr (report_of given.book given.readings, found_report given none, v)
+
+-- what stops a text that is put is no fault
+pub sayable_pieces : {X : Type 0} (text : List ℕ) (rose : Type 0) (a b : Option (List ℕ)) (r : Result X Stop) → PutsPieces text rose a b r → IsSayable r
+sayable_pieces text rose a b (Ok x) w = tt
+sayable_pieces text rose a b (Err (At fault)) w = absurd w
+sayable_pieces text rose a b (Err Unwritten) w = tt
+sayable_pieces text rose a b (Err Exhausted) w = tt
 
 -- a report that is only measured stops for want of memory alone
 pub measured_stops : (X : Type 0) (writes : Report → List ℕ) (given : Inputs) (text : List ℕ) (rose : Type 0) (a : Option (List ℕ)) (stop : Stop) → PutsPieces {X = X} text (Rose 0 0) None None (Err stop) → Reports writes given rose a a (Err stop)

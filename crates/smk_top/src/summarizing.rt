@@ -99,8 +99,8 @@ pub fn summarize<R: Threads + Sync, G: Gate + Sync, O: Sink, L: Ledger>(
     } = inputs;
     let mut session = start(rt, alloc, book, tables, settings, gate, steps)?;
     let script = script.as_slice();
-    let counts = write_report(rt, alloc, &mut session, script, gate, &mut Nowhere, steps)?;
     let sizes = sizes_of(alloc, &session)?;
+    let counts = write_report(rt, alloc, &mut session, script, gate, &mut Nowhere, steps)?;
     let text = summary_text(
         alloc,
         flights.count,
