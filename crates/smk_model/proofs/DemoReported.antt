@@ -1,6 +1,6 @@
 -- The run of a demo has its report.
 use Rattle.std.specs.Prelude.{cond, Bool, true, false, nat_lt, option_map, option_and_then, ◌&&◌}
-use Rattle.std.proofs.Common.{◌≡◌, ◌∙◌, ◌≤◌, ◌+◌, ℕ, ℤ, pos, negsuc, List, [], ◌∷◌, length, Option, Some, None, Result, Ok, Err, refl, ap, arith, codes}
+use Rattle.std.proofs.Common.{◌≡◌, ◌∙◌, ◌≤◌, ◌+◌, ℕ, ℤ, pos, negsuc, List, [], ◌∷◌, length, Option, Some, None, Ok, refl, ap, arith, codes}
 use Rattle.std.proofs.lemmas.Bool.Decides.{nat_tests}
 use Rattle.clap.specs.Kinds.{Kinds}
 use Rattle.clap.specs.Words.{fault_of}
@@ -10,8 +10,8 @@ use Rattle.smk_base.specs.declared.demo.DemoFile.{DemoFile}
 use Rattle.smk_model.specs.Demo.{demo_of, flights, airports}
 use Rattle.smk_model.specs.DemoBook.{demo_catalog, demo_workbook, demo_readings}
 use Rattle.smk_model.specs.DemoLaws.{HoldsTables, DemosAreReported}
-use Rattle.smk_model.specs.Words.{Words, Files, Demo, Settings, Invocation, called, demo_sized, texts_named, texts_in, settings_in, value_given, smoke_app, where_taken, invocation_in, words_of}
-use Rattle.smk_model.specs.Outcome.{Held, file_limit, kept_short, content_of, parsed, read, lines_read, a_script, or_type_fault, OpensBook, OpensScript, inputs, usable, text_named, unless_view_fault}
+use Rattle.smk_model.specs.Words.{Words, Demo, Settings, Invocation, called, demo_sized, texts_named, texts_in, settings_in, value_given, smoke_app, where_taken, words_of}
+use Rattle.smk_model.specs.Outcome.{file_limit, kept_short, parsed, read, lines_read, a_script, or_type_fault, OpensBook, OpensScript, inputs, usable, text_named, unless_view_fault}
 use Rattle.smk_model.proofs.DemoOpened.{opened}
 use Rattle.smk_model.proofs.DemoSizes.{short, of_two}
 use Rattle.smk_model.proofs.DemoWithin.{within}

@@ -23,7 +23,7 @@ use Rattle.smk_model.specs.TokenKinds.{same_kind}
 use Rattle.smk_model.specs.Grammar.{First, plain_word, IsName, name, IsColumn, plain, quoted, IsLiteral, number, string, IsFile, file, AreMore, no_more, one_more, listed, IsType, int_type, text_type, IsDefault, no_default, default, IsDecl, decl, IsNamed, by_itself, by_as, IsWidth, width, IsItem, column_item, bin_item, IsWhat, count, sum, min, max, IsAgg, agg, AreKeys, no_keys, keys, AreAggs, no_aggs, aggs, IsPair, pair, IsOp, eq, ne, lt, le, gt, ge, IsTerm, column_term, literal_term, IsPrim, negated, bracketed, compared, conj, AreAnds, no_and, one_and, pred, AreOrs, no_or, one_or, plan, IsSource, scan, inner_plan, AreSteps, no_step, one_step, IsStep, where_step, project_step, distinct_step, group_step, join_step, theta_step, product_step, union_all_step, union_step, IsExtra, no_extra, by_extra, group_extra, IsStmt, table_stmt, view_stmt, back_stmt, fwd_stmt, link_stmt, AreStmts, one_stmt, IsMark, mark, AreMarks, all_marks, listed_marks, IsThen, no_then, where_then, group_then, IsLine, show_line, back_line, fwd_line, brush_line, clear_line, clear_one_line}
 use Rattle.smk_model.proofs.Alike.{same_is}
 use Rattle.smk_model.proofs.Leaving.{and_left, and_right}
-use Rattle.smk_model.specs.Machine.{Counts, Tally, Symbol, Move, Takes, Skips, Wrong, Past, Outside, settle, or_next, within, next, no_counts, is_mark, is_short, at_name, at_column, at_first, at_item, at_literal, at_width, at_type, at_default, at_as, at_what, at_keys, at_aggs, at_linked, at_more, at_source, at_steps, at_step, step_symbols, node_move, at_on, at_united, at_compare, at_prim, at_ands, at_ors, at_op, at_term, at_stmts, at_lineage, at_extra, at_line, at_line_column, at_mark, at_marks, at_then, at_cleared, at_end, at_token, AToken, AName, AColumn, ALiteral, AWidth, AType, ADefault, AnAs, AWhat, AKeys, AnAggs, AFirst, AnItem, ALinked, MoreDecls, MoreItems, MoreKeys, MoreAggs, MorePairs, MoreLinked, ASource, ASteps, AStep, AUnited, APrim, AnAnds, AnOrs, AnOn, AnOp, ATerm, AStmts, ALineage, AnExtra, ALine, ALineName, ALineColumn, AMarks, AMark, MoreMarks, AThen, ACleared, AnEnd}
+use Rattle.smk_model.specs.Machine.{Counts, Tally, Symbol, Move, Takes, Skips, Wrong, Past, Outside, settle, or_next, within, next, no_counts, is_mark, is_short, at_name, at_column, at_first, at_item, at_literal, at_width, at_type, at_default, at_as, at_what, at_keys, at_aggs, at_linked, at_more, at_source, at_steps, step_symbols, node_move, at_on, at_united, at_compare, at_prim, at_ands, at_ors, at_op, at_term, at_stmts, at_lineage, at_extra, at_line, at_line_column, at_mark, at_marks, at_then, at_cleared, at_end, at_token, AToken, AName, AColumn, ALiteral, AWidth, AType, ADefault, AnAs, AWhat, AKeys, AnAggs, AFirst, AnItem, ALinked, MoreDecls, MoreItems, MoreKeys, MoreAggs, MorePairs, MoreLinked, ASource, ASteps, AStep, AUnited, APrim, AnAnds, AnOrs, AnOn, AnOp, ATerm, AStmts, ALineage, AnExtra, ALine, ALineName, ALineColumn, AMarks, AMark, MoreMarks, AThen, ACleared, AnEnd}
 
 -- the tokens from a to b are the symbol
 abbrev pub IsSymbol : Symbol → List Token → List Token → Type 0

@@ -1,4 +1,3 @@
-use Rattle.std.proofs.Common.{length}
 use Rattle.std.proofs.lemmas.Result.{IfOk-weaker}
 use Rattle.smk_base.specs.IntColumns.{numbers_of}
 use Rattle.smk_keys.proofs.Rowed.{AreNumbers-codes_range, AreNumbers-ints_range}
