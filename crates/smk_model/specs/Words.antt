@@ -15,6 +15,7 @@ pub data Mode : Type 0 where
 -- what options say of how a run works; its outcome doesn't depend on it
 pub record Settings : Type 0 where
   pub mode : Mode
+  pub workers : ℕ
 
 -- where the texts of a run come from: the file of the book, and that of the script where there is one; or the demo of so many flights
 pub data Words : Type 0 where
@@ -24,6 +25,14 @@ pub data Words : Type 0 where
 -- the option `--mode`, which is inject where it isn't there
 abbrev pub mode_rule : Rule
 mode_rule = record (new_rule (codes "mode")) { long = Some (codes "mode"); defaults = codes "inject" ∷ [] }
+
+-- the most workers that a run may have
+abbrev pub most_workers : ℕ
+most_workers = 64
+
+-- the option `--workers` with a number of them, which is one where it isn't there
+abbrev pub workers_rule : Rule
+workers_rule = record (new_rule (codes "workers")) { long = Some (codes "workers"); parser = Some (parsers.Signed (pos 1) (pos 64)); defaults = codes "1" ∷ [] }
 
 -- the most flights that a demo may have
 abbrev pub most_flights : ℕ
@@ -35,7 +44,7 @@ demo_rule = record (new_rule (codes "demo")) { long = Some (codes "demo"); parse
 
 -- the command: its options, and then the places of the book and the script
 abbrev pub smoke_app : App
-smoke_app = with_rule (with_rule (with_rule (with_rule (on_top (λ s. record s { no_binary_name = true }) (new_app (codes "smoke"))) mode_rule) demo_rule) (new_rule (codes "book"))) (new_rule (codes "script"))
+smoke_app = with_rule (with_rule (with_rule (with_rule (with_rule (on_top (λ s. record s { no_binary_name = true }) (new_app (codes "smoke"))) mode_rule) workers_rule) demo_rule) (new_rule (codes "book"))) (new_rule (codes "script"))
 
 -- a value for options and places, by their names
 abbrev pub Values : Type 0
@@ -49,9 +58,19 @@ value_given words name = first_of name (matches_of smoke_app words)
 abbrev pub mode_named : List ℕ → Option Mode
 mode_named text = cond (bytes_eq text (codes "inject")) (Some Inject) (cond (bytes_eq text (codes "defer")) (Some Defer) None)
 
+-- so many workers, unless there may not be so many
+abbrev pub workers_counted : ℤ → Option ℕ
+workers_counted (pos n) = cond (nat_lt 0 n && nat_lt n (most_workers + 1)) (Some n) None
+workers_counted (negsuc n) = None
+
+abbrev pub settings_with : Option Mode → Option ℕ → Option Settings
+settings_with (Some mode) (Some workers) = Some (record { mode = mode; workers = workers })
+settings_with (Some mode) None = None
+settings_with None workers = None
+
 -- the settings that these values ask for, unless the mode is none of those that are known
 abbrev pub settings_in : Values → Option Settings
-settings_in values = option_map (λ mode. record { mode = mode }) (option_and_then mode_named (values (codes "mode")))
+settings_in values = settings_with (option_and_then mode_named (values (codes "mode"))) (option_and_then workers_counted (option_and_then int_of (values (codes "workers"))))
 
 -- the demo of a number of flights, unless there may not be so many
 abbrev pub demo_sized : ℤ → Option Words
