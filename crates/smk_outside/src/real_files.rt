@@ -168,6 +168,21 @@ mod tests {
     }
 
     #[test]
+    fn reads_no_folder(rt: HostRuntime) -> Result<(), Fail> {
+        let alloc = rt.alloc();
+        let folder = env::temp_dir(&rt)?;
+        let name = format!(in alloc; "{}", folder.display())?;
+        let mut files = RealFiles::new(rt);
+        let read = files.read(alloc, name.as_bytes(), 5);
+        assert_eq!(rt; files.faults, 1);
+        let nameless = files.read(alloc, b"", 5);
+        assert_eq!(rt; files.faults, 2);
+        assert!(rt; matches!(&read, Err(FilesFault::Failed)));
+        assert!(rt; matches!(&nameless, Err(FilesFault::Failed)));
+        Ok(())
+    }
+
+    #[test]
     fn reads_in_pieces_up_to_a_fault(rt: HostRuntime) -> Result<(), Fail> {
         // the byte at which the reader breaks, the limit, and how many bytes are read, if it doesn't fail
         let rows = [

@@ -124,6 +124,18 @@ mod tests {
     }
 
     #[test]
+    fn fails_once_the_reader_has_gone(rt: HostRuntime) -> Result<(), Fail> {
+        let (reader, writer) = io::pipe(&rt)?;
+        let mut sink = StreamSink::new(writer);
+        assert!(rt; sink.put(b"for the reader").is_ok());
+        assert_eq!(rt; sink.faults, 0);
+        drop(reader);
+        assert!(rt; sink.put(b"for nobody").is_err());
+        assert_eq!(rt; sink.faults, 1);
+        Ok(())
+    }
+
+    #[test]
     fn writes_in_pieces_up_to_a_fault(rt: HostRuntime) -> Result<(), Fail> {
         // the room, the byte at which the stream breaks, how many bytes are taken, and whether the put is whole
         let rows = [
