@@ -1,6 +1,6 @@
 -- What the type of a rid map keeps of its lists, and the lists that its calls make.
-use Rattle.std.specs.Prelude.{ℕ, ◌<◌, ◌≤◌, ◌||◌, List, [], ◌∷◌, ◌++◌, length, map, slice_index_or, slice_set, Option}
-use Rattle.std.specs.List.{All}
+use Rattle.std.specs.Prelude.{ℕ, ◌<◌, ◌≤◌, ◌||◌, Bool, if◌then◌else◌, List, [], ◌∷◌, ◌++◌, length, map, slice_index_or, slice_set, Option}
+use Rattle.std.specs.List.{All, sum_by}
 use Rattle.std.specs.Option.{option_to_list}
 use Rattle.smk_base.specs.Places.{Lists, IsPlaces, pairs_of, places, has, upto, list_at}
 use Rattle.smk_rid.specs.declared.map.TheConstants.{PAIR_LIMIT}
@@ -46,3 +46,7 @@ size_of lists n r = length (with_rid lists n r)
 -- how many of the first n lists have each rid below the bound
 abbrev pub sizes_of : Lists → ℕ → List ℕ
 sizes_of m n = map (size_of m.lists n) (upto m.bound)
+
+-- how many of these marks aren't set
+abbrev pub unmarked : List Bool → ℕ
+unmarked marks = sum_by (λ m. if m then 0 else 1) marks
