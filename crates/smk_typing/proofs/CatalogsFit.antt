@@ -1,6 +1,5 @@
 -- What the statements of a book declare is there and fits.
 use Rattle.std.proofs.Common.{◌≡◌, ◌∙◌, ◌+◌, ◌<◌, ℕ, Bool, true, false, not, List, [], ◌∷◌, ◌++◌, length, map, get_or, Option, Some, None, Ok, refl, sym, ap, subst, arith, All, nat_eq}
-use Rattle.std.specs.Prelude.{ok_or}
 use Rattle.std.specs.List.{list_any}
 use Rattle.std.proofs.lemmas.List.{length-map, length-append, map-append, append-nil, get_or_append_left}
 use Rattle.std.proofs.lemmas.List.Elements.{All-push, All-nil}
@@ -18,28 +17,26 @@ use Rattle.smk_base.specs.declared.catalog.Column.{Column}
 use Rattle.smk_base.specs.declared.catalog.TableInfo.{TableInfo}
 use Rattle.smk_base.specs.declared.catalog.Back.{Back}
 use Rattle.smk_base.specs.declared.catalog.BackExtra.{BackExtra}
-use Rattle.smk_base.specs.declared.catalog.BackExtra.TheVariants as back_extras
 use Rattle.smk_base.specs.declared.catalog.Fwd.{Fwd}
 use Rattle.smk_base.specs.declared.catalog.LinkInfo.{LinkInfo}
 use Rattle.smk_base.specs.declared.type_fault.TypeFault.TheVariants.{UnknownView, DuplicateName, KindMismatch, SelfLink, RepeatedDeclaration}
 use Rattle.smk_base.specs.Plans.{Expr, Leaf, Apply, Combine}
 use Rattle.smk_base.specs.Trees.{TreeImage, StmtImage, TableNode, ViewNode, BackNode, FwdNode, LinkNode}
 use Rattle.smk_base.specs.CatalogImage.{CatalogImage, ViewImage}
-use Rattle.smk_model.specs.Names.{in_turn, place_of, same_name, is_taken, column_named, names_of, kinds_of, same_sort}
+use Rattle.smk_model.specs.Names.{in_turn, same_name, is_taken, column_named, kinds_of, same_sort}
 use Rattle.smk_model.specs.Kinds.{AreAlike, kind_of}
 use Rattle.smk_model.specs.Tables.{IsBase, IsBaseColumn}
 use Rattle.smk_model.specs.Plain.{leaves}
 use Rattle.smk_model.specs.Selection.{ScansFit, PlanFits, leaf_kinds, plan_kinds}
-use Rattle.smk_model.specs.Limits.{KeepsLimits, KeepsStmt, KeepsDecls, KeepsPlan, IsInRange, DefaultInRange}
+use Rattle.smk_model.specs.Limits.{KeepsStmt, KeepsDecls, KeepsPlan, IsInRange, DefaultInRange}
 use Rattle.smk_model.specs.TypedSteps.{TypedPlan, typed_group}
-use Rattle.smk_model.specs.Typing.{types, stmt_after, nothing_declared, columns_of, info_at, no_table, table_named, view_named, typed_plan, declared_kind, declared_column, decl_after, table_after, view_of, view_after, typed_extra, same_back, back_after, same_fwd, fwd_after, same_link, linked_to, all_linked, to_after, link_after}
+use Rattle.smk_model.specs.Typing.{stmt_after, nothing_declared, columns_of, info_at, no_table, table_named, view_named, typed_plan, declared_kind, declared_column, decl_after, table_after, view_of, view_after, typed_extra, same_back, back_after, same_fwd, fwd_after, same_link, linked_to, all_linked, to_after, link_after}
 use Rattle.smk_model.specs.Catalogs.{table_kinds, each_table_kinds, ViewFits, ExtraFits, BackFits, FwdFits, LinkFits, IsTyped}
-use Rattle.smk_typing.proofs.Results.{made_of, unless_ok, in_turn_keeps}
+use Rattle.smk_typing.proofs.Results.{made_of, unless_ok, ok_keeps, in_turn_keeps}
 use Rattle.smk_typing.proofs.StepsFit.{named_is, kinds_long, alike}
 use Rattle.smk_typing.proofs.ListsFit.{group_stands}
 use Rattle.smk_typing.proofs.PlansFit.{plan_stands, table_is}
-use Rattle.smk_typing.proofs.NodesKept.{plan_nodes}
-use Rattle.smk_typing.proofs.Lookups.{place_within}
+use Rattle.smk_typing.proofs.Lookups.{named_within}
 
 each_imp : {X : Type 0} (P Q : X → Type 0) (xs : List X) → ((x : X) → P x → Q x) → All P xs → All Q xs
 each_imp P Q xs f all = λ k d p. f (get_or xs k d) (all k d p)
@@ -101,41 +98,31 @@ declared_fits false (values.Text bytes) alike range = absurd alike
 
 column_stands : (decl : Decl) (def : Option Lit) (col : ColDecl) → DefaultInRange def → declared_column decl def ≡ Ok col → IsBaseColumn col
 column_stands decl None col range e =
-    let same : (let it : ColDecl = record { name = decl.name.name; kind = declared_kind decl.text; def = None } in it) ≡ col = cc e in
-    subst IsBaseColumn same (record { base = declared_base decl.text; default_fits = tt })
+    ok_keeps IsBaseColumn _ col e (record { base = declared_base decl.text; default_fits = tt })
 column_stands decl (Some literal) col range e =
     let whole = unless_ok (not (same_sort (declared_kind decl.text) (kind_of literal.value))) (KindMismatch literal.at) (Ok (record { name = decl.name.name; kind = declared_kind decl.text; def = Some literal.value })) col e in
-    let same : (let it : ColDecl = record { name = decl.name.name; kind = declared_kind decl.text; def = Some literal.value } in it) ≡ col = cc whole.1 in
-    subst IsBaseColumn same (record { base = declared_base decl.text; default_fits = declared_fits decl.text literal.value (alike _ _ whole.0) range })
+    ok_keeps IsBaseColumn _ col whole.1 (record { base = declared_base decl.text; default_fits = declared_fits decl.text literal.value (alike _ _ whole.0) range })
 
 decl_more : (old new : List ColDecl) (decl : Decl) → ColumnsFit old → DefaultInRange decl.def → decl_after old decl ≡ Ok new → ColumnsFit new
 decl_more old new decl held range e =
     let fresh = unless_ok (list_any (λ col. same_name decl.name.name col.name) old) (DuplicateName decl.name.at) _ new e in
     let col = made_of (declared_column decl decl.def) _ new fresh.1 in
-    let same : old ++ col.0 ∷ [] ≡ new = cc col.2 in
-    subst ColumnsFit same (All-push IsBaseColumn old col.0 held (column_stands decl decl.def col.0 range col.1))
-
-view_there : (views : List ViewImage) (word : Word) (place : Option ℕ) (v : ℕ) → place_of word.name (map (λ view. view.name) views) ≡ place → ok_or place (UnknownView word.at) ≡ Ok v → v < length views
-view_there views word None v p e = absurd (cc e)
-view_there views word (Some c) v p e =
-    let same : c ≡ v = cc e in
-    let below = place_within (same_name word.name) (map (λ (view : ViewImage). view.name) views) c p in
-    omega (arith, same, below, length-map views (λ (view : ViewImage). view.name))
+    ok_keeps ColumnsFit _ new col.2 (All-push IsBaseColumn old col.0 held (column_stands decl decl.def col.0 range col.1))
 
 view_is : (views : List ViewImage) (word : Word) (v : ℕ) → view_named views word ≡ Ok v → v < length views
-view_is views word v e = view_there views word (place_of word.name (map (λ view. view.name) views)) v refl e
+view_is views word v e =
+    let below = named_within (same_name word.name) (map (λ (view : ViewImage). view.name) views) (UnknownView word.at) v e in
+    omega (arith, below, length-map views (λ (view : ViewImage). view.name))
 
 extra_stands : (columns : List Column) (extra : Extra) (asked : BackExtra) → typed_extra columns extra ≡ Ok asked → ExtraFits (kinds_of columns) asked
-extra_stands columns extras.Plain asked e = let same : back_extras.Plain ≡ asked = cc e in subst (ExtraFits (kinds_of columns)) same tt
+extra_stands columns extras.Plain asked e = ok_keeps (ExtraFits (kinds_of columns)) _ asked e tt
 extra_stands columns (extras.By word) asked e =
     let found = made_of (column_named columns word) _ asked e in
-    let same : back_extras.By found.0.0 ≡ asked = cc found.2 in
-    subst (ExtraFits (kinds_of columns)) same (named_is columns word found.0 found.1).0
+    ok_keeps (ExtraFits (kinds_of columns)) _ asked found.2 (named_is columns word found.0 found.1).0
 extra_stands columns (extras.Grouped at keys aggs) asked e =
     let group = made_of (typed_group columns at keys aggs) _ asked e in
     let stands = group_stands columns at keys aggs group.0 group.1 in
-    let same : back_extras.Grouped group.0.keys group.0.aggs (names_of group.0.columns) (kinds_of group.0.columns) ≡ asked = cc group.2 in
-    subst (ExtraFits (kinds_of columns)) same (record { fits = stands.0; kinds_are = stands.1; named = length-map group.0.columns (λ (c : Column). c.name) ∙ sym (kinds_long group.0.columns) })
+    ok_keeps (ExtraFits (kinds_of columns)) _ asked group.2 (record { fits = stands.0; kinds_are = stands.1; named = length-map group.0.columns (λ (c : Column). c.name) ∙ sym (kinds_long group.0.columns) })
 
 -- a plan that stands, as a view
 view_stands : (tables : List TableInfo) (name : Word) (tree : TreeImage) (typed : TypedPlan) → KeepsPlan tree → typed_plan tables tree ≡ Ok typed → ViewFits tables (view_of name typed)
@@ -147,7 +134,7 @@ view_stands tables name tree typed keeps e =
       fits = subst (PlanFits typed.plan) (append-nil K) (stands.fits []);
       kinds = ap (plan_kinds typed.plan) (sym (append-nil K)) ∙ stands.kinds [];
       named = length-map typed.columns (λ (c : Column). c.name) ∙ sym (kinds_long typed.columns);
-      few = omega (arith, keeps.few, plan_nodes tables tree typed e);
+      few = omega (arith, keeps.few, stands.size);
     }
 
 to_more : (catalog : CatalogImage) (v t : ℕ) (old new : List ℕ) (word : Word) → All (λ w. w < length catalog.views) old → Unit {0} → to_after catalog v t old word ≡ Ok new → All (λ w. w < length catalog.views) new
@@ -155,8 +142,7 @@ to_more catalog v t old new word held any e =
     let w = made_of (view_named catalog.views word) _ new e in
     let other = unless_ok (nat_eq w.0 v) (SelfLink word.at) _ new w.2 in
     let fresh = unless_ok (list_any (same_link (record { view = v; table = t; to = w.0 })) (all_linked catalog.links ++ linked_to v t old)) (RepeatedDeclaration word.at) (Ok (old ++ w.0 ∷ [])) new other.1 in
-    let same : old ++ w.0 ∷ [] ≡ new = cc fresh.1 in
-    subst (All (λ u. u < length catalog.views)) same (All-push (λ u. u < length catalog.views) old w.0 held (view_is catalog.views word w.0 w.1))
+    ok_keeps (All (λ u. u < length catalog.views)) _ new fresh.1 (All-push (λ u. u < length catalog.views) old w.0 held (view_is catalog.views word w.0 w.1))
 
 -- one more statement
 
@@ -165,15 +151,15 @@ table_kept old new name file decls typed keeps e =
     let fresh = unless_ok (is_taken name.name (map (λ table. table.name) old.tables)) (DuplicateName name.at) _ new e in
     let cols = made_of (in_turn decl_after [] decls) _ new fresh.1 in
     let table : TableInfo = record { name = name.name; file = file; cols = cols.0 } in
-    let same : (let it : CatalogImage = record old { tables = old.tables ++ table ∷ [] } in it) ≡ new = cc cols.2 in
     let fit = in_turn_keeps ColumnsFit (λ decl. DefaultInRange decl.def) decl_after decl_more [] cols.0 decls (All-nil _) keeps.ranges cols.1 in
     let long = one_more old.tables table in
-    subst IsTyped same (record {
+    let m = length (old.tables ++ table ∷ []) in
+    ok_keeps IsTyped _ new cols.2 (record {
       columns = All-push (λ (t : TableInfo). All IsBaseColumn t.cols) old.tables table typed.columns fit;
       views = each_imp (ViewFits old.tables) (ViewFits (old.tables ++ table ∷ [])) old.views (view_over_more old.tables table) typed.views;
       backs = each_imp (BackFits old.tables (length old.views)) (BackFits (old.tables ++ table ∷ []) (length old.views)) old.backs (back_over_more old.tables table (length old.views)) typed.backs;
-      fwds = each_imp (FwdFits (length old.tables) (length old.views)) (FwdFits (length (old.tables ++ table ∷ [])) (length old.views)) old.fwds (λ fwd f. record { table = omega (arith, f.table, long); view = f.view }) typed.fwds;
-      links = each_imp (LinkFits (length old.tables) (length old.views)) (LinkFits (length (old.tables ++ table ∷ [])) (length old.views)) old.links (λ link f. record { view = f.view; table = omega (arith, f.table, long); to = f.to }) typed.links;
+      fwds = each_imp (FwdFits (length old.tables) (length old.views)) (FwdFits m (length old.views)) old.fwds (λ fwd f. record { table = omega (arith, f.table, long); view = f.view }) typed.fwds;
+      links = each_imp (LinkFits (length old.tables) (length old.views)) (LinkFits m (length old.views)) old.links (λ link f. record { view = f.view; table = omega (arith, f.table, long); to = f.to }) typed.links;
     })
 
 view_kept : (old new : CatalogImage) (name : Word) (tree : TreeImage) → IsTyped old → KeepsPlan tree → view_after old name tree ≡ Ok new → IsTyped new
@@ -181,11 +167,10 @@ view_kept old new name tree typed keeps e =
     let fresh = unless_ok (is_taken name.name (map (λ view. view.name) old.views)) (DuplicateName name.at) _ new e in
     let plan = made_of (typed_plan old.tables tree) _ new fresh.1 in
     let view : ViewImage = view_of name plan.0 in
-    let same : (let it : CatalogImage = record old { views = old.views ++ view ∷ [] } in it) ≡ new = cc plan.2 in
     let long = one_more old.views view in
     let n = length old.views in
     let m = length (old.views ++ view ∷ []) in
-    subst IsTyped same (record {
+    ok_keeps IsTyped _ new plan.2 (record {
       columns = typed.columns;
       views = All-push (ViewFits old.tables) old.views view typed.views (view_stands old.tables name tree plan.0 keeps plan.1);
       backs = each_imp (BackFits old.tables n) (BackFits old.tables m) old.backs (λ back f. record { view = omega (arith, f.view, long); table = f.table; extra = f.extra }) typed.backs;
@@ -200,9 +185,8 @@ back_kept old new at view table extra typed e =
     let asked = made_of (typed_extra (columns_of (info_at old.tables t.0)) extra) _ new t.2 in
     let back : Back = record { view = v.0; table = t.0; extra = asked.0 } in
     let fresh = unless_ok (list_any (same_back back) old.backs) (RepeatedDeclaration at) (Ok (record old { backs = old.backs ++ back ∷ [] })) new asked.2 in
-    let same : (let it : CatalogImage = record old { backs = old.backs ++ back ∷ [] } in it) ≡ new = cc fresh.1 in
     let fit : BackFits old.tables (length old.views) back = record { view = view_is old.views view v.0 v.1; table = table_is old.tables table t.0 t.1; extra = extra_stands (columns_of (info_at old.tables t.0)) extra asked.0 asked.1 } in
-    subst IsTyped same (record { columns = typed.columns; views = typed.views; backs = All-push (BackFits old.tables (length old.views)) old.backs back typed.backs fit; fwds = typed.fwds; links = typed.links })
+    ok_keeps IsTyped _ new fresh.1 (record { columns = typed.columns; views = typed.views; backs = All-push (BackFits old.tables (length old.views)) old.backs back typed.backs fit; fwds = typed.fwds; links = typed.links })
 
 fwd_kept : (old new : CatalogImage) (at : ℕ) (table view : Word) → IsTyped old → fwd_after old at table view ≡ Ok new → IsTyped new
 fwd_kept old new at table view typed e =
@@ -210,9 +194,8 @@ fwd_kept old new at table view typed e =
     let v = made_of (view_named old.views view) _ new t.2 in
     let fwd : Fwd = record { table = t.0; view = v.0 } in
     let fresh = unless_ok (list_any (same_fwd fwd) old.fwds) (RepeatedDeclaration at) (Ok (record old { fwds = old.fwds ++ fwd ∷ [] })) new v.2 in
-    let same : (let it : CatalogImage = record old { fwds = old.fwds ++ fwd ∷ [] } in it) ≡ new = cc fresh.1 in
     let fit : FwdFits (length old.tables) (length old.views) fwd = record { table = table_is old.tables table t.0 t.1; view = view_is old.views view v.0 v.1 } in
-    subst IsTyped same (record { columns = typed.columns; views = typed.views; backs = typed.backs; fwds = All-push (FwdFits (length old.tables) (length old.views)) old.fwds fwd typed.fwds fit; links = typed.links })
+    ok_keeps IsTyped _ new fresh.1 (record { columns = typed.columns; views = typed.views; backs = typed.backs; fwds = All-push (FwdFits (length old.tables) (length old.views)) old.fwds fwd typed.fwds fit; links = typed.links })
 
 link_kept : (old new : CatalogImage) (view table : Word) (words : List Word) → IsTyped old → link_after old view table words ≡ Ok new → IsTyped new
 link_kept old new view table words typed e =
@@ -220,10 +203,9 @@ link_kept old new view table words typed e =
     let t = made_of (table_named old.tables table) _ new v.2 in
     let to = made_of (in_turn (to_after old v.0 t.0) [] words) _ new t.2 in
     let link : LinkInfo = record { view = v.0; table = t.0; to = to.0 } in
-    let same : (let it : CatalogImage = record old { links = old.links ++ link ∷ [] } in it) ≡ new = cc to.2 in
     let low = in_turn_keeps (All (λ w. w < length old.views)) (λ w. Unit {0}) (to_after old v.0 t.0) (to_more old v.0 t.0) [] to.0 words (All-nil _) (λ k d p. tt) to.1 in
     let fit : LinkFits (length old.tables) (length old.views) link = record { view = view_is old.views view v.0 v.1; table = table_is old.tables table t.0 t.1; to = low } in
-    subst IsTyped same (record { columns = typed.columns; views = typed.views; backs = typed.backs; fwds = typed.fwds; links = All-push (LinkFits (length old.tables) (length old.views)) old.links link typed.links fit })
+    ok_keeps IsTyped _ new to.2 (record { columns = typed.columns; views = typed.views; backs = typed.backs; fwds = typed.fwds; links = All-push (LinkFits (length old.tables) (length old.views)) old.links link typed.links fit })
 
 -- a statement that stands keeps what the catalog keeps
 pub stmt_kept : (old new : CatalogImage) (stmt : StmtImage) → IsTyped old → KeepsStmt stmt → stmt_after old stmt ≡ Ok new → IsTyped new
@@ -235,7 +217,3 @@ stmt_kept old new (LinkNode view table words) typed keeps e = link_kept old new 
 
 pub nothing_typed : IsTyped nothing_declared
 nothing_typed = record { columns = All-nil _; views = All-nil _; backs = All-nil _; fwds = All-nil _; links = All-nil _ }
-
--- the catalog of a book that keeps its limits
-pub book_typed : (book : List StmtImage) (catalog : CatalogImage) → KeepsLimits book → types book ≡ Ok catalog → IsTyped catalog
-book_typed book catalog limits e = in_turn_keeps IsTyped KeepsStmt stmt_after stmt_kept nothing_declared catalog book nothing_typed limits.each e

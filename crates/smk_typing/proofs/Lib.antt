@@ -6,7 +6,6 @@ pub mod Results
 pub mod StepsFit
 pub mod ListsFit
 pub mod PlansFit
-pub mod NodesKept
 pub mod CatalogsFit
 pub mod Books
 pub mod NeedsBelow

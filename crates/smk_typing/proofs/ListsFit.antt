@@ -23,7 +23,7 @@ use Rattle.smk_model.specs.Names.{in_turn, column_named, has_name, kinds_of, is_
 use Rattle.smk_model.specs.Kinds.{IsInt, ItemFits, AggFits, kind_of_item, kind_of_agg, ItemsFit, GroupFits}
 use Rattle.smk_model.specs.Limits.{Divides, KeepsItems}
 use Rattle.smk_model.specs.TypedSteps.{named, item_name, typed_item, item_after, typed_items, key_after, typed_sum, typed_agg, agg_after, TypedGroup, typed_group}
-use Rattle.smk_typing.proofs.Results.{made_of, unless_ok, in_turn_keeps, in_turn_long}
+use Rattle.smk_typing.proofs.Results.{made_of, unless_ok, ok_keeps, in_turn_keeps, in_turn_long}
 use Rattle.smk_typing.proofs.StepsFit.{named_is, kinds_long}
 
 -- items
@@ -39,14 +39,12 @@ item_stands : (columns : List Column) (tree : ItemTree) (item : Item × Kind) �
 item_stands columns (item_trees.Col col name) item divides e =
     let found = made_of (column_named columns col) _ item e in
     let is = named_is columns col found.0 found.1 in
-    let same : (let it : Item × Kind = (items.Col found.0.0, found.0.1) in it) ≡ item = cc found.2 in
-    subst (ItemStands columns) same (is.0, is.1)
+    ok_keeps (ItemStands columns) _ item found.2 (is.0, is.1)
 item_stands columns (item_trees.Bin col width name) item divides e =
     let found = made_of (column_named columns col) _ item e in
     let is = named_is columns col found.0 found.1 in
     let whole = unless_ok (is_text found.0.1) (KindMismatch col.at) (Ok (items.Bin found.0.0 width, found.0.1)) item found.2 in
-    let same : (let it : Item × Kind = (items.Bin found.0.0 width, found.0.1) in it) ≡ item = cc whole.1 in
-    subst (ItemStands columns) same ((is.0, subst IsInt (sym is.1) (is_int found.0.1 whole.0), divides), is.1)
+    ok_keeps (ItemStands columns) _ item whole.1 ((is.0, subst IsInt (sym is.1) (is_int found.0.1 whole.0), divides), is.1)
 
 -- the columns made so far have the kinds that the list gives them, behind those before the list
 abbrev Made : {X : Type 0} → (X → Type 0) → (X → Kind) → List Kind → List X × List Column → Type 0
@@ -68,8 +66,7 @@ item_more columns old new tree made divides e =
     let item = made_of (typed_item columns tree) _ new e in
     let stands = item_stands columns tree item.0 divides item.1 in
     let whole = unless_ok (list_any (has_name (item_name tree).name) old.1) (DuplicateName (item_name tree).at) _ new item.2 in
-    let same : (let it : List Item × List Column = (old.0 ++ item.0.0 ∷ [], old.1 ++ named (item_name tree) item.0.1 ∷ []) in it) ≡ new = cc whole.1 in
-    subst (ItemsMade columns) same (made_push (ItemFits (kinds_of columns)) (kind_of_item (kinds_of columns)) [] old.0 old.1 item.0.0 (named (item_name tree) item.0.1) made stands.0 stands.1)
+    ok_keeps (ItemsMade columns) _ new whole.1 (made_push (ItemFits (kinds_of columns)) (kind_of_item (kinds_of columns)) [] old.0 old.1 item.0.0 (named (item_name tree) item.0.1) made stands.0 stands.1)
 
 item_long : (columns : List Column) (old new : List Item × List Column) (tree : ItemTree) → item_after columns old tree ≡ Ok new → length new.0 ≡ length old.0 + 1
 item_long columns old new tree e =
@@ -95,8 +92,7 @@ key_more columns old new word made any e =
     let found = made_of (column_named columns word) _ new e in
     let is = named_is columns word found.0 found.1 in
     let whole = unless_ok (list_any (has_name word.name) old.1) (DuplicateName word.at) _ new found.2 in
-    let same : (let it : List ℕ × List Column = (old.0 ++ found.0.0 ∷ [], old.1 ++ named word found.0.1 ∷ []) in it) ≡ new = cc whole.1 in
-    subst (KeysMade columns) same (made_push (λ c. c < length (kinds_of columns)) (kind_in (kinds_of columns)) [] old.0 old.1 found.0.0 (named word found.0.1) made is.0 is.1)
+    ok_keeps (KeysMade columns) _ new whole.1 (made_push (λ c. c < length (kinds_of columns)) (kind_in (kinds_of columns)) [] old.0 old.1 found.0.0 (named word found.0.1) made is.0 is.1)
 
 abbrev AggStands : List Column → Agg × Kind → Type 0
 AggStands columns agg = AggFits (kinds_of columns) agg.0 × (kind_of_agg (kinds_of columns) agg.0 ≡ agg.1)
@@ -105,15 +101,13 @@ sum_stands : (columns : List Column) (word : Word) (c : ℕ) (kind : Kind) (agg 
 sum_stands columns word c kinds.Text agg below is e = absurd (cc e)
 sum_stands columns word c (kinds.Int level) agg below is e =
     let whole = unless_ok (nat_lt 2 level) (SumTooDeep word.at) (Ok (aggs.Sum c, kinds.Int (level + 1))) agg e in
-    let same : (let it : Agg × Kind = (aggs.Sum c, kinds.Int (level + 1)) in it) ≡ agg = cc whole.1 in
     let low : level ≤ 2 = grind (arith, whole.0) in
     let stands : AggStands columns (aggs.Sum c, kinds.Int (level + 1)) = rw is ((below, low), refl) in
-    subst (AggStands columns) same stands
+    ok_keeps (AggStands columns) _ agg whole.1 stands
 
 agg_stands : (columns : List Column) (what : AggWhat) (agg : Agg × Kind) → typed_agg columns what ≡ Ok agg → AggStands columns agg
 agg_stands columns agg_trees.Count agg e =
-    let same : (let it : Agg × Kind = (aggs.Count, kinds.Int 0) in it) ≡ agg = cc e in
-    subst (AggStands columns) same (tt, refl)
+    ok_keeps (AggStands columns) _ agg e (tt, refl)
 agg_stands columns (agg_trees.Sum word) agg e =
     let found = made_of (column_named columns word) _ agg e in
     let is = named_is columns word found.0 found.1 in
@@ -121,13 +115,11 @@ agg_stands columns (agg_trees.Sum word) agg e =
 agg_stands columns (agg_trees.Min word) agg e =
     let found = made_of (column_named columns word) _ agg e in
     let is = named_is columns word found.0 found.1 in
-    let same : (let it : Agg × Kind = (aggs.Min found.0.0, found.0.1) in it) ≡ agg = cc found.2 in
-    subst (AggStands columns) same (is.0, is.1)
+    ok_keeps (AggStands columns) _ agg found.2 (is.0, is.1)
 agg_stands columns (agg_trees.Max word) agg e =
     let found = made_of (column_named columns word) _ agg e in
     let is = named_is columns word found.0 found.1 in
-    let same : (let it : Agg × Kind = (aggs.Max found.0.0, found.0.1) in it) ≡ agg = cc found.2 in
-    subst (AggStands columns) same (is.0, is.1)
+    ok_keeps (AggStands columns) _ agg found.2 (is.0, is.1)
 
 abbrev AggsMade : List Column → List Kind → List Agg × List Column → Type 0
 AggsMade columns before = Made (AggFits (kinds_of columns)) (kind_of_agg (kinds_of columns)) before
@@ -137,8 +129,7 @@ agg_more columns before old new tree made any e =
     let agg = made_of (typed_agg columns tree.what) _ new e in
     let stands = agg_stands columns tree.what agg.0 agg.1 in
     let whole = unless_ok (list_any (has_name tree.name.name) old.1) (DuplicateName tree.name.at) _ new agg.2 in
-    let same : (let it : List Agg × List Column = (old.0 ++ agg.0.0 ∷ [], old.1 ++ named tree.name agg.0.1 ∷ []) in it) ≡ new = cc whole.1 in
-    subst (AggsMade columns before) same (made_push (AggFits (kinds_of columns)) (kind_of_agg (kinds_of columns)) before old.0 old.1 agg.0.0 (named tree.name agg.0.1) made stands.0 stands.1)
+    ok_keeps (AggsMade columns before) _ new whole.1 (made_push (AggFits (kinds_of columns)) (kind_of_agg (kinds_of columns)) before old.0 old.1 agg.0.0 (named tree.name agg.0.1) made stands.0 stands.1)
 
 abbrev pub GroupStands : List Column → TypedGroup → Type 0
 GroupStands columns group = GroupFits (kinds_of columns) group.keys group.aggs × (map (kind_in (kinds_of columns)) group.keys ++ map (kind_of_agg (kinds_of columns)) group.aggs ≡ kinds_of group.columns)
@@ -158,8 +149,7 @@ group_stands columns at words trees group e =
     let all = in_turn_keeps (AggsMade columns before) (λ w. Unit {0}) (agg_after columns) (agg_more columns before) ([], keys.0.1) listed.0 trees start (λ k d p. tt) listed.1 in
     let some = unless_ok (nat_eq (length listed.0.1) 0) (EmptyList at) _ group listed.2 in
     let few = unless_ok (nat_lt 16 (length listed.0.1)) (RowTooWide at) (Ok (record { keys = keys.0.0; aggs = listed.0.0; columns = listed.0.1 })) group some.1 in
-    let same : (let it : TypedGroup = record { keys = keys.0.0; aggs = listed.0.0; columns = listed.0.1 } in it) ≡ group = cc few.1 in
     let long : length keys.0.0 + length listed.0.0 ≡ length listed.0.1 = group_long columns keys.0.0 listed.0.0 listed.0.1 all.1 in
     let not_none : 0 < length listed.0.1 = grind (arith, some.0) in
     let not_many : length listed.0.1 ≤ 16 = grind (arith, few.0) in
-    subst (GroupStands columns) same (record { keyed = keyed.0; each = all.0; some = omega (arith, long, not_none); few = omega (arith, long, not_many) }, all.1)
+    ok_keeps (GroupStands columns) _ group few.1 (record { keyed = keyed.0; each = all.0; some = omega (arith, long, not_none); few = omega (arith, long, not_many) }, all.1)

@@ -1,11 +1,13 @@
--- Columns by their names.
-use Rattle.std.proofs.Common.{◌≡◌, ◌<◌, ℕ, List, [], ◌∷◌, length, Bool, Some, None, Ok, Err, position, get_or, ap, refl}
+-- Columns, tables and views by their names.
+use Rattle.std.proofs.Common.{◌≡◌, ◌<◌, ℕ, List, [], ◌∷◌, length, Bool, Option, Some, None, Ok, Err, position, get_or, ap, refl, subst}
+use Rattle.std.specs.Prelude.{ok_or}
 use Rattle.std.proofs.lemmas.List.{get_or_default}
 use Rattle.std.proofs.lemmas.List.Quantifiers.{position-Some}
 use Rattle.smk_base.specs.declared.tree.Word.{Word}
 use Rattle.smk_base.specs.declared.catalog.Column.{Column}
+use Rattle.smk_base.specs.declared.type_fault.TypeFault.{TypeFault}
 use Rattle.smk_base.specs.declared.type_fault.TypeFault.TheVariants.{UnknownColumn}
-use Rattle.smk_model.specs.Names.{column_named, has_name}
+use Rattle.smk_model.specs.Names.{Typed, column_named, has_name}
 
 pub column_found : (columns : List Column) (word : Word) (c : ℕ) (any : Column) → position (has_name word.name) columns ≡ Some c → column_named columns word ≡ Ok (c, (get_or columns c any).kind)
 column_found columns word c any e =
@@ -19,3 +21,11 @@ column_missing columns word e = rw e refl
 pub place_within : {X : Type 0} (p : X → Bool) (xs : List X) (i : ℕ) → position p xs ≡ Some i → i < length xs
 place_within p [] i e = absurd (cc)
 place_within p (x ∷ xs) i e = (position-Some p (x ∷ xs) i x e).0
+
+within_of : {X : Type 0} (p : X → Bool) (xs : List X) (fault : TypeFault) (place : Option ℕ) (n : ℕ) → position p xs ≡ place → (let found : Typed ℕ = ok_or place fault in found) ≡ Ok n → n < length xs
+within_of p xs fault None n e found = absurd (cc found)
+within_of p xs fault (Some c) n e found = let same : c ≡ n = cc found in subst (λ m. m < length xs) same (place_within p xs c e)
+
+-- a number that a word names is one of the list
+pub named_within : {X : Type 0} (p : X → Bool) (xs : List X) (fault : TypeFault) (n : ℕ) → (let found : Typed ℕ = ok_or (position p xs) fault in found) ≡ Ok n → n < length xs
+named_within p xs fault n e = within_of p xs fault (position p xs) n refl e

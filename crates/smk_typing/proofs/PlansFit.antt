@@ -1,6 +1,6 @@
 -- A plan that stands scans tables that are there and fits their kinds, and its columns have its kinds.
-use Rattle.std.proofs.Common.{◌≡◌, ◌∙◌, ◌+◌, ◌<◌, ◌≤◌, ℕ, Bool, true, false, not, List, [], ◌∷◌, ◌++◌, length, map, drop, get_or, Option, Some, None, Ok, refl, sym, ap, subst, arith, All, nat_eq, ◌&&◌}
-use Rattle.std.specs.Prelude.{nat_lt, ok_or}
+use Rattle.std.proofs.Common.{◌≡◌, ◌∙◌, ◌+◌, ◌<◌, ◌≤◌, ℕ, Bool, true, false, not, List, [], ◌∷◌, ◌++◌, length, map, drop, get_or, Ok, refl, sym, ap, subst, arith, All, nat_eq, ◌&&◌}
+use Rattle.std.specs.Prelude.{nat_lt}
 use Rattle.std.specs.List.{AllZip, list_all, zip}
 use Rattle.std.proofs.Math.Seq.{drop-append_seam}
 use Rattle.std.proofs.lemmas.List.{length-map, map-append, append_assoc, get_or-map}
@@ -14,18 +14,19 @@ use Rattle.smk_base.specs.declared.type_fault.TypeFault.TheVariants.{KindMismatc
 use Rattle.smk_base.specs.Plans.{Formula, Expr, Leaf, Apply, Combine, Unary, Selection, Projection, Distinction, Grouping, Binary, Equijoin, ThetaJoin, CrossProduct, BagUnion, SetUnion}
 use Rattle.smk_base.specs.Trees.{PredImage, TreeImage, ScanNode, StepNode, StepImage, SelectNode, ProjectNode, DistinctNode, GroupNode, JoinNode, ThetaNode, ProductNode, UnionAllNode, UnionNode}
 use Rattle.smk_base.specs.Rels.{kind_in}
-use Rattle.smk_model.specs.Names.{in_turn, place_of, same_name, column_named, kinds_of, same_sort}
+use Rattle.smk_model.specs.Names.{in_turn, same_name, column_named, kinds_of, same_sort}
 use Rattle.smk_model.specs.Kinds.{AreAlike, FormulaFits, PairFits, Fits1, Fits2, FewTogether, kinds1, kinds2, wider, wider_kinds}
 use Rattle.smk_model.specs.Plain.{leaves, width}
-use Rattle.smk_model.specs.Selection.{ScansFit, PlanFits, leaf_kinds, plan_kinds}
+use Rattle.smk_model.specs.Selection.{ScansFit, PlanFits, leaf_kinds, plan_kinds, nodes}
 use Rattle.smk_model.specs.Limits.{KeepsTree, KeepsStep}
+use Rattle.smk_model.specs.Limits as limits
 use Rattle.smk_model.specs.TypedSteps.{TypedPlan, typed_pred, typed_items, typed_group, pair_after, share_a_name, joined, same_shape, united_column, united, united_plan}
 use Rattle.smk_model.specs.Typing.{table_named, info_at, no_table, columns_of, typed_plan, typed_step}
 use Rattle.smk_model.specs.Catalogs.{table_kinds, each_table_kinds}
-use Rattle.smk_typing.proofs.Results.{made_of, unless_ok, in_turn_keeps}
+use Rattle.smk_typing.proofs.Results.{made_of, unless_ok, ok_keeps, in_turn_keeps}
 use Rattle.smk_typing.proofs.StepsFit.{named_is, kinds_long, alike, pred_fits}
 use Rattle.smk_typing.proofs.ListsFit.{items_stand, group_stands}
-use Rattle.smk_typing.proofs.Lookups.{place_within}
+use Rattle.smk_typing.proofs.Lookups.{named_within}
 
 -- joins and unions
 
@@ -37,12 +38,11 @@ pair_more lefts rights old new pair made any e =
     let left = made_of (column_named lefts pair.left) _ new e in
     let right = made_of (column_named rights pair.right) _ new left.2 in
     let whole = unless_ok (not (same_sort left.0.1 right.0.1)) (KindMismatch pair.right.at) (Ok (old ++ (left.0.0, right.0.0) ∷ [])) new right.2 in
-    let same : old ++ (left.0.0, right.0.0) ∷ [] ≡ new = cc whole.1 in
     let l = named_is lefts pair.left left.0 left.1 in
     let r = named_is rights pair.right right.0 right.1 in
     let like : AreAlike left.0.1 right.0.1 = alike left.0.1 right.0.1 whole.0 in
     let fits : PairFits (kinds_of lefts) (kinds_of rights) (left.0.0, right.0.0) = (l.0, r.0, subst (λ (k : Kind). AreAlike (kind_in (kinds_of lefts) left.0.0) k) (sym r.1) (subst (λ (k : Kind). AreAlike k right.0.1) (sym l.1) like)) in
-    subst (PairsFit lefts rights) same (All-push (PairFits (kinds_of lefts) (kinds_of rights)) old (left.0.0, right.0.0) made fits)
+    ok_keeps (PairsFit lefts rights) _ new whole.1 (All-push (PairFits (kinds_of lefts) (kinds_of rights)) old (left.0.0, right.0.0) made fits)
 
 and_true : (a b : Bool) → (a && b) ≡ true → (a ≡ true) × (b ≡ true)
 and_true true b e = (refl, e)
@@ -100,25 +100,28 @@ theta_parts at tree formula lefts rights columns e typed =
 
 -- plans
 
--- a plan over the kinds of n tables, with these columns, also where its leaves are followed by others
-pub record Stands (tables : List TableInfo) (typed : TypedPlan) : Type 0 where
+-- a plan of n nodes over the kinds of these tables, with these columns, also where its leaves are followed by others
+pub record Stands (tables : List TableInfo) (n : ℕ) (typed : TypedPlan) : Type 0 where
+  pub size : nodes typed.plan ≡ n
   pub scans : ScansFit (length tables) typed.plan
   pub fits : (more : List (List Kind)) → PlanFits typed.plan (leaf_kinds typed.plan (each_table_kinds tables) ++ more)
   pub kinds : (more : List (List Kind)) → plan_kinds typed.plan (leaf_kinds typed.plan (each_table_kinds tables) ++ more) ≡ kinds_of typed.columns
 
-scan_stands : (tables : List TableInfo) (t : ℕ) → t < length tables → Stands tables (record { plan = Leaf t; columns = columns_of (info_at tables t) })
+scan_stands : (tables : List TableInfo) (t : ℕ) → t < length tables → Stands tables 1 (record { plan = Leaf t; columns = columns_of (info_at tables t) })
 scan_stands tables t below = record {
+  size = refl;
   scans = below;
   fits = λ more. tt;
   kinds = λ more. get_or-map table_kinds tables t no_table [] below;
 }
 
-step_stands : (tables : List TableInfo) (left : TypedPlan) (op : Unary) (columns : List Column) → Stands tables left → Fits1 op (kinds_of left.columns) → kinds1 op (kinds_of left.columns) ≡ kinds_of columns
-    → Stands tables (record { plan = Apply op left.plan; columns = columns })
-step_stands tables left op columns stands fits e = record {
+step_stands : (tables : List TableInfo) (n : ℕ) (left : TypedPlan) (op : Unary) (columns : List Column) → Stands tables n left → Fits1 op (kinds_of left.columns) × (kinds1 op (kinds_of left.columns) ≡ kinds_of columns)
+    → Stands tables (n + 1) (record { plan = Apply op left.plan; columns = columns })
+step_stands tables n left op columns stands made = record {
+  size = ap (λ nodes. nodes + 1) stands.size;
   scans = stands.scans;
-  fits = λ more. (stands.fits more, subst (Fits1 op) (sym (stands.kinds more)) fits);
-  kinds = λ more. ap (kinds1 op) (stands.kinds more) ∙ e;
+  fits = λ more. (stands.fits more, subst (Fits1 op) (sym (stands.kinds more)) made.0);
+  kinds = λ more. ap (kinds1 op) (stands.kinds more) ∙ made.1;
 }
 
 -- the leaves of both inputs
@@ -130,9 +133,9 @@ behind_left K a more =
     let long : length (leaf_kinds a K) ≡ width a = length-map (leaves a) (λ table. get_or K table []) in
     ap (λ n. drop n (leaf_kinds a K ++ more)) (sym long) ∙ drop-append_seam (leaf_kinds a K) more
 
-both_stand : (tables : List TableInfo) (left right : TypedPlan) (op : Binary) (columns : List Column) → Stands tables left → Stands tables right → Fits2Made op left.columns right.columns columns
-    → Stands tables (record { plan = Combine op left.plan right.plan; columns = columns })
-both_stand tables left right op columns l r made =
+both_stand : (tables : List TableInfo) (n m : ℕ) (left right : TypedPlan) (op : Binary) (columns : List Column) → Stands tables n left → Stands tables m right → Fits2Made op left.columns right.columns columns
+    → Stands tables (n + (m + 1)) (record { plan = Combine op left.plan right.plan; columns = columns })
+both_stand tables n m left right op columns l r made =
     let K : List (List Kind) = each_table_kinds tables in
     let behind : (more : List (List Kind)) → drop (width left.plan) (leaf_kinds left.plan K ++ (leaf_kinds right.plan K ++ more)) ≡ leaf_kinds right.plan K ++ more = λ more. behind_left K left.plan (leaf_kinds right.plan K ++ more) in
     let right_kinds : (more : List (List Kind)) → plan_kinds right.plan (drop (width left.plan) (leaf_kinds left.plan K ++ (leaf_kinds right.plan K ++ more))) ≡ kinds_of right.columns = λ more. ap (plan_kinds right.plan) (behind more) ∙ r.kinds more in
@@ -143,6 +146,7 @@ both_stand tables left right op columns l r made =
       subst (λ (ks : List Kind). Fits2 op ks (plan_kinds right.plan (drop (width left.plan) (leaf_kinds left.plan K ++ (leaf_kinds right.plan K ++ more))))) (sym (left_kinds more)) (subst (λ (ks : List Kind). Fits2 op (kinds_of left.columns) ks) (sym (right_kinds more)) made.0),
     ) in
     record {
+      size = omega (arith, l.size, r.size);
       scans = (l.scans, r.scans);
       fits = λ more. subst (PlanFits (Combine op left.plan right.plan)) (sym (leaves_two K left.plan right.plan op more)) (fit more);
       kinds = λ more. ap (plan_kinds (Combine op left.plan right.plan)) (leaves_two K left.plan right.plan op more)
@@ -150,79 +154,61 @@ both_stand tables left right op columns l r made =
           ∙ ap (kinds2 op (kinds_of left.columns)) (right_kinds more) ∙ made.1;
     }
 
-table_there : (tables : List TableInfo) (word : Word) (place : Option ℕ) (t : ℕ) → place_of word.name (map (λ table. table.name) tables) ≡ place → ok_or place (UnknownTable word.at) ≡ Ok t → t < length tables
-table_there tables word None t p e = absurd (cc e)
-table_there tables word (Some c) t p e =
-    let same : c ≡ t = cc e in
-    let below = place_within (same_name word.name) (map (λ (table : TableInfo). table.name) tables) c p in
-    omega (arith, same, below, length-map tables (λ (table : TableInfo). table.name))
-
 -- a table that a word names is there
 pub table_is : (tables : List TableInfo) (word : Word) (t : ℕ) → table_named tables word ≡ Ok t → t < length tables
-table_is tables word t e = table_there tables word (place_of word.name (map (λ table. table.name) tables)) t refl e
+table_is tables word t e =
+    let below = named_within (same_name word.name) (map (λ (table : TableInfo). table.name) tables) (UnknownTable word.at) t e in
+    omega (arith, below, length-map tables (λ (table : TableInfo). table.name))
 
-united_stands : (tables : List TableInfo) (at : ℕ) (op : Binary) (left right typed : TypedPlan) → ((l r : List Kind) → AllZip AreAlike l r → Fits2 op l r) → ((l r : List Kind) → kinds2 op l r ≡ wider_kinds l r)
-    → Stands tables left → Stands tables right → united_plan op at left right ≡ Ok typed → Stands tables typed
-united_stands tables at op left right typed fits kinds l r e =
+united_stands : (tables : List TableInfo) (n m at : ℕ) (op : Binary) (left right typed : TypedPlan) → ((l r : List Kind) → AllZip AreAlike l r → Fits2 op l r) → ((l r : List Kind) → kinds2 op l r ≡ wider_kinds l r)
+    → Stands tables n left → Stands tables m right → united_plan op at left right ≡ Ok typed → Stands tables (n + (m + 1)) typed
+united_stands tables n m at op left right typed fits kinds l r e =
     let made = made_of (united at left.columns right.columns) _ typed e in
     let parts = united_parts at left.columns right.columns made.0 made.1 in
-    let same : (let it : TypedPlan = record { plan = Combine op left.plan right.plan; columns = made.0 } in it) ≡ typed = cc made.2 in
-    subst (Stands tables) same (both_stand tables left right op made.0 l r (fits _ _ parts.0, kinds _ _ ∙ parts.1))
+    ok_keeps (Stands tables (n + (m + 1))) _ typed made.2 (both_stand tables n m left right op made.0 l r (fits _ _ parts.0, kinds _ _ ∙ parts.1))
 
--- a plan and a step that stand
+-- a plan and a step that stand, with the nodes of their trees
 mutual
-  pub plan_stands : (tables : List TableInfo) (tree : TreeImage) (typed : TypedPlan) → KeepsTree tree → typed_plan tables tree ≡ Ok typed → Stands tables typed
+  pub plan_stands : (tables : List TableInfo) (tree : TreeImage) (typed : TypedPlan) → KeepsTree tree → typed_plan tables tree ≡ Ok typed → Stands tables (limits.nodes tree) typed
   plan_stands tables (ScanNode word) typed keeps e =
       let found = made_of (table_named tables word) _ typed e in
-      let same : (let it : TypedPlan = record { plan = Leaf found.0; columns = columns_of (info_at tables found.0) } in it) ≡ typed = cc found.2 in
-      subst (Stands tables) same (scan_stands tables found.0 (table_is tables word found.0 found.1))
+      ok_keeps (Stands tables 1) _ typed found.2 (scan_stands tables found.0 (table_is tables word found.0 found.1))
   plan_stands tables (StepNode at input what) typed keeps e =
       let left = made_of (typed_plan tables input) _ typed e in
-      stepped_stands tables what at left.0 typed keeps.1 (plan_stands tables input left.0 keeps.0 left.1) left.2
+      stepped_stands tables what at (limits.nodes input) left.0 typed keeps.1 (plan_stands tables input left.0 keeps.0 left.1) left.2
 
-  pub stepped_stands : (tables : List TableInfo) (what : StepImage) (at : ℕ) (left typed : TypedPlan) → KeepsStep what → Stands tables left → typed_step tables what at left ≡ Ok typed → Stands tables typed
-  stepped_stands tables (SelectNode pred) at left typed keeps stands e =
+  pub stepped_stands : (tables : List TableInfo) (what : StepImage) (at n : ℕ) (left typed : TypedPlan) → KeepsStep what → Stands tables n left → typed_step tables what at left ≡ Ok typed → Stands tables (n + limits.nodes_of_step what) typed
+  stepped_stands tables (SelectNode pred) at n left typed keeps stands e =
       let made = made_of (typed_pred left.columns pred) _ typed e in
-      let same : (let it : TypedPlan = record { plan = Apply (Selection made.0) left.plan; columns = left.columns } in it) ≡ typed = cc made.2 in
-      subst (Stands tables) same (step_stands tables left (Selection made.0) left.columns stands (pred_fits left.columns pred made.0 made.1) refl)
-  stepped_stands tables (ProjectNode items) at left typed keeps stands e =
+      ok_keeps (Stands tables (n + 1)) _ typed made.2 (step_stands tables n left (Selection made.0) left.columns stands (pred_fits left.columns pred made.0 made.1, refl))
+  stepped_stands tables (ProjectNode items) at n left typed keeps stands e =
       let made = made_of (typed_items left.columns items) _ typed e in
-      let fit = items_stand left.columns items made.0 keeps made.1 in
-      let same : (let it : TypedPlan = record { plan = Apply (Projection made.0.0) left.plan; columns = made.0.1 } in it) ≡ typed = cc made.2 in
-      subst (Stands tables) same (step_stands tables left (Projection made.0.0) made.0.1 stands fit.0 fit.1)
-  stepped_stands tables (DistinctNode items) at left typed keeps stands e =
+      ok_keeps (Stands tables (n + 1)) _ typed made.2 (step_stands tables n left (Projection made.0.0) made.0.1 stands (items_stand left.columns items made.0 keeps made.1))
+  stepped_stands tables (DistinctNode items) at n left typed keeps stands e =
       let made = made_of (typed_items left.columns items) _ typed e in
-      let fit = items_stand left.columns items made.0 keeps made.1 in
-      let same : (let it : TypedPlan = record { plan = Apply (Distinction made.0.0) left.plan; columns = made.0.1 } in it) ≡ typed = cc made.2 in
-      subst (Stands tables) same (step_stands tables left (Distinction made.0.0) made.0.1 stands fit.0 fit.1)
-  stepped_stands tables (GroupNode keys aggs) at left typed keeps stands e =
+      ok_keeps (Stands tables (n + 1)) _ typed made.2 (step_stands tables n left (Distinction made.0.0) made.0.1 stands (items_stand left.columns items made.0 keeps made.1))
+  stepped_stands tables (GroupNode keys aggs) at n left typed keeps stands e =
       let made = made_of (typed_group left.columns at keys aggs) _ typed e in
-      let fit = group_stands left.columns at keys aggs made.0 made.1 in
-      let same : (let it : TypedPlan = record { plan = Apply (Grouping made.0.keys made.0.aggs) left.plan; columns = made.0.columns } in it) ≡ typed = cc made.2 in
-      subst (Stands tables) same (step_stands tables left (Grouping made.0.keys made.0.aggs) made.0.columns stands fit.0 fit.1)
-  stepped_stands tables (JoinNode source pairs) at left typed keeps stands e =
+      ok_keeps (Stands tables (n + 1)) _ typed made.2 (step_stands tables n left (Grouping made.0.keys made.0.aggs) made.0.columns stands (group_stands left.columns at keys aggs made.0 made.1))
+  stepped_stands tables (JoinNode source pairs) at n left typed keeps stands e =
       let right = made_of (typed_plan tables source) _ typed e in
       let paired = made_of (in_turn (pair_after left.columns right.0.columns) [] pairs) _ typed right.2 in
       let made = made_of (joined at left.columns right.0.columns) _ typed paired.2 in
       let fit = joined_parts at pairs paired.0 left.columns right.0.columns made.0 paired.1 made.1 in
-      let same : (let it : TypedPlan = record { plan = Combine (Equijoin paired.0) left.plan right.0.plan; columns = made.0 } in it) ≡ typed = cc made.2 in
-      subst (Stands tables) same (both_stand tables left right.0 (Equijoin paired.0) made.0 stands (plan_stands tables source right.0 keeps right.1) fit)
-  stepped_stands tables (ThetaNode source pred) at left typed keeps stands e =
+      ok_keeps (Stands tables (n + (limits.nodes source + 1))) _ typed made.2 (both_stand tables n _ left right.0 (Equijoin paired.0) made.0 stands (plan_stands tables source right.0 keeps right.1) fit)
+  stepped_stands tables (ThetaNode source pred) at n left typed keeps stands e =
       let right = made_of (typed_plan tables source) _ typed e in
       let whole = made_of (joined at left.columns right.0.columns) _ typed right.2 in
       let made = made_of (typed_pred whole.0 pred) _ typed whole.2 in
       let fit = theta_parts at pred made.0 left.columns right.0.columns whole.0 whole.1 made.1 in
-      let same : (let it : TypedPlan = record { plan = Combine (ThetaJoin made.0) left.plan right.0.plan; columns = whole.0 } in it) ≡ typed = cc made.2 in
-      subst (Stands tables) same (both_stand tables left right.0 (ThetaJoin made.0) whole.0 stands (plan_stands tables source right.0 keeps right.1) fit)
-  stepped_stands tables (ProductNode source) at left typed keeps stands e =
+      ok_keeps (Stands tables (n + (limits.nodes source + 1))) _ typed made.2 (both_stand tables n _ left right.0 (ThetaJoin made.0) whole.0 stands (plan_stands tables source right.0 keeps right.1) fit)
+  stepped_stands tables (ProductNode source) at n left typed keeps stands e =
       let right = made_of (typed_plan tables source) _ typed e in
       let whole = made_of (joined at left.columns right.0.columns) _ typed right.2 in
-      let fit = joined_whole at left.columns right.0.columns whole.0 whole.1 in
-      let same : (let it : TypedPlan = record { plan = Combine CrossProduct left.plan right.0.plan; columns = whole.0 } in it) ≡ typed = cc whole.2 in
-      subst (Stands tables) same (both_stand tables left right.0 CrossProduct whole.0 stands (plan_stands tables source right.0 keeps right.1) fit)
-  stepped_stands tables (UnionAllNode source) at left typed keeps stands e =
+      ok_keeps (Stands tables (n + (limits.nodes source + 1))) _ typed whole.2 (both_stand tables n _ left right.0 CrossProduct whole.0 stands (plan_stands tables source right.0 keeps right.1) (joined_whole at left.columns right.0.columns whole.0 whole.1))
+  stepped_stands tables (UnionAllNode source) at n left typed keeps stands e =
       let right = made_of (typed_plan tables source) _ typed e in
-      united_stands tables at BagUnion left right.0 typed (λ l r f. f) (λ l r. refl) stands (plan_stands tables source right.0 keeps right.1) right.2
-  stepped_stands tables (UnionNode source) at left typed keeps stands e =
+      united_stands tables n _ at BagUnion left right.0 typed (λ l r f. f) (λ l r. refl) stands (plan_stands tables source right.0 keeps right.1) right.2
+  stepped_stands tables (UnionNode source) at n left typed keeps stands e =
       let right = made_of (typed_plan tables source) _ typed e in
-      united_stands tables at SetUnion left right.0 typed (λ l r f. f) (λ l r. refl) stands (plan_stands tables source right.0 keeps right.1) right.2
+      united_stands tables n _ at SetUnion left right.0 typed (λ l r f. f) (λ l r. refl) stands (plan_stands tables source right.0 keeps right.1) right.2

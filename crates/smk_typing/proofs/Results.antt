@@ -13,13 +13,14 @@ pub unless_ok : {A : Type 0} (wrong : Bool) (fault : TypeFault) (found : Typed A
 unless_ok true fault found a e = absurd (cc e)
 unless_ok false fault found a e = (refl, e)
 
-pub ok_same : {A : Type 0} (a b : A) → (let found : Typed A = Ok a in found) ≡ Ok b → a ≡ b
-ok_same a b e = cc e
+-- what a result keeps, the same result keeps
+pub ok_keeps : {A : Type 0} (P : A → Type 0) (a b : A) → (let found : Typed A = Ok a in found) ≡ Ok b → P a → P b
+ok_keeps P a b e held = let same : a ≡ b = cc e in subst P same held
 
 -- what each member of a list keeps, the whole list keeps
 pub in_turn_keeps : {A X : Type 0} (P : A → Type 0) (Q : X → Type 0) (rule : A → X → Typed A) → ((a b : A) (x : X) → P a → Q x → rule a x ≡ Ok b → P b)
     → (a b : A) (xs : List X) → P a → All Q xs → in_turn rule a xs ≡ Ok b → P b
-in_turn_keeps P Q rule step a b [] held all e = let same : a ≡ b = cc e in subst P same held
+in_turn_keeps P Q rule step a b [] held all e = ok_keeps P a b e held
 in_turn_keeps P Q rule step a b (x ∷ xs) held all e =
     let first = made_of (rule a x) (λ more. in_turn rule more xs) b e in
     in_turn_keeps P Q rule step first.0 b xs (step a first.0 x held (all 0 x (omega arith)) first.1) (λ k d p. all (suc k) d (omega arith)) first.2

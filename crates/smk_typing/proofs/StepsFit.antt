@@ -11,13 +11,13 @@ use Rattle.smk_base.specs.declared.plan.Operand.{Operand}
 use Rattle.smk_base.specs.declared.plan.Operand.TheVariants as operands
 use Rattle.smk_base.specs.declared.catalog.Column.{Column}
 use Rattle.smk_base.specs.declared.type_fault.TypeFault.TheVariants.{UnknownColumn, KindMismatch}
-use Rattle.smk_base.specs.Plans.{Formula, Comparison, Conjunction, Disjunction, Negation}
+use Rattle.smk_base.specs.Plans.{Formula, Comparison}
 use Rattle.smk_base.specs.Trees.{PredImage, CompareNode, AndNode, OrNode, NotNode}
 use Rattle.smk_base.specs.Rels.{kind_in}
 use Rattle.smk_model.specs.Names.{column_named, column_at, has_name, kinds_of, same_sort}
 use Rattle.smk_model.specs.Kinds.{AreAlike, kind_of, FormulaFits, OperandFits}
 use Rattle.smk_model.specs.TypedSteps.{typed_term, typed_pred, term_place}
-use Rattle.smk_typing.proofs.Results.{made_of, unless_ok}
+use Rattle.smk_typing.proofs.Results.{made_of, unless_ok, ok_keeps}
 use Rattle.smk_typing.proofs.Lookups.{place_within}
 
 pub kinds_long : (columns : List Column) → length (kinds_of columns) ≡ length columns
@@ -28,10 +28,9 @@ at_place : (columns : List Column) (word : Word) (place : Option ℕ) (found : �
     → (found.0 < length (kinds_of columns)) × (kind_in (kinds_of columns) found.0 ≡ found.1)
 at_place columns word None found p e = absurd (cc e)
 at_place columns word (Some c) found p e =
-    let same : (let it : ℕ × Kind = (c, (column_at columns c).kind) in it) ≡ found = cc e in
     let below : c < length columns = place_within (has_name word.name) columns c p in
     let here : kind_in (kinds_of columns) c ≡ (column_at columns c).kind = get_or-map (λ column. column.kind) columns c (record { name = []; kind = kinds.Text }) kinds.Text below in
-    subst (λ (it : ℕ × Kind). (it.0 < length (kinds_of columns)) × (kind_in (kinds_of columns) it.0 ≡ it.1)) same (omega (arith, below, kinds_long columns), here)
+    ok_keeps (λ (it : ℕ × Kind). (it.0 < length (kinds_of columns)) × (kind_in (kinds_of columns) it.0 ≡ it.1)) _ found e (omega (arith, below, kinds_long columns), here)
 
 -- a column that a word names is there, with its kind
 pub named_is : (columns : List Column) (word : Word) (found : ℕ × Kind) → column_named columns word ≡ Ok found → (found.0 < length (kinds_of columns)) × (kind_in (kinds_of columns) found.0 ≡ found.1)
@@ -60,21 +59,17 @@ pred_fits columns (CompareNode word op term) formula e =
     let left = made_of (column_named columns word) _ formula e in
     let right = made_of (typed_term columns term) _ formula left.2 in
     let whole = unless_ok (not (same_sort left.0.1 right.0.1)) (KindMismatch (term_place term)) (Ok (Comparison left.0.0 op right.0.0)) formula right.2 in
-    let same : Comparison left.0.0 op right.0.0 ≡ formula = cc whole.1 in
     let is = named_is columns word left.0 left.1 in
     let like : AreAlike (kind_in (kinds_of columns) left.0.0) right.0.1 = subst (λ (k : Kind). AreAlike k right.0.1) (sym is.1) (alike left.0.1 right.0.1 whole.0) in
-    subst (FormulaFits (kinds_of columns)) same (is.0, term_fits columns term (kind_in (kinds_of columns) left.0.0) right.0 right.1 like)
+    ok_keeps (FormulaFits (kinds_of columns)) _ formula whole.1 (is.0, term_fits columns term (kind_in (kinds_of columns) left.0.0) right.0 right.1 like)
 pred_fits columns (AndNode a b) formula e =
     let left = made_of (typed_pred columns a) _ formula e in
     let right = made_of (typed_pred columns b) _ formula left.2 in
-    let same : Conjunction left.0 right.0 ≡ formula = cc right.2 in
-    subst (FormulaFits (kinds_of columns)) same (pred_fits columns a left.0 left.1, pred_fits columns b right.0 right.1)
+    ok_keeps (FormulaFits (kinds_of columns)) _ formula right.2 (pred_fits columns a left.0 left.1, pred_fits columns b right.0 right.1)
 pred_fits columns (OrNode a b) formula e =
     let left = made_of (typed_pred columns a) _ formula e in
     let right = made_of (typed_pred columns b) _ formula left.2 in
-    let same : Disjunction left.0 right.0 ≡ formula = cc right.2 in
-    subst (FormulaFits (kinds_of columns)) same (pred_fits columns a left.0 left.1, pred_fits columns b right.0 right.1)
+    ok_keeps (FormulaFits (kinds_of columns)) _ formula right.2 (pred_fits columns a left.0 left.1, pred_fits columns b right.0 right.1)
 pred_fits columns (NotNode a) formula e =
     let inner = made_of (typed_pred columns a) _ formula e in
-    let same : Negation inner.0 ≡ formula = cc inner.2 in
-    subst (FormulaFits (kinds_of columns)) same (pred_fits columns a inner.0 inner.1)
+    ok_keeps (FormulaFits (kinds_of columns)) _ formula inner.2 (pred_fits columns a inner.0 inner.1)
