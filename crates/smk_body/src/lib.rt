@@ -3,6 +3,7 @@
 
 mod aggregates;
 mod body;
+pub mod captured;
 mod classes;
 mod group;
 mod join;
@@ -19,7 +20,7 @@ mod unions;
 pub use body::{OpBody, OpFault};
 pub use classes::{first_rows, row_classes};
 pub use group::group_rows;
-pub use join::{joined, joined_onto, matched, partners_of};
+pub use join::{joined, joined_onto, left_columns, matched, partners_of, right_columns};
 pub use lists::{
     marked_lists, own_side, side_from_classes, side_from_places, side_from_runs, side_of_classes,
     side_of_places, side_of_sources, side_of_stretch, side_with_forward, single_lists,

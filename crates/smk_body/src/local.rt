@@ -1,3 +1,5 @@
+ghost use Rattle.std.specs.Prelude.{◌≡◌, None, Some};
+
 use smk_base::Dir;
 use smk_rid::RidMap;
 
@@ -20,4 +22,23 @@ pub struct Side {
 pub struct Local {
     pub left: Side,
     pub right: Option<Side>,
+}
+
+impl Local {
+    /// The lineage of a step whose only side this is. It takes no memory.
+    pub fn of_one(left: Side) -> Local
+        ensures { result ≡ record { left = left; right = None } }
+    {
+        Local { left, right: None }
+    }
+
+    /// The lineage of a step with these sides. It takes no memory.
+    pub fn of_both(left: Side, right: Side) -> Local
+        ensures { result ≡ record { left = left; right = Some right } }
+    {
+        Local {
+            left,
+            right: Some(right),
+        }
+    }
 }

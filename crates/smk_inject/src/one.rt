@@ -1,6 +1,6 @@
 //! The steps with one input: their rows and their lineage.
 
-ghost use Rattle.std.specs.Prelude.{◌≡◌, IfOk, None};
+ghost use Rattle.std.specs.Prelude.{◌≡◌, IfOk};
 ghost use Rattle.smk_base.specs.PlanImage.{formula_of};
 ghost use Rattle.smk_base.specs.Plans.{Distinction, Grouping, Projection, Selection};
 ghost use Rattle.smk_model.specs.Kinds.{FormulaFits, GroupFits, ItemsFit, kinds1};
@@ -8,7 +8,8 @@ ghost use Rattle.smk_model.specs.Plain.{step1};
 ghost use Rattle.smk_body.specs.Locals.{local1};
 
 use smk_base::{Agg, Dir, Item, Pred, Rel};
-use smk_body::{Local, Side, images, own_side, side_from_classes, side_from_places, steps};
+use smk_body::{Local, captured, images, own_side, selected, side_from_classes, steps};
+use smk_keys::Classes;
 use std::alloc::{AllocError, Global};
 
 /// The rows that meet a predicate, in order. Each comes from the row at its place.
@@ -18,9 +19,8 @@ pub fn select(alloc: Global, rel: &Rel, pred: &Pred, want: Dir) -> Result<(Rel, 
     ensures rows { IfOk result (λ made. made.0.rows ≡ step1 (Selection (formula_of pred.now)) rel.now.rows) }
     ensures lineage { IfOk result (λ made. made.1 ≡ local1 (Selection (formula_of pred.now)) rel.now.rows want) }
 {
-    let (made, places) = steps::select(alloc, rel, pred)?;
-    let side = side_from_places(alloc, places, rel.len(), want)?;
-    Ok((made, of_one(side)))
+    let places = selected(alloc, rel, pred, 0, rel.len())?;
+    captured::select(alloc, rel, pred, places, want)
 }
 
 /// The image of each row, in order. Each comes from the row at its own place.
@@ -37,7 +37,7 @@ pub fn project(
 {
     let made = images(alloc, rel, items)?;
     let side = own_side(alloc, rel.len(), want)?;
-    Ok((made, of_one(side)))
+    Ok((made, Local::of_one(side)))
 }
 
 /// The images of the rows, each at its first occurrence. Each row reaches the one that its image equals.
@@ -55,7 +55,7 @@ pub fn distinct(
     let _rows = rel.len();
     let (made, classes) = steps::distinct(alloc, rel, items)?;
     let side = side_from_classes(alloc, classes.into_of(), made.len(), want)?;
-    Ok((made, of_one(side)))
+    Ok((made, Local::of_one(side)))
 }
 
 /// One row for each key by first occurrence, the key and then the aggregates over its rows. Each row reaches that of its key.
@@ -71,15 +71,6 @@ pub fn group(
     ensures rows { IfOk result (λ made. made.0.rows ≡ step1 (Grouping keys.now aggs.now) rel.now.rows) }
     ensures lineage { IfOk result (λ made. made.1 ≡ local1 (Grouping keys.now aggs.now) rel.now.rows want) }
 {
-    let _rows = rel.len();
-    let (made, groups) = steps::group(alloc, rel, keys, aggs)?;
-    let side = side_from_classes(alloc, groups.into_of(), made.len(), want)?;
-    Ok((made, of_one(side)))
-}
-
-// The lineage of a step whose only side this is.
-fn of_one(left: Side) -> Local
-    ensures { result ≡ record { left = left; right = None } }
-{
-    Local { left, right: None }
+    let classes = Classes::of_rows(alloc, rel, keys)?;
+    captured::group(alloc, rel, classes, keys, aggs, want)
 }

@@ -81,7 +81,7 @@ impl<'g, G: Gate + Sync, B: OpBody> InPieces for Gated<'g, G, B> {
 
     fn cut1(
         &self,
-        alloc: Global,
+        _alloc: Global,
         op: &Op1,
         _input: &Rel,
         _want: Dir,
@@ -89,7 +89,7 @@ impl<'g, G: Gate + Sync, B: OpBody> InPieces for Gated<'g, G, B> {
         match op {
             Op1::Select(_) => Ok(Some(Cut {
                 pieces: self.workers as usize,
-                shared: Vec::new(alloc),
+                shared: None,
             })),
             _ => Ok(None),
         }
@@ -112,7 +112,7 @@ impl<'g, G: Gate + Sync, B: OpBody> InPieces for Gated<'g, G, B> {
 
     fn cut2(
         &self,
-        alloc: Global,
+        _alloc: Global,
         op: &Op2,
         _left: &Rel,
         _right: &Rel,
@@ -121,7 +121,7 @@ impl<'g, G: Gate + Sync, B: OpBody> InPieces for Gated<'g, G, B> {
         match op {
             Op2::UnionAll => Ok(Some(Cut {
                 pieces: 2,
-                shared: Vec::new(alloc),
+                shared: None,
             })),
             _ => Ok(None),
         }

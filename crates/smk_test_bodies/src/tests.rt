@@ -4,11 +4,9 @@ ghost use Rattle.smk_base.specs.declared.value.Kind.TheVariants.{Int};
 use super::*;
 use smk_base::{CmpOp, Dir, Kind, Op1, Op2, Operand, Pred, Rel};
 use smk_body::{Local, OpBody, Side, Want};
-use smk_outside::{Gate, Idle};
+use smk_outside::Idle;
 use std::alloc::{AllocError, Global};
-use std::sync::atomic::{AtomicU64, Ordering};
 use std::test::Fail;
-use std::thread;
 
 const NONE: Dir = Dir {
     back: false,
@@ -19,51 +17,6 @@ const NEITHER: Want = Want {
     left: NONE,
     right: NONE,
 };
-
-// A gate at which pieces 0 and 1 wait for each other, for so many turns at most. It keeps how often each of them came, and how often one has waited in vain.
-#[derive(Drop)]
-struct Meeting {
-    first: AtomicU64,
-    second: AtomicU64,
-    alone: AtomicU64,
-}
-
-impl Meeting {
-    fn new() -> Meeting {
-        Meeting {
-            first: AtomicU64::new(0),
-            second: AtomicU64::new(0),
-            alone: AtomicU64::new(0),
-        }
-    }
-
-    // How often each came, and how often one has waited in vain.
-    fn came(&self) -> [u64; 3] {
-        [
-            self.first.load(Ordering::SeqCst),
-            self.second.load(Ordering::SeqCst),
-            self.alone.load(Ordering::SeqCst),
-        ]
-    }
-}
-
-impl Gate for Meeting {
-    fn arrive(&self, piece: u32) {
-        let (mine, other) = if piece == 0 {
-            (&self.first, &self.second)
-        } else {
-            (&self.second, &self.first)
-        };
-        let here = mine.fetch_add(1, Ordering::SeqCst);
-        for _ in 0..1_073_741_824u64 {
-            if here < other.load(Ordering::SeqCst) {
-                return;
-            }
-            thread::yield_now();
-        }
-        self.alone.fetch_add(1, Ordering::SeqCst);
-    }
-}
 
 // A table of one column of ints, without rows.
 fn no_rows(alloc: Global) -> Result<Rel, AllocError>
