@@ -1,0 +1,3 @@
+pub mod Cutting
+pub mod Probing
+pub mod Renumbering

@@ -1,0 +1,14 @@
+-- Numbers of rows that are numbered piece by piece, before equal keys of several pieces have one number.
+use Rattle.std.specs.Prelude.{◌≡◌, ℕ, ◌<◌, ◌≤◌, List, length, slice_index}
+use Rattle.smk_model.specs.Values.{Row}
+use Rattle.smk_model.specs.Lineage.{row_at}
+
+-- numbers of the first n keys, in the order in which they come, and for each number the place where it comes first: there stands a key equal to each that has the number
+pub record StandFor (keys : List Row) (n : ℕ) (firsts of : List ℕ) : Type 0 where
+  pub long : length of ≡ n
+  pub few : length firsts ≤ n
+  pub within : (i : ℕ) → i < n → slice_index of i < length firsts
+  pub place : (k : ℕ) → k < length firsts → slice_index firsts k < n
+  pub at : (k : ℕ) → k < length firsts → slice_index of (slice_index firsts k) ≡ k
+  pub first : (k i : ℕ) → k < length firsts → i < slice_index firsts k → slice_index of i < k
+  pub same : (i : ℕ) → i < n → row_at keys (slice_index firsts (slice_index of i)) ≡ row_at keys i
