@@ -12,4 +12,3 @@ pub mod Twos
 pub mod Counts
 pub mod Scans
 pub mod Bridge
-pub mod Narrows

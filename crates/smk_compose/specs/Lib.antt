@@ -3,4 +3,3 @@ pub mod Walk
 pub mod Kept
 pub mod Over
 pub mod Through
-pub mod Narrowed

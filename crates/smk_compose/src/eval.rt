@@ -8,9 +8,9 @@ ghost use Rattle.smk_compose.specs.declared.fault.EvalFault.TheVariants.{Rows};
 
 use crate::fault::EvalFault;
 use crate::leaves::Leaves;
-use crate::narrow::{Narrowed, narrow};
 use smk_base::{Dir, Op1, Op2, Plan, Rel};
 use smk_body::{OpBody, OpFault, Want};
+use smk_narrow::{Narrowed, narrow};
 use smk_table::Chosen;
 use std::alloc::Global;
 use std::thread::Threads;

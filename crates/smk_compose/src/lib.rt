@@ -8,7 +8,6 @@ mod fetch;
 mod fill;
 mod kept;
 mod leaves;
-mod narrow;
 mod pass;
 mod rows;
 mod run;

@@ -4,6 +4,7 @@ ghost use Rattle.smk_push.specs.Cubes.{cube_at, cubes_of};
 
 use crate::group::group_at;
 use smk_base::{Aggs, Keys, Rel};
+use smk_narrow::narrow_group;
 use smk_outside::Steps;
 use smk_rid::RidMap;
 use smk_table::Table;
@@ -41,10 +42,11 @@ impl Cubes {
         ensures groups { IfOk result (λ cubes. cubes ≡ cubes_of map.now table.now keys.now aggs.now) }
         ensures looks { steps.new ≤ steps.old + length table.now.rows }
     {
-        let rel = table.whole(alloc, steps)?;
+        let all = table.choose_all(alloc, steps)?;
+        let grouping = narrow_group(alloc, keys.as_slice(), aggs.as_slice(), &all)?;
         let mut groups = Vec::with_capacity(alloc, map.len() as usize)?;
         for mark in 0..map.len() {
-            let made = group_at(alloc, &rel, map.at(mark), keys.as_slice(), aggs.as_slice())?;
+            let made = group_at(alloc, &grouping, map.at(mark))?;
             groups.push(made)?;
         }
         Ok(Cubes { groups })

@@ -7,27 +7,27 @@ ghost use Rattle.smk_base.specs.declared.rel.TheConstants.{ROW_LIMIT};
 ghost use Rattle.smk_model.specs.Kinds.{GroupFits};
 ghost use Rattle.smk_push.specs.Cubes.{cube_of};
 
-use smk_base::{Agg, CellRef, Kind, Rel};
+use smk_base::{CellRef, Kind, Rel};
 use smk_body::group_rows;
 use smk_keys::Classes;
+use smk_narrow::NarrowedGroup;
 use std::alloc::{AllocError, Global};
 
 /// The grouping of the rows at these rids, in their order.
 pub(crate) fn group_at(
     alloc: Global,
-    rel: &Rel,
+    grouping: &NarrowedGroup,
     rids: &[u32],
-    keys: &[u32],
-    aggs: &[Agg],
 ) -> Result<Rel, AllocError>
-    requires fits { GroupFits rel.now.kinds keys.now aggs.now }
-    requires set { IsPlaces (length rel.now.rows) rids.now }
-    ensures { IfOk result (λ made. made ≡ cube_of rel.now keys.now aggs.now rids.now) }
+    requires fits { GroupFits grouping.now.rel.kinds grouping.now.keys grouping.now.aggs }
+    requires set { IsPlaces (length grouping.now.rel.rows) rids.now }
+    ensures { IfOk result (λ made. made ≡ cube_of grouping.now.rel grouping.now.keys grouping.now.aggs rids.now) }
 {
-    let _rows = rel.len();
-    let rows = rows_of(alloc, rel, rids)?;
+    let keys = grouping.keys.as_slice();
+    let _rows = grouping.rel.len();
+    let rows = rows_of(alloc, &grouping.rel, rids)?;
     let classes = Classes::of_rows(alloc, &rows, keys)?;
-    let made = group_rows(alloc, &rows, &classes, keys, aggs)?;
+    let made = group_rows(alloc, &rows, &classes, keys, grouping.aggs.as_slice())?;
     Ok(made)
 }
 

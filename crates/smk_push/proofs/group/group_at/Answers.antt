@@ -4,7 +4,7 @@ use Rattle.smk_push.proofs.Rows.{few_places}
 use Rattle.smk_push.proofs.group.group_at.Goals as goal
 
 pub rows_of-requires-clause-within : goal.rows_of-requires-clause-within
-rows_of-requires-clause-within c = is_below (length c.args.rel.now.rows) c.args.rids.now c.requires.set
+rows_of-requires-clause-within c = is_below (length c.args.grouping.now.rel.rows) c.args.rids.now c.requires.set
 
 pub rows_of-requires-clause-few : goal.rows_of-requires-clause-few
-rows_of-requires-clause-few c = omega (arith, few_places (length c.args.rel.now.rows) c.args.rids.now c.requires.set, c.len-rows.ensures.keeps.few_rows)
+rows_of-requires-clause-few c = omega (arith, few_places (length c.args.grouping.now.rel.rows) c.args.rids.now c.requires.set, c.len-rows.ensures.keeps.few_rows)

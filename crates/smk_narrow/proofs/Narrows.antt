@@ -1,26 +1,26 @@
--- A step over the columns that it names is the step over all columns.
+-- Output columns and a grouping over the columns that they name are those over all columns.
 use Rattle.std.proofs.Common.{◌≡◌, ◌∙◌, ◌+◌, ◌<◌, ◌≤◌, ℕ, suc, pos, true, not, List, [], ◌∷◌, ◌++◌, length, map, filter, get_or, All, Some, None, nat_lt, refl, sym, ap, subst, arith, inl, inr, nat_eq, eqb-true, eq-eqb}
-use Rattle.std.specs.List.{position, position_or_len}
+use Rattle.std.specs.List.{list_any, position, position_or_len}
 use Rattle.std.proofs.lemmas.Bool.{cases_Bool, false≢true, or_left, or_right}
 use Rattle.std.proofs.lemmas.List.{get_or-map, length-map}
 use Rattle.std.proofs.lemmas.List.Filters.{length-filter_both}
 use Rattle.std.proofs.lemmas.List.Elements.{filter_agree, All-map}
 use Rattle.std.proofs.lemmas.List.Folds.{list_any_at}
 use Rattle.smk_base.specs.Places.{has, upto}
-use Rattle.smk_base.specs.Rels.{kind_in, value_in, picked}
+use Rattle.smk_base.specs.Rels.{Relation, kind_in, value_in, row_in, rows_at, picked}
 use Rattle.smk_base.specs.declared.value.Value.TheVariants.{Int}
 use Rattle.smk_base.specs.declared.value.Kind.{Kind}
 use Rattle.smk_base.specs.declared.plan.Item.{Item}
 use Rattle.smk_base.specs.declared.plan.Item.TheVariants as items
 use Rattle.smk_base.specs.declared.plan.Agg.{Agg}
 use Rattle.smk_base.specs.declared.plan.Agg.TheVariants.{Count, Sum, Min, Max}
-use Rattle.smk_base.specs.Plans.{Unary, Selection, Projection, Distinction, Grouping}
+use Rattle.smk_base.specs.Plans.{Grouping}
 use Rattle.smk_model.specs.Values.{Row, value_at}
 use Rattle.smk_model.specs.Plain.{item_at, image, key_of, firsts, number_of, total, combined, lesser, greater, aggregate, grouped, row_eq, step1}
-use Rattle.smk_model.specs.Kinds.{ItemFits, AggFits, ItemsFit, IsInt, IsSummed, Fits1, kind_of_item, kind_of_agg, summed, kinds1}
+use Rattle.smk_model.specs.Kinds.{ItemFits, AggFits, ItemsFit, GroupFits, IsInt, IsSummed, kind_of_item, kind_of_agg, summed, kinds1}
 use Rattle.smk_model.proofs.Places.{filter_map, map_map, has_places, places_below, length_upto}
 use Rattle.smk_model.proofs.Parts.{map_agree}
-use Rattle.smk_compose.specs.Narrowed.{is_of, reads, is_named, named, place_of, item_among, agg_among, step_among, names_columns}
+use Rattle.smk_narrow.specs.Named.{is_of, reads, is_named, named, place_of, item_among, agg_among}
 
 -- the place of a column that is there
 
@@ -78,7 +78,7 @@ kind_there cols kinds c h = read_there (kind_in kinds) cols c _ h
 long_there : (cols : List ℕ) (kinds : List Kind) (c : ℕ) → has cols c ≡ true → place_of cols c < length (map (kind_in kinds) cols)
 long_there cols kinds c h = omega (arith, length-map cols (kind_in kinds), place_low cols c h)
 
--- whether the columns have what an output column, an aggregate and a step name
+-- whether the columns have what an output column and an aggregate name
 
 abbrev HasItem : List ℕ → Item → Type 0
 HasItem cols (items.Col c) = has cols c ≡ true
@@ -140,67 +140,23 @@ group_there cols keys aggs rows key all each =
     ap (λ members. key ++ map (aggregate members) (map (agg_among cols) aggs)) (members_there cols keys rows key all)
     ∙ ap (λ z. key ++ z) (map_map (aggregate (map (picked cols) group)) (agg_among cols) aggs ∙ each_agrees (HasAgg cols) (λ agg. aggregate (map (picked cols) group) (agg_among cols agg)) (aggregate group) aggs each (agg_there cols group))
 
--- a step
-
-abbrev HasStep : List ℕ → Unary → Type 0
-HasStep cols (Selection formula) = ⊥
-HasStep cols (Projection of) = All (HasItem cols) of
-HasStep cols (Distinction of) = All (HasItem cols) of
-HasStep cols (Grouping keys aggs) = All (λ c. has cols c ≡ true) keys × All (HasAgg cols) aggs
+-- output columns
 
 images_there : (cols : List ℕ) (of : List Item) (L : List Row) → All (HasItem cols) of → map (image (map (item_among cols) of)) (map (picked cols) L) ≡ map (image of) L
 images_there cols of L all =
     map_map (image (map (item_among cols) of)) (picked cols) L ∙ map_agree (λ row. image (map (item_among cols) of) (picked cols row)) (image of) (λ row. image_there cols of row all) L
 
-keys_there : (cols keys : List ℕ) (L : List Row) → All (λ c. has cols c ≡ true) keys → map (key_of (map (place_of cols) keys)) (map (picked cols) L) ≡ map (key_of keys) L
-keys_there cols keys L all =
-    map_map (key_of (map (place_of cols) keys)) (picked cols) L ∙ map_agree (λ row. key_of (map (place_of cols) keys) (picked cols row)) (key_of keys) (λ row. key_there cols keys row all) L
-
-step_there : (cols : List ℕ) (op : Unary) (L : List Row) → HasStep cols op → step1 (step_among cols op) (map (picked cols) L) ≡ step1 op L
-step_there cols (Selection formula) L h = absurd h
-step_there cols (Projection of) L h = images_there cols of L h
-step_there cols (Distinction of) L h = ap firsts (images_there cols of L h)
-step_there cols (Grouping keys aggs) L h =
-    let keys' = map (place_of cols) keys in
-    let aggs' = map (agg_among cols) aggs in
-    ap (λ ks. map (grouped keys' aggs' (map (picked cols) L)) (firsts ks)) (keys_there cols keys L h.0)
-    ∙ map_agree (grouped keys' aggs' (map (picked cols) L)) (grouped keys aggs L) (λ key. group_there cols keys aggs L key h.0 h.1) (firsts (map (key_of keys) L))
-
 item_kind : (cols : List ℕ) (kinds : List Kind) (item : Item) → HasItem cols item → kind_of_item (map (kind_in kinds) cols) (item_among cols item) ≡ kind_of_item kinds item
 item_kind cols kinds (items.Col c) h = kind_there cols kinds c h
 item_kind cols kinds (items.Bin c w) h = kind_there cols kinds c h
-
-agg_kind : (cols : List ℕ) (kinds : List Kind) (agg : Agg) → HasAgg cols agg → kind_of_agg (map (kind_in kinds) cols) (agg_among cols agg) ≡ kind_of_agg kinds agg
-agg_kind cols kinds Count h = refl
-agg_kind cols kinds (Sum c) h = ap summed (kind_there cols kinds c h)
-agg_kind cols kinds (Min c) h = kind_there cols kinds c h
-agg_kind cols kinds (Max c) h = kind_there cols kinds c h
 
 item_kinds : (cols : List ℕ) (kinds : List Kind) (of : List Item) → All (HasItem cols) of → map (kind_of_item (map (kind_in kinds) cols)) (map (item_among cols) of) ≡ map (kind_of_item kinds) of
 item_kinds cols kinds of all =
     map_map (kind_of_item (map (kind_in kinds) cols)) (item_among cols) of ∙ each_agrees (HasItem cols) (λ item. kind_of_item (map (kind_in kinds) cols) (item_among cols item)) (kind_of_item kinds) of all (item_kind cols kinds)
 
-kinds_there : (cols : List ℕ) (op : Unary) (kinds : List Kind) → HasStep cols op → kinds1 (step_among cols op) (map (kind_in kinds) cols) ≡ kinds1 op kinds
-kinds_there cols (Selection formula) kinds h = absurd h
-kinds_there cols (Projection of) kinds h = item_kinds cols kinds of h
-kinds_there cols (Distinction of) kinds h = item_kinds cols kinds of h
-kinds_there cols (Grouping keys aggs) kinds h =
-    let fewer = map (kind_in kinds) cols in
-    let first : map (kind_in fewer) (map (place_of cols) keys) ≡ map (kind_in kinds) keys =
-    map_map (kind_in fewer) (place_of cols) keys ∙ each_agrees (λ c. has cols c ≡ true) (λ c. kind_in fewer (place_of cols c)) (kind_in kinds) keys h.0 (kind_there cols kinds) in
-    let rest : map (kind_of_agg fewer) (map (agg_among cols) aggs) ≡ map (kind_of_agg kinds) aggs =
-    map_map (kind_of_agg fewer) (agg_among cols) aggs ∙ each_agrees (HasAgg cols) (λ agg. kind_of_agg fewer (agg_among cols agg)) (kind_of_agg kinds) aggs h.1 (agg_kind cols kinds) in
-    rw (first, rest) refl
-
 item_fits : (cols : List ℕ) (kinds : List Kind) (item : Item) → HasItem cols item → ItemFits kinds item → ItemFits (map (kind_in kinds) cols) (item_among cols item)
 item_fits cols kinds (items.Col c) h fits = long_there cols kinds c h
 item_fits cols kinds (items.Bin c w) h fits = (long_there cols kinds c h, subst IsInt (sym (kind_there cols kinds c h)) fits.1, fits.2)
-
-agg_fits : (cols : List ℕ) (kinds : List Kind) (agg : Agg) → HasAgg cols agg → AggFits kinds agg → AggFits (map (kind_in kinds) cols) (agg_among cols agg)
-agg_fits cols kinds Count h fits = tt
-agg_fits cols kinds (Sum c) h fits = (long_there cols kinds c h, subst IsSummed (sym (kind_there cols kinds c h)) fits.1)
-agg_fits cols kinds (Min c) h fits = long_there cols kinds c h
-agg_fits cols kinds (Max c) h fits = long_there cols kinds c h
 
 items_fit : (cols : List ℕ) (kinds : List Kind) (of : List Item) → All (HasItem cols) of → ItemsFit kinds of → ItemsFit (map (kind_in kinds) cols) (map (item_among cols) of)
 items_fit cols kinds of all fits = record {
@@ -208,58 +164,125 @@ items_fit cols kinds of all fits = record {
   few = omega (arith, fits.few, length-map of (item_among cols));
 }
 
-fits_there : (cols : List ℕ) (op : Unary) (kinds : List Kind) → HasStep cols op → Fits1 op kinds → Fits1 (step_among cols op) (map (kind_in kinds) cols)
-fits_there cols (Selection formula) kinds h fits = absurd h
-fits_there cols (Projection of) kinds h fits = items_fit cols kinds of h fits
-fits_there cols (Distinction of) kinds h fits = items_fit cols kinds of h fits
-fits_there cols (Grouping keys aggs) kinds h fits =
+-- a grouping
+
+keys_there : (cols keys : List ℕ) (L : List Row) → All (λ c. has cols c ≡ true) keys → map (key_of (map (place_of cols) keys)) (map (picked cols) L) ≡ map (key_of keys) L
+keys_there cols keys L all =
+    map_map (key_of (map (place_of cols) keys)) (picked cols) L ∙ map_agree (λ row. key_of (map (place_of cols) keys) (picked cols row)) (key_of keys) (λ row. key_there cols keys row all) L
+
+group_rows : (cols keys : List ℕ) (aggs : List Agg) (L : List Row) → All (λ c. has cols c ≡ true) keys → All (HasAgg cols) aggs
+    → step1 (Grouping (map (place_of cols) keys) (map (agg_among cols) aggs)) (map (picked cols) L) ≡ step1 (Grouping keys aggs) L
+group_rows cols keys aggs L all each =
+    let keys' = map (place_of cols) keys in
+    let aggs' = map (agg_among cols) aggs in
+    ap (λ ks. map (grouped keys' aggs' (map (picked cols) L)) (firsts ks)) (keys_there cols keys L all)
+    ∙ map_agree (grouped keys' aggs' (map (picked cols) L)) (grouped keys aggs L) (λ key. group_there cols keys aggs L key all each) (firsts (map (key_of keys) L))
+
+agg_kind : (cols : List ℕ) (kinds : List Kind) (agg : Agg) → HasAgg cols agg → kind_of_agg (map (kind_in kinds) cols) (agg_among cols agg) ≡ kind_of_agg kinds agg
+agg_kind cols kinds Count h = refl
+agg_kind cols kinds (Sum c) h = ap summed (kind_there cols kinds c h)
+agg_kind cols kinds (Min c) h = kind_there cols kinds c h
+agg_kind cols kinds (Max c) h = kind_there cols kinds c h
+
+group_kinds : (cols keys : List ℕ) (aggs : List Agg) (kinds : List Kind) → All (λ c. has cols c ≡ true) keys → All (HasAgg cols) aggs
+    → kinds1 (Grouping (map (place_of cols) keys) (map (agg_among cols) aggs)) (map (kind_in kinds) cols) ≡ kinds1 (Grouping keys aggs) kinds
+group_kinds cols keys aggs kinds all aggs_all =
+    let fewer = map (kind_in kinds) cols in
+    let first : map (kind_in fewer) (map (place_of cols) keys) ≡ map (kind_in kinds) keys =
+    map_map (kind_in fewer) (place_of cols) keys ∙ each_agrees (λ c. has cols c ≡ true) (λ c. kind_in fewer (place_of cols c)) (kind_in kinds) keys all (kind_there cols kinds) in
+    let rest : map (kind_of_agg fewer) (map (agg_among cols) aggs) ≡ map (kind_of_agg kinds) aggs =
+    map_map (kind_of_agg fewer) (agg_among cols) aggs ∙ each_agrees (HasAgg cols) (λ agg. kind_of_agg fewer (agg_among cols agg)) (kind_of_agg kinds) aggs aggs_all (agg_kind cols kinds) in
+    rw (first, rest) refl
+
+agg_fits : (cols : List ℕ) (kinds : List Kind) (agg : Agg) → HasAgg cols agg → AggFits kinds agg → AggFits (map (kind_in kinds) cols) (agg_among cols agg)
+agg_fits cols kinds Count h fits = tt
+agg_fits cols kinds (Sum c) h fits = (long_there cols kinds c h, subst IsSummed (sym (kind_there cols kinds c h)) fits.1)
+agg_fits cols kinds (Min c) h fits = long_there cols kinds c h
+agg_fits cols kinds (Max c) h fits = long_there cols kinds c h
+
+group_fits : (cols keys : List ℕ) (aggs : List Agg) (kinds : List Kind) → All (λ c. has cols c ≡ true) keys → All (HasAgg cols) aggs → GroupFits kinds keys aggs
+    → GroupFits (map (kind_in kinds) cols) (map (place_of cols) keys) (map (agg_among cols) aggs)
+group_fits cols keys aggs kinds all aggs_all fits =
     let fewer = map (kind_in kinds) cols in
     record {
-      keyed = All-map (λ c. c < length fewer) (place_of cols) keys (λ k d low. long_there cols kinds (get_or keys k d) (h.0 k d low));
-      each = All-map (AggFits fewer) (agg_among cols) aggs (each_fits (HasAgg cols) (AggFits kinds) (λ agg. AggFits fewer (agg_among cols agg)) aggs h.1 fits.each (agg_fits cols kinds));
+      keyed = All-map (λ c. c < length fewer) (place_of cols) keys (λ k d low. long_there cols kinds (get_or keys k d) (all k d low));
+      each = All-map (AggFits fewer) (agg_among cols) aggs (each_fits (HasAgg cols) (AggFits kinds) (λ agg. AggFits fewer (agg_among cols agg)) aggs aggs_all fits.each (agg_fits cols kinds));
       some = omega (arith, fits.some, length-map keys (place_of cols), length-map aggs (agg_among cols));
       few = omega (arith, fits.few, length-map keys (place_of cols), length-map aggs (agg_among cols));
     }
 
--- the named columns have what the step names
+picked_at : (cols : List ℕ) (L : List Row) (places : List ℕ) → All (λ place. place < length L) places → rows_at (map (picked cols) L) places ≡ map (picked cols) (rows_at L places)
+picked_at cols L places inside =
+    each_agrees (λ place. place < length L) (row_in (map (picked cols) L)) (λ place. picked cols (row_in L place)) places inside (λ place low. get_or-map (picked cols) L place [] [] low)
+    ∙ sym (map_map (picked cols) (row_in L) places)
 
-has_named : (op : Unary) (n c : ℕ) → c < n → is_named op c ≡ true → has (named op n) c ≡ true
-has_named op n c low h = has_places (is_named op) n c low ∙ h
+-- the named columns have what is named
 
-item_named : (op : Unary) (kinds : List Kind) (item : Item) → ItemFits kinds item → ((c : ℕ) → is_of c item ≡ true → is_named op c ≡ true) → HasItem (named op (length kinds)) item
-item_named op kinds (items.Col c) fits h = has_named op (length kinds) c fits (h c (eq-eqb c c refl))
-item_named op kinds (items.Bin c w) fits h = has_named op (length kinds) c fits.0 (h c (eq-eqb c c refl))
+pub few_named : (items : List Item) (keys : List ℕ) (aggs : List Agg) (n : ℕ) → length (named items keys aggs n) ≤ n
+few_named items keys aggs n = omega (arith, length-filter_both (is_named items keys aggs) (λ c. not (is_named items keys aggs c)) (λ c. refl) (upto n), length_upto n)
 
-agg_named : (op : Unary) (kinds : List Kind) (agg : Agg) → AggFits kinds agg → ((c : ℕ) → reads c agg ≡ true → is_named op c ≡ true) → HasAgg (named op (length kinds)) agg
-agg_named op kinds Count fits h = tt
-agg_named op kinds (Sum c) fits h = has_named op (length kinds) c fits.0 (h c (eq-eqb c c refl))
-agg_named op kinds (Min c) fits h = has_named op (length kinds) c fits (h c (eq-eqb c c refl))
-agg_named op kinds (Max c) fits h = has_named op (length kinds) c fits (h c (eq-eqb c c refl))
+pub named_below : (items : List Item) (keys : List ℕ) (aggs : List Agg) (n : ℕ) → All (λ c. c < n) (named items keys aggs n)
+named_below items keys aggs n = places_below (is_named items keys aggs) n
 
-has_step : (op : Unary) (kinds : List Kind) → names_columns op ≡ true → Fits1 op kinds → HasStep (named op (length kinds)) op
-has_step (Selection formula) kinds names fits = absurd (false≢true names)
-has_step (Projection of) kinds names fits = λ k d low.
-    item_named (Projection of) kinds (get_or of k d) (fits.each k d low) (λ c e. list_any_at (is_of c) of k d low e)
-has_step (Distinction of) kinds names fits = λ k d low.
-    item_named (Distinction of) kinds (get_or of k d) (fits.each k d low) (λ c e. list_any_at (is_of c) of k d low e)
-has_step (Grouping keys aggs) kinds names fits = (
-  λ k d low. let c = get_or keys k d in has_named (Grouping keys aggs) (length kinds) c (fits.keyed k d low) (or_left (has keys c) _ (list_any_at (nat_eq c) keys k d low (eq-eqb c c refl))),
-  λ k d low. agg_named (Grouping keys aggs) kinds (get_or aggs k d) (fits.each k d low) (λ c e. or_right (has keys c) _ (list_any_at (reads c) aggs k d low e)),
-)
+has_named : (items : List Item) (keys : List ℕ) (aggs : List Agg) (n c : ℕ) → c < n → is_named items keys aggs c ≡ true → has (named items keys aggs n) c ≡ true
+has_named items keys aggs n c low h = has_places (is_named items keys aggs) n c low ∙ h
 
--- over the named columns of a leaf
+item_named : (of : List Item) (kinds : List Kind) (item : Item) → ItemFits kinds item → ((c : ℕ) → is_of c item ≡ true → is_named of [] [] c ≡ true) → HasItem (named of [] [] (length kinds)) item
+item_named of kinds (items.Col c) fits h = has_named of [] [] (length kinds) c fits (h c (eq-eqb c c refl))
+item_named of kinds (items.Bin c w) fits h = has_named of [] [] (length kinds) c fits.0 (h c (eq-eqb c c refl))
 
-pub few_named : (op : Unary) (n : ℕ) → length (named op n) ≤ n
-few_named op n = omega (arith, length-filter_both (is_named op) (λ c. not (is_named op c)) (λ c. refl) (upto n), length_upto n)
+agg_named : (keys : List ℕ) (aggs : List Agg) (kinds : List Kind) (agg : Agg) → AggFits kinds agg → ((c : ℕ) → reads c agg ≡ true → is_named [] keys aggs c ≡ true) → HasAgg (named [] keys aggs (length kinds)) agg
+agg_named keys aggs kinds Count fits h = tt
+agg_named keys aggs kinds (Sum c) fits h = has_named [] keys aggs (length kinds) c fits.0 (h c (eq-eqb c c refl))
+agg_named keys aggs kinds (Min c) fits h = has_named [] keys aggs (length kinds) c fits (h c (eq-eqb c c refl))
+agg_named keys aggs kinds (Max c) fits h = has_named [] keys aggs (length kinds) c fits (h c (eq-eqb c c refl))
 
-pub named_below : (op : Unary) (n : ℕ) → All (λ c. c < n) (named op n)
-named_below op n = places_below (is_named op) n
+has_items : (of : List Item) (kinds : List Kind) → ItemsFit kinds of → All (HasItem (named of [] [] (length kinds))) of
+has_items of kinds fits k d low =
+    item_named of kinds (get_or of k d) (fits.each k d low) (λ c e. or_left (list_any (is_of c) of) _ (list_any_at (is_of c) of k d low e))
 
-pub narrowed_rows : (op : Unary) (kinds : List Kind) (L : List Row) → names_columns op ≡ true → Fits1 op kinds → step1 (step_among (named op (length kinds)) op) (map (picked (named op (length kinds))) L) ≡ step1 op L
-narrowed_rows op kinds L names fits = step_there (named op (length kinds)) op L (has_step op kinds names fits)
+has_keys : (keys : List ℕ) (aggs : List Agg) (kinds : List Kind) → GroupFits kinds keys aggs → All (λ c. has (named [] keys aggs (length kinds)) c ≡ true) keys
+has_keys keys aggs kinds fits k d low =
+    let c = get_or keys k d in
+    has_named [] keys aggs (length kinds) c (fits.keyed k d low) (or_left (has keys c) _ (list_any_at (nat_eq c) keys k d low (eq-eqb c c refl)))
 
-pub narrowed_kinds : (op : Unary) (kinds : List Kind) → names_columns op ≡ true → Fits1 op kinds → kinds1 (step_among (named op (length kinds)) op) (map (kind_in kinds) (named op (length kinds))) ≡ kinds1 op kinds
-narrowed_kinds op kinds names fits = kinds_there (named op (length kinds)) op kinds (has_step op kinds names fits)
+has_aggs : (keys : List ℕ) (aggs : List Agg) (kinds : List Kind) → GroupFits kinds keys aggs → All (HasAgg (named [] keys aggs (length kinds))) aggs
+has_aggs keys aggs kinds fits k d low =
+    agg_named keys aggs kinds (get_or aggs k d) (fits.each k d low) (λ c e. or_right (has keys c) _ (list_any_at (reads c) aggs k d low e))
 
-pub narrowed_fits : (op : Unary) (kinds : List Kind) → names_columns op ≡ true → Fits1 op kinds → Fits1 (step_among (named op (length kinds)) op) (map (kind_in kinds) (named op (length kinds)))
-narrowed_fits op kinds names fits = fits_there (named op (length kinds)) op kinds (has_step op kinds names fits) fits
+-- output columns over the named columns, and what they make
+
+pub record ItemsNarrowed (input rel : Relation) (of made : List Item) : Type 0 where
+  pub fits : ItemsFit rel.kinds made
+  pub kinds : map (kind_of_item rel.kinds) made ≡ map (kind_of_item input.kinds) of
+  pub rows : map (image made) rel.rows ≡ map (image of) input.rows
+
+pub items_narrowed : (input rel : Relation) (of made : List Item) (cols : List ℕ) (n : ℕ) → ItemsFit input.kinds of → n ≡ length input.kinds → cols ≡ named of [] [] n
+    → made ≡ map (item_among cols) of → rel ≡ record { kinds = map (kind_in input.kinds) cols; rows = map (picked cols) input.rows } → ItemsNarrowed input rel of made
+items_narrowed input rel of made cols n fits count is items_are rel_is =
+    let has : All (HasItem cols) of = rw (is, count) (has_items of input.kinds fits) in
+    rw (items_are, rel_is) (record {
+      fits = items_fit cols input.kinds of has fits;
+      kinds = item_kinds cols input.kinds of has;
+      rows = images_there cols of input.rows has;
+    })
+
+-- a grouping over the named columns, and what it makes
+
+pub record GroupNarrowed (input rel : Relation) (keys keys' : List ℕ) (aggs aggs' : List Agg) : Type 0 where
+  pub fits : GroupFits rel.kinds keys' aggs'
+  pub kinds : kinds1 (Grouping keys' aggs') rel.kinds ≡ kinds1 (Grouping keys aggs) input.kinds
+  pub rows : step1 (Grouping keys' aggs') rel.rows ≡ step1 (Grouping keys aggs) input.rows
+  pub some : (places : List ℕ) → All (λ place. place < length input.rows) places → step1 (Grouping keys' aggs') (rows_at rel.rows places) ≡ step1 (Grouping keys aggs) (rows_at input.rows places)
+
+pub group_narrowed : (input rel : Relation) (keys keys' : List ℕ) (aggs aggs' : List Agg) (cols : List ℕ) (n : ℕ) → GroupFits input.kinds keys aggs → n ≡ length input.kinds → cols ≡ named [] keys aggs n
+    → keys' ≡ map (place_of cols) keys → aggs' ≡ map (agg_among cols) aggs → rel ≡ record { kinds = map (kind_in input.kinds) cols; rows = map (picked cols) input.rows } → GroupNarrowed input rel keys keys' aggs aggs'
+group_narrowed input rel keys keys' aggs aggs' cols n fits count is keys_are aggs_are rel_is =
+    let has_k : All (λ c. has cols c ≡ true) keys = rw (is, count) (has_keys keys aggs input.kinds fits) in
+    let has_a : All (HasAgg cols) aggs = rw (is, count) (has_aggs keys aggs input.kinds fits) in
+    rw (keys_are, aggs_are, rel_is) (record {
+      fits = group_fits cols keys aggs input.kinds has_k has_a fits;
+      kinds = group_kinds cols keys aggs input.kinds has_k has_a;
+      rows = group_rows cols keys aggs input.rows has_k has_a;
+      some = λ places inside. ap (step1 (Grouping (map (place_of cols) keys) (map (agg_among cols) aggs))) (picked_at cols input.rows places inside) ∙ group_rows cols keys aggs (rows_at input.rows places) has_k has_a;
+    })

@@ -1,0 +1,43 @@
+-- The columns that a step names, and the step over these alone.
+use Rattle.std.specs.Prelude.{ℕ, Bool, false, ◌||◌, nat_eq, List, position, unwrap_or}
+use Rattle.std.specs.List.{list_any}
+use Rattle.smk_base.specs.Places.{places, has}
+use Rattle.smk_base.specs.declared.plan.Item.{Item}
+use Rattle.smk_base.specs.declared.plan.Item.TheVariants.{Col, Bin}
+use Rattle.smk_base.specs.declared.plan.Agg.{Agg}
+use Rattle.smk_base.specs.declared.plan.Agg.TheVariants.{Count, Sum, Min, Max}
+
+-- whether an output column stands on a column
+abbrev pub is_of : ℕ → Item → Bool
+is_of c (Col d) = nat_eq c d
+is_of c (Bin d w) = nat_eq c d
+
+-- whether an aggregate reads a column
+abbrev pub reads : ℕ → Agg → Bool
+reads c Count = false
+reads c (Sum d) = nat_eq c d
+reads c (Min d) = nat_eq c d
+reads c (Max d) = nat_eq c d
+
+-- whether output columns, keys or aggregates name a column
+abbrev pub is_named : List Item → List ℕ → List Agg → ℕ → Bool
+is_named items keys aggs c = list_any (is_of c) items || (has keys c || list_any (reads c) aggs)
+
+-- the columns that they name of so many, ascending
+abbrev pub named : List Item → List ℕ → List Agg → ℕ → List ℕ
+named items keys aggs n = places (is_named items keys aggs) n
+
+-- the place of a column among others, and 0 where it isn't there
+unfoldable pub place_of : List ℕ → ℕ → ℕ
+place_of cols c = unwrap_or (position (nat_eq c) cols) 0
+
+-- the same over these columns alone
+abbrev pub item_among : List ℕ → Item → Item
+item_among cols (Col c) = Col (place_of cols c)
+item_among cols (Bin c w) = Bin (place_of cols c) w
+
+abbrev pub agg_among : List ℕ → Agg → Agg
+agg_among cols Count = Count
+agg_among cols (Sum c) = Sum (place_of cols c)
+agg_among cols (Min c) = Min (place_of cols c)
+agg_among cols (Max c) = Max (place_of cols c)

@@ -1,0 +1,157 @@
+//! The columns that a step names, and its output columns, keys and aggregates over these columns alone.
+
+ghost use Rattle.std.specs.Prelude.{◌≡◌, ◌<◌, ◌≤◌, length, map, nat_eq, position, All, IfOk};
+ghost use Rattle.std.specs.List.{list_any};
+ghost use Rattle.smk_base.specs.Places.{has};
+ghost use Rattle.smk_narrow.specs.Named.{is_of, reads, is_named, named, place_of, item_among, agg_among};
+
+use smk_base::{Agg, Aggs, Item, Items, Keys};
+use std::alloc::{AllocError, Global};
+
+#[tactic(auto, using(crate::proofs::Narrows::few_named))]
+/// The columns of so many that output columns, keys or aggregates name, ascending.
+pub(crate) fn named_columns(
+    alloc: Global,
+    items: &[Item],
+    keys: &[u32],
+    aggs: &[Agg],
+    width: u32,
+) -> Result<Vec<u32>, AllocError>
+    ensures cols { IfOk result (λ cols. cols.items ≡ named items.now keys.now aggs.now width) }
+    ensures few { IfOk result (λ cols. length cols.items ≤ width) }
+    ensures within { IfOk result (λ cols. All (λ c. c < width) cols.items) }
+{
+    let mut cols = Vec::new(alloc);
+    for c in 0..width {
+        if is_column_named(items, keys, aggs, c) {
+            cols.push(c)?;
+        }
+    }
+    Ok(cols)
+}
+
+// Whether output columns, keys or aggregates name a column.
+fn is_column_named(items: &[Item], keys: &[u32], aggs: &[Agg], c: u32) -> bool
+    ensures { result ≡ is_named items.now keys.now aggs.now c }
+{
+    is_in_items(items, c) || is_in_keys(keys, c) || is_in_aggs(aggs, c)
+}
+
+fn is_in_items(items: &[Item], c: u32) -> bool
+    ensures { result ≡ list_any (is_of c) items.now }
+{
+    items.iter().any(|item| is_under(*item, c))
+}
+
+fn is_in_keys(keys: &[u32], c: u32) -> bool
+    ensures { result ≡ has keys.now c }
+{
+    keys.iter().any(|key| c == *key)
+}
+
+fn is_in_aggs(aggs: &[Agg], c: u32) -> bool
+    ensures { result ≡ list_any (reads c) aggs.now }
+{
+    aggs.iter().any(|agg| is_read(*agg, c))
+}
+
+// Whether an output column stands on a column.
+fn is_under(item: Item, c: u32) -> bool
+    ensures { result ≡ is_of c item }
+{
+    match item {
+        Item::Col(col) => c == col,
+        Item::Bin { col, .. } => c == col,
+    }
+}
+
+// Whether an aggregate reads a column.
+fn is_read(agg: Agg, c: u32) -> bool
+    ensures { result ≡ reads c agg }
+{
+    match agg {
+        Agg::Count => false,
+        Agg::Sum(col) => c == col,
+        Agg::Min(col) => c == col,
+        Agg::Max(col) => c == col,
+    }
+}
+
+/// Output columns over these columns alone.
+pub(crate) fn items_among(alloc: Global, items: &[Item], cols: &[u32]) -> Result<Items, AllocError>
+    requires { length cols.now ≤ 16 }
+    ensures { IfOk result (λ made. made ≡ map (item_among cols.now) items.now) }
+{
+    let mut made = Items::new(alloc);
+    for item in items {
+        made.push(one_item_among(*item, cols))?;
+    }
+    Ok(made)
+}
+
+/// Keys over these columns alone.
+pub(crate) fn keys_among(alloc: Global, keys: &[u32], cols: &[u32]) -> Result<Keys, AllocError>
+    requires { length cols.now ≤ 16 }
+    ensures { IfOk result (λ made. made ≡ map (place_of cols.now) keys.now) }
+{
+    let mut made = Keys::new(alloc);
+    for key in keys {
+        made.push(place_among(cols, *key))?;
+    }
+    Ok(made)
+}
+
+/// Aggregates over these columns alone.
+pub(crate) fn aggs_among(alloc: Global, aggs: &[Agg], cols: &[u32]) -> Result<Aggs, AllocError>
+    requires { length cols.now ≤ 16 }
+    ensures { IfOk result (λ made. made ≡ map (agg_among cols.now) aggs.now) }
+{
+    let mut made = Aggs::new(alloc);
+    for agg in aggs {
+        made.push(one_agg_among(*agg, cols))?;
+    }
+    Ok(made)
+}
+
+fn one_item_among(item: Item, cols: &[u32]) -> Item
+    requires { length cols.now ≤ 16 }
+    ensures { result ≡ item_among cols.now item }
+{
+    match item {
+        Item::Col(col) => Item::Col(place_among(cols, col)),
+        Item::Bin { col, width } => Item::Bin {
+            col: place_among(cols, col),
+            width,
+        },
+    }
+}
+
+fn one_agg_among(agg: Agg, cols: &[u32]) -> Agg
+    requires { length cols.now ≤ 16 }
+    ensures { result ≡ agg_among cols.now agg }
+{
+    match agg {
+        Agg::Count => Agg::Count,
+        Agg::Sum(col) => Agg::Sum(place_among(cols, col)),
+        Agg::Min(col) => Agg::Min(place_among(cols, col)),
+        Agg::Max(col) => Agg::Max(place_among(cols, col)),
+    }
+}
+
+#[tactic(auto, using(crate::proofs::Narrows::place_found, crate::proofs::Narrows::place_missing))]
+// The place of a column among these, or 0 where it isn't there.
+fn place_among(cols: &[u32], c: u32) -> u32
+    requires { length cols.now ≤ 16 }
+    ensures { result ≡ place_of cols.now c }
+{
+    match first_place(cols, c) {
+        Some(place) => place as u32,
+        None => 0,
+    }
+}
+
+fn first_place(cols: &[u32], c: u32) -> Option<usize>
+    ensures { result ≡ position (nat_eq c) cols.now }
+{
+    cols.iter().position(|col| c == *col)
+}
