@@ -1,5 +1,5 @@
 -- The brush that a line makes, and what is answered to lines that change the brushes in force.
-use Rattle.std.proofs.Common.{◌≡◌, ℕ, ◌+◌, ◌<◌, ◌≤◌, Bool, true, cond, List, [], length, map, get_or, refl, ap, sym, ◌∙◌, subst, Result, Ok, Err, MatchResult}
+use Rattle.std.proofs.Common.{◌≡◌, ℕ, ◌+◌, ◌<◌, ◌≤◌, Bool, true, cond, List, [], length, map, get_or, refl, ap, sym, ◌∙◌, subst, Result, Ok, Err, MatchResult, All}
 use Rattle.std.specs.List.{list_any}
 use Rattle.smk_base.specs.CatalogImage.{CatalogImage, catalog_image}
 use Rattle.smk_base.specs.Places.{Lists, upto}
@@ -20,8 +20,10 @@ use Rattle.smk_model.specs.Session.{State, linked, under, view_at, with_brush, w
 use Rattle.smk_model.specs.Workload.{declares_back, is_back, is_link}
 use Rattle.smk_compose.specs.declared.kept.Run.{Run}
 use Rattle.smk_session.specs.Answers.{Changes, IsHeld, Turns, book_of, content_at, kept_back, placed}
+use Rattle.smk_session.specs.Refreshed.{IsRefresh}
 use Rattle.smk_session.specs.Sessions.{AreInForce, AreOpened, BrushFits, state_over}
 use Rattle.smk_session.specs.declared.held.Held.{Held}
+use Rattle.smk_session.specs.declared.refresh.Refresh.{Refresh}
 use Rattle.smk_session.specs.declared.turn.Content.{Content}
 use Rattle.smk_session.specs.declared.turned.Turned.{Turned}
 use Rattle.smk_session.specs.declared.turned.Turned.TheVariants.{Refused, Exhausted}
@@ -82,6 +84,10 @@ pub brush_looks : (catalog : CatalogImage) (state : State) (asked : Asked BrushO
 brush_looks catalog state asked brush made start after is made_is h =
     subst (λ (a : Asked BrushOn). after ≤ start + looks_of_brush catalog state a) (sym is)
     (subst (λ (bs : List BrushOn). after ≤ start + looks_of_linked catalog (under state bs) brush.view brush.table) made_is h)
+
+-- the views are made anew under brushes that fit
+pub refreshes : (refresh : Refresh) → IsHeld refresh.held.now → All (BrushFits refresh.held.now.catalog.now refresh.held.now.tables.now) refresh.brushes.now → refresh.table < length refresh.held.now.catalog.now.tables → IsRefresh refresh
+refreshes refresh held fit table = record { held = held; fit = fit; table = table }
 
 pub brush_change : (held : Held) (brush : BrushOn) (made : List BrushOn) (fresh : List Content) (rids : List ℕ) (views : List Linked) → IsHeld held → BrushFits held.catalog.now held.tables.now brush → made ≡ with_brush brush held.brushes.now
     → fresh ≡ map (content_at (book_of held) (state_over held.tables.now made)) (linked (book_of held) brush.view brush.table) → Changes held (replies.Brush rids views) (record { brushes = made; contents = fresh })

@@ -18,9 +18,7 @@ use Rattle.smk_base.specs.declared.reply.Refusal.TheVariants.{Undeclared}
 use Rattle.smk_base.specs.declared.tree.Marks.{Marks}
 use Rattle.smk_base.specs.declared.value.Kind.{Kind}
 use Rattle.smk_model.specs.Composed.{backs, forwards}
-use Rattle.smk_model.specs.Values.{Row}
 use Rattle.smk_model.specs.Catalogs.{IsCatalog, ViewFits, each_table_kinds}
-use Rattle.smk_model.specs.Plain.{eval}
 use Rattle.smk_model.specs.Replies.{Asked, content_of, linked_now, marks_fwd, rids_of, unless_full}
 use Rattle.smk_model.specs.Selection.{PickFits, PlanFits, ScansFit, each_kinds, each_rows, first_full, leaf_kinds, over, plan_kinds}
 use Rattle.smk_model.specs.Session.{State, concerns, leaves_now, linked, rows_of_table, selected_for, view_at}
@@ -29,6 +27,8 @@ use Rattle.smk_model.proofs.Composed.{lists_stand}
 use Rattle.smk_model.proofs.Places.{places_below}
 use Rattle.smk_compose.specs.declared.kept.Run.{Run}
 use Rattle.smk_session.specs.Answers.{AreOn, Turns, chosen_of, content_at, kept_back, kept_fwd, members_asked, picks_chosen, rids_or_all}
+use Rattle.smk_session.specs.Refreshed.{Names, book_at}
+use Rattle.smk_session.specs.declared.refresh.Refresh.{Refresh}
 use Rattle.smk_session.specs.declared.turned.Turned.{Turned}
 use Rattle.smk_session.specs.Sessions.{AreOpened, BrushFits, follows, state_over}
 use Rattle.smk_session.specs.declared.turn.Content.{Content}
@@ -168,27 +168,9 @@ pub leaves_over : (catalog : Catalog) (tables : List Relation) (brushes : List B
     → picks ≡ picks_chosen (catalog_image catalog) (state_over tables brushes) w (length tables) → over (expr_of view.plan) (each_rows tables) picks ≡ leaves_now (catalog_image catalog) (state_over tables brushes) w
 leaves_over catalog tables brushes w picks view is are = ap (λ (v : ViewImage). over v.plan (each_rows tables) picks) is ∙ leaves_are catalog tables brushes w picks are
 
-pub full_over : (catalog : Catalog) (tables leaves : List Relation) (brushes : List BrushOn) (w : ℕ) (picks : List Pick) (view : ViewInfo) → view_image view ≡ view_at (catalog_image catalog) w
-    → picks ≡ picks_chosen (catalog_image catalog) (state_over tables brushes) w (length tables) → each_rows leaves ≡ over (expr_of view.plan) (each_rows tables) picks
-    → first_full (expr_of view.plan) (each_rows leaves) ≡ first_full (view_at (catalog_image catalog) w).plan (leaves_now (catalog_image catalog) (state_over tables brushes) w)
-full_over catalog tables leaves brushes w picks view is are of =
-    ap (λ (v : ViewImage). first_full v.plan (each_rows leaves)) is
-    ∙ ap (first_full (view_at (catalog_image catalog) w).plan) (of ∙ leaves_over catalog tables brushes w picks view is are)
-
-abbrev rel_with : List Kind → List Row → Relation
-rel_with kinds rows = record { kinds = kinds; rows = rows }
-
-pub content_over : (catalog : Catalog) (tables leaves : List Relation) (brushes : List BrushOn) (w : ℕ) (picks : List Pick) (view : ViewInfo) (rel : Relation) → each_kinds tables ≡ each_table_kinds catalog.tables
-    → view_image view ≡ view_at (catalog_image catalog) w → ViewFits catalog.tables (view_image view) → picks ≡ picks_chosen (catalog_image catalog) (state_over tables brushes) w (length tables)
-    → each_rows leaves ≡ over (expr_of view.plan) (each_rows tables) picks → each_kinds leaves ≡ leaf_kinds (expr_of view.plan) (each_kinds tables)
-    → rel.rows ≡ eval (expr_of view.plan) (each_rows leaves) → rel.kinds ≡ plan_kinds (expr_of view.plan) (each_kinds leaves) → rel ≡ content_of (catalog_image catalog) (state_over tables brushes) w
-content_over catalog tables leaves brushes w picks view rel kinds is fits are rows_of kinds_of rows_are kinds_are =
-    let image : CatalogImage = catalog_image catalog in
-    let rows : rel.rows ≡ eval (view_at image w).plan (leaves_now image (state_over tables brushes) w) =
-    rows_are ∙ ap (λ (v : ViewImage). eval v.plan (each_rows leaves)) is ∙ ap (eval (view_at image w).plan) (rows_of ∙ leaves_over catalog tables brushes w picks view is are) in
-    let named : rel.kinds ≡ (view_at image w).kinds =
-    kinds_are ∙ ap (plan_kinds (expr_of view.plan)) (leaves_kinds catalog tables leaves (expr_of view.plan) kinds kinds_of) ∙ fits.kinds ∙ ap (λ (v : ViewImage). v.kinds) is in
-    ap (λ (k : List Kind). rel_with k rel.rows) named ∙ ap (rel_with (view_at image w).kinds) rows
+pub view_kinds : (catalog : Catalog) (tables leaves : List Relation) (w : ℕ) (view : ViewInfo) → each_kinds tables ≡ each_table_kinds catalog.tables → view_image view ≡ view_at (catalog_image catalog) w → ViewFits catalog.tables (view_image view)
+    → each_kinds leaves ≡ leaf_kinds (expr_of view.plan) (each_kinds tables) → plan_kinds (expr_of view.plan) (each_kinds leaves) ≡ (view_at (catalog_image catalog) w).kinds
+view_kinds catalog tables leaves w view kinds is fits of = ap (plan_kinds (expr_of view.plan)) (leaves_kinds catalog tables leaves (expr_of view.plan) kinds of) ∙ fits.kinds ∙ ap (λ (v : ViewImage). v.kinds) is
 
 -- one pick more
 
@@ -249,14 +231,14 @@ shown_never catalog state t w turned many = many (linked_with w (marks_fwd catal
 
 -- the views that links name
 
-pub named_low : (catalog : Catalog) (v t i : ℕ) (ws : List ℕ) → IsCatalog (catalog_image catalog) → ws ≡ linked (catalog_image catalog) v t → i < length ws → get_or ws i 0 < length catalog.views
-named_low catalog v t i ws checked are low =
-    let all : All (λ w. w < length (catalog_image catalog).views) ws = subst (λ (l : List ℕ). All (λ w. w < length (catalog_image catalog).views) l) (sym are) (linked_low (catalog_image catalog) (length catalog.tables) (length (catalog_image catalog).views) v t checked.typed.links) in
-    omega (arith, all i 0 low, length-map catalog.views view_image)
-
-pub named_declares : (catalog : Catalog) (v t i : ℕ) (ws : List ℕ) → ws ≡ linked (catalog_image catalog) v t → i < length ws → declares_fwd (catalog_image catalog) (get_or ws i 0) t ≡ true
-named_declares catalog v t i ws are low =
-    linked_declares (catalog_image catalog) v t (get_or ws i 0) (ap (λ (l : List ℕ). has l (get_or ws i 0)) (sym are) ∙ has_item ws i 0 low)
+pub all_named : (refresh : Refresh) (v : ℕ) (ws : List ℕ) → IsCatalog (book_at refresh) → ws ≡ linked (book_at refresh) v refresh.table → Names refresh ws
+all_named refresh v ws checked are k d low =
+    let catalog : Catalog = refresh.held.now.catalog.now in
+    let all : All (λ w. w < length (catalog_image catalog).views) ws = subst (λ (l : List ℕ). All (λ w. w < length (catalog_image catalog).views) l) (sym are) (linked_low (catalog_image catalog) (length catalog.tables) (length (catalog_image catalog).views) v refresh.table checked.typed.links) in
+    record {
+      view = omega (arith, all k d low, length-map catalog.views view_image);
+      declared = linked_declares (catalog_image catalog) v refresh.table (get_or ws k d) (ap (λ (l : List ℕ). has l (get_or ws k d)) (sym are) ∙ has_item ws k d low);
+    }
 
 -- one view more
 

@@ -81,6 +81,10 @@ looks_next f xs i start before after d low so_far here = omega (arith, so_far, h
 pub looks_all : {X : Type 0} (f : X → ℕ) (xs : List X) (i start after : ℕ) → after ≤ start + sum_by f (take i xs) → after ≤ start + sum_by f xs
 looks_all f xs i start after h = omega (arith, h, sum_by-take-le f xs i)
 
+-- they are some of all
+pub looks_so_far : {X : Type 0} (f : X → ℕ) (xs : List X) (i start before after : ℕ) (d : X) → i < length xs → before ≤ start + sum_by f (take i xs) → after ≤ before + f (get_or xs i d) → after ≤ start + sum_by f xs
+looks_so_far f xs i start before after d low so_far here = looks_all f xs (i + 1) start after (looks_next f xs i start before after d low so_far here)
+
 -- one link more
 pub linked_more : (p : LinkInfo → Bool) (links : List LinkInfo) (i : ℕ) (link : LinkInfo) → i < length links → link ≡ get_or links i link
     → flat_map (λ (l : LinkInfo). l.to) (filter p (take (i + 1) links)) ≡ flat_map (λ (l : LinkInfo). l.to) (filter p (take i links)) ++ cond (p link) link.to []

@@ -5,6 +5,7 @@ ghost use Rattle.smk_session.specs.Answers.{Gives, Turns, IsHeld, Changes, book_
 
 use crate::backward::{back_rows, groups, matching_rows, pair_of};
 use crate::brushing::{brush, clear, clear_one};
+use crate::crew::Crew;
 use crate::held::Held;
 use crate::lineage::fwd_map;
 use crate::marks::marked_members;
@@ -13,7 +14,7 @@ use crate::turn::Turn;
 use crate::turned::Turned;
 use smk_base::{Line, Marks, Rel, Reply, Text, Then};
 use smk_compose::Run;
-use smk_outside::Steps;
+use smk_outside::{Gate, Steps};
 use std::alloc::Global;
 use std::sync::ledger::Ledger;
 use std::thread::Threads;
@@ -108,9 +109,10 @@ fn stays(reply: Reply) -> Result<Turn, Turned>
 }
 
 // What a line is answered, and what it changes.
-pub(crate) fn answer_to<R: Threads + Sync, L: Ledger>(
+pub(crate) fn answer_to<R: Threads + Sync, G: Gate + Sync, L: Ledger>(
     rt: &R,
     alloc: Global,
+    crew: &Crew<'_, G>,
     held: &Held<'_>,
     line: &Line,
     steps: &mut Steps<L>,
@@ -130,8 +132,10 @@ pub(crate) fn answer_to<R: Threads + Sync, L: Ledger>(
             then,
         } => stays(back(alloc, held, view, marks, table, then, steps)?),
         Line::Fwd { table, rows, view } => stays(fwd(alloc, held, table, rows, view)?),
-        Line::Brush { view, marks, table } => brush(rt, alloc, held, view, marks, table, steps),
+        Line::Brush { view, marks, table } => brush(
+            rt, alloc, crew, held, view, marks, table, steps,
+        ),
         Line::Clear => Ok(clear(alloc, held)?),
-        Line::ClearOne { view, table } => clear_one(rt, alloc, held, view, table, steps),
+        Line::ClearOne { view, table } => clear_one(rt, alloc, crew, held, view, table, steps),
     }
 }

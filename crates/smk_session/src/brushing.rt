@@ -15,16 +15,18 @@ ghost use Rattle.smk_session.specs.Sessions.{BrushFits};
 ghost use Rattle.smk_session.specs.declared.turned.Turned.TheVariants as turns;
 
 use crate::brushes::{with_brush, without_brush};
+use crate::crew::Crew;
 use crate::following::follow;
 use crate::held::Held;
 use crate::lineage::back_map;
 use crate::links::has_link;
 use crate::marks::marked_members;
 use crate::names::known_pair;
+use crate::refresh::Refresh;
 use crate::turn::{Brushes, Change, Content, Contents, Turn};
 use crate::turned::Turned;
 use smk_base::{BrushOn, Catalog, Marks, Refusal, Reply, Rids, Text};
-use smk_outside::Steps;
+use smk_outside::{Gate, Steps};
 use smk_rid::RidMap;
 use std::alloc::{AllocError, Global};
 use std::sync::ledger::Ledger;
@@ -89,9 +91,10 @@ fn brush_of(
 }
 
 // A brush: it comes into force, in place of that of its view and table.
-pub(crate) fn brush<R: Threads + Sync, L: Ledger>(
+pub(crate) fn brush<R: Threads + Sync, G: Gate + Sync, L: Ledger>(
     rt: &R,
     alloc: Global,
+    crew: &Crew<'_, G>,
     held: &Held<'_>,
     view: &Text,
     marks: &Marks,
@@ -108,7 +111,12 @@ pub(crate) fn brush<R: Threads + Sync, L: Ledger>(
     let rids = brush.rids.copy(alloc)?;
     let (v, t) = (brush.view, brush.table);
     let brushes = with_brush(alloc, held.brushes, brush)?;
-    let followed = follow(rt, alloc, held, brushes.as_slice(), v, t, steps)?;
+    let refresh = Refresh {
+        held,
+        brushes: brushes.as_slice(),
+        table: t,
+    };
+    let followed = follow(rt, alloc, crew, &refresh, v, steps)?;
     Ok(Turn {
         reply: Reply::Brush {
             rids,
@@ -122,9 +130,10 @@ pub(crate) fn brush<R: Threads + Sync, L: Ledger>(
 }
 
 // The end of the brush of a view and a table. Where there is none, the linked views stay as they are.
-pub(crate) fn clear_one<R: Threads + Sync, L: Ledger>(
+pub(crate) fn clear_one<R: Threads + Sync, G: Gate + Sync, L: Ledger>(
     rt: &R,
     alloc: Global,
+    crew: &Crew<'_, G>,
     held: &Held<'_>,
     view: &Text,
     table: &Text,
@@ -138,7 +147,12 @@ pub(crate) fn clear_one<R: Threads + Sync, L: Ledger>(
 {
     let (v, t) = linked_pair(held.catalog, view, table)?;
     let brushes = without_brush(alloc, held.brushes, v, t)?;
-    let followed = follow(rt, alloc, held, brushes.as_slice(), v, t, steps)?;
+    let refresh = Refresh {
+        held,
+        brushes: brushes.as_slice(),
+        table: t,
+    };
+    let followed = follow(rt, alloc, crew, &refresh, v, steps)?;
     Ok(Turn {
         reply: Reply::ClearedOne {
             linked: followed.linked,

@@ -1,32 +1,33 @@
 // The views that follow a brush, made anew under other brushes.
-ghost use Rattle.std.specs.Prelude.{◌≡◌, ◌<◌, ◌≤◌, ◌+◌, ℕ, Ok, None, Some, Option, true, cond, length, map, All, IfOk, IfErr, OnOk, MatchResult};
-ghost use Rattle.smk_base.specs.CatalogImage.{catalog_image};
+ghost use Rattle.std.specs.Prelude.{◌≡◌, ◌<◌, ◌≤◌, ◌+◌, ◌∷◌, ℕ, Ok, None, Some, Option, true, cond, length, All, IfOk, MatchResult};
 ghost use Rattle.smk_base.specs.Places.{members_at};
 ghost use Rattle.smk_model.specs.Looks.{looks_of_linked};
 ghost use Rattle.smk_model.specs.Replies as replies;
-ghost use Rattle.smk_model.specs.Selection.{first_full, rows_in};
 ghost use Rattle.smk_model.specs.Session as sessions;
-ghost use Rattle.smk_model.specs.Workload.{declares_fwd, is_link};
+ghost use Rattle.smk_model.specs.Workload.{declares_fwd};
 ghost use Rattle.smk_base.specs.declared.reply.Linked.{Linked as LinkedImage};
-ghost use Rattle.std.specs.List.{list_any};
+ghost use Rattle.std.specs.List.{AllZip, list_any, sum_by};
 ghost use Rattle.smk_compose.specs.declared.fault.EvalFault.TheVariants as faults;
-ghost use Rattle.smk_session.specs.Answers.{Gives, Turns, IsHeld, book_of, state_at, rids_or_all, content_at};
-ghost use Rattle.smk_session.specs.Sessions.{BrushFits, follows};
+ghost use Rattle.smk_session.specs.Answers.{Gives, Turns, rids_or_all, content_at};
+ghost use Rattle.smk_session.specs.Refreshed.{CanEvaluate, IsContent, IsFetched, IsRefresh, Names, book_at, contents_at, linked_at, looks_now, state_next};
+ghost use Rattle.smk_session.specs.Sessions.{follows};
 
 use crate::chosen::{chosen, picks};
-use crate::held::Held;
+use crate::crew::Crew;
+use crate::evaluating::{Fetched, evaluate, evaluate_at_once};
 use crate::lineage::fwd_map;
 use crate::links::{follows_some, linked};
 use crate::marks::all_places;
 use crate::opening::view_of;
+use crate::refresh::Refresh;
 use crate::turn::{Content, Contents};
 use crate::turned::Turned;
-use smk_base::{BrushOn, Catalog, Linked, Linkeds, Refusal, Rel, Rids};
-use smk_compose::{EvalFault, eval_leaves, fetch_leaves};
-use smk_outside::Steps;
-use smk_plain::Plain;
+use smk_base::{Linked, Linkeds, Refusal, Rel, Rids};
+use smk_compose::{EvalFault, fetch_leaves};
+use smk_outside::{Gate, Steps};
 use smk_rid::RidMap;
 use std::alloc::{AllocError, Global};
+use std::collections::VecDeque;
 use std::sync::ledger::Ledger;
 use std::thread::Threads;
 
@@ -51,23 +52,17 @@ fn reached(alloc: Global, map: &RidMap, chosen: Option<Rids>) -> Result<Rids, Al
     }
 }
 
-// The marks of a view that the rows selected for it on a table reach, by the kept lineage.
-fn marks_now(
-    alloc: Global,
-    held: &Held<'_>,
-    brushes: &[BrushOn],
-    t: u32,
-    w: u32,
-) -> Result<Rids, Turned>
-    requires held { IsHeld held.now }
-    requires fit { All (BrushFits held.now.catalog.now held.now.tables.now) brushes.now }
-    requires view { w < length held.now.catalog.now.views }
-    requires table { t < length held.now.catalog.now.tables }
-    requires declared { declares_fwd (book_of held.now) w t ≡ true }
-    ensures gives { Gives result (Ok (replies.marks_fwd (book_of held.now) (state_at held.now brushes.now) w t (sessions.selected_for (book_of held.now) (state_at held.now brushes.now) w t))) }
+// The marks of a view that the rows selected for it on the table reach, by the kept lineage.
+fn marks_now(alloc: Global, refresh: &Refresh<'_>, w: u32) -> Result<Rids, Turned>
+    requires refresh { IsRefresh refresh.now }
+    requires view { w < length refresh.now.held.now.catalog.now.views }
+    requires declared { declares_fwd (book_at refresh.now) w refresh.now.table ≡ true }
+    ensures gives { Gives result (Ok (replies.marks_fwd (book_at refresh.now) (state_next refresh.now) w refresh.now.table (sessions.selected_for (book_at refresh.now) (state_next refresh.now) w refresh.now.table))) }
 {
+    let held = refresh.held;
+    let t = refresh.table;
     let map = fwd_map(&held.views[w as usize], t as usize)?;
-    let chosen = chosen(alloc, held.catalog, brushes, w, t)?;
+    let chosen = chosen(alloc, held.catalog, refresh.brushes, w, t)?;
     Ok(reached(alloc, map, chosen)?)
 }
 
@@ -81,71 +76,55 @@ fn at_node(view: u32, fault: EvalFault) -> Turned
     }
 }
 
-// The content of a view over the rows selected for it. No lineage is captured.
-fn content_now<R: Threads + Sync, L: Ledger>(
-    rt: &R,
+// A view with the rows selected for it, one look each.
+fn fetch<'a, L: Ledger>(
     alloc: Global,
-    held: &Held<'_>,
-    brushes: &[BrushOn],
+    refresh: &Refresh<'a>,
+    place: u32,
     w: u32,
     steps: &mut Steps<L>,
-) -> Result<Rel, Turned>
-    requires held { IsHeld held.now }
-    requires fit { All (BrushFits held.now.catalog.now held.now.tables.now) brushes.now }
-    requires view { w < length held.now.catalog.now.views }
-    ensures content { IfOk result (λ rel. rel ≡ replies.content_of (book_of held.now) (state_at held.now brushes.now) w) }
-    ensures few { OnOk result (first_full (sessions.view_at (book_of held.now) w).plan (sessions.leaves_now (book_of held.now) (state_at held.now brushes.now) w) ≡ None) }
-    ensures many { IfErr result (λ turned. (linked : LinkedImage) → linked.view ≡ w → Turns turned (replies.unless_full (first_full (sessions.view_at (book_of held.now) w).plan (sessions.leaves_now (book_of held.now) (state_at held.now brushes.now) w)) linked)) }
-    ensures looks { steps.new ≤ steps.old + rows_in (sessions.leaves_now (book_of held.now) (state_at held.now brushes.now) w) }
+) -> Result<Fetched<'a>, AllocError>
+    requires refresh { IsRefresh refresh.now }
+    requires view { w < length refresh.now.held.now.catalog.now.views }
+    ensures fetched { IfOk result (IsFetched refresh.now w) }
+    ensures ready { IfOk result CanEvaluate }
+    ensures looks { steps.new ≤ steps.old + looks_now refresh.now w }
 {
+    let held = refresh.held;
     let plan = &view_of(held.catalog, w).plan;
-    let picks = picks(alloc, held, brushes, w)?;
+    let picks = picks(alloc, held, refresh.brushes, w)?;
     let leaves = fetch_leaves(alloc, plan, held.tables, &picks, steps)?;
-    match eval_leaves(rt, alloc, &Plain, plan, leaves) {
-        Ok(rel) => Ok(rel),
-        Err(fault) => Err(at_node(w, fault)),
-    }
-}
-
-// A linked view: its marks that the rows selected for it reach, and its content over them.
-fn linked_now<R: Threads + Sync, L: Ledger>(
-    rt: &R,
-    alloc: Global,
-    held: &Held<'_>,
-    brushes: &[BrushOn],
-    t: u32,
-    w: u32,
-    steps: &mut Steps<L>,
-) -> Result<Linked, Turned>
-    requires held { IsHeld held.now }
-    requires fit { All (BrushFits held.now.catalog.now held.now.tables.now) brushes.now }
-    requires view { w < length held.now.catalog.now.views }
-    requires table { t < length held.now.catalog.now.tables }
-    requires declared { declares_fwd (book_of held.now) w t ≡ true }
-    ensures gives { Gives result (replies.linked_now (book_of held.now) (state_at held.now brushes.now) t w) }
-    ensures content { IfOk result (λ linked. linked.rel ≡ replies.content_of (book_of held.now) (state_at held.now brushes.now) w) }
-    ensures view { IfOk result (λ linked. linked.view ≡ w) }
-    ensures looks { steps.new ≤ steps.old + rows_in (sessions.leaves_now (book_of held.now) (state_at held.now brushes.now) w) }
-{
-    let marks = marks_now(alloc, held, brushes, t, w)?;
-    let rel = content_now(rt, alloc, held, brushes, w, steps)?;
-    Ok(Linked {
-        view: w,
-        marks,
-        rel,
+    Ok(Fetched {
+        place,
+        plan,
+        leaves,
     })
 }
 
-// What is kept of a view that shows this: nothing where no brush concerns it, since it shows its first content then.
-fn to_keep(
+// What a view is evaluated to over the rows selected for it. No lineage is captured.
+#[tactic(auto, using(crate::proofs::Refreshing::content_made))]
+fn content_now<R: Threads + Sync, G: Gate + Sync, L: Ledger>(
+    rt: &R,
     alloc: Global,
-    catalog: &Catalog,
-    brushes: &[BrushOn],
-    shown: &Linked,
-) -> Result<Content, AllocError>
-    ensures { IfOk result (λ made. made ≡ record { view = shown.now.view; rel = cond (list_any (follows (catalog_image catalog.now) shown.now.view) brushes.now) (Some shown.now.rel) None }) }
+    crew: &Crew<'_, G>,
+    refresh: &Refresh<'_>,
+    w: u32,
+    steps: &mut Steps<L>,
+) -> Result<Result<Rel, EvalFault>, AllocError>
+    requires refresh { IsRefresh refresh.now }
+    requires view { w < length refresh.now.held.now.catalog.now.views }
+    ensures content { IfOk result (IsContent refresh.now w) }
+    ensures looks { steps.new ≤ steps.old + looks_now refresh.now w }
 {
-    let rel = if follows_some(catalog, brushes, shown.view) {
+    let fetched = fetch(alloc, refresh, 0, w, steps)?;
+    Ok(evaluate(rt, alloc, crew, fetched))
+}
+
+// What is kept of a view that shows this: nothing where no brush concerns it, since it shows its first content then.
+fn to_keep(alloc: Global, refresh: &Refresh<'_>, shown: &Linked) -> Result<Content, AllocError>
+    ensures { IfOk result (λ made. made ≡ record { view = shown.now.view; rel = cond (list_any (follows (book_at refresh.now) shown.now.view) refresh.now.brushes.now) (Some shown.now.rel) None }) }
+{
+    let rel = if follows_some(refresh.held.catalog, refresh.brushes, shown.view) {
         Some(shown.rel.copy(alloc)?)
     } else {
         None
@@ -156,53 +135,73 @@ fn to_keep(
     })
 }
 
-// A linked view with what is kept of it.
-fn followed_one<R: Threads + Sync, L: Ledger>(
-    rt: &R,
+// A linked view with this content: its marks that the rows selected for it reach.
+fn linked_with(
     alloc: Global,
-    held: &Held<'_>,
-    brushes: &[BrushOn],
-    t: u32,
+    refresh: &Refresh<'_>,
     w: u32,
-    steps: &mut Steps<L>,
-) -> Result<(Linked, Content), Turned>
-    requires held { IsHeld held.now }
-    requires fit { All (BrushFits held.now.catalog.now held.now.tables.now) brushes.now }
-    requires view { w < length held.now.catalog.now.views }
-    requires table { t < length held.now.catalog.now.tables }
-    requires declared { declares_fwd (book_of held.now) w t ≡ true }
-    ensures told { MatchResult result (λ made. replies.linked_now (book_of held.now) (state_at held.now brushes.now) t w ≡ Ok made.0) (λ turned. Turns turned (replies.linked_now (book_of held.now) (state_at held.now brushes.now) t w)) }
-    ensures content { IfOk result (λ made. made.1 ≡ content_at (book_of held.now) (state_at held.now brushes.now) w) }
-    ensures looks { steps.new ≤ steps.old + rows_in (sessions.leaves_now (book_of held.now) (state_at held.now brushes.now) w) }
+    made: Result<Rel, EvalFault>,
+) -> Result<Linked, Turned>
+    requires refresh { IsRefresh refresh.now }
+    requires view { w < length refresh.now.held.now.catalog.now.views }
+    requires declared { declares_fwd (book_at refresh.now) w refresh.now.table ≡ true }
+    requires made { IsContent refresh.now w made }
+    ensures gives { Gives result (replies.linked_now (book_at refresh.now) (state_next refresh.now) refresh.now.table w) }
+    ensures content { IfOk result (λ linked. linked.rel ≡ replies.content_of (book_at refresh.now) (state_next refresh.now) w) }
+    ensures view { IfOk result (λ linked. linked.view ≡ w) }
 {
-    let shown = linked_now(rt, alloc, held, brushes, t, w, steps)?;
-    let content = to_keep(alloc, held.catalog, brushes, &shown)?;
+    match made {
+        Ok(rel) => {
+            let marks = marks_now(alloc, refresh, w)?;
+            Ok(Linked {
+                view: w,
+                marks,
+                rel,
+            })
+        }
+        Err(fault) => Err(at_node(w, fault)),
+    }
+}
+
+// A linked view with what is kept of it.
+fn followed_one(
+    alloc: Global,
+    refresh: &Refresh<'_>,
+    w: u32,
+    made: Result<Rel, EvalFault>,
+) -> Result<(Linked, Content), Turned>
+    requires refresh { IsRefresh refresh.now }
+    requires view { w < length refresh.now.held.now.catalog.now.views }
+    requires declared { declares_fwd (book_at refresh.now) w refresh.now.table ≡ true }
+    requires made { IsContent refresh.now w made }
+    ensures told { MatchResult result (λ made. replies.linked_now (book_at refresh.now) (state_next refresh.now) refresh.now.table w ≡ Ok made.0) (λ turned. Turns turned (replies.linked_now (book_at refresh.now) (state_next refresh.now) refresh.now.table w)) }
+    ensures content { IfOk result (λ made. made.1 ≡ content_at (book_at refresh.now) (state_next refresh.now) w) }
+{
+    let shown = linked_with(alloc, refresh, w, made)?;
+    let content = to_keep(alloc, refresh, &shown)?;
     Ok((shown, content))
 }
 
-// The views that the links of a view on a table name, or the refusal of the first that has too many rows.
-pub(crate) fn follow<R: Threads + Sync, L: Ledger>(
+// These views, one after the other, or the refusal of the first that has too many rows.
+fn follow_in_turn<R: Threads + Sync, G: Gate + Sync, L: Ledger>(
     rt: &R,
     alloc: Global,
-    held: &Held<'_>,
-    brushes: &[BrushOn],
-    v: u32,
-    t: u32,
+    crew: &Crew<'_, G>,
+    refresh: &Refresh<'_>,
+    views: &[u32],
     steps: &mut Steps<L>,
 ) -> Result<Followed, Turned>
-    requires held { IsHeld held.now }
-    requires fit { All (BrushFits held.now.catalog.now held.now.tables.now) brushes.now }
-    requires table { t < length held.now.catalog.now.tables }
-    ensures linked { MatchResult result (λ followed. replies.all_linked (book_of held.now) (state_at held.now brushes.now) v t ≡ Ok followed.linked) (λ turned. Turns turned (replies.all_linked (book_of held.now) (state_at held.now brushes.now) v t)) }
-    ensures contents { IfOk result (λ followed. followed.contents ≡ map (content_at (book_of held.now) (state_at held.now brushes.now)) (sessions.linked (book_of held.now) v t)) }
-    ensures looks { steps.new ≤ steps.old + looks_of_linked (book_of held.now) (state_at held.now brushes.now) v t }
+    requires refresh { IsRefresh refresh.now }
+    requires named { Names refresh.now views.now }
+    ensures linked { MatchResult result (λ followed. linked_at refresh.now views.now ≡ Ok followed.linked) (λ turned. Turns turned (linked_at refresh.now views.now)) }
+    ensures contents { IfOk result (λ followed. followed.contents ≡ contents_at refresh.now views.now) }
+    ensures looks { steps.new ≤ steps.old + sum_by (looks_now refresh.now) views.now }
 {
-    let views = linked(alloc, held.catalog, v, t)?;
-    let followers = views.as_slice();
     let mut shown = Linkeds::new(alloc);
     let mut contents = Contents::new(alloc);
-    for w in followers {
-        let one = followed_one(rt, alloc, held, brushes, t, *w, steps)?;
+    for w in views {
+        let made = content_now(rt, alloc, crew, refresh, *w, steps)?;
+        let one = followed_one(alloc, refresh, *w, made)?;
         contents.push(one.1)?;
         shown.push(one.0)?;
     }
@@ -210,4 +209,109 @@ pub(crate) fn follow<R: Threads + Sync, L: Ledger>(
         linked: shown,
         contents,
     })
+}
+
+// These views with the rows selected for them, one look each.
+fn fetch_each<'a, L: Ledger>(
+    alloc: Global,
+    refresh: &Refresh<'a>,
+    views: &[u32],
+    steps: &mut Steps<L>,
+) -> Result<Vec<Fetched<'a>>, AllocError>
+    requires refresh { IsRefresh refresh.now }
+    requires named { Names refresh.now views.now }
+    ensures fetched { IfOk result (λ all. AllZip (IsFetched refresh.now) views.now all.items) }
+    ensures ready { IfOk result (λ all. All CanEvaluate all.items) }
+    ensures looks { steps.new ≤ steps.old + sum_by (looks_now refresh.now) views.now }
+{
+    let mut all = Vec::with_capacity(alloc, views.len())?;
+    let mut place = 0u32;
+    for w in views {
+        let one = fetch(alloc, refresh, place, *w, steps)?;
+        all.push(one)?;
+        place = place.saturating_add(1);
+    }
+    Ok(all)
+}
+
+// These views with these contents, or the refusal of the first that has too many rows.
+fn gather(
+    alloc: Global,
+    refresh: &Refresh<'_>,
+    views: &[u32],
+    made: Vec<Result<Rel, EvalFault>>,
+) -> Result<Followed, Turned>
+    requires refresh { IsRefresh refresh.now }
+    requires named { Names refresh.now views.now }
+    requires made { AllZip (IsContent refresh.now) views.now made.items }
+    ensures linked { MatchResult result (λ followed. linked_at refresh.now views.now ≡ Ok followed.linked) (λ turned. Turns turned (linked_at refresh.now views.now)) }
+    ensures contents { IfOk result (λ followed. followed.contents ≡ contents_at refresh.now views.now) }
+{
+    let mut rest = VecDeque::from_vec(made);
+    let mut shown = Linkeds::new(alloc);
+    let mut contents = Contents::new(alloc);
+    for w in views {
+        let first = first_of(&mut rest);
+        let one = followed_one(alloc, refresh, *w, first)?;
+        contents.push(one.1)?;
+        shown.push(one.0)?;
+    }
+    Ok(Followed {
+        linked: shown,
+        contents,
+    })
+}
+
+// Takes the first one out.
+fn first_of<T: Drop>(queue: &mut VecDeque<T>) -> T
+    requires { 0 < length queue.old.items }
+    ensures { queue.old.items ≡ result ∷ queue.new.items }
+{
+    match queue.pop_front() {
+        Some(first) => first,
+        None => unreachable!(),
+    }
+}
+
+// These views, all at once once their rows are fetched, or the refusal of the first that has too many rows.
+#[tactic(auto, using(crate::proofs::Refreshing::all_contents))]
+fn follow_at_once<R: Threads + Sync, G: Gate + Sync, L: Ledger>(
+    rt: &R,
+    alloc: Global,
+    gate: &G,
+    refresh: &Refresh<'_>,
+    views: &[u32],
+    steps: &mut Steps<L>,
+) -> Result<Followed, Turned>
+    requires refresh { IsRefresh refresh.now }
+    requires named { Names refresh.now views.now }
+    ensures linked { MatchResult result (λ followed. linked_at refresh.now views.now ≡ Ok followed.linked) (λ turned. Turns turned (linked_at refresh.now views.now)) }
+    ensures contents { IfOk result (λ followed. followed.contents ≡ contents_at refresh.now views.now) }
+    ensures looks { steps.new ≤ steps.old + sum_by (looks_now refresh.now) views.now }
+{
+    let fetched = fetch_each(alloc, refresh, views, steps)?;
+    let made = evaluate_at_once(rt, alloc, gate, fetched)?;
+    gather(alloc, refresh, views, made)
+}
+
+// The views that the links of a view on the table name, or the refusal of the first that has too many rows. Two or more are evaluated at once where there are several workers.
+pub(crate) fn follow<R: Threads + Sync, G: Gate + Sync, L: Ledger>(
+    rt: &R,
+    alloc: Global,
+    crew: &Crew<'_, G>,
+    refresh: &Refresh<'_>,
+    v: u32,
+    steps: &mut Steps<L>,
+) -> Result<Followed, Turned>
+    requires refresh { IsRefresh refresh.now }
+    ensures linked { MatchResult result (λ followed. replies.all_linked (book_at refresh.now) (state_next refresh.now) v refresh.now.table ≡ Ok followed.linked) (λ turned. Turns turned (replies.all_linked (book_at refresh.now) (state_next refresh.now) v refresh.now.table)) }
+    ensures contents { IfOk result (λ followed. followed.contents ≡ contents_at refresh.now (sessions.linked (book_at refresh.now) v refresh.now.table)) }
+    ensures looks { steps.new ≤ steps.old + looks_of_linked (book_at refresh.now) (state_next refresh.now) v refresh.now.table }
+{
+    let views = linked(alloc, refresh.held.catalog, v, refresh.table)?;
+    if crew.workers == 1 || views.len() < 2 {
+        follow_in_turn(rt, alloc, crew, refresh, views.as_slice(), steps)
+    } else {
+        follow_at_once(rt, alloc, crew.gate, refresh, views.as_slice(), steps)
+    }
 }

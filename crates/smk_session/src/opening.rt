@@ -12,6 +12,7 @@ ghost use Rattle.smk_model.specs.Session.{view_at};
 ghost use Rattle.smk_compose.specs.Through.{IsFirst};
 ghost use Rattle.smk_session.specs.Sessions.{AreOpened, IsStartFault, fault_in, opened, workbook_image};
 
+use crate::crew::Crew;
 use crate::fault::StartFault;
 use crate::mode::Mode;
 use smk_base::{Catalog, Rel, ViewInfo};
@@ -19,7 +20,8 @@ use smk_body::OpBody;
 use smk_compose::{Run, RunFault, run_plan};
 use smk_defer::Defer;
 use smk_inject::Inject;
-use smk_outside::Steps;
+use smk_outside::{Gate, Steps};
+use smk_par::Pieces;
 use smk_table::Table;
 use smk_typing::{TypedBook, needed};
 use std::alloc::{AllocError, Global};
@@ -97,11 +99,12 @@ fn open_views<R: Threads + Sync, B: OpBody + Sync, L: Ledger>(
     Ok(views)
 }
 
-// All views in the book's order, their lineage captured by the body of a mode.
-pub(crate) fn open_by<R: Threads + Sync, L: Ledger>(
+// All views in the book's order, their lineage captured by the body of a mode, whose steps are cut into pieces where there are several workers.
+pub(crate) fn open_by<R: Threads + Sync, G: Gate + Sync, L: Ledger>(
     rt: &R,
     alloc: Global,
     mode: Mode,
+    crew: &Crew<'_, G>,
     book: &TypedBook,
     tables: &[Table],
     steps: &mut Steps<L>,
@@ -112,9 +115,17 @@ pub(crate) fn open_by<R: Threads + Sync, L: Ledger>(
     ensures fault { IfErr result (λ e. IsStartFault e (first_view_fault (workbook_image book.now tables.now))) }
     ensures looks { steps.new ≤ steps.old + sum_by (looks_of_view (workbook_image book.now tables.now)) (workbook_image book.now tables.now).catalog.views }
 {
-    match mode {
-        Mode::Inject => open_views(rt, alloc, &Inject, book, tables, steps),
-        Mode::Defer => open_views(rt, alloc, &Defer, book, tables, steps),
+    match (mode, crew.workers) {
+        (Mode::Inject, 1) => open_views(rt, alloc, &Inject, book, tables, steps),
+        (Mode::Defer, 1) => open_views(rt, alloc, &Defer, book, tables, steps),
+        (Mode::Inject, workers) => {
+            let body = Pieces::new(Inject, crew.gate, workers);
+            open_views(rt, alloc, &body, book, tables, steps)
+        }
+        (Mode::Defer, workers) => {
+            let body = Pieces::new(Defer, crew.gate, workers);
+            open_views(rt, alloc, &body, book, tables, steps)
+        }
     }
 }
 

@@ -8,6 +8,7 @@ ghost use Rattle.smk_model.specs.Selection.{each_kinds};
 ghost use Rattle.smk_session.specs.Sessions.{workbook_image, state_of, IsStartFault, opened, workbook_of};
 
 use crate::answer::answer_to;
+use crate::crew::Crew;
 use crate::extra::{Groupings, Splits};
 use crate::fault::StartFault;
 use crate::held::Held;
@@ -57,7 +58,7 @@ impl Model for Session {
 impl Session {
     /// A session of this book over these tables, or the first view with a node that is too big. Each row of a leaf is at most one look, and so is each row of the table of a declared split or grouping, also where it is refused.
     ///
-    /// No brush is in force. Lineage is captured by the body of `mode`. On a fault the book and the tables are dropped.
+    /// No brush is in force. Lineage is captured by the body of `mode`, all in this thread with one worker, and above that in pieces of rows that may run at the same time; piece p passes the gate with p. There are at most 64 workers. On a fault the book and the tables are dropped.
     pub fn start<R: Threads + Sync, G: Gate + Sync, L: Ledger>(
         rt: &R,
         alloc: Global,
@@ -65,11 +66,12 @@ impl Session {
         tables: Vec<Table>,
         mode: Mode,
         workers: u32,
-        _gate: &G,
+        gate: &G,
         steps: &mut Steps<L>,
     ) -> Result<Session, StartFault>
         requires kinds { each_kinds tables.items ≡ each_table_kinds book.tables }
-        requires workers { workers ≡ 1 }
+        requires some_workers { 1 ≤ workers }
+        requires few_workers { workers ≤ 64 }
         ensures book { IfOk result (λ session. session.catalog ≡ book) }
         ensures tables { IfOk result (λ session. session.tables ≡ tables.items) }
         ensures brushes { IfOk result (λ session. session.brushes ≡ []) }
@@ -79,7 +81,8 @@ impl Session {
         ensures fault { IfErr result (λ e. IsStartFault e (first_view_fault (workbook_image book tables.items))) }
         ensures looks { steps.new ≤ steps.old + start_looks (workbook_image book tables.items) }
     {
-        let views = open_by(rt, alloc, mode, &book, tables.as_slice(), steps)?;
+        let crew = Crew { gate, workers };
+        let views = open_by(rt, alloc, mode, &crew, &book, tables.as_slice(), steps)?;
         let opened = Opened {
             book: book.catalog(),
             tables: tables.as_slice(),
@@ -116,13 +119,13 @@ impl Session {
         self.book.catalog()
     }
 
-    /// The reply to a line, after which the brushes in force are those of the next state. Rows of a table that are answered are one look each, those without the value that is asked for and those of a grouping none, and so are the rows that are selected for the views that follow a brush. After an error, and after a line that is refused, the session is as it was.
+    /// The reply to a line, after which the brushes in force are those of the next state. Rows of a table that are answered are one look each, those without the value that is asked for and those of a grouping none, and so are the rows that are selected for the views that follow a brush. With several workers two views or more that follow are made anew at the same time, once the rows of all are selected: the i-th of them, from 0, passes the gate with i; one alone is made in pieces, as by `start`. After an error, and after a line that is refused, the session is as it was.
     pub fn answer<R: Threads + Sync, G: Gate + Sync, L: Ledger>(
         &mut self,
         rt: &R,
         alloc: Global,
         line: &Line,
-        _gate: &G,
+        gate: &G,
         steps: &mut Steps<L>,
     ) -> Result<Reply, AllocError>
         ensures reply { IfOk result (λ told. (told, state_of self.new) ≡ replies.reply (catalog_image self.old.catalog) (state_of self.old) line.now) }
@@ -144,7 +147,11 @@ impl Session {
             brushes: self.brushes.as_slice(),
             contents: self.contents.as_slice(),
         };
-        match answer_to(rt, alloc, &held, line, steps) {
+        let crew = Crew {
+            gate,
+            workers: self.workers,
+        };
+        match answer_to(rt, alloc, &crew, &held, line, steps) {
             Ok(Turn { reply, change }) => match change {
                 None => Ok(reply),
                 Some(change) => {

@@ -6,14 +6,16 @@ use Rattle.smk_model.specs.Replies.{all_linked, linked_pair}
 use Rattle.smk_model.specs.Session.{linked}
 use Rattle.smk_session.specs.Answers.{Turns, book_of, content_at, state_at, state_held}
 use Rattle.smk_session.specs.Sessions.{BrushFits}
-use Rattle.smk_session.proofs.Brushed.{clear_told, clear_turned, clear_looks, clear_change}
+use Rattle.smk_session.proofs.Brushed.{refreshes, clear_told, clear_turned, clear_looks, clear_change}
 use Rattle.smk_session.proofs.Shown.{kept_fit}
 use Rattle.smk_session.proofs.brushing.clear_one.Goals as goal
 
-pub follow-requires-clause-fit : goal.follow-requires-clause-fit
-follow-requires-clause-fit g c κs within =
-    subst (λ (l : List BrushOn). All (BrushFits c.args.held.now.catalog.now c.args.held.now.tables.now) l) (sym (c.as_slice.ensures ∙ c.in_ok-brushes.ensures))
-    (kept_fit (BrushFits c.args.held.now.catalog.now c.args.held.now.tables.now) _ c.args.held.now.brushes.now c.requires.in_force.brushes_fit)
+pub follow-requires-clause-refresh : goal.follow-requires-clause-refresh
+follow-requires-clause-refresh g c κs within =
+    refreshes _ c.requires
+    (subst (λ (l : List BrushOn). All (BrushFits c.args.held.now.catalog.now c.args.held.now.tables.now) l) (sym (c.as_slice.ensures ∙ c.in_ok-brushes.ensures))
+    (kept_fit (BrushFits c.args.held.now.catalog.now c.args.held.now.tables.now) _ c.args.held.now.brushes.now c.requires.in_force.brushes_fit))
+    c.in_ok-v.ensures.table
 
 pub returns-clause-told : goal.returns-clause-told
 returns-clause-told g c =
