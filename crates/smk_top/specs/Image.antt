@@ -16,7 +16,7 @@ mode_image Inject = calls.Inject
 mode_image Defer = calls.Defer
 
 abbrev pub settings_image : Settings → calls.Settings
-settings_image settings = record { mode = mode_image settings.mode }
+settings_image settings = record { mode = mode_image settings.mode; workers = settings.workers }
 
 abbrev pub texts_image : RunTexts → calls.Words
 texts_image (Files book script) = calls.Files book script

@@ -138,7 +138,8 @@ fn work<R: Threads + Sync, F: Files, O: Sink, G: Gate + Sync, L: Ledger>(
 }
 
 /// A run of Smoke. Its `words` are those after the program's name: a book's file name, and a script's where there is one, or `--demo` with a
-/// number of flights; and `--mode`, which says when lineage is made and changes nothing of what is written.
+/// number of flights; and `--mode`, which says when lineage is made, and `--workers`, which says into how many pieces the work is cut that may
+/// run at the same time, from 1 to 64. Neither changes anything of what is written. Each piece passes the gate.
 ///
 /// It reads the book, the book's tables and the script from `files`, evaluates the views, and writes to `out` the text of each view and then
 /// of the reply to each line of the script; where there is a fault, it writes nothing to `out` and one line to `err`. With `--demo` no file is

@@ -1,7 +1,12 @@
+ghost use Rattle.std.specs.Prelude.{◌≤◌};
+
 use smk_session::Mode;
 
 /// What options say of how a run works. What it writes doesn't depend on it.
 #[derive(Clone, Copy)]
 pub struct Settings {
     pub mode: Mode,
+    pub workers: u32,
+    ghost some: { 1 ≤ workers },
+    ghost few: { workers ≤ 64 },
 }

@@ -63,13 +63,15 @@ pub fn start<R: Threads + Sync, G: Gate + Sync, L: Ledger>(
     ensures starts { Starts (workbook_image book tables.items) result }
     ensures book { IfOk result (λ session. workbook_of session ≡ workbook_image book tables.items) }
     ensures mode { IfOk result (λ session. session.mode ≡ settings.mode) }
+    ensures workers { IfOk result (λ session. session.workers ≡ settings.workers) }
     ensures looks { steps.new ≤ steps.old + start_looks (workbook_image book tables.items) }
     ensures begun { IfOk result (λ session. session.brushes ≡ []) }
     ensures said { IsSayable result }
 {
     let views = view_names(alloc, book.catalog().views.as_slice())?;
     let names = table_names(alloc, book.catalog().tables.as_slice())?;
-    match Session::start(rt, alloc, book, tables, settings.mode, 1, gate, steps) {
+    let Settings { mode, workers, .. } = settings;
+    match Session::start(rt, alloc, book, tables, mode, workers, gate, steps) {
         Ok(session) => Ok(session),
         Err(StartFault::Rows { view, node }) => {
             let view = name_at(alloc, views, view);

@@ -1,5 +1,5 @@
 // The words of a run, as clap takes them.
-ghost use Rattle.std.specs.Prelude.{◌≡◌, IfOk, false, map};
+ghost use Rattle.std.specs.Prelude.{◌≡◌, ◌≤◌, IfOk, IfSome, false, map};
 ghost use Rattle.std.specs.Option.{option_map};
 ghost use Rattle.clap.specs.Words.{app_of, rule_of, new_rule};
 ghost use Rattle.smk_model.specs.Words as calls;
@@ -15,6 +15,9 @@ use smk_base::{Text, read_int};
 use smk_session::Mode;
 use std::alloc::{AllocError, Global};
 
+// The most workers that a run may have.
+const MOST_WORKERS: i64 = 64;
+
 // The most flights that a demo may have.
 const MOST_FLIGHTS: i64 = 200_000;
 
@@ -24,6 +27,17 @@ fn mode_arg<'a>(alloc: Global) -> Arg<'a>
     ensures local { result.global ≡ false }
 {
     Arg::new(alloc, "mode").long("mode").default_value("inject")
+}
+
+// The option `--workers`.
+fn workers_arg<'a>(alloc: Global) -> Arg<'a>
+    ensures rule { rule_of result ≡ calls.workers_rule }
+    ensures local { result.global ≡ false }
+{
+    Arg::new(alloc, "workers")
+        .long("workers")
+        .value_parser(ValueParser::Signed(1, MOST_WORKERS))
+        .default_value("1")
 }
 
 // The option `--demo`.
@@ -50,7 +64,8 @@ fn smoke_command<'a>(alloc: Global) -> Result<Command<'a>, AllocError>
 {
     let plain = Command::new(alloc, "smoke").no_binary_name(true);
     let with_mode = plain.arg(mode_arg(alloc))?;
-    let with_demo = with_mode.arg(demo_arg(alloc))?;
+    let with_workers = with_mode.arg(workers_arg(alloc))?;
+    let with_demo = with_workers.arg(demo_arg(alloc))?;
     let with_book = with_demo.arg(place_arg(alloc, "book"))?;
     let with_script = with_book.arg(place_arg(alloc, "script"))?;
     Ok(with_script)
@@ -80,12 +95,26 @@ fn mode_of(name: &str) -> Option<Mode>
     }
 }
 
-// The settings, unless the mode isn't known.
+// So many workers, unless there may not be so many.
+fn workers_counted(number: i64) -> Option<u32>
+    ensures counted { result ≡ calls.workers_counted number }
+    ensures some { IfSome result (λ workers. 1 ≤ workers) }
+    ensures few { IfSome result (λ workers. workers ≤ 64) }
+{
+    if number < 1 || number > MOST_WORKERS {
+        return None;
+    }
+    Some(number as u32)
+}
+
+// The settings, unless the mode isn't known or there may not be so many workers.
 fn settings_of(matches: &ArgMatches<'_>) -> Option<Settings>
     ensures { option_map settings_image result ≡ calls.settings_in (values_of matches.now) }
 {
     let mode = mode_of(matches.get_str("mode")?)?;
-    Some(Settings { mode })
+    let number = read_int(matches.get_str("workers")?.as_bytes())?;
+    let workers = workers_counted(number)?;
+    Some(Settings { mode, workers })
 }
 
 // The bytes of a word.
@@ -134,7 +163,7 @@ fn texts_in(alloc: Global, matches: &ArgMatches<'_>) -> Result<Option<RunTexts>,
     }
 }
 
-// What matches call a run for, unless the mode isn't known or the texts aren't said.
+// What matches call a run for, unless the settings or the texts aren't said.
 fn called_for(alloc: Global, matches: &ArgMatches<'_>) -> Result<Option<RunWords>, AllocError>
     ensures { IfOk result (λ found. option_map invocation_image found ≡ calls.invocation_in (values_of matches.now)) }
 {
