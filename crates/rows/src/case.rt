@@ -46,52 +46,83 @@ fn bytes_of(alloc: Global, sections: &[Section<'_>], wanted: Part<'_>) -> Result
     Ok(bytes)
 }
 
-/// The words of each run of a case. A case that names none has one run, with the word `book.smk`. Each is made once with each mode that the
-/// case names, or else its archive; where neither names any, it is made as it stands.
+// The values of the options with which each run is made, with blanks between them.
+#[derive(Clone, Copy)]
+struct Options<'a> {
+    modes: &'a str,
+    workers: &'a str,
+}
+
+/// The words of each run of a case. A case that names none has one run, with the word `book.smk`. Each is made once with each mode and each
+/// number of workers that the case names, or else its archive; where neither names any, it is made as it stands.
 pub fn runs_of<'a>(
     alloc: Global,
     shared: &[Section<'a>],
     case: &[Section<'a>],
 ) -> Result<Vec<Vec<&'a str>>, AllocError> {
-    let modes = modes_of(case).or(modes_of(shared)).unwrap_or("");
+    let options = Options {
+        modes: values_of("--mode", shared, case),
+        workers: values_of("--workers", shared, case),
+    };
     let mut runs = Vec::new(alloc);
     for section in case {
         if let Head::Words(first) = section.head {
-            add_runs(alloc, &mut runs, modes, first, section.body)?;
+            add_runs(alloc, &mut runs, options, first, section.body)?;
         }
     }
     if runs.is_empty() {
-        add_runs(alloc, &mut runs, modes, "book.smk", None)?;
+        add_runs(alloc, &mut runs, options, "book.smk", None)?;
     }
     Ok(runs)
 }
 
-// The modes that a case or an archive names.
-fn modes_of<'a>(sections: &[Section<'a>]) -> Option<&'a str> {
+// The values of an option that a case names, or else its archive.
+fn values_of<'a>(option: &str, shared: &[Section<'a>], case: &[Section<'a>]) -> &'a str {
+    named_values(option, case)
+        .or(named_values(option, shared))
+        .unwrap_or("")
+}
+
+fn named_values<'a>(option: &str, sections: &[Section<'a>]) -> Option<&'a str> {
     for section in sections {
-        if let Head::Modes(modes) = section.head {
-            return Some(modes);
+        if let Head::Each(name, values) = section.head
+            && name == option
+        {
+            return Some(values);
         }
     }
     None
 }
 
-// Adds the words of a run for each of the modes.
+// Adds the words of a run for each mode and each number of workers.
 fn add_runs<'a>(
     alloc: Global,
     runs: &mut Vec<Vec<&'a str>>,
-    modes: &'a str,
+    options: Options<'a>,
     first: &'a str,
     body: Option<&'a str>,
 ) -> Result<(), AllocError> {
-    for mode in modes.split(' ') {
-        let mut words = Vec::new(alloc);
-        if !mode.is_empty() {
-            words.push("--mode")?;
-            words.push(mode)?;
+    for mode in options.modes.split(' ') {
+        for workers in options.workers.split(' ') {
+            let mut words = Vec::new(alloc);
+            add_option(&mut words, "--mode", mode)?;
+            add_option(&mut words, "--workers", workers)?;
+            add_words(&mut words, first, body)?;
+            runs.push(words)?;
         }
-        add_words(&mut words, first, body)?;
-        runs.push(words)?;
+    }
+    Ok(())
+}
+
+// Adds an option with its value, where there is one.
+fn add_option<'a>(
+    words: &mut Vec<&'a str>,
+    option: &'a str,
+    value: &'a str,
+) -> Result<(), AllocError> {
+    if !value.is_empty() {
+        words.push(option)?;
+        words.push(value)?;
     }
     Ok(())
 }

@@ -25,8 +25,8 @@ impl Part<'_> {
 pub enum Head<'a> {
     /// A run with these words, and with one more for each line.
     Words(&'a str),
-    /// Each run is made with each of these modes, which have blanks between them.
-    Modes(&'a str),
+    /// Each run is made with each of these values of an option, which have blanks between them.
+    Each(&'a str, &'a str),
     /// The shared file of this name isn't there.
     Without(&'a str),
     /// Bytes of a file, or wanted bytes.
@@ -77,7 +77,8 @@ fn head_of(line: &str) -> Option<Head<'_>> {
     let (word, rest) = head.split_once(' ').unwrap_or((head, ""));
     match word {
         "words" => Some(Head::Words(rest)),
-        "modes" => Some(Head::Modes(rest)),
+        "modes" => Some(Head::Each("--mode", rest)),
+        "workers" => Some(Head::Each("--workers", rest)),
         "without" => Some(Head::Without(rest)),
         "file" => {
             let (name, form) = rest.split_once(' ').unwrap_or((rest, ""));
