@@ -19,9 +19,13 @@ mod dictionaries;
 #[cfg(test)]
 mod fixtures;
 #[cfg(test)]
+mod gates;
+#[cfg(test)]
 mod keys;
 #[cfg(test)]
 mod leaves;
+#[cfg(test)]
+mod meetings;
 #[cfg(test)]
 mod one_steps;
 #[cfg(test)]

@@ -188,8 +188,8 @@ fn is_right(local: &Local, back: &[&[u32]], fwd: &[&[u32]]) -> bool {
     }
 }
 
-// Whether each row that a selection keeps comes from its place.
-fn keeps_places<R: Threads + Sync, B: OpBody + Sync>(
+/// Whether each row that a selection keeps comes from its place.
+pub(crate) fn keeps_places<R: Threads + Sync, B: OpBody + Sync>(
     rt: &R,
     alloc: Global,
     body: &B,
@@ -202,8 +202,8 @@ fn keeps_places<R: Threads + Sync, B: OpBody + Sync>(
     Ok(side && local.right.is_none())
 }
 
-// Whether each row reaches its group, and only the wanted lists are given.
-fn reaches_groups<R: Threads + Sync, B: OpBody + Sync>(
+/// Whether each row reaches its group, and only the wanted lists are given.
+pub(crate) fn reaches_groups<R: Threads + Sync, B: OpBody + Sync>(
     rt: &R,
     alloc: Global,
     body: &B,
@@ -218,8 +218,8 @@ fn reaches_groups<R: Threads + Sync, B: OpBody + Sync>(
     Ok(both && has_lists(&local.left.back, 4, back) && local.left.fwd.is_none())
 }
 
-// Whether each row of a join comes from one of each side.
-fn joins_one_of_each_side<R: Threads + Sync, B: OpBody + Sync>(
+/// Whether each row of a join comes from one of each side.
+pub(crate) fn joins_one_of_each_side<R: Threads + Sync, B: OpBody + Sync>(
     rt: &R,
     alloc: Global,
     body: &B,
