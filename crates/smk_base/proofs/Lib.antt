@@ -9,4 +9,5 @@ pub mod Made
 pub mod Pushed
 pub mod Rows
 pub mod Relating
+pub mod Building
 pub mod Ascents

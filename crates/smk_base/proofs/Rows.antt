@@ -25,12 +25,12 @@ value_in-row_at columns i c h = get_or-map (λ column. value_in column.cells i) 
 pub value_in-rows_of : (n : ℕ) (columns : List ColumnImage) (i c : ℕ) → i < n → c < length columns → value_in (row_in (rows_of n columns) i) c ≡ value_in (column_in columns c).cells i
 value_in-rows_of n columns i c p q = ap (λ row. value_in row c) (row_in-rows_of n columns i p) ∙ value_in-row_at columns i c q
 
-kinds_is : (columns : List ColumnImage) (ks : List Kind) → length ks ≡ length columns → ((c : ℕ) → c < length columns → kind_in ks c ≡ (column_in columns c).kind) → kinds_of columns ≡ ks
+pub kinds_is : (columns : List ColumnImage) (ks : List Kind) → length ks ≡ length columns → ((c : ℕ) → c < length columns → kind_in ks c ≡ (column_in columns c).kind) → kinds_of columns ≡ ks
 kinds_is columns ks long each =
     ext_get_or kinds.Text (kinds_of columns) ks (length-map columns (λ column. column.kind) ∙ sym long)
     (λ c h. let low : c < length columns = omega (arith, h, length-map columns (λ column. column.kind)) in kind_in-kinds_of columns c low ∙ sym (each c low))
 
-row_is : (columns : List ColumnImage) (i : ℕ) (row : List Value) → length row ≡ length columns → ((c : ℕ) → c < length columns → value_in row c ≡ value_in (column_in columns c).cells i) → row ≡ row_at columns i
+pub row_is : (columns : List ColumnImage) (i : ℕ) (row : List Value) → length row ≡ length columns → ((c : ℕ) → c < length columns → value_in row c ≡ value_in (column_in columns c).cells i) → row ≡ row_at columns i
 row_is columns i row long each =
     ext_get_or (values.Int (pos 0)) row (row_at columns i) (long ∙ sym (length-map columns (λ column. value_in column.cells i)))
     (λ c h. let low : c < length columns = omega (arith, h, long) in each c low ∙ sym (value_in-row_at columns i c low))

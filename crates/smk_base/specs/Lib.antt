@@ -19,5 +19,6 @@ pub mod Columns
 pub mod Stores
 pub mod Holds
 pub mod Relations
+pub mod Builders
 pub mod IntColumns
 pub mod Needs

@@ -8,6 +8,7 @@ ghost use Rattle.smk_base.specs.Relations.{column_in, AreMade};
 use crate::rel::ROW_LIMIT;
 use crate::rel_column::RelColumn;
 use crate::value::{CellRef, Kind};
+use crate::value_column::ValueColumn;
 use std::alloc::{AllocError, Global};
 use std::mem;
 
@@ -19,6 +20,36 @@ pub(crate) fn empty_columns(alloc: Global, kinds: &[Kind]) -> Result<Vec<RelColu
     let mut made = Vec::with_capacity(alloc, kinds.len())?;
     for kind in kinds {
         made.push(RelColumn::new(alloc, *kind))?;
+    }
+    Ok(made)
+}
+
+/// Columns of these kinds with no row, which may grow.
+pub(crate) fn begun_columns(alloc: Global, kinds: &[Kind]) -> Result<Vec<ValueColumn>, AllocError>
+    requires { All IsColumn kinds.now }
+    ensures { IfOk result (λ made. AreMade 0 (length kinds.now) (kind_in kinds.now) (λ k. []) made.items) }
+{
+    let mut made = Vec::with_capacity(alloc, kinds.len())?;
+    for kind in kinds {
+        made.push(ValueColumn::new(alloc, *kind))?;
+    }
+    Ok(made)
+}
+
+/// The columns, each of which its values lie with alone.
+pub(crate) fn owned_each(
+    alloc: Global,
+    columns: Vec<ValueColumn>,
+    count: u32,
+) -> Result<Vec<RelColumn>, AllocError>
+    requires { All (IsColumnOf count) columns.items }
+    ensures { IfOk result (λ made. AreMade count (length columns.items) (λ k. (column_in columns.items k).kind) (λ k. (column_in columns.items k).cells) made.items) }
+{
+    let mut columns = columns;
+    let mut made = Vec::with_capacity(alloc, columns.len())?;
+    for c in 0..columns.len() {
+        let column = mem::replace(&mut columns[c], ValueColumn::new(alloc, Kind::Text));
+        made.push(RelColumn::own(column))?;
     }
     Ok(made)
 }

@@ -4,6 +4,7 @@ ghost use Rattle.smk_base.specs.Cells.{value_of_cell};
 ghost use Rattle.smk_base.specs.Columns.{IsColumnOf};
 ghost use Rattle.smk_base.specs.Dicts.{code_or_last};
 ghost use Rattle.smk_base.specs.IntColumns.{numbers_of};
+ghost use Rattle.smk_base.specs.Relations.{AreColumns, relation_of};
 ghost use Rattle.smk_base.specs.Rels.{IsRelation, RowFits, Fits, IsColumn, IsWithin, IsWider, AreCodesOf, kind_in, row_in, value_in, column_values, text_of, column_texts, bin_of, rows_at, picked, beside_rows};
 ghost use Rattle.smk_base.specs.TextColumns.{text_firsts, text_in};
 ghost use Rattle.smk_base.specs.declared.value.Kind.TheVariants as kinds;
@@ -53,6 +54,14 @@ impl Rel {
             columns: empty_columns(alloc, kinds)?,
             count: 0,
         })
+    }
+
+    /// The rows that lie in these columns.
+    pub(crate) fn of_columns(columns: Vec<RelColumn>, count: u32) -> Rel
+        requires { AreColumns count columns.items }
+        ensures { result ≡ relation_of count columns.items }
+    {
+        Rel { columns, count }
     }
 
     /// The number of rows. It takes no memory.

@@ -144,6 +144,20 @@ impl TextColumn {
         }
     }
 
+    /// Puts a text last.
+    pub fn push_bytes(&mut self, text: &[u8]) -> Result<(), AllocError>
+        requires { length self.old.texts < ROW_LIMIT }
+        ensures pushed { OnOk result (self.new.texts ≡ self.old.texts ++ text.now ∷ []) }
+        ensures kept { OnErr result (self.new.texts ≡ self.old.texts) }
+    {
+        self.codes.reserve(1)?;
+        let code = self.dict.add_bytes(text)?;
+        match self.codes.push(code) {
+            Ok(()) => Ok(()),
+            Err(_) => unreachable!(),
+        }
+    }
+
     // Puts the text with this code last.
     fn push_code(&mut self, code: u32) -> Result<(), AllocError>
         requires room { length self.old.texts < ROW_LIMIT }

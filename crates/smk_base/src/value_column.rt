@@ -1,4 +1,4 @@
-ghost use Rattle.std.specs.Prelude.{◌≡◌, ◌≢◌, ◌<◌, ◌≤◌, ◌≤ℤ◌, ◌+◌, [], ◌∷◌, ◌++◌, length, map, All, Some, IfOk, OnOk, slice_index_or, vec_len, vec_capacity, FitsSigned, pos};
+ghost use Rattle.std.specs.Prelude.{◌≡◌, ◌≢◌, ◌<◌, ◌≤◌, ◌≤ℤ◌, ◌+◌, [], ◌∷◌, ◌++◌, length, map, All, Some, IfOk, OnOk, OnErr, slice_index_or, vec_len, vec_capacity, FitsSigned, pos};
 ghost use Rattle.std.specs.Int.{w64, int_div_euclid};
 ghost use Rattle.smk_base.specs.Cells.{value_of_cell};
 ghost use Rattle.smk_base.specs.IntColumns.{numbers_of};
@@ -142,6 +142,43 @@ impl ValueColumn {
             Store::Small(ints) => put_small(ints, cell),
             Store::Wide(_, ints) => put_wide(ints, cell),
             Store::Texts(texts, next) => put_text(texts, next, cell),
+        }
+    }
+
+    /// Puts an int last in a column of ints.
+    pub fn push_int(&mut self, number: i64) -> Result<(), AllocError>
+        requires few { length self.old.cells < ROW_LIMIT }
+        requires fits { Fits self.old.kind (values.Int number) }
+        ensures kind { self.new.kind ≡ self.old.kind }
+        ensures pushed { OnOk result (self.new.cells ≡ self.old.cells ++ values.Int number ∷ []) }
+        ensures keeps { OnOk result (IsColumnOf (length self.old.cells + 1) self.new) }
+        ensures kept { OnErr result (self.new.cells ≡ self.old.cells) }
+    {
+        match &mut self.store {
+            Store::Small(ints) => {
+                ints.push(number)?;
+                Ok(())
+            }
+            Store::Wide(_, ints) => {
+                ints.push(number as i128)?;
+                Ok(())
+            }
+            Store::Texts(_, _) => unreachable!(),
+        }
+    }
+
+    /// Puts a text last in a column of texts.
+    pub fn push_text(&mut self, text: &[u8]) -> Result<(), AllocError>
+        requires few { length self.old.cells < ROW_LIMIT }
+        requires text { self.old.kind ≡ kinds.Text }
+        ensures kind { self.new.kind ≡ self.old.kind }
+        ensures pushed { OnOk result (self.new.cells ≡ self.old.cells ++ values.Text text.now ∷ []) }
+        ensures keeps { OnOk result (IsColumnOf (length self.old.cells + 1) self.new) }
+        ensures kept { OnErr result (self.new.cells ≡ self.old.cells) }
+    {
+        match &mut self.store {
+            Store::Texts(texts, _) => texts.push_bytes(text),
+            _ => unreachable!(),
         }
     }
 

@@ -1,0 +1,10 @@
+use Rattle.std.proofs.Common.{◌≡◌, ◌≤◌, ℕ, length}
+use Rattle.smk_base.specs.Relations.{AreMade, column_in}
+use Rattle.smk_base.proofs.columns.owned_each.Given as goal
+
+abbrev pub invariant-loop-c : goal.invariant-loop-c
+invariant-loop-c l = record {
+  wide : length l.columns.items ≡ length l.fn.columns.items;
+  rest : (k : ℕ) → l.c ≤ k → column_in l.columns.items k ≡ column_in l.fn.columns.items k;
+  made : AreMade l.count l.c (λ k. (column_in l.fn.columns.items k).kind) (λ k. (column_in l.fn.columns.items k).cells) l.made.items;
+}

@@ -1,0 +1,31 @@
+-- Rows that grow value by value.
+use Rattle.std.specs.Prelude.{ℕ, ◌+◌, ◌<◌, ◌≤◌, List, length, map}
+use Rattle.std.specs.List.{range_with_len}
+use Rattle.smk_base.specs.declared.value.Kind.{Kind}
+use Rattle.smk_base.specs.declared.value.Value.{Value}
+use Rattle.smk_base.specs.Rels.{value_in}
+use Rattle.smk_base.specs.Images.{ColumnImage}
+use Rattle.smk_base.specs.Columns.{IsColumnOf}
+use Rattle.smk_base.specs.Relations.{column_in, kinds_of, rows_of}
+use Rattle.smk_base.specs.declared.rel.TheConstants.{ROW_LIMIT}
+
+-- the kinds, the whole rows, and the first values of the row that was begun
+pub record RowsBegun : Type 0 where
+  pub kinds : List Kind
+  pub rows : List (List Value)
+  pub begun : List Value
+
+-- the values behind the first rows in the first columns
+abbrev pub begun_in : ℕ → ℕ → List ColumnImage → List Value
+begun_in count at columns = map (λ c. value_in (column_in columns c).cells count) (range_with_len 0 at)
+
+abbrev pub rows_begun : ℕ → ℕ → List ColumnImage → RowsBegun
+rows_begun count at columns = record { kinds = kinds_of columns; rows = rows_of count columns; begun = begun_in count at columns }
+
+-- few columns of as many rows, of which the first have a value more
+pub record AreBegun (count at : ℕ) (columns : List ColumnImage) : Type 0 where
+  pub few_columns : length columns ≤ 16
+  pub few_rows : count ≤ ROW_LIMIT
+  pub within : at ≤ length columns
+  pub longer : (k : ℕ) → k < at → IsColumnOf (count + 1) (column_in columns k)
+  pub rest : (k : ℕ) → at ≤ k → k < length columns → IsColumnOf count (column_in columns k)
