@@ -1,19 +1,18 @@
-ghost use Rattle.std.specs.Prelude.{◌≡◌, ◌≢◌, ◌⊎◌, ◌<◌, ◌≤◌, ◌+◌, [], ◌∷◌, ◌++◌, length, IfOk, IfErr, OnOk, Ok, Err, slice_index_or};
+ghost use Rattle.std.specs.Prelude.{◌≡◌, ◌≢◌, ◌⊎◌, ◌<◌, ◌≤◌, ◌+◌, [], length, IfOk, IfErr, IfSome, OnOk, Ok, Err, slice_index_or};
 ghost use Rattle.std.specs.List.{list_all};
-ghost use Rattle.std.specs.Option.{option_map};
+ghost use Rattle.std.specs.Option.{ok_or, option_map};
 ghost use Rattle.csv.specs.Records.{fields_of};
-ghost use Rattle.smk_base.specs.declared.fault.TableFault.TheVariants.{NoMemory};
+ghost use Rattle.smk_base.specs.declared.fault.TableFault.TheVariants.{NoMemory, BadInt};
+ghost use Rattle.smk_base.specs.declared.value.Kind.TheVariants as kinds;
+ghost use Rattle.smk_base.specs.declared.value.Value.TheVariants as values;
 ghost use Rattle.smk_base.specs.Ints.{is_blank};
-ghost use Rattle.smk_base.specs.Cells.{value_of_cell};
-ghost use Rattle.smk_model.specs.Tables.{AreColumns, all_or_first, numbered, column_place, cell_value, field_value, int_value, text_value, record_row, kinds_of};
-ghost use Rattle.smk_table.specs.Growing.{with_row};
+ghost use Rattle.smk_base.specs.Rels.{Fits, kind_in};
+ghost use Rattle.smk_model.specs.Tables.{AreColumns, IsBaseColumn, all_or_first, numbered, column_place, cell_value, field_value, int_value, text_value, record_row, kinds_of};
+ghost use Rattle.smk_table.specs.Growing.{with_cell, with_row};
 
 use csv::ByteRecord;
-use smk_base::{CellRef, ColDecl, ColDecls, Kind, ROW_LIMIT, Rel, TableFault, Value, read_int};
+use smk_base::{ColDecl, ColDecls, Kind, ROW_LIMIT, RelBuilder, TableFault, Value, read_int};
 use std::alloc::Global;
-
-// How many columns a table has at most.
-const MOST_COLUMNS: usize = 16;
 
 /// The field at a place, and no bytes past the last.
 fn field_at(fields: &ByteRecord, place: usize) -> &[u8]
@@ -64,81 +63,102 @@ fn is_blank_field(field: &[u8]) -> bool
     field.iter().all(|b| *b == b' ' || *b == b'\t')
 }
 
-/// The value of a field in an int column, if it has one.
-fn int_cell<'a>(def: &'a Option<Value>, field: &[u8]) -> Option<CellRef<'a>>
-    ensures { option_map value_of_cell result ≡ int_value def.now field.now }
+/// The int of a field in an int column, if it has one.
+fn int_in(def: &Option<Value>, field: &[u8]) -> Option<i64>
+    requires { IfSome def.now (λ value. Fits (kinds.Int 0) value) }
+    ensures { option_map values.Int result ≡ int_value def.now field.now }
 {
     match def {
-        Some(value) if is_blank_field(field) => Some(value.as_cell()),
-        _ => match read_int(field) {
-            Some(number) => Some(CellRef::Int(i128::from(number))),
-            None => None,
-        },
+        Some(Value::Int(number)) if is_blank_field(field) => Some(*number as i64),
+        _ => read_int(field),
     }
 }
 
-/// The value of a field in a text column.
-fn text_cell<'a>(def: &'a Option<Value>, field: &'a [u8]) -> CellRef<'a>
-    ensures { value_of_cell result ≡ text_value def.now field.now }
+/// The text of a field in a text column.
+fn text_in<'a>(def: &'a Option<Value>, field: &'a [u8]) -> &'a [u8]
+    requires { IfSome def.now (λ value. Fits kinds.Text value) }
+    ensures { values.Text result.now ≡ text_value def.now field.now }
 {
     match def {
-        Some(value) if field.is_empty() => value.as_cell(),
-        _ => CellRef::Text(field),
+        Some(Value::Text(text)) if field.is_empty() => text.as_slice(),
+        _ => field,
     }
 }
 
-/// The value of a field in a declared column, if it has one.
-fn field_cell<'a>(decl: &'a ColDecl, field: &'a [u8]) -> Option<CellRef<'a>>
-    ensures { option_map value_of_cell result ≡ field_value decl.now.kind decl.now.def field.now }
+/// Puts the value of a field of record number nth in declared column col last, if it has one.
+fn push_value(
+    rel: &mut RelBuilder,
+    decl: &ColDecl,
+    field: &[u8],
+    nth: u32,
+    col: u32,
+) -> Result<(), TableFault>
+    requires base { IsBaseColumn decl.now }
+    requires room { length rel.old.rows < ROW_LIMIT }
+    requires column { length rel.old.begun < length rel.old.kinds }
+    requires kind { kind_in rel.old.kinds (length rel.old.begun) ≡ decl.now.kind }
+    ensures kinds { rel.new.kinds ≡ rel.old.kinds }
+    ensures rows { rel.new.rows ≡ rel.old.rows }
+    ensures pushed { OnOk result (with_cell rel.old.begun (ok_or (field_value decl.now.kind decl.now.def field.now) (BadInt nth col)) ≡ Ok rel.new.begun) }
+    ensures fault { IfErr result (λ fault. (fault ≡ NoMemory) ⊎ (ok_or (field_value decl.now.kind decl.now.def field.now) (BadInt nth col) ≡ Err fault)) }
 {
     match decl.kind {
-        Kind::Int { level: _ } => int_cell(&decl.def, field),
-        Kind::Text => Some(text_cell(&decl.def, field)),
+        Kind::Int { level: _ } => {
+            let Some(number) = int_in(&decl.def, field) else {
+                return Err(TableFault::BadInt { nth, col });
+            };
+            rel.push_int(number)?;
+            Ok(())
+        }
+        Kind::Text => {
+            rel.push_text(text_in(&decl.def, field))?;
+            Ok(())
+        }
     }
 }
 
 /// Puts the values of record number nth in the declared columns, whose fields stand at these places, last.
-fn push_values<'a>(
-    rel: &mut Rel,
-    cols: &'a ColDecls,
+fn push_values(
+    rel: &mut RelBuilder,
+    cols: &ColDecls,
     places: &[usize],
     nth: u32,
-    fields: &'a ByteRecord,
+    fields: &ByteRecord,
 ) -> Result<(), TableFault>
     requires columns { AreColumns cols.now }
     requires places { length places.now ≡ length cols.now }
     requires kinds { rel.old.kinds ≡ kinds_of cols.now }
+    requires begun { rel.old.begun ≡ [] }
     requires room { length rel.old.rows < ROW_LIMIT }
     ensures kinds { rel.new.kinds ≡ rel.old.kinds }
+    ensures begun { OnOk result (rel.new.begun ≡ []) }
     ensures pushed { OnOk result (with_row rel.old.rows (all_or_first (numbered (cell_value places.now nth (fields_of fields.now)) 0 cols.now)) ≡ Ok rel.new.rows) }
     ensures fault { IfErr result (λ fault. (fault ≡ NoMemory) ⊎ (all_or_first (numbered (cell_value places.now nth (fields_of fields.now)) 0 cols.now) ≡ Err fault)) }
 {
-    let mut cells = [CellRef::Int(0); MOST_COLUMNS];
     for (c, decl) in cols.as_slice().iter().enumerate() {
-        match field_cell(decl, field_at(fields, places[c])) {
-            Some(cell) => cells[c] = cell,
-            None => return Err(TableFault::BadInt { nth, col: c as u32 }),
-        }
+        push_value(rel, decl, field_at(fields, places[c]), nth, c as u32)?;
     }
-    rel.push_cells(&cells[..places.len()])?;
+    rel.end_row();
     Ok(())
 }
 
 /// Puts the row of record number nth, counted from 1 behind a header of this width, last.
-pub(crate) fn push_record<'a>(
-    rel: &mut Rel,
-    cols: &'a ColDecls,
+pub(crate) fn push_record(
+    rel: &mut RelBuilder,
+    cols: &ColDecls,
     places: &[usize],
     width: usize,
     nth: u32,
-    fields: &'a ByteRecord,
+    fields: &ByteRecord,
 ) -> Result<(), TableFault>
     requires columns { AreColumns cols.now }
     requires places { length places.now ≡ length cols.now }
     requires kinds { rel.old.kinds ≡ kinds_of cols.now }
+    requires begun { rel.old.begun ≡ [] }
     requires count { length rel.old.rows + 1 ≡ nth }
     requires few { length rel.old.rows ≤ ROW_LIMIT }
     ensures kinds { rel.new.kinds ≡ rel.old.kinds }
+    ensures begun { OnOk result (rel.new.begun ≡ []) }
     ensures pushed { OnOk result (with_row rel.old.rows (record_row cols.now places.now width nth (fields_of fields.now)) ≡ Ok rel.new.rows) }
     ensures room { IfOk result (λ _. nth ≢ ROW_LIMIT + 1) }
     ensures fault { IfErr result (λ fault. (fault ≡ NoMemory) ⊎ (record_row cols.now places.now width nth (fields_of fields.now) ≡ Err fault)) }

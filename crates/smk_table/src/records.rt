@@ -1,4 +1,4 @@
-ghost use Rattle.std.specs.Prelude.{◌≡◌, ◌⊎◌, ◌<◌, ◌≤◌, [], length, All, IfOk, IfErr, Ok, Err};
+ghost use Rattle.std.specs.Prelude.{◌≡◌, ◌⊎◌, ◌<◌, ◌≤◌, [], length, IfOk, IfErr, OnOk, Ok, Err};
 ghost use Rattle.csv.specs.Records.{fields_of};
 ghost use Rattle.smk_base.specs.declared.fault.TableFault.TheVariants.{NoMemory};
 ghost use Rattle.smk_model.specs.Tables.{AreColumns, IsBase, table_of, table_of_records, kinds_of, all_or_first, numbered, record_row};
@@ -8,7 +8,7 @@ use crate::fields::{column_places, push_record};
 use crate::reading::{next_record, reader_of};
 use crate::table::Table;
 use csv::{ByteRecord, Reader};
-use smk_base::{ColDecls, Kind, ROW_LIMIT, Rel, TableFault, without_mark};
+use smk_base::{ColDecls, Kind, ROW_LIMIT, RelBuilder, TableFault, without_mark};
 use std::alloc::{AllocError, Global};
 
 /// Reads the bytes of a CSV file as the table of the declared columns: byte order marks at the front are dropped, the first record names the columns, and each further one is a row. The answer is the first fault in order where there is one, or want of memory.
@@ -43,16 +43,16 @@ fn read_records(
     let width = fields.len();
     let mut rel = empty_rel(alloc, cols)?;
     read_rows(reader, fields, cols, places.as_slice(), width, &mut rel)?;
-    Ok(Table::of_rel(rel.shared(alloc)?))
+    Ok(Table::of_rel(rel.finish(alloc)?.shared(alloc)?))
 }
 
-/// A Rel of the kinds of the declared columns, with no row.
-fn empty_rel(alloc: Global, cols: &ColDecls) -> Result<Rel, AllocError>
+/// No row of the kinds of the declared columns.
+fn empty_rel(alloc: Global, cols: &ColDecls) -> Result<RelBuilder, AllocError>
     requires { AreColumns cols.now }
-    ensures { IfOk result (λ rel. rel ≡ record { kinds = kinds_of cols.now; rows = [] }) }
+    ensures { IfOk result (λ rel. rel ≡ record { kinds = kinds_of cols.now; rows = []; begun = [] }) }
 {
     let kinds = kinds_in(alloc, cols)?;
-    Rel::new(alloc, kinds.as_slice())
+    RelBuilder::new(alloc, kinds.as_slice())
 }
 
 /// The kinds of the declared columns.
@@ -66,21 +66,23 @@ fn kinds_in(alloc: Global, cols: &ColDecls) -> Result<Vec<Kind>, AllocError>
     Ok(kinds)
 }
 
-/// Puts the rows of all the records that are left into an empty Rel.
+/// Puts the rows of all the records that are left behind no row.
 fn read_rows(
     reader: &mut Reader<&[u8]>,
     fields: &mut ByteRecord,
     cols: &ColDecls,
     places: &[usize],
     width: usize,
-    rel: &mut Rel,
+    rel: &mut RelBuilder,
 ) -> Result<(), TableFault>
     requires between { IsBetween reader.old }
     requires columns { AreColumns cols.now }
     requires places { length places.now ≡ length cols.now }
     requires kinds { rel.old.kinds ≡ kinds_of cols.now }
     requires empty { rel.old.rows ≡ [] }
+    requires begun { rel.old.begun ≡ [] }
     ensures kinds { rel.new.kinds ≡ kinds_of cols.now }
+    ensures begun { OnOk result (rel.new.begun ≡ []) }
     ensures rows { IfOk result (λ _. all_or_first (numbered (record_row cols.now places.now width) 1 (records_left reader.old)) ≡ Ok rel.new.rows) }
     ensures fault { IfErr result (λ fault. (fault ≡ NoMemory) ⊎ (all_or_first (numbered (record_row cols.now places.now width) 1 (records_left reader.old)) ≡ Err fault)) }
 {

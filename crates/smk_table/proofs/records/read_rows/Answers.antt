@@ -4,8 +4,7 @@ use Rattle.smk_model.specs.Names.{◌>>=◌}
 use Rattle.smk_model.specs.Tables.{record_row, all_or_first, numbered}
 use Rattle.smk_table.specs.Reading.{records_left}
 use Rattle.csv.specs.Records.{fields_of}
-use Rattle.smk_table.proofs.RowValues.{made_from}
-use Rattle.smk_table.proofs.TableRows.{all_or_first-step, behind}
+use Rattle.smk_table.proofs.TableRows.{made_from, all_or_first-step, behind}
 use Rattle.smk_table.proofs.records.read_rows.Goals as goal
 
 pub loop-nth-preserved : goal.loop-nth-preserved
@@ -22,6 +21,7 @@ loop-nth-preserved c =
     record {
       between = found.0;
       kinds = c.in_ok-push_record.ensures.kinds ∙ inv.kinds;
+      begun = c.in_ok-push_record.ensures.begun;
       count = omega (arith, long, inv.count);
       few = omega (arith, long, inv.count, inv.few, room);
       whole = inv.whole

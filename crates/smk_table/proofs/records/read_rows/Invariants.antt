@@ -1,4 +1,4 @@
-use Rattle.std.proofs.Common.{◌≡◌, ◌≤◌, ◌+◌, ◌++◌, length, Ok}
+use Rattle.std.proofs.Common.{◌≡◌, ◌≤◌, ◌+◌, ◌++◌, [], length, Ok}
 use Rattle.smk_model.specs.Names.{◌>>=◌}
 use Rattle.smk_model.specs.Tables.{all_or_first, numbered, record_row, kinds_of}
 use Rattle.smk_base.specs.declared.rel.TheConstants.{ROW_LIMIT}
@@ -9,6 +9,7 @@ abbrev pub invariant-loop-nth : goal.invariant-loop-nth
 invariant-loop-nth l = record {
   between : IsBetween l.reader;
   kinds : l.rel.kinds ≡ kinds_of l.cols;
+  begun : l.rel.begun ≡ [];
   count : length l.rel.rows + 1 ≡ l.nth;
   few : length l.rel.rows ≤ ROW_LIMIT;
   whole : all_or_first (numbered (record_row l.cols l.places l.width) 1 (records_left l.fn.reader))
