@@ -32,7 +32,7 @@ use Rattle.smk_model.specs.Workload.{is_back, is_link, declares_back, declares_f
 use Rattle.smk_model.specs.Selection.{first_full}
 use Rattle.smk_model.specs.ReplyTexts.{IsReplyTo, IsRefusalOf, IsRefusalOfChange, IsLinkedIn, AreRowsOf, AreGroupsOf, IsContent, view_named, table_named, names_of_table, grouping_named}
 use Rattle.smk_model.specs.Session.{State, view_at, no_view, rows_of_table, linked, selected_for, leaves_now}
-use Rattle.smk_model.specs.Replies.{Asked, Grouped, provided, unless_row, unless_outside, written, first_outside, known_view, known_pair, content_of, rows_at_rids, rids_of, split_column, column_place, is_split, is_of_column, part, cube, is_one, grouping_in, first_grouping, grouping_of, back_reply, named_back, fwd_reply, named_fwd, marks_fwd, linked_pair, brush_of, unless_full, linked_now, all_linked, brushed, cleared, named_view, or_refused, answer_to}
+use Rattle.smk_model.specs.Replies.{Asked, Grouped, provided, unless_row, unless_outside, written, first_outside, known_view, known_pair, content_of, rows_at_rids, rids_of, split_column, column_place, is_split, is_of_column, with_value, cube, is_one, grouping_in, first_grouping, grouping_of, back_reply, named_back, fwd_reply, named_fwd, marks_fwd, linked_pair, brush_of, unless_full, linked_now, all_linked, brushed, cleared, named_view, or_refused, answer_to}
 use Rattle.smk_model.specs.ReplyLaws.{RepliesFit}
 use Rattle.smk_model.proofs.Finds.{find_placed}
 
@@ -176,7 +176,7 @@ back_fares catalog state view marks table (thens.Matching column value) p checke
     (λ c h. provided_fares (IsRefusalOf catalog line) (IsReplyTo catalog line) (is_of_column catalog p.1 c value) ValueKind _ tt
     (next_fares (IsRefusalOf catalog line) (λ rids. Unit {0}) (IsReplyTo catalog line) (rids_of catalog state p.0 p.1 marks) _
     (outside_fares (IsRefusalOf catalog line) (λ rids. Unit {0}) marks _ _ (λ row rows. tt) tt)
-    (λ rids k. (tt, rows_fit catalog state table p.1 (part catalog state p.1 c value rids) placed.1))))
+    (λ rids k. (tt, rows_fit catalog state table p.1 (with_value (rows_of_table state p.1) c value rids) placed.1))))
 back_fares catalog state view marks table thens.Grouped p checked placed =
     let line = lines.Back view marks table thens.Grouped in
     next_fares (IsRefusalOf catalog line) (λ grouped. grouping_of catalog p.0 p.1 ≡ Some grouped) (IsReplyTo catalog line) (ok_or (grouping_of catalog p.0 p.1) NoGroup) _

@@ -27,7 +27,7 @@ use Rattle.smk_base.specs.declared.value.Kind.{Kind}
 use Rattle.smk_base.specs.declared.value.Kind.TheVariants as kinds
 use Rattle.smk_base.specs.declared.value.Value.{Value}
 use Rattle.smk_base.specs.declared.value.Value.TheVariants as values
-use Rattle.smk_model.specs.Values.{value_at}
+use Rattle.smk_model.specs.Values.{Row, value_at}
 use Rattle.smk_model.specs.Names.{◌>>=◌, same_name, column_at}
 use Rattle.smk_model.specs.Plain.{step1, whole}
 use Rattle.smk_model.specs.Lineage.{sub, row_at}
@@ -157,8 +157,8 @@ abbrev pub is_of_column : CatalogImage → ℕ → ℕ → Value → Bool
 is_of_column catalog t c value = is_of_sort (column_at (columns_of (info_at catalog.tables t)) c).kind value
 
 -- those of the rids whose row has the value in the column
-abbrev pub part : CatalogImage → State → ℕ → ℕ → Value → List ℕ → List ℕ
-part catalog state t c value rids = filter (λ rid. value_eq (value_at (row_at (rows_of_table state t) rid) c) value) rids
+abbrev pub with_value : List Row → ℕ → Value → List ℕ → List ℕ
+with_value rows c value rids = filter (λ rid. value_eq (value_at (row_at rows rid) c) value) rids
 
 -- the declared grouping over the rows at these rids
 abbrev pub cube : State → ℕ → Grouped → List ℕ → Relation
@@ -178,7 +178,7 @@ back_reply catalog state v t marks (thens.Matching column value) =
     split_column catalog v t column >>= λ c.
     provided (is_of_column catalog t c value) ValueKind (
     rids_of catalog state v t marks >>= λ rids.
-    Ok (rows_reply catalog state t (part catalog state t c value rids)))
+    Ok (rows_reply catalog state t (with_value (rows_of_table state t) c value rids)))
 back_reply catalog state v t marks thens.Grouped =
     ok_or (grouping_of catalog v t) NoGroup >>= λ grouped.
     provided (is_one marks) ManyMarks (

@@ -25,7 +25,7 @@ use Rattle.smk_model.specs.Kinds.{kinds1}
 use Rattle.smk_model.specs.Lineage.{sub}
 use Rattle.smk_model.specs.Names.{◌>>=◌}
 use Rattle.smk_model.specs.Plain.{step1}
-use Rattle.smk_model.specs.Replies.{Asked, Grouped, back_reply, column_place, cube, first_outside, grouping_of, is_of_column, is_one, is_split, known_pair, marked, named_back, part, provided, rids_of, rows_reply, unless_row, written}
+use Rattle.smk_model.specs.Replies.{Asked, Grouped, back_reply, column_place, cube, first_outside, grouping_of, is_of_column, is_one, is_split, known_pair, marked, named_back, provided, rids_of, rows_reply, unless_row, with_value, written}
 use Rattle.smk_model.specs.Session.{State, Workbook, rows_of_table, view_at}
 use Rattle.smk_model.specs.Typing.{info_at}
 use Rattle.smk_model.specs.Values.{Row}
@@ -35,7 +35,6 @@ use Rattle.smk_model.proofs.Composed.{lists_stand}
 use Rattle.smk_model.proofs.Places.{same_below}
 use Rattle.smk_compose.specs.declared.kept.Run.{Run}
 use Rattle.smk_push.specs.Cubes.{cube_at, cube_of}
-use Rattle.smk_skip.specs.Splits.{with_value}
 use Rattle.smk_session.specs.Answers.{BacksFit, back_by, kept_back, rows_told, state_held, within_asked}
 use Rattle.smk_session.specs.Extras.{are_cubes_on, backs_of, is_split_on, split_on, table_of}
 use Rattle.smk_session.specs.BackAnswers.{CubesFit, IsPairOf, SplitsFit, cubes_asked, grouped_by, matching_by, one_asked, sort_asked, split_asked, with_value_asked}
@@ -98,7 +97,7 @@ splits_fit tables views pair p m name split kept asked =
 -- the members with a value are the part of the rids
 part_is : (tables : List Relation) (brushes : List BrushOn) (views : List Run) (pair : Pair) (c : ℕ) (marks : Marks) (value : Value) → IsPairOf tables views pair
     → ◌>>=◌ (with_value_asked (split_on (book_of tables pair) pair.view pair.table c).split marks value) (λ rids. Ok (rows_told pair.rows.now rids))
-    ≡ ◌>>=◌ (rids_of (catalog_image pair.catalog.now) (state_over tables brushes) pair.view pair.table marks) (λ rids. Ok (rows_reply (catalog_image pair.catalog.now) (state_over tables brushes) pair.table (part (catalog_image pair.catalog.now) (state_over tables brushes) pair.table c value rids)))
+    ≡ ◌>>=◌ (rids_of (catalog_image pair.catalog.now) (state_over tables brushes) pair.view pair.table marks) (λ rids. Ok (rows_reply (catalog_image pair.catalog.now) (state_over tables brushes) pair.table (with_value (rows_of_table (state_over tables brushes) pair.table) c value rids)))
 part_is tables brushes views pair c marks value p =
     let image : CatalogImage = catalog_image pair.catalog.now in
     let state : State = state_over tables brushes in
@@ -108,8 +107,8 @@ part_is tables brushes views pair c marks value p =
     let kept : List ℕ = with_value (rows_of_table state pair.table) c value members in
     then_row (first_outside (written marks) n) n kept (rows_told pair.rows.now)
     ∙ ap (λ (r : Relation). unless_row (first_outside (written marks) n) n (Ok (rows_told r kept))) (rows_are tables views pair p)
-    ∙ sym (then_row (first_outside (written marks) n) n members (λ rids. rows_reply image state pair.table (part image state pair.table c value rids)))
-    ∙ ap (λ (a : Asked (List ℕ)). ◌>>=◌ a (λ rids. Ok (rows_reply image state pair.table (part image state pair.table c value rids)))) (backs_asked (view_at image pair.view).plan state.tables pair.table marks)
+    ∙ sym (then_row (first_outside (written marks) n) n members (λ rids. rows_reply image state pair.table (with_value (rows_of_table state pair.table) c value rids)))
+    ∙ ap (λ (a : Asked (List ℕ)). ◌>>=◌ a (λ rids. Ok (rows_reply image state pair.table (with_value (rows_of_table state pair.table) c value rids)))) (backs_asked (view_at image pair.view).plan state.tables pair.table marks)
 
 sort_then : {B : Type 0} (b : Bool) (next : Asked B) → ◌>>=◌ (provided b ValueKind passed) (λ same. next) ≡ provided b ValueKind next
 sort_then true next = refl
@@ -136,7 +135,7 @@ matching_told tables brushes views pair marks name value p =
     let state : State = state_over tables brushes in
     split_then (column_place image pair.table name) (λ c. find (is_split_on pair.view pair.table c) pair.splits.now) (λ c. list_any (is_split pair.view pair.table c) pair.catalog.now.backs)
     (split_on (book_of tables pair) pair.view pair.table) (rows_by pair marks value)
-    (λ c. provided (is_of_column image pair.table c value) ValueKind (◌>>=◌ (rids_of image state pair.view pair.table marks) (λ rids. Ok (rows_reply image state pair.table (part image state pair.table c value rids)))))
+    (λ c. provided (is_of_column image pair.table c value) ValueKind (◌>>=◌ (rids_of image state pair.view pair.table marks) (λ rids. Ok (rows_reply image state pair.table (with_value (rows_of_table state pair.table) c value rids)))))
     (λ c. split_is tables views pair c p)
     (λ c.
     sort_then (is_of_column image pair.table c value) (◌>>=◌ (with_value_asked (split_on (book_of tables pair) pair.view pair.table c).split marks value) (λ rids. Ok (rows_told pair.rows.now rids)))

@@ -12,26 +12,24 @@ use Rattle.smk_base.specs.declared.brush.BrushOn.{BrushOn}
 use Rattle.smk_base.specs.declared.catalog.Catalog.{Catalog}
 use Rattle.smk_base.specs.declared.catalog.ViewInfo.{ViewInfo}
 use Rattle.smk_base.specs.declared.pick.Pick.{Pick}
-use Rattle.smk_base.specs.declared.reply.Linked.{Linked}
 use Rattle.smk_base.specs.declared.reply.Refusal.{Refusal}
 use Rattle.smk_base.specs.declared.reply.Refusal.TheVariants.{Undeclared}
 use Rattle.smk_base.specs.declared.tree.Marks.{Marks}
 use Rattle.smk_base.specs.declared.value.Kind.{Kind}
 use Rattle.smk_model.specs.Composed.{backs, forwards}
 use Rattle.smk_model.specs.Catalogs.{IsCatalog, ViewFits, each_table_kinds}
-use Rattle.smk_model.specs.Replies.{Asked, content_of, linked_now, marks_fwd, rids_of, unless_full}
-use Rattle.smk_model.specs.Selection.{PickFits, PlanFits, ScansFit, each_kinds, each_rows, first_full, leaf_kinds, over, plan_kinds}
-use Rattle.smk_model.specs.Session.{State, concerns, leaves_now, linked, rows_of_table, selected_for, view_at}
+use Rattle.smk_model.specs.Replies.{Asked, marks_fwd, rids_of}
+use Rattle.smk_model.specs.Selection.{PickFits, PlanFits, ScansFit, each_kinds, each_rows, leaf_kinds, over, plan_kinds}
+use Rattle.smk_model.specs.Session.{concerns, leaves_now, linked, rows_of_table, selected_for, view_at}
 use Rattle.smk_model.specs.Workload.{declares_back, declares_fwd, is_link}
 use Rattle.smk_model.proofs.Composed.{lists_stand}
 use Rattle.smk_model.proofs.Places.{places_below}
 use Rattle.smk_compose.specs.declared.kept.Run.{Run}
-use Rattle.smk_session.specs.Answers.{AreOn, Turns, chosen_of, content_at, kept_back, kept_fwd, members_asked, picks_chosen, rids_or_all}
+use Rattle.smk_session.specs.Answers.{AreOn, Turns, chosen_of, kept_back, kept_fwd, members_asked, picks_chosen, rids_or_all}
 use Rattle.smk_session.specs.Refreshed.{Names, book_at}
 use Rattle.smk_session.specs.declared.refresh.Refresh.{Refresh}
 use Rattle.smk_session.specs.declared.turned.Turned.{Turned}
 use Rattle.smk_session.specs.Sessions.{AreOpened, BrushFits, follows, state_over}
-use Rattle.smk_session.specs.declared.turn.Content.{Content}
 use Rattle.smk_session.proofs.Rids.{rids_ascend}
 use Rattle.smk_session.proofs.Selected.{chosen_or_all, picks_fit, picks_more, picks_same, same_leaves}
 use Rattle.smk_session.proofs.KeptOf.{kept_back_is, kept_fwd_is}
@@ -203,31 +201,10 @@ pub pick_none : (catalog : Catalog) (tables : List Relation) (brushes : List Bru
 pick_none catalog tables brushes w t chosen picks fit made none are =
     are ∙ sym (picks_same (catalog_image catalog) (state_over tables brushes) w t (none_is (list_any (concerns (catalog_image catalog) w t) brushes) _ (sym (chosen_there catalog tables brushes w t chosen fit made) ∙ none)))
 
--- a view that is shown
-
-abbrev linked_with : ℕ → List ℕ → Relation → Linked
-linked_with w marks rel = record { view = w; marks = marks; rel = rel }
+-- marks that are given
 
 abbrev pub given : List ℕ → Asked (List ℕ)
 given marks = Ok marks
-
-abbrev shows : Linked → Asked Linked
-shows linked = Ok linked
-
-given_is : (marks made : List ℕ) → given marks ≡ given made → marks ≡ made
-given_is marks made h = cc
-
-pub shown_is : (catalog : CatalogImage) (state : State) (t w : ℕ) (marks : List ℕ) (rel : Relation) → first_full (view_at catalog w).plan (leaves_now catalog state w) ≡ None → rel ≡ content_of catalog state w
-    → given (marks_fwd catalog state w t (selected_for catalog state w t)) ≡ given marks → linked_now catalog state t w ≡ shows (linked_with w marks rel)
-shown_is catalog state t w marks rel few is are =
-    let reached : List ℕ = marks_fwd catalog state w t (selected_for catalog state w t) in
-    ap (λ (first : Option ℕ). unless_full first (linked_with w reached (content_of catalog state w))) few
-    ∙ ap (λ (r : Relation). shows (linked_with w reached r)) (sym is)
-    ∙ ap (λ (m : List ℕ). shows (linked_with w m rel)) (given_is reached marks are)
-
-pub shown_never : (catalog : CatalogImage) (state : State) (t w : ℕ) (turned : Turned)
-    → ((linked : Linked) → linked.view ≡ w → Turns turned (unless_full (first_full (view_at catalog w).plan (leaves_now catalog state w)) linked)) → Turns turned (linked_now catalog state t w)
-shown_never catalog state t w turned many = many (linked_with w (marks_fwd catalog state w t (selected_for catalog state w t)) (content_of catalog state w)) refl
 
 -- the views that links name
 
@@ -245,12 +222,3 @@ all_named refresh v ws checked are k d low =
 pub mapped_more : {X Y : Type 0} (f : X → Y) (xs : List X) (i : ℕ) (d : X) (ys : List Y) (y : Y) → i < length xs → ys ≡ map f (take i xs) → y ≡ f (get_or xs i d) → ys ++ y ∷ [] ≡ map f (take (i + 1) xs)
 mapped_more f xs i d ys y low are is =
     ap (λ l. l ++ y ∷ []) are ∙ ap (λ z. map f (take i xs) ++ z ∷ []) is ∙ sym (map-append f (take i xs) (get_or xs i d ∷ [])) ∙ ap (map f) (sym (take_more xs i d low))
-
-abbrev kept_from : CatalogImage → List BrushOn → ℕ → Relation → Content
-kept_from catalog brushes view rel = record { view = view; rel = cond (list_any (follows catalog view) brushes) (Some rel) None }
-
-pub keeps_more : (catalog : CatalogImage) (state : State) (ws : List ℕ) (i : ℕ) (one : Linked) (made : Content) (contents : List Content) → i < length ws → contents ≡ map (content_at catalog state) (take i ws)
-    → made ≡ kept_from catalog state.brushes one.view one.rel → one.view ≡ get_or ws i 0 → one.rel ≡ content_of catalog state (get_or ws i 0) → contents ++ made ∷ [] ≡ map (content_at catalog state) (take (i + 1) ws)
-keeps_more catalog state ws i one made contents low are kept is shows_it =
-    mapped_more (content_at catalog state) ws i 0 contents made low are
-    (kept ∙ ap (λ view. kept_from catalog state.brushes view one.rel) is ∙ ap (kept_from catalog state.brushes (get_or ws i 0)) shows_it)

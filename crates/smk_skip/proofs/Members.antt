@@ -14,7 +14,8 @@ use Rattle.smk_model.specs.Values.{value_at}
 use Rattle.smk_model.specs.Lineage.{row_at}
 use Rattle.smk_model.proofs.Places.{same_below, places_false, places_below, places_are, has_places, flat_map_agree}
 use Rattle.smk_rid.proofs.Packs.{length-concat}
-use Rattle.smk_skip.specs.Splits.{SplitImage, with_value, members_with}
+use Rattle.smk_model.specs.Replies.{with_value}
+use Rattle.smk_skip.specs.Splits.{SplitImage, members_with}
 use Rattle.smk_skip.specs.Parts.{ranks, run, IsParted}
 use Rattle.smk_skip.proofs.Filters.{and_false, filter_none, filter_filter, any_and}
 use Rattle.smk_skip.proofs.Orders.{split_at, within_order}

@@ -7,7 +7,8 @@ use Rattle.smk_base.specs.declared.rel.TheConstants.{ROW_LIMIT}
 use Rattle.smk_base.specs.declared.value.Value.{Value}
 use Rattle.smk_model.specs.Values.{Row, value_at}
 use Rattle.smk_model.specs.Lineage.{row_at}
-use Rattle.smk_skip.specs.Splits.{SplitImage, with_value}
+use Rattle.smk_model.specs.Replies.{with_value}
+use Rattle.smk_skip.specs.Splits.{SplitImage}
 
 -- the values of a column at these rows
 abbrev pub values_in : List Row → ℕ → List ℕ → List Value

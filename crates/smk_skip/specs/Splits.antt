@@ -1,21 +1,15 @@
 -- The lists of a map, split by the values that their rids have in a column of a table.
 use Rattle.std.specs.Prelude.{ℕ, List}
-use Rattle.std.specs.List.{filter}
 use Rattle.smk_base.specs.Places.{Lists, members_at}
-use Rattle.smk_base.specs.Values.{value_eq}
 use Rattle.smk_base.specs.declared.value.Value.{Value}
-use Rattle.smk_model.specs.Values.{Row, value_at}
-use Rattle.smk_model.specs.Lineage.{row_at}
+use Rattle.smk_model.specs.Values.{Row}
+use Rattle.smk_model.specs.Replies.{with_value}
 
 -- a map to the rows of a table, and the column that it is split by
 pub record SplitImage : Type 0 where
   pub map : Lists
   pub rows : List Row
   pub col : ℕ
-
--- those of the rids whose row has the value in the column
-abbrev pub with_value : List Row → ℕ → Value → List ℕ → List ℕ
-with_value rows col value rids = filter (λ rid. value_eq (value_at (row_at rows rid) col) value) rids
 
 -- those of the members of the lists at these marks whose row has the value in the column
 abbrev pub members_with : SplitImage → List ℕ → Value → List ℕ
