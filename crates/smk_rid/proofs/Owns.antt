@@ -1,17 +1,31 @@
 -- Maps in which each place has itself alone.
-use Rattle.std.proofs.Common.{◌≡◌, ◌∙◌, ◌<◌, ℕ, List, [], ◌∷◌, length, map, get_or, refl, sym, ap}
+use Rattle.std.proofs.Common.{◌≡◌, ◌∙◌, ◌<◌, ℕ, List, [], ◌∷◌, length, map, get_or, refl, sym, ap, inl, inr}
+use Rattle.std.proofs.lemmas.Bool.{cases_eq, eq-eqb, ne_eqb}
 use Rattle.std.proofs.lemmas.List.{same_lists, length-map, get_or_default}
 use Rattle.smk_base.specs.Places.{Lists, upto, own_lists}
+use Rattle.smk_rid.specs.Packing.{one_of}
 use Rattle.smk_rid.proofs.Sets.{length-upto, at_upto}
 
-mk_same : {a b : List (List ℕ)} {m n : ℕ} → a ≡ b → m ≡ n → (let x : Lists = record { lists = a; bound = m } in x) ≡ record { lists = b; bound = n }
-mk_same p q = rw (p, q) refl
-
-pub own_is : (m : Lists) → m.bound ≡ length m.lists → ((k : ℕ) → k < length m.lists → get_or m.lists k [] ≡ k ∷ []) → m ≡ own_lists (length m.lists)
-own_is m bound each =
-    let n = length m.lists in
+-- lists that each have their own place alone
+pub own_is : (lists : List (List ℕ)) → ((k : ℕ) → k < length lists → get_or lists k [] ≡ k ∷ []) → lists ≡ map (λ i. i ∷ []) (upto (length lists))
+own_is lists each =
+    let n = length lists in
     let long : length (map (λ (i : ℕ). i ∷ []) (upto n)) ≡ n = length-map (upto n) (λ (i : ℕ). i ∷ []) ∙ length-upto n in
-    mk_same (same_lists m.lists (map (λ i. i ∷ []) (upto n)) (sym long) (λ k d low. get_or_default m.lists k d [] low ∙ each k low ∙ sym (at_upto (λ (i : ℕ). i ∷ []) n k d low))) bound
+    same_lists lists (map (λ i. i ∷ []) (upto n)) (sym long) (λ k d low. get_or_default lists k d [] low ∙ each k low ∙ sym (at_upto (λ (i : ℕ). i ∷ []) n k d low))
 
-pub own_at : (m : Lists) (i : ℕ) → i < length m.lists → m ≡ own_lists (length m.lists) → get_or m.lists i [] ≡ i ∷ []
-own_at m i low is = ap (λ (x : Lists). get_or x.lists i []) is ∙ at_upto (λ (k : ℕ). k ∷ []) (length m.lists) i [] low
+pub own_at : (lists : List (List ℕ)) (i : ℕ) → i < length lists → lists ≡ map (λ k. k ∷ []) (upto (length lists)) → get_or lists i [] ≡ i ∷ []
+own_at lists i low is = ap (λ (x : List (List ℕ)). get_or x i []) is ∙ at_upto (λ (k : ℕ). k ∷ []) (length lists) i [] low
+
+-- the number that stands for a list of one rid
+pub one_back : (r i : ℕ) → one_of r ≡ i ∷ [] → r ≡ i
+one_back r i is = elim (cases_eq r 4294967295) [
+  | inl none ↦ (let e : [] ≡ i ∷ [] = rw (eq-eqb r 4294967295 none) at is in absurd (cc))
+  | inr some ↦ (let e : r ∷ [] ≡ i ∷ [] = rw (ne_eqb r 4294967295 some) at is in cc)
+]
+
+-- a map of such lists, bounded by their number
+pub own_map : (m : Lists) → m.bound ≡ length m.lists → m.lists ≡ map (λ i. i ∷ []) (upto (length m.lists)) → m ≡ own_lists (length m.lists)
+own_map m bound lists = same lists bound
+  where
+    same : {a b : List (List ℕ)} {i j : ℕ} → a ≡ b → i ≡ j → (let x : Lists = record { lists = a; bound = i } in x) ≡ record { lists = b; bound = j }
+    same p q = rw (p, q) refl

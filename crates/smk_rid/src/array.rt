@@ -1,4 +1,5 @@
-ghost use Rattle.std.specs.Prelude.{◌≡◌, ◌<◌, ◌≤◌, [], length, take, slice_index_or, IfOk};
+ghost use Rattle.std.specs.Prelude.{◌≡◌, ◌<◌, ◌≤◌, ◌++◌, [], length, take, slice_index_or, IfOk, OnOk};
+ghost use Rattle.std.specs.List.{All, flat_map};
 ghost use Rattle.smk_base.specs.Places.{pairs_of};
 ghost use Rattle.smk_rid.specs.Maps.{IsSingle};
 
@@ -57,6 +58,28 @@ impl RidArray {
     {
         let end = if self.rids[i] == NONE { i } else { i + 1 };
         &self.rids.as_slice()[i..end]
+    }
+
+    /// The number that stands for a list: its rid, or NONE.
+    pub fn number(&self, i: usize) -> u32
+        requires { i < length self.now }
+        ensures { one_of result ≡ slice_index_or self.now i [] }
+    {
+        self.rids[i]
+    }
+
+    /// Puts the rids of the lists at these places last.
+    pub fn put_lists(&self, rids: &mut Vec<u32>, places: &[u32]) -> Result<(), AllocError>
+        requires { All (λ p. p < length self.now) places.now }
+        ensures { OnOk result (rids.new.items ≡ rids.old.items ++ flat_map (λ p. slice_index_or self.now p []) places.now) }
+    {
+        for p in places {
+            let rid = self.rids[*p as usize];
+            if rid != NONE {
+                rids.push(rid)?;
+            }
+        }
+        Ok(())
     }
 
     /// How many rids the lists before i have, where no list is empty: one each.

@@ -1,8 +1,11 @@
-ghost use Rattle.std.specs.Prelude.{◌≡◌, ◌<◌, ◌≤◌, ◌+◌, ◌∷◌, ◌++◌, [], length, IfOk, IfErr, OnOk};
-ghost use Rattle.std.specs.List.{All};
+ghost use Rattle.std.specs.Prelude.{◌≡◌, ◌<◌, ◌≤◌, ◌+◌, ◌∷◌, ◌++◌, [], length, slice_index_or, IfOk, IfErr, OnOk};
+ghost use Rattle.std.specs.List.{All, flat_map};
 ghost use Rattle.smk_base.specs.Places.{IsPlaces, composed, members_at, pairs_of};
+ghost use Rattle.smk_rid.specs.Maps.{IsMap, IsSingle};
+ghost use Rattle.smk_rid.specs.Packing.{one_of};
 ghost use Rattle.smk_rid.specs.declared.fault.RidFault.TheVariants.{Pairs};
 
+use crate::array::{NONE, RidArray};
 use crate::distinct::{count_at, is_dense, make_set, marked_at};
 use crate::fault::RidFault;
 use crate::map::{PAIR_LIMIT, RidMap};
@@ -28,13 +31,66 @@ impl RidMap {
         ensures few { IfOk result (λ _. pairs_of (composed self.now next.now).lists ≤ PAIR_LIMIT) }
         ensures many { IfErr result (λ e. e ≡ Pairs → PAIR_LIMIT < pairs_of (composed self.now next.now).lists) }
     {
-        let mut made = Packed::with_room(alloc, self.len() as usize, 0)?;
-        let mut rids = Vec::new(alloc);
-        for i in 0..self.len() {
-            put_members(alloc, &mut made, &mut rids, next, self.at(i))?;
+        let _pairs = self.pairs();
+        let _sets = next.pairs();
+        match (self.array(), next.array()) {
+            (Some(first), Some(second)) => {
+                Ok(composed_arrays(alloc, first, second, next.bound())?)
+            }
+            _ => composed_lists(alloc, self, next),
         }
-        Ok(RidMap::of_packed(made, next.bound()))
     }
+}
+
+// For each list of an array the list of another at its rid. Each number is looked up once, and no list is packed.
+fn composed_arrays(
+    alloc: Global,
+    first: &RidArray,
+    second: &RidArray,
+    bound: u32,
+) -> Result<RidMap, AllocError>
+    requires map { IsMap (record { lists = first.now; bound = length second.now }) }
+    requires single { IsSingle first.now }
+    requires sets { All (IsPlaces bound) second.now }
+    ensures made { IfOk result (λ made. made ≡ composed (record { lists = first.now; bound = length second.now }) (record { lists = second.now; bound = bound })) }
+    ensures few { IfOk result (λ made. pairs_of made.lists ≤ PAIR_LIMIT) }
+{
+    let mut rids = Vec::with_capacity(alloc, first.len())?;
+    let mut pairs = 0;
+    for i in 0..first.len() {
+        let rid = number_through(second, first.number(i));
+        rids.push(rid)?;
+        pairs += u32::from(rid != NONE);
+    }
+    Ok(RidMap::of_array(RidArray::of(rids), bound, pairs))
+}
+
+// What stands for the list at the place that a number stands for, none where it stands for none.
+fn number_through(lists: &RidArray, place: u32) -> u32
+    requires { All (λ p. p < length lists.now) (one_of place) }
+    ensures list { one_of result ≡ flat_map (λ p. slice_index_or lists.now p []) (one_of place) }
+    ensures fewer { length (one_of result) ≤ length (one_of place) }
+{
+    if place == NONE {
+        NONE
+    } else {
+        lists.number(place as usize)
+    }
+}
+
+// The same by lists of any length, which are packed one after the other.
+fn composed_lists(alloc: Global, first: &RidMap, second: &RidMap) -> Result<RidMap, RidFault>
+    requires { first.now.bound ≤ length second.now.lists }
+    ensures made { IfOk result (λ made. made ≡ composed first.now second.now) }
+    ensures few { IfOk result (λ _. pairs_of (composed first.now second.now).lists ≤ PAIR_LIMIT) }
+    ensures many { IfErr result (λ e. e ≡ Pairs → PAIR_LIMIT < pairs_of (composed first.now second.now).lists) }
+{
+    let mut made = Packed::with_room(alloc, first.len() as usize, 0)?;
+    let mut rids = Vec::new(alloc);
+    for i in 0..first.len() {
+        put_members(alloc, &mut made, &mut rids, second, first.at(i))?;
+    }
+    Ok(RidMap::of_packed(made, second.bound()))
 }
 
 // The rids of the lists at these places, ascending without repeats: marked where they are many, so that no list is copied, else gathered.
@@ -81,10 +137,10 @@ fn gather(
     requires { All (λ p. p < length map.now.lists) places.now }
     ensures { OnOk result (rids.new.items ≡ members_at map.now places.now) }
 {
+    // Its clauses say that each list is a set of rids below the bound.
+    let _pairs = map.pairs();
     rids.clear();
-    for p in places {
-        rids.extend_from_slice(map.at(*p))?;
-    }
+    map.put_lists(rids, places)?;
     let several = places.len() > 1;
     if several {
         make_set(alloc, rids, map.bound())?;

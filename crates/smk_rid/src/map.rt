@@ -1,7 +1,7 @@
-ghost use Rattle.std.specs.Prelude.{◌≡◌, ◌<◌, ◌≤◌, ◌↔◌, [], ◌∷◌, length, map, take, slice_index_or, IfOk, IfSome, IsTrue, is_none, Option};
-ghost use Rattle.std.specs.List.{All, concat};
+ghost use Rattle.std.specs.Prelude.{◌≡◌, ◌<◌, ◌≤◌, ◌↔◌, [], ◌∷◌, ◌++◌, length, map, take, slice_index_or, IfOk, OnOk, IfSome, IsTrue, is_none, is_some, Option};
+ghost use Rattle.std.specs.List.{All, concat, flat_map};
 ghost use Rattle.std.specs.Option.{option_to_list};
-ghost use Rattle.smk_base.specs.Places.{IsPlaces, pairs_of, own_lists, empty_lists};
+ghost use Rattle.smk_base.specs.Places.{IsPlaces, pairs_of, own_lists, empty_lists, list_at};
 ghost use Rattle.smk_base.specs.declared.rel.TheConstants.{ROW_LIMIT};
 ghost use Rattle.smk_rid.specs.Packing.{one_of};
 ghost use Rattle.smk_rid.specs.Maps.{IsMap, IsSingle, array_lists};
@@ -169,6 +169,29 @@ impl RidMap {
         match &self.held {
             Held::Array(_) => None,
             Held::Index(lists) => Some(lists.all()),
+        }
+    }
+
+    // Puts the rids of the lists at these places last.
+    pub(crate) fn put_lists(&self, rids: &mut Vec<u32>, places: &[u32]) -> Result<(), AllocError>
+        requires { All (λ p. p < length self.now.lists) places.now }
+        ensures { OnOk result (rids.new.items ≡ rids.old.items ++ flat_map (list_at self.now) places.now) }
+    {
+        match &self.held {
+            Held::Array(lists) => lists.put_lists(rids, places),
+            Held::Index(lists) => lists.put_lists(rids, places),
+        }
+    }
+
+    // The array that it is, where each list has at most one rid.
+    pub(crate) fn array(&self) -> Option<&RidArray>
+        ensures lists { IfSome result (λ a. a.now ≡ self.now.lists) }
+        ensures single { IfSome result (λ a. IsSingle a.now) }
+        ensures chosen { IsSingle self.now.lists → IsTrue (is_some result) }
+    {
+        match &self.held {
+            Held::Array(lists) => Some(lists),
+            Held::Index(_) => None,
         }
     }
 

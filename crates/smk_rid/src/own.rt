@@ -1,10 +1,10 @@
-ghost use Rattle.std.specs.Prelude.{◌≡◌, ◌↔◌, [], ◌∷◌, length, IsTrue};
-ghost use Rattle.smk_base.specs.Places.{own_lists};
+ghost use Rattle.std.specs.Prelude.{◌≡◌, ◌<◌, ◌↔◌, [], ◌∷◌, length, map, IsTrue};
+ghost use Rattle.smk_base.specs.Places.{own_lists, upto};
 
+use crate::array::RidArray;
 use crate::map::RidMap;
 
 impl RidMap {
-    #[tactic(auto, using(crate::proofs::Owns::own_is, crate::proofs::Owns::own_at))]
     /// Whether each place has itself alone, so that what it is composed with stays. It takes no memory.
     pub fn is_identity(&self) -> bool
         ensures { IsTrue result ↔ (self.now ≡ own_lists (length self.now.lists)) }
@@ -12,18 +12,22 @@ impl RidMap {
         if self.bound() != self.len() {
             return false;
         }
-        for i in 0..self.len() {
-            if !has_itself(self.at(i), i) {
-                return false;
-            }
+        match self.array() {
+            Some(lists) => has_own(lists),
+            None => false,
         }
-        true
     }
 }
 
-// Whether a list has this rid alone.
-fn has_itself(list: &[u32], i: u32) -> bool
-    ensures { IsTrue result ↔ (list.now ≡ i ∷ []) }
+// Whether each list of an array has its own place alone.
+fn has_own(lists: &RidArray) -> bool
+    requires { length lists.now < 4294967296 }
+    ensures { IsTrue result ↔ (lists.now ≡ map (λ i. i ∷ []) (upto (length lists.now))) }
 {
-    list.len() == 1 && list[0] == i
+    for i in 0..lists.len() {
+        if lists.number(i) as usize != i {
+            return false;
+        }
+    }
+    true
 }

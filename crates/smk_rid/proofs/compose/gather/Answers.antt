@@ -1,20 +1,27 @@
-use Rattle.std.proofs.Common.{◌≡◌, ◌∙◌, ◌<◌, [], List, ℕ, ap, refl}
+use Rattle.std.proofs.Common.{arith, ◌≡◌, ◌∙◌, ◌++◌, List, ℕ, ap}
 use Rattle.std.specs.List.{flat_map}
-use Rattle.std.proofs.lemmas.List.{take_all}
-use Rattle.std.proofs.lemmas.List.Elements.{All-nil}
 use Rattle.smk_base.specs.Places.{has, places, list_at}
-use Rattle.smk_rid.proofs.Sets.{nil_is}
 use Rattle.smk_rid.proofs.Joins.{members_is}
+use Rattle.smk_rid.proofs.Through.{flat_below, members_single}
 use Rattle.smk_rid.proofs.compose.gather.Goals as goal
 
-pub loop-p-init : goal.loop-p-init
-loop-p-init c =
-    let none : c.clear.new.self.items ≡ [] = c.clear.ensures.items in
-    rw none (record { rids = refl; below = All-nil (λ r. r < c.args.map.now.bound); set = λ _. nil_is c.args.map.now.bound })
+pub make_set-requires : goal.make_set-requires
+make_set-requires c =
+    let m = c.args.map.now in
+    let ps = c.args.places.now in
+    let rids : c.put_lists.new.rids.items ≡ flat_map (list_at m) ps = c.in_ok-put_lists.ensures ∙ ap (λ (z : List ℕ). z ++ flat_map (list_at m) ps) c.clear.ensures.items in
+    rw (rids, c.bound.ensures) (flat_below m ps c.pairs-pairs.ensures.keeps.sets c.requires)
 
 pub returns-in_ok-make_set : goal.returns-in_ok-make_set
 returns-in_ok-make_set c =
     let m = c.args.map.now in
     let ps = c.args.places.now in
-    let rids : c.loop-p.rids.items ≡ flat_map (list_at m) ps = c.loop-p.invariant.rids ∙ ap (flat_map (list_at m)) (take_all c.loop-p.p-index ps c.loop-p-test.false) in
+    let rids : c.put_lists.new.rids.items ≡ flat_map (list_at m) ps = c.in_ok-put_lists.ensures ∙ ap (λ (z : List ℕ). z ++ flat_map (list_at m) ps) c.clear.ensures.items in
     c.in_ok-make_set.ensures ∙ rw c.bound.ensures (ap (λ (z : List ℕ). places (has z) m.bound) rids ∙ members_is m ps)
+
+pub returns-else-several : goal.returns-else-several
+returns-else-several c =
+    let m = c.args.map.now in
+    let ps = c.args.places.now in
+    let rids : c.put_lists.new.rids.items ≡ flat_map (list_at m) ps = c.in_ok-put_lists.ensures ∙ ap (λ (z : List ℕ). z ++ flat_map (list_at m) ps) c.clear.ensures.items in
+    rids ∙ members_single m ps c.pairs-pairs.ensures.keeps.sets c.requires (omega arith)
