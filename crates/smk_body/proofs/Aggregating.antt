@@ -109,7 +109,7 @@ ints_low columns rows c numbers e l s all =
     let level = level_of (kind_in columns c) s in
     All-weaker (IsWithin level.0) (IsWithin 2) (λ n w. within_more level.0 2 n level.2 w) numbers (ints_within columns rows c level.0 numbers e l level.1 all)
 
-map_where : {X Y : Type 0} (F G : X → Y) (P : X → Type 0) (xs : List X) → ((x : X) → P x → F x ≡ G x) → All P xs → map F xs ≡ map G xs
+pub map_where : {X Y : Type 0} (F G : X → Y) (P : X → Type 0) (xs : List X) → ((x : X) → P x → F x ≡ G x) → All P xs → map F xs ≡ map G xs
 map_where F G P [] h all = refl
 map_where F G P (x ∷ xs) h all = rw (h x (All-head P x xs all), map_where F G P xs h (All-rest P x xs all)) refl
 

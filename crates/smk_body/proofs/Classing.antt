@@ -1,17 +1,17 @@
 -- The numbers of the classes of rows.
-use Rattle.std.proofs.Common.{◌≡◌, ◌∙◌, ◌<◌, ◌≤◌, ℕ, true, List, [], length, sym, ap, arith, get_or, nat_eq, take, drop, ◌-◌}
+use Rattle.std.proofs.Common.{◌≡◌, ◌∙◌, ◌<◌, ◌≤◌, ℕ, true, List, [], length, sym, ap, arith, get_or, map, nat_eq, subst, take, drop, ◌-◌}
 use Rattle.std.proofs.lemmas.List.{get_or-map, length-map, length-drop, get_or_default, take_all}
 use Rattle.std.proofs.lemmas.List.Sums.{fails_before_first}
 use Rattle.std.proofs.lemmas.Bool.{false≢true}
 use Rattle.smk_model.specs.Values.{Row}
-use Rattle.smk_model.specs.Plain.{row_eq, firsts}
+use Rattle.smk_model.specs.Plain.{row_eq, key_of, firsts}
 use Rattle.smk_model.specs.Lineage.{row_at}
 use Rattle.smk_model.specs.Classes.{classes, first_places}
 use Rattle.smk_model.proofs.Classes.{place_in, found_at, same_place, key_test, known_key, class_at, first_below, classes_are}
 use Rattle.smk_model.proofs.Firsts.{row_same, holds_at, firsts_from}
 use Rattle.smk_model.proofs.Locals.{firsts_apart}
 use Rattle.smk_model.proofs.Sizes.{firsts_short}
-use Rattle.smk_keys.specs.Classes.{classes_of}
+use Rattle.smk_keys.specs.Classes.{ClassesImage, classes_of}
 use Rattle.smk_body.specs.Halves.{AreNumbered}
 
 pub length_of : (keys : List Row) → length (classes keys) ≡ length keys
@@ -58,6 +58,10 @@ are_numbered keys =
           let same : row_eq (row_at (firsts keys) p) (row_at keys i) ≡ true = (row_same (row_at (firsts keys) p) (row_at keys i)).1 (ap (row_at (firsts keys)) (sym e) ∙ at.at i small) in
           absurd (false≢true (sym (fails_before_first (row_eq (row_at (firsts keys) p)) keys i [] before) ∙ same));
     }
+
+-- the classes of the keys of rows
+pub rows_numbered : (keys : List ℕ) (rows : List Row) (made : ClassesImage) → made ≡ classes_of (map (key_of keys) rows) → AreNumbered (length rows) made
+rows_numbered keys rows made e = subst (λ (n : ℕ). AreNumbered n made) (length-map rows (key_of keys)) (subst (AreNumbered (length (map (key_of keys) rows))) (sym e) (are_numbered (map (key_of keys) rows)))
 
 -- the rest of a list, as a slice has it
 pub rest_of : {X : Type 0} (xs : List X) (k : ℕ) → take (length xs - k) (drop k xs) ≡ drop k xs

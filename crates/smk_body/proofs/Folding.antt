@@ -71,10 +71,11 @@ sized of n k p h = ap length (same_below (λ i. has (get_or (singles of n).lists
       | inr ne ↦ rw (ne_eqb p o (λ h. ne (sym h)), ne_eqb o p ne) refl
     ]
 
+pub sizes_are : (of : List ℕ) (n : ℕ) → sizes_of (singles of n) (length of) ≡ map (λ p. length (class_places of (length of) p)) (upto n)
+sizes_are of n = map_upto_agree (size_of (singles of n).lists (length of)) (λ p. length (class_places of (length of) p)) n (λ p h. sized of n (length of) p (omega arith))
+
 pub counts_are : (of : List ℕ) (n : ℕ) → map pos (sizes_of (singles of n) (length of)) ≡ map (λ p. pos (length (class_places of (length of) p))) (upto n)
-counts_are of n =
-    map_map pos (size_of (singles of n).lists (length of)) (upto n)
-    ∙ map_upto_agree (λ p. pos (size_of (singles of n).lists (length of) p)) (λ p. pos (length (class_places of (length of) p))) n (λ p h. ap pos (sized of n (length of) p (omega arith)))
+counts_are of n = ap (map pos) (sizes_are of n) ∙ map_map pos (λ p. length (class_places of (length of) p)) (upto n)
 
 -- sums
 

@@ -10,3 +10,5 @@ pub mod Aggregating
 pub mod Partnering
 pub mod Gathering
 pub mod Siding
+pub mod Sizing
+pub mod Parting

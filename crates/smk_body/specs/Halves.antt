@@ -54,6 +54,10 @@ pub record AreNumbered (n : ℕ) (classes : ClassesImage) : Type 0 where
 abbrev pub class_places : List ℕ → ℕ → ℕ → List ℕ
 class_places of n p = places (λ i. nat_eq (slice_index of i) p) n
 
+-- how many places each class has
+abbrev pub class_sizes : ClassesImage → List ℕ
+class_sizes classes = map (λ p. length (class_places classes.of (length classes.of) p)) (upto (length classes.firsts))
+
 -- the greater or the lesser of two values
 abbrev pub better : Bool → Value → Value → Value
 better greatest a b = cond greatest (greater a b) (lesser a b)

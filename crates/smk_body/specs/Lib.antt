@@ -1,3 +1,4 @@
 pub mod Locals
 pub mod Halves
 pub mod Pieces
+pub mod Parts

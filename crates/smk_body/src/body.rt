@@ -1,3 +1,4 @@
+ghost use Rattle.std.specs.Thread.{IsSync};
 ghost use Rattle.std.specs.Prelude.{◌≡◌, ◌<◌, ◌≤◌, ◌||◌, Bool, length, IfOk, IfErr, OnOk, IsTrue};
 ghost use Rattle.smk_base.specs.PlanImage.{binary_of, unary_of};
 ghost use Rattle.smk_base.specs.Plans.{Binary, Unary};
@@ -77,8 +78,9 @@ pub trait OpBody: InPieces {
         ensures left { IfOk result (λ made. leaves1 self.now (unary_of op.now) input want made.1) };
 
     /// A step over its input, from what its pieces have made.
-    fn gather1(
+    fn gather1<R: Threads + Sync>(
         &self,
+        _rt: &R,
         alloc: Global,
         op: &Op1,
         input: Rel,
@@ -86,6 +88,7 @@ pub trait OpBody: InPieces {
         _cut: Cut,
         _made: Vec<Piece>,
     ) -> Result<(Rel, Self::Pending), AllocError>
+        requires rt { IsSync R.row }
         requires fits { Fits1 (unary_of op.now) input.kinds }
         requires captured { IsTrue (may_capture self.now || is_nothing want) }
         requires cut { Self.cuts1 self.now (unary_of op.now) input want _cut }
@@ -117,8 +120,9 @@ pub trait OpBody: InPieces {
         ensures many { IfErr result (λ e. e ≡ OpFault.Rows → ROW_LIMIT < length (step2 (binary_of op.now) left.rows right.rows)) };
 
     /// A step over its two inputs, from what its pieces have made. It has at most 1,048,576 rows.
-    fn gather2(
+    fn gather2<R: Threads + Sync>(
         &self,
+        _rt: &R,
         _alloc: Global,
         _op: &Op2,
         _left: Rel,
@@ -127,6 +131,7 @@ pub trait OpBody: InPieces {
         _cut: Cut,
         _made: Vec<Piece>,
     ) -> Result<(Rel, Self::Pending), AllocError>
+        requires rt { IsSync R.row }
         requires fits { Fits2 (binary_of _op.now) _left.kinds _right.kinds }
         requires captured { IsTrue (may_capture self.now || is_nothing2 _want) }
         requires cut { Self.cuts2 self.now (binary_of _op.now) _left _right _want _cut }
@@ -171,7 +176,7 @@ pub trait OpBody: InPieces {
             return self.whole1(alloc, op, input, want);
         };
         let made = made1(rt, alloc, self, op, &input, want, &cut)?;
-        self.gather1(alloc, op, input, want, cut, made)
+        self.gather1(rt, alloc, op, input, want, cut, made)
     }
 
     /// A step over its two inputs, likewise. It is refused for `Rows` exactly where it has more than 1,048,576 rows.
@@ -199,6 +204,6 @@ pub trait OpBody: InPieces {
             return self.whole2(alloc, op, left, right, want);
         };
         let made = made2(rt, alloc, self, op, &left, &right, want, &cut)?;
-        Ok(self.gather2(alloc, op, left, right, want, cut, made)?)
+        Ok(self.gather2(rt, alloc, op, left, right, want, cut, made)?)
     }
 }

@@ -1,4 +1,4 @@
-ghost use Rattle.std.specs.Prelude.{◌≡◌, ◌<◌, ◌≤◌, [], ◌∷◌, IfOk, All, length, map};
+ghost use Rattle.std.specs.Prelude.{◌≡◌, ◌<◌, ◌≤◌, [], ◌∷◌, IfOk, IfSome, All, length, map};
 ghost use Rattle.smk_base.specs.Places.{upto};
 ghost use Rattle.smk_base.specs.Plans.{Grouping};
 ghost use Rattle.smk_base.specs.Rels.{kind_in};
@@ -9,7 +9,7 @@ ghost use Rattle.smk_model.specs.Plain.{aggregate, combined, key_of, step1};
 ghost use Rattle.smk_model.specs.Lineage.{row_at, sub};
 ghost use Rattle.smk_model.specs.Kinds.{AggFits, GroupFits, IsSummed, kind_of_agg, kinds1, summed};
 ghost use Rattle.smk_keys.specs.Classes.{classes_of};
-ghost use Rattle.smk_body.specs.Halves.{AreNumbered, better, class_places};
+ghost use Rattle.smk_body.specs.Halves.{AreNumbered, better, class_places, class_sizes};
 
 use crate::aggregates::{best_places, counts, sums};
 use smk_base::{Agg, Kind, Rel};
@@ -29,24 +29,49 @@ pub fn group_rows(
     ensures kinds { IfOk result (λ made. made.kinds ≡ kinds1 (Grouping keys.now aggs.now) rel.now.kinds) }
     ensures rows { IfOk result (λ made. made.rows ≡ step1 (Grouping keys.now aggs.now) rel.now.rows) }
 {
+    sized_group_rows(alloc, rel, classes, None, keys, aggs)
+}
+
+/// The same, with the sizes of the classes where they are known.
+pub(crate) fn sized_group_rows(
+    alloc: Global,
+    rel: &Rel,
+    classes: &Classes,
+    sizes: Option<&[u32]>,
+    keys: &[u32],
+    aggs: &[Agg],
+) -> Result<Rel, AllocError>
+    requires fits { GroupFits rel.now.kinds keys.now aggs.now }
+    requires classes { classes.now ≡ classes_of (map (key_of keys.now) rel.now.rows) }
+    requires sizes { IfSome sizes (λ known. known.now ≡ class_sizes classes.now) }
+    ensures kinds { IfOk result (λ made. made.kinds ≡ kinds1 (Grouping keys.now aggs.now) rel.now.kinds) }
+    ensures rows { IfOk result (λ made. made.rows ≡ step1 (Grouping keys.now aggs.now) rel.now.rows) }
+{
     let _rows = rel.len();
     let firsts = rel.gather(alloc, classes.firsts())?;
     let mut made = firsts.pick_columns(alloc, keys)?;
     for agg in aggs {
-        let column = agg_column(alloc, rel, classes, agg)?;
+        let column = agg_column(alloc, rel, classes, sizes, agg)?;
         made = made.beside(column)?;
     }
     Ok(made)
 }
 
-// An aggregate over the rows of each class.
-fn agg_column(alloc: Global, rel: &Rel, classes: &Classes, agg: &Agg) -> Result<Rel, AllocError>
+/// An aggregate over the rows of each class.
+pub(crate) fn agg_column(
+    alloc: Global,
+    rel: &Rel,
+    classes: &Classes,
+    sizes: Option<&[u32]>,
+    agg: &Agg,
+) -> Result<Rel, AllocError>
     requires fits { AggFits rel.now.kinds agg.now }
     requires classes { AreNumbered (length rel.now.rows) classes.now }
+    requires sizes { IfSome sizes (λ known. known.now ≡ class_sizes classes.now) }
     ensures { IfOk result (λ made. made ≡ record { kinds = kind_of_agg rel.now.kinds agg.now ∷ []; rows = map (λ p. aggregate (sub rel.now.rows (class_places classes.now.of (length rel.now.rows) p)) agg.now ∷ []) (upto (length classes.now.firsts)) }) }
 {
     match agg {
-        Agg::Count => count_column(alloc, rel, classes),
+        Agg::Count => count_column(alloc, rel, classes, sizes),
         Agg::Sum(c) => sum_column(alloc, rel, *c, classes),
         Agg::Min(c) => best_column(alloc, rel, *c, classes, false),
         Agg::Max(c) => best_column(alloc, rel, *c, classes, true),
@@ -54,13 +79,19 @@ fn agg_column(alloc: Global, rel: &Rel, classes: &Classes, agg: &Agg) -> Result<
 }
 
 // The number of rows of each class.
-fn count_column(alloc: Global, rel: &Rel, classes: &Classes) -> Result<Rel, AllocError>
-    requires { AreNumbered (length rel.now.rows) classes.now }
+fn count_column(
+    alloc: Global,
+    rel: &Rel,
+    classes: &Classes,
+    sizes: Option<&[u32]>,
+) -> Result<Rel, AllocError>
+    requires classes { AreNumbered (length rel.now.rows) classes.now }
+    requires sizes { IfSome sizes (λ known. known.now ≡ class_sizes classes.now) }
     ensures { IfOk result (λ made. made ≡ record { kinds = Int 0 ∷ []; rows = map (λ p. aggregate (sub rel.now.rows (class_places classes.now.of (length rel.now.rows) p)) Count ∷ []) (upto (length classes.now.firsts)) }) }
 {
     let _rows = rel.len();
     let count = classes.firsts().len() as u32;
-    let numbers = counts(alloc, classes.of(), count)?;
+    let numbers = counts(alloc, classes.of(), count, sizes)?;
     let made = Rel::of_ints(alloc, 0, numbers)?;
     Ok(made)
 }

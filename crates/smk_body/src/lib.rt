@@ -15,6 +15,7 @@ mod project;
 mod rows;
 mod select;
 pub mod steps;
+pub mod threads;
 mod unions;
 
 pub use body::{OpBody, OpFault};

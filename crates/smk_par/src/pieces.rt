@@ -185,8 +185,9 @@ impl<'g, G: Gate + Sync, B: OpBody> OpBody for Pieces<'g, G, B> {
         Ok((made.0, CutOr::Whole(made.1)))
     }
 
-    fn gather1(
+    fn gather1<R: Threads + Sync>(
         &self,
+        rt: &R,
         alloc: Global,
         op: &Op1,
         input: Rel,
@@ -194,7 +195,7 @@ impl<'g, G: Gate + Sync, B: OpBody> OpBody for Pieces<'g, G, B> {
         _cut: Cut,
         made: Vec<Piece>,
     ) -> Result<(Rel, CutOr<B::Pending>), AllocError> {
-        let made = gather_one(alloc, op, input, want, self.workers, made.as_slice())?;
+        let made = gather_one(rt, alloc, op, input, want, self.workers, made.as_slice())?;
         Ok((made.0, CutOr::Cut(made.1)))
     }
 
@@ -210,8 +211,9 @@ impl<'g, G: Gate + Sync, B: OpBody> OpBody for Pieces<'g, G, B> {
         Ok((made.0, CutOr::Whole(made.1)))
     }
 
-    fn gather2(
+    fn gather2<R: Threads + Sync>(
         &self,
+        rt: &R,
         alloc: Global,
         op: &Op2,
         left: Rel,
@@ -221,10 +223,11 @@ impl<'g, G: Gate + Sync, B: OpBody> OpBody for Pieces<'g, G, B> {
         made: Vec<Piece>,
     ) -> Result<(Rel, CutOr<B::Pending>), AllocError> {
         let made = gather_join(
+            rt,
             alloc,
             op,
             left,
-            &right,
+            right,
             want,
             self.workers,
             &cut,

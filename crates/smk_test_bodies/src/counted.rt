@@ -148,8 +148,9 @@ impl<B: OpBody> OpBody for Counted<B> {
         self.inner.whole1(alloc, op, input, want)
     }
 
-    fn gather1(
+    fn gather1<R: Threads + Sync>(
         &self,
+        rt: &R,
         alloc: Global,
         op: &Op1,
         input: Rel,
@@ -158,7 +159,7 @@ impl<B: OpBody> OpBody for Counted<B> {
         made: Vec<Piece>,
     ) -> Result<(Rel, B::Pending), AllocError> {
         self.one.fetch_add(1, Ordering::SeqCst);
-        self.inner.gather1(alloc, op, input, want, cut, made)
+        self.inner.gather1(rt, alloc, op, input, want, cut, made)
     }
 
     fn whole2(
@@ -173,8 +174,9 @@ impl<B: OpBody> OpBody for Counted<B> {
         self.inner.whole2(alloc, op, left, right, want)
     }
 
-    fn gather2(
+    fn gather2<R: Threads + Sync>(
         &self,
+        rt: &R,
         alloc: Global,
         op: &Op2,
         left: Rel,
@@ -184,7 +186,8 @@ impl<B: OpBody> OpBody for Counted<B> {
         made: Vec<Piece>,
     ) -> Result<(Rel, B::Pending), AllocError> {
         self.two.fetch_add(1, Ordering::SeqCst);
-        self.inner.gather2(alloc, op, left, right, want, cut, made)
+        self.inner
+            .gather2(rt, alloc, op, left, right, want, cut, made)
     }
 
     fn finish<R: Threads + Sync>(

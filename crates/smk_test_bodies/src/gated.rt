@@ -186,8 +186,9 @@ impl<'g, G: Gate + Sync, B: OpBody> OpBody for Gated<'g, G, B> {
         self.inner.whole1(alloc, op, input, want)
     }
 
-    fn gather1(
+    fn gather1<R: Threads + Sync>(
         &self,
+        _rt: &R,
         alloc: Global,
         op: &Op1,
         input: Rel,
@@ -210,8 +211,9 @@ impl<'g, G: Gate + Sync, B: OpBody> OpBody for Gated<'g, G, B> {
         self.inner.whole2(alloc, op, left, right, want)
     }
 
-    fn gather2(
+    fn gather2<R: Threads + Sync>(
         &self,
+        _rt: &R,
         alloc: Global,
         op: &Op2,
         left: Rel,

@@ -1,15 +1,35 @@
-use Rattle.std.proofs.Common.{◌∙◌, length, pos, map, ap, arith}
-use Rattle.std.proofs.lemmas.List.{take_all}
+use Rattle.std.proofs.Common.{◌≡◌, ◌∙◌, ℕ, ℤ, List, length, pos, map, ap, subst, vec_len}
+use Rattle.std.specs.Result.{IfOk}
+use Rattle.smk_base.specs.Places.{upto}
 use Rattle.smk_rid.specs.Maps.{size_of}
 use Rattle.smk_model.specs.Locals.{singles}
+use Rattle.smk_model.proofs.Places.{map_map}
 use Rattle.smk_model.proofs.Directions.{length_each}
+use Rattle.smk_body.specs.Halves.{class_places}
 use Rattle.smk_body.proofs.Folding.{counts_are}
 use Rattle.smk_body.proofs.aggregates.counts.Goals as goal
 
-pub returns-clause-counts : goal.returns-clause-counts
-returns-clause-counts c = c.loop-size.invariant.items ∙ ap (map pos) (take_all c.loop-size.size-index c.as_slice-all.result.now c.loop-size-test.false ∙ c.as_slice-all.ensures.value ∙ c.in_ok-sizes.ensures.sizes) ∙ counts_are c.args.of.now c.args.count
-
-pub returns-clause-long : goal.returns-clause-long
-returns-clause-long c =
+pub returns-in-Some-clause-counts : goal.returns-in-Some-clause-counts
+returns-in-Some-clause-counts c =
     let of = c.args.of.now in
-    omega (arith, c.loop-size.invariant.long, c.loop-size-test.false, ap length (c.as_slice-all.ensures.value ∙ c.in_ok-sizes.ensures.sizes), length_each (size_of (singles of c.args.count).lists (length of)) c.args.count)
+    let F = λ (p : ℕ). length (class_places of (length of) p) in
+    let known : c.in-Some.known.now ≡ map F (upto c.args.count) = rw c.in-Some.is at c.requires.sizes in
+    subst (λ (z : List ℤ). IfOk c.as_ints.result (λ v. v.items ≡ z)) (ap (map pos) known ∙ map_map pos F (upto c.args.count)) c.as_ints.ensures.ints
+
+pub returns-in-Some-clause-long : goal.returns-in-Some-clause-long
+returns-in-Some-clause-long c =
+    let of = c.args.of.now in
+    let F = λ (p : ℕ). length (class_places of (length of) p) in
+    let known : c.in-Some.known.now ≡ map F (upto c.args.count) = rw c.in-Some.is at c.requires.sizes in
+    subst (λ (n : ℕ). IfOk c.as_ints.result (λ v. vec_len v ≡ n)) (ap length known ∙ length_each F c.args.count) c.as_ints.ensures.long
+
+pub returns-in_ok-made-in-None-clause-counts : goal.returns-in_ok-made-in-None-clause-counts
+returns-in_ok-made-in-None-clause-counts c =
+    let sizes = c.as_slice.ensures.value ∙ c.in_ok-made-in-None.ensures.sizes in
+    subst (λ (z : List ℤ). IfOk c.as_ints-in-None.result (λ v. v.items ≡ z)) (ap (map pos) sizes ∙ counts_are c.args.of.now c.args.count) c.as_ints-in-None.ensures.ints
+
+pub returns-in_ok-made-in-None-clause-long : goal.returns-in_ok-made-in-None-clause-long
+returns-in_ok-made-in-None-clause-long c =
+    let of = c.args.of.now in
+    let sizes = c.as_slice.ensures.value ∙ c.in_ok-made-in-None.ensures.sizes in
+    subst (λ (n : ℕ). IfOk c.as_ints-in-None.result (λ v. vec_len v ≡ n)) (ap length sizes ∙ length_each (size_of (singles of c.args.count).lists (length of)) c.args.count) c.as_ints-in-None.ensures.long

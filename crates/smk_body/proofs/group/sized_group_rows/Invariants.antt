@@ -5,7 +5,7 @@ use Rattle.smk_model.specs.Plain.{aggregate, key_of}
 use Rattle.smk_model.specs.Lineage.{row_at, sub}
 use Rattle.smk_model.specs.Kinds.{kind_of_agg}
 use Rattle.smk_body.specs.Halves.{class_places}
-use Rattle.smk_body.proofs.group.group_rows.Given as goal
+use Rattle.smk_body.proofs.group.sized_group_rows.Given as goal
 
 abbrev pub invariant-loop-agg : goal.invariant-loop-agg
 invariant-loop-agg l = l.made ≡ record {

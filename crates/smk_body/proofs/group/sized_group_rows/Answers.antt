@@ -1,32 +1,28 @@
-use Rattle.std.proofs.Common.{◌≡◌, ◌∙◌, ◌+◌, ◌++◌, ◌∷◌, [], ℕ, List, length, map, take, ap, sym, subst, arith, get_or, append_assoc}
+use Rattle.std.proofs.Common.{◌≡◌, ◌∙◌, ◌+◌, ◌++◌, ◌∷◌, [], ℕ, List, length, map, take, ap, sym, arith, get_or, append_assoc}
 use Rattle.std.proofs.lemmas.List.{map_more, length-map, length-append, length-take-le, take_all, append-nil}
 use Rattle.smk_base.specs.declared.plan.Agg.TheVariants.{Count}
 use Rattle.smk_base.specs.declared.plan.Agg.{Agg}
 use Rattle.smk_base.specs.Places.{upto}
 use Rattle.smk_base.specs.Rels.{Relation, kind_in, picked, rows_at, beside_rows}
-use Rattle.smk_keys.specs.Classes.{ClassesImage, classes_of}
-use Rattle.smk_model.specs.Values.{Row}
+use Rattle.smk_keys.specs.Classes.{ClassesImage}
 use Rattle.smk_model.specs.Plain.{aggregate, key_of}
 use Rattle.smk_model.specs.Lineage.{row_at, sub}
 use Rattle.smk_model.specs.Kinds.{kind_of_agg}
 use Rattle.smk_model.proofs.Directions.{length_each}
-use Rattle.smk_body.specs.Halves.{AreNumbered, class_places}
-use Rattle.smk_body.proofs.Classing.{are_numbered}
+use Rattle.smk_body.specs.Halves.{class_places}
+use Rattle.smk_body.proofs.Classing.{rows_numbered}
 use Rattle.smk_body.proofs.Aggregating.{keys_at_firsts, groups_are}
 use Rattle.smk_body.proofs.Besides.{column_more, related}
-use Rattle.smk_body.proofs.group.group_rows.Goals as goal
-
-numbered : (keys : List ℕ) (rows : List Row) (made : ClassesImage) → made ≡ classes_of (map (key_of keys) rows) → AreNumbered (length rows) made
-numbered keys rows made e = subst (λ (n : ℕ). AreNumbered n made) (length-map rows (key_of keys)) (subst (AreNumbered (length (map (key_of keys) rows))) (sym e) (are_numbered (map (key_of keys) rows)))
+use Rattle.smk_body.proofs.group.sized_group_rows.Goals as goal
 
 pub gather-requires-clause-within : goal.gather-requires-clause-within
-gather-requires-clause-within c = rw c.firsts.ensures (numbered c.args.keys.now c.args.rel.now.rows c.args.classes.now c.requires.classes).within
+gather-requires-clause-within c = rw c.firsts.ensures (rows_numbered c.args.keys.now c.args.rel.now.rows c.args.classes.now c.requires.classes).within
 
 pub gather-requires-clause-few : goal.gather-requires-clause-few
-gather-requires-clause-few c = omega (arith, ap length c.firsts.ensures, (numbered c.args.keys.now c.args.rel.now.rows c.args.classes.now c.requires.classes).few, c.len-rows.ensures.keeps.few_rows)
+gather-requires-clause-few c = omega (arith, ap length c.firsts.ensures, (rows_numbered c.args.keys.now c.args.rel.now.rows c.args.classes.now c.requires.classes).few, c.len-rows.ensures.keeps.few_rows)
 
 pub agg_column-requires-clause-classes : goal.agg_column-requires-clause-classes
-agg_column-requires-clause-classes c = numbered c.args.keys.now c.args.rel.now.rows c.args.classes.now c.requires.classes
+agg_column-requires-clause-classes c = rows_numbered c.args.keys.now c.args.rel.now.rows c.args.classes.now c.requires.classes
 
 pub loop-agg-init : goal.loop-agg-init
 loop-agg-init c =
