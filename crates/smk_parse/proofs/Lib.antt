@@ -2,13 +2,9 @@ pub mod Digits
 pub mod Fits
 pub mod Streams
 pub mod Steps
+pub mod Begins
 pub mod Single
 pub mod Listing
-pub mod LineSteps
-pub mod Spelled
+pub mod Trees
+pub mod Whole
 pub mod Cutting
-pub mod BookSteps
-pub mod Sequences
-pub mod BookSpelled
-pub mod PlanSpelled
-pub mod StmtSpelled

@@ -1,19 +1,16 @@
 -- Single tokens.
 use Rattle.std.specs.Prelude.{cond, nat_eq}
-use Rattle.std.proofs.Common.{◌≡◌, ℕ, ℤ, ◌+◌, ◌-◌, ◌<◌, ◌++◌, length, get_or, take, drop, drop-cons, append_assoc, min, suc, true, false, List, [], ◌∷◌, ap, ◌∙◌, sym, subst, refl, arith}
+use Rattle.std.proofs.Common.{◌≡◌, ℕ, ◌+◌, ◌-◌, ◌<◌, ◌++◌, length, get_or, take, drop, drop-cons, append_assoc, min, suc, true, false, List, [], ◌∷◌, ap, ◌∙◌, sym, subst, refl, arith}
 use Rattle.std.specs.Prelude.{IsTrue}
 use Rattle.std.proofs.lemmas.List.{take_all}
 use Rattle.smk_base.specs.declared.token.TokenKind.{TokenKind}
 use Rattle.smk_base.specs.declared.token.TokenKind.TheVariants as kinds
 use Rattle.smk_base.specs.declared.fault.BookFault.{BookFault}
 use Rattle.smk_base.specs.declared.fault.BookFault.TheVariants.{Unexpected}
-use Rattle.smk_base.specs.declared.tree.Word.{Word}
-use Rattle.smk_model.specs.Tokens.{Token, head_of, tail_of, is_more, inner, int_value, string_value, undoubled}
+use Rattle.smk_model.specs.Tokens.{Token, head_of, tail_of, is_more, inner, undoubled}
 use Rattle.smk_model.specs.TokenKinds.{same_kind}
-use Rattle.smk_base.specs.declared.tree.Lit.{Lit}
-use Rattle.smk_base.specs.declared.value.Value.TheVariants as values
-use Rattle.smk_model.specs.Grammar.{First, IsName, name, IsColumn, plain, quoted, IsLiteral, number, string}
-use Rattle.smk_model.specs.Machine.{State, Takes, Wrong, fault_at, at_token, AToken, ALineName}
+use Rattle.smk_model.specs.Grammar.{First}
+use Rattle.smk_model.specs.Machine.{State, Takes, Wrong, fault_at, AToken}
 use Rattle.smk_model.proofs.Alike.{same_is}
 use Rattle.smk_parse.specs.Readers.{Advances}
 use Rattle.smk_parse.specs.Reads.{Leads, Fails}
@@ -38,40 +35,9 @@ pub token_more : (k j : TokenKind) → same_kind k j ≡ true → IsTrue (is_mor
 token_more k j e h = subst (λ x. IsTrue (is_more x)) (same_is k j e) h
 
 pub token_fails : (k : TokenKind) (a : State) (f : BookFault) → a.rest ≡ head_of a.rest ∷ tail_of a.rest → f ≡ fault_at (head_of a.rest) → same_kind k (head_of a.rest).kind ≡ false → Fails (AToken k ∷ []) a f
-token_fails k a f h g e = wrong (AToken k) [] a f h g (ap (λ o. cond o (Takes a.counts []) Wrong) e)
+token_fails k a f h g e = wrong (AToken k) a f h g (ap (λ o. cond o (Takes a.counts []) Wrong) e)
 
 pub ruleset expect_goes = (token_leads, token_fails, token_first, token_more)
-
-pub line_name_leads : (a b : State) → Advances a.counts a b → (head_of a.rest).kind ≡ kinds.Name → Leads (ALineName ∷ []) a b
-line_name_leads a b h e = open_only ALineName a b (opened ALineName [] a.counts a b h (ap (λ k. at_token a.counts kinds.Name k) e))
-
-pub line_name_fails : (a : State) (f : BookFault) → a.rest ≡ head_of a.rest ∷ tail_of a.rest → f ≡ fault_at (head_of a.rest) → ((head_of a.rest).kind ≡ kinds.Name → ⊥) → Fails (ALineName ∷ []) a f
-line_name_fails a f h g e = wrong ALineName [] a f h g (by (head_of a.rest).kind e)
-  where
-    by : (k : TokenKind) → (k ≡ kinds.Name → ⊥) → at_token a.counts kinds.Name k ≡ Wrong
-    by kinds.Name e = absurd (e refl)
-    by _ e = refl
-
-pub name_is : (a b : State) (w : Word) → Advances a.counts a b → (head_of a.rest).kind ≡ kinds.Name → w.name ≡ (head_of a.rest).text → w.at ≡ (head_of a.rest).at → IsName a.rest b.rest w
-name_is a b w h e f g = let n : w ≡ record { name = (head_of a.rest).text; at = (head_of a.rest).at } = λ i. record { name = f i; at = g i } in subst (IsName a.rest b.rest) (sym n) (name (first_here kinds.Name a.counts a b h e))
-
-pub ruleset line_name_goes = (line_name_leads, line_name_fails, name_is)
-
-pub plain_is : (a b : State) (w : Word) → Advances a.counts a b → (head_of a.rest).kind ≡ kinds.Name → w.name ≡ (head_of a.rest).text → w.at ≡ (head_of a.rest).at → IsColumn a.rest b.rest w
-plain_is a b w h e f g = let n : w ≡ record { name = (head_of a.rest).text; at = (head_of a.rest).at } = λ i. record { name = f i; at = g i } in subst (IsColumn a.rest b.rest) (sym n) (plain (first_here kinds.Name a.counts a b h e))
-
-pub quoted_is : (a b : State) (w : Word) → Advances a.counts a b → (head_of a.rest).kind ≡ kinds.Quoted → w.name ≡ inner (head_of a.rest).text → w.at ≡ (head_of a.rest).at → IsColumn a.rest b.rest w
-quoted_is a b w h e f g = let n : w ≡ record { name = inner (head_of a.rest).text; at = (head_of a.rest).at } = λ i. record { name = f i; at = g i } in subst (IsColumn a.rest b.rest) (sym n) (quoted (first_here kinds.Quoted a.counts a b h e))
-
-pub ruleset line_column_trees = (plain_is, quoted_is)
-
-pub number_is : (a b : State) (l : Lit) (v : ℤ) → Advances a.counts a b → (head_of a.rest).kind ≡ kinds.Number → l.value ≡ values.Int v → v ≡ int_value (head_of a.rest).text → l.at ≡ (head_of a.rest).at → IsLiteral a.rest b.rest l
-number_is a b l v h e f k g = let n : l ≡ record { value = values.Int (int_value (head_of a.rest).text); at = (head_of a.rest).at } = λ i. record { value = (f ∙ ap values.Int k) i; at = g i } in subst (IsLiteral a.rest b.rest) (sym n) (number (first_here kinds.Number a.counts a b h e))
-
-pub string_is : (a b : State) (l : Lit) (v : List ℕ) → Advances a.counts a b → (head_of a.rest).kind ≡ kinds.Str → l.value ≡ values.Text v → v ≡ string_value (head_of a.rest).text → l.at ≡ (head_of a.rest).at → IsLiteral a.rest b.rest l
-string_is a b l v h e f k g = let n : l ≡ record { value = values.Text (string_value (head_of a.rest).text); at = (head_of a.rest).at } = λ i. record { value = (f ∙ ap values.Text k) i; at = g i } in subst (IsLiteral a.rest b.rest) (sym n) (string (first_here kinds.Str a.counts a b h e))
-
-pub ruleset literal_trees = (number_is, string_is)
 
 -- the slice between the first byte and the last
 pub inner_slice : (text : List ℕ) → take (length text - 2 - 0) (take (length text - min (length text) 1) (drop (min (length text) 1) text)) ≡ inner text

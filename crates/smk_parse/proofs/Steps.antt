@@ -12,6 +12,10 @@ use Rattle.smk_parse.specs.Readers.{Advances}
 use Rattle.smk_parse.specs.Reads.{Leads, Fails, IsFault}
 pub use Rattle.smk_parse.specs.Reads.{Comes}
 
+-- there is a token in hand
+abbrev pub Here : State → Type 0
+Here a = a.rest ≡ head_of a.rest ∷ tail_of a.rest
+
 -- the token in hand stands first
 pub first_here : (k : TokenKind) (c : Counts) (a b : State) → Advances c a b → (head_of a.rest).kind ≡ k → First k (head_of a.rest) a.rest b.rest
 first_here k c a b h e = record { is_kind = e; is_first = h.first }
@@ -31,11 +35,14 @@ skipped : (x : Symbol) (c : Counts) (ts : List Token) → ts ≡ head_of ts ∷ 
 skipped x c ts h e [] = ap (through (x ∷ []) c) h ∙ ap (λ m. go_on (or_next m [] Skips) c (head_of ts) (tail_of ts) (λ d l. through l d (tail_of ts))) e ∙ ap (λ l. Ok (record { rest = l; counts = c })) (sym h)
 skipped x c ts h e (s ∷ ss) = ap (through (x ∷ s ∷ ss) c) h ∙ ap (λ m. go_on (or_next m (s ∷ ss) (settle (s ∷ ss) c (head_of ts))) c (head_of ts) (tail_of ts) (λ d l. through l d (tail_of ts))) e ∙ ap (through (s ∷ ss) c) (sym h)
 
-pub skips : (x : Symbol) (a : State) → a.rest ≡ head_of a.rest ∷ tail_of a.rest → next a.counts x (head_of a.rest) ≡ Skips → Leads (x ∷ []) a a
+pub skips : (x : Symbol) (a : State) → Here a → next a.counts x (head_of a.rest) ≡ Skips → Leads (x ∷ []) a a
 skips x a h e = record { goes = skipped x a.counts a.rest h e }
 
-pub wrong : (x : Symbol) (ls : List Symbol) (a : State) (f : BookFault) → a.rest ≡ head_of a.rest ∷ tail_of a.rest → f ≡ fault_at (head_of a.rest) → next a.counts x (head_of a.rest) ≡ Wrong → Fails (x ∷ ls) a f
-wrong x ls a f h g e = record { stops = λ ss. faulty f _ (ap (through (x ∷ (ls ++ ss)) a.counts) h ∙ ap (λ m. go_on (or_next m (ls ++ ss) (settle (ls ++ ss) a.counts (head_of a.rest))) a.counts (head_of a.rest) (tail_of a.rest) (λ d l. through l d (tail_of a.rest))) e ∙ ap Err (sym g)) }
+stands : (x : Symbol) (ss : List Symbol) (a : State) → Here a → through (x ∷ ss) a.counts a.rest ≡ go_on (settle (x ∷ ss) a.counts (head_of a.rest)) a.counts (head_of a.rest) (tail_of a.rest) (λ d l. through l d (tail_of a.rest))
+stands x ss a h = ap (through (x ∷ ss) a.counts) h
+
+pub wrong : (x : Symbol) (a : State) (f : BookFault) → Here a → f ≡ fault_at (head_of a.rest) → next a.counts x (head_of a.rest) ≡ Wrong → Fails (x ∷ []) a f
+wrong x a f h g e = record { stops = λ ss. faulty f _ (stands x ss a h ∙ ap (λ m. go_on (or_next m ss (settle ss a.counts (head_of a.rest))) a.counts (head_of a.rest) (tail_of a.rest) (λ d l. through l d (tail_of a.rest))) e ∙ ap Err (sym g)) }
   where
     faulty : (f : BookFault) (r : Result State BookFault) → r ≡ Err f → IsFault f r
     faulty NoMemory r e = tt
@@ -44,36 +51,27 @@ wrong x ls a f h g e = record { stops = λ ss. faulty f _ (ap (through (x ∷ (l
     faulty (TooMany at what) r e = e
     faulty (BadNumber at) r e = e
 
-pub past : (x : Symbol) (ls : List Symbol) (a : State) (what : Many) → a.rest ≡ head_of a.rest ∷ tail_of a.rest → next a.counts x (head_of a.rest) ≡ Past what → Fails (x ∷ ls) a (TooMany (head_of a.rest).at what)
-past x ls a what h e = record { stops = λ ss. ap (through (x ∷ (ls ++ ss)) a.counts) h ∙ ap (λ m. go_on (or_next m (ls ++ ss) (settle (ls ++ ss) a.counts (head_of a.rest))) a.counts (head_of a.rest) (tail_of a.rest) (λ d l. through l d (tail_of a.rest))) e }
+pub past : (x : Symbol) (a : State) (f : BookFault) (what : Many) → Here a → f ≡ TooMany (head_of a.rest).at what → next a.counts x (head_of a.rest) ≡ Past what → Fails (x ∷ []) a f
+past x a f what h g e = subst (Fails (x ∷ []) a) (sym g) (record { stops = λ ss. stands x ss a h ∙ ap (λ m. go_on (or_next m ss (settle ss a.counts (head_of a.rest))) a.counts (head_of a.rest) (tail_of a.rest) (λ d l. through l d (tail_of a.rest))) e })
 
-pub outside : (x : Symbol) (ls : List Symbol) (a : State) → a.rest ≡ head_of a.rest ∷ tail_of a.rest → next a.counts x (head_of a.rest) ≡ Outside → Fails (x ∷ ls) a (BadNumber (head_of a.rest).at)
-outside x ls a h e = record { stops = λ ss. ap (through (x ∷ (ls ++ ss)) a.counts) h ∙ ap (λ m. go_on (or_next m (ls ++ ss) (settle (ls ++ ss) a.counts (head_of a.rest))) a.counts (head_of a.rest) (tail_of a.rest) (λ d l. through l d (tail_of a.rest))) e }
+pub outside : (x : Symbol) (a : State) (f : BookFault) → Here a → f ≡ BadNumber (head_of a.rest).at → next a.counts x (head_of a.rest) ≡ Outside → Fails (x ∷ []) a f
+outside x a f h g e = subst (Fails (x ∷ []) a) (sym g) (record { stops = λ ss. stands x ss a h ∙ ap (λ m. go_on (or_next m ss (settle ss a.counts (head_of a.rest))) a.counts (head_of a.rest) (tail_of a.rest) (λ d l. through l d (tail_of a.rest))) e })
 
 pub no_memory : (ls : List Symbol) (a : State) (f : BookFault) → f ≡ NoMemory → Fails ls a f
 no_memory ls a f e = subst (Fails ls a) (sym e) (record { stops = λ ss. tt })
 
--- one after the other
-pub then_leads : (x : Symbol) (l : List Symbol) (a b c : State) → Leads (x ∷ []) a b → Leads l b c → Leads (x ∷ l) a c
-then_leads x l a b c h k = record { goes = λ ss. h.goes (l ++ ss) ∙ k.goes ss }
-
-pub lists_lead : (l m : List Symbol) (a b c : State) → Leads l a b → Leads m b c → Leads (l ++ m) a c
-lists_lead l m a b c h k = record { goes = λ ss. ap (λ r. through r a.counts a.rest) (append_assoc l m ss) ∙ h.goes (m ++ ss) ∙ k.goes ss }
-
 moved : (f : BookFault) (r q : Result State BookFault) → r ≡ q → IsFault f q → IsFault f r
 moved f r q e h = subst (IsFault f) (sym e) h
 
-pub then_fails : (x : Symbol) (l : List Symbol) (a b : State) (f : BookFault) → Leads (x ∷ []) a b → Fails l b f → Fails (x ∷ l) a f
-then_fails x l a b f h k = record { stops = λ ss. moved f _ _ (h.goes (l ++ ss)) (k.stops ss) }
+-- one after the other: the symbols n are those of l and then those of m
+pub lead_on : (l m n : List Symbol) (a b c : State) → Leads l a b → n ≡ l ++ m → Leads m b c → Leads n a c
+lead_on l m n a b c h e k = record { goes = λ ss. ap (λ r. through (r ++ ss) a.counts a.rest) e ∙ ap (λ r. through r a.counts a.rest) (append_assoc l m ss) ∙ h.goes (m ++ ss) ∙ k.goes ss }
 
-pub lists_fail : (l m : List Symbol) (a b : State) (f : BookFault) → Leads l a b → Fails m b f → Fails (l ++ m) a f
-lists_fail l m a b f h k = record { stops = λ ss. moved f _ _ (ap (λ r. through r a.counts a.rest) (append_assoc l m ss) ∙ h.goes (m ++ ss)) (k.stops ss) }
+pub fail_on : (l m n : List Symbol) (a b : State) (f : BookFault) → Leads l a b → n ≡ l ++ m → Fails m b f → Fails n a f
+fail_on l m n a b f h e k = record { stops = λ ss. moved f _ _ (ap (λ r. through (r ++ ss) a.counts a.rest) e ∙ ap (λ r. through r a.counts a.rest) (append_assoc l m ss) ∙ h.goes (m ++ ss)) (k.stops ss) }
 
-pub first_fails : (x : Symbol) (l : List Symbol) (a : State) (f : BookFault) → Fails (x ∷ []) a f → Fails (x ∷ l) a f
-first_fails x l a f h = record { stops = λ ss. h.stops (l ++ ss) }
-
-pub list_fails : (l m : List Symbol) (a : State) (f : BookFault) → Fails l a f → Fails (l ++ m) a f
-list_fails l m a f h = record { stops = λ ss. moved f _ _ (ap (λ r. through r a.counts a.rest) (append_assoc l m ss)) (h.stops (m ++ ss)) }
+pub fail_first : (l m n : List Symbol) (a : State) (f : BookFault) → Fails l a f → n ≡ l ++ m → Fails n a f
+fail_first l m n a f h e = record { stops = λ ss. moved f _ _ (ap (λ r. through (r ++ ss) a.counts a.rest) e ∙ ap (λ r. through r a.counts a.rest) (append_assoc l m ss)) (h.stops (m ++ ss)) }
 
 pub open_leads : (x : Symbol) (l : List Symbol) (a b c : State) → Opens x l a b → Leads l b c → Leads (x ∷ []) a c
 open_leads x l a b c h k = record { goes = λ ss. h.opens ss ∙ k.goes ss }
@@ -90,13 +88,23 @@ comes_leads ls ms a b c h k = record { goes = λ ss. h.comes ss ∙ k.goes ss }
 pub comes_fails : (ls ms : List Symbol) (a b : State) (f : BookFault) → Comes ls ms a b → Fails ms b f → Fails ls a f
 comes_fails ls ms a b f h k = record { stops = λ ss. moved f _ _ (h.comes ss) (k.stops ss) }
 
--- the first of two symbols leads on to the second
-pub first_comes : (x : Symbol) (l : List Symbol) (a b : State) → Leads (x ∷ []) a b → Comes (x ∷ l) l a b
-first_comes x l a b h = record { comes = λ ss. h.goes (l ++ ss) }
+pub comes_self : (ls : List Symbol) (a : State) → Comes ls ls a a
+comes_self ls a = record { comes = λ ss. refl }
 
--- one more of a list
-pub more_comes : (ls l : List Symbol) (x y : Symbol) (a b c d : State) → Comes ls (x ∷ []) a b → Opens x (l ++ y ∷ []) b c → Leads l c d → Comes ls (y ∷ []) a d
-more_comes ls l x y a b c d h o k = record { comes = λ ss. h.comes ss ∙ o.opens ss ∙ ap (λ r. through r c.counts c.rest) (append_assoc l (y ∷ []) ss) ∙ k.goes (y ∷ ss) }
+pub comes_on : (ls ms ns : List Symbol) (a b c : State) → Comes ls ms a b → Comes ms ns b c → Comes ls ns a c
+comes_on ls ms ns a b c h k = record { comes = λ ss. h.comes ss ∙ k.comes ss }
+
+-- a list begins with the symbols l, and m is left
+pub list_comes : (l m n : List Symbol) (a b : State) → Leads l a b → n ≡ l ++ m → Comes n m a b
+list_comes l m n a b h e = record { comes = λ ss. ap (λ r. through (r ++ ss) a.counts a.rest) e ∙ ap (λ r. through r a.counts a.rest) (append_assoc l m ss) ∙ h.goes (m ++ ss) }
+
+-- one more in a loop
+pub more_comes : (ls l m : List Symbol) (x y : Symbol) (a b c d : State) → Comes ls (x ∷ []) a b → Opens x m b c → m ≡ l ++ y ∷ [] → Leads l c d → Comes ls (y ∷ []) a d
+more_comes ls l m x y a b c d h o e k = record { comes = λ ss. h.comes ss ∙ o.opens ss ∙ ap (λ r. through (r ++ ss) c.counts c.rest) e ∙ ap (λ r. through r c.counts c.rest) (append_assoc l (y ∷ []) ss) ∙ k.goes (y ∷ ss) }
+
+-- a symbol that does here what another does
+pub same_comes : (x y : Symbol) (a : State) → Here a → next a.counts x (head_of a.rest) ≡ next a.counts y (head_of a.rest) → Comes (x ∷ []) (y ∷ []) a a
+same_comes x y a h e = record { comes = λ ss. stands x ss a h ∙ ap (λ m. go_on (or_next m ss (settle ss a.counts (head_of a.rest))) a.counts (head_of a.rest) (tail_of a.rest) (λ d l. through l d (tail_of a.rest))) e ∙ sym (stands y ss a h) }
 
 -- what a move is with more symbols behind
 abbrev pub with_more : Move → List Symbol → Move
@@ -114,7 +122,7 @@ NoSkip (Past what) = Unit {0}
 NoSkip Outside = Unit {0}
 
 -- a symbol that begins with another
-pub begins : (x y : Symbol) (more : List Symbol) (a : State) → a.rest ≡ head_of a.rest ∷ tail_of a.rest → NoSkip (next a.counts y (head_of a.rest)) → next a.counts x (head_of a.rest) ≡ with_more (next a.counts y (head_of a.rest)) more → Comes (x ∷ []) (y ∷ more) a a
+pub begins : (x y : Symbol) (more : List Symbol) (a : State) → Here a → NoSkip (next a.counts y (head_of a.rest)) → next a.counts x (head_of a.rest) ≡ with_more (next a.counts y (head_of a.rest)) more → Comes (x ∷ []) (y ∷ more) a a
 begins x y more a h ok e = record {
   comes = λ ss.
       ap (through (x ∷ ss) a.counts) h ∙ ap (λ m. go_on (or_next m ss (settle ss a.counts (head_of a.rest))) a.counts (head_of a.rest) (tail_of a.rest) (λ d l. through l d (tail_of a.rest))) e
@@ -127,3 +135,8 @@ begins x y more a h ok e = record {
     by ss Wrong ok = refl
     by ss (Past what) ok = refl
     by ss Outside ok = refl
+
+-- what one who reads symbol after symbol knows
+pub ruleset in_order = (opened, open_only, open_leads, open_fails, skips, wrong, past, outside, lead_on, fail_on, fail_first, no_memory, shrinks, first_here)
+
+pub ruleset in_loop = (comes_self, comes_on, comes_leads, comes_fails, list_comes, more_comes)

@@ -25,7 +25,7 @@ fn at_end(reader: &Reader) -> bool
 }
 
 /// The statements up to the end.
-#[tactic(auto, using(crate::proofs::StmtSpelled::stmts_goes, crate::proofs::Sequences::in_order))]
+#[tactic(auto, using(crate::proofs::Whole::stmts_trees, crate::proofs::Steps::in_loop, crate::proofs::Steps::in_order))]
 fn stmts(alloc: Global, reader: &mut Reader) -> Result<Stmts, BookFault>
     ensures reads { Reads book_symbols reader.old reader.new result }
     ensures is { IfOk result (λ stmts. AreStmts reader.old.rest (map stmt_image stmts)) }
@@ -46,7 +46,7 @@ fn stmts(alloc: Global, reader: &mut Reader) -> Result<Stmts, BookFault>
 }
 
 /// The tree of a book, or the first fault of its text.
-#[tactic(auto, using(crate::proofs::StmtSpelled::book_read, crate::proofs::StmtSpelled::book_unread))]
+#[tactic(auto, using(crate::proofs::Whole::book_read, crate::proofs::Whole::book_unread))]
 pub fn parse_book(alloc: Global, text: &[u8]) -> Result<Book, BookFault>
     ensures { IsBookAnswer text.now result }
 {

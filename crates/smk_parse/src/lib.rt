@@ -4,6 +4,7 @@
 mod book;
 mod front;
 mod line;
+mod listed;
 mod lists;
 mod names;
 mod numbers;

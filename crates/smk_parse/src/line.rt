@@ -1,18 +1,19 @@
-ghost use Rattle.std.specs.Prelude.{◌≡◌, ◌∷◌, [], List, length, IsTrue, IfOk, IfErr, OnOk, Ok, Err};
+ghost use Rattle.std.specs.Prelude.{◌≡◌, ◌∷◌, [], List, length, refl, IsTrue, IfOk, IfErr, OnOk, Ok, Err};
 ghost use Rattle.smk_base.specs.declared.token.TokenKind.TheVariants as kinds;
 ghost use Rattle.smk_model.specs.Tokens.{Token, head_of, is_more};
-ghost use Rattle.smk_model.specs.Grammar.{First, IsColumn, IsLiteral, IsMark, AreListed, AreMarks, IsThen, IsLine, IsWholeLine};
+ghost use Rattle.smk_model.specs.Grammar.{First, IsColumn, IsLiteral, IsMark, AreMarks, IsThen, IsLine, IsWholeLine};
 ghost use Rattle.smk_model.specs.Machine.{ALine, ALineColumn, ALiteral, AMark, MoreMarks, AMarks, AThen, ACleared, AnEnd};
 ghost use Rattle.smk_parse.specs.Reads.{Reads, Shrinks};
 ghost use Rattle.smk_parse.specs.Answers.{IsLineAnswer};
 
+use crate::listed::{Member, listed};
 use crate::reader::Reader;
 use crate::taken::{expect, line_name, literal, quoted_in_hand, text_in_hand, wrong};
-use smk_base::{BookFault, Line, LineFault, Marks, Rids, Then, TokenKind, Word};
+use smk_base::{BookFault, Line, LineFault, Marks, Then, TokenKind, Word};
 use std::alloc::Global;
 
 /// A column of any length.
-#[tactic(auto, using(crate::proofs::LineSteps::line_column_goes, crate::proofs::Single::line_column_trees, crate::proofs::Sequences::in_order))]
+#[tactic(auto, using(crate::proofs::Trees::reading))]
 fn line_column(alloc: Global, reader: &mut Reader) -> Result<Word, BookFault>
     ensures reads { Reads (ALineColumn ∷ []) reader.old reader.new result }
     ensures is { IfOk result (λ word. IsColumn reader.old.rest reader.new.rest word) }
@@ -35,46 +36,38 @@ fn line_column(alloc: Global, reader: &mut Reader) -> Result<Word, BookFault>
 }
 
 /// A mark.
-#[tactic(auto, using(crate::proofs::LineSteps::mark_goes, crate::proofs::Spelled::mark_is, crate::proofs::Sequences::in_order))]
-fn mark(reader: &mut Reader) -> Result<u32, BookFault>
-    ensures reads { Reads (AMark ∷ []) reader.old reader.new result }
-    ensures is { IfOk result (λ mark. IsMark reader.old.rest reader.new.rest mark) }
-    ensures shrinks { Shrinks reader.old reader.new result }
-{
-    let at = reader.at();
-    match reader.kind() {
-        TokenKind::Number => {
-            let value = reader.int();
-            if value < 0 || value >= 4_294_967_296 {
-                return Err(BookFault::BadNumber { at });
-            }
-            reader.advance();
-            Ok(value as u32)
-        }
-        _ => Err(wrong(reader)),
-    }
-}
+struct MarkMember;
 
-/// One or more marks.
-#[tactic(auto, using(crate::proofs::LineSteps::listed_marks_goes, crate::proofs::Listing::list_trees, crate::proofs::Sequences::in_order))]
-fn listed_marks(alloc: Global, reader: &mut Reader) -> Result<Rids, BookFault>
-    ensures reads { Reads (AMark ∷ MoreMarks ∷ []) reader.old reader.new result }
-    ensures is { IfOk result (λ marks. AreListed IsMark reader.old.rest reader.new.rest marks) }
-    ensures shrinks { Shrinks reader.old reader.new result }
-{
-    let mut marks = Rids::new(alloc);
-    let first = mark(reader)?;
-    marks.push(first)?;
-    'commas: while let TokenKind::Comma = reader.kind() {
-        reader.advance();
-        let next = mark(reader)?;
-        marks.push(next)?;
+impl Member for MarkMember {
+    type Tree = u32;
+
+    ghost one = { λ n. AMark ∷ [] };
+
+    ghost more = { λ n. MoreMarks };
+
+    ghost spells = { IsMark };
+
+    ghost goes_on = { λ n c t. refl };
+
+    #[tactic(auto, using(crate::proofs::Trees::reading))]
+    fn read(_alloc: Global, reader: &mut Reader, _before: usize) -> Result<u32, BookFault> {
+        let at = reader.at();
+        match reader.kind() {
+            TokenKind::Number => {
+                let value = reader.int();
+                if value < 0 || value >= 4_294_967_296 {
+                    return Err(BookFault::BadNumber { at });
+                }
+                reader.advance();
+                Ok(value as u32)
+            }
+            _ => Err(wrong(reader)),
+        }
     }
-    Ok(marks)
 }
 
 /// The marks of a line.
-#[tactic(auto, using(crate::proofs::LineSteps::marks_goes, crate::proofs::Spelled::marks_trees, crate::proofs::Sequences::in_order))]
+#[tactic(auto, using(crate::proofs::Trees::reading, crate::proofs::Begins::begun))]
 fn marks(alloc: Global, reader: &mut Reader) -> Result<Marks, BookFault>
     ensures reads { Reads (AMarks ∷ []) reader.old reader.new result }
     ensures is { IfOk result (λ marks. AreMarks reader.old.rest reader.new.rest marks) }
@@ -86,14 +79,14 @@ fn marks(alloc: Global, reader: &mut Reader) -> Result<Marks, BookFault>
             Ok(Marks::All)
         }
         _ => {
-            let marks = listed_marks(alloc, reader)?;
+            let marks = listed::<MarkMember>(alloc, reader)?;
             Ok(Marks::Listed(marks))
         }
     }
 }
 
 /// What a `back` line asks for besides the rows.
-#[tactic(auto, using(crate::proofs::LineSteps::then_goes, crate::proofs::Spelled::then_trees, crate::proofs::Sequences::in_order))]
+#[tactic(auto, using(crate::proofs::Trees::reading))]
 fn then(alloc: Global, reader: &mut Reader) -> Result<Then, BookFault>
     ensures reads { Reads (AThen ∷ []) reader.old reader.new result }
     ensures is { IfOk result (λ then. IsThen reader.old.rest reader.new.rest then) }
@@ -117,7 +110,7 @@ fn then(alloc: Global, reader: &mut Reader) -> Result<Then, BookFault>
     }
 }
 
-#[tactic(auto, using(crate::proofs::LineSteps::show_opens, crate::proofs::Spelled::show_is, crate::proofs::Sequences::in_order))]
+#[tactic(auto, using(crate::proofs::Trees::reading))]
 fn show_line(alloc: Global, reader: &mut Reader) -> Result<Line, BookFault>
     requires { (head_of reader.old.rest).kind ≡ kinds.Show }
     ensures reads { Reads (ALine ∷ []) reader.old reader.new result }
@@ -128,7 +121,7 @@ fn show_line(alloc: Global, reader: &mut Reader) -> Result<Line, BookFault>
     Ok(Line::Show { view: view.name })
 }
 
-#[tactic(auto, using(crate::proofs::LineSteps::back_opens, crate::proofs::Spelled::back_is, crate::proofs::Sequences::in_order))]
+#[tactic(auto, using(crate::proofs::Trees::reading))]
 fn back_line(alloc: Global, reader: &mut Reader) -> Result<Line, BookFault>
     requires { (head_of reader.old.rest).kind ≡ kinds.Back }
     ensures reads { Reads (ALine ∷ []) reader.old reader.new result }
@@ -148,7 +141,7 @@ fn back_line(alloc: Global, reader: &mut Reader) -> Result<Line, BookFault>
     })
 }
 
-#[tactic(auto, using(crate::proofs::LineSteps::fwd_opens, crate::proofs::Spelled::fwd_is, crate::proofs::Sequences::in_order))]
+#[tactic(auto, using(crate::proofs::Trees::reading))]
 fn fwd_line(alloc: Global, reader: &mut Reader) -> Result<Line, BookFault>
     requires { (head_of reader.old.rest).kind ≡ kinds.Fwd }
     ensures reads { Reads (ALine ∷ []) reader.old reader.new result }
@@ -166,7 +159,7 @@ fn fwd_line(alloc: Global, reader: &mut Reader) -> Result<Line, BookFault>
     })
 }
 
-#[tactic(auto, using(crate::proofs::LineSteps::brush_opens, crate::proofs::Spelled::brush_is, crate::proofs::Sequences::in_order))]
+#[tactic(auto, using(crate::proofs::Trees::reading))]
 fn brush_line(alloc: Global, reader: &mut Reader) -> Result<Line, BookFault>
     requires { (head_of reader.old.rest).kind ≡ kinds.Brush }
     ensures reads { Reads (ALine ∷ []) reader.old reader.new result }
@@ -185,7 +178,7 @@ fn brush_line(alloc: Global, reader: &mut Reader) -> Result<Line, BookFault>
 }
 
 /// What a `clear` line clears: every brush, or the one of a view on a table.
-#[tactic(auto, using(crate::proofs::LineSteps::cleared_goes, crate::proofs::Spelled::cleared_trees, crate::proofs::Sequences::in_order))]
+#[tactic(auto, using(crate::proofs::Trees::reading))]
 fn cleared(alloc: Global, reader: &mut Reader) -> Result<Line, BookFault>
     ensures reads { Reads (ACleared ∷ []) reader.old reader.new result }
     ensures is { IfOk result (λ line. (a : List Token) → (t : Token) → First kinds.Clear t a reader.old.rest → IsLine a reader.new.rest line) }
@@ -205,7 +198,7 @@ fn cleared(alloc: Global, reader: &mut Reader) -> Result<Line, BookFault>
     }
 }
 
-#[tactic(auto, using(crate::proofs::LineSteps::line_fails, crate::proofs::LineSteps::clear_opens, crate::proofs::Sequences::in_order))]
+#[tactic(auto, using(crate::proofs::Trees::reading))]
 fn line(alloc: Global, reader: &mut Reader) -> Result<Line, BookFault>
     ensures reads { Reads (ALine ∷ []) reader.old reader.new result }
     ensures is { IfOk result (λ line. IsLine reader.old.rest reader.new.rest line) }
@@ -224,7 +217,7 @@ fn line(alloc: Global, reader: &mut Reader) -> Result<Line, BookFault>
 }
 
 /// A line up to its end.
-#[tactic(auto, using(crate::proofs::LineSteps::whole_line_goes, crate::proofs::Spelled::whole_is, crate::proofs::Sequences::in_order))]
+#[tactic(auto, using(crate::proofs::Trees::reading))]
 fn whole_line(alloc: Global, reader: &mut Reader) -> Result<Line, BookFault>
     ensures reads { Reads (ALine ∷ AnEnd ∷ []) reader.old reader.new result }
     ensures is { IfOk result (λ line. IsWholeLine reader.old.rest line) }
@@ -237,7 +230,7 @@ fn whole_line(alloc: Global, reader: &mut Reader) -> Result<Line, BookFault>
 }
 
 /// The line of a script as a tree: None where it has no token, and the place of its first fault where it isn't a line.
-#[tactic(auto, using(crate::proofs::Spelled::line_answers))]
+#[tactic(auto, using(crate::proofs::Whole::line_answers))]
 pub fn parse_line(alloc: Global, line: &[u8]) -> Result<Option<Line>, LineFault>
     ensures { IsLineAnswer line.now result }
 {

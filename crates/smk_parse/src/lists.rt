@@ -1,23 +1,24 @@
-ghost use Rattle.std.specs.Prelude.{◌≡◌, ◌∷◌, ◌+◌, ◌<◌, ◌≤◌, [], length, pos, ◌≤ℤ◌, IfOk, OnOk};
+ghost use Rattle.std.specs.Prelude.{◌≡◌, ◌∷◌, ◌<◌, ◌≤◌, [], length, pos, ◌≤ℤ◌, refl, IfOk, OnOk};
 ghost use Rattle.smk_base.specs.declared.tree.ItemTree.TheVariants as items;
 ghost use Rattle.smk_base.specs.declared.token.TokenKind.TheVariants as kinds;
 ghost use Rattle.smk_model.specs.Tokens.{head_of};
-ghost use Rattle.smk_model.specs.Grammar.{IsName, IsColumn, IsType, IsDefault, IsDecl, IsNamed, IsWidth, IsItem, IsWhat, IsAgg, IsPair, AreKeys, AreAggs, AreListed};
+ghost use Rattle.smk_model.specs.Grammar.{IsName, IsColumn, IsType, IsDefault, IsDecl, IsNamed, IsWidth, IsItem, IsWhat, IsAgg, IsPair, AreKeys, AreAggs};
 ghost use Rattle.smk_model.specs.Machine.{AToken, AColumn, AFirst, AType, ADefault, AnAs, AWidth, AnItem, AWhat, AKeys, AnAggs, ALinked, MoreDecls, MoreItems, MoreKeys, MoreAggs, MorePairs, MoreLinked};
 ghost use Rattle.smk_parse.specs.Reads.{Reads, Shrinks};
 ghost use Rattle.smk_parse.specs.Groupings.{IsGrouping};
 
+use crate::listed::{Member, listed};
 use crate::names::{column, first_column, is_column, linked};
 use crate::reader::Reader;
-use crate::taken::{expect, literal, wrong};
+use crate::taken::{expect, literal, within, wrong};
 use smk_base::{
-    AggTree, AggTrees, AggWhat, BookFault, Decl, Decls, ItemTree, ItemTrees, Lit, Many, PairTree,
-    PairTrees, TokenKind, Word, Words,
+    AggTree, AggTrees, AggWhat, BookFault, Decl, ItemTree, Lit, Many, PairTree, TokenKind, Word,
+    Words,
 };
 use std::alloc::Global;
 
 /// Whether a declared column is a text.
-#[tactic(auto, using(crate::proofs::BookSteps::is_text_goes, crate::proofs::BookSpelled::is_text_trees, crate::proofs::Sequences::in_order))]
+#[tactic(auto, using(crate::proofs::Trees::reading))]
 fn is_text(reader: &mut Reader) -> Result<bool, BookFault>
     ensures reads { Reads (AType ∷ []) reader.old reader.new result }
     ensures is { IfOk result (λ text. IsType reader.old.rest reader.new.rest text) }
@@ -37,7 +38,7 @@ fn is_text(reader: &mut Reader) -> Result<bool, BookFault>
 }
 
 /// The default of a declared column.
-#[tactic(auto, using(crate::proofs::BookSteps::default_goes, crate::proofs::BookSpelled::default_trees, crate::proofs::Sequences::in_order))]
+#[tactic(auto, using(crate::proofs::Trees::reading))]
 fn default(alloc: Global, reader: &mut Reader) -> Result<Option<Lit>, BookFault>
     ensures reads { Reads (ADefault ∷ []) reader.old reader.new result }
     ensures is { IfOk result (λ lit. IsDefault reader.old.rest reader.new.rest lit) }
@@ -53,22 +54,31 @@ fn default(alloc: Global, reader: &mut Reader) -> Result<Option<Lit>, BookFault>
     }
 }
 
-/// A declared column, of which so many stand before.
-#[tactic(auto, using(crate::proofs::BookSpelled::decl_is, crate::proofs::Sequences::in_order))]
-fn decl(alloc: Global, reader: &mut Reader, before: u32) -> Result<Decl, BookFault>
-    ensures reads { Reads (AFirst before ∷ AType ∷ ADefault ∷ []) reader.old reader.new result }
-    ensures is { IfOk result (λ decl. IsDecl reader.old.rest reader.new.rest decl) }
-    ensures shrinks { Shrinks reader.old reader.new result }
-    ensures few { OnOk result (before < 16) }
-{
-    let name = first_column(alloc, reader, before)?;
-    let text = is_text(reader)?;
-    let def = default(alloc, reader)?;
-    Ok(Decl { name, text, def })
+/// A declared column.
+pub struct DeclMember;
+
+impl Member for DeclMember {
+    type Tree = Decl;
+
+    ghost one = { λ n. AFirst n ∷ AType ∷ ADefault ∷ [] };
+
+    ghost more = { MoreDecls };
+
+    ghost spells = { IsDecl };
+
+    ghost goes_on = { λ n c t. refl };
+
+    #[tactic(auto, using(crate::proofs::Trees::reading))]
+    fn read(alloc: Global, reader: &mut Reader, before: usize) -> Result<Decl, BookFault> {
+        let name = first_column(alloc, reader, before)?;
+        let text = is_text(reader)?;
+        let def = default(alloc, reader)?;
+        Ok(Decl { name, text, def })
+    }
 }
 
 /// The output name of a column: its own, unless `as` gives another.
-#[tactic(auto, using(crate::proofs::BookSteps::named_goes, crate::proofs::BookSpelled::named_trees, crate::proofs::Sequences::in_order))]
+#[tactic(auto, using(crate::proofs::Trees::reading))]
 fn named(alloc: Global, reader: &mut Reader, col: &Word) -> Result<Word, BookFault>
     ensures reads { Reads (AnAs ∷ []) reader.old reader.new result }
     ensures is { IfOk result (λ name. IsNamed col.now reader.old.rest reader.new.rest name) }
@@ -103,7 +113,7 @@ fn bin(col: Word, width: i64, name: Word) -> ItemTree
 }
 
 /// The second part of `bin`.
-#[tactic(auto, using(crate::proofs::BookSteps::width_goes, crate::proofs::BookSpelled::width_is, crate::proofs::Sequences::in_order))]
+#[tactic(auto, using(crate::proofs::Trees::reading))]
 fn width(reader: &mut Reader) -> Result<i64, BookFault>
     ensures reads { Reads (AWidth ∷ []) reader.old reader.new result }
     ensures is { IfOk result (λ width. IsWidth reader.old.rest reader.new.rest width) }
@@ -126,21 +136,15 @@ fn width(reader: &mut Reader) -> Result<i64, BookFault>
     }
 }
 
-#[tactic(auto, using(crate::proofs::BookSteps::bin_item_goes, crate::proofs::BookSpelled::bin_item_is, crate::proofs::Sequences::in_order))]
-fn bin_item(alloc: Global, reader: &mut Reader, before: u32) -> Result<ItemTree, BookFault>
+#[tactic(auto, using(crate::proofs::Trees::reading))]
+fn bin_item(alloc: Global, reader: &mut Reader, before: usize) -> Result<ItemTree, BookFault>
     requires { (head_of reader.old.rest).kind ≡ kinds.Bin }
     ensures reads { Reads (AnItem before ∷ []) reader.old reader.new result }
     ensures is { IfOk result (λ item. IsItem reader.old.rest reader.new.rest item) }
     ensures shrinks { Shrinks reader.old reader.new result }
-    ensures few { OnOk result (before < 16) }
 {
     let at = reader.at();
-    if before >= 16 {
-        return Err(BookFault::TooMany {
-            at,
-            what: Many::Columns,
-        });
-    }
+    within(reader, before < 16, Many::Columns)?;
     let _kind = reader.kind();
     reader.advance();
     let _ = expect(reader, TokenKind::Open)?;
@@ -153,34 +157,42 @@ fn bin_item(alloc: Global, reader: &mut Reader, before: u32) -> Result<ItemTree,
     Ok(bin(col, width, name))
 }
 
-#[tactic(auto, using(crate::proofs::BookSpelled::column_item_is, crate::proofs::Sequences::in_order))]
-fn column_item(alloc: Global, reader: &mut Reader, before: u32) -> Result<ItemTree, BookFault>
+#[tactic(auto, using(crate::proofs::Trees::reading))]
+fn column_item(alloc: Global, reader: &mut Reader, before: usize) -> Result<ItemTree, BookFault>
     ensures reads { Reads (AFirst before ∷ AnAs ∷ []) reader.old reader.new result }
     ensures is { IfOk result (λ item. IsItem reader.old.rest reader.new.rest item) }
     ensures shrinks { Shrinks reader.old reader.new result }
-    ensures few { OnOk result (before < 16) }
 {
     let col = first_column(alloc, reader, before)?;
     let name = named(alloc, reader, &col)?;
     Ok(ItemTree::Col { col, name })
 }
 
-/// An output column, of which so many stand before.
-#[tactic(auto, using(crate::proofs::BookSteps::item_begin_leads, crate::proofs::BookSteps::item_begin_fails))]
-fn item(alloc: Global, reader: &mut Reader, before: u32) -> Result<ItemTree, BookFault>
-    ensures reads { Reads (AnItem before ∷ []) reader.old reader.new result }
-    ensures is { IfOk result (λ item. IsItem reader.old.rest reader.new.rest item) }
-    ensures shrinks { Shrinks reader.old reader.new result }
-    ensures few { OnOk result (before < 16) }
-{
-    match reader.kind() {
-        TokenKind::Bin => bin_item(alloc, reader, before),
-        _ => column_item(alloc, reader, before),
+/// An output column.
+pub struct ItemMember;
+
+impl Member for ItemMember {
+    type Tree = ItemTree;
+
+    ghost one = { λ n. AnItem n ∷ [] };
+
+    ghost more = { MoreItems };
+
+    ghost spells = { IsItem };
+
+    ghost goes_on = { λ n c t. refl };
+
+    #[tactic(auto, using(crate::proofs::Begins::begun))]
+    fn read(alloc: Global, reader: &mut Reader, before: usize) -> Result<ItemTree, BookFault> {
+        match reader.kind() {
+            TokenKind::Bin => bin_item(alloc, reader, before),
+            _ => column_item(alloc, reader, before),
+        }
     }
 }
 
 /// What an aggregate computes.
-#[tactic(auto, using(crate::proofs::BookSteps::what_goes, crate::proofs::BookSpelled::what_trees, crate::proofs::Sequences::in_order))]
+#[tactic(auto, using(crate::proofs::Trees::reading))]
 fn what(alloc: Global, reader: &mut Reader) -> Result<AggWhat, BookFault>
     ensures reads { Reads (AWhat ∷ []) reader.old reader.new result }
     ensures is { IfOk result (λ what. IsWhat reader.old.rest reader.new.rest what) }
@@ -207,169 +219,105 @@ fn what(alloc: Global, reader: &mut Reader) -> Result<AggWhat, BookFault>
     }
 }
 
-/// An aggregate, of which so many stand before.
-#[tactic(auto, using(crate::proofs::BookSpelled::agg_is, crate::proofs::Sequences::in_order))]
-fn agg(alloc: Global, reader: &mut Reader, before: u32) -> Result<AggTree, BookFault>
-    ensures reads { Reads (AFirst before ∷ AToken kinds.Equal ∷ AWhat ∷ []) reader.old reader.new result }
-    ensures is { IfOk result (λ agg. IsAgg reader.old.rest reader.new.rest agg) }
-    ensures shrinks { Shrinks reader.old reader.new result }
-    ensures few { OnOk result (before < 16) }
-{
-    let name = first_column(alloc, reader, before)?;
-    let _ = expect(reader, TokenKind::Equal)?;
-    let what = what(alloc, reader)?;
-    Ok(AggTree { name, what })
-}
+/// An aggregate.
+pub struct AggMember;
 
-/// A pair of a join, of which so many stand before.
-#[tactic(auto, using(crate::proofs::BookSpelled::pair_is, crate::proofs::Sequences::in_order))]
-fn pair(alloc: Global, reader: &mut Reader, before: u32) -> Result<PairTree, BookFault>
-    ensures reads { Reads (AFirst before ∷ AToken kinds.Equal ∷ AColumn ∷ []) reader.old reader.new result }
-    ensures is { IfOk result (λ pair. IsPair reader.old.rest reader.new.rest pair) }
-    ensures shrinks { Shrinks reader.old reader.new result }
-    ensures few { OnOk result (before < 16) }
-{
-    let left = first_column(alloc, reader, before)?;
-    let _ = expect(reader, TokenKind::Equal)?;
-    let right = column(alloc, reader)?;
-    Ok(PairTree { left, right })
-}
+impl Member for AggMember {
+    type Tree = AggTree;
 
-/// One or more declared columns.
-#[tactic(auto, using(crate::proofs::BookSteps::listed_decls_goes, crate::proofs::Listing::list_trees, crate::proofs::Sequences::in_order))]
-pub fn listed_decls(alloc: Global, reader: &mut Reader) -> Result<Decls, BookFault>
-    ensures reads { Reads (AFirst 0 ∷ AType ∷ ADefault ∷ MoreDecls 1 ∷ []) reader.old reader.new result }
-    ensures is { IfOk result (λ list. AreListed IsDecl reader.old.rest reader.new.rest list) }
-    ensures shrinks { Shrinks reader.old reader.new result }
-{
-    let mut list = Decls::new(alloc);
-    let first = decl(alloc, reader, 0)?;
-    list.push(first)?;
-    let mut before: u32 = 1;
-    'commas: while let TokenKind::Comma = reader.kind() {
-        reader.advance();
-        let next = decl(alloc, reader, before)?;
-        list.push(next)?;
-        before += 1;
+    ghost one = { λ n. AFirst n ∷ AToken kinds.Equal ∷ AWhat ∷ [] };
+
+    ghost more = { MoreAggs };
+
+    ghost spells = { IsAgg };
+
+    ghost goes_on = { λ n c t. refl };
+
+    #[tactic(auto, using(crate::proofs::Trees::reading))]
+    fn read(alloc: Global, reader: &mut Reader, before: usize) -> Result<AggTree, BookFault> {
+        let name = first_column(alloc, reader, before)?;
+        let _ = expect(reader, TokenKind::Equal)?;
+        let what = what(alloc, reader)?;
+        Ok(AggTree { name, what })
     }
-    Ok(list)
 }
 
-/// One or more output columns.
-#[tactic(auto, using(crate::proofs::BookSteps::listed_items_goes, crate::proofs::Listing::list_trees, crate::proofs::Sequences::in_order))]
-pub fn listed_items(alloc: Global, reader: &mut Reader) -> Result<ItemTrees, BookFault>
-    ensures reads { Reads (AnItem 0 ∷ MoreItems 1 ∷ []) reader.old reader.new result }
-    ensures is { IfOk result (λ list. AreListed IsItem reader.old.rest reader.new.rest list) }
-    ensures shrinks { Shrinks reader.old reader.new result }
-{
-    let mut list = ItemTrees::new(alloc);
-    let first = item(alloc, reader, 0)?;
-    list.push(first)?;
-    let mut before: u32 = 1;
-    'commas: while let TokenKind::Comma = reader.kind() {
-        reader.advance();
-        let next = item(alloc, reader, before)?;
-        list.push(next)?;
-        before += 1;
+/// A pair of a join.
+pub struct PairMember;
+
+impl Member for PairMember {
+    type Tree = PairTree;
+
+    ghost one = { λ n. AFirst n ∷ AToken kinds.Equal ∷ AColumn ∷ [] };
+
+    ghost more = { MorePairs };
+
+    ghost spells = { IsPair };
+
+    ghost goes_on = { λ n c t. refl };
+
+    #[tactic(auto, using(crate::proofs::Trees::reading))]
+    fn read(alloc: Global, reader: &mut Reader, before: usize) -> Result<PairTree, BookFault> {
+        let left = first_column(alloc, reader, before)?;
+        let _ = expect(reader, TokenKind::Equal)?;
+        let right = column(alloc, reader)?;
+        Ok(PairTree { left, right })
     }
-    Ok(list)
 }
 
-/// One or more keys.
-#[tactic(auto, using(crate::proofs::BookSteps::listed_keys_goes, crate::proofs::Listing::list_trees, crate::proofs::Sequences::in_order))]
-pub fn listed_keys(alloc: Global, reader: &mut Reader) -> Result<Words, BookFault>
-    ensures reads { Reads (AFirst 0 ∷ MoreKeys 1 ∷ []) reader.old reader.new result }
-    ensures is { IfOk result (λ list. AreListed IsColumn reader.old.rest reader.new.rest list) }
-    ensures shrinks { Shrinks reader.old reader.new result }
-{
-    let mut list = Words::new(alloc);
-    let first = first_column(alloc, reader, 0)?;
-    list.push(first)?;
-    let mut before: u32 = 1;
-    'commas: while let TokenKind::Comma = reader.kind() {
-        reader.advance();
-        let next = first_column(alloc, reader, before)?;
-        list.push(next)?;
-        before += 1;
+/// A key of a grouping.
+pub struct KeyMember;
+
+impl Member for KeyMember {
+    type Tree = Word;
+
+    ghost one = { λ n. AFirst n ∷ [] };
+
+    ghost more = { MoreKeys };
+
+    ghost spells = { IsColumn };
+
+    ghost goes_on = { λ n c t. refl };
+
+    fn read(alloc: Global, reader: &mut Reader, before: usize) -> Result<Word, BookFault> {
+        first_column(alloc, reader, before)
     }
-    Ok(list)
 }
 
-/// One or more aggregates.
-#[tactic(auto, using(crate::proofs::BookSteps::listed_aggs_goes, crate::proofs::Listing::list_trees, crate::proofs::Sequences::in_order))]
-pub fn listed_aggs(alloc: Global, reader: &mut Reader) -> Result<AggTrees, BookFault>
-    ensures reads { Reads (AFirst 0 ∷ AToken kinds.Equal ∷ AWhat ∷ MoreAggs 1 ∷ []) reader.old reader.new result }
-    ensures is { IfOk result (λ list. AreListed IsAgg reader.old.rest reader.new.rest list) }
-    ensures shrinks { Shrinks reader.old reader.new result }
-{
-    let mut list = AggTrees::new(alloc);
-    let first = agg(alloc, reader, 0)?;
-    list.push(first)?;
-    let mut before: u32 = 1;
-    'commas: while let TokenKind::Comma = reader.kind() {
-        reader.advance();
-        let next = agg(alloc, reader, before)?;
-        list.push(next)?;
-        before += 1;
-    }
-    Ok(list)
-}
+/// A linked view.
+pub struct LinkedMember;
 
-/// One or more pairs.
-#[tactic(auto, using(crate::proofs::BookSteps::listed_pairs_goes, crate::proofs::Listing::list_trees, crate::proofs::Sequences::in_order))]
-pub fn listed_pairs(alloc: Global, reader: &mut Reader) -> Result<PairTrees, BookFault>
-    ensures reads { Reads (AFirst 0 ∷ AToken kinds.Equal ∷ AColumn ∷ MorePairs 1 ∷ []) reader.old reader.new result }
-    ensures is { IfOk result (λ list. AreListed IsPair reader.old.rest reader.new.rest list) }
-    ensures shrinks { Shrinks reader.old reader.new result }
-{
-    let mut list = PairTrees::new(alloc);
-    let first = pair(alloc, reader, 0)?;
-    list.push(first)?;
-    let mut before: u32 = 1;
-    'commas: while let TokenKind::Comma = reader.kind() {
-        reader.advance();
-        let next = pair(alloc, reader, before)?;
-        list.push(next)?;
-        before += 1;
-    }
-    Ok(list)
-}
+impl Member for LinkedMember {
+    type Tree = Word;
 
-/// One or more linked views.
-#[tactic(auto, using(crate::proofs::BookSteps::listed_linked_goes, crate::proofs::Listing::list_trees, crate::proofs::Sequences::in_order))]
-pub fn listed_linked(alloc: Global, reader: &mut Reader) -> Result<Words, BookFault>
-    ensures reads { Reads (ALinked 0 ∷ MoreLinked 1 ∷ []) reader.old reader.new result }
-    ensures is { IfOk result (λ list. AreListed IsName reader.old.rest reader.new.rest list) }
-    ensures shrinks { Shrinks reader.old reader.new result }
-{
-    let mut list = Words::new(alloc);
-    let first = linked(alloc, reader, 0)?;
-    list.push(first)?;
-    let mut before: u32 = 1;
-    'commas: while let TokenKind::Comma = reader.kind() {
-        reader.advance();
-        let next = linked(alloc, reader, before)?;
-        list.push(next)?;
-        before += 1;
+    ghost one = { λ n. ALinked n ∷ [] };
+
+    ghost more = { MoreLinked };
+
+    ghost spells = { IsName };
+
+    ghost goes_on = { λ n c t. refl };
+
+    fn read(alloc: Global, reader: &mut Reader, before: usize) -> Result<Word, BookFault> {
+        linked(alloc, reader, before)
     }
-    Ok(list)
 }
 
 /// The keys of a grouping.
-#[tactic(auto, using(crate::proofs::BookSteps::keys_goes, crate::proofs::BookSpelled::keys_trees))]
+#[tactic(auto, using(crate::proofs::Trees::reading, crate::proofs::Begins::begun))]
 fn keys(alloc: Global, reader: &mut Reader) -> Result<Words, BookFault>
     ensures reads { Reads (AKeys ∷ []) reader.old reader.new result }
     ensures is { IfOk result (λ list. AreKeys reader.old.rest reader.new.rest list) }
     ensures shrinks { OnOk result (length reader.new.rest ≤ length reader.old.rest) }
 {
     if is_column(reader.kind()) {
-        return listed_keys(alloc, reader);
+        return listed::<KeyMember>(alloc, reader);
     }
     Ok(Words::new(alloc))
 }
 
 /// The aggregates of a grouping.
-#[tactic(auto, using(crate::proofs::BookSteps::aggs_goes, crate::proofs::BookSpelled::aggs_trees, crate::proofs::Sequences::in_order))]
+#[tactic(auto, using(crate::proofs::Trees::reading))]
 fn aggs(alloc: Global, reader: &mut Reader) -> Result<AggTrees, BookFault>
     ensures reads { Reads (AnAggs ∷ []) reader.old reader.new result }
     ensures is { IfOk result (λ list. AreAggs reader.old.rest reader.new.rest list) }
@@ -378,7 +326,7 @@ fn aggs(alloc: Global, reader: &mut Reader) -> Result<AggTrees, BookFault>
     match reader.kind() {
         TokenKind::OpenBrace => {
             reader.advance();
-            let list = listed_aggs(alloc, reader)?;
+            let list = listed::<AggMember>(alloc, reader)?;
             let _ = expect(reader, TokenKind::CloseBrace)?;
             Ok(list)
         }
@@ -387,7 +335,7 @@ fn aggs(alloc: Global, reader: &mut Reader) -> Result<AggTrees, BookFault>
 }
 
 /// The keys and the aggregates of a grouping.
-#[tactic(auto, using(crate::proofs::PlanSpelled::grouping_is, crate::proofs::Sequences::in_order))]
+#[tactic(auto, using(crate::proofs::Trees::reading))]
 pub fn grouping(alloc: Global, reader: &mut Reader) -> Result<(Words, AggTrees), BookFault>
     ensures reads { Reads (AKeys ∷ AnAggs ∷ []) reader.old reader.new result }
     ensures is { IfOk result (λ both. IsGrouping reader.old.rest reader.new.rest both.0 both.1) }

@@ -1,4 +1,4 @@
-ghost use Rattle.std.specs.Prelude.{◌≡◌, ◌∷◌, ◌<◌, [], IfOk, IfErr, OnOk};
+ghost use Rattle.std.specs.Prelude.{◌≡◌, ◌∷◌, ◌<◌, [], IfOk, IfErr};
 ghost use Rattle.smk_base.specs.declared.fault.BookFault.TheVariants.{NoMemory};
 ghost use Rattle.smk_model.specs.Tokens.{head_of};
 ghost use Rattle.smk_model.specs.Grammar.{IsName, IsColumn};
@@ -7,7 +7,7 @@ ghost use Rattle.smk_parse.specs.Columns.{is_column, column_word};
 ghost use Rattle.smk_parse.specs.Reads.{Reads, Shrinks};
 
 use crate::reader::Reader;
-use crate::taken::{quoted_in_hand, text_in_hand, wrong};
+use crate::taken::{quoted_in_hand, text_in_hand, within, wrong};
 use smk_base::{BookFault, Many, TokenKind, Word};
 use std::alloc::Global;
 
@@ -22,7 +22,7 @@ pub fn is_column(kind: TokenKind) -> bool
 }
 
 /// Whether the name in hand has at most 64 bytes.
-#[tactic(auto, using(crate::proofs::BookSpelled::short_plain, crate::proofs::BookSpelled::short_quoted))]
+#[tactic(auto, using(crate::proofs::Trees::short_plain, crate::proofs::Trees::short_quoted))]
 pub fn is_short(reader: &Reader) -> bool
     ensures { result ≡ is_short (head_of reader.now.rest) }
 {
@@ -34,7 +34,7 @@ pub fn is_short(reader: &Reader) -> bool
 }
 
 /// A name of at most 64 bytes.
-#[tactic(auto, using(crate::proofs::BookSteps::name_goes, crate::proofs::Single::name_is, crate::proofs::Sequences::in_order))]
+#[tactic(auto, using(crate::proofs::Trees::reading))]
 pub fn name(alloc: Global, reader: &mut Reader) -> Result<Word, BookFault>
     ensures reads { Reads (AName ∷ []) reader.old reader.new result }
     ensures is { IfOk result (λ word. IsName reader.old.rest reader.new.rest word) }
@@ -43,12 +43,7 @@ pub fn name(alloc: Global, reader: &mut Reader) -> Result<Word, BookFault>
     let at = reader.at();
     match reader.kind() {
         TokenKind::Name => {
-            if !is_short(reader) {
-                return Err(BookFault::TooMany {
-                    at,
-                    what: Many::NameBytes,
-                });
-            }
+            within(reader, is_short(reader), Many::NameBytes)?;
             let name = text_in_hand(alloc, reader)?;
             reader.advance();
             Ok(Word { name, at })
@@ -58,7 +53,7 @@ pub fn name(alloc: Global, reader: &mut Reader) -> Result<Word, BookFault>
 }
 
 /// The word of the column in hand.
-#[tactic(auto, using(crate::proofs::BookSpelled::plain_column, crate::proofs::BookSpelled::quoted_column))]
+#[tactic(auto, using(crate::proofs::Trees::plain_column, crate::proofs::Trees::quoted_column))]
 pub fn column_in_hand(alloc: Global, reader: &Reader) -> Result<Word, BookFault>
     ensures ok { IfOk result (λ word. word ≡ column_word (head_of reader.now.rest)) }
     ensures memory { IfErr result (λ fault. fault ≡ NoMemory) }
@@ -77,7 +72,7 @@ pub fn column_in_hand(alloc: Global, reader: &Reader) -> Result<Word, BookFault>
 }
 
 /// A column of at most 64 bytes.
-#[tactic(auto, using(crate::proofs::BookSteps::column_goes, crate::proofs::BookSpelled::column_is, crate::proofs::Sequences::in_order))]
+#[tactic(auto, using(crate::proofs::Trees::reading))]
 pub fn column(alloc: Global, reader: &mut Reader) -> Result<Word, BookFault>
     ensures reads { Reads (AColumn ∷ []) reader.old reader.new result }
     ensures is { IfOk result (λ word. IsColumn reader.old.rest reader.new.rest word) }
@@ -87,69 +82,42 @@ pub fn column(alloc: Global, reader: &mut Reader) -> Result<Word, BookFault>
     if !is_column(reader.kind()) {
         return Err(wrong(reader));
     }
-    if !is_short(reader) {
-        return Err(BookFault::TooMany {
-            at,
-            what: Many::NameBytes,
-        });
-    }
+    within(reader, is_short(reader), Many::NameBytes)?;
     let word = column_in_hand(alloc, reader)?;
     reader.advance();
     Ok(word)
 }
 
 /// The column that begins a member of a list, of which so many stand before.
-#[tactic(auto, using(crate::proofs::BookSteps::first_column_goes, crate::proofs::BookSpelled::column_is, crate::proofs::Sequences::in_order))]
-pub fn first_column(alloc: Global, reader: &mut Reader, before: u32) -> Result<Word, BookFault>
+#[tactic(auto, using(crate::proofs::Trees::reading))]
+pub fn first_column(alloc: Global, reader: &mut Reader, before: usize) -> Result<Word, BookFault>
     ensures reads { Reads (AFirst before ∷ []) reader.old reader.new result }
     ensures is { IfOk result (λ word. IsColumn reader.old.rest reader.new.rest word) }
     ensures shrinks { Shrinks reader.old reader.new result }
-    ensures few { OnOk result (before < 16) }
 {
     let at = reader.at();
     if !is_column(reader.kind()) {
         return Err(wrong(reader));
     }
-    if before >= 16 {
-        return Err(BookFault::TooMany {
-            at,
-            what: Many::Columns,
-        });
-    }
-    if !is_short(reader) {
-        return Err(BookFault::TooMany {
-            at,
-            what: Many::NameBytes,
-        });
-    }
+    within(reader, before < 16, Many::Columns)?;
+    within(reader, is_short(reader), Many::NameBytes)?;
     let word = column_in_hand(alloc, reader)?;
     reader.advance();
     Ok(word)
 }
 
 /// A linked view, of which so many stand before.
-#[tactic(auto, using(crate::proofs::BookSteps::linked_goes, crate::proofs::Single::name_is, crate::proofs::Sequences::in_order))]
-pub fn linked(alloc: Global, reader: &mut Reader, before: u32) -> Result<Word, BookFault>
+#[tactic(auto, using(crate::proofs::Trees::reading))]
+pub fn linked(alloc: Global, reader: &mut Reader, before: usize) -> Result<Word, BookFault>
     ensures reads { Reads (ALinked before ∷ []) reader.old reader.new result }
     ensures is { IfOk result (λ word. IsName reader.old.rest reader.new.rest word) }
     ensures shrinks { Shrinks reader.old reader.new result }
-    ensures few { OnOk result (before < 64) }
 {
     let at = reader.at();
     match reader.kind() {
         TokenKind::Name => {
-            if before >= 64 {
-                return Err(BookFault::TooMany {
-                    at,
-                    what: Many::Links,
-                });
-            }
-            if !is_short(reader) {
-                return Err(BookFault::TooMany {
-                    at,
-                    what: Many::NameBytes,
-                });
-            }
+            within(reader, before < 64, Many::Links)?;
+            within(reader, is_short(reader), Many::NameBytes)?;
             let name = text_in_hand(alloc, reader)?;
             reader.advance();
             Ok(Word { name, at })

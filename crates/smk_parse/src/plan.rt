@@ -10,11 +10,12 @@ ghost use Rattle.smk_parse.specs.Readers.{Advances};
 ghost use Rattle.smk_parse.specs.Reads.{Reads, Shrinks};
 ghost use Rattle.smk_parse.specs.Groupings.{IsUnited};
 
-use crate::lists::{grouping, listed_items, listed_pairs};
+use crate::listed::listed;
+use crate::lists::{ItemMember, PairMember, grouping};
 use crate::names::name;
 use crate::pred::{on, pred};
 use crate::reader::Reader;
-use crate::taken::{expect, wrong};
+use crate::taken::{expect, within, wrong};
 use smk_base::{BookFault, Many, StepTree, TokenKind, Tree};
 use std::alloc::Global;
 
@@ -30,18 +31,13 @@ fn take_node(reader: &mut Reader) -> Result<(), BookFault>
     let at = reader.at();
     let _kind = reader.kind();
     let nodes = reader.nodes();
-    if nodes >= 64 {
-        return Err(BookFault::TooMany {
-            at,
-            what: Many::Nodes,
-        });
-    }
+    within(reader, nodes < 64, Many::Nodes)?;
     reader.advance_to(nodes + 1, 0);
     Ok(())
 }
 
 /// A selection.
-#[tactic(auto, using(crate::proofs::BookSteps::step_goes, crate::proofs::PlanSpelled::where_is, crate::proofs::Sequences::in_order))]
+#[tactic(auto, using(crate::proofs::Trees::reading))]
 fn where_step(alloc: Global, reader: &mut Reader, depth: u32) -> Result<StepTree, BookFault>
     requires kind { (head_of reader.old.rest).kind ≡ kinds.Where }
     requires depth { depth ≤ 32 }
@@ -54,7 +50,7 @@ fn where_step(alloc: Global, reader: &mut Reader, depth: u32) -> Result<StepTree
 }
 
 /// A projection.
-#[tactic(auto, using(crate::proofs::BookSteps::step_goes, crate::proofs::PlanSpelled::project_is, crate::proofs::Sequences::in_order))]
+#[tactic(auto, using(crate::proofs::Trees::reading))]
 fn project_step(alloc: Global, reader: &mut Reader, depth: u32) -> Result<StepTree, BookFault>
     requires { (head_of reader.old.rest).kind ≡ kinds.Project }
     ensures reads { Reads (AStep depth ∷ []) reader.old reader.new result }
@@ -62,11 +58,11 @@ fn project_step(alloc: Global, reader: &mut Reader, depth: u32) -> Result<StepTr
     ensures shrinks { Shrinks reader.old reader.new result }
 {
     take_node(reader)?;
-    Ok(StepTree::Project(listed_items(alloc, reader)?))
+    Ok(StepTree::Project(listed::<ItemMember>(alloc, reader)?))
 }
 
 /// A projection without repeats.
-#[tactic(auto, using(crate::proofs::BookSteps::step_goes, crate::proofs::PlanSpelled::distinct_is, crate::proofs::Sequences::in_order))]
+#[tactic(auto, using(crate::proofs::Trees::reading))]
 fn distinct_step(alloc: Global, reader: &mut Reader, depth: u32) -> Result<StepTree, BookFault>
     requires { (head_of reader.old.rest).kind ≡ kinds.Distinct }
     ensures reads { Reads (AStep depth ∷ []) reader.old reader.new result }
@@ -74,11 +70,11 @@ fn distinct_step(alloc: Global, reader: &mut Reader, depth: u32) -> Result<StepT
     ensures shrinks { Shrinks reader.old reader.new result }
 {
     take_node(reader)?;
-    Ok(StepTree::Distinct(listed_items(alloc, reader)?))
+    Ok(StepTree::Distinct(listed::<ItemMember>(alloc, reader)?))
 }
 
 /// A grouping.
-#[tactic(auto, using(crate::proofs::BookSteps::step_goes, crate::proofs::PlanSpelled::group_is, crate::proofs::Sequences::in_order))]
+#[tactic(auto, using(crate::proofs::Trees::reading))]
 fn group_step(alloc: Global, reader: &mut Reader, depth: u32) -> Result<StepTree, BookFault>
     requires { (head_of reader.old.rest).kind ≡ kinds.Group }
     ensures reads { Reads (AStep depth ∷ []) reader.old reader.new result }
@@ -91,7 +87,7 @@ fn group_step(alloc: Global, reader: &mut Reader, depth: u32) -> Result<StepTree
 }
 
 /// A table, or a plan in parentheses.
-#[tactic(auto, using(crate::proofs::BookSteps::source_goes, crate::proofs::PlanSpelled::source_trees, crate::proofs::Sequences::in_order))]
+#[tactic(auto, using(crate::proofs::Trees::reading))]
 #[cycle(plan)]
 fn source(alloc: Global, reader: &mut Reader, depth: u32) -> Result<Tree, BookFault>
     requires { depth ≤ 32 }
@@ -106,12 +102,7 @@ fn source(alloc: Global, reader: &mut Reader, depth: u32) -> Result<Tree, BookFa
             Ok(Tree::Scan(name(alloc, reader)?))
         }
         TokenKind::Open => {
-            if depth >= 32 {
-                return Err(BookFault::TooMany {
-                    at,
-                    what: Many::Depth,
-                });
-            }
+            within(reader, depth < 32, Many::Depth)?;
             reader.advance();
             let inner = plan(alloc, reader, depth + 1)?;
             let _ = expect(reader, TokenKind::Close)?;
@@ -122,7 +113,7 @@ fn source(alloc: Global, reader: &mut Reader, depth: u32) -> Result<Tree, BookFa
 }
 
 /// A join.
-#[tactic(auto, using(crate::proofs::BookSteps::step_goes, crate::proofs::PlanSpelled::join_is, crate::proofs::Sequences::in_order))]
+#[tactic(auto, using(crate::proofs::Trees::reading))]
 #[cycle(plan)]
 fn join_step(alloc: Global, reader: &mut Reader, depth: u32) -> Result<StepTree, BookFault>
     requires kind { (head_of reader.old.rest).kind ≡ kinds.Join }
@@ -134,12 +125,12 @@ fn join_step(alloc: Global, reader: &mut Reader, depth: u32) -> Result<StepTree,
     take_node(reader)?;
     let right = source(alloc, reader, depth)?;
     let _ = expect(reader, TokenKind::On)?;
-    let pairs = listed_pairs(alloc, reader)?;
+    let pairs = listed::<PairMember>(alloc, reader)?;
     Ok(StepTree::Join(Box::new(alloc, right)?, pairs))
 }
 
 /// A theta join.
-#[tactic(auto, using(crate::proofs::BookSteps::step_goes, crate::proofs::PlanSpelled::theta_is, crate::proofs::Sequences::in_order))]
+#[tactic(auto, using(crate::proofs::Trees::reading))]
 #[cycle(plan)]
 fn theta_step(alloc: Global, reader: &mut Reader, depth: u32) -> Result<StepTree, BookFault>
     requires kind { (head_of reader.old.rest).kind ≡ kinds.Theta }
@@ -156,7 +147,7 @@ fn theta_step(alloc: Global, reader: &mut Reader, depth: u32) -> Result<StepTree
 }
 
 /// A product.
-#[tactic(auto, using(crate::proofs::BookSteps::step_goes, crate::proofs::PlanSpelled::product_is, crate::proofs::Sequences::in_order))]
+#[tactic(auto, using(crate::proofs::Trees::reading))]
 #[cycle(plan)]
 fn product_step(alloc: Global, reader: &mut Reader, depth: u32) -> Result<StepTree, BookFault>
     requires kind { (head_of reader.old.rest).kind ≡ kinds.Product }
@@ -171,7 +162,7 @@ fn product_step(alloc: Global, reader: &mut Reader, depth: u32) -> Result<StepTr
 }
 
 /// What a union unites with, and whether it keeps repeats.
-#[tactic(auto, using(crate::proofs::BookSteps::united_goes, crate::proofs::PlanSpelled::united_trees, crate::proofs::Sequences::in_order))]
+#[tactic(auto, using(crate::proofs::Trees::reading, crate::proofs::Begins::begun))]
 #[cycle(plan)]
 fn united(alloc: Global, reader: &mut Reader, depth: u32) -> Result<(bool, Tree), BookFault>
     requires { depth ≤ 32 }
@@ -193,7 +184,7 @@ fn united(alloc: Global, reader: &mut Reader, depth: u32) -> Result<(bool, Tree)
 }
 
 /// A union.
-#[tactic(auto, using(crate::proofs::BookSteps::step_goes, crate::proofs::PlanSpelled::union_trees, crate::proofs::Sequences::in_order))]
+#[tactic(auto, using(crate::proofs::Trees::reading))]
 #[cycle(plan)]
 fn union_step(alloc: Global, reader: &mut Reader, depth: u32) -> Result<StepTree, BookFault>
     requires kind { (head_of reader.old.rest).kind ≡ kinds.Union }
@@ -213,7 +204,7 @@ fn union_step(alloc: Global, reader: &mut Reader, depth: u32) -> Result<StepTree
 }
 
 /// A step.
-#[tactic(auto, using(crate::proofs::BookSteps::step_fails))]
+#[tactic(auto, using(crate::proofs::Steps::in_order))]
 #[cycle(plan)]
 fn step(alloc: Global, reader: &mut Reader, depth: u32) -> Result<StepTree, BookFault>
     requires { depth ≤ 32 }
@@ -235,7 +226,7 @@ fn step(alloc: Global, reader: &mut Reader, depth: u32) -> Result<StepTree, Book
 }
 
 /// A source with its steps.
-#[tactic(auto, using(crate::proofs::PlanSpelled::plan_reads, crate::proofs::PlanSpelled::plan_trees, crate::proofs::Sequences::in_order))]
+#[tactic(auto, using(crate::proofs::Trees::reading, crate::proofs::Steps::in_loop))]
 #[cycle(plan)]
 pub fn plan(alloc: Global, reader: &mut Reader, depth: u32) -> Result<Tree, BookFault>
     requires { depth ≤ 32 }

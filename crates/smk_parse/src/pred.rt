@@ -8,12 +8,12 @@ ghost use Rattle.smk_parse.specs.Reads.{Reads, Shrinks};
 
 use crate::names::{column, column_in_hand, is_column, is_short};
 use crate::reader::Reader;
-use crate::taken::{expect, literal, wrong};
+use crate::taken::{expect, literal, within, wrong};
 use smk_base::{BookFault, CmpOp, Many, PredTree, Term, TokenKind};
 use std::alloc::Global;
 
 /// The `on` before a predicate, whose comparisons are counted from none.
-#[tactic(auto, using(crate::proofs::BookSteps::on_goes, crate::proofs::Sequences::in_order))]
+#[tactic(auto, using(crate::proofs::Trees::reading))]
 pub fn on(reader: &mut Reader) -> Result<(), BookFault>
     ensures reads { Reads (AnOn ∷ []) reader.old reader.new result }
     ensures is { OnOk result (First kinds.On (head_of reader.old.rest) reader.old.rest reader.new.rest) }
@@ -30,7 +30,7 @@ pub fn on(reader: &mut Reader) -> Result<(), BookFault>
 }
 
 /// A comparison's operator.
-#[tactic(auto, using(crate::proofs::BookSteps::op_goes, crate::proofs::BookSpelled::op_trees, crate::proofs::Sequences::in_order))]
+#[tactic(auto, using(crate::proofs::Trees::reading))]
 fn op(reader: &mut Reader) -> Result<CmpOp, BookFault>
     ensures reads { Reads (AnOp ∷ []) reader.old reader.new result }
     ensures is { IfOk result (λ op. IsOp reader.old.rest reader.new.rest op) }
@@ -66,7 +66,7 @@ fn op(reader: &mut Reader) -> Result<CmpOp, BookFault>
 }
 
 /// The right side of a comparison.
-#[tactic(auto, using(crate::proofs::BookSteps::term_goes, crate::proofs::PlanSpelled::term_trees))]
+#[tactic(auto, using(crate::proofs::Trees::reading, crate::proofs::Begins::begun))]
 fn term(alloc: Global, reader: &mut Reader) -> Result<Term, BookFault>
     ensures reads { Reads (ATerm ∷ []) reader.old reader.new result }
     ensures is { IfOk result (λ term. IsTerm reader.old.rest reader.new.rest term) }
@@ -80,7 +80,7 @@ fn term(alloc: Global, reader: &mut Reader) -> Result<Term, BookFault>
 }
 
 /// A comparison.
-#[tactic(auto, using(crate::proofs::BookSteps::comparison_goes, crate::proofs::PlanSpelled::comparison_trees, crate::proofs::Sequences::in_order))]
+#[tactic(auto, using(crate::proofs::Trees::reading))]
 fn comparison(alloc: Global, reader: &mut Reader, depth: u32) -> Result<PredTree, BookFault>
     requires not { (head_of reader.old.rest).kind ≡ kinds.Not → ⊥ }
     requires open { (head_of reader.old.rest).kind ≡ kinds.Open → ⊥ }
@@ -93,18 +93,8 @@ fn comparison(alloc: Global, reader: &mut Reader, depth: u32) -> Result<PredTree
         return Err(wrong(reader));
     }
     let compares = reader.compares();
-    if compares >= 128 {
-        return Err(BookFault::TooMany {
-            at,
-            what: Many::Compares,
-        });
-    }
-    if !is_short(reader) {
-        return Err(BookFault::TooMany {
-            at,
-            what: Many::NameBytes,
-        });
-    }
+    within(reader, compares < 128, Many::Compares)?;
+    within(reader, is_short(reader), Many::NameBytes)?;
     let left = column_in_hand(alloc, reader)?;
     let nodes = reader.nodes();
     reader.advance_to(nodes, compares + 1);
@@ -114,7 +104,7 @@ fn comparison(alloc: Global, reader: &mut Reader, depth: u32) -> Result<PredTree
 }
 
 /// A predicate without `and` and `or` of its own.
-#[tactic(auto, using(crate::proofs::BookSteps::prim_goes, crate::proofs::PlanSpelled::prim_trees, crate::proofs::Sequences::in_order))]
+#[tactic(auto, using(crate::proofs::Trees::reading))]
 #[cycle(pred)]
 fn prim(alloc: Global, reader: &mut Reader, depth: u32) -> Result<PredTree, BookFault>
     requires { depth ≤ 32 }
@@ -125,23 +115,13 @@ fn prim(alloc: Global, reader: &mut Reader, depth: u32) -> Result<PredTree, Book
     let at = reader.at();
     match reader.kind() {
         TokenKind::Not => {
-            if depth >= 32 {
-                return Err(BookFault::TooMany {
-                    at,
-                    what: Many::Depth,
-                });
-            }
+            within(reader, depth < 32, Many::Depth)?;
             reader.advance();
             let inner = prim(alloc, reader, depth + 1)?;
             Ok(PredTree::Not(Box::new(alloc, inner)?))
         }
         TokenKind::Open => {
-            if depth >= 32 {
-                return Err(BookFault::TooMany {
-                    at,
-                    what: Many::Depth,
-                });
-            }
+            within(reader, depth < 32, Many::Depth)?;
             reader.advance();
             let inner = pred(alloc, reader, depth + 1)?;
             let _ = expect(reader, TokenKind::Close)?;
@@ -152,7 +132,7 @@ fn prim(alloc: Global, reader: &mut Reader, depth: u32) -> Result<PredTree, Book
 }
 
 /// Predicates joined by `and`.
-#[tactic(auto, using(crate::proofs::PlanSpelled::conj_reads, crate::proofs::PlanSpelled::conj_trees, crate::proofs::Sequences::in_order))]
+#[tactic(auto, using(crate::proofs::Trees::reading, crate::proofs::Steps::in_loop))]
 #[cycle(pred)]
 fn conj(alloc: Global, reader: &mut Reader, depth: u32) -> Result<PredTree, BookFault>
     requires { depth ≤ 32 }
@@ -170,7 +150,7 @@ fn conj(alloc: Global, reader: &mut Reader, depth: u32) -> Result<PredTree, Book
 }
 
 /// Predicates joined by `or`.
-#[tactic(auto, using(crate::proofs::PlanSpelled::pred_reads, crate::proofs::PlanSpelled::pred_trees, crate::proofs::Sequences::in_order))]
+#[tactic(auto, using(crate::proofs::Trees::reading, crate::proofs::Steps::in_loop))]
 #[cycle(pred)]
 pub fn pred(alloc: Global, reader: &mut Reader, depth: u32) -> Result<PredTree, BookFault>
     requires { depth ≤ 32 }

@@ -7,11 +7,12 @@ ghost use Rattle.smk_model.specs.Machine.{AToken, AName, AFirst, AType, ADefault
 ghost use Rattle.smk_parse.specs.Reads.{Reads, Shrinks};
 ghost use Rattle.smk_parse.specs.Tallies.{StmtReads};
 
-use crate::lists::{grouping, listed_decls, listed_linked};
+use crate::listed::listed;
+use crate::lists::{DeclMember, LinkedMember, grouping};
 use crate::names::{column, name};
 use crate::plan::plan;
 use crate::reader::Reader;
-use crate::taken::{expect, string_in_hand, wrong};
+use crate::taken::{expect, string_in_hand, within, wrong};
 use smk_base::{BookFault, Extra, Many, Stmt, Text, TokenKind};
 use std::alloc::Global;
 
@@ -25,7 +26,7 @@ pub struct Tally {
 }
 
 /// The name of a file.
-#[tactic(auto, using(crate::proofs::StmtSpelled::file_goes, crate::proofs::Sequences::in_order))]
+#[tactic(auto, using(crate::proofs::Trees::reading))]
 fn file(alloc: Global, reader: &mut Reader) -> Result<Text, BookFault>
     ensures reads { Reads (AToken kinds.Str ∷ []) reader.old reader.new result }
     ensures is { IfOk result (λ file. IsFile reader.old.rest reader.new.rest file) }
@@ -42,7 +43,7 @@ fn file(alloc: Global, reader: &mut Reader) -> Result<Text, BookFault>
 }
 
 /// A table statement behind its keyword.
-#[tactic(auto, using(crate::proofs::StmtSpelled::table_is, crate::proofs::Sequences::in_order))]
+#[tactic(auto, using(crate::proofs::Trees::reading))]
 fn table_stmt(alloc: Global, reader: &mut Reader) -> Result<Stmt, BookFault>
     ensures reads { Reads (AName ∷ AToken kinds.From ∷ AToken kinds.Str ∷ AToken kinds.Open ∷ AFirst 0 ∷ AType ∷ ADefault ∷ MoreDecls 1 ∷ AToken kinds.Close ∷ []) reader.old reader.new result }
     ensures is { IfOk result (λ stmt. (a : List Token) → (t : Token) → First kinds.Table t a reader.old.rest → IsStmt a reader.new.rest (stmt_image stmt)) }
@@ -52,13 +53,13 @@ fn table_stmt(alloc: Global, reader: &mut Reader) -> Result<Stmt, BookFault>
     let _ = expect(reader, TokenKind::From)?;
     let file = file(alloc, reader)?;
     let _ = expect(reader, TokenKind::Open)?;
-    let cols = listed_decls(alloc, reader)?;
+    let cols = listed::<DeclMember>(alloc, reader)?;
     let _ = expect(reader, TokenKind::Close)?;
     Ok(Stmt::Table { name, file, cols })
 }
 
 /// A view statement behind its keyword.
-#[tactic(auto, using(crate::proofs::StmtSpelled::view_is, crate::proofs::Sequences::in_order))]
+#[tactic(auto, using(crate::proofs::Trees::reading))]
 fn view_stmt(alloc: Global, reader: &mut Reader) -> Result<Stmt, BookFault>
     ensures reads { Reads (AName ∷ AToken kinds.Equal ∷ ASource 0 ∷ ASteps 0 ∷ []) reader.old reader.new result }
     ensures is { IfOk result (λ stmt. (a : List Token) → (t : Token) → First kinds.View t a reader.old.rest → IsStmt a reader.new.rest (stmt_image stmt)) }
@@ -71,7 +72,7 @@ fn view_stmt(alloc: Global, reader: &mut Reader) -> Result<Stmt, BookFault>
 }
 
 /// What a backward declaration asks for besides the rows.
-#[tactic(auto, using(crate::proofs::BookSteps::extra_goes, crate::proofs::StmtSpelled::extra_trees, crate::proofs::Sequences::in_order))]
+#[tactic(auto, using(crate::proofs::Trees::reading))]
 fn extra(alloc: Global, reader: &mut Reader) -> Result<Extra, BookFault>
     ensures reads { Reads (AnExtra ∷ []) reader.old reader.new result }
     ensures is { IfOk result (λ extra. IsExtra reader.old.rest reader.new.rest extra) }
@@ -93,7 +94,7 @@ fn extra(alloc: Global, reader: &mut Reader) -> Result<Extra, BookFault>
 }
 
 /// A backward declaration behind `lineage`, which stands at this place.
-#[tactic(auto, using(crate::proofs::BookSteps::lineage_back, crate::proofs::StmtSpelled::back_is, crate::proofs::Sequences::in_order))]
+#[tactic(auto, using(crate::proofs::Trees::reading))]
 fn back_stmt(alloc: Global, reader: &mut Reader, at: u64) -> Result<Stmt, BookFault>
     requires { (head_of reader.old.rest).kind ≡ kinds.Back }
     ensures reads { Reads (ALineage ∷ []) reader.old reader.new result }
@@ -115,7 +116,7 @@ fn back_stmt(alloc: Global, reader: &mut Reader, at: u64) -> Result<Stmt, BookFa
 }
 
 /// A forward declaration behind `lineage`, which stands at this place.
-#[tactic(auto, using(crate::proofs::BookSteps::lineage_fwd, crate::proofs::StmtSpelled::fwd_is, crate::proofs::Sequences::in_order))]
+#[tactic(auto, using(crate::proofs::Trees::reading))]
 fn fwd_stmt(alloc: Global, reader: &mut Reader, at: u64) -> Result<Stmt, BookFault>
     requires { (head_of reader.old.rest).kind ≡ kinds.Fwd }
     ensures reads { Reads (ALineage ∷ []) reader.old reader.new result }
@@ -131,7 +132,7 @@ fn fwd_stmt(alloc: Global, reader: &mut Reader, at: u64) -> Result<Stmt, BookFau
 }
 
 /// A lineage declaration behind `lineage`, which stands at this place.
-#[tactic(auto, using(crate::proofs::BookSteps::lineage_fails))]
+#[tactic(auto, using(crate::proofs::Steps::in_order))]
 fn lineage_stmt(alloc: Global, reader: &mut Reader, at: u64) -> Result<Stmt, BookFault>
     ensures reads { Reads (ALineage ∷ []) reader.old reader.new result }
     ensures is { IfOk result (λ stmt. (a : List Token) → (t : Token) → First kinds.Lineage t a reader.old.rest → at ≡ t.at → IsStmt a reader.new.rest (stmt_image stmt)) }
@@ -145,7 +146,7 @@ fn lineage_stmt(alloc: Global, reader: &mut Reader, at: u64) -> Result<Stmt, Boo
 }
 
 /// A link statement behind its keyword.
-#[tactic(auto, using(crate::proofs::StmtSpelled::link_is, crate::proofs::Sequences::in_order))]
+#[tactic(auto, using(crate::proofs::Trees::reading))]
 fn link_stmt(alloc: Global, reader: &mut Reader) -> Result<Stmt, BookFault>
     ensures reads { Reads (AName ∷ AToken kinds.On ∷ AName ∷ AToken kinds.To ∷ ALinked 0 ∷ MoreLinked 1 ∷ []) reader.old reader.new result }
     ensures is { IfOk result (λ stmt. (a : List Token) → (t : Token) → First kinds.Link t a reader.old.rest → IsStmt a reader.new.rest (stmt_image stmt)) }
@@ -155,11 +156,11 @@ fn link_stmt(alloc: Global, reader: &mut Reader) -> Result<Stmt, BookFault>
     let _ = expect(reader, TokenKind::On)?;
     let table = name(alloc, reader)?;
     let _ = expect(reader, TokenKind::To)?;
-    let to = listed_linked(alloc, reader)?;
+    let to = listed::<LinkedMember>(alloc, reader)?;
     Ok(Stmt::Link { view, table, to })
 }
 
-#[tactic(auto, using(crate::proofs::BookSteps::next_table_goes, crate::proofs::Sequences::in_order))]
+#[tactic(auto, using(crate::proofs::Trees::reading))]
 fn next_table(alloc: Global, reader: &mut Reader, tally: &mut Tally) -> Result<Stmt, BookFault>
     requires { (head_of reader.old.rest).kind ≡ kinds.Table }
     ensures reads { StmtReads tally.old tally.new reader.old reader.new result }
@@ -168,19 +169,14 @@ fn next_table(alloc: Global, reader: &mut Reader, tally: &mut Tally) -> Result<S
 {
     let at = reader.at();
     let _kind = reader.kind();
-    if tally.tables >= 16 {
-        return Err(BookFault::TooMany {
-            at,
-            what: Many::Tables,
-        });
-    }
+    within(reader, tally.tables < 16, Many::Tables)?;
     reader.advance_to(0, 0);
     let stmt = table_stmt(alloc, reader)?;
     tally.tables += 1;
     Ok(stmt)
 }
 
-#[tactic(auto, using(crate::proofs::BookSteps::next_view_goes, crate::proofs::Sequences::in_order))]
+#[tactic(auto, using(crate::proofs::Trees::reading))]
 fn next_view(alloc: Global, reader: &mut Reader, tally: &mut Tally) -> Result<Stmt, BookFault>
     requires { (head_of reader.old.rest).kind ≡ kinds.View }
     ensures reads { StmtReads tally.old tally.new reader.old reader.new result }
@@ -189,19 +185,14 @@ fn next_view(alloc: Global, reader: &mut Reader, tally: &mut Tally) -> Result<St
 {
     let at = reader.at();
     let _kind = reader.kind();
-    if tally.views >= 64 {
-        return Err(BookFault::TooMany {
-            at,
-            what: Many::Views,
-        });
-    }
+    within(reader, tally.views < 64, Many::Views)?;
     reader.advance_to(0, 0);
     let stmt = view_stmt(alloc, reader)?;
     tally.views += 1;
     Ok(stmt)
 }
 
-#[tactic(auto, using(crate::proofs::BookSteps::next_lineage_goes, crate::proofs::Sequences::in_order))]
+#[tactic(auto, using(crate::proofs::Trees::reading))]
 fn next_lineage(alloc: Global, reader: &mut Reader, tally: &mut Tally) -> Result<Stmt, BookFault>
     requires { (head_of reader.old.rest).kind ≡ kinds.Lineage }
     ensures reads { StmtReads tally.old tally.new reader.old reader.new result }
@@ -210,19 +201,14 @@ fn next_lineage(alloc: Global, reader: &mut Reader, tally: &mut Tally) -> Result
 {
     let at = reader.at();
     let _kind = reader.kind();
-    if tally.lineages >= 256 {
-        return Err(BookFault::TooMany {
-            at,
-            what: Many::Lineages,
-        });
-    }
+    within(reader, tally.lineages < 256, Many::Lineages)?;
     reader.advance_to(0, 0);
     let stmt = lineage_stmt(alloc, reader, at)?;
     tally.lineages += 1;
     Ok(stmt)
 }
 
-#[tactic(auto, using(crate::proofs::BookSteps::next_link_goes, crate::proofs::Sequences::in_order))]
+#[tactic(auto, using(crate::proofs::Trees::reading))]
 fn next_link(alloc: Global, reader: &mut Reader, tally: &mut Tally) -> Result<Stmt, BookFault>
     requires { (head_of reader.old.rest).kind ≡ kinds.Link }
     ensures reads { StmtReads tally.old tally.new reader.old reader.new result }
@@ -231,12 +217,7 @@ fn next_link(alloc: Global, reader: &mut Reader, tally: &mut Tally) -> Result<St
 {
     let at = reader.at();
     let _kind = reader.kind();
-    if tally.links >= 64 {
-        return Err(BookFault::TooMany {
-            at,
-            what: Many::Links,
-        });
-    }
+    within(reader, tally.links < 64, Many::Links)?;
     reader.advance_to(0, 0);
     let stmt = link_stmt(alloc, reader)?;
     tally.links += 1;
@@ -244,7 +225,7 @@ fn next_link(alloc: Global, reader: &mut Reader, tally: &mut Tally) -> Result<St
 }
 
 /// A statement, which is counted.
-#[tactic(auto, using(crate::proofs::BookSteps::stmts_fail))]
+#[tactic(auto, using(crate::proofs::Steps::in_order))]
 pub fn stmt(alloc: Global, reader: &mut Reader, tally: &mut Tally) -> Result<Stmt, BookFault>
     requires { (head_of reader.old.rest).kind ≡ kinds.End → ⊥ }
     ensures reads { StmtReads tally.old tally.new reader.old reader.new result }

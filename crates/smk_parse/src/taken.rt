@@ -1,13 +1,13 @@
-ghost use Rattle.std.specs.Prelude.{◌≡◌, ◌∷◌, [], ◌<◌, length, IsTrue, false, IfOk, IfErr, OnOk};
+ghost use Rattle.std.specs.Prelude.{◌≡◌, ◌∷◌, [], ◌<◌, length, IsTrue, true, false, IfOk, IfErr, OnOk};
 ghost use Rattle.smk_base.specs.declared.token.TokenKind.TheVariants as kinds;
-ghost use Rattle.smk_base.specs.declared.fault.BookFault.TheVariants.{NoMemory};
+ghost use Rattle.smk_base.specs.declared.fault.BookFault.TheVariants.{NoMemory, TooMany};
 ghost use Rattle.smk_model.specs.Tokens.{head_of, is_more, inner, string_value, undoubled};
 ghost use Rattle.smk_model.specs.Grammar.{First, IsName, IsColumn, IsLiteral, plain_word};
 ghost use Rattle.smk_model.specs.Machine.{fault_at, AToken, ALineName, ALiteral};
 ghost use Rattle.smk_parse.specs.Reads.{Reads, Shrinks};
 
 use crate::reader::Reader;
-use smk_base::{BookFault, Lit, Text, TokenKind, Value, Word};
+use smk_base::{BookFault, Lit, Many, Text, TokenKind, Value, Word};
 use std::alloc::Global;
 
 /// The fault at a token that may not stand here.
@@ -23,8 +23,22 @@ pub fn wrong(reader: &Reader) -> BookFault
     }
 }
 
+/// That the token in hand begins no more of these than there may be.
+pub fn within(reader: &Reader, few: bool, what: Many) -> Result<(), BookFault>
+    ensures few { OnOk result (few ≡ true) }
+    ensures many { IfErr result (λ fault. few ≡ false) }
+    ensures fault { IfErr result (λ fault. fault ≡ TooMany (head_of reader.now.rest).at what) }
+{
+    if few {
+        Ok(())
+    } else {
+        let at = reader.at();
+        Err(BookFault::TooMany { at, what })
+    }
+}
+
 /// A token of this kind, whose place it gives.
-#[tactic(auto, using(crate::proofs::Single::expect_goes, crate::proofs::Sequences::in_order))]
+#[tactic(auto, using(crate::proofs::Single::expect_goes, crate::proofs::Steps::in_order))]
 pub fn expect(reader: &mut Reader, kind: TokenKind) -> Result<u64, BookFault>
     requires { IsTrue (is_more kind) }
     ensures reads { Reads (AToken kind ∷ []) reader.old reader.new result }
@@ -91,7 +105,7 @@ pub fn string_in_hand(alloc: Global, reader: &Reader) -> Result<Text, BookFault>
 }
 
 /// A literal.
-#[tactic(auto, using(crate::proofs::LineSteps::literal_goes, crate::proofs::Single::literal_trees, crate::proofs::Sequences::in_order))]
+#[tactic(auto, using(crate::proofs::Trees::reading))]
 pub fn literal(alloc: Global, reader: &mut Reader) -> Result<Lit, BookFault>
     ensures reads { Reads (ALiteral ∷ []) reader.old reader.new result }
     ensures is { IfOk result (λ lit. IsLiteral reader.old.rest reader.new.rest lit) }
@@ -117,7 +131,7 @@ pub fn literal(alloc: Global, reader: &mut Reader) -> Result<Lit, BookFault>
 }
 
 /// A name of any length.
-#[tactic(auto, using(crate::proofs::Single::line_name_goes, crate::proofs::Sequences::in_order))]
+#[tactic(auto, using(crate::proofs::Trees::reading))]
 pub fn line_name(alloc: Global, reader: &mut Reader) -> Result<Word, BookFault>
     ensures reads { Reads (ALineName ∷ []) reader.old reader.new result }
     ensures is { IfOk result (λ word. IsName reader.old.rest reader.new.rest word) }

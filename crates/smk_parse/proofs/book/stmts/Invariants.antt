@@ -3,7 +3,7 @@ use Rattle.smk_base.specs.TreeImage.{stmt_image}
 use Rattle.smk_model.specs.Machine.{AStmts, book_symbols}
 use Rattle.smk_parse.specs.Tallies.{tally_of}
 use Rattle.smk_parse.specs.Reads.{Comes}
-use Rattle.smk_parse.proofs.StmtSpelled.{EndsStmts}
+use Rattle.smk_parse.proofs.Whole.{EndsStmts}
 use Rattle.smk_parse.proofs.book.stmts.Given as goal
 
 abbrev pub invariant-stmts : goal.invariant-stmts

@@ -1,8 +1,10 @@
-use Rattle.std.proofs.Common.{◌+◌, ◌-◌, ◌*◌, ◌<◌, [], ◌∷◌, length}
+use Rattle.std.proofs.Common.{◌+◌, ◌-◌, ◌*◌, ◌<◌, List, [], ◌∷◌, length}
 use Rattle.smk_base.specs.TreeImage.{tree_image}
+use Rattle.smk_base.specs.Trees.{TreeImage}
+use Rattle.smk_model.specs.Tokens.{Token}
+use Rattle.smk_model.specs.Grammar.{AreSteps, IsPlan}
 use Rattle.smk_model.specs.Machine.{ASource, ASteps}
 use Rattle.smk_parse.proofs.Steps.{Comes}
-use Rattle.smk_parse.proofs.PlanSpelled.{EndsPlan}
 use Rattle.smk_parse.proofs.plan.+plan.Given as goal
 
 abbrev pub decreases-source : goal.decreases-source
@@ -32,7 +34,7 @@ decreases-plan l = (32 - l.depth) * 8 + 4
 abbrev pub invariant-plan-steps : goal.invariant-plan-steps
 invariant-plan-steps l = record {
   reads : Comes (ASource l.depth ∷ ASteps l.depth ∷ []) (ASteps l.depth ∷ []) l.fn.reader l.reader;
-  is : EndsPlan l.fn.reader.rest l.reader.rest (tree_image l.left);
+  is : (c : List Token) (y : TreeImage) → AreSteps l.reader.rest c (tree_image l.left) y → IsPlan l.fn.reader.rest c y;
   shrinks : length l.reader.rest < length l.fn.reader.rest;
 }
 

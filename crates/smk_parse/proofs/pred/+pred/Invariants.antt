@@ -1,8 +1,10 @@
-use Rattle.std.proofs.Common.{◌+◌, ◌-◌, ◌*◌, ◌<◌, [], ◌∷◌, length}
+use Rattle.std.proofs.Common.{◌+◌, ◌-◌, ◌*◌, ◌<◌, List, [], ◌∷◌, length}
 use Rattle.smk_base.specs.TreeImage.{pred_image}
+use Rattle.smk_base.specs.Trees.{PredImage}
+use Rattle.smk_model.specs.Tokens.{Token}
+use Rattle.smk_model.specs.Grammar.{AreAnds, IsConj, AreOrs, IsPred}
 use Rattle.smk_model.specs.Machine.{APrim, AnAnds, AnOrs}
 use Rattle.smk_parse.proofs.Steps.{Comes}
-use Rattle.smk_parse.proofs.PlanSpelled.{EndsConj, EndsPred}
 use Rattle.smk_parse.proofs.pred.+pred.Given as goal
 
 abbrev pub decreases-prim : goal.decreases-prim
@@ -17,7 +19,7 @@ decreases-pred l = (32 - l.depth) * 4 + 2
 abbrev pub invariant-conj-ands : goal.invariant-conj-ands
 invariant-conj-ands l = record {
   reads : Comes (APrim l.depth ∷ AnAnds l.depth ∷ []) (AnAnds l.depth ∷ []) l.fn.reader l.reader;
-  is : EndsConj l.fn.reader.rest l.reader.rest (pred_image l.left);
+  is : (c : List Token) (q : PredImage) → AreAnds l.reader.rest c (pred_image l.left) q → IsConj l.fn.reader.rest c q;
   shrinks : length l.reader.rest < length l.fn.reader.rest;
 }
 
@@ -27,7 +29,7 @@ decreases-conj-ands l = length l.reader.rest
 abbrev pub invariant-pred-ors : goal.invariant-pred-ors
 invariant-pred-ors l = record {
   reads : Comes (APrim l.depth ∷ AnAnds l.depth ∷ AnOrs l.depth ∷ []) (AnOrs l.depth ∷ []) l.fn.reader l.reader;
-  is : EndsPred l.fn.reader.rest l.reader.rest (pred_image l.left);
+  is : (c : List Token) (q : PredImage) → AreOrs l.reader.rest c (pred_image l.left) q → IsPred l.fn.reader.rest c q;
   shrinks : length l.reader.rest < length l.fn.reader.rest;
 }
 

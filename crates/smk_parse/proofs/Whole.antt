@@ -1,0 +1,74 @@
+-- What a whole book or line is read as.
+use Rattle.std.specs.Prelude.{None, Err, map}
+use Rattle.std.proofs.Common.{◌≡◌, ℕ, List, [], ◌∷◌, ◌++◌, ap, ◌∙◌, sym, subst, refl, append_assoc, append-nil}
+use Rattle.std.proofs.lemmas.List.{map_push}
+use Rattle.smk_base.specs.declared.token.TokenKind.TheVariants as kinds
+use Rattle.smk_base.specs.declared.fault.BookFault.{BookFault}
+use Rattle.smk_base.specs.declared.fault.BookFault.TheVariants.{BadToken, Unexpected, TooMany, BadNumber, NoMemory}
+use Rattle.smk_base.specs.declared.fault.Many.{Many}
+use Rattle.smk_base.specs.declared.fault.LineFault.TheVariants as line_faults
+use Rattle.smk_base.specs.declared.tree.Stmt.{Stmt}
+use Rattle.smk_base.specs.Trees.{StmtImage}
+use Rattle.smk_base.specs.TreeImage.{stmt_image}
+use Rattle.smk_model.specs.Tokens.{Token, head_of, tokens}
+use Rattle.smk_model.specs.Grammar.{IsStmt, AreStmts, no_stmt, one_stmt}
+use Rattle.smk_model.specs.Lines.{place_of}
+use Rattle.smk_model.specs.Machine.{State, through, book_symbols, ALine, AnEnd, book_fault, line_fault, fault_in, no_counts}
+use Rattle.smk_parse.specs.Reads.{Leads, Fails, IsFault}
+use Rattle.smk_parse.specs.Answers.{IsBookAnswer, IsLineAnswer}
+use Rattle.smk_parse.proofs.Steps.{Here}
+
+-- what the statements that follow make of those so far
+pub record EndsStmts (a b : List Token) (ss : List StmtImage) : Type 0 where
+  pub ends : (zs : List StmtImage) → AreStmts b zs → AreStmts a (ss ++ zs)
+
+pub stmts_begin : (a : List Token) → EndsStmts a a []
+stmts_begin a = record { ends = λ zs h. h }
+
+pub stmts_go_on : (o a b : List Token) (ss us : List Stmt) (s : Stmt) → EndsStmts o a (map stmt_image ss) → IsStmt a b (stmt_image s) → us ≡ ss ++ s ∷ [] → EndsStmts o b (map stmt_image us)
+stmts_go_on o a b ss us s h k e = record { ends = λ zs m. subst (λ l. AreStmts o (l ++ zs)) (sym (ap (map stmt_image) e ∙ map_push stmt_image ss s)) (subst (AreStmts o) (sym (append_assoc (map stmt_image ss) (stmt_image s ∷ []) zs)) (h.ends (stmt_image s ∷ zs) (one_stmt k m))) }
+
+pub stmts_done : (o : List Token) (a : State) (ss : List StmtImage) → EndsStmts o a.rest ss → Here a → (head_of a.rest).kind ≡ kinds.End → AreStmts o ss
+stmts_done o a ss h k e = subst (AreStmts o) (append-nil ss) (h.ends [] (no_stmt (record { is_kind = e; is_first = k })))
+
+pub ruleset stmts_trees = (stmts_begin, stmts_go_on, stmts_done)
+
+pub book_read : (a b : State) (text : List ℕ) → a ≡ record { rest = tokens text; counts = no_counts } → Leads book_symbols a b → book_fault (tokens text) ≡ None
+book_read a b text e h = ap (λ s. fault_in (through book_symbols s.counts s.rest)) (sym e) ∙ ap fault_in (h.goes [])
+
+pub book_unread : (a : State) (text : List ℕ) (f : BookFault) → a ≡ record { rest = tokens text; counts = no_counts } → Fails book_symbols a f → IsBookAnswer text (Err f)
+book_unread a text f e h = by f (subst (λ s. IsFault f (through book_symbols s.counts s.rest)) e (h.stops []))
+  where
+    by : (f : BookFault) → IsFault f (through book_symbols no_counts (tokens text)) → IsBookAnswer text (Err f)
+    by NoMemory k = tt
+    by (BadToken at) k = ap fault_in k
+    by (Unexpected at) k = ap fault_in k
+    by (TooMany at what) k = ap fault_in k
+    by (BadNumber at) k = ap fault_in k
+
+pub line_answer : (a b : State) (ts : List Token) → a ≡ record { rest = ts; counts = no_counts } → Leads (ALine ∷ AnEnd ∷ []) a b → line_fault ts ≡ None
+line_answer a b ts e h = ap (λ s. fault_in (through (ALine ∷ AnEnd ∷ []) s.counts s.rest)) (sym e) ∙ ap fault_in (h.goes [])
+
+line_unread : (a : State) (text : List ℕ) (f : BookFault) (at : ℕ) → a ≡ record { rest = tokens text; counts = no_counts } → Fails (ALine ∷ AnEnd ∷ []) a f → ((head_of a.rest).kind ≡ kinds.End → ⊥) → (f ≡ NoMemory → ⊥) → place_of f ≡ at → IsLineAnswer text (Err (line_faults.NotALine at))
+line_unread a text f at e k n m p = (λ h. n (ap (λ s. (head_of s.rest).kind) e ∙ h), (f, (ap (λ s. fault_in (through (ALine ∷ AnEnd ∷ []) s.counts s.rest)) (sym e) ∙ ap fault_in (by f m (k.stops [])), p)))
+  where
+    by : (f : BookFault) → (f ≡ NoMemory → ⊥) → IsFault f (through (ALine ∷ AnEnd ∷ []) a.counts a.rest) → through (ALine ∷ AnEnd ∷ []) a.counts a.rest ≡ Err f
+    by NoMemory m k = absurd (m refl)
+    by (BadToken at) m k = k
+    by (Unexpected at) m k = k
+    by (TooMany at what) m k = k
+    by (BadNumber at) m k = k
+
+pub unread_bad_token : (a : State) (text : List ℕ) (at : ℕ) → a ≡ record { rest = tokens text; counts = no_counts } → Fails (ALine ∷ AnEnd ∷ []) a (BadToken at) → ((head_of a.rest).kind ≡ kinds.End → ⊥) → IsLineAnswer text (Err (line_faults.NotALine at))
+unread_bad_token a text at e k n = line_unread a text (BadToken at) at e k n (λ m. absurd (cc)) refl
+
+pub unread_unexpected : (a : State) (text : List ℕ) (at : ℕ) → a ≡ record { rest = tokens text; counts = no_counts } → Fails (ALine ∷ AnEnd ∷ []) a (Unexpected at) → ((head_of a.rest).kind ≡ kinds.End → ⊥) → IsLineAnswer text (Err (line_faults.NotALine at))
+unread_unexpected a text at e k n = line_unread a text (Unexpected at) at e k n (λ m. absurd (cc)) refl
+
+pub unread_many : (a : State) (text : List ℕ) (at : ℕ) (what : Many) → a ≡ record { rest = tokens text; counts = no_counts } → Fails (ALine ∷ AnEnd ∷ []) a (TooMany at what) → ((head_of a.rest).kind ≡ kinds.End → ⊥) → IsLineAnswer text (Err (line_faults.NotALine at))
+unread_many a text at what e k n = line_unread a text (TooMany at what) at e k n (λ m. absurd (cc)) refl
+
+pub unread_bad_number : (a : State) (text : List ℕ) (at : ℕ) → a ≡ record { rest = tokens text; counts = no_counts } → Fails (ALine ∷ AnEnd ∷ []) a (BadNumber at) → ((head_of a.rest).kind ≡ kinds.End → ⊥) → IsLineAnswer text (Err (line_faults.NotALine at))
+unread_bad_number a text at e k n = line_unread a text (BadNumber at) at e k n (λ m. absurd (cc)) refl
+
+pub ruleset line_answers = (line_answer, unread_bad_token, unread_unexpected, unread_many, unread_bad_number)
