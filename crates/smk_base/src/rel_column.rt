@@ -1,4 +1,4 @@
-ghost use Rattle.std.specs.Prelude.{◌≡◌, ◌≢◌, ◌<◌, ◌≤◌, ◌≤ℤ◌, ◌+◌, [], ◌∷◌, ◌++◌, length, map, All, IfOk, OnOk, pos};
+ghost use Rattle.std.specs.Prelude.{◌≡◌, ◌≢◌, ◌<◌, ◌≤◌, ◌≤ℤ◌, ◌+◌, [], ◌∷◌, ◌++◌, length, map, All, IfOk, IfErr, OnOk, pos};
 ghost use Rattle.smk_base.specs.Cells.{value_of_cell};
 ghost use Rattle.smk_base.specs.Columns.{IsColumnOf, IsReady};
 ghost use Rattle.smk_base.specs.Holds.{held};
@@ -41,6 +41,20 @@ impl Model for RelColumn {
     ghost view = { λ a. held a.hold };
 
     ghost invariant = { λ a. IsColumnOf (length (held a.hold).cells) (held a.hold) };
+}
+
+// The values where copies may share them, or, where memory is wanting, the values.
+fn shared_values(
+    alloc: Global,
+    column: ValueColumn,
+) -> Result<Arc<ValueColumn, Global>, ValueColumn>
+    ensures made { IfOk result (λ shared. shared.value ≡ column) }
+    ensures kept { IfErr result (λ kept. kept ≡ column) }
+{
+    match Arc::new(alloc, column) {
+        Ok(shared) => Ok(shared),
+        Err(failed) => Err(failed.value),
+    }
 }
 
 impl RelColumn {
@@ -98,10 +112,10 @@ impl RelColumn {
     {
         let none = Hold::Own(ValueColumn::new(alloc, Kind::Text));
         match mem::replace(&mut self.hold, none) {
-            Hold::Own(column) => match Arc::new(alloc, column) {
+            Hold::Own(column) => match shared_values(alloc, column) {
                 Ok(shared) => self.hold = Hold::Shared(shared),
-                Err(failed) => {
-                    self.hold = Hold::Own(failed.value);
+                Err(column) => {
+                    self.hold = Hold::Own(column);
                     return Err(AllocError);
                 }
             },
