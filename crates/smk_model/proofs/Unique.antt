@@ -5,6 +5,7 @@ use Rattle.smk_base.specs.declared.token.TokenKind.{TokenKind}
 use Rattle.smk_base.specs.declared.token.TokenKind.TheVariants as kinds
 use Rattle.smk_base.specs.declared.value.Value.TheVariants as values
 use Rattle.smk_base.specs.declared.plan.CmpOp.{CmpOp}
+use Rattle.smk_base.specs.declared.plan.CmpOp.TheVariants as ops
 use Rattle.smk_base.specs.declared.tree.Word.{Word}
 use Rattle.smk_base.specs.declared.tree.Lit.{Lit}
 use Rattle.smk_base.specs.declared.tree.Extra.{Extra}
@@ -19,7 +20,7 @@ use Rattle.smk_base.specs.declared.tree.Marks.TheVariants as markings
 use Rattle.smk_base.specs.declared.tree.Then.{Then}
 use Rattle.smk_base.specs.declared.tree.Line.{Line}
 use Rattle.smk_base.specs.declared.tree.Line.TheVariants as lines
-use Rattle.smk_base.specs.Trees.{PredImage, NotNode, TreeImage, ScanNode, StepImage, SelectNode, ProjectNode, DistinctNode, GroupNode, JoinNode, ThetaNode, ProductNode, UnionAllNode, UnionNode, StmtImage}
+use Rattle.smk_base.specs.Trees.{PredImage, NotNode, TreeImage, ScanNode, StepImage, SelectNode, ProjectNode, DistinctNode, GroupNode, JoinNode, ThetaNode, ProductNode, UnionAllNode, UnionNode, StmtImage, TableNode, ViewNode, BackNode, FwdNode, LinkNode}
 use Rattle.smk_model.specs.Tokens.{Token, head_of, tail_of, int_value, string_value}
 use Rattle.smk_model.specs.Grammar.{First, plain_word, quoted_word, IsName, name, IsColumn, plain, quoted, IsLiteral, number, string, IsFile, file, AreMore, no_more, one_more, AreListed, listed, IsType, int_type, text_type, IsDefault, no_default, default, IsDecl, decl, IsNamed, by_itself, by_as, IsWidth, width, IsItem, column_item, bin_item, IsWhat, count, sum, min, max, IsAgg, agg, AreKeys, no_keys, keys, AreAggs, no_aggs, aggs, IsPair, pair, IsOp, eq, ne, lt, le, gt, ge, IsTerm, column_term, literal_term, IsPrim, negated, bracketed, compared, IsConj, conj, AreAnds, no_and, one_and, IsPred, pred, AreOrs, no_or, one_or, IsPlan, plan, IsSource, scan, inner_plan, AreSteps, no_step, one_step, IsStep, where_step, project_step, distinct_step, group_step, join_step, theta_step, product_step, union_all_step, union_step, IsExtra, no_extra, by_extra, group_extra, IsStmt, table_stmt, view_stmt, back_stmt, fwd_stmt, link_stmt, AreStmts, no_stmt, one_stmt, IsMark, mark, AreMarks, all_marks, listed_marks, IsThen, no_then, where_then, group_then, IsLine, show_line, back_line, fwd_line, brush_line, clear_line, clear_one_line, IsWholeLine, whole_line}
 
@@ -52,6 +53,9 @@ same_at : {k j : TokenKind} {t u : Token} {a a' b c : List Token} → a ≡ a' �
 same_at {k} {j} {t} {u} {a} {a'} {b} {c} e h i =
     let f : t ∷ b ≡ u ∷ c = sym h.is_first ∙ e ∙ i.is_first in
     (sym h.is_kind ∙ ap (λ l. (head_of l).kind) f ∙ i.is_kind, ap head_of f, ap tail_of f)
+
+first_kind : {k : TokenKind} {t : Token} {a b : List Token} → First k t a b → (head_of a).kind ≡ k
+first_kind h = ap (λ l. (head_of l).kind) h.is_first ∙ h.is_kind
 
 one_name : {a a' b c : List Token} {w v : Word} → a ≡ a' → IsName a b w → IsName a' c v → (w ≡ v) × (b ≡ c)
 one_name e (name h) (name k) = let r = same_at e h k in (ap plain_word r.1, r.2)
@@ -134,23 +138,25 @@ one_item a a' b c x y e (bin_item h h1 h2 h3 h4 h5 h6 h7) (bin_item k k1 k2 k3 k
     let r = same_at e h k in let r1 = same_at r.2 h1 k1 in let r2 = one_column r1.2 h2 k2 in let r3 = same_at r2.1 h3 k3 in
     let r4 = one_width r3.2 h4 k4 in let r5 = same_at r4.1 h5 k5 in let r6 = same_at r5.2 h6 k6 in let r7 = one_column r6.2 h7 k7 in (cc, r7.1)
 
+-- the keyword that begins what an aggregate is
+abbrev what_opener : AggWhat → TokenKind
+what_opener whats.Count = kinds.Count
+what_opener (whats.Sum column) = kinds.Sum
+what_opener (whats.Min column) = kinds.Min
+what_opener (whats.Max column) = kinds.Max
+
+what_opening : {a b : List Token} {w : AggWhat} → IsWhat a b w → (head_of a).kind ≡ what_opener w
+what_opening (count h) = first_kind h
+what_opening (sum h p) = first_kind h
+what_opening (min h p) = first_kind h
+what_opening (max h p) = first_kind h
+
 one_what : {a a' b c : List Token} {w v : AggWhat} → a ≡ a' → IsWhat a b w → IsWhat a' c v → (w ≡ v) × (b ≡ c)
 one_what e (count h) (count k) = (refl, (same_at e h k).2)
-one_what e (count h) (sum k q) = let r = same_at e h k in absurd (cc)
-one_what e (count h) (min k q) = let r = same_at e h k in absurd (cc)
-one_what e (count h) (max k q) = let r = same_at e h k in absurd (cc)
-one_what e (sum h p) (count k) = let r = same_at e h k in absurd (cc)
 one_what e (sum h p) (sum k q) = let r = same_at e h k in let s = one_column r.2 p q in (ap whats.Sum s.0, s.1)
-one_what e (sum h p) (min k q) = let r = same_at e h k in absurd (cc)
-one_what e (sum h p) (max k q) = let r = same_at e h k in absurd (cc)
-one_what e (min h p) (count k) = let r = same_at e h k in absurd (cc)
-one_what e (min h p) (sum k q) = let r = same_at e h k in absurd (cc)
 one_what e (min h p) (min k q) = let r = same_at e h k in let s = one_column r.2 p q in (ap whats.Min s.0, s.1)
-one_what e (min h p) (max k q) = let r = same_at e h k in absurd (cc)
-one_what e (max h p) (count k) = let r = same_at e h k in absurd (cc)
-one_what e (max h p) (sum k q) = let r = same_at e h k in absurd (cc)
-one_what e (max h p) (min k q) = let r = same_at e h k in absurd (cc)
 one_what e (max h p) (max k q) = let r = same_at e h k in let s = one_column r.2 p q in (ap whats.Max s.0, s.1)
+one_what e p q = let r = sym (what_opening p) ∙ ap (λ l. (head_of l).kind) e ∙ what_opening q in absurd (cc)
 
 one_agg : One IsAgg
 one_agg a a' b c x y e (agg p h q) (agg p' k q') n m = let r = one_column e p p' in let s = same_at r.1 h k in let u = one_what s.2 q q' in (cc, u.1)
@@ -190,43 +196,28 @@ pub aggs_rank : {a b : List Token} {xs : List AggTree} → AreAggs a b xs → 4 
 aggs_rank no_aggs h = omega (arith, h)
 aggs_rank (aggs k p i) h = omega (arith, ranked k)
 
+-- the comparison that a token spells
+abbrev spelled : TokenKind → CmpOp
+spelled kinds.Equal = ops.Eq
+spelled kinds.NotEqual = ops.Ne
+spelled kinds.Less = ops.Lt
+spelled kinds.LessEqual = ops.Le
+spelled kinds.Greater = ops.Gt
+spelled _ = ops.Ge
+
+op_spelled : {a b : List Token} {w : CmpOp} → IsOp a b w → (w ≡ spelled (head_of a).kind) × (b ≡ tail_of a)
+op_spelled (eq h) = (sym (ap spelled (first_kind h)), sym (ap tail_of h.is_first))
+op_spelled (ne h) = (sym (ap spelled (first_kind h)), sym (ap tail_of h.is_first))
+op_spelled (lt h) = (sym (ap spelled (first_kind h)), sym (ap tail_of h.is_first))
+op_spelled (le h) = (sym (ap spelled (first_kind h)), sym (ap tail_of h.is_first))
+op_spelled (gt h) = (sym (ap spelled (first_kind h)), sym (ap tail_of h.is_first))
+op_spelled (ge h) = (sym (ap spelled (first_kind h)), sym (ap tail_of h.is_first))
+
 one_op : {a a' b c : List Token} {w v : CmpOp} → a ≡ a' → IsOp a b w → IsOp a' c v → (w ≡ v) × (b ≡ c)
-one_op e (eq h0) (eq k0) = (refl, (same_at e h0 k0).2)
-one_op e (eq h0) (ne k0) = let r = same_at e h0 k0 in absurd (cc)
-one_op e (eq h0) (lt k0) = let r = same_at e h0 k0 in absurd (cc)
-one_op e (eq h0) (le k0) = let r = same_at e h0 k0 in absurd (cc)
-one_op e (eq h0) (gt k0) = let r = same_at e h0 k0 in absurd (cc)
-one_op e (eq h0) (ge k0) = let r = same_at e h0 k0 in absurd (cc)
-one_op e (ne h0) (eq k0) = let r = same_at e h0 k0 in absurd (cc)
-one_op e (ne h0) (ne k0) = (refl, (same_at e h0 k0).2)
-one_op e (ne h0) (lt k0) = let r = same_at e h0 k0 in absurd (cc)
-one_op e (ne h0) (le k0) = let r = same_at e h0 k0 in absurd (cc)
-one_op e (ne h0) (gt k0) = let r = same_at e h0 k0 in absurd (cc)
-one_op e (ne h0) (ge k0) = let r = same_at e h0 k0 in absurd (cc)
-one_op e (lt h0) (eq k0) = let r = same_at e h0 k0 in absurd (cc)
-one_op e (lt h0) (ne k0) = let r = same_at e h0 k0 in absurd (cc)
-one_op e (lt h0) (lt k0) = (refl, (same_at e h0 k0).2)
-one_op e (lt h0) (le k0) = let r = same_at e h0 k0 in absurd (cc)
-one_op e (lt h0) (gt k0) = let r = same_at e h0 k0 in absurd (cc)
-one_op e (lt h0) (ge k0) = let r = same_at e h0 k0 in absurd (cc)
-one_op e (le h0) (eq k0) = let r = same_at e h0 k0 in absurd (cc)
-one_op e (le h0) (ne k0) = let r = same_at e h0 k0 in absurd (cc)
-one_op e (le h0) (lt k0) = let r = same_at e h0 k0 in absurd (cc)
-one_op e (le h0) (le k0) = (refl, (same_at e h0 k0).2)
-one_op e (le h0) (gt k0) = let r = same_at e h0 k0 in absurd (cc)
-one_op e (le h0) (ge k0) = let r = same_at e h0 k0 in absurd (cc)
-one_op e (gt h0) (eq k0) = let r = same_at e h0 k0 in absurd (cc)
-one_op e (gt h0) (ne k0) = let r = same_at e h0 k0 in absurd (cc)
-one_op e (gt h0) (lt k0) = let r = same_at e h0 k0 in absurd (cc)
-one_op e (gt h0) (le k0) = let r = same_at e h0 k0 in absurd (cc)
-one_op e (gt h0) (gt k0) = (refl, (same_at e h0 k0).2)
-one_op e (gt h0) (ge k0) = let r = same_at e h0 k0 in absurd (cc)
-one_op e (ge h0) (eq k0) = let r = same_at e h0 k0 in absurd (cc)
-one_op e (ge h0) (ne k0) = let r = same_at e h0 k0 in absurd (cc)
-one_op e (ge h0) (lt k0) = let r = same_at e h0 k0 in absurd (cc)
-one_op e (ge h0) (le k0) = let r = same_at e h0 k0 in absurd (cc)
-one_op e (ge h0) (gt k0) = let r = same_at e h0 k0 in absurd (cc)
-one_op e (ge h0) (ge k0) = (refl, (same_at e h0 k0).2)
+one_op e p q =
+    let r = op_spelled p in
+    let s = op_spelled q in
+    (r.0 ∙ ap (λ l. spelled (head_of l).kind) e ∙ sym s.0, r.1 ∙ ap tail_of e ∙ sym s.1)
 
 no_literal : {a a' b c : List Token} {w : Word} {l : Lit} → a ≡ a' → IsColumn a b w → IsLiteral a' c l → ⊥
 no_literal e (plain h) (number k) = let r = same_at e h k in absurd (cc)
@@ -288,9 +279,6 @@ steps_rank (one_step k p i) h = omega (arith, ranked k)
 source_rank : {a b : List Token} {x : TreeImage} → IsSource a b x → {t : Token} {c : List Token} {a' : List Token} → a ≡ a' → First kinds.All t a' c → ⊥
 source_rank (scan h p) e k = let r = same_at e h k in absurd (cc)
 source_rank (inner_plan h p i) e k = let r = same_at e h k in absurd (cc)
-
-first_kind : {k : TokenKind} {t : Token} {a b : List Token} → First k t a b → (head_of a).kind ≡ k
-first_kind h = ap (λ l. (head_of l).kind) h.is_first ∙ h.is_kind
 
 -- the keyword that begins a step
 abbrev step_opener : StepImage → TokenKind
@@ -362,32 +350,30 @@ one_extra e (group_extra h0 h1 h2) no_extra n m = absurd (omega (arith, same_ran
 one_extra e (group_extra h0 h1 h2) (by_extra k0 k1) n m = let r = same_at e h0 k0 in absurd (cc)
 one_extra e (group_extra h0 h1 h2) (group_extra k0 k1 k2) n m = let r = same_at e h0 k0 in let s = one_keys r.2 h1 k1 (aggs_rank h2 (omega (arith, n))) (aggs_rank k2 (omega (arith, m))) in let u = one_aggs s.1 h2 k2 (omega (arith, n)) (omega (arith, m)) in (cc, u.1)
 
+-- the keyword that begins a statement
+abbrev stmt_opener : StmtImage → TokenKind
+stmt_opener (TableNode w source columns) = kinds.Table
+stmt_opener (ViewNode w tree) = kinds.View
+stmt_opener (BackNode at view table extra) = kinds.Lineage
+stmt_opener (FwdNode at table view) = kinds.Lineage
+stmt_opener (LinkNode view table views) = kinds.Link
+
+stmt_opening : {a b : List Token} {x : StmtImage} → IsStmt a b x → (head_of a).kind ≡ stmt_opener x
+stmt_opening (table_stmt h h1 h2 h3 h4 h5 h6) = first_kind h
+stmt_opening (view_stmt h h1 h2 h3) = first_kind h
+stmt_opening (back_stmt h h1 h2 h3 h4 h5) = first_kind h
+stmt_opening (fwd_stmt h h1 h2 h3 h4) = first_kind h
+stmt_opening (link_stmt h h1 h2 h3 h4 h5) = first_kind h
+
 one_stmt_at : {a a' b c : List Token} {x y : StmtImage} → a ≡ a' → IsStmt a b x → IsStmt a' c y → 8 ≤ rank_of b → 8 ≤ rank_of c → (x ≡ y) × (b ≡ c)
 one_stmt_at e (table_stmt h0 h1 h2 h3 h4 h5 h6) (table_stmt k0 k1 k2 k3 k4 k5 k6) n m = let r0 = same_at e h0 k0 in let r1 = one_name r0.2 h1 k1 in let r2 = same_at r1.1 h2 k2 in let r3 = one_file r2.2 h3 k3 in let r4 = same_at r3.1 h4 k4 in let r5 = one_list one_decl r4.2 h5 k5 (omega (arith, ranked h6)) (omega (arith, ranked k6)) in let r6 = same_at r5.1 h6 k6 in (cc, r6.2)
-one_stmt_at e (table_stmt h0 h1 h2 h3 h4 h5 h6) (view_stmt k0 k1 k2 k3) n m = let r = same_at e h0 k0 in absurd (cc)
-one_stmt_at e (table_stmt h0 h1 h2 h3 h4 h5 h6) (back_stmt k0 k1 k2 k3 k4 k5) n m = let r = same_at e h0 k0 in absurd (cc)
-one_stmt_at e (table_stmt h0 h1 h2 h3 h4 h5 h6) (fwd_stmt k0 k1 k2 k3 k4) n m = let r = same_at e h0 k0 in absurd (cc)
-one_stmt_at e (table_stmt h0 h1 h2 h3 h4 h5 h6) (link_stmt k0 k1 k2 k3 k4 k5) n m = let r = same_at e h0 k0 in absurd (cc)
-one_stmt_at e (view_stmt h0 h1 h2 h3) (table_stmt k0 k1 k2 k3 k4 k5 k6) n m = let r = same_at e h0 k0 in absurd (cc)
 one_stmt_at e (view_stmt h0 h1 h2 h3) (view_stmt k0 k1 k2 k3) n m = let r0 = same_at e h0 k0 in let r1 = one_name r0.2 h1 k1 in let r2 = same_at r1.1 h2 k2 in let r3 = one_plan r2.2 h3 k3 (omega (arith, n)) (omega (arith, m)) in (cc, r3.1)
-one_stmt_at e (view_stmt h0 h1 h2 h3) (back_stmt k0 k1 k2 k3 k4 k5) n m = let r = same_at e h0 k0 in absurd (cc)
-one_stmt_at e (view_stmt h0 h1 h2 h3) (fwd_stmt k0 k1 k2 k3 k4) n m = let r = same_at e h0 k0 in absurd (cc)
-one_stmt_at e (view_stmt h0 h1 h2 h3) (link_stmt k0 k1 k2 k3 k4 k5) n m = let r = same_at e h0 k0 in absurd (cc)
-one_stmt_at e (back_stmt h0 h1 h2 h3 h4 h5) (table_stmt k0 k1 k2 k3 k4 k5 k6) n m = let r = same_at e h0 k0 in absurd (cc)
-one_stmt_at e (back_stmt h0 h1 h2 h3 h4 h5) (view_stmt k0 k1 k2 k3) n m = let r = same_at e h0 k0 in absurd (cc)
 one_stmt_at e (back_stmt h0 h1 h2 h3 h4 h5) (back_stmt k0 k1 k2 k3 k4 k5) n m = let r0 = same_at e h0 k0 in let r1 = same_at r0.2 h1 k1 in let r2 = one_name r1.2 h2 k2 in let r3 = same_at r2.1 h3 k3 in let r4 = one_name r3.2 h4 k4 in let r5 = one_extra r4.1 h5 k5 n m in (cc, r5.1)
 one_stmt_at e (back_stmt h0 h1 h2 h3 h4 h5) (fwd_stmt k0 k1 k2 k3 k4) n m = let r = same_at e h0 k0 in let s = same_at r.2 h1 k1 in absurd (cc)
-one_stmt_at e (back_stmt h0 h1 h2 h3 h4 h5) (link_stmt k0 k1 k2 k3 k4 k5) n m = let r = same_at e h0 k0 in absurd (cc)
-one_stmt_at e (fwd_stmt h0 h1 h2 h3 h4) (table_stmt k0 k1 k2 k3 k4 k5 k6) n m = let r = same_at e h0 k0 in absurd (cc)
-one_stmt_at e (fwd_stmt h0 h1 h2 h3 h4) (view_stmt k0 k1 k2 k3) n m = let r = same_at e h0 k0 in absurd (cc)
 one_stmt_at e (fwd_stmt h0 h1 h2 h3 h4) (back_stmt k0 k1 k2 k3 k4 k5) n m = let r = same_at e h0 k0 in let s = same_at r.2 h1 k1 in absurd (cc)
 one_stmt_at e (fwd_stmt h0 h1 h2 h3 h4) (fwd_stmt k0 k1 k2 k3 k4) n m = let r0 = same_at e h0 k0 in let r1 = same_at r0.2 h1 k1 in let r2 = one_name r1.2 h2 k2 in let r3 = same_at r2.1 h3 k3 in let r4 = one_name r3.2 h4 k4 in (cc, r4.1)
-one_stmt_at e (fwd_stmt h0 h1 h2 h3 h4) (link_stmt k0 k1 k2 k3 k4 k5) n m = let r = same_at e h0 k0 in absurd (cc)
-one_stmt_at e (link_stmt h0 h1 h2 h3 h4 h5) (table_stmt k0 k1 k2 k3 k4 k5 k6) n m = let r = same_at e h0 k0 in absurd (cc)
-one_stmt_at e (link_stmt h0 h1 h2 h3 h4 h5) (view_stmt k0 k1 k2 k3) n m = let r = same_at e h0 k0 in absurd (cc)
-one_stmt_at e (link_stmt h0 h1 h2 h3 h4 h5) (back_stmt k0 k1 k2 k3 k4 k5) n m = let r = same_at e h0 k0 in absurd (cc)
-one_stmt_at e (link_stmt h0 h1 h2 h3 h4 h5) (fwd_stmt k0 k1 k2 k3 k4) n m = let r = same_at e h0 k0 in absurd (cc)
 one_stmt_at e (link_stmt h0 h1 h2 h3 h4 h5) (link_stmt k0 k1 k2 k3 k4 k5) n m = let r0 = same_at e h0 k0 in let r1 = one_name r0.2 h1 k1 in let r2 = same_at r1.1 h2 k2 in let r3 = one_name r2.2 h3 k3 in let r4 = same_at r3.1 h4 k4 in let r5 = one_list each_name r4.2 h5 k5 (omega (arith, n)) (omega (arith, m)) in (cc, r5.1)
+one_stmt_at e p q n m = let r = sym (stmt_opening p) ∙ ap (λ l. (head_of l).kind) e ∙ stmt_opening q in absurd (cc)
 
 stmt_rank : {a b : List Token} {x : StmtImage} → IsStmt a b x → rank_of a ≡ 9
 stmt_rank (table_stmt h h1 h2 h3 h4 h5 h6) = ranked h
