@@ -113,34 +113,3 @@ fn planned_failure(fails: &[(u32, u64)], call: u64) -> Option<u64>
     }
     None
 }
-
-#[cfg(test)]
-mod tests {
-    use super::*;
-    use std::test::Fail;
-
-    #[test]
-    fn writes_up_to_a_failure_or_the_room(rt: HostRuntime) -> Result<(), Fail> {
-        let fails = vec![in rt.alloc(); (1, 0), (2, 1), (2, 2), (3, 2), (4, 9)]?;
-        let mut sink = MemSink::new(rt.alloc(), fails, 12)?;
-        // the piece, whether all of it is written by a call that doesn't fail, all bytes and the count of faults after it
-        let rows = [
-            (b"ab".as_slice(), true, b"ab".as_slice(), 0),
-            (b"cd".as_slice(), false, b"ab".as_slice(), 1),
-            (b"ef".as_slice(), false, b"abe".as_slice(), 2),
-            (b"gh".as_slice(), false, b"abegh".as_slice(), 3),
-            (b"ij".as_slice(), false, b"abeghij".as_slice(), 4),
-            (b"".as_slice(), true, b"abeghij".as_slice(), 4),
-            (b"klmn".as_slice(), true, b"abeghijklmn".as_slice(), 4),
-            (b"op".as_slice(), false, b"abeghijklmno".as_slice(), 5),
-            (b"".as_slice(), true, b"abeghijklmno".as_slice(), 5),
-            (b"q".as_slice(), false, b"abeghijklmno".as_slice(), 6),
-        ];
-        for (piece, whole, bytes, faults) in rows {
-            assert_eq!(rt; sink.put(piece).is_ok(), whole);
-            assert_eq!(rt; sink.bytes(), bytes);
-            assert_eq!(rt; sink.faults, faults);
-        }
-        Ok(())
-    }
-}

@@ -10,6 +10,3 @@ pub use counted::{Calls, Counted, refused_step};
 pub use gated::Gated;
 pub use meeting::Meeting;
 pub use no_steps::NoSteps;
-
-#[cfg(test)]
-mod tests;

@@ -2,15 +2,11 @@ ghost use Rattle.std.specs.Prelude.{◌≡◌, [], ◌∷◌, IfOk};
 ghost use Rattle.smk_base.specs.declared.value.Kind.TheVariants as kinds;
 
 use smk_base::{CellRef, CmpOp, Dir, Kind, Op1, Operand, Pred, Rel, Row, Value};
-use smk_body::OpBody;
+use smk_body::{Local, OpBody};
 use smk_plain::Plain;
 use std::alloc::{AllocError, Global};
 use std::test::Fail;
-
-const NONE: Dir = Dir {
-    back: false,
-    fwd: false,
-};
+use std::thread::Threads;
 
 // One row of an int.
 fn one_row(alloc: Global, number: i64) -> Result<Rel, AllocError>
@@ -23,15 +19,27 @@ fn one_row(alloc: Global, number: i64) -> Result<Rel, AllocError>
     Ok(rel)
 }
 
+// The rows over 9 of one row, and their lineage.
+fn over_nine<R: Threads + Sync>(
+    rt: &R,
+    alloc: Global,
+    number: i64,
+) -> Result<(Rel, Local), AllocError> {
+    let op = Op1::Select(Pred::Cmp(0, CmpOp::Ge, Operand::Lit(Value::Int(10))));
+    let none = Dir {
+        back: false,
+        fwd: false,
+    };
+    let (made, pending) = Plain.apply1(rt, alloc, &op, one_row(alloc, number)?, none)?;
+    Ok((made, Plain.finish(rt, alloc, pending)?))
+}
+
 // A run asks the plain body for rows alone, and never for lineage.
 #[test]
 fn the_plain_body_has_no_lineage(rt: HostRuntime) -> Result<(), Fail> {
-    let alloc = rt.alloc();
-    let op = Op1::Select(Pred::Cmp(0, CmpOp::Ge, Operand::Lit(Value::Int(10))));
-    let (made, pending) = Plain.apply1(&rt, alloc, &op, one_row(alloc, 10)?, NONE)?;
+    let (made, local) = over_nine(&rt, rt.alloc(), 10)?;
     assert_eq!(rt; (made.len(), made.width()), (1, 1));
     assert!(rt; matches!(made.cell(0, 0), CellRef::Int(10)));
-    let local = Plain.finish(&rt, alloc, pending)?;
     assert!(rt; local.left.back.is_none() && local.left.fwd.is_none() && local.right.is_none());
     assert!(rt; !Plain.captures());
     Ok(())

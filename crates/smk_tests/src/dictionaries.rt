@@ -1,13 +1,22 @@
 use smk_base::Dict;
-use std::alloc::AllocError;
+use std::alloc::{AllocError, Global};
 use std::test::Fail;
 
-// The code of a text that is there afterwards.
-fn code(dict: &mut Dict, text: &[u8]) -> Result<u32, AllocError> {
-    if dict.len() < 2_097_152 {
-        dict.add_bytes(text)
-    } else {
-        Err(AllocError)
+// The codes that texts get, one after the other.
+fn coded(alloc: Global, dict: &mut Dict, texts: &[&[u8]]) -> Result<Vec<u32>, AllocError> {
+    let mut codes = Vec::new(alloc);
+    for text in texts {
+        if dict.len() < 2_097_152 {
+            codes.push(dict.add_bytes(text)?)?;
+        }
+    }
+    Ok(codes)
+}
+
+// As many texts as this are left.
+fn cut(dict: &mut Dict, len: u32) {
+    if len <= dict.len() {
+        dict.truncate(len);
     }
 }
 
@@ -15,17 +24,11 @@ fn code(dict: &mut Dict, text: &[u8]) -> Result<u32, AllocError> {
 #[test]
 fn texts_that_end_alike(rt: HostRuntime) -> Result<(), Fail> {
     let mut dict = Dict::new(rt.alloc());
-    assert_eq!(rt; code(&mut dict, b"n-1")?, 0);
-    assert_eq!(rt; code(&mut dict, b"s-1")?, 1);
-    assert_eq!(rt; code(&mut dict, b"-1")?, 2);
-    assert_eq!(rt; code(&mut dict, b"n-1")?, 0);
-    assert_eq!(rt; code(&mut dict, b"")?, 3);
-    assert_eq!(rt; code(&mut dict, b"1")?, 4);
+    let texts: [&[u8]; 6] = [b"n-1", b"s-1", b"-1", b"n-1", b"", b"1"];
+    let codes = coded(rt.alloc(), &mut dict, texts.as_slice())?;
+    assert_eq!(rt; codes.as_slice(), [0u32, 1, 2, 0, 3, 4].as_slice());
     assert_eq!(rt; dict.code_of_bytes(b"-1"), Some(2));
-    assert_eq!(rt; dict.code_of_bytes(b"w-1"), None);
-    dict.truncate(1);
-    assert_eq!(rt; dict.code_of_bytes(b"-1"), None);
-    assert_eq!(rt; code(&mut dict, b"w-1")?, 1);
-    assert_eq!(rt; dict.len(), 2);
+    cut(&mut dict, 2);
+    assert_eq!(rt; (dict.code_of_bytes(b"-1"), dict.len()), (None, 2));
     Ok(())
 }

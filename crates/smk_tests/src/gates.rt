@@ -1,35 +1,45 @@
-//! Steps in pieces: their lists, and that the pieces run beside each other.
+//! Pieces of one step that run beside each other.
 
-use crate::fixtures::want;
-use crate::one_steps::{have_their_lists, joins_one_of_each_side, keeps_places, reaches_groups};
-use smk_defer::Defer;
+use crate::contents::has_content;
+use crate::opened::ran;
+use crate::steps::{COUNTED, JOINED, KEPT, steps};
+use smk_base::Need;
+use smk_compose::RunFault;
 use smk_inject::Inject;
-use smk_outside::Idle;
 use smk_par::Pieces;
-use smk_test_bodies::Meeting;
+use smk_test_bodies::{Calls, Counted, Gated, Meeting, NoSteps};
 use std::test::Fail;
-
-#[test]
-fn pieces_give_each_step_its_lists(rt: HostRuntime) -> Result<(), Fail> {
-    let alloc = rt.alloc();
-    have_their_lists(&rt, alloc, &Pieces::new(Inject, &Idle, 1))?;
-    have_their_lists(&rt, alloc, &Pieces::new(Inject, &Idle, 2))?;
-    have_their_lists(&rt, alloc, &Pieces::new(Inject, &Idle, 64))?;
-    have_their_lists(&rt, alloc, &Pieces::new(Defer, &Idle, 3))
-}
 
 // A piece comes once for each step, also where the step has two passes.
 #[test]
 fn two_pieces_of_each_cut_step_meet(rt: HostRuntime) -> Result<(), Fail> {
-    let alloc = rt.alloc();
+    let steps = steps(rt.alloc())?;
+    for content in &[KEPT, JOINED, COUNTED] {
+        let gate = Meeting::new();
+        let body = Pieces::new(Inject, &gate, 2);
+        assert!(rt; has_content(&rt, rt, &body, &steps, content)?);
+        assert_eq!(rt; gate.came(), [1, 1, 0]);
+    }
+    Ok(())
+}
+
+// The body whose pieces are numbers cuts a selection and a bag union. The steps want memory once their pieces are made.
+#[test]
+fn pieces_that_are_numbers_meet(rt: HostRuntime) -> Result<(), Fail> {
+    let steps = steps(rt.alloc())?;
     let gate = Meeting::new();
-    let body = Pieces::new(Inject, &gate, 2);
-    want(keeps_places(&rt, alloc, &body)?, "a selection")?;
-    assert_eq!(rt; gate.came(), [1, 1, 0]);
-    want(joins_one_of_each_side(&rt, alloc, &body)?, "a join")?;
-    assert_eq!(rt; gate.came(), [2, 2, 0]);
-    // Its steps are two.
-    want(reaches_groups(&rt, alloc, &body)?, "a grouping")?;
-    assert_eq!(rt; gate.came(), [4, 4, 0]);
+    let body = Counted::new(Gated::new(NoSteps, &gate, 2));
+    for (view, came) in [(0u32, [1u64, 1, 0]), (6, [2, 2, 0])] {
+        assert!(rt; (view as usize) < steps.book.catalog().views.as_slice().len());
+        let made = ran(&rt, rt, &body, &steps, view, &Need::new(rt.alloc()));
+        assert!(rt; matches!(made, Err(RunFault::NoMemory)));
+        assert_eq!(rt; gate.came(), came);
+    }
+    let calls = Calls {
+        one: 1,
+        two: 1,
+        finish: 0,
+    };
+    assert_eq!(rt; body.calls(), calls);
     Ok(())
 }

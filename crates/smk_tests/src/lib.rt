@@ -3,37 +3,29 @@
 #![tactic(auto)]
 
 #[cfg(test)]
+mod adapters;
+#[cfg(test)]
 mod bodies;
 #[cfg(test)]
 mod captures;
 #[cfg(test)]
 mod composed;
 #[cfg(test)]
-mod copies;
-#[cfg(test)]
-mod crowded;
-#[cfg(test)]
-mod demos;
+mod contents;
 #[cfg(test)]
 mod dictionaries;
 #[cfg(test)]
-mod fixtures;
-#[cfg(test)]
 mod gates;
 #[cfg(test)]
-mod keys;
-#[cfg(test)]
-mod leaves;
-#[cfg(test)]
 mod meetings;
-#[cfg(test)]
-mod one_steps;
 #[cfg(test)]
 mod opened;
 #[cfg(test)]
 mod rids;
 #[cfg(test)]
-mod sessions;
+mod shop;
+#[cfg(test)]
+mod steps;
 #[cfg(test)]
 mod tables;
 #[cfg(test)]

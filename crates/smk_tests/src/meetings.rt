@@ -2,9 +2,9 @@
 
 ghost use Rattle.std.specs.Prelude.{◌≡◌, ◌<◌};
 
-use crate::fixtures::want;
 use crate::opened::{Opened, open_book};
-use smk_base::{Reply, Text};
+use crate::shop::{REGIONS, SALES};
+use smk_base::{Line, Reply, Text};
 use smk_outside::{Idle, MemFiles, MemSink, Steps};
 use smk_parse::parse_line;
 use smk_session::{Mode, Session};
@@ -24,15 +24,18 @@ view few = scan sales | group region {n = count} | where n < 2
 link by_region on sales to by_zone, few
 ";
 
-const SALES: &[u8] = b"id,region,amount\n1,north,10\n2,south,20\n3,north,30\n4,east,5\n";
-
-const REGIONS: &[u8] = b"name,zone\nnorth,A\nsouth,B\neast,A\n";
-
-fn file(alloc: Global, name: &[u8], bytes: &[u8]) -> Result<(Text, Text), AllocError> {
-    Ok((
-        Text::from_vec(Vec::from_slice(alloc, name)?),
-        Text::from_vec(Vec::from_slice(alloc, bytes)?),
-    ))
+// The files of the book by their names.
+fn files(alloc: Global) -> Result<Vec<(Text, Text)>, AllocError> {
+    let mut files = Vec::new(alloc);
+    for (name, bytes) in [
+        (b"book.smk".as_slice(), BOOK.as_bytes()),
+        (b"sales.csv".as_slice(), SALES),
+        (b"regions.csv".as_slice(), REGIONS),
+    ] {
+        let name = Text::from_vec(Vec::from_slice(alloc, name)?);
+        files.push((name, Text::from_vec(Vec::from_slice(alloc, bytes)?)))?;
+    }
+    Ok(files)
 }
 
 // A run of the book with two workers at this gate.
@@ -42,16 +45,12 @@ fn run_in_two<R: Threads + Sync, L: Ledger>(
     alloc: Global,
     gate: &Meeting,
     blank: Blank,
-) -> Result<Status, Fail>
+) -> Result<Status, AllocError>
     requires name { L.name ≡ blank.name }
     requires parts { L.parts ≡ blank.parts }
     requires some { 0 < blank.parts }
 {
-    let mut files = Vec::new(alloc);
-    files.push(file(alloc, b"book.smk", BOOK.as_bytes())?)?;
-    files.push(file(alloc, b"sales.csv", SALES)?)?;
-    files.push(file(alloc, b"regions.csv", REGIONS)?)?;
-    let mut files = MemFiles::new(files, Vec::new(alloc));
+    let mut files = MemFiles::new(files(alloc)?, Vec::new(alloc));
     let mut out = MemSink::new(alloc, Vec::new(alloc), 4096)?;
     let mut err = MemSink::new(alloc, Vec::new(alloc), 4096)?;
     let mut steps: Steps<L> = Steps::new(system, blank);
@@ -67,14 +66,45 @@ fn two_pieces_of_each_step_of_a_run_meet(rt: HostRuntime) -> Result<(), Fail> {
     let status = run_in_two::<_, Brand>(rt, &rt, rt.alloc(), &gate, Blank::new(1))?;
     assert_eq!(rt; status, Status::Done);
     let [first, second, alone] = gate.came();
-    want(first > 0, "a piece with number 0")?;
-    assert_eq!(rt; second, first);
-    assert_eq!(rt; alone, 0);
+    assert!(rt; first > 0 && first == second && alone == 0);
     Ok(())
 }
 
-// The views that follow a brush in a session with two workers, each of which passes this gate.
-fn brush_in_two<R: Threads + Sync, L: Ledger>(
+// The line of a text.
+fn line_of(alloc: Global, text: &[u8]) -> Result<Line, Fail> {
+    match parse_line(alloc, text)? {
+        Some(line) => Ok(line),
+        None => Err(Fail::new("no line")),
+    }
+}
+
+// The session of the book with two workers.
+fn started<R: Threads + Sync, L: Ledger>(
+    rt: &R,
+    alloc: Global,
+    steps: &mut Steps<L>,
+) -> Result<Session, Fail> {
+    let Opened { book, tables } = open_book(alloc, BOOK, &[SALES, REGIONS])?;
+    Ok(Session::start(rt, alloc, book, tables, Mode::Inject, 2, &Idle, steps)?)
+}
+
+// The answer to a line by a session whose views pass this gate. After want of memory it is asked again.
+fn told<R: Threads + Sync, L: Ledger>(
+    rt: &R,
+    alloc: Global,
+    session: &mut Session,
+    line: &Line,
+    gate: &Meeting,
+    steps: &mut Steps<L>,
+) -> Result<Reply, AllocError> {
+    match session.answer(rt, alloc, line, gate, steps) {
+        Ok(reply) => Ok(reply),
+        Err(_) => session.answer(rt, alloc, line, &Idle, steps),
+    }
+}
+
+// The answer to a brush by a session of its own.
+fn told_in_two<R: Threads + Sync, L: Ledger>(
     system: HostRuntime,
     rt: &R,
     alloc: Global,
@@ -85,12 +115,26 @@ fn brush_in_two<R: Threads + Sync, L: Ledger>(
     requires parts { L.parts ≡ blank.parts }
     requires some { 0 < blank.parts }
 {
+    let line = line_of(alloc, b"brush by_region 0 on sales")?;
     let mut steps: Steps<L> = Steps::new(system, blank);
-    let Opened { book, tables } = open_book(alloc, BOOK, &[SALES, REGIONS])?;
-    let mut session = Session::start(rt, alloc, book, tables, Mode::Inject, 2, &Idle, &mut steps)?;
-    match parse_line(alloc, b"brush by_region 0 on sales")? {
-        Some(line) => Ok(session.answer(rt, alloc, &line, gate, &mut steps)?),
-        None => Err(Fail::new("no line")),
+    let mut session = started(rt, alloc, &mut steps)?;
+    Ok(told(rt, alloc, &mut session, &line, gate, &mut steps)?)
+}
+
+// Whether the brush selects rows 0 and 2 and two views follow it, of a row each and of none.
+fn is_brush(reply: &Reply) -> bool {
+    match reply {
+        Reply::Brush { rids, linked } => match linked.as_slice() {
+            [by_zone, few] => {
+                rids.as_slice() == [0, 2].as_slice()
+                    && by_zone.marks.as_slice() == [0].as_slice()
+                    && by_zone.rel.len() == 1
+                    && few.marks.as_slice().is_empty()
+                    && few.rel.len() == 0
+            }
+            _ => false,
+        },
+        _ => false,
     }
 }
 
@@ -98,13 +142,8 @@ fn brush_in_two<R: Threads + Sync, L: Ledger>(
 #[test]
 fn two_views_that_follow_a_brush_meet(rt: HostRuntime) -> Result<(), Fail> {
     let gate = Meeting::new();
-    match brush_in_two::<_, Brand>(rt, &rt, rt.alloc(), &gate, Blank::new(1))? {
-        Reply::Brush { rids, linked } => {
-            want(rids.as_slice() == [0, 2].as_slice(), "the rows of a brush")?;
-            want(linked.as_slice().len() == 2, "two linked views")?;
-        }
-        _ => return Err(Fail::new("no brush")),
-    }
+    let reply = told_in_two::<_, Brand>(rt, &rt, rt.alloc(), &gate, Blank::new(1))?;
+    assert!(rt; is_brush(&reply));
     assert_eq!(rt; gate.came(), [1, 1, 0]);
     Ok(())
 }

@@ -8,6 +8,7 @@ ghost use Rattle.smk_model.specs.Catalogs.{table_kinds, each_table_kinds};
 ghost use Rattle.smk_model.specs.Selection.{each_kinds};
 ghost use Rattle.smk_compose.specs.Kept.{NeedFits};
 
+use crate::rids::lists_shown;
 use smk_base::{Book, CellRef, Need, Rel, TableInfo};
 use smk_body::OpBody;
 use smk_compose::{KeptMap, Run, RunFault, run_plan};
@@ -141,18 +142,17 @@ fn write_row(text: &mut String, rel: &Rel, i: u32) -> Result<(), Fail>
     Ok(())
 }
 
-// Writes the lists of a map and their bound, where there is one.
-fn write_map(text: &mut String, way: &str, map: &Option<RidMap>) -> Result<(), Fail> {
-    let Some(map) = map else {
-        return Ok(());
-    };
-    write!(text, "{way} ")?;
-    for i in 0..map.len() {
-        let rids = map.at(i);
-        write!(text, "{rids:?} ")?;
+// Writes the lists of a map, where there is one.
+fn write_map(
+    alloc: Global,
+    text: &mut String,
+    way: &str,
+    map: &Option<RidMap>,
+) -> Result<(), Fail> {
+    if let Some(map) = map {
+        let lists = lists_shown(alloc, map)?;
+        writeln!(text, "{way} {lists}")?;
     }
-    let bound = map.bound();
-    writeln!(text, "below {bound}")?;
     Ok(())
 }
 
@@ -171,8 +171,8 @@ pub(crate) fn maps_shown(alloc: Global, kept: &[KeptMap]) -> Result<String, Fail
     for map in kept {
         let table = map.table;
         writeln!(text, "table {table}")?;
-        write_map(&mut text, "back", &map.back)?;
-        write_map(&mut text, "fwd", &map.fwd)?;
+        write_map(alloc, &mut text, "back", &map.back)?;
+        write_map(alloc, &mut text, "fwd", &map.fwd)?;
     }
     Ok(text)
 }

@@ -1,22 +1,40 @@
 ghost use Rattle.std.specs.Prelude.{◌≡◌, ◌<◌, length};
 
-use crate::fixtures::one_column;
+use crate::shop::shop;
 use smk_base::{CellRef, Row, Value};
 use smk_outside::Steps;
-use smk_table::{Table, read_table};
+use smk_table::Table;
 use std::alloc::{AllocError, Global};
 use std::marker::Brand;
 use std::sync::ledger::{Blank, Ledger};
 use std::test::Fail;
 
-// A row as `fetch` makes it, and its first value as `cell` has it.
-fn looked_at<'t, L: Ledger>(
+// A row as `fetch` makes it.
+fn row_at<L: Ledger>(
     system: HostRuntime,
     alloc: Global,
+    table: &Table,
+    rid: u32,
+    blank: Blank,
+) -> Result<Row, AllocError>
+    requires name { L.name ≡ blank.name }
+    requires parts { L.parts ≡ blank.parts }
+    requires some { 0 < blank.parts }
+    requires row { rid < length table.now.rows }
+{
+    let mut steps: Steps<L> = Steps::new(system, blank);
+    let mut row = Row::new(alloc);
+    table.fetch(alloc, rid, &mut row, &mut steps)?;
+    Ok(row)
+}
+
+// The first value of a row as `cell` has it.
+fn first_of<'t, L: Ledger>(
+    system: HostRuntime,
     table: &'t Table,
     rid: u32,
     blank: Blank,
-) -> Result<(Row, CellRef<'t>), AllocError>
+) -> CellRef<'t>
     requires name { L.name ≡ blank.name }
     requires parts { L.parts ≡ blank.parts }
     requires some { 0 < blank.parts }
@@ -24,18 +42,26 @@ fn looked_at<'t, L: Ledger>(
     requires column { 0 < length table.now.kinds }
 {
     let mut steps: Steps<L> = Steps::new(system, blank);
-    let mut row = Row::new(alloc);
-    table.fetch(alloc, rid, &mut row, &mut steps)?;
-    Ok((row, table.cell(rid, 0, &mut steps)))
+    table.cell(rid, 0, &mut steps)
 }
 
+// A run looks at chosen rows at once.
 #[test]
 fn a_cell_is_that_of_its_row(rt: HostRuntime) -> Result<(), Fail> {
-    let alloc = rt.alloc();
-    let table = read_table(alloc, b"a\n5\n-6\n7\n", &one_column(alloc)?)?;
-    assert_eq!(rt; (table.len(), table.width()), (3, 1));
-    let (row, cell) = looked_at::<Brand>(rt, alloc, &table, 1, Blank::new(1))?;
-    assert!(rt; row.as_slice() == [Value::Int(-6)].as_slice());
-    assert!(rt; matches!(cell, CellRef::Int(-6)));
+    let shop = shop(rt.alloc())?;
+    let Some(table) = shop.tables.as_slice().last() else {
+        return Err(Fail::new("no table"));
+    };
+    assert_eq!(rt; (table.len(), table.width()), (3, 2));
+    let south = b"south".as_slice();
+    let cell = first_of::<Brand>(rt, table, 1, Blank::new(1));
+    assert!(rt; matches!(cell, CellRef::Text(bytes) if bytes == south));
+    let row = row_at::<Brand>(rt, rt.alloc(), table, 1, Blank::new(1))?;
+    match row.as_slice() {
+        [Value::Text(name), Value::Text(zone)] => {
+            assert!(rt; name.as_slice() == south && zone.as_slice() == b"B".as_slice());
+        }
+        _ => return Err(Fail::new("a row that isn't two texts")),
+    }
     Ok(())
 }
