@@ -1,144 +1,117 @@
 -- Symbols that begin as others do.
 use Rattle.std.specs.Prelude.{cond, nat_lt}
-use Rattle.std.proofs.Common.{◌≡◌, ℕ, ℤ, Bool, true, false, [], ◌∷◌, ap, ◌∙◌, sym, refl}
+use Rattle.std.proofs.Common.{◌≡◌, ℕ, Bool, true, false, List, [], ◌∷◌, ap, ◌∙◌, sym, refl}
 use Rattle.smk_base.specs.declared.token.TokenKind.{TokenKind}
 use Rattle.smk_base.specs.declared.token.TokenKind.TheVariants as kinds
 use Rattle.smk_base.specs.declared.fault.BookFault.{BookFault}
 use Rattle.smk_base.specs.declared.fault.Many.TheVariants.{Columns, NameBytes}
 use Rattle.smk_model.specs.Tokens.{head_of, int_value}
-use Rattle.smk_model.specs.Machine.{State, Counts, Takes, Outside, within, is_mark, at_first, at_item, at_keys, at_source, at_united, at_column, at_term, at_literal, at_mark, at_marks, AColumn, ALiteral, AnAs, AKeys, AFirst, AnItem, MoreKeys, ASource, AUnited, ATerm, AMarks, AMark, MoreMarks}
+use Rattle.smk_model.specs.Machine.{State, Counts, Symbol, Takes, Outside, within, is_mark, at_first, at_item, at_keys, at_source, at_united, at_column, at_term, at_literal, at_mark, at_marks, AColumn, ALiteral, AnAs, AKeys, AFirst, AnItem, MoreKeys, ASource, AUnited, ATerm, AMarks, AMark, MoreMarks}
 use Rattle.smk_parse.specs.Columns.{is_column}
 use Rattle.smk_parse.specs.Reads.{Leads, Fails}
 use Rattle.smk_parse.proofs.Steps.{Here, Comes, NoSkip, with_more, begins, same_comes, comes_leads, comes_fails}
 
-keys_move : (c : Counts) (short : Bool) (k : TokenKind) → is_column k ≡ true → at_keys c short k ≡ with_more (at_first c 0 [] short k) (MoreKeys 1 ∷ [])
-keys_move c true kinds.Name e = refl
-keys_move c false kinds.Name e = refl
-keys_move c true kinds.Quoted e = refl
-keys_move c false kinds.Quoted e = refl
-keys_move c short _ e = absurd (cc)
+-- at a token of this kind the symbol is these
+pub data Starts : Symbol → List Symbol → TokenKind → Type 0 where
+  keys_start : {k : TokenKind} → is_column k ≡ true → Starts AKeys (AFirst 0 ∷ MoreKeys 1 ∷ []) k
+  item_starts : {n : ℕ} {k : TokenKind} → (k ≡ kinds.Bin → ⊥) → Starts (AnItem n) (AFirst n ∷ AnAs ∷ []) k
+  united_starts : {d : ℕ} {k : TokenKind} → (k ≡ kinds.All → ⊥) → Starts (AUnited d) (ASource d ∷ []) k
+  column_starts : {k : TokenKind} → (k ≡ kinds.Number → ⊥) → (k ≡ kinds.Str → ⊥) → Starts ATerm (AColumn ∷ []) k
+  number_starts : {k : TokenKind} → k ≡ kinds.Number → Starts ATerm (ALiteral ∷ []) k
+  string_starts : {k : TokenKind} → k ≡ kinds.Str → Starts ATerm (ALiteral ∷ []) k
+  marks_start : {k : TokenKind} → (k ≡ kinds.All → ⊥) → Starts AMarks (AMark ∷ MoreMarks ∷ []) k
 
 first_no_skip : (c : Counts) (n : ℕ) (short : Bool) (k : TokenKind) → NoSkip (at_first c n [] short k)
-first_no_skip c n short kinds.Name = by (nat_lt n 16) short
+first_no_skip c n short k = by k
   where
-    by : (o p : Bool) → NoSkip (within o Columns (within p NameBytes (Takes c [])))
-    by true true = tt
-    by true false = tt
-    by false p = tt
-first_no_skip c n short kinds.Quoted = by (nat_lt n 16) short
-  where
-    by : (o p : Bool) → NoSkip (within o Columns (within p NameBytes (Takes c [])))
-    by true true = tt
-    by true false = tt
-    by false p = tt
-first_no_skip c n short _ = tt
+    few : (o p : Bool) → NoSkip (within o Columns (within p NameBytes (Takes c [])))
+    few true true = tt
+    few true false = tt
+    few false p = tt
 
-keys_begin : (a : State) → Here a → is_column (head_of a.rest).kind ≡ true → Comes (AKeys ∷ []) (AFirst 0 ∷ MoreKeys 1 ∷ []) a a
-keys_begin a h e = begins AKeys (AFirst 0) (MoreKeys 1 ∷ []) a h (first_no_skip a.counts 0 _ _) (keys_move a.counts _ _ e)
+    by : (k : TokenKind) → NoSkip (at_first c n [] short k)
+    by kinds.Name = few (nat_lt n 16) short
+    by kinds.Quoted = few (nat_lt n 16) short
+    by _ = tt
+
+first_more : (c : Counts) (n : ℕ) (ss : List Symbol) (short : Bool) (k : TokenKind) → at_first c n ss short k ≡ with_more (at_first c n [] short k) ss
+first_more c n ss short k = by k
+  where
+    few : (o p : Bool) → within o Columns (within p NameBytes (Takes c ss)) ≡ with_more (within o Columns (within p NameBytes (Takes c []))) ss
+    few true true = refl
+    few true false = refl
+    few false p = refl
+
+    by : (k : TokenKind) → at_first c n ss short k ≡ with_more (at_first c n [] short k) ss
+    by kinds.Name = few (nat_lt n 16) short
+    by kinds.Quoted = few (nat_lt n 16) short
+    by _ = refl
+
+keys_move : (c : Counts) (short : Bool) (k : TokenKind) → is_column k ≡ true → at_keys c short k ≡ with_more (at_first c 0 [] short k) (MoreKeys 1 ∷ [])
+keys_move c short kinds.Name e = first_more c 0 (MoreKeys 1 ∷ []) short kinds.Name
+keys_move c short kinds.Quoted e = first_more c 0 (MoreKeys 1 ∷ []) short kinds.Quoted
+keys_move c short _ e = absurd (cc)
 
 item_move : (c : Counts) (n : ℕ) (short : Bool) (k : TokenKind) → (k ≡ kinds.Bin → ⊥) → at_item c n short k ≡ with_more (at_first c n [] short k) (AnAs ∷ [])
 item_move c n short kinds.Bin e = absurd (e refl)
-item_move c n short kinds.Name e = by (nat_lt n 16) short
-  where
-    by : (o p : Bool) → within o Columns (within p NameBytes (Takes c (AnAs ∷ []))) ≡ with_more (within o Columns (within p NameBytes (Takes c []))) (AnAs ∷ [])
-    by true true = refl
-    by true false = refl
-    by false p = refl
-item_move c n short kinds.Quoted e = by (nat_lt n 16) short
-  where
-    by : (o p : Bool) → within o Columns (within p NameBytes (Takes c (AnAs ∷ []))) ≡ with_more (within o Columns (within p NameBytes (Takes c []))) (AnAs ∷ [])
-    by true true = refl
-    by true false = refl
-    by false p = refl
+item_move c n short kinds.Name e = first_more c n (AnAs ∷ []) short kinds.Name
+item_move c n short kinds.Quoted e = first_more c n (AnAs ∷ []) short kinds.Quoted
 item_move c n short _ e = refl
-
-item_begin : (n : ℕ) (a : State) → Here a → ((head_of a.rest).kind ≡ kinds.Bin → ⊥) → Comes (AnItem n ∷ []) (AFirst n ∷ AnAs ∷ []) a a
-item_begin n a h e = begins (AnItem n) (AFirst n) (AnAs ∷ []) a h (first_no_skip a.counts n _ _) (item_move a.counts n _ _ e)
 
 united_move : (c : Counts) (d : ℕ) (k : TokenKind) → (k ≡ kinds.All → ⊥) → at_united c d k ≡ at_source c d k
 united_move c d kinds.All e = absurd (e refl)
 united_move c d _ e = refl
-
-united_begin : (d : ℕ) (a : State) → Here a → ((head_of a.rest).kind ≡ kinds.All → ⊥) → Comes (AUnited d ∷ []) (ASource d ∷ []) a a
-united_begin d a h e = same_comes (AUnited d) (ASource d) a h (united_move a.counts d (head_of a.rest).kind e)
 
 term_move : (c : Counts) (short : Bool) (k : TokenKind) → (k ≡ kinds.Number → ⊥) → (k ≡ kinds.Str → ⊥) → at_term c short k ≡ at_column c [] short k
 term_move c short kinds.Number p q = absurd (p refl)
 term_move c short kinds.Str p q = absurd (q refl)
 term_move c short _ p q = refl
 
-term_column : (a : State) → Here a → ((head_of a.rest).kind ≡ kinds.Number → ⊥) → ((head_of a.rest).kind ≡ kinds.Str → ⊥) → Comes (ATerm ∷ []) (AColumn ∷ []) a a
-term_column a h p q = same_comes ATerm AColumn a h (term_move a.counts _ (head_of a.rest).kind p q)
-
-term_number : (a : State) → Here a → (head_of a.rest).kind ≡ kinds.Number → Comes (ATerm ∷ []) (ALiteral ∷ []) a a
-term_number a h e = same_comes ATerm ALiteral a h (ap (at_term a.counts _) e ∙ sym (ap (at_literal a.counts) e))
-
-term_string : (a : State) → Here a → (head_of a.rest).kind ≡ kinds.Str → Comes (ATerm ∷ []) (ALiteral ∷ []) a a
-term_string a h e = same_comes ATerm ALiteral a h (ap (at_term a.counts _) e ∙ sym (ap (at_literal a.counts) e))
-
 marks_begin : (a : State) → Here a → ((head_of a.rest).kind ≡ kinds.All → ⊥) → Comes (AMarks ∷ []) (AMark ∷ MoreMarks ∷ []) a a
-marks_begin a h p = begins AMarks AMark (MoreMarks ∷ []) a h (no (head_of a.rest).kind (is_mark v)) (by (head_of a.rest).kind (is_mark v) p)
+marks_begin a h p = begins AMarks AMark (MoreMarks ∷ []) a h (no (head_of a.rest).kind) (by (head_of a.rest).kind p)
   where
-    v : ℤ
-    v = int_value (head_of a.rest).text
-
-    no : (k : TokenKind) (o : Bool) → NoSkip (at_mark a.counts [] (int_value (head_of a.rest).text) k)
-    no kinds.Number o = yes (is_mark (int_value (head_of a.rest).text))
+    no : (k : TokenKind) → NoSkip (at_mark a.counts [] (int_value (head_of a.rest).text) k)
+    no kinds.Number = yes (is_mark (int_value (head_of a.rest).text))
       where
         yes : (o : Bool) → NoSkip (cond o (Takes a.counts []) Outside)
         yes true = tt
         yes false = tt
-    no _ o = tt
+    no _ = tt
 
-    by : (k : TokenKind) (o : Bool) → (k ≡ kinds.All → ⊥) → at_marks a.counts (int_value (head_of a.rest).text) k ≡ with_more (at_mark a.counts [] (int_value (head_of a.rest).text) k) (MoreMarks ∷ [])
-    by kinds.All o p = absurd (p refl)
-    by kinds.Number o p = yes (is_mark (int_value (head_of a.rest).text))
+    by : (k : TokenKind) → (k ≡ kinds.All → ⊥) → at_marks a.counts (int_value (head_of a.rest).text) k ≡ with_more (at_mark a.counts [] (int_value (head_of a.rest).text) k) (MoreMarks ∷ [])
+    by kinds.All p = absurd (p refl)
+    by kinds.Number p = yes (is_mark (int_value (head_of a.rest).text))
       where
         yes : (o : Bool) → cond o (Takes a.counts (MoreMarks ∷ [])) Outside ≡ with_more (cond o (Takes a.counts []) Outside) (MoreMarks ∷ [])
         yes true = refl
         yes false = refl
-    by _ o p = refl
+    by _ p = refl
 
-pub keys_begin_leads : (a b : State) → Here a → is_column (head_of a.rest).kind ≡ true → Leads (AFirst 0 ∷ MoreKeys 1 ∷ []) a b → Leads (AKeys ∷ []) a b
-keys_begin_leads a b h e k = comes_leads _ _ a a b (keys_begin a h e) k
+starts_come : (x : Symbol) (ls : List Symbol) (a : State) → Here a → Starts x ls (head_of a.rest).kind → Comes (x ∷ []) ls a a
+starts_come _ _ a h (keys_start e) = begins AKeys (AFirst 0) (MoreKeys 1 ∷ []) a h (first_no_skip a.counts 0 _ _) (keys_move a.counts _ _ e)
+starts_come _ _ a h (item_starts {n = n} e) = begins (AnItem n) (AFirst n) (AnAs ∷ []) a h (first_no_skip a.counts n _ _) (item_move a.counts n _ _ e)
+starts_come _ _ a h (united_starts {d = d} e) = same_comes (AUnited d) (ASource d) a h (united_move a.counts d (head_of a.rest).kind e)
+starts_come _ _ a h (column_starts p q) = same_comes ATerm AColumn a h (term_move a.counts _ (head_of a.rest).kind p q)
+starts_come _ _ a h (number_starts e) = same_comes ATerm ALiteral a h (ap (at_term a.counts _) e ∙ sym (ap (at_literal a.counts) e))
+starts_come _ _ a h (string_starts e) = same_comes ATerm ALiteral a h (ap (at_term a.counts _) e ∙ sym (ap (at_literal a.counts) e))
+starts_come _ _ a h (marks_start p) = marks_begin a h p
 
-pub keys_begin_fails : (a : State) (f : BookFault) → Here a → is_column (head_of a.rest).kind ≡ true → Fails (AFirst 0 ∷ MoreKeys 1 ∷ []) a f → Fails (AKeys ∷ []) a f
-keys_begin_fails a f h e k = comes_fails _ _ a a f (keys_begin a h e) k
+pub started_leads : (x : Symbol) (ls : List Symbol) (a b : State) → Leads ls a b → Here a → Starts x ls (head_of a.rest).kind → Leads (x ∷ []) a b
+started_leads x ls a b k h e = comes_leads _ _ a a b (starts_come x ls a h e) k
 
-pub item_begin_leads : (n : ℕ) (a b : State) → Here a → ((head_of a.rest).kind ≡ kinds.Bin → ⊥) → Leads (AFirst n ∷ AnAs ∷ []) a b → Leads (AnItem n ∷ []) a b
-item_begin_leads n a b h e k = comes_leads _ _ a a b (item_begin n a h e) k
+pub started_fails : (x : Symbol) (ls : List Symbol) (a : State) (f : BookFault) → Fails ls a f → Here a → Starts x ls (head_of a.rest).kind → Fails (x ∷ []) a f
+started_fails x ls a f k h e = comes_fails _ _ a a f (starts_come x ls a h e) k
 
-pub item_begin_fails : (n : ℕ) (a : State) (f : BookFault) → Here a → ((head_of a.rest).kind ≡ kinds.Bin → ⊥) → Fails (AFirst n ∷ AnAs ∷ []) a f → Fails (AnItem n ∷ []) a f
-item_begin_fails n a f h e k = comes_fails _ _ a a f (item_begin n a h e) k
+pub item_leads : (n : ℕ) (a b : State) → Here a → ((head_of a.rest).kind ≡ kinds.Bin → ⊥) → Leads (AFirst n ∷ AnAs ∷ []) a b → Leads (AnItem n ∷ []) a b
+item_leads n a b h e k = started_leads _ _ a b k h (item_starts e)
 
-pub united_begin_leads : (d : ℕ) (a b : State) → Here a → ((head_of a.rest).kind ≡ kinds.All → ⊥) → Leads (ASource d ∷ []) a b → Leads (AUnited d ∷ []) a b
-united_begin_leads d a b h e k = comes_leads _ _ a a b (united_begin d a h e) k
+pub item_fails : (n : ℕ) (a : State) (f : BookFault) → Here a → ((head_of a.rest).kind ≡ kinds.Bin → ⊥) → Fails (AFirst n ∷ AnAs ∷ []) a f → Fails (AnItem n ∷ []) a f
+item_fails n a f h e k = started_fails _ _ a f k h (item_starts e)
 
-pub united_begin_fails : (d : ℕ) (a : State) (f : BookFault) → Here a → ((head_of a.rest).kind ≡ kinds.All → ⊥) → Fails (ASource d ∷ []) a f → Fails (AUnited d ∷ []) a f
-united_begin_fails d a f h e k = comes_fails _ _ a a f (united_begin d a h e) k
+pub term_leads : (a b : State) → Here a → ((head_of a.rest).kind ≡ kinds.Number → ⊥) → ((head_of a.rest).kind ≡ kinds.Str → ⊥) → Leads (AColumn ∷ []) a b → Leads (ATerm ∷ []) a b
+term_leads a b h p q k = started_leads _ _ a b k h (column_starts p q)
 
-pub term_column_leads : (a b : State) → Here a → ((head_of a.rest).kind ≡ kinds.Number → ⊥) → ((head_of a.rest).kind ≡ kinds.Str → ⊥) → Leads (AColumn ∷ []) a b → Leads (ATerm ∷ []) a b
-term_column_leads a b h p q k = comes_leads _ _ a a b (term_column a h p q) k
+pub term_fails : (a : State) (f : BookFault) → Here a → ((head_of a.rest).kind ≡ kinds.Number → ⊥) → ((head_of a.rest).kind ≡ kinds.Str → ⊥) → Fails (AColumn ∷ []) a f → Fails (ATerm ∷ []) a f
+term_fails a f h p q k = started_fails _ _ a f k h (column_starts p q)
 
-pub term_column_fails : (a : State) (f : BookFault) → Here a → ((head_of a.rest).kind ≡ kinds.Number → ⊥) → ((head_of a.rest).kind ≡ kinds.Str → ⊥) → Fails (AColumn ∷ []) a f → Fails (ATerm ∷ []) a f
-term_column_fails a f h p q k = comes_fails _ _ a a f (term_column a h p q) k
-
-pub term_number_leads : (a b : State) → Here a → (head_of a.rest).kind ≡ kinds.Number → Leads (ALiteral ∷ []) a b → Leads (ATerm ∷ []) a b
-term_number_leads a b h e k = comes_leads _ _ a a b (term_number a h e) k
-
-pub term_number_fails : (a : State) (f : BookFault) → Here a → (head_of a.rest).kind ≡ kinds.Number → Fails (ALiteral ∷ []) a f → Fails (ATerm ∷ []) a f
-term_number_fails a f h e k = comes_fails _ _ a a f (term_number a h e) k
-
-pub term_string_leads : (a b : State) → Here a → (head_of a.rest).kind ≡ kinds.Str → Leads (ALiteral ∷ []) a b → Leads (ATerm ∷ []) a b
-term_string_leads a b h e k = comes_leads _ _ a a b (term_string a h e) k
-
-pub term_string_fails : (a : State) (f : BookFault) → Here a → (head_of a.rest).kind ≡ kinds.Str → Fails (ALiteral ∷ []) a f → Fails (ATerm ∷ []) a f
-term_string_fails a f h e k = comes_fails _ _ a a f (term_string a h e) k
-
-pub marks_begin_leads : (a b : State) → Here a → ((head_of a.rest).kind ≡ kinds.All → ⊥) → Leads (AMark ∷ MoreMarks ∷ []) a b → Leads (AMarks ∷ []) a b
-marks_begin_leads a b h p k = comes_leads _ _ a a b (marks_begin a h p) k
-
-pub marks_begin_fails : (a : State) (f : BookFault) → Here a → ((head_of a.rest).kind ≡ kinds.All → ⊥) → Fails (AMark ∷ MoreMarks ∷ []) a f → Fails (AMarks ∷ []) a f
-marks_begin_fails a f h p k = comes_fails _ _ a a f (marks_begin a h p) k
-
-pub ruleset begun = (keys_begin_leads, keys_begin_fails, item_begin_leads, item_begin_fails, united_begin_leads, united_begin_fails, term_column_leads, term_column_fails, term_number_leads, term_number_fails, term_string_leads, term_string_fails, marks_begin_leads, marks_begin_fails)
+pub ruleset begun = (started_leads, started_fails, item_leads, item_fails, term_leads, term_fails, keys_start, item_starts, united_starts, column_starts, number_starts, string_starts, marks_start)

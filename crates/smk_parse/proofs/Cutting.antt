@@ -1,5 +1,5 @@
 -- The first line of a script.
-use Rattle.std.specs.Prelude.{cond, not, nat_eq, nat_lt, ◌==◌, take_while}
+use Rattle.std.specs.Prelude.{cond, not, min, nat_eq, nat_lt, ◌==◌, take_while}
 use Rattle.std.specs.List.{prefix_len}
 use Rattle.std.proofs.Common.{◌≡◌, ℕ, zero, suc, ◌+◌, ◌-◌, ◌<◌, ◌≤◌, Bool, true, false, List, [], ◌∷◌, ◌++◌, length, take, drop, get_or, ap, ◌∙◌, sym, subst, refl, append_assoc, append-nil, arith, length-append}
 use Rattle.std.proofs.lemmas.List.{take_all, drop_all, drop-drop, length-drop, length-take, take-take}
@@ -54,41 +54,37 @@ no_cr (b ∷ []) (suc k) h e = absurd (omega arith)
 no_cr (b ∷ c ∷ bs) zero h e = absurd (omega arith)
 no_cr (b ∷ c ∷ bs) (suc k) h e = ap (λ l. b ∷ l) (no_cr (c ∷ bs) k (omega arith) e)
 
-first_line : (rest : List ℕ) (n behind : ℕ) → n ≡ length (take_while no_line_end rest) → 0 < length rest → (n < length rest → behind ≡ n + 1) → (length rest ≤ n → behind ≡ n) → lines rest ≡ without_cr (take n rest) ∷ lines (drop behind rest)
-first_line rest n behind h k p q = by (nat_lt n (length rest)) refl
+first_line : (rest : List ℕ) (n behind : ℕ) → n ≡ length (take_while no_line_end rest) → 0 < length rest → behind ≡ min (length rest) (n + 1) → lines rest ≡ without_cr (take n rest) ∷ lines (drop behind rest)
+first_line rest n behind h k p = by (nat_lt n (length rest)) refl
   where
     e : n ≡ prefix_len no_line_end rest
     e = h ∙ length-prefix_len no_line_end rest
 
-    more : n < length rest → lines rest ≡ without_cr (take n rest) ∷ lines (drop behind rest)
-    more l = with_end [] rest (subst (λ m. m < length rest) e l) ∙ ap (λ m. without_cr (take m rest) ∷ lines (drop (m + 1) rest)) (sym e) ∙ ap (λ m. without_cr (take n rest) ∷ lines (drop m rest)) (sym (p l))
-
-    last : length rest ≤ n → lines rest ≡ without_cr (take n rest) ∷ lines (drop behind rest)
-    last l = without_end [] rest (subst (λ m. length rest ≤ m) e l) k ∙ ap (λ m. without_cr m ∷ []) (sym (take_all n rest l)) ∙ ap (λ m. without_cr (take n rest) ∷ lines m) (sym (drop_all behind rest (subst (λ m. length rest ≤ m) (sym (q l)) l)))
-
     by : (o : Bool) → nat_lt n (length rest) ≡ o → lines rest ≡ without_cr (take n rest) ∷ lines (drop behind rest)
-    by true o = more (ltb-true n (length rest) o)
-    by false o = last (ltb-false n (length rest) o)
+    by true o =
+        let l : n < length rest = ltb-true n (length rest) o in let q : n + 1 ≡ behind = omega arith in
+        with_end [] rest (subst (λ m. m < length rest) e l) ∙ ap (λ m. without_cr (take m rest) ∷ lines (drop (m + 1) rest)) (sym e) ∙ ap (λ m. without_cr (take n rest) ∷ lines (drop m rest)) q
+    by false o =
+        let l : length rest ≤ n = ltb-false n (length rest) o in
+        without_end [] rest (subst (λ m. length rest ≤ m) e l) k ∙ ap (λ m. without_cr m ∷ []) (sym (take_all n rest l)) ∙ ap (λ m. without_cr (take n rest) ∷ lines m) (sym (drop_all behind rest (omega arith)))
 
-cuts : (script : List ℕ) (from : ℕ) (r : List ℕ) (n kept behind : ℕ) → r ≡ drop from script → from < length script → n ≡ length (take_while no_line_end r) → kept ≤ n → take kept (take n r) ≡ without_cr (take n r) → (n < length r → behind ≡ n + 1) → (length r ≤ n → behind ≡ n) → n ≤ behind → behind ≤ length r → (0 < length r → 0 < behind) → Cuts script from (record { start = from; end = from + kept; next = from + behind })
-cuts script from r n kept behind f h e k t p q g1 g2 g3 =
+cuts : (script : List ℕ) (from : ℕ) (r : List ℕ) (n kept behind : ℕ) → r ≡ drop from script → from < length script → n ≡ length (take_while no_line_end r) → n ≤ length r → kept ≤ n → take kept (take n r) ≡ without_cr (take n r) → behind ≡ min (length r) (n + 1) → Cuts script from (record { start = from; end = from + kept; next = from + behind })
+cuts script from r n kept behind f h e w k t p =
     let len : length r ≡ length script - from = ap length f ∙ length-drop from script in
-    let some : 0 < length r = omega arith in
-    let on : 0 < behind = g3 some in
     record {
       starts = refl;
       ordered = omega arith;
       forward = (omega arith, omega arith);
       within = omega arith;
-      cut = ap lines (sym f) ∙ first_line r n behind e some p q ∙ ap (λ l. l ∷ lines (drop behind r)) (sym t ∙ shorter) ∙ ap (λ l. take (from + kept - from) (drop from script) ∷ lines l) (ap (drop behind) f ∙ drop-drop behind from script);
+      cut = ap lines (sym f) ∙ first_line r n behind e (omega arith) p ∙ ap (λ l. l ∷ lines (drop behind r)) (sym t ∙ shorter) ∙ ap (λ l. take (from + kept - from) (drop from script) ∷ lines l) (ap (drop behind) f ∙ drop-drop behind from script);
     }
   where
     shorter : take kept (take n r) ≡ take (from + kept - from) (drop from script)
     shorter = let s : from + kept - from ≡ kept = omega arith in take-take kept n r k ∙ ap (take kept) f ∙ ap (λ m. take m (drop from script)) (sym s)
 
-pub cuts_slice : (script : List ℕ) (from n kept behind : ℕ) → from ≤ length script → (from ≡ length script → ⊥) → n ≡ length (take_while no_line_end (take (length script - from) (drop from script))) → kept ≤ length (take n (take (length script - from) (drop from script))) → take kept (take n (take (length script - from) (drop from script))) ≡ without_cr (take n (take (length script - from) (drop from script))) → (n < length (take (length script - from) (drop from script)) → behind ≡ n + 1) → (length (take (length script - from) (drop from script)) ≤ n → behind ≡ n) → n ≤ behind → behind ≤ length (take (length script - from) (drop from script)) → (0 < length (take (length script - from) (drop from script)) → 0 < behind) → Cuts script from (record { start = from; end = from + kept; next = from + behind })
-cuts_slice script from n kept behind h z e k t p q g1 g2 g3 =
-    cuts script from (take (length script - from) (drop from script)) n kept behind (take_all (length script - from) (drop from script) (omega (arith, length-drop from script))) (omega arith) e (omega (arith, length-take n (take (length script - from) (drop from script)))) t p q g1 g2 g3
+pub cuts_slice : (script : List ℕ) (from n kept behind : ℕ) → from ≤ length script → (from ≡ length script → ⊥) → n ≡ length (take_while no_line_end (take (length script - from) (drop from script))) → n ≤ length (take (length script - from) (drop from script)) → kept ≤ length (take n (take (length script - from) (drop from script))) → take kept (take n (take (length script - from) (drop from script))) ≡ without_cr (take n (take (length script - from) (drop from script))) → behind ≡ min (length (take (length script - from) (drop from script))) (n + 1) → Cuts script from (record { start = from; end = from + kept; next = from + behind })
+cuts_slice script from n kept behind h z e w k t p =
+    cuts script from (take (length script - from) (drop from script)) n kept behind (take_all (length script - from) (drop from script) (omega (arith, length-drop from script))) (omega arith) e w (omega (arith, length-take n (take (length script - from) (drop from script)))) t p
 
 pub cr_kept : (xs : List ℕ) → 0 < length xs → get_or xs (length xs - 1) 0 ≡ 13 → take (length xs - 1) xs ≡ without_cr xs
 cr_kept xs h e = with_cr xs (length xs - 1) (omega arith) e

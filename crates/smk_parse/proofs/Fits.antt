@@ -37,10 +37,6 @@ word_no_number text e = let f : true ≡ false = sym (in_none keywords kinds.Nam
 word_other : (n m : ℕ) (text : List ℕ) → Begins (word_kind text) m ≡ Begins kinds.Number n → ⊥
 word_other n m text e = word_no_number text (cc)
 
--- what stands there isn't a number
-Other : ℕ → Front → Type 0
-Other n f = f ≡ Begins kinds.Number n → ⊥
-
 number_i64 : (minus : Bool) (v : ℕ) → number_kind minus v ≡ kinds.Number → is_i64 minus v ≡ true
 number_i64 minus v e = by (is_i64 minus v) e
   where
@@ -56,13 +52,9 @@ quoted_other : (n k : ℕ) (bs : List ℕ) → quoted_front k bs ≡ Begins kind
 quoted_other n k [] e = absurd (cc)
 quoted_other n k (b ∷ bs) e = pick (λ f. f ≡ Begins kinds.Number n → ⊥) (b == 96 && nat_lt 0 k) (Begins kinds.Quoted (k + 2)) (Begins kinds.Bad 0) (λ _ e. absurd (cc)) (λ _ e. absurd (cc)) e
 
-less_other : (n : ℕ) (bs : List ℕ) → or_equal kinds.Less kinds.LessEqual bs ≡ Begins kinds.Number n → ⊥
-less_other n [] e = absurd (cc)
-less_other n (b ∷ bs) e = pick (λ f. f ≡ Begins kinds.Number n → ⊥) (b == 61) (Begins kinds.LessEqual 2) (Begins kinds.Less 1) (λ _ e. absurd (cc)) (λ _ e. absurd (cc)) e
-
-greater_other : (n : ℕ) (bs : List ℕ) → or_equal kinds.Greater kinds.GreaterEqual bs ≡ Begins kinds.Number n → ⊥
-greater_other n [] e = absurd (cc)
-greater_other n (b ∷ bs) e = pick (λ f. f ≡ Begins kinds.Number n → ⊥) (b == 61) (Begins kinds.GreaterEqual 2) (Begins kinds.Greater 1) (λ _ e. absurd (cc)) (λ _ e. absurd (cc)) e
+or_equal_other : (n : ℕ) (k j : TokenKind) (bs : List ℕ) → (k ≡ kinds.Number → ⊥) → (j ≡ kinds.Number → ⊥) → or_equal k j bs ≡ Begins kinds.Number n → ⊥
+or_equal_other n k j [] p q e = p (cc)
+or_equal_other n k j (b ∷ bs) p q e = pick (λ f. f ≡ Begins kinds.Number n → ⊥) (b == 61) (Begins j 2) (Begins k 1) (λ _ e. q (cc)) (λ _ e. p (cc)) e
 
 unequal_other : (n : ℕ) (bs : List ℕ) → unequal_front bs ≡ Begins kinds.Number n → ⊥
 unequal_other n [] e = absurd (cc)
@@ -100,5 +92,5 @@ front_fits (b ∷ bs) n e =
     (pick P (is_gap b) _ _ (λ _ e. absurd (cc)) (λ _. pick P (b == 35) _ _ (λ _ e. absurd (cc))
     (λ _. pick P (is_letter b) _ _ (λ _ e. absurd (word_other n (length (take_while is_word_byte bs) + 1) (take (length (take_while is_word_byte bs) + 1) (b ∷ bs)) e)) (λ _. pick P (b == 45) _ _ (λ h. minus_here b n _ bs h)
     (λ h. pick P (is_ascii_digit b) _ _ (λ _. number_here b n _ bs h) (λ _. pick P (b == 34) _ _ (λ _ e. absurd (string_other n _ e))
-    (λ _. pick P (b == 96) _ _ (λ _ e. absurd (quoted_other n (length (take_while is_quoted_byte bs)) (drop (length (take_while is_quoted_byte bs)) bs) e)) (λ _. pick P (b == 60) _ _ (λ _ e. absurd (less_other n bs e))
-    (λ _. pick P (b == 62) _ _ (λ _ e. absurd (greater_other n bs e)) (λ _. pick P (b == 33) _ _ (λ _ e. absurd (unequal_other n bs e)) (λ _ e. absurd (symbol_other n b e)))))))))))) e
+    (λ _. pick P (b == 96) _ _ (λ _ e. absurd (quoted_other n (length (take_while is_quoted_byte bs)) (drop (length (take_while is_quoted_byte bs)) bs) e)) (λ _. pick P (b == 60) _ _ (λ _ e. absurd (or_equal_other n kinds.Less kinds.LessEqual bs (λ e. absurd (cc)) (λ e. absurd (cc)) e))
+    (λ _. pick P (b == 62) _ _ (λ _ e. absurd (or_equal_other n kinds.Greater kinds.GreaterEqual bs (λ e. absurd (cc)) (λ e. absurd (cc)) e)) (λ _. pick P (b == 33) _ _ (λ _ e. absurd (unequal_other n bs e)) (λ _ e. absurd (symbol_other n b e)))))))))))) e

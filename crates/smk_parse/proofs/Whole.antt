@@ -1,6 +1,6 @@
 -- What a whole book or line is read as.
 use Rattle.std.specs.Prelude.{None, Err, map}
-use Rattle.std.proofs.Common.{◌≡◌, ℕ, List, [], ◌∷◌, ◌++◌, ap, ◌∙◌, sym, subst, refl, append_assoc, append-nil}
+use Rattle.std.proofs.Common.{◌≡◌, ℕ, List, [], ◌∷◌, ◌++◌, false, ap, ◌∙◌, sym, subst, refl, append_assoc, append-nil}
 use Rattle.std.proofs.lemmas.List.{map_push}
 use Rattle.smk_base.specs.declared.token.TokenKind.TheVariants as kinds
 use Rattle.smk_base.specs.declared.fault.BookFault.{BookFault}
@@ -13,8 +13,8 @@ use Rattle.smk_base.specs.TreeImage.{stmt_image}
 use Rattle.smk_model.specs.Tokens.{Token, head_of, tokens}
 use Rattle.smk_model.specs.Grammar.{IsStmt, AreStmts, no_stmt, one_stmt}
 use Rattle.smk_model.specs.Lines.{place_of}
-use Rattle.smk_model.specs.Machine.{State, through, book_symbols, ALine, AnEnd, book_fault, line_fault, fault_in, no_counts}
-use Rattle.smk_parse.specs.Reads.{Leads, Fails, IsFault}
+use Rattle.smk_model.specs.Machine.{State, Symbol, through, book_symbols, line_symbols, line_fault, ALine, AnEnd, fault_in, no_counts}
+use Rattle.smk_parse.specs.Reads.{Leads, Fails, is_memory}
 use Rattle.smk_parse.specs.Answers.{IsBookAnswer, IsLineAnswer}
 use Rattle.smk_parse.proofs.Steps.{Here}
 
@@ -33,42 +33,41 @@ stmts_done o a ss h k e = subst (AreStmts o) (append-nil ss) (h.ends [] (no_stmt
 
 pub ruleset stmts_trees = (stmts_begin, stmts_go_on, stmts_done)
 
-pub book_read : (a b : State) (text : List ℕ) → a ≡ record { rest = tokens text; counts = no_counts } → Leads book_symbols a b → book_fault (tokens text) ≡ None
-book_read a b text e h = ap (λ s. fault_in (through book_symbols s.counts s.rest)) (sym e) ∙ ap fault_in (h.goes [])
+-- a text that its symbols lead through has no fault
+pub faultless : (ls : List Symbol) (a b : State) (text : List ℕ) → a ≡ record { rest = tokens text; counts = no_counts } → Leads ls a b → fault_in (through ls no_counts (tokens text)) ≡ None
+faultless ls a b text e h = ap (λ s. fault_in (through ls s.counts s.rest)) (sym e) ∙ ap (λ l. fault_in (through l a.counts a.rest)) (sym (append-nil ls)) ∙ ap fault_in (h.goes [])
+
+faulty : (ls : List Symbol) (a : State) (text : List ℕ) (f : BookFault) → a ≡ record { rest = tokens text; counts = no_counts } → Fails ls a f → is_memory f ≡ false → through ls no_counts (tokens text) ≡ Err f
+faulty ls a text f e h m = ap (λ s. through ls s.counts s.rest) (sym e) ∙ ap (λ l. through l a.counts a.rest) (sym (append-nil ls)) ∙ h.stops [] m
 
 pub book_unread : (a : State) (text : List ℕ) (f : BookFault) → a ≡ record { rest = tokens text; counts = no_counts } → Fails book_symbols a f → IsBookAnswer text (Err f)
-book_unread a text f e h = by f (subst (λ s. IsFault f (through book_symbols s.counts s.rest)) e (h.stops []))
+book_unread a text f e h = by f (faulty book_symbols a text f e h)
   where
-    by : (f : BookFault) → IsFault f (through book_symbols no_counts (tokens text)) → IsBookAnswer text (Err f)
+    by : (f : BookFault) → (is_memory f ≡ false → through book_symbols no_counts (tokens text) ≡ Err f) → IsBookAnswer text (Err f)
     by NoMemory k = tt
-    by (BadToken at) k = ap fault_in k
-    by (Unexpected at) k = ap fault_in k
-    by (TooMany at what) k = ap fault_in k
-    by (BadNumber at) k = ap fault_in k
+    by (BadToken at) k = ap fault_in (k refl)
+    by (Unexpected at) k = ap fault_in (k refl)
+    by (TooMany at what) k = ap fault_in (k refl)
+    by (BadNumber at) k = ap fault_in (k refl)
+
+line_unread : (a : State) (text : List ℕ) (f : BookFault) (at : ℕ) → a ≡ record { rest = tokens text; counts = no_counts } → Fails line_symbols a f → ((head_of a.rest).kind ≡ kinds.End → ⊥) → is_memory f ≡ false → place_of f ≡ at → IsLineAnswer text (Err (line_faults.NotALine at))
+line_unread a text f at e k n m p = (λ h. n (ap (λ s. (head_of s.rest).kind) e ∙ h), (f, (ap fault_in (faulty line_symbols a text f e k m), p)))
 
 pub line_answer : (a b : State) (ts : List Token) → a ≡ record { rest = ts; counts = no_counts } → Leads (ALine ∷ AnEnd ∷ []) a b → line_fault ts ≡ None
 line_answer a b ts e h = ap (λ s. fault_in (through (ALine ∷ AnEnd ∷ []) s.counts s.rest)) (sym e) ∙ ap fault_in (h.goes [])
 
-line_unread : (a : State) (text : List ℕ) (f : BookFault) (at : ℕ) → a ≡ record { rest = tokens text; counts = no_counts } → Fails (ALine ∷ AnEnd ∷ []) a f → ((head_of a.rest).kind ≡ kinds.End → ⊥) → (f ≡ NoMemory → ⊥) → place_of f ≡ at → IsLineAnswer text (Err (line_faults.NotALine at))
-line_unread a text f at e k n m p = (λ h. n (ap (λ s. (head_of s.rest).kind) e ∙ h), (f, (ap (λ s. fault_in (through (ALine ∷ AnEnd ∷ []) s.counts s.rest)) (sym e) ∙ ap fault_in (by f m (k.stops [])), p)))
-  where
-    by : (f : BookFault) → (f ≡ NoMemory → ⊥) → IsFault f (through (ALine ∷ AnEnd ∷ []) a.counts a.rest) → through (ALine ∷ AnEnd ∷ []) a.counts a.rest ≡ Err f
-    by NoMemory m k = absurd (m refl)
-    by (BadToken at) m k = k
-    by (Unexpected at) m k = k
-    by (TooMany at what) m k = k
-    by (BadNumber at) m k = k
-
 pub unread_bad_token : (a : State) (text : List ℕ) (at : ℕ) → a ≡ record { rest = tokens text; counts = no_counts } → Fails (ALine ∷ AnEnd ∷ []) a (BadToken at) → ((head_of a.rest).kind ≡ kinds.End → ⊥) → IsLineAnswer text (Err (line_faults.NotALine at))
-unread_bad_token a text at e k n = line_unread a text (BadToken at) at e k n (λ m. absurd (cc)) refl
+unread_bad_token a text at e k n = line_unread a text (BadToken at) at e k n refl refl
 
 pub unread_unexpected : (a : State) (text : List ℕ) (at : ℕ) → a ≡ record { rest = tokens text; counts = no_counts } → Fails (ALine ∷ AnEnd ∷ []) a (Unexpected at) → ((head_of a.rest).kind ≡ kinds.End → ⊥) → IsLineAnswer text (Err (line_faults.NotALine at))
-unread_unexpected a text at e k n = line_unread a text (Unexpected at) at e k n (λ m. absurd (cc)) refl
+unread_unexpected a text at e k n = line_unread a text (Unexpected at) at e k n refl refl
 
 pub unread_many : (a : State) (text : List ℕ) (at : ℕ) (what : Many) → a ≡ record { rest = tokens text; counts = no_counts } → Fails (ALine ∷ AnEnd ∷ []) a (TooMany at what) → ((head_of a.rest).kind ≡ kinds.End → ⊥) → IsLineAnswer text (Err (line_faults.NotALine at))
-unread_many a text at what e k n = line_unread a text (TooMany at what) at e k n (λ m. absurd (cc)) refl
+unread_many a text at what e k n = line_unread a text (TooMany at what) at e k n refl refl
 
 pub unread_bad_number : (a : State) (text : List ℕ) (at : ℕ) → a ≡ record { rest = tokens text; counts = no_counts } → Fails (ALine ∷ AnEnd ∷ []) a (BadNumber at) → ((head_of a.rest).kind ≡ kinds.End → ⊥) → IsLineAnswer text (Err (line_faults.NotALine at))
-unread_bad_number a text at e k n = line_unread a text (BadNumber at) at e k n (λ m. absurd (cc)) refl
+unread_bad_number a text at e k n = line_unread a text (BadNumber at) at e k n refl refl
+
+pub ruleset book_answers = (faultless, book_unread)
 
 pub ruleset line_answers = (line_answer, unread_bad_token, unread_unexpected, unread_many, unread_bad_number)

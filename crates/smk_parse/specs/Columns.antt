@@ -1,19 +1,22 @@
 -- Columns, which are names with or without backquotes.
-use Rattle.std.specs.Prelude.{Bool, true, false}
+use Rattle.std.specs.Prelude.{ℕ, Bool, true, false, List}
 use Rattle.smk_base.specs.declared.token.TokenKind.{TokenKind}
 use Rattle.smk_base.specs.declared.token.TokenKind.TheVariants as kinds
 use Rattle.smk_base.specs.declared.tree.Word.{Word}
-use Rattle.smk_model.specs.Tokens.{Token}
-use Rattle.smk_model.specs.Grammar.{plain_word, quoted_word}
+use Rattle.smk_model.specs.Tokens.{Token, inner}
 
 abbrev pub is_column : TokenKind → Bool
 is_column kinds.Name = true
 is_column kinds.Quoted = true
 is_column _ = false
 
-abbrev pub column_word : Token → Word
-column_word t = by t.kind t
+-- the bytes of a name, without backquotes
+abbrev pub column_name : Token → List ℕ
+column_name t = by t.kind t.text
   where
-    by : TokenKind → Token → Word
-    by kinds.Quoted t = quoted_word t
-    by _ t = plain_word t
+    by : TokenKind → List ℕ → List ℕ
+    by kinds.Quoted text = inner text
+    by _ text = text
+
+abbrev pub column_word : Token → Word
+column_word t = record { name = column_name t; at = t.at }

@@ -1,11 +1,10 @@
-ghost use Rattle.std.specs.Prelude.{◌≡◌, ◌∷◌, ◌↔◌, [], map, IsTrue, IfOk, Some, None, Err};
+ghost use Rattle.std.specs.Prelude.{◌≡◌, ◌↔◌, map, IsTrue, IfOk};
 ghost use Rattle.smk_base.specs.declared.token.TokenKind.TheVariants as kinds;
 ghost use Rattle.smk_base.specs.declared.fault.BookFault.{BookFault};
-ghost use Rattle.smk_base.specs.declared.fault.BookFault.TheVariants.{NoMemory};
-ghost use Rattle.smk_base.specs.TreeImage.{stmt_image, book_image};
-ghost use Rattle.smk_model.specs.Tokens.{head_of, tokens};
+ghost use Rattle.smk_base.specs.TreeImage.{stmt_image};
+ghost use Rattle.smk_model.specs.Tokens.{head_of};
 ghost use Rattle.smk_model.specs.Grammar.{AreStmts};
-ghost use Rattle.smk_model.specs.Machine.{book_symbols, book_fault};
+ghost use Rattle.smk_model.specs.Machine.{book_symbols};
 ghost use Rattle.smk_parse.specs.Reads.{Reads};
 ghost use Rattle.smk_parse.specs.Answers.{IsBookAnswer};
 
@@ -46,7 +45,7 @@ fn stmts(alloc: Global, reader: &mut Reader) -> Result<Stmts, BookFault>
 }
 
 /// The tree of a book, or the first fault of its text.
-#[tactic(auto, using(crate::proofs::Whole::book_read, crate::proofs::Whole::book_unread))]
+#[tactic(auto, using(crate::proofs::Whole::book_answers))]
 pub fn parse_book(alloc: Global, text: &[u8]) -> Result<Book, BookFault>
     ensures { IsBookAnswer text.now result }
 {

@@ -43,7 +43,8 @@ fn digits_len(bytes: &[u8]) -> usize
     bytes.iter().take_while(|b| b.is_ascii_digit()).count()
 }
 
-fn line_len(bytes: &[u8]) -> usize
+/// The number of bytes before the first line feed.
+pub fn line_len(bytes: &[u8]) -> usize
     ensures is { result ≡ length (take_while no_line_end bytes.now) }
     ensures within { result ≤ length bytes.now }
 {

@@ -1,39 +1,17 @@
-ghost use Rattle.std.specs.Prelude.{◌≡◌, ◌∷◌, [], List, length, refl, IsTrue, IfOk, IfErr, OnOk, Ok, Err};
+ghost use Rattle.std.specs.Prelude.{◌∷◌, [], List, refl, IfOk, Ok, Err};
 ghost use Rattle.smk_base.specs.declared.token.TokenKind.TheVariants as kinds;
-ghost use Rattle.smk_model.specs.Tokens.{Token, head_of, is_more};
-ghost use Rattle.smk_model.specs.Grammar.{First, IsColumn, IsLiteral, IsMark, AreMarks, IsThen, IsLine, IsWholeLine};
-ghost use Rattle.smk_model.specs.Machine.{ALine, ALineColumn, ALiteral, AMark, MoreMarks, AMarks, AThen, ACleared, AnEnd};
-ghost use Rattle.smk_parse.specs.Reads.{Reads, Shrinks};
+ghost use Rattle.smk_model.specs.Tokens.{Token};
+ghost use Rattle.smk_model.specs.Grammar.{First, IsMark, AreMarks, IsThen, IsLine, IsWholeLine};
+ghost use Rattle.smk_model.specs.Machine.{ALine, AMark, MoreMarks, AMarks, AThen, ACleared, line_symbols};
+ghost use Rattle.smk_parse.specs.Reads.{Reads};
 ghost use Rattle.smk_parse.specs.Answers.{IsLineAnswer};
 
 use crate::listed::{Member, listed};
+use crate::names::{line_column, line_name, take_column};
 use crate::reader::Reader;
-use crate::taken::{expect, line_name, literal, quoted_in_hand, text_in_hand, wrong};
-use smk_base::{BookFault, Line, LineFault, Marks, Then, TokenKind, Word};
+use crate::taken::{expect, literal, wrong};
+use smk_base::{BookFault, Line, LineFault, Marks, Then, TokenKind};
 use std::alloc::Global;
-
-/// A column of any length.
-#[tactic(auto, using(crate::proofs::Trees::reading))]
-fn line_column(alloc: Global, reader: &mut Reader) -> Result<Word, BookFault>
-    ensures reads { Reads (ALineColumn ∷ []) reader.old reader.new result }
-    ensures is { IfOk result (λ word. IsColumn reader.old.rest reader.new.rest word) }
-    ensures shrinks { Shrinks reader.old reader.new result }
-{
-    let at = reader.at();
-    match reader.kind() {
-        TokenKind::Name => {
-            let name = text_in_hand(alloc, reader)?;
-            reader.advance();
-            Ok(Word { name, at })
-        }
-        TokenKind::Quoted => {
-            let name = quoted_in_hand(alloc, reader)?;
-            reader.advance();
-            Ok(Word { name, at })
-        }
-        _ => Err(wrong(reader)),
-    }
-}
 
 /// A mark.
 struct MarkMember;
@@ -71,7 +49,6 @@ impl Member for MarkMember {
 fn marks(alloc: Global, reader: &mut Reader) -> Result<Marks, BookFault>
     ensures reads { Reads (AMarks ∷ []) reader.old reader.new result }
     ensures is { IfOk result (λ marks. AreMarks reader.old.rest reader.new.rest marks) }
-    ensures shrinks { Shrinks reader.old reader.new result }
 {
     match reader.kind() {
         TokenKind::All => {
@@ -110,73 +87,6 @@ fn then(alloc: Global, reader: &mut Reader) -> Result<Then, BookFault>
     }
 }
 
-#[tactic(auto, using(crate::proofs::Trees::reading))]
-fn show_line(alloc: Global, reader: &mut Reader) -> Result<Line, BookFault>
-    requires { (head_of reader.old.rest).kind ≡ kinds.Show }
-    ensures reads { Reads (ALine ∷ []) reader.old reader.new result }
-    ensures is { IfOk result (λ line. IsLine reader.old.rest reader.new.rest line) }
-{
-    reader.advance();
-    let view = line_name(alloc, reader)?;
-    Ok(Line::Show { view: view.name })
-}
-
-#[tactic(auto, using(crate::proofs::Trees::reading))]
-fn back_line(alloc: Global, reader: &mut Reader) -> Result<Line, BookFault>
-    requires { (head_of reader.old.rest).kind ≡ kinds.Back }
-    ensures reads { Reads (ALine ∷ []) reader.old reader.new result }
-    ensures is { IfOk result (λ line. IsLine reader.old.rest reader.new.rest line) }
-{
-    reader.advance();
-    let view = line_name(alloc, reader)?;
-    let marks = marks(alloc, reader)?;
-    let _ = expect(reader, TokenKind::To)?;
-    let table = line_name(alloc, reader)?;
-    let then = then(alloc, reader)?;
-    Ok(Line::Back {
-        view: view.name,
-        marks,
-        table: table.name,
-        then,
-    })
-}
-
-#[tactic(auto, using(crate::proofs::Trees::reading))]
-fn fwd_line(alloc: Global, reader: &mut Reader) -> Result<Line, BookFault>
-    requires { (head_of reader.old.rest).kind ≡ kinds.Fwd }
-    ensures reads { Reads (ALine ∷ []) reader.old reader.new result }
-    ensures is { IfOk result (λ line. IsLine reader.old.rest reader.new.rest line) }
-{
-    reader.advance();
-    let table = line_name(alloc, reader)?;
-    let rows = marks(alloc, reader)?;
-    let _ = expect(reader, TokenKind::To)?;
-    let view = line_name(alloc, reader)?;
-    Ok(Line::Fwd {
-        table: table.name,
-        rows,
-        view: view.name,
-    })
-}
-
-#[tactic(auto, using(crate::proofs::Trees::reading))]
-fn brush_line(alloc: Global, reader: &mut Reader) -> Result<Line, BookFault>
-    requires { (head_of reader.old.rest).kind ≡ kinds.Brush }
-    ensures reads { Reads (ALine ∷ []) reader.old reader.new result }
-    ensures is { IfOk result (λ line. IsLine reader.old.rest reader.new.rest line) }
-{
-    reader.advance();
-    let view = line_name(alloc, reader)?;
-    let marks = marks(alloc, reader)?;
-    let _ = expect(reader, TokenKind::On)?;
-    let table = line_name(alloc, reader)?;
-    Ok(Line::Brush {
-        view: view.name,
-        marks,
-        table: table.name,
-    })
-}
-
 /// What a `clear` line clears: every brush, or the one of a view on a table.
 #[tactic(auto, using(crate::proofs::Trees::reading))]
 fn cleared(alloc: Global, reader: &mut Reader) -> Result<Line, BookFault>
@@ -185,12 +95,11 @@ fn cleared(alloc: Global, reader: &mut Reader) -> Result<Line, BookFault>
 {
     match reader.kind() {
         TokenKind::Name => {
-            let view = text_in_hand(alloc, reader)?;
-            reader.advance();
+            let view = take_column(alloc, reader)?;
             let _ = expect(reader, TokenKind::On)?;
             let table = line_name(alloc, reader)?;
             Ok(Line::ClearOne {
-                view,
+                view: view.name,
                 table: table.name,
             })
         }
@@ -204,10 +113,49 @@ fn line(alloc: Global, reader: &mut Reader) -> Result<Line, BookFault>
     ensures is { IfOk result (λ line. IsLine reader.old.rest reader.new.rest line) }
 {
     match reader.kind() {
-        TokenKind::Show => show_line(alloc, reader),
-        TokenKind::Back => back_line(alloc, reader),
-        TokenKind::Fwd => fwd_line(alloc, reader),
-        TokenKind::Brush => brush_line(alloc, reader),
+        TokenKind::Show => {
+            reader.advance();
+            let view = line_name(alloc, reader)?;
+            Ok(Line::Show { view: view.name })
+        }
+        TokenKind::Back => {
+            reader.advance();
+            let view = line_name(alloc, reader)?;
+            let marks = marks(alloc, reader)?;
+            let _ = expect(reader, TokenKind::To)?;
+            let table = line_name(alloc, reader)?;
+            let then = then(alloc, reader)?;
+            Ok(Line::Back {
+                view: view.name,
+                marks,
+                table: table.name,
+                then,
+            })
+        }
+        TokenKind::Fwd => {
+            reader.advance();
+            let table = line_name(alloc, reader)?;
+            let rows = marks(alloc, reader)?;
+            let _ = expect(reader, TokenKind::To)?;
+            let view = line_name(alloc, reader)?;
+            Ok(Line::Fwd {
+                table: table.name,
+                rows,
+                view: view.name,
+            })
+        }
+        TokenKind::Brush => {
+            reader.advance();
+            let view = line_name(alloc, reader)?;
+            let marks = marks(alloc, reader)?;
+            let _ = expect(reader, TokenKind::On)?;
+            let table = line_name(alloc, reader)?;
+            Ok(Line::Brush {
+                view: view.name,
+                marks,
+                table: table.name,
+            })
+        }
         TokenKind::Clear => {
             reader.advance();
             cleared(alloc, reader)
@@ -219,7 +167,7 @@ fn line(alloc: Global, reader: &mut Reader) -> Result<Line, BookFault>
 /// A line up to its end.
 #[tactic(auto, using(crate::proofs::Trees::reading))]
 fn whole_line(alloc: Global, reader: &mut Reader) -> Result<Line, BookFault>
-    ensures reads { Reads (ALine ∷ AnEnd ∷ []) reader.old reader.new result }
+    ensures reads { Reads line_symbols reader.old reader.new result }
     ensures is { IfOk result (λ line. IsWholeLine reader.old.rest line) }
 {
     let line = line(alloc, reader)?;

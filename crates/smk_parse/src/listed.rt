@@ -1,8 +1,8 @@
-ghost use Rattle.std.specs.Prelude.{◌≡◌, ◌∷◌, ◌+◌, ◌++◌, ◌<◌, [], ℕ, List, length, IfOk};
+ghost use Rattle.std.specs.Prelude.{◌≡◌, ◌∷◌, ◌+◌, ◌++◌, ◌<◌, [], ℕ, List, IfOk};
 ghost use Rattle.smk_model.specs.Tokens.{Token};
 ghost use Rattle.smk_model.specs.Grammar.{AreListed};
 ghost use Rattle.smk_model.specs.Machine.{Counts, Symbol, next, at_more};
-ghost use Rattle.smk_parse.specs.Reads.{Reads, Shrinks};
+ghost use Rattle.smk_parse.specs.Reads.{Reads};
 
 use crate::reader::Reader;
 use smk_base::{BookFault, ListOf, TokenKind};
@@ -24,19 +24,17 @@ pub trait Member {
     /// A member, of which so many stand before.
     fn read(alloc: Global, reader: &mut Reader, before: usize) -> Result<Self::Tree, BookFault>
         ensures reads { Reads (one before) reader.old reader.new result }
-        ensures is { IfOk result (λ tree. spells reader.old.rest reader.new.rest tree) }
-        ensures shrinks { Shrinks reader.old reader.new result };
+        ensures is { IfOk result (λ tree. spells reader.old.rest reader.new.rest tree) };
 
     /// Behind a member comes a comma with one more, or nothing.
     ghost goes_on: { (n : ℕ) (c : Counts) (t : Token) → next c (more n) t ≡ at_more c (one n ++ more (n + 1) ∷ []) t.kind };
 }
 
 /// One or more members with commas between.
-#[tactic(auto, using(crate::proofs::Steps::in_order))]
+#[tactic(auto, using(crate::proofs::Steps::in_order, crate::proofs::Steps::in_loop))]
 pub fn listed<M: Member>(alloc: Global, reader: &mut Reader) -> Result<ListOf<M::Tree>, BookFault>
     ensures reads { Reads (M.one 0 ++ M.more 1 ∷ []) reader.old reader.new result }
     ensures is { IfOk result (λ list. AreListed M.spells reader.old.rest reader.new.rest list) }
-    ensures shrinks { Shrinks reader.old reader.new result }
 {
     let mut list = ListOf::new(alloc);
     let first = M::read(alloc, reader, 0)?;

@@ -1,14 +1,13 @@
-ghost use Rattle.std.specs.Prelude.{◌≡◌, ◌∷◌, ◌<◌, ◌≤◌, [], length, pos, ◌≤ℤ◌, refl, IfOk, OnOk};
+ghost use Rattle.std.specs.Prelude.{◌≡◌, ◌∷◌, ◌<◌, ◌≤◌, [], pos, ◌≤ℤ◌, refl, IfOk};
 ghost use Rattle.smk_base.specs.declared.tree.ItemTree.TheVariants as items;
 ghost use Rattle.smk_base.specs.declared.token.TokenKind.TheVariants as kinds;
 ghost use Rattle.smk_model.specs.Tokens.{head_of};
 ghost use Rattle.smk_model.specs.Grammar.{IsName, IsColumn, IsType, IsDefault, IsDecl, IsNamed, IsWidth, IsItem, IsWhat, IsAgg, IsPair, AreKeys, AreAggs};
 ghost use Rattle.smk_model.specs.Machine.{AToken, AColumn, AFirst, AType, ADefault, AnAs, AWidth, AnItem, AWhat, AKeys, AnAggs, ALinked, MoreDecls, MoreItems, MoreKeys, MoreAggs, MorePairs, MoreLinked};
-ghost use Rattle.smk_parse.specs.Reads.{Reads, Shrinks};
-ghost use Rattle.smk_parse.specs.Groupings.{IsGrouping};
+ghost use Rattle.smk_parse.specs.Reads.{Reads};
 
 use crate::listed::{Member, listed};
-use crate::names::{column, first_column, is_column, linked};
+use crate::names::{column, first_column, is_column, is_short, take_column};
 use crate::reader::Reader;
 use crate::taken::{expect, literal, within, wrong};
 use smk_base::{
@@ -22,7 +21,6 @@ use std::alloc::Global;
 fn is_text(reader: &mut Reader) -> Result<bool, BookFault>
     ensures reads { Reads (AType ∷ []) reader.old reader.new result }
     ensures is { IfOk result (λ text. IsType reader.old.rest reader.new.rest text) }
-    ensures shrinks { Shrinks reader.old reader.new result }
 {
     match reader.kind() {
         TokenKind::Int => {
@@ -42,7 +40,6 @@ fn is_text(reader: &mut Reader) -> Result<bool, BookFault>
 fn default(alloc: Global, reader: &mut Reader) -> Result<Option<Lit>, BookFault>
     ensures reads { Reads (ADefault ∷ []) reader.old reader.new result }
     ensures is { IfOk result (λ lit. IsDefault reader.old.rest reader.new.rest lit) }
-    ensures shrinks { OnOk result (length reader.new.rest ≤ length reader.old.rest) }
 {
     match reader.kind() {
         TokenKind::Default => {
@@ -82,7 +79,6 @@ impl Member for DeclMember {
 fn named(alloc: Global, reader: &mut Reader, col: &Word) -> Result<Word, BookFault>
     ensures reads { Reads (AnAs ∷ []) reader.old reader.new result }
     ensures is { IfOk result (λ name. IsNamed col.now reader.old.rest reader.new.rest name) }
-    ensures shrinks { OnOk result (length reader.new.rest ≤ length reader.old.rest) }
 {
     match reader.kind() {
         TokenKind::As => {
@@ -119,7 +115,6 @@ fn width(reader: &mut Reader) -> Result<i64, BookFault>
     ensures is { IfOk result (λ width. IsWidth reader.old.rest reader.new.rest width) }
     ensures low { IfOk result (λ width. pos 1 ≤ℤ width) }
     ensures high { IfOk result (λ width. width ≤ℤ pos 9223372036854775807) }
-    ensures shrinks { Shrinks reader.old reader.new result }
 {
     let at = reader.at();
     match reader.kind() {
@@ -141,7 +136,6 @@ fn bin_item(alloc: Global, reader: &mut Reader, before: usize) -> Result<ItemTre
     requires { (head_of reader.old.rest).kind ≡ kinds.Bin }
     ensures reads { Reads (AnItem before ∷ []) reader.old reader.new result }
     ensures is { IfOk result (λ item. IsItem reader.old.rest reader.new.rest item) }
-    ensures shrinks { Shrinks reader.old reader.new result }
 {
     let at = reader.at();
     within(reader, before < 16, Many::Columns)?;
@@ -161,7 +155,6 @@ fn bin_item(alloc: Global, reader: &mut Reader, before: usize) -> Result<ItemTre
 fn column_item(alloc: Global, reader: &mut Reader, before: usize) -> Result<ItemTree, BookFault>
     ensures reads { Reads (AFirst before ∷ AnAs ∷ []) reader.old reader.new result }
     ensures is { IfOk result (λ item. IsItem reader.old.rest reader.new.rest item) }
-    ensures shrinks { Shrinks reader.old reader.new result }
 {
     let col = first_column(alloc, reader, before)?;
     let name = named(alloc, reader, &col)?;
@@ -196,7 +189,6 @@ impl Member for ItemMember {
 fn what(alloc: Global, reader: &mut Reader) -> Result<AggWhat, BookFault>
     ensures reads { Reads (AWhat ∷ []) reader.old reader.new result }
     ensures is { IfOk result (λ what. IsWhat reader.old.rest reader.new.rest what) }
-    ensures shrinks { Shrinks reader.old reader.new result }
 {
     match reader.kind() {
         TokenKind::Count => {
@@ -298,17 +290,24 @@ impl Member for LinkedMember {
 
     ghost goes_on = { λ n c t. refl };
 
+    #[tactic(auto, using(crate::proofs::Trees::reading))]
     fn read(alloc: Global, reader: &mut Reader, before: usize) -> Result<Word, BookFault> {
-        linked(alloc, reader, before)
+        match reader.kind() {
+            TokenKind::Name => {
+                within(reader, before < 64, Many::Links)?;
+                within(reader, is_short(reader), Many::NameBytes)?;
+                take_column(alloc, reader)
+            }
+            _ => Err(wrong(reader)),
+        }
     }
 }
 
 /// The keys of a grouping.
 #[tactic(auto, using(crate::proofs::Trees::reading, crate::proofs::Begins::begun))]
-fn keys(alloc: Global, reader: &mut Reader) -> Result<Words, BookFault>
+pub fn keys(alloc: Global, reader: &mut Reader) -> Result<Words, BookFault>
     ensures reads { Reads (AKeys ∷ []) reader.old reader.new result }
     ensures is { IfOk result (λ list. AreKeys reader.old.rest reader.new.rest list) }
-    ensures shrinks { OnOk result (length reader.new.rest ≤ length reader.old.rest) }
 {
     if is_column(reader.kind()) {
         return listed::<KeyMember>(alloc, reader);
@@ -318,10 +317,9 @@ fn keys(alloc: Global, reader: &mut Reader) -> Result<Words, BookFault>
 
 /// The aggregates of a grouping.
 #[tactic(auto, using(crate::proofs::Trees::reading))]
-fn aggs(alloc: Global, reader: &mut Reader) -> Result<AggTrees, BookFault>
+pub fn aggs(alloc: Global, reader: &mut Reader) -> Result<AggTrees, BookFault>
     ensures reads { Reads (AnAggs ∷ []) reader.old reader.new result }
     ensures is { IfOk result (λ list. AreAggs reader.old.rest reader.new.rest list) }
-    ensures shrinks { OnOk result (length reader.new.rest ≤ length reader.old.rest) }
 {
     match reader.kind() {
         TokenKind::OpenBrace => {
@@ -332,16 +330,4 @@ fn aggs(alloc: Global, reader: &mut Reader) -> Result<AggTrees, BookFault>
         }
         _ => Ok(AggTrees::new(alloc)),
     }
-}
-
-/// The keys and the aggregates of a grouping.
-#[tactic(auto, using(crate::proofs::Trees::reading))]
-pub fn grouping(alloc: Global, reader: &mut Reader) -> Result<(Words, AggTrees), BookFault>
-    ensures reads { Reads (AKeys ∷ AnAggs ∷ []) reader.old reader.new result }
-    ensures is { IfOk result (λ both. IsGrouping reader.old.rest reader.new.rest both.0 both.1) }
-    ensures shrinks { OnOk result (length reader.new.rest ≤ length reader.old.rest) }
-{
-    let keys = keys(alloc, reader)?;
-    let aggs = aggs(alloc, reader)?;
-    Ok((keys, aggs))
 }

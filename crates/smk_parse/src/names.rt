@@ -1,14 +1,15 @@
-ghost use Rattle.std.specs.Prelude.{◌≡◌, ◌∷◌, ◌<◌, [], IfOk, IfErr};
+ghost use Rattle.std.specs.Prelude.{◌≡◌, ◌∷◌, ◌<◌, [], IsTrue, IfOk, IfErr, OnOk};
 ghost use Rattle.smk_base.specs.declared.fault.BookFault.TheVariants.{NoMemory};
 ghost use Rattle.smk_model.specs.Tokens.{head_of};
 ghost use Rattle.smk_model.specs.Grammar.{IsName, IsColumn};
-ghost use Rattle.smk_model.specs.Machine.{is_short, AName, AColumn, AFirst, ALinked};
-ghost use Rattle.smk_parse.specs.Columns.{is_column, column_word};
-ghost use Rattle.smk_parse.specs.Reads.{Reads, Shrinks};
+ghost use Rattle.smk_model.specs.Machine.{is_short, AName, AColumn, AFirst, ALineName, ALineColumn};
+ghost use Rattle.smk_parse.specs.Columns.{is_column, column_name, column_word};
+ghost use Rattle.smk_parse.specs.Readers.{Advances};
+ghost use Rattle.smk_parse.specs.Reads.{Reads};
 
 use crate::reader::Reader;
-use crate::taken::{quoted_in_hand, text_in_hand, within, wrong};
-use smk_base::{BookFault, Many, TokenKind, Word};
+use crate::taken::{inner, within, wrong};
+use smk_base::{BookFault, Many, Text, TokenKind, Word};
 use std::alloc::Global;
 
 /// Whether a token of this kind is a column.
@@ -21,16 +22,45 @@ pub fn is_column(kind: TokenKind) -> bool
     }
 }
 
+/// The bytes of the column in hand, without backquotes.
+#[tactic(auto, using(crate::proofs::Trees::plain_name, crate::proofs::Trees::quoted_name))]
+fn name_in_hand<'t>(reader: &Reader<'t>) -> &'t [u8]
+    ensures { result.now ≡ column_name (head_of reader.now.rest) }
+{
+    match reader.kind() {
+        TokenKind::Quoted => inner(reader.bytes()),
+        _ => reader.bytes(),
+    }
+}
+
 /// Whether the name in hand has at most 64 bytes.
-#[tactic(auto, using(crate::proofs::Trees::short_plain, crate::proofs::Trees::short_quoted))]
+#[tactic(auto, using(crate::proofs::Trees::short_name))]
 pub fn is_short(reader: &Reader) -> bool
     ensures { result ≡ is_short (head_of reader.now.rest) }
 {
-    let len = reader.bytes().len();
-    match reader.kind() {
-        TokenKind::Quoted => len.saturating_sub(2) <= 64,
-        _ => len <= 64,
-    }
+    name_in_hand(reader).len() <= 64
+}
+
+/// The word of the column in hand.
+pub fn column_in_hand(alloc: Global, reader: &Reader) -> Result<Word, BookFault>
+    ensures ok { IfOk result (λ word. word ≡ column_word (head_of reader.now.rest)) }
+    ensures memory { IfErr result (λ fault. fault ≡ NoMemory) }
+{
+    let name = Text::from_vec(Vec::from_slice(alloc, name_in_hand(reader))?);
+    let at = reader.at();
+    Ok(Word { name, at })
+}
+
+/// The column in hand is taken.
+pub fn take_column(alloc: Global, reader: &mut Reader) -> Result<Word, BookFault>
+    requires { IsTrue (is_column (head_of reader.old.rest).kind) }
+    ensures taken { OnOk result (Advances reader.old.counts reader.old reader.new) }
+    ensures ok { IfOk result (λ word. word ≡ column_word (head_of reader.old.rest)) }
+    ensures memory { IfErr result (λ fault. fault ≡ NoMemory) }
+{
+    let word = column_in_hand(alloc, reader)?;
+    reader.advance();
+    Ok(word)
 }
 
 /// A name of at most 64 bytes.
@@ -38,36 +68,25 @@ pub fn is_short(reader: &Reader) -> bool
 pub fn name(alloc: Global, reader: &mut Reader) -> Result<Word, BookFault>
     ensures reads { Reads (AName ∷ []) reader.old reader.new result }
     ensures is { IfOk result (λ word. IsName reader.old.rest reader.new.rest word) }
-    ensures shrinks { Shrinks reader.old reader.new result }
 {
-    let at = reader.at();
     match reader.kind() {
         TokenKind::Name => {
             within(reader, is_short(reader), Many::NameBytes)?;
-            let name = text_in_hand(alloc, reader)?;
-            reader.advance();
-            Ok(Word { name, at })
+            take_column(alloc, reader)
         }
         _ => Err(wrong(reader)),
     }
 }
 
-/// The word of the column in hand.
-#[tactic(auto, using(crate::proofs::Trees::plain_column, crate::proofs::Trees::quoted_column))]
-pub fn column_in_hand(alloc: Global, reader: &Reader) -> Result<Word, BookFault>
-    ensures ok { IfOk result (λ word. word ≡ column_word (head_of reader.now.rest)) }
-    ensures memory { IfErr result (λ fault. fault ≡ NoMemory) }
+/// A name of any length.
+#[tactic(auto, using(crate::proofs::Trees::reading))]
+pub fn line_name(alloc: Global, reader: &mut Reader) -> Result<Word, BookFault>
+    ensures reads { Reads (ALineName ∷ []) reader.old reader.new result }
+    ensures is { IfOk result (λ word. IsName reader.old.rest reader.new.rest word) }
 {
-    let at = reader.at();
     match reader.kind() {
-        TokenKind::Quoted => {
-            let name = quoted_in_hand(alloc, reader)?;
-            Ok(Word { name, at })
-        }
-        _ => {
-            let name = text_in_hand(alloc, reader)?;
-            Ok(Word { name, at })
-        }
+        TokenKind::Name => take_column(alloc, reader),
+        _ => Err(wrong(reader)),
     }
 }
 
@@ -76,16 +95,12 @@ pub fn column_in_hand(alloc: Global, reader: &Reader) -> Result<Word, BookFault>
 pub fn column(alloc: Global, reader: &mut Reader) -> Result<Word, BookFault>
     ensures reads { Reads (AColumn ∷ []) reader.old reader.new result }
     ensures is { IfOk result (λ word. IsColumn reader.old.rest reader.new.rest word) }
-    ensures shrinks { Shrinks reader.old reader.new result }
 {
-    let at = reader.at();
     if !is_column(reader.kind()) {
         return Err(wrong(reader));
     }
     within(reader, is_short(reader), Many::NameBytes)?;
-    let word = column_in_hand(alloc, reader)?;
-    reader.advance();
-    Ok(word)
+    take_column(alloc, reader)
 }
 
 /// The column that begins a member of a list, of which so many stand before.
@@ -93,35 +108,23 @@ pub fn column(alloc: Global, reader: &mut Reader) -> Result<Word, BookFault>
 pub fn first_column(alloc: Global, reader: &mut Reader, before: usize) -> Result<Word, BookFault>
     ensures reads { Reads (AFirst before ∷ []) reader.old reader.new result }
     ensures is { IfOk result (λ word. IsColumn reader.old.rest reader.new.rest word) }
-    ensures shrinks { Shrinks reader.old reader.new result }
 {
-    let at = reader.at();
     if !is_column(reader.kind()) {
         return Err(wrong(reader));
     }
     within(reader, before < 16, Many::Columns)?;
     within(reader, is_short(reader), Many::NameBytes)?;
-    let word = column_in_hand(alloc, reader)?;
-    reader.advance();
-    Ok(word)
+    take_column(alloc, reader)
 }
 
-/// A linked view, of which so many stand before.
+/// A column of any length.
 #[tactic(auto, using(crate::proofs::Trees::reading))]
-pub fn linked(alloc: Global, reader: &mut Reader, before: usize) -> Result<Word, BookFault>
-    ensures reads { Reads (ALinked before ∷ []) reader.old reader.new result }
-    ensures is { IfOk result (λ word. IsName reader.old.rest reader.new.rest word) }
-    ensures shrinks { Shrinks reader.old reader.new result }
+pub fn line_column(alloc: Global, reader: &mut Reader) -> Result<Word, BookFault>
+    ensures reads { Reads (ALineColumn ∷ []) reader.old reader.new result }
+    ensures is { IfOk result (λ word. IsColumn reader.old.rest reader.new.rest word) }
 {
-    let at = reader.at();
-    match reader.kind() {
-        TokenKind::Name => {
-            within(reader, before < 64, Many::Links)?;
-            within(reader, is_short(reader), Many::NameBytes)?;
-            let name = text_in_hand(alloc, reader)?;
-            reader.advance();
-            Ok(Word { name, at })
-        }
-        _ => Err(wrong(reader)),
+    if !is_column(reader.kind()) {
+        return Err(wrong(reader));
     }
+    take_column(alloc, reader)
 }

@@ -1,4 +1,4 @@
-ghost use Rattle.std.specs.Prelude.{◌≡◌, ◌≤ℤ◌, pos, ◌+◌, ◌<◌, ◌≤◌, ◌^◌, length, take_while, min, true, false, IsTrue};
+ghost use Rattle.std.specs.Prelude.{◌≡◌, ◌≤ℤ◌, pos, ◌+◌, ◌<◌, ◌≤◌, min, IsTrue};
 ghost use Rattle.smk_model.specs.Tokens.{digits_value, number_kind, int_value};
 ghost use Rattle.smk_parse.specs.Fronts.{number_fits};
 

@@ -1,5 +1,4 @@
-ghost use Rattle.std.specs.Prelude.{◌≡◌, ◌∷◌, ◌+◌, ◌<◌, ◌≤◌, [], length, IsTrue, IfOk, IfErr, OnOk};
-ghost use Rattle.smk_base.specs.declared.token.TokenKind.TheVariants as kinds;
+ghost use Rattle.std.specs.Prelude.{◌≡◌, ◌∷◌, ◌+◌, ◌<◌, ◌≤◌, [], IsTrue, IfOk, IfErr, OnOk};
 ghost use Rattle.smk_base.specs.declared.fault.BookFault.TheVariants.{TooMany};
 ghost use Rattle.smk_base.specs.declared.fault.Many.TheVariants.{Nodes};
 ghost use Rattle.smk_base.specs.TreeImage.{tree_image, step_image};
@@ -7,11 +6,11 @@ ghost use Rattle.smk_model.specs.Tokens.{head_of, tail_of, is_more};
 ghost use Rattle.smk_model.specs.Grammar.{IsSource, IsPlan, IsStep};
 ghost use Rattle.smk_model.specs.Machine.{node_more, ASource, ASteps, AStep, AUnited};
 ghost use Rattle.smk_parse.specs.Readers.{Advances};
-ghost use Rattle.smk_parse.specs.Reads.{Reads, Shrinks};
+ghost use Rattle.smk_parse.specs.Reads.{Reads};
 ghost use Rattle.smk_parse.specs.Groupings.{IsUnited};
 
 use crate::listed::listed;
-use crate::lists::{ItemMember, PairMember, grouping};
+use crate::lists::{ItemMember, PairMember, aggs, keys};
 use crate::names::name;
 use crate::pred::{on, pred};
 use crate::reader::Reader;
@@ -36,64 +35,12 @@ fn take_node(reader: &mut Reader) -> Result<(), BookFault>
     Ok(())
 }
 
-/// A selection.
-#[tactic(auto, using(crate::proofs::Trees::reading))]
-fn where_step(alloc: Global, reader: &mut Reader, depth: u32) -> Result<StepTree, BookFault>
-    requires kind { (head_of reader.old.rest).kind ≡ kinds.Where }
-    requires depth { depth ≤ 32 }
-    ensures reads { Reads (AStep depth ∷ []) reader.old reader.new result }
-    ensures is { IfOk result (λ step. IsStep reader.old.rest reader.new.rest (head_of reader.old.rest).at (step_image step)) }
-    ensures shrinks { Shrinks reader.old reader.new result }
-{
-    take_node(reader)?;
-    Ok(StepTree::Select(pred(alloc, reader, depth)?))
-}
-
-/// A projection.
-#[tactic(auto, using(crate::proofs::Trees::reading))]
-fn project_step(alloc: Global, reader: &mut Reader, depth: u32) -> Result<StepTree, BookFault>
-    requires { (head_of reader.old.rest).kind ≡ kinds.Project }
-    ensures reads { Reads (AStep depth ∷ []) reader.old reader.new result }
-    ensures is { IfOk result (λ step. IsStep reader.old.rest reader.new.rest (head_of reader.old.rest).at (step_image step)) }
-    ensures shrinks { Shrinks reader.old reader.new result }
-{
-    take_node(reader)?;
-    Ok(StepTree::Project(listed::<ItemMember>(alloc, reader)?))
-}
-
-/// A projection without repeats.
-#[tactic(auto, using(crate::proofs::Trees::reading))]
-fn distinct_step(alloc: Global, reader: &mut Reader, depth: u32) -> Result<StepTree, BookFault>
-    requires { (head_of reader.old.rest).kind ≡ kinds.Distinct }
-    ensures reads { Reads (AStep depth ∷ []) reader.old reader.new result }
-    ensures is { IfOk result (λ step. IsStep reader.old.rest reader.new.rest (head_of reader.old.rest).at (step_image step)) }
-    ensures shrinks { Shrinks reader.old reader.new result }
-{
-    take_node(reader)?;
-    Ok(StepTree::Distinct(listed::<ItemMember>(alloc, reader)?))
-}
-
-/// A grouping.
-#[tactic(auto, using(crate::proofs::Trees::reading))]
-fn group_step(alloc: Global, reader: &mut Reader, depth: u32) -> Result<StepTree, BookFault>
-    requires { (head_of reader.old.rest).kind ≡ kinds.Group }
-    ensures reads { Reads (AStep depth ∷ []) reader.old reader.new result }
-    ensures is { IfOk result (λ step. IsStep reader.old.rest reader.new.rest (head_of reader.old.rest).at (step_image step)) }
-    ensures shrinks { Shrinks reader.old reader.new result }
-{
-    take_node(reader)?;
-    let (keys, aggs) = grouping(alloc, reader)?;
-    Ok(StepTree::Group(keys, aggs))
-}
-
 /// A table, or a plan in parentheses.
 #[tactic(auto, using(crate::proofs::Trees::reading))]
 #[cycle(plan)]
 fn source(alloc: Global, reader: &mut Reader, depth: u32) -> Result<Tree, BookFault>
-    requires { depth ≤ 32 }
     ensures reads { Reads (ASource depth ∷ []) reader.old reader.new result }
     ensures is { IfOk result (λ tree. IsSource reader.old.rest reader.new.rest (tree_image tree)) }
-    ensures shrinks { Shrinks reader.old reader.new result }
 {
     let at = reader.at();
     match reader.kind() {
@@ -112,63 +59,12 @@ fn source(alloc: Global, reader: &mut Reader, depth: u32) -> Result<Tree, BookFa
     }
 }
 
-/// A join.
-#[tactic(auto, using(crate::proofs::Trees::reading))]
-#[cycle(plan)]
-fn join_step(alloc: Global, reader: &mut Reader, depth: u32) -> Result<StepTree, BookFault>
-    requires kind { (head_of reader.old.rest).kind ≡ kinds.Join }
-    requires depth { depth ≤ 32 }
-    ensures reads { Reads (AStep depth ∷ []) reader.old reader.new result }
-    ensures is { IfOk result (λ step. IsStep reader.old.rest reader.new.rest (head_of reader.old.rest).at (step_image step)) }
-    ensures shrinks { Shrinks reader.old reader.new result }
-{
-    take_node(reader)?;
-    let right = source(alloc, reader, depth)?;
-    let _ = expect(reader, TokenKind::On)?;
-    let pairs = listed::<PairMember>(alloc, reader)?;
-    Ok(StepTree::Join(Box::new(alloc, right)?, pairs))
-}
-
-/// A theta join.
-#[tactic(auto, using(crate::proofs::Trees::reading))]
-#[cycle(plan)]
-fn theta_step(alloc: Global, reader: &mut Reader, depth: u32) -> Result<StepTree, BookFault>
-    requires kind { (head_of reader.old.rest).kind ≡ kinds.Theta }
-    requires depth { depth ≤ 32 }
-    ensures reads { Reads (AStep depth ∷ []) reader.old reader.new result }
-    ensures is { IfOk result (λ step. IsStep reader.old.rest reader.new.rest (head_of reader.old.rest).at (step_image step)) }
-    ensures shrinks { Shrinks reader.old reader.new result }
-{
-    take_node(reader)?;
-    let right = source(alloc, reader, depth)?;
-    on(reader)?;
-    let pred = pred(alloc, reader, depth)?;
-    Ok(StepTree::Theta(Box::new(alloc, right)?, pred))
-}
-
-/// A product.
-#[tactic(auto, using(crate::proofs::Trees::reading))]
-#[cycle(plan)]
-fn product_step(alloc: Global, reader: &mut Reader, depth: u32) -> Result<StepTree, BookFault>
-    requires kind { (head_of reader.old.rest).kind ≡ kinds.Product }
-    requires depth { depth ≤ 32 }
-    ensures reads { Reads (AStep depth ∷ []) reader.old reader.new result }
-    ensures is { IfOk result (λ step. IsStep reader.old.rest reader.new.rest (head_of reader.old.rest).at (step_image step)) }
-    ensures shrinks { Shrinks reader.old reader.new result }
-{
-    take_node(reader)?;
-    let right = source(alloc, reader, depth)?;
-    Ok(StepTree::Product(Box::new(alloc, right)?))
-}
-
 /// What a union unites with, and whether it keeps repeats.
 #[tactic(auto, using(crate::proofs::Trees::reading, crate::proofs::Begins::begun))]
 #[cycle(plan)]
 fn united(alloc: Global, reader: &mut Reader, depth: u32) -> Result<(bool, Tree), BookFault>
-    requires { depth ≤ 32 }
     ensures reads { Reads (AUnited depth ∷ []) reader.old reader.new result }
     ensures is { IfOk result (λ both. IsUnited reader.old.rest reader.new.rest both.0 (tree_image both.1)) }
-    ensures shrinks { Shrinks reader.old reader.new result }
 {
     match reader.kind() {
         TokenKind::All => {
@@ -183,44 +79,60 @@ fn united(alloc: Global, reader: &mut Reader, depth: u32) -> Result<(bool, Tree)
     }
 }
 
-/// A union.
+/// A step.
 #[tactic(auto, using(crate::proofs::Trees::reading))]
 #[cycle(plan)]
-fn union_step(alloc: Global, reader: &mut Reader, depth: u32) -> Result<StepTree, BookFault>
-    requires kind { (head_of reader.old.rest).kind ≡ kinds.Union }
-    requires depth { depth ≤ 32 }
-    ensures reads { Reads (AStep depth ∷ []) reader.old reader.new result }
-    ensures is { IfOk result (λ step. IsStep reader.old.rest reader.new.rest (head_of reader.old.rest).at (step_image step)) }
-    ensures shrinks { Shrinks reader.old reader.new result }
-{
-    take_node(reader)?;
-    let (all, right) = united(alloc, reader, depth)?;
-    let right = Box::new(alloc, right)?;
-    if all {
-        Ok(StepTree::UnionAll(right))
-    } else {
-        Ok(StepTree::Union(right))
-    }
-}
-
-/// A step.
-#[tactic(auto, using(crate::proofs::Steps::in_order))]
-#[cycle(plan)]
 fn step(alloc: Global, reader: &mut Reader, depth: u32) -> Result<StepTree, BookFault>
-    requires { depth ≤ 32 }
     ensures reads { Reads (AStep depth ∷ []) reader.old reader.new result }
     ensures is { IfOk result (λ step. IsStep reader.old.rest reader.new.rest (head_of reader.old.rest).at (step_image step)) }
-    ensures shrinks { Shrinks reader.old reader.new result }
 {
     match reader.kind() {
-        TokenKind::Where => where_step(alloc, reader, depth),
-        TokenKind::Project => project_step(alloc, reader, depth),
-        TokenKind::Distinct => distinct_step(alloc, reader, depth),
-        TokenKind::Group => group_step(alloc, reader, depth),
-        TokenKind::Join => join_step(alloc, reader, depth),
-        TokenKind::Theta => theta_step(alloc, reader, depth),
-        TokenKind::Product => product_step(alloc, reader, depth),
-        TokenKind::Union => union_step(alloc, reader, depth),
+        TokenKind::Where => {
+            take_node(reader)?;
+            Ok(StepTree::Select(pred(alloc, reader, depth)?))
+        }
+        TokenKind::Project => {
+            take_node(reader)?;
+            Ok(StepTree::Project(listed::<ItemMember>(alloc, reader)?))
+        }
+        TokenKind::Distinct => {
+            take_node(reader)?;
+            Ok(StepTree::Distinct(listed::<ItemMember>(alloc, reader)?))
+        }
+        TokenKind::Group => {
+            take_node(reader)?;
+            let keys = keys(alloc, reader)?;
+            Ok(StepTree::Group(keys, aggs(alloc, reader)?))
+        }
+        TokenKind::Join => {
+            take_node(reader)?;
+            let right = source(alloc, reader, depth)?;
+            let _ = expect(reader, TokenKind::On)?;
+            let pairs = listed::<PairMember>(alloc, reader)?;
+            Ok(StepTree::Join(Box::new(alloc, right)?, pairs))
+        }
+        TokenKind::Theta => {
+            take_node(reader)?;
+            let right = source(alloc, reader, depth)?;
+            on(reader)?;
+            let pred = pred(alloc, reader, depth)?;
+            Ok(StepTree::Theta(Box::new(alloc, right)?, pred))
+        }
+        TokenKind::Product => {
+            take_node(reader)?;
+            let right = source(alloc, reader, depth)?;
+            Ok(StepTree::Product(Box::new(alloc, right)?))
+        }
+        TokenKind::Union => {
+            take_node(reader)?;
+            let (all, right) = united(alloc, reader, depth)?;
+            let right = Box::new(alloc, right)?;
+            if all {
+                Ok(StepTree::UnionAll(right))
+            } else {
+                Ok(StepTree::Union(right))
+            }
+        }
         _ => Err(wrong(reader)),
     }
 }
@@ -229,10 +141,8 @@ fn step(alloc: Global, reader: &mut Reader, depth: u32) -> Result<StepTree, Book
 #[tactic(auto, using(crate::proofs::Trees::reading, crate::proofs::Steps::in_loop))]
 #[cycle(plan)]
 pub fn plan(alloc: Global, reader: &mut Reader, depth: u32) -> Result<Tree, BookFault>
-    requires { depth ≤ 32 }
     ensures reads { Reads (ASource depth ∷ ASteps depth ∷ []) reader.old reader.new result }
     ensures is { IfOk result (λ tree. IsPlan reader.old.rest reader.new.rest (tree_image tree)) }
-    ensures shrinks { Shrinks reader.old reader.new result }
 {
     let mut left = source(alloc, reader, depth)?;
     'steps: while let TokenKind::Bar = reader.kind() {

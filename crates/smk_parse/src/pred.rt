@@ -1,10 +1,10 @@
-ghost use Rattle.std.specs.Prelude.{◌≡◌, ◌∷◌, ◌+◌, ◌<◌, ◌≤◌, [], length, IfOk, OnOk};
+ghost use Rattle.std.specs.Prelude.{◌∷◌, ◌+◌, ◌<◌, [], IfOk, OnOk};
 ghost use Rattle.smk_base.specs.declared.token.TokenKind.TheVariants as kinds;
 ghost use Rattle.smk_base.specs.TreeImage.{pred_image};
 ghost use Rattle.smk_model.specs.Tokens.{head_of};
 ghost use Rattle.smk_model.specs.Grammar.{First, IsOp, IsTerm, IsPrim, IsConj, IsPred};
 ghost use Rattle.smk_model.specs.Machine.{AnOn, AnOp, ATerm, APrim, AnAnds, AnOrs};
-ghost use Rattle.smk_parse.specs.Reads.{Reads, Shrinks};
+ghost use Rattle.smk_parse.specs.Reads.{Reads};
 
 use crate::names::{column, column_in_hand, is_column, is_short};
 use crate::reader::Reader;
@@ -17,7 +17,6 @@ use std::alloc::Global;
 pub fn on(reader: &mut Reader) -> Result<(), BookFault>
     ensures reads { Reads (AnOn ∷ []) reader.old reader.new result }
     ensures is { OnOk result (First kinds.On (head_of reader.old.rest) reader.old.rest reader.new.rest) }
-    ensures shrinks { Shrinks reader.old reader.new result }
 {
     match reader.kind() {
         TokenKind::On => {
@@ -34,7 +33,6 @@ pub fn on(reader: &mut Reader) -> Result<(), BookFault>
 fn op(reader: &mut Reader) -> Result<CmpOp, BookFault>
     ensures reads { Reads (AnOp ∷ []) reader.old reader.new result }
     ensures is { IfOk result (λ op. IsOp reader.old.rest reader.new.rest op) }
-    ensures shrinks { Shrinks reader.old reader.new result }
 {
     match reader.kind() {
         TokenKind::Equal => {
@@ -70,7 +68,6 @@ fn op(reader: &mut Reader) -> Result<CmpOp, BookFault>
 fn term(alloc: Global, reader: &mut Reader) -> Result<Term, BookFault>
     ensures reads { Reads (ATerm ∷ []) reader.old reader.new result }
     ensures is { IfOk result (λ term. IsTerm reader.old.rest reader.new.rest term) }
-    ensures shrinks { Shrinks reader.old reader.new result }
 {
     match reader.kind() {
         TokenKind::Number => Ok(Term::Lit(literal(alloc, reader)?)),
@@ -79,38 +76,12 @@ fn term(alloc: Global, reader: &mut Reader) -> Result<Term, BookFault>
     }
 }
 
-/// A comparison.
-#[tactic(auto, using(crate::proofs::Trees::reading))]
-fn comparison(alloc: Global, reader: &mut Reader, depth: u32) -> Result<PredTree, BookFault>
-    requires not { (head_of reader.old.rest).kind ≡ kinds.Not → ⊥ }
-    requires open { (head_of reader.old.rest).kind ≡ kinds.Open → ⊥ }
-    ensures reads { Reads (APrim depth ∷ []) reader.old reader.new result }
-    ensures is { IfOk result (λ pred. IsPrim reader.old.rest reader.new.rest (pred_image pred)) }
-    ensures shrinks { Shrinks reader.old reader.new result }
-{
-    let at = reader.at();
-    if !is_column(reader.kind()) {
-        return Err(wrong(reader));
-    }
-    let compares = reader.compares();
-    within(reader, compares < 128, Many::Compares)?;
-    within(reader, is_short(reader), Many::NameBytes)?;
-    let left = column_in_hand(alloc, reader)?;
-    let nodes = reader.nodes();
-    reader.advance_to(nodes, compares + 1);
-    let op = op(reader)?;
-    let right = term(alloc, reader)?;
-    Ok(PredTree::Cmp(left, op, right))
-}
-
 /// A predicate without `and` and `or` of its own.
 #[tactic(auto, using(crate::proofs::Trees::reading))]
 #[cycle(pred)]
 fn prim(alloc: Global, reader: &mut Reader, depth: u32) -> Result<PredTree, BookFault>
-    requires { depth ≤ 32 }
     ensures reads { Reads (APrim depth ∷ []) reader.old reader.new result }
     ensures is { IfOk result (λ pred. IsPrim reader.old.rest reader.new.rest (pred_image pred)) }
-    ensures shrinks { Shrinks reader.old reader.new result }
 {
     let at = reader.at();
     match reader.kind() {
@@ -127,7 +98,20 @@ fn prim(alloc: Global, reader: &mut Reader, depth: u32) -> Result<PredTree, Book
             let _ = expect(reader, TokenKind::Close)?;
             Ok(inner)
         }
-        _ => comparison(alloc, reader, depth),
+        _ => {
+            if !is_column(reader.kind()) {
+                return Err(wrong(reader));
+            }
+            let compares = reader.compares();
+            within(reader, compares < 128, Many::Compares)?;
+            within(reader, is_short(reader), Many::NameBytes)?;
+            let left = column_in_hand(alloc, reader)?;
+            let nodes = reader.nodes();
+            reader.advance_to(nodes, compares + 1);
+            let op = op(reader)?;
+            let right = term(alloc, reader)?;
+            Ok(PredTree::Cmp(left, op, right))
+        }
     }
 }
 
@@ -135,10 +119,8 @@ fn prim(alloc: Global, reader: &mut Reader, depth: u32) -> Result<PredTree, Book
 #[tactic(auto, using(crate::proofs::Trees::reading, crate::proofs::Steps::in_loop))]
 #[cycle(pred)]
 fn conj(alloc: Global, reader: &mut Reader, depth: u32) -> Result<PredTree, BookFault>
-    requires { depth ≤ 32 }
     ensures reads { Reads (APrim depth ∷ AnAnds depth ∷ []) reader.old reader.new result }
     ensures is { IfOk result (λ pred. IsConj reader.old.rest reader.new.rest (pred_image pred)) }
-    ensures shrinks { Shrinks reader.old reader.new result }
 {
     let mut left = prim(alloc, reader, depth)?;
     'ands: while let TokenKind::And = reader.kind() {
@@ -153,10 +135,8 @@ fn conj(alloc: Global, reader: &mut Reader, depth: u32) -> Result<PredTree, Book
 #[tactic(auto, using(crate::proofs::Trees::reading, crate::proofs::Steps::in_loop))]
 #[cycle(pred)]
 pub fn pred(alloc: Global, reader: &mut Reader, depth: u32) -> Result<PredTree, BookFault>
-    requires { depth ≤ 32 }
     ensures reads { Reads (APrim depth ∷ AnAnds depth ∷ AnOrs depth ∷ []) reader.old reader.new result }
     ensures is { IfOk result (λ pred. IsPred reader.old.rest reader.new.rest (pred_image pred)) }
-    ensures shrinks { Shrinks reader.old reader.new result }
 {
     let mut left = conj(alloc, reader, depth)?;
     'ors: while let TokenKind::Or = reader.kind() {

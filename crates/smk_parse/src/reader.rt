@@ -1,37 +1,13 @@
 ghost use Rattle.std.specs.Prelude.{◌≡◌, ◌≤◌, ◌≤ℤ◌, ◌∷◌, pos, length, drop, IsTrue};
 ghost use Rattle.smk_base.specs.declared.token.TokenKind.TheVariants.{Number};
 ghost use Rattle.smk_model.specs.Tokens.{tokens, tokens_from, head_of, tail_of, is_more, int_value};
-ghost use Rattle.smk_model.specs.Machine.{State, Counts, no_counts};
+ghost use Rattle.smk_model.specs.Machine.{State, no_counts};
 ghost use Rattle.smk_parse.specs.Readers.{left_at, Stands, Advances};
 
 use crate::front::{Front, front_at};
 use crate::numbers::int_of;
 use smk_base::TokenKind;
 use std::marker::Model;
-
-/// Where a token lies.
-#[derive(Clone, Copy, Debug)]
-struct Found {
-    place: usize,
-    kind: TokenKind,
-    len: usize,
-}
-
-/// The first token from a place on.
-#[tactic(auto, using(crate::proofs::Streams::gap_goes, crate::proofs::Streams::token_goes))]
-fn token_from(text: &[u8], from: usize) -> Found
-    requires { from ≤ length text.now }
-    ensures is { left_at result.kind result.place result.len (drop result.place text.now) ≡ tokens_from 0 from (drop from text.now) }
-    ensures stands { Stands result.kind result.place result.len text.now }
-{
-    let mut place = from;
-    loop {
-        match front_at(&text[place..]) {
-            Front::Between(len) => place += len,
-            Front::Begins(kind, len) => return Found { place, kind, len },
-        }
-    }
-}
 
 /// A text with its next token in hand, and what is counted of its tokens. Contracts see the tokens that are left.
 #[derive(Drop)]
@@ -57,19 +33,34 @@ impl<'t> Model for Reader<'t> {
 }
 
 impl<'t> Reader<'t> {
+    /// The text from the first token behind a place on, with these counts.
+    fn behind(text: &'t [u8], from: usize, nodes: u32, compares: u32) -> Reader<'t>
+        requires { from ≤ length text.now }
+        ensures { result ≡ record { rest = tokens_from 0 from (drop from text.now); counts = record { nodes = nodes; compares = compares } } }
+    {
+        let mut place = from;
+        loop {
+            match front_at(&text[place..]) {
+                Front::Between(len) => place += len,
+                Front::Begins(kind, len) => {
+                    return Reader {
+                        text,
+                        place,
+                        kind,
+                        len,
+                        nodes,
+                        compares,
+                    };
+                }
+            }
+        }
+    }
+
     /// The text from its first token on.
     pub fn new(text: &'t [u8]) -> Reader<'t>
         ensures { result ≡ record { rest = tokens text.now; counts = no_counts } }
     {
-        let found = token_from(text, 0);
-        Reader {
-            text,
-            place: found.place,
-            kind: found.kind,
-            len: found.len,
-            nodes: 0,
-            compares: 0,
-        }
+        Reader::behind(text, 0, 0, 0)
     }
 
     /// The kind of the token in hand.
@@ -110,10 +101,7 @@ impl<'t> Reader<'t> {
         requires { IsTrue (is_more (head_of self.old.rest).kind) }
         ensures { Advances self.old.counts self.old self.new }
     {
-        let found = token_from(self.text, self.place + self.len);
-        self.place = found.place;
-        self.kind = found.kind;
-        self.len = found.len;
+        self.advance_to(self.nodes, self.compares);
     }
 
     /// On to the next token, with these counts.
@@ -121,12 +109,7 @@ impl<'t> Reader<'t> {
         requires { IsTrue (is_more (head_of self.old.rest).kind) }
         ensures { Advances (record { nodes = nodes; compares = compares }) self.old self.new }
     {
-        let found = token_from(self.text, self.place + self.len);
-        self.place = found.place;
-        self.kind = found.kind;
-        self.len = found.len;
-        self.nodes = nodes;
-        self.compares = compares;
+        *self = Reader::behind(self.text, self.place + self.len, nodes, compares);
     }
 
     /// The number of nodes so far.

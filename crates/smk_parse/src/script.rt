@@ -1,17 +1,9 @@
-ghost use Rattle.std.specs.Prelude.{◌≡◌, ◌+◌, ◌<◌, ◌≤◌, length, drop, take, take_while, IfSome, IfNone};
-ghost use Rattle.smk_model.specs.Tokens.{no_line_end};
+ghost use Rattle.std.specs.Prelude.{◌≡◌, ◌≤◌, length, take, IfSome, IfNone};
 ghost use Rattle.smk_model.specs.Lines.{without_cr};
 ghost use Rattle.smk_parse.specs.Spans.{Cuts};
 
+use crate::front::line_len;
 use smk_base::LineSpan;
-
-/// The number of bytes before the first line feed.
-fn line_len(bytes: &[u8]) -> usize
-    ensures is { result ≡ length (take_while no_line_end bytes.now) }
-    ensures within { result ≤ length bytes.now }
-{
-    bytes.iter().take_while(|b| **b != b'\n').count()
-}
 
 /// How far the line goes without a carriage return as its last byte.
 #[tactic(auto, using(crate::proofs::Cutting::cr_kept, crate::proofs::Cutting::no_cr_kept, crate::proofs::Cutting::none_kept))]
@@ -24,18 +16,6 @@ fn kept_len(line: &[u8]) -> usize
         return 0;
     }
     if line[len - 1] == b'\r' { len - 1 } else { len }
-}
-
-/// How far the line goes with its line feed, where it has one.
-fn behind_line(rest: &[u8], len: usize) -> usize
-    requires { len ≤ length rest.now }
-    ensures ended { len < length rest.now → result ≡ len + 1 }
-    ensures last { length rest.now ≤ len → result ≡ len }
-    ensures at_least { len ≤ result }
-    ensures at_most { result ≤ length rest.now }
-    ensures some { 0 < length rest.now → 0 < result }
-{
-    if len < rest.len() { len + 1 } else { len }
 }
 
 /// The line of a script that begins at this place, without its line feed and without one carriage return before it. None at the end of the script. It takes no memory.
@@ -51,7 +31,7 @@ pub fn line_at(script: &[u8], from: usize) -> Option<LineSpan>
     let rest = &script[from..];
     let len = line_len(rest);
     let kept = kept_len(&rest[..len]);
-    let behind = behind_line(rest, len);
+    let behind = rest.len().min(len + 1);
     Some(LineSpan {
         start: from,
         end: from + kept,

@@ -1,14 +1,14 @@
-ghost use Rattle.std.specs.Prelude.{◌≡◌, ◌∷◌, ◌<◌, ◌≤◌, [], List, length, IfOk, OnOk};
+ghost use Rattle.std.specs.Prelude.{◌≡◌, ◌∷◌, ◌<◌, [], List, length, IfOk, OnOk};
 ghost use Rattle.smk_base.specs.declared.token.TokenKind.TheVariants as kinds;
 ghost use Rattle.smk_base.specs.TreeImage.{stmt_image};
 ghost use Rattle.smk_model.specs.Tokens.{Token, head_of};
 ghost use Rattle.smk_model.specs.Grammar.{First, IsFile, IsExtra, IsStmt};
 ghost use Rattle.smk_model.specs.Machine.{AToken, AName, AFirst, AType, ADefault, MoreDecls, ASource, ASteps, ALineage, AnExtra, ALinked, MoreLinked};
-ghost use Rattle.smk_parse.specs.Reads.{Reads, Shrinks};
+ghost use Rattle.smk_parse.specs.Reads.{Reads};
 ghost use Rattle.smk_parse.specs.Tallies.{StmtReads};
 
 use crate::listed::listed;
-use crate::lists::{DeclMember, LinkedMember, grouping};
+use crate::lists::{DeclMember, LinkedMember, aggs, keys};
 use crate::names::{column, name};
 use crate::plan::plan;
 use crate::reader::Reader;
@@ -30,7 +30,6 @@ pub struct Tally {
 fn file(alloc: Global, reader: &mut Reader) -> Result<Text, BookFault>
     ensures reads { Reads (AToken kinds.Str ∷ []) reader.old reader.new result }
     ensures is { IfOk result (λ file. IsFile reader.old.rest reader.new.rest file) }
-    ensures shrinks { Shrinks reader.old reader.new result }
 {
     match reader.kind() {
         TokenKind::Str => {
@@ -47,7 +46,6 @@ fn file(alloc: Global, reader: &mut Reader) -> Result<Text, BookFault>
 fn table_stmt(alloc: Global, reader: &mut Reader) -> Result<Stmt, BookFault>
     ensures reads { Reads (AName ∷ AToken kinds.From ∷ AToken kinds.Str ∷ AToken kinds.Open ∷ AFirst 0 ∷ AType ∷ ADefault ∷ MoreDecls 1 ∷ AToken kinds.Close ∷ []) reader.old reader.new result }
     ensures is { IfOk result (λ stmt. (a : List Token) → (t : Token) → First kinds.Table t a reader.old.rest → IsStmt a reader.new.rest (stmt_image stmt)) }
-    ensures shrinks { Shrinks reader.old reader.new result }
 {
     let name = name(alloc, reader)?;
     let _ = expect(reader, TokenKind::From)?;
@@ -63,7 +61,6 @@ fn table_stmt(alloc: Global, reader: &mut Reader) -> Result<Stmt, BookFault>
 fn view_stmt(alloc: Global, reader: &mut Reader) -> Result<Stmt, BookFault>
     ensures reads { Reads (AName ∷ AToken kinds.Equal ∷ ASource 0 ∷ ASteps 0 ∷ []) reader.old reader.new result }
     ensures is { IfOk result (λ stmt. (a : List Token) → (t : Token) → First kinds.View t a reader.old.rest → IsStmt a reader.new.rest (stmt_image stmt)) }
-    ensures shrinks { Shrinks reader.old reader.new result }
 {
     let name = name(alloc, reader)?;
     let _ = expect(reader, TokenKind::Equal)?;
@@ -76,7 +73,6 @@ fn view_stmt(alloc: Global, reader: &mut Reader) -> Result<Stmt, BookFault>
 fn extra(alloc: Global, reader: &mut Reader) -> Result<Extra, BookFault>
     ensures reads { Reads (AnExtra ∷ []) reader.old reader.new result }
     ensures is { IfOk result (λ extra. IsExtra reader.old.rest reader.new.rest extra) }
-    ensures shrinks { OnOk result (length reader.new.rest ≤ length reader.old.rest) }
 {
     let at = reader.at();
     match reader.kind() {
@@ -86,61 +82,41 @@ fn extra(alloc: Global, reader: &mut Reader) -> Result<Extra, BookFault>
         }
         TokenKind::Group => {
             reader.advance();
-            let (keys, aggs) = grouping(alloc, reader)?;
+            let keys = keys(alloc, reader)?;
+            let aggs = aggs(alloc, reader)?;
             Ok(Extra::Grouped { at, keys, aggs })
         }
         _ => Ok(Extra::Plain),
     }
 }
 
-/// A backward declaration behind `lineage`, which stands at this place.
-#[tactic(auto, using(crate::proofs::Trees::reading))]
-fn back_stmt(alloc: Global, reader: &mut Reader, at: u64) -> Result<Stmt, BookFault>
-    requires { (head_of reader.old.rest).kind ≡ kinds.Back }
-    ensures reads { Reads (ALineage ∷ []) reader.old reader.new result }
-    ensures is { IfOk result (λ stmt. (a : List Token) → (t : Token) → First kinds.Lineage t a reader.old.rest → at ≡ t.at → IsStmt a reader.new.rest (stmt_image stmt)) }
-    ensures shrinks { Shrinks reader.old reader.new result }
-{
-    let _kind = reader.kind();
-    reader.advance();
-    let view = name(alloc, reader)?;
-    let _ = expect(reader, TokenKind::To)?;
-    let table = name(alloc, reader)?;
-    let extra = extra(alloc, reader)?;
-    Ok(Stmt::Back {
-        at,
-        view,
-        table,
-        extra,
-    })
-}
-
-/// A forward declaration behind `lineage`, which stands at this place.
-#[tactic(auto, using(crate::proofs::Trees::reading))]
-fn fwd_stmt(alloc: Global, reader: &mut Reader, at: u64) -> Result<Stmt, BookFault>
-    requires { (head_of reader.old.rest).kind ≡ kinds.Fwd }
-    ensures reads { Reads (ALineage ∷ []) reader.old reader.new result }
-    ensures is { IfOk result (λ stmt. (a : List Token) → (t : Token) → First kinds.Lineage t a reader.old.rest → at ≡ t.at → IsStmt a reader.new.rest (stmt_image stmt)) }
-    ensures shrinks { Shrinks reader.old reader.new result }
-{
-    let _kind = reader.kind();
-    reader.advance();
-    let table = name(alloc, reader)?;
-    let _ = expect(reader, TokenKind::To)?;
-    let view = name(alloc, reader)?;
-    Ok(Stmt::Fwd { at, table, view })
-}
-
 /// A lineage declaration behind `lineage`, which stands at this place.
-#[tactic(auto, using(crate::proofs::Steps::in_order))]
+#[tactic(auto, using(crate::proofs::Trees::reading))]
 fn lineage_stmt(alloc: Global, reader: &mut Reader, at: u64) -> Result<Stmt, BookFault>
     ensures reads { Reads (ALineage ∷ []) reader.old reader.new result }
     ensures is { IfOk result (λ stmt. (a : List Token) → (t : Token) → First kinds.Lineage t a reader.old.rest → at ≡ t.at → IsStmt a reader.new.rest (stmt_image stmt)) }
-    ensures shrinks { Shrinks reader.old reader.new result }
 {
     match reader.kind() {
-        TokenKind::Back => back_stmt(alloc, reader, at),
-        TokenKind::Fwd => fwd_stmt(alloc, reader, at),
+        TokenKind::Back => {
+            reader.advance();
+            let view = name(alloc, reader)?;
+            let _ = expect(reader, TokenKind::To)?;
+            let table = name(alloc, reader)?;
+            let extra = extra(alloc, reader)?;
+            Ok(Stmt::Back {
+                at,
+                view,
+                table,
+                extra,
+            })
+        }
+        TokenKind::Fwd => {
+            reader.advance();
+            let table = name(alloc, reader)?;
+            let _ = expect(reader, TokenKind::To)?;
+            let view = name(alloc, reader)?;
+            Ok(Stmt::Fwd { at, table, view })
+        }
         _ => Err(wrong(reader)),
     }
 }
@@ -150,7 +126,6 @@ fn lineage_stmt(alloc: Global, reader: &mut Reader, at: u64) -> Result<Stmt, Boo
 fn link_stmt(alloc: Global, reader: &mut Reader) -> Result<Stmt, BookFault>
     ensures reads { Reads (AName ∷ AToken kinds.On ∷ AName ∷ AToken kinds.To ∷ ALinked 0 ∷ MoreLinked 1 ∷ []) reader.old reader.new result }
     ensures is { IfOk result (λ stmt. (a : List Token) → (t : Token) → First kinds.Link t a reader.old.rest → IsStmt a reader.new.rest (stmt_image stmt)) }
-    ensures shrinks { Shrinks reader.old reader.new result }
 {
     let view = name(alloc, reader)?;
     let _ = expect(reader, TokenKind::On)?;
@@ -160,83 +135,44 @@ fn link_stmt(alloc: Global, reader: &mut Reader) -> Result<Stmt, BookFault>
     Ok(Stmt::Link { view, table, to })
 }
 
-#[tactic(auto, using(crate::proofs::Trees::reading))]
-fn next_table(alloc: Global, reader: &mut Reader, tally: &mut Tally) -> Result<Stmt, BookFault>
-    requires { (head_of reader.old.rest).kind ≡ kinds.Table }
-    ensures reads { StmtReads tally.old tally.new reader.old reader.new result }
-    ensures is { IfOk result (λ stmt. IsStmt reader.old.rest reader.new.rest (stmt_image stmt)) }
-    ensures shrinks { Shrinks reader.old reader.new result }
-{
-    let at = reader.at();
-    let _kind = reader.kind();
-    within(reader, tally.tables < 16, Many::Tables)?;
-    reader.advance_to(0, 0);
-    let stmt = table_stmt(alloc, reader)?;
-    tally.tables += 1;
-    Ok(stmt)
-}
-
-#[tactic(auto, using(crate::proofs::Trees::reading))]
-fn next_view(alloc: Global, reader: &mut Reader, tally: &mut Tally) -> Result<Stmt, BookFault>
-    requires { (head_of reader.old.rest).kind ≡ kinds.View }
-    ensures reads { StmtReads tally.old tally.new reader.old reader.new result }
-    ensures is { IfOk result (λ stmt. IsStmt reader.old.rest reader.new.rest (stmt_image stmt)) }
-    ensures shrinks { Shrinks reader.old reader.new result }
-{
-    let at = reader.at();
-    let _kind = reader.kind();
-    within(reader, tally.views < 64, Many::Views)?;
-    reader.advance_to(0, 0);
-    let stmt = view_stmt(alloc, reader)?;
-    tally.views += 1;
-    Ok(stmt)
-}
-
-#[tactic(auto, using(crate::proofs::Trees::reading))]
-fn next_lineage(alloc: Global, reader: &mut Reader, tally: &mut Tally) -> Result<Stmt, BookFault>
-    requires { (head_of reader.old.rest).kind ≡ kinds.Lineage }
-    ensures reads { StmtReads tally.old tally.new reader.old reader.new result }
-    ensures is { IfOk result (λ stmt. IsStmt reader.old.rest reader.new.rest (stmt_image stmt)) }
-    ensures shrinks { Shrinks reader.old reader.new result }
-{
-    let at = reader.at();
-    let _kind = reader.kind();
-    within(reader, tally.lineages < 256, Many::Lineages)?;
-    reader.advance_to(0, 0);
-    let stmt = lineage_stmt(alloc, reader, at)?;
-    tally.lineages += 1;
-    Ok(stmt)
-}
-
-#[tactic(auto, using(crate::proofs::Trees::reading))]
-fn next_link(alloc: Global, reader: &mut Reader, tally: &mut Tally) -> Result<Stmt, BookFault>
-    requires { (head_of reader.old.rest).kind ≡ kinds.Link }
-    ensures reads { StmtReads tally.old tally.new reader.old reader.new result }
-    ensures is { IfOk result (λ stmt. IsStmt reader.old.rest reader.new.rest (stmt_image stmt)) }
-    ensures shrinks { Shrinks reader.old reader.new result }
-{
-    let at = reader.at();
-    let _kind = reader.kind();
-    within(reader, tally.links < 64, Many::Links)?;
-    reader.advance_to(0, 0);
-    let stmt = link_stmt(alloc, reader)?;
-    tally.links += 1;
-    Ok(stmt)
-}
-
 /// A statement, which is counted.
-#[tactic(auto, using(crate::proofs::Steps::in_order))]
+#[tactic(auto, using(crate::proofs::Trees::reading, crate::proofs::Steps::in_loop))]
 pub fn stmt(alloc: Global, reader: &mut Reader, tally: &mut Tally) -> Result<Stmt, BookFault>
     requires { (head_of reader.old.rest).kind ≡ kinds.End → ⊥ }
     ensures reads { StmtReads tally.old tally.new reader.old reader.new result }
     ensures is { IfOk result (λ stmt. IsStmt reader.old.rest reader.new.rest (stmt_image stmt)) }
-    ensures shrinks { Shrinks reader.old reader.new result }
+    ensures shrinks { OnOk result (length reader.new.rest < length reader.old.rest) }
 {
+    let at = reader.at();
     match reader.kind() {
-        TokenKind::Table => next_table(alloc, reader, tally),
-        TokenKind::View => next_view(alloc, reader, tally),
-        TokenKind::Lineage => next_lineage(alloc, reader, tally),
-        TokenKind::Link => next_link(alloc, reader, tally),
+        TokenKind::Table => {
+            within(reader, tally.tables < 16, Many::Tables)?;
+            reader.advance_to(0, 0);
+            let stmt = table_stmt(alloc, reader)?;
+            tally.tables += 1;
+            Ok(stmt)
+        }
+        TokenKind::View => {
+            within(reader, tally.views < 64, Many::Views)?;
+            reader.advance_to(0, 0);
+            let stmt = view_stmt(alloc, reader)?;
+            tally.views += 1;
+            Ok(stmt)
+        }
+        TokenKind::Lineage => {
+            within(reader, tally.lineages < 256, Many::Lineages)?;
+            reader.advance_to(0, 0);
+            let stmt = lineage_stmt(alloc, reader, at)?;
+            tally.lineages += 1;
+            Ok(stmt)
+        }
+        TokenKind::Link => {
+            within(reader, tally.links < 64, Many::Links)?;
+            reader.advance_to(0, 0);
+            let stmt = link_stmt(alloc, reader)?;
+            tally.links += 1;
+            Ok(stmt)
+        }
         _ => Err(wrong(reader)),
     }
 }

@@ -1,13 +1,12 @@
-ghost use Rattle.std.specs.Prelude.{◌≡◌, ◌∷◌, [], ◌<◌, length, IsTrue, true, false, IfOk, IfErr, OnOk};
-ghost use Rattle.smk_base.specs.declared.token.TokenKind.TheVariants as kinds;
+ghost use Rattle.std.specs.Prelude.{◌≡◌, ◌∷◌, [], ◌<◌, IsTrue, true, false, IfOk, IfErr, OnOk};
 ghost use Rattle.smk_base.specs.declared.fault.BookFault.TheVariants.{NoMemory, TooMany};
 ghost use Rattle.smk_model.specs.Tokens.{head_of, is_more, inner, string_value, undoubled};
-ghost use Rattle.smk_model.specs.Grammar.{First, IsName, IsColumn, IsLiteral, plain_word};
-ghost use Rattle.smk_model.specs.Machine.{fault_at, AToken, ALineName, ALiteral};
-ghost use Rattle.smk_parse.specs.Reads.{Reads, Shrinks};
+ghost use Rattle.smk_model.specs.Grammar.{First, IsLiteral};
+ghost use Rattle.smk_model.specs.Machine.{fault_at, AToken, ALiteral};
+ghost use Rattle.smk_parse.specs.Reads.{Reads};
 
 use crate::reader::Reader;
-use smk_base::{BookFault, Lit, Many, Text, TokenKind, Value, Word};
+use smk_base::{BookFault, Lit, Many, Text, TokenKind, Value};
 use std::alloc::Global;
 
 /// The fault at a token that may not stand here.
@@ -44,7 +43,6 @@ pub fn expect(reader: &mut Reader, kind: TokenKind) -> Result<u64, BookFault>
     ensures reads { Reads (AToken kind ∷ []) reader.old reader.new result }
     ensures is { OnOk result (First kind (head_of reader.old.rest) reader.old.rest reader.new.rest) }
     ensures at { IfOk result (λ at. at ≡ (head_of reader.old.rest).at) }
-    ensures shrinks { Shrinks reader.old reader.new result }
 {
     let at = reader.at();
     if kind == reader.kind() {
@@ -55,23 +53,13 @@ pub fn expect(reader: &mut Reader, kind: TokenKind) -> Result<u64, BookFault>
     }
 }
 
-/// The bytes of the token in hand, in memory of their own.
-pub fn text_in_hand(alloc: Global, reader: &Reader) -> Result<Text, BookFault>
-    ensures ok { IfOk result (λ text. text ≡ (head_of reader.now.rest).text) }
-    ensures memory { IfErr result (λ fault. fault ≡ NoMemory) }
-{
-    Ok(Text::from_vec(Vec::from_slice(alloc, reader.bytes())?))
-}
-
-/// The bytes between the backquotes of the token in hand.
+/// The bytes between the first and the last.
 #[tactic(auto, using(crate::proofs::Single::inner_slice))]
-pub fn quoted_in_hand(alloc: Global, reader: &Reader) -> Result<Text, BookFault>
-    ensures ok { IfOk result (λ text. text ≡ inner (head_of reader.now.rest).text) }
-    ensures memory { IfErr result (λ fault. fault ≡ NoMemory) }
+pub fn inner(bytes: &[u8]) -> &[u8]
+    ensures { result.now ≡ inner bytes.now }
 {
-    let bytes = reader.bytes();
     let len = bytes.len().saturating_sub(2);
-    Ok(Text::from_vec(Vec::from_slice(alloc, &bytes[bytes.len().min(1)..][..len])?))
+    &bytes[bytes.len().min(1)..][..len]
 }
 
 /// The bytes with each pair of quotes as one.
@@ -94,14 +82,11 @@ fn without_pairs(alloc: Global, bytes: &[u8]) -> Result<Text, BookFault>
 }
 
 /// The value of the string in hand.
-#[tactic(auto, using(crate::proofs::Single::inner_slice))]
 pub fn string_in_hand(alloc: Global, reader: &Reader) -> Result<Text, BookFault>
     ensures ok { IfOk result (λ text. text ≡ string_value (head_of reader.now.rest).text) }
     ensures memory { IfErr result (λ fault. fault ≡ NoMemory) }
 {
-    let bytes = reader.bytes();
-    let len = bytes.len().saturating_sub(2);
-    without_pairs(alloc, &bytes[bytes.len().min(1)..][..len])
+    without_pairs(alloc, inner(reader.bytes()))
 }
 
 /// A literal.
@@ -109,7 +94,6 @@ pub fn string_in_hand(alloc: Global, reader: &Reader) -> Result<Text, BookFault>
 pub fn literal(alloc: Global, reader: &mut Reader) -> Result<Lit, BookFault>
     ensures reads { Reads (ALiteral ∷ []) reader.old reader.new result }
     ensures is { IfOk result (λ lit. IsLiteral reader.old.rest reader.new.rest lit) }
-    ensures shrinks { Shrinks reader.old reader.new result }
 {
     let at = reader.at();
     match reader.kind() {
@@ -125,24 +109,6 @@ pub fn literal(alloc: Global, reader: &mut Reader) -> Result<Lit, BookFault>
                 value: Value::Text(text),
                 at,
             })
-        }
-        _ => Err(wrong(reader)),
-    }
-}
-
-/// A name of any length.
-#[tactic(auto, using(crate::proofs::Trees::reading))]
-pub fn line_name(alloc: Global, reader: &mut Reader) -> Result<Word, BookFault>
-    ensures reads { Reads (ALineName ∷ []) reader.old reader.new result }
-    ensures is { IfOk result (λ word. IsName reader.old.rest reader.new.rest word) }
-    ensures shrinks { Shrinks reader.old reader.new result }
-{
-    let at = reader.at();
-    match reader.kind() {
-        TokenKind::Name => {
-            let name = text_in_hand(alloc, reader)?;
-            reader.advance();
-            Ok(Word { name, at })
         }
         _ => Err(wrong(reader)),
     }

@@ -1,4 +1,4 @@
-use Rattle.std.proofs.Common.{◌<◌, [], ◌∷◌, ◌++◌, length}
+use Rattle.std.proofs.Common.{[], ◌∷◌, ◌++◌, length}
 use Rattle.smk_parse.proofs.Steps.{Comes}
 use Rattle.smk_parse.proofs.Listing.{EndsList}
 use Rattle.smk_parse.proofs.listed.listed.Given as goal
@@ -7,7 +7,6 @@ abbrev pub invariant-commas : goal.invariant-commas
 invariant-commas g l = record {
   reads : Comes (g.M.Member.one 0 ++ g.M.Member.more 1 ∷ []) (g.M.Member.more (length l.list) ∷ []) l.fn.reader l.reader;
   is : EndsList g.M.Member.spells l.fn.reader.rest l.reader.rest l.list;
-  shrinks : length l.reader.rest < length l.fn.reader.rest;
 }
 
 abbrev pub decreases-commas : goal.decreases-commas

@@ -1,6 +1,6 @@
 use Rattle.std.proofs.Common.{◌≡◌, ◌-◌, ◌≤◌, length, drop}
 use Rattle.smk_model.specs.Tokens.{tokens_from}
-use Rattle.smk_parse.proofs.reader.token_from.Given as goal
+use Rattle.smk_parse.proofs.reader.Reader.behind.Given as goal
 
 abbrev pub invariant-loop-len : goal.invariant-loop-len
 invariant-loop-len l = record {
