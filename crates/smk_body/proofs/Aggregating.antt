@@ -46,10 +46,13 @@ pub counts_within : (of : List ℕ) (n k : ℕ) → n ≤ 1048576 → All (IsWit
 counts_within of n k few = All-map (IsWithin 0) (λ p. pos (length (class_places of n p))) (upto k) (λ i d h. let p = get_or (upto k) i d in count_small (length (class_places of n p)) (omega (arith, length_places-le (λ j. nat_eq (get_or of j 0) p) n)))
 
 -- the ints of a column
-pub int_is : (rows : List Row) (c : ℕ) (numbers : List ℤ) (i : ℕ) → map values.Int numbers ≡ column_values c rows → i < length rows → int_at numbers i ≡ number_of (value_at (row_at rows i) c)
-int_is rows c numbers i e h =
+pub value_is : (rows : List Row) (c : ℕ) (numbers : List ℤ) (i : ℕ) → map values.Int numbers ≡ column_values c rows → i < length rows → values.Int (int_at numbers i) ≡ value_at (row_at rows i) c
+value_is rows c numbers i e h =
     let long : length numbers ≡ length rows = sym (length-map numbers values.Int) ∙ ap length e ∙ length-map rows (λ row. value_at row c) in
-    ap number_of (sym (get_or-map values.Int numbers i (pos 0) (values.Int (pos 0)) (omega (arith, long))) ∙ ap (λ z. get_or z i (values.Int (pos 0))) e ∙ get_or-map (λ (row : Row). value_at row c) rows i [] (values.Int (pos 0)) h)
+    sym (get_or-map values.Int numbers i (pos 0) (values.Int (pos 0)) (omega (arith, long))) ∙ ap (λ z. get_or z i (values.Int (pos 0))) e ∙ get_or-map (λ (row : Row). value_at row c) rows i [] (values.Int (pos 0)) h
+
+pub int_is : (rows : List Row) (c : ℕ) (numbers : List ℤ) (i : ℕ) → map values.Int numbers ≡ column_values c rows → i < length rows → int_at numbers i ≡ number_of (value_at (row_at rows i) c)
+int_is rows c numbers i e h = ap number_of (value_is rows c numbers i e h)
 
 pub ints_long : (rows : List Row) (c : ℕ) (numbers : List ℤ) → map values.Int numbers ≡ column_values c rows → length numbers ≡ length rows
 ints_long rows c numbers e = sym (length-map numbers values.Int) ∙ ap length e ∙ length-map rows (λ row. value_at row c)

@@ -19,7 +19,7 @@ use Rattle.smk_body.proofs.Fitting.{total_within}
 use Rattle.smk_body.proofs.Turning.{single_at}
 use Rattle.smk_keys.specs.Classes.{ClassesImage}
 use Rattle.smk_rid.specs.Maps.{size_of, sizes_of}
-use Rattle.smk_body.specs.Halves.{AreNumbered, class_places, better, improves_on, best_place}
+use Rattle.smk_body.specs.Halves.{AreNumbered, class_places, better, improves_on, best_place, bests_of}
 
 -- one more place
 pub places_more : (t : ℕ → Bool) (n : ℕ) → places t (n + 1) ≡ places t n ++ cond (t n) (n ∷ []) []
@@ -172,9 +172,6 @@ best_below g V a (i ∷ A) n l low = elim (cases_Bool (improves_on g (V i) (V a)
 
 -- the best places of all classes
 
-abbrev pub bests_of : Bool → (ℕ → Value) → ClassesImage → ℕ → List ℕ
-bests_of g V classes i = map (λ p. best_place g V (get_or classes.firsts p 0) (class_places classes.of i p)) (upto (length classes.firsts))
-
 pub bests_below : (g : Bool) (V : ℕ → Value) (classes : ClassesImage) (n i : ℕ) → AreNumbered n classes → i ≤ n → All (λ j. j < n) (bests_of g V classes i)
 bests_below g V classes n i are le = All-map (λ j. j < n) (λ p. best_place g V (get_or classes.firsts p 0) (class_places classes.of i p)) (upto (length classes.firsts)) (λ k d h.
     let p = get_or (upto (length classes.firsts)) k d in
@@ -211,3 +208,21 @@ class_known rows classes i of are l same = rw same (are.below i 0 (omega (arith,
 -- what is read and written again stays
 pub kept : (S : List ℕ) (p b : ℕ) → p < length S → b ≡ get_or S p b → set S p b ≡ S
 kept S p b low at = ap (set S p) (get_or_read S p b low at 0) ∙ set-get_or S p 0
+
+-- values that agree below n have the same best places
+best_agrees : (g : Bool) (V W : ℕ → Value) (a : ℕ) (A : List ℕ) (n : ℕ) → ((i : ℕ) → i < n → V i ≡ W i) → a < n → All (λ i. i < n) A → best_place g V a A ≡ best_place g W a A
+best_agrees g V W a [] n same l low = refl
+best_agrees g V W a (i ∷ A) n same l low =
+    let first = low 0 0 (omega arith) in
+    let rest : All (λ j. j < n) A = λ k d h. low (suc k) d (omega arith) in
+    let e : improves_on g (V i) (V a) ≡ improves_on g (W i) (W a) = ap (λ v. improves_on g v (V a)) (same i first) ∙ ap (improves_on g (W i)) (same a l) in
+    elim (cases_Bool (improves_on g (W i) (W a))) [
+      | inl t ↦ rw (e ∙ t, t) (best_agrees g V W i A n same first rest)
+      | inr t ↦ rw (e ∙ t, t) (best_agrees g V W a A n same l rest)
+    ]
+
+pub bests_agree : (g : Bool) (V W : ℕ → Value) (classes : ClassesImage) (n m : ℕ) → n ≡ m → ((i : ℕ) → i < m → V i ≡ W i) → AreNumbered m classes → bests_of g V classes n ≡ bests_of g W classes m
+bests_agree g V W classes n m e same are =
+    ap (bests_of g V classes) e
+    ∙ map_upto_agree (λ p. best_place g V (get_or classes.firsts p 0) (class_places classes.of m p)) (λ p. best_place g W (get_or classes.firsts p 0) (class_places classes.of m p)) (length classes.firsts)
+    (λ p h. best_agrees g V W (get_or classes.firsts p 0) (class_places classes.of m p) m same (are.within p 0 h) (class_low classes.of m p m (omega arith)))

@@ -1,3 +1,4 @@
+pub mod Finding
 pub mod Fitting
 pub mod Classing
 pub mod Besides

@@ -1,5 +1,5 @@
 -- The first halves of steps: the places that make the output rows.
-use Rattle.std.specs.Prelude.{◌≡◌, ◌≢◌, ℕ, ◌<◌, ◌≤◌, nat_eq, Bool, cond, List, length, map, slice_index, All}
+use Rattle.std.specs.Prelude.{◌≡◌, ◌≢◌, ℕ, ◌<◌, ◌≤◌, nat_eq, Bool, cond, List, length, map, slice_index, slice_index_or, All}
 use Rattle.std.specs.List.{flat_map, fold}
 use Rattle.std.specs.Ordering.{is_lt, is_gt}
 use Rattle.smk_base.specs.declared.rel.TheConstants.{ROW_LIMIT}
@@ -69,3 +69,7 @@ improves_on greatest a b = cond greatest (is_gt (value_cmp a b)) (is_lt (value_c
 -- the place of the best value among a first place and more, the first of equal ones
 abbrev pub best_place : Bool → (ℕ → Value) → ℕ → List ℕ → ℕ
 best_place greatest value_of first more = fold (λ best i. cond (improves_on greatest (value_of i) (value_of best)) i best) first more
+
+-- the best places of all classes among the first n places
+abbrev pub bests_of : Bool → (ℕ → Value) → ClassesImage → ℕ → List ℕ
+bests_of greatest value_of classes n = map (λ p. best_place greatest value_of (slice_index_or classes.firsts p 0) (class_places classes.of n p)) (upto (length classes.firsts))

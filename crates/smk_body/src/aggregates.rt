@@ -5,12 +5,13 @@ ghost use Rattle.smk_model.specs.Values.{value_at};
 ghost use Rattle.smk_model.specs.Plain.{number_of, total};
 ghost use Rattle.smk_model.specs.Lineage.{row_at};
 ghost use Rattle.smk_model.specs.Kinds.{IsSummed};
-ghost use Rattle.smk_body.specs.Halves.{AreNumbered, best_place, class_places, improves_on};
+ghost use Rattle.smk_body.specs.Halves.{AreNumbered, best_place, bests_of, class_places, improves_on};
+ghost use Rattle.smk_base.specs.declared.value.Value.TheVariants as values;
 ghost use Rattle.smk_base.specs.declared.rel.TheConstants.{ROW_LIMIT};
 
 use crate::lists::counted;
 use crate::rows::compare;
-use smk_base::{Ints, Rel};
+use smk_base::{Ints, Kind, Rel};
 use smk_keys::Classes;
 use std::alloc::{AllocError, Global};
 
@@ -128,6 +129,59 @@ pub fn best_places(
     requires classes { AreNumbered (length rel.now.rows) classes.now }
     ensures within { IfOk result (λ v. All (λ i. i < length rel.now.rows) v.items) }
     ensures places { IfOk result (λ v. v.items ≡ map (λ p. best_place greatest (λ i. value_at (row_at rel.now.rows i) c) (slice_index_or classes.now.firsts p 0) (class_places classes.now.of (length rel.now.rows) p)) (upto (length classes.now.firsts))) }
+{
+    let _rows = rel.len();
+    match rel.kind(c) {
+        Kind::Text => best_cells(alloc, rel, c, classes, greatest),
+        Kind::Int { .. } => match rel.ints(c) {
+            Ints::Small(numbers) => best_small(alloc, numbers, classes, greatest),
+            Ints::Wide(_) => best_cells(alloc, rel, c, classes, greatest),
+        },
+    }
+}
+
+// The place of the least or the greatest of these small ints in each class.
+fn best_small(
+    alloc: Global,
+    numbers: &[i64],
+    classes: &Classes,
+    greatest: bool,
+) -> Result<Vec<u32>, AllocError>
+    requires few { length numbers.now ≤ ROW_LIMIT }
+    requires classes { AreNumbered (length numbers.now) classes.now }
+    ensures within { IfOk result (λ v. All (λ i. i < length numbers.now) v.items) }
+    ensures places { IfOk result (λ v. v.items ≡ bests_of greatest (λ i. values.Int (slice_index_or numbers.now i (pos 0))) classes.now (length numbers.now)) }
+{
+    let mut best = Vec::from_slice(alloc, classes.firsts())?;
+    let of = classes.of();
+    for i in 0..numbers.len() as u32 {
+        let p = of[i as usize] as usize;
+        if beats(numbers[i as usize], numbers[best[p] as usize], greatest) {
+            best[p] = i;
+        }
+    }
+    Ok(best)
+}
+
+// Whether an int is less, or greater, than another.
+fn beats(n: i64, other: i64, greatest: bool) -> bool
+    ensures { result ≡ improves_on greatest (values.Int n) (values.Int other) }
+{
+    if greatest { other < n } else { n < other }
+}
+
+// The same of any column, cell by cell.
+fn best_cells(
+    alloc: Global,
+    rel: &Rel,
+    c: u32,
+    classes: &Classes,
+    greatest: bool,
+) -> Result<Vec<u32>, AllocError>
+    requires column { c < length rel.now.kinds }
+    requires classes { AreNumbered (length rel.now.rows) classes.now }
+    ensures within { IfOk result (λ v. All (λ i. i < length rel.now.rows) v.items) }
+    ensures places { IfOk result (λ v. v.items ≡ bests_of greatest (λ i. value_at (row_at rel.now.rows i) c) classes.now (length rel.now.rows)) }
 {
     let mut best = Vec::from_slice(alloc, classes.firsts())?;
     let of = classes.of();

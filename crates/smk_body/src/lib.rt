@@ -9,6 +9,7 @@ mod group;
 mod join;
 mod lists;
 mod local;
+mod lookup;
 mod pairs;
 mod pieces;
 mod project;
