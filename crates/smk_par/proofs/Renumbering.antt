@@ -2,7 +2,8 @@
 use Rattle.std.proofs.Common.{◌≡◌, ◌∙◌, ◌<◌, ◌≤◌, ◌+◌, ◌-◌, ℕ, List, [], ◌++◌, length, map, get_or, take, drop, ap, sym, refl, arith, inl, inr, length-append, All, subst}
 use Rattle.std.specs.Prelude.{slice_range}
 use Rattle.std.proofs.lemmas.Bool.{cases_lt}
-use Rattle.std.proofs.lemmas.List.{get_or_append_left, get_or-append_right, get_or-map, get_or-take, get_or-drop, get_or_default, length-map, length-drop, take-map, drop-map, length-take-le}
+use Rattle.std.proofs.lemmas.Grind.{same_number_lists}
+use Rattle.std.proofs.lemmas.List.{get_or_append_left, get_or-append_right, get_or-map, get_or-take, get_or-drop, get_or_default, length-map, length-drop, take-map, drop-map, length-take-le, take_all}
 use Rattle.smk_base.specs.Rels.{Relation, row_in, rows_at}
 use Rattle.smk_model.specs.Values.{Row}
 use Rattle.smk_model.specs.Plain.{key_of}
@@ -19,7 +20,7 @@ use Rattle.smk_body.specs.declared.pieces.Piece.{Piece}
 use Rattle.smk_body.proofs.Classing.{are_numbered, few_firsts}
 use Rattle.smk_par.specs.Cuts.{HasKeys, classes_in, cut_at, firsts_in}
 use Rattle.smk_par.specs.Renumbered.{StandFor}
-use Rattle.smk_par.proofs.Cutting.{cut_grows, cut_within}
+use Rattle.smk_par.proofs.Cutting.{cut_end, cut_first, cut_grows, cut_within}
 
 -- no keys have no numbers
 pub stand_none : (keys : List Row) → StandFor keys 0 [] []
@@ -265,3 +266,21 @@ stand_places keys n firsts of so = λ k d h. rw (get_or_default firsts k d 0 h) 
 
 pub stand_numbers : (keys : List Row) (n : ℕ) (firsts of : List ℕ) → StandFor keys n firsts of → All (λ number. number < length firsts) of
 stand_numbers keys n firsts of so = λ i d h. rw (get_or_default of i d 0 h) (so.within i (omega (arith, so.long)))
+
+-- what is looked up number by number is looked up in the whole list
+pub looked : (table numbers found : List ℕ) → length found ≡ length numbers → ((i : ℕ) → i < length numbers → get_or found i 0 ≡ get_or table (get_or numbers i 0) 0) → found ≡ map (λ number. get_or table number 0) numbers
+looked table numbers found long each =
+    same_number_lists found (map (λ number. get_or table number 0) numbers) (long ∙ sym (length-map numbers (λ number. get_or table number 0)))
+    (λ i h. each i (omega (arith, long)) ∙ sym (get_or-map (λ number. get_or table number 0) numbers i 0 0 (omega (arith, long))))
+
+-- one piece has the classes of all rows
+pub one_piece : (keys : List ℕ) (rows : List Row) (pieces : ℕ) (made : List Piece) (piece : Piece) → pieces ≡ 1
+    → ArePieces (λ p. HasKeys keys rows (cut_at pieces (length rows) p) (cut_at pieces (length rows) (p + 1))) pieces made → piece ≡ get_or made 0 piece
+    → record { of = classes_in piece; firsts = firsts_in piece } ≡ classes_of (map (key_of keys) rows)
+one_piece keys rows pieces made piece one are read =
+    let n = length rows in
+    let has : HasKeys keys rows (cut_at pieces n 0) (cut_at pieces n 1) piece = subst (HasKeys keys rows (cut_at pieces n 0) (cut_at pieces n 1)) (sym read) (are.1 0 piece (omega arith)) in
+    let first : cut_at pieces n 0 ≡ 0 = cut_first pieces n in
+    let last : cut_at pieces n 1 ≡ n = cut_end pieces n 1 (omega arith) (sym one) in
+    let all : slice_range rows 0 n ≡ rows = take_all (n - 0) rows (omega arith) in
+    has ∙ (λ t. classes_of (map (key_of keys) (slice_range rows (first t) (last t)))) ∙ ap (λ (L : List Row). classes_of (map (key_of keys) L)) all

@@ -6,4 +6,4 @@ use Rattle.smk_par.proofs.group.numbered.Given as goal
 
 -- the pieces so far are numbered up to where the next one begins
 abbrev pub invariant-loop-p : goal.invariant-loop-p
-invariant-loop-p l = StandFor (map (key_of l.keys) l.rel.rows) (cut_at l.workers (length l.rel.rows) l.p) l.places.items l.numbers.items
+invariant-loop-p l = StandFor (map (key_of l.keys) l.rel.rows) (cut_at l.pieces (length l.rel.rows) l.p) l.places.items l.numbers.items
