@@ -1,9 +1,10 @@
 ghost use Rattle.std.specs.Prelude.{◌≡◌, ◌+◌, ◌<◌, ◌≤◌, ◌^◌, ℕ, length, drop, Some, None, IfOk, IfErr, OnOk};
 ghost use Rattle.smk_base.specs.PlanImage.{binary_of, expr_of, unary_of};
+ghost use Rattle.smk_base.specs.Plans.{Apply, Combine};
 ghost use Rattle.smk_model.specs.Plain.{step1, step2, width, eval};
 ghost use Rattle.smk_model.specs.Kinds.{Fits1, Fits2, kinds1, kinds2};
 ghost use Rattle.smk_model.specs.Selection.{each_rows, each_kinds, plan_kinds, PlanFits, nodes, first_full};
-ghost use Rattle.smk_compose.specs.Walk.{full_at, first_full_from};
+ghost use Rattle.smk_compose.specs.Walk.{IsEvaluated, first_full_from};
 ghost use Rattle.smk_compose.specs.declared.fault.EvalFault.TheVariants.{Rows};
 
 use crate::fault::EvalFault;
@@ -37,8 +38,8 @@ pub fn eval_leaves<R: Threads + Sync, B: OpBody + Sync>(
     eval_node(rt, alloc, body, plan, &mut rest, &mut number)
 }
 
-#[tactic(auto, using(crate::proofs::Nodes::eval_two, crate::proofs::Lists::rows_behind, crate::proofs::Lists::kinds_behind, crate::proofs::Lists::behind_both, crate::proofs::Nodes::not_full, crate::proofs::Nodes::full))]
 // The rows of a plan over the first of these leaves, which it takes out. Its nodes are numbered from `number` on, which then is the number behind them.
+#[cycle(node)]
 fn eval_node<R: Threads + Sync, B: OpBody + Sync>(
     rt: &R,
     alloc: Global,
@@ -52,9 +53,7 @@ fn eval_node<R: Threads + Sync, B: OpBody + Sync>(
     requires fits { PlanFits (expr_of plan.now) (each_kinds leaves.old) }
     ensures rest { OnOk result (leaves.new ≡ drop (width (expr_of plan.now)) leaves.old) }
     ensures counted { OnOk result (number.new ≡ number.old + nodes (expr_of plan.now)) }
-    ensures rows { IfOk result (λ rel. rel.rows ≡ eval (expr_of plan.now) (each_rows leaves.old)) }
-    ensures kinds { IfOk result (λ rel. rel.kinds ≡ plan_kinds (expr_of plan.now) (each_kinds leaves.old)) }
-    ensures few { OnOk result (first_full_from (expr_of plan.now) (each_rows leaves.old) number.old ≡ None) }
+    ensures made { IfOk result (λ rel. IsEvaluated (expr_of plan.now) leaves.old number.old rel) }
     ensures many { IfErr result (λ e. (node : ℕ) → e ≡ Rows node → first_full_from (expr_of plan.now) (each_rows leaves.old) number.old ≡ Some node) }
 {
     match plan {
@@ -64,30 +63,73 @@ fn eval_node<R: Threads + Sync, B: OpBody + Sync>(
             *number += 1;
             Ok(leaf.rel(alloc)?)
         }
-        Plan::One(op, input) => {
-            let made = match &**input {
-                Plan::Scan(_) => {
-                    let leaf = leaves.take_first();
-                    let _rows = leaf.len();
-                    *number += 1;
-                    apply_leaf(rt, alloc, body, op, leaf)?
-                }
-                _ => {
-                    let rel = eval_node(rt, alloc, body, input, leaves, number)?;
-                    apply_one(rt, alloc, body, op, rel)?
-                }
-            };
-            *number += 1;
-            Ok(made)
-        }
-        Plan::Two(op, left, right) => {
-            let l = eval_node(rt, alloc, body, left, leaves, number)?;
-            let r = eval_node(rt, alloc, body, right, leaves, number)?;
-            let made = apply_two(rt, alloc, body, op, l, r, *number)?;
-            *number += 1;
-            Ok(made)
-        }
+        Plan::One(op, input) => eval_one(rt, alloc, body, op, input, leaves, number),
+        Plan::Two(op, left, right) => eval_two(rt, alloc, body, op, left, right, leaves, number),
     }
+}
+
+// The same of a step with one input.
+#[tactic(auto, using(crate::proofs::Nodes::one_evaluated))]
+#[cycle(node)]
+fn eval_one<R: Threads + Sync, B: OpBody + Sync>(
+    rt: &R,
+    alloc: Global,
+    body: &B,
+    op: &Op1,
+    input: &Plan,
+    leaves: &mut Leaves,
+    number: &mut u32,
+) -> Result<Rel, EvalFault>
+    requires enough { width (expr_of input.now) ≤ length leaves.old }
+    requires few_nodes { number.old + nodes (expr_of input.now) + 1 < 2 ^ 32 }
+    requires fits { PlanFits (Apply (unary_of op.now) (expr_of input.now)) (each_kinds leaves.old) }
+    ensures rest { OnOk result (leaves.new ≡ drop (width (expr_of input.now)) leaves.old) }
+    ensures counted { OnOk result (number.new ≡ number.old + nodes (expr_of input.now) + 1) }
+    ensures made { IfOk result (λ rel. IsEvaluated (Apply (unary_of op.now) (expr_of input.now)) leaves.old number.old rel) }
+    ensures many { IfErr result (λ e. (node : ℕ) → e ≡ Rows node → first_full_from (expr_of input.now) (each_rows leaves.old) number.old ≡ Some node) }
+{
+    let made = match input {
+        Plan::Scan(_) => {
+            let leaf = leaves.take_first();
+            let _rows = leaf.len();
+            *number += 1;
+            apply_leaf(rt, alloc, body, op, leaf)?
+        }
+        _ => {
+            let rel = eval_node(rt, alloc, body, input, leaves, number)?;
+            apply_one(rt, alloc, body, op, rel)?
+        }
+    };
+    *number += 1;
+    Ok(made)
+}
+
+// The same of a step with two inputs.
+#[tactic(auto, using(crate::proofs::Lists::behind_both))]
+#[cycle(node)]
+fn eval_two<R: Threads + Sync, B: OpBody + Sync>(
+    rt: &R,
+    alloc: Global,
+    body: &B,
+    op: &Op2,
+    left: &Plan,
+    right: &Plan,
+    leaves: &mut Leaves,
+    number: &mut u32,
+) -> Result<Rel, EvalFault>
+    requires enough { width (expr_of left.now) + width (expr_of right.now) ≤ length leaves.old }
+    requires few_nodes { number.old + nodes (expr_of left.now) + nodes (expr_of right.now) + 1 < 2 ^ 32 }
+    requires fits { PlanFits (Combine (binary_of op.now) (expr_of left.now) (expr_of right.now)) (each_kinds leaves.old) }
+    ensures rest { OnOk result (leaves.new ≡ drop (width (expr_of left.now) + width (expr_of right.now)) leaves.old) }
+    ensures counted { OnOk result (number.new ≡ number.old + nodes (expr_of left.now) + nodes (expr_of right.now) + 1) }
+    ensures made { IfOk result (λ rel. IsEvaluated (Combine (binary_of op.now) (expr_of left.now) (expr_of right.now)) leaves.old number.old rel) }
+    ensures many { IfErr result (λ e. (node : ℕ) → e ≡ Rows node → first_full_from (Combine (binary_of op.now) (expr_of left.now) (expr_of right.now)) (each_rows leaves.old) number.old ≡ Some node) }
+{
+    let l = eval_node(rt, alloc, body, left, leaves, number)?;
+    let r = eval_node(rt, alloc, body, right, leaves, number)?;
+    let made = apply_two(rt, alloc, body, op, l, r, *number)?;
+    *number += 1;
+    Ok(made)
 }
 
 // A step over a leaf, of which only the columns are gathered that it names.
