@@ -11,3 +11,4 @@ pub mod Rows
 pub mod Relating
 pub mod Building
 pub mod Ascents
+pub mod Loops

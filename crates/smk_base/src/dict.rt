@@ -54,10 +54,7 @@ impl Dict {
         requires { i < length self.now.texts }
         ensures { result.now ≡ slice_index_or self.now.texts i [] }
     {
-        match self.texts.get_index(i as usize) {
-            Some(text) => text.as_slice(),
-            None => unreachable!(),
-        }
+        self.texts[i as usize].as_slice()
     }
 
     /// The code of a text, None exactly where it isn't there. It takes no memory.
@@ -105,10 +102,7 @@ impl Dict {
         ensures room { self.new.room ≡ self.old.room }
     {
         if self.seats.is_empty() {
-            let alloc = *self.texts.allocator();
-            if let Ok(seats) = vec![in alloc; 0u32; SEATS] {
-                self.seats = seats;
-            }
+            let _seats = self.seats.resize(SEATS, 0);
         }
         if let Some(place) = self.seats.get_mut(seat) {
             *place = code;
@@ -158,11 +152,30 @@ impl Dict {
     {
         match self.code_of_bytes(text) {
             Some(code) => Ok(code),
-            None => {
-                let alloc = *self.texts.allocator();
-                self.add(Text::from_vec(Vec::from_slice(alloc, text)?))
-            }
+            None => self.add_copy(text),
         }
+    }
+
+    // The same by the text's hash alone. It takes memory for each text.
+    fn add_copy(&mut self, text: &[u8]) -> Result<u32, AllocError>
+        requires { length self.old.texts < 2097152 }
+        ensures code { IfOk result (λ code. code ≡ code_or_last self.old.texts text.now) }
+        ensures texts { OnOk result (self.new.texts ≡ with_text self.old.texts text.now) }
+        ensures kept { OnErr result (self.new.texts ≡ self.old.texts) }
+    {
+        let alloc = *self.texts.allocator();
+        self.add(Text::from_vec(Vec::from_slice(alloc, text)?))
+    }
+
+    // Puts the texts of another dictionary into this one, which has none.
+    fn add_all(&mut self, other: &Dict) -> Result<(), AllocError>
+        requires { self.old.texts ≡ [] }
+        ensures { OnOk result (self.new.texts ≡ other.now.texts) }
+    {
+        for i in 0..other.len() {
+            self.add_copy(other.text(i))?;
+        }
+        Ok(())
     }
 
     /// A copy with the same texts.
@@ -170,9 +183,7 @@ impl Dict {
         ensures { IfOk result (λ copy. copy.texts ≡ self.now.texts) }
     {
         let mut copy = Dict::new(alloc);
-        for i in 0..self.len() {
-            copy.add(Text::from_vec(Vec::from_slice(alloc, self.text(i))?))?;
-        }
+        copy.add_all(self)?;
         Ok(copy)
     }
 

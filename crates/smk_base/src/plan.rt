@@ -1,4 +1,4 @@
-ghost use Rattle.std.specs.Prelude.{◌≡◌, IfOk};
+ghost use Rattle.std.specs.Prelude.{◌≡◌, Ok, IfOk};
 ghost use Rattle.smk_base.specs.PlanImage.{binary_of, formula_of, unary_of};
 
 use crate::list::ListOf;
@@ -116,22 +116,24 @@ impl Pred {
     {
         match self {
             Pred::Cmp(col, op, operand) => Ok(Pred::Cmp(*col, *op, operand.copy(alloc)?)),
-            Pred::And(left, right) => {
-                let left = left.copy(alloc)?;
-                let right = right.copy(alloc)?;
-                Ok(Pred::And(Box::new(alloc, left)?, Box::new(alloc, right)?))
-            }
-            Pred::Or(left, right) => {
-                let left = left.copy(alloc)?;
-                let right = right.copy(alloc)?;
-                Ok(Pred::Or(Box::new(alloc, left)?, Box::new(alloc, right)?))
-            }
-            Pred::Not(inner) => {
-                let inner = inner.copy(alloc)?;
-                Ok(Pred::Not(Box::new(alloc, inner)?))
-            }
+            Pred::And(left, right) => Ok(Pred::And(
+                boxed(alloc, left.copy(alloc))?,
+                boxed(alloc, right.copy(alloc))?,
+            )),
+            Pred::Or(left, right) => Ok(Pred::Or(
+                boxed(alloc, left.copy(alloc))?,
+                boxed(alloc, right.copy(alloc))?,
+            )),
+            Pred::Not(inner) => Ok(Pred::Not(boxed(alloc, inner.copy(alloc))?)),
         }
     }
+}
+
+// The copy in a box, if there is one.
+fn boxed(alloc: Global, copy: Result<Pred, AllocError>) -> Result<Box<Pred>, AllocError>
+    ensures { IfOk result (λ made. copy ≡ Ok made.value) }
+{
+    Ok(Box::new(alloc, copy?)?)
 }
 
 impl Op1 {

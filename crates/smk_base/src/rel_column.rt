@@ -43,17 +43,20 @@ impl Model for RelColumn {
     ghost invariant = { λ a. IsColumnOf (length (held a.hold).cells) (held a.hold) };
 }
 
-// The values where copies may share them, or, where memory is wanting, the values.
-fn shared_values(
-    alloc: Global,
-    column: ValueColumn,
-) -> Result<Arc<ValueColumn, Global>, ValueColumn>
-    ensures made { IfOk result (λ shared. shared.value ≡ column) }
-    ensures kept { IfErr result (λ kept. kept ≡ column) }
+// The same values where copies may share them, or, where memory is wanting, as they were.
+fn share_hold(alloc: Global, hold: Hold) -> Result<Hold, Hold>
+    requires { IsColumnOf (length (held hold).cells) (held hold) }
+    ensures kind { IfOk result (λ shared. (held shared).kind ≡ (held hold).kind) }
+    ensures cells { IfOk result (λ shared. (held shared).cells ≡ (held hold).cells) }
+    ensures keeps { IfOk result (λ shared. IsColumnOf (length (held shared).cells) (held shared)) }
+    ensures kept { IfErr result (λ kept. held kept ≡ held hold) }
 {
-    match Arc::new(alloc, column) {
-        Ok(shared) => Ok(shared),
-        Err(failed) => Err(failed.value),
+    match hold {
+        Hold::Own(column) => match Arc::new(alloc, column) {
+            Ok(shared) => Ok(Hold::Shared(shared)),
+            Err(failed) => Err(Hold::Own(failed.value)),
+        },
+        shared => Ok(shared),
     }
 }
 
@@ -111,17 +114,16 @@ impl RelColumn {
         ensures cells { self.new.cells ≡ self.old.cells }
     {
         let none = Hold::Own(ValueColumn::new(alloc, Kind::Text));
-        match mem::replace(&mut self.hold, none) {
-            Hold::Own(column) => match shared_values(alloc, column) {
-                Ok(shared) => self.hold = Hold::Shared(shared),
-                Err(column) => {
-                    self.hold = Hold::Own(column);
-                    return Err(AllocError);
-                }
-            },
-            shared => self.hold = shared,
+        match share_hold(alloc, mem::replace(&mut self.hold, none)) {
+            Ok(shared) => {
+                self.hold = shared;
+                Ok(())
+            }
+            Err(kept) => {
+                self.hold = kept;
+                Err(AllocError)
+            }
         }
-        Ok(())
     }
 
     /// The kind. It takes no memory.

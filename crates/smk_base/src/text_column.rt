@@ -203,16 +203,27 @@ impl TextColumn {
             codes: Vec::with_capacity(alloc, places.len())?,
             dict: Dict::new(alloc),
         };
-        let mut recoded = vec![in alloc; NO_CODE; self.dict.len() as usize]?;
-        for place in places {
-            made.push_from(
-                alloc,
-                &self.dict,
-                self.codes[*place as usize],
-                recoded.as_mut_slice(),
-            )?;
-        }
+        made.push_rows(alloc, self, places)?;
         Ok(made)
+    }
+
+    // Puts the texts of these rows of another column last.
+    fn push_rows(
+        &mut self,
+        alloc: Global,
+        other: &TextColumn,
+        places: &[u32],
+    ) -> Result<(), AllocError>
+        requires within { All (λ place. place < length other.now.texts) places.now }
+        requires few { length self.old.texts + length places.now ≤ ROW_LIMIT }
+        ensures { OnOk result (self.new.texts ≡ self.old.texts ++ map (text_in other.now.texts) places.now) }
+    {
+        let mut recoded = vec![in alloc; NO_CODE; other.dict.len() as usize]?;
+        for place in places {
+            let code = other.codes[*place as usize];
+            self.push_from(alloc, &other.dict, code, recoded.as_mut_slice())?;
+        }
+        Ok(())
     }
 
     /// Puts the texts of another column last. After an error the column may have some of them.

@@ -205,9 +205,9 @@ impl ValueColumn {
     {
         let _other = &other.store;
         let ValueColumn { store } = self;
-        Ok(ValueColumn {
-            store: appended(alloc, store, &other.store)?,
-        })
+        let mut store = store;
+        append_store(alloc, &mut store, &other.store)?;
+        Ok(ValueColumn { store })
     }
 
     /// The same values in a column of this kind, which is not a narrower one.
@@ -285,40 +285,20 @@ fn gathered(alloc: Global, store: &Store, places: &[u32]) -> Result<Store, Alloc
     }
 }
 
-// The values of both, of the kind of the first, which is not the narrower one.
-fn appended(alloc: Global, store: Store, other: &Store) -> Result<Store, AllocError>
-    requires few { length (cells_in store) + length (cells_in other.now) ≤ ROW_LIMIT }
-    requires wider { IsWider (kind_in_store store) (kind_in_store other.now) }
+// Puts the values of another store behind those of this one, whose kind is not the narrower one. After an error it may have some of them.
+fn append_store(alloc: Global, store: &mut Store, other: &Store) -> Result<(), AllocError>
+    requires few { length (cells_in store.old) + length (cells_in other.now) ≤ ROW_LIMIT }
+    requires wider { IsWider (kind_in_store store.old) (kind_in_store other.now) }
     requires fit { All (Fits (kind_in_store other.now)) (cells_in other.now) }
-    ensures kind { IfOk result (λ made. kind_in_store made ≡ kind_in_store store) }
-    ensures cells { IfOk result (λ made. cells_in made ≡ cells_in store ++ cells_in other.now) }
+    ensures kind { OnOk result (kind_in_store store.new ≡ kind_in_store store.old) }
+    ensures cells { OnOk result (cells_in store.new ≡ cells_in store.old ++ cells_in other.now) }
 {
     match (store, other) {
-        (Store::Small(ints), Store::Small(more)) => {
-            let mut ints = ints;
-            ints.extend_from_slice(more.as_slice())?;
-            Ok(Store::Small(ints))
-        }
-        (Store::Wide(level, ints), Store::Small(more)) => {
-            let mut ints = ints;
-            append_small(&mut ints, more.as_slice())?;
-            Ok(Store::Wide(level, ints))
-        }
-        (Store::Wide(level, ints), Store::Wide(_, more)) => {
-            let mut ints = ints;
-            ints.extend_from_slice(more.as_slice())?;
-            Ok(Store::Wide(level, ints))
-        }
-        (Store::Small(ints), Store::Wide(_, more)) => {
-            let mut ints = ints;
-            append_level_0(&mut ints, more.as_slice())?;
-            Ok(Store::Small(ints))
-        }
-        (Store::Texts(texts, _), Store::Texts(more, _)) => {
-            let mut texts = texts;
-            texts.append(alloc, more)?;
-            Ok(Store::Texts(texts, Next::Nothing))
-        }
+        (Store::Small(ints), Store::Small(more)) => ints.extend_from_slice(more.as_slice()),
+        (Store::Wide(_, ints), Store::Small(more)) => append_small(ints, more.as_slice()),
+        (Store::Wide(_, ints), Store::Wide(_, more)) => ints.extend_from_slice(more.as_slice()),
+        (Store::Small(ints), Store::Wide(_, more)) => append_level_0(ints, more.as_slice()),
+        (Store::Texts(texts, _), Store::Texts(more, _)) => texts.append(alloc, more),
         _ => unreachable!(),
     }
 }
@@ -343,17 +323,27 @@ fn widened(alloc: Global, store: Store, kind: Kind) -> Result<Store, AllocError>
     ensures kind { IfOk result (λ made. kind_in_store made ≡ kind) }
     ensures cells { IfOk result (λ made. cells_in made ≡ cells_in store) }
 {
-    match (store, kind) {
-        (Store::Small(ints), Kind::Int { level: 0 }) => Ok(Store::Small(ints)),
-        (Store::Small(ints), Kind::Int { level }) => {
-            let mut wide = Vec::new(alloc);
-            append_small(&mut wide, ints.as_slice())?;
-            Ok(Store::Wide(level, wide))
-        }
-        (Store::Wide(_, ints), Kind::Int { level }) => Ok(Store::Wide(level, ints)),
-        (Store::Texts(texts, next), Kind::Text) => Ok(Store::Texts(texts, next)),
-        _ => unreachable!(),
+    match kind {
+        Kind::Int { level } => match store {
+            Store::Small(ints) => small_widened(alloc, ints, level),
+            Store::Wide(_, ints) => Ok(Store::Wide(level, ints)),
+            Store::Texts(_, _) => unreachable!(),
+        },
+        Kind::Text => Ok(store),
     }
+}
+
+// The same small ints in a column of this level.
+fn small_widened(alloc: Global, ints: Vec<i64>, level: u8) -> Result<Store, AllocError>
+    ensures kind { IfOk result (λ made. kind_in_store made ≡ kinds.Int level) }
+    ensures cells { IfOk result (λ made. cells_in made ≡ map values.Int ints.items) }
+{
+    if level == 0 {
+        return Ok(Store::Small(ints));
+    }
+    let mut wide = Vec::new(alloc);
+    append_small(&mut wide, ints.as_slice())?;
+    Ok(Store::Wide(level, wide))
 }
 
 // For each number the number of its bin of this width.

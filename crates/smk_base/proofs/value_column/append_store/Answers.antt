@@ -1,5 +1,5 @@
 use Rattle.smk_base.proofs.Kept.{all-small}
-use Rattle.smk_base.proofs.value_column.appended.Goals as goal
+use Rattle.smk_base.proofs.value_column.append_store.Goals as goal
 
 pub append_level_0-requires : goal.append_level_0-requires
 append_level_0-requires c =

@@ -1,0 +1,7 @@
+use Rattle.std.proofs.Common.{ℤ, pos, rules, to_z, of_z, w64}
+use Rattle.std.specs.Int.{int_div_euclid}
+use Rattle.smk_base.proofs.Loops.{mapped_next}
+use Rattle.smk_base.proofs.value_column.small_bins.Goals as goal
+
+pub loop-number-preserved : goal.loop-number-preserved
+loop-number-preserved c = rw c.in_ok-push.ensures.items (mapped_next (λ (n : ℤ). int_div_euclid n (to_z w64 (of_z w64 c.args.width))) c.args.ints.now c.loop-number.made.items c.loop-number.number-index _ (pos 0) c.loop-number-test.true (search rules) c.loop-number.invariant)
