@@ -1,6 +1,6 @@
 -- Symbols that begin as others do.
-use Rattle.std.specs.Prelude.{cond, nat_lt}
-use Rattle.std.proofs.Common.{◌≡◌, ℕ, Bool, true, false, List, [], ◌∷◌, ap, ◌∙◌, sym, refl}
+use Rattle.std.specs.Prelude.{cond, nat_lt, Result, Ok, Err}
+use Rattle.std.proofs.Common.{◌≡◌, ℕ, Bool, true, false, List, [], ◌∷◌, ap, refl, arith}
 use Rattle.smk_base.specs.declared.token.TokenKind.{TokenKind}
 use Rattle.smk_base.specs.declared.token.TokenKind.TheVariants as kinds
 use Rattle.smk_base.specs.declared.fault.BookFault.{BookFault}
@@ -8,17 +8,16 @@ use Rattle.smk_base.specs.declared.fault.Many.TheVariants.{Columns, NameBytes}
 use Rattle.smk_model.specs.Tokens.{head_of, int_value}
 use Rattle.smk_model.specs.Machine.{State, Counts, Symbol, Takes, Outside, within, is_mark, at_first, at_item, at_keys, at_source, at_united, at_column, at_term, at_literal, at_mark, at_marks, AColumn, ALiteral, AnAs, AKeys, AFirst, AnItem, MoreKeys, ASource, AUnited, ATerm, AMarks, AMark, MoreMarks}
 use Rattle.smk_parse.specs.Columns.{is_column}
-use Rattle.smk_parse.specs.Reads.{Leads, Fails}
-use Rattle.smk_parse.proofs.Steps.{Here, Comes, NoSkip, with_more, begins, same_comes, comes_leads, comes_fails}
+use Rattle.smk_parse.specs.Readers.{Advances}
+use Rattle.smk_parse.specs.Reads.{Reads, Leads, Fails}
+use Rattle.smk_parse.proofs.Steps.{Here, Comes, NoSkip, with_more, begins, opened, same_comes, comes_leads, comes_fails, first_here}
 
 -- at a token of this kind the symbol is these
 pub data Starts : Symbol → List Symbol → TokenKind → Type 0 where
   keys_start : {k : TokenKind} → is_column k ≡ true → Starts AKeys (AFirst 0 ∷ MoreKeys 1 ∷ []) k
   item_starts : {n : ℕ} {k : TokenKind} → (k ≡ kinds.Bin → ⊥) → Starts (AnItem n) (AFirst n ∷ AnAs ∷ []) k
-  united_starts : {d : ℕ} {k : TokenKind} → (k ≡ kinds.All → ⊥) → Starts (AUnited d) (ASource d ∷ []) k
-  column_starts : {k : TokenKind} → (k ≡ kinds.Number → ⊥) → (k ≡ kinds.Str → ⊥) → Starts ATerm (AColumn ∷ []) k
-  number_starts : {k : TokenKind} → k ≡ kinds.Number → Starts ATerm (ALiteral ∷ []) k
-  string_starts : {k : TokenKind} → k ≡ kinds.Str → Starts ATerm (ALiteral ∷ []) k
+  column_starts : {k : TokenKind} → is_column k ≡ true → Starts ATerm (AColumn ∷ []) k
+  literal_starts : {k : TokenKind} → is_column k ≡ false → Starts ATerm (ALiteral ∷ []) k
   marks_start : {k : TokenKind} → (k ≡ kinds.All → ⊥) → Starts AMarks (AMark ∷ MoreMarks ∷ []) k
 
 first_no_skip : (c : Counts) (n : ℕ) (short : Bool) (k : TokenKind) → NoSkip (at_first c n [] short k)
@@ -62,10 +61,17 @@ united_move : (c : Counts) (d : ℕ) (k : TokenKind) → (k ≡ kinds.All → �
 united_move c d kinds.All e = absurd (e refl)
 united_move c d _ e = refl
 
-term_move : (c : Counts) (short : Bool) (k : TokenKind) → (k ≡ kinds.Number → ⊥) → (k ≡ kinds.Str → ⊥) → at_term c short k ≡ at_column c [] short k
-term_move c short kinds.Number p q = absurd (p refl)
-term_move c short kinds.Str p q = absurd (q refl)
-term_move c short _ p q = refl
+column_move : (c : Counts) (short : Bool) (k : TokenKind) → is_column k ≡ true → at_term c short k ≡ at_column c [] short k
+column_move c short kinds.Name e = refl
+column_move c short kinds.Quoted e = refl
+column_move c short _ e = absurd (cc)
+
+literal_move : (c : Counts) (short : Bool) (k : TokenKind) → is_column k ≡ false → at_term c short k ≡ at_literal c k
+literal_move c short kinds.Name e = absurd (cc)
+literal_move c short kinds.Quoted e = absurd (cc)
+literal_move c short kinds.Number e = refl
+literal_move c short kinds.Str e = refl
+literal_move c short _ e = refl
 
 marks_begin : (a : State) → Here a → ((head_of a.rest).kind ≡ kinds.All → ⊥) → Comes (AMarks ∷ []) (AMark ∷ MoreMarks ∷ []) a a
 marks_begin a h p = begins AMarks AMark (MoreMarks ∷ []) a h (no (head_of a.rest).kind) (by (head_of a.rest).kind p)
@@ -90,10 +96,8 @@ marks_begin a h p = begins AMarks AMark (MoreMarks ∷ []) a h (no (head_of a.re
 starts_come : (x : Symbol) (ls : List Symbol) (a : State) → Here a → Starts x ls (head_of a.rest).kind → Comes (x ∷ []) ls a a
 starts_come _ _ a h (keys_start e) = begins AKeys (AFirst 0) (MoreKeys 1 ∷ []) a h (first_no_skip a.counts 0 _ _) (keys_move a.counts _ _ e)
 starts_come _ _ a h (item_starts {n = n} e) = begins (AnItem n) (AFirst n) (AnAs ∷ []) a h (first_no_skip a.counts n _ _) (item_move a.counts n _ _ e)
-starts_come _ _ a h (united_starts {d = d} e) = same_comes (AUnited d) (ASource d) a h (united_move a.counts d (head_of a.rest).kind e)
-starts_come _ _ a h (column_starts p q) = same_comes ATerm AColumn a h (term_move a.counts _ (head_of a.rest).kind p q)
-starts_come _ _ a h (number_starts e) = same_comes ATerm ALiteral a h (ap (at_term a.counts _) e ∙ sym (ap (at_literal a.counts) e))
-starts_come _ _ a h (string_starts e) = same_comes ATerm ALiteral a h (ap (at_term a.counts _) e ∙ sym (ap (at_literal a.counts) e))
+starts_come _ _ a h (column_starts e) = same_comes ATerm AColumn a h (column_move a.counts _ (head_of a.rest).kind e)
+starts_come _ _ a h (literal_starts e) = same_comes ATerm ALiteral a h (literal_move a.counts _ (head_of a.rest).kind e)
 starts_come _ _ a h (marks_start p) = marks_begin a h p
 
 pub started_leads : (x : Symbol) (ls : List Symbol) (a b : State) → Leads ls a b → Here a → Starts x ls (head_of a.rest).kind → Leads (x ∷ []) a b
@@ -102,16 +106,17 @@ started_leads x ls a b k h e = comes_leads _ _ a a b (starts_come x ls a h e) k
 pub started_fails : (x : Symbol) (ls : List Symbol) (a : State) (f : BookFault) → Fails ls a f → Here a → Starts x ls (head_of a.rest).kind → Fails (x ∷ []) a f
 started_fails x ls a f k h e = comes_fails _ _ a a f (starts_come x ls a h e) k
 
-pub item_leads : (n : ℕ) (a b : State) → Here a → ((head_of a.rest).kind ≡ kinds.Bin → ⊥) → Leads (AFirst n ∷ AnAs ∷ []) a b → Leads (AnItem n ∷ []) a b
-item_leads n a b h e k = started_leads _ _ a b k h (item_starts e)
+pub started_reads : {X : Type 0} (x : Symbol) (ls : List Symbol) (a b : State) (r : Result X BookFault) → Reads ls a b r → Here a → Starts x ls (head_of a.rest).kind → Reads (x ∷ []) a b r
+started_reads x ls a b (Ok v) k h e = started_leads x ls a b k h e
+started_reads x ls a b (Err f) k h e = started_fails x ls a f k h e
 
-pub item_fails : (n : ℕ) (a : State) (f : BookFault) → Here a → ((head_of a.rest).kind ≡ kinds.Bin → ⊥) → Fails (AFirst n ∷ AnAs ∷ []) a f → Fails (AnItem n ∷ []) a f
-item_fails n a f h e k = started_fails _ _ a f k h (item_starts e)
+-- the source of a union behind `all`, or without it
+pub all_comes : (d : ℕ) (a b : State) → Advances a.counts a b → (head_of a.rest).kind ≡ kinds.All → Comes (AUnited d ∷ []) (ASource d ∷ []) a b
+all_comes d a b h e = let o = opened (AUnited d) (ASource d ∷ []) a.counts a b h (ap (at_united a.counts d) e) in record { comes = o.opens; fewer = omega (arith, o.fewer) }
 
-pub term_leads : (a b : State) → Here a → ((head_of a.rest).kind ≡ kinds.Number → ⊥) → ((head_of a.rest).kind ≡ kinds.Str → ⊥) → Leads (AColumn ∷ []) a b → Leads (ATerm ∷ []) a b
-term_leads a b h p q k = started_leads _ _ a b k h (column_starts p q)
+pub source_comes : (d : ℕ) (a : State) → Here a → ((head_of a.rest).kind ≡ kinds.All → ⊥) → Comes (AUnited d ∷ []) (ASource d ∷ []) a a
+source_comes d a h e = same_comes (AUnited d) (ASource d) a h (united_move a.counts d (head_of a.rest).kind e)
 
-pub term_fails : (a : State) (f : BookFault) → Here a → ((head_of a.rest).kind ≡ kinds.Number → ⊥) → ((head_of a.rest).kind ≡ kinds.Str → ⊥) → Fails (AColumn ∷ []) a f → Fails (ATerm ∷ []) a f
-term_fails a f h p q k = started_fails _ _ a f k h (column_starts p q)
+pub ruleset begun = (started_leads, started_fails, keys_start, item_starts, column_starts, literal_starts, marks_start)
 
-pub ruleset begun = (started_leads, started_fails, item_leads, item_fails, term_leads, term_fails, keys_start, item_starts, united_starts, column_starts, number_starts, string_starts, marks_start)
+pub ruleset united = (all_comes, source_comes, comes_leads, comes_fails, first_here)

@@ -1,6 +1,5 @@
 use Rattle.std.proofs.Common.{◌≡◌, ℕ, zero, suc, ◌+◌, ◌*◌, ◌-◌, ◌<◌, List, [], ◌∷◌, length, get_or, drop, drop-cons, ap, ◌∙◌, sym, arith}
-use Rattle.std.specs.Prelude.{min}
-use Rattle.std.specs.Prelude.{IsTrue, cond, nat_eq, Bool, true, false, pos, neg_ℤ, ◌≤ℤ◌}
+use Rattle.std.specs.Prelude.{min, IsTrue, cond, nat_eq, Bool, true, false, pos, neg_ℤ, ◌≤ℤ◌}
 use Rattle.std.proofs.lemmas.Bool.{ltb-true}
 use Rattle.std.proofs.lemmas.Int.{ints}
 use Rattle.smk_model.specs.Tokens.{digits_value, int_value, is_i64}

@@ -3,9 +3,7 @@ pub mod Fits
 pub mod Streams
 pub mod Steps
 pub mod Begins
-pub mod Tails
 pub mod Single
-pub mod Chains
 pub mod Listing
 pub mod Trees
 pub mod Whole

@@ -1,7 +1,6 @@
 -- Single tokens.
-use Rattle.std.specs.Prelude.{cond, nat_eq}
+use Rattle.std.specs.Prelude.{cond, nat_eq, IsTrue}
 use Rattle.std.proofs.Common.{◌≡◌, ℕ, ◌+◌, ◌-◌, ◌<◌, ◌++◌, length, get_or, take, drop, drop-cons, append_assoc, min, suc, true, false, List, [], ◌∷◌, ap, ◌∙◌, sym, subst, refl, arith}
-use Rattle.std.specs.Prelude.{IsTrue}
 use Rattle.std.proofs.lemmas.List.{take_all}
 use Rattle.smk_base.specs.declared.token.TokenKind.{TokenKind}
 use Rattle.smk_base.specs.declared.token.TokenKind.TheVariants as kinds

@@ -139,6 +139,11 @@ begins x y more a h ok e = record {
     by ss (Past what) ok = refl
     by ss Outside ok = refl
 
+-- the parts from a up to b make this tree, and more of them make it a whole
+pub record IsChain {T : Type 0} (ls : List Symbol) (x : Symbol) (AreMore : List Token → List Token → T → T → Type 0) (IsWhole : List Token → List Token → T → Type 0) (a b : State) (tree : T) : Type 0 where
+  pub reads : Comes ls (x ∷ []) a b
+  pub is : (c : List Token) (whole : T) → AreMore b.rest c tree whole → IsWhole a.rest c whole
+
 -- what one who reads symbol after symbol knows
 pub ruleset in_order = (opened, open_only, open_leads, open_fails, skips, wrong, past, outside, lead_on, fail_on, fail_first, no_memory, first_here)
 

@@ -1,6 +1,6 @@
 -- The trees of what was read. The cases of the grammar that show all their parts stand in the list as they are.
 use Rattle.std.specs.Prelude.{nat_lt, nat_le, int_le, ◌^◌}
-use Rattle.std.proofs.Common.{◌≡◌, ℕ, ℤ, pos, ◌-◌, ◌<◌, Bool, true, false, List, ◌∷◌, length, ap, ◌∙◌, sym, subst, refl}
+use Rattle.std.proofs.Common.{◌≡◌, ℕ, ℤ, pos, ◌<◌, Bool, true, false, List, ◌∷◌, length, ap, ◌∙◌, sym, subst, refl}
 use Rattle.std.proofs.lemmas.Bool.{lt-ltb}
 use Rattle.smk_base.specs.declared.token.TokenKind.{TokenKind}
 use Rattle.smk_base.specs.declared.token.TokenKind.TheVariants as kinds
@@ -11,17 +11,17 @@ use Rattle.smk_base.specs.declared.tree.AggTree.{AggTree}
 use Rattle.smk_base.specs.declared.tree.Extra.TheVariants as extras
 use Rattle.smk_base.specs.declared.plan.CmpOp.{CmpOp}
 use Rattle.smk_base.specs.declared.tree.Term.{Term}
-use Rattle.smk_base.specs.declared.tree.PairTree.{PairTree}
 use Rattle.smk_base.specs.declared.tree.Extra.{Extra}
-use Rattle.smk_base.specs.declared.tree.Tree.{Tree}
-use Rattle.smk_base.specs.TreeImage.{tree_image}
-use Rattle.smk_base.specs.Trees.{TreeImage, PredImage, CompareNode, JoinNode, ThetaNode, UnionAllNode, UnionNode, BackNode, FwdNode}
+use Rattle.smk_base.specs.declared.tree.Marks.{Marks}
+use Rattle.smk_base.specs.declared.tree.Then.{Then}
+use Rattle.smk_base.specs.declared.tree.Line.TheVariants as lines
+use Rattle.smk_base.specs.Trees.{TreeImage, CompareNode, UnionAllNode, UnionNode, BackNode, FwdNode}
 use Rattle.smk_model.specs.Tokens.{Token, head_of, int_value, inner, string_value}
-use Rattle.smk_model.specs.Grammar.{First, IsName, name, IsColumn, plain, quoted, IsLiteral, number, string, IsFile, file, IsMark, mark, IsWidth, width, IsNamed, by_itself, IsExtra, group_extra, AreKeys, AreAggs, AreListed, IsPair, IsOp, IsTerm, IsPrim, IsPred, IsStep, group_step, union_all_step, union_step, IsSource, IsStmt, int_type, text_type, no_default, default, decl, by_as, column_item, bin_item, count, sum, min, max, agg, no_keys, keys, no_aggs, aggs, pair, eq, ne, lt, le, gt, ge, column_term, literal_term, negated, bracketed, compared, conj, no_and, one_and, pred, no_or, one_or, plan, scan, inner_plan, no_step, one_step, where_step, project_step, distinct_step, group_step, join_step, theta_step, product_step, no_extra, by_extra, table_stmt, view_stmt, back_stmt, fwd_stmt, link_stmt, all_marks, listed_marks, no_then, where_then, group_then, show_line, back_line, fwd_line, brush_line, clear_line, clear_one_line, whole_line}
+use Rattle.smk_model.specs.Grammar.{First, IsName, name, IsColumn, plain, quoted, IsLiteral, number, string, IsFile, file, IsMark, mark, IsWidth, width, IsNamed, by_itself, IsExtra, group_extra, AreKeys, AreAggs, IsOp, IsTerm, IsPrim, IsThen, IsLine, IsStep, group_step, union_all_step, union_step, IsSource, IsStmt, int_type, text_type, no_default, default, decl, by_as, column_item, bin_item, count, sum, min, max, agg, no_keys, keys, no_aggs, aggs, pair, eq, ne, lt, le, gt, ge, column_term, literal_term, negated, bracketed, compared, conj, no_and, one_and, pred, no_or, one_or, plan, scan, inner_plan, no_step, one_step, where_step, project_step, distinct_step, group_step, join_step, theta_step, product_step, no_extra, by_extra, table_stmt, view_stmt, back_stmt, fwd_stmt, link_stmt, all_marks, listed_marks, no_then, where_then, group_then, show_line, back_line, fwd_line, brush_line, clear_line, clear_one_line, whole_line}
 use Rattle.smk_model.specs.Machine.{State, Counts, is_short}
 use Rattle.smk_parse.specs.Readers.{Advances}
 use Rattle.smk_parse.specs.Columns.{is_column, column_name, column_word}
-use Rattle.smk_parse.specs.Groupings.{IsUnited, all_kept, repeats_dropped}
+use Rattle.smk_parse.specs.Groupings.{HasAll, IsMarked, marked}
 use Rattle.smk_parse.proofs.Steps.{first_here, in_order}
 
 pub name_is : (c : Counts) (a b : State) (w : Word) → Advances c a b → (head_of a.rest).kind ≡ kinds.Name → w ≡ column_word (head_of a.rest) → IsName a.rest b.rest w
@@ -80,23 +80,16 @@ itself_is a w v e f = let n : v ≡ w = λ i. record { name = e i; at = f i } in
 pub group_extra_is : (a b c d : List Token) (t : Token) (n : ℕ) (ws : List Word) (xs : List AggTree) → First kinds.Group t a b → n ≡ t.at → AreKeys b c ws → AreAggs c d xs → IsExtra a d (extras.Grouped n ws xs)
 group_extra_is a b c d t n ws xs h e k l = subst (λ m. IsExtra a d (extras.Grouped m ws xs)) (sym e) (group_extra h k l)
 
-pub union_all_is : (a b c : List Token) (t : Token) (o : Bool) (x : TreeImage) → First kinds.Union t a b → IsUnited b c o x → o ≡ true → IsStep a c t.at (UnionAllNode x)
-union_all_is a b c t true x h (all_kept i k) e = union_all_step h i k
-union_all_is a b c t false x h (repeats_dropped k) e = absurd (cc)
+pub union_all_is : (a b c d : List Token) (t : Token) (o : Bool) (x : TreeImage) → First kinds.Union t a b → HasAll o b c → IsSource c d x → o ≡ true → IsStep a d t.at (UnionAllNode x)
+union_all_is a b c d t true x h i k e = union_all_step h i k
+union_all_is a b c d t false x h i k e = absurd (cc)
 
-pub union_is : (a b c : List Token) (t : Token) (o : Bool) (x : TreeImage) → First kinds.Union t a b → IsUnited b c o x → o ≡ false → IsStep a c t.at (UnionNode x)
-union_is a b c t true x h (all_kept i k) e = absurd (cc)
-union_is a b c t false x h (repeats_dropped k) e = union_step h k
+pub union_is : (a b c d : List Token) (t : Token) (o : Bool) (x : TreeImage) → First kinds.Union t a b → HasAll o b c → IsSource c d x → o ≡ false → IsStep a d t.at (UnionNode x)
+union_is a b c d t true x h i k e = absurd (cc)
+union_is a b c d t false x h i k e = union_step h (subst (λ l. IsSource l d x) (sym i) k)
 
 pub compared_is : (n : Counts) (a b : State) (c d : List Token) (w : Word) (o : CmpOp) (x : Term) → Advances n a b → is_column (head_of a.rest).kind ≡ true → w ≡ column_word (head_of a.rest) → IsOp b.rest c o → IsTerm c d x → IsPrim a.rest d (CompareNode w o x)
 compared_is n a b c d w o x h e f k i = compared (column_is n a b w h e f) k i
-
--- where the second source was put behind a pointer
-pub join_is : (a b c d e : List Token) (t u : Token) (x y : Tree) (ps : List PairTree) → First kinds.Join t a b → IsSource b c (tree_image x) → y ≡ x → First kinds.On u c d → AreListed IsPair d e ps → IsStep a e t.at (JoinNode (tree_image y) ps)
-join_is a b c d e t u x y ps h k n i j = subst (λ z. IsStep a e t.at (JoinNode (tree_image z) ps)) (sym n) (join_step h k i j)
-
-pub theta_is : (a b c d e : List Token) (t u : Token) (x y : Tree) (p : PredImage) → First kinds.Theta t a b → IsSource b c (tree_image x) → y ≡ x → First kinds.On u c d → IsPred d e p → IsStep a e t.at (ThetaNode (tree_image y) p)
-theta_is a b c d e t u x y p h k n i j = subst (λ z. IsStep a e t.at (ThetaNode (tree_image z) p)) (sym n) (theta_step h k i j)
 
 -- where the place of the first token was kept
 pub back_is : (a b c d e f g : List Token) (t u v : Token) (n : ℕ) (w z : Word) (x : Extra) → n ≡ t.at → First kinds.Lineage t a b → First kinds.Back u b c → IsName c d w → First kinds.To v d e → IsName e f z → IsExtra f g x → IsStmt a g (BackNode n w z x)
@@ -105,5 +98,15 @@ back_is a b c d e f g t u v n w z x m h k i j l o = subst (λ m. IsStmt a g (Bac
 pub fwd_is : (a b c d e f : List Token) (t u v : Token) (n : ℕ) (w z : Word) → n ≡ t.at → First kinds.Lineage t a b → First kinds.Fwd u b c → IsName c d w → First kinds.To v d e → IsName e f z → IsStmt a f (FwdNode n w z)
 fwd_is a b c d e f t u v n w z m h k i j l = subst (λ m. IsStmt a f (FwdNode m w z)) (sym m) (fwd_stmt h k i j l)
 
+-- where a line's names and marks were read together
+pub back_line_is : {a b c d : List Token} {t : Token} {w z : Word} {m : Marks} {x : Then} → First kinds.Back t a b → IsMarked kinds.To b c w m z → IsThen c d x → IsLine a d (lines.Back w.name m z.name x)
+back_line_is h (marked k i j l) n = back_line h k i j l n
+
+pub fwd_line_is : {a b c : List Token} {t : Token} {w z : Word} {m : Marks} → First kinds.Fwd t a b → IsMarked kinds.To b c w m z → IsLine a c (lines.Fwd w.name m z.name)
+fwd_line_is h (marked k i j l) = fwd_line h k i j l
+
+pub brush_line_is : {a b c : List Token} {t : Token} {w z : Word} {m : Marks} → First kinds.Brush t a b → IsMarked kinds.On b c w m z → IsLine a c (lines.Brush w.name m z.name)
+brush_line_is h (marked k i j l) = brush_line h k i j l
+
 -- what one who reads trees knows
-pub ruleset reading = (in_order, name_is, column_is, number_is, string_is, file_is, mark_is, width_is, itself_is, group_extra_is, union_all_is, union_is, compared_is, join_is, theta_is, back_is, fwd_is, all_kept, repeats_dropped, int_type, text_type, no_default, default, decl, by_as, column_item, bin_item, count, sum, min, max, agg, no_keys, keys, no_aggs, aggs, pair, eq, ne, lt, le, gt, ge, column_term, literal_term, negated, bracketed, compared, conj, no_and, one_and, pred, no_or, one_or, plan, scan, inner_plan, no_step, one_step, where_step, project_step, distinct_step, group_step, join_step, theta_step, product_step, no_extra, by_extra, table_stmt, view_stmt, back_stmt, fwd_stmt, link_stmt, all_marks, listed_marks, no_then, where_then, group_then, show_line, back_line, fwd_line, brush_line, clear_line, clear_one_line, whole_line)
+pub ruleset reading = (in_order, name_is, column_is, number_is, string_is, file_is, mark_is, width_is, itself_is, group_extra_is, union_all_is, union_is, compared_is, back_is, fwd_is, marked, back_line_is, fwd_line_is, brush_line_is, int_type, text_type, no_default, default, decl, by_as, column_item, bin_item, count, sum, min, max, agg, no_keys, keys, no_aggs, aggs, pair, eq, ne, lt, le, gt, ge, column_term, literal_term, negated, bracketed, compared, conj, no_and, one_and, pred, no_or, one_or, plan, scan, inner_plan, no_step, one_step, where_step, project_step, distinct_step, group_step, join_step, theta_step, product_step, no_extra, by_extra, table_stmt, view_stmt, back_stmt, fwd_stmt, link_stmt, all_marks, listed_marks, no_then, where_then, group_then, show_line, clear_line, clear_one_line, whole_line)

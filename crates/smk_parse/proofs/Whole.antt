@@ -5,17 +5,15 @@ use Rattle.std.proofs.lemmas.List.{map_push}
 use Rattle.smk_base.specs.declared.token.TokenKind.TheVariants as kinds
 use Rattle.smk_base.specs.declared.fault.BookFault.{BookFault}
 use Rattle.smk_base.specs.declared.fault.BookFault.TheVariants.{BadToken, Unexpected, TooMany, BadNumber, NoMemory}
-use Rattle.smk_base.specs.declared.fault.Many.{Many}
-use Rattle.smk_base.specs.declared.fault.LineFault.TheVariants as line_faults
+use Rattle.smk_base.specs.declared.fault.LineFault.{LineFault}
 use Rattle.smk_base.specs.declared.tree.Stmt.{Stmt}
 use Rattle.smk_base.specs.Trees.{StmtImage}
 use Rattle.smk_base.specs.TreeImage.{stmt_image}
-use Rattle.smk_model.specs.Tokens.{Token, head_of, tokens}
+use Rattle.smk_model.specs.Tokens.{Token, head_of, tokens, HasNoToken}
 use Rattle.smk_model.specs.Grammar.{IsStmt, AreStmts, no_stmt, one_stmt}
-use Rattle.smk_model.specs.Lines.{place_of}
 use Rattle.smk_model.specs.Machine.{State, Symbol, through, book_symbols, line_symbols, line_fault, ALine, AnEnd, fault_in, no_counts}
 use Rattle.smk_parse.specs.Reads.{Leads, Fails, is_memory}
-use Rattle.smk_parse.specs.Answers.{IsBookAnswer, IsLineAnswer}
+use Rattle.smk_parse.specs.Answers.{IsBookAnswer, IsLineAnswer, as_line_fault}
 use Rattle.smk_parse.proofs.Steps.{Here}
 
 -- what the statements that follow make of those so far
@@ -50,24 +48,22 @@ book_unread a text f e h = by f (faulty book_symbols a text f e h)
     by (TooMany at what) k = ap fault_in (k refl)
     by (BadNumber at) k = ap fault_in (k refl)
 
-line_unread : (a : State) (text : List ℕ) (f : BookFault) (at : ℕ) → a ≡ record { rest = tokens text; counts = no_counts } → Fails line_symbols a f → ((head_of a.rest).kind ≡ kinds.End → ⊥) → is_memory f ≡ false → place_of f ≡ at → IsLineAnswer text (Err (line_faults.NotALine at))
-line_unread a text f at e k n m p = (λ h. n (ap (λ s. (head_of s.rest).kind) e ∙ h), (f, (ap fault_in (faulty line_symbols a text f e k m), p)))
+pub line_unread : (a : State) (text : List ℕ) (f : BookFault) (r : LineFault) → a ≡ record { rest = tokens text; counts = no_counts } → Fails (ALine ∷ AnEnd ∷ []) a f → ((head_of a.rest).kind ≡ kinds.End → ⊥) → r ≡ as_line_fault f → IsLineAnswer text (Err r)
+line_unread a text f r e k n g = subst (λ x. IsLineAnswer text (Err x)) (sym g) (by f (faulty line_symbols a text f e k))
+  where
+    some : HasNoToken text → ⊥
+    some h = n (ap (λ s. (head_of s.rest).kind) e ∙ h)
+
+    by : (f : BookFault) → (is_memory f ≡ false → through line_symbols no_counts (tokens text) ≡ Err f) → IsLineAnswer text (Err (as_line_fault f))
+    by NoMemory k = some
+    by (BadToken at) k = (some, (BadToken at, (ap fault_in (k refl), refl)))
+    by (Unexpected at) k = (some, (Unexpected at, (ap fault_in (k refl), refl)))
+    by (TooMany at what) k = (some, (TooMany at what, (ap fault_in (k refl), refl)))
+    by (BadNumber at) k = (some, (BadNumber at, (ap fault_in (k refl), refl)))
 
 pub line_answer : (a b : State) (ts : List Token) → a ≡ record { rest = ts; counts = no_counts } → Leads (ALine ∷ AnEnd ∷ []) a b → line_fault ts ≡ None
 line_answer a b ts e h = ap (λ s. fault_in (through (ALine ∷ AnEnd ∷ []) s.counts s.rest)) (sym e) ∙ ap fault_in (h.goes [])
 
-pub unread_bad_token : (a : State) (text : List ℕ) (at : ℕ) → a ≡ record { rest = tokens text; counts = no_counts } → Fails (ALine ∷ AnEnd ∷ []) a (BadToken at) → ((head_of a.rest).kind ≡ kinds.End → ⊥) → IsLineAnswer text (Err (line_faults.NotALine at))
-unread_bad_token a text at e k n = line_unread a text (BadToken at) at e k n refl refl
-
-pub unread_unexpected : (a : State) (text : List ℕ) (at : ℕ) → a ≡ record { rest = tokens text; counts = no_counts } → Fails (ALine ∷ AnEnd ∷ []) a (Unexpected at) → ((head_of a.rest).kind ≡ kinds.End → ⊥) → IsLineAnswer text (Err (line_faults.NotALine at))
-unread_unexpected a text at e k n = line_unread a text (Unexpected at) at e k n refl refl
-
-pub unread_many : (a : State) (text : List ℕ) (at : ℕ) (what : Many) → a ≡ record { rest = tokens text; counts = no_counts } → Fails (ALine ∷ AnEnd ∷ []) a (TooMany at what) → ((head_of a.rest).kind ≡ kinds.End → ⊥) → IsLineAnswer text (Err (line_faults.NotALine at))
-unread_many a text at what e k n = line_unread a text (TooMany at what) at e k n refl refl
-
-pub unread_bad_number : (a : State) (text : List ℕ) (at : ℕ) → a ≡ record { rest = tokens text; counts = no_counts } → Fails (ALine ∷ AnEnd ∷ []) a (BadNumber at) → ((head_of a.rest).kind ≡ kinds.End → ⊥) → IsLineAnswer text (Err (line_faults.NotALine at))
-unread_bad_number a text at e k n = line_unread a text (BadNumber at) at e k n refl refl
-
 pub ruleset book_answers = (faultless, book_unread)
 
-pub ruleset line_answers = (line_answer, unread_bad_token, unread_unexpected, unread_many, unread_bad_number)
+pub ruleset line_answers = (line_answer, line_unread)

@@ -12,6 +12,11 @@ use Rattle.smk_model.specs.Machine.{line_fault, book_fault}
 use Rattle.smk_model.specs.Lines.{place_of}
 use Rattle.smk_model.specs.Grammar.{IsWholeLine, AreStmts}
 
+-- a line's fault by that of its reader: it isn't a line, or memory ran out
+abbrev pub as_line_fault : BookFault → LineFault
+as_line_fault NoMemory = line_faults.NoMemory
+as_line_fault fault = line_faults.NotALine (place_of fault)
+
 -- a line is nothing where it has no token, is a line with its tree where it is in the grammar, and else is not a line at the place of its first fault; or memory ran out
 abbrev pub IsLineAnswer : List ℕ → Result (Option Line) LineFault → Type 0
 IsLineAnswer text (Ok None) = HasNoToken text

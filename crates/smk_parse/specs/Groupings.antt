@@ -1,11 +1,17 @@
--- A part of a rule that one function reads together.
-use Rattle.std.specs.Prelude.{List, Bool, true, false}
+-- Parts of rules that one function reads together.
+use Rattle.std.specs.Prelude.{◌≡◌, List, Bool, true, false}
+use Rattle.smk_base.specs.declared.token.TokenKind.{TokenKind}
 use Rattle.smk_base.specs.declared.token.TokenKind.TheVariants as kinds
-use Rattle.smk_base.specs.Trees.{TreeImage}
-use Rattle.smk_model.specs.Tokens.{Token}
-use Rattle.smk_model.specs.Grammar.{First, IsSource}
+use Rattle.smk_base.specs.declared.tree.Word.{Word}
+use Rattle.smk_base.specs.declared.tree.Marks.{Marks}
+use Rattle.smk_model.specs.Tokens.{Token, head_of}
+use Rattle.smk_model.specs.Grammar.{First, IsName, AreMarks}
 
--- the second source of a union, and whether all stands before it
-pub data IsUnited : List Token → List Token → Bool → TreeImage → Type 0 where
-  all_kept : {a b c : List Token} {t : Token} {x : TreeImage} → First kinds.All t a b → IsSource b c x → IsUnited a c true x
-  repeats_dropped : {a b : List Token} {x : TreeImage} → IsSource a b x → IsUnited a b false x
+-- whether `all` stands between the first list and the second, or nothing
+abbrev pub HasAll : Bool → List Token → List Token → Type 0
+HasAll true a b = First kinds.All (head_of a) a b
+HasAll false a b = a ≡ b
+
+-- the names of a line with marks and a keyword between them
+pub data IsMarked (kind : TokenKind) : List Token → List Token → Word → Marks → Word → Type 0 where
+  marked : {a b c d e : List Token} {t : Token} {w z : Word} {m : Marks} → IsName a b w → AreMarks b c m → First kind t c d → IsName d e z → IsMarked kind a e w m z

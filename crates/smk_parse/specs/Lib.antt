@@ -5,4 +5,5 @@ pub mod Answers
 pub mod Spans
 pub mod Columns
 pub mod Groupings
+pub mod Members
 pub mod Tallies

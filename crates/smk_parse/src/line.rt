@@ -1,33 +1,29 @@
-ghost use Rattle.std.specs.Prelude.{◌∷◌, [], List, refl, IfOk, Ok, Err};
+#![tactic(auto, using(crate::proofs::Trees::reading))]
+
+ghost use Rattle.std.specs.Prelude.{◌≡◌, ◌∷◌, [], List, refl, IsTrue, IfOk};
 ghost use Rattle.smk_base.specs.declared.token.TokenKind.TheVariants as kinds;
-ghost use Rattle.smk_model.specs.Tokens.{Token};
+ghost use Rattle.smk_model.specs.Tokens.{Token, is_more};
 ghost use Rattle.smk_model.specs.Grammar.{First, IsMark, AreMarks, IsThen, IsLine, IsWholeLine};
-ghost use Rattle.smk_model.specs.Machine.{ALine, AMark, MoreMarks, AMarks, AThen, ACleared, line_symbols};
+ghost use Rattle.smk_model.specs.Machine.{AToken, ALine, ALineName, AMark, MoreMarks, AMarks, AThen, ACleared, line_symbols};
 ghost use Rattle.smk_parse.specs.Reads.{Reads};
-ghost use Rattle.smk_parse.specs.Answers.{IsLineAnswer};
+ghost use Rattle.smk_parse.specs.Answers.{IsLineAnswer, as_line_fault};
+ghost use Rattle.smk_parse.specs.Groupings.{IsMarked};
 
 use crate::listed::{Member, listed};
 use crate::names::{line_column, line_name, take_column};
 use crate::reader::Reader;
 use crate::taken::{expect, literal, wrong};
-use smk_base::{BookFault, Line, LineFault, Marks, Then, TokenKind};
+use smk_base::{BookFault, Line, LineFault, Marks, Then, TokenKind, Word};
 use std::alloc::Global;
 
 /// A mark.
-struct MarkMember;
+struct Mark;
 
-impl Member for MarkMember {
+impl Member for Mark {
     type Tree = u32;
 
-    ghost one = { λ n. AMark ∷ [] };
+    ghost rule = { record { one = λ n. AMark ∷ []; more = λ n. MoreMarks; spells = IsMark; goes_on = λ n c t. refl } };
 
-    ghost more = { λ n. MoreMarks };
-
-    ghost spells = { IsMark };
-
-    ghost goes_on = { λ n c t. refl };
-
-    #[tactic(auto, using(crate::proofs::Trees::reading))]
     fn read(_alloc: Global, reader: &mut Reader, _before: usize) -> Result<u32, BookFault> {
         let at = reader.at();
         match reader.kind() {
@@ -44,6 +40,14 @@ impl Member for MarkMember {
     }
 }
 
+/// Two names of a line with marks between them.
+#[derive(Drop)]
+struct Marking {
+    first: Word,
+    marks: Marks,
+    second: Word,
+}
+
 /// The marks of a line.
 #[tactic(auto, using(crate::proofs::Trees::reading, crate::proofs::Begins::begun))]
 fn marks(alloc: Global, reader: &mut Reader) -> Result<Marks, BookFault>
@@ -56,14 +60,13 @@ fn marks(alloc: Global, reader: &mut Reader) -> Result<Marks, BookFault>
             Ok(Marks::All)
         }
         _ => {
-            let marks = listed::<MarkMember>(alloc, reader)?;
+            let marks = listed::<Mark>(alloc, reader)?;
             Ok(Marks::Listed(marks))
         }
     }
 }
 
 /// What a `back` line asks for besides the rows.
-#[tactic(auto, using(crate::proofs::Trees::reading))]
 fn then(alloc: Global, reader: &mut Reader) -> Result<Then, BookFault>
     ensures reads { Reads (AThen ∷ []) reader.old reader.new result }
     ensures is { IfOk result (λ then. IsThen reader.old.rest reader.new.rest then) }
@@ -88,7 +91,6 @@ fn then(alloc: Global, reader: &mut Reader) -> Result<Then, BookFault>
 }
 
 /// What a `clear` line clears: every brush, or the one of a view on a table.
-#[tactic(auto, using(crate::proofs::Trees::reading))]
 fn cleared(alloc: Global, reader: &mut Reader) -> Result<Line, BookFault>
     ensures reads { Reads (ACleared ∷ []) reader.old reader.new result }
     ensures is { IfOk result (λ line. (a : List Token) → (t : Token) → First kinds.Clear t a reader.old.rest → IsLine a reader.new.rest line) }
@@ -107,7 +109,24 @@ fn cleared(alloc: Global, reader: &mut Reader) -> Result<Line, BookFault>
     }
 }
 
-#[tactic(auto, using(crate::proofs::Trees::reading))]
+/// A name, marks, and behind this keyword another name.
+fn marked(alloc: Global, reader: &mut Reader, between: TokenKind) -> Result<Marking, BookFault>
+    requires { IsTrue (is_more between) }
+    ensures reads { Reads (ALineName ∷ AMarks ∷ AToken between ∷ ALineName ∷ []) reader.old reader.new result }
+    ensures is { IfOk result (λ m. IsMarked between reader.old.rest reader.new.rest m.first m.marks m.second) }
+{
+    let first = line_name(alloc, reader)?;
+    let marks = marks(alloc, reader)?;
+    let _ = expect(reader, between)?;
+    let second = line_name(alloc, reader)?;
+    Ok(Marking {
+        first,
+        marks,
+        second,
+    })
+}
+
+/// A line.
 fn line(alloc: Global, reader: &mut Reader) -> Result<Line, BookFault>
     ensures reads { Reads (ALine ∷ []) reader.old reader.new result }
     ensures is { IfOk result (λ line. IsLine reader.old.rest reader.new.rest line) }
@@ -120,40 +139,31 @@ fn line(alloc: Global, reader: &mut Reader) -> Result<Line, BookFault>
         }
         TokenKind::Back => {
             reader.advance();
-            let view = line_name(alloc, reader)?;
-            let marks = marks(alloc, reader)?;
-            let _ = expect(reader, TokenKind::To)?;
-            let table = line_name(alloc, reader)?;
+            let m = marked(alloc, reader, TokenKind::To)?;
             let then = then(alloc, reader)?;
             Ok(Line::Back {
-                view: view.name,
-                marks,
-                table: table.name,
+                view: m.first.name,
+                marks: m.marks,
+                table: m.second.name,
                 then,
             })
         }
         TokenKind::Fwd => {
             reader.advance();
-            let table = line_name(alloc, reader)?;
-            let rows = marks(alloc, reader)?;
-            let _ = expect(reader, TokenKind::To)?;
-            let view = line_name(alloc, reader)?;
+            let m = marked(alloc, reader, TokenKind::To)?;
             Ok(Line::Fwd {
-                table: table.name,
-                rows,
-                view: view.name,
+                table: m.first.name,
+                rows: m.marks,
+                view: m.second.name,
             })
         }
         TokenKind::Brush => {
             reader.advance();
-            let view = line_name(alloc, reader)?;
-            let marks = marks(alloc, reader)?;
-            let _ = expect(reader, TokenKind::On)?;
-            let table = line_name(alloc, reader)?;
+            let m = marked(alloc, reader, TokenKind::On)?;
             Ok(Line::Brush {
-                view: view.name,
-                marks,
-                table: table.name,
+                view: m.first.name,
+                marks: m.marks,
+                table: m.second.name,
             })
         }
         TokenKind::Clear => {
@@ -165,7 +175,6 @@ fn line(alloc: Global, reader: &mut Reader) -> Result<Line, BookFault>
 }
 
 /// A line up to its end.
-#[tactic(auto, using(crate::proofs::Trees::reading))]
 fn whole_line(alloc: Global, reader: &mut Reader) -> Result<Line, BookFault>
     ensures reads { Reads line_symbols reader.old reader.new result }
     ensures is { IfOk result (λ line. IsWholeLine reader.old.rest line) }
@@ -174,6 +183,20 @@ fn whole_line(alloc: Global, reader: &mut Reader) -> Result<Line, BookFault>
     match reader.kind() {
         TokenKind::End => Ok(line),
         _ => Err(wrong(reader)),
+    }
+}
+
+/// A line's fault by that of its reader.
+#[tactic(auto)]
+fn as_line_fault(fault: BookFault) -> LineFault
+    ensures { result ≡ as_line_fault fault }
+{
+    match fault {
+        BookFault::NoMemory => LineFault::NoMemory,
+        BookFault::BadToken { at }
+        | BookFault::Unexpected { at }
+        | BookFault::BadNumber { at }
+        | BookFault::TooMany { at, what: _ } => LineFault::NotALine { at },
     }
 }
 
@@ -187,11 +210,7 @@ pub fn parse_line(alloc: Global, line: &[u8]) -> Result<Option<Line>, LineFault>
         TokenKind::End => Ok(None),
         _ => match whole_line(alloc, &mut reader) {
             Ok(line) => Ok(Some(line)),
-            Err(BookFault::NoMemory) => Err(LineFault::NoMemory),
-            Err(BookFault::BadToken { at }) => Err(LineFault::NotALine { at }),
-            Err(BookFault::Unexpected { at }) => Err(LineFault::NotALine { at }),
-            Err(BookFault::TooMany { at, what: _ }) => Err(LineFault::NotALine { at }),
-            Err(BookFault::BadNumber { at }) => Err(LineFault::NotALine { at }),
+            Err(fault) => Err(as_line_fault(fault)),
         },
     }
 }

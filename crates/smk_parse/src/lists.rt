@@ -1,3 +1,5 @@
+#![tactic(auto, using(crate::proofs::Trees::reading))]
+
 ghost use Rattle.std.specs.Prelude.{◌≡◌, ◌∷◌, ◌<◌, ◌≤◌, [], pos, ◌≤ℤ◌, refl, IfOk};
 ghost use Rattle.smk_base.specs.declared.tree.ItemTree.TheVariants as items;
 ghost use Rattle.smk_base.specs.declared.token.TokenKind.TheVariants as kinds;
@@ -17,7 +19,6 @@ use smk_base::{
 use std::alloc::Global;
 
 /// Whether a declared column is a text.
-#[tactic(auto, using(crate::proofs::Trees::reading))]
 fn is_text(reader: &mut Reader) -> Result<bool, BookFault>
     ensures reads { Reads (AType ∷ []) reader.old reader.new result }
     ensures is { IfOk result (λ text. IsType reader.old.rest reader.new.rest text) }
@@ -36,7 +37,6 @@ fn is_text(reader: &mut Reader) -> Result<bool, BookFault>
 }
 
 /// The default of a declared column.
-#[tactic(auto, using(crate::proofs::Trees::reading))]
 fn default(alloc: Global, reader: &mut Reader) -> Result<Option<Lit>, BookFault>
     ensures reads { Reads (ADefault ∷ []) reader.old reader.new result }
     ensures is { IfOk result (λ lit. IsDefault reader.old.rest reader.new.rest lit) }
@@ -51,21 +51,12 @@ fn default(alloc: Global, reader: &mut Reader) -> Result<Option<Lit>, BookFault>
     }
 }
 
-/// A declared column.
-pub struct DeclMember;
-
-impl Member for DeclMember {
+// A declared column.
+impl Member for Decl {
     type Tree = Decl;
 
-    ghost one = { λ n. AFirst n ∷ AType ∷ ADefault ∷ [] };
+    ghost rule = { record { one = λ n. AFirst n ∷ AType ∷ ADefault ∷ []; more = MoreDecls; spells = IsDecl; goes_on = λ n c t. refl } };
 
-    ghost more = { MoreDecls };
-
-    ghost spells = { IsDecl };
-
-    ghost goes_on = { λ n c t. refl };
-
-    #[tactic(auto, using(crate::proofs::Trees::reading))]
     fn read(alloc: Global, reader: &mut Reader, before: usize) -> Result<Decl, BookFault> {
         let name = first_column(alloc, reader, before)?;
         let text = is_text(reader)?;
@@ -75,7 +66,6 @@ impl Member for DeclMember {
 }
 
 /// The output name of a column: its own, unless `as` gives another.
-#[tactic(auto, using(crate::proofs::Trees::reading))]
 fn named(alloc: Global, reader: &mut Reader, col: &Word) -> Result<Word, BookFault>
     ensures reads { Reads (AnAs ∷ []) reader.old reader.new result }
     ensures is { IfOk result (λ name. IsNamed col.now reader.old.rest reader.new.rest name) }
@@ -109,7 +99,6 @@ fn bin(col: Word, width: i64, name: Word) -> ItemTree
 }
 
 /// The second part of `bin`.
-#[tactic(auto, using(crate::proofs::Trees::reading))]
 fn width(reader: &mut Reader) -> Result<i64, BookFault>
     ensures reads { Reads (AWidth ∷ []) reader.old reader.new result }
     ensures is { IfOk result (λ width. IsWidth reader.old.rest reader.new.rest width) }
@@ -131,7 +120,7 @@ fn width(reader: &mut Reader) -> Result<i64, BookFault>
     }
 }
 
-#[tactic(auto, using(crate::proofs::Trees::reading))]
+/// An output column of bins.
 fn bin_item(alloc: Global, reader: &mut Reader, before: usize) -> Result<ItemTree, BookFault>
     requires { (head_of reader.old.rest).kind ≡ kinds.Bin }
     ensures reads { Reads (AnItem before ∷ []) reader.old reader.new result }
@@ -151,7 +140,7 @@ fn bin_item(alloc: Global, reader: &mut Reader, before: usize) -> Result<ItemTre
     Ok(bin(col, width, name))
 }
 
-#[tactic(auto, using(crate::proofs::Trees::reading))]
+/// An output column that is a column of the input.
 fn column_item(alloc: Global, reader: &mut Reader, before: usize) -> Result<ItemTree, BookFault>
     ensures reads { Reads (AFirst before ∷ AnAs ∷ []) reader.old reader.new result }
     ensures is { IfOk result (λ item. IsItem reader.old.rest reader.new.rest item) }
@@ -161,19 +150,11 @@ fn column_item(alloc: Global, reader: &mut Reader, before: usize) -> Result<Item
     Ok(ItemTree::Col { col, name })
 }
 
-/// An output column.
-pub struct ItemMember;
-
-impl Member for ItemMember {
+// An output column.
+impl Member for ItemTree {
     type Tree = ItemTree;
 
-    ghost one = { λ n. AnItem n ∷ [] };
-
-    ghost more = { MoreItems };
-
-    ghost spells = { IsItem };
-
-    ghost goes_on = { λ n c t. refl };
+    ghost rule = { record { one = λ n. AnItem n ∷ []; more = MoreItems; spells = IsItem; goes_on = λ n c t. refl } };
 
     #[tactic(auto, using(crate::proofs::Begins::begun))]
     fn read(alloc: Global, reader: &mut Reader, before: usize) -> Result<ItemTree, BookFault> {
@@ -185,7 +166,6 @@ impl Member for ItemMember {
 }
 
 /// What an aggregate computes.
-#[tactic(auto, using(crate::proofs::Trees::reading))]
 fn what(alloc: Global, reader: &mut Reader) -> Result<AggWhat, BookFault>
     ensures reads { Reads (AWhat ∷ []) reader.old reader.new result }
     ensures is { IfOk result (λ what. IsWhat reader.old.rest reader.new.rest what) }
@@ -211,21 +191,12 @@ fn what(alloc: Global, reader: &mut Reader) -> Result<AggWhat, BookFault>
     }
 }
 
-/// An aggregate.
-pub struct AggMember;
-
-impl Member for AggMember {
+// An aggregate.
+impl Member for AggTree {
     type Tree = AggTree;
 
-    ghost one = { λ n. AFirst n ∷ AToken kinds.Equal ∷ AWhat ∷ [] };
+    ghost rule = { record { one = λ n. AFirst n ∷ AToken kinds.Equal ∷ AWhat ∷ []; more = MoreAggs; spells = IsAgg; goes_on = λ n c t. refl } };
 
-    ghost more = { MoreAggs };
-
-    ghost spells = { IsAgg };
-
-    ghost goes_on = { λ n c t. refl };
-
-    #[tactic(auto, using(crate::proofs::Trees::reading))]
     fn read(alloc: Global, reader: &mut Reader, before: usize) -> Result<AggTree, BookFault> {
         let name = first_column(alloc, reader, before)?;
         let _ = expect(reader, TokenKind::Equal)?;
@@ -234,21 +205,12 @@ impl Member for AggMember {
     }
 }
 
-/// A pair of a join.
-pub struct PairMember;
-
-impl Member for PairMember {
+// A pair of a join.
+impl Member for PairTree {
     type Tree = PairTree;
 
-    ghost one = { λ n. AFirst n ∷ AToken kinds.Equal ∷ AColumn ∷ [] };
+    ghost rule = { record { one = λ n. AFirst n ∷ AToken kinds.Equal ∷ AColumn ∷ []; more = MorePairs; spells = IsPair; goes_on = λ n c t. refl } };
 
-    ghost more = { MorePairs };
-
-    ghost spells = { IsPair };
-
-    ghost goes_on = { λ n c t. refl };
-
-    #[tactic(auto, using(crate::proofs::Trees::reading))]
     fn read(alloc: Global, reader: &mut Reader, before: usize) -> Result<PairTree, BookFault> {
         let left = first_column(alloc, reader, before)?;
         let _ = expect(reader, TokenKind::Equal)?;
@@ -257,19 +219,11 @@ impl Member for PairMember {
     }
 }
 
-/// A key of a grouping.
-pub struct KeyMember;
-
-impl Member for KeyMember {
+// A key of a grouping.
+impl Member for Word {
     type Tree = Word;
 
-    ghost one = { λ n. AFirst n ∷ [] };
-
-    ghost more = { MoreKeys };
-
-    ghost spells = { IsColumn };
-
-    ghost goes_on = { λ n c t. refl };
+    ghost rule = { record { one = λ n. AFirst n ∷ []; more = MoreKeys; spells = IsColumn; goes_on = λ n c t. refl } };
 
     fn read(alloc: Global, reader: &mut Reader, before: usize) -> Result<Word, BookFault> {
         first_column(alloc, reader, before)
@@ -277,20 +231,13 @@ impl Member for KeyMember {
 }
 
 /// A linked view.
-pub struct LinkedMember;
+pub struct Linked;
 
-impl Member for LinkedMember {
+impl Member for Linked {
     type Tree = Word;
 
-    ghost one = { λ n. ALinked n ∷ [] };
+    ghost rule = { record { one = λ n. ALinked n ∷ []; more = MoreLinked; spells = IsName; goes_on = λ n c t. refl } };
 
-    ghost more = { MoreLinked };
-
-    ghost spells = { IsName };
-
-    ghost goes_on = { λ n c t. refl };
-
-    #[tactic(auto, using(crate::proofs::Trees::reading))]
     fn read(alloc: Global, reader: &mut Reader, before: usize) -> Result<Word, BookFault> {
         match reader.kind() {
             TokenKind::Name => {
@@ -310,13 +257,12 @@ pub fn keys(alloc: Global, reader: &mut Reader) -> Result<Words, BookFault>
     ensures is { IfOk result (λ list. AreKeys reader.old.rest reader.new.rest list) }
 {
     if is_column(reader.kind()) {
-        return listed::<KeyMember>(alloc, reader);
+        return listed::<Word>(alloc, reader);
     }
     Ok(Words::new(alloc))
 }
 
 /// The aggregates of a grouping.
-#[tactic(auto, using(crate::proofs::Trees::reading))]
 pub fn aggs(alloc: Global, reader: &mut Reader) -> Result<AggTrees, BookFault>
     ensures reads { Reads (AnAggs ∷ []) reader.old reader.new result }
     ensures is { IfOk result (λ list. AreAggs reader.old.rest reader.new.rest list) }
@@ -324,7 +270,7 @@ pub fn aggs(alloc: Global, reader: &mut Reader) -> Result<AggTrees, BookFault>
     match reader.kind() {
         TokenKind::OpenBrace => {
             reader.advance();
-            let list = listed::<AggMember>(alloc, reader)?;
+            let list = listed::<AggTree>(alloc, reader)?;
             let _ = expect(reader, TokenKind::CloseBrace)?;
             Ok(list)
         }

@@ -1,3 +1,5 @@
+#![tactic(auto, using(crate::proofs::Trees::reading))]
+
 ghost use Rattle.std.specs.Prelude.{◌≡◌, ◌∷◌, ◌<◌, [], IsTrue, IfOk, IfErr, OnOk};
 ghost use Rattle.smk_base.specs.declared.fault.BookFault.TheVariants.{NoMemory};
 ghost use Rattle.smk_model.specs.Tokens.{head_of};
@@ -64,7 +66,6 @@ pub fn take_column(alloc: Global, reader: &mut Reader) -> Result<Word, BookFault
 }
 
 /// A name of at most 64 bytes.
-#[tactic(auto, using(crate::proofs::Trees::reading))]
 pub fn name(alloc: Global, reader: &mut Reader) -> Result<Word, BookFault>
     ensures reads { Reads (AName ∷ []) reader.old reader.new result }
     ensures is { IfOk result (λ word. IsName reader.old.rest reader.new.rest word) }
@@ -79,7 +80,6 @@ pub fn name(alloc: Global, reader: &mut Reader) -> Result<Word, BookFault>
 }
 
 /// A name of any length.
-#[tactic(auto, using(crate::proofs::Trees::reading))]
 pub fn line_name(alloc: Global, reader: &mut Reader) -> Result<Word, BookFault>
     ensures reads { Reads (ALineName ∷ []) reader.old reader.new result }
     ensures is { IfOk result (λ word. IsName reader.old.rest reader.new.rest word) }
@@ -91,7 +91,6 @@ pub fn line_name(alloc: Global, reader: &mut Reader) -> Result<Word, BookFault>
 }
 
 /// A column of at most 64 bytes.
-#[tactic(auto, using(crate::proofs::Trees::reading))]
 pub fn column(alloc: Global, reader: &mut Reader) -> Result<Word, BookFault>
     ensures reads { Reads (AColumn ∷ []) reader.old reader.new result }
     ensures is { IfOk result (λ word. IsColumn reader.old.rest reader.new.rest word) }
@@ -104,7 +103,6 @@ pub fn column(alloc: Global, reader: &mut Reader) -> Result<Word, BookFault>
 }
 
 /// The column that begins a member of a list, of which so many stand before.
-#[tactic(auto, using(crate::proofs::Trees::reading))]
 pub fn first_column(alloc: Global, reader: &mut Reader, before: usize) -> Result<Word, BookFault>
     ensures reads { Reads (AFirst before ∷ []) reader.old reader.new result }
     ensures is { IfOk result (λ word. IsColumn reader.old.rest reader.new.rest word) }
@@ -118,7 +116,6 @@ pub fn first_column(alloc: Global, reader: &mut Reader, before: usize) -> Result
 }
 
 /// A column of any length.
-#[tactic(auto, using(crate::proofs::Trees::reading))]
 pub fn line_column(alloc: Global, reader: &mut Reader) -> Result<Word, BookFault>
     ensures reads { Reads (ALineColumn ∷ []) reader.old reader.new result }
     ensures is { IfOk result (λ word. IsColumn reader.old.rest reader.new.rest word) }

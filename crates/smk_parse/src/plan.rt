@@ -1,21 +1,24 @@
-ghost use Rattle.std.specs.Prelude.{◌≡◌, ◌∷◌, ◌+◌, ◌<◌, ◌≤◌, [], IsTrue, IfOk, IfErr, OnOk};
+#![tactic(auto, using(crate::proofs::Trees::reading))]
+
+ghost use Rattle.std.specs.Prelude.{◌≡◌, ◌∷◌, ◌+◌, ◌<◌, ◌≤◌, [], IsTrue, IfOk, IfErr, OnOk, ℕ};
 ghost use Rattle.smk_base.specs.declared.fault.BookFault.TheVariants.{TooMany};
 ghost use Rattle.smk_base.specs.declared.fault.Many.TheVariants.{Nodes};
+ghost use Rattle.smk_base.specs.declared.token.TokenKind.TheVariants as kinds;
 ghost use Rattle.smk_base.specs.TreeImage.{tree_image, step_image};
 ghost use Rattle.smk_model.specs.Tokens.{head_of, tail_of, is_more};
 ghost use Rattle.smk_model.specs.Grammar.{IsSource, IsPlan, IsStep};
 ghost use Rattle.smk_model.specs.Machine.{node_more, ASource, ASteps, AStep, AUnited};
 ghost use Rattle.smk_parse.specs.Readers.{Advances};
-ghost use Rattle.smk_parse.specs.Reads.{Reads};
-ghost use Rattle.smk_parse.specs.Groupings.{IsUnited};
+ghost use Rattle.smk_parse.specs.Reads.{Reads, Comes};
+ghost use Rattle.smk_parse.specs.Groupings.{HasAll};
 
 use crate::listed::listed;
-use crate::lists::{ItemMember, PairMember, aggs, keys};
+use crate::lists::{aggs, keys};
 use crate::names::name;
 use crate::pred::{on, pred};
 use crate::reader::Reader;
 use crate::taken::{expect, within, wrong};
-use smk_base::{BookFault, Many, StepTree, TokenKind, Tree};
+use smk_base::{BookFault, ItemTree, Many, PairTree, StepTree, TokenKind, Tree};
 use std::alloc::Global;
 
 /// The token in hand is taken, and makes a node of the plan.
@@ -35,54 +38,27 @@ fn take_node(reader: &mut Reader) -> Result<(), BookFault>
     Ok(())
 }
 
-/// A table, or a plan in parentheses.
-#[tactic(auto, using(crate::proofs::Trees::reading))]
-#[cycle(plan)]
-fn source(alloc: Global, reader: &mut Reader, depth: u32) -> Result<Tree, BookFault>
-    ensures reads { Reads (ASource depth ∷ []) reader.old reader.new result }
-    ensures is { IfOk result (λ tree. IsSource reader.old.rest reader.new.rest (tree_image tree)) }
-{
-    let at = reader.at();
-    match reader.kind() {
-        TokenKind::Scan => {
-            take_node(reader)?;
-            Ok(Tree::Scan(name(alloc, reader)?))
-        }
-        TokenKind::Open => {
-            within(reader, depth < 32, Many::Depth)?;
-            reader.advance();
-            let inner = plan(alloc, reader, depth + 1)?;
-            let _ = expect(reader, TokenKind::Close)?;
-            Ok(inner)
-        }
-        _ => Err(wrong(reader)),
-    }
-}
-
-/// What a union unites with, and whether it keeps repeats.
-#[tactic(auto, using(crate::proofs::Trees::reading, crate::proofs::Begins::begun))]
-#[cycle(plan)]
-fn united(alloc: Global, reader: &mut Reader, depth: u32) -> Result<(bool, Tree), BookFault>
-    ensures reads { Reads (AUnited depth ∷ []) reader.old reader.new result }
-    ensures is { IfOk result (λ both. IsUnited reader.old.rest reader.new.rest both.0 (tree_image both.1)) }
+/// Whether `all` stands here, which is taken.
+#[tactic(auto, using(crate::proofs::Begins::united))]
+fn takes_all(reader: &mut Reader) -> bool
+    ensures reads { (depth : ℕ) → Comes (AUnited depth ∷ []) (ASource depth ∷ []) reader.old reader.new }
+    ensures is { HasAll result reader.old.rest reader.new.rest }
 {
     match reader.kind() {
         TokenKind::All => {
             reader.advance();
-            let right = source(alloc, reader, depth)?;
-            Ok((true, right))
+            true
         }
-        _ => {
-            let right = source(alloc, reader, depth)?;
-            Ok((false, right))
-        }
+        _ => false,
     }
 }
 
-/// A step.
-#[tactic(auto, using(crate::proofs::Trees::reading))]
-#[cycle(plan)]
-fn step(alloc: Global, reader: &mut Reader, depth: u32) -> Result<StepTree, BookFault>
+/// A step without a source of its own.
+fn single_step(alloc: Global, reader: &mut Reader, depth: u32) -> Result<StepTree, BookFault>
+    requires join { (head_of reader.old.rest).kind ≡ kinds.Join → ⊥ }
+    requires theta { (head_of reader.old.rest).kind ≡ kinds.Theta → ⊥ }
+    requires product { (head_of reader.old.rest).kind ≡ kinds.Product → ⊥ }
+    requires union { (head_of reader.old.rest).kind ≡ kinds.Union → ⊥ }
     ensures reads { Reads (AStep depth ∷ []) reader.old reader.new result }
     ensures is { IfOk result (λ step. IsStep reader.old.rest reader.new.rest (head_of reader.old.rest).at (step_image step)) }
 {
@@ -93,47 +69,81 @@ fn step(alloc: Global, reader: &mut Reader, depth: u32) -> Result<StepTree, Book
         }
         TokenKind::Project => {
             take_node(reader)?;
-            Ok(StepTree::Project(listed::<ItemMember>(alloc, reader)?))
+            Ok(StepTree::Project(listed::<ItemTree>(alloc, reader)?))
         }
         TokenKind::Distinct => {
             take_node(reader)?;
-            Ok(StepTree::Distinct(listed::<ItemMember>(alloc, reader)?))
+            Ok(StepTree::Distinct(listed::<ItemTree>(alloc, reader)?))
         }
         TokenKind::Group => {
             take_node(reader)?;
             let keys = keys(alloc, reader)?;
             Ok(StepTree::Group(keys, aggs(alloc, reader)?))
         }
+        _ => Err(wrong(reader)),
+    }
+}
+
+/// A table, or a plan in parentheses.
+#[cycle(plan)]
+fn source(alloc: Global, reader: &mut Reader, depth: u32) -> Result<Box<Tree>, BookFault>
+    ensures reads { Reads (ASource depth ∷ []) reader.old reader.new result }
+    ensures is { IfOk result (λ tree. IsSource reader.old.rest reader.new.rest (tree_image tree.value)) }
+{
+    match reader.kind() {
+        TokenKind::Scan => {
+            take_node(reader)?;
+            let table = name(alloc, reader)?;
+            Ok(Box::new(alloc, Tree::Scan(table))?)
+        }
+        TokenKind::Open => {
+            within(reader, depth < 32, Many::Depth)?;
+            reader.advance();
+            let inner = plan(alloc, reader, depth + 1)?;
+            let _ = expect(reader, TokenKind::Close)?;
+            Ok(Box::new(alloc, inner)?)
+        }
+        _ => Err(wrong(reader)),
+    }
+}
+
+/// A step.
+#[tactic(auto, using(crate::proofs::Trees::reading, crate::proofs::Begins::united))]
+#[cycle(plan)]
+fn step(alloc: Global, reader: &mut Reader, depth: u32) -> Result<StepTree, BookFault>
+    ensures reads { Reads (AStep depth ∷ []) reader.old reader.new result }
+    ensures is { IfOk result (λ step. IsStep reader.old.rest reader.new.rest (head_of reader.old.rest).at (step_image step)) }
+{
+    match reader.kind() {
         TokenKind::Join => {
             take_node(reader)?;
             let right = source(alloc, reader, depth)?;
             let _ = expect(reader, TokenKind::On)?;
-            let pairs = listed::<PairMember>(alloc, reader)?;
-            Ok(StepTree::Join(Box::new(alloc, right)?, pairs))
+            let pairs = listed::<PairTree>(alloc, reader)?;
+            Ok(StepTree::Join(right, pairs))
         }
         TokenKind::Theta => {
             take_node(reader)?;
             let right = source(alloc, reader, depth)?;
             on(reader)?;
             let pred = pred(alloc, reader, depth)?;
-            Ok(StepTree::Theta(Box::new(alloc, right)?, pred))
+            Ok(StepTree::Theta(right, pred))
         }
         TokenKind::Product => {
             take_node(reader)?;
-            let right = source(alloc, reader, depth)?;
-            Ok(StepTree::Product(Box::new(alloc, right)?))
+            Ok(StepTree::Product(source(alloc, reader, depth)?))
         }
         TokenKind::Union => {
             take_node(reader)?;
-            let (all, right) = united(alloc, reader, depth)?;
-            let right = Box::new(alloc, right)?;
+            let all = takes_all(reader);
+            let right = source(alloc, reader, depth)?;
             if all {
                 Ok(StepTree::UnionAll(right))
             } else {
                 Ok(StepTree::Union(right))
             }
         }
-        _ => Err(wrong(reader)),
+        _ => single_step(alloc, reader, depth),
     }
 }
 
@@ -149,11 +159,12 @@ pub fn plan(alloc: Global, reader: &mut Reader, depth: u32) -> Result<Tree, Book
         reader.advance();
         let at = reader.at();
         let what = step(alloc, reader, depth)?;
-        left = Tree::Step {
+        let step = Tree::Step {
             at,
-            input: Box::new(alloc, left)?,
+            input: left,
             what,
         };
+        left = Box::new(alloc, step)?;
     }
-    Ok(left)
+    Ok(Box::into_inner(left))
 }

@@ -1,4 +1,6 @@
-ghost use Rattle.std.specs.Prelude.{◌∷◌, ◌+◌, ◌<◌, [], IfOk, OnOk};
+#![tactic(auto, using(crate::proofs::Trees::reading))]
+
+ghost use Rattle.std.specs.Prelude.{◌≡◌, ◌∷◌, ◌+◌, ◌<◌, [], ℕ, IfOk, OnOk};
 ghost use Rattle.smk_base.specs.declared.token.TokenKind.TheVariants as kinds;
 ghost use Rattle.smk_base.specs.TreeImage.{pred_image};
 ghost use Rattle.smk_model.specs.Tokens.{head_of};
@@ -13,7 +15,6 @@ use smk_base::{BookFault, CmpOp, Many, PredTree, Term, TokenKind};
 use std::alloc::Global;
 
 /// The `on` before a predicate, whose comparisons are counted from none.
-#[tactic(auto, using(crate::proofs::Trees::reading))]
 pub fn on(reader: &mut Reader) -> Result<(), BookFault>
     ensures reads { Reads (AnOn ∷ []) reader.old reader.new result }
     ensures is { OnOk result (First kinds.On (head_of reader.old.rest) reader.old.rest reader.new.rest) }
@@ -29,7 +30,6 @@ pub fn on(reader: &mut Reader) -> Result<(), BookFault>
 }
 
 /// A comparison's operator.
-#[tactic(auto, using(crate::proofs::Trees::reading))]
 fn op(reader: &mut Reader) -> Result<CmpOp, BookFault>
     ensures reads { Reads (AnOp ∷ []) reader.old reader.new result }
     ensures is { IfOk result (λ op. IsOp reader.old.rest reader.new.rest op) }
@@ -69,64 +69,70 @@ fn term(alloc: Global, reader: &mut Reader) -> Result<Term, BookFault>
     ensures reads { Reads (ATerm ∷ []) reader.old reader.new result }
     ensures is { IfOk result (λ term. IsTerm reader.old.rest reader.new.rest term) }
 {
-    match reader.kind() {
-        TokenKind::Number => Ok(Term::Lit(literal(alloc, reader)?)),
-        TokenKind::Str => Ok(Term::Lit(literal(alloc, reader)?)),
-        _ => Ok(Term::Col(column(alloc, reader)?)),
+    if is_column(reader.kind()) {
+        Ok(Term::Col(column(alloc, reader)?))
+    } else {
+        Ok(Term::Lit(literal(alloc, reader)?))
     }
 }
 
-/// A predicate without `and` and `or` of its own.
-#[tactic(auto, using(crate::proofs::Trees::reading))]
-#[cycle(pred)]
-fn prim(alloc: Global, reader: &mut Reader, depth: u32) -> Result<PredTree, BookFault>
-    ensures reads { Reads (APrim depth ∷ []) reader.old reader.new result }
-    ensures is { IfOk result (λ pred. IsPrim reader.old.rest reader.new.rest (pred_image pred)) }
+/// A comparison.
+fn compare(alloc: Global, reader: &mut Reader) -> Result<Box<PredTree>, BookFault>
+    requires negates { (head_of reader.old.rest).kind ≡ kinds.Not → ⊥ }
+    requires opens { (head_of reader.old.rest).kind ≡ kinds.Open → ⊥ }
+    ensures reads { (depth : ℕ) → Reads (APrim depth ∷ []) reader.old reader.new result }
+    ensures is { IfOk result (λ pred. IsPrim reader.old.rest reader.new.rest (pred_image pred.value)) }
 {
-    let at = reader.at();
+    if !is_column(reader.kind()) {
+        return Err(wrong(reader));
+    }
+    let compares = reader.compares();
+    within(reader, compares < 128, Many::Compares)?;
+    within(reader, is_short(reader), Many::NameBytes)?;
+    let left = column_in_hand(alloc, reader)?;
+    let nodes = reader.nodes();
+    reader.advance_to(nodes, compares + 1);
+    let op = op(reader)?;
+    let right = term(alloc, reader)?;
+    Ok(Box::new(alloc, PredTree::Cmp(left, op, right))?)
+}
+
+/// A predicate without `and` and `or` of its own.
+#[cycle(pred)]
+fn prim(alloc: Global, reader: &mut Reader, depth: u32) -> Result<Box<PredTree>, BookFault>
+    ensures reads { Reads (APrim depth ∷ []) reader.old reader.new result }
+    ensures is { IfOk result (λ pred. IsPrim reader.old.rest reader.new.rest (pred_image pred.value)) }
+{
     match reader.kind() {
         TokenKind::Not => {
             within(reader, depth < 32, Many::Depth)?;
             reader.advance();
             let inner = prim(alloc, reader, depth + 1)?;
-            Ok(PredTree::Not(Box::new(alloc, inner)?))
+            Ok(Box::new(alloc, PredTree::Not(inner))?)
         }
         TokenKind::Open => {
             within(reader, depth < 32, Many::Depth)?;
             reader.advance();
             let inner = pred(alloc, reader, depth + 1)?;
             let _ = expect(reader, TokenKind::Close)?;
-            Ok(inner)
+            Ok(Box::new(alloc, inner)?)
         }
-        _ => {
-            if !is_column(reader.kind()) {
-                return Err(wrong(reader));
-            }
-            let compares = reader.compares();
-            within(reader, compares < 128, Many::Compares)?;
-            within(reader, is_short(reader), Many::NameBytes)?;
-            let left = column_in_hand(alloc, reader)?;
-            let nodes = reader.nodes();
-            reader.advance_to(nodes, compares + 1);
-            let op = op(reader)?;
-            let right = term(alloc, reader)?;
-            Ok(PredTree::Cmp(left, op, right))
-        }
+        _ => compare(alloc, reader),
     }
 }
 
 /// Predicates joined by `and`.
 #[tactic(auto, using(crate::proofs::Trees::reading, crate::proofs::Steps::in_loop))]
 #[cycle(pred)]
-fn conj(alloc: Global, reader: &mut Reader, depth: u32) -> Result<PredTree, BookFault>
+fn conj(alloc: Global, reader: &mut Reader, depth: u32) -> Result<Box<PredTree>, BookFault>
     ensures reads { Reads (APrim depth ∷ AnAnds depth ∷ []) reader.old reader.new result }
-    ensures is { IfOk result (λ pred. IsConj reader.old.rest reader.new.rest (pred_image pred)) }
+    ensures is { IfOk result (λ pred. IsConj reader.old.rest reader.new.rest (pred_image pred.value)) }
 {
     let mut left = prim(alloc, reader, depth)?;
     'ands: while let TokenKind::And = reader.kind() {
         reader.advance();
         let right = prim(alloc, reader, depth)?;
-        left = PredTree::And(Box::new(alloc, left)?, Box::new(alloc, right)?);
+        left = Box::new(alloc, PredTree::And(left, right))?;
     }
     Ok(left)
 }
@@ -142,7 +148,7 @@ pub fn pred(alloc: Global, reader: &mut Reader, depth: u32) -> Result<PredTree, 
     'ors: while let TokenKind::Or = reader.kind() {
         reader.advance();
         let right = conj(alloc, reader, depth)?;
-        left = PredTree::Or(Box::new(alloc, left)?, Box::new(alloc, right)?);
+        left = Box::new(alloc, PredTree::Or(left, right))?;
     }
-    Ok(left)
+    Ok(Box::into_inner(left))
 }

@@ -1,3 +1,5 @@
+#![tactic(auto, using(crate::proofs::Trees::reading))]
+
 ghost use Rattle.std.specs.Prelude.{◌≡◌, ◌∷◌, ◌<◌, [], List, length, IfOk, OnOk};
 ghost use Rattle.smk_base.specs.declared.token.TokenKind.TheVariants as kinds;
 ghost use Rattle.smk_base.specs.TreeImage.{stmt_image};
@@ -8,12 +10,12 @@ ghost use Rattle.smk_parse.specs.Reads.{Reads};
 ghost use Rattle.smk_parse.specs.Tallies.{StmtReads};
 
 use crate::listed::listed;
-use crate::lists::{DeclMember, LinkedMember, aggs, keys};
+use crate::lists::{Linked, aggs, keys};
 use crate::names::{column, name};
 use crate::plan::plan;
 use crate::reader::Reader;
 use crate::taken::{expect, string_in_hand, within, wrong};
-use smk_base::{BookFault, Extra, Many, Stmt, Text, TokenKind};
+use smk_base::{BookFault, Decl, Extra, Many, Stmt, Text, TokenKind};
 use std::alloc::Global;
 
 /// The statements of each kind so far.
@@ -26,7 +28,6 @@ pub struct Tally {
 }
 
 /// The name of a file.
-#[tactic(auto, using(crate::proofs::Trees::reading))]
 fn file(alloc: Global, reader: &mut Reader) -> Result<Text, BookFault>
     ensures reads { Reads (AToken kinds.Str ∷ []) reader.old reader.new result }
     ensures is { IfOk result (λ file. IsFile reader.old.rest reader.new.rest file) }
@@ -42,7 +43,6 @@ fn file(alloc: Global, reader: &mut Reader) -> Result<Text, BookFault>
 }
 
 /// A table statement behind its keyword.
-#[tactic(auto, using(crate::proofs::Trees::reading))]
 fn table_stmt(alloc: Global, reader: &mut Reader) -> Result<Stmt, BookFault>
     ensures reads { Reads (AName ∷ AToken kinds.From ∷ AToken kinds.Str ∷ AToken kinds.Open ∷ AFirst 0 ∷ AType ∷ ADefault ∷ MoreDecls 1 ∷ AToken kinds.Close ∷ []) reader.old reader.new result }
     ensures is { IfOk result (λ stmt. (a : List Token) → (t : Token) → First kinds.Table t a reader.old.rest → IsStmt a reader.new.rest (stmt_image stmt)) }
@@ -51,13 +51,12 @@ fn table_stmt(alloc: Global, reader: &mut Reader) -> Result<Stmt, BookFault>
     let _ = expect(reader, TokenKind::From)?;
     let file = file(alloc, reader)?;
     let _ = expect(reader, TokenKind::Open)?;
-    let cols = listed::<DeclMember>(alloc, reader)?;
+    let cols = listed::<Decl>(alloc, reader)?;
     let _ = expect(reader, TokenKind::Close)?;
     Ok(Stmt::Table { name, file, cols })
 }
 
 /// A view statement behind its keyword.
-#[tactic(auto, using(crate::proofs::Trees::reading))]
 fn view_stmt(alloc: Global, reader: &mut Reader) -> Result<Stmt, BookFault>
     ensures reads { Reads (AName ∷ AToken kinds.Equal ∷ ASource 0 ∷ ASteps 0 ∷ []) reader.old reader.new result }
     ensures is { IfOk result (λ stmt. (a : List Token) → (t : Token) → First kinds.View t a reader.old.rest → IsStmt a reader.new.rest (stmt_image stmt)) }
@@ -69,7 +68,6 @@ fn view_stmt(alloc: Global, reader: &mut Reader) -> Result<Stmt, BookFault>
 }
 
 /// What a backward declaration asks for besides the rows.
-#[tactic(auto, using(crate::proofs::Trees::reading))]
 fn extra(alloc: Global, reader: &mut Reader) -> Result<Extra, BookFault>
     ensures reads { Reads (AnExtra ∷ []) reader.old reader.new result }
     ensures is { IfOk result (λ extra. IsExtra reader.old.rest reader.new.rest extra) }
@@ -91,7 +89,6 @@ fn extra(alloc: Global, reader: &mut Reader) -> Result<Extra, BookFault>
 }
 
 /// A lineage declaration behind `lineage`, which stands at this place.
-#[tactic(auto, using(crate::proofs::Trees::reading))]
 fn lineage_stmt(alloc: Global, reader: &mut Reader, at: u64) -> Result<Stmt, BookFault>
     ensures reads { Reads (ALineage ∷ []) reader.old reader.new result }
     ensures is { IfOk result (λ stmt. (a : List Token) → (t : Token) → First kinds.Lineage t a reader.old.rest → at ≡ t.at → IsStmt a reader.new.rest (stmt_image stmt)) }
@@ -122,7 +119,6 @@ fn lineage_stmt(alloc: Global, reader: &mut Reader, at: u64) -> Result<Stmt, Boo
 }
 
 /// A link statement behind its keyword.
-#[tactic(auto, using(crate::proofs::Trees::reading))]
 fn link_stmt(alloc: Global, reader: &mut Reader) -> Result<Stmt, BookFault>
     ensures reads { Reads (AName ∷ AToken kinds.On ∷ AName ∷ AToken kinds.To ∷ ALinked 0 ∷ MoreLinked 1 ∷ []) reader.old reader.new result }
     ensures is { IfOk result (λ stmt. (a : List Token) → (t : Token) → First kinds.Link t a reader.old.rest → IsStmt a reader.new.rest (stmt_image stmt)) }
@@ -131,7 +127,7 @@ fn link_stmt(alloc: Global, reader: &mut Reader) -> Result<Stmt, BookFault>
     let _ = expect(reader, TokenKind::On)?;
     let table = name(alloc, reader)?;
     let _ = expect(reader, TokenKind::To)?;
-    let to = listed::<LinkedMember>(alloc, reader)?;
+    let to = listed::<Linked>(alloc, reader)?;
     Ok(Stmt::Link { view, table, to })
 }
 
@@ -148,30 +144,26 @@ pub fn stmt(alloc: Global, reader: &mut Reader, tally: &mut Tally) -> Result<Stm
         TokenKind::Table => {
             within(reader, tally.tables < 16, Many::Tables)?;
             reader.advance_to(0, 0);
-            let stmt = table_stmt(alloc, reader)?;
             tally.tables += 1;
-            Ok(stmt)
+            table_stmt(alloc, reader)
         }
         TokenKind::View => {
             within(reader, tally.views < 64, Many::Views)?;
             reader.advance_to(0, 0);
-            let stmt = view_stmt(alloc, reader)?;
             tally.views += 1;
-            Ok(stmt)
+            view_stmt(alloc, reader)
         }
         TokenKind::Lineage => {
             within(reader, tally.lineages < 256, Many::Lineages)?;
             reader.advance_to(0, 0);
-            let stmt = lineage_stmt(alloc, reader, at)?;
             tally.lineages += 1;
-            Ok(stmt)
+            lineage_stmt(alloc, reader, at)
         }
         TokenKind::Link => {
             within(reader, tally.links < 64, Many::Links)?;
             reader.advance_to(0, 0);
-            let stmt = link_stmt(alloc, reader)?;
             tally.links += 1;
-            Ok(stmt)
+            link_stmt(alloc, reader)
         }
         _ => Err(wrong(reader)),
     }

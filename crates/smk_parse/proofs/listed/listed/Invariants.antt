@@ -5,8 +5,8 @@ use Rattle.smk_parse.proofs.listed.listed.Given as goal
 
 abbrev pub invariant-commas : goal.invariant-commas
 invariant-commas g l = record {
-  reads : Comes (g.M.Member.one 0 ++ g.M.Member.more 1 ∷ []) (g.M.Member.more (length l.list) ∷ []) l.fn.reader l.reader;
-  is : EndsList g.M.Member.spells l.fn.reader.rest l.reader.rest l.list;
+  reads : Comes (g.M.Member.rule.one 0 ++ g.M.Member.rule.more 1 ∷ []) (g.M.Member.rule.more (length l.list) ∷ []) l.fn.reader l.reader;
+  is : EndsList g.M.Member.rule.spells l.fn.reader.rest l.reader.rest l.list;
 }
 
 abbrev pub decreases-commas : goal.decreases-commas

@@ -3,7 +3,7 @@ use Rattle.smk_model.specs.Tokens.{head_of}
 use Rattle.smk_model.specs.Machine.{AFirst, AKeys, MoreKeys}
 use Rattle.smk_parse.specs.Columns.{is_column}
 use Rattle.smk_parse.proofs.Begins.{keys_start}
-use Rattle.smk_parse.proofs.Tails.{started_reads}
+use Rattle.smk_parse.proofs.Begins.{started_reads}
 use Rattle.smk_parse.proofs.lists.keys.Goals as goal
 
 pub returns-then-is_column-clause-reads : goal.returns-then-is_column-clause-reads

@@ -2,23 +2,20 @@ use Rattle.std.proofs.Common.{◌+◌, ◌-◌, ◌*◌, [], ◌∷◌, length}
 use Rattle.smk_base.specs.TreeImage.{tree_image}
 use Rattle.smk_model.specs.Grammar.{AreSteps, IsPlan}
 use Rattle.smk_model.specs.Machine.{ASource, ASteps}
-use Rattle.smk_parse.proofs.Chains.{IsChain}
+use Rattle.smk_parse.proofs.Steps.{IsChain}
 use Rattle.smk_parse.proofs.plan.+plan.Given as goal
 
 abbrev pub decreases-source : goal.decreases-source
 decreases-source l = (32 - l.depth) * 4
 
-abbrev pub decreases-united : goal.decreases-united
-decreases-united l = (32 - l.depth) * 4 + 1
-
 abbrev pub decreases-step : goal.decreases-step
-decreases-step l = (32 - l.depth) * 4 + 2
+decreases-step l = (32 - l.depth) * 4 + 1
 
 abbrev pub decreases-plan : goal.decreases-plan
-decreases-plan l = (32 - l.depth) * 4 + 3
+decreases-plan l = (32 - l.depth) * 4 + 2
 
 abbrev pub invariant-plan-steps : goal.invariant-plan-steps
-invariant-plan-steps l = IsChain (ASource l.depth ∷ ASteps l.depth ∷ []) (ASteps l.depth) AreSteps IsPlan l.fn.reader l.reader (tree_image l.left)
+invariant-plan-steps l = IsChain (ASource l.depth ∷ ASteps l.depth ∷ []) (ASteps l.depth) AreSteps IsPlan l.fn.reader l.reader (tree_image l.left.value)
 
 abbrev pub decreases-plan-steps : goal.decreases-plan-steps
 decreases-plan-steps l = length l.reader.rest

@@ -2,7 +2,7 @@ use Rattle.std.proofs.Common.{◌+◌, ◌-◌, ◌*◌, [], ◌∷◌, length}
 use Rattle.smk_base.specs.TreeImage.{pred_image}
 use Rattle.smk_model.specs.Grammar.{AreAnds, IsConj, AreOrs, IsPred}
 use Rattle.smk_model.specs.Machine.{APrim, AnAnds, AnOrs}
-use Rattle.smk_parse.proofs.Chains.{IsChain}
+use Rattle.smk_parse.proofs.Steps.{IsChain}
 use Rattle.smk_parse.proofs.pred.+pred.Given as goal
 
 abbrev pub decreases-prim : goal.decreases-prim
@@ -15,13 +15,13 @@ abbrev pub decreases-pred : goal.decreases-pred
 decreases-pred l = (32 - l.depth) * 4 + 2
 
 abbrev pub invariant-conj-ands : goal.invariant-conj-ands
-invariant-conj-ands l = IsChain (APrim l.depth ∷ AnAnds l.depth ∷ []) (AnAnds l.depth) AreAnds IsConj l.fn.reader l.reader (pred_image l.left)
+invariant-conj-ands l = IsChain (APrim l.depth ∷ AnAnds l.depth ∷ []) (AnAnds l.depth) AreAnds IsConj l.fn.reader l.reader (pred_image l.left.value)
 
 abbrev pub decreases-conj-ands : goal.decreases-conj-ands
 decreases-conj-ands l = length l.reader.rest
 
 abbrev pub invariant-pred-ors : goal.invariant-pred-ors
-invariant-pred-ors l = IsChain (APrim l.depth ∷ AnAnds l.depth ∷ AnOrs l.depth ∷ []) (AnOrs l.depth) AreOrs IsPred l.fn.reader l.reader (pred_image l.left)
+invariant-pred-ors l = IsChain (APrim l.depth ∷ AnAnds l.depth ∷ AnOrs l.depth ∷ []) (AnOrs l.depth) AreOrs IsPred l.fn.reader l.reader (pred_image l.left.value)
 
 abbrev pub decreases-pred-ors : goal.decreases-pred-ors
 decreases-pred-ors l = length l.reader.rest

@@ -1,8 +1,8 @@
 use Rattle.std.proofs.Common.{[], ◌∷◌, ◌∙◌}
 use Rattle.smk_model.specs.Machine.{AFirst, AnAs, AnItem}
 use Rattle.smk_parse.proofs.Begins.{item_starts}
-use Rattle.smk_parse.proofs.Tails.{started_reads}
-use Rattle.smk_parse.proofs.lists.ItemMemberMember.read.Goals as goal
+use Rattle.smk_parse.proofs.Begins.{started_reads}
+use Rattle.smk_parse.proofs.lists.ItemTreeMember.read.Goals as goal
 
 pub returns-in_default : goal.returns-in_default
 returns-in_default c = record {
