@@ -1,8 +1,8 @@
 -- What the statements of a book declare is there and fits.
 use Rattle.std.proofs.Common.{◌≡◌, ◌∙◌, ◌+◌, ◌<◌, ℕ, Bool, true, false, not, List, [], ◌∷◌, ◌++◌, length, map, get_or, Option, Some, None, Ok, refl, sym, ap, subst, arith, All, nat_eq}
 use Rattle.std.specs.List.{list_any}
-use Rattle.std.proofs.lemmas.List.{length-map, length-append, map-append, append-nil, get_or_append_left}
-use Rattle.std.proofs.lemmas.List.Elements.{All-push, All-nil}
+use Rattle.std.proofs.lemmas.List.{length-map, length_push, map-append, append-nil, get_or_append_left}
+use Rattle.std.proofs.lemmas.List.Elements.{All-push, All-nil, All-weaker}
 use Rattle.smk_base.specs.declared.value.Kind.{Kind}
 use Rattle.smk_base.specs.declared.value.Value.{Value}
 use Rattle.smk_base.specs.declared.value.Value.TheVariants as values
@@ -28,18 +28,16 @@ use Rattle.smk_model.specs.Kinds.{AreAlike, kind_of}
 use Rattle.smk_model.specs.Tables.{IsBase, IsBaseColumn}
 use Rattle.smk_model.specs.Plain.{leaves}
 use Rattle.smk_model.specs.Selection.{ScansFit, PlanFits, leaf_kinds, plan_kinds}
-use Rattle.smk_model.specs.Limits.{KeepsStmt, KeepsDecls, KeepsPlan, IsInRange, DefaultInRange}
+use Rattle.smk_model.specs.Limits.{KeepsStmt, KeepsDecls, KeepsPlan, IsInRange, DefaultInRange, is_table, is_view}
 use Rattle.smk_model.specs.TypedSteps.{TypedPlan, typed_group}
 use Rattle.smk_model.specs.Typing.{stmt_after, nothing_declared, columns_of, info_at, no_table, table_named, view_named, typed_plan, declared_kind, declared_column, decl_after, table_after, view_of, view_after, typed_extra, same_back, back_after, same_fwd, fwd_after, same_link, linked_to, all_linked, to_after, link_after}
 use Rattle.smk_model.specs.Catalogs.{table_kinds, each_table_kinds, ViewFits, ExtraFits, BackFits, FwdFits, LinkFits, IsTyped}
+use Rattle.smk_typing.specs.Rest.{one_if}
 use Rattle.smk_typing.proofs.Results.{made_of, unless_ok, ok_keeps, in_turn_keeps}
 use Rattle.smk_typing.proofs.StepsFit.{named_is, kinds_long, alike}
 use Rattle.smk_typing.proofs.ListsFit.{group_stands}
 use Rattle.smk_typing.proofs.PlansFit.{plan_stands, table_is}
 use Rattle.smk_typing.proofs.Lookups.{named_within}
-
-each_imp : {X : Type 0} (P Q : X → Type 0) (xs : List X) → ((x : X) → P x → Q x) → All P xs → All Q xs
-each_imp P Q xs f all = λ k d p. f (get_or xs k d) (all k d p)
 
 -- more tables
 
@@ -55,16 +53,13 @@ kinds_more (Combine op a b) K last s =
     map-append (λ t. get_or (K ++ last ∷ []) t []) (leaves a) (leaves b) ∙ ap (λ l. l ++ leaf_kinds b (K ++ last ∷ [])) (kinds_more a K last s.0) ∙ ap (λ l. leaf_kinds a K ++ l) (kinds_more b K last s.1)
     ∙ sym (map-append (λ t. get_or K t []) (leaves a) (leaves b))
 
-one_more : {X : Type 0} (xs : List X) (x : X) → length (xs ++ x ∷ []) ≡ length xs + 1
-one_more xs x = length-append xs (x ∷ [])
-
 view_over_more : (tables : List TableInfo) (table : TableInfo) (view : ViewImage) → ViewFits tables view → ViewFits (tables ++ table ∷ []) view
 view_over_more tables table view fits =
     let K : List (List Kind) = each_table_kinds tables in
     let in_K : ScansFit (length K) view.plan = subst (λ n. ScansFit n view.plan) (sym (length-map tables table_kinds)) fits.scans in
     let same : leaf_kinds view.plan (each_table_kinds (tables ++ table ∷ [])) ≡ leaf_kinds view.plan K = ap (leaf_kinds view.plan) (map-append table_kinds tables (table ∷ [])) ∙ kinds_more view.plan K (table_kinds table) in_K in
     record {
-      scans = subst (λ n. ScansFit n view.plan) (sym (one_more tables table)) (scans_more view.plan (length tables) fits.scans);
+      scans = subst (λ n. ScansFit n view.plan) (sym (length_push tables table)) (scans_more view.plan (length tables) fits.scans);
       fits = subst (PlanFits view.plan) (sym same) fits.fits;
       kinds = ap (plan_kinds view.plan) same ∙ fits.kinds;
       named = fits.named;
@@ -74,14 +69,11 @@ view_over_more tables table view fits =
 back_over_more : (tables : List TableInfo) (table : TableInfo) (views : ℕ) (back : Back) → BackFits tables views back → BackFits (tables ++ table ∷ []) views back
 back_over_more tables table views back fits = record {
   view = fits.view;
-  table = omega (arith, fits.table, one_more tables table);
+  table = omega (arith, fits.table, length_push tables table);
   extra = subst (λ t. ExtraFits (table_kinds t) back.extra) (sym (get_or_append_left tables (table ∷ []) no_table back.table fits.table)) fits.extra;
 }
 
 -- more declarations
-
-low_more : (n m : ℕ) (ws : List ℕ) → m ≡ n + 1 → All (λ w. w < n) ws → All (λ w. w < m) ws
-low_more n m ws e all = each_imp (λ w. w < n) (λ w. w < m) ws (λ w l. omega (arith, e, l)) all
 
 abbrev ColumnsFit : List ColDecl → Type 0
 ColumnsFit cols = All IsBaseColumn cols
@@ -110,9 +102,7 @@ decl_more old new decl held range e =
     ok_keeps ColumnsFit _ new col.2 (All-push IsBaseColumn old col.0 held (column_stands decl decl.def col.0 range col.1))
 
 view_is : (views : List ViewImage) (word : Word) (v : ℕ) → view_named views word ≡ Ok v → v < length views
-view_is views word v e =
-    let below = named_within (same_name word.name) (map (λ (view : ViewImage). view.name) views) (UnknownView word.at) v e in
-    omega (arith, below, length-map views (λ (view : ViewImage). view.name))
+view_is views word v e = named_within (λ (view : ViewImage). view.name) views word.name (UnknownView word.at) v e
 
 extra_stands : (columns : List Column) (extra : Extra) (asked : BackExtra) → typed_extra columns extra ≡ Ok asked → ExtraFits (kinds_of columns) asked
 extra_stands columns extras.Plain asked e = ok_keeps (ExtraFits (kinds_of columns)) _ asked e tt
@@ -146,39 +136,56 @@ to_more catalog v t old new word held any e =
 
 -- one more statement
 
-table_kept : (old new : CatalogImage) (name : Word) (file : List ℕ) (decls : List Decl) → IsTyped old → KeepsDecls decls → table_after old name file decls ≡ Ok new → IsTyped new
+-- every number and kind is right, with this many more tables and views
+abbrev Follows : CatalogImage → ℕ → ℕ → CatalogImage → Type 0
+Follows old tables views new = IsTyped new × (length new.tables ≡ length old.tables + tables) × (length new.views ≡ length old.views + views)
+
+table_kept : (old new : CatalogImage) (name : Word) (file : List ℕ) (decls : List Decl) → IsTyped old → KeepsDecls decls → table_after old name file decls ≡ Ok new → Follows old 1 0 new
 table_kept old new name file decls typed keeps e =
     let fresh = unless_ok (is_taken name.name (map (λ table. table.name) old.tables)) (DuplicateName name.at) _ new e in
     let cols = made_of (in_turn decl_after [] decls) _ new fresh.1 in
     let table : TableInfo = record { name = name.name; file = file; cols = cols.0 } in
     let fit = in_turn_keeps ColumnsFit (λ decl. DefaultInRange decl.def) decl_after decl_more [] cols.0 decls (All-nil _) keeps.ranges cols.1 in
-    let long = one_more old.tables table in
+    let long = length_push old.tables table in
     let m = length (old.tables ++ table ∷ []) in
-    ok_keeps IsTyped _ new cols.2 (record {
-      columns = All-push (λ (t : TableInfo). All IsBaseColumn t.cols) old.tables table typed.columns fit;
-      views = each_imp (ViewFits old.tables) (ViewFits (old.tables ++ table ∷ [])) old.views (view_over_more old.tables table) typed.views;
-      backs = each_imp (BackFits old.tables (length old.views)) (BackFits (old.tables ++ table ∷ []) (length old.views)) old.backs (back_over_more old.tables table (length old.views)) typed.backs;
-      fwds = each_imp (FwdFits (length old.tables) (length old.views)) (FwdFits m (length old.views)) old.fwds (λ fwd f. record { table = omega (arith, f.table, long); view = f.view }) typed.fwds;
-      links = each_imp (LinkFits (length old.tables) (length old.views)) (LinkFits m (length old.views)) old.links (λ link f. record { view = f.view; table = omega (arith, f.table, long); to = f.to }) typed.links;
-    })
+    ok_keeps (Follows old 1 0) _ new cols.2 (
+      record {
+        columns = All-push (λ (t : TableInfo). All IsBaseColumn t.cols) old.tables table typed.columns fit;
+        views = All-weaker (ViewFits old.tables) (ViewFits (old.tables ++ table ∷ [])) (view_over_more old.tables table) old.views typed.views;
+        backs = All-weaker (BackFits old.tables (length old.views)) (BackFits (old.tables ++ table ∷ []) (length old.views)) (back_over_more old.tables table (length old.views)) old.backs typed.backs;
+        fwds = All-weaker (FwdFits (length old.tables) (length old.views)) (FwdFits m (length old.views)) (λ fwd f. record { table = omega (arith, f.table, long); view = f.view }) old.fwds typed.fwds;
+        links = All-weaker (LinkFits (length old.tables) (length old.views)) (LinkFits m (length old.views)) (λ link f. record { view = f.view; table = omega (arith, f.table, long); to = f.to }) old.links typed.links;
+      },
+      long,
+      omega arith,
+    )
 
-view_kept : (old new : CatalogImage) (name : Word) (tree : TreeImage) → IsTyped old → KeepsPlan tree → view_after old name tree ≡ Ok new → IsTyped new
+view_kept : (old new : CatalogImage) (name : Word) (tree : TreeImage) → IsTyped old → KeepsPlan tree → view_after old name tree ≡ Ok new → Follows old 0 1 new
 view_kept old new name tree typed keeps e =
     let fresh = unless_ok (is_taken name.name (map (λ view. view.name) old.views)) (DuplicateName name.at) _ new e in
     let plan = made_of (typed_plan old.tables tree) _ new fresh.1 in
     let view : ViewImage = view_of name plan.0 in
-    let long = one_more old.views view in
+    let long = length_push old.views view in
     let n = length old.views in
     let m = length (old.views ++ view ∷ []) in
-    ok_keeps IsTyped _ new plan.2 (record {
-      columns = typed.columns;
-      views = All-push (ViewFits old.tables) old.views view typed.views (view_stands old.tables name tree plan.0 keeps plan.1);
-      backs = each_imp (BackFits old.tables n) (BackFits old.tables m) old.backs (λ back f. record { view = omega (arith, f.view, long); table = f.table; extra = f.extra }) typed.backs;
-      fwds = each_imp (FwdFits (length old.tables) n) (FwdFits (length old.tables) m) old.fwds (λ fwd f. record { table = f.table; view = omega (arith, f.view, long) }) typed.fwds;
-      links = each_imp (LinkFits (length old.tables) n) (LinkFits (length old.tables) m) old.links (λ link f. record { view = omega (arith, f.view, long); table = f.table; to = low_more n m link.to long f.to }) typed.links;
-    })
+    ok_keeps (Follows old 0 1) _ new plan.2 (
+      record {
+        columns = typed.columns;
+        views = All-push (ViewFits old.tables) old.views view typed.views (view_stands old.tables name tree plan.0 keeps plan.1);
+        backs = All-weaker (BackFits old.tables n) (BackFits old.tables m) (λ back f. record { view = omega (arith, f.view, long); table = f.table; extra = f.extra }) old.backs typed.backs;
+        fwds = All-weaker (FwdFits (length old.tables) n) (FwdFits (length old.tables) m) (λ fwd f. record { table = f.table; view = omega (arith, f.view, long) }) old.fwds typed.fwds;
+        links = All-weaker (LinkFits (length old.tables) n) (LinkFits (length old.tables) m) (λ link f. record { view = omega (arith, f.view, long); table = f.table; to = All-weaker (λ w. w < n) (λ w. w < m) (λ w l. omega (arith, long, l)) link.to f.to }) old.links typed.links;
+      },
+      omega arith,
+      long,
+    )
 
-back_kept : (old new : CatalogImage) (at : ℕ) (view table : Word) (extra : Extra) → IsTyped old → back_after old at view table extra ≡ Ok new → IsTyped new
+-- what is declared over the same tables and views
+declares : (old : CatalogImage) (backs : List Back) (fwds : List Fwd) (links : List LinkInfo) → IsTyped old → All (BackFits old.tables (length old.views)) backs → All (FwdFits (length old.tables) (length old.views)) fwds → All (LinkFits (length old.tables) (length old.views)) links
+    → Follows old 0 0 (record { tables = old.tables; views = old.views; backs = backs; fwds = fwds; links = links })
+declares old backs fwds links typed b f l = (record { columns = typed.columns; views = typed.views; backs = b; fwds = f; links = l }, omega arith, omega arith)
+
+back_kept : (old new : CatalogImage) (at : ℕ) (view table : Word) (extra : Extra) → IsTyped old → back_after old at view table extra ≡ Ok new → Follows old 0 0 new
 back_kept old new at view table extra typed e =
     let v = made_of (view_named old.views view) _ new e in
     let t = made_of (table_named old.tables table) _ new v.2 in
@@ -186,18 +193,18 @@ back_kept old new at view table extra typed e =
     let back : Back = record { view = v.0; table = t.0; extra = asked.0 } in
     let fresh = unless_ok (list_any (same_back back) old.backs) (RepeatedDeclaration at) (Ok (record old { backs = old.backs ++ back ∷ [] })) new asked.2 in
     let fit : BackFits old.tables (length old.views) back = record { view = view_is old.views view v.0 v.1; table = table_is old.tables table t.0 t.1; extra = extra_stands (columns_of (info_at old.tables t.0)) extra asked.0 asked.1 } in
-    ok_keeps IsTyped _ new fresh.1 (record { columns = typed.columns; views = typed.views; backs = All-push (BackFits old.tables (length old.views)) old.backs back typed.backs fit; fwds = typed.fwds; links = typed.links })
+    ok_keeps (Follows old 0 0) _ new fresh.1 (declares old _ _ _ typed (All-push (BackFits old.tables (length old.views)) old.backs back typed.backs fit) typed.fwds typed.links)
 
-fwd_kept : (old new : CatalogImage) (at : ℕ) (table view : Word) → IsTyped old → fwd_after old at table view ≡ Ok new → IsTyped new
+fwd_kept : (old new : CatalogImage) (at : ℕ) (table view : Word) → IsTyped old → fwd_after old at table view ≡ Ok new → Follows old 0 0 new
 fwd_kept old new at table view typed e =
     let t = made_of (table_named old.tables table) _ new e in
     let v = made_of (view_named old.views view) _ new t.2 in
     let fwd : Fwd = record { table = t.0; view = v.0 } in
     let fresh = unless_ok (list_any (same_fwd fwd) old.fwds) (RepeatedDeclaration at) (Ok (record old { fwds = old.fwds ++ fwd ∷ [] })) new v.2 in
     let fit : FwdFits (length old.tables) (length old.views) fwd = record { table = table_is old.tables table t.0 t.1; view = view_is old.views view v.0 v.1 } in
-    ok_keeps IsTyped _ new fresh.1 (record { columns = typed.columns; views = typed.views; backs = typed.backs; fwds = All-push (FwdFits (length old.tables) (length old.views)) old.fwds fwd typed.fwds fit; links = typed.links })
+    ok_keeps (Follows old 0 0) _ new fresh.1 (declares old _ _ _ typed typed.backs (All-push (FwdFits (length old.tables) (length old.views)) old.fwds fwd typed.fwds fit) typed.links)
 
-link_kept : (old new : CatalogImage) (view table : Word) (words : List Word) → IsTyped old → link_after old view table words ≡ Ok new → IsTyped new
+link_kept : (old new : CatalogImage) (view table : Word) (words : List Word) → IsTyped old → link_after old view table words ≡ Ok new → Follows old 0 0 new
 link_kept old new view table words typed e =
     let v = made_of (view_named old.views view) _ new e in
     let t = made_of (table_named old.tables table) _ new v.2 in
@@ -205,10 +212,10 @@ link_kept old new view table words typed e =
     let link : LinkInfo = record { view = v.0; table = t.0; to = to.0 } in
     let low = in_turn_keeps (All (λ w. w < length old.views)) (λ w. Unit {0}) (to_after old v.0 t.0) (to_more old v.0 t.0) [] to.0 words (All-nil _) (λ k d p. tt) to.1 in
     let fit : LinkFits (length old.tables) (length old.views) link = record { view = view_is old.views view v.0 v.1; table = table_is old.tables table t.0 t.1; to = low } in
-    ok_keeps IsTyped _ new to.2 (record { columns = typed.columns; views = typed.views; backs = typed.backs; fwds = typed.fwds; links = All-push (LinkFits (length old.tables) (length old.views)) old.links link typed.links fit })
+    ok_keeps (Follows old 0 0) _ new to.2 (declares old _ _ _ typed typed.backs typed.fwds (All-push (LinkFits (length old.tables) (length old.views)) old.links link typed.links fit))
 
--- a statement that stands keeps what the catalog keeps
-pub stmt_kept : (old new : CatalogImage) (stmt : StmtImage) → IsTyped old → KeepsStmt stmt → stmt_after old stmt ≡ Ok new → IsTyped new
+-- a statement that stands keeps what the catalog keeps, and makes one table, one view or neither
+pub stmt_kept : (old new : CatalogImage) (stmt : StmtImage) → IsTyped old → KeepsStmt stmt → stmt_after old stmt ≡ Ok new → Follows old (one_if (is_table stmt)) (one_if (is_view stmt)) new
 stmt_kept old new (TableNode name file decls) typed keeps e = table_kept old new name file decls typed keeps e
 stmt_kept old new (ViewNode name tree) typed keeps e = view_kept old new name tree typed keeps e
 stmt_kept old new (BackNode at view table extra) typed keeps e = back_kept old new at view table extra typed e

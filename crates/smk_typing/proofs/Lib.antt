@@ -1,7 +1,6 @@
 pub mod Lookups
 pub mod Unions
-pub mod DraftsGrow
-pub mod Forms
+pub mod Keys
 pub mod Results
 pub mod StepsFit
 pub mod ListsFit

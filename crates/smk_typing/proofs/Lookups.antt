@@ -1,13 +1,13 @@
 -- Columns, tables and views by their names.
-use Rattle.std.proofs.Common.{◌≡◌, ◌<◌, ℕ, List, [], ◌∷◌, length, Bool, Option, Some, None, Ok, Err, position, get_or, ap, refl, subst}
+use Rattle.std.proofs.Common.{◌≡◌, ◌<◌, ℕ, List, [], ◌∷◌, length, Bool, Option, Some, None, Ok, Err, position, get_or, map, ap, refl, arith}
 use Rattle.std.specs.Prelude.{ok_or}
-use Rattle.std.proofs.lemmas.List.{get_or_default}
+use Rattle.std.proofs.lemmas.List.{get_or_default, length-map}
 use Rattle.std.proofs.lemmas.List.Quantifiers.{position-Some}
 use Rattle.smk_base.specs.declared.tree.Word.{Word}
 use Rattle.smk_base.specs.declared.catalog.Column.{Column}
 use Rattle.smk_base.specs.declared.type_fault.TypeFault.{TypeFault}
 use Rattle.smk_base.specs.declared.type_fault.TypeFault.TheVariants.{UnknownColumn}
-use Rattle.smk_model.specs.Names.{Typed, column_named, has_name}
+use Rattle.smk_model.specs.Names.{Typed, column_named, has_name, same_name, place_of}
 
 pub column_found : (columns : List Column) (word : Word) (c : ℕ) (any : Column) → position (has_name word.name) columns ≡ Some c → column_named columns word ≡ Ok (c, (get_or columns c any).kind)
 column_found columns word c any e =
@@ -22,10 +22,10 @@ pub place_within : {X : Type 0} (p : X → Bool) (xs : List X) (i : ℕ) → pos
 place_within p [] i e = absurd (cc)
 place_within p (x ∷ xs) i e = (position-Some p (x ∷ xs) i x e).0
 
-within_of : {X : Type 0} (p : X → Bool) (xs : List X) (fault : TypeFault) (place : Option ℕ) (n : ℕ) → position p xs ≡ place → (let found : Typed ℕ = ok_or place fault in found) ≡ Ok n → n < length xs
-within_of p xs fault None n e found = absurd (cc found)
-within_of p xs fault (Some c) n e found = let same : c ≡ n = cc found in subst (λ m. m < length xs) same (place_within p xs c e)
+named_of : {X : Type 0} (f : X → List ℕ) (xs : List X) (name : List ℕ) (fault : TypeFault) (place : Option ℕ) (n : ℕ) → place_of name (map f xs) ≡ place → (let found : Typed ℕ = ok_or place fault in found) ≡ Ok n → n < length xs
+named_of f xs name fault None n e found = absurd (cc found)
+named_of f xs name fault (Some c) n e found = let same : c ≡ n = cc found in omega (arith, place_within (same_name name) (map f xs) c e, length-map xs f)
 
--- a number that a word names is one of the list
-pub named_within : {X : Type 0} (p : X → Bool) (xs : List X) (fault : TypeFault) (n : ℕ) → (let found : Typed ℕ = ok_or (position p xs) fault in found) ≡ Ok n → n < length xs
-named_within p xs fault n e = within_of p xs fault (position p xs) n refl e
+-- a number that a name has among names is one of the list
+pub named_within : {X : Type 0} (f : X → List ℕ) (xs : List X) (name : List ℕ) (fault : TypeFault) (n : ℕ) → (let found : Typed ℕ = ok_or (place_of name (map f xs)) fault in found) ≡ Ok n → n < length xs
+named_within f xs name fault n e = named_of f xs name fault (place_of name (map f xs)) n refl e

@@ -1,8 +1,9 @@
 -- A plan that stands scans tables that are there and fits their kinds, and its columns have its kinds.
-use Rattle.std.proofs.Common.{◌≡◌, ◌∙◌, ◌+◌, ◌<◌, ◌≤◌, ℕ, Bool, true, false, not, List, [], ◌∷◌, ◌++◌, length, map, drop, get_or, Ok, refl, sym, ap, subst, arith, All, nat_eq, ◌&&◌}
+use Rattle.std.proofs.Common.{◌≡◌, ◌∙◌, ◌+◌, ◌<◌, ◌≤◌, ℕ, true, not, List, [], ◌∷◌, ◌++◌, length, map, drop, get_or, Ok, refl, sym, ap, subst, arith, All, nat_eq}
 use Rattle.std.specs.Prelude.{nat_lt}
 use Rattle.std.specs.List.{AllZip, list_all, zip}
 use Rattle.std.proofs.Math.Seq.{drop-append_seam}
+use Rattle.std.proofs.lemmas.Bool.{and_parts, not-false}
 use Rattle.std.proofs.lemmas.List.{length-map, map-append, append_assoc, get_or-map}
 use Rattle.std.proofs.lemmas.List.Elements.{All-push, All-nil}
 use Rattle.smk_base.specs.declared.value.Kind.{Kind}
@@ -14,7 +15,7 @@ use Rattle.smk_base.specs.declared.type_fault.TypeFault.TheVariants.{KindMismatc
 use Rattle.smk_base.specs.Plans.{Formula, Expr, Leaf, Apply, Combine, Unary, Selection, Projection, Distinction, Grouping, Binary, Equijoin, ThetaJoin, CrossProduct, BagUnion, SetUnion}
 use Rattle.smk_base.specs.Trees.{PredImage, TreeImage, ScanNode, StepNode, StepImage, SelectNode, ProjectNode, DistinctNode, GroupNode, JoinNode, ThetaNode, ProductNode, UnionAllNode, UnionNode}
 use Rattle.smk_base.specs.Rels.{kind_in}
-use Rattle.smk_model.specs.Names.{in_turn, same_name, column_named, kinds_of, same_sort}
+use Rattle.smk_model.specs.Names.{in_turn, column_named, kinds_of, same_sort}
 use Rattle.smk_model.specs.Kinds.{AreAlike, FormulaFits, PairFits, Fits1, Fits2, FewTogether, kinds1, kinds2, wider, wider_kinds}
 use Rattle.smk_model.specs.Plain.{leaves, width}
 use Rattle.smk_model.specs.Selection.{ScansFit, PlanFits, leaf_kinds, plan_kinds, nodes}
@@ -44,20 +45,12 @@ pair_more lefts rights old new pair made any e =
     let fits : PairFits (kinds_of lefts) (kinds_of rights) (left.0.0, right.0.0) = (l.0, r.0, subst (λ (k : Kind). AreAlike (kind_in (kinds_of lefts) left.0.0) k) (sym r.1) (subst (λ (k : Kind). AreAlike k right.0.1) (sym l.1) like)) in
     ok_keeps (PairsFit lefts rights) _ new whole.1 (All-push (PairFits (kinds_of lefts) (kinds_of rights)) old (left.0.0, right.0.0) made fits)
 
-and_true : (a b : Bool) → (a && b) ≡ true → (a ≡ true) × (b ≡ true)
-and_true true b e = (refl, e)
-and_true false b e = absurd (cc e)
-
-not_false : (a : Bool) → not a ≡ false → a ≡ true
-not_false true e = refl
-not_false false e = absurd (cc e)
-
 shapes_fit : (lefts rights : List Column) → length lefts ≡ length rights → list_all (λ sides. same_sort sides.0.kind sides.1.kind) (zip lefts rights) ≡ true → AllZip AreAlike (kinds_of lefts) (kinds_of rights)
 shapes_fit [] [] e all = tt
 shapes_fit [] (r ∷ rs) e all = absurd (omega (arith, e))
 shapes_fit (l ∷ ls) [] e all = absurd (omega (arith, e))
 shapes_fit (l ∷ ls) (r ∷ rs) e all =
-    let both = and_true (same_sort l.kind r.kind) _ all in
+    let both = and_parts (same_sort l.kind r.kind) _ all in
     let even : length ls ≡ length rs = omega (arith, e) in
     (alike l.kind r.kind (ap not both.0), shapes_fit ls rs even both.1)
 
@@ -73,7 +66,7 @@ Fits2Made op lefts rights columns = Fits2 op (kinds_of lefts) (kinds_of rights) 
 united_parts : (at : ℕ) (lefts rights columns : List Column) → united at lefts rights ≡ Ok columns → AllZip AreAlike (kinds_of lefts) (kinds_of rights) × (wider_kinds (kinds_of lefts) (kinds_of rights) ≡ kinds_of columns)
 united_parts at lefts rights columns e =
     let whole = unless_ok (not (same_shape lefts rights)) (UnionShape at) (Ok (map united_column (zip lefts rights))) columns e in
-    let both = and_true (nat_eq (length lefts) (length rights)) _ (not_false (same_shape lefts rights) whole.0) in
+    let both = and_parts (nat_eq (length lefts) (length rights)) _ (not-false (same_shape lefts rights) whole.0) in
     let even : length lefts ≡ length rights = grind (arith, both.0) in
     let same : map united_column (zip lefts rights) ≡ columns = cc whole.1 in
     (shapes_fit lefts rights even both.1, wider_same lefts rights even ∙ ap kinds_of same)
@@ -156,9 +149,7 @@ both_stand tables n m left right op columns l r made =
 
 -- a table that a word names is there
 pub table_is : (tables : List TableInfo) (word : Word) (t : ℕ) → table_named tables word ≡ Ok t → t < length tables
-table_is tables word t e =
-    let below = named_within (same_name word.name) (map (λ (table : TableInfo). table.name) tables) (UnknownTable word.at) t e in
-    omega (arith, below, length-map tables (λ (table : TableInfo). table.name))
+table_is tables word t e = named_within (λ (table : TableInfo). table.name) tables word.name (UnknownTable word.at) t e
 
 united_stands : (tables : List TableInfo) (n m at : ℕ) (op : Binary) (left right typed : TypedPlan) → ((l r : List Kind) → AllZip AreAlike l r → Fits2 op l r) → ((l r : List Kind) → kinds2 op l r ≡ wider_kinds l r)
     → Stands tables n left → Stands tables m right → united_plan op at left right ≡ Ok typed → Stands tables (n + (m + 1)) typed

@@ -32,3 +32,11 @@ in_turn_long size rule step a b [] e = let same : a ≡ b = cc e in omega (arith
 in_turn_long size rule step a b (x ∷ xs) e =
     let first = made_of (rule a x) (λ more. in_turn rule more xs) b e in
     omega (arith, step a first.0 x first.1, in_turn_long size rule step first.0 b xs first.2)
+
+-- a rule whose result was made by one that can't fail has the fault of the first, whatever is made of it
+pub first_fails : {A B C : Type 0} (first : Typed A) (f : A → B) (g : A → C) (fault : TypeFault) → (let found : Typed B = first >>= (λ a. Ok (f a)) in found) ≡ Err fault → (let found : Typed C = first >>= (λ a. Ok (g a)) in found) ≡ Err fault
+first_fails (Ok a) f g fault e = absurd (cc e)
+first_fails (Err other) f g fault e = let same : other ≡ fault = cc e in rw same refl
+
+pub ok_same : {A : Type 0} (a b : A) → (let found : Typed A = Ok a in found) ≡ Ok b → a ≡ b
+ok_same a b e = cc e

@@ -1,29 +1,19 @@
 -- The columns of a union, place by place.
-use Rattle.std.proofs.Common.{◌≡◌, ◌<◌, ◌≤◌, ◌+◌, ◌∙◌, ℕ, List, [], ◌∷◌, ◌++◌, map, length, take, get_or, ap, refl, arith}
+use Rattle.std.proofs.Common.{◌≡◌, ◌<◌, ◌≤◌, ◌+◌, ◌∙◌, ℕ, List, [], ◌∷◌, ◌++◌, map, length, take, get_or, ap, arith}
 use Rattle.std.proofs.lemmas.List.{take_more, take_all, map-append}
-use Rattle.std.proofs.lemmas.Slice.Zip.{get_or-zip}
+use Rattle.std.proofs.lemmas.Slice.Zip.{get_or-zip, length-zip}
 use Rattle.std.specs.List.{zip}
 use Rattle.smk_base.specs.declared.catalog.Column.{Column}
 use Rattle.smk_model.specs.TypedSteps.{united_column}
 
-length-zip_even : (lefts rights : List Column) → length lefts ≡ length rights → length (zip lefts rights) ≡ length lefts
-length-zip_even [] rights e = refl
-length-zip_even (l ∷ ls) [] e = absurd (omega arith)
-length-zip_even (l ∷ ls) (r ∷ rs) e = omega (arith, length-zip_even ls rs (omega arith))
-
 -- one more place of both sides
 pub take_more_zip : (lefts rights : List Column) (i : ℕ) (d e : Column) → length lefts ≡ length rights → i < length lefts → map united_column (take (i + 1) (zip lefts rights)) ≡ map united_column (take i (zip lefts rights)) ++ united_column (get_or lefts i d, get_or rights i e) ∷ []
 take_more_zip lefts rights i d e even below =
-    let long : i < length (zip lefts rights) = omega (arith, length-zip_even lefts rights even) in
+    let long : i < length (zip lefts rights) = omega (arith, length-zip lefts rights) in
     ap (map united_column) (take_more (zip lefts rights) i (d, e) long)
     ∙ map-append united_column (take i (zip lefts rights)) _
     ∙ ap (λ p. map united_column (take i (zip lefts rights)) ++ united_column p ∷ []) (get_or-zip lefts rights i (d, e) below (omega arith))
 
 -- all places of both sides
 pub take_all_zip : (lefts rights : List Column) (i : ℕ) → length lefts ≡ length rights → length lefts ≤ i → take i (zip lefts rights) ≡ zip lefts rights
-take_all_zip lefts rights i even all = take_all i (zip lefts rights) (omega (arith, length-zip_even lefts rights even))
-
-pub length-map_zip : (lefts rights : List Column) → length lefts ≡ length rights → length (map united_column (zip lefts rights)) ≡ length lefts
-length-map_zip [] rights e = refl
-length-map_zip (l ∷ ls) [] e = absurd (omega arith)
-length-map_zip (l ∷ ls) (r ∷ rs) e = omega (arith, length-map_zip ls rs (omega arith))
+take_all_zip lefts rights i even all = take_all i (zip lefts rights) (omega (arith, length-zip lefts rights))

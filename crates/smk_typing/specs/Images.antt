@@ -1,7 +1,13 @@
 -- Typed parts as the definitions see them.
+use Rattle.std.specs.Prelude.{List, [], ◌∷◌, ◌++◌, Ok}
+use Rattle.std.specs.List.{list_any}
+use Rattle.smk_base.specs.declared.value.Kind.{Kind}
+use Rattle.smk_base.specs.declared.tree.Word.{Word}
+use Rattle.smk_base.specs.declared.catalog.Column.{Column}
+use Rattle.smk_base.specs.declared.type_fault.TypeFault.TheVariants.{DuplicateName}
 use Rattle.smk_base.specs.PlanImage.{expr_of}
-use Rattle.smk_model.specs.TypedSteps.{TypedPlan}
-use Rattle.smk_model.specs.TypedSteps.{TypedGroup}
+use Rattle.smk_model.specs.Names.{Typed as Found, unless, has_name}
+use Rattle.smk_model.specs.TypedSteps.{TypedPlan, TypedGroup, named}
 use Rattle.smk_typing.specs.declared.typed.Typed.{Typed}
 use Rattle.smk_typing.specs.declared.typed.Group.{Group}
 
@@ -10,3 +16,9 @@ plan_of typed = record { plan = expr_of typed.plan; columns = typed.columns }
 
 abbrev pub group_of : Group → TypedGroup
 group_of group = record { keys = group.keys; aggs = group.aggs; columns = group.columns }
+
+-- one more part of a list, and its column under a new name
+abbrev pub part_after : {X : Type 0} → List X × List Column → X → Word → Kind → Found (List X × List Column)
+part_after made part name kind =
+    unless (list_any (has_name name.name) made.1) (DuplicateName name.at)
+    (Ok (made.0 ++ part ∷ [], made.1 ++ named name kind ∷ []))

@@ -8,7 +8,8 @@ use crate::columns::{column_named, is_same_sort, kind_of_value};
 use crate::lists::typed_group;
 use crate::typed::Group;
 use smk_base::{
-    BackExtra, ColDecl, ColDecls, ColNames, Column, Decl, Extra, Kind, Kinds, TypeFault, Word,
+    BackExtra, ColDecl, ColDecls, ColNames, Column, Decl, Extra, Kind, Kinds, TypeFault, Value,
+    Word,
 };
 use std::alloc::Global;
 
@@ -23,33 +24,30 @@ fn declared_kind(text: bool) -> Kind
     }
 }
 
+/// The default of a declared column, unless it has another kind.
+fn declared_default(alloc: Global, decl: &Decl, kind: Kind) -> Result<Option<Value>, TypeFault>
+    requires { kind ≡ typing.declared_kind decl.now.text }
+    ensures { Finds result (typing.declared_column decl.now decl.now.def) (λ def. record { name = decl.now.name.name; kind = kind; def = def }) }
+{
+    match &decl.def {
+        None => Ok(None),
+        Some(literal) => {
+            if !is_same_sort(kind, kind_of_value(&literal.value)) {
+                return Err(TypeFault::KindMismatch { at: literal.at });
+            }
+            Ok(Some(literal.value.copy(alloc)?))
+        }
+    }
+}
+
 /// A declared column, unless its default has another kind.
 fn declared_column(alloc: Global, decl: &Decl) -> Result<ColDecl, TypeFault>
     ensures { Finds result (typing.declared_column decl.now decl.now.def) (λ col. col) }
 {
     let kind = declared_kind(decl.text);
-    match &decl.def {
-        None => {
-            let name = decl.name.name.copy(alloc)?;
-            Ok(ColDecl {
-                name,
-                kind,
-                def: None,
-            })
-        }
-        Some(literal) => {
-            if !is_same_sort(kind, kind_of_value(&literal.value)) {
-                return Err(TypeFault::KindMismatch { at: literal.at });
-            }
-            let name = decl.name.name.copy(alloc)?;
-            let value = literal.value.copy(alloc)?;
-            Ok(ColDecl {
-                name,
-                kind,
-                def: Some(value),
-            })
-        }
-    }
+    let name = decl.name.name.copy(alloc)?;
+    let def = declared_default(alloc, decl, kind)?;
+    Ok(ColDecl { name, kind, def })
 }
 
 /// Whether a column is declared under this name. A declaration has at most 16 columns.
@@ -84,26 +82,17 @@ pub fn declared(alloc: Global, decls: &[Decl]) -> Result<ColDecls, TypeFault>
     Ok(cols)
 }
 
-/// The names of columns.
-pub fn names_of_columns(alloc: Global, columns: &[Column]) -> Result<ColNames, TypeFault>
-    ensures { Finds result (Ok (names_of columns.now)) (λ names. names) }
+/// The names and the kinds of columns.
+pub fn names_and_kinds(alloc: Global, columns: &[Column]) -> Result<(ColNames, Kinds), TypeFault>
+    ensures { Finds result (Ok (names_of columns.now, kinds_of columns.now)) (λ made. made) }
 {
     let mut names = ColNames::new(alloc);
-    for column in columns {
-        names.push(column.name.copy(alloc)?)?;
-    }
-    Ok(names)
-}
-
-/// The kinds of columns.
-pub fn kinds_of_columns(alloc: Global, columns: &[Column]) -> Result<Kinds, TypeFault>
-    ensures { Finds result (Ok (kinds_of columns.now)) (λ kinds. kinds) }
-{
     let mut kinds = Kinds::new(alloc);
     for column in columns {
+        names.push(column.name.copy(alloc)?)?;
         kinds.push(column.kind)?;
     }
-    Ok(kinds)
+    Ok((names, kinds))
 }
 
 /// What a backward declaration asks for over the columns of its table.
@@ -124,8 +113,7 @@ pub fn typed_extra(alloc: Global, columns: &[Column], extra: &Extra) -> Result<B
                 aggs,
                 columns,
             } = group;
-            let names = names_of_columns(alloc, columns.as_slice())?;
-            let kinds = kinds_of_columns(alloc, columns.as_slice())?;
+            let (names, kinds) = names_and_kinds(alloc, columns.as_slice())?;
             Ok(BackExtra::Grouped {
                 keys,
                 aggs,

@@ -1,46 +1,117 @@
-ghost use Rattle.std.specs.Prelude.{◌≡◌, ◌≤◌, ◌<◌, length, map, IfOk};
-ghost use Rattle.smk_base.specs.CatalogImage.{catalog_image};
+ghost use Rattle.std.specs.Prelude.{◌≡◌, ◌<◌, ◌≤◌, length, map, IfOk};
+ghost use Rattle.smk_base.specs.CatalogImage.{catalog_image, view_image};
+ghost use Rattle.smk_model.specs.Catalogs.{IsWithinLimits};
 ghost use Rattle.smk_model.specs.Typing as typing;
-ghost use Rattle.smk_base.specs.Trees.{ScanNode};
-ghost use Rattle.smk_model.specs.Names.{place_of};
 ghost use Rattle.smk_typing.specs.Answers.{Finds};
-ghost use Rattle.smk_typing.specs.Images.{plan_of};
-ghost use Rattle.smk_typing.specs.Drafts.{IsDraft};
+ghost use Rattle.smk_typing.specs.Drafts.{draft_image};
+ghost use Rattle.smk_typing.specs.Keys.{AreTables, back_key, fwd_key};
 
-use crate::typed::Typed;
-use indexmap::IndexSet;
-use smk_base::{Catalog, Column, Columns, Plan, TableInfo, Text, TypeFault, Word};
+use crate::form::Form;
+use crate::indexed::{Indexed, Keyed};
+use crate::links::Links;
+use smk_base::{Back, Catalog, Column, Columns, Fwd, TableInfo, Text, TypeFault, ViewInfo, Word};
 use std::alloc::Global;
 
-/// The form of a backward declaration.
-#[derive(Clone, Copy, Debug, PartialEq, Eq, Hash)]
-pub enum Form {
-    Plain,
-    By(u32),
-    Grouped,
+impl Keyed for TableInfo {
+    type Key = Text;
+
+    ghost key_of = { λ table. table.name };
+
+    ghost kept = { AreTables };
 }
 
-/// The catalog of the statements so far. The names of tables and views and the declared queries stand in hashed sets beside it, so that no look-up goes over the book.
+impl Keyed for ViewInfo {
+    type Key = Text;
+
+    ghost key_of = { λ view. view.name };
+
+    ghost kept = { λ views. length views ≤ 64 };
+}
+
+impl Keyed for Back {
+    type Key = (u32, u32, Form);
+
+    ghost key_of = { back_key };
+}
+
+impl Keyed for Fwd {
+    type Key = (u32, u32);
+
+    ghost key_of = { fwd_key };
+}
+
+/// The catalog of the statements so far, indexed.
 #[derive(Drop)]
 pub struct Draft {
-    pub catalog: Catalog,
-    pub tables: IndexSet<Text>,
-    pub views: IndexSet<Text>,
-    pub backs: IndexSet<(u32, u32, Form)>,
-    pub fwds: IndexSet<(u32, u32)>,
-    pub links: IndexSet<(u32, u32, u32)>,
+    pub tables: Indexed<TableInfo>,
+    pub views: Indexed<ViewInfo>,
+    pub backs: Indexed<Back>,
+    pub fwds: Indexed<Fwd>,
+    pub links: Links,
 }
 
-/// The place of a name among at most 64 names.
-#[tactic(auto, using(crate::proofs::Lookups::place_within))]
-pub fn number_of(names: &IndexSet<Text>, word: &Word) -> Option<u32>
-    requires { length names.now.keys ≤ 64 }
-    ensures { result ≡ place_of word.now.name names.now.keys }
-{
-    match names.get_index_of(&word.name) {
-        Some(place) => Some(place as u32),
-        None => None,
+impl Draft {
+    /// The catalog of no statement.
+    pub fn new(alloc: Global) -> Draft
+        ensures { draft_image result ≡ typing.nothing_declared }
+    {
+        Draft {
+            tables: Indexed::new(alloc),
+            views: Indexed::new(alloc),
+            backs: Indexed::new(alloc),
+            fwds: Indexed::new(alloc),
+            links: Links::new(alloc),
+        }
     }
+
+    /// The catalog alone.
+    pub fn into_catalog(self) -> Catalog
+        ensures catalog { catalog_image result ≡ draft_image self }
+        ensures limits { IsWithinLimits (draft_image self) }
+    {
+        Catalog {
+            tables: self.tables.into_list(),
+            views: self.views.into_list(),
+            backs: self.backs.into_list(),
+            fwds: self.fwds.into_list(),
+            links: self.links.into_list(),
+        }
+    }
+}
+
+/// The number of the table that a word names.
+pub fn table_named(tables: &Indexed<TableInfo>, word: &Word) -> Result<u32, TypeFault>
+    ensures table { Finds result (typing.table_named tables.now word.now) (λ t. t) }
+    ensures within { IfOk result (λ t. t < length tables.now) }
+{
+    match tables.place_of(&word.name) {
+        Some(place) => Ok(place as u32),
+        None => Err(TypeFault::UnknownTable { at: word.at }),
+    }
+}
+
+/// The number of the view that a word names.
+#[tactic(auto, using(crate::proofs::Keys::view_names))]
+pub fn view_named(views: &Indexed<ViewInfo>, word: &Word) -> Result<u32, TypeFault>
+    ensures { Finds result (typing.view_named (map view_image views.now) word.now) (λ v. v) }
+{
+    match views.place_of(&word.name) {
+        Some(place) => Ok(place as u32),
+        None => Err(TypeFault::UnknownView { at: word.at }),
+    }
+}
+
+/// The columns of the table with this number.
+pub fn columns_at(
+    alloc: Global,
+    tables: &Indexed<TableInfo>,
+    table: u32,
+) -> Result<Columns, TypeFault>
+    requires { table < length tables.now }
+    ensures columns { Finds result (Ok (typing.columns_of (typing.info_at tables.now table))) (λ columns. columns) }
+    ensures width { IfOk result (λ columns. length columns ≤ 16) }
+{
+    columns_of(alloc, &tables.as_slice()[table as usize])
 }
 
 /// The columns of a table.
@@ -57,51 +128,4 @@ fn columns_of(alloc: Global, table: &TableInfo) -> Result<Columns, TypeFault>
         })?;
     }
     Ok(columns)
-}
-
-impl Draft {
-    /// The number of the table that a word names.
-    #[tactic(auto, using(crate::proofs::Lookups::place_within))]
-    pub fn table_named(&self, word: &Word) -> Result<u32, TypeFault>
-        requires { IsDraft self.now }
-        ensures table { Finds result (typing.table_named self.now.catalog.tables word.now) (λ t. t) }
-        ensures within { IfOk result (λ t. t < length self.now.catalog.tables) }
-    {
-        match self.tables.get_index_of(&word.name) {
-            Some(place) => Ok(place as u32),
-            None => Err(TypeFault::UnknownTable { at: word.at }),
-        }
-    }
-
-    /// The number of the view that a word names.
-    pub fn view_named(&self, word: &Word) -> Result<u32, TypeFault>
-        requires { IsDraft self.now }
-        ensures view { Finds result (typing.view_named (catalog_image self.now.catalog).views word.now) (λ v. v) }
-    {
-        number_of(&self.views, word).ok_or(TypeFault::UnknownView { at: word.at })
-    }
-
-    /// The columns of the table with this number.
-    pub fn columns(&self, alloc: Global, table: u32) -> Result<Columns, TypeFault>
-        requires draft { IsDraft self.now }
-        requires within { table < length self.now.catalog.tables }
-        ensures columns { Finds result (Ok (typing.columns_of (typing.info_at self.now.catalog.tables table))) (λ columns. columns) }
-        ensures width { IfOk result (λ columns. length columns ≤ 16) }
-    {
-        columns_of(alloc, &self.catalog.tables.as_slice()[table as usize])
-    }
-
-    /// The scan of the table that a word names.
-    pub fn scan(&self, alloc: Global, word: &Word) -> Result<Typed, TypeFault>
-        requires { IsDraft self.now }
-        ensures plan { Finds result (typing.typed_plan self.now.catalog.tables (ScanNode word.now)) plan_of }
-        ensures width { IfOk result (λ typed. length typed.columns ≤ 16) }
-    {
-        let number = self.table_named(word)?;
-        let columns = self.columns(alloc, number)?;
-        Ok(Typed {
-            plan: Plan::Scan(number),
-            columns,
-        })
-    }
 }

@@ -1,42 +1,97 @@
-ghost use Rattle.std.specs.Prelude.{◌≡◌, ◌≤◌, ◌++◌, [], length, map, IfOk, OnOk};
-ghost use Rattle.smk_base.specs.CatalogImage.{catalog_image};
+ghost use Rattle.std.specs.Prelude.{◌≡◌, ◌++◌, [], map, IfOk, OnOk};
 ghost use Rattle.smk_model.specs.Names.{in_turn};
 ghost use Rattle.smk_model.specs.Typing as typing;
 ghost use Rattle.smk_model.specs.Typing.{all_linked, linked_to};
 ghost use Rattle.smk_typing.specs.Answers.{Finds};
-ghost use Rattle.smk_typing.specs.Drafts.{IsDraft, Grows, link_key};
+ghost use Rattle.smk_typing.specs.Drafts.{over, links_after};
+ghost use Rattle.smk_typing.specs.Keys.{link_key};
 
-use crate::draft::{Draft, number_of};
+use crate::draft::view_named;
+use crate::indexed::Indexed;
 use indexmap::IndexSet;
-use smk_base::{Catalog, LinkInfo, Rids, Text, TypeFault, Word, Words};
+use smk_base::{LinkInfo, LinkInfos, Rids, TypeFault, ViewInfo, Word};
 use std::alloc::Global;
+use std::marker::Model;
+
+/// The links so far. What each of them links stands in a hashed set beside them. Contracts see the links.
+#[derive(Drop)]
+pub struct Links {
+    infos: LinkInfos,
+    keys: IndexSet<(u32, u32, u32)>,
+}
+
+impl Model for Links {
+    ghost use Rattle.std.specs.Prelude.{◌≡◌, List, map};
+    ghost use Rattle.smk_base.specs.declared.catalog.LinkInfo.{LinkInfo};
+    ghost use Rattle.smk_model.specs.Typing.{all_linked};
+    ghost use Rattle.smk_typing.specs.Keys.{link_key};
+
+    ghost Value = { List LinkInfo };
+
+    ghost view = { λ a. a.infos };
+
+    ghost invariant = { λ a. a.keys.keys ≡ map link_key (all_linked a.infos) };
+}
+
+impl Links {
+    /// No link. It takes no memory.
+    pub fn new(alloc: Global) -> Links
+        ensures { result ≡ [] }
+    {
+        Links {
+            infos: LinkInfos::new(alloc),
+            keys: IndexSet::new(alloc),
+        }
+    }
+
+    /// The list alone. It takes no memory.
+    pub fn into_list(self) -> LinkInfos
+        ensures { result ≡ self }
+    {
+        let Links { infos, keys: _ } = self;
+        infos
+    }
+
+    /// The links after one more of a view on a table to other views.
+    pub fn with(
+        mut self,
+        alloc: Global,
+        views: &Indexed<ViewInfo>,
+        view: u32,
+        table: u32,
+        words: &[Word],
+    ) -> Result<Links, TypeFault>
+        ensures { Finds result (links_after views.now self view table words.now) (λ links. links) }
+    {
+        let infos = self.infos.as_slice();
+        let to = linked(alloc, views, infos, &mut self.keys, view, table, words)?;
+        self.infos.push(LinkInfo { view, table, to })?;
+        Ok(self)
+    }
+}
 
 /// Puts a linked view last.
 fn add_to(
-    catalog: &Catalog,
-    views: &IndexSet<Text>,
-    links: &mut IndexSet<(u32, u32, u32)>,
+    views: &Indexed<ViewInfo>,
+    links: &[LinkInfo],
+    keys: &mut IndexSet<(u32, u32, u32)>,
     view: u32,
     table: u32,
     to: &mut Rids,
     word: &Word,
 ) -> Result<(), TypeFault>
-    requires names { views.now.keys ≡ map (λ view. view.name) (catalog_image catalog.now).views }
-    requires few { length views.now.keys ≤ 64 }
-    requires links { links.old.keys ≡ map link_key (all_linked catalog.now.links ++ linked_to view table to.old) }
-    ensures after { Finds result (typing.to_after (catalog_image catalog.now) view table to.old word.now) (λ _. to.new) }
-    ensures links { OnOk result (links.new.keys ≡ map link_key (all_linked catalog.now.links ++ linked_to view table to.new)) }
+    requires { keys.old.keys ≡ map link_key (all_linked links.now ++ linked_to view table to.old) }
+    ensures after { Finds result (typing.to_after (over views.now links.now) view table to.old word.now) (λ _. to.new) }
+    ensures keys { OnOk result (keys.new.keys ≡ map link_key (all_linked links.now ++ linked_to view table to.new)) }
 {
-    let Some(number) = number_of(views, word) else {
-        return Err(TypeFault::UnknownView { at: word.at });
-    };
+    let number = view_named(views, word)?;
     if number == view {
         return Err(TypeFault::SelfLink { at: word.at });
     }
-    if links.contains(&(view, table, number)) {
+    if keys.contains(&(view, table, number)) {
         return Err(TypeFault::RepeatedDeclaration { at: word.at });
     }
-    links.insert_full((view, table, number))?;
+    keys.insert_full((view, table, number))?;
     to.push(number)?;
     Ok(())
 }
@@ -44,52 +99,20 @@ fn add_to(
 /// The linked views of a link.
 fn linked(
     alloc: Global,
-    catalog: &Catalog,
-    views: &IndexSet<Text>,
-    links: &mut IndexSet<(u32, u32, u32)>,
+    views: &Indexed<ViewInfo>,
+    links: &[LinkInfo],
+    keys: &mut IndexSet<(u32, u32, u32)>,
     view: u32,
     table: u32,
     words: &[Word],
 ) -> Result<Rids, TypeFault>
-    requires names { views.now.keys ≡ map (λ view. view.name) (catalog_image catalog.now).views }
-    requires few { length views.now.keys ≤ 64 }
-    requires links { links.old.keys ≡ map link_key (all_linked catalog.now.links) }
-    ensures to { Finds result (in_turn (typing.to_after (catalog_image catalog.now) view table) [] words.now) (λ to. to) }
-    ensures links { IfOk result (λ to. links.new.keys ≡ map link_key (all_linked catalog.now.links ++ linked_to view table to)) }
+    requires { keys.old.keys ≡ map link_key (all_linked links.now) }
+    ensures to { Finds result (in_turn (typing.to_after (over views.now links.now) view table) [] words.now) (λ to. to) }
+    ensures keys { IfOk result (λ to. keys.new.keys ≡ map link_key (all_linked links.now ++ linked_to view table to)) }
 {
     let mut to = Rids::new(alloc);
     for word in words {
-        add_to(catalog, views, links, view, table, &mut to, word)?;
+        add_to(views, links, keys, view, table, &mut to, word)?;
     }
     Ok(to)
-}
-
-impl Draft {
-    /// A `link` statement.
-    pub fn add_link(
-        &mut self,
-        alloc: Global,
-        view: &Word,
-        table: &Word,
-        words: &Words,
-    ) -> Result<(), TypeFault>
-        requires draft { IsDraft self.old }
-        ensures after { Finds result (typing.link_after (catalog_image self.old.catalog) view.now table.now words.now) (λ _. catalog_image self.new.catalog) }
-        ensures draft { OnOk result (IsDraft self.new) }
-        ensures grown { OnOk result (Grows self.old self.new 0 0) }
-    {
-        let view = self.view_named(view)?;
-        let table = self.table_named(table)?;
-        let to = linked(
-            alloc,
-            &self.catalog,
-            &self.views,
-            &mut self.links,
-            view,
-            table,
-            words.as_slice(),
-        )?;
-        self.catalog.links.push(LinkInfo { view, table, to })?;
-        Ok(())
-    }
 }

@@ -2,22 +2,35 @@ ghost use Rattle.std.specs.Prelude.{◌≡◌, ◌≤◌, ◌+◌, [], length, O
 ghost use Rattle.smk_model.specs.Names.{in_turn};
 ghost use Rattle.smk_model.specs.TypedSteps as steps;
 ghost use Rattle.smk_typing.specs.Answers.{Finds};
-ghost use Rattle.smk_typing.specs.Images.{group_of};
+ghost use Rattle.smk_typing.specs.Images.{group_of, part_after};
 
 use crate::columns::{column_named, has_column, is_same_sort};
 use crate::typed::Group;
 use smk_base::{
-    Agg, AggTree, AggWhat, Aggs, Column, Columns, Item, ItemTree, Items, Keys, Kind, PairTree,
-    Pairs, TypeFault, Word,
+    Agg, AggTree, AggWhat, Aggs, Column, Columns, Item, ItemTree, Items, Keys, Kind, ListOf,
+    PairTree, Pairs, TypeFault, Word,
 };
 use std::alloc::Global;
 
-/// A column under a name.
-fn named(alloc: Global, name: &Word, kind: Kind) -> Result<Column, TypeFault>
-    ensures { Finds result (Ok (steps.named name.now kind)) (λ column. column) }
+/// Puts a part of a list and its column last, under a new name.
+fn add_named<T: Copy + Drop>(
+    alloc: Global,
+    parts: &mut ListOf<T>,
+    made: &mut Columns,
+    part: T,
+    name: &Word,
+    kind: Kind,
+) -> Result<(), TypeFault>
+    ensures after { Finds result (part_after (parts.old, made.old) part name.now kind) (λ _. (parts.new, made.new)) }
+    ensures longer { OnOk result (length made.new ≡ length made.old + 1) }
 {
+    if has_column(made.as_slice(), name) {
+        return Err(TypeFault::DuplicateName { at: name.at });
+    }
     let name = name.name.copy(alloc)?;
-    Ok(Column { name, kind })
+    parts.push(part)?;
+    made.push(Column { name, kind })?;
+    Ok(())
 }
 
 /// The word that an item has as name.
@@ -56,28 +69,6 @@ fn typed_item(columns: &[Column], tree: &ItemTree) -> Result<(Item, Kind), TypeF
     }
 }
 
-/// Puts an item and its column last.
-fn add_item(
-    alloc: Global,
-    columns: &[Column],
-    items: &mut Items,
-    made: &mut Columns,
-    tree: &ItemTree,
-) -> Result<(), TypeFault>
-    requires { length columns.now ≤ 16 }
-    ensures after { Finds result (steps.item_after columns.now (items.old, made.old) tree.now) (λ _. (items.new, made.new)) }
-    ensures longer { OnOk result (length made.new ≡ length made.old + 1) }
-{
-    let (item, kind) = typed_item(columns, tree)?;
-    let name = item_name(tree);
-    if has_column(made.as_slice(), name) {
-        return Err(TypeFault::DuplicateName { at: name.at });
-    }
-    items.push(item)?;
-    made.push(named(alloc, name, kind)?)?;
-    Ok(())
-}
-
 /// A list of items, and the columns that it makes.
 pub fn typed_items(
     alloc: Global,
@@ -91,29 +82,10 @@ pub fn typed_items(
     let mut items = Items::new(alloc);
     let mut made = Columns::new(alloc);
     for tree in trees {
-        add_item(alloc, columns, &mut items, &mut made, tree)?;
+        let (item, kind) = typed_item(columns, tree)?;
+        add_named(alloc, &mut items, &mut made, item, item_name(tree), kind)?;
     }
     Ok((items, made))
-}
-
-/// Puts a key and its column last.
-fn add_key(
-    alloc: Global,
-    columns: &[Column],
-    keys: &mut Keys,
-    made: &mut Columns,
-    word: &Word,
-) -> Result<(), TypeFault>
-    requires { length columns.now ≤ 16 }
-    ensures { Finds result (steps.key_after columns.now (keys.old, made.old) word.now) (λ _. (keys.new, made.new)) }
-{
-    let (number, kind) = column_named(columns, word)?;
-    if has_column(made.as_slice(), word) {
-        return Err(TypeFault::DuplicateName { at: word.at });
-    }
-    keys.push(number)?;
-    made.push(named(alloc, word, kind)?)?;
-    Ok(())
 }
 
 /// A list of keys, and the columns that it makes.
@@ -128,7 +100,8 @@ fn typed_keys(
     let mut keys = Keys::new(alloc);
     let mut made = Columns::new(alloc);
     for word in words {
-        add_key(alloc, columns, &mut keys, &mut made, word)?;
+        let (number, kind) = column_named(columns, word)?;
+        add_named(alloc, &mut keys, &mut made, number, word, kind)?;
     }
     Ok((keys, made))
 }
@@ -170,26 +143,6 @@ fn typed_agg(columns: &[Column], what: &AggWhat) -> Result<(Agg, Kind), TypeFaul
     }
 }
 
-/// Puts an aggregate and its column last.
-fn add_agg(
-    alloc: Global,
-    columns: &[Column],
-    aggs: &mut Aggs,
-    made: &mut Columns,
-    tree: &AggTree,
-) -> Result<(), TypeFault>
-    requires { length columns.now ≤ 16 }
-    ensures { Finds result (steps.agg_after columns.now (aggs.old, made.old) tree.now) (λ _. (aggs.new, made.new)) }
-{
-    let (agg, kind) = typed_agg(columns, &tree.what)?;
-    if has_column(made.as_slice(), &tree.name) {
-        return Err(TypeFault::DuplicateName { at: tree.name.at });
-    }
-    aggs.push(agg)?;
-    made.push(named(alloc, &tree.name, kind)?)?;
-    Ok(())
-}
-
 /// A list of aggregates, whose columns come after those of the keys.
 fn typed_aggs(
     alloc: Global,
@@ -203,7 +156,8 @@ fn typed_aggs(
     let mut aggs = Aggs::new(alloc);
     let mut made = of_keys;
     for tree in trees {
-        add_agg(alloc, columns, &mut aggs, &mut made, tree)?;
+        let (agg, kind) = typed_agg(columns, &tree.what)?;
+        add_named(alloc, &mut aggs, &mut made, agg, &tree.name, kind)?;
     }
     Ok((aggs, made))
 }

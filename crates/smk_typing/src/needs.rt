@@ -8,8 +8,8 @@ use crate::typed_book::TypedBook;
 use smk_base::{Back, Catalog, Dir, Fwd, LinkInfo, Need, Needed};
 use std::alloc::{AllocError, Global};
 
-#[tactic(auto, using(crate::proofs::NeedsBelow::needs_below))]
 /// The lineage that the declared queries of a view need: exactly their tables, in their directions.
+#[tactic(auto, using(crate::proofs::NeedsBelow::needs_below))]
 pub fn needed(alloc: Global, book: &TypedBook, view: u32) -> Result<Need, AllocError>
     ensures needs { IfOk result (λ need. need ≡ needs (catalog_image book.now) view) }
     ensures tables { IfOk result (λ need. All (λ needed. needed.table < length book.now.tables) need) }
@@ -52,12 +52,14 @@ fn has_fwd(catalog: &Catalog, view: u32, table: u32) -> bool
         || in_links_to(catalog.links.as_slice(), view, table)
 }
 
+// Whether some backward declaration is of the view and the table.
 fn in_backs(backs: &[Back], view: u32, table: u32) -> bool
     ensures { result ≡ list_any (is_back view table) backs.now }
 {
     backs.iter().any(|b| b.view == view && b.table == table)
 }
 
+// Whether some forward declaration is of the table and the view.
 fn in_fwds(fwds: &[Fwd], view: u32, table: u32) -> bool
     ensures { result ≡ list_any (is_fwd view table) fwds.now }
 {
@@ -78,6 +80,7 @@ fn in_links_to(links: &[LinkInfo], view: u32, table: u32) -> bool
     links.iter().any(|l| leads_to(l, view) && l.table == table)
 }
 
+// Whether the link leads to the view.
 fn leads_to(link: &LinkInfo, view: u32) -> bool
     ensures { result ≡ has link.now.to view }
 {

@@ -1,263 +1,233 @@
-ghost use Rattle.std.specs.Prelude.{◌≤◌, length, IfOk};
-ghost use Rattle.smk_base.specs.PlanImage.{binary_of};
+ghost use Rattle.std.specs.Prelude.{◌≡◌, ◌≤◌, cond, length, Ok, IfOk, OnOk};
+ghost use Rattle.smk_base.specs.Plans.{Apply, Combine};
+ghost use Rattle.smk_base.specs.PlanImage.{expr_of, unary_of, binary_of};
+ghost use Rattle.smk_base.specs.Trees.{ScanNode};
 ghost use Rattle.smk_base.specs.TreeImage.{pred_image, tree_image, step_image};
 ghost use Rattle.smk_model.specs.Limits.{KeepsTree, KeepsStep, KeepsItems};
 ghost use Rattle.smk_model.specs.TypedSteps as steps;
 ghost use Rattle.smk_model.specs.Typing as typing;
 ghost use Rattle.smk_typing.specs.Answers.{Finds};
 ghost use Rattle.smk_typing.specs.Images.{plan_of};
-ghost use Rattle.smk_typing.specs.Drafts.{IsDraft};
 
-use crate::draft::Draft;
+use crate::draft::{columns_at, table_named};
+use crate::indexed::Indexed;
 use crate::lists::{typed_group, typed_items, typed_pairs};
 use crate::predicate::typed_pred;
-use crate::sides::{joined, united};
+use crate::sides::{join_columns, united};
 use crate::typed::{Group, Typed};
 use smk_base::{
-    AggTree, ItemTree, Op1, Op2, PairTree, Plan, PredTree, StepTree, Tree, TypeFault, Word,
+    AggTree, Columns, ItemTree, Op1, Op2, PairTree, Plan, PredTree, StepTree, TableInfo, Tree,
+    TypeFault, Word,
 };
 use std::alloc::Global;
+use std::mem;
 
-/// `where` over a typed input.
-fn selected(alloc: Global, left: Typed, tree: &PredTree) -> Result<Typed, TypeFault>
-    requires { length left.columns ≤ 16 }
-    ensures plan { Finds result (steps.selected (plan_of left) (pred_image tree.now)) plan_of }
+/// The scan of the table that a word names.
+fn scanned(alloc: Global, tables: &Indexed<TableInfo>, word: &Word) -> Result<Typed, TypeFault>
+    ensures plan { Finds result (typing.typed_plan tables.now (ScanNode word.now)) plan_of }
     ensures width { IfOk result (λ typed. length typed.columns ≤ 16) }
 {
-    let Typed { plan, columns } = left;
-    let pred = typed_pred(alloc, columns.as_slice(), tree)?;
+    let number = table_named(tables, word)?;
+    let columns = columns_at(alloc, tables, number)?;
     Ok(Typed {
-        plan: Plan::One(Op1::Select(pred), Box::new(alloc, plan)?),
+        plan: Plan::Scan(number),
         columns,
     })
 }
 
-/// `project` over a typed input.
-fn projected(alloc: Global, left: Typed, trees: &[ItemTree]) -> Result<Typed, TypeFault>
-    requires width { length left.columns ≤ 16 }
-    requires few { length trees.now ≤ 16 }
-    ensures plan { Finds result (steps.projected (plan_of left) trees.now) plan_of }
-    ensures width { IfOk result (λ typed. length typed.columns ≤ 16) }
+/// Puts a step over a plan, whose columns are those that it hands on. On an error the plan is lost.
+fn apply(alloc: Global, op: Op1, typed: &mut Typed) -> Result<(), TypeFault>
+    ensures plan { Finds result (Ok (record { plan = Apply (unary_of op) (expr_of typed.old.plan); columns = typed.old.columns })) (λ _. plan_of typed.new) }
+    ensures columns { OnOk result (typed.new.columns ≡ typed.old.columns) }
 {
-    let Typed { plan, columns } = left;
-    let (items, made) = typed_items(alloc, columns.as_slice(), trees)?;
-    Ok(Typed {
-        plan: Plan::One(Op1::Project(items), Box::new(alloc, plan)?),
-        columns: made,
-    })
+    let input = mem::replace(&mut typed.plan, Plan::Scan(0));
+    typed.plan = Plan::One(op, Box::new(alloc, input)?);
+    Ok(())
 }
 
-/// `distinct` over a typed input.
-fn distinct(alloc: Global, left: Typed, trees: &[ItemTree]) -> Result<Typed, TypeFault>
-    requires width { length left.columns ≤ 16 }
-    requires few { length trees.now ≤ 16 }
-    ensures plan { Finds result (steps.distinct (plan_of left) trees.now) plan_of }
-    ensures width { IfOk result (λ typed. length typed.columns ≤ 16) }
+/// Puts a step over a plan and a right one; the columns are those that it hands on. On an error the plan is lost.
+fn combine(alloc: Global, op: Op2, typed: &mut Typed, right: Plan) -> Result<(), TypeFault>
+    ensures plan { Finds result (Ok (record { plan = Combine (binary_of op) (expr_of typed.old.plan) (expr_of right); columns = typed.old.columns })) (λ _. plan_of typed.new) }
+    ensures columns { OnOk result (typed.new.columns ≡ typed.old.columns) }
 {
-    let Typed { plan, columns } = left;
-    let (items, made) = typed_items(alloc, columns.as_slice(), trees)?;
-    Ok(Typed {
-        plan: Plan::One(Op1::Distinct(items), Box::new(alloc, plan)?),
-        columns: made,
-    })
+    let left = Box::new(alloc, mem::replace(&mut typed.plan, Plan::Scan(0)))?;
+    let right = Box::new(alloc, right)?;
+    typed.plan = Plan::Two(op, left, right);
+    Ok(())
 }
 
-/// `group` over a typed input, at its place.
-fn grouped(
+/// Puts `where` over a typed input.
+fn select(alloc: Global, left: &mut Typed, tree: &PredTree) -> Result<(), TypeFault>
+    requires { length left.old.columns ≤ 16 }
+    ensures plan { Finds result (steps.selected (plan_of left.old) (pred_image tree.now)) (λ _. plan_of left.new) }
+    ensures width { OnOk result (length left.new.columns ≤ 16) }
+{
+    let pred = typed_pred(alloc, left.columns.as_slice(), tree)?;
+    apply(alloc, Op1::Select(pred), left)
+}
+
+/// Puts `project`, or `distinct`, over a typed input.
+fn project(
+    alloc: Global,
+    is_distinct: bool,
+    left: &mut Typed,
+    trees: &[ItemTree],
+) -> Result<(), TypeFault>
+    requires width { length left.old.columns ≤ 16 }
+    requires few { length trees.now ≤ 16 }
+    ensures plan { Finds result (cond is_distinct (steps.distinct (plan_of left.old) trees.now) (steps.projected (plan_of left.old) trees.now)) (λ _. plan_of left.new) }
+    ensures width { OnOk result (length left.new.columns ≤ 16) }
+{
+    let (items, made) = typed_items(alloc, left.columns.as_slice(), trees)?;
+    left.columns = made;
+    if is_distinct {
+        apply(alloc, Op1::Distinct(items), left)
+    } else {
+        apply(alloc, Op1::Project(items), left)
+    }
+}
+
+/// Puts `group` over a typed input, at its place.
+fn group(
     alloc: Global,
     at: u64,
-    left: Typed,
+    left: &mut Typed,
     words: &[Word],
     trees: &[AggTree],
-) -> Result<Typed, TypeFault>
-    requires { length left.columns ≤ 16 }
-    ensures plan { Finds result (steps.grouped at (plan_of left) words.now trees.now) plan_of }
-    ensures width { IfOk result (λ typed. length typed.columns ≤ 16) }
+) -> Result<(), TypeFault>
+    requires { length left.old.columns ≤ 16 }
+    ensures plan { Finds result (steps.grouped at (plan_of left.old) words.now trees.now) (λ _. plan_of left.new) }
+    ensures width { OnOk result (length left.new.columns ≤ 16) }
 {
-    let Typed { plan, columns } = left;
-    let group = typed_group(alloc, columns.as_slice(), at, words, trees)?;
     let Group {
         keys,
         aggs,
-        columns: made,
-    } = group;
-    Ok(Typed {
-        plan: Plan::One(Op1::Group(keys, aggs), Box::new(alloc, plan)?),
-        columns: made,
-    })
+        columns,
+    } = typed_group(alloc, left.columns.as_slice(), at, words, trees)?;
+    left.columns = columns;
+    apply(alloc, Op1::Group(keys, aggs), left)
 }
 
-/// `join` over two typed inputs, at its place.
-fn joined_plan(
+/// Puts `join` over two typed inputs, at its place.
+fn join(
     alloc: Global,
     at: u64,
+    left: &mut Typed,
+    right: Typed,
     trees: &[PairTree],
-    left: Typed,
-    right: Typed,
-) -> Result<Typed, TypeFault>
-    requires left { length left.columns ≤ 16 }
+) -> Result<(), TypeFault>
+    requires left { length left.old.columns ≤ 16 }
     requires right { length right.columns ≤ 16 }
-    ensures plan { Finds result (steps.joined_plan at trees.now (plan_of left) (plan_of right)) plan_of }
-    ensures width { IfOk result (λ typed. length typed.columns ≤ 16) }
+    ensures plan { Finds result (steps.joined_plan at trees.now (plan_of left.old) (plan_of right)) (λ _. plan_of left.new) }
+    ensures width { OnOk result (length left.new.columns ≤ 16) }
 {
-    let Typed {
-        plan: left_plan,
-        columns: lefts,
-    } = left;
-    let Typed {
-        plan: right_plan,
-        columns: rights,
-    } = right;
-    let pairs = typed_pairs(alloc, lefts.as_slice(), rights.as_slice(), trees)?;
-    let columns = joined(at, lefts, rights)?;
-    let left = Box::new(alloc, left_plan)?;
-    let right = Box::new(alloc, right_plan)?;
-    Ok(Typed {
-        plan: Plan::Two(Op2::Join(pairs), left, right),
-        columns,
-    })
+    let Typed { plan, columns } = right;
+    let pairs = typed_pairs(alloc, left.columns.as_slice(), columns.as_slice(), trees)?;
+    join_columns(alloc, at, &mut left.columns, columns)?;
+    combine(alloc, Op2::Join(pairs), left, plan)
 }
 
-/// `theta` over two typed inputs, at its place.
-fn theta_plan(
+/// Puts `theta` over two typed inputs, at its place.
+fn theta(
     alloc: Global,
     at: u64,
+    left: &mut Typed,
+    right: Typed,
     tree: &PredTree,
-    left: Typed,
-    right: Typed,
-) -> Result<Typed, TypeFault>
-    requires left { length left.columns ≤ 16 }
+) -> Result<(), TypeFault>
+    requires left { length left.old.columns ≤ 16 }
     requires right { length right.columns ≤ 16 }
-    ensures plan { Finds result (steps.theta_plan at (pred_image tree.now) (plan_of left) (plan_of right)) plan_of }
-    ensures width { IfOk result (λ typed. length typed.columns ≤ 16) }
+    ensures plan { Finds result (steps.theta_plan at (pred_image tree.now) (plan_of left.old) (plan_of right)) (λ _. plan_of left.new) }
+    ensures width { OnOk result (length left.new.columns ≤ 16) }
 {
-    let Typed {
-        plan: left_plan,
-        columns: lefts,
-    } = left;
-    let Typed {
-        plan: right_plan,
-        columns: rights,
-    } = right;
-    let columns = joined(at, lefts, rights)?;
-    let pred = typed_pred(alloc, columns.as_slice(), tree)?;
-    let left = Box::new(alloc, left_plan)?;
-    let right = Box::new(alloc, right_plan)?;
-    Ok(Typed {
-        plan: Plan::Two(Op2::Theta(pred), left, right),
-        columns,
-    })
+    let Typed { plan, columns } = right;
+    join_columns(alloc, at, &mut left.columns, columns)?;
+    let pred = typed_pred(alloc, left.columns.as_slice(), tree)?;
+    combine(alloc, Op2::Theta(pred), left, plan)
 }
 
-/// `product` over two typed inputs, at its place.
-fn product_plan(alloc: Global, at: u64, left: Typed, right: Typed) -> Result<Typed, TypeFault>
-    requires left { length left.columns ≤ 16 }
+/// Puts `product` over two typed inputs, at its place.
+fn product(alloc: Global, at: u64, left: &mut Typed, right: Typed) -> Result<(), TypeFault>
+    requires left { length left.old.columns ≤ 16 }
     requires right { length right.columns ≤ 16 }
-    ensures plan { Finds result (steps.product_plan at (plan_of left) (plan_of right)) plan_of }
-    ensures width { IfOk result (λ typed. length typed.columns ≤ 16) }
+    ensures plan { Finds result (steps.product_plan at (plan_of left.old) (plan_of right)) (λ _. plan_of left.new) }
+    ensures width { OnOk result (length left.new.columns ≤ 16) }
 {
-    let Typed {
-        plan: left_plan,
-        columns: lefts,
-    } = left;
-    let Typed {
-        plan: right_plan,
-        columns: rights,
-    } = right;
-    let columns = joined(at, lefts, rights)?;
-    let left = Box::new(alloc, left_plan)?;
-    let right = Box::new(alloc, right_plan)?;
-    Ok(Typed {
-        plan: Plan::Two(Op2::Product, left, right),
-        columns,
-    })
+    let Typed { plan, columns } = right;
+    join_columns(alloc, at, &mut left.columns, columns)?;
+    combine(alloc, Op2::Product, left, plan)
 }
 
-/// A union of two typed inputs, at its place.
-fn united_plan(
-    alloc: Global,
-    op: Op2,
-    at: u64,
-    left: Typed,
-    right: Typed,
-) -> Result<Typed, TypeFault>
-    requires { length left.columns ≤ 16 }
-    ensures plan { Finds result (steps.united_plan (binary_of op) at (plan_of left) (plan_of right)) plan_of }
-    ensures width { IfOk result (λ typed. length typed.columns ≤ 16) }
+/// Puts a union over two typed inputs, at its place.
+fn unite(alloc: Global, op: Op2, at: u64, left: &mut Typed, right: Typed) -> Result<(), TypeFault>
+    requires { length left.old.columns ≤ 16 }
+    ensures plan { Finds result (steps.united_plan (binary_of op) at (plan_of left.old) (plan_of right)) (λ _. plan_of left.new) }
+    ensures width { OnOk result (length left.new.columns ≤ 16) }
 {
-    let Typed {
-        plan: left_plan,
-        columns: lefts,
-    } = left;
-    let Typed {
-        plan: right_plan,
-        columns: rights,
-    } = right;
-    let columns = united(alloc, at, lefts.as_slice(), rights.as_slice())?;
-    let left = Box::new(alloc, left_plan)?;
-    let right = Box::new(alloc, right_plan)?;
-    Ok(Typed {
-        plan: Plan::Two(op, left, right),
-        columns,
-    })
+    let Typed { plan, columns } = right;
+    left.columns = united(alloc, at, left.columns.as_slice(), columns.as_slice())?;
+    combine(alloc, op, left, plan)
 }
 
 /// A plan over the tables so far. Its nodes and its parentheses are few, so the recursion is shallow.
 #[cycle(plan)]
-pub fn typed_plan(alloc: Global, draft: &Draft, tree: &Tree) -> Result<Typed, TypeFault>
-    requires draft { IsDraft draft.now }
+pub fn typed_plan(
+    alloc: Global,
+    tables: &Indexed<TableInfo>,
+    tree: &Tree,
+) -> Result<Typed, TypeFault>
     requires kept { KeepsTree (tree_image tree.now) }
-    ensures plan { Finds result (typing.typed_plan draft.now.catalog.tables (tree_image tree.now)) plan_of }
+    ensures plan { Finds result (typing.typed_plan tables.now (tree_image tree.now)) plan_of }
     ensures width { IfOk result (λ typed. length typed.columns ≤ 16) }
 {
     match tree {
-        Tree::Scan(word) => draft.scan(alloc, word),
+        Tree::Scan(word) => scanned(alloc, tables, word),
         Tree::Step { at, input, what } => {
-            let left = typed_plan(alloc, draft, input)?;
-            typed_step(alloc, draft, what, *at, left)
+            let mut typed = typed_plan(alloc, tables, input)?;
+            add_step(alloc, tables, what, *at, &mut typed)?;
+            Ok(typed)
         }
     }
 }
 
-/// A step at its place over a typed input.
+/// Puts a step at its place over a typed input. On a fault nothing is said of the input.
 #[cycle(plan)]
-fn typed_step(
+fn add_step(
     alloc: Global,
-    draft: &Draft,
+    tables: &Indexed<TableInfo>,
     what: &StepTree,
     at: u64,
-    left: Typed,
-) -> Result<Typed, TypeFault>
-    requires draft { IsDraft draft.now }
+    left: &mut Typed,
+) -> Result<(), TypeFault>
     requires kept { KeepsStep (step_image what.now) }
-    requires width { length left.columns ≤ 16 }
-    ensures plan { Finds result (typing.typed_step draft.now.catalog.tables (step_image what.now) at (plan_of left)) plan_of }
-    ensures width { IfOk result (λ typed. length typed.columns ≤ 16) }
+    requires width { length left.old.columns ≤ 16 }
+    ensures plan { Finds result (typing.typed_step tables.now (step_image what.now) at (plan_of left.old)) (λ _. plan_of left.new) }
+    ensures width { OnOk result (length left.new.columns ≤ 16) }
 {
     match what {
-        StepTree::Select(pred) => selected(alloc, left, pred),
-        StepTree::Project(items) => projected(alloc, left, items.as_slice()),
-        StepTree::Distinct(items) => distinct(alloc, left, items.as_slice()),
-        StepTree::Group(keys, aggs) => grouped(alloc, at, left, keys.as_slice(), aggs.as_slice()),
+        StepTree::Select(pred) => select(alloc, left, pred),
+        StepTree::Project(items) => project(alloc, false, left, items.as_slice()),
+        StepTree::Distinct(items) => project(alloc, true, left, items.as_slice()),
+        StepTree::Group(keys, aggs) => group(alloc, at, left, keys.as_slice(), aggs.as_slice()),
         StepTree::Join(source, pairs) => {
-            let right = typed_plan(alloc, draft, source)?;
-            joined_plan(alloc, at, pairs.as_slice(), left, right)
+            let right = typed_plan(alloc, tables, source)?;
+            join(alloc, at, left, right, pairs.as_slice())
         }
         StepTree::Theta(source, pred) => {
-            let right = typed_plan(alloc, draft, source)?;
-            theta_plan(alloc, at, pred, left, right)
+            let right = typed_plan(alloc, tables, source)?;
+            theta(alloc, at, left, right, pred)
         }
         StepTree::Product(source) => {
-            let right = typed_plan(alloc, draft, source)?;
-            product_plan(alloc, at, left, right)
+            let right = typed_plan(alloc, tables, source)?;
+            product(alloc, at, left, right)
         }
         StepTree::UnionAll(source) => {
-            let right = typed_plan(alloc, draft, source)?;
-            united_plan(alloc, Op2::UnionAll, at, left, right)
+            let right = typed_plan(alloc, tables, source)?;
+            unite(alloc, Op2::UnionAll, at, left, right)
         }
         StepTree::Union(source) => {
-            let right = typed_plan(alloc, draft, source)?;
-            united_plan(alloc, Op2::Union, at, left, right)
+            let right = typed_plan(alloc, tables, source)?;
+            unite(alloc, Op2::Union, at, left, right)
         }
     }
 }

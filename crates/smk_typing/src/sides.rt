@@ -8,6 +8,7 @@ ghost use Rattle.smk_typing.specs.Answers.{Finds};
 use crate::columns::is_same_sort;
 use smk_base::{Column, Columns, Text, TypeFault};
 use std::alloc::Global;
+use std::mem;
 
 /// Whether a column has this name.
 fn is_among(name: &Text, columns: &[Column]) -> bool
@@ -23,12 +24,17 @@ fn share_a_name(lefts: &[Column], rights: &[Column]) -> bool
     lefts.iter().any(|left| is_among(&left.name, rights))
 }
 
-/// The columns of both sides, at the place of `join`, `theta` or `product`.
-pub fn joined(at: u64, lefts: Columns, rights: Columns) -> Result<Columns, TypeFault>
-    requires left { length lefts ≤ 16 }
+/// Puts the right columns behind the left ones, at the place of `join`, `theta` or `product`.
+pub fn join_columns(
+    alloc: Global,
+    at: u64,
+    lefts: &mut Columns,
+    rights: Columns,
+) -> Result<(), TypeFault>
+    requires left { length lefts.old ≤ 16 }
     requires right { length rights ≤ 16 }
-    ensures columns { Finds result (steps.joined at lefts rights) (λ columns. columns) }
-    ensures width { IfOk result (λ columns. length columns ≤ 16) }
+    ensures columns { Finds result (steps.joined at lefts.old rights) (λ _. lefts.new) }
+    ensures width { OnOk result (length lefts.new ≤ 16) }
 {
     if share_a_name(lefts.as_slice(), rights.as_slice()) {
         return Err(TypeFault::DuplicateName { at });
@@ -36,10 +42,11 @@ pub fn joined(at: u64, lefts: Columns, rights: Columns) -> Result<Columns, TypeF
     if lefts.as_slice().len() + rights.as_slice().len() > 16 {
         return Err(TypeFault::RowTooWide { at });
     }
-    let mut columns = lefts.into_vec();
+    let mut columns = mem::replace(lefts, Columns::new(alloc)).into_vec();
     let mut more = rights.into_vec();
     columns.append(&mut more)?;
-    Ok(Columns::from_vec(columns))
+    *lefts = Columns::from_vec(columns);
+    Ok(())
 }
 
 /// Whether the columns are in each place both ints or both texts, as far as both sides have columns.
@@ -63,8 +70,8 @@ fn united_column(alloc: Global, left: &Column, right: &Column) -> Result<Column,
     })
 }
 
-#[tactic(auto, using(crate::proofs::Unions::take_more_zip, crate::proofs::Unions::take_all_zip))]
 /// The columns that are united from two sides of as many columns.
+#[tactic(auto, using(crate::proofs::Unions::take_more_zip, crate::proofs::Unions::take_all_zip))]
 fn united_columns(alloc: Global, lefts: &[Column], rights: &[Column]) -> Result<Columns, TypeFault>
     requires { length lefts.now ≡ length rights.now }
     ensures columns { Finds result (Ok (map united_column (zip lefts.now rights.now))) (λ columns. columns) }

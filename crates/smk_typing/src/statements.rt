@@ -1,121 +1,208 @@
-ghost use Rattle.std.specs.Prelude.{◌≡◌, ◌+◌, ◌<◌, ◌≤◌, length, OnOk};
-ghost use Rattle.smk_base.specs.CatalogImage.{catalog_image, view_image};
-ghost use Rattle.smk_base.specs.TreeImage.{tree_image};
-ghost use Rattle.smk_model.specs.Limits.{KeepsTree};
+ghost use Rattle.std.specs.Prelude.{◌≡◌, ◌+◌, ◌<◌, ◌≤◌, [], length, IfOk, Ok};
+ghost use Rattle.smk_base.specs.CatalogImage.{view_image};
+ghost use Rattle.smk_base.specs.PlanImage.{expr_of};
+ghost use Rattle.smk_base.specs.TreeImage.{stmt_image, tree_image};
+ghost use Rattle.smk_model.specs.Limits.{KeepsStmt, KeepsTree, is_table, is_view};
+ghost use Rattle.smk_model.specs.Names.{in_turn, names_of, kinds_of};
 ghost use Rattle.smk_model.specs.Typing as typing;
 ghost use Rattle.smk_typing.specs.Answers.{Finds};
-ghost use Rattle.smk_typing.specs.Drafts.{IsDraft, Grows};
-ghost use Rattle.smk_typing.specs.Images.{plan_of};
+ghost use Rattle.smk_typing.specs.Drafts.{draft_image};
+ghost use Rattle.smk_typing.specs.Drafts as drafts;
+ghost use Rattle.smk_typing.specs.Rest.{one_if};
 
-use crate::declared::{declared, kinds_of_columns, names_of_columns, typed_extra};
-use crate::draft::Draft;
+use crate::declared::{declared, names_and_kinds, typed_extra};
+use crate::draft::{Draft, columns_at, table_named, view_named};
+use crate::form::Form;
+use crate::indexed::Indexed;
+use crate::links::Links;
 use crate::plan::typed_plan;
 use crate::typed::Typed;
-use smk_base::{Back, Decls, Extra, Fwd, TableInfo, Text, Tree, TypeFault, ViewInfo, Word};
+use smk_base::{
+    Back, BackExtra, Decl, Extra, Fwd, Stmt, TableInfo, Text, Tree, TypeFault, ViewInfo, Word,
+};
 use std::alloc::Global;
+use std::mem;
 
-/// A view under a name.
-fn named_view(alloc: Global, name: &Word, typed: Typed) -> Result<ViewInfo, TypeFault>
-    ensures { Finds result (Ok (typing.view_of name.now (plan_of typed))) view_image }
+/// The catalog after one more statement.
+pub fn stmt_after(alloc: Global, draft: &mut Draft, stmt: &Stmt) -> Result<(), TypeFault>
+    requires tables { length draft.old.tables + one_if (is_table (stmt_image stmt.now)) ≤ 16 }
+    requires views { length draft.old.views + one_if (is_view (stmt_image stmt.now)) ≤ 64 }
+    requires kept { KeepsStmt (stmt_image stmt.now) }
+    ensures { Finds result (typing.stmt_after (draft_image draft.old) (stmt_image stmt.now)) (λ _. draft_image draft.new) }
 {
-    let Typed { plan, columns } = typed;
+    match stmt {
+        Stmt::Table { name, file, cols } => table_after(alloc, draft, name, file, cols.as_slice()),
+        Stmt::View { name, plan } => view_after(alloc, draft, name, plan),
+        Stmt::Back {
+            at,
+            view,
+            table,
+            extra,
+        } => back_after(alloc, draft, *at, view, table, extra),
+        Stmt::Fwd { at, table, view } => fwd_after(draft, *at, table, view),
+        Stmt::Link { view, table, to } => link_after(alloc, draft, view, table, to.as_slice()),
+    }
+}
+
+/// A table under a name, from its file.
+fn typed_table(
+    alloc: Global,
+    name: &Word,
+    file: &Text,
+    decls: &[Decl],
+) -> Result<TableInfo, TypeFault>
+    ensures columns { Finds result (in_turn typing.decl_after [] decls.now) (λ table. table.cols) }
+    ensures width { IfOk result (λ table. length table.cols ≡ length decls.now) }
+    ensures made { IfOk result (λ table. table ≡ record { name = name.now.name; file = file.now; cols = table.cols }) }
+{
     let name = name.name.copy(alloc)?;
-    let names = names_of_columns(alloc, columns.as_slice())?;
-    let kinds = kinds_of_columns(alloc, columns.as_slice())?;
+    let file = file.copy(alloc)?;
+    let cols = declared(alloc, decls)?;
+    Ok(TableInfo { name, file, cols })
+}
+
+/// The catalog after a `table` statement.
+fn table_after(
+    alloc: Global,
+    draft: &mut Draft,
+    name: &Word,
+    file: &Text,
+    decls: &[Decl],
+) -> Result<(), TypeFault>
+    requires room { length draft.old.tables < 16 }
+    requires few { length decls.now ≤ 16 }
+    ensures { Finds result (typing.table_after (draft_image draft.old) name.now file.now decls.now) (λ _. draft_image draft.new) }
+{
+    if draft.tables.has(&name.name) {
+        return Err(TypeFault::DuplicateName { at: name.at });
+    }
+    let key = name.name.copy(alloc)?;
+    let table = typed_table(alloc, name, file, decls)?;
+    draft.tables.push(key, table)?;
+    Ok(())
+}
+
+/// A view under a name, over the tables so far.
+fn typed_view(
+    alloc: Global,
+    tables: &Indexed<TableInfo>,
+    word: &Word,
+    tree: &Tree,
+) -> Result<ViewInfo, TypeFault>
+    requires { KeepsTree (tree_image tree.now) }
+    ensures { Finds result (drafts.typed_view tables.now word.now (tree_image tree.now)) view_image }
+{
+    let name = word.name.copy(alloc)?;
+    let typed = typed_plan(alloc, tables, tree)?;
+    named_view(alloc, name, typed)
+}
+
+/// A typed plan as a view under a name.
+fn named_view(alloc: Global, name: Text, typed: Typed) -> Result<ViewInfo, TypeFault>
+    ensures { Finds result (Ok (record { name = name; plan = expr_of typed.plan; names = names_of typed.columns; kinds = kinds_of typed.columns })) view_image }
+{
+    let (names, kinds) = names_and_kinds(alloc, typed.columns.as_slice())?;
     Ok(ViewInfo {
         name,
-        plan,
+        plan: typed.plan,
         names,
         kinds,
     })
 }
 
-impl Draft {
-    /// A `table` statement.
-    pub fn add_table(
-        &mut self,
-        alloc: Global,
-        name: &Word,
-        file: &Text,
-        decls: &Decls,
-    ) -> Result<(), TypeFault>
-        requires draft { IsDraft self.old }
-        requires room { length self.old.catalog.tables < 16 }
-        requires few { length decls.now ≤ 16 }
-        ensures after { Finds result (typing.table_after (catalog_image self.old.catalog) name.now file.now decls.now) (λ _. catalog_image self.new.catalog) }
-        ensures draft { OnOk result (IsDraft self.new) }
-        ensures grown { OnOk result (Grows self.old self.new 1 0) }
-    {
-        if self.has_table(name) {
-            return Err(TypeFault::DuplicateName { at: name.at });
-        }
-        let cols = declared(alloc, decls.as_slice())?;
-        let key = name.name.copy(alloc)?;
-        let file = file.copy(alloc)?;
-        let name = name.name.copy(alloc)?;
-        self.push_table(key, TableInfo { name, file, cols })?;
-        Ok(())
+/// The catalog after a `view` statement.
+fn view_after(alloc: Global, draft: &mut Draft, name: &Word, tree: &Tree) -> Result<(), TypeFault>
+    requires room { length draft.old.views < 64 }
+    requires kept { KeepsTree (tree_image tree.now) }
+    ensures { Finds result (typing.view_after (draft_image draft.old) name.now (tree_image tree.now)) (λ _. draft_image draft.new) }
+{
+    if draft.views.has(&name.name) {
+        return Err(TypeFault::DuplicateName { at: name.at });
     }
+    let key = name.name.copy(alloc)?;
+    let view = typed_view(alloc, &draft.tables, name, tree)?;
+    draft.views.push(key, view)?;
+    Ok(())
+}
 
-    /// A `view` statement.
-    pub fn add_view(&mut self, alloc: Global, name: &Word, tree: &Tree) -> Result<(), TypeFault>
-        requires draft { IsDraft self.old }
-        requires room { length self.old.catalog.views < 64 }
-        requires kept { KeepsTree (tree_image tree.now) }
-        ensures after { Finds result (typing.view_after (catalog_image self.old.catalog) name.now (tree_image tree.now)) (λ _. catalog_image self.new.catalog) }
-        ensures draft { OnOk result (IsDraft self.new) }
-        ensures grown { OnOk result (Grows self.old self.new 0 1) }
-    {
-        if self.has_view(name) {
-            return Err(TypeFault::DuplicateName { at: name.at });
-        }
-        let typed = typed_plan(alloc, self, tree)?;
-        let key = name.name.copy(alloc)?;
-        let info = named_view(alloc, name, typed)?;
-        self.push_view(key, info)?;
-        Ok(())
-    }
+/// The catalog after a `lineage back` statement.
+fn back_after(
+    alloc: Global,
+    draft: &mut Draft,
+    at: u64,
+    view: &Word,
+    table: &Word,
+    extra: &Extra,
+) -> Result<(), TypeFault>
+    ensures { Finds result (typing.back_after (draft_image draft.old) at view.now table.now extra.now) (λ _. draft_image draft.new) }
+{
+    let view = view_named(&draft.views, view)?;
+    let table = table_named(&draft.tables, table)?;
+    let extra = extra_at(alloc, &draft.tables, table, extra)?;
+    new_back(draft, at, Back { view, table, extra })
+}
 
-    /// A `lineage back` statement.
-    pub fn add_back(
-        &mut self,
-        alloc: Global,
-        at: u64,
-        view: &Word,
-        table: &Word,
-        extra: &Extra,
-    ) -> Result<(), TypeFault>
-        requires draft { IsDraft self.old }
-        ensures after { Finds result (typing.back_after (catalog_image self.old.catalog) at view.now table.now extra.now) (λ _. catalog_image self.new.catalog) }
-        ensures draft { OnOk result (IsDraft self.new) }
-        ensures grown { OnOk result (Grows self.old self.new 0 0) }
-    {
-        let view = self.view_named(view)?;
-        let table = self.table_named(table)?;
-        let columns = self.columns(alloc, table)?;
-        let extra = typed_extra(alloc, columns.as_slice(), extra)?;
-        let back = Back { view, table, extra };
-        if self.has_back(&back) {
-            return Err(TypeFault::RepeatedDeclaration { at });
-        }
-        self.push_back(back)?;
-        Ok(())
-    }
+/// What a backward declaration asks for over the columns of the table with this number.
+fn extra_at(
+    alloc: Global,
+    tables: &Indexed<TableInfo>,
+    table: u32,
+    extra: &Extra,
+) -> Result<BackExtra, TypeFault>
+    requires { table < length tables.now }
+    ensures { Finds result (typing.typed_extra (typing.columns_of (typing.info_at tables.now table)) extra.now) (λ asked. asked) }
+{
+    let columns = columns_at(alloc, tables, table)?;
+    typed_extra(alloc, columns.as_slice(), extra)
+}
 
-    /// A `lineage fwd` statement.
-    pub fn add_fwd(&mut self, at: u64, table: &Word, view: &Word) -> Result<(), TypeFault>
-        requires draft { IsDraft self.old }
-        ensures after { Finds result (typing.fwd_after (catalog_image self.old.catalog) at table.now view.now) (λ _. catalog_image self.new.catalog) }
-        ensures draft { OnOk result (IsDraft self.new) }
-        ensures grown { OnOk result (Grows self.old self.new 0 0) }
-    {
-        let table = self.table_named(table)?;
-        let view = self.view_named(view)?;
-        let fwd = Fwd { table, view };
-        if self.has_fwd(&fwd) {
-            return Err(TypeFault::RepeatedDeclaration { at });
-        }
-        self.push_fwd(fwd)?;
-        Ok(())
+/// The catalog with one more backward declaration.
+fn new_back(draft: &mut Draft, at: u64, back: Back) -> Result<(), TypeFault>
+    ensures { Finds result (typing.new_back (draft_image draft.old) at back) (λ _. draft_image draft.new) }
+{
+    let form = Form::of(&back.extra);
+    let key = (back.view, back.table, form);
+    if draft.backs.has(&key) {
+        return Err(TypeFault::RepeatedDeclaration { at });
     }
+    draft.backs.push(key, back)?;
+    Ok(())
+}
+
+/// The catalog after a `lineage fwd` statement.
+fn fwd_after(draft: &mut Draft, at: u64, table: &Word, view: &Word) -> Result<(), TypeFault>
+    ensures { Finds result (typing.fwd_after (draft_image draft.old) at table.now view.now) (λ _. draft_image draft.new) }
+{
+    let table = table_named(&draft.tables, table)?;
+    let view = view_named(&draft.views, view)?;
+    new_fwd(draft, at, Fwd { table, view })
+}
+
+/// The catalog with one more forward declaration.
+fn new_fwd(draft: &mut Draft, at: u64, fwd: Fwd) -> Result<(), TypeFault>
+    ensures { Finds result (typing.new_fwd (draft_image draft.old) at fwd) (λ _. draft_image draft.new) }
+{
+    let key = (fwd.table, fwd.view);
+    if draft.fwds.has(&key) {
+        return Err(TypeFault::RepeatedDeclaration { at });
+    }
+    draft.fwds.push(key, fwd)?;
+    Ok(())
+}
+
+/// The catalog after a link of a view on a table to other views.
+fn link_after(
+    alloc: Global,
+    draft: &mut Draft,
+    view: &Word,
+    table: &Word,
+    words: &[Word],
+) -> Result<(), TypeFault>
+    ensures { Finds result (typing.link_after (draft_image draft.old) view.now table.now words.now) (λ _. draft_image draft.new) }
+{
+    let view = view_named(&draft.views, view)?;
+    let table = table_named(&draft.tables, table)?;
+    let links = mem::replace(&mut draft.links, Links::new(alloc));
+    draft.links = links.with(alloc, &draft.views, view, table, words)?;
+    Ok(())
 }

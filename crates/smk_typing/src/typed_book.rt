@@ -1,9 +1,7 @@
 ghost use Rattle.std.specs.Prelude.{◌≡◌};
 ghost use Rattle.smk_base.specs.CatalogImage.{catalog_image};
-ghost use Rattle.smk_model.specs.Catalogs.{IsTyped, IsCatalog};
-ghost use Rattle.smk_typing.specs.Drafts.{IsDraft};
+ghost use Rattle.smk_model.specs.Catalogs.{IsCatalog};
 
-use crate::draft::Draft;
 use smk_base::Catalog;
 use std::marker::Model;
 
@@ -31,20 +29,11 @@ impl Model for TypedBook {
 }
 
 impl TypedBook {
-    /// The checked book of a draft.
-    pub(crate) fn of(draft: Draft) -> TypedBook
-        requires indexed { IsDraft draft }
-        requires typed { IsTyped (catalog_image draft.catalog) }
-        ensures { result ≡ draft.catalog }
+    /// The checked book of a catalog.
+    pub(crate) fn of(catalog: Catalog) -> TypedBook
+        requires { IsCatalog (catalog_image catalog) }
+        ensures { result ≡ catalog }
     {
-        let Draft {
-            catalog,
-            tables: _,
-            views: _,
-            backs: _,
-            fwds: _,
-            links: _,
-        } = draft;
         TypedBook { catalog }
     }
 

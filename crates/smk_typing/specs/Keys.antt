@@ -1,0 +1,30 @@
+-- What makes two declarations the same, and what a book keeps of its tables.
+use Rattle.std.specs.Prelude.{◌≤◌, ℕ, List, length, All}
+use Rattle.smk_base.specs.declared.catalog.TableInfo.{TableInfo}
+use Rattle.smk_base.specs.declared.catalog.Back.{Back}
+use Rattle.smk_base.specs.declared.catalog.Fwd.{Fwd}
+use Rattle.smk_base.specs.declared.catalog.BackExtra.{BackExtra}
+use Rattle.smk_base.specs.declared.catalog.BackExtra.TheVariants as extras
+use Rattle.smk_model.specs.Typing.{Linked}
+use Rattle.smk_typing.specs.declared.form.Form.{Form}
+use Rattle.smk_typing.specs.declared.form.Form.TheVariants.{Plain, By, Grouped}
+
+-- at most 16 tables, of at most 16 columns each
+abbrev pub AreTables : List TableInfo → Type 0
+AreTables tables = (length tables ≤ 16) × All (λ table. length table.cols ≤ 16) tables
+
+-- the form of a backward declaration
+abbrev pub form_of : BackExtra → Form
+form_of extras.Plain = Plain
+form_of (extras.By column) = By column
+form_of (extras.Grouped keys aggs names kinds) = Grouped
+
+-- what makes two declarations the same
+abbrev pub back_key : Back → ℕ × ℕ × Form
+back_key back = (back.view, back.table, form_of back.extra)
+
+abbrev pub fwd_key : Fwd → ℕ × ℕ
+fwd_key fwd = (fwd.table, fwd.view)
+
+abbrev pub link_key : Linked → ℕ × ℕ × ℕ
+link_key linked = (linked.view, linked.table, linked.to)
