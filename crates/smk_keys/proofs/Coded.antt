@@ -25,12 +25,6 @@ IsCoded-none eq none items keys e = rw e (record {
   different = IsDistinct-from_apart eq [] (λ i j d p q. absurd (omega arith));
 })
 
-pub place-le : {X : Type 0} (p : X → Bool) (xs : List X) (none : X) → position_or_len p xs ≤ length xs
-place-le p xs none = elim (cases_Bool (list_any p xs)) [
-  | inl there ↦ omega (arith, (found_at p xs none there).0)
-  | inr new ↦ omega (arith, none_at p xs new)
-]
-
 -- an item that is there
 again : {X : Type 0} (eq : X → X → Bool) (decides : (x y : X) → Decides (eq x y) (x ≡ y)) (none : X) (items : List X) (n : ℕ) (of : List ℕ) (keys : List X) → IsCoded eq none items n of keys
     → list_any (eq (get_or items n none)) keys ≡ true → IsCoded eq none items (n + 1) (of ++ position_or_len (eq (get_or items n none)) keys ∷ []) keys

@@ -6,6 +6,7 @@ use Rattle.std.proofs.lemmas.Bool.{cases_order, cases_Bool, cases_lt}
 use Rattle.std.proofs.lemmas.List.{get_or-map, get_or-take, length-take-le, length-map, take_more, take_all, map_more, get_or_default}
 use Rattle.std.proofs.lemmas.List.Folds.{list_any_at, list_any_none}
 use Rattle.smk_keys.specs.Classes.{first_items}
+use Rattle.smk_keys.specs.Numbers.{AreNumbers}
 
 fold_push : {A B : Type 0} (f : B → A → B) (b : B) (xs : List A) (x : A) → fold f b (xs ++ x ∷ []) ≡ f (fold f b xs) x
 fold_push f b [] x = refl
@@ -34,6 +35,15 @@ AreClasses-alike none other items others of firsts e there back is = record {
   place = λ k h. omega (arith, is.place k h);
   at = is.at;
   first = is.first;
+}
+
+-- classes are numbers of the items
+pub AreNumbers-classes : {X : Type 0} (none : X) (items : List X) (of firsts : List ℕ) → AreClasses none items of firsts → AreNumbers none items (length firsts) of
+AreNumbers-classes none items of firsts are = record {
+  long = are.long;
+  below = λ i d h. rw (get_or_default of i d 0 h) (are.within i (omega (arith, are.long)));
+  same = are.same;
+  alike = are.alike;
 }
 
 -- the first n items have the first c classes

@@ -1,6 +1,8 @@
 -- Numbers of rows, column by column.
 use Rattle.std.proofs.Common.{◌≡◌, ℕ, zero, suc, ◌+◌, ◌-◌, ◌<◌, ◌≤◌, ℤ, pos, List, [], ◌∷◌, ◌++◌, length, map, take, drop, get_or, nat_eq, refl, ap, sym, subst, ◌∙◌, arith, All, inl, inr, replicate, length-append, Decides}
+use Rattle.std.specs.Cmp.{signed_Decides}
 use Rattle.std.specs.List.{zip, slice_range}
+use Rattle.std.specs.Ordering.{int_eq}
 use Rattle.std.proofs.lemmas.Bool.{cases_lt}
 use Rattle.std.proofs.lemmas.List.{get_or_append_left, get_or-append_right, get_or_default, get_or-map, get_or-replicate, get_or-take, get_or-drop, length-drop, length-take-le, take-map, drop-map, take_all, length-map, length-replicate, map-append, map_push, same_from_push, same_lists}
 use Rattle.std.proofs.lemmas.Slice.Eq.{slice_eq-Decides}
@@ -16,7 +18,8 @@ use Rattle.smk_base.proofs.RelRows.{Fits-value_in}
 use Rattle.smk_keys.specs.Classes.{ClassesImage, classing_of, classes_of}
 use Rattle.smk_keys.specs.Keys.{key_eq}
 use Rattle.smk_keys.specs.Numbers.{AreNumbers}
-use Rattle.smk_keys.proofs.Classing.{classing-numbers}
+use Rattle.smk_keys.proofs.Classing.{AreClasses-classing, classing-numbers}
+use Rattle.smk_keys.proofs.Firsts.{AreNumbers-classes}
 
 pub key_same : (a b : List Value) → Decides (key_eq a b) (a ≡ b)
 key_same a b = slice_eq-Decides value_same a b (key_eq a b) refl
@@ -99,6 +102,10 @@ AreNumbers-ones keys of_values count of e key are = record {
 pub take_one : (cols : List ℕ) → (length cols ≡ 0 → ⊥) → take 1 cols ≡ get_or cols 0 0 ∷ []
 take_one [] h = absurd (h refl)
 take_one (c ∷ cols) h = refl
+
+-- one column is the first one
+pub only_one : (cols : List ℕ) → length cols ≡ 1 → cols ≡ get_or cols 0 0 ∷ []
+only_one cols one = sym (take_all 1 cols (omega arith)) ∙ take_one cols (λ e. absurd (omega arith))
 
 pub take_none : (cols : List ℕ) → length cols ≡ 0 → take 1 cols ≡ []
 take_none [] h = refl
@@ -237,3 +244,12 @@ pub AreNumbers-codes_range : (c : ℕ) (rows : List (List Value)) (codes : List 
 AreNumbers-codes_range c rows codes from to count are below order within =
     let long : length (column_values c rows) ≡ length rows = length-map rows (λ (row : List Value). value_in row c) in
     rw (column-range c rows from to) (AreNumbers-range (values.Int (pos 0)) (column_values c rows) count codes from to (record { long = are.long; below = below; same = are.same; alike = are.alike }) order (omega arith))
+
+-- the classes of the ints of a column are those of the keys of this one column
+pub classes-ints : (c : ℕ) (rows : List (List Value)) (ns : List ℤ) (from to : ℕ) (made : ClassesImage) → map values.Int ns ≡ column_values c rows → made ≡ classing_of int_eq (slice_range ns from to) → made ≡ classes_of (map (picked (c ∷ [])) (slice_range rows from to))
+classes-ints c rows ns from to made e is =
+    let items = slice_range ns from to in
+    let these = classing_of int_eq items in
+    let are = AreNumbers-classes (pos 0) items these.of these.firsts (AreClasses-classing int_eq signed_Decides (pos 0) items) in
+    classes-numbers (map (picked (c ∷ [])) (slice_range rows from to)) _ these.of made (is ∙ sym (classing-numbers int_eq signed_Decides (pos 0) items _ these.of are))
+    (AreNumbers-one (slice_range rows from to) c _ these.of (AreNumbers-ints_range c rows ns from to _ these.of e are))
