@@ -1,9 +1,10 @@
 -- Numbers of rows that are numbered piece by piece.
-use Rattle.std.proofs.Common.{◌≡◌, ◌∙◌, ◌<◌, ◌≤◌, ◌+◌, ◌-◌, ℕ, List, [], ◌++◌, length, map, get_or, take, drop, ap, sym, refl, arith, inl, inr, length-append, All, subst}
+use Rattle.std.proofs.Common.{◌≡◌, ◌∙◌, ◌<◌, ◌≤◌, ◌+◌, ◌-◌, ℕ, List, [], ◌∷◌, ◌++◌, length, map, get_or, take, drop, ap, ap₂, sym, refl, arith, inl, inr, length-append, All, subst}
 use Rattle.std.specs.Prelude.{slice_range}
 use Rattle.std.proofs.lemmas.Bool.{cases_lt}
-use Rattle.std.proofs.lemmas.Grind.{same_number_lists}
-use Rattle.std.proofs.lemmas.List.{get_or_append_left, get_or-append_right, get_or-map, get_or-take, get_or-drop, get_or_default, length-map, length-drop, take-map, drop-map, length-take-le, take_all}
+use Rattle.std.proofs.lemmas.Simd.{map-map}
+use Rattle.std.proofs.lemmas.List.{get_or_append_left, get_or-append_right, get_or-map, get_or-take, get_or-drop, get_or_default, length-map, length-drop, take-map, drop-map, length-take-le, take_all, take_more, append-nil, append_assoc, map-append}
+use Rattle.std.proofs.lemmas.List.Sums.{sum_by-append, sum_by-cons, sum_by_push}
 use Rattle.smk_base.specs.Rels.{Relation, row_in, rows_at}
 use Rattle.smk_model.specs.Values.{Row}
 use Rattle.smk_model.specs.Plain.{key_of}
@@ -19,20 +20,8 @@ use Rattle.smk_body.specs.Pieces.{ArePieces}
 use Rattle.smk_body.specs.declared.pieces.Piece.{Piece}
 use Rattle.smk_body.proofs.Classing.{are_numbered, few_firsts}
 use Rattle.smk_par.specs.Cuts.{HasKeys, classes_in, cut_at, firsts_in}
-use Rattle.smk_par.specs.Renumbered.{StandFor}
-use Rattle.smk_par.proofs.Cutting.{cut_end, cut_first, cut_grows, cut_within}
-
--- no keys have no numbers
-pub stand_none : (keys : List Row) → StandFor keys 0 [] []
-stand_none keys = record {
-  long = refl;
-  few = omega arith;
-  within = λ i h. absurd (omega (arith, h));
-  place = λ k h. absurd (omega (arith, h));
-  at = λ k h. absurd (omega (arith, h));
-  first = λ k i h l. absurd (omega (arith, h));
-  same = λ i h. absurd (omega (arith, h));
-}
+use Rattle.smk_par.specs.Renumbered.{HasRoom, StandFor, key_total, numbers_from, row_total}
+use Rattle.smk_par.proofs.Cutting.{cut_grows, cut_within}
 
 pub length_range : (rows : List Row) (n m : ℕ) → n ≤ m → m ≤ length rows → length (slice_range rows n m) ≡ m - n
 length_range rows n m h l = length-take-le (m - n) (drop n rows) (omega (arith, length-drop n rows))
@@ -215,12 +204,32 @@ module _ (f : Row → Row) (rows : List Row) (n m : ℕ) (piece : ClassesImage) 
       subst (λ (made : ClassesImage). StandFor (map f rows) m (firsts ++ map (λ x. n + x) made.firsts) (of ++ map (λ x. length firsts + x) made.of)) (sym is_part)
       (stand_more (map f rows) n m firsts of so order (omega (arith, long_keys)))
 
-  -- the moved places and numbers stay small
+  -- the moved places stay small
   pub places_small : (bound : ℕ) → length rows < bound → All (λ x. n + x < bound) piece.firsts
   places_small bound small = λ k d h. (let at = numbered_part.within k d h in omega (arith, at, long_range))
 
-  pub numbers_small : (bound count : ℕ) → length rows < bound → count ≤ n → All (λ x. count + x < bound) piece.of
-  numbers_small bound count small few = λ k d h. (let at = numbered_part.below k d h in omega (arith, at, numbered_part.few, long_range))
+-- of pieces and further ones, the numbers of the further ones begin behind the keys of the others
+pub numbers_append : (base : ℕ) (low high : List Piece) → numbers_from base (low ++ high) ≡ numbers_from base low ++ numbers_from (base + key_total low) high
+numbers_append base [] high = ap (λ b. numbers_from b high) (let none : base ≡ base + 0 = omega arith in none)
+numbers_append base (piece ∷ low) high =
+    let keys : base + length (firsts_in piece) + key_total low ≡ base + key_total (piece ∷ low) = omega (arith, sum_by-cons (λ q. length (firsts_in q)) piece low) in
+    ap (λ rest. map (λ x. base + x) (classes_in piece) ++ rest) (numbers_append (base + length (firsts_in piece)) low high ∙ ap (λ b. numbers_from (base + length (firsts_in piece)) low ++ numbers_from b high) keys)
+    ∙ sym (append_assoc (map (λ x. base + x) (classes_in piece)) (numbers_from (base + length (firsts_in piece)) low) (numbers_from (base + key_total (piece ∷ low)) high))
+
+-- those of one piece
+pub numbers_one : (base : ℕ) (piece : Piece) → numbers_from base (piece ∷ []) ≡ map (λ x. base + x) (classes_in piece)
+numbers_one base piece = append-nil (map (λ x. base + x) (classes_in piece))
+
+numbers_push : (base : ℕ) (pieces : List Piece) (piece : Piece) → numbers_from base (pieces ++ piece ∷ []) ≡ numbers_from base pieces ++ map (λ x. base + key_total pieces + x) (classes_in piece)
+numbers_push base pieces piece = numbers_append base pieces (piece ∷ []) ∙ ap (λ rest. numbers_from base pieces ++ rest) (numbers_one (base + key_total pieces) piece)
+
+-- each row has one
+pub length-numbers_from : (base : ℕ) (pieces : List Piece) → length (numbers_from base pieces) ≡ row_total pieces
+length-numbers_from base [] = refl
+length-numbers_from base (piece ∷ pieces) =
+    length-append (map (λ x. base + x) (classes_in piece)) (numbers_from (base + length (firsts_in piece)) pieces)
+    ∙ ap₂ ◌+◌ (length-map (classes_in piece) (λ x. base + x)) (length-numbers_from (base + length (firsts_in piece)) pieces)
+    ∙ sym (sum_by-cons (λ q. length (classes_in q)) piece pieces)
 
 -- the keys of piece p behind those of the pieces before it
 module _ (keys : List ℕ) (rows : List Row) (workers p : ℕ) (made : List Piece) (piece : Piece) (below : p < workers)
@@ -240,14 +249,24 @@ module _ (keys : List ℕ) (rows : List Row) (workers p : ℕ) (made : List Piec
   within : to ≤ length rows
   within = cut_within workers (length rows) (p + 1) (omega arith)
 
-  pub next_numbers : (firsts of : List ℕ) → StandFor (map (key_of keys) rows) from firsts of → StandFor (map (key_of keys) rows) to (firsts ++ map (λ x. from + x) (firsts_in piece)) (of ++ map (λ x. length firsts + x) (classes_in piece))
-  next_numbers = stand_next (key_of keys) rows from to (record { of = classes_in piece; firsts = firsts_in piece }) has order within
+  so_far : take (p + 1) made ≡ take p made ++ piece ∷ []
+  so_far = take_more made p piece (omega (arith, are.0)) ∙ ap (λ x. take p made ++ x ∷ []) (sym read)
+
+  pub next_keys : (firsts : List ℕ) → length firsts ≡ key_total (take p made) → length (firsts ++ map (λ x. from + x) (firsts_in piece)) ≡ key_total (take (p + 1) made)
+  next_keys firsts long =
+      length-append firsts (map (λ x. from + x) (firsts_in piece)) ∙ ap₂ ◌+◌ long (length-map (firsts_in piece) (λ x. from + x))
+      ∙ sym (ap key_total so_far ∙ sum_by_push (λ q. length (firsts_in q)) (take p made) piece)
+
+  pub next_numbers : (firsts : List ℕ) → length firsts ≡ key_total (take p made) → StandFor (map (key_of keys) rows) from firsts (numbers_from 0 (take p made))
+      → StandFor (map (key_of keys) rows) to (firsts ++ map (λ x. from + x) (firsts_in piece)) (numbers_from 0 (take (p + 1) made))
+  next_numbers firsts long so =
+      let more : numbers_from 0 (take p made) ++ map (λ x. length firsts + x) (classes_in piece) ≡ numbers_from 0 (take (p + 1) made) =
+      ap (λ b. numbers_from 0 (take p made) ++ map (λ x. b + x) (classes_in piece)) (let count : length firsts ≡ 0 + key_total (take p made) = omega (arith, long) in count) ∙ sym (ap (numbers_from 0) so_far ∙ numbers_push 0 (take p made) piece) in
+      subst (StandFor (map (key_of keys) rows) to (firsts ++ map (λ x. from + x) (firsts_in piece))) more
+      (stand_next (key_of keys) rows from to (record { of = classes_in piece; firsts = firsts_in piece }) has order within firsts (numbers_from 0 (take p made)) so)
 
   pub places_fit : (bound : ℕ) → length rows < bound → All (λ x. from + x < bound) (firsts_in piece)
   places_fit = places_small (key_of keys) rows from to (record { of = classes_in piece; firsts = firsts_in piece }) has order within
-
-  pub numbers_fit : (bound count : ℕ) → length rows < bound → count ≤ from → All (λ x. count + x < bound) (classes_in piece)
-  numbers_fit = numbers_small (key_of keys) rows from to (record { of = classes_in piece; firsts = firsts_in piece }) has order within
 
 -- the classes of the first keys
 pub first_classes : (keys : List Row) (places taken : List ℕ) (picked first : Relation) (made : ClassesImage) → picked.rows ≡ keys → taken ≡ places → first.rows ≡ rows_at picked.rows taken → made ≡ classes_of first.rows → made ≡ classes_of (map (row_in keys) places)
@@ -260,27 +279,83 @@ firsts_within keys places made e =
     subst (λ (classes : ClassesImage). All (λ i. i < length places) classes.firsts) (sym e)
     (λ k d h. (let at = (are_numbered first).within k d h in omega (arith, at, length-map places (row_in keys))))
 
--- the places are of keys, and the numbers of first ones
-pub stand_places : (keys : List Row) (n : ℕ) (firsts of : List ℕ) → StandFor keys n firsts of → All (λ place. place < n) firsts
-stand_places keys n firsts of so = λ k d h. rw (get_or_default firsts k d 0 h) (so.place k h)
-
+-- the numbers are of first keys
 pub stand_numbers : (keys : List Row) (n : ℕ) (firsts of : List ℕ) → StandFor keys n firsts of → All (λ number. number < length firsts) of
 stand_numbers keys n firsts of so = λ i d h. rw (get_or_default of i d 0 h) (so.within i (omega (arith, so.long)))
 
--- what is looked up number by number is looked up in the whole list
-pub looked : (table numbers found : List ℕ) → length found ≡ length numbers → ((i : ℕ) → i < length numbers → get_or found i 0 ≡ get_or table (get_or numbers i 0) 0) → found ≡ map (λ number. get_or table number 0) numbers
-looked table numbers found long each =
-    same_number_lists found (map (λ number. get_or table number 0) numbers) (long ∙ sym (length-map numbers (λ number. get_or table number 0)))
-    (λ i h. each i (omega (arith, long)) ∙ sym (get_or-map (λ number. get_or table number 0) numbers i 0 0 (omega (arith, long))))
+-- each half of the pieces has room where they all have
+module _ (base : ℕ) (pieces low high : List Piece) (table of front back : List ℕ) (room : HasRoom base pieces table of) (cut : pieces ≡ low ++ high) (parts : of ≡ front ++ back) (long : length front ≡ row_total low) where
+  abbrev lows : List ℕ
+  lows = numbers_from base low
 
--- one piece has the classes of all rows
-pub one_piece : (keys : List ℕ) (rows : List Row) (pieces : ℕ) (made : List Piece) (piece : Piece) → pieces ≡ 1
-    → ArePieces (λ p. HasKeys keys rows (cut_at pieces (length rows) p) (cut_at pieces (length rows) (p + 1))) pieces made → piece ≡ get_or made 0 piece
-    → record { of = classes_in piece; firsts = firsts_in piece } ≡ classes_of (map (key_of keys) rows)
-one_piece keys rows pieces made piece one are read =
-    let n = length rows in
-    let has : HasKeys keys rows (cut_at pieces n 0) (cut_at pieces n 1) piece = subst (HasKeys keys rows (cut_at pieces n 0) (cut_at pieces n 1)) (sym read) (are.1 0 piece (omega arith)) in
-    let first : cut_at pieces n 0 ≡ 0 = cut_first pieces n in
-    let last : cut_at pieces n 1 ≡ n = cut_end pieces n 1 (omega arith) (sym one) in
-    let all : slice_range rows 0 n ≡ rows = take_all (n - 0) rows (omega arith) in
-    has ∙ (λ t. classes_of (map (key_of keys) (slice_range rows (first t) (last t)))) ∙ ap (λ (L : List Row). classes_of (map (key_of keys) L)) all
+  abbrev highs : List ℕ
+  highs = numbers_from (base + key_total low) high
+
+  all : All (λ number. number < length table) (lows ++ highs)
+  all = subst (All (λ number. number < length table)) (ap (numbers_from base) cut ∙ numbers_append base low high) room.within
+
+  rows_both : row_total pieces ≡ row_total low + row_total high
+  rows_both = ap row_total cut ∙ sum_by-append (λ q. length (classes_in q)) low high
+
+  keys_both : key_total pieces ≡ key_total low + key_total high
+  keys_both = ap key_total cut ∙ sum_by-append (λ q. length (firsts_in q)) low high
+
+  long_both : length of ≡ length front + length back
+  long_both = ap length parts ∙ length-append front back
+
+  pub room_low : 0 < length low → HasRoom base low table front
+  room_low some = record {
+    some = some;
+    rows = long;
+    keys = omega (arith, room.keys, keys_both);
+    within = λ k d h. subst (λ x. x < length table) (get_or_append_left lows highs d k h) (all k d (omega (arith, h, length-append lows highs)));
+  }
+
+  pub room_high : 0 < length high → HasRoom (base + key_total low) high table back
+  room_high some = record {
+    some = some;
+    rows = omega (arith, room.rows, rows_both, long_both, long);
+    keys = omega (arith, room.keys, keys_both);
+    within = λ k d h. (
+        let back : length lows + k - length lows ≡ k = omega arith in
+        subst (λ x. x < length table) (get_or-append_right lows highs (length lows) (length lows + k) d refl (omega arith) ∙ ap (λ i. get_or highs i d) back) (all (length lows + k) d (omega (arith, h, length-append lows highs))));
+  }
+
+-- what is put for both halves is put for all
+pub put_both : (base : ℕ) (pieces low high : List Piece) (table front back : List ℕ) → pieces ≡ low ++ high
+    → front ≡ map (λ k. get_or table k 0) (numbers_from base low) → back ≡ map (λ k. get_or table k 0) (numbers_from (base + key_total low) high)
+    → front ++ back ≡ map (λ k. get_or table k 0) (numbers_from base pieces)
+put_both base pieces low high table front back cut lows highs =
+    ap₂ ◌++◌ lows highs ∙ sym (map-append (λ k. get_or table k 0) (numbers_from base low) (numbers_from (base + key_total low) high))
+    ∙ ap (map (λ k. get_or table k 0)) (sym (ap (numbers_from base) cut ∙ numbers_append base low high))
+
+-- one piece has room for its classes, and what is put for them is put for all
+module _ (base : ℕ) (pieces : List Piece) (piece : Piece) (table of : List ℕ) (room : HasRoom base pieces table of) (one : length pieces ≡ 1) (read : piece ≡ get_or pieces 0 piece) where
+  only : pieces ≡ piece ∷ []
+  only = sym (take_all (0 + 1) pieces (omega arith)) ∙ take_more pieces 0 piece (omega arith) ∙ ap (λ x. x ∷ []) (sym read)
+
+  numbers_of : numbers_from base pieces ≡ map (λ x. base + x) (classes_in piece)
+  numbers_of = ap (numbers_from base) only ∙ numbers_one base piece
+
+  pub one_within : All (λ class. base + class < length table) (classes_in piece)
+  one_within = λ k d h. (
+      let same : get_or (map (λ x. base + x) (classes_in piece)) k (base + d) ≡ base + get_or (classes_in piece) k d = get_or-map (λ x. base + x) (classes_in piece) k d (base + d) h in
+      subst (λ x. x < length table) (ap (λ numbers. get_or numbers k (base + d)) numbers_of ∙ same)
+      (room.within k (base + d) (omega (arith, h, ap length numbers_of, length-map (classes_in piece) (λ x. base + x)))))
+
+  pub one_put : map (λ class. get_or table (base + class) 0) (classes_in piece) ≡ map (λ k. get_or table k 0) (numbers_from base pieces)
+  one_put = sym (map-map (λ k. get_or table k 0) (λ x. base + x) (classes_in piece)) ∙ sym (ap (map (λ k. get_or table k 0)) numbers_of)
+
+-- the first keys have as many classes as places
+pub classes_long : (keys : List Row) (places : List ℕ) (classes : ClassesImage) → classes ≡ classes_of (map (row_in keys) places) → length classes.of ≡ length places
+classes_long keys places classes e = ap (λ (m : ClassesImage). length m.of) e ∙ (AreClasses-keys (map (row_in keys) places)).long ∙ length-map places (row_in keys)
+
+-- a table with an entry for each first place has one for the key of each row
+pub stand_room : (keys : List Row) (n : ℕ) (pieces : List Piece) (places table of : List ℕ) → 0 < length pieces → StandFor keys n places (numbers_from 0 pieces) → length places ≡ key_total pieces
+    → length table ≡ length places → length of ≡ n → HasRoom 0 pieces table of
+stand_room keys n pieces places table of some so count entries long = record {
+  some = some;
+  rows = long ∙ sym so.long ∙ length-numbers_from 0 pieces;
+  keys = omega (arith, count, entries);
+  within = subst (λ m. All (λ number. number < m) (numbers_from 0 pieces)) (sym entries) (stand_numbers keys n places (numbers_from 0 pieces) so);
+}

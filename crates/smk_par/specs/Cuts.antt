@@ -1,5 +1,5 @@
 -- How the rows of an input are cut into pieces, and what each piece of a step makes of its rows.
-use Rattle.std.specs.Prelude.{◌≡◌, ◌⊎◌, ℕ, ◌+◌, ◌-◌, ◌*◌, ◌/◌, min, List, [], ◌++◌, length, map, Option, Some, None, true, slice_range, slice_index_or}
+use Rattle.std.specs.Prelude.{◌≡◌, ℕ, ◌+◌, ◌-◌, ◌*◌, ◌/◌, min, List, [], ◌++◌, length, map, Option, Some, None, true, slice_range, slice_index_or}
 use Rattle.smk_base.specs.Places.{upto}
 use Rattle.smk_base.specs.Plans.{Formula, Unary, Selection, Projection, Distinction, Grouping, Binary}
 use Rattle.smk_model.specs.Values.{Row}
@@ -59,13 +59,6 @@ IsCut1 (Selection formula) = Unit {0}
 IsCut1 (Projection items) = ⊥
 IsCut1 (Distinction items) = ⊥
 IsCut1 (Grouping keys aggs) = Unit {0}
-
--- that such a step has so many pieces: as many as workers, but a grouping may be one
-abbrev pub HasPieces : Unary → ℕ → ℕ → Type 0
-HasPieces (Selection formula) workers pieces = pieces ≡ workers
-HasPieces (Projection items) workers pieces = ⊥
-HasPieces (Distinction items) workers pieces = ⊥
-HasPieces (Grouping keys aggs) workers pieces = (pieces ≡ workers) ⊎ (pieces ≡ 1)
 
 -- what piece p of such a step has made
 abbrev pub Makes1 : ℕ → Unary → List Row → ℕ → Piece → Type 0

@@ -1,7 +1,9 @@
 -- Numbers of rows that are numbered piece by piece, before equal keys of several pieces have one number.
-use Rattle.std.specs.Prelude.{◌≡◌, ℕ, ◌<◌, ◌≤◌, List, length, slice_index}
+use Rattle.std.specs.Prelude.{◌≡◌, ℕ, ◌<◌, ◌≤◌, ◌+◌, List, [], ◌∷◌, ◌++◌, All, length, map, slice_index, sum_by}
 use Rattle.smk_model.specs.Values.{Row}
 use Rattle.smk_model.specs.Lineage.{row_at}
+use Rattle.smk_body.specs.declared.pieces.Piece.{Piece}
+use Rattle.smk_par.specs.Cuts.{classes_in, firsts_in}
 
 -- numbers of the first n keys, in the order in which they come, and for each number the place where it comes first: there stands a key equal to each that has the number
 pub record StandFor (keys : List Row) (n : ℕ) (firsts of : List ℕ) : Type 0 where
@@ -12,3 +14,22 @@ pub record StandFor (keys : List Row) (n : ℕ) (firsts of : List ℕ) : Type 0 
   pub at : (k : ℕ) → k < length firsts → slice_index of (slice_index firsts k) ≡ k
   pub first : (k i : ℕ) → k < length firsts → i < slice_index firsts k → slice_index of i < k
   pub same : (i : ℕ) → i < n → row_at keys (slice_index firsts (slice_index of i)) ≡ row_at keys i
+
+-- how many rows these pieces have, and how many keys
+abbrev pub row_total : List Piece → ℕ
+row_total = sum_by (λ piece. length (classes_in piece))
+
+abbrev pub key_total : List Piece → ℕ
+key_total = sum_by (λ piece. length (firsts_in piece))
+
+-- the numbers of the rows of these pieces, one piece behind the other: the classes of each, more by the first number and by the keys of the pieces before it
+abbrev pub numbers_from : ℕ → List Piece → List ℕ
+numbers_from base [] = []
+numbers_from base (piece ∷ pieces) = map (λ x. base + x) (classes_in piece) ++ numbers_from (base + length (firsts_in piece)) pieces
+
+-- that there is a place for each row of these pieces, and an entry of a table for each of their keys, which are numbered from one number on
+pub record HasRoom (base : ℕ) (pieces : List Piece) (table of : List ℕ) : Type 0 where
+  pub some : 0 < length pieces
+  pub rows : length of ≡ row_total pieces
+  pub keys : base + key_total pieces ≤ length table
+  pub within : All (λ number. number < length table) (numbers_from base pieces)

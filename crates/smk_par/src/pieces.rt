@@ -1,10 +1,10 @@
 ghost use Rattle.std.specs.Prelude.{◌≡◌, ◌<◌, ◌≤◌, ◌+◌, ◌||◌, IfOk, IsTrue, length};
 ghost use Rattle.smk_base.specs.PlanImage.{unary_of, binary_of};
 ghost use Rattle.smk_body.specs.Pieces.{ArePieces};
-ghost use Rattle.smk_par.specs.Cuts.{HasPairs, HasPieces, IsCut1, IsCut2, Makes1, count_between, cut_at, partners_in};
+ghost use Rattle.smk_par.specs.Cuts.{HasPairs, IsCut1, IsCut2, Makes1, count_between, cut_at, partners_in};
 ghost use Rattle.smk_par.specs.Pending.{Leaves, lineage_of};
 
-use crate::group::{group_piece, group_pieces};
+use crate::group::group_piece;
 use crate::join::{count_piece, join_piece};
 use crate::select::select_piece;
 use crate::steps::{gather_join, gather_one, join_cut};
@@ -21,7 +21,7 @@ pub enum CutOr<P> {
     Whole(P),
 }
 
-/// A body that cuts a selection, the probe of a join and the first pass of a grouping into pieces of the rows of the left input, as many as workers; but a grouping is one piece where several would not be faster. Piece p passes the gate with its number before its first row. Every other step goes to the inner body.
+/// A body that cuts a selection, the probe of a join and the first pass of a grouping into pieces of the rows of the left input, as many as workers. Piece p passes the gate with its number before its first row. Every other step goes to the inner body.
 #[derive(Drop)]
 pub struct Pieces<'g, G: Gate + Sync, B: OpBody> {
     inner: B,
@@ -48,9 +48,9 @@ impl<'g, G: Gate + Sync, B: OpBody> Pieces<'g, G, B> {
 }
 
 impl<'g, G: Gate + Sync, B: OpBody> InPieces for Pieces<'g, G, B> {
-    ghost cuts1 = { λ it op input want cut. (0 < cut.pieces) × (cut.pieces ≤ 64) × IsCut1 op × HasPieces op it.workers cut.pieces };
+    ghost cuts1 = { λ it op input want cut. (cut.pieces ≡ it.workers) × IsCut1 op };
 
-    ghost makes1 = { λ it op input want cut p piece. Makes1 cut.pieces op input.rows p piece };
+    ghost makes1 = { λ it op input want cut p piece. Makes1 it.workers op input.rows p piece };
 
     ghost cuts2 = { λ it op left right want cut. (cut.pieces ≡ it.workers) × IsCut2 op left.rows right.rows cut.shared };
 
@@ -60,17 +60,14 @@ impl<'g, G: Gate + Sync, B: OpBody> InPieces for Pieces<'g, G, B> {
 
     fn cut1(
         &self,
-        alloc: Global,
+        _alloc: Global,
         op: &Op1,
-        input: &Rel,
+        _input: &Rel,
         _want: Dir,
     ) -> Result<Option<Cut>, AllocError> {
         match op {
             Op1::Select(_) => Ok(Some(uncounted(self.workers))),
-            Op1::Group(keys, _) => {
-                let pieces = group_pieces(alloc, input, keys.as_slice(), self.workers)?;
-                Ok(Some(uncounted(pieces)))
-            }
+            Op1::Group(_, _) => Ok(Some(uncounted(self.workers))),
             Op1::Project(_) => Ok(None),
             Op1::Distinct(_) => Ok(None),
         }
@@ -82,15 +79,15 @@ impl<'g, G: Gate + Sync, B: OpBody> InPieces for Pieces<'g, G, B> {
         op: &Op1,
         input: &Rel,
         _want: Dir,
-        cut: &Cut,
+        _cut: &Cut,
         p: usize,
     ) -> Result<Piece, AllocError> {
-        let pieces = cut.pieces as u32;
+        let workers = self.workers;
         let number = p as u32;
         self.gate.arrive(number);
         match op {
-            Op1::Select(pred) => select_piece(alloc, input, pred, pieces, number),
-            Op1::Group(keys, _) => group_piece(alloc, input, keys.as_slice(), pieces, number),
+            Op1::Select(pred) => select_piece(alloc, input, pred, workers, number),
+            Op1::Group(keys, _) => group_piece(alloc, input, keys.as_slice(), workers, number),
             Op1::Project(_) => unreachable!(),
             Op1::Distinct(_) => unreachable!(),
         }
@@ -153,11 +150,11 @@ impl<'g, G: Gate + Sync, B: OpBody> InPieces for Pieces<'g, G, B> {
 }
 
 // A cut into so many pieces that share nothing.
-fn uncounted(pieces: u32) -> Cut
-    ensures { result.pieces ≡ pieces }
+fn uncounted(workers: u32) -> Cut
+    ensures { result.pieces ≡ workers }
 {
     Cut {
-        pieces: pieces as usize,
+        pieces: workers as usize,
         shared: None,
     }
 }
@@ -195,11 +192,10 @@ impl<'g, G: Gate + Sync, B: OpBody> OpBody for Pieces<'g, G, B> {
         op: &Op1,
         input: Rel,
         want: Dir,
-        cut: Cut,
+        _cut: Cut,
         made: Vec<Piece>,
     ) -> Result<(Rel, CutOr<B::Pending>), AllocError> {
-        let pieces = cut.pieces as u32;
-        let made = gather_one(rt, alloc, op, input, want, pieces, self.workers, made)?;
+        let made = gather_one(rt, alloc, op, input, want, self.workers, made.as_slice())?;
         Ok((made.0, CutOr::Cut(made.1)))
     }
 

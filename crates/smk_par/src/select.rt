@@ -39,11 +39,11 @@ pub(crate) fn all_places(
     alloc: Global,
     rel: &Rel,
     pred: &Pred,
-    pieces: u32,
+    workers: u32,
     made: &[Piece],
 ) -> Result<Vec<u32>, AllocError>
-    requires some { 0 < pieces }
-    requires made { ArePieces (λ p. HasPlaces (formula_of pred.now) rel.now.rows (cut_at pieces (length rel.now.rows) p) (cut_at pieces (length rel.now.rows) (p + 1))) pieces made.now }
+    requires some { 0 < workers }
+    requires made { ArePieces (λ p. HasPlaces (formula_of pred.now) rel.now.rows (cut_at workers (length rel.now.rows) p) (cut_at workers (length rel.now.rows) (p + 1))) workers made.now }
     ensures { IfOk result (λ places. places.items ≡ meeting (formula_of pred.now) rel.now.rows) }
 {
     let mut places = Vec::new(alloc);

@@ -7,5 +7,5 @@ use Rattle.smk_par.proofs.select.all_places.Goals as goal
 pub returns : goal.returns
 returns c =
     let rows = c.args.rel.now.rows in
-    let all : c.loop-p.p ≡ c.args.pieces = omega (arith, c.loop-p.auto.p-end, c.loop-p-test.false, c.requires.made.0) in
-    c.loop-p.invariant ∙ ap (meeting_below (formula_of c.args.pred.now) rows) (cut_end c.args.pieces (length rows) c.loop-p.p c.requires.some all)
+    let all : c.loop-p.p ≡ c.args.workers = omega (arith, c.loop-p.auto.p-end, c.loop-p-test.false, c.requires.made.0) in
+    c.loop-p.invariant ∙ ap (meeting_below (formula_of c.args.pred.now) rows) (cut_end c.args.workers (length rows) c.loop-p.p c.requires.some all)
