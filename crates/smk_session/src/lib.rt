@@ -3,6 +3,7 @@
 
 mod answer;
 mod backward;
+mod beginning;
 mod brushes;
 mod brushing;
 mod chosen;

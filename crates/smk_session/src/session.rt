@@ -8,13 +8,12 @@ ghost use Rattle.smk_model.specs.Selection.{each_kinds};
 ghost use Rattle.smk_session.specs.Sessions.{workbook_image, state_of, IsStartFault, opened, workbook_of};
 
 use crate::answer::answer_to;
+use crate::beginning::begin;
 use crate::crew::Crew;
 use crate::extra::{Groupings, Splits};
 use crate::fault::StartFault;
 use crate::held::Held;
-use crate::making::{Opened, make_extras};
 use crate::mode::Mode;
-use crate::opening::{no_contents, open_by};
 use crate::turn::{Brushes, Turn, place};
 use crate::turned::Turned;
 use smk_base::{Catalog, Line, Rel, Reply};
@@ -82,22 +81,15 @@ impl Session {
         ensures looks { steps.new ≤ steps.old + start_looks (workbook_image book tables.items) }
     {
         let crew = Crew { gate, workers };
-        let views = open_by(rt, alloc, mode, &crew, &book, tables.as_slice(), steps)?;
-        let opened = Opened {
-            book: book.catalog(),
-            tables: tables.as_slice(),
-            views: views.as_slice(),
-        };
-        let extras = make_extras(alloc, &opened, steps)?;
-        let contents = no_contents(alloc, views.len())?;
+        let begun = begin(rt, alloc, mode, &crew, &book, tables.as_slice(), steps)?;
         Ok(Session {
             book,
             tables,
-            views,
-            splits: extras.splits,
-            cubes: extras.cubes,
+            views: begun.views,
+            splits: begun.extras.splits,
+            cubes: begun.extras.cubes,
             brushes: Brushes::new(alloc),
-            contents,
+            contents: begun.contents,
             mode,
             workers,
         })

@@ -1,40 +1,36 @@
-use Rattle.std.proofs.Common.{◌≤◌, ◌+◌, List, arith, subst, sym}
-use Rattle.std.specs.List.{sum_by}
+use Rattle.std.proofs.Common.{◌≡◌, ◌≤◌, ◌+◌, List, None, refl, arith, subst, sym}
+use Rattle.std.proofs.lemmas.Result.{err_from_is_err_and}
 use Rattle.smk_base.specs.Rels.{Relation}
-use Rattle.smk_model.specs.Looks.{looks_of_view}
 use Rattle.smk_base.specs.declared.brush.BrushOn.{BrushOn}
-use Rattle.smk_base.specs.declared.catalog.Catalog.{Catalog}
-use Rattle.smk_session.specs.Sessions.{AreExtras, AreInForce, AreOpened, workbook_image}
-use Rattle.smk_session.proofs.Starts.{start_whole, start_within}
+use Rattle.smk_model.specs.Looks.{start_looks}
+use Rattle.smk_model.specs.Opening.{first_view_fault}
+use Rattle.smk_session.specs.Sessions.{AreExtras, AreInForce, AreOpened, IsStartFault, workbook_image}
 use Rattle.smk_session.proofs.Shown.{none_in_force}
 use Rattle.smk_session.proofs.session.Session.start.Goals as goal
 
-pub returns-in_err-views-clause-looks : goal.returns-in_err-views-clause-looks
-returns-in_err-views-clause-looks g c =
-    start_within (workbook_image c.args.book c.args.tables.items) c.args.steps.now c.open_by.new.steps
-    (subst (λ (T : List Relation). c.open_by.new.steps ≤ c.args.steps.now + sum_by (looks_of_view (workbook_image c.args.book T)) (workbook_image c.args.book T).catalog.views) c.as_slice.ensures.value c.open_by.ensures.looks)
+pub returns-in_err-begun-clause-fault : goal.returns-in_err-begun-clause-fault
+returns-in_err-begun-clause-fault g c =
+    let p = err_from_is_err_and c.from_residual.result c.from_residual.ensures.1 in
+    rw (p.1, p.2) (subst (λ (T : List Relation). IsStartFault c.in_err-begun.field-0.0 (first_view_fault (workbook_image c.args.book T))) c.as_slice.ensures.value c.in_err-begun.ensures.fault)
 
-pub returns-in_err-extras-clause-looks : goal.returns-in_err-extras-clause-looks
-returns-in_err-extras-clause-looks g c =
-    start_whole c.args.book c.catalog.result.now c.args.tables.items c.as_slice.result.now c.as_slice-2.result.now c.args.steps.now c.open_by.new.steps c.make_extras.new.steps c.as_slice.ensures.value c.catalog.ensures.value c.as_slice-2.ensures.value c.open_by.ensures.looks c.make_extras.ensures.looks
-
-pub returns-in_err-contents-clause-looks : goal.returns-in_err-contents-clause-looks
-returns-in_err-contents-clause-looks g c =
-    start_whole c.args.book c.catalog.result.now c.args.tables.items c.as_slice.result.now c.as_slice-2.result.now c.args.steps.now c.open_by.new.steps c.make_extras.new.steps c.as_slice.ensures.value c.catalog.ensures.value c.as_slice-2.ensures.value c.open_by.ensures.looks c.make_extras.ensures.looks
+pub returns-in_err-begun-clause-looks : goal.returns-in_err-begun-clause-looks
+returns-in_err-begun-clause-looks g c = subst (λ (T : List Relation). c.begin.new.steps ≤ c.args.steps.now + start_looks (workbook_image c.args.book T)) c.as_slice.ensures.value c.begin.ensures.looks
 
 pub returns-clause-looks : goal.returns-clause-looks
-returns-clause-looks g c =
-    start_whole c.args.book c.catalog.result.now c.args.tables.items c.as_slice.result.now c.as_slice-2.result.now c.args.steps.now c.open_by.new.steps c.make_extras.new.steps c.as_slice.ensures.value c.catalog.ensures.value c.as_slice-2.ensures.value c.open_by.ensures.looks c.make_extras.ensures.looks
+returns-clause-looks g c = subst (λ (T : List Relation). c.begin.new.steps ≤ c.args.steps.now + start_looks (workbook_image c.args.book T)) c.as_slice.ensures.value c.begin.ensures.looks
+
+pub returns-clause-none : goal.returns-clause-none
+returns-clause-none g c = subst (λ (T : List Relation). first_view_fault (workbook_image c.args.book T) ≡ None) c.as_slice.ensures.value c.in_ok-begun.ensures.none
 
 pub invariant_of-result : goal.invariant_of-result
 invariant_of-result g c =
-    let o : AreOpened c.args.book c.args.tables.items c.in_ok-views.views.items = subst (λ (T : List Relation). AreOpened c.args.book T c.in_ok-views.views.items) c.as_slice.ensures.value c.in_ok-views.ensures.opened in
+    let begun = c.in_ok-begun.begun in
+    let o : AreOpened c.args.book c.args.tables.items begun.views.items = subst (λ (T : List Relation). AreOpened c.args.book T begun.views.items) c.as_slice.ensures.value c.in_ok-begun.ensures.opened in
     record {
       opened = o;
-      extras = subst (λ (k : Catalog). AreExtras k c.args.tables.items c.in_ok-extras.extras.splits c.in_ok-extras.extras.cubes) c.catalog.ensures.value
-          (subst (λ (T : List Relation). AreExtras c.catalog.result.now T c.in_ok-extras.extras.splits c.in_ok-extras.extras.cubes) c.as_slice-2.ensures.value c.in_ok-extras.ensures.extras);
-      in_force = subst (λ (l : List BrushOn). AreInForce c.args.book c.args.tables.items l c.in_ok-contents.contents.items) (sym c.new.ensures)
-          (none_in_force c.args.book c.args.tables.items c.in_ok-views.views.items c.in_ok-contents.contents.items c.len.result o (omega (arith, c.len.ensures, c.in_ok-views.views.ok.0)) c.in_ok-contents.ensures);
+      extras = subst (λ (T : List Relation). AreExtras c.args.book T begun.extras.splits begun.extras.cubes) c.as_slice.ensures.value c.in_ok-begun.ensures.extras;
+      in_force = subst (λ (l : List BrushOn). AreInForce c.args.book c.args.tables.items l begun.contents.items) (sym c.new.ensures)
+          (none_in_force c.args.book c.args.tables.items begun.views.items begun.contents.items _ o refl c.in_ok-begun.ensures.contents);
       some_workers = omega arith;
       few_workers = omega arith;
     }
