@@ -96,6 +96,15 @@ put_stops X Y a b rose text whole (At fault) is p = absurd p
 put_stops X Y a b rose text whole Unwritten is p = rw (← is) p
 put_stops X Y a b rose text whole Exhausted is p = absurd p
 
+pub put_pieces : (X : Type 0) (a b : Option (List ℕ)) (rose : Type 0) (text whole : List ℕ) (r : Result X Stop) → text ≡ whole → Puts text rose a b r → PutsPieces whole rose a b r
+put_pieces X a b rose text whole (Ok x) is p = rw (← is) p
+put_pieces X a b rose text whole (Err stop) is p = put_stops X X a b rose text whole stop is p
+
+-- what holds of all answers holds where there is one
+pub if_told : {X E : Type 0} (P : Type 0) (r : Result X E) → P → IfOk r (λ x. P)
+if_told P (Ok x) p = p
+if_told P (Err e) p = tt
+
 -- memory is wanting
 pub wants_stop : (X : Type 0) (a b : Option (List ℕ)) (rose : Type 0) (text : List ℕ) (stop : Stop) → stop ≡ Exhausted → AppendsPart a b text → PutsPieces {X = X} text rose a b (Err stop)
 wants_stop X a b rose text stop is part = rw is part

@@ -23,7 +23,7 @@ use Rattle.smk_top.specs.declared.stop.Stop.TheVariants.{At, Unwritten, Exhauste
 use Rattle.smk_top.specs.Statuses.{status_of_report}
 use Rattle.smk_top.specs.Reading.{ReadsAll, IsInputs, Starts, IsSayable}
 use Rattle.smk_top.specs.Counting.{counts_of}
-use Rattle.smk_top.specs.Writing.{Puts, PutsPieces}
+use Rattle.smk_top.specs.Writing.{PutsPieces}
 use Rattle.smk_top.specs.Endings.{IsBegun, reported, faulted, unwritten, exhausted, fault_unsaid, memory_unsaid, RunEnds, Works, Reports, SaysMemory, SaysFault}
 use Rattle.smk_top.proofs.Appending.{appends_none}
 
@@ -170,19 +170,17 @@ summary_same : (n : ℕ) (given : Inputs) (book : Workbook) (sizes : List Size) 
 summary_same n given book sizes counts text same are counted is =
     is ∙ rw (are, counted) (ap (λ k. summary_of n (report_of k given.readings)) same)
 
-pub summary_written : (n : ℕ) (given : Inputs) (book : Workbook) (sizes : List Size) (counts : Counts) (text : List ℕ) (rose : Type 0) (a b : Option (List ℕ)) → first_view_fault given.book ≡ None
-    → book ≡ given.book → sizes ≡ map (size_of_view book) book.catalog.views → counts ≡ counts_of (report_of book given.readings) → text ≡ summary n sizes counts.replies counts.refused counts.bytes
-    → Appends a b text → Reports (summary_of n) given rose a b (Ok counts)
-summary_written n given book sizes counts text rose a b none same are counted is put =
-    (report_of given.book given.readings, found_report given none, rw (← summary_same n given book sizes counts text same are counted is) put, counted ∙ ap (λ k. counts_of (report_of k given.readings)) same)
-
-pub summary_stops : (X : Type 0) (n : ℕ) (given : Inputs) (book : Workbook) (sizes : List Size) (counts : Counts) (text : List ℕ) (rose : Type 0) (a b : Option (List ℕ)) (stop : Stop) → first_view_fault given.book ≡ None
-    → book ≡ given.book → sizes ≡ map (size_of_view book) book.catalog.views → counts ≡ counts_of (report_of book given.readings) → text ≡ summary n sizes counts.replies counts.refused counts.bytes
-    → Puts {X = X} text rose a b (Err stop) → Reports (summary_of n) given rose a b (Err stop)
-summary_stops X n given book sizes counts text rose a b (At fault) none same are counted is put = absurd put
-summary_stops X n given book sizes counts text rose a b Unwritten none same are counted is put =
-    (report_of given.book given.readings, found_report given none, rw (← summary_same n given book sizes counts text same are counted is) put.0, put.1)
-summary_stops X n given book sizes counts text rose a b Exhausted none same are counted is put = absurd put
+pub summary_written : (n : ℕ) (given : Inputs) (book : Workbook) (sizes : List Size) (counts : Counts) (rose : Type 0) (a b : Option (List ℕ)) (r : Result Counts Stop) → first_view_fault given.book ≡ None
+    → book ≡ given.book → sizes ≡ map (size_of_view book) book.catalog.views → counts ≡ counts_of (report_of book given.readings)
+    → PutsPieces (summary n sizes counts.replies counts.refused counts.bytes) rose a b r → IfOk r (λ told. told ≡ counts) → Reports (summary_of n) given rose a b r
+summary_written n given book sizes counts rose a b r none same are counted put kept =
+    by r (subst (λ (t : List ℕ). PutsPieces t rose a b r) (summary_same n given book sizes counts _ same are counted refl) put) kept
+  where
+    by : (r : Result Counts Stop) → PutsPieces (summary_of n (report_of given.book given.readings)) rose a b r → IfOk r (λ told. told ≡ counts) → Reports (summary_of n) given rose a b r
+    by (Ok told) w k = (report_of given.book given.readings, found_report given none, w, k ∙ counted ∙ ap (λ k. counts_of (report_of k given.readings)) same)
+    by (Err (At fault)) w k = absurd w
+    by (Err Unwritten) w k = (report_of given.book given.readings, found_report given none, w.0, w.1)
+    by (Err Exhausted) w k = inr (report_of given.book given.readings, found_report given none, w)
 
 -- what is written for the words
 pub files_write : (words : List (List ℕ)) (book : List ℕ) (script : Option (List ℕ)) → words_of words ≡ Some (Files book script) → (report : Report) → report.text ≡ written_of words report

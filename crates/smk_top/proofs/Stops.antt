@@ -95,3 +95,27 @@ all_read image rows content workbook bytes opened tables text all (Some held) r1
     subst (λ (b : Workbook). ReadsFiles held book script (Ok (record { book = b; readings = readings }))) (sym made)
     (inputs ok fine (read readings (subst (λ (l : List ℕ). AreReadingsOf l readings) same are)))
 all_read image rows content workbook bytes opened tables text all None r1 r2 r3 rose book script made same ok fine read = tt
+
+-- what is read after the book, and what all is
+pub then_all : {X Y : Type 0} (workbook : X → Workbook) (bytes : X → List ℕ) (image : Y → Workbook) (content : Y → List ℕ) (held : Option Held) (rose_here rose : Type 0) (book : List ℕ) (script : Option (List ℕ)) (rest : X) (all : Y)
+    → image all ≡ workbook rest → content all ≡ bytes rest → ReadsAll held rose_here book script workbook bytes (Ok rest) → ReadsAll held rose book script image content (Ok all)
+then_all workbook bytes image content (Some held) r1 r2 book script rest all made same is =
+    λ readings are.
+    subst (λ (b : Workbook). ReadsFiles held book script (Ok (record { book = b; readings = readings }))) (sym made) (is readings (subst (λ (l : List ℕ). AreReadingsOf l readings) same are))
+then_all workbook bytes image content None r1 r2 book script rest all made same is = tt
+
+pub rest_stops : {X Y : Type 0} (workbook : X → Workbook) (bytes : X → List ℕ) (image : Y → Workbook) (content : Y → List ℕ) (held : Option Held) (rose_here rose : Type 0) (book : List ℕ) (script : Option (List ℕ)) (stop : Stop)
+    → (rose_here → rose) → ReadsAll held rose_here book script workbook bytes (Err stop) → ReadsAll held rose book script image content (Err stop)
+rest_stops workbook bytes image content (Some held) r1 r2 book script (At fault) wide (inl err) = inl err
+rest_stops workbook bytes image content (Some held) r1 r2 book script (At fault) wide (inr (up, named)) = inr (wide up, named)
+rest_stops workbook bytes image content (Some held) r1 r2 book script Unwritten wide is = is
+rest_stops workbook bytes image content (Some held) r1 r2 book script Exhausted wide is = tt
+rest_stops workbook bytes image content None r1 r2 book script (At fault) wide is = untold_within r1 r2 fault wide is
+rest_stops workbook bytes image content None r1 r2 book script Unwritten wide is = is
+rest_stops workbook bytes image content None r1 r2 book script Exhausted wide is = tt
+
+-- a book that was opened, as its catalog
+pub opened_as : {X : Type 0} (image : X → CatalogImage) (held : Option Held) (rose other : Type 0) (book : List ℕ) (opened : X)
+    → Reads held rose book (λ h. OpensBook h book) image (Ok opened) → Reads held other book (λ h. OpensBook h book) (λ (c : CatalogImage). c) (Ok (image opened))
+opened_as image (Some held) rose other book opened is = is
+opened_as image None rose other book opened is = tt

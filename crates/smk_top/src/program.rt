@@ -1,16 +1,18 @@
-ghost use Rattle.std.specs.Prelude.{◌≡◌, ◌≤◌, ◌+◌, List, map};
+ghost use Rattle.std.specs.Prelude.{◌≡◌, ◌≤◌, ◌+◌, ℕ, List, Some, map};
 ghost use Rattle.smk_model.specs.FaultTexts.{IsSaid};
 ghost use Rattle.smk_model.specs.Outcome.{run_looks};
 ghost use Rattle.smk_model.specs.Readings.{Reading, AreReadingsOf};
 ghost use Rattle.smk_model.specs.Reports.{Report};
+ghost use Rattle.smk_model.specs.Words.{words_of};
 ghost use Rattle.smk_outside.specs.Outside.{Rose};
 ghost use Rattle.smk_top.specs.Counting.{counts_of};
+ghost use Rattle.smk_top.specs.Image.{texts_image};
 ghost use Rattle.smk_top.specs.Endings.{RunEnds, Works, Reports, SaysFault, SaysMemory};
 ghost use Rattle.smk_top.specs.Loaded.{inputs_with};
 ghost use Rattle.smk_top.specs.Reading.{IsSayable, RunLooks};
 ghost use Rattle.smk_top.specs.Statuses.{status_of_fault, status_of_report};
 
-use crate::called::RunTexts;
+use crate::called::{RunTexts, RunWords};
 use crate::counts::Counts;
 use crate::inputs::Inputs;
 use crate::reading::read_all;
@@ -105,6 +107,36 @@ fn report<R: Threads + Sync, G: Gate + Sync, O: Sink, L: Ledger>(
     write_report(rt, alloc, &mut session, script, gate, out, steps)
 }
 
+// Reads what a run is called for, and writes the report, or a demo's summary. It tells the counts of the report's lines.
+fn work_on<R: Threads + Sync, F: Files, O: Sink, G: Gate + Sync, L: Ledger>(
+    rt: &R,
+    alloc: Global,
+    call: &RunWords,
+    files: &mut F,
+    out: &mut O,
+    gate: &G,
+    steps: &mut Steps<L>,
+) -> Result<Counts, Stop>
+    ensures works { (words : List (List ℕ)) → words_of words ≡ Some (texts_image call.now.texts)
+        → Works words (F.held files.old) (Rose (F.faults files.old) (F.faults files.new)) (Rose (O.faults out.old) (O.faults out.new)) (O.written out.old) (O.written out.new) result }
+    ensures said { IsSayable result }
+    ensures held { F.held files.new ≡ F.held files.old }
+    ensures files_later { F.faults files.old ≤ F.faults files.new }
+    ensures out_later { O.faults out.old ≤ O.faults out.new }
+    ensures looks { (words : List (List ℕ)) → words_of words ≡ Some (texts_image call.now.texts) → RunLooks words (F.held files.old) steps.old steps.new }
+{
+    match &call.texts {
+        RunTexts::Files { book, script } => {
+            let inputs = read_all(alloc, files, book, script.as_ref())?;
+            report(rt, alloc, call.settings, inputs, gate, out, steps)
+        }
+        RunTexts::Demo(flights) => {
+            let inputs = read_demo(alloc, *flights)?;
+            summarize(rt, alloc, *flights, call.settings, inputs, gate, out, steps)
+        }
+    }
+}
+
 // Reads what the words name, and writes the report, or a demo's summary. It tells the counts of the report's lines.
 fn work<R: Threads + Sync, F: Files, O: Sink, G: Gate + Sync, L: Ledger>(
     rt: &R,
@@ -122,18 +154,10 @@ fn work<R: Threads + Sync, F: Files, O: Sink, G: Gate + Sync, L: Ledger>(
     ensures out_later { O.faults out.old ≤ O.faults out.new }
     ensures looks { RunLooks (map (λ w. w.now) words.entry.now) (F.held files.old) steps.old steps.new }
 {
-    let Some(call) = read_words(alloc, words)? else {
-        return Err(Stop::At(Fault::Usage));
-    };
-    match &call.texts {
-        RunTexts::Files { book, script } => {
-            let inputs = read_all(alloc, files, book, script.as_ref())?;
-            report(rt, alloc, call.settings, inputs, gate, out, steps)
-        }
-        RunTexts::Demo(flights) => {
-            let inputs = read_demo(alloc, *flights)?;
-            summarize(rt, alloc, *flights, call.settings, inputs, gate, out, steps)
-        }
+    let found = read_words(alloc, words)?;
+    match found {
+        Some(call) => work_on(rt, alloc, &call, files, out, gate, steps),
+        None => Err(Stop::At(Fault::Usage)),
     }
 }
 

@@ -1,18 +1,51 @@
 // Reads in order: the book, its tables, the script.
-ghost use Rattle.std.specs.Prelude.{◌≡◌, ◌≤◌};
+ghost use Rattle.std.specs.Prelude.{◌≡◌, ◌≤◌, ℕ, List, Ok, All, IfOk};
 ghost use Rattle.std.specs.Option.{option_copied};
+ghost use Rattle.smk_base.specs.CatalogImage.{CatalogImage};
+ghost use Rattle.smk_model.specs.Catalogs.{each_table_kinds};
+ghost use Rattle.smk_model.specs.Outcome.{OpensBook};
+ghost use Rattle.smk_model.specs.Selection.{each_kinds, each_rows};
+ghost use Rattle.smk_model.specs.Tables.{AreColumns};
 ghost use Rattle.smk_outside.specs.Outside.{Rose};
 ghost use Rattle.smk_top.specs.Loaded.{workbook_read, script_bytes};
-ghost use Rattle.smk_top.specs.Reading.{ReadsAll, IsSayable};
+ghost use Rattle.smk_top.specs.Reading.{Reads, ReadsAll, IsSayable};
 
 use crate::inputs::Inputs;
 use crate::loading::load_all;
 use crate::opening::open_book;
 use crate::script::open_script;
 use crate::stop::Stop;
-use smk_base::Text;
+use smk_base::{TableInfo, Text};
 use smk_outside::Files;
+use smk_table::Table;
 use std::alloc::Global;
+
+// The tables of a book, and the bytes of a script.
+#[derive(Drop)]
+struct Rest {
+    tables: Vec<Table>,
+    script: Vec<u8>,
+}
+
+// What is read after a book: its tables and the script.
+fn read_rest<F: Files>(
+    alloc: Global,
+    files: &mut F,
+    infos: &[TableInfo],
+    script: Option<&Text>,
+) -> Result<Rest, Stop>
+    requires { All (λ info. AreColumns info.cols) infos.now }
+    ensures read { (book : List ℕ) (catalog : CatalogImage) → catalog.tables ≡ infos.now → Reads (F.held files.old) (Unit {0}) book (λ held. OpensBook held book) (λ opened. opened) (Ok catalog)
+        → ReadsAll (F.held files.old) (Rose (F.faults files.old) (F.faults files.new)) book (option_copied script.entry) (λ rest. record { catalog = catalog; tables = each_rows rest.tables.items }) (λ rest. rest.script.items) result }
+    ensures kinds { IfOk result (λ rest. each_kinds rest.tables.items ≡ each_table_kinds infos.now) }
+    ensures said { IsSayable result }
+    ensures held { F.held files.new ≡ F.held files.old }
+    ensures later { F.faults files.old ≤ F.faults files.new }
+{
+    let tables = load_all(alloc, files, infos)?;
+    let script = open_script(alloc, files, script)?;
+    Ok(Rest { tables, script })
+}
 
 /// What is read of the book and the script of these names, or why that stops.
 pub fn read_all<F: Files>(
@@ -27,11 +60,11 @@ pub fn read_all<F: Files>(
     ensures later { F.faults files.old ≤ F.faults files.new }
 {
     let book = open_book(alloc, files, book)?;
-    let tables = load_all(alloc, files, book.catalog().tables.as_slice())?;
-    let script = open_script(alloc, files, script)?;
+    let infos = book.catalog().tables.as_slice();
+    let rest = read_rest(alloc, files, infos, script)?;
     Ok(Inputs {
         book,
-        tables,
-        script,
+        tables: rest.tables,
+        script: rest.script,
     })
 }

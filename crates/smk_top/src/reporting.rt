@@ -1,12 +1,15 @@
 // The report of a run, text by text.
-ghost use Rattle.std.specs.Prelude.{◌≡◌, ◌≤◌, ◌<◌, ◌+◌, [], length, List, IfOk};
+ghost use Rattle.std.specs.Prelude.{◌≡◌, ◌≤◌, ◌<◌, ◌+◌, [], cond, length, List, IfOk};
 ghost use Rattle.smk_base.specs.CatalogImage.{catalog_image};
 ghost use Rattle.smk_base.specs.Marks.{after_marks};
 ghost use Rattle.smk_model.specs.Lines.{lines};
 ghost use Rattle.smk_model.specs.Readings as readings;
 ghost use Rattle.smk_model.specs.Readings.{AreReadings, AreReadingsOf};
 ghost use Rattle.smk_model.specs.Reports as reports;
-ghost use Rattle.smk_model.specs.Session.{view_at};
+ghost use Rattle.smk_model.specs.Replies.{is_refused};
+ghost use Rattle.smk_model.specs.ReplyTexts as texts;
+ghost use Rattle.smk_model.specs.Session.{State, view_at};
+ghost use Rattle.smk_model.specs.Texts as line_texts;
 ghost use Rattle.smk_outside.specs.Outside.{Rose};
 ghost use Rattle.smk_session.specs.Sessions.{state_of, workbook_of};
 ghost use Rattle.smk_top.specs.Image.{reading_image};
@@ -17,7 +20,7 @@ use crate::counting::{NOTHING, together};
 use crate::counts::Counts;
 use crate::script::{Reading, reading_of};
 use crate::stop::Stop;
-use smk_base::{Line, without_mark};
+use smk_base::{Catalog, Line, Reply, without_mark};
 use smk_outside::{Gate, Sink, Steps};
 use smk_parse::line_at;
 use smk_report::{bad_line_text, reply_text, view_text};
@@ -69,6 +72,51 @@ fn write_views<O: Sink>(alloc: Global, session: &Session, out: &mut O) -> Result
     Ok(counts)
 }
 
+// Writes a text that is counted so, but for its bytes, and tells the counts with these.
+fn write_counted<O: Sink>(out: &mut O, text: Vec<u8>, counts: Counts) -> Result<Counts, Stop>
+    ensures text { Puts text.items (Rose (O.faults out.old) (O.faults out.new)) (O.written out.old) (O.written out.new) result }
+    ensures counts { IfOk result (λ told. told ≡ record { replies = counts.replies; refused = counts.refused; unread = counts.unread; bytes = length text.items }) }
+    ensures later { O.faults out.old ≤ O.faults out.new }
+{
+    match out.put(text.as_slice()) {
+        Ok(()) => Ok(Counts {
+            bytes: text.len() as u64,
+            ..counts
+        }),
+        Err(_) => Err(Stop::Unwritten),
+    }
+}
+
+// How many refusals a reply is.
+fn refusals(reply: &Reply) -> u64
+    ensures { result ≡ cond (is_refused reply.now) 1 0 }
+{
+    if has_refused(reply) { 1 } else { 0 }
+}
+
+// Writes the text of this reply to a line.
+fn write_told<O: Sink>(
+    alloc: Global,
+    catalog: &Catalog,
+    line: &Line,
+    reply: &Reply,
+    out: &mut O,
+) -> Result<Counts, Stop>
+    requires { texts.IsReplyTo (catalog_image catalog.now) line.now reply.now }
+    ensures written { PutsPieces (texts.reply_text (catalog_image catalog.now) line.now reply.now)
+        (Rose (O.faults out.old) (O.faults out.new)) (O.written out.old) (O.written out.new) result }
+    ensures counts { (state : State) → IfOk result (λ counts. counts ≡ counts_told (reports.reply_told (catalog_image catalog.now) state line.now reply.now)) }
+    ensures later { O.faults out.old ≤ O.faults out.new }
+{
+    let text = reply_text(alloc, catalog, line, reply)?;
+    let counts = Counts {
+        replies: 1,
+        refused: refusals(reply),
+        ..NOTHING
+    };
+    write_counted(out, text, counts)
+}
+
 // Writes the text of the reply to a line.
 fn write_reply<R: Threads + Sync, G: Gate + Sync, O: Sink, L: Ledger>(
     rt: &R,
@@ -88,18 +136,25 @@ fn write_reply<R: Threads + Sync, G: Gate + Sync, O: Sink, L: Ledger>(
     ensures looks { steps.new ≤ steps.old + (reports.line_told (catalog_image session.old.catalog) (state_of session.old) 0 (readings.Asks line.now)).looks }
 {
     let reply = session.answer(rt, alloc, line, gate, steps)?;
-    let text = reply_text(alloc, session.catalog(), line, &reply)?;
-    put(out, text.as_slice())?;
-    Ok(Counts {
-        replies: 1,
-        refused: if has_refused(&reply) { 1 } else { 0 },
-        unread: 0,
-        bytes: text.len() as u64,
-    })
+    write_told(alloc, session.catalog(), line, &reply, out)
 }
 
-// Writes the text of the line with this number, where it has one.
-fn write_line<R: Threads + Sync, G: Gate + Sync, O: Sink, L: Ledger>(
+// Writes the text of a line with this number that isn't in the grammar.
+fn write_unread<O: Sink>(alloc: Global, number: u64, at: u64, out: &mut O) -> Result<Counts, Stop>
+    ensures written { PutsPieces (line_texts.bad_line_text number at) (Rose (O.faults out.old) (O.faults out.new)) (O.written out.old) (O.written out.new) result }
+    ensures counts { IfOk result (λ counts. counts ≡ record { replies = 0; refused = 0; unread = 1; bytes = length (line_texts.bad_line_text number at) }) }
+    ensures later { O.faults out.old ≤ O.faults out.new }
+{
+    let text = bad_line_text(alloc, number, at)?;
+    let counts = Counts {
+        unread: 1,
+        ..NOTHING
+    };
+    write_counted(out, text, counts)
+}
+
+// Writes the text of the line with this number that says this, where it has one.
+fn write_reading<R: Threads + Sync, G: Gate + Sync, O: Sink, L: Ledger>(
     rt: &R,
     alloc: Global,
     session: &mut Session,
@@ -120,16 +175,30 @@ fn write_line<R: Threads + Sync, G: Gate + Sync, O: Sink, L: Ledger>(
     match reading {
         Reading::Nothing => Ok(NOTHING),
         Reading::Asks(line) => write_reply(rt, alloc, session, line, gate, out, steps),
-        Reading::Unread(at) => {
-            let text = bad_line_text(alloc, number, *at)?;
-            put(out, text.as_slice())?;
-            Ok(Counts {
-                unread: 1,
-                bytes: text.len() as u64,
-                ..NOTHING
-            })
-        }
+        Reading::Unread(at) => write_unread(alloc, number, *at, out),
     }
+}
+
+// The same, and lets go of what the line says.
+fn write_line<R: Threads + Sync, G: Gate + Sync, O: Sink, L: Ledger>(
+    rt: &R,
+    alloc: Global,
+    session: &mut Session,
+    number: u64,
+    reading: Reading,
+    gate: &G,
+    out: &mut O,
+    steps: &mut Steps<L>,
+) -> Result<Counts, Stop>
+    ensures written { PutsPieces (reports.line_told (catalog_image session.old.catalog) (state_of session.old) number (reading_image reading)).text
+        (Rose (O.faults out.old) (O.faults out.new)) (O.written out.old) (O.written out.new) result }
+    ensures counts { IfOk result (λ counts. counts ≡ counts_told (reports.line_told (catalog_image session.old.catalog) (state_of session.old) number (reading_image reading))) }
+    ensures after { IfOk result (λ counts. state_of session.new ≡ reports.state_after (catalog_image session.old.catalog) (state_of session.old) (reading_image reading)) }
+    ensures book { session.new.catalog ≡ session.old.catalog }
+    ensures later { O.faults out.old ≤ O.faults out.new }
+    ensures looks { steps.new ≤ steps.old + (reports.line_told (catalog_image session.old.catalog) (state_of session.old) number (reading_image reading)).looks }
+{
+    write_reading(rt, alloc, session, number, &reading, gate, out, steps)
 }
 
 // Writes the texts of the lines of a script, each before the next line is read, and counts them.
@@ -154,9 +223,8 @@ fn write_lines<R: Threads + Sync, G: Gate + Sync, O: Sink, L: Ledger>(
     while let Some(span) = line_at(script, from) {
         number += 1;
         let reading = reading_of(alloc, &script[span.start..span.end])?;
-        let line = write_line(rt, alloc, session, number, &reading, gate, out, steps)?;
         // Only what the next line says is kept beside it.
-        drop(reading);
+        let line = write_line(rt, alloc, session, number, reading, gate, out, steps)?;
         from = span.next;
         counts = together(counts, line)?;
     }

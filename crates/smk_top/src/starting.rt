@@ -1,14 +1,17 @@
 // A session, from what a run reads.
-ghost use Rattle.std.specs.Prelude.{◌≡◌, ◌≤◌, ◌+◌, [], map, slice_index_or, IfOk};
+ghost use Rattle.std.specs.Prelude.{◌≡◌, ◌≤◌, ◌+◌, [], List, Err, map, slice_index_or, IfOk};
+ghost use Rattle.smk_base.specs.Rels.{Relation};
+ghost use Rattle.smk_base.specs.declared.catalog.Catalog.{Catalog as CatalogShape};
 ghost use Rattle.smk_model.specs.Catalogs.{each_table_kinds};
 ghost use Rattle.smk_model.specs.Looks.{start_looks};
+ghost use Rattle.smk_model.specs.Opening.{first_view_fault};
 ghost use Rattle.smk_model.specs.Selection.{each_kinds};
-ghost use Rattle.smk_session.specs.Sessions.{workbook_image, workbook_of};
+ghost use Rattle.smk_session.specs.Sessions.{IsStartFault, SessionImage, workbook_image, workbook_of};
 ghost use Rattle.smk_top.specs.Reading.{Starts, IsSayable};
 
 use crate::settings::Settings;
 use crate::stop::Stop;
-use smk_base::{Fault, TableInfo, Text, ViewInfo};
+use smk_base::{Catalog, Fault, TableInfo, Text, ViewInfo};
 use smk_outside::{Gate, Steps};
 use smk_session::{Session, StartFault};
 use smk_table::Table;
@@ -39,6 +42,23 @@ fn table_names(alloc: Global, tables: &[TableInfo]) -> Result<Vec<Text>, AllocEr
     Ok(names)
 }
 
+// The names of views and tables, which the faults of a start say.
+#[derive(Drop)]
+struct Names {
+    views: Vec<Text>,
+    tables: Vec<Text>,
+}
+
+// The names of a book's views and tables.
+fn names_of(alloc: Global, catalog: &Catalog) -> Result<Names, AllocError>
+    ensures views { IfOk result (λ names. names.views.items ≡ map (λ view. view.name) catalog.now.views) }
+    ensures tables { IfOk result (λ names. names.tables.items ≡ map (λ table. table.name) catalog.now.tables) }
+{
+    let views = view_names(alloc, catalog.views.as_slice())?;
+    let tables = table_names(alloc, catalog.tables.as_slice())?;
+    Ok(Names { views, tables })
+}
+
 // The name at a place, and the empty one past the last.
 fn name_at(alloc: Global, names: Vec<Text>, place: u32) -> Text
     ensures { result ≡ slice_index_or names.items place [] }
@@ -46,6 +66,27 @@ fn name_at(alloc: Global, names: Vec<Text>, place: u32) -> Text
     match names.into_iter().nth(place as usize) {
         Some(name) => name,
         None => Text::new(alloc),
+    }
+}
+
+// What a fault of a start says.
+fn stop_of(alloc: Global, names: Names, fault: StartFault) -> Stop
+    ensures starts { (book : CatalogShape) (rows : List Relation) → IsStartFault fault (first_view_fault (workbook_image book rows))
+        → names.views.items ≡ map (λ view. view.name) book.views → names.tables.items ≡ map (λ table. table.name) book.tables → Starts {X = SessionImage} (workbook_image book rows) (Err result) }
+    ensures said { IsSayable {X = SessionImage} (Err result) }
+{
+    let Names { views, tables } = names;
+    match fault {
+        StartFault::Rows { view, node } => {
+            let view = name_at(alloc, views, view);
+            Stop::At(Fault::ViewRows { view, node })
+        }
+        StartFault::Pairs { view, node, table } => {
+            let view = name_at(alloc, views, view);
+            let table = name_at(alloc, tables, table);
+            Stop::At(Fault::ViewPairs { view, node, table })
+        }
+        StartFault::NoMemory => Stop::Exhausted,
     }
 }
 
@@ -68,20 +109,10 @@ pub fn start<R: Threads + Sync, G: Gate + Sync, L: Ledger>(
     ensures begun { IfOk result (λ session. session.brushes ≡ []) }
     ensures said { IsSayable result }
 {
-    let views = view_names(alloc, book.catalog().views.as_slice())?;
-    let names = table_names(alloc, book.catalog().tables.as_slice())?;
+    let names = names_of(alloc, book.catalog())?;
     let Settings { mode, workers, .. } = settings;
     match Session::start(rt, alloc, book, tables, mode, workers, gate, steps) {
         Ok(session) => Ok(session),
-        Err(StartFault::Rows { view, node }) => {
-            let view = name_at(alloc, views, view);
-            Err(Stop::At(Fault::ViewRows { view, node }))
-        }
-        Err(StartFault::Pairs { view, node, table }) => {
-            let view = name_at(alloc, views, view);
-            let table = name_at(alloc, names, table);
-            Err(Stop::At(Fault::ViewPairs { view, node, table }))
-        }
-        Err(StartFault::NoMemory) => Err(Stop::Exhausted),
+        Err(fault) => Err(stop_of(alloc, names, fault)),
     }
 }

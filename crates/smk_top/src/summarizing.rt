@@ -1,17 +1,19 @@
 // The run of a demo, of whose report only a summary is written.
-ghost use Rattle.std.specs.Prelude.{◌≡◌, ◌≤◌, ◌<◌, ◌+◌, List, Some, length, map, IfOk};
+ghost use Rattle.std.specs.Prelude.{◌≡◌, ◌≤◌, ◌<◌, ◌+◌, [], List, None, Some, length, map, IfOk};
 ghost use Rattle.smk_base.specs.CatalogImage.{catalog_image};
 ghost use Rattle.smk_base.specs.declared.demo.TheConstants.{DEMO_BOOK_NAME, DEMO_SCRIPT_NAME};
-ghost use Rattle.smk_model.specs.Demo.{demo_of, summary_of};
+ghost use Rattle.smk_model.specs.Demo.{demo_of, summary, summary_of};
+ghost use Rattle.smk_model.specs.Opening.{first_view_fault};
 ghost use Rattle.smk_model.specs.Outcome as outcomes;
 ghost use Rattle.smk_model.specs.Readings.{Reading, AreReadingsOf};
-ghost use Rattle.smk_model.specs.Reports.{size_of_view};
+ghost use Rattle.smk_model.specs.Reports.{script_told, size_of_view};
 ghost use Rattle.smk_model.specs.Session.{view_at};
 ghost use Rattle.smk_outside.specs.Outside.{Rose};
 ghost use Rattle.smk_session.specs.Sessions.{workbook_of};
 ghost use Rattle.smk_top.specs.Endings.{Reports};
 ghost use Rattle.smk_top.specs.Loaded.{workbook_read, script_bytes, inputs_with};
 ghost use Rattle.smk_top.specs.Reading.{ReadsAll, IsSayable};
+ghost use Rattle.smk_top.specs.Writing.{PutsPieces};
 
 use crate::called::Flights;
 use crate::counts::Counts;
@@ -75,6 +77,53 @@ fn size_of(alloc: Global, session: &Session, number: u32) -> Result<Size, AllocE
     })
 }
 
+// Writes the summary of a report with these sizes and counts, and tells the counts.
+fn put_summary<O: Sink>(
+    alloc: Global,
+    flights: Flights,
+    sizes: &Sizes,
+    counts: Counts,
+    out: &mut O,
+) -> Result<Counts, Stop>
+    ensures written { PutsPieces (summary flights.count sizes.now counts.replies counts.refused counts.bytes) (Rose (O.faults out.old) (O.faults out.new)) (O.written out.old) (O.written out.new) result }
+    ensures counts { IfOk result (λ told. told ≡ counts) }
+    ensures later { O.faults out.old ≤ O.faults out.new }
+{
+    let text = summary_text(
+        alloc,
+        flights.count,
+        sizes,
+        counts.replies,
+        counts.refused,
+        counts.bytes,
+    )?;
+    put(out, text.as_slice())?;
+    Ok(counts)
+}
+
+// Answers the script of a demo's session that begins, and writes the summary of the report. It tells the counts of the report's lines.
+fn write_summary<R: Threads + Sync, G: Gate + Sync, O: Sink, L: Ledger>(
+    rt: &R,
+    alloc: Global,
+    flights: Flights,
+    session: &mut Session,
+    script: &[u8],
+    gate: &G,
+    out: &mut O,
+    steps: &mut Steps<L>,
+) -> Result<Counts, Stop>
+    requires { session.old.brushes ≡ [] }
+    ensures works { (given : outcomes.Inputs) → AreReadingsOf script.now given.readings → first_view_fault given.book ≡ None → workbook_of session.old ≡ given.book
+        → Reports (summary_of flights.count) given (Rose (O.faults out.old) (O.faults out.new)) (O.written out.old) (O.written out.new) result }
+    ensures said { IsSayable result }
+    ensures out_later { O.faults out.old ≤ O.faults out.new }
+    ensures looks { (said : List Reading) → AreReadingsOf script.now said → steps.new ≤ steps.old + (script_told (workbook_of session.old) said).looks }
+{
+    let sizes = sizes_of(alloc, session)?;
+    let counts = write_report(rt, alloc, session, script, gate, &mut Nowhere, steps)?;
+    put_summary(alloc, flights, &sizes, counts, out)
+}
+
 /// Evaluates the views of a demo and answers its script, and writes the summary of the report. It tells the counts of the report's lines.
 pub fn summarize<R: Threads + Sync, G: Gate + Sync, O: Sink, L: Ledger>(
     rt: &R,
@@ -99,16 +148,5 @@ pub fn summarize<R: Threads + Sync, G: Gate + Sync, O: Sink, L: Ledger>(
     } = inputs;
     let mut session = start(rt, alloc, book, tables, settings, gate, steps)?;
     let script = script.as_slice();
-    let sizes = sizes_of(alloc, &session)?;
-    let counts = write_report(rt, alloc, &mut session, script, gate, &mut Nowhere, steps)?;
-    let text = summary_text(
-        alloc,
-        flights.count,
-        &sizes,
-        counts.replies,
-        counts.refused,
-        counts.bytes,
-    )?;
-    put(out, text.as_slice())?;
-    Ok(counts)
+    write_summary(rt, alloc, flights, &mut session, script, gate, out, steps)
 }

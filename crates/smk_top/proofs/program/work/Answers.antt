@@ -1,80 +1,19 @@
-use Rattle.std.proofs.Common.{◌≡◌, ◌∙◌, ℕ, List, map, Option, Some, option_map, ap, sym, Bor, inr}
-use Rattle.std.specs.Option.{option_copied}
-use Rattle.std.proofs.lemmas.Result.{err_from_is_err_and}
+use Rattle.std.proofs.Common.{◌∙◌, ℕ, List, map, option_map, ap, Bor}
 use Rattle.smk_outside.specs.Outside.{Rose}
-use Rattle.smk_model.specs.Demo.{summary_of}
-use Rattle.smk_model.specs.Reports.{Report}
-use Rattle.smk_model.specs.Words.{Files, Demo, words_of}
-use Rattle.smk_model.proofs.SomeOutcome.{some_reading}
-use Rattle.smk_top.specs.declared.called.RunTexts.{RunTexts}
 use Rattle.smk_top.specs.declared.called.RunWords.{RunWords}
 use Rattle.smk_top.specs.Image.{texts_image}
-use Rattle.smk_top.specs.Loaded.{workbook_read, script_bytes, inputs_with}
 use Rattle.smk_top.proofs.Stops.{texts_asked}
-use Rattle.smk_top.proofs.Endings.{usage_stops, files_stop, files_read, demo_stops, demo_read, files_write, demo_writes, reports}
+use Rattle.smk_top.proofs.Endings.{usage_stops}
 use Rattle.smk_top.proofs.program.work.Goals as goal
 
-pub returns-in_default-clause-works : goal.returns-in_default-clause-works
-returns-in_default-clause-works g c =
-    usage_stops (map (λ (w : Bor (List ℕ)). w.now) c.args.words.now) _ _ (Rose (g.O.Sink.faults c.args.out.now) (g.O.Sink.faults c.args.out.now)) _ (texts_asked (map (λ (w : Bor (List ℕ)). w.now) c.args.words.now) _ c.in_ok-call.ensures ∙ ap (option_map (λ (call : RunWords). texts_image call.texts)) c.in_default.is)
+pub returns-in-None-clause-works : goal.returns-in-None-clause-works
+returns-in-None-clause-works g c =
+    usage_stops (map (λ (w : Bor (List ℕ)). w.now) c.args.words.now) _ _ (Rose (g.O.Sink.faults c.args.out.now) (g.O.Sink.faults c.args.out.now)) _ (texts_asked (map (λ (w : Bor (List ℕ)). w.now) c.args.words.now) _ c.in_ok-found.ensures ∙ ap (option_map (λ (call : RunWords). texts_image call.texts)) c.in-None.is)
 
-pub returns-in_err-inputs-in-Files-clause-works : goal.returns-in_err-inputs-in-Files-clause-works
-returns-in_err-inputs-in-Files-clause-works g c =
-    let p = err_from_is_err_and c.from_residual-in_err-inputs-in-Files.result c.from_residual-in_err-inputs-in-Files.ensures.1 in
-    let asked : words_of (map (λ (w : Bor (List ℕ)). w.now) c.args.words.now) ≡ Some (Files c.in-Files.book (option_copied c.as_ref.result)) =
-    texts_asked (map (λ (w : Bor (List ℕ)). w.now) c.args.words.now) _ c.in_ok-call.ensures ∙ ap (option_map (λ (call : RunWords). texts_image call.texts)) c.in-Some.is ∙ ap (λ (t : RunTexts). Some (texts_image t)) c.in-Files.is
-    ∙ ap (λ (s : Option (List ℕ)). Some (Files c.in-Files.book s)) (sym c.as_ref.ensures.value) in
-    rw (p.1, p.2) (files_stop (map (λ (w : Bor (List ℕ)). w.now) c.args.words.now) c.in-Files.book (option_copied c.as_ref.result) (g.F.Files.held c.args.files.now) (Rose (g.F.Files.faults c.args.files.now) (g.F.Files.faults c.read_all.new.files)) (Rose (g.O.Sink.faults c.args.out.now) (g.O.Sink.faults c.args.out.now))
-    workbook_read script_bytes (g.O.Sink.written c.args.out.now) c.in_err-inputs-in-Files.field-0.0 asked c.in_err-inputs-in-Files.ensures.read)
+pub returns-in-Some-clause-works : goal.returns-in-Some-clause-works
+returns-in-Some-clause-works g c =
+    c.work_on.ensures.works (map (λ (w : Bor (List ℕ)). w.now) c.args.words.now) (texts_asked (map (λ (w : Bor (List ℕ)). w.now) c.args.words.now) _ c.in_ok-found.ensures ∙ ap (option_map (λ (call : RunWords). texts_image call.texts)) c.in-Some.is)
 
-pub returns-in-Files-clause-works : goal.returns-in-Files-clause-works
-returns-in-Files-clause-works g c =
-    let asked : words_of (map (λ (w : Bor (List ℕ)). w.now) c.args.words.now) ≡ Some (Files c.in-Files.book (option_copied c.as_ref.result)) =
-    texts_asked (map (λ (w : Bor (List ℕ)). w.now) c.args.words.now) _ c.in_ok-call.ensures ∙ ap (option_map (λ (call : RunWords). texts_image call.texts)) c.in-Some.is ∙ ap (λ (t : RunTexts). Some (texts_image t)) c.in-Files.is
-    ∙ ap (λ (s : Option (List ℕ)). Some (Files c.in-Files.book s)) (sym c.as_ref.ensures.value) in
-    let said = some_reading (script_bytes c.in_ok-inputs-in-Files.inputs) in
-    reports (λ (report : Report). report.text) (map (λ (w : Bor (List ℕ)). w.now) c.args.words.now) (g.F.Files.held c.args.files.now) (Rose (g.F.Files.faults c.args.files.now) (g.F.Files.faults c.read_all.new.files)) _ (inputs_with c.in_ok-inputs-in-Files.inputs said.0) _ _ c.report.result
-    (files_write (map (λ (w : Bor (List ℕ)). w.now) c.args.words.now) c.in-Files.book (option_copied c.as_ref.result) asked)
-    (files_read (map (λ (w : Bor (List ℕ)). w.now) c.args.words.now) c.in-Files.book (option_copied c.as_ref.result) (g.F.Files.held c.args.files.now) (Rose (g.F.Files.faults c.args.files.now) (g.F.Files.faults c.read_all.new.files)) workbook_read script_bytes c.in_ok-inputs-in-Files.inputs said.0 asked c.in_ok-inputs-in-Files.ensures.read said.1)
-    (c.report.ensures.works said.0 said.1)
-
-pub returns-in-Files-clause-looks : goal.returns-in-Files-clause-looks
-returns-in-Files-clause-looks g c =
-    let asked : words_of (map (λ (w : Bor (List ℕ)). w.now) c.args.words.now) ≡ Some (Files c.in-Files.book (option_copied c.as_ref.result)) =
-    texts_asked (map (λ (w : Bor (List ℕ)). w.now) c.args.words.now) _ c.in_ok-call.ensures ∙ ap (option_map (λ (call : RunWords). texts_image call.texts)) c.in-Some.is ∙ ap (λ (t : RunTexts). Some (texts_image t)) c.in-Files.is
-    ∙ ap (λ (s : Option (List ℕ)). Some (Files c.in-Files.book s)) (sym c.as_ref.ensures.value) in
-    let said = some_reading (script_bytes c.in_ok-inputs-in-Files.inputs) in
-    inr (
-      inputs_with c.in_ok-inputs-in-Files.inputs said.0,
-      files_read (map (λ (w : Bor (List ℕ)). w.now) c.args.words.now) c.in-Files.book (option_copied c.as_ref.result) (g.F.Files.held c.args.files.now) (Rose (g.F.Files.faults c.args.files.now) (g.F.Files.faults c.read_all.new.files)) workbook_read script_bytes c.in_ok-inputs-in-Files.inputs said.0 asked c.in_ok-inputs-in-Files.ensures.read said.1,
-      c.report.ensures.looks said.0 said.1,
-    )
-
-pub returns-in_err-inputs-in-Demo-clause-works : goal.returns-in_err-inputs-in-Demo-clause-works
-returns-in_err-inputs-in-Demo-clause-works g c =
-    let p = err_from_is_err_and c.from_residual-in_err-inputs-in-Demo.result c.from_residual-in_err-inputs-in-Demo.ensures.1 in
-    let asked : words_of (map (λ (w : Bor (List ℕ)). w.now) c.args.words.now) ≡ Some (Demo c.in-Demo.flights.count) =
-    texts_asked (map (λ (w : Bor (List ℕ)). w.now) c.args.words.now) _ c.in_ok-call.ensures ∙ ap (option_map (λ (call : RunWords). texts_image call.texts)) c.in-Some.is ∙ ap (λ (t : RunTexts). Some (texts_image t)) c.in-Demo.is in
-    rw (p.1, p.2) (demo_stops (map (λ (w : Bor (List ℕ)). w.now) c.args.words.now) c.in-Demo.flights.count (g.F.Files.held c.args.files.now) (Rose (g.F.Files.faults c.args.files.now) (g.F.Files.faults c.args.files.now)) (Rose (g.O.Sink.faults c.args.out.now) (g.O.Sink.faults c.args.out.now))
-    workbook_read script_bytes (g.O.Sink.written c.args.out.now) c.in_err-inputs-in-Demo.field-0.0 asked c.in_err-inputs-in-Demo.ensures.read)
-
-pub returns-clause-works : goal.returns-clause-works
-returns-clause-works g c =
-    let asked : words_of (map (λ (w : Bor (List ℕ)). w.now) c.args.words.now) ≡ Some (Demo c.in-Demo.flights.count) =
-    texts_asked (map (λ (w : Bor (List ℕ)). w.now) c.args.words.now) _ c.in_ok-call.ensures ∙ ap (option_map (λ (call : RunWords). texts_image call.texts)) c.in-Some.is ∙ ap (λ (t : RunTexts). Some (texts_image t)) c.in-Demo.is in
-    let said = some_reading (script_bytes c.in_ok-inputs-in-Demo.inputs) in
-    reports (summary_of c.in-Demo.flights.count) (map (λ (w : Bor (List ℕ)). w.now) c.args.words.now) (g.F.Files.held c.args.files.now) (Rose (g.F.Files.faults c.args.files.now) (g.F.Files.faults c.args.files.now)) _ (inputs_with c.in_ok-inputs-in-Demo.inputs said.0) _ _ c.summarize.result
-    (demo_writes (map (λ (w : Bor (List ℕ)). w.now) c.args.words.now) c.in-Demo.flights.count asked)
-    (demo_read (map (λ (w : Bor (List ℕ)). w.now) c.args.words.now) c.in-Demo.flights.count (g.F.Files.held c.args.files.now) workbook_read script_bytes c.in_ok-inputs-in-Demo.inputs said.0 asked c.in_ok-inputs-in-Demo.ensures.read said.1)
-    (c.summarize.ensures.works said.0 said.1)
-
-pub returns-clause-looks : goal.returns-clause-looks
-returns-clause-looks g c =
-    let asked : words_of (map (λ (w : Bor (List ℕ)). w.now) c.args.words.now) ≡ Some (Demo c.in-Demo.flights.count) =
-    texts_asked (map (λ (w : Bor (List ℕ)). w.now) c.args.words.now) _ c.in_ok-call.ensures ∙ ap (option_map (λ (call : RunWords). texts_image call.texts)) c.in-Some.is ∙ ap (λ (t : RunTexts). Some (texts_image t)) c.in-Demo.is in
-    let said = some_reading (script_bytes c.in_ok-inputs-in-Demo.inputs) in
-    inr (
-      inputs_with c.in_ok-inputs-in-Demo.inputs said.0,
-      demo_read (map (λ (w : Bor (List ℕ)). w.now) c.args.words.now) c.in-Demo.flights.count (g.F.Files.held c.args.files.now) workbook_read script_bytes c.in_ok-inputs-in-Demo.inputs said.0 asked c.in_ok-inputs-in-Demo.ensures.read said.1,
-      c.summarize.ensures.looks said.0 said.1,
-    )
+pub returns-in-Some-clause-looks : goal.returns-in-Some-clause-looks
+returns-in-Some-clause-looks g c =
+    c.work_on.ensures.looks (map (λ (w : Bor (List ℕ)). w.now) c.args.words.now) (texts_asked (map (λ (w : Bor (List ℕ)). w.now) c.args.words.now) _ c.in_ok-found.ensures ∙ ap (option_map (λ (call : RunWords). texts_image call.texts)) c.in-Some.is)

@@ -1,15 +1,16 @@
-use Rattle.std.proofs.Common.{◌≡◌, ◌∙◌, ap}
+use Rattle.std.proofs.Common.{◌≡◌, ◌∙◌, IfOk, ap, subst}
 use Rattle.std.proofs.lemmas.Result.{err_from_is_err_and}
+use Rattle.smk_outside.specs.Outside.{Rose}
 use Rattle.smk_base.specs.CatalogImage.{catalog_image}
-use Rattle.smk_base.specs.declared.catalog.Catalog.{Catalog}
 use Rattle.smk_base.specs.declared.reply.Reply.{Reply}
-use Rattle.smk_model.specs.Replies.{reply}
-use Rattle.smk_model.specs.ReplyTexts.{reply_text}
+use Rattle.smk_model.specs.Reports.{Told}
 use Rattle.smk_model.specs.Session.{State}
 use Rattle.smk_session.specs.Sessions.{state_of}
+use Rattle.smk_top.specs.Counting.{counts_told}
+use Rattle.smk_top.specs.Writing.{PutsPieces}
 use Rattle.smk_top.specs.declared.counts.Counts.{Counts}
-use Rattle.smk_top.proofs.Appending.{none_written, put_stops}
-use Rattle.smk_top.proofs.ReplyFits.{told_fits}
+use Rattle.smk_top.proofs.Appending.{if_told, none_written}
+use Rattle.smk_top.proofs.ReplyFits.{told_fits, told_same}
 use Rattle.smk_top.proofs.reporting.write_reply.Goals as goal
 
 pub returns-in_err-reply-clause-written : goal.returns-in_err-reply-clause-written
@@ -17,17 +18,20 @@ returns-in_err-reply-clause-written g c =
     let p = err_from_is_err_and c.from_residual.result c.from_residual.ensures.1 in
     rw (p.1, p.2) (none_written _ _)
 
-pub reply_text-requires : goal.reply_text-requires
-reply_text-requires g c =
+pub write_told-requires : goal.write_told-requires
+write_told-requires g c =
     rw (c.catalog.ensures.book, c.in_ok-reply.ensures.book)
     (told_fits (catalog_image c.args.session.now.catalog) (state_of c.args.session.now) _ c.args.line.now c.in_ok-reply.reply (rw c.in_ok-reply.ensures.book at c.catalog.ensures.checked) c.in_ok-reply.ensures.reply)
 
-pub returns-in_err-put-clause-written : goal.returns-in_err-put-clause-written
-returns-in_err-put-clause-written g c =
-    let p = err_from_is_err_and c.from_residual-in_err-put.result c.from_residual-in_err-put.ensures.1 in
-    let session = c.args.session.now in
-    let same : c.as_slice.result.now ≡ reply_text (catalog_image session.catalog) c.args.line.now (reply (catalog_image session.catalog) (state_of session) c.args.line.now).0 =
-    c.as_slice.ensures.value ∙ c.in_ok-text.ensures
-    ∙ ap (λ (b : Catalog). reply_text (catalog_image b) c.args.line.now c.in_ok-reply.reply) (c.catalog.ensures.book ∙ c.in_ok-reply.ensures.book)
-    ∙ ap (λ (r : Reply × State). reply_text (catalog_image session.catalog) c.args.line.now r.0) c.in_ok-reply.ensures.reply in
-    rw (p.1, p.2) (put_stops (Unit {0}) Counts _ _ _ _ _ _ same c.in_err-put.ensures.text)
+pub returns-clause-written : goal.returns-clause-written
+returns-clause-written g c =
+    let same = told_same c.catalog.result.now c.args.session.now.catalog (state_of c.args.session.now) _ c.args.line.now c.in_ok-reply.reply (c.catalog.ensures.book ∙ c.in_ok-reply.ensures.book) c.in_ok-reply.ensures.reply in
+    subst (λ (t : Told). PutsPieces t.text (Rose (g.O.Sink.faults c.args.out.now) (g.O.Sink.faults c.write_told.new.out)) (g.O.Sink.written c.args.out.now) (g.O.Sink.written c.write_told.new.out) c.write_told.result) same c.write_told.ensures.written
+
+pub returns-clause-counts : goal.returns-clause-counts
+returns-clause-counts g c =
+    let same = told_same c.catalog.result.now c.args.session.now.catalog (state_of c.args.session.now) _ c.args.line.now c.in_ok-reply.reply (c.catalog.ensures.book ∙ c.in_ok-reply.ensures.book) c.in_ok-reply.ensures.reply in
+    subst (λ (t : Told). IfOk c.write_told.result (λ (counts : Counts). counts ≡ counts_told t)) same (c.write_told.ensures.counts (state_of c.args.session.now))
+
+pub returns-clause-after : goal.returns-clause-after
+returns-clause-after g c = if_told _ c.write_told.result (ap (λ (r : Reply × State). r.1) c.in_ok-reply.ensures.reply)
