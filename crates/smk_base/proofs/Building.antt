@@ -13,6 +13,7 @@ use Rattle.smk_base.specs.Images.{ColumnImage}
 use Rattle.smk_base.specs.Columns.{IsColumnOf}
 use Rattle.smk_base.specs.Relations.{column_in, kinds_of, row_at, rows_of, relation_of, AreMade}
 use Rattle.smk_base.specs.Builders.{RowsBegun, begun_in, rows_begun, AreBegun}
+use Rattle.smk_base.proofs.Kept.{IsColumnOf-same}
 use Rattle.smk_base.proofs.Pushed.{kind_in-kinds_of}
 use Rattle.smk_base.proofs.Rows.{length-rows_of, row_in-rows_of, value_in-row_at, kinds_is, row_is}
 use Rattle.smk_base.proofs.Relating.{made-new}
@@ -110,8 +111,7 @@ AreBegun-kept : (count at : ℕ) (columns : List ColumnImage) (column : ColumnIm
 AreBegun-kept count at columns column is h so =
     let here = same_column columns at column h in
     let long = length-set columns at column in
-    let was = is.rest at (omega arith) h in
-    let same : IsColumnOf count column = record { long = rw so.cells was.long; few = was.few; low = rw so.kind was.low; fit = rw (so.kind, so.cells) was.fit } in
+    let same = IsColumnOf-same count (column_in columns at) column so.kind so.cells (is.rest at (omega arith) h) in
     record {
       few_columns = omega (arith, long, is.few_columns);
       few_rows = is.few_rows;

@@ -3,8 +3,8 @@ use Rattle.std.proofs.Common.{◌≡◌, ◌≢◌, ℕ, zero, suc, ◌+◌, ◌
 use Rattle.std.proofs.lemmas.Int.{ints}
 use Rattle.std.proofs.Math.Nat.{div-le_self, pow-le-pow_right}
 use Rattle.std.specs.Int.{w64, int_div_euclid}
-use Rattle.std.proofs.lemmas.List.{get_or-map, length-map, length-append}
-use Rattle.std.proofs.lemmas.List.Elements.{All-append, All-map, All-weaker, All-tail}
+use Rattle.std.proofs.lemmas.List.{get_or-map, length-map, length-append, length_push}
+use Rattle.std.proofs.lemmas.List.Elements.{All-append, All-map, All-push, All-weaker, All-tail}
 use Rattle.smk_base.specs.declared.value.Kind.{Kind}
 use Rattle.smk_base.specs.declared.value.Kind.TheVariants as kinds
 use Rattle.smk_base.specs.declared.value.Value.{Value}
@@ -12,6 +12,19 @@ use Rattle.smk_base.specs.declared.value.Value.TheVariants as values
 use Rattle.smk_base.specs.Rels.{IsWithin, IsWider, IsColumn, Fits, value_in, bin_of}
 use Rattle.smk_base.specs.Images.{ColumnImage}
 use Rattle.smk_base.specs.Columns.{IsColumnOf}
+
+-- a column with the same values
+pub IsColumnOf-same : (n : ℕ) (column now : ColumnImage) → now.kind ≡ column.kind → now.cells ≡ column.cells → IsColumnOf n column → IsColumnOf n now
+IsColumnOf-same n column now kind cells is = record { long = rw cells is.long; few = is.few; low = rw kind is.low; fit = rw (kind, cells) is.fit }
+
+-- a column with one more value
+pub IsColumnOf-push : (n : ℕ) (column now : ColumnImage) (v : Value) → now.kind ≡ column.kind → now.cells ≡ column.cells ++ v ∷ [] → Fits column.kind v → n < 1048576 → IsColumnOf n column → IsColumnOf (n + 1) now
+IsColumnOf-push n column now v kind cells fits few is = record {
+  long = rw cells (omega (arith, length_push column.cells v, is.long));
+  few = omega arith;
+  low = rw kind is.low;
+  fit = rw (kind, cells) (All-push (Fits column.kind) column.cells v is.fit fits);
+}
 
 -- the images of the items at these places are the images at these places
 pub map-gather : {A : Type 0} (f : A → Value) (items : List A) (d : A) (places : List ℕ) → All (λ place. place < length (map f items)) places

@@ -12,3 +12,4 @@ pub mod Relating
 pub mod Building
 pub mod Ascents
 pub mod Loops
+pub mod Search

@@ -1,17 +1,14 @@
 -- Columns made one after the other.
-use Rattle.std.proofs.Common.{◌≡◌, ℕ, ◌+◌, ◌<◌, List, [], ◌∷◌, ◌++◌, refl, arith, inl, inr, None}
-use Rattle.std.proofs.lemmas.Bool.{cases_lt}
-use Rattle.std.proofs.lemmas.List.{length_push, get_or_push, get_or_append_left}
-use Rattle.std.proofs.lemmas.List.Elements.{All-push, All-nil}
+use Rattle.std.proofs.Common.{◌≡◌, ◌≢◌, ℕ, ◌+◌, ◌<◌, ◌∙◌, List, [], ◌∷◌, ◌++◌, length, get_or, set, refl, arith, inl, inr}
+use Rattle.std.proofs.lemmas.Bool.{cases_eq, cases_lt}
+use Rattle.std.proofs.lemmas.List.{length_push, length-set, get_or_push, get_or_append_left, get_or_read, get_or-set_same, get_or-set_other}
+use Rattle.std.proofs.lemmas.List.Elements.{All-push, All-nil, All-set}
 use Rattle.smk_base.specs.declared.value.Kind.{Kind}
-use Rattle.smk_base.specs.declared.value.Kind.TheVariants as kinds
 use Rattle.smk_base.specs.declared.value.Value.{Value}
 use Rattle.smk_base.specs.Images.{ColumnImage}
 use Rattle.smk_base.specs.Columns.{IsColumnOf}
 use Rattle.smk_base.specs.Relations.{column_in, AreMade}
-
-none_yet : ColumnImage
-none_yet = record { kind = kinds.Text; cells = []; room = 0; next = None }
+use Rattle.smk_base.proofs.Kept.{IsColumnOf-same}
 
 pub AreMade_none : (count : ℕ) (kind : ℕ → Kind) (cells : ℕ → List Value) → AreMade count 0 kind cells []
 AreMade_none count kind cells = record { long = refl; kinds = λ k h. absurd (omega arith); cells = λ k h. absurd (omega arith); each = All-nil (IsColumnOf count) }
@@ -34,3 +31,30 @@ AreMade_push count n kind cells made column e f is so =
       ];
       each = All-push (IsColumnOf count) made column so.each is;
     }
+
+-- one column in place of another that has the same values
+pub AreMade_set : (count n c : ℕ) (kind : ℕ → Kind) (cells : ℕ → List Value) (now : List ColumnImage) (old column : ColumnImage)
+    → c < n → old ≡ get_or now c old → column.kind ≡ old.kind → column.cells ≡ old.cells → AreMade count n kind cells now → AreMade count n kind cells (set now c column)
+AreMade_set count n c kind cells now old column h at e f so =
+    let low : c < length now = omega (arith, h, so.long) in
+    let was : old ≡ column_in now c = get_or_read now c old low at _ in
+    let here : column_in (set now c column) c ≡ column = get_or-set_same now c column _ low in
+    let other : (k : ℕ) → k ≢ c → column_in (set now c column) k ≡ column_in now k = (λ k ne. get_or-set_other now c k column _ ne) in
+    let same_kind = rw was at e in
+    let same_cells = rw was at f in
+    record {
+      long = length-set now c column ∙ so.long;
+      kinds = λ k p. elim (cases_eq k c) [ inl same ↦ rw (same, here) (same_kind ∙ so.kinds c h) | inr ne ↦ (let o = other k ne in rw o (so.kinds k p)) ];
+      cells = λ k p. elim (cases_eq k c) [ inl same ↦ rw (same, here) (same_cells ∙ so.cells c h) | inr ne ↦ (let o = other k ne in rw o (so.cells k p)) ];
+      each = All-set (IsColumnOf count) now c column (IsColumnOf-same count (column_in now c) column same_kind same_cells (so.each c _ low)) so.each;
+    }
+
+-- columns like those that were made
+pub AreMade-through : (count m n : ℕ) (kind : ℕ → Kind) (cells : ℕ → List Value) (old made : List ColumnImage) → AreMade m n kind cells old
+    → AreMade count (length old) (λ k. (column_in old k).kind) (λ k. (column_in old k).cells) made → AreMade count n kind cells made
+AreMade-through count m n kind cells old made so now = record {
+  long = now.long ∙ so.long;
+  kinds = λ k h. (let low : k < length old = omega (arith, h, so.long) in now.kinds k low ∙ so.kinds k h);
+  cells = λ k h. (let low : k < length old = omega (arith, h, so.long) in now.cells k low ∙ so.cells k h);
+  each = now.each;
+}

@@ -2,7 +2,7 @@
 use Rattle.std.proofs.Common.{◌≡◌, ℕ, ℤ, ◌+◌, ◌-◌, ◌<◌, ◌≤◌, List, [], ◌∷◌, ◌++◌, length, map, get_or, refl, ap, sym, subst, ◌∙◌, arith, All, inl, inr, pos, None}
 use Rattle.std.specs.List.{range_with_len, AllZip}
 use Rattle.std.proofs.lemmas.Bool.{cases_lt}
-use Rattle.std.proofs.lemmas.List.{get_or-map, length-map, length-append, length_push, get_or_push, get_or_append_left, get_or-append_right, map-append, ext_get_or}
+use Rattle.std.proofs.lemmas.List.{get_or-map, length-map, length-append, length_push, get_or_push, get_or_append_left, get_or-append_right, map-append, map-id, ext_get_or}
 use Rattle.std.proofs.lemmas.List.Elements.{All-append, length_all_zip}
 use Rattle.std.proofs.lemmas.List.FromFn.{fill_by_all}
 use Rattle.std.proofs.lemmas.Simd.{map-map}
@@ -122,27 +122,17 @@ relation-beside-same n m a b e = subst (λ k. relation_of n (a ++ b) ≡ record 
 pub AreColumns-beside : (n : ℕ) (a b : List ColumnImage) → AreColumns n a → AreColumns n b → length a + length b ≤ 16 → AreColumns n (a ++ b)
 AreColumns-beside n a b p q few = record { few_columns = omega (arith, length-append a b); few_rows = p.few_rows; each = All-append (IsColumnOf n) a b p.each q.each }
 
-pub count-texts : (n : ℕ) (columns : List ColumnImage) (c : ℕ) (texts : List (List ℕ)) → All (IsColumnOf n) columns → c < length columns → (column_in columns c).cells ≡ map values.Text texts → length texts ≡ n
-count-texts n columns c texts each q e = sym (length-map texts values.Text) ∙ sym (ap length e) ∙ long-at n columns c each q
-
 -- the texts of a column of texts
-pub column_texts-rows_of : (n : ℕ) (columns : List ColumnImage) (c : ℕ) (texts : List (List ℕ)) → All (IsColumnOf n) columns → c < length columns → (column_in columns c).cells ≡ map values.Text texts → column_texts c (rows_of n columns) ≡ texts
-column_texts-rows_of n columns c texts each q e =
-    let count : length texts ≡ n = sym (length-map texts values.Text) ∙ sym (ap length e) ∙ long-at n columns c each q in
-    let rows = length-rows_of n columns in
-    let long : length (column_texts c (rows_of n columns)) ≡ n = length-map (rows_of n columns) (λ row. text_of (value_in row c)) ∙ rows in
-    ext_get_or [] (column_texts c (rows_of n columns)) texts (long ∙ sym count)
-    (λ i h.
-    let low : i < n = omega (arith, h, long) in
-    let there : i < length (rows_of n columns) = omega (arith, low, rows) in
-    let below : i < length texts = omega (arith, low, count) in
-    get_or-map (λ row. text_of (value_in row c)) (rows_of n columns) i [] [] there ∙ ap text_of (value_in-rows_of n columns i c low q ∙ ap (λ cells. value_in cells i) e ∙ get_or-map values.Text texts i [] none below))
+pub count-values : (c : ℕ) (rows : List (List Value)) (texts : List (List ℕ)) → column_values c rows ≡ map values.Text texts → length texts ≡ length rows
+count-values c rows texts e = sym (length-map texts values.Text) ∙ sym (ap length e) ∙ length-map rows (λ row. value_in row c)
 
-pub text-rows_of : (n : ℕ) (columns : List ColumnImage) (i c : ℕ) (texts : List (List ℕ)) → All (IsColumnOf n) columns → i < n → c < length columns → (column_in columns c).cells ≡ map values.Text texts
-    → text_of (value_in (row_in (rows_of n columns) i) c) ≡ get_or texts i []
-text-rows_of n columns i c texts each h q e =
-    let count : length texts ≡ n = sym (length-map texts values.Text) ∙ sym (ap length e) ∙ long-at n columns c each q in
-    ap text_of (value_in-rows_of n columns i c h q ∙ ap (λ cells. value_in cells i) e ∙ get_or-map values.Text texts i [] none (omega (arith, count)))
+pub texts-values : (c : ℕ) (rows : List (List Value)) (texts : List (List ℕ)) → column_values c rows ≡ map values.Text texts → column_texts c rows ≡ texts
+texts-values c rows texts e = sym (map-map text_of (λ row. value_in row c) rows) ∙ ap (map text_of) e ∙ map-map text_of values.Text texts ∙ map-id texts
+
+pub text-values : (c : ℕ) (rows : List (List Value)) (texts : List (List ℕ)) (i : ℕ) → column_values c rows ≡ map values.Text texts → i < length rows → text_of (value_in (row_in rows i) c) ≡ text_in texts i
+text-values c rows texts i e h =
+    let cell : value_in (row_in rows i) c ≡ value_in (column_values c rows) i = sym (get_or-map (λ row. value_in row c) rows i [] none h) in
+    ap text_of (cell ∙ ap (λ cells. value_in cells i) e ∙ get_or-map values.Text texts i [] none (omega (arith, h, count-values c rows texts e)))
 
 pub wider-long : (columns others : List ColumnImage) → AllZip IsWider (kinds_of columns) (kinds_of others) → length columns ≡ length others
 wider-long columns others wider = sym (wide_kinds columns) ∙ length_all_zip IsWider (kinds_of columns) (kinds_of others) wider ∙ wide_kinds others

@@ -22,10 +22,13 @@ impl Catalog {
         ensures place { result ≡ images.view_place (images.catalog_image self.now) name.now }
         ensures within { IfSome result (λ v. v < length self.now.views) }
     {
-        self.views
-            .as_slice()
-            .iter()
-            .position(|view| view.name == *name)
+        let views = self.views.as_slice();
+        for v in 0..views.len() {
+            if views[v].name == *name {
+                return Some(v);
+            }
+        }
+        None
     }
 
     /// The number of the table of this name, of the first one if there were several. It takes no memory.
@@ -33,10 +36,13 @@ impl Catalog {
         ensures place { result ≡ images.table_place (images.catalog_image self.now) name.now }
         ensures within { IfSome result (λ t. t < length self.now.tables) }
     {
-        self.tables
-            .as_slice()
-            .iter()
-            .position(|table| table.name == *name)
+        let tables = self.tables.as_slice();
+        for t in 0..tables.len() {
+            if tables[t].name == *name {
+                return Some(t);
+            }
+        }
+        None
     }
 }
 

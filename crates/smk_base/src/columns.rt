@@ -12,18 +12,6 @@ use crate::value_column::ValueColumn;
 use std::alloc::{AllocError, Global};
 use std::mem;
 
-/// Columns of these kinds with no row.
-pub(crate) fn empty_columns(alloc: Global, kinds: &[Kind]) -> Result<Vec<RelColumn>, AllocError>
-    requires { All IsColumn kinds.now }
-    ensures { IfOk result (λ made. AreMade 0 (length kinds.now) (kind_in kinds.now) (λ k. []) made.items) }
-{
-    let mut made = Vec::with_capacity(alloc, kinds.len())?;
-    for kind in kinds {
-        made.push(RelColumn::new(alloc, *kind))?;
-    }
-    Ok(made)
-}
-
 /// Columns of these kinds with no row, which may grow.
 pub(crate) fn begun_columns(alloc: Global, kinds: &[Kind]) -> Result<Vec<ValueColumn>, AllocError>
     requires { All IsColumn kinds.now }
@@ -31,7 +19,7 @@ pub(crate) fn begun_columns(alloc: Global, kinds: &[Kind]) -> Result<Vec<ValueCo
 {
     let mut made = Vec::with_capacity(alloc, kinds.len())?;
     for kind in kinds {
-        made.push(ValueColumn::new(alloc, *kind))?;
+        made.push_reserved(ValueColumn::new(alloc, *kind));
     }
     Ok(made)
 }
@@ -39,17 +27,16 @@ pub(crate) fn begun_columns(alloc: Global, kinds: &[Kind]) -> Result<Vec<ValueCo
 /// The columns, each of which its values lie with alone.
 pub(crate) fn owned_each(
     alloc: Global,
-    columns: Vec<ValueColumn>,
+    mut columns: Vec<ValueColumn>,
     count: u32,
 ) -> Result<Vec<RelColumn>, AllocError>
     requires { All (IsColumnOf count) columns.items }
     ensures { IfOk result (λ made. AreMade count (length columns.items) (λ k. (column_in columns.items k).kind) (λ k. (column_in columns.items k).cells) made.items) }
 {
-    let mut columns = columns;
     let mut made = Vec::with_capacity(alloc, columns.len())?;
     for c in 0..columns.len() {
         let column = mem::replace(&mut columns[c], ValueColumn::new(alloc, Kind::Text));
-        made.push(RelColumn::own(column))?;
+        made.push_reserved(RelColumn::own(column));
     }
     Ok(made)
 }
@@ -101,7 +88,7 @@ pub(crate) fn gather_each(
 {
     let mut made = Vec::with_capacity(alloc, columns.len())?;
     for column in columns {
-        made.push(column.gather(alloc, places)?)?;
+        made.push_reserved(column.gather(alloc, places)?);
     }
     Ok(made)
 }
@@ -117,7 +104,7 @@ pub(crate) fn copy_each(
 {
     let mut made = Vec::with_capacity(alloc, columns.len())?;
     for column in columns {
-        made.push(column.copy(alloc)?)?;
+        made.push_reserved(column.copy(alloc)?);
     }
     Ok(made)
 }
@@ -150,7 +137,7 @@ pub(crate) fn pick_each(
 {
     let mut made = Vec::with_capacity(alloc, cols.len())?;
     for c in cols {
-        made.push(columns[*c as usize].copy(alloc)?)?;
+        made.push_reserved(columns[*c as usize].copy(alloc)?);
     }
     Ok(made)
 }
@@ -158,7 +145,7 @@ pub(crate) fn pick_each(
 /// The columns with the rows of others behind their own.
 pub(crate) fn append_each(
     alloc: Global,
-    columns: Vec<RelColumn>,
+    mut columns: Vec<RelColumn>,
     count: u32,
     others: &[RelColumn],
     more: u32,
@@ -170,11 +157,10 @@ pub(crate) fn append_each(
     requires wider { (k : ℕ) → k < length columns.items → IsWider (column_in columns.items k).kind (column_in others.now k).kind }
     ensures { IfOk result (λ made. AreMade (count + more) (length columns.items) (λ k. (column_in columns.items k).kind) (λ k. (column_in columns.items k).cells ++ (column_in others.now k).cells) made.items) }
 {
-    let mut columns = columns;
     let mut made = Vec::with_capacity(alloc, others.len())?;
     for c in 0..others.len() {
         let column = mem::replace(&mut columns[c], RelColumn::new(alloc, Kind::Text));
-        made.push(column.append(alloc, &others[c])?)?;
+        made.push_reserved(column.append(alloc, &others[c])?);
     }
     Ok(made)
 }
@@ -182,7 +168,7 @@ pub(crate) fn append_each(
 /// The same values in columns of these kinds, none of which is a narrower one.
 pub(crate) fn widen_each(
     alloc: Global,
-    columns: Vec<RelColumn>,
+    mut columns: Vec<RelColumn>,
     count: u32,
     kinds: &[Kind],
 ) -> Result<Vec<RelColumn>, AllocError>
@@ -192,11 +178,10 @@ pub(crate) fn widen_each(
     requires wider { (k : ℕ) → k < length columns.items → IsWider (kind_in kinds.now k) (column_in columns.items k).kind }
     ensures { IfOk result (λ made. AreMade count (length columns.items) (kind_in kinds.now) (λ k. (column_in columns.items k).cells) made.items) }
 {
-    let mut columns = columns;
     let mut made = Vec::with_capacity(alloc, kinds.len())?;
     for c in 0..kinds.len() {
         let column = mem::replace(&mut columns[c], RelColumn::new(alloc, Kind::Text));
-        made.push(column.widened(alloc, kinds[c])?)?;
+        made.push_reserved(column.widened(alloc, kinds[c])?);
     }
     Ok(made)
 }

@@ -46,7 +46,7 @@ impl Copied for Value {
     fn copy_items(alloc: Global, items: &[Value]) -> Result<Vec<Value>, AllocError> {
         let mut copies = Vec::with_capacity(alloc, items.len())?;
         for item in items {
-            copies.push(item.copy(alloc)?)?;
+            copies.push_reserved(item.copy(alloc)?);
         }
         Ok(copies)
     }
@@ -56,7 +56,7 @@ impl<T: Copied> Copied for ListOf<T> {
     fn copy_items(alloc: Global, items: &[ListOf<T>]) -> Result<Vec<ListOf<T>>, AllocError> {
         let mut copies = Vec::with_capacity(alloc, items.len())?;
         for item in items {
-            copies.push(item.copy(alloc)?)?;
+            copies.push_reserved(item.copy(alloc)?);
         }
         Ok(copies)
     }

@@ -96,19 +96,6 @@ impl Dict {
         }
     }
 
-    // Puts a code at a seat, if there is memory for seats.
-    fn seat(&mut self, seat: usize, code: u32)
-        ensures texts { self.new.texts ≡ self.old.texts }
-        ensures room { self.new.room ≡ self.old.room }
-    {
-        if self.seats.is_empty() {
-            let _seats = self.seats.resize(SEATS, 0);
-        }
-        if let Some(place) = self.seats.get_mut(seat) {
-            *place = code;
-        }
-    }
-
     /// Makes room for one more text, so that the next add needs no memory.
     pub fn reserve(&mut self) -> Result<(), AllocError>
         ensures same { self.new.texts ≡ self.old.texts }
@@ -126,20 +113,8 @@ impl Dict {
         ensures succeeds { 0 < self.old.room → IsOk result }
     {
         let seat = seat_of(text.as_slice());
-        let code = self.insert(text)?;
-        self.seat(seat, code);
-        Ok(code)
-    }
-
-    // The same, but that the text gets no seat.
-    fn insert(&mut self, text: Text) -> Result<u32, AllocError>
-        requires { length self.old.texts < 2097152 }
-        ensures code { IfOk result (λ code. code ≡ code_or_last self.old.texts text) }
-        ensures texts { OnOk result (self.new.texts ≡ with_text self.old.texts text) }
-        ensures kept { OnErr result (self.new.texts ≡ self.old.texts) }
-        ensures succeeds { 0 < self.old.room → IsOk result }
-    {
         let (code, _) = self.texts.insert_full(text.into_vec())?;
+        put_seat(&mut self.seats, seat, code as u32);
         Ok(code as u32)
     }
 
@@ -203,5 +178,15 @@ fn seat_of(text: &[u8]) -> usize
         [.., first, last] => (usize::from(*first) * 37 + usize::from(*last)) % SEATS,
         [last] => usize::from(*last),
         [] => 0,
+    }
+}
+
+// Puts a code at a seat, if there is memory for seats.
+fn put_seat(seats: &mut Vec<u32>, seat: usize, code: u32) {
+    if seats.is_empty() {
+        let _made = seats.resize(SEATS, 0);
+    }
+    if let Some(place) = seats.get_mut(seat) {
+        *place = code;
     }
 }

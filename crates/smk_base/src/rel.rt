@@ -11,13 +11,14 @@ ghost use Rattle.smk_base.specs.declared.value.Kind.TheVariants as kinds;
 ghost use Rattle.smk_base.specs.declared.value.Value.TheVariants as values;
 
 use crate::columns::{
-    append_each, copy_each, empty_columns, gather_each, make_each_ready, pick_each, push_each,
-    share_each, widen_each,
+    append_each, begun_columns, copy_each, gather_each, make_each_ready, owned_each, pick_each,
+    push_each, share_each, widen_each,
 };
 use crate::dict::Dict;
 use crate::list::Row;
 use crate::rel_column::RelColumn;
-use crate::value::{CellRef, Kind};
+use crate::text_column::TextColumn;
+use crate::value::{CellRef, Kind, Value};
 use crate::value_column::{Ints, ValueColumn};
 use std::alloc::{AllocError, Global};
 use std::marker::Model;
@@ -51,7 +52,7 @@ impl Rel {
         ensures { IfOk result (λ rel. rel ≡ record { kinds = kinds.now; rows = [] }) }
     {
         Ok(Rel {
-            columns: empty_columns(alloc, kinds)?,
+            columns: owned_each(alloc, begun_columns(alloc, kinds)?, 0)?,
             count: 0,
         })
     }
@@ -100,13 +101,22 @@ impl Rel {
         self.columns[c as usize].cell(i)
     }
 
+    // The texts of column c, row by row.
+    fn texts(&self, c: u32) -> &TextColumn
+        requires column { c < length self.now.kinds }
+        requires text { kind_in self.now.kinds c ≡ kinds.Text }
+        ensures { column_values c self.now.rows ≡ map values.Text result.now.texts }
+    {
+        self.columns[c as usize].texts()
+    }
+
     /// The texts of column c, each at its first occurrence. It takes no memory.
     pub fn dict(&self, c: u32) -> &Dict
         requires column { c < length self.now.kinds }
         requires text { kind_in self.now.kinds c ≡ kinds.Text }
         ensures { result.now.texts ≡ text_firsts (column_texts c self.now.rows) }
     {
-        self.columns[c as usize].texts().dict()
+        self.texts(c).dict()
     }
 
     /// The code of the text in column c of row i. It takes no memory.
@@ -118,7 +128,7 @@ impl Rel {
         ensures within { result < length (text_firsts (column_texts c self.now.rows)) }
         ensures text { text_in (text_firsts (column_texts c self.now.rows)) result ≡ text_of (value_in (row_in self.now.rows i) c) }
     {
-        self.columns[c as usize].texts().code(i)
+        self.texts(c).code(i)
     }
 
     /// The codes of the texts in column c, row by row: equal ones exactly where the texts are equal. It takes no memory.
@@ -130,7 +140,7 @@ impl Rel {
         ensures within { All (λ code. code < length (text_firsts (column_texts c self.now.rows))) result.now }
         ensures texts { map (text_in (text_firsts (column_texts c self.now.rows))) result.now ≡ column_texts c self.now.rows }
     {
-        self.columns[c as usize].texts().codes()
+        self.texts(c).codes()
     }
 
     /// The numbers in column c, row by row. It takes no memory.
@@ -151,7 +161,7 @@ impl Rel {
         ensures kept { OnErr result (self.new ≡ self.old) }
     {
         let alloc = *self.columns.allocator();
-        let cells = cells_of(alloc, &row)?;
+        let cells = cells_of(alloc, row.as_slice())?;
         self.push_cells(cells.as_slice())
     }
 
@@ -173,8 +183,7 @@ impl Rel {
     pub fn shared(self, alloc: Global) -> Result<Rel, AllocError>
         ensures { IfOk result (λ rel. rel ≡ self) }
     {
-        let Rel { columns, count } = self;
-        let mut columns = columns;
+        let Rel { mut columns, count } = self;
         share_each(alloc, &mut columns, count)?;
         Ok(Rel { columns, count })
     }
@@ -246,10 +255,11 @@ impl Rel {
         requires few { length self.kinds + length right.kinds ≤ 16 }
         ensures { IfOk result (λ made. made ≡ record { kinds = self.kinds ++ right.kinds; rows = beside_rows self.rows right.rows }) }
     {
-        let Rel { columns, count } = self;
-        let Rel { columns: more, .. } = right;
-        let mut columns = columns;
-        let mut more = more;
+        let Rel { mut columns, count } = self;
+        let Rel {
+            columns: mut more,
+            ..
+        } = right;
         columns.append(&mut more)?;
         Ok(Rel { columns, count })
     }
@@ -279,13 +289,12 @@ impl Rel {
 }
 
 // The values of a row where they lie in it.
-fn cells_of(alloc: Global, row: &Row) -> Result<Vec<CellRef<'_>>, AllocError>
+fn cells_of(alloc: Global, row: &[Value]) -> Result<Vec<CellRef<'_>>, AllocError>
     ensures { IfOk result (λ made. map value_of_cell made.items ≡ row.now) }
 {
-    let values = row.as_slice();
-    let mut made = Vec::with_capacity(alloc, values.len())?;
-    for value in values {
-        made.push(value.as_cell())?;
+    let mut made = Vec::with_capacity(alloc, row.len())?;
+    for value in row {
+        made.push_reserved(value.as_cell());
     }
     Ok(made)
 }
@@ -295,7 +304,8 @@ fn of_column(alloc: Global, column: RelColumn, count: u32) -> Result<Rel, AllocE
     requires { IsColumnOf count column }
     ensures { IfOk result (λ made. made ≡ record { kinds = column.kind ∷ []; rows = map (λ value. value ∷ []) column.cells }) }
 {
-    let mut columns = Vec::with_capacity(alloc, 1)?;
-    columns.push(column)?;
-    Ok(Rel { columns, count })
+    Ok(Rel {
+        columns: vec![in alloc; column]?,
+        count,
+    })
 }

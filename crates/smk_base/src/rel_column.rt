@@ -1,4 +1,4 @@
-ghost use Rattle.std.specs.Prelude.{◌≡◌, ◌≢◌, ◌<◌, ◌≤◌, ◌≤ℤ◌, ◌+◌, [], ◌∷◌, ◌++◌, length, map, All, IfOk, IfErr, OnOk, pos};
+ghost use Rattle.std.specs.Prelude.{◌≡◌, ◌≢◌, ◌<◌, ◌≤◌, ◌≤ℤ◌, ◌+◌, [], ◌∷◌, ◌++◌, length, map, All, IfOk, OnOk, pos};
 ghost use Rattle.smk_base.specs.Cells.{value_of_cell};
 ghost use Rattle.smk_base.specs.Columns.{IsColumnOf, IsReady};
 ghost use Rattle.smk_base.specs.Holds.{held};
@@ -44,19 +44,16 @@ impl Model for RelColumn {
 }
 
 // The same values where copies may share them, or, where memory is wanting, as they were.
-fn share_hold(alloc: Global, hold: Hold) -> Result<Hold, Hold>
-    requires { IsColumnOf (length (held hold).cells) (held hold) }
-    ensures kind { IfOk result (λ shared. (held shared).kind ≡ (held hold).kind) }
-    ensures cells { IfOk result (λ shared. (held shared).cells ≡ (held hold).cells) }
-    ensures keeps { IfOk result (λ shared. IsColumnOf (length (held shared).cells) (held shared)) }
-    ensures kept { IfErr result (λ kept. held kept ≡ held hold) }
+fn share_hold(alloc: Global, hold: Hold) -> Hold
+    ensures kind { (held result).kind ≡ (held hold).kind }
+    ensures cells { (held result).cells ≡ (held hold).cells }
 {
     match hold {
         Hold::Own(column) => match Arc::new(alloc, column) {
-            Ok(shared) => Ok(Hold::Shared(shared)),
-            Err(failed) => Err(Hold::Own(failed.value)),
+            Ok(shared) => Hold::Shared(shared),
+            Err(failed) => Hold::Own(failed.value),
         },
-        shared => Ok(shared),
+        shared => shared,
     }
 }
 
@@ -114,15 +111,10 @@ impl RelColumn {
         ensures cells { self.new.cells ≡ self.old.cells }
     {
         let none = Hold::Own(ValueColumn::new(alloc, Kind::Text));
-        match share_hold(alloc, mem::replace(&mut self.hold, none)) {
-            Ok(shared) => {
-                self.hold = shared;
-                Ok(())
-            }
-            Err(kept) => {
-                self.hold = kept;
-                Err(AllocError)
-            }
+        self.hold = share_hold(alloc, mem::replace(&mut self.hold, none));
+        match &self.hold {
+            Hold::Shared(_) => Ok(()),
+            Hold::Own(_) => Err(AllocError),
         }
     }
 

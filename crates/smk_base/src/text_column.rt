@@ -138,10 +138,8 @@ impl TextColumn {
     {
         self.codes.reserve(1)?;
         let code = self.dict.add(text)?;
-        match self.codes.push(code) {
-            Ok(()) => Ok(code),
-            Err(_) => unreachable!(),
-        }
+        self.codes.push_reserved(code);
+        Ok(code)
     }
 
     /// Puts a text last.
@@ -152,10 +150,8 @@ impl TextColumn {
     {
         self.codes.reserve(1)?;
         let code = self.dict.add_bytes(text)?;
-        match self.codes.push(code) {
-            Ok(()) => Ok(()),
-            Err(_) => unreachable!(),
-        }
+        self.codes.push_reserved(code);
+        Ok(())
     }
 
     // Puts the text with this code last.

@@ -8,7 +8,7 @@ ghost use Rattle.smk_base.specs.Rels.{IsColumn, IsWider, IsWithin, Fits, value_i
 ghost use Rattle.smk_base.specs.declared.value.Kind.TheVariants as kinds;
 ghost use Rattle.smk_base.specs.declared.value.Value.TheVariants as values;
 ghost use Rattle.smk_base.specs.Columns.{IsColumnOf, IsReady};
-ghost use Rattle.smk_base.specs.Stores.{kind_in_store, cells_in};
+ghost use Rattle.smk_base.specs.Stores.{kind_in_store, cells_in, column_of};
 
 use crate::rel::ROW_LIMIT;
 use crate::text_column::{Next, TextColumn};
@@ -138,11 +138,7 @@ impl ValueColumn {
         ensures cells { self.new.cells ≡ self.old.cells ++ value_of_cell cell.entry ∷ [] }
         ensures keeps { IsColumnOf (length self.old.cells + 1) self.new }
     {
-        match &mut self.store {
-            Store::Small(ints) => put_small(ints, cell),
-            Store::Wide(_, ints) => put_wide(ints, cell),
-            Store::Texts(texts, next) => put_text(texts, next, cell),
-        }
+        put(&mut self.store, cell);
     }
 
     /// Puts an int last in a column of ints.
@@ -154,17 +150,8 @@ impl ValueColumn {
         ensures keeps { OnOk result (IsColumnOf (length self.old.cells + 1) self.new) }
         ensures kept { OnErr result (self.new.cells ≡ self.old.cells) }
     {
-        match &mut self.store {
-            Store::Small(ints) => {
-                ints.push(number)?;
-                Ok(())
-            }
-            Store::Wide(_, ints) => {
-                ints.push(number as i128)?;
-                Ok(())
-            }
-            Store::Texts(_, _) => unreachable!(),
-        }
+        push_number(&mut self.store, number)?;
+        Ok(())
     }
 
     /// Puts a text last in a column of texts.
@@ -204,8 +191,7 @@ impl ValueColumn {
         ensures keeps { IfOk result (λ made. IsColumnOf (length self.cells + length other.now.cells) made) }
     {
         let _other = &other.store;
-        let ValueColumn { store } = self;
-        let mut store = store;
+        let ValueColumn { mut store } = self;
         append_store(alloc, &mut store, &other.store)?;
         Ok(ValueColumn { store })
     }
@@ -268,6 +254,36 @@ impl ValueColumn {
     }
 }
 
+// Puts a value last that is ready to go there.
+fn put(store: &mut Store, cell: CellRef)
+    requires few { length (cells_in store.old) < ROW_LIMIT }
+    requires fits { Fits (kind_in_store store.old) (value_of_cell cell) }
+    requires ready { IsReady (column_of store.old) (value_of_cell cell) }
+    ensures kind { kind_in_store store.new ≡ kind_in_store store.old }
+    ensures cells { cells_in store.new ≡ cells_in store.old ++ value_of_cell cell.entry ∷ [] }
+{
+    match store {
+        Store::Small(ints) => put_small(ints, cell),
+        Store::Wide(_, ints) => put_wide(ints, cell),
+        Store::Texts(texts, next) => put_text(texts, next, cell),
+    }
+}
+
+// Puts an int last in a store of ints.
+fn push_number(store: &mut Store, number: i64) -> Result<(), AllocError>
+    requires { kind_in_store store.old ≢ kinds.Text }
+    ensures kind { kind_in_store store.new ≡ kind_in_store store.old }
+    ensures pushed { OnOk result (cells_in store.new ≡ cells_in store.old ++ values.Int number ∷ []) }
+    ensures kept { OnErr result (cells_in store.new ≡ cells_in store.old) }
+{
+    match store {
+        Store::Small(ints) => ints.push(number)?,
+        Store::Wide(_, ints) => ints.push(number as i128)?,
+        Store::Texts(_, _) => unreachable!(),
+    }
+    Ok(())
+}
+
 // The values at these places, in this order.
 fn gathered(alloc: Global, store: &Store, places: &[u32]) -> Result<Store, AllocError>
     requires within { All (λ place. place < length (cells_in store.now)) places.now }
@@ -276,10 +292,10 @@ fn gathered(alloc: Global, store: &Store, places: &[u32]) -> Result<Store, Alloc
     ensures cells { IfOk result (λ made. cells_in made ≡ map (value_in (cells_in store.now)) places.now) }
 {
     match store {
-        Store::Small(ints) => Ok(Store::Small(small_at(alloc, ints.as_slice(), places)?)),
+        Store::Small(ints) => Ok(Store::Small(items_at(alloc, ints.as_slice(), places)?)),
         Store::Wide(level, ints) => Ok(Store::Wide(
             *level,
-            wide_at(alloc, ints.as_slice(), places)?,
+            items_at(alloc, ints.as_slice(), places)?,
         )),
         Store::Texts(texts, _) => Ok(Store::Texts(texts.gather(alloc, places)?, Next::Nothing)),
     }
@@ -324,8 +340,9 @@ fn widened(alloc: Global, store: Store, kind: Kind) -> Result<Store, AllocError>
     ensures cells { IfOk result (λ made. cells_in made ≡ cells_in store) }
 {
     match kind {
+        Kind::Int { level: 0 } => Ok(store),
         Kind::Int { level } => match store {
-            Store::Small(ints) => small_widened(alloc, ints, level),
+            Store::Small(ints) => small_widened(alloc, ints.as_slice(), level),
             Store::Wide(_, ints) => Ok(Store::Wide(level, ints)),
             Store::Texts(_, _) => unreachable!(),
         },
@@ -333,16 +350,13 @@ fn widened(alloc: Global, store: Store, kind: Kind) -> Result<Store, AllocError>
     }
 }
 
-// The same small ints in a column of this level.
-fn small_widened(alloc: Global, ints: Vec<i64>, level: u8) -> Result<Store, AllocError>
+// The same small ints in a column of wide ones of this level.
+fn small_widened(alloc: Global, ints: &[i64], level: u8) -> Result<Store, AllocError>
     ensures kind { IfOk result (λ made. kind_in_store made ≡ kinds.Int level) }
-    ensures cells { IfOk result (λ made. cells_in made ≡ map values.Int ints.items) }
+    ensures cells { IfOk result (λ made. cells_in made ≡ map values.Int ints.now) }
 {
-    if level == 0 {
-        return Ok(Store::Small(ints));
-    }
     let mut wide = Vec::new(alloc);
-    append_small(&mut wide, ints.as_slice())?;
+    append_small(&mut wide, ints)?;
     Ok(Store::Wide(level, wide))
 }
 
@@ -370,7 +384,7 @@ fn small_bins(alloc: Global, ints: &[i64], width: i64) -> Result<Vec<i64>, Alloc
 {
     let mut made = Vec::with_capacity(alloc, ints.len())?;
     for number in ints {
-        made.push(number.div_euclid(width))?;
+        made.push_reserved(number.div_euclid(width));
     }
     Ok(made)
 }
@@ -382,31 +396,23 @@ fn wide_bins(alloc: Global, ints: &[i128], width: i64) -> Result<Vec<i128>, Allo
 {
     let mut made = Vec::with_capacity(alloc, ints.len())?;
     for number in ints {
-        made.push(number.div_euclid(width as i128))?;
+        made.push_reserved(number.div_euclid(width as i128));
     }
     Ok(made)
 }
 
-// The small ints at these places, in this order.
-fn small_at(alloc: Global, ints: &[i64], places: &[u32]) -> Result<Vec<i64>, AllocError>
-    requires { All (λ place. place < length ints.now) places.now }
-    ensures { IfOk result (λ made. made.items ≡ map (λ place. slice_index_or ints.now place (pos 0)) places.now) }
+// The items at these places, in this order.
+fn items_at<T: Copy + Drop>(
+    alloc: Global,
+    items: &[T],
+    places: &[u32],
+) -> Result<Vec<T>, AllocError>
+    requires { All (λ place. place < length items.now) places.now }
+    ensures { IfOk result (λ made. (d : T) → made.items ≡ map (λ place. slice_index_or items.now place d) places.now) }
 {
     let mut made = Vec::with_capacity(alloc, places.len())?;
     for place in places {
-        made.push(ints[*place as usize])?;
-    }
-    Ok(made)
-}
-
-// The ints at these places, in this order.
-fn wide_at(alloc: Global, ints: &[i128], places: &[u32]) -> Result<Vec<i128>, AllocError>
-    requires { All (λ place. place < length ints.now) places.now }
-    ensures { IfOk result (λ made. made.items ≡ map (λ place. slice_index_or ints.now place (pos 0)) places.now) }
-{
-    let mut made = Vec::with_capacity(alloc, places.len())?;
-    for place in places {
-        made.push(ints[*place as usize])?;
+        made.push_reserved(items[*place as usize]);
     }
     Ok(made)
 }
@@ -417,7 +423,7 @@ fn append_small(ints: &mut Vec<i128>, more: &[i64]) -> Result<(), AllocError>
 {
     ints.reserve(more.len())?;
     for number in more {
-        ints.push(*number as i128)?;
+        ints.push_reserved(*number as i128);
     }
     Ok(())
 }
@@ -429,7 +435,7 @@ fn append_level_0(ints: &mut Vec<i64>, more: &[i128]) -> Result<(), AllocError>
 {
     ints.reserve(more.len())?;
     for number in more {
-        ints.push(*number as i64)?;
+        ints.push_reserved(*number as i64);
     }
     Ok(())
 }
@@ -444,10 +450,7 @@ fn put_small(ints: &mut Vec<i64>, cell: CellRef)
         CellRef::Int(number) => number as i64,
         CellRef::Text(_) => unreachable!(),
     };
-    match ints.push(number) {
-        Ok(()) => {}
-        Err(_) => unreachable!(),
-    }
+    ints.push_reserved(number);
 }
 
 // Puts an int last, where there is room.
@@ -460,10 +463,7 @@ fn put_wide(ints: &mut Vec<i128>, cell: CellRef)
         CellRef::Int(number) => number,
         CellRef::Text(_) => unreachable!(),
     };
-    match ints.push(number) {
-        Ok(()) => {}
-        Err(_) => unreachable!(),
-    }
+    ints.push_reserved(number);
 }
 
 // Makes the room that a text needs to go last.

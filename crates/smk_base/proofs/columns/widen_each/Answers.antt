@@ -1,4 +1,4 @@
-use Rattle.std.proofs.Common.{◌≡◌, ◌≢◌, ◌<◌, ◌∙◌, arith, length, get_or}
+use Rattle.std.proofs.Common.{◌≡◌, ◌≢◌, ◌<◌, ◌∙◌, arith, length, get_or, ◌+◌, ℕ, ap}
 use Rattle.std.proofs.lemmas.List.{get_or_read, get_or_default, length-set, get_or-set_other}
 use Rattle.smk_base.specs.declared.value.Kind.TheVariants as kinds
 use Rattle.smk_base.specs.Rels.{kind_in}
@@ -24,5 +24,10 @@ loop-c-preserved c =
     record {
       wide = length-set c.loop-c.columns.items c.loop-c.c c.replace-column.new.dest ∙ c.loop-c.invariant.wide;
       rest = λ k p. (let ne : k ≢ c.loop-c.c = omega arith in get_or-set_other c.loop-c.columns.items c.loop-c.c k c.replace-column.new.dest _ ne ∙ c.loop-c.invariant.rest k (omega arith));
-      made = rw c.in_ok-push.ensures.items (AreMade_push _ c.loop-c.c _ _ _ c.in_ok-widened.field-0 kind cells keeps c.loop-c.invariant.made);
+      made = rw c.push_reserved.ensures.items (AreMade_push _ c.loop-c.c _ _ _ c.in_ok-widened.field-0 kind cells keeps c.loop-c.invariant.made);
+      len = c.push_reserved.ensures.len ∙ ap (λ (n : ℕ). n + 1) c.loop-c.invariant.len;
+      room = rw c.push_reserved.ensures.capacity c.loop-c.invariant.room;
     }
+
+pub push_reserved-requires : goal.push_reserved-requires
+push_reserved-requires c = omega (arith, c.loop-c.invariant.len, c.loop-c.invariant.room, c.loop-c-test.true)

@@ -1,5 +1,6 @@
-use Rattle.std.proofs.Common.{◌≡◌, ◌<◌, ◌∙◌, ◌++◌, sym, subst, length, take, drop, rules}
+use Rattle.std.proofs.Common.{◌≡◌, ◌<◌, ◌∙◌, ◌++◌, sym, subst, length, take, drop, rules, arith}
 use Rattle.std.proofs.lemmas.List.{take_at}
+use Rattle.std.proofs.lemmas.Grind.{common_steps}
 use Rattle.smk_base.specs.TextColumns.{text_in, text_firsts, texts_at, AreRecoded}
 use Rattle.smk_base.proofs.Loops.{appended_next}
 use Rattle.smk_base.proofs.text_column.TextColumn.append.Goals as goal
@@ -14,3 +15,12 @@ loop-code-preserved c =
       appended = rw c.in_ok-push_from.ensures.pushed (appended_next (text_in c.other.inside.dict.texts) (texts_at c.self.inside.dict.texts c.reserve.new.self.items) c.other.inside.codes.items c.loop-code.self.texts c.loop-code.code-index _ 0 low (search rules) c.loop-code.invariant.appended);
       recoded = subst (AreRecoded c.other.inside.dict.texts (text_firsts c.push_from.new.self.texts)) (sym same) kept;
     }
+
+pub loop-code-init : goal.loop-code-init
+loop-code-init c = grind (arith, common_steps)
+
+pub push_from-requires-clause-room : goal.push_from-requires-clause-room
+push_from-requires-clause-room c = grind (arith, common_steps)
+
+pub returns : goal.returns
+returns c = grind (arith, common_steps)

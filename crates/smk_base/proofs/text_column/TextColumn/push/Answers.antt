@@ -9,7 +9,7 @@ add-requires c = omega (arith, few_dict _ _ c.self.invariant)
 pub invariant_of-self-2 : goal.invariant_of-self-2
 invariant_of-self-2 c =
     let room = rw (← c.self.view_is, length-map) at c.requires in
-    rw (c.in_ok-code.ensures.texts, c.in-Ok.ensures.items, c.reserve.ensures.items, c.in_ok-code.ensures.code) (AreCodes-add _ _ c.args.text c.self.invariant room)
+    rw (c.in_ok-code.ensures.texts, c.push_reserved.ensures.items, c.reserve.ensures.items, c.in_ok-code.ensures.code) (AreCodes-add _ _ c.args.text c.self.invariant room)
 
 pub returns-clause-pushed : goal.returns-clause-pushed
-returns-clause-pushed c = rw (c.in_ok-code.ensures.texts, c.in-Ok.ensures.items, c.reserve.ensures.items, c.in_ok-code.ensures.code, ← c.self.view_is) (texts_at_add _ _ c.args.text c.self.invariant.within)
+returns-clause-pushed c = rw (c.in_ok-code.ensures.texts, c.push_reserved.ensures.items, c.reserve.ensures.items, c.in_ok-code.ensures.code, ← c.self.view_is) (texts_at_add _ _ c.args.text c.self.invariant.within)

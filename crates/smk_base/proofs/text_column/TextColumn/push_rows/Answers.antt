@@ -1,5 +1,6 @@
-use Rattle.std.proofs.Common.{◌≡◌, ◌<◌, [], ◌∙◌, ◌++◌, ap, sym, subst, length, take, drop, get_or, rules}
+use Rattle.std.proofs.Common.{◌≡◌, ◌<◌, [], ◌∙◌, ◌++◌, ap, sym, subst, length, take, drop, get_or, rules, arith}
 use Rattle.std.proofs.lemmas.List.{get_or-map, get_or_read, length-map, take_at}
+use Rattle.std.proofs.lemmas.Grind.{common_steps}
 use Rattle.smk_base.specs.TextColumns.{TextImage, text_in, text_firsts, texts_at, AreRecoded}
 use Rattle.smk_base.proofs.Loops.{appended_next}
 use Rattle.smk_base.proofs.text_column.TextColumn.push_rows.Goals as goal
@@ -21,3 +22,15 @@ loop-place-preserved c =
       pushed = rw c.in_ok-push_from.ensures.pushed (appended_next (text_in c.args.other.now.texts) c.args.self.now.texts c.args.places.now c.loop-place.self.texts c.loop-place.place-index _ 0 c.loop-place-test.true (text ∙ seen) c.loop-place.invariant.pushed);
       recoded = subst (AreRecoded c.other.inside.dict.texts (text_firsts c.push_from.new.self.texts)) (sym same) kept;
     }
+
+pub push_from-requires-clause-code : goal.push_from-requires-clause-code
+push_from-requires-clause-code c = grind (arith, common_steps)
+
+pub loop-place-init : goal.loop-place-init
+loop-place-init c = grind (arith, common_steps)
+
+pub push_from-requires-clause-room : goal.push_from-requires-clause-room
+push_from-requires-clause-room c = grind (arith, common_steps)
+
+pub index-code-requires : goal.index-code-requires
+index-code-requires c = grind (arith, common_steps)

@@ -1,7 +1,7 @@
 use Rattle.smk_base.specs.Dicts.{text_eq}
 use Rattle.smk_base.proofs.Texts.{distinct-map, add-map, prefix_len-map, few-add}
 use Rattle.std.proofs.lemmas.List.{length-map}
-use Rattle.smk_base.proofs.dict.Dict.insert.Goals as goal
+use Rattle.smk_base.proofs.dict.Dict.add.Goals as goal
 
 pub invariant_of-self-2 : goal.invariant_of-self-2
 invariant_of-self-2 c = record {

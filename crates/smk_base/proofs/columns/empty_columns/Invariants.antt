@@ -1,7 +1,0 @@
-use Rattle.std.proofs.Common.{[]}
-use Rattle.smk_base.specs.Rels.{kind_in}
-use Rattle.smk_base.specs.Relations.{AreMade}
-use Rattle.smk_base.proofs.columns.empty_columns.Given as goal
-
-abbrev pub invariant-loop-kind : goal.invariant-loop-kind
-invariant-loop-kind l = AreMade 0 l.kind-index (kind_in l.kinds) (λ k. []) l.made.items
