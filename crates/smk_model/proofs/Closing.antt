@@ -140,16 +140,16 @@ more_is_no_end : (k : TokenKind) → is_more k ≡ true → k ≡ kinds.End → 
 more_is_no_end kinds.End h e = absurd (cc)
 more_is_no_end _ h e = absurd (cc)
 
+last_is_end : (k : TokenKind) → is_more k ≡ false → (k ≡ kinds.Bad → ⊥) → (k ≡ kinds.Huge → ⊥) → k ≡ kinds.End
+last_is_end kinds.End e bad huge = refl
+last_is_end kinds.Bad e bad huge = absurd (bad refl)
+last_is_end kinds.Huge e bad huge = absurd (huge refl)
+last_is_end _ e bad huge = absurd (cc)
+
 finishes : (ts : List Token) (ss : List Symbol) (c : Counts) (s : State) → no_ends ss ≡ true → closes ss ≡ true → Closes ts → through ss c ts ≡ Ok s → Finishes ts
 finishes [] ss c s n h k e = absurd k
 finishes (t ∷ ts) [] c s n h k e = absurd (cc)
-finishes (t ∷ []) (x ∷ ss) c s n h k e = by t.kind refl k
-  where
-    by : (kind : TokenKind) → t.kind ≡ kind → is_more kind ≡ false → t.kind ≡ kinds.End
-    by kinds.End q g = q
-    by kinds.Bad q g = absurd (unread_fails true x ss c s t n h (same_token true t q) e)
-    by kinds.Huge q g = absurd (unread_fails false x ss c s t n h (same_token false t q) e)
-    by _ q g = absurd (cc)
+finishes (t ∷ []) (x ∷ ss) c s n h k e = last_is_end t.kind k (λ q. unread_fails true x ss c s t n h (same_token true t q) e) (λ q. unread_fails false x ss c s t n h (same_token false t q) e)
 finishes (t ∷ u ∷ ts) (x ∷ ss) c s n h k e = (more_is_no_end t.kind k.0, by (settle (x ∷ ss) c t) (settles (x ∷ ss) c t n) (closed (x ∷ ss) c t h (more_is_no_end t.kind k.0)) e (λ l d p q g. finishes (u ∷ ts) l d s p q k.1 g))
   where
     by : (m : Move) → leaves_none m ≡ true → StaysClosed m → go_on m c t (u ∷ ts) (λ d l. through l d (u ∷ ts)) ≡ Ok s → ((l : List Symbol) (d : Counts) → no_ends l ≡ true → closes l ≡ true → through l d (u ∷ ts) ≡ Ok s → Finishes (u ∷ ts)) → Finishes (u ∷ ts)
