@@ -1,10 +1,4 @@
-pub mod Digits
-pub mod Fits
-pub mod Streams
+pub mod Texts
 pub mod Steps
-pub mod Begins
-pub mod Single
-pub mod Listing
 pub mod Trees
 pub mod Whole
-pub mod Cutting

@@ -1,16 +1,13 @@
 -- How a symbol and the token in hand go on.
-use Rattle.std.specs.Prelude.{Result, Ok, Err}
-use Rattle.std.proofs.Common.{◌≡◌, ◌<◌, List, [], ◌∷◌, ◌++◌, length, ap, ◌∙◌, sym, refl, append_assoc, arith}
-use Rattle.smk_base.specs.declared.token.TokenKind.{TokenKind}
-use Rattle.smk_base.specs.declared.fault.BookFault.{BookFault}
-use Rattle.smk_base.specs.declared.fault.BookFault.TheVariants.{TooMany, BadNumber, NoMemory}
-use Rattle.smk_base.specs.declared.fault.Many.{Many}
-use Rattle.smk_model.specs.Tokens.{Token, head_of, tail_of}
-use Rattle.smk_model.specs.Grammar.{First}
-use Rattle.smk_model.specs.Machine.{State, Counts, Symbol, Move, Takes, Skips, Wrong, Past, Outside, through, settle, next, or_next, go_on, fault_at}
-use Rattle.smk_parse.specs.Readers.{Advances}
-use Rattle.smk_parse.specs.Reads.{Leads, Fails, is_memory}
-pub use Rattle.smk_parse.specs.Reads.{Comes}
+use Rattle.std.specs.Prelude.{Result, Ok, Err, cond, IsTrue, nat_lt}
+use Rattle.smk_parse.specs.Words.{TokenKind, BookFault, Many, TooMany, BadNumber, NoMemory, Token, head_of, tail_of, First, State, Counts, Symbol, Move, Takes, Skips, Wrong, Past, Outside, through, settle, next, or_next, go_on, fault_at, Unexpected, is_more, same_kind, AToken, Columns, NameBytes, within, is_mark, at_first, at_item, at_keys, at_source, at_united, at_column, at_term, at_literal, at_mark, at_marks, AColumn, ALiteral, AnAs, AKeys, AFirst, AnItem, MoreKeys, ASource, AUnited, ATerm, AMarks, AMark, MoreMarks, AreMore, AreListed, at_more, int_value}
+use Rattle.std.proofs.Common.{◌≡◌, ◌<◌, List, [], ◌∷◌, ◌++◌, length, ap, ◌∙◌, sym, refl, append_assoc, arith, ℕ, ◌+◌, true, false, subst, ℤ, Bool}
+use Rattle.std.proofs.lemmas.Grind.{length_at_push}
+use Rattle.smk_model.proofs.Alike.{same_is}
+use Rattle.smk_model.specs.Grammar.{one_more}
+use Rattle.smk_parse.specs.Reads.{Leads, Fails, is_memory, Comes, Reads, is_column}
+use Rattle.smk_parse.specs.Texts.{Advances}
+use Rattle.smk_base.specs.declared.token.TokenKind.TheVariants as kinds
 
 -- there is a token in hand
 abbrev pub Here : State → Type 0
@@ -109,35 +106,12 @@ open_comes l m x y a b c o e k = record { comes = λ ss. o.opens ss ∙ parts l 
 pub more_comes : (ls l m : List Symbol) (x y : Symbol) (a b c d : State) → Comes ls (x ∷ []) a b → Opens x m b c → m ≡ l ++ y ∷ [] → Leads l c d → Comes ls (y ∷ []) a d
 more_comes ls l m x y a b c d h o e k = comes_on ls (x ∷ []) (y ∷ []) a b d h (open_comes l m x y b c d o e k)
 
--- a symbol that does here what another does
-pub same_comes : (x y : Symbol) (a : State) → Here a → next a.counts x (head_of a.rest) ≡ next a.counts y (head_of a.rest) → Comes (x ∷ []) (y ∷ []) a a
-same_comes x y a h e = record { comes = λ ss. moves x ss a.counts a.rest (tail_of a.rest) _ h e ∙ sym (ap (through (y ∷ ss) a.counts) h); fewer = omega arith }
-
--- what a move is with more symbols behind
-abbrev pub with_more : Move → List Symbol → Move
-with_more (Takes c l) more = Takes c (l ++ more)
-with_more Skips more = Skips
-with_more Wrong more = Wrong
-with_more (Past what) more = Past what
-with_more Outside more = Outside
-
-abbrev pub NoSkip : Move → Type 0
-NoSkip Skips = ⊥
-NoSkip _ = Unit {0}
-
--- a symbol that begins with another
-pub begins : (x y : Symbol) (more : List Symbol) (a : State) → Here a → NoSkip (next a.counts y (head_of a.rest)) → next a.counts x (head_of a.rest) ≡ with_more (next a.counts y (head_of a.rest)) more → Comes (x ∷ []) (y ∷ more) a a
-begins x y more a h ok e = record {
-  comes = λ ss. moves x ss a.counts a.rest (tail_of a.rest) _ h e ∙ by ss (next a.counts y (head_of a.rest)) ok ∙ sym (ap (through (y ∷ (more ++ ss)) a.counts) h);
+-- a symbol that does here what another does, with more behind it
+pub begins : (x y : Symbol) (more : List Symbol) (a : State) → Here a → ((ss : List Symbol) → settle (x ∷ ss) a.counts (head_of a.rest) ≡ settle (y ∷ (more ++ ss)) a.counts (head_of a.rest)) → Comes (x ∷ []) (y ∷ more) a a
+begins x y more a h e = record {
+  comes = λ ss. ap (through (x ∷ ss) a.counts) h ∙ ap (λ m. go_on m a.counts (head_of a.rest) (tail_of a.rest) (λ d l. through l d (tail_of a.rest))) (e ss) ∙ sym (ap (through (y ∷ (more ++ ss)) a.counts) h);
   fewer = omega arith;
 }
-  where
-    by : (ss : List Symbol) (m : Move) → NoSkip m → after (with_more m more) ss a.counts (head_of a.rest) (tail_of a.rest) ≡ after m (more ++ ss) a.counts (head_of a.rest) (tail_of a.rest)
-    by ss (Takes c l) ok = ap (λ r. through r c (tail_of a.rest)) (append_assoc l more ss)
-    by ss Skips ok = absurd ok
-    by ss Wrong ok = refl
-    by ss (Past what) ok = refl
-    by ss Outside ok = refl
 
 -- the parts from a up to b make this tree, and more of them make it a whole
 pub record IsChain {T : Type 0} (ls : List Symbol) (x : Symbol) (AreMore : List Token → List Token → T → T → Type 0) (IsWhole : List Token → List Token → T → Type 0) (a b : State) (tree : T) : Type 0 where
@@ -148,3 +122,137 @@ pub record IsChain {T : Type 0} (ls : List Symbol) (x : Symbol) (AreMore : List 
 pub ruleset in_order = (opened, open_only, open_leads, open_fails, skips, wrong, past, outside, lead_on, fail_on, fail_first, no_memory, first_here)
 
 pub ruleset in_loop = (comes_self, comes_on, comes_leads, comes_fails, list_comes, open_comes, more_comes, smaller)
+
+-- single tokens
+pub unexpected : (t : Token) → (t.kind ≡ kinds.Bad → ⊥) → (t.kind ≡ kinds.Huge → ⊥) → fault_at t ≡ Unexpected t.at
+unexpected t = by t.kind
+  where
+    by : (k : TokenKind) → (k ≡ kinds.Bad → ⊥) → (k ≡ kinds.Huge → ⊥) → fault_at (record { at = t.at; kind = k; text = t.text }) ≡ Unexpected t.at
+    by kinds.Bad h g = absurd (h refl)
+    by kinds.Huge h g = absurd (g refl)
+    by _ h g = refl
+
+-- a token of the wanted kind is taken
+pub token_leads : (k : TokenKind) (a b : State) → Advances a.counts a b → same_kind k (head_of a.rest).kind ≡ true → Leads (AToken k ∷ []) a b
+token_leads k a b h e = open_only (AToken k) a b (opened (AToken k) [] a.counts a b h (ap (λ o. cond o (Takes a.counts []) Wrong) e))
+
+pub token_first : (k : TokenKind) (a b : State) → Advances a.counts a b → same_kind k (head_of a.rest).kind ≡ true → First k (head_of a.rest) a.rest b.rest
+token_first k a b h e = first_here k a.counts a b h (sym (same_is k (head_of a.rest).kind e))
+
+pub token_more : (k j : TokenKind) → same_kind k j ≡ true → IsTrue (is_more k) → IsTrue (is_more j)
+token_more k j e h = subst (λ x. IsTrue (is_more x)) (same_is k j e) h
+
+pub token_fails : (k : TokenKind) (a : State) (f : BookFault) → a.rest ≡ head_of a.rest ∷ tail_of a.rest → f ≡ fault_at (head_of a.rest) → same_kind k (head_of a.rest).kind ≡ false → Fails (AToken k ∷ []) a f
+token_fails k a f h g e = wrong (AToken k) a f h g (ap (λ o. cond o (Takes a.counts []) Wrong) e)
+
+pub ruleset expect_goes = (token_leads, token_fails, token_first, token_more)
+
+-- symbols that begin as others do
+
+-- at a token of this kind the symbol is these
+pub data Starts : Symbol → List Symbol → TokenKind → Type 0 where
+  keys_start : {k : TokenKind} → is_column k ≡ true → Starts AKeys (AFirst 0 ∷ MoreKeys 1 ∷ []) k
+  item_starts : {n : ℕ} {k : TokenKind} → (k ≡ kinds.Bin → ⊥) → Starts (AnItem n) (AFirst n ∷ AnAs ∷ []) k
+  column_starts : {k : TokenKind} → is_column k ≡ true → Starts ATerm (AColumn ∷ []) k
+  literal_starts : {k : TokenKind} → is_column k ≡ false → Starts ATerm (ALiteral ∷ []) k
+  marks_start : {k : TokenKind} → (k ≡ kinds.All → ⊥) → Starts AMarks (AMark ∷ MoreMarks ∷ []) k
+  united_starts : {d : ℕ} {k : TokenKind} → (k ≡ kinds.All → ⊥) → Starts (AUnited d) (ASource d ∷ []) k
+
+-- a column that begins a member, with what is left of the member
+first_more : (c : Counts) (n : ℕ) (more ss : List Symbol) (x y : Move) (short : Bool) (k : TokenKind) → or_next (at_first c n more short k) ss x ≡ or_next (at_first c n [] short k) (more ++ ss) y
+first_more c n more ss x y short k = by k
+  where
+    few : (o p : Bool) → or_next (within o Columns (within p NameBytes (Takes c more))) ss x ≡ or_next (within o Columns (within p NameBytes (Takes c []))) (more ++ ss) y
+    few true true = refl
+    few true false = refl
+    few false p = refl
+
+    by : (k : TokenKind) → or_next (at_first c n more short k) ss x ≡ or_next (at_first c n [] short k) (more ++ ss) y
+    by kinds.Name = few (nat_lt n 16) short
+    by kinds.Quoted = few (nat_lt n 16) short
+    by _ = refl
+
+keys_move : (c : Counts) (ss : List Symbol) (x y : Move) (short : Bool) (k : TokenKind) → is_column k ≡ true → or_next (at_keys c short k) ss x ≡ or_next (at_first c 0 [] short k) (MoreKeys 1 ∷ ss) y
+keys_move c ss x y short kinds.Name e = first_more c 0 (MoreKeys 1 ∷ []) ss x y short kinds.Name
+keys_move c ss x y short kinds.Quoted e = first_more c 0 (MoreKeys 1 ∷ []) ss x y short kinds.Quoted
+keys_move c ss x y short _ e = absurd (cc)
+
+item_move : (c : Counts) (n : ℕ) (ss : List Symbol) (x y : Move) (short : Bool) (k : TokenKind) → (k ≡ kinds.Bin → ⊥) → or_next (at_item c n short k) ss x ≡ or_next (at_first c n [] short k) (AnAs ∷ ss) y
+item_move c n ss x y short kinds.Bin e = absurd (e refl)
+item_move c n ss x y short kinds.Name e = first_more c n (AnAs ∷ []) ss x y short kinds.Name
+item_move c n ss x y short kinds.Quoted e = first_more c n (AnAs ∷ []) ss x y short kinds.Quoted
+item_move c n ss x y short _ e = refl
+
+marks_move : (c : Counts) (ss : List Symbol) (x y : Move) (v : ℤ) (k : TokenKind) → (k ≡ kinds.All → ⊥) → or_next (at_marks c v k) ss x ≡ or_next (at_mark c [] v k) (MoreMarks ∷ ss) y
+marks_move c ss x y v kinds.All p = absurd (p refl)
+marks_move c ss x y v kinds.Number p = by (is_mark v)
+  where
+    by : (o : Bool) → or_next (cond o (Takes c (MoreMarks ∷ [])) Outside) ss x ≡ or_next (cond o (Takes c []) Outside) (MoreMarks ∷ ss) y
+    by true = refl
+    by false = refl
+marks_move c ss x y v _ p = refl
+
+united_move : (c : Counts) (d : ℕ) (k : TokenKind) → (k ≡ kinds.All → ⊥) → at_united c d k ≡ at_source c d k
+united_move c d kinds.All e = absurd (e refl)
+united_move c d _ e = refl
+
+column_move : (c : Counts) (short : Bool) (k : TokenKind) → is_column k ≡ true → at_term c short k ≡ at_column c [] short k
+column_move c short kinds.Name e = refl
+column_move c short kinds.Quoted e = refl
+column_move c short _ e = absurd (cc)
+
+literal_move : (c : Counts) (short : Bool) (k : TokenKind) → is_column k ≡ false → at_term c short k ≡ at_literal c k
+literal_move c short kinds.Name e = absurd (cc)
+literal_move c short kinds.Quoted e = absurd (cc)
+literal_move c short kinds.Number e = refl
+literal_move c short kinds.Str e = refl
+literal_move c short _ e = refl
+
+starts_come : (x : Symbol) (ls : List Symbol) (a : State) → Here a → Starts x ls (head_of a.rest).kind → Comes (x ∷ []) ls a a
+starts_come _ _ a h (keys_start e) = begins AKeys (AFirst 0) (MoreKeys 1 ∷ []) a h (λ ss. keys_move a.counts ss _ _ _ _ e)
+starts_come _ _ a h (item_starts {n = n} p) = begins (AnItem n) (AFirst n) (AnAs ∷ []) a h (λ ss. item_move a.counts n ss _ _ _ _ p)
+starts_come _ _ a h (column_starts e) = begins ATerm AColumn [] a h (λ ss. ap (λ m. or_next m ss (settle ss a.counts (head_of a.rest))) (column_move a.counts _ _ e))
+starts_come _ _ a h (literal_starts e) = begins ATerm ALiteral [] a h (λ ss. ap (λ m. or_next m ss (settle ss a.counts (head_of a.rest))) (literal_move a.counts _ _ e))
+starts_come _ _ a h (marks_start p) = begins AMarks AMark (MoreMarks ∷ []) a h (λ ss. marks_move a.counts ss (settle ss a.counts (head_of a.rest)) (settle (MoreMarks ∷ ss) a.counts (head_of a.rest)) (int_value (head_of a.rest).text) _ p)
+starts_come _ _ a h (united_starts {d = d} p) = begins (AUnited d) (ASource d) [] a h (λ ss. ap (λ m. or_next m ss (settle ss a.counts (head_of a.rest))) (united_move a.counts d _ p))
+
+pub started_leads : (x : Symbol) (ls : List Symbol) (a b : State) → Leads ls a b → Here a → Starts x ls (head_of a.rest).kind → Leads (x ∷ []) a b
+started_leads x ls a b k h e = comes_leads _ _ a a b (starts_come x ls a h e) k
+
+pub started_fails : (x : Symbol) (ls : List Symbol) (a : State) (f : BookFault) → Fails ls a f → Here a → Starts x ls (head_of a.rest).kind → Fails (x ∷ []) a f
+started_fails x ls a f k h e = comes_fails _ _ a a f (starts_come x ls a h e) k
+
+pub started_reads : {X : Type 0} (x : Symbol) (ls : List Symbol) (a b : State) (r : Result X BookFault) → Reads ls a b r → Here a → Starts x ls (head_of a.rest).kind → Reads (x ∷ []) a b r
+started_reads x ls a b (Ok v) k h e = started_leads x ls a b k h e
+started_reads x ls a b (Err f) k h e = started_fails x ls a f k h e
+
+pub ruleset begun = (started_leads, started_fails, keys_start, item_starts, column_starts, literal_starts, marks_start, united_starts)
+
+-- lists with commas, as far as they are read
+
+-- with these behind it, the list from a up to b is these members
+pub record EndsList {T : Type 0} (IsX : List Token → List Token → T → Type 0) (a b : List Token) (xs : List T) : Type 0 where
+  pub ends : (c : List Token) (zs : List T) → AreMore IsX b c zs → AreListed IsX a c (xs ++ zs)
+
+pub goes_list : {T : Type 0} (IsX : List Token → List Token → T → Type 0) (o a b c : List Token) (t : Token) (xs : List T) (x : T) → EndsList IsX o a xs → First kinds.Comma t a b → IsX b c x → EndsList IsX o c (xs ++ x ∷ [])
+goes_list IsX o a b c t xs x h f k = record { ends = λ d zs m. subst (AreListed IsX o d) (sym (append_assoc xs (x ∷ []) zs)) (h.ends d (x ∷ zs) (one_more f k m)) }
+
+no_comma : (c : Counts) (ss : List Symbol) (k : TokenKind) → (k ≡ kinds.Comma → ⊥) → at_more c ss k ≡ Skips
+no_comma c ss kinds.Comma p = absurd (p refl)
+no_comma c ss _ p = refl
+
+-- behind a member stands a comma with one more, or nothing
+abbrev pub GoesOn : Symbol → List Symbol → Type 0
+GoesOn x l = (c : Counts) (t : Token) → next c x t ≡ at_more c l t.kind
+
+pub more_opens : (x : Symbol) (l : List Symbol) (a b : State) → GoesOn x l → Advances a.counts a b → (head_of a.rest).kind ≡ kinds.Comma → Opens x l a b
+more_opens x l a b g h e = opened x l a.counts a b h (g a.counts (head_of a.rest) ∙ ap (at_more a.counts l) e)
+
+pub more_ends : (ls : List Symbol) (x : Symbol) (l : List Symbol) (a b : State) → GoesOn x l → Comes ls (x ∷ []) a b → b.rest ≡ head_of b.rest ∷ tail_of b.rest → ((head_of b.rest).kind ≡ kinds.Comma → ⊥) → Leads ls a b
+more_ends ls x l a b g h k p = comes_leads _ _ a b b h (skips x b k (g b.counts (head_of b.rest) ∙ no_comma b.counts l (head_of b.rest).kind p))
+
+-- one more member of the list so far
+pub more_goes : {T : Type 0} (one : ℕ → List Symbol) (more : ℕ → Symbol) (ls : List Symbol) (xs ys zs : List T) (x : T) (a b c d : State) → GoesOn (more (length xs)) (one (length xs) ++ more (length xs + 1) ∷ []) → zs ≡ xs → ys ≡ xs ++ x ∷ [] → Comes ls (more (length xs) ∷ []) a b → Advances b.counts b c → (head_of b.rest).kind ≡ kinds.Comma → Leads (one (length zs)) c d → Comes ls (more (length ys) ∷ []) a d
+more_goes one more ls xs ys zs x a b c d g e f h k i r =
+    let n : length xs + 1 ≡ length ys = sym (length_at_push xs x).1 ∙ sym (ap length f) in
+    subst (λ m. Comes ls (more m ∷ []) a d) n (more_comes ls (one (length xs)) _ (more (length xs)) (more (length xs + 1)) a b c d h (more_opens (more (length xs)) (one (length xs) ++ more (length xs + 1) ∷ []) b c g k i) refl (subst (λ l. Leads (one (length l)) c d) e r))

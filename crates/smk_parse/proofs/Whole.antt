@@ -1,17 +1,10 @@
 -- What a whole book or line is read as.
 use Rattle.std.specs.Prelude.{None, Err, map}
+use Rattle.smk_parse.specs.Words.{BookFault, LineFault, Stmt, BadToken, Unexpected, TooMany, BadNumber, NoMemory, StmtImage, stmt_image, Token, head_of, tokens, HasNoToken, IsStmt, AreStmts, State, Symbol, through, book_symbols, line_symbols, line_fault, ALine, AnEnd, fault_in, no_counts}
 use Rattle.std.proofs.Common.{◌≡◌, ℕ, List, [], ◌∷◌, ◌++◌, false, ap, ◌∙◌, sym, subst, refl, append_assoc, append-nil}
 use Rattle.std.proofs.lemmas.List.{map_push}
 use Rattle.smk_base.specs.declared.token.TokenKind.TheVariants as kinds
-use Rattle.smk_base.specs.declared.fault.BookFault.{BookFault}
-use Rattle.smk_base.specs.declared.fault.BookFault.TheVariants.{BadToken, Unexpected, TooMany, BadNumber, NoMemory}
-use Rattle.smk_base.specs.declared.fault.LineFault.{LineFault}
-use Rattle.smk_base.specs.declared.tree.Stmt.{Stmt}
-use Rattle.smk_base.specs.Trees.{StmtImage}
-use Rattle.smk_base.specs.TreeImage.{stmt_image}
-use Rattle.smk_model.specs.Tokens.{Token, head_of, tokens, HasNoToken}
-use Rattle.smk_model.specs.Grammar.{IsStmt, AreStmts, no_stmt, one_stmt}
-use Rattle.smk_model.specs.Machine.{State, Symbol, through, book_symbols, line_symbols, line_fault, ALine, AnEnd, fault_in, no_counts}
+use Rattle.smk_model.specs.Grammar.{no_stmt, one_stmt}
 use Rattle.smk_parse.specs.Reads.{Leads, Fails, is_memory}
 use Rattle.smk_parse.specs.Answers.{IsBookAnswer, IsLineAnswer, as_line_fault}
 use Rattle.smk_parse.proofs.Steps.{Here}
@@ -63,7 +56,3 @@ line_unread a text f r e k n g = subst (λ x. IsLineAnswer text (Err x)) (sym g)
 
 pub line_answer : (a b : State) (ts : List Token) → a ≡ record { rest = ts; counts = no_counts } → Leads (ALine ∷ AnEnd ∷ []) a b → line_fault ts ≡ None
 line_answer a b ts e h = ap (λ s. fault_in (through (ALine ∷ AnEnd ∷ []) s.counts s.rest)) (sym e) ∙ ap fault_in (h.goes [])
-
-pub ruleset book_answers = (faultless, book_unread)
-
-pub ruleset line_answers = (line_answer, line_unread)

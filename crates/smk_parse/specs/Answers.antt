@@ -1,16 +1,7 @@
 -- What the parsers answer.
 use Rattle.std.specs.Prelude.{◌≡◌, ℕ, List, Option, Some, None, Result, Ok, Err}
-use Rattle.smk_base.specs.declared.fault.BookFault.{BookFault}
-use Rattle.smk_base.specs.declared.fault.BookFault.TheVariants.{BadToken, Unexpected, TooMany, BadNumber, NoMemory}
-use Rattle.smk_base.specs.declared.tree.Book.{Book}
-use Rattle.smk_base.specs.TreeImage.{book_image}
-use Rattle.smk_base.specs.declared.fault.LineFault.{LineFault}
+use Rattle.smk_parse.specs.Words.{BookFault, Book, LineFault, Line, BadToken, Unexpected, TooMany, BadNumber, NoMemory, book_image, tokens, HasNoToken, line_fault, book_fault, place_of, IsWholeLine, AreStmts}
 use Rattle.smk_base.specs.declared.fault.LineFault.TheVariants as line_faults
-use Rattle.smk_base.specs.declared.tree.Line.{Line}
-use Rattle.smk_model.specs.Tokens.{tokens, HasNoToken}
-use Rattle.smk_model.specs.Machine.{line_fault, book_fault}
-use Rattle.smk_model.specs.Lines.{place_of}
-use Rattle.smk_model.specs.Grammar.{IsWholeLine, AreStmts}
 
 -- a line's fault by that of its reader: it isn't a line, or memory ran out
 abbrev pub as_line_fault : BookFault → LineFault

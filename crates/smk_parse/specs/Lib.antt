@@ -1,9 +1,4 @@
-pub mod Fronts
-pub mod Readers
+pub mod Words
+pub mod Texts
 pub mod Reads
 pub mod Answers
-pub mod Spans
-pub mod Columns
-pub mod Groupings
-pub mod Members
-pub mod Tallies

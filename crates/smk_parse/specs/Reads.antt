@@ -1,8 +1,9 @@
 -- What a reader of some symbols answers.
-use Rattle.std.specs.Prelude.{◌≡◌, ◌≤◌, Bool, true, false, List, ◌++◌, length, Result, Ok, Err}
-use Rattle.smk_base.specs.declared.fault.BookFault.{BookFault}
-use Rattle.smk_base.specs.declared.fault.BookFault.TheVariants.{NoMemory}
-use Rattle.smk_model.specs.Machine.{State, Symbol, through}
+use Rattle.std.specs.Prelude.{◌≡◌, ℕ, ◌+◌, ◌≤◌, Bool, true, false, List, [], ◌∷◌, ◌++◌, length, Result, Ok, Err}
+use Rattle.smk_parse.specs.Words.{BookFault, NoMemory, TokenKind, Word, Marks, Token, inner, First, IsName, AreMarks, State, Counts, Symbol, AStmts, next, at_more, through}
+use Rattle.smk_base.specs.declared.token.TokenKind.TheVariants as kinds
+use Rattle.smk_model.specs.Machine as machine
+use Rattle.smk_parse.specs.declared.book.Tally.{Tally}
 
 -- these symbols in the first state are those symbols in the second, whatever follows, and no token comes back
 pub record Comes (ls ms : List Symbol) (a b : State) : Type 0 where
@@ -27,3 +28,40 @@ pub record Fails (ls : List Symbol) (a : State) (f : BookFault) : Type 0 where
 abbrev pub Reads : {X : Type 0} → List Symbol → State → State → Result X BookFault → Type 0
 Reads ls a b (Ok x) = Leads ls a b
 Reads ls a b (Err f) = Fails ls a f
+
+-- the statements counted, and what a reader of a statement answers
+abbrev pub tally_of : Tally → machine.Tally
+tally_of t = record { tables = t.tables; views = t.views; lineages = t.lineages; links = t.links }
+
+abbrev pub StmtReads : {X : Type 0} → Tally → Tally → State → State → Result X BookFault → Type 0
+StmtReads t u a b (Ok x) = Comes (AStmts (tally_of t) ∷ []) (AStmts (tally_of u) ∷ []) a b
+StmtReads t u a b (Err f) = Fails (AStmts (tally_of t) ∷ []) a f
+
+-- whether a token of this kind is a column
+abbrev pub is_column : TokenKind → Bool
+is_column kinds.Name = true
+is_column kinds.Quoted = true
+is_column _ = false
+
+-- the bytes of a name, without backquotes
+abbrev pub column_name : Token → List ℕ
+column_name t = by t.kind t.text
+  where
+    by : TokenKind → List ℕ → List ℕ
+    by kinds.Quoted text = inner text
+    by _ text = text
+
+-- the word of a column
+abbrev pub column_word : Token → Word
+column_word t = record { name = column_name t; at = t.at }
+
+-- the names of a line with marks and a keyword between them
+pub data IsMarked (kind : TokenKind) : List Token → List Token → Word → Marks → Word → Type 0 where
+  marked : {a b c d e : List Token} {t : Token} {w z : Word} {m : Marks} → IsName a b w → AreMarks b c m → First kind t c d → IsName d e z → IsMarked kind a e w m z
+
+-- the symbols of a member, of which so many stand before; the symbol behind so many members, a comma with one more or nothing; and what spells the tree of a member
+pub record MemberRule (T : Type 0) : Type 1 where
+  pub one : ℕ → List Symbol
+  pub more : ℕ → Symbol
+  pub spells : List Token → List Token → T → Type 0
+  pub goes_on : (n : ℕ) (c : Counts) (t : Token) → next c (more n) t ≡ at_more c (one n ++ more (n + 1) ∷ []) t.kind

@@ -1,25 +1,152 @@
-ghost use Rattle.std.specs.Prelude.{◌≡◌, ◌↔◌, map, IsTrue, IfOk};
+#![tactic(auto, using(crate::proofs::Trees::reading))]
+
+ghost use Rattle.std.specs.Prelude.{◌≡◌, ◌∷◌, ◌<◌, [], List, length, map, IfOk, OnOk};
+ghost use Rattle.smk_parse.specs.Words.{stmt_image, Token, head_of, First, IsExtra, IsStmt, AreStmts, AToken, AName, AFirst, AType, ADefault, MoreDecls, ASource, ASteps, ALineage, AnExtra, ALinked, MoreLinked, book_symbols};
 ghost use Rattle.smk_base.specs.declared.token.TokenKind.TheVariants as kinds;
-ghost use Rattle.smk_base.specs.declared.fault.BookFault.{BookFault};
-ghost use Rattle.smk_base.specs.TreeImage.{stmt_image};
-ghost use Rattle.smk_model.specs.Tokens.{head_of};
-ghost use Rattle.smk_model.specs.Grammar.{AreStmts};
-ghost use Rattle.smk_model.specs.Machine.{book_symbols};
-ghost use Rattle.smk_parse.specs.Reads.{Reads};
+ghost use Rattle.smk_parse.specs.Reads.{Reads, StmtReads};
 ghost use Rattle.smk_parse.specs.Answers.{IsBookAnswer};
 
+use crate::lists::{Linked, aggs, keys, listed};
+use crate::plan::plan;
 use crate::reader::Reader;
-use crate::stmt::{Tally, stmt};
-use smk_base::{Book, BookFault, Stmts, TokenKind};
+use crate::tokens::{column, expect, name, string_in_hand, within, wrong};
+use smk_base::{Book, BookFault, Decl, Extra, Many, Stmt, Stmts, TokenKind};
 use std::alloc::Global;
 
-/// Whether the end is in hand.
-fn at_end(reader: &Reader) -> bool
-    ensures { IsTrue result ↔ (head_of reader.now.rest).kind ≡ kinds.End }
+/// The statements of each kind so far.
+#[derive(Clone, Copy, Debug, Default)]
+pub struct Tally {
+    pub tables: u32,
+    pub views: u32,
+    pub lineages: u32,
+    pub links: u32,
+}
+
+/// A table statement behind its keyword.
+fn table_stmt(alloc: Global, reader: &mut Reader) -> Result<Stmt, BookFault>
+    ensures reads { Reads (AName ∷ AToken kinds.From ∷ AToken kinds.Str ∷ AToken kinds.Open ∷ AFirst 0 ∷ AType ∷ ADefault ∷ MoreDecls 1 ∷ AToken kinds.Close ∷ []) reader.old reader.new result }
+    ensures is { IfOk result (λ stmt. (a : List Token) → (t : Token) → First kinds.Table t a reader.old.rest → IsStmt a reader.new.rest (stmt_image stmt)) }
+{
+    let name = name(alloc, reader)?;
+    let _ = expect(reader, TokenKind::From)?;
+    let file = string_in_hand(alloc, reader)?;
+    let _ = expect(reader, TokenKind::Str)?;
+    let _ = expect(reader, TokenKind::Open)?;
+    let cols = listed::<Decl>(alloc, reader)?;
+    let _ = expect(reader, TokenKind::Close)?;
+    Ok(Stmt::Table { name, file, cols })
+}
+
+/// A view statement behind its keyword.
+fn view_stmt(alloc: Global, reader: &mut Reader) -> Result<Stmt, BookFault>
+    ensures reads { Reads (AName ∷ AToken kinds.Equal ∷ ASource 0 ∷ ASteps 0 ∷ []) reader.old reader.new result }
+    ensures is { IfOk result (λ stmt. (a : List Token) → (t : Token) → First kinds.View t a reader.old.rest → IsStmt a reader.new.rest (stmt_image stmt)) }
+{
+    let name = name(alloc, reader)?;
+    let _ = expect(reader, TokenKind::Equal)?;
+    let plan = plan(alloc, reader, 0)?;
+    Ok(Stmt::View { name, plan })
+}
+
+/// What a backward declaration asks for besides the rows.
+fn extra(alloc: Global, reader: &mut Reader) -> Result<Extra, BookFault>
+    ensures reads { Reads (AnExtra ∷ []) reader.old reader.new result }
+    ensures is { IfOk result (λ extra. IsExtra reader.old.rest reader.new.rest extra) }
+{
+    let at = reader.at();
+    match reader.kind() {
+        TokenKind::By => {
+            reader.advance();
+            Ok(Extra::By(column(alloc, reader)?))
+        }
+        TokenKind::Group => {
+            reader.advance();
+            let keys = keys(alloc, reader)?;
+            let aggs = aggs(alloc, reader)?;
+            Ok(Extra::Grouped { at, keys, aggs })
+        }
+        _ => Ok(Extra::Plain),
+    }
+}
+
+/// A lineage declaration behind `lineage`, which stands at this place.
+fn lineage_stmt(alloc: Global, reader: &mut Reader, at: u64) -> Result<Stmt, BookFault>
+    ensures reads { Reads (ALineage ∷ []) reader.old reader.new result }
+    ensures is { IfOk result (λ stmt. (a : List Token) → (t : Token) → First kinds.Lineage t a reader.old.rest → at ≡ t.at → IsStmt a reader.new.rest (stmt_image stmt)) }
 {
     match reader.kind() {
-        TokenKind::End => true,
-        _ => false,
+        TokenKind::Back => {
+            reader.advance();
+            let view = name(alloc, reader)?;
+            let _ = expect(reader, TokenKind::To)?;
+            let table = name(alloc, reader)?;
+            let extra = extra(alloc, reader)?;
+            Ok(Stmt::Back {
+                at,
+                view,
+                table,
+                extra,
+            })
+        }
+        TokenKind::Fwd => {
+            reader.advance();
+            let table = name(alloc, reader)?;
+            let _ = expect(reader, TokenKind::To)?;
+            let view = name(alloc, reader)?;
+            Ok(Stmt::Fwd { at, table, view })
+        }
+        _ => Err(wrong(reader)),
+    }
+}
+
+/// A link statement behind its keyword.
+fn link_stmt(alloc: Global, reader: &mut Reader) -> Result<Stmt, BookFault>
+    ensures reads { Reads (AName ∷ AToken kinds.On ∷ AName ∷ AToken kinds.To ∷ ALinked 0 ∷ MoreLinked 1 ∷ []) reader.old reader.new result }
+    ensures is { IfOk result (λ stmt. (a : List Token) → (t : Token) → First kinds.Link t a reader.old.rest → IsStmt a reader.new.rest (stmt_image stmt)) }
+{
+    let view = name(alloc, reader)?;
+    let _ = expect(reader, TokenKind::On)?;
+    let table = name(alloc, reader)?;
+    let _ = expect(reader, TokenKind::To)?;
+    let to = listed::<Linked>(alloc, reader)?;
+    Ok(Stmt::Link { view, table, to })
+}
+
+/// A statement, which is counted.
+#[tactic(auto, using(crate::proofs::Trees::reading, crate::proofs::Steps::in_loop))]
+fn stmt(alloc: Global, reader: &mut Reader, tally: &mut Tally) -> Result<Stmt, BookFault>
+    requires { (head_of reader.old.rest).kind ≡ kinds.End → ⊥ }
+    ensures reads { StmtReads tally.old tally.new reader.old reader.new result }
+    ensures is { IfOk result (λ stmt. IsStmt reader.old.rest reader.new.rest (stmt_image stmt)) }
+    ensures shrinks { OnOk result (length reader.new.rest < length reader.old.rest) }
+{
+    let at = reader.at();
+    match reader.kind() {
+        TokenKind::Table => {
+            within(reader, tally.tables < 16, Many::Tables)?;
+            reader.advance_to(0, 0);
+            tally.tables += 1;
+            table_stmt(alloc, reader)
+        }
+        TokenKind::View => {
+            within(reader, tally.views < 64, Many::Views)?;
+            reader.advance_to(0, 0);
+            tally.views += 1;
+            view_stmt(alloc, reader)
+        }
+        TokenKind::Lineage => {
+            within(reader, tally.lineages < 256, Many::Lineages)?;
+            reader.advance_to(0, 0);
+            tally.lineages += 1;
+            lineage_stmt(alloc, reader, at)
+        }
+        TokenKind::Link => {
+            within(reader, tally.links < 64, Many::Links)?;
+            reader.advance_to(0, 0);
+            tally.links += 1;
+            link_stmt(alloc, reader)
+        }
+        _ => Err(wrong(reader)),
     }
 }
 
@@ -30,22 +157,20 @@ fn stmts(alloc: Global, reader: &mut Reader) -> Result<Stmts, BookFault>
     ensures is { IfOk result (λ stmts. AreStmts reader.old.rest (map stmt_image stmts)) }
 {
     let mut stmts = Stmts::new(alloc);
-    let mut tally = Tally {
-        tables: 0,
-        views: 0,
-        lineages: 0,
-        links: 0,
-    };
-    'stmts: while !at_end(reader) {
-        let next = stmt(alloc, reader, &mut tally)?;
-        stmts.push(next)?;
+    let mut tally = Tally::default();
+    'stmts: loop {
+        match reader.kind() {
+            TokenKind::End => return Ok(stmts),
+            _ => {
+                let next = stmt(alloc, reader, &mut tally)?;
+                stmts.push(next)?;
+            }
+        }
     }
-    let _end = reader.kind();
-    Ok(stmts)
 }
 
 /// The tree of a book, or the first fault of its text.
-#[tactic(auto, using(crate::proofs::Whole::book_answers))]
+#[tactic(auto, using(crate::proofs::Whole::faultless, crate::proofs::Whole::book_unread))]
 pub fn parse_book(alloc: Global, text: &[u8]) -> Result<Book, BookFault>
     ensures { IsBookAnswer text.now result }
 {

@@ -1,10 +1,8 @@
-ghost use Rattle.std.specs.Prelude.{◌≡◌, ◌+◌, ◌<◌, ◌≤◌, length, map, take_while, IfSome, true, false, drop, None};
+ghost use Rattle.std.specs.Prelude.{◌≡◌, ◌+◌, ◌<◌, ◌≤◌, ◌≤ℤ◌, pos, length, map, take_while, IfSome, IsTrue, true, false, drop, None, min};
+ghost use Rattle.smk_parse.specs.Words.{is_ascii_digit, minus_front, is_word_byte, is_quoted_byte, no_line_end, kind_in, string_len, front, quoted_front, or_equal, unequal_front, digits_value, number_kind, int_value};
 ghost use Rattle.smk_base.specs.declared.token.TokenKind.TheVariants.{Name};
-ghost use Rattle.std.specs.Char.{is_ascii_digit};
-ghost use Rattle.smk_model.specs.Tokens.{is_gap, string_front, minus_front, is_letter, is_word_byte, is_quoted_byte, no_line_end, kind_in, word_kind, string_len, front, quoted_front, or_equal, unequal_front, symbol_front};
-ghost use Rattle.smk_parse.specs.Fronts.{front_of, Within};
+ghost use Rattle.smk_parse.specs.Texts.{front_of, Within, number_fits};
 
-use crate::numbers::kind_of_number;
 use smk_base::{KEYWORDS, TokenKind};
 
 /// What stands at the front of a text: bytes that mean nothing, or a token, with their number.
@@ -14,28 +12,59 @@ pub enum Front {
     Begins(TokenKind, usize),
 }
 
-fn is_gap_byte(b: u8) -> bool
-    ensures { result ≡ is_gap b }
+/// One more than the greatest size of a number.
+const BEYOND: u128 = 9_223_372_036_854_775_809;
+
+/// The number of the digits, where it isn't beyond every number.
+#[tactic(auto, using(crate::proofs::Texts::one_digit))]
+fn size(digits: &[u8]) -> u128
+    ensures { result ≡ min (digits_value 0 digits.now) 9223372036854775809 }
 {
-    b == b' ' || b == b'\t' || b == b'\n' || b == b'\r'
+    let mut value: u128 = 0;
+    for digit in digits {
+        value = (value * 10 + u128::from(digit.saturating_sub(b'0'))).min(BEYOND);
+    }
+    value
 }
 
-fn is_letter_byte(b: u8) -> bool
-    ensures { result ≡ is_letter b }
+/// The kind of a number with this sign and these digits.
+fn kind_of_number(minus: bool, digits: &[u8]) -> TokenKind
+    ensures { result ≡ number_kind minus (digits_value 0 digits.now) }
 {
-    b.is_ascii_alphabetic() || b == b'_'
+    let size = size(digits);
+    let beyond = if minus { BEYOND } else { BEYOND - 1 };
+    if size < beyond {
+        TokenKind::Number
+    } else {
+        TokenKind::Huge
+    }
 }
 
+/// The value of a number in the range of i64.
+#[tactic(auto, using(crate::proofs::Texts::number_small))]
+pub fn int_of(text: &[u8]) -> i128
+    requires { IsTrue (number_fits text.now) }
+    ensures is { result ≡ int_value text.now }
+    ensures small { result ≤ℤ pos 9223372036854775807 }
+{
+    match text {
+        [b'-', digits @ ..] => -(size(digits) as i128),
+        _ => size(text) as i128,
+    }
+}
+
+/// The number of bytes at the front that a word may have.
 fn word_len(bytes: &[u8]) -> usize
     ensures is { result ≡ length (take_while is_word_byte bytes.now) }
     ensures within { result ≤ length bytes.now }
 {
     bytes
         .iter()
-        .take_while(|b| is_letter_byte(**b) || b.is_ascii_digit())
+        .take_while(|b| b.is_ascii_alphabetic() || **b == b'_' || b.is_ascii_digit())
         .count()
 }
 
+/// The number of digits at the front.
 fn digits_len(bytes: &[u8]) -> usize
     ensures is { result ≡ length (take_while is_ascii_digit bytes.now) }
     ensures within { result ≤ length bytes.now }
@@ -51,6 +80,7 @@ pub fn line_len(bytes: &[u8]) -> usize
     bytes.iter().take_while(|b| **b != b'\n').count()
 }
 
+/// The number of bytes before the first backquote or line feed.
 fn quoted_len(bytes: &[u8]) -> usize
     ensures is { result ≡ length (take_while is_quoted_byte bytes.now) }
     ensures within { result ≤ length bytes.now }
@@ -72,13 +102,6 @@ fn kind_among(mut table: &[(&[u8], TokenKind)], word: &[u8]) -> TokenKind
         table = rest;
     }
     TokenKind::Name
-}
-
-/// The keyword that a word is, or a name.
-fn kind_of_word(word: &[u8]) -> TokenKind
-    ensures { result ≡ word_kind word.now }
-{
-    kind_among(&KEYWORDS, word)
 }
 
 /// How far a text between quotes goes, behind its first quote.
@@ -104,16 +127,6 @@ fn string_end(bytes: &[u8]) -> Option<usize>
     if closed { Some(bytes.len()) } else { kept }
 }
 
-fn string_begins(rest: &[u8]) -> Front
-    ensures is { front_of result ≡ string_front (string_len None false 0 rest.now) }
-    ensures within { Within result (length rest.now + 1) }
-{
-    match string_end(rest) {
-        Some(len) => Front::Begins(TokenKind::Str, len + 1),
-        None => Front::Begins(TokenKind::Bad, 0),
-    }
-}
-
 /// A name between backquotes, behind its first backquote.
 fn quoted_begins(rest: &[u8]) -> Front
     ensures is { front_of result ≡ quoted_front (length (take_while is_quoted_byte rest.now)) (drop (length (take_while is_quoted_byte rest.now)) rest.now) }
@@ -134,22 +147,6 @@ fn equal_or(short: TokenKind, long: TokenKind, rest: &[u8]) -> Front
     match rest {
         [b'=', ..] => Front::Begins(long, 2),
         _ => Front::Begins(short, 1),
-    }
-}
-
-fn symbol(b: u8) -> Front
-    ensures is { front_of result ≡ symbol_front b }
-    ensures within { Within result 1 }
-{
-    match b {
-        b',' => Front::Begins(TokenKind::Comma, 1),
-        b'(' => Front::Begins(TokenKind::Open, 1),
-        b')' => Front::Begins(TokenKind::Close, 1),
-        b'{' => Front::Begins(TokenKind::OpenBrace, 1),
-        b'}' => Front::Begins(TokenKind::CloseBrace, 1),
-        b'|' => Front::Begins(TokenKind::Bar, 1),
-        b'=' => Front::Begins(TokenKind::Equal, 1),
-        _ => Front::Begins(TokenKind::Bad, 0),
     }
 }
 
@@ -181,32 +178,36 @@ pub fn front_at(bytes: &[u8]) -> Front
     ensures is { front_of result ≡ front bytes.now }
     ensures within { Within result (length bytes.now) }
 {
-    let [first, rest @ ..] = bytes else {
-        return Front::Begins(TokenKind::End, 0);
-    };
-    if is_gap_byte(*first) {
-        Front::Between(1)
-    } else if *first == b'#' {
-        Front::Between(line_len(rest) + 1)
-    } else if is_letter_byte(*first) {
-        let len = word_len(rest) + 1;
-        Front::Begins(kind_of_word(&bytes[..len]), len)
-    } else if *first == b'-' {
-        minus_begins(rest)
-    } else if first.is_ascii_digit() {
-        let len = digits_len(rest) + 1;
-        Front::Begins(kind_of_number(false, &bytes[..len]), len)
-    } else if *first == b'"' {
-        string_begins(rest)
-    } else if *first == b'`' {
-        quoted_begins(rest)
-    } else if *first == b'<' {
-        equal_or(TokenKind::Less, TokenKind::LessEqual, rest)
-    } else if *first == b'>' {
-        equal_or(TokenKind::Greater, TokenKind::GreaterEqual, rest)
-    } else if *first == b'!' {
-        unequal_begins(rest)
-    } else {
-        symbol(*first)
+    match bytes {
+        [] => Front::Begins(TokenKind::End, 0),
+        [b' ' | b'\t' | b'\n' | b'\r', ..] => Front::Between(1),
+        [b'#', rest @ ..] => Front::Between(line_len(rest) + 1),
+        [b'-', rest @ ..] => minus_begins(rest),
+        [b'"', rest @ ..] => match string_end(rest) {
+            Some(len) => Front::Begins(TokenKind::Str, len + 1),
+            None => Front::Begins(TokenKind::Bad, 0),
+        },
+        [b'`', rest @ ..] => quoted_begins(rest),
+        [b'<', rest @ ..] => equal_or(TokenKind::Less, TokenKind::LessEqual, rest),
+        [b'>', rest @ ..] => equal_or(TokenKind::Greater, TokenKind::GreaterEqual, rest),
+        [b'!', rest @ ..] => unequal_begins(rest),
+        [b',', ..] => Front::Begins(TokenKind::Comma, 1),
+        [b'(', ..] => Front::Begins(TokenKind::Open, 1),
+        [b')', ..] => Front::Begins(TokenKind::Close, 1),
+        [b'{', ..] => Front::Begins(TokenKind::OpenBrace, 1),
+        [b'}', ..] => Front::Begins(TokenKind::CloseBrace, 1),
+        [b'|', ..] => Front::Begins(TokenKind::Bar, 1),
+        [b'=', ..] => Front::Begins(TokenKind::Equal, 1),
+        [first, rest @ ..] => {
+            if first.is_ascii_alphabetic() || *first == b'_' {
+                let len = word_len(rest) + 1;
+                Front::Begins(kind_among(&KEYWORDS, &bytes[..len]), len)
+            } else if first.is_ascii_digit() {
+                let len = digits_len(rest) + 1;
+                Front::Begins(kind_of_number(false, &bytes[..len]), len)
+            } else {
+                Front::Begins(TokenKind::Bad, 0)
+            }
+        }
     }
 }

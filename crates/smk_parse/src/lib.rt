@@ -4,16 +4,12 @@
 mod book;
 mod front;
 mod line;
-mod listed;
 mod lists;
-mod names;
-mod numbers;
 mod plan;
 mod pred;
 mod reader;
 mod script;
-mod stmt;
-mod taken;
+mod tokens;
 
 pub use book::parse_book;
 pub use line::parse_line;

@@ -1,18 +1,14 @@
 #![tactic(auto, using(crate::proofs::Trees::reading))]
 
 ghost use Rattle.std.specs.Prelude.{◌≡◌, ◌∷◌, [], List, refl, IsTrue, IfOk};
+ghost use Rattle.smk_parse.specs.Words.{Token, is_more, First, IsMark, AreMarks, IsThen, IsLine, IsWholeLine, AToken, ALine, ALineName, AMark, MoreMarks, AMarks, AThen, ACleared, line_symbols};
 ghost use Rattle.smk_base.specs.declared.token.TokenKind.TheVariants as kinds;
-ghost use Rattle.smk_model.specs.Tokens.{Token, is_more};
-ghost use Rattle.smk_model.specs.Grammar.{First, IsMark, AreMarks, IsThen, IsLine, IsWholeLine};
-ghost use Rattle.smk_model.specs.Machine.{AToken, ALine, ALineName, AMark, MoreMarks, AMarks, AThen, ACleared, line_symbols};
-ghost use Rattle.smk_parse.specs.Reads.{Reads};
+ghost use Rattle.smk_parse.specs.Reads.{IsMarked, Reads};
 ghost use Rattle.smk_parse.specs.Answers.{IsLineAnswer, as_line_fault};
-ghost use Rattle.smk_parse.specs.Groupings.{IsMarked};
 
-use crate::listed::{Member, listed};
-use crate::names::{line_column, line_name, take_column};
+use crate::lists::{Member, listed};
 use crate::reader::Reader;
-use crate::taken::{expect, literal, wrong};
+use crate::tokens::{expect, line_column, line_name, literal, take_column, wrong};
 use smk_base::{BookFault, Line, LineFault, Marks, Then, TokenKind, Word};
 use std::alloc::Global;
 
@@ -43,26 +39,20 @@ impl Member for Mark {
 /// Two names of a line with marks between them.
 #[derive(Drop)]
 struct Marking {
-    first: Word,
+    from: Word,
     marks: Marks,
-    second: Word,
+    to: Word,
 }
 
 /// The marks of a line.
-#[tactic(auto, using(crate::proofs::Trees::reading, crate::proofs::Begins::begun))]
+#[tactic(auto, using(crate::proofs::Trees::reading, crate::proofs::Steps::begun))]
 fn marks(alloc: Global, reader: &mut Reader) -> Result<Marks, BookFault>
     ensures reads { Reads (AMarks ∷ []) reader.old reader.new result }
     ensures is { IfOk result (λ marks. AreMarks reader.old.rest reader.new.rest marks) }
 {
     match reader.kind() {
-        TokenKind::All => {
-            reader.advance();
-            Ok(Marks::All)
-        }
-        _ => {
-            let marks = listed::<Mark>(alloc, reader)?;
-            Ok(Marks::Listed(marks))
-        }
+        TokenKind::All => Ok(reader.took(Marks::All)),
+        _ => Ok(Marks::Listed(listed::<Mark>(alloc, reader)?)),
     }
 }
 
@@ -82,10 +72,7 @@ fn then(alloc: Global, reader: &mut Reader) -> Result<Then, BookFault>
                 value: lit.value,
             })
         }
-        TokenKind::Group => {
-            reader.advance();
-            Ok(Then::Grouped)
-        }
+        TokenKind::Group => Ok(reader.took(Then::Grouped)),
         _ => Ok(Then::Plain),
     }
 }
@@ -113,17 +100,13 @@ fn cleared(alloc: Global, reader: &mut Reader) -> Result<Line, BookFault>
 fn marked(alloc: Global, reader: &mut Reader, between: TokenKind) -> Result<Marking, BookFault>
     requires { IsTrue (is_more between) }
     ensures reads { Reads (ALineName ∷ AMarks ∷ AToken between ∷ ALineName ∷ []) reader.old reader.new result }
-    ensures is { IfOk result (λ m. IsMarked between reader.old.rest reader.new.rest m.first m.marks m.second) }
+    ensures is { IfOk result (λ m. IsMarked between reader.old.rest reader.new.rest m.from m.marks m.to) }
 {
-    let first = line_name(alloc, reader)?;
+    let from = line_name(alloc, reader)?;
     let marks = marks(alloc, reader)?;
     let _ = expect(reader, between)?;
-    let second = line_name(alloc, reader)?;
-    Ok(Marking {
-        first,
-        marks,
-        second,
-    })
+    let to = line_name(alloc, reader)?;
+    Ok(Marking { from, marks, to })
 }
 
 /// A line.
@@ -142,9 +125,9 @@ fn line(alloc: Global, reader: &mut Reader) -> Result<Line, BookFault>
             let m = marked(alloc, reader, TokenKind::To)?;
             let then = then(alloc, reader)?;
             Ok(Line::Back {
-                view: m.first.name,
+                view: m.from.name,
                 marks: m.marks,
-                table: m.second.name,
+                table: m.to.name,
                 then,
             })
         }
@@ -152,18 +135,18 @@ fn line(alloc: Global, reader: &mut Reader) -> Result<Line, BookFault>
             reader.advance();
             let m = marked(alloc, reader, TokenKind::To)?;
             Ok(Line::Fwd {
-                table: m.first.name,
+                table: m.from.name,
                 rows: m.marks,
-                view: m.second.name,
+                view: m.to.name,
             })
         }
         TokenKind::Brush => {
             reader.advance();
             let m = marked(alloc, reader, TokenKind::On)?;
             Ok(Line::Brush {
-                view: m.first.name,
+                view: m.from.name,
                 marks: m.marks,
-                table: m.second.name,
+                table: m.to.name,
             })
         }
         TokenKind::Clear => {
@@ -201,7 +184,7 @@ fn as_line_fault(fault: BookFault) -> LineFault
 }
 
 /// The line of a script as a tree: None where it has no token, and the place of its first fault where it isn't a line.
-#[tactic(auto, using(crate::proofs::Whole::line_answers))]
+#[tactic(auto, using(crate::proofs::Whole::line_answer, crate::proofs::Whole::line_unread))]
 pub fn parse_line(alloc: Global, line: &[u8]) -> Result<Option<Line>, LineFault>
     ensures { IsLineAnswer line.now result }
 {

@@ -1,22 +1,50 @@
 #![tactic(auto, using(crate::proofs::Trees::reading))]
 
-ghost use Rattle.std.specs.Prelude.{◌≡◌, ◌∷◌, ◌<◌, ◌≤◌, [], pos, ◌≤ℤ◌, refl, IfOk};
-ghost use Rattle.smk_base.specs.declared.tree.ItemTree.TheVariants as items;
+ghost use Rattle.std.specs.Prelude.{◌≡◌, ◌∷◌, ◌++◌, ◌<◌, ◌≤◌, [], pos, ◌≤ℤ◌, refl, IfOk};
+ghost use Rattle.smk_parse.specs.Words.{head_of, AreListed, IsName, IsColumn, IsType, IsDefault, IsDecl, IsNamed, IsWidth, IsItem, IsWhat, IsAgg, IsPair, AreKeys, AreAggs, AToken, AColumn, AFirst, AType, ADefault, AnAs, AWidth, AnItem, AWhat, AKeys, AnAggs, ALinked, MoreDecls, MoreItems, MoreKeys, MoreAggs, MorePairs, MoreLinked};
 ghost use Rattle.smk_base.specs.declared.token.TokenKind.TheVariants as kinds;
-ghost use Rattle.smk_model.specs.Tokens.{head_of};
-ghost use Rattle.smk_model.specs.Grammar.{IsName, IsColumn, IsType, IsDefault, IsDecl, IsNamed, IsWidth, IsItem, IsWhat, IsAgg, IsPair, AreKeys, AreAggs};
-ghost use Rattle.smk_model.specs.Machine.{AToken, AColumn, AFirst, AType, ADefault, AnAs, AWidth, AnItem, AWhat, AKeys, AnAggs, ALinked, MoreDecls, MoreItems, MoreKeys, MoreAggs, MorePairs, MoreLinked};
-ghost use Rattle.smk_parse.specs.Reads.{Reads};
+ghost use Rattle.smk_parse.specs.Reads.{MemberRule, Reads};
 
-use crate::listed::{Member, listed};
-use crate::names::{column, first_column, is_column, is_short, take_column};
 use crate::reader::Reader;
-use crate::taken::{expect, literal, within, wrong};
+use crate::tokens::{
+    column, expect, first_column, is_column, is_short, literal, take_column, within, wrong,
+};
 use smk_base::{
-    AggTree, AggTrees, AggWhat, BookFault, Decl, ItemTree, Lit, Many, PairTree, TokenKind, Word,
-    Words,
+    AggTree, AggTrees, AggWhat, BookFault, Decl, ItemTree, ListOf, Lit, Many, PairTree, TokenKind,
+    Word, Words,
 };
 use std::alloc::Global;
+
+/// What may stand between commas.
+pub trait Member {
+    type Tree: Drop;
+
+    /// The rule of the grammar that a member goes by.
+    ghost rule: { MemberRule Self.Tree };
+
+    /// A member, of which so many stand before.
+    fn read(alloc: Global, reader: &mut Reader, before: usize) -> Result<Self::Tree, BookFault>
+        ensures reads { Reads (rule.one before) reader.old reader.new result }
+        ensures is { IfOk result (λ tree. rule.spells reader.old.rest reader.new.rest tree) };
+}
+
+/// One or more members with commas between.
+#[tactic(auto, using(crate::proofs::Steps::in_order, crate::proofs::Steps::in_loop))]
+pub fn listed<M: Member>(alloc: Global, reader: &mut Reader) -> Result<ListOf<M::Tree>, BookFault>
+    ensures reads { Reads (M.rule.one 0 ++ M.rule.more 1 ∷ []) reader.old reader.new result }
+    ensures is { IfOk result (λ list. AreListed M.rule.spells reader.old.rest reader.new.rest list) }
+{
+    let mut list = ListOf::new(alloc);
+    let first = M::read(alloc, reader, 0)?;
+    list.push(first)?;
+    'commas: while let TokenKind::Comma = reader.kind() {
+        reader.advance();
+        let before = list.as_slice().len();
+        let next = M::read(alloc, reader, before)?;
+        list.push(next)?;
+    }
+    Ok(list)
+}
 
 /// Whether a declared column is a text.
 fn is_text(reader: &mut Reader) -> Result<bool, BookFault>
@@ -24,14 +52,8 @@ fn is_text(reader: &mut Reader) -> Result<bool, BookFault>
     ensures is { IfOk result (λ text. IsType reader.old.rest reader.new.rest text) }
 {
     match reader.kind() {
-        TokenKind::Int => {
-            reader.advance();
-            Ok(false)
-        }
-        TokenKind::Text => {
-            reader.advance();
-            Ok(true)
-        }
+        TokenKind::Int => Ok(reader.took(false)),
+        TokenKind::Text => Ok(reader.took(true)),
         _ => Err(wrong(reader)),
     }
 }
@@ -44,8 +66,7 @@ fn default(alloc: Global, reader: &mut Reader) -> Result<Option<Lit>, BookFault>
     match reader.kind() {
         TokenKind::Default => {
             reader.advance();
-            let lit = literal(alloc, reader)?;
-            Ok(Some(lit))
+            Ok(Some(literal(alloc, reader)?))
         }
         _ => Ok(None),
     }
@@ -82,22 +103,6 @@ fn named(alloc: Global, reader: &mut Reader, col: &Word) -> Result<Word, BookFau
     }
 }
 
-/// A width of a bin that is in its range.
-fn as_width(value: i128) -> i64
-    requires low { pos 1 ≤ℤ value }
-    requires high { value ≤ℤ pos 9223372036854775807 }
-    ensures { result ≡ value }
-{
-    value as i64
-}
-
-/// A column by its bins.
-fn bin(col: Word, width: i64, name: Word) -> ItemTree
-    ensures { result ≡ items.Bin col width name }
-{
-    ItemTree::Bin { col, width, name }
-}
-
 /// The second part of `bin`.
 fn width(reader: &mut Reader) -> Result<i64, BookFault>
     ensures reads { Reads (AWidth ∷ []) reader.old reader.new result }
@@ -111,7 +116,7 @@ fn width(reader: &mut Reader) -> Result<i64, BookFault>
             let value = reader.int();
             if 1 <= value {
                 reader.advance();
-                Ok(as_width(value))
+                Ok(value as i64)
             } else {
                 Err(BookFault::BadNumber { at })
             }
@@ -137,7 +142,7 @@ fn bin_item(alloc: Global, reader: &mut Reader, before: usize) -> Result<ItemTre
     let _ = expect(reader, TokenKind::Close)?;
     let _ = expect(reader, TokenKind::As)?;
     let name = column(alloc, reader)?;
-    Ok(bin(col, width, name))
+    Ok(ItemTree::Bin { col, width, name })
 }
 
 /// An output column that is a column of the input.
@@ -156,7 +161,7 @@ impl Member for ItemTree {
 
     ghost rule = { record { one = λ n. AnItem n ∷ []; more = MoreItems; spells = IsItem; goes_on = λ n c t. refl } };
 
-    #[tactic(auto, using(crate::proofs::Begins::begun))]
+    #[tactic(auto, using(crate::proofs::Trees::reading, crate::proofs::Steps::begun))]
     fn read(alloc: Global, reader: &mut Reader, before: usize) -> Result<ItemTree, BookFault> {
         match reader.kind() {
             TokenKind::Bin => bin_item(alloc, reader, before),
@@ -171,10 +176,7 @@ fn what(alloc: Global, reader: &mut Reader) -> Result<AggWhat, BookFault>
     ensures is { IfOk result (λ what. IsWhat reader.old.rest reader.new.rest what) }
 {
     match reader.kind() {
-        TokenKind::Count => {
-            reader.advance();
-            Ok(AggWhat::Count)
-        }
+        TokenKind::Count => Ok(reader.took(AggWhat::Count)),
         TokenKind::Sum => {
             reader.advance();
             Ok(AggWhat::Sum(column(alloc, reader)?))
@@ -251,15 +253,16 @@ impl Member for Linked {
 }
 
 /// The keys of a grouping.
-#[tactic(auto, using(crate::proofs::Trees::reading, crate::proofs::Begins::begun))]
+#[tactic(auto, using(crate::proofs::Trees::reading, crate::proofs::Steps::begun))]
 pub fn keys(alloc: Global, reader: &mut Reader) -> Result<Words, BookFault>
     ensures reads { Reads (AKeys ∷ []) reader.old reader.new result }
     ensures is { IfOk result (λ list. AreKeys reader.old.rest reader.new.rest list) }
 {
-    if is_column(reader.kind()) {
-        return listed::<Word>(alloc, reader);
+    if !is_column(reader.kind()) {
+        return Ok(Words::new(alloc));
     }
-    Ok(Words::new(alloc))
+    let keys = listed::<Word>(alloc, reader)?;
+    Ok(keys)
 }
 
 /// The aggregates of a grouping.

@@ -1,23 +1,14 @@
 #![tactic(auto, using(crate::proofs::Trees::reading))]
 
-ghost use Rattle.std.specs.Prelude.{◌≡◌, ◌∷◌, ◌+◌, ◌<◌, ◌≤◌, [], IsTrue, IfOk, IfErr, OnOk, ℕ};
-ghost use Rattle.smk_base.specs.declared.fault.BookFault.TheVariants.{TooMany};
-ghost use Rattle.smk_base.specs.declared.fault.Many.TheVariants.{Nodes};
+ghost use Rattle.std.specs.Prelude.{◌≡◌, ◌∷◌, ◌+◌, ◌<◌, ◌≤◌, [], IsTrue, IfOk, IfErr, OnOk};
+ghost use Rattle.smk_parse.specs.Words.{TooMany, Nodes, tree_image, step_image, head_of, tail_of, is_more, IsSource, IsPlan, IsStep, node_more, ASource, ASteps, AStep};
 ghost use Rattle.smk_base.specs.declared.token.TokenKind.TheVariants as kinds;
-ghost use Rattle.smk_base.specs.TreeImage.{tree_image, step_image};
-ghost use Rattle.smk_model.specs.Tokens.{head_of, tail_of, is_more};
-ghost use Rattle.smk_model.specs.Grammar.{IsSource, IsPlan, IsStep};
-ghost use Rattle.smk_model.specs.Machine.{node_more, ASource, ASteps, AStep, AUnited};
-ghost use Rattle.smk_parse.specs.Readers.{Advances};
-ghost use Rattle.smk_parse.specs.Reads.{Reads, Comes};
-ghost use Rattle.smk_parse.specs.Groupings.{HasAll};
+ghost use Rattle.smk_parse.specs.{Texts.Advances, Reads.Reads};
 
-use crate::listed::listed;
-use crate::lists::{aggs, keys};
-use crate::names::name;
+use crate::lists::{aggs, keys, listed};
 use crate::pred::{on, pred};
 use crate::reader::Reader;
-use crate::taken::{expect, within, wrong};
+use crate::tokens::{expect, name, within, wrong};
 use smk_base::{BookFault, ItemTree, Many, PairTree, StepTree, TokenKind, Tree};
 use std::alloc::Global;
 
@@ -36,21 +27,6 @@ fn take_node(reader: &mut Reader) -> Result<(), BookFault>
     within(reader, nodes < 64, Many::Nodes)?;
     reader.advance_to(nodes + 1, 0);
     Ok(())
-}
-
-/// Whether `all` stands here, which is taken.
-#[tactic(auto, using(crate::proofs::Begins::united))]
-fn takes_all(reader: &mut Reader) -> bool
-    ensures reads { (depth : ℕ) → Comes (AUnited depth ∷ []) (ASource depth ∷ []) reader.old reader.new }
-    ensures is { HasAll result reader.old.rest reader.new.rest }
-{
-    match reader.kind() {
-        TokenKind::All => {
-            reader.advance();
-            true
-        }
-        _ => false,
-    }
 }
 
 /// A step without a source of its own.
@@ -108,7 +84,7 @@ fn source(alloc: Global, reader: &mut Reader, depth: u32) -> Result<Box<Tree>, B
 }
 
 /// A step.
-#[tactic(auto, using(crate::proofs::Trees::reading, crate::proofs::Begins::united))]
+#[tactic(auto, using(crate::proofs::Trees::reading, crate::proofs::Steps::begun))]
 #[cycle(plan)]
 fn step(alloc: Global, reader: &mut Reader, depth: u32) -> Result<StepTree, BookFault>
     ensures reads { Reads (AStep depth ∷ []) reader.old reader.new result }
@@ -135,12 +111,12 @@ fn step(alloc: Global, reader: &mut Reader, depth: u32) -> Result<StepTree, Book
         }
         TokenKind::Union => {
             take_node(reader)?;
-            let all = takes_all(reader);
-            let right = source(alloc, reader, depth)?;
-            if all {
-                Ok(StepTree::UnionAll(right))
-            } else {
-                Ok(StepTree::Union(right))
+            match reader.kind() {
+                TokenKind::All => {
+                    reader.advance();
+                    Ok(StepTree::UnionAll(source(alloc, reader, depth)?))
+                }
+                _ => Ok(StepTree::Union(source(alloc, reader, depth)?)),
             }
         }
         _ => single_step(alloc, reader, depth),
@@ -154,17 +130,12 @@ pub fn plan(alloc: Global, reader: &mut Reader, depth: u32) -> Result<Tree, Book
     ensures reads { Reads (ASource depth ∷ ASteps depth ∷ []) reader.old reader.new result }
     ensures is { IfOk result (λ tree. IsPlan reader.old.rest reader.new.rest (tree_image tree)) }
 {
-    let mut left = source(alloc, reader, depth)?;
+    let mut input = source(alloc, reader, depth)?;
     'steps: while let TokenKind::Bar = reader.kind() {
         reader.advance();
         let at = reader.at();
         let what = step(alloc, reader, depth)?;
-        let step = Tree::Step {
-            at,
-            input: left,
-            what,
-        };
-        left = Box::new(alloc, step)?;
+        input = Box::new(alloc, Tree::Step { at, input, what })?;
     }
-    Ok(Box::into_inner(left))
+    Ok(Box::into_inner(input))
 }

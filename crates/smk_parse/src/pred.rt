@@ -1,16 +1,12 @@
 #![tactic(auto, using(crate::proofs::Trees::reading))]
 
 ghost use Rattle.std.specs.Prelude.{◌≡◌, ◌∷◌, ◌+◌, ◌<◌, [], ℕ, IfOk, OnOk};
+ghost use Rattle.smk_parse.specs.Words.{pred_image, head_of, First, IsOp, IsTerm, IsPrim, IsConj, IsPred, AnOn, AnOp, ATerm, APrim, AnAnds, AnOrs};
 ghost use Rattle.smk_base.specs.declared.token.TokenKind.TheVariants as kinds;
-ghost use Rattle.smk_base.specs.TreeImage.{pred_image};
-ghost use Rattle.smk_model.specs.Tokens.{head_of};
-ghost use Rattle.smk_model.specs.Grammar.{First, IsOp, IsTerm, IsPrim, IsConj, IsPred};
-ghost use Rattle.smk_model.specs.Machine.{AnOn, AnOp, ATerm, APrim, AnAnds, AnOrs};
 ghost use Rattle.smk_parse.specs.Reads.{Reads};
 
-use crate::names::{column, column_in_hand, is_column, is_short};
 use crate::reader::Reader;
-use crate::taken::{expect, literal, within, wrong};
+use crate::tokens::{column, column_in_hand, expect, is_column, is_short, literal, within, wrong};
 use smk_base::{BookFault, CmpOp, Many, PredTree, Term, TokenKind};
 use std::alloc::Global;
 
@@ -35,36 +31,18 @@ fn op(reader: &mut Reader) -> Result<CmpOp, BookFault>
     ensures is { IfOk result (λ op. IsOp reader.old.rest reader.new.rest op) }
 {
     match reader.kind() {
-        TokenKind::Equal => {
-            reader.advance();
-            Ok(CmpOp::Eq)
-        }
-        TokenKind::NotEqual => {
-            reader.advance();
-            Ok(CmpOp::Ne)
-        }
-        TokenKind::Less => {
-            reader.advance();
-            Ok(CmpOp::Lt)
-        }
-        TokenKind::LessEqual => {
-            reader.advance();
-            Ok(CmpOp::Le)
-        }
-        TokenKind::Greater => {
-            reader.advance();
-            Ok(CmpOp::Gt)
-        }
-        TokenKind::GreaterEqual => {
-            reader.advance();
-            Ok(CmpOp::Ge)
-        }
+        TokenKind::Equal => Ok(reader.took(CmpOp::Eq)),
+        TokenKind::NotEqual => Ok(reader.took(CmpOp::Ne)),
+        TokenKind::Less => Ok(reader.took(CmpOp::Lt)),
+        TokenKind::LessEqual => Ok(reader.took(CmpOp::Le)),
+        TokenKind::Greater => Ok(reader.took(CmpOp::Gt)),
+        TokenKind::GreaterEqual => Ok(reader.took(CmpOp::Ge)),
         _ => Err(wrong(reader)),
     }
 }
 
 /// The right side of a comparison.
-#[tactic(auto, using(crate::proofs::Trees::reading, crate::proofs::Begins::begun))]
+#[tactic(auto, using(crate::proofs::Trees::reading, crate::proofs::Steps::begun))]
 fn term(alloc: Global, reader: &mut Reader) -> Result<Term, BookFault>
     ensures reads { Reads (ATerm ∷ []) reader.old reader.new result }
     ensures is { IfOk result (λ term. IsTerm reader.old.rest reader.new.rest term) }

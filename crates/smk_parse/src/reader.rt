@@ -1,11 +1,9 @@
 ghost use Rattle.std.specs.Prelude.{◌≡◌, ◌≤◌, ◌≤ℤ◌, ◌∷◌, pos, length, drop, IsTrue};
+ghost use Rattle.smk_parse.specs.Words.{tokens, tokens_from, head_of, tail_of, is_more, int_value, State, no_counts};
 ghost use Rattle.smk_base.specs.declared.token.TokenKind.TheVariants.{Number};
-ghost use Rattle.smk_model.specs.Tokens.{tokens, tokens_from, head_of, tail_of, is_more, int_value};
-ghost use Rattle.smk_model.specs.Machine.{State, no_counts};
-ghost use Rattle.smk_parse.specs.Readers.{left_at, Stands, Advances};
+ghost use Rattle.smk_parse.specs.Texts.{left_at, Stands, Advances, number_fits};
 
-use crate::front::{Front, front_at};
-use crate::numbers::int_of;
+use crate::front::{Front, front_at, int_of};
 use smk_base::TokenKind;
 use std::marker::Model;
 
@@ -22,8 +20,8 @@ pub struct Reader<'t> {
 
 impl<'t> Model for Reader<'t> {
     ghost use Rattle.std.specs.Prelude.{drop};
-    ghost use Rattle.smk_model.specs.Machine.{State};
-    ghost use Rattle.smk_parse.specs.Readers.{left_at, Stands};
+    ghost use Rattle.smk_parse.specs.Words.{State};
+    ghost use Rattle.smk_parse.specs.Texts.{left_at, Stands};
 
     ghost Value = { State };
 
@@ -80,7 +78,8 @@ impl<'t> Reader<'t> {
 
     /// The bytes of the token in hand.
     pub fn bytes(&self) -> &'t [u8]
-        ensures { result.now ≡ (head_of self.now.rest).text }
+        ensures is { result.now ≡ (head_of self.now.rest).text }
+        ensures fits { (head_of self.now.rest).kind ≡ Number → IsTrue (number_fits result.now) }
     {
         let end = self.place + self.len;
         &self.text[self.place..end]
@@ -92,8 +91,7 @@ impl<'t> Reader<'t> {
         ensures is { result ≡ int_value (head_of self.now.rest).text }
         ensures small { result ≤ℤ pos 9223372036854775807 }
     {
-        let end = self.place + self.len;
-        int_of(&self.text[self.place..end])
+        int_of(self.bytes())
     }
 
     /// On to the next token.
@@ -110,6 +108,16 @@ impl<'t> Reader<'t> {
         ensures { Advances (record { nodes = nodes; compares = compares }) self.old self.new }
     {
         *self = Reader::behind(self.text, self.place + self.len, nodes, compares);
+    }
+
+    /// The token in hand is taken, and says this.
+    pub fn took<T>(&mut self, value: T) -> T
+        requires { IsTrue (is_more (head_of self.old.rest).kind) }
+        ensures taken { Advances self.old.counts self.old self.new }
+        ensures is { result ≡ value }
+    {
+        self.advance();
+        value
     }
 
     /// The number of nodes so far.

@@ -1,12 +1,12 @@
 ghost use Rattle.std.specs.Prelude.{◌≡◌, ◌≤◌, length, take, IfSome, IfNone};
-ghost use Rattle.smk_model.specs.Lines.{without_cr};
-ghost use Rattle.smk_parse.specs.Spans.{Cuts};
+ghost use Rattle.smk_parse.specs.Words.{without_cr};
+ghost use Rattle.smk_parse.specs.Texts.{Cuts};
 
 use crate::front::line_len;
 use smk_base::LineSpan;
 
 /// How far the line goes without a carriage return as its last byte.
-#[tactic(auto, using(crate::proofs::Cutting::cr_kept, crate::proofs::Cutting::no_cr_kept, crate::proofs::Cutting::none_kept))]
+#[tactic(auto, using(crate::proofs::Texts::cr_kept, crate::proofs::Texts::no_cr_kept, crate::proofs::Texts::none_kept))]
 fn kept_len(line: &[u8]) -> usize
     ensures is { take result line.now ≡ without_cr line.now }
     ensures within { result ≤ length line.now }
@@ -19,7 +19,7 @@ fn kept_len(line: &[u8]) -> usize
 }
 
 /// The line of a script that begins at this place, without its line feed and without one carriage return before it. None at the end of the script. It takes no memory.
-#[tactic(auto, using(crate::proofs::Cutting::cuts_slice))]
+#[tactic(auto, using(crate::proofs::Texts::cuts_slice))]
 pub fn line_at(script: &[u8], from: usize) -> Option<LineSpan>
     requires { from ≤ length script.now }
     ensures none { IfNone result (from ≡ length script.now) }

@@ -1,8 +1,6 @@
 use Rattle.std.proofs.Common.{[], ◌∷◌, length, map}
-use Rattle.smk_base.specs.TreeImage.{stmt_image}
-use Rattle.smk_model.specs.Machine.{AStmts, book_symbols}
-use Rattle.smk_parse.specs.Tallies.{tally_of}
-use Rattle.smk_parse.specs.Reads.{Comes}
+use Rattle.smk_parse.specs.Words.{stmt_image, AStmts, book_symbols}
+use Rattle.smk_parse.specs.Reads.{tally_of, Comes}
 use Rattle.smk_parse.proofs.Whole.{EndsStmts}
 use Rattle.smk_parse.proofs.book.stmts.Given as goal
 

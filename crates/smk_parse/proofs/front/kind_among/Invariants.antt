@@ -1,6 +1,6 @@
 use Rattle.std.proofs.Common.{◌≡◌, length, map}
 use Rattle.smk_base.specs.declared.token.TokenKind.TheVariants.{Name}
-use Rattle.smk_model.specs.Tokens.{kind_in}
+use Rattle.smk_parse.specs.Words.{kind_in}
 use Rattle.smk_parse.proofs.front.kind_among.Given as goal
 
 abbrev pub invariant-loop-table : goal.invariant-loop-table

@@ -1,32 +1,33 @@
-use Rattle.std.proofs.Common.{◌≡◌, ℕ, ◌<◌, [], ◌∷◌, ap, ◌∙◌, sym, arith}
-use Rattle.std.proofs.lemmas.Bool.{lt-ltb}
-use Rattle.std.proofs.lemmas.Result.{err_from_is_err_and}
+use Rattle.std.proofs.Common.{◌≡◌, ℕ, ◌<◌, [], ◌∷◌, ap, ◌∙◌, sym}
+use Rattle.std.proofs.lemmas.{Bool.lt-ltb, Result.err_from_is_err_and}
+use Rattle.smk_parse.specs.Words.{head_of, Nodes, State, Takes, within, node_more, ASource, AStep, AUnited}
 use Rattle.smk_base.specs.declared.token.TokenKind.TheVariants as kinds
-use Rattle.smk_base.specs.declared.fault.Many.TheVariants.{Nodes}
-use Rattle.smk_model.specs.Tokens.{head_of}
-use Rattle.smk_model.specs.Grammar.{join_step, theta_step}
-use Rattle.smk_model.specs.Machine.{State, Takes, within, node_more, at_step, ASource, AStep, AUnited}
-use Rattle.smk_parse.specs.Readers.{Advances}
-use Rattle.smk_parse.specs.Reads.{Comes}
-use Rattle.smk_parse.proofs.Steps.{first_here, opened, comes_leads, comes_fails}
+use Rattle.smk_model.specs.Machine.{at_step}
+use Rattle.smk_model.specs.Grammar.{join_step, theta_step, union_all_step, union_step}
+use Rattle.smk_parse.specs.Texts.{Advances}
+use Rattle.smk_parse.proofs.Steps.{Opens, opened, open_leads, open_fails, first_here, started_leads, started_fails, united_starts}
 use Rattle.smk_parse.proofs.plan.+plan.Goals as goal
 
 -- a union up to its source
-union_comes : (d : ℕ) (a b c : State) → Advances (node_more a.counts) a b → (head_of a.rest).kind ≡ kinds.Union → a.counts.nodes < 64 → Comes (AUnited d ∷ []) (ASource d ∷ []) b c → Comes (AStep d ∷ []) (ASource d ∷ []) a c
-union_comes d a b c h e f k =
-    let o = opened (AStep d) (AUnited d ∷ []) (node_more a.counts) a b h (ap (at_step a.counts d) e ∙ ap (λ p. within p Nodes (Takes (node_more a.counts) (AUnited d ∷ []))) (lt-ltb a.counts.nodes 64 f)) in
-    record { comes = λ ss. o.opens ss ∙ k.comes ss; fewer = omega (arith, o.fewer, k.fewer) }
+union_opens : (d : ℕ) (a b : State) → Advances (node_more a.counts) a b → (head_of a.rest).kind ≡ kinds.Union → a.counts.nodes < 64 → Opens (AStep d) (AUnited d ∷ []) a b
+union_opens d a b h e f = opened (AStep d) (AUnited d ∷ []) (node_more a.counts) a b h (ap (at_step a.counts d) e ∙ ap (λ p. within p Nodes (Takes (node_more a.counts) (AUnited d ∷ []))) (lt-ltb a.counts.nodes 64 f))
 
-pub step-returns-in_err-right-in-Union-clause-reads : goal.step-returns-in_err-right-in-Union-clause-reads
-step-returns-in_err-right-in-Union-clause-reads t c =
-    let p = err_from_is_err_and c.from_residual-in_err-right-in-Union.result c.from_residual-in_err-right-in-Union.ensures.1 in
-    rw (p.1, p.2) (comes_fails _ (ASource c.args.depth ∷ []) _ c.takes_all-all.new.reader _ (union_comes c.args.depth c.args.reader.now c.take_node-in-Union.new.reader c.takes_all-all.new.reader c.in_ok-take_node-in-Union.ensures.taken (sym c.in-Union.ensures.is) c.in_ok-take_node-in-Union.ensures.few (c.takes_all-all.ensures.reads c.args.depth)) c.in_err-right-in-Union.ensures.reads)
+pub step-returns-in_err-source-in_default-kind : goal.step-returns-in_err-source-in_default-kind
+step-returns-in_err-source-in_default-kind t c =
+    let p = err_from_is_err_and c.from_residual-in_err-source-in_default-kind.result c.from_residual-in_err-source-in_default-kind.ensures.1 in
+    rw (p.1, p.2) (record {
+      reads = open_fails (AStep c.args.depth) (AUnited c.args.depth ∷ []) c.args.reader.now c.take_node-in-Union.new.reader _ (union_opens c.args.depth c.args.reader.now c.take_node-in-Union.new.reader c.in_ok-take_node-in-Union.ensures.taken (sym c.in-Union.ensures.is) c.in_ok-take_node-in-Union.ensures.few) (started_fails (AUnited c.args.depth) (ASource c.args.depth ∷ []) c.take_node-in-Union.new.reader _ c.in_err-source-in_default-kind.ensures.reads c.kind-in-Union.ensures.here (united_starts (λ e. c.in_default-kind.not-All (c.kind-in-Union.ensures.is ∙ e))));
+      is = tt;
+    })
 
-pub step-returns-then-all-clause-reads : goal.step-returns-then-all-clause-reads
-step-returns-then-all-clause-reads t c = comes_leads _ (ASource c.args.depth ∷ []) _ c.takes_all-all.new.reader _ (union_comes c.args.depth c.args.reader.now c.take_node-in-Union.new.reader c.takes_all-all.new.reader c.in_ok-take_node-in-Union.ensures.taken (sym c.in-Union.ensures.is) c.in_ok-take_node-in-Union.ensures.few (c.takes_all-all.ensures.reads c.args.depth)) c.in_ok-right-in-Union.ensures.reads
+pub step-returns-in_ok-source-in_default-kind : goal.step-returns-in_ok-source-in_default-kind
+step-returns-in_ok-source-in_default-kind t c = record {
+  reads = open_leads (AStep c.args.depth) (AUnited c.args.depth ∷ []) c.args.reader.now c.take_node-in-Union.new.reader _ (union_opens c.args.depth c.args.reader.now c.take_node-in-Union.new.reader c.in_ok-take_node-in-Union.ensures.taken (sym c.in-Union.ensures.is) c.in_ok-take_node-in-Union.ensures.few) (started_leads (AUnited c.args.depth) (ASource c.args.depth ∷ []) c.take_node-in-Union.new.reader _ c.in_ok-source-in_default-kind.ensures.reads c.kind-in-Union.ensures.here (united_starts (λ e. c.in_default-kind.not-All (c.kind-in-Union.ensures.is ∙ e))));
+  is = union_step (first_here kinds.Union _ c.args.reader.now c.take_node-in-Union.new.reader c.in_ok-take_node-in-Union.ensures.taken (sym c.in-Union.ensures.is)) c.in_ok-source-in_default-kind.ensures.is;
+}
 
-pub step-returns-else-all-clause-reads : goal.step-returns-else-all-clause-reads
-step-returns-else-all-clause-reads t c = comes_leads _ (ASource c.args.depth ∷ []) _ c.takes_all-all.new.reader _ (union_comes c.args.depth c.args.reader.now c.take_node-in-Union.new.reader c.takes_all-all.new.reader c.in_ok-take_node-in-Union.ensures.taken (sym c.in-Union.ensures.is) c.in_ok-take_node-in-Union.ensures.few (c.takes_all-all.ensures.reads c.args.depth)) c.in_ok-right-in-Union.ensures.reads
+pub step-returns-in_ok-source-in-All-clause-is : goal.step-returns-in_ok-source-in-All-clause-is
+step-returns-in_ok-source-in-All-clause-is t c = union_all_step (first_here kinds.Union _ c.args.reader.now c.take_node-in-Union.new.reader c.in_ok-take_node-in-Union.ensures.taken (sym c.in-Union.ensures.is)) (first_here kinds.All _ c.take_node-in-Union.new.reader c.advance.new.self c.advance.ensures (sym c.in-All.ensures.is)) c.in_ok-source-in-All.ensures.is
 
 pub step-returns-in_ok-pairs-in-Join-clause-is : goal.step-returns-in_ok-pairs-in-Join-clause-is
 step-returns-in_ok-pairs-in-Join-clause-is t c = join_step (first_here kinds.Join _ c.args.reader.now c.take_node.new.reader c.in_ok-take_node-in-Join.ensures.taken (sym c.in-Join.ensures.is)) c.in_ok-right-in-Join.ensures.is c.in_ok-expect-in-Join.ensures.is c.in_ok-pairs-in-Join.ensures.is

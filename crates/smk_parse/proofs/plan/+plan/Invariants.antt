@@ -1,7 +1,5 @@
 use Rattle.std.proofs.Common.{◌+◌, ◌-◌, ◌*◌, [], ◌∷◌, length}
-use Rattle.smk_base.specs.TreeImage.{tree_image}
-use Rattle.smk_model.specs.Grammar.{AreSteps, IsPlan}
-use Rattle.smk_model.specs.Machine.{ASource, ASteps}
+use Rattle.smk_parse.specs.Words.{tree_image, AreSteps, IsPlan, ASource, ASteps}
 use Rattle.smk_parse.proofs.Steps.{IsChain}
 use Rattle.smk_parse.proofs.plan.+plan.Given as goal
 
@@ -15,7 +13,7 @@ abbrev pub decreases-plan : goal.decreases-plan
 decreases-plan l = (32 - l.depth) * 4 + 2
 
 abbrev pub invariant-plan-steps : goal.invariant-plan-steps
-invariant-plan-steps l = IsChain (ASource l.depth ∷ ASteps l.depth ∷ []) (ASteps l.depth) AreSteps IsPlan l.fn.reader l.reader (tree_image l.left.value)
+invariant-plan-steps l = IsChain (ASource l.depth ∷ ASteps l.depth ∷ []) (ASteps l.depth) AreSteps IsPlan l.fn.reader l.reader (tree_image l.input.value)
 
 abbrev pub decreases-plan-steps : goal.decreases-plan-steps
 decreases-plan-steps l = length l.reader.rest

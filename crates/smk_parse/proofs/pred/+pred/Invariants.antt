@@ -1,7 +1,5 @@
 use Rattle.std.proofs.Common.{◌+◌, ◌-◌, ◌*◌, [], ◌∷◌, length}
-use Rattle.smk_base.specs.TreeImage.{pred_image}
-use Rattle.smk_model.specs.Grammar.{AreAnds, IsConj, AreOrs, IsPred}
-use Rattle.smk_model.specs.Machine.{APrim, AnAnds, AnOrs}
+use Rattle.smk_parse.specs.Words.{pred_image, AreAnds, IsConj, AreOrs, IsPred, APrim, AnAnds, AnOrs}
 use Rattle.smk_parse.proofs.Steps.{IsChain}
 use Rattle.smk_parse.proofs.pred.+pred.Given as goal
 

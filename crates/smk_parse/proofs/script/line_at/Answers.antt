@@ -1,4 +1,4 @@
-use Rattle.smk_parse.proofs.Cutting.{cuts_slice}
+use Rattle.smk_parse.proofs.Texts.{cuts_slice}
 use Rattle.smk_parse.proofs.script.line_at.Goals as goal
 
 pub returns-clause-some : goal.returns-clause-some

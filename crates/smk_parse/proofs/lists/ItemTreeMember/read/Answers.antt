@@ -1,7 +1,6 @@
 use Rattle.std.proofs.Common.{[], ◌∷◌, ◌∙◌}
-use Rattle.smk_model.specs.Machine.{AFirst, AnAs, AnItem}
-use Rattle.smk_parse.proofs.Begins.{item_starts}
-use Rattle.smk_parse.proofs.Begins.{started_reads}
+use Rattle.smk_parse.specs.Words.{AFirst, AnAs, AnItem}
+use Rattle.smk_parse.proofs.Steps.{item_starts, started_reads}
 use Rattle.smk_parse.proofs.lists.ItemTreeMember.read.Goals as goal
 
 pub returns-in_default : goal.returns-in_default

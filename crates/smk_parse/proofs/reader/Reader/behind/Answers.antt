@@ -1,7 +1,6 @@
 use Rattle.std.proofs.Common.{List, ◌∙◌, sym, ap}
-use Rattle.smk_model.specs.Tokens.{Token}
-use Rattle.smk_model.specs.Machine.{State, Counts}
-use Rattle.smk_parse.proofs.Streams.{gap_goes, token_goes}
+use Rattle.smk_parse.specs.Words.{Token, State, Counts}
+use Rattle.smk_parse.proofs.Texts.{gap_goes, token_goes}
 use Rattle.smk_parse.proofs.reader.Reader.behind.Goals as goal
 
 abbrev state : Counts → List Token → State

@@ -1,7 +1,7 @@
 use Rattle.std.proofs.Common.{[], ◌∷◌, ◌++◌, length}
-use Rattle.smk_parse.proofs.Steps.{Comes}
-use Rattle.smk_parse.proofs.Listing.{EndsList}
-use Rattle.smk_parse.proofs.listed.listed.Given as goal
+use Rattle.smk_parse.specs.Reads.{Comes}
+use Rattle.smk_parse.proofs.Steps.{EndsList}
+use Rattle.smk_parse.proofs.lists.listed.Given as goal
 
 abbrev pub invariant-commas : goal.invariant-commas
 invariant-commas g l = record {

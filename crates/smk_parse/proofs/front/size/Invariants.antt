@@ -1,7 +1,7 @@
 use Rattle.std.proofs.Common.{◌≡◌, ◌≤◌}
 use Rattle.std.specs.Prelude.{drop, min}
-use Rattle.smk_model.specs.Tokens.{digits_value}
-use Rattle.smk_parse.proofs.numbers.size.Given as goal
+use Rattle.smk_parse.specs.Words.{digits_value}
+use Rattle.smk_parse.proofs.front.size.Given as goal
 
 abbrev pub invariant-loop-digit : goal.invariant-loop-digit
 invariant-loop-digit l = record {

@@ -1,8 +1,7 @@
 use Rattle.std.proofs.Common.{◌≡◌, true}
-use Rattle.smk_model.specs.Tokens.{head_of}
-use Rattle.smk_model.specs.TokenKinds.{same_kind}
-use Rattle.smk_parse.proofs.Single.{token_first}
-use Rattle.smk_parse.proofs.taken.expect.Goals as goal
+use Rattle.smk_parse.specs.Words.{head_of, same_kind}
+use Rattle.smk_parse.proofs.Steps.{token_first}
+use Rattle.smk_parse.proofs.tokens.expect.Goals as goal
 
 pub returns-then-eq-clause-is : goal.returns-then-eq-clause-is
 returns-then-eq-clause-is c =

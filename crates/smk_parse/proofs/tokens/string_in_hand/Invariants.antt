@@ -1,0 +1,7 @@
+use Rattle.std.proofs.Common.{◌≡◌, ◌++◌, false}
+use Rattle.std.specs.Prelude.{drop}
+use Rattle.smk_parse.specs.Words.{head_of, inner, undoubled}
+use Rattle.smk_parse.proofs.tokens.string_in_hand.Given as goal
+
+abbrev pub invariant-loop-b : goal.invariant-loop-b
+invariant-loop-b l = l.value ++ undoubled l.second (drop l.b-index (inner (head_of l.reader.rest).text)) ≡ undoubled false (inner (head_of l.reader.rest).text)

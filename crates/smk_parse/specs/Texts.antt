@@ -1,0 +1,44 @@
+-- What the code holds of a text.
+use Rattle.std.specs.Prelude.{◌≡◌, ℕ, ◌+◌, ◌-◌, ◌<◌, ◌≤◌, ◌==◌, Bool, true, false, List, [], ◌∷◌, take, drop, length, cond, IsTrue}
+use Rattle.smk_parse.specs.Words.{TokenKind, LineSpan, Token, Front, Between, Begins, tokens_from, is_more, head_of, is_i64, digits_value, State, Counts, lines}
+use Rattle.smk_base.specs.declared.token.TokenKind.TheVariants.{Number}
+use Rattle.smk_parse.specs.declared.front.Front as code
+use Rattle.smk_parse.specs.declared.front.Front.TheVariants as fronts
+
+-- what stands at the front of a text
+abbrev pub front_of : code.Front → Front
+front_of (fronts.Between n) = Between n
+front_of (fronts.Begins kind n) = Begins kind n
+
+-- how far it goes: only the end and what can't be read have no bytes
+abbrev pub Within : code.Front → ℕ → Type 0
+Within (fronts.Between n) len = (0 < n) × (n ≤ len)
+Within (fronts.Begins kind n) len = (n ≤ len) × (is_more kind ≡ true → 0 < n)
+
+-- whether the bytes of a number say one in the range of i64
+abbrev pub number_fits : List ℕ → Bool
+number_fits [] = true
+number_fits (b ∷ bs) = cond (b == 45) (is_i64 true (digits_value 0 bs)) (is_i64 false (digits_value 0 (b ∷ bs)))
+
+-- the token in hand, of this many bytes at the front of bs, and those behind it
+abbrev pub left_at : TokenKind → ℕ → ℕ → List ℕ → List Token
+left_at kind at n bs = record { at = at; kind = kind; text = take n bs } ∷ cond (is_more kind) (tokens_from 0 (at + n) (drop n bs)) []
+
+-- where a token lies in a text
+pub record Stands (kind : TokenKind) (place len : ℕ) (text : List ℕ) : Type 0 where
+  pub within : place + len ≤ length text
+  pub some : is_more kind ≡ true → 0 < len
+  pub fits : kind ≡ Number → IsTrue (number_fits (take len (drop place text)))
+
+-- the token in hand is taken, with these counts
+pub record Advances (c : Counts) (a b : State) : Type 0 where
+  pub first : a.rest ≡ head_of a.rest ∷ b.rest
+  pub counted : b.counts ≡ c
+
+-- the script from this place on has this line first, and behind it the lines from the next place on
+pub record Cuts (script : List ℕ) (from : ℕ) (span : LineSpan) : Type 0 where
+  pub starts : span.start ≡ from
+  pub ordered : span.start ≤ span.end
+  pub forward : (span.end ≤ span.next) × (span.start < span.next)
+  pub within : span.next ≤ length script
+  pub cut : lines (drop from script) ≡ take (span.end - span.start) (drop span.start script) ∷ lines (drop span.next script)
