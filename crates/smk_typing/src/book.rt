@@ -31,7 +31,10 @@ fn checked(alloc: Global, stmts: &[Stmt]) -> Result<TypedBook, TypeFault>
     let catalog = draft.into_catalog();
     match added {
         Ok(()) => Ok(TypedBook::of(catalog)),
-        Err(fault) => Err(fault),
+        Err(fault) => {
+            drop(catalog);
+            Err(fault)
+        }
     }
 }
 

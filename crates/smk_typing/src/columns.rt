@@ -5,7 +5,7 @@ ghost use Rattle.smk_model.specs.Names as names;
 ghost use Rattle.smk_model.specs.TypedSteps as steps;
 ghost use Rattle.smk_typing.specs.Answers.{Finds};
 
-use smk_base::{Column, Kind, Operand, Term, TypeFault, Value, Word};
+use smk_base::{Column, Kind, Operand, Term, Text, TypeFault, Value, Word};
 use std::alloc::Global;
 
 /// The place of the column with this name. A row has at most 16 columns, so they are gone through in order.
@@ -28,10 +28,10 @@ pub fn column_named(columns: &[Column], word: &Word) -> Result<(u32, Kind), Type
 }
 
 /// Whether a column has this name.
-pub fn has_column(columns: &[Column], word: &Word) -> bool
-    ensures { result ≡ list_any (names.has_name word.now.name) columns.now }
+pub fn has_column(columns: &[Column], name: &Text) -> bool
+    ensures { result ≡ list_any (names.has_name name.now) columns.now }
 {
-    columns.iter().any(|column| word.name == column.name)
+    columns.iter().any(|column| *name == column.name)
 }
 
 /// Whether two kinds are both ints, of any levels, or both texts.

@@ -1,5 +1,6 @@
-ghost use Rattle.std.specs.Prelude.{◌≡◌, ◌+◌, ◌≤◌, [], length, IfOk, OnOk};
+ghost use Rattle.std.specs.Prelude.{◌≡◌, ◌+◌, ◌≤◌, [], length, Ok, IfOk, OnOk};
 ghost use Rattle.std.specs.List.{list_any};
+ghost use Rattle.smk_base.specs.declared.catalog.BackExtra.TheVariants.{Grouped};
 ghost use Rattle.smk_model.specs.Names.{in_turn, same_name, names_of, kinds_of};
 ghost use Rattle.smk_model.specs.Typing as typing;
 ghost use Rattle.smk_typing.specs.Answers.{Finds};
@@ -95,6 +96,24 @@ pub fn names_and_kinds(alloc: Global, columns: &[Column]) -> Result<(ColNames, K
     Ok((names, kinds))
 }
 
+/// What a backward declaration with a grouping asks for.
+fn grouped(alloc: Global, group: Group) -> Result<BackExtra, TypeFault>
+    ensures { Finds result (Ok (Grouped group.keys group.aggs (names_of group.columns) (kinds_of group.columns))) (λ asked. asked) }
+{
+    match names_and_kinds(alloc, group.columns.as_slice()) {
+        Ok((names, kinds)) => Ok(BackExtra::Grouped {
+            keys: group.keys,
+            aggs: group.aggs,
+            names,
+            kinds,
+        }),
+        Err(fault) => {
+            drop(group);
+            Err(fault)
+        }
+    }
+}
+
 /// What a backward declaration asks for over the columns of its table.
 pub fn typed_extra(alloc: Global, columns: &[Column], extra: &Extra) -> Result<BackExtra, TypeFault>
     requires { length columns.now ≤ 16 }
@@ -108,18 +127,7 @@ pub fn typed_extra(alloc: Global, columns: &[Column], extra: &Extra) -> Result<B
         }
         Extra::Grouped { at, keys, aggs } => {
             let group = typed_group(alloc, columns, *at, keys.as_slice(), aggs.as_slice())?;
-            let Group {
-                keys,
-                aggs,
-                columns,
-            } = group;
-            let (names, kinds) = names_and_kinds(alloc, columns.as_slice())?;
-            Ok(BackExtra::Grouped {
-                keys,
-                aggs,
-                names,
-                kinds,
-            })
+            grouped(alloc, group)
         }
     }
 }

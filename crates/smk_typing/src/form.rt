@@ -4,7 +4,7 @@ ghost use Rattle.smk_typing.specs.Keys.{form_of};
 use smk_base::BackExtra;
 
 /// The form of a backward declaration.
-#[derive(Clone, Copy, Debug, PartialEq, Eq, Hash)]
+#[derive(Clone, Copy, PartialEq, Eq, Hash)]
 pub enum Form {
     Plain,
     By(u32),

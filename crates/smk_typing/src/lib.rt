@@ -10,6 +10,7 @@ mod indexed;
 mod links;
 mod lists;
 mod needs;
+mod places;
 mod plan;
 mod predicate;
 mod sides;

@@ -54,7 +54,7 @@ impl Links {
 
     /// The links after one more of a view on a table to other views.
     pub fn with(
-        mut self,
+        self,
         alloc: Global,
         views: &Indexed<ViewInfo>,
         view: u32,
@@ -63,10 +63,18 @@ impl Links {
     ) -> Result<Links, TypeFault>
         ensures { Finds result (links_after views.now self view table words.now) (λ links. links) }
     {
-        let infos = self.infos.as_slice();
-        let to = linked(alloc, views, infos, &mut self.keys, view, table, words)?;
-        self.infos.push(LinkInfo { view, table, to })?;
-        Ok(self)
+        let Links {
+            mut infos,
+            mut keys,
+        } = self;
+        match add_link(alloc, views, &mut infos, &mut keys, view, table, words) {
+            Ok(()) => Ok(Links { infos, keys }),
+            Err(fault) => {
+                drop(infos);
+                drop(keys);
+                Err(fault)
+            }
+        }
     }
 }
 
@@ -115,4 +123,23 @@ fn linked(
         add_to(views, links, keys, view, table, &mut to, word)?;
     }
     Ok(to)
+}
+
+/// Puts a link of a view on a table to other views last.
+fn add_link(
+    alloc: Global,
+    views: &Indexed<ViewInfo>,
+    infos: &mut LinkInfos,
+    keys: &mut IndexSet<(u32, u32, u32)>,
+    view: u32,
+    table: u32,
+    words: &[Word],
+) -> Result<(), TypeFault>
+    requires { keys.old.keys ≡ map link_key (all_linked infos.old) }
+    ensures links { Finds result (links_after views.now infos.old view table words.now) (λ _. infos.new) }
+    ensures keys { OnOk result (keys.new.keys ≡ map link_key (all_linked infos.new)) }
+{
+    let to = linked(alloc, views, infos.as_slice(), keys, view, table, words)?;
+    infos.push(LinkInfo { view, table, to })?;
+    Ok(())
 }

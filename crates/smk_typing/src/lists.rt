@@ -24,12 +24,12 @@ fn add_named<T: Copy + Drop>(
     ensures after { Finds result (part_after (parts.old, made.old) part name.now kind) (λ _. (parts.new, made.new)) }
     ensures longer { OnOk result (length made.new ≡ length made.old + 1) }
 {
-    if has_column(made.as_slice(), name) {
+    if has_column(made.as_slice(), &name.name) {
         return Err(TypeFault::DuplicateName { at: name.at });
     }
     let name = name.name.copy(alloc)?;
-    parts.push(part)?;
     made.push(Column { name, kind })?;
+    parts.push(part)?;
     Ok(())
 }
 
@@ -162,6 +162,23 @@ fn typed_aggs(
     Ok((aggs, made))
 }
 
+/// A grouping as a whole, at the place of `group`.
+fn whole_group(at: u64, group: Group) -> Result<Group, TypeFault>
+    ensures group { Finds result (steps.whole_group at group.keys group.aggs group.columns) group_of }
+    ensures width { IfOk result (λ group. length group.columns ≤ 16) }
+{
+    let width = group.columns.as_slice().len();
+    if width == 0 {
+        drop(group);
+        return Err(TypeFault::EmptyList { at });
+    }
+    if width > 16 {
+        drop(group);
+        return Err(TypeFault::RowTooWide { at });
+    }
+    Ok(group)
+}
+
 /// A grouping at the place of `group`.
 pub fn typed_group(
     alloc: Global,
@@ -175,18 +192,15 @@ pub fn typed_group(
     ensures width { IfOk result (λ group. length group.columns ≤ 16) }
 {
     let (keys, of_keys) = typed_keys(alloc, columns, words)?;
-    let (aggs, made) = typed_aggs(alloc, columns, of_keys, trees)?;
-    if made.as_slice().is_empty() {
-        return Err(TypeFault::EmptyList { at });
-    }
-    if made.as_slice().len() > 16 {
-        return Err(TypeFault::RowTooWide { at });
-    }
-    Ok(Group {
-        keys,
-        aggs,
-        columns: made,
-    })
+    let (aggs, columns) = typed_aggs(alloc, columns, of_keys, trees)?;
+    whole_group(
+        at,
+        Group {
+            keys,
+            aggs,
+            columns,
+        },
+    )
 }
 
 /// Puts a pair of a join last.

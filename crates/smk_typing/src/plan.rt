@@ -12,6 +12,7 @@ ghost use Rattle.smk_typing.specs.Images.{plan_of};
 use crate::draft::{columns_at, table_named};
 use crate::indexed::Indexed;
 use crate::lists::{typed_group, typed_items, typed_pairs};
+use crate::places::{boxed, boxes, put};
 use crate::predicate::typed_pred;
 use crate::sides::{join_columns, united};
 use crate::typed::{Group, Typed};
@@ -22,17 +23,33 @@ use smk_base::{
 use std::alloc::Global;
 use std::mem;
 
-/// The scan of the table that a word names.
-fn scanned(alloc: Global, tables: &Indexed<TableInfo>, word: &Word) -> Result<Typed, TypeFault>
-    ensures plan { Finds result (typing.typed_plan tables.now (ScanNode word.now)) plan_of }
-    ensures width { IfOk result (λ typed. length typed.columns ≤ 16) }
+/// Puts the scan of the table that a word names in place of what is there.
+fn put_scan(
+    alloc: Global,
+    tables: &Indexed<TableInfo>,
+    word: &Word,
+    typed: &mut Typed,
+) -> Result<(), TypeFault>
+    ensures plan { Finds result (typing.typed_plan tables.now (ScanNode word.now)) (λ _. plan_of typed.new) }
+    ensures width { OnOk result (length typed.new.columns ≤ 16) }
 {
     let number = table_named(tables, word)?;
     let columns = columns_at(alloc, tables, number)?;
-    Ok(Typed {
-        plan: Plan::Scan(number),
-        columns,
-    })
+    put(
+        typed,
+        Typed {
+            plan: Plan::Scan(number),
+            columns,
+        },
+    );
+    Ok(())
+}
+
+/// Takes a plan out of its place, where a scan is left.
+fn taken(plan: &mut Plan) -> Plan
+    ensures { result ≡ plan.old }
+{
+    mem::replace(plan, Plan::Scan(0))
 }
 
 /// Puts a step over a plan, whose columns are those that it hands on. On an error the plan is lost.
@@ -40,20 +57,33 @@ fn apply(alloc: Global, op: Op1, typed: &mut Typed) -> Result<(), TypeFault>
     ensures plan { Finds result (Ok (record { plan = Apply (unary_of op) (expr_of typed.old.plan); columns = typed.old.columns })) (λ _. plan_of typed.new) }
     ensures columns { OnOk result (typed.new.columns ≡ typed.old.columns) }
 {
-    let input = mem::replace(&mut typed.plan, Plan::Scan(0));
-    typed.plan = Plan::One(op, Box::new(alloc, input)?);
-    Ok(())
+    match boxed(alloc, taken(&mut typed.plan)) {
+        Ok(input) => {
+            put(&mut typed.plan, Plan::One(op, input));
+            Ok(())
+        }
+        Err(fault) => {
+            drop(op);
+            Err(fault)
+        }
+    }
 }
 
-/// Puts a step over a plan and a right one; the columns are those that it hands on. On an error the plan is lost.
-fn combine(alloc: Global, op: Op2, typed: &mut Typed, right: Plan) -> Result<(), TypeFault>
-    ensures plan { Finds result (Ok (record { plan = Combine (binary_of op) (expr_of typed.old.plan) (expr_of right); columns = typed.old.columns })) (λ _. plan_of typed.new) }
-    ensures columns { OnOk result (typed.new.columns ≡ typed.old.columns) }
+/// Puts a step over a plan and a right one; the columns are those that it hands on. On an error the plans are lost.
+fn combine(alloc: Global, op: Op2, left: &mut Typed, right: &mut Typed) -> Result<(), TypeFault>
+    ensures plan { Finds result (Ok (record { plan = Combine (binary_of op) (expr_of left.old.plan) (expr_of right.old.plan); columns = left.old.columns })) (λ _. plan_of left.new) }
+    ensures columns { OnOk result (left.new.columns ≡ left.old.columns) }
 {
-    let left = Box::new(alloc, mem::replace(&mut typed.plan, Plan::Scan(0)))?;
-    let right = Box::new(alloc, right)?;
-    typed.plan = Plan::Two(op, left, right);
-    Ok(())
+    match boxes(alloc, taken(&mut left.plan), taken(&mut right.plan)) {
+        Ok((first, second)) => {
+            put(&mut left.plan, Plan::Two(op, first, second));
+            Ok(())
+        }
+        Err(fault) => {
+            drop(op);
+            Err(fault)
+        }
+    }
 }
 
 /// Puts `where` over a typed input.
@@ -79,7 +109,7 @@ fn project(
     ensures width { OnOk result (length left.new.columns ≤ 16) }
 {
     let (items, made) = typed_items(alloc, left.columns.as_slice(), trees)?;
-    left.columns = made;
+    put(&mut left.columns, made);
     if is_distinct {
         apply(alloc, Op1::Distinct(items), left)
     } else {
@@ -104,7 +134,7 @@ fn group(
         aggs,
         columns,
     } = typed_group(alloc, left.columns.as_slice(), at, words, trees)?;
-    left.columns = columns;
+    put(&mut left.columns, columns);
     apply(alloc, Op1::Group(keys, aggs), left)
 }
 
@@ -113,18 +143,22 @@ fn join(
     alloc: Global,
     at: u64,
     left: &mut Typed,
-    right: Typed,
+    right: &mut Typed,
     trees: &[PairTree],
 ) -> Result<(), TypeFault>
     requires left { length left.old.columns ≤ 16 }
-    requires right { length right.columns ≤ 16 }
-    ensures plan { Finds result (steps.joined_plan at trees.now (plan_of left.old) (plan_of right)) (λ _. plan_of left.new) }
+    requires right { length right.old.columns ≤ 16 }
+    ensures plan { Finds result (steps.joined_plan at trees.now (plan_of left.old) (plan_of right.old)) (λ _. plan_of left.new) }
     ensures width { OnOk result (length left.new.columns ≤ 16) }
 {
-    let Typed { plan, columns } = right;
-    let pairs = typed_pairs(alloc, left.columns.as_slice(), columns.as_slice(), trees)?;
-    join_columns(alloc, at, &mut left.columns, columns)?;
-    combine(alloc, Op2::Join(pairs), left, plan)
+    let pairs = typed_pairs(
+        alloc,
+        left.columns.as_slice(),
+        right.columns.as_slice(),
+        trees,
+    )?;
+    join_columns(alloc, at, &mut left.columns, &mut right.columns)?;
+    combine(alloc, Op2::Join(pairs), left, right)
 }
 
 /// Puts `theta` over two typed inputs, at its place.
@@ -132,65 +166,89 @@ fn theta(
     alloc: Global,
     at: u64,
     left: &mut Typed,
-    right: Typed,
+    right: &mut Typed,
     tree: &PredTree,
 ) -> Result<(), TypeFault>
     requires left { length left.old.columns ≤ 16 }
-    requires right { length right.columns ≤ 16 }
-    ensures plan { Finds result (steps.theta_plan at (pred_image tree.now) (plan_of left.old) (plan_of right)) (λ _. plan_of left.new) }
+    requires right { length right.old.columns ≤ 16 }
+    ensures plan { Finds result (steps.theta_plan at (pred_image tree.now) (plan_of left.old) (plan_of right.old)) (λ _. plan_of left.new) }
     ensures width { OnOk result (length left.new.columns ≤ 16) }
 {
-    let Typed { plan, columns } = right;
-    join_columns(alloc, at, &mut left.columns, columns)?;
+    join_columns(alloc, at, &mut left.columns, &mut right.columns)?;
     let pred = typed_pred(alloc, left.columns.as_slice(), tree)?;
-    combine(alloc, Op2::Theta(pred), left, plan)
+    combine(alloc, Op2::Theta(pred), left, right)
 }
 
 /// Puts `product` over two typed inputs, at its place.
-fn product(alloc: Global, at: u64, left: &mut Typed, right: Typed) -> Result<(), TypeFault>
+fn product(alloc: Global, at: u64, left: &mut Typed, right: &mut Typed) -> Result<(), TypeFault>
     requires left { length left.old.columns ≤ 16 }
-    requires right { length right.columns ≤ 16 }
-    ensures plan { Finds result (steps.product_plan at (plan_of left.old) (plan_of right)) (λ _. plan_of left.new) }
+    requires right { length right.old.columns ≤ 16 }
+    ensures plan { Finds result (steps.product_plan at (plan_of left.old) (plan_of right.old)) (λ _. plan_of left.new) }
     ensures width { OnOk result (length left.new.columns ≤ 16) }
 {
-    let Typed { plan, columns } = right;
-    join_columns(alloc, at, &mut left.columns, columns)?;
-    combine(alloc, Op2::Product, left, plan)
+    join_columns(alloc, at, &mut left.columns, &mut right.columns)?;
+    combine(alloc, Op2::Product, left, right)
 }
 
 /// Puts a union over two typed inputs, at its place.
-fn unite(alloc: Global, op: Op2, at: u64, left: &mut Typed, right: Typed) -> Result<(), TypeFault>
+fn unite(
+    alloc: Global,
+    op: Op2,
+    at: u64,
+    left: &mut Typed,
+    right: &mut Typed,
+) -> Result<(), TypeFault>
     requires { length left.old.columns ≤ 16 }
-    ensures plan { Finds result (steps.united_plan (binary_of op) at (plan_of left.old) (plan_of right)) (λ _. plan_of left.new) }
+    ensures plan { Finds result (steps.united_plan (binary_of op) at (plan_of left.old) (plan_of right.old)) (λ _. plan_of left.new) }
     ensures width { OnOk result (length left.new.columns ≤ 16) }
 {
-    let Typed { plan, columns } = right;
-    left.columns = united(alloc, at, left.columns.as_slice(), columns.as_slice())?;
-    combine(alloc, op, left, plan)
-}
-
-/// A plan over the tables so far. Its nodes and its parentheses are few, so the recursion is shallow.
-#[cycle(plan)]
-pub fn typed_plan(
-    alloc: Global,
-    tables: &Indexed<TableInfo>,
-    tree: &Tree,
-) -> Result<Typed, TypeFault>
-    requires kept { KeepsTree (tree_image tree.now) }
-    ensures plan { Finds result (typing.typed_plan tables.now (tree_image tree.now)) plan_of }
-    ensures width { IfOk result (λ typed. length typed.columns ≤ 16) }
-{
-    match tree {
-        Tree::Scan(word) => scanned(alloc, tables, word),
-        Tree::Step { at, input, what } => {
-            let mut typed = typed_plan(alloc, tables, input)?;
-            add_step(alloc, tables, what, *at, &mut typed)?;
-            Ok(typed)
+    match united(alloc, at, left.columns.as_slice(), right.columns.as_slice()) {
+        Ok(columns) => {
+            put(&mut left.columns, columns);
+            combine(alloc, op, left, right)
+        }
+        Err(fault) => {
+            drop(op);
+            Err(fault)
         }
     }
 }
 
-/// Puts a step at its place over a typed input. On a fault nothing is said of the input.
+/// No plan yet, and no columns. It takes no memory.
+pub fn blank(alloc: Global) -> Typed
+    ensures { length result.columns ≡ 0 }
+{
+    Typed {
+        plan: Plan::Scan(0),
+        columns: Columns::new(alloc),
+    }
+}
+
+/// Puts a plan over the tables so far in place of what is there. Its nodes and its parentheses are few, so the recursion is shallow.
+#[cycle(plan)]
+pub fn put_plan(
+    alloc: Global,
+    tables: &Indexed<TableInfo>,
+    tree: &Tree,
+    typed: &mut Typed,
+) -> Result<(), TypeFault>
+    requires kept { KeepsTree (tree_image tree.now) }
+    ensures plan { Finds result (typing.typed_plan tables.now (tree_image tree.now)) (λ _. plan_of typed.new) }
+    ensures width { OnOk result (length typed.new.columns ≤ 16) }
+{
+    match tree {
+        Tree::Scan(word) => put_scan(alloc, tables, word, typed),
+        Tree::Step { at, input, what } => {
+            put_plan(alloc, tables, input, typed)?;
+            let mut right = blank(alloc);
+            let added = add_step(alloc, tables, what, *at, typed, &mut right);
+            drop(right);
+            added
+        }
+    }
+}
+
+/// Puts a step at its place over a typed input, and the plan of its second source in place of the right one. On a fault nothing is said of either.
 #[cycle(plan)]
 fn add_step(
     alloc: Global,
@@ -198,6 +256,7 @@ fn add_step(
     what: &StepTree,
     at: u64,
     left: &mut Typed,
+    right: &mut Typed,
 ) -> Result<(), TypeFault>
     requires kept { KeepsStep (step_image what.now) }
     requires width { length left.old.columns ≤ 16 }
@@ -209,25 +268,25 @@ fn add_step(
         StepTree::Project(items) => project(alloc, false, left, items.as_slice()),
         StepTree::Distinct(items) => project(alloc, true, left, items.as_slice()),
         StepTree::Group(keys, aggs) => group(alloc, at, left, keys.as_slice(), aggs.as_slice()),
-        StepTree::Join(source, pairs) => {
-            let right = typed_plan(alloc, tables, source)?;
-            join(alloc, at, left, right, pairs.as_slice())
-        }
-        StepTree::Theta(source, pred) => {
-            let right = typed_plan(alloc, tables, source)?;
-            theta(alloc, at, left, right, pred)
-        }
-        StepTree::Product(source) => {
-            let right = typed_plan(alloc, tables, source)?;
-            product(alloc, at, left, right)
-        }
-        StepTree::UnionAll(source) => {
-            let right = typed_plan(alloc, tables, source)?;
-            unite(alloc, Op2::UnionAll, at, left, right)
-        }
-        StepTree::Union(source) => {
-            let right = typed_plan(alloc, tables, source)?;
-            unite(alloc, Op2::Union, at, left, right)
-        }
+        StepTree::Join(source, pairs) => match put_plan(alloc, tables, source, right) {
+            Ok(()) => join(alloc, at, left, right, pairs.as_slice()),
+            Err(fault) => Err(fault),
+        },
+        StepTree::Theta(source, pred) => match put_plan(alloc, tables, source, right) {
+            Ok(()) => theta(alloc, at, left, right, pred),
+            Err(fault) => Err(fault),
+        },
+        StepTree::Product(source) => match put_plan(alloc, tables, source, right) {
+            Ok(()) => product(alloc, at, left, right),
+            Err(fault) => Err(fault),
+        },
+        StepTree::UnionAll(source) => match put_plan(alloc, tables, source, right) {
+            Ok(()) => unite(alloc, Op2::UnionAll, at, left, right),
+            Err(fault) => Err(fault),
+        },
+        StepTree::Union(source) => match put_plan(alloc, tables, source, right) {
+            Ok(()) => unite(alloc, Op2::Union, at, left, right),
+            Err(fault) => Err(fault),
+        },
     }
 }

@@ -7,6 +7,7 @@ ghost use Rattle.smk_model.specs.TypedSteps as steps;
 ghost use Rattle.smk_typing.specs.Answers.{Finds};
 
 use crate::columns::{column_named, is_same_sort, term_place, typed_term};
+use crate::places::{boxed, boxes};
 use smk_base::{CmpOp, Column, Pred, PredTree, Term, TypeFault, Word};
 use std::alloc::Global;
 
@@ -24,6 +25,7 @@ fn typed_cmp(
     let (left, left_kind) = column_named(columns, word)?;
     let (right, right_kind) = typed_term(alloc, columns, term)?;
     if !is_same_sort(left_kind, right_kind) {
+        drop(right);
         return Err(TypeFault::KindMismatch {
             at: term_place(term),
         });
@@ -35,8 +37,7 @@ fn typed_cmp(
 fn together(alloc: Global, is_and: bool, left: Pred, right: Pred) -> Result<Pred, TypeFault>
     ensures { Finds result (Ok (cond is_and (Conjunction (formula_of left) (formula_of right)) (Disjunction (formula_of left) (formula_of right)))) formula_of }
 {
-    let left = Box::new(alloc, left)?;
-    let right = Box::new(alloc, right)?;
+    let (left, right) = boxes(alloc, left, right)?;
     if is_and {
         Ok(Pred::And(left, right))
     } else {
@@ -53,17 +54,27 @@ pub fn typed_pred(alloc: Global, columns: &[Column], tree: &PredTree) -> Result<
         PredTree::Cmp(word, op, term) => typed_cmp(alloc, columns, word, *op, term),
         PredTree::And(left, right) => {
             let left = typed_pred(alloc, columns, left)?;
-            let right = typed_pred(alloc, columns, right)?;
-            together(alloc, true, left, right)
+            match typed_pred(alloc, columns, right) {
+                Ok(right) => together(alloc, true, left, right),
+                Err(fault) => {
+                    drop(left);
+                    Err(fault)
+                }
+            }
         }
         PredTree::Or(left, right) => {
             let left = typed_pred(alloc, columns, left)?;
-            let right = typed_pred(alloc, columns, right)?;
-            together(alloc, false, left, right)
+            match typed_pred(alloc, columns, right) {
+                Ok(right) => together(alloc, false, left, right),
+                Err(fault) => {
+                    drop(left);
+                    Err(fault)
+                }
+            }
         }
         PredTree::Not(inner) => {
             let inner = typed_pred(alloc, columns, inner)?;
-            Ok(Pred::Not(Box::new(alloc, inner)?))
+            Ok(Pred::Not(boxed(alloc, inner)?))
         }
     }
 }

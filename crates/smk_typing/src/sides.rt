@@ -1,27 +1,38 @@
 ghost use Rattle.std.specs.Prelude.{◌≡◌, ◌≤◌, ◌++◌, length, map, IfOk, OnOk, Ok};
 ghost use Rattle.std.specs.List.{list_any, list_all, zip};
-ghost use Rattle.smk_model.specs.Names.{has_name, same_sort};
+ghost use Rattle.smk_model.specs.Names.{same_sort};
 ghost use Rattle.smk_model.specs.TypedSteps as steps;
 ghost use Rattle.smk_model.specs.TypedSteps.{united_column};
 ghost use Rattle.smk_typing.specs.Answers.{Finds};
 
-use crate::columns::is_same_sort;
-use smk_base::{Column, Columns, Text, TypeFault};
+use crate::columns::{has_column, is_same_sort};
+use crate::places::put;
+use smk_base::{Column, Columns, TypeFault};
 use std::alloc::Global;
 use std::mem;
-
-/// Whether a column has this name.
-fn is_among(name: &Text, columns: &[Column]) -> bool
-    ensures { result ≡ list_any (has_name name.now) columns.now }
-{
-    columns.iter().any(|column| *name == column.name)
-}
 
 /// Whether a name stands on both sides. A row has at most 16 columns.
 fn share_a_name(lefts: &[Column], rights: &[Column]) -> bool
     ensures { result ≡ steps.share_a_name lefts.now rights.now }
 {
-    lefts.iter().any(|left| is_among(&left.name, rights))
+    lefts.iter().any(|left| has_column(rights, &left.name))
+}
+
+/// The members of a list. It is left empty.
+fn taken(alloc: Global, columns: &mut Columns) -> Vec<Column>
+    ensures { result.items ≡ columns.old }
+{
+    mem::replace(columns, Columns::new(alloc)).into_vec()
+}
+
+/// Puts the right columns behind the left ones.
+fn append(alloc: Global, lefts: &mut Columns, rights: &mut Columns) -> Result<(), TypeFault>
+    ensures columns { Finds result (Ok (lefts.old ++ rights.old)) (λ _. lefts.new) }
+{
+    let mut columns = taken(alloc, lefts);
+    columns.append(&mut taken(alloc, rights))?;
+    put(lefts, Columns::from_vec(columns));
+    Ok(())
 }
 
 /// Puts the right columns behind the left ones, at the place of `join`, `theta` or `product`.
@@ -29,11 +40,11 @@ pub fn join_columns(
     alloc: Global,
     at: u64,
     lefts: &mut Columns,
-    rights: Columns,
+    rights: &mut Columns,
 ) -> Result<(), TypeFault>
     requires left { length lefts.old ≤ 16 }
-    requires right { length rights ≤ 16 }
-    ensures columns { Finds result (steps.joined at lefts.old rights) (λ _. lefts.new) }
+    requires right { length rights.old ≤ 16 }
+    ensures columns { Finds result (steps.joined at lefts.old rights.old) (λ _. lefts.new) }
     ensures width { OnOk result (length lefts.new ≤ 16) }
 {
     if share_a_name(lefts.as_slice(), rights.as_slice()) {
@@ -42,11 +53,7 @@ pub fn join_columns(
     if lefts.as_slice().len() + rights.as_slice().len() > 16 {
         return Err(TypeFault::RowTooWide { at });
     }
-    let mut columns = mem::replace(lefts, Columns::new(alloc)).into_vec();
-    let mut more = rights.into_vec();
-    columns.append(&mut more)?;
-    *lefts = Columns::from_vec(columns);
-    Ok(())
+    append(alloc, lefts, rights)
 }
 
 /// Whether the columns are in each place both ints or both texts, as far as both sides have columns.

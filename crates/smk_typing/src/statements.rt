@@ -15,7 +15,8 @@ use crate::draft::{Draft, columns_at, table_named, view_named};
 use crate::form::Form;
 use crate::indexed::Indexed;
 use crate::links::Links;
-use crate::plan::typed_plan;
+use crate::places::put;
+use crate::plan::{blank, put_plan};
 use crate::typed::Typed;
 use smk_base::{
     Back, BackExtra, Decl, Extra, Fwd, Stmt, TableInfo, Text, Tree, TypeFault, ViewInfo, Word,
@@ -93,21 +94,34 @@ fn typed_view(
     ensures { Finds result (drafts.typed_view tables.now word.now (tree_image tree.now)) view_image }
 {
     let name = word.name.copy(alloc)?;
-    let typed = typed_plan(alloc, tables, tree)?;
-    named_view(alloc, name, typed)
+    let mut typed = blank(alloc);
+    match put_plan(alloc, tables, tree, &mut typed) {
+        Ok(()) => named_view(alloc, name, typed),
+        Err(fault) => {
+            drop(name);
+            drop(typed);
+            Err(fault)
+        }
+    }
 }
 
 /// A typed plan as a view under a name.
 fn named_view(alloc: Global, name: Text, typed: Typed) -> Result<ViewInfo, TypeFault>
     ensures { Finds result (Ok (record { name = name; plan = expr_of typed.plan; names = names_of typed.columns; kinds = kinds_of typed.columns })) view_image }
 {
-    let (names, kinds) = names_and_kinds(alloc, typed.columns.as_slice())?;
-    Ok(ViewInfo {
-        name,
-        plan: typed.plan,
-        names,
-        kinds,
-    })
+    match names_and_kinds(alloc, typed.columns.as_slice()) {
+        Ok((names, kinds)) => Ok(ViewInfo {
+            name,
+            plan: typed.plan,
+            names,
+            kinds,
+        }),
+        Err(fault) => {
+            drop(name);
+            drop(typed);
+            Err(fault)
+        }
+    }
 }
 
 /// The catalog after a `view` statement.
@@ -163,6 +177,7 @@ fn new_back(draft: &mut Draft, at: u64, back: Back) -> Result<(), TypeFault>
     let form = Form::of(&back.extra);
     let key = (back.view, back.table, form);
     if draft.backs.has(&key) {
+        drop(back);
         return Err(TypeFault::RepeatedDeclaration { at });
     }
     draft.backs.push(key, back)?;
@@ -203,6 +218,11 @@ fn link_after(
     let view = view_named(&draft.views, view)?;
     let table = table_named(&draft.tables, table)?;
     let links = mem::replace(&mut draft.links, Links::new(alloc));
-    draft.links = links.with(alloc, &draft.views, view, table, words)?;
-    Ok(())
+    match links.with(alloc, &draft.views, view, table, words) {
+        Ok(links) => {
+            put(&mut draft.links, links);
+            Ok(())
+        }
+        Err(fault) => Err(fault),
+    }
 }

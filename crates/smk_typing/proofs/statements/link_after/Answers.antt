@@ -1,4 +1,4 @@
-use Rattle.std.proofs.Common.{[], List, Ok, ap, refl}
+use Rattle.std.proofs.Common.{◌∙◌, [], List, Ok, ap, sym, refl}
 use Rattle.std.proofs.lemmas.Result.{err_from_is_err_and}
 use Rattle.smk_base.specs.declared.catalog.LinkInfo.{LinkInfo}
 use Rattle.smk_model.specs.Names.{in_turn}
@@ -12,13 +12,12 @@ returns-in_err-table c =
     let p = err_from_is_err_and c.from_residual-in_err-table.result c.from_residual-in_err-table.ensures.1 in
     rw (p.1, p.2) (λ other. rw (c.in_ok-view.ensures, c.in_err-table.ensures.table other) refl)
 
-pub returns-in_err-draft : goal.returns-in_err-draft
-returns-in_err-draft c =
-    let p = err_from_is_err_and c.from_residual-in_err-draft.result c.from_residual-in_err-draft.ensures.1 in
-    rw (p.1, p.2) (λ other. rw (c.in_ok-view.ensures, c.in_ok-table.ensures.table) (first_fails (in_turn (to_after (draft_image c.args.draft.now) c.in_ok-view.view c.in_ok-table.table) [] c.args.words.now) _ _ _ (rw c.replace-links.ensures.value at (c.in_err-draft.ensures other))))
+pub returns-in-Err : goal.returns-in-Err
+returns-in-Err c other =
+    rw (c.in_ok-view.ensures, c.in_ok-table.ensures.table) (first_fails (in_turn (to_after (draft_image c.args.draft.now) c.in_ok-view.view c.in_ok-table.table) [] c.args.words.now) _ _ _ (rw c.replace-links.ensures.value at (c.in-Err.ensures other)))
 
-pub returns : goal.returns
-returns c =
-    let after = rw c.replace-links.ensures.value at c.in_ok-draft.ensures in
+pub returns-in-Ok : goal.returns-in-Ok
+returns-in-Ok c =
+    let after = rw c.replace-links.ensures.value at c.in-Ok.ensures in
     let first = made_of (in_turn (to_after (draft_image c.args.draft.now) c.in_ok-view.view c.in_ok-table.table) [] c.args.words.now) _ _ after in
-    rw (c.in_ok-view.ensures, c.in_ok-table.ensures.table, first.1) (ap (λ (links : List LinkInfo). Ok (record (draft_image c.args.draft.now) { links = links })) (ok_same _ _ first.2))
+    rw (c.in_ok-view.ensures, c.in_ok-table.ensures.table, first.1) (ap (λ (links : List LinkInfo). Ok (record (draft_image c.args.draft.now) { links = links })) (ok_same _ _ first.2 ∙ sym c.put.ensures))

@@ -1,0 +1,10 @@
+use Rattle.std.proofs.Common.{arith}
+use Rattle.std.proofs.lemmas.Grind.{common_steps}
+use Rattle.smk_typing.proofs.NeedsBelow.{needs_below}
+use Rattle.smk_typing.proofs.needs.needed.Goals as goal
+
+pub returns-clause-tables : goal.returns-clause-tables
+returns-clause-tables c = grind (arith, common_steps, needs_below)
+
+pub push-requires-clause-above : goal.push-requires-clause-above
+push-requires-clause-above c = grind (arith, common_steps, needs_below)
