@@ -1,6 +1,7 @@
 use Rattle.std.proofs.Common.{◌<◌, arith, length}
 use Rattle.std.specs.List.{zip}
 use Rattle.std.proofs.lemmas.Slice.Zip.{length-zip, get_or-zip}
+use Rattle.std.proofs.lemmas.Grind.{common_steps}
 use Rattle.smk_keys.proofs.Coded.{IsCoded-more, AreNumbers-coded}
 use Rattle.smk_keys.proofs.Paired.{pair_eq, pair_same}
 use Rattle.smk_keys.proofs.pairs.hashed_pairs.Goals as goal
@@ -14,3 +15,9 @@ loop-i-preserved c =
 
 pub returns : goal.returns
 returns c = rw c.len-count.ensures.len (AreNumbers-coded pair_eq pair_same (0, 0) _ c.loop-i.i _ _ (omega (arith, length-zip c.args.lefts.now c.args.rights.now)) c.loop-i.invariant)
+
+pub overflow_cast-number : goal.overflow_cast-number
+overflow_cast-number c = grind (arith, common_steps)
+
+pub loop-i-init : goal.loop-i-init
+loop-i-init c = grind (arith, common_steps)

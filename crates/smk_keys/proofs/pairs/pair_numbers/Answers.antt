@@ -1,3 +1,5 @@
+use Rattle.std.proofs.Common.{arith}
+use Rattle.std.proofs.lemmas.Grind.{common_steps}
 use Rattle.smk_keys.proofs.Paired.{AreNumbers-places, AreNumbers-right}
 use Rattle.smk_keys.proofs.pairs.pair_numbers.Goals as goal
 
@@ -8,3 +10,6 @@ returns-then-places-limit c =
 
 pub returns-then-left-le1 : goal.returns-then-left-le1
 returns-then-left-le1 c = AreNumbers-right c.args.left.of.items c.args.right.of.items c.args.left.count c.args.right.count c.requires.long c.if-left-le1.true c.requires.left c.requires.right
+
+pub table_places-requires-clause-fits : goal.table_places-requires-clause-fits
+table_places-requires-clause-fits c = grind (arith, common_steps)

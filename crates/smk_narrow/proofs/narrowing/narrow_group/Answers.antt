@@ -1,4 +1,5 @@
-use Rattle.std.proofs.Common.{◌∙◌}
+use Rattle.std.proofs.Common.{◌∙◌, arith}
+use Rattle.std.proofs.lemmas.Grind.{common_steps}
 use Rattle.smk_narrow.proofs.Narrows.{group_narrowed}
 use Rattle.smk_narrow.proofs.narrowing.narrow_group.Goals as goal
 
@@ -17,3 +18,6 @@ returns-clause-rows c =
 pub returns-clause-some : goal.returns-clause-some
 returns-clause-some c =
     (group_narrowed c.args.input.now c.in_ok-rel.rel c.args.keys.now c.in_ok-keys.keys c.args.aggs.now c.in_ok-aggs.aggs c.as_slice-cols.result.now c.width.result c.requires c.width.ensures.count (c.as_slice-cols.ensures.value ∙ c.in_ok-named.ensures.cols) c.in_ok-keys.ensures c.in_ok-aggs.ensures c.in_ok-rel.ensures).some
+
+pub returns-clause-long : goal.returns-clause-long
+returns-clause-long c = grind (arith, common_steps)

@@ -3,6 +3,7 @@ use Rattle.std.specs.List.{flat_map}
 use Rattle.std.proofs.lemmas.Bool.{cases_eq, eq-eqb, ne_eqb}
 use Rattle.std.proofs.lemmas.List.{take_all, map_more}
 use Rattle.std.proofs.lemmas.List.Sums.{sum_by_more}
+use Rattle.std.proofs.lemmas.Grind.{common_steps}
 use Rattle.smk_base.specs.Places.{Lists, members_at, list_at, pairs_of}
 use Rattle.smk_rid.specs.Packing.{one_of}
 use Rattle.smk_rid.proofs.Sets.{is_below}
@@ -52,3 +53,9 @@ of_array-requires-clause-map c =
 
 pub of_array-requires-clause-single : goal.of_array-requires-clause-single
 of_array-requires-clause-single c = rw c.of.ensures (single-ones_of c.loop-i.rids.items)
+
+pub overflow_add-pairs : goal.overflow_add-pairs
+overflow_add-pairs c = grind (arith, common_steps)
+
+pub returns-clause-made : goal.returns-clause-made
+returns-clause-made c = grind (arith, common_steps)

@@ -1,6 +1,7 @@
-use Rattle.std.proofs.Common.{◌≡◌, ◌∙◌, take, map, ap}
+use Rattle.std.proofs.Common.{◌≡◌, ◌∙◌, take, map, ap, arith}
 use Rattle.std.specs.Option.{option_to_list}
 use Rattle.std.proofs.lemmas.List.{take_all}
+use Rattle.std.proofs.lemmas.Grind.{common_steps}
 use Rattle.smk_rid.proofs.Arrays.{IsMap-array_lists, single-options}
 use Rattle.smk_rid.proofs.map.RidMap.from_array.Goals as goal
 
@@ -15,3 +16,9 @@ of_array-requires-clause-single c =
     let whole : take c.loop-rid.rid-index c.args.of.now ≡ c.args.of.now = take_all c.loop-rid.rid-index c.args.of.now c.loop-rid-test.false in
     let lists : c.of.result ≡ map option_to_list c.args.of.now = c.of.ensures ∙ c.loop-rid.invariant.lists ∙ ap (map option_to_list) whole in
     rw lists (single-options c.args.of.now)
+
+pub loop-rid-preserved : goal.loop-rid-preserved
+loop-rid-preserved c = grind (arith, common_steps)
+
+pub returns : goal.returns
+returns c = grind (arith, common_steps)

@@ -1,4 +1,5 @@
 use Rattle.std.proofs.Common.{arith, ◌≡◌, ◌∙◌, ◌∷◌, ℕ, [], List, map, sym, ap}
+use Rattle.std.proofs.lemmas.Grind.{common_steps}
 use Rattle.smk_base.specs.Places.{Lists, upto}
 use Rattle.smk_rid.specs.Packing.{one_of}
 use Rattle.smk_rid.proofs.Arrays.{ones-upto, pairs-own, IsMap-own_lists, single-own}
@@ -27,3 +28,6 @@ returns c =
     let end : c.loop-i.i ≡ c.args.len = omega arith in
     let lists : c.of.result ≡ map (λ i. i ∷ []) (upto c.args.len) = c.of.ensures ∙ ap (map one_of) c.loop-i.invariant ∙ ap (λ n. map one_of (upto n)) end ∙ ones-upto c.args.len (omega arith) in
     c.of_array.ensures ∙ ap (λ (l : List (List ℕ)). let m : Lists = record { lists = l; bound = c.args.len } in m) lists
+
+pub loop-i-preserved : goal.loop-i-preserved
+loop-i-preserved c = grind (arith, common_steps)
