@@ -10,6 +10,7 @@ pub mod Uniting
 pub mod Aggregating
 pub mod Partnering
 pub mod Gathering
+pub mod Selecting
 pub mod Siding
 pub mod Sizing
 pub mod Parting

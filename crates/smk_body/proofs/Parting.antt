@@ -1,16 +1,17 @@
 -- Columns and aggregates that are made in halves.
 use Rattle.std.proofs.Common.{◌≡◌, ◌∙◌, ◌<◌, ◌≤◌, ◌+◌, ℕ, List, [], ◌∷◌, ◌++◌, length, map, take, drop, refl, sym, ap, subst, arith, All, get_or, Option}
+use Rattle.std.specs.List.{AllZip}
 use Rattle.std.proofs.lemmas.List.{map-append, length-map, length-append, get_or-map}
 use Rattle.std.proofs.lemmas.List.Elements.{All-map, All-take, All-drop, All-weaker}
 use Rattle.std.proofs.lemmas.Slice.Zip.{AllZip-long}
 use Rattle.smk_base.specs.declared.plan.Agg.{Agg}
 use Rattle.smk_base.specs.declared.plan.Agg.TheVariants.{Count}
-use Rattle.smk_base.specs.declared.value.Kind.TheVariants.{Text}
+use Rattle.smk_base.specs.declared.value.Kind.TheVariants.{Int, Text}
 use Rattle.smk_base.specs.declared.value.Kind.{Kind}
 use Rattle.smk_base.specs.declared.value.Value.{Value}
 use Rattle.smk_base.specs.declared.plan.Dir.{Dir}
 use Rattle.smk_base.specs.Places.{Lists, upto}
-use Rattle.smk_base.specs.Rels.{Relation, Fits, RowFits, beside_rows, picked, row_in, rows_at}
+use Rattle.smk_base.specs.Rels.{IsWider, Relation, Fits, RowFits, beside_rows, picked, row_in, rows_at}
 use Rattle.smk_keys.specs.Classes.{ClassesImage, classes_of}
 use Rattle.smk_model.specs.Values.{Row}
 use Rattle.smk_model.specs.Plain.{aggregate, firsts, grouped, key_of}
@@ -27,22 +28,16 @@ use Rattle.smk_body.proofs.Besides.{relation, related, beside_each, map_same}
 use Rattle.smk_body.proofs.Classing.{are_numbered}
 use Rattle.smk_body.proofs.Aggregating.{groups_are, map_where}
 
--- halves of columns
-pub lower : {rel : Relation} {places cols low : List ℕ} (n : ℕ) → n ≤ length cols → low ≡ take n cols → length low ≡ n → ArePlacesOf rel places cols → ArePlacesOf rel places low
-lower {rel} {places} {cols} n h e long are = record {
-  columns = rw e (All-take (λ c. c < length rel.kinds) n cols are.columns);
-  few_columns = omega (arith, long, h, are.few_columns);
-  within = are.within;
-  few = are.few;
-}
+-- no kind is narrower than itself
+pub same_wider : (ks : List Kind) → AllZip IsWider ks ks
+same_wider [] = tt
+same_wider (Int level ∷ ks) = (omega arith, same_wider ks)
+same_wider (Text ∷ ks) = (tt, same_wider ks)
 
-pub upper : {rel : Relation} {places cols high : List ℕ} (n : ℕ) → high ≡ drop n cols → length high + n ≡ length cols → ArePlacesOf rel places cols → ArePlacesOf rel places high
-upper {rel} {places} {cols} n e long are = record {
-  columns = rw e (All-drop (λ c. c < length rel.kinds) n cols are.columns);
-  few_columns = omega (arith, long, are.few_columns);
-  within = are.within;
-  few = are.few;
-}
+-- the rows at some places and behind them those at others
+pub rows_behind : (rel : Relation) (places cols low high : List ℕ) (left right : Relation) → places ≡ low ++ high → left ≡ columns_of rel low cols → right ≡ columns_of rel high cols → relation left.kinds (left.rows ++ right.rows) ≡ columns_of rel places cols
+rows_behind rel places cols low high left right e l r =
+    rw (e, l, r) (related refl (sym (ap (map (picked cols)) (map-append (row_in rel.rows) low high) ∙ map-append (picked cols) (rows_at rel.rows low) (rows_at rel.rows high))))
 
 -- columns of each of some members, beside one another
 abbrev pub table : {X Y : Type 0} → (X → Kind) → (Y → X → Value) → List Y → List X → Relation

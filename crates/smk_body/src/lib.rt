@@ -5,6 +5,7 @@ mod aggregates;
 mod body;
 pub mod captured;
 mod classes;
+mod gather;
 mod group;
 mod join;
 mod lists;

@@ -1,13 +1,14 @@
-ghost use Rattle.std.specs.Prelude.{◌≡◌, ◌≤◌, ◌++◌, IfOk, length};
+ghost use Rattle.std.specs.Prelude.{◌≡◌, ◌<◌, ◌≤◌, ◌++◌, IfOk, length};
 ghost use Rattle.smk_base.specs.PlanImage.{formula_of};
-ghost use Rattle.smk_base.specs.Plans.{Selection};
+ghost use Rattle.smk_base.specs.Plans.{Comparison, Selection};
+ghost use Rattle.smk_base.specs.declared.plan.Operand.TheVariants as operands;
 ghost use Rattle.smk_model.specs.Plain.{step1};
 ghost use Rattle.smk_model.specs.Lineage.{meeting};
 ghost use Rattle.smk_model.specs.Kinds.{FormulaFits};
-ghost use Rattle.smk_body.specs.Halves.{meeting_below};
+ghost use Rattle.smk_body.specs.Halves.{ints_below, meeting_below};
 
-use crate::rows::meets_at;
-use smk_base::{Pred, Rel};
+use crate::rows::{compare, meets_at, says};
+use smk_base::{CellRef, CmpOp, Ints, Operand, Pred, Rel, Value};
 use std::alloc::{AllocError, Global};
 
 /// The places of the rows that meet a predicate, from one place up to another: behind those below the first they are those below the second.
@@ -23,9 +24,101 @@ pub fn selected(
     requires within { to ≤ length rel.now.rows }
     ensures { IfOk result (λ v. meeting_below (formula_of pred.now) rel.now.rows from ++ v.items ≡ meeting_below (formula_of pred.now) rel.now.rows to) }
 {
+    if let Pred::Cmp(c, op, operand) = pred {
+        if let Operand::Lit(value) = operand {
+            return compared(alloc, rel, *c, *op, value, from, to);
+        }
+    }
+    rows_selected(alloc, rel, pred, from, to)
+}
+
+// The same of any predicate, row by row.
+fn rows_selected(
+    alloc: Global,
+    rel: &Rel,
+    pred: &Pred,
+    from: u32,
+    to: u32,
+) -> Result<Vec<u32>, AllocError>
+    requires fits { FormulaFits rel.now.kinds (formula_of pred.now) }
+    requires order { from ≤ to }
+    requires within { to ≤ length rel.now.rows }
+    ensures { IfOk result (λ v. meeting_below (formula_of pred.now) rel.now.rows from ++ v.items ≡ meeting_below (formula_of pred.now) rel.now.rows to) }
+{
     let mut places = Vec::new(alloc);
     for i in from..to {
         if meets_at(rel, i, pred) {
+            places.push(i)?;
+        }
+    }
+    Ok(places)
+}
+
+// The same of a column that is compared with a value, so that the predicate is read once.
+fn compared(
+    alloc: Global,
+    rel: &Rel,
+    c: u32,
+    op: CmpOp,
+    value: &Value,
+    from: u32,
+    to: u32,
+) -> Result<Vec<u32>, AllocError>
+    requires fits { FormulaFits rel.now.kinds (Comparison c op (operands.Lit value.now)) }
+    requires order { from ≤ to }
+    requires within { to ≤ length rel.now.rows }
+    ensures { IfOk result (λ v. meeting_below (Comparison c op (operands.Lit value.now)) rel.now.rows from ++ v.items ≡ meeting_below (Comparison c op (operands.Lit value.now)) rel.now.rows to) }
+{
+    let _rows = rel.len();
+    match value.as_cell() {
+        CellRef::Int(n) => match rel.ints(c) {
+            Ints::Small(items) => ints_selected(alloc, items, op, n, from, to),
+            Ints::Wide(_) => cells_selected(alloc, rel, c, op, value, from, to),
+        },
+        CellRef::Text(_) => cells_selected(alloc, rel, c, op, value, from, to),
+    }
+}
+
+// The same, cell by cell.
+fn cells_selected(
+    alloc: Global,
+    rel: &Rel,
+    c: u32,
+    op: CmpOp,
+    value: &Value,
+    from: u32,
+    to: u32,
+) -> Result<Vec<u32>, AllocError>
+    requires column { c < length rel.now.kinds }
+    requires order { from ≤ to }
+    requires within { to ≤ length rel.now.rows }
+    ensures { IfOk result (λ v. meeting_below (Comparison c op (operands.Lit value.now)) rel.now.rows from ++ v.items ≡ meeting_below (Comparison c op (operands.Lit value.now)) rel.now.rows to) }
+{
+    let mut places = Vec::new(alloc);
+    for i in from..to {
+        if says(op, compare(rel.cell(i, c), value.as_cell())) {
+            places.push(i)?;
+        }
+    }
+    Ok(places)
+}
+
+// The places of the small ints, from one place up to another, that stand so to an int.
+fn ints_selected(
+    alloc: Global,
+    items: &[i64],
+    op: CmpOp,
+    n: i128,
+    from: u32,
+    to: u32,
+) -> Result<Vec<u32>, AllocError>
+    requires order { from ≤ to }
+    requires within { to ≤ length items.now }
+    ensures { IfOk result (λ v. ints_below op n items.now from ++ v.items ≡ ints_below op n items.now to) }
+{
+    let mut places = Vec::new(alloc);
+    for i in from..to {
+        if says(op, i128::from(items[i as usize]).cmp(&n)) {
             places.push(i)?;
         }
     }

@@ -1,4 +1,5 @@
-use Rattle.std.proofs.Common.{◌≡◌, ℕ, List, length, subst, IfOk, pos, get_or}
+use Rattle.std.proofs.Common.{◌≡◌, ℕ, List, length, subst, IfOk, pos, get_or, arith}
+use Rattle.std.proofs.lemmas.Grind.{common_steps}
 use Rattle.smk_base.specs.declared.value.Value.TheVariants as values
 use Rattle.smk_model.specs.Values.{value_at}
 use Rattle.smk_model.specs.Lineage.{row_at}
@@ -14,3 +15,6 @@ returns-in-Small-clause-places c =
     (bests_agree c.args.greatest (λ i. values.Int (get_or numbers i (pos 0))) (λ i. value_at (row_at rows i) c.args.c) c.args.classes.now (length numbers) (length rows)
     (ints_long rows c.args.c numbers c.in-Small.ensures) (λ i h. value_is rows c.args.c numbers i c.in-Small.ensures h) c.requires.classes)
     c.best_small.ensures.places
+
+pub best_small-requires-clause-classes : goal.best_small-requires-clause-classes
+best_small-requires-clause-classes c = grind (arith, common_steps)

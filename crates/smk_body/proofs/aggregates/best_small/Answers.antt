@@ -1,4 +1,5 @@
 use Rattle.std.proofs.Common.{◌≡◌, ◌∙◌, ◌<◌, ℕ, length, ap, sym, arith, pos, get_or, cond, set, Vec, Global, rules, to_z, of_z, w64}
+use Rattle.std.proofs.lemmas.Grind.{common_steps}
 use Rattle.smk_base.specs.declared.value.Value.TheVariants as values
 use Rattle.smk_model.proofs.Places.{map_upto}
 use Rattle.smk_model.proofs.Directions.{length_each}
@@ -39,3 +40,6 @@ loop-i-preserved c =
 
 pub returns-clause-within : goal.returns-clause-within
 returns-clause-within c = rw c.loop-i.invariant (bests_below c.args.greatest (λ i. values.Int (get_or c.args.numbers.now i (pos 0))) c.args.classes.now (length c.args.numbers.now) c.loop-i.i c.requires.classes (omega arith))
+
+pub index_mut-requires : goal.index_mut-requires
+index_mut-requires c = grind (arith, common_steps)

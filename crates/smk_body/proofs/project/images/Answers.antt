@@ -1,5 +1,6 @@
 use Rattle.std.proofs.Common.{◌≡◌, ◌∙◌, ◌+◌, ◌++◌, ◌∷◌, [], map, take, length, ap, sym, arith, get_or}
 use Rattle.std.proofs.lemmas.List.{map_more, length-map, length-take-le}
+use Rattle.std.proofs.lemmas.Grind.{common_steps}
 use Rattle.smk_base.specs.declared.plan.Item.TheVariants.{Col}
 use Rattle.smk_base.specs.Rels.{Relation, beside_rows}
 use Rattle.smk_model.specs.Values.{Row}
@@ -37,3 +38,6 @@ beside-requires-clause-few c =
     let items = c.args.items.now in
     let k = c.loop-item.item-index in
     omega (arith, ap (λ (r : Relation). length r.kinds) c.loop-item.invariant, length-map (take k items) (kind_of_item c.args.rel.now.kinds), length-take-le k items (omega arith), ap (λ (r : Relation). length r.kinds) c.in_ok-column.ensures, c.requires.few, c.loop-item-test.true)
+
+pub returns-clause-kinds : goal.returns-clause-kinds
+returns-clause-kinds c = grind (arith, common_steps)

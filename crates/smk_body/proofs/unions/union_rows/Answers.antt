@@ -1,4 +1,5 @@
-use Rattle.std.proofs.Common.{◌≡◌, ◌∙◌, ◌<◌, ◌≤◌, ◌++◌, ◌-◌, List, ℕ, length, map, take, drop, ap, sym, All, subst, get_or}
+use Rattle.std.proofs.Common.{◌≡◌, ◌∙◌, ◌<◌, ◌≤◌, ◌++◌, ◌-◌, List, ℕ, length, map, take, drop, ap, sym, All, subst, get_or, arith}
+use Rattle.std.proofs.lemmas.Grind.{common_steps}
 use Rattle.smk_base.specs.Rels.{Relation, rows_at}
 use Rattle.smk_keys.specs.Classes.{ClassesImage}
 use Rattle.smk_model.specs.Classes.{first_places}
@@ -42,3 +43,9 @@ returns-clause-rows c =
     ∙ ap (λ (z : List ℕ). rows_at L (take k c.firsts-firsts.result.now) ++ rows_at R z) (c.as_slice.ensures.value ∙ c.in_ok-more.ensures ∙ ap (map (λ i. i - c.len-len.result)) (rest_of c.firsts-firsts.result.now k) ∙ ap (λ m. map (λ i. i - m) (drop k c.firsts-firsts.result.now)) n)
     ∙ ap (λ (z : List ℕ). rows_at L (take k z) ++ rows_at R (map (λ i. i - length L) (drop k z))) F
     ∙ sym (sub_split L R (first_places K) k low high) ∙ first_keys K
+
+pub put_behind-requires-clause-few : goal.put_behind-requires-clause-few
+put_behind-requires-clause-few c = grind (arith, common_steps)
+
+pub gather-requires-2-clause-few : goal.gather-requires-2-clause-few
+gather-requires-2-clause-few c = grind (arith, common_steps)
