@@ -1,9 +1,11 @@
 use Rattle.std.proofs.Common.{◌∙◌, sym, ap, length, arith}
 use Rattle.std.proofs.lemmas.List.{length-drop}
 use Rattle.std.proofs.lemmas.Result.{err_from_is_err_and}
+use Rattle.std.proofs.lemmas.Grind.{common_steps}
 use Rattle.smk_base.specs.PlanImage.{binary_of, expr_of}
 use Rattle.smk_model.specs.Plain.{width}
 use Rattle.smk_compose.proofs.Nodes.{right_fits, step_fits, two_evaluated, right_full, step_full}
+use Rattle.smk_compose.proofs.Lists.{behind_both}
 use Rattle.smk_compose.proofs.eval.+node.Goals as goal
 
 pub eval_two-eval_node-requires-2-clause-fits : goal.eval_two-eval_node-requires-2-clause-fits
@@ -39,3 +41,12 @@ eval_two-returns-in_err-made-clause-many g t c =
 pub eval_two-returns-clause-made : goal.eval_two-returns-clause-made
 eval_two-returns-clause-made g t c =
     two_evaluated (binary_of c.args.op.now) (expr_of c.args.left.now) (expr_of c.args.right.now) _ _ _ _ _ _ _ c.in_ok-l.ensures.rest c.in_ok-l.ensures.counted c.in_ok-l.ensures.made c.in_ok-r.ensures.made c.in_ok-made.ensures.rows c.in_ok-made.ensures.kinds c.in_ok-made.ensures.few
+
+pub eval_two-returns-clause-rest : goal.eval_two-returns-clause-rest
+eval_two-returns-clause-rest g t c = grind (arith, common_steps, behind_both)
+
+pub eval_node-returns-in-Two-clause-rest : goal.eval_node-returns-in-Two-clause-rest
+eval_node-returns-in-Two-clause-rest g t c = grind (arith, common_steps)
+
+pub eval_node-eval_two-requires-clause-enough : goal.eval_node-eval_two-requires-clause-enough
+eval_node-eval_two-requires-clause-enough g t c = grind (arith, common_steps)

@@ -1,4 +1,5 @@
 use Rattle.std.proofs.Common.{◌≡◌, ◌∙◌, ◌+◌, ◌<◌, List, length, Option, None, IfOk, IfErr, OnOk, sym, ap, subst, arith}
+use Rattle.std.proofs.lemmas.Grind.{common_steps}
 use Rattle.smk_base.specs.PlanImage.{binary_of, expr_of, unary_of}
 use Rattle.smk_base.specs.Plans.{Expr, Leaf, Apply, Combine}
 use Rattle.smk_model.specs.Composed.{table_at}
@@ -111,3 +112,39 @@ returns-in_ok-kept-in-Scan-clause-none g t c =
     let is : table_at (each_rows c.args.tables.now) c.in-Scan.table ≡ c.index-tables-table.result.rows = scanned c.args.tables.now c.in-Scan.table c.index-tables-table.result low c.index-tables-table.is in
     let same : length (table_at (each_rows c.args.tables.now) c.in-Scan.table) ≡ length c.in_ok-rel-in-Scan.rel.rows = ap (length {A = Row}) is ∙ sym (ap (λ (r : Relation). length r.rows) c.in_ok-rel-in-Scan.ensures.rows) in
     scan_fault (expr_of c.args.plan.now) c.in-Scan.table (each_rows c.args.tables.now) c.args.need.now c.args.number.now e (omega (arith, same, c.len.ensures.keeps.few_rows))
+
+pub run_two-requires-clause-long : goal.run_two-requires-clause-long
+run_two-requires-clause-long c = grind (arith, common_steps)
+
+pub run_two-requires-clause-captured : goal.run_two-requires-clause-captured
+run_two-requires-clause-captured c = grind (arith, common_steps)
+
+pub returns-in_ok-r-in-Two-clause-looks : goal.returns-in_ok-r-in-Two-clause-looks
+returns-in_ok-r-in-Two-clause-looks c = grind (arith, common_steps)
+
+pub returns-in_err-r-in-Two-clause-looks : goal.returns-in_err-r-in-Two-clause-looks
+returns-in_err-r-in-Two-clause-looks c = grind (arith, common_steps)
+
+pub returns-in_ok-kept-in-Scan-clause-rows : goal.returns-in_ok-kept-in-Scan-clause-rows
+returns-in_ok-kept-in-Scan-clause-rows c = grind (arith, common_steps)
+
+pub run_one-requires-clause-captured : goal.run_one-requires-clause-captured
+run_one-requires-clause-captured c = grind (arith, common_steps)
+
+pub returns-in_ok-kept-in-Scan-clause-kinds : goal.returns-in_ok-kept-in-Scan-clause-kinds
+returns-in_ok-kept-in-Scan-clause-kinds c = grind (arith, common_steps)
+
+pub returns-in_err-kept-in-Scan-clause-looks : goal.returns-in_err-kept-in-Scan-clause-looks
+returns-in_err-kept-in-Scan-clause-looks c = grind (arith, common_steps)
+
+pub returns-in_ok-kept-in-Scan-clause-looks : goal.returns-in_ok-kept-in-Scan-clause-looks
+returns-in_ok-kept-in-Scan-clause-looks c = grind (arith, common_steps)
+
+pub returns-in_err-l-in-Two-clause-looks : goal.returns-in_err-l-in-Two-clause-looks
+returns-in_err-l-in-Two-clause-looks c = grind (arith, common_steps)
+
+pub returns-in_err-rel-in-Scan-clause-looks : goal.returns-in_err-rel-in-Scan-clause-looks
+returns-in_err-rel-in-Scan-clause-looks c = grind (arith, common_steps)
+
+pub returns-in_ok-r-in-Two-clause-kinds : goal.returns-in_ok-r-in-Two-clause-kinds
+returns-in_ok-r-in-Two-clause-kinds c = grind (arith, common_steps)

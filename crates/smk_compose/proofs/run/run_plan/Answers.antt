@@ -1,5 +1,6 @@
-use Rattle.std.proofs.Common.{◌≡◌, ◌∙◌, ◌<◌, ℕ, List, length, map, get_or, Option, sym, ap, subst}
+use Rattle.std.proofs.Common.{◌≡◌, ◌∙◌, ◌<◌, ℕ, List, length, map, get_or, Option, sym, ap, subst, arith}
 use Rattle.std.proofs.lemmas.Result.{err_from_is_err_and}
+use Rattle.std.proofs.lemmas.Grind.{common_steps}
 use Rattle.smk_base.specs.PlanImage.{expr_of}
 use Rattle.smk_base.specs.Rels.{Relation}
 use Rattle.smk_model.specs.Values.{Row}
@@ -50,3 +51,6 @@ returns-clause-none g c =
     let same : walk_fault plan T c.as_slice.result.now 0 ≡ first_fault plan (whole plan T) (asked_of T c.args.need.now) =
     ap (λ (n : List Needed). walk_fault plan T n 0) c.as_slice.ensures.needed ∙ walk_whole plan T c.args.need.now c.as_slice.ensures.keeps.directed in
     sym same ∙ c.in_ok-rel.ensures.none
+
+pub fill-requires-clause-long : goal.fill-requires-clause-long
+fill-requires-clause-long g c = grind (arith, common_steps)

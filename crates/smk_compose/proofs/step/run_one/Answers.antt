@@ -50,3 +50,6 @@ returns-clause-none g c =
     let same : map (through m.left) c.args.below ≡ map (through (side1 op L)) c.args.below =
     one_maps op L c.args.below c.wants-want.result m (c.wants-want.ensures ∙ ap want_of c.as_slice.ensures) c.in_ok-rel.ensures.lineage in
     few_fault c.args.node (step1 op L) (map (through (side1 op L)) c.args.below) few ∙ sym (ap (pairs_fault c.args.node) same) ∙ c.in_ok-kept.ensures.none
+
+pub returns-then-is_empty-clause-kept : goal.returns-then-is_empty-clause-kept
+returns-then-is_empty-clause-kept g c = grind (arith, common_steps)

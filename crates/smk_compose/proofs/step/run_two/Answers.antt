@@ -1,5 +1,6 @@
-use Rattle.std.proofs.Common.{◌≡◌, ◌∙◌, List, Option, sym, ap, subst}
+use Rattle.std.proofs.Common.{◌≡◌, ◌∙◌, List, Option, sym, ap, subst, arith}
 use Rattle.std.proofs.lemmas.Result.{err_from_is_err_and}
+use Rattle.std.proofs.lemmas.Grind.{common_steps}
 use Rattle.smk_base.specs.PlanImage.{binary_of}
 use Rattle.smk_model.specs.Plain.{step2}
 use Rattle.smk_model.specs.NodeFaults.{NodeFault}
@@ -45,3 +46,12 @@ returns-in-Ok-clause-none g c =
     let same : together_all m.left (right_of m) c.args.left.kept c.args.right.kept ≡ whole =
     two_maps op L R c.args.left.kept c.args.right.kept (record { left = c.wants.result; right = c.wants-2.result }) m (c.wants.ensures ∙ ap want_of c.as_slice.ensures) (c.wants-2.ensures ∙ ap want_of c.as_slice-2.ensures) c.in-Ok.ensures.lineage in
     few_fault c.args.node (step2 op L R) whole c.in-Ok.ensures.few ∙ sym (ap (pairs_fault c.args.node) same) ∙ c.in_ok-kept-in-Ok.ensures.none
+
+pub returns-then-is_empty-clause-none : goal.returns-then-is_empty-clause-none
+returns-then-is_empty-clause-none g c = grind (arith, common_steps)
+
+pub returns-then-is_empty-clause-kept : goal.returns-then-is_empty-clause-kept
+returns-then-is_empty-clause-kept g c = grind (arith, common_steps)
+
+pub finish_two-requires-clause-meets : goal.finish_two-requires-clause-meets
+finish_two-requires-clause-meets g c = grind (arith, common_steps)

@@ -1,4 +1,5 @@
-use Rattle.std.proofs.Common.{◌≡◌, ◌∙◌, length, map, ap}
+use Rattle.std.proofs.Common.{◌≡◌, ◌∙◌, length, map, ap, arith}
+use Rattle.std.proofs.lemmas.Grind.{common_steps}
 use Rattle.smk_keys.specs.Classes.{ClassesImage}
 use Rattle.smk_model.specs.Plain.{firsts, image}
 use Rattle.smk_model.specs.Classes.{classes}
@@ -21,3 +22,6 @@ returns-clause-lineage c =
     let of : c.into_of.result.items ≡ classes keys = c.into_of.ensures ∙ ap (λ (m : ClassesImage). m.of) c.in_ok-made.ensures.classes in
     let long : c.len.result ≡ length (firsts keys) = c.len.ensures.count ∙ ap length c.in_ok-made.ensures.rows in
     c.of_one.ensures ∙ ap one_side (c.in_ok-side.ensures ∙ by_targets c.args.want of long (one_each.distinction c.args.items.now rows))
+
+pub side_from_classes-requires-clause-few : goal.side_from_classes-requires-clause-few
+side_from_classes-requires-clause-few c = grind (arith, common_steps)

@@ -1,4 +1,5 @@
 use Rattle.std.proofs.Common.{◌≡◌, ◌∙◌, ◌<◌, ◌+◌, ℕ, length, map, get_or, ap, arith}
+use Rattle.std.proofs.lemmas.Grind.{common_steps}
 use Rattle.smk_par.specs.Renumbered.{key_total, numbers_from, row_total}
 use Rattle.smk_par.proofs.Renumbering.{one_put, one_within, put_both, room_high, room_low}
 use Rattle.smk_par.proofs.group.+halves.Goals as goal
@@ -32,3 +33,9 @@ put_classes-returns g t c =
     let keys : c.row_and_key_counts-rows.result.1 ≡ key_total c.split_at.result.0.now = ap (λ (both : ℕ × ℕ). both.1) c.row_and_key_counts-rows.ensures in
     put_both c.args.from c.args.made.now c.split_at.result.0.now c.split_at.result.1.now c.args.table.now c.both_halves.new.front c.both_halves.new.back c.split_at.ensures.by_index.0 c.both_halves.ensures.front
     (c.both_halves.ensures.back ∙ ap (λ (k : ℕ). map (λ i. get_or c.args.table.now i 0) (numbers_from (c.args.from + k) c.split_at.result.1.now)) keys)
+
+pub put_classes-overflow_add-from : goal.put_classes-overflow_add-from
+put_classes-overflow_add-from g t c = grind (arith, common_steps)
+
+pub put_classes-put_piece-requires-clause-long : goal.put_classes-put_piece-requires-clause-long
+put_classes-put_piece-requires-clause-long g t c = grind (arith, common_steps)

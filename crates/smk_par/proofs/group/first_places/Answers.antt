@@ -1,5 +1,6 @@
 use Rattle.std.proofs.Common.{◌≡◌, ap, length, map, subst, arith, take}
 use Rattle.std.proofs.lemmas.List.{take_all}
+use Rattle.std.proofs.lemmas.Grind.{common_steps}
 use Rattle.smk_model.specs.Plain.{key_of}
 use Rattle.smk_par.specs.Renumbered.{StandFor, numbers_from}
 use Rattle.smk_par.proofs.Cutting.{cut_end}
@@ -27,3 +28,6 @@ returns-clause-numbers c =
     let whole : take c.loop-p.p c.args.made.now ≡ c.args.made.now = take_all c.loop-p.p c.args.made.now (omega (arith, all, c.requires.made.0)) in
     subst (StandFor keys (length rows) places) (ap (numbers_from 0) whole)
     (subst (λ n. StandFor keys n places (numbers_from 0 (take c.loop-p.p c.args.made.now))) (cut_end c.args.workers (length rows) c.loop-p.p c.requires.some all) c.loop-p.invariant.1)
+
+pub returns-clause-keys : goal.returns-clause-keys
+returns-clause-keys c = grind (arith, common_steps)

@@ -1,4 +1,5 @@
 use Rattle.std.proofs.Common.{length, arith}
+use Rattle.std.proofs.lemmas.Grind.{common_steps}
 use Rattle.smk_rid.proofs.Sets.{is_below}
 use Rattle.smk_push.proofs.Rows.{few_places}
 use Rattle.smk_push.proofs.group.group_at.Goals as goal
@@ -8,3 +9,6 @@ rows_of-requires-clause-within c = is_below (length c.args.grouping.now.rel.rows
 
 pub rows_of-requires-clause-few : goal.rows_of-requires-clause-few
 rows_of-requires-clause-few c = omega (arith, few_places (length c.args.grouping.now.rel.rows) c.args.rids.now c.requires.set, c.len-rows.ensures.keeps.few_rows)
+
+pub group_rows-requires-clause-fits : goal.group_rows-requires-clause-fits
+group_rows-requires-clause-fits c = grind (arith, common_steps)

@@ -1,6 +1,7 @@
 use Rattle.std.proofs.Common.{◌∙◌, ◌<◌, ◌++◌, take, length, sym, ap, arith}
 use Rattle.std.specs.List.{concat}
 use Rattle.std.proofs.lemmas.List.Elements.{All-append}
+use Rattle.std.proofs.lemmas.Grind.{common_steps}
 use Rattle.smk_skip.proofs.Orders.{concat_more}
 use Rattle.smk_skip.proofs.order.in_order.Goals as goal
 
@@ -12,3 +13,6 @@ loop-i-preserved c =
       rids = c.in_ok-extend_from_slice.ensures.items ∙ ap (λ z. z ++ c.at.result.now) c.loop-i.invariant.rids ∙ ap (λ z. concat (take c.loop-i.i L) ++ z) c.at.ensures.rids ∙ sym (concat_more L c.loop-i.i low);
       below = rw c.in_ok-extend_from_slice.ensures.items (All-append (λ rid. rid < c.args.lists.now.bound) c.loop-i.made.items c.at.result.now c.loop-i.invariant.below c.at.ensures.below);
     }
+
+pub returns-clause-rids : goal.returns-clause-rids
+returns-clause-rids c = grind (arith, common_steps)

@@ -1,7 +1,8 @@
-use Rattle.std.proofs.Common.{◌≡◌, ◌∙◌, ◌<◌, ℕ, ap}
+use Rattle.std.proofs.Common.{◌≡◌, ◌∙◌, ◌<◌, ℕ, ap, arith}
 use Rattle.std.specs.List.{flat_map, All}
 use Rattle.std.proofs.lemmas.List.{take_all}
 use Rattle.std.proofs.lemmas.List.Filters.{dedup_is}
+use Rattle.std.proofs.lemmas.Grind.{common_steps}
 use Rattle.smk_base.specs.Places.{has, places, list_at}
 use Rattle.smk_rid.proofs.Sets.{set_rises}
 use Rattle.smk_rid.proofs.Rising.{set_of_sorted}
@@ -22,3 +23,6 @@ returns c =
     c.from_vec.ensures
     ∙ set_of_sorted c.loop-mark.made.items c.sort_unstable.new.self.items c.dedup.new.self.items c.args.bound c.sort_unstable.ensures.permutation c.sort_unstable.ensures.sorted (dedup_is _ _ _ c.dedup.ensures.filtered) low
     ∙ ap (λ z. places (has z) c.args.bound) made
+
+pub loop-mark-preserved : goal.loop-mark-preserved
+loop-mark-preserved c = grind (arith, common_steps)

@@ -1,5 +1,6 @@
 use Rattle.std.proofs.Common.{◌≡◌, ◌∙◌, ℕ, List, length, ap, arith, filter, refl}
 use Rattle.std.specs.List.{concat}
+use Rattle.std.proofs.lemmas.Grind.{common_steps}
 use Rattle.smk_base.specs.Places.{Lists, places, inverted}
 use Rattle.smk_model.specs.Locals.{singles}
 use Rattle.smk_skip.proofs.Orders.{once}
@@ -42,3 +43,9 @@ returns-clause-once c t =
     let made = are_valued c.args.rel.now.rows c.args.col classes c.in_ok-classes.ensures in
     let lists : c.in_ok-lists.lists.lists ≡ (inverted (singles classes.of (length classes.firsts))).lists = ap (λ (m : Lists). m.lists) c.in_ok-lists.ensures ∙ rw (c.of.ensures, c.firsts-2.ensures) refl in
     omega (arith, once classes.of (length classes.firsts) t, ap (λ (z : List (List ℕ)). length (filter t (concat z))) lists, ap (λ n. length (places t n)) made.long)
+
+pub returns-clause-bound : goal.returns-clause-bound
+returns-clause-bound c = grind (arith, common_steps)
+
+pub turned_lists-requires-clause-few : goal.turned_lists-requires-clause-few
+turned_lists-requires-clause-few c = grind (arith, common_steps)

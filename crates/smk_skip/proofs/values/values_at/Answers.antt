@@ -1,6 +1,7 @@
 use Rattle.std.proofs.Common.{◌≡◌, ◌∙◌, ◌<◌, ◌++◌, ◌∷◌, [], List, cond, take, length, sym, ap, arith, get_or, false}
 use Rattle.std.specs.List.{list_any}
 use Rattle.std.proofs.lemmas.List.{map_more}
+use Rattle.std.proofs.lemmas.Grind.{common_steps}
 use Rattle.smk_base.specs.declared.value.Value.{Value}
 use Rattle.smk_base.specs.Values.{value_eq}
 use Rattle.smk_model.specs.Values.{value_at}
@@ -24,3 +25,6 @@ loop-rid-preserved c =
     ∙ ap (λ (z : List Value). z ++ x ∷ []) c.loop-rid.invariant
     ∙ ap (λ (v : Value). values_in rows c.args.col (take i rids) ++ v ∷ []) is
     ∙ sym (map_more (λ rid. value_at (row_at rows rid) c.args.col) rids i 0 low)
+
+pub returns : goal.returns
+returns c = grind (arith, common_steps)

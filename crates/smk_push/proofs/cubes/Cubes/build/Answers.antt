@@ -1,4 +1,5 @@
 use Rattle.std.proofs.Common.{◌≡◌, ◌∙◌, ◌<◌, All, length, slice_index_or, [], refl, sym, ap, subst, arith}
+use Rattle.std.proofs.lemmas.Grind.{common_steps}
 use Rattle.smk_base.specs.Rels.{Relation}
 use Rattle.smk_push.specs.Cubes.{cube_of}
 use Rattle.smk_push.proofs.Rows.{one_more, same_cube}
@@ -21,3 +22,6 @@ loop-mark-preserved g c =
     rw (all_is, c.as_slice.ensures, c.as_slice-2.ensures, c.at.ensures.rids) refl in
     c.in_ok-push.ensures.items
     ∙ one_more (cube_of table c.args.keys.now c.args.aggs.now) lists mark c.loop-mark.groups.items c.in_ok-made.made inside c.loop-mark.invariant (c.in_ok-made.ensures ∙ same ∙ named)
+
+pub returns-clause-groups : goal.returns-clause-groups
+returns-clause-groups g c = grind (arith, common_steps)

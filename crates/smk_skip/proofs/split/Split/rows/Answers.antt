@@ -1,4 +1,5 @@
-use Rattle.std.proofs.Common.{◌≡◌, ◌∙◌, pos, sym, subst}
+use Rattle.std.proofs.Common.{◌≡◌, ◌∙◌, pos, sym, subst, arith}
+use Rattle.std.proofs.lemmas.Grind.{common_steps}
 use Rattle.smk_base.specs.Values.{value_eq}
 use Rattle.smk_model.proofs.Places.{no_place}
 use Rattle.std.proofs.lemmas.Result.{IfOk-weaker}
@@ -39,3 +40,9 @@ returns-in-None-clause-rids c =
 
 pub returns-in-None-clause-set : goal.returns-in-None-clause-set
 returns-in-None-clause-set c = rw c.new.ensures (no_place c.args.self.now.map.bound)
+
+pub joined_runs-requires-clause-marks : goal.joined_runs-requires-clause-marks
+joined_runs-requires-clause-marks c = grind (arith, common_steps)
+
+pub at-rids-requires : goal.at-rids-requires
+at-rids-requires c = grind (arith, common_steps)
