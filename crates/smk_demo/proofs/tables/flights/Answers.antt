@@ -1,4 +1,5 @@
-use Rattle.std.proofs.Common.{◌∙◌, ◌++◌, ap, sym, codes}
+use Rattle.std.proofs.Common.{◌∙◌, ◌++◌, ap, sym, codes, arith}
+use Rattle.std.proofs.lemmas.Grind.{common_steps}
 use Rattle.smk_model.specs.Texts.{record_line}
 use Rattle.smk_model.specs.Demo.{flight, flight_header}
 use Rattle.smk_model.proofs.DemoTexts.{flight_header_line}
@@ -10,3 +11,6 @@ loop-i-init c = c.in_ok-extend_from_slice.ensures.items ∙ (ap (λ x. x ++ code
 
 pub loop-i-preserved : goal.loop-i-preserved
 loop-i-preserved c = c.in_ok-add_flight.ensures ∙ (ap (λ x. x ++ record_line (flight c.loop-i.i)) c.loop-i.invariant ∙ sym (records_more flight_header flight c.loop-i.i))
+
+pub returns : goal.returns
+returns c = grind (arith, common_steps)

@@ -1,4 +1,5 @@
-use Rattle.std.proofs.Common.{◌∙◌, ◌<◌, ℕ, List, All, ap, length, sym, subst}
+use Rattle.std.proofs.Common.{◌∙◌, ◌<◌, ℕ, List, All, ap, length, sym, subst, arith}
+use Rattle.std.proofs.lemmas.Grind.{common_steps}
 use Rattle.smk_base.specs.Picks.{IsAscending}
 use Rattle.smk_base.specs.Places.{Lists}
 use Rattle.smk_session.proofs.Rids.{rids_ascend, rids_low}
@@ -16,3 +17,6 @@ fetch_rids-requires-clause-inside g c =
     subst (λ (l : List ℕ). All (λ rid. rid < n) l) (sym c.as_slice.ensures)
     (rids_low split.split.map.bound n c.in_ok-rids.rids c.in_ok-rids.ensures.set
     (ap (λ (m : Lists). m.bound) (c.requires.splits map c.args.name.now split c.in_ok-map.ensures c.in_ok-split.ensures.gives) ∙ c.requires.backs map c.in_ok-map.ensures))
+
+pub returns-clause-gives : goal.returns-clause-gives
+returns-clause-gives g c = grind (arith, common_steps)

@@ -1,4 +1,5 @@
 use Rattle.std.proofs.Common.{ap, arith, get_or}
+use Rattle.std.proofs.lemmas.Grind.{common_steps}
 use Rattle.smk_base.specs.Rels.{Relation}
 use Rattle.smk_compose.specs.declared.kept.Run.{Run}
 use Rattle.smk_session.proofs.Opened.{tables_long, views_long}
@@ -19,3 +20,6 @@ returns-clause-held c = record {
   run_is = ap (λ (r : Run). get_or c.args.held.now.views.now c.args.v r) c.index-held-v.is;
   rows_are = ap (λ (r : Relation). get_or c.args.held.now.tables.now c.args.t r) c.index-held-t.is;
 }
+
+pub offset_bounds-held-v : goal.offset_bounds-held-v
+offset_bounds-held-v c = grind (arith, common_steps)

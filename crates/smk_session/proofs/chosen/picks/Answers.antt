@@ -1,4 +1,5 @@
-use Rattle.std.proofs.Common.{◌≡◌, ◌∙◌, ◌++◌, ◌∷◌, ◌+◌, [], subst, sym, List}
+use Rattle.std.proofs.Common.{◌≡◌, ◌∙◌, ◌++◌, ◌∷◌, ◌+◌, [], subst, sym, List, arith}
+use Rattle.std.proofs.lemmas.Grind.{common_steps}
 use Rattle.smk_base.specs.Picks.{ArePicks}
 use Rattle.smk_base.specs.declared.pick.Pick.{Pick}
 use Rattle.smk_session.specs.Answers.{picks_chosen, state_at, book_of}
@@ -26,3 +27,6 @@ loop-t-preserved c =
       | in_default w ↦
           rw w.picks-is (pick_none held.catalog.now held.tables.now c.args.brushes.now c.args.w c.loop-t.t c.in_ok-rids.field-0 c.loop-t.picks c.requires.fit c.in_ok-rids.ensures w.in_default.is c.loop-t.invariant)
     ]
+
+pub overflow_cast-t-end : goal.overflow_cast-t-end
+overflow_cast-t-end c = grind (arith, common_steps)

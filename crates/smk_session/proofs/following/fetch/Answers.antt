@@ -1,4 +1,5 @@
 use Rattle.std.proofs.Common.{◌∙◌, ◌≤◌, ◌+◌, List, ap, subst, arith}
+use Rattle.std.proofs.lemmas.Grind.{common_steps}
 use Rattle.smk_base.specs.CatalogImage.{ViewImage}
 use Rattle.smk_model.specs.Values.{Row}
 use Rattle.smk_model.specs.Selection.{rows_in}
@@ -43,3 +44,6 @@ returns-clause-ready g c =
       few = omega (arith, c.view_of.ensures.fits.few);
       fits = leaves_fit held.catalog.now held.tables.now c.in_ok-leaves.leaves c.view_of.result.now c.requires.refresh.held.opened.kinds c.view_of.ensures.fits c.in_ok-leaves.ensures.kinds;
     }
+
+pub fetch_leaves-requires-clause-scans : goal.fetch_leaves-requires-clause-scans
+fetch_leaves-requires-clause-scans g c = grind (arith, common_steps)

@@ -1,5 +1,6 @@
-use Rattle.std.proofs.Common.{All, subst, sym}
+use Rattle.std.proofs.Common.{All, subst, sym, arith}
 use Rattle.std.proofs.lemmas.List.Elements.{All-push}
+use Rattle.std.proofs.lemmas.Grind.{common_steps}
 use Rattle.smk_session.specs.Refreshed.{CanEvaluate, IsFetched, looks_now}
 use Rattle.smk_session.proofs.Linked.{looks_next, looks_so_far}
 use Rattle.smk_session.proofs.Refreshing.{zip_more}
@@ -27,3 +28,9 @@ loop-w-preserved g c =
       ready = subst (All CanEvaluate) (sym c.in_ok-push.ensures.items) (All-push CanEvaluate c.loop-w.all.items _ c.loop-w.invariant.ready c.in_ok-one.ensures.ready);
       looks = looks_next (looks_now r) ws i c.args.steps.now c.loop-w.steps c.fetch.new.steps 0 low c.loop-w.invariant.looks c.in_ok-one.ensures.looks;
     }
+
+pub returns-clause-looks : goal.returns-clause-looks
+returns-clause-looks g c = grind (arith, common_steps)
+
+pub returns-clause-fetched : goal.returns-clause-fetched
+returns-clause-fetched g c = grind (arith, common_steps)

@@ -1,5 +1,6 @@
-use Rattle.std.proofs.Common.{◌∙◌, Ok, ap, sym}
+use Rattle.std.proofs.Common.{◌∙◌, Ok, ap, sym, arith}
 use Rattle.std.proofs.lemmas.Result.{err_from_is_err_and}
+use Rattle.std.proofs.lemmas.Grind.{common_steps}
 use Rattle.smk_model.specs.Replies.{linked_now}
 use Rattle.smk_session.specs.Answers.{content_at}
 use Rattle.smk_session.specs.Refreshed.{book_at, looks_now, state_next}
@@ -49,3 +50,12 @@ loop-w-preserved g c =
       contents = c.in_ok-push.ensures.pushed ∙ mapped_more (content_at (book_at r) (state_next r)) ws i 0 c.loop-w.contents _ low c.loop-w.invariant.contents c.in_ok-one.ensures.content;
       looks = looks_next (looks_now r) ws i c.args.steps.now c.loop-w.steps c.content_now.new.steps 0 low c.loop-w.invariant.looks c.in_ok-made.ensures.looks;
     }
+
+pub returns-clause-linked : goal.returns-clause-linked
+returns-clause-linked g c = grind (arith, common_steps)
+
+pub returns-clause-contents : goal.returns-clause-contents
+returns-clause-contents g c = grind (arith, common_steps)
+
+pub returns-clause-looks : goal.returns-clause-looks
+returns-clause-looks g c = grind (arith, common_steps)

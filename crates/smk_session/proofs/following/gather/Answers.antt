@@ -1,5 +1,6 @@
-use Rattle.std.proofs.Common.{◌∙◌, Ok, ap, sym}
+use Rattle.std.proofs.Common.{◌∙◌, Ok, ap, sym, arith}
 use Rattle.std.proofs.lemmas.Result.{err_from_is_err_and}
+use Rattle.std.proofs.lemmas.Grind.{common_steps}
 use Rattle.smk_model.specs.Replies.{linked_now}
 use Rattle.smk_session.specs.Answers.{content_at}
 use Rattle.smk_session.specs.Refreshed.{IsContent, book_at, state_next}
@@ -38,3 +39,9 @@ loop-w-preserved c =
       contents = c.in_ok-push.ensures.pushed ∙ mapped_more (content_at (book_at r) (state_next r)) ws i 0 c.loop-w.contents _ low c.loop-w.invariant.contents c.in_ok-one.ensures.content;
       left = (zip_next (IsContent r) ws i 0 c.loop-w.rest.items c.first_of-first.new.queue.items c.first_of-first.result low c.loop-w.invariant.left c.first_of-first.ensures).1;
     }
+
+pub returns-clause-linked : goal.returns-clause-linked
+returns-clause-linked c = grind (arith, common_steps)
+
+pub returns-clause-contents : goal.returns-clause-contents
+returns-clause-contents c = grind (arith, common_steps)

@@ -1,4 +1,5 @@
 use Rattle.std.proofs.Common.{◌<◌, length, arith}
+use Rattle.std.proofs.lemmas.Grind.{common_steps}
 use Rattle.smk_model.specs.Looks.{looks_of_back}
 use Rattle.smk_session.specs.Extras.{split_in, cubes_in}
 use Rattle.smk_session.specs.Making.{book_in}
@@ -17,3 +18,12 @@ loop-declared-preserved g c =
       cubes = kept_next (cubes_in book) declarations i declared c.loop-declared.extras.cubes c.put_extra.new.extras.cubes low c.declared-item.is c.loop-declared.invariant.cubes c.in_ok-put_extra.ensures.cubes;
       looks = looks_next (looks_of_back book) declarations i c.args.steps.now c.loop-declared.steps c.put_extra.new.steps declared low c.declared-item.is c.loop-declared.invariant.looks c.put_extra.ensures.looks;
     }
+
+pub returns-in_err-put_extra-clause-looks : goal.returns-in_err-put_extra-clause-looks
+returns-in_err-put_extra-clause-looks g c = grind (arith, common_steps)
+
+pub put_extra-requires-clause-declared : goal.put_extra-requires-clause-declared
+put_extra-requires-clause-declared g c = grind (arith, common_steps)
+
+pub returns-clause-extras : goal.returns-clause-extras
+returns-clause-extras g c = grind (arith, common_steps)

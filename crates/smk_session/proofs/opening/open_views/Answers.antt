@@ -1,6 +1,7 @@
 use Rattle.std.proofs.Common.{◌∙◌, ◌<◌, ◌+◌, ap, length, arith}
 use Rattle.std.proofs.lemmas.List.{length-map}
 use Rattle.std.proofs.lemmas.Result.{err_from_is_err_and}
+use Rattle.std.proofs.lemmas.Grind.{common_steps}
 use Rattle.smk_base.specs.CatalogImage.{view_image}
 use Rattle.smk_base.specs.declared.catalog.Catalog.{Catalog}
 use Rattle.smk_base.specs.declared.catalog.ViewInfo.{ViewInfo}
@@ -44,3 +45,15 @@ loop-v-preserved g c =
       none = none_more (view_fault book) c.loop-v.v c.loop-v.invariant.none c.in_ok-open_view.ensures.none;
       looks = looks_more (looks_of_view book) book.catalog.views c.loop-v.v c.args.steps.now c.loop-v.steps c.open_view.new.steps low c.loop-v.invariant.looks c.open_view.ensures.looks;
     }
+
+pub returns-clause-opened : goal.returns-clause-opened
+returns-clause-opened g c = grind (arith, common_steps)
+
+pub overflow_cast-v-end : goal.overflow_cast-v-end
+overflow_cast-v-end g c = grind (arith, common_steps)
+
+pub returns-clause-none : goal.returns-clause-none
+returns-clause-none g c = grind (arith, common_steps)
+
+pub returns-clause-looks : goal.returns-clause-looks
+returns-clause-looks g c = grind (arith, common_steps)

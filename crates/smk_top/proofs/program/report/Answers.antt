@@ -1,4 +1,5 @@
-use Rattle.std.proofs.Common.{ℕ, List, sym, subst}
+use Rattle.std.proofs.Common.{ℕ, List, sym, subst, arith}
+use Rattle.std.proofs.lemmas.Grind.{common_steps}
 use Rattle.smk_model.specs.Readings.{AreReadingsOf}
 use Rattle.smk_model.proofs.SomeOutcome.{some_reading}
 use Rattle.smk_top.specs.Loaded.{inputs_with}
@@ -14,3 +15,6 @@ pub returns-clause-said : goal.returns-clause-said
 returns-clause-said g c =
     let said = some_reading c.as_slice-script.result.now in
     sayable_pieces _ _ _ _ c.write_report.result (c.write_report.ensures.written said.0 said.1)
+
+pub returns-in_err-session-clause-works : goal.returns-in_err-session-clause-works
+returns-in_err-session-clause-works g c = grind (arith, common_steps)

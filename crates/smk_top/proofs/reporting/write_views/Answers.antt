@@ -1,6 +1,7 @@
 use Rattle.std.proofs.Common.{◌∙◌, ◌<◌, ap, length, refl, arith}
 use Rattle.std.proofs.lemmas.List.{length-map}
 use Rattle.std.proofs.lemmas.Result.{err_from_is_err_and}
+use Rattle.std.proofs.lemmas.Grind.{common_steps}
 use Rattle.smk_base.specs.CatalogImage.{catalog_image, view_image}
 use Rattle.smk_base.specs.declared.catalog.Catalog.{Catalog}
 use Rattle.smk_base.specs.declared.catalog.ViewInfo.{ViewInfo}
@@ -33,3 +34,12 @@ pub returns-in_err-more-clause-written : goal.returns-in_err-more-clause-written
 returns-in_err-more-clause-written g c =
     let p = err_from_is_err_and c.from_residual-in_err-more.result c.from_residual-in_err-more.ensures.1 in
     rw (p.1, p.2) (wants_stop Counts _ _ _ _ _ c.in_err-more.ensures.wants (want_here (text_of_view (workbook_of c.args.session.now)) (catalog_image c.args.session.now.catalog).views c.loop-number.number _ _ c.loop-number.invariant.written))
+
+pub loop-number-preserved : goal.loop-number-preserved
+loop-number-preserved g c = grind (arith, common_steps)
+
+pub returns-clause-counts : goal.returns-clause-counts
+returns-clause-counts g c = grind (arith, common_steps)
+
+pub overflow_cast-number-end : goal.overflow_cast-number-end
+overflow_cast-number-end g c = grind (arith, common_steps)

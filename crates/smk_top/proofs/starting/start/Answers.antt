@@ -1,4 +1,5 @@
-use Rattle.std.proofs.Common.{◌∙◌, ap, map}
+use Rattle.std.proofs.Common.{◌∙◌, ap, map, arith}
+use Rattle.std.proofs.lemmas.Grind.{common_steps}
 use Rattle.smk_base.specs.declared.catalog.Catalog.{Catalog}
 use Rattle.smk_base.specs.declared.catalog.TableInfo.{TableInfo}
 use Rattle.smk_base.specs.declared.catalog.ViewInfo.{ViewInfo}
@@ -9,3 +10,6 @@ returns-in-Err-clause-starts g c =
     c.stop_of.ensures.starts c.args.book c.args.tables.items c.in-Err.ensures.fault
     (c.in_ok-names.ensures.views ∙ ap (λ (b : Catalog). map (λ (view : ViewInfo). view.name) b.views) c.catalog.ensures.value)
     (c.in_ok-names.ensures.tables ∙ ap (λ (b : Catalog). map (λ (table : TableInfo). table.name) b.tables) c.catalog.ensures.value)
+
+pub returns-in-Ok-clause-book : goal.returns-in-Ok-clause-book
+returns-in-Ok-clause-book g c = grind (arith, common_steps)

@@ -1,0 +1,7 @@
+use Rattle.std.proofs.Common.{arith}
+use Rattle.std.proofs.lemmas.Grind.{common_steps}
+use Rattle.smk_report.proofs.FullViews.{full_view}
+use Rattle.smk_report.proofs.refusals.refusal_text.Goals as goal
+
+pub full_text-requires : goal.full_text-requires
+full_text-requires c = grind (arith, common_steps, full_view)
