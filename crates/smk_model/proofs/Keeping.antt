@@ -55,7 +55,7 @@ fits_plus : (size : ℕ) → number_kind false size ≡ kinds.Number → FitsSig
 fits_plus size = cases_on (nat_lt size (2 ^ 63)) (λ b. cond b kinds.Number kinds.Huge ≡ kinds.Number → FitsSigned w64 (pos size)) (λ h e. record { sfits = ltb-true size (2 ^ 63) h }) (λ h e. absurd (cc))
 
 -- what stands at the front is no number out of range
-abbrev Fitting : List ℕ → Front → Type 0
+abbrev pub Fitting : List ℕ → Front → Type 0
 Fitting bs (Between n) = Unit {0}
 Fitting bs (Begins k n) = k ≡ kinds.Number → FitsSigned w64 (int_value (take n bs))
 
@@ -110,7 +110,7 @@ either_fits : (bs : List ℕ) (o : Bool) (f g : Front) → (o ≡ true → Fitti
 either_fits bs true f g h k = h refl
 either_fits bs false f g h k = k refl
 
-front_fits : (bs : List ℕ) → Fitting bs (front bs)
+pub front_fits : (bs : List ℕ) → Fitting bs (front bs)
 unfolding not_number
 front_fits [] = λ e. absurd (cc)
 front_fits (b ∷ bs) =
