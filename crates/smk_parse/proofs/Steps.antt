@@ -1,6 +1,6 @@
 -- How a symbol and the token in hand go on.
 use Rattle.std.specs.Prelude.{Result, Ok, Err, cond, IsTrue, nat_lt}
-use Rattle.smk_parse.specs.Words.{TokenKind, BookFault, Many, TooMany, BadNumber, NoMemory, Token, head_of, tail_of, First, State, Counts, Symbol, Move, Takes, Skips, Wrong, Past, Outside, through, settle, next, or_next, go_on, fault_at, Unexpected, is_more, same_kind, AToken, Columns, NameBytes, within, is_mark, at_first, at_item, at_keys, at_source, at_united, at_column, at_term, at_literal, at_mark, at_marks, AColumn, ALiteral, AnAs, AKeys, AFirst, AnItem, MoreKeys, ASource, AUnited, ATerm, AMarks, AMark, MoreMarks, AreMore, AreListed, at_more, int_value}
+use Rattle.smk_parse.specs.Words.{TokenKind, BookFault, Many, TooMany, BadNumber, NoMemory, Token, head_of, tail_of, First, State, Counts, Symbol, Move, Takes, Skips, Wrong, Past, Outside, through, settle, next, or_next, go_on, fault_at, is_more, same_kind, AToken, Columns, NameBytes, within, is_mark, at_first, at_item, at_keys, at_source, at_united, at_column, at_term, at_literal, at_mark, at_marks, AColumn, ALiteral, AnAs, AKeys, AFirst, AnItem, MoreKeys, ASource, AUnited, ATerm, AMarks, AMark, MoreMarks, AreMore, AreListed, at_more, int_value}
 use Rattle.std.proofs.Common.{◌≡◌, ◌<◌, List, [], ◌∷◌, ◌++◌, length, ap, ◌∙◌, sym, refl, append_assoc, arith, ℕ, ◌+◌, true, false, subst, ℤ, Bool}
 use Rattle.std.proofs.lemmas.Grind.{length_at_push}
 use Rattle.smk_model.proofs.Alike.{same_is}
@@ -36,12 +36,8 @@ parts : (l m n ss : List Symbol) (c : Counts) (ts : List Token) → n ≡ l ++ m
 parts l m n ss c ts e = ap (λ r. through (r ++ ss) c ts) e ∙ ap (λ r. through r c ts) (append_assoc l m ss)
 
 -- a symbol that a token opens, with what is left of it
-pub record Opens (x : Symbol) (l : List Symbol) (a b : State) : Type 0 where
-  pub opens : (ss : List Symbol) → through (x ∷ ss) a.counts a.rest ≡ through (l ++ ss) b.counts b.rest
-  pub fewer : length b.rest < length a.rest
-
-pub opened : (x : Symbol) (l : List Symbol) (c : Counts) (a b : State) → Advances c a b → next a.counts x (head_of a.rest) ≡ Takes c l → Opens x l a b
-opened x l c a b h e = record { opens = λ ss. moves x ss a.counts a.rest b.rest (Takes c l) h.first e ∙ ap (λ d. through (l ++ ss) d b.rest) (sym h.counted); fewer = shrinks c a b h }
+pub opened : (x : Symbol) (l : List Symbol) (c : Counts) (a b : State) → Advances c a b → next a.counts x (head_of a.rest) ≡ Takes c l → Comes (x ∷ []) l a b
+opened x l c a b h e = record { comes = λ ss. moves x ss a.counts a.rest b.rest (Takes c l) h.first e ∙ ap (λ d. through (l ++ ss) d b.rest) (sym h.counted); fewer = omega (arith, shrinks c a b h) }
 
 -- a symbol that is nothing here
 skipped : (x : Symbol) (ss : List Symbol) (c : Counts) (ts : List Token) → ts ≡ head_of ts ∷ tail_of ts → next c x (head_of ts) ≡ Skips → through (x ∷ ss) c ts ≡ through ss c ts
@@ -73,14 +69,8 @@ fail_on l m n a b f h e k = record { stops = λ ss i. parts l m n ss a.counts a.
 pub fail_first : (l m n : List Symbol) (a : State) (f : BookFault) → Fails l a f → n ≡ l ++ m → Fails n a f
 fail_first l m n a f h e = record { stops = λ ss i. parts l m n ss a.counts a.rest e ∙ h.stops (m ++ ss) i }
 
-pub open_leads : (x : Symbol) (l : List Symbol) (a b c : State) → Opens x l a b → Leads l b c → Leads (x ∷ []) a c
-open_leads x l a b c h k = record { goes = λ ss. h.opens ss ∙ k.goes ss; fewer = omega (arith, h.fewer, k.fewer) }
-
-pub open_fails : (x : Symbol) (l : List Symbol) (a b : State) (f : BookFault) → Opens x l a b → Fails l b f → Fails (x ∷ []) a f
-open_fails x l a b f h k = record { stops = λ ss i. h.opens ss ∙ k.stops ss i }
-
-pub open_only : (x : Symbol) (a b : State) → Opens x [] a b → Leads (x ∷ []) a b
-open_only x a b h = record { goes = h.opens; fewer = omega (arith, h.fewer) }
+pub open_only : (x : Symbol) (a b : State) → Comes (x ∷ []) [] a b → Leads (x ∷ []) a b
+open_only x a b h = record { goes = h.comes; fewer = h.fewer }
 
 pub comes_leads : (ls ms : List Symbol) (a b c : State) → Comes ls ms a b → Leads ms b c → Leads ls a c
 comes_leads ls ms a b c h k = record { goes = λ ss. h.comes ss ∙ k.goes ss; fewer = omega (arith, h.fewer, k.fewer) }
@@ -99,11 +89,11 @@ pub list_comes : (l m n : List Symbol) (a b : State) → Leads l a b → n ≡ l
 list_comes l m n a b h e = record { comes = λ ss. parts l m n ss a.counts a.rest e ∙ h.goes (m ++ ss); fewer = h.fewer }
 
 -- the symbols l behind a token, and one more is left
-pub open_comes : (l m : List Symbol) (x y : Symbol) (a b c : State) → Opens x m a b → m ≡ l ++ y ∷ [] → Leads l b c → Comes (x ∷ []) (y ∷ []) a c
-open_comes l m x y a b c o e k = record { comes = λ ss. o.opens ss ∙ parts l (y ∷ []) m ss b.counts b.rest e ∙ k.goes (y ∷ ss); fewer = omega (arith, o.fewer, k.fewer) }
+pub open_comes : (l m : List Symbol) (x y : Symbol) (a b c : State) → Comes (x ∷ []) m a b → m ≡ l ++ y ∷ [] → Leads l b c → Comes (x ∷ []) (y ∷ []) a c
+open_comes l m x y a b c o e k = record { comes = λ ss. o.comes ss ∙ parts l (y ∷ []) m ss b.counts b.rest e ∙ k.goes (y ∷ ss); fewer = omega (arith, o.fewer, k.fewer) }
 
 -- one more in a loop
-pub more_comes : (ls l m : List Symbol) (x y : Symbol) (a b c d : State) → Comes ls (x ∷ []) a b → Opens x m b c → m ≡ l ++ y ∷ [] → Leads l c d → Comes ls (y ∷ []) a d
+pub more_comes : (ls l m : List Symbol) (x y : Symbol) (a b c d : State) → Comes ls (x ∷ []) a b → Comes (x ∷ []) m b c → m ≡ l ++ y ∷ [] → Leads l c d → Comes ls (y ∷ []) a d
 more_comes ls l m x y a b c d h o e k = comes_on ls (x ∷ []) (y ∷ []) a b d h (open_comes l m x y b c d o e k)
 
 -- a symbol that does here what another does, with more behind it
@@ -119,18 +109,9 @@ pub record IsChain {T : Type 0} (ls : List Symbol) (x : Symbol) (AreMore : List 
   pub is : (c : List Token) (whole : T) → AreMore b.rest c tree whole → IsWhole a.rest c whole
 
 -- what one who reads symbol after symbol knows
-pub ruleset in_order = (opened, open_only, open_leads, open_fails, skips, wrong, past, outside, lead_on, fail_on, fail_first, no_memory, first_here)
+pub ruleset in_order = (opened, open_only, comes_leads, comes_fails, skips, wrong, past, outside, lead_on, fail_on, fail_first, no_memory, first_here)
 
-pub ruleset in_loop = (comes_self, comes_on, comes_leads, comes_fails, list_comes, open_comes, more_comes, smaller)
-
--- single tokens
-pub unexpected : (t : Token) → (t.kind ≡ kinds.Bad → ⊥) → (t.kind ≡ kinds.Huge → ⊥) → fault_at t ≡ Unexpected t.at
-unexpected t = by t.kind
-  where
-    by : (k : TokenKind) → (k ≡ kinds.Bad → ⊥) → (k ≡ kinds.Huge → ⊥) → fault_at (record { at = t.at; kind = k; text = t.text }) ≡ Unexpected t.at
-    by kinds.Bad h g = absurd (h refl)
-    by kinds.Huge h g = absurd (g refl)
-    by _ h g = refl
+pub ruleset in_loop = (comes_self, comes_on, list_comes, open_comes, more_comes, smaller)
 
 -- a token of the wanted kind is taken
 pub token_leads : (k : TokenKind) (a b : State) → Advances a.counts a b → same_kind k (head_of a.rest).kind ≡ true → Leads (AToken k ∷ []) a b
@@ -179,9 +160,7 @@ keys_move c ss x y short _ e = absurd (cc)
 
 item_move : (c : Counts) (n : ℕ) (ss : List Symbol) (x y : Move) (short : Bool) (k : TokenKind) → (k ≡ kinds.Bin → ⊥) → or_next (at_item c n short k) ss x ≡ or_next (at_first c n [] short k) (AnAs ∷ ss) y
 item_move c n ss x y short kinds.Bin e = absurd (e refl)
-item_move c n ss x y short kinds.Name e = first_more c n (AnAs ∷ []) ss x y short kinds.Name
-item_move c n ss x y short kinds.Quoted e = first_more c n (AnAs ∷ []) ss x y short kinds.Quoted
-item_move c n ss x y short _ e = refl
+item_move c n ss x y short k e = first_more c n (AnAs ∷ []) ss x y short k
 
 marks_move : (c : Counts) (ss : List Symbol) (x y : Move) (v : ℤ) (k : TokenKind) → (k ≡ kinds.All → ⊥) → or_next (at_marks c v k) ss x ≡ or_next (at_mark c [] v k) (MoreMarks ∷ ss) y
 marks_move c ss x y v kinds.All p = absurd (p refl)
@@ -245,7 +224,7 @@ no_comma c ss _ p = refl
 abbrev pub GoesOn : Symbol → List Symbol → Type 0
 GoesOn x l = (c : Counts) (t : Token) → next c x t ≡ at_more c l t.kind
 
-pub more_opens : (x : Symbol) (l : List Symbol) (a b : State) → GoesOn x l → Advances a.counts a b → (head_of a.rest).kind ≡ kinds.Comma → Opens x l a b
+pub more_opens : (x : Symbol) (l : List Symbol) (a b : State) → GoesOn x l → Advances a.counts a b → (head_of a.rest).kind ≡ kinds.Comma → Comes (x ∷ []) l a b
 more_opens x l a b g h e = opened x l a.counts a b h (g a.counts (head_of a.rest) ∙ ap (at_more a.counts l) e)
 
 pub more_ends : (ls : List Symbol) (x : Symbol) (l : List Symbol) (a b : State) → GoesOn x l → Comes ls (x ∷ []) a b → b.rest ≡ head_of b.rest ∷ tail_of b.rest → ((head_of b.rest).kind ≡ kinds.Comma → ⊥) → Leads ls a b

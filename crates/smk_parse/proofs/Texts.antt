@@ -1,14 +1,12 @@
 -- Bytes, and what stands at their front.
-use Rattle.std.specs.Prelude.{IsTrue, cond, nat_eq, Bool, true, false, pos, neg_ℤ, ◌≤ℤ◌, Option, Some, None, take, drop, length, ◌==◌, ◌&&◌, nat_lt, take_while, not}
-use Rattle.smk_parse.specs.Words.{digits_value, int_value, is_i64, is_ascii_digit, pointwise, TokenKind, Front, Begins, front, Keyword, keywords, kind_in, word_kind, number_kind, minus_front, number_front, string_front, quoted_front, or_equal, unequal_front, symbol_front, is_gap, is_letter, is_word_byte, is_quoted_byte, Between, tokens_from, put, is_more, inner, undoubled, prefix_len, no_line_end, lines, lines_after, without_cr}
+use Rattle.std.specs.Prelude.{cond, nat_eq, Bool, true, false, pos, neg_ℤ, take, drop, length, ◌==◌, take_while, not, FitsSigned}
+use Rattle.smk_parse.specs.Words.{digits_value, TokenKind, Begins, front, Between, tokens_from, put, is_more, undoubled, prefix_len, no_line_end, lines, lines_after, without_cr, w64}
 use Rattle.std.proofs.Common.{◌≡◌, ℕ, zero, suc, ◌+◌, ◌*◌, ◌-◌, ◌<◌, List, [], ◌∷◌, get_or, drop-cons, ap, ◌∙◌, sym, arith, subst, refl, ◌≤◌, ◌++◌, append_assoc, min, append-nil, length-append}
-use Rattle.std.proofs.lemmas.Bool.{ltb-true}
-use Rattle.std.proofs.lemmas.Int.{ints}
 use Rattle.std.proofs.lemmas.List.{drop-drop, length-drop, take_all, length-take, take-take}
 use Rattle.std.proofs.lemmas.List.Folds.{length-prefix_len}
 use Rattle.smk_base.specs.declared.token.TokenKind.TheVariants.{End}
-use Rattle.smk_parse.specs.Texts.{number_fits, left_at, Stands, Cuts}
-use Rattle.smk_base.specs.declared.token.TokenKind.TheVariants as kinds
+use Rattle.smk_model.proofs.Keeping.{Fitting, front_fits}
+use Rattle.smk_parse.specs.Texts.{left_at, Stands, Cuts}
 
 -- a number beyond the top stays beyond it
 pub capped : (n top : ℕ) (ds : List ℕ) → min (digits_value (min n top) ds) top ≡ min (digits_value n ds) top
@@ -24,105 +22,10 @@ one_digit ds i v w top h e =
     let g : i + 1 ≡ suc i = omega arith in
     ap (λ j. min (digits_value w (drop j ds)) top) g ∙ ap (λ m. min (digits_value m (drop (suc i) ds)) top) e ∙ capped (v * 10 + (get_or ds i 0 - 48)) top (drop (suc i) ds) ∙ sym (ap (λ l. min (digits_value v l) top) f)
 
-minus_small : (n : ℕ) → neg_ℤ (pos n) ≤ℤ pos 9223372036854775807
-minus_small zero = omega (arith, ints)
-minus_small (suc n) = omega (arith, ints)
-
--- a number in the range of i64 is at most the greatest
-pub number_small : (text : List ℕ) → IsTrue (number_fits text) → int_value text ≤ℤ pos 9223372036854775807
-number_small [] h = omega (arith, ints)
-number_small (b ∷ bs) h = by (nat_eq b 45) h
-  where
-    by : (o : Bool) → cond o (is_i64 true (digits_value 0 bs)) (is_i64 false (digits_value 0 (b ∷ bs))) ≡ true → cond o (neg_ℤ (pos (digits_value 0 bs))) (pos (digits_value 0 (b ∷ bs))) ≤ℤ pos 9223372036854775807
-    by true g = minus_small (digits_value 0 bs)
-    by false g = let k : digits_value 0 (b ∷ bs) < 9223372036854775808 = ltb-true (digits_value 0 (b ∷ bs)) 9223372036854775808 g in omega (arith, ints, k)
-
-pick : (P : Front → Type 0) (o : Bool) (x y : Front) → (o ≡ true → P x) → (o ≡ false → P y) → P (cond o x y)
-pick P true x y f g = f refl
-pick P false x y f g = g refl
-
-no_number : TokenKind → Bool
-no_number kinds.Number = false
-no_number _ = true
-
-none_number : List Keyword → Bool
-none_number [] = true
-none_number (k ∷ ks) = cond (no_number k.kind) (none_number ks) false
-
-in_none : (ks : List Keyword) (other : TokenKind) (text : List ℕ) → no_number other ≡ true → none_number ks ≡ true → no_number (kind_in ks other text) ≡ true
-unfolding none_number
-in_none [] other text h g = h
-in_none (k ∷ ks) other text h g = by (no_number k.kind) refl g (pointwise nat_eq text k.word) (λ f. in_none ks other text h f)
-  where
-    by : (o : Bool) → no_number k.kind ≡ o → cond o (none_number ks) false ≡ true → (p : Bool) → (none_number ks ≡ true → no_number (kind_in ks other text) ≡ true) → no_number (cond p k.kind (kind_in ks other text)) ≡ true
-    by true e f true rec = e
-    by true e f false rec = rec f
-    by false e f p rec = absurd (cc)
-
-word_no_number : (text : List ℕ) → word_kind text ≡ kinds.Number → ⊥
-unfolding no_number none_number
-word_no_number text e = let f : true ≡ false = sym (in_none keywords kinds.Name text refl refl) ∙ ap no_number e in absurd (cc)
-
-word_other : (n m : ℕ) (text : List ℕ) → Begins (word_kind text) m ≡ Begins kinds.Number n → ⊥
-word_other n m text e = word_no_number text (cc)
-
-number_i64 : (minus : Bool) (v : ℕ) → number_kind minus v ≡ kinds.Number → is_i64 minus v ≡ true
-number_i64 minus v e = by (is_i64 minus v) e
-  where
-    by : (o : Bool) → cond o kinds.Number kinds.Huge ≡ kinds.Number → o ≡ true
-    by true e = refl
-    by false e = absurd (cc)
-
-string_other : (n : ℕ) (o : Option ℕ) → string_front o ≡ Begins kinds.Number n → ⊥
-string_other n None e = absurd (cc)
-string_other n (Some m) e = absurd (cc)
-
-quoted_other : (n k : ℕ) (bs : List ℕ) → quoted_front k bs ≡ Begins kinds.Number n → ⊥
-quoted_other n k [] e = absurd (cc)
-quoted_other n k (b ∷ bs) e = pick (λ f. f ≡ Begins kinds.Number n → ⊥) (b == 96 && nat_lt 0 k) (Begins kinds.Quoted (k + 2)) (Begins kinds.Bad 0) (λ _ e. absurd (cc)) (λ _ e. absurd (cc)) e
-
-or_equal_other : (n : ℕ) (k j : TokenKind) (bs : List ℕ) → (k ≡ kinds.Number → ⊥) → (j ≡ kinds.Number → ⊥) → or_equal k j bs ≡ Begins kinds.Number n → ⊥
-or_equal_other n k j [] p q e = p (cc)
-or_equal_other n k j (b ∷ bs) p q e = pick (λ f. f ≡ Begins kinds.Number n → ⊥) (b == 61) (Begins j 2) (Begins k 1) (λ _ e. q (cc)) (λ _ e. p (cc)) e
-
-unequal_other : (n : ℕ) (bs : List ℕ) → unequal_front bs ≡ Begins kinds.Number n → ⊥
-unequal_other n [] e = absurd (cc)
-unequal_other n (b ∷ bs) e = pick (λ f. f ≡ Begins kinds.Number n → ⊥) (b == 61) (Begins kinds.NotEqual 2) (Begins kinds.Bad 0) (λ _ e. absurd (cc)) (λ _ e. absurd (cc)) e
-
-symbol_other : (n b : ℕ) → symbol_front b ≡ Begins kinds.Number n → ⊥
-symbol_other n b =
-    let P : Front → Type 0 = λ f. f ≡ Begins kinds.Number n → ⊥ in
-    pick P (b == 44) _ _ (λ _ e. absurd (cc)) (λ _. pick P (b == 40) _ _ (λ _ e. absurd (cc)) (λ _. pick P (b == 41) _ _ (λ _ e. absurd (cc))
-    (λ _. pick P (b == 123) _ _ (λ _ e. absurd (cc)) (λ _. pick P (b == 125) _ _ (λ _ e. absurd (cc)) (λ _. pick P (b == 124) _ _ (λ _ e. absurd (cc))
-    (λ _. pick P (b == 61) _ _ (λ _ e. absurd (cc)) (λ _ e. absurd (cc))))))))
-
-number_here : (b n k : ℕ) (bs : List ℕ) → (b == 45) ≡ false → number_front (b ∷ bs) (k + 1) ≡ Begins kinds.Number n → IsTrue (number_fits (take n (b ∷ bs)))
-number_here b n k bs h e =
-    let m : k + 1 ≡ n = cc in
-    let s : k + 1 ≡ suc k = omega arith in
-    let f : number_kind false (digits_value 0 (take (k + 1) (b ∷ bs))) ≡ kinds.Number = cc in
-    let g : is_i64 false (digits_value 0 (take (suc k) (b ∷ bs))) ≡ true = subst (λ j. is_i64 false (digits_value 0 (take j (b ∷ bs))) ≡ true) s (number_i64 false _ f) in
-    subst (λ j. number_fits (take j (b ∷ bs)) ≡ true) (sym s ∙ m) (ap (λ o. cond o (is_i64 true (digits_value 0 (take k bs))) (is_i64 false (digits_value 0 (b ∷ take k bs)))) h ∙ g)
-
-minus_here : (b n k : ℕ) (bs : List ℕ) → (b == 45) ≡ true → minus_front bs k ≡ Begins kinds.Number n → IsTrue (number_fits (take n (b ∷ bs)))
-minus_here b n k bs h = pick (λ f. f ≡ Begins kinds.Number n → IsTrue (number_fits (take n (b ∷ bs)))) (k == 0) (Begins kinds.Bad 0) (Begins (number_kind true (digits_value 0 (take k bs))) (k + 1)) (λ _ e. absurd (cc)) (λ _. fits)
-  where
-    fits : Begins (number_kind true (digits_value 0 (take k bs))) (k + 1) ≡ Begins kinds.Number n → IsTrue (number_fits (take n (b ∷ bs)))
-    fits e =
-        let m : k + 1 ≡ n = cc in
-        let s : k + 1 ≡ suc k = omega arith in
-        let f : number_kind true (digits_value 0 (take k bs)) ≡ kinds.Number = cc in
-        subst (λ j. number_fits (take j (b ∷ bs)) ≡ true) (sym s ∙ m) (ap (λ o. cond o (is_i64 true (digits_value 0 (take k bs))) (is_i64 false (digits_value 0 (b ∷ take k bs)))) h ∙ number_i64 true _ f)
-
-pub front_fits : (bs : List ℕ) (n : ℕ) → front bs ≡ Begins kinds.Number n → IsTrue (number_fits (take n bs))
-front_fits [] n e = absurd (cc)
-front_fits (b ∷ bs) n e =
-    let P : Front → Type 0 = λ f. f ≡ Begins kinds.Number n → IsTrue (number_fits (take n (b ∷ bs))) in
-    (pick P (is_gap b) _ _ (λ _ e. absurd (cc)) (λ _. pick P (b == 35) _ _ (λ _ e. absurd (cc))
-    (λ _. pick P (is_letter b) _ _ (λ _ e. absurd (word_other n (length (take_while is_word_byte bs) + 1) (take (length (take_while is_word_byte bs) + 1) (b ∷ bs)) e)) (λ _. pick P (b == 45) _ _ (λ h. minus_here b n _ bs h)
-    (λ h. pick P (is_ascii_digit b) _ _ (λ _. number_here b n _ bs h) (λ _. pick P (b == 34) _ _ (λ _ e. absurd (string_other n _ e))
-    (λ _. pick P (b == 96) _ _ (λ _ e. absurd (quoted_other n (length (take_while is_quoted_byte bs)) (drop (length (take_while is_quoted_byte bs)) bs) e)) (λ _. pick P (b == 60) _ _ (λ _ e. absurd (or_equal_other n kinds.Less kinds.LessEqual bs (λ e. absurd (cc)) (λ e. absurd (cc)) e))
-    (λ _. pick P (b == 62) _ _ (λ _ e. absurd (or_equal_other n kinds.Greater kinds.GreaterEqual bs (λ e. absurd (cc)) (λ e. absurd (cc)) e)) (λ _. pick P (b == 33) _ _ (λ _ e. absurd (unequal_other n bs e)) (λ _ e. absurd (symbol_other n b e)))))))))))) e
+-- a number with a minus sign in the range of i64 isn't beyond the top
+pub minus_whole : (n : ℕ) → FitsSigned w64 (neg_ℤ (pos n)) → n < 9223372036854775809
+minus_whole zero h = omega arith
+minus_whole (suc n) h = let g = h.sfits in omega (arith, g)
 
 skipped : (k at : ℕ) (bs : List ℕ) → k ≤ length bs → tokens_from k at bs ≡ tokens_from 0 (at + k) (drop k bs)
 skipped zero at bs h = let e : at ≡ at + 0 = omega arith in ap (λ n. tokens_from 0 n bs) e
@@ -165,17 +68,7 @@ pub token_goes : (text : List ℕ) (p n : ℕ) (k : TokenKind) → p ≤ length 
 token_goes text p n k h e w =
     let v = subst (λ (l : List ℕ). (n ≤ length l) × (is_more k ≡ true → 0 < n)) (rest p text h) w in
     let f : front (drop p text) ≡ Begins k n = sym (ap front (rest p text h)) ∙ e in
-    (token_front p n k (drop p text) f v.0 v.1, record { within = omega (arith, v.0, length-drop p text); some = v.1; fits = λ i. front_fits (drop p text) n (f ∙ ap (λ x. Begins x n) i) })
-
--- the slice between the first byte and the last
-pub inner_slice : (text : List ℕ) → take (length text - 2 - 0) (take (length text - min (length text) 1) (drop (min (length text) 1) text)) ≡ inner text
-inner_slice [] = refl
-inner_slice (b ∷ bs) =
-    let m : min (length (b ∷ bs)) 1 ≡ 1 = omega arith in
-    let n : length (b ∷ bs) - 2 - 0 ≡ length (b ∷ bs) - 2 = omega arith in
-    ap (λ k. take k (take (length (b ∷ bs) - min (length (b ∷ bs)) 1) (drop (min (length (b ∷ bs)) 1) (b ∷ bs)))) n
-    ∙ ap (λ j. take (length (b ∷ bs) - 2) (take (length (b ∷ bs) - j) (drop j (b ∷ bs)))) m
-    ∙ ap (take (length (b ∷ bs) - 2)) (take_all (length (b ∷ bs) - 1) (drop 1 (b ∷ bs)) (omega arith))
+    (token_front p n k (drop p text) f v.0 v.1, record { within = omega (arith, v.0, length-drop p text); some = v.1; fits = subst (Fitting (drop p text)) f (front_fits (drop p text)) })
 
 -- a byte that is kept, and the second of a pair
 pub kept_byte : (v w bytes : List ℕ) (i : ℕ) → i < length bytes → w ≡ v ++ get_or bytes i 0 ∷ [] → w ++ undoubled (nat_eq (get_or bytes i 0) 34) (drop (i + 1) bytes) ≡ v ++ undoubled false (drop i bytes)
@@ -247,7 +140,3 @@ pub no_cr_kept : (xs : List ℕ) → 0 < length xs → (get_or xs (length xs - 1
 no_cr_kept xs h e =
     let f : length xs ≡ suc (length xs - 1) = omega arith in
     ap (λ n. take n xs) f ∙ ended xs (length xs - 1) false f (grind (arith, e))
-
-pub none_kept : (xs : List ℕ) → length xs ≡ 0 → take 0 xs ≡ without_cr xs
-none_kept [] e = refl
-none_kept (b ∷ bs) e = absurd (omega arith)

@@ -1,15 +1,12 @@
 -- The trees of what was read. The cases of the grammar that show all their parts stand in the list as they are.
-use Rattle.std.specs.Prelude.{nat_lt, nat_le, int_le, ◌^◌}
-use Rattle.smk_parse.specs.Words.{TokenKind, Word, Lit, AggTree, CmpOp, Term, Extra, Marks, Then, CompareNode, BackNode, FwdNode, Token, head_of, int_value, inner, string_value, First, IsName, IsColumn, IsLiteral, IsFile, IsMark, IsWidth, IsNamed, IsExtra, AreKeys, AreAggs, IsOp, IsTerm, IsPrim, IsThen, IsLine, IsStmt, State, Counts, is_short}
-use Rattle.std.proofs.Common.{◌≡◌, ℕ, ℤ, pos, ◌<◌, true, List, ◌∷◌, length, ap, ◌∙◌, sym, subst, refl}
-use Rattle.std.proofs.lemmas.Bool.{lt-ltb}
+use Rattle.smk_parse.specs.Words.{TokenKind, Word, Lit, CmpOp, Term, Extra, Marks, Then, CompareNode, BackNode, FwdNode, Token, head_of, int_value, string_value, First, IsName, IsColumn, IsLiteral, IsFile, IsNamed, IsExtra, IsOp, IsTerm, IsPrim, IsThen, IsLine, IsStmt, State, Counts}
+use Rattle.std.proofs.Common.{◌≡◌, ℕ, ℤ, true, List, ◌∷◌, ap, ◌∙◌, sym, subst, refl}
 use Rattle.smk_base.specs.declared.token.TokenKind.TheVariants as kinds
 use Rattle.smk_base.specs.declared.value.Value.TheVariants as values
-use Rattle.smk_base.specs.declared.tree.Extra.TheVariants as extras
 use Rattle.smk_base.specs.declared.tree.Line.TheVariants as lines
 use Rattle.smk_model.specs.Grammar.{name, plain, quoted, number, string, file, mark, width, by_itself, group_extra, group_step, union_all_step, union_step, int_type, text_type, no_default, default, decl, by_as, column_item, bin_item, count, sum, min, max, agg, no_keys, keys, no_aggs, aggs, pair, eq, ne, lt, le, gt, ge, column_term, literal_term, negated, bracketed, compared, conj, no_and, one_and, pred, no_or, one_or, plan, scan, inner_plan, no_step, one_step, where_step, project_step, distinct_step, group_step, join_step, theta_step, product_step, no_extra, by_extra, table_stmt, view_stmt, back_stmt, fwd_stmt, link_stmt, all_marks, listed_marks, no_then, where_then, group_then, show_line, back_line, fwd_line, brush_line, clear_line, clear_one_line, whole_line}
 use Rattle.smk_parse.specs.Texts.{Advances}
-use Rattle.smk_parse.specs.Reads.{is_column, column_name, column_word, IsMarked, marked}
+use Rattle.smk_parse.specs.Reads.{is_column, column_word, IsMarked, marked}
 use Rattle.smk_parse.proofs.Steps.{first_here, in_order}
 
 pub name_is : (c : Counts) (a b : State) (w : Word) → Advances c a b → (head_of a.rest).kind ≡ kinds.Name → w ≡ column_word (head_of a.rest) → IsName a.rest b.rest w
@@ -27,46 +24,14 @@ column_is c a b w h e f = subst (IsColumn a.rest b.rest) (sym f) (by (head_of a.
     by n kinds.Quoted s o g = quoted (record { is_kind = refl; is_first = g })
     by n _ s o g = absurd (cc)
 
-pub plain_name : (t : Token) → (t.kind ≡ kinds.Quoted → ⊥) → t.text ≡ column_name t
-plain_name t p = by t.kind p
-  where
-    by : (k : TokenKind) → (k ≡ kinds.Quoted → ⊥) → t.text ≡ column_name (record { at = t.at; kind = k; text = t.text })
-    by kinds.Quoted p = absurd (p refl)
-    by _ p = refl
-
-pub quoted_name : (t : Token) → t.kind ≡ kinds.Quoted → inner t.text ≡ column_name t
-quoted_name t e = sym (ap (λ k. column_name (record { at = t.at; kind = k; text = t.text })) e)
-
-pub short_name : (t : Token) → nat_le (length (column_name t)) 64 ≡ is_short t
-short_name t = by t.kind
-  where
-    by : (k : TokenKind) → nat_le (length (column_name (record { at = t.at; kind = k; text = t.text }))) 64 ≡ is_short (record { at = t.at; kind = k; text = t.text })
-    by kinds.Quoted = refl
-    by _ = refl
-
 pub number_is : (a b : State) (l : Lit) (v : ℤ) → Advances a.counts a b → (head_of a.rest).kind ≡ kinds.Number → l.value ≡ values.Int v → v ≡ int_value (head_of a.rest).text → l.at ≡ (head_of a.rest).at → IsLiteral a.rest b.rest l
 number_is a b l v h e f k g = let n : l ≡ record { value = values.Int (int_value (head_of a.rest).text); at = (head_of a.rest).at } = λ i. record { value = (f ∙ ap values.Int k) i; at = g i } in subst (IsLiteral a.rest b.rest) (sym n) (number (first_here kinds.Number a.counts a b h e))
-
-pub string_is : (a b : State) (l : Lit) (v : List ℕ) → Advances a.counts a b → (head_of a.rest).kind ≡ kinds.Str → l.value ≡ values.Text v → v ≡ string_value (head_of a.rest).text → l.at ≡ (head_of a.rest).at → IsLiteral a.rest b.rest l
-string_is a b l v h e f k g = let n : l ≡ record { value = values.Text (string_value (head_of a.rest).text); at = (head_of a.rest).at } = λ i. record { value = (f ∙ ap values.Text k) i; at = g i } in subst (IsLiteral a.rest b.rest) (sym n) (string (first_here kinds.Str a.counts a b h e))
 
 pub file_is : (a b : List Token) (n : List ℕ) → First kinds.Str (head_of a) a b → n ≡ string_value (head_of a).text → IsFile a b n
 file_is a b n h f = subst (IsFile a b) (sym f) (file h)
 
-pub mark_is : (a b : State) (m : ℕ) → Advances a.counts a b → (head_of a.rest).kind ≡ kinds.Number → int_value (head_of a.rest).text ≡ pos m → m < 4294967296 → IsMark a.rest b.rest m
-mark_is a b m h e f g = mark (first_here kinds.Number a.counts a b h e) f (below m g)
-  where
-    below : (m : ℕ) → m < 4294967296 → nat_lt m (2 ^ 32) ≡ true
-    below m g = lt-ltb m 4294967296 g
-
-pub width_is : (a b : State) (v : ℤ) → Advances a.counts a b → (head_of a.rest).kind ≡ kinds.Number → v ≡ int_value (head_of a.rest).text → int_le (pos 1) (int_value (head_of a.rest).text) ≡ true → IsWidth a.rest b.rest v
-width_is a b v h e f o = subst (IsWidth a.rest b.rest) (sym f) (width (first_here kinds.Number a.counts a b h e) o)
-
 pub itself_is : (a : List Token) (w v : Word) → v.name ≡ w.name → v.at ≡ w.at → IsNamed w a a v
 itself_is a w v e f = let n : v ≡ w = λ i. record { name = e i; at = f i } in subst (IsNamed w a a) (sym n) by_itself
-
-pub group_extra_is : (a b c d : List Token) (t : Token) (n : ℕ) (ws : List Word) (xs : List AggTree) → First kinds.Group t a b → n ≡ t.at → AreKeys b c ws → AreAggs c d xs → IsExtra a d (extras.Grouped n ws xs)
-group_extra_is a b c d t n ws xs h e k l = subst (λ m. IsExtra a d (extras.Grouped m ws xs)) (sym e) (group_extra h k l)
 
 pub compared_is : (n : Counts) (a b : State) (c d : List Token) (w : Word) (o : CmpOp) (x : Term) → Advances n a b → is_column (head_of a.rest).kind ≡ true → w ≡ column_word (head_of a.rest) → IsOp b.rest c o → IsTerm c d x → IsPrim a.rest d (CompareNode w o x)
 compared_is n a b c d w o x h e f k i = compared (column_is n a b w h e f) k i
@@ -89,4 +54,4 @@ pub brush_line_is : {a b c : List Token} {t : Token} {w z : Word} {m : Marks} �
 brush_line_is h (marked k i j l) = brush_line h k i j l
 
 -- what one who reads trees knows
-pub ruleset reading = (in_order, name_is, column_is, number_is, string_is, file_is, mark_is, width_is, itself_is, group_extra_is, compared_is, back_is, fwd_is, marked, back_line_is, fwd_line_is, brush_line_is, int_type, text_type, no_default, default, decl, by_as, column_item, bin_item, count, sum, min, max, agg, no_keys, keys, no_aggs, aggs, pair, eq, ne, lt, le, gt, ge, column_term, literal_term, negated, bracketed, compared, conj, no_and, one_and, pred, no_or, one_or, plan, scan, inner_plan, no_step, one_step, where_step, project_step, distinct_step, group_step, join_step, theta_step, product_step, union_all_step, union_step, no_extra, by_extra, table_stmt, view_stmt, back_stmt, fwd_stmt, link_stmt, all_marks, listed_marks, no_then, where_then, group_then, show_line, clear_line, clear_one_line, whole_line)
+pub ruleset reading = (in_order, name_is, column_is, number_is, string, file_is, mark, width, itself_is, group_extra, compared_is, back_is, fwd_is, marked, back_line_is, fwd_line_is, brush_line_is, int_type, text_type, no_default, default, decl, by_as, column_item, bin_item, count, sum, min, max, agg, no_keys, keys, no_aggs, aggs, pair, eq, ne, lt, le, gt, ge, column_term, literal_term, negated, bracketed, compared, conj, no_and, one_and, pred, no_or, one_or, plan, scan, inner_plan, no_step, one_step, where_step, project_step, distinct_step, group_step, join_step, theta_step, product_step, union_all_step, union_step, no_extra, by_extra, table_stmt, view_stmt, back_stmt, fwd_stmt, link_stmt, all_marks, listed_marks, no_then, where_then, group_then, show_line, clear_line, clear_one_line, whole_line)

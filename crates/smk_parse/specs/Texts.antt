@@ -1,6 +1,6 @@
 -- What the code holds of a text.
-use Rattle.std.specs.Prelude.{◌≡◌, ℕ, ◌+◌, ◌-◌, ◌<◌, ◌≤◌, ◌==◌, Bool, true, false, List, [], ◌∷◌, take, drop, length, cond, IsTrue}
-use Rattle.smk_parse.specs.Words.{TokenKind, LineSpan, Token, Front, Between, Begins, tokens_from, is_more, head_of, is_i64, digits_value, State, Counts, lines}
+use Rattle.std.specs.Prelude.{◌≡◌, ℕ, ◌+◌, ◌-◌, ◌<◌, ◌≤◌, true, List, [], ◌∷◌, take, drop, length, cond, FitsSigned}
+use Rattle.smk_parse.specs.Words.{TokenKind, LineSpan, Token, Front, Between, Begins, tokens_from, is_more, head_of, int_value, State, Counts, lines, w64}
 use Rattle.smk_base.specs.declared.token.TokenKind.TheVariants.{Number}
 use Rattle.smk_parse.specs.declared.front.Front as code
 use Rattle.smk_parse.specs.declared.front.Front.TheVariants as fronts
@@ -15,11 +15,6 @@ abbrev pub Within : code.Front → ℕ → Type 0
 Within (fronts.Between n) len = (0 < n) × (n ≤ len)
 Within (fronts.Begins kind n) len = (n ≤ len) × (is_more kind ≡ true → 0 < n)
 
--- whether the bytes of a number say one in the range of i64
-abbrev pub number_fits : List ℕ → Bool
-number_fits [] = true
-number_fits (b ∷ bs) = cond (b == 45) (is_i64 true (digits_value 0 bs)) (is_i64 false (digits_value 0 (b ∷ bs)))
-
 -- the token in hand, of this many bytes at the front of bs, and those behind it
 abbrev pub left_at : TokenKind → ℕ → ℕ → List ℕ → List Token
 left_at kind at n bs = record { at = at; kind = kind; text = take n bs } ∷ cond (is_more kind) (tokens_from 0 (at + n) (drop n bs)) []
@@ -28,7 +23,7 @@ left_at kind at n bs = record { at = at; kind = kind; text = take n bs } ∷ con
 pub record Stands (kind : TokenKind) (place len : ℕ) (text : List ℕ) : Type 0 where
   pub within : place + len ≤ length text
   pub some : is_more kind ≡ true → 0 < len
-  pub fits : kind ≡ Number → IsTrue (number_fits (take len (drop place text)))
+  pub fits : kind ≡ Number → FitsSigned w64 (int_value (take len (drop place text)))
 
 -- the token in hand is taken, with these counts
 pub record Advances (c : Counts) (a b : State) : Type 0 where

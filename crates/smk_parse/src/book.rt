@@ -28,12 +28,12 @@ fn table_stmt(alloc: Global, reader: &mut Reader) -> Result<Stmt, BookFault>
     ensures is { IfOk result (λ stmt. (a : List Token) → (t : Token) → First kinds.Table t a reader.old.rest → IsStmt a reader.new.rest (stmt_image stmt)) }
 {
     let name = name(alloc, reader)?;
-    let _ = expect(reader, TokenKind::From)?;
+    expect(reader, TokenKind::From)?;
     let file = string_in_hand(alloc, reader)?;
-    let _ = expect(reader, TokenKind::Str)?;
-    let _ = expect(reader, TokenKind::Open)?;
+    expect(reader, TokenKind::Str)?;
+    expect(reader, TokenKind::Open)?;
     let cols = listed::<Decl>(alloc, reader)?;
-    let _ = expect(reader, TokenKind::Close)?;
+    expect(reader, TokenKind::Close)?;
     Ok(Stmt::Table { name, file, cols })
 }
 
@@ -43,7 +43,7 @@ fn view_stmt(alloc: Global, reader: &mut Reader) -> Result<Stmt, BookFault>
     ensures is { IfOk result (λ stmt. (a : List Token) → (t : Token) → First kinds.View t a reader.old.rest → IsStmt a reader.new.rest (stmt_image stmt)) }
 {
     let name = name(alloc, reader)?;
-    let _ = expect(reader, TokenKind::Equal)?;
+    expect(reader, TokenKind::Equal)?;
     let plan = plan(alloc, reader, 0)?;
     Ok(Stmt::View { name, plan })
 }
@@ -78,7 +78,7 @@ fn lineage_stmt(alloc: Global, reader: &mut Reader, at: u64) -> Result<Stmt, Boo
         TokenKind::Back => {
             reader.advance();
             let view = name(alloc, reader)?;
-            let _ = expect(reader, TokenKind::To)?;
+            expect(reader, TokenKind::To)?;
             let table = name(alloc, reader)?;
             let extra = extra(alloc, reader)?;
             Ok(Stmt::Back {
@@ -91,7 +91,7 @@ fn lineage_stmt(alloc: Global, reader: &mut Reader, at: u64) -> Result<Stmt, Boo
         TokenKind::Fwd => {
             reader.advance();
             let table = name(alloc, reader)?;
-            let _ = expect(reader, TokenKind::To)?;
+            expect(reader, TokenKind::To)?;
             let view = name(alloc, reader)?;
             Ok(Stmt::Fwd { at, table, view })
         }
@@ -105,9 +105,9 @@ fn link_stmt(alloc: Global, reader: &mut Reader) -> Result<Stmt, BookFault>
     ensures is { IfOk result (λ stmt. (a : List Token) → (t : Token) → First kinds.Link t a reader.old.rest → IsStmt a reader.new.rest (stmt_image stmt)) }
 {
     let view = name(alloc, reader)?;
-    let _ = expect(reader, TokenKind::On)?;
+    expect(reader, TokenKind::On)?;
     let table = name(alloc, reader)?;
-    let _ = expect(reader, TokenKind::To)?;
+    expect(reader, TokenKind::To)?;
     let to = listed::<Linked>(alloc, reader)?;
     Ok(Stmt::Link { view, table, to })
 }

@@ -1,7 +1,7 @@
-ghost use Rattle.std.specs.Prelude.{◌≡◌, ◌+◌, ◌<◌, ◌≤◌, ◌≤ℤ◌, pos, length, map, take_while, IfSome, IsTrue, true, false, drop, None, min};
-ghost use Rattle.smk_parse.specs.Words.{is_ascii_digit, minus_front, is_word_byte, is_quoted_byte, no_line_end, kind_in, string_len, front, quoted_front, or_equal, unequal_front, digits_value, number_kind, int_value};
+ghost use Rattle.std.specs.Prelude.{◌≡◌, ◌+◌, ◌<◌, ◌≤◌, length, map, take_while, FitsSigned, IfSome, true, false, drop, None, min};
+ghost use Rattle.smk_parse.specs.Words.{is_ascii_digit, minus_front, is_word_byte, is_quoted_byte, no_line_end, kind_in, string_len, front, quoted_front, or_equal, unequal_front, digits_value, number_kind, int_value, w64};
 ghost use Rattle.smk_base.specs.declared.token.TokenKind.TheVariants.{Name};
-ghost use Rattle.smk_parse.specs.Texts.{front_of, Within, number_fits};
+ghost use Rattle.smk_parse.specs.Texts.{front_of, Within};
 
 use smk_base::{KEYWORDS, TokenKind};
 
@@ -41,15 +41,14 @@ fn kind_of_number(minus: bool, digits: &[u8]) -> TokenKind
 }
 
 /// The value of a number in the range of i64.
-#[tactic(auto, using(crate::proofs::Texts::number_small))]
-pub fn int_of(text: &[u8]) -> i128
-    requires { IsTrue (number_fits text.now) }
-    ensures is { result ≡ int_value text.now }
-    ensures small { result ≤ℤ pos 9223372036854775807 }
+#[tactic(auto, using(crate::proofs::Texts::minus_whole))]
+pub fn int_of(text: &[u8]) -> i64
+    requires { FitsSigned w64 (int_value text.now) }
+    ensures { result ≡ int_value text.now }
 {
     match text {
-        [b'-', digits @ ..] => -(size(digits) as i128),
-        _ => size(text) as i128,
+        [b'-', digits @ ..] => -(size(digits) as i128) as i64,
+        _ => size(text) as i64,
     }
 }
 
@@ -92,14 +91,13 @@ fn quoted_len(bytes: &[u8]) -> usize
 }
 
 /// The kind that a table gives a word, or a name.
-fn kind_among(mut table: &[(&[u8], TokenKind)], word: &[u8]) -> TokenKind
+fn kind_among(table: &[(&[u8], TokenKind)], word: &[u8]) -> TokenKind
     ensures { result ≡ kind_in (map (λ k. record { word = k.0.now; kind = k.1 }) table.entry.now) Name word.now }
 {
-    while let [entry, rest @ ..] = table {
+    for entry in table {
         if word == entry.0 {
             return entry.1;
         }
-        table = rest;
     }
     TokenKind::Name
 }

@@ -21,27 +21,17 @@ impl Member for Mark {
     ghost rule = { record { one = λ n. AMark ∷ []; more = λ n. MoreMarks; spells = IsMark; goes_on = λ n c t. refl } };
 
     fn read(_alloc: Global, reader: &mut Reader, _before: usize) -> Result<u32, BookFault> {
-        let at = reader.at();
         match reader.kind() {
             TokenKind::Number => {
                 let value = reader.int();
                 if value < 0 || value >= 4_294_967_296 {
-                    return Err(BookFault::BadNumber { at });
+                    return Err(BookFault::BadNumber { at: reader.at() });
                 }
-                reader.advance();
-                Ok(value as u32)
+                Ok(reader.took(value as u32))
             }
             _ => Err(wrong(reader)),
         }
     }
-}
-
-/// Two names of a line with marks between them.
-#[derive(Drop)]
-struct Marking {
-    from: Word,
-    marks: Marks,
-    to: Word,
 }
 
 /// The marks of a line.
@@ -65,7 +55,7 @@ fn then(alloc: Global, reader: &mut Reader) -> Result<Then, BookFault>
         TokenKind::Where => {
             reader.advance();
             let col = line_column(alloc, reader)?;
-            let _ = expect(reader, TokenKind::Equal)?;
+            expect(reader, TokenKind::Equal)?;
             let lit = literal(alloc, reader)?;
             Ok(Then::Matching {
                 col: col.name,
@@ -85,7 +75,7 @@ fn cleared(alloc: Global, reader: &mut Reader) -> Result<Line, BookFault>
     match reader.kind() {
         TokenKind::Name => {
             let view = take_column(alloc, reader)?;
-            let _ = expect(reader, TokenKind::On)?;
+            expect(reader, TokenKind::On)?;
             let table = line_name(alloc, reader)?;
             Ok(Line::ClearOne {
                 view: view.name,
@@ -97,16 +87,20 @@ fn cleared(alloc: Global, reader: &mut Reader) -> Result<Line, BookFault>
 }
 
 /// A name, marks, and behind this keyword another name.
-fn marked(alloc: Global, reader: &mut Reader, between: TokenKind) -> Result<Marking, BookFault>
+fn marked(
+    alloc: Global,
+    reader: &mut Reader,
+    between: TokenKind,
+) -> Result<(Word, Marks, Word), BookFault>
     requires { IsTrue (is_more between) }
     ensures reads { Reads (ALineName ∷ AMarks ∷ AToken between ∷ ALineName ∷ []) reader.old reader.new result }
-    ensures is { IfOk result (λ m. IsMarked between reader.old.rest reader.new.rest m.from m.marks m.to) }
+    ensures is { IfOk result (λ m. IsMarked between reader.old.rest reader.new.rest m.0 m.1 m.2) }
 {
     let from = line_name(alloc, reader)?;
     let marks = marks(alloc, reader)?;
-    let _ = expect(reader, between)?;
+    expect(reader, between)?;
     let to = line_name(alloc, reader)?;
-    Ok(Marking { from, marks, to })
+    Ok((from, marks, to))
 }
 
 /// A line.
@@ -122,31 +116,31 @@ fn line(alloc: Global, reader: &mut Reader) -> Result<Line, BookFault>
         }
         TokenKind::Back => {
             reader.advance();
-            let m = marked(alloc, reader, TokenKind::To)?;
+            let (view, marks, table) = marked(alloc, reader, TokenKind::To)?;
             let then = then(alloc, reader)?;
             Ok(Line::Back {
-                view: m.from.name,
-                marks: m.marks,
-                table: m.to.name,
+                view: view.name,
+                marks,
+                table: table.name,
                 then,
             })
         }
         TokenKind::Fwd => {
             reader.advance();
-            let m = marked(alloc, reader, TokenKind::To)?;
+            let (table, rows, view) = marked(alloc, reader, TokenKind::To)?;
             Ok(Line::Fwd {
-                table: m.from.name,
-                rows: m.marks,
-                view: m.to.name,
+                table: table.name,
+                rows,
+                view: view.name,
             })
         }
         TokenKind::Brush => {
             reader.advance();
-            let m = marked(alloc, reader, TokenKind::On)?;
+            let (view, marks, table) = marked(alloc, reader, TokenKind::On)?;
             Ok(Line::Brush {
-                view: m.from.name,
-                marks: m.marks,
-                table: m.to.name,
+                view: view.name,
+                marks,
+                table: table.name,
             })
         }
         TokenKind::Clear => {

@@ -110,16 +110,13 @@ fn width(reader: &mut Reader) -> Result<i64, BookFault>
     ensures low { IfOk result (λ width. pos 1 ≤ℤ width) }
     ensures high { IfOk result (λ width. width ≤ℤ pos 9223372036854775807) }
 {
-    let at = reader.at();
     match reader.kind() {
         TokenKind::Number => {
             let value = reader.int();
-            if 1 <= value {
-                reader.advance();
-                Ok(value as i64)
-            } else {
-                Err(BookFault::BadNumber { at })
+            if value < 1 {
+                return Err(BookFault::BadNumber { at: reader.at() });
             }
+            Ok(reader.took(value))
         }
         _ => Err(wrong(reader)),
     }
@@ -131,16 +128,15 @@ fn bin_item(alloc: Global, reader: &mut Reader, before: usize) -> Result<ItemTre
     ensures reads { Reads (AnItem before ∷ []) reader.old reader.new result }
     ensures is { IfOk result (λ item. IsItem reader.old.rest reader.new.rest item) }
 {
-    let at = reader.at();
     within(reader, before < 16, Many::Columns)?;
     let _kind = reader.kind();
     reader.advance();
-    let _ = expect(reader, TokenKind::Open)?;
+    expect(reader, TokenKind::Open)?;
     let col = column(alloc, reader)?;
-    let _ = expect(reader, TokenKind::Comma)?;
+    expect(reader, TokenKind::Comma)?;
     let width = width(reader)?;
-    let _ = expect(reader, TokenKind::Close)?;
-    let _ = expect(reader, TokenKind::As)?;
+    expect(reader, TokenKind::Close)?;
+    expect(reader, TokenKind::As)?;
     let name = column(alloc, reader)?;
     Ok(ItemTree::Bin { col, width, name })
 }
@@ -201,7 +197,7 @@ impl Member for AggTree {
 
     fn read(alloc: Global, reader: &mut Reader, before: usize) -> Result<AggTree, BookFault> {
         let name = first_column(alloc, reader, before)?;
-        let _ = expect(reader, TokenKind::Equal)?;
+        expect(reader, TokenKind::Equal)?;
         let what = what(alloc, reader)?;
         Ok(AggTree { name, what })
     }
@@ -215,7 +211,7 @@ impl Member for PairTree {
 
     fn read(alloc: Global, reader: &mut Reader, before: usize) -> Result<PairTree, BookFault> {
         let left = first_column(alloc, reader, before)?;
-        let _ = expect(reader, TokenKind::Equal)?;
+        expect(reader, TokenKind::Equal)?;
         let right = column(alloc, reader)?;
         Ok(PairTree { left, right })
     }
@@ -274,7 +270,7 @@ pub fn aggs(alloc: Global, reader: &mut Reader) -> Result<AggTrees, BookFault>
         TokenKind::OpenBrace => {
             reader.advance();
             let list = listed::<AggTree>(alloc, reader)?;
-            let _ = expect(reader, TokenKind::CloseBrace)?;
+            expect(reader, TokenKind::CloseBrace)?;
             Ok(list)
         }
         _ => Ok(AggTrees::new(alloc)),

@@ -21,7 +21,6 @@ fn take_node(reader: &mut Reader) -> Result<(), BookFault>
     ensures fault { IfErr result (λ fault. fault ≡ TooMany (head_of reader.old.rest).at Nodes) }
     ensures here { reader.old.rest ≡ head_of reader.old.rest ∷ tail_of reader.old.rest }
 {
-    let at = reader.at();
     let _kind = reader.kind();
     let nodes = reader.nodes();
     within(reader, nodes < 64, Many::Nodes)?;
@@ -76,7 +75,7 @@ fn source(alloc: Global, reader: &mut Reader, depth: u32) -> Result<Box<Tree>, B
             within(reader, depth < 32, Many::Depth)?;
             reader.advance();
             let inner = plan(alloc, reader, depth + 1)?;
-            let _ = expect(reader, TokenKind::Close)?;
+            expect(reader, TokenKind::Close)?;
             Ok(Box::new(alloc, inner)?)
         }
         _ => Err(wrong(reader)),
@@ -94,7 +93,7 @@ fn step(alloc: Global, reader: &mut Reader, depth: u32) -> Result<StepTree, Book
         TokenKind::Join => {
             take_node(reader)?;
             let right = source(alloc, reader, depth)?;
-            let _ = expect(reader, TokenKind::On)?;
+            expect(reader, TokenKind::On)?;
             let pairs = listed::<PairTree>(alloc, reader)?;
             Ok(StepTree::Join(right, pairs))
         }

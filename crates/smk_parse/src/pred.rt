@@ -68,8 +68,7 @@ fn compare(alloc: Global, reader: &mut Reader) -> Result<Box<PredTree>, BookFaul
     within(reader, compares < 128, Many::Compares)?;
     within(reader, is_short(reader), Many::NameBytes)?;
     let left = column_in_hand(alloc, reader)?;
-    let nodes = reader.nodes();
-    reader.advance_to(nodes, compares + 1);
+    reader.advance_to(reader.nodes(), compares + 1);
     let op = op(reader)?;
     let right = term(alloc, reader)?;
     Ok(Box::new(alloc, PredTree::Cmp(left, op, right))?)
@@ -92,7 +91,7 @@ fn prim(alloc: Global, reader: &mut Reader, depth: u32) -> Result<Box<PredTree>,
             within(reader, depth < 32, Many::Depth)?;
             reader.advance();
             let inner = pred(alloc, reader, depth + 1)?;
-            let _ = expect(reader, TokenKind::Close)?;
+            expect(reader, TokenKind::Close)?;
             Ok(Box::new(alloc, inner)?)
         }
         _ => compare(alloc, reader),

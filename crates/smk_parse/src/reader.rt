@@ -1,7 +1,7 @@
-ghost use Rattle.std.specs.Prelude.{◌≡◌, ◌≤◌, ◌≤ℤ◌, ◌∷◌, pos, length, drop, IsTrue};
-ghost use Rattle.smk_parse.specs.Words.{tokens, tokens_from, head_of, tail_of, is_more, int_value, State, no_counts};
+ghost use Rattle.std.specs.Prelude.{◌≡◌, ◌≤◌, ◌∷◌, length, drop, FitsSigned, IsTrue};
+ghost use Rattle.smk_parse.specs.Words.{tokens, tokens_from, head_of, tail_of, is_more, int_value, State, no_counts, w64};
 ghost use Rattle.smk_base.specs.declared.token.TokenKind.TheVariants.{Number};
-ghost use Rattle.smk_parse.specs.Texts.{left_at, Stands, Advances, number_fits};
+ghost use Rattle.smk_parse.specs.Texts.{left_at, Stands, Advances};
 
 use crate::front::{Front, front_at, int_of};
 use smk_base::TokenKind;
@@ -79,17 +79,16 @@ impl<'t> Reader<'t> {
     /// The bytes of the token in hand.
     pub fn bytes(&self) -> &'t [u8]
         ensures is { result.now ≡ (head_of self.now.rest).text }
-        ensures fits { (head_of self.now.rest).kind ≡ Number → IsTrue (number_fits result.now) }
+        ensures fits { (head_of self.now.rest).kind ≡ Number → FitsSigned w64 (int_value result.now) }
     {
         let end = self.place + self.len;
         &self.text[self.place..end]
     }
 
     /// The value of the number in hand.
-    pub fn int(&self) -> i128
+    pub fn int(&self) -> i64
         requires { (head_of self.now.rest).kind ≡ Number }
-        ensures is { result ≡ int_value (head_of self.now.rest).text }
-        ensures small { result ≤ℤ pos 9223372036854775807 }
+        ensures { result ≡ int_value (head_of self.now.rest).text }
     {
         int_of(self.bytes())
     }

@@ -6,20 +6,18 @@ use crate::front::line_len;
 use smk_base::LineSpan;
 
 /// How far the line goes without a carriage return as its last byte.
-#[tactic(auto, using(crate::proofs::Texts::cr_kept, crate::proofs::Texts::no_cr_kept, crate::proofs::Texts::none_kept))]
+#[tactic(auto, using(crate::proofs::Texts::cr_kept, crate::proofs::Texts::no_cr_kept))]
 fn kept_len(line: &[u8]) -> usize
     ensures is { take result line.now ≡ without_cr line.now }
     ensures within { result ≤ length line.now }
 {
-    let len = line.len();
-    if len == 0 {
-        return 0;
+    match line {
+        [.., b'\r'] => line.len() - 1,
+        _ => line.len(),
     }
-    if line[len - 1] == b'\r' { len - 1 } else { len }
 }
 
 /// The line of a script that begins at this place, without its line feed and without one carriage return before it. None at the end of the script. It takes no memory.
-#[tactic(auto, using(crate::proofs::Texts::cuts_slice))]
 pub fn line_at(script: &[u8], from: usize) -> Option<LineSpan>
     requires { from ≤ length script.now }
     ensures none { IfNone result (from ≡ length script.now) }

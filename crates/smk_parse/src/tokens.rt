@@ -10,7 +10,7 @@ use smk_base::{BookFault, Lit, Many, Text, TokenKind, Value, Word};
 use std::alloc::Global;
 
 /// The fault at a token that may not stand here.
-#[tactic(auto, using(crate::proofs::Steps::unexpected))]
+#[tactic(auto)]
 pub fn wrong(reader: &Reader) -> BookFault
     ensures { result ≡ fault_at (head_of reader.now.rest) }
 {
@@ -36,18 +36,16 @@ pub fn within(reader: &Reader, few: bool, what: Many) -> Result<(), BookFault>
     }
 }
 
-/// A token of this kind, whose place it gives.
+/// A token of this kind.
 #[tactic(auto, using(crate::proofs::Steps::expect_goes, crate::proofs::Steps::in_order))]
-pub fn expect(reader: &mut Reader, kind: TokenKind) -> Result<u64, BookFault>
+pub fn expect(reader: &mut Reader, kind: TokenKind) -> Result<(), BookFault>
     requires { IsTrue (is_more kind) }
     ensures reads { Reads (AToken kind ∷ []) reader.old reader.new result }
     ensures is { OnOk result (First kind (head_of reader.old.rest) reader.old.rest reader.new.rest) }
-    ensures at { IfOk result (λ at. at ≡ (head_of reader.old.rest).at) }
 {
-    let at = reader.at();
     if kind == reader.kind() {
         reader.advance();
-        Ok(at)
+        Ok(())
     } else {
         Err(wrong(reader))
     }
@@ -91,7 +89,7 @@ pub fn literal(alloc: Global, reader: &mut Reader) -> Result<Lit, BookFault>
     let at = reader.at();
     match reader.kind() {
         TokenKind::Number => {
-            let value = Value::Int(reader.int());
+            let value = Value::Int(reader.int().into());
             reader.advance();
             Ok(Lit { value, at })
         }
@@ -112,7 +110,7 @@ pub fn is_column(kind: TokenKind) -> bool
 }
 
 /// The bytes of the column in hand, without backquotes.
-#[tactic(auto, using(crate::proofs::Trees::plain_name, crate::proofs::Trees::quoted_name))]
+#[tactic(auto)]
 fn name_in_hand<'t>(reader: &Reader<'t>) -> &'t [u8]
     ensures { result.now ≡ column_name (head_of reader.now.rest) }
 {
@@ -123,7 +121,7 @@ fn name_in_hand<'t>(reader: &Reader<'t>) -> &'t [u8]
 }
 
 /// Whether the name in hand has at most 64 bytes.
-#[tactic(auto, using(crate::proofs::Trees::short_name))]
+#[tactic(auto)]
 pub fn is_short(reader: &Reader) -> bool
     ensures { result ≡ is_short (head_of reader.now.rest) }
 {

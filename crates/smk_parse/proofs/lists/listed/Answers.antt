@@ -3,7 +3,7 @@ use Rattle.smk_base.specs.declared.token.TokenKind.TheVariants as kinds
 use Rattle.std.proofs.lemmas.Result.{err_from_is_err_and}
 use Rattle.smk_model.specs.Grammar.{AreListed, listed, no_more}
 use Rattle.smk_parse.specs.Reads.{Fails, Comes}
-use Rattle.smk_parse.proofs.Steps.{list_comes, comes_fails, open_fails, fail_first, first_here, EndsList, goes_list, more_opens, more_goes, more_ends}
+use Rattle.smk_parse.proofs.Steps.{list_comes, comes_fails, fail_first, first_here, EndsList, goes_list, more_opens, more_goes, more_ends}
 use Rattle.smk_parse.proofs.lists.listed.Goals as goal
 
 pub commas-init : goal.commas-init
@@ -27,7 +27,7 @@ returns-in_err-next-clause-reads g c =
     let n = length c.commas.list in
     let p = err_from_is_err_and c.from_residual-in_err-next.result c.from_residual-in_err-next.ensures.1 in
     let o = more_opens (g.M.Member.rule.more n) _ c.commas.reader c.advance.new.self (g.M.Member.rule.goes_on n) c.advance.ensures (sym c.in-Comma.ensures.is) in
-    rw (p.1, p.2) (comes_fails _ _ _ c.commas.reader _ c.commas.invariant.reads (open_fails _ _ c.commas.reader c.advance.new.self _ o (fail_first (g.M.Member.rule.one n) (g.M.Member.rule.more (n + 1) ∷ []) _ _ _ (subst (λ l. Fails (g.M.Member.rule.one (length l)) c.advance.new.self c.in_err-next.field-0.0) c.as_slice-before.ensures c.in_err-next.ensures.reads) refl)))
+    rw (p.1, p.2) (comes_fails _ _ _ c.commas.reader _ c.commas.invariant.reads (comes_fails _ _ c.commas.reader c.advance.new.self _ o (fail_first (g.M.Member.rule.one n) (g.M.Member.rule.more (n + 1) ∷ []) _ _ _ (subst (λ l. Fails (g.M.Member.rule.one (length l)) c.advance.new.self c.in_err-next.field-0.0) c.as_slice-before.ensures c.in_err-next.ensures.reads) refl)))
 
 pub returns : goal.returns
 returns g c = record {
