@@ -1,4 +1,4 @@
-ghost use Rattle.std.specs.Prelude.{◌≡◌, ◌<◌, ◌∷◌, ◌++◌, [], false, List, length, map, position, IfSome, OnOk};
+ghost use Rattle.std.specs.Prelude.{◌≡◌, ◌<◌, ◌∷◌, ◌++◌, [], false, List, length, map, position, IfSome, OnOk, OnErr};
 ghost use Rattle.std.specs.List.{list_any};
 
 use indexmap::IndexSet;
@@ -85,7 +85,8 @@ impl<T: Keyed + Drop> Indexed<T> {
         requires own { key ≡ T.key_of member }
         requires fresh { list_any (T.Key.eq key) (map T.key_of self.old) ≡ false }
         requires kept { T.kept (self.old ++ member ∷ []) }
-        ensures { OnOk result (self.new ≡ self.old ++ member ∷ []) }
+        ensures put { OnOk result (self.new ≡ self.old ++ member ∷ []) }
+        ensures same { OnErr result (self.new ≡ self.old) }
     {
         self.list.reserve(1)?;
         self.keys.insert(key)?;

@@ -10,4 +10,4 @@ returns-then-has c _ = rw (sym (any_back c.args.back c.of-form.result c.args.dra
 pub returns : goal.returns
 returns c =
     rw (sym (any_back c.args.back c.of-form.result c.args.draft.now.backs c.of-form.ensures) ∙ sym c.has.ensures.has ∙ c.if-has.false)
-    (ap (λ (backs : List Back). Ok (record (draft_image c.args.draft.now) { backs = backs })) (sym c.in_ok-push.ensures))
+    (ap (λ (backs : List Back). Ok (record (draft_image c.args.draft.now) { backs = backs })) (sym c.in_ok-push.ensures.put))

@@ -10,4 +10,4 @@ returns-then-has c _ = rw (sym (any_fwd c.args.fwd c.args.draft.now.fwds) ∙ sy
 pub returns : goal.returns
 returns c =
     rw (sym (any_fwd c.args.fwd c.args.draft.now.fwds) ∙ sym c.has.ensures.has ∙ c.if-has.false)
-    (ap (λ (fwds : List Fwd). Ok (record (draft_image c.args.draft.now) { fwds = fwds })) (sym c.in_ok-push.ensures))
+    (ap (λ (fwds : List Fwd). Ok (record (draft_image c.args.draft.now) { fwds = fwds })) (sym c.in_ok-push.ensures.put))

@@ -26,4 +26,4 @@ pub returns : goal.returns
 returns c =
     rw (sym c.has.ensures.has ∙ c.if-has.false, c.in_ok-table.ensures.columns)
     (ap (λ (tables : List TableInfo). Ok (record (draft_image c.args.draft.now) { tables = tables }))
-    (ap (λ table. c.args.draft.now.tables ++ table ∷ []) (sym c.in_ok-table.ensures.made) ∙ sym c.in_ok-push.ensures))
+    (ap (λ table. c.args.draft.now.tables ++ table ∷ []) (sym c.in_ok-table.ensures.made) ∙ sym c.in_ok-push.ensures.put))

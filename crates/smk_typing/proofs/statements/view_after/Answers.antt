@@ -34,4 +34,4 @@ returns c =
     let first = made_of (typed_plan c.args.draft.now.tables (tree_image c.args.tree.now)) _ _ c.in_ok-view.ensures in
     rw (ap (is_taken c.args.name.now.name) (view_names c.args.draft.now.views) ∙ sym c.has.ensures.has ∙ c.if-has.false, first.1)
     (ap (λ (views : List ViewImage). Ok (record (draft_image c.args.draft.now) { views = views }))
-    (ap (λ (view : ViewImage). map view_image c.args.draft.now.views ++ view ∷ []) (ok_same _ _ first.2) ∙ sym (map-append view_image c.args.draft.now.views (c.in_ok-view.view ∷ [])) ∙ ap (map view_image) (sym c.in_ok-push.ensures)))
+    (ap (λ (view : ViewImage). map view_image c.args.draft.now.views ++ view ∷ []) (ok_same _ _ first.2) ∙ sym (map-append view_image c.args.draft.now.views (c.in_ok-view.view ∷ [])) ∙ ap (map view_image) (sym c.in_ok-push.ensures.put)))
