@@ -1,3 +1,4 @@
 pub mod Cutting
 pub mod Probing
 pub mod Renumbering
+pub mod Rising

@@ -1,6 +1,8 @@
 -- How the rows of an input are cut into pieces, and what each piece of a step makes of its rows.
-use Rattle.std.specs.Prelude.{◌≡◌, ℕ, ◌+◌, ◌-◌, ◌*◌, ◌/◌, min, List, [], ◌++◌, length, map, Option, Some, None, true, slice_range, slice_index_or}
+use Rattle.std.specs.Prelude.{◌≡◌, ℕ, ◌+◌, ◌-◌, ◌*◌, ◌/◌, min, List, [], ◌++◌, length, map, Option, Some, None, true, false, slice_index, slice_range, slice_index_or}
 use Rattle.smk_base.specs.Places.{upto}
+use Rattle.smk_base.specs.Rels.{Relation}
+use Rattle.smk_base.specs.declared.value.Kind.{Kind}
 use Rattle.smk_base.specs.Plans.{Formula, Unary, Selection, Projection, Distinction, Grouping, Binary}
 use Rattle.smk_model.specs.Values.{Row}
 use Rattle.smk_model.specs.Plain.{is_join, joins, key_of}
@@ -9,6 +11,7 @@ use Rattle.smk_keys.specs.Classes.{classes_of}
 use Rattle.smk_body.specs.Halves.{meeting_below, pairs_below}
 use Rattle.smk_body.specs.declared.pieces.Piece.{Piece}
 use Rattle.smk_body.specs.declared.pieces.Piece.TheVariants.{Places, Pairs, Keys}
+use Rattle.smk_par.specs.Rises.{AreRises, codes_of, is_text_key}
 
 -- where piece p of so many begins among n places: at p of so many parts of n, rounded down
 abbrev pub cut_at : ℕ → ℕ → ℕ → ℕ
@@ -53,6 +56,11 @@ pub record HasPairs (partners_of : ℕ → List ℕ) (from to : ℕ) (piece : Pi
 abbrev pub HasKeys : List ℕ → List Row → ℕ → ℕ → Piece → Type 0
 HasKeys keys L from to piece = record { of = classes_in piece; firsts = firsts_in piece } ≡ classes_of (map (key_of keys) (slice_range L from to))
 
+-- what a piece of a grouping has of its rows: where the keys are one column of texts alone the places where a text may come first, else the classes of the keys
+pub record MakesKeys (kinds : List Kind) (keys : List ℕ) (L : List Row) (from to : ℕ) (piece : Piece) : Type 0 where
+  pub texts : is_text_key kinds keys ≡ true → AreRises (codes_of L (slice_index keys 0)) from to (places_in piece)
+  pub others : is_text_key kinds keys ≡ false → HasKeys keys L from to piece
+
 -- whether a step with one input is cut
 abbrev pub IsCut1 : Unary → Type 0
 IsCut1 (Selection formula) = Unit {0}
@@ -61,11 +69,11 @@ IsCut1 (Distinction items) = ⊥
 IsCut1 (Grouping keys aggs) = Unit {0}
 
 -- what piece p of such a step has made
-abbrev pub Makes1 : ℕ → Unary → List Row → ℕ → Piece → Type 0
-Makes1 workers (Selection formula) L p piece = HasPlaces formula L (cut_at workers (length L) p) (cut_at workers (length L) (p + 1)) piece
-Makes1 workers (Projection items) L p piece = ⊥
-Makes1 workers (Distinction items) L p piece = ⊥
-Makes1 workers (Grouping keys aggs) L p piece = HasKeys keys L (cut_at workers (length L) p) (cut_at workers (length L) (p + 1)) piece
+abbrev pub Makes1 : ℕ → Unary → Relation → ℕ → Piece → Type 0
+Makes1 workers (Selection formula) input p piece = HasPlaces formula input.rows (cut_at workers (length input.rows) p) (cut_at workers (length input.rows) (p + 1)) piece
+Makes1 workers (Projection items) input p piece = ⊥
+Makes1 workers (Distinction items) input p piece = ⊥
+Makes1 workers (Grouping keys aggs) input p piece = MakesKeys input.kinds keys input.rows (cut_at workers (length input.rows) p) (cut_at workers (length input.rows) (p + 1)) piece
 
 -- that a join is cut, and its pieces share for each left row the places of the right rows that it matches
 pub record IsCut2 (op : Binary) (L R : List Row) (shared : Option (List (List ℕ))) : Type 0 where

@@ -1,3 +1,4 @@
 pub mod Cuts
 pub mod Pending
 pub mod Renumbered
+pub mod Rises

@@ -8,5 +8,6 @@ mod parts;
 mod pieces;
 mod select;
 mod steps;
+mod texts;
 
 pub use pieces::{CutOr, Pieces};

@@ -50,7 +50,7 @@ impl<'g, G: Gate + Sync, B: OpBody> Pieces<'g, G, B> {
 impl<'g, G: Gate + Sync, B: OpBody> InPieces for Pieces<'g, G, B> {
     ghost cuts1 = { λ it op input want cut. (cut.pieces ≡ it.workers) × IsCut1 op };
 
-    ghost makes1 = { λ it op input want cut p piece. Makes1 it.workers op input.rows p piece };
+    ghost makes1 = { λ it op input want cut p piece. Makes1 it.workers op input p piece };
 
     ghost cuts2 = { λ it op left right want cut. (cut.pieces ≡ it.workers) × IsCut2 op left.rows right.rows cut.shared };
 
