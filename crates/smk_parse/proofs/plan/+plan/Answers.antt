@@ -1,12 +1,14 @@
-use Rattle.std.proofs.Common.{◌≡◌, ℕ, ◌<◌, [], ◌∷◌, ap, ◌∙◌, sym}
+use Rattle.std.proofs.Common.{◌≡◌, ℕ, ◌<◌, [], ◌∷◌, ap, ◌∙◌, sym, arith}
 use Rattle.std.proofs.lemmas.{Bool.lt-ltb, Result.err_from_is_err_and}
+use Rattle.std.proofs.lemmas.Grind.{common_steps}
 use Rattle.smk_parse.specs.Words.{head_of, Nodes, State, Takes, within, node_more, ASource, AStep, AUnited}
 use Rattle.smk_base.specs.declared.token.TokenKind.TheVariants as kinds
 use Rattle.smk_model.specs.Machine.{at_step}
 use Rattle.smk_model.specs.Grammar.{join_step, theta_step, union_all_step, union_step}
 use Rattle.smk_parse.specs.Texts.{Advances}
 use Rattle.smk_parse.specs.Reads.{Comes}
-use Rattle.smk_parse.proofs.Steps.{opened, comes_leads, comes_fails, first_here, started_leads, started_fails, united_starts}
+use Rattle.smk_parse.proofs.Steps.{opened, comes_leads, comes_fails, first_here, started_leads, started_fails, united_starts, begun}
+use Rattle.smk_parse.proofs.Trees.{reading}
 use Rattle.smk_parse.proofs.plan.+plan.Goals as goal
 
 -- a union up to its source
@@ -35,3 +37,15 @@ step-returns-in_ok-pairs-in-Join-clause-is t c = join_step (first_here kinds.Joi
 
 pub step-returns-in_ok-pred-in-Theta-clause-is : goal.step-returns-in_ok-pred-in-Theta-clause-is
 step-returns-in_ok-pred-in-Theta-clause-is t c = theta_step (first_here kinds.Theta _ c.args.reader.now c.take_node-in-Theta.new.reader c.in_ok-take_node-in-Theta.ensures.taken (sym c.in-Theta.ensures.is)) c.in_ok-right-in-Theta.ensures.is c.in_ok-on-in-Theta.ensures.is c.in_ok-pred-in-Theta.ensures.is
+
+pub step-returns-in_ok-source-in-Product-clause-reads : goal.step-returns-in_ok-source-in-Product-clause-reads
+step-returns-in_ok-source-in-Product-clause-reads t c = grind (arith, common_steps, reading, begun)
+
+pub step-returns-in_ok-pred-in-Theta-clause-reads : goal.step-returns-in_ok-pred-in-Theta-clause-reads
+step-returns-in_ok-pred-in-Theta-clause-reads t c = grind (arith, common_steps, reading, begun)
+
+pub step-returns-in_ok-source-in-All-clause-reads : goal.step-returns-in_ok-source-in-All-clause-reads
+step-returns-in_ok-source-in-All-clause-reads t c = grind (arith, common_steps, reading, begun)
+
+pub step-returns-in_ok-pairs-in-Join-clause-reads : goal.step-returns-in_ok-pairs-in-Join-clause-reads
+step-returns-in_ok-pairs-in-Join-clause-reads t c = grind (arith, common_steps, reading, begun)
