@@ -1,6 +1,6 @@
 -- The places of a selection that are found in a column of ints.
-use Rattle.std.proofs.Common.{◌≡◌, ◌∙◌, ◌≤◌, ◌+◌, ℕ, ℤ, pos, true, false, Bool, List, [], ◌∷◌, ◌++◌, length, map, ap, sym, arith, get_or}
-use Rattle.std.proofs.lemmas.List.{append_assoc}
+use Rattle.std.proofs.Common.{◌≡◌, ◌∙◌, ◌<◌, ◌≤◌, ◌+◌, ℕ, ℤ, pos, true, false, Bool, List, [], ◌∷◌, ◌++◌, length, map, take, slice_set, ap, sym, arith, get_or}
+use Rattle.std.proofs.lemmas.List.{append_assoc, append-nil, take_all, take_more_set, take-set}
 use Rattle.std.specs.Ordering.{int_cmp}
 use Rattle.smk_base.specs.Places.{places}
 use Rattle.smk_base.specs.Plans.{Comparison}
@@ -29,3 +29,15 @@ passed_next f before now i passes is = sym (append_assoc before now (i ∷ [])) 
 
 pub missed_next : (f : ℕ → Bool) (before now : List ℕ) (i : ℕ) → f i ≡ false → before ++ now ≡ places f i → before ++ now ≡ places f (i + 1)
 missed_next f before now i fails is = is ∙ meeting_none f i fails
+
+-- the same of the first places of a block behind others: the place is put behind them, and counts where it passes
+pub passed_in_block : (f : ℕ → Bool) (before now block : List ℕ) (k i : ℕ) → f i ≡ true → k < length block → before ++ (now ++ take k block) ≡ places f i → before ++ (now ++ take (k + 1) (slice_set block k i)) ≡ places f (i + 1)
+passed_in_block f before now block k i passes low is =
+    ap (λ z. before ++ (now ++ z)) (take_more_set block k i low) ∙ ap (λ z. before ++ z) (sym (append_assoc now (take k block) (i ∷ []))) ∙ passed_next f before (now ++ take k block) i passes is
+
+pub missed_in_block : (f : ℕ → Bool) (before now block : List ℕ) (k i : ℕ) → f i ≡ false → before ++ (now ++ take k block) ≡ places f i → before ++ (now ++ take k (slice_set block k i)) ≡ places f (i + 1)
+missed_in_block f before now block k i fails is = ap (λ z. before ++ (now ++ z)) (take-set block k i) ∙ missed_next f before (now ++ take k block) i fails is
+
+-- a full block put behind the others
+pub put_block : (before now block all : List ℕ) (k : ℕ) → length block ≤ k → before ++ (now ++ take k block) ≡ all → before ++ ((now ++ block) ++ take 0 block) ≡ all
+put_block before now block all k full is = ap (λ z. before ++ z) (append-nil (now ++ block)) ∙ ap (λ z. before ++ (now ++ z)) (sym (take_all k block full)) ∙ is

@@ -6,10 +6,17 @@ ghost use Rattle.smk_model.specs.Plain.{step1};
 ghost use Rattle.smk_model.specs.Lineage.{meeting};
 ghost use Rattle.smk_model.specs.Kinds.{FormulaFits};
 ghost use Rattle.smk_body.specs.Halves.{ints_below, meeting_below};
+ghost use Rattle.smk_base.specs.declared.plan.CmpOp.{CmpOp};
+ghost use Rattle.std.specs.declared.cmp.Ordering.TheVariants.{Less, Equal, Greater};
+ghost use Rattle.smk_model.specs.Values.{holds};
 
 use crate::rows::{compare, meets_at, says};
 use smk_base::{CellRef, CmpOp, Ints, Operand, Pred, Rel, Value};
 use std::alloc::{AllocError, Global};
+use std::cmp::Ordering;
+
+// So many places are put last together.
+const BLOCK: usize = 256;
 
 /// The places of the rows that meet a predicate, from one place up to another: behind those below the first they are those below the second.
 pub fn selected(
@@ -103,7 +110,7 @@ fn cells_selected(
     Ok(places)
 }
 
-// The places of the small ints, from one place up to another, that stand so to an int.
+// The places of the small ints, from one place up to another, that stand so to an int. Each place is written into a block, where the next one overwrites it unless its int stands so; full blocks are put behind the places found.
 fn ints_selected(
     alloc: Global,
     items: &[i64],
@@ -116,13 +123,36 @@ fn ints_selected(
     requires within { to ≤ length items.now }
     ensures { IfOk result (λ v. ints_below op n items.now from ++ v.items ≡ ints_below op n items.now to) }
 {
+    let less = says(op, Ordering::Less);
+    let equal = says(op, Ordering::Equal);
+    let greater = says(op, Ordering::Greater);
     let mut places = Vec::new(alloc);
+    let mut block = vec![in alloc; 0u32; BLOCK]?;
+    let mut count = 0;
     for i in from..to {
-        if says(op, i128::from(items[i as usize]).cmp(&n)) {
-            places.push(i)?;
+        if count == BLOCK {
+            places.extend_from_slice(block.as_slice())?;
+            count = 0;
+        }
+        block[count] = i;
+        if says_of(less, equal, greater, i128::from(items[i as usize]).cmp(&n)) {
+            count += 1;
         }
     }
+    places.extend_from_slice(&block[..count])?;
     Ok(places)
+}
+
+// What a comparison says of an order, from what it says of each.
+#[inline(always)]
+fn says_of(less: bool, equal: bool, greater: bool, order: Ordering) -> bool
+    ensures { (op : CmpOp) → less ≡ holds op Less → equal ≡ holds op Equal → greater ≡ holds op Greater → result ≡ holds op order }
+{
+    match order {
+        Ordering::Less => less,
+        Ordering::Equal => equal,
+        Ordering::Greater => greater,
+    }
 }
 
 /// The rows of a selection, from the places of all rows that meet its predicate.
