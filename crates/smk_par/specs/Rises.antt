@@ -4,13 +4,8 @@ use Rattle.smk_base.specs.Dicts.{code_or_last}
 use Rattle.smk_base.specs.Rels.{column_texts, kind_in}
 use Rattle.smk_base.specs.TextColumns.{text_firsts}
 use Rattle.smk_base.specs.declared.value.Kind.{Kind}
-use Rattle.smk_base.specs.declared.value.Kind.TheVariants.{Int, Text}
+use Rattle.smk_model.specs.Names.{is_text}
 use Rattle.smk_model.specs.Values.{Row}
-
--- whether a column has this kind of texts
-abbrev pub is_text : Kind → Bool
-is_text Text = true
-is_text (Int level) = false
 
 -- whether these keys are one column of texts alone
 abbrev pub is_text_key : List Kind → List ℕ → Bool
