@@ -7,7 +7,7 @@ use std::alloc::{AllocError, AllocFailed};
 use thiserror::Error;
 
 /// Why a file wasn't read.
-#[derive(Debug, Drop, Clone, Copy, PartialEq, Eq, Error)]
+#[derive(Debug, Drop, Clone, Copy, Error)]
 pub enum FilesFault {
     #[error("the file can't be read")]
     Failed,
@@ -16,21 +16,20 @@ pub enum FilesFault {
 }
 
 /// Why the bytes of a table's file are no table. Columns are numbered as they are declared, from 0, and records after the header from 1.
-#[derive(Debug, Drop, Clone, Copy, PartialEq, Eq, Error)]
+#[derive(Drop, Clone, Copy)]
 pub enum TableFault {
-    #[error("no header")]
+    /// The bytes have no header.
     NoHeader,
-    #[error("declared column {col} is missing")]
+    /// The header lacks this column.
     MissingColumn { col: u32 },
-    #[error("declared column {col} is repeated")]
+    /// The header has this column twice.
     RepeatedColumn { col: u32 },
-    #[error("record {nth} has a wrong number of fields")]
+    /// This record has more or fewer fields than the header.
     Ragged { nth: u32 },
-    #[error("record {nth} has no int in declared column {col}")]
+    /// This record has no int in this column.
     BadInt { nth: u32, col: u32 },
-    #[error("too many rows")]
+    /// There are more records than a table may have rows.
     TooManyRows,
-    #[error("no memory")]
     NoMemory,
 }
 
@@ -97,7 +96,7 @@ pub enum Fault {
 }
 
 /// What a book may have too many of.
-#[derive(Debug, Drop, Clone, Copy, PartialEq, Eq)]
+#[derive(Drop, Clone, Copy)]
 pub enum Many {
     Tables,
     Views,
@@ -111,31 +110,24 @@ pub enum Many {
 }
 
 /// Why the text of a book has no tree, with the place in bytes of its first wrong token.
-#[derive(Debug, Drop, Clone, Copy, PartialEq, Eq, Error)]
+#[derive(Drop, Clone, Copy)]
 pub enum BookFault {
     /// No token can be read here.
-    #[error("bad token")]
     BadToken { at: u64 },
     /// No book goes on with this token, or none ends here.
-    #[error("unexpected token")]
     Unexpected { at: u64 },
     /// This token begins one more of them than a book may have.
-    #[error("too many")]
     TooMany { at: u64, what: Many },
     /// A whole number out of its range.
-    #[error("bad number")]
     BadNumber { at: u64 },
-    #[error("no memory")]
     NoMemory,
 }
 
 /// Why a line of a script has no tree.
-#[derive(Debug, Drop, Clone, Copy, PartialEq, Eq, Error)]
+#[derive(Drop, Clone, Copy)]
 pub enum LineFault {
     /// The line isn't in the grammar of lines; this is the place in bytes of its first wrong token.
-    #[error("not a line")]
     NotALine { at: u64 },
-    #[error("no memory")]
     NoMemory,
 }
 

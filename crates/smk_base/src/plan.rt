@@ -6,7 +6,7 @@ use crate::value::Value;
 use std::alloc::{AllocError, Global};
 
 /// A comparison of two values of one kind.
-#[derive(Clone, Copy, Debug, PartialEq, Eq)]
+#[derive(Clone, Copy)]
 pub enum CmpOp {
     Eq,
     Ne,
@@ -33,14 +33,14 @@ pub enum Pred {
 }
 
 /// An output column of a projection: a column, or the floor of a column divided by a width of at least 1.
-#[derive(Clone, Copy, Debug)]
+#[derive(Clone, Copy)]
 pub enum Item {
     Col(u32),
     Bin { col: u32, width: i64 },
 }
 
 /// What is computed over the rows of a group.
-#[derive(Clone, Copy, Debug)]
+#[derive(Clone, Copy)]
 pub enum Agg {
     Count,
     Sum(u32),
@@ -91,7 +91,7 @@ pub enum Plan {
 }
 
 /// Which ways lineage is wanted: from the outputs back to the inputs, from the inputs forward to the outputs.
-#[derive(Clone, Copy, Debug, PartialEq, Eq)]
+#[derive(Clone, Copy)]
 pub struct Dir {
     pub back: bool,
     pub fwd: bool,

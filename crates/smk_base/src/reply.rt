@@ -34,7 +34,7 @@ pub struct Linked {
 pub type Linkeds = ListOf<Linked>;
 
 /// Why a line is refused. The names that it speaks of are those of the line.
-#[derive(Debug, Drop, Clone, Copy, PartialEq, Eq)]
+#[derive(Drop, Clone, Copy)]
 pub enum Refusal {
     /// The book has no view of this name.
     UnknownView,

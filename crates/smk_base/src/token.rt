@@ -1,5 +1,5 @@
 /// The kind of a token of books and of script lines. The variants up to `Where` are the keywords.
-#[derive(Clone, Copy, Debug, PartialEq, Eq)]
+#[derive(Clone, Copy, PartialEq, Eq)]
 pub enum TokenKind {
     All,
     And,

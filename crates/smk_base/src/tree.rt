@@ -208,7 +208,7 @@ pub enum Line {
 }
 
 /// Where a line of a script lies: its bytes from `start` up to `end`, without its line end. The next line begins at `next`.
-#[derive(Clone, Copy, Debug, PartialEq, Eq)]
+#[derive(Clone, Copy)]
 pub struct LineSpan {
     pub start: usize,
     pub end: usize,

@@ -21,7 +21,7 @@ pub enum CellRef<'a> {
 }
 
 /// What a column holds. An int of level 0 is in the range of i64; one of a higher level k is at most 2^(63+20k) in size.
-#[derive(Clone, Copy, Debug, PartialEq, Eq)]
+#[derive(Clone, Copy, PartialEq, Eq)]
 pub enum Kind {
     Int { level: u8 },
     Text,

@@ -5,7 +5,7 @@ pub trait Gate {
 }
 
 /// A gate that returns at once.
-#[derive(Clone, Copy, Debug, Drop)]
+#[derive(Clone, Copy, Drop)]
 pub struct Idle;
 
 impl Gate for Idle {

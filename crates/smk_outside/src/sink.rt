@@ -1,11 +1,8 @@
 ghost use Rattle.std.specs.Prelude.{◌≤◌, ℕ, List, Option, OnOk, OnErr};
 ghost use Rattle.smk_outside.specs.Outside.{Rose, Appends, AppendsPart};
 
-use thiserror::Error;
-
 /// A write to a sink failed.
-#[derive(Debug, Drop, Clone, Copy, PartialEq, Eq, Error)]
-#[error("the bytes can't be written")]
+#[derive(Drop, Clone, Copy)]
 pub struct Failed;
 
 /// Where bytes are written, one after the other.
