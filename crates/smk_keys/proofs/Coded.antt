@@ -81,6 +81,11 @@ IsCoded-more eq decides none items n of keys so = elim (cases_Bool (list_any (eq
   | inr new ↦ rw new (anew eq decides none items n of keys so new)
 ]
 
+-- one more item, read from its place
+pub IsCoded-next : {X : Type 0} (eq : X → X → Bool) (decides : (x y : X) → Decides (eq x y) (x ≡ y)) (none : X) (items : List X) (n : ℕ) (of : List ℕ) (keys : List X) (x : X) → x ≡ get_or items n none → IsCoded eq none items n of keys
+    → IsCoded eq none items (n + 1) (of ++ position_or_len (eq x) keys ∷ []) (if list_any (eq x) keys then keys else keys ++ x ∷ [])
+IsCoded-next eq decides none items n of keys x at so = rw at (IsCoded-more eq decides none items n of keys so)
+
 -- the places are numbers of the items
 pub AreNumbers-coded : {X : Type 0} (eq : X → X → Bool) (decides : (x y : X) → Decides (eq x y) (x ≡ y)) (none : X) (items : List X) (n : ℕ) (of : List ℕ) (keys : List X) → n ≡ length items → IsCoded eq none items n of keys
     → AreNumbers none items (length keys) of

@@ -4,6 +4,7 @@
 mod both;
 mod classes;
 mod columns;
+mod hashed;
 mod ints;
 mod numbers;
 mod pairs;

@@ -1,5 +1,5 @@
 //! Numbers of pairs of numbers.
-ghost use Rattle.std.specs.Prelude.{◌≡◌, ◌≤◌, ◌<◌, ◌+◌, ◌*◌, ◌^◌, ℕ, length, All, IfOk, slice_index};
+ghost use Rattle.std.specs.Prelude.{◌≡◌, ◌≤◌, ◌<◌, ◌+◌, ◌*◌, ◌^◌, ℕ, [], length, All, IfOk, slice_index};
 ghost use Rattle.std.specs.List.{zip};
 ghost use Rattle.smk_keys.specs.Numbers.{AreNumbers};
 
@@ -48,7 +48,7 @@ fn table_places(
 {
     let mut places = Vec::with_capacity(alloc, lefts.len())?;
     for i in 0..lefts.len() {
-        places.push(lefts[i] * width + rights[i])?;
+        places.push_reserved(lefts[i] * width + rights[i]);
     }
     Ok(places)
 }
@@ -60,10 +60,27 @@ fn hashed_pairs(alloc: Global, lefts: &[u32], rights: &[u32]) -> Result<Numbers,
     ensures { IfOk result (λ made. AreNumbers (0, 0) (zip lefts.now rights.now) made.count made.of.items) }
 {
     let mut seen = IndexSet::with_capacity(alloc, lefts.len())?;
+    let made = pairs_in(alloc, lefts, rights, &mut seen);
+    drop(seen);
+    made
+}
+
+// Puts pairs into a set without any, and gives their numbers.
+fn pairs_in(
+    alloc: Global,
+    lefts: &[u32],
+    rights: &[u32],
+    seen: &mut IndexSet<(u32, u32)>,
+) -> Result<Numbers, AllocError>
+    requires few { length lefts.now ≤ 2097152 }
+    requires long { length rights.now ≡ length lefts.now }
+    requires none { seen.old.keys ≡ [] }
+    ensures { IfOk result (λ made. AreNumbers (0, 0) (zip lefts.now rights.now) made.count made.of.items) }
+{
     let mut of = Vec::with_capacity(alloc, lefts.len())?;
     for i in 0..lefts.len() {
         let (number, _) = seen.insert_full((lefts[i], rights[i]))?;
-        of.push(number as u32)?;
+        of.push_reserved(number as u32);
     }
     let count = seen.len() as u32;
     Ok(Numbers { of, count })

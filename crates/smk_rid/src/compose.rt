@@ -59,7 +59,7 @@ fn composed_arrays(
     let mut pairs = 0;
     for i in 0..first.len() {
         let rid = number_through(second, first.number(i));
-        rids.push(rid)?;
+        rids.push_reserved(rid);
         pairs += u32::from(rid != NONE);
     }
     Ok(RidMap::of_array(RidArray::of(rids), bound, pairs))

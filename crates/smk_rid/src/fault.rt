@@ -5,7 +5,7 @@ use std::alloc::AllocError;
 use thiserror::Error;
 
 /// Why a rid map wasn't made.
-#[derive(Debug, Drop, Clone, Copy, PartialEq, Eq, Error)]
+#[derive(Debug, Drop, Clone, Copy, Error)]
 pub enum RidFault {
     /// It would have more than 16,777,216 pairs.
     #[error("too many pairs")]

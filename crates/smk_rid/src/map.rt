@@ -50,7 +50,7 @@ impl RidMap {
     {
         let mut rids = Vec::with_capacity(alloc, len as usize)?;
         for i in 0..len {
-            rids.push(i)?;
+            rids.push_reserved(i);
         }
         Ok(RidMap::of_array(RidArray::of(rids), len, len))
     }
@@ -74,10 +74,10 @@ impl RidMap {
         for rid in of {
             match *rid {
                 Some(r) => {
-                    rids.push(r)?;
+                    rids.push_reserved(r);
                     pairs += 1;
                 }
-                None => rids.push(NONE)?,
+                None => rids.push_reserved(NONE),
             }
         }
         Ok(RidMap::of_array(RidArray::of(rids), bound, pairs))

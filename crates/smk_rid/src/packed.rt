@@ -37,7 +37,7 @@ impl Packed {
         ensures { IfOk result (λ made. made ≡ []) }
     {
         let mut starts = Vec::with_capacity(alloc, lists + 1)?;
-        starts.push(0)?;
+        starts.push_reserved(0);
         let rids = Vec::with_capacity(alloc, rids)?;
         Ok(Packed { starts, rids })
     }
@@ -116,10 +116,7 @@ impl Packed {
         self.starts.reserve(1)?;
         self.rids.extend_from_slice(list)?;
         let end = self.rids.len() as u32;
-        match self.starts.push(end) {
-            Ok(()) => {}
-            Err(_) => unreachable!(),
-        }
+        self.starts.push_reserved(end);
         Ok(())
     }
 

@@ -18,3 +18,9 @@ pair_numbers-requires-clause-long c = grind (arith, common_steps)
 
 pub pair_numbers-requires-clause-few : goal.pair_numbers-requires-clause-few
 pair_numbers-requires-clause-few c = grind (arith, common_steps)
+
+pub pair_numbers-requires-clause-left : goal.pair_numbers-requires-clause-left
+pair_numbers-requires-clause-left c = c.loop-k.invariant.below
+
+pub pair_numbers-requires-clause-right : goal.pair_numbers-requires-clause-right
+pair_numbers-requires-clause-right c = c.in_ok-more.ensures.below

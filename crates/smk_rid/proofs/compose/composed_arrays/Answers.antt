@@ -1,7 +1,7 @@
 use Rattle.std.proofs.Common.{arith, ◌≡◌, ◌∙◌, ◌<◌, ◌≤◌, ◌+◌, ◌∷◌, ◌++◌, [], ℕ, length, take, map, get_or, ap, sym, inl, inr}
 use Rattle.std.specs.List.{flat_map}
 use Rattle.std.proofs.lemmas.Bool.{cases_eq, eq-eqb, ne_eqb}
-use Rattle.std.proofs.lemmas.List.{take_all, map_more}
+use Rattle.std.proofs.lemmas.List.{length_push, take_all, map_more}
 use Rattle.std.proofs.lemmas.List.Sums.{sum_by_more}
 use Rattle.std.proofs.lemmas.Grind.{common_steps}
 use Rattle.smk_base.specs.Places.{Lists, members_at, list_at, pairs_of}
@@ -30,16 +30,18 @@ loop-i-preserved c =
     let below = is_below (length m.lists) (get_or xs i []) (c.requires.map.sets i [] low) in
     let is : one_of rid ≡ members_at m (get_or xs i []) = c.number_through-rid.ensures.list ∙ ap (flat_map (list_at m)) place ∙ members_single m (get_or xs i []) c.requires.sets below (c.requires.single i [] low) in
     let fewer : length (one_of rid) ≤ length (get_or xs i []) = rw place at c.number_through-rid.ensures.fewer in
-    let pushed : c.push.new.self.items ≡ rids ++ rid ∷ [] = c.in_ok-push.ensures.items in
+    let pushed : c.push_reserved.new.self.items ≡ rids ++ rid ∷ [] = c.push_reserved.ensures.items in
     let counted : c.from-pairs.result ≡ length (one_of rid) = elim (cases_eq rid 4294967295) [
       | inl none ↦ rw (eq-eqb rid 4294967295 none) (rw (eq-eqb rid 4294967295 none) at c.from-pairs.ensures)
       | inr some ↦ rw (ne_eqb rid 4294967295 some) (rw (ne_eqb rid 4294967295 some) at c.from-pairs.ensures)
     ] in
-    let more : pairs_of (map one_of c.push.new.self.items) ≡ pairs_of (map one_of rids) + length (one_of rid) = ap (λ z. pairs_of (map one_of z)) pushed ∙ ap pairs_of (ones_push rids rid) ∙ pairs_push (map one_of rids) (one_of rid) in
+    let more : pairs_of (map one_of c.push_reserved.new.self.items) ≡ pairs_of (map one_of rids) + length (one_of rid) = ap (λ z. pairs_of (map one_of z)) pushed ∙ ap pairs_of (ones_push rids rid) ∙ pairs_push (map one_of rids) (one_of rid) in
     record {
       lists = ap (map one_of) pushed ∙ ones_push rids rid ∙ rw (c.loop-i.invariant.lists, is) (sym (map_more (members_at m) xs i [] low));
       pairs = omega (arith, more, counted, c.loop-i.invariant.pairs);
       few = omega (arith, counted, fewer, c.loop-i.invariant.few, sum_by_more (length {A = ℕ}) xs i [] low);
+      len = rw pushed (omega (arith, length_push rids rid, c.loop-i.invariant.len));
+      room = rw c.push_reserved.ensures.capacity c.loop-i.invariant.room;
     }
 
 pub of_array-requires-clause-map : goal.of_array-requires-clause-map

@@ -17,8 +17,8 @@ of_array-requires-clause-single c =
     let lists : c.of.result ≡ map option_to_list c.args.of.now = c.of.ensures ∙ c.loop-rid.invariant.lists ∙ ap (map option_to_list) whole in
     rw lists (single-options c.args.of.now)
 
-pub loop-rid-preserved : goal.loop-rid-preserved
-loop-rid-preserved c = grind (arith, common_steps)
-
 pub returns : goal.returns
 returns c = grind (arith, common_steps)
+
+pub loop-rid-preserved : goal.loop-rid-preserved
+loop-rid-preserved c = grind (arith, common_steps)

@@ -1,5 +1,4 @@
-use Rattle.std.proofs.Common.{arith, ◌≡◌, ◌≤◌, ◌+◌, ◌++◌, ◌∷◌, [], length, ap, subst}
-use Rattle.std.proofs.lemmas.Grind.{common_steps}
+use Rattle.std.proofs.Common.{arith, ◌≡◌, ◌∙◌, ◌≤◌, ℕ, List, ◌+◌, ◌++◌, ◌∷◌, [], length, ap, subst}
 use Rattle.std.proofs.lemmas.List.{length-append}
 use Rattle.smk_rid.specs.Packing.{IsPacking}
 use Rattle.smk_rid.proofs.Packs.{cut_is, packing_put, length-concat}
@@ -10,8 +9,8 @@ invariant_of-self-2 c =
     let s = c.self.inside.starts.items in
     let r = c.self.inside.rids.items in
     let kept : IsPacking s r c.args.self.now = subst (IsPacking s r) c.self.view_is c.self.invariant in
-    let starts : c.push.new.self.items ≡ s ++ c.len-end.result ∷ [] = grind (arith, common_steps) in
-    let rids : c.extend_from_slice.new.self.items ≡ r ++ c.args.list.now = grind (arith, common_steps) in
+    let starts : c.push_reserved.new.self.items ≡ s ++ c.len-end.result ∷ [] = c.push_reserved.ensures.items ∙ ap (λ (starts : List ℕ). starts ++ c.len-end.result ∷ []) c.in_ok-reserve.ensures.items in
+    let rids : c.extend_from_slice.new.self.items ≡ r ++ c.args.list.now = c.in_ok-extend_from_slice.ensures.items in
     let end : c.len-end.result ≡ length r + length c.args.list.now = omega (arith, c.len-end.ensures, c.extend_from_slice.new.self.ok.0, ap length rids, length-append r c.args.list.now) in
     let few : c.len-end.result ≤ 16777216 = omega (arith, c.requires, end, ap length kept.all, length-concat c.args.self.now) in
     let made = packing_put s r c.args.self.now c.args.list.now c.len-end.result kept end few in
@@ -22,8 +21,8 @@ returns c =
     let s = c.self.inside.starts.items in
     let r = c.self.inside.rids.items in
     let kept : IsPacking s r c.args.self.now = subst (IsPacking s r) c.self.view_is c.self.invariant in
-    let starts : c.push.new.self.items ≡ s ++ c.len-end.result ∷ [] = grind (arith, common_steps) in
-    let rids : c.extend_from_slice.new.self.items ≡ r ++ c.args.list.now = grind (arith, common_steps) in
+    let starts : c.push_reserved.new.self.items ≡ s ++ c.len-end.result ∷ [] = c.push_reserved.ensures.items ∙ ap (λ (starts : List ℕ). starts ++ c.len-end.result ∷ []) c.in_ok-reserve.ensures.items in
+    let rids : c.extend_from_slice.new.self.items ≡ r ++ c.args.list.now = c.in_ok-extend_from_slice.ensures.items in
     let end : c.len-end.result ≡ length r + length c.args.list.now = omega (arith, c.len-end.ensures, c.extend_from_slice.new.self.ok.0, ap length rids, length-append r c.args.list.now) in
     let few : c.len-end.result ≤ 16777216 = omega (arith, c.requires, end, ap length kept.all, length-concat c.args.self.now) in
     let made = packing_put s r c.args.self.now c.args.list.now c.len-end.result kept end few in
