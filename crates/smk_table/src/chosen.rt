@@ -33,14 +33,21 @@ impl Chosen {
     }
 
     // The rows at these rids.
-    pub(crate) fn at_rids(rel: Rel, rids: Rids) -> Chosen
-        requires inside { All (λ rid. rid < length rel.rows) rids }
-        requires few { length rids ≤ ROW_LIMIT }
-        ensures { result ≡ record { kinds = rel.kinds; rows = rows_at rel.rows rids } }
+    pub(crate) fn at_rids(alloc: Global, rel: &Rel, rids: &[u32]) -> Result<Chosen, AllocError>
+        requires inside { All (λ rid. rid < length rel.now.rows) rids.now }
+        requires few { length rids.now ≤ ROW_LIMIT }
+        ensures { IfOk result (λ chosen. chosen ≡ record { kinds = rel.now.kinds; rows = rows_at rel.now.rows rids.now }) }
     {
-        Chosen {
-            rel,
-            rids: Some(rids),
+        let rids = Rids::from_vec(Vec::from_slice(alloc, rids)?);
+        match rel.copy(alloc) {
+            Ok(rel) => Ok(Chosen {
+                rel,
+                rids: Some(rids),
+            }),
+            Err(error) => {
+                drop(rids);
+                Err(error)
+            }
         }
     }
 

@@ -51,19 +51,11 @@ fn empty_rel(alloc: Global, cols: &ColDecls) -> Result<RelBuilder, AllocError>
     requires { AreColumns cols.now }
     ensures { IfOk result (λ rel. rel ≡ record { kinds = kinds_of cols.now; rows = []; begun = [] }) }
 {
-    let kinds = kinds_in(alloc, cols)?;
-    RelBuilder::new(alloc, kinds.as_slice())
-}
-
-/// The kinds of the declared columns.
-fn kinds_in(alloc: Global, cols: &ColDecls) -> Result<Vec<Kind>, AllocError>
-    ensures { IfOk result (λ kinds. kinds.items ≡ kinds_of cols.now) }
-{
-    let mut kinds = Vec::with_capacity(alloc, cols.as_slice().len())?;
-    for decl in cols.as_slice() {
-        kinds.push(decl.kind)?;
+    let mut kinds = [Kind::Text; 16];
+    for (c, decl) in cols.as_slice().iter().enumerate() {
+        kinds[c] = decl.kind;
     }
-    Ok(kinds)
+    RelBuilder::new(alloc, &kinds[..cols.as_slice().len()])
 }
 
 /// Puts the rows of all the records that are left behind no row.

@@ -4,7 +4,7 @@ ghost use Rattle.smk_base.specs.Rels.{IsRelation, Fits, kind_in, row_in, rows_at
 ghost use Rattle.smk_model.specs.Tables.{IsBase};
 
 use crate::chosen::Chosen;
-use smk_base::{CellRef, Kind, ROW_LIMIT, Rel, Rids, Row};
+use smk_base::{CellRef, Kind, ROW_LIMIT, Rel, Row};
 use smk_outside::Steps;
 use std::alloc::{AllocError, Global};
 use std::marker::Model;
@@ -125,9 +125,7 @@ impl Table {
     {
         let looks = rids.len() as u32;
         count_looks(looks, steps);
-        let rel = self.rel.copy(alloc)?;
-        let rids = Vec::from_slice(alloc, rids)?;
-        Ok(Chosen::at_rids(rel, Rids::from_vec(rids)))
+        Chosen::at_rids(alloc, &self.rel, rids)
     }
 
     /// All rows, to be gathered later. It is one look for each, at once and also where it wants memory.

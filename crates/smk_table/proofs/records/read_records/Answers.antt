@@ -8,3 +8,27 @@ of_rel-requires c = rw (c.in_ok-shared.ensures, c.in_ok-finish.ensures, c.in_ok-
 
 pub read_rows-requires-clause-between : goal.read_rows-requires-clause-between
 read_rows-requires-clause-between c = grind (arith, common_steps)
+
+pub returns-clause-rows : goal.returns-clause-rows
+returns-clause-rows c = grind (arith, common_steps)
+
+pub returns-clause-kinds : goal.returns-clause-kinds
+returns-clause-kinds c = grind (arith, common_steps)
+
+pub read_rows-requires-clause-columns : goal.read_rows-requires-clause-columns
+read_rows-requires-clause-columns c = grind (arith, common_steps)
+
+pub read_rows-requires-clause-places : goal.read_rows-requires-clause-places
+read_rows-requires-clause-places c = grind (arith, common_steps)
+
+pub read_rows-requires-clause-kinds : goal.read_rows-requires-clause-kinds
+read_rows-requires-clause-kinds c = grind (arith, common_steps)
+
+pub returns-then-not-branch-clause-fault : goal.returns-then-not-branch-clause-fault
+returns-then-not-branch-clause-fault c = grind (arith, common_steps)
+
+pub empty_rel-requires : goal.empty_rel-requires
+empty_rel-requires c = grind (arith, common_steps)
+
+pub finish-requires : goal.finish-requires
+finish-requires c = grind (arith, common_steps)

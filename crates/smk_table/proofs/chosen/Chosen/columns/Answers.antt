@@ -13,3 +13,9 @@ returns-in-Some c =
 
 pub gather-requires-clause-within : goal.gather-requires-clause-within
 gather-requires-clause-within c = grind (arith, common_steps)
+
+pub pick_columns-requires-clause-within : goal.pick_columns-requires-clause-within
+pick_columns-requires-clause-within c = grind (arith, common_steps)
+
+pub gather-requires-clause-few : goal.gather-requires-clause-few
+gather-requires-clause-few c = grind (arith, common_steps)
