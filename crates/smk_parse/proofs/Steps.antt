@@ -1,12 +1,10 @@
 -- How a symbol and the token in hand go on.
-use Rattle.std.specs.Prelude.{Result, Ok, Err, cond, IsTrue, nat_lt}
-use Rattle.smk_parse.specs.Words.{TokenKind, BookFault, Many, TooMany, BadNumber, NoMemory, Token, head_of, tail_of, First, State, Counts, Symbol, Move, Takes, Skips, Wrong, Past, Outside, through, settle, next, or_next, go_on, fault_at, is_more, same_kind, AToken, Columns, NameBytes, within, is_mark, at_first, at_item, at_keys, at_source, at_united, at_column, at_term, at_literal, at_mark, at_marks, AColumn, ALiteral, AnAs, AKeys, AFirst, AnItem, MoreKeys, ASource, AUnited, ATerm, AMarks, AMark, MoreMarks, AreMore, AreListed, at_more, int_value}
+use Rattle.std.specs.Prelude.{Result, Ok, Err, Option, Some, None, is_some, cond, IsTrue, nat_lt}
+use Rattle.smk_parse.specs.Words.{TokenKind, BookFault, Many, TooMany, BadNumber, NoMemory, Token, head_of, tail_of, First, State, Counts, Symbol, Move, Takes, Skips, Wrong, Past, Outside, through, settle, next, or_next, go_on, fault_at, is_more, same_kind, AToken, Columns, NameBytes, Nodes, node_more, node_move, step_symbols, AStep, within, is_mark, at_first, at_item, at_keys, at_source, at_united, at_column, at_term, at_literal, at_mark, at_marks, AColumn, ALiteral, AnAs, AKeys, AFirst, AnItem, MoreKeys, ASource, AUnited, ATerm, AMarks, AMark, MoreMarks, AreMore, AreListed, at_more, int_value}
 use Rattle.std.proofs.Common.{◌≡◌, ◌<◌, List, [], ◌∷◌, ◌++◌, length, ap, ◌∙◌, sym, refl, append_assoc, arith, ℕ, ◌+◌, true, false, subst, ℤ, Bool}
-use Rattle.std.proofs.lemmas.Grind.{length_at_push}
-use Rattle.smk_model.proofs.Alike.{same_is}
-use Rattle.smk_model.specs.Grammar.{one_more}
-use Rattle.smk_parse.specs.Reads.{Leads, Fails, is_memory, Comes, Reads, is_column}
-use Rattle.smk_parse.specs.Texts.{Advances}
+use Rattle.std.proofs.lemmas.{Bool.lt-ltb, Grind.length_at_push}
+use Rattle.smk_model.{proofs.Alike.same_is, specs.Grammar.one_more}
+use Rattle.smk_parse.specs.{Reads.Leads, Reads.Fails, Reads.is_memory, Reads.Comes, Reads.Reads, Reads.is_column, Texts.Advances}
 use Rattle.smk_base.specs.declared.token.TokenKind.TheVariants as kinds
 
 -- there is a token in hand
@@ -128,8 +126,6 @@ token_fails k a f h g e = wrong (AToken k) a f h g (ap (λ o. cond o (Takes a.co
 
 pub ruleset expect_goes = (token_leads, token_fails, token_first, token_more)
 
--- symbols that begin as others do
-
 -- at a token of this kind the symbol is these
 pub data Starts : Symbol → List Symbol → TokenKind → Type 0 where
   keys_start : {k : TokenKind} → is_column k ≡ true → Starts AKeys (AFirst 0 ∷ MoreKeys 1 ∷ []) k
@@ -183,8 +179,6 @@ column_move c short _ e = absurd (cc)
 literal_move : (c : Counts) (short : Bool) (k : TokenKind) → is_column k ≡ false → at_term c short k ≡ at_literal c k
 literal_move c short kinds.Name e = absurd (cc)
 literal_move c short kinds.Quoted e = absurd (cc)
-literal_move c short kinds.Number e = refl
-literal_move c short kinds.Str e = refl
 literal_move c short _ e = refl
 
 starts_come : (x : Symbol) (ls : List Symbol) (a : State) → Here a → Starts x ls (head_of a.rest).kind → Comes (x ∷ []) ls a a
@@ -201,20 +195,29 @@ started_leads x ls a b k h e = comes_leads _ _ a a b (starts_come x ls a h e) k
 pub started_fails : (x : Symbol) (ls : List Symbol) (a : State) (f : BookFault) → Fails ls a f → Here a → Starts x ls (head_of a.rest).kind → Fails (x ∷ []) a f
 started_fails x ls a f k h e = comes_fails _ _ a a f (starts_come x ls a h e) k
 
+comes_reads : {X : Type 0} (ls ms : List Symbol) (a b c : State) (r : Result X BookFault) → Comes ls ms a b → Reads ms b c r → Reads ls a c r
+comes_reads ls ms a b c (Ok v) h k = comes_leads ls ms a b c h k
+comes_reads ls ms a b c (Err f) h k = comes_fails ls ms a b f h k
+
 pub started_reads : {X : Type 0} (x : Symbol) (ls : List Symbol) (a b : State) (r : Result X BookFault) → Reads ls a b r → Here a → Starts x ls (head_of a.rest).kind → Reads (x ∷ []) a b r
-started_reads x ls a b (Ok v) k h e = started_leads x ls a b k h e
-started_reads x ls a b (Err f) k h e = started_fails x ls a f k h e
+started_reads x ls a b r k h e = comes_reads _ ls a a b r (starts_come x ls a h e) k
+
+-- a step goes on with what follows its keyword
+pub step_reads : {X : Type 0} (d : ℕ) (k : TokenKind) (a b c : State) (r : Result X BookFault) → k ≡ (head_of a.rest).kind → is_some (step_symbols d k) ≡ true → Advances (node_more a.counts) a b → a.counts.nodes < 64 → ((l : List Symbol) → step_symbols d k ≡ Some l → Reads l b c r) → Reads (AStep d ∷ []) a c r
+step_reads d k a b c r e s h n g = by (step_symbols d k) refl s
+  where
+    by : (o : Option (List Symbol)) → step_symbols d k ≡ o → is_some o ≡ true → Reads (AStep d ∷ []) a c r
+    by None q s = absurd (cc)
+    by (Some l) q s = comes_reads _ l a b c r (opened (AStep d) l (node_more a.counts) a b h (ap (λ k. node_move a.counts (step_symbols d k)) (sym e) ∙ ap (node_move a.counts) q ∙ ap (λ p. within p Nodes (Takes (node_more a.counts) l)) (lt-ltb a.counts.nodes 64 n))) (g l q)
 
 pub ruleset begun = (started_leads, started_fails, keys_start, item_starts, column_starts, literal_starts, marks_start, united_starts)
 
--- lists with commas, as far as they are read
-
--- with these behind it, the list from a up to b is these members
+-- with a member and those that follow it behind it, the list from a up to b is these members
 pub record EndsList {T : Type 0} (IsX : List Token → List Token → T → Type 0) (a b : List Token) (xs : List T) : Type 0 where
-  pub ends : (c : List Token) (zs : List T) → AreMore IsX b c zs → AreListed IsX a c (xs ++ zs)
+  pub ends : (c d : List Token) (x : T) (zs : List T) → IsX b c x → AreMore IsX c d zs → AreListed IsX a d (xs ++ x ∷ zs)
 
-pub goes_list : {T : Type 0} (IsX : List Token → List Token → T → Type 0) (o a b c : List Token) (t : Token) (xs : List T) (x : T) → EndsList IsX o a xs → First kinds.Comma t a b → IsX b c x → EndsList IsX o c (xs ++ x ∷ [])
-goes_list IsX o a b c t xs x h f k = record { ends = λ d zs m. subst (AreListed IsX o d) (sym (append_assoc xs (x ∷ []) zs)) (h.ends d (x ∷ zs) (one_more f k m)) }
+pub goes_list : {T : Type 0} (IsX : List Token → List Token → T → Type 0) (o a b c : List Token) (t : Token) (xs : List T) (x : T) → EndsList IsX o a xs → IsX a b x → First kinds.Comma t b c → EndsList IsX o c (xs ++ x ∷ [])
+goes_list IsX o a b c t xs x h k f = record { ends = λ d e z zs p m. subst (AreListed IsX o e) (sym (append_assoc xs (x ∷ []) (z ∷ zs))) (h.ends b e x (z ∷ zs) k (one_more f p m)) }
 
 no_comma : (c : Counts) (ss : List Symbol) (k : TokenKind) → (k ≡ kinds.Comma → ⊥) → at_more c ss k ≡ Skips
 no_comma c ss kinds.Comma p = absurd (p refl)
@@ -230,8 +233,8 @@ more_opens x l a b g h e = opened x l a.counts a b h (g a.counts (head_of a.rest
 pub more_ends : (ls : List Symbol) (x : Symbol) (l : List Symbol) (a b : State) → GoesOn x l → Comes ls (x ∷ []) a b → b.rest ≡ head_of b.rest ∷ tail_of b.rest → ((head_of b.rest).kind ≡ kinds.Comma → ⊥) → Leads ls a b
 more_ends ls x l a b g h k p = comes_leads _ _ a b b h (skips x b k (g b.counts (head_of b.rest) ∙ no_comma b.counts l (head_of b.rest).kind p))
 
--- one more member of the list so far
-pub more_goes : {T : Type 0} (one : ℕ → List Symbol) (more : ℕ → Symbol) (ls : List Symbol) (xs ys zs : List T) (x : T) (a b c d : State) → GoesOn (more (length xs)) (one (length xs) ++ more (length xs + 1) ∷ []) → zs ≡ xs → ys ≡ xs ++ x ∷ [] → Comes ls (more (length xs) ∷ []) a b → Advances b.counts b c → (head_of b.rest).kind ≡ kinds.Comma → Leads (one (length zs)) c d → Comes ls (more (length ys) ∷ []) a d
-more_goes one more ls xs ys zs x a b c d g e f h k i r =
+-- a member behind those so far, and a comma
+pub more_goes : {T : Type 0} (one : ℕ → List Symbol) (more : ℕ → Symbol) (ls : List Symbol) (xs ys : List T) (x : T) (a b c d : State) → GoesOn (more (length xs + 1)) (one (length xs + 1) ++ more (length xs + 1 + 1) ∷ []) → ys ≡ xs ++ x ∷ [] → Comes ls (one (length xs) ++ more (length xs + 1) ∷ []) a b → Leads (one (length xs)) b c → Advances c.counts c d → (head_of c.rest).kind ≡ kinds.Comma → Comes ls (one (length ys) ++ more (length ys + 1) ∷ []) a d
+more_goes one more ls xs ys x a b c d g f h r k i =
     let n : length xs + 1 ≡ length ys = sym (length_at_push xs x).1 ∙ sym (ap length f) in
-    subst (λ m. Comes ls (more m ∷ []) a d) n (more_comes ls (one (length xs)) _ (more (length xs)) (more (length xs + 1)) a b c d h (more_opens (more (length xs)) (one (length xs) ++ more (length xs + 1) ∷ []) b c g k i) refl (subst (λ l. Leads (one (length l)) c d) e r))
+    subst (λ m. Comes ls (one m ++ more (m + 1) ∷ []) a d) n (comes_on ls _ _ a c d (comes_on ls _ _ a b c h (list_comes (one (length xs)) (more (length xs + 1) ∷ []) _ b c r refl)) (more_opens (more (length xs + 1)) _ c d g k i))

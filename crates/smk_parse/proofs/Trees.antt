@@ -1,28 +1,29 @@
 -- The trees of what was read. The cases of the grammar that show all their parts stand in the list as they are.
-use Rattle.smk_parse.specs.Words.{TokenKind, Word, Lit, CmpOp, Term, Extra, Marks, Then, CompareNode, BackNode, FwdNode, Token, head_of, int_value, string_value, First, IsName, IsColumn, IsLiteral, IsFile, IsNamed, IsExtra, IsOp, IsTerm, IsPrim, IsThen, IsLine, IsStmt, State, Counts}
+use Rattle.smk_parse.specs.Words.{TokenKind, Word, Lit, CmpOp, Term, Extra, Marks, Then, CompareNode, BackNode, FwdNode, LinkNode, Token, head_of, int_value, string_value, First, IsName, IsColumn, IsLiteral, IsFile, IsNamed, IsExtra, IsOp, IsTerm, IsPrim, IsThen, IsLine, IsStmt, AreListed, State, Counts}
 use Rattle.std.proofs.Common.{◌≡◌, ℕ, ℤ, true, List, ◌∷◌, ap, ◌∙◌, sym, subst, refl}
 use Rattle.smk_base.specs.declared.token.TokenKind.TheVariants as kinds
 use Rattle.smk_base.specs.declared.value.Value.TheVariants as values
 use Rattle.smk_base.specs.declared.tree.Line.TheVariants as lines
 use Rattle.smk_model.specs.Grammar.{name, plain, quoted, number, string, file, mark, width, by_itself, group_extra, group_step, union_all_step, union_step, int_type, text_type, no_default, default, decl, by_as, column_item, bin_item, count, sum, min, max, agg, no_keys, keys, no_aggs, aggs, pair, eq, ne, lt, le, gt, ge, column_term, literal_term, negated, bracketed, compared, conj, no_and, one_and, pred, no_or, one_or, plan, scan, inner_plan, no_step, one_step, where_step, project_step, distinct_step, group_step, join_step, theta_step, product_step, no_extra, by_extra, table_stmt, view_stmt, back_stmt, fwd_stmt, link_stmt, all_marks, listed_marks, no_then, where_then, group_then, show_line, back_line, fwd_line, brush_line, clear_line, clear_one_line, whole_line}
-use Rattle.smk_parse.specs.Texts.{Advances}
-use Rattle.smk_parse.specs.Reads.{is_column, column_word, IsMarked, marked}
+use Rattle.smk_parse.specs.{Texts.Advances, Reads.is_column, Reads.column_word, Reads.AreNames, Reads.two_names, Reads.IsMarked, Reads.marked}
 use Rattle.smk_parse.proofs.Steps.{first_here, in_order}
 
 pub name_is : (c : Counts) (a b : State) (w : Word) → Advances c a b → (head_of a.rest).kind ≡ kinds.Name → w ≡ column_word (head_of a.rest) → IsName a.rest b.rest w
 name_is c a b w h e f = subst (IsName a.rest b.rest) (sym f) (by (head_of a.rest).at (head_of a.rest).kind (head_of a.rest).text e h.first)
   where
     by : (n : ℕ) (k : TokenKind) (s : List ℕ) → k ≡ kinds.Name → a.rest ≡ record { at = n; kind = k; text = s } ∷ b.rest → IsName a.rest b.rest (column_word (record { at = n; kind = k; text = s }))
-    by n kinds.Name s e g = name (record { is_kind = refl; is_first = g })
-    by n _ s e g = absurd (cc)
+    by n k s e = subst (λ k. a.rest ≡ record { at = n; kind = k; text = s } ∷ b.rest → IsName a.rest b.rest (column_word (record { at = n; kind = k; text = s }))) (sym e) (λ g. name (record { is_kind = refl; is_first = g }))
+
+column_cases : (k : TokenKind) (P : TokenKind → Type 0) → is_column k ≡ true → P kinds.Name → P kinds.Quoted → P k
+column_cases kinds.Name P o p q = p
+column_cases kinds.Quoted P o p q = q
+column_cases _ P o p q = absurd (cc)
 
 pub column_is : (c : Counts) (a b : State) (w : Word) → Advances c a b → is_column (head_of a.rest).kind ≡ true → w ≡ column_word (head_of a.rest) → IsColumn a.rest b.rest w
 column_is c a b w h e f = subst (IsColumn a.rest b.rest) (sym f) (by (head_of a.rest).at (head_of a.rest).kind (head_of a.rest).text e h.first)
   where
     by : (n : ℕ) (k : TokenKind) (s : List ℕ) → is_column k ≡ true → a.rest ≡ record { at = n; kind = k; text = s } ∷ b.rest → IsColumn a.rest b.rest (column_word (record { at = n; kind = k; text = s }))
-    by n kinds.Name s o g = plain (record { is_kind = refl; is_first = g })
-    by n kinds.Quoted s o g = quoted (record { is_kind = refl; is_first = g })
-    by n _ s o g = absurd (cc)
+    by n k s o = column_cases k (λ k. a.rest ≡ record { at = n; kind = k; text = s } ∷ b.rest → IsColumn a.rest b.rest (column_word (record { at = n; kind = k; text = s }))) o (λ g. plain (record { is_kind = refl; is_first = g })) (λ g. quoted (record { is_kind = refl; is_first = g }))
 
 pub number_is : (a b : State) (l : Lit) (v : ℤ) → Advances a.counts a b → (head_of a.rest).kind ≡ kinds.Number → l.value ≡ values.Int v → v ≡ int_value (head_of a.rest).text → l.at ≡ (head_of a.rest).at → IsLiteral a.rest b.rest l
 number_is a b l v h e f k g = let n : l ≡ record { value = values.Int (int_value (head_of a.rest).text); at = (head_of a.rest).at } = λ i. record { value = (f ∙ ap values.Int k) i; at = g i } in subst (IsLiteral a.rest b.rest) (sym n) (number (first_here kinds.Number a.counts a b h e))
@@ -37,11 +38,15 @@ pub compared_is : (n : Counts) (a b : State) (c d : List Token) (w : Word) (o : 
 compared_is n a b c d w o x h e f k i = compared (column_is n a b w h e f) k i
 
 -- where the place of the first token was kept
-pub back_is : (a b c d e f g : List Token) (t u v : Token) (n : ℕ) (w z : Word) (x : Extra) → n ≡ t.at → First kinds.Lineage t a b → First kinds.Back u b c → IsName c d w → First kinds.To v d e → IsName e f z → IsExtra f g x → IsStmt a g (BackNode n w z x)
-back_is a b c d e f g t u v n w z x m h k i j l o = subst (λ m. IsStmt a g (BackNode m w z x)) (sym m) (back_stmt h k i j l o)
+pub back_is : (a b c d e : List Token) (t u : Token) (n : ℕ) (w z : Word) (x : Extra) → n ≡ t.at → First kinds.Lineage t a b → First kinds.Back u b c → AreNames kinds.To c d w z → IsExtra d e x → IsStmt a e (BackNode n w z x)
+back_is a b c d e t u n w z x m h k (two_names i j l) o = subst (λ m. IsStmt a e (BackNode m w z x)) (sym m) (back_stmt h k i j l o)
 
-pub fwd_is : (a b c d e f : List Token) (t u v : Token) (n : ℕ) (w z : Word) → n ≡ t.at → First kinds.Lineage t a b → First kinds.Fwd u b c → IsName c d w → First kinds.To v d e → IsName e f z → IsStmt a f (FwdNode n w z)
-fwd_is a b c d e f t u v n w z m h k i j l = subst (λ m. IsStmt a f (FwdNode m w z)) (sym m) (fwd_stmt h k i j l)
+pub fwd_is : (a b c d : List Token) (t u : Token) (n : ℕ) (w z : Word) → n ≡ t.at → First kinds.Lineage t a b → First kinds.Fwd u b c → AreNames kinds.To c d w z → IsStmt a d (FwdNode n w z)
+fwd_is a b c d t u n w z m h k (two_names i j l) = subst (λ m. IsStmt a d (FwdNode m w z)) (sym m) (fwd_stmt h k i j l)
+
+-- where two names were read together
+pub link_is : {a b c d e : List Token} {t u : Token} {w z : Word} {ws : List Word} → First kinds.Link t a b → AreNames kinds.On b c w z → First kinds.To u c d → AreListed IsName d e ws → IsStmt a e (LinkNode w z ws)
+link_is h (two_names k i j) l n = link_stmt h k i j l n
 
 -- where a line's names and marks were read together
 pub back_line_is : {a b c d : List Token} {t : Token} {w z : Word} {m : Marks} {x : Then} → First kinds.Back t a b → IsMarked kinds.To b c w m z → IsThen c d x → IsLine a d (lines.Back w.name m z.name x)
@@ -53,5 +58,15 @@ fwd_line_is h (marked k i j l) = fwd_line h k i j l
 pub brush_line_is : {a b c : List Token} {t : Token} {w z : Word} {m : Marks} → First kinds.Brush t a b → IsMarked kinds.On b c w m z → IsLine a c (lines.Brush w.name m z.name)
 brush_line_is h (marked k i j l) = brush_line h k i j l
 
--- what one who reads trees knows
-pub ruleset reading = (in_order, name_is, column_is, number_is, string, file_is, mark, width, itself_is, group_extra, compared_is, back_is, fwd_is, marked, back_line_is, fwd_line_is, brush_line_is, int_type, text_type, no_default, default, decl, by_as, column_item, bin_item, count, sum, min, max, agg, no_keys, keys, no_aggs, aggs, pair, eq, ne, lt, le, gt, ge, column_term, literal_term, negated, bracketed, compared, conj, no_and, one_and, pred, no_or, one_or, plan, scan, inner_plan, no_step, one_step, where_step, project_step, distinct_step, group_step, join_step, theta_step, product_step, union_all_step, union_step, no_extra, by_extra, table_stmt, view_stmt, back_stmt, fwd_stmt, link_stmt, all_marks, listed_marks, no_then, where_then, group_then, show_line, clear_line, clear_one_line, whole_line)
+-- what one who reads the trees of each file knows
+pub ruleset words = (in_order, name_is, column_is, number_is, string)
+
+pub ruleset preds = (in_order, compared_is, eq, ne, lt, le, gt, ge, column_term, literal_term, negated, bracketed, conj, no_and, one_and, pred, no_or, one_or)
+
+pub ruleset lists = (in_order, name_is, column_is, width, itself_is, int_type, text_type, no_default, default, decl, by_as, column_item, bin_item, count, sum, min, max, agg, no_keys, keys, no_aggs, aggs, pair)
+
+pub ruleset plans = (in_order, plan, scan, inner_plan, no_step, one_step, where_step, project_step, distinct_step, group_step, join_step, theta_step, product_step, union_all_step, union_step)
+
+pub ruleset stmts = (in_order, file_is, group_extra, no_extra, by_extra, table_stmt, view_stmt, back_is, fwd_is, two_names, link_is)
+
+pub ruleset line_trees = (in_order, name_is, column_is, mark, marked, all_marks, listed_marks, no_then, where_then, group_then, show_line, back_line_is, fwd_line_is, brush_line_is, clear_line, clear_one_line, whole_line)

@@ -1,13 +1,10 @@
 -- What a whole book or line is read as.
-use Rattle.std.specs.Prelude.{None, Err, map}
-use Rattle.smk_parse.specs.Words.{BookFault, LineFault, Stmt, BadToken, Unexpected, TooMany, BadNumber, NoMemory, StmtImage, stmt_image, Token, head_of, tokens, HasNoToken, IsStmt, AreStmts, State, Symbol, through, book_symbols, line_symbols, line_fault, ALine, AnEnd, fault_in, no_counts}
+use Rattle.std.{specs.Prelude.None, specs.Prelude.Err, specs.Prelude.map, proofs.lemmas.List.map_push}
+use Rattle.smk_parse.specs.Words.{BookFault, LineFault, Stmt, NoMemory, StmtImage, stmt_image, Token, head_of, tokens, HasNoToken, IsStmt, AreStmts, State, Symbol, through, book_symbols, line_symbols, line_fault, ALine, AnEnd, fault_in, no_counts}
 use Rattle.std.proofs.Common.{◌≡◌, ℕ, List, [], ◌∷◌, ◌++◌, false, ap, ◌∙◌, sym, subst, refl, append_assoc, append-nil}
-use Rattle.std.proofs.lemmas.List.{map_push}
 use Rattle.smk_base.specs.declared.token.TokenKind.TheVariants as kinds
 use Rattle.smk_model.specs.Grammar.{no_stmt, one_stmt}
-use Rattle.smk_parse.specs.Reads.{Leads, Fails, is_memory}
-use Rattle.smk_parse.specs.Answers.{IsBookAnswer, IsLineAnswer, as_line_fault}
-use Rattle.smk_parse.proofs.Steps.{Here}
+use Rattle.smk_parse.{specs.Reads.Leads, specs.Reads.Fails, specs.Reads.is_memory, specs.Answers.IsBookAnswer, specs.Answers.IsLineAnswer, specs.Answers.as_line_fault, proofs.Steps.Here}
 
 -- what the statements that follow make of those so far
 pub record EndsStmts (a b : List Token) (ss : List StmtImage) : Type 0 where
@@ -36,10 +33,7 @@ book_unread a text f e h = by f (faulty book_symbols a text f e h)
   where
     by : (f : BookFault) → (is_memory f ≡ false → through book_symbols no_counts (tokens text) ≡ Err f) → IsBookAnswer text (Err f)
     by NoMemory k = tt
-    by (BadToken at) k = ap fault_in (k refl)
-    by (Unexpected at) k = ap fault_in (k refl)
-    by (TooMany at what) k = ap fault_in (k refl)
-    by (BadNumber at) k = ap fault_in (k refl)
+    by _ k = ap fault_in (k refl)
 
 pub line_unread : (a : State) (text : List ℕ) (f : BookFault) (r : LineFault) → a ≡ record { rest = tokens text; counts = no_counts } → Fails (ALine ∷ AnEnd ∷ []) a f → ((head_of a.rest).kind ≡ kinds.End → ⊥) → r ≡ as_line_fault f → IsLineAnswer text (Err r)
 line_unread a text f r e k n g = subst (λ x. IsLineAnswer text (Err x)) (sym g) (by f (faulty line_symbols a text f e k))
@@ -49,10 +43,7 @@ line_unread a text f r e k n g = subst (λ x. IsLineAnswer text (Err x)) (sym g)
 
     by : (f : BookFault) → (is_memory f ≡ false → through line_symbols no_counts (tokens text) ≡ Err f) → IsLineAnswer text (Err (as_line_fault f))
     by NoMemory k = some
-    by (BadToken at) k = (some, (BadToken at, (ap fault_in (k refl), refl)))
-    by (Unexpected at) k = (some, (Unexpected at, (ap fault_in (k refl), refl)))
-    by (TooMany at what) k = (some, (TooMany at what, (ap fault_in (k refl), refl)))
-    by (BadNumber at) k = (some, (BadNumber at, (ap fault_in (k refl), refl)))
+    by f k = (some, (f, (ap fault_in (k refl), refl)))
 
 pub line_answer : (a b : State) (ts : List Token) → a ≡ record { rest = ts; counts = no_counts } → Leads (ALine ∷ AnEnd ∷ []) a b → line_fault ts ≡ None
 line_answer a b ts e h = ap (λ s. fault_in (through (ALine ∷ AnEnd ∷ []) s.counts s.rest)) (sym e) ∙ ap fault_in (h.goes [])

@@ -55,6 +55,10 @@ column_name t = by t.kind t.text
 abbrev pub column_word : Token → Word
 column_word t = record { name = column_name t; at = t.at }
 
+-- two names with a keyword between them
+pub data AreNames (kind : TokenKind) : List Token → List Token → Word → Word → Type 0 where
+  two_names : {a b c d : List Token} {t : Token} {w z : Word} → IsName a b w → First kind t b c → IsName c d z → AreNames kind a d w z
+
 -- the names of a line with marks and a keyword between them
 pub data IsMarked (kind : TokenKind) : List Token → List Token → Word → Marks → Word → Type 0 where
   marked : {a b c d e : List Token} {t : Token} {w z : Word} {m : Marks} → IsName a b w → AreMarks b c m → First kind t c d → IsName d e z → IsMarked kind a e w m z

@@ -1,20 +1,19 @@
-#![tactic(auto, using(crate::proofs::Trees::reading))]
+#![tactic(auto, using(crate::proofs::Trees::stmts))]
 
-ghost use Rattle.std.specs.Prelude.{◌≡◌, ◌∷◌, ◌<◌, [], List, length, map, IfOk, OnOk};
-ghost use Rattle.smk_parse.specs.Words.{stmt_image, Token, head_of, First, IsExtra, IsStmt, AreStmts, AToken, AName, AFirst, AType, ADefault, MoreDecls, ASource, ASteps, ALineage, AnExtra, ALinked, MoreLinked, book_symbols};
+ghost use Rattle.std.specs.Prelude.{◌≡◌, ◌∷◌, ◌<◌, [], List, length, map, IsTrue, IfOk, OnOk};
+ghost use Rattle.smk_parse.specs.Words.{stmt_image, Token, head_of, is_more, First, IsExtra, IsStmt, AreStmts, AToken, AName, AFirst, AType, ADefault, MoreDecls, ASource, ASteps, ALineage, AnExtra, ALinked, MoreLinked, book_symbols};
 ghost use Rattle.smk_base.specs.declared.token.TokenKind.TheVariants as kinds;
-ghost use Rattle.smk_parse.specs.Reads.{Reads, StmtReads};
-ghost use Rattle.smk_parse.specs.Answers.{IsBookAnswer};
+ghost use Rattle.smk_parse.specs.{Reads.AreNames, Reads.Reads, Reads.StmtReads, Answers.IsBookAnswer};
 
 use crate::lists::{Linked, aggs, keys, listed};
 use crate::plan::plan;
 use crate::reader::Reader;
 use crate::tokens::{column, expect, name, string_in_hand, within, wrong};
-use smk_base::{Book, BookFault, Decl, Extra, Many, Stmt, Stmts, TokenKind};
+use smk_base::{Book, BookFault, Decl, Extra, Many, Stmt, Stmts, TokenKind, Word};
 use std::alloc::Global;
 
 /// The statements of each kind so far.
-#[derive(Clone, Copy, Debug, Default)]
+#[derive(Clone, Copy, Default)]
 pub struct Tally {
     pub tables: u32,
     pub views: u32,
@@ -44,7 +43,7 @@ fn view_stmt(alloc: Global, reader: &mut Reader) -> Result<Stmt, BookFault>
 {
     let name = name(alloc, reader)?;
     expect(reader, TokenKind::Equal)?;
-    let plan = plan(alloc, reader, 0)?;
+    let plan = Box::into_inner(plan(alloc, reader, 0)?);
     Ok(Stmt::View { name, plan })
 }
 
@@ -69,6 +68,18 @@ fn extra(alloc: Global, reader: &mut Reader) -> Result<Extra, BookFault>
     }
 }
 
+/// A name, and behind this keyword another name.
+fn names(alloc: Global, reader: &mut Reader, between: TokenKind) -> Result<(Word, Word), BookFault>
+    requires { IsTrue (is_more between) }
+    ensures reads { Reads (AName ∷ AToken between ∷ AName ∷ []) reader.old reader.new result }
+    ensures is { IfOk result (λ m. AreNames between reader.old.rest reader.new.rest m.0 m.1) }
+{
+    let first = name(alloc, reader)?;
+    expect(reader, between)?;
+    let second = name(alloc, reader)?;
+    Ok((first, second))
+}
+
 /// A lineage declaration behind `lineage`, which stands at this place.
 fn lineage_stmt(alloc: Global, reader: &mut Reader, at: u64) -> Result<Stmt, BookFault>
     ensures reads { Reads (ALineage ∷ []) reader.old reader.new result }
@@ -77,9 +88,7 @@ fn lineage_stmt(alloc: Global, reader: &mut Reader, at: u64) -> Result<Stmt, Boo
     match reader.kind() {
         TokenKind::Back => {
             reader.advance();
-            let view = name(alloc, reader)?;
-            expect(reader, TokenKind::To)?;
-            let table = name(alloc, reader)?;
+            let (view, table) = names(alloc, reader, TokenKind::To)?;
             let extra = extra(alloc, reader)?;
             Ok(Stmt::Back {
                 at,
@@ -90,9 +99,7 @@ fn lineage_stmt(alloc: Global, reader: &mut Reader, at: u64) -> Result<Stmt, Boo
         }
         TokenKind::Fwd => {
             reader.advance();
-            let table = name(alloc, reader)?;
-            expect(reader, TokenKind::To)?;
-            let view = name(alloc, reader)?;
+            let (table, view) = names(alloc, reader, TokenKind::To)?;
             Ok(Stmt::Fwd { at, table, view })
         }
         _ => Err(wrong(reader)),
@@ -104,16 +111,14 @@ fn link_stmt(alloc: Global, reader: &mut Reader) -> Result<Stmt, BookFault>
     ensures reads { Reads (AName ∷ AToken kinds.On ∷ AName ∷ AToken kinds.To ∷ ALinked 0 ∷ MoreLinked 1 ∷ []) reader.old reader.new result }
     ensures is { IfOk result (λ stmt. (a : List Token) → (t : Token) → First kinds.Link t a reader.old.rest → IsStmt a reader.new.rest (stmt_image stmt)) }
 {
-    let view = name(alloc, reader)?;
-    expect(reader, TokenKind::On)?;
-    let table = name(alloc, reader)?;
+    let (view, table) = names(alloc, reader, TokenKind::On)?;
     expect(reader, TokenKind::To)?;
     let to = listed::<Linked>(alloc, reader)?;
     Ok(Stmt::Link { view, table, to })
 }
 
 /// A statement, which is counted.
-#[tactic(auto, using(crate::proofs::Trees::reading, crate::proofs::Steps::in_loop))]
+#[tactic(auto, using(crate::proofs::Trees::stmts, crate::proofs::Steps::in_loop))]
 fn stmt(alloc: Global, reader: &mut Reader, tally: &mut Tally) -> Result<Stmt, BookFault>
     requires { (head_of reader.old.rest).kind ≡ kinds.End → ⊥ }
     ensures reads { StmtReads tally.old tally.new reader.old reader.new result }
@@ -161,10 +166,7 @@ fn stmts(alloc: Global, reader: &mut Reader) -> Result<Stmts, BookFault>
     'stmts: loop {
         match reader.kind() {
             TokenKind::End => return Ok(stmts),
-            _ => {
-                let next = stmt(alloc, reader, &mut tally)?;
-                stmts.push(next)?;
-            }
+            _ => stmts.push(stmt(alloc, reader, &mut tally)?)?,
         }
     }
 }

@@ -6,7 +6,7 @@ ghost use Rattle.smk_parse.specs.Texts.{front_of, Within};
 use smk_base::{KEYWORDS, TokenKind};
 
 /// What stands at the front of a text: bytes that mean nothing, or a token, with their number.
-#[derive(Clone, Copy, Debug)]
+#[derive(Clone, Copy)]
 pub enum Front {
     Between(usize),
     Begins(TokenKind, usize),
@@ -31,9 +31,8 @@ fn size(digits: &[u8]) -> u128
 fn kind_of_number(minus: bool, digits: &[u8]) -> TokenKind
     ensures { result ≡ number_kind minus (digits_value 0 digits.now) }
 {
-    let size = size(digits);
     let beyond = if minus { BEYOND } else { BEYOND - 1 };
-    if size < beyond {
+    if size(digits) < beyond {
         TokenKind::Number
     } else {
         TokenKind::Huge

@@ -1,10 +1,9 @@
-#![tactic(auto, using(crate::proofs::Trees::reading))]
+#![tactic(auto, using(crate::proofs::Trees::line_trees))]
 
 ghost use Rattle.std.specs.Prelude.{◌≡◌, ◌∷◌, [], List, refl, IsTrue, IfOk};
 ghost use Rattle.smk_parse.specs.Words.{Token, is_more, First, IsMark, AreMarks, IsThen, IsLine, IsWholeLine, AToken, ALine, ALineName, AMark, MoreMarks, AMarks, AThen, ACleared, line_symbols};
 ghost use Rattle.smk_base.specs.declared.token.TokenKind.TheVariants as kinds;
-ghost use Rattle.smk_parse.specs.Reads.{IsMarked, Reads};
-ghost use Rattle.smk_parse.specs.Answers.{IsLineAnswer, as_line_fault};
+ghost use Rattle.smk_parse.specs.{Reads.IsMarked, Reads.Reads, Answers.IsLineAnswer, Answers.as_line_fault};
 
 use crate::lists::{Member, listed};
 use crate::reader::Reader;
@@ -35,7 +34,7 @@ impl Member for Mark {
 }
 
 /// The marks of a line.
-#[tactic(auto, using(crate::proofs::Trees::reading, crate::proofs::Steps::begun))]
+#[tactic(auto, using(crate::proofs::Trees::line_trees, crate::proofs::Steps::begun))]
 fn marks(alloc: Global, reader: &mut Reader) -> Result<Marks, BookFault>
     ensures reads { Reads (AMarks ∷ []) reader.old reader.new result }
     ensures is { IfOk result (λ marks. AreMarks reader.old.rest reader.new.rest marks) }

@@ -1,4 +1,4 @@
-#![tactic(auto, using(crate::proofs::Trees::reading))]
+#![tactic(auto, using(crate::proofs::Trees::lists))]
 
 ghost use Rattle.std.specs.Prelude.{◌≡◌, ◌∷◌, ◌++◌, ◌<◌, ◌≤◌, [], pos, ◌≤ℤ◌, refl, IfOk};
 ghost use Rattle.smk_parse.specs.Words.{head_of, AreListed, IsName, IsColumn, IsType, IsDefault, IsDecl, IsNamed, IsWidth, IsItem, IsWhat, IsAgg, IsPair, AreKeys, AreAggs, AToken, AColumn, AFirst, AType, ADefault, AnAs, AWidth, AnItem, AWhat, AKeys, AnAggs, ALinked, MoreDecls, MoreItems, MoreKeys, MoreAggs, MorePairs, MoreLinked};
@@ -35,15 +35,15 @@ pub fn listed<M: Member>(alloc: Global, reader: &mut Reader) -> Result<ListOf<M:
     ensures is { IfOk result (λ list. AreListed M.rule.spells reader.old.rest reader.new.rest list) }
 {
     let mut list = ListOf::new(alloc);
-    let first = M::read(alloc, reader, 0)?;
-    list.push(first)?;
-    'commas: while let TokenKind::Comma = reader.kind() {
-        reader.advance();
+    'members: loop {
         let before = list.as_slice().len();
         let next = M::read(alloc, reader, before)?;
         list.push(next)?;
+        match reader.kind() {
+            TokenKind::Comma => reader.advance(),
+            _ => return Ok(list),
+        }
     }
-    Ok(list)
 }
 
 /// Whether a declared column is a text.
@@ -157,7 +157,7 @@ impl Member for ItemTree {
 
     ghost rule = { record { one = λ n. AnItem n ∷ []; more = MoreItems; spells = IsItem; goes_on = λ n c t. refl } };
 
-    #[tactic(auto, using(crate::proofs::Trees::reading, crate::proofs::Steps::begun))]
+    #[tactic(auto, using(crate::proofs::Trees::lists, crate::proofs::Steps::begun))]
     fn read(alloc: Global, reader: &mut Reader, before: usize) -> Result<ItemTree, BookFault> {
         match reader.kind() {
             TokenKind::Bin => bin_item(alloc, reader, before),
@@ -249,7 +249,7 @@ impl Member for Linked {
 }
 
 /// The keys of a grouping.
-#[tactic(auto, using(crate::proofs::Trees::reading, crate::proofs::Steps::begun))]
+#[tactic(auto, using(crate::proofs::Trees::lists, crate::proofs::Steps::begun))]
 pub fn keys(alloc: Global, reader: &mut Reader) -> Result<Words, BookFault>
     ensures reads { Reads (AKeys ∷ []) reader.old reader.new result }
     ensures is { IfOk result (λ list. AreKeys reader.old.rest reader.new.rest list) }
@@ -257,8 +257,7 @@ pub fn keys(alloc: Global, reader: &mut Reader) -> Result<Words, BookFault>
     if !is_column(reader.kind()) {
         return Ok(Words::new(alloc));
     }
-    let keys = listed::<Word>(alloc, reader)?;
-    Ok(keys)
+    Ok(listed::<Word>(alloc, reader)?)
 }
 
 /// The aggregates of a grouping.

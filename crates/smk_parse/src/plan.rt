@@ -1,7 +1,7 @@
-#![tactic(auto, using(crate::proofs::Trees::reading))]
+#![tactic(auto, using(crate::proofs::Trees::plans))]
 
-ghost use Rattle.std.specs.Prelude.{◌≡◌, ◌∷◌, ◌+◌, ◌<◌, ◌≤◌, [], IsTrue, IfOk, IfErr, OnOk};
-ghost use Rattle.smk_parse.specs.Words.{TooMany, Nodes, tree_image, step_image, head_of, tail_of, is_more, IsSource, IsPlan, IsStep, node_more, ASource, ASteps, AStep};
+ghost use Rattle.std.specs.Prelude.{◌≡◌, ◌∷◌, ◌+◌, ◌<◌, ◌≤◌, [], ℕ, List, Some, is_some, true, IsTrue, IfOk, IfErr, OnOk};
+ghost use Rattle.smk_parse.specs.Words.{TooMany, Nodes, tree_image, step_image, head_of, tail_of, is_more, Symbol, Token, First, step_symbols, IsSource, IsPlan, IsStep, node_more, ASource, ASteps, AStep};
 ghost use Rattle.smk_base.specs.declared.token.TokenKind.TheVariants as kinds;
 ghost use Rattle.smk_parse.specs.{Texts.Advances, Reads.Reads};
 
@@ -9,6 +9,7 @@ use crate::lists::{aggs, keys, listed};
 use crate::pred::{on, pred};
 use crate::reader::Reader;
 use crate::tokens::{expect, name, within, wrong};
+use smk_base::TokenKind::{Distinct, Group, Join, Product, Project, Theta, Union, Where};
 use smk_base::{BookFault, ItemTree, Many, PairTree, StepTree, TokenKind, Tree};
 use std::alloc::Global;
 
@@ -28,35 +29,26 @@ fn take_node(reader: &mut Reader) -> Result<(), BookFault>
     Ok(())
 }
 
-/// A step without a source of its own.
-fn single_step(alloc: Global, reader: &mut Reader, depth: u32) -> Result<StepTree, BookFault>
-    requires join { (head_of reader.old.rest).kind ≡ kinds.Join → ⊥ }
-    requires theta { (head_of reader.old.rest).kind ≡ kinds.Theta → ⊥ }
-    requires product { (head_of reader.old.rest).kind ≡ kinds.Product → ⊥ }
-    requires union { (head_of reader.old.rest).kind ≡ kinds.Union → ⊥ }
-    ensures reads { Reads (AStep depth ∷ []) reader.old reader.new result }
-    ensures is { IfOk result (λ step. IsStep reader.old.rest reader.new.rest (head_of reader.old.rest).at (step_image step)) }
+/// Whether a token of this kind begins a step.
+fn is_step(kind: TokenKind) -> bool
+    ensures step { (depth : ℕ) → result ≡ is_some (step_symbols depth kind) }
+    ensures more { result ≡ true → IsTrue (is_more kind) }
 {
-    match reader.kind() {
-        TokenKind::Where => {
-            take_node(reader)?;
-            Ok(StepTree::Select(pred(alloc, reader, depth)?))
-        }
-        TokenKind::Project => {
-            take_node(reader)?;
-            Ok(StepTree::Project(listed::<ItemTree>(alloc, reader)?))
-        }
-        TokenKind::Distinct => {
-            take_node(reader)?;
-            Ok(StepTree::Distinct(listed::<ItemTree>(alloc, reader)?))
-        }
-        TokenKind::Group => {
-            take_node(reader)?;
-            let keys = keys(alloc, reader)?;
-            Ok(StepTree::Group(keys, aggs(alloc, reader)?))
-        }
-        _ => Err(wrong(reader)),
-    }
+    matches!(
+        kind,
+        Where | Project | Distinct | Group | Join | Theta | Product | Union
+    )
+}
+
+/// A table behind its keyword.
+fn scan(alloc: Global, reader: &mut Reader) -> Result<Box<Tree>, BookFault>
+    requires { (head_of reader.old.rest).kind ≡ kinds.Scan }
+    ensures reads { (depth : ℕ) → Reads (ASource depth ∷ []) reader.old reader.new result }
+    ensures is { IfOk result (λ tree. IsSource reader.old.rest reader.new.rest (tree_image tree.value)) }
+{
+    take_node(reader)?;
+    let table = name(alloc, reader)?;
+    Ok(Box::new(alloc, Tree::Scan(table))?)
 }
 
 /// A table, or a plan in parentheses.
@@ -66,68 +58,81 @@ fn source(alloc: Global, reader: &mut Reader, depth: u32) -> Result<Box<Tree>, B
     ensures is { IfOk result (λ tree. IsSource reader.old.rest reader.new.rest (tree_image tree.value)) }
 {
     match reader.kind() {
-        TokenKind::Scan => {
-            take_node(reader)?;
-            let table = name(alloc, reader)?;
-            Ok(Box::new(alloc, Tree::Scan(table))?)
-        }
+        TokenKind::Scan => scan(alloc, reader),
         TokenKind::Open => {
             within(reader, depth < 32, Many::Depth)?;
             reader.advance();
             let inner = plan(alloc, reader, depth + 1)?;
             expect(reader, TokenKind::Close)?;
-            Ok(Box::new(alloc, inner)?)
+            Ok(inner)
         }
         _ => Err(wrong(reader)),
     }
 }
 
+/// What follows the keyword of a step.
+#[tactic(auto, using(crate::proofs::Trees::plans, crate::proofs::Steps::begun))]
+#[cycle(plan)]
+fn parts(
+    alloc: Global,
+    reader: &mut Reader,
+    kind: TokenKind,
+    depth: u32,
+) -> Result<StepTree, BookFault>
+    ensures reads { (l : List Symbol) → step_symbols depth kind ≡ Some l → Reads l reader.old reader.new result }
+    ensures is { IfOk result (λ step. (a : List Token) → (t : Token) → First kind t a reader.old.rest → IsStep a reader.new.rest t.at (step_image step)) }
+{
+    match kind {
+        Where => Ok(StepTree::Select(Box::into_inner(pred(alloc, reader, depth)?))),
+        Project => Ok(StepTree::Project(listed::<ItemTree>(alloc, reader)?)),
+        Distinct => Ok(StepTree::Distinct(listed::<ItemTree>(alloc, reader)?)),
+        Group => {
+            let keys = keys(alloc, reader)?;
+            Ok(StepTree::Group(keys, aggs(alloc, reader)?))
+        }
+        Join => {
+            let right = source(alloc, reader, depth)?;
+            expect(reader, TokenKind::On)?;
+            Ok(StepTree::Join(right, listed::<PairTree>(alloc, reader)?))
+        }
+        Theta => {
+            let right = source(alloc, reader, depth)?;
+            on(reader)?;
+            let pred = Box::into_inner(pred(alloc, reader, depth)?);
+            Ok(StepTree::Theta(right, pred))
+        }
+        Product => Ok(StepTree::Product(source(alloc, reader, depth)?)),
+        Union => match reader.kind() {
+            TokenKind::All => {
+                reader.advance();
+                Ok(StepTree::UnionAll(source(alloc, reader, depth)?))
+            }
+            _ => Ok(StepTree::Union(source(alloc, reader, depth)?)),
+        },
+        _ => Err(wrong(reader)),
+    }
+}
+
 /// A step.
-#[tactic(auto, using(crate::proofs::Trees::reading, crate::proofs::Steps::begun))]
 #[cycle(plan)]
 fn step(alloc: Global, reader: &mut Reader, depth: u32) -> Result<StepTree, BookFault>
     ensures reads { Reads (AStep depth ∷ []) reader.old reader.new result }
     ensures is { IfOk result (λ step. IsStep reader.old.rest reader.new.rest (head_of reader.old.rest).at (step_image step)) }
 {
-    match reader.kind() {
-        TokenKind::Join => {
-            take_node(reader)?;
-            let right = source(alloc, reader, depth)?;
-            expect(reader, TokenKind::On)?;
-            let pairs = listed::<PairTree>(alloc, reader)?;
-            Ok(StepTree::Join(right, pairs))
-        }
-        TokenKind::Theta => {
-            take_node(reader)?;
-            let right = source(alloc, reader, depth)?;
-            on(reader)?;
-            let pred = pred(alloc, reader, depth)?;
-            Ok(StepTree::Theta(right, pred))
-        }
-        TokenKind::Product => {
-            take_node(reader)?;
-            Ok(StepTree::Product(source(alloc, reader, depth)?))
-        }
-        TokenKind::Union => {
-            take_node(reader)?;
-            match reader.kind() {
-                TokenKind::All => {
-                    reader.advance();
-                    Ok(StepTree::UnionAll(source(alloc, reader, depth)?))
-                }
-                _ => Ok(StepTree::Union(source(alloc, reader, depth)?)),
-            }
-        }
-        _ => single_step(alloc, reader, depth),
+    let kind = reader.kind();
+    if !is_step(kind) {
+        return Err(wrong(reader));
     }
+    take_node(reader)?;
+    parts(alloc, reader, kind, depth)
 }
 
 /// A source with its steps.
-#[tactic(auto, using(crate::proofs::Trees::reading, crate::proofs::Steps::in_loop))]
+#[tactic(auto, using(crate::proofs::Trees::plans, crate::proofs::Steps::in_loop))]
 #[cycle(plan)]
-pub fn plan(alloc: Global, reader: &mut Reader, depth: u32) -> Result<Tree, BookFault>
+pub fn plan(alloc: Global, reader: &mut Reader, depth: u32) -> Result<Box<Tree>, BookFault>
     ensures reads { Reads (ASource depth ∷ ASteps depth ∷ []) reader.old reader.new result }
-    ensures is { IfOk result (λ tree. IsPlan reader.old.rest reader.new.rest (tree_image tree)) }
+    ensures is { IfOk result (λ tree. IsPlan reader.old.rest reader.new.rest (tree_image tree.value)) }
 {
     let mut input = source(alloc, reader, depth)?;
     'steps: while let TokenKind::Bar = reader.kind() {
@@ -136,5 +141,5 @@ pub fn plan(alloc: Global, reader: &mut Reader, depth: u32) -> Result<Tree, Book
         let what = step(alloc, reader, depth)?;
         input = Box::new(alloc, Tree::Step { at, input, what })?;
     }
-    Ok(Box::into_inner(input))
+    Ok(input)
 }

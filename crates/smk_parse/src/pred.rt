@@ -1,4 +1,4 @@
-#![tactic(auto, using(crate::proofs::Trees::reading))]
+#![tactic(auto, using(crate::proofs::Trees::preds))]
 
 ghost use Rattle.std.specs.Prelude.{◌≡◌, ◌∷◌, ◌+◌, ◌<◌, [], ℕ, IfOk, OnOk};
 ghost use Rattle.smk_parse.specs.Words.{pred_image, head_of, First, IsOp, IsTerm, IsPrim, IsConj, IsPred, AnOn, AnOp, ATerm, APrim, AnAnds, AnOrs};
@@ -42,7 +42,7 @@ fn op(reader: &mut Reader) -> Result<CmpOp, BookFault>
 }
 
 /// The right side of a comparison.
-#[tactic(auto, using(crate::proofs::Trees::reading, crate::proofs::Steps::begun))]
+#[tactic(auto, using(crate::proofs::Trees::preds, crate::proofs::Steps::begun))]
 fn term(alloc: Global, reader: &mut Reader) -> Result<Term, BookFault>
     ensures reads { Reads (ATerm ∷ []) reader.old reader.new result }
     ensures is { IfOk result (λ term. IsTerm reader.old.rest reader.new.rest term) }
@@ -92,14 +92,14 @@ fn prim(alloc: Global, reader: &mut Reader, depth: u32) -> Result<Box<PredTree>,
             reader.advance();
             let inner = pred(alloc, reader, depth + 1)?;
             expect(reader, TokenKind::Close)?;
-            Ok(Box::new(alloc, inner)?)
+            Ok(inner)
         }
         _ => compare(alloc, reader),
     }
 }
 
 /// Predicates joined by `and`.
-#[tactic(auto, using(crate::proofs::Trees::reading, crate::proofs::Steps::in_loop))]
+#[tactic(auto, using(crate::proofs::Trees::preds, crate::proofs::Steps::in_loop))]
 #[cycle(pred)]
 fn conj(alloc: Global, reader: &mut Reader, depth: u32) -> Result<Box<PredTree>, BookFault>
     ensures reads { Reads (APrim depth ∷ AnAnds depth ∷ []) reader.old reader.new result }
@@ -115,11 +115,11 @@ fn conj(alloc: Global, reader: &mut Reader, depth: u32) -> Result<Box<PredTree>,
 }
 
 /// Predicates joined by `or`.
-#[tactic(auto, using(crate::proofs::Trees::reading, crate::proofs::Steps::in_loop))]
+#[tactic(auto, using(crate::proofs::Trees::preds, crate::proofs::Steps::in_loop))]
 #[cycle(pred)]
-pub fn pred(alloc: Global, reader: &mut Reader, depth: u32) -> Result<PredTree, BookFault>
+pub fn pred(alloc: Global, reader: &mut Reader, depth: u32) -> Result<Box<PredTree>, BookFault>
     ensures reads { Reads (APrim depth ∷ AnAnds depth ∷ AnOrs depth ∷ []) reader.old reader.new result }
-    ensures is { IfOk result (λ pred. IsPred reader.old.rest reader.new.rest (pred_image pred)) }
+    ensures is { IfOk result (λ pred. IsPred reader.old.rest reader.new.rest (pred_image pred.value)) }
 {
     let mut left = conj(alloc, reader, depth)?;
     'ors: while let TokenKind::Or = reader.kind() {
@@ -127,5 +127,5 @@ pub fn pred(alloc: Global, reader: &mut Reader, depth: u32) -> Result<PredTree, 
         let right = conj(alloc, reader, depth)?;
         left = Box::new(alloc, PredTree::Or(left, right))?;
     }
-    Ok(Box::into_inner(left))
+    Ok(left)
 }

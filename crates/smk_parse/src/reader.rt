@@ -81,8 +81,7 @@ impl<'t> Reader<'t> {
         ensures is { result.now ≡ (head_of self.now.rest).text }
         ensures fits { (head_of self.now.rest).kind ≡ Number → FitsSigned w64 (int_value result.now) }
     {
-        let end = self.place + self.len;
-        &self.text[self.place..end]
+        &self.text[self.place..self.place + self.len]
     }
 
     /// The value of the number in hand.

@@ -1,9 +1,8 @@
-#![tactic(auto, using(crate::proofs::Trees::reading))]
+#![tactic(auto, using(crate::proofs::Trees::words))]
 
 ghost use Rattle.std.specs.Prelude.{◌≡◌, ◌∷◌, [], ◌<◌, IsTrue, true, false, IfOk, IfErr, OnOk};
 ghost use Rattle.smk_parse.specs.Words.{NoMemory, TooMany, head_of, is_more, inner, string_value, First, IsLiteral, IsName, IsColumn, fault_at, is_short, AToken, ALiteral, AName, AColumn, AFirst, ALineName, ALineColumn};
-ghost use Rattle.smk_parse.specs.Texts.{Advances};
-ghost use Rattle.smk_parse.specs.Reads.{Reads, is_column, column_name, column_word};
+ghost use Rattle.smk_parse.specs.{Texts.Advances, Reads.Reads, Reads.is_column, Reads.column_name, Reads.column_word};
 
 use crate::reader::Reader;
 use smk_base::{BookFault, Lit, Many, Text, TokenKind, Value, Word};
@@ -90,13 +89,11 @@ pub fn literal(alloc: Global, reader: &mut Reader) -> Result<Lit, BookFault>
     match reader.kind() {
         TokenKind::Number => {
             let value = Value::Int(reader.int().into());
-            reader.advance();
-            Ok(Lit { value, at })
+            Ok(reader.took(Lit { value, at }))
         }
         TokenKind::Str => {
             let value = Value::Text(string_in_hand(alloc, reader)?);
-            reader.advance();
-            Ok(Lit { value, at })
+            Ok(reader.took(Lit { value, at }))
         }
         _ => Err(wrong(reader)),
     }

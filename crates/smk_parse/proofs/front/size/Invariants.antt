@@ -1,5 +1,4 @@
-use Rattle.std.proofs.Common.{◌≡◌, ◌≤◌}
-use Rattle.std.specs.Prelude.{drop, min}
+use Rattle.std.proofs.Common.{◌≡◌, ◌≤◌, drop, min}
 use Rattle.smk_parse.specs.Words.{digits_value}
 use Rattle.smk_parse.proofs.front.size.Given as goal
 

@@ -1,5 +1,4 @@
-use Rattle.std.proofs.Common.{arith}
-use Rattle.std.proofs.lemmas.Grind.{common_steps}
+use Rattle.std.proofs.{Common.arith, lemmas.Grind.common_steps}
 use Rattle.smk_parse.proofs.front.string_end.Goals as goal
 
 pub returns-then-b-eq10-clause-is : goal.returns-then-b-eq10-clause-is

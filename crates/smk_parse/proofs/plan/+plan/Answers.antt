@@ -1,51 +1,42 @@
-use Rattle.std.proofs.Common.{◌≡◌, ℕ, ◌<◌, [], ◌∷◌, ap, ◌∙◌, sym, arith}
-use Rattle.std.proofs.lemmas.{Bool.lt-ltb, Result.err_from_is_err_and}
-use Rattle.std.proofs.lemmas.Grind.{common_steps}
-use Rattle.smk_parse.specs.Words.{head_of, Nodes, State, Takes, within, node_more, ASource, AStep, AUnited}
+use Rattle.std.{specs.Prelude.unwrap_or, proofs.lemmas.Grind.common_steps, proofs.lemmas.Result.err_from_is_err_and}
+use Rattle.std.proofs.Common.{[], ◌∷◌, ap, ◌∙◌, subst, sym, arith, rules}
 use Rattle.smk_base.specs.declared.token.TokenKind.TheVariants as kinds
-use Rattle.smk_model.specs.Machine.{at_step}
-use Rattle.smk_model.specs.Grammar.{join_step, theta_step, union_all_step, union_step}
-use Rattle.smk_parse.specs.Texts.{Advances}
-use Rattle.smk_parse.specs.Reads.{Comes}
-use Rattle.smk_parse.proofs.Steps.{opened, comes_leads, comes_fails, first_here, started_leads, started_fails, united_starts, begun}
-use Rattle.smk_parse.proofs.Trees.{reading}
+use Rattle.smk_model.specs.Grammar.{inner_plan, no_step, group_step, join_step, theta_step, product_step, union_all_step, union_step}
+use Rattle.smk_parse.{specs.Words.First, specs.Words.IsPred, specs.Words.pred_image, specs.Words.step_symbols, specs.Words.ASource, specs.Words.AUnited, specs.Reads.Leads, specs.Reads.Fails, proofs.Trees.plans, proofs.Steps.first_here, proofs.Steps.in_loop, proofs.Steps.started_fails, proofs.Steps.started_leads, proofs.Steps.step_reads, proofs.Steps.united_starts}
 use Rattle.smk_parse.proofs.plan.+plan.Goals as goal
 
--- a union up to its source
-union_opens : (d : ℕ) (a b : State) → Advances (node_more a.counts) a b → (head_of a.rest).kind ≡ kinds.Union → a.counts.nodes < 64 → Comes (AStep d ∷ []) (AUnited d ∷ []) a b
-union_opens d a b h e f = opened (AStep d) (AUnited d ∷ []) (node_more a.counts) a b h (ap (at_step a.counts d) e ∙ ap (λ p. within p Nodes (Takes (node_more a.counts) (AUnited d ∷ []))) (lt-ltb a.counts.nodes 64 f))
+pub source-returns-in-Scan : goal.source-returns-in-Scan
+source-returns-in-Scan t c = record { reads = c.scan.ensures.reads c.args.depth; is = c.scan.ensures.is }
 
-pub step-returns-in_err-source-in_default-kind : goal.step-returns-in_err-source-in_default-kind
-step-returns-in_err-source-in_default-kind t c =
-    let p = err_from_is_err_and c.from_residual-in_err-source-in_default-kind.result c.from_residual-in_err-source-in_default-kind.ensures.1 in
-    rw (p.1, p.2) (record {
-      reads = comes_fails (AStep c.args.depth ∷ []) (AUnited c.args.depth ∷ []) c.args.reader.now c.take_node-in-Union.new.reader _ (union_opens c.args.depth c.args.reader.now c.take_node-in-Union.new.reader c.in_ok-take_node-in-Union.ensures.taken (sym c.in-Union.ensures.is) c.in_ok-take_node-in-Union.ensures.few) (started_fails (AUnited c.args.depth) (ASource c.args.depth ∷ []) c.take_node-in-Union.new.reader _ c.in_err-source-in_default-kind.ensures.reads c.kind-in-Union.ensures.here (united_starts (λ e. c.in_default-kind.not-All (c.kind-in-Union.ensures.is ∙ e))));
-      is = tt;
-    })
+pub source-returns-in_ok-expect-in-Open-clause-is : goal.source-returns-in_ok-expect-in-Open-clause-is
+source-returns-in_ok-expect-in-Open-clause-is t c = inner_plan (first_here kinds.Open _ c.args.reader.now c.advance.new.self c.advance.ensures (sym c.in-Open.ensures.is)) c.in_ok-inner-in-Open.ensures.is c.in_ok-expect-in-Open.ensures.is
 
-pub step-returns-in_ok-source-in_default-kind : goal.step-returns-in_ok-source-in_default-kind
-step-returns-in_ok-source-in_default-kind t c = record {
-  reads = comes_leads (AStep c.args.depth ∷ []) (AUnited c.args.depth ∷ []) c.args.reader.now c.take_node-in-Union.new.reader _ (union_opens c.args.depth c.args.reader.now c.take_node-in-Union.new.reader c.in_ok-take_node-in-Union.ensures.taken (sym c.in-Union.ensures.is) c.in_ok-take_node-in-Union.ensures.few) (started_leads (AUnited c.args.depth) (ASource c.args.depth ∷ []) c.take_node-in-Union.new.reader _ c.in_ok-source-in_default-kind.ensures.reads c.kind-in-Union.ensures.here (united_starts (λ e. c.in_default-kind.not-All (c.kind-in-Union.ensures.is ∙ e))));
-  is = union_step (first_here kinds.Union _ c.args.reader.now c.take_node-in-Union.new.reader c.in_ok-take_node-in-Union.ensures.taken (sym c.in-Union.ensures.is)) c.in_ok-source-in_default-kind.ensures.is;
-}
+pub step-returns-clause-reads : goal.step-returns-clause-reads
+step-returns-clause-reads t c = step_reads c.args.depth c.kind-kind.result c.args.reader.now c.take_node.new.reader c.parts.new.reader c.parts.result c.kind-kind.ensures.is (sym (c.if-not-is_step.ensures.step c.args.depth)) c.in_ok-take_node.ensures.taken c.in_ok-take_node.ensures.few c.parts.ensures.reads
 
-pub step-returns-in_ok-source-in-All-clause-is : goal.step-returns-in_ok-source-in-All-clause-is
-step-returns-in_ok-source-in-All-clause-is t c = union_all_step (first_here kinds.Union _ c.args.reader.now c.take_node-in-Union.new.reader c.in_ok-take_node-in-Union.ensures.taken (sym c.in-Union.ensures.is)) (first_here kinds.All _ c.take_node-in-Union.new.reader c.advance.new.self c.advance.ensures (sym c.in-All.ensures.is)) c.in_ok-source-in-All.ensures.is
+pub parts-returns-in_ok-aggs-in-Group-clause-is : goal.parts-returns-in_ok-aggs-in-Group-clause-is
+parts-returns-in_ok-aggs-in-Group-clause-is t c = λ a u h. group_step (subst (λ k. First k u a c.args.reader.now.rest) c.in-Group.is h) c.in_ok-keys-in-Group.ensures.is c.in_ok-aggs-in-Group.ensures.is
 
-pub step-returns-in_ok-pairs-in-Join-clause-is : goal.step-returns-in_ok-pairs-in-Join-clause-is
-step-returns-in_ok-pairs-in-Join-clause-is t c = join_step (first_here kinds.Join _ c.args.reader.now c.take_node.new.reader c.in_ok-take_node-in-Join.ensures.taken (sym c.in-Join.ensures.is)) c.in_ok-right-in-Join.ensures.is c.in_ok-expect-in-Join.ensures.is c.in_ok-pairs-in-Join.ensures.is
+pub parts-returns-in_ok-source-in-Product-clause-is : goal.parts-returns-in_ok-source-in-Product-clause-is
+parts-returns-in_ok-source-in-Product-clause-is t c = λ a u h. product_step (subst (λ k. First k u a c.args.reader.now.rest) c.in-Product.is h) c.in_ok-source-in-Product.ensures.is
 
-pub step-returns-in_ok-pred-in-Theta-clause-is : goal.step-returns-in_ok-pred-in-Theta-clause-is
-step-returns-in_ok-pred-in-Theta-clause-is t c = theta_step (first_here kinds.Theta _ c.args.reader.now c.take_node-in-Theta.new.reader c.in_ok-take_node-in-Theta.ensures.taken (sym c.in-Theta.ensures.is)) c.in_ok-right-in-Theta.ensures.is c.in_ok-on-in-Theta.ensures.is c.in_ok-pred-in-Theta.ensures.is
+pub parts-returns-in_ok-listed-in-Join-clause-is : goal.parts-returns-in_ok-listed-in-Join-clause-is
+parts-returns-in_ok-listed-in-Join-clause-is t c = λ a u h. join_step (subst (λ k. First k u a c.args.reader.now.rest) c.in-Join.is h) c.in_ok-right-in-Join.ensures.is c.in_ok-expect-in-Join.ensures.is c.in_ok-listed-in-Join.ensures.is
 
-pub step-returns-in_ok-source-in-Product-clause-reads : goal.step-returns-in_ok-source-in-Product-clause-reads
-step-returns-in_ok-source-in-Product-clause-reads t c = grind (arith, common_steps, reading, begun)
+pub parts-returns-in_ok-pred-in-Theta-clause-is : goal.parts-returns-in_ok-pred-in-Theta-clause-is
+parts-returns-in_ok-pred-in-Theta-clause-is t c = λ a u h. theta_step (subst (λ k. First k u a c.args.reader.now.rest) c.in-Theta.is h) c.in_ok-right-in-Theta.ensures.is c.in_ok-on-in-Theta.ensures.is (subst (λ p. IsPred c.on.new.reader.rest c.pred-in-Theta.new.reader.rest (pred_image p)) (sym c.into_inner-pred.ensures) c.in_ok-pred-in-Theta.ensures.is)
 
-pub step-returns-in_ok-pred-in-Theta-clause-reads : goal.step-returns-in_ok-pred-in-Theta-clause-reads
-step-returns-in_ok-pred-in-Theta-clause-reads t c = grind (arith, common_steps, reading, begun)
+pub parts-returns-in_ok-source-in-All-clause-is : goal.parts-returns-in_ok-source-in-All-clause-is
+parts-returns-in_ok-source-in-All-clause-is t c = λ a u h. union_all_step (subst (λ k. First k u a c.args.reader.now.rest) c.in-Union.is h) (first_here kinds.All _ c.args.reader.now c.advance.new.self c.advance.ensures (sym c.in-All.ensures.is)) c.in_ok-source-in-All.ensures.is
 
-pub step-returns-in_ok-source-in-All-clause-reads : goal.step-returns-in_ok-source-in-All-clause-reads
-step-returns-in_ok-source-in-All-clause-reads t c = grind (arith, common_steps, reading, begun)
+pub parts-returns-in_ok-source-in_default-kind : goal.parts-returns-in_ok-source-in_default-kind
+parts-returns-in_ok-source-in_default-kind t c = record { reads = λ l e. subst (λ s. Leads s c.args.reader.now c.source-in_default-kind.new.reader) (ap (λ o. unwrap_or o []) (sym (ap (step_symbols c.args.depth) c.in-Union.is) ∙ e)) (started_leads (AUnited c.args.depth) (ASource c.args.depth ∷ []) c.args.reader.now c.source-in_default-kind.new.reader c.in_ok-source-in_default-kind.ensures.reads c.kind.ensures.here (united_starts (λ x. c.in_default-kind.not-All (c.kind.ensures.is ∙ x)))); is = λ a u h. union_step (subst (λ k. First k u a c.args.reader.now.rest) c.in-Union.is h) c.in_ok-source-in_default-kind.ensures.is }
 
-pub step-returns-in_ok-pairs-in-Join-clause-reads : goal.step-returns-in_ok-pairs-in-Join-clause-reads
-step-returns-in_ok-pairs-in-Join-clause-reads t c = grind (arith, common_steps, reading, begun)
+pub parts-returns-in_err-source-in_default-kind : goal.parts-returns-in_err-source-in_default-kind
+parts-returns-in_err-source-in_default-kind t c = let p = err_from_is_err_and c.from_residual-in_err-source-in_default-kind.result c.from_residual-in_err-source-in_default-kind.ensures.1 in rw (p.1, p.2) (record { reads = λ l e. subst (λ s. Fails s c.args.reader.now c.in_err-source-in_default-kind.field-0.0) (ap (λ o. unwrap_or o []) (sym (ap (step_symbols c.args.depth) c.in-Union.is) ∙ e)) (started_fails (AUnited c.args.depth) (ASource c.args.depth ∷ []) c.args.reader.now _ c.in_err-source-in_default-kind.ensures.reads c.kind.ensures.here (united_starts (λ x. c.in_default-kind.not-All (c.kind.ensures.is ∙ x)))); is = tt })
+
+pub plan-returns : goal.plan-returns
+plan-returns t c = record { reads = search rules; is = c.steps.invariant.is _ _ no_step }
+
+pub plan-steps-preserved : goal.plan-steps-preserved
+plan-steps-preserved t c = record { reads = grind (arith, common_steps, plans, in_loop); is = grind (arith, common_steps, plans, in_loop) }

@@ -1,5 +1,4 @@
-use Rattle.std.proofs.Common.{◌≡◌, ◌++◌, false}
-use Rattle.std.specs.Prelude.{drop}
+use Rattle.std.proofs.Common.{◌≡◌, ◌++◌, false, drop}
 use Rattle.smk_parse.specs.Words.{head_of, inner, undoubled}
 use Rattle.smk_parse.proofs.tokens.string_in_hand.Given as goal
 

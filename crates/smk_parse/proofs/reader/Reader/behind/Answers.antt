@@ -1,6 +1,5 @@
 use Rattle.std.proofs.Common.{List, ◌∙◌, sym, ap}
-use Rattle.smk_parse.specs.Words.{Token, State, Counts}
-use Rattle.smk_parse.proofs.Texts.{gap_goes, token_goes}
+use Rattle.smk_parse.{specs.Words.Token, specs.Words.State, specs.Words.Counts, proofs.Texts.gap_goes, proofs.Texts.token_goes}
 use Rattle.smk_parse.proofs.reader.Reader.behind.Goals as goal
 
 abbrev state : Counts → List Token → State
