@@ -1,7 +1,7 @@
 -- A book statement by statement.
-use Rattle.std.proofs.Common.{◌≡◌, ◌∙◌, ◌+◌, ◌<◌, ℕ, suc, Bool, List, ◌∷◌, map, drop, length, get_or, Ok, refl, sym, ap, subst, arith}
+use Rattle.std.proofs.Common.{◌≡◌, ◌∙◌, ◌+◌, ◌<◌, ◌≤◌, ℕ, suc, Bool, List, ◌∷◌, map, drop, length, get_or, Ok, refl, sym, ap, subst, arith}
 use Rattle.std.specs.Prelude.{count_by}
-use Rattle.std.proofs.lemmas.List.{drop_more}
+use Rattle.std.proofs.lemmas.List.{drop_more, at_drop_all}
 use Rattle.std.proofs.lemmas.List.Sums.{sum_by-cons}
 use Rattle.smk_base.specs.CatalogImage.{CatalogImage}
 use Rattle.smk_base.specs.TreeImage.{stmt_image}
@@ -9,6 +9,7 @@ use Rattle.smk_base.specs.Trees.{StmtImage}
 use Rattle.smk_base.specs.declared.tree.Stmt.{Stmt}
 use Rattle.smk_base.specs.declared.type_fault.TypeFault.{TypeFault}
 use Rattle.smk_model.specs.Limits.{KeepsLimits, KeepsStmt, is_table, is_view}
+use Rattle.smk_model.specs.Names.{in_turn}
 use Rattle.smk_model.specs.Typing.{types, stmt_after, nothing_declared}
 use Rattle.smk_typing.specs.Answers.{Fails}
 use Rattle.smk_typing.specs.Rest.{IsBefore, one_if}
@@ -52,3 +53,14 @@ pub rest_at : (book : List StmtImage) (catalog : CatalogImage) (stmts : List Stm
 rest_at book catalog stmts i s below here before =
     let e : drop i stmts ≡ s ∷ drop (i + 1) stmts = drop_more stmts i s below ∙ ap (λ x. x ∷ drop (i + 1) stmts) (sym here) in
     subst (λ (rest : List Stmt). IsBefore book catalog (map stmt_image rest)) e before
+
+-- there is room for the next statement's table or view
+pub next_tables : (book : List StmtImage) (catalog : CatalogImage) (s : StmtImage) (more : List StmtImage) → IsBefore book catalog (s ∷ more) → length catalog.tables + one_if (is_table s) ≤ 16
+next_tables book catalog s more before = omega (arith, before.few_tables, counted is_table s more)
+
+pub next_views : (book : List StmtImage) (catalog : CatalogImage) (s : StmtImage) (more : List StmtImage) → IsBefore book catalog (s ∷ more) → length catalog.views + one_if (is_view s) ≤ 64
+next_views book catalog s more before = omega (arith, before.few_views, counted is_view s more)
+
+-- after the last statement
+pub at_last : (book : List StmtImage) (catalog : CatalogImage) (stmts : List Stmt) (i : ℕ) → length stmts ≤ i → IsBefore book catalog (map stmt_image (drop i stmts)) → types book ≡ Ok catalog
+at_last book catalog stmts i all before = before.types_rest ∙ at_drop_all (λ (rest : List Stmt). in_turn stmt_after catalog (map stmt_image rest)) stmts i all

@@ -1,5 +1,7 @@
 -- What a rule that gave a result was made of.
-use Rattle.std.proofs.Common.{◌≡◌, ◌+◌, ℕ, suc, Bool, true, false, List, [], ◌∷◌, length, Ok, Err, refl, ap, subst, arith, All}
+use Rattle.std.proofs.Common.{◌≡◌, ◌+◌, ◌≤◌, ℕ, suc, Bool, true, false, List, [], ◌∷◌, length, Ok, Err, refl, sym, ap, subst, arith, All}
+use Rattle.std.specs.Prelude.{OnOk}
+use Rattle.smk_base.specs.declared.catalog.Column.{Column}
 use Rattle.smk_base.specs.declared.type_fault.TypeFault.{TypeFault}
 use Rattle.smk_model.specs.Names.{Typed, ◌>>=◌, unless, in_turn}
 
@@ -40,3 +42,12 @@ first_fails (Err other) f g fault e = let same : other ≡ fault = cc e in rw sa
 
 pub ok_same : {A : Type 0} (a b : A) → (let found : Typed A = Ok a in found) ≡ Ok b → a ≡ b
 ok_same a b e = cc e
+
+-- the same columns are as few
+pub as_narrow : {A : Type 0} (r : Typed A) (new old : List Column) → OnOk r (new ≡ old) → length old ≤ 16 → OnOk r (length new ≤ 16)
+as_narrow (Ok a) new old same few = subst (λ (columns : List Column). length columns ≤ 16) (sym same) few
+as_narrow (Err fault) new old same few = tt
+
+-- a result is no fault
+pub ok_never : {A B : Type 0} (a : A) (found : Typed B) (fault : TypeFault) → (let it : Typed A = Ok a in it) ≡ Err fault → found ≡ Err fault
+ok_never a found fault e = absurd (cc e)

@@ -83,17 +83,40 @@ pub fn declared(alloc: Global, decls: &[Decl]) -> Result<ColDecls, TypeFault>
     Ok(cols)
 }
 
+/// Puts the names and the kinds of columns last. On an error some of them are put.
+fn add_names_and_kinds(
+    alloc: Global,
+    columns: &[Column],
+    names: &mut ColNames,
+    kinds: &mut Kinds,
+) -> Result<(), TypeFault>
+    requires unnamed { names.old ≡ [] }
+    requires unsorted { kinds.old ≡ [] }
+    ensures named { Finds result (Ok (names_of columns.now)) (λ _. names.new) }
+    ensures sorted { OnOk result (kinds.new ≡ kinds_of columns.now) }
+{
+    for column in columns {
+        let name = column.name.copy(alloc)?;
+        names.push(name)?;
+        kinds.push(column.kind)?;
+    }
+    Ok(())
+}
+
 /// The names and the kinds of columns.
 pub fn names_and_kinds(alloc: Global, columns: &[Column]) -> Result<(ColNames, Kinds), TypeFault>
     ensures { Finds result (Ok (names_of columns.now, kinds_of columns.now)) (λ made. made) }
 {
     let mut names = ColNames::new(alloc);
     let mut kinds = Kinds::new(alloc);
-    for column in columns {
-        names.push(column.name.copy(alloc)?)?;
-        kinds.push(column.kind)?;
+    match add_names_and_kinds(alloc, columns, &mut names, &mut kinds) {
+        Ok(()) => Ok((names, kinds)),
+        Err(fault) => {
+            drop(names);
+            drop(kinds);
+            Err(fault)
+        }
     }
-    Ok((names, kinds))
 }
 
 /// What a backward declaration with a grouping asks for.

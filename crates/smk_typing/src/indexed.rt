@@ -90,7 +90,7 @@ impl<T: Keyed + Drop> Indexed<T> {
     {
         self.list.reserve(1)?;
         self.keys.insert(key)?;
-        self.list.push(member)?;
+        self.list.push_reserved(member);
         Ok(())
     }
 }

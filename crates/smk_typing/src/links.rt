@@ -96,33 +96,34 @@ fn add_to(
     if number == view {
         return Err(TypeFault::SelfLink { at: word.at });
     }
-    if keys.contains(&(view, table, number)) {
+    let key = (view, table, number);
+    if keys.contains(&key) {
         return Err(TypeFault::RepeatedDeclaration { at: word.at });
     }
-    keys.insert_full((view, table, number))?;
+    keys.insert(key)?;
     to.push(number)?;
     Ok(())
 }
 
-/// The linked views of a link.
-fn linked(
-    alloc: Global,
+/// Puts the linked views of a link. On an error some of them are put.
+fn add_each(
     views: &Indexed<ViewInfo>,
     links: &[LinkInfo],
     keys: &mut IndexSet<(u32, u32, u32)>,
     view: u32,
     table: u32,
+    to: &mut Rids,
     words: &[Word],
-) -> Result<Rids, TypeFault>
-    requires { keys.old.keys ≡ map link_key (all_linked links.now) }
-    ensures to { Finds result (in_turn (typing.to_after (over views.now links.now) view table) [] words.now) (λ to. to) }
-    ensures keys { IfOk result (λ to. keys.new.keys ≡ map link_key (all_linked links.now ++ linked_to view table to)) }
+) -> Result<(), TypeFault>
+    requires none { to.old ≡ [] }
+    requires keys { keys.old.keys ≡ map link_key (all_linked links.now) }
+    ensures to { Finds result (in_turn (typing.to_after (over views.now links.now) view table) [] words.now) (λ _. to.new) }
+    ensures keys { OnOk result (keys.new.keys ≡ map link_key (all_linked links.now ++ linked_to view table to.new)) }
 {
-    let mut to = Rids::new(alloc);
     for word in words {
-        add_to(views, links, keys, view, table, &mut to, word)?;
+        add_to(views, links, keys, view, table, to, word)?;
     }
-    Ok(to)
+    Ok(())
 }
 
 /// Puts a link of a view on a table to other views last.
@@ -139,7 +140,15 @@ fn add_link(
     ensures links { Finds result (links_after views.now infos.old view table words.now) (λ _. infos.new) }
     ensures keys { OnOk result (keys.new.keys ≡ map link_key (all_linked infos.new)) }
 {
-    let to = linked(alloc, views, infos.as_slice(), keys, view, table, words)?;
-    infos.push(LinkInfo { view, table, to })?;
-    Ok(())
+    let mut to = Rids::new(alloc);
+    match add_each(views, infos.as_slice(), keys, view, table, &mut to, words) {
+        Ok(()) => {
+            infos.push(LinkInfo { view, table, to })?;
+            Ok(())
+        }
+        Err(fault) => {
+            drop(to);
+            Err(fault)
+        }
+    }
 }

@@ -69,6 +69,25 @@ fn typed_item(columns: &[Column], tree: &ItemTree) -> Result<(Item, Kind), TypeF
     }
 }
 
+/// Puts items last, and the columns that they make. On an error some of them are put.
+fn add_items(
+    alloc: Global,
+    columns: &[Column],
+    trees: &[ItemTree],
+    items: &mut Items,
+    made: &mut Columns,
+) -> Result<(), TypeFault>
+    requires { length columns.now ≤ 16 }
+    ensures items { Finds result (in_turn (steps.item_after columns.now) (items.old, made.old) trees.now) (λ _. (items.new, made.new)) }
+    ensures width { OnOk result (length made.new ≡ length made.old + length trees.now) }
+{
+    for tree in trees {
+        let (item, kind) = typed_item(columns, tree)?;
+        add_named(alloc, items, made, item, item_name(tree), kind)?;
+    }
+    Ok(())
+}
+
 /// A list of items, and the columns that it makes.
 pub fn typed_items(
     alloc: Global,
@@ -81,29 +100,32 @@ pub fn typed_items(
 {
     let mut items = Items::new(alloc);
     let mut made = Columns::new(alloc);
-    for tree in trees {
-        let (item, kind) = typed_item(columns, tree)?;
-        add_named(alloc, &mut items, &mut made, item, item_name(tree), kind)?;
+    match add_items(alloc, columns, trees, &mut items, &mut made) {
+        Ok(()) => Ok((items, made)),
+        Err(fault) => {
+            drop(items);
+            drop(made);
+            Err(fault)
+        }
     }
-    Ok((items, made))
 }
 
-/// A list of keys, and the columns that it makes.
-fn typed_keys(
+/// Puts keys last, and the columns that they make. On an error some of them are put.
+fn add_keys(
     alloc: Global,
     columns: &[Column],
     words: &[Word],
-) -> Result<(Keys, Columns), TypeFault>
+    keys: &mut Keys,
+    made: &mut Columns,
+) -> Result<(), TypeFault>
     requires { length columns.now ≤ 16 }
-    ensures { Finds result (in_turn (steps.key_after columns.now) ([], []) words.now) (λ made. made) }
+    ensures { Finds result (in_turn (steps.key_after columns.now) (keys.old, made.old) words.now) (λ _. (keys.new, made.new)) }
 {
-    let mut keys = Keys::new(alloc);
-    let mut made = Columns::new(alloc);
     for word in words {
         let (number, kind) = column_named(columns, word)?;
-        add_named(alloc, &mut keys, &mut made, number, word, kind)?;
+        add_named(alloc, keys, made, number, word, kind)?;
     }
-    Ok((keys, made))
+    Ok(())
 }
 
 /// The sum of a column.
@@ -143,40 +165,56 @@ fn typed_agg(columns: &[Column], what: &AggWhat) -> Result<(Agg, Kind), TypeFaul
     }
 }
 
-/// A list of aggregates, whose columns come after those of the keys.
-fn typed_aggs(
+/// Puts aggregates last, and their columns behind those of the keys. On an error some of them are put.
+fn add_aggs(
     alloc: Global,
     columns: &[Column],
-    of_keys: Columns,
     trees: &[AggTree],
-) -> Result<(Aggs, Columns), TypeFault>
+    aggs: &mut Aggs,
+    made: &mut Columns,
+) -> Result<(), TypeFault>
     requires { length columns.now ≤ 16 }
-    ensures { Finds result (in_turn (steps.agg_after columns.now) ([], of_keys) trees.now) (λ made. made) }
+    ensures { Finds result (in_turn (steps.agg_after columns.now) (aggs.old, made.old) trees.now) (λ _. (aggs.new, made.new)) }
 {
-    let mut aggs = Aggs::new(alloc);
-    let mut made = of_keys;
     for tree in trees {
         let (agg, kind) = typed_agg(columns, &tree.what)?;
-        add_named(alloc, &mut aggs, &mut made, agg, &tree.name, kind)?;
+        add_named(alloc, aggs, made, agg, &tree.name, kind)?;
     }
-    Ok((aggs, made))
+    Ok(())
 }
 
-/// A grouping as a whole, at the place of `group`.
-fn whole_group(at: u64, group: Group) -> Result<Group, TypeFault>
-    ensures group { Finds result (steps.whole_group at group.keys group.aggs group.columns) group_of }
-    ensures width { IfOk result (λ group. length group.columns ≤ 16) }
+/// Whether a grouping of this width stands as a whole, at the place of `group`.
+fn whole_group(at: u64, group: &Group) -> Result<(), TypeFault>
+    ensures group { Finds result (steps.whole_group at group.now.keys group.now.aggs group.now.columns) (λ _. group_of group.now) }
+    ensures width { OnOk result (length group.now.columns ≤ 16) }
 {
     let width = group.columns.as_slice().len();
     if width == 0 {
-        drop(group);
         return Err(TypeFault::EmptyList { at });
     }
     if width > 16 {
-        drop(group);
         return Err(TypeFault::RowTooWide { at });
     }
-    Ok(group)
+    Ok(())
+}
+
+/// Puts the keys and the aggregates of a grouping, at the place of `group`. On an error some of them are put.
+fn fill_group(
+    alloc: Global,
+    columns: &[Column],
+    at: u64,
+    words: &[Word],
+    trees: &[AggTree],
+    group: &mut Group,
+) -> Result<(), TypeFault>
+    requires few { length columns.now ≤ 16 }
+    requires none { group_of group.old ≡ record { keys = []; aggs = []; columns = [] } }
+    ensures group { Finds result (steps.typed_group columns.now at words.now trees.now) (λ _. group_of group.new) }
+    ensures width { OnOk result (length group.new.columns ≤ 16) }
+{
+    add_keys(alloc, columns, words, &mut group.keys, &mut group.columns)?;
+    add_aggs(alloc, columns, trees, &mut group.aggs, &mut group.columns)?;
+    whole_group(at, group)
 }
 
 /// A grouping at the place of `group`.
@@ -191,16 +229,18 @@ pub fn typed_group(
     ensures group { Finds result (steps.typed_group columns.now at words.now trees.now) group_of }
     ensures width { IfOk result (λ group. length group.columns ≤ 16) }
 {
-    let (keys, of_keys) = typed_keys(alloc, columns, words)?;
-    let (aggs, columns) = typed_aggs(alloc, columns, of_keys, trees)?;
-    whole_group(
-        at,
-        Group {
-            keys,
-            aggs,
-            columns,
-        },
-    )
+    let mut group = Group {
+        keys: Keys::new(alloc),
+        aggs: Aggs::new(alloc),
+        columns: Columns::new(alloc),
+    };
+    match fill_group(alloc, columns, at, words, trees, &mut group) {
+        Ok(()) => Ok(group),
+        Err(fault) => {
+            drop(group);
+            Err(fault)
+        }
+    }
 }
 
 /// Puts a pair of a join last.

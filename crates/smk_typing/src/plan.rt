@@ -69,14 +69,22 @@ fn apply(alloc: Global, op: Op1, typed: &mut Typed) -> Result<(), TypeFault>
     }
 }
 
+/// A step over two plans.
+fn over_two(op: Op2, inputs: (Box<Plan>, Box<Plan>)) -> Plan
+    ensures { expr_of result ≡ Combine (binary_of op) (expr_of inputs.0.value) (expr_of inputs.1.value) }
+{
+    let (left, right) = inputs;
+    Plan::Two(op, left, right)
+}
+
 /// Puts a step over a plan and a right one; the columns are those that it hands on. On an error the plans are lost.
 fn combine(alloc: Global, op: Op2, left: &mut Typed, right: &mut Typed) -> Result<(), TypeFault>
     ensures plan { Finds result (Ok (record { plan = Combine (binary_of op) (expr_of left.old.plan) (expr_of right.old.plan); columns = left.old.columns })) (λ _. plan_of left.new) }
     ensures columns { OnOk result (left.new.columns ≡ left.old.columns) }
 {
     match boxes(alloc, taken(&mut left.plan), taken(&mut right.plan)) {
-        Ok((first, second)) => {
-            put(&mut left.plan, Plan::Two(op, first, second));
+        Ok(inputs) => {
+            put(&mut left.plan, over_two(op, inputs));
             Ok(())
         }
         Err(fault) => {

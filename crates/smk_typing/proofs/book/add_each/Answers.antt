@@ -1,7 +1,9 @@
-use Rattle.std.proofs.Common.{map}
+use Rattle.std.proofs.Common.{map, arith}
+use Rattle.std.proofs.lemmas.List.{length-map}
 use Rattle.std.proofs.lemmas.Result.{err_from_is_err_and}
+use Rattle.smk_base.specs.CatalogImage.{view_image}
 use Rattle.smk_base.specs.TreeImage.{stmt_image}
-use Rattle.smk_typing.proofs.Books.{at_first, at_next, next_kept, next_fails, rest_at}
+use Rattle.smk_typing.proofs.Books.{at_first, at_next, next_kept, next_fails, rest_at, next_tables, next_views, at_last}
 use Rattle.smk_typing.proofs.book.add_each.Goals as goal
 
 pub loop-stmt-init : goal.loop-stmt-init
@@ -22,3 +24,16 @@ pub loop-stmt-preserved : goal.loop-stmt-preserved
 loop-stmt-preserved c =
     let before = rest_at (map stmt_image c.args.stmts.now) _ c.args.stmts.now c.loop-stmt.stmt-index c.stmt-item.result c.loop-stmt-test.true c.stmt-item.is c.loop-stmt.invariant in
     at_next _ _ _ _ _ before c.in_ok-stmt_after.ensures
+
+pub stmt_after-requires-clause-tables : goal.stmt_after-requires-clause-tables
+stmt_after-requires-clause-tables c =
+    let before = rest_at (map stmt_image c.args.stmts.now) _ c.args.stmts.now c.loop-stmt.stmt-index c.stmt-item.result c.loop-stmt-test.true c.stmt-item.is c.loop-stmt.invariant in
+    next_tables _ _ _ _ before
+
+pub stmt_after-requires-clause-views : goal.stmt_after-requires-clause-views
+stmt_after-requires-clause-views c =
+    let before = rest_at (map stmt_image c.args.stmts.now) _ c.args.stmts.now c.loop-stmt.stmt-index c.stmt-item.result c.loop-stmt-test.true c.stmt-item.is c.loop-stmt.invariant in
+    omega (arith, next_views _ _ _ _ before, length-map c.loop-stmt.draft.views view_image)
+
+pub returns-clause-after : goal.returns-clause-after
+returns-clause-after c = at_last (map stmt_image c.args.stmts.now) _ c.args.stmts.now c.loop-stmt.stmt-index c.loop-stmt-test.false c.loop-stmt.invariant

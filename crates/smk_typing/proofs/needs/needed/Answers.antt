@@ -8,3 +8,6 @@ returns-clause-tables c = grind (arith, common_steps, needs_below)
 
 pub push-requires-clause-above : goal.push-requires-clause-above
 push-requires-clause-above c = grind (arith, common_steps, needs_below)
+
+pub loop-table-preserved : goal.loop-table-preserved
+loop-table-preserved c = grind (arith, common_steps, needs_below)

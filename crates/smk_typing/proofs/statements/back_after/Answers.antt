@@ -16,3 +16,6 @@ pub returns-in_err-extra : goal.returns-in_err-extra
 returns-in_err-extra c =
     let p = err_from_is_err_and c.from_residual-in_err-extra.result c.from_residual-in_err-extra.ensures.1 in
     rw (p.1, p.2) (λ other. rw (c.in_ok-view.ensures, c.in_ok-table.ensures.table, c.in_err-extra.ensures other) refl)
+
+pub returns : goal.returns
+returns c = rw (c.in_ok-view.ensures, c.in_ok-table.ensures.table, c.in_ok-extra.ensures) c.new_back.ensures
