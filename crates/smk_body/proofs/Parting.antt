@@ -80,20 +80,57 @@ all_places rel places cols n e long few within fewer = record {
   few = fewer;
 }
 
--- halves of aggregates
-pub lower_aggs : {rel : Relation} {classes : ClassesImage} {aggs low : List Agg} (n : ℕ) → n ≤ length aggs → low ≡ take n aggs → length low ≡ n → AreAggsOf rel classes aggs → AreAggsOf rel classes low
-lower_aggs {rel} {classes} {aggs} n h e long are = record {
+-- halves of places, of columns and of aggregates
+pub lower_places : {rel : Relation} {places low cols : List ℕ} {n : ℕ} (high : List ℕ) → low ≡ take n places → length low ≡ n → length high + n ≡ length places → ArePlacesOf rel places cols → ArePlacesOf rel low cols
+lower_places {rel} {places} {low} {cols} {n} high e long all are = record {
+  columns = are.columns;
+  few_columns = are.few_columns;
+  within = rw e (All-take (λ place. place < length rel.rows) n places are.within);
+  few = omega (arith, long, all, are.few);
+}
+
+pub upper_places : {rel : Relation} {places high cols : List ℕ} (n : ℕ) → high ≡ drop n places → length high + n ≡ length places → ArePlacesOf rel places cols → ArePlacesOf rel high cols
+upper_places {rel} {places} {high} {cols} n e long are = record {
+  columns = are.columns;
+  few_columns = are.few_columns;
+  within = rw e (All-drop (λ place. place < length rel.rows) n places are.within);
+  few = omega (arith, long, are.few);
+}
+
+pub lower_columns : {rel : Relation} {places cols low : List ℕ} {n : ℕ} (high : List ℕ) → low ≡ take n cols → length low ≡ n → length high + n ≡ length cols → ArePlacesOf rel places cols → ArePlacesOf rel places low
+lower_columns {rel} {places} {cols} {low} {n} high e long all are = record {
+  columns = rw e (All-take (λ c. c < length rel.kinds) n cols are.columns);
+  few_columns = omega (arith, long, all, are.few_columns);
+  within = are.within;
+  few = are.few;
+}
+
+pub upper_columns : {rel : Relation} {places cols high : List ℕ} (n : ℕ) → high ≡ drop n cols → length high + n ≡ length cols → ArePlacesOf rel places cols → ArePlacesOf rel places high
+upper_columns {rel} {places} {cols} {high} n e long are = record {
+  columns = rw e (All-drop (λ c. c < length rel.kinds) n cols are.columns);
+  few_columns = omega (arith, long, are.few_columns);
+  within = are.within;
+  few = are.few;
+}
+
+pub lower_aggs : {rel : Relation} {classes : ClassesImage} {aggs low : List Agg} {n : ℕ} (high : List Agg) → low ≡ take n aggs → length low ≡ n → length high + n ≡ length aggs → AreAggsOf rel classes aggs → AreAggsOf rel classes low
+lower_aggs {rel} {classes} {aggs} {low} {n} high e long all are = record {
   numbered = are.numbered;
   each = rw e (All-take (AggFits rel.kinds) n aggs are.each);
-  few = omega (arith, long, h, are.few);
+  few = omega (arith, long, all, are.few);
 }
 
 pub upper_aggs : {rel : Relation} {classes : ClassesImage} {aggs high : List Agg} (n : ℕ) → high ≡ drop n aggs → length high + n ≡ length aggs → AreAggsOf rel classes aggs → AreAggsOf rel classes high
-upper_aggs {rel} {classes} {aggs} n e long are = record {
+upper_aggs {rel} {classes} {aggs} {high} n e long are = record {
   numbered = are.numbered;
   each = rw e (All-drop (AggFits rel.kinds) n aggs are.each);
   few = omega (arith, long, are.few);
 }
+
+-- no more rows behind one another than places
+pub rows_few : (rel : Relation) (places cols low high : List ℕ) (left right : Relation) → places ≡ low ++ high → length places ≤ 1048576 → left ≡ columns_of rel low cols → right ≡ columns_of rel high cols → length left.rows + length right.rows ≤ 1048576
+rows_few rel places cols low high left right e few l r =
+    omega (arith, ap length e, length-append low high, few, ap (λ (z : Relation). length z.rows) l, length-map (rows_at rel.rows low) (picked cols), length-map low (row_in rel.rows), ap (λ (z : Relation). length z.rows) r, length-map (rows_at rel.rows high) (picked cols), length-map high (row_in rel.rows))
 
 -- no aggregate is no column
 none_each : {X Y : Type 0} (xs : List X) (ys : List Y) → length xs ≡ length ys → map (λ (x : X). let row : Row = [] in row) xs ≡ map (λ (y : Y). let row : Row = [] in row) ys

@@ -20,7 +20,7 @@ use std::thread::Threads;
 use thiserror::Error;
 
 /// Why a step with two inputs has no rows.
-#[derive(Debug, Drop, Clone, Copy, PartialEq, Eq, Error)]
+#[derive(Debug, Drop, Clone, Copy, Error)]
 pub enum OpFault {
     /// It has more than 1,048,576 rows.
     #[error("too many rows")]
@@ -98,6 +98,8 @@ pub trait OpBody: InPieces {
         ensures lineage { IfOk result (λ made. meaning self.now made.1 ≡ local1 (unary_of op.now) input.rows want) }
         ensures left { IfOk result (λ made. leaves1 self.now (unary_of op.now) input want made.1) }
     {
+        drop(_cut);
+        drop(_made);
         self.whole1(alloc, op, input, want)
     }
 
@@ -142,6 +144,10 @@ pub trait OpBody: InPieces {
         ensures lineage { IfOk result (λ made. meaning self.now made.1 ≡ local2 (binary_of _op.now) _left.rows _right.rows _want) }
         ensures left { IfOk result (λ made. leaves2 self.now (binary_of _op.now) _left _right _want made.1) }
     {
+        drop(_left);
+        drop(_right);
+        drop(_cut);
+        drop(_made);
         Err(AllocError)
     }
 

@@ -13,8 +13,7 @@ pub fn row_classes(alloc: Global, rel: &Rel) -> Result<Classes, AllocError>
 {
     let _rows = rel.len();
     let columns = all_columns(alloc, rel.width())?;
-    let made = Classes::of_rows(alloc, rel, columns.as_slice())?;
-    Ok(made)
+    Classes::of_rows(alloc, rel, columns.as_slice())
 }
 
 /// The rows, each at its first occurrence, from their classes.

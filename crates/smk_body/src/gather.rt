@@ -1,6 +1,6 @@
 //! The values in columns at places, those of one column of texts in threads.
 
-ghost use Rattle.std.specs.Prelude.{◌≡◌, IfOk};
+ghost use Rattle.std.specs.Prelude.{◌≡◌, Ok, IfOk};
 ghost use Rattle.std.specs.Thread.{IsSync};
 ghost use Rattle.smk_body.specs.Parts.{ArePlacesOf, columns_of};
 
@@ -58,10 +58,20 @@ fn rows_in_halves<R: Threads + Sync>(
         ensures { IfOk result (λ made. made ≡ columns_of rel.entry.now high.entry.now cols.entry.now) }
     { rows_in_halves(rt, alloc, rel, high, cols, more) };
     let (lefts, rights) = join(rt, lower, upper);
-    let left = lefts?;
-    let right = rights?;
-    let made = left.followed_by(alloc, &right)?;
-    Ok(made)
+    let (left, right) = both_of(lefts, rights)?;
+    left.followed_by(alloc, &right)
+}
+
+/// Both values, or want of memory where one of the two wanted it.
+pub(crate) fn both_of<A: Drop, B: Drop>(
+    first: Result<A, AllocError>,
+    second: Result<B, AllocError>,
+) -> Result<(A, B), AllocError>
+    ensures first { IfOk result (λ it. first ≡ Ok it.0) }
+    ensures second { IfOk result (λ it. second ≡ Ok it.1) }
+{
+    let first = first?;
+    Ok((first, second?))
 }
 
 /// The values in these columns of the rows at these places, all in this thread.
@@ -75,6 +85,5 @@ pub(crate) fn columns_at(
     ensures { IfOk result (λ made. made ≡ columns_of rel.now places.now cols.now) }
 {
     let picked = rel.pick_columns(alloc, cols)?;
-    let made = picked.gather(alloc, places)?;
-    Ok(made)
+    picked.gather(alloc, places)
 }

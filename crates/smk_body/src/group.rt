@@ -50,6 +50,7 @@ pub(crate) fn sized_group_rows(
     let _rows = rel.len();
     let firsts = rel.gather(alloc, classes.firsts())?;
     let mut made = firsts.pick_columns(alloc, keys)?;
+    drop(firsts);
     for agg in aggs {
         let column = agg_column(alloc, rel, classes, sizes, agg)?;
         made = made.beside(column)?;
@@ -139,6 +140,5 @@ fn best_column(
     let _rows = rel.len();
     let places = best_places(alloc, rel, c, classes, greatest)?;
     let rows = rel.gather(alloc, places.as_slice())?;
-    let made = rows.pick_columns(alloc, &[c])?;
-    Ok(made)
+    rows.pick_columns(alloc, &[c])
 }

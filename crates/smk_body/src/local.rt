@@ -4,7 +4,7 @@ use smk_base::Dir;
 use smk_rid::RidMap;
 
 /// Which lineage of a step with two inputs is wanted.
-#[derive(Clone, Copy, Debug, PartialEq, Eq)]
+#[derive(Clone, Copy)]
 pub struct Want {
     pub left: Dir,
     pub right: Dir,

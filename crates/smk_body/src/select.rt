@@ -1,14 +1,15 @@
 ghost use Rattle.std.specs.Prelude.{◌≡◌, ◌<◌, ◌≤◌, ◌++◌, IfOk, length};
+ghost use Rattle.std.specs.Ordering.{int_cmp};
+ghost use Rattle.std.specs.declared.cmp.Ordering.TheVariants.{Less, Equal, Greater};
 ghost use Rattle.smk_base.specs.PlanImage.{formula_of};
 ghost use Rattle.smk_base.specs.Plans.{Comparison, Selection};
 ghost use Rattle.smk_base.specs.declared.plan.Operand.TheVariants as operands;
+ghost use Rattle.smk_base.specs.declared.plan.CmpOp.{CmpOp};
 ghost use Rattle.smk_model.specs.Plain.{step1};
 ghost use Rattle.smk_model.specs.Lineage.{meeting};
 ghost use Rattle.smk_model.specs.Kinds.{FormulaFits};
-ghost use Rattle.smk_body.specs.Halves.{ints_below, meeting_below};
-ghost use Rattle.smk_base.specs.declared.plan.CmpOp.{CmpOp};
-ghost use Rattle.std.specs.declared.cmp.Ordering.TheVariants.{Less, Equal, Greater};
 ghost use Rattle.smk_model.specs.Values.{holds};
+ghost use Rattle.smk_body.specs.Halves.{ints_below, meeting_below};
 
 use crate::rows::{compare, meets_at, says};
 use smk_base::{CellRef, CmpOp, Ints, Operand, Pred, Rel, Value};
@@ -110,7 +111,7 @@ fn cells_selected(
     Ok(places)
 }
 
-// The places of the small ints, from one place up to another, that stand so to an int. Each place is written into a block, where the next one overwrites it unless its int stands so; full blocks are put behind the places found.
+// The places of the small ints, from one place up to another, that stand so to an int. Each place is written into a block, where the next one overwrites it unless its int stands so, so that no branch hangs on the ints; full blocks are put behind the places found.
 fn ints_selected(
     alloc: Global,
     items: &[i64],
@@ -135,7 +136,7 @@ fn ints_selected(
             count = 0;
         }
         block[count] = i;
-        if says_of(less, equal, greater, i128::from(items[i as usize]).cmp(&n)) {
+        if stands(less, equal, greater, i128::from(items[i as usize]), n) {
             count += 1;
         }
     }
@@ -143,15 +144,17 @@ fn ints_selected(
     Ok(places)
 }
 
-// What a comparison says of an order, from what it says of each.
+// What a comparison says of two ints, from what it says of each order: in two choices of a value, where a match on the order would be a branch.
 #[inline(always)]
-fn says_of(less: bool, equal: bool, greater: bool, order: Ordering) -> bool
-    ensures { (op : CmpOp) → less ≡ holds op Less → equal ≡ holds op Equal → greater ≡ holds op Greater → result ≡ holds op order }
+fn stands(less: bool, equal: bool, greater: bool, x: i128, n: i128) -> bool
+    ensures { (op : CmpOp) → less ≡ holds op Less → equal ≡ holds op Equal → greater ≡ holds op Greater → result ≡ holds op (int_cmp x n) }
 {
-    match order {
-        Ordering::Less => less,
-        Ordering::Equal => equal,
-        Ordering::Greater => greater,
+    if x < n {
+        less
+    } else if n < x {
+        greater
+    } else {
+        equal
     }
 }
 

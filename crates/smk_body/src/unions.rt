@@ -36,8 +36,7 @@ fn put_behind(alloc: Global, left: Rel, right: &Rel) -> Result<Rel, AllocError>
     let _right_rows = right.len();
     let kinds = union_kinds(alloc, &left, right)?;
     let wide = left.widened(alloc, kinds.as_slice())?;
-    let made = wide.followed_by(alloc, right)?;
-    Ok(made)
+    wide.followed_by(alloc, right)
 }
 
 /// The rows of both sides, left first, in classes of equal ones. It is refused for `Rows` exactly where there are more than 1,048,576 classes.
@@ -77,8 +76,7 @@ pub fn union_rows(
     let more = lowered(alloc, &firsts[count..], len)?;
     let lefts = left.gather(alloc, &firsts[..count])?;
     let rights = right.gather(alloc, more.as_slice())?;
-    let made = put_behind(alloc, lefts, &rights)?;
-    Ok(made)
+    put_behind(alloc, lefts, &rights)
 }
 
 // How many places at the front are below a bound.

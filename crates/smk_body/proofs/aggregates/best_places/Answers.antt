@@ -1,5 +1,4 @@
-use Rattle.std.proofs.Common.{◌≡◌, ℕ, List, length, subst, IfOk, pos, get_or, arith}
-use Rattle.std.proofs.lemmas.Grind.{common_steps}
+use Rattle.std.proofs.Common.{◌≡◌, ℕ, List, length, subst, IfOk, pos, get_or, arith, All, ◌<◌}
 use Rattle.smk_base.specs.declared.value.Value.TheVariants as values
 use Rattle.smk_model.specs.Values.{value_at}
 use Rattle.smk_model.specs.Lineage.{row_at}
@@ -17,4 +16,16 @@ returns-in-Small-clause-places c =
     c.best_small.ensures.places
 
 pub best_small-requires-clause-classes : goal.best_small-requires-clause-classes
-best_small-requires-clause-classes c = grind (arith, common_steps)
+best_small-requires-clause-classes c = rw (ints_long c.args.rel.now.rows c.args.c c.in-Small.numbers.now c.in-Small.ensures) c.requires.classes
+
+pub best_small-requires-clause-few : goal.best_small-requires-clause-few
+best_small-requires-clause-few c = omega (arith, ints_long c.args.rel.now.rows c.args.c c.in-Small.numbers.now c.in-Small.ensures, c.len-rows.ensures.keeps.few_rows)
+
+pub returns-in-Small-clause-within : goal.returns-in-Small-clause-within
+returns-in-Small-clause-within c = subst (λ (n : ℕ). IfOk c.best_small.result (λ v. All (λ i. i < n) v.items)) (ints_long c.args.rel.now.rows c.args.c c.in-Small.numbers.now c.in-Small.ensures) c.best_small.ensures.within
+
+pub best_cells-requires-in-Wide-clause-classes : goal.best_cells-requires-in-Wide-clause-classes
+best_cells-requires-in-Wide-clause-classes c = c.requires.classes
+
+pub best_cells-requires-clause-classes : goal.best_cells-requires-clause-classes
+best_cells-requires-clause-classes c = c.requires.classes

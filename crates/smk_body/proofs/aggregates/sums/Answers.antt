@@ -20,3 +20,9 @@ wide_sums-requires-clause-long c = grind (arith, common_steps)
 
 pub small_sums-requires-clause-long : goal.small_sums-requires-clause-long
 small_sums-requires-clause-long c = grind (arith, common_steps)
+
+pub wide_sums-requires-clause-few : goal.wide_sums-requires-clause-few
+wide_sums-requires-clause-few c = grind (arith, common_steps)
+
+pub small_sums-requires-clause-few : goal.small_sums-requires-clause-few
+small_sums-requires-clause-few c = grind (arith, common_steps)

@@ -1,9 +1,9 @@
-use Rattle.std.proofs.Common.{◌≡◌, ◌∙◌, List, ℕ, length, map, ap, All}
+use Rattle.std.proofs.Common.{◌≡◌, ◌∙◌, List, ℕ, length, map, ap, All, IfOk, subst}
 use Rattle.std.proofs.lemmas.List.Elements.{All-weaker}
 use Rattle.std.proofs.lemmas.Slice.Zip.{AllZip-long}
 use Rattle.smk_base.specs.Places.{upto}
 use Rattle.smk_base.specs.Rels.{Fits, RowFits, picked}
-use Rattle.smk_keys.specs.Classes.{classes_of}
+use Rattle.smk_keys.specs.Classes.{classes_of, ClassesImage}
 use Rattle.smk_model.specs.Values.{Row}
 use Rattle.smk_model.proofs.Places.{upto_below}
 use Rattle.smk_model.proofs.Bulk.{bulk}
@@ -16,6 +16,7 @@ pub returns : goal.returns
 returns c =
     let rel = c.args.rel.now in
     let long : All (λ (row : Row). length row ≡ length rel.kinds) rel.rows = All-weaker (RowFits rel.kinds) (λ row. length row ≡ length rel.kinds) (λ row fits. AllZip-long Fits rel.kinds row fits) rel.rows c.len-rows.ensures.keeps.fit in
-    c.in_ok-made.ensures
-    ∙ ap (λ (cols : List ℕ). classes_of (map (picked cols) rel.rows)) (c.as_slice.ensures.value ∙ c.in_ok-columns.ensures ∙ ap upto c.width.ensures.count)
-    ∙ ap classes_of (bulk.whole (length rel.kinds) rel.rows long)
+    subst (λ (z : ClassesImage). IfOk c.of_rows.result (λ made. made ≡ z))
+    (ap (λ (cols : List ℕ). classes_of (map (picked cols) rel.rows)) (c.as_slice.ensures.value ∙ c.in_ok-columns.ensures ∙ ap upto c.width.ensures.count)
+    ∙ ap classes_of (bulk.whole (length rel.kinds) rel.rows long))
+    c.of_rows.ensures

@@ -1,4 +1,5 @@
-use Rattle.std.proofs.Common.{◌∙◌, ◌∷◌, [], ℕ, List, length, map, ap, arith, get_or}
+use Rattle.std.proofs.Common.{◌∙◌, ◌∷◌, [], ℕ, List, length, map, ap, arith, get_or, ◌≡◌, IfOk, subst}
+use Rattle.std.proofs.lemmas.Grind.{common_steps}
 use Rattle.smk_base.specs.Rels.{Relation, picked, rows_at, kind_in}
 use Rattle.smk_model.specs.Values.{value_at}
 use Rattle.smk_model.specs.Lineage.{row_at}
@@ -18,6 +19,13 @@ gather-requires-clause-few c =
 pub returns : goal.returns
 returns c =
     let rel = c.args.rel.now in
-    c.in_ok-made.ensures
-    ∙ related (ap (λ (r : Relation). map (kind_in r.kinds) (c.args.c ∷ [])) c.in_ok-rows.ensures)
-    (ap (λ (r : Relation). map (picked (c.args.c ∷ [])) r.rows) c.in_ok-rows.ensures ∙ ap (λ (z : List ℕ). map (picked (c.args.c ∷ [])) (rows_at rel.rows z)) (c.as_slice.ensures.value ∙ c.in_ok-places.ensures.places) ∙ best_rows c.args.greatest rel.rows c.args.c c.args.classes.now c.requires.classes)
+    subst (λ (z : Relation). IfOk c.pick_columns.result (λ made. made ≡ z))
+    (related (ap (λ (r : Relation). map (kind_in r.kinds) (c.args.c ∷ [])) c.in_ok-rows.ensures)
+    (ap (λ (r : Relation). map (picked (c.args.c ∷ [])) r.rows) c.in_ok-rows.ensures ∙ ap (λ (z : List ℕ). map (picked (c.args.c ∷ [])) (rows_at rel.rows z)) (c.as_slice.ensures.value ∙ c.in_ok-places.ensures.places) ∙ best_rows c.args.greatest rel.rows c.args.c c.args.classes.now c.requires.classes))
+    c.pick_columns.ensures
+
+pub gather-requires-clause-within : goal.gather-requires-clause-within
+gather-requires-clause-within c = rw c.as_slice.ensures.value c.in_ok-places.ensures.within
+
+pub pick_columns-requires-clause-within : goal.pick_columns-requires-clause-within
+pick_columns-requires-clause-within c = grind (arith, common_steps)

@@ -23,3 +23,6 @@ returns c =
     let rows = c.args.rel.now.rows in
     let classes = c.args.classes.now in
     c.in_ok-made.ensures ∙ ints_of 0 (c.in_ok-numbers.ensures.counts ∙ counts_is classes (length rows) c.of.result.now c.firsts.result.now c.of.ensures c.firsts.ensures c.requires.classes.long) ∙ related refl (counted_rows rows classes.of (length rows) (length classes.firsts))
+
+pub counts-requires-clause-below : goal.counts-requires-clause-below
+counts-requires-clause-below c = rw (c.of.ensures, c.firsts.ensures) c.requires.classes.below

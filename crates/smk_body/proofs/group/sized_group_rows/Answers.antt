@@ -85,3 +85,6 @@ pub returns-clause-kinds : goal.returns-clause-kinds
 returns-clause-kinds c =
     let rel = c.args.rel.now in
     ap (λ (r : Relation). r.kinds) c.loop-agg.invariant ∙ ap (λ (more : List Agg). map (kind_in rel.kinds) c.args.keys.now ++ map (kind_of_agg rel.kinds) more) (take_all c.loop-agg.agg-index c.args.aggs.now c.loop-agg-test.false)
+
+pub agg_column-requires-clause-sizes : goal.agg_column-requires-clause-sizes
+agg_column-requires-clause-sizes c = assumption

@@ -26,3 +26,6 @@ returns c =
     c.in_ok-made.ensures
     ∙ ap (λ (k : Kind). relation (k ∷ []) (map (λ (z : ℤ). values.Int z ∷ []) c.in_ok-numbers.numbers.items)) c.sum_level-level.ensures.level
     ∙ related refl (ap (map (λ (z : ℤ). values.Int z ∷ [])) (c.in_ok-numbers.ensures.sums ∙ sums_is rel.rows c.args.c classes c.of.result.now c.firsts.result.now c.of.ensures c.firsts.ensures) ∙ summed_rows rel.rows c.args.c classes.of (length rel.rows) (length classes.firsts))
+
+pub sums-requires-clause-below : goal.sums-requires-clause-below
+sums-requires-clause-below c = rw (c.of.ensures, c.firsts.ensures) c.requires.classes.below

@@ -41,3 +41,6 @@ beside-requires-clause-few c =
 
 pub returns-clause-kinds : goal.returns-clause-kinds
 returns-clause-kinds c = grind (arith, common_steps)
+
+pub returns-clause-rows : goal.returns-clause-rows
+returns-clause-rows c = grind (arith, common_steps)

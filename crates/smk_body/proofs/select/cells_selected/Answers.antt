@@ -1,4 +1,4 @@
-use Rattle.std.proofs.Common.{◌≡◌, ◌∙◌, ◌++◌, ℕ, List, Vec, Global, ap, sym}
+use Rattle.std.proofs.Common.{◌≡◌, ◌∙◌, ◌++◌, ℕ, List, Vec, Global, ap, sym, arith}
 use Rattle.smk_base.specs.Cells.{value_of_cell}
 use Rattle.smk_base.specs.Plans.{Comparison}
 use Rattle.smk_base.specs.declared.plan.Operand.TheVariants.{Lit}
@@ -23,3 +23,8 @@ loop-i-preserved c =
       | then-says+in_ok-push w ↦ ap (λ (v : Vec ℕ Global). before ++ v.items) w.places-is ∙ ap (λ (z : List ℕ). before ++ z) w.in_ok-push.ensures.items ∙ passed_next f before c.loop-i.places.items i (sym told ∙ w.if-says.true) c.loop-i.invariant
       | else-says w ↦ ap (λ (v : Vec ℕ Global). before ++ v.items) w.places-is ∙ missed_next f before c.loop-i.places.items i (sym told ∙ w.if-says.false) c.loop-i.invariant
     ]
+
+pub returns : goal.returns
+returns c =
+    let end : c.loop-i.i ≡ c.args.to = omega arith in
+    c.loop-i.invariant ∙ ap (meeting_below (Comparison c.args.c c.args.op (Lit c.args.value.now)) c.args.rel.now.rows) end

@@ -1,5 +1,6 @@
 use Rattle.std.proofs.Common.{◌≡◌, ◌++◌, ◌≤◌, ℕ, ℤ, List, length, subst, IfOk, arith, rules, to_z, of_z}
 use Rattle.std.specs.Int.{w128}
+use Rattle.std.proofs.lemmas.Grind.{common_steps}
 use Rattle.smk_base.specs.Plans.{Comparison}
 use Rattle.smk_base.specs.declared.plan.Operand.TheVariants as operands
 use Rattle.smk_base.specs.declared.value.Value.{Value}
@@ -24,3 +25,15 @@ returns-in-Small c =
     let both : IfOk made (λ v. meeting_below (Comparison c.args.c op (operands.Lit (values.Int n))) rows from ++ v.items ≡ meeting_below (Comparison c.args.c op (operands.Lit (values.Int n))) rows to) =
     subst (λ (z : List ℕ). IfOk made (λ v. meeting_below (Comparison c.args.c op (operands.Lit (values.Int n))) rows from ++ v.items ≡ z)) (met to (omega arith)) first in
     subst (λ (v : Value). IfOk made (λ p. meeting_below (Comparison c.args.c op (operands.Lit v)) rows from ++ p.items ≡ meeting_below (Comparison c.args.c op (operands.Lit v)) rows to)) c.in-Int.ensures both
+
+pub ints_selected-requires-clause-within : goal.ints_selected-requires-clause-within
+ints_selected-requires-clause-within c = grind (arith, common_steps)
+
+pub cells_selected-requires-clause-column : goal.cells_selected-requires-clause-column
+cells_selected-requires-clause-column c = assumption
+
+pub ints_selected-requires-clause-order : goal.ints_selected-requires-clause-order
+ints_selected-requires-clause-order c = assumption
+
+pub cells_selected-requires-clause-order : goal.cells_selected-requires-clause-order
+cells_selected-requires-clause-order c = assumption

@@ -1,4 +1,5 @@
 use Rattle.std.proofs.Common.{◌≡◌, ◌∙◌, ◌++◌, List, ℕ, length, map, ap, arith}
+use Rattle.std.proofs.lemmas.Grind.{common_steps}
 use Rattle.smk_base.specs.Places.{upto}
 use Rattle.smk_base.specs.Rels.{picked}
 use Rattle.smk_keys.specs.Classes.{ClassesImage, classes_of}
@@ -30,3 +31,6 @@ returns-then-firsts-clause-many c = λ e.
     ∙ ap (λ (z : List ℕ). classes_of (map (picked (upto (length left.kinds))) left.rows ++ map (picked z) right.rows)) (c.as_slice-2.ensures.value ∙ cols)
     ∙ ap classes_of (all_columns_of left.kinds right.kinds left.rows right.rows c.requires c.len-left_rows.ensures.keeps.fit c.len-right_rows.ensures.keeps.fit) in
     omega (arith, ap length (c.firsts.ensures ∙ ap (λ (m : ClassesImage). m.firsts) is), length_firsts (left.rows ++ right.rows))
+
+pub returns-clause-few : goal.returns-clause-few
+returns-clause-few c = grind (arith, common_steps)
