@@ -1,6 +1,6 @@
 //! One map of a table through a step: composed with the step's own list, and merged with that of the other input.
 
-ghost use Rattle.std.specs.Prelude.{◌≡◌, ◌<◌, ◌≤◌, true, false, length, Some, IfOk, IfErr, IsTrue};
+ghost use Rattle.std.specs.Prelude.{◌≡◌, ◌<◌, ◌≤◌, true, false, length, Some, IfOk, IfErr, OnOk, IsTrue};
 ghost use Rattle.smk_base.specs.Places.{pairs_of, composed};
 ghost use Rattle.smk_compose.specs.Through.{chained, chain_of, joined, is_heavy, Chains, Joins};
 ghost use Rattle.smk_rid.specs.declared.fault.RidFault.TheVariants.{Pairs};
@@ -52,46 +52,55 @@ fn chain_maps(alloc: Global, a: &RidMap, b: &RidMap) -> Result<Composed, RidFaul
     }
 }
 
-/// The backward map of a table through a step. The step's list is handed on where that is the map, unless it serves a later table too.
+/// Takes the backward map of a table through a step. The step's list is handed on where that is the map, unless it serves a later table too.
 pub(crate) fn pass_back(
     alloc: Global,
     step: &mut Option<RidMap>,
-    below: Option<RidMap>,
+    map: &mut Option<RidMap>,
     serves_later: bool,
-) -> Result<Option<RidMap>, RidFault>
-    requires { Chains step.old below }
-    ensures made { IfOk result (λ made. made ≡ chained step.old below) }
-    ensures few { IfOk result (λ _. is_heavy (chained step.old below) ≡ false) }
-    ensures many { IfErr result (λ e. e ≡ Pairs → is_heavy (chained step.old below) ≡ true) }
+) -> Result<(), RidFault>
+    requires { Chains step.old map.old }
+    ensures made { OnOk result (map.new ≡ chained step.old map.old) }
+    ensures few { OnOk result (is_heavy (chained step.old map.old) ≡ false) }
+    ensures many { IfErr result (λ e. e ≡ Pairs → is_heavy (chained step.old map.old) ≡ true) }
     ensures kept { IsTrue serves_later → step.new ≡ step.old }
 {
-    match chain(alloc, step, &below)? {
-        Composed::Nothing => Ok(None),
-        Composed::First => lent(alloc, step, serves_later),
-        Composed::Second => Ok(below),
-        Composed::Made(map) => Ok(Some(map)),
+    match chain(alloc, step, map)? {
+        Composed::Nothing => put(map, None),
+        Composed::First => put(map, lent(alloc, step, serves_later)?),
+        Composed::Second => {}
+        Composed::Made(made) => put(map, Some(made)),
     }
+    Ok(())
 }
 
 /// The forward map, likewise.
 pub(crate) fn pass_fwd(
     alloc: Global,
-    below: Option<RidMap>,
+    map: &mut Option<RidMap>,
     step: &mut Option<RidMap>,
     serves_later: bool,
-) -> Result<Option<RidMap>, RidFault>
-    requires { Chains below step.old }
-    ensures made { IfOk result (λ made. made ≡ chained below step.old) }
-    ensures few { IfOk result (λ _. is_heavy (chained below step.old) ≡ false) }
-    ensures many { IfErr result (λ e. e ≡ Pairs → is_heavy (chained below step.old) ≡ true) }
+) -> Result<(), RidFault>
+    requires { Chains map.old step.old }
+    ensures made { OnOk result (map.new ≡ chained map.old step.old) }
+    ensures few { OnOk result (is_heavy (chained map.old step.old) ≡ false) }
+    ensures many { IfErr result (λ e. e ≡ Pairs → is_heavy (chained map.old step.old) ≡ true) }
     ensures kept { IsTrue serves_later → step.new ≡ step.old }
 {
-    match chain(alloc, &below, step)? {
-        Composed::Nothing => Ok(None),
-        Composed::First => Ok(below),
-        Composed::Second => lent(alloc, step, serves_later),
-        Composed::Made(map) => Ok(Some(map)),
+    match chain(alloc, map, step)? {
+        Composed::Nothing => put(map, None),
+        Composed::First => {}
+        Composed::Second => put(map, lent(alloc, step, serves_later)?),
+        Composed::Made(made) => put(map, Some(made)),
     }
+    Ok(())
+}
+
+// A map in the place of another.
+pub(crate) fn put(map: &mut Option<RidMap>, made: Option<RidMap>)
+    ensures { map.new ≡ made }
+{
+    *map = made;
 }
 
 // A map, or a copy where it serves once more.
@@ -113,30 +122,30 @@ fn lent(
     }
 }
 
-/// The maps by two inputs merged, or the one that there is.
+/// Makes the map by the left input the one by both: the two merged, or the one that there is.
 pub(crate) fn join(
     alloc: Global,
-    left: Option<RidMap>,
-    right: Option<RidMap>,
-) -> Result<Option<RidMap>, RidFault>
-    requires { Joins left right }
-    ensures made { IfOk result (λ made. made ≡ joined left right) }
-    ensures few { IfOk result (λ _. is_heavy (joined left right) ≡ false) }
-    ensures many { IfErr result (λ e. e ≡ Pairs → is_heavy (joined left right) ≡ true) }
+    left: &mut Option<RidMap>,
+    right: &mut Option<RidMap>,
+) -> Result<(), RidFault>
+    requires { Joins left.old right.old }
+    ensures made { OnOk result (left.new ≡ joined left.old right.old) }
+    ensures few { OnOk result (is_heavy (joined left.old right.old) ≡ false) }
+    ensures many { IfErr result (λ e. e ≡ Pairs → is_heavy (joined left.old right.old) ≡ true) }
 {
-    match (left, right) {
+    match (&*left, &*right) {
         (Some(a), Some(b)) => {
-            let made = a.merge(alloc, &b)?;
-            Ok(Some(made))
+            let made = a.merge(alloc, b)?;
+            put(left, Some(made));
         }
         (Some(a), None) => {
             let _pairs = a.pairs();
-            Ok(Some(a))
         }
         (None, Some(b)) => {
             let _pairs = b.pairs();
-            Ok(Some(b))
+            put(left, right.take());
         }
-        (None, None) => Ok(None),
+        (None, None) => {}
     }
+    Ok(())
 }

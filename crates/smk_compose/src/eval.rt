@@ -88,20 +88,19 @@ fn eval_one<R: Threads + Sync, B: OpBody + Sync>(
     ensures made { IfOk result (λ rel. IsEvaluated (Apply (unary_of op.now) (expr_of input.now)) leaves.old number.old rel) }
     ensures many { IfErr result (λ e. (node : ℕ) → e ≡ Rows node → first_full_from (expr_of input.now) (each_rows leaves.old) number.old ≡ Some node) }
 {
-    let made = match input {
+    match input {
         Plan::Scan(_) => {
             let leaf = leaves.take_first();
             let _rows = leaf.len();
-            *number += 1;
-            apply_leaf(rt, alloc, body, op, leaf)?
+            *number += 2;
+            apply_leaf(rt, alloc, body, op, leaf)
         }
         _ => {
             let rel = eval_node(rt, alloc, body, input, leaves, number)?;
-            apply_one(rt, alloc, body, op, rel)?
+            *number += 1;
+            apply_one(rt, alloc, body, op, rel)
         }
-    };
-    *number += 1;
-    Ok(made)
+    }
 }
 
 // The same of a step with two inputs.
@@ -126,10 +125,17 @@ fn eval_two<R: Threads + Sync, B: OpBody + Sync>(
     ensures many { IfErr result (λ e. (node : ℕ) → e ≡ Rows node → first_full_from (Combine (binary_of op.now) (expr_of left.now) (expr_of right.now)) (each_rows leaves.old) number.old ≡ Some node) }
 {
     let l = eval_node(rt, alloc, body, left, leaves, number)?;
-    let r = eval_node(rt, alloc, body, right, leaves, number)?;
-    let made = apply_two(rt, alloc, body, op, l, r, *number)?;
-    *number += 1;
-    Ok(made)
+    match eval_node(rt, alloc, body, right, leaves, number) {
+        Ok(r) => {
+            let made = apply_two(rt, alloc, body, op, l, r, *number)?;
+            *number += 1;
+            Ok(made)
+        }
+        Err(fault) => {
+            drop(l);
+            Err(fault)
+        }
+    }
 }
 
 // A step over a leaf, of which only the columns are gathered that it names.
@@ -147,7 +153,9 @@ fn apply_leaf<R: Threads + Sync, B: OpBody + Sync>(
     ensures memory { IfErr result (λ e. (node : ℕ) → e ≡ Rows node → ⊥) }
 {
     let Narrowed { op, rel } = narrow(alloc, op, leaf)?;
-    apply_one(rt, alloc, body, &op, rel)
+    let made = apply_one(rt, alloc, body, &op, rel);
+    drop(op);
+    made
 }
 
 // A step with one input. It has at most as many rows as its input.
@@ -168,9 +176,14 @@ fn apply_one<R: Threads + Sync, B: OpBody + Sync>(
         back: false,
         fwd: false,
     };
-    let (made, _pending) = body.apply1(rt, alloc, op, rel, want)?;
-    let _rows = made.len();
-    Ok(made)
+    match body.apply1(rt, alloc, op, rel, want) {
+        Ok((made, pending)) => {
+            drop(pending);
+            let _rows = made.len();
+            Ok(made)
+        }
+        Err(_) => Err(EvalFault::NoMemory),
+    }
 }
 
 // A step with two inputs, which is the node with this number.
@@ -198,7 +211,10 @@ fn apply_two<R: Threads + Sync, B: OpBody + Sync>(
         right: none,
     };
     match body.apply2(rt, alloc, op, left, right, want) {
-        Ok((made, _pending)) => Ok(made),
+        Ok((made, pending)) => {
+            drop(pending);
+            Ok(made)
+        }
         Err(OpFault::Rows) => Err(EvalFault::Rows { node: number }),
         Err(OpFault::NoMemory) => Err(EvalFault::NoMemory),
     }

@@ -4,7 +4,7 @@ use std::alloc::AllocError;
 use thiserror::Error;
 
 /// Why a plan has no rows.
-#[derive(Debug, Drop, Clone, Copy, PartialEq, Eq, Error)]
+#[derive(Debug, Drop, Clone, Copy, Error)]
 pub enum EvalFault {
     /// The node with this number, the first in post-order, has more than 1,048,576 rows.
     #[error("too many rows at a node")]
@@ -24,15 +24,12 @@ impl From<AllocError> for EvalFault {
 }
 
 /// Why a plan wasn't run.
-#[derive(Debug, Drop, Clone, Copy, PartialEq, Eq, Error)]
+#[derive(Drop, Clone, Copy)]
 pub enum RunFault {
     /// The node with this number has more than 1,048,576 rows.
-    #[error("too many rows at a node")]
     Rows { node: u32 },
     /// The node has more than 16,777,216 pairs of a row and a rid of this needed table.
-    #[error("too many pairs at a node")]
     Pairs { node: u32, table: u32 },
-    #[error("no memory")]
     NoMemory,
 }
 

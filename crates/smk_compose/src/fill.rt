@@ -1,35 +1,35 @@
-ghost use Rattle.std.specs.Prelude.{◌≡◌, ◌<◌, ℕ, length, slice_index_or, IfOk, OnOk};
+ghost use Rattle.std.specs.Prelude.{◌≡◌, ◌<◌, ℕ, length, slice_index_or, OnOk};
 ghost use Rattle.smk_model.specs.Selection.{each_rows};
 ghost use Rattle.smk_model.specs.Composed.{table_at};
 ghost use Rattle.smk_compose.specs.Kept.{NeedFits};
 ghost use Rattle.smk_compose.specs.Through.{filled, or_empty, map_at, no_need};
 
-use crate::kept::{KeptMap, Kepts};
+use crate::chain::put;
+use crate::kept::KeptMap;
 use smk_base::{Dir, Needed};
 use smk_rid::RidMap;
 use smk_table::Table;
 use std::alloc::{AllocError, Global};
 
-/// The maps, and an empty one for each that is needed and isn't there.
+/// Puts an empty map for each that is needed and isn't there.
 pub(crate) fn fill(
     alloc: Global,
-    maps: Kepts,
+    maps: &mut [KeptMap],
     need: &[Needed],
     rows: u32,
     tables: &[Table],
-) -> Result<Kepts, AllocError>
-    requires long { length maps ≡ length need.now }
+) -> Result<(), AllocError>
+    requires long { length maps.old ≡ length need.now }
     requires known { NeedFits (length tables.now) need.now }
-    ensures long { IfOk result (λ made. length made ≡ length maps) }
-    ensures each { IfOk result (λ made. (i : ℕ) → i < length need.now → let n = slice_index_or need.now i no_need in map_at made i ≡ filled n.dir rows (length (table_at (each_rows tables.now) n.table)) (map_at maps i)) }
+    ensures long { OnOk result (length maps.new ≡ length maps.old) }
+    ensures each { OnOk result ((i : ℕ) → i < length need.now → let n = slice_index_or need.now i no_need in map_at maps.new i ≡ filled n.dir rows (length (table_at (each_rows tables.now) n.table)) (map_at maps.old i)) }
 {
-    let mut items = maps.into_vec();
     for i in 0..need.len() {
         let n = need[i];
         let size = tables[n.table as usize].len();
-        fill_one(alloc, &mut items[i], n.dir, rows, size)?;
+        fill_one(alloc, &mut maps[i], n.dir, rows, size)?;
     }
-    Ok(Kepts::from_vec(items))
+    Ok(())
 }
 
 // Puts an empty map where one is needed and isn't there.
@@ -56,8 +56,7 @@ fn fill_map(
     ensures { OnOk result (map.new ≡ or_empty is_needed map.old len bound) }
 {
     if is_needed && map.is_none() {
-        let made = RidMap::empty(alloc, len, bound)?;
-        *map = Some(made);
+        put(map, Some(RidMap::empty(alloc, len, bound)?));
     }
     Ok(())
 }

@@ -44,11 +44,8 @@ fn pass(alloc: Global, side: &mut Side, map: &mut KeptMap, later: Dir) -> Result
     ensures back { later.back ≡ true → side.new.back ≡ side.old.back }
     ensures fwd { later.fwd ≡ true → side.new.fwd ≡ side.old.fwd }
 {
-    let below = map.back.take();
-    map.back = pass_back(alloc, &mut side.back, below, later.back)?;
-    let below = map.fwd.take();
-    map.fwd = pass_fwd(alloc, below, &mut side.fwd, later.fwd)?;
-    Ok(())
+    pass_back(alloc, &mut side.back, &mut map.back, later.back)?;
+    pass_fwd(alloc, &mut map.fwd, &mut side.fwd, later.fwd)
 }
 
 // The i-th of these maps through a step.
@@ -95,13 +92,8 @@ fn join_maps(alloc: Global, left: &mut KeptMap, right: &mut KeptMap) -> Result<(
     ensures few { OnOk result (has_heavy (joined_maps left.old right.old) ≡ false) }
     ensures many { IfErr result (λ e. e ≡ Pairs → has_heavy (joined_maps left.old right.old) ≡ true) }
 {
-    let by_left = left.back.take();
-    let by_right = right.back.take();
-    left.back = join(alloc, by_left, by_right)?;
-    let by_left = left.fwd.take();
-    let by_right = right.fwd.take();
-    left.fwd = join(alloc, by_left, by_right)?;
-    Ok(())
+    join(alloc, &mut left.back, &mut right.back)?;
+    join(alloc, &mut left.fwd, &mut right.fwd)
 }
 
 // The i-th of these maps through a step with two inputs, put among the left ones.

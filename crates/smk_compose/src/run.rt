@@ -5,12 +5,12 @@ ghost use Rattle.smk_model.specs.Composed.{rows_over};
 ghost use Rattle.smk_model.specs.Selection.{each_rows, each_kinds, leaf_kinds, plan_kinds, rows_in, PlanFits, ScansFit, nodes};
 ghost use Rattle.smk_model.specs.NodeFaults.{first_fault, asked_of};
 ghost use Rattle.smk_compose.specs.Kept.{NeedFits, kept_at, held_at};
-ghost use Rattle.smk_compose.specs.Through.{IsFirst};
+ghost use Rattle.smk_compose.specs.Through.{IsFirst, scan_at};
 ghost use Rattle.smk_compose.specs.Over.{kinds_over, FitsOver, walk_fault};
 
 use crate::fault::RunFault;
 use crate::fill::fill;
-use crate::kept::Run;
+use crate::kept::{Kepts, Run};
 use crate::rows::fetch_whole;
 use crate::scan::scan_maps;
 use crate::step::{run_one, run_two};
@@ -18,7 +18,7 @@ use smk_base::{Need, Needed, Plan};
 use smk_body::OpBody;
 use smk_outside::Steps;
 use smk_table::Table;
-use std::alloc::Global;
+use std::alloc::{AllocError, Global};
 use std::sync::ledger::Ledger;
 use std::thread::Threads;
 
@@ -58,11 +58,24 @@ pub fn run_plan<R: Threads + Sync, B: OpBody + Sync, L: Ledger>(
         &mut number,
     )?;
     let rows = rel.len();
-    let kept = fill(alloc, kept, need.as_slice(), rows, tables)?;
-    Ok(Run {
-        rel: rel.shared(alloc)?,
-        kept,
-    })
+    let mut maps = kept.into_vec();
+    match fill(alloc, &mut maps, need.as_slice(), rows, tables) {
+        Ok(()) => match rel.shared(alloc) {
+            Ok(rel) => Ok(Run {
+                rel,
+                kept: Kepts::from_vec(maps),
+            }),
+            Err(_) => {
+                drop(maps);
+                Err(RunFault::NoMemory)
+            }
+        },
+        Err(_) => {
+            drop(rel);
+            drop(maps);
+            Err(RunFault::NoMemory)
+        }
+    }
 }
 
 // A plan's rows, and the needed lineage to the tables that it scans. Its nodes are numbered from `number` on, which then is the number behind them.
@@ -90,10 +103,9 @@ fn run_node<R: Threads + Sync, B: OpBody + Sync, L: Ledger>(
 {
     match plan {
         Plan::Scan(table) => {
-            let rel = fetch_whole(alloc, &tables[*table as usize], steps)?;
-            let kept = scan_maps(alloc, *table, rel.len(), need)?;
+            let run = run_scan(alloc, *table, &tables[*table as usize], need, steps)?;
             *number += 1;
-            Ok(Run { rel, kept })
+            Ok(run)
         }
         Plan::One(op, input) => {
             let below = run_node(rt, alloc, body, input, tables, need, steps, number)?;
@@ -107,6 +119,29 @@ fn run_node<R: Threads + Sync, B: OpBody + Sync, L: Ledger>(
             let node = *number;
             *number += 1;
             run_two(rt, alloc, body, op, l, r, node)
+        }
+    }
+}
+
+// The rows of a table that is scanned, and the needed lineage to the tables, of which it is the one with this number.
+fn run_scan<L: Ledger>(
+    alloc: Global,
+    number: u32,
+    table: &Table,
+    need: &[Needed],
+    steps: &mut Steps<L>,
+) -> Result<Run, AllocError>
+    ensures rel { IfOk result (λ run. run.rel ≡ table.now) }
+    ensures few { IfOk result (λ run. length run.rel.rows ≤ 1048576) }
+    ensures kept { IfOk result (λ run. run.kept ≡ map (scan_at number (length run.rel.rows)) need.now) }
+    ensures looks { steps.new ≡ steps.old + length table.now.rows }
+{
+    let rel = fetch_whole(alloc, table, steps)?;
+    match scan_maps(alloc, number, rel.len(), need) {
+        Ok(kept) => Ok(Run { rel, kept }),
+        Err(error) => {
+            drop(rel);
+            Err(error)
         }
     }
 }

@@ -1,4 +1,4 @@
-ghost use Rattle.std.specs.Prelude.{◌≡◌, ◌≤◌, map, IfOk};
+ghost use Rattle.std.specs.Prelude.{◌≡◌, ◌≤◌, [], ◌∷◌, ◌++◌, map, IfOk, OnOk};
 ghost use Rattle.smk_base.specs.Places.{own_lists};
 ghost use Rattle.smk_body.specs.Locals.{wanted};
 ghost use Rattle.smk_compose.specs.Through.{scan_at};
@@ -19,17 +19,57 @@ pub(crate) fn scan_maps(
     ensures { IfOk result (λ made. made ≡ map (scan_at scanned len) need.now) }
 {
     let mut made = Kepts::new(alloc);
+    match push_scans(alloc, scanned, len, need, &mut made) {
+        Ok(()) => Ok(made),
+        Err(error) => {
+            drop(made);
+            Err(error)
+        }
+    }
+}
+
+// Puts the maps of a scan behind none.
+fn push_scans(
+    alloc: Global,
+    scanned: u32,
+    len: u32,
+    need: &[Needed],
+    made: &mut Kepts,
+) -> Result<(), AllocError>
+    requires few { len ≤ 1048576 }
+    requires empty { made.old ≡ [] }
+    ensures { OnOk result (made.new ≡ map (scan_at scanned len) need.now) }
+{
     for n in need {
-        let here = n.table == scanned;
-        let back = own_map(alloc, here && n.dir.back, len)?;
-        let fwd = own_map(alloc, here && n.dir.fwd, len)?;
-        made.push(KeptMap {
+        push_scan(alloc, scanned, len, *n, made)?;
+    }
+    Ok(())
+}
+
+// Puts the maps of a scan that are needed of one table last.
+fn push_scan(
+    alloc: Global,
+    scanned: u32,
+    len: u32,
+    n: Needed,
+    made: &mut Kepts,
+) -> Result<(), AllocError>
+    requires { len ≤ 1048576 }
+    ensures { OnOk result (made.new ≡ made.old ++ scan_at scanned len n ∷ []) }
+{
+    let here = n.table == scanned;
+    let back = own_map(alloc, here && n.dir.back, len)?;
+    match own_map(alloc, here && n.dir.fwd, len) {
+        Ok(fwd) => made.push(KeptMap {
             table: n.table,
             back,
             fwd,
-        })?;
+        }),
+        Err(error) => {
+            drop(back);
+            Err(error)
+        }
     }
-    Ok(made)
 }
 
 // Each row's own list, where it is wanted.

@@ -6,7 +6,7 @@ ghost use Rattle.smk_body.specs.Locals.{is_nothing, is_nothing2};
 ghost use Rattle.smk_compose.specs.Through.{through, together_all, side1, side_left, side_right, right_of, want_of, map_at, Passes, Meets, pairs_fault, node_fault, IsFirst};
 
 use crate::fault::RunFault;
-use crate::kept::{Kepts, Run};
+use crate::kept::{KeptMap, Kepts, Run};
 use crate::pass::{meet_all, pass_all, wants};
 use smk_base::{Op1, Op2, Rel};
 use smk_body::{OpBody, OpFault, Want};
@@ -34,32 +34,49 @@ pub(crate) fn run_one<R: Threads + Sync, B: OpBody + Sync>(
 {
     let _rows = input.len();
     let want = wants(below.as_slice());
-    let (rel, pending) = body.apply1(rt, alloc, op, input, want)?;
-    if below.as_slice().is_empty() {
-        return Ok(Run { rel, kept: below });
+    match body.apply1(rt, alloc, op, input, want) {
+        Ok((rel, pending)) => {
+            let mut maps = below.into_vec();
+            match finish_one(rt, alloc, body, pending, &mut maps, node) {
+                Ok(()) => Ok(Run {
+                    rel,
+                    kept: Kepts::from_vec(maps),
+                }),
+                Err(fault) => {
+                    drop(rel);
+                    drop(maps);
+                    Err(fault)
+                }
+            }
+        }
+        Err(_) => {
+            drop(below);
+            Err(RunFault::NoMemory)
+        }
     }
-    let kept = finish_one(rt, alloc, body, pending, below, node)?;
-    Ok(Run { rel, kept })
 }
 
-// The maps of the input through a step with one input, by its lineage that is pending.
+// Takes the maps of the input through a step with one input, by its lineage that is pending, where there are maps.
 fn finish_one<R: Threads + Sync, B: OpBody + Sync>(
     rt: &R,
     alloc: Global,
     body: &B,
     pending: B::Pending,
-    below: Kepts,
+    maps: &mut [KeptMap],
     node: u32,
-) -> Result<Kepts, RunFault>
-    requires { All (Passes (B.meaning body.now pending).left) below }
-    ensures made { IfOk result (λ made. made ≡ map (through (B.meaning body.now pending).left) below) }
-    ensures none { IfOk result (λ _. pairs_fault node (map (through (B.meaning body.now pending).left) below) ≡ None) }
-    ensures fault { IfErr result (λ e. IsFirst e (pairs_fault node (map (through (B.meaning body.now pending).left) below))) }
+) -> Result<(), RunFault>
+    requires { All (Passes (B.meaning body.now pending).left) maps.old }
+    ensures made { OnOk result (maps.new ≡ map (through (B.meaning body.now pending).left) maps.old) }
+    ensures none { OnOk result (pairs_fault node (map (through (B.meaning body.now pending).left) maps.old) ≡ None) }
+    ensures fault { IfErr result (λ e. IsFirst e (pairs_fault node (map (through (B.meaning body.now pending).left) maps.old))) }
 {
+    if maps.is_empty() {
+        return Ok(());
+    }
     let mut local = body.finish(rt, alloc, pending)?;
-    let mut maps = below.into_vec();
-    pass_all(alloc, &mut local.left, &mut maps, node)?;
-    Ok(Kepts::from_vec(maps))
+    let passed = pass_all(alloc, &mut local.left, maps, node);
+    drop(local);
+    passed
 }
 
 /// A step with two inputs, which is the node with this number: its rows, and the maps of its inputs through it.
@@ -96,43 +113,58 @@ pub(crate) fn run_two<R: Threads + Sync, B: OpBody + Sync>(
     };
     match body.apply2(rt, alloc, op, left_rel, right_rel, want) {
         Ok((rel, pending)) => {
-            if left_kept.as_slice().is_empty() {
-                return Ok(Run {
+            let mut lefts = left_kept.into_vec();
+            let mut rights = right_kept.into_vec();
+            let met = finish_two(rt, alloc, body, pending, &mut lefts, &mut rights, node);
+            drop(rights);
+            match met {
+                Ok(()) => Ok(Run {
                     rel,
-                    kept: left_kept,
-                });
+                    kept: Kepts::from_vec(lefts),
+                }),
+                Err(fault) => {
+                    drop(rel);
+                    drop(lefts);
+                    Err(fault)
+                }
             }
-            let kept = finish_two(rt, alloc, body, pending, left_kept, right_kept, node)?;
-            Ok(Run { rel, kept })
         }
-        Err(OpFault::Rows) => Err(RunFault::Rows { node }),
-        Err(OpFault::NoMemory) => Err(RunFault::NoMemory),
+        Err(fault) => {
+            drop(left_kept);
+            drop(right_kept);
+            match fault {
+                OpFault::Rows => Err(RunFault::Rows { node }),
+                OpFault::NoMemory => Err(RunFault::NoMemory),
+            }
+        }
     }
 }
 
-// The maps of the inputs through a step with two inputs, by its lineage that is pending.
+// Takes the maps of the inputs through a step with two inputs, by its lineage that is pending, where there are maps. They are put among the left ones.
 fn finish_two<R: Threads + Sync, B: OpBody + Sync>(
     rt: &R,
     alloc: Global,
     body: &B,
     pending: B::Pending,
-    left: Kepts,
-    right: Kepts,
+    lefts: &mut [KeptMap],
+    rights: &mut [KeptMap],
     node: u32,
-) -> Result<Kepts, RunFault>
+) -> Result<(), RunFault>
     requires sides { IsTrue (is_some (B.meaning body.now pending).right) }
-    requires long { length left ≡ length right }
-    requires meets { (i : ℕ) → i < length left → Meets (B.meaning body.now pending).left (right_of (B.meaning body.now pending)) (map_at left i) (map_at right i) }
-    ensures made { IfOk result (λ made. made ≡ together_all (B.meaning body.now pending).left (right_of (B.meaning body.now pending)) left right) }
-    ensures none { IfOk result (λ _. pairs_fault node (together_all (B.meaning body.now pending).left (right_of (B.meaning body.now pending)) left right) ≡ None) }
-    ensures fault { IfErr result (λ e. IsFirst e (pairs_fault node (together_all (B.meaning body.now pending).left (right_of (B.meaning body.now pending)) left right))) }
+    requires long { length lefts.old ≡ length rights.old }
+    requires meets { (i : ℕ) → i < length lefts.old → Meets (B.meaning body.now pending).left (right_of (B.meaning body.now pending)) (map_at lefts.old i) (map_at rights.old i) }
+    ensures made { OnOk result (lefts.new ≡ together_all (B.meaning body.now pending).left (right_of (B.meaning body.now pending)) lefts.old rights.old) }
+    ensures none { OnOk result (pairs_fault node (together_all (B.meaning body.now pending).left (right_of (B.meaning body.now pending)) lefts.old rights.old) ≡ None) }
+    ensures fault { IfErr result (λ e. IsFirst e (pairs_fault node (together_all (B.meaning body.now pending).left (right_of (B.meaning body.now pending)) lefts.old rights.old))) }
 {
-    let mut local = body.finish(rt, alloc, pending)?;
-    let mut lefts = left.into_vec();
-    let mut rights = right.into_vec();
-    match &mut local.right {
-        Some(side) => meet_all(alloc, &mut local.left, side, &mut lefts, &mut rights, node)?,
-        None => unreachable!(),
+    if lefts.is_empty() {
+        return Ok(());
     }
-    Ok(Kepts::from_vec(lefts))
+    let mut local = body.finish(rt, alloc, pending)?;
+    let met = match &mut local.right {
+        Some(side) => meet_all(alloc, &mut local.left, side, lefts, rights, node),
+        None => unreachable!(),
+    };
+    drop(local);
+    met
 }

@@ -33,30 +33,42 @@ pub fn narrow(alloc: Global, op: &Op1, input: Chosen) -> Result<Narrowed, AllocE
     ensures kinds { IfOk result (λ made. kinds1 (unary_of made.op) made.rel.kinds ≡ kinds1 (unary_of op.now) input.kinds) }
 {
     match op {
-        Op1::Select(_) => {
-            let op = op.copy(alloc)?;
-            let rel = input.rel(alloc)?;
-            Ok(Narrowed { op, rel })
-        }
+        Op1::Select(_) => whole(alloc, op, input),
         Op1::Project(items) => {
-            let (items, rel) = narrow_items(alloc, items.as_slice(), &input)?;
+            let made = narrow_items(alloc, items.as_slice(), &input);
+            drop(input);
+            let (items, rel) = made?;
             let op = Op1::Project(items);
             Ok(Narrowed { op, rel })
         }
         Op1::Distinct(items) => {
-            let (items, rel) = narrow_items(alloc, items.as_slice(), &input)?;
+            let made = narrow_items(alloc, items.as_slice(), &input);
+            drop(input);
+            let (items, rel) = made?;
             let op = Op1::Distinct(items);
             Ok(Narrowed { op, rel })
         }
         Op1::Group(keys, aggs) => {
-            let NarrowedGroup { keys, aggs, rel } = narrow_group(
-                alloc,
-                keys.as_slice(),
-                aggs.as_slice(),
-                &input,
-            )?;
+            let made = narrow_group(alloc, keys.as_slice(), aggs.as_slice(), &input);
+            drop(input);
+            let NarrowedGroup { keys, aggs, rel } = made?;
             let op = Op1::Group(keys, aggs);
             Ok(Narrowed { op, rel })
+        }
+    }
+}
+
+// A step, and the rows that it is for with all their columns.
+fn whole(alloc: Global, op: &Op1, input: Chosen) -> Result<Narrowed, AllocError>
+    ensures op { IfOk result (λ made. unary_of made.op ≡ unary_of op.now) }
+    ensures rel { IfOk result (λ made. made.rel ≡ input) }
+{
+    let rel = input.rel(alloc)?;
+    match op.copy(alloc) {
+        Ok(op) => Ok(Narrowed { op, rel }),
+        Err(error) => {
+            drop(rel);
+            Err(error)
         }
     }
 }

@@ -1,5 +1,6 @@
-use Rattle.std.proofs.Common.{◌∙◌, sym}
+use Rattle.std.proofs.Common.{◌∙◌, sym, arith}
 use Rattle.std.proofs.lemmas.Result.{err_from_is_err_and, on_ok_weaker}
+use Rattle.std.proofs.lemmas.Grind.{common_steps}
 use Rattle.smk_compose.specs.Through.{through, map_at}
 use Rattle.smk_compose.proofs.Chains.{left_heavy_maps, right_heavy_maps, met_at}
 use Rattle.smk_compose.proofs.pass.meet_at.Goals as goal
@@ -20,3 +21,9 @@ returns-clause-made c =
     (met_at c.args.left_side.now c.args.right_side.now c.args.lefts.now c.args.rights.now c.pass_at.new.maps c.pass_at-2.new.maps c.args.i c.index-lefts-i.result c.index-rights-i.result c.join_maps.new.left
     c.requires.left_place c.requires.right_place c.in_ok-pass_at.ensures.made c.in_ok-pass_at-2.ensures.made)
     c.join_maps.ensures.made
+
+pub returns-clause-rest : goal.returns-clause-rest
+returns-clause-rest c = grind (arith, common_steps)
+
+pub join_maps-requires : goal.join_maps-requires
+join_maps-requires c = grind (arith, common_steps)

@@ -1,5 +1,6 @@
 use Rattle.std.proofs.Common.{◌≡◌, ◌∙◌, ◌<◌, ◌+◌, length, map, drop, slice_set, slice_index_or, sym, ap, arith}
 use Rattle.std.proofs.lemmas.List.{length-map, length-set, get_or_default}
+use Rattle.std.proofs.lemmas.Grind.{common_steps}
 use Rattle.smk_compose.specs.Through.{through, has_heavy, map_at, no_map}
 use Rattle.smk_compose.specs.declared.kept.KeptMap.{KeptMap}
 use Rattle.smk_compose.proofs.Finds.{heavy_here, light_next, made_next}
@@ -40,3 +41,9 @@ loop-i-preserved c =
       made = made_next (map f c.args.maps.now) maps made i inside (c.loop-i.invariant.ahead.long ∙ sym (length-map c.args.maps.now f)) c.loop-i.invariant.made (e ∙ ap (slice_set maps i) (sym at));
       none = light_next (map f c.args.maps.now) i inside c.loop-i.invariant.none (ap has_heavy at ∙ c.in-Ok.ensures.few);
     }
+
+pub returns-clause-none : goal.returns-clause-none
+returns-clause-none c = grind (arith, common_steps)
+
+pub returns-clause-made : goal.returns-clause-made
+returns-clause-made c = grind (arith, common_steps)

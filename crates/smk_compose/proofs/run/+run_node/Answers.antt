@@ -97,21 +97,21 @@ returns-in_ok-r-in-Two-clause-fault g t c =
     c.in_ok-l-in-Two.ensures.rows c.in_ok-r-in-Two.ensures.rows c.in_ok-l-in-Two.ensures.kept c.in_ok-r-in-Two.ensures.kept number c.in_ok-l-in-Two.ensures.none none_b)
     c.run_two.ensures.fault
 
-pub returns-in_ok-kept-in-Scan-clause-kept : goal.returns-in_ok-kept-in-Scan-clause-kept
-returns-in_ok-kept-in-Scan-clause-kept g t c =
+pub returns-in_ok-run-in-Scan-clause-kept : goal.returns-in_ok-run-in-Scan-clause-kept
+returns-in_ok-run-in-Scan-clause-kept g t c =
     let e : expr_of c.args.plan.now ≡ Leaf c.in-Scan.table = ap expr_of c.in-Scan.is in
     let low : c.in-Scan.table < length c.args.tables.now = subst (λ (x : Expr). ScansFit (length c.args.tables.now) x) e c.requires.scans in
     let is : table_at (each_rows c.args.tables.now) c.in-Scan.table ≡ c.index-tables-table.result.rows = scanned c.args.tables.now c.in-Scan.table c.index-tables-table.result low c.index-tables-table.is in
-    let long : c.len.result ≡ length (table_at (each_rows c.args.tables.now) c.in-Scan.table) = c.len.ensures.count ∙ ap (λ (r : Relation). length r.rows) c.in_ok-rel-in-Scan.ensures.rows ∙ ap (length {A = Row}) (sym is) in
-    c.in_ok-kept-in-Scan.ensures ∙ scan_held (expr_of c.args.plan.now) c.in-Scan.table (each_rows c.args.tables.now) c.args.need.now c.len.result e long
+    let long : length c.in_ok-run-in-Scan.run'.rel.rows ≡ length (table_at (each_rows c.args.tables.now) c.in-Scan.table) = ap (λ (r : Relation). length r.rows) c.in_ok-run-in-Scan.ensures.rel ∙ ap (length {A = Row}) (sym is) in
+    c.in_ok-run-in-Scan.ensures.kept ∙ scan_held (expr_of c.args.plan.now) c.in-Scan.table (each_rows c.args.tables.now) c.args.need.now (length c.in_ok-run-in-Scan.run'.rel.rows) e long
 
-pub returns-in_ok-kept-in-Scan-clause-none : goal.returns-in_ok-kept-in-Scan-clause-none
-returns-in_ok-kept-in-Scan-clause-none g t c =
+pub returns-in_ok-run-in-Scan-clause-none : goal.returns-in_ok-run-in-Scan-clause-none
+returns-in_ok-run-in-Scan-clause-none g t c =
     let e : expr_of c.args.plan.now ≡ Leaf c.in-Scan.table = ap expr_of c.in-Scan.is in
     let low : c.in-Scan.table < length c.args.tables.now = subst (λ (x : Expr). ScansFit (length c.args.tables.now) x) e c.requires.scans in
     let is : table_at (each_rows c.args.tables.now) c.in-Scan.table ≡ c.index-tables-table.result.rows = scanned c.args.tables.now c.in-Scan.table c.index-tables-table.result low c.index-tables-table.is in
-    let same : length (table_at (each_rows c.args.tables.now) c.in-Scan.table) ≡ length c.in_ok-rel-in-Scan.rel.rows = ap (length {A = Row}) is ∙ sym (ap (λ (r : Relation). length r.rows) c.in_ok-rel-in-Scan.ensures.rows) in
-    scan_fault (expr_of c.args.plan.now) c.in-Scan.table (each_rows c.args.tables.now) c.args.need.now c.args.number.now e (omega (arith, same, c.len.ensures.keeps.few_rows))
+    let same : length (table_at (each_rows c.args.tables.now) c.in-Scan.table) ≡ length c.in_ok-run-in-Scan.run'.rel.rows = ap (length {A = Row}) is ∙ sym (ap (λ (r : Relation). length r.rows) c.in_ok-run-in-Scan.ensures.rel) in
+    scan_fault (expr_of c.args.plan.now) c.in-Scan.table (each_rows c.args.tables.now) c.args.need.now c.args.number.now e (omega (arith, same, c.in_ok-run-in-Scan.ensures.few))
 
 pub run_two-requires-clause-long : goal.run_two-requires-clause-long
 run_two-requires-clause-long c = grind (arith, common_steps)
@@ -125,26 +125,41 @@ returns-in_ok-r-in-Two-clause-looks c = grind (arith, common_steps)
 pub returns-in_err-r-in-Two-clause-looks : goal.returns-in_err-r-in-Two-clause-looks
 returns-in_err-r-in-Two-clause-looks c = grind (arith, common_steps)
 
-pub returns-in_ok-kept-in-Scan-clause-rows : goal.returns-in_ok-kept-in-Scan-clause-rows
-returns-in_ok-kept-in-Scan-clause-rows c = grind (arith, common_steps)
+pub returns-in_ok-run-in-Scan-clause-rows : goal.returns-in_ok-run-in-Scan-clause-rows
+returns-in_ok-run-in-Scan-clause-rows c = grind (arith, common_steps)
 
 pub run_one-requires-clause-captured : goal.run_one-requires-clause-captured
 run_one-requires-clause-captured c = grind (arith, common_steps)
 
-pub returns-in_ok-kept-in-Scan-clause-kinds : goal.returns-in_ok-kept-in-Scan-clause-kinds
-returns-in_ok-kept-in-Scan-clause-kinds c = grind (arith, common_steps)
+pub returns-in_ok-run-in-Scan-clause-kinds : goal.returns-in_ok-run-in-Scan-clause-kinds
+returns-in_ok-run-in-Scan-clause-kinds c = grind (arith, common_steps)
 
-pub returns-in_err-kept-in-Scan-clause-looks : goal.returns-in_err-kept-in-Scan-clause-looks
-returns-in_err-kept-in-Scan-clause-looks c = grind (arith, common_steps)
-
-pub returns-in_ok-kept-in-Scan-clause-looks : goal.returns-in_ok-kept-in-Scan-clause-looks
-returns-in_ok-kept-in-Scan-clause-looks c = grind (arith, common_steps)
+pub returns-in_ok-run-in-Scan-clause-looks : goal.returns-in_ok-run-in-Scan-clause-looks
+returns-in_ok-run-in-Scan-clause-looks c = grind (arith, common_steps)
 
 pub returns-in_err-l-in-Two-clause-looks : goal.returns-in_err-l-in-Two-clause-looks
 returns-in_err-l-in-Two-clause-looks c = grind (arith, common_steps)
 
-pub returns-in_err-rel-in-Scan-clause-looks : goal.returns-in_err-rel-in-Scan-clause-looks
-returns-in_err-rel-in-Scan-clause-looks c = grind (arith, common_steps)
+pub returns-in_err-run-in-Scan-clause-looks : goal.returns-in_err-run-in-Scan-clause-looks
+returns-in_err-run-in-Scan-clause-looks c = grind (arith, common_steps)
 
 pub returns-in_ok-r-in-Two-clause-kinds : goal.returns-in_ok-r-in-Two-clause-kinds
 returns-in_ok-r-in-Two-clause-kinds c = grind (arith, common_steps)
+
+pub overflow_add-number-in-Two : goal.overflow_add-number-in-Two
+overflow_add-number-in-Two g t c = grind (arith, common_steps)
+
+pub run_two-requires-clause-fits : goal.run_two-requires-clause-fits
+run_two-requires-clause-fits g t c = grind (arith, common_steps)
+
+pub returns-in_ok-below-in-One-clause-looks : goal.returns-in_ok-below-in-One-clause-looks
+returns-in_ok-below-in-One-clause-looks g t c = grind (arith, common_steps)
+
+pub run_one-requires-clause-fits : goal.run_one-requires-clause-fits
+run_one-requires-clause-fits g t c = grind (arith, common_steps)
+
+pub returns-in_ok-run-in-Scan-clause-counted : goal.returns-in_ok-run-in-Scan-clause-counted
+returns-in_ok-run-in-Scan-clause-counted g t c = grind (arith, common_steps)
+
+pub overflow_add-number-in-One : goal.overflow_add-number-in-One
+overflow_add-number-in-One g t c = grind (arith, common_steps)

@@ -1,55 +1,42 @@
-use Rattle.std.proofs.Common.{◌≡◌, ◌∙◌, List, [], map, sym, ap, subst, arith}
+use Rattle.std.proofs.Common.{◌≡◌, ◌∙◌, List, map, sym, ap, subst, arith, Option}
 use Rattle.std.proofs.lemmas.Grind.{common_steps}
-use Rattle.std.proofs.lemmas.Result.{err_from_is_err_and}
 use Rattle.smk_base.specs.PlanImage.{unary_of}
 use Rattle.smk_model.specs.Plain.{step1}
-use Rattle.smk_compose.specs.Through.{through, side1, pairs_fault, node_fault, IsFirst, want_of}
-use Rattle.smk_compose.specs.declared.kept.KeptMap.{KeptMap}
-use Rattle.smk_compose.specs.declared.fault.RunFault.{RunFault}
 use Rattle.smk_model.specs.NodeFaults.{NodeFault}
-use Rattle.std.proofs.Common.{Option}
+use Rattle.smk_compose.specs.Through.{through, side1, pairs_fault, IsFirst, want_of}
+use Rattle.smk_compose.specs.declared.kept.KeptMap.{KeptMap}
 use Rattle.smk_compose.proofs.Wants.{one_maps, few_fault, one_few}
 use Rattle.smk_compose.proofs.step.run_one.Goals as goal
 
-pub returns-then-is_empty-clause-none : goal.returns-then-is_empty-clause-none
-returns-then-is_empty-clause-none g c =
+pub returns-in-Ok-finish_one-clause-kept : goal.returns-in-Ok-finish_one-clause-kept
+returns-in-Ok-finish_one-clause-kept g c =
     let op = unary_of c.args.op.now in
     let L = c.args.input.rows in
-    let f = through (side1 op L) in
-    let few = one_few op L c.len-rows.ensures.keeps.few_rows in
-    let e : c.args.below ≡ [] = grind (arith, common_steps) in
-    few_fault c.args.node (step1 op L) (map f c.args.below) few ∙ ap (λ (l : List KeptMap). pairs_fault c.args.node (map f l)) e
+    let m = g.B.OpBody.meaning c.args.body.now c.in-Ok.pending in
+    let made : c.from_vec.result ≡ map (through m.left) c.args.below = grind (arith, common_steps) in
+    made ∙ one_maps op L c.args.below c.wants-want.result m (c.wants-want.ensures ∙ ap want_of c.as_slice.ensures) c.in-Ok.ensures.lineage
 
-pub returns-in_err-kept-clause-fault : goal.returns-in_err-kept-clause-fault
-returns-in_err-kept-clause-fault g c =
-    let p = err_from_is_err_and c.from_residual-in_err-kept.result c.from_residual-in_err-kept.ensures.1 in
-    let op = unary_of c.args.op.now in
-    let L = c.args.input.rows in
-    let few = one_few op L c.len-rows.ensures.keeps.few_rows in
-    let m = g.B.OpBody.meaning c.args.body.now c.in_ok-rel.pending in
-    let same : map (through m.left) c.args.below ≡ map (through (side1 op L)) c.args.below =
-    one_maps op L c.args.below c.wants-want.result m (c.wants-want.ensures ∙ ap want_of c.as_slice.ensures) c.in_ok-rel.ensures.lineage in
-    let fault = ap (pairs_fault c.args.node) same ∙ sym (few_fault c.args.node (step1 op L) (map (through (side1 op L)) c.args.below) few) in
-    rw p.1 (subst (λ (e : RunFault). IsFirst e (node_fault c.args.node (step1 op L) (map (through (side1 op L)) c.args.below))) (sym p.2)
-    (subst (λ (f : Option NodeFault). IsFirst c.in_err-kept.field-0.0 f) fault c.in_err-kept.ensures.fault))
-
-pub returns-clause-kept : goal.returns-clause-kept
-returns-clause-kept g c =
-    let op = unary_of c.args.op.now in
-    let L = c.args.input.rows in
-    let m = g.B.OpBody.meaning c.args.body.now c.in_ok-rel.pending in
-    c.in_ok-kept.ensures.made
-    ∙ one_maps op L c.args.below c.wants-want.result m (c.wants-want.ensures ∙ ap want_of c.as_slice.ensures) c.in_ok-rel.ensures.lineage
-
-pub returns-clause-none : goal.returns-clause-none
-returns-clause-none g c =
+pub returns-in-Ok-finish_one-clause-none : goal.returns-in-Ok-finish_one-clause-none
+returns-in-Ok-finish_one-clause-none g c =
     let op = unary_of c.args.op.now in
     let L = c.args.input.rows in
     let few = one_few op L c.len-rows.ensures.keeps.few_rows in
-    let m = g.B.OpBody.meaning c.args.body.now c.in_ok-rel.pending in
-    let same : map (through m.left) c.args.below ≡ map (through (side1 op L)) c.args.below =
-    one_maps op L c.args.below c.wants-want.result m (c.wants-want.ensures ∙ ap want_of c.as_slice.ensures) c.in_ok-rel.ensures.lineage in
-    few_fault c.args.node (step1 op L) (map (through (side1 op L)) c.args.below) few ∙ sym (ap (pairs_fault c.args.node) same) ∙ c.in_ok-kept.ensures.none
+    let m = g.B.OpBody.meaning c.args.body.now c.in-Ok.pending in
+    let same = one_maps op L c.args.below c.wants-want.result m (c.wants-want.ensures ∙ ap want_of c.as_slice.ensures) c.in-Ok.ensures.lineage in
+    let items : c.deref_mut.result.now ≡ c.args.below = grind (arith, common_steps) in
+    few_fault c.args.node (step1 op L) (map (through (side1 op L)) c.args.below) few ∙ sym (ap (pairs_fault c.args.node) same)
+    ∙ ap (λ (l : List KeptMap). pairs_fault c.args.node (map (through m.left) l)) (sym items) ∙ c.in-Ok-finish_one.ensures.none
 
-pub returns-then-is_empty-clause-kept : goal.returns-then-is_empty-clause-kept
-returns-then-is_empty-clause-kept g c = grind (arith, common_steps)
+pub returns-in-Err-finish_one-clause-fault : goal.returns-in-Err-finish_one-clause-fault
+returns-in-Err-finish_one-clause-fault g c =
+    let op = unary_of c.args.op.now in
+    let L = c.args.input.rows in
+    let few = one_few op L c.len-rows.ensures.keeps.few_rows in
+    let m = g.B.OpBody.meaning c.args.body.now c.in-Ok.pending in
+    let same = one_maps op L c.args.below c.wants-want.result m (c.wants-want.ensures ∙ ap want_of c.as_slice.ensures) c.in-Ok.ensures.lineage in
+    let items : c.deref_mut.result.now ≡ c.args.below = grind (arith, common_steps) in
+    let fault = ap (λ (l : List KeptMap). pairs_fault c.args.node (map (through m.left) l)) items ∙ ap (pairs_fault c.args.node) same ∙ sym (few_fault c.args.node (step1 op L) (map (through (side1 op L)) c.args.below) few) in
+    subst (λ (f : Option NodeFault). IsFirst c.in-Err-finish_one.fault f) fault c.in-Err-finish_one.ensures.fault
+
+pub finish_one-requires-after_bounds : goal.finish_one-requires-after_bounds
+finish_one-requires-after_bounds g c = grind (arith, common_steps)
