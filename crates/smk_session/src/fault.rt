@@ -1,16 +1,12 @@
 use std::alloc::{AllocError, AllocFailed};
-use thiserror::Error;
 
 /// Why there is no session: the first view, by its number, and there the first node in post-order that is too big; or want of memory.
-#[derive(Debug, Drop, Clone, Copy, PartialEq, Eq, Error)]
+#[derive(Drop, Clone, Copy)]
 pub enum StartFault {
     /// The node has too many rows.
-    #[error("too many rows at node {node} of view {view}")]
     Rows { view: u32, node: u32 },
     /// The node has too many pairs with a table that the view needs lineage to.
-    #[error("too many pairs with table {table} at node {node} of view {view}")]
     Pairs { view: u32, node: u32, table: u32 },
-    #[error("no memory")]
     NoMemory,
 }
 

@@ -1,5 +1,5 @@
 /// When a step's lineage is made: while the step runs, or once it has run.
-#[derive(Debug, Drop, Clone, Copy, PartialEq, Eq)]
+#[derive(Drop, Clone, Copy)]
 pub enum Mode {
     /// The lists are filled while the step runs.
     Inject,
