@@ -1,3 +1,2 @@
 pub mod FullViews
-pub mod Named
 pub mod Parts

@@ -1,14 +1,13 @@
-ghost use Rattle.std.specs.Prelude.{◌≡◌, ◌≢◌, [], ◌∷◌, codes, decimal, unwrap_or, IfOk, IsSome};
+ghost use Rattle.std.specs.Prelude.{◌≡◌, ◌≢◌, ℕ, List, Option, [], ◌∷◌, codes, decimal, unwrap_or, IfOk, IsSome};
 ghost use Rattle.smk_base.specs.declared.fault.Fault.TheVariants as faults;
 ghost use Rattle.smk_base.specs.declared.fault.BookFault.TheVariants as book;
-ghost use Rattle.smk_base.specs.declared.type_fault.TypeFault.TheVariants as types;
+ghost use Rattle.smk_base.specs.declared.fault.TableFault.TheVariants as table_faults;
 ghost use Rattle.smk_model.specs.FaultTexts as texts;
 ghost use Rattle.smk_model.specs.ShownNames.{shown as shown_name};
 ghost use Rattle.smk_model.specs.Texts.{line};
 
-use crate::lines::line_of;
+use crate::lines::{line_around, line_of, pair_text};
 use crate::names::shown;
-use itoa::Buffer;
 use smk_base::{BookFault, Fault, Many, TableFault, Text, TypeFault};
 use std::alloc::{AllocError, Global};
 
@@ -33,16 +32,11 @@ fn many_words(what: Many) -> &'static [u8]
 fn placed(alloc: Global, what: &[u8], more: &[u8], at: u64) -> Result<Vec<u8>, AllocError>
     ensures { IfOk result (λ text. text.items ≡ line (codes "smoke: book: " ∷ what.now ∷ more.now ∷ codes " at byte " ∷ decimal at ∷ [])) }
 {
-    let mut place = Buffer::new();
-    line_of(
+    line_around(
         alloc,
-        &[
-            b"smoke: book: ",
-            what,
-            more,
-            b" at byte ",
-            place.format(at).as_bytes(),
-        ],
+        &[b"smoke: book: ", what, more, b" at byte "],
+        at,
+        &[],
     )
 }
 
@@ -60,109 +54,87 @@ fn book_text(alloc: Global, fault: BookFault) -> Result<Vec<u8>, AllocError>
     }
 }
 
-// The line of a fault of typing.
-fn type_text(alloc: Global, fault: TypeFault) -> Result<Vec<u8>, AllocError>
-    requires { fault ≢ types.NoMemory }
-    ensures { IfOk result (λ text. text.items ≡ texts.fault_text (faults.Types fault)) }
+// The words for a fault of typing, and its place.
+fn type_words(fault: TypeFault) -> (&'static [u8], u64)
+    ensures words { result.0.now ≡ texts.type_words fault }
+    ensures place { result.1 ≡ texts.type_place fault }
 {
     match fault {
-        TypeFault::UnknownTable { at } => placed(alloc, b"unknown table", b"", at),
-        TypeFault::UnknownColumn { at } => placed(alloc, b"unknown column", b"", at),
-        TypeFault::UnknownView { at } => placed(alloc, b"unknown view", b"", at),
-        TypeFault::DuplicateName { at } => placed(alloc, b"duplicate name", b"", at),
-        TypeFault::KindMismatch { at } => placed(alloc, b"kind mismatch", b"", at),
-        TypeFault::SumTooDeep { at } => placed(alloc, b"sum too deep", b"", at),
-        TypeFault::UnionShape { at } => placed(alloc, b"union shape", b"", at),
-        TypeFault::EmptyList { at } => placed(alloc, b"empty list", b"", at),
-        TypeFault::SelfLink { at } => placed(alloc, b"self link", b"", at),
-        TypeFault::RepeatedDeclaration { at } => placed(alloc, b"repeated declaration", b"", at),
-        TypeFault::RowTooWide { at } => placed(alloc, b"row too wide", b"", at),
-        TypeFault::NoMemory => unreachable!(),
+        TypeFault::UnknownTable { at } => (b"unknown table", at),
+        TypeFault::UnknownColumn { at } => (b"unknown column", at),
+        TypeFault::UnknownView { at } => (b"unknown view", at),
+        TypeFault::DuplicateName { at } => (b"duplicate name", at),
+        TypeFault::KindMismatch { at } => (b"kind mismatch", at),
+        TypeFault::SumTooDeep { at } => (b"sum too deep", at),
+        TypeFault::UnionShape { at } => (b"union shape", at),
+        TypeFault::EmptyList { at } => (b"empty list", at),
+        TypeFault::SelfLink { at } => (b"self link", at),
+        TypeFault::RepeatedDeclaration { at } => (b"repeated declaration", at),
+        TypeFault::RowTooWide { at } => (b"row too wide", at),
+        TypeFault::NoMemory => (b"", 0),
     }
 }
 
-// The name of the column of a table's fault, as a book writes it.
+// The line of a fault of typing.
+fn type_text(alloc: Global, fault: TypeFault) -> Result<Vec<u8>, AllocError>
+    ensures { IfOk result (λ text. text.items ≡ texts.fault_text (faults.Types fault)) }
+{
+    let (what, at) = type_words(fault);
+    placed(alloc, what, b"", at)
+}
+
+// The name of the column of a table's fault, as a book writes it, and nothing where the fault is of no column.
 fn column_shown(alloc: Global, column: &Option<Text>) -> Result<Vec<u8>, AllocError>
-    requires { IsSome column.now }
-    ensures { IfOk result (λ text. text.items ≡ shown_name (unwrap_or column.now [])) }
+    ensures { IsSome column.now → IfOk result (λ text. text.items ≡ shown_name (unwrap_or column.now [])) }
 {
     match column {
         Some(name) => shown(alloc, name.as_slice()),
-        None => unreachable!(),
+        None => Ok(Vec::new(alloc)),
     }
 }
 
-// The line of a fault of a column of a table's file.
-fn column_text(
+// The line of a fault of a table's file, with the name of its column as a book writes it.
+fn table_line(
     alloc: Global,
-    table: &Text,
-    what: &[u8],
-    column: &Option<Text>,
+    table: &[u8],
+    name: &[u8],
+    fault: TableFault,
 ) -> Result<Vec<u8>, AllocError>
-    requires { IsSome column.now }
-    ensures { IfOk result (λ text. text.items ≡ line (codes "smoke: table " ∷ table.now ∷ codes ": " ∷ what.now ∷ shown_name (unwrap_or column.now []) ∷ [])) }
+    requires rows { fault ≢ table_faults.TooManyRows }
+    requires memory { fault ≢ table_faults.NoMemory }
+    ensures { (column : Option (List ℕ)) → texts.NamesColumn fault column → (IsSome column → name.now ≡ shown_name (unwrap_or column []))
+        → IfOk result (λ text. text.items ≡ texts.fault_text (faults.Table table.now column fault)) }
 {
-    let name = column_shown(alloc, column)?;
-    line_of(
-        alloc,
-        &[
+    match fault {
+        TableFault::NoHeader => line_of(alloc, &[b"smoke: table ", table, b": no header"]),
+        TableFault::MissingColumn { .. } => pair_text(
+            alloc,
             b"smoke: table ",
-            table.as_slice(),
-            b": ",
-            what,
-            name.as_slice(),
-        ],
-    )
-}
-
-// The line of a record with a wrong number of fields.
-fn ragged_text(alloc: Global, table: &Text, nth: u32) -> Result<Vec<u8>, AllocError>
-    ensures { IfOk result (λ text. text.items ≡ line (codes "smoke: table " ∷ table.now ∷ codes ": record " ∷ decimal nth ∷ codes " has a wrong number of fields" ∷ [])) }
-{
-    let mut record = Buffer::new();
-    line_of(
-        alloc,
-        &[
+            table,
+            b": missing column ",
+            name,
+        ),
+        TableFault::RepeatedColumn { .. } => pair_text(
+            alloc,
             b"smoke: table ",
-            table.as_slice(),
-            b": record ",
-            record.format(nth).as_bytes(),
-            b" has a wrong number of fields",
-        ],
-    )
-}
-
-// The line of a record without an int in a column.
-fn no_int_text(
-    alloc: Global,
-    table: &Text,
-    nth: u32,
-    column: &Option<Text>,
-) -> Result<Vec<u8>, AllocError>
-    requires { IsSome column.now }
-    ensures { IfOk result (λ text. text.items ≡ line (codes "smoke: table " ∷ table.now ∷ codes ": record " ∷ decimal nth ∷ codes " column " ∷ shown_name (unwrap_or column.now []) ∷ codes " is no int" ∷ [])) }
-{
-    let name = column_shown(alloc, column)?;
-    let mut record = Buffer::new();
-    line_of(
-        alloc,
-        &[
-            b"smoke: table ",
-            table.as_slice(),
-            b": record ",
-            record.format(nth).as_bytes(),
-            b" column ",
-            name.as_slice(),
-            b" is no int",
-        ],
-    )
-}
-
-// The line of a table's file without a header.
-fn no_header_text(alloc: Global, table: &Text) -> Result<Vec<u8>, AllocError>
-    ensures { IfOk result (λ text. text.items ≡ line (codes "smoke: table " ∷ table.now ∷ codes ": no header" ∷ [])) }
-{
-    line_of(alloc, &[b"smoke: table ", table.as_slice(), b": no header"])
+            table,
+            b": repeated column ",
+            name,
+        ),
+        TableFault::Ragged { nth } => line_around(
+            alloc,
+            &[b"smoke: table ", table, b": record "],
+            nth as u64,
+            &[b" has a wrong number of fields"],
+        ),
+        TableFault::BadInt { nth, .. } => line_around(
+            alloc,
+            &[b"smoke: table ", table, b": record "],
+            nth as u64,
+            &[b" column ", name, b" is no int"],
+        ),
+        TableFault::TooManyRows | TableFault::NoMemory => unreachable!(),
+    }
 }
 
 // The line of a fault of a table's file.
@@ -175,48 +147,8 @@ fn table_text(
     requires { texts.NamesColumn fault column.now }
     ensures { IfOk result (λ text. text.items ≡ texts.fault_text (faults.Table table.now column.now fault)) }
 {
-    match fault {
-        TableFault::NoHeader => no_header_text(alloc, table),
-        TableFault::MissingColumn { .. } => column_text(alloc, table, b"missing column ", column),
-        TableFault::RepeatedColumn { .. } => column_text(alloc, table, b"repeated column ", column),
-        TableFault::Ragged { nth } => ragged_text(alloc, table, nth),
-        TableFault::BadInt { nth, .. } => no_int_text(alloc, table, nth, column),
-        TableFault::TooManyRows | TableFault::NoMemory => unreachable!(),
-    }
-}
-
-// The line of a node of a view that has too many rows.
-fn rows_text(alloc: Global, view: &Text, node: u32) -> Result<Vec<u8>, AllocError>
-    ensures { IfOk result (λ text. text.items ≡ texts.fault_text (faults.ViewRows view.now node)) }
-{
-    let mut number = Buffer::new();
-    line_of(
-        alloc,
-        &[
-            b"smoke: limit: rows of view ",
-            view.as_slice(),
-            b" at node ",
-            number.format(node).as_bytes(),
-        ],
-    )
-}
-
-// The line of a node of a view that has too many pairs with a table.
-fn pairs_text(alloc: Global, view: &Text, node: u32, table: &Text) -> Result<Vec<u8>, AllocError>
-    ensures { IfOk result (λ text. text.items ≡ texts.fault_text (faults.ViewPairs view.now node table.now)) }
-{
-    let mut number = Buffer::new();
-    line_of(
-        alloc,
-        &[
-            b"smoke: limit: lineage of view ",
-            view.as_slice(),
-            b" at node ",
-            number.format(node).as_bytes(),
-            b" to table ",
-            table.as_slice(),
-        ],
-    )
+    let name = column_shown(alloc, column)?;
+    table_line(alloc, table.as_slice(), name.as_slice(), fault)
 }
 
 /// The line that says a fault. Want of memory has a text of its own, and a table with too many rows is said by `TableRows`.
@@ -237,8 +169,30 @@ pub fn fault_text(alloc: Global, fault: &Fault) -> Result<Vec<u8>, AllocError>
             alloc,
             &[b"smoke: limit: rows of table ", table.as_slice()],
         ),
-        Fault::ViewRows { view, node } => rows_text(alloc, view, *node),
-        Fault::ViewPairs { view, node, table } => pairs_text(alloc, view, *node, table),
+        Fault::ViewRows { view, node } => {
+            line_around(
+                alloc,
+                &[
+                    b"smoke: limit: rows of view ",
+                    view.as_slice(),
+                    b" at node ",
+                ],
+                *node as u64,
+                &[],
+            )
+        }
+        Fault::ViewPairs { view, node, table } => {
+            line_around(
+                alloc,
+                &[
+                    b"smoke: limit: lineage of view ",
+                    view.as_slice(),
+                    b" at node ",
+                ],
+                *node as u64,
+                &[b" to table ", table.as_slice()],
+            )
+        }
         Fault::Unread { file } => line_of(alloc, &[b"smoke: cannot read ", file.as_slice()]),
     }
 }

@@ -1,17 +1,26 @@
-ghost use Rattle.std.specs.Prelude.{◌≡◌, ◌++◌, map, IfOk, OnOk};
+ghost use Rattle.std.specs.Prelude.{◌≡◌, ◌++◌, ◌∷◌, [], length, map, decimal, IfOk, OnOk};
+ghost use Rattle.std.specs.List.{flat_map};
 ghost use Rattle.smk_model.specs.Texts as texts;
 
 use itoa::Buffer;
 use std::alloc::{AllocError, Global};
 
-/// Writes a line behind a text: its parts, one after the other, and a line feed. After an error the text is of no use.
+/// Writes parts behind a text, one after the other. After an error the text is of no use.
 #[tactic(auto, using(crate::proofs::Parts::joined_more))]
-pub fn add_line(text: &mut Vec<u8>, parts: &[&[u8]]) -> Result<(), AllocError>
-    ensures { OnOk result (text.new.items ≡ text.old.items ++ texts.line (map (λ part. part.now) parts.now)) }
+pub fn add_parts(text: &mut Vec<u8>, parts: &[&[u8]]) -> Result<(), AllocError>
+    ensures { OnOk result (text.new.items ≡ text.old.items ++ flat_map (λ part. part) (map (λ part. part.now) parts.now)) }
 {
     for part in parts {
         text.extend_from_slice(part)?;
     }
+    Ok(())
+}
+
+// Writes a line behind a text: its parts, one after the other, and a line feed. After an error the text is of no use.
+fn add_line(text: &mut Vec<u8>, parts: &[&[u8]]) -> Result<(), AllocError>
+    ensures { OnOk result (text.new.items ≡ text.old.items ++ texts.line (map (λ part. part.now) parts.now)) }
+{
+    add_parts(text, parts)?;
     text.push(b'\n')?;
     Ok(())
 }
@@ -25,8 +34,50 @@ pub fn line_of(alloc: Global, parts: &[&[u8]]) -> Result<Vec<u8>, AllocError>
     Ok(text)
 }
 
-/// Writes a line of numbers behind a text: a word, and each number after a space. After an error the text is of no use.
-pub fn add_numbers(text: &mut Vec<u8>, word: &[u8], numbers: &[u32]) -> Result<(), AllocError>
+/// A line alone that speaks of two names.
+pub fn pair_text(
+    alloc: Global,
+    first: &[u8],
+    from: &[u8],
+    between: &[u8],
+    to: &[u8],
+) -> Result<Vec<u8>, AllocError>
+    ensures { IfOk result (λ text. text.items ≡ texts.line (first.now ∷ from.now ∷ between.now ∷ to.now ∷ [])) }
+{
+    line_of(alloc, &[first, from, between, to])
+}
+
+/// Writes a line behind a text: parts, a number in decimal, and further parts. After an error the text is of no use.
+pub fn add_line_around(
+    text: &mut Vec<u8>,
+    before: &[&[u8]],
+    number: u64,
+    after: &[&[u8]],
+) -> Result<(), AllocError>
+    ensures { OnOk result (text.new.items ≡ text.old.items ++ texts.line (map (λ part. part.now) before.now ++ decimal number ∷ map (λ part. part.now) after.now)) }
+{
+    let mut digits = Buffer::new();
+    add_parts(text, before)?;
+    text.extend_from_slice(digits.format(number).as_bytes())?;
+    add_line(text, after)
+}
+
+/// A line alone, of parts, a number in decimal, and further parts.
+pub fn line_around(
+    alloc: Global,
+    before: &[&[u8]],
+    number: u64,
+    after: &[&[u8]],
+) -> Result<Vec<u8>, AllocError>
+    ensures { IfOk result (λ text. text.items ≡ texts.line (map (λ part. part.now) before.now ++ decimal number ∷ map (λ part. part.now) after.now)) }
+{
+    let mut text = Vec::new(alloc);
+    add_line_around(&mut text, before, number, after)?;
+    Ok(text)
+}
+
+// Writes a line of numbers behind a text: a word, and each number after a space. After an error the text is of no use.
+fn add_numbers(text: &mut Vec<u8>, word: &[u8], numbers: &[u32]) -> Result<(), AllocError>
     ensures { OnOk result (text.new.items ≡ text.old.items ++ texts.numbers_line word.now numbers.now) }
 {
     let mut digits = Buffer::new();
@@ -37,4 +88,17 @@ pub fn add_numbers(text: &mut Vec<u8>, word: &[u8], numbers: &[u32]) -> Result<(
     }
     text.push(b'\n')?;
     Ok(())
+}
+
+/// Writes behind a text a line of parts and of how many numbers there are, and then the line of the numbers. After an error the text is of no use.
+pub fn add_counted(
+    text: &mut Vec<u8>,
+    parts: &[&[u8]],
+    word: &[u8],
+    numbers: &[u32],
+) -> Result<(), AllocError>
+    ensures { OnOk result (text.new.items ≡ text.old.items ++ texts.line (map (λ part. part.now) parts.now ++ decimal (length numbers.now) ∷ []) ++ texts.numbers_line word.now numbers.now) }
+{
+    add_line_around(text, parts, numbers.len() as u64, &[])?;
+    add_numbers(text, word, numbers)
 }

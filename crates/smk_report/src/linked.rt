@@ -1,15 +1,23 @@
 // The texts of the views that follow a brush.
-ghost use Rattle.std.specs.Prelude.{◌≡◌, ◌++◌, All, IfOk};
+ghost use Rattle.std.specs.Prelude.{◌≡◌, ◌++◌, ◌∷◌, [], length, codes, decimal, All, IfOk, OnOk};
 ghost use Rattle.std.specs.List.{flat_map};
 ghost use Rattle.smk_base.specs.CatalogImage.{catalog_image};
 ghost use Rattle.smk_model.specs.ReplyTexts as texts;
+ghost use Rattle.smk_model.specs.Texts.{line, numbers_line};
 
-use crate::lines::{add_line, add_numbers};
+use crate::lines::{add_counted, add_line_around};
 use crate::lookup::view_at;
-use crate::texts::with_view;
-use itoa::Buffer;
+use crate::texts::with_rows;
 use smk_base::{Catalog, Linked};
 use std::alloc::{AllocError, Global};
+
+// Writes behind a text the lines of a linked view that stand above its rows: its marks, and how many rows it has. After an error the text is of no use.
+fn add_heading(text: &mut Vec<u8>, name: &[u8], marks: &[u32], rows: u32) -> Result<(), AllocError>
+    ensures { OnOk result (text.new.items ≡ text.old.items ++ line (codes "linked " ∷ name.now ∷ codes " " ∷ decimal (length marks.now) ∷ []) ++ numbers_line (codes "marks") marks.now ++ line (codes "view " ∷ name.now ∷ codes " " ∷ decimal rows ∷ [])) }
+{
+    add_counted(text, &[b"linked ", name, b" "], b"marks", marks)?;
+    add_line_around(text, &[b"view ", name, b" "], rows as u64, &[])
+}
 
 // A text with the text of a linked view behind it: its marks, and its content.
 fn with_one(
@@ -24,18 +32,8 @@ fn with_one(
     let view = view_at(catalog, linked.view);
     let marks = linked.marks.as_slice();
     let mut text = front;
-    let mut count = Buffer::new();
-    add_line(
-        &mut text,
-        &[
-            b"linked ",
-            view.name.as_slice(),
-            b" ",
-            count.format(marks.len()).as_bytes(),
-        ],
-    )?;
-    add_numbers(&mut text, b"marks", marks)?;
-    with_view(alloc, text, &view.name, &view.names, &linked.rel)
+    add_heading(&mut text, view.name.as_slice(), marks, linked.rel.len())?;
+    with_rows(alloc, text, &view.names, &linked.rel)
 }
 
 /// A text with the texts of linked views behind it.

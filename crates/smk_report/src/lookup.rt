@@ -13,22 +13,24 @@ use smk_base::{Back, BackExtra, Catalog, ColNames, TableInfo, Text, ViewInfo};
 pub fn view_named<'c>(catalog: &'c Catalog, name: &Text) -> Option<&'c ViewInfo>
     ensures { option_map view_image (option_copied result) ≡ texts.view_named (catalog_image catalog.now) name.now }
 {
-    catalog
-        .views
-        .as_slice()
-        .iter()
-        .find(|view| view.name == *name)
+    for view in catalog.views.as_slice() {
+        if view.name == *name {
+            return Some(view);
+        }
+    }
+    None
 }
 
 /// The table of this name.
 pub fn table_named<'c>(catalog: &'c Catalog, name: &Text) -> Option<&'c TableInfo>
     ensures { option_copied result ≡ texts.table_named (catalog_image catalog.now) name.now }
 {
-    catalog
-        .tables
-        .as_slice()
-        .iter()
-        .find(|table| table.name == *name)
+    for table in catalog.tables.as_slice() {
+        if table.name == *name {
+            return Some(table);
+        }
+    }
+    None
 }
 
 /// The view of this number.

@@ -4,6 +4,7 @@ ghost use Rattle.std.specs.Cmp.Lexicographic.{pointwise};
 ghost use Rattle.smk_model.specs.ShownNames as names;
 ghost use Rattle.smk_model.specs.Tokens.{is_letter, is_word_byte};
 
+use crate::lines::add_parts;
 use smk_base::{KEYWORDS, TokenKind};
 use std::alloc::{AllocError, Global};
 
@@ -18,9 +19,12 @@ fn is_letter_byte(b: u8) -> bool
 fn goes_on(bytes: &[u8]) -> bool
     ensures { result ≡ list_all is_word_byte bytes.now }
 {
-    bytes
-        .iter()
-        .all(|b| is_letter_byte(*b) || b.is_ascii_digit())
+    for b in bytes {
+        if !is_letter_byte(*b) && !b.is_ascii_digit() {
+            return false;
+        }
+    }
+    true
 }
 
 // Whether the bytes are a word.
@@ -37,7 +41,12 @@ fn is_word(bytes: &[u8]) -> bool
 fn is_among(table: &[(&[u8], TokenKind)], bytes: &[u8]) -> bool
     ensures { result ≡ list_any (λ entry. pointwise nat_eq bytes.now entry.0.now) table.now }
 {
-    table.iter().any(|entry| bytes == entry.0)
+    for entry in table {
+        if bytes == entry.0 {
+            return true;
+        }
+    }
+    false
 }
 
 // Whether the bytes are a keyword.
@@ -61,8 +70,7 @@ pub fn shown(alloc: Global, name: &[u8]) -> Result<Vec<u8>, AllocError>
     if is_plain_name(name) {
         return Vec::from_slice(alloc, name);
     }
-    let mut text = Vec::from_slice(alloc, b"`")?;
-    text.extend_from_slice(name)?;
-    text.push(b'`')?;
+    let mut text = Vec::new(alloc);
+    add_parts(&mut text, &[b"`", name, b"`"])?;
     Ok(text)
 }

@@ -7,11 +7,10 @@ ghost use Rattle.smk_model.specs.Session.{view_at};
 ghost use Rattle.smk_model.specs.ShownNames.{shown as shown_name};
 ghost use Rattle.smk_model.specs.Texts.{line};
 
-use crate::lines::line_of;
+use crate::lines::{line_around, line_of, pair_text};
 use crate::lookup::view_at;
 use crate::names::shown;
 use crate::texts::no_row_text;
-use itoa::Buffer;
 use smk_base::{Catalog, Line, Refusal, Then};
 use std::alloc::{AllocError, Global};
 
@@ -60,19 +59,6 @@ fn column_in(asked: &Line) -> &[u8]
     }
 }
 
-// A line that speaks of two names.
-fn pair_text(
-    alloc: Global,
-    first: &[u8],
-    from: &[u8],
-    between: &[u8],
-    to: &[u8],
-) -> Result<Vec<u8>, AllocError>
-    ensures { IfOk result (λ text. text.items ≡ line (first.now ∷ from.now ∷ between.now ∷ to.now ∷ [])) }
-{
-    line_of(alloc, &[first, from, between, to])
-}
-
 // A query that the book doesn't declare, as the line asks it.
 fn undeclared_text(alloc: Global, catalog: &Catalog, asked: &Line) -> Result<Vec<u8>, AllocError>
     requires { texts.IsRefusalOf (catalog_image catalog.now) asked.now refusals.Undeclared }
@@ -119,16 +105,16 @@ fn full_text(alloc: Global, catalog: &Catalog, view: u32, node: u32) -> Result<V
     requires { view < length catalog.now.views }
     ensures { IfOk result (λ text. text.items ≡ line (codes "refused too many rows in " ∷ (view_at (catalog_image catalog.now) view).name ∷ codes " at node " ∷ decimal node ∷ [])) }
 {
-    let mut number = Buffer::new();
     let info = view_at(catalog, view);
-    line_of(
+    line_around(
         alloc,
         &[
             b"refused too many rows in ",
             info.name.as_slice(),
             b" at node ",
-            number.format(node).as_bytes(),
         ],
+        node as u64,
+        &[],
     )
 }
 

@@ -108,34 +108,36 @@ pub fn reply_text(
     requires { texts.IsReplyTo (catalog_image cat.now) line.now reply.now }
     ensures { IfOk result (λ text. text.items ≡ texts.reply_text (catalog_image cat.now) line.now reply.now) }
 {
-    match (line, reply) {
-        (Line::Show { view }, Reply::View { rel }) => content_text(alloc, cat, view, rel),
-        (Line::Back { view, table, .. }, Reply::Back { rids, rows }) => {
-            found_text(alloc, cat, view, table, rids, rows)
-        }
-        (Line::Back { view, table, .. }, Reply::Grouped { rel }) => {
-            groups_text(alloc, cat, view, table, rel)
-        }
-        (Line::Fwd { table, view, .. }, Reply::Fwd { marks }) => {
-            fwd_text(alloc, table, view, marks.as_slice())
-        }
-        (Line::Brush { view, table, .. }, Reply::Brush { rids, linked }) => {
-            brushed_text(alloc, cat, view, table, rids, linked.as_slice())
-        }
-        (Line::Clear, Reply::Cleared) => line_of(alloc, &[b"cleared"]),
-        (Line::ClearOne { view, table }, Reply::ClearedOne { linked }) => {
-            cleared_text(alloc, cat, view, table, linked.as_slice())
-        }
-        (_, Reply::Refused(refusal)) => refusal_text(alloc, cat, line, *refusal),
-        (
-            _,
-            Reply::View { .. }
-            | Reply::Back { .. }
-            | Reply::Grouped { .. }
-            | Reply::Fwd { .. }
-            | Reply::Brush { .. }
-            | Reply::Cleared
-            | Reply::ClearedOne { .. },
-        ) => unreachable!(),
+    match reply {
+        Reply::View { rel } => match line {
+            Line::Show { view } => content_text(alloc, cat, view, rel),
+            _ => unreachable!(),
+        },
+        Reply::Back { rids, rows } => match line {
+            Line::Back { view, table, .. } => found_text(alloc, cat, view, table, rids, rows),
+            _ => unreachable!(),
+        },
+        Reply::Grouped { rel } => match line {
+            Line::Back { view, table, .. } => groups_text(alloc, cat, view, table, rel),
+            _ => unreachable!(),
+        },
+        Reply::Fwd { marks } => match line {
+            Line::Fwd { table, view, .. } => fwd_text(alloc, table, view, marks.as_slice()),
+            _ => unreachable!(),
+        },
+        Reply::Brush { rids, linked } => match line {
+            Line::Brush { view, table, .. } => {
+                brushed_text(alloc, cat, view, table, rids, linked.as_slice())
+            }
+            _ => unreachable!(),
+        },
+        Reply::Cleared => line_of(alloc, &[b"cleared"]),
+        Reply::ClearedOne { linked } => match line {
+            Line::ClearOne { view, table } => {
+                cleared_text(alloc, cat, view, table, linked.as_slice())
+            }
+            _ => unreachable!(),
+        },
+        Reply::Refused(refusal) => refusal_text(alloc, cat, line, *refusal),
     }
 }

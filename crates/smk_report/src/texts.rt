@@ -3,7 +3,7 @@ ghost use Rattle.smk_base.specs.Rels.{row_in, IsRelation};
 ghost use Rattle.smk_model.specs.Texts as texts;
 ghost use Rattle.smk_report.specs.Pages.{IsReady, Says, text_on, fields_on};
 
-use crate::lines::{add_line, line_of};
+use crate::lines::line_around;
 use crate::page::Page;
 use itoa::Buffer;
 use smk_base::{ColDecls, ListOf, Rel, Rids, Text};
@@ -11,14 +11,6 @@ use std::alloc::{AllocError, Global};
 
 // How many bytes are reserved for a field; most are shorter.
 const FIELD_BYTES: usize = 8;
-
-// Reserves room for the records of rows, so that a long text rarely moves while it grows.
-fn reserve_rows(text: &mut Vec<u8>, rel: &Rel) -> Result<(), AllocError>
-    ensures { text.new.items ≡ text.old.items }
-{
-    let fields = rel.len() as usize * (rel.width() as usize + 1);
-    text.reserve(fields * FIELD_BYTES)
-}
 
 // The record of the names of the columns.
 fn header(page: &mut Page, first: &[u8], columns: &ListOf<Text>) -> Result<(), AllocError>
@@ -49,29 +41,27 @@ fn row(page: &mut Page, number: u32, rel: &Rel, i: u32) -> Result<(), AllocError
     page.end()
 }
 
-// The records of all rows, with their places.
-fn numbered_rows(page: &mut Page, rel: &Rel) -> Result<(), AllocError>
+// The record of the names of the columns, and those of all rows with their places.
+fn numbered_rows(page: &mut Page, columns: &ListOf<Text>, rel: &Rel) -> Result<(), AllocError>
     requires ready { IsReady page.old }
     requires between { fields_on page.old ≡ [] }
-    ensures { OnOk result (Says page.new (text_on page.old ++ texts.row_lines (λ i. i) rel.now.rows) []) }
+    ensures { OnOk result (Says page.new (text_on page.old ++ texts.record_line (codes "row" ∷ columns.now) ++ texts.row_lines (λ i. i) rel.now.rows) []) }
 {
+    header(page, b"row", columns)?;
     for i in 0..rel.len() {
         row(page, i, rel, i)?;
     }
     Ok(())
 }
 
-// The records of all rows, with these numbers.
-fn placed_rows(page: &mut Page, rids: &[u32], rel: &Rel) -> Result<(), AllocError>
-    requires ready { IsReady page.old }
-    requires between { fields_on page.old ≡ [] }
-    requires rids { length rids.now ≡ length rel.now.rows }
-    ensures { OnOk result (Says page.new (text_on page.old ++ texts.row_lines (λ i. slice_index_or rids.now i 0) rel.now.rows) []) }
+// A page that begins with a text, and has room for the records of rows, so that a long text rarely moves while it grows.
+fn page_for(alloc: Global, front: Vec<u8>, rel: &Rel) -> Result<Page, AllocError>
+    ensures { IfOk result (λ page. Says page front.items []) }
 {
-    for i in 0..rel.len() {
-        row(page, rids[i as usize], rel, i)?;
-    }
-    Ok(())
+    let fields = rel.len() as usize * (rel.width() as usize + 1);
+    let mut text = front;
+    text.reserve(fields * FIELD_BYTES)?;
+    Ok(Page::new(alloc, text))
 }
 
 /// A text with the records of the names of columns and of rows with their places behind it.
@@ -84,37 +74,9 @@ pub fn with_rows(
     requires { length columns.now ≡ length rel.now.kinds }
     ensures { IfOk result (λ text. text.items ≡ front.items ++ texts.record_line (codes "row" ∷ columns.now) ++ texts.row_lines (λ i. i) rel.now.rows) }
 {
-    let mut text = front;
-    reserve_rows(&mut text, rel)?;
-    let mut page = Page::new(alloc, text);
-    header(&mut page, b"row", columns)?;
-    numbered_rows(&mut page, rel)?;
+    let mut page = page_for(alloc, front, rel)?;
+    numbered_rows(&mut page, columns, rel)?;
     page.finish()
-}
-
-/// A text with the text of a view behind it.
-pub fn with_view(
-    alloc: Global,
-    front: Vec<u8>,
-    name: &Text,
-    columns: &ListOf<Text>,
-    rel: &Rel,
-) -> Result<Vec<u8>, AllocError>
-    requires { length columns.now ≡ length rel.now.kinds }
-    ensures { IfOk result (λ text. text.items ≡ front.items ++ texts.view_text name.now columns.now rel.now.rows) }
-{
-    let mut text = front;
-    let mut count = Buffer::new();
-    add_line(
-        &mut text,
-        &[
-            b"view ",
-            name.as_slice(),
-            b" ",
-            count.format(rel.len()).as_bytes(),
-        ],
-    )?;
-    with_rows(alloc, text, columns, rel)
 }
 
 /// The text of a view: its name and number of rows, the names of its columns, and its rows with their places.
@@ -127,7 +89,13 @@ pub fn view_text(
     requires { length columns.now ≡ length rel.now.kinds }
     ensures { IfOk result (λ text. text.items ≡ texts.view_text name.now columns.now rel.now.rows) }
 {
-    with_view(alloc, Vec::new(alloc), name, columns, rel)
+    let front = line_around(
+        alloc,
+        &[b"view ", name.as_slice(), b" "],
+        rel.len() as u64,
+        &[],
+    )?;
+    with_rows(alloc, front, columns, rel)
 }
 
 // The record of the names of the columns that a table declares.
@@ -144,22 +112,39 @@ fn table_header(page: &mut Page, columns: &ColDecls) -> Result<(), AllocError>
     page.end()
 }
 
-// The first line of a backward answer.
-fn back_line(alloc: Global, view: &Text, table: &Text, count: u32) -> Result<Vec<u8>, AllocError>
-    ensures { IfOk result (λ text. text.items ≡ texts.line (codes "back " ∷ view.now ∷ codes " to " ∷ table.now ∷ codes " " ∷ decimal count ∷ [])) }
+// The record of the names of the columns that a table declares, and those of all rows with these numbers.
+fn placed_rows(
+    page: &mut Page,
+    columns: &ColDecls,
+    rids: &[u32],
+    rel: &Rel,
+) -> Result<(), AllocError>
+    requires ready { IsReady page.old }
+    requires between { fields_on page.old ≡ [] }
+    requires rids { length rids.now ≡ length rel.now.rows }
+    ensures { OnOk result (Says page.new (text_on page.old ++ texts.record_line (codes "rid" ∷ map (λ column. column.name) columns.now) ++ texts.row_lines (λ i. slice_index_or rids.now i 0) rel.now.rows) []) }
 {
-    let mut number = Buffer::new();
-    line_of(
-        alloc,
-        &[
-            b"back ",
-            view.as_slice(),
-            b" to ",
-            table.as_slice(),
-            b" ",
-            number.format(count).as_bytes(),
-        ],
-    )
+    table_header(page, columns)?;
+    for i in 0..rel.len() {
+        row(page, rids[i as usize], rel, i)?;
+    }
+    Ok(())
+}
+
+// A text with the records of the names of the columns that a table declares, and of rows with these numbers, behind it.
+fn with_placed_rows(
+    alloc: Global,
+    front: Vec<u8>,
+    columns: &ColDecls,
+    rids: &[u32],
+    rel: &Rel,
+) -> Result<Vec<u8>, AllocError>
+    requires { length rids.now ≡ length rel.now.rows }
+    ensures { IfOk result (λ text. text.items ≡ front.items ++ texts.record_line (codes "rid" ∷ map (λ column. column.name) columns.now) ++ texts.row_lines (λ i. slice_index_or rids.now i 0) rel.now.rows) }
+{
+    let mut page = page_for(alloc, front, rel)?;
+    placed_rows(&mut page, columns, rids, rel)?;
+    page.finish()
 }
 
 /// The text of a backward answer, with the columns that the table declares.
@@ -174,28 +159,25 @@ pub fn rids_text(
     requires { length rids.now ≡ length rel.now.rows }
     ensures { IfOk result (λ text. text.items ≡ texts.back_text view.now table.now (map (λ column. column.name) columns.now) rids.now rel.now.rows) }
 {
-    let mut front = back_line(alloc, view, table, rel.len())?;
-    reserve_rows(&mut front, rel)?;
-    let mut page = Page::new(alloc, front);
-    table_header(&mut page, columns)?;
-    placed_rows(&mut page, rids.as_slice(), rel)?;
-    page.finish()
+    let front = line_around(
+        alloc,
+        &[b"back ", view.as_slice(), b" to ", table.as_slice(), b" "],
+        rel.len() as u64,
+        &[],
+    )?;
+    with_placed_rows(alloc, front, columns, rids.as_slice(), rel)
 }
 
 /// The text of a refusal: a number that is no row, of so many rows.
 pub fn no_row_text(alloc: Global, row: u32, rows: u32) -> Result<Vec<u8>, AllocError>
     ensures { IfOk result (λ text. text.items ≡ texts.no_row_text row rows) }
 {
-    let mut number = Buffer::new();
     let mut count = Buffer::new();
-    line_of(
+    line_around(
         alloc,
-        &[
-            b"refused no row ",
-            number.format(row).as_bytes(),
-            b" of ",
-            count.format(rows).as_bytes(),
-        ],
+        &[b"refused no row "],
+        row as u64,
+        &[b" of ", count.format(rows).as_bytes()],
     )
 }
 
@@ -203,16 +185,12 @@ pub fn no_row_text(alloc: Global, row: u32, rows: u32) -> Result<Vec<u8>, AllocE
 pub fn bad_line_text(alloc: Global, number: u64, at: u64) -> Result<Vec<u8>, AllocError>
     ensures { IfOk result (λ text. text.items ≡ texts.bad_line_text number at) }
 {
-    let mut nth = Buffer::new();
     let mut place = Buffer::new();
-    line_of(
+    line_around(
         alloc,
-        &[
-            b"line ",
-            nth.format(number).as_bytes(),
-            b" not read at byte ",
-            place.format(at).as_bytes(),
-        ],
+        &[b"line "],
+        number,
+        &[b" not read at byte ", place.format(at).as_bytes()],
     )
 }
 

@@ -1,10 +1,6 @@
 use Rattle.std.proofs.Common.{arith}
 use Rattle.std.proofs.lemmas.Grind.{common_steps}
-use Rattle.smk_report.proofs.Parts.{joined_more}
 use Rattle.smk_report.proofs.lines.add_line.Goals as goal
 
-pub loop-part-preserved : goal.loop-part-preserved
-loop-part-preserved c = grind (arith, common_steps, joined_more)
-
 pub returns : goal.returns
-returns c = grind (arith, common_steps, joined_more)
+returns c = grind (arith, common_steps)

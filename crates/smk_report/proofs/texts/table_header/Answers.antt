@@ -5,3 +5,6 @@ use Rattle.smk_report.proofs.texts.table_header.Goals as goal
 
 pub loop-column-preserved : goal.loop-column-preserved
 loop-column-preserved c = grind (arith, common_steps, declared_more, declared_all)
+
+pub returns : goal.returns
+returns c = grind (arith, common_steps, declared_more, declared_all)
