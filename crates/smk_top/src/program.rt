@@ -97,14 +97,9 @@ fn report<R: Threads + Sync, G: Gate + Sync, O: Sink, L: Ledger>(
     ensures out_later { O.faults out.old ≤ O.faults out.new }
     ensures looks { (said : List Reading) → AreReadingsOf inputs.script.items said → steps.new ≤ steps.old + run_looks (inputs_with inputs said) }
 {
-    let Inputs {
-        book,
-        tables,
-        script,
-    } = inputs;
-    let mut session = start(rt, alloc, book, tables, settings, gate, steps)?;
-    let script = script.as_slice();
-    write_report(rt, alloc, &mut session, script, gate, out, steps)
+    let mut begun = start(rt, alloc, inputs, settings, gate, steps)?;
+    let script = begun.script.as_slice();
+    write_report(rt, alloc, &mut begun.session, script, gate, out, steps)
 }
 
 // Reads what a run is called for, and writes the report, or a demo's summary. It tells the counts of the report's lines.

@@ -153,33 +153,7 @@ fn write_unread<O: Sink>(alloc: Global, number: u64, at: u64, out: &mut O) -> Re
     write_counted(out, text, counts)
 }
 
-// Writes the text of the line with this number that says this, where it has one.
-fn write_reading<R: Threads + Sync, G: Gate + Sync, O: Sink, L: Ledger>(
-    rt: &R,
-    alloc: Global,
-    session: &mut Session,
-    number: u64,
-    reading: &Reading,
-    gate: &G,
-    out: &mut O,
-    steps: &mut Steps<L>,
-) -> Result<Counts, Stop>
-    ensures written { PutsPieces (reports.line_told (catalog_image session.old.catalog) (state_of session.old) number (reading_image reading.now)).text
-        (Rose (O.faults out.old) (O.faults out.new)) (O.written out.old) (O.written out.new) result }
-    ensures counts { IfOk result (λ counts. counts ≡ counts_told (reports.line_told (catalog_image session.old.catalog) (state_of session.old) number (reading_image reading.now))) }
-    ensures after { IfOk result (λ counts. state_of session.new ≡ reports.state_after (catalog_image session.old.catalog) (state_of session.old) (reading_image reading.now)) }
-    ensures book { session.new.catalog ≡ session.old.catalog }
-    ensures later { O.faults out.old ≤ O.faults out.new }
-    ensures looks { steps.new ≤ steps.old + (reports.line_told (catalog_image session.old.catalog) (state_of session.old) number (reading_image reading.now)).looks }
-{
-    match reading {
-        Reading::Nothing => Ok(NOTHING),
-        Reading::Asks(line) => write_reply(rt, alloc, session, line, gate, out, steps),
-        Reading::Unread(at) => write_unread(alloc, number, *at, out),
-    }
-}
-
-// The same, and lets go of what the line says.
+// Writes the text of the line with this number that says this, where it has one, and lets go of what it says.
 fn write_line<R: Threads + Sync, G: Gate + Sync, O: Sink, L: Ledger>(
     rt: &R,
     alloc: Global,
@@ -198,7 +172,11 @@ fn write_line<R: Threads + Sync, G: Gate + Sync, O: Sink, L: Ledger>(
     ensures later { O.faults out.old ≤ O.faults out.new }
     ensures looks { steps.new ≤ steps.old + (reports.line_told (catalog_image session.old.catalog) (state_of session.old) number (reading_image reading)).looks }
 {
-    write_reading(rt, alloc, session, number, &reading, gate, out, steps)
+    match reading {
+        Reading::Nothing => Ok(NOTHING),
+        Reading::Asks(line) => write_reply(rt, alloc, session, &line, gate, out, steps),
+        Reading::Unread(at) => write_unread(alloc, number, at, out),
+    }
 }
 
 // Writes the texts of the lines of a script, each before the next line is read, and counts them.

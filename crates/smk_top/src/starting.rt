@@ -2,23 +2,29 @@
 ghost use Rattle.std.specs.Prelude.{◌≡◌, ◌≤◌, ◌+◌, [], List, Err, map, slice_index_or, IfOk};
 ghost use Rattle.smk_base.specs.Rels.{Relation};
 ghost use Rattle.smk_base.specs.declared.catalog.Catalog.{Catalog as CatalogShape};
-ghost use Rattle.smk_model.specs.Catalogs.{each_table_kinds};
 ghost use Rattle.smk_model.specs.Looks.{start_looks};
 ghost use Rattle.smk_model.specs.Opening.{first_view_fault};
-ghost use Rattle.smk_model.specs.Selection.{each_kinds};
-ghost use Rattle.smk_session.specs.Sessions.{IsStartFault, SessionImage, workbook_image, workbook_of};
+ghost use Rattle.smk_session.specs.Sessions.{IsStartFault, workbook_image, workbook_of};
+ghost use Rattle.smk_top.specs.Loaded.{workbook_read, script_bytes};
 ghost use Rattle.smk_top.specs.Reading.{Starts, IsSayable};
+ghost use Rattle.smk_top.specs.declared.starting.Begun.{Begun as BegunShape};
 
+use crate::inputs::Inputs;
 use crate::settings::Settings;
 use crate::stop::Stop;
 use smk_base::{Catalog, Fault, TableInfo, Text, ViewInfo};
 use smk_outside::{Gate, Steps};
 use smk_session::{Session, StartFault};
-use smk_table::Table;
-use smk_typing::TypedBook;
 use std::alloc::{AllocError, Global};
 use std::sync::ledger::Ledger;
 use std::thread::Threads;
+
+/// A session that begins, and the bytes of its script.
+#[derive(Drop)]
+pub struct Begun {
+    pub session: Session,
+    pub script: Vec<u8>,
+}
 
 // The names of views.
 fn view_names(alloc: Global, views: &[ViewInfo]) -> Result<Vec<Text>, AllocError>
@@ -72,8 +78,8 @@ fn name_at(alloc: Global, names: Vec<Text>, place: u32) -> Text
 // What a fault of a start says.
 fn stop_of(alloc: Global, names: Names, fault: StartFault) -> Stop
     ensures starts { (book : CatalogShape) (rows : List Relation) → IsStartFault fault (first_view_fault (workbook_image book rows))
-        → names.views.items ≡ map (λ view. view.name) book.views → names.tables.items ≡ map (λ table. table.name) book.tables → Starts {X = SessionImage} (workbook_image book rows) (Err result) }
-    ensures said { IsSayable {X = SessionImage} (Err result) }
+        → names.views.items ≡ map (λ view. view.name) book.views → names.tables.items ≡ map (λ table. table.name) book.tables → Starts {X = BegunShape} (workbook_image book rows) (Err result) }
+    ensures said { IsSayable {X = BegunShape} (Err result) }
 {
     let Names { views, tables } = names;
     match fault {
@@ -90,29 +96,33 @@ fn stop_of(alloc: Global, names: Names, fault: StartFault) -> Stop
     }
 }
 
-/// A session over these tables, or the first view with a node that is too big. The names that a fault says are copied before, since the book is dropped with it.
+/// A session that begins over what was read, and the bytes of the script; or the first view with a node that is too big. The names that a fault says are copied before, since the book is dropped with it.
 pub fn start<R: Threads + Sync, G: Gate + Sync, L: Ledger>(
     rt: &R,
     alloc: Global,
-    book: TypedBook,
-    tables: Vec<Table>,
+    inputs: Inputs,
     settings: Settings,
     gate: &G,
     steps: &mut Steps<L>,
-) -> Result<Session, Stop>
-    requires kinds { each_kinds tables.items ≡ each_table_kinds book.tables }
-    ensures starts { Starts (workbook_image book tables.items) result }
-    ensures book { IfOk result (λ session. workbook_of session ≡ workbook_image book tables.items) }
-    ensures mode { IfOk result (λ session. session.mode ≡ settings.mode) }
-    ensures workers { IfOk result (λ session. session.workers ≡ settings.workers) }
-    ensures looks { steps.new ≤ steps.old + start_looks (workbook_image book tables.items) }
-    ensures begun { IfOk result (λ session. session.brushes ≡ []) }
+) -> Result<Begun, Stop>
+    ensures starts { Starts (workbook_read inputs) result }
+    ensures book { IfOk result (λ begun. workbook_of begun.session ≡ workbook_read inputs) }
+    ensures mode { IfOk result (λ begun. begun.session.mode ≡ settings.mode) }
+    ensures workers { IfOk result (λ begun. begun.session.workers ≡ settings.workers) }
+    ensures looks { steps.new ≤ steps.old + start_looks (workbook_read inputs) }
+    ensures begun { IfOk result (λ begun. begun.session.brushes ≡ []) }
+    ensures script { IfOk result (λ begun. begun.script.items ≡ script_bytes inputs) }
     ensures said { IsSayable result }
 {
-    let names = names_of(alloc, book.catalog())?;
+    let names = names_of(alloc, inputs.book.catalog())?;
     let Settings { mode, workers, .. } = settings;
+    let Inputs {
+        book,
+        tables,
+        script,
+    } = inputs;
     match Session::start(rt, alloc, book, tables, mode, workers, gate, steps) {
-        Ok(session) => Ok(session),
+        Ok(session) => Ok(Begun { session, script }),
         Err(fault) => Err(stop_of(alloc, names, fault)),
     }
 }

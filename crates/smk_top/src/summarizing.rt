@@ -25,7 +25,8 @@ use crate::reporting::{put, write_report};
 use crate::settings::Settings;
 use crate::starting::start;
 use crate::stop::Stop;
-use smk_base::{DEMO_BOOK_NAME, DEMO_SCRIPT_NAME, ListOf, Size, Sizes, Text};
+use crate::words::text_of;
+use smk_base::{DEMO_BOOK_NAME, DEMO_SCRIPT_NAME, ListOf, Size, Sizes};
 use smk_demo::{demo, summary_text};
 use smk_outside::{Gate, Sink, Steps};
 use smk_session::Session;
@@ -41,16 +42,9 @@ pub fn read_demo(alloc: Global, flights: Flights) -> Result<Inputs, Stop>
     let mut texts = DemoTexts {
         texts: demo(alloc, flights.count)?,
     };
-    let book = name_of(alloc, DEMO_BOOK_NAME)?;
-    let script = name_of(alloc, DEMO_SCRIPT_NAME)?;
+    let book = text_of(alloc, DEMO_BOOK_NAME)?;
+    let script = text_of(alloc, DEMO_SCRIPT_NAME)?;
     read_all(alloc, &mut texts, &book, Some(&script))
-}
-
-// A name of these bytes.
-fn name_of(alloc: Global, bytes: &[u8]) -> Result<Text, AllocError>
-    ensures { IfOk result (λ name. name ≡ bytes.now) }
-{
-    Ok(Text::from_vec(Vec::from_slice(alloc, bytes)?))
 }
 
 // The sizes of the views, as they are first evaluated.
@@ -141,12 +135,16 @@ pub fn summarize<R: Threads + Sync, G: Gate + Sync, O: Sink, L: Ledger>(
     ensures out_later { O.faults out.old ≤ O.faults out.new }
     ensures looks { (said : List Reading) → AreReadingsOf inputs.script.items said → steps.new ≤ steps.old + outcomes.run_looks (inputs_with inputs said) }
 {
-    let Inputs {
-        book,
-        tables,
+    let mut begun = start(rt, alloc, inputs, settings, gate, steps)?;
+    let script = begun.script.as_slice();
+    write_summary(
+        rt,
+        alloc,
+        flights,
+        &mut begun.session,
         script,
-    } = inputs;
-    let mut session = start(rt, alloc, book, tables, settings, gate, steps)?;
-    let script = script.as_slice();
-    write_summary(rt, alloc, flights, &mut session, script, gate, out, steps)
+        gate,
+        out,
+        steps,
+    )
 }

@@ -117,11 +117,11 @@ fn settings_of(matches: &ArgMatches<'_>) -> Option<Settings>
     Some(Settings { mode, workers })
 }
 
-// The bytes of a word.
-fn text_of(alloc: Global, word: &str) -> Result<Text, AllocError>
-    ensures { IfOk result (λ text. text ≡ word.now) }
+/// A text of these bytes.
+pub fn text_of(alloc: Global, bytes: &[u8]) -> Result<Text, AllocError>
+    ensures { IfOk result (λ text. text ≡ bytes.now) }
 {
-    Ok(Text::from_vec(Vec::from_slice(alloc, word.as_bytes())?))
+    Ok(Text::from_vec(Vec::from_slice(alloc, bytes)?))
 }
 
 // The bytes of a word where there is one.
@@ -129,7 +129,7 @@ fn text_if_any(alloc: Global, word: Option<&str>) -> Result<Option<Text>, AllocE
     ensures { IfOk result (λ text. text ≡ option_map (λ w. w.now) word.entry) }
 {
     match word {
-        Some(word) => Ok(Some(text_of(alloc, word)?)),
+        Some(word) => Ok(Some(text_of(alloc, word.as_bytes())?)),
         None => Ok(None),
     }
 }
@@ -152,7 +152,7 @@ fn texts_in(alloc: Global, matches: &ArgMatches<'_>) -> Result<Option<RunTexts>,
 {
     match (matches.get_str("demo"), matches.get_str("book")) {
         (None, Some(book)) => Ok(Some(RunTexts::Files {
-            book: text_of(alloc, book)?,
+            book: text_of(alloc, book.as_bytes())?,
             script: text_if_any(alloc, matches.get_str("script"))?,
         })),
         (Some(number), None) => Ok(match read_int(number.as_bytes()) {
