@@ -31,7 +31,9 @@ fn has<R: Threads + Sync + AllocGlobal, B: OpBody + Sync>(
     requires need { NeedFits (length opened.now.tables.items) need.now }
     requires captured { IsTrue (B.may_capture body.now || nat_eq (length need.now) 0) }
 {
-    let run = ran(rt, system, body, opened, view, need)?;
+    let Ok(run) = ran(rt, system, body, opened, view, need) else {
+        return Err(Fail::new("no rows of a view"));
+    };
     let shown = rows_shown(rt.alloc(), &run.rel)?;
     let kept = maps_shown(rt.alloc(), run.kept.as_slice())?;
     Ok(shown.as_str() == rows && kept.as_str() == maps)

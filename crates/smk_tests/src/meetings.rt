@@ -72,9 +72,9 @@ fn two_pieces_of_each_step_of_a_run_meet(rt: HostRuntime) -> Result<(), Fail> {
 
 // The line of a text.
 fn line_of(alloc: Global, text: &[u8]) -> Result<Line, Fail> {
-    match parse_line(alloc, text)? {
-        Some(line) => Ok(line),
-        None => Err(Fail::new("no line")),
+    match parse_line(alloc, text) {
+        Ok(Some(line)) => Ok(line),
+        _ => Err(Fail::new("no line")),
     }
 }
 
@@ -85,7 +85,10 @@ fn started<R: Threads + Sync, L: Ledger>(
     steps: &mut Steps<L>,
 ) -> Result<Session, Fail> {
     let Opened { book, tables } = open_book(alloc, BOOK, &[SALES, REGIONS])?;
-    Ok(Session::start(rt, alloc, book, tables, Mode::Inject, 2, &Idle, steps)?)
+    match Session::start(rt, alloc, book, tables, Mode::Inject, 2, &Idle, steps) {
+        Ok(session) => Ok(session),
+        Err(_) => Err(Fail::new("no session")),
+    }
 }
 
 // The answer to a line by a session whose views pass this gate. After want of memory it is asked again.

@@ -36,7 +36,10 @@ pub(crate) struct Opened {
 fn parsed(alloc: Global, text: &str) -> Result<Book, Fail>
     ensures { IfOk result (λ book. KeepsLimits (book_image book)) }
 {
-    Ok(parse_book(alloc, text.as_bytes())?)
+    match parse_book(alloc, text.as_bytes()) {
+        Ok(book) => Ok(book),
+        Err(_) => Err(Fail::new("no tree of a book")),
+    }
 }
 
 // The table of the bytes of its file.
@@ -45,7 +48,10 @@ fn table_of(alloc: Global, info: &TableInfo, bytes: &[u8]) -> Result<Table, Fail
     requires { AreColumns info.now.cols }
     ensures { IfOk result (λ table. table.kinds ≡ table_kinds info.now) }
 {
-    Ok(read_table(alloc, bytes, &info.cols)?)
+    match read_table(alloc, bytes, &info.cols) {
+        Ok(table) => Ok(table),
+        Err(_) => Err(Fail::new("no table")),
+    }
 }
 
 // The tables of the bytes of their files, in the same order.
@@ -66,7 +72,9 @@ fn tables_of(alloc: Global, infos: &[TableInfo], files: &[&[u8]]) -> Result<Vec<
 
 /// The book of a text, with tables of the bytes of their files.
 pub(crate) fn open_book(alloc: Global, text: &str, files: &[&[u8]]) -> Result<Opened, Fail> {
-    let book = check(alloc, parsed(alloc, text)?)?;
+    let Ok(book) = check(alloc, parsed(alloc, text)?) else {
+        return Err(Fail::new("no catalog of a book"));
+    };
     let tables = tables_of(alloc, book.catalog().tables.as_slice(), files)?;
     Ok(Opened { book, tables })
 }
