@@ -1,6 +1,7 @@
 ghost use Rattle.std.specs.Prelude.{◌≡◌, IfOk};
 
 use crate::plan::{Agg, Item};
+use crate::value::Value;
 use std::alloc::{AllocError, Global};
 
 /// A type whose values are copied into new memory, each copy equal to its original.
@@ -37,5 +38,15 @@ impl Copied for Item {
 impl Copied for Agg {
     fn copy_items(alloc: Global, items: &[Agg]) -> Result<Vec<Agg>, AllocError> {
         Vec::from_slice(alloc, items)
+    }
+}
+
+impl Copied for Value {
+    fn copy_items(alloc: Global, items: &[Value]) -> Result<Vec<Value>, AllocError> {
+        let mut copies = Vec::with_capacity(alloc, items.len())?;
+        for item in items {
+            copies.push_reserved(item.copy(alloc)?);
+        }
+        Ok(copies)
     }
 }
