@@ -11,8 +11,7 @@ use crate::fault::EvalFault;
 use crate::leaves::Leaves;
 use smk_base::{Dir, Op1, Op2, Plan, Rel};
 use smk_body::{OpBody, OpFault, Want};
-use smk_narrow::{Narrowed, narrow};
-use smk_table::Chosen;
+use smk_table::{Chosen, Narrowed, narrow};
 use std::alloc::Global;
 use std::thread::Threads;
 

@@ -4,10 +4,9 @@ ghost use Rattle.smk_push.specs.Cubes.{cube_at, cubes_of};
 
 use crate::group::group_at;
 use smk_base::{Aggs, Keys, Rel};
-use smk_narrow::narrow_group;
 use smk_outside::Steps;
 use smk_rid::RidMap;
-use smk_table::Table;
+use smk_table::{Table, narrow_group};
 use std::alloc::{AllocError, Global};
 use std::marker::Model;
 use std::sync::ledger::Ledger;

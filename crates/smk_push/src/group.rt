@@ -10,7 +10,7 @@ ghost use Rattle.smk_push.specs.Cubes.{cube_of};
 use smk_base::{CellRef, Kind, Rel};
 use smk_body::group_rows;
 use smk_keys::Classes;
-use smk_narrow::NarrowedGroup;
+use smk_table::NarrowedGroup;
 use std::alloc::{AllocError, Global};
 
 /// The grouping of the rows at these rids, in their order.

@@ -2,3 +2,4 @@ pub mod RecordsAfter
 pub mod FieldPlaces
 pub mod TableRows
 pub mod Choices
+pub mod Narrows

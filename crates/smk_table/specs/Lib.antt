@@ -1,3 +1,4 @@
 pub mod Reading
 pub mod Growing
 pub mod Choosing
+pub mod Named

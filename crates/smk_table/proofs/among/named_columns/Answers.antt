@@ -1,7 +1,7 @@
 use Rattle.std.proofs.Common.{◌<◌, List, ℕ, All, sym, subst, arith}
 use Rattle.std.proofs.lemmas.Grind.{common_steps}
-use Rattle.smk_narrow.proofs.Narrows.{named_below, few_named}
-use Rattle.smk_narrow.proofs.among.named_columns.Goals as goal
+use Rattle.smk_table.proofs.Narrows.{named_below, few_named}
+use Rattle.smk_table.proofs.among.named_columns.Goals as goal
 
 pub returns-clause-within : goal.returns-clause-within
 returns-clause-within c k d p =

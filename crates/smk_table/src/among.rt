@@ -3,7 +3,7 @@
 ghost use Rattle.std.specs.Prelude.{◌≡◌, ◌<◌, ◌≤◌, length, map, nat_eq, position, All, IfOk};
 ghost use Rattle.std.specs.List.{list_any};
 ghost use Rattle.smk_base.specs.Places.{has};
-ghost use Rattle.smk_narrow.specs.Named.{is_of, reads, is_named, named, place_of, item_among, agg_among};
+ghost use Rattle.smk_table.specs.Named.{is_of, reads, is_named, named, place_of, item_among, agg_among};
 
 use smk_base::{Agg, Aggs, Item, Items, Keys};
 use std::alloc::{AllocError, Global};

@@ -1,6 +1,6 @@
 use Rattle.std.proofs.Common.{◌∙◌}
-use Rattle.smk_narrow.proofs.Narrows.{items_narrowed}
-use Rattle.smk_narrow.proofs.narrowing.narrow_items.Goals as goal
+use Rattle.smk_table.proofs.Narrows.{items_narrowed}
+use Rattle.smk_table.proofs.narrowing.narrow_items.Goals as goal
 
 pub returns-clause-fits : goal.returns-clause-fits
 returns-clause-fits c =

@@ -20,7 +20,7 @@ use Rattle.smk_model.specs.Plain.{item_at, image, key_of, firsts, number_of, tot
 use Rattle.smk_model.specs.Kinds.{ItemFits, AggFits, ItemsFit, GroupFits, IsInt, IsSummed, kind_of_item, kind_of_agg, summed, kinds1}
 use Rattle.smk_model.proofs.Places.{filter_map, map_map, has_places, places_below, length_upto}
 use Rattle.smk_model.proofs.Parts.{map_agree}
-use Rattle.smk_narrow.specs.Named.{is_of, reads, is_named, named, place_of, item_among, agg_among}
+use Rattle.smk_table.specs.Named.{is_of, reads, is_named, named, place_of, item_among, agg_among}
 
 -- the place of a column that is there
 

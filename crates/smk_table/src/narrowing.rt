@@ -6,8 +6,8 @@ ghost use Rattle.smk_model.specs.Kinds.{Fits1, GroupFits, ItemsFit, kind_of_item
 ghost use Rattle.smk_model.specs.Plain.{image, step1};
 
 use crate::among::{aggs_among, items_among, keys_among, named_columns};
+use crate::chosen::Chosen;
 use smk_base::{Agg, Aggs, Item, Items, Keys, Op1, Rel};
-use smk_table::Chosen;
 use std::alloc::{AllocError, Global};
 
 /// A step, and the input that it is for.

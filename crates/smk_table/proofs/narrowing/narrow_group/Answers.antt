@@ -1,7 +1,7 @@
 use Rattle.std.proofs.Common.{◌∙◌, arith}
 use Rattle.std.proofs.lemmas.Grind.{common_steps}
-use Rattle.smk_narrow.proofs.Narrows.{group_narrowed}
-use Rattle.smk_narrow.proofs.narrowing.narrow_group.Goals as goal
+use Rattle.smk_table.proofs.Narrows.{group_narrowed}
+use Rattle.smk_table.proofs.narrowing.narrow_group.Goals as goal
 
 pub returns-clause-fits : goal.returns-clause-fits
 returns-clause-fits c =

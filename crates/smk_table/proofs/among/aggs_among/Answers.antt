@@ -1,6 +1,6 @@
 use Rattle.std.proofs.Common.{arith}
 use Rattle.std.proofs.lemmas.Grind.{common_steps}
-use Rattle.smk_narrow.proofs.among.aggs_among.Goals as goal
+use Rattle.smk_table.proofs.among.aggs_among.Goals as goal
 
 pub loop-agg-preserved : goal.loop-agg-preserved
 loop-agg-preserved c = grind (arith, common_steps)
