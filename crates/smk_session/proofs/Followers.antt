@@ -29,7 +29,7 @@ use Rattle.smk_session.specs.Answers.{AreOn, Turns, chosen_of, kept_back, kept_f
 use Rattle.smk_session.specs.Refreshed.{Names, book_at}
 use Rattle.smk_session.specs.declared.refresh.Refresh.{Refresh}
 use Rattle.smk_session.specs.declared.turned.Turned.{Turned}
-use Rattle.smk_session.specs.Sessions.{AreOpened, BrushFits, follows, state_over}
+use Rattle.smk_session.specs.Sessions.{AreOpened, BrushFits, state_over}
 use Rattle.smk_session.proofs.Rids.{rids_ascend}
 use Rattle.smk_session.proofs.Selected.{chosen_or_all, picks_fit, picks_more, picks_same, same_leaves}
 use Rattle.smk_session.proofs.KeptOf.{kept_back_is, kept_fwd_is}

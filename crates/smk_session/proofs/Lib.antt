@@ -8,6 +8,7 @@ mod Linked
 mod Marked
 mod Merging
 mod Opened
+mod Pairs
 mod Refreshing
 mod Rids
 mod Selected

@@ -1,6 +1,6 @@
 -- What a view shows under brushes, and what a change of the brushes leaves in force.
 use Rattle.std.proofs.Common.{◌≡◌, ℕ, ◌<◌, Bool, true, false, cond, List, [], ◌∷◌, ◌++◌, length, map, get_or, refl, ap, sym, ◌∙◌, subst, arith, Option, Some, None, All}
-use Rattle.std.specs.List.{filter, list_any}
+use Rattle.std.specs.List.{filter, list_any, IsDistinct}
 use Rattle.std.proofs.lemmas.Bool.{false≢true}
 use Rattle.std.proofs.lemmas.List.{length-map}
 use Rattle.std.proofs.lemmas.List.Elements.{All-nil, All-cons, All-append, All-head, All-tail}
@@ -17,11 +17,12 @@ use Rattle.smk_model.specs.Session.{State, is_brush, linked, view_at, with_brush
 use Rattle.smk_model.proofs.Places.{get_or_map_upto, length_upto, upto_below, has_upto}
 use Rattle.smk_compose.specs.declared.kept.Run.{Run}
 use Rattle.smk_session.specs.Answers.{content_at, placed}
-use Rattle.smk_session.specs.Sessions.{AreInForce, AreOpened, BrushFits, content_kept, follows, state_over}
+use Rattle.smk_session.specs.Sessions.{AreInForce, AreOpened, BrushFits, content_kept, follows, same_pair, state_over}
 use Rattle.smk_session.specs.declared.turn.Content.{Content}
 use Rattle.smk_session.proofs.InForce.{brush_leaves, clear_leaves, placed_are, untouched}
 use Rattle.smk_session.proofs.Linked.{linked_low}
 use Rattle.smk_session.proofs.Opened.{run_is, views_long}
+use Rattle.smk_session.proofs.Pairs.{none_a_pair, with_one_a_pair, without_one_a_pair}
 
 -- what is kept of a view
 
@@ -67,6 +68,7 @@ nothing w = None
 pub none_in_force : (catalog : Catalog) (tables : List Relation) (views : List Run) (contents : List (Option Relation)) (n : ℕ) → AreOpened catalog tables views → n ≡ length views → contents ≡ map (λ w. None) (upto n) → AreInForce catalog tables [] contents
 none_in_force catalog tables views contents n o long are = record {
   brushes_fit = All-nil (BrushFits catalog tables);
+  one_a_pair = none_a_pair;
   contents_are = are ∙ ap (λ (k : ℕ). map nothing (upto k)) (long ∙ views_long catalog tables views o ∙ sym (views_of catalog));
 }
 
@@ -96,12 +98,13 @@ kept_fit P test (x ∷ xs) all = by (test x) (kept_fit P test xs (All-tail P x x
     by false rest = rest
 
 -- other brushes that fit, and the contents of all views that they change
-changed : (catalog : Catalog) (tables : List Relation) (brushes next : List BrushOn) (contents : List (Option Relation)) (fresh : List Content) (ws : List ℕ) → AreInForce catalog tables brushes contents → All (BrushFits catalog tables) next
+changed : (catalog : Catalog) (tables : List Relation) (brushes next : List BrushOn) (contents : List (Option Relation)) (fresh : List Content) (ws : List ℕ) → AreInForce catalog tables brushes contents → All (BrushFits catalog tables) next → IsDistinct same_pair next
     → fresh ≡ map (content_at (catalog_image catalog) (state_over tables next)) ws
     → ((w : ℕ) → w < length (catalog_image catalog).views → has ws w ≡ false → content_kept (catalog_image catalog) (state_over tables next) w ≡ content_kept (catalog_image catalog) (state_over tables brushes) w)
     → AreInForce catalog tables next (placed fresh contents)
-changed catalog tables brushes next contents fresh ws f fit are same = record {
+changed catalog tables brushes next contents fresh ws f fit apart are same = record {
   brushes_fit = fit;
+  one_a_pair = apart;
   contents_are =
       ap (λ (l : List Content). placed l contents) are
       ∙ ap (placed (map (content_at (catalog_image catalog) (state_over tables next)) ws)) f.contents_are
@@ -112,14 +115,14 @@ pub brush_changes : (catalog : Catalog) (tables : List Relation) (brushes : List
     → fresh ≡ map (content_at (catalog_image catalog) (state_over tables (with_brush brush brushes))) (linked (catalog_image catalog) brush.view brush.table)
     → AreInForce catalog tables (with_brush brush brushes) (placed fresh contents)
 brush_changes catalog tables brushes contents brush fresh f fits are =
-    changed catalog tables brushes (with_brush brush brushes) contents fresh (linked (catalog_image catalog) brush.view brush.table) f (with_fits (BrushFits catalog tables) brush brushes fits f.brushes_fit) are
+    changed catalog tables brushes (with_brush brush brushes) contents fresh (linked (catalog_image catalog) brush.view brush.table) f (with_fits (BrushFits catalog tables) brush brushes fits f.brushes_fit) (with_one_a_pair brush brushes f.one_a_pair) are
     (λ w low unnamed. brush_leaves (catalog_image catalog) (each_rows tables) brush brushes w unnamed)
 
 pub clear_changes : (catalog : Catalog) (tables : List Relation) (brushes : List BrushOn) (contents : List (Option Relation)) (v t : ℕ) (fresh : List Content) → AreInForce catalog tables brushes contents
     → fresh ≡ map (content_at (catalog_image catalog) (state_over tables (without_brush v t brushes))) (linked (catalog_image catalog) v t)
     → AreInForce catalog tables (without_brush v t brushes) (placed fresh contents)
 clear_changes catalog tables brushes contents v t fresh f are =
-    changed catalog tables brushes (without_brush v t brushes) contents fresh (linked (catalog_image catalog) v t) f (kept_fit (BrushFits catalog tables) _ brushes f.brushes_fit) are
+    changed catalog tables brushes (without_brush v t brushes) contents fresh (linked (catalog_image catalog) v t) f (kept_fit (BrushFits catalog tables) _ brushes f.brushes_fit) (without_one_a_pair v t brushes f.one_a_pair) are
     (λ w low unnamed. clear_leaves (catalog_image catalog) (each_rows tables) v t brushes w unnamed)
 
 -- the views whose contents change are there
@@ -139,7 +142,7 @@ linked_known catalog tables brushes next contents v t fresh checked f are =
 pub none_changes : (catalog : Catalog) (tables : List Relation) (brushes : List BrushOn) (contents : List (Option Relation)) (fresh : List Content) → AreInForce catalog tables brushes contents
     → fresh ≡ map (content_at (catalog_image catalog) (state_over tables [])) (upto (length contents)) → AreInForce catalog tables [] (placed fresh contents)
 none_changes catalog tables brushes contents fresh f are =
-    changed catalog tables brushes [] contents fresh (upto (length contents)) f (All-nil (BrushFits catalog tables)) are
+    changed catalog tables brushes [] contents fresh (upto (length contents)) f (All-nil (BrushFits catalog tables)) none_a_pair are
     (λ w low unnamed. absurd (false≢true (sym unnamed ∙ has_upto (length contents) w (omega (arith, low, views_of catalog, contents_long catalog tables brushes contents f)))))
 
 pub all_known : (catalog : Catalog) (tables : List Relation) (n : ℕ) (fresh : List Content) → fresh ≡ map (content_at (catalog_image catalog) (state_over tables [])) (upto n) → All (λ (content : Content). content.view < n) fresh

@@ -1,6 +1,6 @@
 -- What callers see of a session, and what every session keeps.
 use Rattle.std.specs.Prelude.{◌≡◌, ◌<◌, ◌≤◌, ℕ, Bool, cond, List, [], length, map, Option, Some, None, All}
-use Rattle.std.specs.List.{list_any}
+use Rattle.std.specs.List.{list_any, IsDistinct}
 use Rattle.smk_base.specs.CatalogImage.{CatalogImage, catalog_image}
 use Rattle.smk_base.specs.Places.{IsPlaces, has, upto}
 use Rattle.smk_base.specs.Rels.{Relation}
@@ -12,7 +12,7 @@ use Rattle.smk_model.specs.Opening.{ViewFault}
 use Rattle.smk_model.specs.Plain.{rows_over}
 use Rattle.smk_model.specs.Replies.{content_of}
 use Rattle.smk_model.specs.Selection.{each_kinds, each_rows}
-use Rattle.smk_model.specs.Session.{Workbook, State, linked, rows_of_table, view_at}
+use Rattle.smk_model.specs.Session.{Workbook, State, is_brush, linked, rows_of_table, view_at}
 use Rattle.smk_model.specs.Workload.{needs}
 use Rattle.smk_compose.specs.Kept.{kept_at}
 use Rattle.smk_compose.specs.declared.kept.Run.{Run}
@@ -84,9 +84,14 @@ pub record BrushFits (catalog : Catalog) (tables : List Relation) (brush : Brush
   pub table : brush.table < length catalog.tables
   pub rids : IsPlaces (length (rows_of_table (state_over tables []) brush.table)) brush.rids
 
--- the brushes fit, and what is kept beside the first contents is what the views show under them
+-- whether two brushes are of one pair of a view and a table
+abbrev pub same_pair : BrushOn → BrushOn → Bool
+same_pair a b = is_brush a.view a.table b
+
+-- the brushes fit, no two are of one pair, and what is kept beside the first contents is what the views show under them
 pub record AreInForce (catalog : Catalog) (tables : List Relation) (brushes : List BrushOn) (contents : List (Option Relation)) : Type 0 where
   pub brushes_fit : All (BrushFits catalog tables) brushes
+  pub one_a_pair : IsDistinct same_pair brushes
   pub contents_are : contents ≡ contents_kept (catalog_image catalog) (state_over tables brushes)
 
 -- the views are opened, what the declarations ask for is made, the brushes are in force, and there are a few workers
