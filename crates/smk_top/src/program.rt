@@ -3,7 +3,7 @@ ghost use Rattle.smk_model.specs.FaultTexts.{IsSaid};
 ghost use Rattle.smk_model.specs.Outcome.{run_looks};
 ghost use Rattle.smk_model.specs.Readings.{Reading, AreReadingsOf};
 ghost use Rattle.smk_model.specs.Reports.{Report};
-ghost use Rattle.smk_model.specs.Words.{words_of};
+ghost use Rattle.smk_model.specs.Words.{Demo, words_of};
 ghost use Rattle.smk_outside.specs.Outside.{Rose};
 ghost use Rattle.smk_top.specs.Counting.{counts_of};
 ghost use Rattle.smk_top.specs.Image.{texts_image};
@@ -119,6 +119,7 @@ fn work_on<R: Threads + Sync, F: Files, O: Sink, G: Gate + Sync, L: Ledger>(
     ensures files_later { F.faults files.old ≤ F.faults files.new }
     ensures out_later { O.faults out.old ≤ O.faults out.new }
     ensures looks { (words : List (List ℕ)) → words_of words ≡ Some (texts_image call.now.texts) → RunLooks words (F.held files.old) steps.old steps.new }
+    ensures demo { (flights : ℕ) → texts_image call.now.texts ≡ Demo flights → F.faults files.new ≡ F.faults files.old }
 {
     match &call.texts {
         RunTexts::Files { book, script } => {
@@ -148,6 +149,7 @@ fn work<R: Threads + Sync, F: Files, O: Sink, G: Gate + Sync, L: Ledger>(
     ensures files_later { F.faults files.old ≤ F.faults files.new }
     ensures out_later { O.faults out.old ≤ O.faults out.new }
     ensures looks { RunLooks (map (λ w. w.now) words.entry.now) (F.held files.old) steps.old steps.new }
+    ensures demo { (flights : ℕ) → words_of (map (λ w. w.now) words.entry.now) ≡ Some (Demo flights) → F.faults files.new ≡ F.faults files.old }
 {
     let found = read_words(alloc, words)?;
     match found {
@@ -185,6 +187,7 @@ pub fn run<R: Threads + Sync, F: Files, O: Sink, E: Sink, G: Gate + Sync, L: Led
     ensures out_later { O.faults out.old ≤ O.faults out.new }
     ensures err_later { E.faults err.old ≤ E.faults err.new }
     ensures looks { RunLooks (map (λ w. w.now) words.entry.now) (F.held files.old) steps.old steps.new }
+    ensures demo { (flights : ℕ) → words_of (map (λ w. w.now) words.entry.now) ≡ Some (Demo flights) → F.faults files.new ≡ F.faults files.old }
 {
     match work(rt, alloc, words, files, out, gate, steps) {
         Ok(counts) => status_of_counts(counts),
