@@ -6,6 +6,7 @@ use std::io::Write;
 use std::test::Fail;
 use std::{env, fs, io, process};
 
+// A file is read in blocks, and is longer than one of them here.
 #[test]
 fn reads_files_of_the_system(rt: HostRuntime) -> Result<(), Fail> {
     let alloc = rt.alloc();
@@ -14,19 +15,25 @@ fn reads_files_of_the_system(rt: HostRuntime) -> Result<(), Fail> {
     let id = process::id(rt.process());
     let name = format!(in alloc; "{folder}/smk_tests_{id}")?;
     let folder = format!(in alloc; "{folder}")?;
-    fs::write(&rt, name.as_str(), "12345")?;
+    let mut long = Vec::new(alloc);
+    for i in 0..200_000u32 {
+        long.push((i % 251) as u8)?;
+    }
+    fs::write(&rt, name.as_str(), long.as_slice())?;
     let mut files = RealFiles::new(rt);
-    let whole = files.read(alloc, name.as_bytes(), 5);
+    let whole = files.read(alloc, name.as_bytes(), 200_000);
     let front = files.read(alloc, name.as_bytes(), 2);
     fs::remove_file(&rt, name.as_str())?;
-    assert!(rt; matches!(&whole, Ok(bytes) if bytes.as_slice() == b"12345".as_slice()));
-    assert!(rt; matches!(&front, Ok(bytes) if bytes.as_slice() == b"123".as_slice()));
+    assert!(rt; matches!(&whole, Ok(bytes) if bytes.as_slice() == long.as_slice()));
+    assert!(rt; matches!(&front, Ok(bytes) if bytes.as_slice() == b"\x00\x01\x02".as_slice()));
     for name in [
         name.as_bytes(),
         folder.as_bytes(),
         b"".as_slice(),
         b"\xff".as_slice(),
-    ] {
+    ]
+    .as_slice()
+    {
         let gone = files.read(alloc, name, 5);
         assert!(rt; matches!(&gone, Err(FilesFault::Failed)));
     }
@@ -47,23 +54,31 @@ fn writes_to_streams_of_the_system(rt: HostRuntime) -> Result<(), Fail> {
     Ok(())
 }
 
-// A stream that takes at most three bytes a write, and none past its room. At its last byte it is broken.
+// A stream that takes one byte a write while it has room, and is broken at its last byte.
 #[derive(Drop)]
 struct Narrow<'t> {
-    taken: &'t mut Vec<u8>,
-    room: usize,
-    broken: usize,
+    taken: &'t mut u32,
+    room: u32,
+    broken: u32,
 }
 
 impl<'t> Write for Narrow<'t> {
     fn write(&mut self, bytes: &[u8]) -> io::Result<usize> {
-        let len = self.taken.len();
-        if len == self.broken {
+        if *self.taken == self.broken {
             return Err(io::Error::from(io::ErrorKind::BrokenPipe));
         }
-        let count = self.room.saturating_sub(len).min(bytes.len()).min(3);
-        self.taken.extend_from_slice(&bytes[..count])?;
-        Ok(count)
+        // The next byte is a digit, counted from 1.
+        match bytes.first() {
+            Some(digit) if *self.taken < self.room && *self.taken < 9 => {
+                *self.taken = if u32::from(*digit) == 49 + *self.taken {
+                    *self.taken + 1
+                } else {
+                    99
+                };
+                Ok(1)
+            }
+            _ => Ok(0),
+        }
     }
 
     fn flush(&mut self) -> io::Result<()> {
@@ -80,24 +95,25 @@ fn writes_in_pieces_up_to_a_fault(rt: HostRuntime) -> Result<(), Fail> {
         (6, 9, 6, false),
         (9, 6, 6, false),
         (0, 9, 0, false),
-    ] {
-        let mut bytes = Vec::new(rt.alloc());
+    ]
+    .as_slice()
+    {
+        let mut count = 0;
         let mut sink = StreamSink::new(Narrow {
-            taken: &mut bytes,
-            room,
-            broken,
+            taken: &mut count,
+            room: *room,
+            broken: *broken,
         });
         let result = sink.put(b"1234567");
         drop(sink);
-        assert_eq!(rt; result.is_ok(), whole);
-        assert_eq!(rt; bytes.as_slice(), &b"1234567"[..taken]);
+        assert_eq!(rt; (result.is_ok(), count), (*whole, *taken));
     }
     Ok(())
 }
 
 #[test]
 fn writes_up_to_a_failure_or_the_room(rt: HostRuntime) -> Result<(), Fail> {
-    let fails = vec![in rt.alloc(); (1, 0), (2, 1), (3, 9)]?;
+    let fails = Vec::from_slice(rt.alloc(), [(1, 0), (2, 1), (3, 9)].as_slice())?;
     let mut sink = MemSink::new(rt.alloc(), fails, 8)?;
     // the piece, whether all of it is written by a call that doesn't fail, and all bytes after it
     for (piece, whole, bytes) in [
@@ -109,9 +125,11 @@ fn writes_up_to_a_failure_or_the_room(rt: HostRuntime) -> Result<(), Fail> {
         (b"kl", false, b"abeghijk"),
         (b"", true, b"abeghijk"),
         (b"m", false, b"abeghijk"),
-    ] {
-        assert_eq!(rt; sink.put(piece).is_ok(), whole);
-        assert_eq!(rt; sink.bytes(), bytes);
+    ]
+    .as_slice()
+    {
+        assert_eq!(rt; sink.put(piece).is_ok(), *whole);
+        assert_eq!(rt; sink.bytes(), *bytes);
     }
     Ok(())
 }

@@ -1,7 +1,7 @@
 ghost use Rattle.std.specs.Prelude.{◌≡◌, [], ◌∷◌, IfOk};
 ghost use Rattle.smk_base.specs.declared.value.Kind.TheVariants as kinds;
 
-use smk_base::{CellRef, CmpOp, Dir, Kind, Op1, Operand, Pred, Rel, Row, Value};
+use smk_base::{CellRef, Dir, Item, Items, Kind, Op1, Rel, Row, Value};
 use smk_body::{Local, OpBody};
 use smk_plain::Plain;
 use std::alloc::{AllocError, Global};
@@ -19,13 +19,12 @@ fn one_row(alloc: Global, number: i64) -> Result<Rel, AllocError>
     Ok(rel)
 }
 
-// The rows over 9 of one row, and their lineage.
-fn over_nine<R: Threads + Sync>(
-    rt: &R,
-    alloc: Global,
-    number: i64,
-) -> Result<(Rel, Local), AllocError> {
-    let op = Op1::Select(Pred::Cmp(0, CmpOp::Ge, Operand::Lit(Value::Int(10))));
+// The tens of one row, and their lineage.
+fn tens<R: Threads + Sync>(rt: &R, alloc: Global, number: i64) -> Result<(Rel, Local), AllocError> {
+    let op = Op1::Project(Items::from_vec(Vec::from_slice(
+        alloc,
+        &[Item::Bin { col: 0, width: 10 }],
+    )?));
     let none = Dir {
         back: false,
         fwd: false,
@@ -37,9 +36,9 @@ fn over_nine<R: Threads + Sync>(
 // A run asks the plain body for rows alone, and never for lineage.
 #[test]
 fn the_plain_body_has_no_lineage(rt: HostRuntime) -> Result<(), Fail> {
-    let (made, local) = over_nine(&rt, rt.alloc(), 10)?;
+    let (made, local) = tens(&rt, rt.alloc(), -1)?;
     assert_eq!(rt; (made.len(), made.width()), (1, 1));
-    assert!(rt; matches!(made.cell(0, 0), CellRef::Int(10)));
+    assert!(rt; matches!(made.cell(0, 0), CellRef::Int(-1)));
     assert!(rt; local.left.back.is_none() && local.left.fwd.is_none() && local.right.is_none());
     assert!(rt; !Plain.captures());
     Ok(())

@@ -32,8 +32,8 @@ fn steps_have_their_lists(rt: HostRuntime) -> Result<(), Fail> {
 
 #[test]
 fn steps_in_pieces_have_their_lists(rt: HostRuntime) -> Result<(), Fail> {
-    for workers in [1, 2, 64] {
-        have_their_lists(&rt, rt, &Pieces::new(Inject, &Idle, workers))?;
+    for workers in [1, 2, 64].as_slice() {
+        have_their_lists(&rt, rt, &Pieces::new(Inject, &Idle, *workers))?;
     }
     have_their_lists(&rt, rt, &Pieces::new(Defer, &Idle, 3))
 }

@@ -29,11 +29,11 @@ fn pieces_that_are_numbers_meet(rt: HostRuntime) -> Result<(), Fail> {
     let steps = steps(rt.alloc())?;
     let gate = Meeting::new();
     let body = Counted::new(Gated::new(NoSteps, &gate, 2));
-    for (view, came) in [(0u32, [1u64, 1, 0]), (6, [2, 2, 0])] {
-        assert!(rt; (view as usize) < steps.book.catalog().views.as_slice().len());
-        let made = ran(&rt, rt, &body, &steps, view, &Need::new(rt.alloc()));
+    for (view, came) in [(0u32, [1u64, 1, 0]), (6, [2, 2, 0])].as_slice() {
+        assert!(rt; (*view as usize) < steps.book.catalog().views.as_slice().len());
+        let made = ran(&rt, rt, &body, &steps, *view, &Need::new(rt.alloc()));
         assert!(rt; matches!(made, Err(RunFault::NoMemory)));
-        assert_eq!(rt; gate.came(), came);
+        assert_eq!(rt; gate.came(), *came);
     }
     let calls = Calls {
         one: 1,

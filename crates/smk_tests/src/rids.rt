@@ -1,12 +1,13 @@
-ghost use Rattle.std.specs.Prelude.{◌≤◌, length};
+ghost use Rattle.std.specs.Prelude.{◌≡◌, ◌≤◌, ◌+◌, length, IfOk};
 
-use smk_rid::{RidGrow, RidMap};
+use smk_rid::{RidFault, RidGrow, RidMap};
 use std::alloc::{AllocError, Global};
 use std::test::Fail;
 
 // The array of these numbers; those not below the bound stand for none.
 fn array_of(alloc: Global, of: &[u32], bound: u32) -> Result<RidMap, AllocError>
     requires { length of.now ≤ 1048576 }
+    ensures { IfOk result (λ map. map.bound ≡ bound) }
 {
     let mut rids = Vec::new(alloc);
     for r in of {
@@ -93,5 +94,35 @@ fn lists_grow(rt: HostRuntime) -> Result<(), Fail> {
             Some(rids.as_slice())
         )?
     );
+    Ok(())
+}
+
+// So many zeros, and one number more where there is one.
+fn zeros(alloc: Global, count: u32, more: Option<u32>) -> Result<Vec<u32>, AllocError>
+    ensures { IfOk result (λ made. length made.items ≤ count + 1) }
+{
+    let mut made = Vec::new(alloc);
+    for k in 0..count {
+        made.push(0)?;
+    }
+    if let Some(number) = more {
+        made.push(number)?;
+    }
+    Ok(made)
+}
+
+// 4,096 times the list of 4,096 rids, and once that of one where it is wanted.
+fn composed(alloc: Global, one_more: Option<u32>) -> Result<RidMap, RidFault> {
+    let first = array_of(alloc, zeros(alloc, 4096, one_more)?.as_slice(), 2)?;
+    let second = array_of(alloc, zeros(alloc, 4096, Some(1))?.as_slice(), 2)?;
+    first.compose(alloc, &second.invert(alloc)?)
+}
+
+#[test]
+fn composed_lists_have_so_many_rids(rt: HostRuntime) -> Result<(), Fail> {
+    let most = composed(rt.alloc(), None);
+    assert!(rt; matches!(&most, Ok(map) if map.pairs() == 16_777_216));
+    let more = composed(rt.alloc(), Some(1));
+    assert!(rt; matches!(&more, Err(RidFault::Pairs)));
     Ok(())
 }

@@ -5,8 +5,8 @@ use crate::opened::{Opened, open_book};
 use std::alloc::Global;
 use std::test::Fail;
 
-// No query but the last two is of a table that its view doesn't scan.
-const BOOK: &str = "\
+/// The book.
+pub(crate) const BOOK: &str = "\
 table sales from \"sales.csv\" (id int, region text, amount int)
 table regions from \"regions.csv\" (name text, zone text)
 view by_region = scan sales | group region {n = count, total = sum amount}
@@ -17,7 +17,6 @@ view names = scan sales | project region | union (scan sales | project region)
 view few = scan sales | group region {n = count} | where n < 2
 lineage back by_region to sales by amount
 lineage back by_zone to regions
-lineage fwd regions to by_zone
 lineage back by_zone to sales group region {n = count}
 lineage back big to sales
 lineage fwd sales to big
@@ -25,6 +24,11 @@ lineage back pair to sales
 lineage back names to sales
 link by_region on sales to by_zone, few
 link big on sales to few
+";
+
+// One more direction of a join, and queries of a table that a view doesn't scan.
+const MORE: &str = "\
+lineage fwd regions to by_zone
 lineage back few to regions
 lineage fwd regions to few
 ";
@@ -35,9 +39,10 @@ pub(crate) const SALES: &[u8] = b"id,region,amount\n1,north,10\n2,south,20\n3,no
 /// Each region once.
 pub(crate) const REGIONS: &[u8] = b"name,zone\nnorth,A\nsouth,B\neast,A\n";
 
-/// The book over its tables.
+/// The book with more queries, over its tables.
 pub(crate) fn shop(alloc: Global) -> Result<Opened, Fail> {
-    open_book(alloc, BOOK, [SALES, REGIONS].as_slice())
+    let text = format!(in alloc; "{BOOK}{MORE}")?;
+    open_book(alloc, text.as_str(), [SALES, REGIONS].as_slice())
 }
 
 /// The contents of its views.
