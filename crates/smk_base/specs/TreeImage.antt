@@ -1,6 +1,6 @@
--- Predicates, steps, plans, statements and books as the definitions see them.
+-- Predicates, steps, plans, statements, books and lines as the definitions see them.
 use Rattle.std.specs.Prelude.{List, map}
-use Rattle.smk_base.specs.Trees.{PredImage, CompareNode, AndNode, OrNode, NotNode, TreeImage, ScanNode, StepNode, StepImage, SelectNode, ProjectNode, DistinctNode, GroupNode, JoinNode, ThetaNode, ProductNode, UnionAllNode, UnionNode, StmtImage, TableNode, ViewNode, BackNode, FwdNode, LinkNode}
+use Rattle.smk_base.specs.Trees.{PredImage, CompareNode, AndNode, OrNode, NotNode, TreeImage, ScanNode, StepNode, StepImage, SelectNode, ProjectNode, DistinctNode, GroupNode, JoinNode, ThetaNode, ProductNode, UnionAllNode, UnionNode, StmtImage, TableNode, ViewNode, BackNode, FwdNode, LinkNode, AskStepImage, AskImage, AnyLineImage, PlainLine, AskedLine}
 use Rattle.smk_base.specs.declared.tree.PredTree.{PredTree, And', Or', Not'}
 use Rattle.smk_base.specs.declared.tree.PredTree.TheVariants.{Cmp}
 use Rattle.smk_base.specs.declared.tree.Tree.{Tree, Step'}
@@ -10,6 +10,10 @@ use Rattle.smk_base.specs.declared.tree.StepTree.TheVariants.{Select, Project, D
 use Rattle.smk_base.specs.declared.tree.Stmt.{Stmt}
 use Rattle.smk_base.specs.declared.tree.Stmt.TheVariants.{Table, View, Back, Fwd, Link}
 use Rattle.smk_base.specs.declared.tree.Book.{Book}
+use Rattle.smk_base.specs.declared.tree.AskStep.{AskStep}
+use Rattle.smk_base.specs.declared.tree.AskLine.{AskLine}
+use Rattle.smk_base.specs.declared.tree.AnyLine.{AnyLine}
+use Rattle.smk_base.specs.declared.tree.AnyLine.TheVariants.{Plain, Ask}
 
 abbrev pub pred_image : PredTree → PredImage
 pred_image (Cmp col op term) = CompareNode col op term
@@ -43,3 +47,14 @@ stmt_image (Link view table to) = LinkNode view table to
 -- the statements of a book, in order
 abbrev pub book_image : Book → List StmtImage
 book_image book = map stmt_image book.stmts
+
+abbrev pub ask_step_image : AskStep → AskStepImage
+ask_step_image step = record { at = step.at; what = step_image step.what }
+
+abbrev pub ask_image : AskLine → AskImage
+ask_image asked = record { view = asked.view; marks = asked.marks; table = asked.table; steps = map ask_step_image asked.steps }
+
+-- a line of any kind
+abbrev pub any_image : AnyLine → AnyLineImage
+any_image (Plain line) = PlainLine line
+any_image (Ask asked) = AskedLine (ask_image asked)

@@ -1,4 +1,4 @@
--- Books as they are written, without where they lie in memory: the data that the definitions of the grammar and of the typing are over. Parts that hold no box stand as they are declared.
+-- Books and lines as they are written, without where they lie in memory: the data that the definitions of the grammar and of the typing are over. Parts that hold no box stand as they are declared.
 use Rattle.std.specs.Prelude.{ℕ, List}
 use Rattle.smk_base.specs.declared.plan.CmpOp.{CmpOp}
 use Rattle.smk_base.specs.declared.tree.Word.{Word}
@@ -8,6 +8,8 @@ use Rattle.smk_base.specs.declared.tree.ItemTree.{ItemTree}
 use Rattle.smk_base.specs.declared.tree.AggTree.{AggTree}
 use Rattle.smk_base.specs.declared.tree.PairTree.{PairTree}
 use Rattle.smk_base.specs.declared.tree.Term.{Term}
+use Rattle.smk_base.specs.declared.tree.Marks.{Marks}
+use Rattle.smk_base.specs.declared.tree.Line.{Line}
 
 -- a predicate
 pub data PredImage : Type 0 where
@@ -40,3 +42,20 @@ pub data StmtImage : Type 0 where
   BackNode : ℕ → Word → Word → Extra → StmtImage
   FwdNode : ℕ → Word → Word → StmtImage
   LinkNode : Word → Word → List Word → StmtImage
+
+-- a step of an `ask` line; the number is the place of its keyword
+pub record AskStepImage : Type 0 where
+  pub at : ℕ
+  pub what : StepImage
+
+-- an `ask` line: a view, its marks, a table, and the steps over the rows that these came from
+pub record AskImage : Type 0 where
+  pub view : List ℕ
+  pub marks : Marks
+  pub table : List ℕ
+  pub steps : List AskStepImage
+
+-- a line of any kind
+pub data AnyLineImage : Type 0 where
+  PlainLine : Line → AnyLineImage
+  AskedLine : AskImage → AnyLineImage

@@ -27,6 +27,15 @@ mod type_fault;
 mod value;
 mod value_column;
 
+// Books and lines of scripts as they are written.
+pub use token::{KEYWORDS, TokenKind};
+pub use tree::{
+    AggTree, AggTrees, AggWhat, AnyLine, AskLine, AskStep, AskSteps, Book, Decl, Decls, Extra,
+    ItemTree, ItemTrees, Line, LineSpan, Lit, Marks, PairTree, PairTrees, PredTree, StepTree, Stmt,
+    Stmts, Term, Then, Tree, Word, Words,
+};
+
+// Values, relations, plans, checked books and answers.
 pub use brush::BrushOn;
 pub use catalog::{
     Back, BackExtra, Backs, Catalog, ColNames, Column, Columns, Fwd, Fwds, Kinds, LinkInfo,
@@ -47,13 +56,8 @@ pub use plan::{Agg, Aggs, CmpOp, Dir, Item, Items, Keys, Op1, Op2, Operand, Pair
 pub use read::{read_int, without_mark};
 pub use rel::{ROW_LIMIT, Rel};
 pub use rel_builder::RelBuilder;
-pub use reply::{Linked, Linkeds, Refusal, Reply};
+pub use reply::{AskRefusal, AskReply, Linked, Linkeds, Refusal, Reply};
 pub use size::{Size, Sizes};
-pub use token::{KEYWORDS, TokenKind};
-pub use tree::{
-    AggTree, AggTrees, AggWhat, Book, Decl, Decls, Extra, ItemTree, ItemTrees, Line, LineSpan, Lit,
-    Marks, PairTree, PairTrees, PredTree, StepTree, Stmt, Stmts, Term, Then, Tree, Word, Words,
-};
 pub use type_fault::TypeFault;
 pub use value::{CellRef, Kind, Value};
 pub use value_column::Ints;

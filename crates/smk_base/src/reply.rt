@@ -1,5 +1,7 @@
+use crate::catalog::ColNames;
 use crate::list::{ListOf, Rids};
 use crate::rel::Rel;
+use crate::type_fault::TypeFault;
 
 /// The answer to a line of a script.
 #[derive(Drop)]
@@ -56,4 +58,22 @@ pub enum Refusal {
     RowsLimit { view: u32, node: u32 },
     /// A grouping is asked for more than one mark.
     ManyMarks,
+}
+
+/// The answer to an `ask` line.
+#[derive(Drop)]
+pub enum AskReply {
+    /// The rows that the steps make, and the names of their columns.
+    Rows { names: ColNames, rel: Rel },
+    /// The line is refused.
+    Refused(AskRefusal),
+}
+
+/// Why an `ask` line is refused.
+#[derive(Drop, Clone, Copy)]
+pub enum AskRefusal {
+    /// The `back` line within it is refused.
+    Back(Refusal),
+    /// The steps don't fit the columns of the table; the place is that of the fault.
+    Steps { at: u64, fault: TypeFault },
 }

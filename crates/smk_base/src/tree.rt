@@ -207,6 +207,32 @@ pub enum Line {
     },
 }
 
+/// A step of an `ask` line as it is written, and the place of its keyword.
+#[derive(Drop)]
+pub struct AskStep {
+    pub at: u64,
+    pub what: StepTree,
+}
+
+/// The steps of an `ask` line.
+pub type AskSteps = ListOf<AskStep>;
+
+/// An `ask` line as it is written: steps over the rows of a table that the marks of a view came from.
+#[derive(Drop)]
+pub struct AskLine {
+    pub view: Text,
+    pub marks: Marks,
+    pub table: Text,
+    pub steps: AskSteps,
+}
+
+/// A line of a script of any kind, as it is written.
+#[derive(Drop)]
+pub enum AnyLine {
+    Plain(Line),
+    Ask(AskLine),
+}
+
 /// Where a line of a script lies: its bytes from `start` up to `end`, without its line end. The next line begins at `next`.
 #[derive(Clone, Copy)]
 pub struct LineSpan {
