@@ -6,7 +6,7 @@ use Rattle.smk_base.specs.declared.token.TokenKind.TheVariants as kinds
 use Rattle.smk_base.specs.declared.fault.Many.{Many}
 use Rattle.smk_base.specs.declared.fault.BookFault.TheVariants.{TooMany, BadNumber}
 use Rattle.smk_model.specs.Tokens.{Token, Front, Between, Begins, put, front, tokens_from, tokens, is_more}
-use Rattle.smk_model.specs.Machine.{State, Counts, Tally, Symbol, Move, Takes, Skips, Wrong, Past, Outside, through, settle, next, go_on, or_next, within, fault_at, book_symbols, line_symbols, no_counts, book_fault, line_fault, at_stmts, at_end, AToken, AStmts, AnEnd}
+use Rattle.smk_model.specs.Machine.{State, Counts, Tally, Symbol, Move, Takes, Skips, Wrong, Past, Outside, through, settle, next, go_on, or_next, within, fault_at, fault_in, book_symbols, any_symbols, no_counts, book_fault, any_fault, at_stmts, at_end, AToken, AStmts, AnEnd}
 use Rattle.smk_model.specs.GrammarLaws.{Finishes}
 use Rattle.smk_model.proofs.Leaving.{no_end, no_ends, leaves_none, settles, and_left, and_right}
 use Rattle.smk_model.proofs.Sound.{not_failed, none_is_ok}
@@ -159,8 +159,11 @@ finishes (t ∷ u ∷ ts) (x ∷ ss) c s n h k e = (more_is_no_end t.kind k.0, b
     by (Past w) p q g rec = absurd (not_failed (TooMany t.at w) s g)
     by Outside p q g rec = absurd (not_failed (BadNumber t.at) s g)
 
-pub book_finishes : (text : List ℕ) → book_fault (tokens text) ≡ None → Finishes (tokens text)
-book_finishes text e = let k = none_is_ok (through book_symbols no_counts (tokens text)) e in finishes (tokens text) book_symbols no_counts k.0 refl refl (tokens_close 0 0 text) k.1
+faultless_finish : (ss : List Symbol) → no_ends ss ≡ true → closes ss ≡ true → (text : List ℕ) → fault_in (through ss no_counts (tokens text)) ≡ None → Finishes (tokens text)
+faultless_finish ss n h text e = let k = none_is_ok (through ss no_counts (tokens text)) e in finishes (tokens text) ss no_counts k.0 n h (tokens_close 0 0 text) k.1
 
-pub line_finishes : (text : List ℕ) → line_fault (tokens text) ≡ None → Finishes (tokens text)
-line_finishes text e = let k = none_is_ok (through line_symbols no_counts (tokens text)) e in finishes (tokens text) line_symbols no_counts k.0 refl refl (tokens_close 0 0 text) k.1
+pub book_finishes : (text : List ℕ) → book_fault (tokens text) ≡ None → Finishes (tokens text)
+book_finishes = faultless_finish book_symbols refl refl
+
+pub any_finishes : (text : List ℕ) → any_fault (tokens text) ≡ None → Finishes (tokens text)
+any_finishes = faultless_finish any_symbols refl refl

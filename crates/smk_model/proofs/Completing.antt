@@ -6,8 +6,8 @@ use Rattle.smk_base.specs.declared.token.TokenKind.TheVariants as kinds
 use Rattle.smk_base.specs.declared.fault.BookFault.{BookFault}
 use Rattle.smk_base.specs.declared.fault.BookFault.TheVariants.{TooMany, BadNumber}
 use Rattle.smk_model.specs.Tokens.{Token}
-use Rattle.smk_model.specs.Grammar.{First, plain_word, IsName, name, IsColumn, plain, string, no_more, int_type, no_default, by_itself, width, column_item, count, no_keys, no_aggs, eq, column_term, compared, no_and, no_or, scan, no_step, group_step, union_step, no_extra, fwd_stmt, no_stmt, mark, all_marks, no_then, clear_line, whole_line}
-use Rattle.smk_model.specs.Machine.{State, Counts, Symbol, Move, Takes, Skips, Wrong, Past, Outside, settle, go_on, through, book_symbols, line_symbols, no_counts, AToken, AName, AColumn, ALiteral, AWidth, AType, ADefault, AnAs, AWhat, AKeys, AnAggs, AFirst, AnItem, ALinked, MoreDecls, MoreItems, MoreKeys, MoreAggs, MorePairs, MoreLinked, ASource, ASteps, AStep, AUnited, APrim, AnAnds, AnOrs, AnOn, AnOp, ATerm, AStmts, ALineage, AnExtra, ALine, ALineName, ALineColumn, AMarks, AMark, MoreMarks, AThen, ACleared, AnEnd}
+use Rattle.smk_model.specs.Grammar.{First, plain_word, IsName, name, IsColumn, plain, string, no_more, int_type, no_default, by_itself, width, column_item, count, no_keys, no_aggs, eq, column_term, compared, no_and, no_or, scan, no_step, group_step, union_step, no_extra, fwd_stmt, no_stmt, mark, all_marks, no_then, clear_line, whole_line, ask_step, no_ask_step, plain_line, whole_any_line}
+use Rattle.smk_model.specs.Machine.{State, Counts, Symbol, Move, Takes, Skips, Wrong, Past, Outside, settle, go_on, through, book_symbols, line_symbols, any_symbols, no_counts, AToken, AName, AColumn, ALiteral, AWidth, AType, ADefault, AnAs, AWhat, AKeys, AnAggs, AFirst, AnItem, ALinked, MoreDecls, MoreItems, MoreKeys, MoreAggs, MorePairs, MoreLinked, ASource, ASteps, AStep, AUnited, APrim, AnAnds, AnOrs, AnOn, AnOp, ATerm, AStmts, ALineage, AnExtra, ALine, ALineName, ALineColumn, AMarks, AMark, MoreMarks, AThen, ACleared, AnEnd, AnyLine, AnAskStep, AskSteps}
 use Rattle.smk_model.specs.Machine.{fault_at}
 use Rattle.smk_model.specs.GrammarLaws.{NoEnds, TakenAreCompleted}
 use Rattle.smk_model.proofs.Moves.{IsSymbol, AreSymbols, settled, MovesAll}
@@ -74,6 +74,9 @@ closes MoreMarks b = (b, ([], no_more))
 closes AThen b = (b, (_, no_then))
 closes ACleared b = (b, λ z t g. (_, clear_line g))
 closes AnEnd b = (tok kinds.End [] ∷ b, (tok kinds.End [], b, is_tok kinds.End [] b))
+closes AnyLine b = (tok kinds.Clear [] ∷ b, (_, plain_line (clear_line (is_tok kinds.Clear [] b))))
+closes AnAskStep b = (tok kinds.Group [] ∷ b, (_, ask_step (group_step (is_tok kinds.Group [] b) no_keys no_aggs) tt))
+closes AskSteps b = (b, ([], no_ask_step))
 
 close_all : (ss : List Symbol) → (a : List Token) × (b : List Token) × AreSymbols ss a b
 close_all [] = ([], [], refl)
@@ -109,4 +112,5 @@ pub taken_are_completed : TakenAreCompleted
 taken_are_completed = record {
   book = λ ts s n e f. let r = completes ts book_symbols no_counts s n e f in (r.0, r.2.1.0, r.2.1.1);
   line = λ ts s n e f. let r = completes ts line_symbols no_counts s n e f in (r.0, r.2.1.0, whole_line r.2.1.1 r.2.2.1.2);
+  any = λ ts s n e f. let r = completes ts any_symbols no_counts s n e f in (r.0, r.2.1.0, whole_any_line r.2.1.1 r.2.2.1.2);
 }

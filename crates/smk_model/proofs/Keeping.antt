@@ -1,5 +1,5 @@
--- A book of the grammar without a fault keeps its limits.
-use Rattle.std.specs.Prelude.{Err, Option, Some, None, FitsSigned, pos, neg_ℤ, cond, ◌==◌, ◌&&◌, nat_lt, nat_le, ◌-◌, ◌^◌, length, take, drop, take_while}
+-- A book and an ask line of the grammar without a fault keep their limits.
+use Rattle.std.specs.Prelude.{Err, Option, Some, None, FitsSigned, pos, neg_ℤ, cond, All, ◌==◌, ◌&&◌, nat_lt, nat_le, ◌-◌, ◌^◌, length, take, drop, take_while}
 use Rattle.std.specs.Int.{w64}
 use Rattle.std.specs.Char.{is_ascii_digit}
 use Rattle.std.proofs.Common.{◌≡◌, ℕ, zero, suc, ◌+◌, ◌≤◌, List, [], ◌∷◌, Bool, true, false, ap, ◌∙◌, sym, subst, refl, arith}
@@ -9,13 +9,15 @@ use Rattle.smk_base.specs.declared.token.TokenKind.{TokenKind}
 use Rattle.smk_base.specs.declared.token.TokenKind.TheVariants as kinds
 use Rattle.smk_base.specs.declared.fault.BookFault.{BookFault}
 use Rattle.smk_base.specs.declared.fault.BookFault.TheVariants.{TooMany}
-use Rattle.smk_base.specs.Trees.{StmtImage}
+use Rattle.smk_base.specs.Trees.{StmtImage, AskImage}
 use Rattle.smk_model.specs.Tokens.{Token, Keyword, keywords, kind_in, word_kind, is_gap, is_letter, is_word_byte, no_line_end, is_quoted_byte, number_kind, digits_value, int_value, string_len, Front, Between, Begins, string_front, quoted_front, or_equal, unequal_front, minus_front, number_front, word_front, symbol_front, front, is_more, put, tokens_from, tokens}
-use Rattle.smk_model.specs.Limits.{KeepsLimits}
-use Rattle.smk_model.specs.Machine.{fault_in, book_symbols, no_counts}
-use Rattle.smk_model.specs.GrammarLaws.{FaultlessKeepLimits}
-use Rattle.smk_model.proofs.Reading.{Ranged, Gets, on, over}
-use Rattle.smk_model.proofs.Texts.{Held, stmts_text, no_tally}
+use Rattle.smk_base.specs.declared.tree.Marks.{Marks}
+use Rattle.smk_model.specs.Grammar.{AreMarks, all_marks, listed_marks, listed, IsAskLine, ask_line, asked_line, whole_any_line}
+use Rattle.smk_model.specs.Limits.{KeepsLimits, HasMarks, KeepsAsk}
+use Rattle.smk_model.specs.Machine.{fault_in, book_symbols, any_symbols, no_counts}
+use Rattle.smk_model.specs.GrammarLaws.{FaultlessKeepLimits, FaultlessAsksKeepLimits}
+use Rattle.smk_model.proofs.Reading.{Ranged, Adds, Gets, on, over}
+use Rattle.smk_model.proofs.Texts.{Held, Keeps, stmts_text, no_tally, whole_ask_text}
 
 cases_on : (b : Bool) (P : Bool → Type 0) → (b ≡ true → P true) → (b ≡ false → P false) → P b
 cases_on true P f g = f refl
@@ -146,3 +148,20 @@ faultless_keep_limits text ss h none = let r = stmts_text h no_tally in by r.0 (
     by : (e : List Token) → Gets (Unit {0}) (λ d. Ranged (tokens text) → Held no_tally ss) book_symbols [] no_counts (tokens text) e → KeepsLimits ss
     by e (on d q f) = keeps ss (q (tokens_from_ranged 0 0 text))
     by e (over p at what f) = absurd (not_none (TooMany at what) (ap fault_in (sym f) ∙ none))
+
+marked : {a b : List Token} {m : Marks} → AreMarks a b m → HasMarks m
+marked (all_marks h) = tt
+marked (listed_marks (listed p l)) = λ e. absurd (cc)
+
+asks_some : {a b : List Token} {asked : AskImage} → IsAskLine a b asked → HasMarks asked.marks × (asked.steps ≡ [] → ⊥)
+asks_some (ask_line i j v m k w x s ss) = (marked m, λ e. absurd (cc))
+
+pub faultless_asks_keep_limits : FaultlessAsksKeepLimits
+faultless_asks_keep_limits text asked (whole_any_line {b = b} (asked_line p) h) none = by ((whole_ask_text p h).goes no_counts [])
+  where
+    few : {n m : ℕ} → m + 0 ≡ 0 + n → (0 ≤ 64 → m ≤ 64) → n ≤ 64
+    few e f = let g = f (omega arith) in omega (arith, e, g)
+
+    by : Gets (Unit {0}) (Adds 0 (length asked.steps) (Ranged (tokens text) → All Keeps asked.steps) no_counts) any_symbols [] no_counts (tokens text) b → KeepsAsk asked
+    by (on d q f) = let r = asks_some p in record { marked = r.0; some = r.1; steps = record { few = few q.grows q.few; each = q.fact (tokens_from_ranged 0 0 text) } }
+    by (over o at what f) = absurd (not_none (TooMany at what) (ap fault_in (sym f) ∙ none))

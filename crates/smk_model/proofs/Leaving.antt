@@ -6,7 +6,7 @@ use Rattle.smk_base.specs.declared.token.TokenKind.TheVariants as kinds
 use Rattle.smk_base.specs.declared.fault.Many.{Many}
 use Rattle.smk_model.specs.Tokens.{Token, int_value}
 use Rattle.smk_model.specs.TokenKinds.{same_kind}
-use Rattle.smk_model.specs.Machine.{Counts, Tally, Symbol, Move, Takes, Skips, Wrong, Past, Outside, settle, or_next, within, next, no_counts, is_mark, is_short, at_name, at_column, at_first, at_item, at_literal, at_width, at_type, at_default, at_as, at_what, at_keys, at_aggs, at_linked, at_more, at_source, at_steps, step_symbols, node_move, at_on, at_united, at_prim, at_ands, at_ors, at_op, at_term, at_stmts, at_lineage, at_extra, at_line, at_line_column, at_mark, at_marks, at_then, at_cleared, at_end, AToken, AName, AColumn, ALiteral, AWidth, AType, ADefault, AnAs, AWhat, AKeys, AnAggs, AFirst, AnItem, ALinked, MoreDecls, MoreItems, MoreKeys, MoreAggs, MorePairs, MoreLinked, ASource, ASteps, AStep, AUnited, APrim, AnAnds, AnOrs, AnOn, AnOp, ATerm, AStmts, ALineage, AnExtra, ALine, ALineName, ALineColumn, AMarks, AMark, MoreMarks, AThen, ACleared, AnEnd}
+use Rattle.smk_model.specs.Machine.{Counts, Tally, Symbol, Move, Takes, Skips, Wrong, Past, Outside, settle, or_next, within, next, no_counts, is_mark, is_short, at_name, at_column, at_first, at_item, at_literal, at_width, at_type, at_default, at_as, at_what, at_keys, at_aggs, at_linked, at_more, at_source, at_steps, step_symbols, node_move, at_on, at_united, at_prim, at_ands, at_ors, at_op, at_term, at_stmts, at_lineage, at_extra, at_line, at_line_column, at_mark, at_marks, at_then, at_cleared, at_any_line, ask_symbols, at_ask_steps, at_end, AToken, AName, AColumn, ALiteral, AWidth, AType, ADefault, AnAs, AWhat, AKeys, AnAggs, AFirst, AnItem, ALinked, MoreDecls, MoreItems, MoreKeys, MoreAggs, MorePairs, MoreLinked, ASource, ASteps, AStep, AUnited, APrim, AnAnds, AnOrs, AnOn, AnOp, ATerm, AStmts, ALineage, AnExtra, ALine, ALineName, ALineColumn, AMarks, AMark, MoreMarks, AThen, ACleared, AnEnd, AnyLine, AnAskStep, AskSteps}
 
 abbrev pub no_end : Symbol → Bool
 no_end (AToken kinds.End) = false
@@ -149,6 +149,10 @@ a_step : (c : Counts) (l : Option (List Symbol)) → step_leaves l ≡ true → 
 a_step c (Some l) h = lim (nat_lt c.nodes 64) _ (Takes _ l) h
 a_step c None h = refl
 
+asked_ends : (k : TokenKind) → step_leaves (ask_symbols k) ≡ true
+asked_ends kinds.All = refl
+asked_ends _ = refl
+
 an_on : (c : Counts) (k : TokenKind) → leaves_none (at_on c k) ≡ true
 an_on c kinds.All = refl
 an_on c _ = refl
@@ -183,6 +187,14 @@ some_marks c v _ = refl
 a_cleared : (c : Counts) (k : TokenKind) → leaves_none (at_cleared c k) ≡ true
 a_cleared c kinds.Name = refl
 a_cleared c _ = refl
+
+any_line : (c : Counts) (k : TokenKind) → leaves_none (at_any_line c k) ≡ true
+any_line c kinds.All = refl
+any_line c _ = refl
+
+more_asked : (c : Counts) (k : TokenKind) → leaves_none (at_ask_steps c k) ≡ true
+more_asked c kinds.All = refl
+more_asked c _ = refl
 
 an_end : (k : TokenKind) → leaves_none (at_end k) ≡ true
 an_end kinds.End = refl
@@ -231,6 +243,9 @@ leaves MoreMarks c t = more c _ t.kind refl
 leaves AThen c t = a_then c t.kind
 leaves ACleared c t = a_cleared c t.kind
 leaves AnEnd c t = an_end t.kind
+leaves AnyLine c t = any_line c t.kind
+leaves AnAskStep c t = a_step c (ask_symbols t.kind) (asked_ends t.kind)
+leaves AskSteps c t = more_asked c t.kind
 
 pub and_left : (a b : Bool) → (a && b) ≡ true → a ≡ true
 and_left true b e = refl

@@ -57,3 +57,6 @@ pub mod DemoWithin
 mod DemoReported
 pub mod DemoExamples
 pub mod InOrder
+pub mod Asks
+pub mod Saying
+pub mod AsksFit

@@ -1,6 +1,6 @@
 -- What a faultless list of tokens spells.
-use Rattle.std.specs.Prelude.{Option, Some, None, cond, nat_lt, pos, int_le, int_lt, ◌^◌, ℤ, negsuc}
-use Rattle.std.proofs.Common.{◌≡◌, ℕ, ◌+◌, List, [], ◌∷◌, ◌++◌, Bool, true, false, sym, subst, refl}
+use Rattle.std.specs.Prelude.{Option, Some, None, is_some, cond, nat_lt, pos, int_le, int_lt, ◌^◌, ℤ, negsuc}
+use Rattle.std.proofs.Common.{◌≡◌, ℕ, ◌+◌, List, [], ◌∷◌, ◌++◌, Bool, true, false, ap, ◌∙◌, sym, subst, refl}
 use Rattle.smk_base.specs.declared.token.TokenKind.{TokenKind}
 use Rattle.smk_base.specs.declared.token.TokenKind.TheVariants as kinds
 use Rattle.smk_base.specs.declared.fault.Many.{Many}
@@ -17,13 +17,14 @@ use Rattle.smk_base.specs.declared.tree.Term.{Term}
 use Rattle.smk_base.specs.declared.tree.Marks.{Marks}
 use Rattle.smk_base.specs.declared.tree.Then.{Then}
 use Rattle.smk_base.specs.declared.tree.Line.{Line}
-use Rattle.smk_base.specs.Trees.{PredImage, AndNode, OrNode, TreeImage, StepNode, StepImage, StmtImage}
-use Rattle.smk_model.specs.Tokens.{Token, int_value}
+use Rattle.smk_base.specs.Trees.{PredImage, AndNode, OrNode, TreeImage, StepNode, StepImage, SelectNode, ProjectNode, DistinctNode, GroupNode, JoinNode, ThetaNode, ProductNode, UnionAllNode, UnionNode, StmtImage, AskStepImage, AnyLineImage}
+use Rattle.smk_model.specs.Tokens.{Token, head_of, int_value}
 use Rattle.smk_model.specs.TokenKinds.{same_kind}
-use Rattle.smk_model.specs.Grammar.{First, plain_word, IsName, name, IsColumn, plain, quoted, IsLiteral, number, string, IsFile, file, AreMore, no_more, one_more, listed, IsType, int_type, text_type, IsDefault, no_default, default, IsDecl, decl, IsNamed, by_itself, by_as, IsWidth, width, IsItem, column_item, bin_item, IsWhat, count, sum, min, max, IsAgg, agg, AreKeys, no_keys, keys, AreAggs, no_aggs, aggs, IsPair, pair, IsOp, eq, ne, lt, le, gt, ge, IsTerm, column_term, literal_term, IsPrim, negated, bracketed, compared, conj, AreAnds, no_and, one_and, pred, AreOrs, no_or, one_or, plan, IsSource, scan, inner_plan, AreSteps, no_step, one_step, IsStep, where_step, project_step, distinct_step, group_step, join_step, theta_step, product_step, union_all_step, union_step, IsExtra, no_extra, by_extra, group_extra, IsStmt, table_stmt, view_stmt, back_stmt, fwd_stmt, link_stmt, AreStmts, one_stmt, IsMark, mark, AreMarks, all_marks, listed_marks, IsThen, no_then, where_then, group_then, IsLine, show_line, back_line, fwd_line, brush_line, clear_line, clear_one_line}
+use Rattle.smk_model.specs.Grammar.{First, plain_word, IsName, name, IsColumn, plain, quoted, IsLiteral, number, string, IsFile, file, AreMore, no_more, one_more, listed, IsType, int_type, text_type, IsDefault, no_default, default, IsDecl, decl, IsNamed, by_itself, by_as, IsWidth, width, IsItem, column_item, bin_item, IsWhat, count, sum, min, max, IsAgg, agg, AreKeys, no_keys, keys, AreAggs, no_aggs, aggs, IsPair, pair, IsOp, eq, ne, lt, le, gt, ge, IsTerm, column_term, literal_term, IsPrim, negated, bracketed, compared, conj, AreAnds, no_and, one_and, pred, AreOrs, no_or, one_or, plan, IsSource, scan, inner_plan, AreSteps, no_step, one_step, IsStep, where_step, project_step, distinct_step, group_step, join_step, theta_step, product_step, union_all_step, union_step, IsExtra, no_extra, by_extra, group_extra, IsStmt, table_stmt, view_stmt, back_stmt, fwd_stmt, link_stmt, AreStmts, one_stmt, IsMark, mark, AreMarks, all_marks, listed_marks, IsThen, no_then, where_then, group_then, IsLine, show_line, back_line, fwd_line, brush_line, clear_line, clear_one_line, HasOneInput, IsAskStep, ask_step, AreAskSteps, no_ask_step, one_ask_step, ask_line, IsAnyLine, plain_line, asked_line}
 use Rattle.smk_model.proofs.Alike.{same_is}
 use Rattle.smk_model.proofs.Leaving.{and_left, and_right}
-use Rattle.smk_model.specs.Machine.{Counts, Tally, Symbol, Move, Takes, Skips, Wrong, Past, Outside, settle, or_next, within, next, no_counts, is_mark, is_short, at_name, at_column, at_first, at_item, at_literal, at_width, at_type, at_default, at_as, at_what, at_keys, at_aggs, at_linked, at_more, at_source, at_steps, step_symbols, node_move, at_on, at_united, at_compare, at_prim, at_ands, at_ors, at_op, at_term, at_stmts, at_lineage, at_extra, at_line, at_line_column, at_mark, at_marks, at_then, at_cleared, at_end, at_token, AToken, AName, AColumn, ALiteral, AWidth, AType, ADefault, AnAs, AWhat, AKeys, AnAggs, AFirst, AnItem, ALinked, MoreDecls, MoreItems, MoreKeys, MoreAggs, MorePairs, MoreLinked, ASource, ASteps, AStep, AUnited, APrim, AnAnds, AnOrs, AnOn, AnOp, ATerm, AStmts, ALineage, AnExtra, ALine, ALineName, ALineColumn, AMarks, AMark, MoreMarks, AThen, ACleared, AnEnd}
+use Rattle.smk_model.proofs.Unique.{step_opener, step_opening}
+use Rattle.smk_model.specs.Machine.{Counts, Tally, Symbol, Move, Takes, Skips, Wrong, Past, Outside, settle, or_next, within, next, no_counts, is_mark, is_short, at_name, at_column, at_first, at_item, at_literal, at_width, at_type, at_default, at_as, at_what, at_keys, at_aggs, at_linked, at_more, at_source, at_steps, step_symbols, node_move, at_on, at_united, at_compare, at_prim, at_ands, at_ors, at_op, at_term, at_stmts, at_lineage, at_extra, at_line, at_line_column, at_mark, at_marks, at_then, at_cleared, at_any_line, ask_symbols, at_ask_steps, at_end, at_token, AToken, AName, AColumn, ALiteral, AWidth, AType, ADefault, AnAs, AWhat, AKeys, AnAggs, AFirst, AnItem, ALinked, MoreDecls, MoreItems, MoreKeys, MoreAggs, MorePairs, MoreLinked, ASource, ASteps, AStep, AUnited, APrim, AnAnds, AnOrs, AnOn, AnOp, ATerm, AStmts, ALineage, AnExtra, ALine, ALineName, ALineColumn, AMarks, AMark, MoreMarks, AThen, ACleared, AnEnd, AnyLine, AnAskStep, AskSteps}
 
 -- the tokens from a to b are the symbol
 abbrev pub IsSymbol : Symbol → List Token → List Token → Type 0
@@ -69,6 +70,9 @@ IsSymbol MoreMarks a b = (ms : List ℕ) × AreMore IsMark a b ms
 IsSymbol AThen a b = (x : Then) × IsThen a b x
 IsSymbol ACleared a b = (z : List Token) → (t : Token) → First kinds.Clear t z a → (l : Line) × IsLine z b l
 IsSymbol AnEnd a b = (t : Token) × (c : List Token) × First kinds.End t a c
+IsSymbol AnyLine a b = (l : AnyLineImage) × IsAnyLine a b l
+IsSymbol AnAskStep a b = (s : AskStepImage) × IsAskStep a b s
+IsSymbol AskSteps a b = (ss : List AskStepImage) × AreAskSteps a b ss
 
 -- one after the other
 abbrev pub AreSymbols : List Symbol → List Token → List Token → Type 0
@@ -303,6 +307,57 @@ cleared_moves : (c : Counts) (t : Token) (k : TokenKind) → t.kind ≡ k → Mo
 cleared_moves c t kinds.Name e = λ a b h z u g. let x = ends ALineName h.0 b h.2 in (_, clear_one_line g (name (here t a kinds.Name e)) h.1.1 x.1)
 cleared_moves c t _ e = λ n a z u g. (_, clear_line g)
 
+-- the symbols of a step with one input are those of a step that has one
+pub asked_symbols : (s : StepImage) → HasOneInput s → ask_symbols (step_opener s) ≡ step_symbols 0 (step_opener s)
+asked_symbols (SelectNode p) h = refl
+asked_symbols (ProjectNode xs) h = refl
+asked_symbols (DistinctNode xs) h = refl
+asked_symbols (GroupNode ws xs) h = refl
+asked_symbols (JoinNode x ps) h = absurd h
+asked_symbols (ThetaNode x p) h = absurd h
+asked_symbols (ProductNode x) h = absurd h
+asked_symbols (UnionAllNode x) h = absurd h
+asked_symbols (UnionNode x) h = absurd h
+
+asked_step : (k : TokenKind) (l : List Symbol) → ask_symbols k ≡ Some l → step_symbols 0 k ≡ Some l
+asked_step kinds.Where l e = e
+asked_step kinds.Project l e = e
+asked_step kinds.Distinct l e = e
+asked_step kinds.Group l e = e
+asked_step _ l e = absurd (cc)
+
+asked_has_one : (s : StepImage) → is_some (ask_symbols (step_opener s)) ≡ true → HasOneInput s
+asked_has_one (SelectNode p) e = tt
+asked_has_one (ProjectNode xs) e = tt
+asked_has_one (DistinctNode xs) e = tt
+asked_has_one (GroupNode ws xs) e = tt
+asked_has_one _ e = absurd (cc)
+
+-- a step whose keyword begins one with one input
+pub asked_is : {a b : List Token} {n : ℕ} {s : StepImage} {k : TokenKind} → IsStep a b n s → (head_of a).kind ≡ k → is_some (ask_symbols k) ≡ true → IsAskStep a b (record { at = n; what = s })
+asked_is {s = s} p e o = ask_step p (asked_has_one s (ap (λ k. is_some (ask_symbols k)) (sym (step_opening p) ∙ e) ∙ o))
+
+ask_step_moves : (c : Counts) (t : Token) (l : Option (List Symbol)) → ask_symbols t.kind ≡ l → Moves (node_move c l) AnAskStep t
+ask_step_moves c t (Some l) e = lim (nat_lt c.nodes 64) _ (Takes _ l) AnAskStep t
+    (λ a b h. let r = subst (StepMoves 0 t) (asked_step t.kind l e) (step_is 0 t t.kind refl) a b h in (_, asked_is r.2 refl (ap is_some e)))
+ask_step_moves c t None e = tt
+
+ask_steps_moves : (c : Counts) (t : Token) (k : TokenKind) → t.kind ≡ k → Moves (at_ask_steps c k) AskSteps t
+ask_steps_moves c t kinds.Bar e = λ a b h. (_, one_ask_step (here t a kinds.Bar e) h.1.1 (ends AskSteps h.0 b h.2).1)
+ask_steps_moves c t _ e = λ n a. ([], no_ask_step)
+
+-- a line without steps is a line of any kind
+plain_moves : (m : Move) (t : Token) → Moves m ALine t → Moves m AnyLine t
+plain_moves (Takes d l) t h = λ a b s. let r = h a b s in (_, plain_line r.1)
+plain_moves Skips t h = λ n a. let r = h n a in (_, plain_line r.1)
+plain_moves Wrong t h = tt
+plain_moves (Past w) t h = tt
+plain_moves Outside t h = tt
+
+any_line_moves : (c : Counts) (t : Token) (k : TokenKind) → t.kind ≡ k → Moves (at_any_line c k) AnyLine t
+any_line_moves c t kinds.Ask e = λ a b h. (_, asked_line (ask_line (here t a kinds.Ask e) h.1.1 h.2.1.1 h.2.2.1.1 h.2.2.2.1.1 h.2.2.2.2.1.1 h.2.2.2.2.2.1.1 h.2.2.2.2.2.2.1.1 (ends AskSteps h.2.2.2.2.2.2.0 b h.2.2.2.2.2.2.2).1))
+any_line_moves c t k e = plain_moves (at_line c k) t (line_moves c t k e)
+
 end_moves : (t : Token) (k : TokenKind) → t.kind ≡ k → Moves (at_end k) AnEnd t
 end_moves t kinds.End e = λ n. absurd (n e)
 end_moves t _ e = tt
@@ -367,6 +422,9 @@ moves MoreMarks c t = mores c (AMark ∷ MoreMarks ∷ []) MoreMarks t (λ a b p
 moves AThen c t = then_moves c t t.kind refl
 moves ACleared c t = cleared_moves c t t.kind refl
 moves AnEnd c t = end_moves t t.kind refl
+moves AnyLine c t = any_line_moves c t t.kind refl
+moves AnAskStep c t = ask_step_moves c t (ask_symbols t.kind) refl
+moves AskSteps c t = ask_steps_moves c t t.kind refl
 
 abbrev pub MovesAll : Move → List Symbol → Token → Type 0
 MovesAll (Takes d l) ss t = (a b : List Token) → AreSymbols l a b → AreSymbols ss (t ∷ a) b

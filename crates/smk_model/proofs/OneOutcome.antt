@@ -1,25 +1,23 @@
 -- A run has one outcome, and a script one list of readings.
 use Rattle.std.specs.Prelude.{Option, Some, Result, Ok}
 use Rattle.std.proofs.Common.{◌≡◌, ℕ, List, ap, subst, refl}
-use Rattle.smk_base.specs.CatalogImage.{CatalogImage}
 use Rattle.smk_base.specs.Trees.{StmtImage}
 use Rattle.smk_base.specs.declared.fault.Fault.{Fault}
 use Rattle.smk_model.specs.Readings.{Reading, Asks, IsReading, says_nothing, asks, leaves, AreReadings, no_line, one_line}
 use Rattle.smk_model.specs.Words.{Words}
-use Rattle.smk_model.specs.Outcome.{Held, Parses, spells, misspells, BookSays, unparsed, parsed, FileSays, unread, read, ScriptSays, lines_read, OpensBook, OpensScript, no_script, a_script, Inputs, ReadsFiles, no_book, no_tables, no_readings, inputs, source_of, book_of, script_of, ReadsInputs, unusable, usable, unreadable}
+use Rattle.smk_model.specs.Outcome.{Held, BookSaid, Parses, spells, misspells, BookSays, unparsed, parsed, FileSays, unread, read, ScriptSays, lines_read, OpensBook, OpensScript, no_script, a_script, Inputs, ReadsFiles, no_book, no_tables, no_readings, inputs, source_of, book_of, script_of, ReadsInputs, unusable, usable, unreadable}
 use Rattle.smk_model.specs.OutcomeLaws.{OneReading, OneInputs, OneOutcome}
-use Rattle.smk_model.proofs.Unique.{one_book, one_line as one_asked}
-use Rattle.smk_model.proofs.Texts.{texts_are_read}
+use Rattle.smk_model.proofs.Unique.{one_book, one_any_line}
 
 pub same_reading : {text : List ℕ} {a b : Reading} → IsReading text a → IsReading text b → a ≡ b
 same_reading (says_nothing h) (says_nothing k) = refl
-same_reading (says_nothing h) (asks n w) = absurd (n h)
+same_reading (says_nothing h) (asks n w f) = absurd (n h)
 same_reading (says_nothing h) (leaves n f p) = absurd (n h)
-same_reading (asks n w) (says_nothing k) = absurd (n k)
-same_reading (asks n w) (asks m v) = ap Asks (one_asked _ _ _ w v)
-same_reading (asks n w) (leaves m g q) = let e = texts_are_read.line _ _ w in absurd (cc)
+same_reading (asks n w f) (says_nothing k) = absurd (n k)
+same_reading (asks n w f) (asks m v g) = ap Asks (one_any_line _ _ _ w v)
+same_reading (asks n w f) (leaves m g q) = absurd (cc)
 same_reading (leaves n f p) (says_nothing k) = absurd (n k)
-same_reading (leaves n f p) (asks m v) = let e = texts_are_read.line _ _ v in absurd (cc)
+same_reading (leaves n f p) (asks m v g) = absurd (cc)
 same_reading (leaves n f p) (leaves m g q) = cc
 
 pub same_readings : {texts : List (List ℕ)} {a b : List Reading} → AreReadings texts a → AreReadings texts b → a ≡ b
@@ -35,7 +33,7 @@ same_parse (spells p h) (misspells k) = absurd (cc)
 same_parse (misspells h) (spells q k) = absurd (cc)
 same_parse (misspells h) (misspells k) = cc
 
-same_book : {bytes : List ℕ} {a b : Result CatalogImage Fault} → BookSays bytes a → BookSays bytes b → a ≡ b
+same_book : {bytes : List ℕ} {a b : Result BookSaid Fault} → BookSays bytes a → BookSays bytes b → a ≡ b
 same_book (unparsed p) (unparsed q) = let r = same_parse p q in cc
 same_book (unparsed p) (parsed q k) = let r = same_parse p q in absurd (cc)
 same_book (parsed p h) (unparsed q) = let r = same_parse p q in absurd (cc)
@@ -54,7 +52,7 @@ same_file {A} {held} {name} {says} {a} {b} one (read {bytes} h p) (read {bytes =
     let e : others ≡ bytes = cc in
     one bytes a b p (subst (λ l. says l b) e q)
 
-same_opened : {held : Held} {book : List ℕ} {a b : Result CatalogImage Fault} → OpensBook held book a → OpensBook held book b → a ≡ b
+same_opened : {held : Held} {book : List ℕ} {a b : Result BookSaid Fault} → OpensBook held book a → OpensBook held book b → a ≡ b
 same_opened p q = same_file (λ bytes x y h k. same_book h k) p q
 
 same_read : {held : Held} {s : Option (List ℕ)} {a b : Result (List Reading) Fault} → OpensScript held s a → OpensScript held s b → a ≡ b

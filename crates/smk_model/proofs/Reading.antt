@@ -135,6 +135,18 @@ skipped x c (t ∷ ts) e (s ∷ ss) = ap (λ m. go_on (or_next m (s ∷ ss) (set
 pub passes : {P : Type 0} {m : ℕ} {x : Symbol} {a : List Token} → ((c : Counts) → next c x (head_of a) ≡ Skips) → Goes P m m (Unit {0}) (x ∷ []) a a
 passes {P} {m} {x} {a} h = record { goes = λ c ss. on c (record { grows = refl; few = λ b. b; fact = λ r. tt }) (skipped x c a (h c) ss); left = λ r. r }
 
+-- a symbol that does with the token in hand what another does
+alike : (x y : Symbol) (c : Counts) (a : List Token) → next c y (head_of a) ≡ next c x (head_of a) → (ss : List Symbol) → through (y ∷ ss) c a ≡ through (x ∷ ss) c a
+alike x y c [] e ss = refl
+alike x y c (t ∷ ts) e ss = ap (λ m. go_on (or_next m ss (settle ss c t)) c t ts (λ d l. through l d ts)) e
+
+pub begins_alike : {P : Type 0} {m n : ℕ} {F : Type 0} {x y : Symbol} {a b : List Token} → ((c : Counts) → next c y (head_of a) ≡ next c x (head_of a)) → Goes P m n F (x ∷ []) a b → Goes P m n F (y ∷ []) a b
+begins_alike {P} {m} {n} {F} {x} {y} {a} {b} h g = record { goes = λ c ss. by c ss (g.goes c ss); left = g.left }
+  where
+    by : (c : Counts) (ss : List Symbol) → Gets P (Adds m n (Ranged a → F) c) (x ∷ []) ss c a b → Gets P (Adds m n (Ranged a → F) c) (y ∷ []) ss c a b
+    by c ss (on d q e) = on d q (alike x y c a (h c) ss ∙ e)
+    by c ss (over p at what e) = over p at what (alike x y c a (h c) ss ∙ e)
+
 pub token_text : {P : Type 0} {k : TokenKind} {t : Token} {a b : List Token} → First k t a b → same_kind k k ≡ true → Goes P 0 0 (Unit {0}) (AToken k ∷ []) a b
 token_text h e = opens h (λ c. holds Wrong e (taken c)) nothing
 

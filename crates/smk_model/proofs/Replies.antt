@@ -75,11 +75,11 @@ refused_stay catalog state (lines.ClearOne view table) h =
     next_stays state (all_linked catalog (cleared state p.0 p.1) p.0 p.1) _ (λ views e. absurd (false≢true e))) h
 
 -- the reply of a line that leaves the state as it is
-abbrev reply_to : Asked Reply → Reply
+abbrev pub reply_to : Asked Reply → Reply
 reply_to (Ok told) = told
 reply_to (Err refusal) = replies.Refused refusal
 
-staying_told : (state : State) (asked : Asked Reply) → (or_refused state (staying state asked)).0 ≡ reply_to asked
+pub staying_told : (state : State) (asked : Asked Reply) → (or_refused state (staying state asked)).0 ≡ reply_to asked
 staying_told state (Ok told) = refl
 staying_told state (Err refusal) = refl
 

@@ -37,22 +37,22 @@ use Rattle.smk_model.specs.ReplyLaws.{RepliesFit}
 use Rattle.smk_model.proofs.Finds.{find_placed}
 
 -- what is asked for is good, or the refusal is one that the line can have
-abbrev Fares : {A : Type 0} → (Refusal → Type 0) → (A → Type 0) → Asked A → Type 0
+abbrev pub Fares : {A : Type 0} → (Refusal → Type 0) → (A → Type 0) → Asked A → Type 0
 Fares refusable good (Ok a) = good a
 Fares refusable good (Err refusal) = refusable refusal
 
-next_fares : {A B : Type 0} (refusable : Refusal → Type 0) (good : A → Type 0) (better : B → Type 0) (asked : Asked A) (next : A → Asked B)
+pub next_fares : {A B : Type 0} (refusable : Refusal → Type 0) (good : A → Type 0) (better : B → Type 0) (asked : Asked A) (next : A → Asked B)
     → Fares refusable good asked → ((a : A) → good a → Fares refusable better (next a)) → Fares refusable better (asked >>= next)
 next_fares refusable good better (Ok a) next h k = k a h
 next_fares refusable good better (Err refusal) next h k = h
 
-provided_fares : {A : Type 0} (refusable : Refusal → Type 0) (good : A → Type 0) (holds : Bool) (refusal : Refusal) (asked : Asked A)
+pub provided_fares : {A : Type 0} (refusable : Refusal → Type 0) (good : A → Type 0) (holds : Bool) (refusal : Refusal) (asked : Asked A)
     → refusable refusal → Fares refusable good asked → Fares refusable good (provided holds refusal asked)
 provided_fares refusable good true refusal asked h k = k
 provided_fares refusable good false refusal asked h k = h
 
 -- the places that names have
-abbrev IsPair : CatalogImage → List ℕ → List ℕ → ℕ × ℕ → Type 0
+abbrev pub IsPair : CatalogImage → List ℕ → List ℕ → ℕ × ℕ → Type 0
 IsPair catalog view table p = (view_place catalog view ≡ Some p.0) × (table_place catalog table ≡ Some p.1)
 
 view_fares : (refusable : Refusal → Type 0) (catalog : CatalogImage) (view : List ℕ) → refusable UnknownView
@@ -63,7 +63,7 @@ view_fares refusable catalog view h = by (view_place catalog view) refl
     by (Some v) e = e
     by None e = h
 
-pair_fares : (refusable : Refusal → Type 0) (catalog : CatalogImage) (view table : List ℕ) → refusable UnknownView → refusable UnknownTable
+pub pair_fares : (refusable : Refusal → Type 0) (catalog : CatalogImage) (view table : List ℕ) → refusable UnknownView → refusable UnknownTable
     → Fares refusable (IsPair catalog view table) (known_pair catalog view table)
 pair_fares refusable catalog view table h k = next_fares refusable (λ v. view_place catalog view ≡ Some v) (IsPair catalog view table) (known_view catalog view) _ (view_fares refusable catalog view h) (λ v e. by v e (table_place catalog table) refl)
   where
@@ -72,7 +72,7 @@ pair_fares refusable catalog view table h k = next_fares refusable (λ v. view_p
     by v e (Some t) f = (e, f)
     by v e None f = k
 
-outside_fares : {A : Type 0} (refusable : Refusal → Type 0) (good : A → Type 0) (marks : Marks) (n : ℕ) (asked : Asked A)
+pub outside_fares : {A : Type 0} (refusable : Refusal → Type 0) (good : A → Type 0) (marks : Marks) (n : ℕ) (asked : Asked A)
     → ((row rows : ℕ) → refusable (NoRow row rows)) → Fares refusable good asked → Fares refusable good (unless_outside marks n asked)
 outside_fares {A} refusable good marks n asked h k = by (first_outside (written marks) n)
   where
@@ -84,7 +84,7 @@ outside_fares {A} refusable good marks n asked h k = by (first_outside (written 
 view_found : (catalog : CatalogImage) (name : List ℕ) (v : ℕ) → view_place catalog name ≡ Some v → view_named catalog name ≡ Some (view_at catalog v)
 view_found catalog name v h = find_placed (λ view. same_name view.name name) catalog.views v no_view h
 
-table_found : (catalog : CatalogImage) (name : List ℕ) (t : ℕ) → table_place catalog name ≡ Some t → table_named catalog name ≡ Some (info_at catalog.tables t)
+pub table_found : (catalog : CatalogImage) (name : List ℕ) (t : ℕ) → table_place catalog name ≡ Some t → table_named catalog name ≡ Some (info_at catalog.tables t)
 table_found catalog name t h = find_placed (λ table. same_name table.name name) catalog.tables t no_table h
 
 -- a table has a name for each kind

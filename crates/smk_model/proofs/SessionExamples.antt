@@ -14,4 +14,5 @@ sessions = record {
   first_cleared_is = refl;
   none_in_both_is = refl;
   parts_are = refl;
+  asks_are = refl;
 }

@@ -1,7 +1,6 @@
 -- Every run has an outcome, and every script a list of readings.
 use Rattle.std.specs.Prelude.{Option, Some, None, Result, Ok, Err}
 use Rattle.std.proofs.Common.{◌≡◌, ℕ, List, [], ◌∷◌, refl}
-use Rattle.smk_base.specs.CatalogImage.{CatalogImage}
 use Rattle.smk_base.specs.Marks.{after_marks}
 use Rattle.smk_base.specs.Trees.{StmtImage}
 use Rattle.smk_base.specs.declared.token.TokenKind.{TokenKind}
@@ -11,27 +10,26 @@ use Rattle.smk_base.specs.declared.fault.Fault.TheVariants.{Book}
 use Rattle.smk_base.specs.declared.fault.BookFault.{BookFault}
 use Rattle.smk_model.specs.Values.{Row}
 use Rattle.smk_model.specs.Tokens.{tokens, head_of}
-use Rattle.smk_model.specs.Machine.{book_fault, line_fault}
+use Rattle.smk_model.specs.Machine.{book_fault, any_fault}
 use Rattle.smk_model.specs.Lines.{lines, place_of}
-use Rattle.smk_model.specs.Typing.{types}
 use Rattle.smk_model.specs.Readings.{Reading, Nothing, Asks, Unread, IsReading, says_nothing, asks, leaves, AreReadings, no_line, one_line}
 use Rattle.smk_model.specs.Reports.{Report}
 use Rattle.smk_model.specs.Words.{Words, words_of}
-use Rattle.smk_model.specs.Outcome.{Held, Parses, spells, misspells, BookSays, unparsed, parsed, FileSays, unread, read, ScriptSays, lines_read, OpensBook, OpensScript, no_script, a_script, Inputs, ReadsFiles, no_book, no_tables, no_readings, inputs, source_of, book_of, script_of, ReadsInputs, unusable, usable, Outcome, unreadable, content_of, load_all, or_type_fault, reported}
+use Rattle.smk_model.specs.Outcome.{Held, BookSaid, Parses, spells, misspells, BookSays, unparsed, parsed, FileSays, unread, read, ScriptSays, lines_read, OpensBook, OpensScript, no_script, a_script, Inputs, ReadsFiles, no_book, no_tables, no_readings, inputs, source_of, book_of, script_of, ReadsInputs, unusable, usable, Outcome, unreadable, content_of, load_all, statements_say, reported}
 use Rattle.smk_model.specs.OutcomeLaws.{FaultlessTextsSpell, SomeReading, SomeOutcome}
 use Rattle.smk_model.proofs.Sound.{faultless_have_trees}
-use Rattle.smk_model.proofs.Closing.{book_finishes, line_finishes}
+use Rattle.smk_model.proofs.Closing.{book_finishes, any_finishes}
 
 pub faultless_texts_spell : FaultlessTextsSpell
 faultless_texts_spell text e = faultless_have_trees.book (tokens text) (book_finishes text e) e
 
 some_line : (text : List ℕ) → (reading : Reading) × IsReading text reading
-some_line text = by (head_of (tokens text)).kind refl (line_fault (tokens text)) refl
+some_line text = by (head_of (tokens text)).kind refl (any_fault (tokens text)) refl
   where
-    by : (k : TokenKind) → (head_of (tokens text)).kind ≡ k → (f : Option BookFault) → line_fault (tokens text) ≡ f → (reading : Reading) × IsReading text reading
+    by : (k : TokenKind) → (head_of (tokens text)).kind ≡ k → (f : Option BookFault) → any_fault (tokens text) ≡ f → (reading : Reading) × IsReading text reading
     by kinds.End q f e = (Nothing, says_nothing q)
     by _ q (Some f) e = (Unread (place_of f), leaves (λ h. absurd (cc)) e refl)
-    by _ q None e = let r = faultless_have_trees.line (tokens text) (line_finishes text e) e in (Asks r.0, asks (λ h. absurd (cc)) r.1)
+    by _ q None e = let r = faultless_have_trees.any (tokens text) (any_finishes text e) e in (Asks r.0, asks (λ h. absurd (cc)) r.1 e)
 
 some_lines : (texts : List (List ℕ)) → (readings : List Reading) × AreReadings texts readings
 some_lines [] = ([], no_line)
@@ -47,11 +45,11 @@ some_parse text = by (book_fault (tokens text)) refl
     by (Some f) e = (Err (Book f), misspells e)
     by None e = let r = faultless_texts_spell text e in (Ok r.0, spells r.1 e)
 
-some_book : (bytes : List ℕ) → (answer : Result CatalogImage Fault) × BookSays bytes answer
+some_book : (bytes : List ℕ) → (answer : Result BookSaid Fault) × BookSays bytes answer
 some_book bytes = let r = some_parse (after_marks bytes) in by r.0 r.1
   where
-    by : (a : Result (List StmtImage) Fault) → Parses (after_marks bytes) a → (answer : Result CatalogImage Fault) × BookSays bytes answer
-    by (Ok stmts) p = (or_type_fault (types stmts), parsed p refl)
+    by : (a : Result (List StmtImage) Fault) → Parses (after_marks bytes) a → (answer : Result BookSaid Fault) × BookSays bytes answer
+    by (Ok stmts) p = (statements_say stmts, parsed p refl)
     by (Err fault) p = (Err fault, unparsed p)
 
 -- a file says something, where all bytes do
@@ -69,18 +67,18 @@ some_script held (Some name) = let r = some_file held name ScriptSays (λ bytes.
 some_files : (held : Held) (book : List ℕ) (script : Option (List ℕ)) → (answer : Result Inputs Fault) × ReadsFiles held book script answer
 some_files held book script = let r = some_file held book BookSays some_book in opened r.0 r.1
   where
-    scripted : (catalog : CatalogImage) (tables : List (List Row)) → OpensBook held book (Ok catalog) → load_all held catalog.tables ≡ Ok tables
+    scripted : (said : BookSaid) (tables : List (List Row)) → OpensBook held book (Ok said) → load_all held said.catalog.tables ≡ Ok tables
         → (s : Result (List Reading) Fault) → OpensScript held script s → (answer : Result Inputs Fault) × ReadsFiles held book script answer
-    scripted catalog tables b t (Ok readings) p = (_, inputs b t p)
-    scripted catalog tables b t (Err fault) p = (_, no_readings b t p)
+    scripted said tables b t (Ok readings) p = (_, inputs b t p)
+    scripted said tables b t (Err fault) p = (_, no_readings b t p)
 
-    loaded : (catalog : CatalogImage) → OpensBook held book (Ok catalog)
-        → (t : Result (List (List Row)) Fault) → load_all held catalog.tables ≡ t → (answer : Result Inputs Fault) × ReadsFiles held book script answer
-    loaded catalog b (Ok tables) e = let r = some_script held script in scripted catalog tables b e r.0 r.1
-    loaded catalog b (Err fault) e = (_, no_tables b e)
+    loaded : (said : BookSaid) → OpensBook held book (Ok said)
+        → (t : Result (List (List Row)) Fault) → load_all held said.catalog.tables ≡ t → (answer : Result Inputs Fault) × ReadsFiles held book script answer
+    loaded said b (Ok tables) e = let r = some_script held script in scripted said tables b e r.0 r.1
+    loaded said b (Err fault) e = (_, no_tables b e)
 
-    opened : (b : Result CatalogImage Fault) → OpensBook held book b → (answer : Result Inputs Fault) × ReadsFiles held book script answer
-    opened (Ok catalog) p = loaded catalog p (load_all held catalog.tables) refl
+    opened : (b : Result BookSaid Fault) → OpensBook held book b → (answer : Result Inputs Fault) × ReadsFiles held book script answer
+    opened (Ok said) p = loaded said p (load_all held said.catalog.tables) refl
     opened (Err fault) p = (_, no_book p)
 
 some_inputs : (words : List (List ℕ)) (held : Held) → (answer : Result Inputs Fault) × ReadsInputs words held answer

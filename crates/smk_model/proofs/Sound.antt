@@ -1,15 +1,15 @@
 -- A list of tokens without a fault has a tree.
-use Rattle.std.specs.Prelude.{Result, Ok, Err, None}
+use Rattle.std.specs.Prelude.{Result, Ok, Err, None, ◌&&◌}
 use Rattle.std.proofs.Common.{◌≡◌, true, List, [], ◌∷◌, ap, ◌∙◌, sym, subst, refl}
 use Rattle.smk_base.specs.declared.token.TokenKind.{TokenKind}
 use Rattle.smk_base.specs.declared.token.TokenKind.TheVariants as kinds
 use Rattle.smk_base.specs.declared.fault.BookFault.{BookFault}
 use Rattle.smk_base.specs.declared.fault.BookFault.TheVariants.{TooMany, BadNumber}
 use Rattle.smk_base.specs.declared.tree.Line.{Line}
-use Rattle.smk_base.specs.Trees.{StmtImage}
+use Rattle.smk_base.specs.Trees.{StmtImage, AnyLineImage}
 use Rattle.smk_model.specs.Tokens.{Token}
-use Rattle.smk_model.specs.Grammar.{AreStmts, no_stmt, no_default, by_itself, no_keys, no_aggs, no_more, no_step, no_and, no_or, no_extra, no_then, clear_line, IsWholeLine, whole_line}
-use Rattle.smk_model.specs.Machine.{State, Counts, Symbol, Move, Takes, Skips, Wrong, Past, Outside, through, settle, next, go_on, or_next, fault_in, fault_at, book_symbols, line_symbols, no_counts, book_fault, line_fault, ADefault, AnAs, AKeys, AnAggs, MoreDecls, MoreItems, MoreKeys, MoreAggs, MorePairs, MoreLinked, ASteps, AnAnds, AnOrs, AStmts, AnExtra, MoreMarks, AThen, ACleared, AnEnd, AToken}
+use Rattle.smk_model.specs.Grammar.{AreStmts, no_stmt, no_default, by_itself, no_keys, no_aggs, no_more, no_step, no_and, no_or, no_extra, no_then, clear_line, IsWholeLine, whole_line, no_ask_step, IsWholeAnyLine, whole_any_line}
+use Rattle.smk_model.specs.Machine.{State, Counts, Symbol, Move, Takes, Skips, Wrong, Past, Outside, through, settle, next, go_on, or_next, fault_in, fault_at, book_symbols, no_counts, book_fault, line_fault, any_fault, ADefault, AnAs, AKeys, AnAggs, MoreDecls, MoreItems, MoreKeys, MoreAggs, MorePairs, MoreLinked, ASteps, AnAnds, AnOrs, AStmts, AnExtra, ALine, MoreMarks, AThen, ACleared, AnEnd, AnyLine, AskSteps, AToken}
 use Rattle.smk_model.specs.GrammarLaws.{Finishes, FaultlessHaveTrees}
 use Rattle.smk_model.proofs.Leaving.{no_end, no_ends, leaves_none, settles, and_left, and_right}
 use Rattle.smk_model.proofs.Moves.{IsSymbol, AreSymbols, settled, MovesAll}
@@ -52,6 +52,7 @@ at_end MoreMarks c t h = ([], no_more)
 at_end AThen c t h = (_, no_then)
 at_end ACleared c t h = λ z u g. (_, clear_line g)
 at_end AnEnd c t h = (the_end t, [], record { is_kind = refl; is_first = refl })
+at_end AskSteps c t h = ([], no_ask_step)
 at_end (AToken k) c t h = token_at_end k c t h
 at_end _ c t h = tt
 
@@ -104,8 +105,15 @@ none_is_ok (Err f) e = absurd (cc)
 book : (ts : List Token) → Finishes ts → book_fault ts ≡ None → (ss : List StmtImage) × AreStmts ts ss
 book ts f e = let k = none_is_ok (through book_symbols no_counts ts) e in let r = sound ts book_symbols no_counts k.0 refl f k.1 in (r.1.1.0, r.1.1.1)
 
+-- a symbol, up to the end
+to_end : (x : Symbol) (ts : List Token) → no_end x ≡ true → Finishes ts → fault_in (through (x ∷ AnEnd ∷ []) no_counts ts) ≡ None → (b : List Token) × IsSymbol x ts b × IsSymbol AnEnd b b
+to_end x ts n f e = let k = none_is_ok (through (x ∷ AnEnd ∷ []) no_counts ts) e in let r = sound ts (x ∷ AnEnd ∷ []) no_counts k.0 (ap (λ o. o && true) n) f k.1 in (r.1.0, r.1.1, r.1.2.1)
+
 line : (ts : List Token) → Finishes ts → line_fault ts ≡ None → (l : Line) × IsWholeLine ts l
-line ts f e = let k = none_is_ok (through line_symbols no_counts ts) e in let r = sound ts line_symbols no_counts k.0 refl f k.1 in (r.1.1.0, whole_line r.1.1.1 r.1.2.1.2)
+line ts f e = let r = to_end ALine ts refl f e in (r.1.0, whole_line r.1.1 r.2.2)
+
+any : (ts : List Token) → Finishes ts → any_fault ts ≡ None → (l : AnyLineImage) × IsWholeAnyLine ts l
+any ts f e = let r = to_end AnyLine ts refl f e in (r.1.0, whole_any_line r.1.1 r.2.2)
 
 pub faultless_have_trees : FaultlessHaveTrees
-faultless_have_trees = record { book = book; line = line }
+faultless_have_trees = record { book = book; line = line; any = any }

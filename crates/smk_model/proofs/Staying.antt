@@ -1,12 +1,12 @@
 -- A fault stays the fault whatever follows.
 use Rattle.std.specs.Prelude.{Ok, Err, Option, Some}
-use Rattle.std.proofs.Common.{◌≡◌, List, [], ◌∷◌, ◌++◌, ap, ◌∙◌, subst, refl}
+use Rattle.std.proofs.Common.{◌≡◌, List, [], ◌∷◌, ◌++◌, ap, ◌∙◌, sym, subst, refl}
 use Rattle.smk_base.specs.declared.token.TokenKind.{TokenKind}
 use Rattle.smk_base.specs.declared.token.TokenKind.TheVariants as kinds
 use Rattle.smk_base.specs.declared.fault.BookFault.{BookFault}
 use Rattle.smk_base.specs.declared.fault.BookFault.TheVariants.{TooMany, BadNumber}
 use Rattle.smk_model.specs.Tokens.{Token}
-use Rattle.smk_model.specs.Machine.{State, Counts, Symbol, Move, Takes, Skips, Wrong, Past, Outside, through, settle, go_on, fault_at, fault_in, book_symbols, line_symbols, no_counts}
+use Rattle.smk_model.specs.Machine.{State, Counts, Symbol, Move, Takes, Skips, Wrong, Past, Outside, through, settle, go_on, fault_at, fault_in, book_symbols, line_symbols, any_symbols, no_counts, book_fault, line_fault, any_fault}
 use Rattle.smk_model.specs.GrammarLaws.{IsAt, Stays, FaultsStay}
 
 no_fault : (s : State) (f : BookFault) → fault_in (Ok s) ≡ Some f → ⊥
@@ -55,8 +55,15 @@ stay (t ∷ ts) (s ∷ ss) c f e = by (settle (s ∷ ss) c t) refl e (λ l d g. 
     by (Past what) q g rec = here s ss c t ts f (TooMany t.at what) (Past what) q (λ us. refl) refl (the_fault (TooMany t.at what) f g)
     by Outside q g rec = here s ss c t ts f (BadNumber t.at) Outside q (λ us. refl) refl (the_fault (BadNumber t.at) f g)
 
-pub faults_stay : FaultsStay
-faults_stay = record {
-  book = λ ts f e. let r = stay ts book_symbols no_counts f e in record { before = r.before; faulty = r.faulty; behind = r.behind; are = r.are; place = r.place; stays = r.stays };
-  line = λ ts f e. let r = stay ts line_symbols no_counts f e in record { before = r.before; faulty = r.faulty; behind = r.behind; are = r.are; place = r.place; stays = r.stays };
+of : (ss : List Symbol) (fault_of : List Token → Option BookFault) → ((ts : List Token) → fault_of ts ≡ Of ss no_counts ts) → (ts : List Token) (f : BookFault) → fault_of ts ≡ Some f → Stays fault_of ts f
+of ss fault_of is ts f e = let r = stay ts ss no_counts f (sym (is ts) ∙ e) in record {
+  before = r.before;
+  faulty = r.faulty;
+  behind = r.behind;
+  are = r.are;
+  place = r.place;
+  stays = λ us. is (r.before ++ r.faulty ∷ us) ∙ r.stays us;
 }
+
+pub faults_stay : FaultsStay
+faults_stay = record { book = of book_symbols book_fault (λ ts. refl); line = of line_symbols line_fault (λ ts. refl); any = of any_symbols any_fault (λ ts. refl) }

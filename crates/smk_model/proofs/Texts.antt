@@ -20,14 +20,16 @@ use Rattle.smk_base.specs.declared.tree.Term.{Term}
 use Rattle.smk_base.specs.declared.tree.Marks.{Marks}
 use Rattle.smk_base.specs.declared.tree.Then.{Then}
 use Rattle.smk_base.specs.declared.tree.Line.{Line}
-use Rattle.smk_base.specs.Trees.{PredImage, TreeImage, StepImage, StmtImage, TableNode, ViewNode}
+use Rattle.smk_base.specs.declared.tree.Line.TheVariants as lines
+use Rattle.smk_base.specs.Trees.{PredImage, TreeImage, StepImage, SelectNode, ProjectNode, DistinctNode, GroupNode, JoinNode, ThetaNode, ProductNode, UnionAllNode, UnionNode, StmtImage, TableNode, ViewNode, AskStepImage, AskImage, AnyLineImage}
 use Rattle.smk_model.specs.Tokens.{Token, head_of, int_value}
-use Rattle.smk_model.specs.Grammar.{First, IsName, name, IsColumn, number, string, IsFile, file, listed, IsType, int_type, text_type, IsDefault, no_default, default, IsDecl, decl, IsNamed, by_itself, by_as, IsWidth, width, IsItem, column_item, bin_item, IsWhat, count, sum, min, max, IsAgg, agg, AreKeys, no_keys, keys, AreAggs, no_aggs, aggs, IsPair, pair, IsOp, eq, ne, lt, le, gt, ge, IsTerm, column_term, literal_term, IsPrim, negated, bracketed, compared, IsConj, conj, AreAnds, no_and, one_and, IsPred, pred, AreOrs, no_or, one_or, IsPlan, plan, IsSource, scan, inner_plan, AreSteps, no_step, one_step, IsStep, where_step, project_step, distinct_step, group_step, join_step, theta_step, product_step, union_all_step, union_step, IsExtra, no_extra, by_extra, group_extra, table_stmt, view_stmt, back_stmt, fwd_stmt, link_stmt, AreStmts, no_stmt, one_stmt, IsMark, mark, AreMarks, all_marks, listed_marks, IsThen, no_then, where_then, group_then, IsLine, show_line, back_line, fwd_line, brush_line, clear_line, clear_one_line, IsWholeLine, whole_line}
-use Rattle.smk_model.specs.Machine.{Counts, Tally, Symbol, Skips, Outside, fault_in, book_symbols, line_symbols, no_counts, book_fault, line_fault, is_mark, is_short, at_more, at_default, at_as, at_keys, at_aggs, at_ands, at_ors, at_steps, at_extra, at_then, at_cleared, at_stmts, at_end, AToken, AName, AColumn, AWidth, AType, ADefault, AnAs, AWhat, AKeys, AnAggs, AFirst, AnItem, ALinked, MoreDecls, MoreItems, MoreKeys, MoreAggs, MorePairs, MoreLinked, ASource, ASteps, AStep, AUnited, APrim, AnAnds, AnOrs, AnOn, AnOp, ATerm, AStmts, AnExtra, ALine, ALineName, ALineColumn, AMarks, AMark, MoreMarks, AThen}
-use Rattle.smk_model.specs.Limits.{Divides, KeepsItems, KeepsTree, KeepsStep, nodes, nodes_of_step, DefaultInRange, KeepsDecls, KeepsPlan, KeepsStmt, is_table, is_view}
+use Rattle.smk_model.specs.Grammar.{First, IsName, name, IsColumn, number, string, IsFile, file, listed, IsType, int_type, text_type, IsDefault, no_default, default, IsDecl, decl, IsNamed, by_itself, by_as, IsWidth, width, IsItem, column_item, bin_item, IsWhat, count, sum, min, max, IsAgg, agg, AreKeys, no_keys, keys, AreAggs, no_aggs, aggs, IsPair, pair, IsOp, eq, ne, lt, le, gt, ge, IsTerm, column_term, literal_term, IsPrim, negated, bracketed, compared, IsConj, conj, AreAnds, no_and, one_and, IsPred, pred, AreOrs, no_or, one_or, IsPlan, plan, IsSource, scan, inner_plan, AreSteps, no_step, one_step, IsStep, where_step, project_step, distinct_step, group_step, join_step, theta_step, product_step, union_all_step, union_step, IsExtra, no_extra, by_extra, group_extra, table_stmt, view_stmt, back_stmt, fwd_stmt, link_stmt, AreStmts, no_stmt, one_stmt, IsMark, mark, AreMarks, all_marks, listed_marks, IsThen, no_then, where_then, group_then, IsLine, show_line, back_line, fwd_line, brush_line, clear_line, clear_one_line, IsWholeLine, whole_line, HasOneInput, IsAskStep, ask_step, AreAskSteps, no_ask_step, one_ask_step, IsAskLine, ask_line, plain_line, asked_line, IsWholeAnyLine, whole_any_line}
+use Rattle.smk_model.specs.Machine.{Counts, Tally, Symbol, Skips, Outside, through, fault_in, book_symbols, any_symbols, no_counts, book_fault, line_fault, any_fault, is_mark, is_short, at_more, at_default, at_as, at_keys, at_aggs, at_ands, at_ors, at_steps, at_extra, at_then, at_cleared, at_line, at_any_line, step_symbols, ask_symbols, node_move, at_ask_steps, at_stmts, at_end, AToken, AName, AColumn, AWidth, AType, ADefault, AnAs, AWhat, AKeys, AnAggs, AFirst, AnItem, ALinked, MoreDecls, MoreItems, MoreKeys, MoreAggs, MorePairs, MoreLinked, ASource, ASteps, AStep, AUnited, APrim, AnAnds, AnOrs, AnOn, AnOp, ATerm, AStmts, AnExtra, ALine, ALineName, ALineColumn, AMarks, AMark, MoreMarks, AThen, AnEnd, AnyLine, AnAskStep, AskSteps}
+use Rattle.smk_model.specs.Limits.{Divides, KeepsItems, KeepsTree, KeepsStep, nodes, nodes_of_step, DefaultInRange, KeepsDecls, KeepsPlan, KeepsStmt, KeepsAskStep, is_table, is_view}
 use Rattle.smk_model.specs.GrammarLaws.{AtMostTooMany, TextsAreRead}
-use Rattle.smk_model.proofs.Unique.{rank, rank_of, ranked, aggs_rank, ors_rank, steps_rank, stmts_rank}
-use Rattle.smk_model.proofs.Reading.{Ranged, Adds, Goes, Gets, on, over, nothing, told, untold, chain, then_goes, both, ahead, taken, known, checked, limited, one_node, holds, of_kind, opens, opens_with, node_opens, passes, token_text, literal_text, column_opens, Places, Lists, more_text, listed_text, Ends, ends_told, then_ends, opens_ends, ends_pass}
+use Rattle.smk_model.proofs.Unique.{rank, rank_of, ranked, aggs_rank, ors_rank, steps_rank, stmts_rank, ask_steps_rank, step_opening, opener, opening}
+use Rattle.smk_model.proofs.Moves.{asked_symbols}
+use Rattle.smk_model.proofs.Reading.{Ranged, Adds, Goes, Gets, on, over, nothing, told, untold, chain, then_goes, both, ahead, taken, known, checked, limited, one_node, holds, of_kind, opens, opens_with, node_opens, passes, begins_alike, token_text, literal_text, column_opens, Places, Lists, more_text, listed_text, Ends, ends_told, then_ends, opens_ends, ends_pass}
 
 abbrev Reads : List Symbol → List Token → List Token → Type 0
 Reads l a b = Goes (Unit {0}) 0 0 (Unit {0}) l a b
@@ -40,7 +42,7 @@ Knows F l a b = Goes (Unit {0}) 0 0 F l a b
 abbrev Counting : ℕ → ℕ → Type 0 → List Symbol → List Token → List Token → Type 0
 Counting m n F l a b = Goes (Unit {0}) m n F l a b
 
--- in a line nothing is counted, and there is nothing of which there may be too many
+-- where there is nothing of which there may be too many
 abbrev Spells : List Symbol → List Token → List Token → Type 0
 Spells l a b = Goes ⊥ 0 0 (Unit {0}) l a b
 
@@ -330,8 +332,8 @@ book a ss h = let r = stmts_text h no_tally in by r.0 ((r.1 no_counts).goes [])
     by e (on d q f) = subst AtMostTooMany (sym (ap fault_in f)) tt
     by e (over p at what f) = subst AtMostTooMany (sym (ap fault_in f)) tt
 
--- in a line there is nothing of which there may be too many
-line_name : {a b : List Token} {w : Word} → IsName a b w → Spells (ALineName ∷ []) a b
+-- the names and marks of a line: of them there are never too many
+line_name : {P : Type 0} {a b : List Token} {w : Word} → IsName a b w → Goes P 0 0 (Unit {0}) (ALineName ∷ []) a b
 line_name (name h) = opens h (λ c. taken c) nothing
 
 line_column : {a b : List Token} {w : Word} → IsColumn a b w → Spells (ALineColumn ∷ []) a b
@@ -346,13 +348,13 @@ mark_holds v m e f = ap is_mark e ∙ ap (λ o. int_le (pos 0) (pos m) && o) bel
     above : (n : ℕ) → (int_le (pos 0) (pos n) && true) ≡ true
     above n = ap (λ o. o && true) (le-leb 0 n (omega arith))
 
-some_marks : Lists ⊥ (λ k x. Unit {0}) IsMark (λ k. MoreMarks) (λ k. AMark ∷ [])
-some_marks = record { comma = λ c k t. taken c; stops = λ c k t h. more_skips c _ t.kind h; each = each }
+some_marks : {P : Type 0} → Lists P (λ k x. Unit {0}) IsMark (λ k. MoreMarks) (λ k. AMark ∷ [])
+some_marks {P} = record { comma = λ c k t. taken c; stops = λ c k t h. more_skips c _ t.kind h; each = each }
   where
-    each : (k : ℕ) (a b : List Token) (x : ℕ) → IsMark a b x → 1 ≤ rank_of b → Spells (AMark ∷ []) a b
+    each : (k : ℕ) (a b : List Token) (x : ℕ) → IsMark a b x → 1 ≤ rank_of b → Goes P 0 0 (Unit {0}) (AMark ∷ []) a b
     each k a b x (mark {t = t} h e f) n = opens h (λ c. holds Outside (mark_holds (int_value t.text) x e f) (taken c)) nothing
 
-marks_text : {a b : List Token} {m : Marks} → AreMarks a b m → 2 ≤ rank_of b → Spells (AMarks ∷ []) a b
+marks_text : {P : Type 0} {a b : List Token} {m : Marks} → AreMarks a b m → 2 ≤ rank_of b → Goes P 0 0 (Unit {0}) (AMarks ∷ []) a b
 marks_text (all_marks h) n = opens h (λ c. taken c) nothing
 marks_text (listed_marks (listed (mark {t = t} {m = m} h e f) l)) n = opens h (λ c. holds Outside (mark_holds (int_value t.text) m e f) (taken c)) (untold (more_text some_marks 1 l n))
 
@@ -369,15 +371,85 @@ line_text (brush_line h w m i z) n = opens h (λ c. taken c) (then_goes (line_na
 line_text {b = b} (clear_line h) n = opens h (λ c. taken c) (passes (λ c. cleared_skips c (head_of b).kind (omega (arith, n))))
 line_text (clear_one_line h (name w) i z) n = opens h (λ c. taken c) (opens w (λ c. taken c) (then_goes (token_text i refl) (line_name z)))
 
-whole_text : {a : List Token} {l : Line} → IsWholeLine a l → (e : List Token) × Spells line_symbols a e
-whole_text (whole_line {b = b} p h) = (b, then_goes (line_text p (omega (arith, ranked h))) (passes (λ c. ap at_end (end_here h))))
+-- a symbol up to the end, where there is nothing of which there may be too many
+faultless : {x : Symbol} {a b c : List Token} {t : Token} → Spells (x ∷ []) a b → First kinds.End t b c → fault_in (through (x ∷ AnEnd ∷ []) no_counts a) ≡ None
+faultless {x} {a} {b} s h = by ((then_goes s (passes (λ c. ap at_end (end_here h)))).goes no_counts [])
+  where
+    by : Gets ⊥ (Adds 0 0 (Ranged a → Unit {0}) no_counts) (x ∷ AnEnd ∷ []) [] no_counts a b → fault_in (through (x ∷ AnEnd ∷ []) no_counts a) ≡ None
+    by (on d q f) = ap fault_in f
+    by (over p at what f) = absurd p
 
 line : (a : List Token) (l : Line) → IsWholeLine a l → line_fault a ≡ None
-line a l h = let r = whole_text h in by r.0 (r.1.goes no_counts [])
+line a l (whole_line p h) = faultless (line_text p (omega (arith, ranked h))) h
+
+-- a line without steps begins as a line of any kind does
+plain_at : (c : Counts) (l : Line) → at_any_line c (opener l) ≡ at_line c (opener l)
+plain_at c (lines.Show view) = refl
+plain_at c (lines.Back view marks table then) = refl
+plain_at c (lines.Fwd table rows view) = refl
+plain_at c (lines.Brush view marks table) = refl
+plain_at c lines.Clear = refl
+plain_at c (lines.ClearOne view table) = refl
+
+plain : (a : List Token) (l : Line) → IsWholeLine a l → any_fault a ≡ None
+plain a l (whole_line p h) = faultless (begins_alike (λ c. ap (at_any_line c) (opening p) ∙ plain_at c l ∙ sym (ap (at_line c) (opening p))) (line_text p (omega (arith, ranked h)))) h
+
+ask_steps_skips : (c : Counts) (k : TokenKind) → 7 ≤ rank k → at_ask_steps c k ≡ Skips
+ask_steps_skips c kinds.Bar h = absurd (omega (arith, h))
+ask_steps_skips c _ h = refl
+
+one_step_of : (s : StepImage) → HasOneInput s → nodes_of_step s ≡ 1
+one_step_of (SelectNode p) h = refl
+one_step_of (ProjectNode xs) h = refl
+one_step_of (DistinctNode xs) h = refl
+one_step_of (GroupNode ws xs) h = refl
+one_step_of (JoinNode x ps) h = absurd h
+one_step_of (ThetaNode x p) h = absurd h
+one_step_of (ProductNode x) h = absurd h
+one_step_of (UnionAllNode x) h = absurd h
+one_step_of (UnionNode x) h = absurd h
+
+-- a step of an ask line keeps its limits
+abbrev pub Keeps : AskStepImage → Type 0
+Keeps step = KeepsAskStep step.what
+
+kept_step : (s : StepImage) → HasOneInput s → KeepsStep s → KeepsAskStep s
+kept_step (SelectNode p) h k = tt
+kept_step (ProjectNode xs) h k = k
+kept_step (DistinctNode xs) h k = k
+kept_step (GroupNode ws xs) h k = tt
+kept_step (JoinNode x ps) h k = absurd h
+kept_step (ThetaNode x p) h k = absurd h
+kept_step (ProductNode x) h k = absurd h
+kept_step (UnionAllNode x) h k = absurd h
+kept_step (UnionNode x) h k = absurd h
+
+ask_step_text : {a b : List Token} {s : AskStepImage} → IsAskStep a b s → 6 ≤ rank_of b → Counting 0 1 (Keeps s) (AnAskStep ∷ []) a b
+ask_step_text {a} {b} (ask_step {n = m} {s = s} p i) n = told (λ r k. kept_step s i k) (subst (λ x. Counting 0 x (KeepsStep s) (AnAskStep ∷ []) a b) (one_step_of s i) (begins_alike (λ c. ap (node_move c) asked) (step_text p n 0)))
   where
-    by : (e : List Token) → Gets ⊥ (Adds 0 0 (Ranged a → Unit {0}) no_counts) line_symbols [] no_counts a e → line_fault a ≡ None
-    by e (on d q f) = ap fault_in f
-    by e (over p at what f) = absurd p
+    asked : ask_symbols (head_of a).kind ≡ step_symbols 0 (head_of a).kind
+    asked = ap ask_symbols (step_opening p) ∙ asked_symbols s i ∙ sym (ap (step_symbols 0) (step_opening p))
+
+some_steps : {a b e : List Token} {s : AskStepImage} (ss : List AskStepImage) → Counting 0 1 (Keeps s) (AnAskStep ∷ []) a b → Counting 0 (length ss) (All Keeps ss) (AskSteps ∷ []) b e → Counting 0 (length (s ∷ ss)) (All Keeps (s ∷ ss)) (AnAskStep ∷ AskSteps ∷ []) a e
+some_steps {s = s} ss g h = chain (omega arith) (λ f g. All-cons Keeps s ss f g) g h
+
+ask_steps_text : {a b : List Token} {ss : List AskStepImage} → AreAskSteps a b ss → 7 ≤ rank_of b → Counting 0 (length ss) (All Keeps ss) (AskSteps ∷ []) a b
+ask_steps_text {a} no_ask_step n = told (λ r u. All-nil Keeps) (passes (λ c. ask_steps_skips c (head_of a).kind n))
+ask_steps_text (one_ask_step h p l) n = opens h (λ c. taken c) (some_steps _ (ask_step_text p (ask_steps_rank l n)) (ask_steps_text l n))
+
+ask_text : {a b : List Token} {l : AskImage} → IsAskLine a b l → 7 ≤ rank_of b → Counting 0 (length l.steps) (All Keeps l.steps) (AnyLine ∷ []) a b
+ask_text (ask_line h i v m j w k p l) n = opens h (λ c. taken c) (then_goes (token_text i refl) (then_goes (line_name v) (then_goes (marks_text m (omega (arith, ranked j))) (then_goes (token_text j refl) (then_goes (line_name w) (then_goes (token_text k refl) (some_steps _ (ask_step_text p (ask_steps_rank l n)) (ask_steps_text l n))))))))
+
+pub whole_ask_text : {a b c : List Token} {t : Token} {l : AskImage} → IsAskLine a b l → First kinds.End t b c → Counting 0 (length l.steps) (All Keeps l.steps) any_symbols a b
+whole_ask_text p h = ahead (ask_text p (omega (arith, ranked h))) (passes (λ c. ap at_end (end_here h)))
+
+any : (a : List Token) (l : AnyLineImage) → IsWholeAnyLine a l → AtMostTooMany (any_fault a)
+any a l (whole_any_line (plain_line p) h) = subst AtMostTooMany (sym (plain a _ (whole_line p h))) tt
+any a _ (whole_any_line {b = b} (asked_line {l = l} p) h) = by ((whole_ask_text p h).goes no_counts [])
+  where
+    by : Gets (Unit {0}) (Adds 0 (length l.steps) (Ranged a → All Keeps l.steps) no_counts) any_symbols [] no_counts a b → AtMostTooMany (any_fault a)
+    by (on d q f) = subst AtMostTooMany (sym (ap fault_in f)) tt
+    by (over p at what f) = subst AtMostTooMany (sym (ap fault_in f)) tt
 
 pub texts_are_read : TextsAreRead
-texts_are_read = record { book = book; line = line }
+texts_are_read = record { book = book; line = line; any = any; plain = plain }

@@ -20,9 +20,9 @@ use Rattle.smk_base.specs.declared.tree.Marks.TheVariants as markings
 use Rattle.smk_base.specs.declared.tree.Then.{Then}
 use Rattle.smk_base.specs.declared.tree.Line.{Line}
 use Rattle.smk_base.specs.declared.tree.Line.TheVariants as lines
-use Rattle.smk_base.specs.Trees.{PredImage, NotNode, TreeImage, ScanNode, StepImage, SelectNode, ProjectNode, DistinctNode, GroupNode, JoinNode, ThetaNode, ProductNode, UnionAllNode, UnionNode, StmtImage, TableNode, ViewNode, BackNode, FwdNode, LinkNode}
+use Rattle.smk_base.specs.Trees.{PredImage, NotNode, TreeImage, ScanNode, StepImage, SelectNode, ProjectNode, DistinctNode, GroupNode, JoinNode, ThetaNode, ProductNode, UnionAllNode, UnionNode, StmtImage, TableNode, ViewNode, BackNode, FwdNode, LinkNode, AskStepImage, AskImage, AnyLineImage, PlainLine, AskedLine}
 use Rattle.smk_model.specs.Tokens.{Token, head_of, tail_of, int_value, string_value}
-use Rattle.smk_model.specs.Grammar.{First, plain_word, quoted_word, IsName, name, IsColumn, plain, quoted, IsLiteral, number, string, IsFile, file, AreMore, no_more, one_more, AreListed, listed, IsType, int_type, text_type, IsDefault, no_default, default, IsDecl, decl, IsNamed, by_itself, by_as, IsWidth, width, IsItem, column_item, bin_item, IsWhat, count, sum, min, max, IsAgg, agg, AreKeys, no_keys, keys, AreAggs, no_aggs, aggs, IsPair, pair, IsOp, eq, ne, lt, le, gt, ge, IsTerm, column_term, literal_term, IsPrim, negated, bracketed, compared, IsConj, conj, AreAnds, no_and, one_and, IsPred, pred, AreOrs, no_or, one_or, IsPlan, plan, IsSource, scan, inner_plan, AreSteps, no_step, one_step, IsStep, where_step, project_step, distinct_step, group_step, join_step, theta_step, product_step, union_all_step, union_step, IsExtra, no_extra, by_extra, group_extra, IsStmt, table_stmt, view_stmt, back_stmt, fwd_stmt, link_stmt, AreStmts, no_stmt, one_stmt, IsMark, mark, AreMarks, all_marks, listed_marks, IsThen, no_then, where_then, group_then, IsLine, show_line, back_line, fwd_line, brush_line, clear_line, clear_one_line, IsWholeLine, whole_line}
+use Rattle.smk_model.specs.Grammar.{First, plain_word, quoted_word, IsName, name, IsColumn, plain, quoted, IsLiteral, number, string, IsFile, file, AreMore, no_more, one_more, AreListed, listed, IsType, int_type, text_type, IsDefault, no_default, default, IsDecl, decl, IsNamed, by_itself, by_as, IsWidth, width, IsItem, column_item, bin_item, IsWhat, count, sum, min, max, IsAgg, agg, AreKeys, no_keys, keys, AreAggs, no_aggs, aggs, IsPair, pair, IsOp, eq, ne, lt, le, gt, ge, IsTerm, column_term, literal_term, IsPrim, negated, bracketed, compared, IsConj, conj, AreAnds, no_and, one_and, IsPred, pred, AreOrs, no_or, one_or, IsPlan, plan, IsSource, scan, inner_plan, AreSteps, no_step, one_step, IsStep, where_step, project_step, distinct_step, group_step, join_step, theta_step, product_step, union_all_step, union_step, IsExtra, no_extra, by_extra, group_extra, IsStmt, table_stmt, view_stmt, back_stmt, fwd_stmt, link_stmt, AreStmts, no_stmt, one_stmt, IsMark, mark, AreMarks, all_marks, listed_marks, IsThen, no_then, where_then, group_then, IsLine, show_line, back_line, fwd_line, brush_line, clear_line, clear_one_line, IsWholeLine, whole_line, IsAskStep, ask_step, AreAskSteps, no_ask_step, one_ask_step, IsAskLine, ask_line, IsAnyLine, plain_line, asked_line, IsWholeAnyLine, whole_any_line}
 
 -- how strongly a token continues what stands before it
 abbrev pub rank : TokenKind → ℕ
@@ -281,7 +281,7 @@ source_rank (scan h p) e k = let r = same_at e h k in absurd (cc)
 source_rank (inner_plan h p i) e k = let r = same_at e h k in absurd (cc)
 
 -- the keyword that begins a step
-abbrev step_opener : StepImage → TokenKind
+abbrev pub step_opener : StepImage → TokenKind
 step_opener (SelectNode test) = kinds.Where
 step_opener (ProjectNode items) = kinds.Project
 step_opener (DistinctNode items) = kinds.Distinct
@@ -292,7 +292,7 @@ step_opener (ProductNode source) = kinds.Product
 step_opener (UnionAllNode source) = kinds.Union
 step_opener (UnionNode source) = kinds.Union
 
-step_opening : {a b : List Token} {o : ℕ} {x : StepImage} → IsStep a b o x → (head_of a).kind ≡ step_opener x
+pub step_opening : {a b : List Token} {o : ℕ} {x : StepImage} → IsStep a b o x → (head_of a).kind ≡ step_opener x
 step_opening (where_step h p) = first_kind h
 step_opening (project_step h l) = first_kind h
 step_opening (distinct_step h l) = first_kind h
@@ -420,7 +420,7 @@ one_then e (group_then h0) (where_then k0 k1 k2 k3) n m = let r = same_at e h0 k
 one_then e (group_then h0) (group_then k0) n m = (refl, (same_at e h0 k0).2)
 
 -- the keyword that begins a line
-abbrev opener : Line → TokenKind
+abbrev pub opener : Line → TokenKind
 opener (lines.Show view) = kinds.Show
 opener (lines.Back view marks table then) = kinds.Back
 opener (lines.Fwd table rows view) = kinds.Fwd
@@ -428,7 +428,7 @@ opener (lines.Brush view marks table) = kinds.Brush
 opener lines.Clear = kinds.Clear
 opener (lines.ClearOne view table) = kinds.Clear
 
-opening : {a b : List Token} {x : Line} → IsLine a b x → (head_of a).kind ≡ opener x
+pub opening : {a b : List Token} {x : Line} → IsLine a b x → (head_of a).kind ≡ opener x
 opening (show_line h w) = first_kind h
 opening (back_line h w m i z x) = first_kind h
 opening (fwd_line h w m i z) = first_kind h
@@ -452,3 +452,46 @@ one_line_at e p q n m = let r = same_opener e p q in absurd (cc)
 
 pub one_line : (a : List Token) (l u : Line) → IsWholeLine a l → IsWholeLine a u → l ≡ u
 one_line a l u (whole_line p h) (whole_line q k) = (one_line_at refl p q (omega (arith, ranked h)) (omega (arith, ranked k))).0
+
+one_ask_step_at : {a a' b c : List Token} {x y : AskStepImage} → a ≡ a' → IsAskStep a b x → IsAskStep a' c y → 6 ≤ rank_of b → 6 ≤ rank_of c → (x ≡ y) × (b ≡ c)
+one_ask_step_at e (ask_step p i) (ask_step q l) n m = let r = the_step e p q n m in (cc, r.2)
+
+pub ask_steps_rank : {a b : List Token} {ss : List AskStepImage} → AreAskSteps a b ss → 7 ≤ rank_of b → 6 ≤ rank_of a
+ask_steps_rank no_ask_step h = omega (arith, h)
+ask_steps_rank (one_ask_step k p i) h = omega (arith, ranked k)
+
+ask_steps_at : {a a' b c : List Token} {ss us : List AskStepImage} → a ≡ a' → AreAskSteps a b ss → AreAskSteps a' c us → 7 ≤ rank_of b → 7 ≤ rank_of c → (ss ≡ us) × (b ≡ c)
+ask_steps_at e no_ask_step no_ask_step n m = (refl, e)
+ask_steps_at e no_ask_step (one_ask_step k q l) n m = absurd (omega (arith, same_rank e, ranked k, n))
+ask_steps_at e (one_ask_step h p i) no_ask_step n m = absurd (omega (arith, same_rank e, ranked h, m))
+ask_steps_at e (one_ask_step h p i) (one_ask_step k q l) n m =
+    let r = same_at e h k in
+    let s = one_ask_step_at r.2 p q (ask_steps_rank i n) (ask_steps_rank l m) in
+    let u = ask_steps_at s.1 i l n m in
+    (cc, u.1)
+
+ask_line_at : {a a' b c : List Token} {x y : AskImage} → a ≡ a' → IsAskLine a b x → IsAskLine a' c y → 7 ≤ rank_of b → 7 ≤ rank_of c → (x ≡ y) × (b ≡ c)
+ask_line_at e (ask_line h0 h1 h2 h3 h4 h5 h6 h7 h8) (ask_line k0 k1 k2 k3 k4 k5 k6 k7 k8) n m =
+    let r0 = same_at e h0 k0 in let r1 = same_at r0.2 h1 k1 in let r2 = one_name r1.2 h2 k2 in let r3 = one_marks r2.1 h3 k3 (omega (arith, ranked h4)) (omega (arith, ranked k4)) in
+    let r4 = same_at r3.1 h4 k4 in let r5 = one_name r4.2 h5 k5 in let r6 = same_at r5.1 h6 k6 in let r7 = one_ask_step_at r6.2 h7 k7 (ask_steps_rank h8 n) (ask_steps_rank k8 m) in
+    let r8 = ask_steps_at r7.1 h8 k8 n m in (cc, r8.1)
+
+not_asked : {a a' b c : List Token} {l : Line} {x : AskImage} → a ≡ a' → IsLine a b l → IsAskLine a' c x → ⊥
+not_asked {l = l} e p (ask_line k k1 k2 k3 k4 k5 k6 k7 k8) = opens_none l (sym (opening p) ∙ ap (λ l. (head_of l).kind) e ∙ first_kind k)
+  where
+    opens_none : (l : Line) → opener l ≡ kinds.Ask → ⊥
+    opens_none (lines.Show view) f = absurd (cc)
+    opens_none (lines.Back view marks table then) f = absurd (cc)
+    opens_none (lines.Fwd table rows view) f = absurd (cc)
+    opens_none (lines.Brush view marks table) f = absurd (cc)
+    opens_none lines.Clear f = absurd (cc)
+    opens_none (lines.ClearOne view table) f = absurd (cc)
+
+any_line_at : {a a' b c : List Token} {x y : AnyLineImage} → a ≡ a' → IsAnyLine a b x → IsAnyLine a' c y → 8 ≤ rank_of b → 8 ≤ rank_of c → x ≡ y
+any_line_at e (plain_line p) (plain_line q) n m = ap PlainLine (one_line_at e p q n m).0
+any_line_at e (plain_line p) (asked_line q) n m = absurd (not_asked e p q)
+any_line_at e (asked_line p) (plain_line q) n m = absurd (not_asked (sym e) q p)
+any_line_at e (asked_line p) (asked_line q) n m = ap AskedLine (ask_line_at e p q (omega (arith, n)) (omega (arith, m))).0
+
+pub one_any_line : (a : List Token) (l u : AnyLineImage) → IsWholeAnyLine a l → IsWholeAnyLine a u → l ≡ u
+one_any_line a l u (whole_any_line p h) (whole_any_line q k) = any_line_at refl p q (omega (arith, ranked h)) (omega (arith, ranked k))

@@ -9,6 +9,7 @@ use Rattle.smk_base.specs.declared.plan.Item.TheVariants.{Bin}
 use Rattle.smk_base.specs.declared.plan.Agg.TheVariants.{Count, Sum, Max}
 use Rattle.smk_base.specs.declared.catalog.TableInfo.{TableInfo}
 use Rattle.smk_base.specs.declared.catalog.BackExtra.TheVariants as extras
+use Rattle.smk_base.specs.declared.tree.Line.{Line}
 use Rattle.smk_base.specs.declared.tree.Line.TheVariants as lines
 use Rattle.smk_base.specs.declared.tree.Marks.TheVariants as markings
 use Rattle.smk_base.specs.declared.tree.Then.TheVariants as thens
@@ -16,7 +17,7 @@ use Rattle.smk_base.specs.Places.{upto}
 use Rattle.smk_base.specs.Plans.{Comparison, Selection, Projection, Grouping, Equijoin, Leaf, Apply, Combine}
 use Rattle.smk_base.specs.CatalogImage.{CatalogImage, ViewImage}
 use Rattle.smk_model.specs.Values.{Row}
-use Rattle.smk_model.specs.Readings.{Reading, Asks}
+use Rattle.smk_model.specs.Readings.{Reading, plain_reading}
 use Rattle.smk_model.specs.Session.{Workbook}
 use Rattle.smk_model.specs.SessionExamples.{int_column, text_column}
 use Rattle.smk_model.specs.Demo.{two_digits}
@@ -110,15 +111,18 @@ demo_catalog = record {
 abbrev pub demo_workbook : ℕ → Workbook
 demo_workbook n = record { catalog = demo_catalog; tables = flight_rows n ∷ airport_rows ∷ [] }
 
--- the readings of the script's lines
-abbrev pub demo_readings : List Reading
-demo_readings =
-    Asks (lines.Back (codes "by_carrier") (markings.Listed (0 ∷ [])) (codes "flights") (thens.Matching (codes "hour") (values.Int (pos 5))))
-    ∷ Asks (lines.Back (codes "by_hour") (markings.Listed (0 ∷ [])) (codes "flights") thens.Grouped)
-    ∷ Asks (lines.Fwd (codes "airports") (markings.Listed (0 ∷ 1 ∷ [])) (codes "by_state"))
-    ∷ Asks (lines.Brush (codes "by_carrier") (markings.Listed (0 ∷ [])) (codes "flights"))
-    ∷ Asks (lines.Show (codes "by_hour"))
-    ∷ Asks (lines.Brush (codes "by_delay") markings.All (codes "flights"))
-    ∷ Asks lines.Clear
-    ∷ Asks (lines.Back (codes "late") (markings.Listed (0 ∷ [])) (codes "airports") thens.Plain)
+-- the script's lines, and their readings
+abbrev pub demo_lines : List Line
+demo_lines =
+    lines.Back (codes "by_carrier") (markings.Listed (0 ∷ [])) (codes "flights") (thens.Matching (codes "hour") (values.Int (pos 5)))
+    ∷ lines.Back (codes "by_hour") (markings.Listed (0 ∷ [])) (codes "flights") thens.Grouped
+    ∷ lines.Fwd (codes "airports") (markings.Listed (0 ∷ 1 ∷ [])) (codes "by_state")
+    ∷ lines.Brush (codes "by_carrier") (markings.Listed (0 ∷ [])) (codes "flights")
+    ∷ lines.Show (codes "by_hour")
+    ∷ lines.Brush (codes "by_delay") markings.All (codes "flights")
+    ∷ lines.Clear
+    ∷ lines.Back (codes "late") (markings.Listed (0 ∷ [])) (codes "airports") thens.Plain
     ∷ []
+
+abbrev pub demo_readings : List Reading
+demo_readings = map plain_reading demo_lines

@@ -9,7 +9,7 @@ use Rattle.smk_model.specs.Lines.{lines}
 use Rattle.smk_model.specs.Typing.{types}
 use Rattle.smk_model.specs.Readings.{AreReadingsOf}
 use Rattle.smk_model.specs.Opening.{first_view_fault}
-use Rattle.smk_model.specs.Machine.{book_fault, line_fault}
+use Rattle.smk_model.specs.Machine.{book_fault, any_fault}
 use Rattle.smk_model.specs.Outcome.{file_limit, Held, Parses, load_all, Outcome}
 use Rattle.smk_model.specs.Reports.{report_of}
 use Rattle.smk_model.specs.Words.{Demo, words_of}
@@ -44,7 +44,7 @@ DemosAreRows = (n : ℕ) → n ≤ 200000 → AreRows n
 -- the book and each line of the script are in the grammar, within its limits
 pub record AreFaultless (n : ℕ) : Type 0 where
   pub book : book_fault (tokens (after_marks (demo_of n).book)) ≡ None
-  pub script : map (λ text. line_fault (tokens text)) (lines (after_marks (demo_of n).script)) ≡ map (λ _. None) (lines (after_marks (demo_of n).script))
+  pub script : map (λ text. any_fault (tokens text)) (lines (after_marks (demo_of n).script)) ≡ map (λ _. None) (lines (after_marks (demo_of n).script))
 
 abbrev pub DemosAreFaultless : Type 0
 DemosAreFaultless = (n : ℕ) → AreFaultless n

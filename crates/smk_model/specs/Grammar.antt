@@ -24,7 +24,7 @@ use Rattle.smk_base.specs.declared.tree.Then.{Then}
 use Rattle.smk_base.specs.declared.tree.Then.TheVariants as thens
 use Rattle.smk_base.specs.declared.tree.Line.{Line}
 use Rattle.smk_base.specs.declared.tree.Line.TheVariants as lines
-use Rattle.smk_base.specs.Trees.{PredImage, CompareNode, AndNode, OrNode, NotNode, TreeImage, ScanNode, StepNode, StepImage, SelectNode, ProjectNode, DistinctNode, GroupNode, JoinNode, ThetaNode, ProductNode, UnionAllNode, UnionNode, StmtImage, TableNode, ViewNode, BackNode, FwdNode, LinkNode}
+use Rattle.smk_base.specs.Trees.{PredImage, CompareNode, AndNode, OrNode, NotNode, TreeImage, ScanNode, StepNode, StepImage, SelectNode, ProjectNode, DistinctNode, GroupNode, JoinNode, ThetaNode, ProductNode, UnionAllNode, UnionNode, StmtImage, TableNode, ViewNode, BackNode, FwdNode, LinkNode, AskStepImage, AskImage, AnyLineImage, PlainLine, AskedLine}
 use Rattle.smk_model.specs.Tokens.{Token, inner, int_value, string_value}
 
 -- a is this token of this kind, and then b
@@ -222,3 +222,38 @@ pub data IsLine : List Token → List Token → Line → Type 0 where
 -- a line, up to the end
 pub data IsWholeLine : List Token → Line → Type 0 where
   whole_line : {a b c : List Token} {t : Token} {l : Line} → IsLine a b l → First kinds.End t b c → IsWholeLine a l
+
+-- a step with one input
+abbrev pub HasOneInput : StepImage → Type 0
+HasOneInput (SelectNode p) = Unit {0}
+HasOneInput (ProjectNode xs) = Unit {0}
+HasOneInput (DistinctNode xs) = Unit {0}
+HasOneInput (GroupNode ws xs) = Unit {0}
+HasOneInput (JoinNode x ps) = ⊥
+HasOneInput (ThetaNode x p) = ⊥
+HasOneInput (ProductNode x) = ⊥
+HasOneInput (UnionAllNode x) = ⊥
+HasOneInput (UnionNode x) = ⊥
+
+-- ask_step, a step with one input
+pub data IsAskStep : List Token → List Token → AskStepImage → Type 0 where
+  ask_step : {a b : List Token} {n : ℕ} {s : StepImage} → IsStep a b n s → HasOneInput s → IsAskStep a b (record { at = n; what = s })
+
+-- ( "|" ask_step )*
+pub data AreAskSteps : List Token → List Token → List AskStepImage → Type 0 where
+  no_ask_step : {a : List Token} → AreAskSteps a a []
+  one_ask_step : {a b c d : List Token} {t : Token} {s : AskStepImage} {ss : List AskStepImage} → First kinds.Bar t a b → IsAskStep b c s → AreAskSteps c d ss → AreAskSteps a d (s ∷ ss)
+
+-- "ask" "back" NAME marks "to" NAME ( "|" ask_step )+
+pub data IsAskLine : List Token → List Token → AskImage → Type 0 where
+  ask_line : {a b c d e f g h i j : List Token} {t u v x : Token} {w z : Word} {m : Marks} {s : AskStepImage} {ss : List AskStepImage} → First kinds.Ask t a b → First kinds.Back u b c → IsName c d w → AreMarks d e m → First kinds.To v e f → IsName f g z
+      → First kinds.Bar x g h → IsAskStep h i s → AreAskSteps i j ss → IsAskLine a j (record { view = w.name; marks = m; table = z.name; steps = s ∷ ss })
+
+-- a line of any kind
+pub data IsAnyLine : List Token → List Token → AnyLineImage → Type 0 where
+  plain_line : {a b : List Token} {l : Line} → IsLine a b l → IsAnyLine a b (PlainLine l)
+  asked_line : {a b : List Token} {l : AskImage} → IsAskLine a b l → IsAnyLine a b (AskedLine l)
+
+-- a line of any kind, up to the end
+pub data IsWholeAnyLine : List Token → AnyLineImage → Type 0 where
+  whole_any_line : {a b c : List Token} {t : Token} {l : AnyLineImage} → IsAnyLine a b l → First kinds.End t b c → IsWholeAnyLine a l

@@ -17,6 +17,9 @@ pub mod Opening
 pub mod ReplyLaws
 pub mod SessionExamples
 pub mod Words
+pub mod Asks
+pub mod AskTexts
+pub mod AskLaws
 pub mod Reports
 pub mod Demo
 pub mod DemoExamples

@@ -1,5 +1,5 @@
--- Of the limits and ranges that a book of the grammar keeps, those that typing rests on.
-use Rattle.std.specs.Prelude.{ℕ, ◌+◌, ◌≤◌, pos, ◌≤ℤ◌, FitsSigned, Bool, true, false, count_by, List, length, All, Option, Some, None}
+-- Of the limits and ranges that a book and an `ask` line of the grammar keep, those that typing rests on.
+use Rattle.std.specs.Prelude.{◌≡◌, ℕ, ◌+◌, ◌≤◌, pos, ◌≤ℤ◌, FitsSigned, Bool, true, false, count_by, List, [], length, All, Option, Some, None}
 use Rattle.std.specs.Int.{w64}
 use Rattle.smk_base.specs.declared.value.Value.{Value}
 use Rattle.smk_base.specs.declared.value.Value.TheVariants as values
@@ -7,7 +7,9 @@ use Rattle.smk_base.specs.declared.tree.Lit.{Lit}
 use Rattle.smk_base.specs.declared.tree.Decl.{Decl}
 use Rattle.smk_base.specs.declared.tree.ItemTree.{ItemTree}
 use Rattle.smk_base.specs.declared.tree.ItemTree.TheVariants.{Col, Bin}
-use Rattle.smk_base.specs.Trees.{TreeImage, ScanNode, StepNode, StepImage, SelectNode, ProjectNode, DistinctNode, GroupNode, JoinNode, ThetaNode, ProductNode, UnionAllNode, UnionNode, StmtImage, TableNode, ViewNode, BackNode, FwdNode, LinkNode}
+use Rattle.smk_base.specs.Trees.{TreeImage, ScanNode, StepNode, StepImage, SelectNode, ProjectNode, DistinctNode, GroupNode, JoinNode, ThetaNode, ProductNode, UnionAllNode, UnionNode, StmtImage, TableNode, ViewNode, BackNode, FwdNode, LinkNode, AskStepImage, AskImage}
+use Rattle.smk_base.specs.declared.tree.Marks.{Marks}
+use Rattle.smk_base.specs.declared.tree.Marks.TheVariants as markings
 
 -- the second part of `bin` is at least 1
 abbrev pub Divides : ItemTree → Type 0
@@ -99,3 +101,31 @@ pub record KeepsLimits (book : List StmtImage) : Type 0 where
   pub few_tables : count_by is_table book ≤ 16
   pub few_views : count_by is_view book ≤ 64
   pub each : All KeepsStmt book
+
+-- a step with one input, whose list of items keeps its limits
+abbrev pub KeepsAskStep : StepImage → Type 0
+KeepsAskStep (SelectNode pred) = Unit {0}
+KeepsAskStep (ProjectNode items) = KeepsItems items
+KeepsAskStep (DistinctNode items) = KeepsItems items
+KeepsAskStep (GroupNode keys aggs) = Unit {0}
+KeepsAskStep (JoinNode source pairs) = ⊥
+KeepsAskStep (ThetaNode source pred) = ⊥
+KeepsAskStep (ProductNode source) = ⊥
+KeepsAskStep (UnionAllNode source) = ⊥
+KeepsAskStep (UnionNode source) = ⊥
+
+-- the steps of an `ask` line: at most 64, each with one input
+pub record KeepsSteps (steps : List AskStepImage) : Type 0 where
+  pub few : length steps ≤ 64
+  pub each : All (λ step. KeepsAskStep step.what) steps
+
+-- a list of marks has a mark
+abbrev pub HasMarks : Marks → Type 0
+HasMarks markings.All = Unit {0}
+HasMarks (markings.Listed marks) = marks ≡ [] → ⊥
+
+-- an `ask` line: at least one step and at most 64, each of which keeps its limits, over some marks
+pub record KeepsAsk (asked : AskImage) : Type 0 where
+  pub marked : HasMarks asked.marks
+  pub some : asked.steps ≡ [] → ⊥
+  pub steps : KeepsSteps asked.steps

@@ -40,6 +40,7 @@ pub data Symbol : Type 0 where
   AStmts : Tally → Symbol
   ALineage AnExtra : Symbol
   ALine ALineName ALineColumn AMarks AMark MoreMarks AThen ACleared AnEnd : Symbol
+  AnyLine AnAskStep AskSteps : Symbol
 
 -- what a token does: it is taken, with these counts, and these symbols are left of the first; or the first symbol is nothing here; or the token is wrong; or it begins one thing too many; or its number is out of range
 pub data Move : Type 0 where
@@ -254,6 +255,26 @@ abbrev pub at_cleared : Counts → TokenKind → Move
 at_cleared c kinds.Name = Takes c (AToken kinds.On ∷ ALineName ∷ [])
 at_cleared c _ = Skips
 
+-- a line of any kind
+abbrev pub at_any_line : Counts → TokenKind → Move
+at_any_line c kinds.Ask = Takes c (AToken kinds.Back ∷ ALineName ∷ AMarks ∷ AToken kinds.To ∷ ALineName ∷ AToken kinds.Bar ∷ AnAskStep ∷ AskSteps ∷ [])
+at_any_line c kind = at_line c kind
+
+-- what follows the keyword of a step with one input
+abbrev pub ask_symbols : TokenKind → Option (List Symbol)
+ask_symbols kinds.Where = step_symbols 0 kinds.Where
+ask_symbols kinds.Project = step_symbols 0 kinds.Project
+ask_symbols kinds.Distinct = step_symbols 0 kinds.Distinct
+ask_symbols kinds.Group = step_symbols 0 kinds.Group
+ask_symbols _ = None
+
+abbrev pub at_ask_step : Counts → TokenKind → Move
+at_ask_step c kind = node_move c (ask_symbols kind)
+
+abbrev pub at_ask_steps : Counts → TokenKind → Move
+at_ask_steps c kinds.Bar = Takes c (AnAskStep ∷ AskSteps ∷ [])
+at_ask_steps c _ = Skips
+
 abbrev pub at_end : TokenKind → Move
 at_end kinds.End = Skips
 at_end _ = Wrong
@@ -305,6 +326,9 @@ next c MoreMarks t = at_more c (AMark ∷ MoreMarks ∷ []) t.kind
 next c AThen t = at_then c t.kind
 next c ACleared t = at_cleared c t.kind
 next c AnEnd t = at_end t.kind
+next c AnyLine t = at_any_line c t.kind
+next c AnAskStep t = at_ask_step c t.kind
+next c AskSteps t = at_ask_steps c t.kind
 
 -- the first symbol that isn't nothing here takes the token
 abbrev pub or_next : Move → List Symbol → Move → Move
@@ -344,16 +368,22 @@ abbrev pub fault_in : Result State BookFault → Option BookFault
 fault_in (Ok s) = None
 fault_in (Err f) = Some f
 
--- what a book begins with, and a line
+-- what a book begins with, a line, and a line of any kind
 abbrev pub book_symbols : List Symbol
 book_symbols = AStmts (record { tables = 0; views = 0; lineages = 0; links = 0 }) ∷ []
 
 abbrev pub line_symbols : List Symbol
 line_symbols = ALine ∷ AnEnd ∷ []
 
--- the first fault of the tokens of a book, and of a line
+abbrev pub any_symbols : List Symbol
+any_symbols = AnyLine ∷ AnEnd ∷ []
+
+-- the first fault of the tokens of a book, of a line, and of a line of any kind
 abbrev pub book_fault : List Token → Option BookFault
 book_fault ts = fault_in (through book_symbols no_counts ts)
 
 abbrev pub line_fault : List Token → Option BookFault
 line_fault ts = fault_in (through line_symbols no_counts ts)
+
+abbrev pub any_fault : List Token → Option BookFault
+any_fault ts = fault_in (through any_symbols no_counts ts)

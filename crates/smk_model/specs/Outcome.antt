@@ -52,22 +52,29 @@ pub data Parses (text : List ℕ) : Result (List StmtImage) Fault → Type 0 whe
   spells : {stmts : List StmtImage} → AreStmts (tokens text) stmts → book_fault (tokens text) ≡ None → Parses text (Ok stmts)
   misspells : {fault : BookFault} → book_fault (tokens text) ≡ Some fault → Parses text (Err (Book fault))
 
--- the catalog of statements, or their first fault of typing
-abbrev pub or_type_fault : Typed CatalogImage → Result CatalogImage Fault
-or_type_fault (Ok catalog) = Ok catalog
-or_type_fault (Err fault) = Err (Types fault)
+-- what a book says: its catalog
+pub record BookSaid : Type 0 where
+  pub catalog : CatalogImage
 
--- the catalog of the bytes of a book's file, after every byte order mark at its front
-pub data BookSays (bytes : List ℕ) : Result CatalogImage Fault → Type 0 where
+-- what statements say, or their first fault of typing
+abbrev pub said_or_fault : Typed CatalogImage → Result BookSaid Fault
+said_or_fault (Ok catalog) = Ok (record { catalog = catalog })
+said_or_fault (Err fault) = Err (Types fault)
+
+abbrev pub statements_say : List StmtImage → Result BookSaid Fault
+statements_say stmts = said_or_fault (types stmts)
+
+-- what the bytes of a book's file say, after every byte order mark at its front
+pub data BookSays (bytes : List ℕ) : Result BookSaid Fault → Type 0 where
   unparsed : {fault : Fault} → Parses (after_marks bytes) (Err fault) → BookSays bytes (Err fault)
-  parsed : {stmts : List StmtImage} {answer : Result CatalogImage Fault} → Parses (after_marks bytes) (Ok stmts) → or_type_fault (types stmts) ≡ answer → BookSays bytes answer
+  parsed : {stmts : List StmtImage} {answer : Result BookSaid Fault} → Parses (after_marks bytes) (Ok stmts) → statements_say stmts ≡ answer → BookSays bytes answer
 
 -- one reading of a file after its bytes, or the fault that it has no bytes
 pub data FileSays {A : Type 0} (held : Held) (name : List ℕ) (says : List ℕ → Result A Fault → Type 0) : Result A Fault → Type 0 where
   unread : {fault : Fault} → content_of held name ≡ Err fault → FileSays held name says (Err fault)
   read : {bytes : List ℕ} {answer : Result A Fault} → content_of held name ≡ Ok bytes → says bytes answer → FileSays held name says answer
 
-abbrev pub OpensBook : Held → List ℕ → Result CatalogImage Fault → Type 0
+abbrev pub OpensBook : Held → List ℕ → Result BookSaid Fault → Type 0
 OpensBook held name answer = FileSays held name BookSays answer
 
 -- the name of a declared column
@@ -118,12 +125,12 @@ pub record Inputs : Type 0 where
 -- what is read under these names of a book and a script, or the first fault: the book; the tables in the book's order; the script
 pub data ReadsFiles (held : Held) (book : List ℕ) (script : Option (List ℕ)) : Result Inputs Fault → Type 0 where
   no_book : {fault : Fault} → OpensBook held book (Err fault) → ReadsFiles held book script (Err fault)
-  no_tables : {catalog : CatalogImage} {fault : Fault} → OpensBook held book (Ok catalog) → load_all held catalog.tables ≡ Err fault → ReadsFiles held book script (Err fault)
-  no_readings : {catalog : CatalogImage} {tables : List (List Row)} {fault : Fault} → OpensBook held book (Ok catalog)
-      → load_all held catalog.tables ≡ Ok tables → OpensScript held script (Err fault) → ReadsFiles held book script (Err fault)
-  inputs : {catalog : CatalogImage} {tables : List (List Row)} {readings : List Reading} → OpensBook held book (Ok catalog)
-      → load_all held catalog.tables ≡ Ok tables → OpensScript held script (Ok readings)
-      → ReadsFiles held book script (Ok (record { book = record { catalog = catalog; tables = tables }; readings = readings }))
+  no_tables : {said : BookSaid} {fault : Fault} → OpensBook held book (Ok said) → load_all held said.catalog.tables ≡ Err fault → ReadsFiles held book script (Err fault)
+  no_readings : {said : BookSaid} {tables : List (List Row)} {fault : Fault} → OpensBook held book (Ok said)
+      → load_all held said.catalog.tables ≡ Ok tables → OpensScript held script (Err fault) → ReadsFiles held book script (Err fault)
+  inputs : {said : BookSaid} {tables : List (List Row)} {readings : List Reading} → OpensBook held book (Ok said)
+      → load_all held said.catalog.tables ≡ Ok tables → OpensScript held script (Ok readings)
+      → ReadsFiles held book script (Ok (record { book = record { catalog = said.catalog; tables = tables }; readings = readings }))
 
 -- the bytes of the first of these files with a name
 abbrev pub file_named : List DemoFile → Held
@@ -183,10 +190,10 @@ written_of words report = written_for (words_of words) report
 -- a file that is read where no fault was met before
 pub data IsAskedFor (held : Held) (book : List ℕ) (script : Option (List ℕ)) : List ℕ → Type 0 where
   the_book : IsAskedFor held book script book
-  a_table : {catalog : CatalogImage} {tables : List (List Row)} (before : List TableInfo) (table : TableInfo) (behind : List TableInfo) → OpensBook held book (Ok catalog)
-      → catalog.tables ≡ before ++ table ∷ behind → load_all held before ≡ Ok tables → IsAskedFor held book script table.file
-  the_script : {catalog : CatalogImage} {tables : List (List Row)} {name : List ℕ} → OpensBook held book (Ok catalog)
-      → load_all held catalog.tables ≡ Ok tables → script ≡ Some name → IsAskedFor held book script name
+  a_table : {said : BookSaid} {tables : List (List Row)} (before : List TableInfo) (table : TableInfo) (behind : List TableInfo) → OpensBook held book (Ok said)
+      → said.catalog.tables ≡ before ++ table ∷ behind → load_all held before ≡ Ok tables → IsAskedFor held book script table.file
+  the_script : {said : BookSaid} {tables : List (List Row)} {name : List ℕ} → OpensBook held book (Ok said)
+      → load_all held said.catalog.tables ≡ Ok tables → script ≡ Some name → IsAskedFor held book script name
 
 -- a fault that a read may say since it failed: that a file can't be read which is read where no fault was met before
 abbrev pub NamesAsked : Held → List ℕ → Option (List ℕ) → Fault → Type 0

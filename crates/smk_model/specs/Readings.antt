@@ -1,24 +1,29 @@
 -- What the lines of a script say.
-use Rattle.std.specs.Prelude.{◌≡◌, ℕ, List, [], ◌∷◌, Some}
+use Rattle.std.specs.Prelude.{◌≡◌, ℕ, List, [], ◌∷◌, Some, None}
 use Rattle.smk_base.specs.declared.fault.BookFault.{BookFault}
+use Rattle.smk_base.specs.Trees.{AnyLineImage, PlainLine}
 use Rattle.smk_base.specs.declared.tree.Line.{Line}
 use Rattle.smk_base.specs.Marks.{after_marks}
 use Rattle.smk_model.specs.Tokens.{tokens, HasNoToken}
-use Rattle.smk_model.specs.Grammar.{IsWholeLine}
-use Rattle.smk_model.specs.Machine.{line_fault}
+use Rattle.smk_model.specs.Grammar.{IsWholeAnyLine}
+use Rattle.smk_model.specs.Machine.{any_fault}
 use Rattle.smk_model.specs.Lines.{lines, place_of}
 
 -- nothing, a line of the grammar, or the place at which a line leaves the grammar
 pub data Reading : Type 0 where
   Nothing : Reading
-  Asks : Line → Reading
+  Asks : AnyLineImage → Reading
   Unread : ℕ → Reading
 
--- a line without a token says nothing; another one is a line of the grammar, or leaves it at the place of its first fault
+-- that of a line that the session answers by itself
+abbrev pub plain_reading : Line → Reading
+plain_reading line = Asks (PlainLine line)
+
+-- a line without a token says nothing; another one is a line of the grammar without a fault, or leaves it at the place of its first fault
 pub data IsReading (text : List ℕ) : Reading → Type 0 where
   says_nothing : HasNoToken text → IsReading text Nothing
-  asks : {asked : Line} → (HasNoToken text → ⊥) → IsWholeLine (tokens text) asked → IsReading text (Asks asked)
-  leaves : {fault : BookFault} {at : ℕ} → (HasNoToken text → ⊥) → line_fault (tokens text) ≡ Some fault → place_of fault ≡ at → IsReading text (Unread at)
+  asks : {asked : AnyLineImage} → (HasNoToken text → ⊥) → IsWholeAnyLine (tokens text) asked → any_fault (tokens text) ≡ None → IsReading text (Asks asked)
+  leaves : {fault : BookFault} {at : ℕ} → (HasNoToken text → ⊥) → any_fault (tokens text) ≡ Some fault → place_of fault ≡ at → IsReading text (Unread at)
 
 -- one reading for each line, in order
 pub data AreReadings : List (List ℕ) → List Reading → Type 0 where

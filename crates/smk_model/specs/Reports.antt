@@ -3,7 +3,7 @@ use Rattle.std.specs.Prelude.{ℕ, ◌+◌, Bool, ◌||◌, cond, nat_lt, List, 
 use Rattle.std.specs.List.{flat_map}
 use Rattle.smk_base.specs.CatalogImage.{CatalogImage, ViewImage}
 use Rattle.smk_base.specs.declared.tree.Line.{Line}
-use Rattle.smk_base.specs.declared.reply.Reply.{Reply}
+use Rattle.smk_base.specs.Trees.{AskImage, AnyLineImage, PlainLine, AskedLine}
 use Rattle.smk_base.specs.declared.size.Size.{Size}
 use Rattle.smk_model.specs.Values.{Row}
 use Rattle.smk_model.specs.Plain.{rows_over}
@@ -13,6 +13,8 @@ use Rattle.smk_model.specs.Readings.{Reading, Nothing, Asks, Unread}
 use Rattle.smk_model.specs.Session.{Workbook, State, first_state}
 use Rattle.smk_model.specs.Replies.{reply, is_refused}
 use Rattle.smk_model.specs.Looks.{line_looks}
+use Rattle.smk_model.specs.Asks.{ask_reply, ask_looks, is_ask_refused}
+use Rattle.smk_model.specs.AskTexts.{ask_text}
 
 -- what lines come to: their texts, how many have a reply, how many of these are refusals, how many aren't in the grammar, and the most looks at base rows that they take
 pub record Told : Type 0 where
@@ -35,25 +37,48 @@ followed_by a b = record {
   looks = a.looks + b.looks;
 }
 
--- a line with its reply
-abbrev pub reply_told : CatalogImage → State → Line → Reply → Told
-reply_told catalog state asked answer = record {
-  text = reply_text catalog asked answer;
-  replies = 1;
-  refused = cond (is_refused answer) 1 0;
-  unread = 0;
+-- what a line comes to: its text, whether it is refused, the most looks at base rows that it takes, and the state after it
+pub record Answered : Type 0 where
+  pub text : List ℕ
+  pub refused : Bool
+  pub looks : ℕ
+  pub next : State
+
+-- each kind of line
+abbrev pub plain_answered : CatalogImage → State → Line → Answered
+plain_answered catalog state asked = record {
+  text = reply_text catalog asked (reply catalog state asked).0;
+  refused = is_refused (reply catalog state asked).0;
   looks = line_looks catalog state asked;
+  next = (reply catalog state asked).1;
 }
+
+abbrev pub ask_answered : CatalogImage → State → AskImage → Answered
+ask_answered catalog state asked = record {
+  text = ask_text asked (ask_reply catalog state asked);
+  refused = is_ask_refused (ask_reply catalog state asked);
+  looks = ask_looks catalog state asked;
+  next = state;
+}
+
+-- a line of any kind
+abbrev pub answered : CatalogImage → State → AnyLineImage → Answered
+answered catalog state (PlainLine asked) = plain_answered catalog state asked
+answered catalog state (AskedLine asked) = ask_answered catalog state asked
+
+-- what is told of a line that is answered
+abbrev pub answer_told : Answered → Told
+answer_told line = record { text = line.text; replies = 1; refused = cond line.refused 1 0; unread = 0; looks = line.looks }
 
 -- what the line with a number comes to in a state, and the state after it; a line that says nothing has no text
 abbrev pub line_told : CatalogImage → State → ℕ → Reading → Told
 line_told catalog state number Nothing = nothing_told
-line_told catalog state number (Asks asked) = reply_told catalog state asked (reply catalog state asked).0
+line_told catalog state number (Asks asked) = answer_told (answered catalog state asked)
 line_told catalog state number (Unread at) = record { text = bad_line_text number at; replies = 0; refused = 0; unread = 1; looks = 0 }
 
 abbrev pub state_after : CatalogImage → State → Reading → State
 state_after catalog state Nothing = state
-state_after catalog state (Asks asked) = (reply catalog state asked).1
+state_after catalog state (Asks asked) = (answered catalog state asked).next
 state_after catalog state (Unread at) = state
 
 -- the walk over the lines from a state on, numbered from a number on

@@ -16,7 +16,7 @@ use Rattle.smk_base.specs.declared.fault.TableFault.TheVariants.{NoHeader, Missi
 use Rattle.smk_base.specs.Plans.{Leaf, Apply, Selection, Comparison}
 use Rattle.smk_base.specs.CatalogImage.{CatalogImage, ViewImage}
 use Rattle.smk_model.specs.Values.{Row}
-use Rattle.smk_model.specs.Readings.{Reading, Nothing, Asks, Unread}
+use Rattle.smk_model.specs.Readings.{Reading, Nothing, Unread, plain_reading}
 use Rattle.smk_model.specs.Session.{Workbook, first_state, first_content}
 use Rattle.smk_model.specs.Opening.{first_view_fault, named_fault}
 use Rattle.smk_model.specs.NodeFaults.{FullRows, FullPairs}
@@ -58,15 +58,15 @@ back_line view marks table = lines.Back view (markings.Listed marks) table thens
 -- back v 1,0,1 to t; nothing; back v 2 to t; back w 0 to t; back x 0 to u; back v 0 to u; a line that isn't one; show w; back v all to t
 abbrev pub small_script : List Reading
 small_script =
-    Asks (back_line (codes "v") (1 ∷ 0 ∷ 1 ∷ []) (codes "t"))
+    plain_reading (back_line (codes "v") (1 ∷ 0 ∷ 1 ∷ []) (codes "t"))
     ∷ Nothing
-    ∷ Asks (back_line (codes "v") (2 ∷ []) (codes "t"))
-    ∷ Asks (back_line (codes "w") (0 ∷ []) (codes "t"))
-    ∷ Asks (back_line (codes "x") (0 ∷ []) (codes "u"))
-    ∷ Asks (back_line (codes "v") (0 ∷ []) (codes "u"))
+    ∷ plain_reading (back_line (codes "v") (2 ∷ []) (codes "t"))
+    ∷ plain_reading (back_line (codes "w") (0 ∷ []) (codes "t"))
+    ∷ plain_reading (back_line (codes "x") (0 ∷ []) (codes "u"))
+    ∷ plain_reading (back_line (codes "v") (0 ∷ []) (codes "u"))
     ∷ Unread 3
-    ∷ Asks (lines.Show (codes "w"))
-    ∷ Asks (lines.Back (codes "v") markings.All (codes "t") thens.Plain)
+    ∷ plain_reading (lines.Show (codes "w"))
+    ∷ plain_reading (lines.Back (codes "v") markings.All (codes "t") thens.Plain)
     ∷ []
 
 abbrev pub small_text : List ℕ
@@ -84,7 +84,7 @@ pub record RunsHold : Type 0 where
     text = small_text;
   }
   pub turned_down : is_turned_down (report_of small_book small_script) ≡ true
-  pub nothing_turned_down : is_turned_down (report_of small_book (Nothing ∷ Asks (lines.Show (codes "v")) ∷ [])) ≡ false
+  pub nothing_turned_down : is_turned_down (report_of small_book (Nothing ∷ plain_reading (lines.Show (codes "v")) ∷ [])) ≡ false
   pub first_v : first_content small_catalog (first_state small_book) 0 ≡ int_row 10 ∷ int_row 40 ∷ []
   pub first_w : first_content small_catalog (first_state small_book) 1 ≡ int_row 5 ∷ (Int (negsuc 2) ∷ []) ∷ []
   pub no_fault : first_view_fault small_book ≡ None

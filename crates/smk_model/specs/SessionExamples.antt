@@ -2,6 +2,7 @@
 use Rattle.std.specs.Prelude.{◌≡◌, ℕ, pos, List, [], ◌∷◌, ◌++◌, map, None, codes}
 use Rattle.smk_base.specs.CatalogImage.{CatalogImage, ViewImage}
 use Rattle.smk_base.specs.Plans.{Expr}
+use Rattle.smk_base.specs.Trees.{AskImage, AskedLine}
 use Rattle.smk_base.specs.declared.catalog.BackExtra.TheVariants as extras
 use Rattle.smk_base.specs.declared.col_decl.ColDecl.{ColDecl}
 use Rattle.smk_base.specs.declared.plan.Agg.TheVariants.{Count}
@@ -14,8 +15,9 @@ use Rattle.smk_base.specs.declared.tree.Line.TheVariants as lines
 use Rattle.smk_base.specs.declared.tree.Marks.{Marks}
 use Rattle.smk_base.specs.declared.tree.Marks.TheVariants as markings
 use Rattle.smk_base.specs.declared.tree.Then.TheVariants as thens
+use Rattle.smk_model.specs.LineExamples.{totals, unknown_amounts, of_no_view}
 use Rattle.smk_model.specs.Examples.{tables, by_region, by_zone, big, pair, names, few}
-use Rattle.smk_model.specs.Readings.{Asks}
+use Rattle.smk_model.specs.Readings.{Asks, plain_reading}
 use Rattle.smk_model.specs.Session.{Workbook}
 use Rattle.smk_model.specs.Looks.{start_looks}
 use Rattle.smk_model.specs.Reports.{Told, script_told}
@@ -60,7 +62,10 @@ abbrev pub sales_book : Workbook
 sales_book = record { catalog = sales_catalog; tables = tables }
 
 abbrev pub told : List Line → Told
-told asked = script_told sales_book (map Asks asked)
+told asked = script_told sales_book (map plain_reading asked)
+
+abbrev pub ask_told : List AskImage → Told
+ask_told asked = script_told sales_book (map (λ ask. Asks (AskedLine ask)) asked)
 
 abbrev pub at : List ℕ → Marks
 at marks = markings.Listed marks
@@ -152,6 +157,14 @@ parts_text =
     ++ codes "refused wrong kind for amount\nrefused no split of by_region to sales by id\nrefused no grouping of by_region to sales\n"
     ++ codes "group by_zone to sales 2\nrow,region,n\n0,north,2\n1,east,1\nrefused more than one mark\n"
 
+-- steps over a backward answer; steps that don't fit, of which the rows are looked at all the same; a backward line that is refused
+abbrev pub asks : List AskImage
+asks = totals ∷ unknown_amounts ∷ of_no_view ∷ []
+
+abbrev pub asks_text : List ℕ
+asks_text =
+    codes "ask by_zone to sales 1\nrow,region,total\n0,north,40\n" ++ codes "refused steps: unknown column at byte 36\nrefused unknown view nope\n"
+
 pub record SessionsHold : Type 0 where
   pub looks_at_start : start_looks sales_book ≡ 43
   pub queries_are : told queries ≡ record { text = queries_text; replies = 7; refused = 1; unread = 0; looks = 7 }
@@ -159,3 +172,4 @@ pub record SessionsHold : Type 0 where
   pub first_cleared_is : told first_cleared ≡ record { text = first_cleared_text; replies = 3; refused = 0; unread = 0; looks = 16 }
   pub none_in_both_is : told none_in_both ≡ record { text = none_in_both_text; replies = 3; refused = 1; unread = 0; looks = 7 }
   pub parts_are : told parts ≡ record { text = parts_text; replies = 6; refused = 4; unread = 0; looks = 1 }
+  pub asks_are : ask_told asks ≡ record { text = asks_text; replies = 3; refused = 2; unread = 0; looks = 6 }

@@ -43,6 +43,11 @@ abbrev pub group_text : List ℕ → List ℕ → List (List ℕ) → List Row �
 group_text view table columns rows =
     line (codes "group " ∷ view ∷ codes " to " ∷ table ∷ codes " " ∷ decimal (length rows) ∷ []) ++ record_line (codes "row" ∷ columns) ++ row_lines (λ i. i) rows
 
+-- an answer to steps over a backward answer: the names of its columns, its rows with their places
+abbrev pub ask_rows_text : List ℕ → List ℕ → List (List ℕ) → List Row → List ℕ
+ask_rows_text view table columns rows =
+    line (codes "ask " ∷ view ∷ codes " to " ∷ table ∷ codes " " ∷ decimal (length rows) ∷ []) ++ record_line (codes "row" ∷ columns) ++ row_lines (λ i. i) rows
+
 -- a word, and each number after a space
 abbrev pub numbers_line : List ℕ → List ℕ → List ℕ
 numbers_line word numbers = line (word ∷ flat_map (λ n. codes " " ∷ decimal n ∷ []) numbers)

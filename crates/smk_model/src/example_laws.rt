@@ -3,7 +3,7 @@
 ghost use Rattle.smk_model.specs.BookExamples.{BooksHold};
 ghost use Rattle.smk_model.specs.DemoExamples.{DemosHold};
 ghost use Rattle.smk_model.specs.Examples.{ExamplesHold};
-ghost use Rattle.smk_model.specs.LineExamples.{LinesHold};
+ghost use Rattle.smk_model.specs.LineExamples.{LinesHold, AskLinesHold};
 ghost use Rattle.smk_model.specs.RunExamples.{RunsHold};
 ghost use Rattle.smk_model.specs.SessionExamples.{SessionsHold};
 ghost use Rattle.smk_model.specs.TypingExamples.{TypingsHold};
@@ -17,6 +17,12 @@ pub fn examples_hold()
 #[tactic(auto, using(crate::proofs::LineExamples::lines_hold))]
 pub fn lines_hold()
     ensures { LinesHold }
+{}
+
+/// The trees of `ask` lines, and the places at which texts leave their grammar.
+#[tactic(auto, using(crate::proofs::LineExamples::ask_lines_hold))]
+pub fn ask_lines_hold()
+    ensures { AskLinesHold }
 {}
 
 /// The trees of a theta join and a product, and the places at which texts of views leave the grammar.
@@ -35,7 +41,7 @@ pub fn runs_hold()
     ensures { RunsHold }
 {}
 
-/// What sessions answer over the same tables: backward and forward queries, splits and groupings, and brushes one after the other.
+/// What sessions answer over the same tables: backward and forward queries, splits and groupings, steps over backward answers, and brushes one after the other.
 pub fn sessions_hold()
     ensures { SessionsHold }
 {}

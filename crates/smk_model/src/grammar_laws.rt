@@ -1,9 +1,9 @@
 ghost use Rattle.std.specs.Prelude.{◌≡◌, List};
-ghost use Rattle.smk_base.specs.Trees.{StmtImage};
+ghost use Rattle.smk_base.specs.Trees.{AnyLineImage, StmtImage};
 ghost use Rattle.smk_base.specs.declared.tree.Line.{Line};
 ghost use Rattle.smk_model.specs.Tokens.{Token};
-ghost use Rattle.smk_model.specs.Grammar.{AreStmts, IsWholeLine};
-ghost use Rattle.smk_model.specs.GrammarLaws.{FaultlessHaveTrees, FaultlessKeepLimits, FaultsStay, TakenAreCompleted, TextsAreRead};
+ghost use Rattle.smk_model.specs.Grammar.{AreStmts, IsWholeAnyLine, IsWholeLine};
+ghost use Rattle.smk_model.specs.GrammarLaws.{FaultlessAsksKeepLimits, FaultlessHaveTrees, FaultlessKeepLimits, FaultsStay, TakenAreCompleted, TextsAreRead};
 
 /// No tokens are two books.
 #[tactic(auto, using(crate::proofs::Unique::one_book))]
@@ -17,7 +17,13 @@ pub fn one_line()
     ensures { (a : List Token) → (l : Line) → (u : Line) → IsWholeLine a l → IsWholeLine a u → l ≡ u }
 {}
 
-/// No text of the grammar has a wrong token: a book has no fault but where it passes a limit, and a line has none.
+/// No tokens are two lines of any kind.
+#[tactic(auto, using(crate::proofs::Unique::one_any_line))]
+pub fn one_any_line()
+    ensures { (a : List Token) → (l : AnyLineImage) → (u : AnyLineImage) → IsWholeAnyLine a l → IsWholeAnyLine a u → l ≡ u }
+{}
+
+/// No text of the grammar has a wrong token: a book and a line of any kind have no fault but where they pass a limit, and a line without steps has none.
 #[tactic(auto, using(crate::proofs::Texts::texts_are_read))]
 pub fn texts_are_read()
     ensures { TextsAreRead }
@@ -45,4 +51,10 @@ pub fn taken_are_completed()
 #[tactic(auto, using(crate::proofs::Keeping::faultless_keep_limits))]
 pub fn faultless_keep_limits()
     ensures { FaultlessKeepLimits }
+{}
+
+/// A text that spells an ask line and has no fault keeps the limits that typing its steps rests on.
+#[tactic(auto, using(crate::proofs::Keeping::faultless_asks_keep_limits))]
+pub fn faultless_asks_keep_limits()
+    ensures { FaultlessAsksKeepLimits }
 {}

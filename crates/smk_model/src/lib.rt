@@ -1,6 +1,7 @@
 //! The definitions of what Smoke's plans, books, scripts and runs mean, in `specs/`, and the laws over them. No program code uses it when it runs.
 #![tactic(auto)]
 
+pub mod ask_laws;
 pub mod class_laws;
 pub mod composed_laws;
 pub mod demo_laws;

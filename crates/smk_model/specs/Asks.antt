@@ -1,0 +1,92 @@
+-- What an `ask` line comes to: steps over the rows that the marks of a view came from.
+use Rattle.std.specs.Prelude.{ℕ, Bool, true, false, List, [], ◌∷◌, Option, Some, None, Ok, Err}
+use Rattle.smk_base.specs.CatalogImage.{CatalogImage}
+use Rattle.smk_base.specs.Plans.{Unary, Expr, Leaf, Apply}
+use Rattle.smk_base.specs.Trees.{AskStepImage, AskImage}
+use Rattle.smk_base.specs.declared.value.Kind.{Kind}
+use Rattle.smk_base.specs.declared.catalog.Column.{Column}
+use Rattle.smk_base.specs.declared.catalog.TableInfo.{TableInfo}
+use Rattle.smk_base.specs.declared.tree.Line.{Line}
+use Rattle.smk_base.specs.declared.tree.Line.TheVariants as lines
+use Rattle.smk_base.specs.declared.tree.Then.TheVariants as thens
+use Rattle.smk_base.specs.declared.reply.Reply.{Reply}
+use Rattle.smk_base.specs.declared.reply.Reply.TheVariants as replies
+use Rattle.smk_base.specs.declared.reply.AskReply.{AskReply}
+use Rattle.smk_base.specs.declared.reply.AskReply.TheVariants as answers
+use Rattle.smk_base.specs.declared.reply.AskRefusal.TheVariants as refusals
+use Rattle.smk_model.specs.Values.{Row}
+use Rattle.smk_model.specs.FaultTexts.{type_place}
+use Rattle.smk_model.specs.Looks.{line_looks}
+use Rattle.smk_model.specs.Names.{Typed, ◌>>=◌, in_turn, names_of, kinds_of}
+use Rattle.smk_model.specs.Plain.{eval}
+use Rattle.smk_model.specs.Replies.{reply}
+use Rattle.smk_model.specs.ReplyTexts.{table_named}
+use Rattle.smk_model.specs.Session.{State}
+use Rattle.smk_model.specs.TypedSteps.{TypedPlan}
+use Rattle.smk_model.specs.Typing.{columns_of, typed_step}
+
+-- a plan with steps over it, one after the other
+abbrev pub chain_onto : Expr → List Unary → Expr
+chain_onto plan [] = plan
+chain_onto plan (op ∷ ops) = chain_onto (Apply op plan) ops
+
+-- steps over one list of rows, one after the other: a plan whose one leaf is that list
+abbrev pub chain : List Unary → Expr
+chain ops = chain_onto (Leaf 0) ops
+
+-- one more step over a typed plan, at its place
+abbrev pub step_after : TypedPlan → AskStepImage → Typed TypedPlan
+step_after typed step = typed_step [] step.what step.at typed
+
+-- the scan of these columns
+abbrev pub scan_of : List Column → TypedPlan
+scan_of columns = record { plan = Leaf 0; columns = columns }
+
+-- typed steps: the plan that they make over its one leaf, and the names and the kinds of its columns
+pub record AskPlan : Type 0 where
+  pub plan : Expr
+  pub names : List (List ℕ)
+  pub kinds : List Kind
+
+abbrev pub asked_plan : TypedPlan → AskPlan
+asked_plan typed = record { plan = typed.plan; names = names_of typed.columns; kinds = kinds_of typed.columns }
+
+-- steps over these columns, by the rules for the steps of a view over a scan, or the first fault
+abbrev pub typed_steps : List Column → List AskStepImage → Typed AskPlan
+typed_steps columns steps = in_turn step_after (scan_of columns) steps >>= λ typed. Ok (asked_plan typed)
+
+-- the columns of a table by its name
+abbrev pub columns_found : Option TableInfo → List Column
+columns_found None = []
+columns_found (Some table) = columns_of table
+
+abbrev pub columns_named : CatalogImage → List ℕ → List Column
+columns_named catalog table = columns_found (table_named catalog table)
+
+-- the `back` line within an `ask` line
+abbrev pub back_line : AskImage → Line
+back_line asked = lines.Back asked.view asked.marks asked.table thens.Plain
+
+-- what typed steps make of some rows, or why they don't stand
+abbrev pub steps_reply : Typed AskPlan → List Row → AskReply
+steps_reply (Ok typed) rows = answers.Rows typed.names (record { kinds = typed.kinds; rows = eval typed.plan (rows ∷ []) })
+steps_reply (Err fault) rows = answers.Refused (refusals.Steps (type_place fault) fault)
+
+-- the answer to an `ask` line by the reply to its `back` line, which is rows with their rids or a refusal and nothing else
+abbrev pub ask_over : CatalogImage → AskImage → Reply → AskReply
+ask_over catalog asked (replies.Back rids rows) = steps_reply (typed_steps (columns_named catalog asked.table) asked.steps) rows.rows
+ask_over catalog asked (replies.Refused refusal) = answers.Refused (refusals.Back refusal)
+ask_over catalog asked _ = answers.Rows [] (record { kinds = []; rows = [] })
+
+-- the answer to an `ask` line; the state stays
+abbrev pub ask_reply : CatalogImage → State → AskImage → AskReply
+ask_reply catalog state asked = ask_over catalog asked (reply catalog state (back_line asked)).0
+
+-- one look for each row of the backward answer, also where the steps don't fit
+abbrev pub ask_looks : CatalogImage → State → AskImage → ℕ
+ask_looks catalog state asked = line_looks catalog state (back_line asked)
+
+-- whether an answer is a refusal
+abbrev pub is_ask_refused : AskReply → Bool
+is_ask_refused (answers.Rows names rel) = false
+is_ask_refused (answers.Refused refusal) = true
