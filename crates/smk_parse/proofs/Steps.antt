@@ -1,6 +1,6 @@
 -- How a symbol and the token in hand go on.
 use Rattle.std.specs.Prelude.{Result, Ok, Err, Option, Some, None, is_some, cond, IsTrue, nat_lt}
-use Rattle.smk_parse.specs.Words.{TokenKind, BookFault, Many, TooMany, BadNumber, NoMemory, Token, head_of, tail_of, First, State, Counts, Symbol, Move, Takes, Skips, Wrong, Past, Outside, through, settle, next, or_next, go_on, fault_at, is_more, same_kind, AToken, Columns, NameBytes, Nodes, node_more, node_move, step_symbols, AStep, within, is_mark, at_first, at_item, at_keys, at_source, at_united, at_column, at_term, at_literal, at_mark, at_marks, AColumn, ALiteral, AnAs, AKeys, AFirst, AnItem, MoreKeys, ASource, AUnited, ATerm, AMarks, AMark, MoreMarks, AreMore, AreListed, at_more, int_value}
+use Rattle.smk_parse.specs.Words.{TokenKind, BookFault, Many, TooMany, BadNumber, NoMemory, Token, head_of, tail_of, First, State, Counts, Symbol, Move, Takes, Skips, Wrong, Past, Outside, through, settle, next, or_next, go_on, fault_at, is_more, same_kind, AToken, Columns, NameBytes, Nodes, node_more, node_move, step_symbols, at_any_line, at_ask_steps, at_line, AStep, AnyLine, ALine, within, is_mark, at_first, at_item, at_keys, at_source, at_united, at_column, at_term, at_literal, at_mark, at_marks, AColumn, ALiteral, AnAs, AKeys, AFirst, AnItem, MoreKeys, ASource, AUnited, ATerm, AMarks, AMark, MoreMarks, AreMore, AreListed, at_more, int_value}
 use Rattle.std.proofs.Common.{◌≡◌, ◌<◌, List, [], ◌∷◌, ◌++◌, length, ap, ◌∙◌, sym, refl, append_assoc, arith, ℕ, ◌+◌, true, false, subst, ℤ, Bool}
 use Rattle.std.proofs.lemmas.{Bool.lt-ltb, Grind.length_at_push}
 use Rattle.smk_model.{proofs.Alike.same_is, specs.Grammar.one_more}
@@ -134,6 +134,7 @@ pub data Starts : Symbol → List Symbol → TokenKind → Type 0 where
   literal_starts : {k : TokenKind} → is_column k ≡ false → Starts ATerm (ALiteral ∷ []) k
   marks_start : {k : TokenKind} → (k ≡ kinds.All → ⊥) → Starts AMarks (AMark ∷ MoreMarks ∷ []) k
   united_starts : {d : ℕ} {k : TokenKind} → (k ≡ kinds.All → ⊥) → Starts (AUnited d) (ASource d ∷ []) k
+  plain_starts : {k : TokenKind} → (k ≡ kinds.Ask → ⊥) → Starts AnyLine (ALine ∷ []) k
 
 -- a column that begins a member, with what is left of the member
 first_more : (c : Counts) (n : ℕ) (more ss : List Symbol) (x y : Move) (short : Bool) (k : TokenKind) → or_next (at_first c n more short k) ss x ≡ or_next (at_first c n [] short k) (more ++ ss) y
@@ -171,6 +172,10 @@ united_move : (c : Counts) (d : ℕ) (k : TokenKind) → (k ≡ kinds.All → �
 united_move c d kinds.All e = absurd (e refl)
 united_move c d _ e = refl
 
+plain_move : (c : Counts) (k : TokenKind) → (k ≡ kinds.Ask → ⊥) → at_any_line c k ≡ at_line c k
+plain_move c kinds.Ask e = absurd (e refl)
+plain_move c _ e = refl
+
 column_move : (c : Counts) (short : Bool) (k : TokenKind) → is_column k ≡ true → at_term c short k ≡ at_column c [] short k
 column_move c short kinds.Name e = refl
 column_move c short kinds.Quoted e = refl
@@ -188,6 +193,7 @@ starts_come _ _ a h (column_starts e) = begins ATerm AColumn [] a h (λ ss. ap (
 starts_come _ _ a h (literal_starts e) = begins ATerm ALiteral [] a h (λ ss. ap (λ m. or_next m ss (settle ss a.counts (head_of a.rest))) (literal_move a.counts _ _ e))
 starts_come _ _ a h (marks_start p) = begins AMarks AMark (MoreMarks ∷ []) a h (λ ss. marks_move a.counts ss (settle ss a.counts (head_of a.rest)) (settle (MoreMarks ∷ ss) a.counts (head_of a.rest)) (int_value (head_of a.rest).text) _ p)
 starts_come _ _ a h (united_starts {d = d} p) = begins (AUnited d) (ASource d) [] a h (λ ss. ap (λ m. or_next m ss (settle ss a.counts (head_of a.rest))) (united_move a.counts d _ p))
+starts_come _ _ a h (plain_starts p) = begins AnyLine ALine [] a h (λ ss. ap (λ m. or_next m ss (settle ss a.counts (head_of a.rest))) (plain_move a.counts _ p))
 
 pub started_leads : (x : Symbol) (ls : List Symbol) (a b : State) → Leads ls a b → Here a → Starts x ls (head_of a.rest).kind → Leads (x ∷ []) a b
 started_leads x ls a b k h e = comes_leads _ _ a a b (starts_come x ls a h e) k
@@ -210,7 +216,7 @@ step_reads d k a b c r e s h n g = by (step_symbols d k) refl s
     by None q s = absurd (cc)
     by (Some l) q s = comes_reads _ l a b c r (opened (AStep d) l (node_more a.counts) a b h (ap (λ k. node_move a.counts (step_symbols d k)) (sym e) ∙ ap (node_move a.counts) q ∙ ap (λ p. within p Nodes (Takes (node_more a.counts) l)) (lt-ltb a.counts.nodes 64 n))) (g l q)
 
-pub ruleset begun = (started_leads, started_fails, keys_start, item_starts, column_starts, literal_starts, marks_start, united_starts)
+pub ruleset begun = (started_leads, started_fails, keys_start, item_starts, column_starts, literal_starts, marks_start, united_starts, plain_starts)
 
 -- with a member and those that follow it behind it, the list from a up to b is these members
 pub record EndsList {T : Type 0} (IsX : List Token → List Token → T → Type 0) (a b : List Token) (xs : List T) : Type 0 where
@@ -222,6 +228,10 @@ goes_list IsX o a b c t xs x h k f = record { ends = λ d e z zs p m. subst (Are
 no_comma : (c : Counts) (ss : List Symbol) (k : TokenKind) → (k ≡ kinds.Comma → ⊥) → at_more c ss k ≡ Skips
 no_comma c ss kinds.Comma p = absurd (p refl)
 no_comma c ss _ p = refl
+
+pub no_bar : (c : Counts) (k : TokenKind) → (k ≡ kinds.Bar → ⊥) → at_ask_steps c k ≡ Skips
+no_bar c kinds.Bar p = absurd (p refl)
+no_bar c _ p = refl
 
 -- behind a member stands a comma with one more, or nothing
 abbrev pub GoesOn : Symbol → List Symbol → Type 0

@@ -1,11 +1,11 @@
 -- The trees of what was read. The cases of the grammar that show all their parts stand in the list as they are.
-use Rattle.smk_parse.specs.Words.{TokenKind, Word, Lit, CmpOp, Term, Extra, Marks, Then, CompareNode, BackNode, FwdNode, LinkNode, Token, head_of, int_value, string_value, First, IsName, IsColumn, IsLiteral, IsFile, IsNamed, IsExtra, IsOp, IsTerm, IsPrim, IsThen, IsLine, IsStmt, AreListed, State, Counts}
+use Rattle.smk_parse.specs.Words.{TokenKind, Word, Lit, CmpOp, Term, Extra, Marks, Then, CompareNode, BackNode, FwdNode, LinkNode, Token, head_of, int_value, string_value, First, IsName, IsColumn, IsLiteral, IsFile, IsNamed, IsExtra, IsOp, IsTerm, IsPrim, IsThen, IsLine, IsStmt, IsAskLine, AskStepImage, AreListed, State, Counts}
 use Rattle.std.proofs.Common.{◌≡◌, ℕ, ℤ, true, List, ◌∷◌, ap, ◌∙◌, sym, subst, refl}
 use Rattle.smk_base.specs.declared.token.TokenKind.TheVariants as kinds
 use Rattle.smk_base.specs.declared.value.Value.TheVariants as values
 use Rattle.smk_base.specs.declared.tree.Line.TheVariants as lines
-use Rattle.smk_model.specs.Grammar.{name, plain, quoted, number, string, file, mark, width, by_itself, group_extra, group_step, union_all_step, union_step, int_type, text_type, no_default, default, decl, by_as, column_item, bin_item, count, sum, min, max, agg, no_keys, keys, no_aggs, aggs, pair, eq, ne, lt, le, gt, ge, column_term, literal_term, negated, bracketed, compared, conj, no_and, one_and, pred, no_or, one_or, plan, scan, inner_plan, no_step, one_step, where_step, project_step, distinct_step, group_step, join_step, theta_step, product_step, no_extra, by_extra, table_stmt, view_stmt, back_stmt, fwd_stmt, link_stmt, all_marks, listed_marks, no_then, where_then, group_then, show_line, back_line, fwd_line, brush_line, clear_line, clear_one_line, whole_line}
-use Rattle.smk_parse.specs.{Texts.Advances, Reads.is_column, Reads.column_word, Reads.AreNames, Reads.two_names, Reads.IsMarked, Reads.marked}
+use Rattle.smk_model.specs.Grammar.{name, plain, quoted, number, string, file, mark, width, by_itself, group_extra, group_step, union_all_step, union_step, int_type, text_type, no_default, default, decl, by_as, column_item, bin_item, count, sum, min, max, agg, no_keys, keys, no_aggs, aggs, pair, eq, ne, lt, le, gt, ge, column_term, literal_term, negated, bracketed, compared, conj, no_and, one_and, pred, no_or, one_or, plan, scan, inner_plan, no_step, one_step, where_step, project_step, distinct_step, group_step, join_step, theta_step, product_step, no_extra, by_extra, table_stmt, view_stmt, back_stmt, fwd_stmt, link_stmt, all_marks, listed_marks, no_then, where_then, group_then, show_line, back_line, fwd_line, brush_line, clear_line, clear_one_line, whole_line, ask_line, plain_line, asked_line, whole_any_line}
+use Rattle.smk_parse.specs.{Texts.Advances, Reads.is_column, Reads.column_word, Reads.AreNames, Reads.two_names, Reads.IsMarked, Reads.marked, Reads.ArePiped, Reads.piped}
 use Rattle.smk_parse.proofs.Steps.{first_here, in_order}
 
 pub name_is : (c : Counts) (a b : State) (w : Word) → Advances c a b → (head_of a.rest).kind ≡ kinds.Name → w ≡ column_word (head_of a.rest) → IsName a.rest b.rest w
@@ -58,6 +58,9 @@ fwd_line_is h (marked k i j l) = fwd_line h k i j l
 pub brush_line_is : {a b c : List Token} {t : Token} {w z : Word} {m : Marks} → First kinds.Brush t a b → IsMarked kinds.On b c w m z → IsLine a c (lines.Brush w.name m z.name)
 brush_line_is h (marked k i j l) = brush_line h k i j l
 
+pub ask_line_is : {a b c d e f : List Token} {t u v : Token} {w z : Word} {m : Marks} {ss : List AskStepImage} → First kinds.Ask t a b → First kinds.Back u b c → IsMarked kinds.To c d w m z → First kinds.Bar v d e → ArePiped e f ss → IsAskLine a f (record { view = w.name; marks = m; table = z.name; steps = ss })
+ask_line_is h k (marked i j l n) o (piped p q) = ask_line h k i j l n o p q
+
 -- what one who reads the trees of each file knows
 pub ruleset words = (in_order, name_is, column_is, number_is, string)
 
@@ -70,3 +73,5 @@ pub ruleset plans = (in_order, plan, scan, inner_plan, no_step, one_step, where_
 pub ruleset stmts = (in_order, file_is, group_extra, no_extra, by_extra, table_stmt, view_stmt, back_is, fwd_is, two_names, link_is)
 
 pub ruleset line_trees = (in_order, name_is, column_is, mark, marked, all_marks, listed_marks, no_then, where_then, group_then, show_line, back_line_is, fwd_line_is, brush_line_is, clear_line, clear_one_line, whole_line)
+
+pub ruleset ask_trees = (in_order, ask_line_is, plain_line, asked_line, whole_any_line)

@@ -1,6 +1,7 @@
 -- What the parsers answer.
 use Rattle.std.specs.Prelude.{◌≡◌, ℕ, List, Option, Some, None, Result, Ok, Err}
-use Rattle.smk_parse.specs.Words.{BookFault, Book, LineFault, Line, BadToken, Unexpected, TooMany, BadNumber, NoMemory, book_image, tokens, HasNoToken, line_fault, book_fault, place_of, IsWholeLine, AreStmts}
+use Rattle.smk_parse.specs.Words.{BookFault, Book, LineFault, Line, BadToken, Unexpected, TooMany, BadNumber, NoMemory, book_image, any_image, tokens, HasNoToken, line_fault, any_fault, book_fault, place_of, IsWholeLine, IsWholeAnyLine, AreStmts}
+use Rattle.smk_base.specs.declared.tree.AnyLine.{AnyLine}
 use Rattle.smk_base.specs.declared.fault.LineFault.TheVariants as line_faults
 
 -- a line's fault by that of its reader: it isn't a line, or memory ran out
@@ -8,12 +9,20 @@ abbrev pub as_line_fault : BookFault → LineFault
 as_line_fault NoMemory = line_faults.NoMemory
 as_line_fault fault = line_faults.NotALine (place_of fault)
 
--- a line is nothing where it has no token, is a line with its tree where it is in the grammar, and else is not a line at the place of its first fault; or memory ran out
+-- a line, which its tree spells and which has this fault or none: it is nothing where it has no token, is a line with its tree where it has no fault, and else is not a line at the place of its fault; or memory ran out
+abbrev pub IsAnswer : {Tree : Type 0} → (Tree → Type 0) → Option BookFault → List ℕ → Result (Option Tree) LineFault → Type 0
+IsAnswer Spells fault text (Ok None) = HasNoToken text
+IsAnswer Spells fault text (Ok (Some line)) = (HasNoToken text → ⊥) × Spells line × (fault ≡ None)
+IsAnswer Spells fault text (Err (line_faults.NotALine at)) = (HasNoToken text → ⊥) × ((f : BookFault) × ((fault ≡ Some f) × (place_of f ≡ at)))
+IsAnswer Spells fault text (Err line_faults.NoMemory) = HasNoToken text → ⊥
+
+-- a line without steps
 abbrev pub IsLineAnswer : List ℕ → Result (Option Line) LineFault → Type 0
-IsLineAnswer text (Ok None) = HasNoToken text
-IsLineAnswer text (Ok (Some line)) = (HasNoToken text → ⊥) × IsWholeLine (tokens text) line × (line_fault (tokens text) ≡ None)
-IsLineAnswer text (Err (line_faults.NotALine at)) = (HasNoToken text → ⊥) × ((f : BookFault) × ((line_fault (tokens text) ≡ Some f) × (place_of f ≡ at)))
-IsLineAnswer text (Err line_faults.NoMemory) = HasNoToken text → ⊥
+IsLineAnswer text answer = IsAnswer (IsWholeLine (tokens text)) (line_fault (tokens text)) text answer
+
+-- a line of any kind
+abbrev pub IsAnyAnswer : List ℕ → Result (Option AnyLine) LineFault → Type 0
+IsAnyAnswer text answer = IsAnswer (λ line. IsWholeAnyLine (tokens text) (any_image line)) (any_fault (tokens text)) text answer
 
 -- a text in the grammar without a fault is a book with its tree, and another has its first fault; or memory ran out
 abbrev pub IsBookAnswer : List ℕ → Result Book BookFault → Type 0

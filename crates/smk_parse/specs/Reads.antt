@@ -1,6 +1,6 @@
 -- What a reader of some symbols answers.
 use Rattle.std.specs.Prelude.{◌≡◌, ℕ, ◌+◌, ◌≤◌, Bool, true, false, List, [], ◌∷◌, ◌++◌, length, Result, Ok, Err}
-use Rattle.smk_parse.specs.Words.{BookFault, NoMemory, TokenKind, Word, Marks, Token, inner, First, IsName, AreMarks, State, Counts, Symbol, AStmts, next, at_more, through}
+use Rattle.smk_parse.specs.Words.{BookFault, NoMemory, TokenKind, Word, Marks, Token, inner, First, IsName, AreMarks, IsAskStep, AreAskSteps, AskStepImage, State, Counts, Symbol, AStmts, next, at_more, through}
 use Rattle.smk_base.specs.declared.token.TokenKind.TheVariants as kinds
 use Rattle.smk_model.specs.Machine as machine
 use Rattle.smk_parse.specs.declared.book.Tally.{Tally}
@@ -62,6 +62,10 @@ pub data AreNames (kind : TokenKind) : List Token → List Token → Word → Wo
 -- the names of a line with marks and a keyword between them
 pub data IsMarked (kind : TokenKind) : List Token → List Token → Word → Marks → Word → Type 0 where
   marked : {a b c d e : List Token} {t : Token} {w z : Word} {m : Marks} → IsName a b w → AreMarks b c m → First kind t c d → IsName d e z → IsMarked kind a e w m z
+
+-- steps of an ask line with bars between
+pub data ArePiped : List Token → List Token → List AskStepImage → Type 0 where
+  piped : {a b c : List Token} {s : AskStepImage} {ss : List AskStepImage} → IsAskStep a b s → AreAskSteps b c ss → ArePiped a c (s ∷ ss)
 
 -- the symbols of a member, of which so many stand before; the symbol behind so many members, a comma with one more or nothing; and what spells the tree of a member
 pub record MemberRule (T : Type 0) : Type 1 where

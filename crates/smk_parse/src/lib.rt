@@ -1,6 +1,7 @@
 //! Books and script lines, read into trees.
 #![tactic(auto)]
 
+mod ask;
 mod book;
 mod front;
 mod line;
@@ -11,6 +12,7 @@ mod reader;
 mod script;
 mod tokens;
 
+pub use ask::parse_any;
 pub use book::parse_book;
 pub use line::parse_line;
 pub use script::line_at;

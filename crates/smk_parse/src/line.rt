@@ -1,7 +1,7 @@
 #![tactic(auto, using(crate::proofs::Trees::line_trees))]
 
-ghost use Rattle.std.specs.Prelude.{◌≡◌, ◌∷◌, [], List, refl, IsTrue, IfOk};
-ghost use Rattle.smk_parse.specs.Words.{Token, is_more, First, IsMark, AreMarks, IsThen, IsLine, IsWholeLine, AToken, ALine, ALineName, AMark, MoreMarks, AMarks, AThen, ACleared, line_symbols};
+ghost use Rattle.std.specs.Prelude.{◌≡◌, ◌∷◌, [], List, refl, IsTrue, IfOk, OnOk};
+ghost use Rattle.smk_parse.specs.Words.{Token, head_of, tail_of, is_more, First, IsMark, AreMarks, IsThen, IsLine, IsWholeLine, AToken, ALine, ALineName, AMark, MoreMarks, AMarks, AThen, ACleared, AnEnd, line_symbols};
 ghost use Rattle.smk_base.specs.declared.token.TokenKind.TheVariants as kinds;
 ghost use Rattle.smk_parse.specs.{Reads.IsMarked, Reads.Reads, Answers.IsLineAnswer, Answers.as_line_fault};
 
@@ -86,7 +86,7 @@ fn cleared(alloc: Global, reader: &mut Reader) -> Result<Line, BookFault>
 }
 
 /// A name, marks, and behind this keyword another name.
-fn marked(
+pub fn marked(
     alloc: Global,
     reader: &mut Reader,
     between: TokenKind,
@@ -102,8 +102,8 @@ fn marked(
     Ok((from, marks, to))
 }
 
-/// A line.
-fn line(alloc: Global, reader: &mut Reader) -> Result<Line, BookFault>
+/// A line without steps.
+pub fn line(alloc: Global, reader: &mut Reader) -> Result<Line, BookFault>
     ensures reads { Reads (ALine ∷ []) reader.old reader.new result }
     ensures is { IfOk result (λ line. IsLine reader.old.rest reader.new.rest line) }
 {
@@ -150,21 +150,30 @@ fn line(alloc: Global, reader: &mut Reader) -> Result<Line, BookFault>
     }
 }
 
+/// That the text ends here.
+pub fn end(reader: &Reader) -> Result<(), BookFault>
+    ensures reads { Reads (AnEnd ∷ []) reader.now reader.now result }
+    ensures is { OnOk result (First kinds.End (head_of reader.now.rest) reader.now.rest (tail_of reader.now.rest)) }
+{
+    match reader.kind() {
+        TokenKind::End => Ok(()),
+        _ => Err(wrong(reader)),
+    }
+}
+
 /// A line up to its end.
 fn whole_line(alloc: Global, reader: &mut Reader) -> Result<Line, BookFault>
     ensures reads { Reads line_symbols reader.old reader.new result }
     ensures is { IfOk result (λ line. IsWholeLine reader.old.rest line) }
 {
     let line = line(alloc, reader)?;
-    match reader.kind() {
-        TokenKind::End => Ok(line),
-        _ => Err(wrong(reader)),
-    }
+    end(reader)?;
+    Ok(line)
 }
 
 /// A line's fault by that of its reader.
 #[tactic(auto)]
-fn as_line_fault(fault: BookFault) -> LineFault
+pub fn as_line_fault(fault: BookFault) -> LineFault
     ensures { result ≡ as_line_fault fault }
 {
     match fault {
@@ -177,7 +186,6 @@ fn as_line_fault(fault: BookFault) -> LineFault
 }
 
 /// The line of a script as a tree: None where it has no token, and the place of its first fault where it isn't a line.
-#[tactic(auto, using(crate::proofs::Whole::line_answer, crate::proofs::Whole::line_unread))]
 pub fn parse_line(alloc: Global, line: &[u8]) -> Result<Option<Line>, LineFault>
     ensures { IsLineAnswer line.now result }
 {

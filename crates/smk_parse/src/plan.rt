@@ -1,7 +1,7 @@
 #![tactic(auto, using(crate::proofs::Trees::plans))]
 
 ghost use Rattle.std.specs.Prelude.{◌≡◌, ◌∷◌, ◌+◌, ◌<◌, ◌≤◌, [], ℕ, List, Some, is_some, true, IsTrue, IfOk, IfErr, OnOk};
-ghost use Rattle.smk_parse.specs.Words.{TooMany, Nodes, tree_image, step_image, head_of, tail_of, is_more, Symbol, Token, First, step_symbols, IsSource, IsPlan, IsStep, node_more, ASource, ASteps, AStep};
+ghost use Rattle.smk_parse.specs.Words.{TooMany, Nodes, tree_image, step_image, ask_step_image, head_of, tail_of, is_more, Symbol, Token, First, step_symbols, ask_symbols, IsSource, IsPlan, IsStep, IsAskStep, node_more, ASource, ASteps, AStep, AnAskStep};
 ghost use Rattle.smk_base.specs.declared.token.TokenKind.TheVariants as kinds;
 ghost use Rattle.smk_parse.specs.{Texts.Advances, Reads.Reads};
 
@@ -10,7 +10,7 @@ use crate::pred::{on, pred};
 use crate::reader::Reader;
 use crate::tokens::{expect, name, within, wrong};
 use smk_base::TokenKind::{Distinct, Group, Join, Product, Project, Theta, Union, Where};
-use smk_base::{BookFault, ItemTree, Many, PairTree, StepTree, TokenKind, Tree};
+use smk_base::{AskStep, BookFault, ItemTree, Many, PairTree, StepTree, TokenKind, Tree};
 use std::alloc::Global;
 
 /// The token in hand is taken, and makes a node of the plan.
@@ -142,4 +142,27 @@ pub fn plan(alloc: Global, reader: &mut Reader, depth: u32) -> Result<Box<Tree>,
         input = Box::new(alloc, Tree::Step { at, input, what })?;
     }
     Ok(input)
+}
+
+/// Whether a token of this kind begins a step with one input.
+fn has_one_input(kind: TokenKind) -> bool
+    ensures one { result ≡ is_some (ask_symbols kind) }
+    ensures more { result ≡ true → IsTrue (is_more kind) }
+{
+    matches!(kind, Where | Project | Distinct | Group)
+}
+
+/// A step of an `ask` line.
+pub fn ask_step(alloc: Global, reader: &mut Reader) -> Result<AskStep, BookFault>
+    ensures reads { Reads (AnAskStep ∷ []) reader.old reader.new result }
+    ensures is { IfOk result (λ step. IsAskStep reader.old.rest reader.new.rest (ask_step_image step)) }
+{
+    let at = reader.at();
+    let kind = reader.kind();
+    if !has_one_input(kind) {
+        return Err(wrong(reader));
+    }
+    take_node(reader)?;
+    let what = parts(alloc, reader, kind, 0)?;
+    Ok(AskStep { at, what })
 }

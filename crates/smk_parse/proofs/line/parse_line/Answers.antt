@@ -1,0 +1,9 @@
+use Rattle.std.proofs.Common.{◌∙◌}
+use Rattle.smk_parse.{specs.Words.tokens, specs.Words.ALine, specs.Words.IsWholeLine, proofs.Whole.whole_read, proofs.Whole.whole_unread}
+use Rattle.smk_parse.proofs.line.parse_line.Goals as goal
+
+pub returns-in-Ok : goal.returns-in-Ok
+returns-in-Ok c = whole_read IsWholeLine ALine c.new-reader.result c.whole_line.new.reader c.args.line.now c.in-Ok.line c.new-reader.ensures (λ e. c.in_default.not-End (c.kind.ensures.is ∙ e)) c.in-Ok.ensures.reads c.in-Ok.ensures.is
+
+pub returns-in-Err : goal.returns-in-Err
+returns-in-Err c = whole_unread (IsWholeLine (tokens c.args.line.now)) ALine c.new-reader.result c.args.line.now c.in-Err.fault c.as_line_fault.result c.new-reader.ensures (λ e. c.in_default.not-End (c.kind.ensures.is ∙ e)) c.in-Err.ensures.reads c.as_line_fault.ensures

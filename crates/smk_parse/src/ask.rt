@@ -1,0 +1,87 @@
+#![tactic(auto, using(crate::proofs::Trees::ask_trees))]
+
+ghost use Rattle.std.specs.Prelude.{◌≡◌, ◌∷◌, [], List, map, IfOk};
+ghost use Rattle.smk_parse.specs.Words.{Token, First, ask_image, ask_step_image, any_image, IsAskLine, IsAnyLine, IsWholeAnyLine, AToken, ALineName, AMarks, AnAskStep, AskSteps, any_symbols};
+ghost use Rattle.smk_model.specs.Machine as machine;
+ghost use Rattle.smk_base.specs.declared.token.TokenKind.TheVariants as kinds;
+ghost use Rattle.smk_parse.specs.{Reads.ArePiped, Reads.Reads, Answers.IsAnyAnswer};
+
+use crate::line::{as_line_fault, end, line, marked};
+use crate::plan::ask_step;
+use crate::reader::Reader;
+use crate::tokens::expect;
+use smk_base::{AnyLine, AskLine, AskSteps, BookFault, LineFault, TokenKind};
+use std::alloc::Global;
+
+/// One or more steps of an `ask` line with bars between.
+#[tactic(auto, using(crate::proofs::Trees::ask_trees, crate::proofs::Steps::in_loop))]
+fn ask_steps(alloc: Global, reader: &mut Reader) -> Result<AskSteps, BookFault>
+    ensures reads { Reads (AnAskStep ∷ AskSteps ∷ []) reader.old reader.new result }
+    ensures is { IfOk result (λ steps. ArePiped reader.old.rest reader.new.rest (map ask_step_image steps)) }
+{
+    let mut steps = AskSteps::new(alloc);
+    'steps: loop {
+        let next = ask_step(alloc, reader)?;
+        steps.push(next)?;
+        match reader.kind() {
+            TokenKind::Bar => reader.advance(),
+            _ => return Ok(steps),
+        }
+    }
+}
+
+/// An `ask` line behind its keyword.
+fn ask_line(alloc: Global, reader: &mut Reader) -> Result<AskLine, BookFault>
+    ensures reads { Reads (AToken kinds.Back ∷ ALineName ∷ AMarks ∷ AToken kinds.To ∷ ALineName ∷ AToken kinds.Bar ∷ AnAskStep ∷ AskSteps ∷ []) reader.old reader.new result }
+    ensures is { IfOk result (λ asked. (a : List Token) → (t : Token) → First kinds.Ask t a reader.old.rest → IsAskLine a reader.new.rest (ask_image asked)) }
+{
+    expect(reader, TokenKind::Back)?;
+    let (view, marks, table) = marked(alloc, reader, TokenKind::To)?;
+    expect(reader, TokenKind::Bar)?;
+    let steps = ask_steps(alloc, reader)?;
+    Ok(AskLine {
+        view: view.name,
+        marks,
+        table: table.name,
+        steps,
+    })
+}
+
+/// A line of any kind.
+#[tactic(auto, using(crate::proofs::Trees::ask_trees, crate::proofs::Steps::begun))]
+fn any_line(alloc: Global, reader: &mut Reader) -> Result<AnyLine, BookFault>
+    ensures reads { Reads (machine.AnyLine ∷ []) reader.old reader.new result }
+    ensures is { IfOk result (λ line. IsAnyLine reader.old.rest reader.new.rest (any_image line)) }
+{
+    match reader.kind() {
+        TokenKind::Ask => {
+            reader.advance();
+            Ok(AnyLine::Ask(ask_line(alloc, reader)?))
+        }
+        _ => Ok(AnyLine::Plain(line(alloc, reader)?)),
+    }
+}
+
+/// A line of any kind up to its end.
+fn whole_any_line(alloc: Global, reader: &mut Reader) -> Result<AnyLine, BookFault>
+    ensures reads { Reads any_symbols reader.old reader.new result }
+    ensures is { IfOk result (λ line. IsWholeAnyLine reader.old.rest (any_image line)) }
+{
+    let line = any_line(alloc, reader)?;
+    end(reader)?;
+    Ok(line)
+}
+
+/// The line of a script, of any kind, as a tree: None where it has no token, and the place of its first fault where it isn't a line.
+pub fn parse_any(alloc: Global, line: &[u8]) -> Result<Option<AnyLine>, LineFault>
+    ensures { IsAnyAnswer line.now result }
+{
+    let mut reader = Reader::new(line);
+    match reader.kind() {
+        TokenKind::End => Ok(None),
+        _ => match whole_any_line(alloc, &mut reader) {
+            Ok(line) => Ok(Some(line)),
+            Err(fault) => Err(as_line_fault(fault)),
+        },
+    }
+}
