@@ -9,3 +9,4 @@ pub mod CatalogsFit
 pub mod Books
 pub mod NeedsBelow
 pub mod Turns
+pub mod AskSteps

@@ -100,7 +100,7 @@ pub record Stands (tables : List TableInfo) (n : ℕ) (typed : TypedPlan) : Type
   pub fits : (more : List (List Kind)) → PlanFits typed.plan (leaf_kinds typed.plan (each_table_kinds tables) ++ more)
   pub kinds : (more : List (List Kind)) → plan_kinds typed.plan (leaf_kinds typed.plan (each_table_kinds tables) ++ more) ≡ kinds_of typed.columns
 
-scan_stands : (tables : List TableInfo) (t : ℕ) → t < length tables → Stands tables 1 (record { plan = Leaf t; columns = columns_of (info_at tables t) })
+pub scan_stands : (tables : List TableInfo) (t : ℕ) → t < length tables → Stands tables 1 (record { plan = Leaf t; columns = columns_of (info_at tables t) })
 scan_stands tables t below = record {
   size = refl;
   scans = below;

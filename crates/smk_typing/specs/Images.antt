@@ -1,15 +1,17 @@
 -- Typed parts as the definitions see them.
-use Rattle.std.specs.Prelude.{List, [], ◌∷◌, ◌++◌, Ok}
+use Rattle.std.specs.Prelude.{List, [], ◌∷◌, ◌++◌, map, Ok}
 use Rattle.std.specs.List.{list_any}
 use Rattle.smk_base.specs.declared.value.Kind.{Kind}
 use Rattle.smk_base.specs.declared.tree.Word.{Word}
 use Rattle.smk_base.specs.declared.catalog.Column.{Column}
 use Rattle.smk_base.specs.declared.type_fault.TypeFault.TheVariants.{DuplicateName}
-use Rattle.smk_base.specs.PlanImage.{expr_of}
+use Rattle.smk_base.specs.PlanImage.{expr_of, unary_of}
+use Rattle.smk_model.specs.Asks.{AskPlan, chain}
 use Rattle.smk_model.specs.Names.{Typed as Found, unless, has_name}
 use Rattle.smk_model.specs.TypedSteps.{TypedPlan, TypedGroup, named}
 use Rattle.smk_typing.specs.declared.typed.Typed.{Typed}
 use Rattle.smk_typing.specs.declared.typed.Group.{Group}
+use Rattle.smk_typing.specs.declared.steps.TypedSteps.{TypedSteps}
 
 abbrev pub plan_of : Typed → TypedPlan
 plan_of typed = record { plan = expr_of typed.plan; columns = typed.columns }
@@ -22,3 +24,7 @@ abbrev pub part_after : {X : Type 0} → List X × List Column → X → Word �
 part_after made part name kind =
     unless (list_any (has_name name.name) made.1) (DuplicateName name.at)
     (Ok (made.0 ++ part ∷ [], made.1 ++ named name kind ∷ []))
+
+-- typed steps as a plan over one leaf
+abbrev pub steps_image : TypedSteps → AskPlan
+steps_image typed = record { plan = chain (map unary_of typed.ops); names = typed.names; kinds = typed.kinds }

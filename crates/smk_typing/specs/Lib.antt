@@ -4,3 +4,4 @@ pub mod Turns
 pub mod Keys
 pub mod Drafts
 pub mod Rest
+pub mod Steps

@@ -9,7 +9,9 @@ ghost use Rattle.smk_typing.specs.Keys.{AreTables, back_key, fwd_key};
 use crate::form::Form;
 use crate::indexed::{Indexed, Keyed};
 use crate::links::Links;
-use smk_base::{Back, Catalog, Column, Columns, Fwd, TableInfo, Text, TypeFault, ViewInfo, Word};
+use smk_base::{
+    Back, Catalog, ColDecls, Column, Columns, Fwd, TableInfo, Text, TypeFault, ViewInfo, Word,
+};
 use std::alloc::Global;
 
 impl Keyed for TableInfo {
@@ -111,16 +113,16 @@ pub fn columns_at(
     ensures columns { Finds result (Ok (typing.columns_of (typing.info_at tables.now table))) (λ columns. columns) }
     ensures width { IfOk result (λ columns. length columns ≤ 16) }
 {
-    columns_of(alloc, &tables.as_slice()[table as usize])
+    columns_of(alloc, &tables.as_slice()[table as usize].cols)
 }
 
-/// The columns of a table.
-fn columns_of(alloc: Global, table: &TableInfo) -> Result<Columns, TypeFault>
-    ensures columns { Finds result (Ok (typing.columns_of table.now)) (λ columns. columns) }
-    ensures width { IfOk result (λ columns. length columns ≡ length table.now.cols) }
+/// The columns that are declared so.
+pub fn columns_of(alloc: Global, cols: &ColDecls) -> Result<Columns, TypeFault>
+    ensures columns { Finds result (Ok (map typing.column_of cols.now)) (λ columns. columns) }
+    ensures width { IfOk result (λ columns. length columns ≡ length cols.now) }
 {
     let mut columns = Columns::new(alloc);
-    for col in table.cols.as_slice() {
+    for col in cols.as_slice() {
         let name = col.name.copy(alloc)?;
         columns.push(Column {
             name,

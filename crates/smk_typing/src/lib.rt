@@ -15,10 +15,12 @@ mod plan;
 mod predicate;
 mod sides;
 mod statements;
+mod steps;
 mod typed;
 mod typed_book;
 
 pub use book::check;
 pub use needs::needed;
 pub use smk_base::TypeFault;
+pub use steps::{Ops, TypedSteps, check_steps};
 pub use typed_book::TypedBook;

@@ -298,3 +298,22 @@ fn add_step(
         },
     }
 }
+
+/// Puts a step at its place over a typed input. On a fault nothing is said of it.
+pub fn put_step(
+    alloc: Global,
+    tables: &Indexed<TableInfo>,
+    what: &StepTree,
+    at: u64,
+    typed: &mut Typed,
+) -> Result<(), TypeFault>
+    requires kept { KeepsStep (step_image what.now) }
+    requires width { length typed.old.columns ≤ 16 }
+    ensures plan { Finds result (typing.typed_step tables.now (step_image what.now) at (plan_of typed.old)) (λ _. plan_of typed.new) }
+    ensures width { OnOk result (length typed.new.columns ≤ 16) }
+{
+    let mut right = blank(alloc);
+    let added = add_step(alloc, tables, what, at, typed, &mut right);
+    drop(right);
+    added
+}

@@ -1,4 +1,4 @@
-use Rattle.std.proofs.Common.{◌≡◌, ◌∙◌, ◌<◌, ◌∷◌, ◌++◌, [], List, map, take, get_or, length, arith, length-append, ap, sym, refl}
+use Rattle.std.proofs.Common.{◌∙◌, ◌<◌, ◌∷◌, ◌++◌, [], List, map, take, get_or, length, arith, length-append, ap, sym, refl}
 use Rattle.std.specs.List.{zip}
 use Rattle.smk_base.specs.declared.catalog.Column.{Column}
 use Rattle.smk_model.specs.TypedSteps.{united_column}
