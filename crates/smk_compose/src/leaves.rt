@@ -1,4 +1,4 @@
-ghost use Rattle.std.specs.Prelude.{◌≡◌, ◌<◌, [], ◌∷◌, ◌++◌, length, OnOk, OnErr};
+ghost use Rattle.std.specs.Prelude.{◌≡◌, ◌<◌, [], ◌∷◌, ◌++◌, length, IfOk, OnOk, OnErr};
 
 use smk_base::Rel;
 use smk_table::Chosen;
@@ -29,6 +29,15 @@ impl Leaves {
         Leaves {
             leaves: VecDeque::new(alloc),
         }
+    }
+
+    /// The Rel of one leaf. On an error it is dropped.
+    pub fn one(alloc: Global, rel: Rel) -> Result<Leaves, AllocError>
+        ensures { IfOk result (λ leaves. leaves ≡ rel ∷ []) }
+    {
+        let mut leaves = Leaves::new(alloc);
+        leaves.push(rel)?;
+        Ok(leaves)
     }
 
     /// Puts the Rel of one more leaf last. On an error the Rel is dropped.

@@ -54,8 +54,8 @@ fn book_text(alloc: Global, fault: BookFault) -> Result<Vec<u8>, AllocError>
     }
 }
 
-// The words for a fault of typing, and its place.
-fn type_words(fault: TypeFault) -> (&'static [u8], u64)
+/// The words for a fault of typing, and its place. Want of memory has neither. It takes no memory.
+pub fn type_words(fault: TypeFault) -> (&'static [u8], u64)
     ensures words { result.0.now ≡ texts.type_words fault }
     ensures place { result.1 ≡ texts.type_place fault }
 {

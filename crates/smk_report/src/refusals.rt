@@ -1,17 +1,20 @@
 // Why a line is refused.
 ghost use Rattle.std.specs.Prelude.{◌≡◌, ◌<◌, ◌∷◌, [], length, codes, decimal, IfOk};
 ghost use Rattle.smk_base.specs.CatalogImage.{catalog_image};
+ghost use Rattle.smk_base.specs.TreeImage.{ask_image};
 ghost use Rattle.smk_base.specs.declared.reply.Refusal.TheVariants as refusals;
+ghost use Rattle.smk_model.specs.Asks.{back_line};
 ghost use Rattle.smk_model.specs.ReplyTexts as texts;
 ghost use Rattle.smk_model.specs.Session.{view_at};
 ghost use Rattle.smk_model.specs.ShownNames.{shown as shown_name};
 ghost use Rattle.smk_model.specs.Texts.{line};
+ghost use Rattle.smk_model.specs.Typing.{nothing_declared};
 
 use crate::lines::{line_around, line_of, pair_text};
 use crate::lookup::view_at;
 use crate::names::shown;
 use crate::texts::no_row_text;
-use smk_base::{Catalog, Line, Refusal, Then};
+use smk_base::{AskLine, Catalog, Line, Refusal, Then};
 use std::alloc::{AllocError, Global};
 
 // The view that a line names.
@@ -59,6 +62,27 @@ fn column_in(asked: &Line) -> &[u8]
     }
 }
 
+// A view that the book doesn't have.
+fn unknown_view_text(alloc: Global, view: &[u8]) -> Result<Vec<u8>, AllocError>
+    ensures { IfOk result (λ text. text.items ≡ line (codes "refused unknown view " ∷ view.now ∷ [])) }
+{
+    line_of(alloc, &[b"refused unknown view ", view])
+}
+
+// A table that the book doesn't have.
+fn unknown_table_text(alloc: Global, table: &[u8]) -> Result<Vec<u8>, AllocError>
+    ensures { IfOk result (λ text. text.items ≡ line (codes "refused unknown table " ∷ table.now ∷ [])) }
+{
+    line_of(alloc, &[b"refused unknown table ", table])
+}
+
+// A backward query that the book doesn't declare.
+fn undeclared_back_text(alloc: Global, view: &[u8], table: &[u8]) -> Result<Vec<u8>, AllocError>
+    ensures { IfOk result (λ text. text.items ≡ line (codes "refused undeclared back " ∷ view.now ∷ codes " to " ∷ table.now ∷ [])) }
+{
+    pair_text(alloc, b"refused undeclared back ", view, b" to ", table)
+}
+
 // A query that the book doesn't declare, as the line asks it.
 fn undeclared_text(alloc: Global, catalog: &Catalog, asked: &Line) -> Result<Vec<u8>, AllocError>
     requires { texts.IsRefusalOf (catalog_image catalog.now) asked.now refusals.Undeclared }
@@ -67,7 +91,7 @@ fn undeclared_text(alloc: Global, catalog: &Catalog, asked: &Line) -> Result<Vec
     let view = view_in(asked);
     let table = table_in(asked);
     match asked {
-        Line::Back { .. } => pair_text(alloc, b"refused undeclared back ", view, b" to ", table),
+        Line::Back { .. } => undeclared_back_text(alloc, view, table),
         Line::Fwd { .. } => pair_text(alloc, b"refused undeclared fwd ", table, b" to ", view),
         Line::Show { .. } | Line::Brush { .. } | Line::Clear | Line::ClearOne { .. } =>
             unreachable!(),
@@ -132,8 +156,8 @@ pub fn refusal_text(
     let view = view_in(asked);
     let table = table_in(asked);
     match refusal {
-        Refusal::UnknownView => line_of(alloc, &[b"refused unknown view ", view]),
-        Refusal::UnknownTable => line_of(alloc, &[b"refused unknown table ", table]),
+        Refusal::UnknownView => unknown_view_text(alloc, view),
+        Refusal::UnknownTable => unknown_table_text(alloc, table),
         Refusal::Undeclared => undeclared_text(alloc, catalog, asked),
         Refusal::NoRow { row, rows } => no_row_text(alloc, row, rows),
         Refusal::NoSplit => no_split_text(alloc, asked),
@@ -142,5 +166,30 @@ pub fn refusal_text(
         Refusal::NotLinked => pair_text(alloc, b"refused not linked ", view, b" on ", table),
         Refusal::RowsLimit { view, node } => full_text(alloc, catalog, view, node),
         Refusal::ManyMarks => line_of(alloc, &[b"refused more than one mark"]),
+    }
+}
+
+/// The line of an `ask` line whose `back` line is refused. It names nothing of a catalog.
+pub fn back_refusal_text(
+    alloc: Global,
+    asked: &AskLine,
+    refusal: Refusal,
+) -> Result<Vec<u8>, AllocError>
+    requires { texts.IsRefusalOf nothing_declared (back_line (ask_image asked.now)) refusal }
+    ensures { IfOk result (λ text. text.items ≡ texts.refusal_text nothing_declared (back_line (ask_image asked.now)) refusal) }
+{
+    let view = asked.view.as_slice();
+    let table = asked.table.as_slice();
+    match refusal {
+        Refusal::UnknownView => unknown_view_text(alloc, view),
+        Refusal::UnknownTable => unknown_table_text(alloc, table),
+        Refusal::Undeclared => undeclared_back_text(alloc, view, table),
+        Refusal::NoRow { row, rows } => no_row_text(alloc, row, rows),
+        Refusal::NoSplit
+        | Refusal::ValueKind
+        | Refusal::NoGroup
+        | Refusal::NotLinked
+        | Refusal::RowsLimit { .. }
+        | Refusal::ManyMarks => unreachable!(),
     }
 }

@@ -131,8 +131,8 @@ fn placed_rows(
     Ok(())
 }
 
-// A text with the records of the names of the columns that a table declares, and of rows with these numbers, behind it.
-fn with_placed_rows(
+/// A text with the records of the names of the columns that a table declares, and of rows with these numbers, behind it.
+pub fn with_placed_rows(
     alloc: Global,
     front: Vec<u8>,
     columns: &ColDecls,
