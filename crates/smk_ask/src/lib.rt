@@ -1,0 +1,10 @@
+//! Steps over the rows of a backward answer, and the text of what they come to.
+#![tactic(auto)]
+
+mod asking;
+mod chained;
+mod said;
+mod stepping;
+
+pub use asking::ask;
+pub use said::ask_text;
