@@ -8,16 +8,18 @@ use Rattle.smk_base.specs.declared.fault.BookFault.{BookFault}
 use Rattle.smk_base.specs.declared.fault.BookFault.TheVariants as book_faults
 use Rattle.smk_base.specs.declared.tree.Book.{Book as Statements}
 use Rattle.smk_base.specs.Trees.{StmtImage}
-use Rattle.smk_base.specs.TreeImage.{book_image}
+use Rattle.smk_base.specs.TreeImage.{book_image, ask_image, any_image}
 use Rattle.smk_base.specs.declared.fault.LineFault.TheVariants as line_faults
-use Rattle.smk_base.specs.declared.tree.Line.{Line}
+use Rattle.smk_base.specs.declared.tree.AnyLine.{AnyLine}
+use Rattle.smk_base.specs.declared.tree.AnyLine.TheVariants as any_lines
 use Rattle.smk_model.specs.Names.{Typed}
 use Rattle.smk_model.specs.Typing.{types}
 use Rattle.smk_model.specs.Readings.{Nothing, Asks, Unread as Unread', IsReading, says_nothing, asks, leaves}
-use Rattle.smk_model.specs.Outcome.{Held, content_of, Parses, spells, misspells, BookSays, unparsed, parsed, or_type_fault, FileSays, unread, read, UntoldCause}
+use Rattle.smk_model.specs.Outcome.{Held, content_of, Parses, spells, misspells, BookSaid, BookSays, unparsed, parsed, said_or_fault, statements_say, FileSays, unread, read, UntoldCause}
 use Rattle.smk_model.specs.Limits.{KeepsLimits}
-use Rattle.smk_model.proofs.Keeping.{faultless_keep_limits}
-use Rattle.smk_parse.specs.Answers.{IsBookAnswer, IsLineAnswer}
+use Rattle.smk_model.proofs.Keeping.{faultless_keep_limits, faultless_asks_keep_limits}
+use Rattle.smk_parse.specs.Answers.{IsBookAnswer, IsAnyAnswer}
+use Rattle.smk_top.specs.Answering.{KeepsLine}
 use Rattle.smk_top.specs.declared.stop.Stop.{Stop}
 use Rattle.smk_top.specs.declared.stop.Stop.TheVariants.{At, Unwritten, Exhausted}
 use Rattle.smk_top.specs.Reading.{Answers, Reads}
@@ -75,17 +77,23 @@ misspelt text (book_faults.BadNumber at) is other = misspells is
 misspelt text book_faults.NoMemory is other = absurd (other refl)
 
 -- a line's text
-pub says_none : (text : List ℕ) → IsLineAnswer text (Ok None) → IsReading text Nothing
+pub says_none : (text : List ℕ) → IsAnyAnswer text (Ok None) → IsReading text Nothing
 says_none text is = says_nothing is
 
-pub says_line : (text : List ℕ) (line : Line) → IsLineAnswer text (Ok (Some line)) → IsReading text (Asks line)
-says_line text line is = asks is.0 is.1
+pub says_line : (text : List ℕ) (line : AnyLine) → IsAnyAnswer text (Ok (Some line)) → IsReading text (Asks (any_image line))
+says_line text line is = asks is.0 is.1 is.2
 
-pub says_fault : (text : List ℕ) (at : ℕ) → IsLineAnswer text (Err (line_faults.NotALine at)) → IsReading text (Unread' at)
+pub says_fault : (text : List ℕ) (at : ℕ) → IsAnyAnswer text (Err (line_faults.NotALine at)) → IsReading text (Unread' at)
 says_fault text at is = leaves is.0 is.1.1.0 is.1.1.1
 
+pub keeps_line : (text : List ℕ) (line : AnyLine) → IsAnyAnswer text (Ok (Some line)) → KeepsLine (any_image line)
+keeps_line text (any_lines.Plain line) is = tt
+keeps_line text (any_lines.Ask asked) is = faultless_asks_keep_limits text (ask_image asked) is.1 is.2
+
+pub ruleset lines_say = (says_none, says_line, says_fault, keeps_line)
+
 -- the bytes of a book's file say no fault of a file that isn't read
-book_typed : (answer : Typed CatalogImage) (rose : Type 0) (fault : Fault) → or_type_fault answer ≡ Err fault → UntoldCause rose fault
+book_typed : (answer : Typed CatalogImage) (rose : Type 0) (fault : Fault) → said_or_fault answer ≡ Err fault → UntoldCause rose fault
 book_typed (Ok catalog) rose fault e = absurd (cc)
 book_typed (Err found) rose fault e = let same : Types found ≡ fault = cc in subst (UntoldCause rose) same tt
 
@@ -94,13 +102,13 @@ book_untold bytes rose fault (unparsed (misspells is)) = tt
 book_untold bytes rose fault (parsed {stmts = stmts} is e) = book_typed (types stmts) rose fault e
 
 -- a book's file, after its text was parsed, or was not
-pub book_unparsed : {X Y : Type 0} (trees : X → List StmtImage) (image : Y → CatalogImage) (bytes text : List ℕ) (stop : Stop) → text ≡ after_marks bytes → Answers {X = X} (Parses text) trees (Err stop) → Answers {X = Y} (BookSays bytes) image (Err stop)
+pub book_unparsed : {X Y : Type 0} (trees : X → List StmtImage) (image : Y → BookSaid) (bytes text : List ℕ) (stop : Stop) → text ≡ after_marks bytes → Answers {X = X} (Parses text) trees (Err stop) → Answers {X = Y} (BookSays bytes) image (Err stop)
 book_unparsed trees image bytes text (At fault) same is = unparsed (subst (λ (t : List ℕ). Parses t (Err fault)) same is)
 book_unparsed trees image bytes text Unwritten same is = is
 book_unparsed trees image bytes text Exhausted same is = tt
 
-pub book_says : {X Y : Type 0} (trees : X → List StmtImage) (image : Y → CatalogImage) (bytes text : List ℕ) (book : X) (r : Result Y Stop) → text ≡ after_marks bytes → Answers (Parses text) trees (Ok book)
-    → Answers (λ answer. or_type_fault (types (trees book)) ≡ answer) image r → Answers (BookSays bytes) image r
+pub book_says : {X Y : Type 0} (trees : X → List StmtImage) (image : Y → BookSaid) (bytes text : List ℕ) (book : X) (r : Result Y Stop) → text ≡ after_marks bytes → Answers (Parses text) trees (Ok book)
+    → Answers (λ answer. statements_say (trees book) ≡ answer) image r → Answers (BookSays bytes) image r
 book_says trees image bytes text book (Ok typed) same is e = parsed (subst (λ (t : List ℕ). Parses t (Ok (trees book))) same is) e
 book_says trees image bytes text book (Err (At fault)) same is e = parsed (subst (λ (t : List ℕ). Parses t (Ok (trees book))) same is) e
 book_says trees image bytes text book (Err Unwritten) same is e = e

@@ -2,7 +2,6 @@
 use Rattle.std.proofs.Common.{◌≡◌, ◌<◌, ◌≤◌, ℕ, List, Option, Some, None, Ok, Err, sym, ap, subst, arith, inl, inr}
 use Rattle.std.specs.Prelude.{◌⊎◌, option_map}
 use Rattle.std.proofs.lemmas.Bool.{cases_lt}
-use Rattle.smk_base.specs.CatalogImage.{CatalogImage}
 use Rattle.smk_base.specs.declared.fault.Fault.{Fault}
 use Rattle.smk_base.specs.declared.fault.Fault.TheVariants.{Usage, Book, Types, Table, FileLong, TableRows, ViewRows, ViewPairs, Unread}
 use Rattle.smk_outside.specs.Outside.{Rose}
@@ -10,7 +9,7 @@ use Rattle.smk_model.specs.Values.{Row}
 use Rattle.smk_model.specs.Readings.{AreReadingsOf}
 use Rattle.smk_model.specs.Session.{Workbook}
 use Rattle.smk_model.specs.Words.{Invocation, invocation_of, words_of}
-use Rattle.smk_model.specs.Outcome.{Held, OpensBook, ReadsFiles, no_book, no_tables, no_readings, inputs, the_book, a_table, the_script, UntoldCause}
+use Rattle.smk_model.specs.Outcome.{Held, BookSaid, OpensBook, ReadsFiles, no_book, no_tables, no_readings, inputs, the_book, a_table, the_script, UntoldCause}
 use Rattle.smk_top.specs.declared.called.RunWords.{RunWords}
 use Rattle.smk_top.specs.declared.stop.Stop.{Stop}
 use Rattle.smk_top.specs.declared.stop.Stop.TheVariants.{At, Unwritten, Exhausted}
@@ -44,7 +43,7 @@ untold_within rose_here rose (ViewRows view node) wide h = tt
 untold_within rose_here rose (ViewPairs view node name) wide h = tt
 
 -- the book
-pub book_stops : {X Y : Type 0} (image : X → CatalogImage) (workbook : Y → Workbook) (bytes : Y → List ℕ) (held : Option Held) (rose : Type 0) (book : List ℕ) (script : Option (List ℕ)) (stop : Stop)
+pub book_stops : {X Y : Type 0} (image : X → BookSaid) (workbook : Y → Workbook) (bytes : Y → List ℕ) (held : Option Held) (rose : Type 0) (book : List ℕ) (script : Option (List ℕ)) (stop : Stop)
     → Reads held rose book (λ h. OpensBook h book) image (Err stop) → ReadsAll {X = Y} held rose book script workbook bytes (Err stop)
 book_stops image workbook bytes (Some held) rose book script (At fault) (inl err) = inl (no_book err)
 book_stops image workbook bytes (Some held) rose book script (At fault) (inr (up, name)) = inr (up, rw name the_book)
@@ -55,10 +54,10 @@ book_stops image workbook bytes None rose book script Unwritten h = h
 book_stops image workbook bytes None rose book script Exhausted h = tt
 
 -- the tables
-pub tables_stop : {X Y Z : Type 0} (image : X → CatalogImage) (rows : Z → List (List Row)) (workbook : Y → Workbook) (bytes : Y → List ℕ) (opened : X) (held : Option Held) (rose_before rose_here rose : Type 0) (book : List ℕ) (script : Option (List ℕ)) (stop : Stop)
+pub tables_stop : {X Y Z : Type 0} (image : X → BookSaid) (rows : Z → List (List Row)) (workbook : Y → Workbook) (bytes : Y → List ℕ) (opened : X) (held : Option Held) (rose_before rose_here rose : Type 0) (book : List ℕ) (script : Option (List ℕ)) (stop : Stop)
     → (rose_here → rose)
     → Reads held rose_before book (λ h. OpensBook h book) image (Ok opened)
-    → Loads held rose_here (image opened).tables rows (Err stop) → ReadsAll {X = Y} held rose book script workbook bytes (Err stop)
+    → Loads held rose_here (image opened).catalog.tables rows (Err stop) → ReadsAll {X = Y} held rose book script workbook bytes (Err stop)
 tables_stop image rows workbook bytes opened (Some held) r1 r2 rose book script (At fault) wide ok (inl err) = inl (no_tables ok err)
 tables_stop image rows workbook bytes opened (Some held) r1 r2 rose book script (At fault) wide ok (inr (up, unread_among before table behind are loaded name)) = inr (wide up, rw name (a_table before table behind ok are loaded))
 tables_stop image rows workbook bytes opened (Some held) r1 r2 rose book script Unwritten wide ok h = h
@@ -68,11 +67,11 @@ tables_stop image rows workbook bytes opened None r1 r2 rose book script Unwritt
 tables_stop image rows workbook bytes opened None r1 r2 rose book script Exhausted wide ok h = tt
 
 -- the script
-pub script_stops : {X Y Z V : Type 0} (image : X → CatalogImage) (rows : Z → List (List Row)) (content : V → List ℕ) (workbook : Y → Workbook) (bytes : Y → List ℕ) (opened : X) (tables : Z)
+pub script_stops : {X Y Z V : Type 0} (image : X → BookSaid) (rows : Z → List (List Row)) (content : V → List ℕ) (workbook : Y → Workbook) (bytes : Y → List ℕ) (opened : X) (tables : Z)
     (held : Option Held) (rose_first rose_second rose_here rose : Type 0) (book : List ℕ) (script : Option (List ℕ)) (stop : Stop)
     → (rose_here → rose)
     → Reads held rose_first book (λ h. OpensBook h book) image (Ok opened)
-    → Loads held rose_second (image opened).tables rows (Ok tables)
+    → Loads held rose_second (image opened).catalog.tables rows (Ok tables)
     → OpensBytes {X = V} held rose_here script content (Err stop) → ReadsAll {X = Y} held rose book script workbook bytes (Err stop)
 script_stops image rows content workbook bytes opened tables (Some held) r1 r2 r3 rose book script (At fault) wide ok fine (inl err) = inl (no_readings ok fine err)
 script_stops image rows content workbook bytes opened tables (Some held) r1 r2 r3 rose book script (At fault) wide ok fine (inr (up, (name, some, is))) = inr (wide up, rw is (the_script ok fine some))
@@ -83,11 +82,11 @@ script_stops image rows content workbook bytes opened tables None r1 r2 r3 rose 
 script_stops image rows content workbook bytes opened tables None r1 r2 r3 rose book script Exhausted wide ok fine h = tt
 
 -- all is read
-pub all_read : {X Y Z V : Type 0} (image : X → CatalogImage) (rows : Z → List (List Row)) (content : V → List ℕ) (workbook : Y → Workbook) (bytes : Y → List ℕ) (opened : X) (tables : Z) (text : V) (all : Y)
+pub all_read : {X Y Z V : Type 0} (image : X → BookSaid) (rows : Z → List (List Row)) (content : V → List ℕ) (workbook : Y → Workbook) (bytes : Y → List ℕ) (opened : X) (tables : Z) (text : V) (all : Y)
     (held : Option Held) (rose_first rose_second rose_third rose : Type 0) (book : List ℕ) (script : Option (List ℕ))
-    → workbook all ≡ record { catalog = image opened; tables = rows tables } → bytes all ≡ content text
+    → workbook all ≡ record { catalog = (image opened).catalog; tables = rows tables } → bytes all ≡ content text
     → Reads held rose_first book (λ h. OpensBook h book) image (Ok opened)
-    → Loads held rose_second (image opened).tables rows (Ok tables)
+    → Loads held rose_second (image opened).catalog.tables rows (Ok tables)
     → OpensBytes held rose_third script content (Ok text)
     → ReadsAll held rose book script workbook bytes (Ok all)
 all_read image rows content workbook bytes opened tables text all (Some held) r1 r2 r3 rose book script made same ok fine read =
@@ -114,8 +113,8 @@ rest_stops workbook bytes image content None r1 r2 book script (At fault) wide i
 rest_stops workbook bytes image content None r1 r2 book script Unwritten wide is = is
 rest_stops workbook bytes image content None r1 r2 book script Exhausted wide is = tt
 
--- a book that was opened, as its catalog
-pub opened_as : {X : Type 0} (image : X → CatalogImage) (held : Option Held) (rose other : Type 0) (book : List ℕ) (opened : X)
-    → Reads held rose book (λ h. OpensBook h book) image (Ok opened) → Reads held other book (λ h. OpensBook h book) (λ (c : CatalogImage). c) (Ok (image opened))
+-- a book that was opened, as what it says
+pub opened_as : {X : Type 0} (image : X → BookSaid) (held : Option Held) (rose other : Type 0) (book : List ℕ) (opened : X)
+    → Reads held rose book (λ h. OpensBook h book) image (Ok opened) → Reads held other book (λ h. OpensBook h book) (λ (said : BookSaid). said) (Ok (image opened))
 opened_as image (Some held) rose other book opened is = is
 opened_as image None rose other book opened is = tt

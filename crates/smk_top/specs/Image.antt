@@ -1,4 +1,5 @@
 -- Words and lines as the definitions see them.
+use Rattle.smk_base.specs.TreeImage.{any_image}
 use Rattle.smk_model.specs.Readings as readings
 use Rattle.smk_model.specs.Words.{Invocation}
 use Rattle.smk_model.specs.Words as calls
@@ -29,5 +30,5 @@ invocation_image words = record { settings = settings_image words.settings; text
 -- what a line says
 abbrev pub reading_image : Reading → readings.Reading
 reading_image Nothing = readings.Nothing
-reading_image (Asks line) = readings.Asks line
+reading_image (Asks line) = readings.Asks (any_image line)
 reading_image (Unread at) = readings.Unread at

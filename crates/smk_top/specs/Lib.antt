@@ -1,4 +1,5 @@
 pub mod Image
+pub mod Answering
 pub mod WordsTaken
 pub mod Loaded
 pub mod Statuses

@@ -1,12 +1,11 @@
 // A book, from its file to its catalog.
 ghost use Rattle.std.specs.Prelude.{◌≡◌, ◌≤◌, IfOk};
 ghost use Rattle.smk_base.specs.TreeImage.{book_image};
-ghost use Rattle.smk_base.specs.CatalogImage.{catalog_image};
 ghost use Rattle.smk_base.specs.Marks.{after_marks};
 ghost use Rattle.smk_model.specs.Limits.{KeepsLimits};
-ghost use Rattle.smk_model.specs.Typing.{types};
 ghost use Rattle.smk_model.specs.Outcome as outcomes;
 ghost use Rattle.smk_outside.specs.Outside.{Rose};
+ghost use Rattle.smk_top.specs.Loaded.{book_said};
 ghost use Rattle.smk_top.specs.Reading.{Answers, Reads, IsSayable};
 
 use crate::files::content;
@@ -34,7 +33,7 @@ fn parsed(alloc: Global, text: &[u8]) -> Result<Book, Stop>
 // The checked book of statements.
 fn checked(alloc: Global, book: Book) -> Result<TypedBook, Stop>
     requires { KeepsLimits (book_image book) }
-    ensures answers { Answers (λ answer. outcomes.or_type_fault (types (book_image book)) ≡ answer) catalog_image result }
+    ensures answers { Answers (λ answer. outcomes.statements_say (book_image book) ≡ answer) book_said result }
     ensures said { IsSayable result }
 {
     match check(alloc, book) {
@@ -46,7 +45,7 @@ fn checked(alloc: Global, book: Book) -> Result<TypedBook, Stop>
 
 // The checked book of the bytes of a file.
 fn book_of(alloc: Global, bytes: &[u8]) -> Result<TypedBook, Stop>
-    ensures answers { Answers (outcomes.BookSays bytes.now) catalog_image result }
+    ensures answers { Answers (outcomes.BookSays bytes.now) book_said result }
     ensures said { IsSayable result }
 {
     let book = parsed(alloc, without_mark(bytes))?;
@@ -56,7 +55,7 @@ fn book_of(alloc: Global, bytes: &[u8]) -> Result<TypedBook, Stop>
 /// The checked book of a file.
 pub fn open_book<F: Files>(alloc: Global, files: &mut F, name: &Text) -> Result<TypedBook, Stop>
     ensures read { Reads (F.held files.old) (Rose (F.faults files.old) (F.faults files.new)) name.now
-        (λ held. outcomes.OpensBook held name.now) catalog_image result }
+        (λ held. outcomes.OpensBook held name.now) book_said result }
     ensures said { IsSayable result }
     ensures held { F.held files.new ≡ F.held files.old }
     ensures later { F.faults files.old ≤ F.faults files.new }

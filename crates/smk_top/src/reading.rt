@@ -1,9 +1,8 @@
 // Reads in order: the book, its tables, the script.
 ghost use Rattle.std.specs.Prelude.{◌≡◌, ◌≤◌, ℕ, List, Ok, All, IfOk};
 ghost use Rattle.std.specs.Option.{option_copied};
-ghost use Rattle.smk_base.specs.CatalogImage.{CatalogImage};
 ghost use Rattle.smk_model.specs.Catalogs.{each_table_kinds};
-ghost use Rattle.smk_model.specs.Outcome.{OpensBook};
+ghost use Rattle.smk_model.specs.Outcome.{BookSaid, OpensBook};
 ghost use Rattle.smk_model.specs.Selection.{each_kinds, each_rows};
 ghost use Rattle.smk_model.specs.Tables.{AreColumns};
 ghost use Rattle.smk_outside.specs.Outside.{Rose};
@@ -35,8 +34,8 @@ fn read_rest<F: Files>(
     script: Option<&Text>,
 ) -> Result<Rest, Stop>
     requires { All (λ info. AreColumns info.cols) infos.now }
-    ensures read { (book : List ℕ) (catalog : CatalogImage) → catalog.tables ≡ infos.now → Reads (F.held files.old) (Unit {0}) book (λ held. OpensBook held book) (λ opened. opened) (Ok catalog)
-        → ReadsAll (F.held files.old) (Rose (F.faults files.old) (F.faults files.new)) book (option_copied script.entry) (λ rest. record { catalog = catalog; tables = each_rows rest.tables.items }) (λ rest. rest.script.items) result }
+    ensures read { (book : List ℕ) (said : BookSaid) → said.catalog.tables ≡ infos.now → Reads (F.held files.old) (Unit {0}) book (λ held. OpensBook held book) (λ opened. opened) (Ok said)
+        → ReadsAll (F.held files.old) (Rose (F.faults files.old) (F.faults files.new)) book (option_copied script.entry) (λ rest. record { catalog = said.catalog; tables = each_rows rest.tables.items }) (λ rest. rest.script.items) result }
     ensures kinds { IfOk result (λ rest. each_kinds rest.tables.items ≡ each_table_kinds infos.now) }
     ensures said { IsSayable result }
     ensures held { F.held files.new ≡ F.held files.old }

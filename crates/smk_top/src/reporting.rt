@@ -2,29 +2,30 @@
 ghost use Rattle.std.specs.Prelude.{◌≡◌, ◌≤◌, ◌<◌, ◌+◌, [], cond, length, List, IfOk};
 ghost use Rattle.smk_base.specs.CatalogImage.{catalog_image};
 ghost use Rattle.smk_base.specs.Marks.{after_marks};
+ghost use Rattle.smk_base.specs.TreeImage.{any_image};
 ghost use Rattle.smk_model.specs.Lines.{lines};
 ghost use Rattle.smk_model.specs.Readings as readings;
 ghost use Rattle.smk_model.specs.Readings.{AreReadings, AreReadingsOf};
 ghost use Rattle.smk_model.specs.Reports as reports;
-ghost use Rattle.smk_model.specs.Replies.{is_refused};
-ghost use Rattle.smk_model.specs.ReplyTexts as texts;
-ghost use Rattle.smk_model.specs.Session.{State, view_at};
+ghost use Rattle.smk_model.specs.Session.{view_at};
 ghost use Rattle.smk_model.specs.Texts as line_texts;
 ghost use Rattle.smk_outside.specs.Outside.{Rose};
 ghost use Rattle.smk_session.specs.Sessions.{state_of, workbook_of};
+ghost use Rattle.smk_top.specs.Answering.{KeepsLine, KeepsReading};
 ghost use Rattle.smk_top.specs.Image.{reading_image};
 ghost use Rattle.smk_top.specs.Counting.{counts_told, counts_of, text_counted};
 ghost use Rattle.smk_top.specs.Writing.{Puts, PutsPieces};
 
+use crate::answering::{Answered, answer_line};
 use crate::counting::{NOTHING, together};
 use crate::counts::Counts;
 use crate::script::{Reading, reading_of};
 use crate::stop::Stop;
-use smk_base::{Catalog, Line, Reply, without_mark};
+use smk_base::{AnyLine, without_mark};
 use smk_outside::{Gate, Sink, Steps};
 use smk_parse::line_at;
-use smk_report::{bad_line_text, reply_text, view_text};
-use smk_session::{Session, has_refused};
+use smk_report::{bad_line_text, view_text};
+use smk_session::Session;
 use std::alloc::{AllocError, Global};
 use std::sync::ledger::Ledger;
 use std::thread::Threads;
@@ -87,56 +88,38 @@ fn write_counted<O: Sink>(out: &mut O, text: Vec<u8>, counts: Counts) -> Result<
     }
 }
 
-// How many refusals a reply is.
-fn refusals(reply: &Reply) -> u64
-    ensures { result ≡ cond (is_refused reply.now) 1 0 }
+// The counts of a line that is answered, but for its bytes.
+fn answer_counts(refused: bool) -> Counts
+    ensures { result ≡ record { replies = 1; refused = cond refused 1 0; unread = 0; bytes = 0 } }
 {
-    if has_refused(reply) { 1 } else { 0 }
-}
-
-// Writes the text of this reply to a line.
-fn write_told<O: Sink>(
-    alloc: Global,
-    catalog: &Catalog,
-    line: &Line,
-    reply: &Reply,
-    out: &mut O,
-) -> Result<Counts, Stop>
-    requires { texts.IsReplyTo (catalog_image catalog.now) line.now reply.now }
-    ensures written { PutsPieces (texts.reply_text (catalog_image catalog.now) line.now reply.now)
-        (Rose (O.faults out.old) (O.faults out.new)) (O.written out.old) (O.written out.new) result }
-    ensures counts { (state : State) → IfOk result (λ counts. counts ≡ counts_told (reports.reply_told (catalog_image catalog.now) state line.now reply.now)) }
-    ensures later { O.faults out.old ≤ O.faults out.new }
-{
-    let text = reply_text(alloc, catalog, line, reply)?;
-    let counts = Counts {
+    Counts {
         replies: 1,
-        refused: refusals(reply),
+        refused: if refused { 1 } else { 0 },
         ..NOTHING
-    };
-    write_counted(out, text, counts)
+    }
 }
 
-// Writes the text of the reply to a line.
-fn write_reply<R: Threads + Sync, G: Gate + Sync, O: Sink, L: Ledger>(
+// Writes the text of a line that is answered.
+fn write_answer<R: Threads + Sync, G: Gate + Sync, O: Sink, L: Ledger>(
     rt: &R,
     alloc: Global,
     session: &mut Session,
-    line: &Line,
+    line: &AnyLine,
     gate: &G,
     out: &mut O,
     steps: &mut Steps<L>,
 ) -> Result<Counts, Stop>
-    ensures written { PutsPieces (reports.line_told (catalog_image session.old.catalog) (state_of session.old) 0 (readings.Asks line.now)).text
+    requires { KeepsLine (any_image line.now) }
+    ensures written { PutsPieces (reports.line_told (catalog_image session.old.catalog) (state_of session.old) 0 (readings.Asks (any_image line.now))).text
         (Rose (O.faults out.old) (O.faults out.new)) (O.written out.old) (O.written out.new) result }
-    ensures counts { IfOk result (λ counts. counts ≡ counts_told (reports.line_told (catalog_image session.old.catalog) (state_of session.old) 0 (readings.Asks line.now))) }
-    ensures after { IfOk result (λ counts. state_of session.new ≡ reports.state_after (catalog_image session.old.catalog) (state_of session.old) (readings.Asks line.now)) }
+    ensures counts { IfOk result (λ counts. counts ≡ counts_told (reports.line_told (catalog_image session.old.catalog) (state_of session.old) 0 (readings.Asks (any_image line.now)))) }
+    ensures after { IfOk result (λ counts. state_of session.new ≡ reports.state_after (catalog_image session.old.catalog) (state_of session.old) (readings.Asks (any_image line.now))) }
     ensures book { session.new.catalog ≡ session.old.catalog }
     ensures later { O.faults out.old ≤ O.faults out.new }
-    ensures looks { steps.new ≤ steps.old + (reports.line_told (catalog_image session.old.catalog) (state_of session.old) 0 (readings.Asks line.now)).looks }
+    ensures looks { steps.new ≤ steps.old + (reports.line_told (catalog_image session.old.catalog) (state_of session.old) 0 (readings.Asks (any_image line.now))).looks }
 {
-    let reply = session.answer(rt, alloc, line, gate, steps)?;
-    write_told(alloc, session.catalog(), line, &reply, out)
+    let Answered { text, refused } = answer_line(rt, alloc, session, line, gate, steps)?;
+    write_counted(out, text, answer_counts(refused))
 }
 
 // Writes the text of a line with this number that isn't in the grammar.
@@ -164,6 +147,7 @@ fn write_line<R: Threads + Sync, G: Gate + Sync, O: Sink, L: Ledger>(
     out: &mut O,
     steps: &mut Steps<L>,
 ) -> Result<Counts, Stop>
+    requires { KeepsReading (reading_image reading) }
     ensures written { PutsPieces (reports.line_told (catalog_image session.old.catalog) (state_of session.old) number (reading_image reading)).text
         (Rose (O.faults out.old) (O.faults out.new)) (O.written out.old) (O.written out.new) result }
     ensures counts { IfOk result (λ counts. counts ≡ counts_told (reports.line_told (catalog_image session.old.catalog) (state_of session.old) number (reading_image reading))) }
@@ -174,7 +158,7 @@ fn write_line<R: Threads + Sync, G: Gate + Sync, O: Sink, L: Ledger>(
 {
     match reading {
         Reading::Nothing => Ok(NOTHING),
-        Reading::Asks(line) => write_reply(rt, alloc, session, &line, gate, out, steps),
+        Reading::Asks(line) => write_answer(rt, alloc, session, &line, gate, out, steps),
         Reading::Unread(at) => write_unread(alloc, number, at, out),
     }
 }

@@ -3,14 +3,15 @@ ghost use Rattle.std.specs.Prelude.{◌≡◌, ◌≤◌, IfOk};
 ghost use Rattle.std.specs.Option.{option_copied};
 ghost use Rattle.smk_model.specs.Readings.{IsReading};
 ghost use Rattle.smk_outside.specs.Outside.{Rose};
+ghost use Rattle.smk_top.specs.Answering.{KeepsReading};
 ghost use Rattle.smk_top.specs.Image.{reading_image};
 ghost use Rattle.smk_top.specs.Reading.{OpensBytes, IsSayable};
 
 use crate::files::content;
 use crate::stop::Stop;
-use smk_base::{Line, LineFault, Text};
+use smk_base::{AnyLine, LineFault, Text};
 use smk_outside::Files;
-use smk_parse::parse_line;
+use smk_parse::parse_any;
 use std::alloc::{AllocError, Global};
 
 /// What a line of a script says.
@@ -19,17 +20,18 @@ pub enum Reading {
     /// The line has no token.
     Nothing,
     /// A line of the grammar.
-    Asks(Line),
+    Asks(AnyLine),
     /// The line isn't in the grammar; this is the place in bytes of its first wrong token.
     Unread(u64),
 }
 
 /// What a line says.
-#[tactic(auto, using(crate::proofs::FileReads::says_none, crate::proofs::FileReads::says_line, crate::proofs::FileReads::says_fault))]
+#[tactic(auto, using(crate::proofs::FileReads::lines_say))]
 pub fn reading_of(alloc: Global, text: &[u8]) -> Result<Reading, AllocError>
-    ensures { IfOk result (λ reading. IsReading text.now (reading_image reading)) }
+    ensures says { IfOk result (λ reading. IsReading text.now (reading_image reading)) }
+    ensures kept { IfOk result (λ reading. KeepsReading (reading_image reading)) }
 {
-    match parse_line(alloc, text) {
+    match parse_any(alloc, text) {
         Ok(None) => Ok(Reading::Nothing),
         Ok(Some(line)) => Ok(Reading::Asks(line)),
         Err(LineFault::NotALine { at }) => Ok(Reading::Unread(at)),

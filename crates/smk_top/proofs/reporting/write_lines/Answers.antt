@@ -21,7 +21,7 @@ pub loop-span-preserved : goal.loop-span-preserved
 loop-span-preserved g c =
     let inv = c.loop-span.invariant in
     let line = c.in_ok-line.ensures in
-    let on = walk_on _ _ _ _ _ _ _ _ _ _ _ _ _ _ _ _ _ inv.walked.0 (ap catalog_image inv.book) c.in-Some.ensures.some.cut c.in_ok-reading.ensures line.written line.after line.looks in
+    let on = walk_on _ _ _ _ _ _ _ _ _ _ _ _ _ _ _ _ _ inv.walked.0 (ap catalog_image inv.book) c.in-Some.ensures.some.cut c.in_ok-reading.ensures.says line.written line.after line.looks in
     record {
       walked = (on.0, on.1 _ _ _ inv.walked.1 line.counts c.in_ok-counts.ensures.is);
       book = line.book ∙ inv.book;
@@ -44,28 +44,28 @@ returns-in_err-line-clause-written g c said all =
     let inv = c.loop-span.invariant in
     let wide : Rose (g.O.Sink.faults c.loop-span.out) (g.O.Sink.faults c.write_line.new.out) → Rose (g.O.Sink.faults c.args.out.now) (g.O.Sink.faults c.write_line.new.out) =
     λ up. rose_within _ _ _ _ inv.later c.in_err-line.ensures.later (omega arith) up in
-    rw (p.1, p.2) (walk_stops Counts Counts _ _ _ _ _ _ _ _ _ _ _ _ _ _ _ _ _ _ _ inv.walked.0 (ap catalog_image inv.book) c.in-Some.ensures.some.cut c.in_ok-reading.ensures wide c.in_err-line.ensures.written c.in_err-line.ensures.looks said all).0
+    rw (p.1, p.2) (walk_stops Counts Counts _ _ _ _ _ _ _ _ _ _ _ _ _ _ _ _ _ _ _ inv.walked.0 (ap catalog_image inv.book) c.in-Some.ensures.some.cut c.in_ok-reading.ensures.says wide c.in_err-line.ensures.written c.in_err-line.ensures.looks said all).0
 
 pub returns-in_err-line-clause-looks : goal.returns-in_err-line-clause-looks
 returns-in_err-line-clause-looks g c said all =
     let inv = c.loop-span.invariant in
     let wide : Rose (g.O.Sink.faults c.loop-span.out) (g.O.Sink.faults c.write_line.new.out) → Rose (g.O.Sink.faults c.args.out.now) (g.O.Sink.faults c.write_line.new.out) =
     λ up. rose_within _ _ _ _ inv.later c.in_err-line.ensures.later (omega arith) up in
-    (walk_stops Counts Counts _ _ _ _ _ _ _ _ _ _ _ _ _ _ _ _ _ _ _ inv.walked.0 (ap catalog_image inv.book) c.in-Some.ensures.some.cut c.in_ok-reading.ensures wide c.in_err-line.ensures.written c.in_err-line.ensures.looks said all).1
+    (walk_stops Counts Counts _ _ _ _ _ _ _ _ _ _ _ _ _ _ _ _ _ _ _ inv.walked.0 (ap catalog_image inv.book) c.in-Some.ensures.some.cut c.in_ok-reading.ensures.says wide c.in_err-line.ensures.written c.in_err-line.ensures.looks said all).1
 
 pub returns-in_err-counts-clause-written : goal.returns-in_err-counts-clause-written
 returns-in_err-counts-clause-written g c said all =
     let p = err_from_is_err_and c.from_residual-in_err-counts.result c.from_residual-in_err-counts.ensures.1 in
     let inv = c.loop-span.invariant in
     let line = c.in_ok-line.ensures in
-    let on = walk_on _ _ _ _ _ _ _ _ _ _ _ _ _ _ _ _ _ inv.walked.0 (ap catalog_image inv.book) c.in-Some.ensures.some.cut c.in_ok-reading.ensures line.written line.after line.looks in
+    let on = walk_on _ _ _ _ _ _ _ _ _ _ _ _ _ _ _ _ _ inv.walked.0 (ap catalog_image inv.book) c.in-Some.ensures.some.cut c.in_ok-reading.ensures.says line.written line.after line.looks in
     rw (p.1, p.2) (wants_stop Counts _ _ _ _ _ c.in_err-counts.ensures.wants (walk_wants _ _ _ _ _ _ _ _ _ _ on.0 said all).0)
 
 pub returns-in_err-counts-clause-looks : goal.returns-in_err-counts-clause-looks
 returns-in_err-counts-clause-looks g c said all =
     let inv = c.loop-span.invariant in
     let line = c.in_ok-line.ensures in
-    let on = walk_on _ _ _ _ _ _ _ _ _ _ _ _ _ _ _ _ _ inv.walked.0 (ap catalog_image inv.book) c.in-Some.ensures.some.cut c.in_ok-reading.ensures line.written line.after line.looks in
+    let on = walk_on _ _ _ _ _ _ _ _ _ _ _ _ _ _ _ _ _ inv.walked.0 (ap catalog_image inv.book) c.in-Some.ensures.some.cut c.in_ok-reading.ensures.says line.written line.after line.looks in
     (walk_wants _ _ _ _ _ _ _ _ _ _ on.0 said all).1
 
 pub returns-clause-written : goal.returns-clause-written
