@@ -57,6 +57,7 @@ same_replaced brush x y = second x y ∙ first x y
       | inl h ↦ rw h (same_pair_laws.congr brush x y h)
       | inr h ↦ rw h refl
     ]
+
     second : (x y : BrushOn) → same_pair (replaced_by brush x) (replaced_by brush y) ≡ same_pair (replaced_by brush x) y
     second x y = elim (cases_Bool (is_brush brush.view brush.table y)) [
       | inl h ↦ rw h (same_pair_laws.symm (replaced_by brush x) brush ∙ same_pair_laws.congr brush y (replaced_by brush x) h ∙ same_pair_laws.symm y (replaced_by brush x))
