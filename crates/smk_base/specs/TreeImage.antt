@@ -1,6 +1,6 @@
 -- Predicates, steps, plans, statements, books and lines as the definitions see them.
 use Rattle.std.specs.Prelude.{List, map}
-use Rattle.smk_base.specs.Trees.{PredImage, CompareNode, AndNode, OrNode, NotNode, TreeImage, ScanNode, StepNode, StepImage, SelectNode, ProjectNode, DistinctNode, GroupNode, JoinNode, ThetaNode, ProductNode, UnionAllNode, UnionNode, StmtImage, TableNode, ViewNode, BackNode, FwdNode, LinkNode, AskStepImage, AskImage, AnyLineImage, PlainLine, AskedLine}
+use Rattle.smk_base.specs.Trees.{PredImage, CompareNode, AndNode, OrNode, NotNode, TreeImage, ScanNode, StepNode, StepImage, SelectNode, ProjectNode, DistinctNode, GroupNode, JoinNode, ThetaNode, ProductNode, UnionAllNode, UnionNode, StmtImage, TableNode, ViewNode, BackNode, FwdNode, LinkNode, DependsNode, AskStepImage, AskImage, AnyLineImage, PlainLine, AskedLine, ProfiledLine}
 use Rattle.smk_base.specs.declared.tree.PredTree.{PredTree, And', Or', Not'}
 use Rattle.smk_base.specs.declared.tree.PredTree.TheVariants.{Cmp}
 use Rattle.smk_base.specs.declared.tree.Tree.{Tree, Step'}
@@ -8,12 +8,12 @@ use Rattle.smk_base.specs.declared.tree.Tree.TheVariants.{Scan}
 use Rattle.smk_base.specs.declared.tree.StepTree.{StepTree, Join', Theta', Product', UnionAll', Union'}
 use Rattle.smk_base.specs.declared.tree.StepTree.TheVariants.{Select, Project, Distinct, Group}
 use Rattle.smk_base.specs.declared.tree.Stmt.{Stmt}
-use Rattle.smk_base.specs.declared.tree.Stmt.TheVariants.{Table, View, Back, Fwd, Link}
+use Rattle.smk_base.specs.declared.tree.Stmt.TheVariants.{Table, View, Back, Fwd, Link, Depends}
 use Rattle.smk_base.specs.declared.tree.Book.{Book}
 use Rattle.smk_base.specs.declared.tree.AskStep.{AskStep}
 use Rattle.smk_base.specs.declared.tree.AskLine.{AskLine}
 use Rattle.smk_base.specs.declared.tree.AnyLine.{AnyLine}
-use Rattle.smk_base.specs.declared.tree.AnyLine.TheVariants.{Plain, Ask}
+use Rattle.smk_base.specs.declared.tree.AnyLine.TheVariants.{Plain, Ask, Profile}
 
 abbrev pub pred_image : PredTree → PredImage
 pred_image (Cmp col op term) = CompareNode col op term
@@ -43,6 +43,7 @@ stmt_image (View name plan) = ViewNode name (tree_image plan)
 stmt_image (Back at view table extra) = BackNode at view table extra
 stmt_image (Fwd at table view) = FwdNode at table view
 stmt_image (Link view table to) = LinkNode view table to
+stmt_image (Depends at name table keys col) = DependsNode at name table keys col
 
 -- the statements of a book, in order
 abbrev pub book_image : Book → List StmtImage
@@ -58,3 +59,4 @@ ask_image asked = record { view = asked.view; marks = asked.marks; table = asked
 abbrev pub any_image : AnyLine → AnyLineImage
 any_image (Plain line) = PlainLine line
 any_image (Ask asked) = AskedLine (ask_image asked)
+any_image (Profile view) = ProfiledLine view

@@ -35,13 +35,14 @@ mutual
     UnionAllNode : TreeImage → StepImage
     UnionNode : TreeImage → StepImage
 
--- a statement; the number is the place of `lineage`
+-- a statement; the number is the place of `lineage` or of `fd`
 pub data StmtImage : Type 0 where
   TableNode : Word → List ℕ → List Decl → StmtImage
   ViewNode : Word → TreeImage → StmtImage
   BackNode : ℕ → Word → Word → Extra → StmtImage
   FwdNode : ℕ → Word → Word → StmtImage
   LinkNode : Word → Word → List Word → StmtImage
+  DependsNode : ℕ → Word → Word → List Word → Word → StmtImage
 
 -- a step of an `ask` line; the number is the place of its keyword
 pub record AskStepImage : Type 0 where
@@ -59,3 +60,4 @@ pub record AskImage : Type 0 where
 pub data AnyLineImage : Type 0 where
   PlainLine : Line → AnyLineImage
   AskedLine : AskImage → AnyLineImage
+  ProfiledLine : List ℕ → AnyLineImage

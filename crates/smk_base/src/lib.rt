@@ -48,7 +48,7 @@ pub use demo::{
 };
 pub use dict::Dict;
 pub use fault::{BookFault, Fault, FilesFault, LineFault, Many, TableFault};
-pub use list::{ListOf, Rids, Row, Text};
+pub use list::{ListOf, Names, Rids, Row, Text};
 pub use need::{Need, Needed};
 pub use pick::Pick;
 pub use picks::Picks;
@@ -56,7 +56,10 @@ pub use plan::{Agg, Aggs, CmpOp, Dir, Item, Items, Keys, Op1, Op2, Operand, Pair
 pub use read::{read_int, without_mark};
 pub use rel::{ROW_LIMIT, Rel};
 pub use rel_builder::RelBuilder;
-pub use reply::{AskRefusal, AskReply, Linked, Linkeds, Refusal, Reply};
+pub use reply::{
+    AskRefusal, AskReply, Group, Groups, Linked, Linkeds, ProfileRefusal, ProfileReply, Refusal,
+    Reply,
+};
 pub use size::{Size, Sizes};
 pub use type_fault::TypeFault;
 pub use value::{CellRef, Kind, Value};

@@ -21,6 +21,9 @@ pub type Row = ListOf<Value>;
 /// Row ids: places of rows in a table or a view, from 0.
 pub type Rids = ListOf<u32>;
 
+/// Names, as those of views.
+pub type Names = ListOf<Text>;
+
 impl<T> Model for ListOf<T> {
     ghost use Rattle.std.specs.Prelude.{List};
 

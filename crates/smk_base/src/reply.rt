@@ -77,3 +77,31 @@ pub enum AskRefusal {
     /// The steps don't fit the columns of the table; the place is that of the fault.
     Steps { at: u64, fault: TypeFault },
 }
+
+/// The answer to an `fd` line.
+#[derive(Drop)]
+pub enum ProfileReply {
+    /// The table of the dependency, by its number, and for each key that violates it its rows, in the order of the keys.
+    Found { table: u32, marks: Groups },
+    /// The line is refused.
+    Refused(ProfileRefusal),
+}
+
+/// The rows of a table that have one key, and their rids in the same order.
+#[derive(Drop)]
+pub struct Group {
+    pub rids: Rids,
+    pub rows: Rel,
+}
+
+/// The rows of several keys.
+pub type Groups = ListOf<Group>;
+
+/// Why an `fd` line is refused. The name that it speaks of is that of the line.
+#[derive(Drop, Clone, Copy)]
+pub enum ProfileRefusal {
+    /// The book has no view of this name.
+    UnknownView,
+    /// The view of this name is none of a dependency.
+    NotProfile,
+}

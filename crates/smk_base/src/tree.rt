@@ -48,7 +48,7 @@ pub struct Book {
     pub stmts: Stmts,
 }
 
-/// A statement. The place of a `lineage` statement is that of its first keyword.
+/// A statement. The place of a `lineage` statement, and that of an `fd` statement, is that of its first keyword.
 #[derive(Drop)]
 pub enum Stmt {
     Table {
@@ -75,6 +75,14 @@ pub enum Stmt {
         view: Word,
         table: Word,
         to: Words,
+    },
+    /// The rows of the table with equal keys have one value in the column; the name is that of the view of the keys where they don't.
+    Depends {
+        at: u64,
+        name: Word,
+        table: Word,
+        keys: Words,
+        col: Word,
     },
 }
 
@@ -231,6 +239,8 @@ pub struct AskLine {
 pub enum AnyLine {
     Plain(Line),
     Ask(AskLine),
+    /// An `fd` line: the rows that violate the dependency of this name.
+    Profile { view: Text },
 }
 
 /// Where a line of a script lies: its bytes from `start` up to `end`, without its line end. The next line begins at `next`.

@@ -51,15 +51,16 @@ StaysClosed Wrong = Unit {0}
 StaysClosed (Past w) = Unit {0}
 StaysClosed Outside = Unit {0}
 
-lim : (o : Bool) (what : Many) (d : Counts) (l : List Symbol) → closes (l ++ []) ≡ true → StaysClosed (or_next (within o what (Takes d l)) [] Skips)
-lim true what d l h = h
-lim false what d l h = tt
+lim : (o : Bool) (what : Many) (m : Move) → StaysClosed (or_next m [] Skips) → StaysClosed (or_next (within o what m) [] Skips)
+lim true what m h = h
+lim false what m h = tt
 
 stmts : (y : Tally) (k : TokenKind) → (k ≡ kinds.End → ⊥) → StaysClosed (or_next (at_stmts y k) [] Skips)
-stmts y kinds.Table n = lim (nat_lt y.tables 16) _ _ _ refl
-stmts y kinds.View n = lim (nat_lt y.views 64) _ _ _ refl
-stmts y kinds.Lineage n = lim (nat_lt y.lineages 256) _ _ _ refl
-stmts y kinds.Link n = lim (nat_lt y.links 64) _ _ _ refl
+stmts y kinds.Table n = lim (nat_lt y.tables 16) _ _ refl
+stmts y kinds.View n = lim (nat_lt y.views 64) _ _ refl
+stmts y kinds.Lineage n = lim (nat_lt y.lineages 256) _ _ refl
+stmts y kinds.Link n = lim (nat_lt y.links 64) _ _ refl
+stmts y kinds.Fd n = lim (nat_lt y.views 64) _ _ (lim (nat_lt y.lineages 256) _ _ refl)
 stmts y kinds.End n = absurd (n refl)
 stmts y _ n = tt
 

@@ -1,11 +1,11 @@
 -- The book of the demo spells its catalog, by computing its tokens.
 use Rattle.std.specs.Prelude.{Ok}
-use Rattle.std.proofs.Common.{◌≡◌, List, refl}
+use Rattle.std.proofs.Common.{◌≡◌, List, [], refl}
 use Rattle.smk_base.specs.Trees.{StmtImage}
 use Rattle.smk_base.specs.Marks.{after_marks}
 use Rattle.smk_model.specs.Tokens.{tokens}
 use Rattle.smk_model.specs.Grammar.{name, plain, number, file, no_more, one_more, listed, int_type, text_type, no_default, decl, width, bin_item, count, sum, max, agg, keys, aggs, pair, ge, literal_term, compared, conj, no_and, pred, no_or, plan, scan, no_step, one_step, where_step, project_step, group_step, join_step, by_extra, group_extra, table_stmt, view_stmt, back_stmt, fwd_stmt, link_stmt, AreStmts, no_stmt, one_stmt}
-use Rattle.smk_model.specs.Typing.{types}
+use Rattle.smk_model.specs.Outcome.{statements_say}
 use Rattle.smk_model.specs.Demo.{demo_of}
 use Rattle.smk_model.specs.DemoBook.{demo_catalog}
 use Rattle.smk_model.proofs.LineExamples.{stands}
@@ -13,7 +13,7 @@ use Rattle.smk_model.proofs.LineExamples.{stands}
 pub record Spelled : Type 0 where
   pub stmts : List StmtImage
   pub are : AreStmts (tokens (after_marks (demo_of 0).book)) stmts
-  pub catalog : types stmts ≡ Ok demo_catalog
+  pub said : statements_say stmts ≡ Ok (record { catalog = demo_catalog; fds = [] })
 
 pub spelled : Spelled
 spelled = record {
@@ -32,5 +32,5 @@ spelled = record {
       (one_stmt (link_stmt stands (name stands) stands (name stands) stands (listed (name stands) (one_more stands (name stands) (one_more stands (name stands) (one_more stands (name stands) no_more)))))
       (one_stmt (link_stmt stands (name stands) stands (name stands) stands (listed (name stands) (one_more stands (name stands) no_more)))
       (no_stmt stands))))))))))));
-  catalog = refl;
+  said = refl;
 }

@@ -31,7 +31,7 @@ pub opened : DemosAreOpened
 opened n h = record {
   stmts = spelled.stmts;
   book = spells spelled.are ((faultless n).book);
-  catalog = spelled.catalog;
+  said = spelled.said;
   tables = tables n h;
   script = readings;
 }

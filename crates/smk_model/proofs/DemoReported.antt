@@ -11,7 +11,7 @@ use Rattle.smk_model.specs.Demo.{demo_of, flights, airports}
 use Rattle.smk_model.specs.DemoBook.{demo_catalog, demo_workbook, demo_readings}
 use Rattle.smk_model.specs.DemoLaws.{HoldsTables, DemosAreReported}
 use Rattle.smk_model.specs.Words.{Words, Demo, Settings, Invocation, called, demo_sized, texts_named, texts_in, settings_in, value_given, smoke_app, where_taken, words_of}
-use Rattle.smk_model.specs.Outcome.{file_limit, kept_short, parsed, read, lines_read, a_script, said_or_fault, OpensBook, OpensScript, inputs, usable, text_named, unless_view_fault}
+use Rattle.smk_model.specs.Outcome.{file_limit, kept_short, parsed, read, lines_read, a_script, OpensBook, OpensScript, inputs, usable, text_named, unless_view_fault}
 use Rattle.smk_model.proofs.DemoOpened.{opened}
 use Rattle.smk_model.proofs.DemoSizes.{short, of_two}
 use Rattle.smk_model.proofs.DemoWithin.{within}
@@ -54,8 +54,8 @@ words_few words n e = taken_few (fault_of smoke_app words) (settings_in (value_g
 is_kept : (name bytes : List ℕ) → length bytes ≤ file_limit → kept_short name bytes ≡ Ok bytes
 is_kept name bytes l = grind (arith, nat_tests, l)
 
-book_there : (n : ℕ) → n ≤ 200000 → OpensBook (text_named (demo_of n)) DEMO_BOOK_NAME.now (Ok (record { catalog = demo_catalog }))
-book_there n l = let at = opened n l in read (is_kept DEMO_BOOK_NAME.now (demo_of n).book (short n l).book) (parsed at.book (ap said_or_fault at.catalog))
+book_there : (n : ℕ) → n ≤ 200000 → OpensBook (text_named (demo_of n)) DEMO_BOOK_NAME.now (Ok (record { catalog = demo_catalog; fds = [] }))
+book_there n l = let at = opened n l in read (is_kept DEMO_BOOK_NAME.now (demo_of n).book (short n l).book) (parsed at.book at.said)
 
 script_there : (n : ℕ) → n ≤ 200000 → OpensScript (text_named (demo_of n)) (Some DEMO_SCRIPT_NAME.now) (Ok demo_readings)
 script_there n l = a_script (read (is_kept DEMO_SCRIPT_NAME.now (demo_of n).script (short n l).script) (lines_read (opened n l).script))
@@ -66,4 +66,4 @@ tables_there n = of_two (λ (file : DemoFile). text_named (demo_of n) file.name 
 pub reported : DemosAreReported
 reported words held n is =
     let l = words_few words n is in
-    read (usable is (inputs (book_there n l) ((opened n l).tables (text_named (demo_of n)) (tables_there n)) (script_there n l))) (ap (unless_view_fault (record { book = demo_workbook n; readings = demo_readings })) (within n l))
+    read (usable is (inputs (book_there n l) ((opened n l).tables (text_named (demo_of n)) (tables_there n)) (script_there n l))) (ap (unless_view_fault (record { book = demo_workbook n; fds = []; readings = demo_readings })) (within n l))

@@ -174,6 +174,7 @@ some_stmts y kinds.Table = lim (nat_lt y.tables 16) _ (Takes no_counts (AName �
 some_stmts y kinds.View = lim (nat_lt y.views 64) _ (Takes no_counts (AName ∷ AToken kinds.Equal ∷ ASource 0 ∷ ASteps 0 ∷ AStmts (record y { views = y.views + 1 }) ∷ [])) refl
 some_stmts y kinds.Lineage = lim (nat_lt y.lineages 256) _ (Takes no_counts (ALineage ∷ AStmts (record y { lineages = y.lineages + 1 }) ∷ [])) refl
 some_stmts y kinds.Link = lim (nat_lt y.links 64) _ (Takes no_counts (AName ∷ AToken kinds.On ∷ AName ∷ AToken kinds.To ∷ ALinked 0 ∷ MoreLinked 1 ∷ AStmts (record y { links = y.links + 1 }) ∷ [])) refl
+some_stmts y kinds.Fd = lim (nat_lt y.views 64) _ _ (lim (nat_lt y.lineages 256) _ (Takes no_counts (AName ∷ AToken kinds.On ∷ AName ∷ AFirst 0 ∷ MoreKeys 1 ∷ AToken kinds.To ∷ AColumn ∷ AStmts (record y { views = y.views + 1; lineages = y.lineages + 1 }) ∷ [])) refl)
 some_stmts y _ = refl
 
 a_mark : (c : Counts) (ss : List Symbol) (v : ℤ) (k : TokenKind) → no_ends ss ≡ true → leaves_none (at_mark c ss v k) ≡ true

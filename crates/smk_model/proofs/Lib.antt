@@ -34,6 +34,10 @@ pub mod Staying
 pub mod Reading
 pub mod Texts
 pub mod Keeping
+pub mod Expanded
+pub mod FirstPlaces
+pub mod Shown
+pub mod ExpandedExamples
 pub mod Alike
 pub mod Moves
 pub mod Sound
@@ -60,3 +64,7 @@ pub mod InOrder
 pub mod Asks
 pub mod Saying
 pub mod AsksFit
+pub mod Spread
+pub mod Dependencies
+pub mod Profiles
+pub mod ProfilesFit

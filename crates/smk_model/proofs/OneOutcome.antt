@@ -5,7 +5,8 @@ use Rattle.smk_base.specs.Trees.{StmtImage}
 use Rattle.smk_base.specs.declared.fault.Fault.{Fault}
 use Rattle.smk_model.specs.Readings.{Reading, Asks, IsReading, says_nothing, asks, leaves, AreReadings, no_line, one_line}
 use Rattle.smk_model.specs.Words.{Words}
-use Rattle.smk_model.specs.Outcome.{Held, BookSaid, Parses, spells, misspells, BookSays, unparsed, parsed, FileSays, unread, read, ScriptSays, lines_read, OpensBook, OpensScript, no_script, a_script, Inputs, ReadsFiles, no_book, no_tables, no_readings, inputs, source_of, book_of, script_of, ReadsInputs, unusable, usable, unreadable}
+use Rattle.smk_model.specs.Reports.{BookSaid}
+use Rattle.smk_model.specs.Outcome.{Held, Parses, spells, misspells, BookSays, unparsed, parsed, FileSays, unread, read, ScriptSays, lines_read, OpensBook, OpensScript, no_script, a_script, Inputs, ReadsFiles, no_book, no_tables, no_readings, inputs, source_of, book_of, script_of, ReadsInputs, unusable, usable, unreadable}
 use Rattle.smk_model.specs.OutcomeLaws.{OneReading, OneInputs, OneOutcome}
 use Rattle.smk_model.proofs.Unique.{one_book, one_any_line}
 

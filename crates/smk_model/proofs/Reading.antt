@@ -203,5 +203,10 @@ pub opens_ends : {P F : Type 0} {x : Symbol} {l : List Symbol} {k : TokenKind} {
 opens_ends {P} {F} {x} {l} {k} {t} {a} {b} {e} true what c p s h g = record { goes = λ ss. after (x ∷ []) l ss ss c no_counts a b e (ap (through (x ∷ ss) c) (standing h) ∙ ap (λ n. go_on (or_next n ss (settle ss c (of_kind k t))) c (of_kind k t) b (λ d r. through r d b)) s) (λ y. refl) (λ u v r. (refl, v (ranged_first h r).1)) (g.goes ss) }
 opens_ends {P} {F} {x} {l} {k} {t} {a} {b} {e} false what c p s h g = record { goes = λ ss. over p t.at what (ap (through (x ∷ ss) c) (standing h) ∙ ap (λ n. go_on (or_next n ss (settle ss c (of_kind k t))) c (of_kind k t) b (λ d r. through r d b)) s) }
 
+-- where it may be too many of either of two things
+pub opens_ends_of_two : {P F : Type 0} {x : Symbol} {l : List Symbol} {k : TokenKind} {t : Token} {a b e : List Token} (first : Bool) (one : Many) (fits : Bool) (what : Many) (c : Counts) → P → next c x (of_kind k t) ≡ within first one (within fits what (Takes no_counts l)) → First k t a b → Ends P F no_counts l b e → Ends P ((first ≡ true) × F) c (x ∷ []) a e
+opens_ends_of_two true one fits what c p s h g = ends_told (λ u. (refl, u.1)) (opens_ends fits what c p s h g)
+opens_ends_of_two false one fits what c p s h g = opens_ends false one c p s h g
+
 pub ends_pass : {P : Type 0} {x : Symbol} {a : List Token} (c : Counts) → next c x (head_of a) ≡ Skips → Ends P (Unit {0}) c (x ∷ []) a a
 ends_pass {P} {x} {a} c h = record { goes = λ ss. on c (λ r. tt) (skipped x c a h ss) }

@@ -13,9 +13,9 @@ use Rattle.smk_model.specs.Tokens.{tokens, head_of}
 use Rattle.smk_model.specs.Machine.{book_fault, any_fault}
 use Rattle.smk_model.specs.Lines.{lines, place_of}
 use Rattle.smk_model.specs.Readings.{Reading, Nothing, Asks, Unread, IsReading, says_nothing, asks, leaves, AreReadings, no_line, one_line}
-use Rattle.smk_model.specs.Reports.{Report}
+use Rattle.smk_model.specs.Reports.{BookSaid, Report}
 use Rattle.smk_model.specs.Words.{Words, words_of}
-use Rattle.smk_model.specs.Outcome.{Held, BookSaid, Parses, spells, misspells, BookSays, unparsed, parsed, FileSays, unread, read, ScriptSays, lines_read, OpensBook, OpensScript, no_script, a_script, Inputs, ReadsFiles, no_book, no_tables, no_readings, inputs, source_of, book_of, script_of, ReadsInputs, unusable, usable, Outcome, unreadable, content_of, load_all, statements_say, reported}
+use Rattle.smk_model.specs.Outcome.{Held, Parses, spells, misspells, BookSays, unparsed, parsed, FileSays, unread, read, ScriptSays, lines_read, OpensBook, OpensScript, no_script, a_script, Inputs, ReadsFiles, no_book, no_tables, no_readings, inputs, source_of, book_of, script_of, ReadsInputs, unusable, usable, Outcome, unreadable, content_of, load_all, statements_say, reported}
 use Rattle.smk_model.specs.OutcomeLaws.{FaultlessTextsSpell, SomeReading, SomeOutcome}
 use Rattle.smk_model.proofs.Sound.{faultless_have_trees}
 use Rattle.smk_model.proofs.Closing.{book_finishes, any_finishes}

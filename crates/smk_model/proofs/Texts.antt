@@ -21,15 +21,15 @@ use Rattle.smk_base.specs.declared.tree.Marks.{Marks}
 use Rattle.smk_base.specs.declared.tree.Then.{Then}
 use Rattle.smk_base.specs.declared.tree.Line.{Line}
 use Rattle.smk_base.specs.declared.tree.Line.TheVariants as lines
-use Rattle.smk_base.specs.Trees.{PredImage, TreeImage, StepImage, SelectNode, ProjectNode, DistinctNode, GroupNode, JoinNode, ThetaNode, ProductNode, UnionAllNode, UnionNode, StmtImage, TableNode, ViewNode, AskStepImage, AskImage, AnyLineImage}
+use Rattle.smk_base.specs.Trees.{PredImage, TreeImage, StepImage, SelectNode, ProjectNode, DistinctNode, GroupNode, JoinNode, ThetaNode, ProductNode, UnionAllNode, UnionNode, StmtImage, TableNode, AskStepImage, AskImage, AnyLineImage, ProfiledLine}
 use Rattle.smk_model.specs.Tokens.{Token, head_of, int_value}
-use Rattle.smk_model.specs.Grammar.{First, IsName, name, IsColumn, number, string, IsFile, file, listed, IsType, int_type, text_type, IsDefault, no_default, default, IsDecl, decl, IsNamed, by_itself, by_as, IsWidth, width, IsItem, column_item, bin_item, IsWhat, count, sum, min, max, IsAgg, agg, AreKeys, no_keys, keys, AreAggs, no_aggs, aggs, IsPair, pair, IsOp, eq, ne, lt, le, gt, ge, IsTerm, column_term, literal_term, IsPrim, negated, bracketed, compared, IsConj, conj, AreAnds, no_and, one_and, IsPred, pred, AreOrs, no_or, one_or, IsPlan, plan, IsSource, scan, inner_plan, AreSteps, no_step, one_step, IsStep, where_step, project_step, distinct_step, group_step, join_step, theta_step, product_step, union_all_step, union_step, IsExtra, no_extra, by_extra, group_extra, table_stmt, view_stmt, back_stmt, fwd_stmt, link_stmt, AreStmts, no_stmt, one_stmt, IsMark, mark, AreMarks, all_marks, listed_marks, IsThen, no_then, where_then, group_then, IsLine, show_line, back_line, fwd_line, brush_line, clear_line, clear_one_line, IsWholeLine, whole_line, HasOneInput, IsAskStep, ask_step, AreAskSteps, no_ask_step, one_ask_step, IsAskLine, ask_line, plain_line, asked_line, IsWholeAnyLine, whole_any_line}
+use Rattle.smk_model.specs.Grammar.{First, IsName, name, IsColumn, number, string, IsFile, file, listed, IsType, int_type, text_type, IsDefault, no_default, default, IsDecl, decl, IsNamed, by_itself, by_as, IsWidth, width, IsItem, column_item, bin_item, IsWhat, count, sum, min, max, IsAgg, agg, AreKeys, no_keys, keys, AreAggs, no_aggs, aggs, IsPair, pair, IsOp, eq, ne, lt, le, gt, ge, IsTerm, column_term, literal_term, IsPrim, negated, bracketed, compared, IsConj, conj, AreAnds, no_and, one_and, IsPred, pred, AreOrs, no_or, one_or, IsPlan, plan, IsSource, scan, inner_plan, AreSteps, no_step, one_step, IsStep, where_step, project_step, distinct_step, group_step, join_step, theta_step, product_step, union_all_step, union_step, IsExtra, no_extra, by_extra, group_extra, table_stmt, view_stmt, back_stmt, fwd_stmt, link_stmt, depends_stmt, AreStmts, no_stmt, one_stmt, IsMark, mark, AreMarks, all_marks, listed_marks, IsThen, no_then, where_then, group_then, IsLine, show_line, back_line, fwd_line, brush_line, clear_line, clear_one_line, IsWholeLine, whole_line, HasOneInput, IsAskStep, ask_step, AreAskSteps, no_ask_step, one_ask_step, IsAskLine, ask_line, plain_line, asked_line, profiled_line, IsWholeAnyLine, whole_any_line}
 use Rattle.smk_model.specs.Machine.{Counts, Tally, Symbol, Skips, Outside, through, fault_in, book_symbols, any_symbols, no_counts, book_fault, line_fault, any_fault, is_mark, is_short, at_more, at_default, at_as, at_keys, at_aggs, at_ands, at_ors, at_steps, at_extra, at_then, at_cleared, at_line, at_any_line, step_symbols, ask_symbols, node_move, at_ask_steps, at_stmts, at_end, AToken, AName, AColumn, AWidth, AType, ADefault, AnAs, AWhat, AKeys, AnAggs, AFirst, AnItem, ALinked, MoreDecls, MoreItems, MoreKeys, MoreAggs, MorePairs, MoreLinked, ASource, ASteps, AStep, AUnited, APrim, AnAnds, AnOrs, AnOn, AnOp, ATerm, AStmts, AnExtra, ALine, ALineName, ALineColumn, AMarks, AMark, MoreMarks, AThen, AnEnd, AnyLine, AnAskStep, AskSteps}
-use Rattle.smk_model.specs.Limits.{Divides, KeepsItems, KeepsTree, KeepsStep, nodes, nodes_of_step, DefaultInRange, KeepsDecls, KeepsPlan, KeepsStmt, KeepsAskStep, is_table, is_view}
+use Rattle.smk_model.specs.Limits.{Divides, KeepsItems, KeepsTree, KeepsStep, nodes, nodes_of_step, DefaultInRange, KeepsDecls, KeepsStmt, KeepsAskStep, is_table, is_view}
 use Rattle.smk_model.specs.GrammarLaws.{AtMostTooMany, TextsAreRead}
 use Rattle.smk_model.proofs.Unique.{rank, rank_of, ranked, aggs_rank, ors_rank, steps_rank, stmts_rank, ask_steps_rank, step_opening, opener, opening}
 use Rattle.smk_model.proofs.Moves.{asked_symbols}
-use Rattle.smk_model.proofs.Reading.{Ranged, Adds, Goes, Gets, on, over, nothing, told, untold, chain, then_goes, both, ahead, taken, known, checked, limited, one_node, holds, of_kind, opens, opens_with, node_opens, passes, begins_alike, token_text, literal_text, column_opens, Places, Lists, more_text, listed_text, Ends, ends_told, then_ends, opens_ends, ends_pass}
+use Rattle.smk_model.proofs.Reading.{Ranged, Adds, Goes, Gets, on, over, nothing, told, untold, chain, then_goes, both, ahead, taken, known, checked, limited, one_node, holds, of_kind, opens, opens_with, node_opens, passes, begins_alike, token_text, literal_text, column_opens, Places, Lists, more_text, listed_text, Ends, ends_told, then_ends, opens_ends, opens_ends_of_two, ends_pass}
 
 abbrev Reads : List Symbol → List Token → List Token → Type 0
 Reads l a b = Goes (Unit {0}) 0 0 (Unit {0}) l a b
@@ -297,11 +297,11 @@ held_table {y} {w} {n} {ds} {ss} e k h = record {
   each = All-cons KeepsStmt (TableNode w n ds) ss k h.each;
 }
 
-held_view : {y : Tally} {w : Word} {x : TreeImage} {ss : List StmtImage} → nat_lt y.views 64 ≡ true → KeepsPlan x → Held (record y { views = y.views + 1 }) ss → Held y (ViewNode w x ∷ ss)
-held_view {y} {w} {x} {ss} e k h = record {
-  few_tables = λ b. (let v = h.few_tables b in let q = count_by-cons is_table (ViewNode w x) ss in omega (arith, v, q));
-  few_views = λ b. (let u = ltb-true y.views 64 e in let v = h.few_views (omega (arith, u)) in let q = count_by-cons is_view (ViewNode w x) ss in omega (arith, v, q));
-  each = All-cons KeepsStmt (ViewNode w x) ss k h.each;
+held_view : {y z : Tally} {s : StmtImage} {ss : List StmtImage} → nat_lt y.views 64 ≡ true → z.tables ≡ y.tables → z.views ≡ y.views + 1 → is_table s ≡ false → is_view s ≡ true → KeepsStmt s → Held z ss → Held y (s ∷ ss)
+held_view {y} {z} {s} {ss} e t v i j k h = record {
+  few_tables = λ b. (let g = h.few_tables (omega (arith, t, b)) in let q = count_by-cons is_table s ss ∙ ap (λ o. cond o 1 0 + count_by is_table ss) i in omega (arith, g, q, t));
+  few_views = λ b. (let u = ltb-true y.views 64 e in let g = h.few_views (omega (arith, u, v)) in let q = count_by-cons is_view s ss ∙ ap (λ o. cond o 1 0 + count_by is_view ss) j in omega (arith, g, q, v));
+  each = All-cons KeepsStmt s ss k h.each;
 }
 
 held_other : {y z : Tally} {s : StmtImage} {ss : List StmtImage} → z.tables ≡ y.tables → z.views ≡ y.views → is_table s ≡ false → is_view s ≡ false → KeepsStmt s → Held z ss → Held y (s ∷ ss)
@@ -317,10 +317,11 @@ no_more_held y = record { few_tables = λ b. omega (arith, b); few_views = λ b.
 pub stmts_text : {a : List Token} {ss : List StmtImage} → AreStmts a ss → (y : Tally) → (e : List Token) × ((c : Counts) → Ends (Unit {0}) (Held y ss) c (AStmts y ∷ []) a e)
 stmts_text {a} (no_stmt h) y = (a, λ c. ends_told (λ u. no_more_held y) (ends_pass c (ap (at_stmts y) (end_here h))))
 stmts_text (one_stmt (table_stmt h n i f j ds k) l) y = let r = stmts_text l (record y { tables = y.tables + 1 }) in (r.0, λ c. ends_told (λ u. held_table u.0 (kept_decls u.1.1) u.1.2) (opens_ends (nat_lt y.tables 16) Tables c tt refl h (then_ends (then_goes (name_text n) (then_goes (token_text i refl) (then_goes (file_text f) (then_goes (token_text j refl) (ahead (listed_text decls ds (omega (arith, ranked k))) (token_text k refl)))))) r.1)))
-stmts_text (one_stmt (view_stmt h n q p) l) y = let r = stmts_text l (record y { views = y.views + 1 }) in (r.0, λ c. ends_told (λ u. held_view u.0 (record { lists = u.1.1; few = u.1.0 }) u.1.2) (opens_ends (nat_lt y.views 64) Views c tt refl h (then_ends (then_goes (name_text n) (then_goes (token_text q refl) (plan_text p (omega (arith, stmts_rank l)) 0))) r.1)))
+stmts_text (one_stmt (view_stmt h n q p) l) y = let r = stmts_text l (record y { views = y.views + 1 }) in (r.0, λ c. ends_told (λ u. held_view u.0 refl refl refl refl (record { lists = u.1.1; few = u.1.0 }) u.1.2) (opens_ends (nat_lt y.views 64) Views c tt refl h (then_ends (then_goes (name_text n) (then_goes (token_text q refl) (plan_text p (omega (arith, stmts_rank l)) 0))) r.1)))
 stmts_text (one_stmt (back_stmt h i n j m x) l) y = let r = stmts_text l (record y { lineages = y.lineages + 1 }) in (r.0, λ c. ends_told (λ u. held_other refl refl refl refl tt u.1.2) (opens_ends (nat_lt y.lineages 256) Lineages c tt refl h (then_ends (opens i (λ c. taken c) (then_goes (name_text n) (then_goes (token_text j refl) (then_goes (name_text m) (extra_text x (omega (arith, stmts_rank l))))))) r.1)))
 stmts_text (one_stmt (fwd_stmt h i n j m) l) y = let r = stmts_text l (record y { lineages = y.lineages + 1 }) in (r.0, λ c. ends_told (λ u. held_other refl refl refl refl tt u.1.2) (opens_ends (nat_lt y.lineages 256) Lineages c tt refl h (then_ends (opens i (λ c. taken c) (then_goes (name_text n) (then_goes (token_text j refl) (name_text m)))) r.1)))
 stmts_text (one_stmt (link_stmt h n i m j xs) l) y = let r = stmts_text l (record y { links = y.links + 1 }) in (r.0, λ c. ends_told (λ u. held_other refl refl refl refl tt u.1.2) (opens_ends (nat_lt y.links 64) Links c tt refl h (then_ends (then_goes (name_text n) (then_goes (token_text i refl) (then_goes (name_text m) (then_goes (token_text j refl) (listed_text some_linked xs (omega (arith, stmts_rank l))))))) r.1)))
+stmts_text (one_stmt (depends_stmt h n i m ks j x) l) y = let r = stmts_text l (record y { views = y.views + 1; lineages = y.lineages + 1 }) in (r.0, λ c. ends_told (λ u. held_view u.0 refl refl refl refl tt u.1.2) (opens_ends_of_two (nat_lt y.views 64) Views (nat_lt y.lineages 256) Lineages c tt refl h (then_ends (then_goes (name_text n) (then_goes (token_text i refl) (then_goes (name_text m) (both (untold (listed_text some_keys ks (omega (arith, ranked j)))) (then_goes (token_text j refl) (column_text x)))))) r.1)))
 
 abbrev pub no_tally : Tally
 no_tally = record { tables = 0; views = 0; lineages = 0; links = 0 }
@@ -443,8 +444,12 @@ ask_text (ask_line h i v m j w k p l) n = opens h (λ c. taken c) (then_goes (to
 pub whole_ask_text : {a b c : List Token} {t : Token} {l : AskImage} → IsAskLine a b l → First kinds.End t b c → Counting 0 (length l.steps) (All Keeps l.steps) any_symbols a b
 whole_ask_text p h = ahead (ask_text p (omega (arith, ranked h))) (passes (λ c. ap at_end (end_here h)))
 
+profiled : (a : List Token) (view : List ℕ) → IsWholeAnyLine a (ProfiledLine view) → any_fault a ≡ None
+profiled a _ (whole_any_line (profiled_line h w) k) = faultless (opens h (λ c. taken c) (line_name w)) k
+
 any : (a : List Token) (l : AnyLineImage) → IsWholeAnyLine a l → AtMostTooMany (any_fault a)
 any a l (whole_any_line (plain_line p) h) = subst AtMostTooMany (sym (plain a _ (whole_line p h))) tt
+any a _ (whole_any_line (profiled_line p w) h) = subst AtMostTooMany (sym (profiled a _ (whole_any_line (profiled_line p w) h))) tt
 any a _ (whole_any_line {b = b} (asked_line {l = l} p) h) = by ((whole_ask_text p h).goes no_counts [])
   where
     by : Gets (Unit {0}) (Adds 0 (length l.steps) (Ranged a → All Keeps l.steps) no_counts) any_symbols [] no_counts a b → AtMostTooMany (any_fault a)
@@ -452,4 +457,4 @@ any a _ (whole_any_line {b = b} (asked_line {l = l} p) h) = by ((whole_ask_text 
     by (over p at what f) = subst AtMostTooMany (sym (ap fault_in f)) tt
 
 pub texts_are_read : TextsAreRead
-texts_are_read = record { book = book; line = line; any = any; plain = plain }
+texts_are_read = record { book = book; line = line; any = any; plain = plain; profiled = profiled }

@@ -1,6 +1,6 @@
 -- No tokens have two trees.
 use Rattle.std.specs.Prelude.{ℤ, Option, Some, Bool}
-use Rattle.std.proofs.Common.{◌≡◌, ℕ, ◌≤◌, List, ◌∷◌, ap, ◌∙◌, sym, refl, arith}
+use Rattle.std.proofs.Common.{◌≡◌, ℕ, ◌≤◌, List, ◌∷◌, ap, ◌∙◌, sym, refl, arith, true, false}
 use Rattle.smk_base.specs.declared.token.TokenKind.{TokenKind}
 use Rattle.smk_base.specs.declared.token.TokenKind.TheVariants as kinds
 use Rattle.smk_base.specs.declared.value.Value.TheVariants as values
@@ -20,9 +20,9 @@ use Rattle.smk_base.specs.declared.tree.Marks.TheVariants as markings
 use Rattle.smk_base.specs.declared.tree.Then.{Then}
 use Rattle.smk_base.specs.declared.tree.Line.{Line}
 use Rattle.smk_base.specs.declared.tree.Line.TheVariants as lines
-use Rattle.smk_base.specs.Trees.{PredImage, NotNode, TreeImage, ScanNode, StepImage, SelectNode, ProjectNode, DistinctNode, GroupNode, JoinNode, ThetaNode, ProductNode, UnionAllNode, UnionNode, StmtImage, TableNode, ViewNode, BackNode, FwdNode, LinkNode, AskStepImage, AskImage, AnyLineImage, PlainLine, AskedLine}
+use Rattle.smk_base.specs.Trees.{PredImage, NotNode, TreeImage, ScanNode, StepImage, SelectNode, ProjectNode, DistinctNode, GroupNode, JoinNode, ThetaNode, ProductNode, UnionAllNode, UnionNode, StmtImage, TableNode, ViewNode, BackNode, FwdNode, LinkNode, DependsNode, AskStepImage, AskImage, AnyLineImage, PlainLine, AskedLine, ProfiledLine}
 use Rattle.smk_model.specs.Tokens.{Token, head_of, tail_of, int_value, string_value}
-use Rattle.smk_model.specs.Grammar.{First, plain_word, quoted_word, IsName, name, IsColumn, plain, quoted, IsLiteral, number, string, IsFile, file, AreMore, no_more, one_more, AreListed, listed, IsType, int_type, text_type, IsDefault, no_default, default, IsDecl, decl, IsNamed, by_itself, by_as, IsWidth, width, IsItem, column_item, bin_item, IsWhat, count, sum, min, max, IsAgg, agg, AreKeys, no_keys, keys, AreAggs, no_aggs, aggs, IsPair, pair, IsOp, eq, ne, lt, le, gt, ge, IsTerm, column_term, literal_term, IsPrim, negated, bracketed, compared, IsConj, conj, AreAnds, no_and, one_and, IsPred, pred, AreOrs, no_or, one_or, IsPlan, plan, IsSource, scan, inner_plan, AreSteps, no_step, one_step, IsStep, where_step, project_step, distinct_step, group_step, join_step, theta_step, product_step, union_all_step, union_step, IsExtra, no_extra, by_extra, group_extra, IsStmt, table_stmt, view_stmt, back_stmt, fwd_stmt, link_stmt, AreStmts, no_stmt, one_stmt, IsMark, mark, AreMarks, all_marks, listed_marks, IsThen, no_then, where_then, group_then, IsLine, show_line, back_line, fwd_line, brush_line, clear_line, clear_one_line, IsWholeLine, whole_line, IsAskStep, ask_step, AreAskSteps, no_ask_step, one_ask_step, IsAskLine, ask_line, IsAnyLine, plain_line, asked_line, IsWholeAnyLine, whole_any_line}
+use Rattle.smk_model.specs.Grammar.{First, plain_word, quoted_word, IsName, name, IsColumn, plain, quoted, IsLiteral, number, string, IsFile, file, AreMore, no_more, one_more, AreListed, listed, IsType, int_type, text_type, IsDefault, no_default, default, IsDecl, decl, IsNamed, by_itself, by_as, IsWidth, width, IsItem, column_item, bin_item, IsWhat, count, sum, min, max, IsAgg, agg, AreKeys, no_keys, keys, AreAggs, no_aggs, aggs, IsPair, pair, IsOp, eq, ne, lt, le, gt, ge, IsTerm, column_term, literal_term, IsPrim, negated, bracketed, compared, IsConj, conj, AreAnds, no_and, one_and, IsPred, pred, AreOrs, no_or, one_or, IsPlan, plan, IsSource, scan, inner_plan, AreSteps, no_step, one_step, IsStep, where_step, project_step, distinct_step, group_step, join_step, theta_step, product_step, union_all_step, union_step, IsExtra, no_extra, by_extra, group_extra, IsStmt, table_stmt, view_stmt, back_stmt, fwd_stmt, link_stmt, depends_stmt, AreStmts, no_stmt, one_stmt, IsMark, mark, AreMarks, all_marks, listed_marks, IsThen, no_then, where_then, group_then, IsLine, show_line, back_line, fwd_line, brush_line, clear_line, clear_one_line, IsWholeLine, whole_line, IsAskStep, ask_step, AreAskSteps, no_ask_step, one_ask_step, IsAskLine, ask_line, IsAnyLine, plain_line, asked_line, profiled_line, IsWholeAnyLine, whole_any_line}
 
 -- how strongly a token continues what stands before it
 abbrev pub rank : TokenKind → ℕ
@@ -357,6 +357,7 @@ stmt_opener (ViewNode w tree) = kinds.View
 stmt_opener (BackNode at view table extra) = kinds.Lineage
 stmt_opener (FwdNode at table view) = kinds.Lineage
 stmt_opener (LinkNode view table views) = kinds.Link
+stmt_opener (DependsNode at view table columns column) = kinds.Fd
 
 stmt_opening : {a b : List Token} {x : StmtImage} → IsStmt a b x → (head_of a).kind ≡ stmt_opener x
 stmt_opening (table_stmt h h1 h2 h3 h4 h5 h6) = first_kind h
@@ -364,6 +365,7 @@ stmt_opening (view_stmt h h1 h2 h3) = first_kind h
 stmt_opening (back_stmt h h1 h2 h3 h4 h5) = first_kind h
 stmt_opening (fwd_stmt h h1 h2 h3 h4) = first_kind h
 stmt_opening (link_stmt h h1 h2 h3 h4 h5) = first_kind h
+stmt_opening (depends_stmt h h1 h2 h3 h4 h5 h6) = first_kind h
 
 one_stmt_at : {a a' b c : List Token} {x y : StmtImage} → a ≡ a' → IsStmt a b x → IsStmt a' c y → 8 ≤ rank_of b → 8 ≤ rank_of c → (x ≡ y) × (b ≡ c)
 one_stmt_at e (table_stmt h0 h1 h2 h3 h4 h5 h6) (table_stmt k0 k1 k2 k3 k4 k5 k6) n m = let r0 = same_at e h0 k0 in let r1 = one_name r0.2 h1 k1 in let r2 = same_at r1.1 h2 k2 in let r3 = one_file r2.2 h3 k3 in let r4 = same_at r3.1 h4 k4 in let r5 = one_list one_decl r4.2 h5 k5 (omega (arith, ranked h6)) (omega (arith, ranked k6)) in let r6 = same_at r5.1 h6 k6 in (cc, r6.2)
@@ -373,6 +375,7 @@ one_stmt_at e (back_stmt h0 h1 h2 h3 h4 h5) (fwd_stmt k0 k1 k2 k3 k4) n m = let 
 one_stmt_at e (fwd_stmt h0 h1 h2 h3 h4) (back_stmt k0 k1 k2 k3 k4 k5) n m = let r = same_at e h0 k0 in let s = same_at r.2 h1 k1 in absurd (cc)
 one_stmt_at e (fwd_stmt h0 h1 h2 h3 h4) (fwd_stmt k0 k1 k2 k3 k4) n m = let r0 = same_at e h0 k0 in let r1 = same_at r0.2 h1 k1 in let r2 = one_name r1.2 h2 k2 in let r3 = same_at r2.1 h3 k3 in let r4 = one_name r3.2 h4 k4 in (cc, r4.1)
 one_stmt_at e (link_stmt h0 h1 h2 h3 h4 h5) (link_stmt k0 k1 k2 k3 k4 k5) n m = let r0 = same_at e h0 k0 in let r1 = one_name r0.2 h1 k1 in let r2 = same_at r1.1 h2 k2 in let r3 = one_name r2.2 h3 k3 in let r4 = same_at r3.1 h4 k4 in let r5 = one_list each_name r4.2 h5 k5 (omega (arith, n)) (omega (arith, m)) in (cc, r5.1)
+one_stmt_at e (depends_stmt h0 h1 h2 h3 h4 h5 h6) (depends_stmt k0 k1 k2 k3 k4 k5 k6) n m = let r0 = same_at e h0 k0 in let r1 = one_name r0.2 h1 k1 in let r2 = same_at r1.1 h2 k2 in let r3 = one_name r2.2 h3 k3 in let r4 = one_list each_column r3.1 h4 k4 (omega (arith, ranked h5)) (omega (arith, ranked k5)) in let r5 = same_at r4.1 h5 k5 in let r6 = one_column r5.2 h6 k6 in (cc, r6.1)
 one_stmt_at e p q n m = let r = sym (stmt_opening p) ∙ ap (λ l. (head_of l).kind) e ∙ stmt_opening q in absurd (cc)
 
 stmt_rank : {a b : List Token} {x : StmtImage} → IsStmt a b x → rank_of a ≡ 9
@@ -381,6 +384,7 @@ stmt_rank (view_stmt h h1 h2 h3) = ranked h
 stmt_rank (back_stmt h h1 h2 h3 h4 h5) = ranked h
 stmt_rank (fwd_stmt h h1 h2 h3 h4) = ranked h
 stmt_rank (link_stmt h h1 h2 h3 h4 h5) = ranked h
+stmt_rank (depends_stmt h h1 h2 h3 h4 h5 h6) = ranked h
 
 pub stmts_rank : {a : List Token} {ss : List StmtImage} → AreStmts a ss → rank_of a ≡ 9
 stmts_rank (no_stmt h) = ranked h
@@ -392,6 +396,7 @@ no_end e (view_stmt h h1 h2 h3) k = let r = same_at e h k in absurd (cc)
 no_end e (back_stmt h h1 h2 h3 h4 h5) k = let r = same_at e h k in absurd (cc)
 no_end e (fwd_stmt h h1 h2 h3 h4) k = let r = same_at e h k in absurd (cc)
 no_end e (link_stmt h h1 h2 h3 h4 h5) k = let r = same_at e h k in absurd (cc)
+no_end e (depends_stmt h h1 h2 h3 h4 h5 h6) k = let r = same_at e h k in absurd (cc)
 
 one_book_at : {a a' : List Token} {ss us : List StmtImage} → a ≡ a' → AreStmts a ss → AreStmts a' us → ss ≡ us
 one_book_at e (no_stmt h) (no_stmt k) = refl
@@ -476,21 +481,38 @@ ask_line_at e (ask_line h0 h1 h2 h3 h4 h5 h6 h7 h8) (ask_line k0 k1 k2 k3 k4 k5 
     let r4 = same_at r3.1 h4 k4 in let r5 = one_name r4.2 h5 k5 in let r6 = same_at r5.1 h6 k6 in let r7 = one_ask_step_at r6.2 h7 k7 (ask_steps_rank h8 n) (ask_steps_rank k8 m) in
     let r8 = ask_steps_at r7.1 h8 k8 n m in (cc, r8.1)
 
-not_asked : {a a' b c : List Token} {l : Line} {x : AskImage} → a ≡ a' → IsLine a b l → IsAskLine a' c x → ⊥
-not_asked {l = l} e p (ask_line k k1 k2 k3 k4 k5 k6 k7 k8) = opens_none l (sym (opening p) ∙ ap (λ l. (head_of l).kind) e ∙ first_kind k)
-  where
-    opens_none : (l : Line) → opener l ≡ kinds.Ask → ⊥
-    opens_none (lines.Show view) f = absurd (cc)
-    opens_none (lines.Back view marks table then) f = absurd (cc)
-    opens_none (lines.Fwd table rows view) f = absurd (cc)
-    opens_none (lines.Brush view marks table) f = absurd (cc)
-    opens_none lines.Clear f = absurd (cc)
-    opens_none (lines.ClearOne view table) f = absurd (cc)
+-- whether a line that the session answers by itself may begin with this keyword
+abbrev opens_plain : TokenKind → Bool
+opens_plain kinds.Ask = false
+opens_plain kinds.Fd = false
+opens_plain _ = true
+
+plain_opens : (l : Line) → opens_plain (opener l) ≡ true
+plain_opens (lines.Show view) = refl
+plain_opens (lines.Back view marks table then) = refl
+plain_opens (lines.Fwd table rows view) = refl
+plain_opens (lines.Brush view marks table) = refl
+plain_opens lines.Clear = refl
+plain_opens (lines.ClearOne view table) = refl
+
+not_plain : {a a' b : List Token} {l : Line} → a ≡ a' → IsLine a b l → opens_plain (head_of a').kind ≡ false → ⊥
+not_plain {l = l} e p f = let r = sym (plain_opens l) ∙ ap opens_plain (sym (opening p) ∙ ap (λ l. (head_of l).kind) e) ∙ f in absurd (cc)
+
+ask_opening : {a b : List Token} {x : AskImage} → IsAskLine a b x → (head_of a).kind ≡ kinds.Ask
+ask_opening (ask_line h h1 h2 h3 h4 h5 h6 h7 h8) = first_kind h
+
+not_profiled : {a a' b c : List Token} {x : AskImage} {t : Token} → a ≡ a' → IsAskLine a b x → First kinds.Fd t a' c → ⊥
+not_profiled e p h = let r = sym (ask_opening p) ∙ ap (λ l. (head_of l).kind) e ∙ first_kind h in absurd (cc)
 
 any_line_at : {a a' b c : List Token} {x y : AnyLineImage} → a ≡ a' → IsAnyLine a b x → IsAnyLine a' c y → 8 ≤ rank_of b → 8 ≤ rank_of c → x ≡ y
 any_line_at e (plain_line p) (plain_line q) n m = ap PlainLine (one_line_at e p q n m).0
-any_line_at e (plain_line p) (asked_line q) n m = absurd (not_asked e p q)
-any_line_at e (asked_line p) (plain_line q) n m = absurd (not_asked (sym e) q p)
+any_line_at e (plain_line p) (asked_line q) n m = absurd (not_plain e p (ap opens_plain (ask_opening q)))
+any_line_at e (asked_line p) (plain_line q) n m = absurd (not_plain (sym e) q (ap opens_plain (ask_opening p)))
+any_line_at e (plain_line p) (profiled_line k0 k1) n m = absurd (not_plain e p (ap opens_plain (first_kind k0)))
+any_line_at e (profiled_line h0 h1) (plain_line q) n m = absurd (not_plain (sym e) q (ap opens_plain (first_kind h0)))
+any_line_at e (asked_line p) (profiled_line k0 k1) n m = absurd (not_profiled e p k0)
+any_line_at e (profiled_line h0 h1) (asked_line q) n m = absurd (not_profiled (sym e) q h0)
+any_line_at e (profiled_line h0 h1) (profiled_line k0 k1) n m = let r0 = same_at e h0 k0 in ap (λ w. ProfiledLine w.name) (one_name r0.2 h1 k1).0
 any_line_at e (asked_line p) (asked_line q) n m = ap AskedLine (ask_line_at e p q (omega (arith, n)) (omega (arith, m))).0
 
 pub one_any_line : (a : List Token) (l u : AnyLineImage) → IsWholeAnyLine a l → IsWholeAnyLine a u → l ≡ u

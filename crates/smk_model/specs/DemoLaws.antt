@@ -1,16 +1,15 @@
 -- Laws of the demo: no text of it passes a limit, its tables are read as they were made, and its book and script say what they should.
-use Rattle.std.specs.Prelude.{◌≡◌, ℕ, ◌≤◌, List, length, map, All, Some, None, Ok}
+use Rattle.std.specs.Prelude.{◌≡◌, ℕ, ◌≤◌, List, [], length, map, All, Some, None, Ok}
 use Rattle.csv.specs.Reading.{records, default_config}
 use Rattle.smk_base.specs.Marks.{after_marks}
 use Rattle.smk_base.specs.Trees.{StmtImage}
 use Rattle.smk_model.specs.Tables.{table_of}
 use Rattle.smk_model.specs.Tokens.{tokens}
 use Rattle.smk_model.specs.Lines.{lines}
-use Rattle.smk_model.specs.Typing.{types}
 use Rattle.smk_model.specs.Readings.{AreReadingsOf}
 use Rattle.smk_model.specs.Opening.{first_view_fault}
 use Rattle.smk_model.specs.Machine.{book_fault, any_fault}
-use Rattle.smk_model.specs.Outcome.{file_limit, Held, Parses, load_all, Outcome}
+use Rattle.smk_model.specs.Outcome.{file_limit, Held, Parses, statements_say, load_all, Outcome}
 use Rattle.smk_model.specs.Reports.{report_of}
 use Rattle.smk_model.specs.Words.{Demo, words_of}
 use Rattle.smk_model.specs.Demo.{demo_of, flights, flight_records, airports, airport_records}
@@ -57,7 +56,7 @@ HoldsTables n held = All (λ file. held file.name ≡ Some file.bytes) (demo_of 
 pub record AreOpened (n : ℕ) : Type 0 where
   pub stmts : List StmtImage
   pub book : Parses (after_marks (demo_of n).book) (Ok stmts)
-  pub catalog : types stmts ≡ Ok demo_catalog
+  pub said : statements_say stmts ≡ Ok (record { catalog = demo_catalog; fds = [] })
   pub tables : (held : Held) → HoldsTables n held → load_all held demo_catalog.tables ≡ Ok (demo_workbook n).tables
   pub script : AreReadingsOf (demo_of n).script demo_readings
 
@@ -70,4 +69,4 @@ DemosAreWithin = (n : ℕ) → n ≤ 200000 → first_view_fault (demo_workbook 
 
 -- words that call for a demo have its report, whatever the files hold
 abbrev pub DemosAreReported : Type 0
-DemosAreReported = (words : List (List ℕ)) (held : Held) (n : ℕ) → words_of words ≡ Some (Demo n) → Outcome words held (Ok (report_of (demo_workbook n) demo_readings))
+DemosAreReported = (words : List (List ℕ)) (held : Held) (n : ℕ) → words_of words ≡ Some (Demo n) → Outcome words held (Ok (report_of (demo_workbook n) [] demo_readings))

@@ -24,7 +24,7 @@ use Rattle.smk_base.specs.declared.tree.Then.{Then}
 use Rattle.smk_base.specs.declared.tree.Then.TheVariants as thens
 use Rattle.smk_base.specs.declared.tree.Line.{Line}
 use Rattle.smk_base.specs.declared.tree.Line.TheVariants as lines
-use Rattle.smk_base.specs.Trees.{PredImage, CompareNode, AndNode, OrNode, NotNode, TreeImage, ScanNode, StepNode, StepImage, SelectNode, ProjectNode, DistinctNode, GroupNode, JoinNode, ThetaNode, ProductNode, UnionAllNode, UnionNode, StmtImage, TableNode, ViewNode, BackNode, FwdNode, LinkNode, AskStepImage, AskImage, AnyLineImage, PlainLine, AskedLine}
+use Rattle.smk_base.specs.Trees.{PredImage, CompareNode, AndNode, OrNode, NotNode, TreeImage, ScanNode, StepNode, StepImage, SelectNode, ProjectNode, DistinctNode, GroupNode, JoinNode, ThetaNode, ProductNode, UnionAllNode, UnionNode, StmtImage, TableNode, ViewNode, BackNode, FwdNode, LinkNode, DependsNode, AskStepImage, AskImage, AnyLineImage, PlainLine, AskedLine, ProfiledLine}
 use Rattle.smk_model.specs.Tokens.{Token, inner, int_value, string_value}
 
 -- a is this token of this kind, and then b
@@ -189,6 +189,7 @@ pub data IsStmt : List Token → List Token → StmtImage → Type 0 where
   back_stmt : {a b c d e f g : List Token} {t u v : Token} {w z : Word} {x : Extra} → First kinds.Lineage t a b → First kinds.Back u b c → IsName c d w → First kinds.To v d e → IsName e f z → IsExtra f g x → IsStmt a g (BackNode t.at w z x)
   fwd_stmt : {a b c d e f : List Token} {t u v : Token} {w z : Word} → First kinds.Lineage t a b → First kinds.Fwd u b c → IsName c d w → First kinds.To v d e → IsName e f z → IsStmt a f (FwdNode t.at w z)
   link_stmt : {a b c d e f g : List Token} {t u v : Token} {w z : Word} {ws : List Word} → First kinds.Link t a b → IsName b c w → First kinds.On u c d → IsName d e z → First kinds.To v e f → AreListed IsName f g ws → IsStmt a g (LinkNode w z ws)
+  depends_stmt : {a b c d e f g h : List Token} {t u v : Token} {w z x : Word} {ws : List Word} → First kinds.Fd t a b → IsName b c w → First kinds.On u c d → IsName d e z → AreListed IsColumn e f ws → First kinds.To v f g → IsColumn g h x → IsStmt a h (DependsNode t.at w z ws x)
 
 -- book = stmt*, up to the end
 pub data AreStmts : List Token → List StmtImage → Type 0 where
@@ -253,6 +254,7 @@ pub data IsAskLine : List Token → List Token → AskImage → Type 0 where
 pub data IsAnyLine : List Token → List Token → AnyLineImage → Type 0 where
   plain_line : {a b : List Token} {l : Line} → IsLine a b l → IsAnyLine a b (PlainLine l)
   asked_line : {a b : List Token} {l : AskImage} → IsAskLine a b l → IsAnyLine a b (AskedLine l)
+  profiled_line : {a b c : List Token} {t : Token} {w : Word} → First kinds.Fd t a b → IsName b c w → IsAnyLine a c (ProfiledLine w.name)
 
 -- a line of any kind, up to the end
 pub data IsWholeAnyLine : List Token → AnyLineImage → Type 0 where

@@ -1,8 +1,11 @@
 pub mod Values
 pub mod Names
 pub mod TypedSteps
+pub mod Expanded
 pub mod Typing
 pub mod Limits
+pub mod ExpandedLaws
+pub mod ExpandedExamples
 pub mod Catalogs
 pub mod Plain
 pub mod Lineage
@@ -20,6 +23,11 @@ pub mod Words
 pub mod Asks
 pub mod AskTexts
 pub mod AskLaws
+pub mod Dependencies
+pub mod DependencyLaws
+pub mod Profiles
+pub mod ProfileTexts
+pub mod ProfileLaws
 pub mod Reports
 pub mod Demo
 pub mod DemoExamples

@@ -7,7 +7,7 @@ use Rattle.smk_base.specs.declared.tree.Lit.{Lit}
 use Rattle.smk_base.specs.declared.tree.Decl.{Decl}
 use Rattle.smk_base.specs.declared.tree.ItemTree.{ItemTree}
 use Rattle.smk_base.specs.declared.tree.ItemTree.TheVariants.{Col, Bin}
-use Rattle.smk_base.specs.Trees.{TreeImage, ScanNode, StepNode, StepImage, SelectNode, ProjectNode, DistinctNode, GroupNode, JoinNode, ThetaNode, ProductNode, UnionAllNode, UnionNode, StmtImage, TableNode, ViewNode, BackNode, FwdNode, LinkNode, AskStepImage, AskImage}
+use Rattle.smk_base.specs.Trees.{TreeImage, ScanNode, StepNode, StepImage, SelectNode, ProjectNode, DistinctNode, GroupNode, JoinNode, ThetaNode, ProductNode, UnionAllNode, UnionNode, StmtImage, TableNode, ViewNode, BackNode, FwdNode, LinkNode, DependsNode, AskStepImage, AskImage}
 use Rattle.smk_base.specs.declared.tree.Marks.{Marks}
 use Rattle.smk_base.specs.declared.tree.Marks.TheVariants as markings
 
@@ -81,6 +81,7 @@ KeepsStmt (ViewNode name tree) = KeepsPlan tree
 KeepsStmt (BackNode at view table extra) = Unit {0}
 KeepsStmt (FwdNode at table view) = Unit {0}
 KeepsStmt (LinkNode view table to) = Unit {0}
+KeepsStmt (DependsNode at name table keys col) = Unit {0}
 
 abbrev pub is_table : StmtImage → Bool
 is_table (TableNode name file decls) = true
@@ -88,13 +89,16 @@ is_table (ViewNode name tree) = false
 is_table (BackNode at view table extra) = false
 is_table (FwdNode at table view) = false
 is_table (LinkNode view table to) = false
+is_table (DependsNode at name table keys col) = false
 
+-- a dependency counts as a view: it has one
 abbrev pub is_view : StmtImage → Bool
 is_view (TableNode name file decls) = false
 is_view (ViewNode name tree) = true
 is_view (BackNode at view table extra) = false
 is_view (FwdNode at table view) = false
 is_view (LinkNode view table to) = false
+is_view (DependsNode at name table keys col) = true
 
 -- a book of at most 16 tables and 64 views, whose statements keep their limits
 pub record KeepsLimits (book : List StmtImage) : Type 0 where

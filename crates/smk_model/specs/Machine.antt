@@ -207,6 +207,7 @@ at_stmts y kinds.Table = within (nat_lt y.tables 16) Tables (Takes no_counts (AN
 at_stmts y kinds.View = within (nat_lt y.views 64) Views (Takes no_counts (AName ∷ AToken kinds.Equal ∷ ASource 0 ∷ ASteps 0 ∷ AStmts (record y { views = y.views + 1 }) ∷ []))
 at_stmts y kinds.Lineage = within (nat_lt y.lineages 256) Lineages (Takes no_counts (ALineage ∷ AStmts (record y { lineages = y.lineages + 1 }) ∷ []))
 at_stmts y kinds.Link = within (nat_lt y.links 64) Links (Takes no_counts (AName ∷ AToken kinds.On ∷ AName ∷ AToken kinds.To ∷ ALinked 0 ∷ MoreLinked 1 ∷ AStmts (record y { links = y.links + 1 }) ∷ []))
+at_stmts y kinds.Fd = within (nat_lt y.views 64) Views (within (nat_lt y.lineages 256) Lineages (Takes no_counts (AName ∷ AToken kinds.On ∷ AName ∷ AFirst 0 ∷ MoreKeys 1 ∷ AToken kinds.To ∷ AColumn ∷ AStmts (record y { views = y.views + 1; lineages = y.lineages + 1 }) ∷ [])))
 at_stmts y kinds.End = Skips
 at_stmts y _ = Wrong
 
@@ -258,6 +259,7 @@ at_cleared c _ = Skips
 -- a line of any kind
 abbrev pub at_any_line : Counts → TokenKind → Move
 at_any_line c kinds.Ask = Takes c (AToken kinds.Back ∷ ALineName ∷ AMarks ∷ AToken kinds.To ∷ ALineName ∷ AToken kinds.Bar ∷ AnAskStep ∷ AskSteps ∷ [])
+at_any_line c kinds.Fd = Takes c (ALineName ∷ [])
 at_any_line c kind = at_line c kind
 
 -- what follows the keyword of a step with one input

@@ -24,12 +24,13 @@ use Rattle.smk_model.specs.Grammar.{AreStmts}
 use Rattle.smk_model.specs.Machine.{book_fault}
 use Rattle.smk_model.specs.Names.{Typed, ◌>>=◌}
 use Rattle.smk_model.specs.Typing.{types}
+use Rattle.smk_model.specs.Expanded.{expanded, dependency_names}
 use Rattle.smk_model.specs.Tables.{table_of, all_or_first}
 use Rattle.smk_model.specs.Readings.{Reading, AreReadingsOf}
 use Rattle.smk_model.specs.Session.{Workbook}
 use Rattle.smk_model.specs.Opening.{ViewFault, first_view_fault, fault_named}
 use Rattle.smk_model.specs.Looks.{start_looks}
-use Rattle.smk_model.specs.Reports.{Report, report_of, script_told}
+use Rattle.smk_model.specs.Reports.{BookSaid, Report, report_of, script_told}
 use Rattle.smk_model.specs.Demo.{demo_of, summary_of}
 
 -- what the files hold: the bytes under a name, or none
@@ -52,17 +53,13 @@ pub data Parses (text : List ℕ) : Result (List StmtImage) Fault → Type 0 whe
   spells : {stmts : List StmtImage} → AreStmts (tokens text) stmts → book_fault (tokens text) ≡ None → Parses text (Ok stmts)
   misspells : {fault : BookFault} → book_fault (tokens text) ≡ Some fault → Parses text (Err (Book fault))
 
--- what a book says: its catalog
-pub record BookSaid : Type 0 where
-  pub catalog : CatalogImage
-
--- what statements say, or their first fault of typing
-abbrev pub said_or_fault : Typed CatalogImage → Result BookSaid Fault
-said_or_fault (Ok catalog) = Ok (record { catalog = catalog })
-said_or_fault (Err fault) = Err (Types fault)
+-- what statements say, each dependency replaced, or their first fault of typing
+abbrev pub said_or_fault : List (List ℕ) → Typed CatalogImage → Result BookSaid Fault
+said_or_fault fds (Ok catalog) = Ok (record { catalog = catalog; fds = fds })
+said_or_fault fds (Err fault) = Err (Types fault)
 
 abbrev pub statements_say : List StmtImage → Result BookSaid Fault
-statements_say stmts = said_or_fault (types stmts)
+statements_say stmts = said_or_fault (dependency_names stmts) (types (expanded stmts))
 
 -- what the bytes of a book's file say, after every byte order mark at its front
 pub data BookSays (bytes : List ℕ) : Result BookSaid Fault → Type 0 where
@@ -117,9 +114,10 @@ pub data OpensScript (held : Held) : Option (List ℕ) → Result (List Reading)
   no_script : OpensScript held None (Ok [])
   a_script : {name : List ℕ} {answer : Result (List Reading) Fault} → FileSays held name ScriptSays answer → OpensScript held (Some name) answer
 
--- a run's workbook and its readings
+-- a run's workbook, the names of its book's dependencies, and its readings
 pub record Inputs : Type 0 where
   pub book : Workbook
+  pub fds : List (List ℕ)
   pub readings : List Reading
 
 -- what is read under these names of a book and a script, or the first fault: the book; the tables in the book's order; the script
@@ -130,7 +128,7 @@ pub data ReadsFiles (held : Held) (book : List ℕ) (script : Option (List ℕ))
       → load_all held said.catalog.tables ≡ Ok tables → OpensScript held script (Err fault) → ReadsFiles held book script (Err fault)
   inputs : {said : BookSaid} {tables : List (List Row)} {readings : List Reading} → OpensBook held book (Ok said)
       → load_all held said.catalog.tables ≡ Ok tables → OpensScript held script (Ok readings)
-      → ReadsFiles held book script (Ok (record { book = record { catalog = said.catalog; tables = tables }; readings = readings }))
+      → ReadsFiles held book script (Ok (record { book = record { catalog = said.catalog; tables = tables }; fds = said.fds; readings = readings }))
 
 -- the bytes of the first of these files with a name
 abbrev pub file_named : List DemoFile → Held
@@ -164,14 +162,14 @@ pub data ReadsInputs (words : List (List ℕ)) (held : Held) : Result Inputs Fau
 -- the report of what was read, unless a node of a view has too many rows, or too many pairs with a table that the view needs
 abbrev pub unless_view_fault : Inputs → Option ViewFault → Result Report Fault
 unless_view_fault given (Some found) = Err (fault_named given.book.catalog found)
-unless_view_fault given None = Ok (report_of given.book given.readings)
+unless_view_fault given None = Ok (report_of given.book given.fds given.readings)
 
 abbrev pub reported : Inputs → Result Report Fault
 reported given = unless_view_fault given (first_view_fault given.book)
 
 -- the most looks of a run that reads this
 abbrev pub run_looks : Inputs → ℕ
-run_looks given = start_looks given.book + (script_told given.book given.readings).looks
+run_looks given = start_looks given.book + (script_told given.book given.fds given.readings).looks
 
 -- the outcome of a run: its report or the first fault
 pub data Outcome (words : List (List ℕ)) (held : Held) : Result Report Fault → Type 0 where

@@ -18,8 +18,9 @@ use Rattle.smk_base.specs.declared.catalog.Fwd.{Fwd}
 use Rattle.smk_base.specs.declared.catalog.LinkInfo.{LinkInfo}
 use Rattle.smk_base.specs.declared.type_fault.TypeFault.TheVariants.{UnknownTable, UnknownView, DuplicateName, KindMismatch, SelfLink, RepeatedDeclaration}
 use Rattle.smk_base.specs.Plans.{BagUnion, SetUnion, Leaf}
-use Rattle.smk_base.specs.Trees.{TreeImage, ScanNode, StepNode, StepImage, SelectNode, ProjectNode, DistinctNode, GroupNode, JoinNode, ThetaNode, ProductNode, UnionAllNode, UnionNode, StmtImage, TableNode, ViewNode, BackNode, FwdNode, LinkNode}
+use Rattle.smk_base.specs.Trees.{TreeImage, ScanNode, StepNode, StepImage, SelectNode, ProjectNode, DistinctNode, GroupNode, JoinNode, ThetaNode, ProductNode, UnionAllNode, UnionNode, StmtImage, TableNode, ViewNode, BackNode, FwdNode, LinkNode, DependsNode}
 use Rattle.smk_base.specs.CatalogImage.{ViewImage, CatalogImage}
+use Rattle.smk_model.specs.Expanded.{violations_tree}
 use Rattle.smk_model.specs.Kinds.{kind_of}
 use Rattle.smk_model.specs.Names.{Typed, ◌>>=◌, unless, in_turn, same_name, place_of, is_taken, names_of, kinds_of, column_named, same_sort}
 use Rattle.smk_model.specs.TypedSteps.{TypedPlan, typed_group, selected, projected, distinct, grouped, joined_plan, theta_plan, product_plan, united_plan}
@@ -177,6 +178,10 @@ link_after catalog view table words = do
   to ← in_turn (to_after catalog v t) [] words
   Ok (record catalog { links = catalog.links ++ record { view = v; table = t; to = to } ∷ [] })
 
+-- one more dependency: the view of its violations, and a plain backward declaration of this to the table
+abbrev pub depends_after : CatalogImage → ℕ → Word → Word → List Word → Word → Typed CatalogImage
+depends_after catalog at name table keys col = view_after catalog name (violations_tree at table keys col) >>= λ more. back_after more at name table extras.Plain
+
 -- one more statement
 abbrev pub stmt_after : CatalogImage → StmtImage → Typed CatalogImage
 stmt_after catalog (TableNode name file decls) = table_after catalog name file decls
@@ -184,6 +189,7 @@ stmt_after catalog (ViewNode name tree) = view_after catalog name tree
 stmt_after catalog (BackNode at view table extra) = back_after catalog at view table extra
 stmt_after catalog (FwdNode at table view) = fwd_after catalog at table view
 stmt_after catalog (LinkNode view table to) = link_after catalog view table to
+stmt_after catalog (DependsNode at name table keys col) = depends_after catalog at name table keys col
 
 -- the catalog of no statement
 abbrev pub nothing_declared : CatalogImage

@@ -3,6 +3,7 @@
 ghost use Rattle.smk_model.specs.BookExamples.{BooksHold};
 ghost use Rattle.smk_model.specs.DemoExamples.{DemosHold};
 ghost use Rattle.smk_model.specs.Examples.{ExamplesHold};
+ghost use Rattle.smk_model.specs.ExpandedExamples.{DependenciesAreRead, DependenciesAreTyped};
 ghost use Rattle.smk_model.specs.LineExamples.{LinesHold, AskLinesHold};
 ghost use Rattle.smk_model.specs.RunExamples.{RunsHold};
 ghost use Rattle.smk_model.specs.SessionExamples.{SessionsHold};
@@ -34,6 +35,18 @@ pub fn books_hold()
 /// The plans and the columns of a theta join and of a product, and the order of their faults.
 pub fn typings_hold()
     ensures { TypingsHold }
+{}
+
+/// The trees of dependencies and of `fd` lines, and the places at which texts leave their grammar.
+#[tactic(auto, using(crate::proofs::ExpandedExamples::read))]
+pub fn dependencies_are_read()
+    ensures { DependenciesAreRead }
+{}
+
+/// The view of a dependency, and the places of its faults.
+#[tactic(auto, using(crate::proofs::ExpandedExamples::typed))]
+pub fn dependencies_are_typed()
+    ensures { DependenciesAreTyped }
 {}
 
 /// The rows, the texts of the views and the replies of a run, and the faults of a table's file.

@@ -7,7 +7,9 @@ pub use crate::composed_laws::{
 };
 pub use crate::direction_laws::{inverses, one_each, pairs_forward};
 pub use crate::example_laws::{examples_hold, runs_hold, sessions_hold};
+pub use crate::expanded_laws::expanded_stands;
 pub use crate::fault_laws::{first_of_all, nothing_asked};
+pub use crate::fd_laws::{dependencies_answered, fd_law, profiles_fit};
 pub use crate::grammar_laws::{
     faultless_asks_keep_limits, faultless_have_trees, faultless_keep_limits, faults_stay,
     one_any_line, one_book, one_line, taken_are_completed, texts_are_read,

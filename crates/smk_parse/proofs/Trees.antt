@@ -1,10 +1,10 @@
 -- The trees of what was read. The cases of the grammar that show all their parts stand in the list as they are.
-use Rattle.smk_parse.specs.Words.{TokenKind, Word, Lit, CmpOp, Term, Extra, Marks, Then, CompareNode, BackNode, FwdNode, LinkNode, Token, head_of, int_value, string_value, First, IsName, IsColumn, IsLiteral, IsFile, IsNamed, IsExtra, IsOp, IsTerm, IsPrim, IsThen, IsLine, IsStmt, IsAskLine, AskStepImage, AreListed, State, Counts}
+use Rattle.smk_parse.specs.Words.{TokenKind, Word, Lit, CmpOp, Term, Extra, Marks, Then, CompareNode, BackNode, FwdNode, LinkNode, DependsNode, Token, head_of, int_value, string_value, First, IsName, IsColumn, IsLiteral, IsFile, IsNamed, IsExtra, IsOp, IsTerm, IsPrim, IsThen, IsLine, IsStmt, IsAskLine, AskStepImage, AreListed, State, Counts}
 use Rattle.std.proofs.Common.{◌≡◌, ℕ, ℤ, true, List, ◌∷◌, ap, ◌∙◌, sym, subst, refl}
 use Rattle.smk_base.specs.declared.token.TokenKind.TheVariants as kinds
 use Rattle.smk_base.specs.declared.value.Value.TheVariants as values
 use Rattle.smk_base.specs.declared.tree.Line.TheVariants as lines
-use Rattle.smk_model.specs.Grammar.{name, plain, quoted, number, string, file, mark, width, by_itself, group_extra, group_step, union_all_step, union_step, int_type, text_type, no_default, default, decl, by_as, column_item, bin_item, count, sum, min, max, agg, no_keys, keys, no_aggs, aggs, pair, eq, ne, lt, le, gt, ge, column_term, literal_term, negated, bracketed, compared, conj, no_and, one_and, pred, no_or, one_or, plan, scan, inner_plan, no_step, one_step, where_step, project_step, distinct_step, group_step, join_step, theta_step, product_step, no_extra, by_extra, table_stmt, view_stmt, back_stmt, fwd_stmt, link_stmt, all_marks, listed_marks, no_then, where_then, group_then, show_line, back_line, fwd_line, brush_line, clear_line, clear_one_line, whole_line, ask_line, plain_line, asked_line, whole_any_line}
+use Rattle.smk_model.specs.Grammar.{name, plain, quoted, number, string, file, mark, width, by_itself, group_extra, group_step, union_all_step, union_step, int_type, text_type, no_default, default, decl, by_as, column_item, bin_item, count, sum, min, max, agg, no_keys, keys, no_aggs, aggs, pair, eq, ne, lt, le, gt, ge, column_term, literal_term, negated, bracketed, compared, conj, no_and, one_and, pred, no_or, one_or, plan, scan, inner_plan, no_step, one_step, where_step, project_step, distinct_step, group_step, join_step, theta_step, product_step, no_extra, by_extra, table_stmt, view_stmt, back_stmt, fwd_stmt, link_stmt, depends_stmt, all_marks, listed_marks, no_then, where_then, group_then, show_line, back_line, fwd_line, brush_line, clear_line, clear_one_line, whole_line, ask_line, plain_line, asked_line, profiled_line, whole_any_line}
 use Rattle.smk_parse.specs.{Texts.Advances, Reads.is_column, Reads.column_word, Reads.AreNames, Reads.two_names, Reads.IsMarked, Reads.marked, Reads.ArePiped, Reads.piped}
 use Rattle.smk_parse.proofs.Steps.{first_here, in_order}
 
@@ -48,6 +48,9 @@ fwd_is a b c d t u n w z m h k (two_names i j l) = subst (λ m. IsStmt a d (FwdN
 pub link_is : {a b c d e : List Token} {t u : Token} {w z : Word} {ws : List Word} → First kinds.Link t a b → AreNames kinds.On b c w z → First kinds.To u c d → AreListed IsName d e ws → IsStmt a e (LinkNode w z ws)
 link_is h (two_names k i j) l n = link_stmt h k i j l n
 
+pub depends_is : (a b c d e f : List Token) (t u : Token) (n : ℕ) (w z x : Word) (ws : List Word) → n ≡ t.at → First kinds.Fd t a b → AreNames kinds.On b c w z → AreListed IsColumn c d ws → First kinds.To u d e → IsColumn e f x → IsStmt a f (DependsNode n w z ws x)
+depends_is a b c d e f t u n w z x ws m h (two_names k i j) l o p = subst (λ m. IsStmt a f (DependsNode m w z ws x)) (sym m) (depends_stmt h k i j l o p)
+
 -- where a line's names and marks were read together
 pub back_line_is : {a b c d : List Token} {t : Token} {w z : Word} {m : Marks} {x : Then} → First kinds.Back t a b → IsMarked kinds.To b c w m z → IsThen c d x → IsLine a d (lines.Back w.name m z.name x)
 back_line_is h (marked k i j l) n = back_line h k i j l n
@@ -70,8 +73,8 @@ pub ruleset lists = (in_order, name_is, column_is, width, itself_is, int_type, t
 
 pub ruleset plans = (in_order, plan, scan, inner_plan, no_step, one_step, where_step, project_step, distinct_step, group_step, join_step, theta_step, product_step, union_all_step, union_step)
 
-pub ruleset stmts = (in_order, file_is, group_extra, no_extra, by_extra, table_stmt, view_stmt, back_is, fwd_is, two_names, link_is)
+pub ruleset stmts = (in_order, file_is, group_extra, no_extra, by_extra, table_stmt, view_stmt, back_is, fwd_is, two_names, link_is, depends_is)
 
 pub ruleset line_trees = (in_order, name_is, column_is, mark, marked, all_marks, listed_marks, no_then, where_then, group_then, show_line, back_line_is, fwd_line_is, brush_line_is, clear_line, clear_one_line, whole_line)
 
-pub ruleset ask_trees = (in_order, ask_line_is, plain_line, asked_line, whole_any_line)
+pub ruleset ask_trees = (in_order, ask_line_is, plain_line, asked_line, profiled_line, whole_any_line)

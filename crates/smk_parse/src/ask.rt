@@ -9,7 +9,7 @@ ghost use Rattle.smk_parse.specs.{Reads.ArePiped, Reads.Reads, Answers.IsAnyAnsw
 use crate::line::{as_line_fault, end, line, marked};
 use crate::plan::ask_step;
 use crate::reader::Reader;
-use crate::tokens::expect;
+use crate::tokens::{expect, line_name};
 use smk_base::{AnyLine, AskLine, AskSteps, BookFault, LineFault, TokenKind};
 use std::alloc::Global;
 
@@ -57,6 +57,11 @@ fn any_line(alloc: Global, reader: &mut Reader) -> Result<AnyLine, BookFault>
         TokenKind::Ask => {
             reader.advance();
             Ok(AnyLine::Ask(ask_line(alloc, reader)?))
+        }
+        TokenKind::Fd => {
+            reader.advance();
+            let view = line_name(alloc, reader)?.name;
+            Ok(AnyLine::Profile { view })
         }
         _ => Ok(AnyLine::Plain(line(alloc, reader)?)),
     }

@@ -1,7 +1,7 @@
 #![tactic(auto, using(crate::proofs::Trees::stmts))]
 
 ghost use Rattle.std.specs.Prelude.{◌≡◌, ◌∷◌, ◌<◌, [], List, length, map, IsTrue, IfOk, OnOk};
-ghost use Rattle.smk_parse.specs.Words.{stmt_image, Token, head_of, is_more, First, IsExtra, IsStmt, AreStmts, AToken, AName, AFirst, AType, ADefault, MoreDecls, ASource, ASteps, ALineage, AnExtra, ALinked, MoreLinked, book_symbols};
+ghost use Rattle.smk_parse.specs.Words.{stmt_image, Token, head_of, is_more, First, IsExtra, IsStmt, AreStmts, AToken, AName, AColumn, AFirst, AType, ADefault, MoreDecls, MoreKeys, ASource, ASteps, ALineage, AnExtra, ALinked, MoreLinked, book_symbols};
 ghost use Rattle.smk_base.specs.declared.token.TokenKind.TheVariants as kinds;
 ghost use Rattle.smk_parse.specs.{Reads.AreNames, Reads.Reads, Reads.StmtReads, Answers.IsBookAnswer};
 
@@ -117,6 +117,24 @@ fn link_stmt(alloc: Global, reader: &mut Reader) -> Result<Stmt, BookFault>
     Ok(Stmt::Link { view, table, to })
 }
 
+/// A dependency behind `fd`, which stands at this place.
+fn depends_stmt(alloc: Global, reader: &mut Reader, at: u64) -> Result<Stmt, BookFault>
+    ensures reads { Reads (AName ∷ AToken kinds.On ∷ AName ∷ AFirst 0 ∷ MoreKeys 1 ∷ AToken kinds.To ∷ AColumn ∷ []) reader.old reader.new result }
+    ensures is { IfOk result (λ stmt. (a : List Token) → (t : Token) → First kinds.Fd t a reader.old.rest → at ≡ t.at → IsStmt a reader.new.rest (stmt_image stmt)) }
+{
+    let (name, table) = names(alloc, reader, TokenKind::On)?;
+    let keys = listed::<Word>(alloc, reader)?;
+    expect(reader, TokenKind::To)?;
+    let col = column(alloc, reader)?;
+    Ok(Stmt::Depends {
+        at,
+        name,
+        table,
+        keys,
+        col,
+    })
+}
+
 /// A statement, which is counted.
 #[tactic(auto, using(crate::proofs::Trees::stmts, crate::proofs::Steps::in_loop))]
 fn stmt(alloc: Global, reader: &mut Reader, tally: &mut Tally) -> Result<Stmt, BookFault>
@@ -150,6 +168,14 @@ fn stmt(alloc: Global, reader: &mut Reader, tally: &mut Tally) -> Result<Stmt, B
             reader.advance_to(0, 0);
             tally.links += 1;
             link_stmt(alloc, reader)
+        }
+        TokenKind::Fd => {
+            within(reader, tally.views < 64, Many::Views)?;
+            within(reader, tally.lineages < 256, Many::Lineages)?;
+            reader.advance_to(0, 0);
+            tally.views += 1;
+            tally.lineages += 1;
+            depends_stmt(alloc, reader, at)
         }
         _ => Err(wrong(reader)),
     }

@@ -13,9 +13,12 @@ mod replies;
 mod texts;
 
 pub use faults::{fault_text, type_words};
-pub use lines::{line_around, line_of, pair_text};
+pub use lines::{add_line_around, line_around, line_of, pair_text};
 pub use lookup::table_named;
 pub use names::shown;
 pub use refusals::{back_refusal_text, refusal_text};
 pub use replies::reply_text;
-pub use texts::{bad_line_text, no_memory_text, view_text, with_placed_rows, with_rows};
+pub use texts::{
+    bad_line_text, no_memory_text, view_text, with_numbered_rows, with_placed_rows, with_rows,
+    with_table_header,
+};

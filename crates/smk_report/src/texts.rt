@@ -112,6 +112,19 @@ fn table_header(page: &mut Page, columns: &ColDecls) -> Result<(), AllocError>
     page.end()
 }
 
+// The records of all rows with these numbers.
+fn placed_lines(page: &mut Page, rids: &[u32], rel: &Rel) -> Result<(), AllocError>
+    requires ready { IsReady page.old }
+    requires between { fields_on page.old ≡ [] }
+    requires rids { length rids.now ≡ length rel.now.rows }
+    ensures { OnOk result (Says page.new (text_on page.old ++ texts.row_lines (λ i. slice_index_or rids.now i 0) rel.now.rows) []) }
+{
+    for i in 0..rel.len() {
+        row(page, rids[i as usize], rel, i)?;
+    }
+    Ok(())
+}
+
 // The record of the names of the columns that a table declares, and those of all rows with these numbers.
 fn placed_rows(
     page: &mut Page,
@@ -125,10 +138,35 @@ fn placed_rows(
     ensures { OnOk result (Says page.new (text_on page.old ++ texts.record_line (codes "rid" ∷ map (λ column. column.name) columns.now) ++ texts.row_lines (λ i. slice_index_or rids.now i 0) rel.now.rows) []) }
 {
     table_header(page, columns)?;
-    for i in 0..rel.len() {
-        row(page, rids[i as usize], rel, i)?;
-    }
-    Ok(())
+    placed_lines(page, rids, rel)
+}
+
+/// A text with the record of the names of the columns that a table declares behind it.
+pub fn with_table_header(
+    alloc: Global,
+    front: Vec<u8>,
+    columns: &ColDecls,
+) -> Result<Vec<u8>, AllocError>
+    ensures { IfOk result (λ text. text.items ≡ front.items ++ texts.record_line (codes "rid" ∷ map (λ column. column.name) columns.now)) }
+{
+    let mut page = Page::new(alloc, front);
+    table_header(&mut page, columns)?;
+    page.finish()
+}
+
+/// A text with the records of rows with these numbers behind it.
+pub fn with_numbered_rows(
+    alloc: Global,
+    front: Vec<u8>,
+    rids: &[u32],
+    rel: &Rel,
+) -> Result<Vec<u8>, AllocError>
+    requires { length rids.now ≡ length rel.now.rows }
+    ensures { IfOk result (λ text. text.items ≡ front.items ++ texts.row_lines (λ i. slice_index_or rids.now i 0) rel.now.rows) }
+{
+    let mut page = page_for(alloc, front, rel)?;
+    placed_lines(&mut page, rids, rel)?;
+    page.finish()
 }
 
 /// A text with the records of the names of the columns that a table declares, and of rows with these numbers, behind it.

@@ -11,17 +11,22 @@ use Rattle.smk_base.specs.declared.col_decl.ColDecl.{ColDecl}
 use Rattle.smk_base.specs.declared.catalog.Column.{Column}
 use Rattle.smk_base.specs.declared.catalog.TableInfo.{TableInfo}
 use Rattle.smk_base.specs.declared.catalog.ViewInfo.{ViewInfo}
+use Rattle.smk_model.specs.Expanded.{expanded, HasNoDependency}
 use Rattle.smk_model.specs.Limits.{KeepsLimits}
 use Rattle.smk_model.specs.Tables.{kinds_of}
 use Rattle.smk_model.specs.Catalogs.{ViewFits, table_kinds, each_table_kinds}
 use Rattle.smk_model.specs.Selection.{ScansFit, PlanFits, leaf_kinds, each_kinds, nodes}
+use Rattle.smk_model.proofs.Expanded.{expanded_stands}
 use Rattle.smk_model.proofs.Keeping.{faultless_keep_limits}
 use Rattle.smk_model.proofs.Places.{map_map}
 use Rattle.smk_parse.specs.Answers.{IsBookAnswer}
 
--- a book that was parsed keeps the limits
-pub keeps_limits : (text : List ℕ) (book : Book) → IsBookAnswer text (Ok book) → KeepsLimits (book_image book)
-keeps_limits text book is = faultless_keep_limits text (book_image book) is.0 is.1
+-- a book that was parsed, with each dependency replaced, keeps the limits and has no dependency
+pub keeps_limits : (text : List ℕ) (book made : Book) → IsBookAnswer text (Ok book) → book_image made ≡ expanded (book_image book) → KeepsLimits (book_image made)
+keeps_limits text book made is e = subst KeepsLimits (sym e) (expanded_stands.limits (book_image book) (faultless_keep_limits text (book_image book) is.0 is.1))
+
+pub is_replaced : (book made : Book) → book_image made ≡ expanded (book_image book) → HasNoDependency (book_image made)
+is_replaced book made e = subst HasNoDependency (sym e) (expanded_stands.none (book_image book))
 
 -- the kinds of a table are those of its declared columns
 pub kinds_declared : (info : TableInfo) (kinds : List Kind) → kinds ≡ kinds_of info.cols → kinds ≡ table_kinds info

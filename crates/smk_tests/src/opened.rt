@@ -2,6 +2,7 @@
 
 ghost use Rattle.std.specs.Prelude.{◌≡◌, ◌||◌, ◌<◌, IsTrue, nat_eq, length, All, IfOk};
 ghost use Rattle.smk_base.specs.TreeImage.{book_image};
+ghost use Rattle.smk_model.specs.Expanded.{HasNoDependency};
 ghost use Rattle.smk_model.specs.Limits.{KeepsLimits};
 ghost use Rattle.smk_model.specs.Tables.{AreColumns};
 ghost use Rattle.smk_model.specs.Catalogs.{table_kinds, each_table_kinds};
@@ -12,6 +13,7 @@ use crate::rids::lists_shown;
 use smk_base::{Book, CellRef, Need, Rel, TableInfo};
 use smk_body::OpBody;
 use smk_compose::{KeptMap, Run, RunFault, run_plan};
+use smk_expand::{Expanded, expand};
 use smk_outside::Steps;
 use smk_parse::parse_book;
 use smk_rid::RidMap;
@@ -31,15 +33,18 @@ pub(crate) struct Opened {
     ghost kinds: { each_kinds tables.items ≡ each_table_kinds book.tables },
 }
 
-// The statements of a text.
-#[tactic(auto, using(crate::proofs::Opening::keeps_limits))]
+// The statements of a text, with each dependency replaced.
+#[tactic(auto, using(crate::proofs::Opening::keeps_limits, crate::proofs::Opening::is_replaced))]
 fn parsed(alloc: Global, text: &str) -> Result<Book, Fail>
-    ensures { IfOk result (λ book. KeepsLimits (book_image book)) }
+    ensures limits { IfOk result (λ book. KeepsLimits (book_image book)) }
+    ensures replaced { IfOk result (λ book. HasNoDependency (book_image book)) }
 {
-    match parse_book(alloc, text.as_bytes()) {
-        Ok(book) => Ok(book),
-        Err(_) => Err(Fail::new("no tree of a book")),
-    }
+    let Ok(book) = parse_book(alloc, text.as_bytes()) else {
+        return Err(Fail::new("no tree of a book"));
+    };
+    let Expanded { book, fds } = expand(alloc, book)?;
+    drop(fds);
+    Ok(book)
 }
 
 // The table of the bytes of its file.

@@ -2,7 +2,6 @@
 use Rattle.std.proofs.Common.{◌≡◌, ◌∙◌, ◌<◌, ◌+◌, ◌++◌, ◌∷◌, [], ℕ, List, length, take, drop, get_or, Option, Some, None, Result, Ok, Err, IfOk, refl, sym, ap, subst, append_assoc, append-nil, take-append-drop, arith}
 use Rattle.std.specs.Prelude.{IfErr}
 use Rattle.std.specs.List.{flat_map}
-use Rattle.smk_base.specs.CatalogImage.{catalog_image}
 use Rattle.smk_model.specs.Readings.{Reading}
 use Rattle.smk_model.specs.Reports.{Told, report_told, views_text, lines_told, script_told, report_of}
 use Rattle.smk_model.specs.Selection.{each_rows}
@@ -15,6 +14,7 @@ use Rattle.smk_top.specs.declared.stop.Stop.{Stop}
 use Rattle.smk_top.specs.declared.stop.Stop.TheVariants.{At, Unwritten, Exhausted}
 use Rattle.smk_top.specs.declared.counts.Counts.{Counts}
 use Rattle.smk_top.specs.Counting.{counts_together, counts_told, counts_of, text_counted}
+use Rattle.smk_top.specs.Loaded.{said_of}
 use Rattle.smk_top.specs.Writing.{Puts, PutsPieces}
 
 -- nothing, and one after the other
@@ -132,10 +132,10 @@ report_counts book told views lines (Ok both) e f g =
 report_counts book told views lines (Err stop) e f g = g
 
 -- the lines of a session that begins
-begun_told : (session : SessionImage) (said : List Reading) → session.brushes ≡ [] → lines_told (catalog_image session.catalog) (state_of session) 1 said ≡ script_told (workbook_of session) said
-begun_told session said begun = ap (λ b. lines_told (catalog_image session.catalog) (record { tables = each_rows session.tables; brushes = b }) 1 said) begun
+begun_told : (session : SessionImage) (fds : List (List ℕ)) (said : List Reading) → session.brushes ≡ [] → lines_told (said_of session.catalog fds) (state_of session) 1 said ≡ script_told (workbook_of session) fds said
+begun_told session fds said begun = ap (λ b. lines_told (said_of session.catalog fds) (record { tables = each_rows session.tables; brushes = b }) 1 said) begun
 
-pub then_lines : (X : Type 0) (session : SessionImage) (said : List Reading) (a b c : Option (List ℕ)) (rose_here rose : Type 0) (result : Result X Stop) → session.brushes ≡ [] → (rose_here → rose)
-    → Appends a b (views_text (workbook_of session)) → PutsPieces (lines_told (catalog_image session.catalog) (state_of session) 1 said).text rose_here b c result → PutsPieces (report_of (workbook_of session) said).text rose a c result
-then_lines X session said a b c rose_here rose result begun wide p q =
-    then_rest X a b c rose_here rose (views_text (workbook_of session)) (script_told (workbook_of session) said).text result wide p (subst (λ (t : Told). PutsPieces t.text rose_here b c result) (begun_told session said begun) q)
+pub then_lines : (X : Type 0) (session : SessionImage) (fds : List (List ℕ)) (said : List Reading) (a b c : Option (List ℕ)) (rose_here rose : Type 0) (result : Result X Stop) → session.brushes ≡ [] → (rose_here → rose)
+    → Appends a b (views_text (workbook_of session)) → PutsPieces (lines_told (said_of session.catalog fds) (state_of session) 1 said).text rose_here b c result → PutsPieces (report_of (workbook_of session) fds said).text rose a c result
+then_lines X session fds said a b c rose_here rose result begun wide p q =
+    then_rest X a b c rose_here rose (views_text (workbook_of session)) (script_told (workbook_of session) fds said).text result wide p (subst (λ (t : Told). PutsPieces t.text rose_here b c result) (begun_told session fds said begun) q)

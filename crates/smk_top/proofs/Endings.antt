@@ -86,23 +86,23 @@ pub usage_stops : (words : List (List ℕ)) (held : Option Held) (files_rose out
 usage_stops words held files_rose out_rose a none = (where_unusable held (words_of words) (UntoldCause files_rose Usage) _ none (λ h. inl (unreadable (unusable none))), appends_none a)
 
 -- the reading of files stops
-files_cause : {X : Type 0} (words : List (List ℕ)) (book : List ℕ) (script : Option (List ℕ)) (held : Option Held) (rose : Type 0) (workbook : X → Workbook) (bytes : X → List ℕ) (fault : Fault)
-    → words_of words ≡ Some (Files book script) → ReadsAll held rose book script workbook bytes (Err (At fault)) → HasCause words held rose fault
-files_cause words book script (Some held) rose workbook bytes fault is (inl err) = inl (unreadable (usable is err))
-files_cause words book script (Some held) rose workbook bytes fault is (inr (up, named)) = inr (up, subst (λ (ws : Option Words). NamesRead ws held fault) (sym is) named)
-files_cause words book script None rose workbook bytes fault is h = rw is h
+files_cause : {X : Type 0} (words : List (List ℕ)) (book : List ℕ) (script : Option (List ℕ)) (held : Option Held) (rose : Type 0) (reads : X → List Reading → Inputs) (bytes : X → List ℕ) (fault : Fault)
+    → words_of words ≡ Some (Files book script) → ReadsAll held rose book script reads bytes (Err (At fault)) → HasCause words held rose fault
+files_cause words book script (Some held) rose reads bytes fault is (inl err) = inl (unreadable (usable is err))
+files_cause words book script (Some held) rose reads bytes fault is (inr (up, named)) = inr (up, subst (λ (ws : Option Words). NamesRead ws held fault) (sym is) named)
+files_cause words book script None rose reads bytes fault is h = rw is h
 
-pub files_stop : {X : Type 0} (words : List (List ℕ)) (book : List ℕ) (script : Option (List ℕ)) (held : Option Held) (rose out_rose : Type 0) (workbook : X → Workbook) (bytes : X → List ℕ) (a : Option (List ℕ)) (stop : Stop)
-    → words_of words ≡ Some (Files book script) → ReadsAll held rose book script workbook bytes (Err stop) → Works words held rose out_rose a a (Err stop)
-files_stop words book script held rose out_rose workbook bytes a (At fault) is h = (files_cause words book script held rose workbook bytes fault is h, appends_none a)
-files_stop words book script (Some held) rose out_rose workbook bytes a Unwritten is h = absurd h
-files_stop words book script None rose out_rose workbook bytes a Unwritten is h = absurd h
-files_stop words book script held rose out_rose workbook bytes a Exhausted is h = ([], appends_none a, inl refl)
+pub files_stop : {X : Type 0} (words : List (List ℕ)) (book : List ℕ) (script : Option (List ℕ)) (held : Option Held) (rose out_rose : Type 0) (reads : X → List Reading → Inputs) (bytes : X → List ℕ) (a : Option (List ℕ)) (stop : Stop)
+    → words_of words ≡ Some (Files book script) → ReadsAll held rose book script reads bytes (Err stop) → Works words held rose out_rose a a (Err stop)
+files_stop words book script held rose out_rose reads bytes a (At fault) is h = (files_cause words book script held rose reads bytes fault is h, appends_none a)
+files_stop words book script (Some held) rose out_rose reads bytes a Unwritten is h = absurd h
+files_stop words book script None rose out_rose reads bytes a Unwritten is h = absurd h
+files_stop words book script held rose out_rose reads bytes a Exhausted is h = ([], appends_none a, inl refl)
 
-pub files_read : {X : Type 0} (words : List (List ℕ)) (book : List ℕ) (script : Option (List ℕ)) (held : Option Held) (rose : Type 0) (workbook : X → Workbook) (bytes : X → List ℕ) (x : X) (readings : List Reading)
-    → words_of words ≡ Some (Files book script) → ReadsAll held rose book script workbook bytes (Ok x) → AreReadingsOf (bytes x) readings → IsInputs words held (record { book = workbook x; readings = readings })
-files_read words book script (Some held) rose workbook bytes x readings is h are = usable is (h readings are)
-files_read words book script None rose workbook bytes x readings is h are = rw is tt
+pub files_read : {X : Type 0} (words : List (List ℕ)) (book : List ℕ) (script : Option (List ℕ)) (held : Option Held) (rose : Type 0) (reads : X → List Reading → Inputs) (bytes : X → List ℕ) (x : X) (readings : List Reading)
+    → words_of words ≡ Some (Files book script) → ReadsAll held rose book script reads bytes (Ok x) → AreReadingsOf (bytes x) readings → IsInputs words held (reads x readings)
+files_read words book script (Some held) rose reads bytes x readings is h are = usable is (h readings are)
+files_read words book script None rose reads bytes x readings is h are = rw is tt
 
 -- no read of a demo's texts fails
 pub never_rose : Rose 0 0 → ⊥
@@ -110,17 +110,17 @@ never_rose (inl less) = omega (arith, less)
 never_rose (inr last) = omega (arith, last)
 
 -- the reading of a demo stops
-pub demo_stops : {X : Type 0} (words : List (List ℕ)) (n : ℕ) (held : Option Held) (rose out_rose : Type 0) (workbook : X → Workbook) (bytes : X → List ℕ) (a : Option (List ℕ)) (stop : Stop)
-    → words_of words ≡ Some (Demo n) → ReadsAll (Some (text_named (demo_of n))) (Rose 0 0) DEMO_BOOK_NAME.now (Some DEMO_SCRIPT_NAME.now) workbook bytes (Err stop) → Works words held rose out_rose a a (Err stop)
-demo_stops words n held rose out_rose workbook bytes a (At fault) is (inl err) = (where_demo held (words_of words) n (UntoldCause rose fault) _ is (λ h. inl (unreadable (usable is err))), appends_none a)
-demo_stops words n held rose out_rose workbook bytes a (At fault) is (inr (up, named)) = absurd (never_rose up)
-demo_stops words n held rose out_rose workbook bytes a Unwritten is h = absurd h
-demo_stops words n held rose out_rose workbook bytes a Exhausted is h = ([], appends_none a, inl refl)
+pub demo_stops : {X : Type 0} (words : List (List ℕ)) (n : ℕ) (held : Option Held) (rose out_rose : Type 0) (reads : X → List Reading → Inputs) (bytes : X → List ℕ) (a : Option (List ℕ)) (stop : Stop)
+    → words_of words ≡ Some (Demo n) → ReadsAll (Some (text_named (demo_of n))) (Rose 0 0) DEMO_BOOK_NAME.now (Some DEMO_SCRIPT_NAME.now) reads bytes (Err stop) → Works words held rose out_rose a a (Err stop)
+demo_stops words n held rose out_rose reads bytes a (At fault) is (inl err) = (where_demo held (words_of words) n (UntoldCause rose fault) _ is (λ h. inl (unreadable (usable is err))), appends_none a)
+demo_stops words n held rose out_rose reads bytes a (At fault) is (inr (up, named)) = absurd (never_rose up)
+demo_stops words n held rose out_rose reads bytes a Unwritten is h = absurd h
+demo_stops words n held rose out_rose reads bytes a Exhausted is h = ([], appends_none a, inl refl)
 
-pub demo_read : {X : Type 0} (words : List (List ℕ)) (n : ℕ) (held : Option Held) (workbook : X → Workbook) (bytes : X → List ℕ) (x : X) (readings : List Reading)
-    → words_of words ≡ Some (Demo n) → ReadsAll (Some (text_named (demo_of n))) (Rose 0 0) DEMO_BOOK_NAME.now (Some DEMO_SCRIPT_NAME.now) workbook bytes (Ok x) → AreReadingsOf (bytes x) readings
-    → IsInputs words held (record { book = workbook x; readings = readings })
-demo_read words n held workbook bytes x readings is h are = where_demo held (words_of words) n ⊤ _ is (λ held. usable is (h readings are))
+pub demo_read : {X : Type 0} (words : List (List ℕ)) (n : ℕ) (held : Option Held) (reads : X → List Reading → Inputs) (bytes : X → List ℕ) (x : X) (readings : List Reading)
+    → words_of words ≡ Some (Demo n) → ReadsAll (Some (text_named (demo_of n))) (Rose 0 0) DEMO_BOOK_NAME.now (Some DEMO_SCRIPT_NAME.now) reads bytes (Ok x) → AreReadingsOf (bytes x) readings
+    → IsInputs words held (reads x readings)
+demo_read words n held reads bytes x readings is h are = where_demo held (words_of words) n ⊤ _ is (λ held. usable is (h readings are))
 
 -- a fault of the start is that of the report
 pub not_started : (X : Type 0) (writes : Report → List ℕ) (given : Inputs) (book : Workbook) (rose : Type 0) (a : Option (List ℕ)) (stop : Stop) → book ≡ given.book → Starts {X = X} book (Err stop) → Reports writes given rose a a (Err stop)
@@ -136,20 +136,21 @@ not_started X writes given book rose a stop same starts = by stop (first_view_fa
     by Exhausted found e h = inl (appends_none a)
 
 -- no view has a fault, so that there is a report
-found_report : (given : Inputs) → first_view_fault given.book ≡ None → report_or_fault given ≡ Ok (report_of given.book given.readings)
+found_report : (given : Inputs) → first_view_fault given.book ≡ None → report_or_fault given ≡ Ok (report_of given.book given.fds given.readings)
 found_report given none = ap (unless_view_fault given) none
 
 -- the report of what was read is written, or its writing stops
-pub report_written : (given : Inputs) (book : Workbook) (rose : Type 0) (a b : Option (List ℕ)) (r : Result Counts Stop) → first_view_fault given.book ≡ None
-    → book ≡ given.book → PutsPieces (report_of book given.readings).text rose a b r → IfOk r (λ counts. counts ≡ counts_of (report_of book given.readings)) → Reports (λ report. report.text) given rose a b r
-report_written given book rose a b r none same w c =
-    by r (subst (λ (k : Workbook). PutsPieces (report_of k given.readings).text rose a b r) same w) (subst (λ (k : Workbook). IfOk r (λ counts. counts ≡ counts_of (report_of k given.readings))) same c)
+pub report_written : (given : Inputs) (book : Workbook) (fds : List (List ℕ)) (rose : Type 0) (a b : Option (List ℕ)) (r : Result Counts Stop) → first_view_fault given.book ≡ None
+    → book ≡ given.book → fds ≡ given.fds → PutsPieces (report_of book fds given.readings).text rose a b r → IfOk r (λ counts. counts ≡ counts_of (report_of book fds given.readings)) → Reports (λ report. report.text) given rose a b r
+report_written given book fds rose a b r none same alike w c =
+    let report_is : report_of book fds given.readings ≡ report_of given.book given.fds given.readings = rw (same, alike) refl in
+    by r (subst (λ (k : Report). PutsPieces k.text rose a b r) report_is w) (subst (λ (k : Report). IfOk r (λ counts. counts ≡ counts_of k)) report_is c)
   where
-    by : (r : Result Counts Stop) → PutsPieces (report_of given.book given.readings).text rose a b r → IfOk r (λ counts. counts ≡ counts_of (report_of given.book given.readings)) → Reports (λ report. report.text) given rose a b r
-    by (Ok counts) v c = (report_of given.book given.readings, found_report given none, v, c)
+    by : (r : Result Counts Stop) → PutsPieces (report_of given.book given.fds given.readings).text rose a b r → IfOk r (λ counts. counts ≡ counts_of (report_of given.book given.fds given.readings)) → Reports (λ report. report.text) given rose a b r
+    by (Ok counts) v c = (report_of given.book given.fds given.readings, found_report given none, v, c)
     by (Err (At fault)) v c = absurd v
-    by (Err Unwritten) v c = (report_of given.book given.readings, found_report given none, v.0, v.1)
-    by (Err Exhausted) v c = inr (report_of given.book given.readings, found_report given none, v)
+    by (Err Unwritten) v c = (report_of given.book given.fds given.readings, found_report given none, v.0, v.1)
+    by (Err Exhausted) v c = inr (report_of given.book given.fds given.readings, found_report given none, v)
 
 -- what stops a text that is put is no fault
 pub sayable_pieces : {X : Type 0} (text : List ℕ) (rose : Type 0) (a b : Option (List ℕ)) (r : Result X Stop) → PutsPieces text rose a b r → IsSayable r
@@ -165,22 +166,22 @@ measured_stops X writes given text rose a Unwritten w = absurd (never_rose w.1)
 measured_stops X writes given text rose a Exhausted w = inl (appends_none a)
 
 -- the summary of a report
-summary_same : (n : ℕ) (given : Inputs) (book : Workbook) (sizes : List Size) (counts : Counts) (text : List ℕ) → book ≡ given.book → sizes ≡ map (size_of_view book) book.catalog.views
-    → counts ≡ counts_of (report_of book given.readings) → text ≡ summary n sizes counts.replies counts.refused counts.bytes → text ≡ summary_of n (report_of given.book given.readings)
-summary_same n given book sizes counts text same are counted is =
-    is ∙ rw (are, counted) (ap (λ k. summary_of n (report_of k given.readings)) same)
+summary_same : (n : ℕ) (given : Inputs) (book : Workbook) (fds : List (List ℕ)) (sizes : List Size) (counts : Counts) (text : List ℕ) → book ≡ given.book → fds ≡ given.fds → sizes ≡ map (size_of_view book) book.catalog.views
+    → counts ≡ counts_of (report_of book fds given.readings) → text ≡ summary n sizes counts.replies counts.refused counts.bytes → text ≡ summary_of n (report_of given.book given.fds given.readings)
+summary_same n given book fds sizes counts text same alike are counted is =
+    is ∙ rw (are, counted) (ap (λ k. summary_of n (report_of k fds given.readings)) same ∙ ap (λ f. summary_of n (report_of given.book f given.readings)) alike)
 
-pub summary_written : (n : ℕ) (given : Inputs) (book : Workbook) (sizes : List Size) (counts : Counts) (rose : Type 0) (a b : Option (List ℕ)) (r : Result Counts Stop) → first_view_fault given.book ≡ None
-    → book ≡ given.book → sizes ≡ map (size_of_view book) book.catalog.views → counts ≡ counts_of (report_of book given.readings)
+pub summary_written : (n : ℕ) (given : Inputs) (book : Workbook) (fds : List (List ℕ)) (sizes : List Size) (counts : Counts) (rose : Type 0) (a b : Option (List ℕ)) (r : Result Counts Stop) → first_view_fault given.book ≡ None
+    → book ≡ given.book → fds ≡ given.fds → sizes ≡ map (size_of_view book) book.catalog.views → counts ≡ counts_of (report_of book fds given.readings)
     → PutsPieces (summary n sizes counts.replies counts.refused counts.bytes) rose a b r → IfOk r (λ told. told ≡ counts) → Reports (summary_of n) given rose a b r
-summary_written n given book sizes counts rose a b r none same are counted put kept =
-    by r (subst (λ (t : List ℕ). PutsPieces t rose a b r) (summary_same n given book sizes counts _ same are counted refl) put) kept
+summary_written n given book fds sizes counts rose a b r none same alike are counted put kept =
+    by r (subst (λ (t : List ℕ). PutsPieces t rose a b r) (summary_same n given book fds sizes counts _ same alike are counted refl) put) kept
   where
-    by : (r : Result Counts Stop) → PutsPieces (summary_of n (report_of given.book given.readings)) rose a b r → IfOk r (λ told. told ≡ counts) → Reports (summary_of n) given rose a b r
-    by (Ok told) w k = (report_of given.book given.readings, found_report given none, w, k ∙ counted ∙ ap (λ k. counts_of (report_of k given.readings)) same)
+    by : (r : Result Counts Stop) → PutsPieces (summary_of n (report_of given.book given.fds given.readings)) rose a b r → IfOk r (λ told. told ≡ counts) → Reports (summary_of n) given rose a b r
+    by (Ok told) w k = (report_of given.book given.fds given.readings, found_report given none, w, k ∙ counted ∙ ap (λ k. counts_of (report_of k fds given.readings)) same ∙ ap (λ f. counts_of (report_of given.book f given.readings)) alike)
     by (Err (At fault)) w k = absurd w
-    by (Err Unwritten) w k = (report_of given.book given.readings, found_report given none, w.0, w.1)
-    by (Err Exhausted) w k = inr (report_of given.book given.readings, found_report given none, w)
+    by (Err Unwritten) w k = (report_of given.book given.fds given.readings, found_report given none, w.0, w.1)
+    by (Err Exhausted) w k = inr (report_of given.book given.fds given.readings, found_report given none, w)
 
 -- what is written for the words
 pub files_write : (words : List (List ℕ)) (book : List ℕ) (script : Option (List ℕ)) → words_of words ≡ Some (Files book script) → (report : Report) → report.text ≡ written_of words report

@@ -1,5 +1,5 @@
 -- What is read of a file follows from its content.
-use Rattle.std.proofs.Common.{◌≡◌, ◌≢◌, ℕ, List, Option, Some, None, Result, Ok, Err, refl, inl, inr, subst}
+use Rattle.std.proofs.Common.{◌≡◌, ◌≢◌, ◌∙◌, ℕ, List, Option, Some, None, Result, Ok, Err, refl, sym, ap, inl, inr, subst}
 use Rattle.smk_base.specs.CatalogImage.{CatalogImage}
 use Rattle.smk_base.specs.Marks.{after_marks}
 use Rattle.smk_base.specs.declared.fault.Fault.{Fault}
@@ -14,9 +14,13 @@ use Rattle.smk_base.specs.declared.tree.AnyLine.{AnyLine}
 use Rattle.smk_base.specs.declared.tree.AnyLine.TheVariants as any_lines
 use Rattle.smk_model.specs.Names.{Typed}
 use Rattle.smk_model.specs.Typing.{types}
+use Rattle.smk_model.specs.Expanded.{expanded, dependency_names, HasNoDependency}
+use Rattle.smk_model.specs.Profiles.{AreDependencies}
 use Rattle.smk_model.specs.Readings.{Nothing, Asks, Unread as Unread', IsReading, says_nothing, asks, leaves}
-use Rattle.smk_model.specs.Outcome.{Held, content_of, Parses, spells, misspells, BookSaid, BookSays, unparsed, parsed, said_or_fault, statements_say, FileSays, unread, read, UntoldCause}
+use Rattle.smk_model.specs.Reports.{BookSaid}
+use Rattle.smk_model.specs.Outcome.{Held, content_of, Parses, spells, misspells, BookSays, unparsed, parsed, said_or_fault, statements_say, FileSays, unread, read, UntoldCause}
 use Rattle.smk_model.specs.Limits.{KeepsLimits}
+use Rattle.smk_model.proofs.Expanded.{expanded_stands}
 use Rattle.smk_model.proofs.Keeping.{faultless_keep_limits, faultless_asks_keep_limits}
 use Rattle.smk_parse.specs.Answers.{IsBookAnswer, IsAnyAnswer}
 use Rattle.smk_top.specs.Answering.{KeepsLine}
@@ -76,6 +80,16 @@ misspelt text (book_faults.TooMany at what) is other = misspells is
 misspelt text (book_faults.BadNumber at) is other = misspells is
 misspelt text book_faults.NoMemory is other = absurd (other refl)
 
+-- a book in which each dependency is replaced
+pub expanded_keeps : (book made : List StmtImage) → made ≡ expanded book → KeepsLimits book → KeepsLimits made
+expanded_keeps book made same keeps = subst KeepsLimits (sym same) (expanded_stands.limits book keeps)
+
+pub expanded_none : (book made : List StmtImage) → made ≡ expanded book → HasNoDependency made
+expanded_none book made same = subst HasNoDependency (sym same) (expanded_stands.none book)
+
+pub expanded_shown : (book made : List StmtImage) (fds : List (List ℕ)) (catalog : CatalogImage) → made ≡ expanded book → fds ≡ dependency_names book → types made ≡ Ok catalog → AreDependencies catalog fds
+expanded_shown book made fds catalog same names typed = subst (AreDependencies catalog) (sym names) (expanded_stands.shown book catalog (ap types (sym same) ∙ typed))
+
 -- a line's text
 pub says_none : (text : List ℕ) → IsAnyAnswer text (Ok None) → IsReading text Nothing
 says_none text is = says_nothing is
@@ -88,18 +102,19 @@ says_fault text at is = leaves is.0 is.1.1.0 is.1.1.1
 
 pub keeps_line : (text : List ℕ) (line : AnyLine) → IsAnyAnswer text (Ok (Some line)) → KeepsLine (any_image line)
 keeps_line text (any_lines.Plain line) is = tt
+keeps_line text (any_lines.Profile view) is = tt
 keeps_line text (any_lines.Ask asked) is = faultless_asks_keep_limits text (ask_image asked) is.1 is.2
 
 pub ruleset lines_say = (says_none, says_line, says_fault, keeps_line)
 
 -- the bytes of a book's file say no fault of a file that isn't read
-book_typed : (answer : Typed CatalogImage) (rose : Type 0) (fault : Fault) → said_or_fault answer ≡ Err fault → UntoldCause rose fault
-book_typed (Ok catalog) rose fault e = absurd (cc)
-book_typed (Err found) rose fault e = let same : Types found ≡ fault = cc in subst (UntoldCause rose) same tt
+book_typed : (fds : List (List ℕ)) (answer : Typed CatalogImage) (rose : Type 0) (fault : Fault) → said_or_fault fds answer ≡ Err fault → UntoldCause rose fault
+book_typed fds (Ok catalog) rose fault e = absurd (cc)
+book_typed fds (Err found) rose fault e = let same : Types found ≡ fault = cc in subst (UntoldCause rose) same tt
 
 pub book_untold : (bytes : List ℕ) (rose : Type 0) (fault : Fault) → BookSays bytes (Err fault) → UntoldCause rose fault
 book_untold bytes rose fault (unparsed (misspells is)) = tt
-book_untold bytes rose fault (parsed {stmts = stmts} is e) = book_typed (types stmts) rose fault e
+book_untold bytes rose fault (parsed {stmts = stmts} is e) = book_typed (dependency_names stmts) (types (expanded stmts)) rose fault e
 
 -- a book's file, after its text was parsed, or was not
 pub book_unparsed : {X Y : Type 0} (trees : X → List StmtImage) (image : Y → BookSaid) (bytes text : List ℕ) (stop : Stop) → text ≡ after_marks bytes → Answers {X = X} (Parses text) trees (Err stop) → Answers {X = Y} (BookSays bytes) image (Err stop)

@@ -6,10 +6,10 @@ use Rattle.smk_base.specs.declared.fault.Fault.{Fault}
 use Rattle.smk_base.specs.declared.fault.Fault.TheVariants.{Usage, Book, Types, Table, FileLong, TableRows, ViewRows, ViewPairs, Unread}
 use Rattle.smk_outside.specs.Outside.{Rose}
 use Rattle.smk_model.specs.Values.{Row}
-use Rattle.smk_model.specs.Readings.{AreReadingsOf}
-use Rattle.smk_model.specs.Session.{Workbook}
+use Rattle.smk_model.specs.Readings.{Reading, AreReadingsOf}
 use Rattle.smk_model.specs.Words.{Invocation, invocation_of, words_of}
-use Rattle.smk_model.specs.Outcome.{Held, BookSaid, OpensBook, ReadsFiles, no_book, no_tables, no_readings, inputs, the_book, a_table, the_script, UntoldCause}
+use Rattle.smk_model.specs.Reports.{BookSaid}
+use Rattle.smk_model.specs.Outcome.{Held, Inputs, OpensBook, ReadsFiles, no_book, no_tables, no_readings, inputs, the_book, a_table, the_script, UntoldCause}
 use Rattle.smk_top.specs.declared.called.RunWords.{RunWords}
 use Rattle.smk_top.specs.declared.stop.Stop.{Stop}
 use Rattle.smk_top.specs.declared.stop.Stop.TheVariants.{At, Unwritten, Exhausted}
@@ -43,75 +43,75 @@ untold_within rose_here rose (ViewRows view node) wide h = tt
 untold_within rose_here rose (ViewPairs view node name) wide h = tt
 
 -- the book
-pub book_stops : {X Y : Type 0} (image : X → BookSaid) (workbook : Y → Workbook) (bytes : Y → List ℕ) (held : Option Held) (rose : Type 0) (book : List ℕ) (script : Option (List ℕ)) (stop : Stop)
-    → Reads held rose book (λ h. OpensBook h book) image (Err stop) → ReadsAll {X = Y} held rose book script workbook bytes (Err stop)
-book_stops image workbook bytes (Some held) rose book script (At fault) (inl err) = inl (no_book err)
-book_stops image workbook bytes (Some held) rose book script (At fault) (inr (up, name)) = inr (up, rw name the_book)
-book_stops image workbook bytes (Some held) rose book script Unwritten h = h
-book_stops image workbook bytes (Some held) rose book script Exhausted h = tt
-book_stops image workbook bytes None rose book script (At fault) h = h
-book_stops image workbook bytes None rose book script Unwritten h = h
-book_stops image workbook bytes None rose book script Exhausted h = tt
+pub book_stops : {X Y : Type 0} (image : X → BookSaid) (reads : Y → List Reading → Inputs) (bytes : Y → List ℕ) (held : Option Held) (rose : Type 0) (book : List ℕ) (script : Option (List ℕ)) (stop : Stop)
+    → Reads held rose book (λ h. OpensBook h book) image (Err stop) → ReadsAll {X = Y} held rose book script reads bytes (Err stop)
+book_stops image reads bytes (Some held) rose book script (At fault) (inl err) = inl (no_book err)
+book_stops image reads bytes (Some held) rose book script (At fault) (inr (up, name)) = inr (up, rw name the_book)
+book_stops image reads bytes (Some held) rose book script Unwritten h = h
+book_stops image reads bytes (Some held) rose book script Exhausted h = tt
+book_stops image reads bytes None rose book script (At fault) h = h
+book_stops image reads bytes None rose book script Unwritten h = h
+book_stops image reads bytes None rose book script Exhausted h = tt
 
 -- the tables
-pub tables_stop : {X Y Z : Type 0} (image : X → BookSaid) (rows : Z → List (List Row)) (workbook : Y → Workbook) (bytes : Y → List ℕ) (opened : X) (held : Option Held) (rose_before rose_here rose : Type 0) (book : List ℕ) (script : Option (List ℕ)) (stop : Stop)
+pub tables_stop : {X Y Z : Type 0} (image : X → BookSaid) (rows : Z → List (List Row)) (reads : Y → List Reading → Inputs) (bytes : Y → List ℕ) (opened : X) (held : Option Held) (rose_before rose_here rose : Type 0) (book : List ℕ) (script : Option (List ℕ)) (stop : Stop)
     → (rose_here → rose)
     → Reads held rose_before book (λ h. OpensBook h book) image (Ok opened)
-    → Loads held rose_here (image opened).catalog.tables rows (Err stop) → ReadsAll {X = Y} held rose book script workbook bytes (Err stop)
-tables_stop image rows workbook bytes opened (Some held) r1 r2 rose book script (At fault) wide ok (inl err) = inl (no_tables ok err)
-tables_stop image rows workbook bytes opened (Some held) r1 r2 rose book script (At fault) wide ok (inr (up, unread_among before table behind are loaded name)) = inr (wide up, rw name (a_table before table behind ok are loaded))
-tables_stop image rows workbook bytes opened (Some held) r1 r2 rose book script Unwritten wide ok h = h
-tables_stop image rows workbook bytes opened (Some held) r1 r2 rose book script Exhausted wide ok h = tt
-tables_stop image rows workbook bytes opened None r1 r2 rose book script (At fault) wide ok h = untold_within r2 rose fault wide h
-tables_stop image rows workbook bytes opened None r1 r2 rose book script Unwritten wide ok h = h
-tables_stop image rows workbook bytes opened None r1 r2 rose book script Exhausted wide ok h = tt
+    → Loads held rose_here (image opened).catalog.tables rows (Err stop) → ReadsAll {X = Y} held rose book script reads bytes (Err stop)
+tables_stop image rows reads bytes opened (Some held) r1 r2 rose book script (At fault) wide ok (inl err) = inl (no_tables ok err)
+tables_stop image rows reads bytes opened (Some held) r1 r2 rose book script (At fault) wide ok (inr (up, unread_among before table behind are loaded name)) = inr (wide up, rw name (a_table before table behind ok are loaded))
+tables_stop image rows reads bytes opened (Some held) r1 r2 rose book script Unwritten wide ok h = h
+tables_stop image rows reads bytes opened (Some held) r1 r2 rose book script Exhausted wide ok h = tt
+tables_stop image rows reads bytes opened None r1 r2 rose book script (At fault) wide ok h = untold_within r2 rose fault wide h
+tables_stop image rows reads bytes opened None r1 r2 rose book script Unwritten wide ok h = h
+tables_stop image rows reads bytes opened None r1 r2 rose book script Exhausted wide ok h = tt
 
 -- the script
-pub script_stops : {X Y Z V : Type 0} (image : X → BookSaid) (rows : Z → List (List Row)) (content : V → List ℕ) (workbook : Y → Workbook) (bytes : Y → List ℕ) (opened : X) (tables : Z)
+pub script_stops : {X Y Z V : Type 0} (image : X → BookSaid) (rows : Z → List (List Row)) (content : V → List ℕ) (reads : Y → List Reading → Inputs) (bytes : Y → List ℕ) (opened : X) (tables : Z)
     (held : Option Held) (rose_first rose_second rose_here rose : Type 0) (book : List ℕ) (script : Option (List ℕ)) (stop : Stop)
     → (rose_here → rose)
     → Reads held rose_first book (λ h. OpensBook h book) image (Ok opened)
     → Loads held rose_second (image opened).catalog.tables rows (Ok tables)
-    → OpensBytes {X = V} held rose_here script content (Err stop) → ReadsAll {X = Y} held rose book script workbook bytes (Err stop)
-script_stops image rows content workbook bytes opened tables (Some held) r1 r2 r3 rose book script (At fault) wide ok fine (inl err) = inl (no_readings ok fine err)
-script_stops image rows content workbook bytes opened tables (Some held) r1 r2 r3 rose book script (At fault) wide ok fine (inr (up, (name, some, is))) = inr (wide up, rw is (the_script ok fine some))
-script_stops image rows content workbook bytes opened tables (Some held) r1 r2 r3 rose book script Unwritten wide ok fine h = h
-script_stops image rows content workbook bytes opened tables (Some held) r1 r2 r3 rose book script Exhausted wide ok fine h = tt
-script_stops image rows content workbook bytes opened tables None r1 r2 r3 rose book script (At fault) wide ok fine h = untold_within r3 rose fault wide h
-script_stops image rows content workbook bytes opened tables None r1 r2 r3 rose book script Unwritten wide ok fine h = h
-script_stops image rows content workbook bytes opened tables None r1 r2 r3 rose book script Exhausted wide ok fine h = tt
+    → OpensBytes {X = V} held rose_here script content (Err stop) → ReadsAll {X = Y} held rose book script reads bytes (Err stop)
+script_stops image rows content reads bytes opened tables (Some held) r1 r2 r3 rose book script (At fault) wide ok fine (inl err) = inl (no_readings ok fine err)
+script_stops image rows content reads bytes opened tables (Some held) r1 r2 r3 rose book script (At fault) wide ok fine (inr (up, (name, some, is))) = inr (wide up, rw is (the_script ok fine some))
+script_stops image rows content reads bytes opened tables (Some held) r1 r2 r3 rose book script Unwritten wide ok fine h = h
+script_stops image rows content reads bytes opened tables (Some held) r1 r2 r3 rose book script Exhausted wide ok fine h = tt
+script_stops image rows content reads bytes opened tables None r1 r2 r3 rose book script (At fault) wide ok fine h = untold_within r3 rose fault wide h
+script_stops image rows content reads bytes opened tables None r1 r2 r3 rose book script Unwritten wide ok fine h = h
+script_stops image rows content reads bytes opened tables None r1 r2 r3 rose book script Exhausted wide ok fine h = tt
 
 -- all is read
-pub all_read : {X Y Z V : Type 0} (image : X → BookSaid) (rows : Z → List (List Row)) (content : V → List ℕ) (workbook : Y → Workbook) (bytes : Y → List ℕ) (opened : X) (tables : Z) (text : V) (all : Y)
+pub all_read : {X Y Z V : Type 0} (image : X → BookSaid) (rows : Z → List (List Row)) (content : V → List ℕ) (reads : Y → List Reading → Inputs) (bytes : Y → List ℕ) (opened : X) (tables : Z) (text : V) (all : Y)
     (held : Option Held) (rose_first rose_second rose_third rose : Type 0) (book : List ℕ) (script : Option (List ℕ))
-    → workbook all ≡ record { catalog = (image opened).catalog; tables = rows tables } → bytes all ≡ content text
+    → ((readings : List Reading) → reads all readings ≡ record { book = record { catalog = (image opened).catalog; tables = rows tables }; fds = (image opened).fds; readings = readings }) → bytes all ≡ content text
     → Reads held rose_first book (λ h. OpensBook h book) image (Ok opened)
     → Loads held rose_second (image opened).catalog.tables rows (Ok tables)
     → OpensBytes held rose_third script content (Ok text)
-    → ReadsAll held rose book script workbook bytes (Ok all)
-all_read image rows content workbook bytes opened tables text all (Some held) r1 r2 r3 rose book script made same ok fine read =
+    → ReadsAll held rose book script reads bytes (Ok all)
+all_read image rows content reads bytes opened tables text all (Some held) r1 r2 r3 rose book script made same ok fine read =
     λ readings are.
-    subst (λ (b : Workbook). ReadsFiles held book script (Ok (record { book = b; readings = readings }))) (sym made)
+    subst (λ (r : Inputs). ReadsFiles held book script (Ok r)) (sym (made readings))
     (inputs ok fine (read readings (subst (λ (l : List ℕ). AreReadingsOf l readings) same are)))
-all_read image rows content workbook bytes opened tables text all None r1 r2 r3 rose book script made same ok fine read = tt
+all_read image rows content reads bytes opened tables text all None r1 r2 r3 rose book script made same ok fine read = tt
 
 -- what is read after the book, and what all is
-pub then_all : {X Y : Type 0} (workbook : X → Workbook) (bytes : X → List ℕ) (image : Y → Workbook) (content : Y → List ℕ) (held : Option Held) (rose_here rose : Type 0) (book : List ℕ) (script : Option (List ℕ)) (rest : X) (all : Y)
-    → image all ≡ workbook rest → content all ≡ bytes rest → ReadsAll held rose_here book script workbook bytes (Ok rest) → ReadsAll held rose book script image content (Ok all)
-then_all workbook bytes image content (Some held) r1 r2 book script rest all made same is =
+pub then_all : {X Y : Type 0} (reads : X → List Reading → Inputs) (bytes : X → List ℕ) (others : Y → List Reading → Inputs) (content : Y → List ℕ) (held : Option Held) (rose_here rose : Type 0) (book : List ℕ) (script : Option (List ℕ)) (rest : X) (all : Y)
+    → ((readings : List Reading) → others all readings ≡ reads rest readings) → content all ≡ bytes rest → ReadsAll held rose_here book script reads bytes (Ok rest) → ReadsAll held rose book script others content (Ok all)
+then_all reads bytes others content (Some held) r1 r2 book script rest all made same is =
     λ readings are.
-    subst (λ (b : Workbook). ReadsFiles held book script (Ok (record { book = b; readings = readings }))) (sym made) (is readings (subst (λ (l : List ℕ). AreReadingsOf l readings) same are))
-then_all workbook bytes image content None r1 r2 book script rest all made same is = tt
+    subst (λ (r : Inputs). ReadsFiles held book script (Ok r)) (sym (made readings)) (is readings (subst (λ (l : List ℕ). AreReadingsOf l readings) same are))
+then_all reads bytes others content None r1 r2 book script rest all made same is = tt
 
-pub rest_stops : {X Y : Type 0} (workbook : X → Workbook) (bytes : X → List ℕ) (image : Y → Workbook) (content : Y → List ℕ) (held : Option Held) (rose_here rose : Type 0) (book : List ℕ) (script : Option (List ℕ)) (stop : Stop)
-    → (rose_here → rose) → ReadsAll held rose_here book script workbook bytes (Err stop) → ReadsAll held rose book script image content (Err stop)
-rest_stops workbook bytes image content (Some held) r1 r2 book script (At fault) wide (inl err) = inl err
-rest_stops workbook bytes image content (Some held) r1 r2 book script (At fault) wide (inr (up, named)) = inr (wide up, named)
-rest_stops workbook bytes image content (Some held) r1 r2 book script Unwritten wide is = is
-rest_stops workbook bytes image content (Some held) r1 r2 book script Exhausted wide is = tt
-rest_stops workbook bytes image content None r1 r2 book script (At fault) wide is = untold_within r1 r2 fault wide is
-rest_stops workbook bytes image content None r1 r2 book script Unwritten wide is = is
-rest_stops workbook bytes image content None r1 r2 book script Exhausted wide is = tt
+pub rest_stops : {X Y : Type 0} (reads : X → List Reading → Inputs) (bytes : X → List ℕ) (others : Y → List Reading → Inputs) (content : Y → List ℕ) (held : Option Held) (rose_here rose : Type 0) (book : List ℕ) (script : Option (List ℕ)) (stop : Stop)
+    → (rose_here → rose) → ReadsAll held rose_here book script reads bytes (Err stop) → ReadsAll held rose book script others content (Err stop)
+rest_stops reads bytes others content (Some held) r1 r2 book script (At fault) wide (inl err) = inl err
+rest_stops reads bytes others content (Some held) r1 r2 book script (At fault) wide (inr (up, named)) = inr (wide up, named)
+rest_stops reads bytes others content (Some held) r1 r2 book script Unwritten wide is = is
+rest_stops reads bytes others content (Some held) r1 r2 book script Exhausted wide is = tt
+rest_stops reads bytes others content None r1 r2 book script (At fault) wide is = untold_within r1 r2 fault wide is
+rest_stops reads bytes others content None r1 r2 book script Unwritten wide is = is
+rest_stops reads bytes others content None r1 r2 book script Exhausted wide is = tt
 
 -- a book that was opened, as what it says
 pub opened_as : {X : Type 0} (image : X → BookSaid) (held : Option Held) (rose other : Type 0) (book : List ℕ) (opened : X)

@@ -1,10 +1,9 @@
 -- The walk over the lines of a script, one part after the other.
 use Rattle.std.proofs.Common.{◌≡◌, ◌∙◌, ◌≤◌, ◌+◌, ◌++◌, ◌∷◌, [], ℕ, List, length, drop, Option, Err, refl, sym, ap, subst, append_assoc, append-nil, arith}
 use Rattle.std.proofs.lemmas.List.{length-append, drop_all}
-use Rattle.smk_base.specs.CatalogImage.{CatalogImage}
 use Rattle.smk_model.specs.Lines.{lines}
 use Rattle.smk_model.specs.Readings.{Reading, IsReading, AreReadings, no_line}
-use Rattle.smk_model.specs.Reports.{Told, nothing_told, followed_by, line_told, state_after, lines_told}
+use Rattle.smk_model.specs.Reports.{BookSaid, Told, nothing_told, followed_by, line_told, state_after, lines_told}
 use Rattle.smk_model.specs.Session.{State}
 use Rattle.smk_model.proofs.OneOutcome.{same_readings}
 use Rattle.smk_outside.specs.Outside.{Appends, AppendsPart}
@@ -16,11 +15,11 @@ use Rattle.smk_top.proofs.Appending.{appends_none, appends_more, front_of, next_
 use Rattle.smk_top.proofs.ScriptReads.{readings_more, rest_said}
 
 -- the state after lines
-abbrev pub state_through : CatalogImage → State → List Reading → State
+abbrev pub state_through : BookSaid → State → List Reading → State
 state_through catalog state [] = state
 state_through catalog state (reading ∷ readings) = state_through catalog (state_after catalog state reading) readings
 
-through_more : (catalog : CatalogImage) (state : State) (before : List Reading) (reading : Reading) → state_through catalog state (before ++ reading ∷ []) ≡ state_after catalog (state_through catalog state before) reading
+through_more : (catalog : BookSaid) (state : State) (before : List Reading) (reading : Reading) → state_through catalog state (before ++ reading ∷ []) ≡ state_after catalog (state_through catalog state before) reading
 through_more catalog state [] reading = refl
 through_more catalog state (r ∷ before) reading = through_more catalog (state_after catalog state r) before reading
 
@@ -43,7 +42,7 @@ followed_none a = told_same _ _ (append-nil a.text) (omega arith) (omega arith) 
 none_followed : (a : Told) → followed_by nothing_told a ≡ a
 none_followed a = told_same _ _ refl (omega arith) (omega arith) (omega arith) (omega arith)
 
-told_append : (catalog : CatalogImage) (state : State) (n m : ℕ) (before behind : List Reading) → m ≡ n + length before
+told_append : (catalog : BookSaid) (state : State) (n m : ℕ) (before behind : List Reading) → m ≡ n + length before
     → lines_told catalog state n (before ++ behind) ≡ followed_by (lines_told catalog state n before) (lines_told catalog (state_through catalog state before) m behind)
 told_append catalog state n m [] behind is =
     let same : n ≡ m = omega (arith, is) in
@@ -53,7 +52,7 @@ told_append catalog state n m (reading ∷ before) behind is =
     ∙ sym (followed_assoc (line_told catalog state n reading) (lines_told catalog (state_after catalog state reading) (n + 1) before) _)
 
 -- the lines of a script before a place, with what they say, and what they come to: what is written, the state that they leave, and the looks
-pub record IsWalked (catalog : CatalogImage) (state : State) (script : List ℕ) (from number : ℕ) (before after : Option (List ℕ)) (now : State) (first looks : ℕ) : Type 0 where
+pub record IsWalked (catalog : BookSaid) (state : State) (script : List ℕ) (from number : ℕ) (before after : Option (List ℕ)) (now : State) (first looks : ℕ) : Type 0 where
   pub texts : List (List ℕ)
   pub said : List Reading
   pub cut : lines script ≡ texts ++ lines (drop from script)
@@ -64,18 +63,18 @@ pub record IsWalked (catalog : CatalogImage) (state : State) (script : List ℕ)
   pub looked : looks ≤ first + (lines_told catalog state 1 said).looks
 
 -- the same with the counts of the lines
-abbrev pub Walks : CatalogImage → State → List ℕ → ℕ → ℕ → Option (List ℕ) → Option (List ℕ) → State → ℕ → ℕ → Counts → Type 0
+abbrev pub Walks : BookSaid → State → List ℕ → ℕ → ℕ → Option (List ℕ) → Option (List ℕ) → State → ℕ → ℕ → Counts → Type 0
 Walks catalog state script from number before after now first looks counts =
     (walked : IsWalked catalog state script from number before after now first looks) × (counts ≡ counts_told (lines_told catalog state 1 walked.said))
 
 -- before the first line
-pub walk_begins : (catalog : CatalogImage) (state now : State) (script : List ℕ) (a : Option (List ℕ)) (first : ℕ) → now ≡ state
+pub walk_begins : (catalog : BookSaid) (state now : State) (script : List ℕ) (a : Option (List ℕ)) (first : ℕ) → now ≡ state
     → Walks catalog state script 0 0 a a now first first (counts_told nothing_told)
 walk_begins catalog state now script a first same =
     (record { texts = []; said = []; cut = refl; reads = no_line; count = refl; written = appends_none a; leaves = same; looked = omega arith }, refl)
 
 -- what lines come to with one more
-told_on : (catalog k : CatalogImage) (state now : State) (number : ℕ) (said : List Reading) (reading : Reading) → number ≡ length said → k ≡ catalog → now ≡ state_through catalog state said
+told_on : (catalog k : BookSaid) (state now : State) (number : ℕ) (said : List Reading) (reading : Reading) → number ≡ length said → k ≡ catalog → now ≡ state_through catalog state said
     → lines_told catalog state 1 (said ++ reading ∷ []) ≡ followed_by (lines_told catalog state 1 said) (line_told k now (number + 1) reading)
 told_on catalog k state now number said reading count e f =
     told_append catalog state 1 (number + 1) said (reading ∷ []) (omega (arith, count))
@@ -86,7 +85,7 @@ counts_on : (a b : Told) → counts_together (counts_told a) (counts_told b) ≡
 counts_on a b = ap (λ n. record { replies = a.replies + b.replies; refused = a.refused + b.refused; unread = a.unread + b.unread; bytes = n }) (sym (length-append a.text b.text))
 
 -- behind the next line
-pub walk_on : (catalog k : CatalogImage) (state now later : State) (script line : List ℕ) (from next number : ℕ) (a b c : Option (List ℕ)) (first looks more : ℕ) (reading : Reading)
+pub walk_on : (catalog k : BookSaid) (state now later : State) (script line : List ℕ) (from next number : ℕ) (a b c : Option (List ℕ)) (first looks more : ℕ) (reading : Reading)
     → (walked : IsWalked catalog state script from number a b now first looks) → k ≡ catalog
     → lines (drop from script) ≡ line ∷ lines (drop next script) → IsReading line reading
     → Appends b c (line_told k now (number + 1) reading).text → later ≡ state_after k now reading → more ≤ looks + (line_told k now (number + 1) reading).looks
@@ -108,14 +107,14 @@ walk_on catalog k state now later script line from next number a b c first looks
     (on, λ counts one both e f g. g ∙ rw (e, f) (counts_on (lines_told catalog state 1 walked.said) (line_told k now (number + 1) reading)) ∙ ap counts_told (sym here))
 
 -- the lines so far are the first of all
-all_told : (catalog : CatalogImage) (state : State) (texts behind : List (List ℕ)) (script : List ℕ) (done said : List Reading) → lines script ≡ texts ++ behind → AreReadings texts done → AreReadings (lines script) said
+all_told : (catalog : BookSaid) (state : State) (texts behind : List (List ℕ)) (script : List ℕ) (done said : List Reading) → lines script ≡ texts ++ behind → AreReadings texts done → AreReadings (lines script) said
     → (rest : Told) × (lines_told catalog state 1 said ≡ followed_by (lines_told catalog state 1 done) rest)
 all_told catalog state texts behind script done said cut reads all =
     let more = rest_said texts behind done said reads (subst (λ (l : List (List ℕ)). AreReadings l said) cut all) in
     (lines_told catalog (state_through catalog state done) (1 + length done) more.0, ap (lines_told catalog state 1) more.1 ∙ told_append catalog state 1 (1 + length done) done more.0 refl)
 
 -- memory is wanting behind these lines
-pub walk_wants : (catalog : CatalogImage) (state now : State) (script : List ℕ) (from number : ℕ) (a b : Option (List ℕ)) (first looks : ℕ) → IsWalked catalog state script from number a b now first looks
+pub walk_wants : (catalog : BookSaid) (state now : State) (script : List ℕ) (from number : ℕ) (a b : Option (List ℕ)) (first looks : ℕ) → IsWalked catalog state script from number a b now first looks
     → (said : List Reading) → AreReadings (lines script) said
     → AppendsPart a b (lines_told catalog state 1 said).text × (looks ≤ first + (lines_told catalog state 1 said).looks)
 walk_wants catalog state now script from number a b first looks walked said all =
@@ -123,7 +122,7 @@ walk_wants catalog state now script from number a b first looks walked said all 
     (front_of a b (lines_told catalog state 1 walked.said).text rest.0.text _ walked.written (ap (λ (t : Told). t.text) rest.1), omega (arith, walked.looked, ap (λ (t : Told). t.looks) rest.1))
 
 -- the writing stops in the next line
-pub walk_stops : (X Y : Type 0) (catalog k : CatalogImage) (state now : State) (script line : List ℕ) (from next number : ℕ) (a b c : Option (List ℕ)) (rose_here rose : Type 0) (first looks more : ℕ) (reading : Reading) (stop : Stop)
+pub walk_stops : (X Y : Type 0) (catalog k : BookSaid) (state now : State) (script line : List ℕ) (from next number : ℕ) (a b c : Option (List ℕ)) (rose_here rose : Type 0) (first looks more : ℕ) (reading : Reading) (stop : Stop)
     → IsWalked catalog state script from number a b now first looks → k ≡ catalog
     → lines (drop from script) ≡ line ∷ lines (drop next script) → IsReading line reading → (rose_here → rose)
     → PutsPieces {X = X} (line_told k now (number + 1) reading).text rose_here b c (Err stop) → more ≤ looks + (line_told k now (number + 1) reading).looks
@@ -139,7 +138,7 @@ walk_stops X Y catalog k state now script line from next number a b c rose_here 
     )
 
 -- behind the last line
-pub walk_ends : (catalog : CatalogImage) (state now : State) (script : List ℕ) (from number : ℕ) (a b : Option (List ℕ)) (first looks : ℕ) (counts : Counts) → Walks catalog state script from number a b now first looks counts → from ≡ length script
+pub walk_ends : (catalog : BookSaid) (state now : State) (script : List ℕ) (from number : ℕ) (a b : Option (List ℕ)) (first looks : ℕ) (counts : Counts) → Walks catalog state script from number a b now first looks counts → from ≡ length script
     → (said : List Reading) → AreReadings (lines script) said
     → Appends a b (lines_told catalog state 1 said).text × (counts ≡ counts_told (lines_told catalog state 1 said)) × (looks ≤ first + (lines_told catalog state 1 said).looks)
 walk_ends catalog state now script from number a b first looks counts (walked, counted) end said all =

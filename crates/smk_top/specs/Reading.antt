@@ -58,15 +58,15 @@ OpensBytes None rose script bytes (Err Unwritten) = ⊥
 OpensBytes None rose script bytes (Err Exhausted) = ⊤
 
 -- what is read under the names of a book and a script, whatever readings the script has; or a fault with its cause; or memory is wanting
-abbrev pub ReadsAll : {X : Type 0} → Option Held → Type 0 → List ℕ → Option (List ℕ) → (X → Workbook) → (X → List ℕ) → Result X Stop → Type 0
-ReadsAll (Some held) rose book script workbook bytes (Ok x) = (readings : List Reading) → AreReadingsOf (bytes x) readings → ReadsFiles held book script (Ok (record { book = workbook x; readings = readings }))
-ReadsAll (Some held) rose book script workbook bytes (Err (At fault)) = ReadsFiles held book script (Err fault) ⊎ (rose × NamesAsked held book script fault)
-ReadsAll (Some held) rose book script workbook bytes (Err Unwritten) = ⊥
-ReadsAll (Some held) rose book script workbook bytes (Err Exhausted) = ⊤
-ReadsAll None rose book script workbook bytes (Ok x) = ⊤
-ReadsAll None rose book script workbook bytes (Err (At fault)) = UntoldCause rose fault
-ReadsAll None rose book script workbook bytes (Err Unwritten) = ⊥
-ReadsAll None rose book script workbook bytes (Err Exhausted) = ⊤
+abbrev pub ReadsAll : {X : Type 0} → Option Held → Type 0 → List ℕ → Option (List ℕ) → (X → List Reading → Inputs) → (X → List ℕ) → Result X Stop → Type 0
+ReadsAll (Some held) rose book script reads bytes (Ok x) = (readings : List Reading) → AreReadingsOf (bytes x) readings → ReadsFiles held book script (Ok (reads x readings))
+ReadsAll (Some held) rose book script reads bytes (Err (At fault)) = ReadsFiles held book script (Err fault) ⊎ (rose × NamesAsked held book script fault)
+ReadsAll (Some held) rose book script reads bytes (Err Unwritten) = ⊥
+ReadsAll (Some held) rose book script reads bytes (Err Exhausted) = ⊤
+ReadsAll None rose book script reads bytes (Ok x) = ⊤
+ReadsAll None rose book script reads bytes (Err (At fault)) = UntoldCause rose fault
+ReadsAll None rose book script reads bytes (Err Unwritten) = ⊥
+ReadsAll None rose book script reads bytes (Err Exhausted) = ⊤
 
 -- these inputs are those of the run
 abbrev pub IsInputs : List (List ℕ) → Option Held → Inputs → Type 0

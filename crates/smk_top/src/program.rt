@@ -1,4 +1,6 @@
 ghost use Rattle.std.specs.Prelude.{◌≡◌, ◌≤◌, ◌+◌, ℕ, List, Some, map};
+ghost use Rattle.smk_base.specs.CatalogImage.{catalog_image};
+ghost use Rattle.smk_model.specs.Profiles.{AreDependencies};
 ghost use Rattle.smk_model.specs.FaultTexts.{IsSaid};
 ghost use Rattle.smk_model.specs.Outcome.{run_looks};
 ghost use Rattle.smk_model.specs.Readings.{Reading, AreReadingsOf};
@@ -91,6 +93,7 @@ fn report<R: Threads + Sync, G: Gate + Sync, O: Sink, L: Ledger>(
     out: &mut O,
     steps: &mut Steps<L>,
 ) -> Result<Counts, Stop>
+    requires shown { AreDependencies (catalog_image inputs.book) inputs.fds }
     ensures works { (said : List Reading) → AreReadingsOf inputs.script.items said
         → Reports (λ report. report.text) (inputs_with inputs said) (Rose (O.faults out.old) (O.faults out.new)) (O.written out.old) (O.written out.new) result }
     ensures said { IsSayable result }
@@ -99,7 +102,16 @@ fn report<R: Threads + Sync, G: Gate + Sync, O: Sink, L: Ledger>(
 {
     let mut begun = start(rt, alloc, inputs, settings, gate, steps)?;
     let script = begun.script.as_slice();
-    write_report(rt, alloc, &mut begun.session, script, gate, out, steps)
+    write_report(
+        rt,
+        alloc,
+        &mut begun.session,
+        &begun.fds,
+        script,
+        gate,
+        out,
+        steps,
+    )
 }
 
 // Reads what a run is called for, and writes the report, or a demo's summary. It tells the counts of the report's lines.

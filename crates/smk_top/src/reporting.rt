@@ -4,6 +4,7 @@ ghost use Rattle.smk_base.specs.CatalogImage.{catalog_image};
 ghost use Rattle.smk_base.specs.Marks.{after_marks};
 ghost use Rattle.smk_base.specs.TreeImage.{any_image};
 ghost use Rattle.smk_model.specs.Lines.{lines};
+ghost use Rattle.smk_model.specs.Profiles.{AreDependencies};
 ghost use Rattle.smk_model.specs.Readings as readings;
 ghost use Rattle.smk_model.specs.Readings.{AreReadings, AreReadingsOf};
 ghost use Rattle.smk_model.specs.Reports as reports;
@@ -13,6 +14,7 @@ ghost use Rattle.smk_outside.specs.Outside.{Rose};
 ghost use Rattle.smk_session.specs.Sessions.{state_of, workbook_of};
 ghost use Rattle.smk_top.specs.Answering.{KeepsLine, KeepsReading};
 ghost use Rattle.smk_top.specs.Image.{reading_image};
+ghost use Rattle.smk_top.specs.Loaded.{said_of};
 ghost use Rattle.smk_top.specs.Counting.{counts_told, counts_of, text_counted};
 ghost use Rattle.smk_top.specs.Writing.{Puts, PutsPieces};
 
@@ -21,7 +23,7 @@ use crate::counting::{NOTHING, together};
 use crate::counts::Counts;
 use crate::script::{Reading, reading_of};
 use crate::stop::Stop;
-use smk_base::{AnyLine, without_mark};
+use smk_base::{AnyLine, Names, without_mark};
 use smk_outside::{Gate, Sink, Steps};
 use smk_parse::line_at;
 use smk_report::{bad_line_text, view_text};
@@ -104,21 +106,23 @@ fn write_answer<R: Threads + Sync, G: Gate + Sync, O: Sink, L: Ledger>(
     rt: &R,
     alloc: Global,
     session: &mut Session,
+    fds: &Names,
     line: &AnyLine,
     gate: &G,
     out: &mut O,
     steps: &mut Steps<L>,
 ) -> Result<Counts, Stop>
-    requires { KeepsLine (any_image line.now) }
-    ensures written { PutsPieces (reports.line_told (catalog_image session.old.catalog) (state_of session.old) 0 (readings.Asks (any_image line.now))).text
+    requires kept { KeepsLine (any_image line.now) }
+    requires shown { AreDependencies (catalog_image session.old.catalog) fds.now }
+    ensures written { PutsPieces (reports.line_told (said_of session.old.catalog fds.now) (state_of session.old) 0 (readings.Asks (any_image line.now))).text
         (Rose (O.faults out.old) (O.faults out.new)) (O.written out.old) (O.written out.new) result }
-    ensures counts { IfOk result (λ counts. counts ≡ counts_told (reports.line_told (catalog_image session.old.catalog) (state_of session.old) 0 (readings.Asks (any_image line.now)))) }
-    ensures after { IfOk result (λ counts. state_of session.new ≡ reports.state_after (catalog_image session.old.catalog) (state_of session.old) (readings.Asks (any_image line.now))) }
+    ensures counts { IfOk result (λ counts. counts ≡ counts_told (reports.line_told (said_of session.old.catalog fds.now) (state_of session.old) 0 (readings.Asks (any_image line.now)))) }
+    ensures after { IfOk result (λ counts. state_of session.new ≡ reports.state_after (said_of session.old.catalog fds.now) (state_of session.old) (readings.Asks (any_image line.now))) }
     ensures book { session.new.catalog ≡ session.old.catalog }
     ensures later { O.faults out.old ≤ O.faults out.new }
-    ensures looks { steps.new ≤ steps.old + (reports.line_told (catalog_image session.old.catalog) (state_of session.old) 0 (readings.Asks (any_image line.now))).looks }
+    ensures looks { steps.new ≤ steps.old + (reports.line_told (said_of session.old.catalog fds.now) (state_of session.old) 0 (readings.Asks (any_image line.now))).looks }
 {
-    let Answered { text, refused } = answer_line(rt, alloc, session, line, gate, steps)?;
+    let Answered { text, refused } = answer_line(rt, alloc, session, fds, line, gate, steps)?;
     write_counted(out, text, answer_counts(refused))
 }
 
@@ -141,24 +145,26 @@ fn write_line<R: Threads + Sync, G: Gate + Sync, O: Sink, L: Ledger>(
     rt: &R,
     alloc: Global,
     session: &mut Session,
+    fds: &Names,
     number: u64,
     reading: Reading,
     gate: &G,
     out: &mut O,
     steps: &mut Steps<L>,
 ) -> Result<Counts, Stop>
-    requires { KeepsReading (reading_image reading) }
-    ensures written { PutsPieces (reports.line_told (catalog_image session.old.catalog) (state_of session.old) number (reading_image reading)).text
+    requires kept { KeepsReading (reading_image reading) }
+    requires shown { AreDependencies (catalog_image session.old.catalog) fds.now }
+    ensures written { PutsPieces (reports.line_told (said_of session.old.catalog fds.now) (state_of session.old) number (reading_image reading)).text
         (Rose (O.faults out.old) (O.faults out.new)) (O.written out.old) (O.written out.new) result }
-    ensures counts { IfOk result (λ counts. counts ≡ counts_told (reports.line_told (catalog_image session.old.catalog) (state_of session.old) number (reading_image reading))) }
-    ensures after { IfOk result (λ counts. state_of session.new ≡ reports.state_after (catalog_image session.old.catalog) (state_of session.old) (reading_image reading)) }
+    ensures counts { IfOk result (λ counts. counts ≡ counts_told (reports.line_told (said_of session.old.catalog fds.now) (state_of session.old) number (reading_image reading))) }
+    ensures after { IfOk result (λ counts. state_of session.new ≡ reports.state_after (said_of session.old.catalog fds.now) (state_of session.old) (reading_image reading)) }
     ensures book { session.new.catalog ≡ session.old.catalog }
     ensures later { O.faults out.old ≤ O.faults out.new }
-    ensures looks { steps.new ≤ steps.old + (reports.line_told (catalog_image session.old.catalog) (state_of session.old) number (reading_image reading)).looks }
+    ensures looks { steps.new ≤ steps.old + (reports.line_told (said_of session.old.catalog fds.now) (state_of session.old) number (reading_image reading)).looks }
 {
     match reading {
         Reading::Nothing => Ok(NOTHING),
-        Reading::Asks(line) => write_answer(rt, alloc, session, &line, gate, out, steps),
+        Reading::Asks(line) => write_answer(rt, alloc, session, fds, &line, gate, out, steps),
         Reading::Unread(at) => write_unread(alloc, number, at, out),
     }
 }
@@ -168,16 +174,18 @@ fn write_lines<R: Threads + Sync, G: Gate + Sync, O: Sink, L: Ledger>(
     rt: &R,
     alloc: Global,
     session: &mut Session,
+    fds: &Names,
     script: &[u8],
     gate: &G,
     out: &mut O,
     steps: &mut Steps<L>,
 ) -> Result<Counts, Stop>
-    ensures written { (said : List readings.Reading) → AreReadings (lines script.now) said → PutsPieces (reports.lines_told (catalog_image session.old.catalog) (state_of session.old) 1 said).text
+    requires shown { AreDependencies (catalog_image session.old.catalog) fds.now }
+    ensures written { (said : List readings.Reading) → AreReadings (lines script.now) said → PutsPieces (reports.lines_told (said_of session.old.catalog fds.now) (state_of session.old) 1 said).text
         (Rose (O.faults out.old) (O.faults out.new)) (O.written out.old) (O.written out.new) result }
-    ensures counts { (said : List readings.Reading) → AreReadings (lines script.now) said → IfOk result (λ counts. counts ≡ counts_told (reports.lines_told (catalog_image session.old.catalog) (state_of session.old) 1 said)) }
+    ensures counts { (said : List readings.Reading) → AreReadings (lines script.now) said → IfOk result (λ counts. counts ≡ counts_told (reports.lines_told (said_of session.old.catalog fds.now) (state_of session.old) 1 said)) }
     ensures later { O.faults out.old ≤ O.faults out.new }
-    ensures looks { (said : List readings.Reading) → AreReadings (lines script.now) said → steps.new ≤ steps.old + (reports.lines_told (catalog_image session.old.catalog) (state_of session.old) 1 said).looks }
+    ensures looks { (said : List readings.Reading) → AreReadings (lines script.now) said → steps.new ≤ steps.old + (reports.lines_told (said_of session.old.catalog fds.now) (state_of session.old) 1 said).looks }
 {
     let mut counts = NOTHING;
     let mut number = 0;
@@ -186,7 +194,7 @@ fn write_lines<R: Threads + Sync, G: Gate + Sync, O: Sink, L: Ledger>(
         number += 1;
         let reading = reading_of(alloc, &script[span.start..span.end])?;
         // Only what the next line says is kept beside it.
-        let line = write_line(rt, alloc, session, number, reading, gate, out, steps)?;
+        let line = write_line(rt, alloc, session, fds, number, reading, gate, out, steps)?;
         from = span.next;
         counts = together(counts, line)?;
     }
@@ -198,19 +206,30 @@ pub fn write_report<R: Threads + Sync, G: Gate + Sync, O: Sink, L: Ledger>(
     rt: &R,
     alloc: Global,
     session: &mut Session,
+    fds: &Names,
     script: &[u8],
     gate: &G,
     out: &mut O,
     steps: &mut Steps<L>,
 ) -> Result<Counts, Stop>
-    requires { session.old.brushes ≡ [] }
-    ensures written { (said : List readings.Reading) → AreReadingsOf script.now said → PutsPieces (reports.report_of (workbook_of session.old) said).text
+    requires begun { session.old.brushes ≡ [] }
+    requires shown { AreDependencies (catalog_image session.old.catalog) fds.now }
+    ensures written { (said : List readings.Reading) → AreReadingsOf script.now said → PutsPieces (reports.report_of (workbook_of session.old) fds.now said).text
         (Rose (O.faults out.old) (O.faults out.new)) (O.written out.old) (O.written out.new) result }
-    ensures counts { (said : List readings.Reading) → AreReadingsOf script.now said → IfOk result (λ counts. counts ≡ counts_of (reports.report_of (workbook_of session.old) said)) }
+    ensures counts { (said : List readings.Reading) → AreReadingsOf script.now said → IfOk result (λ counts. counts ≡ counts_of (reports.report_of (workbook_of session.old) fds.now said)) }
     ensures later { O.faults out.old ≤ O.faults out.new }
-    ensures looks { (said : List readings.Reading) → AreReadingsOf script.now said → steps.new ≤ steps.old + (reports.script_told (workbook_of session.old) said).looks }
+    ensures looks { (said : List readings.Reading) → AreReadingsOf script.now said → steps.new ≤ steps.old + (reports.script_told (workbook_of session.old) fds.now said).looks }
 {
     let views = write_views(alloc, session, out)?;
-    let lines = write_lines(rt, alloc, session, without_mark(script), gate, out, steps)?;
+    let lines = write_lines(
+        rt,
+        alloc,
+        session,
+        fds,
+        without_mark(script),
+        gate,
+        out,
+        steps,
+    )?;
     together(views, lines)
 }

@@ -1,8 +1,10 @@
 // A session, from what a run reads.
 ghost use Rattle.std.specs.Prelude.{◌≡◌, ◌≤◌, ◌+◌, [], List, Err, map, slice_index_or, IfOk};
+ghost use Rattle.smk_base.specs.CatalogImage.{catalog_image};
 ghost use Rattle.smk_base.specs.Rels.{Relation};
 ghost use Rattle.smk_base.specs.declared.catalog.Catalog.{Catalog as CatalogShape};
 ghost use Rattle.smk_model.specs.Looks.{start_looks};
+ghost use Rattle.smk_model.specs.Profiles.{AreDependencies};
 ghost use Rattle.smk_model.specs.Opening.{first_view_fault};
 ghost use Rattle.smk_session.specs.Sessions.{IsStartFault, workbook_image, workbook_of};
 ghost use Rattle.smk_top.specs.Loaded.{workbook_read, script_bytes};
@@ -12,17 +14,18 @@ ghost use Rattle.smk_top.specs.declared.starting.Begun.{Begun as BegunShape};
 use crate::inputs::Inputs;
 use crate::settings::Settings;
 use crate::stop::Stop;
-use smk_base::{Catalog, Fault, TableInfo, Text, ViewInfo};
+use smk_base::{Catalog, Fault, ListOf, TableInfo, Text, ViewInfo};
 use smk_outside::{Gate, Steps};
 use smk_session::{Session, StartFault};
 use std::alloc::{AllocError, Global};
 use std::sync::ledger::Ledger;
 use std::thread::Threads;
 
-/// A session that begins, and the bytes of its script.
+/// A session that begins, the names of its book's dependencies, and the bytes of its script.
 #[derive(Drop)]
 pub struct Begun {
     pub session: Session,
+    pub fds: ListOf<Text>,
     pub script: Vec<u8>,
 }
 
@@ -105,12 +108,15 @@ pub fn start<R: Threads + Sync, G: Gate + Sync, L: Ledger>(
     gate: &G,
     steps: &mut Steps<L>,
 ) -> Result<Begun, Stop>
+    requires shown { AreDependencies (catalog_image inputs.book) inputs.fds }
     ensures starts { Starts (workbook_read inputs) result }
     ensures book { IfOk result (λ begun. workbook_of begun.session ≡ workbook_read inputs) }
     ensures mode { IfOk result (λ begun. begun.session.mode ≡ settings.mode) }
     ensures workers { IfOk result (λ begun. begun.session.workers ≡ settings.workers) }
     ensures looks { steps.new ≤ steps.old + start_looks (workbook_read inputs) }
     ensures begun { IfOk result (λ begun. begun.session.brushes ≡ []) }
+    ensures fds { IfOk result (λ begun. begun.fds ≡ inputs.fds) }
+    ensures shown { IfOk result (λ begun. AreDependencies (catalog_image begun.session.catalog) begun.fds) }
     ensures script { IfOk result (λ begun. begun.script.items ≡ script_bytes inputs) }
     ensures said { IsSayable result }
 {
@@ -118,11 +124,16 @@ pub fn start<R: Threads + Sync, G: Gate + Sync, L: Ledger>(
     let Settings { mode, workers, .. } = settings;
     let Inputs {
         book,
+        fds,
         tables,
         script,
     } = inputs;
     match Session::start(rt, alloc, book, tables, mode, workers, gate, steps) {
-        Ok(session) => Ok(Begun { session, script }),
+        Ok(session) => Ok(Begun {
+            session,
+            fds,
+            script,
+        }),
         Err(fault) => Err(stop_of(alloc, names, fault)),
     }
 }

@@ -5,13 +5,14 @@ ghost use Rattle.smk_base.specs.declared.demo.TheConstants.{DEMO_BOOK_NAME, DEMO
 ghost use Rattle.smk_model.specs.Demo.{demo_of, summary, summary_of};
 ghost use Rattle.smk_model.specs.Opening.{first_view_fault};
 ghost use Rattle.smk_model.specs.Outcome as outcomes;
+ghost use Rattle.smk_model.specs.Profiles.{AreDependencies};
 ghost use Rattle.smk_model.specs.Readings.{Reading, AreReadingsOf};
 ghost use Rattle.smk_model.specs.Reports.{script_told, size_of_view};
 ghost use Rattle.smk_model.specs.Session.{view_at};
 ghost use Rattle.smk_outside.specs.Outside.{Rose};
 ghost use Rattle.smk_session.specs.Sessions.{workbook_of};
 ghost use Rattle.smk_top.specs.Endings.{Reports};
-ghost use Rattle.smk_top.specs.Loaded.{workbook_read, script_bytes, inputs_with};
+ghost use Rattle.smk_top.specs.Loaded.{script_bytes, inputs_with};
 ghost use Rattle.smk_top.specs.Reading.{ReadsAll, IsSayable};
 ghost use Rattle.smk_top.specs.Writing.{PutsPieces};
 
@@ -26,7 +27,7 @@ use crate::settings::Settings;
 use crate::starting::start;
 use crate::stop::Stop;
 use crate::words::text_of;
-use smk_base::{DEMO_BOOK_NAME, DEMO_SCRIPT_NAME, ListOf, Size, Sizes};
+use smk_base::{DEMO_BOOK_NAME, DEMO_SCRIPT_NAME, ListOf, Names, Size, Sizes};
 use smk_demo::{demo, summary_text};
 use smk_outside::{Gate, Sink, Steps};
 use smk_session::Session;
@@ -36,7 +37,8 @@ use std::thread::Threads;
 
 /// What is read of the texts of a demo.
 pub fn read_demo(alloc: Global, flights: Flights) -> Result<Inputs, Stop>
-    ensures read { ReadsAll (Some (outcomes.text_named (demo_of flights.count))) (Rose 0 0) DEMO_BOOK_NAME.now (Some DEMO_SCRIPT_NAME.now) workbook_read script_bytes result }
+    ensures read { ReadsAll (Some (outcomes.text_named (demo_of flights.count))) (Rose 0 0) DEMO_BOOK_NAME.now (Some DEMO_SCRIPT_NAME.now) inputs_with script_bytes result }
+    ensures shown { IfOk result (λ inputs. AreDependencies (catalog_image inputs.book) inputs.fds) }
     ensures said { IsSayable result }
 {
     let mut texts = DemoTexts {
@@ -101,20 +103,22 @@ fn write_summary<R: Threads + Sync, G: Gate + Sync, O: Sink, L: Ledger>(
     alloc: Global,
     flights: Flights,
     session: &mut Session,
+    fds: &Names,
     script: &[u8],
     gate: &G,
     out: &mut O,
     steps: &mut Steps<L>,
 ) -> Result<Counts, Stop>
-    requires { session.old.brushes ≡ [] }
-    ensures works { (given : outcomes.Inputs) → AreReadingsOf script.now given.readings → first_view_fault given.book ≡ None → workbook_of session.old ≡ given.book
+    requires begun { session.old.brushes ≡ [] }
+    requires shown { AreDependencies (catalog_image session.old.catalog) fds.now }
+    ensures works { (given : outcomes.Inputs) → AreReadingsOf script.now given.readings → first_view_fault given.book ≡ None → workbook_of session.old ≡ given.book → fds.now ≡ given.fds
         → Reports (summary_of flights.count) given (Rose (O.faults out.old) (O.faults out.new)) (O.written out.old) (O.written out.new) result }
     ensures said { IsSayable result }
     ensures out_later { O.faults out.old ≤ O.faults out.new }
-    ensures looks { (said : List Reading) → AreReadingsOf script.now said → steps.new ≤ steps.old + (script_told (workbook_of session.old) said).looks }
+    ensures looks { (said : List Reading) → AreReadingsOf script.now said → steps.new ≤ steps.old + (script_told (workbook_of session.old) fds.now said).looks }
 {
     let sizes = sizes_of(alloc, session)?;
-    let counts = write_report(rt, alloc, session, script, gate, &mut Nowhere, steps)?;
+    let counts = write_report(rt, alloc, session, fds, script, gate, &mut Nowhere, steps)?;
     put_summary(alloc, flights, &sizes, counts, out)
 }
 
@@ -129,6 +133,7 @@ pub fn summarize<R: Threads + Sync, G: Gate + Sync, O: Sink, L: Ledger>(
     out: &mut O,
     steps: &mut Steps<L>,
 ) -> Result<Counts, Stop>
+    requires shown { AreDependencies (catalog_image inputs.book) inputs.fds }
     ensures works { (said : List Reading) → AreReadingsOf inputs.script.items said
         → Reports (summary_of flights.count) (inputs_with inputs said) (Rose (O.faults out.old) (O.faults out.new)) (O.written out.old) (O.written out.new) result }
     ensures said { IsSayable result }
@@ -142,6 +147,7 @@ pub fn summarize<R: Threads + Sync, G: Gate + Sync, O: Sink, L: Ledger>(
         alloc,
         flights,
         &mut begun.session,
+        &begun.fds,
         script,
         gate,
         out,

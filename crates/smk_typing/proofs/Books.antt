@@ -8,6 +8,7 @@ use Rattle.smk_base.specs.TreeImage.{stmt_image}
 use Rattle.smk_base.specs.Trees.{StmtImage}
 use Rattle.smk_base.specs.declared.tree.Stmt.{Stmt}
 use Rattle.smk_base.specs.declared.type_fault.TypeFault.{TypeFault}
+use Rattle.smk_model.specs.Expanded.{HasNoDependency, IsNoDependency}
 use Rattle.smk_model.specs.Limits.{KeepsLimits, KeepsStmt, is_table, is_view}
 use Rattle.smk_model.specs.Names.{in_turn}
 use Rattle.smk_model.specs.Typing.{types, stmt_after, nothing_declared}
@@ -16,13 +17,14 @@ use Rattle.smk_typing.specs.Rest.{IsBefore, one_if}
 use Rattle.smk_typing.proofs.CatalogsFit.{stmt_kept, nothing_typed}
 
 -- before the first statement
-pub at_first : (book : List StmtImage) (catalog : CatalogImage) → catalog ≡ nothing_declared → KeepsLimits book → IsBefore book catalog book
-at_first book catalog none limits = subst (λ (start : CatalogImage). IsBefore book start book) (sym none) (record {
+pub at_first : (book : List StmtImage) (catalog : CatalogImage) → catalog ≡ nothing_declared → KeepsLimits book → HasNoDependency book → IsBefore book catalog book
+at_first book catalog none limits replaced = subst (λ (start : CatalogImage). IsBefore book start book) (sym none) (record {
   typed = nothing_typed;
   types_rest = refl;
   few_tables = omega (arith, limits.few_tables);
   few_views = omega (arith, limits.few_views);
   each = limits.each;
+  replaced = replaced;
 })
 
 counted : (p : StmtImage → Bool) (s : StmtImage) (more : List StmtImage) → count_by p (s ∷ more) ≡ one_if (p s) + count_by p more
@@ -31,18 +33,23 @@ counted p s more = sum_by-cons (λ x. one_if (p x)) s more
 -- after one more statement
 pub at_next : (book : List StmtImage) (old new : CatalogImage) (s : StmtImage) (more : List StmtImage) → IsBefore book old (s ∷ more) → stmt_after old s ≡ Ok new → IsBefore book new more
 at_next book old new s more before after =
-    let kept = stmt_kept old new s before.typed (before.each 0 s (omega arith)) after in
+    let kept = stmt_kept old new s before.typed (before.each 0 s (omega arith)) (before.replaced 0 s (omega arith)) after in
     record {
       typed = kept.0;
       types_rest = before.types_rest ∙ rw after refl;
       few_tables = omega (arith, before.few_tables, kept.1, counted is_table s more);
       few_views = omega (arith, before.few_views, kept.2, counted is_view s more);
       each = λ k d p. before.each (suc k) d (omega arith);
+      replaced = λ k d p. before.replaced (suc k) d (omega arith);
     }
 
 -- the next statement keeps its limits
 pub next_kept : (book : List StmtImage) (catalog : CatalogImage) (s : StmtImage) (more : List StmtImage) → IsBefore book catalog (s ∷ more) → KeepsStmt s
 next_kept book catalog s more before = before.each 0 s (omega arith)
+
+-- and is no dependency
+pub next_replaced : (book : List StmtImage) (catalog : CatalogImage) (s : StmtImage) (more : List StmtImage) → IsBefore book catalog (s ∷ more) → IsNoDependency s
+next_replaced book catalog s more before = before.replaced 0 s (omega arith)
 
 -- the fault of the next statement is the book's
 pub next_fails : (book : List StmtImage) (catalog : CatalogImage) (s : StmtImage) (more : List StmtImage) (fault : TypeFault) → IsBefore book catalog (s ∷ more) → Fails fault (stmt_after catalog s) → Fails fault (types book)

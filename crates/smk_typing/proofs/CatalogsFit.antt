@@ -21,13 +21,14 @@ use Rattle.smk_base.specs.declared.catalog.Fwd.{Fwd}
 use Rattle.smk_base.specs.declared.catalog.LinkInfo.{LinkInfo}
 use Rattle.smk_base.specs.declared.type_fault.TypeFault.TheVariants.{UnknownView, DuplicateName, KindMismatch, SelfLink, RepeatedDeclaration}
 use Rattle.smk_base.specs.Plans.{Expr, Leaf, Apply, Combine}
-use Rattle.smk_base.specs.Trees.{TreeImage, StmtImage, TableNode, ViewNode, BackNode, FwdNode, LinkNode}
+use Rattle.smk_base.specs.Trees.{TreeImage, StmtImage, TableNode, ViewNode, BackNode, FwdNode, LinkNode, DependsNode}
 use Rattle.smk_base.specs.CatalogImage.{CatalogImage, ViewImage}
 use Rattle.smk_model.specs.Names.{in_turn, same_name, is_taken, column_named, kinds_of, same_sort}
 use Rattle.smk_model.specs.Kinds.{AreAlike, kind_of}
 use Rattle.smk_model.specs.Tables.{IsBase, IsBaseColumn}
 use Rattle.smk_model.specs.Plain.{leaves}
 use Rattle.smk_model.specs.Selection.{ScansFit, PlanFits, leaf_kinds, plan_kinds}
+use Rattle.smk_model.specs.Expanded.{IsNoDependency}
 use Rattle.smk_model.specs.Limits.{KeepsStmt, KeepsDecls, KeepsPlan, IsInRange, DefaultInRange, is_table, is_view}
 use Rattle.smk_model.specs.TypedSteps.{TypedPlan, typed_group}
 use Rattle.smk_model.specs.Typing.{stmt_after, nothing_declared, columns_of, info_at, no_table, table_named, view_named, typed_plan, declared_kind, declared_column, decl_after, table_after, view_of, view_after, typed_extra, same_back, back_after, same_fwd, fwd_after, same_link, linked_to, all_linked, to_after, link_after}
@@ -215,12 +216,13 @@ link_kept old new view table words typed e =
     ok_keeps (Follows old 0 0) _ new to.2 (declares old _ _ _ typed typed.backs typed.fwds (All-push (LinkFits (length old.tables) (length old.views)) old.links link typed.links fit))
 
 -- a statement that stands keeps what the catalog keeps, and makes one table, one view or neither
-pub stmt_kept : (old new : CatalogImage) (stmt : StmtImage) → IsTyped old → KeepsStmt stmt → stmt_after old stmt ≡ Ok new → Follows old (one_if (is_table stmt)) (one_if (is_view stmt)) new
-stmt_kept old new (TableNode name file decls) typed keeps e = table_kept old new name file decls typed keeps e
-stmt_kept old new (ViewNode name tree) typed keeps e = view_kept old new name tree typed keeps e
-stmt_kept old new (BackNode at view table extra) typed keeps e = back_kept old new at view table extra typed e
-stmt_kept old new (FwdNode at table view) typed keeps e = fwd_kept old new at table view typed e
-stmt_kept old new (LinkNode view table words) typed keeps e = link_kept old new view table words typed e
+pub stmt_kept : (old new : CatalogImage) (stmt : StmtImage) → IsTyped old → KeepsStmt stmt → IsNoDependency stmt → stmt_after old stmt ≡ Ok new → Follows old (one_if (is_table stmt)) (one_if (is_view stmt)) new
+stmt_kept old new (TableNode name file decls) typed keeps none e = table_kept old new name file decls typed keeps e
+stmt_kept old new (ViewNode name tree) typed keeps none e = view_kept old new name tree typed keeps e
+stmt_kept old new (BackNode at view table extra) typed keeps none e = back_kept old new at view table extra typed e
+stmt_kept old new (FwdNode at table view) typed keeps none e = fwd_kept old new at table view typed e
+stmt_kept old new (LinkNode view table words) typed keeps none e = link_kept old new view table words typed e
+stmt_kept old new (DependsNode at name table keys col) typed keeps none e = absurd none
 
 pub nothing_typed : IsTyped nothing_declared
 nothing_typed = record { columns = All-nil _; views = All-nil _; backs = All-nil _; fwds = All-nil _; links = All-nil _ }

@@ -3,6 +3,7 @@ use Rattle.std.specs.Prelude.{◌≡◌, ℕ, ◌+◌, ◌≤◌, Bool, cond, Li
 use Rattle.smk_base.specs.Trees.{StmtImage}
 use Rattle.smk_base.specs.CatalogImage.{CatalogImage}
 use Rattle.smk_model.specs.Names.{in_turn}
+use Rattle.smk_model.specs.Expanded.{HasNoDependency}
 use Rattle.smk_model.specs.Limits.{KeepsStmt, is_table, is_view}
 use Rattle.smk_model.specs.Typing.{types, stmt_after}
 use Rattle.smk_model.specs.Catalogs.{IsTyped}
@@ -10,10 +11,11 @@ use Rattle.smk_model.specs.Catalogs.{IsTyped}
 abbrev pub one_if : Bool → ℕ
 one_if test = cond test 1 0
 
--- the catalog is that of the statements before the rest, every number and kind in it is right, and the rest keeps the limits that are left
+-- the catalog is that of the statements before the rest, every number and kind in it is right, and the rest keeps the limits that are left and has no dependency
 pub record IsBefore (book : List StmtImage) (catalog : CatalogImage) (rest : List StmtImage) : Type 0 where
   pub typed : IsTyped catalog
   pub types_rest : types book ≡ in_turn stmt_after catalog rest
   pub few_tables : length catalog.tables + count_by is_table rest ≤ 16
   pub few_views : length catalog.views + count_by is_view rest ≤ 64
   pub each : All KeepsStmt rest
+  pub replaced : HasNoDependency rest

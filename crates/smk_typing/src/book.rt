@@ -2,6 +2,7 @@ ghost use Rattle.std.specs.Prelude.{◌≡◌, map, OnOk};
 ghost use Rattle.smk_base.specs.CatalogImage.{catalog_image};
 ghost use Rattle.smk_base.specs.TreeImage.{book_image, stmt_image};
 ghost use Rattle.smk_model.specs.Catalogs.{IsTyped};
+ghost use Rattle.smk_model.specs.Expanded.{HasNoDependency};
 ghost use Rattle.smk_model.specs.Limits.{KeepsLimits};
 ghost use Rattle.smk_model.specs.Typing.{nothing_declared, types};
 ghost use Rattle.smk_typing.specs.Answers.{Finds};
@@ -13,9 +14,10 @@ use crate::typed_book::TypedBook;
 use smk_base::{Book, Stmt, TypeFault};
 use std::alloc::Global;
 
-/// The catalog of a book that keeps its limits, with every name looked up and every kind checked, or the first fault. On a fault the book is dropped.
+/// The catalog of a book that keeps its limits and in which each dependency is replaced, with every name looked up and every kind checked, or the first fault. On a fault the book is dropped.
 pub fn check(alloc: Global, book: Book) -> Result<TypedBook, TypeFault>
-    requires { KeepsLimits (book_image book) }
+    requires limits { KeepsLimits (book_image book) }
+    requires replaced { HasNoDependency (book_image book) }
     ensures { Finds result (types (book_image book)) catalog_image }
 {
     checked(alloc, book.stmts.as_slice())
@@ -23,7 +25,8 @@ pub fn check(alloc: Global, book: Book) -> Result<TypedBook, TypeFault>
 
 /// The checked book of these statements.
 fn checked(alloc: Global, stmts: &[Stmt]) -> Result<TypedBook, TypeFault>
-    requires { KeepsLimits (map stmt_image stmts.now) }
+    requires limits { KeepsLimits (map stmt_image stmts.now) }
+    requires replaced { HasNoDependency (map stmt_image stmts.now) }
     ensures { Finds result (types (map stmt_image stmts.now)) catalog_image }
 {
     let mut draft = Draft::new(alloc);
@@ -42,6 +45,7 @@ fn checked(alloc: Global, stmts: &[Stmt]) -> Result<TypedBook, TypeFault>
 fn add_each(alloc: Global, draft: &mut Draft, stmts: &[Stmt]) -> Result<(), TypeFault>
     requires none { draft_image draft.old ≡ nothing_declared }
     requires limits { KeepsLimits (map stmt_image stmts.now) }
+    requires replaced { HasNoDependency (map stmt_image stmts.now) }
     ensures after { Finds result (types (map stmt_image stmts.now)) (λ _. draft_image draft.new) }
     ensures typed { OnOk result (IsTyped (draft_image draft.new)) }
 {

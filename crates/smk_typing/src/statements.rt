@@ -2,6 +2,7 @@ ghost use Rattle.std.specs.Prelude.{◌≡◌, ◌+◌, ◌<◌, ◌≤◌, [], 
 ghost use Rattle.smk_base.specs.CatalogImage.{view_image};
 ghost use Rattle.smk_base.specs.PlanImage.{expr_of};
 ghost use Rattle.smk_base.specs.TreeImage.{stmt_image, tree_image};
+ghost use Rattle.smk_model.specs.Expanded.{IsNoDependency};
 ghost use Rattle.smk_model.specs.Limits.{KeepsStmt, KeepsTree, is_table, is_view};
 ghost use Rattle.smk_model.specs.Names.{in_turn, names_of, kinds_of};
 ghost use Rattle.smk_model.specs.Typing as typing;
@@ -29,6 +30,7 @@ pub fn stmt_after(alloc: Global, draft: &mut Draft, stmt: &Stmt) -> Result<(), T
     requires tables { length draft.old.tables + one_if (is_table (stmt_image stmt.now)) ≤ 16 }
     requires views { length draft.old.views + one_if (is_view (stmt_image stmt.now)) ≤ 64 }
     requires kept { KeepsStmt (stmt_image stmt.now) }
+    requires replaced { IsNoDependency (stmt_image stmt.now) }
     ensures { Finds result (typing.stmt_after (draft_image draft.old) (stmt_image stmt.now)) (λ _. draft_image draft.new) }
 {
     match stmt {
@@ -42,6 +44,7 @@ pub fn stmt_after(alloc: Global, draft: &mut Draft, stmt: &Stmt) -> Result<(), T
         } => back_after(alloc, draft, *at, view, table, extra),
         Stmt::Fwd { at, table, view } => fwd_after(draft, *at, table, view),
         Stmt::Link { view, table, to } => link_after(alloc, draft, view, table, to.as_slice()),
+        Stmt::Depends { .. } => unreachable!(),
     }
 }
 

@@ -9,7 +9,7 @@ use Rattle.smk_top.proofs.program.report.Goals as goal
 pub returns-clause-works : goal.returns-clause-works
 returns-clause-works g c said are =
     let here : AreReadingsOf c.as_slice-script.result.now said = subst (λ (l : List ℕ). AreReadingsOf l said) (sym (c.as_slice-script.ensures.value ∙ c.in_ok-begun.ensures.script)) are in
-    report_written (inputs_with c.args.inputs said) _ _ _ _ c.write_report.result c.in_ok-begun.ensures.starts c.in_ok-begun.ensures.book (c.write_report.ensures.written said here) (c.write_report.ensures.counts said here)
+    report_written (inputs_with c.args.inputs said) _ _ _ _ _ c.write_report.result c.in_ok-begun.ensures.starts c.in_ok-begun.ensures.book c.in_ok-begun.ensures.fds (c.write_report.ensures.written said here) (c.write_report.ensures.counts said here)
 
 pub returns-clause-said : goal.returns-clause-said
 returns-clause-said g c =

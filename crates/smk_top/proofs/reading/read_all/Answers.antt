@@ -1,11 +1,9 @@
 use Rattle.std.proofs.Common.{◌∙◌, refl, arith, ap, sym}
 use Rattle.std.specs.Option.{option_copied}
 use Rattle.std.proofs.lemmas.Result.{err_from_is_err_and}
-use Rattle.smk_base.specs.CatalogImage.{catalog_image}
 use Rattle.smk_base.specs.declared.catalog.Catalog.{Catalog}
 use Rattle.smk_outside.specs.Outside.{Rose}
-use Rattle.smk_model.specs.Selection.{each_rows}
-use Rattle.smk_top.specs.Loaded.{book_said, workbook_read, script_bytes}
+use Rattle.smk_top.specs.Loaded.{book_said, script_bytes, inputs_with, with_rest}
 use Rattle.smk_top.specs.declared.reading.Rest.{Rest}
 use Rattle.smk_top.proofs.Stops.{rose_within, book_stops, opened_as, rest_stops, then_all}
 use Rattle.smk_top.proofs.reading.read_all.Goals as goal
@@ -13,7 +11,7 @@ use Rattle.smk_top.proofs.reading.read_all.Goals as goal
 pub returns-in_err-book-clause-read : goal.returns-in_err-book-clause-read
 returns-in_err-book-clause-read g c =
     let p = err_from_is_err_and c.from_residual.result c.from_residual.ensures.1 in
-    rw (p.1, p.2) (book_stops book_said workbook_read script_bytes (g.F.Files.held c.args.files.now) (Rose (g.F.Files.faults c.args.files.now) (g.F.Files.faults c.open_book.new.files))
+    rw (p.1, p.2) (book_stops book_said inputs_with script_bytes (g.F.Files.held c.args.files.now) (Rose (g.F.Files.faults c.args.files.now) (g.F.Files.faults c.open_book.new.files))
     c.args.book.now (option_copied c.args.script) c.in_err-book.field-0.0 c.in_err-book.ensures.read)
 
 pub returns-in_err-rest-clause-read : goal.returns-in_err-rest-clause-read
@@ -21,14 +19,14 @@ returns-in_err-rest-clause-read g c =
     let p = err_from_is_err_and c.from_residual-in_err-rest.result c.from_residual-in_err-rest.ensures.1 in
     let wide : Rose (g.F.Files.faults c.open_book.new.files) (g.F.Files.faults c.read_rest.new.files) → Rose (g.F.Files.faults c.args.files.now) (g.F.Files.faults c.read_rest.new.files) =
     λ up. rose_within _ _ _ _ c.in_ok-book.ensures.later c.in_err-rest.ensures.later (omega arith) up in
-    let opened = opened_as book_said (g.F.Files.held c.args.files.now) (Rose (g.F.Files.faults c.args.files.now) (g.F.Files.faults c.open_book.new.files)) (Unit {0}) c.args.book.now c.in_ok-book.book c.in_ok-book.ensures.read in
-    rw (p.1, p.2) (rest_stops (λ (rest : Rest). record { catalog = catalog_image c.in_ok-book.book; tables = each_rows rest.tables.items }) (λ (rest : Rest). rest.script.items) workbook_read script_bytes (g.F.Files.held c.args.files.now)
+    let opened = opened_as book_said (g.F.Files.held c.args.files.now) (Rose (g.F.Files.faults c.args.files.now) (g.F.Files.faults c.open_book.new.files)) (Unit {0}) c.args.book.now c.in_ok-book.field-0 c.in_ok-book.ensures.read in
+    rw (p.1, p.2) (rest_stops (with_rest (book_said c.in_ok-book.field-0)) (λ (rest : Rest). rest.script.items) inputs_with script_bytes (g.F.Files.held c.args.files.now)
     (Rose (g.F.Files.faults c.open_book.new.files) (g.F.Files.faults c.read_rest.new.files)) (Rose (g.F.Files.faults c.args.files.now) (g.F.Files.faults c.read_rest.new.files)) c.args.book.now (option_copied c.args.script) c.in_err-rest.field-0.0 wide
-    (rw c.in_ok-book.ensures.held at (c.in_err-rest.ensures.read c.args.book.now (book_said c.in_ok-book.book) (sym (c.as_slice-infos.ensures ∙ ap (λ (b : Catalog). b.tables) c.catalog.ensures.value)) (rw c.in_ok-book.ensures.held opened))))
+    (rw c.in_ok-book.ensures.held at (c.in_err-rest.ensures.read c.args.book.now (book_said c.in_ok-book.field-0) (sym (c.as_slice-infos.ensures ∙ ap (λ (b : Catalog). b.tables) c.catalog.ensures.value)) (rw c.in_ok-book.ensures.held opened))))
 
 pub returns-clause-read : goal.returns-clause-read
 returns-clause-read g c =
-    let opened = opened_as book_said (g.F.Files.held c.args.files.now) (Rose (g.F.Files.faults c.args.files.now) (g.F.Files.faults c.open_book.new.files)) (Unit {0}) c.args.book.now c.in_ok-book.book c.in_ok-book.ensures.read in
-    then_all (λ (rest : Rest). record { catalog = catalog_image c.in_ok-book.book; tables = each_rows rest.tables.items }) (λ (rest : Rest). rest.script.items) workbook_read script_bytes (g.F.Files.held c.args.files.now)
-    (Rose (g.F.Files.faults c.open_book.new.files) (g.F.Files.faults c.read_rest.new.files)) (Rose (g.F.Files.faults c.args.files.now) (g.F.Files.faults c.read_rest.new.files)) c.args.book.now (option_copied c.args.script) _ _ refl refl
-    (rw c.in_ok-book.ensures.held at (c.in_ok-rest.ensures.read c.args.book.now (book_said c.in_ok-book.book) (sym (c.as_slice-infos.ensures ∙ ap (λ (b : Catalog). b.tables) c.catalog.ensures.value)) (rw c.in_ok-book.ensures.held opened)))
+    let opened = opened_as book_said (g.F.Files.held c.args.files.now) (Rose (g.F.Files.faults c.args.files.now) (g.F.Files.faults c.open_book.new.files)) (Unit {0}) c.args.book.now c.in_ok-book.field-0 c.in_ok-book.ensures.read in
+    then_all (with_rest (book_said c.in_ok-book.field-0)) (λ (rest : Rest). rest.script.items) inputs_with script_bytes (g.F.Files.held c.args.files.now)
+    (Rose (g.F.Files.faults c.open_book.new.files) (g.F.Files.faults c.read_rest.new.files)) (Rose (g.F.Files.faults c.args.files.now) (g.F.Files.faults c.read_rest.new.files)) c.args.book.now (option_copied c.args.script) _ _ (λ readings. refl) refl
+    (rw c.in_ok-book.ensures.held at (c.in_ok-rest.ensures.read c.args.book.now (book_said c.in_ok-book.field-0) (sym (c.as_slice-infos.ensures ∙ ap (λ (b : Catalog). b.tables) c.catalog.ensures.value)) (rw c.in_ok-book.ensures.held opened)))

@@ -1,7 +1,10 @@
-use Rattle.std.proofs.Common.{◌∙◌, ap, refl, arith}
+use Rattle.std.proofs.Common.{◌∙◌, ap, refl, arith, subst, sym}
 use Rattle.std.proofs.lemmas.Result.{err_from_is_err_and}
 use Rattle.smk_base.specs.CatalogImage.{catalog_image}
+use Rattle.smk_base.specs.declared.catalog.Catalog.{Catalog}
+use Rattle.smk_model.specs.Profiles.{AreDependencies}
 use Rattle.smk_outside.specs.Outside.{Rose}
+use Rattle.smk_top.specs.Loaded.{said_of}
 use Rattle.smk_top.specs.declared.counts.Counts.{Counts}
 use Rattle.smk_top.proofs.Stops.{rose_within}
 use Rattle.smk_top.proofs.Appending.{wants_stop}
@@ -21,7 +24,7 @@ pub loop-span-preserved : goal.loop-span-preserved
 loop-span-preserved g c =
     let inv = c.loop-span.invariant in
     let line = c.in_ok-line.ensures in
-    let on = walk_on _ _ _ _ _ _ _ _ _ _ _ _ _ _ _ _ _ inv.walked.0 (ap catalog_image inv.book) c.in-Some.ensures.some.cut c.in_ok-reading.ensures.says line.written line.after line.looks in
+    let on = walk_on _ _ _ _ _ _ _ _ _ _ _ _ _ _ _ _ _ inv.walked.0 (ap (λ (book : Catalog). said_of book c.args.fds.now) inv.book) c.in-Some.ensures.some.cut c.in_ok-reading.ensures.says line.written line.after line.looks in
     record {
       walked = (on.0, on.1 _ _ _ inv.walked.1 line.counts c.in_ok-counts.ensures.is);
       book = line.book ∙ inv.book;
@@ -44,28 +47,28 @@ returns-in_err-line-clause-written g c said all =
     let inv = c.loop-span.invariant in
     let wide : Rose (g.O.Sink.faults c.loop-span.out) (g.O.Sink.faults c.write_line.new.out) → Rose (g.O.Sink.faults c.args.out.now) (g.O.Sink.faults c.write_line.new.out) =
     λ up. rose_within _ _ _ _ inv.later c.in_err-line.ensures.later (omega arith) up in
-    rw (p.1, p.2) (walk_stops Counts Counts _ _ _ _ _ _ _ _ _ _ _ _ _ _ _ _ _ _ _ inv.walked.0 (ap catalog_image inv.book) c.in-Some.ensures.some.cut c.in_ok-reading.ensures.says wide c.in_err-line.ensures.written c.in_err-line.ensures.looks said all).0
+    rw (p.1, p.2) (walk_stops Counts Counts _ _ _ _ _ _ _ _ _ _ _ _ _ _ _ _ _ _ _ inv.walked.0 (ap (λ (book : Catalog). said_of book c.args.fds.now) inv.book) c.in-Some.ensures.some.cut c.in_ok-reading.ensures.says wide c.in_err-line.ensures.written c.in_err-line.ensures.looks said all).0
 
 pub returns-in_err-line-clause-looks : goal.returns-in_err-line-clause-looks
 returns-in_err-line-clause-looks g c said all =
     let inv = c.loop-span.invariant in
     let wide : Rose (g.O.Sink.faults c.loop-span.out) (g.O.Sink.faults c.write_line.new.out) → Rose (g.O.Sink.faults c.args.out.now) (g.O.Sink.faults c.write_line.new.out) =
     λ up. rose_within _ _ _ _ inv.later c.in_err-line.ensures.later (omega arith) up in
-    (walk_stops Counts Counts _ _ _ _ _ _ _ _ _ _ _ _ _ _ _ _ _ _ _ inv.walked.0 (ap catalog_image inv.book) c.in-Some.ensures.some.cut c.in_ok-reading.ensures.says wide c.in_err-line.ensures.written c.in_err-line.ensures.looks said all).1
+    (walk_stops Counts Counts _ _ _ _ _ _ _ _ _ _ _ _ _ _ _ _ _ _ _ inv.walked.0 (ap (λ (book : Catalog). said_of book c.args.fds.now) inv.book) c.in-Some.ensures.some.cut c.in_ok-reading.ensures.says wide c.in_err-line.ensures.written c.in_err-line.ensures.looks said all).1
 
 pub returns-in_err-counts-clause-written : goal.returns-in_err-counts-clause-written
 returns-in_err-counts-clause-written g c said all =
     let p = err_from_is_err_and c.from_residual-in_err-counts.result c.from_residual-in_err-counts.ensures.1 in
     let inv = c.loop-span.invariant in
     let line = c.in_ok-line.ensures in
-    let on = walk_on _ _ _ _ _ _ _ _ _ _ _ _ _ _ _ _ _ inv.walked.0 (ap catalog_image inv.book) c.in-Some.ensures.some.cut c.in_ok-reading.ensures.says line.written line.after line.looks in
+    let on = walk_on _ _ _ _ _ _ _ _ _ _ _ _ _ _ _ _ _ inv.walked.0 (ap (λ (book : Catalog). said_of book c.args.fds.now) inv.book) c.in-Some.ensures.some.cut c.in_ok-reading.ensures.says line.written line.after line.looks in
     rw (p.1, p.2) (wants_stop Counts _ _ _ _ _ c.in_err-counts.ensures.wants (walk_wants _ _ _ _ _ _ _ _ _ _ on.0 said all).0)
 
 pub returns-in_err-counts-clause-looks : goal.returns-in_err-counts-clause-looks
 returns-in_err-counts-clause-looks g c said all =
     let inv = c.loop-span.invariant in
     let line = c.in_ok-line.ensures in
-    let on = walk_on _ _ _ _ _ _ _ _ _ _ _ _ _ _ _ _ _ inv.walked.0 (ap catalog_image inv.book) c.in-Some.ensures.some.cut c.in_ok-reading.ensures.says line.written line.after line.looks in
+    let on = walk_on _ _ _ _ _ _ _ _ _ _ _ _ _ _ _ _ _ inv.walked.0 (ap (λ (book : Catalog). said_of book c.args.fds.now) inv.book) c.in-Some.ensures.some.cut c.in_ok-reading.ensures.says line.written line.after line.looks in
     (walk_wants _ _ _ _ _ _ _ _ _ _ on.0 said all).1
 
 pub returns-clause-written : goal.returns-clause-written
@@ -76,3 +79,6 @@ returns-clause-counts g c said all = (walk_ends _ _ _ _ _ _ _ _ _ _ _ c.loop-spa
 
 pub returns-clause-looks : goal.returns-clause-looks
 returns-clause-looks g c said all = (walk_ends _ _ _ _ _ _ _ _ _ _ _ c.loop-span.invariant.walked c.in_default.ensures.none said all).2
+
+pub write_line-requires-clause-shown : goal.write_line-requires-clause-shown
+write_line-requires-clause-shown g c κs lives = subst (λ (b : Catalog). AreDependencies (catalog_image b) c.args.fds.now) (sym c.loop-span.invariant.book) c.requires.shown

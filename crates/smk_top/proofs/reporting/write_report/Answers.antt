@@ -14,7 +14,7 @@ pub returns-in_err-views-clause-written : goal.returns-in_err-views-clause-writt
 returns-in_err-views-clause-written g c said all =
     let p = err_from_is_err_and c.from_residual.result c.from_residual.ensures.1 in
     let book = workbook_of c.args.session.now in
-    rw (p.1, p.2) (first_stops Counts Counts _ _ _ (views_text book) (script_told book said).text _ _ refl c.in_err-views.ensures.written)
+    rw (p.1, p.2) (first_stops Counts Counts _ _ _ (views_text book) (script_told book c.args.fds.now said).text _ _ refl c.in_err-views.ensures.written)
 
 pub returns-in_err-lines-clause-written : goal.returns-in_err-lines-clause-written
 returns-in_err-lines-clause-written g c said all =
@@ -22,28 +22,28 @@ returns-in_err-lines-clause-written g c said all =
     let here : AreReadings (lines c.without_mark.result.now) said = subst (λ (l : List ℕ). AreReadings (lines l) said) (sym c.without_mark.ensures.rest) all in
     let wide : Rose (g.O.Sink.faults c.write_views.new.out) (g.O.Sink.faults c.write_lines.new.out) → Rose (g.O.Sink.faults c.args.out.now) (g.O.Sink.faults c.write_lines.new.out) =
     λ up. rose_within _ _ _ _ c.in_ok-views.ensures.later c.in_err-lines.ensures.later (omega arith) up in
-    rw (p.1, p.2) (then_lines Counts c.args.session.now said (g.O.Sink.written c.args.out.now) (g.O.Sink.written c.write_views.new.out) (g.O.Sink.written c.write_lines.new.out) (Rose (g.O.Sink.faults c.write_views.new.out) (g.O.Sink.faults c.write_lines.new.out)) (Rose (g.O.Sink.faults c.args.out.now) (g.O.Sink.faults c.write_lines.new.out)) (Err c.in_err-lines.field-0.0) c.requires wide c.in_ok-views.ensures.written (c.in_err-lines.ensures.written said here))
+    rw (p.1, p.2) (then_lines Counts c.args.session.now c.args.fds.now said (g.O.Sink.written c.args.out.now) (g.O.Sink.written c.write_views.new.out) (g.O.Sink.written c.write_lines.new.out) (Rose (g.O.Sink.faults c.write_views.new.out) (g.O.Sink.faults c.write_lines.new.out)) (Rose (g.O.Sink.faults c.args.out.now) (g.O.Sink.faults c.write_lines.new.out)) (Err c.in_err-lines.field-0.0) c.requires.begun wide c.in_ok-views.ensures.written (c.in_err-lines.ensures.written said here))
 
 pub returns-clause-written : goal.returns-clause-written
 returns-clause-written g c said all =
     let book = workbook_of c.args.session.now in
     let here : AreReadings (lines c.without_mark.result.now) said = subst (λ (l : List ℕ). AreReadings (lines l) said) (sym c.without_mark.ensures.rest) all in
-    let told = rw c.requires at (c.in_ok-lines.ensures.written said here) in
-    whole_part Counts _ _ _ _ (views_text book) (script_told book said).text c.together.result c.together.ensures.wants c.in_ok-views.ensures.written told
+    let told = rw c.requires.begun at (c.in_ok-lines.ensures.written said here) in
+    whole_part Counts _ _ _ _ (views_text book) (script_told book c.args.fds.now said).text c.together.result c.together.ensures.wants c.in_ok-views.ensures.written told
 
 pub returns-clause-counts : goal.returns-clause-counts
 returns-clause-counts g c said all =
     let book = workbook_of c.args.session.now in
     let here : AreReadings (lines c.without_mark.result.now) said = subst (λ (l : List ℕ). AreReadings (lines l) said) (sym c.without_mark.ensures.rest) all in
-    let told = rw c.requires at (c.in_ok-lines.ensures.counts said here) in
-    report_counts book (script_told book said) _ _ c.together.result c.in_ok-views.ensures.counts told c.together.ensures.is
+    let told = rw c.requires.begun at (c.in_ok-lines.ensures.counts said here) in
+    report_counts book (script_told book c.args.fds.now said) _ _ c.together.result c.in_ok-views.ensures.counts told c.together.ensures.is
 
 pub returns-clause-looks : goal.returns-clause-looks
 returns-clause-looks g c said all =
     let here : AreReadings (lines c.without_mark.result.now) said = subst (λ (l : List ℕ). AreReadings (lines l) said) (sym c.without_mark.ensures.rest) all in
-    rw c.requires at (c.in_ok-lines.ensures.looks said here)
+    rw c.requires.begun at (c.in_ok-lines.ensures.looks said here)
 
 pub returns-in_err-lines-clause-looks : goal.returns-in_err-lines-clause-looks
 returns-in_err-lines-clause-looks g c said all =
     let here : AreReadings (lines c.without_mark.result.now) said = subst (λ (l : List ℕ). AreReadings (lines l) said) (sym c.without_mark.ensures.rest) all in
-    rw c.requires at (c.in_err-lines.ensures.looks said here)
+    rw c.requires.begun at (c.in_err-lines.ensures.looks said here)

@@ -1,6 +1,8 @@
-use Rattle.std.proofs.Common.{◌∙◌, ap, map, arith}
+use Rattle.std.proofs.Common.{◌∙◌, ap, map, sym, subst, arith}
 use Rattle.std.proofs.lemmas.Grind.{common_steps}
+use Rattle.smk_base.specs.CatalogImage.{catalog_image}
 use Rattle.smk_base.specs.declared.catalog.Catalog.{Catalog}
+use Rattle.smk_model.specs.Profiles.{AreDependencies}
 use Rattle.smk_base.specs.declared.catalog.TableInfo.{TableInfo}
 use Rattle.smk_base.specs.declared.catalog.ViewInfo.{ViewInfo}
 use Rattle.smk_top.proofs.starting.start.Goals as goal
@@ -13,3 +15,6 @@ returns-in-Err-clause-starts g c =
 
 pub returns-in-Ok-clause-book : goal.returns-in-Ok-clause-book
 returns-in-Ok-clause-book g c = grind (arith, common_steps)
+
+pub returns-in-Ok-clause-shown : goal.returns-in-Ok-clause-shown
+returns-in-Ok-clause-shown g c = subst (λ (b : Catalog). AreDependencies (catalog_image b) c.args.inputs.fds) (sym c.in-Ok.ensures.book) c.requires.shown

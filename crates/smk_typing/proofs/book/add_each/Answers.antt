@@ -3,16 +3,21 @@ use Rattle.std.proofs.lemmas.List.{length-map}
 use Rattle.std.proofs.lemmas.Result.{err_from_is_err_and}
 use Rattle.smk_base.specs.CatalogImage.{view_image}
 use Rattle.smk_base.specs.TreeImage.{stmt_image}
-use Rattle.smk_typing.proofs.Books.{at_first, at_next, next_kept, next_fails, rest_at, next_tables, next_views, at_last}
+use Rattle.smk_typing.proofs.Books.{at_first, at_next, next_kept, next_replaced, next_fails, rest_at, next_tables, next_views, at_last}
 use Rattle.smk_typing.proofs.book.add_each.Goals as goal
 
 pub loop-stmt-init : goal.loop-stmt-init
-loop-stmt-init c = at_first (map stmt_image c.args.stmts.now) _ c.requires.none c.requires.limits
+loop-stmt-init c = at_first (map stmt_image c.args.stmts.now) _ c.requires.none c.requires.limits c.requires.replaced
 
 pub stmt_after-requires-clause-kept : goal.stmt_after-requires-clause-kept
 stmt_after-requires-clause-kept c =
     let before = rest_at (map stmt_image c.args.stmts.now) _ c.args.stmts.now c.loop-stmt.stmt-index c.stmt-item.result c.loop-stmt-test.true c.stmt-item.is c.loop-stmt.invariant in
     next_kept _ _ _ _ before
+
+pub stmt_after-requires-clause-replaced : goal.stmt_after-requires-clause-replaced
+stmt_after-requires-clause-replaced c =
+    let before = rest_at (map stmt_image c.args.stmts.now) _ c.args.stmts.now c.loop-stmt.stmt-index c.stmt-item.result c.loop-stmt-test.true c.stmt-item.is c.loop-stmt.invariant in
+    next_replaced _ _ _ _ before
 
 pub returns-in_err-stmt_after-clause-after : goal.returns-in_err-stmt_after-clause-after
 returns-in_err-stmt_after-clause-after c =

@@ -1,0 +1,66 @@
+-- The book that is typed and answered: the statements that stand in the place of each dependency.
+use Rattle.std.specs.Prelude.{ℕ, List, [], ◌∷◌, All, codes}
+use Rattle.std.specs.List.{flat_map}
+use Rattle.smk_base.specs.declared.plan.CmpOp.TheVariants.{Ne}
+use Rattle.smk_base.specs.declared.tree.Word.{Word}
+use Rattle.smk_base.specs.declared.tree.AggTree.{AggTree}
+use Rattle.smk_base.specs.declared.tree.AggWhat.TheVariants.{Min, Max}
+use Rattle.smk_base.specs.declared.tree.Extra.TheVariants as extras
+use Rattle.smk_base.specs.declared.tree.Term.TheVariants as terms
+use Rattle.smk_base.specs.Trees.{TreeImage, ScanNode, StepNode, StepImage, SelectNode, GroupNode, CompareNode, StmtImage, TableNode, ViewNode, BackNode, FwdNode, LinkNode, DependsNode}
+
+-- the least and the most value of the column for a key, named at the place of the statement
+abbrev pub least_word : ℕ → Word
+least_word at = record { name = codes "least"; at = at }
+
+abbrev pub most_word : ℕ → Word
+most_word at = record { name = codes "most"; at = at }
+
+abbrev pub bounds : ℕ → Word → List AggTree
+bounds at col = record { name = least_word at; what = Min col } ∷ record { name = most_word at; what = Max col } ∷ []
+
+-- where the least value isn't the most value
+abbrev pub bounds_differ : ℕ → StepImage
+bounds_differ at = SelectNode (CompareNode (least_word at) Ne (terms.Col (most_word at)))
+
+-- the keys of a table with more than one value of the column: scan T | group keys {least = min c, most = max c} | where least != most
+abbrev pub violations_tree : ℕ → Word → List Word → Word → TreeImage
+violations_tree at table keys col =
+    StepNode at (StepNode at (ScanNode table) (GroupNode keys (bounds at col))) (bounds_differ at)
+
+-- what stands in the place of a statement: for a dependency its view and a plain backward declaration of this to the table, else the statement itself
+abbrev pub in_its_place : StmtImage → List StmtImage
+in_its_place (TableNode name file decls) = TableNode name file decls ∷ []
+in_its_place (ViewNode name tree) = ViewNode name tree ∷ []
+in_its_place (BackNode at view table extra) = BackNode at view table extra ∷ []
+in_its_place (FwdNode at table view) = FwdNode at table view ∷ []
+in_its_place (LinkNode view table to) = LinkNode view table to ∷ []
+in_its_place (DependsNode at name table keys col) = ViewNode name (violations_tree at table keys col) ∷ BackNode at name table extras.Plain ∷ []
+
+-- the book with each dependency replaced
+abbrev pub expanded : List StmtImage → List StmtImage
+expanded book = flat_map in_its_place book
+
+-- the names of a book's dependencies, in order
+abbrev pub dependency_name : StmtImage → List (List ℕ)
+dependency_name (TableNode name file decls) = []
+dependency_name (ViewNode name tree) = []
+dependency_name (BackNode at view table extra) = []
+dependency_name (FwdNode at table view) = []
+dependency_name (LinkNode view table to) = []
+dependency_name (DependsNode at name table keys col) = name.name ∷ []
+
+abbrev pub dependency_names : List StmtImage → List (List ℕ)
+dependency_names book = flat_map dependency_name book
+
+-- a statement that is none of a dependency, and a book without one
+abbrev pub IsNoDependency : StmtImage → Type 0
+IsNoDependency (TableNode name file decls) = Unit {0}
+IsNoDependency (ViewNode name tree) = Unit {0}
+IsNoDependency (BackNode at view table extra) = Unit {0}
+IsNoDependency (FwdNode at table view) = Unit {0}
+IsNoDependency (LinkNode view table to) = Unit {0}
+IsNoDependency (DependsNode at name table keys col) = ⊥
+
+abbrev pub HasNoDependency : List StmtImage → Type 0
+HasNoDependency book = All IsNoDependency book

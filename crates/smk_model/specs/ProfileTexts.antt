@@ -1,0 +1,53 @@
+-- The texts of answers to `fd` lines.
+use Rattle.std.specs.Prelude.{◌≡◌, ◌<◌, ℕ, List, [], ◌∷◌, ◌++◌, length, map, slice_index_or, All, codes, decimal}
+use Rattle.std.specs.List.{flat_map}
+use Rattle.smk_base.specs.CatalogImage.{CatalogImage}
+use Rattle.smk_base.specs.declared.reply.Group.{Group}
+use Rattle.smk_base.specs.declared.reply.ProfileReply.{ProfileReply}
+use Rattle.smk_base.specs.declared.reply.ProfileReply.TheVariants.{Found, Refused}
+use Rattle.smk_base.specs.declared.reply.ProfileRefusal.{ProfileRefusal}
+use Rattle.smk_base.specs.declared.reply.ProfileRefusal.TheVariants.{UnknownView, NotProfile}
+use Rattle.smk_model.specs.Lineage.{upto}
+use Rattle.smk_model.specs.Texts.{line, record_line, row_lines}
+use Rattle.smk_model.specs.Typing.{info_at}
+
+-- rows with one key: a line with their mark and how many they are, then each row with its rid
+abbrev pub mark_text : ℕ → Group → List ℕ
+mark_text mark group =
+    line (codes "mark " ∷ decimal mark ∷ codes " " ∷ decimal (length group.rows.rows) ∷ []) ++ row_lines (λ i. slice_index_or group.rids i 0) group.rows.rows
+
+-- those of the first n marks, each by its place
+abbrev pub no_group : Group
+no_group = record { rids = []; rows = record { kinds = []; rows = [] } }
+
+abbrev pub mark_texts_to : List Group → ℕ → List ℕ
+mark_texts_to groups n = flat_map (λ mark. mark_text mark (slice_index_or groups mark no_group)) (upto n)
+
+-- what violates a dependency: how many keys, the names of the columns of the table, then key by key
+abbrev pub found_text : List ℕ → List (List ℕ) → List Group → List ℕ
+found_text view columns groups =
+    line (codes "fd " ∷ view ∷ codes " " ∷ decimal (length groups) ∷ []) ++ record_line (codes "rid" ∷ columns) ++ mark_texts_to groups (length groups)
+
+-- why an `fd` line is refused
+abbrev pub profile_refusal_text : List ℕ → ProfileRefusal → List ℕ
+profile_refusal_text view UnknownView = line (codes "refused unknown view " ∷ view ∷ [])
+profile_refusal_text view NotProfile = line (codes "refused no dependency " ∷ view ∷ [])
+
+-- the text of an answer to an `fd` line
+abbrev pub profile_text : CatalogImage → List ℕ → ProfileReply → List ℕ
+profile_text catalog view (Found table groups) = found_text view (map (λ column. column.name) (info_at catalog.tables table).cols) groups
+profile_text catalog view (Refused refusal) = profile_refusal_text view refusal
+
+-- rows that are as many as their rids
+abbrev pub IsPlaced : Group → Type 0
+IsPlaced group = length group.rids ≡ length group.rows.rows
+
+-- rows of a table that the catalog has, key by key
+pub record AreFound (catalog : CatalogImage) (table : ℕ) (groups : List Group) : Type 0 where
+  pub known : table < length catalog.tables
+  pub placed : All IsPlaced groups
+
+-- whether an answer is one over the catalog
+abbrev pub IsProfileReply : CatalogImage → ProfileReply → Type 0
+IsProfileReply catalog (Found table groups) = AreFound catalog table groups
+IsProfileReply catalog (Refused refusal) = Unit {0}

@@ -1,0 +1,11 @@
+use Rattle.std.proofs.Common.{◌≡◌, ◌∙◌, Some, subst, sym}
+use Rattle.smk_base.specs.CatalogImage.{catalog_image, view_place}
+use Rattle.smk_base.specs.declared.catalog.Catalog.{Catalog}
+use Rattle.smk_model.proofs.ProfilesFit.{shown}
+use Rattle.smk_profile.proofs.profiling.profile.Goals as goal
+
+pub found-requires-clause-shows : goal.found-requires-clause-shows
+found-requires-clause-shows g c κs within =
+    let there = sym c.view_place.ensures.place ∙ c.in-Some.is in
+    let placed = subst (λ (catalog : Catalog). view_place (catalog_image catalog) c.args.line.now ≡ Some c.in-Some.v) c.catalog.ensures.book there in
+    shown _ _ c.args.line.now c.in-Some.v c.requires.shown (sym c.is_among.ensures ∙ c.if-is_among.true) placed

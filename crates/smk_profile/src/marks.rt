@@ -1,0 +1,112 @@
+// The rows that the marks of the view of a dependency came from.
+ghost use Rattle.std.specs.Prelude.{◌≡◌, ◌≤◌, ◌<◌, ◌+◌, length, Some, IfOk};
+ghost use Rattle.smk_base.specs.CatalogImage.{catalog_image, view_place};
+ghost use Rattle.smk_model.specs.Looks.{line_looks};
+ghost use Rattle.smk_model.specs.Profiles as profiles;
+ghost use Rattle.smk_model.specs.Profiles.{ShowsDependency, groups_of, looks_of_groups, shown_by};
+ghost use Rattle.smk_model.specs.Replies.{reply};
+ghost use Rattle.smk_model.specs.Typing.{info_at};
+ghost use Rattle.smk_profile.specs.Marked.{IsAnsweredByRows};
+ghost use Rattle.smk_base.specs.declared.reply.Reply.TheVariants.{Back};
+ghost use Rattle.smk_session.specs.Sessions.{state_of};
+
+use smk_base::{Group, Groups, Line, Marks, Reply, Rids, Text, Then};
+use smk_outside::{Gate, Steps};
+use smk_session::Session;
+use std::alloc::{AllocError, Global};
+use std::sync::ledger::Ledger;
+use std::thread::Threads;
+
+// The `back` line for a mark of a view.
+fn mark_line(alloc: Global, view: &Text, table: &Text, mark: u32) -> Result<Line, AllocError>
+    ensures { IfOk result (λ line. line ≡ profiles.mark_line view.now table.now mark) }
+{
+    let mut marks = Rids::new(alloc);
+    marks.push(mark)?;
+    let view = view.copy(alloc)?;
+    let table = table.copy(alloc)?;
+    Ok(Line::Back {
+        view,
+        marks: Marks::Listed(marks),
+        table,
+        then: Then::Plain,
+    })
+}
+
+// The reply to the `back` line for a mark of a view. The session stays as it is where the state does.
+fn mark_reply<R: Threads + Sync, G: Gate + Sync, L: Ledger>(
+    rt: &R,
+    alloc: Global,
+    session: &mut Session,
+    view: &Text,
+    table: &Text,
+    mark: u32,
+    gate: &G,
+    steps: &mut Steps<L>,
+) -> Result<Reply, AllocError>
+    requires stays { (reply (catalog_image session.old.catalog) (state_of session.old) (profiles.mark_line view.now table.now mark)).1 ≡ state_of session.old }
+    ensures reply { IfOk result (λ told. told ≡ (reply (catalog_image session.old.catalog) (state_of session.old) (profiles.mark_line view.now table.now mark)).0) }
+    ensures same { session.new ≡ session.old }
+    ensures looks { steps.new ≤ steps.old + line_looks (catalog_image session.old.catalog) (state_of session.old) (profiles.mark_line view.now table.now mark) }
+{
+    let line = mark_line(alloc, view, table, mark)?;
+    let reply = session.answer(rt, alloc, &line, gate, steps);
+    drop(line);
+    reply
+}
+
+// The rows that a mark of a view came from, where the `back` line for it is answered by rows.
+fn mark_group<R: Threads + Sync, G: Gate + Sync, L: Ledger>(
+    rt: &R,
+    alloc: Global,
+    session: &mut Session,
+    view: &Text,
+    table: &Text,
+    mark: u32,
+    gate: &G,
+    steps: &mut Steps<L>,
+) -> Result<Group, AllocError>
+    requires answered { IsAnsweredByRows (catalog_image session.old.catalog) (state_of session.old) (profiles.mark_line view.now table.now mark) }
+    ensures group { IfOk result (λ group. (reply (catalog_image session.old.catalog) (state_of session.old) (profiles.mark_line view.now table.now mark)).0 ≡ Back group.rids group.rows) }
+    ensures same { session.new ≡ session.old }
+    ensures looks { steps.new ≤ steps.old + line_looks (catalog_image session.old.catalog) (state_of session.old) (profiles.mark_line view.now table.now mark) }
+{
+    match mark_reply(rt, alloc, session, view, table, mark, gate, steps)? {
+        Reply::Back { rids, rows } => Ok(Group { rids, rows }),
+        Reply::View { .. }
+        | Reply::Grouped { .. }
+        | Reply::Fwd { .. }
+        | Reply::Brush { .. }
+        | Reply::Cleared
+        | Reply::ClearedOne { .. }
+        | Reply::Refused(_) => unreachable!(),
+    }
+}
+
+/// The rows that each mark of the view of a dependency came from, in the order of the marks, by the `back` lines for them. The session stays as it is.
+pub(crate) fn mark_groups<R: Threads + Sync, G: Gate + Sync, L: Ledger>(
+    rt: &R,
+    alloc: Global,
+    session: &mut Session,
+    view: &Text,
+    v: u32,
+    table: &Text,
+    gate: &G,
+    steps: &mut Steps<L>,
+) -> Result<Groups, AllocError>
+    requires within { v < length session.old.catalog.views }
+    requires placed { view_place (catalog_image session.old.catalog) view.now ≡ Some v }
+    requires shows { ShowsDependency (catalog_image session.old.catalog) v }
+    requires named { table.now ≡ (info_at session.old.catalog.tables (shown_by (catalog_image session.old.catalog) v).table).name }
+    ensures groups { IfOk result (λ groups. groups ≡ groups_of (catalog_image session.old.catalog) (state_of session.old) (shown_by (catalog_image session.old.catalog) v)) }
+    ensures same { session.new ≡ session.old }
+    ensures looks { steps.new ≤ steps.old + looks_of_groups (groups_of (catalog_image session.old.catalog) (state_of session.old) (shown_by (catalog_image session.old.catalog) v)) }
+{
+    let count = session.first(v).len();
+    let mut groups = Groups::new(alloc);
+    for mark in 0..count {
+        let group = mark_group(rt, alloc, session, view, table, mark, gate, steps)?;
+        groups.push(group)?;
+    }
+    Ok(groups)
+}
