@@ -1,5 +1,5 @@
 -- Rows that grow value by value.
-use Rattle.std.proofs.Common.{◌≡◌, ◌≢◌, ℕ, ◌+◌, ◌<◌, ◌≤◌, List, [], ◌∷◌, ◌++◌, length, set, get_or, refl, ap, sym, ◌∙◌, arith, All, inl, inr, pos, None}
+use Rattle.std.proofs.Common.{◌≡◌, ◌≢◌, ℕ, ◌+◌, ◌<◌, ◌≤◌, List, [], ◌∷◌, ◌++◌, length, set, get_or, refl, ap, sym, ◌∙◌, arith, All, inl, inr, pos, None, true}
 use Rattle.std.proofs.lemmas.Bool.{cases_eq, cases_lt}
 use Rattle.std.proofs.lemmas.List.{length-map, length-set, length_push, get_or-set_same, get_or-set_other, get_or_push, get_or_append_left, get_or_read}
 use Rattle.std.proofs.lemmas.List.Elements.{All-from_get_or}
@@ -33,7 +33,7 @@ AreBegun-new n kind made few so = record {
   few_rows = omega arith;
   within = omega arith;
   longer = λ k p. absurd (omega arith);
-  rest = λ k p q. so.each k (record { kind = kinds.Text; cells = []; room = 0; next = None }) q;
+  rest = λ k p q. so.each k (record { kind = kinds.Text; cells = []; room = 0; next = None; own = true }) q;
 }
 
 pub rows_begun-new : (ks : List Kind) (made : List ColumnImage) → AreMade 0 (length ks) (kind_in ks) (λ k. []) made → rows_begun 0 0 made ≡ record { kinds = ks; rows = []; begun = [] }

@@ -1,5 +1,5 @@
 -- The codes of texts in a list of different texts.
-use Rattle.std.proofs.Common.{◌≡◌, ℕ, suc, ◌+◌, ◌<◌, Bool, true, false, List, [], ◌∷◌, length, take, get_or, refl, sym, ◌∙◌, arith, true≢false, Decides, inl, inr, Some}
+use Rattle.std.proofs.Common.{◌≡◌, ℕ, suc, ◌+◌, ◌<◌, ◌≤◌, ◌++◌, ap, Bool, true, false, List, [], ◌∷◌, length, take, get_or, refl, sym, ◌∙◌, arith, true≢false, Decides, inl, inr, Some}
 use Rattle.std.proofs.lemmas.List.Quantifiers.{position-Some}
 use Rattle.std.specs.Cmp.{unsigned_Decides}
 use Rattle.std.specs.List.{list_any, position_or_len}
@@ -81,13 +81,23 @@ kept texts t k h = elim (cases_Bool (list_any (text_eq t) texts)) [
   | inr new ↦ rw new (get_or_append_left texts (t ∷ []) [] k h)
 ]
 
+-- a text behind the first of different texts is none of these
+pub with_text-behind : (texts : List (List ℕ)) (k j : ℕ) → AreTexts texts → k ≤ j → j < length texts → with_text (take k texts) (get_or texts j []) ≡ take k texts ++ get_or texts j [] ∷ []
+with_text-behind texts k j different p h =
+    let t = get_or texts j [] in
+    let new : list_any (text_eq t) (take k texts) ≡ false = list_any_none (text_eq t) (take k texts) (λ i d q.
+    let long : length (take k texts) ≡ k = length-take-le k texts (omega arith) in
+    let below : i < k = omega (arith, q, long) in
+    let same : get_or (take k texts) i d ≡ get_or texts i [] = get_or-take k texts i d below ∙ get_or_default texts i d [] (omega arith) in
+    rw same (text_apart (get_or texts i []) t (apart_from_distinct text_eq texts i j [] different (omega arith) h))) in
+    rw new refl
+
 -- different texts are added one after the other
 pub with_text-take : (texts : List (List ℕ)) (k : ℕ) → AreTexts texts → k < length texts → with_text (take k texts) (get_or texts k []) ≡ take (k + 1) texts
-with_text-take texts k different h =
-    let t = get_or texts k [] in
-    let new : list_any (text_eq t) (take k texts) ≡ false = list_any_none (text_eq t) (take k texts) (λ j d p.
-    let long : length (take k texts) ≡ k = length-take-le k texts (omega arith) in
-    let below : j < k = omega (arith, p, long) in
-    let same : get_or (take k texts) j d ≡ get_or texts j [] = get_or-take k texts j d below ∙ get_or_default texts j d [] (omega arith) in
-    rw same (text_apart (get_or texts j []) t (apart_from_distinct text_eq texts j k [] different below h))) in
-    rw new (sym (take_more texts k [] h))
+with_text-take texts k different h = with_text-behind texts k k different (omega arith) h ∙ sym (take_more texts k [] h)
+
+-- a text among the first is there
+pub with_text-among : (texts : List (List ℕ)) (k j : ℕ) → j < k → k ≤ length texts → with_text (take k texts) (get_or texts j []) ≡ take k texts
+with_text-among texts k j h p =
+    let long : length (take k texts) ≡ k = length-take-le k texts p in
+    ap (with_text (take k texts)) (sym (get_or-take k texts j [] h)) ∙ with_text-there (take k texts) j (omega (arith, long))

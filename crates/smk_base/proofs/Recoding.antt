@@ -1,16 +1,17 @@
 -- Dictionaries of first occurrences.
-use Rattle.std.proofs.Common.{◌≡◌, ℕ, suc, ◌+◌, ◌<◌, ◌≤◌, List, [], ◌∷◌, ◌++◌, length, map, get_or, refl, Some, ap, sym, subst, ◌∙◌, arith, inl, inr, All, set, replicate}
+use Rattle.std.proofs.Common.{◌≡◌, ℕ, suc, ◌+◌, ◌<◌, ◌≤◌, List, [], ◌∷◌, ◌++◌, length, map, get_or, refl, Some, ap, sym, subst, ◌∙◌, arith, inl, inr, All, set, replicate, take, drop, max}
 use Rattle.std.specs.Cmp.{decided}
 use Rattle.std.proofs.lemmas.Map.Keys.{IsDistinct-push, IsDistinct-from_apart}
 use Rattle.std.specs.Prelude.{fold}
 use Rattle.std.specs.List.{list_any, slice_get}
-use Rattle.std.proofs.lemmas.Bool.{cases_Bool, cases_eq}
-use Rattle.std.proofs.lemmas.List.{get_or-map, map_push, length_push, length-map, get_or-set_same, get_or-set_other, length-set, get_or-replicate, length-replicate, ext_get_or}
-use Rattle.std.proofs.lemmas.List.Elements.{All-push}
+use Rattle.std.proofs.lemmas.Bool.{cases_Bool, cases_eq, cases_lt}
+use Rattle.std.proofs.lemmas.List.{get_or-map, map_push, length_push, length-map, get_or-set_same, get_or-set_other, length-set, get_or-replicate, length-replicate, ext_get_or, take_more, take-map, take-append-drop, length-take, length-take-le, get_or-take, get_or_push}
+use Rattle.std.proofs.lemmas.List.Sums.{fold-append}
+use Rattle.std.proofs.lemmas.List.Elements.{All-push, All-from_get_or}
 use Rattle.std.proofs.lemmas.List.Quantifiers.{position-Some}
 use Rattle.std.proofs.lemmas.Option.{slice_get-get_or}
 use Rattle.smk_base.specs.Dicts.{text_eq, code_in, code_or_last, with_text, AreTexts}
-use Rattle.smk_base.proofs.Codes.{added, kept, with_text-there, code-at, text_same}
+use Rattle.smk_base.proofs.Codes.{added, kept, with_text-there, with_text-behind, with_text-among, code-at, text_same}
 use Rattle.smk_base.specs.TextColumns.{text_in, text_firsts, texts_at, AreCodes, AreRecoded}
 
 fold_push : {A B : Type 0} (f : B → A → B) (b : B) (xs : List A) (x : A) → fold f b (xs ++ x ∷ []) ≡ f (fold f b xs) x
@@ -133,3 +134,70 @@ pub slice_get-code : (texts : List (List ℕ)) (t : List ℕ) (code : ℕ) → c
 slice_get-code texts t code e =
     let f = position-Some (text_eq t) texts code [] e in
     slice_get-get_or texts code [] f.0 ∙ ap Some (sym ((text_same _ _).0 f.1))
+
+-- the texts that were found stay first
+firsts_stay : (found texts : List (List ℕ)) (k : ℕ) → k < length found → get_or (fold with_text found texts) k [] ≡ get_or found k []
+firsts_stay found [] k h = refl
+firsts_stay found (t ∷ ts) k h = firsts_stay (with_text found t) ts k (omega (arith, length_with_text found t)) ∙ kept found t k h
+
+-- the first occurrences among the first texts are the first ones of all
+firsts_first : (texts : List (List ℕ)) (i k : ℕ) → k < length (text_firsts (take i texts)) → get_or (text_firsts texts) k [] ≡ get_or (text_firsts (take i texts)) k []
+firsts_first texts i k h =
+    ap (λ all. get_or (text_firsts all) k []) (sym (take-append-drop i texts))
+    ∙ ap (λ found. get_or found k []) (fold-append with_text [] (take i texts) (drop i texts))
+    ∙ firsts_stay (text_firsts (take i texts)) (drop i texts) k h
+
+-- a text that is new behind the first ones is the next first one
+new_is_next : (texts : List (List ℕ)) (i used code : ℕ) → used ≤ code → code < length (text_firsts texts)
+    → text_firsts (take (i + 1) texts) ≡ take used (text_firsts texts) ++ get_or (text_firsts texts) code [] ∷ [] → code ≡ used
+new_is_next texts i used code p h is =
+    let firsts = text_firsts texts in
+    let different = AreTexts-firsts texts in
+    let long : length (take used firsts) ≡ used = length-take-le used firsts (omega arith) in
+    let wide : length (text_firsts (take (i + 1) texts)) ≡ used + 1 = ap length is ∙ length_push (take used firsts) (get_or firsts code []) ∙ ap (λ (n : ℕ). n + 1) long in
+    let same : get_or firsts used [] ≡ get_or firsts code [] = firsts_first texts (i + 1) used (omega (arith, wide)) ∙ ap (λ found. get_or found used []) is ∙ get_or_push (take used firsts) (get_or firsts code []) [] used long in
+    sym (code-at firsts code different h) ∙ ap (code_or_last firsts) (sym same) ∙ code-at firsts used different (omega arith)
+
+-- how many first occurrences the first texts have, with one more text
+pub firsts_next : (texts : List (List ℕ)) (i used code : ℕ) → i < length texts → used ≤ length (text_firsts texts) → code < length (text_firsts texts) → text_in (text_firsts texts) code ≡ text_in texts i
+    → text_firsts (take i texts) ≡ take used (text_firsts texts) → text_firsts (take (i + 1) texts) ≡ take (max used (code + 1)) (text_firsts texts)
+firsts_next texts i used code h few low at is =
+    let firsts = text_firsts texts in
+    let next : text_firsts (take (i + 1) texts) ≡ with_text (take used firsts) (get_or firsts code []) =
+    ap text_firsts (take_more texts i [] h) ∙ text_firsts_push (take i texts) (text_in texts i) ∙ ap (λ found. with_text found (text_in texts i)) is ∙ ap (with_text (take used firsts)) (sym at) in
+    elim (cases_lt code used) [
+      | inl less ↦ (
+          let most : max used (code + 1) ≡ used = omega arith in
+          rw most (next ∙ with_text-among firsts used code less few))
+      | inr more ↦ (
+          let new = next ∙ with_text-behind firsts used code (AreTexts-firsts texts) more low in
+          let same : code ≡ used = new_is_next texts i used code more low new in
+          let most : max used (code + 1) ≡ code + 1 = omega arith in
+          rw most (new ∙ ap (λ n. take n firsts ++ get_or firsts code [] ∷ []) (sym same) ∙ sym (take_more firsts code [] low)))
+    ]
+
+-- codes below a number are the same texts in the first ones alone
+texts_at-take : (dict : List (List ℕ)) (used : ℕ) (codes : List ℕ) → ((k : ℕ) → k < length codes → get_or codes k 0 < used) → texts_at (take used dict) codes ≡ texts_at dict codes
+texts_at-take dict used [] h = refl
+texts_at-take dict used (code ∷ codes) h = rw (get_or-take used dict code [] (h 0 (omega arith)), texts_at-take dict used codes (λ k p. h (suc k) (omega arith))) refl
+
+-- the first codes, with the texts that these have
+pub record AreFirst (dict : List (List ℕ)) (codes : List ℕ) (len used : ℕ) : Type 0 where
+  pub are : AreCodes (take used dict) (take len codes)
+  pub texts : texts_at (take used dict) (take len codes) ≡ take len (texts_at dict codes)
+
+pub AreCodes-first : (dict : List (List ℕ)) (codes : List ℕ) (len used : ℕ) → AreCodes dict codes → len < length codes → text_firsts (take len (texts_at dict codes)) ≡ take used (text_firsts (texts_at dict codes))
+    → ((k : ℕ) → k < len → code_or_last (text_firsts (texts_at dict codes)) (text_in (texts_at dict codes) k) < used) → AreFirst dict codes len used
+AreCodes-first dict codes len used is h firsts below =
+    let long : length (take len codes) ≡ len = length-take-le len codes (omega arith) in
+    let at : (k : ℕ) → k < len → get_or (take len codes) k 0 ≡ get_or codes k 0 = (λ k p. get_or-take len codes k 0 p) in
+    let low : (k : ℕ) → k < len → get_or (take len codes) k 0 < used = (λ k p. omega (arith, at k p, code-is dict codes k 0 is (omega arith), below k p)) in
+    let texts : texts_at (take used dict) (take len codes) ≡ take len (texts_at dict codes) = texts_at-take dict used (take len codes) (λ k p. low k (omega (arith, long))) ∙ sym (take-map (text_in dict) len codes) in
+    record {
+      are = record {
+        few = omega (arith, long, is.few);
+        within = All-from_get_or (λ code. code < length (take used dict)) (take len codes) 0 (λ k p. omega (arith, length-take used dict, low k (omega (arith, long)), at k (omega (arith, long)), is.within k 0 (omega (arith, long))));
+        firsts = ap (take used) is.firsts ∙ sym firsts ∙ ap text_firsts (sym texts);
+      };
+      texts = texts;
+    }

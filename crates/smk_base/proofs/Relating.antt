@@ -1,8 +1,8 @@
 -- The relations that the bulk calls make.
-use Rattle.std.proofs.Common.{◌≡◌, ℕ, ℤ, ◌+◌, ◌-◌, ◌<◌, ◌≤◌, List, [], ◌∷◌, ◌++◌, length, map, get_or, refl, ap, sym, subst, ◌∙◌, arith, All, inl, inr, pos, None}
+use Rattle.std.proofs.Common.{◌≡◌, ℕ, ℤ, ◌+◌, ◌-◌, ◌<◌, ◌≤◌, List, [], ◌∷◌, ◌++◌, length, map, get_or, refl, ap, sym, subst, ◌∙◌, arith, All, inl, inr, pos, take, None, true}
 use Rattle.std.specs.List.{range_with_len, AllZip}
 use Rattle.std.proofs.lemmas.Bool.{cases_lt}
-use Rattle.std.proofs.lemmas.List.{get_or-map, length-map, length-append, length_push, get_or_push, get_or_append_left, get_or-append_right, map-append, map-id, ext_get_or}
+use Rattle.std.proofs.lemmas.List.{get_or-map, length-map, length-append, length_push, get_or_push, get_or_append_left, get_or-append_right, get_or-take, length-take-le, map-append, map-id, ext_get_or}
 use Rattle.std.proofs.lemmas.List.Elements.{All-append, length_all_zip}
 use Rattle.std.proofs.lemmas.List.FromFn.{fill_by_all}
 use Rattle.std.proofs.lemmas.Simd.{map-map}
@@ -24,7 +24,7 @@ abbrev none : Value
 none = values.Int (pos 0)
 
 pub long-at : (n : ℕ) (columns : List ColumnImage) (c : ℕ) → All (IsColumnOf n) columns → c < length columns → length (column_in columns c).cells ≡ n
-long-at n columns c each h = (each c (record { kind = kinds.Text; cells = []; room = 0; next = None }) h).long
+long-at n columns c each h = (each c (record { kind = kinds.Text; cells = []; room = 0; next = None; own = true }) h).long
 
 pub width-rows_of : (n : ℕ) (columns : List ColumnImage) (i : ℕ) → i < n → length (row_in (rows_of n columns) i) ≡ length columns
 width-rows_of n columns i h = ap length (row_in-rows_of n columns i h) ∙ length-map columns (λ column. value_in column.cells i)
@@ -101,6 +101,16 @@ made-append n m columns others made each wide so =
       | inl less ↦ ap (λ r. value_in r c) (left i less) ∙ value_in-rows_of n columns i c less q ∙ sym (get_or_append_left (column_in columns c).cells (column_in others c).cells none i (omega (arith, long-at n columns c each q)))
       | inr more ↦ ap (λ r. value_in r c) (right i more) ∙ value_in-rows_of m others (i - n) c (omega arith) (omega (arith, wide)) ∙ sym (get_or-append_right (column_in columns c).cells (column_in others c).cells n i none (long-at n columns c each q) more)
     ])
+
+pub made-first : (n len : ℕ) (columns made : List ColumnImage) → len ≤ n
+    → AreMade len (length columns) (λ k. (column_in columns k).kind) (λ k. take len (column_in columns k).cells) made
+    → relation_of len made ≡ record { kinds = kinds_of columns; rows = take len (rows_of n columns) }
+made-first n len columns made few so =
+    let row : (i : ℕ) → i < len → row_in (take len (rows_of n columns)) i ≡ row_in (rows_of n columns) i = (λ i h. get_or-take len (rows_of n columns) i [] h) in
+    relation_made len (length columns) (λ k. (column_in columns k).kind) (λ k. take len (column_in columns k).cells) made (record { kinds = kinds_of columns; rows = take len (rows_of n columns) }) so
+    (wide_kinds columns) (kind_in-kinds_of columns) (length-take-le len (rows_of n columns) (omega (arith, few, length-rows_of n columns)))
+    (λ i h. ap length (row i h) ∙ width-rows_of n columns i (omega (arith, few, h)))
+    (λ i c h q. ap (λ r. value_in r c) (row i h) ∙ value_in-rows_of n columns i c (omega (arith, few, h)) q ∙ sym (get_or-take len (column_in columns c).cells i none h))
 
 beside-map : (f g : ℕ → List Value) (places : List ℕ) → beside_rows (map f places) (map g places) ≡ map (λ i. f i ++ g i) places
 beside-map f g [] = refl

@@ -1,11 +1,12 @@
 -- What contracts see of a column.
-use Rattle.std.specs.Prelude.{ℕ, List, Option}
+use Rattle.std.specs.Prelude.{ℕ, Bool, List, Option}
 use Rattle.smk_base.specs.declared.value.Kind.{Kind}
 use Rattle.smk_base.specs.declared.value.Value.{Value}
 
--- the kind and the values of a column, how many more fit without memory, and the text that does
+-- the kind and the values of a column, how many more fit without memory, the text that does, and whether no copy shares the values
 pub record ColumnImage : Type 0 where
   pub kind : Kind
   pub cells : List Value
   pub room : ℕ
   pub next : Option (List ℕ)
+  pub own : Bool

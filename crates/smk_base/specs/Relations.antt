@@ -1,5 +1,5 @@
 -- Relations as columns beside each other.
-use Rattle.std.specs.Prelude.{◌≡◌, ℕ, ◌<◌, ◌≤◌, List, [], length, map, None, slice_index_or, All}
+use Rattle.std.specs.Prelude.{◌≡◌, ℕ, ◌<◌, ◌≤◌, true, List, [], length, map, take, None, slice_index_or, All}
 use Rattle.std.specs.List.{range_with_len}
 use Rattle.smk_base.specs.declared.value.Kind.{Kind}
 use Rattle.smk_base.specs.declared.value.Kind.TheVariants as kinds
@@ -11,7 +11,7 @@ use Rattle.smk_base.specs.declared.rel.TheConstants.{ROW_LIMIT}
 
 -- column c
 abbrev pub column_in : List ColumnImage → ℕ → ColumnImage
-column_in columns c = slice_index_or columns c (record { kind = kinds.Text; cells = []; room = 0; next = None })
+column_in columns c = slice_index_or columns c (record { kind = kinds.Text; cells = []; room = 0; next = None; own = true })
 
 abbrev pub kinds_of : List ColumnImage → List Kind
 kinds_of columns = map (λ column. column.kind) columns
@@ -39,3 +39,11 @@ pub record AreMade (count n : ℕ) (kind_at : ℕ → Kind) (cells_at : ℕ → 
   pub kinds : (k : ℕ) → k < n → (column_in made k).kind ≡ kind_at k
   pub cells : (k : ℕ) → k < n → (column_in made k).cells ≡ cells_at k
   pub each : All (IsColumnOf count) made
+
+-- columns of this many rows, with more behind them in some whose values no copy shares
+pub record AreLonger (count : ℕ) (old now : List ColumnImage) : Type 0 where
+  pub long : length now ≡ length old
+  pub kinds : (k : ℕ) → k < length old → (column_in now k).kind ≡ (column_in old k).kind
+  pub longer : (k : ℕ) → k < length old → count ≤ length (column_in now k).cells
+  pub own : (k : ℕ) → k < length old → count < length (column_in now k).cells → (column_in now k).own ≡ true
+  pub first : (k : ℕ) → k < length old → take count (column_in now k).cells ≡ (column_in old k).cells

@@ -1,5 +1,5 @@
 -- A column as it lies in memory.
-use Rattle.std.specs.Prelude.{ℕ, ◌-◌, List, map, Option, None, vec_len, vec_capacity}
+use Rattle.std.specs.Prelude.{ℕ, ◌-◌, true, List, map, Option, None, vec_len, vec_capacity}
 use Rattle.smk_base.specs.declared.value.Kind.{Kind}
 use Rattle.smk_base.specs.declared.value.Kind.TheVariants as kinds
 use Rattle.smk_base.specs.declared.value.Value.{Value}
@@ -31,4 +31,4 @@ next_in (Wide level ints) = None
 next_in (Texts texts next) = next_text (text_firsts texts.texts) texts.dict_room next
 
 abbrev pub column_of : Store → ColumnImage
-column_of store = record { kind = kind_in_store store; cells = cells_in store; room = room_in store; next = next_in store }
+column_of store = record { kind = kind_in_store store; cells = cells_in store; room = room_in store; next = next_in store; own = true }

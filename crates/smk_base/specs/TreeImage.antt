@@ -1,6 +1,6 @@
 -- Predicates, steps, plans, statements, books and lines as the definitions see them.
 use Rattle.std.specs.Prelude.{List, map}
-use Rattle.smk_base.specs.Trees.{PredImage, CompareNode, AndNode, OrNode, NotNode, TreeImage, ScanNode, StepNode, StepImage, SelectNode, ProjectNode, DistinctNode, GroupNode, JoinNode, ThetaNode, ProductNode, UnionAllNode, UnionNode, StmtImage, TableNode, ViewNode, BackNode, FwdNode, LinkNode, DependsNode, AskStepImage, AskImage, AnyLineImage, PlainLine, AskedLine, ProfiledLine}
+use Rattle.smk_base.specs.Trees.{PredImage, CompareNode, AndNode, OrNode, NotNode, TreeImage, ScanNode, StepNode, StepImage, SelectNode, ProjectNode, DistinctNode, GroupNode, JoinNode, ThetaNode, ProductNode, UnionAllNode, UnionNode, StmtImage, TableNode, ViewNode, BackNode, FwdNode, LinkNode, DependsNode, AskStepImage, AskImage, AnyLineImage, PlainLine, AskedLine, ProfiledLine, AppendedLine}
 use Rattle.smk_base.specs.declared.tree.PredTree.{PredTree, And', Or', Not'}
 use Rattle.smk_base.specs.declared.tree.PredTree.TheVariants.{Cmp}
 use Rattle.smk_base.specs.declared.tree.Tree.{Tree, Step'}
@@ -13,7 +13,7 @@ use Rattle.smk_base.specs.declared.tree.Book.{Book}
 use Rattle.smk_base.specs.declared.tree.AskStep.{AskStep}
 use Rattle.smk_base.specs.declared.tree.AskLine.{AskLine}
 use Rattle.smk_base.specs.declared.tree.AnyLine.{AnyLine}
-use Rattle.smk_base.specs.declared.tree.AnyLine.TheVariants.{Plain, Ask, Profile}
+use Rattle.smk_base.specs.declared.tree.AnyLine.TheVariants.{Plain, Ask, Profile, Append}
 
 abbrev pub pred_image : PredTree → PredImage
 pred_image (Cmp col op term) = CompareNode col op term
@@ -60,3 +60,4 @@ abbrev pub any_image : AnyLine → AnyLineImage
 any_image (Plain line) = PlainLine line
 any_image (Ask asked) = AskedLine (ask_image asked)
 any_image (Profile view) = ProfiledLine view
+any_image (Append table file) = AppendedLine table file

@@ -61,3 +61,4 @@ pub data AnyLineImage : Type 0 where
   PlainLine : Line → AnyLineImage
   AskedLine : AskImage → AnyLineImage
   ProfiledLine : List ℕ → AnyLineImage
+  AppendedLine : List ℕ → List ℕ → AnyLineImage

@@ -1,9 +1,9 @@
 //! Loops over the columns of a relation.
-ghost use Rattle.std.specs.Prelude.{◌≡◌, ℕ, ◌<◌, ◌≤◌, ◌+◌, [], ◌∷◌, ◌++◌, length, map, All, IfOk, OnOk, slice_index, slice_index_or};
+ghost use Rattle.std.specs.Prelude.{◌≡◌, ℕ, ◌<◌, ◌≤◌, ◌+◌, true, [], ◌∷◌, ◌++◌, length, map, take, All, IfOk, OnOk, OnErr, slice_index, slice_index_or};
 ghost use Rattle.smk_base.specs.Cells.{value_of_cell, cell_in};
 ghost use Rattle.smk_base.specs.Rels.{IsColumn, IsWider, Fits, kind_in, value_in};
 ghost use Rattle.smk_base.specs.Columns.{IsColumnOf, IsReady};
-ghost use Rattle.smk_base.specs.Relations.{column_in, AreMade};
+ghost use Rattle.smk_base.specs.Relations.{column_in, AreMade, AreLonger};
 
 use crate::rel::ROW_LIMIT;
 use crate::rel_column::RelColumn;
@@ -142,27 +142,53 @@ pub(crate) fn pick_each(
     Ok(made)
 }
 
-/// The columns with the rows of others behind their own.
+/// Puts the rows of other columns last. After an error the first columns may have them.
 pub(crate) fn append_each(
     alloc: Global,
-    mut columns: Vec<RelColumn>,
+    columns: &mut Vec<RelColumn>,
     count: u32,
     others: &[RelColumn],
     more: u32,
-) -> Result<Vec<RelColumn>, AllocError>
-    requires each { All (IsColumnOf count) columns.items }
+) -> Result<(), AllocError>
+    requires each { All (IsColumnOf count) columns.old.items }
     requires others { All (IsColumnOf more) others.now }
     requires few { count + more ≤ ROW_LIMIT }
-    requires wide { length columns.items ≡ length others.now }
-    requires wider { (k : ℕ) → k < length columns.items → IsWider (column_in columns.items k).kind (column_in others.now k).kind }
-    ensures { IfOk result (λ made. AreMade (count + more) (length columns.items) (λ k. (column_in columns.items k).kind) (λ k. (column_in columns.items k).cells ++ (column_in others.now k).cells) made.items) }
+    requires wide { length columns.old.items ≡ length others.now }
+    requires wider { (k : ℕ) → k < length columns.old.items → IsWider (column_in columns.old.items k).kind (column_in others.now k).kind }
+    ensures appended { OnOk result (AreMade (count + more) (length columns.old.items) (λ k. (column_in columns.old.items k).kind) (λ k. (column_in columns.old.items k).cells ++ (column_in others.now k).cells) columns.new.items) }
+    ensures longer { OnErr result (AreLonger count columns.old.items columns.new.items) }
 {
-    let mut made = Vec::with_capacity(alloc, others.len())?;
-    for c in 0..others.len() {
-        let column = mem::replace(&mut columns[c], RelColumn::new(alloc, Kind::Text));
-        made.push_reserved(column.append(alloc, &others[c])?);
+    for c in 0..columns.len() {
+        columns[c].append(alloc, &others[c])?;
     }
-    Ok(made)
+    Ok(())
+}
+
+/// Lets the values of each column lie with it alone: it copies those that others hold too.
+pub(crate) fn own_each(
+    alloc: Global,
+    columns: &mut Vec<RelColumn>,
+    count: u32,
+) -> Result<(), AllocError>
+    requires { All (IsColumnOf count) columns.old.items }
+    ensures same { AreMade count (length columns.old.items) (λ k. (column_in columns.old.items k).kind) (λ k. (column_in columns.old.items k).cells) columns.new.items }
+    ensures own { OnOk result ((k : ℕ) → k < length columns.old.items → (column_in columns.new.items k).own ≡ true) }
+{
+    for c in 0..columns.len() {
+        columns[c].make_own(alloc)?;
+    }
+    Ok(())
+}
+
+/// Keeps the first rows of columns whose values lie with them alone where they have more.
+pub(crate) fn truncate_each(columns: &mut Vec<RelColumn>, count: u32)
+    requires each { (k : ℕ) → k < length columns.old.items → count ≤ length (column_in columns.old.items k).cells }
+    requires own { (k : ℕ) → k < length columns.old.items → count < length (column_in columns.old.items k).cells → (column_in columns.old.items k).own ≡ true }
+    ensures { AreMade count (length columns.old.items) (λ k. (column_in columns.old.items k).kind) (λ k. take count (column_in columns.old.items k).cells) columns.new.items }
+{
+    for c in 0..columns.len() {
+        columns[c].truncate(count);
+    }
 }
 
 /// The same values in columns of these kinds, none of which is a narrower one.

@@ -57,8 +57,8 @@ pub use read::{read_int, without_mark};
 pub use rel::{ROW_LIMIT, Rel};
 pub use rel_builder::RelBuilder;
 pub use reply::{
-    AskRefusal, AskReply, Group, Groups, Linked, Linkeds, ProfileRefusal, ProfileReply, Refusal,
-    Reply,
+    AppendRefusal, AppendReply, AskRefusal, AskReply, Group, Groups, Linked, Linkeds,
+    ProfileRefusal, ProfileReply, Refusal, Reply,
 };
 pub use size::{Size, Sizes};
 pub use type_fault::TypeFault;

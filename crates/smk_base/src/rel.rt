@@ -1,4 +1,4 @@
-ghost use Rattle.std.specs.Prelude.{◌≡◌, ◌≢◌, ◌+◌, ◌<◌, ◌≤◌, ◌≤ℤ◌, [], ◌∷◌, ◌++◌, length, map, pos, All, IfOk, OnOk, OnErr, vec_len};
+ghost use Rattle.std.specs.Prelude.{◌≡◌, ◌≢◌, ◌+◌, ◌<◌, ◌≤◌, ◌≤ℤ◌, [], ◌∷◌, ◌++◌, length, map, take, pos, All, IfOk, OnOk, OnErr, vec_len};
 ghost use Rattle.std.specs.List.{AllZip};
 ghost use Rattle.smk_base.specs.Cells.{value_of_cell};
 ghost use Rattle.smk_base.specs.Columns.{IsColumnOf};
@@ -11,8 +11,8 @@ ghost use Rattle.smk_base.specs.declared.value.Kind.TheVariants as kinds;
 ghost use Rattle.smk_base.specs.declared.value.Value.TheVariants as values;
 
 use crate::columns::{
-    append_each, begun_columns, copy_each, gather_each, make_each_ready, owned_each, pick_each,
-    push_each, share_each, widen_each,
+    append_each, begun_columns, copy_each, gather_each, make_each_ready, own_each, owned_each,
+    pick_each, push_each, share_each, truncate_each, widen_each,
 };
 use crate::dict::Dict;
 use crate::list::Row;
@@ -183,9 +183,16 @@ impl Rel {
     pub fn shared(self, alloc: Global) -> Result<Rel, AllocError>
         ensures { IfOk result (λ rel. rel ≡ self) }
     {
-        let Rel { mut columns, count } = self;
-        share_each(alloc, &mut columns, count)?;
-        Ok(Rel { columns, count })
+        let mut rel = self;
+        rel.share(alloc)?;
+        Ok(rel)
+    }
+
+    /// Lets copies share the values. After an error some columns are still to be copied with their values.
+    pub fn share(&mut self, alloc: Global) -> Result<(), AllocError>
+        ensures { self.new ≡ self.old }
+    {
+        share_each(alloc, &mut self.columns, self.count)
     }
 
     /// A copy that is equal to its original.
@@ -222,18 +229,50 @@ impl Rel {
         })
     }
 
+    /// Keeps the first rows. It copies the columns that others hold too, and else takes no memory.
+    pub fn truncate(&mut self, alloc: Global, len: u32) -> Result<(), AllocError>
+        requires within { len ≤ length self.old.rows }
+        ensures kinds { self.new.kinds ≡ self.old.kinds }
+        ensures first { OnOk result (self.new.rows ≡ take len self.old.rows) }
+        ensures kept { OnErr result (self.new ≡ self.old) }
+    {
+        own_each(alloc, &mut self.columns, self.count)?;
+        truncate_each(&mut self.columns, len);
+        self.count = len;
+        Ok(())
+    }
+
+    /// Puts the rows of the other last, whose kinds are the same or narrower ones. It copies the columns that others hold too, and else takes memory for the new rows alone.
+    pub fn append(&mut self, alloc: Global, other: &Rel) -> Result<(), AllocError>
+        requires wider { AllZip IsWider self.old.kinds other.now.kinds }
+        requires few { length self.old.rows + length other.now.rows ≤ ROW_LIMIT }
+        ensures kinds { self.new.kinds ≡ self.old.kinds }
+        ensures appended { OnOk result (self.new.rows ≡ self.old.rows ++ other.now.rows) }
+        ensures kept { OnErr result (self.new ≡ self.old) }
+    {
+        let _other = &other.columns;
+        let others = other.columns.as_slice();
+        match append_each(alloc, &mut self.columns, self.count, others, other.count) {
+            Ok(()) => {
+                self.count += other.count;
+                Ok(())
+            }
+            Err(error) => {
+                truncate_each(&mut self.columns, self.count);
+                Err(error)
+            }
+        }
+    }
+
     /// These rows and then those of the other, whose kinds are the same or narrower ones.
     pub fn followed_by(self, alloc: Global, other: &Rel) -> Result<Rel, AllocError>
         requires wider { AllZip IsWider self.kinds other.now.kinds }
         requires few { length self.rows + length other.now.rows ≤ ROW_LIMIT }
         ensures { IfOk result (λ made. made ≡ record { kinds = self.kinds; rows = self.rows ++ other.now.rows }) }
     {
-        let _other = &other.columns;
-        let Rel { columns, count } = self;
-        Ok(Rel {
-            columns: append_each(alloc, columns, count, other.columns.as_slice(), other.count)?,
-            count: count + other.count,
-        })
+        let mut made = self;
+        made.append(alloc, other)?;
+        Ok(made)
     }
 
     /// The same rows in columns of these kinds, none of which is narrower than its column.

@@ -1,4 +1,4 @@
-ghost use Rattle.std.specs.Prelude.{◌≡◌, ◌≢◌, ◌<◌, ◌≤◌, ◌≤ℤ◌, ◌+◌, [], ◌∷◌, ◌++◌, length, map, All, IfOk, OnOk, pos};
+ghost use Rattle.std.specs.Prelude.{◌≡◌, ◌≢◌, ◌<◌, ◌≤◌, ◌≤ℤ◌, ◌+◌, true, [], ◌∷◌, ◌++◌, length, map, take, All, IfOk, OnOk, OnErr, pos};
 ghost use Rattle.smk_base.specs.Cells.{value_of_cell};
 ghost use Rattle.smk_base.specs.Columns.{IsColumnOf, IsReady};
 ghost use Rattle.smk_base.specs.Holds.{held};
@@ -57,6 +57,23 @@ fn share_hold(alloc: Global, hold: Hold) -> Hold
     }
 }
 
+// The same values where they lie alone: a copy of them where others hold them too. Where memory is wanting they lie as they did.
+fn own_hold(alloc: Global, hold: Hold) -> Hold
+    ensures kind { (held result).kind ≡ (held hold).kind }
+    ensures cells { (held result).cells ≡ (held hold).cells }
+{
+    match hold {
+        Hold::Own(column) => Hold::Own(column),
+        Hold::Shared(shared) => match Arc::try_unwrap(shared) {
+            Ok(column) => Hold::Own(column),
+            Err(shared) => match shared.copy(alloc) {
+                Ok(column) => Hold::Own(column),
+                Err(_) => Hold::Shared(shared),
+            },
+        },
+    }
+}
+
 impl RelColumn {
     /// No row of this kind. It takes no memory.
     pub fn new(alloc: Global, kind: Kind) -> RelColumn
@@ -96,12 +113,9 @@ impl RelColumn {
         ensures keeps { IfOk result (λ made. IsColumnOf (length self.cells) made) }
     {
         let RelColumn { hold } = self;
-        match hold {
+        match own_hold(alloc, hold) {
             Hold::Own(column) => Ok(column),
-            Hold::Shared(shared) => match Arc::try_unwrap(shared) {
-                Ok(column) => Ok(column),
-                Err(shared) => shared.copy(alloc),
-            },
+            Hold::Shared(_) => Err(AllocError),
         }
     }
 
@@ -193,16 +207,48 @@ impl RelColumn {
         Ok(RelColumn::own(self.values().gather(alloc, places)?))
     }
 
-    /// The column with the values of another one behind its own. The other's kind is the same or a narrower one.
-    pub fn append(self, alloc: Global, other: &RelColumn) -> Result<RelColumn, AllocError>
-        requires few { length self.cells + length other.now.cells ≤ ROW_LIMIT }
-        requires wider { IsWider self.kind other.now.kind }
-        ensures kind { IfOk result (λ made. made.kind ≡ self.kind) }
-        ensures cells { IfOk result (λ made. made.cells ≡ self.cells ++ other.now.cells) }
-        ensures keeps { IfOk result (λ made. IsColumnOf (length self.cells + length other.now.cells) made) }
+    /// Lets the values lie with this column alone: it copies them where others hold them too.
+    pub fn make_own(&mut self, alloc: Global) -> Result<(), AllocError>
+        ensures kind { self.new.kind ≡ self.old.kind }
+        ensures cells { self.new.cells ≡ self.old.cells }
+        ensures own { OnOk result (self.new.own ≡ true) }
     {
-        let own = self.into_own(alloc)?;
-        Ok(RelColumn::own(own.append(alloc, other.values())?))
+        let none = Hold::Own(ValueColumn::new(alloc, Kind::Text));
+        self.hold = own_hold(alloc, mem::replace(&mut self.hold, none));
+        match &self.hold {
+            Hold::Own(_) => Ok(()),
+            Hold::Shared(_) => Err(AllocError),
+        }
+    }
+
+    /// Puts the values of another column last. The other's kind is the same or a narrower one. It copies the values where others hold them too. After an error the values are as before.
+    pub fn append(&mut self, alloc: Global, other: &RelColumn) -> Result<(), AllocError>
+        requires few { length self.old.cells + length other.now.cells ≤ ROW_LIMIT }
+        requires wider { IsWider self.old.kind other.now.kind }
+        ensures kind { self.new.kind ≡ self.old.kind }
+        ensures own { OnOk result (self.new.own ≡ true) }
+        ensures appended { OnOk result (self.new.cells ≡ self.old.cells ++ other.now.cells) }
+        ensures keeps { OnOk result (IsColumnOf (length self.old.cells + length other.now.cells) self.new) }
+        ensures kept { OnErr result (self.new.cells ≡ self.old.cells) }
+    {
+        self.make_own(alloc)?;
+        match &mut self.hold {
+            Hold::Own(column) => column.append(alloc, other.values()),
+            Hold::Shared(_) => unreachable!(),
+        }
+    }
+
+    /// Keeps the first rows, which are all of them where others may hold the values too. It takes no memory.
+    pub fn truncate(&mut self, len: u32)
+        requires within { len ≤ length self.old.cells }
+        requires own { len < length self.old.cells → self.old.own ≡ true }
+        ensures kind { self.new.kind ≡ self.old.kind }
+        ensures cells { self.new.cells ≡ take len self.old.cells }
+        ensures keeps { IsColumnOf len self.new }
+    {
+        if let Hold::Own(column) = &mut self.hold {
+            column.truncate(len);
+        }
     }
 
     /// The same values in a column of this kind, which is not a narrower one.

@@ -105,3 +105,25 @@ pub enum ProfileRefusal {
     /// The view of this name is none of a dependency.
     NotProfile,
 }
+
+/// The answer to an `append` line.
+#[derive(Drop)]
+pub enum AppendReply {
+    /// How many rows were appended, and the views that scan the table, by their numbers, in the book's order.
+    Added { rows: u32, views: Rids },
+    /// The line is refused.
+    Refused(AppendRefusal),
+}
+
+/// Why an `append` line is refused. The names that it speaks of are those of the line and of the book.
+#[derive(Drop, Clone, Copy)]
+pub enum AppendRefusal {
+    /// The book has no table of this name.
+    UnknownTable,
+    /// The old rows and the new ones together are more than a table may have.
+    TableRows,
+    /// A node of the view, in post-order from 0, would have too many rows.
+    ViewRows { view: u32, node: u32 },
+    /// A node of the view would have too many pairs with the table.
+    ViewPairs { view: u32, node: u32, table: u32 },
+}

@@ -1,4 +1,4 @@
-ghost use Rattle.std.specs.Prelude.{◌≡◌, ◌<◌, ◌≤◌, ◌+◌, [], ◌∷◌, ◌++◌, length, map, All, Some, IfOk, IfSome, IsSome, OnOk, OnErr, IsOk};
+ghost use Rattle.std.specs.Prelude.{◌≡◌, ℕ, ◌<◌, ◌≤◌, ◌+◌, [], ◌∷◌, ◌++◌, length, map, take, All, Some, IfOk, IfSome, IsSome, OnOk, OnErr, IsOk};
 ghost use Rattle.smk_base.specs.Dicts.{code_or_last};
 ghost use Rattle.smk_base.specs.NextTexts.{next_text};
 ghost use Rattle.smk_base.specs.TextColumns.{text_firsts, text_in, AreRecoded};
@@ -159,6 +159,7 @@ impl TextColumn {
         requires room { length self.old.texts < ROW_LIMIT }
         requires code { code < length (text_firsts self.old.texts) }
         ensures pushed { OnOk result (self.new.texts ≡ self.old.texts ++ text_in (text_firsts self.old.texts) code ∷ []) }
+        ensures kept { OnErr result (self.new.texts ≡ self.old.texts) }
         ensures succeeds { 0 < self.old.room → IsOk result }
     {
         self.codes.push(code)?;
@@ -177,6 +178,7 @@ impl TextColumn {
         requires code { code < length dict.now.texts }
         requires recoded { AreRecoded dict.now.texts (text_firsts self.old.texts) recoded.old }
         ensures pushed { OnOk result (self.new.texts ≡ self.old.texts ++ text_in dict.now.texts code ∷ []) }
+        ensures kept { OnErr result (self.new.texts ≡ self.old.texts) }
         ensures recoded { OnOk result (AreRecoded dict.now.texts (text_firsts self.new.texts) recoded.new) }
     {
         let known = recoded[code as usize];
@@ -222,10 +224,25 @@ impl TextColumn {
         Ok(())
     }
 
-    /// Puts the texts of another column last. After an error the column may have some of them.
+    /// Puts the texts of another column last. After an error the texts are as before.
     pub fn append(&mut self, alloc: Global, other: &TextColumn) -> Result<(), AllocError>
         requires { length self.old.texts + length other.now.texts ≤ ROW_LIMIT }
-        ensures { OnOk result (self.new.texts ≡ self.old.texts ++ other.now.texts) }
+        ensures appended { OnOk result (self.new.texts ≡ self.old.texts ++ other.now.texts) }
+        ensures kept { OnErr result (self.new.texts ≡ self.old.texts) }
+    {
+        let len = self.len();
+        let appended = self.append_some(alloc, other);
+        if appended.is_err() {
+            self.truncate(len);
+        }
+        appended
+    }
+
+    // Puts the texts of another column last. After an error the column may have some of them.
+    fn append_some(&mut self, alloc: Global, other: &TextColumn) -> Result<(), AllocError>
+        requires { length self.old.texts + length other.now.texts ≤ ROW_LIMIT }
+        ensures appended { OnOk result (self.new.texts ≡ self.old.texts ++ other.now.texts) }
+        ensures kept { OnErr result (take (length self.old.texts) self.new.texts ≡ self.old.texts) }
     {
         self.codes.reserve(other.codes.len())?;
         let mut recoded = vec![in alloc; NO_CODE; other.dict.len() as usize]?;
@@ -233,6 +250,31 @@ impl TextColumn {
             self.push_from(alloc, &other.dict, *code, recoded.as_mut_slice())?;
         }
         Ok(())
+    }
+
+    /// Keeps the first rows. It takes no memory.
+    pub fn truncate(&mut self, len: u32)
+        ensures { self.new.texts ≡ take len self.old.texts }
+    {
+        if len < self.len() {
+            let used = self.used(len);
+            self.codes.truncate(len as usize);
+            self.dict.truncate(used);
+        }
+    }
+
+    // How many texts of the dictionary the first rows have.
+    fn used(&self, len: u32) -> u32
+        requires within { len ≤ length self.now.texts }
+        requires few { length self.now.texts ≤ ROW_LIMIT }
+        ensures firsts { text_firsts (take len self.now.texts) ≡ take result (text_firsts self.now.texts) }
+        ensures within { (k : ℕ) → k < len → code_or_last (text_firsts self.now.texts) (text_in self.now.texts k) < result }
+    {
+        let mut used = 0;
+        for i in 0..len {
+            used = used.max(self.code(i) + 1);
+        }
+        used
     }
 
     /// A copy with the same texts.

@@ -241,6 +241,8 @@ pub enum AnyLine {
     Ask(AskLine),
     /// An `fd` line: the rows that violate the dependency of this name.
     Profile { view: Text },
+    /// An `append` line: the records of this file go behind the rows of the table of this name.
+    Append { table: Text, file: Text },
 }
 
 /// Where a line of a script lies: its bytes from `start` up to `end`, without its line end. The next line begins at `next`.

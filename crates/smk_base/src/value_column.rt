@@ -1,4 +1,4 @@
-ghost use Rattle.std.specs.Prelude.{◌≡◌, ◌≢◌, ◌<◌, ◌≤◌, ◌≤ℤ◌, ◌+◌, [], ◌∷◌, ◌++◌, length, map, All, Some, IfOk, OnOk, OnErr, slice_index_or, vec_len, vec_capacity, FitsSigned, pos};
+ghost use Rattle.std.specs.Prelude.{◌≡◌, ◌≢◌, ◌<◌, ◌≤◌, ◌≤ℤ◌, ◌+◌, true, [], ◌∷◌, ◌++◌, length, map, take, All, Some, IfOk, OnOk, OnErr, slice_index_or, vec_len, vec_capacity, FitsSigned, pos};
 ghost use Rattle.std.specs.Int.{w64, int_div_euclid};
 ghost use Rattle.smk_base.specs.Cells.{value_of_cell};
 ghost use Rattle.smk_base.specs.IntColumns.{numbers_of};
@@ -182,18 +182,30 @@ impl ValueColumn {
         })
     }
 
-    /// The column with the values of another one behind its own. The other's kind is the same or a narrower one.
-    pub fn append(self, alloc: Global, other: &ValueColumn) -> Result<ValueColumn, AllocError>
-        requires few { length self.cells + length other.now.cells ≤ ROW_LIMIT }
-        requires wider { IsWider self.kind other.now.kind }
-        ensures kind { IfOk result (λ made. made.kind ≡ self.kind) }
-        ensures cells { IfOk result (λ made. made.cells ≡ self.cells ++ other.now.cells) }
-        ensures keeps { IfOk result (λ made. IsColumnOf (length self.cells + length other.now.cells) made) }
+    /// Puts the values of another column last. The other's kind is the same or a narrower one. After an error the values are as before.
+    pub fn append(&mut self, alloc: Global, other: &ValueColumn) -> Result<(), AllocError>
+        requires few { length self.old.cells + length other.now.cells ≤ ROW_LIMIT }
+        requires wider { IsWider self.old.kind other.now.kind }
+        ensures kind { self.new.kind ≡ self.old.kind }
+        ensures own { self.new.own ≡ true }
+        ensures appended { OnOk result (self.new.cells ≡ self.old.cells ++ other.now.cells) }
+        ensures keeps { OnOk result (IsColumnOf (length self.old.cells + length other.now.cells) self.new) }
+        ensures kept { OnErr result (self.new.cells ≡ self.old.cells) }
     {
         let _other = &other.store;
-        let ValueColumn { mut store } = self;
-        append_store(alloc, &mut store, &other.store)?;
-        Ok(ValueColumn { store })
+        append_store(alloc, &mut self.store, &other.store)?;
+        Ok(())
+    }
+
+    /// Keeps the first rows. It takes no memory.
+    pub fn truncate(&mut self, len: u32)
+        requires { len ≤ length self.old.cells }
+        ensures kind { self.new.kind ≡ self.old.kind }
+        ensures own { self.new.own ≡ true }
+        ensures cells { self.new.cells ≡ take len self.old.cells }
+        ensures keeps { IsColumnOf len self.new }
+    {
+        truncate_store(&mut self.store, len);
     }
 
     /// The same values in a column of this kind, which is not a narrower one.
@@ -301,13 +313,14 @@ fn gathered(alloc: Global, store: &Store, places: &[u32]) -> Result<Store, Alloc
     }
 }
 
-// Puts the values of another store behind those of this one, whose kind is not the narrower one. After an error it may have some of them.
+// Puts the values of another store behind those of this one, whose kind is not the narrower one. After an error the values are as before.
 fn append_store(alloc: Global, store: &mut Store, other: &Store) -> Result<(), AllocError>
     requires few { length (cells_in store.old) + length (cells_in other.now) ≤ ROW_LIMIT }
     requires wider { IsWider (kind_in_store store.old) (kind_in_store other.now) }
     requires fit { All (Fits (kind_in_store other.now)) (cells_in other.now) }
-    ensures kind { OnOk result (kind_in_store store.new ≡ kind_in_store store.old) }
+    ensures kind { kind_in_store store.new ≡ kind_in_store store.old }
     ensures cells { OnOk result (cells_in store.new ≡ cells_in store.old ++ cells_in other.now) }
+    ensures kept { OnErr result (cells_in store.new ≡ cells_in store.old) }
 {
     match (store, other) {
         (Store::Small(ints), Store::Small(more)) => ints.extend_from_slice(more.as_slice()),
@@ -316,6 +329,18 @@ fn append_store(alloc: Global, store: &mut Store, other: &Store) -> Result<(), A
         (Store::Small(ints), Store::Wide(_, more)) => append_level_0(ints, more.as_slice()),
         (Store::Texts(texts, _), Store::Texts(more, _)) => texts.append(alloc, more),
         _ => unreachable!(),
+    }
+}
+
+// Keeps the first values.
+fn truncate_store(store: &mut Store, len: u32)
+    ensures kind { kind_in_store store.new ≡ kind_in_store store.old }
+    ensures cells { cells_in store.new ≡ take len (cells_in store.old) }
+{
+    match store {
+        Store::Small(ints) => ints.truncate(len as usize),
+        Store::Wide(_, ints) => ints.truncate(len as usize),
+        Store::Texts(texts, _) => texts.truncate(len),
     }
 }
 
@@ -419,7 +444,8 @@ fn items_at<T: Copy + Drop>(
 
 // Puts ints of level 0 behind wider ones.
 fn append_small(ints: &mut Vec<i128>, more: &[i64]) -> Result<(), AllocError>
-    ensures { OnOk result (ints.new.items ≡ ints.old.items ++ more.now) }
+    ensures appended { OnOk result (ints.new.items ≡ ints.old.items ++ more.now) }
+    ensures kept { OnErr result (ints.new.items ≡ ints.old.items) }
 {
     ints.reserve(more.len())?;
     for number in more {
@@ -431,7 +457,8 @@ fn append_small(ints: &mut Vec<i128>, more: &[i64]) -> Result<(), AllocError>
 // Puts wide ints that are of level 0 behind small ones.
 fn append_level_0(ints: &mut Vec<i64>, more: &[i128]) -> Result<(), AllocError>
     requires { All (λ number. FitsSigned w64 number) more.now }
-    ensures { OnOk result (ints.new.items ≡ ints.old.items ++ more.now) }
+    ensures appended { OnOk result (ints.new.items ≡ ints.old.items ++ more.now) }
+    ensures kept { OnErr result (ints.new.items ≡ ints.old.items) }
 {
     ints.reserve(more.len())?;
     for number in more {

@@ -1,13 +1,10 @@
-use Rattle.std.proofs.Common.{◌≡◌, ◌≤◌, ◌+◌, ◌++◌, ℕ, length}
-use Rattle.std.specs.Prelude.{vec_len, vec_capacity}
-use Rattle.smk_base.specs.Relations.{AreMade, column_in}
+use Rattle.std.proofs.Common.{◌≡◌, ◌<◌, ◌+◌, ◌++◌, ℕ, true}
+use Rattle.smk_base.specs.Relations.{column_in}
+use Rattle.smk_base.proofs.Pushed.{IsChanged}
 use Rattle.smk_base.proofs.columns.append_each.Given as goal
 
 abbrev pub invariant-loop-c : goal.invariant-loop-c
 invariant-loop-c l = record {
-  wide : length l.columns.items ≡ length l.fn.columns.items;
-  rest : (k : ℕ) → l.c ≤ k → column_in l.columns.items k ≡ column_in l.fn.columns.items k;
-  made : AreMade (l.count + l.more) l.c (λ k. (column_in l.fn.columns.items k).kind) (λ k. (column_in l.fn.columns.items k).cells ++ (column_in l.others k).cells) l.made.items;
-  len : vec_len l.made ≡ l.c;
-  room : length l.others ≤ vec_capacity l.made;
+  appended : IsChanged (l.count + l.more) l.c l.fn.columns.items l.columns.items (λ k. (column_in l.fn.columns.items k).cells ++ (column_in l.others k).cells);
+  own : (k : ℕ) → k < l.c → (column_in l.columns.items k).own ≡ true;
 }

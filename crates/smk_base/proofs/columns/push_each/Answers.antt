@@ -1,11 +1,11 @@
 use Rattle.std.proofs.Common.{◌≡◌, ◌<◌, ◌∙◌, rules, arith, length}
 use Rattle.std.proofs.lemmas.List.{get_or_read}
 use Rattle.smk_base.specs.Relations.{column_in}
-use Rattle.smk_base.proofs.Pushed.{IsPushed-none, IsPushed-more, AreMade-pushed}
+use Rattle.smk_base.proofs.Pushed.{IsChanged-none, IsChanged-more, AreMade-changed}
 use Rattle.smk_base.proofs.columns.push_each.Goals as goal
 
 pub loop-c-init : goal.loop-c-init
-loop-c-init c = IsPushed-none _ _ _
+loop-c-init c = IsChanged-none _ _ _
 
 pub push-requires-clause-fits : goal.push-requires-clause-fits
 push-requires-clause-fits c =
@@ -29,7 +29,7 @@ loop-c-preserved c =
     let kind = rw column at c.push.ensures.kind in
     let cells = rw column at c.push.ensures.cells in
     let keeps = rw (column, (c.requires.each c.loop-c.c _ here).long) at c.push.ensures.keeps in
-    IsPushed-more _ c.loop-c.c _ _ _ c.push.new.self here c.loop-c.invariant kind cells keeps
+    IsChanged-more _ c.loop-c.c _ _ _ c.push.new.self here c.loop-c.invariant kind cells keeps
 
 pub returns : goal.returns
-returns c = AreMade-pushed _ c.loop-c.c _ _ _ (omega arith) c.loop-c.invariant
+returns c = AreMade-changed _ c.loop-c.c _ _ _ (omega arith) c.loop-c.invariant

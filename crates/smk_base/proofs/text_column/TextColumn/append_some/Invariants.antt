@@ -1,6 +1,6 @@
 use Rattle.std.proofs.Common.{◌≡◌, take, ◌++◌}
 use Rattle.smk_base.specs.TextColumns.{text_firsts, AreRecoded, texts_at}
-use Rattle.smk_base.proofs.text_column.TextColumn.append.Given as goal
+use Rattle.smk_base.proofs.text_column.TextColumn.append_some.Given as goal
 
 abbrev pub invariant-loop-code : goal.invariant-loop-code
 invariant-loop-code l = record {

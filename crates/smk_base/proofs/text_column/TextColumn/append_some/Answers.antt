@@ -3,7 +3,7 @@ use Rattle.std.proofs.lemmas.List.{take_at}
 use Rattle.std.proofs.lemmas.Grind.{common_steps}
 use Rattle.smk_base.specs.TextColumns.{text_in, text_firsts, texts_at, AreRecoded}
 use Rattle.smk_base.proofs.Loops.{appended_next}
-use Rattle.smk_base.proofs.text_column.TextColumn.append.Goals as goal
+use Rattle.smk_base.proofs.text_column.TextColumn.append_some.Goals as goal
 
 pub loop-code-preserved : goal.loop-code-preserved
 loop-code-preserved c =

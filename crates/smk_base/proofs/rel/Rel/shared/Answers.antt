@@ -1,6 +1,0 @@
-use Rattle.std.proofs.Common.{◌∙◌}
-use Rattle.smk_base.proofs.Relating.{made-copy}
-use Rattle.smk_base.proofs.rel.Rel.shared.Goals as goal
-
-pub returns : goal.returns
-returns c = made-copy c.self.inside.count c.self.inside.columns.items _ c.in_ok-share_each.ensures ∙ c.self.view_is
