@@ -1,5 +1,5 @@
 -- Whether any member passes: tests that agree, and tests put together.
-use Rattle.std.proofs.Common.{◌≡◌, ℕ, suc, ◌<◌, Bool, true, false, List, [], ◌∷◌, refl, ap, ◌∙◌, arith, ◌&&◌, ◌||◌, nat_eq}
+use Rattle.std.proofs.Common.{◌≡◌, ℕ, suc, ◌<◌, Bool, true, false, List, [], ◌∷◌, map, refl, ap, ◌∙◌, arith, ◌&&◌, ◌||◌, nat_eq}
 use Rattle.std.specs.List.{list_any, All}
 use Rattle.std.proofs.lemmas.Bool.{eq-eqb, or_left, or_right}
 use Rattle.smk_model.specs.Lineage.{has}
@@ -16,6 +16,10 @@ any_agree f g (x ∷ xs) h = rw (h x (or_left (nat_eq x x) _ (eq-eqb x x refl)),
 pub any_below : (f g : ℕ → Bool) (n : ℕ) (A : List ℕ) → All (λ o. o < n) A → ((o : ℕ) → o < n → f o ≡ g o) → list_any f A ≡ list_any g A
 any_below f g n [] low h = refl
 any_below f g n (o ∷ os) low h = rw (h o (low 0 0 (omega arith)), any_below f g n os (λ k d l. low (suc k) d (omega arith)) h) refl
+
+pub any_map : {X Y : Type 0} (p : Y → Bool) (g : X → Y) (xs : List X) → list_any p (map g xs) ≡ list_any (λ x. p (g x)) xs
+any_map p g [] = refl
+any_map p g (x ∷ xs) = ap (λ t. p (g x) || t) (any_map p g xs)
 
 pub any_false : {X : Type 0} (A : List X) → list_any (λ x. false) A ≡ false
 any_false [] = refl

@@ -177,7 +177,7 @@ pub sum_by_map : {X Y : Type 0} (f : Y → ℕ) (g : X → Y) (xs : List X) → 
 sum_by_map f g [] = refl
 sum_by_map f g (x ∷ xs) = sum_by-cons f (g x) (map g xs) ∙ ap (λ t. f (g x) + t) (sum_by_map f g xs) ∙ sym (sum_by-cons (λ y. f (g y)) x xs)
 
-sum_by_agree : {X : Type 0} (f g : X → ℕ) → ((x : X) → f x ≡ g x) → (xs : List X) → sum_by f xs ≡ sum_by g xs
+pub sum_by_agree : {X : Type 0} (f g : X → ℕ) → ((x : X) → f x ≡ g x) → (xs : List X) → sum_by f xs ≡ sum_by g xs
 sum_by_agree f g h [] = refl
 sum_by_agree f g h (x ∷ xs) = sum_by-cons f x xs ∙ rw (h x, sum_by_agree f g h xs) (sym (sum_by-cons g x xs))
 
@@ -189,7 +189,7 @@ unscanned_reach scans table S rid none =
     rw other refl)
     ∙ any_false (upto (length scans))
 
-unscanned_relates : (plan : Expr) (E : List (List Row)) (table o rid : ℕ) → has (leaves plan) table ≡ false → relates plan E table o rid ≡ false
+pub unscanned_relates : (plan : Expr) (E : List (List Row)) (table o rid : ℕ) → has (leaves plan) table ≡ false → relates plan E table o rid ≡ false
 unscanned_relates plan E table o rid none = unscanned_reach (leaves plan) table (mark_at (ann plan E) o).1 rid none
 
 places_by : (f : ℕ → ℕ → Bool) (k n : ℕ) → All (IsPlaces n) (lists_by f k n).lists

@@ -13,7 +13,7 @@ use Rattle.smk_model.specs.DirectionLaws.{PairsForward}
 use Rattle.smk_model.proofs.Places.{map_upto, map_upto_agree}
 use Rattle.smk_model.proofs.Composed.{lists_by, sum_by_map, lists_stand}
 
-sum_zero : (n : ℕ) → sum_by (λ (r : ℕ). 0) (upto n) ≡ 0
+pub sum_zero : (n : ℕ) → sum_by (λ (r : ℕ). 0) (upto n) ≡ 0
 sum_zero zero = refl
 sum_zero (suc n) = omega (arith, sum_by_push (λ (r : ℕ). 0) (upto n) n, sum_zero n)
 

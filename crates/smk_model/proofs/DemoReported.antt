@@ -11,7 +11,7 @@ use Rattle.smk_model.specs.Demo.{demo_of, flights, airports}
 use Rattle.smk_model.specs.DemoBook.{demo_catalog, demo_workbook, demo_readings}
 use Rattle.smk_model.specs.DemoLaws.{HoldsTables, DemosAreReported}
 use Rattle.smk_model.specs.Words.{Words, Demo, Settings, Invocation, called, demo_sized, texts_named, texts_in, settings_in, value_given, smoke_app, where_taken, words_of}
-use Rattle.smk_model.specs.Outcome.{file_limit, kept_short, parsed, read, lines_read, a_script, OpensBook, OpensScript, inputs, usable, text_named, unless_view_fault}
+use Rattle.smk_model.specs.Outcome.{file_limit, Held, load_all, appended, kept_short, parsed, read, lines_read, a_script, OpensBook, OpensScript, inputs, usable, text_named, unless_view_fault}
 use Rattle.smk_model.proofs.DemoOpened.{opened}
 use Rattle.smk_model.proofs.DemoSizes.{short, of_two}
 use Rattle.smk_model.proofs.DemoWithin.{within}
@@ -63,7 +63,11 @@ script_there n l = a_script (read (is_kept DEMO_SCRIPT_NAME.now (demo_of n).scri
 tables_there : (n : ℕ) → HoldsTables n (text_named (demo_of n))
 tables_there n = of_two (λ (file : DemoFile). text_named (demo_of n) file.name ≡ Some file.bytes) (record { name = codes "flights.csv"; bytes = flights n }) (record { name = codes "airports.csv"; bytes = airports }) refl refl
 
+-- its script appends nothing
+nothing_appended : (held : Held) → load_all held (appended demo_catalog demo_readings) ≡ Ok []
+nothing_appended held = refl
+
 pub reported : DemosAreReported
 reported words held n is =
     let l = words_few words n is in
-    read (usable is (inputs (book_there n l) ((opened n l).tables (text_named (demo_of n)) (tables_there n)) (script_there n l))) (ap (unless_view_fault (record { book = demo_workbook n; fds = []; readings = demo_readings })) (within n l))
+    read (usable is (inputs (book_there n l) ((opened n l).tables (text_named (demo_of n)) (tables_there n)) (script_there n l) (nothing_appended (text_named (demo_of n))))) (ap (unless_view_fault (record { book = demo_workbook n; fds = []; readings = demo_readings; added = [] })) (within n l))

@@ -1,5 +1,5 @@
 -- The view of a dependency shows what violates it.
-use Rattle.std.proofs.Common.{◌≡◌, ℕ, ◌+◌, ◌<◌, Bool, true, List, [], ◌∷◌, ◌++◌, length, map, refl, ap, sym, ◌∙◌, ◌&&◌, ◌||◌, nat_eq, get_or, arith, inl, inr}
+use Rattle.std.proofs.Common.{◌≡◌, ℕ, ◌+◌, ◌<◌, Bool, true, List, [], ◌∷◌, ◌++◌, length, map, refl, ap, sym, ◌∙◌, ◌&&◌, nat_eq, get_or, arith, inl, inr}
 use Rattle.std.specs.List.{list_any, filter}
 use Rattle.std.proofs.lemmas.List.{length-map, get_or-map, get_or-append-add}
 use Rattle.std.proofs.lemmas.Bool.{cases_Bool, or_right, eq-eqb, false≢true}
@@ -12,7 +12,7 @@ use Rattle.smk_model.specs.Plain.{row_eq, key_of, firsts, grouped, eval, lesser,
 use Rattle.smk_model.specs.Lineage.{row_at}
 use Rattle.smk_model.specs.Annotated.{Marked, no_mark, mark_at, rows_of, gathered, scanned, ann, relates, back}
 use Rattle.smk_model.proofs.Places.{filter_map, map_map, same_below, has_places}
-use Rattle.smk_model.proofs.Anys.{or_false, any_same}
+use Rattle.smk_model.proofs.Anys.{any_map, or_false, any_same}
 use Rattle.smk_model.proofs.Annotated.{rows_from}
 use Rattle.smk_model.proofs.Firsts.{holds, holds_here, row_is, firsts_from}
 use Rattle.smk_model.proofs.Spread.{extremes_apart}
@@ -73,10 +73,6 @@ marks_are table rows keys c =
     filter_map (λ (m : Marked). test m.0) (each (rows_of (scanned 0 rows))) (firsts (map (key_of keys) (rows_of (scanned 0 rows))))
     ∙ ap (λ (R : List Row). map (each R) (filter (λ key. test (grouped keys (extremes c) R key)) (firsts (map (key_of keys) R)))) (rows_from (Leaf table) (rows ∷ []) 0)
     ∙ ap (map (each rows)) (selected_keys rows keys c)
-
-any_map : {X Y : Type 0} (p : Y → Bool) (g : X → Y) (xs : List X) → list_any p (map g xs) ≡ list_any (λ x. p (g x)) xs
-any_map p g [] = refl
-any_map p g (x ∷ xs) = ap (λ t. p (g x) || t) (any_map p g xs)
 
 -- the rows of a scan that pass a test have the pairs of their places
 gathered_scan : (test : Row → Bool) (rows : List Row) (rid : ℕ) → rid < length rows → gathered test (scanned 0 rows) 0 rid ≡ test (row_at rows rid)

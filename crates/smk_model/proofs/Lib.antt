@@ -68,3 +68,12 @@ pub mod Spread
 pub mod Dependencies
 pub mod Profiles
 pub mod ProfilesFit
+pub mod Keyed
+pub mod Regroups
+pub mod Grows
+pub mod RegroupsByPlace
+pub mod Thin
+pub mod Unscanned
+pub mod NeverFull
+pub mod AppendExamples
+pub mod Appends

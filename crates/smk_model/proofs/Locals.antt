@@ -22,7 +22,7 @@ use Rattle.smk_model.proofs.CuiWidom.{length_selected, nested_rows, length_match
 each_at : {X Y : Type 0} (g : X → Y) (xs : List X) (d : X) → map (λ o. g (get_or xs o d)) (upto (length xs)) ≡ map g xs
 each_at g xs d = sym (map_map g (λ o. get_or xs o d) (upto (length xs))) ∙ ap (map g) (map_upto xs d)
 
-at_each : {X : Type 0} (f g : ℕ → X) (m n : ℕ) (h : ℕ → X) → ((i : ℕ) → i < m → f i ≡ g i) → ((i : ℕ) → i < n → f (m + i) ≡ h i) → map f (upto (m + n)) ≡ map g (upto m) ++ map h (upto n)
+pub at_each : {X : Type 0} (f g : ℕ → X) (m n : ℕ) (h : ℕ → X) → ((i : ℕ) → i < m → f i ≡ g i) → ((i : ℕ) → i < n → f (m + i) ≡ h i) → map f (upto (m + n)) ≡ map g (upto m) ++ map h (upto n)
 at_each f g m n h left right =
     ap (map f) (upto_add m n) ∙ map-append f (upto m) (map (λ i. m + i) (upto n))
     ∙ rw (map_upto_agree f g m left, map_map f (λ i. m + i) (upto n), map_upto_agree (λ i. f (m + i)) h n right) refl

@@ -25,7 +25,7 @@ nodes_long (Combine op a b) E =
     let all = node_rows b (drop (width a) E) ++ eval (Combine op a b) E ∷ [] in
     omega (arith, nodes_long a E, nodes_long b (drop (width a) E), length-append (node_rows a E) all, length-append (node_rows b (drop (width a) E)) (eval (Combine op a b) E ∷ []))
 
-either : {a b c d : Option NodeFault} → a ≡ c → b ≡ d → option_or a b ≡ option_or c d
+pub either : {a b c d : Option NodeFault} → a ≡ c → b ≡ d → option_or a b ≡ option_or c d
 either p q = rw (p, q) refl
 
 cond_mapped : (b : Bool) (node : ℕ) → cond b (Some (FullRows node)) None ≡ option_map FullRows (cond b (Some node) None)

@@ -6,7 +6,7 @@ use Rattle.smk_base.specs.declared.fault.Fault.{Fault}
 use Rattle.smk_model.specs.Readings.{Reading, Asks, IsReading, says_nothing, asks, leaves, AreReadings, no_line, one_line}
 use Rattle.smk_model.specs.Words.{Words}
 use Rattle.smk_model.specs.Reports.{BookSaid}
-use Rattle.smk_model.specs.Outcome.{Held, Parses, spells, misspells, BookSays, unparsed, parsed, FileSays, unread, read, ScriptSays, lines_read, OpensBook, OpensScript, no_script, a_script, Inputs, ReadsFiles, no_book, no_tables, no_readings, inputs, source_of, book_of, script_of, ReadsInputs, unusable, usable, unreadable}
+use Rattle.smk_model.specs.Outcome.{Held, Parses, spells, misspells, BookSays, unparsed, parsed, FileSays, unread, read, ScriptSays, lines_read, OpensBook, OpensScript, no_script, a_script, Inputs, ReadsFiles, no_book, no_tables, no_readings, no_rows, inputs, source_of, book_of, script_of, ReadsInputs, unusable, usable, unreadable}
 use Rattle.smk_model.specs.OutcomeLaws.{OneReading, OneInputs, OneOutcome}
 use Rattle.smk_model.proofs.Unique.{one_book, one_any_line}
 
@@ -64,19 +64,28 @@ same_files : {held : Held} {book : List ℕ} {script : Option (List ℕ)} {a b :
 same_files (no_book b) (no_book c) = let o = same_opened b c in cc
 same_files (no_book b) (no_tables c u) = let o = same_opened b c in absurd (cc)
 same_files (no_book b) (no_readings c u r) = let o = same_opened b c in absurd (cc)
-same_files (no_book b) (inputs c u r) = let o = same_opened b c in absurd (cc)
+same_files (no_book b) (no_rows c u r d) = let o = same_opened b c in absurd (cc)
+same_files (no_book b) (inputs c u r d) = let o = same_opened b c in absurd (cc)
 same_files (no_tables b t) (no_book c) = let o = same_opened b c in absurd (cc)
 same_files (no_tables b t) (no_tables c u) = let o = same_opened b c in cc
 same_files (no_tables b t) (no_readings c u r) = let o = same_opened b c in absurd (cc)
-same_files (no_tables b t) (inputs c u r) = let o = same_opened b c in absurd (cc)
+same_files (no_tables b t) (no_rows c u r d) = let o = same_opened b c in absurd (cc)
+same_files (no_tables b t) (inputs c u r d) = let o = same_opened b c in absurd (cc)
 same_files (no_readings b t s) (no_book c) = let o = same_opened b c in absurd (cc)
 same_files (no_readings b t s) (no_tables c u) = let o = same_opened b c in absurd (cc)
 same_files (no_readings b t s) (no_readings c u r) = let o = same_opened b c in let f = same_read s r in cc
-same_files (no_readings b t s) (inputs c u r) = let o = same_opened b c in let f = same_read s r in absurd (cc)
-same_files (inputs b t s) (no_book c) = let o = same_opened b c in absurd (cc)
-same_files (inputs b t s) (no_tables c u) = let o = same_opened b c in absurd (cc)
-same_files (inputs b t s) (no_readings c u r) = let o = same_opened b c in let f = same_read s r in absurd (cc)
-same_files (inputs b t s) (inputs c u r) = let o = same_opened b c in let f = same_read s r in cc
+same_files (no_readings b t s) (no_rows c u r d) = let o = same_opened b c in let f = same_read s r in absurd (cc)
+same_files (no_readings b t s) (inputs c u r d) = let o = same_opened b c in let f = same_read s r in absurd (cc)
+same_files (no_rows b t s a) (no_book c) = let o = same_opened b c in absurd (cc)
+same_files (no_rows b t s a) (no_tables c u) = let o = same_opened b c in absurd (cc)
+same_files (no_rows b t s a) (no_readings c u r) = let o = same_opened b c in let f = same_read s r in absurd (cc)
+same_files (no_rows b t s a) (no_rows c u r d) = let o = same_opened b c in let f = same_read s r in cc
+same_files (no_rows b t s a) (inputs c u r d) = let o = same_opened b c in let f = same_read s r in absurd (cc)
+same_files (inputs b t s a) (no_book c) = let o = same_opened b c in absurd (cc)
+same_files (inputs b t s a) (no_tables c u) = let o = same_opened b c in absurd (cc)
+same_files (inputs b t s a) (no_readings c u r) = let o = same_opened b c in let f = same_read s r in absurd (cc)
+same_files (inputs b t s a) (no_rows c u r d) = let o = same_opened b c in let f = same_read s r in absurd (cc)
+same_files (inputs b t s a) (inputs c u r d) = let o = same_opened b c in let f = same_read s r in cc
 
 same_words : {read : Option Words} {u v : Words} → read ≡ Some u → read ≡ Some v → v ≡ u
 same_words h k = cc

@@ -11,7 +11,7 @@ use Rattle.smk_model.specs.LocalLaws.{together, part_places, part_pairs, Cut}
 use Rattle.smk_model.proofs.Places.{filter_map, map_map, map_flat_map, flat_map_map, flat_map_agree, same_below, upto_add}
 use Rattle.smk_model.proofs.Firsts.{fold_append, add_firsts}
 
-filter_parts : (f : Row → Bool) (parts : List (List Row)) → flat_map (filter f) parts ≡ filter f (together parts)
+pub filter_parts : (f : Row → Bool) (parts : List (List Row)) → flat_map (filter f) parts ≡ filter f (together parts)
 filter_parts f [] = refl
 filter_parts f (part ∷ parts) = rw (filter_parts f parts) (sym (filter-append f part (together parts)))
 

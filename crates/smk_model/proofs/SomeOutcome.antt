@@ -15,7 +15,7 @@ use Rattle.smk_model.specs.Lines.{lines, place_of}
 use Rattle.smk_model.specs.Readings.{Reading, Nothing, Asks, Unread, IsReading, says_nothing, asks, leaves, AreReadings, no_line, one_line}
 use Rattle.smk_model.specs.Reports.{BookSaid, Report}
 use Rattle.smk_model.specs.Words.{Words, words_of}
-use Rattle.smk_model.specs.Outcome.{Held, Parses, spells, misspells, BookSays, unparsed, parsed, FileSays, unread, read, ScriptSays, lines_read, OpensBook, OpensScript, no_script, a_script, Inputs, ReadsFiles, no_book, no_tables, no_readings, inputs, source_of, book_of, script_of, ReadsInputs, unusable, usable, Outcome, unreadable, content_of, load_all, statements_say, reported}
+use Rattle.smk_model.specs.Outcome.{Held, Parses, spells, misspells, BookSays, unparsed, parsed, FileSays, unread, read, ScriptSays, lines_read, OpensBook, OpensScript, no_script, a_script, Inputs, ReadsFiles, no_book, no_tables, no_readings, no_rows, inputs, source_of, book_of, script_of, ReadsInputs, unusable, usable, Outcome, unreadable, content_of, load_all, appended, statements_say, reported}
 use Rattle.smk_model.specs.OutcomeLaws.{FaultlessTextsSpell, SomeReading, SomeOutcome}
 use Rattle.smk_model.proofs.Sound.{faultless_have_trees}
 use Rattle.smk_model.proofs.Closing.{book_finishes, any_finishes}
@@ -67,9 +67,14 @@ some_script held (Some name) = let r = some_file held name ScriptSays (λ bytes.
 some_files : (held : Held) (book : List ℕ) (script : Option (List ℕ)) → (answer : Result Inputs Fault) × ReadsFiles held book script answer
 some_files held book script = let r = some_file held book BookSays some_book in opened r.0 r.1
   where
+    added : (said : BookSaid) (tables : List (List Row)) (readings : List Reading) → OpensBook held book (Ok said) → load_all held said.catalog.tables ≡ Ok tables → OpensScript held script (Ok readings)
+        → (a : Result (List (List Row)) Fault) → load_all held (appended said.catalog readings) ≡ a → (answer : Result Inputs Fault) × ReadsFiles held book script answer
+    added said tables readings b t p (Ok rows) e = (_, inputs b t p e)
+    added said tables readings b t p (Err fault) e = (_, no_rows b t p e)
+
     scripted : (said : BookSaid) (tables : List (List Row)) → OpensBook held book (Ok said) → load_all held said.catalog.tables ≡ Ok tables
         → (s : Result (List Reading) Fault) → OpensScript held script s → (answer : Result Inputs Fault) × ReadsFiles held book script answer
-    scripted said tables b t (Ok readings) p = (_, inputs b t p)
+    scripted said tables b t (Ok readings) p = added said tables readings b t p (load_all held (appended said.catalog readings)) refl
     scripted said tables b t (Err fault) p = (_, no_readings b t p)
 
     loaded : (said : BookSaid) → OpensBook held book (Ok said)

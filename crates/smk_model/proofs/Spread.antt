@@ -41,7 +41,7 @@ congr (Text a) (Int b) z h = absurd (cc)
 congr (Text a) (Text b) (Int c) h = refl
 congr (Text a) (Text b) (Text c) h = nat_list_cmp_total.congr a b c h
 
-value_order : IsTotalOrder value_cmp
+pub value_order : IsTotalOrder value_cmp
 value_order = record { antisymm = antisymm; trans = trans; congr = congr }
 
 exact : (x y : Value) → value_cmp x y ≡ Equal → x ≡ y

@@ -21,9 +21,9 @@ use Rattle.smk_base.specs.declared.tree.Marks.{Marks}
 use Rattle.smk_base.specs.declared.tree.Then.{Then}
 use Rattle.smk_base.specs.declared.tree.Line.{Line}
 use Rattle.smk_base.specs.declared.tree.Line.TheVariants as lines
-use Rattle.smk_base.specs.Trees.{PredImage, TreeImage, StepImage, SelectNode, ProjectNode, DistinctNode, GroupNode, JoinNode, ThetaNode, ProductNode, UnionAllNode, UnionNode, StmtImage, TableNode, AskStepImage, AskImage, AnyLineImage, ProfiledLine}
+use Rattle.smk_base.specs.Trees.{PredImage, TreeImage, StepImage, SelectNode, ProjectNode, DistinctNode, GroupNode, JoinNode, ThetaNode, ProductNode, UnionAllNode, UnionNode, StmtImage, TableNode, AskStepImage, AskImage, AnyLineImage, ProfiledLine, AppendedLine}
 use Rattle.smk_model.specs.Tokens.{Token, head_of, int_value}
-use Rattle.smk_model.specs.Grammar.{First, IsName, name, IsColumn, number, string, IsFile, file, listed, IsType, int_type, text_type, IsDefault, no_default, default, IsDecl, decl, IsNamed, by_itself, by_as, IsWidth, width, IsItem, column_item, bin_item, IsWhat, count, sum, min, max, IsAgg, agg, AreKeys, no_keys, keys, AreAggs, no_aggs, aggs, IsPair, pair, IsOp, eq, ne, lt, le, gt, ge, IsTerm, column_term, literal_term, IsPrim, negated, bracketed, compared, IsConj, conj, AreAnds, no_and, one_and, IsPred, pred, AreOrs, no_or, one_or, IsPlan, plan, IsSource, scan, inner_plan, AreSteps, no_step, one_step, IsStep, where_step, project_step, distinct_step, group_step, join_step, theta_step, product_step, union_all_step, union_step, IsExtra, no_extra, by_extra, group_extra, table_stmt, view_stmt, back_stmt, fwd_stmt, link_stmt, depends_stmt, AreStmts, no_stmt, one_stmt, IsMark, mark, AreMarks, all_marks, listed_marks, IsThen, no_then, where_then, group_then, IsLine, show_line, back_line, fwd_line, brush_line, clear_line, clear_one_line, IsWholeLine, whole_line, HasOneInput, IsAskStep, ask_step, AreAskSteps, no_ask_step, one_ask_step, IsAskLine, ask_line, plain_line, asked_line, profiled_line, IsWholeAnyLine, whole_any_line}
+use Rattle.smk_model.specs.Grammar.{First, IsName, name, IsColumn, number, string, IsFile, file, listed, IsType, int_type, text_type, IsDefault, no_default, default, IsDecl, decl, IsNamed, by_itself, by_as, IsWidth, width, IsItem, column_item, bin_item, IsWhat, count, sum, min, max, IsAgg, agg, AreKeys, no_keys, keys, AreAggs, no_aggs, aggs, IsPair, pair, IsOp, eq, ne, lt, le, gt, ge, IsTerm, column_term, literal_term, IsPrim, negated, bracketed, compared, IsConj, conj, AreAnds, no_and, one_and, IsPred, pred, AreOrs, no_or, one_or, IsPlan, plan, IsSource, scan, inner_plan, AreSteps, no_step, one_step, IsStep, where_step, project_step, distinct_step, group_step, join_step, theta_step, product_step, union_all_step, union_step, IsExtra, no_extra, by_extra, group_extra, table_stmt, view_stmt, back_stmt, fwd_stmt, link_stmt, depends_stmt, AreStmts, no_stmt, one_stmt, IsMark, mark, AreMarks, all_marks, listed_marks, IsThen, no_then, where_then, group_then, IsLine, show_line, back_line, fwd_line, brush_line, clear_line, clear_one_line, IsWholeLine, whole_line, HasOneInput, IsAskStep, ask_step, AreAskSteps, no_ask_step, one_ask_step, IsAskLine, ask_line, plain_line, asked_line, profiled_line, appended_line, IsWholeAnyLine, whole_any_line}
 use Rattle.smk_model.specs.Machine.{Counts, Tally, Symbol, Skips, Outside, through, fault_in, book_symbols, any_symbols, no_counts, book_fault, line_fault, any_fault, is_mark, is_short, at_more, at_default, at_as, at_keys, at_aggs, at_ands, at_ors, at_steps, at_extra, at_then, at_cleared, at_line, at_any_line, step_symbols, ask_symbols, node_move, at_ask_steps, at_stmts, at_end, AToken, AName, AColumn, AWidth, AType, ADefault, AnAs, AWhat, AKeys, AnAggs, AFirst, AnItem, ALinked, MoreDecls, MoreItems, MoreKeys, MoreAggs, MorePairs, MoreLinked, ASource, ASteps, AStep, AUnited, APrim, AnAnds, AnOrs, AnOn, AnOp, ATerm, AStmts, AnExtra, ALine, ALineName, ALineColumn, AMarks, AMark, MoreMarks, AThen, AnEnd, AnyLine, AnAskStep, AskSteps}
 use Rattle.smk_model.specs.Limits.{Divides, KeepsItems, KeepsTree, KeepsStep, nodes, nodes_of_step, DefaultInRange, KeepsDecls, KeepsStmt, KeepsAskStep, is_table, is_view}
 use Rattle.smk_model.specs.GrammarLaws.{AtMostTooMany, TextsAreRead}
@@ -139,7 +139,7 @@ first_text k h = column_opens (λ c t. checked (nat_lt k 16) Columns tt (λ e. l
 linked_text : (k : ℕ) {a b : List Token} {w : Word} → IsName a b w → Reads (ALinked k ∷ []) a b
 linked_text k (name h) = opens h (λ c. limited _ Links tt (limited _ NameBytes tt (taken c))) nothing
 
-file_text : {a b : List Token} {n : List ℕ} → IsFile a b n → Reads (AToken kinds.Str ∷ []) a b
+file_text : {P : Type 0} {a b : List Token} {n : List ℕ} → IsFile a b n → Goes P 0 0 (Unit {0}) (AToken kinds.Str ∷ []) a b
 file_text (file h) = token_text h refl
 
 type_text : {a b : List Token} {x : Bool} → IsType a b x → Reads (AType ∷ []) a b
@@ -447,9 +447,13 @@ whole_ask_text p h = ahead (ask_text p (omega (arith, ranked h))) (passes (λ c.
 profiled : (a : List Token) (view : List ℕ) → IsWholeAnyLine a (ProfiledLine view) → any_fault a ≡ None
 profiled a _ (whole_any_line (profiled_line h w) k) = faultless (opens h (λ c. taken c) (line_name w)) k
 
+appended : (a : List Token) (table path : List ℕ) → IsWholeAnyLine a (AppendedLine table path) → any_fault a ≡ None
+appended a _ _ (whole_any_line (appended_line h w f) k) = faultless (opens h (λ c. taken c) (then_goes (line_name w) (file_text f))) k
+
 any : (a : List Token) (l : AnyLineImage) → IsWholeAnyLine a l → AtMostTooMany (any_fault a)
 any a l (whole_any_line (plain_line p) h) = subst AtMostTooMany (sym (plain a _ (whole_line p h))) tt
 any a _ (whole_any_line (profiled_line p w) h) = subst AtMostTooMany (sym (profiled a _ (whole_any_line (profiled_line p w) h))) tt
+any a _ (whole_any_line (appended_line p w f) h) = subst AtMostTooMany (sym (appended a _ _ (whole_any_line (appended_line p w f) h))) tt
 any a _ (whole_any_line {b = b} (asked_line {l = l} p) h) = by ((whole_ask_text p h).goes no_counts [])
   where
     by : Gets (Unit {0}) (Adds 0 (length l.steps) (Ranged a → All Keeps l.steps) no_counts) any_symbols [] no_counts a b → AtMostTooMany (any_fault a)
@@ -457,4 +461,4 @@ any a _ (whole_any_line {b = b} (asked_line {l = l} p) h) = by ((whole_ask_text 
     by (over p at what f) = subst AtMostTooMany (sym (ap fault_in f)) tt
 
 pub texts_are_read : TextsAreRead
-texts_are_read = record { book = book; line = line; any = any; plain = plain; profiled = profiled }
+texts_are_read = record { book = book; line = line; any = any; plain = plain; profiled = profiled; appended = appended }

@@ -20,9 +20,9 @@ use Rattle.smk_base.specs.declared.tree.Marks.TheVariants as markings
 use Rattle.smk_base.specs.declared.tree.Then.{Then}
 use Rattle.smk_base.specs.declared.tree.Line.{Line}
 use Rattle.smk_base.specs.declared.tree.Line.TheVariants as lines
-use Rattle.smk_base.specs.Trees.{PredImage, NotNode, TreeImage, ScanNode, StepImage, SelectNode, ProjectNode, DistinctNode, GroupNode, JoinNode, ThetaNode, ProductNode, UnionAllNode, UnionNode, StmtImage, TableNode, ViewNode, BackNode, FwdNode, LinkNode, DependsNode, AskStepImage, AskImage, AnyLineImage, PlainLine, AskedLine, ProfiledLine}
+use Rattle.smk_base.specs.Trees.{PredImage, NotNode, TreeImage, ScanNode, StepImage, SelectNode, ProjectNode, DistinctNode, GroupNode, JoinNode, ThetaNode, ProductNode, UnionAllNode, UnionNode, StmtImage, TableNode, ViewNode, BackNode, FwdNode, LinkNode, DependsNode, AskStepImage, AskImage, AnyLineImage, PlainLine, AskedLine, ProfiledLine, AppendedLine}
 use Rattle.smk_model.specs.Tokens.{Token, head_of, tail_of, int_value, string_value}
-use Rattle.smk_model.specs.Grammar.{First, plain_word, quoted_word, IsName, name, IsColumn, plain, quoted, IsLiteral, number, string, IsFile, file, AreMore, no_more, one_more, AreListed, listed, IsType, int_type, text_type, IsDefault, no_default, default, IsDecl, decl, IsNamed, by_itself, by_as, IsWidth, width, IsItem, column_item, bin_item, IsWhat, count, sum, min, max, IsAgg, agg, AreKeys, no_keys, keys, AreAggs, no_aggs, aggs, IsPair, pair, IsOp, eq, ne, lt, le, gt, ge, IsTerm, column_term, literal_term, IsPrim, negated, bracketed, compared, IsConj, conj, AreAnds, no_and, one_and, IsPred, pred, AreOrs, no_or, one_or, IsPlan, plan, IsSource, scan, inner_plan, AreSteps, no_step, one_step, IsStep, where_step, project_step, distinct_step, group_step, join_step, theta_step, product_step, union_all_step, union_step, IsExtra, no_extra, by_extra, group_extra, IsStmt, table_stmt, view_stmt, back_stmt, fwd_stmt, link_stmt, depends_stmt, AreStmts, no_stmt, one_stmt, IsMark, mark, AreMarks, all_marks, listed_marks, IsThen, no_then, where_then, group_then, IsLine, show_line, back_line, fwd_line, brush_line, clear_line, clear_one_line, IsWholeLine, whole_line, IsAskStep, ask_step, AreAskSteps, no_ask_step, one_ask_step, IsAskLine, ask_line, IsAnyLine, plain_line, asked_line, profiled_line, IsWholeAnyLine, whole_any_line}
+use Rattle.smk_model.specs.Grammar.{First, plain_word, quoted_word, IsName, name, IsColumn, plain, quoted, IsLiteral, number, string, IsFile, file, AreMore, no_more, one_more, AreListed, listed, IsType, int_type, text_type, IsDefault, no_default, default, IsDecl, decl, IsNamed, by_itself, by_as, IsWidth, width, IsItem, column_item, bin_item, IsWhat, count, sum, min, max, IsAgg, agg, AreKeys, no_keys, keys, AreAggs, no_aggs, aggs, IsPair, pair, IsOp, eq, ne, lt, le, gt, ge, IsTerm, column_term, literal_term, IsPrim, negated, bracketed, compared, IsConj, conj, AreAnds, no_and, one_and, IsPred, pred, AreOrs, no_or, one_or, IsPlan, plan, IsSource, scan, inner_plan, AreSteps, no_step, one_step, IsStep, where_step, project_step, distinct_step, group_step, join_step, theta_step, product_step, union_all_step, union_step, IsExtra, no_extra, by_extra, group_extra, IsStmt, table_stmt, view_stmt, back_stmt, fwd_stmt, link_stmt, depends_stmt, AreStmts, no_stmt, one_stmt, IsMark, mark, AreMarks, all_marks, listed_marks, IsThen, no_then, where_then, group_then, IsLine, show_line, back_line, fwd_line, brush_line, clear_line, clear_one_line, IsWholeLine, whole_line, IsAskStep, ask_step, AreAskSteps, no_ask_step, one_ask_step, IsAskLine, ask_line, IsAnyLine, plain_line, asked_line, profiled_line, appended_line, IsWholeAnyLine, whole_any_line}
 
 -- how strongly a token continues what stands before it
 abbrev pub rank : TokenKind → ℕ
@@ -481,10 +481,24 @@ ask_line_at e (ask_line h0 h1 h2 h3 h4 h5 h6 h7 h8) (ask_line k0 k1 k2 k3 k4 k5 
     let r4 = same_at r3.1 h4 k4 in let r5 = one_name r4.2 h5 k5 in let r6 = same_at r5.1 h6 k6 in let r7 = one_ask_step_at r6.2 h7 k7 (ask_steps_rank h8 n) (ask_steps_rank k8 m) in
     let r8 = ask_steps_at r7.1 h8 k8 n m in (cc, r8.1)
 
+-- the keyword that a line of any kind begins with
+abbrev any_opener : AnyLineImage → TokenKind
+any_opener (PlainLine l) = opener l
+any_opener (AskedLine l) = kinds.Ask
+any_opener (ProfiledLine view) = kinds.Fd
+any_opener (AppendedLine table path) = kinds.Append
+
+any_opening : {a b : List Token} {x : AnyLineImage} → IsAnyLine a b x → (head_of a).kind ≡ any_opener x
+any_opening (plain_line p) = opening p
+any_opening (asked_line (ask_line h h1 h2 h3 h4 h5 h6 h7 h8)) = first_kind h
+any_opening (profiled_line h h1) = first_kind h
+any_opening (appended_line h h1 h2) = first_kind h
+
 -- whether a line that the session answers by itself may begin with this keyword
 abbrev opens_plain : TokenKind → Bool
 opens_plain kinds.Ask = false
 opens_plain kinds.Fd = false
+opens_plain kinds.Append = false
 opens_plain _ = true
 
 plain_opens : (l : Line) → opens_plain (opener l) ≡ true
@@ -498,22 +512,14 @@ plain_opens (lines.ClearOne view table) = refl
 not_plain : {a a' b : List Token} {l : Line} → a ≡ a' → IsLine a b l → opens_plain (head_of a').kind ≡ false → ⊥
 not_plain {l = l} e p f = let r = sym (plain_opens l) ∙ ap opens_plain (sym (opening p) ∙ ap (λ l. (head_of l).kind) e) ∙ f in absurd (cc)
 
-ask_opening : {a b : List Token} {x : AskImage} → IsAskLine a b x → (head_of a).kind ≡ kinds.Ask
-ask_opening (ask_line h h1 h2 h3 h4 h5 h6 h7 h8) = first_kind h
-
-not_profiled : {a a' b c : List Token} {x : AskImage} {t : Token} → a ≡ a' → IsAskLine a b x → First kinds.Fd t a' c → ⊥
-not_profiled e p h = let r = sym (ask_opening p) ∙ ap (λ l. (head_of l).kind) e ∙ first_kind h in absurd (cc)
-
 any_line_at : {a a' b c : List Token} {x y : AnyLineImage} → a ≡ a' → IsAnyLine a b x → IsAnyLine a' c y → 8 ≤ rank_of b → 8 ≤ rank_of c → x ≡ y
 any_line_at e (plain_line p) (plain_line q) n m = ap PlainLine (one_line_at e p q n m).0
-any_line_at e (plain_line p) (asked_line q) n m = absurd (not_plain e p (ap opens_plain (ask_opening q)))
-any_line_at e (asked_line p) (plain_line q) n m = absurd (not_plain (sym e) q (ap opens_plain (ask_opening p)))
-any_line_at e (plain_line p) (profiled_line k0 k1) n m = absurd (not_plain e p (ap opens_plain (first_kind k0)))
-any_line_at e (profiled_line h0 h1) (plain_line q) n m = absurd (not_plain (sym e) q (ap opens_plain (first_kind h0)))
-any_line_at e (asked_line p) (profiled_line k0 k1) n m = absurd (not_profiled e p k0)
-any_line_at e (profiled_line h0 h1) (asked_line q) n m = absurd (not_profiled (sym e) q h0)
-any_line_at e (profiled_line h0 h1) (profiled_line k0 k1) n m = let r0 = same_at e h0 k0 in ap (λ w. ProfiledLine w.name) (one_name r0.2 h1 k1).0
 any_line_at e (asked_line p) (asked_line q) n m = ap AskedLine (ask_line_at e p q (omega (arith, n)) (omega (arith, m))).0
+any_line_at e (profiled_line h0 h1) (profiled_line k0 k1) n m = let r0 = same_at e h0 k0 in ap (λ w. ProfiledLine w.name) (one_name r0.2 h1 k1).0
+any_line_at e (appended_line h0 h1 h2) (appended_line k0 k1 k2) n m = let r0 = same_at e h0 k0 in let r1 = one_name r0.2 h1 k1 in let r2 = one_file r1.1 h2 k2 in cc
+any_line_at e (plain_line p) q n m = absurd (not_plain e p (ap opens_plain (any_opening q)))
+any_line_at e p (plain_line q) n m = absurd (not_plain (sym e) q (ap opens_plain (any_opening p)))
+any_line_at e p q n m = let r = sym (any_opening p) ∙ ap (λ l. (head_of l).kind) e ∙ any_opening q in absurd (cc)
 
 pub one_any_line : (a : List Token) (l u : AnyLineImage) → IsWholeAnyLine a l → IsWholeAnyLine a u → l ≡ u
 one_any_line a l u (whole_any_line p h) (whole_any_line q k) = any_line_at refl p q (omega (arith, ranked h)) (omega (arith, ranked k))

@@ -69,4 +69,4 @@ DemosAreWithin = (n : ℕ) → n ≤ 200000 → first_view_fault (demo_workbook 
 
 -- words that call for a demo have its report, whatever the files hold
 abbrev pub DemosAreReported : Type 0
-DemosAreReported = (words : List (List ℕ)) (held : Held) (n : ℕ) → words_of words ≡ Some (Demo n) → Outcome words held (Ok (report_of (demo_workbook n) [] demo_readings))
+DemosAreReported = (words : List (List ℕ)) (held : Held) (n : ℕ) → words_of words ≡ Some (Demo n) → Outcome words held (Ok (report_of (demo_workbook n) [] [] demo_readings))

@@ -24,7 +24,7 @@ use Rattle.smk_base.specs.declared.tree.Then.{Then}
 use Rattle.smk_base.specs.declared.tree.Then.TheVariants as thens
 use Rattle.smk_base.specs.declared.tree.Line.{Line}
 use Rattle.smk_base.specs.declared.tree.Line.TheVariants as lines
-use Rattle.smk_base.specs.Trees.{PredImage, CompareNode, AndNode, OrNode, NotNode, TreeImage, ScanNode, StepNode, StepImage, SelectNode, ProjectNode, DistinctNode, GroupNode, JoinNode, ThetaNode, ProductNode, UnionAllNode, UnionNode, StmtImage, TableNode, ViewNode, BackNode, FwdNode, LinkNode, DependsNode, AskStepImage, AskImage, AnyLineImage, PlainLine, AskedLine, ProfiledLine}
+use Rattle.smk_base.specs.Trees.{PredImage, CompareNode, AndNode, OrNode, NotNode, TreeImage, ScanNode, StepNode, StepImage, SelectNode, ProjectNode, DistinctNode, GroupNode, JoinNode, ThetaNode, ProductNode, UnionAllNode, UnionNode, StmtImage, TableNode, ViewNode, BackNode, FwdNode, LinkNode, DependsNode, AskStepImage, AskImage, AnyLineImage, PlainLine, AskedLine, ProfiledLine, AppendedLine}
 use Rattle.smk_model.specs.Tokens.{Token, inner, int_value, string_value}
 
 -- a is this token of this kind, and then b
@@ -255,6 +255,7 @@ pub data IsAnyLine : List Token → List Token → AnyLineImage → Type 0 where
   plain_line : {a b : List Token} {l : Line} → IsLine a b l → IsAnyLine a b (PlainLine l)
   asked_line : {a b : List Token} {l : AskImage} → IsAskLine a b l → IsAnyLine a b (AskedLine l)
   profiled_line : {a b c : List Token} {t : Token} {w : Word} → First kinds.Fd t a b → IsName b c w → IsAnyLine a c (ProfiledLine w.name)
+  appended_line : {a b c d : List Token} {t : Token} {w : Word} {n : List ℕ} → First kinds.Append t a b → IsName b c w → IsFile c d n → IsAnyLine a d (AppendedLine w.name n)
 
 -- a line of any kind, up to the end
 pub data IsWholeAnyLine : List Token → AnyLineImage → Type 0 where

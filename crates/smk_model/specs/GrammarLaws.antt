@@ -4,7 +4,7 @@ use Rattle.smk_base.specs.declared.token.TokenKind.TheVariants.{End}
 use Rattle.smk_base.specs.declared.fault.BookFault.{BookFault}
 use Rattle.smk_base.specs.declared.fault.BookFault.TheVariants.{BadToken, Unexpected, TooMany, BadNumber, NoMemory}
 use Rattle.smk_base.specs.declared.tree.Line.{Line}
-use Rattle.smk_base.specs.Trees.{StmtImage, AskImage, AnyLineImage, AskedLine, ProfiledLine}
+use Rattle.smk_base.specs.Trees.{StmtImage, AskImage, AnyLineImage, AskedLine, ProfiledLine, AppendedLine}
 use Rattle.smk_model.specs.Tokens.{Token, tokens}
 use Rattle.smk_model.specs.Grammar.{AreStmts, IsWholeLine, IsWholeAnyLine}
 use Rattle.smk_model.specs.Limits.{KeepsLimits, KeepsAsk}
@@ -26,6 +26,7 @@ pub record TextsAreRead : Type 0 where
   pub any : (ts : List Token) (l : AnyLineImage) → IsWholeAnyLine ts l → AtMostTooMany (any_fault ts)
   pub plain : (ts : List Token) (l : Line) → IsWholeLine ts l → any_fault ts ≡ None
   pub profiled : (ts : List Token) (view : List ℕ) → IsWholeAnyLine ts (ProfiledLine view) → any_fault ts ≡ None
+  pub appended : (ts : List Token) (table file : List ℕ) → IsWholeAnyLine ts (AppendedLine table file) → any_fault ts ≡ None
 
 -- the fault is at this place
 abbrev pub IsAt : ℕ → BookFault → Type 0

@@ -62,3 +62,11 @@ pub mod Tables
 pub mod Selection
 pub mod NodeFaults
 pub mod Workload
+pub mod Growth
+pub mod Appends
+pub mod ViewTexts
+pub mod AppendTexts
+pub mod GrowthLaws
+pub mod GrowthExamples
+pub mod AppendExamples
+pub mod AppendLaws

@@ -260,6 +260,7 @@ at_cleared c _ = Skips
 abbrev pub at_any_line : Counts → TokenKind → Move
 at_any_line c kinds.Ask = Takes c (AToken kinds.Back ∷ ALineName ∷ AMarks ∷ AToken kinds.To ∷ ALineName ∷ AToken kinds.Bar ∷ AnAskStep ∷ AskSteps ∷ [])
 at_any_line c kinds.Fd = Takes c (ALineName ∷ [])
+at_any_line c kinds.Append = Takes c (ALineName ∷ AToken kinds.Str ∷ [])
 at_any_line c kind = at_line c kind
 
 -- what follows the keyword of a step with one input

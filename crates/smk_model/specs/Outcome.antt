@@ -1,10 +1,10 @@
 -- The outcome of a run, by its words and by what the files hold: its report, or its first fault.
 use Rattle.std.specs.Prelude.{◌≡◌, ◌⊎◌, ⊤, ℕ, ◌+◌, cond, nat_lt, nat_eq, List, [], ◌∷◌, ◌++◌, length, map, slice_index_or, Option, Some, None, option_map, Result, Ok, Err}
 use Rattle.std.specs.Option.{ok_or}
-use Rattle.std.specs.List.{find}
+use Rattle.std.specs.List.{find, filter_map}
 use Rattle.std.specs.Cmp.Lexicographic.{pointwise}
 use Rattle.smk_base.specs.Marks.{after_marks}
-use Rattle.smk_base.specs.Trees.{StmtImage}
+use Rattle.smk_base.specs.Trees.{StmtImage, AnyLineImage, PlainLine, AskedLine, ProfiledLine, AppendedLine}
 use Rattle.smk_base.specs.CatalogImage.{CatalogImage}
 use Rattle.smk_base.specs.declared.catalog.TableInfo.{TableInfo}
 use Rattle.smk_base.specs.declared.col_decl.ColDecl.{ColDecl}
@@ -26,7 +26,8 @@ use Rattle.smk_model.specs.Names.{Typed, ◌>>=◌}
 use Rattle.smk_model.specs.Typing.{types}
 use Rattle.smk_model.specs.Expanded.{expanded, dependency_names}
 use Rattle.smk_model.specs.Tables.{table_of, all_or_first}
-use Rattle.smk_model.specs.Readings.{Reading, AreReadingsOf}
+use Rattle.smk_model.specs.Readings.{Reading, Nothing, Asks, Unread as NotRead, AreReadingsOf}
+use Rattle.smk_model.specs.ReplyTexts.{table_named}
 use Rattle.smk_model.specs.Session.{Workbook}
 use Rattle.smk_model.specs.Opening.{ViewFault, first_view_fault, fault_named}
 use Rattle.smk_model.specs.Looks.{start_looks}
@@ -114,21 +115,44 @@ pub data OpensScript (held : Held) : Option (List ℕ) → Result (List Reading)
   no_script : OpensScript held None (Ok [])
   a_script : {name : List ℕ} {answer : Result (List Reading) Fault} → FileSays held name ScriptSays answer → OpensScript held (Some name) answer
 
--- a run's workbook, the names of its book's dependencies, and its readings
+-- a table of a book, whose rows are those of another file
+abbrev pub filed : List ℕ → TableInfo → TableInfo
+filed file table = record { name = table.name; file = file; cols = table.cols }
+
+-- the table that a line appends to, with the file of the line, where the book has the table
+abbrev pub appended_by : CatalogImage → AnyLineImage → Option TableInfo
+appended_by catalog (PlainLine asked) = None
+appended_by catalog (AskedLine asked) = None
+appended_by catalog (ProfiledLine view) = None
+appended_by catalog (AppendedLine table file) = option_map (filed file) (table_named catalog table)
+
+abbrev pub appended_at : CatalogImage → Reading → Option TableInfo
+appended_at catalog Nothing = None
+appended_at catalog (Asks asked) = appended_by catalog asked
+appended_at catalog (NotRead at) = None
+
+-- those of all lines, line by line
+abbrev pub appended : CatalogImage → List Reading → List TableInfo
+appended catalog readings = filter_map (appended_at catalog) readings
+
+-- a run's workbook, the names of its book's dependencies, its readings, and the rows that its lines bring, in the order of the lines
 pub record Inputs : Type 0 where
   pub book : Workbook
   pub fds : List (List ℕ)
   pub readings : List Reading
+  pub added : List (List Row)
 
--- what is read under these names of a book and a script, or the first fault: the book; the tables in the book's order; the script
+-- what is read under these names of a book and a script, or the first fault: the book; the tables in the book's order; the script; the files that its lines append, line by line
 pub data ReadsFiles (held : Held) (book : List ℕ) (script : Option (List ℕ)) : Result Inputs Fault → Type 0 where
   no_book : {fault : Fault} → OpensBook held book (Err fault) → ReadsFiles held book script (Err fault)
   no_tables : {said : BookSaid} {fault : Fault} → OpensBook held book (Ok said) → load_all held said.catalog.tables ≡ Err fault → ReadsFiles held book script (Err fault)
   no_readings : {said : BookSaid} {tables : List (List Row)} {fault : Fault} → OpensBook held book (Ok said)
       → load_all held said.catalog.tables ≡ Ok tables → OpensScript held script (Err fault) → ReadsFiles held book script (Err fault)
-  inputs : {said : BookSaid} {tables : List (List Row)} {readings : List Reading} → OpensBook held book (Ok said)
-      → load_all held said.catalog.tables ≡ Ok tables → OpensScript held script (Ok readings)
-      → ReadsFiles held book script (Ok (record { book = record { catalog = said.catalog; tables = tables }; fds = said.fds; readings = readings }))
+  no_rows : {said : BookSaid} {tables : List (List Row)} {readings : List Reading} {fault : Fault} → OpensBook held book (Ok said)
+      → load_all held said.catalog.tables ≡ Ok tables → OpensScript held script (Ok readings) → load_all held (appended said.catalog readings) ≡ Err fault → ReadsFiles held book script (Err fault)
+  inputs : {said : BookSaid} {tables : List (List Row)} {readings : List Reading} {added : List (List Row)} → OpensBook held book (Ok said)
+      → load_all held said.catalog.tables ≡ Ok tables → OpensScript held script (Ok readings) → load_all held (appended said.catalog readings) ≡ Ok added
+      → ReadsFiles held book script (Ok (record { book = record { catalog = said.catalog; tables = tables }; fds = said.fds; readings = readings; added = added }))
 
 -- the bytes of the first of these files with a name
 abbrev pub file_named : List DemoFile → Held
@@ -162,14 +186,14 @@ pub data ReadsInputs (words : List (List ℕ)) (held : Held) : Result Inputs Fau
 -- the report of what was read, unless a node of a view has too many rows, or too many pairs with a table that the view needs
 abbrev pub unless_view_fault : Inputs → Option ViewFault → Result Report Fault
 unless_view_fault given (Some found) = Err (fault_named given.book.catalog found)
-unless_view_fault given None = Ok (report_of given.book given.fds given.readings)
+unless_view_fault given None = Ok (report_of given.book given.fds given.added given.readings)
 
 abbrev pub reported : Inputs → Result Report Fault
 reported given = unless_view_fault given (first_view_fault given.book)
 
 -- the most looks of a run that reads this
 abbrev pub run_looks : Inputs → ℕ
-run_looks given = start_looks given.book + (script_told given.book given.fds given.readings).looks
+run_looks given = start_looks given.book + (script_told given.book given.fds given.added given.readings).looks
 
 -- the outcome of a run: its report or the first fault
 pub data Outcome (words : List (List ℕ)) (held : Held) : Result Report Fault → Type 0 where
@@ -192,6 +216,9 @@ pub data IsAskedFor (held : Held) (book : List ℕ) (script : Option (List ℕ))
       → said.catalog.tables ≡ before ++ table ∷ behind → load_all held before ≡ Ok tables → IsAskedFor held book script table.file
   the_script : {said : BookSaid} {tables : List (List Row)} {name : List ℕ} → OpensBook held book (Ok said)
       → load_all held said.catalog.tables ≡ Ok tables → script ≡ Some name → IsAskedFor held book script name
+  of_a_line : {said : BookSaid} {tables added : List (List Row)} {readings : List Reading} (before : List TableInfo) (table : TableInfo) (behind : List TableInfo) → OpensBook held book (Ok said)
+      → load_all held said.catalog.tables ≡ Ok tables → OpensScript held script (Ok readings)
+      → appended said.catalog readings ≡ before ++ table ∷ behind → load_all held before ≡ Ok added → IsAskedFor held book script table.file
 
 -- a fault that a read may say since it failed: that a file can't be read which is read where no fault was met before
 abbrev pub NamesAsked : Held → List ℕ → Option (List ℕ) → Fault → Type 0

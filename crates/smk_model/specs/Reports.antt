@@ -1,13 +1,12 @@
 -- The report of a run: the texts of the views in the book's order, then those of the lines, one after the other.
-use Rattle.std.specs.Prelude.{ℕ, ◌+◌, Bool, ◌||◌, cond, nat_lt, List, [], ◌∷◌, ◌++◌, length, map}
-use Rattle.std.specs.List.{flat_map}
-use Rattle.smk_base.specs.CatalogImage.{CatalogImage, ViewImage}
+use Rattle.std.specs.Prelude.{ℕ, ◌+◌, Bool, true, false, ◌||◌, cond, nat_lt, List, [], ◌∷◌, ◌++◌, length, map, is_some}
+use Rattle.smk_base.specs.CatalogImage.{CatalogImage, ViewImage, table_place}
 use Rattle.smk_base.specs.declared.tree.Line.{Line}
-use Rattle.smk_base.specs.Trees.{AskImage, AnyLineImage, PlainLine, AskedLine, ProfiledLine}
+use Rattle.smk_base.specs.Trees.{AskImage, AnyLineImage, PlainLine, AskedLine, ProfiledLine, AppendedLine}
 use Rattle.smk_base.specs.declared.size.Size.{Size}
 use Rattle.smk_model.specs.Values.{Row}
-use Rattle.smk_model.specs.Plain.{rows_over}
-use Rattle.smk_model.specs.Texts.{view_text, bad_line_text}
+use Rattle.smk_model.specs.Texts.{bad_line_text}
+use Rattle.smk_model.specs.ViewTexts.{view_rows, views_text}
 use Rattle.smk_model.specs.ReplyTexts.{reply_text}
 use Rattle.smk_model.specs.Readings.{Reading, Nothing, Asks, Unread}
 use Rattle.smk_model.specs.Session.{Workbook, State, first_state}
@@ -17,6 +16,8 @@ use Rattle.smk_model.specs.Asks.{ask_reply, ask_looks, is_ask_refused}
 use Rattle.smk_model.specs.AskTexts.{ask_text}
 use Rattle.smk_model.specs.Profiles.{profile_reply, profile_looks, is_profile_refused}
 use Rattle.smk_model.specs.ProfileTexts.{profile_text}
+use Rattle.smk_model.specs.Appends.{Turn, append_turn, append_looks, is_append_refused}
+use Rattle.smk_model.specs.AppendTexts.{append_text}
 
 -- what a book says: its catalog, and the names of its dependencies in order, which are those of the views that show them
 pub record BookSaid : Type 0 where
@@ -76,36 +77,71 @@ profile_answered said state view = record {
   next = state;
 }
 
--- a line of any kind
-abbrev pub answered : BookSaid → State → AnyLineImage → Answered
-answered said state (PlainLine asked) = plain_answered said.catalog state asked
-answered said state (AskedLine asked) = ask_answered said.catalog state asked
-answered said state (ProfiledLine view) = profile_answered said state view
+abbrev pub turn_answered : CatalogImage → List ℕ → Turn → ℕ → Answered
+turn_answered catalog table turn looks = record {
+  text = append_text (record { catalog = catalog; tables = turn.next.tables }) table turn.reply;
+  refused = is_append_refused turn.reply;
+  looks = looks;
+  next = turn.next;
+}
+
+abbrev pub append_answered : CatalogImage → State → List ℕ → List Row → Answered
+append_answered catalog state table more = turn_answered catalog table (append_turn catalog state table more) (append_looks catalog state table more)
+
+-- a line of any kind; one that appends brings the rows of its file
+abbrev pub answered : BookSaid → State → List Row → AnyLineImage → Answered
+answered said state more (PlainLine asked) = plain_answered said.catalog state asked
+answered said state more (AskedLine asked) = ask_answered said.catalog state asked
+answered said state more (ProfiledLine view) = profile_answered said state view
+answered said state more (AppendedLine table file) = append_answered said.catalog state table more
 
 -- what is told of a line that is answered
 abbrev pub answer_told : Answered → Told
 answer_told line = record { text = line.text; replies = 1; refused = cond line.refused 1 0; unread = 0; looks = line.looks }
 
+-- whether a line brings the rows of a file: it appends to a table of the book
+abbrev pub appends : CatalogImage → AnyLineImage → Bool
+appends catalog (PlainLine asked) = false
+appends catalog (AskedLine asked) = false
+appends catalog (ProfiledLine view) = false
+appends catalog (AppendedLine table file) = is_some (table_place catalog table)
+
+abbrev pub brings_rows : CatalogImage → Reading → Bool
+brings_rows catalog Nothing = false
+brings_rows catalog (Asks asked) = appends catalog asked
+brings_rows catalog (Unread at) = false
+
+-- of the rows that lines bring, in the order of the lines: those of the next line that brings any, and those that are left behind a line
+abbrev pub next_rows : List (List Row) → List Row
+next_rows [] = []
+next_rows (rows ∷ more) = rows
+
+abbrev pub rows_left : Bool → List (List Row) → List (List Row)
+rows_left true (rows ∷ more) = more
+rows_left true [] = []
+rows_left false added = added
+
 -- what the line with a number comes to in a state, and the state after it; a line that says nothing has no text
-abbrev pub line_told : BookSaid → State → ℕ → Reading → Told
-line_told said state number Nothing = nothing_told
-line_told said state number (Asks asked) = answer_told (answered said state asked)
-line_told said state number (Unread at) = record { text = bad_line_text number at; replies = 0; refused = 0; unread = 1; looks = 0 }
+abbrev pub line_told : BookSaid → State → ℕ → List Row → Reading → Told
+line_told said state number more Nothing = nothing_told
+line_told said state number more (Asks asked) = answer_told (answered said state more asked)
+line_told said state number more (Unread at) = record { text = bad_line_text number at; replies = 0; refused = 0; unread = 1; looks = 0 }
 
-abbrev pub state_after : BookSaid → State → Reading → State
-state_after said state Nothing = state
-state_after said state (Asks asked) = (answered said state asked).next
-state_after said state (Unread at) = state
+abbrev pub state_after : BookSaid → State → List Row → Reading → State
+state_after said state more Nothing = state
+state_after said state more (Asks asked) = (answered said state more asked).next
+state_after said state more (Unread at) = state
 
--- the walk over the lines from a state on, numbered from a number on
-abbrev pub lines_told : BookSaid → State → ℕ → List Reading → Told
-lines_told said state number [] = nothing_told
-lines_told said state number (reading ∷ readings) =
-    followed_by (line_told said state number reading) (lines_told said (state_after said state reading) (number + 1) readings)
+-- the walk over the lines from a state on, numbered from a number on, with the rows that they bring
+abbrev pub lines_told : BookSaid → State → ℕ → List (List Row) → List Reading → Told
+lines_told said state number added [] = nothing_told
+lines_told said state number added (reading ∷ readings) =
+    followed_by (line_told said state number (next_rows added) reading)
+    (lines_told said (state_after said state (next_rows added) reading) (number + 1) (rows_left (brings_rows said.catalog reading) added) readings)
 
--- lines are numbered from 1, and the first meets no brush; the names are those of the book's dependencies
-abbrev pub script_told : Workbook → List (List ℕ) → List Reading → Told
-script_told book fds readings = lines_told (record { catalog = book.catalog; fds = fds }) (first_state book) 1 readings
+-- lines are numbered from 1, and the first meets no brush and the tables as they were read; the names are those of the book's dependencies
+abbrev pub script_told : Workbook → List (List ℕ) → List (List Row) → List Reading → Told
+script_told book fds added readings = lines_told (record { catalog = book.catalog; fds = fds }) (first_state book) 1 added readings
 
 -- what a run writes, and what is told of it
 pub record Report : Type 0 where
@@ -115,18 +151,9 @@ pub record Report : Type 0 where
   pub unread : ℕ
   pub text : List ℕ
 
--- the rows of a view as it is first evaluated, their number and their text
-abbrev pub view_rows : Workbook → ViewImage → List Row
-view_rows book view = rows_over view.plan book.tables
-
+-- how many rows a view has as it is first evaluated
 abbrev pub size_of_view : Workbook → ViewImage → Size
 size_of_view book view = record { name = view.name; rows = length (view_rows book view) }
-
-abbrev pub text_of_view : Workbook → ViewImage → List ℕ
-text_of_view book view = view_text view.name view.names (view_rows book view)
-
-abbrev pub views_text : Workbook → List ℕ
-views_text book = flat_map (text_of_view book) book.catalog.views
 
 -- the report of what the lines come to
 abbrev pub report_told : Workbook → Told → Report
@@ -138,8 +165,8 @@ report_told book told = record {
   text = views_text book ++ told.text;
 }
 
-abbrev pub report_of : Workbook → List (List ℕ) → List Reading → Report
-report_of book fds readings = report_told book (script_told book fds readings)
+abbrev pub report_of : Workbook → List (List ℕ) → List (List Row) → List Reading → Report
+report_of book fds added readings = report_told book (script_told book fds added readings)
 
 -- whether a line of a report is refused or unread
 abbrev pub is_turned_down : Report → Bool

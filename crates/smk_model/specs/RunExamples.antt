@@ -76,20 +76,20 @@ small_text =
     ++ codes "line 7 not read at byte 3\nview w 2\nrow,a\n0,5\n1,-3\nback v to t 2\nrid,a\n1,10\n3,40\n"
 
 pub record RunsHold : Type 0 where
-  pub whole : report_of small_book [] small_script ≡ record {
+  pub whole : report_of small_book [] [] small_script ≡ record {
     sizes = record { name = codes "v"; rows = 2 } ∷ record { name = codes "w"; rows = 2 } ∷ [];
     replies = 7;
     refused = 4;
     unread = 1;
     text = small_text;
   }
-  pub turned_down : is_turned_down (report_of small_book [] small_script) ≡ true
-  pub nothing_turned_down : is_turned_down (report_of small_book [] (Nothing ∷ plain_reading (lines.Show (codes "v")) ∷ [])) ≡ false
+  pub turned_down : is_turned_down (report_of small_book [] [] small_script) ≡ true
+  pub nothing_turned_down : is_turned_down (report_of small_book [] [] (Nothing ∷ plain_reading (lines.Show (codes "v")) ∷ [])) ≡ false
   pub first_v : first_content small_catalog (first_state small_book) 0 ≡ int_row 10 ∷ int_row 40 ∷ []
   pub first_w : first_content small_catalog (first_state small_book) 1 ≡ int_row 5 ∷ (Int (negsuc 2) ∷ []) ∷ []
   pub no_fault : first_view_fault small_book ≡ None
   pub looks_at_start : start_looks small_book ≡ 8
-  pub looks_of_lines : (script_told small_book [] small_script).looks ≡ 4
+  pub looks_of_lines : (script_told small_book [] [] small_script).looks ≡ 4
   pub too_many_of_a_view : named_fault small_catalog (codes "v") (FullRows 1) ≡ ViewRows (codes "v") 1
   pub too_many_pairs : named_fault small_catalog (codes "v") (FullPairs 1 0) ≡ ViewPairs (codes "v") 1 (codes "t")
   pub loaded : load_all (held_as (codes "a\n5\n10\n-3\n40\n")) small_catalog.tables ≡ Ok small_book.tables

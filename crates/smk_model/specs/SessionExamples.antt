@@ -62,10 +62,10 @@ abbrev pub sales_book : Workbook
 sales_book = record { catalog = sales_catalog; tables = tables }
 
 abbrev pub told : List Line → Told
-told asked = script_told sales_book [] (map plain_reading asked)
+told asked = script_told sales_book [] [] (map plain_reading asked)
 
 abbrev pub ask_told : List AskImage → Told
-ask_told asked = script_told sales_book [] (map (λ ask. Asks (AskedLine ask)) asked)
+ask_told asked = script_told sales_book [] [] (map (λ ask. Asks (AskedLine ask)) asked)
 
 abbrev pub at : List ℕ → Marks
 at marks = markings.Listed marks

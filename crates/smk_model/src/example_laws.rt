@@ -1,9 +1,11 @@
 //! Small examples worked by hand, which the definitions compute. Each is an empty function whose contract has the example's values.
 
+ghost use Rattle.smk_model.specs.AppendExamples.{AppendsHold};
 ghost use Rattle.smk_model.specs.BookExamples.{BooksHold};
 ghost use Rattle.smk_model.specs.DemoExamples.{DemosHold};
 ghost use Rattle.smk_model.specs.Examples.{ExamplesHold};
 ghost use Rattle.smk_model.specs.ExpandedExamples.{DependenciesAreRead, DependenciesAreTyped};
+ghost use Rattle.smk_model.specs.GrowthExamples.{ExampleGrows};
 ghost use Rattle.smk_model.specs.LineExamples.{LinesHold, AskLinesHold};
 ghost use Rattle.smk_model.specs.RunExamples.{RunsHold};
 ghost use Rattle.smk_model.specs.SessionExamples.{SessionsHold};
@@ -12,6 +14,11 @@ ghost use Rattle.smk_model.specs.TypingExamples.{TypingsHold};
 /// The rows of six views over two tables, the rids that they come from, and the lists of one step.
 pub fn examples_hold()
     ensures { ExamplesHold }
+{}
+
+/// The groups of a table of two rows to which two more come, and the lists between these rows and the groups.
+pub fn example_grows()
+    ensures { ExampleGrows }
 {}
 
 /// The trees of lines, and the places at which texts leave the grammar.
@@ -57,6 +64,12 @@ pub fn runs_hold()
 /// What sessions answer over the same tables: backward and forward queries, splits and groupings, steps over backward answers, and brushes one after the other.
 pub fn sessions_hold()
     ensures { SessionsHold }
+{}
+
+/// The tree of an `append` line, the places at which texts leave its grammar, and a run over a table that grows.
+#[tactic(auto, using(crate::proofs::AppendExamples::appends))]
+pub fn appends_hold()
+    ensures { AppendsHold }
 {}
 
 /// The files of the demo of one flight, and the summary of a small report.

@@ -1,18 +1,23 @@
 //! All laws, by name.
 
+pub use crate::append_laws::{appends_begin_anew, appends_fit, refused_appends_stay};
 pub use crate::ask_laws::{asked_backs_fit, asks_fit, chains_add_no_rows, chains_are_small};
 pub use crate::class_laws::{bulk, classes_are};
 pub use crate::composed_laws::{
     backs_compose, forwards_compose, leaves_split, lists_stand, merged_has_both,
 };
 pub use crate::direction_laws::{inverses, one_each, pairs_forward};
-pub use crate::example_laws::{examples_hold, runs_hold, sessions_hold};
+pub use crate::example_laws::{example_grows, examples_hold, runs_hold, sessions_hold};
 pub use crate::expanded_laws::expanded_stands;
 pub use crate::fault_laws::{first_of_all, nothing_asked};
 pub use crate::fd_laws::{dependencies_answered, fd_law, profiles_fit};
 pub use crate::grammar_laws::{
     faultless_asks_keep_limits, faultless_have_trees, faultless_keep_limits, faults_stay,
     one_any_line, one_book, one_line, taken_are_completed, texts_are_read,
+};
+pub use crate::growth_laws::{
+    chain_grows, group_grows, groups_regroup, growing_is_thin, growing_never_full,
+    regroups_by_place, unscanned_stays,
 };
 pub use crate::lineage_laws::{
     answers_are_places, bin_is_floor, cui_widom, rows_agree, selection_lineage, step_by_step,

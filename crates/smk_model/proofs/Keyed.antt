@@ -1,0 +1,106 @@
+-- The places and the rows of one key.
+use Rattle.std.proofs.Common.{◌≡◌, ℕ, zero, suc, ◌<◌, Bool, not, take, arith, true, false, List, [], ◌∷◌, ◌++◌, length, map, refl, ap, sym, ◌∙◌, nat_eq, inl, inr}
+use Rattle.std.specs.List.{list_any, filter}
+use Rattle.std.proofs.lemmas.List.{get_or-map, length-map, map-append, get_or-take, length-take}
+use Rattle.std.proofs.lemmas.List.Elements.{filter-append}
+use Rattle.std.proofs.lemmas.List.Folds.{list_any_at, list_any-append}
+use Rattle.std.proofs.lemmas.Bool.{cases_Bool, or_parts, false≢true, false_from_ne_true}
+use Rattle.smk_model.specs.Values.{Row}
+use Rattle.smk_model.specs.Plain.{row_eq, firsts}
+use Rattle.smk_model.specs.Lineage.{upto, places, row_at, sub}
+use Rattle.smk_model.specs.Classes.{new_places}
+use Rattle.smk_model.proofs.Places.{at_places, same_below, places_own, places_false}
+use Rattle.smk_model.proofs.Anys.{or_false}
+use Rattle.smk_model.proofs.Firsts.{row_same, row_is, holds, firsts_holds, firsts_from, add_firsts}
+use Rattle.smk_model.proofs.Locals.{IsApart, firsts_apart}
+use Rattle.smk_model.proofs.Classes.{place_in, found_below, found_at, key_test, first_keys}
+use Rattle.smk_model.proofs.Bulk.{bulk}
+use Rattle.smk_model.specs.Growth.{fresh, all_keys}
+
+-- the places of a key among keys
+abbrev pub at_key : Row → List Row → List ℕ
+at_key k keys = places (λ i. row_eq k (row_at keys i)) (length keys)
+
+pub by_keys : (f : Row → Row) (L : List Row) (k : Row) → places (λ i. row_eq k (f (row_at L i))) (length L) ≡ at_key k (map f L)
+by_keys f L k =
+    same_below (λ i. row_eq k (f (row_at L i))) (λ i. row_eq k (row_at (map f L) i)) (length L) (λ i l. ap (row_eq k) (sym (get_or-map f L i [] [] l)))
+    ∙ ap (places (λ i. row_eq k (row_at (map f L) i))) (sym (length-map L f))
+
+row_turned : (a b : Row) → row_eq a b ≡ row_eq b a
+row_turned a b = elim (cases_Bool (row_eq a b)) [
+  | inl p ↦ p ∙ sym ((row_same b a).1 (sym (row_is a b p)))
+  | inr p ↦ p ∙ sym (false_from_ne_true (row_eq b a) (λ q. false≢true (sym p ∙ (row_same a b).1 (sym (row_is b a q)))))
+]
+
+-- a key has one place among keys that are apart and have it, and none among others
+pub one_key : (k : Row) (keys : List Row) → IsApart keys → holds keys k ≡ true → at_key k keys ≡ place_in keys k ∷ []
+one_key k keys apart h =
+    same_below (λ i. row_eq k (row_at keys i)) (nat_eq (place_in keys k)) (length keys) (λ i l. row_turned k (row_at keys i) ∙ key_test keys k i apart h l)
+    ∙ places_own (place_in keys k) (length keys) (found_below keys k h)
+
+pub no_key : (k : Row) (keys : List Row) → holds keys k ≡ false → at_key k keys ≡ []
+no_key k keys none =
+    same_below (λ i. row_eq k (row_at keys i)) (λ i. false) (length keys) (λ i l. false_from_ne_true (row_eq k (row_at keys i)) (λ q. false≢true (sym none ∙ list_any_at (row_eq k) keys i [] l q)))
+    ∙ places_false (length keys)
+
+pub none_pass : {X : Type 0} (f : X → Bool) (xs : List X) → list_any f xs ≡ false → filter f xs ≡ []
+none_pass f [] h = refl
+none_pass f (x ∷ xs) h = let each = or_parts (f x) (list_any f xs) h in rw each.0 (none_pass f xs each.1)
+
+-- a key is among the first occurrences once, or not at all
+pub once_first : (k : Row) (keys : List Row) → holds keys k ≡ true → filter (row_eq k) (firsts keys) ≡ k ∷ []
+once_first k keys h =
+    let found = firsts keys in
+    let there : holds found k ≡ true = firsts_holds keys k h in
+    sym (at_places (row_eq k) found []) ∙ ap (map (row_at found)) (one_key k found (firsts_apart keys) there) ∙ ap (λ (z : Row). z ∷ []) (found_at found k there)
+
+not_first : (k : Row) (keys : List Row) → holds keys k ≡ false → holds (firsts keys) k ≡ false
+not_first k keys none = false_from_ne_true (holds (firsts keys) k) (λ q. false≢true (sym none ∙ firsts_from keys k q))
+
+pub never_first : (k : Row) (keys : List Row) → holds keys k ≡ false → filter (row_eq k) (firsts keys) ≡ []
+never_first k keys none = none_pass (row_eq k) (firsts keys) (not_first k keys none)
+
+-- going over the first places of a key is going over all its places
+pub key_again : (F : ℕ → Bool) (keys : List Row) (k : Row) → list_any (λ i. list_any F (at_key (row_at (firsts keys) i) keys)) (at_key k (firsts keys)) ≡ list_any F (at_key k keys)
+key_again F keys k =
+    let found = firsts keys in
+    let G = λ (i : ℕ). list_any F (at_key (row_at found i) keys) in
+    elim (cases_Bool (holds keys k)) [
+      | inl h ↦ (let there : holds found k ≡ true = firsts_holds keys k h in
+          ap (list_any G) (one_key k found (firsts_apart keys) there) ∙ rw (found_at found k there) (or_false (list_any F (at_key k keys))))
+      | inr h ↦ ap (list_any G) (no_key k found (not_first k keys h)) ∙ ap (list_any F) (sym (no_key k keys h))
+    ]
+
+-- new keys behind old ones
+
+pub place_none : (k : Row) (keys : List Row) → holds keys k ≡ false → place_in keys k ≡ length keys
+place_none k [] h = refl
+place_none k (x ∷ xs) h = let each = or_parts (row_eq k x) (holds xs k) h in rw each.0 (omega (arith, place_none k xs each.1))
+
+-- none of keys that are apart is among those before it
+not_before : (keys : List Row) (j : ℕ) → IsApart keys → j < length keys → holds (take j keys) (row_at keys j) ≡ false
+not_before keys j apart l = false_from_ne_true (holds (take j keys) (row_at keys j)) (λ q.
+    let k = row_at keys j in
+    let p = place_in (take j keys) k in
+    let low : p < j = omega (arith, found_below (take j keys) k q, length-take j keys) in
+    apart p j [] low l (sym (get_or-take j keys p [] low) ∙ found_at (take j keys) k q))
+
+pub new_are_fresh : (old new : List Row) → IsApart new → new_places old new ≡ fresh old new
+new_are_fresh old new apart = same_below (λ j. not (holds (old ++ take j new) (row_at new j))) (λ j. not (holds old (row_at new j))) (length new) (λ j l.
+    ap not (list_any-append (row_eq (row_at new j)) old (take j new) ∙ rw (not_before new j apart l) (or_false (holds old (row_at new j)))))
+
+pub two_firsts : (old new : List Row) → firsts (firsts old ++ firsts new) ≡ all_keys (firsts old) (firsts new)
+two_firsts old new =
+    bulk.union_parts (firsts old) (firsts new)
+    ∙ rw (first_keys (firsts old), new_are_fresh (firsts old) (firsts new) (firsts_apart new)) (ap (λ z. z ++ sub (firsts new) (fresh (firsts old) (firsts new))) (add_firsts [] [] old))
+
+-- functions that agree on the places that pass
+pub map_places : {X : Type 0} (f g : ℕ → X) (t : ℕ → Bool) (n : ℕ) → ((j : ℕ) → j < n → t j ≡ true → f j ≡ g j) → map f (places t n) ≡ map g (places t n)
+map_places f g t zero h = refl
+map_places f g t (suc n) h =
+    let last : map f (filter t (n ∷ [])) ≡ map g (filter t (n ∷ [])) = elim (cases_Bool (t n)) [
+      | inl p ↦ rw p (ap (λ z. z ∷ []) (h n (omega arith) p))
+      | inr p ↦ rw p refl
+    ] in
+    let split = filter-append t (upto n) (n ∷ []) in
+    ap (map f) split ∙ map-append f (places t n) (filter t (n ∷ [])) ∙ rw (map_places f g t n (λ j l p. h j (omega arith) p), last) (sym (ap (map g) split ∙ map-append g (places t n) (filter t (n ∷ []))))

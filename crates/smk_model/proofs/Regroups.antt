@@ -1,0 +1,272 @@
+-- A grouping of parts after each other, from the groupings of the parts.
+use Rattle.std.proofs.Common.{◌≡◌, ℕ, ◌+◌, ℤ, pos, ◌+ℤ◌, Bool, true, false, cond, List, [], ◌∷◌, ◌++◌, length, map, refl, ap, sym, ◌∙◌, subst, arith, inl, inr}
+use Rattle.std.specs.List.{filter, flat_map, fold}
+use Rattle.std.specs.declared.cmp.Ordering.{Ordering}
+use Rattle.std.specs.declared.cmp.Ordering.TheVariants.{Less, Equal, Greater}
+use Rattle.std.specs.Ordering.{is_lt, is_gt, ordering_reverse}
+use Rattle.std.proofs.lemmas.Int.{ints}
+use Rattle.std.proofs.lemmas.Cmp.{upto as above_upto}
+use Rattle.std.proofs.lemmas.List.{map-append, append-nil, append_assoc, length-append, length-map, get_or_at, length_push, take_at}
+use Rattle.std.proofs.lemmas.List.Sums.{fold-append}
+use Rattle.std.proofs.lemmas.List.Elements.{filter-append, filter_agree}
+use Rattle.std.proofs.lemmas.Bool.{cases_Bool, or_parts, false≢true}
+use Rattle.smk_base.specs.declared.value.Value.{Value}
+use Rattle.smk_base.specs.declared.value.Value.TheVariants.{Int}
+use Rattle.smk_base.specs.declared.plan.Agg.{Agg}
+use Rattle.smk_base.specs.declared.plan.Agg.TheVariants.{Count, Sum, Min, Max}
+use Rattle.smk_base.specs.Plans.{Grouping}
+use Rattle.smk_model.specs.Values.{Row, value_at, value_cmp}
+use Rattle.smk_model.specs.Plain.{row_eq, key_of, firsts, lesser, greater, combined, number_of, total, aggregate, grouped, step1}
+use Rattle.smk_model.specs.Lineage.{upto, sub}
+use Rattle.smk_model.specs.Classes.{first_places}
+use Rattle.smk_model.specs.LocalLaws.{together}
+use Rattle.smk_model.proofs.Places.{filter_map, map_map, flat_map_map, map_upto_take}
+use Rattle.smk_model.proofs.Firsts.{holds, key_there}
+use Rattle.smk_model.proofs.Parts.{filter_parts, map_agree, cut}
+use Rattle.smk_model.proofs.Spread.{value_order}
+use Rattle.smk_model.proofs.Bulk.{bulk}
+use Rattle.smk_model.specs.Growth.{over_parts, all_over_parts, regrouping}
+use Rattle.smk_model.specs.GrowthLaws.{GroupsRegroup}
+use Rattle.smk_model.proofs.Keyed.{none_pass, once_first, never_first}
+
+-- the order of values
+
+reversed : (o : Ordering) → is_lt (ordering_reverse o) ≡ is_gt o
+reversed Less = refl
+reversed Equal = refl
+reversed Greater = refl
+
+less_is : (o : Ordering) → is_lt o ≡ true → o ≡ Less
+less_is Less h = refl
+less_is Equal h = absurd (false≢true h)
+less_is Greater h = absurd (false≢true h)
+
+-- less one way is greater the other way
+lt_gt : (x y : Value) → is_lt (value_cmp x y) ≡ is_gt (value_cmp y x)
+lt_gt x y = ap is_lt (value_order.antisymm x y) ∙ reversed (value_cmp y x)
+
+lt_trans : (x y z : Value) → is_lt (value_cmp x y) ≡ true → is_lt (value_cmp y z) ≡ true → is_lt (value_cmp x z) ≡ true
+lt_trans x y z p q = ap is_lt (value_order.trans x y z (less_is _ p) (less_is _ q))
+
+-- taking the better of two in turn, where no less good one is better than a better one
+
+better_assoc : {X : Type 0} (t : X → X → Bool) → ((x y z : X) → t x y ≡ true → t y z ≡ true → t x z ≡ true) → ((x y z : X) → t x y ≡ false → t y z ≡ false → t x z ≡ false)
+    → (a b c : X) → cond (t c (cond (t b a) b a)) c (cond (t b a) b a) ≡ cond (t (cond (t c b) c b) a) (cond (t c b) c b) a
+better_assoc t trans neg a b c = elim (cases_Bool (t b a)) [
+  | inl p ↦ elim (cases_Bool (t c b)) [
+    | inl q ↦ rw (p, q, trans c b a q p) refl
+    | inr q ↦ rw (p, q, p) refl
+  ]
+  | inr p ↦ elim (cases_Bool (t c b)) [
+    | inl q ↦ rw (p, q) refl
+    | inr q ↦ rw (p, q, neg c b a q p, p) refl
+  ]
+]
+
+lesser_assoc : (a b c : Value) → lesser (lesser a b) c ≡ lesser a (lesser b c)
+lesser_assoc = better_assoc (λ x y. is_lt (value_cmp x y)) lt_trans (λ x y z p q. lt_gt x z ∙ above_upto value_order z y x (sym (lt_gt y z) ∙ q) (sym (lt_gt x y) ∙ p))
+
+greater_assoc : (a b c : Value) → greater (greater a b) c ≡ greater a (greater b c)
+greater_assoc = better_assoc (λ x y. is_gt (value_cmp x y)) (λ x y z p q. sym (lt_gt z x) ∙ lt_trans z y x (lt_gt z y ∙ q) (lt_gt y x ∙ p)) (above_upto value_order)
+
+-- folds over parts
+
+fold_after : {X : Type 0} (f : X → X → X) → ((a b c : X) → f (f a b) c ≡ f a (f b c)) → (m b : X) (xs : List X) → fold f (f m b) xs ≡ f m (fold f b xs)
+fold_after f assoc m b [] = refl
+fold_after f assoc m b (x ∷ xs) = ap (λ z. fold f z xs) (assoc m b x) ∙ fold_after f assoc m (f b x) xs
+
+-- the rows of a part that has some
+abbrev pub rows_in_part : Row × List Row → List Row
+rows_in_part part = part.0 ∷ part.1
+
+abbrev pub all_rows : List (Row × List Row) → List Row
+all_rows parts = flat_map rows_in_part parts
+
+counts : (z : ℕ) (parts : List (Row × List Row)) → fold ◌+ℤ◌ (pos z) (map (λ p. pos (length (rows_in_part p))) parts) ≡ pos (z + length (all_rows parts))
+counts z [] = ap pos (omega arith)
+counts z (p ∷ ps) = counts (z + length (rows_in_part p)) ps ∙ ap pos (omega (arith, length-append (rows_in_part p) (all_rows ps)))
+
+sums : (n : Row → ℤ) (z : ℤ) (parts : List (Row × List Row)) → fold ◌+ℤ◌ z (map (λ p. total (map n (rows_in_part p))) parts) ≡ fold ◌+ℤ◌ z (map n (all_rows parts))
+sums n z [] = refl
+sums n z (p ∷ ps) =
+    let ns = map n (rows_in_part p) in
+    let none : z +ℤ pos 0 ≡ z = omega (arith, ints) in
+    let here : fold ◌+ℤ◌ z ns ≡ z +ℤ total ns = ap (λ m. fold ◌+ℤ◌ m ns) (sym none) ∙ fold_after ◌+ℤ◌ (λ a b c. omega (arith, ints)) z (pos 0) ns in
+    sums n (z +ℤ total ns) ps
+    ∙ ap (λ m. fold ◌+ℤ◌ m (map n (all_rows ps))) (sym here)
+    ∙ sym (ap (fold ◌+ℤ◌ z) (map-append n (rows_in_part p) (all_rows ps)) ∙ fold-append ◌+ℤ◌ z ns (map n (all_rows ps)))
+
+bests_from : (f : Value → Value → Value) → ((a b c : Value) → f (f a b) c ≡ f a (f b c)) → (v : Row → Value) (a : Value) (parts : List (Row × List Row))
+    → fold f a (map (λ p. combined f (map v (rows_in_part p))) parts) ≡ fold f a (map v (all_rows parts))
+bests_from f assoc v a [] = refl
+bests_from f assoc v a (p ∷ ps) =
+    ap (λ m. fold f m (map (λ p. combined f (map v (rows_in_part p))) ps)) (sym (fold_after f assoc a (v p.0) (map v p.1)))
+    ∙ bests_from f assoc v (fold f (f a (v p.0)) (map v p.1)) ps
+    ∙ sym (ap (fold f a) (map-append v (rows_in_part p) (all_rows ps)) ∙ fold-append f a (map v (rows_in_part p)) (map v (all_rows ps)))
+
+bests : (f : Value → Value → Value) → ((a b c : Value) → f (f a b) c ≡ f a (f b c)) → (v : Row → Value) (parts : List (Row × List Row))
+    → combined f (map (λ p. combined f (map v (rows_in_part p))) parts) ≡ combined f (map v (all_rows parts))
+bests f assoc v [] = refl
+bests f assoc v (p ∷ ps) =
+    bests_from f assoc v (fold f (v p.0) (map v p.1)) ps
+    ∙ sym (ap (fold f (v p.0)) (map-append v p.1 (all_rows ps)) ∙ fold-append f (v p.0) (map v p.1) (map v (all_rows ps)))
+
+-- an aggregate over the aggregates of parts
+
+pub once_more : (agg : Agg) (n : ℕ) (row : Row × List Row → Row) (parts : List (Row × List Row)) → ((p : Row × List Row) → value_at (row p) n ≡ aggregate (rows_in_part p) agg)
+    → aggregate (map row parts) (over_parts n agg) ≡ aggregate (all_rows parts) agg
+once_more Count n row parts at =
+    ap (λ ns. Int (total ns)) (map_map (λ r. number_of (value_at r n)) row parts ∙ map_agree (λ p. number_of (value_at (row p) n)) (λ p. pos (length (rows_in_part p))) (λ p. ap number_of (at p)) parts)
+    ∙ ap Int (counts 0 parts ∙ ap pos (omega arith))
+once_more (Sum c) n row parts at =
+    ap (λ ns. Int (total ns)) (map_map (λ r. number_of (value_at r n)) row parts ∙ map_agree (λ p. number_of (value_at (row p) n)) (λ p. total (map (λ r. number_of (value_at r c)) (rows_in_part p))) (λ p. ap number_of (at p)) parts)
+    ∙ ap Int (sums (λ r. number_of (value_at r c)) (pos 0) parts)
+once_more (Min c) n row parts at =
+    ap (combined lesser) (map_map (λ r. value_at r n) row parts ∙ map_agree (λ p. value_at (row p) n) (λ p. combined lesser (map (λ r. value_at r c) (rows_in_part p))) at parts)
+    ∙ bests lesser lesser_assoc (λ r. value_at r c) parts
+once_more (Max c) n row parts at =
+    ap (combined greater) (map_map (λ r. value_at r n) row parts ∙ map_agree (λ p. value_at (row p) n) (λ p. combined greater (map (λ r. value_at r c) (rows_in_part p))) at parts)
+    ∙ bests greater greater_assoc (λ r. value_at r c) parts
+
+-- all aggregates, of rows that have those of the parts behind n values
+all_once_more : (aggs : List Agg) (n : ℕ) (front : Row × List Row → Row) (parts : List (Row × List Row)) → ((p : Row × List Row) → length (front p) ≡ n)
+    → map (aggregate (map (λ p. front p ++ map (aggregate (rows_in_part p)) aggs) parts)) (all_over_parts n aggs) ≡ map (aggregate (all_rows parts)) aggs
+all_once_more [] n front parts long = refl
+all_once_more (agg ∷ aggs) n front parts long =
+    let row = λ (p : Row × List Row). front p ++ aggregate (rows_in_part p) agg ∷ map (aggregate (rows_in_part p)) aggs in
+    let next = λ (p : Row × List Row). front p ++ aggregate (rows_in_part p) agg ∷ [] in
+    let here = once_more agg n row parts (λ p. get_or_at (front p) (aggregate (rows_in_part p) agg) (map (aggregate (rows_in_part p)) aggs) (Int (pos 0)) n (long p)) in
+    let rest = all_once_more aggs (n + 1) next parts (λ p. omega (arith, length_push (front p) (aggregate (rows_in_part p) agg), long p)) in
+    let same : map row parts ≡ map (λ p. next p ++ map (aggregate (rows_in_part p)) aggs) parts =
+    map_agree row (λ p. next p ++ map (aggregate (rows_in_part p)) aggs) (λ p. sym (append_assoc (front p) (aggregate (rows_in_part p) agg ∷ []) (map (aggregate (rows_in_part p)) aggs))) parts in
+    ap (λ z. z ∷ map (aggregate (map row parts)) (all_over_parts (n + 1) aggs)) here
+    ∙ ap (λ rows. aggregate (all_rows parts) agg ∷ map (aggregate rows) (all_over_parts (n + 1) aggs)) same
+    ∙ ap (λ z. aggregate (all_rows parts) agg ∷ z) rest
+
+-- the rows of one key in the groupings of parts
+
+abbrev pub of_key : List ℕ → Row → List Row → List Row
+of_key keys k L = filter (λ row. row_eq k (key_of keys row)) L
+
+-- those of the parts that have rows
+abbrev some_in : List (List Row) → List (Row × List Row)
+some_in [] = []
+some_in ([] ∷ parts) = some_in parts
+some_in ((x ∷ xs) ∷ parts) = (x, xs) ∷ some_in parts
+
+all_some : (parts : List (List Row)) → all_rows (some_in parts) ≡ together parts
+all_some [] = refl
+all_some ([] ∷ parts) = all_some parts
+all_some ((x ∷ xs) ∷ parts) = ap (λ z. x ∷ xs ++ z) (all_some parts)
+
+-- the first columns of the row of a group are its key
+pub key_first : (keys : List ℕ) (aggs : List Agg) (L : List Row) (row : Row) → key_of (upto (length keys)) (grouped keys aggs L (key_of keys row)) ≡ key_of keys row
+key_first keys aggs L row =
+    let key = key_of keys row in
+    let values = map (aggregate (of_key keys key L)) aggs in
+    let long : length key ≡ length keys = length-map keys (value_at row) in
+    map_upto_take (key ++ values) (Int (pos 0)) (length keys) (omega (arith, long, length-append key values)) ∙ take_at key values (length keys) long
+
+-- the groups of rows of L, by rows that have their keys
+abbrev pub firsts_of : List ℕ → List Row → List Row
+firsts_of keys L = sub L (first_places (map (key_of keys) L))
+
+pub group_rows : (keys : List ℕ) (aggs : List Agg) (L : List Row) → step1 (Grouping keys aggs) L ≡ map (λ row. grouped keys aggs L (key_of keys row)) (firsts_of keys L)
+group_rows keys aggs L = ap (map (grouped keys aggs L)) (bulk.keys keys L) ∙ map_map (grouped keys aggs L) (key_of keys) (firsts_of keys L)
+
+pub group_keys : (keys : List ℕ) (aggs : List Agg) (L : List Row) → map (key_of (upto (length keys))) (step1 (Grouping keys aggs) L) ≡ firsts (map (key_of keys) L)
+group_keys keys aggs L =
+    ap (map (key_of (upto (length keys)))) (group_rows keys aggs L)
+    ∙ map_map (key_of (upto (length keys))) (λ row. grouped keys aggs L (key_of keys row)) (firsts_of keys L)
+    ∙ map_agree (λ row. key_of (upto (length keys)) (grouped keys aggs L (key_of keys row))) (key_of keys) (key_first keys aggs L) (firsts_of keys L)
+    ∙ sym (bulk.keys keys L)
+
+pub both_keys : (keys : List ℕ) (aggs : List Agg) (L M : List Row) → map (key_of (upto (length keys))) (step1 (Grouping keys aggs) L ++ step1 (Grouping keys aggs) M) ≡ firsts (map (key_of keys) L) ++ firsts (map (key_of keys) M)
+both_keys keys aggs L M = map-append (key_of (upto (length keys))) (step1 (Grouping keys aggs) L) (step1 (Grouping keys aggs) M) ∙ rw (group_keys keys aggs L, group_keys keys aggs M) refl
+
+-- the groups of a key: those made of the first occurrences that are the key
+groups_of_key : (keys : List ℕ) (aggs : List Agg) (L : List Row) (k : Row) → of_key (upto (length keys)) k (step1 (Grouping keys aggs) L) ≡ map (grouped keys aggs L) (filter (row_eq k) (firsts (map (key_of keys) L)))
+groups_of_key keys aggs L k =
+    let made = λ (row : Row). grouped keys aggs L (key_of keys row) in
+    ap (of_key (upto (length keys)) k) (group_rows keys aggs L)
+    ∙ filter_map (λ row. row_eq k (key_of (upto (length keys)) row)) made (firsts_of keys L)
+    ∙ ap (map made) (filter_agree (λ row. row_eq k (key_of (upto (length keys)) (made row))) (λ row. row_eq k (key_of keys row)) (λ row. ap (row_eq k) (key_first keys aggs L row)) (firsts_of keys L))
+    ∙ sym (map_map (grouped keys aggs L) (key_of keys) (of_key keys k (firsts_of keys L)))
+    ∙ ap (map (grouped keys aggs L)) (sym (filter_map (row_eq k) (key_of keys) (firsts_of keys L)) ∙ ap (filter (row_eq k)) (sym (bulk.keys keys L)))
+
+-- a key that no row has
+pub no_rows : (keys : List ℕ) (L : List Row) (k : Row) → holds (map (key_of keys) L) k ≡ false → of_key keys k L ≡ []
+no_rows keys [] k none = refl
+no_rows keys (x ∷ xs) k none = let each = or_parts (row_eq k (key_of keys x)) (holds (map (key_of keys) xs) k) none in rw each.0 (no_rows keys xs k each.1)
+
+-- whether L has a key tells whether it has rows of it
+pub one_group : (keys : List ℕ) (aggs : List Agg) (L : List Row) (k x : Row) (xs : List Row) → of_key keys k L ≡ x ∷ xs → of_key (upto (length keys)) k (step1 (Grouping keys aggs) L) ≡ (k ++ map (aggregate (x ∷ xs)) aggs) ∷ []
+one_group keys aggs L k x xs is =
+    let some : holds (map (key_of keys) L) k ≡ true = elim (cases_Bool (holds (map (key_of keys) L) k)) [
+      | inl p ↦ p
+      | inr p ↦ (let none : map (key_of keys) (x ∷ xs) ≡ [] = ap (map (key_of keys)) (sym is) ∙ sym (filter_map (row_eq k) (key_of keys) L) ∙ none_pass (row_eq k) (map (key_of keys) L) p in absurd (cc))
+    ] in
+    groups_of_key keys aggs L k ∙ ap (map (grouped keys aggs L)) (once_first k (map (key_of keys) L) some) ∙ ap (λ rows. (k ++ map (aggregate rows) aggs) ∷ []) is
+
+pub no_group : (keys : List ℕ) (aggs : List Agg) (L : List Row) (k : Row) → of_key keys k L ≡ [] → of_key (upto (length keys)) k (step1 (Grouping keys aggs) L) ≡ []
+no_group keys aggs L k is =
+    let none : holds (map (key_of keys) L) k ≡ false = elim (cases_Bool (holds (map (key_of keys) L) k)) [
+      | inl p ↦ (let there : holds (map (key_of keys) []) k ≡ true = subst (λ (z : List Row). holds (map (key_of keys) z) k ≡ true) is (key_there (key_of keys) L k p) in absurd (false≢true there))
+      | inr p ↦ p
+    ] in
+    groups_of_key keys aggs L k ∙ ap (map (grouped keys aggs L)) (never_first k (map (key_of keys) L) none)
+
+groups_in_parts : (keys : List ℕ) (aggs : List Agg) (k : Row) (parts : List (List Row))
+    → of_key (upto (length keys)) k (flat_map (step1 (Grouping keys aggs)) parts) ≡ map (λ p. k ++ map (aggregate (rows_in_part p)) aggs) (some_in (map (of_key keys k) parts))
+groups_in_parts keys aggs k [] = refl
+groups_in_parts keys aggs k (part ∷ parts) =
+    filter-append (λ row. row_eq k (key_of (upto (length keys)) row)) (step1 (Grouping keys aggs) part) (flat_map (step1 (Grouping keys aggs)) parts)
+    ∙ ap (λ z. of_key (upto (length keys)) k (step1 (Grouping keys aggs) part) ++ z) (groups_in_parts keys aggs k parts)
+    ∙ here (of_key keys k part) refl
+  where
+    rest : List (Row × List Row)
+    rest = some_in (map (of_key keys k) parts)
+
+    here : (rows : List Row) → of_key keys k part ≡ rows
+        → of_key (upto (length keys)) k (step1 (Grouping keys aggs) part) ++ map (λ p. k ++ map (aggregate (rows_in_part p)) aggs) rest ≡ map (λ p. k ++ map (aggregate (rows_in_part p)) aggs) (some_in (rows ∷ map (of_key keys k) parts))
+    here [] is = ap (λ z. z ++ map (λ p. k ++ map (aggregate (rows_in_part p)) aggs) rest) (no_group keys aggs part k is)
+    here (x ∷ xs) is = ap (λ z. z ++ map (λ p. k ++ map (aggregate (rows_in_part p)) aggs) rest) (one_group keys aggs part k x xs is)
+
+regrouped_keys : (keys : List ℕ) (aggs : List Agg) (parts : List (List Row)) → firsts (map (key_of (upto (length keys))) (flat_map (step1 (Grouping keys aggs)) parts)) ≡ firsts (map (key_of keys) (together parts))
+regrouped_keys keys aggs parts = ap firsts (each parts) ∙ sym (cut.keys (key_of keys) parts)
+  where
+    each : (parts : List (List Row)) → map (key_of (upto (length keys))) (flat_map (step1 (Grouping keys aggs)) parts) ≡ flat_map (λ part. firsts (map (key_of keys) part)) parts
+    each [] = refl
+    each (part ∷ parts) = map-append (key_of (upto (length keys))) (step1 (Grouping keys aggs) part) (flat_map (step1 (Grouping keys aggs)) parts) ∙ rw (group_keys keys aggs part, each parts) refl
+
+regroups : (keys : List ℕ) (aggs : List Agg) (parts : List (List Row)) → step1 (Grouping keys aggs) (together parts) ≡ step1 (regrouping keys aggs) (flat_map (step1 (Grouping keys aggs)) parts)
+regroups keys aggs parts =
+    let L = together parts in
+    let G = flat_map (step1 (Grouping keys aggs)) parts in
+    let again = grouped (upto (length keys)) (all_over_parts (length keys) aggs) G in
+    let each : (row : Row) → grouped keys aggs L (key_of keys row) ≡ again (key_of keys row) = λ row.
+    let k = key_of keys row in
+    let some = some_in (map (of_key keys k) parts) in
+    let rows : all_rows some ≡ of_key keys k L = all_some (map (of_key keys k) parts) ∙ flat_map_map (λ part. part) (of_key keys k) parts ∙ filter_parts (λ row. row_eq k (key_of keys row)) parts in
+    ap (λ z. k ++ map (aggregate z) aggs) (sym rows)
+    ∙ ap (λ z. k ++ z) (sym (all_once_more aggs (length keys) (λ p. k) some (λ p. length-map keys (value_at row))))
+    ∙ ap (λ z. k ++ map (aggregate z) (all_over_parts (length keys) aggs)) (sym (groups_in_parts keys aggs k parts)) in
+    group_rows keys aggs L
+    ∙ map_agree (λ row. grouped keys aggs L (key_of keys row)) (λ row. again (key_of keys row)) each (firsts_of keys L)
+    ∙ sym (map_map again (key_of keys) (firsts_of keys L))
+    ∙ ap (map again) (sym (bulk.keys keys L) ∙ sym (regrouped_keys keys aggs parts))
+
+-- of two parts
+
+pub regrouped_two : (keys : List ℕ) (aggs : List Agg) (L M : List Row) → firsts (map (key_of (upto (length keys))) (step1 (Grouping keys aggs) L ++ step1 (Grouping keys aggs) M)) ≡ firsts (map (key_of keys) (L ++ M))
+regrouped_two keys aggs L M =
+    ap (λ z. firsts (map (key_of (upto (length keys))) (step1 (Grouping keys aggs) L ++ z))) (sym (append-nil (step1 (Grouping keys aggs) M)))
+    ∙ regrouped_keys keys aggs (L ∷ M ∷ []) ∙ ap (λ z. firsts (map (key_of keys) (L ++ z))) (append-nil M)
+
+pub groups_regroup : GroupsRegroup
+groups_regroup = record {
+  parts = regroups;
+  two = λ keys aggs L M.
+      let S = step1 (Grouping keys aggs) in
+      ap S (ap (λ z. L ++ z) (sym (append-nil M))) ∙ regroups keys aggs (L ∷ M ∷ []) ∙ ap (λ z. step1 (regrouping keys aggs) (S L ++ z)) (append-nil (S M));
+}

@@ -1,0 +1,82 @@
+-- Plans that grow with their table: which they are, and how what they give of the old rows and of the new ones is put together.
+use Rattle.std.specs.Prelude.{ℕ, ◌+◌, ◌+ℤ◌, Bool, true, false, not, List, [], ◌∷◌, ◌++◌, length, map, take, drop}
+use Rattle.std.specs.List.{list_any, filter, fold}
+use Rattle.smk_base.specs.Places.{upto, places}
+use Rattle.smk_base.specs.declared.value.Value.{Value}
+use Rattle.smk_base.specs.declared.value.Value.TheVariants.{Int}
+use Rattle.smk_base.specs.declared.plan.Agg.{Agg}
+use Rattle.smk_base.specs.declared.plan.Agg.TheVariants.{Count, Sum, Min, Max}
+use Rattle.smk_base.specs.Plans.{Unary, Selection, Projection, Distinction, Grouping, Expr, Leaf, Apply, Combine}
+use Rattle.smk_model.specs.Values.{Row}
+use Rattle.smk_model.specs.Plain.{row_eq, key_of, lesser, greater, number_of}
+use Rattle.smk_model.specs.Lineage.{row_at, sub}
+
+-- whether a plan is a chain of selections and projections over a scan
+abbrev pub is_chain : Expr → Bool
+is_chain (Leaf table) = true
+is_chain (Apply (Selection formula) input) = is_chain input
+is_chain (Apply (Projection items) input) = is_chain input
+is_chain (Apply (Distinction items) input) = false
+is_chain (Apply (Grouping keys aggs) input) = false
+is_chain (Combine op left right) = false
+
+-- whether a plan is a growing chain: such a chain, with at most a grouping over it
+abbrev pub is_growing : Expr → Bool
+is_growing (Leaf table) = true
+is_growing (Apply (Selection formula) input) = is_chain input
+is_growing (Apply (Projection items) input) = is_chain input
+is_growing (Apply (Distinction items) input) = false
+is_growing (Apply (Grouping keys aggs) input) = is_chain input
+is_growing (Combine op left right) = false
+
+-- the aggregate over parts that is in column c of their groupings, taken once more: it is that over all rows, since each of these is a distributive aggregate (Gray and others, Data Cube, 1997); counts are summed
+abbrev pub over_parts : ℕ → Agg → Agg
+over_parts c Count = Sum c
+over_parts c (Sum d) = Sum c
+over_parts c (Min d) = Min c
+over_parts c (Max d) = Max c
+
+-- the same of aggregates in the columns from c on
+abbrev pub all_over_parts : ℕ → List Agg → List Agg
+all_over_parts c [] = []
+all_over_parts c (agg ∷ aggs) = over_parts c agg ∷ all_over_parts (c + 1) aggs
+
+-- the grouping of the rows of groupings: by their first columns, which are the keys
+abbrev pub regrouping : List ℕ → List Agg → Unary
+regrouping keys aggs = Grouping (upto (length keys)) (all_over_parts (length keys) aggs)
+
+-- the same place by place
+
+-- the keys of groups: their first k values
+abbrev pub keys_in : ℕ → List Row → List Row
+keys_in k groups = map (key_of (upto k)) groups
+
+-- the places of the new keys that are no old one
+abbrev pub fresh : List Row → List Row → List ℕ
+fresh old new = places (λ j. not (list_any (row_eq (row_at new j)) old)) (length new)
+
+-- the old keys, and behind them the new ones that are no old one
+abbrev pub all_keys : List Row → List Row → List Row
+all_keys old new = old ++ sub new (fresh old new)
+
+-- the aggregate of a group from that of its old rows and that of its new ones
+abbrev pub joint : Agg → Value → Value → Value
+joint Count a b = Int (number_of a +ℤ number_of b)
+joint (Sum c) a b = Int (number_of a +ℤ number_of b)
+joint (Min c) a b = lesser a b
+joint (Max c) a b = greater a b
+
+-- the same of each aggregate
+abbrev pub joint_values : List Agg → Row → Row → Row
+joint_values (agg ∷ aggs) (a ∷ old) (b ∷ new) = joint agg a b ∷ joint_values aggs old new
+joint_values _ _ _ = []
+
+-- an old group that takes in the new one of its key
+abbrev pub joint_group : ℕ → List Agg → Row → Row → Row
+joint_group k aggs old new = take k old ++ joint_values aggs (drop k old) (drop k new)
+
+-- each old group, which takes in the new one of its key if there is one, and then the new groups whose key no old one has
+abbrev pub regrouped : ℕ → List Agg → List Row → List Row → List Row
+regrouped k aggs old new =
+    map (λ group. fold (joint_group k aggs) group (filter (λ other. row_eq (key_of (upto k) group) (key_of (upto k) other)) new)) old
+    ++ sub new (fresh (keys_in k old) (keys_in k new))

@@ -1,0 +1,19 @@
+-- The texts of views as they are first evaluated.
+use Rattle.std.specs.Prelude.{ℕ, List}
+use Rattle.std.specs.List.{flat_map}
+use Rattle.smk_base.specs.CatalogImage.{ViewImage}
+use Rattle.smk_model.specs.Values.{Row}
+use Rattle.smk_model.specs.Plain.{rows_over}
+use Rattle.smk_model.specs.Session.{Workbook}
+use Rattle.smk_model.specs.Texts.{view_text}
+
+-- the rows of a view as it is first evaluated, and their text
+abbrev pub view_rows : Workbook → ViewImage → List Row
+view_rows book view = rows_over view.plan book.tables
+
+abbrev pub text_of_view : Workbook → ViewImage → List ℕ
+text_of_view book view = view_text view.name view.names (view_rows book view)
+
+-- the texts of all views, in the book's order
+abbrev pub views_text : Workbook → List ℕ
+views_text book = flat_map (text_of_view book) book.catalog.views

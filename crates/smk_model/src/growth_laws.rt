@@ -1,0 +1,45 @@
+//! Laws of tables that grow. Each is an empty function whose contract is the law.
+
+ghost use Rattle.smk_model.specs.GrowthLaws.{ChainGrows, GroupGrows, GroupsRegroup, GrowingIsThin, GrowingNeverFull, RegroupsByPlace, UnscannedStays};
+
+/// A grouping of rows in parts is the regrouping of the groupings of the parts.
+#[tactic(auto, using(crate::proofs::Regroups::groups_regroup))]
+pub fn groups_regroup()
+    ensures { GroupsRegroup }
+{}
+
+/// What a chain of selections and projections over a scan gives of a grown table is what it gives of the old rows and, behind it, of the new ones.
+#[tactic(auto, using(crate::proofs::Grows::chain_grows))]
+pub fn chain_grows()
+    ensures { ChainGrows }
+{}
+
+/// What a grouping over such a chain gives of a grown table is what the regrouping gives of the groups of the old rows and, behind them, of the new ones.
+#[tactic(auto, using(crate::proofs::Grows::group_grows))]
+pub fn group_grows()
+    ensures { GroupGrows }
+{}
+
+/// The regrouping of two groupings has the old groups at their places, and behind them those whose key is new.
+#[tactic(auto, using(crate::proofs::RegroupsByPlace::regroups_by_place))]
+pub fn regroups_by_place()
+    ensures { RegroupsByPlace }
+{}
+
+/// A growing chain has no more rows and no more pairs than its table has rows, and each of these reaches at most one row.
+#[tactic(auto, using(crate::proofs::Thin::growing_is_thin))]
+pub fn growing_is_thin()
+    ensures { GrowingIsThin }
+{}
+
+/// No node of a growing chain has too many rows or pairs where its table has not too many rows.
+#[tactic(auto, using(crate::proofs::NeverFull::growing_never_full))]
+pub fn growing_never_full()
+    ensures { GrowingNeverFull }
+{}
+
+/// The rows, the lists and the first fault of a plan are the same over tables that are the same at its leaves.
+#[tactic(auto, using(crate::proofs::Unscanned::unscanned_stays))]
+pub fn unscanned_stays()
+    ensures { UnscannedStays }
+{}
