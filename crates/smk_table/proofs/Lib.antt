@@ -3,3 +3,4 @@ pub mod FieldPlaces
 pub mod TableRows
 pub mod Choices
 pub mod Narrows
+pub mod Shown

@@ -2,3 +2,4 @@ pub mod Reading
 pub mod Growing
 pub mod Choosing
 pub mod Named
+pub mod Showing

@@ -1,7 +1,9 @@
-ghost use Rattle.std.specs.Prelude.{◌≡◌, ◌+◌, ◌<◌, ◌≤◌, [], length, All, IfOk, OnOk, OnErr};
+ghost use Rattle.std.specs.Prelude.{◌≡◌, ◌+◌, ◌<◌, ◌≤◌, [], ◌++◌, length, take, All, IfOk, OnOk, OnErr};
 ghost use Rattle.smk_base.specs.Cells.{value_of_cell};
+ghost use Rattle.smk_base.specs.Places.{upto};
 ghost use Rattle.smk_base.specs.Rels.{IsRelation, Fits, kind_in, row_in, rows_at, value_in};
 ghost use Rattle.smk_model.specs.Tables.{IsBase};
+ghost use Rattle.smk_table.specs.Showing.{first_rows};
 
 use crate::chosen::Chosen;
 use smk_base::{CellRef, Kind, ROW_LIMIT, Rel, Row};
@@ -14,19 +16,22 @@ use std::sync::ledger::Ledger;
 #[derive(Drop)]
 pub struct Table {
     rel: Rel,
+    // How many rows are the table's: more may lie behind them once it was cut, since answers that are still held can share the columns.
+    shown: u32,
 }
 
 impl Model for Table {
-    ghost use Rattle.std.specs.Prelude.{All};
+    ghost use Rattle.std.specs.Prelude.{All, length, ◌≤◌};
     ghost use Rattle.smk_base.specs.Rels.{Relation};
 
     ghost Value = { Relation };
 
     ghost use Rattle.smk_model.specs.Tables.{IsBase};
+    ghost use Rattle.smk_table.specs.Showing.{first_rows};
 
-    ghost view = { λ a. a.rel };
+    ghost view = { λ a. first_rows a.shown a.rel };
 
-    ghost invariant = { λ a. All IsBase a.rel.kinds };
+    ghost invariant = { λ a. record { base : All IsBase a.rel.kinds; within : a.shown ≤ length a.rel.rows } };
 }
 
 impl Table {
@@ -35,7 +40,8 @@ impl Table {
         requires { All IsBase rel.kinds }
         ensures { result ≡ rel }
     {
-        Table { rel }
+        let shown = rel.len();
+        Table { rel, shown }
     }
 
     /// The number of rows. It takes no memory and makes no look.
@@ -44,7 +50,8 @@ impl Table {
         ensures keeps { IsRelation self.now }
         ensures base { All IsBase self.now.kinds }
     {
-        self.rel.len()
+        let _width = self.rel.width();
+        self.shown
     }
 
     /// The number of columns. It takes no memory and makes no look.
@@ -107,8 +114,8 @@ impl Table {
         ensures rows { IfOk result (λ rel. rel ≡ self.now) }
         ensures looks { steps.new ≡ steps.old + length self.now.rows }
     {
-        count_looks(self.rel.len(), steps);
-        self.rel.copy(alloc)
+        count_looks(self.shown, steps);
+        first_of(alloc, &self.rel, self.shown)
     }
 
     /// The rows at these rids, in this order, to be gathered later. It is one look for each, at once and also where it wants memory.
@@ -137,8 +144,8 @@ impl Table {
         ensures rows { IfOk result (λ chosen. chosen ≡ self.now) }
         ensures looks { steps.new ≡ steps.old + length self.now.rows }
     {
-        count_looks(self.rel.len(), steps);
-        Ok(Chosen::of_rel(self.rel.copy(alloc)?))
+        count_looks(self.shown, steps);
+        Ok(Chosen::of_rel(first_of(alloc, &self.rel, self.shown)?))
     }
 
     /// The value of a column at a rid. It is one look and takes no memory.
@@ -152,6 +159,64 @@ impl Table {
         steps.tick();
         self.rel.cell(rid, col)
     }
+
+    /// Puts the rows of another table of these kinds last. It makes no look, and takes memory for the new rows alone where nobody else holds the columns. After an error the table is as before.
+    pub fn absorb(&mut self, alloc: Global, more: Table) -> Result<(), AllocError>
+        requires kinds { more.kinds ≡ self.old.kinds }
+        requires few { length self.old.rows + length more.rows ≤ ROW_LIMIT }
+        ensures kinds { self.new.kinds ≡ self.old.kinds }
+        ensures absorbed { OnOk result (self.new.rows ≡ self.old.rows ++ more.rows) }
+        ensures kept { OnErr result (self.new ≡ self.old) }
+    {
+        let rows = first_of(alloc, &more.rel, more.shown)?;
+        self.append(alloc, &rows)
+    }
+
+    // Puts rows of these kinds last. After an error the table is as before.
+    fn append(&mut self, alloc: Global, rows: &Rel) -> Result<(), AllocError>
+        requires kinds { rows.now.kinds ≡ self.old.kinds }
+        requires few { length self.old.rows + length rows.now.rows ≤ ROW_LIMIT }
+        ensures kinds { self.new.kinds ≡ self.old.kinds }
+        ensures appended { OnOk result (self.new.rows ≡ self.old.rows ++ rows.now.rows) }
+        ensures kept { OnErr result (self.new ≡ self.old) }
+    {
+        self.rel.truncate(alloc, self.shown)?;
+        self.rel.append(alloc, rows)?;
+        self.rel.share(alloc)?;
+        self.shown = self.rel.len();
+        Ok(())
+    }
+
+    /// Keeps the first rows. It takes no memory and makes no look.
+    pub fn cut(&mut self, len: u32)
+        requires { len ≤ length self.old.rows }
+        ensures { self.new ≡ record { kinds = self.old.kinds; rows = take len self.old.rows } }
+    {
+        self.shown = len;
+    }
+}
+
+// The first rows of a Rel, in columns that it shares where these are all its rows.
+fn first_of(alloc: Global, rel: &Rel, count: u32) -> Result<Rel, AllocError>
+    requires { count ≤ length rel.now.rows }
+    ensures { IfOk result (λ made. made ≡ first_rows count rel.now) }
+{
+    if count == rel.len() {
+        return rel.copy(alloc);
+    }
+    let places = first_places(alloc, count)?;
+    rel.gather(alloc, places.as_slice())
+}
+
+// So many places from the first on.
+fn first_places(alloc: Global, count: u32) -> Result<Vec<u32>, AllocError>
+    ensures { IfOk result (λ places. places.items ≡ upto count) }
+{
+    let mut places = Vec::with_capacity(alloc, count as usize)?;
+    for place in 0..count {
+        places.push(place)?;
+    }
+    Ok(places)
 }
 
 /// Puts the values of a row behind those of an empty one.
