@@ -134,7 +134,7 @@ pub data Starts : Symbol → List Symbol → TokenKind → Type 0 where
   literal_starts : {k : TokenKind} → is_column k ≡ false → Starts ATerm (ALiteral ∷ []) k
   marks_start : {k : TokenKind} → (k ≡ kinds.All → ⊥) → Starts AMarks (AMark ∷ MoreMarks ∷ []) k
   united_starts : {d : ℕ} {k : TokenKind} → (k ≡ kinds.All → ⊥) → Starts (AUnited d) (ASource d ∷ []) k
-  plain_starts : {k : TokenKind} → (k ≡ kinds.Ask → ⊥) → (k ≡ kinds.Fd → ⊥) → Starts AnyLine (ALine ∷ []) k
+  plain_starts : {k : TokenKind} → (k ≡ kinds.Ask → ⊥) → (k ≡ kinds.Fd → ⊥) → (k ≡ kinds.Append → ⊥) → Starts AnyLine (ALine ∷ []) k
 
 -- a column that begins a member, with what is left of the member
 first_more : (c : Counts) (n : ℕ) (more ss : List Symbol) (x y : Move) (short : Bool) (k : TokenKind) → or_next (at_first c n more short k) ss x ≡ or_next (at_first c n [] short k) (more ++ ss) y
@@ -172,10 +172,11 @@ united_move : (c : Counts) (d : ℕ) (k : TokenKind) → (k ≡ kinds.All → �
 united_move c d kinds.All e = absurd (e refl)
 united_move c d _ e = refl
 
-plain_move : (c : Counts) (k : TokenKind) → (k ≡ kinds.Ask → ⊥) → (k ≡ kinds.Fd → ⊥) → at_any_line c k ≡ at_line c k
-plain_move c kinds.Ask e f = absurd (e refl)
-plain_move c kinds.Fd e f = absurd (f refl)
-plain_move c _ e f = refl
+plain_move : (c : Counts) (k : TokenKind) → (k ≡ kinds.Ask → ⊥) → (k ≡ kinds.Fd → ⊥) → (k ≡ kinds.Append → ⊥) → at_any_line c k ≡ at_line c k
+plain_move c kinds.Ask e f g = absurd (e refl)
+plain_move c kinds.Fd e f g = absurd (f refl)
+plain_move c kinds.Append e f g = absurd (g refl)
+plain_move c _ e f g = refl
 
 column_move : (c : Counts) (short : Bool) (k : TokenKind) → is_column k ≡ true → at_term c short k ≡ at_column c [] short k
 column_move c short kinds.Name e = refl
@@ -194,7 +195,7 @@ starts_come _ _ a h (column_starts e) = begins ATerm AColumn [] a h (λ ss. ap (
 starts_come _ _ a h (literal_starts e) = begins ATerm ALiteral [] a h (λ ss. ap (λ m. or_next m ss (settle ss a.counts (head_of a.rest))) (literal_move a.counts _ _ e))
 starts_come _ _ a h (marks_start p) = begins AMarks AMark (MoreMarks ∷ []) a h (λ ss. marks_move a.counts ss (settle ss a.counts (head_of a.rest)) (settle (MoreMarks ∷ ss) a.counts (head_of a.rest)) (int_value (head_of a.rest).text) _ p)
 starts_come _ _ a h (united_starts {d = d} p) = begins (AUnited d) (ASource d) [] a h (λ ss. ap (λ m. or_next m ss (settle ss a.counts (head_of a.rest))) (united_move a.counts d _ p))
-starts_come _ _ a h (plain_starts p q) = begins AnyLine ALine [] a h (λ ss. ap (λ m. or_next m ss (settle ss a.counts (head_of a.rest))) (plain_move a.counts _ p q))
+starts_come _ _ a h (plain_starts p q r) = begins AnyLine ALine [] a h (λ ss. ap (λ m. or_next m ss (settle ss a.counts (head_of a.rest))) (plain_move a.counts _ p q r))
 
 pub started_leads : (x : Symbol) (ls : List Symbol) (a b : State) → Leads ls a b → Here a → Starts x ls (head_of a.rest).kind → Leads (x ∷ []) a b
 started_leads x ls a b k h e = comes_leads _ _ a a b (starts_come x ls a h e) k

@@ -9,7 +9,7 @@ ghost use Rattle.smk_parse.specs.{Reads.ArePiped, Reads.Reads, Answers.IsAnyAnsw
 use crate::line::{as_line_fault, end, line, marked};
 use crate::plan::ask_step;
 use crate::reader::Reader;
-use crate::tokens::{expect, line_name};
+use crate::tokens::{expect, line_name, string_in_hand};
 use smk_base::{AnyLine, AskLine, AskSteps, BookFault, LineFault, TokenKind};
 use std::alloc::Global;
 
@@ -47,6 +47,17 @@ fn ask_line(alloc: Global, reader: &mut Reader) -> Result<AskLine, BookFault>
     })
 }
 
+/// An `append` line behind its keyword.
+fn append_line(alloc: Global, reader: &mut Reader) -> Result<AnyLine, BookFault>
+    ensures reads { Reads (ALineName ∷ AToken kinds.Str ∷ []) reader.old reader.new result }
+    ensures is { IfOk result (λ line. (a : List Token) → (t : Token) → First kinds.Append t a reader.old.rest → IsAnyLine a reader.new.rest (any_image line)) }
+{
+    let table = line_name(alloc, reader)?.name;
+    let file = string_in_hand(alloc, reader)?;
+    expect(reader, TokenKind::Str)?;
+    Ok(AnyLine::Append { table, file })
+}
+
 /// A line of any kind.
 #[tactic(auto, using(crate::proofs::Trees::ask_trees, crate::proofs::Steps::begun))]
 fn any_line(alloc: Global, reader: &mut Reader) -> Result<AnyLine, BookFault>
@@ -62,6 +73,10 @@ fn any_line(alloc: Global, reader: &mut Reader) -> Result<AnyLine, BookFault>
             reader.advance();
             let view = line_name(alloc, reader)?.name;
             Ok(AnyLine::Profile { view })
+        }
+        TokenKind::Append => {
+            reader.advance();
+            Ok(append_line(alloc, reader)?)
         }
         _ => Ok(AnyLine::Plain(line(alloc, reader)?)),
     }
