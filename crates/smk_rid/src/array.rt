@@ -1,4 +1,4 @@
-ghost use Rattle.std.specs.Prelude.{◌≡◌, ◌<◌, ◌≤◌, ◌++◌, [], length, take, slice_index_or, IfOk, OnOk};
+ghost use Rattle.std.specs.Prelude.{◌≡◌, ◌<◌, ◌≤◌, ◌++◌, [], length, take, slice_index_or, IfOk, OnOk, vec_capacity};
 ghost use Rattle.std.specs.List.{All, flat_map};
 ghost use Rattle.smk_base.specs.Places.{pairs_of};
 ghost use Rattle.smk_rid.specs.Maps.{IsSingle};
@@ -66,6 +66,15 @@ impl RidArray {
         ensures { one_of result ≡ slice_index_or self.now i [] }
     {
         self.rids[i]
+    }
+
+    /// Puts the numbers that stand for the lists last.
+    pub fn put_numbers(&self, numbers: &mut Vec<u32>) -> Result<(), AllocError>
+        ensures numbers { OnOk result (map one_of numbers.new.items ≡ map one_of numbers.old.items ++ self.now) }
+        ensures room { vec_capacity numbers.old ≤ vec_capacity numbers.new }
+    {
+        numbers.extend_from_slice(self.rids.as_slice())?;
+        Ok(())
     }
 
     /// Puts the rids of the lists at these places last.

@@ -6,6 +6,7 @@ mod compose;
 mod distinct;
 mod fault;
 mod fill;
+mod follow;
 mod grow;
 mod invert;
 mod map;

@@ -1,4 +1,4 @@
-ghost use Rattle.std.specs.Prelude.{◌≡◌, ◌<◌, ◌≤◌, ◌+◌, ◌↔◌, [], ◌∷◌, ◌++◌, length, take, slice_index_or, IfOk, IfErr, OnOk, IsTrue, nat_lt, if◌then◌else◌, slice_index, slice_range};
+ghost use Rattle.std.specs.Prelude.{◌≡◌, ◌<◌, ◌≤◌, ◌+◌, ◌↔◌, [], ◌∷◌, ◌++◌, length, map, take, slice_index_or, IfOk, IfErr, OnOk, IsTrue, nat_lt, if◌then◌else◌, slice_index, slice_range, vec_len, vec_capacity};
 ghost use Rattle.std.specs.List.{All, concat, flat_map};
 ghost use Rattle.smk_base.specs.Places.{pairs_of};
 ghost use Rattle.smk_rid.specs.Maps.{IsSingle};
@@ -120,6 +120,20 @@ impl Packed {
         Ok(())
     }
 
+    /// Puts one list last, its rids moved up by a number.
+    pub fn put_moved(&mut self, list: &[u32], by: u32) -> Result<(), AllocError>
+        requires few { pairs_of self.old + length list.now ≤ PAIR_LIMIT }
+        requires below { All (λ rid. by + rid < 4294967296) list.now }
+        ensures put { IfOk result (λ _. self.new ≡ self.old ++ map (λ i. by + i) list.now ∷ []) }
+    {
+        self.starts.reserve(1)?;
+        self.rids.reserve(list.len())?;
+        push_moved(&mut self.rids, list, by);
+        let end = self.rids.len() as u32;
+        self.starts.push_reserved(end);
+        Ok(())
+    }
+
     /// Puts one list last, unless there are too many pairs then.
     pub fn put_within(&mut self, list: &[u32]) -> Result<(), RidFault>
         ensures put { OnOk result (self.new ≡ self.old ++ list.now ∷ []) }
@@ -157,6 +171,17 @@ impl Packed {
         }
         let _ = starts.pop();
         RidArray::of(starts)
+    }
+}
+
+// Puts these rids last, moved up by a number. There is room for them.
+fn push_moved(rids: &mut Vec<u32>, list: &[u32], by: u32)
+    requires room { vec_len rids.old + length list.now ≤ vec_capacity rids.old }
+    requires below { All (λ rid. by + rid < 4294967296) list.now }
+    ensures { rids.new.items ≡ rids.old.items ++ map (λ i. by + i) list.now }
+{
+    for rid in list {
+        rids.push_reserved(by + *rid);
     }
 }
 
