@@ -20,9 +20,10 @@ pub mod steps;
 pub mod threads;
 mod unions;
 
+pub use aggregates::sums;
 pub use body::{OpBody, OpFault};
 pub use classes::{first_rows, row_classes};
-pub use group::group_rows;
+pub use group::{best_column, group_rows};
 pub use join::{joined, joined_onto, left_columns, matched, partners_of, right_columns};
 pub use lists::{
     marked_lists, own_side, side_from_classes, side_from_places, side_from_runs, side_of_classes,
