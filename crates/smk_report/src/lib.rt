@@ -14,9 +14,9 @@ mod texts;
 
 pub use faults::{fault_text, type_words};
 pub use lines::{add_line_around, line_around, line_of, pair_text};
-pub use lookup::table_named;
+pub use lookup::{table_named, view_at};
 pub use names::shown;
-pub use refusals::{back_refusal_text, refusal_text};
+pub use refusals::{back_refusal_text, full_view_text, refusal_text, unknown_table_text};
 pub use replies::reply_text;
 pub use texts::{
     bad_line_text, no_memory_text, view_text, with_numbered_rows, with_placed_rows, with_rows,

@@ -69,8 +69,8 @@ fn unknown_view_text(alloc: Global, view: &[u8]) -> Result<Vec<u8>, AllocError>
     line_of(alloc, &[b"refused unknown view ", view])
 }
 
-// A table that the book doesn't have.
-fn unknown_table_text(alloc: Global, table: &[u8]) -> Result<Vec<u8>, AllocError>
+/// The line of a refused line that names a table that the book doesn't have.
+pub fn unknown_table_text(alloc: Global, table: &[u8]) -> Result<Vec<u8>, AllocError>
     ensures { IfOk result (λ text. text.items ≡ line (codes "refused unknown table " ∷ table.now ∷ [])) }
 {
     line_of(alloc, &[b"refused unknown table ", table])
@@ -124,8 +124,13 @@ fn value_kind_text(alloc: Global, asked: &Line) -> Result<Vec<u8>, AllocError>
     line_of(alloc, &[b"refused wrong kind for ", column.as_slice()])
 }
 
-// A view that would have too many rows, and the node.
-fn full_text(alloc: Global, catalog: &Catalog, view: u32, node: u32) -> Result<Vec<u8>, AllocError>
+/// The line of a refused line after which a node of this view would have too many rows.
+pub fn full_view_text(
+    alloc: Global,
+    catalog: &Catalog,
+    view: u32,
+    node: u32,
+) -> Result<Vec<u8>, AllocError>
     requires { view < length catalog.now.views }
     ensures { IfOk result (λ text. text.items ≡ line (codes "refused too many rows in " ∷ (view_at (catalog_image catalog.now) view).name ∷ codes " at node " ∷ decimal node ∷ [])) }
 {
@@ -164,7 +169,7 @@ pub fn refusal_text(
         Refusal::ValueKind => value_kind_text(alloc, asked),
         Refusal::NoGroup => pair_text(alloc, b"refused no grouping of ", view, b" to ", table),
         Refusal::NotLinked => pair_text(alloc, b"refused not linked ", view, b" on ", table),
-        Refusal::RowsLimit { view, node } => full_text(alloc, catalog, view, node),
+        Refusal::RowsLimit { view, node } => full_view_text(alloc, catalog, view, node),
         Refusal::ManyMarks => line_of(alloc, &[b"refused more than one mark"]),
     }
 }
