@@ -1,17 +1,17 @@
 mod BackAnswers
 mod Brushed
-mod Declared
+pub mod Declared
 mod Followers
 mod InForce
-mod KeptOf
+pub mod KeptOf
 mod Linked
 mod Marked
 mod Merging
-mod Opened
+pub mod Opened
 mod Pairs
 mod Refreshing
 mod Rids
 mod Selected
-mod Shown
-mod Starts
+pub mod Shown
+pub mod Starts
 mod Turns

@@ -1,5 +1,5 @@
 -- What a view shows under brushes, and what a change of the brushes leaves in force.
-use Rattle.std.proofs.Common.{◌≡◌, ℕ, ◌<◌, Bool, true, false, cond, List, [], ◌∷◌, ◌++◌, length, map, get_or, refl, ap, sym, ◌∙◌, subst, arith, Option, Some, None, All}
+use Rattle.std.proofs.Common.{◌≡◌, ℕ, ◌<◌, ◌≤◌, Bool, true, false, cond, List, [], ◌∷◌, ◌++◌, length, map, get_or, refl, ap, sym, ◌∙◌, subst, arith, Option, Some, None, All}
 use Rattle.std.specs.List.{filter, list_any, IsDistinct}
 use Rattle.std.proofs.lemmas.Bool.{false≢true}
 use Rattle.std.proofs.lemmas.List.{length-map}
@@ -17,7 +17,10 @@ use Rattle.smk_model.specs.Session.{State, is_brush, linked, view_at, with_brush
 use Rattle.smk_model.proofs.Places.{get_or_map_upto, length_upto, upto_below, has_upto}
 use Rattle.smk_compose.specs.declared.kept.Run.{Run}
 use Rattle.smk_session.specs.Answers.{content_at, placed}
-use Rattle.smk_session.specs.Sessions.{AreInForce, AreOpened, BrushFits, content_kept, follows, same_pair, state_over}
+use Rattle.smk_session.specs.Sessions.{AreExtras, AreInForce, AreOpened, BrushFits, IsSession, content_kept, follows, same_pair, state_over}
+use Rattle.smk_session.specs.declared.extra.CubesOn.{CubesOn}
+use Rattle.smk_session.specs.declared.extra.SplitOn.{SplitOn}
+use Rattle.smk_session.specs.declared.mode.Mode.{Mode}
 use Rattle.smk_session.specs.declared.turn.Content.{Content}
 use Rattle.smk_session.proofs.InForce.{brush_leaves, clear_leaves, placed_are, untouched}
 use Rattle.smk_session.proofs.Linked.{linked_low}
@@ -71,6 +74,20 @@ none_in_force catalog tables views contents n o long are = record {
   one_a_pair = none_a_pair;
   contents_are = are ∙ ap (λ (k : ℕ). map nothing (upto k)) (long ∙ views_long catalog tables views o ∙ sym (views_of catalog));
 }
+
+-- so that is a session
+pub session_begun : (catalog : Catalog) (near tables : List Relation) (views : List Run) (splits : List SplitOn) (cubes : List CubesOn) (brushes : List BrushOn) (contents : List (Option Relation)) (mode : Mode) (workers : ℕ)
+    → near ≡ tables → AreOpened catalog near views → AreExtras catalog near splits cubes → brushes ≡ [] → contents ≡ map (λ w. None) (upto (length views)) → 1 ≤ workers → workers ≤ 64
+    → IsSession (record { catalog = catalog; tables = tables; views = views; splits = splits; cubes = cubes; brushes = brushes; contents = contents; mode = mode; workers = workers })
+session_begun catalog near tables views splits cubes brushes contents mode workers same o extras none are some few =
+    let opened_are : AreOpened catalog tables views = subst (λ (T : List Relation). AreOpened catalog T views) same o in
+    record {
+      opened = opened_are;
+      extras = subst (λ (T : List Relation). AreExtras catalog T splits cubes) same extras;
+      in_force = subst (λ (l : List BrushOn). AreInForce catalog tables l contents) (sym none) (none_in_force catalog tables views contents (length views) opened_are refl are);
+      some_workers = some;
+      few_workers = few;
+    }
 
 -- a change of the brushes
 

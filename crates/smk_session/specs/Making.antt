@@ -7,12 +7,12 @@ use Rattle.smk_model.specs.Catalogs.{BackFits}
 use Rattle.smk_model.specs.Session.{Workbook}
 use Rattle.smk_model.specs.Workload.{declares_back}
 use Rattle.smk_session.specs.Sessions.{AreOpened, workbook_image}
-use Rattle.smk_session.specs.declared.making.Opened.{Opened}
+use Rattle.smk_session.specs.declared.making.Opening.{Opening}
 
-abbrev pub IsOpened : Opened → Type 0
+abbrev pub IsOpened : Opening → Type 0
 IsOpened opened = AreOpened opened.book.now opened.tables.now opened.views.now
 
-abbrev pub book_in : Opened → Workbook
+abbrev pub book_in : Opening → Workbook
 book_in opened = workbook_image opened.book.now opened.tables.now
 
 -- a backward declaration fits its book, and its query is declared by the book

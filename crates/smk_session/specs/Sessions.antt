@@ -27,12 +27,15 @@ use Rattle.smk_session.specs.declared.fault.StartFault.TheVariants.{Rows, Pairs,
 abbrev pub workbook_image : Catalog → List Relation → Workbook
 workbook_image catalog tables = record { catalog = catalog_image catalog; tables = each_rows tables }
 
--- its book, the tables, for each view the first content with the lineage that is kept, the brushes in force, the mode of capture and the number of workers
+-- its book, the tables, for each view the first content with the lineage that is kept, the splits and the groups that are made for the declarations that ask for more than rows, the brushes in force, for each view the content that is kept under them beside the first one, the mode of capture and the number of workers
 pub record SessionImage : Type 0 where
   pub catalog : Catalog
   pub tables : List Relation
   pub views : List Run
+  pub splits : List SplitOn
+  pub cubes : List CubesOn
   pub brushes : List BrushOn
+  pub contents : List (Option Relation)
   pub mode : Mode
   pub workers : ℕ
 
@@ -95,10 +98,10 @@ pub record AreInForce (catalog : Catalog) (tables : List Relation) (brushes : Li
   pub contents_are : contents ≡ contents_kept (catalog_image catalog) (state_over tables brushes)
 
 -- the views are opened, what the declarations ask for is made, the brushes are in force, and there are a few workers
-pub record IsSession (session : SessionImage) (contents : List (Option Relation)) (splits : List SplitOn) (cubes : List CubesOn) : Type 0 where
+pub record IsSession (session : SessionImage) : Type 0 where
   pub opened : AreOpened session.catalog session.tables session.views
-  pub extras : AreExtras session.catalog session.tables splits cubes
-  pub in_force : AreInForce session.catalog session.tables session.brushes contents
+  pub extras : AreExtras session.catalog session.tables session.splits session.cubes
+  pub in_force : AreInForce session.catalog session.tables session.brushes session.contents
   pub some_workers : 1 ≤ session.workers
   pub few_workers : session.workers ≤ 64
 

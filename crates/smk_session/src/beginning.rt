@@ -12,9 +12,9 @@ ghost use Rattle.smk_session.specs.Sessions.{AreExtras, AreOpened, IsStartFault,
 use crate::crew::Crew;
 use crate::extra::Extras;
 use crate::fault::StartFault;
-use crate::making::{Opened, make_extras};
+use crate::making::{Opening, make_extras};
 use crate::mode::Mode;
-use crate::opening::{no_contents, open_by};
+use crate::opening::{no_contents, open_views};
 use smk_base::Rel;
 use smk_compose::Run;
 use smk_outside::{Gate, Steps};
@@ -42,7 +42,7 @@ pub(crate) struct Begun {
 // What is kept beside these views, while no brush is in force.
 fn keep_beside<L: Ledger>(
     alloc: Global,
-    opened: &Opened<'_>,
+    opened: &Opening<'_>,
     steps: &mut Steps<L>,
 ) -> Result<Beside, AllocError>
     requires { IsOpened opened.now }
@@ -73,8 +73,8 @@ pub(crate) fn begin<R: Threads + Sync, G: Gate + Sync, L: Ledger>(
     ensures fault { IfErr result (λ e. IsStartFault e (first_view_fault (workbook_image book.now tables.now))) }
     ensures looks { steps.new ≤ steps.old + start_looks (workbook_image book.now tables.now) }
 {
-    let views = open_by(rt, alloc, mode, crew, book, tables, steps)?;
-    let opened = Opened {
+    let views = open_views(rt, alloc, mode, crew, book, tables, steps)?;
+    let opened = Opening {
         book: book.catalog(),
         tables,
         views: views.as_slice(),

@@ -2,21 +2,21 @@ use smk_base::ListOf;
 use smk_push::Cubes;
 use smk_skip::Split;
 
-// The backward lineage of a view to a table, split by a column.
+/// The backward lineage of a view to a table, split by a column.
 #[derive(Drop)]
-pub(crate) struct SplitOn {
-    pub(crate) view: u32,
-    pub(crate) table: u32,
-    pub(crate) col: u32,
-    pub(crate) split: Split,
+pub struct SplitOn {
+    pub view: u32,
+    pub table: u32,
+    pub col: u32,
+    pub split: Split,
 }
 
-// The groups of the backward lineage of a view to a table, for each row of the view.
+/// The groups of the backward lineage of a view to a table, for each row of the view.
 #[derive(Drop)]
-pub(crate) struct CubesOn {
-    pub(crate) view: u32,
-    pub(crate) table: u32,
-    pub(crate) cubes: Cubes,
+pub struct CubesOn {
+    pub view: u32,
+    pub table: u32,
+    pub cubes: Cubes,
 }
 
 // One split for each declaration by a column, in their order.

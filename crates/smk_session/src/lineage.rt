@@ -20,8 +20,8 @@ fn kept_of(run: &Run, table: usize) -> Option<&KeptMap>
         .find(|kept| kept.table as usize == table)
 }
 
-// The backward lineage to a table, where it is kept.
-pub(crate) fn back_kept(run: &Run, table: usize) -> Option<&RidMap>
+/// The backward lineage to a table, where it is kept. It takes no memory.
+pub fn back_kept(run: &Run, table: usize) -> Option<&RidMap>
     ensures { option_map (λ map. map.now) result ≡ option_and_then (λ kept. kept.back) (find (is_of_table table) run.now.kept) }
 {
     match kept_of(run, table) {

@@ -25,14 +25,14 @@ use std::sync::ledger::Ledger;
 
 // A book over its tables, and its views as they are first evaluated.
 #[derive(Drop)]
-pub(crate) struct Opened<'a> {
+pub(crate) struct Opening<'a> {
     pub(crate) book: &'a Catalog,
     pub(crate) tables: &'a [Table],
     pub(crate) views: &'a [Run],
 }
 
 // The backward lineage that a declaration asks for. It is kept.
-fn declared_map<'a>(opened: &'a Opened<'_>, declared: &Back) -> &'a RidMap
+fn declared_map<'a>(opened: &'a Opening<'_>, declared: &Back) -> &'a RidMap
     requires opened { IsOpened opened.now }
     requires declared { IsDeclared opened.now.book.now declared.now }
     ensures { result.now ≡ backs_of (book_in opened.now) declared.now.view declared.now.table }
@@ -47,7 +47,7 @@ fn declared_map<'a>(opened: &'a Opened<'_>, declared: &Back) -> &'a RidMap
 }
 
 // The table of a declaration.
-fn declared_table<'a>(opened: &'a Opened<'_>, declared: &Back) -> &'a Table
+fn declared_table<'a>(opened: &'a Opening<'_>, declared: &Back) -> &'a Table
     requires opened { IsOpened opened.now }
     requires declared { IsDeclared opened.now.book.now declared.now }
     ensures { result.now ≡ table_of (book_in opened.now) declared.now.table }
@@ -58,7 +58,7 @@ fn declared_table<'a>(opened: &'a Opened<'_>, declared: &Back) -> &'a Table
 // The lineage of a declaration split by a column.
 fn made_split<L: Ledger>(
     alloc: Global,
-    opened: &Opened<'_>,
+    opened: &Opening<'_>,
     declared: &Back,
     col: u32,
     steps: &mut Steps<L>,
@@ -83,7 +83,7 @@ fn made_split<L: Ledger>(
 // The groups of each list of the lineage of a declaration.
 fn made_cubes<L: Ledger>(
     alloc: Global,
-    opened: &Opened<'_>,
+    opened: &Opening<'_>,
     declared: &Back,
     keys: &Keys,
     aggs: &Aggs,
@@ -108,7 +108,7 @@ fn made_cubes<L: Ledger>(
 // Puts last what a declaration asks for besides the rows.
 fn put_extra<L: Ledger>(
     alloc: Global,
-    opened: &Opened<'_>,
+    opened: &Opening<'_>,
     declared: &Back,
     extras: &mut Extras,
     steps: &mut Steps<L>,
@@ -135,7 +135,7 @@ fn put_extra<L: Ledger>(
 // What all declarations ask for besides the rows, in their order.
 pub(crate) fn make_extras<L: Ledger>(
     alloc: Global,
-    opened: &Opened<'_>,
+    opened: &Opening<'_>,
     steps: &mut Steps<L>,
 ) -> Result<Extras, AllocError>
     requires { IsOpened opened.now }

@@ -15,9 +15,10 @@ ghost use Rattle.smk_session.specs.Sessions.{AreOpened, IsStartFault, fault_in, 
 use crate::crew::Crew;
 use crate::fault::StartFault;
 use crate::mode::Mode;
+use crate::parts::Opened;
 use smk_base::{Catalog, Rel, ViewInfo};
 use smk_body::OpBody;
-use smk_compose::{Run, RunFault, run_plan};
+use smk_compose::{RunFault, run_plan};
 use smk_defer::Defer;
 use smk_inject::Inject;
 use smk_outside::{Gate, Steps};
@@ -39,8 +40,8 @@ fn at_view(view: u32, fault: RunFault) -> StartFault
     }
 }
 
-// The view with this number.
-pub(crate) fn view_of(catalog: &Catalog, v: u32) -> &ViewInfo
+/// The view with this number. It takes no memory.
+pub fn view_of(catalog: &Catalog, v: u32) -> &ViewInfo
     requires checked { IsCatalog (catalog_image catalog.now) }
     requires view { v < length catalog.now.views }
     ensures view { view_image result.now ≡ view_at (catalog_image catalog.now) v }
@@ -49,8 +50,8 @@ pub(crate) fn view_of(catalog: &Catalog, v: u32) -> &ViewInfo
     &catalog.views.as_slice()[v as usize]
 }
 
-// The view with this number: its first content, and exactly the lineage that is needed.
-fn open_view<R: Threads + Sync, B: OpBody + Sync, L: Ledger>(
+// The view with this number, its lineage captured by a body.
+fn open_with<R: Threads + Sync, B: OpBody + Sync, L: Ledger>(
     rt: &R,
     alloc: Global,
     body: &B,
@@ -58,7 +59,7 @@ fn open_view<R: Threads + Sync, B: OpBody + Sync, L: Ledger>(
     tables: &[Table],
     v: u32,
     steps: &mut Steps<L>,
-) -> Result<Run, StartFault>
+) -> Result<Opened, StartFault>
     requires kinds { each_kinds tables.now ≡ each_table_kinds book.now.tables }
     requires captures { IsTrue (B.may_capture body.now) }
     requires view { v < length book.now.views }
@@ -75,17 +76,54 @@ fn open_view<R: Threads + Sync, B: OpBody + Sync, L: Ledger>(
     }
 }
 
-// All views in the book's order, or the first that is too big.
-fn open_views<R: Threads + Sync, B: OpBody + Sync, L: Ledger>(
+/// The view with this number: its first content, and exactly the lineage that is needed for it; or its first node that is too big. Each row of a leaf is at most one look, also where it is refused.
+///
+/// Lineage is captured by the body of `mode`, all in this thread with one worker, and above that in pieces of rows that may run at the same time; piece p passes the gate with p. There are at most 64 workers.
+pub fn open_view<R: Threads + Sync, G: Gate + Sync, L: Ledger>(
     rt: &R,
     alloc: Global,
-    body: &B,
+    mode: Mode,
+    workers: u32,
+    gate: &G,
+    book: &TypedBook,
+    tables: &[Table],
+    v: u32,
+    steps: &mut Steps<L>,
+) -> Result<Opened, StartFault>
+    requires kinds { each_kinds tables.now ≡ each_table_kinds book.now.tables }
+    requires some_workers { 1 ≤ workers }
+    requires few_workers { workers ≤ 64 }
+    requires view { v < length book.now.views }
+    ensures run { IfOk result (λ run. run ≡ opened (workbook_image book.now tables.now) v) }
+    ensures none { OnOk result (view_fault (workbook_image book.now tables.now) v ≡ None) }
+    ensures fault { IfErr result (λ e. IsStartFault e (view_fault (workbook_image book.now tables.now) v)) }
+    ensures looks { steps.new ≤ steps.old + looks_of_view (workbook_image book.now tables.now) (view_at (workbook_image book.now tables.now).catalog v) }
+{
+    match (mode, workers) {
+        (Mode::Inject, 1) => open_with(rt, alloc, &Inject, book, tables, v, steps),
+        (Mode::Defer, 1) => open_with(rt, alloc, &Defer, book, tables, v, steps),
+        (Mode::Inject, workers) => {
+            let body = Pieces::new(Inject, gate, workers);
+            open_with(rt, alloc, &body, book, tables, v, steps)
+        }
+        (Mode::Defer, workers) => {
+            let body = Pieces::new(Defer, gate, workers);
+            open_with(rt, alloc, &body, book, tables, v, steps)
+        }
+    }
+}
+
+// All views in the book's order, or the first that is too big.
+pub(crate) fn open_views<R: Threads + Sync, G: Gate + Sync, L: Ledger>(
+    rt: &R,
+    alloc: Global,
+    mode: Mode,
+    crew: &Crew<'_, G>,
     book: &TypedBook,
     tables: &[Table],
     steps: &mut Steps<L>,
-) -> Result<Vec<Run>, StartFault>
+) -> Result<Vec<Opened>, StartFault>
     requires kinds { each_kinds tables.now ≡ each_table_kinds book.now.tables }
-    requires captures { IsTrue (B.may_capture body.now) }
     ensures opened { IfOk result (λ views. AreOpened book.now tables.now views.items) }
     ensures none { OnOk result (first_view_fault (workbook_image book.now tables.now) ≡ None) }
     ensures fault { IfErr result (λ e. IsStartFault e (first_view_fault (workbook_image book.now tables.now))) }
@@ -94,39 +132,19 @@ fn open_views<R: Threads + Sync, B: OpBody + Sync, L: Ledger>(
     let count = book.catalog().views.as_slice().len();
     let mut views = Vec::with_capacity(alloc, count)?;
     for v in 0..count as u32 {
-        views.push(open_view(rt, alloc, body, book, tables, v, steps)?)?;
+        views.push(open_view(
+            rt,
+            alloc,
+            mode,
+            crew.workers,
+            crew.gate,
+            book,
+            tables,
+            v,
+            steps,
+        )?)?;
     }
     Ok(views)
-}
-
-// All views in the book's order, their lineage captured by the body of a mode, whose steps are cut into pieces where there are several workers.
-pub(crate) fn open_by<R: Threads + Sync, G: Gate + Sync, L: Ledger>(
-    rt: &R,
-    alloc: Global,
-    mode: Mode,
-    crew: &Crew<'_, G>,
-    book: &TypedBook,
-    tables: &[Table],
-    steps: &mut Steps<L>,
-) -> Result<Vec<Run>, StartFault>
-    requires kinds { each_kinds tables.now ≡ each_table_kinds book.now.tables }
-    ensures opened { IfOk result (λ views. AreOpened book.now tables.now views.items) }
-    ensures none { OnOk result (first_view_fault (workbook_image book.now tables.now) ≡ None) }
-    ensures fault { IfErr result (λ e. IsStartFault e (first_view_fault (workbook_image book.now tables.now))) }
-    ensures looks { steps.new ≤ steps.old + sum_by (looks_of_view (workbook_image book.now tables.now)) (workbook_image book.now tables.now).catalog.views }
-{
-    match (mode, crew.workers) {
-        (Mode::Inject, 1) => open_views(rt, alloc, &Inject, book, tables, steps),
-        (Mode::Defer, 1) => open_views(rt, alloc, &Defer, book, tables, steps),
-        (Mode::Inject, workers) => {
-            let body = Pieces::new(Inject, crew.gate, workers);
-            open_views(rt, alloc, &body, book, tables, steps)
-        }
-        (Mode::Defer, workers) => {
-            let body = Pieces::new(Defer, crew.gate, workers);
-            open_views(rt, alloc, &body, book, tables, steps)
-        }
-    }
 }
 
 // No content is kept beside the first ones of so many views.

@@ -1,11 +1,13 @@
-ghost use Rattle.std.specs.Prelude.{◌≡◌, ◌≤◌, ◌<◌, ◌+◌, [], true, length, slice_index_or, None, IfOk, IfErr, OnOk, OnErr};
+ghost use Rattle.std.specs.Prelude.{◌≡◌, ◌≤◌, ◌<◌, ◌+◌, [], true, length, map, slice_index_or, None, IfOk, IfErr, OnOk, OnErr};
 ghost use Rattle.smk_base.specs.CatalogImage.{catalog_image};
+ghost use Rattle.smk_base.specs.Places.{upto};
 ghost use Rattle.smk_model.specs.Catalogs.{IsCatalog, each_table_kinds};
 ghost use Rattle.smk_model.specs.Looks.{start_looks, line_looks};
 ghost use Rattle.smk_model.specs.Opening.{first_view_fault};
 ghost use Rattle.smk_model.specs.Replies as replies;
 ghost use Rattle.smk_model.specs.Selection.{each_kinds};
-ghost use Rattle.smk_session.specs.Sessions.{workbook_image, state_of, IsStartFault, opened, workbook_of};
+ghost use Rattle.smk_session.specs.Parts.{parts_image};
+ghost use Rattle.smk_session.specs.Sessions.{IsSession, IsStartFault, opened, state_of, workbook_image, workbook_of};
 
 use crate::answer::answer_to;
 use crate::beginning::begin;
@@ -14,6 +16,7 @@ use crate::extra::{Groupings, Splits};
 use crate::fault::StartFault;
 use crate::held::Held;
 use crate::mode::Mode;
+use crate::parts::Parts;
 use crate::turn::{Brushes, Turn, place};
 use crate::turned::Turned;
 use smk_base::{Catalog, Line, Rel, Reply};
@@ -49,9 +52,9 @@ impl Model for Session {
 
     ghost coded = { Prim.hlevel (codes, held.the_row.coded) };
 
-    ghost view = { λ a. record { catalog = a.book; tables = a.tables.items; views = a.views.items; brushes = a.brushes; mode = a.mode; workers = a.workers } };
+    ghost view = { λ a. record { catalog = a.book; tables = a.tables.items; views = a.views.items; splits = a.splits; cubes = a.cubes; brushes = a.brushes; contents = a.contents.items; mode = a.mode; workers = a.workers } };
 
-    ghost invariant = { λ a. IsSession (record { catalog = a.book; tables = a.tables.items; views = a.views.items; brushes = a.brushes; mode = a.mode; workers = a.workers }) a.contents.items a.splits a.cubes };
+    ghost invariant = { λ a. IsSession (record { catalog = a.book; tables = a.tables.items; views = a.views.items; splits = a.splits; cubes = a.cubes; brushes = a.brushes; contents = a.contents.items; mode = a.mode; workers = a.workers }) };
 }
 
 impl Session {
@@ -74,6 +77,8 @@ impl Session {
         ensures book { IfOk result (λ session. session.catalog ≡ book) }
         ensures tables { IfOk result (λ session. session.tables ≡ tables.items) }
         ensures brushes { IfOk result (λ session. session.brushes ≡ []) }
+        ensures contents { IfOk result (λ session. session.contents ≡ map (λ w. None) (upto (length session.views))) }
+        ensures keeps { IfOk result IsSession }
         ensures mode { IfOk result (λ session. session.mode ≡ mode) }
         ensures workers { IfOk result (λ session. session.workers ≡ workers) }
         ensures none { OnOk result (first_view_fault (workbook_image book tables.items) ≡ None) }
@@ -95,6 +100,64 @@ impl Session {
         })
     }
 
+    /// The session that has exactly these parts. It takes no memory and makes no look.
+    pub fn from_parts(parts: Parts) -> Session
+        requires keeps { IsSession (parts_image parts) }
+        ensures session { result ≡ parts_image parts }
+    {
+        let Parts {
+            book,
+            tables,
+            views,
+            splits,
+            cubes,
+            brushes,
+            now,
+            mode,
+            workers,
+        } = parts;
+        Session {
+            book,
+            tables,
+            views,
+            splits: Splits::from_vec(splits),
+            cubes: Groupings::from_vec(cubes),
+            brushes: Brushes::from_vec(brushes),
+            contents: now,
+            mode,
+            workers,
+        }
+    }
+
+    /// The parts of the session, which are what every session keeps. It takes no memory and makes no look.
+    pub fn into_parts(self) -> Parts
+        ensures parts { parts_image result ≡ self }
+        ensures keeps { IsSession self }
+    {
+        let Session {
+            book,
+            tables,
+            views,
+            splits,
+            cubes,
+            brushes,
+            contents,
+            mode,
+            workers,
+        } = self;
+        Parts {
+            book,
+            tables,
+            views,
+            splits: splits.into_vec(),
+            cubes: cubes.into_vec(),
+            brushes: brushes.into_vec(),
+            now: contents,
+            mode,
+            workers,
+        }
+    }
+
     /// The first content of the view with this number. It takes no memory.
     pub fn first(&self, view: u32) -> &Rel
         requires { view < length self.now.catalog.views }
@@ -111,7 +174,7 @@ impl Session {
         self.book.catalog()
     }
 
-    /// The reply to a line, after which the brushes in force are those of the next state. Rows of a table that are answered are one look each, those without the value that is asked for and those of a grouping none, and so are the rows that are selected for the views that follow a brush. With several workers two views or more that follow are made anew at the same time, once the rows of all are selected: the i-th of them, from 0, passes the gate with i; one alone is made in pieces, as by `start`. After an error, and after a line that is refused, the session is as it was.
+    /// The reply to a line, after which the brushes in force are those of the next state. Rows of a table that are answered are one look each, those without the value that is asked for and those of a grouping none, and so are the rows that are selected for the views that follow a brush. With several workers two views or more that follow are made anew at the same time, once the rows of all are selected: the i-th of them, from 0, passes the gate with i; one alone is made in pieces, as by `start`. After an error, after a line that is refused, and after one that leaves the state, the session is as it was.
     pub fn answer<R: Threads + Sync, G: Gate + Sync, L: Ledger>(
         &mut self,
         rt: &R,
@@ -122,9 +185,12 @@ impl Session {
     ) -> Result<Reply, AllocError>
         ensures reply { IfOk result (λ told. (told, state_of self.new) ≡ replies.reply (catalog_image self.old.catalog) (state_of self.old) line.now) }
         ensures refused { IfOk result (λ told. replies.is_refused told ≡ true → self.new ≡ self.old) }
+        ensures same { state_of self.new ≡ state_of self.old → self.new ≡ self.old }
         ensures book { self.new.catalog ≡ self.old.catalog }
         ensures tables { self.new.tables ≡ self.old.tables }
         ensures views { self.new.views ≡ self.old.views }
+        ensures splits { self.new.splits ≡ self.old.splits }
+        ensures cubes { self.new.cubes ≡ self.old.cubes }
         ensures mode { self.new.mode ≡ self.old.mode }
         ensures workers { self.new.workers ≡ self.old.workers }
         ensures kept { OnErr result (self.new ≡ self.old) }

@@ -4,12 +4,12 @@ use Rattle.smk_session.proofs.Starts.{start_whole, start_within}
 use Rattle.smk_session.proofs.beginning.begin.Goals as goal
 
 pub returns-in_err-views-clause-looks : goal.returns-in_err-views-clause-looks
-returns-in_err-views-clause-looks g c = start_within (workbook_image c.args.book.now c.args.tables.now) c.args.steps.now c.open_by.new.steps c.open_by.ensures.looks
+returns-in_err-views-clause-looks g c = start_within (workbook_image c.args.book.now c.args.tables.now) c.args.steps.now c.open_views.new.steps c.open_views.ensures.looks
 
 pub returns-in_err-beside-clause-looks : goal.returns-in_err-beside-clause-looks
 returns-in_err-beside-clause-looks g c =
-    start_whole c.args.book.now c.catalog.result.now c.args.tables.now c.args.tables.now c.args.tables.now c.args.steps.now c.open_by.new.steps c.keep_beside.new.steps refl c.catalog.ensures.value refl c.open_by.ensures.looks c.keep_beside.ensures.looks
+    start_whole c.args.book.now c.catalog.result.now c.args.tables.now c.args.tables.now c.args.tables.now c.args.steps.now c.open_views.new.steps c.keep_beside.new.steps refl c.catalog.ensures.value refl c.open_views.ensures.looks c.keep_beside.ensures.looks
 
 pub returns-clause-looks : goal.returns-clause-looks
 returns-clause-looks g c =
-    start_whole c.args.book.now c.catalog.result.now c.args.tables.now c.args.tables.now c.args.tables.now c.args.steps.now c.open_by.new.steps c.keep_beside.new.steps refl c.catalog.ensures.value refl c.open_by.ensures.looks c.keep_beside.ensures.looks
+    start_whole c.args.book.now c.catalog.result.now c.args.tables.now c.args.tables.now c.args.tables.now c.args.steps.now c.open_views.new.steps c.keep_beside.new.steps refl c.catalog.ensures.value refl c.open_views.ensures.looks c.keep_beside.ensures.looks

@@ -1,11 +1,10 @@
-use Rattle.std.proofs.Common.{◌≡◌, ◌≤◌, ◌+◌, List, None, refl, arith, subst, sym}
+use Rattle.std.proofs.Common.{◌≡◌, ◌≤◌, ◌+◌, List, None, subst}
 use Rattle.std.proofs.lemmas.Result.{err_from_is_err_and}
 use Rattle.smk_base.specs.Rels.{Relation}
-use Rattle.smk_base.specs.declared.brush.BrushOn.{BrushOn}
 use Rattle.smk_model.specs.Looks.{start_looks}
 use Rattle.smk_model.specs.Opening.{first_view_fault}
-use Rattle.smk_session.specs.Sessions.{AreExtras, AreInForce, AreOpened, IsStartFault, workbook_image}
-use Rattle.smk_session.proofs.Shown.{none_in_force}
+use Rattle.smk_session.specs.Sessions.{IsStartFault, workbook_image}
+use Rattle.smk_session.proofs.Shown.{session_begun}
 use Rattle.smk_session.proofs.session.Session.start.Goals as goal
 
 pub returns-in_err-begun-clause-fault : goal.returns-in_err-begun-clause-fault
@@ -25,12 +24,11 @@ returns-clause-none g c = subst (λ (T : List Relation). first_view_fault (workb
 pub invariant_of-result : goal.invariant_of-result
 invariant_of-result g c =
     let begun = c.in_ok-begun.begun in
-    let o : AreOpened c.args.book c.args.tables.items begun.views.items = subst (λ (T : List Relation). AreOpened c.args.book T begun.views.items) c.as_slice.ensures.value c.in_ok-begun.ensures.opened in
-    record {
-      opened = o;
-      extras = subst (λ (T : List Relation). AreExtras c.args.book T begun.extras.splits begun.extras.cubes) c.as_slice.ensures.value c.in_ok-begun.ensures.extras;
-      in_force = subst (λ (l : List BrushOn). AreInForce c.args.book c.args.tables.items l begun.contents.items) (sym c.new.ensures)
-          (none_in_force c.args.book c.args.tables.items begun.views.items begun.contents.items _ o refl c.in_ok-begun.ensures.contents);
-      some_workers = omega arith;
-      few_workers = omega arith;
-    }
+    session_begun c.args.book _ c.args.tables.items begun.views.items begun.extras.splits begun.extras.cubes c.new.result begun.contents.items c.args.mode c.args.workers
+    c.as_slice.ensures.value c.in_ok-begun.ensures.opened c.in_ok-begun.ensures.extras c.new.ensures c.in_ok-begun.ensures.contents c.requires.some_workers c.requires.few_workers
+
+pub returns-clause-keeps : goal.returns-clause-keeps
+returns-clause-keeps g c =
+    let begun = c.in_ok-begun.begun in
+    session_begun c.args.book _ c.args.tables.items begun.views.items begun.extras.splits begun.extras.cubes c.new.result begun.contents.items c.args.mode c.args.workers
+    c.as_slice.ensures.value c.in_ok-begun.ensures.opened c.in_ok-begun.ensures.extras c.new.ensures c.in_ok-begun.ensures.contents c.requires.some_workers c.requires.few_workers

@@ -1,7 +1,7 @@
 use Rattle.std.proofs.Common.{◌<◌, ℕ, All, sym, subst}
 use Rattle.smk_base.specs.declared.need.Needed.{Needed}
 use Rattle.smk_session.proofs.Opened.{tables_long}
-use Rattle.smk_session.proofs.opening.open_view.Goals as goal
+use Rattle.smk_session.proofs.opening.open_with.Goals as goal
 
 pub run_plan-requires-clause-need : goal.run_plan-requires-clause-need
 run_plan-requires-clause-need g c κs within =

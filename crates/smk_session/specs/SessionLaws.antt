@@ -1,0 +1,10 @@
+-- Laws of what a session keeps.
+use Rattle.std.specs.Prelude.{◌≡◌, List, [], length, map, None}
+use Rattle.smk_base.specs.CatalogImage.{CatalogImage}
+use Rattle.smk_base.specs.Places.{upto}
+use Rattle.smk_base.specs.Rels.{Relation}
+use Rattle.smk_session.specs.Sessions.{contents_kept, state_over}
+
+-- with no brush in force, no view has a content beside its first one
+abbrev pub NothingKept : Type 0
+NothingKept = (catalog : CatalogImage) (tables : List Relation) → contents_kept catalog (state_over tables []) ≡ map (λ w. None) (upto (length catalog.views))
