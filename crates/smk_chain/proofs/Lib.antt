@@ -1,0 +1,6 @@
+pub mod Columns
+pub mod FitRows
+pub mod Joining
+pub mod Levels
+pub mod Running
+pub mod Tables

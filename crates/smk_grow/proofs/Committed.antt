@@ -1,0 +1,74 @@
+-- What a session keeps once fresh values are in the places of what they replace.
+use Rattle.std.proofs.Common.{◌≡◌, ℕ, ◌<◌, ◌≤◌, List, [], length, map, refl, ap, sym, ◌∙◌, arith, Option, None}
+use Rattle.std.specs.List.{filter_map}
+use Rattle.std.proofs.lemmas.List.{length-map}
+use Rattle.smk_base.specs.CatalogImage.{catalog_image}
+use Rattle.smk_base.specs.Places.{upto}
+use Rattle.smk_base.specs.Rels.{Relation}
+use Rattle.smk_base.specs.declared.brush.BrushOn.{BrushOn}
+use Rattle.smk_model.specs.Selection.{each_rows}
+use Rattle.smk_compose.specs.declared.kept.Run.{Run}
+use Rattle.smk_session.specs.Extras.{splits_of, all_cubes, split_in, cubes_in}
+use Rattle.smk_session.specs.Sessions.{SessionImage, opened, opened_views, workbook_image, workbook_of}
+use Rattle.smk_session.specs.declared.extra.CubesOn.{CubesOn}
+use Rattle.smk_session.specs.declared.extra.SplitOn.{SplitOn}
+use Rattle.smk_grow.specs.Grown.{first_tables}
+use Rattle.smk_grow.specs.Images.{renewed}
+use Rattle.smk_grow.specs.Renewals.{IsFresh, IsGrown}
+use Rattle.smk_grow.specs.Renewed.{fresh_cubes, fresh_split, fresh_view, replaced}
+use Rattle.smk_grow.specs.declared.renewing.Fresh.{Fresh}
+use Rattle.smk_grow.proofs.Fresh.{same_but}
+use Rattle.smk_grow.proofs.Replaced.{long_cubes, long_splits, replaced_cubes, replaced_splits, replaced_views}
+
+pub committed_views : (session : SessionImage) (t len : ℕ) (fresh : Fresh) → IsGrown session t len → IsFresh t (workbook_of session) fresh → replaced fresh.views.items session.views ≡ opened_views (workbook_of session)
+committed_views session t len fresh grown f =
+    let n = length (catalog_image session.catalog).views in
+    ap (λ (l : List (Option Run)). replaced l session.views) f.views
+    ∙ ap (replaced (map (fresh_view t (workbook_of session)) (upto n))) grown.opened.views_are
+    ∙ replaced_views (catalog_image session.catalog) t (each_rows (first_tables session.tables t len)) (each_rows session.tables) n (same_but session.tables t len)
+
+pub committed_splits : (session : SessionImage) (t len : ℕ) (fresh : Fresh) → IsGrown session t len → IsFresh t (workbook_of session) fresh → replaced fresh.extras.splits.items session.splits ≡ splits_of (workbook_of session)
+committed_splits session t len fresh grown f =
+    ap (λ (l : List (Option SplitOn)). replaced l session.splits) f.splits
+    ∙ ap (replaced (filter_map (fresh_split t (workbook_of session)) session.catalog.backs)) grown.extras.splits_are
+    ∙ replaced_splits (catalog_image session.catalog) t (each_rows (first_tables session.tables t len)) (each_rows session.tables) session.catalog.backs (same_but session.tables t len)
+
+pub committed_cubes : (session : SessionImage) (t len : ℕ) (fresh : Fresh) → IsGrown session t len → IsFresh t (workbook_of session) fresh → replaced fresh.extras.cubes.items session.cubes ≡ all_cubes (workbook_of session)
+committed_cubes session t len fresh grown f =
+    ap (λ (l : List (Option CubesOn)). replaced l session.cubes) f.cubes
+    ∙ ap (replaced (filter_map (fresh_cubes t (workbook_of session)) session.catalog.backs)) grown.extras.cubes_are
+    ∙ replaced_cubes (catalog_image session.catalog) t (each_rows (first_tables session.tables t len)) (each_rows session.tables) session.catalog.backs (same_but session.tables t len)
+
+-- there are as many of them
+
+pub few_views : (session : SessionImage) (t len : ℕ) (fresh : Fresh) → IsGrown session t len → IsFresh t (workbook_of session) fresh → length fresh.views.items ≤ length session.views
+few_views session t len fresh grown f =
+    let n = length (catalog_image session.catalog).views in
+    let made : length fresh.views.items ≡ length (upto n) = ap length f.views ∙ length-map (upto n) (fresh_view t (workbook_of session)) in
+    let there : length session.views ≡ length (upto n) = ap length grown.opened.views_are ∙ length-map (upto n) (opened (workbook_image session.catalog (first_tables session.tables t len))) in
+    omega (arith, made, there)
+
+pub few_splits : (session : SessionImage) (t len : ℕ) (fresh : Fresh) → IsGrown session t len → IsFresh t (workbook_of session) fresh → length fresh.extras.splits.items ≤ length session.splits
+few_splits session t len fresh grown f =
+    let same : length fresh.extras.splits.items ≡ length session.splits =
+    ap length f.splits ∙ long_splits (catalog_image session.catalog) t (each_rows (first_tables session.tables t len)) (each_rows session.tables) session.catalog.backs ∙ ap length (sym grown.extras.splits_are) in
+    omega (arith, same)
+
+pub few_cubes : (session : SessionImage) (t len : ℕ) (fresh : Fresh) → IsGrown session t len → IsFresh t (workbook_of session) fresh → length fresh.extras.cubes.items ≤ length session.cubes
+few_cubes session t len fresh grown f =
+    let same : length fresh.extras.cubes.items ≡ length session.cubes =
+    ap length f.cubes ∙ long_cubes (catalog_image session.catalog) t (each_rows (first_tables session.tables t len)) (each_rows session.tables) session.catalog.backs ∙ ap length (sym grown.extras.cubes_are) in
+    omega (arith, same)
+
+-- what a session keeps then
+
+abbrev image_of : SessionImage → List Run → List SplitOn → List CubesOn → List BrushOn → List (Option Relation) → SessionImage
+image_of session views splits cubes brushes contents = record session { views = views; splits = splits; cubes = cubes; brushes = brushes; contents = contents }
+
+pub committed : (session : SessionImage) (t len : ℕ) (fresh : Fresh) (views : List Run) (splits : List SplitOn) (cubes : List CubesOn) (brushes : List BrushOn) (contents : List (Option Relation))
+    → IsGrown session t len → IsFresh t (workbook_of session) fresh
+    → views ≡ replaced fresh.views.items session.views → splits ≡ replaced fresh.extras.splits.items session.splits → cubes ≡ replaced fresh.extras.cubes.items session.cubes
+    → brushes ≡ [] → contents ≡ map (λ (w : ℕ). None) (upto (length session.contents))
+    → image_of session views splits cubes brushes contents ≡ renewed session
+committed session t len fresh views splits cubes brushes contents grown f views_are splits_are cubes_are none forgotten =
+    rw (views_are ∙ committed_views session t len fresh grown f, splits_are ∙ committed_splits session t len fresh grown f, cubes_are ∙ committed_cubes session t len fresh grown f, none, forgotten) refl

@@ -1,0 +1,89 @@
+-- What takes the place of a view, by what the view is.
+use Rattle.std.proofs.Common.{◌≡◌, ℕ, ◌+◌, ◌<◌, ◌≤◌, Bool, true, false, ◌||◌, cond, List, [], ◌∷◌, ◌++◌, length, map, get_or, refl, ap, sym, ◌∙◌, subst, arith, Option, Some, None, inl, inr}
+use Rattle.std.proofs.lemmas.Bool.{cases_Bool, false≢true}
+use Rattle.smk_base.specs.CatalogImage.{catalog_image}
+use Rattle.smk_base.specs.Places.{upto}
+use Rattle.smk_base.specs.Rels.{Relation}
+use Rattle.smk_base.specs.declared.catalog.Catalog.{Catalog}
+use Rattle.smk_model.specs.Appends.{scans}
+use Rattle.smk_model.specs.NodeFaults.{FullRows, FullPairs}
+use Rattle.smk_model.specs.Opening.{ViewFault, view_fault}
+use Rattle.smk_model.specs.Plain.{table_at, whole}
+use Rattle.smk_model.specs.Selection.{each_rows, row_limit, rows_in}
+use Rattle.smk_model.specs.Session.{Workbook, view_at}
+use Rattle.smk_compose.specs.declared.kept.Run.{Run}
+use Rattle.smk_session.specs.Sessions.{IsStartFault, opened, workbook_image}
+use Rattle.smk_session.specs.declared.fault.StartFault.{StartFault}
+use Rattle.smk_session.specs.declared.fault.StartFault.TheVariants.{Rows, Pairs, NoMemory}
+use Rattle.smk_grow.specs.Grown.{rows_of, first_tables}
+use Rattle.smk_grow.specs.Renewed.{apart_view, chains, fresh_view, is_asked, moved_view, scan_fault, looks_again, looks_apart}
+use Rattle.smk_grow.proofs.Grown.{other_with, rows_is}
+use Rattle.smk_grow.proofs.Renewed.{SameBut, chain_looks, chain_never_full, chains_scan, moved_is}
+
+-- the first rows of a table leave the others as they are
+pub same_but : (tables : List Relation) (t len : ℕ) → SameBut t (each_rows (first_tables tables t len)) (each_rows tables)
+same_but tables t len u ne = other_with tables t u _ ne
+
+-- a view is a growing chain exactly where it is given over the new rows alone
+
+pub some_apart : (t : ℕ) (book : Workbook) (v : ℕ) (run : Run) → Some run ≡ apart_view t book v → (chains book.catalog t v ≡ true) × (run ≡ opened book v)
+some_apart t book v run is = elim (cases_Bool (chains book.catalog t v)) [
+  | inl held ↦ (let here : Some run ≡ Some (opened book v) = rw held at is in let same : run ≡ opened book v = cc in (held, same))
+  | inr failed ↦ (let here : Some run ≡ None = rw failed at is in absurd (cc))
+]
+
+pub none_apart : (t : ℕ) (book : Workbook) (v : ℕ) → None ≡ apart_view t book v → chains book.catalog t v ≡ false
+none_apart t book v is = elim (cases_Bool (chains book.catalog t v)) [
+  | inl held ↦ (let here : None ≡ Some (opened book v) = rw held at is in absurd (cc))
+  | inr failed ↦ failed
+]
+
+-- a view that scans the table
+
+pub scan_fresh : (t : ℕ) (book : Workbook) (v : ℕ) (run : Run) → scans book.catalog t v ≡ true → run ≡ opened book v → Some run ≡ fresh_view t book v
+scan_fresh t book v run held is = rw (is, held) refl
+
+pub scan_fault_is : (t : ℕ) (book : Workbook) (v : ℕ) → scans book.catalog t v ≡ true → scan_fault t book v ≡ view_fault book v
+scan_fault_is t book v held = rw held refl
+
+pub no_scan_fault : (t : ℕ) (book : Workbook) (v : ℕ) → scans book.catalog t v ≡ false → scan_fault t book v ≡ None
+no_scan_fault t book v failed = rw failed refl
+
+pub scan_looks : (t : ℕ) (book : Workbook) (v : ℕ) → chains book.catalog t v ≡ false → scans book.catalog t v ≡ true → looks_again t book v ≡ rows_in (whole (view_at book.catalog v).plan book.tables)
+scan_looks t book v other held = rw (other, held) refl
+
+-- a growing chain
+
+pub chain_fresh : (t : ℕ) (book : Workbook) (v : ℕ) (run : Run) → chains book.catalog t v ≡ true → run ≡ opened book v → Some run ≡ fresh_view t book v
+chain_fresh t book v run chained is = scan_fresh t book v run (chains_scan book.catalog t v chained) is
+
+pub chain_no_fault : (catalog : Catalog) (tables : List Relation) (t v : ℕ) → t < length tables → length (rows_of tables t) ≤ row_limit → chains (catalog_image catalog) t v ≡ true → scan_fault t (workbook_image catalog tables) v ≡ None
+chain_no_fault catalog tables t v low few chained =
+    let book = workbook_image catalog tables in
+    let here : length (table_at book.tables t) ≤ row_limit = omega (arith, few, ap length (rows_is tables t low)) in
+    scan_fault_is t book v (chains_scan book.catalog t v chained) ∙ chain_never_full book t v chained here
+
+pub chain_apart_looks : (catalog : Catalog) (tables : List Relation) (t v : ℕ) → t < length tables → chains (catalog_image catalog) t v ≡ true
+    → rows_in (whole (view_at (catalog_image catalog) v).plan (each_rows tables)) ≡ looks_apart t (catalog_image catalog) (length (rows_of tables t)) v
+chain_apart_looks catalog tables t v low chained =
+    chain_looks (workbook_image catalog tables) t v chained ∙ ap length (rows_is tables t low) ∙ rw chained refl
+
+-- a view that doesn't scan the table
+
+pub moved_fresh : (catalog : Catalog) (tables : List Relation) (t len v size : ℕ) (old : Run) → t < length tables → scans (catalog_image catalog) t v ≡ false → size ≡ length (rows_of tables t) → old ≡ opened (workbook_image catalog (first_tables tables t len)) v
+    → moved_view t size old ≡ fresh_view t (workbook_image catalog tables) v
+moved_fresh catalog tables t len v size old low none is before =
+    ap (moved_view t size) before
+    ∙ moved_is (catalog_image catalog) t v size (each_rows (first_tables tables t len)) (each_rows tables) (same_but tables t len) none (is ∙ sym (ap length (rows_is tables t low)))
+
+-- so memory is what is wanting where it isn't made
+
+pub chain_view_fault : (catalog : Catalog) (tables : List Relation) (t v : ℕ) → t < length tables → length (rows_of tables t) ≤ row_limit → chains (catalog_image catalog) t v ≡ true → view_fault (workbook_image catalog tables) v ≡ None
+chain_view_fault catalog tables t v low few chained =
+    let book = workbook_image catalog tables in
+    sym (scan_fault_is t book v (chains_scan book.catalog t v chained)) ∙ chain_no_fault catalog tables t v low few chained
+
+pub no_fault : (fault : StartFault) (found : Option ViewFault) → found ≡ None → IsStartFault fault found → fault ≡ NoMemory
+no_fault (Rows view node) found none is = let here : ◌≡◌ {A = Option ViewFault} (Some (record { view = view; fault = FullRows node })) None = sym is ∙ none in absurd (cc)
+no_fault (Pairs view node table) found none is = let here : ◌≡◌ {A = Option ViewFault} (Some (record { view = view; fault = FullPairs node table })) None = sym is ∙ none in absurd (cc)
+no_fault NoMemory found none is = refl

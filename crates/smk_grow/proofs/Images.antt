@@ -1,0 +1,172 @@
+-- A session before and after a line that appends rows.
+use Rattle.std.proofs.Common.{◌≡◌, ℕ, ◌+◌, ◌<◌, ◌≤◌, Bool, true, false, cond, List, [], ◌∷◌, ◌++◌, length, map, refl, ap, sym, ◌∙◌, subst, arith, Option, Some, None, inl, inr}
+use Rattle.std.specs.List.{filter, sum_by}
+use Rattle.std.proofs.lemmas.Bool.{cases_Bool, false≢true}
+use Rattle.std.proofs.lemmas.List.{length-append, length-map, length-set}
+use Rattle.smk_base.specs.CatalogImage.{CatalogImage, catalog_image}
+use Rattle.smk_base.specs.Places.{upto}
+use Rattle.smk_base.specs.Rels.{Relation}
+use Rattle.smk_base.specs.declared.brush.BrushOn.{BrushOn}
+use Rattle.smk_base.specs.declared.reply.AppendReply.{AppendReply}
+use Rattle.smk_base.specs.declared.value.Kind.{Kind}
+use Rattle.smk_model.specs.Appends.{depends_on, is_append_refused, is_too_long, longer, longer_book, longer_fault, looks_of_longer, scanning, turn_at, turn_unless, looks_of_scan}
+use Rattle.smk_model.specs.Catalogs.{each_table_kinds}
+use Rattle.smk_model.specs.Looks.{looks_of_back}
+use Rattle.smk_model.specs.Opening.{ViewFault, first_some, view_fault}
+use Rattle.smk_model.specs.Selection.{each_kinds, each_rows, row_limit}
+use Rattle.smk_model.specs.Session.{State, Workbook}
+use Rattle.smk_model.specs.Values.{Row}
+use Rattle.smk_model.proofs.Places.{length_upto}
+use Rattle.smk_session.specs.Extras.{splits_of, all_cubes}
+use Rattle.smk_session.specs.Sessions.{AreExtras, AreInForce, AreOpened, IsSession, SessionImage, contents_kept, content_kept, opened_views, opened, state_of, state_over, workbook_image, workbook_of}
+use Rattle.smk_session.proofs.Shown.{none_in_force}
+use Rattle.smk_session.proofs.Opened.{views_long}
+use Rattle.smk_grow.specs.Grown.{rows_of, longer_tables, first_tables, last_tables}
+use Rattle.smk_grow.specs.Images.{lengthened, shortened, renewed, told_unless, renewed_unless, grown_unless, next_image}
+use Rattle.smk_grow.specs.Renewals.{IsGrown}
+use Rattle.smk_grow.specs.Renewed.{looks_apart, looks_again, looks_of_declared}
+use Rattle.smk_grow.proofs.Folds.{looks_depending, looks_scanning}
+use Rattle.smk_grow.proofs.Grown.{each_kinds_with, first_of_longer, longer_is, rows_is, table_with}
+
+-- the longer tables are those of the longer book
+
+abbrev book_of : CatalogImage → List (List Row) → Workbook
+book_of catalog tables = record { catalog = catalog; tables = tables }
+
+pub longer_workbook : (session : SessionImage) (t : ℕ) (more : List Row) → t < length session.tables → workbook_of (lengthened t more session) ≡ longer_book (catalog_image session.catalog) (state_of session) t more
+longer_workbook session t more low = ap (λ (T : List (List Row)). book_of (catalog_image session.catalog) T) (longer_is session.tables t more low)
+
+-- what is kept while the table is longer and nothing is made anew
+
+pub grown_is : (session : SessionImage) (t : ℕ) (more : List Row) → IsSession session → t < length session.tables → length (rows_of session.tables t) + length more ≤ row_limit
+    → IsGrown (lengthened t more session) t (length (rows_of session.tables t))
+grown_is session t more keeps low few =
+    let longer_rows : rows_of (longer_tables session.tables t more) t ≡ rows_of session.tables t ++ more = ap (λ (r : Relation). r.rows) (table_with session.tables t (rows_of session.tables t ++ more) low) in
+    let long = ap (length {A = Row}) longer_rows ∙ length-append (rows_of session.tables t) more in
+    record {
+      opened = subst (λ (T : List Relation). AreOpened session.catalog T session.views) (sym (first_of_longer session.tables t more low)) keeps.opened;
+      extras = subst (λ (T : List Relation). AreExtras session.catalog T session.splits session.cubes) (sym (first_of_longer session.tables t more low)) keeps.extras;
+      kinds = each_kinds_with session.tables t (rows_of session.tables t ++ more) ∙ keeps.opened.kinds;
+      table = omega (arith, low, length-set {A = Relation});
+      within = omega (arith, long);
+      few = omega (arith, long, few);
+      some_workers = keeps.some_workers;
+      few_workers = keeps.few_workers;
+    }
+
+-- and cut again, it is the session
+
+abbrev pub with_tables : SessionImage → List Relation → SessionImage
+with_tables session tables = record session { tables = tables }
+
+pub shortened_longer : (session : SessionImage) (t : ℕ) (more : List Row) → t < length session.tables → shortened t (length (rows_of session.tables t)) (lengthened t more session) ≡ session
+shortened_longer session t more low = ap (λ (T : List Relation). with_tables session T) (first_of_longer session.tables t more low)
+
+pub renewed_is : (found : Option ViewFault) (session : SessionImage) (t : ℕ) (more : List Row) → t < length session.tables
+    → renewed_unless found t (length (rows_of session.tables t)) (lengthened t more session) ≡ grown_unless found t more session
+renewed_is (Some found) session t more low = shortened_longer session t more low
+renewed_is None session t more low = refl
+
+-- the fault and the looks
+
+pub fault_is : (session : SessionImage) (t : ℕ) (more : List Row) → t < length session.tables
+    → first_some (view_fault (workbook_of (lengthened t more session))) (scanning (catalog_image session.catalog) t) ≡ longer_fault (catalog_image session.catalog) (state_of session) t more
+fault_is session t more low = ap (λ (book : Workbook). first_some (view_fault book) (scanning (catalog_image session.catalog) t)) (longer_workbook session t more low)
+
+pub looks_are : (session : SessionImage) (t : ℕ) (more : List Row) (start between after : ℕ) → t < length session.tables
+    → between ≤ start + sum_by (looks_apart t (catalog_image session.catalog) (length more)) (upto (length (catalog_image session.catalog).views))
+    → after ≤ between + sum_by (looks_again t (workbook_of (lengthened t more session))) (upto (length (catalog_image session.catalog).views)) + sum_by (looks_of_declared t (workbook_of (lengthened t more session))) (catalog_image session.catalog).backs
+    → after ≤ start + looks_of_longer (catalog_image session.catalog) (state_of session) t more
+looks_are session t more start between after low first second =
+    let catalog = catalog_image session.catalog in
+    let book : Workbook = longer_book catalog (state_of session) t more in
+    let n = length catalog.views in
+    let same = longer_workbook session t more low in
+    let again : sum_by (looks_again t (workbook_of (lengthened t more session))) (upto n) ≡ sum_by (looks_again t book) (upto n) = ap (λ (b : Workbook). sum_by (looks_again t b) (upto n)) same in
+    let backs : sum_by (looks_of_declared t (workbook_of (lengthened t more session))) catalog.backs ≡ sum_by (looks_of_back book) (filter (depends_on catalog t) catalog.backs) =
+    ap (λ (b : Workbook). sum_by (looks_of_declared t b) catalog.backs) same ∙ looks_depending t book catalog.backs in
+    let views : sum_by (looks_apart t catalog (length more)) (upto n) + sum_by (looks_again t book) (upto n) ≡ sum_by (looks_of_scan catalog (state_of session) t more) (scanning catalog t) = looks_scanning t (length more) book n in
+    let all : looks_of_longer catalog (state_of session) t more ≡ sum_by (looks_of_scan catalog (state_of session) t more) (scanning catalog t) + sum_by (looks_of_back book) (filter (depends_on catalog t) catalog.backs) = refl in
+    omega (arith, first, second, again, backs, views, all)
+
+-- the answer and the next session
+
+pub told_is : (found : Option ViewFault) (catalog : CatalogImage) (state : State) (t : ℕ) (more : List Row) → told_unless found (length more) (scanning catalog t) ≡ (turn_unless catalog state t more found).reply
+told_is (Some found) catalog state t more = refl
+told_is None catalog state t more = refl
+
+grown_keeps : (found : Option ViewFault) (session : SessionImage) (t : ℕ) (more : List Row) → IsSession session → t < length session.tables → IsSession (grown_unless found t more session)
+grown_keeps (Some found) session t more keeps low = keeps
+grown_keeps None session t more keeps low =
+    let longer_one = lengthened t more session in
+    let book = workbook_of longer_one in
+    let o : AreOpened session.catalog longer_one.tables (opened_views book) = record {
+      checked = keeps.opened.checked;
+      kinds = each_kinds_with session.tables t (rows_of session.tables t ++ more) ∙ keeps.opened.kinds;
+      views_are = refl;
+    } in
+    let count : length session.contents ≡ length (opened_views book) =
+    ap (length {A = Option Relation}) keeps.in_force.contents_are
+    ∙ length-map (upto (length book.catalog.views)) (content_kept book.catalog (state_of session))
+    ∙ sym (length-map (upto (length book.catalog.views)) (opened book)) in
+    record {
+      opened = o;
+      extras = record { splits_are = refl; cubes_are = refl };
+      in_force = none_in_force session.catalog longer_one.tables (opened_views book) (renewed longer_one).contents (length session.contents) o count refl;
+      some_workers = keeps.some_workers;
+      few_workers = keeps.few_workers;
+    }
+
+pub next_keeps : (session : SessionImage) (t : ℕ) (more : List Row) → IsSession session → t < length session.tables → IsSession (next_image session t more)
+next_keeps session t more keeps low = by (is_too_long (state_of session) t more)
+  where
+    by : (long : Bool) → IsSession (cond long session (grown_unless (longer_fault (catalog_image session.catalog) (state_of session) t more) t more session))
+    by true = keeps
+    by false = grown_keeps (longer_fault (catalog_image session.catalog) (state_of session) t more) session t more keeps low
+
+abbrev state_at : List (List Row) → State
+state_at tables = record { tables = tables; brushes = [] }
+
+grown_state : (found : Option ViewFault) (session : SessionImage) (t : ℕ) (more : List Row) → t < length session.tables
+    → state_of (grown_unless found t more session) ≡ (turn_unless (catalog_image session.catalog) (state_of session) t more found).next
+grown_state (Some found) session t more low = refl
+grown_state None session t more low = ap (λ (T : List (List Row)). state_at T) (longer_is session.tables t more low)
+
+pub next_state : (session : SessionImage) (t : ℕ) (more : List Row) → t < length session.tables → state_of (next_image session t more) ≡ (turn_at (catalog_image session.catalog) (state_of session) more (Some t)).next
+next_state session t more low = elim (cases_Bool (is_too_long (state_of session) t more)) [
+  | inl long ↦ rw long refl
+  | inr short ↦ rw short (grown_state (longer_fault (catalog_image session.catalog) (state_of session) t more) session t more low)
+]
+
+grown_refused : (found : Option ViewFault) (session : SessionImage) (t : ℕ) (more : List Row) → is_append_refused (turn_unless (catalog_image session.catalog) (state_of session) t more found).reply ≡ true → grown_unless found t more session ≡ session
+grown_refused (Some found) session t more h = refl
+grown_refused None session t more h = absurd (false≢true h)
+
+pub next_refused : (session : SessionImage) (t : ℕ) (more : List Row) → is_append_refused (turn_at (catalog_image session.catalog) (state_of session) more (Some t)).reply ≡ true → next_image session t more ≡ session
+next_refused session t more h = elim (cases_Bool (is_too_long (state_of session) t more)) [
+  | inl long ↦ rw long refl
+  | inr short ↦
+      (let there : is_append_refused (turn_unless (catalog_image session.catalog) (state_of session) t more (longer_fault (catalog_image session.catalog) (state_of session) t more)).reply ≡ true = rw short at h in
+      rw short (grown_refused (longer_fault (catalog_image session.catalog) (state_of session) t more) session t more there))
+]
+
+-- the book, the mode and the workers stay
+
+pub record StaysBeside (session next : SessionImage) : Type 0 where
+  pub book : next.catalog ≡ session.catalog
+  pub mode : next.mode ≡ session.mode
+  pub workers : next.workers ≡ session.workers
+
+stays : (session : SessionImage) → StaysBeside session session
+stays session = record { book = refl; mode = refl; workers = refl }
+
+grown_beside : (found : Option ViewFault) (session : SessionImage) (t : ℕ) (more : List Row) → StaysBeside session (grown_unless found t more session)
+grown_beside (Some found) session t more = stays session
+grown_beside None session t more = record { book = refl; mode = refl; workers = refl }
+
+pub next_beside : (session : SessionImage) (t : ℕ) (more : List Row) → StaysBeside session (next_image session t more)
+next_beside session t more = by (is_too_long (state_of session) t more)
+  where
+    by : (long : Bool) → StaysBeside session (cond long session (grown_unless (longer_fault (catalog_image session.catalog) (state_of session) t more) t more session))
+    by true = stays session
+    by false = grown_beside (longer_fault (catalog_image session.catalog) (state_of session) t more) session t more

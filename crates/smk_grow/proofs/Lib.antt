@@ -1,0 +1,11 @@
+pub mod ChainRuns
+pub mod Committed
+pub mod Folds
+pub mod Fresh
+pub mod Grown
+pub mod Images
+pub mod Kept
+pub mod Lengthened
+pub mod Renewed
+pub mod Replaced
+pub mod Told

@@ -1,0 +1,165 @@
+-- What a view is over a longer table.
+use Rattle.std.proofs.Common.{◌≡◌, ℕ, ◌+◌, ◌<◌, ◌≤◌, Bool, true, false, ◌&&◌, ◌||◌, cond, List, [], ◌∷◌, length, map, refl, ap, sym, ◌∙◌, subst, arith, nat_eq, Option, Some, None, option_map, inl, inr}
+use Rattle.std.specs.List.{list_any, sum_by}
+use Rattle.std.proofs.lemmas.Bool.{cases_Bool, eq-eqb, eqb-true, false≢true}
+use Rattle.smk_base.specs.CatalogImage.{CatalogImage}
+use Rattle.smk_base.specs.Places.{Lists, empty_lists, has}
+use Rattle.smk_base.specs.Plans.{Expr}
+use Rattle.smk_base.specs.Rels.{Relation}
+use Rattle.smk_base.specs.declared.need.Needed.{Needed}
+use Rattle.smk_model.specs.Appends.{scans}
+use Rattle.smk_model.specs.Composed.{backs, forwards, rows_over}
+use Rattle.smk_model.specs.Growth.{is_growing}
+use Rattle.smk_model.specs.GrowthLaws.{AgreeAtLeaves}
+use Rattle.smk_model.specs.LineageLaws.{selected_table}
+use Rattle.smk_model.specs.NodeFaults.{NodeFault, asked_of, first_fault}
+use Rattle.smk_model.specs.Opening.{view_fault, fault_of_view}
+use Rattle.smk_model.specs.Plain.{leaves, table_at, whole}
+use Rattle.smk_model.specs.Selection.{rows_in, row_limit}
+use Rattle.smk_model.specs.Session.{Workbook, view_at}
+use Rattle.smk_model.specs.Values.{Row}
+use Rattle.smk_model.specs.Workload.{needs}
+use Rattle.smk_model.proofs.Composed.{lists_stand}
+use Rattle.smk_model.proofs.NeverFull.{growing_never_full}
+use Rattle.smk_model.proofs.Places.{has_single, map_map}
+use Rattle.smk_model.proofs.Thin.{growing_is_thin}
+use Rattle.smk_model.proofs.Unscanned.{unscanned_stays}
+use Rattle.smk_body.specs.Locals.{wanted}
+use Rattle.smk_compose.specs.Kept.{kept_at}
+use Rattle.smk_compose.specs.declared.kept.KeptMap.{KeptMap}
+use Rattle.smk_compose.specs.declared.kept.Run.{Run}
+use Rattle.smk_session.specs.Answers.{is_of_table}
+use Rattle.smk_session.specs.Sessions.{opened}
+use Rattle.smk_grow.specs.Renewed.{chains, names_table, is_asked, fresh_view, moved_kept, moved_view, newer}
+
+-- tables that are the same but for one
+abbrev pub SameBut : ℕ → List (List Row) → List (List Row) → Type 0
+SameBut t A B = (u : ℕ) → nat_eq u t ≡ false → table_at A u ≡ table_at B u
+
+same_leaves : (plan : Expr) (t : ℕ) (A B : List (List Row)) → SameBut t A B → has (leaves plan) t ≡ false → AgreeAtLeaves plan A B
+same_leaves plan t A B same none = unscanned_stays.other plan t A B none same
+
+-- lineage to another table is the same
+
+abbrev map_of : ℕ → Option Lists → Option Lists → KeptMap
+map_of table back fwd = record { table = table; back = back; fwd = fwd }
+
+same_kept : (plan : Expr) (t : ℕ) (A B : List (List Row)) (need : Needed) → SameBut t A B → has (leaves plan) t ≡ false → nat_eq need.table t ≡ false → kept_at plan A need ≡ kept_at plan B need
+same_kept plan t A B need same none ne =
+    let agree = same_leaves plan t A B same none in
+    let long : length (table_at A need.table) ≡ length (table_at B need.table) = ap (length {A = Row}) (same need.table ne) in
+    rw (unscanned_stays.backs plan A B need.table agree long, unscanned_stays.forwards plan A B need.table agree long) refl
+
+pub either_false : (a b : Bool) → (a || b) ≡ false → (a ≡ false) × (b ≡ false)
+either_false true b h = absurd (false≢true (sym h))
+either_false false b h = (refl, h)
+
+no_need : (t : ℕ) (need : Needed) (more : List Needed) → list_any (names_table t) (need ∷ more) ≡ false → (nat_eq need.table t ≡ false) × (list_any (names_table t) more ≡ false)
+no_need t need more h = either_false (nat_eq need.table t) (list_any (names_table t) more) h
+
+same_kepts : (plan : Expr) (t : ℕ) (A B : List (List Row)) (needs : List Needed) → SameBut t A B → has (leaves plan) t ≡ false → list_any (names_table t) needs ≡ false → map (kept_at plan A) needs ≡ map (kept_at plan B) needs
+same_kepts plan t A B [] same none not = refl
+same_kepts plan t A B (need ∷ more) same none not =
+    let h = no_need t need more not in
+    rw (same_kept plan t A B need same none h.0, same_kepts plan t A B more same none h.1) refl
+
+abbrev run_of : Relation → List KeptMap → Run
+run_of rel kept = record { rel = rel; kept = kept }
+
+abbrev rel_at : CatalogImage → ℕ → List Row → Relation
+rel_at catalog v rows = record { kinds = (view_at catalog v).kinds; rows = rows }
+
+abbrev pub book_over : CatalogImage → List (List Row) → Workbook
+book_over catalog tables = record { catalog = catalog; tables = tables }
+
+-- a view that doesn't scan the table, and keeps no lineage to it
+
+pub untouched : (catalog : CatalogImage) (t v : ℕ) (A B : List (List Row)) → SameBut t A B → (scans catalog t v || is_asked catalog t v) ≡ false → opened (book_over catalog A) v ≡ opened (book_over catalog B) v
+untouched catalog t v A B same out =
+    let h = either_false (scans catalog t v) (is_asked catalog t v) out in
+    let plan = (view_at catalog v).plan in
+    ap (λ (rows : List Row). run_of (rel_at catalog v rows) (map (kept_at plan A) (needs catalog v))) (unscanned_stays.rows plan A B (same_leaves plan t A B same h.0))
+    ∙ ap (run_of (rel_at catalog v (rows_over plan B))) (same_kepts plan t A B (needs catalog v) same h.0 h.1)
+
+pub newer_is : (catalog : CatalogImage) (t v : ℕ) (A B : List (List Row)) → SameBut t A B → newer (fresh_view t (book_over catalog B) v) (opened (book_over catalog A) v) ≡ opened (book_over catalog B) v
+newer_is catalog t v A B same = elim (cases_Bool (scans catalog t v || is_asked catalog t v)) [
+  | inl held ↦ rw held refl
+  | inr failed ↦ rw failed (untouched catalog t v A B same failed)
+]
+
+-- one that doesn't scan the table, and keeps lineage to it: empty lists
+
+emptied : (b : Bool) (lists : Lists) (made : Lists) → option_map (λ (map : Lists). made) (wanted b lists) ≡ wanted b made
+emptied true lists made = refl
+emptied false lists made = refl
+
+moved_one : (plan : Expr) (t : ℕ) (A B : List (List Row)) (need : Needed) → SameBut t A B → has (leaves plan) t ≡ false
+    → moved_kept t (length (rows_over plan A)) (length (table_at B t)) (kept_at plan A need) ≡ kept_at plan B need
+moved_one plan t A B need same none = elim (cases_Bool (nat_eq need.table t)) [
+  | inl held ↦
+      (let is : need.table ≡ t = eqb-true need.table t held in
+      let rows : length (rows_over plan A) ≡ length (rows_over plan B) = ap (length {A = Row}) (unscanned_stays.rows plan A B (same_leaves plan t A B same none)) in
+      let size : length (table_at B t) ≡ length (table_at B need.table) = ap (λ (u : ℕ). length (table_at B u)) (sym is) in
+      let none_there : has (leaves plan) need.table ≡ false = subst (λ (u : ℕ). has (leaves plan) u ≡ false) (sym is) none in
+      let back = emptied need.dir.back (backs plan A need.table) (empty_lists (length (rows_over plan A)) (length (table_at B t)))
+      ∙ ap (wanted need.dir.back) (ap (λ (n : ℕ). empty_lists n (length (table_at B t))) rows ∙ ap (empty_lists (length (rows_over plan B))) size ∙ sym (lists_stand.unscanned_backs plan B need.table none_there)) in
+      let fwd = emptied need.dir.fwd (forwards plan A need.table) (empty_lists (length (table_at B t)) (length (rows_over plan A)))
+      ∙ ap (wanted need.dir.fwd) (ap (λ (n : ℕ). empty_lists (length (table_at B t)) n) rows ∙ ap (λ (n : ℕ). empty_lists n (length (rows_over plan B))) size ∙ sym (lists_stand.unscanned_forwards plan B need.table none_there)) in
+      rw held (ap (λ (l : Option Lists). map_of need.table l (option_map (λ (map : Lists). empty_lists (length (table_at B t)) (length (rows_over plan A))) (wanted need.dir.fwd (forwards plan A need.table)))) back
+      ∙ ap (map_of need.table (wanted need.dir.back (backs plan B need.table))) fwd))
+  | inr failed ↦ rw failed (same_kept plan t A B need same none failed)
+]
+
+moved_all : (plan : Expr) (t : ℕ) (A B : List (List Row)) (needs : List Needed) → SameBut t A B → has (leaves plan) t ≡ false
+    → map (moved_kept t (length (rows_over plan A)) (length (table_at B t))) (map (kept_at plan A) needs) ≡ map (kept_at plan B) needs
+moved_all plan t A B [] same none = refl
+moved_all plan t A B (need ∷ more) same none = rw (moved_one plan t A B need same none, moved_all plan t A B more same none) refl
+
+any_kept : (plan : Expr) (t : ℕ) (A : List (List Row)) (needs : List Needed) → list_any (is_of_table t) (map (kept_at plan A) needs) ≡ list_any (names_table t) needs
+any_kept plan t A [] = refl
+any_kept plan t A (need ∷ more) = ap (λ b. nat_eq need.table t || b) (any_kept plan t A more)
+
+pub moved_is : (catalog : CatalogImage) (t v size : ℕ) (A B : List (List Row)) → SameBut t A B → scans catalog t v ≡ false → size ≡ length (table_at B t)
+    → moved_view t size (opened (book_over catalog A) v) ≡ fresh_view t (book_over catalog B) v
+moved_is catalog t v size A B same none is =
+    let plan = (view_at catalog v).plan in
+    let made : Run = run_of (rel_at catalog v (rows_over plan A)) (map (moved_kept t (length (rows_over plan A)) (length (table_at B t))) (map (kept_at plan A) (needs catalog v))) in
+    let right : made ≡ opened (book_over catalog B) v =
+    ap (run_of (rel_at catalog v (rows_over plan A))) (moved_all plan t A B (needs catalog v) same none)
+    ∙ ap (λ (rows : List Row). run_of (rel_at catalog v rows) (map (kept_at plan B) (needs catalog v))) (unscanned_stays.rows plan A B (same_leaves plan t A B same none)) in
+    ap (λ (n : ℕ). moved_view t n (opened (book_over catalog A) v)) is
+    ∙ ap (λ (b : Bool). cond b (Some made) None) (any_kept plan t A (needs catalog v))
+    ∙ ap (λ (run : Run). cond (is_asked catalog t v) (Some run) None) right
+    ∙ ap (λ (b : Bool). cond (b || is_asked catalog t v) (Some (opened (book_over catalog B) v)) None) (sym none)
+
+-- a growing chain: it scans the table alone, and is never too big
+
+both : (a b : Bool) → (a && b) ≡ true → (a ≡ true) × (b ≡ true)
+both true true h = (refl, refl)
+both true false h = absurd (false≢true h)
+both false b h = absurd (false≢true h)
+
+pub chains_scan : (catalog : CatalogImage) (t v : ℕ) → chains catalog t v ≡ true → scans catalog t v ≡ true
+chains_scan catalog t v h = (both (scans catalog t v) (is_growing (view_at catalog v).plan) h).0
+
+pub chains_grow : (catalog : CatalogImage) (t v : ℕ) → chains catalog t v ≡ true → is_growing (view_at catalog v).plan ≡ true
+chains_grow catalog t v h = (both (scans catalog t v) (is_growing (view_at catalog v).plan) h).1
+
+pub chain_table : (catalog : CatalogImage) (t v : ℕ) → chains catalog t v ≡ true → t ≡ selected_table (view_at catalog v).plan
+chain_table catalog t v h =
+    let plan = (view_at catalog v).plan in
+    has_single (selected_table plan) t (subst (λ (l : List ℕ). has l t ≡ true) (growing_is_thin.scans plan (chains_grow catalog t v h)) (chains_scan catalog t v h))
+
+pub chain_looks : (book : Workbook) (t v : ℕ) → chains book.catalog t v ≡ true → rows_in (whole (view_at book.catalog v).plan book.tables) ≡ length (table_at book.tables t)
+chain_looks book t v h =
+    let plan = (view_at book.catalog v).plan in
+    ap (λ (l : List ℕ). rows_in (map (table_at book.tables) l)) (growing_is_thin.scans plan (chains_grow book.catalog t v h))
+    ∙ ap (λ (u : ℕ). rows_in (table_at book.tables u ∷ [])) (sym (chain_table book.catalog t v h))
+    ∙ omega arith
+
+pub chain_never_full : (book : Workbook) (t v : ℕ) → chains book.catalog t v ≡ true → length (table_at book.tables t) ≤ row_limit → view_fault book v ≡ None
+chain_never_full book t v h few =
+    let plan = (view_at book.catalog v).plan in
+    let thin : length (table_at book.tables (selected_table plan)) ≤ row_limit = subst (λ (u : ℕ). length (table_at book.tables u) ≤ row_limit) (chain_table book.catalog t v h) few in
+    let none : fault_of_view book v ≡ None = growing_never_full plan book.tables (needs book.catalog v) (chains_grow book.catalog t v h) thin in
+    ap (option_map (λ (fault : NodeFault). record { view = v; fault = fault })) none

@@ -1,0 +1,47 @@
+-- What holds after a line, by its answer.
+use Rattle.std.proofs.Common.{◌≡◌, ℕ, ◌+◌, ◌<◌, ◌≤◌, Bool, true, false, List, [], length, refl, ap, sym, ◌∙◌, subst, arith, Option, Some, None, is_some, Result, Ok, Err, IfOk, OnOk, OnErr}
+use Rattle.std.proofs.lemmas.Bool.{false≢true}
+use Rattle.smk_base.specs.CatalogImage.{catalog_image}
+use Rattle.smk_base.specs.Rels.{Relation}
+use Rattle.smk_base.specs.declared.catalog.Catalog.{Catalog}
+use Rattle.smk_model.specs.Appends.{turn_at}
+use Rattle.smk_model.specs.Catalogs.{each_table_kinds, table_kinds}
+use Rattle.smk_model.specs.Opening.{ViewFault}
+use Rattle.smk_model.specs.Selection.{each_kinds}
+use Rattle.smk_model.specs.Typing.{info_at}
+use Rattle.smk_model.specs.Values.{Row}
+use Rattle.smk_compose.specs.Fetched.{table_of}
+use Rattle.smk_session.specs.Sessions.{IsSession, SessionImage, state_of}
+use Rattle.smk_session.proofs.Opened.{table_is, tables_long}
+use Rattle.smk_grow.specs.Images.{next_image, renewed_unless, shortened}
+use Rattle.smk_grow.proofs.Grown.{at_table}
+use Rattle.smk_grow.proofs.Images.{next_keeps, next_state}
+
+-- a view that is too big leaves the table as it was
+
+pub after_refusal : {A E : Type 0} (r : Result A E) (found : Option ViewFault) (t len : ℕ) (session next : SessionImage) → OnOk r (is_some found ≡ true) → next ≡ shortened t len session → OnOk r (next ≡ renewed_unless found t len session)
+after_refusal (Ok told) (Some found) t len session next some is = is
+after_refusal (Ok told) None t len session next some is = absurd (false≢true some)
+after_refusal (Err error) found t len session next some is = tt
+
+-- the kinds of a table are those of the book
+
+pub kinds_at : (catalog : Catalog) (tables : List Relation) (t : ℕ) → each_kinds tables ≡ each_table_kinds catalog.tables → t < length catalog.tables → (table_of tables t).kinds ≡ table_kinds (info_at catalog.tables t)
+kinds_at catalog tables t kinds low =
+    let less : t < length tables = omega (arith, low, tables_long catalog tables kinds) in
+    ap (λ (r : Relation). r.kinds) (table_is catalog tables [] t (table_of tables t) kinds low (sym (at_table tables t (table_of tables t) less)))
+
+pub table_below : (session : SessionImage) (t : ℕ) → IsSession session → t < length session.catalog.tables → t < length session.tables
+table_below session t keeps low = omega (arith, low, tables_long session.catalog session.tables keeps.opened.kinds)
+
+-- it is a session then, and stands where the line leaves it
+
+pub told_keeps : {A E : Type 0} (r : Result A E) (session next : SessionImage) (t : ℕ) (more : List Row) → IsSession session → t < length session.tables → OnOk r (next ≡ next_image session t more) → OnErr r (next ≡ session) → IsSession next
+told_keeps (Ok told) session next t more keeps low after kept = subst IsSession (sym after) (next_keeps session t more keeps low)
+told_keeps (Err error) session next t more keeps low after kept = subst IsSession (sym kept) keeps
+
+pub told_state : {A E : Type 0} (r : Result A E) (session parts next result : SessionImage) (t : ℕ) (more : List Row) → parts ≡ session → t < length session.tables → OnOk r (next ≡ next_image parts t more) → result ≡ next
+    → OnOk r (state_of result ≡ (turn_at (catalog_image session.catalog) (state_of session) more (Some t)).next)
+told_state (Ok told) session parts next result t more same low after is =
+    ap state_of (is ∙ after ∙ ap (λ (s : SessionImage). next_image s t more) same) ∙ next_state session t more low
+told_state (Err error) session parts next result t more same low after is = tt

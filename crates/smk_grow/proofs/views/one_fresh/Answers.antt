@@ -1,0 +1,11 @@
+use Rattle.std.proofs.Common.{◌≡◌, ◌∙◌, Some, sym}
+use Rattle.smk_grow.specs.Renewals.{last_book}
+use Rattle.smk_grow.specs.Renewed.{apart_view}
+use Rattle.smk_grow.proofs.Fresh.{chain_no_fault, some_apart}
+use Rattle.smk_grow.proofs.views.one_fresh.Goals as goal
+
+pub returns-in-Ok-clause-none : goal.returns-in-Ok-clause-none
+returns-in-Ok-clause-none g c =
+    let r = c.args.renewal.now in
+    let is : Some c.in-Some.new ≡ apart_view r.table (last_book r c.args.len) c.args.v = cc (c.in-Some.is, c.requires.apart) in
+    chain_no_fault r.book.now r.tables.now r.table c.args.v c.requires.renewal.table c.requires.renewal.few (some_apart r.table (last_book r c.args.len) c.args.v c.in-Some.new is).0

@@ -1,0 +1,48 @@
+-- What a session is after a line that appends rows.
+use Rattle.std.specs.Prelude.{ℕ, cond, List, [], length, map, Option, Some, None}
+use Rattle.smk_base.specs.CatalogImage.{catalog_image}
+use Rattle.smk_base.specs.Places.{upto}
+use Rattle.smk_base.specs.Rels.{Relation}
+use Rattle.smk_base.specs.declared.reply.AppendReply.{AppendReply}
+use Rattle.smk_base.specs.declared.reply.AppendReply.TheVariants.{Added, Refused}
+use Rattle.smk_model.specs.Appends.{is_too_long, longer_fault, refusal_of}
+use Rattle.smk_model.specs.Opening.{ViewFault}
+use Rattle.smk_model.specs.Values.{Row}
+use Rattle.smk_session.specs.Extras.{splits_of, all_cubes}
+use Rattle.smk_session.specs.Sessions.{SessionImage, opened_views, state_of, workbook_of}
+use Rattle.smk_grow.specs.Grown.{longer_tables, first_tables}
+
+-- with more rows behind those of a table, and with only the first of them
+abbrev pub lengthened : ℕ → List Row → SessionImage → SessionImage
+lengthened t more session = record session { tables = longer_tables session.tables t more }
+
+abbrev pub shortened : ℕ → ℕ → SessionImage → SessionImage
+shortened t len session = record session { tables = first_tables session.tables t len }
+
+-- with everything made of its tables, and no brush in force
+abbrev pub renewed : SessionImage → SessionImage
+renewed session = record session {
+  views = opened_views (workbook_of session);
+  splits = splits_of (workbook_of session);
+  cubes = all_cubes (workbook_of session);
+  brushes = [];
+  contents = map (λ (w : ℕ). None) (upto (length session.contents));
+}
+
+-- the answer, unless a view has a node that is too big
+abbrev pub told_unless : Option ViewFault → ℕ → List ℕ → AppendReply
+told_unless (Some found) rows views = Refused (refusal_of found)
+told_unless None rows views = Added rows views
+
+-- a session whose table is longer already: as it was before, where a view has such a node, and else made anew
+abbrev pub renewed_unless : Option ViewFault → ℕ → ℕ → SessionImage → SessionImage
+renewed_unless (Some found) t len session = shortened t len session
+renewed_unless None t len session = renewed session
+
+-- the same of a session whose table gets more rows
+abbrev pub grown_unless : Option ViewFault → ℕ → List Row → SessionImage → SessionImage
+grown_unless (Some found) t more session = session
+grown_unless None t more session = renewed (lengthened t more session)
+
+abbrev pub next_image : SessionImage → ℕ → List Row → SessionImage
+next_image session t more = cond (is_too_long (state_of session) t more) session (grown_unless (longer_fault (catalog_image session.catalog) (state_of session) t more) t more session)

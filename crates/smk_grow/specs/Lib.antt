@@ -1,0 +1,4 @@
+pub mod Grown
+pub mod Images
+pub mod Renewals
+pub mod Renewed

@@ -1,0 +1,64 @@
+-- What the calls say that make views, splits and groupings over a longer table.
+use Rattle.std.specs.Prelude.{◌≡◌, ◌<◌, ◌≤◌, ℕ, List, length, map, Option}
+use Rattle.smk_base.specs.CatalogImage.{catalog_image}
+use Rattle.smk_base.specs.Places.{upto}
+use Rattle.std.specs.List.{filter_map}
+use Rattle.smk_model.specs.Appends.{scanning}
+use Rattle.smk_model.specs.Catalogs.{each_table_kinds}
+use Rattle.smk_model.specs.Selection.{each_kinds, row_limit}
+use Rattle.smk_model.specs.Session.{Workbook}
+use Rattle.smk_session.specs.Sessions.{AreExtras, AreOpened, SessionImage, opened_views, workbook_image}
+use Rattle.smk_grow.specs.Grown.{rows_of, first_tables, last_tables}
+use Rattle.smk_grow.specs.Renewed.{fresh_view, fresh_split, fresh_cubes}
+use Rattle.smk_grow.specs.declared.renewal.Renewal.{Renewal}
+use Rattle.smk_grow.specs.declared.extras.Views.{Views}
+use Rattle.smk_grow.specs.declared.renewing.Fresh.{Fresh}
+
+-- a checked book over tables of its kinds, one of which grows
+pub record IsRenewal (renewal : Renewal) : Type 0 where
+  pub kinds : each_kinds renewal.tables.now ≡ each_table_kinds renewal.book.now.tables
+  pub some_workers : 1 ≤ renewal.workers
+  pub few_workers : renewal.workers ≤ 64
+  pub table : renewal.table < length renewal.tables.now
+  pub few : length (rows_of renewal.tables.now renewal.table) ≤ row_limit
+
+-- the book over the tables, over those without the rows behind so many of the one, and over those with only these
+abbrev pub book_of : Renewal → Workbook
+book_of renewal = workbook_image renewal.book.now renewal.tables.now
+
+abbrev pub first_book : Renewal → ℕ → Workbook
+first_book renewal len = workbook_image renewal.book.now (first_tables renewal.tables.now renewal.table len)
+
+abbrev pub last_book : Renewal → ℕ → Workbook
+last_book renewal len = workbook_image renewal.book.now (last_tables renewal.tables.now renewal.table len)
+
+-- the views of a book over tables, one of which had only so many rows when they were made, and those that take their places
+pub record AreViews (views : Views) : Type 0 where
+  pub kinds : each_kinds views.tables.now ≡ each_table_kinds views.book.now.tables
+  pub table : views.table < length views.tables.now
+  pub olds : views.olds.now ≡ opened_views (workbook_image views.book.now (first_tables views.tables.now views.table views.len))
+  pub fresh : views.fresh.now ≡ map (fresh_view views.table (workbook_image views.book.now views.tables.now)) (upto (length (catalog_image views.book.now).views))
+
+abbrev pub book_in : Views → Workbook
+book_in views = workbook_image views.book.now views.tables.now
+
+-- what takes the place of what is kept over the tables without the new rows, and the views that scan the table
+pub record IsFresh (t : ℕ) (book : Workbook) (fresh : Fresh) : Type 0 where
+  pub views : fresh.views.items ≡ map (fresh_view t book) (upto (length book.catalog.views))
+  pub splits : fresh.extras.splits.items ≡ filter_map (fresh_split t book) book.catalog.backs
+  pub cubes : fresh.extras.cubes.items ≡ filter_map (fresh_cubes t book) book.catalog.backs
+  pub scanning : fresh.scanning ≡ scanning book.catalog t
+
+-- a session whose table is longer already: what it keeps is still that of the table with only so many rows
+pub record IsGrown (session : SessionImage) (t len : ℕ) : Type 0 where
+  pub opened : AreOpened session.catalog (first_tables session.tables t len) session.views
+  pub extras : AreExtras session.catalog (first_tables session.tables t len) session.splits session.cubes
+  pub kinds : each_kinds session.tables ≡ each_table_kinds session.catalog.tables
+  pub table : t < length session.tables
+  pub within : len ≤ length (rows_of session.tables t)
+  pub few : length (rows_of session.tables t) ≤ row_limit
+  pub some_workers : 1 ≤ session.workers
+  pub few_workers : session.workers ≤ 64
+
+abbrev pub last_of : SessionImage → ℕ → ℕ → Workbook
+last_of session t len = workbook_image session.catalog (last_tables session.tables t len)

@@ -1,0 +1,126 @@
+// The views that are growing chains, over the new rows alone.
+ghost use Rattle.std.specs.Prelude.{◌≡◌, ◌<◌, ◌≤◌, ◌+◌, length, map, set, IfOk};
+ghost use Rattle.std.specs.List.{sum_by};
+ghost use Rattle.smk_base.specs.CatalogImage.{catalog_image};
+ghost use Rattle.smk_base.specs.Places.{upto};
+ghost use Rattle.smk_model.specs.Catalogs.{each_table_kinds};
+ghost use Rattle.smk_model.specs.Selection.{each_kinds};
+ghost use Rattle.smk_session.specs.Sessions.{workbook_image};
+ghost use Rattle.smk_session.specs.declared.fault.StartFault.TheVariants as faults;
+ghost use Rattle.smk_compose.specs.Fetched.{table_of};
+ghost use Rattle.smk_grow.specs.Grown.{rows_of};
+ghost use Rattle.smk_grow.specs.Renewals.{IsRenewal, book_of};
+ghost use Rattle.smk_grow.specs.Renewed.{apart_view, looks_apart};
+
+use crate::renewal::Renewal;
+use crate::scans::view_chains;
+use smk_outside::{Gate, Steps};
+use smk_session::{Mode, Opened, StartFault, open_view};
+use smk_table::Table;
+use smk_typing::TypedBook;
+use std::alloc::{AllocError, Global};
+use std::mem::swap;
+use std::sync::ledger::Ledger;
+use std::thread::Threads;
+
+// What is wanting where a view that is never too big isn't made.
+fn wanting(fault: StartFault) -> AllocError
+    requires { fault ≡ faults.NoMemory }
+{
+    match fault {
+        StartFault::NoMemory => AllocError,
+        StartFault::Rows { .. } | StartFault::Pairs { .. } => unreachable!(),
+    }
+}
+
+// A view over tables, if it is a growing chain on one of them. Such a chain is never too big, so that only memory can be wanting.
+fn view_apart<R: Threads + Sync, G: Gate + Sync, L: Ledger>(
+    rt: &R,
+    alloc: Global,
+    gate: &G,
+    renewal: &Renewal<'_>,
+    v: u32,
+    steps: &mut Steps<L>,
+) -> Result<Option<Opened>, AllocError>
+    requires renewal { IsRenewal renewal.now }
+    requires view { v < length renewal.now.book.now.views }
+    ensures view { IfOk result (λ made. made ≡ apart_view renewal.now.table (book_of renewal.now) v) }
+    ensures looks { steps.new ≤ steps.old + looks_apart renewal.now.table (catalog_image renewal.now.book.now) (length (rows_of renewal.now.tables.now renewal.now.table)) v }
+{
+    if view_chains(renewal.book, renewal.table, v) {
+        match open_view(
+            rt,
+            alloc,
+            renewal.mode,
+            renewal.workers,
+            gate,
+            renewal.book,
+            renewal.tables,
+            v,
+            steps,
+        ) {
+            Ok(opened) => Ok(Some(opened)),
+            Err(fault) => Err(wanting(fault)),
+        }
+    } else {
+        Ok(None)
+    }
+}
+
+// All views over tables that are growing chains on one of them, each in the place of its view.
+fn each_apart<R: Threads + Sync, G: Gate + Sync, L: Ledger>(
+    rt: &R,
+    alloc: Global,
+    gate: &G,
+    renewal: &Renewal<'_>,
+    steps: &mut Steps<L>,
+) -> Result<Vec<Option<Opened>>, AllocError>
+    requires renewal { IsRenewal renewal.now }
+    ensures views { IfOk result (λ made. made.items ≡ map (apart_view renewal.now.table (book_of renewal.now)) (upto (length (book_of renewal.now).catalog.views))) }
+    ensures looks { steps.new ≤ steps.old + sum_by (looks_apart renewal.now.table (catalog_image renewal.now.book.now) (length (rows_of renewal.now.tables.now renewal.now.table))) (upto (length (book_of renewal.now).catalog.views)) }
+{
+    let count = renewal.book.catalog().views.as_slice().len();
+    let mut views = Vec::with_capacity(alloc, count)?;
+    for v in 0..count as u32 {
+        views.push(view_apart(rt, alloc, gate, renewal, v, steps)?)?;
+    }
+    Ok(views)
+}
+
+// The views that are growing chains on a table, over tables in which only new rows stand for it. The tables and the new rows are as before.
+pub(crate) fn open_apart<R: Threads + Sync, G: Gate + Sync, L: Ledger>(
+    rt: &R,
+    alloc: Global,
+    mode: Mode,
+    workers: u32,
+    gate: &G,
+    book: &TypedBook,
+    tables: &mut [Table],
+    table: u32,
+    more: &mut Table,
+    steps: &mut Steps<L>,
+) -> Result<Vec<Option<Opened>>, AllocError>
+    requires kinds { each_kinds tables.old ≡ each_table_kinds book.now.tables }
+    requires some_workers { 1 ≤ workers }
+    requires few_workers { workers ≤ 64 }
+    requires table { table < length tables.old }
+    requires more { more.old.kinds ≡ (table_of tables.old table).kinds }
+    ensures tables { tables.new ≡ tables.old }
+    ensures more { more.new ≡ more.old }
+    ensures views { IfOk result (λ made. made.items ≡ map (apart_view table (workbook_image book.now (set tables.old table more.old))) (upto (length (catalog_image book.now).views))) }
+    ensures looks { steps.new ≤ steps.old + sum_by (looks_apart table (catalog_image book.now) (length more.old.rows)) (upto (length (catalog_image book.now).views)) }
+{
+    // Its clauses say that the rows are not too many.
+    let _rows = more.len();
+    swap(&mut tables[table as usize], more);
+    let renewal = Renewal {
+        book,
+        tables: &*tables,
+        table,
+        mode,
+        workers,
+    };
+    let views = each_apart(rt, alloc, gate, &renewal, steps);
+    swap(&mut tables[table as usize], more);
+    views
+}

@@ -1,0 +1,189 @@
+// Rows behind those of a table, and what is kept made anew.
+ghost use Rattle.std.specs.Prelude.{◌≡◌, ◌<◌, ◌≤◌, ◌+◌, Some, length, map, IfOk, OnOk, OnErr};
+ghost use Rattle.std.specs.List.{sum_by};
+ghost use Rattle.smk_base.specs.CatalogImage.{catalog_image};
+ghost use Rattle.smk_base.specs.Places.{upto};
+ghost use Rattle.smk_model.specs.Appends.{append_looks_at, looks_of_longer, longer_fault, scanning, turn_at};
+ghost use Rattle.smk_model.specs.Opening.{first_some, view_fault};
+ghost use Rattle.smk_compose.specs.Fetched.{table_of};
+ghost use Rattle.smk_session.specs.Parts.{parts_image};
+ghost use Rattle.smk_session.specs.Sessions.{IsSession, state_of, workbook_of};
+ghost use Rattle.smk_grow.specs.Grown.{longer_tables, first_tables, rows_of};
+ghost use Rattle.smk_grow.specs.Images.{grown_unless, next_image, renewed, renewed_unless, shortened, told_unless};
+ghost use Rattle.smk_grow.specs.Renewals.{IsGrown, IsFresh, last_of};
+ghost use Rattle.smk_grow.specs.Renewed.{apart_view, looks_again, looks_of_declared};
+
+use crate::apart::open_apart;
+use crate::refusing::refused;
+use crate::renewal::Renewal;
+use crate::renewing::{Fresh, renew};
+use crate::replacing::{forget, release, replace};
+use smk_base::{AppendRefusal, AppendReply, ROW_LIMIT, Rids};
+use smk_outside::{Gate, Steps};
+use smk_session::{Opened, Parts};
+use smk_table::Table;
+use std::alloc::{AllocError, Global};
+use std::sync::ledger::Ledger;
+use std::thread::Threads;
+
+// Puts rows behind those of a table. After an error all tables are as they were.
+fn lengthen(alloc: Global, tables: &mut [Table], table: u32, more: Table) -> Result<(), AllocError>
+    requires table { table < length tables.old }
+    requires kinds { more.kinds ≡ (table_of tables.old table).kinds }
+    requires few { length (rows_of tables.old table) + length more.rows ≤ ROW_LIMIT }
+    ensures longer { OnOk result (tables.new ≡ longer_tables tables.old table more.rows) }
+    ensures kept { OnErr result (tables.new ≡ tables.old) }
+{
+    tables[table as usize].absorb(alloc, more)
+}
+
+// Leaves the first rows of a table. It takes no memory.
+fn shorten(tables: &mut [Table], table: u32, len: u32)
+    requires table { table < length tables.old }
+    requires len { len ≤ length (rows_of tables.old table) }
+    ensures { tables.new ≡ first_tables tables.old table len }
+{
+    tables[table as usize].cut(len);
+}
+
+// Puts what was made anew in the places of what was kept, and takes all brushes out of force. It takes no memory.
+fn commit(parts: &mut Parts, table: u32, len: u32, fresh: Fresh) -> Rids
+    requires grown { IsGrown (parts_image parts.old) table len }
+    requires fresh { IsFresh table (workbook_of (parts_image parts.old)) fresh }
+    ensures parts { parts_image parts.new ≡ renewed (parts_image parts.old) }
+    ensures scanning { result ≡ scanning (workbook_of (parts_image parts.old)).catalog table }
+{
+    let Fresh {
+        views,
+        extras,
+        scanning,
+    } = fresh;
+    replace(parts.views.as_mut_slice(), views);
+    replace(parts.splits.as_mut_slice(), extras.splits);
+    replace(parts.cubes.as_mut_slice(), extras.cubes);
+    release(&mut parts.brushes);
+    forget(parts.now.as_mut_slice());
+    scanning
+}
+
+// What a session keeps, made anew over a table that has been lengthened. After a refusal and an error the table is cut to so many rows, and nothing else has changed.
+fn renew_parts<R: Threads + Sync, G: Gate + Sync, L: Ledger>(
+    rt: &R,
+    alloc: Global,
+    gate: &G,
+    parts: &mut Parts,
+    table: u32,
+    len: u32,
+    rows: u32,
+    apart: &[Option<Opened>],
+    steps: &mut Steps<L>,
+) -> Result<AppendReply, AllocError>
+    requires grown { IsGrown (parts_image parts.old) table len }
+    requires apart { apart.now ≡ map (apart_view table (last_of (parts_image parts.old) table len)) (upto (length (workbook_of (parts_image parts.old)).catalog.views)) }
+    ensures reply { IfOk result (λ told. told ≡ told_unless (first_some (view_fault (workbook_of (parts_image parts.old))) (scanning (workbook_of (parts_image parts.old)).catalog table)) rows (scanning (workbook_of (parts_image parts.old)).catalog table)) }
+    ensures after { OnOk result (parts_image parts.new ≡ renewed_unless (first_some (view_fault (workbook_of (parts_image parts.old))) (scanning (workbook_of (parts_image parts.old)).catalog table)) table len (parts_image parts.old)) }
+    ensures kept { OnErr result (parts_image parts.new ≡ shortened table len (parts_image parts.old)) }
+    ensures looks { steps.new ≤ steps.old + sum_by (looks_again table (workbook_of (parts_image parts.old))) (upto (length (workbook_of (parts_image parts.old)).catalog.views)) + sum_by (looks_of_declared table (workbook_of (parts_image parts.old))) (workbook_of (parts_image parts.old)).catalog.backs }
+{
+    let renewal = Renewal {
+        book: &parts.book,
+        tables: parts.tables.as_slice(),
+        table,
+        mode: parts.mode,
+        workers: parts.workers,
+    };
+    let made = renew(
+        rt,
+        alloc,
+        gate,
+        &renewal,
+        len,
+        parts.views.as_slice(),
+        apart,
+        steps,
+    );
+    match made {
+        Ok(fresh) => {
+            let views = commit(parts, table, len, fresh);
+            Ok(AppendReply::Added { rows, views })
+        }
+        Err(fault) => {
+            shorten(parts.tables.as_mut_slice(), table, len);
+            refused(fault)
+        }
+    }
+}
+
+// Appends rows that fit to a table of a session.
+fn grow<R: Threads + Sync, G: Gate + Sync, L: Ledger>(
+    rt: &R,
+    alloc: Global,
+    gate: &G,
+    parts: &mut Parts,
+    table: u32,
+    more: Table,
+    steps: &mut Steps<L>,
+) -> Result<AppendReply, AllocError>
+    requires keeps { IsSession (parts_image parts.old) }
+    requires table { table < length (parts_image parts.old).tables }
+    requires kinds { more.kinds ≡ (table_of (parts_image parts.old).tables table).kinds }
+    requires few { length (rows_of (parts_image parts.old).tables table) + length more.rows ≤ ROW_LIMIT }
+    ensures reply { IfOk result (λ told. told ≡ told_unless (longer_fault (catalog_image (parts_image parts.old).catalog) (state_of (parts_image parts.old)) table more.rows) (length more.rows) (scanning (catalog_image (parts_image parts.old).catalog) table)) }
+    ensures after { OnOk result (parts_image parts.new ≡ grown_unless (longer_fault (catalog_image (parts_image parts.old).catalog) (state_of (parts_image parts.old)) table more.rows) table more.rows (parts_image parts.old)) }
+    ensures kept { OnErr result (parts_image parts.new ≡ parts_image parts.old) }
+    ensures looks { steps.new ≤ steps.old + looks_of_longer (catalog_image (parts_image parts.old).catalog) (state_of (parts_image parts.old)) table more.rows }
+{
+    let len = parts.tables[table as usize].len();
+    let rows = more.len();
+    let mut more = more;
+    let apart = open_apart(
+        rt,
+        alloc,
+        parts.mode,
+        parts.workers,
+        gate,
+        &parts.book,
+        parts.tables.as_mut_slice(),
+        table,
+        &mut more,
+        steps,
+    )?;
+    lengthen(alloc, parts.tables.as_mut_slice(), table, more)?;
+    renew_parts(
+        rt,
+        alloc,
+        gate,
+        parts,
+        table,
+        len,
+        rows,
+        apart.as_slice(),
+        steps,
+    )
+}
+
+// Appends rows to a table of a session, unless they are too many together.
+pub(crate) fn grow_within<R: Threads + Sync, G: Gate + Sync, L: Ledger>(
+    rt: &R,
+    alloc: Global,
+    gate: &G,
+    parts: &mut Parts,
+    table: u32,
+    more: Table,
+    steps: &mut Steps<L>,
+) -> Result<AppendReply, AllocError>
+    requires keeps { IsSession (parts_image parts.old) }
+    requires table { table < length (parts_image parts.old).tables }
+    requires kinds { more.kinds ≡ (table_of (parts_image parts.old).tables table).kinds }
+    ensures reply { IfOk result (λ told. told ≡ (turn_at (catalog_image (parts_image parts.old).catalog) (state_of (parts_image parts.old)) more.rows (Some table)).reply) }
+    ensures after { OnOk result (parts_image parts.new ≡ next_image (parts_image parts.old) table more.rows) }
+    ensures kept { OnErr result (parts_image parts.new ≡ parts_image parts.old) }
+    ensures looks { steps.new ≤ steps.old + append_looks_at (catalog_image (parts_image parts.old).catalog) (state_of (parts_image parts.old)) more.rows (Some table) }
+{
+    let together = parts.tables[table as usize].len() as u64 + more.len() as u64;
+    if together > ROW_LIMIT as u64 {
+        Ok(AppendReply::Refused(AppendRefusal::TableRows))
+    } else {
+        grow(rt, alloc, gate, parts, table, more, steps)
+    }
+}

@@ -1,0 +1,18 @@
+//! Appended rows: a session over a longer table, with every view, its lineage, its splits and its groupings as of a fresh start, and the text of it.
+#![tactic(auto)]
+
+mod apart;
+mod appending;
+mod chained;
+mod extras;
+mod growing;
+mod refusing;
+mod renewal;
+mod renewing;
+mod replacing;
+mod said;
+mod scans;
+mod views;
+
+pub use appending::append;
+pub use said::append_text;
