@@ -3,7 +3,9 @@ use Rattle.std.proofs.Common.{◌≡◌, ◌∙◌, ◌<◌, ◌+◌, ◌++◌, 
 use Rattle.std.specs.Prelude.{IfErr}
 use Rattle.std.specs.List.{flat_map}
 use Rattle.smk_model.specs.Readings.{Reading}
-use Rattle.smk_model.specs.Reports.{Told, report_told, views_text, lines_told, script_told, report_of}
+use Rattle.smk_model.specs.Reports.{Told, report_told, lines_told, script_told, report_of}
+use Rattle.smk_model.specs.Values.{Row}
+use Rattle.smk_model.specs.ViewTexts.{views_text}
 use Rattle.smk_model.specs.Selection.{each_rows}
 use Rattle.smk_model.specs.Session.{Workbook}
 use Rattle.smk_session.specs.Sessions.{SessionImage, state_of, workbook_of}
@@ -132,10 +134,10 @@ report_counts book told views lines (Ok both) e f g =
 report_counts book told views lines (Err stop) e f g = g
 
 -- the lines of a session that begins
-begun_told : (session : SessionImage) (fds : List (List ℕ)) (said : List Reading) → session.brushes ≡ [] → lines_told (said_of session.catalog fds) (state_of session) 1 said ≡ script_told (workbook_of session) fds said
-begun_told session fds said begun = ap (λ b. lines_told (said_of session.catalog fds) (record { tables = each_rows session.tables; brushes = b }) 1 said) begun
+begun_told : (session : SessionImage) (fds : List (List ℕ)) (added : List (List Row)) (said : List Reading) → session.brushes ≡ [] → lines_told (said_of session.catalog fds) (state_of session) 1 added said ≡ script_told (workbook_of session) fds added said
+begun_told session fds added said begun = ap (λ b. lines_told (said_of session.catalog fds) (record { tables = each_rows session.tables; brushes = b }) 1 added said) begun
 
-pub then_lines : (X : Type 0) (session : SessionImage) (fds : List (List ℕ)) (said : List Reading) (a b c : Option (List ℕ)) (rose_here rose : Type 0) (result : Result X Stop) → session.brushes ≡ [] → (rose_here → rose)
-    → Appends a b (views_text (workbook_of session)) → PutsPieces (lines_told (said_of session.catalog fds) (state_of session) 1 said).text rose_here b c result → PutsPieces (report_of (workbook_of session) fds said).text rose a c result
-then_lines X session fds said a b c rose_here rose result begun wide p q =
-    then_rest X a b c rose_here rose (views_text (workbook_of session)) (script_told (workbook_of session) fds said).text result wide p (subst (λ (t : Told). PutsPieces t.text rose_here b c result) (begun_told session fds said begun) q)
+pub then_lines : (X : Type 0) (session : SessionImage) (fds : List (List ℕ)) (added : List (List Row)) (said : List Reading) (a b c : Option (List ℕ)) (rose_here rose : Type 0) (result : Result X Stop) → session.brushes ≡ [] → (rose_here → rose)
+    → Appends a b (views_text (workbook_of session)) → PutsPieces (lines_told (said_of session.catalog fds) (state_of session) 1 added said).text rose_here b c result → PutsPieces (report_of (workbook_of session) fds added said).text rose a c result
+then_lines X session fds added said a b c rose_here rose result begun wide p q =
+    then_rest X a b c rose_here rose (views_text (workbook_of session)) (script_told (workbook_of session) fds added said).text result wide p (subst (λ (t : Told). PutsPieces t.text rose_here b c result) (begun_told session fds added said begun) q)

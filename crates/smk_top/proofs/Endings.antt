@@ -13,6 +13,7 @@ use Rattle.smk_model.specs.Opening.{ViewFault, first_view_fault, named_fault, fa
 use Rattle.smk_model.specs.Reports.{Report, report_of, size_of_view}
 use Rattle.smk_model.specs.Readings.{Reading, AreReadingsOf}
 use Rattle.smk_model.specs.Session.{Workbook, view_at}
+use Rattle.smk_model.specs.Values.{Row}
 use Rattle.smk_model.specs.Words.{Words, Files, Demo, words_of}
 use Rattle.smk_model.specs.Outcome.{Held, Inputs, text_named, unless_view_fault, reported as report_or_fault, ReadsInputs, unusable, usable, Outcome, unreadable, read, written_for, written_of, NamesRead, nothing_held, WhereTold, UntoldCause, IsReport, HasCause}
 use Rattle.smk_top.specs.declared.counts.Counts.{Counts}
@@ -136,21 +137,21 @@ not_started X writes given book rose a stop same starts = by stop (first_view_fa
     by Exhausted found e h = inl (appends_none a)
 
 -- no view has a fault, so that there is a report
-found_report : (given : Inputs) → first_view_fault given.book ≡ None → report_or_fault given ≡ Ok (report_of given.book given.fds given.readings)
+found_report : (given : Inputs) → first_view_fault given.book ≡ None → report_or_fault given ≡ Ok (report_of given.book given.fds given.added given.readings)
 found_report given none = ap (unless_view_fault given) none
 
 -- the report of what was read is written, or its writing stops
-pub report_written : (given : Inputs) (book : Workbook) (fds : List (List ℕ)) (rose : Type 0) (a b : Option (List ℕ)) (r : Result Counts Stop) → first_view_fault given.book ≡ None
-    → book ≡ given.book → fds ≡ given.fds → PutsPieces (report_of book fds given.readings).text rose a b r → IfOk r (λ counts. counts ≡ counts_of (report_of book fds given.readings)) → Reports (λ report. report.text) given rose a b r
-report_written given book fds rose a b r none same alike w c =
-    let report_is : report_of book fds given.readings ≡ report_of given.book given.fds given.readings = rw (same, alike) refl in
+pub report_written : (given : Inputs) (book : Workbook) (fds : List (List ℕ)) (added : List (List Row)) (rose : Type 0) (a b : Option (List ℕ)) (r : Result Counts Stop) → first_view_fault given.book ≡ None
+    → book ≡ given.book → fds ≡ given.fds → added ≡ given.added → PutsPieces (report_of book fds added given.readings).text rose a b r → IfOk r (λ counts. counts ≡ counts_of (report_of book fds added given.readings)) → Reports (λ report. report.text) given rose a b r
+report_written given book fds added rose a b r none same alike brought w c =
+    let report_is : report_of book fds added given.readings ≡ report_of given.book given.fds given.added given.readings = rw (same, alike, brought) refl in
     by r (subst (λ (k : Report). PutsPieces k.text rose a b r) report_is w) (subst (λ (k : Report). IfOk r (λ counts. counts ≡ counts_of k)) report_is c)
   where
-    by : (r : Result Counts Stop) → PutsPieces (report_of given.book given.fds given.readings).text rose a b r → IfOk r (λ counts. counts ≡ counts_of (report_of given.book given.fds given.readings)) → Reports (λ report. report.text) given rose a b r
-    by (Ok counts) v c = (report_of given.book given.fds given.readings, found_report given none, v, c)
+    by : (r : Result Counts Stop) → PutsPieces (report_of given.book given.fds given.added given.readings).text rose a b r → IfOk r (λ counts. counts ≡ counts_of (report_of given.book given.fds given.added given.readings)) → Reports (λ report. report.text) given rose a b r
+    by (Ok counts) v c = (report_of given.book given.fds given.added given.readings, found_report given none, v, c)
     by (Err (At fault)) v c = absurd v
-    by (Err Unwritten) v c = (report_of given.book given.fds given.readings, found_report given none, v.0, v.1)
-    by (Err Exhausted) v c = inr (report_of given.book given.fds given.readings, found_report given none, v)
+    by (Err Unwritten) v c = (report_of given.book given.fds given.added given.readings, found_report given none, v.0, v.1)
+    by (Err Exhausted) v c = inr (report_of given.book given.fds given.added given.readings, found_report given none, v)
 
 -- what stops a text that is put is no fault
 pub sayable_pieces : {X : Type 0} (text : List ℕ) (rose : Type 0) (a b : Option (List ℕ)) (r : Result X Stop) → PutsPieces text rose a b r → IsSayable r
@@ -166,22 +167,22 @@ measured_stops X writes given text rose a Unwritten w = absurd (never_rose w.1)
 measured_stops X writes given text rose a Exhausted w = inl (appends_none a)
 
 -- the summary of a report
-summary_same : (n : ℕ) (given : Inputs) (book : Workbook) (fds : List (List ℕ)) (sizes : List Size) (counts : Counts) (text : List ℕ) → book ≡ given.book → fds ≡ given.fds → sizes ≡ map (size_of_view book) book.catalog.views
-    → counts ≡ counts_of (report_of book fds given.readings) → text ≡ summary n sizes counts.replies counts.refused counts.bytes → text ≡ summary_of n (report_of given.book given.fds given.readings)
-summary_same n given book fds sizes counts text same alike are counted is =
-    is ∙ rw (are, counted) (ap (λ k. summary_of n (report_of k fds given.readings)) same ∙ ap (λ f. summary_of n (report_of given.book f given.readings)) alike)
+summary_same : (n : ℕ) (given : Inputs) (book : Workbook) (fds : List (List ℕ)) (added : List (List Row)) (sizes : List Size) (counts : Counts) (text : List ℕ) → book ≡ given.book → fds ≡ given.fds → added ≡ given.added → sizes ≡ map (size_of_view book) book.catalog.views
+    → counts ≡ counts_of (report_of book fds added given.readings) → text ≡ summary n sizes counts.replies counts.refused counts.bytes → text ≡ summary_of n (report_of given.book given.fds given.added given.readings)
+summary_same n given book fds added sizes counts text same alike brought are counted is =
+    is ∙ rw (are, counted) (ap (λ k. summary_of n (report_of k fds added given.readings)) same ∙ ap (λ f. summary_of n (report_of given.book f added given.readings)) alike ∙ ap (λ l. summary_of n (report_of given.book given.fds l given.readings)) brought)
 
-pub summary_written : (n : ℕ) (given : Inputs) (book : Workbook) (fds : List (List ℕ)) (sizes : List Size) (counts : Counts) (rose : Type 0) (a b : Option (List ℕ)) (r : Result Counts Stop) → first_view_fault given.book ≡ None
-    → book ≡ given.book → fds ≡ given.fds → sizes ≡ map (size_of_view book) book.catalog.views → counts ≡ counts_of (report_of book fds given.readings)
+pub summary_written : (n : ℕ) (given : Inputs) (book : Workbook) (fds : List (List ℕ)) (added : List (List Row)) (sizes : List Size) (counts : Counts) (rose : Type 0) (a b : Option (List ℕ)) (r : Result Counts Stop) → first_view_fault given.book ≡ None
+    → book ≡ given.book → fds ≡ given.fds → added ≡ given.added → sizes ≡ map (size_of_view book) book.catalog.views → counts ≡ counts_of (report_of book fds added given.readings)
     → PutsPieces (summary n sizes counts.replies counts.refused counts.bytes) rose a b r → IfOk r (λ told. told ≡ counts) → Reports (summary_of n) given rose a b r
-summary_written n given book fds sizes counts rose a b r none same alike are counted put kept =
-    by r (subst (λ (t : List ℕ). PutsPieces t rose a b r) (summary_same n given book fds sizes counts _ same alike are counted refl) put) kept
+summary_written n given book fds added sizes counts rose a b r none same alike brought are counted put kept =
+    by r (subst (λ (t : List ℕ). PutsPieces t rose a b r) (summary_same n given book fds added sizes counts _ same alike brought are counted refl) put) kept
   where
-    by : (r : Result Counts Stop) → PutsPieces (summary_of n (report_of given.book given.fds given.readings)) rose a b r → IfOk r (λ told. told ≡ counts) → Reports (summary_of n) given rose a b r
-    by (Ok told) w k = (report_of given.book given.fds given.readings, found_report given none, w, k ∙ counted ∙ ap (λ k. counts_of (report_of k fds given.readings)) same ∙ ap (λ f. counts_of (report_of given.book f given.readings)) alike)
+    by : (r : Result Counts Stop) → PutsPieces (summary_of n (report_of given.book given.fds given.added given.readings)) rose a b r → IfOk r (λ told. told ≡ counts) → Reports (summary_of n) given rose a b r
+    by (Ok told) w k = (report_of given.book given.fds given.added given.readings, found_report given none, w, k ∙ counted ∙ ap (λ k. counts_of (report_of k fds added given.readings)) same ∙ ap (λ f. counts_of (report_of given.book f added given.readings)) alike ∙ ap (λ l. counts_of (report_of given.book given.fds l given.readings)) brought)
     by (Err (At fault)) w k = absurd w
-    by (Err Unwritten) w k = (report_of given.book given.fds given.readings, found_report given none, w.0, w.1)
-    by (Err Exhausted) w k = inr (report_of given.book given.fds given.readings, found_report given none, w)
+    by (Err Unwritten) w k = (report_of given.book given.fds given.added given.readings, found_report given none, w.0, w.1)
+    by (Err Exhausted) w k = inr (report_of given.book given.fds given.added given.readings, found_report given none, w)
 
 -- what is written for the words
 pub files_write : (words : List (List ℕ)) (book : List ℕ) (script : Option (List ℕ)) → words_of words ≡ Some (Files book script) → (report : Report) → report.text ≡ written_of words report

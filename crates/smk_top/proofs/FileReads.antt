@@ -103,6 +103,7 @@ says_fault text at is = leaves is.0 is.1.1.0 is.1.1.1
 pub keeps_line : (text : List ℕ) (line : AnyLine) → IsAnyAnswer text (Ok (Some line)) → KeepsLine (any_image line)
 keeps_line text (any_lines.Plain line) is = tt
 keeps_line text (any_lines.Profile view) is = tt
+keeps_line text (any_lines.Append table file) is = tt
 keeps_line text (any_lines.Ask asked) is = faultless_asks_keep_limits text (ask_image asked) is.1 is.2
 
 pub ruleset lines_say = (says_none, says_line, says_fault, keeps_line)

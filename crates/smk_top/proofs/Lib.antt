@@ -9,5 +9,9 @@ mod Completes
 mod ReplyFits
 mod FileReads
 mod TableLoads
+mod NamedTables
+mod LinesBring
+mod AddedReads
+mod Answered
 mod ScriptReads
 mod WordsTaken

@@ -1,7 +1,8 @@
 -- Why a run stops where a file is read.
-use Rattle.std.proofs.Common.{◌≡◌, ◌<◌, ◌≤◌, ℕ, List, Option, Some, None, Ok, Err, sym, ap, subst, arith, inl, inr}
+use Rattle.std.proofs.Common.{◌≡◌, ◌<◌, ◌≤◌, ℕ, List, Option, Some, None, Result, Ok, Err, sym, ap, subst, arith, inl, inr}
 use Rattle.std.specs.Prelude.{◌⊎◌, option_map}
 use Rattle.std.proofs.lemmas.Bool.{cases_lt}
+use Rattle.smk_base.specs.CatalogImage.{CatalogImage}
 use Rattle.smk_base.specs.declared.fault.Fault.{Fault}
 use Rattle.smk_base.specs.declared.fault.Fault.TheVariants.{Usage, Book, Types, Table, FileLong, TableRows, ViewRows, ViewPairs, Unread}
 use Rattle.smk_outside.specs.Outside.{Rose}
@@ -9,7 +10,7 @@ use Rattle.smk_model.specs.Values.{Row}
 use Rattle.smk_model.specs.Readings.{Reading, AreReadingsOf}
 use Rattle.smk_model.specs.Words.{Invocation, invocation_of, words_of}
 use Rattle.smk_model.specs.Reports.{BookSaid}
-use Rattle.smk_model.specs.Outcome.{Held, Inputs, OpensBook, ReadsFiles, no_book, no_tables, no_readings, inputs, the_book, a_table, the_script, UntoldCause}
+use Rattle.smk_model.specs.Outcome.{Held, Inputs, OpensBook, ReadsFiles, no_book, no_tables, no_readings, no_rows, inputs, the_book, a_table, the_script, of_a_line, appended, UntoldCause}
 use Rattle.smk_top.specs.declared.called.RunWords.{RunWords}
 use Rattle.smk_top.specs.declared.stop.Stop.{Stop}
 use Rattle.smk_top.specs.declared.stop.Stop.TheVariants.{At, Unwritten, Exhausted}
@@ -81,19 +82,43 @@ script_stops image rows content reads bytes opened tables None r1 r2 r3 rose boo
 script_stops image rows content reads bytes opened tables None r1 r2 r3 rose book script Unwritten wide ok fine h = h
 script_stops image rows content reads bytes opened tables None r1 r2 r3 rose book script Exhausted wide ok fine h = tt
 
+-- the files of the script's lines
+pub added_stop : {X Y Z V W : Type 0} (image : X → BookSaid) (rows : Z → List (List Row)) (content : V → List ℕ) (more : W → List (List Row)) (reads : Y → List Reading → Inputs) (bytes : Y → List ℕ) (opened : X) (tables : Z) (text : V) (said : List Reading)
+    (held : Option Held) (rose_first rose_second rose_third rose_here rose : Type 0) (book : List ℕ) (script : Option (List ℕ)) (stop : Stop)
+    → (rose_here → rose)
+    → Reads held rose_first book (λ h. OpensBook h book) image (Ok opened)
+    → Loads held rose_second (image opened).catalog.tables rows (Ok tables)
+    → OpensBytes held rose_third script content (Ok text) → AreReadingsOf (content text) said
+    → Loads {X = W} held rose_here (appended (image opened).catalog said) more (Err stop) → ReadsAll {X = Y} held rose book script reads bytes (Err stop)
+added_stop image rows content more reads bytes opened tables text said (Some held) r1 r2 r3 r4 rose book script (At fault) wide ok fine read are (inl err) = inl (no_rows ok fine (read said are) err)
+added_stop image rows content more reads bytes opened tables text said (Some held) r1 r2 r3 r4 rose book script (At fault) wide ok fine read are (inr (up, unread_among before table behind cut loaded name)) = inr (wide up, rw name (of_a_line before table behind ok fine (read said are) cut loaded))
+added_stop image rows content more reads bytes opened tables text said (Some held) r1 r2 r3 r4 rose book script Unwritten wide ok fine read are h = h
+added_stop image rows content more reads bytes opened tables text said (Some held) r1 r2 r3 r4 rose book script Exhausted wide ok fine read are h = tt
+added_stop image rows content more reads bytes opened tables text said None r1 r2 r3 r4 rose book script (At fault) wide ok fine read are h = untold_within r4 rose fault wide h
+added_stop image rows content more reads bytes opened tables text said None r1 r2 r3 r4 rose book script Unwritten wide ok fine read are h = h
+added_stop image rows content more reads bytes opened tables text said None r1 r2 r3 r4 rose book script Exhausted wide ok fine read are h = tt
+
+-- the same of files that hold the same, and of the same catalog
+pub added_of : {X : Type 0} (rows : X → List (List Row)) (rose : Type 0) (readings : List Reading) (result : Result X Stop) (now before : Option Held) (held_book book : CatalogImage)
+    → now ≡ before → book ≡ held_book → Loads now rose (appended held_book readings) rows result → Loads before rose (appended book readings) rows result
+added_of rows rose readings result now before held_book book same alike is =
+    subst (λ (held : Option Held). Loads held rose (appended book readings) rows result) same (subst (λ (k : CatalogImage). Loads now rose (appended k readings) rows result) (sym alike) is)
+
 -- all is read
-pub all_read : {X Y Z V : Type 0} (image : X → BookSaid) (rows : Z → List (List Row)) (content : V → List ℕ) (reads : Y → List Reading → Inputs) (bytes : Y → List ℕ) (opened : X) (tables : Z) (text : V) (all : Y)
-    (held : Option Held) (rose_first rose_second rose_third rose : Type 0) (book : List ℕ) (script : Option (List ℕ))
-    → ((readings : List Reading) → reads all readings ≡ record { book = record { catalog = (image opened).catalog; tables = rows tables }; fds = (image opened).fds; readings = readings }) → bytes all ≡ content text
+pub all_read : {X Y Z V W : Type 0} (image : X → BookSaid) (rows : Z → List (List Row)) (content : V → List ℕ) (more : W → List (List Row)) (reads : Y → List Reading → Inputs) (bytes : Y → List ℕ) (opened : X) (tables : Z) (text : V) (added : W) (all : Y)
+    (held : Option Held) (rose_first rose_second rose_third rose_fourth rose : Type 0) (book : List ℕ) (script : Option (List ℕ))
+    → ((readings : List Reading) → reads all readings ≡ record { book = record { catalog = (image opened).catalog; tables = rows tables }; fds = (image opened).fds; readings = readings; added = more added }) → bytes all ≡ content text
     → Reads held rose_first book (λ h. OpensBook h book) image (Ok opened)
     → Loads held rose_second (image opened).catalog.tables rows (Ok tables)
     → OpensBytes held rose_third script content (Ok text)
+    → ((readings : List Reading) → AreReadingsOf (content text) readings → Loads held rose_fourth (appended (image opened).catalog readings) more (Ok added))
     → ReadsAll held rose book script reads bytes (Ok all)
-all_read image rows content reads bytes opened tables text all (Some held) r1 r2 r3 rose book script made same ok fine read =
+all_read image rows content more reads bytes opened tables text added all (Some held) r1 r2 r3 r4 rose book script made same ok fine read loaded =
     λ readings are.
+    let here = subst (λ (l : List ℕ). AreReadingsOf l readings) same are in
     subst (λ (r : Inputs). ReadsFiles held book script (Ok r)) (sym (made readings))
-    (inputs ok fine (read readings (subst (λ (l : List ℕ). AreReadingsOf l readings) same are)))
-all_read image rows content reads bytes opened tables text all None r1 r2 r3 rose book script made same ok fine read = tt
+    (inputs ok fine (read readings here) (loaded readings here))
+all_read image rows content more reads bytes opened tables text added all None r1 r2 r3 r4 rose book script made same ok fine read loaded = tt
 
 -- what is read after the book, and what all is
 pub then_all : {X Y : Type 0} (reads : X → List Reading → Inputs) (bytes : X → List ℕ) (others : Y → List Reading → Inputs) (content : Y → List ℕ) (held : Option Held) (rose_here rose : Type 0) (book : List ℕ) (script : Option (List ℕ)) (rest : X) (all : Y)

@@ -1,6 +1,6 @@
 -- What a line of a script comes to, as the definitions see it.
 use Rattle.std.specs.Prelude.{◌≡◌}
-use Rattle.smk_base.specs.Trees.{AnyLineImage, PlainLine, AskedLine, ProfiledLine}
+use Rattle.smk_base.specs.Trees.{AnyLineImage, PlainLine, AskedLine, ProfiledLine, AppendedLine}
 use Rattle.smk_model.specs.Limits.{KeepsAsk}
 use Rattle.smk_model.specs.Readings.{Reading, Nothing, Asks, Unread}
 use Rattle.smk_model.specs.Reports as reports
@@ -16,6 +16,7 @@ abbrev pub KeepsLine : AnyLineImage → Type 0
 KeepsLine (PlainLine line) = Unit {0}
 KeepsLine (AskedLine asked) = KeepsAsk asked
 KeepsLine (ProfiledLine view) = Unit {0}
+KeepsLine (AppendedLine table file) = Unit {0}
 
 abbrev pub KeepsReading : Reading → Type 0
 KeepsReading Nothing = Unit {0}

@@ -1,6 +1,7 @@
 pub mod Image
 pub mod Answering
 pub mod WordsTaken
+pub mod Added
 pub mod Loaded
 pub mod Statuses
 pub mod Endings

@@ -27,8 +27,8 @@ script_bytes inputs = inputs.script.items
 
 -- with what the lines of the script say
 abbrev pub inputs_with : Inputs → List Reading → outcomes.Inputs
-inputs_with inputs said = record { book = workbook_read inputs; fds = inputs.fds; readings = said }
+inputs_with inputs said = record { book = workbook_read inputs; fds = inputs.fds; readings = said; added = each_rows inputs.added.items }
 
 -- what was read after a book, with what this says and what the lines of the script say
 abbrev pub with_rest : BookSaid → Rest → List Reading → outcomes.Inputs
-with_rest book rest said = record { book = record { catalog = book.catalog; tables = each_rows rest.tables.items }; fds = book.fds; readings = said }
+with_rest book rest said = record { book = record { catalog = book.catalog; tables = each_rows rest.tables.items }; fds = book.fds; readings = said; added = each_rows rest.added.items }

@@ -1,6 +1,7 @@
 //! The top call of Smoke: a run, from its words to its report.
 #![tactic(auto)]
 
+mod adding;
 mod answering;
 mod called;
 mod counting;

@@ -50,7 +50,7 @@ fn fault_of_table(alloc: Global, info: &TableInfo, fault: TableFault) -> Result<
     Ok(Fault::Table { table, col, fault })
 }
 
-// The table of the bytes of its file.
+// The table of the bytes of a file.
 #[tactic(auto, using(crate::proofs::TableLoads::kinds_declared))]
 fn table_of(alloc: Global, info: &TableInfo, bytes: &[u8]) -> Result<Table, Stop>
     requires { AreColumns info.now.cols }
@@ -65,17 +65,22 @@ fn table_of(alloc: Global, info: &TableInfo, bytes: &[u8]) -> Result<Table, Stop
     }
 }
 
-// A table, by its file.
-fn load<F: Files>(alloc: Global, files: &mut F, info: &TableInfo) -> Result<Table, Stop>
+/// A table, by a file, which is its own or that of rows that are appended to it.
+pub fn load<F: Files>(
+    alloc: Global,
+    files: &mut F,
+    file: &Text,
+    info: &TableInfo,
+) -> Result<Table, Stop>
     requires { AreColumns info.now.cols }
-    ensures read { Reads (F.held files.old) (Rose (F.faults files.old) (F.faults files.new)) info.now.file
-        (λ held answer. outcomes.load held info.now ≡ answer) (λ table. table.rows) result }
+    ensures read { Reads (F.held files.old) (Rose (F.faults files.old) (F.faults files.new)) file.now
+        (λ held answer. outcomes.load held (outcomes.filed file.now info.now) ≡ answer) (λ table. table.rows) result }
     ensures kinds { IfOk result (λ table. table.kinds ≡ table_kinds info.now) }
     ensures said { IsSayable result }
     ensures held { F.held files.new ≡ F.held files.old }
     ensures later { F.faults files.old ≤ F.faults files.new }
 {
-    let bytes = content(alloc, files, &info.file)?;
+    let bytes = content(alloc, files, file)?;
     table_of(alloc, info, bytes.as_slice())
 }
 
@@ -94,7 +99,7 @@ pub fn load_all<F: Files>(
 {
     let mut tables = Vec::new(alloc);
     for info in infos {
-        tables.push(load(alloc, files, info)?)?;
+        tables.push(load(alloc, files, &info.file, info)?)?;
     }
     Ok(tables)
 }

@@ -1,5 +1,7 @@
 ghost use Rattle.std.specs.Prelude.{◌≡◌, ◌≤◌, ◌+◌, ℕ, List, Some, map};
 ghost use Rattle.smk_base.specs.CatalogImage.{catalog_image};
+ghost use Rattle.smk_base.specs.Marks.{after_marks};
+ghost use Rattle.smk_model.specs.Lines.{lines};
 ghost use Rattle.smk_model.specs.Profiles.{AreDependencies};
 ghost use Rattle.smk_model.specs.FaultTexts.{IsSaid};
 ghost use Rattle.smk_model.specs.Outcome.{run_looks};
@@ -7,6 +9,7 @@ ghost use Rattle.smk_model.specs.Readings.{Reading, AreReadingsOf};
 ghost use Rattle.smk_model.specs.Reports.{Report};
 ghost use Rattle.smk_model.specs.Words.{Demo, words_of};
 ghost use Rattle.smk_outside.specs.Outside.{Rose};
+ghost use Rattle.smk_top.specs.Added.{BringTables};
 ghost use Rattle.smk_top.specs.Counting.{counts_of};
 ghost use Rattle.smk_top.specs.Image.{texts_image};
 ghost use Rattle.smk_top.specs.Endings.{RunEnds, Works, Reports, SaysFault, SaysMemory};
@@ -20,7 +23,7 @@ use crate::inputs::Inputs;
 use crate::reading::read_all;
 use crate::reporting::write_report;
 use crate::settings::Settings;
-use crate::starting::start;
+use crate::starting::{Begun, start};
 use crate::status::Status;
 use crate::stop::Stop;
 use crate::summarizing::{read_demo, summarize};
@@ -94,20 +97,26 @@ fn report<R: Threads + Sync, G: Gate + Sync, O: Sink, L: Ledger>(
     steps: &mut Steps<L>,
 ) -> Result<Counts, Stop>
     requires shown { AreDependencies (catalog_image inputs.book) inputs.fds }
+    requires fits { BringTables (catalog_image inputs.book) (lines (after_marks inputs.script.items)) inputs.added.items }
     ensures works { (said : List Reading) → AreReadingsOf inputs.script.items said
         → Reports (λ report. report.text) (inputs_with inputs said) (Rose (O.faults out.old) (O.faults out.new)) (O.written out.old) (O.written out.new) result }
     ensures said { IsSayable result }
     ensures out_later { O.faults out.old ≤ O.faults out.new }
     ensures looks { (said : List Reading) → AreReadingsOf inputs.script.items said → steps.new ≤ steps.old + run_looks (inputs_with inputs said) }
 {
-    let mut begun = start(rt, alloc, inputs, settings, gate, steps)?;
-    let script = begun.script.as_slice();
+    let Begun {
+        session,
+        fds,
+        script,
+        added,
+    } = start(rt, alloc, inputs, settings, gate, steps)?;
     write_report(
         rt,
         alloc,
-        &mut begun.session,
-        &begun.fds,
-        script,
+        session,
+        &fds,
+        script.as_slice(),
+        added,
         gate,
         out,
         steps,
@@ -174,8 +183,8 @@ fn work<R: Threads + Sync, F: Files, O: Sink, G: Gate + Sync, L: Ledger>(
 /// number of flights; and `--mode`, which says when lineage is made, and `--workers`, which says into how many pieces the work is cut that may
 /// run at the same time, from 1 to 64. Neither changes anything of what is written. Each piece passes the gate.
 ///
-/// It reads the book, the book's tables and the script from `files`, evaluates the views, and writes to `out` the text of each view and then
-/// of the reply to each line of the script; where there is a fault, it writes nothing to `out` and one line to `err`. With `--demo` no file is
+/// It reads the book, the book's tables, the script and the files that its lines append from `files`, evaluates the views, and writes to `out`
+/// the text of each view and then of the reply to each line of the script; where there is a fault, it writes nothing to `out` and one line to `err`. With `--demo` no file is
 /// read: texts that it makes stand in their place, and of the report a summary is written. How it may end is `RunEnds`: what is written is the
 /// report of the words and of what the files hold, in which each view is its plan's plain meaning, each declared backward and forward answer
 /// is what the annotated meaning relates, exactly the undeclared queries are refused as undeclared, and a view that a brush is linked to is

@@ -1,52 +1,66 @@
-// Reads in order: the book, its tables, the script.
+// Reads in order: the book, its tables, the script, the files that its lines append.
 ghost use Rattle.std.specs.Prelude.{◌≡◌, ◌≤◌, ℕ, List, Ok, All, IfOk};
 ghost use Rattle.std.specs.Option.{option_copied};
 ghost use Rattle.smk_base.specs.CatalogImage.{catalog_image};
+ghost use Rattle.smk_base.specs.Marks.{after_marks};
 ghost use Rattle.smk_model.specs.Catalogs.{each_table_kinds};
+ghost use Rattle.smk_model.specs.Lines.{lines};
 ghost use Rattle.smk_model.specs.Profiles.{AreDependencies};
 ghost use Rattle.smk_model.specs.Outcome.{OpensBook};
 ghost use Rattle.smk_model.specs.Reports.{BookSaid};
 ghost use Rattle.smk_model.specs.Selection.{each_kinds, each_rows};
 ghost use Rattle.smk_model.specs.Tables.{AreColumns};
 ghost use Rattle.smk_outside.specs.Outside.{Rose};
+ghost use Rattle.smk_top.specs.Added.{BringTables};
 ghost use Rattle.smk_top.specs.Loaded.{script_bytes, inputs_with, with_rest};
 ghost use Rattle.smk_top.specs.Reading.{Reads, ReadsAll, IsSayable};
 
+use crate::adding::read_added;
 use crate::inputs::Inputs;
 use crate::loading::load_all;
 use crate::opening::{OpenedBook, open_book};
 use crate::script::open_script;
 use crate::stop::Stop;
-use smk_base::{TableInfo, Text};
+use smk_base::{Catalog, Text, without_mark};
 use smk_outside::Files;
 use smk_table::Table;
 use std::alloc::Global;
+use std::collections::VecDeque;
 
-// The tables of a book, and the bytes of a script.
+// The tables of a book, the bytes of a script, and the tables that its lines bring.
 #[derive(Drop)]
 struct Rest {
     tables: Vec<Table>,
     script: Vec<u8>,
+    added: VecDeque<Table>,
 }
 
-// What is read after a book: its tables and the script.
+// What is read after a book: its tables, the script, and the files that the lines of the script append.
 fn read_rest<F: Files>(
     alloc: Global,
     files: &mut F,
-    infos: &[TableInfo],
+    catalog: &Catalog,
     script: Option<&Text>,
 ) -> Result<Rest, Stop>
-    requires { All (λ info. AreColumns info.cols) infos.now }
-    ensures read { (book : List ℕ) (said : BookSaid) → said.catalog.tables ≡ infos.now → Reads (F.held files.old) (Unit {0}) book (λ held. OpensBook held book) (λ opened. opened) (Ok said)
+    requires { All (λ info. AreColumns info.cols) catalog.now.tables }
+    ensures read { (book : List ℕ) (said : BookSaid) → said.catalog ≡ catalog_image catalog.now → Reads (F.held files.old) (Unit {0}) book (λ held. OpensBook held book) (λ opened. opened) (Ok said)
         → ReadsAll (F.held files.old) (Rose (F.faults files.old) (F.faults files.new)) book (option_copied script.entry) (with_rest said) (λ rest. rest.script.items) result }
-    ensures kinds { IfOk result (λ rest. each_kinds rest.tables.items ≡ each_table_kinds infos.now) }
+    ensures kinds { IfOk result (λ rest. each_kinds rest.tables.items ≡ each_table_kinds catalog.now.tables) }
+    ensures fits { IfOk result (λ rest. BringTables (catalog_image catalog.now) (lines (after_marks rest.script.items)) rest.added.items) }
     ensures said { IsSayable result }
     ensures held { F.held files.new ≡ F.held files.old }
     ensures later { F.faults files.old ≤ F.faults files.new }
 {
+    let infos = catalog.tables.as_slice();
     let tables = load_all(alloc, files, infos)?;
     let script = open_script(alloc, files, script)?;
-    Ok(Rest { tables, script })
+    let text = without_mark(script.as_slice());
+    let added = read_added(alloc, files, catalog, text)?;
+    Ok(Rest {
+        tables,
+        script,
+        added,
+    })
 }
 
 /// What is read of the book and the script of these names, or why that stops.
@@ -58,17 +72,18 @@ pub fn read_all<F: Files>(
 ) -> Result<Inputs, Stop>
     ensures read { ReadsAll (F.held files.old) (Rose (F.faults files.old) (F.faults files.new)) book.now (option_copied script.entry) inputs_with script_bytes result }
     ensures shown { IfOk result (λ inputs. AreDependencies (catalog_image inputs.book) inputs.fds) }
+    ensures fits { IfOk result (λ inputs. BringTables (catalog_image inputs.book) (lines (after_marks inputs.script.items)) inputs.added.items) }
     ensures said { IsSayable result }
     ensures held { F.held files.new ≡ F.held files.old }
     ensures later { F.faults files.old ≤ F.faults files.new }
 {
     let OpenedBook { book, fds } = open_book(alloc, files, book)?;
-    let infos = book.catalog().tables.as_slice();
-    let rest = read_rest(alloc, files, infos, script)?;
+    let rest = read_rest(alloc, files, book.catalog(), script)?;
     Ok(Inputs {
         book,
         fds,
         tables: rest.tables,
         script: rest.script,
+        added: rest.added,
     })
 }

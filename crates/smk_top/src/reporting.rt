@@ -1,17 +1,21 @@
 // The report of a run, text by text.
-ghost use Rattle.std.specs.Prelude.{◌≡◌, ◌≤◌, ◌<◌, ◌+◌, [], cond, length, List, IfOk};
+ghost use Rattle.std.specs.Prelude.{◌≡◌, ◌≤◌, ◌<◌, ◌+◌, [], cond, length, List, IfSome, IfOk};
 ghost use Rattle.smk_base.specs.CatalogImage.{catalog_image};
 ghost use Rattle.smk_base.specs.Marks.{after_marks};
 ghost use Rattle.smk_base.specs.TreeImage.{any_image};
 ghost use Rattle.smk_model.specs.Lines.{lines};
+ghost use Rattle.smk_model.specs.Outcome.{appended_at, appended_by};
 ghost use Rattle.smk_model.specs.Profiles.{AreDependencies};
 ghost use Rattle.smk_model.specs.Readings as readings;
 ghost use Rattle.smk_model.specs.Readings.{AreReadings, AreReadingsOf};
 ghost use Rattle.smk_model.specs.Reports as reports;
+ghost use Rattle.smk_model.specs.Selection.{each_rows};
 ghost use Rattle.smk_model.specs.Session.{view_at};
 ghost use Rattle.smk_model.specs.Texts as line_texts;
+ghost use Rattle.smk_model.specs.ViewTexts as view_texts;
 ghost use Rattle.smk_outside.specs.Outside.{Rose};
 ghost use Rattle.smk_session.specs.Sessions.{state_of, workbook_of};
+ghost use Rattle.smk_top.specs.Added.{BeginsWith, BringTables, tables_left};
 ghost use Rattle.smk_top.specs.Answering.{KeepsLine, KeepsReading};
 ghost use Rattle.smk_top.specs.Image.{reading_image};
 ghost use Rattle.smk_top.specs.Loaded.{said_of};
@@ -28,7 +32,9 @@ use smk_outside::{Gate, Sink, Steps};
 use smk_parse::line_at;
 use smk_report::{bad_line_text, view_text};
 use smk_session::Session;
+use smk_table::Table;
 use std::alloc::{AllocError, Global};
+use std::collections::VecDeque;
 use std::sync::ledger::Ledger;
 use std::thread::Threads;
 
@@ -46,7 +52,7 @@ pub fn put<O: Sink>(out: &mut O, text: &[u8]) -> Result<(), Stop>
 // The text of the view with this number.
 fn text_of_view(alloc: Global, session: &Session, number: u32) -> Result<Vec<u8>, AllocError>
     requires { number < length session.now.catalog.views }
-    ensures { IfOk result (λ text. text.items ≡ reports.text_of_view (workbook_of session.now) (view_at (catalog_image session.now.catalog) number)) }
+    ensures { IfOk result (λ text. text.items ≡ view_texts.text_of_view (workbook_of session.now) (view_at (catalog_image session.now.catalog) number)) }
 {
     let view = &session.catalog().views.as_slice()[number as usize];
     view_text(alloc, &view.name, &view.names, session.first(number))
@@ -54,9 +60,9 @@ fn text_of_view(alloc: Global, session: &Session, number: u32) -> Result<Vec<u8>
 
 // Writes the texts of all views, in the book's order, and counts their bytes.
 fn write_views<O: Sink>(alloc: Global, session: &Session, out: &mut O) -> Result<Counts, Stop>
-    ensures written { PutsPieces (reports.views_text (workbook_of session.now))
+    ensures written { PutsPieces (view_texts.views_text (workbook_of session.now))
         (Rose (O.faults out.old) (O.faults out.new)) (O.written out.old) (O.written out.new) result }
-    ensures counts { IfOk result (λ counts. counts ≡ text_counted (reports.views_text (workbook_of session.now))) }
+    ensures counts { IfOk result (λ counts. counts ≡ text_counted (view_texts.views_text (workbook_of session.now))) }
     ensures later { O.faults out.old ≤ O.faults out.new }
 {
     let mut counts = NOTHING;
@@ -101,29 +107,34 @@ fn answer_counts(refused: bool) -> Counts
     }
 }
 
-// Writes the text of a line that is answered.
+// Writes the text of a line that is answered, and tells its counts beside the session.
 fn write_answer<R: Threads + Sync, G: Gate + Sync, O: Sink, L: Ledger>(
     rt: &R,
     alloc: Global,
-    session: &mut Session,
+    session: Session,
     fds: &Names,
     line: &AnyLine,
+    added: &mut VecDeque<Table>,
     gate: &G,
     out: &mut O,
     steps: &mut Steps<L>,
-) -> Result<Counts, Stop>
+) -> Result<(Session, Counts), Stop>
     requires kept { KeepsLine (any_image line.now) }
-    requires shown { AreDependencies (catalog_image session.old.catalog) fds.now }
-    ensures written { PutsPieces (reports.line_told (said_of session.old.catalog fds.now) (state_of session.old) 0 (readings.Asks (any_image line.now))).text
+    requires shown { AreDependencies (catalog_image session.catalog) fds.now }
+    requires fits { IfSome (appended_by (catalog_image session.catalog) (any_image line.now)) (λ info. BeginsWith info added.old.items) }
+    ensures written { PutsPieces (reports.line_told (said_of session.catalog fds.now) (state_of session) 0 (reports.next_rows (each_rows added.old.items)) (readings.Asks (any_image line.now))).text
         (Rose (O.faults out.old) (O.faults out.new)) (O.written out.old) (O.written out.new) result }
-    ensures counts { IfOk result (λ counts. counts ≡ counts_told (reports.line_told (said_of session.old.catalog fds.now) (state_of session.old) 0 (readings.Asks (any_image line.now)))) }
-    ensures after { IfOk result (λ counts. state_of session.new ≡ reports.state_after (said_of session.old.catalog fds.now) (state_of session.old) (readings.Asks (any_image line.now))) }
-    ensures book { session.new.catalog ≡ session.old.catalog }
+    ensures counts { IfOk result (λ done. done.1 ≡ counts_told (reports.line_told (said_of session.catalog fds.now) (state_of session) 0 (reports.next_rows (each_rows added.old.items)) (readings.Asks (any_image line.now)))) }
+    ensures after { IfOk result (λ done. state_of done.0 ≡ reports.state_after (said_of session.catalog fds.now) (state_of session) (reports.next_rows (each_rows added.old.items)) (readings.Asks (any_image line.now))) }
+    ensures book { IfOk result (λ done. done.0.catalog ≡ session.catalog) }
+    ensures left { IfOk result (λ done. added.new.items ≡ tables_left (reports.appends (catalog_image session.catalog) (any_image line.now)) added.old.items) }
     ensures later { O.faults out.old ≤ O.faults out.new }
-    ensures looks { steps.new ≤ steps.old + (reports.line_told (said_of session.old.catalog fds.now) (state_of session.old) 0 (readings.Asks (any_image line.now))).looks }
+    ensures looks { steps.new ≤ steps.old + (reports.line_told (said_of session.catalog fds.now) (state_of session) 0 (reports.next_rows (each_rows added.old.items)) (readings.Asks (any_image line.now))).looks }
 {
-    let Answered { text, refused } = answer_line(rt, alloc, session, fds, line, gate, steps)?;
-    write_counted(out, text, answer_counts(refused))
+    let (session, told) = answer_line(rt, alloc, session, fds, line, added, gate, steps)?;
+    let Answered { text, refused } = told;
+    let counts = write_counted(out, text, answer_counts(refused))?;
+    Ok((session, counts))
 }
 
 // Writes the text of a line with this number that isn't in the grammar.
@@ -140,53 +151,65 @@ fn write_unread<O: Sink>(alloc: Global, number: u64, at: u64, out: &mut O) -> Re
     write_counted(out, text, counts)
 }
 
-// Writes the text of the line with this number that says this, where it has one, and lets go of what it says.
+// Writes the text of the line with this number that says this, where it has one, and lets go of what it says. It tells the counts beside the session.
 fn write_line<R: Threads + Sync, G: Gate + Sync, O: Sink, L: Ledger>(
     rt: &R,
     alloc: Global,
-    session: &mut Session,
+    session: Session,
     fds: &Names,
     number: u64,
     reading: Reading,
+    added: &mut VecDeque<Table>,
     gate: &G,
     out: &mut O,
     steps: &mut Steps<L>,
-) -> Result<Counts, Stop>
+) -> Result<(Session, Counts), Stop>
     requires kept { KeepsReading (reading_image reading) }
-    requires shown { AreDependencies (catalog_image session.old.catalog) fds.now }
-    ensures written { PutsPieces (reports.line_told (said_of session.old.catalog fds.now) (state_of session.old) number (reading_image reading)).text
+    requires shown { AreDependencies (catalog_image session.catalog) fds.now }
+    requires fits { IfSome (appended_at (catalog_image session.catalog) (reading_image reading)) (λ info. BeginsWith info added.old.items) }
+    ensures written { PutsPieces (reports.line_told (said_of session.catalog fds.now) (state_of session) number (reports.next_rows (each_rows added.old.items)) (reading_image reading)).text
         (Rose (O.faults out.old) (O.faults out.new)) (O.written out.old) (O.written out.new) result }
-    ensures counts { IfOk result (λ counts. counts ≡ counts_told (reports.line_told (said_of session.old.catalog fds.now) (state_of session.old) number (reading_image reading))) }
-    ensures after { IfOk result (λ counts. state_of session.new ≡ reports.state_after (said_of session.old.catalog fds.now) (state_of session.old) (reading_image reading)) }
-    ensures book { session.new.catalog ≡ session.old.catalog }
+    ensures counts { IfOk result (λ done. done.1 ≡ counts_told (reports.line_told (said_of session.catalog fds.now) (state_of session) number (reports.next_rows (each_rows added.old.items)) (reading_image reading))) }
+    ensures after { IfOk result (λ done. state_of done.0 ≡ reports.state_after (said_of session.catalog fds.now) (state_of session) (reports.next_rows (each_rows added.old.items)) (reading_image reading)) }
+    ensures book { IfOk result (λ done. done.0.catalog ≡ session.catalog) }
+    ensures left { IfOk result (λ done. added.new.items ≡ tables_left (reports.brings_rows (catalog_image session.catalog) (reading_image reading)) added.old.items) }
     ensures later { O.faults out.old ≤ O.faults out.new }
-    ensures looks { steps.new ≤ steps.old + (reports.line_told (said_of session.old.catalog fds.now) (state_of session.old) number (reading_image reading)).looks }
+    ensures looks { steps.new ≤ steps.old + (reports.line_told (said_of session.catalog fds.now) (state_of session) number (reports.next_rows (each_rows added.old.items)) (reading_image reading)).looks }
 {
     match reading {
-        Reading::Nothing => Ok(NOTHING),
-        Reading::Asks(line) => write_answer(rt, alloc, session, fds, &line, gate, out, steps),
-        Reading::Unread(at) => write_unread(alloc, number, at, out),
+        Reading::Nothing => Ok((session, NOTHING)),
+        Reading::Asks(line) => {
+            write_answer(rt, alloc, session, fds, &line, added, gate, out, steps)
+        }
+        Reading::Unread(at) => {
+            let counts = write_unread(alloc, number, at, out)?;
+            Ok((session, counts))
+        }
     }
 }
 
-// Writes the texts of the lines of a script, each before the next line is read, and counts them.
+// Writes the texts of the lines of a script, each before the next line is read, and counts them. The lines that append rows take those of these tables, line by line.
 fn write_lines<R: Threads + Sync, G: Gate + Sync, O: Sink, L: Ledger>(
     rt: &R,
     alloc: Global,
-    session: &mut Session,
+    session: Session,
     fds: &Names,
     script: &[u8],
+    added: VecDeque<Table>,
     gate: &G,
     out: &mut O,
     steps: &mut Steps<L>,
 ) -> Result<Counts, Stop>
-    requires shown { AreDependencies (catalog_image session.old.catalog) fds.now }
-    ensures written { (said : List readings.Reading) → AreReadings (lines script.now) said → PutsPieces (reports.lines_told (said_of session.old.catalog fds.now) (state_of session.old) 1 said).text
+    requires shown { AreDependencies (catalog_image session.catalog) fds.now }
+    requires fits { BringTables (catalog_image session.catalog) (lines script.now) added.items }
+    ensures written { (said : List readings.Reading) → AreReadings (lines script.now) said → PutsPieces (reports.lines_told (said_of session.catalog fds.now) (state_of session) 1 (each_rows added.items) said).text
         (Rose (O.faults out.old) (O.faults out.new)) (O.written out.old) (O.written out.new) result }
-    ensures counts { (said : List readings.Reading) → AreReadings (lines script.now) said → IfOk result (λ counts. counts ≡ counts_told (reports.lines_told (said_of session.old.catalog fds.now) (state_of session.old) 1 said)) }
+    ensures counts { (said : List readings.Reading) → AreReadings (lines script.now) said → IfOk result (λ counts. counts ≡ counts_told (reports.lines_told (said_of session.catalog fds.now) (state_of session) 1 (each_rows added.items) said)) }
     ensures later { O.faults out.old ≤ O.faults out.new }
-    ensures looks { (said : List readings.Reading) → AreReadings (lines script.now) said → steps.new ≤ steps.old + (reports.lines_told (said_of session.old.catalog fds.now) (state_of session.old) 1 said).looks }
+    ensures looks { (said : List readings.Reading) → AreReadings (lines script.now) said → steps.new ≤ steps.old + (reports.lines_told (said_of session.catalog fds.now) (state_of session) 1 (each_rows added.items) said).looks }
 {
+    let mut session = session;
+    let mut added = added;
     let mut counts = NOTHING;
     let mut number = 0;
     let mut from = 0;
@@ -194,39 +217,45 @@ fn write_lines<R: Threads + Sync, G: Gate + Sync, O: Sink, L: Ledger>(
         number += 1;
         let reading = reading_of(alloc, &script[span.start..span.end])?;
         // Only what the next line says is kept beside it.
-        let line = write_line(rt, alloc, session, fds, number, reading, gate, out, steps)?;
+        let (next, line) = write_line(
+            rt, alloc, session, fds, number, reading, &mut added, gate, out, steps,
+        )?;
+        session = next;
         from = span.next;
         counts = together(counts, line)?;
     }
     Ok(counts)
 }
 
-/// Writes the report of a session that begins: the texts of the views, then those of the lines of a script, each before the next line is read. It tells what it counted.
+/// Writes the report of a session that begins: the texts of the views, then those of the lines of a script, each before the next line is read. It tells what it counted. The lines that append rows take those of these tables, line by line.
 pub fn write_report<R: Threads + Sync, G: Gate + Sync, O: Sink, L: Ledger>(
     rt: &R,
     alloc: Global,
-    session: &mut Session,
+    session: Session,
     fds: &Names,
     script: &[u8],
+    added: VecDeque<Table>,
     gate: &G,
     out: &mut O,
     steps: &mut Steps<L>,
 ) -> Result<Counts, Stop>
-    requires begun { session.old.brushes ≡ [] }
-    requires shown { AreDependencies (catalog_image session.old.catalog) fds.now }
-    ensures written { (said : List readings.Reading) → AreReadingsOf script.now said → PutsPieces (reports.report_of (workbook_of session.old) fds.now said).text
+    requires begun { session.brushes ≡ [] }
+    requires shown { AreDependencies (catalog_image session.catalog) fds.now }
+    requires fits { BringTables (catalog_image session.catalog) (lines (after_marks script.now)) added.items }
+    ensures written { (said : List readings.Reading) → AreReadingsOf script.now said → PutsPieces (reports.report_of (workbook_of session) fds.now (each_rows added.items) said).text
         (Rose (O.faults out.old) (O.faults out.new)) (O.written out.old) (O.written out.new) result }
-    ensures counts { (said : List readings.Reading) → AreReadingsOf script.now said → IfOk result (λ counts. counts ≡ counts_of (reports.report_of (workbook_of session.old) fds.now said)) }
+    ensures counts { (said : List readings.Reading) → AreReadingsOf script.now said → IfOk result (λ counts. counts ≡ counts_of (reports.report_of (workbook_of session) fds.now (each_rows added.items) said)) }
     ensures later { O.faults out.old ≤ O.faults out.new }
-    ensures looks { (said : List readings.Reading) → AreReadingsOf script.now said → steps.new ≤ steps.old + (reports.script_told (workbook_of session.old) fds.now said).looks }
+    ensures looks { (said : List readings.Reading) → AreReadingsOf script.now said → steps.new ≤ steps.old + (reports.script_told (workbook_of session) fds.now (each_rows added.items) said).looks }
 {
-    let views = write_views(alloc, session, out)?;
+    let views = write_views(alloc, &session, out)?;
     let lines = write_lines(
         rt,
         alloc,
         session,
         fds,
         without_mark(script),
+        added,
         gate,
         out,
         steps,

@@ -1,12 +1,15 @@
 // A session, from what a run reads.
 ghost use Rattle.std.specs.Prelude.{◌≡◌, ◌≤◌, ◌+◌, [], List, Err, map, slice_index_or, IfOk};
 ghost use Rattle.smk_base.specs.CatalogImage.{catalog_image};
+ghost use Rattle.smk_base.specs.Marks.{after_marks};
 ghost use Rattle.smk_base.specs.Rels.{Relation};
 ghost use Rattle.smk_base.specs.declared.catalog.Catalog.{Catalog as CatalogShape};
+ghost use Rattle.smk_model.specs.Lines.{lines};
 ghost use Rattle.smk_model.specs.Looks.{start_looks};
 ghost use Rattle.smk_model.specs.Profiles.{AreDependencies};
 ghost use Rattle.smk_model.specs.Opening.{first_view_fault};
 ghost use Rattle.smk_session.specs.Sessions.{IsStartFault, workbook_image, workbook_of};
+ghost use Rattle.smk_top.specs.Added.{BringTables};
 ghost use Rattle.smk_top.specs.Loaded.{workbook_read, script_bytes};
 ghost use Rattle.smk_top.specs.Reading.{Starts, IsSayable};
 ghost use Rattle.smk_top.specs.declared.starting.Begun.{Begun as BegunShape};
@@ -17,16 +20,19 @@ use crate::stop::Stop;
 use smk_base::{Catalog, Fault, ListOf, TableInfo, Text, ViewInfo};
 use smk_outside::{Gate, Steps};
 use smk_session::{Session, StartFault};
+use smk_table::Table;
 use std::alloc::{AllocError, Global};
+use std::collections::VecDeque;
 use std::sync::ledger::Ledger;
 use std::thread::Threads;
 
-/// A session that begins, the names of its book's dependencies, and the bytes of its script.
+/// A session that begins, the names of its book's dependencies, the bytes of its script, and the tables that the script's lines bring.
 #[derive(Drop)]
 pub struct Begun {
     pub session: Session,
     pub fds: ListOf<Text>,
     pub script: Vec<u8>,
+    pub added: VecDeque<Table>,
 }
 
 // The names of views.
@@ -99,7 +105,7 @@ fn stop_of(alloc: Global, names: Names, fault: StartFault) -> Stop
     }
 }
 
-/// A session that begins over what was read, and the bytes of the script; or the first view with a node that is too big. The names that a fault says are copied before, since the book is dropped with it.
+/// A session that begins over what was read, with the rest of that; or the first view with a node that is too big. The names that a fault says are copied before, since the book is dropped with it.
 pub fn start<R: Threads + Sync, G: Gate + Sync, L: Ledger>(
     rt: &R,
     alloc: Global,
@@ -109,6 +115,7 @@ pub fn start<R: Threads + Sync, G: Gate + Sync, L: Ledger>(
     steps: &mut Steps<L>,
 ) -> Result<Begun, Stop>
     requires shown { AreDependencies (catalog_image inputs.book) inputs.fds }
+    requires fits { BringTables (catalog_image inputs.book) (lines (after_marks inputs.script.items)) inputs.added.items }
     ensures starts { Starts (workbook_read inputs) result }
     ensures book { IfOk result (λ begun. workbook_of begun.session ≡ workbook_read inputs) }
     ensures mode { IfOk result (λ begun. begun.session.mode ≡ settings.mode) }
@@ -118,6 +125,8 @@ pub fn start<R: Threads + Sync, G: Gate + Sync, L: Ledger>(
     ensures fds { IfOk result (λ begun. begun.fds ≡ inputs.fds) }
     ensures shown { IfOk result (λ begun. AreDependencies (catalog_image begun.session.catalog) begun.fds) }
     ensures script { IfOk result (λ begun. begun.script.items ≡ script_bytes inputs) }
+    ensures added { IfOk result (λ begun. begun.added.items ≡ inputs.added.items) }
+    ensures fits { IfOk result (λ begun. BringTables (catalog_image begun.session.catalog) (lines (after_marks begun.script.items)) begun.added.items) }
     ensures said { IsSayable result }
 {
     let names = names_of(alloc, inputs.book.catalog())?;
@@ -127,12 +136,14 @@ pub fn start<R: Threads + Sync, G: Gate + Sync, L: Ledger>(
         fds,
         tables,
         script,
+        added,
     } = inputs;
     match Session::start(rt, alloc, book, tables, mode, workers, gate, steps) {
         Ok(session) => Ok(Begun {
             session,
             fds,
             script,
+            added,
         }),
         Err(fault) => Err(stop_of(alloc, names, fault)),
     }

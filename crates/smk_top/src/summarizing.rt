@@ -1,16 +1,20 @@
 // The run of a demo, of whose report only a summary is written.
 ghost use Rattle.std.specs.Prelude.{◌≡◌, ◌≤◌, ◌<◌, ◌+◌, [], List, None, Some, length, map, IfOk};
 ghost use Rattle.smk_base.specs.CatalogImage.{catalog_image};
+ghost use Rattle.smk_base.specs.Marks.{after_marks};
 ghost use Rattle.smk_base.specs.declared.demo.TheConstants.{DEMO_BOOK_NAME, DEMO_SCRIPT_NAME};
 ghost use Rattle.smk_model.specs.Demo.{demo_of, summary, summary_of};
+ghost use Rattle.smk_model.specs.Lines.{lines};
 ghost use Rattle.smk_model.specs.Opening.{first_view_fault};
 ghost use Rattle.smk_model.specs.Outcome as outcomes;
 ghost use Rattle.smk_model.specs.Profiles.{AreDependencies};
 ghost use Rattle.smk_model.specs.Readings.{Reading, AreReadingsOf};
 ghost use Rattle.smk_model.specs.Reports.{script_told, size_of_view};
+ghost use Rattle.smk_model.specs.Selection.{each_rows};
 ghost use Rattle.smk_model.specs.Session.{view_at};
 ghost use Rattle.smk_outside.specs.Outside.{Rose};
 ghost use Rattle.smk_session.specs.Sessions.{workbook_of};
+ghost use Rattle.smk_top.specs.Added.{BringTables};
 ghost use Rattle.smk_top.specs.Endings.{Reports};
 ghost use Rattle.smk_top.specs.Loaded.{script_bytes, inputs_with};
 ghost use Rattle.smk_top.specs.Reading.{ReadsAll, IsSayable};
@@ -24,14 +28,16 @@ use crate::nowhere::Nowhere;
 use crate::reading::read_all;
 use crate::reporting::{put, write_report};
 use crate::settings::Settings;
-use crate::starting::start;
+use crate::starting::{Begun, start};
 use crate::stop::Stop;
 use crate::words::text_of;
 use smk_base::{DEMO_BOOK_NAME, DEMO_SCRIPT_NAME, ListOf, Names, Size, Sizes};
 use smk_demo::{demo, summary_text};
 use smk_outside::{Gate, Sink, Steps};
 use smk_session::Session;
+use smk_table::Table;
 use std::alloc::{AllocError, Global};
+use std::collections::VecDeque;
 use std::sync::ledger::Ledger;
 use std::thread::Threads;
 
@@ -39,6 +45,7 @@ use std::thread::Threads;
 pub fn read_demo(alloc: Global, flights: Flights) -> Result<Inputs, Stop>
     ensures read { ReadsAll (Some (outcomes.text_named (demo_of flights.count))) (Rose 0 0) DEMO_BOOK_NAME.now (Some DEMO_SCRIPT_NAME.now) inputs_with script_bytes result }
     ensures shown { IfOk result (λ inputs. AreDependencies (catalog_image inputs.book) inputs.fds) }
+    ensures fits { IfOk result (λ inputs. BringTables (catalog_image inputs.book) (lines (after_marks inputs.script.items)) inputs.added.items) }
     ensures said { IsSayable result }
 {
     let mut texts = DemoTexts {
@@ -102,23 +109,35 @@ fn write_summary<R: Threads + Sync, G: Gate + Sync, O: Sink, L: Ledger>(
     rt: &R,
     alloc: Global,
     flights: Flights,
-    session: &mut Session,
+    session: Session,
     fds: &Names,
     script: &[u8],
+    added: VecDeque<Table>,
     gate: &G,
     out: &mut O,
     steps: &mut Steps<L>,
 ) -> Result<Counts, Stop>
-    requires begun { session.old.brushes ≡ [] }
-    requires shown { AreDependencies (catalog_image session.old.catalog) fds.now }
-    ensures works { (given : outcomes.Inputs) → AreReadingsOf script.now given.readings → first_view_fault given.book ≡ None → workbook_of session.old ≡ given.book → fds.now ≡ given.fds
+    requires begun { session.brushes ≡ [] }
+    requires shown { AreDependencies (catalog_image session.catalog) fds.now }
+    requires fits { BringTables (catalog_image session.catalog) (lines (after_marks script.now)) added.items }
+    ensures works { (given : outcomes.Inputs) → AreReadingsOf script.now given.readings → first_view_fault given.book ≡ None → workbook_of session ≡ given.book → fds.now ≡ given.fds → each_rows added.items ≡ given.added
         → Reports (summary_of flights.count) given (Rose (O.faults out.old) (O.faults out.new)) (O.written out.old) (O.written out.new) result }
     ensures said { IsSayable result }
     ensures out_later { O.faults out.old ≤ O.faults out.new }
-    ensures looks { (said : List Reading) → AreReadingsOf script.now said → steps.new ≤ steps.old + (script_told (workbook_of session.old) fds.now said).looks }
+    ensures looks { (said : List Reading) → AreReadingsOf script.now said → steps.new ≤ steps.old + (script_told (workbook_of session) fds.now (each_rows added.items) said).looks }
 {
-    let sizes = sizes_of(alloc, session)?;
-    let counts = write_report(rt, alloc, session, fds, script, gate, &mut Nowhere, steps)?;
+    let sizes = sizes_of(alloc, &session)?;
+    let counts = write_report(
+        rt,
+        alloc,
+        session,
+        fds,
+        script,
+        added,
+        gate,
+        &mut Nowhere,
+        steps,
+    )?;
     put_summary(alloc, flights, &sizes, counts, out)
 }
 
@@ -134,21 +153,27 @@ pub fn summarize<R: Threads + Sync, G: Gate + Sync, O: Sink, L: Ledger>(
     steps: &mut Steps<L>,
 ) -> Result<Counts, Stop>
     requires shown { AreDependencies (catalog_image inputs.book) inputs.fds }
+    requires fits { BringTables (catalog_image inputs.book) (lines (after_marks inputs.script.items)) inputs.added.items }
     ensures works { (said : List Reading) → AreReadingsOf inputs.script.items said
         → Reports (summary_of flights.count) (inputs_with inputs said) (Rose (O.faults out.old) (O.faults out.new)) (O.written out.old) (O.written out.new) result }
     ensures said { IsSayable result }
     ensures out_later { O.faults out.old ≤ O.faults out.new }
     ensures looks { (said : List Reading) → AreReadingsOf inputs.script.items said → steps.new ≤ steps.old + outcomes.run_looks (inputs_with inputs said) }
 {
-    let mut begun = start(rt, alloc, inputs, settings, gate, steps)?;
-    let script = begun.script.as_slice();
+    let Begun {
+        session,
+        fds,
+        script,
+        added,
+    } = start(rt, alloc, inputs, settings, gate, steps)?;
     write_summary(
         rt,
         alloc,
         flights,
-        &mut begun.session,
-        &begun.fds,
-        script,
+        session,
+        &fds,
+        script.as_slice(),
+        added,
         gate,
         out,
         steps,

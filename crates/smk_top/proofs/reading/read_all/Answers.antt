@@ -1,7 +1,11 @@
-use Rattle.std.proofs.Common.{◌∙◌, refl, arith, ap, sym}
+use Rattle.std.proofs.Common.{refl, arith, ap, sym, subst}
 use Rattle.std.specs.Option.{option_copied}
 use Rattle.std.proofs.lemmas.Result.{err_from_is_err_and}
+use Rattle.smk_base.specs.CatalogImage.{catalog_image}
+use Rattle.smk_base.specs.Marks.{after_marks}
 use Rattle.smk_base.specs.declared.catalog.Catalog.{Catalog}
+use Rattle.smk_model.specs.Lines.{lines}
+use Rattle.smk_top.specs.Added.{BringTables}
 use Rattle.smk_outside.specs.Outside.{Rose}
 use Rattle.smk_top.specs.Loaded.{book_said, script_bytes, inputs_with, with_rest}
 use Rattle.smk_top.specs.declared.reading.Rest.{Rest}
@@ -22,11 +26,15 @@ returns-in_err-rest-clause-read g c =
     let opened = opened_as book_said (g.F.Files.held c.args.files.now) (Rose (g.F.Files.faults c.args.files.now) (g.F.Files.faults c.open_book.new.files)) (Unit {0}) c.args.book.now c.in_ok-book.field-0 c.in_ok-book.ensures.read in
     rw (p.1, p.2) (rest_stops (with_rest (book_said c.in_ok-book.field-0)) (λ (rest : Rest). rest.script.items) inputs_with script_bytes (g.F.Files.held c.args.files.now)
     (Rose (g.F.Files.faults c.open_book.new.files) (g.F.Files.faults c.read_rest.new.files)) (Rose (g.F.Files.faults c.args.files.now) (g.F.Files.faults c.read_rest.new.files)) c.args.book.now (option_copied c.args.script) c.in_err-rest.field-0.0 wide
-    (rw c.in_ok-book.ensures.held at (c.in_err-rest.ensures.read c.args.book.now (book_said c.in_ok-book.field-0) (sym (c.as_slice-infos.ensures ∙ ap (λ (b : Catalog). b.tables) c.catalog.ensures.value)) (rw c.in_ok-book.ensures.held opened))))
+    (rw c.in_ok-book.ensures.held at (c.in_err-rest.ensures.read c.args.book.now (book_said c.in_ok-book.field-0) (sym (ap catalog_image c.catalog.ensures.value)) (rw c.in_ok-book.ensures.held opened))))
 
 pub returns-clause-read : goal.returns-clause-read
 returns-clause-read g c =
     let opened = opened_as book_said (g.F.Files.held c.args.files.now) (Rose (g.F.Files.faults c.args.files.now) (g.F.Files.faults c.open_book.new.files)) (Unit {0}) c.args.book.now c.in_ok-book.field-0 c.in_ok-book.ensures.read in
     then_all (with_rest (book_said c.in_ok-book.field-0)) (λ (rest : Rest). rest.script.items) inputs_with script_bytes (g.F.Files.held c.args.files.now)
     (Rose (g.F.Files.faults c.open_book.new.files) (g.F.Files.faults c.read_rest.new.files)) (Rose (g.F.Files.faults c.args.files.now) (g.F.Files.faults c.read_rest.new.files)) c.args.book.now (option_copied c.args.script) _ _ (λ readings. refl) refl
-    (rw c.in_ok-book.ensures.held at (c.in_ok-rest.ensures.read c.args.book.now (book_said c.in_ok-book.field-0) (sym (c.as_slice-infos.ensures ∙ ap (λ (b : Catalog). b.tables) c.catalog.ensures.value)) (rw c.in_ok-book.ensures.held opened)))
+    (rw c.in_ok-book.ensures.held at (c.in_ok-rest.ensures.read c.args.book.now (book_said c.in_ok-book.field-0) (sym (ap catalog_image c.catalog.ensures.value)) (rw c.in_ok-book.ensures.held opened)))
+
+pub returns-clause-fits : goal.returns-clause-fits
+returns-clause-fits g c =
+    subst (λ (b : Catalog). BringTables (catalog_image b) (lines (after_marks c.in_ok-rest.rest.script.items)) c.in_ok-rest.rest.added.items) c.catalog.ensures.value c.in_ok-rest.ensures.fits

@@ -1,13 +1,18 @@
-use Rattle.std.proofs.Common.{◌≡◌, ◌≤◌, ◌-◌, length}
+use Rattle.std.proofs.Common.{◌≡◌, ◌≤◌, ◌-◌, length, drop}
+use Rattle.smk_base.specs.CatalogImage.{catalog_image}
+use Rattle.smk_model.specs.Lines.{lines}
+use Rattle.smk_model.specs.Selection.{each_rows}
 use Rattle.smk_session.specs.Sessions.{state_of}
+use Rattle.smk_top.specs.Added.{BringTables}
 use Rattle.smk_top.specs.Loaded.{said_of}
 use Rattle.smk_top.proofs.Walks.{Walks}
 use Rattle.smk_top.proofs.reporting.write_lines.Given as goal
 
 abbrev pub invariant-loop-span : goal.invariant-loop-span
 invariant-loop-span g l = record {
-  walked : Walks (said_of l.initial.session.catalog l.fds) (state_of l.initial.session) l.script l.from l.number (g.O.Sink.written l.initial.out) (g.O.Sink.written l.out) (state_of l.session) l.initial.steps l.steps l.counts;
+  walked : Walks (said_of l.initial.session.catalog l.fds) (state_of l.initial.session) (each_rows l.initial.added.items) l.script l.from l.number (g.O.Sink.written l.initial.out) (g.O.Sink.written l.out) (state_of l.session) (each_rows l.added.items) l.initial.steps l.steps l.counts;
   book : l.session.catalog ≡ l.initial.session.catalog;
+  fits : BringTables (catalog_image l.session.catalog) (lines (drop l.from l.script)) l.added.items;
   inside : l.from ≤ length l.script;
   few : l.number ≤ l.from;
   later : g.O.Sink.faults l.initial.out ≤ g.O.Sink.faults l.out;

@@ -6,7 +6,7 @@ use Rattle.smk_base.specs.CatalogImage.{catalog_image, view_image}
 use Rattle.smk_base.specs.declared.catalog.Catalog.{Catalog}
 use Rattle.smk_base.specs.declared.catalog.ViewInfo.{ViewInfo}
 use Rattle.smk_outside.specs.Outside.{Rose}
-use Rattle.smk_model.specs.Reports.{text_of_view}
+use Rattle.smk_model.specs.ViewTexts.{text_of_view}
 use Rattle.smk_model.specs.Session.{no_view}
 use Rattle.smk_session.specs.Sessions.{workbook_of}
 use Rattle.smk_top.proofs.Stops.{rose_within}

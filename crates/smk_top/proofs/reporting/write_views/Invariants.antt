@@ -2,7 +2,7 @@ use Rattle.std.proofs.Common.{◌≡◌, ◌≤◌, take}
 use Rattle.std.specs.List.{flat_map}
 use Rattle.smk_base.specs.CatalogImage.{catalog_image}
 use Rattle.smk_outside.specs.Outside.{Appends}
-use Rattle.smk_model.specs.Reports.{text_of_view}
+use Rattle.smk_model.specs.ViewTexts.{text_of_view}
 use Rattle.smk_session.specs.Sessions.{workbook_of}
 use Rattle.smk_top.specs.Counting.{text_counted}
 use Rattle.smk_top.proofs.reporting.write_views.Given as goal

@@ -1,7 +1,10 @@
 use Rattle.std.proofs.Common.{◌∙◌, ap, map, sym, subst, arith}
 use Rattle.std.proofs.lemmas.Grind.{common_steps}
 use Rattle.smk_base.specs.CatalogImage.{catalog_image}
+use Rattle.smk_base.specs.Marks.{after_marks}
 use Rattle.smk_base.specs.declared.catalog.Catalog.{Catalog}
+use Rattle.smk_model.specs.Lines.{lines}
+use Rattle.smk_top.specs.Added.{BringTables}
 use Rattle.smk_model.specs.Profiles.{AreDependencies}
 use Rattle.smk_base.specs.declared.catalog.TableInfo.{TableInfo}
 use Rattle.smk_base.specs.declared.catalog.ViewInfo.{ViewInfo}
@@ -18,3 +21,6 @@ returns-in-Ok-clause-book g c = grind (arith, common_steps)
 
 pub returns-in-Ok-clause-shown : goal.returns-in-Ok-clause-shown
 returns-in-Ok-clause-shown g c = subst (λ (b : Catalog). AreDependencies (catalog_image b) c.args.inputs.fds) (sym c.in-Ok.ensures.book) c.requires.shown
+
+pub returns-in-Ok-clause-fits : goal.returns-in-Ok-clause-fits
+returns-in-Ok-clause-fits g c = subst (λ (b : Catalog). BringTables (catalog_image b) (lines (after_marks c.args.inputs.script.items)) c.args.inputs.added.items) (sym c.in-Ok.ensures.book) c.requires.fits
