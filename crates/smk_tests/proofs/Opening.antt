@@ -3,7 +3,7 @@ use Rattle.std.proofs.Common.{◌≡◌, ◌∙◌, ◌<◌, ◌^◌, ℕ, List,
 use Rattle.std.proofs.lemmas.List.{get_or-map, length-map}
 use Rattle.smk_base.specs.Rels.{Relation}
 use Rattle.smk_base.specs.PlanImage.{expr_of}
-use Rattle.smk_base.specs.CatalogImage.{view_image}
+use Rattle.smk_base.specs.CatalogImage.{CatalogImage, view_image}
 use Rattle.smk_base.specs.TreeImage.{book_image}
 use Rattle.smk_base.specs.declared.value.Kind.{Kind}
 use Rattle.smk_base.specs.declared.tree.Book.{Book}
@@ -11,9 +11,11 @@ use Rattle.smk_base.specs.declared.col_decl.ColDecl.{ColDecl}
 use Rattle.smk_base.specs.declared.catalog.Column.{Column}
 use Rattle.smk_base.specs.declared.catalog.TableInfo.{TableInfo}
 use Rattle.smk_base.specs.declared.catalog.ViewInfo.{ViewInfo}
-use Rattle.smk_model.specs.Expanded.{expanded, HasNoDependency}
+use Rattle.smk_model.specs.Expanded.{expanded, dependency_names, HasNoDependency}
 use Rattle.smk_model.specs.Limits.{KeepsLimits}
+use Rattle.smk_model.specs.Profiles.{AreDependencies}
 use Rattle.smk_model.specs.Tables.{kinds_of}
+use Rattle.smk_model.specs.Typing.{types}
 use Rattle.smk_model.specs.Catalogs.{ViewFits, table_kinds, each_table_kinds}
 use Rattle.smk_model.specs.Selection.{ScansFit, PlanFits, leaf_kinds, each_kinds, nodes}
 use Rattle.smk_model.proofs.Expanded.{expanded_stands}
@@ -27,6 +29,10 @@ keeps_limits text book made is e = subst KeepsLimits (sym e) (expanded_stands.li
 
 pub is_replaced : (book made : Book) → book_image made ≡ expanded (book_image book) → HasNoDependency (book_image made)
 is_replaced book made e = subst HasNoDependency (sym e) (expanded_stands.none (book_image book))
+
+-- its dependencies are shown by its views
+pub is_shown : (book made : Book) (fds : List (List ℕ)) (catalog : CatalogImage) → book_image made ≡ expanded (book_image book) → fds ≡ dependency_names (book_image book) → types (book_image made) ≡ Ok catalog → AreDependencies catalog fds
+is_shown book made fds catalog e names typed = subst (AreDependencies catalog) (sym names) (expanded_stands.shown (book_image book) catalog (ap types (sym e) ∙ typed))
 
 -- the kinds of a table are those of its declared columns
 pub kinds_declared : (info : TableInfo) (kinds : List Kind) → kinds ≡ kinds_of info.cols → kinds ≡ table_kinds info

@@ -3,6 +3,7 @@
 use crate::contents::{Content, has_content, has_rows, have_contents};
 use crate::opened::open_book;
 use crate::shop::{CONTENTS, shop};
+use smk_chain::{is_growing, scanned_table};
 use smk_defer::Defer;
 use smk_inject::Inject;
 use smk_plain::Plain;
@@ -62,5 +63,21 @@ fn lists_of_a_step_serve_two_tables(rt: HostRuntime) -> Result<(), Fail> {
     let files = [b"k\n1\n2\n".as_slice(), b"j\n1\n2\n".as_slice()];
     let matched = open_book(rt.alloc(), MATCHED, files.as_slice())?;
     assert!(rt; has_content(&rt, rt, &Inject, &matched, &PAIRED)?);
+    Ok(())
+}
+
+// A run doesn't tell which views it makes anew.
+#[test]
+fn growing_chains_are_told(rt: HostRuntime) -> Result<(), Fail> {
+    let shop = shop(rt.alloc())?;
+    let mut growing = Vec::new(rt.alloc());
+    for view in shop.book.catalog().views.as_slice() {
+        if is_growing(&view.plan) {
+            growing.push(scanned_table(&view.plan))?;
+        } else {
+            growing.push(9)?;
+        }
+    }
+    assert_eq!(rt; growing.as_slice(), [0u32, 9, 0, 9, 9, 9].as_slice());
     Ok(())
 }

@@ -13,15 +13,21 @@ mod composed;
 #[cfg(test)]
 mod contents;
 #[cfg(test)]
+mod dependencies;
+#[cfg(test)]
 mod dictionaries;
 #[cfg(test)]
 mod gates;
+#[cfg(test)]
+mod joined;
 #[cfg(test)]
 mod meetings;
 #[cfg(test)]
 mod opened;
 #[cfg(test)]
 mod rids;
+#[cfg(test)]
+mod sessions;
 #[cfg(test)]
 mod shop;
 #[cfg(test)]

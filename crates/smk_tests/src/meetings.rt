@@ -2,11 +2,10 @@
 
 ghost use Rattle.std.specs.Prelude.{◌≡◌, ◌<◌};
 
-use crate::opened::{Opened, open_book};
+use crate::sessions::{line_of, started};
 use crate::shop::{BOOK, REGIONS, SALES};
 use smk_base::{Line, Reply, Text};
-use smk_outside::{Idle, MemFiles, MemSink, Steps};
-use smk_parse::parse_line;
+use smk_outside::{MemFiles, MemSink, Steps};
 use smk_session::{Mode, Session};
 use smk_test_bodies::Meeting;
 use smk_top::{Status, run};
@@ -67,27 +66,6 @@ fn two_pieces_of_each_step_of_a_run_meet(rt: HostRuntime) -> Result<(), Fail> {
     Ok(())
 }
 
-// The line of a text.
-fn line_of(alloc: Global, text: &[u8]) -> Result<Line, Fail> {
-    match parse_line(alloc, text) {
-        Ok(Some(line)) => Ok(line),
-        _ => Err(Fail::new("no line")),
-    }
-}
-
-// The session of the book with two workers.
-fn started<R: Threads + Sync, L: Ledger>(
-    rt: &R,
-    alloc: Global,
-    steps: &mut Steps<L>,
-) -> Result<Session, Fail> {
-    let Opened { book, tables } = open_book(alloc, BOOK, &[SALES, REGIONS])?;
-    match Session::start(rt, alloc, book, tables, Mode::Inject, 2, &Idle, steps) {
-        Ok(session) => Ok(session),
-        Err(_) => Err(Fail::new("no session")),
-    }
-}
-
 // The answer to a line by a session whose views pass a gate, and who came there.
 fn told<R: Threads + Sync, L: Ledger>(
     rt: &R,
@@ -128,7 +106,16 @@ fn told_in_two<R: Threads + Sync, L: Ledger>(
     requires some { 0 < blank.parts }
 {
     let mut steps: Steps<L> = Steps::new(system, blank);
-    let mut session = started(rt, alloc, &mut steps)?;
+    let files = [SALES, REGIONS];
+    let mut session = started(
+        rt,
+        alloc,
+        BOOK,
+        files.as_slice(),
+        Mode::Inject,
+        2,
+        &mut steps,
+    )?;
     let told = told_again(rt, alloc, &mut session, line, &mut steps);
     drop(session);
     Ok(told?)

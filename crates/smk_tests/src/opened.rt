@@ -1,16 +1,19 @@
 //! Books with their tables, from texts, and the lineage of their views as a text.
 
-ghost use Rattle.std.specs.Prelude.{◌≡◌, ◌||◌, ◌<◌, IsTrue, nat_eq, length, All, IfOk};
+ghost use Rattle.std.specs.Prelude.{◌≡◌, ◌||◌, ◌<◌, IsTrue, nat_eq, length, All, Ok, IfOk};
+ghost use Rattle.smk_base.specs.CatalogImage.{CatalogImage, catalog_image};
 ghost use Rattle.smk_base.specs.TreeImage.{book_image};
 ghost use Rattle.smk_model.specs.Expanded.{HasNoDependency};
 ghost use Rattle.smk_model.specs.Limits.{KeepsLimits};
+ghost use Rattle.smk_model.specs.Profiles.{AreDependencies};
 ghost use Rattle.smk_model.specs.Tables.{AreColumns};
+ghost use Rattle.smk_model.specs.Typing.{types};
 ghost use Rattle.smk_model.specs.Catalogs.{table_kinds, each_table_kinds};
 ghost use Rattle.smk_model.specs.Selection.{each_kinds};
 ghost use Rattle.smk_compose.specs.Kept.{NeedFits};
 
 use crate::rids::lists_shown;
-use smk_base::{Book, CellRef, Need, Rel, TableInfo};
+use smk_base::{CellRef, Names, Need, Rel, TableInfo};
 use smk_body::OpBody;
 use smk_compose::{KeptMap, Run, RunFault, run_plan};
 use smk_expand::{Expanded, expand};
@@ -25,31 +28,31 @@ use std::sync::ledger::{Blank, Ledger};
 use std::test::Fail;
 use std::thread::Threads;
 
-/// A checked book, and its tables.
+/// A checked book, its tables, and the names of its dependencies.
 #[derive(Drop)]
 pub(crate) struct Opened {
     pub book: TypedBook,
     pub tables: Vec<Table>,
+    pub fds: Names,
     ghost kinds: { each_kinds tables.items ≡ each_table_kinds book.tables },
 }
 
 // The statements of a text, with each dependency replaced.
 #[tactic(auto, using(crate::proofs::Opening::keeps_limits, crate::proofs::Opening::is_replaced))]
-fn parsed(alloc: Global, text: &str) -> Result<Book, Fail>
-    ensures limits { IfOk result (λ book. KeepsLimits (book_image book)) }
-    ensures replaced { IfOk result (λ book. HasNoDependency (book_image book)) }
+fn parsed(alloc: Global, text: &str) -> Result<Expanded, Fail>
+    ensures limits { IfOk result (λ made. KeepsLimits (book_image made.book)) }
+    ensures replaced { IfOk result (λ made. HasNoDependency (book_image made.book)) }
+    ensures shown { IfOk result (λ made. (catalog : CatalogImage) → types (book_image made.book) ≡ Ok catalog → AreDependencies catalog made.fds) }
 {
     let Ok(book) = parse_book(alloc, text.as_bytes()) else {
         return Err(Fail::new("no tree of a book"));
     };
-    let Expanded { book, fds } = expand(alloc, book)?;
-    drop(fds);
-    Ok(book)
+    Ok(expand(alloc, book)?)
 }
 
-// The table of the bytes of its file.
+/// The table of the bytes of its file.
 #[tactic(auto, using(crate::proofs::Opening::kinds_declared))]
-fn table_of(alloc: Global, info: &TableInfo, bytes: &[u8]) -> Result<Table, Fail>
+pub(crate) fn table_of(alloc: Global, info: &TableInfo, bytes: &[u8]) -> Result<Table, Fail>
     requires { AreColumns info.now.cols }
     ensures { IfOk result (λ table. table.kinds ≡ table_kinds info.now) }
 {
@@ -76,12 +79,15 @@ fn tables_of(alloc: Global, infos: &[TableInfo], files: &[&[u8]]) -> Result<Vec<
 }
 
 /// The book of a text, with tables of the bytes of their files.
-pub(crate) fn open_book(alloc: Global, text: &str, files: &[&[u8]]) -> Result<Opened, Fail> {
-    let Ok(book) = check(alloc, parsed(alloc, text)?) else {
+pub(crate) fn open_book(alloc: Global, text: &str, files: &[&[u8]]) -> Result<Opened, Fail>
+    ensures { IfOk result (λ opened. AreDependencies (catalog_image opened.book) opened.fds) }
+{
+    let Expanded { book, fds } = parsed(alloc, text)?;
+    let Ok(book) = check(alloc, book) else {
         return Err(Fail::new("no catalog of a book"));
     };
     let tables = tables_of(alloc, book.catalog().tables.as_slice(), files)?;
-    Ok(Opened { book, tables })
+    Ok(Opened { book, tables, fds })
 }
 
 /// What a view needs, by the declared queries.

@@ -126,3 +126,51 @@ fn composed_lists_have_so_many_rids(rt: HostRuntime) -> Result<(), Fail> {
     assert!(rt; matches!(&more, Err(RidFault::Pairs)));
     Ok(())
 }
+
+// The lists of two short maps, the second behind the first.
+fn followed(alloc: Global, first: &RidMap, second: &RidMap) -> Result<RidMap, Fail> {
+    let lists = first.len() < 100 && second.len() < 100;
+    let bounds = first.bound() < 100 && second.bound() < 100;
+    let pairs = first.pairs() < 100 && second.pairs() < 100;
+    if !(lists && bounds && pairs) {
+        return Err(Fail::new("long maps"));
+    }
+    Ok(first.followed_by(alloc, second)?)
+}
+
+// The rids of the second are moved behind the bound of the first, in arrays too.
+#[test]
+fn lists_follow_lists(rt: HostRuntime) -> Result<(), Fail> {
+    let alloc = rt.alloc();
+    let array = array_of(alloc, [1, 9, 0].as_slice(), 2)?;
+    let other = array_of(alloc, [2, 0].as_slice(), 3)?;
+    let arrays = followed(alloc, &array, &other)?;
+    assert!(rt; is(alloc, arrays, "[1] [] [0] [4] [2] below 5", 3, None)?);
+    let both = followed(alloc, &array, &by_region(alloc)?)?;
+    let rids = [1u32, 0, 2, 4, 3, 5];
+    assert!(rt;
+        is(
+            alloc,
+            both,
+            "[1] [] [0] [2, 4] [3] [5] below 6",
+            5,
+            Some(rids.as_slice())
+        )?
+    );
+    let none = followed(
+        alloc,
+        &by_region(alloc)?,
+        &array_of(alloc, [].as_slice(), 0)?,
+    )?;
+    let rids = [0u32, 2, 1, 3];
+    assert!(rt;
+        is(
+            alloc,
+            none,
+            "[0, 2] [1] [3] below 4",
+            3,
+            Some(rids.as_slice())
+        )?
+    );
+    Ok(())
+}
