@@ -19,8 +19,6 @@ mod dictionaries;
 #[cfg(test)]
 mod gates;
 #[cfg(test)]
-mod joined;
-#[cfg(test)]
 mod meetings;
 #[cfg(test)]
 mod opened;

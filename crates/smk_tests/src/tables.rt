@@ -1,10 +1,7 @@
 ghost use Rattle.std.specs.Prelude.{◌≡◌, ◌<◌, length};
-ghost use Rattle.smk_model.specs.Catalogs.{table_kinds};
-ghost use Rattle.smk_model.specs.Tables.{AreColumns};
 
-use crate::opened::{open_book, rows_shown, table_of};
 use crate::shop::shop;
-use smk_base::{CellRef, Kind, Rel, Row, TableInfo, Value};
+use smk_base::{CellRef, Kind, Rel, Row, Value};
 use smk_outside::Steps;
 use smk_table::Table;
 use std::alloc::Global;
@@ -82,69 +79,5 @@ fn a_table_gives_cells_rows_and_codes(rt: HostRuntime) -> Result<(), Fail> {
     assert_eq!(rt; (table.len(), table.width()), (3, 2));
     let shown = shown::<Brand>(rt, rt.alloc(), table, 1, Blank::new(1))?;
     assert_eq!(rt; shown.as_str(), "south south B A B 0 1 0 ");
-    Ok(())
-}
-
-// Puts the rows of a file of the table last, where both are short.
-fn absorb(alloc: Global, table: &mut Table, info: &TableInfo, bytes: &[u8]) -> Result<(), Fail>
-    requires columns { AreColumns info.now.cols }
-    requires kinds { table.old.kinds ≡ table_kinds info.now }
-    ensures kinds { table.new.kinds ≡ table_kinds info.now }
-{
-    let more = table_of(alloc, info, bytes)?;
-    if table.len() < 1000 && more.len() < 1000 {
-        table.absorb(alloc, more)?;
-    }
-    Ok(())
-}
-
-// Keeps the first rows, where there are so many.
-fn cut(table: &mut Table, len: u32)
-    ensures { table.new.kinds ≡ table.old.kinds }
-{
-    if len <= table.len() {
-        table.cut(len);
-    }
-}
-
-// The rows of a table at first, once it has absorbed another, and once it was cut and has absorbed a third. Those that were taken before are held meanwhile.
-fn grown<L: Ledger>(
-    system: HostRuntime,
-    alloc: Global,
-    info: &TableInfo,
-    blank: Blank,
-) -> Result<[String; 3], Fail>
-    requires columns { AreColumns info.now.cols }
-    requires name { L.name ≡ blank.name }
-    requires parts { L.parts ≡ blank.parts }
-    requires some { 0 < blank.parts }
-{
-    let mut steps: Steps<L> = Steps::new(system, blank);
-    let mut table = table_of(alloc, info, b"k,n\na,1\nb,2\n")?;
-    let two = table.whole(alloc, &mut steps)?;
-    absorb(alloc, &mut table, info, b"k,n\nb,3\nc,4\n")?;
-    let four = table.whole(alloc, &mut steps)?;
-    cut(&mut table, 3);
-    absorb(alloc, &mut table, info, b"k,n\nd,9223372036854775807\n")?;
-    let rest = table.whole(alloc, &mut steps)?;
-    Ok([
-        rows_shown(alloc, &two)?,
-        rows_shown(alloc, &four)?,
-        rows_shown(alloc, &rest)?,
-    ])
-}
-
-// A run cuts a table only where a line is refused, and then shows what stood before.
-#[test]
-fn a_table_absorbs_others_and_is_cut(rt: HostRuntime) -> Result<(), Fail> {
-    let book = "table t from \"t.csv\" (k text, n int)\n";
-    let opened = open_book(rt.alloc(), book, &[b"k,n\n"])?;
-    let Some(info) = opened.book.catalog().tables.as_slice().first() else {
-        return Err(Fail::new("no table"));
-    };
-    let [two, four, rest] = grown::<Brand>(rt, rt.alloc(), info, Blank::new(1))?;
-    assert_eq!(rt; two.as_str(), "a 1 \nb 2 \n");
-    assert_eq!(rt; four.as_str(), "a 1 \nb 2 \nb 3 \nc 4 \n");
-    assert_eq!(rt; rest.as_str(), "a 1 \nb 2 \nb 3 \nd 9223372036854775807 \n");
     Ok(())
 }
