@@ -4,3 +4,8 @@ pub mod TableRows
 pub mod Choices
 pub mod Narrows
 pub mod Shown
+pub mod Cuts
+pub mod Lines
+pub mod PieceSteps
+pub mod PieceRows
+pub mod Joins

@@ -19,15 +19,15 @@ ends_start st.AfterQuote c h = grind arith
 ends_start st.InComment c h = grind arith
 ends_start st.AfterCr c h = grind arith
 
-some_is : {X : Type 0} (a b : X) → Some a ≡ Some b → a ≡ b
+pub some_is : {X : Type 0} (a b : X) → Some a ≡ Some b → a ≡ b
 some_is a b e = cc
 
 -- a record leaves a state in which another may begin, and takes a byte
-record Goes (p : Read) (size : ℕ) : Type 0 where
-  starts : is_start p.1 ≡ true
-  shorter : length p.2 ≤ size - 1
+pub record Goes (p : Read) (size : ℕ) : Type 0 where
+  pub starts : is_start p.1 ≡ true
+  pub shorter : length p.2 ≤ size - 1
 
-goes : (s : State) (f : List (List ℕ)) (x xs : List ℕ) (p : Read) → next_record default_config s f x xs ≡ Some p → Goes p (length xs)
+pub goes : (s : State) (f : List (List ℕ)) (x xs : List ℕ) (p : Read) → next_record default_config s f x xs ≡ Some p → Goes p (length xs)
 unfolding next_record
 goes s f x [] p h = by (ends_at_end s) refl
   where
@@ -48,7 +48,7 @@ none_starts st.StartRecord h = refl
 none_starts st.AfterCr h = refl
 none_starts _ h = absurd (true≢false (sym h))
 
-not_empty : (s : State) (xs : List ℕ) (p : Read) → is_start s ≡ true → next_record default_config s [] [] xs ≡ Some p → 0 < length xs
+pub not_empty : (s : State) (xs : List ℕ) (p : Read) → is_start s ≡ true → next_record default_config s [] [] xs ≡ Some p → 0 < length xs
 not_empty s [] p start h = absurd (let bad : None ≡ Some p = sym (none_starts s start) ∙ h in cc)
 not_empty s (c ∷ rest) p start h = omega arith
 
@@ -70,11 +70,11 @@ records_from-enough (suc n) (suc m) s xs start p q = by (next_record default_con
         rw e (ap (λ t. r.0 ∷ t) (same r g.starts (omega arith) (omega arith)))
 
 -- no record, or one and then those after it
-records_after-none : (s : State) (xs : List ℕ) → next_record default_config s [] [] xs ≡ None → records_after s xs ≡ []
+pub records_after-none : (s : State) (xs : List ℕ) → next_record default_config s [] [] xs ≡ None → records_after s xs ≡ []
 unfolding records_after records_from
 records_after-none s xs e = rw (add-one, e) refl
 
-records_after-some : (s : State) (xs : List ℕ) (p : Read) → is_start s ≡ true → next_record default_config s [] [] xs ≡ Some p → records_after s xs ≡ p.0 ∷ records_after p.1 p.2
+pub records_after-some : (s : State) (xs : List ℕ) (p : Read) → is_start s ≡ true → next_record default_config s [] [] xs ≡ Some p → records_after s xs ≡ p.0 ∷ records_after p.1 p.2
 unfolding records_after records_from
 records_after-some s xs p start e =
     let g = goes s [] [] xs p e in

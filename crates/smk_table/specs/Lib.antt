@@ -3,3 +3,5 @@ pub mod Growing
 pub mod Choosing
 pub mod Named
 pub mod Showing
+pub mod Cuts
+pub mod Pieces

@@ -47,7 +47,7 @@ fn read_records(
 }
 
 /// No row of the kinds of the declared columns.
-fn empty_rel(alloc: Global, cols: &ColDecls) -> Result<RelBuilder, AllocError>
+pub(crate) fn empty_rel(alloc: Global, cols: &ColDecls) -> Result<RelBuilder, AllocError>
     requires { AreColumns cols.now }
     ensures { IfOk result (λ rel. rel ≡ record { kinds = kinds_of cols.now; rows = []; begun = [] }) }
 {
@@ -59,7 +59,7 @@ fn empty_rel(alloc: Global, cols: &ColDecls) -> Result<RelBuilder, AllocError>
 }
 
 /// Puts the rows of all the records that are left behind no row.
-fn read_rows(
+pub(crate) fn read_rows(
     reader: &mut Reader<&[u8]>,
     fields: &mut ByteRecord,
     cols: &ColDecls,

@@ -1,0 +1,104 @@
+-- Parts put behind one another, one at a time.
+use Rattle.std.proofs.Common.{◌≡◌, ◌∙◌, ◌<◌, ◌≤◌, ◌+◌, ℕ, zero, suc, List, [], ◌∷◌, ◌++◌, length, drop, get_or, Ok, Err, refl, sym, ap, arith, append_assoc, length-append}
+use Rattle.smk_base.specs.Rels.{Relation}
+use Rattle.smk_base.specs.declared.value.Value.{Value}
+use Rattle.std.specs.Prelude.{◌⊎◌, IfErr, if◌then◌else◌}
+use Rattle.smk_base.specs.declared.fault.TableFault.{TableFault}
+use Rattle.smk_base.specs.declared.fault.TableFault.TheVariants.{NoMemory, TooManyRows}
+use Rattle.smk_model.specs.Names.{◌>>=◌}
+use Rattle.smk_table.specs.Pieces.{Part, part_behind, parts_behind, rows_behind, rows_from, behind_header, parts_of, Gives, GivesAll}
+use Rattle.smk_table.specs.Cuts.{read_of}
+use Rattle.std.proofs.Common.{Bor, Result, nat_eq, ne_eqb, map, ◌==◌, All, IfOk, Bool, true, false, true≢false, nat_le, le-leb}
+use Rattle.std.proofs.lemmas.List.{get_or-map, length-map}
+use Rattle.smk_base.specs.declared.col_decl.ColDecl.{ColDecl}
+use Rattle.smk_model.specs.Tables.{kinds_of}
+
+abbrev pub all_behind : List (List Value) → List Part → Part
+all_behind rows parts = ◌>>=◌ (parts_behind (length rows) parts) (λ more. Ok (rows ++ more))
+
+next_of : (parts : List Part) (p : ℕ) (d : Part) → p < length parts → drop p parts ≡ get_or parts p d ∷ drop (p + 1) parts
+next_of [] p d l = absurd (omega arith)
+next_of (x ∷ parts) zero d l = refl
+next_of (x ∷ parts) (suc p) d l = let e : suc p + 1 ≡ suc (p + 1) = omega arith in rw e (next_of parts p d (omega arith))
+
+one_part : (rows made : List (List Value)) (part : Part) (parts : List Part) → rows_behind rows part ≡ Ok made → all_behind rows (part ∷ parts) ≡ all_behind made parts
+one_part rows made part parts h = by (part_behind (length rows) part) h
+  where
+    by : (r : Part) → ◌>>=◌ r (λ more. Ok (rows ++ more)) ≡ Ok made
+        → ◌>>=◌ (◌>>=◌ r (λ some. ◌>>=◌ (parts_behind (length rows + length some) parts) (λ more. Ok (some ++ more)))) (λ more. Ok (rows ++ more)) ≡ all_behind made parts
+    by (Err fault) e = absurd (cc)
+    by (Ok some) e =
+        let same : rows ++ some ≡ made = cc in
+        rw (← same, length-append rows some) (on (parts_behind (length rows + length some) parts))
+      where
+        on : (q : Part) → ◌>>=◌ (◌>>=◌ q (λ more. Ok (some ++ more))) (λ more. Ok (rows ++ more)) ≡ ◌>>=◌ q (λ more. Ok ((rows ++ some) ++ more))
+        on (Err fault) = refl
+        on (Ok more) = ap (λ l. Ok l) (sym (append_assoc rows some more))
+
+one_fault : (rows : List (List Value)) (fault : TableFault) (part : Part) (parts : List Part) → rows_behind rows part ≡ Err fault → all_behind rows (part ∷ parts) ≡ Err fault
+one_fault rows fault part parts h = by (part_behind (length rows) part) h
+  where
+    by : (r : Part) → ◌>>=◌ {B = List (List Value)} r (λ more. Ok (rows ++ more)) ≡ Err fault
+        → ◌>>=◌ (◌>>=◌ r (λ some. ◌>>=◌ (parts_behind (length rows + length some) parts) (λ more. Ok (some ++ more)))) (λ more. Ok (rows ++ more)) ≡ Err fault
+    by (Err f) e = ap (λ (r : Part). r) e
+    by (Ok some) e = absurd (cc)
+
+pub join_step : (read : List Part) (p : ℕ) (rows made : List (List Value)) → p < length read → parts_behind 0 read ≡ all_behind rows (drop p read) → rows_behind rows (get_or read p (Ok [])) ≡ Ok made
+    → parts_behind 0 read ≡ all_behind made (drop (p + 1) read)
+join_step read p rows made l h e = h ∙ ap (all_behind rows) (next_of read p (Ok []) l) ∙ one_part rows made (get_or read p (Ok [])) (drop (p + 1) read) e
+
+pub join_fault : (read : List Part) (p : ℕ) (rows : List (List Value)) (fault : TableFault) → p < length read → parts_behind 0 read ≡ all_behind rows (drop p read) → rows_behind rows (get_or read p (Ok [])) ≡ Err fault
+    → parts_behind 0 read ≡ Err fault
+join_fault read p rows fault l h e = h ∙ ap (all_behind rows) (next_of read p (Ok []) l) ∙ one_fault rows fault (get_or read p (Ok [])) (drop (p + 1) read) e
+
+pub join_start : (read : List Part) → parts_behind 0 read ≡ all_behind [] (drop 0 read)
+join_start read = by (parts_behind 0 read)
+  where
+    by : (r : Part) → r ≡ ◌>>=◌ r (λ more. Ok more)
+    by (Ok rows) = refl
+    by (Err fault) = refl
+
+-- the parts that pieces give, place by place
+pub gives_all : (cols : List ColDecl) (places : List ℕ) (width : ℕ) (texts : List (Bor (List ℕ))) (made : List (Result Relation TableFault)) → length made ≡ length texts
+    → ((p : ℕ) (d : Bor (List ℕ)) (e : Result Relation TableFault) → p < length texts → Gives cols (rows_from cols places width 1 (behind_header (p == 0) (read_of (get_or texts p d)))) (get_or made p e))
+    → GivesAll cols (parts_of cols places width (map read_of texts)) made
+gives_all cols places width [] made long each = record { all = long; each = λ p d e l. absurd (omega arith) }
+gives_all cols places width (t ∷ texts) made long each = record { all = long ∙ ap suc (sym (length-map (map read_of texts) (rows_from cols places width 1) ∙ length-map texts read_of)); each = at }
+  where
+    plain : (read : List (List (List ℕ))) → behind_header false read ≡ read
+    plain [] = refl
+    plain (x ∷ read) = refl
+
+    at : (p : ℕ) (d : Part) (e : Result Relation TableFault) → p < length (parts_of cols places width (read_of t ∷ map read_of texts)) → Gives cols (get_or (parts_of cols places width (read_of t ∷ map read_of texts)) p d) (get_or made p e)
+    at zero d e l = each 0 t e (omega arith)
+    at (suc p) d e l =
+        let inside : p < length texts = omega (arith, l, length-map (map read_of texts) (rows_from cols places width 1), length-map texts read_of) in
+        let later : nat_eq (suc p) 0 ≡ false = ne_eqb (suc p) 0 (λ q. absurd (omega (arith, q))) in
+        let here : p < length (map read_of texts) = omega (arith, inside, length-map texts read_of) in
+        rw (get_or-map (rows_from cols places width 1) (map read_of texts) p (read_of t) d here, get_or-map read_of texts p t (read_of t) inside) (rw (later, plain (read_of (get_or texts p t))) at (each (suc p) t e (omega (arith, inside))))
+
+-- each result of a part has the kinds of the columns
+pub gives_kinds : (cols : List ColDecl) (part : Part) (r : Result Relation TableFault) → Gives cols part r → IfOk r (λ rel. rel.kinds ≡ kinds_of cols)
+gives_kinds cols part (Ok rel) h = h.1
+gives_kinds cols part (Err fault) h = tt
+
+pub all_kinds : (cols : List ColDecl) (parts : List Part) (made : List (Result Relation TableFault)) → GivesAll cols parts made → All (λ r. IfOk r (λ rel. rel.kinds ≡ kinds_of cols)) made
+all_kinds cols parts made all k d l = let long = all.all in gives_kinds cols _ _ (all.each k (Ok []) d (omega (arith, l, long)))
+
+-- the rows of a part behind none
+pub none_behind : (rows : List (List Value)) (part : Part) (more : List (List Value)) → length rows ≡ 0 → length more ≤ 1048576 → part ≡ Ok more → rows_behind rows part ≡ Ok more
+none_behind [] part more l few e = rw e (by (nat_le (0 + length more) 1048576) (le-leb (0 + length more) 1048576 (omega (arith, few))))
+  where
+    by : (b : Bool) → b ≡ true → ◌>>=◌ (if b then Ok more else Err TooManyRows) (λ rest. Ok rest) ≡ Ok more
+    by true q = refl
+    by false q = absurd (true≢false (sym q))
+none_behind (x ∷ rows) part more l few e = absurd (omega (arith, l))
+
+-- what a table or a fault says of the parts that it was read from
+pub gives_rows : (cols : List ColDecl) (part : Part) (r : Result Relation TableFault) → Gives cols part r → IfOk r (λ rel. part ≡ Ok rel.rows)
+gives_rows cols part (Ok rel) h = h.0
+gives_rows cols part (Err fault) h = tt
+
+pub gives_fault : (cols : List ColDecl) (part : Part) (r : Result Relation TableFault) → Gives cols part r → IfErr r (λ fault. (fault ≡ NoMemory) ⊎ (part ≡ Err fault))
+gives_fault cols part (Ok rel) h = tt
+gives_fault cols part (Err fault) h = h

@@ -1,0 +1,82 @@
+-- The rows of records that are read in pieces, each with record numbers of its own.
+use Rattle.std.specs.Prelude.{◌≡◌, ◌⊎◌, ◌<◌, slice_index_or, Bool, true, map, ℕ, ◌+◌, List, [], ◌∷◌, ◌++◌, length, Result, Ok, Err, if◌then◌else◌, nat_le}
+use Rattle.smk_base.specs.declared.value.Value.{Value}
+use Rattle.smk_base.specs.declared.col_decl.ColDecl.{ColDecl}
+use Rattle.smk_base.specs.declared.fault.TableFault.{TableFault}
+use Rattle.smk_base.specs.declared.fault.TableFault.TheVariants as faults
+use Rattle.smk_model.specs.Names.{◌>>=◌}
+use Rattle.smk_model.specs.Tables.{all_or_first, numbered, column_place, record_row, kinds_of}
+use Rattle.smk_base.specs.Rels.{Relation}
+
+-- the rows of a part of a table, or its first fault
+abbrev pub Part : Type 0
+Part = Result (List (List Value)) TableFault
+
+-- the rows of records of which the first has number n
+abbrev pub rows_from : List ColDecl → List ℕ → ℕ → ℕ → List (List (List ℕ)) → Part
+rows_from cols places width n read = all_or_first (numbered (record_row cols places width) n read)
+
+-- the record at which a fault arises; where it names none, the first that a table has no room for
+abbrev pub record_of : TableFault → ℕ
+record_of (faults.Ragged n) = n
+record_of (faults.BadInt n c) = n
+record_of faults.NoHeader = 1048577
+record_of (faults.MissingColumn c) = 1048577
+record_of (faults.RepeatedColumn c) = 1048577
+record_of faults.TooManyRows = 1048577
+record_of faults.NoMemory = 1048577
+
+-- the same fault where base records come before
+abbrev pub fault_behind : ℕ → TableFault → TableFault
+fault_behind base (faults.Ragged n) = faults.Ragged (base + n)
+fault_behind base (faults.BadInt n c) = faults.BadInt (base + n) c
+fault_behind base faults.NoHeader = faults.NoHeader
+fault_behind base (faults.MissingColumn c) = faults.MissingColumn c
+fault_behind base (faults.RepeatedColumn c) = faults.RepeatedColumn c
+fault_behind base faults.TooManyRows = faults.TooManyRows
+fault_behind base faults.NoMemory = faults.NoMemory
+
+-- a part that was read for itself, where base records come before
+abbrev pub part_behind : ℕ → Part → Part
+part_behind base (Ok rows) = if nat_le (base + length rows) 1048576 then Ok rows else Err faults.TooManyRows
+part_behind base (Err fault) = if nat_le (base + record_of fault) 1048576 then Err (fault_behind base fault) else Err faults.TooManyRows
+
+-- parts that were each read for itself, behind one another
+abbrev pub parts_behind : ℕ → List Part → Part
+parts_behind base [] = Ok []
+parts_behind base (part ∷ parts) = do
+  rows ← part_behind base part
+  more ← parts_behind (base + length rows) parts
+  Ok (rows ++ more)
+
+-- that a part was read: its rows, or want of memory or its first fault
+abbrev pub Gives : List ColDecl → Part → Result Relation TableFault → Type 0
+Gives cols part (Ok rel) = (part ≡ Ok rel.rows) × (rel.kinds ≡ kinds_of cols)
+Gives cols part (Err fault) = (fault ≡ faults.NoMemory) ⊎ (part ≡ Err fault)
+
+-- these rows, and behind them those of a part that was read for itself
+abbrev pub rows_behind : List (List Value) → Part → Part
+rows_behind rows part = part_behind (length rows) part >>= λ more. Ok (rows ++ more)
+
+-- that each part was read
+pub record GivesAll (cols : List ColDecl) (parts : List Part) (made : List (Result Relation TableFault)) : Type 0 where
+  pub all : length made ≡ length parts
+  pub each : (p : ℕ) (d : Part) (e : Result Relation TableFault) → p < length parts → Gives cols (slice_index_or parts p d) (slice_index_or made p e)
+
+-- the records behind the header, where a text has it
+abbrev pub behind_header : Bool → List (List (List ℕ)) → List (List (List ℕ))
+behind_header has [] = []
+behind_header has (x ∷ read) = if has then read else x ∷ read
+
+-- the parts of a table whose pieces have these records, of which the first is the header
+abbrev pub parts_of : List ColDecl → List ℕ → ℕ → List (List (List (List ℕ))) → List Part
+parts_of cols places width [] = []
+parts_of cols places width (first ∷ others) = rows_from cols places width 1 (behind_header true first) ∷ map (rows_from cols places width 1) others
+
+-- what the first of these records says as a header: how many fields it has, and at which places the columns stand or why they don't
+pub record HasHeader (cols : List ColDecl) (read : List (List (List ℕ))) (width : ℕ) (places : Result (List ℕ) TableFault) : Type 0 where
+  pub header : List (List ℕ)
+  pub rest : List (List (List ℕ))
+  pub begins : read ≡ header ∷ rest
+  pub wide : length header ≡ width
+  pub placed : all_or_first (numbered (column_place header) 0 cols) ≡ places

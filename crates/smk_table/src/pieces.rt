@@ -1,0 +1,206 @@
+// Tables read in pieces, in threads.
+ghost use Rattle.std.specs.Prelude.{◌≡◌, ◌⊎◌, ◌<◌, ◌≤◌, length, map, slice_index_or, IfOk, IfErr, IfSome, IsFalse, Ok, Err, All, ℕ, ◌==◌};
+ghost use Rattle.csv.specs.Reading.{records, default_config};
+ghost use Rattle.smk_base.specs.Marks.{begins_with_mark};
+ghost use Rattle.smk_base.specs.declared.fault.TableFault.TheVariants.{NoMemory};
+ghost use Rattle.smk_model.specs.Tables.{AreColumns, kinds_of, table_of};
+ghost use Rattle.smk_table.specs.Cuts.{read_of};
+ghost use Rattle.smk_table.specs.Reading.{IsBetween, records_left};
+ghost use Rattle.smk_table.specs.Pieces.{Gives, HasHeader, behind_header, rows_from, parts_of, parts_behind};
+
+use crate::cutting::pieces;
+use crate::fields::column_places;
+use crate::joining::join_parts;
+use crate::reading::{next_record, reader_of};
+use crate::records::{empty_rel, read_rows, read_table};
+use crate::table::Table;
+use csv::{ByteRecord, Reader};
+use smk_base::{ColDecls, Rel, TableFault, without_mark};
+use smk_outside::Gate;
+use std::alloc::{AllocError, Global};
+use std::thread::{Threads, map_indices};
+
+// What a header says: at which places the declared columns stand, and how many fields it has.
+#[derive(Drop)]
+struct Header {
+    places: Vec<usize>,
+    width: usize,
+}
+
+// The header of the records that are left, where there is one.
+fn header_left(
+    alloc: Global,
+    reader: &mut Reader<&[u8]>,
+    fields: &mut ByteRecord,
+    cols: &ColDecls,
+) -> Result<Option<Header>, TableFault>
+    requires between { IsBetween reader.old }
+    requires columns { AreColumns cols.now }
+    ensures count { IfOk result (λ found. IfSome found (λ header. length header.places.items ≡ length cols.now)) }
+    ensures found { IfOk result (λ found. IfSome found (λ header. HasHeader cols.now (records_left reader.old) header.width (Ok header.places.items))) }
+    ensures fault { IfErr result (λ fault. (fault ≡ NoMemory) ⊎ ((width : ℕ) × HasHeader cols.now (records_left reader.old) width (Err fault))) }
+{
+    if !next_record(reader, fields)? {
+        return Ok(None);
+    }
+    let width = fields.len();
+    match column_places(alloc, fields, cols) {
+        Ok(places) => Ok(Some(Header { places, width })),
+        Err(fault) => Err(fault),
+    }
+}
+
+// The header of a text, where it has a record.
+fn header_of(alloc: Global, text: &[u8], cols: &ColDecls) -> Result<Option<Header>, TableFault>
+    requires unmarked { IsFalse (begins_with_mark text.now) }
+    requires columns { AreColumns cols.now }
+    ensures count { IfOk result (λ found. IfSome found (λ header. length header.places.items ≡ length cols.now)) }
+    ensures found { IfOk result (λ found. IfSome found (λ header. HasHeader cols.now (records default_config text.now) header.width (Ok header.places.items))) }
+    ensures fault { IfErr result (λ fault. (fault ≡ NoMemory) ⊎ ((width : ℕ) × HasHeader cols.now (records default_config text.now) width (Err fault))) }
+{
+    let mut reader = reader_of(alloc, text);
+    let mut fields = ByteRecord::new(alloc);
+    header_left(alloc, &mut reader, &mut fields, cols)
+}
+
+// The rows of the records of a piece of a text, each with its number in the piece, behind the header where the piece has it.
+fn read_piece(
+    alloc: Global,
+    text: &[u8],
+    has_header: bool,
+    cols: &ColDecls,
+    places: &[usize],
+    width: usize,
+) -> Result<Rel, TableFault>
+    requires unmarked { IsFalse (begins_with_mark text.now) }
+    requires columns { AreColumns cols.now }
+    requires places { length places.now ≡ length cols.now }
+    ensures { Gives cols.now (rows_from cols.now places.now width 1 (behind_header has_header (records default_config text.now))) result }
+{
+    let mut reader = reader_of(alloc, text);
+    let mut fields = ByteRecord::new(alloc);
+    let mut rel = empty_rel(alloc, cols)?;
+    if has_header && !next_record(&mut reader, &mut fields)? {
+        return Ok(rel.finish(alloc)?);
+    }
+    read_rows(&mut reader, &mut fields, cols, places, width, &mut rel)?;
+    Ok(rel.finish(alloc)?)
+}
+
+// The rows of piece p of a text, which passes the gate first. The first piece has the header.
+fn arrive_and_read<G: Gate>(
+    alloc: Global,
+    text: &[u8],
+    p: usize,
+    cols: &ColDecls,
+    places: &[usize],
+    width: usize,
+    gate: &G,
+) -> Result<Rel, TableFault>
+    requires unmarked { IsFalse (begins_with_mark text.now) }
+    requires few { p < 64 }
+    requires columns { AreColumns cols.now }
+    requires places { length places.now ≡ length cols.now }
+    ensures { Gives cols.now (rows_from cols.now places.now width 1 (behind_header (p == 0) (records default_config text.now))) result }
+{
+    gate.arrive(p as u32);
+    read_piece(alloc, text, p == 0, cols, places, width)
+}
+
+// The rows of each piece of a text, in threads.
+fn read_pieces<R: Threads + Sync, G: Gate + Sync>(
+    rt: &R,
+    alloc: Global,
+    texts: &[&[u8]],
+    cols: &ColDecls,
+    places: &[usize],
+    width: usize,
+    gate: &G,
+) -> Result<Vec<Result<Rel, TableFault>>, AllocError>
+    requires unmarked { All (λ text. IsFalse (begins_with_mark text.now)) texts.now }
+    requires few { length texts.now ≤ 64 }
+    requires columns { AreColumns cols.now }
+    requires places { length places.now ≡ length cols.now }
+    ensures all { IfOk result (λ made. length made.items ≡ length texts.now) }
+    ensures rows { IfOk result (λ made. (p : ℕ) (d : _) (e : _) → p < length texts.now
+        → Gives cols.now (rows_from cols.now places.now width 1 (behind_header (p == 0) (records default_config (slice_index_or texts.now p d).now))) (slice_index_or made.items p e)) }
+{
+    map_indices(
+        rt,
+        alloc,
+        texts.len(),
+        &|p| { arrive_and_read(alloc, texts[p], p, cols, places, width, gate) },
+    )
+}
+
+// The rows of the pieces of a text, of which the first has the header.
+fn rows_in_pieces<R: Threads + Sync, G: Gate + Sync>(
+    rt: &R,
+    alloc: Global,
+    texts: &[&[u8]],
+    cols: &ColDecls,
+    places: &[usize],
+    width: usize,
+    gate: &G,
+) -> Result<Rel, TableFault>
+    requires unmarked { All (λ text. IsFalse (begins_with_mark text.now)) texts.now }
+    requires few { length texts.now ≤ 64 }
+    requires columns { AreColumns cols.now }
+    requires places { length places.now ≡ length cols.now }
+    ensures { Gives cols.now (parts_behind 0 (parts_of cols.now places.now width (map read_of texts.now))) result }
+{
+    let none = empty_rel(alloc, cols)?.finish(alloc)?;
+    let made = read_pieces(rt, alloc, texts, cols, places, width, gate)?;
+    join_parts(alloc, cols, none, made)
+}
+
+// The table of the pieces of a text, of which the first has this header.
+fn table_in_pieces<R: Threads + Sync, G: Gate + Sync>(
+    rt: &R,
+    alloc: Global,
+    texts: &[&[u8]],
+    cols: &ColDecls,
+    header: &Header,
+    gate: &G,
+) -> Result<Table, TableFault>
+    requires unmarked { All (λ text. IsFalse (begins_with_mark text.now)) texts.now }
+    requires few { length texts.now ≤ 64 }
+    requires columns { AreColumns cols.now }
+    requires places { length header.now.places.items ≡ length cols.now }
+    ensures { Gives cols.now (parts_behind 0 (parts_of cols.now header.now.places.items header.now.width (map read_of texts.now))) result }
+{
+    let places = header.places.as_slice();
+    match rows_in_pieces(rt, alloc, texts, cols, places, header.width, gate) {
+        Ok(rel) => Ok(Table::of_rel(rel.shared(alloc)?)),
+        Err(fault) => Err(fault),
+    }
+}
+
+/// Reads the bytes of a CSV file as `read_table` does, with the same answer. The bytes are cut into at most `workers` pieces of at least `least` bytes each, which are read in threads. Before the first quote each line feed ends a record, so they are cut there; what is behind stays in one piece. Where there are two pieces or more each passes the gate.
+pub fn read_table_in_pieces<R: Threads + Sync, G: Gate + Sync>(
+    rt: &R,
+    alloc: Global,
+    bytes: &[u8],
+    cols: &ColDecls,
+    workers: u32,
+    least: u32,
+    gate: &G,
+) -> Result<Table, TableFault>
+    requires columns { AreColumns cols.now }
+    requires some { 1 ≤ workers }
+    requires few { workers ≤ 64 }
+    requires least { 1 ≤ least }
+    ensures rows { IfOk result (λ table. table_of cols.now bytes.now ≡ Ok table.rows) }
+    ensures kinds { IfOk result (λ table. table.kinds ≡ kinds_of cols.now) }
+    ensures fault { IfErr result (λ fault. (fault ≡ NoMemory) ⊎ (table_of cols.now bytes.now ≡ Err fault)) }
+{
+    let texts = pieces(alloc, without_mark(bytes), workers, least)?;
+    if texts.len() < 2 {
+        return read_table(alloc, bytes, cols);
+    }
+    match header_of(alloc, texts[0], cols) {
+        Ok(Some(header)) => table_in_pieces(rt, alloc, texts.as_slice(), cols, &header, gate),
+        Ok(None) => read_table(alloc, bytes, cols),
+        Err(fault) => Err(fault),
+    }
+}
