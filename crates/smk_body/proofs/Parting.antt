@@ -1,31 +1,26 @@
 -- Columns and aggregates that are made in halves.
-use Rattle.std.proofs.Common.{◌≡◌, ◌∙◌, ◌<◌, ◌≤◌, ◌+◌, ℕ, List, [], ◌∷◌, ◌++◌, length, map, take, drop, refl, sym, ap, subst, arith, All, get_or, Option}
+use Rattle.std.proofs.Common.{◌≡◌, ◌∙◌, ◌<◌, ◌≤◌, ◌+◌, ℕ, List, [], ◌∷◌, ◌++◌, length, map, take, drop, refl, sym, ap, arith, All, get_or}
 use Rattle.std.specs.List.{AllZip}
 use Rattle.std.proofs.lemmas.List.{map-append, length-map, length-append, get_or-map}
 use Rattle.std.proofs.lemmas.List.Elements.{All-map, All-take, All-drop, All-weaker}
 use Rattle.std.proofs.lemmas.Slice.Zip.{AllZip-long}
 use Rattle.smk_base.specs.declared.plan.Agg.{Agg}
-use Rattle.smk_base.specs.declared.plan.Agg.TheVariants.{Count}
 use Rattle.smk_base.specs.declared.value.Kind.TheVariants.{Int, Text}
 use Rattle.smk_base.specs.declared.value.Kind.{Kind}
 use Rattle.smk_base.specs.declared.value.Value.{Value}
-use Rattle.smk_base.specs.declared.plan.Dir.{Dir}
-use Rattle.smk_base.specs.Places.{Lists, upto}
+use Rattle.smk_base.specs.Places.{upto}
 use Rattle.smk_base.specs.Rels.{IsWider, Relation, Fits, RowFits, beside_rows, picked, row_in, rows_at}
 use Rattle.smk_keys.specs.Classes.{ClassesImage, classes_of}
 use Rattle.smk_model.specs.Values.{Row}
 use Rattle.smk_model.specs.Plain.{aggregate, firsts, grouped, key_of}
 use Rattle.smk_model.specs.Lineage.{row_at, sub}
-use Rattle.smk_model.specs.Kinds.{AggFits, kind_of_agg}
+use Rattle.smk_model.specs.Kinds.{AggFits}
 use Rattle.smk_model.proofs.Places.{length_upto, map_map, map_upto, upto_below}
 use Rattle.smk_model.proofs.Bulk.{bulk}
 use Rattle.smk_model.proofs.Directions.{length_each}
 use Rattle.smk_body.specs.Halves.{AreNumbered, class_places}
-use Rattle.smk_body.specs.Locals.{side_of, wanted}
-use Rattle.smk_body.specs.declared.local.Side.{Side}
 use Rattle.smk_body.specs.Parts.{AreAggsOf, ArePlacesOf, aggregates_of, columns_of}
 use Rattle.smk_body.proofs.Besides.{relation, related, beside_each, map_same}
-use Rattle.smk_body.proofs.Classing.{are_numbered}
 use Rattle.smk_body.proofs.Aggregating.{groups_are, map_where}
 
 -- no kind is narrower than itself
@@ -142,13 +137,6 @@ none_each (x ∷ xs) (y ∷ ys) e = ap (λ (rows : List Row). (let row : Row = [
 pub no_aggregates : (rel : Relation) (classes : ClassesImage) (places : List ℕ) (aggs : List Agg) → places ≡ classes.firsts → aggs ≡ [] → columns_of rel places [] ≡ aggregates_of rel classes aggs
 no_aggregates rel classes places aggs e none = rw (e, none) (related refl (none_each (rows_at rel.rows classes.firsts) (upto (length classes.firsts)) (length-map classes.firsts (row_in rel.rows) ∙ sym (length_upto (length classes.firsts)))))
 
--- one aggregate is one column
-pub one_aggregate : (rel : Relation) (classes : ClassesImage) (aggs : List Agg) → length aggs < 2 → 0 < length aggs
-    → relation (kind_of_agg rel.kinds (get_or aggs 0 Count) ∷ []) (map (λ p. aggregate (sub rel.rows (class_places classes.of (length rel.rows) p)) (get_or aggs 0 Count) ∷ []) (upto (length classes.firsts))) ≡ aggregates_of rel classes aggs
-one_aggregate rel classes [] few some = absurd (omega (arith, some))
-one_aggregate rel classes (agg ∷ []) few some = refl
-one_aggregate rel classes (agg ∷ other ∷ more) few some = absurd (omega (arith, few))
-
 -- the first places of classes
 pub first_places_are : (rel : Relation) (classes : ClassesImage) (places cols : List ℕ) → All (λ c. c < length rel.kinds) cols → length cols ≤ 16 → length rel.rows ≤ 1048576 → AreNumbered (length rel.rows) classes → places ≡ classes.firsts → ArePlacesOf rel places cols
 first_places_are rel classes places cols columns narrow few are e = record {
@@ -157,10 +145,6 @@ first_places_are rel classes places cols columns narrow few are e = record {
   within = rw e are.within;
   few = omega (arith, ap length e, are.few, few);
 }
-
--- the classes of rows by keys are numbered
-pub numbered : (keys : List ℕ) (rows : List Row) (made : ClassesImage) → made ≡ classes_of (map (key_of keys) rows) → AreNumbered (length rows) made
-numbered keys rows made e = subst (λ (n : ℕ). AreNumbered n made) (length-map rows (key_of keys)) (subst (AreNumbered (length (map (key_of keys) rows))) (sym e) (are_numbered (map (key_of keys) rows)))
 
 -- the keys at the first places beside the aggregates are the groups
 pub groups_beside : (rel : Relation) (keys : List ℕ) (aggs : List Agg) (classes : ClassesImage) (places : List ℕ) → classes ≡ classes_of (map (key_of keys) rel.rows) → places ≡ classes.firsts
@@ -174,10 +158,6 @@ groups_beside rel keys aggs classes places is e =
     ap (λ (z : List ℕ). map (picked keys) (rows_at rel.rows z)) (sym (map_upto A 0)) ∙ ap (map (picked keys)) (map_map (row_at rel.rows) (λ p. get_or A p 0) (upto (length A)))
     ∙ map_map (picked keys) (λ p. row_at rel.rows (get_or A p 0)) (upto (length A)) in
     rw (e, is) (ap (λ (rows : List Row). beside_rows rows (map G (upto (length A)))) keyed ∙ beside_each K G (upto (length A)) ∙ groups_are keys aggs rel.rows)
-
--- a side from its lists both ways
-pub both_ways : {back fwd : Option Lists} (want : Dir) (B F : Lists) → back ≡ wanted want.back B → fwd ≡ wanted want.fwd F → (let side : Side = record { back = back; fwd = fwd } in side) ≡ side_of want B F
-both_ways want B F b f = rw (b, f) refl
 
 -- as many keys as aggregates
 pub groups_long : (rel : Relation) (keys : List ℕ) (aggs : List Agg) (classes : ClassesImage) (places : List ℕ) (left right : Relation) → left ≡ columns_of rel places keys → right ≡ aggregates_of rel classes aggs → places ≡ classes.firsts → length left.rows ≡ length right.rows

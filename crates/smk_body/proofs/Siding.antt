@@ -50,12 +50,12 @@ classes_below keys = λ k d h.
     rw (get_or_default (classes keys) k d 0 h) ((classes_are.stand keys).below k (omega (arith, h, length_of keys)))
 
 -- the classes of the rows of two sides, on the left and on the right
-left_classes : (L R : List Row) → take (length L) (classes (L ++ R)) ≡ places_in (firsts (L ++ R)) L
+pub left_classes : (L R : List Row) → take (length L) (classes (L ++ R)) ≡ places_in (firsts (L ++ R)) L
 left_classes L R =
     let place = place_in (firsts (L ++ R)) in
     ap (take (length L)) (map-append place L R) ∙ ap (λ n. take n (map place L ++ map place R)) (sym (length-map L place)) ∙ take-append_seam (map place L) (map place R)
 
-right_classes : (L R : List Row) → drop (length L) (classes (L ++ R)) ≡ places_in (firsts (L ++ R)) R
+pub right_classes : (L R : List Row) → drop (length L) (classes (L ++ R)) ≡ places_in (firsts (L ++ R)) R
 right_classes L R =
     let place = place_in (firsts (L ++ R)) in
     ap (drop (length L)) (map-append place L R) ∙ ap (λ n. drop n (map place L ++ map place R)) (sym (length-map L place)) ∙ drop-append_seam (map place L) (map place R)

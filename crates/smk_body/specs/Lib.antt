@@ -1,6 +1,10 @@
 pub mod Locals
 pub mod Halves
-pub mod Pieces
 pub mod Parts
-pub mod Found
+pub mod Cuts
+pub mod Renumbered
+pub mod Rises
+pub mod Heights
+pub mod Bounds
+pub mod Findings
 pub mod Lookups

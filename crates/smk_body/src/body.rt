@@ -4,18 +4,22 @@ ghost use Rattle.smk_base.specs.PlanImage.{binary_of, unary_of};
 ghost use Rattle.smk_base.specs.Plans.{Binary, Unary};
 ghost use Rattle.smk_base.specs.Rels.{Relation};
 ghost use Rattle.smk_base.specs.declared.plan.Dir.{Dir};
+ghost use Rattle.smk_base.specs.declared.rel.TheConstants.{ROW_LIMIT};
 ghost use Rattle.smk_model.specs.Plain.{step1, step2};
 ghost use Rattle.smk_model.specs.Kinds.{Fits1, Fits2, kinds1, kinds2};
+ghost use Rattle.smk_body.specs.Findings.{finding1, finding2, left_want, local_of, turned_of, want_at_once};
 ghost use Rattle.smk_body.specs.Locals.{local1, local2, is_nothing, is_nothing2};
-ghost use Rattle.smk_body.specs.Pieces.{ArePieces};
 ghost use Rattle.smk_body.specs.declared.local.Local.{Local};
 ghost use Rattle.smk_body.specs.declared.local.Want.{Want};
-ghost use Rattle.smk_base.specs.declared.rel.TheConstants.{ROW_LIMIT};
 
+use crate::crew::{Crew, Work};
+use crate::finding::{find1, find2};
+use crate::found::Made;
 use crate::local::{Local, Want};
-use crate::pieces::{Cut, InPieces, Piece, made1, made2};
+use crate::making::{rows_and_turned1, rows_and_turned2};
 use smk_base::{Dir, Op1, Op2, Rel};
 use std::alloc::{AllocError, Global};
+use std::marker::Sync;
 use std::thread::Threads;
 use thiserror::Error;
 
@@ -39,10 +43,10 @@ impl From<AllocError> for OpFault {
     }
 }
 
-/// How the steps of a plan are carried out: their rows, and the wanted lineage of each.
+/// How the steps of a plan are carried out: their rows, and the wanted lineage of each. A step finds what makes its rows, makes them, and the body keeps what it likes of it.
 ///
-/// A caller uses `captures`, `apply1`, `apply2` and `finish`. A body that cuts no step into pieces says in `whole1` and `whole2` what it does.
-pub trait OpBody: InPieces {
+/// A caller uses `captures`, `apply1`, `apply2` and `finish`. A body says what it keeps, and how `finish` gives the lists.
+pub trait OpBody: Crew {
     /// The lineage of a step, or what it is made from.
     type Pending: Drop;
 
@@ -52,7 +56,10 @@ pub trait OpBody: InPieces {
     // Whether lineage may be wanted.
     ghost may_capture: { Self → Bool };
 
-    // What a body promises of what a step with one input leaves pending, beyond its meaning. One that says nothing promises nothing.
+    // Whether the lists that go against what a step found are made with its rows.
+    ghost at_once: { Self → Bool };
+
+    // What a body promises of what it keeps of a step with one input, beyond its meaning. One that says nothing promises nothing.
     ghost leaves1: { Self → Unary → Relation → Dir → Self.Pending → Type 0 } = { λ _ _ _ _ _. Unit {0} };
 
     // The same of a step with two inputs.
@@ -62,94 +69,48 @@ pub trait OpBody: InPieces {
     fn captures(&self) -> bool
         ensures { result ≡ may_capture self.now };
 
-    /// A step over its input, all in this thread.
-    fn whole1(
+    /// Whether of the wanted lists those that go against what a step found are made with its rows, before the body keeps anything. It takes no memory.
+    fn lists_at_once(&self) -> bool
+        ensures { result ≡ at_once self.now };
+
+    /// What is kept of a step with one input, and its rows as they are.
+    fn keep1(
         &self,
         alloc: Global,
         op: &Op1,
         input: Rel,
+        made: Made,
         want: Dir,
     ) -> Result<(Rel, Self::Pending), AllocError>
         requires fits { Fits1 (unary_of op.now) input.kinds }
         requires captured { IsTrue (may_capture self.now || is_nothing want) }
-        ensures kinds { IfOk result (λ made. made.0.kinds ≡ kinds1 (unary_of op.now) input.kinds) }
-        ensures rows { IfOk result (λ made. made.0.rows ≡ step1 (unary_of op.now) input.rows) }
-        ensures lineage { IfOk result (λ made. meaning self.now made.1 ≡ local1 (unary_of op.now) input.rows want) }
-        ensures left { IfOk result (λ made. leaves1 self.now (unary_of op.now) input want made.1) };
+        requires kinds { made.rel.kinds ≡ kinds1 (unary_of op.now) input.kinds }
+        requires rows { made.rel.rows ≡ step1 (unary_of op.now) input.rows }
+        requires found { made.found ≡ finding1 (unary_of op.now) input }
+        requires turned { made.turned ≡ turned_of made.found (want_at_once (at_once self.now) (left_want want)) }
+        ensures rel { IfOk result (λ kept. kept.0 ≡ made.rel) }
+        ensures lineage { IfOk result (λ kept. meaning self.now kept.1 ≡ local_of made.found (left_want want)) }
+        ensures left { IfOk result (λ kept. leaves1 self.now (unary_of op.now) input want kept.1) };
 
-    /// A step over its input, from what its pieces have made.
-    fn gather1<R: Threads + Sync>(
-        &self,
-        _rt: &R,
-        alloc: Global,
-        op: &Op1,
-        input: Rel,
-        want: Dir,
-        _cut: Cut,
-        _made: Vec<Piece>,
-    ) -> Result<(Rel, Self::Pending), AllocError>
-        requires rt { IsSync R.row }
-        requires fits { Fits1 (unary_of op.now) input.kinds }
-        requires captured { IsTrue (may_capture self.now || is_nothing want) }
-        requires cut { Self.cuts1 self.now (unary_of op.now) input want _cut }
-        requires made { ArePieces (Self.makes1 self.now (unary_of op.now) input want _cut) _cut.pieces _made.items }
-        ensures kinds { IfOk result (λ made. made.0.kinds ≡ kinds1 (unary_of op.now) input.kinds) }
-        ensures rows { IfOk result (λ made. made.0.rows ≡ step1 (unary_of op.now) input.rows) }
-        ensures lineage { IfOk result (λ made. meaning self.now made.1 ≡ local1 (unary_of op.now) input.rows want) }
-        ensures left { IfOk result (λ made. leaves1 self.now (unary_of op.now) input want made.1) }
-    {
-        drop(_cut);
-        drop(_made);
-        self.whole1(alloc, op, input, want)
-    }
-
-    /// A step over its two inputs, all in this thread.
-    fn whole2(
+    /// What is kept of a step with two inputs, and its rows as they are.
+    fn keep2(
         &self,
         alloc: Global,
         op: &Op2,
         left: Rel,
         right: Rel,
+        made: Made,
         want: Want,
-    ) -> Result<(Rel, Self::Pending), OpFault>
+    ) -> Result<(Rel, Self::Pending), AllocError>
         requires fits { Fits2 (binary_of op.now) left.kinds right.kinds }
         requires captured { IsTrue (may_capture self.now || is_nothing2 want) }
-        ensures kinds { IfOk result (λ made. made.0.kinds ≡ kinds2 (binary_of op.now) left.kinds right.kinds) }
-        ensures rows { IfOk result (λ made. made.0.rows ≡ step2 (binary_of op.now) left.rows right.rows) }
-        ensures lineage { IfOk result (λ made. meaning self.now made.1 ≡ local2 (binary_of op.now) left.rows right.rows want) }
-        ensures left { IfOk result (λ made. leaves2 self.now (binary_of op.now) left right want made.1) }
-        ensures few { OnOk result (length (step2 (binary_of op.now) left.rows right.rows) ≤ ROW_LIMIT) }
-        ensures many { IfErr result (λ e. e ≡ OpFault.Rows → ROW_LIMIT < length (step2 (binary_of op.now) left.rows right.rows)) };
-
-    /// A step over its two inputs, from what its pieces have made. It has at most 1,048,576 rows.
-    fn gather2<R: Threads + Sync>(
-        &self,
-        _rt: &R,
-        _alloc: Global,
-        _op: &Op2,
-        _left: Rel,
-        _right: Rel,
-        _want: Want,
-        _cut: Cut,
-        _made: Vec<Piece>,
-    ) -> Result<(Rel, Self::Pending), AllocError>
-        requires rt { IsSync R.row }
-        requires fits { Fits2 (binary_of _op.now) _left.kinds _right.kinds }
-        requires captured { IsTrue (may_capture self.now || is_nothing2 _want) }
-        requires cut { Self.cuts2 self.now (binary_of _op.now) _left _right _want _cut }
-        requires made { ArePieces (Self.makes2 self.now (binary_of _op.now) _left _right _want _cut) _cut.pieces _made.items }
-        requires few { length (step2 (binary_of _op.now) _left.rows _right.rows) ≤ ROW_LIMIT }
-        ensures kinds { IfOk result (λ made. made.0.kinds ≡ kinds2 (binary_of _op.now) _left.kinds _right.kinds) }
-        ensures rows { IfOk result (λ made. made.0.rows ≡ step2 (binary_of _op.now) _left.rows _right.rows) }
-        ensures lineage { IfOk result (λ made. meaning self.now made.1 ≡ local2 (binary_of _op.now) _left.rows _right.rows _want) }
-        ensures left { IfOk result (λ made. leaves2 self.now (binary_of _op.now) _left _right _want made.1) }
-    {
-        drop(_left);
-        drop(_right);
-        drop(_cut);
-        drop(_made);
-        Err(AllocError)
-    }
+        requires kinds { made.rel.kinds ≡ kinds2 (binary_of op.now) left.kinds right.kinds }
+        requires rows { made.rel.rows ≡ step2 (binary_of op.now) left.rows right.rows }
+        requires found { made.found ≡ finding2 (binary_of op.now) left.rows right.rows }
+        requires turned { made.turned ≡ turned_of made.found (want_at_once (at_once self.now) want) }
+        ensures rel { IfOk result (λ kept. kept.0 ≡ made.rel) }
+        ensures lineage { IfOk result (λ kept. meaning self.now kept.1 ≡ local_of made.found want) }
+        ensures left { IfOk result (λ kept. leaves2 self.now (binary_of op.now) left right want kept.1) };
 
     /// The lineage that is pending.
     fn finish<R: Threads + Sync>(
@@ -161,6 +122,7 @@ pub trait OpBody: InPieces {
         ensures { IfOk result (λ local. local ≡ meaning self.now pending) };
 
     /// A step over its input: its rows, and the wanted lineage as what is pending. Lineage may be wanted only where the body captures.
+    #[tactic(auto, using(crate::proofs::Standing::lineage1))]
     final fn apply1<R: Threads + Sync>(
         &self,
         rt: &R,
@@ -178,14 +140,20 @@ pub trait OpBody: InPieces {
         ensures lineage { IfOk result (λ made. meaning self.now made.1 ≡ local1 (unary_of op.now) input.rows want) }
         ensures left { IfOk result (λ made. leaves1 self.now (unary_of op.now) input want made.1) }
     {
-        let Some(cut) = self.cut1(alloc, op, &input, want)? else {
-            return self.whole1(alloc, op, input, want);
+        let input = input.shared(alloc)?;
+        let work = Work {
+            rt,
+            alloc,
+            crew: self,
         };
-        let made = made1(rt, alloc, self, op, &input, want, &cut)?;
-        self.gather1(rt, alloc, op, input, want, cut, made)
+        let found = find1(&work, op, &input)?;
+        let asked = asked_of(self.lists_at_once(), Want::of_left(want));
+        let (rel, turned) = rows_and_turned1(&work, op, &input, &found, asked)?;
+        self.keep1(alloc, op, input, Made { rel, found, turned }, want)
     }
 
     /// A step over its two inputs, likewise. It is refused for `Rows` exactly where it has more than 1,048,576 rows.
+    #[tactic(auto, using(crate::proofs::Standing::lineage2))]
     final fn apply2<R: Threads + Sync>(
         &self,
         rt: &R,
@@ -206,10 +174,24 @@ pub trait OpBody: InPieces {
         ensures few { OnOk result (length (step2 (binary_of op.now) left.rows right.rows) ≤ ROW_LIMIT) }
         ensures many { IfErr result (λ e. e ≡ OpFault.Rows → ROW_LIMIT < length (step2 (binary_of op.now) left.rows right.rows)) }
     {
-        let Some(cut) = self.cut2(alloc, op, &left, &right, want)? else {
-            return self.whole2(alloc, op, left, right, want);
+        let left = left.shared(alloc)?;
+        let right = right.shared(alloc)?;
+        let work = Work {
+            rt,
+            alloc,
+            crew: self,
         };
-        let made = made2(rt, alloc, self, op, &left, &right, want, &cut)?;
-        Ok(self.gather2(rt, alloc, op, left, right, want, cut, made)?)
+        let found = find2(&work, op, &left, &right)?;
+        let asked = asked_of(self.lists_at_once(), want);
+        let (rel, turned) = rows_and_turned2(&work, op, &left, &right, &found, asked)?;
+        let kept = self.keep2(alloc, op, left, right, Made { rel, found, turned }, want)?;
+        Ok(kept)
     }
+}
+
+// What is wanted of the lists that are made with the rows.
+fn asked_of(at_once: bool, want: Want) -> Want
+    ensures { result ≡ want_at_once at_once want }
+{
+    if at_once { want } else { Want::none() }
 }

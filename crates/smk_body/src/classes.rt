@@ -1,6 +1,5 @@
 ghost use Rattle.std.specs.Prelude.{◌≡◌, IfOk};
 ghost use Rattle.smk_base.specs.Places.{upto};
-ghost use Rattle.smk_model.specs.Plain.{firsts};
 ghost use Rattle.smk_keys.specs.Classes.{classes_of};
 
 use smk_base::Rel;
@@ -11,20 +10,8 @@ use std::alloc::{AllocError, Global};
 pub fn row_classes(alloc: Global, rel: &Rel) -> Result<Classes, AllocError>
     ensures { IfOk result (λ made. made ≡ classes_of rel.now.rows) }
 {
-    let _rows = rel.len();
     let columns = all_columns(alloc, rel.width())?;
     Classes::of_rows(alloc, rel, columns.as_slice())
-}
-
-/// The rows, each at its first occurrence, from their classes.
-pub fn first_rows(alloc: Global, rel: &Rel, classes: &Classes) -> Result<Rel, AllocError>
-    requires { classes.now ≡ classes_of rel.now.rows }
-    ensures kinds { IfOk result (λ made. made.kinds ≡ rel.now.kinds) }
-    ensures rows { IfOk result (λ made. made.rows ≡ firsts rel.now.rows) }
-{
-    let _rows = rel.len();
-    let made = rel.gather(alloc, classes.firsts())?;
-    Ok(made)
 }
 
 /// The numbers of so many columns.

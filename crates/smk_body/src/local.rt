@@ -1,4 +1,4 @@
-ghost use Rattle.std.specs.Prelude.{◌≡◌, None, Some};
+ghost use Rattle.std.specs.Prelude.{◌≡◌, None, Some, false};
 
 use smk_base::Dir;
 use smk_rid::RidMap;
@@ -22,6 +22,30 @@ pub struct Side {
 pub struct Local {
     pub left: Side,
     pub right: Option<Side>,
+}
+
+const NONE: Dir = Dir {
+    back: false,
+    fwd: false,
+};
+
+impl Want {
+    /// Nothing. It takes no memory.
+    pub fn none() -> Want
+        ensures { result ≡ record { left = record { back = false; fwd = false }; right = record { back = false; fwd = false } } }
+    {
+        Want {
+            left: NONE,
+            right: NONE,
+        }
+    }
+
+    /// This of the left side, and nothing of the right one. It takes no memory.
+    pub fn of_left(left: Dir) -> Want
+        ensures { result ≡ record { left = left; right = record { back = false; fwd = false } } }
+    {
+        Want { left, right: NONE }
+    }
 }
 
 impl Local {

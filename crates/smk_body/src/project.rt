@@ -12,7 +12,6 @@ pub fn images(alloc: Global, rel: &Rel, items: &[Item]) -> Result<Rel, AllocErro
     ensures kinds { IfOk result (λ made. made.kinds ≡ kinds1 (Projection items.now) rel.now.kinds) }
     ensures rows { IfOk result (λ made. made.rows ≡ step1 (Projection items.now) rel.now.rows) }
 {
-    let _rows = rel.len();
     let mut made = rel.pick_columns(alloc, &[])?;
     for item in items {
         let column = item_column(alloc, rel, item)?;

@@ -2,11 +2,9 @@ ghost use Rattle.std.specs.Prelude.{◌≡◌, ◌<◌, ◌≤◌, ◌++◌, IfO
 ghost use Rattle.std.specs.Ordering.{int_cmp};
 ghost use Rattle.std.specs.declared.cmp.Ordering.TheVariants.{Less, Equal, Greater};
 ghost use Rattle.smk_base.specs.PlanImage.{formula_of};
-ghost use Rattle.smk_base.specs.Plans.{Comparison, Selection};
+ghost use Rattle.smk_base.specs.Plans.{Comparison};
 ghost use Rattle.smk_base.specs.declared.plan.Operand.TheVariants as operands;
 ghost use Rattle.smk_base.specs.declared.plan.CmpOp.{CmpOp};
-ghost use Rattle.smk_model.specs.Plain.{step1};
-ghost use Rattle.smk_model.specs.Lineage.{meeting};
 ghost use Rattle.smk_model.specs.Kinds.{FormulaFits};
 ghost use Rattle.smk_model.specs.Values.{holds};
 ghost use Rattle.smk_body.specs.Halves.{ints_below, meeting_below};
@@ -77,7 +75,6 @@ fn compared(
     requires within { to ≤ length rel.now.rows }
     ensures { IfOk result (λ v. meeting_below (Comparison c op (operands.Lit value.now)) rel.now.rows from ++ v.items ≡ meeting_below (Comparison c op (operands.Lit value.now)) rel.now.rows to) }
 {
-    let _rows = rel.len();
     match value.as_cell() {
         CellRef::Int(n) => match rel.ints(c) {
             Ints::Small(items) => ints_selected(alloc, items, op, n, from, to),
@@ -156,20 +153,4 @@ fn stands(less: bool, equal: bool, greater: bool, x: i128, n: i128) -> bool
     } else {
         equal
     }
-}
-
-/// The rows of a selection, from the places of all rows that meet its predicate.
-pub fn selected_rows(
-    alloc: Global,
-    rel: &Rel,
-    pred: &Pred,
-    places: &[u32],
-) -> Result<Rel, AllocError>
-    requires { places.now ≡ meeting (formula_of pred.now) rel.now.rows }
-    ensures kinds { IfOk result (λ made. made.kinds ≡ rel.now.kinds) }
-    ensures rows { IfOk result (λ made. made.rows ≡ step1 (Selection (formula_of pred.now)) rel.now.rows) }
-{
-    let _rows = rel.len();
-    let made = rel.gather(alloc, places)?;
-    Ok(made)
 }

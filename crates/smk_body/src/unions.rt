@@ -11,18 +11,15 @@ use smk_base::{Kind, ROW_LIMIT, Rel};
 use smk_keys::Classes;
 use std::alloc::{AllocError, Global};
 
-/// The left rows, then the right rows. It is refused for `Rows` exactly where these are more than 1,048,576.
-pub fn union_all_rows(alloc: Global, left: Rel, right: &Rel) -> Result<Rel, OpFault>
-    requires { AllZip AreAlike left.kinds right.now.kinds }
-    ensures kinds { IfOk result (λ made. made.kinds ≡ wider_kinds left.kinds right.now.kinds) }
-    ensures rows { IfOk result (λ made. made.rows ≡ left.rows ++ right.now.rows) }
-    ensures many { IfErr result (λ e. e ≡ Rows → ROW_LIMIT < length (left.rows ++ right.now.rows)) }
+/// The left rows, then the right rows, which are few together.
+pub(crate) fn all_rows(alloc: Global, left: &Rel, right: &Rel) -> Result<Rel, AllocError>
+    requires alike { AllZip AreAlike left.now.kinds right.now.kinds }
+    requires few { length left.now.rows + length right.now.rows ≤ ROW_LIMIT }
+    ensures kinds { IfOk result (λ made. made.kinds ≡ wider_kinds left.now.kinds right.now.kinds) }
+    ensures rows { IfOk result (λ made. made.rows ≡ left.now.rows ++ right.now.rows) }
 {
-    if left.len() + right.len() > ROW_LIMIT {
-        return Err(OpFault::Rows);
-    }
-    let made = put_behind(alloc, left, right)?;
-    Ok(made)
+    let lefts = left.copy(alloc)?;
+    put_behind(alloc, lefts, right)
 }
 
 // The left rows, then the right rows, which are few.
@@ -40,13 +37,12 @@ fn put_behind(alloc: Global, left: Rel, right: &Rel) -> Result<Rel, AllocError>
 }
 
 /// The rows of both sides, left first, in classes of equal ones. It is refused for `Rows` exactly where there are more than 1,048,576 classes.
-pub fn union_classes(alloc: Global, left: &Rel, right: &Rel) -> Result<Classes, OpFault>
+pub(crate) fn union_classes(alloc: Global, left: &Rel, right: &Rel) -> Result<Classes, OpFault>
     requires { AllZip AreAlike left.now.kinds right.now.kinds }
     ensures classes { IfOk result (λ made. made ≡ classes_of (left.now.rows ++ right.now.rows)) }
     ensures few { IfOk result (λ made. length made.firsts ≤ ROW_LIMIT) }
     ensures many { IfErr result (λ e. e ≡ Rows → ROW_LIMIT < length (firsts (left.now.rows ++ right.now.rows))) }
 {
-    let _left_rows = left.len();
     let _right_rows = right.len();
     let columns = all_columns(alloc, left.width())?;
     let classes = Classes::of_both(alloc, left, columns.as_slice(), right, columns.as_slice())?;
@@ -57,7 +53,7 @@ pub fn union_classes(alloc: Global, left: &Rel, right: &Rel) -> Result<Classes, 
 }
 
 /// The rows of both sides, left first, each at its first occurrence, from their classes.
-pub fn union_rows(
+pub(crate) fn union_rows(
     alloc: Global,
     left: &Rel,
     right: &Rel,

@@ -19,6 +19,7 @@ use Rattle.smk_model.proofs.Firsts.{row_same, row_is, holds, holds_at, fold_appe
 use Rattle.smk_model.proofs.Classes.{place_in, found_below, found_at, same_place, first_below, classes_are}
 use Rattle.smk_model.proofs.Bulk.{bulk}
 use Rattle.smk_body.proofs.Classing.{few_firsts}
+use Rattle.smk_body.proofs.Siding.{classes_below}
 
 -- first occurrences have no other first occurrences than themselves
 pub firsts_twice : (xs : List Row) → firsts (firsts xs) ≡ firsts xs
@@ -49,6 +50,10 @@ whole_rows kinds rows cols fit e =
 
 pub all_rows : (rows : List Row) (places : List ℕ) → places ≡ upto (length rows) → rows_at rows places ≡ rows
 all_rows rows places e = ap (rows_at rows) e ∙ map_upto rows []
+
+-- all keys are among their first occurrences
+pub known : (keys all : List Row) → keys ≡ firsts all → All (λ p. p < length keys) (places_in keys all)
+known keys all e = rw e (classes_below all)
 
 -- a place among keys is at most their number, which it is for a key that isn't there
 pub place_within : (keys : List Row) (key : Row) → place_in keys key < length keys + 1

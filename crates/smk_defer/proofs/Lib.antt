@@ -1,3 +1,4 @@
 pub mod Keyed
 pub mod Partnered
 pub mod Single
+pub mod Standing

@@ -1,26 +1,21 @@
-ghost use Rattle.std.specs.Prelude.{◌≡◌, true};
+ghost use Rattle.std.specs.Prelude.{true, false};
 ghost use Rattle.smk_defer.specs.Kept.{step_local};
 ghost use Rattle.smk_defer.specs.Leaves.{Leaves1, Leaves2};
 
+use crate::distinct::{distinct1, distinct2};
 use crate::kept::{Kept, KeptOp};
 use crate::one::lineage1;
-use crate::rows::{rows1, rows2};
 use crate::two::lineage2;
 use smk_base::{Dir, Op1, Op2, Rel};
-use smk_body::{InPieces, Local, OpBody, OpFault, Want};
+use smk_body::{Crew, Local, Made, OpBody, Want};
 use std::alloc::{AllocError, Global};
 use std::thread::Threads;
 
-const NONE: Dir = Dir {
-    back: false,
-    fwd: false,
-};
-
-/// The body that keeps a step with its inputs and keys while it makes the rows, and makes its wanted lineage in `finish`.
+/// The body that keeps a step with its inputs and keys, and makes its wanted lineage in `finish`.
 #[derive(Drop)]
 pub struct Defer;
 
-impl InPieces for Defer {}
+impl Crew for Defer {}
 
 impl OpBody for Defer {
     type Pending = Kept;
@@ -28,6 +23,8 @@ impl OpBody for Defer {
     ghost meaning = { λ body kept. step_local kept.op kept.left kept.right kept.want };
 
     ghost may_capture = { λ body. true };
+
+    ghost at_once = { λ body. false };
 
     ghost leaves1 = { λ body op input want kept. Leaves1 op input want kept };
 
@@ -37,47 +34,51 @@ impl OpBody for Defer {
         true
     }
 
-    fn whole1(
+    fn lists_at_once(&self) -> bool {
+        false
+    }
+
+    #[tactic(auto, using(crate::proofs::Standing::lineage1))]
+    fn keep1(
         &self,
         alloc: Global,
         op: &Op1,
         input: Rel,
+        made: Made,
         want: Dir,
     ) -> Result<(Rel, Kept), AllocError> {
-        let input = input.shared(alloc)?;
-        let (rel, keys) = rows1(alloc, op, &input)?;
+        let keys = distinct1(alloc, op, &input, &made)?;
         let kept = Kept {
             op: KeptOp::One(op.copy(alloc)?),
             keys,
             left: input,
             right: None,
-            want: Want {
-                left: want,
-                right: NONE,
-            },
-            out_rows: rel.len(),
+            want: Want::of_left(want),
+            out_rows: made.rel.len(),
         };
-        Ok((rel, kept))
+        Ok((made.rel, kept))
     }
 
-    fn whole2(
+    #[tactic(auto, using(crate::proofs::Standing::lineage2))]
+    fn keep2(
         &self,
         alloc: Global,
         op: &Op2,
         left: Rel,
         right: Rel,
+        made: Made,
         want: Want,
-    ) -> Result<(Rel, Kept), OpFault> {
-        let (rel, keys) = rows2(alloc, op, &left, &right)?;
+    ) -> Result<(Rel, Kept), AllocError> {
+        let keys = distinct2(alloc, op, &left, &right, &made.rel)?;
         let kept = Kept {
             op: KeptOp::Two(op.copy(alloc)?),
             keys,
             left,
             right: Some(right),
             want,
-            out_rows: rel.len(),
+            out_rows: made.rel.len(),
         };
-        Ok((rel, kept))
+        Ok((made.rel, kept))
     }
 
     fn finish<R: Threads + Sync>(
@@ -86,25 +87,11 @@ impl OpBody for Defer {
         alloc: Global,
         kept: Kept,
     ) -> Result<Local, AllocError> {
+        let keys = &kept.keys;
         match &kept.op {
-            KeptOp::One(op) => lineage1(
-                alloc,
-                op,
-                &kept.left,
-                &kept.keys,
-                kept.out_rows,
-                kept.want.left,
-            ),
+            KeptOp::One(op) => lineage1(alloc, op, &kept.left, keys, kept.want.left),
             KeptOp::Two(op) => match &kept.right {
-                Some(right) => lineage2(
-                    alloc,
-                    op,
-                    &kept.left,
-                    right,
-                    &kept.keys,
-                    kept.out_rows,
-                    kept.want,
-                ),
+                Some(right) => lineage2(alloc, op, &kept.left, right, keys, kept.want),
                 None => unreachable!(),
             },
         }

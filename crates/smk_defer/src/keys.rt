@@ -9,9 +9,11 @@ ghost use Rattle.smk_keys.specs.Classes.{classes_of};
 ghost use Rattle.smk_keys.specs.Keys.{place_or_last};
 ghost use Rattle.smk_model.specs.Classes.{places_in};
 ghost use Rattle.smk_model.specs.Plain.{firsts};
+ghost use Rattle.smk_body.specs.Findings.{side_by_targets};
 
 use crate::numbers::numbers;
-use smk_base::{CellRef, Rel, Row, Value};
+use smk_base::{CellRef, Dir, Rel, Row, Value};
+use smk_body::{Side, side_of_classes};
 use smk_keys::{Classes, KeyTable};
 use std::alloc::{AllocError, Global};
 
@@ -63,7 +65,8 @@ pub(crate) fn key_places(
     keys: &KeyTable,
 ) -> Result<Vec<u32>, AllocError>
     requires { All (λ c. c < length rel.now.kinds) cols.now }
-    ensures { IfOk result (λ made. made.items ≡ places_in keys.now (map (picked cols.now) rel.now.rows)) }
+    ensures places { IfOk result (λ made. made.items ≡ places_in keys.now (map (picked cols.now) rel.now.rows)) }
+    ensures few { IfOk result (λ made. length made.items ≤ ROW_LIMIT) }
 {
     let _rows = rel.len();
     let classes = Classes::of_rows(alloc, rel, cols)?;
@@ -76,14 +79,34 @@ pub(crate) fn key_places(
     Ok(made)
 }
 
-/// For each row its own place among these keys, and their number where it isn't there.
-pub(crate) fn row_places(alloc: Global, rel: &Rel, keys: &KeyTable) -> Result<Vec<u32>, AllocError>
-    ensures { IfOk result (λ made. made.items ≡ places_in keys.now rel.now.rows) }
+/// The wanted lists of the side of these rows, where each reaches the row of its key among these keys, in their order.
+pub(crate) fn side_by_keys(
+    alloc: Global,
+    rel: &Rel,
+    cols: &[u32],
+    keys: &KeyTable,
+    want: Dir,
+) -> Result<Side, AllocError>
+    requires columns { All (λ c. c < length rel.now.kinds) cols.now }
+    requires known { All (λ p. p < length keys.now) (places_in keys.now (map (picked cols.now) rel.now.rows)) }
+    ensures { IfOk result (λ side. side ≡ side_by_targets want (places_in keys.now (map (picked cols.now) rel.now.rows)) (length keys.now)) }
 {
-    let _rows = rel.len();
+    let places = key_places(alloc, rel, cols, keys)?;
+    side_of_classes(alloc, places.as_slice(), keys.len(), want)
+}
+
+/// The same, where the rows are the keys.
+pub(crate) fn side_by_rows(
+    alloc: Global,
+    rel: &Rel,
+    keys: &KeyTable,
+    want: Dir,
+) -> Result<Side, AllocError>
+    requires { All (λ p. p < length keys.now) (places_in keys.now rel.now.rows) }
+    ensures { IfOk result (λ side. side ≡ side_by_targets want (places_in keys.now rel.now.rows) (length keys.now)) }
+{
     let cols = numbers(alloc, rel.width())?;
-    let made = key_places(alloc, rel, cols.as_slice(), keys)?;
-    Ok(made)
+    side_by_keys(alloc, rel, cols.as_slice(), keys, want)
 }
 
 // For each of these places the place of its row's key among the keys, and their number where it isn't there.

@@ -1,13 +1,13 @@
-//! The body that defers lineage: with a step's rows it keeps what the lineage is made from, the step, its inputs and its keys; `finish` makes the lists.
+//! The body that defers: of each step it keeps what the lineage is made from, the step, its inputs and its keys; `finish` makes the lists.
 #![tactic(auto)]
 
 mod defer;
+mod distinct;
 mod join;
 mod kept;
 mod keys;
 mod numbers;
 mod one;
-mod rows;
 mod two;
 
 pub use defer::Defer;

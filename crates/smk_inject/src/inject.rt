@@ -1,9 +1,7 @@
 ghost use Rattle.std.specs.Prelude.{true};
 
-use crate::one::{distinct, group, project, select};
-use crate::two::{join, union, union_all};
 use smk_base::{Dir, Op1, Op2, Rel};
-use smk_body::{InPieces, Local, OpBody, OpFault, Want};
+use smk_body::{Crew, Local, Made, OpBody, Want, lineage};
 use std::alloc::{AllocError, Global};
 use std::thread::Threads;
 
@@ -11,7 +9,7 @@ use std::thread::Threads;
 #[derive(Drop)]
 pub struct Inject;
 
-impl InPieces for Inject {}
+impl Crew for Inject {}
 
 impl OpBody for Inject {
     type Pending = Local;
@@ -20,43 +18,39 @@ impl OpBody for Inject {
 
     ghost may_capture = { λ body. true };
 
+    ghost at_once = { λ body. true };
+
     fn captures(&self) -> bool {
         true
     }
 
-    fn whole1(
-        &self,
-        alloc: Global,
-        op: &Op1,
-        input: Rel,
-        want: Dir,
-    ) -> Result<(Rel, Local), AllocError> {
-        let input = input.shared(alloc)?;
-        match op {
-            Op1::Select(pred) => select(alloc, &input, pred, want),
-            Op1::Project(items) => project(alloc, &input, items.as_slice(), want),
-            Op1::Distinct(items) => distinct(alloc, &input, items.as_slice(), want),
-            Op1::Group(keys, aggs) => group(alloc, &input, keys.as_slice(), aggs.as_slice(), want),
-        }
+    fn lists_at_once(&self) -> bool {
+        true
     }
 
-    fn whole2(
+    fn keep1(
         &self,
         alloc: Global,
-        op: &Op2,
-        left: Rel,
-        right: Rel,
+        _op: &Op1,
+        _input: Rel,
+        made: Made,
+        want: Dir,
+    ) -> Result<(Rel, Local), AllocError> {
+        let local = lineage(alloc, made.found, made.turned, Want::of_left(want))?;
+        Ok((made.rel, local))
+    }
+
+    fn keep2(
+        &self,
+        alloc: Global,
+        _op: &Op2,
+        _left: Rel,
+        _right: Rel,
+        made: Made,
         want: Want,
-    ) -> Result<(Rel, Local), OpFault> {
-        let (rel, local) = match op {
-            Op2::Join(_) => join(alloc, op, left, &right, want)?,
-            Op2::Theta(_) => join(alloc, op, left, &right, want)?,
-            Op2::Product => join(alloc, op, left, &right, want)?,
-            Op2::UnionAll => union_all(alloc, left, &right, want)?,
-            Op2::Union => union(alloc, &left, &right, want)?,
-        };
-        let _rows = rel.len();
-        Ok((rel, local))
+    ) -> Result<(Rel, Local), AllocError> {
+        let local = lineage(alloc, made.found, made.turned, want)?;
+        Ok((made.rel, local))
     }
 
     fn finish<R: Threads + Sync>(

@@ -1,8 +1,7 @@
-ghost use Rattle.std.specs.Prelude.{◌≡◌, None, false};
+ghost use Rattle.std.specs.Prelude.{false};
 
 use smk_base::{Dir, Op1, Op2, Rel};
-use smk_body::steps::{distinct, group, join_onto, select, union};
-use smk_body::{InPieces, Local, OpBody, OpFault, Side, Want, images, union_all_rows};
+use smk_body::{Crew, Local, Made, OpBody, Want, nothing};
 use std::alloc::{AllocError, Global};
 use std::thread::Threads;
 
@@ -10,7 +9,7 @@ use std::thread::Threads;
 #[derive(Drop)]
 pub struct Plain;
 
-impl InPieces for Plain {}
+impl Crew for Plain {}
 
 impl OpBody for Plain {
     type Pending = Local;
@@ -19,44 +18,39 @@ impl OpBody for Plain {
 
     ghost may_capture = { λ body. false };
 
+    ghost at_once = { λ body. false };
+
     fn captures(&self) -> bool {
         false
     }
 
-    fn whole1(
-        &self,
-        alloc: Global,
-        op: &Op1,
-        input: Rel,
-        _want: Dir,
-    ) -> Result<(Rel, Local), AllocError> {
-        let input = input.shared(alloc)?;
-        let rel = match op {
-            Op1::Select(pred) => select(alloc, &input, pred)?.0,
-            Op1::Project(items) => images(alloc, &input, items.as_slice())?,
-            Op1::Distinct(items) => distinct(alloc, &input, items.as_slice())?.0,
-            Op1::Group(keys, aggs) => group(alloc, &input, keys.as_slice(), aggs.as_slice())?.0,
-        };
-        Ok((rel, no_local(None)))
+    fn lists_at_once(&self) -> bool {
+        false
     }
 
-    fn whole2(
+    fn keep1(
         &self,
-        alloc: Global,
-        op: &Op2,
-        left: Rel,
-        right: Rel,
+        _alloc: Global,
+        _op: &Op1,
+        _input: Rel,
+        made: Made,
+        _want: Dir,
+    ) -> Result<(Rel, Local), AllocError> {
+        let local = nothing(&made.found);
+        Ok((made.rel, local))
+    }
+
+    fn keep2(
+        &self,
+        _alloc: Global,
+        _op: &Op2,
+        _left: Rel,
+        _right: Rel,
+        made: Made,
         _want: Want,
-    ) -> Result<(Rel, Local), OpFault> {
-        let rel = match op {
-            Op2::Join(_) => join_onto(alloc, op, left, &right)?.0,
-            Op2::Theta(_) => join_onto(alloc, op, left, &right)?.0,
-            Op2::Product => join_onto(alloc, op, left, &right)?.0,
-            Op2::UnionAll => union_all_rows(alloc, left, &right)?,
-            Op2::Union => union(alloc, &left, &right)?.0,
-        };
-        let _rows = rel.len();
-        Ok((rel, no_local(Some(no_side()))))
+    ) -> Result<(Rel, Local), AllocError> {
+        let local = nothing(&made.found);
+        Ok((made.rel, local))
     }
 
     fn finish<R: Threads + Sync>(
@@ -66,25 +60,5 @@ impl OpBody for Plain {
         pending: Local,
     ) -> Result<Local, AllocError> {
         Ok(pending)
-    }
-}
-
-// No lineage on the left, and this on the right.
-fn no_local(right: Option<Side>) -> Local
-    ensures { result ≡ record { left = record { back = None; fwd = None }; right = right } }
-{
-    Local {
-        left: no_side(),
-        right,
-    }
-}
-
-// No lineage on a side.
-fn no_side() -> Side
-    ensures { result ≡ record { back = None; fwd = None } }
-{
-    Side {
-        back: None,
-        fwd: None,
     }
 }

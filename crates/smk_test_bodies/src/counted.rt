@@ -4,12 +4,12 @@ ghost use Rattle.smk_model.specs.Kinds.{Fits1};
 
 use crate::no_steps::NoSteps;
 use smk_base::{Dir, Op1, Op2, Rel};
-use smk_body::{Cut, InPieces, Local, OpBody, OpFault, Piece, Want};
+use smk_body::{Crew, Local, Made, OpBody, Want};
 use std::alloc::{AllocError, Global};
 use std::sync::atomic::{AtomicU64, Ordering};
 use std::thread::Threads;
 
-/// How often a body carried out a step with one input, one with two, and made the lineage of a step.
+/// How often a body was to keep a step with one input, one with two, and to make the lineage of a step.
 #[derive(Clone, Copy, Debug, PartialEq, Eq)]
 pub struct Calls {
     pub one: u64,
@@ -17,7 +17,7 @@ pub struct Calls {
     pub finish: u64,
 }
 
-/// A body that hands each call on to another, and counts the calls: a step with one input is one, whether it is done whole or gathered from pieces, and so is one with two inputs. A step that is refused after its pieces have counted isn't carried out, and isn't counted.
+/// A body that hands each call on to another, and counts them. A step that is refused before its rows are made isn't kept, and isn't counted.
 #[derive(Drop)]
 pub struct Counted<B: OpBody> {
     inner: B,
@@ -49,76 +49,13 @@ impl<B: OpBody> Counted<B> {
     }
 }
 
-impl<B: OpBody> InPieces for Counted<B> {
-    ghost cuts1 = { λ it op input want cut. B.cuts1 it.inner op input want cut };
-
-    ghost makes1 = { λ it op input want cut p piece. B.makes1 it.inner op input want cut p piece };
-
-    ghost cuts2 = { λ it op left right want cut. B.cuts2 it.inner op left right want cut };
-
-    ghost counts2 = { λ it op left right want cut p. B.counts2 it.inner op left right want cut p };
-
-    ghost makes2 = { λ it op left right want cut p piece. B.makes2 it.inner op left right want cut p piece };
-
-    fn cut1(
-        &self,
-        alloc: Global,
-        op: &Op1,
-        input: &Rel,
-        want: Dir,
-    ) -> Result<Option<Cut>, AllocError> {
-        self.inner.cut1(alloc, op, input, want)
+impl<B: OpBody> Crew for Counted<B> {
+    fn parts(&self) -> u32 {
+        self.inner.parts()
     }
 
-    fn piece1(
-        &self,
-        alloc: Global,
-        op: &Op1,
-        input: &Rel,
-        want: Dir,
-        cut: &Cut,
-        p: usize,
-    ) -> Result<Piece, AllocError> {
-        self.inner.piece1(alloc, op, input, want, cut, p)
-    }
-
-    fn cut2(
-        &self,
-        alloc: Global,
-        op: &Op2,
-        left: &Rel,
-        right: &Rel,
-        want: Want,
-    ) -> Result<Option<Cut>, AllocError> {
-        self.inner.cut2(alloc, op, left, right, want)
-    }
-
-    fn count2(
-        &self,
-        alloc: Global,
-        op: &Op2,
-        left: &Rel,
-        right: &Rel,
-        want: Want,
-        cut: &Cut,
-        p: usize,
-    ) -> Result<u32, AllocError> {
-        self.inner.count2(alloc, op, left, right, want, cut, p)
-    }
-
-    fn piece2(
-        &self,
-        alloc: Global,
-        op: &Op2,
-        left: &Rel,
-        right: &Rel,
-        want: Want,
-        cut: &Cut,
-        p: usize,
-        count: u32,
-    ) -> Result<Piece, AllocError> {
-        self.inner
-            .piece2(alloc, op, left, right, want, cut, p, count)
+    fn arrive(&self, p: u32) {
+        self.inner.arrive(p);
     }
 }
 
@@ -129,6 +66,8 @@ impl<B: OpBody> OpBody for Counted<B> {
 
     ghost may_capture = { λ it. B.may_capture it.inner };
 
+    ghost at_once = { λ it. B.at_once it.inner };
+
     ghost leaves1 = { λ it op input want pending. B.leaves1 it.inner op input want pending };
 
     ghost leaves2 = { λ it op left right want pending. B.leaves2 it.inner op left right want pending };
@@ -137,57 +76,33 @@ impl<B: OpBody> OpBody for Counted<B> {
         self.inner.captures()
     }
 
-    fn whole1(
+    fn lists_at_once(&self) -> bool {
+        self.inner.lists_at_once()
+    }
+
+    fn keep1(
         &self,
         alloc: Global,
         op: &Op1,
         input: Rel,
+        made: Made,
         want: Dir,
     ) -> Result<(Rel, B::Pending), AllocError> {
         self.one.fetch_add(1, Ordering::SeqCst);
-        self.inner.whole1(alloc, op, input, want)
+        self.inner.keep1(alloc, op, input, made, want)
     }
 
-    fn gather1<R: Threads + Sync>(
-        &self,
-        rt: &R,
-        alloc: Global,
-        op: &Op1,
-        input: Rel,
-        want: Dir,
-        cut: Cut,
-        made: Vec<Piece>,
-    ) -> Result<(Rel, B::Pending), AllocError> {
-        self.one.fetch_add(1, Ordering::SeqCst);
-        self.inner.gather1(rt, alloc, op, input, want, cut, made)
-    }
-
-    fn whole2(
+    fn keep2(
         &self,
         alloc: Global,
         op: &Op2,
         left: Rel,
         right: Rel,
+        made: Made,
         want: Want,
-    ) -> Result<(Rel, B::Pending), OpFault> {
-        self.two.fetch_add(1, Ordering::SeqCst);
-        self.inner.whole2(alloc, op, left, right, want)
-    }
-
-    fn gather2<R: Threads + Sync>(
-        &self,
-        rt: &R,
-        alloc: Global,
-        op: &Op2,
-        left: Rel,
-        right: Rel,
-        want: Want,
-        cut: Cut,
-        made: Vec<Piece>,
     ) -> Result<(Rel, B::Pending), AllocError> {
         self.two.fetch_add(1, Ordering::SeqCst);
-        self.inner
-            .gather2(rt, alloc, op, left, right, want, cut, made)
+        self.inner.keep2(alloc, op, left, right, made, want)
     }
 
     fn finish<R: Threads + Sync>(

@@ -1,7 +1,7 @@
-ghost use Rattle.std.specs.Prelude.{◌≡◌, false};
+ghost use Rattle.std.specs.Prelude.{false};
 
 use smk_base::{Dir, Op1, Op2, Rel};
-use smk_body::{InPieces, Local, OpBody, OpFault, Want};
+use smk_body::{Crew, Local, Made, OpBody, Want};
 use std::alloc::{AllocError, Global};
 use std::thread::Threads;
 
@@ -9,7 +9,7 @@ use std::thread::Threads;
 #[derive(Drop)]
 pub struct NoSteps;
 
-impl InPieces for NoSteps {}
+impl Crew for NoSteps {}
 
 impl OpBody for NoSteps {
     type Pending = Local;
@@ -17,6 +17,8 @@ impl OpBody for NoSteps {
     ghost meaning = { λ body local. local };
 
     ghost may_capture = { λ body. false };
+
+    ghost at_once = { λ body. false };
 
     ghost leaves1 = { λ body op input want pending. ⊥ };
 
@@ -26,25 +28,31 @@ impl OpBody for NoSteps {
         false
     }
 
-    fn whole1(
+    fn lists_at_once(&self) -> bool {
+        false
+    }
+
+    fn keep1(
         &self,
         _alloc: Global,
         _op: &Op1,
         _input: Rel,
+        _made: Made,
         _want: Dir,
     ) -> Result<(Rel, Local), AllocError> {
         Err(AllocError)
     }
 
-    fn whole2(
+    fn keep2(
         &self,
         _alloc: Global,
         _op: &Op2,
         _left: Rel,
         _right: Rel,
+        _made: Made,
         _want: Want,
-    ) -> Result<(Rel, Local), OpFault> {
-        Err(OpFault::NoMemory)
+    ) -> Result<(Rel, Local), AllocError> {
+        Err(AllocError)
     }
 
     fn finish<R: Threads + Sync>(

@@ -1,8 +1,6 @@
 use Rattle.std.proofs.Common.{◌≡◌, ◌∙◌, ℕ, ℤ, List, length, pos, map, ap, subst, vec_len}
 use Rattle.std.specs.Result.{IfOk}
 use Rattle.smk_base.specs.Places.{upto}
-use Rattle.smk_rid.specs.Maps.{size_of}
-use Rattle.smk_model.specs.Locals.{singles}
 use Rattle.smk_model.proofs.Places.{map_map}
 use Rattle.smk_model.proofs.Directions.{length_each}
 use Rattle.smk_body.specs.Halves.{class_places}
@@ -27,9 +25,3 @@ pub returns-in_ok-made-in-None-clause-counts : goal.returns-in_ok-made-in-None-c
 returns-in_ok-made-in-None-clause-counts c =
     let sizes = c.as_slice.ensures.value ∙ c.in_ok-made-in-None.ensures.sizes in
     subst (λ (z : List ℤ). IfOk c.as_ints-in-None.result (λ v. v.items ≡ z)) (ap (map pos) sizes ∙ counts_are c.args.of.now c.args.count) c.as_ints-in-None.ensures.ints
-
-pub returns-in_ok-made-in-None-clause-long : goal.returns-in_ok-made-in-None-clause-long
-returns-in_ok-made-in-None-clause-long c =
-    let of = c.args.of.now in
-    let sizes = c.as_slice.ensures.value ∙ c.in_ok-made-in-None.ensures.sizes in
-    subst (λ (n : ℕ). IfOk c.as_ints-in-None.result (λ v. vec_len v ≡ n)) (ap length sizes ∙ length_each (size_of (singles of c.args.count).lists (length of)) c.args.count) c.as_ints-in-None.ensures.long

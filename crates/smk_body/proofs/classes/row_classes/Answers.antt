@@ -15,7 +15,7 @@ of_rows-requires c = rw (c.as_slice.ensures.value, c.in_ok-columns.ensures, c.wi
 pub returns : goal.returns
 returns c =
     let rel = c.args.rel.now in
-    let long : All (λ (row : Row). length row ≡ length rel.kinds) rel.rows = All-weaker (RowFits rel.kinds) (λ row. length row ≡ length rel.kinds) (λ row fits. AllZip-long Fits rel.kinds row fits) rel.rows c.len-rows.ensures.keeps.fit in
+    let long : All (λ (row : Row). length row ≡ length rel.kinds) rel.rows = All-weaker (RowFits rel.kinds) (λ row. length row ≡ length rel.kinds) (λ row fits. AllZip-long Fits rel.kinds row fits) rel.rows c.width.ensures.keeps.fit in
     subst (λ (z : ClassesImage). IfOk c.of_rows.result (λ made. made ≡ z))
     (ap (λ (cols : List ℕ). classes_of (map (picked cols) rel.rows)) (c.as_slice.ensures.value ∙ c.in_ok-columns.ensures ∙ ap upto c.width.ensures.count)
     ∙ ap classes_of (bulk.whole (length rel.kinds) rel.rows long))

@@ -12,8 +12,8 @@ join-lefts-requires-after_bounds g t c κs within =
     let at = c.split_at.ensures in
     let low = lower_places c.split_at.result.1.now at.front at.front_len at.back_len c.requires in
     let high = upper_places _ at.back at.back_len c.requires in (
-      (search rules, ((λ a m. m), ((search sendable depth 20, low), search sendable depth 20))),
-      (search rules, ((λ a m. m), ((search sendable depth 20, high), search sendable depth 20))),
+      (search rules, ((λ a m. m), ((λ a m. m), ((search sendable depth 20, search sendable depth 20, low), search sendable depth 20)))),
+      (search rules, ((λ a m. m), ((λ a m. m), ((search sendable depth 20, search sendable depth 20, high), search sendable depth 20)))),
     )
 
 pub columns_at-requires : goal.columns_at-requires

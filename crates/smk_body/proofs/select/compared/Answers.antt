@@ -6,7 +6,7 @@ use Rattle.smk_base.specs.declared.plan.Operand.TheVariants as operands
 use Rattle.smk_base.specs.declared.value.Value.{Value}
 use Rattle.smk_base.specs.declared.value.Value.TheVariants as values
 use Rattle.smk_body.specs.Halves.{ints_below, meeting_below}
-use Rattle.smk_body.proofs.Selecting.{ints_meet}
+use Rattle.smk_body.proofs.Comparing.{ints_meet}
 use Rattle.smk_body.proofs.select.compared.Goals as goal
 
 pub returns-in-Small : goal.returns-in-Small

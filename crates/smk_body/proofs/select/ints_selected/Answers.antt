@@ -1,9 +1,9 @@
-use Rattle.std.proofs.Common.{◌≡◌, ◌∙◌, ◌<◌, ◌++◌, ℕ, ℤ, pos, List, Vec, Global, length, take, ap, sym, arith, get_or, int_cmp, rules, slice_set, subst, to_z, of_z, w64}
+use Rattle.std.proofs.Common.{◌≡◌, ◌∙◌, ◌<◌, ◌++◌, ℕ, pos, Vec, Global, length, take, ap, sym, arith, get_or, int_cmp, rules, slice_set, subst, to_z, of_z, w64}
 use Rattle.std.proofs.lemmas.List.{length-set, length-take-le}
 use Rattle.std.specs.Int.{w128}
 use Rattle.smk_model.specs.Values.{holds}
 use Rattle.smk_body.specs.Halves.{ints_below}
-use Rattle.smk_body.proofs.Selecting.{passed_in_block, missed_in_block, put_block}
+use Rattle.smk_body.proofs.Comparing.{passed_in_block, missed_in_block, put_block}
 use Rattle.smk_body.proofs.select.ints_selected.Goals as goal
 use Rattle.smk_body.proofs.select.ints_selected.Goals.{then-count-eq-BLOCK+in_ok-extend_from_slice, else-count-eq-BLOCK, then-stands, else-stands}
 

@@ -3,7 +3,7 @@ use Rattle.smk_base.specs.PlanImage.{formula_of}
 use Rattle.smk_body.specs.Halves.{meeting_below}
 use Rattle.smk_model.specs.Values.{meets}
 use Rattle.smk_model.specs.Lineage.{row_at}
-use Rattle.smk_body.proofs.Selecting.{passed_next, missed_next}
+use Rattle.smk_body.proofs.Comparing.{passed_next, missed_next}
 use Rattle.smk_body.proofs.select.rows_selected.Goals.{then-meets_at+in_ok-push, else-meets_at}
 use Rattle.smk_body.proofs.select.rows_selected.Goals as goal
 

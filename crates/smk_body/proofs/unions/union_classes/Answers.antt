@@ -19,7 +19,7 @@ returns-clause-classes c =
     c.in_ok-classes.ensures
     ∙ ap (λ (z : List ℕ). classes_of (map (picked z) left.rows ++ map (picked c.as_slice-2.result.now) right.rows)) (c.as_slice.ensures.value ∙ cols)
     ∙ ap (λ (z : List ℕ). classes_of (map (picked (upto (length left.kinds))) left.rows ++ map (picked z) right.rows)) (c.as_slice-2.ensures.value ∙ cols)
-    ∙ ap classes_of (all_columns_of left.kinds right.kinds left.rows right.rows c.requires c.len-left_rows.ensures.keeps.fit c.len-right_rows.ensures.keeps.fit)
+    ∙ ap classes_of (all_columns_of left.kinds right.kinds left.rows right.rows c.requires c.width.ensures.keeps.fit c.len-right_rows.ensures.keeps.fit)
 
 pub returns-then-firsts-clause-many : goal.returns-then-firsts-clause-many
 returns-then-firsts-clause-many c = λ e.
@@ -29,7 +29,7 @@ returns-then-firsts-clause-many c = λ e.
     let is : c.in_ok-classes.classes ≡ classes_of (left.rows ++ right.rows) = c.in_ok-classes.ensures
     ∙ ap (λ (z : List ℕ). classes_of (map (picked z) left.rows ++ map (picked c.as_slice-2.result.now) right.rows)) (c.as_slice.ensures.value ∙ cols)
     ∙ ap (λ (z : List ℕ). classes_of (map (picked (upto (length left.kinds))) left.rows ++ map (picked z) right.rows)) (c.as_slice-2.ensures.value ∙ cols)
-    ∙ ap classes_of (all_columns_of left.kinds right.kinds left.rows right.rows c.requires c.len-left_rows.ensures.keeps.fit c.len-right_rows.ensures.keeps.fit) in
+    ∙ ap classes_of (all_columns_of left.kinds right.kinds left.rows right.rows c.requires c.width.ensures.keeps.fit c.len-right_rows.ensures.keeps.fit) in
     omega (arith, ap length (c.firsts.ensures ∙ ap (λ (m : ClassesImage). m.firsts) is), length_firsts (left.rows ++ right.rows))
 
 pub returns-clause-few : goal.returns-clause-few

@@ -36,8 +36,8 @@ loop-class-preserved c =
     let at : c.index.result.now ≡ F class = get_or_read c.in_ok-table.table.items class c.index.result.now low c.index.ensures 0 in
     rw (c.in_ok-push.ensures.items, at) (ap (λ (z : List ℕ). z ++ F class ∷ []) c.loop-class.invariant ∙ sym (map_more F c.of-of.result.now c.loop-class.class-index 0 c.loop-class-test.true))
 
-pub returns : goal.returns
-returns c =
+pub returns-clause-places : goal.returns-clause-places
+returns-clause-places c =
     let cols = c.args.cols.now in
     let rows = c.args.rel.now.rows in
     let keys = c.args.keys.now in

@@ -1,0 +1,39 @@
+-- How the rows of an input are cut into parts, and what each part of a step finds of its rows.
+use Rattle.std.specs.Prelude.{◌≡◌, ℕ, ◌<◌, ◌-◌, ◌*◌, ◌/◌, ◌↔◌, min, List, ◌++◌, length, map, slice_index_or, slice_range, sum_by}
+use Rattle.smk_base.specs.Places.{upto}
+use Rattle.smk_base.specs.Plans.{Formula}
+use Rattle.smk_base.specs.declared.rel.TheConstants.{ROW_LIMIT}
+use Rattle.smk_keys.specs.Classes.{ClassesImage, classes_of}
+use Rattle.smk_model.specs.Values.{Row}
+use Rattle.smk_model.specs.Plain.{key_of}
+use Rattle.smk_model.specs.Lineage.{lefts_of, rights_of}
+use Rattle.smk_body.specs.Halves.{PlacePairs, meeting_below, pairs_below}
+
+-- where part p of so many begins among n places: at p of so many parts of n, rounded down
+abbrev pub cut_at : ℕ → ℕ → ℕ → ℕ
+cut_at workers n p = (p * n) / workers
+
+-- that these were made by n parts, in the order of their numbers: what part p has made is what f says of p
+abbrev pub AreParts : {X : Type 0} → (ℕ → X → Type 0) → ℕ → List X → Type 0
+AreParts {X} f n made = (length made ≡ n) × ((p : ℕ) (d : X) → p < n → f p (slice_index_or made p d))
+
+-- that these are the places from one up to another whose rows meet a formula: behind those below the first they are those below the second
+abbrev pub HasPlaces : Formula → List Row → ℕ → ℕ → List ℕ → Type 0
+HasPlaces formula L from to places = meeting_below formula L from ++ places ≡ meeting_below formula L to
+
+-- that these are the pairs of the left places from one up to another, in the same way
+pub record HasPairs (partners_of : ℕ → List ℕ) (from to : ℕ) (made : PlacePairs) : Type 0 where
+  pub lefts : lefts_of (pairs_below partners_of from) ++ made.lefts ≡ lefts_of (pairs_below partners_of to)
+  pub rights : rights_of (pairs_below partners_of from) ++ made.rights ≡ rights_of (pairs_below partners_of to)
+
+-- that these are the classes of the keys of the rows from one place up to another
+abbrev pub HasKeys : List ℕ → List Row → ℕ → ℕ → ClassesImage → Type 0
+HasKeys keys L from to classes = classes ≡ classes_of (map (key_of keys) (slice_range L from to))
+
+-- how many pairs have a left place from one up to another, counted no further than one past the limit
+abbrev pub count_between : (ℕ → List ℕ) → ℕ → ℕ → ℕ
+count_between partners_of from to = min 1048577 (length (pairs_below partners_of to) - length (pairs_below partners_of from))
+
+-- that what f counts over n parts is more than 1,048,576 exactly where the number of rows is
+abbrev pub CountRows : (ℕ → ℕ) → ℕ → ℕ → Type 0
+CountRows f n rows = (ROW_LIMIT < sum_by f (upto n)) ↔ (ROW_LIMIT < rows)

@@ -1,0 +1,254 @@
+//! Groupings: the group of each row by its key.
+
+ghost use Rattle.std.specs.Prelude.{◌≡◌, ◌<◌, ◌≤◌, ◌+◌, ◌++◌, IfOk, OnOk, All, length, map, slice_index};
+ghost use Rattle.std.specs.Thread.{IsSync};
+ghost use Rattle.smk_model.specs.Plain.{key_of};
+ghost use Rattle.smk_keys.specs.Classes.{classes_of};
+ghost use Rattle.smk_body.specs.Cuts.{AreParts, HasKeys, cut_at};
+ghost use Rattle.smk_body.specs.Renumbered.{HasRoom, StandFor, key_total, numbers_from, row_total};
+
+use crate::classes::row_classes;
+use crate::crew::{Crew, LEAST_ROWS, Work};
+use crate::groups::Groups;
+use crate::parts::{cut_place, cut_range, in_parts};
+use crate::texts::{is_text_key, text_classes};
+use smk_base::Rel;
+use smk_keys::Classes;
+use std::alloc::{AllocError, Global};
+use std::marker::Sync;
+use std::thread::{Threads, join_mut};
+
+/// The groups of the rows by their keys, found by the crew.
+pub(crate) fn found_groups<R: Threads + Sync, C: Crew + Sync>(
+    work: &Work<'_, R, C>,
+    rel: &Rel,
+    keys: &[u32],
+) -> Result<Groups, AllocError>
+    requires keys { All (λ c. c < length rel.now.kinds) keys.now }
+    requires few_keys { length keys.now ≤ 16 }
+    ensures { IfOk result (λ groups. groups ≡ classes_of (map (key_of keys.now) rel.now.rows)) }
+{
+    let _rows = rel.len();
+    let classes = key_classes(work, rel, keys)?;
+    Ok(Groups::new(classes))
+}
+
+// The same as classes: alone, or in threads.
+fn key_classes<R: Threads + Sync, C: Crew + Sync>(
+    work: &Work<'_, R, C>,
+    rel: &Rel,
+    keys: &[u32],
+) -> Result<Classes, AllocError>
+    requires keys { All (λ c. c < length rel.now.kinds) keys.now }
+    requires few_keys { length keys.now ≤ 16 }
+    ensures { IfOk result (λ classes. classes ≡ classes_of (map (key_of keys.now) rel.now.rows)) }
+{
+    let workers = work.crew.parts();
+    if workers == 1 {
+        work.crew.arrive(0);
+        return Classes::of_rows(work.alloc, rel, keys);
+    }
+    if is_text_key(rel, keys) {
+        return text_classes(work, rel, keys[0], workers);
+    }
+    let parts = parts_classed(work, rel, keys, workers)?;
+    all_classes(work, rel, keys, workers, parts.as_slice())
+}
+
+// The classes of the keys of each part, in threads.
+fn parts_classed<R: Threads + Sync, C: Crew + Sync>(
+    work: &Work<'_, R, C>,
+    rel: &Rel,
+    keys: &[u32],
+    workers: u32,
+) -> Result<Vec<Classes>, AllocError>
+    requires keys { All (λ c. c < length rel.now.kinds) keys.now }
+    requires few { workers ≤ 64 }
+    ensures { IfOk result (λ made. AreParts (λ p. HasKeys keys.now rel.now.rows (cut_at workers (length rel.now.rows) p) (cut_at workers (length rel.now.rows) (p + 1))) workers made.items) }
+{
+    let made = in_parts(
+        work,
+        workers,
+        &|p| part_classed(work.crew, work.alloc, rel, keys, workers, p),
+    )?;
+    Ok(made)
+}
+
+// The classes of the keys of part p, in whatever thread.
+fn part_classed<C: Crew>(
+    crew: &C,
+    alloc: Global,
+    rel: &Rel,
+    keys: &[u32],
+    workers: u32,
+    p: usize,
+) -> Result<Classes, AllocError>
+    requires keys { All (λ c. c < length rel.now.kinds) keys.now }
+    requires few { workers ≤ 64 }
+    requires part { p < workers }
+    ensures { IfOk result (HasKeys keys.now rel.now.rows (cut_at workers (length rel.now.rows) p) (cut_at workers (length rel.now.rows) (p + 1))) }
+{
+    let number = p as u32;
+    crew.arrive(number);
+    let (from, to) = cut_range(workers, rel.len(), number);
+    Classes::of_rows_between(alloc, rel, keys, from, to)
+}
+
+// The classes of the keys of all rows, from those of the parts: a key that several parts have is one class, and the classes come in the order of the rows.
+fn all_classes<R: Threads + Sync, C: Crew + Sync>(
+    work: &Work<'_, R, C>,
+    rel: &Rel,
+    keys: &[u32],
+    workers: u32,
+    parts: &[Classes],
+) -> Result<Classes, AllocError>
+    requires keys { All (λ c. c < length rel.now.kinds) keys.now }
+    requires few_keys { length keys.now ≤ 16 }
+    requires some { 0 < workers }
+    requires few { workers ≤ 64 }
+    requires parts { AreParts (λ p. HasKeys keys.now rel.now.rows (cut_at workers (length rel.now.rows) p) (cut_at workers (length rel.now.rows) (p + 1))) workers parts.now }
+    ensures { IfOk result (λ classes. classes ≡ classes_of (map (key_of keys.now) rel.now.rows)) }
+{
+    let rows = rel.len() as usize;
+    let places = first_places(work.alloc, rel, keys, workers, parts)?;
+    // Where most keys differ, the parts have little in common, and all rows are numbered at once.
+    if places.len() > rows / 2 {
+        return Classes::of_rows(work.alloc, rel, keys);
+    }
+    let picked = rel.pick_columns(work.alloc, keys)?;
+    let first_keys = picked.gather(work.alloc, places.as_slice())?;
+    let classes = row_classes(work.alloc, &first_keys)?;
+    let mut of = vec![in work.alloc; 0u32; rows]?;
+    put_classes(work.rt, parts, classes.of(), 0, of.as_mut_slice());
+    let firsts = taken_at(work.alloc, places.as_slice(), classes.firsts())?;
+    Ok(Classes::of_parts(of, firsts))
+}
+
+// The place of the first row of each key of each part, one part behind the other.
+fn first_places(
+    alloc: Global,
+    rel: &Rel,
+    keys: &[u32],
+    workers: u32,
+    parts: &[Classes],
+) -> Result<Vec<u32>, AllocError>
+    requires some { 0 < workers }
+    requires few { workers ≤ 64 }
+    requires parts { AreParts (λ p. HasKeys keys.now rel.now.rows (cut_at workers (length rel.now.rows) p) (cut_at workers (length rel.now.rows) (p + 1))) workers parts.now }
+    ensures numbers { IfOk result (λ places. StandFor (map (key_of keys.now) rel.now.rows) (length rel.now.rows) places.items (numbers_from 0 parts.now)) }
+    ensures keys { IfOk result (λ places. length places.items ≡ key_total parts.now) }
+{
+    let rows = rel.len();
+    let mut places = Vec::new(alloc);
+    for p in 0..workers {
+        let from = cut_place(workers, rows, p);
+        push_moved(&mut places, from, parts[p as usize].firsts())?;
+    }
+    Ok(places)
+}
+
+// Puts numbers last, each more by another.
+fn push_moved(numbers: &mut Vec<u32>, by: u32, more: &[u32]) -> Result<(), AllocError>
+    requires { All (λ number. by + number < 4294967296) more.now }
+    ensures { OnOk result (numbers.new.items ≡ numbers.old.items ++ map (λ number. by + number) more.now) }
+{
+    for number in more {
+        numbers.push(by + *number)?;
+    }
+    Ok(())
+}
+
+// Puts in the place of each row of these parts the entry that a table has for its key, whose keys are numbered from one number on. The parts are halved, and where they have many rows each half has a thread.
+#[cycle(halves)]
+fn put_classes<R: Threads + Sync>(
+    rt: &R,
+    parts: &[Classes],
+    table: &[u32],
+    from: usize,
+    of: &mut [u32],
+)
+    requires { HasRoom from parts.now table.now of.old }
+    ensures { of.new ≡ map (slice_index table.now) (numbers_from from parts.now) }
+{
+    if parts.len() == 1 {
+        put_part(parts[0].of(), table, from, of);
+        return;
+    }
+    let (low, high) = parts.split_at(parts.len() / 2);
+    let (rows, keys) = row_and_key_counts(low);
+    let (front, back) = of.split_at_mut(rows);
+    both_halves(rt, table, low, from, front, high, from + keys, back);
+}
+
+// The same of two lists of parts.
+#[cycle(halves)]
+fn both_halves<R: Threads + Sync>(
+    rt: &R,
+    table: &[u32],
+    low: &[Classes],
+    from: usize,
+    front: &mut [u32],
+    high: &[Classes],
+    mid: usize,
+    back: &mut [u32],
+)
+    requires front { HasRoom from low.now table.now front.old }
+    requires back { HasRoom mid high.now table.now back.old }
+    ensures front { front.new ≡ map (slice_index table.now) (numbers_from from low.now) }
+    ensures back { back.new ≡ map (slice_index table.now) (numbers_from mid high.now) }
+{
+    if front.len() < LEAST_ROWS {
+        put_classes(rt, low, table, from, front);
+        put_classes(rt, high, table, mid, back);
+        return;
+    }
+    let mut lower = ||
+        requires { IsSync R.row × HasRoom from low.now table.now front.now }
+        ensures { front.exit.now ≡ map (slice_index table.entry.now) (numbers_from from low.entry.now) }
+    { put_classes(rt, low, table, from, front) };
+    let mut upper = ||
+        requires { IsSync R.row × HasRoom mid high.now table.now back.now }
+        ensures { back.exit.now ≡ map (slice_index table.entry.now) (numbers_from mid high.entry.now) }
+    { put_classes(rt, high, table, mid, back) };
+    join_mut(rt, &mut lower, &mut upper);
+}
+
+// Puts the entry that a table has for each of these classes, numbered from one number on.
+fn put_part(classes: &[u32], table: &[u32], from: usize, of: &mut [u32])
+    requires long { length of.old ≡ length classes.now }
+    requires keys { from ≤ length table.now }
+    requires within { All (λ class. from + class < length table.now) classes.now }
+    ensures { of.new ≡ map (λ class. slice_index table.now (from + class)) classes.now }
+{
+    let entries = &table[from..];
+    for k in 0..of.len() {
+        of[k] = entries[classes[k] as usize];
+    }
+}
+
+// How many rows these parts have, and how many keys.
+fn row_and_key_counts(parts: &[Classes]) -> (usize, usize)
+    requires rows { row_total parts.now < 18446744073709551616 }
+    requires keys { key_total parts.now < 18446744073709551616 }
+    ensures { result ≡ (row_total parts.now, key_total parts.now) }
+{
+    let mut rows = 0;
+    let mut keys = 0;
+    for part in parts {
+        rows += part.of().len();
+        keys += part.firsts().len();
+    }
+    (rows, keys)
+}
+
+// The numbers at these places.
+fn taken_at(alloc: Global, numbers: &[u32], places: &[u32]) -> Result<Vec<u32>, AllocError>
+    requires { All (λ place. place < length numbers.now) places.now }
+    ensures { IfOk result (λ taken. taken.items ≡ map (slice_index numbers.now) places.now) }
+{
+    let mut taken = Vec::with_capacity(alloc, places.len())?;
+    for place in places {
+        taken.push(numbers[*place as usize])?;
+    }
+    Ok(taken)
+}

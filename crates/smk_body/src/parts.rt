@@ -1,0 +1,80 @@
+//! Parts of the rows of an input.
+
+ghost use Rattle.std.specs.Prelude.{◌≡◌, ◌<◌, ◌≤◌, ◌+◌, ℕ, Ok, IfOk, length, map, slice_index_or, sum};
+ghost use Rattle.std.specs.Bool.{OnTrue, OnFalse};
+ghost use Rattle.smk_base.specs.declared.rel.TheConstants.{ROW_LIMIT};
+ghost use Rattle.smk_body.specs.Cuts.{cut_at};
+
+use crate::crew::{Crew, Work};
+use smk_base::ROW_LIMIT;
+use std::alloc::{AllocError, Global};
+use std::marker::{Send, Sync};
+use std::thread::{Threads, map_indices};
+
+/// Where part p of so many begins among n rows; the last ends where one more would begin. It takes no memory.
+#[tactic(auto, using(crate::proofs::Cutting::product_small))]
+pub(crate) fn cut_place(workers: u32, n: u32, p: u32) -> u32
+    requires some { 0 < workers }
+    requires few { workers ≤ 64 }
+    requires rows { n ≤ ROW_LIMIT }
+    requires part { p ≤ workers }
+    ensures { result ≡ cut_at workers n p }
+{
+    p * n / workers
+}
+
+/// From which row up to which part p goes. It takes no memory.
+#[tactic(auto, using(crate::proofs::Cutting::cut_grows, crate::proofs::Cutting::cut_within))]
+pub(crate) fn cut_range(workers: u32, n: u32, p: u32) -> (u32, u32)
+    requires few { workers ≤ 64 }
+    requires rows { n ≤ ROW_LIMIT }
+    requires part { p < workers }
+    ensures from { result.0 ≡ cut_at workers n p }
+    ensures to { result.1 ≡ cut_at workers n (p + 1) }
+    ensures order { result.0 ≤ result.1 }
+    ensures within { result.1 ≤ n }
+{
+    (cut_place(workers, n, p), cut_place(workers, n, p + 1))
+}
+
+/// What each of so many parts makes, in threads, or want of memory where one of them wanted it.
+pub(crate) fn in_parts<
+    R: Threads + Sync,
+    C: Crew + Sync,
+    X: Send + Drop,
+    F: Fn(usize) -> Result<X, AllocError> + Sync,
+>(work: &Work<'_, R, C>, workers: u32, part: &F) -> Result<Vec<X>, AllocError>
+    requires { (p : ℕ) → p < workers → F.pre part.now p }
+    ensures all { IfOk result (λ made. length made.items ≡ workers) }
+    ensures each { IfOk result (λ made. (p : ℕ) (d : X) → p < workers → F.post part.now p (Ok (slice_index_or made.items p d))) }
+{
+    let tried = map_indices(work.rt, work.alloc, workers as usize, part)?;
+    let made = all_made(work.alloc, tried)?;
+    Ok(made)
+}
+
+// What all parts have made, or want of memory where one of them wanted it.
+fn all_made<X: Drop>(alloc: Global, made: Vec<Result<X, AllocError>>) -> Result<Vec<X>, AllocError>
+    ensures { IfOk result (λ all. map Ok all.items ≡ made.items) }
+{
+    let mut all = Vec::with_capacity(alloc, made.len())?;
+    for part in made {
+        all.push(part?)?;
+    }
+    Ok(all)
+}
+
+/// Whether the rows that the parts have counted are more than a step may have.
+pub(crate) fn are_too_many(counts: &[u32]) -> bool
+    ensures many { OnTrue result (ROW_LIMIT < sum counts.now) }
+    ensures few { OnFalse result (sum counts.now ≤ ROW_LIMIT) }
+{
+    let mut total = 0u64;
+    for count in counts {
+        total += u64::from(*count);
+        if u64::from(ROW_LIMIT) < total {
+            return true;
+        }
+    }
+    false
+}

@@ -1,0 +1,71 @@
+//! The distinct keys of each step by first occurrence, from its rows and what it found.
+
+ghost use Rattle.std.specs.Prelude.{◌≡◌, ◌<◌, All, IfOk, length, map};
+ghost use Rattle.smk_base.specs.PlanImage.{binary_of, unary_of};
+ghost use Rattle.smk_model.specs.Kinds.{Fits1, Fits2};
+ghost use Rattle.smk_model.specs.Plain.{firsts, key_of, step1, step2};
+ghost use Rattle.smk_body.specs.Findings.{finding1};
+ghost use Rattle.smk_body.specs.Halves.{right_columns_of};
+ghost use Rattle.smk_defer.specs.Kept.{keys1, keys2};
+
+use crate::keys::{class_keys, row_keys};
+use smk_base::{Op1, Op2, Rel};
+use smk_body::{Found, Made, right_columns};
+use smk_keys::{Classes, KeyTable};
+use std::alloc::{AllocError, Global};
+
+/// The keys of a step with one input.
+#[tactic(auto, using(crate::proofs::Keyed::firsts_twice))]
+pub(crate) fn distinct1(
+    alloc: Global,
+    op: &Op1,
+    input: &Rel,
+    made: &Made,
+) -> Result<KeyTable, AllocError>
+    requires fits { Fits1 (unary_of op.now) input.now.kinds }
+    requires rows { made.now.rel.rows ≡ step1 (unary_of op.now) input.now.rows }
+    requires found { made.now.found ≡ finding1 (unary_of op.now) input.now }
+    ensures { IfOk result (λ keys. keys ≡ keys1 (unary_of op.now) input.now.rows) }
+{
+    match (op, &made.found) {
+        (Op1::Select(_), _) => Ok(KeyTable::new(alloc)),
+        (Op1::Project(_), _) => Ok(KeyTable::new(alloc)),
+        (Op1::Distinct(_), _) => row_keys(alloc, &made.rel),
+        (Op1::Group(cols, _), Found::Groups(groups)) => {
+            class_keys(alloc, input, cols.as_slice(), groups.classes())
+        }
+        _ => unreachable!(),
+    }
+}
+
+/// The keys of a step with two inputs: those of an equijoin are made from its right rows.
+#[tactic(auto, using(crate::proofs::Keyed::firsts_twice))]
+pub(crate) fn distinct2(
+    alloc: Global,
+    op: &Op2,
+    left: &Rel,
+    right: &Rel,
+    rel: &Rel,
+) -> Result<KeyTable, AllocError>
+    requires fits { Fits2 (binary_of op.now) left.now.kinds right.now.kinds }
+    requires rows { rel.now.rows ≡ step2 (binary_of op.now) left.now.rows right.now.rows }
+    ensures { IfOk result (λ keys. keys ≡ keys2 (binary_of op.now) left.now.rows right.now.rows) }
+{
+    match op {
+        Op2::Join(pairs) => right_keys(alloc, right, pairs.as_slice()),
+        Op2::Union => row_keys(alloc, rel),
+        Op2::Theta(_) => Ok(KeyTable::new(alloc)),
+        Op2::Product => Ok(KeyTable::new(alloc)),
+        Op2::UnionAll => Ok(KeyTable::new(alloc)),
+    }
+}
+
+// The right rows' values in the pairs of an equijoin.
+fn right_keys(alloc: Global, right: &Rel, pairs: &[(u32, u32)]) -> Result<KeyTable, AllocError>
+    requires { All (λ c. c < length right.now.kinds) (right_columns_of pairs.now) }
+    ensures { IfOk result (λ made. made ≡ firsts (map (key_of (right_columns_of pairs.now)) right.now.rows)) }
+{
+    let cols = right_columns(alloc, pairs)?;
+    let classes = Classes::of_rows(alloc, right, cols.as_slice())?;
+    class_keys(alloc, right, cols.as_slice(), &classes)
+}

@@ -1,4 +1,0 @@
-pub mod Cutting
-pub mod Probing
-pub mod Renumbering
-pub mod Rising

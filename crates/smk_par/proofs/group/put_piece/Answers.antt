@@ -1,6 +1,0 @@
-use Rattle.std.proofs.Common.{arith}
-use Rattle.std.proofs.lemmas.Grind.{common_steps}
-use Rattle.smk_par.proofs.group.put_piece.Goals as goal
-
-pub loop-k-preserved : goal.loop-k-preserved
-loop-k-preserved c = grind (arith, common_steps)

@@ -1,4 +1,0 @@
-pub mod Cuts
-pub mod Pending
-pub mod Renumbered
-pub mod Rises
