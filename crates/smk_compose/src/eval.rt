@@ -1,4 +1,5 @@
 ghost use Rattle.std.specs.Prelude.{◌≡◌, ◌+◌, ◌<◌, ◌≤◌, ◌^◌, ℕ, length, drop, Some, None, IfOk, IfErr, OnOk};
+ghost use Rattle.smk_base.specs.declared.rel.TheConstants.{ROW_LIMIT};
 ghost use Rattle.smk_base.specs.PlanImage.{binary_of, expr_of, unary_of};
 ghost use Rattle.smk_base.specs.Plans.{Apply, Combine};
 ghost use Rattle.smk_model.specs.Plain.{step1, step2, width, eval};
@@ -10,7 +11,7 @@ ghost use Rattle.smk_compose.specs.declared.fault.EvalFault.TheVariants.{Rows};
 use crate::fault::EvalFault;
 use crate::leaves::Leaves;
 use smk_base::{Dir, Op1, Op2, Plan, Rel};
-use smk_body::{OpBody, OpFault, Want};
+use smk_body::{OpBody, OpFault, Want, Work};
 use smk_table::{Chosen, Narrowed, narrow};
 use std::alloc::Global;
 use std::thread::Threads;
@@ -32,17 +33,20 @@ pub fn eval_leaves<R: Threads + Sync, B: OpBody + Sync>(
     ensures few { OnOk result (first_full (expr_of plan.now) (each_rows leaves) ≡ None) }
     ensures many { IfErr result (λ e. (node : ℕ) → e ≡ Rows node → first_full (expr_of plan.now) (each_rows leaves) ≡ Some node) }
 {
+    let work = Work {
+        rt,
+        alloc,
+        crew: body,
+    };
     let mut rest = leaves;
     let mut number = 0;
-    eval_node(rt, alloc, body, plan, &mut rest, &mut number)
+    eval_node(&work, plan, &mut rest, &mut number)
 }
 
 // The rows of a plan over the first of these leaves, which it takes out. Its nodes are numbered from `number` on, which then is the number behind them.
 #[cycle(node)]
 fn eval_node<R: Threads + Sync, B: OpBody + Sync>(
-    rt: &R,
-    alloc: Global,
-    body: &B,
+    work: &Work<'_, R, B>,
     plan: &Plan,
     leaves: &mut Leaves,
     number: &mut u32,
@@ -60,10 +64,10 @@ fn eval_node<R: Threads + Sync, B: OpBody + Sync>(
             let leaf = leaves.take_first();
             let _rows = leaf.len();
             *number += 1;
-            Ok(leaf.rel(alloc)?)
+            Ok(leaf.rel(work.alloc)?)
         }
-        Plan::One(op, input) => eval_one(rt, alloc, body, op, input, leaves, number),
-        Plan::Two(op, left, right) => eval_two(rt, alloc, body, op, left, right, leaves, number),
+        Plan::One(op, input) => eval_one(work, op, input, leaves, number),
+        Plan::Two(op, left, right) => eval_two(work, op, left, right, leaves, number),
     }
 }
 
@@ -71,9 +75,7 @@ fn eval_node<R: Threads + Sync, B: OpBody + Sync>(
 #[tactic(auto, using(crate::proofs::Nodes::one_evaluated))]
 #[cycle(node)]
 fn eval_one<R: Threads + Sync, B: OpBody + Sync>(
-    rt: &R,
-    alloc: Global,
-    body: &B,
+    work: &Work<'_, R, B>,
     op: &Op1,
     input: &Plan,
     leaves: &mut Leaves,
@@ -92,12 +94,12 @@ fn eval_one<R: Threads + Sync, B: OpBody + Sync>(
             let leaf = leaves.take_first();
             let _rows = leaf.len();
             *number += 2;
-            apply_leaf(rt, alloc, body, op, leaf)
+            apply_leaf(work, op, leaf)
         }
         _ => {
-            let rel = eval_node(rt, alloc, body, input, leaves, number)?;
+            let rel = eval_node(work, input, leaves, number)?;
             *number += 1;
-            apply_one(rt, alloc, body, op, rel)
+            apply_one(work, op, rel)
         }
     }
 }
@@ -106,9 +108,7 @@ fn eval_one<R: Threads + Sync, B: OpBody + Sync>(
 #[tactic(auto, using(crate::proofs::Lists::behind_both))]
 #[cycle(node)]
 fn eval_two<R: Threads + Sync, B: OpBody + Sync>(
-    rt: &R,
-    alloc: Global,
-    body: &B,
+    work: &Work<'_, R, B>,
     op: &Op2,
     left: &Plan,
     right: &Plan,
@@ -123,10 +123,10 @@ fn eval_two<R: Threads + Sync, B: OpBody + Sync>(
     ensures made { IfOk result (λ rel. IsEvaluated (Combine (binary_of op.now) (expr_of left.now) (expr_of right.now)) leaves.old number.old rel) }
     ensures many { IfErr result (λ e. (node : ℕ) → e ≡ Rows node → first_full_from (Combine (binary_of op.now) (expr_of left.now) (expr_of right.now)) (each_rows leaves.old) number.old ≡ Some node) }
 {
-    let l = eval_node(rt, alloc, body, left, leaves, number)?;
-    match eval_node(rt, alloc, body, right, leaves, number) {
+    let l = eval_node(work, left, leaves, number)?;
+    match eval_node(work, right, leaves, number) {
         Ok(r) => {
-            let made = apply_two(rt, alloc, body, op, l, r, *number)?;
+            let made = apply_two(work, op, l, r, *number)?;
             *number += 1;
             Ok(made)
         }
@@ -139,43 +139,39 @@ fn eval_two<R: Threads + Sync, B: OpBody + Sync>(
 
 // A step over a leaf, of which only the columns are gathered that it names.
 fn apply_leaf<R: Threads + Sync, B: OpBody + Sync>(
-    rt: &R,
-    alloc: Global,
-    body: &B,
+    work: &Work<'_, R, B>,
     op: &Op1,
     leaf: Chosen,
 ) -> Result<Rel, EvalFault>
     requires { Fits1 (unary_of op.now) leaf.kinds }
     ensures rows { IfOk result (λ made. made.rows ≡ step1 (unary_of op.now) leaf.rows) }
     ensures kinds { IfOk result (λ made. made.kinds ≡ kinds1 (unary_of op.now) leaf.kinds) }
-    ensures few { OnOk result (length (step1 (unary_of op.now) leaf.rows) ≤ 1048576) }
+    ensures few { OnOk result (length (step1 (unary_of op.now) leaf.rows) ≤ ROW_LIMIT) }
     ensures memory { IfErr result (λ e. (node : ℕ) → e ≡ Rows node → ⊥) }
 {
-    let Narrowed { op, rel } = narrow(alloc, op, leaf)?;
-    let made = apply_one(rt, alloc, body, &op, rel);
+    let Narrowed { op, rel } = narrow(work.alloc, op, leaf)?;
+    let made = apply_one(work, &op, rel);
     drop(op);
     made
 }
 
 // A step with one input. It has at most as many rows as its input.
 fn apply_one<R: Threads + Sync, B: OpBody + Sync>(
-    rt: &R,
-    alloc: Global,
-    body: &B,
+    work: &Work<'_, R, B>,
     op: &Op1,
     rel: Rel,
 ) -> Result<Rel, EvalFault>
     requires { Fits1 (unary_of op.now) rel.kinds }
     ensures rows { IfOk result (λ made. made.rows ≡ step1 (unary_of op.now) rel.rows) }
     ensures kinds { IfOk result (λ made. made.kinds ≡ kinds1 (unary_of op.now) rel.kinds) }
-    ensures few { OnOk result (length (step1 (unary_of op.now) rel.rows) ≤ 1048576) }
+    ensures few { OnOk result (length (step1 (unary_of op.now) rel.rows) ≤ ROW_LIMIT) }
     ensures memory { IfErr result (λ e. (node : ℕ) → e ≡ Rows node → ⊥) }
 {
     let want = Dir {
         back: false,
         fwd: false,
     };
-    match body.apply1(rt, alloc, op, rel, want) {
+    match work.crew.apply1(work.rt, work.alloc, op, rel, want) {
         Ok((made, pending)) => {
             drop(pending);
             let _rows = made.len();
@@ -187,9 +183,7 @@ fn apply_one<R: Threads + Sync, B: OpBody + Sync>(
 
 // A step with two inputs, which is the node with this number.
 fn apply_two<R: Threads + Sync, B: OpBody + Sync>(
-    rt: &R,
-    alloc: Global,
-    body: &B,
+    work: &Work<'_, R, B>,
     op: &Op2,
     left: Rel,
     right: Rel,
@@ -198,8 +192,8 @@ fn apply_two<R: Threads + Sync, B: OpBody + Sync>(
     requires { Fits2 (binary_of op.now) left.kinds right.kinds }
     ensures rows { IfOk result (λ made. made.rows ≡ step2 (binary_of op.now) left.rows right.rows) }
     ensures kinds { IfOk result (λ made. made.kinds ≡ kinds2 (binary_of op.now) left.kinds right.kinds) }
-    ensures few { OnOk result (length (step2 (binary_of op.now) left.rows right.rows) ≤ 1048576) }
-    ensures many { IfErr result (λ e. (node : ℕ) → e ≡ Rows node → (1048576 < length (step2 (binary_of op.now) left.rows right.rows)) × (node ≡ number)) }
+    ensures few { OnOk result (length (step2 (binary_of op.now) left.rows right.rows) ≤ ROW_LIMIT) }
+    ensures many { IfErr result (λ e. (node : ℕ) → e ≡ Rows node → (ROW_LIMIT < length (step2 (binary_of op.now) left.rows right.rows)) × (node ≡ number)) }
 {
     let none = Dir {
         back: false,
@@ -209,7 +203,7 @@ fn apply_two<R: Threads + Sync, B: OpBody + Sync>(
         left: none,
         right: none,
     };
-    match body.apply2(rt, alloc, op, left, right, want) {
+    match work.crew.apply2(work.rt, work.alloc, op, left, right, want) {
         Ok((made, pending)) => {
             drop(pending);
             Ok(made)

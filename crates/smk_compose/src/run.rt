@@ -1,4 +1,5 @@
 ghost use Rattle.std.specs.Prelude.{◌≡◌, ◌||◌, ◌+◌, ◌<◌, ◌≤◌, ◌^◌, ℕ, IsTrue, nat_eq, length, map, IfOk, IfErr, OnOk, None};
+ghost use Rattle.smk_base.specs.declared.rel.TheConstants.{ROW_LIMIT};
 ghost use Rattle.smk_base.specs.PlanImage.{expr_of};
 ghost use Rattle.smk_model.specs.Plain.{whole};
 ghost use Rattle.smk_model.specs.Composed.{rows_over};
@@ -15,7 +16,7 @@ use crate::rows::fetch_whole;
 use crate::scan::scan_maps;
 use crate::step::{run_one, run_two};
 use smk_base::{Need, Needed, Plan};
-use smk_body::OpBody;
+use smk_body::{OpBody, Work};
 use smk_outside::Steps;
 use smk_table::Table;
 use std::alloc::{AllocError, Global};
@@ -46,17 +47,13 @@ pub fn run_plan<R: Threads + Sync, B: OpBody + Sync, L: Ledger>(
     ensures fault { IfErr result (λ e. IsFirst e (first_fault (expr_of plan.now) (whole (expr_of plan.now) (each_rows tables.now)) (asked_of (each_rows tables.now) need.now))) }
     ensures looks { steps.new ≤ steps.old + rows_in (whole (expr_of plan.now) (each_rows tables.now)) }
 {
-    let mut number = 0;
-    let Run { rel, kept } = run_node(
+    let work = Work {
         rt,
         alloc,
-        body,
-        plan,
-        tables,
-        need.as_slice(),
-        steps,
-        &mut number,
-    )?;
+        crew: body,
+    };
+    let mut number = 0;
+    let Run { rel, kept } = run_node(&work, plan, tables, need.as_slice(), steps, &mut number)?;
     let rows = rel.len();
     let mut maps = kept.into_vec();
     match fill(alloc, &mut maps, need.as_slice(), rows, tables) {
@@ -80,9 +77,7 @@ pub fn run_plan<R: Threads + Sync, B: OpBody + Sync, L: Ledger>(
 
 // A plan's rows, and the needed lineage to the tables that it scans. Its nodes are numbered from `number` on, which then is the number behind them.
 fn run_node<R: Threads + Sync, B: OpBody + Sync, L: Ledger>(
-    rt: &R,
-    alloc: Global,
-    body: &B,
+    work: &Work<'_, R, B>,
     plan: &Plan,
     tables: &[Table],
     need: &[Needed],
@@ -92,7 +87,7 @@ fn run_node<R: Threads + Sync, B: OpBody + Sync, L: Ledger>(
     requires scans { ScansFit (length tables.now) (expr_of plan.now) }
     requires few_nodes { number.old + nodes (expr_of plan.now) < 2 ^ 32 }
     requires fits { FitsOver (expr_of plan.now) (each_kinds tables.now) }
-    requires captured { IsTrue (B.may_capture body.now || nat_eq (length need.now) 0) }
+    requires captured { IsTrue (B.may_capture work.now.crew.now || nat_eq (length need.now) 0) }
     ensures counted { OnOk result (number.new ≡ number.old + nodes (expr_of plan.now)) }
     ensures rows { IfOk result (λ run. run.rel.rows ≡ rows_over (expr_of plan.now) (each_rows tables.now)) }
     ensures kinds { IfOk result (λ run. run.rel.kinds ≡ kinds_over (expr_of plan.now) (each_kinds tables.now)) }
@@ -103,22 +98,22 @@ fn run_node<R: Threads + Sync, B: OpBody + Sync, L: Ledger>(
 {
     match plan {
         Plan::Scan(table) => {
-            let run = run_scan(alloc, *table, &tables[*table as usize], need, steps)?;
+            let run = run_scan(work.alloc, *table, &tables[*table as usize], need, steps)?;
             *number += 1;
             Ok(run)
         }
         Plan::One(op, input) => {
-            let below = run_node(rt, alloc, body, input, tables, need, steps, number)?;
+            let below = run_node(work, input, tables, need, steps, number)?;
             let node = *number;
             *number += 1;
-            run_one(rt, alloc, body, op, below.rel, below.kept, node)
+            run_one(work, op, below.rel, below.kept, node)
         }
         Plan::Two(op, left, right) => {
-            let l = run_node(rt, alloc, body, left, tables, need, steps, number)?;
-            let r = run_node(rt, alloc, body, right, tables, need, steps, number)?;
+            let l = run_node(work, left, tables, need, steps, number)?;
+            let r = run_node(work, right, tables, need, steps, number)?;
             let node = *number;
             *number += 1;
-            run_two(rt, alloc, body, op, l, r, node)
+            run_two(work, op, l, r, node)
         }
     }
 }
@@ -132,7 +127,7 @@ fn run_scan<L: Ledger>(
     steps: &mut Steps<L>,
 ) -> Result<Run, AllocError>
     ensures rel { IfOk result (λ run. run.rel ≡ table.now) }
-    ensures few { IfOk result (λ run. length run.rel.rows ≤ 1048576) }
+    ensures few { IfOk result (λ run. length run.rel.rows ≤ ROW_LIMIT) }
     ensures kept { IfOk result (λ run. run.kept ≡ map (scan_at number (length run.rel.rows)) need.now) }
     ensures looks { steps.new ≡ steps.old + length table.now.rows }
 {

@@ -1,4 +1,5 @@
 ghost use Rattle.std.specs.Prelude.{◌≡◌, ◌≤◌, [], ◌∷◌, ◌++◌, map, IfOk, OnOk};
+ghost use Rattle.smk_base.specs.declared.rel.TheConstants.{ROW_LIMIT};
 ghost use Rattle.smk_base.specs.Places.{own_lists};
 ghost use Rattle.smk_body.specs.Locals.{wanted};
 ghost use Rattle.smk_compose.specs.Through.{scan_at};
@@ -15,7 +16,7 @@ pub(crate) fn scan_maps(
     len: u32,
     need: &[Needed],
 ) -> Result<Kepts, AllocError>
-    requires { len ≤ 1048576 }
+    requires { len ≤ ROW_LIMIT }
     ensures { IfOk result (λ made. made ≡ map (scan_at scanned len) need.now) }
 {
     let mut made = Kepts::new(alloc);
@@ -36,7 +37,7 @@ fn push_scans(
     need: &[Needed],
     made: &mut Kepts,
 ) -> Result<(), AllocError>
-    requires few { len ≤ 1048576 }
+    requires few { len ≤ ROW_LIMIT }
     requires empty { made.old ≡ [] }
     ensures { OnOk result (made.new ≡ map (scan_at scanned len) need.now) }
 {
@@ -54,7 +55,7 @@ fn push_scan(
     n: Needed,
     made: &mut Kepts,
 ) -> Result<(), AllocError>
-    requires { len ≤ 1048576 }
+    requires { len ≤ ROW_LIMIT }
     ensures { OnOk result (made.new ≡ made.old ++ scan_at scanned len n ∷ []) }
 {
     let here = n.table == scanned;
@@ -74,7 +75,7 @@ fn push_scan(
 
 // Each row's own list, where it is wanted.
 fn own_map(alloc: Global, is_wanted: bool, len: u32) -> Result<Option<RidMap>, AllocError>
-    requires { len ≤ 1048576 }
+    requires { len ≤ ROW_LIMIT }
     ensures { IfOk result (λ made. made ≡ wanted is_wanted (own_lists len)) }
 {
     if is_wanted {

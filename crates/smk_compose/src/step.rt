@@ -9,22 +9,19 @@ use crate::fault::RunFault;
 use crate::kept::{KeptMap, Kepts, Run};
 use crate::pass::{meet_all, pass_all, wants};
 use smk_base::{Op1, Op2, Rel};
-use smk_body::{OpBody, OpFault, Want};
-use std::alloc::Global;
+use smk_body::{OpBody, OpFault, Want, Work};
 use std::thread::Threads;
 
 /// A step with one input, which is the node with this number: its rows, and the maps of its input through it.
 pub(crate) fn run_one<R: Threads + Sync, B: OpBody + Sync>(
-    rt: &R,
-    alloc: Global,
-    body: &B,
+    work: &Work<'_, R, B>,
     op: &Op1,
     input: Rel,
     below: Kepts,
     node: u32,
 ) -> Result<Run, RunFault>
     requires fits { Fits1 (unary_of op.now) input.kinds }
-    requires captured { IsTrue (B.may_capture body.now || is_nothing (want_of below)) }
+    requires captured { IsTrue (B.may_capture work.now.crew.now || is_nothing (want_of below)) }
     requires passes { All (Passes (side1 (unary_of op.now) input.rows)) below }
     ensures rows { IfOk result (λ run. run.rel.rows ≡ step1 (unary_of op.now) input.rows) }
     ensures kinds { IfOk result (λ run. run.rel.kinds ≡ kinds1 (unary_of op.now) input.kinds) }
@@ -34,10 +31,10 @@ pub(crate) fn run_one<R: Threads + Sync, B: OpBody + Sync>(
 {
     let _rows = input.len();
     let want = wants(below.as_slice());
-    match body.apply1(rt, alloc, op, input, want) {
+    match work.crew.apply1(work.rt, work.alloc, op, input, want) {
         Ok((rel, pending)) => {
             let mut maps = below.into_vec();
-            match finish_one(rt, alloc, body, pending, &mut maps, node) {
+            match finish_one(work, pending, &mut maps, node) {
                 Ok(()) => Ok(Run {
                     rel,
                     kept: Kepts::from_vec(maps),
@@ -58,39 +55,35 @@ pub(crate) fn run_one<R: Threads + Sync, B: OpBody + Sync>(
 
 // Takes the maps of the input through a step with one input, by its lineage that is pending, where there are maps.
 fn finish_one<R: Threads + Sync, B: OpBody + Sync>(
-    rt: &R,
-    alloc: Global,
-    body: &B,
+    work: &Work<'_, R, B>,
     pending: B::Pending,
     maps: &mut [KeptMap],
     node: u32,
 ) -> Result<(), RunFault>
-    requires { All (Passes (B.meaning body.now pending).left) maps.old }
-    ensures made { OnOk result (maps.new ≡ map (through (B.meaning body.now pending).left) maps.old) }
-    ensures none { OnOk result (pairs_fault node (map (through (B.meaning body.now pending).left) maps.old) ≡ None) }
-    ensures fault { IfErr result (λ e. IsFirst e (pairs_fault node (map (through (B.meaning body.now pending).left) maps.old))) }
+    requires { All (Passes (B.meaning work.now.crew.now pending).left) maps.old }
+    ensures made { OnOk result (maps.new ≡ map (through (B.meaning work.now.crew.now pending).left) maps.old) }
+    ensures none { OnOk result (pairs_fault node (map (through (B.meaning work.now.crew.now pending).left) maps.old) ≡ None) }
+    ensures fault { IfErr result (λ e. IsFirst e (pairs_fault node (map (through (B.meaning work.now.crew.now pending).left) maps.old))) }
 {
     if maps.is_empty() {
         return Ok(());
     }
-    let mut local = body.finish(rt, alloc, pending)?;
-    let passed = pass_all(alloc, &mut local.left, maps, node);
+    let mut local = work.crew.finish(work.rt, work.alloc, pending)?;
+    let passed = pass_all(work.alloc, &mut local.left, maps, node);
     drop(local);
     passed
 }
 
 /// A step with two inputs, which is the node with this number: its rows, and the maps of its inputs through it.
 pub(crate) fn run_two<R: Threads + Sync, B: OpBody + Sync>(
-    rt: &R,
-    alloc: Global,
-    body: &B,
+    work: &Work<'_, R, B>,
     op: &Op2,
     left: Run,
     right: Run,
     node: u32,
 ) -> Result<Run, RunFault>
     requires fits { Fits2 (binary_of op.now) left.rel.kinds right.rel.kinds }
-    requires captured { IsTrue (B.may_capture body.now || is_nothing2 (record { left = want_of left.kept; right = want_of right.kept })) }
+    requires captured { IsTrue (B.may_capture work.now.crew.now || is_nothing2 (record { left = want_of left.kept; right = want_of right.kept })) }
     requires long { length left.kept ≡ length right.kept }
     requires meets { (i : ℕ) → i < length left.kept → Meets (side_left (binary_of op.now) left.rel.rows right.rel.rows) (side_right (binary_of op.now) left.rel.rows right.rel.rows) (map_at left.kept i) (map_at right.kept i) }
     ensures rows { IfOk result (λ run. run.rel.rows ≡ step2 (binary_of op.now) left.rel.rows right.rel.rows) }
@@ -111,11 +104,14 @@ pub(crate) fn run_two<R: Threads + Sync, B: OpBody + Sync>(
         left: wants(left_kept.as_slice()),
         right: wants(right_kept.as_slice()),
     };
-    match body.apply2(rt, alloc, op, left_rel, right_rel, want) {
+    match work
+        .crew
+        .apply2(work.rt, work.alloc, op, left_rel, right_rel, want)
+    {
         Ok((rel, pending)) => {
             let mut lefts = left_kept.into_vec();
             let mut rights = right_kept.into_vec();
-            let met = finish_two(rt, alloc, body, pending, &mut lefts, &mut rights, node);
+            let met = finish_two(work, pending, &mut lefts, &mut rights, node);
             drop(rights);
             match met {
                 Ok(()) => Ok(Run {
@@ -142,27 +138,25 @@ pub(crate) fn run_two<R: Threads + Sync, B: OpBody + Sync>(
 
 // Takes the maps of the inputs through a step with two inputs, by its lineage that is pending, where there are maps. They are put among the left ones.
 fn finish_two<R: Threads + Sync, B: OpBody + Sync>(
-    rt: &R,
-    alloc: Global,
-    body: &B,
+    work: &Work<'_, R, B>,
     pending: B::Pending,
     lefts: &mut [KeptMap],
     rights: &mut [KeptMap],
     node: u32,
 ) -> Result<(), RunFault>
-    requires sides { IsTrue (is_some (B.meaning body.now pending).right) }
+    requires sides { IsTrue (is_some (B.meaning work.now.crew.now pending).right) }
     requires long { length lefts.old ≡ length rights.old }
-    requires meets { (i : ℕ) → i < length lefts.old → Meets (B.meaning body.now pending).left (right_of (B.meaning body.now pending)) (map_at lefts.old i) (map_at rights.old i) }
-    ensures made { OnOk result (lefts.new ≡ together_all (B.meaning body.now pending).left (right_of (B.meaning body.now pending)) lefts.old rights.old) }
-    ensures none { OnOk result (pairs_fault node (together_all (B.meaning body.now pending).left (right_of (B.meaning body.now pending)) lefts.old rights.old) ≡ None) }
-    ensures fault { IfErr result (λ e. IsFirst e (pairs_fault node (together_all (B.meaning body.now pending).left (right_of (B.meaning body.now pending)) lefts.old rights.old))) }
+    requires meets { (i : ℕ) → i < length lefts.old → Meets (B.meaning work.now.crew.now pending).left (right_of (B.meaning work.now.crew.now pending)) (map_at lefts.old i) (map_at rights.old i) }
+    ensures made { OnOk result (lefts.new ≡ together_all (B.meaning work.now.crew.now pending).left (right_of (B.meaning work.now.crew.now pending)) lefts.old rights.old) }
+    ensures none { OnOk result (pairs_fault node (together_all (B.meaning work.now.crew.now pending).left (right_of (B.meaning work.now.crew.now pending)) lefts.old rights.old) ≡ None) }
+    ensures fault { IfErr result (λ e. IsFirst e (pairs_fault node (together_all (B.meaning work.now.crew.now pending).left (right_of (B.meaning work.now.crew.now pending)) lefts.old rights.old))) }
 {
     if lefts.is_empty() {
         return Ok(());
     }
-    let mut local = body.finish(rt, alloc, pending)?;
+    let mut local = work.crew.finish(work.rt, work.alloc, pending)?;
     let met = match &mut local.right {
-        Some(side) => meet_all(alloc, &mut local.left, side, lefts, rights, node),
+        Some(side) => meet_all(work.alloc, &mut local.left, side, lefts, rights, node),
         None => unreachable!(),
     };
     drop(local);

@@ -5,14 +5,15 @@ ghost use Rattle.smk_session.specs.Answers.{Gives, Turns, IsHeld, Changes, book_
 
 use crate::backward::{back_rows, groups, matching_rows, pair_of};
 use crate::brushing::{brush, clear, clear_one};
-use crate::crew::Crew;
 use crate::held::Held;
 use crate::lineage::fwd_map;
 use crate::marks::marked_members;
 use crate::names::{known_pair, known_view};
 use crate::turn::Turn;
 use crate::turned::Turned;
+use crate::workers::Workers;
 use smk_base::{Line, Marks, Rel, Reply, Text, Then};
+use smk_body::Work;
 use smk_compose::Run;
 use smk_outside::{Gate, Steps};
 use std::alloc::Global;
@@ -110,9 +111,7 @@ fn stays(reply: Reply) -> Result<Turn, Turned>
 
 // What a line is answered, and what it changes.
 pub(crate) fn answer_to<R: Threads + Sync, G: Gate + Sync, L: Ledger>(
-    rt: &R,
-    alloc: Global,
-    crew: &Crew<'_, G>,
+    work: &Work<'_, R, Workers<'_, G>>,
     held: &Held<'_>,
     line: &Line,
     steps: &mut Steps<L>,
@@ -124,18 +123,16 @@ pub(crate) fn answer_to<R: Threads + Sync, G: Gate + Sync, L: Ledger>(
     ensures looks { steps.new ≤ steps.old + line_looks (book_of held.now) (state_held held.now) line.now }
 {
     match line {
-        Line::Show { view } => stays(show(alloc, held, view)?),
+        Line::Show { view } => stays(show(work.alloc, held, view)?),
         Line::Back {
             view,
             marks,
             table,
             then,
-        } => stays(back(alloc, held, view, marks, table, then, steps)?),
-        Line::Fwd { table, rows, view } => stays(fwd(alloc, held, table, rows, view)?),
-        Line::Brush { view, marks, table } => brush(
-            rt, alloc, crew, held, view, marks, table, steps,
-        ),
-        Line::Clear => Ok(clear(alloc, held)?),
-        Line::ClearOne { view, table } => clear_one(rt, alloc, crew, held, view, table, steps),
+        } => stays(back(work.alloc, held, view, marks, table, then, steps)?),
+        Line::Fwd { table, rows, view } => stays(fwd(work.alloc, held, table, rows, view)?),
+        Line::Brush { view, marks, table } => brush(work, held, view, marks, table, steps),
+        Line::Clear => Ok(clear(work.alloc, held)?),
+        Line::ClearOne { view, table } => clear_one(work, held, view, table, steps),
     }
 }

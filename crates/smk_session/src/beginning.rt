@@ -9,13 +9,14 @@ ghost use Rattle.smk_model.specs.Selection.{each_kinds};
 ghost use Rattle.smk_session.specs.Making.{IsOpened, book_in};
 ghost use Rattle.smk_session.specs.Sessions.{AreExtras, AreOpened, IsStartFault, workbook_image};
 
-use crate::crew::Crew;
 use crate::extra::Extras;
 use crate::fault::StartFault;
 use crate::making::{Opening, make_extras};
 use crate::mode::Mode;
 use crate::opening::{no_contents, open_views};
+use crate::workers::Workers;
 use smk_base::Rel;
+use smk_body::Work;
 use smk_compose::Run;
 use smk_outside::{Gate, Steps};
 use smk_table::Table;
@@ -57,10 +58,8 @@ fn keep_beside<L: Ledger>(
 
 // What a session begins with, or the first view with a node that is too big.
 pub(crate) fn begin<R: Threads + Sync, G: Gate + Sync, L: Ledger>(
-    rt: &R,
-    alloc: Global,
+    work: &Work<'_, R, Workers<'_, G>>,
     mode: Mode,
-    crew: &Crew<'_, G>,
     book: &TypedBook,
     tables: &[Table],
     steps: &mut Steps<L>,
@@ -73,13 +72,13 @@ pub(crate) fn begin<R: Threads + Sync, G: Gate + Sync, L: Ledger>(
     ensures fault { IfErr result (λ e. IsStartFault e (first_view_fault (workbook_image book.now tables.now))) }
     ensures looks { steps.new ≤ steps.old + start_looks (workbook_image book.now tables.now) }
 {
-    let views = open_views(rt, alloc, mode, crew, book, tables, steps)?;
+    let views = open_views(work, mode, book, tables, steps)?;
     let opened = Opening {
         book: book.catalog(),
         tables,
         views: views.as_slice(),
     };
-    let beside = keep_beside(alloc, &opened, steps)?;
+    let beside = keep_beside(work.alloc, &opened, steps)?;
     Ok(Begun {
         views,
         extras: beside.extras,

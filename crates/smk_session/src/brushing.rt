@@ -15,7 +15,6 @@ ghost use Rattle.smk_session.specs.Sessions.{BrushFits};
 ghost use Rattle.smk_session.specs.declared.turned.Turned.TheVariants as turns;
 
 use crate::brushes::{with_brush, without_brush};
-use crate::crew::Crew;
 use crate::following::follow;
 use crate::held::Held;
 use crate::lineage::back_map;
@@ -25,7 +24,9 @@ use crate::names::known_pair;
 use crate::refresh::Refresh;
 use crate::turn::{Brushes, Change, Content, Contents, Turn};
 use crate::turned::Turned;
+use crate::workers::Workers;
 use smk_base::{BrushOn, Catalog, Marks, Refusal, Reply, Rids, Text};
+use smk_body::Work;
 use smk_outside::{Gate, Steps};
 use smk_rid::RidMap;
 use std::alloc::{AllocError, Global};
@@ -92,9 +93,7 @@ fn brush_of(
 
 // A brush: it comes into force, in place of that of its view and table.
 pub(crate) fn brush<R: Threads + Sync, G: Gate + Sync, L: Ledger>(
-    rt: &R,
-    alloc: Global,
-    crew: &Crew<'_, G>,
+    work: &Work<'_, R, Workers<'_, G>>,
     held: &Held<'_>,
     view: &Text,
     marks: &Marks,
@@ -107,16 +106,16 @@ pub(crate) fn brush<R: Threads + Sync, G: Gate + Sync, L: Ledger>(
     ensures changes { IfOk result (λ turn. IfSome turn.change (Changes held.now turn.reply)) }
     ensures looks { steps.new ≤ steps.old + looks_of_brush (book_of held.now) (state_held held.now) (replies.brush_of (book_of held.now) (state_held held.now) view.now marks.now table.now) }
 {
-    let brush = brush_of(alloc, held, view, marks, table)?;
-    let rids = brush.rids.copy(alloc)?;
+    let brush = brush_of(work.alloc, held, view, marks, table)?;
+    let rids = brush.rids.copy(work.alloc)?;
     let (v, t) = (brush.view, brush.table);
-    let brushes = with_brush(alloc, held.brushes, brush)?;
+    let brushes = with_brush(work.alloc, held.brushes, brush)?;
     let refresh = Refresh {
         held,
         brushes: brushes.as_slice(),
         table: t,
     };
-    let followed = follow(rt, alloc, crew, &refresh, v, steps)?;
+    let followed = follow(work, &refresh, v, steps)?;
     Ok(Turn {
         reply: Reply::Brush {
             rids,
@@ -131,9 +130,7 @@ pub(crate) fn brush<R: Threads + Sync, G: Gate + Sync, L: Ledger>(
 
 // The end of the brush of a view and a table. Where there is none, the linked views stay as they are.
 pub(crate) fn clear_one<R: Threads + Sync, G: Gate + Sync, L: Ledger>(
-    rt: &R,
-    alloc: Global,
-    crew: &Crew<'_, G>,
+    work: &Work<'_, R, Workers<'_, G>>,
     held: &Held<'_>,
     view: &Text,
     table: &Text,
@@ -146,13 +143,13 @@ pub(crate) fn clear_one<R: Threads + Sync, G: Gate + Sync, L: Ledger>(
     ensures looks { steps.new ≤ steps.old + looks_of_clear (book_of held.now) (state_held held.now) (replies.linked_pair (book_of held.now) view.now table.now) }
 {
     let (v, t) = linked_pair(held.catalog, view, table)?;
-    let brushes = without_brush(alloc, held.brushes, v, t)?;
+    let brushes = without_brush(work.alloc, held.brushes, v, t)?;
     let refresh = Refresh {
         held,
         brushes: brushes.as_slice(),
         table: t,
     };
-    let followed = follow(rt, alloc, crew, &refresh, v, steps)?;
+    let followed = follow(work, &refresh, v, steps)?;
     Ok(Turn {
         reply: Reply::ClearedOne {
             linked: followed.linked,

@@ -13,7 +13,6 @@ ghost use Rattle.smk_session.specs.Refreshed.{CanEvaluate, IsContent, IsFetched,
 ghost use Rattle.smk_session.specs.Sessions.{follows};
 
 use crate::chosen::{chosen, picks};
-use crate::crew::Crew;
 use crate::evaluating::{Fetched, evaluate, evaluate_at_once};
 use crate::lineage::fwd_map;
 use crate::links::{follows_some, linked};
@@ -22,7 +21,9 @@ use crate::opening::view_of;
 use crate::refresh::Refresh;
 use crate::turn::{Content, Contents};
 use crate::turned::Turned;
+use crate::workers::Workers;
 use smk_base::{Linked, Linkeds, Refusal, Rel, Rids};
+use smk_body::Work;
 use smk_compose::{EvalFault, fetch_leaves};
 use smk_outside::{Gate, Steps};
 use smk_rid::RidMap;
@@ -104,9 +105,7 @@ fn fetch<'a, L: Ledger>(
 // What a view is evaluated to over the rows selected for it. No lineage is captured.
 #[tactic(auto, using(crate::proofs::Refreshing::content_made))]
 fn content_now<R: Threads + Sync, G: Gate + Sync, L: Ledger>(
-    rt: &R,
-    alloc: Global,
-    crew: &Crew<'_, G>,
+    work: &Work<'_, R, Workers<'_, G>>,
     refresh: &Refresh<'_>,
     w: u32,
     steps: &mut Steps<L>,
@@ -116,8 +115,8 @@ fn content_now<R: Threads + Sync, G: Gate + Sync, L: Ledger>(
     ensures content { IfOk result (IsContent refresh.now w) }
     ensures looks { steps.new ≤ steps.old + looks_now refresh.now w }
 {
-    let fetched = fetch(alloc, refresh, 0, w, steps)?;
-    Ok(evaluate(rt, alloc, crew, fetched))
+    let fetched = fetch(work.alloc, refresh, 0, w, steps)?;
+    Ok(evaluate(work, fetched))
 }
 
 // What is kept of a view that shows this: nothing where no brush concerns it, since it shows its first content then.
@@ -184,9 +183,7 @@ fn followed_one(
 
 // These views, one after the other, or the refusal of the first that has too many rows.
 fn follow_in_turn<R: Threads + Sync, G: Gate + Sync, L: Ledger>(
-    rt: &R,
-    alloc: Global,
-    crew: &Crew<'_, G>,
+    work: &Work<'_, R, Workers<'_, G>>,
     refresh: &Refresh<'_>,
     views: &[u32],
     steps: &mut Steps<L>,
@@ -197,11 +194,11 @@ fn follow_in_turn<R: Threads + Sync, G: Gate + Sync, L: Ledger>(
     ensures contents { IfOk result (λ followed. followed.contents ≡ contents_at refresh.now views.now) }
     ensures looks { steps.new ≤ steps.old + sum_by (looks_now refresh.now) views.now }
 {
-    let mut shown = Linkeds::new(alloc);
-    let mut contents = Contents::new(alloc);
+    let mut shown = Linkeds::new(work.alloc);
+    let mut contents = Contents::new(work.alloc);
     for w in views {
-        let made = content_now(rt, alloc, crew, refresh, *w, steps)?;
-        let one = followed_one(alloc, refresh, *w, made)?;
+        let made = content_now(work, refresh, *w, steps)?;
+        let one = followed_one(work.alloc, refresh, *w, made)?;
         contents.push(one.1)?;
         shown.push(one.0)?;
     }
@@ -276,9 +273,7 @@ fn first_of<T: Drop>(queue: &mut VecDeque<T>) -> T
 // These views, all at once once their rows are fetched, or the refusal of the first that has too many rows.
 #[tactic(auto, using(crate::proofs::Refreshing::all_contents))]
 fn follow_at_once<R: Threads + Sync, G: Gate + Sync, L: Ledger>(
-    rt: &R,
-    alloc: Global,
-    gate: &G,
+    work: &Work<'_, R, Workers<'_, G>>,
     refresh: &Refresh<'_>,
     views: &[u32],
     steps: &mut Steps<L>,
@@ -289,16 +284,14 @@ fn follow_at_once<R: Threads + Sync, G: Gate + Sync, L: Ledger>(
     ensures contents { IfOk result (λ followed. followed.contents ≡ contents_at refresh.now views.now) }
     ensures looks { steps.new ≤ steps.old + sum_by (looks_now refresh.now) views.now }
 {
-    let fetched = fetch_each(alloc, refresh, views, steps)?;
-    let made = evaluate_at_once(rt, alloc, gate, fetched)?;
-    gather(alloc, refresh, views, made)
+    let fetched = fetch_each(work.alloc, refresh, views, steps)?;
+    let made = evaluate_at_once(work, fetched)?;
+    gather(work.alloc, refresh, views, made)
 }
 
 // The views that the links of a view on the table name, or the refusal of the first that has too many rows. Two or more are evaluated at once where there are several workers.
 pub(crate) fn follow<R: Threads + Sync, G: Gate + Sync, L: Ledger>(
-    rt: &R,
-    alloc: Global,
-    crew: &Crew<'_, G>,
+    work: &Work<'_, R, Workers<'_, G>>,
     refresh: &Refresh<'_>,
     v: u32,
     steps: &mut Steps<L>,
@@ -308,10 +301,10 @@ pub(crate) fn follow<R: Threads + Sync, G: Gate + Sync, L: Ledger>(
     ensures contents { IfOk result (λ followed. followed.contents ≡ contents_at refresh.now (sessions.linked (book_at refresh.now) v refresh.now.table)) }
     ensures looks { steps.new ≤ steps.old + looks_of_linked (book_at refresh.now) (state_next refresh.now) v refresh.now.table }
 {
-    let views = linked(alloc, refresh.held.catalog, v, refresh.table)?;
-    if crew.workers == 1 || views.len() < 2 {
-        follow_in_turn(rt, alloc, crew, refresh, views.as_slice(), steps)
+    let views = linked(work.alloc, refresh.held.catalog, v, refresh.table)?;
+    if work.crew.workers == 1 || views.len() < 2 {
+        follow_in_turn(work, refresh, views.as_slice(), steps)
     } else {
-        follow_at_once(rt, alloc, crew.gate, refresh, views.as_slice(), steps)
+        follow_at_once(work, refresh, views.as_slice(), steps)
     }
 }

@@ -7,7 +7,6 @@ mod beginning;
 mod brushes;
 mod brushing;
 mod chosen;
-mod crew;
 mod evaluating;
 mod extra;
 mod fault;
@@ -26,6 +25,7 @@ mod session;
 mod session_laws;
 mod turn;
 mod turned;
+mod workers;
 
 pub use answer::has_refused;
 pub use extra::{CubesOn, SplitOn};

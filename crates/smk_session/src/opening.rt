@@ -12,12 +12,12 @@ ghost use Rattle.smk_model.specs.Session.{view_at};
 ghost use Rattle.smk_compose.specs.Through.{IsFirst};
 ghost use Rattle.smk_session.specs.Sessions.{AreOpened, IsStartFault, fault_in, opened, workbook_image};
 
-use crate::crew::Crew;
 use crate::fault::StartFault;
 use crate::mode::Mode;
 use crate::parts::Opened;
+use crate::workers::Workers;
 use smk_base::{Catalog, Rel, ViewInfo};
-use smk_body::OpBody;
+use smk_body::{OpBody, Work};
 use smk_compose::{RunFault, run_plan};
 use smk_defer::Defer;
 use smk_inject::Inject;
@@ -115,10 +115,8 @@ pub fn open_view<R: Threads + Sync, G: Gate + Sync, L: Ledger>(
 
 // All views in the book's order, or the first that is too big.
 pub(crate) fn open_views<R: Threads + Sync, G: Gate + Sync, L: Ledger>(
-    rt: &R,
-    alloc: Global,
+    work: &Work<'_, R, Workers<'_, G>>,
     mode: Mode,
-    crew: &Crew<'_, G>,
     book: &TypedBook,
     tables: &[Table],
     steps: &mut Steps<L>,
@@ -130,11 +128,12 @@ pub(crate) fn open_views<R: Threads + Sync, G: Gate + Sync, L: Ledger>(
     ensures looks { steps.new ≤ steps.old + sum_by (looks_of_view (workbook_image book.now tables.now)) (workbook_image book.now tables.now).catalog.views }
 {
     let count = book.catalog().views.as_slice().len();
-    let mut views = Vec::with_capacity(alloc, count)?;
+    let crew = work.crew;
+    let mut views = Vec::with_capacity(work.alloc, count)?;
     for v in 0..count as u32 {
         views.push(open_view(
-            rt,
-            alloc,
+            work.rt,
+            work.alloc,
             mode,
             crew.workers,
             crew.gate,

@@ -11,7 +11,6 @@ ghost use Rattle.smk_session.specs.Sessions.{IsSession, IsStartFault, opened, st
 
 use crate::answer::answer_to;
 use crate::beginning::begin;
-use crate::crew::Crew;
 use crate::extra::{Groupings, Splits};
 use crate::fault::StartFault;
 use crate::held::Held;
@@ -19,7 +18,9 @@ use crate::mode::Mode;
 use crate::parts::Parts;
 use crate::turn::{Brushes, Turn, place};
 use crate::turned::Turned;
+use crate::workers::Workers;
 use smk_base::{Catalog, Line, Rel, Reply};
+use smk_body::Work;
 use smk_compose::Run;
 use smk_outside::{Gate, Steps};
 use smk_table::Table;
@@ -85,8 +86,13 @@ impl Session {
         ensures fault { IfErr result (λ e. IsStartFault e (first_view_fault (workbook_image book tables.items))) }
         ensures looks { steps.new ≤ steps.old + start_looks (workbook_image book tables.items) }
     {
-        let crew = Crew { gate, workers };
-        let begun = begin(rt, alloc, mode, &crew, &book, tables.as_slice(), steps)?;
+        let crew = Workers { gate, workers };
+        let work = Work {
+            rt,
+            alloc,
+            crew: &crew,
+        };
+        let begun = begin(&work, mode, &book, tables.as_slice(), steps)?;
         Ok(Session {
             book,
             tables,
@@ -205,11 +211,16 @@ impl Session {
             brushes: self.brushes.as_slice(),
             contents: self.contents.as_slice(),
         };
-        let crew = Crew {
+        let workers = Workers {
             gate,
             workers: self.workers,
         };
-        match answer_to(rt, alloc, &crew, &held, line, steps) {
+        let work = Work {
+            rt,
+            alloc,
+            crew: &workers,
+        };
+        match answer_to(&work, &held, line, steps) {
             Ok(Turn { reply, change }) => match change {
                 None => Ok(reply),
                 Some(change) => {

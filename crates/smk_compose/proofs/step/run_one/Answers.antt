@@ -12,7 +12,7 @@ pub returns-in-Ok-finish_one-clause-kept : goal.returns-in-Ok-finish_one-clause-
 returns-in-Ok-finish_one-clause-kept g c =
     let op = unary_of c.args.op.now in
     let L = c.args.input.rows in
-    let m = g.B.OpBody.meaning c.args.body.now c.in-Ok.pending in
+    let m = g.B.OpBody.meaning c.args.work.now.crew.now c.in-Ok.pending in
     let made : c.from_vec.result ≡ map (through m.left) c.args.below = grind (arith, common_steps) in
     made ∙ one_maps op L c.args.below c.wants-want.result m (c.wants-want.ensures ∙ ap want_of c.as_slice.ensures) c.in-Ok.ensures.lineage
 
@@ -21,7 +21,7 @@ returns-in-Ok-finish_one-clause-none g c =
     let op = unary_of c.args.op.now in
     let L = c.args.input.rows in
     let few = one_few op L c.len-rows.ensures.keeps.few_rows in
-    let m = g.B.OpBody.meaning c.args.body.now c.in-Ok.pending in
+    let m = g.B.OpBody.meaning c.args.work.now.crew.now c.in-Ok.pending in
     let same = one_maps op L c.args.below c.wants-want.result m (c.wants-want.ensures ∙ ap want_of c.as_slice.ensures) c.in-Ok.ensures.lineage in
     let items : c.deref_mut.result.now ≡ c.args.below = grind (arith, common_steps) in
     few_fault c.args.node (step1 op L) (map (through (side1 op L)) c.args.below) few ∙ sym (ap (pairs_fault c.args.node) same)
@@ -32,7 +32,7 @@ returns-in-Err-finish_one-clause-fault g c =
     let op = unary_of c.args.op.now in
     let L = c.args.input.rows in
     let few = one_few op L c.len-rows.ensures.keeps.few_rows in
-    let m = g.B.OpBody.meaning c.args.body.now c.in-Ok.pending in
+    let m = g.B.OpBody.meaning c.args.work.now.crew.now c.in-Ok.pending in
     let same = one_maps op L c.args.below c.wants-want.result m (c.wants-want.ensures ∙ ap want_of c.as_slice.ensures) c.in-Ok.ensures.lineage in
     let items : c.deref_mut.result.now ≡ c.args.below = grind (arith, common_steps) in
     let fault = ap (λ (l : List KeptMap). pairs_fault c.args.node (map (through m.left) l)) items ∙ ap (pairs_fault c.args.node) same ∙ sym (few_fault c.args.node (step1 op L) (map (through (side1 op L)) c.args.below) few) in

@@ -14,7 +14,7 @@ returns-in-Ok-met-clause-kept g c =
     let op = binary_of c.args.op.now in
     let L = c.args.left.rel.rows in
     let R = c.args.right.rel.rows in
-    let m = g.B.OpBody.meaning c.args.body.now c.in-Ok.pending in
+    let m = g.B.OpBody.meaning c.args.work.now.crew.now c.in-Ok.pending in
     let made : c.from_vec.result ≡ together_all m.left (right_of m) c.args.left.kept c.args.right.kept = grind (arith, common_steps) in
     made
     ∙ two_maps op L R c.args.left.kept c.args.right.kept (record { left = c.wants.result; right = c.wants-2.result }) m (c.wants.ensures ∙ ap want_of c.as_slice.ensures) (c.wants-2.ensures ∙ ap want_of c.as_slice-2.ensures) c.in-Ok.ensures.lineage
@@ -24,7 +24,7 @@ returns-in-Ok-met-clause-none g c =
     let op = binary_of c.args.op.now in
     let L = c.args.left.rel.rows in
     let R = c.args.right.rel.rows in
-    let m = g.B.OpBody.meaning c.args.body.now c.in-Ok.pending in
+    let m = g.B.OpBody.meaning c.args.work.now.crew.now c.in-Ok.pending in
     let whole : List KeptMap = together_all (side_left op L R) (side_right op L R) c.args.left.kept c.args.right.kept in
     let same : together_all m.left (right_of m) c.args.left.kept c.args.right.kept ≡ whole =
     two_maps op L R c.args.left.kept c.args.right.kept (record { left = c.wants.result; right = c.wants-2.result }) m (c.wants.ensures ∙ ap want_of c.as_slice.ensures) (c.wants-2.ensures ∙ ap want_of c.as_slice-2.ensures) c.in-Ok.ensures.lineage in
@@ -37,7 +37,7 @@ returns-in-Err-met-clause-fault g c =
     let op = binary_of c.args.op.now in
     let L = c.args.left.rel.rows in
     let R = c.args.right.rel.rows in
-    let m = g.B.OpBody.meaning c.args.body.now c.in-Ok.pending in
+    let m = g.B.OpBody.meaning c.args.work.now.crew.now c.in-Ok.pending in
     let whole : List KeptMap = together_all (side_left op L R) (side_right op L R) c.args.left.kept c.args.right.kept in
     let same : together_all m.left (right_of m) c.args.left.kept c.args.right.kept ≡ whole =
     two_maps op L R c.args.left.kept c.args.right.kept (record { left = c.wants.result; right = c.wants-2.result }) m (c.wants.ensures ∙ ap want_of c.as_slice.ensures) (c.wants-2.ensures ∙ ap want_of c.as_slice-2.ensures) c.in-Ok.ensures.lineage in

@@ -1,0 +1,23 @@
+ghost use Rattle.std.specs.Prelude.{◌≤◌};
+
+use smk_body::Crew;
+use smk_outside::Gate;
+
+// Who does the work of a session: as many parts of it as workers, each of which passes the gate.
+#[derive(Drop)]
+pub(crate) struct Workers<'g, G: Gate + Sync> {
+    pub(crate) gate: &'g G,
+    pub(crate) workers: u32,
+    ghost some: { 1 ≤ workers },
+    ghost few: { workers ≤ 64 },
+}
+
+impl<'g, G: Gate + Sync> Crew for Workers<'g, G> {
+    fn parts(&self) -> u32 {
+        self.workers
+    }
+
+    fn arrive(&self, p: u32) {
+        self.gate.arrive(p);
+    }
+}
