@@ -18,21 +18,26 @@ ghost use Rattle.smk_top.specs.declared.stop.Stop.TheVariants.{Exhausted as exha
 
 use crate::loading::load;
 use crate::script::{Reading, reading_of};
+use crate::settings::Settings;
 use crate::stop::Stop;
 use smk_base::{AnyLine, Catalog, Text};
-use smk_outside::Files;
+use smk_outside::{Files, Gate};
 use smk_parse::line_at;
 use smk_table::Table;
 use std::alloc::Global;
 use std::collections::VecDeque;
+use std::thread::Threads;
 
 // The table of the file that a line appends to the table of this name, where the book has it. Where it hasn't, nothing is read.
-fn bring_rows<F: Files>(
+fn bring_rows<R: Threads + Sync, F: Files, G: Gate + Sync>(
+    rt: &R,
     alloc: Global,
+    settings: Settings,
     files: &mut F,
     catalog: &Catalog,
     table: &Text,
     file: &Text,
+    gate: &G,
 ) -> Result<Option<Table>, Stop>
     requires { All (λ info. AreColumns info.cols) catalog.now.tables }
     ensures read { Loads (F.held files.old) (Rose (F.faults files.old) (F.faults files.new)) (option_to_list (appended_by (catalog_image catalog.now) (AppendedLine table.now file.now)))
@@ -44,7 +49,8 @@ fn bring_rows<F: Files>(
 {
     match catalog.table_place(table) {
         Some(t) => {
-            let rows = load(alloc, files, file, &catalog.tables.as_slice()[t])?;
+            let info = &catalog.tables.as_slice()[t];
+            let rows = load(rt, alloc, settings, files, file, info, gate)?;
             Ok(Some(rows))
         }
         None => Ok(None),
@@ -52,11 +58,14 @@ fn bring_rows<F: Files>(
 }
 
 // The table that a line brings, if it brings one. It lets go of what the line says.
-fn bring<F: Files>(
+fn bring<R: Threads + Sync, F: Files, G: Gate + Sync>(
+    rt: &R,
     alloc: Global,
+    settings: Settings,
     files: &mut F,
     catalog: &Catalog,
     reading: Reading,
+    gate: &G,
 ) -> Result<Option<Table>, Stop>
     requires { All (λ info. AreColumns info.cols) catalog.now.tables }
     ensures read { Loads (F.held files.old) (Rose (F.faults files.old) (F.faults files.new)) (option_to_list (appended_at (catalog_image catalog.now) (reading_image reading)))
@@ -68,7 +77,7 @@ fn bring<F: Files>(
 {
     match reading {
         Reading::Asks(AnyLine::Append { table, file }) => {
-            bring_rows(alloc, files, catalog, &table, &file)
+            bring_rows(rt, alloc, settings, files, catalog, &table, &file, gate)
         }
         Reading::Asks(AnyLine::Plain(_) | AnyLine::Ask(_) | AnyLine::Profile { .. })
         | Reading::Nothing
@@ -88,11 +97,14 @@ fn keep(added: &mut VecDeque<Table>, brought: Option<Table>) -> Result<(), Stop>
 }
 
 /// The tables that the lines of a script bring, line by line. Nothing else is kept of the lines.
-pub fn read_added<F: Files>(
+pub fn read_added<R: Threads + Sync, F: Files, G: Gate + Sync>(
+    rt: &R,
     alloc: Global,
+    settings: Settings,
     files: &mut F,
     catalog: &Catalog,
     script: &[u8],
+    gate: &G,
 ) -> Result<VecDeque<Table>, Stop>
     requires { All (λ info. AreColumns info.cols) catalog.now.tables }
     ensures read { (said : List readings.Reading) → AreReadings (lines script.now) said
@@ -106,7 +118,7 @@ pub fn read_added<F: Files>(
     let mut from = 0;
     while let Some(span) = line_at(script, from) {
         let reading = reading_of(alloc, &script[span.start..span.end])?;
-        let brought = bring(alloc, files, catalog, reading)?;
+        let brought = bring(rt, alloc, settings, files, catalog, reading, gate)?;
         keep(&mut added, brought)?;
         from = span.next;
     }

@@ -11,11 +11,16 @@ ghost use Rattle.smk_outside.specs.Outside.{Rose};
 ghost use Rattle.smk_top.specs.Reading.{Answers, Reads, Loads, IsSayable};
 
 use crate::files::content;
+use crate::settings::Settings;
 use crate::stop::Stop;
 use smk_base::{ColDecls, Fault, TableFault, TableInfo, Text};
-use smk_outside::Files;
-use smk_table::{Table, read_table};
+use smk_outside::{Files, Gate};
+use smk_table::{Table, read_table_in_pieces};
 use std::alloc::{AllocError, Global};
+use std::thread::Threads;
+
+// How many bytes a piece of a file has at least. In what was measured smaller pieces gained nothing beside each other.
+const PIECE_BYTES: u32 = 262_144;
 
 // The name of the column that a fault of a table is one of.
 fn faulty_column(
@@ -52,13 +57,21 @@ fn fault_of_table(alloc: Global, info: &TableInfo, fault: TableFault) -> Result<
 
 // The table of the bytes of a file.
 #[tactic(auto, using(crate::proofs::TableLoads::kinds_declared))]
-fn table_of(alloc: Global, info: &TableInfo, bytes: &[u8]) -> Result<Table, Stop>
+fn table_of<R: Threads + Sync, G: Gate + Sync>(
+    rt: &R,
+    alloc: Global,
+    settings: Settings,
+    info: &TableInfo,
+    bytes: &[u8],
+    gate: &G,
+) -> Result<Table, Stop>
     requires { AreColumns info.now.cols }
     ensures answers { Answers (λ answer. outcomes.or_table_fault info.now (csv_tables.table_of info.now.cols bytes.now) ≡ answer) (λ table. table.rows) result }
     ensures kinds { IfOk result (λ table. table.kinds ≡ table_kinds info.now) }
     ensures said { IsSayable result }
 {
-    match read_table(alloc, bytes, &info.cols) {
+    let workers = settings.workers;
+    match read_table_in_pieces(rt, alloc, bytes, &info.cols, workers, PIECE_BYTES, gate) {
         Ok(table) => Ok(table),
         Err(TableFault::NoMemory) => Err(Stop::Exhausted),
         Err(fault) => Err(Stop::At(fault_of_table(alloc, info, fault)?)),
@@ -66,11 +79,14 @@ fn table_of(alloc: Global, info: &TableInfo, bytes: &[u8]) -> Result<Table, Stop
 }
 
 /// A table, by a file, which is its own or that of rows that are appended to it.
-pub fn load<F: Files>(
+pub fn load<R: Threads + Sync, F: Files, G: Gate + Sync>(
+    rt: &R,
     alloc: Global,
+    settings: Settings,
     files: &mut F,
     file: &Text,
     info: &TableInfo,
+    gate: &G,
 ) -> Result<Table, Stop>
     requires { AreColumns info.now.cols }
     ensures read { Reads (F.held files.old) (Rose (F.faults files.old) (F.faults files.new)) file.now
@@ -81,14 +97,17 @@ pub fn load<F: Files>(
     ensures later { F.faults files.old ≤ F.faults files.new }
 {
     let bytes = content(alloc, files, file)?;
-    table_of(alloc, info, bytes.as_slice())
+    table_of(rt, alloc, settings, info, bytes.as_slice(), gate)
 }
 
 /// The tables of a book, in its order.
-pub fn load_all<F: Files>(
+pub fn load_all<R: Threads + Sync, F: Files, G: Gate + Sync>(
+    rt: &R,
     alloc: Global,
+    settings: Settings,
     files: &mut F,
     infos: &[TableInfo],
+    gate: &G,
 ) -> Result<Vec<Table>, Stop>
     requires { All (λ info. AreColumns info.cols) infos.now }
     ensures read { Loads (F.held files.old) (Rose (F.faults files.old) (F.faults files.new)) infos.now (λ tables. each_rows tables.items) result }
@@ -99,7 +118,7 @@ pub fn load_all<F: Files>(
 {
     let mut tables = Vec::new(alloc);
     for info in infos {
-        tables.push(load(alloc, files, &info.file, info)?)?;
+        tables.push(load(rt, alloc, settings, files, &info.file, info, gate)?)?;
     }
     Ok(tables)
 }

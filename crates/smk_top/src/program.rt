@@ -144,12 +144,14 @@ fn work_on<R: Threads + Sync, F: Files, O: Sink, G: Gate + Sync, L: Ledger>(
 {
     match &call.texts {
         RunTexts::Files { book, script } => {
-            let inputs = read_all(alloc, files, book, script.as_ref())?;
-            report(rt, alloc, call.settings, inputs, gate, out, steps)
+            let settings = call.settings;
+            let inputs = read_all(rt, alloc, settings, files, book, script.as_ref(), gate)?;
+            report(rt, alloc, settings, inputs, gate, out, steps)
         }
         RunTexts::Demo(flights) => {
-            let inputs = read_demo(alloc, *flights)?;
-            summarize(rt, alloc, *flights, call.settings, inputs, gate, out, steps)
+            let settings = call.settings;
+            let inputs = read_demo(rt, alloc, settings, *flights, gate)?;
+            summarize(rt, alloc, *flights, settings, inputs, gate, out, steps)
         }
     }
 }

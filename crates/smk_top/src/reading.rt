@@ -20,12 +20,14 @@ use crate::inputs::Inputs;
 use crate::loading::load_all;
 use crate::opening::{OpenedBook, open_book};
 use crate::script::open_script;
+use crate::settings::Settings;
 use crate::stop::Stop;
 use smk_base::{Catalog, Text, without_mark};
-use smk_outside::Files;
+use smk_outside::{Files, Gate};
 use smk_table::Table;
 use std::alloc::Global;
 use std::collections::VecDeque;
+use std::thread::Threads;
 
 // The tables of a book, the bytes of a script, and the tables that its lines bring.
 #[derive(Drop)]
@@ -36,11 +38,14 @@ struct Rest {
 }
 
 // What is read after a book: its tables, the script, and the files that the lines of the script append.
-fn read_rest<F: Files>(
+fn read_rest<R: Threads + Sync, F: Files, G: Gate + Sync>(
+    rt: &R,
     alloc: Global,
+    settings: Settings,
     files: &mut F,
     catalog: &Catalog,
     script: Option<&Text>,
+    gate: &G,
 ) -> Result<Rest, Stop>
     requires { All (λ info. AreColumns info.cols) catalog.now.tables }
     ensures read { (book : List ℕ) (said : BookSaid) → said.catalog ≡ catalog_image catalog.now → Reads (F.held files.old) (Unit {0}) book (λ held. OpensBook held book) (λ opened. opened) (Ok said)
@@ -52,10 +57,10 @@ fn read_rest<F: Files>(
     ensures later { F.faults files.old ≤ F.faults files.new }
 {
     let infos = catalog.tables.as_slice();
-    let tables = load_all(alloc, files, infos)?;
+    let tables = load_all(rt, alloc, settings, files, infos, gate)?;
     let script = open_script(alloc, files, script)?;
     let text = without_mark(script.as_slice());
-    let added = read_added(alloc, files, catalog, text)?;
+    let added = read_added(rt, alloc, settings, files, catalog, text, gate)?;
     Ok(Rest {
         tables,
         script,
@@ -64,11 +69,14 @@ fn read_rest<F: Files>(
 }
 
 /// What is read of the book and the script of these names, or why that stops.
-pub fn read_all<F: Files>(
+pub fn read_all<R: Threads + Sync, F: Files, G: Gate + Sync>(
+    rt: &R,
     alloc: Global,
+    settings: Settings,
     files: &mut F,
     book: &Text,
     script: Option<&Text>,
+    gate: &G,
 ) -> Result<Inputs, Stop>
     ensures read { ReadsAll (F.held files.old) (Rose (F.faults files.old) (F.faults files.new)) book.now (option_copied script.entry) inputs_with script_bytes result }
     ensures shown { IfOk result (λ inputs. AreDependencies (catalog_image inputs.book) inputs.fds) }
@@ -78,7 +86,7 @@ pub fn read_all<F: Files>(
     ensures later { F.faults files.old ≤ F.faults files.new }
 {
     let OpenedBook { book, fds } = open_book(alloc, files, book)?;
-    let rest = read_rest(alloc, files, book.catalog(), script)?;
+    let rest = read_rest(rt, alloc, settings, files, book.catalog(), script, gate)?;
     Ok(Inputs {
         book,
         fds,

@@ -42,7 +42,13 @@ use std::sync::ledger::Ledger;
 use std::thread::Threads;
 
 /// What is read of the texts of a demo.
-pub fn read_demo(alloc: Global, flights: Flights) -> Result<Inputs, Stop>
+pub fn read_demo<R: Threads + Sync, G: Gate + Sync>(
+    rt: &R,
+    alloc: Global,
+    settings: Settings,
+    flights: Flights,
+    gate: &G,
+) -> Result<Inputs, Stop>
     ensures read { ReadsAll (Some (outcomes.text_named (demo_of flights.count))) (Rose 0 0) DEMO_BOOK_NAME.now (Some DEMO_SCRIPT_NAME.now) inputs_with script_bytes result }
     ensures shown { IfOk result (λ inputs. AreDependencies (catalog_image inputs.book) inputs.fds) }
     ensures fits { IfOk result (λ inputs. BringTables (catalog_image inputs.book) (lines (after_marks inputs.script.items)) inputs.added.items) }
@@ -53,7 +59,7 @@ pub fn read_demo(alloc: Global, flights: Flights) -> Result<Inputs, Stop>
     };
     let book = text_of(alloc, DEMO_BOOK_NAME)?;
     let script = text_of(alloc, DEMO_SCRIPT_NAME)?;
-    read_all(alloc, &mut texts, &book, Some(&script))
+    read_all(rt, alloc, settings, &mut texts, &book, Some(&script), gate)
 }
 
 // The sizes of the views, as they are first evaluated.
