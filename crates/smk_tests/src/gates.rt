@@ -7,7 +7,7 @@ use smk_base::Need;
 use smk_compose::RunFault;
 use smk_inject::Inject;
 use smk_par::Pieces;
-use smk_test_bodies::{Calls, Counted, Gated, Meeting, NoSteps};
+use smk_test_bodies::{Calls, Counted, Meeting, NoSteps};
 use std::test::Fail;
 
 // A piece comes once for each step, also where the step has two passes.
@@ -23,13 +23,13 @@ fn two_pieces_of_each_cut_step_meet(rt: HostRuntime) -> Result<(), Fail> {
     Ok(())
 }
 
-// The body whose pieces are numbers cuts a selection and a bag union. The steps want memory once their pieces are made.
+// The body that counts has the pieces of the inner one. A selection and a join want memory once their rows are made, which is a call each.
 #[test]
-fn pieces_that_are_numbers_meet(rt: HostRuntime) -> Result<(), Fail> {
+fn counted_pieces_meet(rt: HostRuntime) -> Result<(), Fail> {
     let steps = steps(rt.alloc())?;
     let gate = Meeting::new();
-    let body = Counted::new(Gated::new(NoSteps, &gate, 2));
-    for (view, came) in [(0u32, [1u64, 1, 0]), (6, [2, 2, 0])].as_slice() {
+    let body = Counted::new(Pieces::new(NoSteps, &gate, 2));
+    for (view, came) in [(0u32, [1u64, 1, 0]), (2, [2, 2, 0])].as_slice() {
         assert!(rt; (*view as usize) < steps.book.catalog().views.as_slice().len());
         let made = ran(&rt, rt, &body, &steps, *view, &Need::new(rt.alloc()));
         assert!(rt; matches!(made, Err(RunFault::NoMemory)));

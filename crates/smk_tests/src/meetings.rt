@@ -2,13 +2,14 @@
 
 ghost use Rattle.std.specs.Prelude.{◌≡◌, ◌<◌};
 
+use crate::runs::{put, ran_over};
 use crate::sessions::{line_of, started};
 use crate::shop::{BOOK, REGIONS, SALES};
-use smk_base::{Line, Reply, Text};
-use smk_outside::{MemFiles, MemSink, Steps};
+use smk_base::{Line, Reply};
+use smk_outside::{MemFiles, Steps};
 use smk_session::{Mode, Session};
 use smk_test_bodies::Meeting;
-use smk_top::{Status, run};
+use smk_top::Status;
 use std::alloc::{AllocError, Global};
 use std::marker::Brand;
 use std::sync::ledger::{Blank, Ledger};
@@ -17,50 +18,31 @@ use std::thread::Threads;
 
 const SCRIPT: &[u8] = b"brush by_region 0 on sales\nbrush big 0 on sales\nclear\n";
 
-// The files of a run by their names.
-fn files(alloc: Global) -> Result<Vec<(Text, Text)>, AllocError> {
+// The files of the shop.
+fn files(alloc: Global) -> Result<MemFiles, AllocError> {
     let mut files = Vec::new(alloc);
-    for (name, bytes) in [
-        (b"book.smk".as_slice(), BOOK.as_bytes()),
-        (b"sales.csv".as_slice(), SALES),
-        (b"regions.csv".as_slice(), REGIONS),
-        (b"script".as_slice(), SCRIPT),
-    ]
-    .as_slice()
-    {
-        let name = Text::from_vec(Vec::from_slice(alloc, name)?);
-        files.push((name, Text::from_vec(Vec::from_slice(alloc, bytes)?)))?;
-    }
-    Ok(files)
-}
-
-// A run of the shop with two workers at this gate.
-fn run_in_two<R: Threads + Sync, L: Ledger>(
-    system: HostRuntime,
-    rt: &R,
-    alloc: Global,
-    gate: &Meeting,
-    blank: Blank,
-) -> Result<Status, AllocError>
-    requires name { L.name ≡ blank.name }
-    requires parts { L.parts ≡ blank.parts }
-    requires some { 0 < blank.parts }
-{
-    let mut files = MemFiles::new(files(alloc)?, Vec::new(alloc));
-    let mut out = MemSink::new(alloc, Vec::new(alloc), 4096)?;
-    let mut err = MemSink::new(alloc, Vec::new(alloc), 4096)?;
-    let mut steps: Steps<L> = Steps::new(system, blank);
-    let words = ["--workers", "2", "book.smk", "script"];
-    Ok(run(
-        rt, alloc, &words, &mut files, &mut out, &mut err, gate, &mut steps,
-    ))
+    put(alloc, &mut files, "book.smk", &[BOOK.as_bytes()])?;
+    put(alloc, &mut files, "sales.csv", &[SALES])?;
+    put(alloc, &mut files, "regions.csv", &[REGIONS])?;
+    put(alloc, &mut files, "script", &[SCRIPT])?;
+    Ok(MemFiles::new(files, Vec::new(alloc)))
 }
 
 // Of the views three groupings, two selections and a join are cut. Two views follow the first brush, each with one number, and one follows the second, with a grouping and a selection.
 #[test]
 fn two_pieces_of_each_step_of_a_run_meet(rt: HostRuntime) -> Result<(), Fail> {
     let gate = Meeting::new();
-    let status = run_in_two::<_, Brand>(rt, &rt, rt.alloc(), &gate, Blank::new(1))?;
+    let mut files = files(rt.alloc())?;
+    let words = ["--workers", "2", "book.smk", "script"];
+    let (status, _) = ran_over::<_, _, Brand>(
+        rt,
+        &rt,
+        rt.alloc(),
+        &words,
+        &mut files,
+        &gate,
+        Blank::new(1),
+    )?;
     assert_eq!(rt; status, Status::Done);
     assert_eq!(rt; gate.came(), [9, 9, 0]);
     Ok(())

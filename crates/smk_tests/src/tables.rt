@@ -1,10 +1,13 @@
 ghost use Rattle.std.specs.Prelude.{◌≡◌, ◌<◌, length};
+ghost use Rattle.smk_model.specs.Catalogs.{table_kinds};
+ghost use Rattle.smk_model.specs.Tables.{AreColumns};
 
+use crate::opened::{Opened, open_book, rows_shown, table_of};
 use crate::shop::shop;
-use smk_base::{CellRef, Kind, Rel, Row, Value};
+use smk_base::{CellRef, Kind, Rel, Row, TableInfo, Value};
 use smk_outside::Steps;
 use smk_table::Table;
-use std::alloc::Global;
+use std::alloc::{AllocError, Global};
 use std::marker::Brand;
 use std::sync::ledger::{Blank, Ledger};
 use std::test::Fail;
@@ -79,5 +82,95 @@ fn a_table_gives_cells_rows_and_codes(rt: HostRuntime) -> Result<(), Fail> {
     assert_eq!(rt; (table.len(), table.width()), (3, 2));
     let shown = shown::<Brand>(rt, rt.alloc(), table, 1, Blank::new(1))?;
     assert_eq!(rt; shown.as_str(), "south south B A B 0 1 0 ");
+    Ok(())
+}
+
+// Puts the rows of a file of the table last, where both are short.
+fn absorb(alloc: Global, table: &mut Table, info: &TableInfo, bytes: &[u8]) -> Result<(), Fail>
+    requires columns { AreColumns info.now.cols }
+    requires kinds { table.old.kinds ≡ table_kinds info.now }
+    ensures { table.new.kinds ≡ table_kinds info.now }
+{
+    let more = table_of(alloc, info, bytes)?;
+    if table.len() < 1000 && more.len() < 1000 {
+        table.absorb(alloc, more)?;
+    }
+    Ok(())
+}
+
+// Keeps the first rows, where there are so many.
+fn cut(table: &mut Table, len: u32)
+    ensures { table.new.kinds ≡ table.old.kinds }
+{
+    if len <= table.len() {
+        table.cut(len);
+    }
+}
+
+// Holds the rows that a table has now, behind those that it had before.
+fn hold<L: Ledger>(
+    alloc: Global,
+    table: &Table,
+    held: &mut Vec<Rel>,
+    steps: &mut Steps<L>,
+) -> Result<(), AllocError> {
+    held.push(table.whole(alloc, steps)?)?;
+    Ok(())
+}
+
+// Holds the rows of a table at first, once it has absorbed others, and once it was cut and has absorbed a third.
+fn grow<L: Ledger>(
+    alloc: Global,
+    table: &mut Table,
+    info: &TableInfo,
+    held: &mut Vec<Rel>,
+    steps: &mut Steps<L>,
+) -> Result<(), Fail>
+    requires columns { AreColumns info.now.cols }
+    requires kinds { table.old.kinds ≡ table_kinds info.now }
+{
+    hold(alloc, table, held, steps)?;
+    absorb(alloc, table, info, b"k,n\nb,3\nc,4\n")?;
+    hold(alloc, table, held, steps)?;
+    cut(table, 3);
+    absorb(alloc, table, info, b"k,n\nd,9223372036854775807\n")?;
+    Ok(hold(alloc, table, held, steps)?)
+}
+
+// What a table of two rows holds while it grows.
+fn grown<L: Ledger>(
+    system: HostRuntime,
+    alloc: Global,
+    info: &TableInfo,
+    blank: Blank,
+) -> Result<Vec<Rel>, Fail>
+    requires columns { AreColumns info.now.cols }
+    requires name { L.name ≡ blank.name }
+    requires parts { L.parts ≡ blank.parts }
+    requires some { 0 < blank.parts }
+{
+    let mut steps: Steps<L> = Steps::new(system, blank);
+    let mut table = table_of(alloc, info, b"k,n\na,1\nb,2\n")?;
+    let mut held = Vec::new(alloc);
+    grow(alloc, &mut table, info, &mut held, &mut steps)?;
+    Ok(held)
+}
+
+// A run cuts a table only where a line is refused, and then shows what stood before.
+#[test]
+fn a_table_absorbs_others_and_is_cut(rt: HostRuntime) -> Result<(), Fail> {
+    let book = "table t from \"t.csv\" (k text, n int)\n";
+    let Opened { book, .. } = open_book(rt.alloc(), book, &[b"k,n\n"])?;
+    let Some(info) = book.catalog().tables.as_slice().first() else {
+        return Err(Fail::new("no table"));
+    };
+    let mut shown = String::new(rt.alloc());
+    for rel in grown::<Brand>(rt, rt.alloc(), info, Blank::new(1))?.as_slice() {
+        let rows = rows_shown(rt.alloc(), rel)?;
+        writeln!(shown, "{rows}")?;
+    }
+    let rows =
+        "a 1 \nb 2 \n\na 1 \nb 2 \nb 3 \nc 4 \n\na 1 \nb 2 \nb 3 \nd 9223372036854775807 \n\n";
+    assert_eq!(rt; shown.as_str(), rows);
     Ok(())
 }
