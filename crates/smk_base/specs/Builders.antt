@@ -7,7 +7,7 @@ use Rattle.smk_base.specs.Rels.{value_in}
 use Rattle.smk_base.specs.Images.{ColumnImage}
 use Rattle.smk_base.specs.Columns.{IsColumnOf}
 use Rattle.smk_base.specs.Relations.{column_in, kinds_of, rows_of}
-use Rattle.smk_base.specs.declared.rel.TheConstants.{ROW_LIMIT}
+use Rattle.smk_base.specs.declared.rel.TheConstants.{COLUMN_LIMIT, ROW_LIMIT}
 
 -- the kinds, the whole rows, and the first values of the row that was begun
 pub record RowsBegun : Type 0 where
@@ -24,7 +24,7 @@ rows_begun count at columns = record { kinds = kinds_of columns; rows = rows_of 
 
 -- few columns of as many rows, of which the first have a value more
 pub record AreBegun (count at : ℕ) (columns : List ColumnImage) : Type 0 where
-  pub few_columns : length columns ≤ 16
+  pub few_columns : length columns ≤ COLUMN_LIMIT
   pub few_rows : count ≤ ROW_LIMIT
   pub within : at ≤ length columns
   pub longer : (k : ℕ) → k < at → IsColumnOf (count + 1) (column_in columns k)

@@ -7,7 +7,7 @@ use Rattle.smk_base.specs.declared.value.Value.{Value}
 use Rattle.smk_base.specs.Rels.{Relation, value_in}
 use Rattle.smk_base.specs.Images.{ColumnImage}
 use Rattle.smk_base.specs.Columns.{IsColumnOf}
-use Rattle.smk_base.specs.declared.rel.TheConstants.{ROW_LIMIT}
+use Rattle.smk_base.specs.declared.rel.TheConstants.{COLUMN_LIMIT, ROW_LIMIT}
 
 -- column c
 abbrev pub column_in : List ColumnImage → ℕ → ColumnImage
@@ -29,7 +29,7 @@ relation_of count columns = record { kinds = kinds_of columns; rows = rows_of co
 
 -- few columns of as many rows, and the values of each of its kind
 pub record AreColumns (count : ℕ) (columns : List ColumnImage) : Type 0 where
-  pub few_columns : length columns ≤ 16
+  pub few_columns : length columns ≤ COLUMN_LIMIT
   pub few_rows : count ≤ ROW_LIMIT
   pub each : All (IsColumnOf count) columns
 

@@ -6,7 +6,7 @@ use Rattle.smk_base.specs.declared.value.Kind.{Kind}
 use Rattle.smk_base.specs.declared.value.Kind.TheVariants as kinds
 use Rattle.smk_base.specs.declared.value.Value.{Value}
 use Rattle.smk_base.specs.declared.value.Value.TheVariants as values
-use Rattle.smk_base.specs.declared.rel.TheConstants.{ROW_LIMIT}
+use Rattle.smk_base.specs.declared.rel.TheConstants.{COLUMN_LIMIT, ROW_LIMIT}
 
 -- kinds and rows
 pub record Relation : Type 0 where
@@ -36,7 +36,7 @@ IsColumn kinds.Text = Unit {0}
 
 -- what every Rel keeps: the limits of columns, levels and rows, and rows that fit
 pub record IsRelation (relation : Relation) : Type 0 where
-  pub few_columns : length relation.kinds ≤ 16
+  pub few_columns : length relation.kinds ≤ COLUMN_LIMIT
   pub low_levels : All IsColumn relation.kinds
   pub few_rows : length relation.rows ≤ ROW_LIMIT
   pub fit : All (RowFits relation.kinds) relation.rows

@@ -1,5 +1,6 @@
-ghost use Rattle.std.specs.Prelude.{◌≡◌, ◌<◌, ◌≤◌, ◌+◌, [], length, take, Some, IfOk, IfSome, OnOk, OnErr, IsOk, slice_index_or};
+ghost use Rattle.std.specs.Prelude.{◌≡◌, ◌<◌, ◌≤◌, ◌+◌, ◌*◌, [], length, take, Some, IfOk, IfSome, OnOk, OnErr, IsOk, slice_index_or};
 ghost use Rattle.smk_base.specs.Dicts.{AreTexts, code_in, code_or_last, with_text};
+ghost use Rattle.smk_base.specs.declared.rel.TheConstants.{ROW_LIMIT};
 
 use crate::list::Text;
 use indexmap::IndexSet;
@@ -18,7 +19,8 @@ pub struct Dict {
 }
 
 impl Model for Dict {
-    ghost use Rattle.std.specs.Prelude.{length, ◌≤◌};
+    ghost use Rattle.std.specs.Prelude.{length, ◌≤◌, ◌*◌};
+    ghost use Rattle.smk_base.specs.declared.rel.TheConstants.{ROW_LIMIT};
     ghost use Rattle.indexmap.specs.IndexSet.{spare};
     ghost use Rattle.smk_base.specs.Dicts.{DictImage, AreTexts, texts_of};
 
@@ -26,7 +28,7 @@ impl Model for Dict {
 
     ghost view = { λ a. record { texts = texts_of a.texts.keys; room = spare a.texts } };
 
-    ghost invariant = { λ a. record { different : AreTexts (texts_of a.texts.keys); few : length a.texts.keys ≤ 2097152 } };
+    ghost invariant = { λ a. record { different : AreTexts (texts_of a.texts.keys); few : length a.texts.keys ≤ 2 * ROW_LIMIT } };
 }
 
 impl Dict {
@@ -44,7 +46,7 @@ impl Dict {
     pub fn len(&self) -> u32
         ensures count { result ≡ length self.now.texts }
         ensures distinct { AreTexts self.now.texts }
-        ensures few { length self.now.texts ≤ 2097152 }
+        ensures few { length self.now.texts ≤ 2 * ROW_LIMIT }
     {
         self.texts.len() as u32
     }
@@ -106,7 +108,7 @@ impl Dict {
 
     /// The code of a text, which goes last where it isn't there. After an error the texts are as before, and there is none where there was room.
     pub fn add(&mut self, text: Text) -> Result<u32, AllocError>
-        requires { length self.old.texts < 2097152 }
+        requires { length self.old.texts < 2 * ROW_LIMIT }
         ensures code { IfOk result (λ code. code ≡ code_or_last self.old.texts text) }
         ensures texts { OnOk result (self.new.texts ≡ with_text self.old.texts text) }
         ensures kept { OnErr result (self.new.texts ≡ self.old.texts) }
@@ -120,7 +122,7 @@ impl Dict {
 
     /// The code of a text, which goes last where it isn't there. It takes memory only for a new text. After an error the texts are as before.
     pub fn add_bytes(&mut self, text: &[u8]) -> Result<u32, AllocError>
-        requires { length self.old.texts < 2097152 }
+        requires { length self.old.texts < 2 * ROW_LIMIT }
         ensures code { IfOk result (λ code. code ≡ code_or_last self.old.texts text.now) }
         ensures texts { OnOk result (self.new.texts ≡ with_text self.old.texts text.now) }
         ensures kept { OnErr result (self.new.texts ≡ self.old.texts) }
@@ -133,7 +135,7 @@ impl Dict {
 
     // The same by the text's hash alone. It takes memory for each text.
     fn add_copy(&mut self, text: &[u8]) -> Result<u32, AllocError>
-        requires { length self.old.texts < 2097152 }
+        requires { length self.old.texts < 2 * ROW_LIMIT }
         ensures code { IfOk result (λ code. code ≡ code_or_last self.old.texts text.now) }
         ensures texts { OnOk result (self.new.texts ≡ with_text self.old.texts text.now) }
         ensures kept { OnErr result (self.new.texts ≡ self.old.texts) }

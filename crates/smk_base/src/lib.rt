@@ -26,6 +26,7 @@ mod tree;
 mod type_fault;
 mod value;
 mod value_column;
+mod workers;
 
 // Books and lines of scripts as they are written.
 pub use token::{KEYWORDS, TokenKind};
@@ -54,7 +55,7 @@ pub use pick::Pick;
 pub use picks::Picks;
 pub use plan::{Agg, Aggs, CmpOp, Dir, Item, Items, Keys, Op1, Op2, Operand, Pairs, Plan, Pred};
 pub use read::{read_int, without_mark};
-pub use rel::{ROW_LIMIT, Rel};
+pub use rel::{COLUMN_LIMIT, ROW_LIMIT, Rel};
 pub use rel_builder::RelBuilder;
 pub use reply::{
     AppendRefusal, AppendReply, AskRefusal, AskReply, Group, Groups, Linked, Linkeds,
@@ -64,3 +65,4 @@ pub use size::{Size, Sizes};
 pub use type_fault::TypeFault;
 pub use value::{CellRef, Kind, Value};
 pub use value_column::Ints;
+pub use workers::WORKER_LIMIT;

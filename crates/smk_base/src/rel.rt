@@ -26,6 +26,9 @@ use std::marker::Model;
 /// How many rows a Rel may have.
 pub const ROW_LIMIT: u32 = 1_048_576;
 
+/// How many columns a Rel may have.
+pub const COLUMN_LIMIT: u32 = 16;
+
 /// Rows of values that fit the kinds of their columns: at most 16 columns, the int ones of level at most 3, and at most 1,048,576 rows. Contracts see the kinds and the list of rows.
 #[derive(Drop)]
 pub struct Rel {
@@ -47,7 +50,7 @@ impl Model for Rel {
 impl Rel {
     /// A Rel of these kinds with no row.
     pub fn new(alloc: Global, kinds: &[Kind]) -> Result<Rel, AllocError>
-        requires few_columns { length kinds.now ≤ 16 }
+        requires few_columns { length kinds.now ≤ COLUMN_LIMIT }
         requires low_levels { All IsColumn kinds.now }
         ensures { IfOk result (λ rel. rel ≡ record { kinds = kinds.now; rows = [] }) }
     {
@@ -76,7 +79,7 @@ impl Rel {
     /// The number of columns. It takes no memory.
     pub fn width(&self) -> u32
         ensures count { result ≡ length self.now.kinds }
-        ensures few { result ≤ 16 }
+        ensures few { result ≤ COLUMN_LIMIT }
         ensures keeps { IsRelation self.now }
     {
         self.columns.len() as u32
@@ -220,7 +223,7 @@ impl Rel {
     /// These columns, in this order.
     pub fn pick_columns(&self, alloc: Global, cols: &[u32]) -> Result<Rel, AllocError>
         requires within { All (λ c. c < length self.now.kinds) cols.now }
-        requires few { length cols.now ≤ 16 }
+        requires few { length cols.now ≤ COLUMN_LIMIT }
         ensures { IfOk result (λ made. made ≡ record { kinds = map (kind_in self.now.kinds) cols.now; rows = map (picked cols.now) self.now.rows }) }
     {
         Ok(Rel {
@@ -291,7 +294,7 @@ impl Rel {
     /// Each row with the one at the same place in the other behind it.
     pub fn beside(self, right: Rel) -> Result<Rel, AllocError>
         requires long { length self.rows ≡ length right.rows }
-        requires few { length self.kinds + length right.kinds ≤ 16 }
+        requires few { length self.kinds + length right.kinds ≤ COLUMN_LIMIT }
         ensures { IfOk result (λ made. made ≡ record { kinds = self.kinds ++ right.kinds; rows = beside_rows self.rows right.rows }) }
     {
         let Rel { mut columns, count } = self;

@@ -4,7 +4,7 @@ ghost use Rattle.smk_base.specs.declared.value.Kind.TheVariants as kinds;
 ghost use Rattle.smk_base.specs.declared.value.Value.TheVariants as values;
 
 use crate::columns::{begun_columns, owned_each};
-use crate::rel::{ROW_LIMIT, Rel};
+use crate::rel::{COLUMN_LIMIT, ROW_LIMIT, Rel};
 use crate::value::Kind;
 use crate::value_column::ValueColumn;
 use std::alloc::{AllocError, Global};
@@ -32,7 +32,7 @@ impl Model for RelBuilder {
 impl RelBuilder {
     /// No row of these kinds.
     pub fn new(alloc: Global, kinds: &[Kind]) -> Result<RelBuilder, AllocError>
-        requires few_columns { length kinds.now ≤ 16 }
+        requires few_columns { length kinds.now ≤ COLUMN_LIMIT }
         requires low_levels { All IsColumn kinds.now }
         ensures { IfOk result (λ builder. builder ≡ record { kinds = kinds.now; rows = []; begun = [] }) }
     {

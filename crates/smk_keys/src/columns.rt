@@ -5,8 +5,8 @@ ghost use Rattle.smk_base.specs.declared.value.Value.TheVariants.{Int};
 ghost use Rattle.smk_keys.specs.Numbers.{AreNumbers};
 
 use crate::ints::int_numbers;
+use crate::number_pairs::pair_numbers;
 use crate::numbers::{Numbers, zeros};
-use crate::pairs::pair_numbers;
 use smk_base::{Kind, Rel};
 use std::alloc::{AllocError, Global};
 

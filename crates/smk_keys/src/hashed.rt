@@ -1,5 +1,6 @@
 //! Numbers of items in the order in which they come.
-ghost use Rattle.std.specs.Prelude.{◌≡◌, ◌≤◌, [], length, Decides, IfOk};
+ghost use Rattle.std.specs.Prelude.{◌≡◌, ◌≤◌, ◌*◌, [], length, Decides, IfOk};
+ghost use Rattle.smk_base.specs.declared.rel.TheConstants.{ROW_LIMIT};
 ghost use Rattle.smk_keys.specs.Numbers.{AreNumbers};
 
 use crate::numbers::Numbers;
@@ -12,7 +13,7 @@ pub(crate) fn hashed_numbers<T: Copy + Eq + Hash + Drop>(
     alloc: Global,
     items: &[T],
 ) -> Result<Numbers, AllocError>
-    requires few { length items.now ≤ 2097152 }
+    requires few { length items.now ≤ 2 * ROW_LIMIT }
     requires same { (a b : T) → Decides (T.eq a b) (a ≡ b) }
     ensures { IfOk result (λ made. (none : T) → AreNumbers none items.now made.count made.of.items) }
 {
@@ -28,7 +29,7 @@ fn numbers_in<T: Copy + Eq + Hash + Drop>(
     items: &[T],
     seen: &mut IndexSet<T>,
 ) -> Result<Numbers, AllocError>
-    requires few { length items.now ≤ 2097152 }
+    requires few { length items.now ≤ 2 * ROW_LIMIT }
     requires none { seen.old.keys ≡ [] }
     requires same { (a b : T) → Decides (T.eq a b) (a ≡ b) }
     ensures { IfOk result (λ made. (none : T) → AreNumbers none items.now made.count made.of.items) }

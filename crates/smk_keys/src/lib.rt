@@ -6,8 +6,8 @@ mod classes;
 mod columns;
 mod hashed;
 mod ints;
+mod number_pairs;
 mod numbers;
-mod pairs;
 mod table;
 
 pub use classes::Classes;

@@ -1,6 +1,7 @@
 //! Numbers that stand for items.
 ghost use Rattle.std.specs.Prelude.{◌≡◌, ◌≤◌, ◌+◌, ◌*◌, IfOk};
 ghost use Rattle.std.proofs.Math.ListN.{replicate};
+ghost use Rattle.smk_base.specs.declared.rel.TheConstants.{ROW_LIMIT};
 
 use std::alloc::{AllocError, Global};
 
@@ -22,7 +23,7 @@ pub(crate) fn zeros(alloc: Global, n: u32) -> Result<Numbers, AllocError>
 
 /// How many places a table for so many items may have.
 pub(crate) fn table_limit(items: usize) -> u64
-    requires { items ≤ 2097152 }
+    requires { items ≤ 2 * ROW_LIMIT }
     ensures { result ≡ items * 4 + 1024 }
 {
     items as u64 * 4 + 1024

@@ -1,4 +1,5 @@
-ghost use Rattle.std.specs.Prelude.{◌≡◌, ◌<◌, ◌≤◌, [], length, IfOk, OnOk, OnErr, slice_index_or};
+ghost use Rattle.std.specs.Prelude.{◌≡◌, ◌<◌, ◌≤◌, ◌*◌, [], length, IfOk, OnOk, OnErr, slice_index_or};
+ghost use Rattle.smk_base.specs.declared.rel.TheConstants.{ROW_LIMIT};
 ghost use Rattle.smk_keys.specs.Keys.{AreKeys, place_of, place_or_last, with_key};
 
 use indexmap::IndexSet;
@@ -13,7 +14,8 @@ pub struct KeyTable {
 }
 
 impl Model for KeyTable {
-    ghost use Rattle.std.specs.Prelude.{List, length, ◌≤◌};
+    ghost use Rattle.std.specs.Prelude.{List, length, ◌≤◌, ◌*◌};
+    ghost use Rattle.smk_base.specs.declared.rel.TheConstants.{ROW_LIMIT};
     ghost use Rattle.smk_base.specs.declared.value.Value.{Value as Cell};
     ghost use Rattle.smk_keys.specs.Keys.{AreKeys};
 
@@ -21,7 +23,7 @@ impl Model for KeyTable {
 
     ghost view = { λ a. a.keys.keys };
 
-    ghost invariant = { λ a. AreKeys a.keys.keys × (length a.keys.keys ≤ 2097152) };
+    ghost invariant = { λ a. AreKeys a.keys.keys × (length a.keys.keys ≤ 2 * ROW_LIMIT) };
 }
 
 impl KeyTable {
@@ -65,7 +67,7 @@ impl KeyTable {
 
     /// The place of a key, which goes last where it isn't there. After an error the table is as before.
     pub fn find_or_add(&mut self, key: Row) -> Result<u32, AllocError>
-        requires { length self.old < 2097152 }
+        requires { length self.old < 2 * ROW_LIMIT }
         ensures place { IfOk result (λ place. place ≡ place_or_last self.old key) }
         ensures keys { OnOk result (self.new ≡ with_key self.old key) }
         ensures kept { OnErr result (self.new ≡ self.old) }

@@ -6,7 +6,7 @@ use Rattle.smk_base.specs.declared.token.TokenKind.TheVariants as kinds
 use Rattle.smk_base.specs.declared.fault.Many.{Many}
 use Rattle.smk_base.specs.declared.fault.BookFault.TheVariants.{TooMany, BadNumber}
 use Rattle.smk_model.specs.Tokens.{Token, Front, Between, Begins, put, front, tokens_from, tokens, is_more}
-use Rattle.smk_model.specs.Machine.{State, Counts, Tally, Symbol, Move, Takes, Skips, Wrong, Past, Outside, through, settle, next, go_on, or_next, within, fault_at, fault_in, book_symbols, any_symbols, no_counts, book_fault, any_fault, at_stmts, at_end, AToken, AStmts, AnEnd}
+use Rattle.smk_model.specs.Machine.{Configuration, PlanCounts, Tally, Symbol, Move, Takes, Skips, Wrong, Past, Outside, through, settle, move_of, go_on, or_next, within, fault_at, fault_in, book_symbols, any_symbols, no_counts, book_fault, any_fault, at_stmts, at_end, AToken, AStmts, AnEnd}
 use Rattle.smk_model.specs.GrammarLaws.{Finishes}
 use Rattle.smk_model.proofs.Leaving.{no_end, no_ends, leaves_none, settles, and_left, and_right}
 use Rattle.smk_model.proofs.Sound.{not_failed, none_is_ok}
@@ -68,12 +68,12 @@ the_end : (k : TokenKind) → (k ≡ kinds.End → ⊥) → StaysClosed (or_next
 the_end kinds.End n = absurd (n refl)
 the_end _ n = tt
 
-closed : (ss : List Symbol) (c : Counts) (t : Token) → closes ss ≡ true → (t.kind ≡ kinds.End → ⊥) → StaysClosed (settle ss c t)
+closed : (ss : List Symbol) (c : PlanCounts) (t : Token) → closes ss ≡ true → (t.kind ≡ kinds.End → ⊥) → StaysClosed (settle ss c t)
 closed [] c t h n = absurd (cc)
 closed (AStmts y ∷ []) c t h n = stmts y t.kind n
 closed (AnEnd ∷ []) c t h n = the_end t.kind n
 closed (_ ∷ []) c t h n = absurd (cc)
-closed (x ∷ y ∷ ss) c t h n = by (next c x t) (settle (y ∷ ss) c t) (closed (y ∷ ss) c t h n)
+closed (x ∷ y ∷ ss) c t h n = by (move_of c x t) (settle (y ∷ ss) c t) (closed (y ∷ ss) c t h n)
   where
     by : (m o : Move) → StaysClosed o → StaysClosed (or_next m (y ∷ ss) o)
     by (Takes d l) o k = closed_behind l y ss h
@@ -97,20 +97,20 @@ unread_kind false = kinds.Huge
 abbrev unread : Bool → Token → Token
 unread b t = record { at = t.at; kind = unread_kind b; text = t.text }
 
-token_unread : (b : Bool) (k : TokenKind) (c : Counts) (t : Token) → no_end (AToken k) ≡ true → NotTaken (next c (AToken k) (unread b t))
+token_unread : (b : Bool) (k : TokenKind) (c : PlanCounts) (t : Token) → no_end (AToken k) ≡ true → NotTaken (move_of c (AToken k) (unread b t))
 token_unread b kinds.Bad c t h = absurd (cc)
 token_unread b kinds.Huge c t h = absurd (cc)
 token_unread true _ c t h = tt
 token_unread false _ c t h = tt
 
-not_taken : (b : Bool) (x : Symbol) (c : Counts) (t : Token) → no_end x ≡ true → NotTaken (next c x (unread b t))
+not_taken : (b : Bool) (x : Symbol) (c : PlanCounts) (t : Token) → no_end x ≡ true → NotTaken (move_of c x (unread b t))
 not_taken b (AToken k) c t h = token_unread b k c t h
 not_taken true _ c t h = tt
 not_taken false _ c t h = tt
 
-none_taken : (b : Bool) (ss : List Symbol) (c : Counts) (t : Token) → no_ends ss ≡ true → NotTaken (settle ss c (unread b t))
+none_taken : (b : Bool) (ss : List Symbol) (c : PlanCounts) (t : Token) → no_ends ss ≡ true → NotTaken (settle ss c (unread b t))
 none_taken b [] c t n = tt
-none_taken b (x ∷ ss) c t n = by (next c x (unread b t)) (not_taken b x c t (and_left (no_end x) (no_ends ss) n)) (settle ss c (unread b t)) (none_taken b ss c t (and_right (no_end x) (no_ends ss) n))
+none_taken b (x ∷ ss) c t n = by (move_of c x (unread b t)) (not_taken b x c t (and_left (no_end x) (no_ends ss) n)) (settle ss c (unread b t)) (none_taken b ss c t (and_right (no_end x) (no_ends ss) n))
   where
     by : (m : Move) → NotTaken m → (o : Move) → NotTaken o → NotTaken (or_next m ss o)
     by (Takes d l) h o g = absurd h
@@ -124,7 +124,7 @@ unread_is_no_end true e = absurd (cc)
 unread_is_no_end false e = absurd (cc)
 
 -- a token that can't be read is a fault
-unread_fails : (b : Bool) (x : Symbol) (ss : List Symbol) (c : Counts) (s : State) (t : Token) → no_ends (x ∷ ss) ≡ true → closes (x ∷ ss) ≡ true → t ≡ unread b t → through (x ∷ ss) c (t ∷ []) ≡ Ok s → ⊥
+unread_fails : (b : Bool) (x : Symbol) (ss : List Symbol) (c : PlanCounts) (s : Configuration) (t : Token) → no_ends (x ∷ ss) ≡ true → closes (x ∷ ss) ≡ true → t ≡ unread b t → through (x ∷ ss) c (t ∷ []) ≡ Ok s → ⊥
 unread_fails b x ss c s t n h f e = by (settle (x ∷ ss) c (unread b t)) (none_taken b (x ∷ ss) c t n) (closed (x ∷ ss) c (unread b t) h (unread_is_no_end b)) (ap (λ u. through (x ∷ ss) c (u ∷ [])) (sym f) ∙ e)
   where
     by : (m : Move) → NotTaken m → StaysClosed m → go_on m c (unread b t) [] (λ d l. through l d []) ≡ Ok s → ⊥
@@ -147,13 +147,13 @@ last_is_end kinds.Bad e bad huge = absurd (bad refl)
 last_is_end kinds.Huge e bad huge = absurd (huge refl)
 last_is_end _ e bad huge = absurd (cc)
 
-finishes : (ts : List Token) (ss : List Symbol) (c : Counts) (s : State) → no_ends ss ≡ true → closes ss ≡ true → Closes ts → through ss c ts ≡ Ok s → Finishes ts
+finishes : (ts : List Token) (ss : List Symbol) (c : PlanCounts) (s : Configuration) → no_ends ss ≡ true → closes ss ≡ true → Closes ts → through ss c ts ≡ Ok s → Finishes ts
 finishes [] ss c s n h k e = absurd k
 finishes (t ∷ ts) [] c s n h k e = absurd (cc)
 finishes (t ∷ []) (x ∷ ss) c s n h k e = last_is_end t.kind k (λ q. unread_fails true x ss c s t n h (same_token true t q) e) (λ q. unread_fails false x ss c s t n h (same_token false t q) e)
 finishes (t ∷ u ∷ ts) (x ∷ ss) c s n h k e = (more_is_no_end t.kind k.0, by (settle (x ∷ ss) c t) (settles (x ∷ ss) c t n) (closed (x ∷ ss) c t h (more_is_no_end t.kind k.0)) e (λ l d p q g. finishes (u ∷ ts) l d s p q k.1 g))
   where
-    by : (m : Move) → leaves_none m ≡ true → StaysClosed m → go_on m c t (u ∷ ts) (λ d l. through l d (u ∷ ts)) ≡ Ok s → ((l : List Symbol) (d : Counts) → no_ends l ≡ true → closes l ≡ true → through l d (u ∷ ts) ≡ Ok s → Finishes (u ∷ ts)) → Finishes (u ∷ ts)
+    by : (m : Move) → leaves_none m ≡ true → StaysClosed m → go_on m c t (u ∷ ts) (λ d l. through l d (u ∷ ts)) ≡ Ok s → ((l : List Symbol) (d : PlanCounts) → no_ends l ≡ true → closes l ≡ true → through l d (u ∷ ts) ≡ Ok s → Finishes (u ∷ ts)) → Finishes (u ∷ ts)
     by (Takes d l) p q g rec = rec l d p q g
     by Skips p q g rec = absurd q
     by Wrong p q g rec = absurd (not_failed (fault_at t) s g)

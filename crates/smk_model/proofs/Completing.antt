@@ -7,7 +7,7 @@ use Rattle.smk_base.specs.declared.fault.BookFault.{BookFault}
 use Rattle.smk_base.specs.declared.fault.BookFault.TheVariants.{TooMany, BadNumber}
 use Rattle.smk_model.specs.Tokens.{Token}
 use Rattle.smk_model.specs.Grammar.{First, plain_word, IsName, name, IsColumn, plain, string, no_more, int_type, no_default, by_itself, width, column_item, count, no_keys, no_aggs, eq, column_term, compared, no_and, no_or, scan, no_step, group_step, union_step, no_extra, fwd_stmt, no_stmt, mark, all_marks, no_then, clear_line, whole_line, ask_step, no_ask_step, plain_line, whole_any_line}
-use Rattle.smk_model.specs.Machine.{State, Counts, Symbol, Move, Takes, Skips, Wrong, Past, Outside, settle, go_on, through, book_symbols, line_symbols, any_symbols, no_counts, AToken, AName, AColumn, ALiteral, AWidth, AType, ADefault, AnAs, AWhat, AKeys, AnAggs, AFirst, AnItem, ALinked, MoreDecls, MoreItems, MoreKeys, MoreAggs, MorePairs, MoreLinked, ASource, ASteps, AStep, AUnited, APrim, AnAnds, AnOrs, AnOn, AnOp, ATerm, AStmts, ALineage, AnExtra, ALine, ALineName, ALineColumn, AMarks, AMark, MoreMarks, AThen, ACleared, AnEnd, AnyLine, AnAskStep, AskSteps}
+use Rattle.smk_model.specs.Machine.{Configuration, PlanCounts, Symbol, Move, Takes, Skips, Wrong, Past, Outside, settle, go_on, through, book_symbols, line_symbols, any_symbols, no_counts, AToken, AName, AColumn, ALiteral, AWidth, AType, ADefault, AnAs, AWhat, AKeys, AnAggs, AFirst, AnItem, ALinked, MoreDecls, MoreItems, MoreKeys, MoreAggs, MorePairs, MoreLinked, ASource, ASteps, AStep, AUnited, APrim, AnAnds, AnOrs, AnOn, AnOp, ATerm, AStmts, ALineage, AnExtra, ALine, ALineName, ALineColumn, AMarks, AMark, MoreMarks, AThen, ACleared, AnEnd, AnyLine, AnAskStep, AskSteps}
 use Rattle.smk_model.specs.Machine.{fault_at}
 use Rattle.smk_model.specs.GrammarLaws.{NoEnds, TakenAreCompleted}
 use Rattle.smk_model.proofs.Moves.{IsSymbol, AreSymbols, settled, MovesAll}
@@ -82,26 +82,26 @@ close_all : (ss : List Symbol) → (a : List Token) × (b : List Token) × AreSy
 close_all [] = ([], [], refl)
 close_all (x ∷ ss) = let r = close_all ss in let h = closes x r.0 in (h.0, r.1, (r.0, h.1, r.2))
 
-abbrev went : Result State BookFault → Result State BookFault
+abbrev went : Result Configuration BookFault → Result Configuration BookFault
 went r = r
 
-rest_of : Result State BookFault → List Token
+rest_of : Result Configuration BookFault → List Token
 rest_of (Ok s) = s.rest
 rest_of (Err e) = []
 
-not_done : (t : Token) (ts : List Token) (c : Counts) (s : State) → went (Ok (record { rest = t ∷ ts; counts = c })) ≡ went (Ok s) → s.rest ≡ [] → ⊥
+not_done : (t : Token) (ts : List Token) (c : PlanCounts) (s : Configuration) → went (Ok (record { rest = t ∷ ts; counts = c })) ≡ went (Ok s) → s.rest ≡ [] → ⊥
 unfolding rest_of
 not_done t ts c s e f = let g : t ∷ ts ≡ [] = ap rest_of e ∙ f in absurd (cc)
 
-not_failed : (f : BookFault) (s : State) → went (Err f) ≡ went (Ok s) → ⊥
+not_failed : (f : BookFault) (s : Configuration) → went (Err f) ≡ went (Ok s) → ⊥
 not_failed f s e = absurd (cc)
 
-completes : (ts : List Token) (ss : List Symbol) (c : Counts) (s : State) → NoEnds ts → through ss c ts ≡ Ok s → s.rest ≡ [] → (more : List Token) × (b : List Token) × AreSymbols ss (ts ++ more) b
+completes : (ts : List Token) (ss : List Symbol) (c : PlanCounts) (s : Configuration) → NoEnds ts → through ss c ts ≡ Ok s → s.rest ≡ [] → (more : List Token) × (b : List Token) × AreSymbols ss (ts ++ more) b
 completes [] ss c s n e f = close_all ss
 completes (t ∷ ts) [] c s n e f = absurd (not_done t ts c s e f)
 completes (t ∷ ts) (x ∷ ss) c s n e f = by (settle (x ∷ ss) c t) (settled (x ∷ ss) c t n.0) e (λ l d g. completes ts l d s n.1 g f)
   where
-    by : (m : Move) → MovesAll m (x ∷ ss) t → go_on m c t ts (λ d l. through l d ts) ≡ Ok s → ((l : List Symbol) (d : Counts) → through l d ts ≡ Ok s → (more : List Token) × (b : List Token) × AreSymbols l (ts ++ more) b) → (more : List Token) × (b : List Token) × AreSymbols (x ∷ ss) (t ∷ (ts ++ more)) b
+    by : (m : Move) → MovesAll m (x ∷ ss) t → go_on m c t ts (λ d l. through l d ts) ≡ Ok s → ((l : List Symbol) (d : PlanCounts) → through l d ts ≡ Ok s → (more : List Token) × (b : List Token) × AreSymbols l (ts ++ more) b) → (more : List Token) × (b : List Token) × AreSymbols (x ∷ ss) (t ∷ (ts ++ more)) b
     by (Takes d l) h g rec = let r = rec l d g in (r.0, r.1, h (ts ++ r.0) r.1 r.2)
     by Skips h g rec = absurd (not_done t ts c s g f)
     by Wrong h g rec = absurd (not_failed (fault_at t) s g)

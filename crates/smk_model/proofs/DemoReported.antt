@@ -10,7 +10,7 @@ use Rattle.smk_base.specs.declared.demo.DemoFile.{DemoFile}
 use Rattle.smk_model.specs.Demo.{demo_of, flights, airports}
 use Rattle.smk_model.specs.DemoBook.{demo_catalog, demo_workbook, demo_readings}
 use Rattle.smk_model.specs.DemoLaws.{HoldsTables, DemosAreReported}
-use Rattle.smk_model.specs.Words.{Words, Demo, Settings, Invocation, called, demo_sized, texts_named, texts_in, settings_in, value_given, smoke_app, where_taken, words_of}
+use Rattle.smk_model.specs.Words.{TextSource, Demo, Settings, Invocation, called, demo_sized, texts_named, texts_in, settings_in, value_given, smoke_app, where_taken, words_of}
 use Rattle.smk_model.specs.Outcome.{file_limit, Held, load_all, appended, kept_short, parsed, read, lines_read, a_script, OpensBook, OpensScript, inputs, usable, text_named, unless_view_fault}
 use Rattle.smk_model.proofs.DemoOpened.{opened}
 use Rattle.smk_model.proofs.DemoSizes.{short, of_two}
@@ -38,12 +38,12 @@ named_few None None script n e = absurd (cc)
 named_few (Some number) None script n e = number_few (int_of number) n e
 named_few (Some number) (Some book) script n e = absurd (cc)
 
-called_few : (s : Option Settings) (t : Option Words) (n : ℕ) → ((k : ℕ) → t ≡ Some (Demo k) → k ≤ 200000) → option_map (λ (call : Invocation). call.texts) (called s t) ≡ Some (Demo n) → n ≤ 200000
+called_few : (s : Option Settings) (t : Option TextSource) (n : ℕ) → ((k : ℕ) → t ≡ Some (Demo k) → k ≤ 200000) → option_map (λ (call : Invocation). call.texts) (called s t) ≡ Some (Demo n) → n ≤ 200000
 called_few (Some settings) (Some texts) n all e = all n e
 called_few (Some settings) None n all e = absurd (cc)
 called_few None t n all e = absurd (cc)
 
-taken_few : (kinds : Kinds) (s : Option Settings) (t : Option Words) (n : ℕ) → ((k : ℕ) → t ≡ Some (Demo k) → k ≤ 200000) → option_map (λ (call : Invocation). call.texts) (where_taken kinds (called s t)) ≡ Some (Demo n) → n ≤ 200000
+taken_few : (kinds : Kinds) (s : Option Settings) (t : Option TextSource) (n : ℕ) → ((k : ℕ) → t ≡ Some (Demo k) → k ≤ 200000) → option_map (λ (call : Invocation). call.texts) (where_taken kinds (called s t)) ≡ Some (Demo n) → n ≤ 200000
 taken_few [] s t n all e = called_few s t n all e
 taken_few (kind ∷ kinds) s t n all e = absurd (cc)
 

@@ -24,7 +24,7 @@ use Rattle.smk_model.specs.Grammar.{First, plain_word, IsName, name, IsColumn, p
 use Rattle.smk_model.proofs.Alike.{same_is}
 use Rattle.smk_model.proofs.Leaving.{and_left, and_right}
 use Rattle.smk_model.proofs.Unique.{step_opener, step_opening}
-use Rattle.smk_model.specs.Machine.{Counts, Tally, Symbol, Move, Takes, Skips, Wrong, Past, Outside, settle, or_next, within, next, no_counts, is_mark, is_short, at_name, at_column, at_first, at_item, at_literal, at_width, at_type, at_default, at_as, at_what, at_keys, at_aggs, at_linked, at_more, at_source, at_steps, step_symbols, node_move, at_on, at_united, at_compare, at_prim, at_ands, at_ors, at_op, at_term, at_stmts, at_lineage, at_extra, at_line, at_line_column, at_mark, at_marks, at_then, at_cleared, at_any_line, ask_symbols, at_ask_steps, at_end, at_token, AToken, AName, AColumn, ALiteral, AWidth, AType, ADefault, AnAs, AWhat, AKeys, AnAggs, AFirst, AnItem, ALinked, MoreDecls, MoreItems, MoreKeys, MoreAggs, MorePairs, MoreLinked, ASource, ASteps, AStep, AUnited, APrim, AnAnds, AnOrs, AnOn, AnOp, ATerm, AStmts, ALineage, AnExtra, ALine, ALineName, ALineColumn, AMarks, AMark, MoreMarks, AThen, ACleared, AnEnd, AnyLine, AnAskStep, AskSteps}
+use Rattle.smk_model.specs.Machine.{PlanCounts, Tally, Symbol, Move, Takes, Skips, Wrong, Past, Outside, settle, or_next, within, move_of, no_counts, is_mark, is_short, at_name, at_column, at_first, at_item, at_literal, at_width, at_type, at_default, at_as, at_what, at_keys, at_aggs, at_linked, at_more, at_source, at_steps, step_symbols, node_move, at_on, at_united, at_compare, at_prim, at_ands, at_ors, at_op, at_term, at_stmts, at_lineage, at_extra, at_line, at_line_column, at_mark, at_marks, at_then, at_cleared, at_any_line, ask_symbols, at_ask_steps, at_end, at_token, AToken, AName, AColumn, ALiteral, AWidth, AType, ADefault, AnAs, AWhat, AKeys, AnAggs, AFirst, AnItem, ALinked, MoreDecls, MoreItems, MoreKeys, MoreAggs, MorePairs, MoreLinked, ASource, ASteps, AStep, AUnited, APrim, AnAnds, AnOrs, AnOn, AnOp, ATerm, AStmts, ALineage, AnExtra, ALine, ALineName, ALineColumn, AMarks, AMark, MoreMarks, AThen, ACleared, AnEnd, AnyLine, AnAskStep, AskSteps}
 
 -- the tokens from a to b are the symbol
 abbrev pub IsSymbol : Symbol → List Token → List Token → Type 0
@@ -107,91 +107,91 @@ lim true what m x t h = h
 lim false what m x t h = tt
 
 -- a move that begins with a column
-columns : (c : Counts) (ss : List Symbol) (x : Symbol) (t : Token) → ((a b : List Token) (w : Word) → IsColumn (t ∷ a) a w → AreSymbols ss a b → IsSymbol x (t ∷ a) b) → (short : Bool) (k : TokenKind) → t.kind ≡ k → Moves (at_column c ss short k) x t
+columns : (c : PlanCounts) (ss : List Symbol) (x : Symbol) (t : Token) → ((a b : List Token) (w : Word) → IsColumn (t ∷ a) a w → AreSymbols ss a b → IsSymbol x (t ∷ a) b) → (short : Bool) (k : TokenKind) → t.kind ≡ k → Moves (at_column c ss short k) x t
 columns c ss x t f short kinds.Name e = lim short _ (Takes c ss) x t (λ a b h. f a b _ (plain (here t a kinds.Name e)) h)
 columns c ss x t f short kinds.Quoted e = lim short _ (Takes c ss) x t (λ a b h. f a b _ (quoted (here t a kinds.Quoted e)) h)
 columns c ss x t f short _ e = tt
 
-firsts : (c : Counts) (n : ℕ) (ss : List Symbol) (x : Symbol) (t : Token) → ((a b : List Token) (w : Word) → IsColumn (t ∷ a) a w → AreSymbols ss a b → IsSymbol x (t ∷ a) b) → (short : Bool) (k : TokenKind) → t.kind ≡ k → Moves (at_first c n ss short k) x t
+firsts : (c : PlanCounts) (n : ℕ) (ss : List Symbol) (x : Symbol) (t : Token) → ((a b : List Token) (w : Word) → IsColumn (t ∷ a) a w → AreSymbols ss a b → IsSymbol x (t ∷ a) b) → (short : Bool) (k : TokenKind) → t.kind ≡ k → Moves (at_first c n ss short k) x t
 firsts c n ss x t f short kinds.Name e = lim (nat_lt n 16) _ _ x t (lim short _ (Takes c ss) x t (λ a b h. f a b _ (plain (here t a kinds.Name e)) h))
 firsts c n ss x t f short kinds.Quoted e = lim (nat_lt n 16) _ _ x t (lim short _ (Takes c ss) x t (λ a b h. f a b _ (quoted (here t a kinds.Quoted e)) h))
 firsts c n ss x t f short _ e = tt
 
-mores : (c : Counts) (ss : List Symbol) (x : Symbol) (t : Token) → ((a b : List Token) → First kinds.Comma t (t ∷ a) a → AreSymbols ss a b → IsSymbol x (t ∷ a) b) → ((a : List Token) → IsSymbol x a a) → (k : TokenKind) → t.kind ≡ k → Moves (at_more c ss k) x t
+mores : (c : PlanCounts) (ss : List Symbol) (x : Symbol) (t : Token) → ((a b : List Token) → First kinds.Comma t (t ∷ a) a → AreSymbols ss a b → IsSymbol x (t ∷ a) b) → ((a : List Token) → IsSymbol x a a) → (k : TokenKind) → t.kind ≡ k → Moves (at_more c ss k) x t
 mores c ss x t f g kinds.Comma e = λ a b h. f a b (here t a kinds.Comma e) h
 mores c ss x t f g _ e = λ n a. g a
 
-tokens_moves : (c : Counts) (k : TokenKind) (x : Symbol) (t : Token) → (k ≡ t.kind → (a b : List Token) → a ≡ b → IsSymbol x (t ∷ a) b) → Moves (at_token c k t.kind) x t
+tokens_moves : (c : PlanCounts) (k : TokenKind) (x : Symbol) (t : Token) → (k ≡ t.kind → (a b : List Token) → a ≡ b → IsSymbol x (t ∷ a) b) → Moves (at_token c k t.kind) x t
 tokens_moves c k x t f = by (same_kind k t.kind) refl
   where
     by : (o : Bool) → same_kind k t.kind ≡ o → Moves (cond o (Takes c []) Wrong) x t
     by true e = f (same_is k t.kind e)
     by false e = tt
 
-sources : (c : Counts) (d : ℕ) (x : Symbol) (t : Token) → ((a b : List Token) (y : TreeImage) → IsSource (t ∷ a) b y → IsSymbol x (t ∷ a) b) → (k : TokenKind) → t.kind ≡ k → Moves (at_source c d k) x t
+sources : (c : PlanCounts) (d : ℕ) (x : Symbol) (t : Token) → ((a b : List Token) (y : TreeImage) → IsSource (t ∷ a) b y → IsSymbol x (t ∷ a) b) → (k : TokenKind) → t.kind ≡ k → Moves (at_source c d k) x t
 sources c d x t f kinds.Scan e = lim (nat_lt c.nodes 64) _ (Takes _ (AName ∷ [])) x t (λ a b h. let n = ends AName a b h in f a b _ (scan (here t a kinds.Scan e) n.1))
 sources c d x t f kinds.Open e = lim (nat_lt d 32) _ (Takes c (ASource (d + 1) ∷ ASteps (d + 1) ∷ AToken kinds.Close ∷ [])) x t
     (λ a b h. let s = h.2.1 h.1.0 in let k = ends (AToken kinds.Close) h.2.0 b h.2.2 in f a b _ (inner_plan (here t a kinds.Open e) (plan h.1.1 s.1) k.1))
 sources c d x t f _ e = tt
 
-names : (c : Counts) (x : Symbol) (t : Token) → ((a b : List Token) (w : Word) → IsName (t ∷ a) b w → IsSymbol x (t ∷ a) b) → (short : Bool) (k : TokenKind) → t.kind ≡ k → Moves (at_name c short k) x t
+names : (c : PlanCounts) (x : Symbol) (t : Token) → ((a b : List Token) (w : Word) → IsName (t ∷ a) b w → IsSymbol x (t ∷ a) b) → (short : Bool) (k : TokenKind) → t.kind ≡ k → Moves (at_name c short k) x t
 names c x t f short kinds.Name e = lim short _ (Takes c []) x t (λ a b h. f a b (plain_word t) (subst (λ l. IsName (t ∷ a) l (plain_word t)) h (name (here t a kinds.Name e))))
 names c x t f short _ e = tt
 
-literals : (c : Counts) (t : Token) (k : TokenKind) → t.kind ≡ k → Moves (at_literal c k) ALiteral t
+literals : (c : PlanCounts) (t : Token) (k : TokenKind) → t.kind ≡ k → Moves (at_literal c k) ALiteral t
 literals c t kinds.Number e = λ a b h. alone ALiteral (t ∷ a) a b h (_, number (here t a kinds.Number e))
 literals c t kinds.Str e = λ a b h. alone ALiteral (t ∷ a) a b h (_, string (here t a kinds.Str e))
 literals c t _ e = tt
 
-widths : (c : Counts) (t : Token) (o : Bool) → int_le (pos 1) (int_value t.text) ≡ o → t.kind ≡ kinds.Number → Moves (cond o (Takes c []) Outside) AWidth t
+widths : (c : PlanCounts) (t : Token) (o : Bool) → int_le (pos 1) (int_value t.text) ≡ o → t.kind ≡ kinds.Number → Moves (cond o (Takes c []) Outside) AWidth t
 widths c t true f e = λ a b h. alone AWidth (t ∷ a) a b h (_, width (here t a kinds.Number e) f)
 widths c t false f e = tt
 
-width_moves : (c : Counts) (t : Token) (k : TokenKind) → t.kind ≡ k → Moves (at_width c (int_value t.text) k) AWidth t
+width_moves : (c : PlanCounts) (t : Token) (k : TokenKind) → t.kind ≡ k → Moves (at_width c (int_value t.text) k) AWidth t
 width_moves c t kinds.Number e = widths c t (int_le (pos 1) (int_value t.text)) refl e
 width_moves c t _ e = tt
 
-type_moves : (c : Counts) (t : Token) (k : TokenKind) → t.kind ≡ k → Moves (at_type c k) AType t
+type_moves : (c : PlanCounts) (t : Token) (k : TokenKind) → t.kind ≡ k → Moves (at_type c k) AType t
 type_moves c t kinds.Int e = λ a b h. alone AType (t ∷ a) a b h (false, int_type (here t a kinds.Int e))
 type_moves c t kinds.Text e = λ a b h. alone AType (t ∷ a) a b h (true, text_type (here t a kinds.Text e))
 type_moves c t _ e = tt
 
-default_moves : (c : Counts) (t : Token) (k : TokenKind) → t.kind ≡ k → Moves (at_default c k) ADefault t
+default_moves : (c : PlanCounts) (t : Token) (k : TokenKind) → t.kind ≡ k → Moves (at_default c k) ADefault t
 default_moves c t kinds.Default e = λ a b h. let l = ends ALiteral a b h in (Some l.0, default (here t a kinds.Default e) l.1)
 default_moves c t _ e = λ n a. (None, no_default)
 
-as_moves : (c : Counts) (t : Token) (k : TokenKind) → t.kind ≡ k → Moves (at_as c k) AnAs t
+as_moves : (c : PlanCounts) (t : Token) (k : TokenKind) → t.kind ≡ k → Moves (at_as c k) AnAs t
 as_moves c t kinds.As e = λ a b h w. let l = ends AColumn a b h in (l.0, by_as (here t a kinds.As e) l.1)
 as_moves c t _ e = λ n a w. (w, by_itself)
 
-what_moves : (c : Counts) (t : Token) (k : TokenKind) → t.kind ≡ k → Moves (at_what c k) AWhat t
+what_moves : (c : PlanCounts) (t : Token) (k : TokenKind) → t.kind ≡ k → Moves (at_what c k) AWhat t
 what_moves c t kinds.Count e = λ a b h. alone AWhat (t ∷ a) a b h (_, count (here t a kinds.Count e))
 what_moves c t kinds.Sum e = λ a b h. let l = ends AColumn a b h in (_, sum (here t a kinds.Sum e) l.1)
 what_moves c t kinds.Min e = λ a b h. let l = ends AColumn a b h in (_, min (here t a kinds.Min e) l.1)
 what_moves c t kinds.Max e = λ a b h. let l = ends AColumn a b h in (_, max (here t a kinds.Max e) l.1)
 what_moves c t _ e = tt
 
-keys_moves : (c : Counts) (t : Token) (short : Bool) (k : TokenKind) → t.kind ≡ k → Moves (at_keys c short k) AKeys t
+keys_moves : (c : PlanCounts) (t : Token) (short : Bool) (k : TokenKind) → t.kind ≡ k → Moves (at_keys c short k) AKeys t
 keys_moves c t short kinds.Name e = firsts c 0 (MoreKeys 1 ∷ []) AKeys t (λ a b w p h. let l = ends (MoreKeys 1) a b h in (w ∷ l.0, keys (listed p l.1))) short kinds.Name e
 keys_moves c t short kinds.Quoted e = firsts c 0 (MoreKeys 1 ∷ []) AKeys t (λ a b w p h. let l = ends (MoreKeys 1) a b h in (w ∷ l.0, keys (listed p l.1))) short kinds.Quoted e
 keys_moves c t short _ e = λ n a. ([], no_keys)
 
-aggs_moves : (c : Counts) (t : Token) (k : TokenKind) → t.kind ≡ k → Moves (at_aggs c k) AnAggs t
+aggs_moves : (c : PlanCounts) (t : Token) (k : TokenKind) → t.kind ≡ k → Moves (at_aggs c k) AnAggs t
 aggs_moves c t kinds.OpenBrace e = λ a b h. let k = ends (AToken kinds.CloseBrace) h.2.2.2.0 b h.2.2.2.2 in (_, aggs (here t a kinds.OpenBrace e) (listed (agg h.1.1 h.2.1.1 h.2.2.1.1) h.2.2.2.1.1) k.1)
 aggs_moves c t _ e = λ n a. ([], no_aggs)
 
-item_moves : (c : Counts) (n : ℕ) (t : Token) (short : Bool) (k : TokenKind) → t.kind ≡ k → Moves (at_item c n short k) (AnItem n) t
+item_moves : (c : PlanCounts) (n : ℕ) (t : Token) (short : Bool) (k : TokenKind) → t.kind ≡ k → Moves (at_item c n short k) (AnItem n) t
 item_moves c n t short kinds.Bin e = lim (nat_lt n 16) _ (Takes c (AToken kinds.Open ∷ AColumn ∷ AToken kinds.Comma ∷ AWidth ∷ AToken kinds.Close ∷ AToken kinds.As ∷ AColumn ∷ [])) (AnItem n) t
     (λ a b h. let m = ends AColumn h.2.2.2.2.2.0 b h.2.2.2.2.2.2 in (_, bin_item (here t a kinds.Bin e) h.1.1 h.2.1.1 h.2.2.1.1 h.2.2.2.1.1 h.2.2.2.2.1.1 h.2.2.2.2.2.1.1 m.1))
 item_moves c n t short kinds.Name e = firsts c n (AnAs ∷ []) (AnItem n) t (λ a b w p h. let l = ends AnAs a b h w in (_, column_item p l.1)) short kinds.Name e
 item_moves c n t short kinds.Quoted e = firsts c n (AnAs ∷ []) (AnItem n) t (λ a b w p h. let l = ends AnAs a b h w in (_, column_item p l.1)) short kinds.Quoted e
 item_moves c n t short _ e = tt
 
-linked_moves : (c : Counts) (n : ℕ) (t : Token) (short : Bool) (k : TokenKind) → t.kind ≡ k → Moves (at_linked c n short k) (ALinked n) t
+linked_moves : (c : PlanCounts) (n : ℕ) (t : Token) (short : Bool) (k : TokenKind) → t.kind ≡ k → Moves (at_linked c n short k) (ALinked n) t
 linked_moves c n t short kinds.Name e = lim (nat_lt n 64) _ _ (ALinked n) t (lim short _ (Takes c []) (ALinked n) t (λ a b h. alone (ALinked n) (t ∷ a) a b h (_, name (here t a kinds.Name e))))
 linked_moves c n t short _ e = tt
 
-steps_moves : (c : Counts) (d : ℕ) (t : Token) (k : TokenKind) → t.kind ≡ k → Moves (at_steps c d k) (ASteps d) t
+steps_moves : (c : PlanCounts) (d : ℕ) (t : Token) (k : TokenKind) → t.kind ≡ k → Moves (at_steps c d k) (ASteps d) t
 steps_moves c d t kinds.Bar e = λ a b h x. let r = ends (ASteps d) h.0 b h.2 (StepNode h.1.0 x h.1.1) in (r.0, one_step (here t a kinds.Bar e) h.1.2 r.1)
 steps_moves c d t _ e = λ n a x. (x, no_step)
 
@@ -211,24 +211,24 @@ step_is d t kinds.Product e = λ a b h. let s = ends (ASource d) a b h in (_, _,
 step_is d t kinds.Union e = λ a b h. ends (AUnited d) a b h (t ∷ a) t (here t a kinds.Union e)
 step_is d t _ e = tt
 
-step_moves : (c : Counts) (d : ℕ) (t : Token) (l : Option (List Symbol)) → StepMoves d t l → Moves (node_move c l) (AStep d) t
+step_moves : (c : PlanCounts) (d : ℕ) (t : Token) (l : Option (List Symbol)) → StepMoves d t l → Moves (node_move c l) (AStep d) t
 step_moves c d t (Some l) h = lim (nat_lt c.nodes 64) _ (Takes _ l) (AStep d) t h
 step_moves c d t None h = tt
 
-on_moves : (c : Counts) (t : Token) (k : TokenKind) → t.kind ≡ k → Moves (at_on c k) AnOn t
+on_moves : (c : PlanCounts) (t : Token) (k : TokenKind) → t.kind ≡ k → Moves (at_on c k) AnOn t
 on_moves c t kinds.On e = λ a b h. alone AnOn (t ∷ a) a b h (t, here t a kinds.On e)
 on_moves c t _ e = tt
 
-united_moves : (c : Counts) (d : ℕ) (t : Token) (k : TokenKind) → t.kind ≡ k → Moves (at_united c d k) (AUnited d) t
+united_moves : (c : PlanCounts) (d : ℕ) (t : Token) (k : TokenKind) → t.kind ≡ k → Moves (at_united c d k) (AUnited d) t
 united_moves c d t kinds.All e = λ a b h z u g. let s = ends (ASource d) a b h in (_, _, union_all_step g (here t a kinds.All e) s.1)
 united_moves c d t kinds.Scan e = sources c d (AUnited d) t (λ a b y p z u g. (_, _, union_step g p)) kinds.Scan e
 united_moves c d t kinds.Open e = sources c d (AUnited d) t (λ a b y p z u g. (_, _, union_step g p)) kinds.Open e
 united_moves c d t _ e = tt
 
-compare_moves : (c : Counts) (d : ℕ) (t : Token) (short : Bool) (k : TokenKind) → t.kind ≡ k → Moves (at_compare c short k) (APrim d) t
+compare_moves : (c : PlanCounts) (d : ℕ) (t : Token) (short : Bool) (k : TokenKind) → t.kind ≡ k → Moves (at_compare c short k) (APrim d) t
 compare_moves c d t short k e = lim (nat_lt c.compares 128) _ (at_column (record { nodes = c.nodes; compares = c.compares + 1 }) (AnOp ∷ ATerm ∷ []) short k) (APrim d) t (columns (record { nodes = c.nodes; compares = c.compares + 1 }) (AnOp ∷ ATerm ∷ []) (APrim d) t (λ a b w p h. let x = ends ATerm h.0 b h.2 in (_, compared p h.1.1 x.1)) short k e)
 
-prim_moves : (c : Counts) (d : ℕ) (t : Token) (short : Bool) (k : TokenKind) → t.kind ≡ k → Moves (at_prim c d short k) (APrim d) t
+prim_moves : (c : PlanCounts) (d : ℕ) (t : Token) (short : Bool) (k : TokenKind) → t.kind ≡ k → Moves (at_prim c d short k) (APrim d) t
 prim_moves c d t short kinds.Not e = lim (nat_lt d 32) _ (Takes c (APrim (d + 1) ∷ [])) (APrim d) t (λ a b h. let p = ends (APrim (d + 1)) a b h in (_, negated (here t a kinds.Not e) p.1))
 prim_moves c d t short kinds.Open e = lim (nat_lt d 32) _ (Takes c (APrim (d + 1) ∷ AnAnds (d + 1) ∷ AnOrs (d + 1) ∷ AToken kinds.Close ∷ [])) (APrim d) t
     (λ a b h. let s = h.2.1 h.1.0 in let r = h.2.2.1 s.0 in let k = ends (AToken kinds.Close) h.2.2.0 b h.2.2.2 in (_, bracketed (here t a kinds.Open e) (pred (conj h.1.1 s.1) r.1) k.1))
@@ -236,15 +236,15 @@ prim_moves c d t short kinds.Name e = compare_moves c d t short kinds.Name e
 prim_moves c d t short kinds.Quoted e = compare_moves c d t short kinds.Quoted e
 prim_moves c d t short _ e = tt
 
-ands_moves : (c : Counts) (d : ℕ) (t : Token) (k : TokenKind) → t.kind ≡ k → Moves (at_ands c d k) (AnAnds d) t
+ands_moves : (c : PlanCounts) (d : ℕ) (t : Token) (k : TokenKind) → t.kind ≡ k → Moves (at_ands c d k) (AnAnds d) t
 ands_moves c d t kinds.And e = λ a b h p. let r = ends (AnAnds d) h.0 b h.2 (AndNode p h.1.0) in (r.0, one_and (here t a kinds.And e) h.1.1 r.1)
 ands_moves c d t _ e = λ n a p. (p, no_and)
 
-ors_moves : (c : Counts) (d : ℕ) (t : Token) (k : TokenKind) → t.kind ≡ k → Moves (at_ors c d k) (AnOrs d) t
+ors_moves : (c : PlanCounts) (d : ℕ) (t : Token) (k : TokenKind) → t.kind ≡ k → Moves (at_ors c d k) (AnOrs d) t
 ors_moves c d t kinds.Or e = λ a b h p. let s = h.2.1 h.1.0 in let r = ends (AnOrs d) h.2.0 b h.2.2 (OrNode p s.0) in (r.0, one_or (here t a kinds.Or e) (conj h.1.1 s.1) r.1)
 ors_moves c d t _ e = λ n a p. (p, no_or)
 
-op_moves : (c : Counts) (t : Token) (k : TokenKind) → t.kind ≡ k → Moves (at_op c k) AnOp t
+op_moves : (c : PlanCounts) (t : Token) (k : TokenKind) → t.kind ≡ k → Moves (at_op c k) AnOp t
 op_moves c t kinds.Equal e = λ a b h. alone AnOp (t ∷ a) a b h (_, eq (here t a kinds.Equal e))
 op_moves c t kinds.NotEqual e = λ a b h. alone AnOp (t ∷ a) a b h (_, ne (here t a kinds.NotEqual e))
 op_moves c t kinds.Less e = λ a b h. alone AnOp (t ∷ a) a b h (_, lt (here t a kinds.Less e))
@@ -253,7 +253,7 @@ op_moves c t kinds.Greater e = λ a b h. alone AnOp (t ∷ a) a b h (_, gt (here
 op_moves c t kinds.GreaterEqual e = λ a b h. alone AnOp (t ∷ a) a b h (_, ge (here t a kinds.GreaterEqual e))
 op_moves c t _ e = tt
 
-term_moves : (c : Counts) (t : Token) (short : Bool) (k : TokenKind) → t.kind ≡ k → Moves (at_term c short k) ATerm t
+term_moves : (c : PlanCounts) (t : Token) (short : Bool) (k : TokenKind) → t.kind ≡ k → Moves (at_term c short k) ATerm t
 term_moves c t short kinds.Number e = λ a b h. alone ATerm (t ∷ a) a b h (_, literal_term (number (here t a kinds.Number e)))
 term_moves c t short kinds.Str e = λ a b h. alone ATerm (t ∷ a) a b h (_, literal_term (string (here t a kinds.Str e)))
 term_moves c t short kinds.Name e = columns c [] ATerm t (λ a b w p h. alone ATerm (t ∷ a) a b h (_, column_term p)) short kinds.Name e
@@ -277,17 +277,17 @@ stmts_moves y t kinds.Fd e = lim (nat_lt y.views 64) _ _ (AStmts y) t (lim (nat_
 stmts_moves y t kinds.End e = λ n. absurd (n e)
 stmts_moves y t _ e = tt
 
-lineage_moves : (c : Counts) (t : Token) (k : TokenKind) → t.kind ≡ k → Moves (at_lineage c k) ALineage t
+lineage_moves : (c : PlanCounts) (t : Token) (k : TokenKind) → t.kind ≡ k → Moves (at_lineage c k) ALineage t
 lineage_moves c t kinds.Back e = λ a b h z u g. let x = ends AnExtra h.2.2.0 b h.2.2.2 in (_, back_stmt g (here t a kinds.Back e) h.1.1 h.2.1.1 h.2.2.1.1 x.1)
 lineage_moves c t kinds.Fwd e = λ a b h z u g. let x = ends AName h.2.0 b h.2.2 in (_, fwd_stmt g (here t a kinds.Fwd e) h.1.1 h.2.1.1 x.1)
 lineage_moves c t _ e = tt
 
-extra_moves : (c : Counts) (t : Token) (k : TokenKind) → t.kind ≡ k → Moves (at_extra c k) AnExtra t
+extra_moves : (c : PlanCounts) (t : Token) (k : TokenKind) → t.kind ≡ k → Moves (at_extra c k) AnExtra t
 extra_moves c t kinds.By e = λ a b h. let l = ends AColumn a b h in (_, by_extra (here t a kinds.By e) l.1)
 extra_moves c t kinds.Group e = λ a b h. let l = ends AnAggs h.0 b h.2 in (_, group_extra (here t a kinds.Group e) h.1.1 l.1)
 extra_moves c t _ e = λ n a. (_, no_extra)
 
-line_moves : (c : Counts) (t : Token) (k : TokenKind) → t.kind ≡ k → Moves (at_line c k) ALine t
+line_moves : (c : PlanCounts) (t : Token) (k : TokenKind) → t.kind ≡ k → Moves (at_line c k) ALine t
 line_moves c t kinds.Show e = λ a b h. let l = ends ALineName a b h in (_, show_line (here t a kinds.Show e) l.1)
 line_moves c t kinds.Back e = λ a b h. let x = ends AThen h.2.2.2.0 b h.2.2.2.2 in (_, back_line (here t a kinds.Back e) h.1.1 h.2.1.1 h.2.2.1.1 h.2.2.2.1.1 x.1)
 line_moves c t kinds.Fwd e = λ a b h. let x = ends ALineName h.2.2.0 b h.2.2.2 in (_, fwd_line (here t a kinds.Fwd e) h.1.1 h.2.1.1 h.2.2.1.1 x.1)
@@ -295,17 +295,17 @@ line_moves c t kinds.Brush e = λ a b h. let x = ends ALineName h.2.2.0 b h.2.2.
 line_moves c t kinds.Clear e = λ a b h. ends ACleared a b h (t ∷ a) t (here t a kinds.Clear e)
 line_moves c t _ e = tt
 
-line_columns : (c : Counts) (t : Token) (k : TokenKind) → t.kind ≡ k → Moves (at_line_column c k) ALineColumn t
+line_columns : (c : PlanCounts) (t : Token) (k : TokenKind) → t.kind ≡ k → Moves (at_line_column c k) ALineColumn t
 line_columns c t kinds.Name e = λ a b h. alone ALineColumn (t ∷ a) a b h (_, plain (here t a kinds.Name e))
 line_columns c t kinds.Quoted e = λ a b h. alone ALineColumn (t ∷ a) a b h (_, quoted (here t a kinds.Quoted e))
 line_columns c t _ e = tt
 
-then_moves : (c : Counts) (t : Token) (k : TokenKind) → t.kind ≡ k → Moves (at_then c k) AThen t
+then_moves : (c : PlanCounts) (t : Token) (k : TokenKind) → t.kind ≡ k → Moves (at_then c k) AThen t
 then_moves c t kinds.Where e = λ a b h. let l = ends ALiteral h.2.0 b h.2.2 in (_, where_then (here t a kinds.Where e) h.1.1 h.2.1.1 l.1)
 then_moves c t kinds.Group e = λ a b h. alone AThen (t ∷ a) a b h (_, group_then (here t a kinds.Group e))
 then_moves c t _ e = λ n a. (_, no_then)
 
-cleared_moves : (c : Counts) (t : Token) (k : TokenKind) → t.kind ≡ k → Moves (at_cleared c k) ACleared t
+cleared_moves : (c : PlanCounts) (t : Token) (k : TokenKind) → t.kind ≡ k → Moves (at_cleared c k) ACleared t
 cleared_moves c t kinds.Name e = λ a b h z u g. let x = ends ALineName h.0 b h.2 in (_, clear_one_line g (name (here t a kinds.Name e)) h.1.1 x.1)
 cleared_moves c t _ e = λ n a z u g. (_, clear_line g)
 
@@ -339,12 +339,12 @@ asked_has_one _ e = absurd (cc)
 pub asked_is : {a b : List Token} {n : ℕ} {s : StepImage} {k : TokenKind} → IsStep a b n s → (head_of a).kind ≡ k → is_some (ask_symbols k) ≡ true → IsAskStep a b (record { at = n; what = s })
 asked_is {s = s} p e o = ask_step p (asked_has_one s (ap (λ k. is_some (ask_symbols k)) (sym (step_opening p) ∙ e) ∙ o))
 
-ask_step_moves : (c : Counts) (t : Token) (l : Option (List Symbol)) → ask_symbols t.kind ≡ l → Moves (node_move c l) AnAskStep t
+ask_step_moves : (c : PlanCounts) (t : Token) (l : Option (List Symbol)) → ask_symbols t.kind ≡ l → Moves (node_move c l) AnAskStep t
 ask_step_moves c t (Some l) e = lim (nat_lt c.nodes 64) _ (Takes _ l) AnAskStep t
     (λ a b h. let r = subst (StepMoves 0 t) (asked_step t.kind l e) (step_is 0 t t.kind refl) a b h in (_, asked_is r.2 refl (ap is_some e)))
 ask_step_moves c t None e = tt
 
-ask_steps_moves : (c : Counts) (t : Token) (k : TokenKind) → t.kind ≡ k → Moves (at_ask_steps c k) AskSteps t
+ask_steps_moves : (c : PlanCounts) (t : Token) (k : TokenKind) → t.kind ≡ k → Moves (at_ask_steps c k) AskSteps t
 ask_steps_moves c t kinds.Bar e = λ a b h. (_, one_ask_step (here t a kinds.Bar e) h.1.1 (ends AskSteps h.0 b h.2).1)
 ask_steps_moves c t _ e = λ n a. ([], no_ask_step)
 
@@ -356,7 +356,7 @@ plain_moves Wrong t h = tt
 plain_moves (Past w) t h = tt
 plain_moves Outside t h = tt
 
-any_line_moves : (c : Counts) (t : Token) (k : TokenKind) → t.kind ≡ k → Moves (at_any_line c k) AnyLine t
+any_line_moves : (c : PlanCounts) (t : Token) (k : TokenKind) → t.kind ≡ k → Moves (at_any_line c k) AnyLine t
 any_line_moves c t kinds.Ask e = λ a b h. (_, asked_line (ask_line (here t a kinds.Ask e) h.1.1 h.2.1.1 h.2.2.1.1 h.2.2.2.1.1 h.2.2.2.2.1.1 h.2.2.2.2.2.1.1 h.2.2.2.2.2.2.1.1 (ends AskSteps h.2.2.2.2.2.2.0 b h.2.2.2.2.2.2.2).1))
 any_line_moves c t kinds.Fd e = λ a b h. let l = ends ALineName a b h in (_, profiled_line (here t a kinds.Fd e) l.1)
 any_line_moves c t kinds.Append e = λ a b h. let f = string_file h.0 b (ends (AToken kinds.Str) h.0 b h.2) in (_, appended_line (here t a kinds.Append e) h.1.1 f.1)
@@ -370,20 +370,20 @@ mark_of : (v : ℤ) → is_mark v ≡ true → (m : ℕ) × (v ≡ pos m) × (na
 mark_of (pos m) e = (m, refl, and_right (int_le (pos 0) (pos m)) (int_lt (pos m) (pos (2 ^ 32))) e)
 mark_of (negsuc n) e = let f : int_le (pos 0) (negsuc n) ≡ true = and_left (int_le (pos 0) (negsuc n)) (int_lt (negsuc n) (pos (2 ^ 32))) e in absurd (cc)
 
-a_mark : (c : Counts) (ss : List Symbol) (x : Symbol) (t : Token) → ((a b : List Token) (m : ℕ) → IsMark (t ∷ a) a m → AreSymbols ss a b → IsSymbol x (t ∷ a) b) → t.kind ≡ kinds.Number → (o : Bool) → is_mark (int_value t.text) ≡ o → Moves (cond o (Takes c ss) Outside) x t
+a_mark : (c : PlanCounts) (ss : List Symbol) (x : Symbol) (t : Token) → ((a b : List Token) (m : ℕ) → IsMark (t ∷ a) a m → AreSymbols ss a b → IsSymbol x (t ∷ a) b) → t.kind ≡ kinds.Number → (o : Bool) → is_mark (int_value t.text) ≡ o → Moves (cond o (Takes c ss) Outside) x t
 a_mark c ss x t f e true g = λ a b h. let m = mark_of (int_value t.text) g in f a b m.0 (mark (here t a kinds.Number e) m.1 m.2) h
 a_mark c ss x t f e false g = tt
 
-mark_moves : (c : Counts) (ss : List Symbol) (x : Symbol) (t : Token) → ((a b : List Token) (m : ℕ) → IsMark (t ∷ a) a m → AreSymbols ss a b → IsSymbol x (t ∷ a) b) → (k : TokenKind) → t.kind ≡ k → Moves (at_mark c ss (int_value t.text) k) x t
+mark_moves : (c : PlanCounts) (ss : List Symbol) (x : Symbol) (t : Token) → ((a b : List Token) (m : ℕ) → IsMark (t ∷ a) a m → AreSymbols ss a b → IsSymbol x (t ∷ a) b) → (k : TokenKind) → t.kind ≡ k → Moves (at_mark c ss (int_value t.text) k) x t
 mark_moves c ss x t f kinds.Number e = a_mark c ss x t f e (is_mark (int_value t.text)) refl
 mark_moves c ss x t f _ e = tt
 
-marks_moves : (c : Counts) (t : Token) (k : TokenKind) → t.kind ≡ k → Moves (at_marks c (int_value t.text) k) AMarks t
+marks_moves : (c : PlanCounts) (t : Token) (k : TokenKind) → t.kind ≡ k → Moves (at_marks c (int_value t.text) k) AMarks t
 marks_moves c t kinds.All e = λ a b h. alone AMarks (t ∷ a) a b h (_, all_marks (here t a kinds.All e))
 marks_moves c t kinds.Number e = mark_moves c (MoreMarks ∷ []) AMarks t (λ a b m p h. let l = ends MoreMarks a b h in (_, listed_marks (listed p l.1))) kinds.Number e
 marks_moves c t _ e = tt
 
-moves : (x : Symbol) (c : Counts) (t : Token) → Moves (next c x t) x t
+moves : (x : Symbol) (c : PlanCounts) (t : Token) → Moves (move_of c x t) x t
 moves (AToken k) c t = tokens_moves c k (AToken k) t (λ e a b h. alone (AToken k) (t ∷ a) a b h (t, here t a k (sym e)))
 moves AName c t = names c AName t (λ a b w h. (w, h)) (is_short t) t.kind refl
 moves AColumn c t = columns c [] AColumn t (λ a b w p h. alone AColumn (t ∷ a) a b h (w, p)) (is_short t) t.kind refl
@@ -437,9 +437,9 @@ MovesAll Wrong ss t = Unit {0}
 MovesAll (Past w) ss t = Unit {0}
 MovesAll Outside ss t = Unit {0}
 
-pub settled : (ss : List Symbol) (c : Counts) (t : Token) → (t.kind ≡ kinds.End → ⊥) → MovesAll (settle ss c t) ss t
+pub settled : (ss : List Symbol) (c : PlanCounts) (t : Token) → (t.kind ≡ kinds.End → ⊥) → MovesAll (settle ss c t) ss t
 settled [] c t no_end = λ a. refl
-settled (x ∷ ss) c t no_end = by (next c x t) (moves x c t) (settle ss c t) (settled ss c t no_end)
+settled (x ∷ ss) c t no_end = by (move_of c x t) (moves x c t) (settle ss c t) (settled ss c t no_end)
   where
     by : (m : Move) → Moves m x t → (o : Move) → MovesAll o ss t → MovesAll (or_next m ss o) (x ∷ ss) t
     by (Takes d l) h o g = λ a b q. let r = split l ss a b q in (r.0, h a r.0 r.1, r.2)

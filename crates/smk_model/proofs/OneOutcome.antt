@@ -4,7 +4,7 @@ use Rattle.std.proofs.Common.{◌≡◌, ℕ, List, ap, subst, refl}
 use Rattle.smk_base.specs.Trees.{StmtImage}
 use Rattle.smk_base.specs.declared.fault.Fault.{Fault}
 use Rattle.smk_model.specs.Readings.{Reading, Asks, IsReading, says_nothing, asks, leaves, AreReadings, no_line, one_line}
-use Rattle.smk_model.specs.Words.{Words}
+use Rattle.smk_model.specs.Words.{TextSource}
 use Rattle.smk_model.specs.Reports.{BookSaid}
 use Rattle.smk_model.specs.Outcome.{Held, Parses, spells, misspells, BookSays, unparsed, parsed, FileSays, unread, read, ScriptSays, lines_read, OpensBook, OpensScript, no_script, a_script, Inputs, ReadsFiles, no_book, no_tables, no_readings, no_rows, inputs, source_of, book_of, script_of, ReadsInputs, unusable, usable, unreadable}
 use Rattle.smk_model.specs.OutcomeLaws.{OneReading, OneInputs, OneOutcome}
@@ -87,7 +87,7 @@ same_files (inputs b t s a) (no_readings c u r) = let o = same_opened b c in let
 same_files (inputs b t s a) (no_rows c u r d) = let o = same_opened b c in let f = same_read s r in absurd (cc)
 same_files (inputs b t s a) (inputs c u r d) = let o = same_opened b c in let f = same_read s r in cc
 
-same_words : {read : Option Words} {u v : Words} → read ≡ Some u → read ≡ Some v → v ≡ u
+same_words : {read : Option TextSource} {u v : TextSource} → read ≡ Some u → read ≡ Some v → v ≡ u
 same_words h k = cc
 
 same_inputs : {words : List (List ℕ)} {held : Held} {a b : Result Inputs Fault} → ReadsInputs words held a → ReadsInputs words held b → a ≡ b
@@ -95,7 +95,7 @@ same_inputs (unusable w) (unusable v) = refl
 same_inputs (unusable w) (usable v q) = absurd (cc)
 same_inputs (usable w p) (unusable v) = absurd (cc)
 same_inputs {held = held} {b = b} (usable w p) (usable v q) =
-    same_files p (subst (λ (ws : Words). ReadsFiles (source_of ws held) (book_of ws) (script_of ws) b) (same_words w v) q)
+    same_files p (subst (λ (ws : TextSource). ReadsFiles (source_of ws held) (book_of ws) (script_of ws) b) (same_words w v) q)
 
 pub one_inputs : OneInputs
 one_inputs words held a b p q = same_inputs p q

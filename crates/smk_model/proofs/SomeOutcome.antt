@@ -14,7 +14,7 @@ use Rattle.smk_model.specs.Machine.{book_fault, any_fault}
 use Rattle.smk_model.specs.Lines.{lines, place_of}
 use Rattle.smk_model.specs.Readings.{Reading, Nothing, Asks, Unread, IsReading, says_nothing, asks, leaves, AreReadings, no_line, one_line}
 use Rattle.smk_model.specs.Reports.{BookSaid, Report}
-use Rattle.smk_model.specs.Words.{Words, words_of}
+use Rattle.smk_model.specs.Words.{TextSource, words_of}
 use Rattle.smk_model.specs.Outcome.{Held, Parses, spells, misspells, BookSays, unparsed, parsed, FileSays, unread, read, ScriptSays, lines_read, OpensBook, OpensScript, no_script, a_script, Inputs, ReadsFiles, no_book, no_tables, no_readings, no_rows, inputs, source_of, book_of, script_of, ReadsInputs, unusable, usable, Outcome, unreadable, content_of, load_all, appended, statements_say, reported}
 use Rattle.smk_model.specs.OutcomeLaws.{FaultlessTextsSpell, SomeReading, SomeOutcome}
 use Rattle.smk_model.proofs.Sound.{faultless_have_trees}
@@ -89,7 +89,7 @@ some_files held book script = let r = some_file held book BookSays some_book in 
 some_inputs : (words : List (List ℕ)) (held : Held) → (answer : Result Inputs Fault) × ReadsInputs words held answer
 some_inputs words held = by (words_of words) refl
   where
-    by : (w : Option Words) → words_of words ≡ w → (answer : Result Inputs Fault) × ReadsInputs words held answer
+    by : (w : Option TextSource) → words_of words ≡ w → (answer : Result Inputs Fault) × ReadsInputs words held answer
     by None e = (_, unusable e)
     by (Some ws) e = let r = some_files (source_of ws held) (book_of ws) (script_of ws) in (r.0, usable e r.1)
 

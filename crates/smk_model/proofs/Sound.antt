@@ -9,12 +9,12 @@ use Rattle.smk_base.specs.declared.tree.Line.{Line}
 use Rattle.smk_base.specs.Trees.{StmtImage, AnyLineImage}
 use Rattle.smk_model.specs.Tokens.{Token}
 use Rattle.smk_model.specs.Grammar.{AreStmts, no_stmt, no_default, by_itself, no_keys, no_aggs, no_more, no_step, no_and, no_or, no_extra, no_then, clear_line, IsWholeLine, whole_line, no_ask_step, IsWholeAnyLine, whole_any_line}
-use Rattle.smk_model.specs.Machine.{State, Counts, Symbol, Move, Takes, Skips, Wrong, Past, Outside, through, settle, next, go_on, or_next, fault_in, fault_at, book_symbols, no_counts, book_fault, line_fault, any_fault, ADefault, AnAs, AKeys, AnAggs, MoreDecls, MoreItems, MoreKeys, MoreAggs, MorePairs, MoreLinked, ASteps, AnAnds, AnOrs, AStmts, AnExtra, ALine, MoreMarks, AThen, ACleared, AnEnd, AnyLine, AskSteps, AToken}
+use Rattle.smk_model.specs.Machine.{Configuration, PlanCounts, Symbol, Move, Takes, Skips, Wrong, Past, Outside, through, settle, move_of, go_on, or_next, fault_in, fault_at, book_symbols, no_counts, book_fault, line_fault, any_fault, ADefault, AnAs, AKeys, AnAggs, MoreDecls, MoreItems, MoreKeys, MoreAggs, MorePairs, MoreLinked, ASteps, AnAnds, AnOrs, AStmts, AnExtra, ALine, MoreMarks, AThen, ACleared, AnEnd, AnyLine, AskSteps, AToken}
 use Rattle.smk_model.specs.GrammarLaws.{Finishes, FaultlessHaveTrees}
 use Rattle.smk_model.proofs.Leaving.{no_end, no_ends, leaves_none, settles, and_left, and_right}
 use Rattle.smk_model.proofs.Moves.{IsSymbol, AreSymbols, settled, MovesAll}
 
-pub not_failed : (f : BookFault) (s : State) → Err f ≡ Ok s → ⊥
+pub not_failed : (f : BookFault) (s : Configuration) → Err f ≡ Ok s → ⊥
 not_failed f s e = absurd (cc)
 
 -- at the end what is left to be read is nothing, or the end is wrong
@@ -28,11 +28,11 @@ AtEnd Outside P = Unit {0}
 abbrev the_end : Token → Token
 the_end t = record { at = t.at; kind = kinds.End; text = t.text }
 
-token_at_end : (k : TokenKind) (c : Counts) (t : Token) → no_end (AToken k) ≡ true → AtEnd (next c (AToken k) (the_end t)) (IsSymbol (AToken k) (the_end t ∷ []) (the_end t ∷ []))
+token_at_end : (k : TokenKind) (c : PlanCounts) (t : Token) → no_end (AToken k) ≡ true → AtEnd (move_of c (AToken k) (the_end t)) (IsSymbol (AToken k) (the_end t ∷ []) (the_end t ∷ []))
 token_at_end kinds.End c t h = absurd (cc)
 token_at_end _ c t h = tt
 
-at_end : (x : Symbol) (c : Counts) (t : Token) → no_end x ≡ true → AtEnd (next c x (the_end t)) (IsSymbol x (the_end t ∷ []) (the_end t ∷ []))
+at_end : (x : Symbol) (c : PlanCounts) (t : Token) → no_end x ≡ true → AtEnd (move_of c x (the_end t)) (IsSymbol x (the_end t ∷ []) (the_end t ∷ []))
 at_end ADefault c t h = (None, no_default)
 at_end AnAs c t h = λ w. (w, by_itself)
 at_end AKeys c t h = ([], no_keys)
@@ -59,9 +59,9 @@ at_end _ c t h = tt
 kind_at_end : (t : Token) → t.kind ≡ kinds.End → t ≡ the_end t
 kind_at_end t e = ap (λ k. record { at = t.at; kind = k; text = t.text }) e
 
-all_end : (ss : List Symbol) (c : Counts) (t : Token) → no_ends ss ≡ true → AtEnd (settle ss c (the_end t)) (AreSymbols ss (the_end t ∷ []) (the_end t ∷ []))
+all_end : (ss : List Symbol) (c : PlanCounts) (t : Token) → no_ends ss ≡ true → AtEnd (settle ss c (the_end t)) (AreSymbols ss (the_end t ∷ []) (the_end t ∷ []))
 all_end [] c t n = refl
-all_end (x ∷ ss) c t n = by (next c x (the_end t)) (at_end x c t (and_left (no_end x) (no_ends ss) n)) (settle ss c (the_end t)) (all_end ss c t (and_right (no_end x) (no_ends ss) n))
+all_end (x ∷ ss) c t n = by (move_of c x (the_end t)) (at_end x c t (and_left (no_end x) (no_ends ss) n)) (settle ss c (the_end t)) (all_end ss c t (and_right (no_end x) (no_ends ss) n))
   where
     by : (m : Move) → AtEnd m (IsSymbol x (the_end t ∷ []) (the_end t ∷ [])) → (o : Move) → AtEnd o (AreSymbols ss (the_end t ∷ []) (the_end t ∷ [])) → AtEnd (or_next m ss o) (AreSymbols (x ∷ ss) (the_end t ∷ []) (the_end t ∷ []))
     by (Takes d l) h o g = absurd h
@@ -74,7 +74,7 @@ all_end (x ∷ ss) c t n = by (next c x (the_end t)) (at_end x c t (and_left (no
     by (Past w) h o g = tt
     by Outside h o g = tt
 
-ended : (ss : List Symbol) (c : Counts) (s : State) (t : Token) → no_ends ss ≡ true → t ≡ the_end t → through ss c (t ∷ []) ≡ Ok s → (b : List Token) × AreSymbols ss (t ∷ []) b
+ended : (ss : List Symbol) (c : PlanCounts) (s : Configuration) (t : Token) → no_ends ss ≡ true → t ≡ the_end t → through ss c (t ∷ []) ≡ Ok s → (b : List Token) × AreSymbols ss (t ∷ []) b
 ended [] c s t n f e = (t ∷ [], refl)
 ended (x ∷ ss) c s t n f e = subst (λ u. (b : List Token) × AreSymbols (x ∷ ss) (u ∷ []) b) (sym f) (by (settle (x ∷ ss) c (the_end t)) (all_end (x ∷ ss) c t n) (ap (λ u. through (x ∷ ss) c (u ∷ [])) (sym f) ∙ e))
   where
@@ -85,20 +85,20 @@ ended (x ∷ ss) c s t n f e = subst (λ u. (b : List Token) × AreSymbols (x �
     by (Past w) h g = absurd (not_failed (TooMany t.at w) s g)
     by Outside h g = absurd (not_failed (BadNumber t.at) s g)
 
-sound : (ts : List Token) (ss : List Symbol) (c : Counts) (s : State) → no_ends ss ≡ true → Finishes ts → through ss c ts ≡ Ok s → (b : List Token) × AreSymbols ss ts b
+sound : (ts : List Token) (ss : List Symbol) (c : PlanCounts) (s : Configuration) → no_ends ss ≡ true → Finishes ts → through ss c ts ≡ Ok s → (b : List Token) × AreSymbols ss ts b
 sound [] ss c s n f e = absurd f
 sound (t ∷ []) ss c s n f e = ended ss c s t n (kind_at_end t f) e
 sound (t ∷ u ∷ ts) [] c s n f e = (t ∷ u ∷ ts, refl)
 sound (t ∷ u ∷ ts) (x ∷ ss) c s n f e = by (settle (x ∷ ss) c t) (settles (x ∷ ss) c t n) (settled (x ∷ ss) c t f.0) e (λ l d k g. sound (u ∷ ts) l d s k f.1 g)
   where
-    by : (m : Move) → leaves_none m ≡ true → MovesAll m (x ∷ ss) t → go_on m c t (u ∷ ts) (λ d l. through l d (u ∷ ts)) ≡ Ok s → ((l : List Symbol) (d : Counts) → no_ends l ≡ true → through l d (u ∷ ts) ≡ Ok s → (b : List Token) × AreSymbols l (u ∷ ts) b) → (b : List Token) × AreSymbols (x ∷ ss) (t ∷ u ∷ ts) b
+    by : (m : Move) → leaves_none m ≡ true → MovesAll m (x ∷ ss) t → go_on m c t (u ∷ ts) (λ d l. through l d (u ∷ ts)) ≡ Ok s → ((l : List Symbol) (d : PlanCounts) → no_ends l ≡ true → through l d (u ∷ ts) ≡ Ok s → (b : List Token) × AreSymbols l (u ∷ ts) b) → (b : List Token) × AreSymbols (x ∷ ss) (t ∷ u ∷ ts) b
     by (Takes d l) k h g rec = let r = rec l d k g in (r.0, h (u ∷ ts) r.0 r.1)
     by Skips k h g rec = (t ∷ u ∷ ts, h (t ∷ u ∷ ts))
     by Wrong k h g rec = absurd (not_failed (fault_at t) s g)
     by (Past w) k h g rec = absurd (not_failed (TooMany t.at w) s g)
     by Outside k h g rec = absurd (not_failed (BadNumber t.at) s g)
 
-pub none_is_ok : (r : Result State BookFault) → fault_in r ≡ None → (s : State) × (r ≡ Ok s)
+pub none_is_ok : (r : Result Configuration BookFault) → fault_in r ≡ None → (s : Configuration) × (r ≡ Ok s)
 none_is_ok (Ok s) e = (s, refl)
 none_is_ok (Err f) e = absurd (cc)
 

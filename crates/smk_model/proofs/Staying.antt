@@ -6,10 +6,10 @@ use Rattle.smk_base.specs.declared.token.TokenKind.TheVariants as kinds
 use Rattle.smk_base.specs.declared.fault.BookFault.{BookFault}
 use Rattle.smk_base.specs.declared.fault.BookFault.TheVariants.{TooMany, BadNumber}
 use Rattle.smk_model.specs.Tokens.{Token}
-use Rattle.smk_model.specs.Machine.{State, Counts, Symbol, Move, Takes, Skips, Wrong, Past, Outside, through, settle, go_on, fault_at, fault_in, book_symbols, line_symbols, any_symbols, no_counts, book_fault, line_fault, any_fault}
+use Rattle.smk_model.specs.Machine.{Configuration, PlanCounts, Symbol, Move, Takes, Skips, Wrong, Past, Outside, through, settle, go_on, fault_at, fault_in, book_symbols, line_symbols, any_symbols, no_counts, book_fault, line_fault, any_fault}
 use Rattle.smk_model.specs.GrammarLaws.{IsAt, Stays, FaultsStay}
 
-no_fault : (s : State) (f : BookFault) → fault_in (Ok s) ≡ Some f → ⊥
+no_fault : (s : Configuration) (f : BookFault) → fault_in (Ok s) ≡ Some f → ⊥
 no_fault s f e = absurd (cc)
 
 the_fault : (g f : BookFault) → fault_in (Err g) ≡ Some f → g ≡ f
@@ -23,10 +23,10 @@ wrong_at t = by t.kind
     by kinds.Huge = refl
     by _ = refl
 
-abbrev Of : List Symbol → Counts → List Token → Option BookFault
+abbrev Of : List Symbol → PlanCounts → List Token → Option BookFault
 Of ss c ts = fault_in (through ss c ts)
 
-here : (s : Symbol) (ss : List Symbol) (c : Counts) (t : Token) (ts : List Token) (f g : BookFault) (m : Move) → settle (s ∷ ss) c t ≡ m → ((us : List Token) → go_on m c t us (λ d l. through l d us) ≡ Err g) → IsAt t.at g → g ≡ f → Stays (Of (s ∷ ss) c) (t ∷ ts) f
+here : (s : Symbol) (ss : List Symbol) (c : PlanCounts) (t : Token) (ts : List Token) (f g : BookFault) (m : Move) → settle (s ∷ ss) c t ≡ m → ((us : List Token) → go_on m c t us (λ d l. through l d us) ≡ Err g) → IsAt t.at g → g ≡ f → Stays (Of (s ∷ ss) c) (t ∷ ts) f
 here s ss c t ts f g m e h at q = record {
   before = [];
   faulty = t;
@@ -36,12 +36,12 @@ here s ss c t ts f g m e h at q = record {
   stays = λ us. ap (λ n. fault_in (go_on n c t us (λ d l. through l d us))) e ∙ ap fault_in (h us) ∙ ap Some q;
 }
 
-stay : (ts : List Token) (ss : List Symbol) (c : Counts) (f : BookFault) → Of ss c ts ≡ Some f → Stays (Of ss c) ts f
+stay : (ts : List Token) (ss : List Symbol) (c : PlanCounts) (f : BookFault) → Of ss c ts ≡ Some f → Stays (Of ss c) ts f
 stay ts [] c f e = absurd (no_fault (record { rest = ts; counts = c }) f e)
 stay [] (s ∷ ss) c f e = absurd (no_fault (record { rest = []; counts = c }) f e)
 stay (t ∷ ts) (s ∷ ss) c f e = by (settle (s ∷ ss) c t) refl e (λ l d g. stay ts l d f g)
   where
-    by : (m : Move) → settle (s ∷ ss) c t ≡ m → fault_in (go_on m c t ts (λ d l. through l d ts)) ≡ Some f → ((l : List Symbol) (d : Counts) → Of l d ts ≡ Some f → Stays (Of l d) ts f) → Stays (Of (s ∷ ss) c) (t ∷ ts) f
+    by : (m : Move) → settle (s ∷ ss) c t ≡ m → fault_in (go_on m c t ts (λ d l. through l d ts)) ≡ Some f → ((l : List Symbol) (d : PlanCounts) → Of l d ts ≡ Some f → Stays (Of l d) ts f) → Stays (Of (s ∷ ss) c) (t ∷ ts) f
     by (Takes d l) q g rec = let r = rec l d g in record {
       before = t ∷ r.before;
       faulty = r.faulty;

@@ -24,7 +24,7 @@ use Rattle.smk_base.specs.declared.tree.Line.TheVariants as lines
 use Rattle.smk_base.specs.Trees.{PredImage, TreeImage, StepImage, SelectNode, ProjectNode, DistinctNode, GroupNode, JoinNode, ThetaNode, ProductNode, UnionAllNode, UnionNode, StmtImage, TableNode, AskStepImage, AskImage, AnyLineImage, ProfiledLine, AppendedLine}
 use Rattle.smk_model.specs.Tokens.{Token, head_of, int_value}
 use Rattle.smk_model.specs.Grammar.{First, IsName, name, IsColumn, number, string, IsFile, file, listed, IsType, int_type, text_type, IsDefault, no_default, default, IsDecl, decl, IsNamed, by_itself, by_as, IsWidth, width, IsItem, column_item, bin_item, IsWhat, count, sum, min, max, IsAgg, agg, AreKeys, no_keys, keys, AreAggs, no_aggs, aggs, IsPair, pair, IsOp, eq, ne, lt, le, gt, ge, IsTerm, column_term, literal_term, IsPrim, negated, bracketed, compared, IsConj, conj, AreAnds, no_and, one_and, IsPred, pred, AreOrs, no_or, one_or, IsPlan, plan, IsSource, scan, inner_plan, AreSteps, no_step, one_step, IsStep, where_step, project_step, distinct_step, group_step, join_step, theta_step, product_step, union_all_step, union_step, IsExtra, no_extra, by_extra, group_extra, table_stmt, view_stmt, back_stmt, fwd_stmt, link_stmt, depends_stmt, AreStmts, no_stmt, one_stmt, IsMark, mark, AreMarks, all_marks, listed_marks, IsThen, no_then, where_then, group_then, IsLine, show_line, back_line, fwd_line, brush_line, clear_line, clear_one_line, IsWholeLine, whole_line, HasOneInput, IsAskStep, ask_step, AreAskSteps, no_ask_step, one_ask_step, IsAskLine, ask_line, plain_line, asked_line, profiled_line, appended_line, IsWholeAnyLine, whole_any_line}
-use Rattle.smk_model.specs.Machine.{Counts, Tally, Symbol, Skips, Outside, through, fault_in, book_symbols, any_symbols, no_counts, book_fault, line_fault, any_fault, is_mark, is_short, at_more, at_default, at_as, at_keys, at_aggs, at_ands, at_ors, at_steps, at_extra, at_then, at_cleared, at_line, at_any_line, step_symbols, ask_symbols, node_move, at_ask_steps, at_stmts, at_end, AToken, AName, AColumn, AWidth, AType, ADefault, AnAs, AWhat, AKeys, AnAggs, AFirst, AnItem, ALinked, MoreDecls, MoreItems, MoreKeys, MoreAggs, MorePairs, MoreLinked, ASource, ASteps, AStep, AUnited, APrim, AnAnds, AnOrs, AnOn, AnOp, ATerm, AStmts, AnExtra, ALine, ALineName, ALineColumn, AMarks, AMark, MoreMarks, AThen, AnEnd, AnyLine, AnAskStep, AskSteps}
+use Rattle.smk_model.specs.Machine.{PlanCounts, Tally, Symbol, Skips, Outside, through, fault_in, book_symbols, any_symbols, no_counts, book_fault, line_fault, any_fault, is_mark, is_short, at_more, at_default, at_as, at_keys, at_aggs, at_ands, at_ors, at_steps, at_extra, at_then, at_cleared, at_line, at_any_line, step_symbols, ask_symbols, node_move, at_ask_steps, at_stmts, at_end, AToken, AName, AColumn, AWidth, AType, ADefault, AnAs, AWhat, AKeys, AnAggs, AFirst, AnItem, ALinked, MoreDecls, MoreItems, MoreKeys, MoreAggs, MorePairs, MoreLinked, ASource, ASteps, AStep, AUnited, APrim, AnAnds, AnOrs, AnOn, AnOp, ATerm, AStmts, AnExtra, ALine, ALineName, ALineColumn, AMarks, AMark, MoreMarks, AThen, AnEnd, AnyLine, AnAskStep, AskSteps}
 use Rattle.smk_model.specs.Limits.{Divides, KeepsItems, KeepsTree, KeepsStep, nodes, nodes_of_step, DefaultInRange, KeepsDecls, KeepsStmt, KeepsAskStep, is_table, is_view}
 use Rattle.smk_model.specs.GrammarLaws.{AtMostTooMany, TextsAreRead}
 use Rattle.smk_model.proofs.Unique.{rank, rank_of, ranked, aggs_rank, ors_rank, steps_rank, stmts_rank, ask_steps_rank, step_opening, opener, opening}
@@ -80,50 +80,50 @@ pub record Held (y : Tally) (ss : List StmtImage) : Type 0 where
   pub each : All KeepsStmt ss
 
 -- a symbol is nothing before a token that doesn't begin it
-more_skips : (c : Counts) (ss : List Symbol) (k : TokenKind) → 2 ≤ rank k → at_more c ss k ≡ Skips
+more_skips : (c : PlanCounts) (ss : List Symbol) (k : TokenKind) → 2 ≤ rank k → at_more c ss k ≡ Skips
 more_skips c ss kinds.Comma h = absurd (omega (arith, h))
 more_skips c ss _ h = refl
 
-default_skips : (c : Counts) (k : TokenKind) → 1 ≤ rank k → at_default c k ≡ Skips
+default_skips : (c : PlanCounts) (k : TokenKind) → 1 ≤ rank k → at_default c k ≡ Skips
 default_skips c kinds.Default h = absurd (omega (arith, h))
 default_skips c _ h = refl
 
-as_skips : (c : Counts) (k : TokenKind) → 1 ≤ rank k → at_as c k ≡ Skips
+as_skips : (c : PlanCounts) (k : TokenKind) → 1 ≤ rank k → at_as c k ≡ Skips
 as_skips c kinds.As h = absurd (omega (arith, h))
 as_skips c _ h = refl
 
-keys_skips : (c : Counts) (short : Bool) (k : TokenKind) → 3 ≤ rank k → at_keys c short k ≡ Skips
+keys_skips : (c : PlanCounts) (short : Bool) (k : TokenKind) → 3 ≤ rank k → at_keys c short k ≡ Skips
 keys_skips c short kinds.Name h = absurd (omega (arith, h))
 keys_skips c short kinds.Quoted h = absurd (omega (arith, h))
 keys_skips c short _ h = refl
 
-aggs_skips : (c : Counts) (k : TokenKind) → 4 ≤ rank k → at_aggs c k ≡ Skips
+aggs_skips : (c : PlanCounts) (k : TokenKind) → 4 ≤ rank k → at_aggs c k ≡ Skips
 aggs_skips c kinds.OpenBrace h = absurd (omega (arith, h))
 aggs_skips c _ h = refl
 
-ands_skips : (c : Counts) (d : ℕ) (k : TokenKind) → 5 ≤ rank k → at_ands c d k ≡ Skips
+ands_skips : (c : PlanCounts) (d : ℕ) (k : TokenKind) → 5 ≤ rank k → at_ands c d k ≡ Skips
 ands_skips c d kinds.And h = absurd (omega (arith, h))
 ands_skips c d _ h = refl
 
-ors_skips : (c : Counts) (d : ℕ) (k : TokenKind) → 6 ≤ rank k → at_ors c d k ≡ Skips
+ors_skips : (c : PlanCounts) (d : ℕ) (k : TokenKind) → 6 ≤ rank k → at_ors c d k ≡ Skips
 ors_skips c d kinds.Or h = absurd (omega (arith, h))
 ors_skips c d _ h = refl
 
-steps_skips : (c : Counts) (d : ℕ) (k : TokenKind) → 7 ≤ rank k → at_steps c d k ≡ Skips
+steps_skips : (c : PlanCounts) (d : ℕ) (k : TokenKind) → 7 ≤ rank k → at_steps c d k ≡ Skips
 steps_skips c d kinds.Bar h = absurd (omega (arith, h))
 steps_skips c d _ h = refl
 
-extra_skips : (c : Counts) (k : TokenKind) → 8 ≤ rank k → at_extra c k ≡ Skips
+extra_skips : (c : PlanCounts) (k : TokenKind) → 8 ≤ rank k → at_extra c k ≡ Skips
 extra_skips c kinds.By h = absurd (omega (arith, h))
 extra_skips c kinds.Group h = absurd (omega (arith, h))
 extra_skips c _ h = refl
 
-then_skips : (c : Counts) (k : TokenKind) → 8 ≤ rank k → at_then c k ≡ Skips
+then_skips : (c : PlanCounts) (k : TokenKind) → 8 ≤ rank k → at_then c k ≡ Skips
 then_skips c kinds.Where h = absurd (omega (arith, h))
 then_skips c kinds.Group h = absurd (omega (arith, h))
 then_skips c _ h = refl
 
-cleared_skips : (c : Counts) (k : TokenKind) → 3 ≤ rank k → at_cleared c k ≡ Skips
+cleared_skips : (c : PlanCounts) (k : TokenKind) → 3 ≤ rank k → at_cleared c k ≡ Skips
 cleared_skips c kinds.Name h = absurd (omega (arith, h))
 cleared_skips c _ h = refl
 
@@ -314,7 +314,7 @@ held_other {y} {z} {s} {ss} t v i j k h = record {
 no_more_held : (y : Tally) → Held y []
 no_more_held y = record { few_tables = λ b. omega (arith, b); few_views = λ b. omega (arith, b); each = All-nil KeepsStmt }
 
-pub stmts_text : {a : List Token} {ss : List StmtImage} → AreStmts a ss → (y : Tally) → (e : List Token) × ((c : Counts) → Ends (Unit {0}) (Held y ss) c (AStmts y ∷ []) a e)
+pub stmts_text : {a : List Token} {ss : List StmtImage} → AreStmts a ss → (y : Tally) → (e : List Token) × ((c : PlanCounts) → Ends (Unit {0}) (Held y ss) c (AStmts y ∷ []) a e)
 stmts_text {a} (no_stmt h) y = (a, λ c. ends_told (λ u. no_more_held y) (ends_pass c (ap (at_stmts y) (end_here h))))
 stmts_text (one_stmt (table_stmt h n i f j ds k) l) y = let r = stmts_text l (record y { tables = y.tables + 1 }) in (r.0, λ c. ends_told (λ u. held_table u.0 (kept_decls u.1.1) u.1.2) (opens_ends (nat_lt y.tables 16) Tables c tt refl h (then_ends (then_goes (name_text n) (then_goes (token_text i refl) (then_goes (file_text f) (then_goes (token_text j refl) (ahead (listed_text decls ds (omega (arith, ranked k))) (token_text k refl)))))) r.1)))
 stmts_text (one_stmt (view_stmt h n q p) l) y = let r = stmts_text l (record y { views = y.views + 1 }) in (r.0, λ c. ends_told (λ u. held_view u.0 refl refl refl refl (record { lists = u.1.1; few = u.1.0 }) u.1.2) (opens_ends (nat_lt y.views 64) Views c tt refl h (then_ends (then_goes (name_text n) (then_goes (token_text q refl) (plan_text p (omega (arith, stmts_rank l)) 0))) r.1)))
@@ -384,7 +384,7 @@ line : (a : List Token) (l : Line) → IsWholeLine a l → line_fault a ≡ None
 line a l (whole_line p h) = faultless (line_text p (omega (arith, ranked h))) h
 
 -- a line without steps begins as a line of any kind does
-plain_at : (c : Counts) (l : Line) → at_any_line c (opener l) ≡ at_line c (opener l)
+plain_at : (c : PlanCounts) (l : Line) → at_any_line c (opener l) ≡ at_line c (opener l)
 plain_at c (lines.Show view) = refl
 plain_at c (lines.Back view marks table then) = refl
 plain_at c (lines.Fwd table rows view) = refl
@@ -395,7 +395,7 @@ plain_at c (lines.ClearOne view table) = refl
 plain : (a : List Token) (l : Line) → IsWholeLine a l → any_fault a ≡ None
 plain a l (whole_line p h) = faultless (begins_alike (λ c. ap (at_any_line c) (opening p) ∙ plain_at c l ∙ sym (ap (at_line c) (opening p))) (line_text p (omega (arith, ranked h)))) h
 
-ask_steps_skips : (c : Counts) (k : TokenKind) → 7 ≤ rank k → at_ask_steps c k ≡ Skips
+ask_steps_skips : (c : PlanCounts) (k : TokenKind) → 7 ≤ rank k → at_ask_steps c k ≡ Skips
 ask_steps_skips c kinds.Bar h = absurd (omega (arith, h))
 ask_steps_skips c _ h = refl
 

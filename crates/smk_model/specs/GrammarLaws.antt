@@ -8,7 +8,7 @@ use Rattle.smk_base.specs.Trees.{StmtImage, AskImage, AnyLineImage, AskedLine, P
 use Rattle.smk_model.specs.Tokens.{Token, tokens}
 use Rattle.smk_model.specs.Grammar.{AreStmts, IsWholeLine, IsWholeAnyLine}
 use Rattle.smk_model.specs.Limits.{KeepsLimits, KeepsAsk}
-use Rattle.smk_model.specs.Machine.{State, through, book_symbols, line_symbols, any_symbols, no_counts, book_fault, line_fault, any_fault}
+use Rattle.smk_model.specs.Machine.{Configuration, through, book_symbols, line_symbols, any_symbols, no_counts, book_fault, line_fault, any_fault}
 
 -- no fault, or that there are too many of something
 abbrev pub AtMostTooMany : Option BookFault → Type 0
@@ -70,9 +70,9 @@ NoEnds (t ∷ ts) = (t.kind ≡ End → ⊥) × NoEnds ts
 
 -- tokens before the end that were all taken begin a text of the grammar
 pub record TakenAreCompleted : Type 0 where
-  pub book : (ts : List Token) (s : State) → NoEnds ts → through book_symbols no_counts ts ≡ Ok s → s.rest ≡ [] → (more : List Token) × (ss : List StmtImage) × AreStmts (ts ++ more) ss
-  pub line : (ts : List Token) (s : State) → NoEnds ts → through line_symbols no_counts ts ≡ Ok s → s.rest ≡ [] → (more : List Token) × (l : Line) × IsWholeLine (ts ++ more) l
-  pub any : (ts : List Token) (s : State) → NoEnds ts → through any_symbols no_counts ts ≡ Ok s → s.rest ≡ [] → (more : List Token) × (l : AnyLineImage) × IsWholeAnyLine (ts ++ more) l
+  pub book : (ts : List Token) (s : Configuration) → NoEnds ts → through book_symbols no_counts ts ≡ Ok s → s.rest ≡ [] → (more : List Token) × (ss : List StmtImage) × AreStmts (ts ++ more) ss
+  pub line : (ts : List Token) (s : Configuration) → NoEnds ts → through line_symbols no_counts ts ≡ Ok s → s.rest ≡ [] → (more : List Token) × (l : Line) × IsWholeLine (ts ++ more) l
+  pub any : (ts : List Token) (s : Configuration) → NoEnds ts → through any_symbols no_counts ts ≡ Ok s → s.rest ≡ [] → (more : List Token) × (l : AnyLineImage) × IsWholeAnyLine (ts ++ more) l
 
 -- a text that spells a book and has no fault keeps the limits
 abbrev pub FaultlessKeepLimits : Type 0

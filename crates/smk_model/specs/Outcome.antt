@@ -17,7 +17,7 @@ use Rattle.smk_base.specs.declared.fault.Fault.TheVariants.{Usage, Book, Types, 
 use Rattle.smk_base.specs.declared.fault.BookFault.{BookFault}
 use Rattle.smk_base.specs.declared.fault.TableFault.{TableFault}
 use Rattle.smk_base.specs.declared.fault.TableFault.TheVariants as table_faults
-use Rattle.smk_model.specs.Words.{Words, Files, Demo, words_of}
+use Rattle.smk_model.specs.Words.{TextSource, Files, Demo, words_of}
 use Rattle.smk_model.specs.Values.{Row}
 use Rattle.smk_model.specs.Tokens.{tokens}
 use Rattle.smk_model.specs.Grammar.{AreStmts}
@@ -166,22 +166,22 @@ text_named texts name =
     (file_named texts.files name))
 
 -- where a run finds its texts, and under which names: in the files; a demo, in its own texts
-abbrev pub source_of : Words → Held → Held
+abbrev pub source_of : TextSource → Held → Held
 source_of (Files book script) held = held
 source_of (Demo n) held = text_named (demo_of n)
 
-abbrev pub book_of : Words → List ℕ
+abbrev pub book_of : TextSource → List ℕ
 book_of (Files book script) = book
 book_of (Demo n) = DEMO_BOOK_NAME.now
 
-abbrev pub script_of : Words → Option (List ℕ)
+abbrev pub script_of : TextSource → Option (List ℕ)
 script_of (Files book script) = script
 script_of (Demo n) = Some DEMO_SCRIPT_NAME.now
 
 -- what a run reads, or its first fault
 pub data ReadsInputs (words : List (List ℕ)) (held : Held) : Result Inputs Fault → Type 0 where
   unusable : words_of words ≡ None → ReadsInputs words held (Err Usage)
-  usable : {ws : Words} {answer : Result Inputs Fault} → words_of words ≡ Some ws → ReadsFiles (source_of ws held) (book_of ws) (script_of ws) answer → ReadsInputs words held answer
+  usable : {ws : TextSource} {answer : Result Inputs Fault} → words_of words ≡ Some ws → ReadsFiles (source_of ws held) (book_of ws) (script_of ws) answer → ReadsInputs words held answer
 
 -- the report of what was read, unless a node of a view has too many rows, or too many pairs with a table that the view needs
 abbrev pub unless_view_fault : Inputs → Option ViewFault → Result Report Fault
@@ -201,7 +201,7 @@ pub data Outcome (words : List (List ℕ)) (held : Held) : Result Report Fault �
   read : {inputs : Inputs} {answer : Result Report Fault} → ReadsInputs words held (Ok inputs) → reported inputs ≡ answer → Outcome words held answer
 
 -- what a run writes of its report: its text; a demo, the summary
-abbrev pub written_for : Option Words → Report → List ℕ
+abbrev pub written_for : Option TextSource → Report → List ℕ
 written_for (Some (Files book script)) report = report.text
 written_for (Some (Demo n)) report = summary_of n report
 written_for None report = []
@@ -226,7 +226,7 @@ NamesAsked held book script (Unread file) = IsAskedFor held book script file
 NamesAsked held book script _ = ⊥
 
 -- the same for the files of a run; a demo reads none
-abbrev pub NamesRead : Option Words → Held → Fault → Type 0
+abbrev pub NamesRead : Option TextSource → Held → Fault → Type 0
 NamesRead (Some (Files book script)) held fault = NamesAsked held book script fault
 NamesRead (Some (Demo n)) held fault = ⊥
 NamesRead None held fault = ⊥
@@ -236,7 +236,7 @@ abbrev pub nothing_held : Held
 nothing_held name = None
 
 -- what is so of a run by what its files hold: where they don't tell it, only a rest of it is known; a run that reads no file doesn't depend on it
-abbrev pub WhereTold : Option Held → Option Words → Type 0 → (Held → Type 0) → Type 0
+abbrev pub WhereTold : Option Held → Option TextSource → Type 0 → (Held → Type 0) → Type 0
 WhereTold (Some held) words rest is = is held
 WhereTold None (Some (Files book script)) rest is = rest
 WhereTold None (Some (Demo n)) rest is = is nothing_held

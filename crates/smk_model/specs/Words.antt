@@ -6,6 +6,7 @@ use Rattle.clap.specs.Simple.{on_top}
 use Rattle.clap.specs.Kinds.{Kinds}
 use Rattle.clap.specs.declared.builder.value_parser.ValueParser.TheVariants as parsers
 use Rattle.smk_base.specs.Ints.{int_of}
+use Rattle.smk_base.specs.declared.workers.TheConstants.{WORKER_LIMIT}
 
 -- when a step's lineage is made: while the step runs, or from what it kept
 pub data Mode : Type 0 where
@@ -18,21 +19,17 @@ pub record Settings : Type 0 where
   pub workers : ℕ
 
 -- where the texts of a run come from: the file of the book, and that of the script where there is one; or the demo of so many flights
-pub data Words : Type 0 where
-  Files : List ℕ → Option (List ℕ) → Words
-  Demo : ℕ → Words
+pub data TextSource : Type 0 where
+  Files : List ℕ → Option (List ℕ) → TextSource
+  Demo : ℕ → TextSource
 
 -- the option `--mode`, which is inject where it isn't there
 abbrev pub mode_rule : Rule
 mode_rule = record (new_rule (codes "mode")) { long = Some (codes "mode"); defaults = codes "inject" ∷ [] }
 
--- the most workers that a run may have
-abbrev pub most_workers : ℕ
-most_workers = 64
-
 -- the option `--workers` with a number of them, which is one where it isn't there
 abbrev pub workers_rule : Rule
-workers_rule = record (new_rule (codes "workers")) { long = Some (codes "workers"); parser = Some (parsers.Signed (pos 1) (pos 64)); defaults = codes "1" ∷ [] }
+workers_rule = record (new_rule (codes "workers")) { long = Some (codes "workers"); parser = Some (parsers.Signed (pos 1) (pos WORKER_LIMIT)); defaults = codes "1" ∷ [] }
 
 -- the most flights that a demo may have
 abbrev pub most_flights : ℕ
@@ -60,7 +57,7 @@ mode_named text = cond (bytes_eq text (codes "inject")) (Some Inject) (cond (byt
 
 -- so many workers, unless there may not be so many
 abbrev pub workers_counted : ℤ → Option ℕ
-workers_counted (pos n) = cond (nat_lt 0 n && nat_lt n (most_workers + 1)) (Some n) None
+workers_counted (pos n) = cond (nat_lt 0 n && nat_lt n (WORKER_LIMIT + 1)) (Some n) None
 workers_counted (negsuc n) = None
 
 abbrev pub settings_with : Option Mode → Option ℕ → Option Settings
@@ -73,26 +70,26 @@ abbrev pub settings_in : Values → Option Settings
 settings_in values = settings_with (option_and_then mode_named (values (codes "mode"))) (option_and_then workers_counted (option_and_then int_of (values (codes "workers"))))
 
 -- the demo of a number of flights, unless there may not be so many
-abbrev pub demo_sized : ℤ → Option Words
+abbrev pub demo_sized : ℤ → Option TextSource
 demo_sized (pos n) = cond (nat_lt 0 n && nat_lt n (most_flights + 1)) (Some (Demo n)) None
 demo_sized (negsuc n) = None
 
 -- the texts that are asked for by the values of `--demo`, of the book and of the script: those of a demo or those of files, of which exactly one is given
-abbrev pub texts_named : Option (List ℕ) → Option (List ℕ) → Option (List ℕ) → Option Words
+abbrev pub texts_named : Option (List ℕ) → Option (List ℕ) → Option (List ℕ) → Option TextSource
 texts_named None (Some book) script = Some (Files book script)
 texts_named None None script = None
 texts_named (Some number) None script = option_and_then demo_sized (int_of number)
 texts_named (Some number) (Some book) script = None
 
-abbrev pub texts_in : Values → Option Words
+abbrev pub texts_in : Values → Option TextSource
 texts_in values = texts_named (values (codes "demo")) (values (codes "book")) (values (codes "script"))
 
 -- what a run is called for
 pub record Invocation : Type 0 where
   pub settings : Settings
-  pub texts : Words
+  pub texts : TextSource
 
-abbrev pub called : Option Settings → Option Words → Option Invocation
+abbrev pub called : Option Settings → Option TextSource → Option Invocation
 called (Some settings) (Some texts) = Some (record { settings = settings; texts = texts })
 called (Some settings) None = None
 called None texts = None
@@ -109,5 +106,5 @@ where_taken (kind ∷ kinds) found = None
 abbrev pub invocation_of : List (List ℕ) → Option Invocation
 invocation_of words = where_taken (fault_of smoke_app words) (invocation_in (value_given words))
 
-abbrev pub words_of : List (List ℕ) → Option Words
+abbrev pub words_of : List (List ℕ) → Option TextSource
 words_of words = option_map (λ call. call.texts) (invocation_of words)

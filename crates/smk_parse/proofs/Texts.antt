@@ -1,6 +1,6 @@
 -- Bytes, and what stands at their front.
 use Rattle.std.specs.Prelude.{cond, nat_eq, Bool, true, false, pos, neg_ℤ, take, drop, length, ◌==◌, take_while, not, FitsSigned}
-use Rattle.smk_parse.specs.Words.{digits_value, TokenKind, Begins, front, Between, tokens_from, put, is_more, undoubled, prefix_len, no_line_end, lines, lines_after, without_cr, w64}
+use Rattle.smk_parse.specs.Vocabulary.{digits_value, TokenKind, Begins, front, Between, tokens_from, put, is_more, undoubled, prefix_len, no_line_end, lines, lines_after, without_cr, w64}
 use Rattle.std.proofs.Common.{◌≡◌, ℕ, zero, suc, ◌+◌, ◌*◌, ◌-◌, ◌<◌, List, [], ◌∷◌, get_or, drop-cons, ap, ◌∙◌, sym, arith, subst, refl, ◌≤◌, ◌++◌, append_assoc, min, append-nil, length-append}
 use Rattle.std.proofs.lemmas.List.{drop-drop, length-drop, take_all, length-take, take-take, Folds.length-prefix_len}
 use Rattle.smk_base.specs.declared.token.TokenKind.TheVariants.{End}

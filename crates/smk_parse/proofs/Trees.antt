@@ -1,5 +1,5 @@
 -- The trees of what was read. The cases of the grammar that show all their parts stand in the list as they are.
-use Rattle.smk_parse.specs.Words.{TokenKind, Word, Lit, CmpOp, Term, Extra, Marks, Then, CompareNode, BackNode, FwdNode, LinkNode, DependsNode, Token, head_of, int_value, string_value, First, IsName, IsColumn, IsLiteral, IsFile, IsNamed, IsExtra, IsOp, IsTerm, IsPrim, IsThen, IsLine, IsStmt, IsAskLine, AskStepImage, AreListed, State, Counts}
+use Rattle.smk_parse.specs.Vocabulary.{TokenKind, Word, Lit, CmpOp, Term, Extra, Marks, Then, CompareNode, BackNode, FwdNode, LinkNode, DependsNode, Token, head_of, int_value, string_value, First, IsName, IsColumn, IsLiteral, IsFile, IsNamed, IsExtra, IsOp, IsTerm, IsPrim, IsThen, IsLine, IsStmt, IsAskLine, AskStepImage, AreListed, Configuration, PlanCounts}
 use Rattle.std.proofs.Common.{◌≡◌, ℕ, ℤ, true, List, ◌∷◌, ap, ◌∙◌, sym, subst, refl}
 use Rattle.smk_base.specs.declared.token.TokenKind.TheVariants as kinds
 use Rattle.smk_base.specs.declared.value.Value.TheVariants as values
@@ -8,7 +8,7 @@ use Rattle.smk_model.specs.Grammar.{name, plain, quoted, number, string, file, m
 use Rattle.smk_parse.specs.{Texts.Advances, Reads.is_column, Reads.column_word, Reads.AreNames, Reads.two_names, Reads.IsMarked, Reads.marked, Reads.ArePiped, Reads.piped}
 use Rattle.smk_parse.proofs.Steps.{first_here, in_order}
 
-pub name_is : (c : Counts) (a b : State) (w : Word) → Advances c a b → (head_of a.rest).kind ≡ kinds.Name → w ≡ column_word (head_of a.rest) → IsName a.rest b.rest w
+pub name_is : (c : PlanCounts) (a b : Configuration) (w : Word) → Advances c a b → (head_of a.rest).kind ≡ kinds.Name → w ≡ column_word (head_of a.rest) → IsName a.rest b.rest w
 name_is c a b w h e f = subst (IsName a.rest b.rest) (sym f) (by (head_of a.rest).at (head_of a.rest).kind (head_of a.rest).text e h.first)
   where
     by : (n : ℕ) (k : TokenKind) (s : List ℕ) → k ≡ kinds.Name → a.rest ≡ record { at = n; kind = k; text = s } ∷ b.rest → IsName a.rest b.rest (column_word (record { at = n; kind = k; text = s }))
@@ -19,13 +19,13 @@ column_cases kinds.Name P o p q = p
 column_cases kinds.Quoted P o p q = q
 column_cases _ P o p q = absurd (cc)
 
-pub column_is : (c : Counts) (a b : State) (w : Word) → Advances c a b → is_column (head_of a.rest).kind ≡ true → w ≡ column_word (head_of a.rest) → IsColumn a.rest b.rest w
+pub column_is : (c : PlanCounts) (a b : Configuration) (w : Word) → Advances c a b → is_column (head_of a.rest).kind ≡ true → w ≡ column_word (head_of a.rest) → IsColumn a.rest b.rest w
 column_is c a b w h e f = subst (IsColumn a.rest b.rest) (sym f) (by (head_of a.rest).at (head_of a.rest).kind (head_of a.rest).text e h.first)
   where
     by : (n : ℕ) (k : TokenKind) (s : List ℕ) → is_column k ≡ true → a.rest ≡ record { at = n; kind = k; text = s } ∷ b.rest → IsColumn a.rest b.rest (column_word (record { at = n; kind = k; text = s }))
     by n k s o = column_cases k (λ k. a.rest ≡ record { at = n; kind = k; text = s } ∷ b.rest → IsColumn a.rest b.rest (column_word (record { at = n; kind = k; text = s }))) o (λ g. plain (record { is_kind = refl; is_first = g })) (λ g. quoted (record { is_kind = refl; is_first = g }))
 
-pub number_is : (a b : State) (l : Lit) (v : ℤ) → Advances a.counts a b → (head_of a.rest).kind ≡ kinds.Number → l.value ≡ values.Int v → v ≡ int_value (head_of a.rest).text → l.at ≡ (head_of a.rest).at → IsLiteral a.rest b.rest l
+pub number_is : (a b : Configuration) (l : Lit) (v : ℤ) → Advances a.counts a b → (head_of a.rest).kind ≡ kinds.Number → l.value ≡ values.Int v → v ≡ int_value (head_of a.rest).text → l.at ≡ (head_of a.rest).at → IsLiteral a.rest b.rest l
 number_is a b l v h e f k g = let n : l ≡ record { value = values.Int (int_value (head_of a.rest).text); at = (head_of a.rest).at } = λ i. record { value = (f ∙ ap values.Int k) i; at = g i } in subst (IsLiteral a.rest b.rest) (sym n) (number (first_here kinds.Number a.counts a b h e))
 
 pub file_is : (a b : List Token) (n : List ℕ) → First kinds.Str (head_of a) a b → n ≡ string_value (head_of a).text → IsFile a b n
@@ -34,7 +34,7 @@ file_is a b n h f = subst (IsFile a b) (sym f) (file h)
 pub itself_is : (a : List Token) (w v : Word) → v.name ≡ w.name → v.at ≡ w.at → IsNamed w a a v
 itself_is a w v e f = let n : v ≡ w = λ i. record { name = e i; at = f i } in subst (IsNamed w a a) (sym n) by_itself
 
-pub compared_is : (n : Counts) (a b : State) (c d : List Token) (w : Word) (o : CmpOp) (x : Term) → Advances n a b → is_column (head_of a.rest).kind ≡ true → w ≡ column_word (head_of a.rest) → IsOp b.rest c o → IsTerm c d x → IsPrim a.rest d (CompareNode w o x)
+pub compared_is : (n : PlanCounts) (a b : Configuration) (c d : List Token) (w : Word) (o : CmpOp) (x : Term) → Advances n a b → is_column (head_of a.rest).kind ≡ true → w ≡ column_word (head_of a.rest) → IsOp b.rest c o → IsTerm c d x → IsPrim a.rest d (CompareNode w o x)
 compared_is n a b c d w o x h e f k i = compared (column_is n a b w h e f) k i
 
 -- where the place of the first token was kept

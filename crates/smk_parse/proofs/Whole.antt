@@ -1,6 +1,6 @@
 -- What a whole book or line is read as.
 use Rattle.std.{specs.Prelude.Some, specs.Prelude.None, specs.Prelude.Ok, specs.Prelude.Err, specs.Prelude.map, proofs.lemmas.List.map_push}
-use Rattle.smk_parse.specs.Words.{BookFault, LineFault, Stmt, NoMemory, StmtImage, stmt_image, AskStepImage, ask_step_image, First, IsAskStep, AreAskSteps, Token, head_of, tokens, HasNoToken, IsStmt, AreStmts, State, Symbol, through, book_symbols, AnEnd, fault_in, no_counts}
+use Rattle.smk_parse.specs.Vocabulary.{BookFault, LineFault, Stmt, NoMemory, StmtImage, stmt_image, AskStepImage, ask_step_image, First, IsAskStep, AreAskSteps, Token, head_of, tokens, HasNoToken, IsStmt, AreStmts, Configuration, Symbol, through, book_symbols, AnEnd, fault_in, no_counts}
 use Rattle.std.proofs.Common.{◌≡◌, ℕ, List, [], ◌∷◌, ◌++◌, false, ap, ◌∙◌, sym, subst, refl, append_assoc, append-nil}
 use Rattle.smk_base.specs.declared.token.TokenKind.TheVariants as kinds
 use Rattle.smk_base.specs.declared.tree.AskStep.{AskStep}
@@ -17,33 +17,33 @@ stmts_begin a = record { ends = λ zs h. h }
 pub stmts_go_on : (o a b : List Token) (ss us : List Stmt) (s : Stmt) → EndsStmts o a (map stmt_image ss) → IsStmt a b (stmt_image s) → us ≡ ss ++ s ∷ [] → EndsStmts o b (map stmt_image us)
 stmts_go_on o a b ss us s h k e = record { ends = λ zs m. subst (λ l. AreStmts o (l ++ zs)) (sym (ap (map stmt_image) e ∙ map_push stmt_image ss s)) (subst (AreStmts o) (sym (append_assoc (map stmt_image ss) (stmt_image s ∷ []) zs)) (h.ends (stmt_image s ∷ zs) (one_stmt k m))) }
 
-pub stmts_done : (o : List Token) (a : State) (ss : List StmtImage) → EndsStmts o a.rest ss → Here a → (head_of a.rest).kind ≡ kinds.End → AreStmts o ss
+pub stmts_done : (o : List Token) (a : Configuration) (ss : List StmtImage) → EndsStmts o a.rest ss → Here a → (head_of a.rest).kind ≡ kinds.End → AreStmts o ss
 stmts_done o a ss h k e = subst (AreStmts o) (append-nil ss) (h.ends [] (no_stmt (record { is_kind = e; is_first = k })))
 
 pub ruleset stmts_trees = (stmts_begin, stmts_go_on, stmts_done)
 
 -- a text that its symbols lead through has no fault
-pub faultless : (ls : List Symbol) (a b : State) (text : List ℕ) → a ≡ record { rest = tokens text; counts = no_counts } → Leads ls a b → fault_in (through ls no_counts (tokens text)) ≡ None
+pub faultless : (ls : List Symbol) (a b : Configuration) (text : List ℕ) → a ≡ record { rest = tokens text; counts = no_counts } → Leads ls a b → fault_in (through ls no_counts (tokens text)) ≡ None
 faultless ls a b text e h = ap (λ s. fault_in (through ls s.counts s.rest)) (sym e) ∙ ap (λ l. fault_in (through l a.counts a.rest)) (sym (append-nil ls)) ∙ ap fault_in (h.goes [])
 
-faulty : (ls : List Symbol) (a : State) (text : List ℕ) (f : BookFault) → a ≡ record { rest = tokens text; counts = no_counts } → Fails ls a f → is_memory f ≡ false → through ls no_counts (tokens text) ≡ Err f
+faulty : (ls : List Symbol) (a : Configuration) (text : List ℕ) (f : BookFault) → a ≡ record { rest = tokens text; counts = no_counts } → Fails ls a f → is_memory f ≡ false → through ls no_counts (tokens text) ≡ Err f
 faulty ls a text f e h m = ap (λ s. through ls s.counts s.rest) (sym e) ∙ ap (λ l. through l a.counts a.rest) (sym (append-nil ls)) ∙ h.stops [] m
 
-pub book_unread : (a : State) (text : List ℕ) (f : BookFault) → a ≡ record { rest = tokens text; counts = no_counts } → Fails book_symbols a f → IsBookAnswer text (Err f)
+pub book_unread : (a : Configuration) (text : List ℕ) (f : BookFault) → a ≡ record { rest = tokens text; counts = no_counts } → Fails book_symbols a f → IsBookAnswer text (Err f)
 book_unread a text f e h = by f (faulty book_symbols a text f e h)
   where
     by : (f : BookFault) → (is_memory f ≡ false → through book_symbols no_counts (tokens text) ≡ Err f) → IsBookAnswer text (Err f)
     by NoMemory k = tt
     by _ k = ap fault_in (k refl)
 
-some_token : (a : State) (text : List ℕ) → a ≡ record { rest = tokens text; counts = no_counts } → ((head_of a.rest).kind ≡ kinds.End → ⊥) → HasNoToken text → ⊥
+some_token : (a : Configuration) (text : List ℕ) → a ≡ record { rest = tokens text; counts = no_counts } → ((head_of a.rest).kind ≡ kinds.End → ⊥) → HasNoToken text → ⊥
 some_token a text e n h = n (ap (λ s. (head_of s.rest).kind) e ∙ h)
 
 -- a line that these symbols lead through, and one that they don't
-pub whole_read : {Tree : Type 0} (Spells : List Token → Tree → Type 0) (x : Symbol) (a b : State) (text : List ℕ) (line : Tree) → a ≡ record { rest = tokens text; counts = no_counts } → ((head_of a.rest).kind ≡ kinds.End → ⊥) → Leads (x ∷ AnEnd ∷ []) a b → Spells a.rest line → IsAnswer (Spells (tokens text)) (fault_in (through (x ∷ AnEnd ∷ []) no_counts (tokens text))) text (Ok (Some line))
+pub whole_read : {Tree : Type 0} (Spells : List Token → Tree → Type 0) (x : Symbol) (a b : Configuration) (text : List ℕ) (line : Tree) → a ≡ record { rest = tokens text; counts = no_counts } → ((head_of a.rest).kind ≡ kinds.End → ⊥) → Leads (x ∷ AnEnd ∷ []) a b → Spells a.rest line → IsAnswer (Spells (tokens text)) (fault_in (through (x ∷ AnEnd ∷ []) no_counts (tokens text))) text (Ok (Some line))
 whole_read Spells x a b text line e n h is = (some_token a text e n, subst (λ s. Spells s.rest line) e is, faultless (x ∷ AnEnd ∷ []) a b text e h)
 
-pub whole_unread : {Tree : Type 0} (Spells : Tree → Type 0) (x : Symbol) (a : State) (text : List ℕ) (f : BookFault) (r : LineFault) → a ≡ record { rest = tokens text; counts = no_counts } → ((head_of a.rest).kind ≡ kinds.End → ⊥) → Fails (x ∷ AnEnd ∷ []) a f → r ≡ as_line_fault f → IsAnswer Spells (fault_in (through (x ∷ AnEnd ∷ []) no_counts (tokens text))) text (Err r)
+pub whole_unread : {Tree : Type 0} (Spells : Tree → Type 0) (x : Symbol) (a : Configuration) (text : List ℕ) (f : BookFault) (r : LineFault) → a ≡ record { rest = tokens text; counts = no_counts } → ((head_of a.rest).kind ≡ kinds.End → ⊥) → Fails (x ∷ AnEnd ∷ []) a f → r ≡ as_line_fault f → IsAnswer Spells (fault_in (through (x ∷ AnEnd ∷ []) no_counts (tokens text))) text (Err r)
 whole_unread Spells x a text f r e n h g = subst (λ r. IsAnswer Spells (fault_in (through (x ∷ AnEnd ∷ []) no_counts (tokens text))) text (Err r)) (sym g) (by f (faulty (x ∷ AnEnd ∷ []) a text f e h))
   where
     by : (f : BookFault) → (is_memory f ≡ false → through (x ∷ AnEnd ∷ []) no_counts (tokens text) ≡ Err f) → IsAnswer Spells (fault_in (through (x ∷ AnEnd ∷ []) no_counts (tokens text))) text (Err (as_line_fault f))

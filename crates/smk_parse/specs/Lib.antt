@@ -1,4 +1,4 @@
-pub mod Words
+pub mod Vocabulary
 pub mod Texts
 pub mod Reads
 pub mod Answers

@@ -1,17 +1,17 @@
 -- What a reader of some symbols answers.
 use Rattle.std.specs.Prelude.{◌≡◌, ℕ, ◌+◌, ◌≤◌, Bool, true, false, List, [], ◌∷◌, ◌++◌, length, Result, Ok, Err}
-use Rattle.smk_parse.specs.Words.{BookFault, NoMemory, TokenKind, Word, Marks, Token, inner, First, IsName, AreMarks, IsAskStep, AreAskSteps, AskStepImage, State, Counts, Symbol, AStmts, next, at_more, through}
+use Rattle.smk_parse.specs.Vocabulary.{BookFault, NoMemory, TokenKind, Word, Marks, Token, inner, First, IsName, AreMarks, IsAskStep, AreAskSteps, AskStepImage, Configuration, PlanCounts, Symbol, AStmts, move_of, at_more, through}
 use Rattle.smk_base.specs.declared.token.TokenKind.TheVariants as kinds
 use Rattle.smk_model.specs.Machine as machine
 use Rattle.smk_parse.specs.declared.book.Tally.{Tally}
 
 -- these symbols in the first state are those symbols in the second, whatever follows, and no token comes back
-pub record Comes (ls ms : List Symbol) (a b : State) : Type 0 where
+pub record Comes (ls ms : List Symbol) (a b : Configuration) : Type 0 where
   pub comes : (ss : List Symbol) → through (ls ++ ss) a.counts a.rest ≡ through (ms ++ ss) b.counts b.rest
   pub fewer : length b.rest ≤ length a.rest
 
 -- these symbols lead from the first state to the second, whatever follows, and no token comes back
-pub record Leads (ls : List Symbol) (a b : State) : Type 0 where
+pub record Leads (ls : List Symbol) (a b : Configuration) : Type 0 where
   pub goes : (ss : List Symbol) → through (ls ++ ss) a.counts a.rest ≡ through ss b.counts b.rest
   pub fewer : length b.rest ≤ length a.rest
 
@@ -21,11 +21,11 @@ is_memory NoMemory = true
 is_memory _ = false
 
 -- these symbols have this fault, whatever follows; or memory ran out
-pub record Fails (ls : List Symbol) (a : State) (f : BookFault) : Type 0 where
+pub record Fails (ls : List Symbol) (a : Configuration) (f : BookFault) : Type 0 where
   pub stops : (ss : List Symbol) → is_memory f ≡ false → through (ls ++ ss) a.counts a.rest ≡ Err f
 
 -- these symbols lead to the second state, or they fail
-abbrev pub Reads : {X : Type 0} → List Symbol → State → State → Result X BookFault → Type 0
+abbrev pub Reads : {X : Type 0} → List Symbol → Configuration → Configuration → Result X BookFault → Type 0
 Reads ls a b (Ok x) = Leads ls a b
 Reads ls a b (Err f) = Fails ls a f
 
@@ -33,7 +33,7 @@ Reads ls a b (Err f) = Fails ls a f
 abbrev pub tally_of : Tally → machine.Tally
 tally_of t = record { tables = t.tables; views = t.views; lineages = t.lineages; links = t.links }
 
-abbrev pub StmtReads : {X : Type 0} → Tally → Tally → State → State → Result X BookFault → Type 0
+abbrev pub StmtReads : {X : Type 0} → Tally → Tally → Configuration → Configuration → Result X BookFault → Type 0
 StmtReads t u a b (Ok x) = Comes (AStmts (tally_of t) ∷ []) (AStmts (tally_of u) ∷ []) a b
 StmtReads t u a b (Err f) = Fails (AStmts (tally_of t) ∷ []) a f
 
@@ -72,4 +72,4 @@ pub record MemberRule (T : Type 0) : Type 1 where
   pub one : ℕ → List Symbol
   pub more : ℕ → Symbol
   pub spells : List Token → List Token → T → Type 0
-  pub goes_on : (n : ℕ) (c : Counts) (t : Token) → next c (more n) t ≡ at_more c (one n ++ more (n + 1) ∷ []) t.kind
+  pub goes_on : (n : ℕ) (c : PlanCounts) (t : Token) → move_of c (more n) t ≡ at_more c (one n ++ more (n + 1) ∷ []) t.kind

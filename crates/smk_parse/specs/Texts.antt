@@ -1,6 +1,6 @@
 -- What the code holds of a text.
 use Rattle.std.specs.Prelude.{◌≡◌, ℕ, ◌+◌, ◌-◌, ◌<◌, ◌≤◌, true, List, [], ◌∷◌, take, drop, length, cond, FitsSigned}
-use Rattle.smk_parse.specs.Words.{TokenKind, LineSpan, Token, Front, Between, Begins, tokens_from, is_more, head_of, int_value, State, Counts, lines, w64}
+use Rattle.smk_parse.specs.Vocabulary.{TokenKind, LineSpan, Token, Front, Between, Begins, tokens_from, is_more, head_of, int_value, Configuration, PlanCounts, lines, w64}
 use Rattle.smk_base.specs.declared.token.TokenKind.TheVariants.{Number}
 use Rattle.smk_parse.specs.declared.front.Front as code
 use Rattle.smk_parse.specs.declared.front.Front.TheVariants as fronts
@@ -26,7 +26,7 @@ pub record Stands (kind : TokenKind) (place len : ℕ) (text : List ℕ) : Type 
   pub fits : kind ≡ Number → FitsSigned w64 (int_value (take len (drop place text)))
 
 -- the token in hand is taken, with these counts
-pub record Advances (c : Counts) (a b : State) : Type 0 where
+pub record Advances (c : PlanCounts) (a b : Configuration) : Type 0 where
   pub first : a.rest ≡ head_of a.rest ∷ b.rest
   pub counted : b.counts ≡ c
 

@@ -1,7 +1,7 @@
 #![tactic(auto, using(crate::proofs::Trees::ask_trees))]
 
 ghost use Rattle.std.specs.Prelude.{◌≡◌, ◌∷◌, [], List, map, IfOk};
-ghost use Rattle.smk_parse.specs.Words.{Token, First, ask_image, ask_step_image, any_image, IsAskLine, IsAnyLine, IsWholeAnyLine, AToken, ALineName, AMarks, AnAskStep, AskSteps, any_symbols};
+ghost use Rattle.smk_parse.specs.Vocabulary.{Token, First, ask_image, ask_step_image, any_image, IsAskLine, IsAnyLine, IsWholeAnyLine, AToken, ALineName, AMarks, AnAskStep, AskSteps, any_symbols};
 ghost use Rattle.smk_model.specs.Machine as machine;
 ghost use Rattle.smk_base.specs.declared.token.TokenKind.TheVariants as kinds;
 ghost use Rattle.smk_parse.specs.{Reads.ArePiped, Reads.Reads, Answers.IsAnyAnswer};

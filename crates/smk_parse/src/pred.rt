@@ -1,7 +1,7 @@
 #![tactic(auto, using(crate::proofs::Trees::preds))]
 
 ghost use Rattle.std.specs.Prelude.{◌≡◌, ◌∷◌, ◌+◌, ◌<◌, [], ℕ, IfOk, OnOk};
-ghost use Rattle.smk_parse.specs.Words.{pred_image, head_of, First, IsOp, IsTerm, IsPrim, IsConj, IsPred, AnOn, AnOp, ATerm, APrim, AnAnds, AnOrs};
+ghost use Rattle.smk_parse.specs.Vocabulary.{pred_image, head_of, First, IsOp, IsTerm, IsPrim, IsConj, IsPred, AnOn, AnOp, ATerm, APrim, AnAnds, AnOrs};
 ghost use Rattle.smk_base.specs.declared.token.TokenKind.TheVariants as kinds;
 ghost use Rattle.smk_parse.specs.Reads.{Reads};
 

@@ -1,5 +1,5 @@
 ghost use Rattle.std.specs.Prelude.{◌≡◌, ◌≤◌, ◌∷◌, length, drop, FitsSigned, IsTrue};
-ghost use Rattle.smk_parse.specs.Words.{tokens, tokens_from, head_of, tail_of, is_more, int_value, State, no_counts, w64};
+ghost use Rattle.smk_parse.specs.Vocabulary.{tokens, tokens_from, head_of, tail_of, is_more, int_value, Configuration, no_counts, w64};
 ghost use Rattle.smk_base.specs.declared.token.TokenKind.TheVariants.{Number};
 ghost use Rattle.smk_parse.specs.Texts.{left_at, Stands, Advances};
 
@@ -20,10 +20,10 @@ pub struct Reader<'t> {
 
 impl<'t> Model for Reader<'t> {
     ghost use Rattle.std.specs.Prelude.{drop};
-    ghost use Rattle.smk_parse.specs.Words.{State};
+    ghost use Rattle.smk_parse.specs.Vocabulary.{Configuration};
     ghost use Rattle.smk_parse.specs.Texts.{left_at, Stands};
 
-    ghost Value = { State };
+    ghost Value = { Configuration };
 
     ghost view = { λ a. record { rest = left_at a.kind a.place a.len (drop a.place a.text.now); counts = record { nodes = a.nodes; compares = a.compares } } };
 

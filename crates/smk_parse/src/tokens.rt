@@ -1,7 +1,7 @@
 #![tactic(auto, using(crate::proofs::Trees::words))]
 
 ghost use Rattle.std.specs.Prelude.{◌≡◌, ◌∷◌, [], ◌<◌, IsTrue, true, false, IfOk, IfErr, OnOk};
-ghost use Rattle.smk_parse.specs.Words.{NoMemory, TooMany, head_of, is_more, inner, string_value, First, IsLiteral, IsName, IsColumn, fault_at, is_short, AToken, ALiteral, AName, AColumn, AFirst, ALineName, ALineColumn};
+ghost use Rattle.smk_parse.specs.Vocabulary.{NoMemory, TooMany, head_of, is_more, inner, string_value, First, IsLiteral, IsName, IsColumn, fault_at, is_short, AToken, ALiteral, AName, AColumn, AFirst, ALineName, ALineColumn};
 ghost use Rattle.smk_parse.specs.{Texts.Advances, Reads.Reads, Reads.is_column, Reads.column_name, Reads.column_word};
 
 use crate::reader::Reader;

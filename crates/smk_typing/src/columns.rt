@@ -1,5 +1,6 @@
 ghost use Rattle.std.specs.Prelude.{◌≡◌, ◌≤◌, length, position};
 ghost use Rattle.std.specs.List.{list_any};
+ghost use Rattle.smk_base.specs.declared.rel.TheConstants.{COLUMN_LIMIT};
 ghost use Rattle.smk_model.specs.Kinds as kinds;
 ghost use Rattle.smk_model.specs.Names as names;
 ghost use Rattle.smk_model.specs.TypedSteps as steps;
@@ -18,7 +19,7 @@ fn place_of(columns: &[Column], word: &Word) -> Option<usize>
 /// The number and the kind of the column that a word names.
 #[tactic(auto, using(crate::proofs::Lookups::column_found, crate::proofs::Lookups::column_missing))]
 pub fn column_named(columns: &[Column], word: &Word) -> Result<(u32, Kind), TypeFault>
-    requires { length columns.now ≤ 16 }
+    requires { length columns.now ≤ COLUMN_LIMIT }
     ensures { Finds result (names.column_named columns.now word.now) (λ found. found) }
 {
     match place_of(columns, word) {
@@ -61,7 +62,7 @@ pub fn typed_term(
     columns: &[Column],
     term: &Term,
 ) -> Result<(Operand, Kind), TypeFault>
-    requires { length columns.now ≤ 16 }
+    requires { length columns.now ≤ COLUMN_LIMIT }
     ensures { Finds result (steps.typed_term columns.now term.now) (λ found. found) }
 {
     match term {

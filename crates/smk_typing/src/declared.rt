@@ -1,6 +1,7 @@
 ghost use Rattle.std.specs.Prelude.{◌≡◌, ◌+◌, ◌≤◌, [], length, Ok, IfOk, OnOk};
 ghost use Rattle.std.specs.List.{list_any};
 ghost use Rattle.smk_base.specs.declared.catalog.BackExtra.TheVariants.{Grouped};
+ghost use Rattle.smk_base.specs.declared.rel.TheConstants.{COLUMN_LIMIT};
 ghost use Rattle.smk_model.specs.Names.{in_turn, same_name, names_of, kinds_of};
 ghost use Rattle.smk_model.specs.Typing as typing;
 ghost use Rattle.smk_typing.specs.Answers.{Finds};
@@ -139,7 +140,7 @@ fn grouped(alloc: Global, group: Group) -> Result<BackExtra, TypeFault>
 
 /// What a backward declaration asks for over the columns of its table.
 pub fn typed_extra(alloc: Global, columns: &[Column], extra: &Extra) -> Result<BackExtra, TypeFault>
-    requires { length columns.now ≤ 16 }
+    requires { length columns.now ≤ COLUMN_LIMIT }
     ensures { Finds result (typing.typed_extra columns.now extra.now) (λ asked. asked) }
 {
     match extra {

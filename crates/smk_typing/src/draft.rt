@@ -1,5 +1,6 @@
 ghost use Rattle.std.specs.Prelude.{◌≡◌, ◌<◌, ◌≤◌, length, map, IfOk};
 ghost use Rattle.smk_base.specs.CatalogImage.{catalog_image, view_image};
+ghost use Rattle.smk_base.specs.declared.rel.TheConstants.{COLUMN_LIMIT};
 ghost use Rattle.smk_model.specs.Catalogs.{IsWithinLimits};
 ghost use Rattle.smk_model.specs.Typing as typing;
 ghost use Rattle.smk_typing.specs.Answers.{Finds};
@@ -111,7 +112,7 @@ pub fn columns_at(
 ) -> Result<Columns, TypeFault>
     requires { table < length tables.now }
     ensures columns { Finds result (Ok (typing.columns_of (typing.info_at tables.now table))) (λ columns. columns) }
-    ensures width { IfOk result (λ columns. length columns ≤ 16) }
+    ensures width { IfOk result (λ columns. length columns ≤ COLUMN_LIMIT) }
 {
     columns_of(alloc, &tables.as_slice()[table as usize].cols)
 }

@@ -7,8 +7,8 @@ ghost use Rattle.smk_typing.specs.Images.{group_of, part_after};
 use crate::columns::{column_named, has_column, is_same_sort};
 use crate::typed::Group;
 use smk_base::{
-    Agg, AggTree, AggWhat, Aggs, Column, Columns, Item, ItemTree, Items, Keys, Kind, ListOf,
-    PairTree, Pairs, TypeFault, Word,
+    Agg, AggTree, AggWhat, Aggs, COLUMN_LIMIT, Column, Columns, Item, ItemTree, Items, Keys, Kind,
+    ListOf, PairTree, Pairs, TypeFault, Word,
 };
 use std::alloc::Global;
 
@@ -45,7 +45,7 @@ fn item_name(tree: &ItemTree) -> &Word
 
 /// An item with its kind.
 fn typed_item(columns: &[Column], tree: &ItemTree) -> Result<(Item, Kind), TypeFault>
-    requires { length columns.now ≤ 16 }
+    requires { length columns.now ≤ COLUMN_LIMIT }
     ensures { Finds result (steps.typed_item columns.now tree.now) (λ item. item) }
 {
     match tree {
@@ -77,7 +77,7 @@ fn add_items(
     items: &mut Items,
     made: &mut Columns,
 ) -> Result<(), TypeFault>
-    requires { length columns.now ≤ 16 }
+    requires { length columns.now ≤ COLUMN_LIMIT }
     ensures items { Finds result (in_turn (steps.item_after columns.now) (items.old, made.old) trees.now) (λ _. (items.new, made.new)) }
     ensures width { OnOk result (length made.new ≡ length made.old + length trees.now) }
 {
@@ -94,7 +94,7 @@ pub fn typed_items(
     columns: &[Column],
     trees: &[ItemTree],
 ) -> Result<(Items, Columns), TypeFault>
-    requires { length columns.now ≤ 16 }
+    requires { length columns.now ≤ COLUMN_LIMIT }
     ensures items { Finds result (steps.typed_items columns.now trees.now) (λ made. made) }
     ensures width { IfOk result (λ made. length made.1 ≡ length trees.now) }
 {
@@ -118,7 +118,7 @@ fn add_keys(
     keys: &mut Keys,
     made: &mut Columns,
 ) -> Result<(), TypeFault>
-    requires { length columns.now ≤ 16 }
+    requires { length columns.now ≤ COLUMN_LIMIT }
     ensures { Finds result (in_turn (steps.key_after columns.now) (keys.old, made.old) words.now) (λ _. (keys.new, made.new)) }
 {
     for word in words {
@@ -145,7 +145,7 @@ fn typed_sum(word: &Word, number: u32, kind: Kind) -> Result<(Agg, Kind), TypeFa
 
 /// An aggregate with its kind.
 fn typed_agg(columns: &[Column], what: &AggWhat) -> Result<(Agg, Kind), TypeFault>
-    requires { length columns.now ≤ 16 }
+    requires { length columns.now ≤ COLUMN_LIMIT }
     ensures { Finds result (steps.typed_agg columns.now what.now) (λ agg. agg) }
 {
     match what {
@@ -173,7 +173,7 @@ fn add_aggs(
     aggs: &mut Aggs,
     made: &mut Columns,
 ) -> Result<(), TypeFault>
-    requires { length columns.now ≤ 16 }
+    requires { length columns.now ≤ COLUMN_LIMIT }
     ensures { Finds result (in_turn (steps.agg_after columns.now) (aggs.old, made.old) trees.now) (λ _. (aggs.new, made.new)) }
 {
     for tree in trees {
@@ -186,13 +186,13 @@ fn add_aggs(
 /// Whether a grouping of this width stands as a whole, at the place of `group`.
 fn whole_group(at: u64, group: &Group) -> Result<(), TypeFault>
     ensures group { Finds result (steps.whole_group at group.now.keys group.now.aggs group.now.columns) (λ _. group_of group.now) }
-    ensures width { OnOk result (length group.now.columns ≤ 16) }
+    ensures width { OnOk result (length group.now.columns ≤ COLUMN_LIMIT) }
 {
     let width = group.columns.as_slice().len();
     if width == 0 {
         return Err(TypeFault::EmptyList { at });
     }
-    if width > 16 {
+    if width > COLUMN_LIMIT as usize {
         return Err(TypeFault::RowTooWide { at });
     }
     Ok(())
@@ -207,10 +207,10 @@ fn fill_group(
     trees: &[AggTree],
     group: &mut Group,
 ) -> Result<(), TypeFault>
-    requires few { length columns.now ≤ 16 }
+    requires few { length columns.now ≤ COLUMN_LIMIT }
     requires none { group_of group.old ≡ record { keys = []; aggs = []; columns = [] } }
     ensures group { Finds result (steps.typed_group columns.now at words.now trees.now) (λ _. group_of group.new) }
-    ensures width { OnOk result (length group.new.columns ≤ 16) }
+    ensures width { OnOk result (length group.new.columns ≤ COLUMN_LIMIT) }
 {
     add_keys(alloc, columns, words, &mut group.keys, &mut group.columns)?;
     add_aggs(alloc, columns, trees, &mut group.aggs, &mut group.columns)?;
@@ -225,9 +225,9 @@ pub fn typed_group(
     words: &[Word],
     trees: &[AggTree],
 ) -> Result<Group, TypeFault>
-    requires { length columns.now ≤ 16 }
+    requires { length columns.now ≤ COLUMN_LIMIT }
     ensures group { Finds result (steps.typed_group columns.now at words.now trees.now) group_of }
-    ensures width { IfOk result (λ group. length group.columns ≤ 16) }
+    ensures width { IfOk result (λ group. length group.columns ≤ COLUMN_LIMIT) }
 {
     let mut group = Group {
         keys: Keys::new(alloc),
@@ -250,8 +250,8 @@ fn add_pair(
     pairs: &mut Pairs,
     tree: &PairTree,
 ) -> Result<(), TypeFault>
-    requires left { length lefts.now ≤ 16 }
-    requires right { length rights.now ≤ 16 }
+    requires left { length lefts.now ≤ COLUMN_LIMIT }
+    requires right { length rights.now ≤ COLUMN_LIMIT }
     ensures { Finds result (steps.pair_after lefts.now rights.now pairs.old tree.now) (λ _. pairs.new) }
 {
     let (left, left_kind) = column_named(lefts, &tree.left)?;
@@ -270,8 +270,8 @@ pub fn typed_pairs(
     rights: &[Column],
     trees: &[PairTree],
 ) -> Result<Pairs, TypeFault>
-    requires left { length lefts.now ≤ 16 }
-    requires right { length rights.now ≤ 16 }
+    requires left { length lefts.now ≤ COLUMN_LIMIT }
+    requires right { length rights.now ≤ COLUMN_LIMIT }
     ensures { Finds result (in_turn (steps.pair_after lefts.now rights.now) [] trees.now) (λ pairs. pairs) }
 {
     let mut pairs = Pairs::new(alloc);

@@ -3,6 +3,7 @@ ghost use Rattle.smk_base.specs.Plans.{Apply, Combine};
 ghost use Rattle.smk_base.specs.PlanImage.{expr_of, unary_of, binary_of};
 ghost use Rattle.smk_base.specs.Trees.{ScanNode};
 ghost use Rattle.smk_base.specs.TreeImage.{pred_image, tree_image, step_image};
+ghost use Rattle.smk_base.specs.declared.rel.TheConstants.{COLUMN_LIMIT};
 ghost use Rattle.smk_model.specs.Limits.{KeepsTree, KeepsStep, KeepsItems};
 ghost use Rattle.smk_model.specs.TypedSteps as steps;
 ghost use Rattle.smk_model.specs.Typing as typing;
@@ -31,7 +32,7 @@ fn put_scan(
     typed: &mut Typed,
 ) -> Result<(), TypeFault>
     ensures plan { Finds result (typing.typed_plan tables.now (ScanNode word.now)) (λ _. plan_of typed.new) }
-    ensures width { OnOk result (length typed.new.columns ≤ 16) }
+    ensures width { OnOk result (length typed.new.columns ≤ COLUMN_LIMIT) }
 {
     let number = table_named(tables, word)?;
     let columns = columns_at(alloc, tables, number)?;
@@ -96,9 +97,9 @@ fn combine(alloc: Global, op: Op2, left: &mut Typed, right: &mut Typed) -> Resul
 
 /// Puts `where` over a typed input.
 fn select(alloc: Global, left: &mut Typed, tree: &PredTree) -> Result<(), TypeFault>
-    requires { length left.old.columns ≤ 16 }
+    requires { length left.old.columns ≤ COLUMN_LIMIT }
     ensures plan { Finds result (steps.selected (plan_of left.old) (pred_image tree.now)) (λ _. plan_of left.new) }
-    ensures width { OnOk result (length left.new.columns ≤ 16) }
+    ensures width { OnOk result (length left.new.columns ≤ COLUMN_LIMIT) }
 {
     let pred = typed_pred(alloc, left.columns.as_slice(), tree)?;
     apply(alloc, Op1::Select(pred), left)
@@ -111,10 +112,10 @@ fn project(
     left: &mut Typed,
     trees: &[ItemTree],
 ) -> Result<(), TypeFault>
-    requires width { length left.old.columns ≤ 16 }
-    requires few { length trees.now ≤ 16 }
+    requires width { length left.old.columns ≤ COLUMN_LIMIT }
+    requires few { length trees.now ≤ COLUMN_LIMIT }
     ensures plan { Finds result (cond is_distinct (steps.distinct (plan_of left.old) trees.now) (steps.projected (plan_of left.old) trees.now)) (λ _. plan_of left.new) }
-    ensures width { OnOk result (length left.new.columns ≤ 16) }
+    ensures width { OnOk result (length left.new.columns ≤ COLUMN_LIMIT) }
 {
     let (items, made) = typed_items(alloc, left.columns.as_slice(), trees)?;
     put(&mut left.columns, made);
@@ -133,9 +134,9 @@ fn group(
     words: &[Word],
     trees: &[AggTree],
 ) -> Result<(), TypeFault>
-    requires { length left.old.columns ≤ 16 }
+    requires { length left.old.columns ≤ COLUMN_LIMIT }
     ensures plan { Finds result (steps.grouped at (plan_of left.old) words.now trees.now) (λ _. plan_of left.new) }
-    ensures width { OnOk result (length left.new.columns ≤ 16) }
+    ensures width { OnOk result (length left.new.columns ≤ COLUMN_LIMIT) }
 {
     let Group {
         keys,
@@ -154,10 +155,10 @@ fn join(
     right: &mut Typed,
     trees: &[PairTree],
 ) -> Result<(), TypeFault>
-    requires left { length left.old.columns ≤ 16 }
-    requires right { length right.old.columns ≤ 16 }
+    requires left { length left.old.columns ≤ COLUMN_LIMIT }
+    requires right { length right.old.columns ≤ COLUMN_LIMIT }
     ensures plan { Finds result (steps.joined_plan at trees.now (plan_of left.old) (plan_of right.old)) (λ _. plan_of left.new) }
-    ensures width { OnOk result (length left.new.columns ≤ 16) }
+    ensures width { OnOk result (length left.new.columns ≤ COLUMN_LIMIT) }
 {
     let pairs = typed_pairs(
         alloc,
@@ -177,10 +178,10 @@ fn theta(
     right: &mut Typed,
     tree: &PredTree,
 ) -> Result<(), TypeFault>
-    requires left { length left.old.columns ≤ 16 }
-    requires right { length right.old.columns ≤ 16 }
+    requires left { length left.old.columns ≤ COLUMN_LIMIT }
+    requires right { length right.old.columns ≤ COLUMN_LIMIT }
     ensures plan { Finds result (steps.theta_plan at (pred_image tree.now) (plan_of left.old) (plan_of right.old)) (λ _. plan_of left.new) }
-    ensures width { OnOk result (length left.new.columns ≤ 16) }
+    ensures width { OnOk result (length left.new.columns ≤ COLUMN_LIMIT) }
 {
     join_columns(alloc, at, &mut left.columns, &mut right.columns)?;
     let pred = typed_pred(alloc, left.columns.as_slice(), tree)?;
@@ -189,10 +190,10 @@ fn theta(
 
 /// Puts `product` over two typed inputs, at its place.
 fn product(alloc: Global, at: u64, left: &mut Typed, right: &mut Typed) -> Result<(), TypeFault>
-    requires left { length left.old.columns ≤ 16 }
-    requires right { length right.old.columns ≤ 16 }
+    requires left { length left.old.columns ≤ COLUMN_LIMIT }
+    requires right { length right.old.columns ≤ COLUMN_LIMIT }
     ensures plan { Finds result (steps.product_plan at (plan_of left.old) (plan_of right.old)) (λ _. plan_of left.new) }
-    ensures width { OnOk result (length left.new.columns ≤ 16) }
+    ensures width { OnOk result (length left.new.columns ≤ COLUMN_LIMIT) }
 {
     join_columns(alloc, at, &mut left.columns, &mut right.columns)?;
     combine(alloc, Op2::Product, left, right)
@@ -206,9 +207,9 @@ fn unite(
     left: &mut Typed,
     right: &mut Typed,
 ) -> Result<(), TypeFault>
-    requires { length left.old.columns ≤ 16 }
+    requires { length left.old.columns ≤ COLUMN_LIMIT }
     ensures plan { Finds result (steps.united_plan (binary_of op) at (plan_of left.old) (plan_of right.old)) (λ _. plan_of left.new) }
-    ensures width { OnOk result (length left.new.columns ≤ 16) }
+    ensures width { OnOk result (length left.new.columns ≤ COLUMN_LIMIT) }
 {
     match united(alloc, at, left.columns.as_slice(), right.columns.as_slice()) {
         Ok(columns) => {
@@ -242,7 +243,7 @@ pub fn put_plan(
 ) -> Result<(), TypeFault>
     requires kept { KeepsTree (tree_image tree.now) }
     ensures plan { Finds result (typing.typed_plan tables.now (tree_image tree.now)) (λ _. plan_of typed.new) }
-    ensures width { OnOk result (length typed.new.columns ≤ 16) }
+    ensures width { OnOk result (length typed.new.columns ≤ COLUMN_LIMIT) }
 {
     match tree {
         Tree::Scan(word) => put_scan(alloc, tables, word, typed),
@@ -267,9 +268,9 @@ fn add_step(
     right: &mut Typed,
 ) -> Result<(), TypeFault>
     requires kept { KeepsStep (step_image what.now) }
-    requires width { length left.old.columns ≤ 16 }
+    requires width { length left.old.columns ≤ COLUMN_LIMIT }
     ensures plan { Finds result (typing.typed_step tables.now (step_image what.now) at (plan_of left.old)) (λ _. plan_of left.new) }
-    ensures width { OnOk result (length left.new.columns ≤ 16) }
+    ensures width { OnOk result (length left.new.columns ≤ COLUMN_LIMIT) }
 {
     match what {
         StepTree::Select(pred) => select(alloc, left, pred),
@@ -308,9 +309,9 @@ pub fn put_step(
     typed: &mut Typed,
 ) -> Result<(), TypeFault>
     requires kept { KeepsStep (step_image what.now) }
-    requires width { length typed.old.columns ≤ 16 }
+    requires width { length typed.old.columns ≤ COLUMN_LIMIT }
     ensures plan { Finds result (typing.typed_step tables.now (step_image what.now) at (plan_of typed.old)) (λ _. plan_of typed.new) }
-    ensures width { OnOk result (length typed.new.columns ≤ 16) }
+    ensures width { OnOk result (length typed.new.columns ≤ COLUMN_LIMIT) }
 {
     let mut right = blank(alloc);
     let added = add_step(alloc, tables, what, at, typed, &mut right);

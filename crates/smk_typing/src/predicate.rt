@@ -3,6 +3,7 @@ ghost use Rattle.smk_base.specs.PlanImage.{formula_of};
 ghost use Rattle.smk_base.specs.Plans.{Conjunction, Disjunction};
 ghost use Rattle.smk_base.specs.TreeImage.{pred_image};
 ghost use Rattle.smk_base.specs.Trees.{CompareNode};
+ghost use Rattle.smk_base.specs.declared.rel.TheConstants.{COLUMN_LIMIT};
 ghost use Rattle.smk_model.specs.TypedSteps as steps;
 ghost use Rattle.smk_typing.specs.Answers.{Finds};
 
@@ -19,7 +20,7 @@ fn typed_cmp(
     op: CmpOp,
     term: &Term,
 ) -> Result<Pred, TypeFault>
-    requires { length columns.now ≤ 16 }
+    requires { length columns.now ≤ COLUMN_LIMIT }
     ensures { Finds result (steps.typed_pred columns.now (CompareNode word.now op term.now)) formula_of }
 {
     let (left, left_kind) = column_named(columns, word)?;
@@ -47,7 +48,7 @@ fn together(alloc: Global, is_and: bool, left: Pred, right: Pred) -> Result<Pred
 
 /// A predicate over columns.
 pub fn typed_pred(alloc: Global, columns: &[Column], tree: &PredTree) -> Result<Pred, TypeFault>
-    requires { length columns.now ≤ 16 }
+    requires { length columns.now ≤ COLUMN_LIMIT }
     ensures { Finds result (steps.typed_pred columns.now (pred_image tree.now)) formula_of }
 {
     match tree {

@@ -7,7 +7,7 @@ ghost use Rattle.smk_typing.specs.Answers.{Finds};
 
 use crate::columns::{has_column, is_same_sort};
 use crate::places::put;
-use smk_base::{Column, Columns, TypeFault};
+use smk_base::{COLUMN_LIMIT, Column, Columns, TypeFault};
 use std::alloc::Global;
 use std::mem;
 
@@ -42,15 +42,15 @@ pub fn join_columns(
     lefts: &mut Columns,
     rights: &mut Columns,
 ) -> Result<(), TypeFault>
-    requires left { length lefts.old ≤ 16 }
-    requires right { length rights.old ≤ 16 }
+    requires left { length lefts.old ≤ COLUMN_LIMIT }
+    requires right { length rights.old ≤ COLUMN_LIMIT }
     ensures columns { Finds result (steps.joined at lefts.old rights.old) (λ _. lefts.new) }
-    ensures width { OnOk result (length lefts.new ≤ 16) }
+    ensures width { OnOk result (length lefts.new ≤ COLUMN_LIMIT) }
 {
     if share_a_name(lefts.as_slice(), rights.as_slice()) {
         return Err(TypeFault::DuplicateName { at });
     }
-    if lefts.as_slice().len() + rights.as_slice().len() > 16 {
+    if lefts.as_slice().len() + rights.as_slice().len() > COLUMN_LIMIT as usize {
         return Err(TypeFault::RowTooWide { at });
     }
     append(alloc, lefts, rights)
@@ -99,9 +99,9 @@ pub fn united(
     lefts: &[Column],
     rights: &[Column],
 ) -> Result<Columns, TypeFault>
-    requires { length lefts.now ≤ 16 }
+    requires { length lefts.now ≤ COLUMN_LIMIT }
     ensures columns { Finds result (steps.united at lefts.now rights.now) (λ columns. columns) }
-    ensures width { IfOk result (λ columns. length columns ≤ 16) }
+    ensures width { IfOk result (λ columns. length columns ≤ COLUMN_LIMIT) }
 {
     if lefts.len() != rights.len() {
         return Err(TypeFault::UnionShape { at });

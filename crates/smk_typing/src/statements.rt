@@ -2,6 +2,7 @@ ghost use Rattle.std.specs.Prelude.{◌≡◌, ◌+◌, ◌<◌, ◌≤◌, [], 
 ghost use Rattle.smk_base.specs.CatalogImage.{view_image};
 ghost use Rattle.smk_base.specs.PlanImage.{expr_of};
 ghost use Rattle.smk_base.specs.TreeImage.{stmt_image, tree_image};
+ghost use Rattle.smk_base.specs.declared.rel.TheConstants.{COLUMN_LIMIT};
 ghost use Rattle.smk_model.specs.Expanded.{IsNoDependency};
 ghost use Rattle.smk_model.specs.Limits.{KeepsStmt, KeepsTree, is_table, is_view};
 ghost use Rattle.smk_model.specs.Names.{in_turn, names_of, kinds_of};
@@ -74,7 +75,7 @@ fn table_after(
     decls: &[Decl],
 ) -> Result<(), TypeFault>
     requires room { length draft.old.tables < 16 }
-    requires few { length decls.now ≤ 16 }
+    requires few { length decls.now ≤ COLUMN_LIMIT }
     ensures { Finds result (typing.table_after (draft_image draft.old) name.now file.now decls.now) (λ _. draft_image draft.new) }
 {
     if draft.tables.has(&name.name) {

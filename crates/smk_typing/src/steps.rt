@@ -1,6 +1,7 @@
 ghost use Rattle.std.specs.Prelude.{◌≡◌, ◌≤◌, [], ◌∷◌, map, length, All, Ok, IfOk};
 ghost use Rattle.smk_base.specs.PlanImage.{expr_of, unary_of};
 ghost use Rattle.smk_base.specs.TreeImage.{ask_step_image};
+ghost use Rattle.smk_base.specs.declared.rel.TheConstants.{COLUMN_LIMIT};
 ghost use Rattle.smk_model.specs.Asks.{asked_plan, chain, typed_steps};
 ghost use Rattle.smk_model.specs.Limits.{KeepsAskStep, KeepsSteps};
 ghost use Rattle.smk_model.specs.Names.{in_turn, kinds_of};
@@ -35,7 +36,7 @@ pub fn check_steps(
     cols: &ColDecls,
     steps: &AskSteps,
 ) -> Result<TypedSteps, TypeFault>
-    requires width { length cols.now ≤ 16 }
+    requires width { length cols.now ≤ COLUMN_LIMIT }
     requires kept { KeepsSteps (map ask_step_image steps.now) }
     ensures steps { Finds result (typed_steps (map column_of cols.now) (map ask_step_image steps.now)) steps_image }
     ensures fits { IfOk result (λ typed. PlanFits (chain (map unary_of typed.ops)) (kinds_of (map column_of cols.now) ∷ [])) }
@@ -59,7 +60,7 @@ pub fn check_steps(
 
 // Puts steps in turn over a typed input.
 fn add_steps(alloc: Global, steps: &[AskStep], typed: &mut Typed) -> Result<(), TypeFault>
-    requires width { length typed.old.columns ≤ 16 }
+    requires width { length typed.old.columns ≤ COLUMN_LIMIT }
     requires kept { All (λ step. KeepsAskStep step.what) (map ask_step_image steps.now) }
     ensures { Finds result (in_turn asked_after (plan_of typed.old) steps.now) (λ _. plan_of typed.new) }
 {

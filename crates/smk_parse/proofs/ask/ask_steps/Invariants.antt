@@ -1,5 +1,5 @@
 use Rattle.std.proofs.Common.{[], ◌∷◌, length, map}
-use Rattle.smk_parse.{specs.Words.AnAskStep, specs.Words.AskSteps, specs.Words.ask_step_image, specs.Reads.Comes, proofs.Whole.EndsSteps}
+use Rattle.smk_parse.{specs.Vocabulary.AnAskStep, specs.Vocabulary.AskSteps, specs.Vocabulary.ask_step_image, specs.Reads.Comes, proofs.Whole.EndsSteps}
 use Rattle.smk_parse.proofs.ask.ask_steps.Given as goal
 
 abbrev pub invariant-steps : goal.invariant-steps

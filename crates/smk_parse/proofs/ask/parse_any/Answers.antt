@@ -1,5 +1,5 @@
 use Rattle.std.proofs.Common.{◌∙◌}
-use Rattle.smk_parse.{specs.Words.tokens, specs.Words.AnyLine, specs.Words.IsWholeAnyLine, specs.Words.any_image, proofs.Whole.whole_read, proofs.Whole.whole_unread}
+use Rattle.smk_parse.{specs.Vocabulary.tokens, specs.Vocabulary.AnyLine, specs.Vocabulary.IsWholeAnyLine, specs.Vocabulary.any_image, proofs.Whole.whole_read, proofs.Whole.whole_unread}
 use Rattle.smk_parse.proofs.ask.parse_any.Goals as goal
 
 pub returns-in-Ok : goal.returns-in-Ok

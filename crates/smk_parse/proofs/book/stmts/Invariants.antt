@@ -1,5 +1,5 @@
 use Rattle.std.proofs.Common.{[], ◌∷◌, length, map}
-use Rattle.smk_parse.specs.{Words.stmt_image, Words.AStmts, Words.book_symbols, Reads.tally_of, Reads.Comes}
+use Rattle.smk_parse.specs.{Vocabulary.stmt_image, Vocabulary.AStmts, Vocabulary.book_symbols, Reads.tally_of, Reads.Comes}
 use Rattle.smk_parse.proofs.Whole.{EndsStmts}
 use Rattle.smk_parse.proofs.book.stmts.Given as goal
 

@@ -1,6 +1,6 @@
 use Rattle.std.proofs.Common.{◌≡◌, drop, map}
 use Rattle.smk_base.specs.declared.token.TokenKind.TheVariants.{Name}
-use Rattle.smk_parse.specs.Words.{kind_in}
+use Rattle.smk_parse.specs.Vocabulary.{kind_in}
 use Rattle.smk_parse.proofs.front.kind_among.Given as goal
 
 abbrev pub invariant-loop-entry : goal.invariant-loop-entry

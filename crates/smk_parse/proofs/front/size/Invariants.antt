@@ -1,5 +1,5 @@
 use Rattle.std.proofs.Common.{◌≡◌, ◌≤◌, drop, min}
-use Rattle.smk_parse.specs.Words.{digits_value}
+use Rattle.smk_parse.specs.Vocabulary.{digits_value}
 use Rattle.smk_parse.proofs.front.size.Given as goal
 
 abbrev pub invariant-loop-digit : goal.invariant-loop-digit

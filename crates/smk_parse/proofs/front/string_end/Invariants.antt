@@ -1,6 +1,6 @@
 use Rattle.std.proofs.Common.{◌≡◌, ◌≤◌, length}
 use Rattle.std.specs.Prelude.{drop, false, None, IfSome}
-use Rattle.smk_parse.specs.Words.{string_len}
+use Rattle.smk_parse.specs.Vocabulary.{string_len}
 use Rattle.smk_parse.proofs.front.string_end.Given as goal
 
 abbrev pub invariant-loop-i : goal.invariant-loop-i

@@ -1,5 +1,5 @@
 use Rattle.std.proofs.Common.{◌∙◌}
-use Rattle.smk_parse.{specs.Words.tokens, specs.Words.ALine, specs.Words.IsWholeLine, proofs.Whole.whole_read, proofs.Whole.whole_unread}
+use Rattle.smk_parse.{specs.Vocabulary.tokens, specs.Vocabulary.ALine, specs.Vocabulary.IsWholeLine, proofs.Whole.whole_read, proofs.Whole.whole_unread}
 use Rattle.smk_parse.proofs.line.parse_line.Goals as goal
 
 pub returns-in-Ok : goal.returns-in-Ok

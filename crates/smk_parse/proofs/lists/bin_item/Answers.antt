@@ -4,7 +4,7 @@ use mir.{Val.to_z, Val.of_z, Syntax.w64}
 use Rattle.smk_base.specs.declared.tree.ItemTree.TheVariants as items
 use Rattle.smk_base.specs.declared.token.TokenKind.TheVariants as kinds
 use Rattle.smk_model.specs.Grammar.{bin_item}
-use Rattle.smk_parse.{specs.Words.IsItem, proofs.Steps.first_here}
+use Rattle.smk_parse.{specs.Vocabulary.IsItem, proofs.Steps.first_here}
 use Rattle.smk_parse.proofs.lists.bin_item.Goals as goal
 
 pub returns-clause-is : goal.returns-clause-is

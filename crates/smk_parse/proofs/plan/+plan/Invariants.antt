@@ -1,5 +1,5 @@
 use Rattle.std.proofs.Common.{◌+◌, ◌-◌, ◌*◌, [], ◌∷◌, length}
-use Rattle.smk_parse.{specs.Words.tree_image, specs.Words.AreSteps, specs.Words.IsPlan, specs.Words.ASource, specs.Words.ASteps, proofs.Steps.IsChain}
+use Rattle.smk_parse.{specs.Vocabulary.tree_image, specs.Vocabulary.AreSteps, specs.Vocabulary.IsPlan, specs.Vocabulary.ASource, specs.Vocabulary.ASteps, proofs.Steps.IsChain}
 use Rattle.smk_parse.proofs.plan.+plan.Given as goal
 
 abbrev pub decreases-source : goal.decreases-source

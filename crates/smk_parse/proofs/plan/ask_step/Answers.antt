@@ -1,6 +1,6 @@
 use Rattle.std.proofs.Common.{sym, subst}
 use Rattle.smk_model.proofs.Moves.{asked_is}
-use Rattle.smk_parse.{specs.Words.head_of, specs.Words.step_image, specs.Words.IsAskStep, proofs.Steps.first_here}
+use Rattle.smk_parse.{specs.Vocabulary.head_of, specs.Vocabulary.step_image, specs.Vocabulary.IsAskStep, proofs.Steps.first_here}
 use Rattle.smk_parse.proofs.plan.ask_step.Goals as goal
 
 pub returns-clause-is : goal.returns-clause-is

@@ -1,5 +1,5 @@
 use Rattle.std.proofs.Common.{ap, sym, ◌∙◌}
-use Rattle.smk_parse.{specs.Words.same_kind, proofs.Steps.token_first}
+use Rattle.smk_parse.{specs.Vocabulary.same_kind, proofs.Steps.token_first}
 use Rattle.smk_parse.proofs.tokens.expect.Goals as goal
 
 pub returns-then-eq-clause-is : goal.returns-then-eq-clause-is

@@ -1,5 +1,5 @@
 use Rattle.std.proofs.Common.{◌≡◌, ◌++◌, false, drop}
-use Rattle.smk_parse.specs.Words.{head_of, inner, undoubled}
+use Rattle.smk_parse.specs.Vocabulary.{head_of, inner, undoubled}
 use Rattle.smk_parse.proofs.tokens.string_in_hand.Given as goal
 
 abbrev pub invariant-loop-b : goal.invariant-loop-b

@@ -1,5 +1,5 @@
 use Rattle.std.proofs.Common.{[], ◌∷◌, ◌∙◌}
-use Rattle.smk_parse.{specs.Words.AFirst, specs.Words.AnAs, specs.Words.AnItem, proofs.Steps.item_starts, proofs.Steps.started_reads}
+use Rattle.smk_parse.{specs.Vocabulary.AFirst, specs.Vocabulary.AnAs, specs.Vocabulary.AnItem, proofs.Steps.item_starts, proofs.Steps.started_reads}
 use Rattle.smk_parse.proofs.lists.ItemTreeMember.read.Goals as goal
 
 pub returns-in_default : goal.returns-in_default

@@ -1,8 +1,8 @@
 use Rattle.std.proofs.Common.{List, ◌∙◌, sym, ap}
-use Rattle.smk_parse.{specs.Words.Token, specs.Words.State, specs.Words.Counts, proofs.Texts.gap_goes, proofs.Texts.token_goes}
+use Rattle.smk_parse.{specs.Vocabulary.Token, specs.Vocabulary.Configuration, specs.Vocabulary.PlanCounts, proofs.Texts.gap_goes, proofs.Texts.token_goes}
 use Rattle.smk_parse.proofs.reader.Reader.behind.Goals as goal
 
-abbrev state : Counts → List Token → State
+abbrev state : PlanCounts → List Token → Configuration
 state c ts = record { rest = ts; counts = c }
 
 pub loop-len-preserved : goal.loop-len-preserved

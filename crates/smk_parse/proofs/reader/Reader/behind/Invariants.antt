@@ -1,5 +1,5 @@
 use Rattle.std.proofs.Common.{◌≡◌, ◌-◌, ◌≤◌, length, drop}
-use Rattle.smk_parse.specs.Words.{tokens_from}
+use Rattle.smk_parse.specs.Vocabulary.{tokens_from}
 use Rattle.smk_parse.proofs.reader.Reader.behind.Given as goal
 
 abbrev pub invariant-loop-len : goal.invariant-loop-len

@@ -3,7 +3,7 @@ use Rattle.std.specs.List.{zip}
 use Rattle.std.proofs.lemmas.Slice.Zip.{length-zip, get_or-zip}
 use Rattle.smk_keys.proofs.Coded.{IsCoded-none, IsCoded-more, AreNumbers-coded}
 use Rattle.smk_keys.proofs.Paired.{pair_eq, pair_same}
-use Rattle.smk_keys.proofs.pairs.pairs_in.Goals as goal
+use Rattle.smk_keys.proofs.number_pairs.pairs_in.Goals as goal
 
 pub loop-i-preserved : goal.loop-i-preserved
 loop-i-preserved c =

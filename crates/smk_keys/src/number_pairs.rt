@@ -1,6 +1,7 @@
 //! Numbers of pairs of numbers.
 ghost use Rattle.std.specs.Prelude.{◌≡◌, ◌≤◌, ◌<◌, ◌+◌, ◌*◌, ◌^◌, ℕ, [], length, All, IfOk, slice_index};
 ghost use Rattle.std.specs.List.{zip};
+ghost use Rattle.smk_base.specs.declared.rel.TheConstants.{ROW_LIMIT};
 ghost use Rattle.smk_keys.specs.Numbers.{AreNumbers};
 
 use crate::numbers::{Numbers, table_limit};
@@ -13,7 +14,7 @@ pub(crate) fn pair_numbers(
     left: Numbers,
     right: Numbers,
 ) -> Result<Numbers, AllocError>
-    requires few { length left.of.items ≤ 2097152 }
+    requires few { length left.of.items ≤ 2 * ROW_LIMIT }
     requires long { length right.of.items ≡ length left.of.items }
     requires left { All (λ number. number < left.count) left.of.items }
     requires right { All (λ number. number < right.count) right.of.items }
@@ -55,7 +56,7 @@ fn table_places(
 
 // Numbers of pairs in the order in which they come.
 fn hashed_pairs(alloc: Global, lefts: &[u32], rights: &[u32]) -> Result<Numbers, AllocError>
-    requires few { length lefts.now ≤ 2097152 }
+    requires few { length lefts.now ≤ 2 * ROW_LIMIT }
     requires long { length rights.now ≡ length lefts.now }
     ensures { IfOk result (λ made. AreNumbers (0, 0) (zip lefts.now rights.now) made.count made.of.items) }
 {
@@ -72,7 +73,7 @@ fn pairs_in(
     rights: &[u32],
     seen: &mut IndexSet<(u32, u32)>,
 ) -> Result<Numbers, AllocError>
-    requires few { length lefts.now ≤ 2097152 }
+    requires few { length lefts.now ≤ 2 * ROW_LIMIT }
     requires long { length rights.now ≡ length lefts.now }
     requires none { seen.old.keys ≡ [] }
     ensures { IfOk result (λ made. AreNumbers (0, 0) (zip lefts.now rights.now) made.count made.of.items) }

@@ -1,7 +1,7 @@
 use Rattle.std.proofs.Common.{arith}
 use Rattle.std.proofs.lemmas.Grind.{common_steps}
 use Rattle.smk_keys.proofs.Paired.{AreNumbers-places, AreNumbers-right}
-use Rattle.smk_keys.proofs.pairs.pair_numbers.Goals as goal
+use Rattle.smk_keys.proofs.number_pairs.pair_numbers.Goals as goal
 
 pub returns-then-places-limit : goal.returns-then-places-limit
 returns-then-places-limit c =
