@@ -10,7 +10,7 @@ use Rattle.smk_rid.specs.Maps.{IsMap, with_list, with_rid_at, merge_at}
 use Rattle.smk_rid.proofs.Sets.{same_below, nil_is, places_are, length-upto, or_false, alone}
 use Rattle.smk_rid.proofs.Rising.{set_push}
 
-has-flat_map : (f : ℕ → List ℕ) (xs : List ℕ) (r : ℕ) → has (flat_map f xs) r ≡ list_any (λ i. has (f i) r) xs
+pub has-flat_map : (f : ℕ → List ℕ) (xs : List ℕ) (r : ℕ) → has (flat_map f xs) r ≡ list_any (λ i. has (f i) r) xs
 has-flat_map f [] r = refl
 has-flat_map f (x ∷ xs) r = list_any-append (nat_eq r) (f x) (flat_map f xs) ∙ ap (λ b. has (f x) r || b) (has-flat_map f xs r)
 

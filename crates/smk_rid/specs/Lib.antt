@@ -1,5 +1,5 @@
 pub mod Maps
 pub mod Packing
-pub mod Held
+pub mod Storage
 pub mod Fill
 pub mod Grow

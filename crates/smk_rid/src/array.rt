@@ -1,5 +1,4 @@
 ghost use Rattle.std.specs.Prelude.{◌≡◌, ◌<◌, ◌≤◌, ◌++◌, [], length, take, slice_index_or, IfOk, OnOk, vec_capacity};
-ghost use Rattle.std.specs.List.{All, flat_map};
 ghost use Rattle.smk_base.specs.Places.{pairs_of};
 ghost use Rattle.smk_rid.specs.Maps.{IsSingle};
 
@@ -74,20 +73,6 @@ impl RidArray {
         ensures room { vec_capacity numbers.old ≤ vec_capacity numbers.new }
     {
         numbers.extend_from_slice(self.rids.as_slice())?;
-        Ok(())
-    }
-
-    /// Puts the rids of the lists at these places last.
-    pub fn put_lists(&self, rids: &mut Vec<u32>, places: &[u32]) -> Result<(), AllocError>
-        requires { All (λ p. p < length self.now) places.now }
-        ensures { OnOk result (rids.new.items ≡ rids.old.items ++ flat_map (λ p. slice_index_or self.now p []) places.now) }
-    {
-        for p in places {
-            let rid = self.rids[*p as usize];
-            if rid != NONE {
-                rids.push(rid)?;
-            }
-        }
         Ok(())
     }
 

@@ -1,6 +1,6 @@
-ghost use Rattle.std.specs.Prelude.{◌≡◌, ◌<◌, ◌≤◌, ◌+◌, ◌∷◌, ◌++◌, [], length, slice_index_or, IfOk, IfErr, OnOk};
-ghost use Rattle.std.specs.List.{All, flat_map};
-ghost use Rattle.smk_base.specs.Places.{IsPlaces, composed, members_at, pairs_of};
+ghost use Rattle.std.specs.Prelude.{◌≡◌, ◌<◌, ◌≤◌, ◌+◌, ◌∷◌, ◌++◌, ℕ, [], length, slice_index_or, vec_capacity, IfOk, IfErr, IsTrue, OnOk};
+ghost use Rattle.std.specs.List.{All, AllPairs, flat_map, list_any};
+ghost use Rattle.smk_base.specs.Places.{IsPlaces, composed, has, list_at, members_at, pairs_of};
 ghost use Rattle.smk_rid.specs.Maps.{IsMap, IsSingle};
 ghost use Rattle.smk_rid.specs.Packing.{one_of};
 ghost use Rattle.smk_rid.specs.declared.fault.RidFault.TheVariants.{Pairs};
@@ -85,12 +85,22 @@ fn composed_lists(alloc: Global, first: &RidMap, second: &RidMap) -> Result<RidM
     ensures few { IfOk result (λ _. pairs_of (composed first.now second.now).lists ≤ PAIR_LIMIT) }
     ensures many { IfErr result (λ e. e ≡ Pairs → PAIR_LIMIT < pairs_of (composed first.now second.now).lists) }
 {
-    let mut made = Packed::with_room(alloc, first.len() as usize, 0)?;
+    let room = room_for(first, second);
+    let mut made = Packed::with_room(alloc, first.len() as usize, room)?;
     let mut rids = Vec::new(alloc);
     for i in 0..first.len() {
         put_members(alloc, &mut made, &mut rids, second, first.at(i))?;
     }
     Ok(RidMap::of_packed(made, second.bound()))
+}
+
+// How many rids the lists of a composed map may have together, where that is known without a look at the lists.
+fn room_for(first: &RidMap, second: &RidMap) -> usize {
+    if second.packed().is_some() {
+        return 0;
+    }
+    let most = first.len() as usize * second.bound() as usize;
+    most.min(first.pairs() as usize)
 }
 
 // The rids of the lists at these places, ascending without repeats: marked where they are many, so that no list is copied, else gathered.
@@ -127,7 +137,7 @@ fn put_members(
     made.put_within(rids.as_slice())
 }
 
-// The rids of the lists at these places, ascending without repeats, in place of what the Vec has. One list is taken as it is.
+// The rids of the lists at these places, ascending without repeats, in place of what the Vec has.
 fn gather(
     alloc: Global,
     rids: &mut Vec<u32>,
@@ -139,11 +149,90 @@ fn gather(
 {
     // Its clauses say that each list is a set of rids below the bound.
     let _pairs = map.pairs();
+    match map.array() {
+        Some(lists) => gather_numbers(alloc, rids, lists, places, map.bound()),
+        None => gather_lists(alloc, rids, map, places),
+    }
+}
+
+// The same of lists of any length. One list is taken as it is.
+fn gather_lists(
+    alloc: Global,
+    rids: &mut Vec<u32>,
+    map: &RidMap,
+    places: &[u32],
+) -> Result<(), AllocError>
+    requires { All (λ p. p < length map.now.lists) places.now }
+    ensures { OnOk result (rids.new.items ≡ members_at map.now places.now) }
+{
+    // Its clauses say that each list is a set of rids below the bound.
+    let _pairs = map.pairs();
     rids.clear();
-    map.put_lists(rids, places)?;
+    put_lists(rids, map, places)?;
     let several = places.len() > 1;
     if several {
         make_set(alloc, rids, map.bound())?;
     }
     Ok(())
+}
+
+// Puts the rids of the lists at these places last.
+fn put_lists(rids: &mut Vec<u32>, map: &RidMap, places: &[u32]) -> Result<(), AllocError>
+    requires { All (λ p. p < length map.now.lists) places.now }
+    ensures { OnOk result (rids.new.items ≡ rids.old.items ++ flat_map (list_at map.now) places.now) }
+{
+    for p in places {
+        rids.extend_from_slice(map.at(*p))?;
+    }
+    Ok(())
+}
+
+// The rids at these places of lists of at most one rid, ascending without repeats, in place of what the Vec has. Places in order often have rids in order, one perhaps at several places that follow each other: put as they come, these are the set already.
+fn gather_numbers(
+    alloc: Global,
+    rids: &mut Vec<u32>,
+    lists: &RidArray,
+    places: &[u32],
+    bound: u32,
+) -> Result<(), AllocError>
+    requires within { All (λ p. p < length lists.now) places.now }
+    requires sets { All (IsPlaces bound) lists.now }
+    ensures { OnOk result (rids.new.items ≡ members_at (record { lists = lists.now; bound = bound }) places.now) }
+{
+    rids.clear();
+    rids.reserve(places.len())?;
+    let rises = put_rids(rids, lists, places);
+    if !rises {
+        make_set(alloc, rids, bound)?;
+    }
+    Ok(())
+}
+
+// Puts the rids of the lists at these places into an empty Vec, but none that stands last there already. It tells whether they rise.
+fn put_rids(rids: &mut Vec<u32>, lists: &RidArray, places: &[u32]) -> bool
+    requires none { rids.old.items ≡ [] }
+    requires within { All (λ p. p < length lists.now) places.now }
+    requires room { length places.now ≤ vec_capacity rids.old }
+    ensures same { (r : ℕ) → has rids.new.items r ≡ list_any (λ p. has (slice_index_or lists.now p []) r) places.now }
+    ensures rising { IsTrue result → AllPairs (λ x y. x < y) rids.new.items }
+{
+    // One more than the rid that stands last, or 0.
+    let mut above = 0;
+    let mut rises = true;
+    for p in places {
+        let rid = lists.number(*p as usize);
+        if rid != NONE && rid + 1 != above {
+            rises = goes_on(rises, above, rid);
+            above = rid + 1;
+            rids.push_reserved(rid);
+        }
+    }
+    rises
+}
+
+// Whether rids rise with one more: they did so far, and it is no less than this.
+fn goes_on(rises: bool, above: u32, rid: u32) -> bool
+    ensures { IsTrue result → IsTrue rises × (above ≤ rid) }
+{
+    rises && above <= rid
 }

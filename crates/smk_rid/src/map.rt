@@ -1,7 +1,7 @@
-ghost use Rattle.std.specs.Prelude.{◌≡◌, ◌<◌, ◌≤◌, ◌↔◌, [], ◌∷◌, ◌++◌, length, map, take, slice_index_or, IfOk, OnOk, IfSome, IsTrue, is_none, is_some, Option};
-ghost use Rattle.std.specs.List.{All, concat, flat_map};
+ghost use Rattle.std.specs.Prelude.{◌≡◌, ◌<◌, ◌≤◌, ◌↔◌, [], ◌∷◌, length, map, take, slice_index_or, IfOk, IfSome, IsTrue, is_none, is_some, Option};
+ghost use Rattle.std.specs.List.{All, concat};
 ghost use Rattle.std.specs.Option.{option_to_list};
-ghost use Rattle.smk_base.specs.Places.{IsPlaces, pairs_of, own_lists, empty_lists, list_at};
+ghost use Rattle.smk_base.specs.Places.{IsPlaces, pairs_of, own_lists, empty_lists};
 ghost use Rattle.smk_base.specs.declared.rel.TheConstants.{ROW_LIMIT};
 ghost use Rattle.smk_rid.specs.Packing.{one_of};
 ghost use Rattle.smk_rid.specs.Maps.{IsMap, IsSingle, array_lists};
@@ -17,14 +17,14 @@ pub const PAIR_LIMIT: u32 = 16_777_216;
 /// For each row of one list the rids that it has in another, ascending without repeats and below a bound: at most 16,777,216 together. Contracts see the lists and the bound.
 #[derive(Drop)]
 pub struct RidMap {
-    held: Held,
+    storage: Storage,
     bound: u32,
     pairs: u32,
 }
 
 // A rid array where each list has at most one rid, else a rid index.
 #[derive(Drop)]
-enum Held {
+enum Storage {
     Array(RidArray),
     Index(Packed),
 }
@@ -33,13 +33,13 @@ impl Model for RidMap {
     ghost use Rattle.std.specs.Prelude.{◌≡◌};
     ghost use Rattle.smk_base.specs.Places.{Lists, pairs_of};
     ghost use Rattle.smk_rid.specs.Maps.{IsMap};
-    ghost use Rattle.smk_rid.specs.Held.{lists_of, IsHeld};
+    ghost use Rattle.smk_rid.specs.Storage.{lists_of, IsStored};
 
     ghost Value = { Lists };
 
-    ghost view = { λ a. record { lists = lists_of a.held; bound = a.bound } };
+    ghost view = { λ a. record { lists = lists_of a.storage; bound = a.bound } };
 
-    ghost invariant = { λ a. IsHeld a.held a.bound a.pairs };
+    ghost invariant = { λ a. IsStored a.storage a.bound a.pairs };
 }
 
 impl RidMap {
@@ -97,9 +97,9 @@ impl RidMap {
     pub fn len(&self) -> u32
         ensures { result ≡ length self.now.lists }
     {
-        match &self.held {
-            Held::Array(lists) => lists.len() as u32,
-            Held::Index(lists) => lists.len() as u32,
+        match &self.storage {
+            Storage::Array(lists) => lists.len() as u32,
+            Storage::Index(lists) => lists.len() as u32,
         }
     }
 
@@ -123,12 +123,12 @@ impl RidMap {
     pub fn copy(&self, alloc: Global) -> Result<RidMap, AllocError>
         ensures { IfOk result (λ copy. copy ≡ self.now) }
     {
-        let held = match &self.held {
-            Held::Array(lists) => Held::Array(lists.copy(alloc)?),
-            Held::Index(lists) => Held::Index(lists.copy(alloc)?),
+        let storage = match &self.storage {
+            Storage::Array(lists) => Storage::Array(lists.copy(alloc)?),
+            Storage::Index(lists) => Storage::Index(lists.copy(alloc)?),
         };
         Ok(RidMap {
-            held,
+            storage,
             bound: self.bound,
             pairs: self.pairs,
         })
@@ -141,7 +141,7 @@ impl RidMap {
         ensures set { IsPlaces self.now.bound result.now }
         ensures below { All (λ rid. rid < self.now.bound) result.now }
     {
-        self.held.at(i as usize)
+        self.storage.at(i as usize)
     }
 
     /// How many rids the lists before i have. It takes no memory. It is read off, but for an array with empty lists, where the rids before i are counted.
@@ -149,15 +149,15 @@ impl RidMap {
         requires { i ≤ length self.now.lists }
         ensures { result ≡ pairs_of (take i self.now.lists) }
     {
-        match &self.held {
-            Held::Array(lists) => {
+        match &self.storage {
+            Storage::Array(lists) => {
                 if self.pairs as usize == lists.len() {
                     lists.start_of_full(i)
                 } else {
                     lists.start(i)
                 }
             }
-            Held::Index(lists) => lists.start(i as usize),
+            Storage::Index(lists) => lists.start(i as usize),
         }
     }
 
@@ -166,20 +166,9 @@ impl RidMap {
         ensures none { IsTrue (is_none result) ↔ IsSingle self.now.lists }
         ensures all { IfSome result (λ rids. rids.now ≡ concat self.now.lists) }
     {
-        match &self.held {
-            Held::Array(_) => None,
-            Held::Index(lists) => Some(lists.all()),
-        }
-    }
-
-    // Puts the rids of the lists at these places last.
-    pub(crate) fn put_lists(&self, rids: &mut Vec<u32>, places: &[u32]) -> Result<(), AllocError>
-        requires { All (λ p. p < length self.now.lists) places.now }
-        ensures { OnOk result (rids.new.items ≡ rids.old.items ++ flat_map (list_at self.now) places.now) }
-    {
-        match &self.held {
-            Held::Array(lists) => lists.put_lists(rids, places),
-            Held::Index(lists) => lists.put_lists(rids, places),
+        match &self.storage {
+            Storage::Array(_) => None,
+            Storage::Index(lists) => Some(lists.all()),
         }
     }
 
@@ -189,9 +178,9 @@ impl RidMap {
         ensures single { IfSome result (λ a. IsSingle a.now) }
         ensures chosen { IsSingle self.now.lists → IsTrue (is_some result) }
     {
-        match &self.held {
-            Held::Array(lists) => Some(lists),
-            Held::Index(_) => None,
+        match &self.storage {
+            Storage::Array(lists) => Some(lists),
+            Storage::Index(_) => None,
         }
     }
 
@@ -203,7 +192,7 @@ impl RidMap {
         ensures { result ≡ record { lists = lists; bound = bound } }
     {
         RidMap {
-            held: Held::Array(lists),
+            storage: Storage::Array(lists),
             bound,
             pairs,
         }
@@ -219,15 +208,15 @@ impl RidMap {
             return RidMap::of_array(lists.into_array(), bound, pairs);
         }
         RidMap {
-            held: Held::Index(lists),
+            storage: Storage::Index(lists),
             bound,
             pairs,
         }
     }
 }
 
-impl Held {
-    ghost use Rattle.smk_rid.specs.Held.{lists_of};
+impl Storage {
+    ghost use Rattle.smk_rid.specs.Storage.{lists_of};
 
     // The rids of a list.
     fn at(&self, i: usize) -> &[u32]
@@ -235,8 +224,8 @@ impl Held {
         ensures { result.now ≡ slice_index_or (lists_of self.now) i [] }
     {
         match self {
-            Held::Array(lists) => lists.at(i),
-            Held::Index(lists) => lists.at(i),
+            Storage::Array(lists) => lists.at(i),
+            Storage::Index(lists) => lists.at(i),
         }
     }
 }

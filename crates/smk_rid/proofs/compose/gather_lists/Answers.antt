@@ -3,7 +3,7 @@ use Rattle.std.specs.List.{flat_map}
 use Rattle.smk_base.specs.Places.{has, places, list_at}
 use Rattle.smk_rid.proofs.Joins.{members_is}
 use Rattle.smk_rid.proofs.Through.{flat_below, members_single}
-use Rattle.smk_rid.proofs.compose.gather.Goals as goal
+use Rattle.smk_rid.proofs.compose.gather_lists.Goals as goal
 
 pub make_set-requires : goal.make_set-requires
 make_set-requires c =

@@ -2,21 +2,21 @@
 use Rattle.std.specs.Prelude.{◌≡◌, ℕ, List}
 use Rattle.smk_base.specs.Places.{pairs_of}
 use Rattle.smk_rid.specs.Maps.{IsMap, IsSingle}
-use Rattle.smk_rid.specs.declared.map.Held.{Held}
-use Rattle.smk_rid.specs.declared.map.Held.TheVariants.{Array, Index}
+use Rattle.smk_rid.specs.declared.map.Storage.{Storage}
+use Rattle.smk_rid.specs.declared.map.Storage.TheVariants.{Array, Index}
 
 -- the lists, in whichever form
-abbrev pub lists_of : Held → List (List ℕ)
+abbrev pub lists_of : Storage → List (List ℕ)
 lists_of (Array lists) = lists
 lists_of (Index lists) = lists
 
 -- the form is an array just where each list has at most one rid
-abbrev pub IsChosen : Held → Type 0
+abbrev pub IsChosen : Storage → Type 0
 IsChosen (Array lists) = IsSingle lists
 IsChosen (Index lists) = IsSingle lists → ⊥
 
 -- the lists are those of a rid map, in the form that is theirs, and their rids are counted
-pub record IsHeld (held : Held) (bound pairs : ℕ) : Type 0 where
-  pub map : IsMap (record { lists = lists_of held; bound = bound })
-  pub counted : pairs ≡ pairs_of (lists_of held)
-  pub chosen : IsChosen held
+pub record IsStored (storage : Storage) (bound pairs : ℕ) : Type 0 where
+  pub map : IsMap (record { lists = lists_of storage; bound = bound })
+  pub counted : pairs ≡ pairs_of (lists_of storage)
+  pub chosen : IsChosen storage

@@ -1,6 +1,0 @@
-use Rattle.std.proofs.Common.{◌≡◌, ◌++◌, [], get_or, take}
-use Rattle.std.specs.List.{flat_map}
-use Rattle.smk_rid.proofs.array.RidArray.put_lists.Given as goal
-
-abbrev pub invariant-loop-p : goal.invariant-loop-p
-invariant-loop-p l = l.rids.items ≡ l.initial.rids.items ++ flat_map (λ p. get_or l.self p []) (take l.p-index l.places)
