@@ -9,7 +9,7 @@ use Rattle.csv.specs.declared.parser.State.{State}
 use Rattle.csv.specs.declared.parser.State.TheVariants as st
 use Rattle.csv.specs.declared.parser.Action.TheVariants as act
 use Rattle.smk_table.specs.Cuts.{state_after, IsWhole}
-use Rattle.smk_table.specs.Reading.{is_start, records_after}
+use Rattle.smk_table.specs.CsvReader.{is_start, records_after}
 use Rattle.smk_table.proofs.RecordsAfter.{goes, some_is, not_empty, records_after-none, records_after-some}
 
 none_some : {X : Type 0} {Y : Type 0} (p : X) → ◌≡◌ {A = Option X} None (Some p) → Y
@@ -142,7 +142,7 @@ unfolding next_record
 same_next s [] h = rw (not_ended_at_end s h) refl
 same_next s (c ∷ a) h = rw (same_start s c h) refl
 
-same_after : (s : State) (a : List ℕ) → is_start s ≡ true → records_after s a ≡ records default_config a
+pub same_after : (s : State) (a : List ℕ) → is_start s ≡ true → records_after s a ≡ records default_config a
 unfolding records_after records_from
 same_after s a h = rw (add-one, same_next s a h) refl
 
@@ -150,16 +150,16 @@ nothing : (s : State) → is_start s ≡ true → next_record default_config s [
 unfolding next_record
 nothing s h = rw (not_ended_at_end s h) refl
 
-nothing_read : records default_config [] ≡ []
+pub nothing_read : records default_config [] ≡ []
 unfolding records_from next_record
 nothing_read = refl
 
-from_after : (a : List ℕ) → records default_config a ≡ records_after st.StartRecord a
+pub from_after : (a : List ℕ) → records default_config a ≡ records_after st.StartRecord a
 unfolding records_after
 from_after a = refl
 
 -- what begins alike goes on alike
-through : (s : State) (a : List ℕ) (t : State) (b : List ℕ) → is_start s ≡ true → is_start t ≡ true → next_record default_config s [] [] a ≡ next_record default_config t [] [] b → records_after s a ≡ records_after t b
+pub through : (s : State) (a : List ℕ) (t : State) (b : List ℕ) → is_start s ≡ true → is_start t ≡ true → next_record default_config s [] [] a ≡ next_record default_config t [] [] b → records_after s a ≡ records_after t b
 through s a t b start begin h = by (next_record default_config t [] [] b) refl
   where
     by : (o : Option Read) → next_record default_config t [] [] b ≡ o → records_after s a ≡ records_after t b

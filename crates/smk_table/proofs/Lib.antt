@@ -3,8 +3,10 @@ pub mod FieldPlaces
 pub mod TableRows
 pub mod Choices
 pub mod Narrows
+pub mod JoinNarrows
 pub mod Shown
 pub mod Cuts
+pub mod UnquotedText
 pub mod Lines
 pub mod PieceSteps
 pub mod PieceRows

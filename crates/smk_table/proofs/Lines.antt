@@ -7,7 +7,7 @@ use Rattle.csv.specs.Reading.{default_config, records}
 use Rattle.csv.specs.declared.parser.State.{State}
 use Rattle.csv.specs.declared.parser.State.TheVariants as st
 use Rattle.smk_table.specs.Cuts.{state_after, is_unquoted, IsWhole, AreLines}
-use Rattle.smk_table.specs.Reading.{is_start}
+use Rattle.smk_table.specs.CsvReader.{is_start}
 use Rattle.smk_table.proofs.Cuts.{cuts_records}
 
 -- a state of a text without quotes

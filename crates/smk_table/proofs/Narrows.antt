@@ -1,12 +1,12 @@
 -- Output columns and a grouping over the columns that they name are those over all columns.
-use Rattle.std.proofs.Common.{◌≡◌, ◌∙◌, ◌+◌, ◌<◌, ◌≤◌, ℕ, suc, pos, true, not, List, [], ◌∷◌, ◌++◌, length, map, filter, get_or, All, Some, None, nat_lt, refl, sym, ap, subst, arith, inl, inr, nat_eq, eqb-true, eq-eqb}
+use Rattle.std.proofs.Common.{◌≡◌, ◌∙◌, ◌+◌, ◌<◌, ◌≤◌, ℕ, suc, pos, Bool, true, not, List, [], ◌∷◌, ◌++◌, length, map, filter, get_or, All, Some, None, nat_lt, refl, sym, ap, subst, arith, inl, inr, nat_eq, eqb-true, eq-eqb}
 use Rattle.std.specs.List.{list_any, position, position_or_len}
 use Rattle.std.proofs.lemmas.Bool.{cases_Bool, false≢true, or_left, or_right}
 use Rattle.std.proofs.lemmas.List.{get_or-map, length-map}
 use Rattle.std.proofs.lemmas.List.Filters.{length-filter_both}
 use Rattle.std.proofs.lemmas.List.Elements.{filter_agree, All-map}
 use Rattle.std.proofs.lemmas.List.Folds.{list_any_at}
-use Rattle.smk_base.specs.Places.{has, upto}
+use Rattle.smk_base.specs.Places.{has, upto, places}
 use Rattle.smk_base.specs.Rels.{Relation, kind_in, value_in, row_in, rows_at, picked}
 use Rattle.smk_base.specs.declared.value.Value.TheVariants.{Int}
 use Rattle.smk_base.specs.declared.value.Kind.{Kind}
@@ -69,13 +69,13 @@ place_missing cols c e = rw e refl
 read_there : {X : Type 0} (f : ℕ → X) (cols : List ℕ) (c : ℕ) (d : X) → has cols c ≡ true → get_or (map f cols) (place_of cols c) d ≡ f c
 read_there f cols c d h = get_or-map f cols (place_of cols c) 0 d (place_low cols c h) ∙ ap f (place_is cols c 0 h)
 
-value_there : (cols : List ℕ) (row : Row) (c : ℕ) → has cols c ≡ true → value_in (picked cols row) (place_of cols c) ≡ value_in row c
+pub value_there : (cols : List ℕ) (row : Row) (c : ℕ) → has cols c ≡ true → value_in (picked cols row) (place_of cols c) ≡ value_in row c
 value_there cols row c h = read_there (value_in row) cols c _ h
 
-kind_there : (cols : List ℕ) (kinds : List Kind) (c : ℕ) → has cols c ≡ true → kind_in (map (kind_in kinds) cols) (place_of cols c) ≡ kind_in kinds c
+pub kind_there : (cols : List ℕ) (kinds : List Kind) (c : ℕ) → has cols c ≡ true → kind_in (map (kind_in kinds) cols) (place_of cols c) ≡ kind_in kinds c
 kind_there cols kinds c h = read_there (kind_in kinds) cols c _ h
 
-long_there : (cols : List ℕ) (kinds : List Kind) (c : ℕ) → has cols c ≡ true → place_of cols c < length (map (kind_in kinds) cols)
+pub long_there : (cols : List ℕ) (kinds : List Kind) (c : ℕ) → has cols c ≡ true → place_of cols c < length (map (kind_in kinds) cols)
 long_there cols kinds c h = omega (arith, length-map cols (kind_in kinds), place_low cols c h)
 
 -- whether the columns have what an output column and an aggregate name
@@ -84,7 +84,7 @@ abbrev HasItem : List ℕ → Item → Type 0
 HasItem cols (items.Col c) = has cols c ≡ true
 HasItem cols (items.Bin c w) = has cols c ≡ true
 
-abbrev HasAgg : List ℕ → Agg → Type 0
+abbrev pub HasAgg : List ℕ → Agg → Type 0
 HasAgg cols Count = Unit {0}
 HasAgg cols (Sum c) = has cols c ≡ true
 HasAgg cols (Min c) = has cols c ≡ true
@@ -92,11 +92,11 @@ HasAgg cols (Max c) = has cols c ≡ true
 
 -- lists of them
 
-each_agrees : {X Y : Type 0} (P : X → Type 0) (f g : X → Y) (xs : List X) → All P xs → ((x : X) → P x → f x ≡ g x) → map f xs ≡ map g xs
+pub each_agrees : {X Y : Type 0} (P : X → Type 0) (f g : X → Y) (xs : List X) → All P xs → ((x : X) → P x → f x ≡ g x) → map f xs ≡ map g xs
 each_agrees P f g [] all h = refl
 each_agrees P f g (x ∷ xs) all h = rw (h x (all 0 x (omega arith)), each_agrees P f g xs (λ k d p. all (suc k) d (omega arith)) h) refl
 
-each_fits : {X : Type 0} (P Q R : X → Type 0) (xs : List X) → All P xs → All Q xs → ((x : X) → P x → Q x → R x) → All R xs
+pub each_fits : {X : Type 0} (P Q R : X → Type 0) (xs : List X) → All P xs → All Q xs → ((x : X) → P x → Q x → R x) → All R xs
 each_fits P Q R xs p q h k d low = h (get_or xs k d) (p k d low) (q k d low)
 
 item_there : (cols : List ℕ) (row : Row) (item : Item) → HasItem cols item → item_at (picked cols row) (item_among cols item) ≡ item_at row item
@@ -166,11 +166,11 @@ items_fit cols kinds of all fits = record {
 
 -- a grouping
 
-keys_there : (cols keys : List ℕ) (L : List Row) → All (λ c. has cols c ≡ true) keys → map (key_of (map (place_of cols) keys)) (map (picked cols) L) ≡ map (key_of keys) L
+pub keys_there : (cols keys : List ℕ) (L : List Row) → All (λ c. has cols c ≡ true) keys → map (key_of (map (place_of cols) keys)) (map (picked cols) L) ≡ map (key_of keys) L
 keys_there cols keys L all =
     map_map (key_of (map (place_of cols) keys)) (picked cols) L ∙ map_agree (λ row. key_of (map (place_of cols) keys) (picked cols row)) (key_of keys) (λ row. key_there cols keys row all) L
 
-group_rows : (cols keys : List ℕ) (aggs : List Agg) (L : List Row) → All (λ c. has cols c ≡ true) keys → All (HasAgg cols) aggs
+pub group_rows : (cols keys : List ℕ) (aggs : List Agg) (L : List Row) → All (λ c. has cols c ≡ true) keys → All (HasAgg cols) aggs
     → step1 (Grouping (map (place_of cols) keys) (map (agg_among cols) aggs)) (map (picked cols) L) ≡ step1 (Grouping keys aggs) L
 group_rows cols keys aggs L all each =
     let keys' = map (place_of cols) keys in
@@ -184,7 +184,7 @@ agg_kind cols kinds (Sum c) h = ap summed (kind_there cols kinds c h)
 agg_kind cols kinds (Min c) h = kind_there cols kinds c h
 agg_kind cols kinds (Max c) h = kind_there cols kinds c h
 
-group_kinds : (cols keys : List ℕ) (aggs : List Agg) (kinds : List Kind) → All (λ c. has cols c ≡ true) keys → All (HasAgg cols) aggs
+pub group_kinds : (cols keys : List ℕ) (aggs : List Agg) (kinds : List Kind) → All (λ c. has cols c ≡ true) keys → All (HasAgg cols) aggs
     → kinds1 (Grouping (map (place_of cols) keys) (map (agg_among cols) aggs)) (map (kind_in kinds) cols) ≡ kinds1 (Grouping keys aggs) kinds
 group_kinds cols keys aggs kinds all aggs_all =
     let fewer = map (kind_in kinds) cols in
@@ -200,7 +200,7 @@ agg_fits cols kinds (Sum c) h fits = (long_there cols kinds c h, subst IsSummed 
 agg_fits cols kinds (Min c) h fits = long_there cols kinds c h
 agg_fits cols kinds (Max c) h fits = long_there cols kinds c h
 
-group_fits : (cols keys : List ℕ) (aggs : List Agg) (kinds : List Kind) → All (λ c. has cols c ≡ true) keys → All (HasAgg cols) aggs → GroupFits kinds keys aggs
+pub group_fits : (cols keys : List ℕ) (aggs : List Agg) (kinds : List Kind) → All (λ c. has cols c ≡ true) keys → All (HasAgg cols) aggs → GroupFits kinds keys aggs
     → GroupFits (map (kind_in kinds) cols) (map (place_of cols) keys) (map (agg_among cols) aggs)
 group_fits cols keys aggs kinds all aggs_all fits =
     let fewer = map (kind_in kinds) cols in
@@ -218,24 +218,27 @@ picked_at cols L places inside =
 
 -- the named columns have what is named
 
+pub few_places : (t : ℕ → Bool) (n : ℕ) → length (places t n) ≤ n
+few_places t n = omega (arith, length-filter_both t (λ c. not (t c)) (λ c. refl) (upto n), length_upto n)
+
 pub few_named : (items : List Item) (keys : List ℕ) (aggs : List Agg) (n : ℕ) → length (named items keys aggs n) ≤ n
-few_named items keys aggs n = omega (arith, length-filter_both (is_named items keys aggs) (λ c. not (is_named items keys aggs c)) (λ c. refl) (upto n), length_upto n)
+few_named items keys aggs n = few_places (is_named items keys aggs) n
 
 pub named_below : (items : List Item) (keys : List ℕ) (aggs : List Agg) (n : ℕ) → All (λ c. c < n) (named items keys aggs n)
 named_below items keys aggs n = places_below (is_named items keys aggs) n
 
-has_named : (items : List Item) (keys : List ℕ) (aggs : List Agg) (n c : ℕ) → c < n → is_named items keys aggs c ≡ true → has (named items keys aggs n) c ≡ true
-has_named items keys aggs n c low h = has_places (is_named items keys aggs) n c low ∙ h
+pub has_passing : (t : ℕ → Bool) (n c : ℕ) → c < n → t c ≡ true → has (places t n) c ≡ true
+has_passing t n c low h = has_places t n c low ∙ h
 
 item_named : (of : List Item) (kinds : List Kind) (item : Item) → ItemFits kinds item → ((c : ℕ) → is_of c item ≡ true → is_named of [] [] c ≡ true) → HasItem (named of [] [] (length kinds)) item
-item_named of kinds (items.Col c) fits h = has_named of [] [] (length kinds) c fits (h c (eq-eqb c c refl))
-item_named of kinds (items.Bin c w) fits h = has_named of [] [] (length kinds) c fits.0 (h c (eq-eqb c c refl))
+item_named of kinds (items.Col c) fits h = has_passing (is_named of [] []) (length kinds) c fits (h c (eq-eqb c c refl))
+item_named of kinds (items.Bin c w) fits h = has_passing (is_named of [] []) (length kinds) c fits.0 (h c (eq-eqb c c refl))
 
-agg_named : (keys : List ℕ) (aggs : List Agg) (kinds : List Kind) (agg : Agg) → AggFits kinds agg → ((c : ℕ) → reads c agg ≡ true → is_named [] keys aggs c ≡ true) → HasAgg (named [] keys aggs (length kinds)) agg
-agg_named keys aggs kinds Count fits h = tt
-agg_named keys aggs kinds (Sum c) fits h = has_named [] keys aggs (length kinds) c fits.0 (h c (eq-eqb c c refl))
-agg_named keys aggs kinds (Min c) fits h = has_named [] keys aggs (length kinds) c fits (h c (eq-eqb c c refl))
-agg_named keys aggs kinds (Max c) fits h = has_named [] keys aggs (length kinds) c fits (h c (eq-eqb c c refl))
+pub agg_passing : (t : ℕ → Bool) (kinds : List Kind) (agg : Agg) → AggFits kinds agg → ((c : ℕ) → reads c agg ≡ true → t c ≡ true) → HasAgg (places t (length kinds)) agg
+agg_passing t kinds Count fits h = tt
+agg_passing t kinds (Sum c) fits h = has_passing t (length kinds) c fits.0 (h c (eq-eqb c c refl))
+agg_passing t kinds (Min c) fits h = has_passing t (length kinds) c fits (h c (eq-eqb c c refl))
+agg_passing t kinds (Max c) fits h = has_passing t (length kinds) c fits (h c (eq-eqb c c refl))
 
 has_items : (of : List Item) (kinds : List Kind) → ItemsFit kinds of → All (HasItem (named of [] [] (length kinds))) of
 has_items of kinds fits k d low =
@@ -244,11 +247,11 @@ has_items of kinds fits k d low =
 has_keys : (keys : List ℕ) (aggs : List Agg) (kinds : List Kind) → GroupFits kinds keys aggs → All (λ c. has (named [] keys aggs (length kinds)) c ≡ true) keys
 has_keys keys aggs kinds fits k d low =
     let c = get_or keys k d in
-    has_named [] keys aggs (length kinds) c (fits.keyed k d low) (or_left (has keys c) _ (list_any_at (nat_eq c) keys k d low (eq-eqb c c refl)))
+    has_passing (is_named [] keys aggs) (length kinds) c (fits.keyed k d low) (or_left (has keys c) _ (list_any_at (nat_eq c) keys k d low (eq-eqb c c refl)))
 
 has_aggs : (keys : List ℕ) (aggs : List Agg) (kinds : List Kind) → GroupFits kinds keys aggs → All (HasAgg (named [] keys aggs (length kinds))) aggs
 has_aggs keys aggs kinds fits k d low =
-    agg_named keys aggs kinds (get_or aggs k d) (fits.each k d low) (λ c e. or_right (has keys c) _ (list_any_at (reads c) aggs k d low e))
+    agg_passing (is_named [] keys aggs) kinds (get_or aggs k d) (fits.each k d low) (λ c e. or_right (has keys c) _ (list_any_at (reads c) aggs k d low e))
 
 -- output columns over the named columns, and what they make
 

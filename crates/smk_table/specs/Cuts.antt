@@ -6,7 +6,7 @@ use Rattle.csv.specs.Machine.{step, line_feed}
 use Rattle.csv.specs.Reading.{default_config, records}
 use Rattle.csv.specs.declared.parser.State.{State}
 use Rattle.csv.specs.declared.parser.State.TheVariants as st
-use Rattle.smk_table.specs.Reading.{is_start}
+use Rattle.smk_table.specs.CsvReader.{is_start}
 
 -- the state after the bytes of a text
 unfoldable pub state_after : State → List ℕ → State

@@ -1,7 +1,10 @@
-pub mod Reading
+pub mod CsvReader
 pub mod Growing
 pub mod Choosing
 pub mod Named
+pub mod Narrowed
 pub mod Showing
+pub mod Sources
 pub mod Cuts
 pub mod Pieces
+pub mod Unquoted

@@ -1,5 +1,5 @@
 -- The columns that a step names, and the step over these alone.
-use Rattle.std.specs.Prelude.{ℕ, Bool, false, ◌||◌, nat_eq, List, position, unwrap_or}
+use Rattle.std.specs.Prelude.{ℕ, ◌+◌, Bool, false, ◌||◌, nat_eq, List, [], map, position, unwrap_or}
 use Rattle.std.specs.List.{list_any}
 use Rattle.smk_base.specs.Places.{places, has}
 use Rattle.smk_base.specs.declared.plan.Item.{Item}
@@ -41,3 +41,19 @@ agg_among cols Count = Count
 agg_among cols (Sum c) = Sum (place_of cols c)
 agg_among cols (Min c) = Min (place_of cols c)
 agg_among cols (Max c) = Max (place_of cols c)
+
+-- a pair of columns that are to be equal, over these columns of both sides alone
+abbrev pub pair_among : List ℕ → List ℕ → ℕ × ℕ → ℕ × ℕ
+pair_among lefts rights pair = (place_of lefts pair.0, place_of rights pair.1)
+
+-- columns behind w others
+abbrev pub behind : ℕ → List ℕ → List ℕ
+behind w cols = map (λ c. w + c) cols
+
+-- whether a pair names a column of a join's rows, of which the left ones have w columns
+abbrev pub is_paired : ℕ → ℕ → ℕ × ℕ → Bool
+is_paired w c pair = nat_eq c pair.0 || nat_eq c (w + pair.1)
+
+-- whether pairs, keys or aggregates name a column of a join's rows
+abbrev pub is_used : List (ℕ × ℕ) → List ℕ → List Agg → ℕ → ℕ → Bool
+is_used pairs keys aggs w c = list_any (is_paired w c) pairs || is_named [] keys aggs c

@@ -7,6 +7,7 @@ use Rattle.smk_base.specs.declared.fault.TableFault.TheVariants as faults
 use Rattle.smk_model.specs.Names.{◌>>=◌}
 use Rattle.smk_model.specs.Tables.{all_or_first, numbered, column_place, record_row, kinds_of}
 use Rattle.smk_base.specs.Rels.{Relation}
+use Rattle.smk_base.specs.declared.rel.TheConstants.{ROW_LIMIT}
 
 -- the rows of a part of a table, or its first fault
 abbrev pub Part : Type 0
@@ -20,11 +21,11 @@ rows_from cols places width n read = all_or_first (numbered (record_row cols pla
 abbrev pub record_of : TableFault → ℕ
 record_of (faults.Ragged n) = n
 record_of (faults.BadInt n c) = n
-record_of faults.NoHeader = 1048577
-record_of (faults.MissingColumn c) = 1048577
-record_of (faults.RepeatedColumn c) = 1048577
-record_of faults.TooManyRows = 1048577
-record_of faults.NoMemory = 1048577
+record_of faults.NoHeader = ROW_LIMIT + 1
+record_of (faults.MissingColumn c) = ROW_LIMIT + 1
+record_of (faults.RepeatedColumn c) = ROW_LIMIT + 1
+record_of faults.TooManyRows = ROW_LIMIT + 1
+record_of faults.NoMemory = ROW_LIMIT + 1
 
 -- the same fault where base records come before
 abbrev pub fault_behind : ℕ → TableFault → TableFault
@@ -38,8 +39,8 @@ fault_behind base faults.NoMemory = faults.NoMemory
 
 -- a part that was read for itself, where base records come before
 abbrev pub part_behind : ℕ → Part → Part
-part_behind base (Ok rows) = if nat_le (base + length rows) 1048576 then Ok rows else Err faults.TooManyRows
-part_behind base (Err fault) = if nat_le (base + record_of fault) 1048576 then Err (fault_behind base fault) else Err faults.TooManyRows
+part_behind base (Ok rows) = if nat_le (base + length rows) ROW_LIMIT then Ok rows else Err faults.TooManyRows
+part_behind base (Err fault) = if nat_le (base + record_of fault) ROW_LIMIT then Err (fault_behind base fault) else Err faults.TooManyRows
 
 -- parts that were each read for itself, behind one another
 abbrev pub parts_behind : ℕ → List Part → Part

@@ -1,11 +1,12 @@
 //! The columns that a step names, and its output columns, keys and aggregates over these columns alone.
 
-ghost use Rattle.std.specs.Prelude.{◌≡◌, ◌<◌, ◌≤◌, length, map, nat_eq, position, All, IfOk};
+ghost use Rattle.std.specs.Prelude.{◌≡◌, ◌<◌, ◌≤◌, ◌+◌, ◌++◌, length, map, nat_eq, position, All, IfOk};
 ghost use Rattle.std.specs.List.{list_any};
-ghost use Rattle.smk_base.specs.Places.{has};
-ghost use Rattle.smk_table.specs.Named.{is_of, reads, is_named, named, place_of, item_among, agg_among};
+ghost use Rattle.smk_base.specs.Places.{has, places};
+ghost use Rattle.smk_base.specs.declared.rel.TheConstants.{COLUMN_LIMIT};
+ghost use Rattle.smk_table.specs.Named.{is_of, reads, is_named, named, place_of, item_among, agg_among, pair_among, behind, is_paired, is_used};
 
-use smk_base::{Agg, Aggs, Item, Items, Keys};
+use smk_base::{Agg, Aggs, Item, Items, Keys, Pairs};
 use std::alloc::{AllocError, Global};
 
 #[tactic(auto, using(crate::proofs::Narrows::few_named))]
@@ -79,7 +80,7 @@ fn is_read(agg: Agg, c: u32) -> bool
 
 /// Output columns over these columns alone.
 pub(crate) fn items_among(alloc: Global, items: &[Item], cols: &[u32]) -> Result<Items, AllocError>
-    requires { length cols.now ≤ 16 }
+    requires { length cols.now ≤ COLUMN_LIMIT }
     ensures { IfOk result (λ made. made ≡ map (item_among cols.now) items.now) }
 {
     let mut made = Items::new(alloc);
@@ -91,7 +92,7 @@ pub(crate) fn items_among(alloc: Global, items: &[Item], cols: &[u32]) -> Result
 
 /// Keys over these columns alone.
 pub(crate) fn keys_among(alloc: Global, keys: &[u32], cols: &[u32]) -> Result<Keys, AllocError>
-    requires { length cols.now ≤ 16 }
+    requires { length cols.now ≤ COLUMN_LIMIT }
     ensures { IfOk result (λ made. made ≡ map (place_of cols.now) keys.now) }
 {
     let mut made = Keys::new(alloc);
@@ -103,7 +104,7 @@ pub(crate) fn keys_among(alloc: Global, keys: &[u32], cols: &[u32]) -> Result<Ke
 
 /// Aggregates over these columns alone.
 pub(crate) fn aggs_among(alloc: Global, aggs: &[Agg], cols: &[u32]) -> Result<Aggs, AllocError>
-    requires { length cols.now ≤ 16 }
+    requires { length cols.now ≤ COLUMN_LIMIT }
     ensures { IfOk result (λ made. made ≡ map (agg_among cols.now) aggs.now) }
 {
     let mut made = Aggs::new(alloc);
@@ -114,7 +115,7 @@ pub(crate) fn aggs_among(alloc: Global, aggs: &[Agg], cols: &[u32]) -> Result<Ag
 }
 
 fn one_item_among(item: Item, cols: &[u32]) -> Item
-    requires { length cols.now ≤ 16 }
+    requires { length cols.now ≤ COLUMN_LIMIT }
     ensures { result ≡ item_among cols.now item }
 {
     match item {
@@ -127,7 +128,7 @@ fn one_item_among(item: Item, cols: &[u32]) -> Item
 }
 
 fn one_agg_among(agg: Agg, cols: &[u32]) -> Agg
-    requires { length cols.now ≤ 16 }
+    requires { length cols.now ≤ COLUMN_LIMIT }
     ensures { result ≡ agg_among cols.now agg }
 {
     match agg {
@@ -141,7 +142,7 @@ fn one_agg_among(agg: Agg, cols: &[u32]) -> Agg
 #[tactic(auto, using(crate::proofs::Narrows::place_found, crate::proofs::Narrows::place_missing))]
 // The place of a column among these, or 0 where it isn't there.
 fn place_among(cols: &[u32], c: u32) -> u32
-    requires { length cols.now ≤ 16 }
+    requires { length cols.now ≤ COLUMN_LIMIT }
     ensures { result ≡ place_of cols.now c }
 {
     match first_place(cols, c) {
@@ -154,4 +155,91 @@ fn first_place(cols: &[u32], c: u32) -> Option<usize>
     ensures { result ≡ position (nat_eq c) cols.now }
 {
     cols.iter().position(|col| c == *col)
+}
+
+/// Of so many columns of a join's rows from one on, the left ones of which have a width, those that pairs, keys or aggregates name, ascending and numbered from that one on.
+pub(crate) fn used_columns(
+    alloc: Global,
+    pairs: &[(u32, u32)],
+    keys: &[u32],
+    aggs: &[Agg],
+    width: u32,
+    from: u32,
+    len: u32,
+) -> Result<Vec<u32>, AllocError>
+    requires { from + len ≤ 32 }
+    ensures cols { IfOk result (λ cols. cols.items ≡ places (λ c. is_used pairs.now keys.now aggs.now width (from + c)) len) }
+    ensures few { IfOk result (λ cols. length cols.items ≤ len) }
+    ensures within { IfOk result (λ cols. All (λ c. c < len) cols.items) }
+{
+    let mut cols = Vec::new(alloc);
+    for c in 0..len {
+        if is_column_used(pairs, keys, aggs, width, from + c) {
+            cols.push(c)?;
+        }
+    }
+    Ok(cols)
+}
+
+// Whether pairs, keys or aggregates name a column of a join's rows.
+fn is_column_used(pairs: &[(u32, u32)], keys: &[u32], aggs: &[Agg], width: u32, c: u32) -> bool
+    ensures { result ≡ is_used pairs.now keys.now aggs.now width c }
+{
+    is_in_pairs(pairs, width, c) || is_column_named(&[], keys, aggs, c)
+}
+
+fn is_in_pairs(pairs: &[(u32, u32)], width: u32, c: u32) -> bool
+    ensures { result ≡ list_any (is_paired width c) pairs.now }
+{
+    pairs.iter().any(|pair| is_in_pair(*pair, width, c))
+}
+
+// Whether a pair names a column of a join's rows.
+fn is_in_pair(pair: (u32, u32), width: u32, c: u32) -> bool
+    ensures { result ≡ is_paired width c pair }
+{
+    c == pair.0 || is_behind(pair.1, width, c)
+}
+
+// Whether a column of a join's rows is this one of the right side.
+fn is_behind(right: u32, width: u32, c: u32) -> bool
+    ensures { result ≡ nat_eq c (width + right) }
+{
+    c >= width && c - width == right
+}
+
+/// Columns of the left side, and those of the right side behind the left width.
+pub(crate) fn both_columns(
+    alloc: Global,
+    lefts: &[u32],
+    rights: &[u32],
+    width: u32,
+) -> Result<Vec<u32>, AllocError>
+    requires { All (λ c. width + c < 32) rights.now }
+    ensures cols { IfOk result (λ cols. cols.items ≡ lefts.now ++ behind width rights.now) }
+    ensures long { IfOk result (λ cols. length cols.items ≡ length lefts.now + length rights.now) }
+{
+    let mut cols = Vec::from_slice(alloc, lefts)?;
+    for c in rights {
+        cols.push(width + *c)?;
+    }
+    Ok(cols)
+}
+
+/// Pairs over these columns of both sides alone.
+pub(crate) fn pairs_among(
+    alloc: Global,
+    pairs: &[(u32, u32)],
+    lefts: &[u32],
+    rights: &[u32],
+) -> Result<Pairs, AllocError>
+    requires left { length lefts.now ≤ COLUMN_LIMIT }
+    requires right { length rights.now ≤ COLUMN_LIMIT }
+    ensures { IfOk result (λ made. made ≡ map (pair_among lefts.now rights.now) pairs.now) }
+{
+    let mut made = Pairs::new(alloc);
+    for pair in pairs {
+        made.push((place_among(lefts, pair.0), place_among(rights, pair.1)))?;
+    }
+    Ok(made)
 }

@@ -1,6 +1,6 @@
 ghost use Rattle.std.specs.Prelude.{◌≡◌, ◌<◌, ◌≤◌, length, map, All, IfOk};
 ghost use Rattle.smk_base.specs.Rels.{kind_in, picked, rows_at};
-ghost use Rattle.smk_base.specs.declared.rel.TheConstants.{ROW_LIMIT};
+ghost use Rattle.smk_base.specs.declared.rel.TheConstants.{COLUMN_LIMIT, ROW_LIMIT};
 
 use smk_base::{Rel, Rids};
 use std::alloc::{AllocError, Global};
@@ -66,7 +66,7 @@ impl Chosen {
     /// The number of columns. It takes no memory.
     pub fn width(&self) -> u32
         ensures count { result ≡ length self.now.kinds }
-        ensures few { result ≤ 16 }
+        ensures few { result ≤ COLUMN_LIMIT }
     {
         self.rel.width()
     }
@@ -85,7 +85,7 @@ impl Chosen {
     /// The rows with these columns alone, in this order.
     pub fn columns(&self, alloc: Global, cols: &[u32]) -> Result<Rel, AllocError>
         requires within { All (λ c. c < length self.now.kinds) cols.now }
-        requires few { length cols.now ≤ 16 }
+        requires few { length cols.now ≤ COLUMN_LIMIT }
         ensures { IfOk result (λ made. made ≡ record { kinds = map (kind_in self.now.kinds) cols.now; rows = map (picked cols.now) self.now.rows }) }
     {
         let whole = self.rel.pick_columns(alloc, cols)?;

@@ -3,16 +3,19 @@
 
 mod among;
 mod chosen;
+mod csv_reader;
 mod cutting;
 mod fields;
+mod grouped_join;
 mod joining;
 mod narrowing;
 mod pieces;
-mod reading;
 mod records;
 mod table;
+mod unquoted;
 
 pub use chosen::Chosen;
+pub use grouped_join::{GroupedJoin, narrow_grouped_join};
 pub use narrowing::{Narrowed, NarrowedGroup, narrow, narrow_group};
 pub use pieces::read_table_in_pieces;
 pub use records::read_table;

@@ -3,18 +3,18 @@ ghost use Rattle.std.specs.Prelude.{◌≡◌, ◌⊎◌, ◌<◌, ◌≤◌, le
 ghost use Rattle.csv.specs.Reading.{records, default_config};
 ghost use Rattle.smk_base.specs.Marks.{begins_with_mark};
 ghost use Rattle.smk_base.specs.declared.fault.TableFault.TheVariants.{NoMemory};
+ghost use Rattle.smk_base.specs.declared.workers.TheConstants.{WORKER_LIMIT};
 ghost use Rattle.smk_model.specs.Tables.{AreColumns, kinds_of, table_of};
 ghost use Rattle.smk_table.specs.Cuts.{read_of};
-ghost use Rattle.smk_table.specs.Reading.{IsBetween, records_left};
+ghost use Rattle.smk_table.specs.Sources.{IsBetween, records_left};
 ghost use Rattle.smk_table.specs.Pieces.{Gives, HasHeader, behind_header, rows_from, parts_of, parts_behind};
 
+use crate::csv_reader::{Records, field_count, next_record, reader_of};
 use crate::cutting::pieces;
 use crate::fields::column_places;
 use crate::joining::join_parts;
-use crate::reading::{next_record, reader_of};
 use crate::records::{empty_rel, read_rows, read_table};
 use crate::table::Table;
-use csv::{ByteRecord, Reader};
 use smk_base::{ColDecls, Rel, TableFault, without_mark};
 use smk_outside::Gate;
 use std::alloc::{AllocError, Global};
@@ -30,8 +30,7 @@ struct Header {
 // The header of the records that are left, where there is one.
 fn header_left(
     alloc: Global,
-    reader: &mut Reader<&[u8]>,
-    fields: &mut ByteRecord,
+    reader: &mut Records<'_>,
     cols: &ColDecls,
 ) -> Result<Option<Header>, TableFault>
     requires between { IsBetween reader.old }
@@ -40,11 +39,11 @@ fn header_left(
     ensures found { IfOk result (λ found. IfSome found (λ header. HasHeader cols.now (records_left reader.old) header.width (Ok header.places.items))) }
     ensures fault { IfErr result (λ fault. (fault ≡ NoMemory) ⊎ ((width : ℕ) × HasHeader cols.now (records_left reader.old) width (Err fault))) }
 {
-    if !next_record(reader, fields)? {
+    if !next_record(reader)? {
         return Ok(None);
     }
-    let width = fields.len();
-    match column_places(alloc, fields, cols) {
+    let width = field_count(reader);
+    match column_places(alloc, reader, cols) {
         Ok(places) => Ok(Some(Header { places, width })),
         Err(fault) => Err(fault),
     }
@@ -59,8 +58,7 @@ fn header_of(alloc: Global, text: &[u8], cols: &ColDecls) -> Result<Option<Heade
     ensures fault { IfErr result (λ fault. (fault ≡ NoMemory) ⊎ ((width : ℕ) × HasHeader cols.now (records default_config text.now) width (Err fault))) }
 {
     let mut reader = reader_of(alloc, text);
-    let mut fields = ByteRecord::new(alloc);
-    header_left(alloc, &mut reader, &mut fields, cols)
+    header_left(alloc, &mut reader, cols)
 }
 
 // The rows of the records of a piece of a text, each with its number in the piece, behind the header where the piece has it.
@@ -78,12 +76,11 @@ fn read_piece(
     ensures { Gives cols.now (rows_from cols.now places.now width 1 (behind_header has_header (records default_config text.now))) result }
 {
     let mut reader = reader_of(alloc, text);
-    let mut fields = ByteRecord::new(alloc);
     let mut rel = empty_rel(alloc, cols)?;
-    if has_header && !next_record(&mut reader, &mut fields)? {
+    if has_header && !next_record(&mut reader)? {
         return Ok(rel.finish(alloc)?);
     }
-    read_rows(&mut reader, &mut fields, cols, places, width, &mut rel)?;
+    read_rows(&mut reader, cols, places, width, &mut rel)?;
     Ok(rel.finish(alloc)?)
 }
 
@@ -98,7 +95,7 @@ fn arrive_and_read<G: Gate>(
     gate: &G,
 ) -> Result<Rel, TableFault>
     requires unmarked { IsFalse (begins_with_mark text.now) }
-    requires few { p < 64 }
+    requires few { p < WORKER_LIMIT }
     requires columns { AreColumns cols.now }
     requires places { length places.now ≡ length cols.now }
     ensures { Gives cols.now (rows_from cols.now places.now width 1 (behind_header (p == 0) (records default_config text.now))) result }
@@ -118,7 +115,7 @@ fn read_pieces<R: Threads + Sync, G: Gate + Sync>(
     gate: &G,
 ) -> Result<Vec<Result<Rel, TableFault>>, AllocError>
     requires unmarked { All (λ text. IsFalse (begins_with_mark text.now)) texts.now }
-    requires few { length texts.now ≤ 64 }
+    requires few { length texts.now ≤ WORKER_LIMIT }
     requires columns { AreColumns cols.now }
     requires places { length places.now ≡ length cols.now }
     ensures all { IfOk result (λ made. length made.items ≡ length texts.now) }
@@ -144,7 +141,7 @@ fn rows_in_pieces<R: Threads + Sync, G: Gate + Sync>(
     gate: &G,
 ) -> Result<Rel, TableFault>
     requires unmarked { All (λ text. IsFalse (begins_with_mark text.now)) texts.now }
-    requires few { length texts.now ≤ 64 }
+    requires few { length texts.now ≤ WORKER_LIMIT }
     requires columns { AreColumns cols.now }
     requires places { length places.now ≡ length cols.now }
     ensures { Gives cols.now (parts_behind 0 (parts_of cols.now places.now width (map read_of texts.now))) result }
@@ -164,7 +161,7 @@ fn table_in_pieces<R: Threads + Sync, G: Gate + Sync>(
     gate: &G,
 ) -> Result<Table, TableFault>
     requires unmarked { All (λ text. IsFalse (begins_with_mark text.now)) texts.now }
-    requires few { length texts.now ≤ 64 }
+    requires few { length texts.now ≤ WORKER_LIMIT }
     requires columns { AreColumns cols.now }
     requires places { length header.now.places.items ≡ length cols.now }
     ensures { Gives cols.now (parts_behind 0 (parts_of cols.now header.now.places.items header.now.width (map read_of texts.now))) result }
@@ -188,8 +185,7 @@ pub fn read_table_in_pieces<R: Threads + Sync, G: Gate + Sync>(
 ) -> Result<Table, TableFault>
     requires columns { AreColumns cols.now }
     requires some { 1 ≤ workers }
-    requires few { workers ≤ 64 }
-    requires least { 1 ≤ least }
+    requires few { workers ≤ WORKER_LIMIT }
     ensures rows { IfOk result (λ table. table_of cols.now bytes.now ≡ Ok table.rows) }
     ensures kinds { IfOk result (λ table. table.kinds ≡ kinds_of cols.now) }
     ensures fault { IfErr result (λ fault. (fault ≡ NoMemory) ⊎ (table_of cols.now bytes.now ≡ Err fault)) }

@@ -1,13 +1,11 @@
 ghost use Rattle.std.specs.Prelude.{◌≡◌, ◌⊎◌, ◌<◌, ◌≤◌, [], length, IfOk, IfErr, OnOk, Ok, Err};
-ghost use Rattle.csv.specs.Records.{fields_of};
 ghost use Rattle.smk_base.specs.declared.fault.TableFault.TheVariants.{NoMemory};
 ghost use Rattle.smk_model.specs.Tables.{AreColumns, IsBase, table_of, table_of_records, kinds_of, all_or_first, numbered, record_row};
-ghost use Rattle.smk_table.specs.Reading.{IsBetween, records_left};
+ghost use Rattle.smk_table.specs.Sources.{IsBetween, records_left};
 
+use crate::csv_reader::{Records, field_count, next_record, reader_of};
 use crate::fields::{column_places, push_record};
-use crate::reading::{next_record, reader_of};
 use crate::table::Table;
-use csv::{ByteRecord, Reader};
 use smk_base::{ColDecls, Kind, ROW_LIMIT, RelBuilder, TableFault, without_mark};
 use std::alloc::{AllocError, Global};
 
@@ -19,15 +17,13 @@ pub fn read_table(alloc: Global, bytes: &[u8], cols: &ColDecls) -> Result<Table,
     ensures fault { IfErr result (λ fault. (fault ≡ NoMemory) ⊎ (table_of cols.now bytes.now ≡ Err fault)) }
 {
     let mut reader = reader_of(alloc, without_mark(bytes));
-    let mut fields = ByteRecord::new(alloc);
-    read_records(alloc, &mut reader, &mut fields, cols)
+    read_records(alloc, &mut reader, cols)
 }
 
 /// The table of all the records that are left, of which the first is the header.
 fn read_records(
     alloc: Global,
-    reader: &mut Reader<&[u8]>,
-    fields: &mut ByteRecord,
+    reader: &mut Records<'_>,
     cols: &ColDecls,
 ) -> Result<Table, TableFault>
     requires between { IsBetween reader.old }
@@ -36,13 +32,13 @@ fn read_records(
     ensures kinds { IfOk result (λ table. table.kinds ≡ kinds_of cols.now) }
     ensures fault { IfErr result (λ fault. (fault ≡ NoMemory) ⊎ (table_of_records cols.now (records_left reader.old) ≡ Err fault)) }
 {
-    if !next_record(reader, fields)? {
+    if !next_record(reader)? {
         return Err(TableFault::NoHeader);
     }
-    let places = column_places(alloc, fields, cols)?;
-    let width = fields.len();
+    let places = column_places(alloc, reader, cols)?;
+    let width = field_count(reader);
     let mut rel = empty_rel(alloc, cols)?;
-    read_rows(reader, fields, cols, places.as_slice(), width, &mut rel)?;
+    read_rows(reader, cols, places.as_slice(), width, &mut rel)?;
     Ok(Table::of_rel(rel.finish(alloc)?.shared(alloc)?))
 }
 
@@ -60,8 +56,7 @@ pub(crate) fn empty_rel(alloc: Global, cols: &ColDecls) -> Result<RelBuilder, Al
 
 /// Puts the rows of all the records that are left behind no row.
 pub(crate) fn read_rows(
-    reader: &mut Reader<&[u8]>,
-    fields: &mut ByteRecord,
+    reader: &mut Records<'_>,
     cols: &ColDecls,
     places: &[usize],
     width: usize,
@@ -79,10 +74,10 @@ pub(crate) fn read_rows(
     ensures fault { IfErr result (λ fault. (fault ≡ NoMemory) ⊎ (all_or_first (numbered (record_row cols.now places.now width) 1 (records_left reader.old)) ≡ Err fault)) }
 {
     for nth in 1..ROW_LIMIT + 2 {
-        if !next_record(reader, fields)? {
+        if !next_record(reader)? {
             return Ok(());
         }
-        push_record(rel, cols, places, width, nth, fields)?;
+        push_record(rel, cols, places, width, nth, reader)?;
     }
     unreachable!()
 }

@@ -2,6 +2,7 @@ ghost use Rattle.std.specs.Prelude.{◌≡◌, ◌+◌, ◌<◌, ◌≤◌, [], 
 ghost use Rattle.smk_base.specs.Cells.{value_of_cell};
 ghost use Rattle.smk_base.specs.Places.{upto};
 ghost use Rattle.smk_base.specs.Rels.{IsRelation, Fits, kind_in, row_in, rows_at, value_in};
+ghost use Rattle.smk_base.specs.declared.rel.TheConstants.{COLUMN_LIMIT};
 ghost use Rattle.smk_model.specs.Tables.{IsBase};
 ghost use Rattle.smk_table.specs.Showing.{first_rows};
 
@@ -57,7 +58,7 @@ impl Table {
     /// The number of columns. It takes no memory and makes no look.
     pub fn width(&self) -> u32
         ensures count { result ≡ length self.now.kinds }
-        ensures few { result ≤ 16 }
+        ensures few { result ≤ COLUMN_LIMIT }
     {
         self.rel.width()
     }

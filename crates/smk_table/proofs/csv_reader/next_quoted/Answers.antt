@@ -1,6 +1,6 @@
 use Rattle.csv.specs.Records.{fields_of}
 use Rattle.smk_table.proofs.RecordsAfter.{found-says, ended-says}
-use Rattle.smk_table.proofs.reading.next_record.Goals as goal
+use Rattle.smk_table.proofs.csv_reader.next_quoted.Goals as goal
 
 pub returns-clause-found : goal.returns-clause-found
 returns-clause-found c =
