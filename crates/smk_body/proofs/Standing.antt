@@ -16,7 +16,7 @@ use Rattle.smk_model.proofs.Sizes.{adds_no_rows}
 use Rattle.smk_body.proofs.Classing.{are_numbered, length_firsts}
 use Rattle.smk_body.proofs.Pairing.{length_joined, length_lefts}
 use Rattle.smk_body.proofs.Siding.{both_sides, by_own, by_sources, by_targets, from_none, left_classes, one_side, right_classes}
-use Rattle.smk_body.specs.Bounds.{AreBoth, AreGroups, ArePairs, ArePlaces, BothImage, PairsImage, PlacesImage}
+use Rattle.smk_body.specs.Bounds.{AreBoth, AreGroups, AreRowPairs, ArePlaces, BothImage, RowPairsImage, PlacesImage}
 use Rattle.smk_body.specs.Findings.{finding1, finding2, left_want, local_of, pairs_found}
 use Rattle.smk_body.specs.Halves.{AreNumbered, AreWithin, PlacePairs, halves_of}
 use Rattle.smk_body.specs.Locals.{local1, local2}
@@ -77,10 +77,10 @@ both_stand L R made n e few m short_left short_right =
     }
 
 -- the pairs of a join
-abbrev pairs_of : PlacePairs → ℕ → ℕ → PairsImage
+abbrev pairs_of : PlacePairs → ℕ → ℕ → RowPairsImage
 pairs_of pairs m n = record { pairs = pairs; left_rows = m; right_rows = n }
 
-pub pairs_stand : (L R : List Row) (made : PlacePairs) (m n : ℕ) → AreWithin (length L) (length R) made → m ≡ length L → n ≡ length R → m ≤ ROW_LIMIT → n ≤ ROW_LIMIT → ArePairs (pairs_of made m n)
+pub pairs_stand : (L R : List Row) (made : PlacePairs) (m n : ℕ) → AreWithin (length L) (length R) made → m ≡ length L → n ≡ length R → m ≤ ROW_LIMIT → n ≤ ROW_LIMIT → AreRowPairs (pairs_of made m n)
 pairs_stand L R made m n within e f short shorter = record { within = rw (e, f) within; short_left = short; short_right = shorter }
 
 -- how many rows a join has

@@ -36,13 +36,13 @@ pub record AreBoth (both : BothImage) : Type 0 where
   pub below : All (λ p. p < length both.groups.firsts) both.groups.of
 
 -- pairs of a place of a left input and one of a right input, of so many rows
-pub record PairsImage : Type 0 where
+pub record RowPairsImage : Type 0 where
   pub pairs : PlacePairs
   pub left_rows : ℕ
   pub right_rows : ℕ
 
 -- at most 1,048,576 pairs of places below these numbers, which are no greater
-pub record ArePairs (it : PairsImage) : Type 0 where
+pub record AreRowPairs (it : RowPairsImage) : Type 0 where
   pub within : AreWithin it.left_rows it.right_rows it.pairs
   pub short_left : it.left_rows ≤ ROW_LIMIT
   pub short_right : it.right_rows ≤ ROW_LIMIT

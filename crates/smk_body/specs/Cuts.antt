@@ -1,5 +1,5 @@
 -- How the rows of an input are cut into parts, and what each part of a step finds of its rows.
-use Rattle.std.specs.Prelude.{◌≡◌, ℕ, ◌<◌, ◌-◌, ◌*◌, ◌/◌, ◌↔◌, min, List, ◌++◌, length, map, slice_index_or, slice_range, sum_by}
+use Rattle.std.specs.Prelude.{◌≡◌, ℕ, ◌<◌, ◌+◌, ◌-◌, ◌*◌, ◌/◌, ◌↔◌, min, List, ◌++◌, length, map, slice_index_or, slice_range, sum_by}
 use Rattle.smk_base.specs.Places.{upto}
 use Rattle.smk_base.specs.Plans.{Formula}
 use Rattle.smk_base.specs.declared.rel.TheConstants.{ROW_LIMIT}
@@ -32,7 +32,7 @@ HasKeys keys L from to classes = classes ≡ classes_of (map (key_of keys) (slic
 
 -- how many pairs have a left place from one up to another, counted no further than one past the limit
 abbrev pub count_between : (ℕ → List ℕ) → ℕ → ℕ → ℕ
-count_between partners_of from to = min 1048577 (length (pairs_below partners_of to) - length (pairs_below partners_of from))
+count_between partners_of from to = min (ROW_LIMIT + 1) (length (pairs_below partners_of to) - length (pairs_below partners_of from))
 
 -- that what f counts over n parts is more than 1,048,576 exactly where the number of rows is
 abbrev pub CountRows : (ℕ → ℕ) → ℕ → ℕ → Type 0

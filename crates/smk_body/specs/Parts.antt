@@ -1,6 +1,6 @@
 -- Columns of rows, and aggregates of classes, of which each may be made beside the others.
 use Rattle.std.specs.Prelude.{ℕ, ◌<◌, ◌≤◌, List, length, map, All}
-use Rattle.smk_base.specs.declared.rel.TheConstants.{ROW_LIMIT}
+use Rattle.smk_base.specs.declared.rel.TheConstants.{COLUMN_LIMIT, ROW_LIMIT}
 use Rattle.smk_base.specs.declared.plan.Agg.{Agg}
 use Rattle.smk_base.specs.Places.{upto}
 use Rattle.smk_base.specs.Rels.{Relation, kind_in, picked, rows_at}
@@ -13,7 +13,7 @@ use Rattle.smk_body.specs.Halves.{AreNumbered, class_places}
 -- at most 1,048,576 places of rows, and at most 16 columns of them
 pub record ArePlacesOf (rel : Relation) (places cols : List ℕ) : Type 0 where
   pub columns : All (λ c. c < length rel.kinds) cols
-  pub few_columns : length cols ≤ 16
+  pub few_columns : length cols ≤ COLUMN_LIMIT
   pub within : All (λ place. place < length rel.rows) places
   pub few : length places ≤ ROW_LIMIT
 
@@ -25,7 +25,7 @@ columns_of rel places cols = record { kinds = map (kind_in rel.kinds) cols; rows
 pub record AreAggsOf (rel : Relation) (classes : ClassesImage) (aggs : List Agg) : Type 0 where
   pub numbered : AreNumbered (length rel.rows) classes
   pub each : All (AggFits rel.kinds) aggs
-  pub few : length aggs ≤ 16
+  pub few : length aggs ≤ COLUMN_LIMIT
 
 -- for each class the aggregates over its rows
 abbrev pub aggregates_of : Relation → ClassesImage → List Agg → Relation

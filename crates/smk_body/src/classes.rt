@@ -7,7 +7,7 @@ use smk_keys::Classes;
 use std::alloc::{AllocError, Global};
 
 /// The rows in classes of equal ones.
-pub fn row_classes(alloc: Global, rel: &Rel) -> Result<Classes, AllocError>
+pub(crate) fn row_classes(alloc: Global, rel: &Rel) -> Result<Classes, AllocError>
     ensures { IfOk result (λ made. made ≡ classes_of rel.now.rows) }
 {
     let columns = all_columns(alloc, rel.width())?;

@@ -1,4 +1,5 @@
 ghost use Rattle.std.specs.Prelude.{◌<◌, ◌≤◌};
+ghost use Rattle.smk_base.specs.declared.workers.TheConstants.{WORKER_LIMIT};
 
 use std::alloc::Global;
 use std::marker::Sync;
@@ -9,7 +10,7 @@ pub trait Crew {
     /// How many parts. It takes no memory.
     fn parts(&self) -> u32
         ensures some { 0 < result }
-        ensures few { result ≤ 64 }
+        ensures few { result ≤ WORKER_LIMIT }
     {
         1
     }

@@ -3,8 +3,8 @@ ghost use Rattle.smk_body.specs.Findings.{found_rows};
 
 use crate::both::Both;
 use crate::groups::Groups;
-use crate::pairs::Pairs;
 use crate::places::Places;
+use crate::row_pairs::RowPairs;
 use crate::stretches::{Behind, Same};
 use smk_base::Rel;
 use smk_rid::RidMap;
@@ -21,7 +21,7 @@ pub enum Found {
     /// The images of the input rows, and the group of each image.
     Images(Rel, Groups),
     /// The pairs of places that are put beside each other.
-    Pairs(Pairs),
+    RowPairs(RowPairs),
     /// The right rows stand behind the left ones.
     Behind(Behind),
     /// The group of each row of both sides.
@@ -46,7 +46,7 @@ impl Found {
             Found::Places(places) => places.as_slice().len() as u32,
             Found::Groups(groups) => groups.classes().firsts().len() as u32,
             Found::Images(_, groups) => groups.classes().firsts().len() as u32,
-            Found::Pairs(pairs) => pairs.matches().len() as u32,
+            Found::RowPairs(pairs) => pairs.matches().len() as u32,
             Found::Behind(behind) => behind.rows(),
             Found::Both(both) => both.classes().firsts().len() as u32,
         }

@@ -1,4 +1,4 @@
-//! The values in columns at places, where the crew has several parts: the columns at the same time, and of a column of texts the rows.
+//! The rows of a step: the values in columns at places, where the crew has several parts: the columns at the same time, and of a column of texts the rows.
 
 ghost use Rattle.std.specs.Prelude.{◌≡◌, ◌<◌, ◌≤◌, Ok, All, IfOk, length};
 ghost use Rattle.std.specs.Thread.{IsSync};

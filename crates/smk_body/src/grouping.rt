@@ -2,6 +2,8 @@
 
 ghost use Rattle.std.specs.Prelude.{◌≡◌, ◌<◌, ◌≤◌, ◌+◌, ◌++◌, IfOk, OnOk, All, length, map, slice_index};
 ghost use Rattle.std.specs.Thread.{IsSync};
+ghost use Rattle.smk_base.specs.declared.rel.TheConstants.{COLUMN_LIMIT};
+ghost use Rattle.smk_base.specs.declared.workers.TheConstants.{WORKER_LIMIT};
 ghost use Rattle.smk_model.specs.Plain.{key_of};
 ghost use Rattle.smk_keys.specs.Classes.{classes_of};
 ghost use Rattle.smk_body.specs.Cuts.{AreParts, HasKeys, cut_at};
@@ -25,7 +27,7 @@ pub(crate) fn found_groups<R: Threads + Sync, C: Crew + Sync>(
     keys: &[u32],
 ) -> Result<Groups, AllocError>
     requires keys { All (λ c. c < length rel.now.kinds) keys.now }
-    requires few_keys { length keys.now ≤ 16 }
+    requires few_keys { length keys.now ≤ COLUMN_LIMIT }
     ensures { IfOk result (λ groups. groups ≡ classes_of (map (key_of keys.now) rel.now.rows)) }
 {
     let _rows = rel.len();
@@ -40,7 +42,7 @@ fn key_classes<R: Threads + Sync, C: Crew + Sync>(
     keys: &[u32],
 ) -> Result<Classes, AllocError>
     requires keys { All (λ c. c < length rel.now.kinds) keys.now }
-    requires few_keys { length keys.now ≤ 16 }
+    requires few_keys { length keys.now ≤ COLUMN_LIMIT }
     ensures { IfOk result (λ classes. classes ≡ classes_of (map (key_of keys.now) rel.now.rows)) }
 {
     let workers = work.crew.parts();
@@ -63,7 +65,7 @@ fn parts_classed<R: Threads + Sync, C: Crew + Sync>(
     workers: u32,
 ) -> Result<Vec<Classes>, AllocError>
     requires keys { All (λ c. c < length rel.now.kinds) keys.now }
-    requires few { workers ≤ 64 }
+    requires few { workers ≤ WORKER_LIMIT }
     ensures { IfOk result (λ made. AreParts (λ p. HasKeys keys.now rel.now.rows (cut_at workers (length rel.now.rows) p) (cut_at workers (length rel.now.rows) (p + 1))) workers made.items) }
 {
     let made = in_parts(
@@ -84,7 +86,7 @@ fn part_classed<C: Crew>(
     p: usize,
 ) -> Result<Classes, AllocError>
     requires keys { All (λ c. c < length rel.now.kinds) keys.now }
-    requires few { workers ≤ 64 }
+    requires few { workers ≤ WORKER_LIMIT }
     requires part { p < workers }
     ensures { IfOk result (HasKeys keys.now rel.now.rows (cut_at workers (length rel.now.rows) p) (cut_at workers (length rel.now.rows) (p + 1))) }
 {
@@ -103,9 +105,9 @@ fn all_classes<R: Threads + Sync, C: Crew + Sync>(
     parts: &[Classes],
 ) -> Result<Classes, AllocError>
     requires keys { All (λ c. c < length rel.now.kinds) keys.now }
-    requires few_keys { length keys.now ≤ 16 }
+    requires few_keys { length keys.now ≤ COLUMN_LIMIT }
     requires some { 0 < workers }
-    requires few { workers ≤ 64 }
+    requires few { workers ≤ WORKER_LIMIT }
     requires parts { AreParts (λ p. HasKeys keys.now rel.now.rows (cut_at workers (length rel.now.rows) p) (cut_at workers (length rel.now.rows) (p + 1))) workers parts.now }
     ensures { IfOk result (λ classes. classes ≡ classes_of (map (key_of keys.now) rel.now.rows)) }
 {
@@ -133,7 +135,7 @@ fn first_places(
     parts: &[Classes],
 ) -> Result<Vec<u32>, AllocError>
     requires some { 0 < workers }
-    requires few { workers ≤ 64 }
+    requires few { workers ≤ WORKER_LIMIT }
     requires parts { AreParts (λ p. HasKeys keys.now rel.now.rows (cut_at workers (length rel.now.rows) p) (cut_at workers (length rel.now.rows) (p + 1))) workers parts.now }
     ensures numbers { IfOk result (λ places. StandFor (map (key_of keys.now) rel.now.rows) (length rel.now.rows) places.items (numbers_from 0 parts.now)) }
     ensures keys { IfOk result (λ places. length places.items ≡ key_total parts.now) }

@@ -27,7 +27,7 @@ pub fn lineage(
         Found::Places(places) => Ok(Local::of_one(places.into_side(turned, want.left))),
         Found::Groups(groups) => Ok(Local::of_one(groups.into_side(turned, want.left))),
         Found::Images(_, groups) => Ok(Local::of_one(groups.into_side(turned, want.left))),
-        Found::Pairs(pairs) => pairs.into_local(alloc, turned, want),
+        Found::RowPairs(pairs) => pairs.into_local(alloc, turned, want),
         Found::Behind(behind) => {
             let left = behind.left_side(alloc, want.left)?;
             let right = behind.right_side(alloc, want.right)?;
@@ -58,7 +58,7 @@ pub fn nothing(found: &Found) -> Local
         Found::Places(_) => Local::of_one(no_side()),
         Found::Groups(_) => Local::of_one(no_side()),
         Found::Images(_, _) => Local::of_one(no_side()),
-        Found::Pairs(_) => Local::of_both(no_side(), no_side()),
+        Found::RowPairs(_) => Local::of_both(no_side(), no_side()),
         Found::Behind(_) => Local::of_both(no_side(), no_side()),
         Found::Both(_) => Local::of_both(no_side(), no_side()),
     }
@@ -83,7 +83,7 @@ pub(crate) fn turned(alloc: Global, found: &Found, want: Want) -> Result<Option<
         Found::Places(places) => places.forward(alloc, want.left.fwd),
         Found::Groups(groups) => groups.backward(alloc, want.left.back),
         Found::Images(_, groups) => groups.backward(alloc, want.left.back),
-        Found::Pairs(pairs) => pairs.right_forward(alloc, want.right.fwd),
+        Found::RowPairs(pairs) => pairs.right_forward(alloc, want.right.fwd),
         Found::Behind(_) => Ok(None),
         Found::Both(_) => Ok(None),
     }

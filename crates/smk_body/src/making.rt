@@ -74,7 +74,7 @@ pub fn rows_and_turned2<R: Threads + Sync, C: Crew + Sync>(
     ensures turned { IfOk result (λ made. made.1 ≡ turned_of found.now want) }
 {
     match found {
-        Found::Pairs(pairs) => paired_and_turned(work, left, right, pairs, want.right.fwd),
+        Found::RowPairs(pairs) => paired_and_turned(work, left, right, pairs, want.right.fwd),
         Found::Behind(behind) => {
             prove!(behind.rows() <= ROW_LIMIT);
             Ok((all_rows(work.alloc, left, right)?, None))

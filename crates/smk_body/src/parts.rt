@@ -1,8 +1,9 @@
-//! Parts of the rows of an input.
+//! The parts of a step: stretches of the rows of its input.
 
 ghost use Rattle.std.specs.Prelude.{◌≡◌, ◌<◌, ◌≤◌, ◌+◌, ℕ, Ok, IfOk, length, map, slice_index_or, sum};
 ghost use Rattle.std.specs.Bool.{OnTrue, OnFalse};
 ghost use Rattle.smk_base.specs.declared.rel.TheConstants.{ROW_LIMIT};
+ghost use Rattle.smk_base.specs.declared.workers.TheConstants.{WORKER_LIMIT};
 ghost use Rattle.smk_body.specs.Cuts.{cut_at};
 
 use crate::crew::{Crew, Work};
@@ -15,7 +16,7 @@ use std::thread::{Threads, map_indices};
 #[tactic(auto, using(crate::proofs::Cutting::product_small))]
 pub(crate) fn cut_place(workers: u32, n: u32, p: u32) -> u32
     requires some { 0 < workers }
-    requires few { workers ≤ 64 }
+    requires few { workers ≤ WORKER_LIMIT }
     requires rows { n ≤ ROW_LIMIT }
     requires part { p ≤ workers }
     ensures { result ≡ cut_at workers n p }
@@ -26,7 +27,7 @@ pub(crate) fn cut_place(workers: u32, n: u32, p: u32) -> u32
 /// From which row up to which part p goes. It takes no memory.
 #[tactic(auto, using(crate::proofs::Cutting::cut_grows, crate::proofs::Cutting::cut_within))]
 pub(crate) fn cut_range(workers: u32, n: u32, p: u32) -> (u32, u32)
-    requires few { workers ≤ 64 }
+    requires few { workers ≤ WORKER_LIMIT }
     requires rows { n ≤ ROW_LIMIT }
     requires part { p < workers }
     ensures from { result.0 ≡ cut_at workers n p }

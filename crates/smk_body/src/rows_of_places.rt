@@ -1,4 +1,4 @@
-//! The rows at places, and beside them lists of the places.
+//! The rows of a step at places, and beside them lists of the places.
 
 ghost use Rattle.std.specs.Prelude.{◌≡◌, ◌<◌, ◌≤◌, All, IfOk, length};
 ghost use Rattle.std.specs.Bool.{OnTrue};

@@ -2,6 +2,7 @@
 
 ghost use Rattle.std.specs.Prelude.{◌≡◌, ◌<◌, ◌≤◌, ◌+◌, IfOk, length};
 ghost use Rattle.smk_base.specs.PlanImage.{formula_of};
+ghost use Rattle.smk_base.specs.declared.workers.TheConstants.{WORKER_LIMIT};
 ghost use Rattle.smk_model.specs.Kinds.{FormulaFits};
 ghost use Rattle.smk_model.specs.Lineage.{meeting};
 ghost use Rattle.smk_body.specs.Cuts.{AreParts, HasPlaces, cut_at};
@@ -54,7 +55,7 @@ fn parts_selected<R: Threads + Sync, C: Crew + Sync>(
     workers: u32,
 ) -> Result<Vec<Vec<u32>>, AllocError>
     requires fits { FormulaFits rel.now.kinds (formula_of pred.now) }
-    requires few { workers ≤ 64 }
+    requires few { workers ≤ WORKER_LIMIT }
     ensures { IfOk result (λ made. AreParts (λ p v. HasPlaces (formula_of pred.now) rel.now.rows (cut_at workers (length rel.now.rows) p) (cut_at workers (length rel.now.rows) (p + 1)) v.items) workers made.items) }
 {
     let made = in_parts(
@@ -75,7 +76,7 @@ fn part_selected<C: Crew>(
     p: usize,
 ) -> Result<Vec<u32>, AllocError>
     requires fits { FormulaFits rel.now.kinds (formula_of pred.now) }
-    requires few { workers ≤ 64 }
+    requires few { workers ≤ WORKER_LIMIT }
     requires part { p < workers }
     ensures { IfOk result (λ v. HasPlaces (formula_of pred.now) rel.now.rows (cut_at workers (length rel.now.rows) p) (cut_at workers (length rel.now.rows) (p + 1)) v.items) }
 {

@@ -3,6 +3,7 @@
 ghost use Rattle.std.specs.Prelude.{◌≡◌, ◌<◌, ◌≤◌, ◌+◌, ◌∷◌, [], IfOk, All, length, map};
 ghost use Rattle.smk_base.specs.Rels.{kind_in};
 ghost use Rattle.smk_base.specs.declared.value.Kind.TheVariants as kinds;
+ghost use Rattle.smk_base.specs.declared.workers.TheConstants.{WORKER_LIMIT};
 ghost use Rattle.smk_keys.specs.Classes.{classes_of};
 ghost use Rattle.smk_model.specs.Plain.{key_of};
 ghost use Rattle.smk_body.specs.Cuts.{AreParts, cut_at};
@@ -40,7 +41,7 @@ pub(crate) fn text_classes<R: Threads + Sync, C: Crew + Sync>(
     requires column { c < length rel.now.kinds }
     requires text { kind_in rel.now.kinds c ≡ kinds.Text }
     requires some { 0 < workers }
-    requires few { workers ≤ 64 }
+    requires few { workers ≤ WORKER_LIMIT }
     ensures { IfOk result (λ classes. classes ≡ classes_of (map (key_of (c ∷ [])) rel.now.rows)) }
 {
     let parts = parts_risen(work, rel, c, workers)?;
@@ -56,7 +57,7 @@ fn parts_risen<R: Threads + Sync, C: Crew + Sync>(
 ) -> Result<Vec<Vec<u32>>, AllocError>
     requires column { c < length rel.now.kinds }
     requires text { kind_in rel.now.kinds c ≡ kinds.Text }
-    requires few { workers ≤ 64 }
+    requires few { workers ≤ WORKER_LIMIT }
     ensures { IfOk result (λ made. AreParts (λ p v. AreRises (codes_of rel.now.rows c) (cut_at workers (length rel.now.rows) p) (cut_at workers (length rel.now.rows) (p + 1)) v.items) workers made.items) }
 {
     let made = in_parts(
@@ -78,7 +79,7 @@ fn part_risen<C: Crew>(
 ) -> Result<Vec<u32>, AllocError>
     requires column { c < length rel.now.kinds }
     requires text { kind_in rel.now.kinds c ≡ kinds.Text }
-    requires few { workers ≤ 64 }
+    requires few { workers ≤ WORKER_LIMIT }
     requires part { p < workers }
     ensures { IfOk result (λ v. AreRises (codes_of rel.now.rows c) (cut_at workers (length rel.now.rows) p) (cut_at workers (length rel.now.rows) (p + 1)) v.items) }
 {

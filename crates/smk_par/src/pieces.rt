@@ -1,4 +1,5 @@
 ghost use Rattle.std.specs.Prelude.{◌≡◌, ◌<◌, ◌≤◌};
+ghost use Rattle.smk_base.specs.declared.workers.TheConstants.{WORKER_LIMIT};
 
 use smk_base::{Dir, Op1, Op2, Rel};
 use smk_body::{Crew, Local, Made, OpBody, Want};
@@ -13,14 +14,14 @@ pub struct Pieces<'g, G: Gate + Sync, B: OpBody> {
     gate: &'g G,
     workers: u32,
     ghost some: { 0 < workers },
-    ghost few: { workers ≤ 64 },
+    ghost few: { workers ≤ WORKER_LIMIT },
 }
 
 impl<'g, G: Gate + Sync, B: OpBody> Pieces<'g, G, B> {
     /// A body of so many parts around another. It takes no memory.
     pub fn new(inner: B, gate: &'g G, workers: u32) -> Pieces<'g, G, B>
         requires some { 0 < workers }
-        requires few { workers ≤ 64 }
+        requires few { workers ≤ WORKER_LIMIT }
         ensures inner { result.inner ≡ inner }
         ensures workers { result.workers ≡ workers }
     {
