@@ -7,12 +7,9 @@ use Rattle.std.proofs.lemmas.List.Folds.{list_any_at}
 use Rattle.smk_base.specs.Places.{Lists}
 use Rattle.smk_body.specs.declared.local.Side.{Side}
 use Rattle.smk_compose.specs.Through.{chained, Chains, through, joined_maps, together, together_all, Passes, Matches, Meets, has_back, has_fwd, map_at, no_map, Serves, IsAhead}
-use Rattle.smk_compose.specs.declared.kept.KeptMap.{KeptMap}
+use Rattle.smk_compose.specs.declared.kept_maps.KeptMap.{KeptMap}
 use Rattle.smk_compose.proofs.Wants.{mk_same}
 use Rattle.smk_compose.proofs.Togethers.{together_at}
-
-pub ahead_first : (first : Side) (below : List KeptMap) → IsAhead first below first below 0
-ahead_first first below = record { long = refl; rest = refl; serves = record { back = λ e. refl; fwd = λ e. refl } }
 
 -- one map
 

@@ -9,7 +9,7 @@ use Rattle.smk_model.proofs.Pairs.{merged_has_both}
 use Rattle.smk_model.specs.NodeFaults.{pair_limit}
 use Rattle.smk_body.specs.declared.local.Side.{Side}
 use Rattle.smk_compose.specs.Through.{chained, joined, Joins, is_heavy, has_heavy, through, joined_maps, together, map_at, Matches}
-use Rattle.smk_compose.specs.declared.kept.KeptMap.{KeptMap}
+use Rattle.smk_compose.specs.declared.kept_maps.KeptMap.{KeptMap}
 
 pub composed_sets : (a b : Lists) → All (IsPlaces b.bound) (composed a b).lists
 composed_sets a b = All-map (IsPlaces b.bound) (members_at b) a.lists (λ k d l. members_set b (get_or a.lists k d))

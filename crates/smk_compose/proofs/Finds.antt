@@ -5,7 +5,7 @@ use Rattle.std.proofs.lemmas.Bool.{cases_Bool}
 use Rattle.std.proofs.lemmas.List.{take_more, take_more_set, take_all}
 use Rattle.smk_model.specs.NodeFaults.{FullPairs}
 use Rattle.smk_compose.specs.Through.{has_heavy, map_at, no_map, pairs_fault}
-use Rattle.smk_compose.specs.declared.kept.KeptMap.{KeptMap}
+use Rattle.smk_compose.specs.declared.kept_maps.KeptMap.{KeptMap}
 
 find_here : {X : Type 0} (t : X → Bool) (xs : List X) (i : ℕ) (d : X) → find t (take i xs) ≡ None → i < length xs → t (get_or xs i d) ≡ true → find t xs ≡ Some (get_or xs i d)
 find_here t [] i d none low is = absurd (omega arith)

@@ -1,5 +1,4 @@
 pub mod Lists
-pub mod Nodes
 pub mod Wants
 pub mod Owns
 pub mod Chains
@@ -12,3 +11,4 @@ pub mod Twos
 pub mod Counts
 pub mod Scans
 pub mod Bridge
+pub mod Walks

@@ -1,7 +1,6 @@
 -- Lists of Rels and of rids.
 use Rattle.std.proofs.Common.{◌≡◌, ◌∙◌, ◌+◌, ◌<◌, ◌≤◌, ℕ, zero, suc, List, [], ◌∷◌, ◌++◌, length, map, drop, get_or, All, Bool, true, Some, None, refl, sym, ap, subst, arith, inl, inr, nat_eq}
 use Rattle.std.specs.List.{find}
-use Rattle.std.proofs.Math.Seq.{drop-nil}
 use Rattle.std.proofs.Math.ListN.{get_or-map}
 use Rattle.std.proofs.lemmas.Bool.{cases_Bool}
 use Rattle.std.proofs.lemmas.List.{map-append, drop-map, length-map, get_or_default}
@@ -26,11 +25,6 @@ rows_behind n rels = sym (drop-map (λ rel. rel.rows) n rels)
 
 pub kinds_behind : (n : ℕ) (rels : List Relation) → each_kinds (drop n rels) ≡ drop n (each_kinds rels)
 kinds_behind n rels = sym (drop-map (λ rel. rel.kinds) n rels)
-
-pub behind_both : (m n : ℕ) (rels : List Relation) → drop n (drop m rels) ≡ drop (m + n) rels
-behind_both zero n rels = let e : zero + n ≡ n = omega arith in rw e refl
-behind_both (suc m) n [] = ap (λ (l : List Relation). drop n l) (drop-nil {A = Relation} (suc m)) ∙ drop-nil {A = Relation} n ∙ sym (drop-nil {A = Relation} (suc m + n))
-behind_both (suc m) n (x ∷ xs) = let e : suc m + n ≡ suc (m + n) = omega arith in rw e (behind_both m n xs)
 
 -- the i-th of ascending numbers is at least i, so there are at most n below n
 at_least : (A : List ℕ) → IsAscending A → (i : ℕ) → i < length A → i ≤ get_or A i 0

@@ -1,6 +1,5 @@
 -- The maps of a plan whose last step has one input, from those of its input.
-use Rattle.std.proofs.Common.{◌≡◌, ◌∙◌, ◌+◌, ℕ, Bool, true, false, ◌&&◌, List, length, map, get_or, Option, Some, None, refl, sym, ap, subst, All}
-use Rattle.std.specs.Option.{option_or}
+use Rattle.std.proofs.Common.{◌≡◌, ◌∙◌, ◌<◌, ℕ, Bool, true, false, ◌&&◌, List, [], ◌∷◌, length, map, get_or, Some, refl, sym, ap, subst, arith, All}
 use Rattle.std.proofs.lemmas.List.{length-map}
 use Rattle.std.proofs.lemmas.List.Elements.{All-map}
 use Rattle.smk_base.specs.Places.{Lists, has, upto, composed}
@@ -10,15 +9,12 @@ use Rattle.smk_model.specs.Plain.{step1, leaves}
 use Rattle.smk_model.specs.Lineage.{places, from1}
 use Rattle.smk_model.specs.Locals.{back1, fwd1}
 use Rattle.smk_model.specs.Composed.{rows_over, backs, forwards}
-use Rattle.smk_model.specs.Selection.{nodes}
 use Rattle.smk_model.proofs.Places.{map_map, length_upto}
 use Rattle.smk_model.proofs.Composed.{backs_compose, forwards_compose, lists_stand}
 use Rattle.smk_body.specs.Locals.{wanted}
-use Rattle.smk_model.specs.NodeFaults.{NodeFault}
-use Rattle.smk_compose.specs.Kept.{held_at}
+use Rattle.smk_compose.specs.KeptMaps.{held_at}
 use Rattle.smk_compose.specs.Through.{chained, Chains, through, side1, Passes, node_fault}
-use Rattle.smk_compose.specs.Over.{fault_over, walk_fault}
-use Rattle.smk_compose.specs.declared.kept.KeptMap.{KeptMap}
+use Rattle.smk_compose.specs.declared.kept_maps.KeptMap.{KeptMap}
 use Rattle.smk_base.specs.declared.need.Needed.{Needed}
 use Rattle.smk_compose.proofs.Wants.{mk_same, map_agree}
 
@@ -63,25 +59,18 @@ passes_at op input tables n =
       fwd = last_fits (n.dir.fwd && has (leaves input) n.table) (forwards input tables n.table) (fwd1 op L) (sym size);
     }
 
--- what the walk knows of its input
+-- where something is needed, these are the rows of a plan over whole tables
+abbrev pub RowsWhereNeeded : Expr → List (List Row) → List Needed → List Row → Type 0
+RowsWhereNeeded plan tables need L = 0 < length need → L ≡ rows_over plan tables
 
-pub one_held : (plan : Expr) (op : Unary) (input : Expr) (tables : List (List Row)) (need : List Needed) (L : List Row) (below : List KeptMap) → plan ≡ Apply op input → L ≡ rows_over input tables → below ≡ map (held_at input tables) need
-    → map (through (side1 op L)) below ≡ map (held_at plan tables) need
-one_held plan op input tables need L below e rows maps =
-    ap (λ (M : List Row). map (through (side1 op M)) below) rows
-    ∙ ap (map (through (side1 op (rows_over input tables)))) maps
-    ∙ maps_through op input tables need
-    ∙ ap (λ (p : Expr). map (held_at p tables) need) (sym e)
+pub one_held : (op : Unary) (input : Expr) (tables : List (List Row)) (need : List Needed) (L : List Row) (below : List KeptMap) → RowsWhereNeeded input tables need L → below ≡ map (held_at input tables) need
+    → map (through (side1 op L)) below ≡ map (held_at (Apply op input) tables) need
+one_held op input tables [] L below rows maps = ap (map (through (side1 op L))) maps
+one_held op input tables (n ∷ need) L below rows maps =
+    ap (λ (M : List Row). map (through (side1 op M)) below) (rows (omega arith)) ∙ ap (map (through (side1 op (rows_over input tables)))) maps ∙ maps_through op input tables (n ∷ need)
 
-pub one_all_pass : (op : Unary) (input : Expr) (tables : List (List Row)) (need : List Needed) (L : List Row) (below : List KeptMap) → L ≡ rows_over input tables → below ≡ map (held_at input tables) need → All (Passes (side1 op L)) below
-one_all_pass op input tables need L below rows maps =
-    let here : All (Passes (side1 op (rows_over input tables))) (map (held_at input tables) need) = All-map (Passes (side1 op (rows_over input tables))) (held_at input tables) need (λ k d l. passes_at op input tables (get_or need k d)) in
-    subst (λ (M : List Row). All (Passes (side1 op M)) below) (sym rows) (subst (λ (l : List KeptMap). All (Passes (side1 op (rows_over input tables))) l) (sym maps) here)
-
-pub one_fault : (plan : Expr) (op : Unary) (input : Expr) (tables : List (List Row)) (need : List Needed) (L : List Row) (below : List KeptMap) (node m : ℕ)
-    → plan ≡ Apply op input → L ≡ rows_over input tables → below ≡ map (held_at input tables) need → m ≡ node + nodes input → walk_fault input tables need node ≡ None
-    → node_fault m (step1 op L) (map (through (side1 op L)) below) ≡ walk_fault plan tables need node
-one_fault plan op input tables need L below node m e rows maps number none =
-    node_same number (ap (step1 op) rows) (one_held (Apply op input) op input tables need L below refl rows maps)
-    ∙ ap (λ (o : Option NodeFault). option_or o (fault_over (Apply op input) tables need (node + nodes input))) (sym none)
-    ∙ ap (λ (p : Expr). walk_fault p tables need node) (sym e)
+pub one_all_pass : (op : Unary) (input : Expr) (tables : List (List Row)) (need : List Needed) (L : List Row) (below : List KeptMap) → RowsWhereNeeded input tables need L → below ≡ map (held_at input tables) need → All (Passes (side1 op L)) below
+one_all_pass op input tables [] L below rows maps = subst (All (Passes (side1 op L))) (sym maps) (λ k d l. absurd (omega arith))
+one_all_pass op input tables (n ∷ need) L below rows maps =
+    let here : All (Passes (side1 op (rows_over input tables))) (map (held_at input tables) (n ∷ need)) = All-map (Passes (side1 op (rows_over input tables))) (held_at input tables) (n ∷ need) (λ k d l. passes_at op input tables (get_or (n ∷ need) k d)) in
+    subst (λ (M : List Row). All (Passes (side1 op M)) below) (sym (rows (omega arith))) (subst (λ (l : List KeptMap). All (Passes (side1 op (rows_over input tables))) l) (sym maps) here)

@@ -1,17 +1,18 @@
 -- The maps of both inputs of a step, one after the other.
-use Rattle.std.proofs.Common.{◌≡◌, ◌∙◌, ◌<◌, ℕ, zero, suc, List, [], ◌∷◌, length, get_or, Option, IsTrue, is_some, refl, sym, ap, subst, arith}
+use Rattle.std.proofs.Common.{◌≡◌, ◌∙◌, ◌<◌, ℕ, zero, suc, List, [], ◌∷◌, length, get_or, Option, refl, ap, subst, arith}
 use Rattle.smk_base.specs.Places.{Lists}
 use Rattle.smk_base.specs.declared.plan.Dir.{Dir}
 use Rattle.smk_base.specs.Plans.{Binary}
+use Rattle.smk_base.specs.Rels.{Relation}
 use Rattle.smk_model.specs.Values.{Row}
 use Rattle.smk_model.specs.Locals.{back_left, fwd_left, back_right, fwd_right}
 use Rattle.smk_body.specs.Locals.{side_of, local2}
 use Rattle.smk_body.specs.declared.local.Side.{Side}
 use Rattle.smk_body.specs.declared.local.Local.{Local}
 use Rattle.smk_body.specs.declared.local.Want.{Want}
-use Rattle.smk_compose.specs.Through.{joined, Joins, together, together_all, Meets, want_of, right_of, map_at, no_map, side_left, side_right}
-use Rattle.smk_compose.specs.declared.kept.KeptMap.{KeptMap}
-use Rattle.smk_compose.proofs.Wants.{mk_same, full, chained_back, chained_fwd, passes_wanted}
+use Rattle.smk_compose.specs.Through.{joined, Joins, together, together_all, want_of, right_of, map_at, no_map, side_left, side_right}
+use Rattle.smk_compose.specs.declared.kept_maps.KeptMap.{KeptMap}
+use Rattle.smk_compose.proofs.Wants.{mk_same, full, chained_back, chained_fwd}
 
 pub together_long : (ls rs : Side) (lefts rights : List KeptMap) → length lefts ≡ length rights → length (together_all ls rs lefts rights) ≡ length lefts
 together_long ls rs [] rights long = refl
@@ -57,29 +58,9 @@ two_maps op L R lefts rights want m left right is =
 pub joins_along : {a b x y : Option Lists} → a ≡ b → x ≡ y → Joins a x → Joins b y
 joins_along {a} {b} {x} {y} p q h = subst (λ (z : Option Lists). Joins b z) q (subst (λ (z : Option Lists). Joins z x) p h)
 
-meets_wanted : (B F C G : Lists) (lefts rights : List KeptMap) (i : ℕ) → i < length lefts → i < length rights → Meets (full B F) (full C G) (map_at lefts i) (map_at rights i)
-    → Meets (side_of (want_of lefts) B F) (side_of (want_of rights) C G) (map_at lefts i) (map_at rights i)
-meets_wanted B F C G lefts rights i p q h = record {
-  left = passes_wanted (want_of lefts) B F (map_at lefts i) h.left;
-  right = passes_wanted (want_of rights) C G (map_at rights i) h.right;
-  matches = record {
-    back = joins_along (sym (chained_back lefts B i no_map p)) (sym (chained_back rights C i no_map q)) h.matches.back;
-    fwd = joins_along (sym (chained_fwd lefts F i no_map p)) (sym (chained_fwd rights G i no_map q)) h.matches.fwd;
-  };
-}
-
-pub two_meets : (op : Binary) (L R : List Row) (lefts rights : List KeptMap) (want : Want) (m : Local) → want.left ≡ want_of lefts → want.right ≡ want_of rights → m ≡ local2 op L R want → length lefts ≡ length rights
-    → ((i : ℕ) → i < length lefts → Meets (side_left op L R) (side_right op L R) (map_at lefts i) (map_at rights i))
-    → (i : ℕ) → i < length lefts → Meets m.left (right_of m) (map_at lefts i) (map_at rights i)
-two_meets op L R lefts rights want m left right is long h i p =
-    let at = λ (l r : Side). Meets l r (map_at lefts i) (map_at rights i) in
-    let here = meets_wanted (back_left op L R) (fwd_left op L R) (back_right op L R) (fwd_right op L R) lefts rights i p (omega arith) (h i p) in
-    let one = subst (λ (w : Dir). at (side_of w (back_left op L R) (fwd_left op L R)) (side_of (want_of rights) (back_right op L R) (fwd_right op L R))) (sym left) here in
-    let two = subst (λ (w : Dir). at (side_of want.left (back_left op L R) (fwd_left op L R)) (side_of w (back_right op L R) (fwd_right op L R))) (sym right) one in
-    subst (λ (l : Local). at l.left (right_of l)) (sym is) two
-
-pub two_sides : (op : Binary) (L R : List Row) (want : Want) (m : Local) → m ≡ local2 op L R want → IsTrue (is_some m.right)
-two_sides op L R want m is = subst (λ (l : Local). IsTrue (is_some l.right)) (sym is) refl
-
 pub lists_same : (ls rs : Side) {us vs xs ys : List KeptMap} → us ≡ vs → xs ≡ ys → together_all ls rs us xs ≡ together_all ls rs vs ys
 lists_same ls rs p q = rw (p, q) refl
+
+-- what holds of the rows and maps of both inputs holds of equal ones
+pub same_inputs : (P : Relation → List KeptMap → Relation → List KeptMap → Type 0) {a b x y : Relation} {j k m n : List KeptMap} → a ≡ b → j ≡ k → x ≡ y → m ≡ n → P a j x m → P b k y n
+same_inputs P {a} {b} {x} {y} {j} {k} {m} {n} p q r s h = subst (P b k y) s (subst (λ (v : Relation). P b k v m) r (subst (λ (l : List KeptMap). P b l x m) q (subst (λ (v : Relation). P v j x m) p h)))

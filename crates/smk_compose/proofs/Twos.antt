@@ -1,6 +1,5 @@
 -- The maps of a plan whose last step has two inputs, from those of its inputs.
-use Rattle.std.proofs.Common.{◌≡◌, ◌∙◌, ◌+◌, ◌<◌, ℕ, Bool, true, false, ◌&&◌, ◌||◌, List, [], ◌∷◌, ◌++◌, length, map, get_or, Option, Some, None, nat_eq, refl, sym, ap, subst, arith}
-use Rattle.std.specs.Option.{option_or}
+use Rattle.std.proofs.Common.{◌≡◌, ◌∙◌, ◌<◌, ℕ, Bool, true, false, ◌&&◌, ◌||◌, List, [], ◌∷◌, ◌++◌, length, map, get_or, Some, nat_eq, refl, sym, ap, subst, arith}
 use Rattle.std.proofs.lemmas.List.{length-map, get_or-map}
 use Rattle.std.proofs.lemmas.List.Folds.{list_any-append}
 use Rattle.smk_base.specs.Places.{Lists, has, upto, places, members_at, composed, merged}
@@ -10,20 +9,17 @@ use Rattle.smk_model.specs.Plain.{step2, leaves}
 use Rattle.smk_model.specs.Lineage.{from_left, from_right}
 use Rattle.smk_model.specs.Locals.{back_left, fwd_left, back_right, fwd_right}
 use Rattle.smk_model.specs.Composed.{table_at, rows_over, backs, forwards}
-use Rattle.smk_model.specs.Selection.{nodes}
 use Rattle.smk_model.proofs.Places.{length_upto}
 use Rattle.smk_model.proofs.Composed.{backs_compose, forwards_compose, lists_stand}
 use Rattle.smk_body.specs.Locals.{wanted}
-use Rattle.smk_model.specs.NodeFaults.{NodeFault}
-use Rattle.smk_compose.specs.Kept.{held_at}
-use Rattle.smk_compose.specs.Through.{chained, joined, Joins, together, together_all, side_left, side_right, Meets, map_at, no_map, no_need, node_fault}
-use Rattle.smk_compose.specs.Over.{fault_over, walk_fault}
-use Rattle.smk_compose.specs.declared.kept.KeptMap.{KeptMap}
+use Rattle.smk_compose.specs.KeptMaps.{held_at}
+use Rattle.smk_compose.specs.Through.{chained, joined, Joins, together, together_all, side_left, side_right, Meets, map_at, no_map, no_need}
+use Rattle.smk_compose.specs.declared.kept_maps.KeptMap.{KeptMap}
 use Rattle.smk_base.specs.declared.need.Needed.{Needed}
 use Rattle.smk_compose.proofs.Chains.{composed_sets}
 use Rattle.smk_compose.proofs.Wants.{mk_same}
 use Rattle.smk_compose.proofs.Togethers.{joined_same, joins_along, lists_same}
-use Rattle.smk_compose.proofs.Ones.{first_fits, last_fits, node_same}
+use Rattle.smk_compose.proofs.Ones.{RowsWhereNeeded, first_fits, last_fits}
 use Rattle.smk_compose.proofs.Alone.{IsVoid, empty_void, composed_void, void_composed, merged_left, merged_right}
 
 -- the wanted lists of both sides, each where its side has the table
@@ -129,44 +125,30 @@ meets_at op a b tables n =
       };
     }
 
--- what the walk knows of its inputs
+-- where something is needed
 
-pub two_held : (plan : Expr) (op : Binary) (a b : Expr) (tables : List (List Row)) (need : List Needed) (L R : List Row) (lefts rights : List KeptMap)
-    → plan ≡ Combine op a b → L ≡ rows_over a tables → R ≡ rows_over b tables → lefts ≡ map (held_at a tables) need → rights ≡ map (held_at b tables) need
-    → together_all (side_left op L R) (side_right op L R) lefts rights ≡ map (held_at plan tables) need
-two_held plan op a b tables need L R lefts rights e l r ls rs =
-    ap (λ (M : List Row). together_all (side_left op M R) (side_right op M R) lefts rights) l
-    ∙ ap (λ (M : List Row). together_all (side_left op (rows_over a tables) M) (side_right op (rows_over a tables) M) lefts rights) r
+pub two_held : (op : Binary) (a b : Expr) (tables : List (List Row)) (need : List Needed) (L R : List Row) (lefts rights : List KeptMap)
+    → RowsWhereNeeded a tables need L → RowsWhereNeeded b tables need R → lefts ≡ map (held_at a tables) need → rights ≡ map (held_at b tables) need
+    → together_all (side_left op L R) (side_right op L R) lefts rights ≡ map (held_at (Combine op a b) tables) need
+two_held op a b tables [] L R lefts rights l r ls rs = lists_same (side_left op L R) (side_right op L R) ls rs
+two_held op a b tables (n ∷ need) L R lefts rights l r ls rs =
+    ap (λ (M : List Row). together_all (side_left op M R) (side_right op M R) lefts rights) (l (omega arith))
+    ∙ ap (λ (M : List Row). together_all (side_left op (rows_over a tables) M) (side_right op (rows_over a tables) M) lefts rights) (r (omega arith))
     ∙ lists_same (side_left op (rows_over a tables) (rows_over b tables)) (side_right op (rows_over a tables) (rows_over b tables)) ls rs
-    ∙ maps_together op a b tables need
-    ∙ ap (λ (p : Expr). map (held_at p tables) need) (sym e)
+    ∙ maps_together op a b tables (n ∷ need)
 
 pub two_all_meet : (op : Binary) (a b : Expr) (tables : List (List Row)) (need : List Needed) (L R : List Row) (lefts rights : List KeptMap)
-    → L ≡ rows_over a tables → R ≡ rows_over b tables → lefts ≡ map (held_at a tables) need → rights ≡ map (held_at b tables) need
+    → RowsWhereNeeded a tables need L → RowsWhereNeeded b tables need R → lefts ≡ map (held_at a tables) need → rights ≡ map (held_at b tables) need
     → (i : ℕ) → i < length lefts → Meets (side_left op L R) (side_right op L R) (map_at lefts i) (map_at rights i)
 two_all_meet op a b tables need L R lefts rights l r ls rs i low =
     let M = rows_over a tables in
     let N = rows_over b tables in
     let inside : i < length need = omega (arith, low, ap (length {A = KeptMap}) ls, length-map need (held_at a tables)) in
+    let some : 0 < length need = omega arith in
     let left : map_at lefts i ≡ held_at a tables (get_or need i no_need) = ap (λ (k : List KeptMap). map_at k i) ls ∙ get_or-map (held_at a tables) need i no_need no_map inside in
     let right : map_at rights i ≡ held_at b tables (get_or need i no_need) = ap (λ (k : List KeptMap). map_at k i) rs ∙ get_or-map (held_at b tables) need i no_need no_map inside in
     let here = meets_at op a b tables (get_or need i no_need) in
     let one = subst (λ (k : KeptMap). Meets (side_left op M N) (side_right op M N) k (held_at b tables (get_or need i no_need))) (sym left) here in
     let two = subst (λ (k : KeptMap). Meets (side_left op M N) (side_right op M N) (map_at lefts i) k) (sym right) one in
-    let three = subst (λ (K : List Row). Meets (side_left op K N) (side_right op K N) (map_at lefts i) (map_at rights i)) (sym l) two in
-    subst (λ (K : List Row). Meets (side_left op L K) (side_right op L K) (map_at lefts i) (map_at rights i)) (sym r) three
-
-pub two_rows : (plan : Expr) (op : Binary) (a b : Expr) (tables : List (List Row)) (L R : List Row) → plan ≡ Combine op a b → L ≡ rows_over a tables → R ≡ rows_over b tables → step2 op L R ≡ rows_over plan tables
-two_rows plan op a b tables L R e l r =
-    ap (λ (M : List Row). step2 op M R) l ∙ ap (λ (M : List Row). step2 op (rows_over a tables) M) r ∙ sym (backs_compose.rows_two op a b tables) ∙ ap (λ (p : Expr). rows_over p tables) (sym e)
-
-pub two_fault : (plan : Expr) (op : Binary) (a b : Expr) (tables : List (List Row)) (need : List Needed) (L R : List Row) (lefts rights : List KeptMap) (node m : ℕ)
-    → plan ≡ Combine op a b → L ≡ rows_over a tables → R ≡ rows_over b tables → lefts ≡ map (held_at a tables) need → rights ≡ map (held_at b tables) need → m ≡ node + nodes a + nodes b
-    → walk_fault a tables need node ≡ None → walk_fault b tables need (node + nodes a) ≡ None
-    → node_fault m (step2 op L R) (together_all (side_left op L R) (side_right op L R) lefts rights) ≡ walk_fault plan tables need node
-two_fault plan op a b tables need L R lefts rights node m e l r ls rs number none_a none_b =
-    let last = fault_over (Combine op a b) tables need (node + nodes a + nodes b) in
-    node_same number (two_rows (Combine op a b) op a b tables L R refl l r) (two_held (Combine op a b) op a b tables need L R lefts rights refl l r ls rs)
-    ∙ ap (λ (o : Option NodeFault). option_or o last) (sym none_b)
-    ∙ ap (λ (o : Option NodeFault). option_or o (option_or (walk_fault b tables need (node + nodes a)) last)) (sym none_a)
-    ∙ ap (λ (p : Expr). walk_fault p tables need node) (sym e)
+    let three = subst (λ (K : List Row). Meets (side_left op K N) (side_right op K N) (map_at lefts i) (map_at rights i)) (sym (l some)) two in
+    subst (λ (K : List Row). Meets (side_left op L K) (side_right op L K) (map_at lefts i) (map_at rights i)) (sym (r some)) three

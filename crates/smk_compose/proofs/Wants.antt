@@ -1,5 +1,5 @@
 -- A step that gives its lists in the directions in which its inputs have maps does for them what all its lists would do.
-use Rattle.std.proofs.Common.{◌≡◌, ◌∙◌, ◌<◌, ◌≤◌, ℕ, suc, Bool, true, false, List, [], ◌∷◌, length, map, get_or, Option, Some, None, is_some, refl, sym, ap, subst, arith, inl, inr, All}
+use Rattle.std.proofs.Common.{◌≡◌, ◌∙◌, ◌<◌, ◌≤◌, ℕ, suc, Bool, true, false, List, [], ◌∷◌, length, map, get_or, Option, Some, None, is_some, refl, ap, arith, inl, inr}
 use Rattle.std.proofs.lemmas.Bool.{cases_Bool}
 use Rattle.std.proofs.lemmas.List.Folds.{list_any_at}
 use Rattle.smk_base.specs.Places.{Lists}
@@ -13,8 +13,8 @@ use Rattle.smk_model.proofs.Sizes.{adds_no_rows}
 use Rattle.smk_body.specs.Locals.{wanted, side_of, local1}
 use Rattle.smk_body.specs.declared.local.Local.{Local}
 use Rattle.smk_body.specs.declared.local.Side.{Side}
-use Rattle.smk_compose.specs.Through.{chained, Chains, through, Passes, has_back, has_fwd, want_of, side1, pairs_fault, node_fault}
-use Rattle.smk_compose.specs.declared.kept.KeptMap.{KeptMap}
+use Rattle.smk_compose.specs.Through.{chained, through, has_back, has_fwd, want_of, side1, pairs_fault, node_fault}
+use Rattle.smk_compose.specs.declared.kept_maps.KeptMap.{KeptMap}
 
 abbrev pub mk : ℕ → Option Lists → Option Lists → KeptMap
 mk table back fwd = record { table = table; back = back; fwd = fwd }
@@ -53,30 +53,12 @@ through_wanted maps B F = map_agree (through (side_of (want_of maps) B F)) (thro
     let k = get_or maps i d in
     mk_same refl (first_wanted (want_of maps).back B k.back (back_wants maps i d low)) (second_wanted (want_of maps).fwd F k.fwd (fwd_wants maps i d low)))
 
-first_chains : (w : Bool) (B : Lists) (b : Option Lists) → Chains (Some B) b → Chains (wanted w B) b
-first_chains true B b h = h
-first_chains false B b h = tt
-
-second_chains : (w : Bool) (F : Lists) (f : Option Lists) → Chains f (Some F) → Chains f (wanted w F)
-second_chains true F f h = h
-second_chains false F None h = tt
-second_chains false F (Some x) h = tt
-
-pub passes_wanted : (want : Dir) (B F : Lists) (k : KeptMap) → Passes (full B F) k → Passes (side_of want B F) k
-passes_wanted want B F k h = record { back = first_chains want.back B k.back h.back; fwd = second_chains want.fwd F k.fwd h.fwd }
-
-pub all_pass : (want : Dir) (B F : Lists) (maps : List KeptMap) → All (Passes (full B F)) maps → All (Passes (side_of want B F)) maps
-all_pass want B F maps h k d low = passes_wanted want B F (get_or maps k d) (h k d low)
-
 -- the maps of a step with one input
 pub one_maps : (op : Unary) (L : List Row) (below : List KeptMap) (want : Dir) (m : Local) → want ≡ want_of below → m ≡ local1 op L want → map (through m.left) below ≡ map (through (side1 op L)) below
 one_maps op L below want m asked is =
     ap (λ (l : Local). map (through l.left) below) is
     ∙ ap (λ (w : Dir). map (through (side_of w (back1 op L) (fwd1 op L))) below) asked
     ∙ through_wanted below (back1 op L) (fwd1 op L)
-
-pub one_passes : (op : Unary) (L : List Row) (below : List KeptMap) (want : Dir) (m : Local) → m ≡ local1 op L want → All (Passes (side1 op L)) below → All (Passes m.left) below
-one_passes op L below want m is all = subst (λ (l : Local). All (Passes l.left) below) (sym is) (all_pass want (back1 op L) (fwd1 op L) below all)
 
 -- a node with few rows has the fault of its pairs
 pub few_fault : (node : ℕ) (rows : List Row) (maps : List KeptMap) → length rows ≤ 1048576 → node_fault node rows maps ≡ pairs_fault node maps

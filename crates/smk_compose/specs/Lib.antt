@@ -1,5 +1,4 @@
 pub mod Fetched
 pub mod Walk
-pub mod Kept
-pub mod Over
+pub mod KeptMaps
 pub mod Through

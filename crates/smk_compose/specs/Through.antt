@@ -12,7 +12,7 @@ use Rattle.smk_body.specs.Locals.{wanted}
 use Rattle.smk_body.specs.declared.local.Side.{Side}
 use Rattle.smk_body.specs.declared.local.Local.{Local}
 use Rattle.smk_model.specs.NodeFaults.{NodeFault, FullRows, FullPairs, pair_limit}
-use Rattle.smk_compose.specs.declared.kept.KeptMap.{KeptMap}
+use Rattle.smk_compose.specs.declared.kept_maps.KeptMap.{KeptMap}
 use Rattle.smk_compose.specs.declared.chain.Composed.{Composed}
 use Rattle.smk_compose.specs.declared.chain.Composed.TheVariants as chains
 use Rattle.smk_compose.specs.declared.fault.RunFault.{RunFault}

@@ -4,6 +4,7 @@ ghost use Rattle.std.specs.Prelude.{◌≡◌, ◌<◌, ◌≤◌, true, false, 
 ghost use Rattle.smk_base.specs.Places.{pairs_of, composed};
 ghost use Rattle.smk_compose.specs.Through.{chained, chain_of, joined, is_heavy, Chains, Joins};
 ghost use Rattle.smk_rid.specs.declared.fault.RidFault.TheVariants.{Pairs};
+ghost use Rattle.smk_rid.specs.declared.map.TheConstants.{PAIR_LIMIT};
 
 use smk_rid::{RidFault, RidMap};
 use std::alloc::Global;
@@ -38,8 +39,8 @@ fn chain(
 fn chain_maps(alloc: Global, a: &RidMap, b: &RidMap) -> Result<Composed, RidFault>
     requires { a.now.bound ≡ length b.now.lists }
     ensures made { IfOk result (λ chain. chain_of chain (Some a.now) (Some b.now) ≡ Some (composed a.now b.now)) }
-    ensures few { IfOk result (λ _. pairs_of (composed a.now b.now).lists ≤ 16777216) }
-    ensures many { IfErr result (λ e. e ≡ Pairs → 16777216 < pairs_of (composed a.now b.now).lists) }
+    ensures few { IfOk result (λ _. pairs_of (composed a.now b.now).lists ≤ PAIR_LIMIT) }
+    ensures many { IfErr result (λ e. e ≡ Pairs → PAIR_LIMIT < pairs_of (composed a.now b.now).lists) }
 {
     let _pairs = a.pairs();
     let _pairs = b.pairs();

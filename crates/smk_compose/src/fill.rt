@@ -1,11 +1,11 @@
 ghost use Rattle.std.specs.Prelude.{◌≡◌, ◌<◌, ℕ, length, slice_index_or, OnOk};
 ghost use Rattle.smk_model.specs.Selection.{each_rows};
 ghost use Rattle.smk_model.specs.Composed.{table_at};
-ghost use Rattle.smk_compose.specs.Kept.{NeedFits};
+ghost use Rattle.smk_compose.specs.KeptMaps.{NeedFits};
 ghost use Rattle.smk_compose.specs.Through.{filled, or_empty, map_at, no_need};
 
 use crate::chain::put;
-use crate::kept::KeptMap;
+use crate::kept_maps::KeptMap;
 use smk_base::{Dir, Needed};
 use smk_rid::RidMap;
 use smk_table::Table;

@@ -7,7 +7,7 @@ ghost use Rattle.smk_rid.specs.declared.fault.RidFault.TheVariants.{Pairs};
 
 use crate::chain::{join, pass_back, pass_fwd};
 use crate::fault::RunFault;
-use crate::kept::KeptMap;
+use crate::kept_maps::KeptMap;
 use smk_base::Dir;
 use smk_body::Side;
 use smk_rid::RidFault;

@@ -39,15 +39,3 @@ pub(crate) fn choose_rids<L: Ledger>(
     let _rows = table.len();
     table.choose(alloc, rids, steps)
 }
-
-/// All rows of a table, one look each, also where it wants memory.
-pub fn fetch_whole<L: Ledger>(
-    alloc: Global,
-    table: &Table,
-    steps: &mut Steps<L>,
-) -> Result<Rel, AllocError>
-    ensures rows { IfOk result (λ rel. rel ≡ table.now) }
-    ensures looks { steps.new ≡ steps.old + length table.now.rows }
-{
-    table.whole(alloc, steps)
-}

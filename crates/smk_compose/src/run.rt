@@ -1,21 +1,19 @@
-ghost use Rattle.std.specs.Prelude.{◌≡◌, ◌||◌, ◌+◌, ◌<◌, ◌≤◌, ◌^◌, ℕ, IsTrue, nat_eq, length, map, IfOk, IfErr, OnOk, None};
-ghost use Rattle.smk_base.specs.declared.rel.TheConstants.{ROW_LIMIT};
+ghost use Rattle.std.specs.Prelude.{◌≡◌, ◌||◌, ◌+◌, ◌<◌, ◌≤◌, ◌^◌, ℕ, IsTrue, nat_eq, length, map, slice_index_or, IfOk, IfErr, OnOk, None};
 ghost use Rattle.smk_base.specs.PlanImage.{expr_of};
 ghost use Rattle.smk_model.specs.Plain.{whole};
-ghost use Rattle.smk_model.specs.Composed.{rows_over};
+ghost use Rattle.smk_model.specs.Composed.{rows_over, table_at};
 ghost use Rattle.smk_model.specs.Selection.{each_rows, each_kinds, leaf_kinds, plan_kinds, rows_in, PlanFits, ScansFit, nodes};
 ghost use Rattle.smk_model.specs.NodeFaults.{first_fault, asked_of};
-ghost use Rattle.smk_compose.specs.Kept.{NeedFits, kept_at, held_at};
-ghost use Rattle.smk_compose.specs.Through.{IsFirst, scan_at};
-ghost use Rattle.smk_compose.specs.Over.{kinds_over, FitsOver, walk_fault};
+ghost use Rattle.smk_compose.specs.KeptMaps.{NeedFits, kept_at};
+ghost use Rattle.smk_compose.specs.Through.{IsFirst, filled, map_at, no_need};
 
 use crate::fault::RunFault;
+use crate::fetch::fetch_leaves;
 use crate::fill::fill;
-use crate::kept::{Kepts, Run};
-use crate::rows::fetch_whole;
-use crate::scan::scan_maps;
-use crate::step::{run_one, run_two};
-use smk_base::{Need, Needed, Plan};
+use crate::kept_maps::{Kepts, Run, Walked};
+use crate::leaves::Leaves;
+use crate::walk::walk;
+use smk_base::{Need, Needed, Picks, Plan};
 use smk_body::{OpBody, Work};
 use smk_outside::Steps;
 use smk_table::Table;
@@ -26,6 +24,7 @@ use std::thread::Threads;
 /// A plan over whole tables: its rows, and exactly the needed lineage, in the order of need. A needed table that the plan doesn't scan has empty lists.
 ///
 /// It is refused exactly where some node has too many rows, or too many pairs with a needed table, at the first such node in post-order, and there at its rows and then at the first such table. Each row of a leaf is at most one look, also where it is refused.
+#[tactic(auto, using(crate::proofs::Walks::over_whole))]
 pub fn run_plan<R: Threads + Sync, B: OpBody + Sync, L: Ledger>(
     rt: &R,
     alloc: Global,
@@ -47,95 +46,75 @@ pub fn run_plan<R: Threads + Sync, B: OpBody + Sync, L: Ledger>(
     ensures fault { IfErr result (λ e. IsFirst e (first_fault (expr_of plan.now) (whole (expr_of plan.now) (each_rows tables.now)) (asked_of (each_rows tables.now) need.now))) }
     ensures looks { steps.new ≤ steps.old + rows_in (whole (expr_of plan.now) (each_rows tables.now)) }
 {
+    let leaves = fetch_leaves(alloc, plan, tables, &Picks::new(alloc), steps)?;
+    run_leaves(rt, alloc, body, plan, tables, need, leaves)
+}
+
+/// A plan over leaves that are its tables whole: what `run_plan` answers, without a look.
+pub fn run_leaves<R: Threads + Sync, B: OpBody + Sync>(
+    rt: &R,
+    alloc: Global,
+    body: &B,
+    plan: &Plan,
+    tables: &[Table],
+    need: &Need,
+    leaves: Leaves,
+) -> Result<Run, RunFault>
+    requires scans { ScansFit (length tables.now) (expr_of plan.now) }
+    requires nodes { nodes (expr_of plan.now) < 2 ^ 32 }
+    requires fits { PlanFits (expr_of plan.now) (leaf_kinds (expr_of plan.now) (each_kinds tables.now)) }
+    requires need { NeedFits (length tables.now) need.now }
+    requires captured { IsTrue (B.may_capture body.now || nat_eq (length need.now) 0) }
+    requires rows { each_rows leaves ≡ whole (expr_of plan.now) (each_rows tables.now) }
+    requires kinds { each_kinds leaves ≡ leaf_kinds (expr_of plan.now) (each_kinds tables.now) }
+    ensures rows { IfOk result (λ run. run.rel.rows ≡ rows_over (expr_of plan.now) (each_rows tables.now)) }
+    ensures kinds { IfOk result (λ run. run.rel.kinds ≡ plan_kinds (expr_of plan.now) (leaf_kinds (expr_of plan.now) (each_kinds tables.now))) }
+    ensures kept { IfOk result (λ run. run.kept ≡ map (kept_at (expr_of plan.now) (each_rows tables.now)) need.now) }
+    ensures none { OnOk result (first_fault (expr_of plan.now) (whole (expr_of plan.now) (each_rows tables.now)) (asked_of (each_rows tables.now) need.now) ≡ None) }
+    ensures fault { IfErr result (λ e. IsFirst e (first_fault (expr_of plan.now) (whole (expr_of plan.now) (each_rows tables.now)) (asked_of (each_rows tables.now) need.now))) }
+{
     let work = Work {
         rt,
         alloc,
         crew: body,
     };
+    let mut rest = leaves;
     let mut number = 0;
-    let Run { rel, kept } = run_node(&work, plan, tables, need.as_slice(), steps, &mut number)?;
+    let need = need.as_slice();
+    let walked = walk(&work, plan, tables, need, &mut rest, &mut number)?;
+    Ok(filled_run(alloc, walked, tables, need)?)
+}
+
+// What a walk has made, in columns that copies share, with an empty map for each that is needed and isn't there.
+fn filled_run(
+    alloc: Global,
+    walked: Walked,
+    tables: &[Table],
+    need: &[Needed],
+) -> Result<Run, AllocError>
+    requires long { length walked.kept ≡ length need.now }
+    requires known { NeedFits (length tables.now) need.now }
+    ensures rel { IfOk result (λ run. run.rel ≡ walked.rel) }
+    ensures long { IfOk result (λ run. length run.kept ≡ length walked.kept) }
+    ensures each { IfOk result (λ run. (i : ℕ) → i < length need.now → let n = slice_index_or need.now i no_need in map_at run.kept i ≡ filled n.dir (length walked.rel.rows) (length (table_at (each_rows tables.now) n.table)) (map_at walked.kept i)) }
+{
+    let Run { rel, kept } = walked.gathered(alloc)?;
     let rows = rel.len();
     let mut maps = kept.into_vec();
-    match fill(alloc, &mut maps, need.as_slice(), rows, tables) {
+    match fill(alloc, &mut maps, need, rows, tables) {
         Ok(()) => match rel.shared(alloc) {
             Ok(rel) => Ok(Run {
                 rel,
                 kept: Kepts::from_vec(maps),
             }),
-            Err(_) => {
+            Err(error) => {
                 drop(maps);
-                Err(RunFault::NoMemory)
+                Err(error)
             }
         },
-        Err(_) => {
-            drop(rel);
-            drop(maps);
-            Err(RunFault::NoMemory)
-        }
-    }
-}
-
-// A plan's rows, and the needed lineage to the tables that it scans. Its nodes are numbered from `number` on, which then is the number behind them.
-fn run_node<R: Threads + Sync, B: OpBody + Sync, L: Ledger>(
-    work: &Work<'_, R, B>,
-    plan: &Plan,
-    tables: &[Table],
-    need: &[Needed],
-    steps: &mut Steps<L>,
-    number: &mut u32,
-) -> Result<Run, RunFault>
-    requires scans { ScansFit (length tables.now) (expr_of plan.now) }
-    requires few_nodes { number.old + nodes (expr_of plan.now) < 2 ^ 32 }
-    requires fits { FitsOver (expr_of plan.now) (each_kinds tables.now) }
-    requires captured { IsTrue (B.may_capture work.now.crew.now || nat_eq (length need.now) 0) }
-    ensures counted { OnOk result (number.new ≡ number.old + nodes (expr_of plan.now)) }
-    ensures rows { IfOk result (λ run. run.rel.rows ≡ rows_over (expr_of plan.now) (each_rows tables.now)) }
-    ensures kinds { IfOk result (λ run. run.rel.kinds ≡ kinds_over (expr_of plan.now) (each_kinds tables.now)) }
-    ensures kept { IfOk result (λ run. run.kept ≡ map (held_at (expr_of plan.now) (each_rows tables.now)) need.now) }
-    ensures none { OnOk result (walk_fault (expr_of plan.now) (each_rows tables.now) need.now number.old ≡ None) }
-    ensures fault { IfErr result (λ e. IsFirst e (walk_fault (expr_of plan.now) (each_rows tables.now) need.now number.old)) }
-    ensures looks { steps.new ≤ steps.old + rows_in (whole (expr_of plan.now) (each_rows tables.now)) }
-{
-    match plan {
-        Plan::Scan(table) => {
-            let run = run_scan(work.alloc, *table, &tables[*table as usize], need, steps)?;
-            *number += 1;
-            Ok(run)
-        }
-        Plan::One(op, input) => {
-            let below = run_node(work, input, tables, need, steps, number)?;
-            let node = *number;
-            *number += 1;
-            run_one(work, op, below.rel, below.kept, node)
-        }
-        Plan::Two(op, left, right) => {
-            let l = run_node(work, left, tables, need, steps, number)?;
-            let r = run_node(work, right, tables, need, steps, number)?;
-            let node = *number;
-            *number += 1;
-            run_two(work, op, l, r, node)
-        }
-    }
-}
-
-// The rows of a table that is scanned, and the needed lineage to the tables, of which it is the one with this number.
-fn run_scan<L: Ledger>(
-    alloc: Global,
-    number: u32,
-    table: &Table,
-    need: &[Needed],
-    steps: &mut Steps<L>,
-) -> Result<Run, AllocError>
-    ensures rel { IfOk result (λ run. run.rel ≡ table.now) }
-    ensures few { IfOk result (λ run. length run.rel.rows ≤ ROW_LIMIT) }
-    ensures kept { IfOk result (λ run. run.kept ≡ map (scan_at number (length run.rel.rows)) need.now) }
-    ensures looks { steps.new ≡ steps.old + length table.now.rows }
-{
-    let rel = fetch_whole(alloc, table, steps)?;
-    match scan_maps(alloc, number, rel.len(), need) {
-        Ok(kept) => Ok(Run { rel, kept }),
         Err(error) => {
             drop(rel);
+            drop(maps);
             Err(error)
         }
     }

@@ -4,7 +4,7 @@ ghost use Rattle.smk_base.specs.Places.{own_lists};
 ghost use Rattle.smk_body.specs.Locals.{wanted};
 ghost use Rattle.smk_compose.specs.Through.{scan_at};
 
-use crate::kept::{KeptMap, Kepts};
+use crate::kept_maps::{KeptMap, Kepts};
 use smk_base::Needed;
 use smk_rid::RidMap;
 use std::alloc::{AllocError, Global};

@@ -6,26 +6,55 @@ ghost use Rattle.smk_body.specs.Locals.{is_nothing, is_nothing2};
 ghost use Rattle.smk_compose.specs.Through.{through, together_all, side1, side_left, side_right, right_of, want_of, map_at, Passes, Meets, pairs_fault, node_fault, IsFirst};
 
 use crate::fault::RunFault;
-use crate::kept::{KeptMap, Kepts, Run};
+use crate::kept_maps::{KeptMap, Kepts, Run, Walked};
 use crate::pass::{meet_all, pass_all, wants};
 use smk_base::{Op1, Op2, Rel};
 use smk_body::{OpBody, OpFault, Want, Work};
+use smk_table::{Chosen, Narrowed, narrow};
 use std::thread::Threads;
 
-/// A step with one input, which is the node with this number: its rows, and the maps of its input through it.
+/// A step with one input, which is the node with this number: its rows, and the maps of its input through it. Of a leaf without maps no columns are gathered but those that the step names.
 pub(crate) fn run_one<R: Threads + Sync, B: OpBody + Sync>(
+    work: &Work<'_, R, B>,
+    op: &Op1,
+    below: Walked,
+    node: u32,
+) -> Result<Walked, RunFault>
+    requires fits { Fits1 (unary_of op.now) below.rel.kinds }
+    requires captured { IsTrue (B.may_capture work.now.crew.now || is_nothing (want_of below.kept)) }
+    requires passes { All (Passes (side1 (unary_of op.now) below.rel.rows)) below.kept }
+    ensures rows { IfOk result (λ made. made.rel.rows ≡ step1 (unary_of op.now) below.rel.rows) }
+    ensures kinds { IfOk result (λ made. made.rel.kinds ≡ kinds1 (unary_of op.now) below.rel.kinds) }
+    ensures kept { IfOk result (λ made. made.kept ≡ map (through (side1 (unary_of op.now) below.rel.rows)) below.kept) }
+    ensures none { OnOk result (node_fault node (step1 (unary_of op.now) below.rel.rows) (map (through (side1 (unary_of op.now) below.rel.rows)) below.kept) ≡ None) }
+    ensures fault { IfErr result (λ e. IsFirst e (node_fault node (step1 (unary_of op.now) below.rel.rows) (map (through (side1 (unary_of op.now) below.rel.rows)) below.kept))) }
+{
+    let Walked { rel, kept, is_leaf } = below;
+    if is_leaf && kept.as_slice().is_empty() {
+        let Narrowed { op, rel } = narrow(work.alloc, op, rel)?;
+        let made = apply_one(work, &op, rel, kept, node);
+        drop(op);
+        made
+    } else {
+        let rel = rel.rel(work.alloc)?;
+        apply_one(work, op, rel, kept, node)
+    }
+}
+
+// The same over rows that are gathered.
+fn apply_one<R: Threads + Sync, B: OpBody + Sync>(
     work: &Work<'_, R, B>,
     op: &Op1,
     input: Rel,
     below: Kepts,
     node: u32,
-) -> Result<Run, RunFault>
+) -> Result<Walked, RunFault>
     requires fits { Fits1 (unary_of op.now) input.kinds }
     requires captured { IsTrue (B.may_capture work.now.crew.now || is_nothing (want_of below)) }
     requires passes { All (Passes (side1 (unary_of op.now) input.rows)) below }
-    ensures rows { IfOk result (λ run. run.rel.rows ≡ step1 (unary_of op.now) input.rows) }
-    ensures kinds { IfOk result (λ run. run.rel.kinds ≡ kinds1 (unary_of op.now) input.kinds) }
-    ensures kept { IfOk result (λ run. run.kept ≡ map (through (side1 (unary_of op.now) input.rows)) below) }
+    ensures rows { IfOk result (λ made. made.rel.rows ≡ step1 (unary_of op.now) input.rows) }
+    ensures kinds { IfOk result (λ made. made.rel.kinds ≡ kinds1 (unary_of op.now) input.kinds) }
+    ensures kept { IfOk result (λ made. made.kept ≡ map (through (side1 (unary_of op.now) input.rows)) below) }
     ensures none { OnOk result (node_fault node (step1 (unary_of op.now) input.rows) (map (through (side1 (unary_of op.now) input.rows)) below) ≡ None) }
     ensures fault { IfErr result (λ e. IsFirst e (node_fault node (step1 (unary_of op.now) input.rows) (map (through (side1 (unary_of op.now) input.rows)) below))) }
 {
@@ -35,9 +64,10 @@ pub(crate) fn run_one<R: Threads + Sync, B: OpBody + Sync>(
         Ok((rel, pending)) => {
             let mut maps = below.into_vec();
             match finish_one(work, pending, &mut maps, node) {
-                Ok(()) => Ok(Run {
-                    rel,
+                Ok(()) => Ok(Walked {
+                    rel: Chosen::of_rel(rel),
                     kept: Kepts::from_vec(maps),
+                    is_leaf: false,
                 }),
                 Err(fault) => {
                     drop(rel);
@@ -78,17 +108,40 @@ fn finish_one<R: Threads + Sync, B: OpBody + Sync>(
 pub(crate) fn run_two<R: Threads + Sync, B: OpBody + Sync>(
     work: &Work<'_, R, B>,
     op: &Op2,
-    left: Run,
-    right: Run,
+    left: Walked,
+    right: Walked,
     node: u32,
-) -> Result<Run, RunFault>
+) -> Result<Walked, RunFault>
     requires fits { Fits2 (binary_of op.now) left.rel.kinds right.rel.kinds }
     requires captured { IsTrue (B.may_capture work.now.crew.now || is_nothing2 (record { left = want_of left.kept; right = want_of right.kept })) }
     requires long { length left.kept ≡ length right.kept }
     requires meets { (i : ℕ) → i < length left.kept → Meets (side_left (binary_of op.now) left.rel.rows right.rel.rows) (side_right (binary_of op.now) left.rel.rows right.rel.rows) (map_at left.kept i) (map_at right.kept i) }
-    ensures rows { IfOk result (λ run. run.rel.rows ≡ step2 (binary_of op.now) left.rel.rows right.rel.rows) }
-    ensures kinds { IfOk result (λ run. run.rel.kinds ≡ kinds2 (binary_of op.now) left.rel.kinds right.rel.kinds) }
-    ensures kept { IfOk result (λ run. run.kept ≡ together_all (side_left (binary_of op.now) left.rel.rows right.rel.rows) (side_right (binary_of op.now) left.rel.rows right.rel.rows) left.kept right.kept) }
+    ensures rows { IfOk result (λ made. made.rel.rows ≡ step2 (binary_of op.now) left.rel.rows right.rel.rows) }
+    ensures kinds { IfOk result (λ made. made.rel.kinds ≡ kinds2 (binary_of op.now) left.rel.kinds right.rel.kinds) }
+    ensures kept { IfOk result (λ made. made.kept ≡ together_all (side_left (binary_of op.now) left.rel.rows right.rel.rows) (side_right (binary_of op.now) left.rel.rows right.rel.rows) left.kept right.kept) }
+    ensures none { OnOk result (node_fault node (step2 (binary_of op.now) left.rel.rows right.rel.rows) (together_all (side_left (binary_of op.now) left.rel.rows right.rel.rows) (side_right (binary_of op.now) left.rel.rows right.rel.rows) left.kept right.kept) ≡ None) }
+    ensures fault { IfErr result (λ e. IsFirst e (node_fault node (step2 (binary_of op.now) left.rel.rows right.rel.rows) (together_all (side_left (binary_of op.now) left.rel.rows right.rel.rows) (side_right (binary_of op.now) left.rel.rows right.rel.rows) left.kept right.kept))) }
+{
+    let l = left.gathered(work.alloc)?;
+    let r = right.gathered(work.alloc)?;
+    apply_two(work, op, l, r, node)
+}
+
+// The same over rows that are gathered.
+fn apply_two<R: Threads + Sync, B: OpBody + Sync>(
+    work: &Work<'_, R, B>,
+    op: &Op2,
+    left: Run,
+    right: Run,
+    node: u32,
+) -> Result<Walked, RunFault>
+    requires fits { Fits2 (binary_of op.now) left.rel.kinds right.rel.kinds }
+    requires captured { IsTrue (B.may_capture work.now.crew.now || is_nothing2 (record { left = want_of left.kept; right = want_of right.kept })) }
+    requires long { length left.kept ≡ length right.kept }
+    requires meets { (i : ℕ) → i < length left.kept → Meets (side_left (binary_of op.now) left.rel.rows right.rel.rows) (side_right (binary_of op.now) left.rel.rows right.rel.rows) (map_at left.kept i) (map_at right.kept i) }
+    ensures rows { IfOk result (λ made. made.rel.rows ≡ step2 (binary_of op.now) left.rel.rows right.rel.rows) }
+    ensures kinds { IfOk result (λ made. made.rel.kinds ≡ kinds2 (binary_of op.now) left.rel.kinds right.rel.kinds) }
+    ensures kept { IfOk result (λ made. made.kept ≡ together_all (side_left (binary_of op.now) left.rel.rows right.rel.rows) (side_right (binary_of op.now) left.rel.rows right.rel.rows) left.kept right.kept) }
     ensures none { OnOk result (node_fault node (step2 (binary_of op.now) left.rel.rows right.rel.rows) (together_all (side_left (binary_of op.now) left.rel.rows right.rel.rows) (side_right (binary_of op.now) left.rel.rows right.rel.rows) left.kept right.kept) ≡ None) }
     ensures fault { IfErr result (λ e. IsFirst e (node_fault node (step2 (binary_of op.now) left.rel.rows right.rel.rows) (together_all (side_left (binary_of op.now) left.rel.rows right.rel.rows) (side_right (binary_of op.now) left.rel.rows right.rel.rows) left.kept right.kept))) }
 {
@@ -114,9 +167,10 @@ pub(crate) fn run_two<R: Threads + Sync, B: OpBody + Sync>(
             let met = finish_two(work, pending, &mut lefts, &mut rights, node);
             drop(rights);
             match met {
-                Ok(()) => Ok(Run {
-                    rel,
+                Ok(()) => Ok(Walked {
+                    rel: Chosen::of_rel(rel),
                     kept: Kepts::from_vec(lefts),
+                    is_leaf: false,
                 }),
                 Err(fault) => {
                     drop(rel);
