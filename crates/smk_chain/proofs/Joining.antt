@@ -22,8 +22,8 @@ use Rattle.smk_model.proofs.OneEach.{one_each}
 use Rattle.smk_body.specs.Locals.{wanted}
 use Rattle.smk_body.specs.Halves.{AreNumbered}
 use Rattle.smk_body.proofs.Classing.{are_numbered, length_firsts}
-use Rattle.smk_compose.specs.declared.kept.KeptMap.{KeptMap}
-use Rattle.smk_compose.specs.Kept.{kept_at}
+use Rattle.smk_compose.specs.declared.kept_maps.KeptMap.{KeptMap}
+use Rattle.smk_compose.specs.KeptMaps.{kept_at}
 use Rattle.smk_compose.specs.Through.{chained, Chains, is_heavy, map_at, no_map, no_need}
 use Rattle.smk_model.specs.Growth.{is_chain, is_growing, regrouping, all_over_parts}
 use Rattle.smk_model.specs.GrowthLaws.{HasGrown, both_rows}

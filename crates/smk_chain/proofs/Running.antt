@@ -14,9 +14,9 @@ use Rattle.smk_model.specs.Kinds.{AggFits, kind_of_agg}
 use Rattle.smk_model.specs.LineageLaws.{selected_table}
 use Rattle.smk_model.specs.Selection.{each_kinds, each_rows, PlanFits, ScansFit, leaf_kinds, plan_kinds}
 use Rattle.smk_model.specs.Tables.{IsBase}
-use Rattle.smk_compose.specs.declared.kept.KeptMap.{KeptMap}
-use Rattle.smk_compose.specs.declared.kept.Run.{Run}
-use Rattle.smk_compose.specs.Kept.{NeedFits, kept_at}
+use Rattle.smk_compose.specs.declared.kept_maps.KeptMap.{KeptMap}
+use Rattle.smk_compose.specs.declared.kept_maps.Run.{Run}
+use Rattle.smk_compose.specs.KeptMaps.{NeedFits, kept_at}
 use Rattle.smk_compose.specs.Through.{map_at, no_need}
 use Rattle.smk_model.specs.Growth.{is_chain, is_growing, all_over_parts}
 use Rattle.smk_chain.specs.Parts.{AreMaps, MapsFit}

@@ -7,9 +7,9 @@ use Rattle.smk_base.specs.Plans.{Expr}
 use Rattle.smk_model.specs.Values.{Row}
 use Rattle.smk_model.specs.Composed.{table_at, rows_over}
 use Rattle.smk_model.specs.Selection.{leaf_kinds, plan_kinds}
-use Rattle.smk_compose.specs.declared.kept.KeptMap.{KeptMap}
-use Rattle.smk_compose.specs.declared.kept.Run.{Run}
-use Rattle.smk_compose.specs.Kept.{kept_at}
+use Rattle.smk_compose.specs.declared.kept_maps.KeptMap.{KeptMap}
+use Rattle.smk_compose.specs.declared.kept_maps.Run.{Run}
+use Rattle.smk_compose.specs.KeptMaps.{kept_at}
 use Rattle.smk_chain.specs.Runs.{run_over, tables_before, tables_behind}
 
 -- what `run_plan` gives is one run

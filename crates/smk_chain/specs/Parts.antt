@@ -9,8 +9,8 @@ use Rattle.smk_model.specs.Composed.{table_at}
 use Rattle.smk_model.specs.Locals.{singles}
 use Rattle.smk_model.specs.NodeFaults.{pair_limit}
 use Rattle.smk_body.specs.Locals.{wanted}
-use Rattle.smk_compose.specs.declared.kept.KeptMap.{KeptMap}
-use Rattle.smk_compose.specs.Kept.{NeedFits}
+use Rattle.smk_compose.specs.declared.kept_maps.KeptMap.{KeptMap}
+use Rattle.smk_compose.specs.KeptMaps.{NeedFits}
 use Rattle.smk_compose.specs.Through.{chained, Chains, is_heavy, map_at, no_need}
 
 -- the lists of both, the second behind the first, where there are two

@@ -10,8 +10,8 @@ use Rattle.smk_model.specs.Values.{Row}
 use Rattle.smk_model.specs.Plain.{key_of, step1}
 use Rattle.smk_model.specs.Composed.{table_at, rows_over}
 use Rattle.smk_model.specs.Selection.{leaf_kinds, plan_kinds}
-use Rattle.smk_compose.specs.declared.kept.Run.{Run}
-use Rattle.smk_compose.specs.Kept.{kept_at}
+use Rattle.smk_compose.specs.declared.kept_maps.Run.{Run}
+use Rattle.smk_compose.specs.KeptMaps.{kept_at}
 use Rattle.smk_model.specs.Growth.{all_over_parts}
 use Rattle.smk_chain.specs.Parts.{joint_maps}
 

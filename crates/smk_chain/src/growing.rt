@@ -7,17 +7,18 @@ ghost use Rattle.smk_model.specs.Kinds.{AggFits};
 ghost use Rattle.smk_model.specs.LineageLaws.{selected_table};
 ghost use Rattle.smk_model.specs.Selection.{each_kinds, each_rows, leaf_kinds, PlanFits, ScansFit};
 ghost use Rattle.smk_base.specs.declared.rel.TheConstants.{ROW_LIMIT};
-ghost use Rattle.smk_compose.specs.Kept.{NeedFits};
+ghost use Rattle.smk_compose.specs.KeptMaps.{NeedFits};
 ghost use Rattle.smk_model.specs.Growth.{all_over_parts, is_growing};
 ghost use Rattle.smk_chain.specs.Parts.{joint_maps, AreMaps};
 ghost use Rattle.smk_chain.specs.Runs.{chain_run, group_run, joint_classes, joint_groups, run_over, tables_before, tables_behind};
 
-use crate::chains::{grouping_of, scanned_table};
+use crate::chains::grouping_of;
 use crate::groups::regrouped;
 use crate::maps::maps_of_both;
 use smk_base::{Agg, Aggs, Keys, Need, Needed, Plan, Rel};
 use smk_compose::{KeptMap, Run};
 use smk_keys::Classes;
+use smk_marks::scanned_table;
 use smk_table::Table;
 use std::alloc::{AllocError, Global};
 

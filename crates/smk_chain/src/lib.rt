@@ -6,5 +6,4 @@ mod groups;
 mod growing;
 mod maps;
 
-pub use chains::{is_growing, scanned_table};
 pub use growing::grown;

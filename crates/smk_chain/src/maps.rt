@@ -5,6 +5,7 @@ ghost use Rattle.smk_base.specs.Places.{composed, empty_lists, pairs_of};
 ghost use Rattle.smk_body.specs.Locals.{wanted};
 ghost use Rattle.smk_model.specs.Selection.{each_rows};
 ghost use Rattle.smk_compose.specs.Through.{chained, Chains, is_heavy};
+ghost use Rattle.smk_rid.specs.declared.map.TheConstants.{PAIR_LIMIT};
 ghost use Rattle.smk_chain.specs.Parts.{both_maps, by_classes, followed_maps, joint_maps, void_map, AreMaps, AreRegrouped, Follows, IsRegrouped, MapsFit};
 
 use smk_base::Needed;
@@ -228,7 +229,7 @@ fn composed_if(
 
 fn composed_maps(alloc: Global, a: &RidMap, b: &RidMap) -> Result<Option<RidMap>, AllocError>
     requires chains { a.now.bound ≡ length b.now.lists }
-    requires few { pairs_of (composed a.now b.now).lists ≤ 16777216 }
+    requires few { pairs_of (composed a.now b.now).lists ≤ PAIR_LIMIT }
     ensures { IfOk result (λ made. made ≡ Some (composed a.now b.now)) }
 {
     match a.compose(alloc, b) {

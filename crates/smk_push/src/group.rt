@@ -1,4 +1,4 @@
-//! The groups of some rows of a relation.
+//! One grouping: the groups of some rows of a relation.
 ghost use Rattle.std.specs.Prelude.{◌≡◌, ◌<◌, ◌≤◌, length, map, All, IfOk};
 ghost use Rattle.smk_base.specs.Places.{IsPlaces};
 ghost use Rattle.smk_base.specs.Cells.{value_of_cell};

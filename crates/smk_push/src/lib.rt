@@ -1,4 +1,4 @@
-//! A grouping pushed into capture: it is made for every list of a map, so that an answer reads it off.
+//! Groupings pushed into capture: one is made for every list of a map, so that an answer reads it off.
 #![tactic(auto)]
 
 mod cubes;

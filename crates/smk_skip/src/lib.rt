@@ -1,4 +1,4 @@
-//! The lists of a map split by the values of a column, so that the rids with a value are found without the others.
+//! Splits of the lists of a map by the values of a column, so that the rids with a value are found without the others.
 #![tactic(auto)]
 
 mod order;

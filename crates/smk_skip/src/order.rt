@@ -1,4 +1,4 @@
-//! The rids of lists one after the other, and other lists as places among them.
+//! The order of a split: the rids of lists one after the other, and other lists as places among them.
 ghost use Rattle.std.specs.Prelude.{◌≡◌, ◌≤◌, ◌<◌, length, All, IfOk};
 ghost use Rattle.std.specs.List.{concat};
 ghost use Rattle.smk_base.specs.Places.{pairs_of, composed};

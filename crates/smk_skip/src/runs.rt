@@ -1,4 +1,4 @@
-//! The rids of a stretch of an order that some lists of places reach.
+//! What a split answers: the rids of a stretch of its order that some lists of places reach.
 ghost use Rattle.std.specs.Prelude.{◌≡◌, ◌+◌, ◌<◌, ◌≤◌, ◌&&◌, ◌++◌, nat_le, nat_lt, length, All, IfOk, OnOk};
 ghost use Rattle.std.specs.List.{filter, flat_map, AllPairs};
 ghost use Rattle.std.specs.List.Sorted.{IsPartitionPoint};

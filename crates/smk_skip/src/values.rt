@@ -1,4 +1,4 @@
-//! The distinct values of a column, and the rids with each of them.
+//! The values of a split: the distinct ones of a column, and the rids with each of them.
 ghost use Rattle.std.specs.Prelude.{◌≡◌, ◌<◌, ◌≤◌, ℕ, Bool, false, length, All, IfOk, slice_index_or, pos, position};
 ghost use Rattle.std.specs.List.{concat, filter};
 ghost use Rattle.smk_base.specs.Places.{places};

@@ -3,7 +3,7 @@ use Rattle.smk_base.specs.PlanImage.{expr_of}
 use Rattle.smk_base.specs.declared.need.Needed.{Needed}
 use Rattle.smk_model.specs.LineageLaws.{selected_table}
 use Rattle.smk_model.specs.Selection.{each_kinds, each_rows}
-use Rattle.smk_compose.specs.declared.kept.Run.{Run}
+use Rattle.smk_compose.specs.declared.kept_maps.Run.{Run}
 use Rattle.smk_chain.specs.Runs.{chain_run, group_run, joint_classes}
 use Rattle.smk_chain.proofs.Joining.{scans_below}
 use Rattle.smk_chain.proofs.Running.{runs_of, few_of, chain_fit, chain_run_is, group_goals, maps_of}

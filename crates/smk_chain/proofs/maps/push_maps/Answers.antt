@@ -6,7 +6,7 @@ use Rattle.smk_base.specs.Rels.{Relation}
 use Rattle.smk_model.specs.Selection.{each_rows}
 use Rattle.smk_model.specs.Composed.{table_at}
 use Rattle.smk_rid.proofs.Sets.{map_upto_more}
-use Rattle.smk_compose.specs.declared.kept.KeptMap.{KeptMap}
+use Rattle.smk_compose.specs.declared.kept_maps.KeptMap.{KeptMap}
 use Rattle.smk_compose.specs.Through.{map_at, no_map, no_need}
 use Rattle.smk_chain.specs.Parts.{joint_map_at}
 use Rattle.smk_chain.proofs.maps.push_maps.Goals as goal

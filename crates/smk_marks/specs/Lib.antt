@@ -1,0 +1,4 @@
+pub mod Marks
+pub mod MarkLaws
+pub mod Views
+pub mod KeptLaws

@@ -1,0 +1,65 @@
+-- Groups of selected rows by the marks that the rows reach: which rows a chain keeps, what it makes of each, and the grouping of what it makes by marks in place of keys.
+use Rattle.std.specs.Prelude.{ℕ, pos, Bool, ◌&&◌, true, false, nat_eq, nat_lt, List, [], ◌∷◌, ◌++◌, length, map, take, slice_index_or}
+use Rattle.std.specs.List.{flat_map, filter}
+use Rattle.smk_base.specs.Places.{Lists, list_at, places}
+use Rattle.smk_base.specs.declared.value.Value.TheVariants.{Int}
+use Rattle.smk_base.specs.declared.plan.Agg.{Agg}
+use Rattle.smk_base.specs.declared.plan.Agg.TheVariants.{Count, Sum, Min, Max}
+use Rattle.smk_base.specs.Plans.{Selection, Projection, Distinction, Grouping, Expr, Leaf, Apply, Combine}
+use Rattle.smk_model.specs.Values.{Row, meets}
+use Rattle.smk_model.specs.Plain.{image, aggregate}
+use Rattle.smk_model.specs.Lineage.{row_at, sub}
+use Rattle.smk_keys.specs.Classes.{first_items}
+
+-- what the projections of a chain make of a row
+abbrev pub made : Expr → Row → Row
+made (Leaf table) row = row
+made (Apply (Selection formula) input) row = made input row
+made (Apply (Projection items) input) row = image items (made input row)
+made (Apply (Distinction items) input) row = made input row
+made (Apply (Grouping keys aggs) input) row = made input row
+made (Combine op left right) row = made left row
+
+-- whether a row meets every formula of a chain, each of what the chain has made of it by then
+abbrev pub passes : Expr → Row → Bool
+passes (Leaf table) row = true
+passes (Apply (Selection formula) input) row = passes input row && meets formula (made input row)
+passes (Apply (Projection items) input) row = passes input row
+passes (Apply (Distinction items) input) row = passes input row
+passes (Apply (Grouping keys aggs) input) row = passes input row
+passes (Combine op left right) row = passes left row
+
+-- the places in S whose list has a member
+abbrev pub kept : Lists → List ℕ → List ℕ
+kept forward S = filter (λ s. nat_lt 0 (length (list_at forward s))) S
+
+-- the members of the lists at the places in S, one after the other
+abbrev pub marks_at : Lists → List ℕ → List ℕ
+marks_at forward S = flat_map (list_at forward) S
+
+-- the rows at the places that have this mark
+abbrev pub with_mark : List ℕ → List Row → ℕ → List Row
+with_mark marks rows m = sub rows (places (λ i. nat_eq (slice_index_or marks i 0) m) (length rows))
+
+-- the group of a mark: the key of the content's row at the mark, and the aggregates over the rows that have the mark
+abbrev pub marked_group : ℕ → List Agg → List Row → List ℕ → List Row → ℕ → Row
+marked_group k aggs content marks rows m = take k (row_at content m) ++ map (aggregate (with_mark marks rows m)) aggs
+
+-- the groups of the marks, in the order in which each mark comes first
+abbrev pub marked_groups : ℕ → List Agg → List Row → List ℕ → List Row → List Row
+marked_groups k aggs content marks rows = map (marked_group k aggs content marks rows) (first_items nat_eq marks)
+
+-- the aggregates over the rows of each mark, in the order in which each mark comes first
+abbrev pub marked_values : List Agg → List ℕ → List Row → List Row
+marked_values aggs marks rows = map (λ m. map (aggregate (with_mark marks rows m)) aggs) (first_items nat_eq marks)
+
+-- a row of a mark alone
+abbrev pub mark_row : ℕ → Row
+mark_row m = Int (pos m) ∷ []
+
+-- whether an aggregate reads no column
+abbrev pub is_count : Agg → Bool
+is_count Count = true
+is_count (Sum c) = false
+is_count (Min c) = false
+is_count (Max c) = false

@@ -1,0 +1,93 @@
+-- What is kept of a view that is a grouping over a chain, and the groups that are made of what chosen rows of its table reach.
+use Rattle.std.specs.Prelude.{◌≡◌, ◌<◌, ◌≤◌, ◌+◌, ℕ, true, cond, List, [], ◌∷◌, ◌++◌, length, map, nat_eq, Option, Some, None, All}
+use Rattle.std.specs.List.{list_all}
+use Rattle.smk_base.specs.PlanImage.{expr_of}
+use Rattle.smk_base.specs.Places.{upto}
+use Rattle.smk_base.specs.Plans.{Apply, Grouping, Expr}
+use Rattle.smk_base.specs.Rels.{Relation, kind_in}
+use Rattle.smk_base.specs.declared.plan.Agg.{Agg}
+use Rattle.smk_base.specs.declared.plan.Agg.TheVariants.{Count, Sum, Min, Max}
+use Rattle.smk_base.specs.declared.rel.TheConstants.{ROW_LIMIT}
+use Rattle.smk_base.specs.declared.value.Kind.{Kind}
+use Rattle.smk_base.specs.declared.value.Kind.TheVariants.{Int}
+use Rattle.smk_keys.specs.Classes.{classes_of, first_items}
+use Rattle.smk_model.specs.Growth.{is_chain}
+use Rattle.smk_model.specs.Kinds.{AggFits, kind_of_agg}
+use Rattle.smk_model.specs.Lineage.{sub}
+use Rattle.smk_model.specs.Selection.{PlanFits, plan_kinds}
+use Rattle.smk_model.specs.Values.{value_at}
+use Rattle.smk_marks.specs.Marks.{is_count, kept, made, mark_row, marked_groups}
+use Rattle.smk_marks.specs.declared.columns.MarkColumn.{MarkColumn}
+use Rattle.smk_marks.specs.declared.reached.Reached.{Reached}
+use Rattle.smk_marks.specs.declared.view.GroupedChain.{GroupedChain}
+use Rattle.smk_marks.specs.declared.view.KeptView.{KeptView}
+
+-- a grouping over a chain, as a plan
+abbrev pub plan_of : GroupedChain → Expr
+plan_of last = Apply (Grouping last.keys.now last.aggs.now) (expr_of last.chain.now)
+
+-- a plan is this grouping over this chain
+pub record EndsInGroups (plan : Expr) (last : GroupedChain) : Type 0 where
+  pub plan_is : plan ≡ plan_of last
+  pub chain : is_chain (expr_of last.chain.now) ≡ true
+
+-- a column of marks with the classes of these, and the first mark of each class
+pub record IsMarkColumn (marked : MarkColumn) : Type 0 where
+  pub column : marked.column ≡ record { kinds = Int 0 ∷ []; rows = map mark_row marked.marks.now }
+  pub classes : marked.classes ≡ classes_of (map mark_row marked.marks.now)
+  pub firsts : marked.firsts.items ≡ first_items nat_eq marked.marks.now
+
+-- an aggregate fits what a chain makes of rows of these kinds; a count fits any rows
+abbrev pub Reads : Expr → List Kind → Agg → Type 0
+Reads chain kinds Count = Unit {0}
+Reads chain kinds (Sum c) = PlanFits chain (kinds ∷ []) × AggFits (plan_kinds chain (kinds ∷ [])) (Sum c)
+Reads chain kinds (Min c) = PlanFits chain (kinds ∷ []) × AggFits (plan_kinds chain (kinds ∷ [])) (Min c)
+Reads chain kinds (Max c) = PlanFits chain (kinds ∷ []) × AggFits (plan_kinds chain (kinds ∷ [])) (Max c)
+
+-- column c of what a chain makes of rows
+abbrev pub chain_values : Expr → Relation → ℕ → Relation
+chain_values chain rows c = record { kinds = kind_in (plan_kinds chain (rows.kinds ∷ [])) c ∷ []; rows = map (λ row. value_at (made chain row) c ∷ []) rows.rows }
+
+-- the column that an aggregate reads; for a count, any column of as many rows
+abbrev pub column_read : Expr → List ℕ → Relation → Agg → Relation
+column_read chain marks rows Count = record { kinds = Int 0 ∷ []; rows = map mark_row marks }
+column_read chain marks rows (Sum c) = chain_values chain rows c
+column_read chain marks rows (Min c) = chain_values chain rows c
+column_read chain marks rows (Max c) = chain_values chain rows c
+
+-- the same aggregate over that column alone
+abbrev pub over_one : Agg → Agg
+over_one Count = Count
+over_one (Sum c) = Sum 0
+over_one (Min c) = Min 0
+over_one (Max c) = Max 0
+
+-- the rows at these rids of a table that reach a mark, unless all aggregates are counts
+abbrev pub rows_reached : KeptView → Relation → List ℕ → Option Relation
+rows_reached view table S = cond (list_all is_count view.plan.aggs.now) None (Some (record { kinds = table.kinds; rows = sub table.rows (kept view.forward.now S) }))
+
+-- the groups of marks that rows have, over what the chain makes of the rows
+abbrev pub groups_of : KeptView → List ℕ → Relation → Relation
+groups_of view marks rows = record {
+  kinds = map (kind_in view.content.now.kinds) (upto (length view.plan.keys.now)) ++ map (kind_of_agg (plan_kinds (expr_of view.plan.chain.now) (rows.kinds ∷ []))) view.plan.aggs.now;
+  rows = marked_groups (length view.plan.keys.now) view.plan.aggs.now view.content.now.rows marks (map (made (expr_of view.plan.chain.now)) rows.rows);
+}
+
+-- the rows that are there, and else rows of the marks alone
+abbrev pub rows_read : List ℕ → Option Relation → Relation
+rows_read marks (Some rows) = rows
+rows_read marks None = record { kinds = Int 0 ∷ []; rows = map mark_row marks }
+
+-- the groups of what is reached
+abbrev pub grouped_by_marks : KeptView → Reached → Relation
+grouped_by_marks view reached = groups_of view reached.marks (rows_read reached.marks reached.rows)
+
+-- what is reached of a view is marks of its content, a mark for each row that is read
+pub record CanGroup (view : KeptView) (reached : Reached) : Type 0 where
+  pub chain : is_chain (expr_of view.plan.chain.now) ≡ true
+  pub few_marks : length reached.marks ≤ ROW_LIMIT
+  pub within : All (λ mark. mark < length view.content.now.rows) reached.marks
+  pub long : length reached.marks ≡ length (rows_read reached.marks reached.rows).rows
+  pub reads : All (Reads (expr_of view.plan.chain.now) (rows_read reached.marks reached.rows).kinds) view.plan.aggs.now
+  pub keyed : length view.plan.keys.now ≤ length view.content.now.kinds
+  pub few : length view.plan.keys.now + length view.plan.aggs.now ≤ 16

@@ -1,0 +1,135 @@
+ghost use Rattle.std.specs.Prelude.{◌≡◌, ◌≢◌, ◌<◌, ◌≤◌, ◌≤ℤ◌, [], ◌∷◌, pos, true, All, IfOk, length, map, take, slice_index_or, vec_len};
+ghost use Rattle.smk_base.specs.PlanImage.{expr_of};
+ghost use Rattle.smk_base.specs.Places.{upto};
+ghost use Rattle.smk_base.specs.Rels.{bin_of, kind_in, value_in};
+ghost use Rattle.smk_base.specs.declared.rel.TheConstants.{ROW_LIMIT};
+ghost use Rattle.smk_base.specs.declared.value.Kind.TheVariants as kinds;
+ghost use Rattle.smk_model.specs.Growth.{is_chain};
+ghost use Rattle.smk_model.specs.Lineage.{row_at};
+ghost use Rattle.smk_model.specs.Selection.{PlanFits, plan_kinds};
+ghost use Rattle.smk_marks.specs.Views.{IsMarkColumn, chain_values};
+
+use smk_base::{Item, Op1, Plan, Rel};
+use smk_keys::Classes;
+use smk_table::Chosen;
+use std::alloc::{AllocError, Global};
+
+// Marks, a column of them, their classes, and the first mark of each class.
+#[derive(Drop)]
+pub(crate) struct MarkColumn<'a> {
+    pub(crate) marks: &'a [u32],
+    pub(crate) column: Rel,
+    pub(crate) classes: Classes,
+    pub(crate) firsts: Vec<u32>,
+}
+
+// Marks as ints.
+fn mark_ints(alloc: Global, marks: &[u32]) -> Result<Vec<i128>, AllocError>
+    ensures ints { IfOk result (λ v. v.items ≡ map pos marks.now) }
+    ensures long { IfOk result (λ v. vec_len v ≡ length marks.now) }
+{
+    let mut ints = Vec::with_capacity(alloc, marks.len())?;
+    for mark in marks {
+        ints.push(i128::from(*mark))?;
+    }
+    Ok(ints)
+}
+
+// The marks at these places.
+fn marks_in(alloc: Global, marks: &[u32], places: &[u32]) -> Result<Vec<u32>, AllocError>
+    requires { All (λ place. place < length marks.now) places.now }
+    ensures { IfOk result (λ made. made.items ≡ map (λ place. slice_index_or marks.now place 0) places.now) }
+{
+    let mut made = Vec::with_capacity(alloc, places.len())?;
+    for place in places {
+        made.push(marks[*place as usize])?;
+    }
+    Ok(made)
+}
+
+// Marks with a column of them, and their classes.
+pub(crate) fn mark_column(alloc: Global, marks: &[u32]) -> Result<MarkColumn<'_>, AllocError>
+    requires few { length marks.now ≤ ROW_LIMIT }
+    requires small { All (λ mark. mark < ROW_LIMIT) marks.now }
+    ensures marks { IfOk result (λ made. made.marks.now ≡ marks.now) }
+    ensures is { IfOk result IsMarkColumn }
+{
+    let ints = mark_ints(alloc, marks)?;
+    let own = Rel::of_ints(alloc, 0, ints)?;
+    let column = own.shared(alloc)?;
+    let classes = Classes::of_rows(alloc, &column, &[0])?;
+    let firsts = marks_in(alloc, marks, classes.firsts())?;
+    Ok(MarkColumn {
+        marks,
+        column,
+        classes,
+        firsts,
+    })
+}
+
+// The first columns, so many.
+fn first_columns(alloc: Global, count: u32) -> Result<Vec<u32>, AllocError>
+    ensures { IfOk result (λ columns. columns.items ≡ upto count) }
+{
+    let mut columns = Vec::with_capacity(alloc, count as usize)?;
+    for column in 0..count {
+        columns.push(column)?;
+    }
+    Ok(columns)
+}
+
+// The keys of groups at these marks: the first values of the rows there.
+pub(crate) fn keys_at(
+    alloc: Global,
+    content: &Rel,
+    width: u32,
+    marks: &[u32],
+) -> Result<Rel, AllocError>
+    requires within { All (λ mark. mark < length content.now.rows) marks.now }
+    requires few { length marks.now ≤ ROW_LIMIT }
+    requires keyed { width ≤ length content.now.kinds }
+    ensures { IfOk result (λ made. made ≡ record { kinds = map (kind_in content.now.kinds) (upto width); rows = map (λ mark. take width (row_at content.now.rows mark)) marks.now }) }
+{
+    let _rows = content.len();
+    let columns = first_columns(alloc, width)?;
+    let rows = content.gather(alloc, marks)?;
+    let made = rows.pick_columns(alloc, columns.as_slice())?;
+    Ok(made)
+}
+
+// The bins of the numbers of one column.
+fn binned(alloc: Global, column: Rel, width: i64) -> Result<Rel, AllocError>
+    requires column { 0 < length column.kinds }
+    requires int { kind_in column.kinds 0 ≢ kinds.Text }
+    requires width { pos 1 ≤ℤ width }
+    ensures { IfOk result (λ made. made ≡ record { kinds = kind_in column.kinds 0 ∷ []; rows = map (λ row. bin_of width (value_in row 0) ∷ []) column.rows }) }
+{
+    column.bins(alloc, 0, width)
+}
+
+// Column c of what a chain makes of rows that pass: of the rows no other column is gathered.
+pub(crate) fn chain_column(
+    alloc: Global,
+    chain: &Plan,
+    rows: &Chosen,
+    c: u32,
+) -> Result<Rel, AllocError>
+    requires chain { is_chain (expr_of chain.now) ≡ true }
+    requires fits { PlanFits (expr_of chain.now) (rows.now.kinds ∷ []) }
+    requires column { c < length (plan_kinds (expr_of chain.now) (rows.now.kinds ∷ [])) }
+    ensures { IfOk result (λ column. column ≡ chain_values (expr_of chain.now) rows.now c) }
+{
+    match chain {
+        Plan::Scan(_) => rows.columns(alloc, &[c]),
+        Plan::One(Op1::Select(_), input) => chain_column(alloc, input, rows, c),
+        Plan::One(Op1::Project(items), input) => match &items.as_slice()[c as usize] {
+            Item::Col(col) => chain_column(alloc, input, rows, *col),
+            Item::Bin { col, width } => {
+                let below = chain_column(alloc, input, rows, *col)?;
+                let column = binned(alloc, below, *width)?;
+                Ok(column)
+            }
+        },
+        _ => unreachable!(),
+    }
+}
