@@ -33,15 +33,15 @@ use Rattle.smk_model.specs.Workload.{declares_back}
 use Rattle.smk_model.proofs.Anys.{or_false}
 use Rattle.smk_model.proofs.Composed.{lists_stand}
 use Rattle.smk_model.proofs.Places.{same_below}
-use Rattle.smk_compose.specs.declared.kept.Run.{Run}
+use Rattle.smk_compose.specs.declared.kept_maps.Run.{Run}
 use Rattle.smk_push.specs.Cubes.{cube_at, cube_of}
-use Rattle.smk_session.specs.Answers.{BacksFit, back_by, kept_back, rows_told, state_held, within_asked}
+use Rattle.smk_session.specs.Answers.{BacksFit, back_by, kept_back, rows_told, state_lent, within_asked}
 use Rattle.smk_session.specs.Extras.{are_cubes_on, backs_of, is_split_on, split_on, table_of}
 use Rattle.smk_session.specs.BackAnswers.{CubesFit, IsPairOf, SplitsFit, cubes_asked, grouped_by, matching_by, one_asked, sort_asked, split_asked, with_value_asked}
 use Rattle.smk_session.specs.Sessions.{state_over, workbook_image}
 use Rattle.smk_session.specs.declared.extra.CubesOn.{CubesOn}
 use Rattle.smk_session.specs.declared.extra.SplitOn.{SplitOn}
-use Rattle.smk_session.specs.declared.held.Held.{Held}
+use Rattle.smk_session.specs.declared.lent.Lent.{Lent}
 use Rattle.smk_session.specs.declared.backward.Pair.{Pair}
 use Rattle.smk_session.proofs.Declared.{cubes_found, cubes_of_grouped, grouping_fits, split_found}
 use Rattle.smk_session.proofs.KeptOf.{kept_back_is}
@@ -284,14 +284,14 @@ pub named_is : (catalog : CatalogImage) (state : State) (view table : List ℕ) 
 named_is catalog state view table v t marks then named =
     ap (λ (a : Asked (ℕ × ℕ)). ◌>>=◌ a (λ p. provided (declares_back catalog p.0 p.1) Undeclared (back_reply catalog state p.0 p.1 marks then))) (sym named)
 
-pub answered_is : (held : Held) (pair : Pair) (view table : List ℕ) (v t : ℕ) (marks : Marks) (then exact : Then) (by : Asked Reply) → known_pair (catalog_image held.catalog.now) view table ≡ Ok (v, t)
-    → pair.view ≡ v → pair.table ≡ t → pair.catalog.now ≡ held.catalog.now → then ≡ exact → by ≡ asked_of pair (state_held held) marks exact
-    → by ≡ named_back (catalog_image held.catalog.now) (state_held held) view marks table then
+pub answered_is : (held : Lent) (pair : Pair) (view table : List ℕ) (v t : ℕ) (marks : Marks) (then exact : Then) (by : Asked Reply) → known_pair (catalog_image held.catalog.now) view table ≡ Ok (v, t)
+    → pair.view ≡ v → pair.table ≡ t → pair.catalog.now ≡ held.catalog.now → then ≡ exact → by ≡ asked_of pair (state_lent held) marks exact
+    → by ≡ named_back (catalog_image held.catalog.now) (state_lent held) view marks table then
 answered_is held pair view table v t marks then exact by named view_is table_is catalog_is then_is is =
-    let asked : Catalog → ℕ → ℕ → Then → Asked Reply = λ catalog w u extra. provided (declares_back (catalog_image catalog) w u) Undeclared (back_reply (catalog_image catalog) (state_held held) w u marks extra) in
+    let asked : Catalog → ℕ → ℕ → Then → Asked Reply = λ catalog w u extra. provided (declares_back (catalog_image catalog) w u) Undeclared (back_reply (catalog_image catalog) (state_lent held) w u marks extra) in
     is
     ∙ ap (λ catalog. asked catalog pair.view pair.table exact) catalog_is
     ∙ ap (λ w. asked held.catalog.now w pair.table exact) view_is
     ∙ ap (λ u. asked held.catalog.now v u exact) table_is
     ∙ ap (asked held.catalog.now v t) (sym then_is)
-    ∙ named_is (catalog_image held.catalog.now) (state_held held) view table v t marks then named
+    ∙ named_is (catalog_image held.catalog.now) (state_lent held) view table v t marks then named

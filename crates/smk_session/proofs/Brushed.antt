@@ -18,11 +18,11 @@ use Rattle.smk_model.specs.Replies.{Asked, all_linked, brush_of, brushed, cleare
 use Rattle.smk_model.specs.Selection.{each_rows}
 use Rattle.smk_model.specs.Session.{State, linked, under, view_at, with_brush, without_brush}
 use Rattle.smk_model.specs.Workload.{declares_back, is_back, is_link}
-use Rattle.smk_compose.specs.declared.kept.Run.{Run}
-use Rattle.smk_session.specs.Answers.{Changes, IsHeld, Turns, book_of, content_at, kept_back, placed}
+use Rattle.smk_compose.specs.declared.kept_maps.Run.{Run}
+use Rattle.smk_session.specs.Answers.{Changes, IsLent, Turns, book_of, content_at, kept_back, placed}
 use Rattle.smk_session.specs.Refreshed.{IsRefresh}
 use Rattle.smk_session.specs.Sessions.{AreInForce, AreOpened, BrushFits, state_over}
-use Rattle.smk_session.specs.declared.held.Held.{Held}
+use Rattle.smk_session.specs.declared.lent.Lent.{Lent}
 use Rattle.smk_session.specs.declared.refresh.Refresh.{Refresh}
 use Rattle.smk_session.specs.declared.turn.Content.{Content}
 use Rattle.smk_session.specs.declared.turned.Turned.{Turned}
@@ -86,10 +86,10 @@ brush_looks catalog state asked brush made start after is made_is h =
     (subst (λ (bs : List BrushOn). after ≤ start + looks_of_linked catalog (under state bs) brush.view brush.table) made_is h)
 
 -- the views are made anew under brushes that fit
-pub refreshes : (refresh : Refresh) → IsHeld refresh.held.now → All (BrushFits refresh.held.now.catalog.now refresh.held.now.tables.now) refresh.brushes.now → refresh.table < length refresh.held.now.catalog.now.tables → IsRefresh refresh
+pub refreshes : (refresh : Refresh) → IsLent refresh.held.now → All (BrushFits refresh.held.now.catalog.now refresh.held.now.tables.now) refresh.brushes.now → refresh.table < length refresh.held.now.catalog.now.tables → IsRefresh refresh
 refreshes refresh held fit table = record { held = held; fit = fit; table = table }
 
-pub brush_change : (held : Held) (brush : BrushOn) (made : List BrushOn) (fresh : List Content) (rids : List ℕ) (views : List Linked) → IsHeld held → BrushFits held.catalog.now held.tables.now brush → made ≡ with_brush brush held.brushes.now
+pub brush_change : (held : Lent) (brush : BrushOn) (made : List BrushOn) (fresh : List Content) (rids : List ℕ) (views : List Linked) → IsLent held → BrushFits held.catalog.now held.tables.now brush → made ≡ with_brush brush held.brushes.now
     → fresh ≡ map (content_at (book_of held) (state_over held.tables.now made)) (linked (book_of held) brush.view brush.table) → Changes held (replies.Brush rids views) (record { brushes = made; contents = fresh })
 brush_change held brush made fresh rids views o fits is are = record {
   answered = refl;
@@ -125,7 +125,7 @@ clear_looks catalog state asked v t made start after is made_is h =
     subst (λ (a : Asked (ℕ × ℕ)). after ≤ start + looks_of_clear catalog state a) (sym is)
     (subst (λ (bs : List BrushOn). after ≤ start + looks_of_linked catalog (under state bs) v t) made_is h)
 
-pub clear_change : (held : Held) (v t : ℕ) (made : List BrushOn) (fresh : List Content) (views : List Linked) → IsHeld held → made ≡ without_brush v t held.brushes.now
+pub clear_change : (held : Lent) (v t : ℕ) (made : List BrushOn) (fresh : List Content) (views : List Linked) → IsLent held → made ≡ without_brush v t held.brushes.now
     → fresh ≡ map (content_at (book_of held) (state_over held.tables.now made)) (linked (book_of held) v t) → Changes held (replies.ClearedOne views) (record { brushes = made; contents = fresh })
 clear_change held v t made fresh views o is are = record {
   answered = refl;
@@ -137,7 +137,7 @@ clear_change held v t made fresh views o is are = record {
 
 -- the answer to the end of all
 
-pub none_change : (held : Held) (made : List BrushOn) (fresh : List Content) → IsHeld held → made ≡ [] → fresh ≡ map (content_at (book_of held) (state_over held.tables.now [])) (upto (length held.contents.now))
+pub none_change : (held : Lent) (made : List BrushOn) (fresh : List Content) → IsLent held → made ≡ [] → fresh ≡ map (content_at (book_of held) (state_over held.tables.now [])) (upto (length held.contents.now))
     → Changes held replies.Cleared (record { brushes = made; contents = fresh })
 none_change held made fresh o is are = record {
   answered = refl;

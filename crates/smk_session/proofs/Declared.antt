@@ -22,7 +22,7 @@ use Rattle.smk_model.specs.Replies.{Grouped, first_grouping, grouping_in, is_by,
 use Rattle.smk_model.specs.Session.{Workbook, view_at}
 use Rattle.smk_model.specs.Typing.{info_at}
 use Rattle.smk_model.specs.Workload.{is_back, is_link}
-use Rattle.smk_compose.specs.declared.kept.Run.{Run}
+use Rattle.smk_compose.specs.declared.kept_maps.Run.{Run}
 use Rattle.smk_session.specs.Answers.{kept_back}
 use Rattle.smk_session.specs.Extras.{backs_of, split_on, cubes_on, split_for, cubes_for, split_in, cubes_in, is_split_on, are_cubes_on}
 use Rattle.smk_session.specs.Making.{IsDeclared}

@@ -24,7 +24,7 @@ use Rattle.smk_model.specs.Session.{concerns, leaves_now, linked, rows_of_table,
 use Rattle.smk_model.specs.Workload.{declares_back, declares_fwd, is_link}
 use Rattle.smk_model.proofs.Composed.{lists_stand}
 use Rattle.smk_model.proofs.Places.{places_below}
-use Rattle.smk_compose.specs.declared.kept.Run.{Run}
+use Rattle.smk_compose.specs.declared.kept_maps.Run.{Run}
 use Rattle.smk_session.specs.Answers.{AreOn, Turns, chosen_of, kept_back, kept_fwd, members_asked, picks_chosen, rids_or_all}
 use Rattle.smk_session.specs.Refreshed.{Names, book_at}
 use Rattle.smk_session.specs.declared.refresh.Refresh.{Refresh}

@@ -1,8 +1,10 @@
+mod AtOnce
 mod BackAnswers
 mod Brushed
 pub mod Declared
 mod Followers
 mod InForce
+mod KeptViews
 pub mod KeptOf
 mod Linked
 mod Marked

@@ -23,7 +23,7 @@ use Rattle.smk_model.specs.Replies.{Asked, known_pair, named_fwd, provided, unle
 use Rattle.smk_model.specs.Session.{Workbook, State, view_at, no_view, rows_of_table}
 use Rattle.smk_model.specs.Workload.{declares_back, declares_fwd}
 use Rattle.smk_model.proofs.Places.{get_or_map_upto, length_upto}
-use Rattle.smk_compose.specs.declared.kept.Run.{Run}
+use Rattle.smk_compose.specs.declared.kept_maps.Run.{Run}
 use Rattle.smk_session.specs.Answers.{members_asked, rows_told, back_by, fwd_by}
 use Rattle.smk_session.specs.Sessions.{AreOpened, workbook_image, state_over, opened}
 use Rattle.smk_session.proofs.KeptOf.{kept_back_is, kept_fwd_is}

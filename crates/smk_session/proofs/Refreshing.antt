@@ -12,38 +12,51 @@ use Rattle.smk_model.specs.Session.{leaves_now, view_at}
 use Rattle.smk_model.specs.Values.{Row}
 use Rattle.smk_compose.specs.declared.fault.EvalFault.{EvalFault}
 use Rattle.smk_compose.specs.declared.fault.EvalFault.TheVariants.{Rows}
-use Rattle.smk_session.specs.Refreshed.{IsContent, IsEvaluated, IsFetched, book_at, state_next}
+use Rattle.smk_session.specs.Refreshed.{HasLeaves, IsContent, IsEvaluated, IsFetched, IsMade, IsOf, IsRun, IsSource, Shows, book_at, state_next}
 use Rattle.smk_session.specs.declared.evaluating.Fetched.{Fetched}
+use Rattle.smk_session.specs.declared.evaluating.Source.{Source}
+use Rattle.smk_session.specs.declared.evaluating.Source.TheVariants as sources
 use Rattle.smk_session.specs.declared.refresh.Refresh.{Refresh}
 
 -- what a plan is evaluated to, by the clauses on one result
-pub evaluated : (fetched : Fetched) (made : Result Relation EvalFault)
-    → IfOk made (λ rel. rel.rows ≡ eval (expr_of fetched.plan.now) (each_rows fetched.leaves))
-    → IfOk made (λ rel. rel.kinds ≡ plan_kinds (expr_of fetched.plan.now) (each_kinds fetched.leaves))
-    → OnOk made (first_full (expr_of fetched.plan.now) (each_rows fetched.leaves) ≡ None)
-    → IfErr made (λ e. (node : ℕ) → e ≡ Rows node → first_full (expr_of fetched.plan.now) (each_rows fetched.leaves) ≡ Some node)
-    → IsEvaluated fetched made
-evaluated fetched (Ok rel) rows kinds few many = record { rows = rows; kinds = kinds; few = few }
-evaluated fetched (Err e) rows kinds few many = many
+
+pub evaluated : (plan : Expr) (leaves : List Relation) (made : Result Relation EvalFault) → IfOk made (λ rel. rel.rows ≡ eval plan (each_rows leaves)) → IfOk made (λ rel. rel.kinds ≡ plan_kinds plan (each_kinds leaves))
+    → OnOk made (first_full plan (each_rows leaves) ≡ None) → IfErr made (λ e. (node : ℕ) → e ≡ Rows node → first_full plan (each_rows leaves) ≡ Some node)
+    → IsRun plan leaves made
+evaluated plan leaves (Ok rel) rows kinds few many = record { rows = rows; kinds = kinds; few = few }
+evaluated plan leaves (Err e) rows kinds few many = many
 
 -- of a view, that is its content
-
-full_is : (refresh : Refresh) (w : ℕ) (fetched : Fetched) → IsFetched refresh w fetched
-    → first_full (expr_of fetched.plan.now) (each_rows fetched.leaves) ≡ first_full (view_at (book_at refresh) w).plan (leaves_now (book_at refresh) (state_next refresh) w)
-full_is refresh w fetched is = ap (λ (plan : Expr). first_full plan (each_rows fetched.leaves)) is.plan ∙ ap (first_full (view_at (book_at refresh) w).plan) is.rows
 
 abbrev rel_with : List Kind → List Row → Relation
 rel_with kinds rows = record { kinds = kinds; rows = rows }
 
+leaves_made : (refresh : Refresh) (w : ℕ) (plan : Expr) (leaves : List Relation) (made : Result Relation EvalFault) → HasLeaves refresh w plan leaves → IsRun plan leaves made → IsContent refresh w made
+leaves_made refresh w plan leaves made is run = by made run
+  where
+    full_is : first_full plan (each_rows leaves) ≡ first_full (view_at (book_at refresh) w).plan (leaves_now (book_at refresh) (state_next refresh) w)
+    full_is = ap (λ (plan : Expr). first_full plan (each_rows leaves)) is.plan_is ∙ ap (first_full (view_at (book_at refresh) w).plan) is.rows
+
+    by : (made : Result Relation EvalFault) → IsRun plan leaves made → IsContent refresh w made
+    by (Ok rel) run =
+        let rows : rel.rows ≡ eval (view_at (book_at refresh) w).plan (leaves_now (book_at refresh) (state_next refresh) w) =
+        run.rows ∙ ap (λ (plan : Expr). eval plan (each_rows leaves)) is.plan_is ∙ ap (eval (view_at (book_at refresh) w).plan) is.rows in
+        record {
+          content = ap (λ (k : List Kind). rel_with k rel.rows) (run.kinds ∙ is.kinds) ∙ ap (rel_with (view_at (book_at refresh) w).kinds) rows;
+          few = sym full_is ∙ run.few;
+        }
+    by (Err e) run = λ node h. sym full_is ∙ run node h
+
+shown_made : (refresh : Refresh) (w : ℕ) (rel : Relation) (made : Result Relation EvalFault) → Shows refresh w rel → IsOf rel made → IsContent refresh w made
+shown_made refresh w rel (Ok own) shows is = subst (Shows refresh w) (sym is) shows
+shown_made refresh w rel (Err e) shows is = λ node h. absurd (cc (sym is ∙ h))
+
+source_made : (refresh : Refresh) (w : ℕ) (source : Source) (made : Result Relation EvalFault) → IsSource refresh w source → IsMade source made → IsContent refresh w made
+source_made refresh w (sources.Leaves plan leaves) made is run = leaves_made refresh w (expr_of plan.now) leaves made is run
+source_made refresh w (sources.Made rel) made is of = shown_made refresh w rel made is of
+
 pub content_made : (refresh : Refresh) (w : ℕ) (fetched : Fetched) (made : Result Relation EvalFault) → IsFetched refresh w fetched → IsEvaluated fetched made → IsContent refresh w made
-content_made refresh w fetched (Ok rel) is made =
-    let rows : rel.rows ≡ eval (view_at (book_at refresh) w).plan (leaves_now (book_at refresh) (state_next refresh) w) =
-    made.rows ∙ ap (λ (plan : Expr). eval plan (each_rows fetched.leaves)) is.plan ∙ ap (eval (view_at (book_at refresh) w).plan) is.rows in
-    record {
-      content = ap (λ (k : List Kind). rel_with k rel.rows) (made.kinds ∙ is.kinds) ∙ ap (rel_with (view_at (book_at refresh) w).kinds) rows;
-      few = sym (full_is refresh w fetched is) ∙ made.few;
-    }
-content_made refresh w fetched (Err e) is made = λ node h. sym (full_is refresh w fetched is) ∙ made node h
+content_made refresh w fetched made is of = source_made refresh w fetched.source made is of
 
 -- and of several views
 

@@ -166,7 +166,7 @@ rows_by catalog state w t place = kept_rows (option_map (λ (pick : Pick). pick.
 place_of : (catalog : CatalogImage) (state : State) (w t : ℕ) (q : ℕ → Bool) (n : ℕ) → kept_rows (picked (map (pick_for catalog state w) (places q n)) t) (table_at state.tables t) ≡ rows_by catalog state w t (find (λ i. nat_eq i t) (places q n))
 place_of catalog state w t q n = ap (λ o. kept_rows (option_map (λ (pick : Pick). pick.rids) o) (table_at state.tables t)) (find_mapped (λ (pick : Pick). nat_eq pick.table t) (pick_for catalog state w) (places q n))
 
-whole_where : (catalog : CatalogImage) (state : State) (w t : ℕ) → is_picked catalog state w t ≡ false → sub (table_at state.tables t) (selected_for catalog state w t) ≡ table_at state.tables t
+pub whole_where : (catalog : CatalogImage) (state : State) (w t : ℕ) → is_picked catalog state w t ≡ false → sub (table_at state.tables t) (selected_for catalog state w t) ≡ table_at state.tables t
 whole_where catalog state w t alone =
     ap (λ (l : List BrushOn). sub (table_at state.tables t) (places (λ rid. list_all (λ (b : BrushOn). has b.rids rid) l) (length (table_at state.tables t)))) (none_pass (concerns catalog w t) state.brushes alone) ∙ whole_sub (table_at state.tables t)
 

@@ -15,7 +15,7 @@ use Rattle.smk_model.specs.Replies.{content_of}
 use Rattle.smk_model.specs.Selection.{each_rows}
 use Rattle.smk_model.specs.Session.{State, is_brush, linked, view_at, with_brush, without_brush}
 use Rattle.smk_model.proofs.Places.{get_or_map_upto, length_upto, upto_below, has_upto}
-use Rattle.smk_compose.specs.declared.kept.Run.{Run}
+use Rattle.smk_compose.specs.declared.kept_maps.Run.{Run}
 use Rattle.smk_session.specs.Answers.{content_at, placed}
 use Rattle.smk_session.specs.Sessions.{AreExtras, AreInForce, AreOpened, BrushFits, IsSession, content_kept, follows, same_pair, state_over}
 use Rattle.smk_session.specs.declared.extra.CubesOn.{CubesOn}
@@ -41,11 +41,11 @@ kept_there : (catalog : Catalog) (tables : List Relation) (brushes : List BrushO
 kept_there catalog tables brushes contents v kept f low is =
     is ∙ ap (λ (l : List (Option Relation)). get_or l v kept) f.contents_are ∙ get_or_map_upto (content_kept (catalog_image catalog) (state_over tables brushes)) (length (catalog_image catalog).views) v kept (omega (arith, low, views_of catalog))
 
-some_is : {X : Type 0} (b : Bool) (x y : X) → Some x ≡ cond b (Some y) None → x ≡ y
+pub some_is : {X : Type 0} (b : Bool) (x y : X) → Some x ≡ cond b (Some y) None → x ≡ y
 some_is true x y h = cc
 some_is false x y h = absurd (cc)
 
-none_is : {X : Type 0} (b : Bool) (y : X) → None ≡ cond b (Some y) None → b ≡ false
+pub none_is : {X : Type 0} (b : Bool) (y : X) → None ≡ cond b (Some y) None → b ≡ false
 none_is true y h = absurd (cc)
 none_is false y h = refl
 

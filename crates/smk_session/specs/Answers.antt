@@ -17,9 +17,9 @@ use Rattle.smk_model.specs.Looks.{looks_of_rows}
 use Rattle.smk_model.specs.Names.{◌>>=◌}
 use Rattle.smk_model.specs.Replies.{Asked, is_refused, unless_outside, marked}
 use Rattle.smk_model.specs.Session.{State, concerns, selected_for, under}
-use Rattle.smk_compose.specs.declared.kept.KeptMap.{KeptMap}
+use Rattle.smk_compose.specs.declared.kept_maps.KeptMap.{KeptMap}
 use Rattle.smk_session.specs.Sessions.{AreExtras, AreInForce, AreOpened, content_kept, state_over}
-use Rattle.smk_session.specs.declared.held.Held.{Held}
+use Rattle.smk_session.specs.declared.lent.Lent.{Lent}
 use Rattle.smk_session.specs.declared.turn.Change.{Change}
 use Rattle.smk_session.specs.declared.turn.Content.{Content}
 use Rattle.smk_session.specs.declared.turned.Turned.{Turned}
@@ -73,20 +73,20 @@ abbrev pub BacksFit : List KeptMap → ℕ → ℕ → Type 0
 BacksFit kept table rows = (map : Lists) → kept_back kept table ≡ Ok map → map.bound ≡ rows
 
 -- what a line reads of a session is what every session keeps
-pub record IsHeld (held : Held) : Type 0 where
+pub record IsLent (held : Lent) : Type 0 where
   pub opened : AreOpened held.catalog.now held.tables.now held.views.now
   pub extras : AreExtras held.catalog.now held.tables.now held.splits.now held.cubes.now
   pub in_force : AreInForce held.catalog.now held.tables.now held.brushes.now held.contents.now
 
-abbrev pub book_of : Held → CatalogImage
+abbrev pub book_of : Lent → CatalogImage
 book_of held = catalog_image held.catalog.now
 
 -- the rows of its tables under some brushes, and under those in force
-abbrev pub state_at : Held → List BrushOn → State
+abbrev pub state_at : Lent → List BrushOn → State
 state_at held brushes = state_over held.tables.now brushes
 
-abbrev pub state_held : Held → State
-state_held held = state_at held held.brushes.now
+abbrev pub state_lent : Lent → State
+state_lent held = state_at held held.brushes.now
 
 -- the state after a line
 abbrev pub next_of : State → Option Change → State
@@ -103,7 +103,7 @@ abbrev pub content_at : CatalogImage → State → ℕ → Content
 content_at catalog state w = record { view = w; rel = content_kept catalog state w }
 
 -- a change comes with a reply that is no refusal, and leaves what every session keeps
-pub record Changes (held : Held) (reply : Reply) (change : Change) : Type 0 where
+pub record Changes (held : Lent) (reply : Reply) (change : Change) : Type 0 where
   pub answered : is_refused reply ≡ false
   pub known : All (λ content. content.view < length held.contents.now) change.contents
   pub in_force : AreInForce held.catalog.now held.tables.now change.brushes (placed change.contents held.contents.now)

@@ -12,7 +12,7 @@ use Rattle.smk_base.specs.declared.tree.Marks.TheVariants as markings
 use Rattle.smk_base.specs.declared.value.Value.{Value}
 use Rattle.smk_model.specs.Names.{◌>>=◌}
 use Rattle.smk_model.specs.Replies.{Asked, column_place, is_of_column, marked, provided, unless_outside}
-use Rattle.smk_compose.specs.declared.kept.Run.{Run}
+use Rattle.smk_compose.specs.declared.kept_maps.Run.{Run}
 use Rattle.smk_push.specs.Cubes.{cube_at}
 use Rattle.smk_skip.specs.Splits.{SplitImage, members_with}
 use Rattle.smk_session.specs.Answers.{kept_back, rows_told, within_asked}

@@ -2,8 +2,11 @@
 use Rattle.std.specs.Prelude.{◌≡◌, ◌<◌, ◌^◌, ℕ, List, Result, MatchResult, true, Some, None, All, length, map}
 use Rattle.smk_base.specs.CatalogImage.{CatalogImage}
 use Rattle.smk_base.specs.PlanImage.{expr_of}
+use Rattle.smk_base.specs.Plans.{Expr}
 use Rattle.smk_base.specs.Rels.{Relation}
 use Rattle.smk_base.specs.declared.reply.Linked.{Linked}
+use Rattle.smk_model.specs.Composed.{forwards}
+use Rattle.smk_model.specs.LineageLaws.{selected_table}
 use Rattle.smk_model.specs.Plain.{eval, width}
 use Rattle.smk_model.specs.Replies.{Asked, content_of, linked_now}
 use Rattle.smk_model.specs.Selection.{PlanFits, each_kinds, each_rows, first_full, nodes, plan_kinds, rows_in}
@@ -11,16 +14,21 @@ use Rattle.smk_model.specs.Session.{State, leaves_now, view_at}
 use Rattle.smk_model.specs.Tables.{all_or_first}
 use Rattle.smk_model.specs.Workload.{declares_fwd}
 use Rattle.smk_compose.specs.declared.fault.EvalFault.{EvalFault}
-use Rattle.smk_compose.specs.declared.fault.EvalFault.TheVariants.{Rows}
-use Rattle.smk_session.specs.Answers.{IsHeld, book_of, content_at, state_at}
-use Rattle.smk_session.specs.Sessions.{BrushFits}
+use Rattle.smk_compose.specs.declared.fault.EvalFault.TheVariants.{NoMemory, Rows}
+use Rattle.smk_marks.specs.Views.{EndsInGroups}
+use Rattle.smk_marks.specs.declared.view.KeptView.{KeptView}
+use Rattle.smk_session.specs.Answers.{IsLent, book_of, content_at, state_at}
+use Rattle.smk_session.specs.Sessions.{BrushFits, opened, workbook_image}
 use Rattle.smk_session.specs.declared.evaluating.Fetched.{Fetched}
+use Rattle.smk_session.specs.declared.evaluating.Source.{Source}
+use Rattle.smk_session.specs.declared.evaluating.Source.TheVariants as sources
+use Rattle.smk_session.specs.declared.lent.Lent.{Lent}
 use Rattle.smk_session.specs.declared.refresh.Refresh.{Refresh}
 use Rattle.smk_session.specs.declared.turn.Content.{Content}
 
 -- the brushes that come into force fit, and the table is there
 pub record IsRefresh (refresh : Refresh) : Type 0 where
-  pub held : IsHeld refresh.held.now
+  pub held : IsLent refresh.held.now
   pub fit : All (BrushFits refresh.held.now.catalog.now refresh.held.now.tables.now) refresh.brushes.now
   pub table : refresh.table < length refresh.held.now.catalog.now.tables
 
@@ -50,27 +58,6 @@ linked_at refresh views = all_or_first (map (linked_now (book_at refresh) (state
 abbrev pub contents_at : Refresh → List ℕ → List Content
 contents_at refresh views = map (content_at (book_at refresh) (state_next refresh)) views
 
--- a plan can be evaluated over the rows that are fetched
-pub record CanEvaluate (fetched : Fetched) : Type 0 where
-  pub wide : length fetched.leaves ≡ width (expr_of fetched.plan.now)
-  pub few : nodes (expr_of fetched.plan.now) < 2 ^ 32
-  pub fits : PlanFits (expr_of fetched.plan.now) (each_kinds fetched.leaves)
-
--- it gives its rows, or the first node that has too many
-pub record HasRows (fetched : Fetched) (rel : Relation) : Type 0 where
-  pub rows : rel.rows ≡ eval (expr_of fetched.plan.now) (each_rows fetched.leaves)
-  pub kinds : rel.kinds ≡ plan_kinds (expr_of fetched.plan.now) (each_kinds fetched.leaves)
-  pub few : first_full (expr_of fetched.plan.now) (each_rows fetched.leaves) ≡ None
-
-abbrev pub IsEvaluated : Fetched → Result Relation EvalFault → Type 0
-IsEvaluated fetched made = MatchResult made (HasRows fetched) (λ e. (node : ℕ) → e ≡ Rows node → first_full (expr_of fetched.plan.now) (each_rows fetched.leaves) ≡ Some node)
-
--- what is fetched is a view's plan with the rows selected for the view
-pub record IsFetched (refresh : Refresh) (w : ℕ) (fetched : Fetched) : Type 0 where
-  pub plan : expr_of fetched.plan.now ≡ (view_at (book_at refresh) w).plan
-  pub rows : each_rows fetched.leaves ≡ leaves_now (book_at refresh) (state_next refresh) w
-  pub kinds : plan_kinds (expr_of fetched.plan.now) (each_kinds fetched.leaves) ≡ (view_at (book_at refresh) w).kinds
-
 -- a view's content, or the first node that has too many rows
 pub record Shows (refresh : Refresh) (w : ℕ) (rel : Relation) : Type 0 where
   pub content : rel ≡ content_of (book_at refresh) (state_next refresh) w
@@ -78,3 +65,58 @@ pub record Shows (refresh : Refresh) (w : ℕ) (rel : Relation) : Type 0 where
 
 abbrev pub IsContent : Refresh → ℕ → Result Relation EvalFault → Type 0
 IsContent refresh w made = MatchResult made (Shows refresh w) (λ e. (node : ℕ) → e ≡ Rows node → first_full (view_at (book_at refresh) w).plan (leaves_now (book_at refresh) (state_next refresh) w) ≡ Some node)
+
+-- what is kept of a view that is a grouping over a chain: its first content, and its forward lists
+pub record IsKept (held : Lent) (w : ℕ) (view : KeptView) : Type 0 where
+  pub plan : EndsInGroups (view_at (book_of held) w).plan view.plan
+  pub content : view.content.now ≡ (opened (workbook_image held.catalog.now held.tables.now) w).rel
+  pub forward : view.forward.now ≡ forwards (view_at (book_of held) w).plan (each_rows held.tables.now) (selected_table (view_at (book_of held) w).plan)
+
+-- a plan can be evaluated over rows of its leaves
+pub record CanRun (plan : Expr) (leaves : List Relation) : Type 0 where
+  pub wide : length leaves ≡ width plan
+  pub few : nodes plan < 2 ^ 32
+  pub fits : PlanFits plan (each_kinds leaves)
+
+-- it gives its rows, or the first node that has too many
+pub record HasRows (plan : Expr) (leaves : List Relation) (rel : Relation) : Type 0 where
+  pub rows : rel.rows ≡ eval plan (each_rows leaves)
+  pub kinds : rel.kinds ≡ plan_kinds plan (each_kinds leaves)
+  pub few : first_full plan (each_rows leaves) ≡ None
+
+abbrev pub IsRun : Expr → List Relation → Result Relation EvalFault → Type 0
+IsRun plan leaves made = MatchResult made (HasRows plan leaves) (λ e. (node : ℕ) → e ≡ Rows node → first_full plan (each_rows leaves) ≡ Some node)
+
+-- it is these rows, unless memory is wanting
+abbrev pub IsOf : Relation → Result Relation EvalFault → Type 0
+IsOf rel made = MatchResult made (λ own. own ≡ rel) (λ e. e ≡ NoMemory)
+
+-- a view can be made from what is fetched
+abbrev pub IsReady : Source → Type 0
+IsReady (sources.Leaves plan leaves) = CanRun (expr_of plan.now) leaves
+IsReady (sources.Made rel) = Unit {0}
+
+abbrev pub CanEvaluate : Fetched → Type 0
+CanEvaluate fetched = IsReady fetched.source
+
+-- what is made from it
+abbrev pub IsMade : Source → Result Relation EvalFault → Type 0
+IsMade (sources.Leaves plan leaves) made = IsRun (expr_of plan.now) leaves made
+IsMade (sources.Made rel) made = IsOf rel made
+
+abbrev pub IsEvaluated : Fetched → Result Relation EvalFault → Type 0
+IsEvaluated fetched made = IsMade fetched.source made
+
+-- a view's plan with the rows selected for it
+pub record HasLeaves (refresh : Refresh) (w : ℕ) (plan : Expr) (leaves : List Relation) : Type 0 where
+  pub plan_is : plan ≡ (view_at (book_at refresh) w).plan
+  pub rows : each_rows leaves ≡ leaves_now (book_at refresh) (state_next refresh) w
+  pub kinds : plan_kinds plan (each_kinds leaves) ≡ (view_at (book_at refresh) w).kinds
+
+-- what is fetched is this, or what the view shows
+abbrev pub IsSource : Refresh → ℕ → Source → Type 0
+IsSource refresh w (sources.Leaves plan leaves) = HasLeaves refresh w (expr_of plan.now) leaves
+IsSource refresh w (sources.Made rel) = Shows refresh w rel
+
+abbrev pub IsFetched : Refresh → ℕ → Fetched → Type 0
+IsFetched refresh w fetched = IsSource refresh w fetched.source

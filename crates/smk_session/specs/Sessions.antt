@@ -6,6 +6,7 @@ use Rattle.smk_base.specs.Places.{IsPlaces, has, upto}
 use Rattle.smk_base.specs.Rels.{Relation}
 use Rattle.smk_base.specs.declared.brush.BrushOn.{BrushOn}
 use Rattle.smk_base.specs.declared.catalog.Catalog.{Catalog}
+use Rattle.smk_base.specs.declared.workers.TheConstants.{WORKER_LIMIT}
 use Rattle.smk_model.specs.Catalogs.{IsCatalog, each_table_kinds}
 use Rattle.smk_model.specs.NodeFaults.{NodeFault, FullRows, FullPairs}
 use Rattle.smk_model.specs.Opening.{ViewFault}
@@ -14,8 +15,8 @@ use Rattle.smk_model.specs.Replies.{content_of}
 use Rattle.smk_model.specs.Selection.{each_kinds, each_rows}
 use Rattle.smk_model.specs.Session.{Workbook, State, is_brush, linked, rows_of_table, view_at}
 use Rattle.smk_model.specs.Workload.{needs}
-use Rattle.smk_compose.specs.Kept.{kept_at}
-use Rattle.smk_compose.specs.declared.kept.Run.{Run}
+use Rattle.smk_compose.specs.KeptMaps.{kept_at}
+use Rattle.smk_compose.specs.declared.kept_maps.Run.{Run}
 use Rattle.smk_session.specs.Extras.{splits_of, all_cubes}
 use Rattle.smk_session.specs.declared.extra.CubesOn.{CubesOn}
 use Rattle.smk_session.specs.declared.extra.SplitOn.{SplitOn}
@@ -103,7 +104,7 @@ pub record IsSession (session : SessionImage) : Type 0 where
   pub extras : AreExtras session.catalog session.tables session.splits session.cubes
   pub in_force : AreInForce session.catalog session.tables session.brushes session.contents
   pub some_workers : 1 ≤ session.workers
-  pub few_workers : session.workers ≤ 64
+  pub few_workers : session.workers ≤ WORKER_LIMIT
 
 -- the fault of a node of a view
 abbrev pub fault_in : ℕ → NodeFault → ViewFault

@@ -1,11 +1,11 @@
 ghost use Rattle.std.specs.Prelude.{◌≡◌, ◌<◌, ◌≤◌, ◌+◌, Ok, None, IfOk, IfErr, IfSome, length};
 ghost use Rattle.smk_model.specs.Looks.{line_looks};
 ghost use Rattle.smk_model.specs.Replies as replies;
-ghost use Rattle.smk_session.specs.Answers.{Gives, Turns, IsHeld, Changes, book_of, state_held, next_of, fwd_by, looks_of_asked};
+ghost use Rattle.smk_session.specs.Answers.{Gives, Turns, IsLent, Changes, book_of, state_lent, next_of, fwd_by, looks_of_asked};
 
 use crate::backward::{back_rows, groups, matching_rows, pair_of};
 use crate::brushing::{brush, clear, clear_one};
-use crate::held::Held;
+use crate::lent::Lent;
 use crate::lineage::fwd_map;
 use crate::marks::marked_members;
 use crate::names::{known_pair, known_view};
@@ -31,10 +31,10 @@ pub fn has_refused(reply: &Reply) -> bool
 }
 
 // What a view shows: the content that is kept under the brushes in force, or else its first content.
-fn content<'a>(held: &'a Held<'_>, v: usize) -> &'a Rel
-    requires held { IsHeld held.now }
+fn content<'a>(held: &'a Lent<'_>, v: usize) -> &'a Rel
+    requires held { IsLent held.now }
     requires view { v < length held.now.catalog.now.views }
-    ensures { result.now ≡ replies.content_of (book_of held.now) (state_held held.now) v }
+    ensures { result.now ≡ replies.content_of (book_of held.now) (state_lent held.now) v }
 {
     match &held.contents[v] {
         Some(rel) => rel,
@@ -43,9 +43,9 @@ fn content<'a>(held: &'a Held<'_>, v: usize) -> &'a Rel
 }
 
 // The content of a view under the brushes in force.
-fn show(alloc: Global, held: &Held<'_>, view: &Text) -> Result<Reply, Turned>
-    requires { IsHeld held.now }
-    ensures { Gives result (replies.named_view (book_of held.now) (state_held held.now) view.now) }
+fn show(alloc: Global, held: &Lent<'_>, view: &Text) -> Result<Reply, Turned>
+    requires { IsLent held.now }
+    ensures { Gives result (replies.named_view (book_of held.now) (state_lent held.now) view.now) }
 {
     let v = known_view(held.catalog, view)?;
     let rel = content(held, v).copy(alloc)?;
@@ -55,16 +55,16 @@ fn show(alloc: Global, held: &Held<'_>, view: &Text) -> Result<Reply, Turned>
 // The answer to a backward query: the rows, those of them with a value, or a declared grouping of them.
 fn back<L: Ledger>(
     alloc: Global,
-    held: &Held<'_>,
+    held: &Lent<'_>,
     view: &Text,
     marks: &Marks,
     table: &Text,
     then: &Then,
     steps: &mut Steps<L>,
 ) -> Result<Reply, Turned>
-    requires { IsHeld held.now }
-    ensures gives { Gives result (replies.named_back (book_of held.now) (state_held held.now) view.now marks.now table.now then.now) }
-    ensures looks { steps.new ≤ steps.old + looks_of_asked (replies.named_back (book_of held.now) (state_held held.now) view.now marks.now table.now then.now) }
+    requires { IsLent held.now }
+    ensures gives { Gives result (replies.named_back (book_of held.now) (state_lent held.now) view.now marks.now table.now then.now) }
+    ensures looks { steps.new ≤ steps.old + looks_of_asked (replies.named_back (book_of held.now) (state_lent held.now) view.now marks.now table.now then.now) }
 {
     let (v, t) = known_pair(held.catalog, view, table)?;
     let pair = pair_of(held, v, t);
@@ -87,13 +87,13 @@ fn fwd_marks(alloc: Global, run: &Run, t: usize, rows: &Marks) -> Result<Reply, 
 // The answer to a forward query.
 fn fwd(
     alloc: Global,
-    held: &Held<'_>,
+    held: &Lent<'_>,
     table: &Text,
     rows: &Marks,
     view: &Text,
 ) -> Result<Reply, Turned>
-    requires { IsHeld held.now }
-    ensures { Gives result (replies.named_fwd (book_of held.now) (state_held held.now) table.now rows.now view.now) }
+    requires { IsLent held.now }
+    ensures { Gives result (replies.named_fwd (book_of held.now) (state_lent held.now) table.now rows.now view.now) }
 {
     let (v, t) = known_pair(held.catalog, view, table)?;
     fwd_marks(alloc, &held.views[v], t, rows)
@@ -112,15 +112,15 @@ fn stays(reply: Reply) -> Result<Turn, Turned>
 // What a line is answered, and what it changes.
 pub(crate) fn answer_to<R: Threads + Sync, G: Gate + Sync, L: Ledger>(
     work: &Work<'_, R, Workers<'_, G>>,
-    held: &Held<'_>,
+    held: &Lent<'_>,
     line: &Line,
     steps: &mut Steps<L>,
 ) -> Result<Turn, Turned>
-    requires held { IsHeld held.now }
-    ensures told { IfOk result (λ turn. replies.answer_to (book_of held.now) (state_held held.now) line.now ≡ Ok (turn.reply, next_of (state_held held.now) turn.change)) }
-    ensures turned { IfErr result (λ turned. Turns turned (replies.answer_to (book_of held.now) (state_held held.now) line.now)) }
+    requires held { IsLent held.now }
+    ensures told { IfOk result (λ turn. replies.answer_to (book_of held.now) (state_lent held.now) line.now ≡ Ok (turn.reply, next_of (state_lent held.now) turn.change)) }
+    ensures turned { IfErr result (λ turned. Turns turned (replies.answer_to (book_of held.now) (state_lent held.now) line.now)) }
     ensures changes { IfOk result (λ turn. IfSome turn.change (Changes held.now turn.reply)) }
-    ensures looks { steps.new ≤ steps.old + line_looks (book_of held.now) (state_held held.now) line.now }
+    ensures looks { steps.new ≤ steps.old + line_looks (book_of held.now) (state_lent held.now) line.now }
 {
     match line {
         Line::Show { view } => stays(show(work.alloc, held, view)?),

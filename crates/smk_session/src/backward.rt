@@ -5,12 +5,12 @@ ghost use Rattle.smk_base.specs.CatalogImage.{catalog_image};
 ghost use Rattle.smk_base.specs.Places.{IsPlaces};
 ghost use Rattle.smk_model.specs.Replies as replies;
 ghost use Rattle.smk_model.specs.Typing.{info_at};
-ghost use Rattle.smk_session.specs.Answers.{Gives, Turns, BacksFit, IsHeld, back_by, looks_of_asked};
+ghost use Rattle.smk_session.specs.Answers.{Gives, Turns, BacksFit, IsLent, back_by, looks_of_asked};
 ghost use Rattle.smk_session.specs.Extras.{is_split_on, are_cubes_on};
 ghost use Rattle.smk_session.specs.BackAnswers.{IsPairOf, SplitsFit, CubesFit, split_asked, cubes_asked, one_asked, sort_asked, with_value_asked, matching_by, grouped_by};
 
 use crate::extra::{CubesOn, SplitOn};
-use crate::held::Held;
+use crate::lent::Lent;
 use crate::lineage::back_map;
 use crate::marks::{all_places, check_marks, marked_members};
 use crate::turned::Turned;
@@ -35,8 +35,8 @@ pub(crate) struct Pair<'a> {
 }
 
 // What is held of a view and a table.
-pub(crate) fn pair_of<'a>(held: &'a Held<'_>, v: usize, t: usize) -> Pair<'a>
-    requires held { IsHeld held.now }
+pub(crate) fn pair_of<'a>(held: &'a Lent<'_>, v: usize, t: usize) -> Pair<'a>
+    requires held { IsLent held.now }
     requires view { v < length held.now.catalog.now.views }
     requires table { t < length held.now.catalog.now.tables }
     ensures view { result.view ≡ v }

@@ -10,13 +10,13 @@ ghost use Rattle.smk_base.specs.declared.reply.Reply.TheVariants as shapes;
 ghost use Rattle.smk_model.specs.Replies as replies;
 ghost use Rattle.smk_model.specs.Session as sessions;
 ghost use Rattle.smk_model.specs.Workload as workload;
-ghost use Rattle.smk_session.specs.Answers.{Gives, Turns, IsHeld, Changes, book_of, state_held, next_of};
+ghost use Rattle.smk_session.specs.Answers.{Gives, Turns, IsLent, Changes, book_of, state_lent, next_of};
 ghost use Rattle.smk_session.specs.Sessions.{BrushFits};
 ghost use Rattle.smk_session.specs.declared.turned.Turned.TheVariants as turns;
 
 use crate::brushes::{with_brush, without_brush};
 use crate::following::follow;
-use crate::held::Held;
+use crate::lent::Lent;
 use crate::lineage::back_map;
 use crate::links::has_link;
 use crate::marks::marked_members;
@@ -51,24 +51,24 @@ fn linked_pair(catalog: &Catalog, view: &Text, table: &Text) -> Result<(u32, u32
 }
 
 // The backward lineage of a view to a table between which there is a link. It is kept.
-fn linked_map<'a>(held: &'a Held<'_>, v: u32, t: u32) -> Result<&'a RidMap, Turned>
-    requires held { IsHeld held.now }
+fn linked_map<'a>(held: &'a Lent<'_>, v: u32, t: u32) -> Result<&'a RidMap, Turned>
+    requires held { IsLent held.now }
     requires view { v < length held.now.catalog.now.views }
     requires table { t < length held.now.catalog.now.tables }
     requires linked { list_any (workload.is_link v t) held.now.catalog.now.links ≡ true }
-    ensures { MatchResult result (λ map. map.now ≡ backs (sessions.view_at (book_of held.now) v).plan (state_held held.now).tables t) (λ turned. turned ≡ turns.Exhausted) }
+    ensures { MatchResult result (λ map. map.now ≡ backs (sessions.view_at (book_of held.now) v).plan (state_lent held.now).tables t) (λ turned. turned ≡ turns.Exhausted) }
 {
     back_map(&held.views[v as usize], t as usize)
 }
 
 // The rids of a table that the marks of a view select, by the kept lineage.
-fn rids_of(alloc: Global, held: &Held<'_>, v: u32, t: u32, marks: &Marks) -> Result<Rids, Turned>
-    requires held { IsHeld held.now }
+fn rids_of(alloc: Global, held: &Lent<'_>, v: u32, t: u32, marks: &Marks) -> Result<Rids, Turned>
+    requires held { IsLent held.now }
     requires view { v < length held.now.catalog.now.views }
     requires table { t < length held.now.catalog.now.tables }
     requires linked { list_any (workload.is_link v t) held.now.catalog.now.links ≡ true }
-    ensures gives { Gives result (replies.rids_of (book_of held.now) (state_held held.now) v t marks.now) }
-    ensures set { IfOk result (λ rids. IsPlaces (length (sessions.rows_of_table (state_held held.now) t)) rids) }
+    ensures gives { Gives result (replies.rids_of (book_of held.now) (state_lent held.now) v t marks.now) }
+    ensures set { IfOk result (λ rids. IsPlaces (length (sessions.rows_of_table (state_lent held.now) t)) rids) }
 {
     let map = linked_map(held, v, t)?;
     marked_members(alloc, map, marks)
@@ -77,13 +77,13 @@ fn rids_of(alloc: Global, held: &Held<'_>, v: u32, t: u32, marks: &Marks) -> Res
 // The brush that a line makes: the rids that its marks select.
 fn brush_of(
     alloc: Global,
-    held: &Held<'_>,
+    held: &Lent<'_>,
     view: &Text,
     marks: &Marks,
     table: &Text,
 ) -> Result<BrushOn, Turned>
-    requires { IsHeld held.now }
-    ensures gives { Gives result (replies.brush_of (book_of held.now) (state_held held.now) view.now marks.now table.now) }
+    requires { IsLent held.now }
+    ensures gives { Gives result (replies.brush_of (book_of held.now) (state_lent held.now) view.now marks.now table.now) }
     ensures fits { IfOk result (BrushFits held.now.catalog.now held.now.tables.now) }
 {
     let (view, table) = linked_pair(held.catalog, view, table)?;
@@ -94,17 +94,17 @@ fn brush_of(
 // A brush: it comes into force, in place of that of its view and table.
 pub(crate) fn brush<R: Threads + Sync, G: Gate + Sync, L: Ledger>(
     work: &Work<'_, R, Workers<'_, G>>,
-    held: &Held<'_>,
+    held: &Lent<'_>,
     view: &Text,
     marks: &Marks,
     table: &Text,
     steps: &mut Steps<L>,
 ) -> Result<Turn, Turned>
-    requires { IsHeld held.now }
-    ensures told { IfOk result (λ turn. replies.named_brush (book_of held.now) (state_held held.now) view.now marks.now table.now ≡ Ok (turn.reply, next_of (state_held held.now) turn.change)) }
-    ensures turned { IfErr result (λ turned. Turns turned (replies.named_brush (book_of held.now) (state_held held.now) view.now marks.now table.now)) }
+    requires { IsLent held.now }
+    ensures told { IfOk result (λ turn. replies.named_brush (book_of held.now) (state_lent held.now) view.now marks.now table.now ≡ Ok (turn.reply, next_of (state_lent held.now) turn.change)) }
+    ensures turned { IfErr result (λ turned. Turns turned (replies.named_brush (book_of held.now) (state_lent held.now) view.now marks.now table.now)) }
     ensures changes { IfOk result (λ turn. IfSome turn.change (Changes held.now turn.reply)) }
-    ensures looks { steps.new ≤ steps.old + looks_of_brush (book_of held.now) (state_held held.now) (replies.brush_of (book_of held.now) (state_held held.now) view.now marks.now table.now) }
+    ensures looks { steps.new ≤ steps.old + looks_of_brush (book_of held.now) (state_lent held.now) (replies.brush_of (book_of held.now) (state_lent held.now) view.now marks.now table.now) }
 {
     let brush = brush_of(work.alloc, held, view, marks, table)?;
     let rids = brush.rids.copy(work.alloc)?;
@@ -131,16 +131,16 @@ pub(crate) fn brush<R: Threads + Sync, G: Gate + Sync, L: Ledger>(
 // The end of the brush of a view and a table. Where there is none, the linked views stay as they are.
 pub(crate) fn clear_one<R: Threads + Sync, G: Gate + Sync, L: Ledger>(
     work: &Work<'_, R, Workers<'_, G>>,
-    held: &Held<'_>,
+    held: &Lent<'_>,
     view: &Text,
     table: &Text,
     steps: &mut Steps<L>,
 ) -> Result<Turn, Turned>
-    requires { IsHeld held.now }
-    ensures told { IfOk result (λ turn. replies.named_clear (book_of held.now) (state_held held.now) view.now table.now ≡ Ok (turn.reply, next_of (state_held held.now) turn.change)) }
-    ensures turned { IfErr result (λ turned. Turns turned (replies.named_clear (book_of held.now) (state_held held.now) view.now table.now)) }
+    requires { IsLent held.now }
+    ensures told { IfOk result (λ turn. replies.named_clear (book_of held.now) (state_lent held.now) view.now table.now ≡ Ok (turn.reply, next_of (state_lent held.now) turn.change)) }
+    ensures turned { IfErr result (λ turned. Turns turned (replies.named_clear (book_of held.now) (state_lent held.now) view.now table.now)) }
     ensures changes { IfOk result (λ turn. IfSome turn.change (Changes held.now turn.reply)) }
-    ensures looks { steps.new ≤ steps.old + looks_of_clear (book_of held.now) (state_held held.now) (replies.linked_pair (book_of held.now) view.now table.now) }
+    ensures looks { steps.new ≤ steps.old + looks_of_clear (book_of held.now) (state_lent held.now) (replies.linked_pair (book_of held.now) view.now table.now) }
 {
     let (v, t) = linked_pair(held.catalog, view, table)?;
     let brushes = without_brush(work.alloc, held.brushes, v, t)?;
@@ -162,9 +162,9 @@ pub(crate) fn clear_one<R: Threads + Sync, G: Gate + Sync, L: Ledger>(
 }
 
 // The end of all brushes: no view shows anything but its first content.
-pub(crate) fn clear(alloc: Global, held: &Held<'_>) -> Result<Turn, AllocError>
-    requires { IsHeld held.now }
-    ensures told { IfOk result (λ turn. (turn.reply ≡ shapes.Cleared) × (next_of (state_held held.now) turn.change ≡ sessions.under (state_held held.now) [])) }
+pub(crate) fn clear(alloc: Global, held: &Lent<'_>) -> Result<Turn, AllocError>
+    requires { IsLent held.now }
+    ensures told { IfOk result (λ turn. (turn.reply ≡ shapes.Cleared) × (next_of (state_lent held.now) turn.change ≡ sessions.under (state_lent held.now) [])) }
     ensures changes { IfOk result (λ turn. IfSome turn.change (Changes held.now turn.reply)) }
 {
     let mut contents = Contents::new(alloc);

@@ -5,10 +5,10 @@ ghost use Rattle.std.specs.List.{filter};
 ghost use Rattle.smk_base.specs.CatalogImage.{catalog_image};
 ghost use Rattle.smk_base.specs.Picks.{IsAscending};
 ghost use Rattle.smk_base.specs.Places.{has};
-ghost use Rattle.smk_session.specs.Answers.{AreOn, IsHeld, book_of, state_at, chosen_of, narrowed_by, picks_chosen};
+ghost use Rattle.smk_session.specs.Answers.{AreOn, IsLent, book_of, state_at, chosen_of, narrowed_by, picks_chosen};
 ghost use Rattle.smk_session.specs.Sessions.{BrushFits};
 
-use crate::held::Held;
+use crate::lent::Lent;
 use crate::links::concerns;
 use smk_base::{BrushOn, Catalog, Pick, Picks, Rids};
 use std::alloc::{AllocError, Global};
@@ -88,11 +88,11 @@ pub(crate) fn chosen(
 // What is picked of the tables for a view. A table that no brush concerns is whole, and isn't among the picks.
 pub(crate) fn picks(
     alloc: Global,
-    held: &Held<'_>,
+    held: &Lent<'_>,
     brushes: &[BrushOn],
     w: u32,
 ) -> Result<Picks, AllocError>
-    requires held { IsHeld held.now }
+    requires held { IsLent held.now }
     requires fit { All (BrushFits held.now.catalog.now held.now.tables.now) brushes.now }
     ensures { IfOk result (λ picks. picks ≡ picks_chosen (book_of held.now) (state_at held.now brushes.now) w (length held.now.tables.now)) }
 {

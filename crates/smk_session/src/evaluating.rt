@@ -1,7 +1,7 @@
-// The rows of views, made anew from rows that are fetched.
+// The rows of views, made anew from what is fetched for them.
 ghost use Rattle.std.specs.Prelude.{All, IfOk};
 ghost use Rattle.std.specs.List.{AllZip};
-ghost use Rattle.smk_session.specs.Refreshed.{CanEvaluate, IsEvaluated};
+ghost use Rattle.smk_session.specs.Refreshed.{CanEvaluate, IsEvaluated, IsReady, IsMade};
 
 use crate::workers::Workers;
 use smk_base::{Plan, Rel};
@@ -13,16 +13,23 @@ use smk_plain::Plain;
 use std::alloc::AllocError;
 use std::thread::{Threads, map_vec};
 
-// A view whose rows are fetched: its number among the linked ones, its plan, and the rows of the plan's leaves.
+// What a view is made from.
+#[derive(Drop)]
+pub(crate) enum Source<'a> {
+    // Its plan, and the rows of the plan's leaves.
+    Leaves { plan: &'a Plan, leaves: Leaves },
+    // Its rows, which are made from what is kept of it.
+    Made(Rel),
+}
+
+// A view for which all is fetched that it is made from: its number among the linked ones, and these things.
 #[derive(Drop)]
 pub(crate) struct Fetched<'a> {
     pub(crate) place: u32,
-    pub(crate) plan: &'a Plan,
-    pub(crate) leaves: Leaves,
+    pub(crate) source: Source<'a>,
 }
 
 // The rows of a view, by steps that are cut into pieces where there are several workers.
-#[tactic(auto, using(crate::proofs::Refreshing::evaluated))]
 pub(crate) fn evaluate<R: Threads + Sync, G: Gate + Sync>(
     work: &Work<'_, R, Workers<'_, G>>,
     fetched: Fetched<'_>,
@@ -30,18 +37,15 @@ pub(crate) fn evaluate<R: Threads + Sync, G: Gate + Sync>(
     requires { CanEvaluate fetched }
     ensures { IsEvaluated fetched.entry result }
 {
-    let Fetched { plan, leaves, .. } = fetched;
     let crew = work.crew;
     if crew.workers == 1 {
-        eval_leaves(work.rt, work.alloc, &Plain, plan, leaves)
+        make_whole(work, fetched.source)
     } else {
-        let body = Pieces::new(Plain, crew.gate, crew.workers);
-        eval_leaves(work.rt, work.alloc, &body, plan, leaves)
+        make_in_pieces(work, fetched.source)
     }
 }
 
 // The rows of a view that is evaluated beside others: it passes the gate, and no step of it is cut.
-#[tactic(auto, using(crate::proofs::Refreshing::evaluated))]
 fn evaluate_whole<R: Threads + Sync, G: Gate + Sync>(
     work: &Work<'_, R, Workers<'_, G>>,
     fetched: Fetched<'_>,
@@ -50,7 +54,40 @@ fn evaluate_whole<R: Threads + Sync, G: Gate + Sync>(
     ensures { IsEvaluated fetched.entry result }
 {
     work.crew.gate.arrive(fetched.place);
-    eval_leaves(work.rt, work.alloc, &Plain, fetched.plan, fetched.leaves)
+    make_whole(work, fetched.source)
+}
+
+// The rows of a view, no step of which is cut.
+#[tactic(auto, using(crate::proofs::Refreshing::evaluated))]
+fn make_whole<R: Threads + Sync, G: Gate + Sync>(
+    work: &Work<'_, R, Workers<'_, G>>,
+    source: Source<'_>,
+) -> Result<Rel, EvalFault>
+    requires { IsReady source }
+    ensures { IsMade source.entry result }
+{
+    match source {
+        Source::Leaves { plan, leaves } => eval_leaves(work.rt, work.alloc, &Plain, plan, leaves),
+        Source::Made(rel) => Ok(rel),
+    }
+}
+
+// The rows of a view, each step of which is cut into pieces.
+#[tactic(auto, using(crate::proofs::Refreshing::evaluated))]
+fn make_in_pieces<R: Threads + Sync, G: Gate + Sync>(
+    work: &Work<'_, R, Workers<'_, G>>,
+    source: Source<'_>,
+) -> Result<Rel, EvalFault>
+    requires { IsReady source }
+    ensures { IsMade source.entry result }
+{
+    match source {
+        Source::Leaves { plan, leaves } => {
+            let body = Pieces::new(Plain, work.crew.gate, work.crew.workers);
+            eval_leaves(work.rt, work.alloc, &body, plan, leaves)
+        }
+        Source::Made(rel) => Ok(rel),
+    }
 }
 
 // The rows of several views, all at once.

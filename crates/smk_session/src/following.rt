@@ -1,5 +1,5 @@
 // The views that follow a brush, made anew under other brushes.
-ghost use Rattle.std.specs.Prelude.{◌≡◌, ◌<◌, ◌≤◌, ◌+◌, ◌∷◌, ℕ, Ok, None, Some, Option, true, cond, length, All, IfOk, MatchResult};
+ghost use Rattle.std.specs.Prelude.{◌≡◌, ◌<◌, ◌≤◌, ◌+◌, ◌∷◌, ℕ, Ok, None, Some, Option, true, cond, length, All, IfOk, IfSome, MatchResult};
 ghost use Rattle.smk_base.specs.Places.{members_at};
 ghost use Rattle.smk_model.specs.Looks.{looks_of_linked};
 ghost use Rattle.smk_model.specs.Replies as replies;
@@ -8,12 +8,13 @@ ghost use Rattle.smk_model.specs.Workload.{declares_fwd};
 ghost use Rattle.smk_base.specs.declared.reply.Linked.{Linked as LinkedImage};
 ghost use Rattle.std.specs.List.{AllZip, list_any, sum_by};
 ghost use Rattle.smk_compose.specs.declared.fault.EvalFault.TheVariants as faults;
-ghost use Rattle.smk_session.specs.Answers.{Gives, Turns, rids_or_all, content_at};
-ghost use Rattle.smk_session.specs.Refreshed.{CanEvaluate, IsContent, IsFetched, IsRefresh, Names, book_at, contents_at, linked_at, looks_now, state_next};
+ghost use Rattle.smk_session.specs.Answers.{Gives, IsLent, Turns, rids_or_all, content_at};
+ghost use Rattle.smk_session.specs.Refreshed.{CanEvaluate, IsContent, IsFetched, IsKept, IsReady, IsRefresh, IsSource, Names, book_at, contents_at, linked_at, looks_now, state_next};
 ghost use Rattle.smk_session.specs.Sessions.{follows};
 
 use crate::chosen::{chosen, picks};
-use crate::evaluating::{Fetched, evaluate, evaluate_at_once};
+use crate::evaluating::{Fetched, Source, evaluate, evaluate_at_once};
+use crate::lent::Lent;
 use crate::lineage::fwd_map;
 use crate::links::{follows_some, linked};
 use crate::marks::all_places;
@@ -25,6 +26,7 @@ use crate::workers::Workers;
 use smk_base::{Linked, Linkeds, Refusal, Rel, Rids};
 use smk_body::Work;
 use smk_compose::{EvalFault, fetch_leaves};
+use smk_marks::{KeptView, content_by_marks, grouped_chain, reach, scanned_table};
 use smk_outside::{Gate, Steps};
 use smk_rid::RidMap;
 use std::alloc::{AllocError, Global};
@@ -77,7 +79,80 @@ fn at_node(view: u32, fault: EvalFault) -> Turned
     }
 }
 
-// A view with the rows selected for it, one look each.
+// What is kept of a view that is a grouping over a chain, where the forward lineage of the chain's table is.
+fn kept_view<'a>(held: &'a Lent<'a>, w: u32) -> Option<KeptView<'a>>
+    requires held { IsLent held.now }
+    requires view { w < length held.now.catalog.now.views }
+    ensures { IfSome result (IsKept held.now w) }
+{
+    let run = &held.views[w as usize];
+    match grouped_chain(&view_of(held.catalog, w).plan) {
+        Some(plan) => match fwd_map(run, scanned_table(plan.chain) as usize) {
+            Ok(forward) => Some(KeptView {
+                plan,
+                content: &run.rel,
+                forward,
+            }),
+            Err(_) => None,
+        },
+        None => None,
+    }
+}
+
+// A view made from what is kept of it: by what the rows selected for it reach, or its first content where no brush concerns it.
+fn fetch_marks<'a, L: Ledger>(
+    alloc: Global,
+    refresh: &Refresh<'a>,
+    w: u32,
+    view: KeptView<'a>,
+    steps: &mut Steps<L>,
+) -> Result<Source<'a>, AllocError>
+    requires refresh { IsRefresh refresh.now }
+    requires view { w < length refresh.now.held.now.catalog.now.views }
+    requires kept { IsKept refresh.now.held.now w view }
+    ensures source { IfOk result (IsSource refresh.now w) }
+    ensures ready { IfOk result IsReady }
+    ensures looks { steps.new ≤ steps.old + looks_now refresh.now w }
+{
+    let held = refresh.held;
+    let t = scanned_table(view.plan.chain);
+    let table = &held.tables[t as usize];
+    let _rows = table.len();
+    let picked = chosen(alloc, held.catalog, refresh.brushes, w, t)?;
+    match picked {
+        Some(rids) => {
+            let reached = reach(alloc, &view, table, rids.as_slice(), steps)?;
+            let made = content_by_marks(alloc, &view, &reached)?;
+            Ok(Source::Made(made))
+        }
+        None => {
+            let first = view.content.copy(alloc)?;
+            Ok(Source::Made(first))
+        }
+    }
+}
+
+// A view's plan with the rows selected for it, one look each.
+fn fetch_rows<'a, L: Ledger>(
+    alloc: Global,
+    refresh: &Refresh<'a>,
+    w: u32,
+    steps: &mut Steps<L>,
+) -> Result<Source<'a>, AllocError>
+    requires refresh { IsRefresh refresh.now }
+    requires view { w < length refresh.now.held.now.catalog.now.views }
+    ensures source { IfOk result (IsSource refresh.now w) }
+    ensures ready { IfOk result IsReady }
+    ensures looks { steps.new ≤ steps.old + looks_now refresh.now w }
+{
+    let held = refresh.held;
+    let plan = &view_of(held.catalog, w).plan;
+    let picks = picks(alloc, held, refresh.brushes, w)?;
+    let leaves = fetch_leaves(alloc, plan, held.tables, &picks, steps)?;
+    Ok(Source::Leaves { plan, leaves })
+}
+
+// What a view is made from, at most one look for each row selected for it.
 fn fetch<'a, L: Ledger>(
     alloc: Global,
     refresh: &Refresh<'a>,
@@ -91,15 +166,11 @@ fn fetch<'a, L: Ledger>(
     ensures ready { IfOk result CanEvaluate }
     ensures looks { steps.new ≤ steps.old + looks_now refresh.now w }
 {
-    let held = refresh.held;
-    let plan = &view_of(held.catalog, w).plan;
-    let picks = picks(alloc, held, refresh.brushes, w)?;
-    let leaves = fetch_leaves(alloc, plan, held.tables, &picks, steps)?;
-    Ok(Fetched {
-        place,
-        plan,
-        leaves,
-    })
+    let source = match kept_view(refresh.held, w) {
+        Some(view) => fetch_marks(alloc, refresh, w, view, steps)?,
+        None => fetch_rows(alloc, refresh, w, steps)?,
+    };
+    Ok(Fetched { place, source })
 }
 
 // What a view is evaluated to over the rows selected for it. No lineage is captured.

@@ -1,6 +1,7 @@
 //! Sessions: the views of a book over its tables, with the lineage that its declared queries need, and the answers to the lines of a script.
 #![tactic(auto)]
 
+mod abreast;
 mod answer;
 mod backward;
 mod beginning;
@@ -11,7 +12,7 @@ mod evaluating;
 mod extra;
 mod fault;
 mod following;
-mod held;
+mod lent;
 mod lineage;
 mod links;
 mod making;

@@ -3,6 +3,7 @@ ghost use Rattle.std.specs.Prelude.{◌≡◌, ◌<◌, ◌≤◌, ◌+◌, None
 ghost use Rattle.std.specs.List.{sum_by};
 ghost use Rattle.smk_base.specs.CatalogImage.{catalog_image, view_image};
 ghost use Rattle.smk_base.specs.Places.{upto};
+ghost use Rattle.smk_base.specs.declared.workers.TheConstants.{WORKER_LIMIT};
 ghost use Rattle.smk_model.specs.Catalogs.{IsCatalog, ViewFits, each_table_kinds};
 ghost use Rattle.smk_model.specs.Looks.{looks_of_view};
 ghost use Rattle.smk_model.specs.NodeFaults.{NodeFault};
@@ -10,15 +11,17 @@ ghost use Rattle.smk_model.specs.Opening.{view_fault, first_view_fault};
 ghost use Rattle.smk_model.specs.Selection.{each_kinds};
 ghost use Rattle.smk_model.specs.Session.{view_at};
 ghost use Rattle.smk_compose.specs.Through.{IsFirst};
+ghost use Rattle.smk_session.specs.Openings.{CanOpen};
 ghost use Rattle.smk_session.specs.Sessions.{AreOpened, IsStartFault, fault_in, opened, workbook_image};
 
+use crate::abreast::{are_few, open_at_once};
 use crate::fault::StartFault;
 use crate::mode::Mode;
 use crate::parts::Opened;
 use crate::workers::Workers;
-use smk_base::{Catalog, Rel, ViewInfo};
+use smk_base::{Catalog, Picks, Rel, ViewInfo};
 use smk_body::{OpBody, Work};
-use smk_compose::{RunFault, run_plan};
+use smk_compose::{Leaves, RunFault, fetch_leaves, run_leaves};
 use smk_defer::Defer;
 use smk_inject::Inject;
 use smk_outside::{Gate, Steps};
@@ -50,29 +53,82 @@ pub fn view_of(catalog: &Catalog, v: u32) -> &ViewInfo
     &catalog.views.as_slice()[v as usize]
 }
 
-// The view with this number, its lineage captured by a body.
-fn open_with<R: Threads + Sync, B: OpBody + Sync, L: Ledger>(
+// A view whose rows are fetched: its number, and the rows of its plan's leaves.
+#[derive(Drop)]
+pub(crate) struct Stocked {
+    pub(crate) view: u32,
+    pub(crate) leaves: Leaves,
+}
+
+// The view with this number, with the rows of its leaves, one look each.
+pub(crate) fn stock<L: Ledger>(
+    alloc: Global,
+    book: &TypedBook,
+    tables: &[Table],
+    v: u32,
+    steps: &mut Steps<L>,
+) -> Result<Stocked, AllocError>
+    requires kinds { each_kinds tables.now ≡ each_table_kinds book.now.tables }
+    requires view { v < length book.now.views }
+    ensures stocked { IfOk result (CanOpen book.now tables.now) }
+    ensures view { IfOk result (λ made. made.view ≡ v) }
+    ensures looks { steps.new ≤ steps.old + looks_of_view (workbook_image book.now tables.now) (view_at (workbook_image book.now tables.now).catalog v) }
+{
+    let plan = &view_of(book.catalog(), v).plan;
+    let none = Picks::new(alloc);
+    let leaves = fetch_leaves(alloc, plan, tables, &none, steps)?;
+    Ok(Stocked { view: v, leaves })
+}
+
+// The view whose rows are fetched, its lineage captured by a body.
+fn open_with<R: Threads + Sync, B: OpBody + Sync>(
     rt: &R,
     alloc: Global,
     body: &B,
     book: &TypedBook,
     tables: &[Table],
-    v: u32,
-    steps: &mut Steps<L>,
+    stocked: Stocked,
 ) -> Result<Opened, StartFault>
-    requires kinds { each_kinds tables.now ≡ each_table_kinds book.now.tables }
     requires captures { IsTrue (B.may_capture body.now) }
-    requires view { v < length book.now.views }
-    ensures run { IfOk result (λ run. run ≡ opened (workbook_image book.now tables.now) v) }
-    ensures none { OnOk result (view_fault (workbook_image book.now tables.now) v ≡ None) }
-    ensures fault { IfErr result (λ e. IsStartFault e (view_fault (workbook_image book.now tables.now) v)) }
-    ensures looks { steps.new ≤ steps.old + looks_of_view (workbook_image book.now tables.now) (view_at (workbook_image book.now tables.now).catalog v) }
+    requires stocked { CanOpen book.now tables.now stocked }
+    ensures run { IfOk result (λ run. run ≡ opened (workbook_image book.now tables.now) stocked.view) }
+    ensures none { OnOk result (view_fault (workbook_image book.now tables.now) stocked.view ≡ None) }
+    ensures fault { IfErr result (λ e. IsStartFault e (view_fault (workbook_image book.now tables.now) stocked.view)) }
 {
+    let Stocked { view: v, leaves } = stocked;
     let need = needed(alloc, book, v)?;
     let view = view_of(book.catalog(), v);
-    match run_plan(rt, alloc, body, &view.plan, tables, &need, steps) {
+    match run_leaves(rt, alloc, body, &view.plan, tables, &need, leaves) {
         Ok(run) => Ok(run),
         Err(fault) => Err(at_view(v, fault)),
+    }
+}
+
+// The view whose rows are fetched, its lineage captured by the body of `mode`, in as many pieces as there are workers.
+pub(crate) fn open_stocked<R: Threads + Sync, G: Gate + Sync>(
+    work: &Work<'_, R, Workers<'_, G>>,
+    mode: Mode,
+    book: &TypedBook,
+    tables: &[Table],
+    stocked: Stocked,
+) -> Result<Opened, StartFault>
+    requires { CanOpen book.now tables.now stocked }
+    ensures run { IfOk result (λ run. run ≡ opened (workbook_image book.now tables.now) stocked.view) }
+    ensures none { OnOk result (view_fault (workbook_image book.now tables.now) stocked.view ≡ None) }
+    ensures fault { IfErr result (λ e. IsStartFault e (view_fault (workbook_image book.now tables.now) stocked.view)) }
+{
+    let crew = work.crew;
+    match (mode, crew.workers) {
+        (Mode::Inject, 1) => open_with(work.rt, work.alloc, &Inject, book, tables, stocked),
+        (Mode::Defer, 1) => open_with(work.rt, work.alloc, &Defer, book, tables, stocked),
+        (Mode::Inject, workers) => {
+            let body = Pieces::new(Inject, crew.gate, workers);
+            open_with(work.rt, work.alloc, &body, book, tables, stocked)
+        }
+        (Mode::Defer, workers) => {
+            let body = Pieces::new(Defer, crew.gate, workers);
+            open_with(work.rt, work.alloc, &body, book, tables, stocked)
+        }
     }
 }
 
@@ -92,29 +148,25 @@ pub fn open_view<R: Threads + Sync, G: Gate + Sync, L: Ledger>(
 ) -> Result<Opened, StartFault>
     requires kinds { each_kinds tables.now ≡ each_table_kinds book.now.tables }
     requires some_workers { 1 ≤ workers }
-    requires few_workers { workers ≤ 64 }
+    requires few_workers { workers ≤ WORKER_LIMIT }
     requires view { v < length book.now.views }
     ensures run { IfOk result (λ run. run ≡ opened (workbook_image book.now tables.now) v) }
     ensures none { OnOk result (view_fault (workbook_image book.now tables.now) v ≡ None) }
     ensures fault { IfErr result (λ e. IsStartFault e (view_fault (workbook_image book.now tables.now) v)) }
     ensures looks { steps.new ≤ steps.old + looks_of_view (workbook_image book.now tables.now) (view_at (workbook_image book.now tables.now).catalog v) }
 {
-    match (mode, workers) {
-        (Mode::Inject, 1) => open_with(rt, alloc, &Inject, book, tables, v, steps),
-        (Mode::Defer, 1) => open_with(rt, alloc, &Defer, book, tables, v, steps),
-        (Mode::Inject, workers) => {
-            let body = Pieces::new(Inject, gate, workers);
-            open_with(rt, alloc, &body, book, tables, v, steps)
-        }
-        (Mode::Defer, workers) => {
-            let body = Pieces::new(Defer, gate, workers);
-            open_with(rt, alloc, &body, book, tables, v, steps)
-        }
-    }
+    let stocked = stock(alloc, book, tables, v, steps)?;
+    let crew = Workers { gate, workers };
+    let work = Work {
+        rt,
+        alloc,
+        crew: &crew,
+    };
+    open_stocked(&work, mode, book, tables, stocked)
 }
 
-// All views in the book's order, or the first that is too big.
-pub(crate) fn open_views<R: Threads + Sync, G: Gate + Sync, L: Ledger>(
+// All views in the book's order, one after the other, or the first that is too big.
+fn open_in_turn<R: Threads + Sync, G: Gate + Sync, L: Ledger>(
     work: &Work<'_, R, Workers<'_, G>>,
     mode: Mode,
     book: &TypedBook,
@@ -144,6 +196,27 @@ pub(crate) fn open_views<R: Threads + Sync, G: Gate + Sync, L: Ledger>(
         )?)?;
     }
     Ok(views)
+}
+
+// All views in the book's order, or the first that is too big. Two or more are opened at once where there are several workers and rows enough.
+pub(crate) fn open_views<R: Threads + Sync, G: Gate + Sync, L: Ledger>(
+    work: &Work<'_, R, Workers<'_, G>>,
+    mode: Mode,
+    book: &TypedBook,
+    tables: &[Table],
+    steps: &mut Steps<L>,
+) -> Result<Vec<Opened>, StartFault>
+    requires kinds { each_kinds tables.now ≡ each_table_kinds book.now.tables }
+    ensures opened { IfOk result (λ views. AreOpened book.now tables.now views.items) }
+    ensures none { OnOk result (first_view_fault (workbook_image book.now tables.now) ≡ None) }
+    ensures fault { IfErr result (λ e. IsStartFault e (first_view_fault (workbook_image book.now tables.now))) }
+    ensures looks { steps.new ≤ steps.old + sum_by (looks_of_view (workbook_image book.now tables.now)) (workbook_image book.now tables.now).catalog.views }
+{
+    if work.crew.workers == 1 || book.catalog().views.as_slice().len() < 2 || are_few(tables) {
+        open_in_turn(work, mode, book, tables, steps)
+    } else {
+        open_at_once(work, mode, book, tables, steps)
+    }
 }
 
 // No content is kept beside the first ones of so many views.

@@ -1,10 +1,10 @@
-use crate::held::Held;
+use crate::lent::Lent;
 use smk_base::BrushOn;
 
 // A refresh of views: what the session holds, the brushes that come into force, and the table of the one that is set or ended.
 #[derive(Drop)]
 pub(crate) struct Refresh<'a> {
-    pub(crate) held: &'a Held<'a>,
+    pub(crate) held: &'a Lent<'a>,
     pub(crate) brushes: &'a [BrushOn],
     pub(crate) table: u32,
 }

@@ -1,6 +1,7 @@
 ghost use Rattle.std.specs.Prelude.{◌≡◌, ◌≤◌, ◌<◌, ◌+◌, [], true, length, map, slice_index_or, None, IfOk, IfErr, OnOk, OnErr};
 ghost use Rattle.smk_base.specs.CatalogImage.{catalog_image};
 ghost use Rattle.smk_base.specs.Places.{upto};
+ghost use Rattle.smk_base.specs.declared.workers.TheConstants.{WORKER_LIMIT};
 ghost use Rattle.smk_model.specs.Catalogs.{IsCatalog, each_table_kinds};
 ghost use Rattle.smk_model.specs.Looks.{start_looks, line_looks};
 ghost use Rattle.smk_model.specs.Opening.{first_view_fault};
@@ -13,7 +14,7 @@ use crate::answer::answer_to;
 use crate::beginning::begin;
 use crate::extra::{Groupings, Splits};
 use crate::fault::StartFault;
-use crate::held::Held;
+use crate::lent::Lent;
 use crate::mode::Mode;
 use crate::parts::Parts;
 use crate::turn::{Brushes, Turn, place};
@@ -61,7 +62,7 @@ impl Model for Session {
 impl Session {
     /// A session of this book over these tables, or the first view with a node that is too big. Each row of a leaf is at most one look, and so is each row of the table of a declared split or grouping, also where it is refused.
     ///
-    /// No brush is in force. Lineage is captured by the body of `mode`, all in this thread with one worker, and above that in pieces of rows that may run at the same time; piece p passes the gate with p. There are at most 64 workers. On a fault the book and the tables are dropped.
+    /// No brush is in force. Lineage is captured by the body of `mode`, all in this thread with one worker, and above that in pieces of rows that may run at the same time; piece p passes the gate with p. With several workers two views or more over many rows are opened at the same time, once the rows of all are fetched: each passes the gate with its number, and has its share of the workers. There are at most 64 workers. On a fault the book and the tables are dropped.
     pub fn start<R: Threads + Sync, G: Gate + Sync, L: Ledger>(
         rt: &R,
         alloc: Global,
@@ -74,7 +75,7 @@ impl Session {
     ) -> Result<Session, StartFault>
         requires kinds { each_kinds tables.items ≡ each_table_kinds book.tables }
         requires some_workers { 1 ≤ workers }
-        requires few_workers { workers ≤ 64 }
+        requires few_workers { workers ≤ WORKER_LIMIT }
         ensures book { IfOk result (λ session. session.catalog ≡ book) }
         ensures tables { IfOk result (λ session. session.tables ≡ tables.items) }
         ensures brushes { IfOk result (λ session. session.brushes ≡ []) }
@@ -202,7 +203,7 @@ impl Session {
         ensures kept { OnErr result (self.new ≡ self.old) }
         ensures looks { steps.new ≤ steps.old + line_looks (catalog_image self.old.catalog) (state_of self.old) line.now }
     {
-        let held = Held {
+        let held = Lent {
             catalog: self.book.catalog(),
             tables: self.tables.as_slice(),
             views: self.views.as_slice(),

@@ -1,4 +1,5 @@
 ghost use Rattle.std.specs.Prelude.{◌≤◌};
+ghost use Rattle.smk_base.specs.declared.workers.TheConstants.{WORKER_LIMIT};
 
 use smk_body::Crew;
 use smk_outside::Gate;
@@ -9,7 +10,7 @@ pub(crate) struct Workers<'g, G: Gate + Sync> {
     pub(crate) gate: &'g G,
     pub(crate) workers: u32,
     ghost some: { 1 ≤ workers },
-    ghost few: { workers ≤ 64 },
+    ghost few: { workers ≤ WORKER_LIMIT },
 }
 
 impl<'g, G: Gate + Sync> Crew for Workers<'g, G> {

@@ -1,6 +1,6 @@
 use Rattle.std.proofs.Common.{ap, get_or, subst, arith}
 use Rattle.smk_base.specs.declared.reply.Reply.{Reply}
-use Rattle.smk_compose.specs.declared.kept.Run.{Run}
+use Rattle.smk_compose.specs.declared.kept_maps.Run.{Run}
 use Rattle.smk_model.specs.Replies.{Asked}
 use Rattle.smk_session.specs.Answers.{Gives}
 use Rattle.smk_session.proofs.Opened.{views_long, named_fwd_is}

@@ -4,7 +4,7 @@ use Rattle.smk_base.specs.declared.brush.BrushOn.{BrushOn}
 use Rattle.smk_model.specs.Looks.{looks_of_linked}
 use Rattle.smk_model.specs.Replies.{all_linked, linked_pair}
 use Rattle.smk_model.specs.Session.{linked}
-use Rattle.smk_session.specs.Answers.{Turns, book_of, content_at, state_at, state_held}
+use Rattle.smk_session.specs.Answers.{Turns, book_of, content_at, state_at, state_lent}
 use Rattle.smk_session.specs.Sessions.{BrushFits}
 use Rattle.smk_session.proofs.Brushed.{refreshes, clear_told, clear_turned, clear_looks, clear_change}
 use Rattle.smk_session.proofs.Shown.{kept_fit}
@@ -19,7 +19,7 @@ follow-requires-clause-refresh g c κs within =
 
 pub returns-clause-told : goal.returns-clause-told
 returns-clause-told g c =
-    clear_told (book_of c.args.held.now) (state_held c.args.held.now) c.args.view.now c.args.table.now c.in_ok-v.v c.in_ok-v.t c.in_ok-brushes.brushes c.in_ok-followed.followed.linked c.in_ok-v.ensures.gives c.in_ok-brushes.ensures
+    clear_told (book_of c.args.held.now) (state_lent c.args.held.now) c.args.view.now c.args.table.now c.in_ok-v.v c.in_ok-v.t c.in_ok-brushes.brushes c.in_ok-followed.followed.linked c.in_ok-v.ensures.gives c.in_ok-brushes.ensures
     (subst (λ (l : List BrushOn). all_linked (book_of c.args.held.now) (state_at c.args.held.now l) c.in_ok-v.v c.in_ok-v.t ≡ Ok c.in_ok-followed.followed.linked) c.as_slice.ensures c.in_ok-followed.ensures.linked)
 
 pub returns-clause-changes : goal.returns-clause-changes
@@ -29,17 +29,17 @@ returns-clause-changes g c =
 
 pub returns-clause-looks : goal.returns-clause-looks
 returns-clause-looks g c =
-    clear_looks (book_of c.args.held.now) (state_held c.args.held.now) (linked_pair (book_of c.args.held.now) c.args.view.now c.args.table.now) c.in_ok-v.v c.in_ok-v.t c.in_ok-brushes.brushes c.args.steps.now c.follow.new.steps c.in_ok-v.ensures.gives c.in_ok-brushes.ensures
+    clear_looks (book_of c.args.held.now) (state_lent c.args.held.now) (linked_pair (book_of c.args.held.now) c.args.view.now c.args.table.now) c.in_ok-v.v c.in_ok-v.t c.in_ok-brushes.brushes c.args.steps.now c.follow.new.steps c.in_ok-v.ensures.gives c.in_ok-brushes.ensures
     (subst (λ (l : List BrushOn). c.follow.new.steps ≤ c.args.steps.now + looks_of_linked (book_of c.args.held.now) (state_at c.args.held.now l) c.in_ok-v.v c.in_ok-v.t) c.as_slice.ensures c.follow.ensures.looks)
 
 pub returns-in_err-followed-clause-turned : goal.returns-in_err-followed-clause-turned
 returns-in_err-followed-clause-turned g c =
     let p = err_from_is_err_and c.from_residual-in_err-followed.result c.from_residual-in_err-followed.ensures.1 in
     rw (p.1, p.2)
-    (clear_turned (book_of c.args.held.now) (state_held c.args.held.now) c.args.view.now c.args.table.now c.in_ok-v.v c.in_ok-v.t c.in_ok-brushes.brushes c.in_err-followed.field-0.0 c.in_ok-v.ensures.gives c.in_ok-brushes.ensures
+    (clear_turned (book_of c.args.held.now) (state_lent c.args.held.now) c.args.view.now c.args.table.now c.in_ok-v.v c.in_ok-v.t c.in_ok-brushes.brushes c.in_err-followed.field-0.0 c.in_ok-v.ensures.gives c.in_ok-brushes.ensures
     (subst (λ (l : List BrushOn). Turns c.in_err-followed.field-0.0 (all_linked (book_of c.args.held.now) (state_at c.args.held.now l) c.in_ok-v.v c.in_ok-v.t)) c.as_slice.ensures c.in_err-followed.ensures.linked))
 
 pub returns-in_err-followed-clause-looks : goal.returns-in_err-followed-clause-looks
 returns-in_err-followed-clause-looks g c =
-    clear_looks (book_of c.args.held.now) (state_held c.args.held.now) (linked_pair (book_of c.args.held.now) c.args.view.now c.args.table.now) c.in_ok-v.v c.in_ok-v.t c.in_ok-brushes.brushes c.args.steps.now c.follow.new.steps c.in_ok-v.ensures.gives c.in_ok-brushes.ensures
+    clear_looks (book_of c.args.held.now) (state_lent c.args.held.now) (linked_pair (book_of c.args.held.now) c.args.view.now c.args.table.now) c.in_ok-v.v c.in_ok-v.t c.in_ok-brushes.brushes c.args.steps.now c.follow.new.steps c.in_ok-v.ensures.gives c.in_ok-brushes.ensures
     (subst (λ (l : List BrushOn). c.follow.new.steps ≤ c.args.steps.now + looks_of_linked (book_of c.args.held.now) (state_at c.args.held.now l) c.in_ok-v.v c.in_ok-v.t) c.as_slice.ensures c.follow.ensures.looks)

@@ -1,6 +1,6 @@
 use Rattle.std.proofs.Common.{◌∙◌, ap, sym, arith}
 use Rattle.std.proofs.lemmas.Result.{err_from_is_err_and}
-use Rattle.smk_compose.specs.declared.kept.Run.{Run}
+use Rattle.smk_compose.specs.declared.kept_maps.Run.{Run}
 use Rattle.smk_session.specs.Answers.{kept_fwd}
 use Rattle.smk_session.proofs.Followers.{chosen_inside, chosen_there, fwd_lists, fwd_never, marks_reached, rids_rise, given}
 use Rattle.smk_session.proofs.Opened.{views_long}

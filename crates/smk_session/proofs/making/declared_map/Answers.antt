@@ -1,7 +1,7 @@
 use Rattle.std.proofs.Common.{ap, arith, get_or}
 use Rattle.std.proofs.lemmas.List.{length-map}
 use Rattle.smk_base.specs.CatalogImage.{view_image}
-use Rattle.smk_compose.specs.declared.kept.Run.{Run}
+use Rattle.smk_compose.specs.declared.kept_maps.Run.{Run}
 use Rattle.smk_session.proofs.Declared.{declared_kept, told_none, told_some}
 use Rattle.smk_session.proofs.Opened.{views_long}
 use Rattle.smk_session.proofs.making.declared_map.Goals as goal

@@ -1,5 +1,5 @@
 use Rattle.std.proofs.Common.{◌≡◌, ◌<◌, ap, subst, arith, length}
-use Rattle.smk_compose.specs.declared.kept.Run.{Run}
+use Rattle.smk_compose.specs.declared.kept_maps.Run.{Run}
 use Rattle.smk_session.specs.Sessions.{SessionImage, opened, workbook_image, workbook_of}
 use Rattle.smk_session.proofs.Opened.{views_long, run_is}
 use Rattle.smk_session.proofs.session.Session.first.Goals as goal

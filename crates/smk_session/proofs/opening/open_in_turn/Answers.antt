@@ -9,7 +9,7 @@ use Rattle.smk_model.specs.Looks.{looks_of_view}
 use Rattle.smk_model.specs.Opening.{view_fault}
 use Rattle.smk_session.specs.Sessions.{opened, workbook_image}
 use Rattle.smk_session.proofs.Starts.{fault_first, looks_more, looks_within, none_more, views_more}
-use Rattle.smk_session.proofs.opening.open_views.Goals as goal
+use Rattle.smk_session.proofs.opening.open_in_turn.Goals as goal
 
 pub returns-in_err-open_view-clause-fault : goal.returns-in_err-open_view-clause-fault
 returns-in_err-open_view-clause-fault g c =

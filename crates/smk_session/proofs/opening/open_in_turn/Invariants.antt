@@ -4,7 +4,7 @@ use Rattle.smk_base.specs.Places.{upto}
 use Rattle.smk_model.specs.Looks.{looks_of_view}
 use Rattle.smk_model.specs.Opening.{view_fault, first_some}
 use Rattle.smk_session.specs.Sessions.{workbook_image, opened}
-use Rattle.smk_session.proofs.opening.open_views.Given as goal
+use Rattle.smk_session.proofs.opening.open_in_turn.Given as goal
 
 abbrev pub invariant-loop-v : goal.invariant-loop-v
 invariant-loop-v g l = record {

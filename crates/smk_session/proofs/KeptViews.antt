@@ -1,0 +1,260 @@
+-- What is made of a view from what is kept of it shows its content.
+use Rattle.std.proofs.Common.{◌≡◌, ℕ, ◌+◌, ◌<◌, ◌≤◌, Bool, true, false, cond, List, [], ◌∷◌, length, map, get_or, refl, ap, sym, ◌∙◌, subst, arith, nat_eq, Ok, Option, Some, None, option_map, All, find}
+use Rattle.std.specs.List.{filter, list_any}
+use Rattle.std.proofs.lemmas.List.{get_or-map, length-map}
+use Rattle.smk_base.specs.CatalogImage.{CatalogImage, ViewImage, catalog_image, view_image}
+use Rattle.smk_base.specs.Places.{Lists, places, upto}
+use Rattle.smk_base.specs.PlanImage.{expr_of}
+use Rattle.smk_base.specs.Plans.{Expr, Leaf, Apply, Combine}
+use Rattle.smk_base.specs.Rels.{Relation}
+use Rattle.smk_base.specs.declared.catalog.Catalog.{Catalog}
+use Rattle.smk_base.specs.declared.catalog.ViewInfo.{ViewInfo}
+use Rattle.smk_base.specs.declared.pick.Pick.{Pick}
+use Rattle.smk_base.specs.declared.value.Kind.{Kind}
+use Rattle.smk_model.specs.Catalogs.{ViewFits, each_table_kinds}
+use Rattle.smk_model.specs.Composed.{forwards}
+use Rattle.smk_model.specs.Lineage.{row_at, sub}
+use Rattle.smk_model.specs.LineageLaws.{selected_table}
+use Rattle.smk_model.specs.Plain.{eval, leaves, rows_over, table_at}
+use Rattle.smk_model.specs.Replies.{content_of}
+use Rattle.smk_model.specs.Selection.{PlanFits, ScansFit, each_kinds, each_rows, first_full, leaf_kinds, over, picked, plan_kinds, rows_in}
+use Rattle.smk_model.specs.Session.{State, concerns, leaves_now, no_view, picks_for, selected_for, view_at}
+use Rattle.smk_model.specs.Values.{Row}
+use Rattle.smk_model.proofs.Composed.{lists_stand}
+use Rattle.smk_model.proofs.Places.{length_upto, places_below}
+use Rattle.smk_model.proofs.Selections.{filter-true}
+use Rattle.smk_body.proofs.Besides.{related}
+use Rattle.smk_compose.specs.declared.kept_maps.Run.{Run}
+use Rattle.smk_marks.specs.KeptLaws.{IsKeptOf, IsReachedBy}
+use Rattle.smk_marks.specs.Marks.{marks_at}
+use Rattle.smk_marks.specs.Views.{CanGroup, EndsInGroups, grouped_by_marks, plan_of, rows_reached}
+use Rattle.smk_marks.specs.declared.reached.Reached.{Reached}
+use Rattle.smk_marks.specs.declared.view.KeptView.{KeptView}
+use Rattle.smk_marks.proofs.Chains.{chain_picks}
+use Rattle.smk_marks.proofs.Kept.{kept_marks}
+use Rattle.smk_marks.proofs.Marked.{few_kept}
+use Rattle.smk_marks.proofs.Small.{never_full}
+use Rattle.smk_session.specs.Answers.{AreOn, IsLent, book_of, chosen_of, kept_fwd, pick_for}
+use Rattle.smk_session.specs.Refreshed.{IsKept, IsRefresh, Shows, book_at, looks_now, state_next}
+use Rattle.smk_session.specs.declared.lent.Lent.{Lent}
+use Rattle.smk_session.specs.declared.refresh.Refresh.{Refresh}
+use Rattle.smk_session.proofs.Followers.{chosen_there, fwd_lists}
+use Rattle.smk_session.proofs.KeptOf.{find_mapped, found}
+use Rattle.smk_session.proofs.Opened.{run_is, tables_long}
+use Rattle.smk_session.proofs.Selected.{whole_where}
+use Rattle.smk_session.proofs.Shown.{none_is, some_is}
+
+-- the table of a plan that scans tables that are there
+pub scanned_low : (n : ℕ) (plan : Expr) → ScansFit n plan → selected_table plan < n
+scanned_low n (Leaf table) scans = scans
+scanned_low n (Apply op input) scans = scanned_low n input scans
+scanned_low n (Combine op left right) scans = scanned_low n left scans.0
+
+-- all rows of a pick of each of the first n tables
+pub picked_now : (catalog : CatalogImage) (state : State) (w t : ℕ) → t < length state.tables → picked (picks_for catalog state w) t ≡ Some (selected_for catalog state w t)
+picked_now catalog state w t low =
+    let n : ℕ = length state.tables in
+    ap (option_map (λ (pick : Pick). pick.rids)) (find_mapped (λ (pick : Pick). nat_eq pick.table t) (pick_for catalog state w) (upto n))
+    ∙ ap (λ (ts : List ℕ). option_map (λ (pick : Pick). pick.rids) (option_map (pick_for catalog state w) (find (λ i. nat_eq i t) ts))) (sym (filter-true (upto n)))
+    ∙ ap (λ (o : Option ℕ). option_map (λ (pick : Pick). pick.rids) (option_map (pick_for catalog state w) o)) (found (λ i. true) n t low)
+
+few_places : (q : ℕ → Bool) (n : ℕ) → length (places q n) ≤ n
+few_places q n = subst (λ (m : ℕ). length (places q n) ≤ m) (length_upto n) (few_kept q (upto n))
+
+one_leaf : (L : List Row) → rows_in (L ∷ []) ≡ length L
+one_leaf L = omega arith
+
+module _ (refresh : Refresh) (w : ℕ) (view : KeptView) (table : Relation) (is : IsRefresh refresh) (low : w < length refresh.held.now.catalog.now.views) (kept : IsKept refresh.held.now w view)
+    (at : table ≡ get_or refresh.held.now.tables.now (selected_table (expr_of view.plan.chain.now)) table) where
+  abbrev catalog : Catalog
+  catalog = refresh.held.now.catalog.now
+
+  abbrev tables : List Relation
+  tables = refresh.held.now.tables.now
+
+  abbrev plan : Expr
+  plan = (view_at (book_at refresh) w).plan
+
+  abbrev chain : Expr
+  chain = expr_of view.plan.chain.now
+
+  abbrev t : ℕ
+  t = selected_table chain
+
+  abbrev S : List ℕ
+  S = selected_for (book_at refresh) (state_next refresh) w t
+
+  fits : ViewFits catalog.tables (view_at (book_at refresh) w)
+  fits = is.held.opened.checked.typed.views w no_view (omega (arith, low, length-map catalog.views view_image))
+
+  pub table_low : t < length tables
+  table_low =
+      let there : t < length catalog.tables = subst (λ (p : Expr). selected_table p < length catalog.tables) kept.plan.plan_is (scanned_low (length catalog.tables) plan fits.scans) in
+      omega (arith, there, tables_long catalog tables is.held.opened.kinds)
+
+  pub rows_are : table.rows ≡ table_at (each_rows tables) t
+  rows_are = ap (λ (r : Relation). r.rows) at ∙ sym (get_or-map (λ (r : Relation). r.rows) tables t table [] table_low)
+
+  kinds_are : leaf_kinds plan (each_table_kinds catalog.tables) ≡ table.kinds ∷ []
+  kinds_are =
+      ap (λ (p : Expr). leaf_kinds p (each_table_kinds catalog.tables)) kept.plan.plan_is
+      ∙ ap (map (λ s. get_or (each_table_kinds catalog.tables) s [])) (chain_picks.scans chain kept.plan.chain)
+      ∙ ap (λ (K : List (List Kind)). get_or K t [] ∷ []) (sym is.held.opened.kinds)
+      ∙ ap (λ (k : List Kind). k ∷ []) (get_or-map (λ (r : Relation). r.kinds) tables t table [] table_low ∙ sym (ap (λ (r : Relation). r.kinds) at))
+
+  kinds_now : (view_at (book_at refresh) w).kinds ≡ plan_kinds (plan_of view.plan) (table.kinds ∷ [])
+  kinds_now = sym fits.kinds ∙ ap (plan_kinds plan) kinds_are ∙ ap (λ (p : Expr). plan_kinds p (table.kinds ∷ [])) kept.plan.plan_is
+
+  pub kept_of : IsKeptOf view table (each_rows tables)
+  kept_of = record {
+    chain = kept.plan.chain;
+    fits = subst (λ (p : Expr). PlanFits p (table.kinds ∷ [])) kept.plan.plan_is (subst (λ (K : List (List Kind)). PlanFits plan K) kinds_are fits.fits);
+    rows = rows_are;
+    content = ap (λ (r : Relation). r.rows) kept.content ∙ ap (λ (p : Expr). rows_over p (each_rows tables)) kept.plan.plan_is;
+    kinds = ap (λ (r : Relation). r.kinds) kept.content ∙ kinds_now;
+    forward = kept.forward ∙ ap (λ (p : Expr). forwards p (each_rows tables) (selected_table p)) kept.plan.plan_is;
+  }
+
+  -- the rows selected for the view
+  leaves_are : leaves_now (book_at refresh) (state_next refresh) w ≡ sub table.rows S ∷ []
+  leaves_are =
+      ap (λ (p : Expr). over p (each_rows tables) (picks_for (book_at refresh) (state_next refresh) w)) kept.plan.plan_is
+      ∙ chain_picks.over_picked chain (each_rows tables) (picks_for (book_at refresh) (state_next refresh) w) S kept.plan.chain
+      (picked_now (book_at refresh) (state_next refresh) w t (omega (arith, table_low, length-map tables (λ (r : Relation). r.rows))))
+      ∙ ap (λ (L : List Row). sub L S ∷ []) (sym rows_are)
+
+  few_there : length S ≤ length (table_at (each_rows tables) t)
+  few_there = few_places _ (length (table_at (each_rows tables) t))
+
+  few_selected : length S ≤ length table.rows
+  few_selected = omega (arith, few_there, ap length rows_are)
+
+  pub looks_are : looks_now refresh w ≡ length S
+  looks_are = ap rows_in leaves_are ∙ one_leaf (sub table.rows S) ∙ length-map S (row_at table.rows)
+
+  abbrev made_of : List Row → Relation
+  made_of L = record { kinds = plan_kinds (plan_of view.plan) (table.kinds ∷ []); rows = eval (plan_of view.plan) (L ∷ []) }
+
+  content_is : made_of (sub table.rows S) ≡ content_of (book_at refresh) (state_next refresh) w
+  content_is =
+      related (sym kinds_now)
+      (sym (ap (eval plan) leaves_are ∙ ap (λ (p : Expr). eval p (sub table.rows S ∷ [])) kept.plan.plan_is))
+
+  never : length table.rows ≤ 1048576 → first_full plan (leaves_now (book_at refresh) (state_next refresh) w) ≡ None
+  never small =
+      ap (first_full plan) leaves_are ∙ ap (λ (p : Expr). first_full p (sub table.rows S ∷ [])) kept.plan.plan_is
+      ∙ never_full view.plan.keys.now view.plan.aggs.now chain (sub table.rows S) kept.plan.chain (omega (arith, small, few_selected, length-map S (row_at table.rows)))
+
+  -- the rids that are chosen
+  pub chosen_are : (chosen : Option (List ℕ)) (rids : List ℕ) → chosen ≡ chosen_of (book_at refresh) refresh.brushes.now w t (length (table_at (each_rows tables) t)) → chosen ≡ Some rids → rids ≡ S
+  chosen_are chosen rids made some = some_is (list_any (concerns (book_at refresh) w t) refresh.brushes.now) rids S (sym some ∙ made)
+
+  pub chosen_low : All (λ rid. rid < length table.rows) S
+  chosen_low = subst (λ (n : ℕ). All (λ rid. rid < n) S) (sym (ap length rows_are)) (places_below _ (length (table_at (each_rows tables) t)))
+
+  pub chosen_few : length table.rows ≤ 1048576 → length S ≤ 1048576
+  chosen_few small = omega (arith, small, few_selected)
+
+  rids_low : All (λ rid. rid < length (table_at (each_rows tables) t)) S
+  rids_low = places_below _ (length (table_at (each_rows tables) t))
+
+  pub lists_long : length view.forward.now.lists ≡ length table.rows
+  lists_long = ap (λ (m : Lists). length m.lists) kept.forward ∙ lists_stand.forwards_long plan (each_rows tables) (selected_table plan)
+      ∙ ap (λ (p : Expr). length (table_at (each_rows tables) (selected_table p))) kept.plan.plan_is ∙ sym (ap length rows_are)
+
+  reached_by : (reached : Reached) → length table.rows ≤ 1048576 → reached.marks ≡ marks_at view.forward.now S → reached.rows ≡ rows_reached view table S → IsReachedBy view table S reached
+  reached_by reached small marks rows = record { few = chosen_few small; marks = marks; rows = rows }
+
+  pub marks_shown : (reached : Reached) → length table.rows ≤ 1048576 → reached.marks ≡ marks_at view.forward.now S → reached.rows ≡ rows_reached view table S → Shows refresh w (grouped_by_marks view reached)
+  marks_shown reached small marks rows = record {
+    content = kept_marks.made view table (each_rows tables) S reached kept_of (reached_by reached small marks rows) rids_low ∙ content_is;
+    few = never small;
+  }
+
+  pub marks_ready : (reached : Reached) → length table.rows ≤ 1048576 → reached.marks ≡ marks_at view.forward.now S → reached.rows ≡ rows_reached view table S → CanGroup view reached
+  marks_ready reached small marks rows = kept_marks.ready view table (each_rows tables) S reached kept_of (reached_by reached small marks rows) rids_low
+
+  -- all rows, where no brush concerns the view
+  all_rows : list_any (concerns (book_at refresh) w t) refresh.brushes.now ≡ false → sub table.rows S ≡ table.rows
+  all_rows alone = ap (λ (L : List Row). sub L S) rows_are ∙ whole_where (book_at refresh) (state_next refresh) w t alone ∙ sym rows_are
+
+  pub first_shown : (chosen : Option (List ℕ)) → length table.rows ≤ 1048576 → chosen ≡ chosen_of (book_at refresh) refresh.brushes.now w t (length (table_at (each_rows tables) t)) → chosen ≡ None → Shows refresh w view.content.now
+  first_shown chosen small made none =
+      let alone = none_is (list_any (concerns (book_at refresh) w t) refresh.brushes.now) S (sym none ∙ made) in
+      record {
+        content =
+            related kept_of.kinds
+            (kept_of.content ∙ ap (λ (ts : List ℕ). eval (plan_of view.plan) (map (table_at (each_rows tables)) ts)) (chain_picks.scans chain kept.plan.chain)
+            ∙ ap (λ (L : List Row). eval (plan_of view.plan) (L ∷ [])) (sym rows_are ∙ sym (all_rows alone)))
+            ∙ content_is;
+        few = never small;
+      }
+
+-- the kept parts of a view are what it gives
+
+pub view_kept : (held : Lent) (w : ℕ) (run : Run) (info : ViewInfo) (view : KeptView) → IsLent held → w < length held.catalog.now.views → run ≡ get_or held.views.now w run → view_image info ≡ view_at (book_of held) w → ViewFits held.catalog.now.tables (view_image info)
+    → EndsInGroups (expr_of info.plan) view.plan → view.content.now ≡ run.rel → kept_fwd run.kept (selected_table (expr_of view.plan.chain.now)) ≡ Ok view.forward.now → IsKept held w view
+view_kept held w run info view h low is named fits ends content fwd =
+    let catalog = held.catalog.now in
+    let tables = held.tables.now in
+    let plan = (view_at (book_of held) w).plan in
+    let t = selected_table (expr_of view.plan.chain.now) in
+    let here : EndsInGroups plan view.plan = subst (λ (p : Expr). EndsInGroups p view.plan) (ap (λ (v : ViewImage). v.plan) named) ends in
+    let there : t < length catalog.tables = subst (λ (p : Expr). selected_table p < length catalog.tables) ends.plan_is (scanned_low (length catalog.tables) (expr_of info.plan) fits.scans) in
+    record {
+      plan = here;
+      content = content ∙ ap (λ (r : Run). r.rel) (run_is catalog tables held.views.now w run h.opened low is);
+      forward = fwd_lists catalog tables held.views.now w t run view.forward.now h.opened low there is fwd ∙ sym (ap (λ (p : Expr). forwards plan (each_rows tables) (selected_table p)) here.plan_is);
+    }
+
+-- what is chosen of the table of such a view
+
+module _ (refresh : Refresh) (w : ℕ) (view : KeptView) (is : IsRefresh refresh) (low : w < length refresh.held.now.catalog.now.views) (kept : IsKept refresh.held.now w view) (t : ℕ) (same : t ≡ selected_table (expr_of view.plan.chain.now)) where
+  abbrev held_tables : List Relation
+  held_tables = refresh.held.now.tables.now
+
+  pub table_there : t < length held_tables
+  table_there =
+      let catalog = refresh.held.now.catalog.now in
+      let fits = is.held.opened.checked.typed.views w no_view (omega (arith, low, length-map catalog.views view_image)) in
+      let there : selected_table (expr_of view.plan.chain.now) < length catalog.tables = subst (λ (p : Expr). selected_table p < length catalog.tables) kept.plan.plan_is (scanned_low (length catalog.tables) (view_at (book_at refresh) w).plan fits.scans) in
+      omega (arith, there, same, tables_long catalog held_tables is.held.opened.kinds)
+
+  module _ (table : Relation) (at : table ≡ get_or refresh.held.now.tables.now t table) (small : length table.rows ≤ 1048576) (chosen : Option (List ℕ))
+      (made : (n : ℕ) → AreOn t n refresh.brushes.now → chosen ≡ chosen_of (book_at refresh) refresh.brushes.now w t n) where
+    abbrev s : ℕ
+    s = selected_table (expr_of view.plan.chain.now)
+
+    here : table ≡ get_or refresh.held.now.tables.now s table
+    here = at ∙ ap (λ i. get_or refresh.held.now.tables.now i table) same
+
+    chosen_is : chosen ≡ chosen_of (book_at refresh) refresh.brushes.now w s (length (table_at (each_rows refresh.held.now.tables.now) s))
+    chosen_is =
+        subst (λ (i : ℕ). chosen ≡ chosen_of (book_at refresh) refresh.brushes.now w i (length (table_at (each_rows refresh.held.now.tables.now) i))) same
+        (chosen_there refresh.held.now.catalog.now refresh.held.now.tables.now refresh.brushes.now w t chosen is.fit made)
+
+    rids_are : (rids : List ℕ) → chosen ≡ Some rids → selected_for (book_at refresh) (state_next refresh) w s ≡ rids
+    rids_are rids some = sym (chosen_are refresh w view table is low kept here chosen rids chosen_is some)
+
+    pub rids_inside : (rids : List ℕ) → chosen ≡ Some rids → All (λ rid. rid < length table.rows) rids
+    rids_inside rids some = subst (λ (l : List ℕ). All (λ rid. rid < length table.rows) l) (rids_are rids some) (chosen_low refresh w view table is low kept here)
+
+    pub rids_few : (rids : List ℕ) → chosen ≡ Some rids → length rids ≤ 1048576
+    rids_few rids some = subst (λ (l : List ℕ). length l ≤ 1048576) (rids_are rids some) (chosen_few refresh w view table is low kept here small)
+
+    pub fwd_long : length view.forward.now.lists ≡ length table.rows
+    fwd_long = lists_long refresh w view table is low kept here
+
+    pub rids_looks : (rids : List ℕ) → chosen ≡ Some rids → looks_now refresh w ≡ length rids
+    rids_looks rids some = looks_are refresh w view table is low kept here ∙ ap length (rids_are rids some)
+
+    pub rids_shown : (rids : List ℕ) (reached : Reached) → chosen ≡ Some rids → reached.marks ≡ marks_at view.forward.now rids → reached.rows ≡ rows_reached view table rids → Shows refresh w (grouped_by_marks view reached)
+    rids_shown rids reached some marks rows =
+        marks_shown refresh w view table is low kept here reached small (marks ∙ ap (marks_at view.forward.now) (sym (rids_are rids some))) (rows ∙ ap (rows_reached view table) (sym (rids_are rids some)))
+
+    pub rids_ready : (rids : List ℕ) (reached : Reached) → chosen ≡ Some rids → reached.marks ≡ marks_at view.forward.now rids → reached.rows ≡ rows_reached view table rids → CanGroup view reached
+    rids_ready rids reached some marks rows =
+        marks_ready refresh w view table is low kept here reached small (marks ∙ ap (marks_at view.forward.now) (sym (rids_are rids some))) (rows ∙ ap (rows_reached view table) (sym (rids_are rids some)))
+
+    pub whole_shown : chosen ≡ None → Shows refresh w view.content.now
+    whole_shown none = first_shown refresh w view table is low kept here chosen small chosen_is none

@@ -1,0 +1,13 @@
+use Rattle.std.proofs.Common.{subst, sym, get_or, arith}
+use Rattle.smk_session.specs.Openings.{OpensAs}
+use Rattle.smk_session.specs.Sessions.{workbook_image}
+use Rattle.smk_session.proofs.Refreshing.{zip_of}
+use Rattle.smk_session.proofs.abreast.open_each.Goals as goal
+
+pub returns : goal.returns
+returns g c =
+    let opens = OpensAs (workbook_image c.args.book.now c.args.tables.now) in
+    zip_of opens c.args.views.items c.in_ok-made.made.items (omega (arith, c.in_ok-made.ensures.len, c.in_ok-made.made.ok.0, c.args.views.ok.0))
+    (λ i d e low.
+    let job = (c.in_ok-made.ensures.each i e low).1 in
+    subst (λ s. opens s (get_or c.in_ok-made.made.items i e)) (sym (job.job_is d)) job.call.met)
