@@ -3,6 +3,7 @@ ghost use Rattle.std.specs.Prelude.{◌≡◌, ◌≤◌, ◌<◌, ◌^◌, [], 
 ghost use Rattle.smk_base.specs.PlanImage.{expr_of, unary_of};
 ghost use Rattle.smk_base.specs.TreeImage.{ask_image};
 ghost use Rattle.smk_base.specs.declared.type_fault.TypeFault.TheVariants.{NoMemory};
+ghost use Rattle.smk_base.specs.declared.rel.TheConstants.{COLUMN_LIMIT};
 ghost use Rattle.smk_model.specs.Asks.{chain, steps_reply, typed_steps};
 ghost use Rattle.smk_model.specs.Limits.{KeepsSteps};
 ghost use Rattle.smk_model.specs.Names.{kinds_of};
@@ -99,7 +100,7 @@ pub(crate) fn stepped<R: Threads + Sync>(
     line: &AskLine,
     rows: Rel,
 ) -> Result<AskReply, AllocError>
-    requires width { length cols.now ≤ 16 }
+    requires width { length cols.now ≤ COLUMN_LIMIT }
     requires kept { KeepsSteps (ask_image line.now).steps }
     requires kinds { rows.kinds ≡ kinds_of (map column_of cols.now) }
     ensures { IfOk result (λ told. told ≡ steps_reply (typed_steps (map column_of cols.now) (ask_image line.now).steps) rows.rows) }

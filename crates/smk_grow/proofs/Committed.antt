@@ -7,7 +7,7 @@ use Rattle.smk_base.specs.Places.{upto}
 use Rattle.smk_base.specs.Rels.{Relation}
 use Rattle.smk_base.specs.declared.brush.BrushOn.{BrushOn}
 use Rattle.smk_model.specs.Selection.{each_rows}
-use Rattle.smk_compose.specs.declared.kept.Run.{Run}
+use Rattle.smk_compose.specs.declared.kept_maps.Run.{Run}
 use Rattle.smk_session.specs.Extras.{splits_of, all_cubes, split_in, cubes_in}
 use Rattle.smk_session.specs.Sessions.{SessionImage, opened, opened_views, workbook_image, workbook_of}
 use Rattle.smk_session.specs.declared.extra.CubesOn.{CubesOn}

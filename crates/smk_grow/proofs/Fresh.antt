@@ -11,7 +11,7 @@ use Rattle.smk_model.specs.Opening.{ViewFault, view_fault}
 use Rattle.smk_model.specs.Plain.{table_at, whole}
 use Rattle.smk_model.specs.Selection.{each_rows, row_limit, rows_in}
 use Rattle.smk_model.specs.Session.{Workbook, view_at}
-use Rattle.smk_compose.specs.declared.kept.Run.{Run}
+use Rattle.smk_compose.specs.declared.kept_maps.Run.{Run}
 use Rattle.smk_session.specs.Sessions.{IsStartFault, opened, workbook_image}
 use Rattle.smk_session.specs.declared.fault.StartFault.{StartFault}
 use Rattle.smk_session.specs.declared.fault.StartFault.TheVariants.{Rows, Pairs, NoMemory}

@@ -12,7 +12,7 @@ use Rattle.smk_model.specs.Appends.{scans}
 use Rattle.smk_model.specs.Selection.{each_rows}
 use Rattle.smk_model.specs.Session.{Workbook, view_at}
 use Rattle.smk_model.proofs.Places.{get_or_map_upto, length_upto}
-use Rattle.smk_compose.specs.declared.kept.Run.{Run}
+use Rattle.smk_compose.specs.declared.kept_maps.Run.{Run}
 use Rattle.smk_session.specs.Answers.{kept_back}
 use Rattle.smk_session.specs.Extras.{backs_of}
 use Rattle.smk_session.specs.Making.{IsDeclared}

@@ -25,9 +25,9 @@ use Rattle.smk_model.proofs.Places.{has_single, map_map}
 use Rattle.smk_model.proofs.Thin.{growing_is_thin}
 use Rattle.smk_model.proofs.Unscanned.{unscanned_stays}
 use Rattle.smk_body.specs.Locals.{wanted}
-use Rattle.smk_compose.specs.Kept.{kept_at}
-use Rattle.smk_compose.specs.declared.kept.KeptMap.{KeptMap}
-use Rattle.smk_compose.specs.declared.kept.Run.{Run}
+use Rattle.smk_compose.specs.KeptMaps.{kept_at}
+use Rattle.smk_compose.specs.declared.kept_maps.KeptMap.{KeptMap}
+use Rattle.smk_compose.specs.declared.kept_maps.Run.{Run}
 use Rattle.smk_session.specs.Answers.{is_of_table}
 use Rattle.smk_session.specs.Sessions.{opened}
 use Rattle.smk_grow.specs.Renewed.{chains, names_table, is_asked, fresh_view, moved_kept, moved_view, newer}

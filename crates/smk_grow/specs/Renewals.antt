@@ -2,6 +2,7 @@
 use Rattle.std.specs.Prelude.{◌≡◌, ◌<◌, ◌≤◌, ℕ, List, length, map, Option}
 use Rattle.smk_base.specs.CatalogImage.{catalog_image}
 use Rattle.smk_base.specs.Places.{upto}
+use Rattle.smk_base.specs.declared.workers.TheConstants.{WORKER_LIMIT}
 use Rattle.std.specs.List.{filter_map}
 use Rattle.smk_model.specs.Appends.{scanning}
 use Rattle.smk_model.specs.Catalogs.{each_table_kinds}
@@ -18,7 +19,7 @@ use Rattle.smk_grow.specs.declared.renewing.Fresh.{Fresh}
 pub record IsRenewal (renewal : Renewal) : Type 0 where
   pub kinds : each_kinds renewal.tables.now ≡ each_table_kinds renewal.book.now.tables
   pub some_workers : 1 ≤ renewal.workers
-  pub few_workers : renewal.workers ≤ 64
+  pub few_workers : renewal.workers ≤ WORKER_LIMIT
   pub table : renewal.table < length renewal.tables.now
   pub few : length (rows_of renewal.tables.now renewal.table) ≤ row_limit
 
@@ -58,7 +59,7 @@ pub record IsGrown (session : SessionImage) (t len : ℕ) : Type 0 where
   pub within : len ≤ length (rows_of session.tables t)
   pub few : length (rows_of session.tables t) ≤ row_limit
   pub some_workers : 1 ≤ session.workers
-  pub few_workers : session.workers ≤ 64
+  pub few_workers : session.workers ≤ WORKER_LIMIT
 
 abbrev pub last_of : SessionImage → ℕ → ℕ → Workbook
 last_of session t len = workbook_image session.catalog (last_tables session.tables t len)

@@ -13,8 +13,8 @@ use Rattle.smk_model.specs.Plain.{whole}
 use Rattle.smk_model.specs.Selection.{rows_in}
 use Rattle.smk_model.specs.Session.{Workbook, view_at}
 use Rattle.smk_model.specs.Workload.{needs}
-use Rattle.smk_compose.specs.declared.kept.KeptMap.{KeptMap}
-use Rattle.smk_compose.specs.declared.kept.Run.{Run}
+use Rattle.smk_compose.specs.declared.kept_maps.KeptMap.{KeptMap}
+use Rattle.smk_compose.specs.declared.kept_maps.Run.{Run}
 use Rattle.smk_session.specs.Answers.{is_of_table}
 use Rattle.smk_session.specs.Extras.{split_in, cubes_in}
 use Rattle.smk_session.specs.Sessions.{opened}

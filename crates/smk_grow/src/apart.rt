@@ -3,6 +3,7 @@ ghost use Rattle.std.specs.Prelude.{◌≡◌, ◌<◌, ◌≤◌, ◌+◌, leng
 ghost use Rattle.std.specs.List.{sum_by};
 ghost use Rattle.smk_base.specs.CatalogImage.{catalog_image};
 ghost use Rattle.smk_base.specs.Places.{upto};
+ghost use Rattle.smk_base.specs.declared.workers.TheConstants.{WORKER_LIMIT};
 ghost use Rattle.smk_model.specs.Catalogs.{each_table_kinds};
 ghost use Rattle.smk_model.specs.Selection.{each_kinds};
 ghost use Rattle.smk_session.specs.Sessions.{workbook_image};
@@ -102,7 +103,7 @@ pub(crate) fn open_apart<R: Threads + Sync, G: Gate + Sync, L: Ledger>(
 ) -> Result<Vec<Option<Opened>>, AllocError>
     requires kinds { each_kinds tables.old ≡ each_table_kinds book.now.tables }
     requires some_workers { 1 ≤ workers }
-    requires few_workers { workers ≤ 64 }
+    requires few_workers { workers ≤ WORKER_LIMIT }
     requires table { table < length tables.old }
     requires more { more.old.kinds ≡ (table_of tables.old table).kinds }
     ensures tables { tables.new ≡ tables.old }

@@ -8,7 +8,7 @@ ghost use Rattle.smk_model.specs.Plain.{leaves};
 ghost use Rattle.smk_grow.specs.Renewed.{chains};
 
 use smk_base::{Plan, Rids};
-use smk_chain::is_growing;
+use smk_marks::is_growing;
 use smk_session::view_of;
 use smk_typing::TypedBook;
 use std::alloc::{AllocError, Global};

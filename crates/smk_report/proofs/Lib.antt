@@ -1,2 +1,4 @@
+pub mod FieldTexts
 pub mod FullViews
 pub mod Parts
+pub mod PieceTexts

@@ -1,5 +1,5 @@
 -- Lists as the loops over a line's parts and a row's columns go on.
-use Rattle.std.proofs.Common.{◌≡◌, ◌∙◌, ◌<◌, ◌+◌, ◌++◌, ◌∷◌, [], ℕ, List, length, map, take, get_or, refl, ap, Bor, arith, append-nil, append_assoc, add-one, decimal}
+use Rattle.std.proofs.Common.{◌≡◌, ◌∙◌, ◌<◌, ◌+◌, ◌++◌, ◌∷◌, [], ℕ, List, length, map, take, drop, get_or, refl, ap, Bor, arith, append-nil, append_assoc, add-one, zero-add, decimal}
 use Rattle.std.specs.List.{flat_map, AllZip}
 use Rattle.std.proofs.lemmas.List.{take_more, take_all, map-append}
 use Rattle.std.proofs.lemmas.List.Elements.{All-get_or}
@@ -10,8 +10,6 @@ use Rattle.smk_base.specs.declared.value.Kind.{Kind}
 use Rattle.smk_base.specs.Rels.{Relation, IsRelation, RowFits, Fits, row_in, value_in}
 use Rattle.smk_base.specs.declared.value.Value.TheVariants as values
 use Rattle.smk_model.specs.Values.{Row}
-use Rattle.smk_report.specs.Pages.{Says, text_on}
-use Rattle.smk_report.specs.declared.page.Page.{Page}
 use Rattle.smk_model.specs.Lineage.{upto}
 use Rattle.smk_model.specs.Texts.{value_text, record_line, row_lines_to}
 
@@ -57,12 +55,13 @@ lines_more number rows i =
     let f : ℕ → List ℕ = λ i. record_line (decimal (number i) ∷ map value_text (row_in rows i)) in
     rw add-one (flat_map-append f (upto i) (i ∷ []) ∙ ap (λ x. flat_map f (upto i) ++ x) (append-nil (f i)))
 
--- a page that has the records of i rows has one more
-pub says_more : (page new : Page) (start : List ℕ) (number : ℕ → ℕ) (rows : List Row) (i n : ℕ) → number i ≡ n
-    → Says page (start ++ row_lines_to number rows i) [] → Says new (text_on page ++ record_line (decimal n ∷ map value_text (row_in rows i))) []
-    → Says new (start ++ row_lines_to number rows (i + 1)) []
-says_more page new start number rows i n is old more = record {
-  ready = more.ready;
-  text = more.text ∙ rw (old.text, ← is, lines_more number rows i) (append_assoc start (row_lines_to number rows i) (record_line (decimal (number i) ∷ map value_text (row_in rows i))));
-  fields = more.fields;
-}
+-- a text that has the records of i rows has one more
+pub lines_added : (start before after : List ℕ) (number : ℕ → ℕ) (rows : List Row) (i n : ℕ) (row : Row) → number i ≡ n → row_in rows i ≡ row
+    → before ≡ start ++ row_lines_to number rows i → after ≡ before ++ record_line (decimal n ∷ map value_text row)
+    → after ≡ start ++ row_lines_to number rows (i + 1)
+lines_added start before after number rows i n row is at old new =
+    new ∙ rw (old, ← is, ← at, lines_more number rows i) (append_assoc start (row_lines_to number rows i) (record_line (decimal (number i) ∷ map value_text (row_in rows i))))
+
+-- rows that are numbered from the first place on are numbered by their places
+pub lines_from_first : (rows : List Row) (n : ℕ) → row_lines_to (λ (k : ℕ). 0 + k) (drop 0 rows) n ≡ row_lines_to (λ (k : ℕ). k) rows n
+lines_from_first rows n = ap (λ (number : ℕ → ℕ). row_lines_to number rows n) (λ i k. zero-add k i)

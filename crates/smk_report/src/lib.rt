@@ -1,13 +1,14 @@
-//! The texts that Smoke writes. Rows are written with `csv`, numbers with `itoa`.
+//! The texts that Smoke writes. Rows are written as `csv` writes them, numbers with `itoa`.
 #![tactic(auto)]
 
 mod answers;
 mod faults;
+mod fields;
 mod lines;
 mod linked;
 mod lookup;
 mod names;
-mod page;
+mod pieces;
 mod refusals;
 mod replies;
 mod texts;
@@ -16,6 +17,7 @@ pub use faults::{fault_text, type_words};
 pub use lines::{add_line_around, line_around, line_of, pair_text};
 pub use lookup::{table_named, view_at};
 pub use names::shown;
+pub use pieces::view_text_in_pieces;
 pub use refusals::{back_refusal_text, full_view_text, refusal_text, unknown_table_text};
 pub use replies::reply_text;
 pub use texts::{

@@ -1,10 +1,10 @@
-ghost use Rattle.std.specs.Prelude.{◌≡◌, ◌<◌, ◌++◌, ◌∷◌, [], length, map, codes, decimal, IfOk, OnOk, slice_index_or};
+ghost use Rattle.std.specs.Prelude.{◌≡◌, ◌<◌, ◌≤◌, ◌+◌, ◌++◌, ◌∷◌, [], length, map, drop, codes, decimal, IfOk, OnOk, slice_index_or};
 ghost use Rattle.smk_base.specs.Rels.{row_in, IsRelation};
+ghost use Rattle.smk_base.specs.declared.rel.TheConstants.{COLUMN_LIMIT, ROW_LIMIT};
 ghost use Rattle.smk_model.specs.Texts as texts;
-ghost use Rattle.smk_report.specs.Pages.{IsReady, Says, text_on, fields_on};
 
+use crate::fields::{add_cell, add_field, begin_with, begin_with_number};
 use crate::lines::line_around;
-use crate::page::Page;
 use itoa::Buffer;
 use smk_base::{ColDecls, ListOf, Rel, Rids, Text};
 use std::alloc::{AllocError, Global};
@@ -12,56 +12,67 @@ use std::alloc::{AllocError, Global};
 // How many bytes are reserved for a field; most are shorter.
 const FIELD_BYTES: usize = 8;
 
-// The record of the names of the columns.
-fn header(page: &mut Page, first: &[u8], columns: &ListOf<Text>) -> Result<(), AllocError>
-    requires ready { IsReady page.old }
-    requires between { fields_on page.old ≡ [] }
-    ensures { OnOk result (Says page.new (text_on page.old ++ texts.record_line (first.now ∷ columns.now)) []) }
+/// Writes the record of the names of the columns. After an error the text is of no use.
+pub fn header(text: &mut Vec<u8>, first: &[u8], columns: &ListOf<Text>) -> Result<(), AllocError>
+    requires { 0 < length first.now }
+    ensures { OnOk result (text.new.items ≡ text.old.items ++ texts.record_line (first.now ∷ columns.now)) }
 {
-    page.field(first)?;
+    begin_with(text, first)?;
     for column in columns.as_slice() {
-        page.field(column.as_slice())?;
+        add_field(text, column.as_slice())?;
     }
-    page.end()
+    text.push(b'\n')?;
+    Ok(())
 }
 
-#[tactic(auto, using(crate::proofs::Parts::row_width, crate::proofs::Parts::values_more, crate::proofs::Parts::values_all))]
-// The record of a row: a number, and the row's values.
-fn row(page: &mut Page, number: u32, rel: &Rel, i: u32) -> Result<(), AllocError>
-    requires ready { IsReady page.old }
-    requires between { fields_on page.old ≡ [] }
+// Writes the record of a row: a number, and the row's values. After an error the text is of no use.
+fn row(text: &mut Vec<u8>, number: u32, rel: &Rel, i: u32) -> Result<(), AllocError>
     requires in_range { i < length rel.now.rows }
     requires keeps { IsRelation rel.now }
-    ensures { OnOk result (Says page.new (text_on page.old ++ texts.record_line (decimal number ∷ map texts.value_text (row_in rel.now.rows i))) []) }
+    ensures { OnOk result (text.new.items ≡ text.old.items ++ texts.record_line (decimal number ∷ map texts.value_text (row_in rel.now.rows i))) }
 {
-    page.number(number)?;
+    begin_with_number(text, number)?;
     for c in 0..rel.width() {
-        page.cell(rel.cell(i, c))?;
+        add_cell(text, rel.cell(i, c))?;
     }
-    page.end()
+    text.push(b'\n')?;
+    Ok(())
 }
 
-// The record of the names of the columns, and those of all rows with their places.
-fn numbered_rows(page: &mut Page, columns: &ListOf<Text>, rel: &Rel) -> Result<(), AllocError>
-    requires ready { IsReady page.old }
-    requires between { fields_on page.old ≡ [] }
-    ensures { OnOk result (Says page.new (text_on page.old ++ texts.record_line (codes "row" ∷ columns.now) ++ texts.row_lines (λ i. i) rel.now.rows) []) }
+/// Writes the records of so many rows from a place on, with their places. After an error the text is of no use.
+pub fn numbered_lines(
+    text: &mut Vec<u8>,
+    rel: &Rel,
+    from: u32,
+    count: u32,
+) -> Result<(), AllocError>
+    requires in_range { from + count ≤ length rel.now.rows }
+    requires keeps { IsRelation rel.now }
+    ensures { OnOk result (text.new.items ≡ text.old.items ++ texts.row_lines_to (λ k. from + k) (drop from rel.now.rows) count) }
 {
-    header(page, b"row", columns)?;
-    for i in 0..rel.len() {
-        row(page, i, rel, i)?;
+    for k in 0..count {
+        row(text, from + k, rel, from + k)?;
     }
     Ok(())
 }
 
-// A page that begins with a text, and has room for the records of rows, so that a long text rarely moves while it grows.
-fn page_for(alloc: Global, front: Vec<u8>, rel: &Rel) -> Result<Page, AllocError>
-    ensures { IfOk result (λ page. Says page front.items []) }
+// Writes the records of all rows with their places. After an error the text is of no use.
+fn all_lines(text: &mut Vec<u8>, rel: &Rel) -> Result<(), AllocError>
+    ensures { OnOk result (text.new.items ≡ text.old.items ++ texts.row_lines (λ i. i) rel.now.rows) }
 {
-    let fields = rel.len() as usize * (rel.width() as usize + 1);
+    numbered_lines(text, rel, 0, rel.len())
+}
+
+/// A text with room for the records of so many rows of so many values behind it, so that a long text rarely moves while it grows.
+pub fn with_room(front: Vec<u8>, width: u32, rows: u32) -> Result<Vec<u8>, AllocError>
+    requires few_columns { width ≤ COLUMN_LIMIT }
+    requires few_rows { rows ≤ ROW_LIMIT }
+    ensures { IfOk result (λ text. text.items ≡ front.items) }
+{
+    let fields = rows as usize * (width as usize + 1);
     let mut text = front;
     text.reserve(fields * FIELD_BYTES)?;
-    Ok(Page::new(alloc, text))
+    Ok(text)
 }
 
 /// A text with the records of the names of columns and of rows with their places behind it.
@@ -74,9 +85,10 @@ pub fn with_rows(
     requires { length columns.now ≡ length rel.now.kinds }
     ensures { IfOk result (λ text. text.items ≡ front.items ++ texts.record_line (codes "row" ∷ columns.now) ++ texts.row_lines (λ i. i) rel.now.rows) }
 {
-    let mut page = page_for(alloc, front, rel)?;
-    numbered_rows(&mut page, columns, rel)?;
-    page.finish()
+    let mut text = with_room(front, rel.width(), rel.len())?;
+    header(&mut text, b"row", columns)?;
+    all_lines(&mut text, rel)?;
+    Ok(text)
 }
 
 /// The text of a view: its name and number of rows, the names of its columns, and its rows with their places.
@@ -98,47 +110,27 @@ pub fn view_text(
     with_rows(alloc, front, columns, rel)
 }
 
-// The record of the names of the columns that a table declares.
-#[tactic(auto, using(crate::proofs::Parts::declared_more, crate::proofs::Parts::declared_all))]
-fn table_header(page: &mut Page, columns: &ColDecls) -> Result<(), AllocError>
-    requires ready { IsReady page.old }
-    requires between { fields_on page.old ≡ [] }
-    ensures { OnOk result (Says page.new (text_on page.old ++ texts.record_line (codes "rid" ∷ map (λ column. column.name) columns.now)) []) }
+// Writes the record of the names of the columns that a table declares. After an error the text is of no use.
+fn table_header(text: &mut Vec<u8>, columns: &ColDecls) -> Result<(), AllocError>
+    ensures { OnOk result (text.new.items ≡ text.old.items ++ texts.record_line (codes "rid" ∷ map (λ column. column.name) columns.now)) }
 {
-    page.field(b"rid")?;
+    begin_with(text, b"rid")?;
     for column in columns.as_slice() {
-        page.field(column.name.as_slice())?;
+        add_field(text, column.name.as_slice())?;
     }
-    page.end()
-}
-
-// The records of all rows with these numbers.
-fn placed_lines(page: &mut Page, rids: &[u32], rel: &Rel) -> Result<(), AllocError>
-    requires ready { IsReady page.old }
-    requires between { fields_on page.old ≡ [] }
-    requires rids { length rids.now ≡ length rel.now.rows }
-    ensures { OnOk result (Says page.new (text_on page.old ++ texts.row_lines (λ i. slice_index_or rids.now i 0) rel.now.rows) []) }
-{
-    for i in 0..rel.len() {
-        row(page, rids[i as usize], rel, i)?;
-    }
+    text.push(b'\n')?;
     Ok(())
 }
 
-// The record of the names of the columns that a table declares, and those of all rows with these numbers.
-fn placed_rows(
-    page: &mut Page,
-    columns: &ColDecls,
-    rids: &[u32],
-    rel: &Rel,
-) -> Result<(), AllocError>
-    requires ready { IsReady page.old }
-    requires between { fields_on page.old ≡ [] }
-    requires rids { length rids.now ≡ length rel.now.rows }
-    ensures { OnOk result (Says page.new (text_on page.old ++ texts.record_line (codes "rid" ∷ map (λ column. column.name) columns.now) ++ texts.row_lines (λ i. slice_index_or rids.now i 0) rel.now.rows) []) }
+// Writes the records of all rows with these numbers. After an error the text is of no use.
+fn placed_lines(text: &mut Vec<u8>, rids: &[u32], rel: &Rel) -> Result<(), AllocError>
+    requires { length rids.now ≡ length rel.now.rows }
+    ensures { OnOk result (text.new.items ≡ text.old.items ++ texts.row_lines (λ i. slice_index_or rids.now i 0) rel.now.rows) }
 {
-    table_header(page, columns)?;
-    placed_lines(page, rids, rel)
+    for i in 0..rel.len() {
+        row(text, rids[i as usize], rel, i)?;
+    }
+    Ok(())
 }
 
 /// A text with the record of the names of the columns that a table declares behind it.
@@ -149,9 +141,9 @@ pub fn with_table_header(
 ) -> Result<Vec<u8>, AllocError>
     ensures { IfOk result (λ text. text.items ≡ front.items ++ texts.record_line (codes "rid" ∷ map (λ column. column.name) columns.now)) }
 {
-    let mut page = Page::new(alloc, front);
-    table_header(&mut page, columns)?;
-    page.finish()
+    let mut text = front;
+    table_header(&mut text, columns)?;
+    Ok(text)
 }
 
 /// A text with the records of rows with these numbers behind it.
@@ -164,9 +156,9 @@ pub fn with_numbered_rows(
     requires { length rids.now ≡ length rel.now.rows }
     ensures { IfOk result (λ text. text.items ≡ front.items ++ texts.row_lines (λ i. slice_index_or rids.now i 0) rel.now.rows) }
 {
-    let mut page = page_for(alloc, front, rel)?;
-    placed_lines(&mut page, rids, rel)?;
-    page.finish()
+    let mut text = with_room(front, rel.width(), rel.len())?;
+    placed_lines(&mut text, rids, rel)?;
+    Ok(text)
 }
 
 /// A text with the records of the names of the columns that a table declares, and of rows with these numbers, behind it.
@@ -180,9 +172,10 @@ pub fn with_placed_rows(
     requires { length rids.now ≡ length rel.now.rows }
     ensures { IfOk result (λ text. text.items ≡ front.items ++ texts.record_line (codes "rid" ∷ map (λ column. column.name) columns.now) ++ texts.row_lines (λ i. slice_index_or rids.now i 0) rel.now.rows) }
 {
-    let mut page = page_for(alloc, front, rel)?;
-    placed_rows(&mut page, columns, rids, rel)?;
-    page.finish()
+    let mut text = with_room(front, rel.width(), rel.len())?;
+    table_header(&mut text, columns)?;
+    placed_lines(&mut text, rids, rel)?;
+    Ok(text)
 }
 
 /// The text of a backward answer, with the columns that the table declares.

@@ -6,7 +6,7 @@ use Rattle.smk_base.specs.Rels.{Relation}
 use Rattle.smk_session.specs.Parts.{parts_image}
 use Rattle.smk_session.specs.declared.extra.CubesOn.{CubesOn}
 use Rattle.smk_session.specs.declared.extra.SplitOn.{SplitOn}
-use Rattle.smk_compose.specs.declared.kept.Run.{Run}
+use Rattle.smk_compose.specs.declared.kept_maps.Run.{Run}
 use Rattle.smk_grow.specs.Renewed.{replaced}
 use Rattle.smk_grow.proofs.Committed.{committed, few_cubes, few_splits, few_views}
 use Rattle.smk_grow.proofs.growing.commit.Goals as goal

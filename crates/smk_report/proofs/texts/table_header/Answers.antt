@@ -1,10 +1,21 @@
-use Rattle.std.proofs.Common.{arith}
-use Rattle.std.proofs.lemmas.Grind.{common_steps}
-use Rattle.smk_report.proofs.Parts.{declared_more, declared_all}
+use Rattle.std.proofs.Common.{◌∙◌, ◌<◌, ℕ, List, ◌+◌, ◌++◌, ◌∷◌, length, map, take, take_all, ap, arith, codes}
+use Rattle.csv.specs.Writing.{default_writer, field_text, row_body}
+use Rattle.smk_base.specs.declared.col_decl.ColDecl.{ColDecl}
+use Rattle.smk_report.proofs.FieldTexts.{field_added, record_ended}
+use Rattle.smk_report.proofs.Parts.{declared_more}
 use Rattle.smk_report.proofs.texts.table_header.Goals as goal
 
 pub loop-column-preserved : goal.loop-column-preserved
-loop-column-preserved c = grind (arith, common_steps, declared_more, declared_all)
+loop-column-preserved c =
+    let columns = c.as_slice-column-items.result.now in
+    let i = c.loop-column.column-index in
+    field_added c.args.text.now.items _ _ (codes "rid") (map (λ (column : ColDecl). column.name) (take i columns)) (map (λ (column : ColDecl). column.name) (take (i + 1) columns)) c.column-item.result.name
+    (declared_more columns i c.column-item.result c.loop-column-test.true c.column-item.is) c.loop-column.invariant
+    (c.in_ok-add_field.ensures ∙ ap (λ (x : List ℕ). c.loop-column.text.items ++ (44 ∷ field_text default_writer x)) c.as_slice.ensures)
 
 pub returns : goal.returns
-returns c = grind (arith, common_steps, declared_more, declared_all)
+returns c =
+    let all = take_all c.loop-column.column-index c.as_slice-column-items.result.now (omega (arith, c.loop-column-test.false)) ∙ c.as_slice-column-items.ensures in
+    let some : 0 < length (codes "rid") = omega arith in
+    record_ended c.args.text.now.items _ _ (codes "rid") (map (λ (column : ColDecl). column.name) c.args.columns.now) some
+    (c.loop-column.invariant ∙ ap (λ (x : List ColDecl). c.args.text.now.items ++ row_body default_writer (codes "rid" ∷ map (λ (column : ColDecl). column.name) x)) all) c.in_ok-push.ensures.items

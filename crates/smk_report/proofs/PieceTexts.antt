@@ -1,0 +1,84 @@
+-- Pieces of the records of rows, put behind one another.
+use Rattle.std.proofs.Common.{◌≡◌, ◌∙◌, ◌<◌, ◌≤◌, ◌+◌, ◌-◌, ◌*◌, ◌/◌, ◌++◌, ◌∷◌, [], ℕ, zero, suc, List, length, map, drop, get_or, sym, ap, subst, arith, Vec, Global, Result, Ok, IfOk, append-nil, append_assoc, decimal}
+use Rattle.std.specs.List.{flat_map}
+use Rattle.std.proofs.Math.Nat.{mul-le-mul}
+use Rattle.std.proofs.lemmas.Nat.{div-add-mod', mod_below}
+use Rattle.std.proofs.lemmas.List.{get_or-drop, get_or-map, length-map}
+use Rattle.smk_base.specs.Rels.{row_in}
+use Rattle.smk_model.specs.Values.{Row}
+use Rattle.smk_model.specs.Texts.{record_line, value_text, row_lines_to}
+use Rattle.smk_report.specs.PieceTexts.{piece_at, IsPiece}
+use Rattle.smk_report.proofs.Parts.{lines_more}
+
+-- what is multiplied stays small
+pub product_small : (count n p : ℕ) → 0 < count → p ≤ count → count ≤ 64 → n ≤ 1048576 → p * (n / count + 1) < 4294967296
+product_small count n p some below few rows =
+    let whole = div-add-mod' n count in
+    let less : n / count ≤ n = omega (arith, whole, mul-le-mul {n₁ = n / count} {m₁ = 1} {n₂ = n / count} {m₂ = count} (omega arith) some) in
+    omega (arith, mul-le-mul {n₁ = p} {m₁ = n / count + 1} {n₂ = 64} {m₂ = 1048577} (omega arith) (omega arith))
+
+-- no piece begins before the one in front of it, or past the end
+pub piece_grows : (count n p : ℕ) → piece_at count n p ≤ piece_at count n (p + 1)
+piece_grows count n p = omega arith
+
+pub piece_within : (count n p : ℕ) → piece_at count n p ≤ n
+piece_within count n p = omega arith
+
+-- the last ends behind the last row
+pub piece_last : (count n : ℕ) → 0 < count → piece_at count n count ≡ n
+piece_last count n some = omega (arith, div-add-mod' n count, mod_below n count some)
+
+-- more rows, numbered by their places
+lines_split : (rows : List Row) (a n : ℕ) → row_lines_to (λ (k : ℕ). k) rows (a + n) ≡ row_lines_to (λ (k : ℕ). k) rows a ++ row_lines_to (λ (k : ℕ). a + k) (drop a rows) n
+lines_split rows a zero =
+    let none : a + 0 ≡ a = omega arith in
+    ap (λ (x : ℕ). row_lines_to (λ (k : ℕ). k) rows x) none ∙ sym (append-nil (row_lines_to (λ (k : ℕ). k) rows a))
+lines_split rows a (suc n) =
+    let next : a + suc n ≡ (a + n) + 1 = omega arith in
+    let one : suc n ≡ n + 1 = omega arith in
+    let front : List ℕ = row_lines_to (λ (k : ℕ). k) rows a in
+    let between : List ℕ = row_lines_to (λ (k : ℕ). a + k) (drop a rows) n in
+    let line : List ℕ = record_line (decimal (a + n) ∷ map value_text (row_in rows (a + n))) in
+    let there : row_lines_to (λ (k : ℕ). a + k) (drop a rows) (suc n) ≡ between ++ line =
+    ap (λ (x : ℕ). row_lines_to (λ (k : ℕ). a + k) (drop a rows) x) one ∙ lines_more (λ (k : ℕ). a + k) (drop a rows) n
+    ∙ ap (λ (row : Row). between ++ record_line (decimal (a + n) ∷ map value_text row)) (get_or-drop a rows n []) in
+    ap (λ (x : ℕ). row_lines_to (λ (k : ℕ). k) rows x) next ∙ lines_more (λ (k : ℕ). k) rows (a + n) ∙ ap (λ (x : List ℕ). x ++ line) (lines_split rows a n)
+    ∙ append_assoc front between line ∙ ap (λ (x : List ℕ). front ++ x) (sym there)
+
+-- the records of the rows of a piece
+pub piece_added : (rows : List Row) (count p from to : ℕ) (text : List ℕ) → from ≡ piece_at count (length rows) p → to ≡ piece_at count (length rows) (p + 1)
+    → text ≡ [] ++ row_lines_to (λ (k : ℕ). from + k) (drop from rows) (to - from) → IsPiece rows count p text
+piece_added rows count p from to text begins ends is =
+    let whole : to ≡ from + (to - from) = omega (arith, piece_grows count (length rows) p) in
+    rw (← begins, ← ends, is) (ap (λ (x : ℕ). row_lines_to (λ (k : ℕ). k) rows x) whole ∙ lines_split rows from (to - from))
+
+-- all pieces up to one have the records of all rows up to there
+joined_to : {A : Type 0} (bytes : A → List ℕ) (at : ℕ → List ℕ) (pieces : List A) (k : ℕ)
+    → ((p : ℕ) (d : A) → p < length pieces → at (k + p + 1) ≡ at (k + p) ++ bytes (get_or pieces p d))
+    → at (k + length pieces) ≡ at k ++ flat_map bytes pieces
+joined_to bytes at [] k each = ap at (omega arith) ∙ sym (append-nil (at k))
+joined_to bytes at (piece ∷ rest) k each =
+    let first : at (k + 1) ≡ at k ++ bytes piece = ap at (omega arith) ∙ each 0 piece (omega arith) ∙ ap (λ (x : ℕ). at x ++ bytes piece) (omega arith) in
+    let then = joined_to bytes at rest (k + 1) (λ p d h. ap at (omega arith) ∙ each (suc p) d (omega arith) ∙ ap (λ (x : ℕ). at x ++ bytes (get_or rest p d)) (omega arith)) in
+    ap at (omega arith) ∙ then ∙ ap (λ (x : List ℕ). x ++ flat_map bytes rest) first ∙ append_assoc (at k) (bytes piece) (flat_map bytes rest)
+
+-- all pieces have the records of all rows
+pub pieces_joined : {A : Type 0} (bytes : A → List ℕ) (rows : List Row) (count : ℕ) (pieces : List A) → 0 < count → length pieces ≡ count
+    → ((p : ℕ) (d : A) → p < count → IsPiece rows count p (bytes (get_or pieces p d)))
+    → flat_map bytes pieces ≡ row_lines_to (λ (k : ℕ). k) rows (length rows)
+pieces_joined bytes rows count pieces some size each =
+    let at : ℕ → List ℕ = λ p. row_lines_to (λ (k : ℕ). k) rows (piece_at count (length rows) p) in
+    let none : piece_at count (length rows) 0 ≡ 0 = omega arith in
+    let all = joined_to bytes at pieces 0 (λ p d h. ap at (omega arith) ∙ each p d (omega arith) ∙ ap (λ (x : ℕ). at x ++ bytes (get_or pieces p d)) (omega arith)) in
+    let last : piece_at count (length rows) (0 + length pieces) ≡ length rows = ap (piece_at count (length rows)) (omega arith) ∙ piece_last count (length rows) some in
+    sym (ap (λ (x : ℕ). row_lines_to (λ (k : ℕ). k) rows x ++ flat_map bytes pieces) none) ∙ sym all ∙ ap (λ (x : ℕ). row_lines_to (λ (k : ℕ). k) rows x) last
+
+-- what all pieces have written
+pub pieces_made : {E : Type 0} (rows : List Row) (count : ℕ) (all : List (Vec ℕ Global)) (tried : List (Result (Vec ℕ Global) E)) → map Ok all ≡ tried
+    → ((p : ℕ) (e : Result (Vec ℕ Global) E) → p < count → IfOk (get_or tried p e) (λ text. IsPiece rows count p text.items))
+    → length tried ≡ count → (p : ℕ) (d : Vec ℕ Global) → p < count → IsPiece rows count p (get_or all p d).items
+pieces_made {E} rows count all tried same each size p d h =
+    let whole : length all ≡ length tried = sym (length-map all Ok) ∙ ap (λ (xs : List (Result (Vec ℕ Global) E)). length xs) same in
+    let there : p < length all = omega (arith, whole, size, h) in
+    let at : get_or tried p (Ok d) ≡ Ok (get_or all p d) = ap (λ (xs : List (Result (Vec ℕ Global) E)). get_or xs p (Ok d)) (sym same) ∙ get_or-map Ok all p d (Ok d) there in
+    subst (λ (r : Result (Vec ℕ Global) E). IfOk r (λ text. IsPiece rows count p text.items)) at (each p (Ok d) h)

@@ -1,0 +1,13 @@
+use Rattle.std.proofs.Common.{◌≡◌, ℕ, Vec, Global, length, arith, rules}
+use Rattle.std.specs.List.{flat_map}
+use Rattle.std.proofs.lemmas.Grind.{common_steps}
+use Rattle.smk_model.specs.Texts.{row_lines_to}
+use Rattle.smk_report.proofs.PieceTexts.{pieces_joined}
+use Rattle.smk_report.proofs.pieces.add_lines.Goals as goal
+
+pub returns : goal.returns
+returns g c =
+    let rows = c.args.rel.now.rows in
+    let all : flat_map (λ (piece : Vec ℕ Global). piece.items) c.in_ok-pieces.pieces.items ≡ row_lines_to (λ (k : ℕ). k) rows (length rows) =
+    pieces_joined (λ (piece : Vec ℕ Global). piece.items) rows c.args.count c.in_ok-pieces.pieces.items c.requires.some c.in_ok-pieces.ensures.all c.in_ok-pieces.ensures.each in
+    rw (← all) (first_of (search rules, grind (arith, common_steps)))

@@ -1,0 +1,9 @@
+use Rattle.std.proofs.Common.{◌+◌, [], drop, refl}
+use Rattle.std.proofs.lemmas.List.{get_or-drop}
+use Rattle.smk_report.proofs.Parts.{lines_added}
+use Rattle.smk_report.proofs.texts.numbered_lines.Goals as goal
+
+pub loop-k-preserved : goal.loop-k-preserved
+loop-k-preserved c =
+    let rows = c.args.rel.now.rows in
+    lines_added c.args.text.now.items _ _ (λ k. c.args.from + k) (drop c.args.from rows) c.loop-k.k _ _ refl (get_or-drop c.args.from rows c.loop-k.k []) c.loop-k.invariant c.in_ok-row.ensures

@@ -1,0 +1,6 @@
+use Rattle.std.proofs.Common.{◌≡◌, ℕ, ◌+◌, ◌++◌, drop}
+use Rattle.smk_model.specs.Texts.{row_lines_to}
+use Rattle.smk_report.proofs.texts.numbered_lines.Given as goal
+
+abbrev pub invariant-loop-k : goal.invariant-loop-k
+invariant-loop-k l = l.text.items ≡ l.initial.text.items ++ row_lines_to (λ (k : ℕ). l.from + k) (drop l.from l.rel.rows) l.k

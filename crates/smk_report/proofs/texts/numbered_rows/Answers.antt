@@ -1,7 +1,0 @@
-use Rattle.std.proofs.Common.{refl}
-use Rattle.smk_report.specs.Pages.{text_on}
-use Rattle.smk_report.proofs.Parts.{says_more}
-use Rattle.smk_report.proofs.texts.numbered_rows.Goals as goal
-
-pub loop-i-preserved : goal.loop-i-preserved
-loop-i-preserved c = says_more _ _ (text_on c.header.new.page) (λ i. i) c.args.rel.now.rows c.loop-i.i _ refl c.loop-i.invariant c.in_ok-row.ensures

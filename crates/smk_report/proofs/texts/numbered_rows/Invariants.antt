@@ -1,7 +1,0 @@
-use Rattle.std.proofs.Common.{ℕ, ◌++◌, []}
-use Rattle.smk_model.specs.Texts.{row_lines_to}
-use Rattle.smk_report.specs.Pages.{Says, text_on}
-use Rattle.smk_report.proofs.texts.numbered_rows.Given as goal
-
-abbrev pub invariant-loop-i : goal.invariant-loop-i
-invariant-loop-i l = Says l.page (text_on l.initial.page ++ row_lines_to (λ (i : ℕ). i) l.rel.rows l.i) []
