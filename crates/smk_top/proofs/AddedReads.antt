@@ -18,7 +18,7 @@ use Rattle.smk_model.specs.Values.{Row}
 use Rattle.smk_model.proofs.OneOutcome.{same_readings}
 use Rattle.smk_top.specs.declared.stop.Stop.{Stop}
 use Rattle.smk_top.specs.declared.stop.Stop.TheVariants.{At, Unwritten, Exhausted}
-use Rattle.smk_top.specs.Reading.{Reads, Loads, unread_among}
+use Rattle.smk_top.specs.Collecting.{ReadsNamed, Loads, unread_among}
 use Rattle.smk_top.proofs.ScriptReads.{readings_more, rest_said}
 use Rattle.smk_top.proofs.Stops.{untold_within}
 use Rattle.smk_top.proofs.TableLoads.{load_more, load_stops}
@@ -89,11 +89,11 @@ abbrev pub rows_brought : Option Relation → List (List Row)
 rows_brought brought = each_rows (option_to_list brought)
 
 -- the table of a line's file
-pub one_loaded : (held : Option Held) (rose : Type 0) (info : TableInfo) (table : Relation) → Reads held rose info.file (λ h answer. load h info ≡ answer) (λ (t : Relation). t.rows) (Ok table)
+pub one_loaded : (held : Option Held) (rose : Type 0) (info : TableInfo) (table : Relation) → ReadsNamed held rose info.file (λ h answer. load h info ≡ answer) (λ (t : Relation). t.rows) (Ok table)
     → Loads held rose (info ∷ []) rows_brought (Ok (Some table))
 one_loaded held rose info table read = load_more rows_brought (λ (t : Relation). t.rows) held (Unit {0}) rose rose [] info None (Some table) table (none_loaded rows_brought held (Unit {0}) None refl) read refl
 
-pub one_stops : (held : Option Held) (rose : Type 0) (info : TableInfo) (stop : Stop) → Reads {X = Relation} held rose info.file (λ h answer. load h info ≡ answer) (λ (t : Relation). t.rows) (Err stop)
+pub one_stops : (held : Option Held) (rose : Type 0) (info : TableInfo) (stop : Stop) → ReadsNamed {X = Relation} held rose info.file (λ h answer. load h info ≡ answer) (λ (t : Relation). t.rows) (Err stop)
     → Loads held rose (info ∷ []) rows_brought (Err stop)
 one_stops held rose info stop read = load_stops rows_brought (λ (t : Relation). t.rows) rows_brought held (Unit {0}) rose rose [] info [] None stop (λ up. up) (none_loaded rows_brought held (Unit {0}) None refl) read
 

@@ -3,7 +3,7 @@ use Rattle.std.proofs.Common.{◌≡◌, ◌⊎◌, ℕ, List, [], Option, Some,
 use Rattle.smk_base.specs.declared.fault.Fault.{Fault}
 use Rattle.smk_model.specs.Reports.{Report}
 use Rattle.smk_model.specs.Outcome.{Held, Outcome, HasCause, IsReport, NamesRead, UntoldCause, WhereTold, nothing_held, written_of}
-use Rattle.smk_model.specs.Words.{Words, Demo, words_of}
+use Rattle.smk_model.specs.Words.{TextSource, Demo, words_of}
 use Rattle.smk_model.proofs.OneOutcome.{one_outcome}
 use Rattle.smk_outside.specs.Outside.{Appends}
 use Rattle.smk_top.specs.declared.status.Status.{Status}
@@ -34,8 +34,8 @@ told_alone words held rose report ok = record {
     by fault (inr (up, named)) none = none up
 
 -- what is so of a demo is so over files that hold nothing
-of_demo : (asked : Option Words) (n : ℕ) (rest : Type 0) (is : Held → Type 0) → asked ≡ Some (Demo n) → WhereTold None asked rest is → is nothing_held
-of_demo asked n rest is demo told = subst (λ (ws : Option Words). WhereTold None ws rest is) demo told
+of_demo : (asked : Option TextSource) (n : ℕ) (rest : Type 0) (is : Held → Type 0) → asked ≡ Some (Demo n) → WhereTold None asked rest is → is nothing_held
+of_demo asked n rest is demo told = subst (λ (ws : Option TextSource). WhereTold None ws rest is) demo told
 
 demo_alone : (words : List (List ℕ)) (n : ℕ) (rose : Type 0) (report : Report) → words_of words ≡ Some (Demo n) → Outcome words nothing_held (Ok report) → IsAlone words None rose report
 demo_alone words n rose report demo ok = record {

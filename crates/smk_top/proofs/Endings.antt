@@ -14,7 +14,7 @@ use Rattle.smk_model.specs.Reports.{Report, report_of, size_of_view}
 use Rattle.smk_model.specs.Readings.{Reading, AreReadingsOf}
 use Rattle.smk_model.specs.Session.{Workbook, view_at}
 use Rattle.smk_model.specs.Values.{Row}
-use Rattle.smk_model.specs.Words.{Words, Files, Demo, words_of}
+use Rattle.smk_model.specs.Words.{TextSource, Files, Demo, words_of}
 use Rattle.smk_model.specs.Outcome.{Held, Inputs, text_named, unless_view_fault, reported as report_or_fault, ReadsInputs, unusable, usable, Outcome, unreadable, read, written_for, written_of, NamesRead, nothing_held, WhereTold, UntoldCause, IsReport, HasCause}
 use Rattle.smk_top.specs.declared.counts.Counts.{Counts}
 use Rattle.smk_top.specs.declared.status.Status.{Status}
@@ -22,7 +22,7 @@ use Rattle.smk_top.specs.declared.status.Status.TheVariants.{WriteFault}
 use Rattle.smk_top.specs.declared.stop.Stop.{Stop}
 use Rattle.smk_top.specs.declared.stop.Stop.TheVariants.{At, Unwritten, Exhausted}
 use Rattle.smk_top.specs.Statuses.{status_of_report}
-use Rattle.smk_top.specs.Reading.{ReadsAll, IsInputs, Starts, IsSayable}
+use Rattle.smk_top.specs.Collecting.{ReadsAll, IsInputs, Starts, IsSayable}
 use Rattle.smk_top.specs.Counting.{counts_of}
 use Rattle.smk_top.specs.Writing.{PutsPieces}
 use Rattle.smk_top.specs.Endings.{IsBegun, reported, faulted, unwritten, exhausted, fault_unsaid, memory_unsaid, RunEnds, Works, Reports, SaysMemory, SaysFault}
@@ -57,18 +57,18 @@ untold_views rose (ViewPairs view node name) h = tt
 untold_views rose _ h = absurd h
 
 -- what follows for all files follows where they don't tell
-where_told : (held : Option Held) (ws : Option Words) (A B : Type 0) (P Q : Held → Type 0) → (A → B) → ((h : Held) → P h → Q h) → WhereTold held ws A P → WhereTold held ws B Q
+where_told : (held : Option Held) (ws : Option TextSource) (A B : Type 0) (P Q : Held → Type 0) → (A → B) → ((h : Held) → P h → Q h) → WhereTold held ws A P → WhereTold held ws B Q
 where_told (Some held) ws A B P Q f g is = g held is
 where_told None (Some (Files book script)) A B P Q f g is = f is
 where_told None (Some (Demo n)) A B P Q f g is = g nothing_held is
 where_told None None A B P Q f g is = g nothing_held is
 
 -- the same for words that name no file
-where_demo : (held : Option Held) (ws : Option Words) (n : ℕ) (A : Type 0) (P : Held → Type 0) → ws ≡ Some (Demo n) → ((h : Held) → P h) → WhereTold held ws A P
+where_demo : (held : Option Held) (ws : Option TextSource) (n : ℕ) (A : Type 0) (P : Held → Type 0) → ws ≡ Some (Demo n) → ((h : Held) → P h) → WhereTold held ws A P
 where_demo (Some held) ws n A P is all = all held
 where_demo None ws n A P is all = rw is (all nothing_held)
 
-where_unusable : (held : Option Held) (ws : Option Words) (A : Type 0) (P : Held → Type 0) → ws ≡ None → ((h : Held) → P h) → WhereTold held ws A P
+where_unusable : (held : Option Held) (ws : Option TextSource) (A : Type 0) (P : Held → Type 0) → ws ≡ None → ((h : Held) → P h) → WhereTold held ws A P
 where_unusable (Some held) ws A P is all = all held
 where_unusable None ws A P is all = rw is (all nothing_held)
 
@@ -90,7 +90,7 @@ usage_stops words held files_rose out_rose a none = (where_unusable held (words_
 files_cause : {X : Type 0} (words : List (List ℕ)) (book : List ℕ) (script : Option (List ℕ)) (held : Option Held) (rose : Type 0) (reads : X → List Reading → Inputs) (bytes : X → List ℕ) (fault : Fault)
     → words_of words ≡ Some (Files book script) → ReadsAll held rose book script reads bytes (Err (At fault)) → HasCause words held rose fault
 files_cause words book script (Some held) rose reads bytes fault is (inl err) = inl (unreadable (usable is err))
-files_cause words book script (Some held) rose reads bytes fault is (inr (up, named)) = inr (up, subst (λ (ws : Option Words). NamesRead ws held fault) (sym is) named)
+files_cause words book script (Some held) rose reads bytes fault is (inr (up, named)) = inr (up, subst (λ (ws : Option TextSource). NamesRead ws held fault) (sym is) named)
 files_cause words book script None rose reads bytes fault is h = rw is h
 
 pub files_stop : {X : Type 0} (words : List (List ℕ)) (book : List ℕ) (script : Option (List ℕ)) (held : Option Held) (rose out_rose : Type 0) (reads : X → List Reading → Inputs) (bytes : X → List ℕ) (a : Option (List ℕ)) (stop : Stop)

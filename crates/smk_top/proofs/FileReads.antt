@@ -26,13 +26,13 @@ use Rattle.smk_parse.specs.Answers.{IsBookAnswer, IsAnyAnswer}
 use Rattle.smk_top.specs.Answering.{KeepsLine}
 use Rattle.smk_top.specs.declared.stop.Stop.{Stop}
 use Rattle.smk_top.specs.declared.stop.Stop.TheVariants.{At, Unwritten, Exhausted}
-use Rattle.smk_top.specs.Reading.{Answers, Reads}
+use Rattle.smk_top.specs.Collecting.{Answers, ReadsNamed}
 
 -- the file is read, and then its bytes say this
 pub says_after : {A X Y : Type 0} (image : X → A) (content : Y → List ℕ) (held : Option Held) (rose : Type 0) (name bytes : List ℕ) (y : Y) (says : List ℕ → Result A Fault → Type 0) (r : Result X Stop)
-    → Reads held rose name (λ h answer. content_of h name ≡ answer) content (Ok y) → bytes ≡ content y
+    → ReadsNamed held rose name (λ h answer. content_of h name ≡ answer) content (Ok y) → bytes ≡ content y
     → ((fault : Fault) → says bytes (Err fault) → UntoldCause rose fault)
-    → Answers (says bytes) image r → Reads held rose name (λ h. FileSays h name says) image r
+    → Answers (says bytes) image r → ReadsNamed held rose name (λ h. FileSays h name says) image r
 says_after image content (Some held) rose name bytes y says (Ok x) is same own a = read is (subst (λ (b : List ℕ). says b (Ok (image x))) same a)
 says_after image content (Some held) rose name bytes y says (Err (At fault)) is same own a = inl (read is (subst (λ (b : List ℕ). says b (Err fault)) same a))
 says_after image content (Some held) rose name bytes y says (Err Unwritten) is same own a = a
@@ -44,7 +44,7 @@ says_after image content None rose name bytes y says (Err Exhausted) is same own
 
 -- the file isn't read
 pub says_stop : {A X Y : Type 0} (image : X → A) (content : Y → List ℕ) (held : Option Held) (rose : Type 0) (name : List ℕ) (says : List ℕ → Result A Fault → Type 0) (stop : Stop)
-    → Reads {X = Y} held rose name (λ h answer. content_of h name ≡ answer) content (Err stop) → Reads {X = X} held rose name (λ h. FileSays h name says) image (Err stop)
+    → ReadsNamed {X = Y} held rose name (λ h answer. content_of h name ≡ answer) content (Err stop) → ReadsNamed {X = X} held rose name (λ h. FileSays h name says) image (Err stop)
 says_stop image content (Some held) rose name says (At fault) (inl is) = inl (unread is)
 says_stop image content (Some held) rose name says (At fault) (inr up) = inr up
 says_stop image content (Some held) rose name says Unwritten is = is
@@ -55,7 +55,7 @@ says_stop image content None rose name says Exhausted is = tt
 
 -- the same, said in other words
 pub reads_as : {A X : Type 0} (image : X → A) (held : Option Held) (rose : Type 0) (name : List ℕ) (says other : Held → Result A Fault → Type 0) (r : Result X Stop)
-    → ((h : Held) (answer : Result A Fault) → says h answer → other h answer) → Reads held rose name says image r → Reads held rose name other image r
+    → ((h : Held) (answer : Result A Fault) → says h answer → other h answer) → ReadsNamed held rose name says image r → ReadsNamed held rose name other image r
 reads_as image (Some held) rose name says other (Ok x) change a = change held (Ok (image x)) a
 reads_as image (Some held) rose name says other (Err (At fault)) change (inl a) = inl (change held (Err fault) a)
 reads_as image (Some held) rose name says other (Err (At fault)) change (inr up) = inr up

@@ -15,7 +15,7 @@ use Rattle.smk_top.specs.declared.called.RunWords.{RunWords}
 use Rattle.smk_top.specs.declared.stop.Stop.{Stop}
 use Rattle.smk_top.specs.declared.stop.Stop.TheVariants.{At, Unwritten, Exhausted}
 use Rattle.smk_top.specs.Image.{invocation_image, texts_image}
-use Rattle.smk_top.specs.Reading.{Reads, Loads, unread_among, OpensBytes, ReadsAll}
+use Rattle.smk_top.specs.Collecting.{ReadsNamed, Loads, unread_among, OpensBytes, ReadsAll}
 
 -- a count that rose in a part rose in the whole
 pub rose_within : (start before after end : ℕ) → start ≤ before → before ≤ after → after ≤ end → Rose before after → Rose start end
@@ -45,7 +45,7 @@ untold_within rose_here rose (ViewPairs view node name) wide h = tt
 
 -- the book
 pub book_stops : {X Y : Type 0} (image : X → BookSaid) (reads : Y → List Reading → Inputs) (bytes : Y → List ℕ) (held : Option Held) (rose : Type 0) (book : List ℕ) (script : Option (List ℕ)) (stop : Stop)
-    → Reads held rose book (λ h. OpensBook h book) image (Err stop) → ReadsAll {X = Y} held rose book script reads bytes (Err stop)
+    → ReadsNamed held rose book (λ h. OpensBook h book) image (Err stop) → ReadsAll {X = Y} held rose book script reads bytes (Err stop)
 book_stops image reads bytes (Some held) rose book script (At fault) (inl err) = inl (no_book err)
 book_stops image reads bytes (Some held) rose book script (At fault) (inr (up, name)) = inr (up, rw name the_book)
 book_stops image reads bytes (Some held) rose book script Unwritten h = h
@@ -57,7 +57,7 @@ book_stops image reads bytes None rose book script Exhausted h = tt
 -- the tables
 pub tables_stop : {X Y Z : Type 0} (image : X → BookSaid) (rows : Z → List (List Row)) (reads : Y → List Reading → Inputs) (bytes : Y → List ℕ) (opened : X) (held : Option Held) (rose_before rose_here rose : Type 0) (book : List ℕ) (script : Option (List ℕ)) (stop : Stop)
     → (rose_here → rose)
-    → Reads held rose_before book (λ h. OpensBook h book) image (Ok opened)
+    → ReadsNamed held rose_before book (λ h. OpensBook h book) image (Ok opened)
     → Loads held rose_here (image opened).catalog.tables rows (Err stop) → ReadsAll {X = Y} held rose book script reads bytes (Err stop)
 tables_stop image rows reads bytes opened (Some held) r1 r2 rose book script (At fault) wide ok (inl err) = inl (no_tables ok err)
 tables_stop image rows reads bytes opened (Some held) r1 r2 rose book script (At fault) wide ok (inr (up, unread_among before table behind are loaded name)) = inr (wide up, rw name (a_table before table behind ok are loaded))
@@ -71,7 +71,7 @@ tables_stop image rows reads bytes opened None r1 r2 rose book script Exhausted 
 pub script_stops : {X Y Z V : Type 0} (image : X → BookSaid) (rows : Z → List (List Row)) (content : V → List ℕ) (reads : Y → List Reading → Inputs) (bytes : Y → List ℕ) (opened : X) (tables : Z)
     (held : Option Held) (rose_first rose_second rose_here rose : Type 0) (book : List ℕ) (script : Option (List ℕ)) (stop : Stop)
     → (rose_here → rose)
-    → Reads held rose_first book (λ h. OpensBook h book) image (Ok opened)
+    → ReadsNamed held rose_first book (λ h. OpensBook h book) image (Ok opened)
     → Loads held rose_second (image opened).catalog.tables rows (Ok tables)
     → OpensBytes {X = V} held rose_here script content (Err stop) → ReadsAll {X = Y} held rose book script reads bytes (Err stop)
 script_stops image rows content reads bytes opened tables (Some held) r1 r2 r3 rose book script (At fault) wide ok fine (inl err) = inl (no_readings ok fine err)
@@ -86,7 +86,7 @@ script_stops image rows content reads bytes opened tables None r1 r2 r3 rose boo
 pub added_stop : {X Y Z V W : Type 0} (image : X → BookSaid) (rows : Z → List (List Row)) (content : V → List ℕ) (more : W → List (List Row)) (reads : Y → List Reading → Inputs) (bytes : Y → List ℕ) (opened : X) (tables : Z) (text : V) (said : List Reading)
     (held : Option Held) (rose_first rose_second rose_third rose_here rose : Type 0) (book : List ℕ) (script : Option (List ℕ)) (stop : Stop)
     → (rose_here → rose)
-    → Reads held rose_first book (λ h. OpensBook h book) image (Ok opened)
+    → ReadsNamed held rose_first book (λ h. OpensBook h book) image (Ok opened)
     → Loads held rose_second (image opened).catalog.tables rows (Ok tables)
     → OpensBytes held rose_third script content (Ok text) → AreReadingsOf (content text) said
     → Loads {X = W} held rose_here (appended (image opened).catalog said) more (Err stop) → ReadsAll {X = Y} held rose book script reads bytes (Err stop)
@@ -108,7 +108,7 @@ added_of rows rose readings result now before held_book book same alike is =
 pub all_read : {X Y Z V W : Type 0} (image : X → BookSaid) (rows : Z → List (List Row)) (content : V → List ℕ) (more : W → List (List Row)) (reads : Y → List Reading → Inputs) (bytes : Y → List ℕ) (opened : X) (tables : Z) (text : V) (added : W) (all : Y)
     (held : Option Held) (rose_first rose_second rose_third rose_fourth rose : Type 0) (book : List ℕ) (script : Option (List ℕ))
     → ((readings : List Reading) → reads all readings ≡ record { book = record { catalog = (image opened).catalog; tables = rows tables }; fds = (image opened).fds; readings = readings; added = more added }) → bytes all ≡ content text
-    → Reads held rose_first book (λ h. OpensBook h book) image (Ok opened)
+    → ReadsNamed held rose_first book (λ h. OpensBook h book) image (Ok opened)
     → Loads held rose_second (image opened).catalog.tables rows (Ok tables)
     → OpensBytes held rose_third script content (Ok text)
     → ((readings : List Reading) → AreReadingsOf (content text) readings → Loads held rose_fourth (appended (image opened).catalog readings) more (Ok added))
@@ -140,6 +140,6 @@ rest_stops reads bytes others content None r1 r2 book script Exhausted wide is =
 
 -- a book that was opened, as what it says
 pub opened_as : {X : Type 0} (image : X → BookSaid) (held : Option Held) (rose other : Type 0) (book : List ℕ) (opened : X)
-    → Reads held rose book (λ h. OpensBook h book) image (Ok opened) → Reads held other book (λ h. OpensBook h book) (λ (said : BookSaid). said) (Ok (image opened))
+    → ReadsNamed held rose book (λ h. OpensBook h book) image (Ok opened) → ReadsNamed held other book (λ h. OpensBook h book) (λ (said : BookSaid). said) (Ok (image opened))
 opened_as image (Some held) rose other book opened is = is
 opened_as image None rose other book opened is = tt

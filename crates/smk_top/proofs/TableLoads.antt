@@ -14,14 +14,14 @@ use Rattle.smk_model.specs.Selection.{each_rows, each_kinds}
 use Rattle.smk_model.specs.Outcome.{Held, load}
 use Rattle.smk_top.specs.declared.stop.Stop.{Stop}
 use Rattle.smk_top.specs.declared.stop.Stop.TheVariants.{At, Unwritten, Exhausted}
-use Rattle.smk_top.specs.Reading.{Reads, Loads, unread_among}
+use Rattle.smk_top.specs.Collecting.{ReadsNamed, Loads, unread_among}
 use Rattle.smk_model.proofs.InOrder.{then_value, then_fault}
 use Rattle.smk_model.proofs.Places.{map_map}
 use Rattle.smk_top.proofs.Stops.{untold_within}
 
 -- one table more
 pub load_more : {X Y : Type 0} (rows : X → List (List Row)) (row : Y → List Row) (held : Option Held) (rose_first rose_here rose : Type 0) (done : List TableInfo) (info : TableInfo) (before after : X) (y : Y)
-    → Loads held rose_first done rows (Ok before) → Reads held rose_here info.file (λ h answer. load h info ≡ answer) row (Ok y) → rows after ≡ rows before ++ row y ∷ []
+    → Loads held rose_first done rows (Ok before) → ReadsNamed held rose_here info.file (λ h answer. load h info ≡ answer) row (Ok y) → rows after ≡ rows before ++ row y ∷ []
     → Loads held rose (done ++ info ∷ []) rows (Ok after)
 load_more rows row (Some held) r1 r2 r3 done info before after y is e more =
     ap all_or_first (map-append (load held) done (info ∷ [])) ∙ then_value (map (load held) done) (load held info) (rows before) (row y) is e ∙ ap Ok (sym more)
@@ -29,7 +29,7 @@ load_more rows row None r1 r2 r3 done info before after y is e more = tt
 
 -- or none, and why
 pub load_stops : {X Y Z : Type 0} (rows : X → List (List Row)) (row : Y → List Row) (whole : Z → List (List Row)) (held : Option Held) (rose_first rose_here rose : Type 0) (done : List TableInfo) (info : TableInfo) (behind : List TableInfo) (before : X) (stop : Stop)
-    → (rose_here → rose) → Loads held rose_first done rows (Ok before) → Reads {X = Y} held rose_here info.file (λ h answer. load h info ≡ answer) row (Err stop)
+    → (rose_here → rose) → Loads held rose_first done rows (Ok before) → ReadsNamed {X = Y} held rose_here info.file (λ h answer. load h info ≡ answer) row (Err stop)
     → Loads {X = Z} held rose (done ++ info ∷ behind) whole (Err stop)
 load_stops rows row whole (Some held) r1 r2 r3 done info behind before (At fault) wide is (inl e) =
     inl (ap all_or_first (map-append (load held) done (info ∷ behind)) ∙ then_fault (map (load held) done) (load held info) (map (load held) behind) (rows before) fault is e)
@@ -45,13 +45,13 @@ split_here : {X : Type 0} (xs : List X) (i : ℕ) (x d : X) → i < length xs �
 split_here xs i x d l is = sym (take-append-drop (i + 1) xs) ∙ ap (λ f. f ++ drop (i + 1) xs) (take_more xs i d l ∙ ap (λ y. take i xs ++ y ∷ []) (sym is)) ∙ append_assoc (take i xs) (x ∷ []) (drop (i + 1) xs)
 
 pub loaded_next : {X Y : Type 0} (rows : X → List (List Row)) (row : Y → List Row) (held : Option Held) (rose_first rose_here rose : Type 0) (infos : List TableInfo) (i : ℕ) (info d : TableInfo) (before after : X) (y : Y) → i < length infos → info ≡ get_or infos i d
-    → Loads held rose_first (take i infos) rows (Ok before) → Reads held rose_here info.file (λ h answer. load h info ≡ answer) row (Ok y) → rows after ≡ rows before ++ row y ∷ []
+    → Loads held rose_first (take i infos) rows (Ok before) → ReadsNamed held rose_here info.file (λ h answer. load h info ≡ answer) row (Ok y) → rows after ≡ rows before ++ row y ∷ []
     → Loads held rose (take (i + 1) infos) rows (Ok after)
 loaded_next rows row held r1 r2 r3 infos i info d before after y l is loaded read more =
     subst (λ (done : List TableInfo). Loads held r3 done rows (Ok after)) (sym (take_more infos i d l ∙ ap (λ y. take i infos ++ y ∷ []) (sym is))) (load_more rows row held r1 r2 r3 (take i infos) info before after y loaded read more)
 
 pub stopped_here : {X Y Z : Type 0} (rows : X → List (List Row)) (row : Y → List Row) (whole : Z → List (List Row)) (held : Option Held) (rose_first rose_here rose : Type 0) (infos : List TableInfo) (i : ℕ) (info d : TableInfo) (before : X) (stop : Stop) → i < length infos → info ≡ get_or infos i d
-    → (rose_here → rose) → Loads held rose_first (take i infos) rows (Ok before) → Reads {X = Y} held rose_here info.file (λ h answer. load h info ≡ answer) row (Err stop)
+    → (rose_here → rose) → Loads held rose_first (take i infos) rows (Ok before) → ReadsNamed {X = Y} held rose_here info.file (λ h answer. load h info ≡ answer) row (Err stop)
     → Loads {X = Z} held rose infos whole (Err stop)
 stopped_here rows row whole held r1 r2 r3 infos i info d before stop l is wide loaded read =
     subst (λ (all : List TableInfo). Loads held r3 all whole (Err stop)) (sym (split_here infos i info d l is)) (load_stops rows row whole held r1 r2 r3 (take i infos) info (drop (i + 1) infos) before stop wide loaded read)
@@ -71,5 +71,5 @@ kinds_next infos i info d tables more table l is kinds own e =
     ∙ sym (ap each_table_kinds (take_more infos i d l) ∙ map-append table_kinds (take i infos) (get_or infos i d ∷ []))
 
 -- the files hold the same as before
-pub reads_held : {A X : Type 0} (image : X → A) (rose : Type 0) (name : List ℕ) (says : Held → Result A Fault → Type 0) (r : Result X Stop) (now before : Option Held) → now ≡ before → Reads now rose name says image r → Reads before rose name says image r
-reads_held image rose name says r now before same read = subst (λ (held : Option Held). Reads held rose name says image r) same read
+pub reads_held : {A X : Type 0} (image : X → A) (rose : Type 0) (name : List ℕ) (says : Held → Result A Fault → Type 0) (r : Result X Stop) (now before : Option Held) → now ≡ before → ReadsNamed now rose name says image r → ReadsNamed before rose name says image r
+reads_held image rose name says r now before same read = subst (λ (held : Option Held). ReadsNamed held rose name says image r) same read

@@ -19,7 +19,7 @@ mode_image Defer = calls.Defer
 abbrev pub settings_image : Settings → calls.Settings
 settings_image settings = record { mode = mode_image settings.mode; workers = settings.workers }
 
-abbrev pub texts_image : RunTexts → calls.Words
+abbrev pub texts_image : RunTexts → calls.TextSource
 texts_image (Files book script) = calls.Files book script
 texts_image (Demo flights) = calls.Demo flights.count
 

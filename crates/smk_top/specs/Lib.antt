@@ -5,7 +5,7 @@ pub mod Added
 pub mod Loaded
 pub mod Statuses
 pub mod Endings
-pub mod Reading
+pub mod Collecting
 pub mod Writing
 pub mod Counting
 pub mod Completeness

@@ -9,7 +9,7 @@ use Rattle.smk_model.specs.Session.{Workbook}
 use Rattle.smk_session.specs.Sessions.{workbook_image}
 use Rattle.smk_top.specs.declared.inputs.Inputs.{Inputs}
 use Rattle.smk_model.specs.Selection.{each_rows}
-use Rattle.smk_top.specs.declared.reading.Rest.{Rest}
+use Rattle.smk_top.specs.declared.collecting.Rest.{Rest}
 use Rattle.smk_top.specs.declared.opening.OpenedBook.{OpenedBook}
 
 -- what a checked book says with the names of its dependencies, and so a book that was opened

@@ -13,7 +13,7 @@ ghost use Rattle.smk_model.specs.Tables.{AreColumns};
 ghost use Rattle.smk_outside.specs.Outside.{Rose};
 ghost use Rattle.smk_top.specs.Added.{BringTables};
 ghost use Rattle.smk_top.specs.Image.{reading_image};
-ghost use Rattle.smk_top.specs.Reading.{Loads, IsSayable};
+ghost use Rattle.smk_top.specs.Collecting.{Loads, IsSayable};
 ghost use Rattle.smk_top.specs.declared.stop.Stop.TheVariants.{Exhausted as exhausted};
 
 use crate::loading::load;

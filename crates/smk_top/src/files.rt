@@ -2,7 +2,7 @@
 ghost use Rattle.std.specs.Prelude.{◌≡◌, ◌≤◌};
 ghost use Rattle.smk_model.specs.Outcome.{content_of};
 ghost use Rattle.smk_outside.specs.Outside.{Rose};
-ghost use Rattle.smk_top.specs.Reading.{Reads, IsSayable};
+ghost use Rattle.smk_top.specs.Collecting.{ReadsNamed, IsSayable};
 
 use crate::stop::Stop;
 use smk_base::{Fault, FilesFault, Text};
@@ -14,7 +14,7 @@ const FILE_LIMIT: u64 = 67_108_864;
 
 /// The bytes of a file, which isn't too long.
 pub fn content<F: Files>(alloc: Global, files: &mut F, name: &Text) -> Result<Vec<u8>, Stop>
-    ensures read { Reads (F.held files.old) (Rose (F.faults files.old) (F.faults files.new)) name.now
+    ensures read { ReadsNamed (F.held files.old) (Rose (F.faults files.old) (F.faults files.new)) name.now
         (λ held answer. content_of held name.now ≡ answer) (λ bytes. bytes.items) result }
     ensures said { IsSayable result }
     ensures held { F.held files.new ≡ F.held files.old }

@@ -4,6 +4,7 @@
 mod adding;
 mod answering;
 mod called;
+mod collecting;
 mod counting;
 mod counts;
 mod demo_texts;
@@ -14,7 +15,6 @@ mod loading;
 mod nowhere;
 mod opening;
 mod program;
-mod reading;
 mod reporting;
 mod script;
 mod settings;

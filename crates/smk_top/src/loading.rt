@@ -8,7 +8,7 @@ ghost use Rattle.smk_model.specs.FaultTexts.{IsSaid};
 ghost use Rattle.smk_model.specs.Outcome as outcomes;
 ghost use Rattle.smk_base.specs.declared.fault.TableFault.TheVariants as table_faults;
 ghost use Rattle.smk_outside.specs.Outside.{Rose};
-ghost use Rattle.smk_top.specs.Reading.{Answers, Reads, Loads, IsSayable};
+ghost use Rattle.smk_top.specs.Collecting.{Answers, ReadsNamed, Loads, IsSayable};
 
 use crate::files::content;
 use crate::settings::Settings;
@@ -19,7 +19,7 @@ use smk_table::{Table, read_table_in_pieces};
 use std::alloc::{AllocError, Global};
 use std::thread::Threads;
 
-// How many bytes a piece of a file has at least. In what was measured smaller pieces gained nothing beside each other.
+// How many bytes a piece of a file has at least, chosen so that small files aren't cut.
 const PIECE_BYTES: u32 = 262_144;
 
 // The name of the column that a fault of a table is one of.
@@ -89,7 +89,7 @@ pub fn load<R: Threads + Sync, F: Files, G: Gate + Sync>(
     gate: &G,
 ) -> Result<Table, Stop>
     requires { AreColumns info.now.cols }
-    ensures read { Reads (F.held files.old) (Rose (F.faults files.old) (F.faults files.new)) file.now
+    ensures read { ReadsNamed (F.held files.old) (Rose (F.faults files.old) (F.faults files.new)) file.now
         (λ held answer. outcomes.load held (outcomes.filed file.now info.now) ≡ answer) (λ table. table.rows) result }
     ensures kinds { IfOk result (λ table. table.kinds ≡ table_kinds info.now) }
     ensures said { IsSayable result }

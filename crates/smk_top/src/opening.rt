@@ -8,7 +8,7 @@ ghost use Rattle.smk_model.specs.Outcome as outcomes;
 ghost use Rattle.smk_model.specs.Profiles.{AreDependencies};
 ghost use Rattle.smk_outside.specs.Outside.{Rose};
 ghost use Rattle.smk_top.specs.Loaded.{book_said};
-ghost use Rattle.smk_top.specs.Reading.{Answers, Reads, IsSayable};
+ghost use Rattle.smk_top.specs.Collecting.{Answers, ReadsNamed, IsSayable};
 
 use crate::files::content;
 use crate::stop::Stop;
@@ -67,7 +67,7 @@ fn book_of(alloc: Global, bytes: &[u8]) -> Result<OpenedBook, Stop>
 
 /// The checked book of a file.
 pub fn open_book<F: Files>(alloc: Global, files: &mut F, name: &Text) -> Result<OpenedBook, Stop>
-    ensures read { Reads (F.held files.old) (Rose (F.faults files.old) (F.faults files.new)) name.now
+    ensures read { ReadsNamed (F.held files.old) (Rose (F.faults files.old) (F.faults files.new)) name.now
         (λ held. outcomes.OpensBook held name.now) book_said result }
     ensures shown { IfOk result (λ opened. AreDependencies (catalog_image opened.book) opened.fds) }
     ensures said { IsSayable result }

@@ -14,16 +14,16 @@ ghost use Rattle.smk_top.specs.Counting.{counts_of};
 ghost use Rattle.smk_top.specs.Image.{texts_image};
 ghost use Rattle.smk_top.specs.Endings.{RunEnds, Works, Reports, SaysFault, SaysMemory};
 ghost use Rattle.smk_top.specs.Loaded.{inputs_with};
-ghost use Rattle.smk_top.specs.Reading.{IsSayable, RunLooks};
+ghost use Rattle.smk_top.specs.Collecting.{IsSayable, RunLooks};
 ghost use Rattle.smk_top.specs.Statuses.{status_of_fault, status_of_report};
 
 use crate::called::{RunTexts, RunWords};
+use crate::collecting::read_all;
 use crate::counts::Counts;
 use crate::inputs::Inputs;
-use crate::reading::read_all;
 use crate::reporting::write_report;
 use crate::settings::Settings;
-use crate::starting::{Begun, start};
+use crate::starting::{Started, start};
 use crate::status::Status;
 use crate::stop::Stop;
 use crate::summarizing::{read_demo, summarize};
@@ -104,7 +104,7 @@ fn report<R: Threads + Sync, G: Gate + Sync, O: Sink, L: Ledger>(
     ensures out_later { O.faults out.old ≤ O.faults out.new }
     ensures looks { (said : List Reading) → AreReadingsOf inputs.script.items said → steps.new ≤ steps.old + run_looks (inputs_with inputs said) }
 {
-    let Begun {
+    let Started {
         session,
         fds,
         script,
@@ -113,6 +113,7 @@ fn report<R: Threads + Sync, G: Gate + Sync, O: Sink, L: Ledger>(
     write_report(
         rt,
         alloc,
+        settings,
         session,
         &fds,
         script.as_slice(),

@@ -26,11 +26,12 @@ use crate::answering::{Answered, answer_line};
 use crate::counting::{NOTHING, together};
 use crate::counts::Counts;
 use crate::script::{Reading, reading_of};
+use crate::settings::Settings;
 use crate::stop::Stop;
 use smk_base::{AnyLine, Names, without_mark};
 use smk_outside::{Gate, Sink, Steps};
 use smk_parse::line_at;
-use smk_report::{bad_line_text, view_text};
+use smk_report::{bad_line_text, view_text_in_pieces};
 use smk_session::Session;
 use smk_table::Table;
 use std::alloc::{AllocError, Global};
@@ -50,16 +51,35 @@ pub fn put<O: Sink>(out: &mut O, text: &[u8]) -> Result<(), Stop>
 }
 
 // The text of the view with this number.
-fn text_of_view(alloc: Global, session: &Session, number: u32) -> Result<Vec<u8>, AllocError>
+fn text_of_view<R: Threads + Sync>(
+    rt: &R,
+    alloc: Global,
+    settings: Settings,
+    session: &Session,
+    number: u32,
+) -> Result<Vec<u8>, AllocError>
     requires { number < length session.now.catalog.views }
     ensures { IfOk result (λ text. text.items ≡ view_texts.text_of_view (workbook_of session.now) (view_at (catalog_image session.now.catalog) number)) }
 {
     let view = &session.catalog().views.as_slice()[number as usize];
-    view_text(alloc, &view.name, &view.names, session.first(number))
+    view_text_in_pieces(
+        rt,
+        alloc,
+        settings.workers,
+        &view.name,
+        &view.names,
+        session.first(number),
+    )
 }
 
 // Writes the texts of all views, in the book's order, and counts their bytes.
-fn write_views<O: Sink>(alloc: Global, session: &Session, out: &mut O) -> Result<Counts, Stop>
+fn write_views<R: Threads + Sync, O: Sink>(
+    rt: &R,
+    alloc: Global,
+    settings: Settings,
+    session: &Session,
+    out: &mut O,
+) -> Result<Counts, Stop>
     ensures written { PutsPieces (view_texts.views_text (workbook_of session.now))
         (Rose (O.faults out.old) (O.faults out.new)) (O.written out.old) (O.written out.new) result }
     ensures counts { IfOk result (λ counts. counts ≡ text_counted (view_texts.views_text (workbook_of session.now))) }
@@ -67,7 +87,7 @@ fn write_views<O: Sink>(alloc: Global, session: &Session, out: &mut O) -> Result
 {
     let mut counts = NOTHING;
     for number in 0..session.catalog().views.as_slice().len() as u32 {
-        let text = text_of_view(alloc, session, number)?;
+        let text = text_of_view(rt, alloc, settings, session, number)?;
         let more = together(
             counts,
             Counts {
@@ -231,6 +251,7 @@ fn write_lines<R: Threads + Sync, G: Gate + Sync, O: Sink, L: Ledger>(
 pub fn write_report<R: Threads + Sync, G: Gate + Sync, O: Sink, L: Ledger>(
     rt: &R,
     alloc: Global,
+    settings: Settings,
     session: Session,
     fds: &Names,
     script: &[u8],
@@ -248,7 +269,7 @@ pub fn write_report<R: Threads + Sync, G: Gate + Sync, O: Sink, L: Ledger>(
     ensures later { O.faults out.old ≤ O.faults out.new }
     ensures looks { (said : List readings.Reading) → AreReadingsOf script.now said → steps.new ≤ steps.old + (reports.script_told (workbook_of session) fds.now (each_rows added.items) said).looks }
 {
-    let views = write_views(alloc, &session, out)?;
+    let views = write_views(rt, alloc, settings, &session, out)?;
     let lines = write_lines(
         rt,
         alloc,

@@ -5,7 +5,7 @@ ghost use Rattle.smk_model.specs.Readings.{IsReading};
 ghost use Rattle.smk_outside.specs.Outside.{Rose};
 ghost use Rattle.smk_top.specs.Answering.{KeepsReading};
 ghost use Rattle.smk_top.specs.Image.{reading_image};
-ghost use Rattle.smk_top.specs.Reading.{OpensBytes, IsSayable};
+ghost use Rattle.smk_top.specs.Collecting.{OpensBytes, IsSayable};
 
 use crate::files::content;
 use crate::stop::Stop;

@@ -1,4 +1,5 @@
 ghost use Rattle.std.specs.Prelude.{◌≤◌};
+ghost use Rattle.smk_base.specs.declared.workers.TheConstants.{WORKER_LIMIT};
 
 use smk_session::Mode;
 
@@ -8,5 +9,5 @@ pub struct Settings {
     pub mode: Mode,
     pub workers: u32,
     ghost some: { 1 ≤ workers },
-    ghost few: { workers ≤ 64 },
+    ghost few: { workers ≤ WORKER_LIMIT },
 }

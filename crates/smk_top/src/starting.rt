@@ -11,8 +11,8 @@ ghost use Rattle.smk_model.specs.Opening.{first_view_fault};
 ghost use Rattle.smk_session.specs.Sessions.{IsStartFault, workbook_image, workbook_of};
 ghost use Rattle.smk_top.specs.Added.{BringTables};
 ghost use Rattle.smk_top.specs.Loaded.{workbook_read, script_bytes};
-ghost use Rattle.smk_top.specs.Reading.{Starts, IsSayable};
-ghost use Rattle.smk_top.specs.declared.starting.Begun.{Begun as BegunShape};
+ghost use Rattle.smk_top.specs.Collecting.{Starts, IsSayable};
+ghost use Rattle.smk_top.specs.declared.starting.Started.{Started as StartedShape};
 
 use crate::inputs::Inputs;
 use crate::settings::Settings;
@@ -28,7 +28,7 @@ use std::thread::Threads;
 
 /// A session that begins, the names of its book's dependencies, the bytes of its script, and the tables that the script's lines bring.
 #[derive(Drop)]
-pub struct Begun {
+pub struct Started {
     pub session: Session,
     pub fds: ListOf<Text>,
     pub script: Vec<u8>,
@@ -87,8 +87,8 @@ fn name_at(alloc: Global, names: Vec<Text>, place: u32) -> Text
 // What a fault of a start says.
 fn stop_of(alloc: Global, names: Names, fault: StartFault) -> Stop
     ensures starts { (book : CatalogShape) (rows : List Relation) → IsStartFault fault (first_view_fault (workbook_image book rows))
-        → names.views.items ≡ map (λ view. view.name) book.views → names.tables.items ≡ map (λ table. table.name) book.tables → Starts {X = BegunShape} (workbook_image book rows) (Err result) }
-    ensures said { IsSayable {X = BegunShape} (Err result) }
+        → names.views.items ≡ map (λ view. view.name) book.views → names.tables.items ≡ map (λ table. table.name) book.tables → Starts {X = StartedShape} (workbook_image book rows) (Err result) }
+    ensures said { IsSayable {X = StartedShape} (Err result) }
 {
     let Names { views, tables } = names;
     match fault {
@@ -113,7 +113,7 @@ pub fn start<R: Threads + Sync, G: Gate + Sync, L: Ledger>(
     settings: Settings,
     gate: &G,
     steps: &mut Steps<L>,
-) -> Result<Begun, Stop>
+) -> Result<Started, Stop>
     requires shown { AreDependencies (catalog_image inputs.book) inputs.fds }
     requires fits { BringTables (catalog_image inputs.book) (lines (after_marks inputs.script.items)) inputs.added.items }
     ensures starts { Starts (workbook_read inputs) result }
@@ -139,7 +139,7 @@ pub fn start<R: Threads + Sync, G: Gate + Sync, L: Ledger>(
         added,
     } = inputs;
     match Session::start(rt, alloc, book, tables, mode, workers, gate, steps) {
-        Ok(session) => Ok(Begun {
+        Ok(session) => Ok(Started {
             session,
             fds,
             script,

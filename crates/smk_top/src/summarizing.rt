@@ -17,18 +17,18 @@ ghost use Rattle.smk_session.specs.Sessions.{workbook_of};
 ghost use Rattle.smk_top.specs.Added.{BringTables};
 ghost use Rattle.smk_top.specs.Endings.{Reports};
 ghost use Rattle.smk_top.specs.Loaded.{script_bytes, inputs_with};
-ghost use Rattle.smk_top.specs.Reading.{ReadsAll, IsSayable};
+ghost use Rattle.smk_top.specs.Collecting.{ReadsAll, IsSayable};
 ghost use Rattle.smk_top.specs.Writing.{PutsPieces};
 
 use crate::called::Flights;
+use crate::collecting::read_all;
 use crate::counts::Counts;
 use crate::demo_texts::DemoTexts;
 use crate::inputs::Inputs;
 use crate::nowhere::Nowhere;
-use crate::reading::read_all;
 use crate::reporting::{put, write_report};
 use crate::settings::Settings;
-use crate::starting::{Begun, start};
+use crate::starting::{Started, start};
 use crate::stop::Stop;
 use crate::words::text_of;
 use smk_base::{DEMO_BOOK_NAME, DEMO_SCRIPT_NAME, ListOf, Names, Size, Sizes};
@@ -115,6 +115,7 @@ fn write_summary<R: Threads + Sync, G: Gate + Sync, O: Sink, L: Ledger>(
     rt: &R,
     alloc: Global,
     flights: Flights,
+    settings: Settings,
     session: Session,
     fds: &Names,
     script: &[u8],
@@ -136,6 +137,7 @@ fn write_summary<R: Threads + Sync, G: Gate + Sync, O: Sink, L: Ledger>(
     let counts = write_report(
         rt,
         alloc,
+        settings,
         session,
         fds,
         script,
@@ -166,7 +168,7 @@ pub fn summarize<R: Threads + Sync, G: Gate + Sync, O: Sink, L: Ledger>(
     ensures out_later { O.faults out.old ≤ O.faults out.new }
     ensures looks { (said : List Reading) → AreReadingsOf inputs.script.items said → steps.new ≤ steps.old + outcomes.run_looks (inputs_with inputs said) }
 {
-    let Begun {
+    let Started {
         session,
         fds,
         script,
@@ -176,6 +178,7 @@ pub fn summarize<R: Threads + Sync, G: Gate + Sync, O: Sink, L: Ledger>(
         rt,
         alloc,
         flights,
+        settings,
         session,
         &fds,
         script.as_slice(),

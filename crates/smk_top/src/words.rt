@@ -11,12 +11,12 @@ use crate::settings::Settings;
 use clap::builder::ValueParser;
 use clap::error::ErrorKind;
 use clap::{Arg, ArgMatches, Command};
-use smk_base::{Text, read_int};
+use smk_base::{Text, WORKER_LIMIT, read_int};
 use smk_session::Mode;
 use std::alloc::{AllocError, Global};
 
-// The most workers that a run may have.
-const MOST_WORKERS: i64 = 64;
+// The most workers that a run may have, as the number that clap reads.
+const MOST_WORKERS: i64 = WORKER_LIMIT as i64;
 
 // The most flights that a demo may have.
 const MOST_FLIGHTS: i64 = 200_000;
@@ -99,7 +99,7 @@ fn mode_of(name: &str) -> Option<Mode>
 fn workers_counted(number: i64) -> Option<u32>
     ensures counted { result ≡ calls.workers_counted number }
     ensures some { IfSome result (λ workers. 1 ≤ workers) }
-    ensures few { IfSome result (λ workers. workers ≤ 64) }
+    ensures few { IfSome result (λ workers. workers ≤ WORKER_LIMIT) }
 {
     if number < 1 || number > MOST_WORKERS {
         return None;

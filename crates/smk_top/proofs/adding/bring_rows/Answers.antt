@@ -6,7 +6,7 @@ use Rattle.smk_base.specs.declared.catalog.TableInfo.{TableInfo}
 use Rattle.smk_model.specs.Catalogs.{each_table_kinds}
 use Rattle.smk_model.specs.Outcome.{filed}
 use Rattle.smk_outside.specs.Outside.{Rose}
-use Rattle.smk_top.specs.Reading.{Loads}
+use Rattle.smk_top.specs.Collecting.{Loads}
 use Rattle.smk_top.proofs.AddedReads.{rows_brought, one_loaded, one_stops, none_loaded}
 use Rattle.smk_top.proofs.NamedTables.{appended_found, appended_nowhere}
 use Rattle.smk_top.proofs.adding.bring_rows.Goals as goal

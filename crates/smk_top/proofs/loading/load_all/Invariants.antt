@@ -2,7 +2,7 @@ use Rattle.std.proofs.Common.{◌≡◌, ◌≤◌, take, Ok, Vec, Global}
 use Rattle.smk_base.specs.Rels.{Relation}
 use Rattle.smk_model.specs.Catalogs.{each_table_kinds}
 use Rattle.smk_model.specs.Selection.{each_rows, each_kinds}
-use Rattle.smk_top.specs.Reading.{Loads}
+use Rattle.smk_top.specs.Collecting.{Loads}
 use Rattle.smk_top.proofs.loading.load_all.Given as goal
 
 abbrev pub invariant-loop-info : goal.invariant-loop-info

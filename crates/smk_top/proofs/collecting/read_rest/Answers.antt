@@ -12,9 +12,9 @@ use Rattle.smk_model.specs.Selection.{each_rows}
 use Rattle.smk_model.proofs.SomeOutcome.{some_reading}
 use Rattle.smk_top.specs.Added.{BringTables}
 use Rattle.smk_top.specs.Loaded.{with_rest}
-use Rattle.smk_top.specs.declared.reading.Rest.{Rest}
+use Rattle.smk_top.specs.declared.collecting.Rest.{Rest}
 use Rattle.smk_top.proofs.Stops.{rose_within, tables_stop, script_stops, added_stop, added_of, all_read}
-use Rattle.smk_top.proofs.reading.read_rest.Goals as goal
+use Rattle.smk_top.proofs.collecting.read_rest.Goals as goal
 
 pub returns-in_err-tables-clause-read : goal.returns-in_err-tables-clause-read
 returns-in_err-tables-clause-read g c book said same opened =

@@ -8,9 +8,9 @@ use Rattle.smk_model.specs.Lines.{lines}
 use Rattle.smk_top.specs.Added.{BringTables}
 use Rattle.smk_outside.specs.Outside.{Rose}
 use Rattle.smk_top.specs.Loaded.{book_said, script_bytes, inputs_with, with_rest}
-use Rattle.smk_top.specs.declared.reading.Rest.{Rest}
+use Rattle.smk_top.specs.declared.collecting.Rest.{Rest}
 use Rattle.smk_top.proofs.Stops.{rose_within, book_stops, opened_as, rest_stops, then_all}
-use Rattle.smk_top.proofs.reading.read_all.Goals as goal
+use Rattle.smk_top.proofs.collecting.read_all.Goals as goal
 
 pub returns-in_err-book-clause-read : goal.returns-in_err-book-clause-read
 returns-in_err-book-clause-read g c =

@@ -21,15 +21,15 @@ Answers says image (Err Unwritten) = ⊥
 Answers says image (Err Exhausted) = ⊤
 
 -- a step that reads the file of a name answers as the definition has it of what the files hold, or the file can't be read, or memory is wanting
-abbrev pub Reads : {A X : Type 0} → Option Held → Type 0 → List ℕ → (Held → Result A Fault → Type 0) → (X → A) → Result X Stop → Type 0
-Reads (Some held) rose name says image (Ok x) = says held (Ok (image x))
-Reads (Some held) rose name says image (Err (At fault)) = says held (Err fault) ⊎ (rose × (fault ≡ Unread name))
-Reads (Some held) rose name says image (Err Unwritten) = ⊥
-Reads (Some held) rose name says image (Err Exhausted) = ⊤
-Reads None rose name says image (Ok x) = ⊤
-Reads None rose name says image (Err (At fault)) = UntoldCause rose fault
-Reads None rose name says image (Err Unwritten) = ⊥
-Reads None rose name says image (Err Exhausted) = ⊤
+abbrev pub ReadsNamed : {A X : Type 0} → Option Held → Type 0 → List ℕ → (Held → Result A Fault → Type 0) → (X → A) → Result X Stop → Type 0
+ReadsNamed (Some held) rose name says image (Ok x) = says held (Ok (image x))
+ReadsNamed (Some held) rose name says image (Err (At fault)) = says held (Err fault) ⊎ (rose × (fault ≡ Unread name))
+ReadsNamed (Some held) rose name says image (Err Unwritten) = ⊥
+ReadsNamed (Some held) rose name says image (Err Exhausted) = ⊤
+ReadsNamed None rose name says image (Ok x) = ⊤
+ReadsNamed None rose name says image (Err (At fault)) = UntoldCause rose fault
+ReadsNamed None rose name says image (Err Unwritten) = ⊥
+ReadsNamed None rose name says image (Err Exhausted) = ⊤
 
 -- the file of one of these tables is unread, and those before it are loaded
 pub data IsUnreadAmong (held : Held) (tables : List TableInfo) (fault : Fault) : Type 0 where

@@ -13,7 +13,7 @@ ghost use Rattle.smk_model.specs.Tables.{AreColumns};
 ghost use Rattle.smk_outside.specs.Outside.{Rose};
 ghost use Rattle.smk_top.specs.Added.{BringTables};
 ghost use Rattle.smk_top.specs.Loaded.{script_bytes, inputs_with, with_rest};
-ghost use Rattle.smk_top.specs.Reading.{Reads, ReadsAll, IsSayable};
+ghost use Rattle.smk_top.specs.Collecting.{ReadsNamed, ReadsAll, IsSayable};
 
 use crate::adding::read_added;
 use crate::inputs::Inputs;
@@ -48,7 +48,7 @@ fn read_rest<R: Threads + Sync, F: Files, G: Gate + Sync>(
     gate: &G,
 ) -> Result<Rest, Stop>
     requires { All (λ info. AreColumns info.cols) catalog.now.tables }
-    ensures read { (book : List ℕ) (said : BookSaid) → said.catalog ≡ catalog_image catalog.now → Reads (F.held files.old) (Unit {0}) book (λ held. OpensBook held book) (λ opened. opened) (Ok said)
+    ensures read { (book : List ℕ) (said : BookSaid) → said.catalog ≡ catalog_image catalog.now → ReadsNamed (F.held files.old) (Unit {0}) book (λ held. OpensBook held book) (λ opened. opened) (Ok said)
         → ReadsAll (F.held files.old) (Rose (F.faults files.old) (F.faults files.new)) book (option_copied script.entry) (with_rest said) (λ rest. rest.script.items) result }
     ensures kinds { IfOk result (λ rest. each_kinds rest.tables.items ≡ each_table_kinds catalog.now.tables) }
     ensures fits { IfOk result (λ rest. BringTables (catalog_image catalog.now) (lines (after_marks rest.script.items)) rest.added.items) }
