@@ -3,9 +3,9 @@
 use crate::contents::{Content, has_content, has_rows, have_contents};
 use crate::opened::open_book;
 use crate::shop::{CONTENTS, shop};
-use smk_chain::{is_growing, scanned_table};
 use smk_defer::Defer;
 use smk_inject::Inject;
+use smk_marks::{is_growing, scanned_table};
 use smk_plain::Plain;
 use smk_test_bodies::{Calls, Counted};
 use std::test::Fail;

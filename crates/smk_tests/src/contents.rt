@@ -1,7 +1,7 @@
 //! Views of a book with their rows and the lineage that they keep, by whatever body.
 
 ghost use Rattle.std.specs.Prelude.{◌||◌, ◌<◌, IsTrue, nat_eq, length};
-ghost use Rattle.smk_compose.specs.Kept.{NeedFits};
+ghost use Rattle.smk_compose.specs.KeptMaps.{NeedFits};
 
 use crate::opened::{Opened, maps_shown, need_of, ran, rows_shown};
 use smk_base::Need;

@@ -4,7 +4,7 @@ ghost use Rattle.std.specs.Prelude.{◌≡◌, ◌<◌, ◌≤◌, length, All};
 ghost use Rattle.smk_model.specs.Tables.{AreColumns};
 
 use crate::opened::open_book;
-use smk_base::{CellRef, ColDecls, TableInfo};
+use smk_base::{CellRef, ColDecls, TableInfo, WORKER_LIMIT};
 use smk_outside::{Idle, Steps};
 use smk_table::{Table, TableFault, read_table, read_table_in_pieces};
 use smk_test_bodies::Meeting;
@@ -115,11 +115,10 @@ fn count_others<R: Threads + Sync, L: Ledger>(
     steps: &mut Steps<L>,
 ) -> Result<u64, Fail>
     requires columns { AreColumns cols.now }
-    requires least { 1 ≤ least }
 {
     let mut others = 0u64;
-    for workers in [1u32, 2, 3, 4, 64].as_slice() {
-        let workers = (*workers).max(1).min(64);
+    for workers in [1u32, 2, 3, 4, WORKER_LIMIT].as_slice() {
+        let workers = (*workers).max(1).min(WORKER_LIMIT);
         let read = read_table_in_pieces(rt, alloc, text, cols, workers, least, &Idle);
         if told(alloc, read, steps)?.as_str() != said {
             others = others.saturating_add(1);

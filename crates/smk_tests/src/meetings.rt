@@ -1,4 +1,4 @@
-//! What runs beside each other: the pieces of a run, and the views that follow a brush.
+//! What runs beside each other: the pieces of a run, the views of a book over many rows, and the views that follow a brush.
 
 ghost use Rattle.std.specs.Prelude.{◌≡◌, ◌<◌};
 
@@ -45,6 +45,83 @@ fn two_pieces_of_each_step_of_a_run_meet(rt: HostRuntime) -> Result<(), Fail> {
     )?;
     assert_eq!(rt; status, Status::Done);
     assert_eq!(rt; gate.came(), [9, 9, 0]);
+    Ok(())
+}
+
+// Two views over a table with rows enough that they are opened at once.
+const LONG_BOOK: &str = "\
+table t from \"t.csv\" (kind text, n int)
+view by_kind = scan t | group kind {rows = count, total = sum n}
+view high = scan t | where n > 2 | group kind {rows = count}
+lineage fwd t to high
+";
+
+// Four rows of the table, which has them 16,384 times.
+const FOUR_ROWS: &[u8] = b"a,1\nb,2\na,3\nc,4\n";
+
+const LONG_REPORT: &str = "\
+view by_kind 3
+row,kind,rows,total
+0,a,32768,65536
+1,b,16384,32768
+2,c,16384,65536
+view high 2
+row,kind,rows
+0,a,16384
+1,c,16384
+fwd t to high 2
+marks 0 1
+";
+
+// The text of the table.
+fn long_table(alloc: Global) -> Result<Vec<u8>, AllocError> {
+    let mut bytes = Vec::from_slice(alloc, b"kind,n\n")?;
+    for _ in 0..16_384u32 {
+        bytes.extend_from_slice(FOUR_ROWS)?;
+    }
+    Ok(bytes)
+}
+
+// The files of the two views.
+fn long_files(alloc: Global) -> Result<MemFiles, AllocError> {
+    let table = long_table(alloc)?;
+    let mut files = Vec::new(alloc);
+    put(alloc, &mut files, "book.smk", &[LONG_BOOK.as_bytes()])?;
+    put(alloc, &mut files, "t.csv", &[table.as_slice()])?;
+    put(alloc, &mut files, "script", &[b"fwd t 2, 65535 to high\n"])?;
+    Ok(MemFiles::new(files, Vec::new(alloc)))
+}
+
+// The report of a run of the two views with so many workers, and who came to its gate.
+fn ran_long<R: Threads + Sync>(
+    system: HostRuntime,
+    rt: &R,
+    workers: &str,
+) -> Result<(Vec<u8>, [u64; 3]), AllocError> {
+    let gate = Meeting::new();
+    let mut files = long_files(system.alloc())?;
+    let words = ["--workers", workers, "book.smk", "script"];
+    let (_, report) = ran_over::<R, Meeting, Brand>(
+        system,
+        rt,
+        system.alloc(),
+        &words,
+        &mut files,
+        &gate,
+        Blank::new(1),
+    )?;
+    Ok((report, gate.came()))
+}
+
+// Each comes once, so no step of theirs is cut. With one worker nobody comes.
+#[test]
+fn two_views_of_a_book_meet(rt: HostRuntime) -> Result<(), Fail> {
+    let (in_turn, none) = ran_long(rt, &rt, "1")?;
+    let (at_once, came) = ran_long(rt, &rt, "2")?;
+    assert_eq!(rt; str::from_utf8(in_turn.as_slice())?, LONG_REPORT);
+    assert_eq!(rt; str::from_utf8(at_once.as_slice())?, LONG_REPORT);
+    assert_eq!(rt; none, [0, 0, 0]);
+    assert_eq!(rt; came, [1, 1, 0]);
     Ok(())
 }
 

@@ -10,7 +10,7 @@ ghost use Rattle.smk_model.specs.Tables.{AreColumns};
 ghost use Rattle.smk_model.specs.Typing.{types};
 ghost use Rattle.smk_model.specs.Catalogs.{table_kinds, each_table_kinds};
 ghost use Rattle.smk_model.specs.Selection.{each_kinds};
-ghost use Rattle.smk_compose.specs.Kept.{NeedFits};
+ghost use Rattle.smk_compose.specs.KeptMaps.{NeedFits};
 
 use crate::rids::lists_shown;
 use smk_base::{CellRef, Names, Need, Rel, TableInfo};

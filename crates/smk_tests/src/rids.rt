@@ -1,4 +1,5 @@
 ghost use Rattle.std.specs.Prelude.{◌≡◌, ◌≤◌, ◌+◌, length, IfOk};
+ghost use Rattle.smk_base.specs.declared.rel.TheConstants.{ROW_LIMIT};
 
 use smk_rid::{RidFault, RidGrow, RidMap};
 use std::alloc::{AllocError, Global};
@@ -6,7 +7,7 @@ use std::test::Fail;
 
 // The array of these numbers; those not below the bound stand for none.
 fn array_of(alloc: Global, of: &[u32], bound: u32) -> Result<RidMap, AllocError>
-    requires { length of.now ≤ 1048576 }
+    requires { length of.now ≤ ROW_LIMIT }
     ensures { IfOk result (λ map. map.bound ≡ bound) }
 {
     let mut rids = Vec::new(alloc);

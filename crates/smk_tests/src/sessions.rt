@@ -1,6 +1,7 @@
 //! Sessions over files that lie in memory, the lines that they are asked, and sessions that are taken apart.
 
 ghost use Rattle.std.specs.Prelude.{◌≡◌, ◌<◌, ◌≤◌};
+ghost use Rattle.smk_base.specs.declared.workers.TheConstants.{WORKER_LIMIT};
 
 use crate::opened::{Opened, open_book};
 use crate::shop::{BOOK, REGIONS, SALES};
@@ -33,7 +34,7 @@ pub(crate) fn started<R: Threads + Sync, L: Ledger>(
     steps: &mut Steps<L>,
 ) -> Result<Session, Fail>
     requires some_workers { 1 ≤ workers }
-    requires few_workers { workers ≤ 64 }
+    requires few_workers { workers ≤ WORKER_LIMIT }
 {
     let Opened { book, tables, fds } = open_book(alloc, book, files)?;
     drop(fds);
