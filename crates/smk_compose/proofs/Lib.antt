@@ -12,3 +12,4 @@ pub mod Counts
 pub mod Scans
 pub mod Bridge
 pub mod Walks
+pub mod Grouped

@@ -1,19 +1,21 @@
 -- What a walk has made of a plan, from what it has made of its inputs.
-use Rattle.std.proofs.Common.{◌≡◌, ◌∙◌, ◌+◌, ◌<◌, ◌≤◌, ℕ, List, [], ◌∷◌, length, map, drop, get_or, Option, Some, None, option_map, refl, sym, ap, subst, arith, All, IfOk, IfErr, OnOk, Result, Ok, Err}
+use Rattle.std.proofs.Common.{◌≡◌, ◌∙◌, ◌+◌, ◌<◌, ◌≤◌, ℕ, List, [], ◌∷◌, ◌++◌, length, map, drop, get_or, Option, Some, None, option_map, refl, sym, ap, ap₂, subst, arith, All, IfOk, IfErr, OnOk, Result, Ok, Err}
 use Rattle.std.specs.List.{find}
 use Rattle.std.specs.Option.{option_or}
 use Rattle.std.proofs.lemmas.List.{length-map, get_or-drop, get_or-map}
-use Rattle.smk_base.specs.Plans.{Unary, Binary, Expr, Leaf, Apply, Combine}
+use Rattle.smk_base.specs.Plans.{Unary, Binary, Equijoin, Grouping, Expr, Leaf, Apply, Combine}
 use Rattle.smk_base.specs.Rels.{Relation}
 use Rattle.smk_base.specs.declared.need.Needed.{Needed}
+use Rattle.smk_base.specs.declared.plan.Agg.{Agg}
 use Rattle.smk_base.specs.declared.pick.Pick.{Pick}
 use Rattle.smk_model.specs.Values.{Row}
 use Rattle.smk_model.specs.Plain.{step1, step2, leaves, width, eval, whole, table_at}
-use Rattle.smk_model.specs.Kinds.{Fits2, kinds1, kinds2}
+use Rattle.smk_model.specs.Kinds.{Fits2, GroupFits, kinds1, kinds2}
 use Rattle.smk_model.specs.Selection.{each_kinds, each_rows, plan_kinds, over, PlanFits, nodes, first_full}
 use Rattle.smk_model.specs.NodeFaults.{NodeFault, FullRows, FullPairs, asked_of, fault_at, first_fault_from}
 use Rattle.smk_model.proofs.Leaves.{IsSame, eval_same}
 use Rattle.smk_model.proofs.NodeFaults.{nothing_is_asked}
+use Rattle.smk_compose.specs.Grouped.{grouped_join, maps_of_join, both_faults}
 use Rattle.smk_compose.specs.KeptMaps.{held_at}
 use Rattle.smk_compose.specs.Through.{through, together_all, side1, side_left, side_right, Passes, Meets, map_at, has_heavy, node_fault, scan_at, IsFirst}
 use Rattle.smk_compose.specs.Walk.{AreDirected, WholeWhereNeeded, IsWalked}
@@ -198,6 +200,63 @@ pub two_fault : (op : Binary) (a b : Expr) (L M : List Relation) (tables : List 
     → IfErr w (λ e. IsFirst e (node_fault k (step2 op l.rel.rows r.rel.rows) (together_all (side_left op l.rel.rows r.rel.rows) (side_right op l.rel.rows r.rel.rows) l.kept r.kept)))
     → IfErr w (λ e. IsFirst e (first_fault_from (Combine op a b) (each_rows L) (asked_of tables need) n))
 two_fault op a b L M tables need n m k l r w all whole are number fault = subst (λ (f : Option NodeFault). IfErr w (λ e. IsFirst e f)) (two_node op a b L M tables need n m k l r all whole are number) fault
+
+-- a grouping over an equijoin, two steps at once
+
+join_maps : (ps : List (ℕ × ℕ)) (a b : Expr) (L M : List Relation) (tables : List (List Row)) (need : List Needed) (n m : ℕ) (l r : Walked) → WholeWhereNeeded (Combine (Equijoin ps) a b) (each_rows L) tables need → AreWalked a b L M tables need n m l r
+    → maps_of_join ps l.rel.rows r.rel.rows l.kept r.kept ≡ map (held_at (Combine (Equijoin ps) a b) tables) need
+join_maps ps a b L M tables need n m l r whole are = two_maps (Equijoin ps) a b L M tables need n m l r whole are
+
+pub grouped_passes : (ps : List (ℕ × ℕ)) (ks : List ℕ) (gs : List Agg) (a b : Expr) (L M : List Relation) (tables : List (List Row)) (need : List Needed) (n m : ℕ) (l r : Walked) → WholeWhereNeeded (Combine (Equijoin ps) a b) (each_rows L) tables need → AreWalked a b L M tables need n m l r
+    → All (Passes (side1 (Grouping ks gs) (step2 (Equijoin ps) l.rel.rows r.rel.rows))) (maps_of_join ps l.rel.rows r.rel.rows l.kept r.kept)
+grouped_passes ps ks gs a b L M tables need n m l r whole are =
+    let join = Combine (Equijoin ps) a b in
+    let J = step2 (Equijoin ps) l.rel.rows r.rel.rows in
+    one_all_pass (Grouping ks gs) join tables need J (maps_of_join ps l.rel.rows r.rel.rows l.kept r.kept)
+    (rows_needed join (each_rows L) tables need J whole (two_rows (Equijoin ps) a b L M tables need n m l r are)) (join_maps ps a b L M tables need n m l r whole are)
+
+pub grouped_fits : (ps : List (ℕ × ℕ)) (ks : List ℕ) (gs : List Agg) (a b : Expr) (L M : List Relation) (tables : List (List Row)) (need : List Needed) (n m : ℕ) (l r : Walked) → PlanFits (grouped_join ps ks gs a b) (each_kinds L) → AreWalked a b L M tables need n m l r
+    → GroupFits (l.rel.kinds ++ r.rel.kinds) ks gs
+grouped_fits ps ks gs a b L M tables need n m l r fits are = subst (λ kinds. GroupFits kinds ks gs) (sym (two_kinds (Equijoin ps) a b L M tables need n m l r are)) fits.1
+
+grouped_held : (ps : List (ℕ × ℕ)) (ks : List ℕ) (gs : List Agg) (a b : Expr) (L M : List Relation) (tables : List (List Row)) (need : List Needed) (n m : ℕ) (l r : Walked) → WholeWhereNeeded (Combine (Equijoin ps) a b) (each_rows L) tables need → AreWalked a b L M tables need n m l r
+    → map (through (side1 (Grouping ks gs) (step2 (Equijoin ps) l.rel.rows r.rel.rows))) (maps_of_join ps l.rel.rows r.rel.rows l.kept r.kept) ≡ map (held_at (grouped_join ps ks gs a b) tables) need
+grouped_held ps ks gs a b L M tables need n m l r whole are =
+    let join = Combine (Equijoin ps) a b in
+    let J = step2 (Equijoin ps) l.rel.rows r.rel.rows in
+    one_held (Grouping ks gs) join tables need J (maps_of_join ps l.rel.rows r.rel.rows l.kept r.kept)
+    (rows_needed join (each_rows L) tables need J whole (two_rows (Equijoin ps) a b L M tables need n m l r are)) (join_maps ps a b L M tables need n m l r whole are)
+
+grouped_nodes : (ps : List (ℕ × ℕ)) (ks : List ℕ) (gs : List Agg) (a b : Expr) (L M : List Relation) (tables : List (List Row)) (need : List Needed) (n m k : ℕ) (l r : Walked) → AreDirected need → WholeWhereNeeded (Combine (Equijoin ps) a b) (each_rows L) tables need → AreWalked a b L M tables need n m l r → k ≡ m + nodes b
+    → both_faults ps ks gs l.rel.rows r.rel.rows l.kept r.kept k ≡ first_fault_from (grouped_join ps ks gs a b) (each_rows L) (asked_of tables need) n
+grouped_nodes ps ks gs a b L M tables need n m k l r all whole are number =
+    let join = Combine (Equijoin ps) a b in
+    let counted = are.counted in
+    let behind : k + 1 ≡ n + nodes join = omega (arith, counted, number) in
+    ap₂ (λ (f g : Option NodeFault). option_or f g)
+    (two_node (Equijoin ps) a b L M tables need n m k l r all whole are number)
+    (node_same behind (ap (step1 (Grouping ks gs)) (two_rows (Equijoin ps) a b L M tables need n m l r are)) (grouped_held ps ks gs a b L M tables need n m l r whole are)
+    ∙ sym (fault_same (grouped_join ps ks gs a b) (each_rows L) tables need (n + nodes join) all whole))
+
+pub grouped_walked : (ps : List (ℕ × ℕ)) (ks : List ℕ) (gs : List Agg) (a b : Expr) (L M : List Relation) (tables : List (List Row)) (need : List Needed) (n m k : ℕ) (l r : Walked) (w : Result Walked RunFault)
+    → AreDirected need → WholeWhereNeeded (Combine (Equijoin ps) a b) (each_rows L) tables need → AreWalked a b L M tables need n m l r → k ≡ m + nodes b
+    → IfOk w (λ made. made.rel.rows ≡ step1 (Grouping ks gs) (step2 (Equijoin ps) l.rel.rows r.rel.rows)) → IfOk w (λ made. made.rel.kinds ≡ kinds1 (Grouping ks gs) (l.rel.kinds ++ r.rel.kinds))
+    → IfOk w (λ made. made.kept ≡ map (through (side1 (Grouping ks gs) (step2 (Equijoin ps) l.rel.rows r.rel.rows))) (maps_of_join ps l.rel.rows r.rel.rows l.kept r.kept))
+    → OnOk w (both_faults ps ks gs l.rel.rows r.rel.rows l.kept r.kept k ≡ None)
+    → IfOk w (IsWalked (grouped_join ps ks gs a b) L tables need n)
+grouped_walked ps ks gs a b L M tables need n m k l r (Err e) all whole are number rows kinds kept none = tt
+grouped_walked ps ks gs a b L M tables need n m k l r (Ok made) all whole are number rows kinds kept none = record {
+  rows = rows ∙ ap (step1 (Grouping ks gs)) (two_rows (Equijoin ps) a b L M tables need n m l r are);
+  kinds = kinds ∙ ap (kinds1 (Grouping ks gs)) (two_kinds (Equijoin ps) a b L M tables need n m l r are);
+  kept = kept ∙ grouped_held ps ks gs a b L M tables need n m l r whole are;
+  none = sym (grouped_nodes ps ks gs a b L M tables need n m k l r all whole are number) ∙ none;
+}
+
+pub grouped_fault : (ps : List (ℕ × ℕ)) (ks : List ℕ) (gs : List Agg) (a b : Expr) (L M : List Relation) (tables : List (List Row)) (need : List Needed) (n m k : ℕ) (l r : Walked) (w : Result Walked RunFault)
+    → AreDirected need → WholeWhereNeeded (Combine (Equijoin ps) a b) (each_rows L) tables need → AreWalked a b L M tables need n m l r → k ≡ m + nodes b
+    → IfErr w (λ e. IsFirst e (both_faults ps ks gs l.rel.rows r.rel.rows l.kept r.kept k))
+    → IfErr w (λ e. IsFirst e (first_fault_from (grouped_join ps ks gs a b) (each_rows L) (asked_of tables need) n))
+grouped_fault ps ks gs a b L M tables need n m k l r w all whole are number fault = subst (λ (f : Option NodeFault). IfErr w (λ e. IsFirst e f)) (grouped_nodes ps ks gs a b L M tables need n m k l r all whole are number) fault
 
 -- the first fault of an input is that of the plan, where there is none before it
 pub first_of_right : (e : RunFault) (o last : Option NodeFault) → IsFirst e o → IsFirst e (option_or o last)

@@ -6,6 +6,7 @@ mod eval;
 mod fault;
 mod fetch;
 mod fill;
+mod grouped_join;
 mod kept_maps;
 mod leaves;
 mod pass;

@@ -127,8 +127,8 @@ pub(crate) fn run_two<R: Threads + Sync, B: OpBody + Sync>(
     apply_two(work, op, l, r, node)
 }
 
-// The same over rows that are gathered.
-fn apply_two<R: Threads + Sync, B: OpBody + Sync>(
+/// The same over rows that are gathered.
+pub(crate) fn apply_two<R: Threads + Sync, B: OpBody + Sync>(
     work: &Work<'_, R, B>,
     op: &Op2,
     left: Run,
