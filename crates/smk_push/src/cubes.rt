@@ -6,7 +6,7 @@ use crate::group::group_at;
 use smk_base::{Aggs, Keys, Rel};
 use smk_outside::Steps;
 use smk_rid::RidMap;
-use smk_table::{Table, narrow_group};
+use smk_table::{Chosen, Table, narrow_group};
 use std::alloc::{AllocError, Global};
 use std::marker::Model;
 use std::sync::ledger::Ledger;
@@ -42,7 +42,22 @@ impl Cubes {
         ensures looks { steps.new ≤ steps.old + length table.now.rows }
     {
         let all = table.choose_all(alloc, steps)?;
-        let grouping = narrow_group(alloc, keys.as_slice(), aggs.as_slice(), &all)?;
+        Cubes::of_rows(alloc, map, &all, keys, aggs)
+    }
+
+    /// For each list of a map to these rows the grouping of the rows at its rids, in their order. It makes no look.
+    pub fn of_rows(
+        alloc: Global,
+        map: &RidMap,
+        all: &Chosen,
+        keys: &Keys,
+        aggs: &Aggs,
+    ) -> Result<Cubes, AllocError>
+        requires fits { GroupFits all.now.kinds keys.now aggs.now }
+        requires bound { map.now.bound ≡ length all.now.rows }
+        ensures { IfOk result (λ cubes. cubes ≡ cubes_of map.now all.now keys.now aggs.now) }
+    {
+        let grouping = narrow_group(alloc, keys.as_slice(), aggs.as_slice(), all)?;
         let mut groups = Vec::with_capacity(alloc, map.len() as usize)?;
         for mark in 0..map.len() {
             let made = group_at(alloc, &grouping, map.at(mark))?;

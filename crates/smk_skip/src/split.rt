@@ -6,7 +6,7 @@ use crate::order::places_in;
 use crate::runs::joined_runs;
 use crate::values::{parted, place_of};
 use indexmap::IndexSet;
-use smk_base::{Rids, Value};
+use smk_base::{Rel, Rids, Value};
 use smk_outside::Steps;
 use smk_rid::RidMap;
 use smk_table::Table;
@@ -21,7 +21,7 @@ use std::sync::ledger::Ledger;
 #[derive(Drop)]
 pub struct Split {
     map: Snapshot<RidMap>,
-    table: Snapshot<Table>,
+    rel: Snapshot<Rel>,
     col: u32,
     values: IndexSet<Value>,
     by_value: RidMap,
@@ -34,9 +34,9 @@ impl Model for Split {
 
     ghost Value = { SplitImage };
 
-    ghost view = { λ a. record { map = a.map.value; rows = a.table.value.rows; col = a.col } };
+    ghost view = { λ a. record { map = a.map.value; rows = a.rel.value.rows; col = a.col } };
 
-    ghost invariant = { λ a. IsParted (record { map = a.map.value; rows = a.table.value.rows; col = a.col }) a.values.keys a.by_value a.places };
+    ghost invariant = { λ a. IsParted (record { map = a.map.value; rows = a.rel.value.rows; col = a.col }) a.values.keys a.by_value a.places };
 }
 
 impl Split {
@@ -54,13 +54,22 @@ impl Split {
         ensures looks { steps.new ≤ steps.old + length table.now.rows }
     {
         let rel = table.whole(alloc, steps)?;
+        Split::of_rows(alloc, map, &rel, col)
+    }
+
+    /// The lists of a map to these rows, split by a column. It makes no look.
+    pub fn of_rows(alloc: Global, map: &RidMap, rel: &Rel, col: u32) -> Result<Split, AllocError>
+        requires column { col < length rel.now.kinds }
+        requires bound { map.now.bound ≡ length rel.now.rows }
+        ensures { IfOk result (λ split. split ≡ record { map = map.now; rows = rel.now.rows; col = col }) }
+    {
         let _rows = rel.len();
         let _pairs = map.pairs();
-        let (values, by_value) = parted(alloc, &rel, col)?;
+        let (values, by_value) = parted(alloc, rel, col)?;
         let places = places_in(alloc, map, &by_value)?;
         Ok(Split {
             map: Snapshot::of(map),
-            table: Snapshot::of(table),
+            rel: Snapshot::of(rel),
             col,
             values,
             by_value,

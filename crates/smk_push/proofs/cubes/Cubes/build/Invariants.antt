@@ -1,6 +1,0 @@
-use Rattle.std.proofs.Common.{◌≡◌, map, take}
-use Rattle.smk_push.specs.Cubes.{cube_of}
-use Rattle.smk_push.proofs.cubes.Cubes.build.Given as goal
-
-abbrev pub invariant-loop-mark : goal.invariant-loop-mark
-invariant-loop-mark g l = l.groups.items ≡ map (cube_of l.table l.keys l.aggs) (take l.mark l.map.lists)
