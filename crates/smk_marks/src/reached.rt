@@ -1,4 +1,4 @@
-ghost use Rattle.std.specs.Prelude.{◌≡◌, ◌<◌, ◌≤◌, ◌+◌, All, IfOk, Some, length};
+ghost use Rattle.std.specs.Prelude.{◌≡◌, ◌<◌, ◌≤◌, ◌+◌, ◌++◌, All, IfOk, OnOk, Some, length};
 ghost use Rattle.std.specs.List.{list_all};
 ghost use Rattle.smk_base.specs.declared.rel.TheConstants.{ROW_LIMIT};
 ghost use Rattle.smk_model.specs.Lineage.{sub};
@@ -85,6 +85,18 @@ fn is_count(agg: &Agg) -> bool
     }
 }
 
+// Puts the members of a list last. Most lists have one.
+fn put_list(marks: &mut Vec<u32>, list: &[u32]) -> Result<(), AllocError>
+    ensures { OnOk result (marks.new.items ≡ marks.old.items ++ list.now) }
+{
+    if list.len() == 1 {
+        marks.push(list[0])?;
+    } else {
+        marks.extend_from_slice(list)?;
+    }
+    Ok(())
+}
+
 // The marks that the rids reach, those of each rid behind those of the one before.
 fn marks_reached(alloc: Global, forward: &RidMap, chosen: &[u32]) -> Result<Rids, AllocError>
     requires { All (λ rid. rid < length forward.now.lists) chosen.now }
@@ -92,7 +104,7 @@ fn marks_reached(alloc: Global, forward: &RidMap, chosen: &[u32]) -> Result<Rids
 {
     let mut marks = Vec::with_capacity(alloc, chosen.len())?;
     for rid in chosen {
-        marks.extend_from_slice(forward.at(*rid))?;
+        put_list(&mut marks, forward.at(*rid))?;
     }
     Ok(Rids::from_vec(marks))
 }
@@ -114,7 +126,7 @@ fn kept_and_marks(
         if list.len() > 0 {
             rids.push(*rid)?;
         }
-        marks.extend_from_slice(list)?;
+        put_list(&mut marks, list)?;
     }
     Ok((rids, Rids::from_vec(marks)))
 }

@@ -1,12 +1,14 @@
 -- What is kept for the declarations, one after the other, and where it is found.
-use Rattle.std.proofs.Common.{◌≡◌, ℕ, ◌+◌, ◌<◌, ◌≤◌, Bool, true, false, ◌&&◌, ◌||◌, cond, List, [], ◌∷◌, ◌++◌, length, take, get_or, refl, ap, sym, ◌∙◌, subst, arith, nat_eq, Option, Some, None, Ok, Err, ok_or, option_map, All, inl, inr, find}
-use Rattle.std.specs.List.{cons_option, filter, filter_map, list_any, sum_by}
+use Rattle.std.proofs.Common.{◌≡◌, ◌≢◌, ℕ, zero, suc, ◌+◌, ◌<◌, ◌≤◌, Bool, true, false, ◌&&◌, ◌||◌, cond, List, [], ◌∷◌, ◌++◌, length, take, get_or, refl, ap, sym, ◌∙◌, subst, arith, nat_eq, Option, Some, None, Result, Ok, Err, ok_or, option_map, All, inl, inr, find, append_assoc, append-nil, take_all}
+use Rattle.std.specs.List.{AllZip, cons_option, filter, filter_map, list_any, sum_by}
 use Rattle.std.specs.Option.{option_or, option_to_list}
+use Rattle.std.specs.declared.alloc.AllocError.{AllocError}
 use Rattle.std.proofs.lemmas.Bool.{cases_Bool, eq-eqb, eqb-true, false≢true}
-use Rattle.std.proofs.lemmas.List.{length-map, take_more}
+use Rattle.std.proofs.lemmas.List.{get_or-map, length-map, map-append, take_more}
 use Rattle.std.proofs.lemmas.List.Elements.{All-head, All-tail, filter_map-append}
 use Rattle.std.proofs.lemmas.List.Folds.{list_any_at}
-use Rattle.std.proofs.lemmas.List.Sums.{sum_by_more}
+use Rattle.std.proofs.lemmas.List.Sums.{sum_by_more, sum_by-take-le}
+use Rattle.std.proofs.lemmas.Slice.Zip.{AllZip-long}
 use Rattle.smk_base.specs.CatalogImage.{catalog_image, view_image}
 use Rattle.smk_base.specs.Places.{Lists}
 use Rattle.smk_base.specs.Rels.{Relation}
@@ -18,6 +20,7 @@ use Rattle.smk_base.specs.declared.catalog.TableInfo.{TableInfo}
 use Rattle.smk_base.specs.declared.reply.Refusal.TheVariants.{Undeclared}
 use Rattle.smk_base.specs.declared.value.Kind.{Kind}
 use Rattle.smk_model.specs.Catalogs.{BackFits, ExtraFits, GroupingFits, IsCatalog, table_kinds}
+use Rattle.smk_model.specs.Looks.{looks_of_extra}
 use Rattle.smk_model.specs.Replies.{Grouped, first_grouping, grouping_in, is_by, is_split}
 use Rattle.smk_model.specs.Session.{Workbook, view_at}
 use Rattle.smk_model.specs.Typing.{info_at}
@@ -25,10 +28,12 @@ use Rattle.smk_model.specs.Workload.{is_back, is_link}
 use Rattle.smk_compose.specs.declared.kept_maps.Run.{Run}
 use Rattle.smk_session.specs.Answers.{kept_back}
 use Rattle.smk_session.specs.Extras.{backs_of, split_on, cubes_on, split_for, cubes_for, split_in, cubes_in, is_split_on, are_cubes_on}
-use Rattle.smk_session.specs.Making.{IsDeclared}
+use Rattle.smk_session.specs.Making.{IsDeclared, MakesAs, declared_in}
 use Rattle.smk_session.specs.Sessions.{AreOpened, workbook_image}
 use Rattle.smk_session.specs.declared.extra.CubesOn.{CubesOn}
 use Rattle.smk_session.specs.declared.extra.SplitOn.{SplitOn}
+use Rattle.smk_session.specs.declared.making.Asked.{Asked}
+use Rattle.smk_session.specs.declared.making.Made.{Made}
 use Rattle.smk_session.proofs.KeptOf.{kept_back_is}
 use Rattle.smk_session.proofs.Opened.{run_is}
 
@@ -86,6 +91,64 @@ kept_next h xs i x before after low is are pushed =
 
 pub looks_next : (f : Back → ℕ) (xs : List Back) (i start before after : ℕ) (x : Back) → i < length xs → x ≡ get_or xs i x → before ≤ start + sum_by f (take i xs) → after ≤ before + f x → after ≤ start + sum_by f (take (i + 1) xs)
 looks_next f xs i start before after x low is so_far here = omega (arith, so_far, here, ap f is, sum_by_more f xs i x low)
+
+pub looks_within : (f : Back → ℕ) (xs all : List Back) (i start before after : ℕ) (x : Back) → xs ≡ all → i < length xs → x ≡ get_or xs i x → before ≤ start + sum_by f (take i xs) → after ≤ before + f x → after ≤ start + sum_by f all
+looks_within f xs all i start before after x are low is so_far here =
+    omega (arith, looks_next f xs i start before after x low is so_far here, sum_by-take-le f xs (i + 1), ap (sum_by f) are)
+
+-- what waits, once one declaration more does, or asks for nothing
+
+pub kept_waiting : {Y : Type 0} (h : Back → Option Y) (xs : List Back) (i : ℕ) (x : Back) (front : List Y) (before after : List Asked) (asked : Asked) → i < length xs → x ≡ get_or xs i x
+    → front ++ filter_map h (declared_in before) ≡ filter_map h (take i xs) → after ≡ before ++ asked ∷ [] → asked.declared.now ≡ x → front ++ filter_map h (declared_in after) ≡ filter_map h (take (i + 1) xs)
+kept_waiting h xs i x front before after asked low is are pushed same =
+    let waiting = filter_map h (declared_in before) in
+    ap (λ l. front ++ filter_map h (declared_in l)) pushed
+    ∙ ap (λ l. front ++ filter_map h l) (map-append (λ (a : Asked). a.declared.now) before (asked ∷ []))
+    ∙ ap (λ l. front ++ l) (filter_map-append h (declared_in before) (asked.declared.now ∷ []))
+    ∙ ap (λ l. front ++ (waiting ++ l)) (one_kept h asked.declared.now)
+    ∙ sym (append_assoc front waiting (option_to_list (h asked.declared.now)))
+    ∙ ap (λ d. (front ++ waiting) ++ option_to_list (h d)) same
+    ∙ kept_next h xs i x (front ++ waiting) ((front ++ waiting) ++ option_to_list (h x)) low is are refl
+
+pub kept_none : {Y : Type 0} (h : Back → Option Y) (xs : List Back) (i : ℕ) (x : Back) (all : List Y) → i < length xs → x ≡ get_or xs i x → all ≡ filter_map h (take i xs) → h x ≡ None → all ≡ filter_map h (take (i + 1) xs)
+kept_none h xs i x all low is are none =
+    kept_next h xs i x all all low is are (sym (append-nil all) ∙ ap (λ o. all ++ option_to_list o) (sym none))
+
+-- what is made of the declarations that wait, one after the other
+
+pub made_at : (book : Workbook) (all : List Asked) (made : List (Result Made AllocError)) (n : ℕ) (r : Result Made AllocError) → AllZip (MakesAs book) all made → n < length made → r ≡ get_or made n r
+    → (asked : Asked) × (n < length all) × (asked ≡ get_or all n asked) × MakesAs book asked r
+made_at book [] [] n r zip low is = absurd (omega (arith, low))
+made_at book [] (m ∷ ms) n r zip low is = absurd zip
+made_at book (a ∷ more) [] n r zip low is = absurd zip
+made_at book (a ∷ more) (m ∷ ms) zero r zip low is = (a, omega arith, refl, subst (MakesAs book a) (sym is) zip.0)
+made_at book (a ∷ more) (m ∷ ms) (suc n) r zip low is =
+    let rest = made_at book more ms n r zip.1 (omega (arith, low)) is in
+    (rest.0, omega (arith, rest.1), rest.2, rest.3)
+
+pub kept_put : {Y : Type 0} (h : Back → Option Y) (all : List Asked) (n : ℕ) (asked : Asked) (put : Option Y) (old before after : List Y) → n < length all → asked ≡ get_or all n asked
+    → before ≡ old ++ filter_map h (take n (declared_in all)) → put ≡ h asked.declared.now → after ≡ before ++ option_to_list put → after ≡ old ++ filter_map h (take (n + 1) (declared_in all))
+kept_put h all n asked put old before after low is are made pushed =
+    let declared : List Back = declared_in all in
+    let long : n < length declared = omega (arith, low, length-map all (λ (a : Asked). a.declared.now)) in
+    let same : asked.declared.now ≡ get_or declared n asked.declared.now =
+    ap (λ (a : Asked). a.declared.now) is ∙ sym (get_or-map (λ (a : Asked). a.declared.now) all n asked asked.declared.now low) in
+    pushed
+    ∙ ap (λ l. l ++ option_to_list put) are
+    ∙ append_assoc old (filter_map h (take n declared)) (option_to_list put)
+    ∙ ap (λ o. old ++ (filter_map h (take n declared) ++ option_to_list o)) made
+    ∙ ap (λ l. old ++ l) (kept_next h declared n asked.declared.now (filter_map h (take n declared)) _ long same refl refl)
+
+pub kept_all : {Y : Type 0} (book : Workbook) (h : Back → Option Y) (all : List Asked) (made : List (Result Made AllocError)) (n : ℕ) (old after : List Y) → AllZip (MakesAs book) all made → n ≡ length made
+    → after ≡ old ++ filter_map h (take n (declared_in all)) → after ≡ old ++ filter_map h (declared_in all)
+kept_all book h all made n old after zip whole are =
+    are ∙ ap (λ l. old ++ filter_map h l) (take_all n (declared_in all) (omega (arith, whole, AllZip-long (MakesAs book) all made zip, length-map all (λ (a : Asked). a.declared.now))))
+
+-- what asks for more than rows looks at each row of its table
+pub looks_of_more : (extra : BackExtra) (rows : ℕ) → extra ≢ extras.Plain → looks_of_extra extra rows ≡ rows
+looks_of_more extras.Plain rows more = absurd (more refl)
+looks_of_more (extras.By column) rows more = refl
+looks_of_more (extras.Grouped keys aggs names kinds) rows more = refl
 
 -- the split by a column is found exactly where it is declared
 

@@ -18,17 +18,16 @@ use Rattle.smk_base.specs.declared.tree.Marks.{Marks}
 use Rattle.smk_base.specs.declared.value.Kind.{Kind}
 use Rattle.smk_model.specs.Composed.{backs, forwards}
 use Rattle.smk_model.specs.Catalogs.{IsCatalog, ViewFits, each_table_kinds}
-use Rattle.smk_model.specs.Replies.{Asked, marks_fwd, rids_of}
+use Rattle.smk_model.specs.Replies.{marks_fwd, rids_of}
 use Rattle.smk_model.specs.Selection.{PickFits, PlanFits, ScansFit, each_kinds, each_rows, leaf_kinds, over, plan_kinds}
 use Rattle.smk_model.specs.Session.{concerns, leaves_now, linked, rows_of_table, selected_for, view_at}
 use Rattle.smk_model.specs.Workload.{declares_back, declares_fwd, is_link}
 use Rattle.smk_model.proofs.Composed.{lists_stand}
 use Rattle.smk_model.proofs.Places.{places_below}
 use Rattle.smk_compose.specs.declared.kept_maps.Run.{Run}
-use Rattle.smk_session.specs.Answers.{AreOn, Turns, chosen_of, kept_back, kept_fwd, members_asked, picks_chosen, rids_or_all}
+use Rattle.smk_session.specs.Answers.{AreOn, chosen_of, kept_back, kept_fwd, members_asked, picks_chosen, rids_or_all}
 use Rattle.smk_session.specs.Refreshed.{Names, book_at}
 use Rattle.smk_session.specs.declared.refresh.Refresh.{Refresh}
-use Rattle.smk_session.specs.declared.turned.Turned.{Turned}
 use Rattle.smk_session.specs.Sessions.{AreOpened, BrushFits, state_over}
 use Rattle.smk_session.proofs.Rids.{rids_ascend}
 use Rattle.smk_session.proofs.Selected.{chosen_or_all, picks_fit, picks_more, picks_same, same_leaves}
@@ -42,11 +41,12 @@ use Rattle.smk_session.proofs.Opened.{ok_is, run_is, tables_long}
 abbrev plan_of : Catalog → ℕ → Expr
 plan_of catalog v = (view_at (catalog_image catalog) v).plan
 
-pub fwd_lists : (catalog : Catalog) (tables : List Relation) (views : List Run) (w t : ℕ) (run : Run) (map : Lists) → AreOpened catalog tables views → w < length catalog.views → t < length catalog.tables → run ≡ get_or views w run
-    → kept_fwd run.kept t ≡ Ok map → map ≡ forwards (plan_of catalog w) (each_rows tables) t
-fwd_lists catalog tables views w t run map o low_w low_t is kept =
-    ok_is (declares_fwd (catalog_image catalog) w t) (forwards (plan_of catalog w) (each_rows tables) t) map
-    (sym (kept_fwd_is (catalog_image catalog) (plan_of catalog w) (each_rows tables) w t low_t) ∙ ap (λ (r : Run). kept_fwd r.kept t) (sym (run_is catalog tables views w run o low_w is)) ∙ kept)
+pub declared_fwd : (catalog : Catalog) (tables : List Relation) (views : List Run) (w t : ℕ) (run : Run) → AreOpened catalog tables views → w < length catalog.views → t < length catalog.tables → run ≡ get_or views w run
+    → declares_fwd (catalog_image catalog) w t ≡ true → kept_fwd run.kept t ≡ Ok (forwards (plan_of catalog w) (each_rows tables) t)
+declared_fwd catalog tables views w t run o low_w low_t is declared =
+    ap (λ (r : Run). kept_fwd r.kept t) (run_is catalog tables views w run o low_w is)
+    ∙ kept_fwd_is (catalog_image catalog) (plan_of catalog w) (each_rows tables) w t low_t
+    ∙ ap (λ (b : Bool). cond b (Ok (forwards (plan_of catalog w) (each_rows tables) t)) (Err Undeclared)) declared
 
 pub back_lists : (catalog : Catalog) (tables : List Relation) (views : List Run) (v t : ℕ) (run : Run) (map : Lists) → AreOpened catalog tables views → v < length catalog.views → t < length catalog.tables → run ≡ get_or views v run
     → kept_back run.kept t ≡ Ok map → map ≡ backs (plan_of catalog v) (each_rows tables) t
@@ -59,12 +59,6 @@ back_lists catalog tables views v t run map o low_v low_t is kept =
 never : {X E : Type 0} (b : Bool) (m : X) (e f : E) → b ≡ true → cond b (Ok m) (Err e) ≡ Err f → ⊥
 never true m e f is h = cc
 never false m e f is h = cc
-
-pub fwd_kept : (catalog : Catalog) (tables : List Relation) (views : List Run) (w t : ℕ) (run : Run) (refusal : Refusal) → AreOpened catalog tables views → w < length catalog.views → t < length catalog.tables → run ≡ get_or views w run
-    → declares_fwd (catalog_image catalog) w t ≡ true → kept_fwd run.kept t ≡ Err refusal → ⊥
-fwd_kept catalog tables views w t run refusal o low_w low_t is declared h =
-    never (declares_fwd (catalog_image catalog) w t) (forwards (plan_of catalog w) (each_rows tables) t) Undeclared refusal declared
-    (sym (kept_fwd_is (catalog_image catalog) (plan_of catalog w) (each_rows tables) w t low_t) ∙ ap (λ (r : Run). kept_fwd r.kept t) (sym (run_is catalog tables views w run o low_w is)) ∙ h)
 
 pub back_kept : (catalog : Catalog) (tables : List Relation) (views : List Run) (v t : ℕ) (run : Run) (refusal : Refusal) → AreOpened catalog tables views → v < length catalog.views → t < length catalog.tables → run ≡ get_or views v run
     → declares_back (catalog_image catalog) v t ≡ true → kept_back run.kept t ≡ Err refusal → ⊥
@@ -126,14 +120,6 @@ marks_reached catalog tables brushes w t map chosen marks are made reached =
     ∙ ap (members_at map) (chosen_rids catalog tables brushes w t map chosen are made)
     ∙ ap (λ m. members_at m (selected_for (catalog_image catalog) (state_over tables brushes) w t)) are
     ∙ lists_stand.forward_of (plan_of catalog w) (each_rows tables) (selected_for (catalog_image catalog) (state_over tables brushes) w t) t (places_below _ (rows_count tables t))
-
--- what is given can't be refused
-pub given_never : {A B : Type 0} (given : A) (asked : Asked B) (turned : Turned) → Turns turned (Ok given) → Turns turned asked
-given_never given asked turned turns refusal is = absurd (cc (turns refusal is))
-
-pub fwd_never : {B : Type 0} (catalog : Catalog) (tables : List Relation) (views : List Run) (w t : ℕ) (run : Run) (asked : Asked B) (turned : Turned) → AreOpened catalog tables views → w < length catalog.views → t < length catalog.tables
-    → run ≡ get_or views w run → declares_fwd (catalog_image catalog) w t ≡ true → Turns turned (kept_fwd run.kept t) → Turns turned asked
-fwd_never catalog tables views w t run asked turned o low_w low_t is declared turns refusal e = absurd (fwd_kept catalog tables views w t run refusal o low_w low_t is declared (turns refusal e))
 
 -- the leaves of a view over what is picked
 
@@ -200,11 +186,6 @@ pub pick_none : (catalog : Catalog) (tables : List Relation) (brushes : List Bru
     → picks ≡ picks_chosen (catalog_image catalog) (state_over tables brushes) w t → picks ≡ picks_chosen (catalog_image catalog) (state_over tables brushes) w (t + 1)
 pick_none catalog tables brushes w t chosen picks fit made none are =
     are ∙ sym (picks_same (catalog_image catalog) (state_over tables brushes) w t (none_is (list_any (concerns (catalog_image catalog) w t) brushes) _ (sym (chosen_there catalog tables brushes w t chosen fit made) ∙ none)))
-
--- marks that are given
-
-abbrev pub given : List ℕ → Asked (List ℕ)
-given marks = Ok marks
 
 -- the views that links name
 

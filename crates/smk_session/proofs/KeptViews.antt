@@ -1,5 +1,5 @@
 -- What is made of a view from what is kept of it shows its content.
-use Rattle.std.proofs.Common.{◌≡◌, ℕ, ◌+◌, ◌<◌, ◌≤◌, Bool, true, false, cond, List, [], ◌∷◌, length, map, get_or, refl, ap, sym, ◌∙◌, subst, arith, nat_eq, Ok, Option, Some, None, option_map, All, find}
+use Rattle.std.proofs.Common.{◌≡◌, ℕ, ◌+◌, ◌<◌, ◌≤◌, Bool, true, false, cond, List, [], ◌∷◌, length, map, get_or, refl, ap, sym, ◌∙◌, subst, arith, nat_eq, Option, Some, None, option_map, All, find}
 use Rattle.std.specs.List.{filter, list_any}
 use Rattle.std.proofs.lemmas.List.{get_or-map, length-map}
 use Rattle.smk_base.specs.CatalogImage.{CatalogImage, ViewImage, catalog_image, view_image}
@@ -34,11 +34,11 @@ use Rattle.smk_marks.proofs.Chains.{chain_picks}
 use Rattle.smk_marks.proofs.Kept.{kept_marks}
 use Rattle.smk_marks.proofs.Marked.{few_kept}
 use Rattle.smk_marks.proofs.Small.{never_full}
-use Rattle.smk_session.specs.Answers.{AreOn, IsLent, book_of, chosen_of, kept_fwd, pick_for}
+use Rattle.smk_session.specs.Answers.{AreOn, IsLent, book_of, chosen_of, pick_for}
 use Rattle.smk_session.specs.Refreshed.{IsKept, IsRefresh, Shows, book_at, looks_now, state_next}
 use Rattle.smk_session.specs.declared.lent.Lent.{Lent}
 use Rattle.smk_session.specs.declared.refresh.Refresh.{Refresh}
-use Rattle.smk_session.proofs.Followers.{chosen_there, fwd_lists}
+use Rattle.smk_session.proofs.Followers.{chosen_there}
 use Rattle.smk_session.proofs.KeptOf.{find_mapped, found}
 use Rattle.smk_session.proofs.Opened.{run_is, tables_long}
 use Rattle.smk_session.proofs.Selected.{whole_where}
@@ -192,19 +192,15 @@ module _ (refresh : Refresh) (w : ℕ) (view : KeptView) (table : Relation) (is 
 
 -- the kept parts of a view are what it gives
 
-pub view_kept : (held : Lent) (w : ℕ) (run : Run) (info : ViewInfo) (view : KeptView) → IsLent held → w < length held.catalog.now.views → run ≡ get_or held.views.now w run → view_image info ≡ view_at (book_of held) w → ViewFits held.catalog.now.tables (view_image info)
-    → EndsInGroups (expr_of info.plan) view.plan → view.content.now ≡ run.rel → kept_fwd run.kept (selected_table (expr_of view.plan.chain.now)) ≡ Ok view.forward.now → IsKept held w view
-view_kept held w run info view h low is named fits ends content fwd =
-    let catalog = held.catalog.now in
-    let tables = held.tables.now in
+pub view_kept : (held : Lent) (w t : ℕ) (run : Run) (info : ViewInfo) (view : KeptView) → IsLent held → w < length held.catalog.now.views → run ≡ get_or held.views.now w run → view_image info ≡ view_at (book_of held) w
+    → EndsInGroups (expr_of info.plan) view.plan → view.content.now ≡ run.rel → t ≡ selected_table (expr_of view.plan.chain.now) → view.forward.now ≡ forwards (view_at (book_of held) w).plan (each_rows held.tables.now) t → IsKept held w view
+view_kept held w t run info view h low is named ends content same fwd =
     let plan = (view_at (book_of held) w).plan in
-    let t = selected_table (expr_of view.plan.chain.now) in
     let here : EndsInGroups plan view.plan = subst (λ (p : Expr). EndsInGroups p view.plan) (ap (λ (v : ViewImage). v.plan) named) ends in
-    let there : t < length catalog.tables = subst (λ (p : Expr). selected_table p < length catalog.tables) ends.plan_is (scanned_low (length catalog.tables) (expr_of info.plan) fits.scans) in
     record {
       plan = here;
-      content = content ∙ ap (λ (r : Run). r.rel) (run_is catalog tables held.views.now w run h.opened low is);
-      forward = fwd_lists catalog tables held.views.now w t run view.forward.now h.opened low there is fwd ∙ sym (ap (λ (p : Expr). forwards plan (each_rows tables) (selected_table p)) here.plan_is);
+      content = content ∙ ap (λ (r : Run). r.rel) (run_is held.catalog.now held.tables.now held.views.now w run h.opened low is);
+      forward = fwd ∙ ap (forwards plan (each_rows held.tables.now)) (same ∙ sym (ap selected_table here.plan_is));
     }
 
 -- what is chosen of the table of such a view

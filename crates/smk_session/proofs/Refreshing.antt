@@ -12,7 +12,8 @@ use Rattle.smk_model.specs.Session.{leaves_now, view_at}
 use Rattle.smk_model.specs.Values.{Row}
 use Rattle.smk_compose.specs.declared.fault.EvalFault.{EvalFault}
 use Rattle.smk_compose.specs.declared.fault.EvalFault.TheVariants.{Rows}
-use Rattle.smk_session.specs.Refreshed.{HasLeaves, IsContent, IsEvaluated, IsFetched, IsMade, IsOf, IsRun, IsSource, Shows, book_at, state_next}
+use Rattle.smk_session.specs.Refreshed.{HasLeaves, IsAnew, IsContent, IsEvaluated, IsFetched, IsMade, IsOf, IsRun, IsSource, Shows, book_at, state_next}
+use Rattle.smk_session.specs.declared.evaluating.Evaluated.{Evaluated}
 use Rattle.smk_session.specs.declared.evaluating.Fetched.{Fetched}
 use Rattle.smk_session.specs.declared.evaluating.Source.{Source}
 use Rattle.smk_session.specs.declared.evaluating.Source.TheVariants as sources
@@ -55,18 +56,20 @@ source_made : (refresh : Refresh) (w : ℕ) (source : Source) (made : Result Rel
 source_made refresh w (sources.Leaves plan leaves) made is run = leaves_made refresh w (expr_of plan.now) leaves made is run
 source_made refresh w (sources.Made rel) made is of = shown_made refresh w rel made is of
 
-pub content_made : (refresh : Refresh) (w : ℕ) (fetched : Fetched) (made : Result Relation EvalFault) → IsFetched refresh w fetched → IsEvaluated fetched made → IsContent refresh w made
-content_made refresh w fetched made is of = source_made refresh w fetched.source made is of
+-- and its marks are those that are fetched
 
--- and of several views
+pub made_anew : (refresh : Refresh) (w : ℕ) (fetched : Fetched) (view : Evaluated) → IsFetched refresh w fetched → IsEvaluated fetched view → IsAnew refresh w view
+made_anew refresh w fetched view is of = record { content = source_made refresh w fetched.source view.made is.source of.made; marks = of.marks ∙ is.marks }
 
-pub all_contents : (refresh : Refresh) (views : List ℕ) (fetched : List Fetched) (made : List (Result Relation EvalFault)) → AllZip (IsFetched refresh) views fetched → AllZip IsEvaluated fetched made → AllZip (IsContent refresh) views made
-all_contents refresh [] [] [] are of = tt
-all_contents refresh [] [] (m ∷ ms) are of = absurd of
-all_contents refresh [] (f ∷ fs) made are of = absurd are
-all_contents refresh (w ∷ ws) [] made are of = absurd are
-all_contents refresh (w ∷ ws) (f ∷ fs) [] are of = absurd of
-all_contents refresh (w ∷ ws) (f ∷ fs) (m ∷ ms) are of = (content_made refresh w f m are.0 of.0, all_contents refresh ws fs ms are.1 of.1)
+-- so of several views
+
+pub all_anew : (refresh : Refresh) (views : List ℕ) (fetched : List Fetched) (made : List Evaluated) → AllZip (IsFetched refresh) views fetched → AllZip IsEvaluated fetched made → AllZip (IsAnew refresh) views made
+all_anew refresh [] [] [] are of = tt
+all_anew refresh [] [] (m ∷ ms) are of = absurd of
+all_anew refresh [] (f ∷ fs) made are of = absurd are
+all_anew refresh (w ∷ ws) [] made are of = absurd are
+all_anew refresh (w ∷ ws) (f ∷ fs) [] are of = absurd of
+all_anew refresh (w ∷ ws) (f ∷ fs) (m ∷ ms) are of = (made_anew refresh w f m are.0 of.0, all_anew refresh ws fs ms are.1 of.1)
 
 -- pairs of two lists
 

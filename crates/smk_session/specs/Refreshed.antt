@@ -1,5 +1,5 @@
 -- What the calls say that make views anew under other brushes.
-use Rattle.std.specs.Prelude.{◌≡◌, ◌<◌, ◌^◌, ℕ, List, Result, MatchResult, true, Some, None, All, length, map}
+use Rattle.std.specs.Prelude.{◌≡◌, ◌<◌, ◌^◌, ℕ, List, Option, Result, MatchResult, true, Some, None, All, length, map}
 use Rattle.smk_base.specs.CatalogImage.{CatalogImage}
 use Rattle.smk_base.specs.PlanImage.{expr_of}
 use Rattle.smk_base.specs.Plans.{Expr}
@@ -8,17 +8,18 @@ use Rattle.smk_base.specs.declared.reply.Linked.{Linked}
 use Rattle.smk_model.specs.Composed.{forwards}
 use Rattle.smk_model.specs.LineageLaws.{selected_table}
 use Rattle.smk_model.specs.Plain.{eval, width}
-use Rattle.smk_model.specs.Replies.{Asked, content_of, linked_now}
+use Rattle.smk_model.specs.Replies.{Asked, content_of, linked_now, marks_fwd}
 use Rattle.smk_model.specs.Selection.{PlanFits, each_kinds, each_rows, first_full, nodes, plan_kinds, rows_in}
-use Rattle.smk_model.specs.Session.{State, leaves_now, view_at}
+use Rattle.smk_model.specs.Session.{State, leaves_now, selected_for, view_at}
 use Rattle.smk_model.specs.Tables.{all_or_first}
 use Rattle.smk_model.specs.Workload.{declares_fwd}
 use Rattle.smk_compose.specs.declared.fault.EvalFault.{EvalFault}
 use Rattle.smk_compose.specs.declared.fault.EvalFault.TheVariants.{NoMemory, Rows}
 use Rattle.smk_marks.specs.Views.{EndsInGroups}
 use Rattle.smk_marks.specs.declared.view.KeptView.{KeptView}
-use Rattle.smk_session.specs.Answers.{IsLent, book_of, content_at, state_at}
+use Rattle.smk_session.specs.Answers.{AreOn, IsLent, book_of, chosen_of, content_at, state_at}
 use Rattle.smk_session.specs.Sessions.{BrushFits, opened, workbook_image}
+use Rattle.smk_session.specs.declared.evaluating.Evaluated.{Evaluated}
 use Rattle.smk_session.specs.declared.evaluating.Fetched.{Fetched}
 use Rattle.smk_session.specs.declared.evaluating.Source.{Source}
 use Rattle.smk_session.specs.declared.evaluating.Source.TheVariants as sources
@@ -43,6 +44,14 @@ state_next refresh = state_at refresh.held.now refresh.brushes.now
 abbrev pub looks_now : Refresh → ℕ → ℕ
 looks_now refresh w = rows_in (leaves_now (book_at refresh) (state_next refresh) w)
 
+-- the rids of the table that the brushes select for a view: none where no brush concerns it
+abbrev pub IsChosen : Refresh → ℕ → Option (List ℕ) → Type 0
+IsChosen refresh w chosen = (n : ℕ) → AreOn refresh.table n refresh.brushes.now → chosen ≡ chosen_of (book_at refresh) refresh.brushes.now w refresh.table n
+
+-- the marks of a view that the rows reach which are selected for it on the table
+abbrev pub marks_next : Refresh → ℕ → List ℕ
+marks_next refresh w = marks_fwd (book_at refresh) (state_next refresh) w refresh.table (selected_for (book_at refresh) (state_next refresh) w refresh.table)
+
 -- these views are there, and their forward query is declared
 pub record IsNamed (refresh : Refresh) (w : ℕ) : Type 0 where
   pub view : w < length refresh.held.now.catalog.now.views
@@ -65,6 +74,11 @@ pub record Shows (refresh : Refresh) (w : ℕ) (rel : Relation) : Type 0 where
 
 abbrev pub IsContent : Refresh → ℕ → Result Relation EvalFault → Type 0
 IsContent refresh w made = MatchResult made (Shows refresh w) (λ e. (node : ℕ) → e ≡ Rows node → first_full (view_at (book_at refresh) w).plan (leaves_now (book_at refresh) (state_next refresh) w) ≡ Some node)
+
+-- a view made anew has this content, and its marks
+pub record IsAnew (refresh : Refresh) (w : ℕ) (view : Evaluated) : Type 0 where
+  pub content : IsContent refresh w view.made
+  pub marks : view.marks ≡ marks_next refresh w
 
 -- what is kept of a view that is a grouping over a chain: its first content, and its forward lists
 pub record IsKept (held : Lent) (w : ℕ) (view : KeptView) : Type 0 where
@@ -104,8 +118,10 @@ abbrev pub IsMade : Source → Result Relation EvalFault → Type 0
 IsMade (sources.Leaves plan leaves) made = IsRun (expr_of plan.now) leaves made
 IsMade (sources.Made rel) made = IsOf rel made
 
-abbrev pub IsEvaluated : Fetched → Result Relation EvalFault → Type 0
-IsEvaluated fetched made = IsMade fetched.source made
+-- a view is evaluated where that is made, and its marks are those that are fetched
+pub record IsEvaluated (fetched : Fetched) (view : Evaluated) : Type 0 where
+  pub made : IsMade fetched.source view.made
+  pub marks : view.marks ≡ fetched.marks
 
 -- a view's plan with the rows selected for it
 pub record HasLeaves (refresh : Refresh) (w : ℕ) (plan : Expr) (leaves : List Relation) : Type 0 where
@@ -118,5 +134,7 @@ abbrev pub IsSource : Refresh → ℕ → Source → Type 0
 IsSource refresh w (sources.Leaves plan leaves) = HasLeaves refresh w (expr_of plan.now) leaves
 IsSource refresh w (sources.Made rel) = Shows refresh w rel
 
-abbrev pub IsFetched : Refresh → ℕ → Fetched → Type 0
-IsFetched refresh w fetched = IsSource refresh w fetched.source
+-- with the view's marks
+pub record IsFetched (refresh : Refresh) (w : ℕ) (fetched : Fetched) : Type 0 where
+  pub source : IsSource refresh w fetched.source
+  pub marks : fetched.marks ≡ marks_next refresh w

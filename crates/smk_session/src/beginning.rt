@@ -21,7 +21,7 @@ use smk_compose::Run;
 use smk_outside::{Gate, Steps};
 use smk_table::Table;
 use smk_typing::TypedBook;
-use std::alloc::{AllocError, Global};
+use std::alloc::AllocError;
 use std::sync::ledger::Ledger;
 use std::thread::Threads;
 
@@ -41,8 +41,8 @@ pub(crate) struct Begun {
 }
 
 // What is kept beside these views, while no brush is in force.
-fn keep_beside<L: Ledger>(
-    alloc: Global,
+fn keep_beside<R: Threads + Sync, G: Gate + Sync, L: Ledger>(
+    work: &Work<'_, R, Workers<'_, G>>,
     opened: &Opening<'_>,
     steps: &mut Steps<L>,
 ) -> Result<Beside, AllocError>
@@ -51,8 +51,8 @@ fn keep_beside<L: Ledger>(
     ensures contents { IfOk result (λ made. made.contents.items ≡ map (λ w. None) (upto (length opened.now.views.now))) }
     ensures looks { steps.new ≤ steps.old + sum_by (looks_of_back (book_in opened.now)) opened.now.book.now.backs }
 {
-    let contents = no_contents(alloc, opened.views.len())?;
-    let extras = make_extras(alloc, opened, steps)?;
+    let contents = no_contents(work.alloc, opened.views.len())?;
+    let extras = make_extras(work, opened, steps)?;
     Ok(Beside { extras, contents })
 }
 
@@ -78,7 +78,7 @@ pub(crate) fn begin<R: Threads + Sync, G: Gate + Sync, L: Ledger>(
         tables,
         views: views.as_slice(),
     };
-    let beside = keep_beside(work.alloc, &opened, steps)?;
+    let beside = keep_beside(work, &opened, steps)?;
     Ok(Begun {
         views,
         extras: beside.extras,

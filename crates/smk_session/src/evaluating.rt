@@ -1,10 +1,10 @@
-// The rows of views, made anew from what is fetched for them.
+// Views, made anew from what is fetched for them.
 ghost use Rattle.std.specs.Prelude.{All, IfOk};
 ghost use Rattle.std.specs.List.{AllZip};
 ghost use Rattle.smk_session.specs.Refreshed.{CanEvaluate, IsEvaluated, IsReady, IsMade};
 
 use crate::workers::Workers;
-use smk_base::{Plan, Rel};
+use smk_base::{Plan, Rel, Rids};
 use smk_body::Work;
 use smk_compose::{EvalFault, Leaves, eval_leaves};
 use smk_outside::Gate;
@@ -22,39 +22,63 @@ pub(crate) enum Source<'a> {
     Made(Rel),
 }
 
-// A view for which all is fetched that it is made from: its number among the linked ones, and these things.
+// A view for which all is fetched that it is made from: its number among the linked ones, these things, and its marks that the selected rows reach.
 #[derive(Drop)]
 pub(crate) struct Fetched<'a> {
     pub(crate) place: u32,
     pub(crate) source: Source<'a>,
+    pub(crate) marks: Rids,
 }
 
-// The rows of a view, by steps that are cut into pieces where there are several workers.
+// A view that is evaluated: its rows, or the node that has too many, and its marks.
+#[derive(Drop)]
+pub(crate) struct Evaluated {
+    pub(crate) made: Result<Rel, EvalFault>,
+    pub(crate) marks: Rids,
+}
+
+// A view, by steps that are cut into pieces where there are several workers.
 pub(crate) fn evaluate<R: Threads + Sync, G: Gate + Sync>(
     work: &Work<'_, R, Workers<'_, G>>,
     fetched: Fetched<'_>,
-) -> Result<Rel, EvalFault>
+) -> Evaluated
     requires { CanEvaluate fetched }
     ensures { IsEvaluated fetched.entry result }
 {
-    let crew = work.crew;
-    if crew.workers == 1 {
-        make_whole(work, fetched.source)
-    } else {
-        make_in_pieces(work, fetched.source)
+    Evaluated {
+        made: make(work, fetched.source),
+        marks: fetched.marks,
     }
 }
 
-// The rows of a view that is evaluated beside others: it passes the gate, and no step of it is cut.
+// A view that is evaluated beside others: it passes the gate, and no step of it is cut.
 fn evaluate_whole<R: Threads + Sync, G: Gate + Sync>(
     work: &Work<'_, R, Workers<'_, G>>,
     fetched: Fetched<'_>,
-) -> Result<Rel, EvalFault>
+) -> Evaluated
     requires { CanEvaluate fetched }
     ensures { IsEvaluated fetched.entry result }
 {
     work.crew.gate.arrive(fetched.place);
-    make_whole(work, fetched.source)
+    Evaluated {
+        made: make_whole(work, fetched.source),
+        marks: fetched.marks,
+    }
+}
+
+// The rows of a view, each step of which is cut into pieces where there are several workers.
+fn make<R: Threads + Sync, G: Gate + Sync>(
+    work: &Work<'_, R, Workers<'_, G>>,
+    source: Source<'_>,
+) -> Result<Rel, EvalFault>
+    requires { IsReady source }
+    ensures { IsMade source.entry result }
+{
+    if work.crew.workers == 1 {
+        make_whole(work, source)
+    } else {
+        make_in_pieces(work, source)
+    }
 }
 
 // The rows of a view, no step of which is cut.
@@ -90,18 +114,18 @@ fn make_in_pieces<R: Threads + Sync, G: Gate + Sync>(
     }
 }
 
-// The rows of several views, all at once.
+// Several views, all at once.
 pub(crate) fn evaluate_at_once<R: Threads + Sync, G: Gate + Sync>(
     work: &Work<'_, R, Workers<'_, G>>,
     views: Vec<Fetched<'_>>,
-) -> Result<Vec<Result<Rel, EvalFault>>, AllocError>
+) -> Result<Vec<Evaluated>, AllocError>
     requires { All CanEvaluate views.items }
     ensures { IfOk result (λ made. AllZip IsEvaluated views.entry.items made.items) }
 {
     let made = map_vec(
         work.rt,
         views,
-        &|fetched: Fetched<'_>| -> Result<Rel, EvalFault>
+        &|fetched: Fetched<'_>| -> Evaluated
             requires { CanEvaluate fetched }
             ensures { IsEvaluated fetched.entry result }
         { evaluate_whole(work, fetched) },

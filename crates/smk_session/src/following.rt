@@ -1,6 +1,9 @@
 // The views that follow a brush, made anew under other brushes.
 ghost use Rattle.std.specs.Prelude.{◌≡◌, ◌<◌, ◌≤◌, ◌+◌, ◌∷◌, ℕ, Ok, None, Some, Option, true, cond, length, All, IfOk, IfSome, MatchResult};
 ghost use Rattle.smk_base.specs.Places.{members_at};
+ghost use Rattle.smk_base.specs.PlanImage.{expr_of};
+ghost use Rattle.smk_model.specs.Composed.{forwards};
+ghost use Rattle.smk_model.specs.LineageLaws.{selected_table};
 ghost use Rattle.smk_model.specs.Looks.{looks_of_linked};
 ghost use Rattle.smk_model.specs.Replies as replies;
 ghost use Rattle.smk_model.specs.Session as sessions;
@@ -8,14 +11,13 @@ ghost use Rattle.smk_model.specs.Workload.{declares_fwd};
 ghost use Rattle.smk_base.specs.declared.reply.Linked.{Linked as LinkedImage};
 ghost use Rattle.std.specs.List.{AllZip, list_any, sum_by};
 ghost use Rattle.smk_compose.specs.declared.fault.EvalFault.TheVariants as faults;
-ghost use Rattle.smk_session.specs.Answers.{Gives, IsLent, Turns, rids_or_all, content_at};
-ghost use Rattle.smk_session.specs.Refreshed.{CanEvaluate, IsContent, IsFetched, IsKept, IsReady, IsRefresh, IsSource, Names, book_at, contents_at, linked_at, looks_now, state_next};
+ghost use Rattle.smk_session.specs.Answers.{Turns, rids_or_all, content_at};
+ghost use Rattle.smk_session.specs.Refreshed.{CanEvaluate, IsAnew, IsChosen, IsFetched, IsKept, IsReady, IsRefresh, IsSource, Names, book_at, contents_at, linked_at, looks_now, marks_next, state_next};
 ghost use Rattle.smk_session.specs.Sessions.{follows};
 
 use crate::chosen::{chosen, picks};
-use crate::evaluating::{Fetched, Source, evaluate, evaluate_at_once};
-use crate::lent::Lent;
-use crate::lineage::fwd_map;
+use crate::evaluating::{Evaluated, Fetched, Source, evaluate, evaluate_at_once};
+use crate::lineage::fwd_kept;
 use crate::links::{follows_some, linked};
 use crate::marks::all_places;
 use crate::opening::view_of;
@@ -23,7 +25,7 @@ use crate::refresh::Refresh;
 use crate::turn::{Content, Contents};
 use crate::turned::Turned;
 use crate::workers::Workers;
-use smk_base::{Linked, Linkeds, Refusal, Rel, Rids};
+use smk_base::{Linked, Linkeds, Refusal, Rids};
 use smk_body::Work;
 use smk_compose::{EvalFault, fetch_leaves};
 use smk_marks::{KeptView, content_by_marks, grouped_chain, reach, scanned_table};
@@ -55,18 +57,35 @@ fn reached(alloc: Global, map: &RidMap, chosen: Option<Rids>) -> Result<Rids, Al
     }
 }
 
-// The marks of a view that the rows selected for it on the table reach, by the kept lineage.
-fn marks_now(alloc: Global, refresh: &Refresh<'_>, w: u32) -> Result<Rids, Turned>
+// The forward lineage from the table to a view for which its forward query is declared. It is kept.
+fn declared_map<'a>(refresh: &Refresh<'a>, w: u32) -> &'a RidMap
     requires refresh { IsRefresh refresh.now }
     requires view { w < length refresh.now.held.now.catalog.now.views }
     requires declared { declares_fwd (book_at refresh.now) w refresh.now.table ≡ true }
-    ensures gives { Gives result (Ok (replies.marks_fwd (book_at refresh.now) (state_next refresh.now) w refresh.now.table (sessions.selected_for (book_at refresh.now) (state_next refresh.now) w refresh.now.table))) }
+    ensures { result.now ≡ forwards (sessions.view_at (book_at refresh.now) w).plan (state_next refresh.now).tables refresh.now.table }
 {
     let held = refresh.held;
-    let t = refresh.table;
-    let map = fwd_map(&held.views[w as usize], t as usize)?;
-    let chosen = chosen(alloc, held.catalog, refresh.brushes, w, t)?;
-    Ok(reached(alloc, map, chosen)?)
+    match fwd_kept(&held.views[w as usize], refresh.table as usize) {
+        Some(map) => map,
+        None => unreachable!(),
+    }
+}
+
+// The marks of a view that the rows selected for it on the table reach, by the kept lineage.
+fn marks_now(
+    alloc: Global,
+    refresh: &Refresh<'_>,
+    w: u32,
+    chosen: Option<Rids>,
+) -> Result<Rids, AllocError>
+    requires refresh { IsRefresh refresh.now }
+    requires view { w < length refresh.now.held.now.catalog.now.views }
+    requires declared { declares_fwd (book_at refresh.now) w refresh.now.table ≡ true }
+    requires chosen { IsChosen refresh.now w chosen }
+    ensures { IfOk result (λ marks. marks ≡ marks_next refresh.now w) }
+{
+    let map = declared_map(refresh, w);
+    reached(alloc, map, chosen)
 }
 
 // The refusal of a view with too many rows at a node.
@@ -79,23 +98,22 @@ fn at_node(view: u32, fault: EvalFault) -> Turned
     }
 }
 
-// What is kept of a view that is a grouping over a chain, where the forward lineage of the chain's table is.
-fn kept_view<'a>(held: &'a Lent<'a>, w: u32) -> Option<KeptView<'a>>
-    requires held { IsLent held.now }
-    requires view { w < length held.now.catalog.now.views }
-    ensures { IfSome result (IsKept held.now w) }
+// What is kept of a view that is a grouping over a chain of the table.
+fn kept_view<'a>(refresh: &Refresh<'a>, w: u32) -> Option<KeptView<'a>>
+    requires refresh { IsRefresh refresh.now }
+    requires view { w < length refresh.now.held.now.catalog.now.views }
+    requires declared { declares_fwd (book_at refresh.now) w refresh.now.table ≡ true }
+    ensures kept { IfSome result (IsKept refresh.now.held.now w) }
+    ensures table { IfSome result (λ view. refresh.now.table ≡ selected_table (expr_of view.plan.chain.now)) }
 {
-    let run = &held.views[w as usize];
+    let held = refresh.held;
     match grouped_chain(&view_of(held.catalog, w).plan) {
-        Some(plan) => match fwd_map(run, scanned_table(plan.chain) as usize) {
-            Ok(forward) => Some(KeptView {
-                plan,
-                content: &run.rel,
-                forward,
-            }),
-            Err(_) => None,
-        },
-        None => None,
+        Some(plan) if scanned_table(plan.chain) == refresh.table => Some(KeptView {
+            plan,
+            content: &held.views[w as usize].rel,
+            forward: declared_map(refresh, w),
+        }),
+        _ => None,
     }
 }
 
@@ -105,21 +123,21 @@ fn fetch_marks<'a, L: Ledger>(
     refresh: &Refresh<'a>,
     w: u32,
     view: KeptView<'a>,
+    chosen: &Option<Rids>,
     steps: &mut Steps<L>,
 ) -> Result<Source<'a>, AllocError>
     requires refresh { IsRefresh refresh.now }
     requires view { w < length refresh.now.held.now.catalog.now.views }
     requires kept { IsKept refresh.now.held.now w view }
+    requires table { refresh.now.table ≡ selected_table (expr_of view.plan.chain.now) }
+    requires chosen { IsChosen refresh.now w chosen.now }
     ensures source { IfOk result (IsSource refresh.now w) }
     ensures ready { IfOk result IsReady }
     ensures looks { steps.new ≤ steps.old + looks_now refresh.now w }
 {
-    let held = refresh.held;
-    let t = scanned_table(view.plan.chain);
-    let table = &held.tables[t as usize];
+    let table = &refresh.held.tables[refresh.table as usize];
     let _rows = table.len();
-    let picked = chosen(alloc, held.catalog, refresh.brushes, w, t)?;
-    match picked {
+    match chosen {
         Some(rids) => {
             let reached = reach(alloc, &view, table, rids.as_slice(), steps)?;
             let made = content_by_marks(alloc, &view, &reached)?;
@@ -153,6 +171,28 @@ fn fetch_rows<'a, L: Ledger>(
 }
 
 // What a view is made from, at most one look for each row selected for it.
+fn fetch_source<'a, L: Ledger>(
+    alloc: Global,
+    refresh: &Refresh<'a>,
+    w: u32,
+    chosen: &Option<Rids>,
+    steps: &mut Steps<L>,
+) -> Result<Source<'a>, AllocError>
+    requires refresh { IsRefresh refresh.now }
+    requires view { w < length refresh.now.held.now.catalog.now.views }
+    requires declared { declares_fwd (book_at refresh.now) w refresh.now.table ≡ true }
+    requires chosen { IsChosen refresh.now w chosen.now }
+    ensures source { IfOk result (IsSource refresh.now w) }
+    ensures ready { IfOk result IsReady }
+    ensures looks { steps.new ≤ steps.old + looks_now refresh.now w }
+{
+    match kept_view(refresh, w) {
+        Some(view) => fetch_marks(alloc, refresh, w, view, chosen, steps),
+        None => fetch_rows(alloc, refresh, w, steps),
+    }
+}
+
+// What a view is made from, and its marks, by the rows selected for it on the table. These are worked out once.
 fn fetch<'a, L: Ledger>(
     alloc: Global,
     refresh: &Refresh<'a>,
@@ -162,28 +202,34 @@ fn fetch<'a, L: Ledger>(
 ) -> Result<Fetched<'a>, AllocError>
     requires refresh { IsRefresh refresh.now }
     requires view { w < length refresh.now.held.now.catalog.now.views }
+    requires declared { declares_fwd (book_at refresh.now) w refresh.now.table ≡ true }
     ensures fetched { IfOk result (IsFetched refresh.now w) }
     ensures ready { IfOk result CanEvaluate }
     ensures looks { steps.new ≤ steps.old + looks_now refresh.now w }
 {
-    let source = match kept_view(refresh.held, w) {
-        Some(view) => fetch_marks(alloc, refresh, w, view, steps)?,
-        None => fetch_rows(alloc, refresh, w, steps)?,
-    };
-    Ok(Fetched { place, source })
+    let catalog = refresh.held.catalog;
+    let chosen = chosen(alloc, catalog, refresh.brushes, w, refresh.table)?;
+    let source = fetch_source(alloc, refresh, w, &chosen, steps)?;
+    let marks = marks_now(alloc, refresh, w, chosen)?;
+    Ok(Fetched {
+        place,
+        source,
+        marks,
+    })
 }
 
-// What a view is evaluated to over the rows selected for it. No lineage is captured.
-#[tactic(auto, using(crate::proofs::Refreshing::content_made))]
-fn content_now<R: Threads + Sync, G: Gate + Sync, L: Ledger>(
+// A view made anew over the rows selected for it. No lineage is captured.
+#[tactic(auto, using(crate::proofs::Refreshing::made_anew))]
+fn view_now<R: Threads + Sync, G: Gate + Sync, L: Ledger>(
     work: &Work<'_, R, Workers<'_, G>>,
     refresh: &Refresh<'_>,
     w: u32,
     steps: &mut Steps<L>,
-) -> Result<Result<Rel, EvalFault>, AllocError>
+) -> Result<Evaluated, AllocError>
     requires refresh { IsRefresh refresh.now }
     requires view { w < length refresh.now.held.now.catalog.now.views }
-    ensures content { IfOk result (IsContent refresh.now w) }
+    requires declared { declares_fwd (book_at refresh.now) w refresh.now.table ≡ true }
+    ensures anew { IfOk result (IsAnew refresh.now w) }
     ensures looks { steps.new ≤ steps.old + looks_now refresh.now w }
 {
     let fetched = fetch(work.alloc, refresh, 0, w, steps)?;
@@ -205,51 +251,30 @@ fn to_keep(alloc: Global, refresh: &Refresh<'_>, shown: &Linked) -> Result<Conte
     })
 }
 
-// A linked view with this content: its marks that the rows selected for it reach.
-fn linked_with(
-    alloc: Global,
-    refresh: &Refresh<'_>,
-    w: u32,
-    made: Result<Rel, EvalFault>,
-) -> Result<Linked, Turned>
-    requires refresh { IsRefresh refresh.now }
-    requires view { w < length refresh.now.held.now.catalog.now.views }
-    requires declared { declares_fwd (book_at refresh.now) w refresh.now.table ≡ true }
-    requires made { IsContent refresh.now w made }
-    ensures gives { Gives result (replies.linked_now (book_at refresh.now) (state_next refresh.now) refresh.now.table w) }
-    ensures content { IfOk result (λ linked. linked.rel ≡ replies.content_of (book_at refresh.now) (state_next refresh.now) w) }
-    ensures view { IfOk result (λ linked. linked.view ≡ w) }
-{
-    match made {
-        Ok(rel) => {
-            let marks = marks_now(alloc, refresh, w)?;
-            Ok(Linked {
-                view: w,
-                marks,
-                rel,
-            })
-        }
-        Err(fault) => Err(at_node(w, fault)),
-    }
-}
-
-// A linked view with what is kept of it.
+// A linked view that is made anew, with what is kept of it.
 fn followed_one(
     alloc: Global,
     refresh: &Refresh<'_>,
     w: u32,
-    made: Result<Rel, EvalFault>,
+    view: Evaluated,
 ) -> Result<(Linked, Content), Turned>
-    requires refresh { IsRefresh refresh.now }
-    requires view { w < length refresh.now.held.now.catalog.now.views }
-    requires declared { declares_fwd (book_at refresh.now) w refresh.now.table ≡ true }
-    requires made { IsContent refresh.now w made }
+    requires { IsAnew refresh.now w view }
     ensures told { MatchResult result (λ made. replies.linked_now (book_at refresh.now) (state_next refresh.now) refresh.now.table w ≡ Ok made.0) (λ turned. Turns turned (replies.linked_now (book_at refresh.now) (state_next refresh.now) refresh.now.table w)) }
     ensures content { IfOk result (λ made. made.1 ≡ content_at (book_at refresh.now) (state_next refresh.now) w) }
 {
-    let shown = linked_with(alloc, refresh, w, made)?;
-    let content = to_keep(alloc, refresh, &shown)?;
-    Ok((shown, content))
+    let Evaluated { made, marks } = view;
+    match made {
+        Ok(rel) => {
+            let shown = Linked {
+                view: w,
+                marks,
+                rel,
+            };
+            let content = to_keep(alloc, refresh, &shown)?;
+            Ok((shown, content))
+        }
+        Err(fault) => Err(at_node(w, fault)),
+    }
 }
 
 // These views, one after the other, or the refusal of the first that has too many rows.
@@ -268,8 +293,8 @@ fn follow_in_turn<R: Threads + Sync, G: Gate + Sync, L: Ledger>(
     let mut shown = Linkeds::new(work.alloc);
     let mut contents = Contents::new(work.alloc);
     for w in views {
-        let made = content_now(work, refresh, *w, steps)?;
-        let one = followed_one(work.alloc, refresh, *w, made)?;
+        let view = view_now(work, refresh, *w, steps)?;
+        let one = followed_one(work.alloc, refresh, *w, view)?;
         contents.push(one.1)?;
         shown.push(one.0)?;
     }
@@ -302,16 +327,16 @@ fn fetch_each<'a, L: Ledger>(
     Ok(all)
 }
 
-// These views with these contents, or the refusal of the first that has too many rows.
+// These views, made anew, or the refusal of the first that has too many rows.
 fn gather(
     alloc: Global,
     refresh: &Refresh<'_>,
     views: &[u32],
-    made: Vec<Result<Rel, EvalFault>>,
+    made: Vec<Evaluated>,
 ) -> Result<Followed, Turned>
     requires refresh { IsRefresh refresh.now }
     requires named { Names refresh.now views.now }
-    requires made { AllZip (IsContent refresh.now) views.now made.items }
+    requires made { AllZip (IsAnew refresh.now) views.now made.items }
     ensures linked { MatchResult result (λ followed. linked_at refresh.now views.now ≡ Ok followed.linked) (λ turned. Turns turned (linked_at refresh.now views.now)) }
     ensures contents { IfOk result (λ followed. followed.contents ≡ contents_at refresh.now views.now) }
 {
@@ -342,7 +367,7 @@ fn first_of<T: Drop>(queue: &mut VecDeque<T>) -> T
 }
 
 // These views, all at once once their rows are fetched, or the refusal of the first that has too many rows.
-#[tactic(auto, using(crate::proofs::Refreshing::all_contents))]
+#[tactic(auto, using(crate::proofs::Refreshing::all_anew))]
 fn follow_at_once<R: Threads + Sync, G: Gate + Sync, L: Ledger>(
     work: &Work<'_, R, Workers<'_, G>>,
     refresh: &Refresh<'_>,

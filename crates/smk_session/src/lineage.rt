@@ -43,15 +43,25 @@ pub(crate) fn back_map(run: &Run, table: usize) -> Result<&RidMap, Turned>
     }
 }
 
+// The forward lineage from a table, where it is kept.
+pub(crate) fn fwd_kept(run: &Run, table: usize) -> Option<&RidMap>
+    ensures { option_map (λ map. map.now) result ≡ option_and_then (λ kept. kept.fwd) (find (is_of_table table) run.now.kept) }
+{
+    match kept_of(run, table) {
+        Some(kept) => match &kept.fwd {
+            Some(map) => Some(map),
+            None => None,
+        },
+        None => None,
+    }
+}
+
 // The forward lineage from a table. It is kept exactly where the query is declared.
 pub(crate) fn fwd_map(run: &Run, table: usize) -> Result<&RidMap, Turned>
     ensures { MatchResult result (λ map. kept_fwd run.now.kept table ≡ Ok map.now) (λ turned. Turns turned (kept_fwd run.now.kept table)) }
 {
-    match kept_of(run, table) {
-        Some(kept) => match &kept.fwd {
-            Some(map) => Ok(map),
-            None => Err(Turned::Refused(Refusal::Undeclared)),
-        },
+    match fwd_kept(run, table) {
+        Some(map) => Ok(map),
         None => Err(Turned::Refused(Refusal::Undeclared)),
     }
 }

@@ -9,6 +9,9 @@ use Rattle.smk_session.proofs.following.fetch_each.Goals as goal
 pub fetch-requires-clause-view : goal.fetch-requires-clause-view
 fetch-requires-clause-view g c = (c.requires.named c.loop-w.w-index 0 c.loop-w-test.true).view
 
+pub fetch-requires-clause-declared : goal.fetch-requires-clause-declared
+fetch-requires-clause-declared g c = (c.requires.named c.loop-w.w-index 0 c.loop-w-test.true).declared
+
 pub returns-in_err-one-clause-looks : goal.returns-in_err-one-clause-looks
 returns-in_err-one-clause-looks g c =
     looks_so_far (looks_now c.args.refresh.now) c.args.views.now c.loop-w.w-index c.args.steps.now c.loop-w.steps c.fetch.new.steps 0 c.loop-w-test.true c.loop-w.invariant.looks c.in_err-one.ensures.looks

@@ -1,15 +1,15 @@
 use Rattle.std.proofs.Common.{◌∙◌, ap, arith, get_or, refl, sym}
-use Rattle.smk_session.specs.Answers.{kept_fwd}
 use Rattle.smk_session.proofs.KeptViews.{view_kept}
 use Rattle.smk_session.proofs.Opened.{views_long}
 use Rattle.smk_session.proofs.following.kept_view.Goals as goal
 
 pub bounds-held-w : goal.bounds-held-w
-bounds-held-w c = omega (arith, c.requires.view, views_long c.args.held.now.catalog.now c.args.held.now.tables.now c.args.held.now.views.now c.requires.held.opened)
+bounds-held-w c = omega (arith, c.requires.view, views_long c.args.refresh.now.held.now.catalog.now c.args.refresh.now.held.now.tables.now c.args.refresh.now.held.now.views.now c.requires.refresh.held.opened)
 
-pub returns-in-Ok : goal.returns-in-Ok
-returns-in-Ok c =
-    let held = c.args.held.now in
+pub returns-in-Some-clause-kept : goal.returns-in-Some-clause-kept
+returns-in-Some-clause-kept c =
+    let refresh = c.args.refresh.now in
+    let held = refresh.held.now in
     let run = get_or held.views.now c.args.w c.index-held-w.result in
-    view_kept held c.args.w run c.view_of.result.now _ c.requires.held c.requires.view (ap (get_or held.views.now c.args.w) c.index-held-w.is) c.view_of.ensures.view c.view_of.ensures.fits c.in-Some.ensures refl
-    (ap (kept_fwd run.kept) (sym c.scanned_table.ensures) ∙ c.in-Ok.ensures)
+    view_kept held c.args.w refresh.table run c.view_of.result.now _ c.requires.refresh.held c.requires.view (ap (get_or held.views.now c.args.w) c.index-held-w.is) c.view_of.ensures.view c.in-Some.ensures refl
+    (sym c.if-scanned_table-refresh.true ∙ c.scanned_table.ensures) c.declared_map.ensures

@@ -1,39 +1,25 @@
-use Rattle.std.proofs.Common.{◌∙◌, ap, sym, arith}
-use Rattle.std.proofs.lemmas.Result.{err_from_is_err_and}
-use Rattle.smk_compose.specs.declared.kept_maps.Run.{Run}
-use Rattle.smk_session.specs.Answers.{kept_fwd}
-use Rattle.smk_session.proofs.Followers.{chosen_inside, chosen_there, fwd_lists, fwd_never, marks_reached, rids_rise, given}
-use Rattle.smk_session.proofs.Opened.{views_long}
+use Rattle.std.proofs.Common.{◌≡◌, length}
+use Rattle.std.proofs.lemmas.Result.{IfOk-weaker}
+use Rattle.smk_base.specs.Places.{members_at}
+use Rattle.smk_session.specs.Answers.{rids_or_all}
+use Rattle.smk_session.specs.Refreshed.{marks_next}
+use Rattle.smk_session.proofs.Followers.{chosen_inside, chosen_there, marks_reached}
 use Rattle.smk_session.proofs.following.marks_now.Goals as goal
-
-pub bounds-held-w : goal.bounds-held-w
-bounds-held-w c = omega (arith, c.requires.view, views_long c.args.refresh.now.held.now.catalog.now c.args.refresh.now.held.now.tables.now c.args.refresh.now.held.now.views.now c.requires.refresh.held.opened)
-
-pub returns-in_err-map : goal.returns-in_err-map
-returns-in_err-map c =
-    let held = c.args.refresh.now.held.now in
-    let p = err_from_is_err_and c.from_residual.result c.from_residual.ensures.1 in
-    record {
-      gives = rw (p.1, p.2) (fwd_never held.catalog.now held.tables.now held.views.now c.args.w c.args.refresh.now.table c.index-held-w.result _ c.in_err-map.field-0.0 c.requires.refresh.held.opened c.requires.view c.requires.refresh.table c.index-held-w.is c.requires.declared
-          (λ refusal e. ap (λ (r : Run). kept_fwd r.kept c.args.refresh.now.table) c.index-held-w.is ∙ c.in_err-map.ensures refusal e));
-    }
-
-pub chosen-requires : goal.chosen-requires
-chosen-requires c = rids_rise c.args.refresh.now.held.now.catalog.now c.args.refresh.now.held.now.tables.now c.args.refresh.now.brushes.now c.requires.refresh.fit
 
 pub reached-requires : goal.reached-requires
 reached-requires c =
-    let held = c.args.refresh.now.held.now in
-    chosen_inside held.catalog.now held.tables.now c.args.refresh.now.brushes.now c.args.w c.args.refresh.now.table c.in_ok-map.map.now c.in_ok-chosen.chosen
-    (fwd_lists held.catalog.now held.tables.now held.views.now c.args.w c.args.refresh.now.table c.index-held-w.result c.in_ok-map.map.now c.requires.refresh.held.opened c.requires.view c.requires.refresh.table c.index-held-w.is (ap (λ (r : Run). kept_fwd r.kept c.args.refresh.now.table) c.index-held-w.is ∙ c.in_ok-map.ensures))
-    (chosen_there held.catalog.now held.tables.now c.args.refresh.now.brushes.now c.args.w c.args.refresh.now.table c.in_ok-chosen.chosen c.requires.refresh.fit c.in_ok-chosen.ensures)
+    let refresh = c.args.refresh.now in
+    let held = refresh.held.now in
+    chosen_inside held.catalog.now held.tables.now refresh.brushes.now c.args.w refresh.table c.declared_map-map.result.now c.args.chosen c.declared_map-map.ensures
+    (chosen_there held.catalog.now held.tables.now refresh.brushes.now c.args.w refresh.table c.args.chosen c.requires.refresh.fit c.requires.chosen)
 
 pub returns : goal.returns
 returns c =
-    let held = c.args.refresh.now.held.now in
-    record {
-      gives = ap given (sym (marks_reached held.catalog.now held.tables.now c.args.refresh.now.brushes.now c.args.w c.args.refresh.now.table c.in_ok-map.map.now c.in_ok-chosen.chosen c.in_ok-reached.field-0
-          (fwd_lists held.catalog.now held.tables.now held.views.now c.args.w c.args.refresh.now.table c.index-held-w.result c.in_ok-map.map.now c.requires.refresh.held.opened c.requires.view c.requires.refresh.table c.index-held-w.is (ap (λ (r : Run). kept_fwd r.kept c.args.refresh.now.table) c.index-held-w.is ∙ c.in_ok-map.ensures))
-          (chosen_there held.catalog.now held.tables.now c.args.refresh.now.brushes.now c.args.w c.args.refresh.now.table c.in_ok-chosen.chosen c.requires.refresh.fit c.in_ok-chosen.ensures)
-          c.in_ok-reached.ensures));
-    }
+    let refresh = c.args.refresh.now in
+    let held = refresh.held.now in
+    let map = c.declared_map-map.result.now in
+    IfOk-weaker c.reached.result
+    (λ marks. marks ≡ members_at map (rids_or_all c.args.chosen (length map.lists))) (λ marks. marks ≡ marks_next refresh c.args.w)
+    (λ marks. marks_reached held.catalog.now held.tables.now refresh.brushes.now c.args.w refresh.table map c.args.chosen marks c.declared_map-map.ensures
+    (chosen_there held.catalog.now held.tables.now refresh.brushes.now c.args.w refresh.table c.args.chosen c.requires.refresh.fit c.requires.chosen))
+    c.reached.ensures

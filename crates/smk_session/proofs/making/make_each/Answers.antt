@@ -1,0 +1,12 @@
+use Rattle.std.proofs.Common.{subst, sym, get_or, arith}
+use Rattle.smk_session.specs.Making.{MakesAs, book_in}
+use Rattle.smk_session.proofs.Refreshing.{zip_of}
+use Rattle.smk_session.proofs.making.make_each.Goals as goal
+
+pub returns : goal.returns
+returns g c =
+    let makes = MakesAs (book_in c.args.opened.now) in
+    zip_of makes c.args.all.items c.in_ok-made.made.items (omega (arith, c.in_ok-made.ensures.len, c.in_ok-made.made.ok.0, c.args.all.ok.0))
+    (λ i d e low.
+    let job = (c.in_ok-made.ensures.each i e low).1 in
+    subst (λ s. makes s (get_or c.in_ok-made.made.items i e)) (sym (job.job_is d)) job.call.met)

@@ -1,0 +1,41 @@
+use Rattle.std.proofs.Common.{length, subst, arith}
+use Rattle.std.proofs.lemmas.List.{length_push}
+use Rattle.std.proofs.lemmas.Iterator.Consumers.{YieldsList-turn, YieldsList-end}
+use Rattle.std.proofs.lemmas.Iterator.Adapters.{YieldsList-from_vec}
+use Rattle.smk_session.specs.Extras.{split_in, cubes_in}
+use Rattle.smk_session.specs.Making.{IsMade, MakesAs, book_in}
+use Rattle.smk_session.proofs.Declared.{made_at, kept_put, kept_all}
+use Rattle.smk_session.proofs.making.put_each.Goals as goal
+
+pub loop-made-preserved : goal.loop-made-preserved
+loop-made-preserved g c =
+    let book = book_in c.args.opened.now in
+    let all = c.args.all.items in
+    let made = c.in_ok-made-items.made-items in
+    let one = c.in_ok-made.field-0 in
+    let n = length c.loop-made.yielded in
+    let given_items = c.into_iter-made-iterator.ensures.into_iter_gives in
+    let turn = YieldsList-turn (YieldsList-from_vec {s = c.into_iter-made-iterator.result} made.items given_items.0 (omega (arith, given_items.1, made.ok))) c.loop-made.yielded c.loop-made.made-iterator c.loop-made.yielded_by c.next.result c.next.new.self c.in-Some.made c.in-Some.is c.next.ensures.steps in
+    let at = made_at book all made.items n c.in-Some.made c.in_ok-made-items.ensures turn.0 turn.1 in
+    let is : IsMade book at.0 one = subst (MakesAs book at.0) c.in_ok-made.was at.3 in
+    rw (length_push c.loop-made.yielded c.in-Some.made)
+    (record {
+      splits = kept_put (split_in book) all n at.0 one.split c.args.extras.now.splits c.loop-made.extras.splits c.put_made.new.extras.splits at.1 at.2 c.loop-made.invariant.splits is.split c.in_ok-put_made.ensures.splits;
+      cubes = kept_put (cubes_in book) all n at.0 one.cubes c.args.extras.now.cubes c.loop-made.extras.cubes c.put_made.new.extras.cubes at.1 at.2 c.loop-made.invariant.cubes is.cubes c.in_ok-put_made.ensures.cubes;
+    })
+
+pub returns-clause-splits : goal.returns-clause-splits
+returns-clause-splits g c =
+    let book = book_in c.args.opened.now in
+    let made = c.in_ok-made-items.made-items in
+    let given_items = c.into_iter-made-iterator.ensures.into_iter_gives in
+    let end = YieldsList-end (YieldsList-from_vec {s = c.into_iter-made-iterator.result} made.items given_items.0 (omega (arith, given_items.1, made.ok))) c.loop-made.yielded c.loop-made.made-iterator c.loop-made.yielded_by c.next.result c.next.new.self c.in-None.is c.next.ensures.steps in
+    kept_all book (split_in book) c.args.all.items made.items (length c.loop-made.yielded) c.args.extras.now.splits c.loop-made.extras.splits c.in_ok-made-items.ensures end.1 c.loop-made.invariant.splits
+
+pub returns-clause-cubes : goal.returns-clause-cubes
+returns-clause-cubes g c =
+    let book = book_in c.args.opened.now in
+    let made = c.in_ok-made-items.made-items in
+    let given_items = c.into_iter-made-iterator.ensures.into_iter_gives in
+    let end = YieldsList-end (YieldsList-from_vec {s = c.into_iter-made-iterator.result} made.items given_items.0 (omega (arith, given_items.1, made.ok))) c.loop-made.yielded c.loop-made.made-iterator c.loop-made.yielded_by c.next.result c.next.new.self c.in-None.is c.next.ensures.steps in
+    kept_all book (cubes_in book) c.args.all.items made.items (length c.loop-made.yielded) c.args.extras.now.cubes c.loop-made.extras.cubes c.in_ok-made-items.ensures end.1 c.loop-made.invariant.cubes

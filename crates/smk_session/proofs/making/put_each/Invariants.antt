@@ -1,0 +1,11 @@
+use Rattle.std.proofs.Common.{◌≡◌, ◌++◌, length, take}
+use Rattle.std.specs.List.{filter_map}
+use Rattle.smk_session.specs.Extras.{split_in, cubes_in}
+use Rattle.smk_session.specs.Making.{book_in, declared_in}
+use Rattle.smk_session.proofs.making.put_each.Given as goal
+
+abbrev pub invariant-loop-made : goal.invariant-loop-made
+invariant-loop-made g l = record {
+  splits : l.extras.splits ≡ l.initial.extras.splits ++ filter_map (split_in (book_in l.opened)) (take (length l.yielded) (declared_in l.fn.all.items));
+  cubes : l.extras.cubes ≡ l.initial.extras.cubes ++ filter_map (cubes_in (book_in l.opened)) (take (length l.yielded) (declared_in l.fn.all.items));
+}
