@@ -11,6 +11,7 @@ pub mod Trees
 pub mod TreeImage
 pub mod CatalogImage
 pub mod Picks
+pub mod Firsts
 pub mod Dicts
 pub mod TextColumns
 pub mod NextTexts

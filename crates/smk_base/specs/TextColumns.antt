@@ -1,6 +1,7 @@
 -- Columns of texts.
-use Rattle.std.specs.Prelude.{◌≡◌, ℕ, ◌<◌, ◌≤◌, List, [], length, map, slice_index, slice_index_or, All, fold}
-use Rattle.smk_base.specs.Dicts.{with_text}
+use Rattle.std.specs.Prelude.{◌≡◌, ℕ, ◌<◌, ◌≤◌, List, [], length, map, slice_index, slice_index_or, All}
+use Rattle.smk_base.specs.Dicts.{text_eq}
+use Rattle.smk_base.specs.Firsts.{first_items}
 use Rattle.smk_base.specs.declared.rel.TheConstants.{ROW_LIMIT}
 use Rattle.smk_base.specs.declared.text_column.TheConstants.{NO_CODE}
 
@@ -16,7 +17,7 @@ text_in texts i = slice_index_or texts i []
 
 -- the texts, each at its first occurrence
 abbrev pub text_firsts : List (List ℕ) → List (List ℕ)
-text_firsts texts = fold with_text [] texts
+text_firsts texts = first_items text_eq texts
 
 -- the texts with these codes
 abbrev pub texts_at : List (List ℕ) → List ℕ → List (List ℕ)

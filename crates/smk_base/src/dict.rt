@@ -28,7 +28,7 @@ impl Model for Dict {
 
     ghost view = { λ a. record { texts = texts_of a.texts.keys; room = spare a.texts } };
 
-    ghost invariant = { λ a. record { different : AreTexts (texts_of a.texts.keys); few : length a.texts.keys ≤ 2 * ROW_LIMIT } };
+    ghost invariant = { λ a. record { different : AreTexts (texts_of a.texts.keys); few : length a.texts.keys ≤ ROW_LIMIT } };
 }
 
 impl Dict {
@@ -46,7 +46,7 @@ impl Dict {
     pub fn len(&self) -> u32
         ensures count { result ≡ length self.now.texts }
         ensures distinct { AreTexts self.now.texts }
-        ensures few { length self.now.texts ≤ 2 * ROW_LIMIT }
+        ensures few { length self.now.texts ≤ ROW_LIMIT }
     {
         self.texts.len() as u32
     }
@@ -108,7 +108,7 @@ impl Dict {
 
     /// The code of a text, which goes last where it isn't there. After an error the texts are as before, and there is none where there was room.
     pub fn add(&mut self, text: Text) -> Result<u32, AllocError>
-        requires { length self.old.texts < 2 * ROW_LIMIT }
+        requires { length self.old.texts < ROW_LIMIT }
         ensures code { IfOk result (λ code. code ≡ code_or_last self.old.texts text) }
         ensures texts { OnOk result (self.new.texts ≡ with_text self.old.texts text) }
         ensures kept { OnErr result (self.new.texts ≡ self.old.texts) }
@@ -122,7 +122,7 @@ impl Dict {
 
     /// The code of a text, which goes last where it isn't there. It takes memory only for a new text. After an error the texts are as before.
     pub fn add_bytes(&mut self, text: &[u8]) -> Result<u32, AllocError>
-        requires { length self.old.texts < 2 * ROW_LIMIT }
+        requires { length self.old.texts < ROW_LIMIT }
         ensures code { IfOk result (λ code. code ≡ code_or_last self.old.texts text.now) }
         ensures texts { OnOk result (self.new.texts ≡ with_text self.old.texts text.now) }
         ensures kept { OnErr result (self.new.texts ≡ self.old.texts) }
@@ -135,7 +135,7 @@ impl Dict {
 
     // The same by the text's hash alone. It takes memory for each text.
     fn add_copy(&mut self, text: &[u8]) -> Result<u32, AllocError>
-        requires { length self.old.texts < 2 * ROW_LIMIT }
+        requires { length self.old.texts < ROW_LIMIT }
         ensures code { IfOk result (λ code. code ≡ code_or_last self.old.texts text.now) }
         ensures texts { OnOk result (self.new.texts ≡ with_text self.old.texts text.now) }
         ensures kept { OnErr result (self.new.texts ≡ self.old.texts) }

@@ -9,6 +9,7 @@ mod copied;
 mod demo;
 mod dict;
 mod fault;
+mod limits;
 mod list;
 mod need;
 mod pick;
@@ -49,6 +50,10 @@ pub use demo::{
 };
 pub use dict::Dict;
 pub use fault::{BookFault, Fault, FilesFault, LineFault, Many, TableFault};
+pub use limits::{
+    COMPARE_LIMIT, DEPTH_LIMIT, LINEAGE_LIMIT, LINK_LIMIT, NAME_LIMIT, NODE_LIMIT, TABLE_LIMIT,
+    VIEW_LIMIT,
+};
 pub use list::{ListOf, Names, Rids, Row, Text};
 pub use need::{Need, Needed};
 pub use pick::Pick;

@@ -3,6 +3,7 @@ use Rattle.std.specs.Prelude.{ℕ, ◌<◌, Bool, List, [], ◌∷◌, ◌++◌,
 use Rattle.std.specs.List.{list_any, position_or_len}
 use Rattle.smk_base.specs.declared.value.Value.{Value}
 use Rattle.smk_base.specs.declared.value.Kind.{Kind}
+pub use Rattle.smk_base.specs.Firsts.{first_items}
 use Rattle.smk_base.specs.Rels.{kind_in}
 use Rattle.smk_base.specs.Widths.{AreAlike}
 use Rattle.smk_keys.specs.Keys.{key_eq}
@@ -11,10 +12,6 @@ use Rattle.smk_keys.specs.Keys.{key_eq}
 pub record ClassesImage : Type 0 where
   pub of : List ℕ
   pub firsts : List ℕ
-
--- the items, each at its first occurrence
-abbrev pub first_items : {X : Type 0} → (X → X → Bool) → List X → List X
-first_items eq items = fold (λ found item. if list_any (eq item) found then found else found ++ item ∷ []) [] items
 
 -- for each item its place among the items at their first occurrences, and for each of these the place where it comes first
 abbrev pub classing_of : {X : Type 0} → (X → X → Bool) → List X → ClassesImage

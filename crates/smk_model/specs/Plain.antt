@@ -11,6 +11,7 @@ use Rattle.smk_base.specs.declared.plan.Agg.{Agg}
 use Rattle.smk_base.specs.declared.plan.Agg.TheVariants.{Count, Sum, Min, Max}
 use Rattle.smk_base.specs.Plans.{Formula, Unary, Selection, Projection, Distinction, Grouping, Binary, Equijoin, ThetaJoin, CrossProduct, BagUnion, SetUnion, Expr, Leaf, Apply, Combine}
 use Rattle.smk_base.specs.Values.{value_eq}
+use Rattle.smk_base.specs.Firsts.{with_item, first_items}
 pub use Rattle.smk_base.specs.Rels.{number_of}
 use Rattle.smk_base.specs.Rels.{picked}
 use Rattle.smk_model.specs.Values.{Row, value_at, value_cmp, bin, meets}
@@ -34,10 +35,10 @@ key_of keys row = picked keys row
 
 -- the members, each at its first occurrence
 abbrev pub add_first : List Row → Row → List Row
-add_first found row = cond (list_any (row_eq row) found) found (found ++ row ∷ [])
+add_first found row = with_item row_eq found row
 
 abbrev pub firsts : List Row → List Row
-firsts rows = fold add_first [] rows
+firsts rows = first_items row_eq rows
 
 -- the lesser and the greater of two values
 abbrev pub lesser : Value → Value → Value
