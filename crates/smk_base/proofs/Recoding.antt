@@ -73,8 +73,11 @@ AreTexts-from found (t ∷ ts) h = AreTexts-from (with_text found t) ts (AreText
 pub AreTexts-firsts : (texts : List (List ℕ)) → AreTexts (text_firsts texts)
 AreTexts-firsts texts = AreTexts-from [] texts (IsDistinct-from_apart text_eq [] (λ i j d p q. absurd (omega arith)))
 
+pub dict_short : (dict : List (List ℕ)) (codes : List ℕ) → AreCodes dict codes → length dict ≤ length codes
+dict_short dict codes is = omega (arith, few_firsts (texts_at dict codes), ap length is.firsts, length-map codes (text_in dict))
+
 pub few_dict : (dict : List (List ℕ)) (codes : List ℕ) → AreCodes dict codes → length dict ≤ 1048576
-few_dict dict codes is = omega (arith, few_firsts (texts_at dict codes), ap length is.firsts, length-map codes (text_in dict), is.few)
+few_dict dict codes is = omega (arith, dict_short dict codes is, is.few)
 
 -- the code of a text that is there is the one that it has
 pub code-is : (dict : List (List ℕ)) (codes : List ℕ) (i d : ℕ) → AreCodes dict codes → i < length codes → get_or codes i d ≡ code_or_last (text_firsts (texts_at dict codes)) (text_in (texts_at dict codes) i)

@@ -8,7 +8,7 @@ invariant_of-self-2 c = record {
   different = distinct-map text_eq (λ v. v.items) _ c.in_ok-code.ensures.unique;
   few =
       let room = rw (← c.self.view_is, length-map) at c.requires in
-      rw c.in_ok-code.ensures.keys (few-add _ c.self.inside.texts.keys c.into_vec.result 2097152 room);
+      rw c.in_ok-code.ensures.keys (few-add _ c.self.inside.texts.keys c.into_vec.result 1048576 room);
 }
 
 pub returns-clause-code : goal.returns-clause-code

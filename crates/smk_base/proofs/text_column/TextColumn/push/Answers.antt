@@ -1,10 +1,12 @@
 use Rattle.std.proofs.Common.{arith}
 use Rattle.std.proofs.lemmas.List.{length-map}
-use Rattle.smk_base.proofs.Recoding.{few_dict, AreCodes-add, texts_at_add}
+use Rattle.smk_base.proofs.Recoding.{dict_short, AreCodes-add, texts_at_add}
 use Rattle.smk_base.proofs.text_column.TextColumn.push.Goals as goal
 
 pub add-requires : goal.add-requires
-add-requires c = omega (arith, few_dict _ _ c.self.invariant)
+add-requires c =
+    let room = rw (← c.self.view_is, length-map) at c.requires in
+    omega (arith, dict_short _ _ c.self.invariant, room)
 
 pub invariant_of-self-2 : goal.invariant_of-self-2
 invariant_of-self-2 c =
