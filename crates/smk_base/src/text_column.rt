@@ -9,6 +9,9 @@ use crate::rel::ROW_LIMIT;
 use std::alloc::{AllocError, Global};
 use std::marker::Model;
 
+// How many texts a dictionary may have for each place where its texts are recoded by an array: the array costs less than finding each text by itself.
+const TEXTS_PER_PLACE: usize = 8;
+
 /// The code of no text.
 const NO_CODE: u32 = 4_294_967_295;
 
@@ -201,11 +204,27 @@ impl TextColumn {
             codes: Vec::with_capacity(alloc, places.len())?,
             dict: Dict::new(alloc),
         };
-        made.push_rows(alloc, self, places)?;
+        if places.len() < self.dict.len() as usize / TEXTS_PER_PLACE {
+            made.push_few_rows(self, places)?;
+        } else {
+            made.push_rows(alloc, self, places)?;
+        }
         Ok(made)
     }
 
-    // Puts the texts of these rows of another column last.
+    // Puts the texts of these rows of another column last, each found by itself.
+    fn push_few_rows(&mut self, other: &TextColumn, places: &[u32]) -> Result<(), AllocError>
+        requires within { All (λ place. place < length other.now.texts) places.now }
+        requires few { length self.old.texts + length places.now ≤ ROW_LIMIT }
+        ensures { OnOk result (self.new.texts ≡ self.old.texts ++ map (text_in other.now.texts) places.now) }
+    {
+        for place in places {
+            self.push_bytes(other.text(*place))?;
+        }
+        Ok(())
+    }
+
+    // The same, where each text of the other's dictionary is found once.
     fn push_rows(
         &mut self,
         alloc: Global,
