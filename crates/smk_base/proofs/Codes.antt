@@ -4,7 +4,7 @@ use Rattle.std.proofs.lemmas.List.Quantifiers.{position-Some}
 use Rattle.std.specs.Cmp.{unsigned_Decides}
 use Rattle.std.specs.List.{list_any, position_or_len}
 use Rattle.std.proofs.lemmas.Bool.{cases_order, cases_Bool, lt-ltb}
-use Rattle.std.proofs.lemmas.List.{take_more, get_or-take, length-take-le, get_or_push, length_push, get_or_default, get_or_append_left}
+use Rattle.std.proofs.lemmas.List.{get_or-take, length-take-le, get_or_push, length_push, get_or_default, get_or_append_left}
 use Rattle.std.proofs.lemmas.List.Folds.{list_any_at, list_any_none}
 use Rattle.std.proofs.lemmas.Map.Keys.{apart_from_distinct}
 use Rattle.std.proofs.lemmas.Slice.Eq.{slice_eq-Decides}
@@ -91,10 +91,6 @@ with_text-behind texts k j different p h =
     let same : get_or (take k texts) i d ≡ get_or texts i [] = get_or-take k texts i d below ∙ get_or_default texts i d [] (omega arith) in
     rw same (text_apart (get_or texts i []) t (apart_from_distinct text_eq texts i j [] different (omega arith) h))) in
     rw new refl
-
--- different texts are added one after the other
-pub with_text-take : (texts : List (List ℕ)) (k : ℕ) → AreTexts texts → k < length texts → with_text (take k texts) (get_or texts k []) ≡ take (k + 1) texts
-with_text-take texts k different h = with_text-behind texts k k different (omega arith) h ∙ sym (take_more texts k [] h)
 
 -- a text among the first is there
 pub with_text-among : (texts : List (List ℕ)) (k j : ℕ) → j < k → k ≤ length texts → with_text (take k texts) (get_or texts j []) ≡ take k texts

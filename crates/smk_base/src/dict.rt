@@ -7,8 +7,11 @@ use indexmap::IndexSet;
 use std::alloc::{AllocError, Global};
 use std::marker::Model;
 
-// How many seats a dictionary has for texts that are found without their hash.
+// How many seats a dictionary has for texts that are found without their hash, once it has seats.
 const SEATS: usize = 1024;
+
+// How many texts are found by their hash before seats are worth their memory.
+const FOUND_WITHOUT_SEATS: u32 = 64;
 
 /// Different texts, each with the place of its first occurrence as its code. Contracts see the list of them, and how many more fit without memory.
 #[derive(Drop)]
@@ -16,6 +19,8 @@ pub struct Dict {
     texts: IndexSet<Vec<u8>>,
     // A code at the seat of its text, or any other number: who reads one compares the text.
     seats: Vec<u32>,
+    // How many texts were found by their hash before there were seats.
+    found: u32,
 }
 
 impl Model for Dict {
@@ -39,6 +44,7 @@ impl Dict {
         Dict {
             texts: IndexSet::new(alloc),
             seats: Vec::new(alloc),
+            found: 0,
         }
     }
 
@@ -114,54 +120,48 @@ impl Dict {
         ensures kept { OnErr result (self.new.texts ≡ self.old.texts) }
         ensures succeeds { 0 < self.old.room → IsOk result }
     {
-        let seat = seat_of(text.as_slice());
         let (code, _) = self.texts.insert_full(text.into_vec())?;
-        put_seat(&mut self.seats, seat, code as u32);
         Ok(code as u32)
     }
 
-    /// The code of a text, which goes last where it isn't there. It takes memory only for a new text. After an error the texts are as before.
+    /// The code of a text, which goes last where it isn't there. It takes memory for a new text, and once to find texts faster. After an error the texts are as before.
     pub fn add_bytes(&mut self, text: &[u8]) -> Result<u32, AllocError>
         requires { length self.old.texts < ROW_LIMIT }
         ensures code { IfOk result (λ code. code ≡ code_or_last self.old.texts text.now) }
         ensures texts { OnOk result (self.new.texts ≡ with_text self.old.texts text.now) }
         ensures kept { OnErr result (self.new.texts ≡ self.old.texts) }
     {
-        match self.code_of_bytes(text) {
+        match self.found(text) {
             Some(code) => Ok(code),
-            None => self.add_copy(text),
+            None => {
+                let alloc = *self.texts.allocator();
+                self.add(Text::from_vec(Vec::from_slice(alloc, text)?))
+            }
         }
     }
 
-    // The same by the text's hash alone. It takes memory for each text.
-    fn add_copy(&mut self, text: &[u8]) -> Result<u32, AllocError>
-        requires { length self.old.texts < ROW_LIMIT }
-        ensures code { IfOk result (λ code. code ≡ code_or_last self.old.texts text.now) }
-        ensures texts { OnOk result (self.new.texts ≡ with_text self.old.texts text.now) }
-        ensures kept { OnErr result (self.new.texts ≡ self.old.texts) }
+    // The code of a text, whose seat is noted.
+    fn found(&mut self, text: &[u8]) -> Option<u32>
+        ensures code { result ≡ code_in self.old.texts text.now }
+        ensures same { self.new.texts ≡ self.old.texts }
     {
-        let alloc = *self.texts.allocator();
-        self.add(Text::from_vec(Vec::from_slice(alloc, text)?))
-    }
-
-    // Puts the texts of another dictionary into this one, which has none.
-    fn add_all(&mut self, other: &Dict) -> Result<(), AllocError>
-        requires { self.old.texts ≡ [] }
-        ensures { OnOk result (self.new.texts ≡ other.now.texts) }
-    {
-        for i in 0..other.len() {
-            self.add_copy(other.text(i))?;
+        if let Some(code) = self.seated(text) {
+            return Some(code);
         }
-        Ok(())
+        let code = self.searched(text)?;
+        put_seat(&mut self.seats, &mut self.found, text, code);
+        Some(code)
     }
 
     /// A copy with the same texts.
     pub fn copy(&self, alloc: Global) -> Result<Dict, AllocError>
         ensures { IfOk result (λ copy. copy.texts ≡ self.now.texts) }
     {
-        let mut copy = Dict::new(alloc);
-        copy.add_all(self)?;
-        Ok(copy)
+        Ok(Dict {
+            texts: self.texts.clone()?,
+            seats: Vec::from_slice(alloc, self.seats.as_slice())?,
+            found: self.found,
+        })
     }
 
     /// Keeps the first texts.
@@ -183,12 +183,16 @@ fn seat_of(text: &[u8]) -> usize
     }
 }
 
-// Puts a code at a seat, if there is memory for seats.
-fn put_seat(seats: &mut Vec<u32>, seat: usize, code: u32) {
+// Puts a code at the seat of its text, once seats are worth their memory and if there is memory for them.
+fn put_seat(seats: &mut Vec<u32>, found: &mut u32, text: &[u8], code: u32) {
+    if *found < FOUND_WITHOUT_SEATS {
+        *found += 1;
+        return;
+    }
     if seats.is_empty() {
         let _made = seats.resize(SEATS, 0);
     }
-    if let Some(place) = seats.get_mut(seat) {
+    if let Some(place) = seats.get_mut(seat_of(text)) {
         *place = code;
     }
 }

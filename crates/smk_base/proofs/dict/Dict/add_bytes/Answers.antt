@@ -3,4 +3,4 @@ use Rattle.smk_base.proofs.Codes.{with_text-known}
 use Rattle.smk_base.proofs.dict.Dict.add_bytes.Goals as goal
 
 pub returns-in-Some-clause-texts : goal.returns-in-Some-clause-texts
-returns-in-Some-clause-texts c = with_text-known _ _ c.in-Some.code (sym c.code_of_bytes.ensures ∙ c.in-Some.is)
+returns-in-Some-clause-texts c = c.found.ensures.same ∙ with_text-known _ _ c.in-Some.code (sym c.found.ensures.code ∙ c.in-Some.is)
