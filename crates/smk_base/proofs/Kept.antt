@@ -100,6 +100,10 @@ IsColumnOf-ints level numbers made low few within kind cells = record {
   fit = rw (kind, cells) (All-map (Fits (kinds.Int level)) values.Int numbers within);
 }
 
+-- counts are in the range of the lowest level
+pub counts_within : (counts : List ℕ) → All (λ n. n < 4294967296) counts → All (IsWithin 0) (map pos counts)
+counts_within counts small = All-map (IsWithin 0) pos counts (λ k d h. omega (arith, ints, small k d h))
+
 below_between : (m a q : ℕ) → q ≤ a → Between m (pos a) → Between m (pos q)
 below_between m a q h w = (omega (arith, ints), omega (arith, ints))
 

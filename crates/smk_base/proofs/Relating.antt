@@ -206,6 +206,12 @@ one-ints level numbers column kind cells =
     let same_rows : map (λ (value : Value). value ∷ []) column.cells ≡ map (λ n. values.Int n ∷ []) numbers = ap (map (λ (value : Value). value ∷ [])) cells ∙ map-map (λ value. value ∷ []) values.Int numbers in
     (λ j. record { kinds = kind j ∷ []; rows = same_rows j })
 
+-- one column of counts
+pub one-counts : (level : ℕ) (counts : List ℕ) (column : ColumnImage) → column.kind ≡ kinds.Int level → column.cells ≡ map values.Int (map pos counts)
+    → (let made : Relation = record { kinds = column.kind ∷ []; rows = map (λ value. value ∷ []) column.cells } in made) ≡ record { kinds = kinds.Int level ∷ []; rows = map (λ n. values.Int (pos n) ∷ []) counts }
+one-counts level counts column kind cells =
+    one-ints level (map pos counts) column kind cells ∙ ap (λ rows. record { kinds = kinds.Int level ∷ []; rows = rows }) (map-map (λ n. values.Int n ∷ []) pos counts)
+
 -- the codes of a column of texts
 pub AreCodesOf-texts : (firsts texts : List (List ℕ)) (codes : List ℕ) → codes ≡ map (code_or_last firsts) texts → map (text_in firsts) codes ≡ texts → AreCodesOf (map values.Text texts) codes
 AreCodesOf-texts firsts texts codes is back =

@@ -328,6 +328,16 @@ impl Rel {
         let column = ValueColumn::of_ints(alloc, level, numbers)?;
         of_column(alloc, RelColumn::own(column), count)
     }
+
+    /// One column of ints of this level: these counts.
+    pub fn of_counts(alloc: Global, level: u8, counts: &[u32]) -> Result<Rel, AllocError>
+        requires low_level { level ≤ 3 }
+        requires few { length counts.now ≤ ROW_LIMIT }
+        ensures { IfOk result (λ made. made ≡ record { kinds = kinds.Int level ∷ []; rows = map (λ n. values.Int (pos n) ∷ []) counts.now }) }
+    {
+        let column = ValueColumn::of_counts(alloc, level, counts)?;
+        of_column(alloc, RelColumn::own(column), counts.len() as u32)
+    }
 }
 
 // The values of a row where they lie in it.

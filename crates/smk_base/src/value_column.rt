@@ -249,6 +249,24 @@ impl ValueColumn {
         })
     }
 
+    /// A column of ints of this level: these counts.
+    pub fn of_counts(alloc: Global, level: u8, counts: &[u32]) -> Result<ValueColumn, AllocError>
+        requires low { level ≤ 3 }
+        requires few { length counts.now ≤ ROW_LIMIT }
+        ensures kind { IfOk result (λ made. made.kind ≡ kinds.Int level) }
+        ensures cells { IfOk result (λ made. made.cells ≡ map values.Int (map pos counts.now)) }
+        ensures keeps { IfOk result (λ made. IsColumnOf (length counts.now) made) }
+    {
+        let mut ints = Vec::with_capacity(alloc, counts.len())?;
+        for count in counts {
+            ints.push_reserved(i64::from(*count));
+        }
+        let small = ValueColumn {
+            store: Store::Small(ints),
+        };
+        small.widened(alloc, Kind::Int { level })
+    }
+
     /// A copy that is equal to its original.
     pub fn copy(&self, alloc: Global) -> Result<ValueColumn, AllocError>
         ensures kind { IfOk result (λ copy. copy.kind ≡ self.now.kind) }
