@@ -2,3 +2,10 @@ pub mod Outside
 pub mod MemFiles
 pub mod MemSink
 pub mod StreamSink
+pub mod Told
+pub mod Hearing
+pub mod Saying
+pub mod MemTalk
+pub mod StreamTalk
+pub mod Conversing
+pub mod Turning

@@ -93,8 +93,8 @@ fn find_first<'a>(files: &'a [(Text, Text)], name: &[u8]) -> Option<&'a [u8]>
     None
 }
 
-// Whether a number is among these.
-fn has_number(numbers: &[u32], number: u64) -> bool
+/// Whether a number is among these.
+pub(crate) fn has_number(numbers: &[u32], number: u64) -> bool
     ensures { result ≡ list_any (nat_eq number) numbers.now }
 {
     for n in numbers {

@@ -102,8 +102,8 @@ fn front_of(bytes: &[u8], failure: Option<u64>, room_left: usize) -> &[u8]
     &bytes[..asked.min(room_left).min(bytes.len())]
 }
 
-// After how many bytes the call with this number is to fail, if it is to fail.
-fn planned_failure(fails: &[(u32, u64)], call: u64) -> Option<u64>
+/// After how many bytes the call with this number is to fail, if it is to fail.
+pub(crate) fn planned_failure(fails: &[(u32, u64)], call: u64) -> Option<u64>
     ensures { result ≡ option_map (λ fail. fail.1) (find (λ fail. nat_eq fail.0 call) fails.now) }
 {
     for (number, count) in fails {

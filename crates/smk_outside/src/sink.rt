@@ -1,7 +1,7 @@
 ghost use Rattle.std.specs.Prelude.{◌≤◌, ℕ, List, Option, OnOk, OnErr};
 ghost use Rattle.smk_outside.specs.Outside.{Rose, Appends, AppendsPart};
 
-/// A write to a sink failed.
+/// A write failed.
 #[derive(Drop, Clone, Copy)]
 pub struct Failed;
 

@@ -62,8 +62,8 @@ impl<W: Write> Sink for StreamSink<W> {
     }
 }
 
-// Writes all the bytes, piece by piece as the stream takes them.
-fn write_all_of<W: Write>(stream: &mut W, bytes: &[u8]) -> Result<(), Failed>
+/// Writes all the bytes, piece by piece as the stream takes them.
+pub(crate) fn write_all_of<W: Write>(stream: &mut W, bytes: &[u8]) -> Result<(), Failed>
     ensures whole { OnOk result (known.Appends (W.contents stream.old) (W.contents stream.new) bytes.now) }
     ensures part { OnErr result (AppendsKnownPart (W.contents stream.old) (W.contents stream.new) bytes.now) }
 {

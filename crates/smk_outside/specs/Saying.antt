@@ -1,0 +1,18 @@
+-- What is said when something is to be said.
+use Rattle.std.specs.Prelude.{◌≡◌, ℕ, List, []}
+use Rattle.std.specs.List.{concat}
+use Rattle.smk_outside.specs.declared.event.Event.{Event}
+use Rattle.smk_outside.specs.Outside.{IsPrefix}
+use Rattle.smk_outside.specs.Told.{Told, Adds, Takes, says}
+
+-- these texts were said
+abbrev pub Says : Told → Told → List (List ℕ) → Type 0
+Says before after texts = Adds before after (says texts) × Takes before after []
+
+-- only something was said in these events, and it is a front of the texts
+abbrev pub AreFront : List (List ℕ) → List Event → Type 0
+AreFront texts events = (parts : List (List ℕ)) × (events ≡ says parts) × IsPrefix (concat parts) (concat texts)
+
+-- a front of these texts was said
+abbrev pub SaysFront : Told → Told → List (List ℕ) → Type 0
+SaysFront before after texts = (events : List Event) × AreFront texts events × Adds before after events × Takes before after []
