@@ -77,3 +77,5 @@ pub mod Unscanned
 pub mod NeverFull
 pub mod AppendExamples
 pub mod Appends
+pub mod Conversation
+pub mod ConversationExamples

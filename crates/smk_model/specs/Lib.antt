@@ -70,3 +70,6 @@ pub mod GrowthLaws
 pub mod GrowthExamples
 pub mod AppendExamples
 pub mod AppendLaws
+pub mod Conversation
+pub mod ConversationLaws
+pub mod ConversationExamples

@@ -6,6 +6,7 @@ pub use crate::class_laws::{bulk, classes_are};
 pub use crate::composed_laws::{
     backs_compose, forwards_compose, leaves_split, lists_stand, merged_has_both,
 };
+pub use crate::conversation_laws::{conversations_hold, talks_as_reported};
 pub use crate::direction_laws::{inverses, one_each, pairs_forward};
 pub use crate::example_laws::{example_grows, examples_hold, runs_hold, sessions_hold};
 pub use crate::expanded_laws::expanded_stands;

@@ -5,6 +5,7 @@ pub mod append_laws;
 pub mod ask_laws;
 pub mod class_laws;
 pub mod composed_laws;
+pub mod conversation_laws;
 pub mod demo_laws;
 pub mod direction_laws;
 pub mod example_laws;

@@ -1,0 +1,188 @@
+-- A conversation over a book: what is said of each line that is heard, and where the line leaves the session.
+use Rattle.std.specs.Prelude.{◌≡◌, ◌≤◌, ◌<◌, ◌+◌, ⊤, ℕ, Bool, true, false, ◌&&◌, cond, nat_eq, List, [], ◌∷◌, ◌++◌, length, drop, map, Option, Some, None, Result, Ok, Err, codes}
+use Rattle.std.specs.List.{filter, flat_map, scan}
+use Rattle.smk_base.specs.CatalogImage.{CatalogImage}
+use Rattle.smk_base.specs.Marks.{after_marks}
+use Rattle.smk_base.specs.Trees.{AnyLineImage, PlainLine, AskedLine, ProfiledLine, AppendedLine}
+use Rattle.smk_base.specs.declared.catalog.TableInfo.{TableInfo}
+use Rattle.smk_base.specs.declared.fault.Fault.{Fault}
+use Rattle.smk_model.specs.FaultTexts.{fault_text}
+use Rattle.smk_model.specs.Outcome.{Held, appended_at, file_limit, load}
+use Rattle.smk_model.specs.Readings.{Reading, Nothing, Asks, Unread, IsReading}
+use Rattle.smk_model.specs.Reports.{BookSaid, Report, Told, nothing_told, followed_by, brings_rows, line_told, state_after, report_told}
+use Rattle.smk_model.specs.Session.{Workbook, State, first_state}
+use Rattle.smk_model.specs.Texts.{line}
+use Rattle.smk_model.specs.Values.{Row}
+use Rattle.smk_model.specs.ViewTexts.{views_text}
+
+-- a line that is answered as the line of a script: its bytes, what it says, and the rows of the file that it appends; it brings none where it appends to no table of the book
+pub record HeardLine : Type 0 where
+  pub bytes : List ℕ
+  pub reading : Reading
+  pub rows : List Row
+
+-- a turn: a line that is answered as that of a script; an `append` to a table of the book whose file has a fault; an `append` where nothing may be appended; a line that memory was wanting for; and one that is too long
+pub data TalkTurn : Type 0 where
+  Replied : HeardLine → TalkTurn
+  Unbrought : List ℕ → Fault → TalkTurn
+  ReadOnly : List ℕ → TalkTurn
+  Forgone : List ℕ → TalkTurn
+  TooLong : List ℕ → TalkTurn
+
+-- the line that was heard
+abbrev pub line_of : TalkTurn → List ℕ
+line_of (Replied heard) = heard.bytes
+line_of (Unbrought bytes fault) = bytes
+line_of (ReadOnly bytes) = bytes
+line_of (Forgone bytes) = bytes
+line_of (TooLong bytes) = bytes
+
+-- where a conversation stands: the state of the session, and how many lines were heard
+pub record TalkState : Type 0 where
+  pub session : State
+  pub heard : ℕ
+
+abbrev pub first_talk_state : Workbook → TalkState
+first_talk_state book = record { session = first_state book; heard = 0 }
+
+-- a fault of a file, as a refusal: what a run says of it, with another word before it
+abbrev pub unbrought_text : Fault → List ℕ
+unbrought_text fault = codes "refused " ++ drop (length (codes "smoke: ")) (fault_text fault)
+
+-- the other refusals of a conversation
+abbrev pub read_only_text : List ℕ
+read_only_text = line (codes "refused read only" ∷ [])
+
+abbrev pub forgone_text : List ℕ
+forgone_text = line (codes "refused no memory" ∷ [])
+
+abbrev pub too_long_text : List ℕ
+too_long_text = line (codes "refused line too long" ∷ [])
+
+-- what a line comes to that is refused by such a text; looks that were made before memory was wanting are not in it
+abbrev pub refused_told : List ℕ → Told
+refused_told text = record { text = text; replies = 1; refused = 1; unread = 0; looks = 0 }
+
+-- what a turn comes to: a line that is answered, to what it does in a script, where its number is that of the lines heard
+abbrev pub turn_told : BookSaid → TalkState → TalkTurn → Told
+turn_told said state (Replied heard) = line_told said state.session (state.heard + 1) heard.rows heard.reading
+turn_told said state (Unbrought bytes fault) = refused_told (unbrought_text fault)
+turn_told said state (ReadOnly bytes) = refused_told read_only_text
+turn_told said state (Forgone bytes) = refused_told forgone_text
+turn_told said state (TooLong bytes) = refused_told too_long_text
+
+-- the state of the session after a turn: only a line that is answered changes it
+abbrev pub session_after : BookSaid → State → TalkTurn → State
+session_after said state (Replied heard) = state_after said state heard.rows heard.reading
+session_after said state (Unbrought bytes fault) = state
+session_after said state (ReadOnly bytes) = state
+session_after said state (Forgone bytes) = state
+session_after said state (TooLong bytes) = state
+
+abbrev pub turn_after : BookSaid → TalkState → TalkTurn → TalkState
+turn_after said state turn = record { session = session_after said state.session turn; heard = state.heard + 1 }
+
+-- what turns come to from a state on
+abbrev pub turns_told : BookSaid → TalkState → List TalkTurn → Told
+turns_told said state [] = nothing_told
+turns_told said state (turn ∷ turns) = followed_by (turn_told said state turn) (turns_told said (turn_after said state turn) turns)
+
+-- the report of a conversation: what a run would write and count of the same turns
+abbrev pub talk_report : Workbook → List (List ℕ) → List TalkTurn → Report
+talk_report book fds turns = report_told book (turns_told (record { catalog = book.catalog; fds = fds }) (first_talk_state book) turns)
+
+-- the text of a turn, and those of turns from a state on
+abbrev pub turn_text : BookSaid → TalkState → TalkTurn → List ℕ
+turn_text said state turn = (turn_told said state turn).text
+
+abbrev pub turn_texts : BookSaid → TalkState → List TalkTurn → List (List ℕ)
+turn_texts said state turns = scan (turn_after said) (turn_text said) state turns
+
+-- the texts of a conversation: that of all views, and then those of its turns
+abbrev pub talk_texts : Workbook → List (List ℕ) → List TalkTurn → List (List ℕ)
+talk_texts book fds turns = views_text book ∷ turn_texts (record { catalog = book.catalog; fds = fds }) (first_talk_state book) turns
+
+-- a block: a text is said, and then an empty line
+abbrev pub block_of : List ℕ → List (List ℕ)
+block_of text = text ∷ (10 ∷ []) ∷ []
+
+-- what is said of a turn, what is said first, and all that is said
+abbrev pub turn_block : BookSaid → TalkState → TalkTurn → List (List ℕ)
+turn_block said state turn = block_of (turn_text said state turn)
+
+abbrev pub opening_block : Workbook → List (List ℕ)
+opening_block book = block_of (views_text book)
+
+abbrev pub talk_said : Workbook → List (List ℕ) → List TalkTurn → List (List ℕ)
+talk_said book fds turns = flat_map block_of (talk_texts book fds turns)
+
+-- the bytes of a line as they are read, behind so many lines: every byte order mark before the first line is no part of it
+abbrev pub text_read : ℕ → List ℕ → List ℕ
+text_read heard bytes = cond (nat_eq heard 0) (after_marks bytes) bytes
+
+-- whether a line asks for rows to be appended, to a table of the book or to none
+abbrev pub is_append : AnyLineImage → Bool
+is_append (PlainLine asked) = false
+is_append (AskedLine asked) = false
+is_append (ProfiledLine view) = false
+is_append (AppendedLine table file) = true
+
+abbrev pub asks_append : Reading → Bool
+asks_append Nothing = false
+asks_append (Asks asked) = is_append asked
+asks_append (Unread at) = false
+
+-- the most bytes that a line may have
+abbrev pub line_limit : ℕ
+line_limit = file_limit
+
+-- what comes of a line's file, if it appends one, by what the files hold; a line that reads no file brings no rows
+abbrev pub FilesBring : Held → Option TableInfo → Result (List Row) Fault → Type 0
+FilesBring held None brought = brought ≡ Ok []
+FilesBring held (Some table) brought = load held table ≡ brought
+
+-- a line of an `append` to a table of the book, whose file comes to this fault
+pub record IsUnbrought (catalog : CatalogImage) (Brings : Option TableInfo → Result (List Row) Fault → Type 0) (text : List ℕ) (fault : Fault) : Type 0 where
+  pub reading : Reading
+  pub table : TableInfo
+  pub reads : IsReading text reading
+  pub appends : appended_at catalog reading ≡ Some table
+  pub brings : Brings (Some table) (Err fault)
+
+-- a line of an `append`
+pub record IsAppend (text : List ℕ) : Type 0 where
+  pub reading : Reading
+  pub reads : IsReading text reading
+  pub appends : asks_append reading ≡ true
+
+-- a turn that may be one in a state, by whether nothing may be appended and by what comes of files: a line of the grammar is answered as what it says. Any line may be one that memory was wanting for
+abbrev pub FitsTalk : Bool → CatalogImage → (Option TableInfo → Result (List Row) Fault → Type 0) → TalkState → TalkTurn → Type 0
+FitsTalk read_only catalog Brings state (Replied heard) =
+    (length heard.bytes ≤ line_limit) × IsReading (text_read state.heard heard.bytes) heard.reading
+    × ((read_only && asks_append heard.reading) ≡ false) × Brings (appended_at catalog heard.reading) (Ok heard.rows)
+FitsTalk read_only catalog Brings state (Unbrought bytes fault) =
+    (length bytes ≤ line_limit) × IsUnbrought catalog Brings (text_read state.heard bytes) fault × (read_only ≡ false)
+FitsTalk read_only catalog Brings state (ReadOnly bytes) = (length bytes ≤ line_limit) × IsAppend (text_read state.heard bytes) × (read_only ≡ true)
+FitsTalk read_only catalog Brings state (Forgone bytes) = ⊤
+FitsTalk read_only catalog Brings state (TooLong bytes) = line_limit < length bytes
+
+-- what lines say, and the rows that they bring, line by line
+abbrev pub readings_of : List HeardLine → List Reading
+readings_of lines = map (λ heard. heard.reading) lines
+
+abbrev pub brings : CatalogImage → HeardLine → Bool
+brings catalog heard = brings_rows catalog heard.reading
+
+abbrev pub rows_brought : CatalogImage → List HeardLine → List (List Row)
+rows_brought catalog lines = map (λ heard. heard.rows) (filter (brings catalog) lines)
+
+-- lines behind so many others that say what their texts say, and bring what the files hold
+abbrev pub AreHeard : Held → CatalogImage → ℕ → List HeardLine → Type 0
+AreHeard held catalog number [] = ⊤
+AreHeard held catalog number (heard ∷ lines) =
+    IsReading (text_read number heard.bytes) heard.reading × FilesBring held (appended_at catalog heard.reading) (Ok heard.rows) × AreHeard held catalog (number + 1) lines
+
+-- the texts of lines as they are read, behind so many others
+abbrev pub texts_read : ℕ → List HeardLine → List (List ℕ)
+texts_read number [] = []
+texts_read number (heard ∷ lines) = text_read number heard.bytes ∷ texts_read (number + 1) lines

@@ -1,0 +1,25 @@
+-- What a conversation says is what a run writes.
+use Rattle.std.specs.Prelude.{◌≡◌, ◌++◌, ℕ, List, Some, Ok, map}
+use Rattle.std.specs.List.{concat, flat_map, scan}
+use Rattle.smk_base.specs.Marks.{after_marks}
+use Rattle.smk_model.specs.Conversation.{HeardLine, TalkTurn, Replied, first_talk_state, turn_after, turn_block, opening_block, talk_report, talk_texts, talk_said, readings_of, rows_brought, AreHeard, texts_read}
+use Rattle.smk_model.specs.Lines.{lines}
+use Rattle.smk_model.specs.Outcome.{Held, Inputs, ReadsFiles, content_of}
+use Rattle.smk_model.specs.Reports.{report_of}
+use Rattle.smk_model.specs.Session.{Workbook}
+
+-- what is said, put together and block by block, and what a run of the same lines has in its report
+pub record TalksAsReported : Type 0 where
+  -- what is said, but for the empty lines, is the text of the conversation's report
+  pub said : (book : Workbook) (fds : List (List ℕ)) (turns : List TalkTurn) → concat (talk_texts book fds turns) ≡ (talk_report book fds turns).text
+  -- what is said first, and then of the turns, in blocks, is all that is said
+  pub blocks : (book : Workbook) (fds : List (List ℕ)) (turns : List TalkTurn)
+      → opening_block book ++ flat_map (λ texts. texts) (scan (turn_after (record { catalog = book.catalog; fds = fds })) (turn_block (record { catalog = book.catalog; fds = fds })) (first_talk_state book) turns)
+      ≡ talk_said book fds turns
+  -- where each line is answered as that of a script, this is the report of a run over the same book and lines, whose `append` lines bring the same rows
+  pub told : (book : Workbook) (fds : List (List ℕ)) (heard : List HeardLine)
+      → talk_report book fds (map Replied heard) ≡ report_of book fds (rows_brought book.catalog heard) (readings_of heard)
+  -- and so it is that of a run over the same files with a script of just these lines
+  pub run : (held : Held) (book script bytes : List ℕ) (given : Inputs) (heard : List HeardLine)
+      → ReadsFiles held book (Some script) (Ok given) → content_of held script ≡ Ok bytes → lines (after_marks bytes) ≡ texts_read 0 heard → AreHeard held given.book.catalog 0 heard
+      → talk_report given.book given.fds (map Replied heard) ≡ report_of given.book given.fds given.added given.readings
