@@ -10,6 +10,7 @@ use Rattle.smk_base.specs.declared.reply.AskReply.TheVariants as answers
 use Rattle.smk_base.specs.declared.reply.AskRefusal.{AskRefusal}
 use Rattle.smk_base.specs.declared.reply.AskRefusal.TheVariants.{Back, Steps}
 use Rattle.smk_base.specs.declared.type_fault.TypeFault.TheVariants.{NoMemory}
+use Rattle.smk_base.specs.declared.rel.TheConstants.{COLUMN_LIMIT}
 use Rattle.smk_model.specs.Asks.{back_line, columns_named}
 use Rattle.smk_model.specs.FaultTexts.{type_words}
 use Rattle.smk_model.specs.Names.{kinds_of}
@@ -21,7 +22,7 @@ use Rattle.smk_model.specs.Typing.{nothing_declared}
 pub record AreBackRows (catalog : CatalogImage) (asked : AskImage) (rows : Relation) : Type 0 where
   pub known : IsSome (table_named catalog asked.table)
   pub kinds : rows.kinds ≡ kinds_of (columns_named catalog asked.table)
-  pub few : length (columns_named catalog asked.table) ≤ 16
+  pub few : length (columns_named catalog asked.table) ≤ COLUMN_LIMIT
 
 -- whether a reply is one to the `back` line within an `ask` line: rows of the table, or a refusal that names nothing of a catalog
 abbrev pub IsBackReply : CatalogImage → AskImage → Reply → Type 0

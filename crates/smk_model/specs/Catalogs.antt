@@ -8,6 +8,8 @@ use Rattle.smk_base.specs.declared.catalog.BackExtra.TheVariants.{Plain, By, Gro
 use Rattle.smk_base.specs.declared.catalog.Fwd.{Fwd}
 use Rattle.smk_base.specs.declared.catalog.LinkInfo.{LinkInfo}
 use Rattle.smk_base.specs.declared.plan.Agg.{Agg}
+use Rattle.smk_base.specs.declared.limits.TheConstants.{TABLE_LIMIT, VIEW_LIMIT, NODE_LIMIT}
+use Rattle.smk_base.specs.declared.rel.TheConstants.{COLUMN_LIMIT}
 use Rattle.smk_base.specs.Plans.{Grouping}
 use Rattle.smk_base.specs.CatalogImage.{CatalogImage, ViewImage}
 use Rattle.smk_model.specs.Names.{kinds_of}
@@ -18,9 +20,9 @@ use Rattle.smk_model.specs.Selection.{ScansFit, PlanFits, leaf_kinds, plan_kinds
 
 -- the limits of tables, views and declared columns
 pub record IsWithinLimits (catalog : CatalogImage) : Type 0 where
-  pub few_tables : length catalog.tables ≤ 16
-  pub few_views : length catalog.views ≤ 64
-  pub few_columns : All (λ table. length table.cols ≤ 16) catalog.tables
+  pub few_tables : length catalog.tables ≤ TABLE_LIMIT
+  pub few_views : length catalog.views ≤ VIEW_LIMIT
+  pub few_columns : All (λ table. length table.cols ≤ COLUMN_LIMIT) catalog.tables
 
 -- the kinds of a table's columns, and those of each table
 abbrev pub table_kinds : TableInfo → List Kind
@@ -35,7 +37,7 @@ pub record ViewFits (tables : List TableInfo) (view : ViewImage) : Type 0 where
   pub fits : PlanFits view.plan (leaf_kinds view.plan (each_table_kinds tables))
   pub kinds : plan_kinds view.plan (leaf_kinds view.plan (each_table_kinds tables)) ≡ view.kinds
   pub named : length view.names ≡ length view.kinds
-  pub few : nodes view.plan ≤ 64
+  pub few : nodes view.plan ≤ NODE_LIMIT
 
 -- a grouping over these kinds fits them, and its columns have its kinds and a name each
 pub record GroupingFits (kinds : List Kind) (keys : List ℕ) (aggs : List Agg) (names : List (List ℕ)) (own : List Kind) : Type 0 where

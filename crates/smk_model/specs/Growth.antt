@@ -45,8 +45,6 @@ all_over_parts c (agg ∷ aggs) = over_parts c agg ∷ all_over_parts (c + 1) ag
 abbrev pub regrouping : List ℕ → List Agg → Unary
 regrouping keys aggs = Grouping (upto (length keys)) (all_over_parts (length keys) aggs)
 
--- the same place by place
-
 -- the keys of groups: their first k values
 abbrev pub keys_in : ℕ → List Row → List Row
 keys_in k groups = map (key_of (upto k)) groups

@@ -11,6 +11,7 @@ use Rattle.smk_base.specs.declared.plan.Item.{Item}
 use Rattle.smk_base.specs.declared.plan.Item.TheVariants as items
 use Rattle.smk_base.specs.declared.plan.Agg.{Agg}
 use Rattle.smk_base.specs.declared.plan.Agg.TheVariants.{Count, Sum, Min, Max}
+use Rattle.smk_base.specs.declared.rel.TheConstants.{COLUMN_LIMIT}
 use Rattle.smk_base.specs.Plans.{Formula, Comparison, Conjunction, Disjunction, Negation, Unary, Selection, Projection, Distinction, Grouping, Binary, Equijoin, ThetaJoin, CrossProduct, BagUnion, SetUnion}
 use Rattle.smk_base.specs.Rels.{kind_in}
 pub use Rattle.smk_base.specs.Widths.{AreAlike, wider}
@@ -61,18 +62,18 @@ PairFits ls rs pair = (pair.0 < length ls) × (pair.1 < length rs) × AreAlike (
 -- output columns are there, at most 16
 pub record ItemsFit (kinds : List Kind) (items : List Item) : Type 0 where
   pub each : All (ItemFits kinds) items
-  pub few : length items ≤ 16
+  pub few : length items ≤ COLUMN_LIMIT
 
 -- keys are there and aggregates fit, together at least one and at most 16
 pub record GroupFits (kinds : List Kind) (keys : List ℕ) (aggs : List Agg) : Type 0 where
   pub keyed : All (λ c. c < length kinds) keys
   pub each : All (AggFits kinds) aggs
   pub some : 0 < length keys + length aggs
-  pub few : length keys + length aggs ≤ 16
+  pub few : length keys + length aggs ≤ COLUMN_LIMIT
 
 -- both sides have at most 16 columns together
 abbrev pub FewTogether : List Kind → List Kind → Type 0
-FewTogether ls rs = length ls + length rs ≤ 16
+FewTogether ls rs = length ls + length rs ≤ COLUMN_LIMIT
 
 -- pairs fit, and both sides have at most 16 columns together
 pub record JoinFits (ls rs : List Kind) (pairs : List (ℕ × ℕ)) : Type 0 where

@@ -10,6 +10,8 @@ use Rattle.smk_base.specs.declared.tree.ItemTree.TheVariants.{Col, Bin}
 use Rattle.smk_base.specs.Trees.{TreeImage, ScanNode, StepNode, StepImage, SelectNode, ProjectNode, DistinctNode, GroupNode, JoinNode, ThetaNode, ProductNode, UnionAllNode, UnionNode, StmtImage, TableNode, ViewNode, BackNode, FwdNode, LinkNode, DependsNode, AskStepImage, AskImage}
 use Rattle.smk_base.specs.declared.tree.Marks.{Marks}
 use Rattle.smk_base.specs.declared.tree.Marks.TheVariants as markings
+use Rattle.smk_base.specs.declared.limits.TheConstants.{TABLE_LIMIT, VIEW_LIMIT, NODE_LIMIT}
+use Rattle.smk_base.specs.declared.rel.TheConstants.{COLUMN_LIMIT}
 
 -- the second part of `bin` is at least 1
 abbrev pub Divides : ItemTree → Type 0
@@ -18,7 +20,7 @@ Divides (Bin col width name) = pos 1 ≤ℤ width
 
 -- a list of at most 16 items
 pub record KeepsItems (items : List ItemTree) : Type 0 where
-  pub few : length items ≤ 16
+  pub few : length items ≤ COLUMN_LIMIT
   pub divide : All Divides items
 
 -- the lists of items in a plan
@@ -67,13 +69,13 @@ DefaultInRange (Some literal) = IsInRange literal.value
 
 -- a declaration of at most 16 columns
 pub record KeepsDecls (decls : List Decl) : Type 0 where
-  pub few : length decls ≤ 16
+  pub few : length decls ≤ COLUMN_LIMIT
   pub ranges : All (λ decl. DefaultInRange decl.def) decls
 
 -- a plan of at most 64 nodes
 pub record KeepsPlan (tree : TreeImage) : Type 0 where
   pub lists : KeepsTree tree
-  pub few : nodes tree ≤ 64
+  pub few : nodes tree ≤ NODE_LIMIT
 
 abbrev pub KeepsStmt : StmtImage → Type 0
 KeepsStmt (TableNode name file decls) = KeepsDecls decls
@@ -102,8 +104,8 @@ is_view (DependsNode at name table keys col) = true
 
 -- a book of at most 16 tables and 64 views, whose statements keep their limits
 pub record KeepsLimits (book : List StmtImage) : Type 0 where
-  pub few_tables : count_by is_table book ≤ 16
-  pub few_views : count_by is_view book ≤ 64
+  pub few_tables : count_by is_table book ≤ TABLE_LIMIT
+  pub few_views : count_by is_view book ≤ VIEW_LIMIT
   pub each : All KeepsStmt book
 
 -- a step with one input, whose list of items keeps its limits
@@ -120,7 +122,7 @@ KeepsAskStep (UnionNode source) = ⊥
 
 -- the steps of an `ask` line: at most 64, each with one input
 pub record KeepsSteps (steps : List AskStepImage) : Type 0 where
-  pub few : length steps ≤ 64
+  pub few : length steps ≤ NODE_LIMIT
   pub each : All (λ step. KeepsAskStep step.what) steps
 
 -- a list of marks has a mark

@@ -6,6 +6,8 @@ use Rattle.smk_base.specs.declared.fault.Many.{Many}
 use Rattle.smk_base.specs.declared.fault.Many.TheVariants.{Tables, Views, Lineages, Links, Columns, Nodes, Compares, Depth, NameBytes}
 use Rattle.smk_base.specs.declared.fault.BookFault.{BookFault}
 use Rattle.smk_base.specs.declared.fault.BookFault.TheVariants.{BadToken, Unexpected, TooMany, BadNumber}
+use Rattle.smk_base.specs.declared.limits.TheConstants.{TABLE_LIMIT, VIEW_LIMIT, LINEAGE_LIMIT, LINK_LIMIT, NODE_LIMIT, COMPARE_LIMIT, DEPTH_LIMIT, NAME_LIMIT}
+use Rattle.smk_base.specs.declared.rel.TheConstants.{COLUMN_LIMIT}
 use Rattle.smk_model.specs.Tokens.{Token, inner, int_value}
 use Rattle.smk_model.specs.TokenKinds.{same_kind}
 
@@ -59,8 +61,8 @@ abbrev pub is_short : Token → Bool
 is_short t = by t.kind t.text
   where
     by : TokenKind → List ℕ → Bool
-    by kinds.Quoted text = nat_le (length (inner text)) 64
-    by _ text = nat_le (length text) 64
+    by kinds.Quoted text = nat_le (length (inner text)) NAME_LIMIT
+    by _ text = nat_le (length text) NAME_LIMIT
 
 abbrev pub at_name : PlanCounts → Bool → TokenKind → Move
 at_name c short kinds.Name = within short NameBytes (Takes c [])
@@ -73,12 +75,12 @@ at_column c ss short _ = Wrong
 
 -- a column that begins the member of a list
 abbrev pub at_first : PlanCounts → ℕ → List Symbol → Bool → TokenKind → Move
-at_first c k ss short kinds.Name = within (nat_lt k 16) Columns (within short NameBytes (Takes c ss))
-at_first c k ss short kinds.Quoted = within (nat_lt k 16) Columns (within short NameBytes (Takes c ss))
+at_first c k ss short kinds.Name = within (nat_lt k COLUMN_LIMIT) Columns (within short NameBytes (Takes c ss))
+at_first c k ss short kinds.Quoted = within (nat_lt k COLUMN_LIMIT) Columns (within short NameBytes (Takes c ss))
 at_first c k ss short _ = Wrong
 
 abbrev pub at_item : PlanCounts → ℕ → Bool → TokenKind → Move
-at_item c k short kinds.Bin = within (nat_lt k 16) Columns (Takes c (AToken kinds.Open ∷ AColumn ∷ AToken kinds.Comma ∷ AWidth ∷ AToken kinds.Close ∷ AToken kinds.As ∷ AColumn ∷ []))
+at_item c k short kinds.Bin = within (nat_lt k COLUMN_LIMIT) Columns (Takes c (AToken kinds.Open ∷ AColumn ∷ AToken kinds.Comma ∷ AWidth ∷ AToken kinds.Close ∷ AToken kinds.As ∷ AColumn ∷ []))
 at_item c k short kind = at_first c k (AnAs ∷ []) short kind
 
 abbrev pub at_literal : PlanCounts → TokenKind → Move
@@ -120,7 +122,7 @@ at_aggs c kinds.OpenBrace = Takes c (AFirst 0 ∷ AToken kinds.Equal ∷ AWhat �
 at_aggs c _ = Skips
 
 abbrev pub at_linked : PlanCounts → ℕ → Bool → TokenKind → Move
-at_linked c k short kinds.Name = within (nat_lt k 64) Links (within short NameBytes (Takes c []))
+at_linked c k short kinds.Name = within (nat_lt k LINK_LIMIT) Links (within short NameBytes (Takes c []))
 at_linked c k short _ = Wrong
 
 -- a comma, and one more of a list
@@ -133,8 +135,8 @@ abbrev pub node_more : PlanCounts → PlanCounts
 node_more c = record { nodes = c.nodes + 1; compares = 0 }
 
 abbrev pub at_source : PlanCounts → ℕ → TokenKind → Move
-at_source c d kinds.Scan = within (nat_lt c.nodes 64) Nodes (Takes (node_more c) (AName ∷ []))
-at_source c d kinds.Open = within (nat_lt d 32) Depth (Takes c (ASource (d + 1) ∷ ASteps (d + 1) ∷ AToken kinds.Close ∷ []))
+at_source c d kinds.Scan = within (nat_lt c.nodes NODE_LIMIT) Nodes (Takes (node_more c) (AName ∷ []))
+at_source c d kinds.Open = within (nat_lt d DEPTH_LIMIT) Depth (Takes c (ASource (d + 1) ∷ ASteps (d + 1) ∷ AToken kinds.Close ∷ []))
 at_source c d _ = Wrong
 
 abbrev pub at_steps : PlanCounts → ℕ → TokenKind → Move
@@ -154,7 +156,7 @@ step_symbols d kinds.Union = Some (AUnited d ∷ [])
 step_symbols d _ = None
 
 abbrev pub node_move : PlanCounts → Option (List Symbol) → Move
-node_move c (Some ss) = within (nat_lt c.nodes 64) Nodes (Takes (node_more c) ss)
+node_move c (Some ss) = within (nat_lt c.nodes NODE_LIMIT) Nodes (Takes (node_more c) ss)
 node_move c None = Wrong
 
 abbrev pub at_step : PlanCounts → ℕ → TokenKind → Move
@@ -171,11 +173,11 @@ at_united c d kind = at_source c d kind
 
 -- a comparison
 abbrev pub at_compare : PlanCounts → Bool → TokenKind → Move
-at_compare c short kind = within (nat_lt c.compares 128) Compares (at_column (record { nodes = c.nodes; compares = c.compares + 1 }) (AnOp ∷ ATerm ∷ []) short kind)
+at_compare c short kind = within (nat_lt c.compares COMPARE_LIMIT) Compares (at_column (record { nodes = c.nodes; compares = c.compares + 1 }) (AnOp ∷ ATerm ∷ []) short kind)
 
 abbrev pub at_prim : PlanCounts → ℕ → Bool → TokenKind → Move
-at_prim c d short kinds.Not = within (nat_lt d 32) Depth (Takes c (APrim (d + 1) ∷ []))
-at_prim c d short kinds.Open = within (nat_lt d 32) Depth (Takes c (APrim (d + 1) ∷ AnAnds (d + 1) ∷ AnOrs (d + 1) ∷ AToken kinds.Close ∷ []))
+at_prim c d short kinds.Not = within (nat_lt d DEPTH_LIMIT) Depth (Takes c (APrim (d + 1) ∷ []))
+at_prim c d short kinds.Open = within (nat_lt d DEPTH_LIMIT) Depth (Takes c (APrim (d + 1) ∷ AnAnds (d + 1) ∷ AnOrs (d + 1) ∷ AToken kinds.Close ∷ []))
 at_prim c d short kinds.Name = at_compare c short kinds.Name
 at_prim c d short kinds.Quoted = at_compare c short kinds.Quoted
 at_prim c d short _ = Wrong
@@ -203,11 +205,11 @@ at_term c short kinds.Str = Takes c []
 at_term c short kind = at_column c [] short kind
 
 abbrev pub at_stmts : Tally → TokenKind → Move
-at_stmts y kinds.Table = within (nat_lt y.tables 16) Tables (Takes no_counts (AName ∷ AToken kinds.From ∷ AToken kinds.Str ∷ AToken kinds.Open ∷ AFirst 0 ∷ AType ∷ ADefault ∷ MoreDecls 1 ∷ AToken kinds.Close ∷ AStmts (record y { tables = y.tables + 1 }) ∷ []))
-at_stmts y kinds.View = within (nat_lt y.views 64) Views (Takes no_counts (AName ∷ AToken kinds.Equal ∷ ASource 0 ∷ ASteps 0 ∷ AStmts (record y { views = y.views + 1 }) ∷ []))
-at_stmts y kinds.Lineage = within (nat_lt y.lineages 256) Lineages (Takes no_counts (ALineage ∷ AStmts (record y { lineages = y.lineages + 1 }) ∷ []))
-at_stmts y kinds.Link = within (nat_lt y.links 64) Links (Takes no_counts (AName ∷ AToken kinds.On ∷ AName ∷ AToken kinds.To ∷ ALinked 0 ∷ MoreLinked 1 ∷ AStmts (record y { links = y.links + 1 }) ∷ []))
-at_stmts y kinds.Fd = within (nat_lt y.views 64) Views (within (nat_lt y.lineages 256) Lineages (Takes no_counts (AName ∷ AToken kinds.On ∷ AName ∷ AFirst 0 ∷ MoreKeys 1 ∷ AToken kinds.To ∷ AColumn ∷ AStmts (record y { views = y.views + 1; lineages = y.lineages + 1 }) ∷ [])))
+at_stmts y kinds.Table = within (nat_lt y.tables TABLE_LIMIT) Tables (Takes no_counts (AName ∷ AToken kinds.From ∷ AToken kinds.Str ∷ AToken kinds.Open ∷ AFirst 0 ∷ AType ∷ ADefault ∷ MoreDecls 1 ∷ AToken kinds.Close ∷ AStmts (record y { tables = y.tables + 1 }) ∷ []))
+at_stmts y kinds.View = within (nat_lt y.views VIEW_LIMIT) Views (Takes no_counts (AName ∷ AToken kinds.Equal ∷ ASource 0 ∷ ASteps 0 ∷ AStmts (record y { views = y.views + 1 }) ∷ []))
+at_stmts y kinds.Lineage = within (nat_lt y.lineages LINEAGE_LIMIT) Lineages (Takes no_counts (ALineage ∷ AStmts (record y { lineages = y.lineages + 1 }) ∷ []))
+at_stmts y kinds.Link = within (nat_lt y.links LINK_LIMIT) Links (Takes no_counts (AName ∷ AToken kinds.On ∷ AName ∷ AToken kinds.To ∷ ALinked 0 ∷ MoreLinked 1 ∷ AStmts (record y { links = y.links + 1 }) ∷ []))
+at_stmts y kinds.Fd = within (nat_lt y.views VIEW_LIMIT) Views (within (nat_lt y.lineages LINEAGE_LIMIT) Lineages (Takes no_counts (AName ∷ AToken kinds.On ∷ AName ∷ AFirst 0 ∷ MoreKeys 1 ∷ AToken kinds.To ∷ AColumn ∷ AStmts (record y { views = y.views + 1; lineages = y.lineages + 1 }) ∷ [])))
 at_stmts y kinds.End = Skips
 at_stmts y _ = Wrong
 

@@ -16,10 +16,11 @@ abbrev pub mark_text : ℕ → Group → List ℕ
 mark_text mark group =
     line (codes "mark " ∷ decimal mark ∷ codes " " ∷ decimal (length group.rows.rows) ∷ []) ++ row_lines (λ i. slice_index_or group.rids i 0) group.rows.rows
 
--- those of the first n marks, each by its place
+-- a group of no rows
 abbrev pub no_group : Group
 no_group = record { rids = []; rows = record { kinds = []; rows = [] } }
 
+-- the texts of the first n marks, each by its place
 abbrev pub mark_texts_to : List Group → ℕ → List ℕ
 mark_texts_to groups n = flat_map (λ mark. mark_text mark (slice_index_or groups mark no_group)) (upto n)
 

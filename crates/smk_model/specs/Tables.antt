@@ -12,6 +12,7 @@ use Rattle.smk_base.specs.declared.value.Value.TheVariants as values
 use Rattle.smk_base.specs.declared.col_decl.ColDecl.{ColDecl}
 use Rattle.smk_base.specs.declared.fault.TableFault.{TableFault}
 use Rattle.smk_base.specs.declared.fault.TableFault.TheVariants as faults
+use Rattle.smk_base.specs.declared.rel.TheConstants.{COLUMN_LIMIT}
 use Rattle.smk_base.specs.Rels.{Fits}
 use Rattle.smk_base.specs.Ints.{is_blank, int_of}
 use Rattle.smk_base.specs.Marks.{after_marks}
@@ -97,5 +98,5 @@ pub record IsBaseColumn (decl : ColDecl) : Type 0 where
 
 -- declared columns that a table may have: at most 16 such columns
 pub record AreColumns (cols : List ColDecl) : Type 0 where
-  pub few : length cols ≤ 16
+  pub few : length cols ≤ COLUMN_LIMIT
   pub base : All IsBaseColumn cols

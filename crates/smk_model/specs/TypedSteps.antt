@@ -20,6 +20,7 @@ use Rattle.smk_base.specs.declared.plan.Agg.{Agg}
 use Rattle.smk_base.specs.declared.plan.Agg.TheVariants as aggs
 use Rattle.smk_base.specs.declared.catalog.Column.{Column}
 use Rattle.smk_base.specs.declared.type_fault.TypeFault.TheVariants.{KindMismatch, DuplicateName, SumTooDeep, UnionShape, EmptyList, RowTooWide}
+use Rattle.smk_base.specs.declared.rel.TheConstants.{COLUMN_LIMIT}
 use Rattle.smk_base.specs.Plans.{Formula, Comparison, Conjunction, Disjunction, Negation, Selection, Projection, Distinction, Grouping, Binary, Equijoin, ThetaJoin, CrossProduct, Expr, Apply, Combine}
 use Rattle.smk_base.specs.Trees.{PredImage, CompareNode, AndNode, OrNode, NotNode}
 use Rattle.smk_model.specs.Kinds.{kind_of, wider}
@@ -124,7 +125,7 @@ pub record TypedGroup : Type 0 where
 abbrev pub whole_group : ℕ → List ℕ → List Agg → List Column → Typed TypedGroup
 whole_group at keys listed columns =
     unless (nat_eq (length columns) 0) (EmptyList at)
-    (unless (nat_lt 16 (length columns)) (RowTooWide at) (Ok (record { keys = keys; aggs = listed; columns = columns })))
+    (unless (nat_lt COLUMN_LIMIT (length columns)) (RowTooWide at) (Ok (record { keys = keys; aggs = listed; columns = columns })))
 
 -- a grouping: its keys, then its aggregates, then the whole; its columns are the keys, then the aggregates
 abbrev pub typed_group : List Column → ℕ → List Word → List AggTree → Typed TypedGroup
@@ -148,7 +149,7 @@ share_a_name lefts rights = list_any (λ left. list_any (has_name left.name) rig
 abbrev pub joined : ℕ → List Column → List Column → Typed (List Column)
 joined at lefts rights =
     unless (share_a_name lefts rights) (DuplicateName at)
-    (unless (nat_lt 16 (length lefts + length rights)) (RowTooWide at) (Ok (lefts ++ rights)))
+    (unless (nat_lt COLUMN_LIMIT (length lefts + length rights)) (RowTooWide at) (Ok (lefts ++ rights)))
 
 -- whether there are as many columns on both sides, in each place both ints or both texts
 abbrev pub same_shape : List Column → List Column → Bool
