@@ -12,6 +12,7 @@ use Rattle.smk_base.specs.declared.reply.Refusal.TheVariants.{Undeclared}
 use Rattle.smk_base.specs.declared.reply.Reply.{Reply}
 use Rattle.smk_base.specs.declared.reply.Reply.TheVariants as replies
 use Rattle.smk_base.specs.declared.tree.Then.TheVariants as thens
+use Rattle.smk_base.specs.declared.rel.TheConstants.{COLUMN_LIMIT}
 use Rattle.smk_model.specs.Values.{Row}
 use Rattle.smk_model.specs.Asks.{AskPlan, ask_over, asked_plan, back_line, columns_named, scan_of, step_after, steps_reply, typed_steps}
 use Rattle.smk_model.specs.AskLaws.{AskedBacksFit, AsksFit}
@@ -33,7 +34,7 @@ rows_stand : (catalog : CatalogImage) (state : State) (asked : AskImage) (t : �
 rows_stand catalog state asked t rids checked h =
     let found = table_found catalog asked.table t h in
     let low : t < length catalog.tables = (position-Some (λ (table : TableInfo). same_name table.name asked.table) catalog.tables t no_table h).0 in
-    let few : length (info_at catalog.tables t).cols ≤ 16 = checked.limits.few_columns t no_table low in
+    let few : length (info_at catalog.tables t).cols ≤ COLUMN_LIMIT = checked.limits.few_columns t no_table low in
     record {
       known = rw found refl;
       kinds = rw found refl;

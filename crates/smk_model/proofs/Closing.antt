@@ -5,6 +5,7 @@ use Rattle.smk_base.specs.declared.token.TokenKind.{TokenKind}
 use Rattle.smk_base.specs.declared.token.TokenKind.TheVariants as kinds
 use Rattle.smk_base.specs.declared.fault.Many.{Many}
 use Rattle.smk_base.specs.declared.fault.BookFault.TheVariants.{TooMany, BadNumber}
+use Rattle.smk_base.specs.declared.limits.TheConstants.{TABLE_LIMIT, VIEW_LIMIT, LINEAGE_LIMIT, LINK_LIMIT}
 use Rattle.smk_model.specs.Tokens.{Token, Front, Between, Begins, put, front, tokens_from, tokens, is_more}
 use Rattle.smk_model.specs.Machine.{Configuration, PlanCounts, Tally, Symbol, Move, Takes, Skips, Wrong, Past, Outside, through, settle, move_of, go_on, or_next, within, fault_at, fault_in, book_symbols, any_symbols, no_counts, book_fault, any_fault, at_stmts, at_end, AToken, AStmts, AnEnd}
 use Rattle.smk_model.specs.GrammarLaws.{Finishes}
@@ -56,11 +57,11 @@ lim true what m h = h
 lim false what m h = tt
 
 stmts : (y : Tally) (k : TokenKind) → (k ≡ kinds.End → ⊥) → StaysClosed (or_next (at_stmts y k) [] Skips)
-stmts y kinds.Table n = lim (nat_lt y.tables 16) _ _ refl
-stmts y kinds.View n = lim (nat_lt y.views 64) _ _ refl
-stmts y kinds.Lineage n = lim (nat_lt y.lineages 256) _ _ refl
-stmts y kinds.Link n = lim (nat_lt y.links 64) _ _ refl
-stmts y kinds.Fd n = lim (nat_lt y.views 64) _ _ (lim (nat_lt y.lineages 256) _ _ refl)
+stmts y kinds.Table n = lim (nat_lt y.tables TABLE_LIMIT) _ _ refl
+stmts y kinds.View n = lim (nat_lt y.views VIEW_LIMIT) _ _ refl
+stmts y kinds.Lineage n = lim (nat_lt y.lineages LINEAGE_LIMIT) _ _ refl
+stmts y kinds.Link n = lim (nat_lt y.links LINK_LIMIT) _ _ refl
+stmts y kinds.Fd n = lim (nat_lt y.views VIEW_LIMIT) _ _ (lim (nat_lt y.lineages LINEAGE_LIMIT) _ _ refl)
 stmts y kinds.End n = absurd (n refl)
 stmts y _ n = tt
 

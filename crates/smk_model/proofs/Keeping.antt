@@ -12,6 +12,7 @@ use Rattle.smk_base.specs.declared.fault.BookFault.TheVariants.{TooMany}
 use Rattle.smk_base.specs.Trees.{StmtImage, AskImage}
 use Rattle.smk_model.specs.Tokens.{Token, Keyword, keywords, kind_in, word_kind, is_gap, is_letter, is_word_byte, no_line_end, is_quoted_byte, number_kind, digits_value, int_value, string_len, Front, Between, Begins, string_front, quoted_front, or_equal, unequal_front, minus_front, number_front, word_front, symbol_front, front, is_more, put, tokens_from, tokens}
 use Rattle.smk_base.specs.declared.tree.Marks.{Marks}
+use Rattle.smk_base.specs.declared.limits.TheConstants.{NODE_LIMIT}
 use Rattle.smk_model.specs.Grammar.{AreMarks, all_marks, listed_marks, listed, IsAskLine, ask_line, asked_line, whole_any_line}
 use Rattle.smk_model.specs.Limits.{KeepsLimits, HasMarks, KeepsAsk}
 use Rattle.smk_model.specs.Machine.{fault_in, book_symbols, any_symbols, no_counts}
@@ -159,7 +160,7 @@ asks_some (ask_line i j v m k w x s ss) = (marked m, λ e. absurd (cc))
 pub faultless_asks_keep_limits : FaultlessAsksKeepLimits
 faultless_asks_keep_limits text asked (whole_any_line {b = b} (asked_line p) h) none = by ((whole_ask_text p h).goes no_counts [])
   where
-    few : {n m : ℕ} → m + 0 ≡ 0 + n → (0 ≤ 64 → m ≤ 64) → n ≤ 64
+    few : {n m : ℕ} → m + 0 ≡ 0 + n → (0 ≤ NODE_LIMIT → m ≤ NODE_LIMIT) → n ≤ NODE_LIMIT
     few e f = let g = f (omega arith) in omega (arith, e, g)
 
     by : Gets (Unit {0}) (Adds 0 (length asked.steps) (Ranged (tokens text) → All Keeps asked.steps) no_counts) any_symbols [] no_counts (tokens text) b → KeepsAsk asked

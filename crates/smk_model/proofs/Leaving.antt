@@ -4,6 +4,8 @@ use Rattle.std.proofs.Common.{◌≡◌, ℕ, ◌+◌, List, [], ◌∷◌, ◌+
 use Rattle.smk_base.specs.declared.token.TokenKind.{TokenKind}
 use Rattle.smk_base.specs.declared.token.TokenKind.TheVariants as kinds
 use Rattle.smk_base.specs.declared.fault.Many.{Many}
+use Rattle.smk_base.specs.declared.limits.TheConstants.{TABLE_LIMIT, VIEW_LIMIT, LINEAGE_LIMIT, LINK_LIMIT, NODE_LIMIT, COMPARE_LIMIT, DEPTH_LIMIT}
+use Rattle.smk_base.specs.declared.rel.TheConstants.{COLUMN_LIMIT}
 use Rattle.smk_model.specs.Tokens.{Token, int_value}
 use Rattle.smk_model.specs.TokenKinds.{same_kind}
 use Rattle.smk_model.specs.Machine.{PlanCounts, Tally, Symbol, Move, Takes, Skips, Wrong, Past, Outside, settle, or_next, within, move_of, no_counts, is_mark, is_short, at_name, at_column, at_first, at_item, at_literal, at_width, at_type, at_default, at_as, at_what, at_keys, at_aggs, at_linked, at_more, at_source, at_steps, step_symbols, node_move, at_on, at_united, at_prim, at_ands, at_ors, at_op, at_term, at_stmts, at_lineage, at_extra, at_line, at_line_column, at_mark, at_marks, at_then, at_cleared, at_any_line, ask_symbols, at_ask_steps, at_end, AToken, AName, AColumn, ALiteral, AWidth, AType, ADefault, AnAs, AWhat, AKeys, AnAggs, AFirst, AnItem, ALinked, MoreDecls, MoreItems, MoreKeys, MoreAggs, MorePairs, MoreLinked, ASource, ASteps, AStep, AUnited, APrim, AnAnds, AnOrs, AnOn, AnOp, ATerm, AStmts, ALineage, AnExtra, ALine, ALineName, ALineColumn, AMarks, AMark, MoreMarks, AThen, ACleared, AnEnd, AnyLine, AnAskStep, AskSteps}
@@ -36,8 +38,8 @@ column c ss short kinds.Quoted h = lim short _ (Takes c ss) h
 column c ss short _ h = refl
 
 first : (c : PlanCounts) (n : ℕ) (ss : List Symbol) (short : Bool) (k : TokenKind) → no_ends ss ≡ true → leaves_none (at_first c n ss short k) ≡ true
-first c n ss short kinds.Name h = lim (nat_lt n 16) _ _ (lim short _ (Takes c ss) h)
-first c n ss short kinds.Quoted h = lim (nat_lt n 16) _ _ (lim short _ (Takes c ss) h)
+first c n ss short kinds.Name h = lim (nat_lt n COLUMN_LIMIT) _ _ (lim short _ (Takes c ss) h)
+first c n ss short kinds.Quoted h = lim (nat_lt n COLUMN_LIMIT) _ _ (lim short _ (Takes c ss) h)
 first c n ss short _ h = refl
 
 a_name : (c : PlanCounts) (short : Bool) (k : TokenKind) → leaves_none (at_name c short k) ≡ true
@@ -102,13 +104,13 @@ a_keys c short kinds.Quoted = first c 0 (MoreKeys 1 ∷ []) short kinds.Quoted r
 a_keys c short _ = refl
 
 an_item : (c : PlanCounts) (n : ℕ) (short : Bool) (k : TokenKind) → leaves_none (at_item c n short k) ≡ true
-an_item c n short kinds.Bin = lim (nat_lt n 16) _ (Takes c (AToken kinds.Open ∷ AColumn ∷ AToken kinds.Comma ∷ AWidth ∷ AToken kinds.Close ∷ AToken kinds.As ∷ AColumn ∷ [])) refl
+an_item c n short kinds.Bin = lim (nat_lt n COLUMN_LIMIT) _ (Takes c (AToken kinds.Open ∷ AColumn ∷ AToken kinds.Comma ∷ AWidth ∷ AToken kinds.Close ∷ AToken kinds.As ∷ AColumn ∷ [])) refl
 an_item c n short kinds.Name = first c n (AnAs ∷ []) short kinds.Name refl
 an_item c n short kinds.Quoted = first c n (AnAs ∷ []) short kinds.Quoted refl
 an_item c n short _ = refl
 
 a_linked : (c : PlanCounts) (n : ℕ) (short : Bool) (k : TokenKind) → leaves_none (at_linked c n short k) ≡ true
-a_linked c n short kinds.Name = lim (nat_lt n 64) _ _ (lim short _ (Takes c []) refl)
+a_linked c n short kinds.Name = lim (nat_lt n LINK_LIMIT) _ _ (lim short _ (Takes c []) refl)
 a_linked c n short _ = refl
 
 more : (c : PlanCounts) (ss : List Symbol) (k : TokenKind) → no_ends ss ≡ true → leaves_none (at_more c ss k) ≡ true
@@ -116,13 +118,13 @@ more c ss kinds.Comma h = h
 more c ss _ h = refl
 
 a_source : (c : PlanCounts) (d : ℕ) (k : TokenKind) → leaves_none (at_source c d k) ≡ true
-a_source c d kinds.Scan = lim (nat_lt c.nodes 64) _ (Takes _ (AName ∷ [])) refl
-a_source c d kinds.Open = lim (nat_lt d 32) _ (Takes c (ASource (d + 1) ∷ ASteps (d + 1) ∷ AToken kinds.Close ∷ [])) refl
+a_source c d kinds.Scan = lim (nat_lt c.nodes NODE_LIMIT) _ (Takes _ (AName ∷ [])) refl
+a_source c d kinds.Open = lim (nat_lt d DEPTH_LIMIT) _ (Takes c (ASource (d + 1) ∷ ASteps (d + 1) ∷ AToken kinds.Close ∷ [])) refl
 a_source c d _ = refl
 
 an_united : (c : PlanCounts) (d : ℕ) (k : TokenKind) → leaves_none (at_united c d k) ≡ true
-an_united c d kinds.Scan = lim (nat_lt c.nodes 64) _ (Takes _ (AName ∷ [])) refl
-an_united c d kinds.Open = lim (nat_lt d 32) _ (Takes c (ASource (d + 1) ∷ ASteps (d + 1) ∷ AToken kinds.Close ∷ [])) refl
+an_united c d kinds.Scan = lim (nat_lt c.nodes NODE_LIMIT) _ (Takes _ (AName ∷ [])) refl
+an_united c d kinds.Open = lim (nat_lt d DEPTH_LIMIT) _ (Takes c (ASource (d + 1) ∷ ASteps (d + 1) ∷ AToken kinds.Close ∷ [])) refl
 an_united c d _ = refl
 
 some_steps : (c : PlanCounts) (d : ℕ) (k : TokenKind) → leaves_none (at_steps c d k) ≡ true
@@ -146,7 +148,7 @@ step_ends d kinds.All = refl
 step_ends d _ = refl
 
 a_step : (c : PlanCounts) (l : Option (List Symbol)) → step_leaves l ≡ true → leaves_none (node_move c l) ≡ true
-a_step c (Some l) h = lim (nat_lt c.nodes 64) _ (Takes _ l) h
+a_step c (Some l) h = lim (nat_lt c.nodes NODE_LIMIT) _ (Takes _ l) h
 a_step c None h = refl
 
 asked_ends : (k : TokenKind) → step_leaves (ask_symbols k) ≡ true
@@ -158,10 +160,10 @@ an_on c kinds.All = refl
 an_on c _ = refl
 
 a_prim : (c : PlanCounts) (d : ℕ) (short : Bool) (k : TokenKind) → leaves_none (at_prim c d short k) ≡ true
-a_prim c d short kinds.Not = lim (nat_lt d 32) _ (Takes c (APrim (d + 1) ∷ [])) refl
-a_prim c d short kinds.Open = lim (nat_lt d 32) _ (Takes c (APrim (d + 1) ∷ AnAnds (d + 1) ∷ AnOrs (d + 1) ∷ AToken kinds.Close ∷ [])) refl
-a_prim c d short kinds.Name = lim (nat_lt c.compares 128) _ _ (column (record { nodes = c.nodes; compares = c.compares + 1 }) (AnOp ∷ ATerm ∷ []) short kinds.Name refl)
-a_prim c d short kinds.Quoted = lim (nat_lt c.compares 128) _ _ (column (record { nodes = c.nodes; compares = c.compares + 1 }) (AnOp ∷ ATerm ∷ []) short kinds.Quoted refl)
+a_prim c d short kinds.Not = lim (nat_lt d DEPTH_LIMIT) _ (Takes c (APrim (d + 1) ∷ [])) refl
+a_prim c d short kinds.Open = lim (nat_lt d DEPTH_LIMIT) _ (Takes c (APrim (d + 1) ∷ AnAnds (d + 1) ∷ AnOrs (d + 1) ∷ AToken kinds.Close ∷ [])) refl
+a_prim c d short kinds.Name = lim (nat_lt c.compares COMPARE_LIMIT) _ _ (column (record { nodes = c.nodes; compares = c.compares + 1 }) (AnOp ∷ ATerm ∷ []) short kinds.Name refl)
+a_prim c d short kinds.Quoted = lim (nat_lt c.compares COMPARE_LIMIT) _ _ (column (record { nodes = c.nodes; compares = c.compares + 1 }) (AnOp ∷ ATerm ∷ []) short kinds.Quoted refl)
 a_prim c d short _ = refl
 
 a_term : (c : PlanCounts) (short : Bool) (k : TokenKind) → leaves_none (at_term c short k) ≡ true
@@ -170,11 +172,11 @@ a_term c short kinds.Quoted = column c [] short kinds.Quoted refl
 a_term c short _ = refl
 
 some_stmts : (y : Tally) (k : TokenKind) → leaves_none (at_stmts y k) ≡ true
-some_stmts y kinds.Table = lim (nat_lt y.tables 16) _ (Takes no_counts (AName ∷ AToken kinds.From ∷ AToken kinds.Str ∷ AToken kinds.Open ∷ AFirst 0 ∷ AType ∷ ADefault ∷ MoreDecls 1 ∷ AToken kinds.Close ∷ AStmts (record y { tables = y.tables + 1 }) ∷ [])) refl
-some_stmts y kinds.View = lim (nat_lt y.views 64) _ (Takes no_counts (AName ∷ AToken kinds.Equal ∷ ASource 0 ∷ ASteps 0 ∷ AStmts (record y { views = y.views + 1 }) ∷ [])) refl
-some_stmts y kinds.Lineage = lim (nat_lt y.lineages 256) _ (Takes no_counts (ALineage ∷ AStmts (record y { lineages = y.lineages + 1 }) ∷ [])) refl
-some_stmts y kinds.Link = lim (nat_lt y.links 64) _ (Takes no_counts (AName ∷ AToken kinds.On ∷ AName ∷ AToken kinds.To ∷ ALinked 0 ∷ MoreLinked 1 ∷ AStmts (record y { links = y.links + 1 }) ∷ [])) refl
-some_stmts y kinds.Fd = lim (nat_lt y.views 64) _ _ (lim (nat_lt y.lineages 256) _ (Takes no_counts (AName ∷ AToken kinds.On ∷ AName ∷ AFirst 0 ∷ MoreKeys 1 ∷ AToken kinds.To ∷ AColumn ∷ AStmts (record y { views = y.views + 1; lineages = y.lineages + 1 }) ∷ [])) refl)
+some_stmts y kinds.Table = lim (nat_lt y.tables TABLE_LIMIT) _ (Takes no_counts (AName ∷ AToken kinds.From ∷ AToken kinds.Str ∷ AToken kinds.Open ∷ AFirst 0 ∷ AType ∷ ADefault ∷ MoreDecls 1 ∷ AToken kinds.Close ∷ AStmts (record y { tables = y.tables + 1 }) ∷ [])) refl
+some_stmts y kinds.View = lim (nat_lt y.views VIEW_LIMIT) _ (Takes no_counts (AName ∷ AToken kinds.Equal ∷ ASource 0 ∷ ASteps 0 ∷ AStmts (record y { views = y.views + 1 }) ∷ [])) refl
+some_stmts y kinds.Lineage = lim (nat_lt y.lineages LINEAGE_LIMIT) _ (Takes no_counts (ALineage ∷ AStmts (record y { lineages = y.lineages + 1 }) ∷ [])) refl
+some_stmts y kinds.Link = lim (nat_lt y.links LINK_LIMIT) _ (Takes no_counts (AName ∷ AToken kinds.On ∷ AName ∷ AToken kinds.To ∷ ALinked 0 ∷ MoreLinked 1 ∷ AStmts (record y { links = y.links + 1 }) ∷ [])) refl
+some_stmts y kinds.Fd = lim (nat_lt y.views VIEW_LIMIT) _ _ (lim (nat_lt y.lineages LINEAGE_LIMIT) _ (Takes no_counts (AName ∷ AToken kinds.On ∷ AName ∷ AFirst 0 ∷ MoreKeys 1 ∷ AToken kinds.To ∷ AColumn ∷ AStmts (record y { views = y.views + 1; lineages = y.lineages + 1 }) ∷ [])) refl)
 some_stmts y _ = refl
 
 a_mark : (c : PlanCounts) (ss : List Symbol) (v : ℤ) (k : TokenKind) → no_ends ss ≡ true → leaves_none (at_mark c ss v k) ≡ true

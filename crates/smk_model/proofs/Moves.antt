@@ -18,6 +18,8 @@ use Rattle.smk_base.specs.declared.tree.Marks.{Marks}
 use Rattle.smk_base.specs.declared.tree.Then.{Then}
 use Rattle.smk_base.specs.declared.tree.Line.{Line}
 use Rattle.smk_base.specs.Trees.{PredImage, AndNode, OrNode, TreeImage, StepNode, StepImage, SelectNode, ProjectNode, DistinctNode, GroupNode, JoinNode, ThetaNode, ProductNode, UnionAllNode, UnionNode, StmtImage, AskStepImage, AnyLineImage}
+use Rattle.smk_base.specs.declared.limits.TheConstants.{TABLE_LIMIT, VIEW_LIMIT, LINEAGE_LIMIT, LINK_LIMIT, NODE_LIMIT, COMPARE_LIMIT, DEPTH_LIMIT}
+use Rattle.smk_base.specs.declared.rel.TheConstants.{COLUMN_LIMIT}
 use Rattle.smk_model.specs.Tokens.{Token, head_of, int_value}
 use Rattle.smk_model.specs.TokenKinds.{same_kind}
 use Rattle.smk_model.specs.Grammar.{First, plain_word, IsName, name, IsColumn, plain, quoted, IsLiteral, number, string, IsFile, file, AreMore, no_more, one_more, listed, IsType, int_type, text_type, IsDefault, no_default, default, IsDecl, decl, IsNamed, by_itself, by_as, IsWidth, width, IsItem, column_item, bin_item, IsWhat, count, sum, min, max, IsAgg, agg, AreKeys, no_keys, keys, AreAggs, no_aggs, aggs, IsPair, pair, IsOp, eq, ne, lt, le, gt, ge, IsTerm, column_term, literal_term, IsPrim, negated, bracketed, compared, conj, AreAnds, no_and, one_and, pred, AreOrs, no_or, one_or, plan, IsSource, scan, inner_plan, AreSteps, no_step, one_step, IsStep, where_step, project_step, distinct_step, group_step, join_step, theta_step, product_step, union_all_step, union_step, IsExtra, no_extra, by_extra, group_extra, IsStmt, table_stmt, view_stmt, back_stmt, fwd_stmt, link_stmt, depends_stmt, AreStmts, one_stmt, IsMark, mark, AreMarks, all_marks, listed_marks, IsThen, no_then, where_then, group_then, IsLine, show_line, back_line, fwd_line, brush_line, clear_line, clear_one_line, HasOneInput, IsAskStep, ask_step, AreAskSteps, no_ask_step, one_ask_step, ask_line, IsAnyLine, plain_line, asked_line, profiled_line, appended_line}
@@ -113,8 +115,8 @@ columns c ss x t f short kinds.Quoted e = lim short _ (Takes c ss) x t (λ a b h
 columns c ss x t f short _ e = tt
 
 firsts : (c : PlanCounts) (n : ℕ) (ss : List Symbol) (x : Symbol) (t : Token) → ((a b : List Token) (w : Word) → IsColumn (t ∷ a) a w → AreSymbols ss a b → IsSymbol x (t ∷ a) b) → (short : Bool) (k : TokenKind) → t.kind ≡ k → Moves (at_first c n ss short k) x t
-firsts c n ss x t f short kinds.Name e = lim (nat_lt n 16) _ _ x t (lim short _ (Takes c ss) x t (λ a b h. f a b _ (plain (here t a kinds.Name e)) h))
-firsts c n ss x t f short kinds.Quoted e = lim (nat_lt n 16) _ _ x t (lim short _ (Takes c ss) x t (λ a b h. f a b _ (quoted (here t a kinds.Quoted e)) h))
+firsts c n ss x t f short kinds.Name e = lim (nat_lt n COLUMN_LIMIT) _ _ x t (lim short _ (Takes c ss) x t (λ a b h. f a b _ (plain (here t a kinds.Name e)) h))
+firsts c n ss x t f short kinds.Quoted e = lim (nat_lt n COLUMN_LIMIT) _ _ x t (lim short _ (Takes c ss) x t (λ a b h. f a b _ (quoted (here t a kinds.Quoted e)) h))
 firsts c n ss x t f short _ e = tt
 
 mores : (c : PlanCounts) (ss : List Symbol) (x : Symbol) (t : Token) → ((a b : List Token) → First kinds.Comma t (t ∷ a) a → AreSymbols ss a b → IsSymbol x (t ∷ a) b) → ((a : List Token) → IsSymbol x a a) → (k : TokenKind) → t.kind ≡ k → Moves (at_more c ss k) x t
@@ -129,8 +131,8 @@ tokens_moves c k x t f = by (same_kind k t.kind) refl
     by false e = tt
 
 sources : (c : PlanCounts) (d : ℕ) (x : Symbol) (t : Token) → ((a b : List Token) (y : TreeImage) → IsSource (t ∷ a) b y → IsSymbol x (t ∷ a) b) → (k : TokenKind) → t.kind ≡ k → Moves (at_source c d k) x t
-sources c d x t f kinds.Scan e = lim (nat_lt c.nodes 64) _ (Takes _ (AName ∷ [])) x t (λ a b h. let n = ends AName a b h in f a b _ (scan (here t a kinds.Scan e) n.1))
-sources c d x t f kinds.Open e = lim (nat_lt d 32) _ (Takes c (ASource (d + 1) ∷ ASteps (d + 1) ∷ AToken kinds.Close ∷ [])) x t
+sources c d x t f kinds.Scan e = lim (nat_lt c.nodes NODE_LIMIT) _ (Takes _ (AName ∷ [])) x t (λ a b h. let n = ends AName a b h in f a b _ (scan (here t a kinds.Scan e) n.1))
+sources c d x t f kinds.Open e = lim (nat_lt d DEPTH_LIMIT) _ (Takes c (ASource (d + 1) ∷ ASteps (d + 1) ∷ AToken kinds.Close ∷ [])) x t
     (λ a b h. let s = h.2.1 h.1.0 in let k = ends (AToken kinds.Close) h.2.0 b h.2.2 in f a b _ (inner_plan (here t a kinds.Open e) (plan h.1.1 s.1) k.1))
 sources c d x t f _ e = tt
 
@@ -181,14 +183,14 @@ aggs_moves c t kinds.OpenBrace e = λ a b h. let k = ends (AToken kinds.CloseBra
 aggs_moves c t _ e = λ n a. ([], no_aggs)
 
 item_moves : (c : PlanCounts) (n : ℕ) (t : Token) (short : Bool) (k : TokenKind) → t.kind ≡ k → Moves (at_item c n short k) (AnItem n) t
-item_moves c n t short kinds.Bin e = lim (nat_lt n 16) _ (Takes c (AToken kinds.Open ∷ AColumn ∷ AToken kinds.Comma ∷ AWidth ∷ AToken kinds.Close ∷ AToken kinds.As ∷ AColumn ∷ [])) (AnItem n) t
+item_moves c n t short kinds.Bin e = lim (nat_lt n COLUMN_LIMIT) _ (Takes c (AToken kinds.Open ∷ AColumn ∷ AToken kinds.Comma ∷ AWidth ∷ AToken kinds.Close ∷ AToken kinds.As ∷ AColumn ∷ [])) (AnItem n) t
     (λ a b h. let m = ends AColumn h.2.2.2.2.2.0 b h.2.2.2.2.2.2 in (_, bin_item (here t a kinds.Bin e) h.1.1 h.2.1.1 h.2.2.1.1 h.2.2.2.1.1 h.2.2.2.2.1.1 h.2.2.2.2.2.1.1 m.1))
 item_moves c n t short kinds.Name e = firsts c n (AnAs ∷ []) (AnItem n) t (λ a b w p h. let l = ends AnAs a b h w in (_, column_item p l.1)) short kinds.Name e
 item_moves c n t short kinds.Quoted e = firsts c n (AnAs ∷ []) (AnItem n) t (λ a b w p h. let l = ends AnAs a b h w in (_, column_item p l.1)) short kinds.Quoted e
 item_moves c n t short _ e = tt
 
 linked_moves : (c : PlanCounts) (n : ℕ) (t : Token) (short : Bool) (k : TokenKind) → t.kind ≡ k → Moves (at_linked c n short k) (ALinked n) t
-linked_moves c n t short kinds.Name e = lim (nat_lt n 64) _ _ (ALinked n) t (lim short _ (Takes c []) (ALinked n) t (λ a b h. alone (ALinked n) (t ∷ a) a b h (_, name (here t a kinds.Name e))))
+linked_moves c n t short kinds.Name e = lim (nat_lt n LINK_LIMIT) _ _ (ALinked n) t (lim short _ (Takes c []) (ALinked n) t (λ a b h. alone (ALinked n) (t ∷ a) a b h (_, name (here t a kinds.Name e))))
 linked_moves c n t short _ e = tt
 
 steps_moves : (c : PlanCounts) (d : ℕ) (t : Token) (k : TokenKind) → t.kind ≡ k → Moves (at_steps c d k) (ASteps d) t
@@ -212,7 +214,7 @@ step_is d t kinds.Union e = λ a b h. ends (AUnited d) a b h (t ∷ a) t (here t
 step_is d t _ e = tt
 
 step_moves : (c : PlanCounts) (d : ℕ) (t : Token) (l : Option (List Symbol)) → StepMoves d t l → Moves (node_move c l) (AStep d) t
-step_moves c d t (Some l) h = lim (nat_lt c.nodes 64) _ (Takes _ l) (AStep d) t h
+step_moves c d t (Some l) h = lim (nat_lt c.nodes NODE_LIMIT) _ (Takes _ l) (AStep d) t h
 step_moves c d t None h = tt
 
 on_moves : (c : PlanCounts) (t : Token) (k : TokenKind) → t.kind ≡ k → Moves (at_on c k) AnOn t
@@ -226,11 +228,11 @@ united_moves c d t kinds.Open e = sources c d (AUnited d) t (λ a b y p z u g. (
 united_moves c d t _ e = tt
 
 compare_moves : (c : PlanCounts) (d : ℕ) (t : Token) (short : Bool) (k : TokenKind) → t.kind ≡ k → Moves (at_compare c short k) (APrim d) t
-compare_moves c d t short k e = lim (nat_lt c.compares 128) _ (at_column (record { nodes = c.nodes; compares = c.compares + 1 }) (AnOp ∷ ATerm ∷ []) short k) (APrim d) t (columns (record { nodes = c.nodes; compares = c.compares + 1 }) (AnOp ∷ ATerm ∷ []) (APrim d) t (λ a b w p h. let x = ends ATerm h.0 b h.2 in (_, compared p h.1.1 x.1)) short k e)
+compare_moves c d t short k e = lim (nat_lt c.compares COMPARE_LIMIT) _ (at_column (record { nodes = c.nodes; compares = c.compares + 1 }) (AnOp ∷ ATerm ∷ []) short k) (APrim d) t (columns (record { nodes = c.nodes; compares = c.compares + 1 }) (AnOp ∷ ATerm ∷ []) (APrim d) t (λ a b w p h. let x = ends ATerm h.0 b h.2 in (_, compared p h.1.1 x.1)) short k e)
 
 prim_moves : (c : PlanCounts) (d : ℕ) (t : Token) (short : Bool) (k : TokenKind) → t.kind ≡ k → Moves (at_prim c d short k) (APrim d) t
-prim_moves c d t short kinds.Not e = lim (nat_lt d 32) _ (Takes c (APrim (d + 1) ∷ [])) (APrim d) t (λ a b h. let p = ends (APrim (d + 1)) a b h in (_, negated (here t a kinds.Not e) p.1))
-prim_moves c d t short kinds.Open e = lim (nat_lt d 32) _ (Takes c (APrim (d + 1) ∷ AnAnds (d + 1) ∷ AnOrs (d + 1) ∷ AToken kinds.Close ∷ [])) (APrim d) t
+prim_moves c d t short kinds.Not e = lim (nat_lt d DEPTH_LIMIT) _ (Takes c (APrim (d + 1) ∷ [])) (APrim d) t (λ a b h. let p = ends (APrim (d + 1)) a b h in (_, negated (here t a kinds.Not e) p.1))
+prim_moves c d t short kinds.Open e = lim (nat_lt d DEPTH_LIMIT) _ (Takes c (APrim (d + 1) ∷ AnAnds (d + 1) ∷ AnOrs (d + 1) ∷ AToken kinds.Close ∷ [])) (APrim d) t
     (λ a b h. let s = h.2.1 h.1.0 in let r = h.2.2.1 s.0 in let k = ends (AToken kinds.Close) h.2.2.0 b h.2.2.2 in (_, bracketed (here t a kinds.Open e) (pred (conj h.1.1 s.1) r.1) k.1))
 prim_moves c d t short kinds.Name e = compare_moves c d t short kinds.Name e
 prim_moves c d t short kinds.Quoted e = compare_moves c d t short kinds.Quoted e
@@ -264,15 +266,15 @@ string_file : (a b : List Token) → IsSymbol (AToken kinds.Str) a b → (n : Li
 string_file a b h = (_, file h.1)
 
 stmts_moves : (y : Tally) (t : Token) (k : TokenKind) → t.kind ≡ k → Moves (at_stmts y k) (AStmts y) t
-stmts_moves y t kinds.Table e = lim (nat_lt y.tables 16) _ (Takes no_counts (AName ∷ AToken kinds.From ∷ AToken kinds.Str ∷ AToken kinds.Open ∷ AFirst 0 ∷ AType ∷ ADefault ∷ MoreDecls 1 ∷ AToken kinds.Close ∷ AStmts (record y { tables = y.tables + 1 }) ∷ [])) (AStmts y) t
+stmts_moves y t kinds.Table e = lim (nat_lt y.tables TABLE_LIMIT) _ (Takes no_counts (AName ∷ AToken kinds.From ∷ AToken kinds.Str ∷ AToken kinds.Open ∷ AFirst 0 ∷ AType ∷ ADefault ∷ MoreDecls 1 ∷ AToken kinds.Close ∷ AStmts (record y { tables = y.tables + 1 }) ∷ [])) (AStmts y) t
     (λ a b h. (_, one_stmt (table_stmt (here t a kinds.Table e) h.1.1 h.2.1.1 (file h.2.2.1.1) h.2.2.2.1.1 (listed (decl h.2.2.2.2.1.1 h.2.2.2.2.2.1.1 h.2.2.2.2.2.2.1.1) h.2.2.2.2.2.2.2.1.1) h.2.2.2.2.2.2.2.2.1.1) h.2.2.2.2.2.2.2.2.2.1.1))
-stmts_moves y t kinds.View e = lim (nat_lt y.views 64) _ (Takes no_counts (AName ∷ AToken kinds.Equal ∷ ASource 0 ∷ ASteps 0 ∷ AStmts (record y { views = y.views + 1 }) ∷ [])) (AStmts y) t
+stmts_moves y t kinds.View e = lim (nat_lt y.views VIEW_LIMIT) _ (Takes no_counts (AName ∷ AToken kinds.Equal ∷ ASource 0 ∷ ASteps 0 ∷ AStmts (record y { views = y.views + 1 }) ∷ [])) (AStmts y) t
     (λ a b h. let s = h.2.2.2.1 h.2.2.1.0 in (_, one_stmt (view_stmt (here t a kinds.View e) h.1.1 h.2.1.1 (plan h.2.2.1.1 s.1)) h.2.2.2.2.1.1))
-stmts_moves y t kinds.Lineage e = lim (nat_lt y.lineages 256) _ (Takes no_counts (ALineage ∷ AStmts (record y { lineages = y.lineages + 1 }) ∷ [])) (AStmts y) t
+stmts_moves y t kinds.Lineage e = lim (nat_lt y.lineages LINEAGE_LIMIT) _ (Takes no_counts (ALineage ∷ AStmts (record y { lineages = y.lineages + 1 }) ∷ [])) (AStmts y) t
     (λ a b h. let s = h.1 (t ∷ a) t (here t a kinds.Lineage e) in (_, one_stmt s.1 h.2.1.1))
-stmts_moves y t kinds.Link e = lim (nat_lt y.links 64) _ (Takes no_counts (AName ∷ AToken kinds.On ∷ AName ∷ AToken kinds.To ∷ ALinked 0 ∷ MoreLinked 1 ∷ AStmts (record y { links = y.links + 1 }) ∷ [])) (AStmts y) t
+stmts_moves y t kinds.Link e = lim (nat_lt y.links LINK_LIMIT) _ (Takes no_counts (AName ∷ AToken kinds.On ∷ AName ∷ AToken kinds.To ∷ ALinked 0 ∷ MoreLinked 1 ∷ AStmts (record y { links = y.links + 1 }) ∷ [])) (AStmts y) t
     (λ a b h. (_, one_stmt (link_stmt (here t a kinds.Link e) h.1.1 h.2.1.1 h.2.2.1.1 h.2.2.2.1.1 (listed h.2.2.2.2.1.1 h.2.2.2.2.2.1.1)) h.2.2.2.2.2.2.1.1))
-stmts_moves y t kinds.Fd e = lim (nat_lt y.views 64) _ _ (AStmts y) t (lim (nat_lt y.lineages 256) _ (Takes no_counts (AName ∷ AToken kinds.On ∷ AName ∷ AFirst 0 ∷ MoreKeys 1 ∷ AToken kinds.To ∷ AColumn ∷ AStmts (record y { views = y.views + 1; lineages = y.lineages + 1 }) ∷ [])) (AStmts y) t
+stmts_moves y t kinds.Fd e = lim (nat_lt y.views VIEW_LIMIT) _ _ (AStmts y) t (lim (nat_lt y.lineages LINEAGE_LIMIT) _ (Takes no_counts (AName ∷ AToken kinds.On ∷ AName ∷ AFirst 0 ∷ MoreKeys 1 ∷ AToken kinds.To ∷ AColumn ∷ AStmts (record y { views = y.views + 1; lineages = y.lineages + 1 }) ∷ [])) (AStmts y) t
     (λ a b h. (_, one_stmt (depends_stmt (here t a kinds.Fd e) h.1.1 h.2.1.1 h.2.2.1.1 (listed h.2.2.2.1.1 h.2.2.2.2.1.1) h.2.2.2.2.2.1.1 h.2.2.2.2.2.2.1.1) h.2.2.2.2.2.2.2.1.1)))
 stmts_moves y t kinds.End e = λ n. absurd (n e)
 stmts_moves y t _ e = tt
@@ -340,7 +342,7 @@ pub asked_is : {a b : List Token} {n : ℕ} {s : StepImage} {k : TokenKind} → 
 asked_is {s = s} p e o = ask_step p (asked_has_one s (ap (λ k. is_some (ask_symbols k)) (sym (step_opening p) ∙ e) ∙ o))
 
 ask_step_moves : (c : PlanCounts) (t : Token) (l : Option (List Symbol)) → ask_symbols t.kind ≡ l → Moves (node_move c l) AnAskStep t
-ask_step_moves c t (Some l) e = lim (nat_lt c.nodes 64) _ (Takes _ l) AnAskStep t
+ask_step_moves c t (Some l) e = lim (nat_lt c.nodes NODE_LIMIT) _ (Takes _ l) AnAskStep t
     (λ a b h. let r = subst (StepMoves 0 t) (asked_step t.kind l e) (step_is 0 t t.kind refl) a b h in (_, asked_is r.2 refl (ap is_some e)))
 ask_step_moves c t None e = tt
 

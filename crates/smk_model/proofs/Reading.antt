@@ -10,6 +10,7 @@ use Rattle.smk_base.specs.declared.fault.Many.TheVariants.{Nodes}
 use Rattle.smk_base.specs.declared.fault.BookFault.TheVariants.{TooMany}
 use Rattle.smk_base.specs.declared.tree.Word.{Word}
 use Rattle.smk_base.specs.declared.tree.Lit.{Lit}
+use Rattle.smk_base.specs.declared.limits.TheConstants.{NODE_LIMIT}
 use Rattle.smk_model.specs.Tokens.{Token, head_of, int_value}
 use Rattle.smk_model.specs.TokenKinds.{same_kind}
 use Rattle.smk_model.specs.Grammar.{First, IsColumn, plain, quoted, IsLiteral, number, string, AreMore, no_more, one_more, AreListed, listed}
@@ -28,7 +29,7 @@ ranged_first h r = subst Ranged h.is_first r
 -- between these counts the nodes grow as from m to n and stay within the limit, and this is so
 pub record Adds (m n : ℕ) (F : Type 0) (c d : PlanCounts) : Type 0 where
   pub grows : d.nodes + m ≡ c.nodes + n
-  pub few : c.nodes ≤ 64 → d.nodes ≤ 64
+  pub few : c.nodes ≤ NODE_LIMIT → d.nodes ≤ NODE_LIMIT
   pub fact : F
 
 -- with these symbols behind, the first ones lead from a to b and to counts of which Q is known, or, where P allows it, there are too many of something
@@ -99,8 +100,8 @@ checked false what p h = passed p what
 pub limited : {P : Type 0} {m n : ℕ} {F : Type 0} {c : PlanCounts} {l : List Symbol} {move : Move} (fits : Bool) (what : Many) → P → Fits P m n F c l move → Fits P m n F c l (within fits what move)
 limited fits what p h = checked fits what p (λ e. h)
 
-pub one_node : {l : List Symbol} (c d : PlanCounts) → d.nodes ≡ c.nodes + 1 → Fits (Unit {0}) 0 1 (Unit {0}) c l (within (nat_lt c.nodes 64) Nodes (Takes d l))
-one_node c d e = checked (nat_lt c.nodes 64) Nodes tt (λ h. takes d (record { grows = let g = e in omega (arith, g); few = λ b. let g = e in let k = ltb-true c.nodes 64 h in omega (arith, g, k); fact = tt }))
+pub one_node : {l : List Symbol} (c d : PlanCounts) → d.nodes ≡ c.nodes + 1 → Fits (Unit {0}) 0 1 (Unit {0}) c l (within (nat_lt c.nodes NODE_LIMIT) Nodes (Takes d l))
+one_node c d e = checked (nat_lt c.nodes NODE_LIMIT) Nodes tt (λ h. takes d (record { grows = let g = e in omega (arith, g); few = λ b. let g = e in let k = ltb-true c.nodes NODE_LIMIT h in omega (arith, g, k); fact = tt }))
 
 pub holds : {P : Type 0} {m n : ℕ} {F : Type 0} {c : PlanCounts} {l : List Symbol} {move : Move} {o : Bool} (other : Move) → o ≡ true → Fits P m n F c l move → Fits P m n F c l (cond o move other)
 holds {P} {m} {n} {F} {c} {l} {move} {o} other e h = subst (λ o. Fits P m n F c l (cond o move other)) (sym e) h
@@ -188,13 +189,13 @@ ends_told {P} {F} {G} {c} {l} {a} {b} f h = record { goes = λ ss. by ss (h.goes
     by ss (over p at what e) = over p at what e
 
 -- nodes that are counted from 0 on are at most 64
-pub then_ends : {P F G : Type 0} {n : ℕ} {l k : List Symbol} {a b e : List Token} → Goes P 0 n F l a b → ((c : PlanCounts) → Ends P G c k b e) → Ends P ((n ≤ 64) × F × G) no_counts (l ++ k) a e
+pub then_ends : {P F G : Type 0} {n : ℕ} {l k : List Symbol} {a b e : List Token} → Goes P 0 n F l a b → ((c : PlanCounts) → Ends P G c k b e) → Ends P ((n ≤ NODE_LIMIT) × F × G) no_counts (l ++ k) a e
 then_ends {P} {F} {G} {n} {l} {k} {a} {b} {e} f g = record { goes = λ ss. by ss (f.goes no_counts (k ++ ss)) }
   where
-    small : (d : PlanCounts) → d.nodes + 0 ≡ 0 + n → (0 ≤ 64 → d.nodes ≤ 64) → n ≤ 64
+    small : (d : PlanCounts) → d.nodes + 0 ≡ 0 + n → (0 ≤ NODE_LIMIT → d.nodes ≤ NODE_LIMIT) → n ≤ NODE_LIMIT
     small d s t = let u = t (omega arith) in omega (arith, s, u)
 
-    by : (ss : List Symbol) → Gets P (Adds 0 n (Ranged a → F) no_counts) l (k ++ ss) no_counts a b → Gets P (λ d. Ranged a → ((n ≤ 64) × F × G)) (l ++ k) ss no_counts a e
+    by : (ss : List Symbol) → Gets P (Adds 0 n (Ranged a → F) no_counts) l (k ++ ss) no_counts a b → Gets P (λ d. Ranged a → ((n ≤ NODE_LIMIT) × F × G)) (l ++ k) ss no_counts a e
     by ss (on d y h) = after (l ++ k) k ss ss no_counts d a b e (ap (λ r. through r no_counts a) (append_assoc l k ss) ∙ h) (λ x. refl) (λ x t r. (small d y.grows y.few, y.fact r, t (f.left r))) ((g d).goes ss)
     by ss (over o at what h) = over o at what (ap (λ r. through r no_counts a) (append_assoc l k ss) ∙ h)
 

@@ -21,6 +21,7 @@ use Rattle.smk_base.specs.declared.type_fault.TypeFault.{TypeFault}
 use Rattle.smk_base.specs.declared.type_fault.TypeFault.TheVariants.{NoMemory, KindMismatch, DuplicateName, SumTooDeep, UnionShape, EmptyList, RowTooWide}
 use Rattle.smk_base.specs.Plans.{Binary, BagUnion, SetUnion, Comparison}
 use Rattle.smk_base.specs.Trees.{PredImage, CompareNode, AndNode, OrNode, NotNode, TreeImage, ScanNode, StepNode, StepImage, SelectNode, ProjectNode, DistinctNode, GroupNode, JoinNode, ThetaNode, ProductNode, UnionAllNode, UnionNode}
+use Rattle.smk_base.specs.declared.rel.TheConstants.{COLUMN_LIMIT}
 use Rattle.smk_model.specs.Names.{Typed, ◌>>=◌, unless, in_turn, has_name, column_named, same_sort, is_text}
 use Rattle.smk_model.specs.TypedSteps.{TypedPlan, TypedGroup, named, item_name, term_place, share_a_name, same_shape, united_column, typed_term, typed_pred, typed_item, item_after, typed_items, key_after, typed_sum, typed_agg, agg_after, whole_group, typed_group, pair_after, joined, united, united_plan}
 use Rattle.smk_model.specs.Typing.{table_named, typed_plan, typed_step}
@@ -81,7 +82,7 @@ agg_says columns (agg_trees.Max word) = next_says (column_named columns word) _ 
 whole_says : (at : ℕ) (keys : List ℕ) (listed : List Agg) (columns : List Column) → Says (whole_group at keys listed columns)
 whole_says at keys listed columns =
     let found : Typed TypedGroup = Ok (record { keys = keys; aggs = listed; columns = columns }) in
-    unless_says (EmptyList at) (λ e. cc e) (nat_eq (length columns) 0) (unless (nat_lt 16 (length columns)) (RowTooWide at) found) (unless_says (RowTooWide at) (λ e. cc e) (nat_lt 16 (length columns)) found tt)
+    unless_says (EmptyList at) (λ e. cc e) (nat_eq (length columns) 0) (unless (nat_lt COLUMN_LIMIT (length columns)) (RowTooWide at) found) (unless_says (RowTooWide at) (λ e. cc e) (nat_lt COLUMN_LIMIT (length columns)) found tt)
 
 group_says : (columns : List Column) (at : ℕ) (words : List Word) (trees : List AggTree) → Says (typed_group columns at words trees)
 group_says columns at words trees =
@@ -97,7 +98,7 @@ pairs_say lefts rights pairs = turn_says (pair_after lefts rights) (λ made pair
 joined_says : (at : ℕ) (lefts rights : List Column) → Says (joined at lefts rights)
 joined_says at lefts rights =
     let found : Typed (List Column) = Ok (lefts ++ rights) in
-    unless_says (DuplicateName at) (λ e. cc e) (share_a_name lefts rights) (unless (nat_lt 16 (length lefts + length rights)) (RowTooWide at) found) (unless_says (RowTooWide at) (λ e. cc e) (nat_lt 16 (length lefts + length rights)) found tt)
+    unless_says (DuplicateName at) (λ e. cc e) (share_a_name lefts rights) (unless (nat_lt COLUMN_LIMIT (length lefts + length rights)) (RowTooWide at) found) (unless_says (RowTooWide at) (λ e. cc e) (nat_lt COLUMN_LIMIT (length lefts + length rights)) found tt)
 
 united_says : (op : Binary) (at : ℕ) (left right : TypedPlan) → Says (united_plan op at left right)
 united_says op at left right = next_says (united at left.columns right.columns) _ (unless_says (UnionShape at) (λ e. cc e) (not (same_shape left.columns right.columns)) (Ok (map united_column (zip left.columns right.columns))) tt) (λ columns. tt)

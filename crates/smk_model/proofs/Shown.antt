@@ -29,6 +29,7 @@ use Rattle.smk_base.specs.declared.tree.Word.{Word}
 use Rattle.smk_base.specs.declared.type_fault.TypeFault.{TypeFault}
 use Rattle.smk_base.specs.declared.type_fault.TypeFault.TheVariants.{DuplicateName, EmptyList, RowTooWide}
 use Rattle.smk_base.specs.declared.value.Kind.{Kind}
+use Rattle.smk_base.specs.declared.rel.TheConstants.{COLUMN_LIMIT}
 use Rattle.smk_model.specs.Dependencies.{Dependency, dependency_of, plan_of, extremes, extremes_differ}
 use Rattle.smk_model.specs.Expanded.{least_word, most_word, bounds, violations_tree, dependency_name, dependency_names}
 use Rattle.smk_model.specs.Names.{Typed, ◌>>=◌, unless, in_turn, same_name, has_name, column_at, column_named}
@@ -251,8 +252,8 @@ listed_of columns at col xs l e =
 whole_of : (at : ℕ) (keys : List ℕ) (listed : List Agg) (columns : List Column) (group : TypedGroup) → whole_group at keys listed columns ≡ Ok group → group ≡ record { keys = keys; aggs = listed; columns = columns }
 whole_of at keys listed columns group e =
     let whole : TypedGroup = record { keys = keys; aggs = listed; columns = columns } in
-    let some = unless_ok (nat_eq (length columns) 0) (EmptyList at) (unless (nat_lt 16 (length columns)) (RowTooWide at) (Ok whole)) group e in
-    let few = unless_ok (nat_lt 16 (length columns)) (RowTooWide at) (Ok whole) group some.1 in
+    let some = unless_ok (nat_eq (length columns) 0) (EmptyList at) (unless (nat_lt COLUMN_LIMIT (length columns)) (RowTooWide at) (Ok whole)) group e in
+    let few = unless_ok (nat_lt COLUMN_LIMIT (length columns)) (RowTooWide at) (Ok whole) group some.1 in
     sym (ok_same whole group few.1)
 
 -- the grouping of the view

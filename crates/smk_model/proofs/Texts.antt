@@ -22,6 +22,8 @@ use Rattle.smk_base.specs.declared.tree.Then.{Then}
 use Rattle.smk_base.specs.declared.tree.Line.{Line}
 use Rattle.smk_base.specs.declared.tree.Line.TheVariants as lines
 use Rattle.smk_base.specs.Trees.{PredImage, TreeImage, StepImage, SelectNode, ProjectNode, DistinctNode, GroupNode, JoinNode, ThetaNode, ProductNode, UnionAllNode, UnionNode, StmtImage, TableNode, AskStepImage, AskImage, AnyLineImage, ProfiledLine, AppendedLine}
+use Rattle.smk_base.specs.declared.limits.TheConstants.{TABLE_LIMIT, VIEW_LIMIT, LINEAGE_LIMIT, LINK_LIMIT}
+use Rattle.smk_base.specs.declared.rel.TheConstants.{COLUMN_LIMIT}
 use Rattle.smk_model.specs.Tokens.{Token, head_of, int_value}
 use Rattle.smk_model.specs.Grammar.{First, IsName, name, IsColumn, number, string, IsFile, file, listed, IsType, int_type, text_type, IsDefault, no_default, default, IsDecl, decl, IsNamed, by_itself, by_as, IsWidth, width, IsItem, column_item, bin_item, IsWhat, count, sum, min, max, IsAgg, agg, AreKeys, no_keys, keys, AreAggs, no_aggs, aggs, IsPair, pair, IsOp, eq, ne, lt, le, gt, ge, IsTerm, column_term, literal_term, IsPrim, negated, bracketed, compared, IsConj, conj, AreAnds, no_and, one_and, IsPred, pred, AreOrs, no_or, one_or, IsPlan, plan, IsSource, scan, inner_plan, AreSteps, no_step, one_step, IsStep, where_step, project_step, distinct_step, group_step, join_step, theta_step, product_step, union_all_step, union_step, IsExtra, no_extra, by_extra, group_extra, table_stmt, view_stmt, back_stmt, fwd_stmt, link_stmt, depends_stmt, AreStmts, no_stmt, one_stmt, IsMark, mark, AreMarks, all_marks, listed_marks, IsThen, no_then, where_then, group_then, IsLine, show_line, back_line, fwd_line, brush_line, clear_line, clear_one_line, IsWholeLine, whole_line, HasOneInput, IsAskStep, ask_step, AreAskSteps, no_ask_step, one_ask_step, IsAskLine, ask_line, plain_line, asked_line, profiled_line, appended_line, IsWholeAnyLine, whole_any_line}
 use Rattle.smk_model.specs.Machine.{PlanCounts, Tally, Symbol, Skips, Outside, through, fault_in, book_symbols, any_symbols, no_counts, book_fault, line_fault, any_fault, is_mark, is_short, at_more, at_default, at_as, at_keys, at_aggs, at_ands, at_ors, at_steps, at_extra, at_then, at_cleared, at_line, at_any_line, step_symbols, ask_symbols, node_move, at_ask_steps, at_stmts, at_end, AToken, AName, AColumn, AWidth, AType, ADefault, AnAs, AWhat, AKeys, AnAggs, AFirst, AnItem, ALinked, MoreDecls, MoreItems, MoreKeys, MoreAggs, MorePairs, MoreLinked, ASource, ASteps, AStep, AUnited, APrim, AnAnds, AnOrs, AnOn, AnOp, ATerm, AStmts, AnExtra, ALine, ALineName, ALineColumn, AMarks, AMark, MoreMarks, AThen, AnEnd, AnyLine, AnAskStep, AskSteps}
@@ -48,12 +50,12 @@ Spells l a b = Goes ⊥ 0 0 (Unit {0}) l a b
 
 -- a place within the limit of columns
 abbrev IsPlace : ℕ → Type 0
-IsPlace k = nat_lt k 16 ≡ true
+IsPlace k = nat_lt k COLUMN_LIMIT ≡ true
 
-few_places : {T : Type 0} (Fact : ℕ → T → Type 0) (k : ℕ) (xs : List T) → ((k : ℕ) (x : T) → Fact k x → IsPlace k) → k ≤ 16 → Places Fact k xs → k + length xs ≤ 16
+few_places : {T : Type 0} (Fact : ℕ → T → Type 0) (k : ℕ) (xs : List T) → ((k : ℕ) (x : T) → Fact k x → IsPlace k) → k ≤ COLUMN_LIMIT → Places Fact k xs → k + length xs ≤ COLUMN_LIMIT
 few_places Fact k [] f b h = omega (arith, b)
 few_places Fact k (x ∷ xs) f b h =
-    let u = ltb-true k 16 (f k x h.0) in
+    let u = ltb-true k COLUMN_LIMIT (f k x h.0) in
     let v = few_places Fact (k + 1) xs f (omega (arith, u)) h.1 in
     omega (arith, v)
 
@@ -75,8 +77,8 @@ kept_decls {xs} h = record { few = let u = few_places DeclPlace 0 xs (λ k x f. 
 
 -- these statements, behind as many tables and views as are counted, keep the limits
 pub record Held (y : Tally) (ss : List StmtImage) : Type 0 where
-  pub few_tables : y.tables ≤ 16 → y.tables + count_by is_table ss ≤ 16
-  pub few_views : y.views ≤ 64 → y.views + count_by is_view ss ≤ 64
+  pub few_tables : y.tables ≤ TABLE_LIMIT → y.tables + count_by is_table ss ≤ TABLE_LIMIT
+  pub few_views : y.views ≤ VIEW_LIMIT → y.views + count_by is_view ss ≤ VIEW_LIMIT
   pub each : All KeepsStmt ss
 
 -- a symbol is nothing before a token that doesn't begin it
@@ -134,7 +136,7 @@ column_text : {a b : List Token} {w : Word} → IsColumn a b w → Reads (AColum
 column_text h = column_opens (λ c t. limited _ NameBytes tt (taken c)) (λ c t. limited _ NameBytes tt (taken c)) h nothing
 
 first_text : (k : ℕ) {a b : List Token} {w : Word} → IsColumn a b w → Knows (IsPlace k) (AFirst k ∷ []) a b
-first_text k h = column_opens (λ c t. checked (nat_lt k 16) Columns tt (λ e. limited _ NameBytes tt (known refl e))) (λ c t. checked (nat_lt k 16) Columns tt (λ e. limited _ NameBytes tt (known refl e))) h nothing
+first_text k h = column_opens (λ c t. checked (nat_lt k COLUMN_LIMIT) Columns tt (λ e. limited _ NameBytes tt (known refl e))) (λ c t. checked (nat_lt k COLUMN_LIMIT) Columns tt (λ e. limited _ NameBytes tt (known refl e))) h nothing
 
 linked_text : (k : ℕ) {a b : List Token} {w : Word} → IsName a b w → Reads (ALinked k ∷ []) a b
 linked_text k (name h) = opens h (λ c. limited _ Links tt (limited _ NameBytes tt (taken c))) nothing
@@ -161,8 +163,8 @@ width_divides : {a b : List Token} {k : ℤ} → IsWidth a b k → pos 1 ≤ℤ 
 width_divides (width h e) = record { le = subst T (sym e) tt }
 
 item_text : (k : ℕ) {a b : List Token} {x : ItemTree} → IsItem a b x → 1 ≤ rank_of b → Knows (ItemPlace k x) (AnItem k ∷ []) a b
-item_text k (column_item h m) n = told (λ r e. (e, tt)) (column_opens {F = IsPlace k} (λ c t. checked (nat_lt k 16) Columns tt (λ e. limited _ NameBytes tt (known refl e))) (λ c t. checked (nat_lt k 16) Columns tt (λ e. limited _ NameBytes tt (known refl e))) h (named_text m n))
-item_text k (bin_item h o w v x y z m) n = opens_with {F = IsPlace k} refl (λ e u. (e, width_divides x)) h (λ c. checked (nat_lt k 16) Columns tt (λ e. known refl e)) (then_goes (token_text o refl) (then_goes (column_text w) (then_goes (token_text v refl) (then_goes (width_text x) (then_goes (token_text y refl) (then_goes (token_text z refl) (column_text m)))))))
+item_text k (column_item h m) n = told (λ r e. (e, tt)) (column_opens {F = IsPlace k} (λ c t. checked (nat_lt k COLUMN_LIMIT) Columns tt (λ e. limited _ NameBytes tt (known refl e))) (λ c t. checked (nat_lt k COLUMN_LIMIT) Columns tt (λ e. limited _ NameBytes tt (known refl e))) h (named_text m n))
+item_text k (bin_item h o w v x y z m) n = opens_with {F = IsPlace k} refl (λ e u. (e, width_divides x)) h (λ c. checked (nat_lt k COLUMN_LIMIT) Columns tt (λ e. known refl e)) (then_goes (token_text o refl) (then_goes (column_text w) (then_goes (token_text v refl) (then_goes (width_text x) (then_goes (token_text y refl) (then_goes (token_text z refl) (column_text m)))))))
 
 what_text : {a b : List Token} {x : AggWhat} → IsWhat a b x → Reads (AWhat ∷ []) a b
 what_text (count h) = opens h (λ c. taken c) nothing
@@ -199,7 +201,7 @@ some_linked = record { comma = λ c k t. taken c; stops = λ c k t h. more_skips
 
 keys_text : {a b : List Token} {ws : List Word} → AreKeys a b ws → 3 ≤ rank_of b → Reads (AKeys ∷ []) a b
 keys_text {a} no_keys n = passes (λ c. keys_skips c _ (head_of a).kind n)
-keys_text (keys (listed h l)) n = column_opens (λ c t. limited (nat_lt 0 16) Columns tt (limited (is_short (of_kind kinds.Name t)) NameBytes tt (taken c))) (λ c t. limited (nat_lt 0 16) Columns tt (limited (is_short (of_kind kinds.Quoted t)) NameBytes tt (taken c))) h (untold (more_text some_keys 1 l (omega (arith, n))))
+keys_text (keys (listed h l)) n = column_opens (λ c t. limited (nat_lt 0 COLUMN_LIMIT) Columns tt (limited (is_short (of_kind kinds.Name t)) NameBytes tt (taken c))) (λ c t. limited (nat_lt 0 COLUMN_LIMIT) Columns tt (limited (is_short (of_kind kinds.Quoted t)) NameBytes tt (taken c))) h (untold (more_text some_keys 1 l (omega (arith, n))))
 
 aggs_text : {a b : List Token} {xs : List AggTree} → AreAggs a b xs → 4 ≤ rank_of b → Reads (AnAggs ∷ []) a b
 aggs_text {a} no_aggs n = passes (λ c. aggs_skips c (head_of a).kind n)
@@ -290,17 +292,17 @@ count_by-cons : (p : StmtImage → Bool) (s : StmtImage) (ss : List StmtImage) �
 count_by-cons p s ss = sum_by-cons (λ x. cond (p x) 1 0) s ss
 
 -- one statement more
-held_table : {y : Tally} {w : Word} {n : List ℕ} {ds : List Decl} {ss : List StmtImage} → nat_lt y.tables 16 ≡ true → KeepsDecls ds → Held (record y { tables = y.tables + 1 }) ss → Held y (TableNode w n ds ∷ ss)
+held_table : {y : Tally} {w : Word} {n : List ℕ} {ds : List Decl} {ss : List StmtImage} → nat_lt y.tables TABLE_LIMIT ≡ true → KeepsDecls ds → Held (record y { tables = y.tables + 1 }) ss → Held y (TableNode w n ds ∷ ss)
 held_table {y} {w} {n} {ds} {ss} e k h = record {
-  few_tables = λ b. (let u = ltb-true y.tables 16 e in let v = h.few_tables (omega (arith, u)) in let q = count_by-cons is_table (TableNode w n ds) ss in omega (arith, v, q));
+  few_tables = λ b. (let u = ltb-true y.tables TABLE_LIMIT e in let v = h.few_tables (omega (arith, u)) in let q = count_by-cons is_table (TableNode w n ds) ss in omega (arith, v, q));
   few_views = λ b. (let v = h.few_views b in let q = count_by-cons is_view (TableNode w n ds) ss in omega (arith, v, q));
   each = All-cons KeepsStmt (TableNode w n ds) ss k h.each;
 }
 
-held_view : {y z : Tally} {s : StmtImage} {ss : List StmtImage} → nat_lt y.views 64 ≡ true → z.tables ≡ y.tables → z.views ≡ y.views + 1 → is_table s ≡ false → is_view s ≡ true → KeepsStmt s → Held z ss → Held y (s ∷ ss)
+held_view : {y z : Tally} {s : StmtImage} {ss : List StmtImage} → nat_lt y.views VIEW_LIMIT ≡ true → z.tables ≡ y.tables → z.views ≡ y.views + 1 → is_table s ≡ false → is_view s ≡ true → KeepsStmt s → Held z ss → Held y (s ∷ ss)
 held_view {y} {z} {s} {ss} e t v i j k h = record {
   few_tables = λ b. (let g = h.few_tables (omega (arith, t, b)) in let q = count_by-cons is_table s ss ∙ ap (λ o. cond o 1 0 + count_by is_table ss) i in omega (arith, g, q, t));
-  few_views = λ b. (let u = ltb-true y.views 64 e in let g = h.few_views (omega (arith, u, v)) in let q = count_by-cons is_view s ss ∙ ap (λ o. cond o 1 0 + count_by is_view ss) j in omega (arith, g, q, v));
+  few_views = λ b. (let u = ltb-true y.views VIEW_LIMIT e in let g = h.few_views (omega (arith, u, v)) in let q = count_by-cons is_view s ss ∙ ap (λ o. cond o 1 0 + count_by is_view ss) j in omega (arith, g, q, v));
   each = All-cons KeepsStmt s ss k h.each;
 }
 
@@ -316,12 +318,12 @@ no_more_held y = record { few_tables = λ b. omega (arith, b); few_views = λ b.
 
 pub stmts_text : {a : List Token} {ss : List StmtImage} → AreStmts a ss → (y : Tally) → (e : List Token) × ((c : PlanCounts) → Ends (Unit {0}) (Held y ss) c (AStmts y ∷ []) a e)
 stmts_text {a} (no_stmt h) y = (a, λ c. ends_told (λ u. no_more_held y) (ends_pass c (ap (at_stmts y) (end_here h))))
-stmts_text (one_stmt (table_stmt h n i f j ds k) l) y = let r = stmts_text l (record y { tables = y.tables + 1 }) in (r.0, λ c. ends_told (λ u. held_table u.0 (kept_decls u.1.1) u.1.2) (opens_ends (nat_lt y.tables 16) Tables c tt refl h (then_ends (then_goes (name_text n) (then_goes (token_text i refl) (then_goes (file_text f) (then_goes (token_text j refl) (ahead (listed_text decls ds (omega (arith, ranked k))) (token_text k refl)))))) r.1)))
-stmts_text (one_stmt (view_stmt h n q p) l) y = let r = stmts_text l (record y { views = y.views + 1 }) in (r.0, λ c. ends_told (λ u. held_view u.0 refl refl refl refl (record { lists = u.1.1; few = u.1.0 }) u.1.2) (opens_ends (nat_lt y.views 64) Views c tt refl h (then_ends (then_goes (name_text n) (then_goes (token_text q refl) (plan_text p (omega (arith, stmts_rank l)) 0))) r.1)))
-stmts_text (one_stmt (back_stmt h i n j m x) l) y = let r = stmts_text l (record y { lineages = y.lineages + 1 }) in (r.0, λ c. ends_told (λ u. held_other refl refl refl refl tt u.1.2) (opens_ends (nat_lt y.lineages 256) Lineages c tt refl h (then_ends (opens i (λ c. taken c) (then_goes (name_text n) (then_goes (token_text j refl) (then_goes (name_text m) (extra_text x (omega (arith, stmts_rank l))))))) r.1)))
-stmts_text (one_stmt (fwd_stmt h i n j m) l) y = let r = stmts_text l (record y { lineages = y.lineages + 1 }) in (r.0, λ c. ends_told (λ u. held_other refl refl refl refl tt u.1.2) (opens_ends (nat_lt y.lineages 256) Lineages c tt refl h (then_ends (opens i (λ c. taken c) (then_goes (name_text n) (then_goes (token_text j refl) (name_text m)))) r.1)))
-stmts_text (one_stmt (link_stmt h n i m j xs) l) y = let r = stmts_text l (record y { links = y.links + 1 }) in (r.0, λ c. ends_told (λ u. held_other refl refl refl refl tt u.1.2) (opens_ends (nat_lt y.links 64) Links c tt refl h (then_ends (then_goes (name_text n) (then_goes (token_text i refl) (then_goes (name_text m) (then_goes (token_text j refl) (listed_text some_linked xs (omega (arith, stmts_rank l))))))) r.1)))
-stmts_text (one_stmt (depends_stmt h n i m ks j x) l) y = let r = stmts_text l (record y { views = y.views + 1; lineages = y.lineages + 1 }) in (r.0, λ c. ends_told (λ u. held_view u.0 refl refl refl refl tt u.1.2) (opens_ends_of_two (nat_lt y.views 64) Views (nat_lt y.lineages 256) Lineages c tt refl h (then_ends (then_goes (name_text n) (then_goes (token_text i refl) (then_goes (name_text m) (both (untold (listed_text some_keys ks (omega (arith, ranked j)))) (then_goes (token_text j refl) (column_text x)))))) r.1)))
+stmts_text (one_stmt (table_stmt h n i f j ds k) l) y = let r = stmts_text l (record y { tables = y.tables + 1 }) in (r.0, λ c. ends_told (λ u. held_table u.0 (kept_decls u.1.1) u.1.2) (opens_ends (nat_lt y.tables TABLE_LIMIT) Tables c tt refl h (then_ends (then_goes (name_text n) (then_goes (token_text i refl) (then_goes (file_text f) (then_goes (token_text j refl) (ahead (listed_text decls ds (omega (arith, ranked k))) (token_text k refl)))))) r.1)))
+stmts_text (one_stmt (view_stmt h n q p) l) y = let r = stmts_text l (record y { views = y.views + 1 }) in (r.0, λ c. ends_told (λ u. held_view u.0 refl refl refl refl (record { lists = u.1.1; few = u.1.0 }) u.1.2) (opens_ends (nat_lt y.views VIEW_LIMIT) Views c tt refl h (then_ends (then_goes (name_text n) (then_goes (token_text q refl) (plan_text p (omega (arith, stmts_rank l)) 0))) r.1)))
+stmts_text (one_stmt (back_stmt h i n j m x) l) y = let r = stmts_text l (record y { lineages = y.lineages + 1 }) in (r.0, λ c. ends_told (λ u. held_other refl refl refl refl tt u.1.2) (opens_ends (nat_lt y.lineages LINEAGE_LIMIT) Lineages c tt refl h (then_ends (opens i (λ c. taken c) (then_goes (name_text n) (then_goes (token_text j refl) (then_goes (name_text m) (extra_text x (omega (arith, stmts_rank l))))))) r.1)))
+stmts_text (one_stmt (fwd_stmt h i n j m) l) y = let r = stmts_text l (record y { lineages = y.lineages + 1 }) in (r.0, λ c. ends_told (λ u. held_other refl refl refl refl tt u.1.2) (opens_ends (nat_lt y.lineages LINEAGE_LIMIT) Lineages c tt refl h (then_ends (opens i (λ c. taken c) (then_goes (name_text n) (then_goes (token_text j refl) (name_text m)))) r.1)))
+stmts_text (one_stmt (link_stmt h n i m j xs) l) y = let r = stmts_text l (record y { links = y.links + 1 }) in (r.0, λ c. ends_told (λ u. held_other refl refl refl refl tt u.1.2) (opens_ends (nat_lt y.links LINK_LIMIT) Links c tt refl h (then_ends (then_goes (name_text n) (then_goes (token_text i refl) (then_goes (name_text m) (then_goes (token_text j refl) (listed_text some_linked xs (omega (arith, stmts_rank l))))))) r.1)))
+stmts_text (one_stmt (depends_stmt h n i m ks j x) l) y = let r = stmts_text l (record y { views = y.views + 1; lineages = y.lineages + 1 }) in (r.0, λ c. ends_told (λ u. held_view u.0 refl refl refl refl tt u.1.2) (opens_ends_of_two (nat_lt y.views VIEW_LIMIT) Views (nat_lt y.lineages LINEAGE_LIMIT) Lineages c tt refl h (then_ends (then_goes (name_text n) (then_goes (token_text i refl) (then_goes (name_text m) (both (untold (listed_text some_keys ks (omega (arith, ranked j)))) (then_goes (token_text j refl) (column_text x)))))) r.1)))
 
 abbrev pub no_tally : Tally
 no_tally = record { tables = 0; views = 0; lineages = 0; links = 0 }

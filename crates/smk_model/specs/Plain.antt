@@ -1,6 +1,6 @@
 -- Plain meaning: relational algebra over lists of rows.
 use Rattle.std.specs.Prelude.{ℕ, ℤ, pos, ◌+◌, ◌+ℤ◌, Bool, cond, ◌&&◌, true, false, List, [], ◌∷◌, ◌++◌, length, map, slice_index_or}
-use Rattle.std.specs.List.{list_any, flat_map, filter, fold}
+use Rattle.std.specs.List.{flat_map, filter, fold}
 use Rattle.std.specs.Cmp.Lexicographic.{pointwise}
 use Rattle.std.specs.Ordering.{is_lt, is_gt}
 use Rattle.smk_base.specs.declared.value.Value.{Value}
