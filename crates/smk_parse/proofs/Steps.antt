@@ -5,6 +5,8 @@ use Rattle.std.proofs.Common.{◌≡◌, ◌<◌, List, [], ◌∷◌, ◌++◌,
 use Rattle.std.proofs.lemmas.{Bool.lt-ltb, Grind.length_at_push}
 use Rattle.smk_model.{proofs.Alike.same_is, specs.Grammar.one_more}
 use Rattle.smk_parse.specs.{Reads.Leads, Reads.Fails, Reads.is_memory, Reads.Comes, Reads.Reads, Reads.is_column, Texts.Advances}
+use Rattle.smk_base.specs.declared.limits.TheConstants.{NODE_LIMIT}
+use Rattle.smk_base.specs.declared.rel.TheConstants.{COLUMN_LIMIT}
 use Rattle.smk_base.specs.declared.token.TokenKind.TheVariants as kinds
 
 -- there is a token in hand
@@ -146,8 +148,8 @@ first_more c n more ss x y short k = by k
     few false p = refl
 
     by : (k : TokenKind) → or_next (at_first c n more short k) ss x ≡ or_next (at_first c n [] short k) (more ++ ss) y
-    by kinds.Name = few (nat_lt n 16) short
-    by kinds.Quoted = few (nat_lt n 16) short
+    by kinds.Name = few (nat_lt n COLUMN_LIMIT) short
+    by kinds.Quoted = few (nat_lt n COLUMN_LIMIT) short
     by _ = refl
 
 keys_move : (c : PlanCounts) (ss : List Symbol) (x y : Move) (short : Bool) (k : TokenKind) → is_column k ≡ true → or_next (at_keys c short k) ss x ≡ or_next (at_first c 0 [] short k) (MoreKeys 1 ∷ ss) y
@@ -211,12 +213,12 @@ pub started_reads : {X : Type 0} (x : Symbol) (ls : List Symbol) (a b : Configur
 started_reads x ls a b r k h e = comes_reads _ ls a a b r (starts_come x ls a h e) k
 
 -- a step goes on with what follows its keyword
-pub step_reads : {X : Type 0} (d : ℕ) (k : TokenKind) (a b c : Configuration) (r : Result X BookFault) → k ≡ (head_of a.rest).kind → is_some (step_symbols d k) ≡ true → Advances (node_more a.counts) a b → a.counts.nodes < 64 → ((l : List Symbol) → step_symbols d k ≡ Some l → Reads l b c r) → Reads (AStep d ∷ []) a c r
+pub step_reads : {X : Type 0} (d : ℕ) (k : TokenKind) (a b c : Configuration) (r : Result X BookFault) → k ≡ (head_of a.rest).kind → is_some (step_symbols d k) ≡ true → Advances (node_more a.counts) a b → a.counts.nodes < NODE_LIMIT → ((l : List Symbol) → step_symbols d k ≡ Some l → Reads l b c r) → Reads (AStep d ∷ []) a c r
 step_reads d k a b c r e s h n g = by (step_symbols d k) refl s
   where
     by : (o : Option (List Symbol)) → step_symbols d k ≡ o → is_some o ≡ true → Reads (AStep d ∷ []) a c r
     by None q s = absurd (cc)
-    by (Some l) q s = comes_reads _ l a b c r (opened (AStep d) l (node_more a.counts) a b h (ap (λ k. node_move a.counts (step_symbols d k)) (sym e) ∙ ap (node_move a.counts) q ∙ ap (λ p. within p Nodes (Takes (node_more a.counts) l)) (lt-ltb a.counts.nodes 64 n))) (g l q)
+    by (Some l) q s = comes_reads _ l a b c r (opened (AStep d) l (node_more a.counts) a b h (ap (λ k. node_move a.counts (step_symbols d k)) (sym e) ∙ ap (node_move a.counts) q ∙ ap (λ p. within p Nodes (Takes (node_more a.counts) l)) (lt-ltb a.counts.nodes NODE_LIMIT n))) (g l q)
 
 pub ruleset begun = (started_leads, started_fails, keys_start, item_starts, column_starts, literal_starts, marks_start, united_starts, plain_starts)
 

@@ -1,6 +1,6 @@
 -- Bytes, and what stands at their front.
 use Rattle.std.specs.Prelude.{cond, nat_eq, Bool, true, false, pos, neg_ℤ, take, drop, length, ◌==◌, take_while, not, FitsSigned}
-use Rattle.smk_parse.specs.Vocabulary.{digits_value, TokenKind, Begins, front, Between, tokens_from, put, is_more, undoubled, prefix_len, no_line_end, lines, lines_after, without_cr, w64}
+use Rattle.smk_parse.specs.Vocabulary.{digits_value, TokenKind, Begins, front, Between, tokens_from, put, is_more, undoubled, prefix_len, no_line_end, first_line, lines, lines_after, without_cr, w64}
 use Rattle.std.proofs.Common.{◌≡◌, ℕ, zero, suc, ◌+◌, ◌*◌, ◌-◌, ◌<◌, List, [], ◌∷◌, get_or, drop-cons, ap, ◌∙◌, sym, arith, subst, refl, ◌≤◌, ◌++◌, append_assoc, min, append-nil, length-append}
 use Rattle.std.proofs.lemmas.List.{drop-drop, length-drop, take_all, length-take, take-take, Folds.length-prefix_len}
 use Rattle.smk_base.specs.declared.token.TokenKind.TheVariants.{End}
@@ -99,8 +99,8 @@ line_first passed (b ∷ bs) h = by (b == 10) (line_first (passed ++ b ∷ []) b
         ∙ ap (λ n. without_cr (passed ++ take n (b ∷ bs)) ∷ lines_after [] (drop (min (length bs) (prefix_len no_line_end bs + 1)) bs)) e
         ∙ ap (λ n. without_cr (passed ++ take (1 + prefix_len no_line_end bs) (b ∷ bs)) ∷ lines_after [] (drop n (b ∷ bs))) f
 
-first_line : (rest : List ℕ) (n behind : ℕ) → n ≡ length (take_while no_line_end rest) → 0 < length rest → behind ≡ min (length rest) (n + 1) → lines rest ≡ without_cr (take n rest) ∷ lines (drop behind rest)
-first_line rest n behind h k p =
+lines_cut : (rest : List ℕ) (n behind : ℕ) → n ≡ length (take_while no_line_end rest) → 0 < length rest → behind ≡ min (length rest) (n + 1) → lines rest ≡ without_cr (take n rest) ∷ lines (drop behind rest)
+lines_cut rest n behind h k p =
     let e : prefix_len no_line_end rest ≡ n = sym (h ∙ length-prefix_len no_line_end rest) in
     line_first [] rest k ∙ ap (λ m. without_cr (take m rest) ∷ lines (drop (min (length rest) (m + 1)) rest)) e ∙ ap (λ m. without_cr (take n rest) ∷ lines (drop m rest)) (sym p)
 
@@ -122,7 +122,8 @@ cuts script from r n kept behind f h e w k t p =
       ordered = omega arith;
       forward = (omega arith, omega arith);
       within = omega arith;
-      cut = ap lines (sym f) ∙ first_line r n behind e (omega arith) p ∙ ap (λ l. l ∷ lines (drop behind r)) (sym t ∙ shorter) ∙ ap (λ l. take (from + kept - from) (drop from script) ∷ lines l) (ap (drop behind) f ∙ drop-drop behind from script);
+      next = omega (arith, h, p, len, ap (λ l. length (first_line l)) f);
+      cut = ap lines (sym f) ∙ lines_cut r n behind e (omega arith) p ∙ ap (λ l. l ∷ lines (drop behind r)) (sym t ∙ shorter) ∙ ap (λ l. take (from + kept - from) (drop from script) ∷ lines l) (ap (drop behind) f ∙ drop-drop behind from script);
     }
   where
     shorter : take kept (take n r) ≡ take (from + kept - from) (drop from script)

@@ -1,6 +1,6 @@
 -- What the code holds of a text.
-use Rattle.std.specs.Prelude.{◌≡◌, ℕ, ◌+◌, ◌-◌, ◌<◌, ◌≤◌, true, List, [], ◌∷◌, take, drop, length, cond, FitsSigned}
-use Rattle.smk_parse.specs.Vocabulary.{TokenKind, LineSpan, Token, Front, Between, Begins, tokens_from, is_more, head_of, int_value, Configuration, PlanCounts, lines, w64}
+use Rattle.std.specs.Prelude.{◌≡◌, ℕ, ◌+◌, ◌-◌, ◌<◌, ◌≤◌, true, List, [], ◌∷◌, take, drop, length, min, cond, FitsSigned}
+use Rattle.smk_parse.specs.Vocabulary.{TokenKind, LineSpan, Token, Front, Between, Begins, tokens_from, is_more, head_of, int_value, Configuration, PlanCounts, first_line, lines, w64}
 use Rattle.smk_base.specs.declared.token.TokenKind.TheVariants.{Number}
 use Rattle.smk_parse.specs.declared.front.Front as code
 use Rattle.smk_parse.specs.declared.front.Front.TheVariants as fronts
@@ -30,10 +30,11 @@ pub record Advances (c : PlanCounts) (a b : Configuration) : Type 0 where
   pub first : a.rest ≡ head_of a.rest ∷ b.rest
   pub counted : b.counts ≡ c
 
--- the script from this place on has this line first, and behind it the lines from the next place on
+-- the script from this place on has this line first, and behind it the lines from the next place on, which is behind the first line feed, or the end of the script
 pub record Cuts (script : List ℕ) (from : ℕ) (span : LineSpan) : Type 0 where
   pub starts : span.start ≡ from
   pub ordered : span.start ≤ span.end
   pub forward : (span.end ≤ span.next) × (span.start < span.next)
   pub within : span.next ≤ length script
+  pub next : span.next ≡ min (length script) (from + length (first_line (drop from script)) + 1)
   pub cut : lines (drop from script) ≡ take (span.end - span.start) (drop span.start script) ∷ lines (drop span.next script)

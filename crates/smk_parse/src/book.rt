@@ -9,7 +9,10 @@ use crate::lists::{Linked, aggs, keys, listed};
 use crate::plan::plan;
 use crate::reader::Reader;
 use crate::tokens::{column, expect, name, string_in_hand, within, wrong};
-use smk_base::{Book, BookFault, Decl, Extra, Many, Stmt, Stmts, TokenKind, Word};
+use smk_base::{
+    Book, BookFault, Decl, Extra, LINEAGE_LIMIT, LINK_LIMIT, Many, Stmt, Stmts, TABLE_LIMIT,
+    TokenKind, VIEW_LIMIT, Word,
+};
 use std::alloc::Global;
 
 /// The statements of each kind so far.
@@ -146,32 +149,32 @@ fn stmt(alloc: Global, reader: &mut Reader, tally: &mut Tally) -> Result<Stmt, B
     let at = reader.at();
     match reader.kind() {
         TokenKind::Table => {
-            within(reader, tally.tables < 16, Many::Tables)?;
+            within(reader, tally.tables < TABLE_LIMIT, Many::Tables)?;
             reader.advance_to(0, 0);
             tally.tables += 1;
             table_stmt(alloc, reader)
         }
         TokenKind::View => {
-            within(reader, tally.views < 64, Many::Views)?;
+            within(reader, tally.views < VIEW_LIMIT, Many::Views)?;
             reader.advance_to(0, 0);
             tally.views += 1;
             view_stmt(alloc, reader)
         }
         TokenKind::Lineage => {
-            within(reader, tally.lineages < 256, Many::Lineages)?;
+            within(reader, tally.lineages < LINEAGE_LIMIT, Many::Lineages)?;
             reader.advance_to(0, 0);
             tally.lineages += 1;
             lineage_stmt(alloc, reader, at)
         }
         TokenKind::Link => {
-            within(reader, tally.links < 64, Many::Links)?;
+            within(reader, tally.links < LINK_LIMIT, Many::Links)?;
             reader.advance_to(0, 0);
             tally.links += 1;
             link_stmt(alloc, reader)
         }
         TokenKind::Fd => {
-            within(reader, tally.views < 64, Many::Views)?;
-            within(reader, tally.lineages < 256, Many::Lineages)?;
+            within(reader, tally.views < VIEW_LIMIT, Many::Views)?;
+            within(reader, tally.lineages < LINEAGE_LIMIT, Many::Lineages)?;
             reader.advance_to(0, 0);
             tally.views += 1;
             tally.lineages += 1;

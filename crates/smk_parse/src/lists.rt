@@ -10,8 +10,8 @@ use crate::tokens::{
     column, expect, first_column, is_column, is_short, literal, take_column, within, wrong,
 };
 use smk_base::{
-    AggTree, AggTrees, AggWhat, BookFault, Decl, ItemTree, ListOf, Lit, Many, PairTree, TokenKind,
-    Word, Words,
+    AggTree, AggTrees, AggWhat, BookFault, COLUMN_LIMIT, Decl, ItemTree, LINK_LIMIT, ListOf, Lit,
+    Many, PairTree, TokenKind, Word, Words,
 };
 use std::alloc::Global;
 
@@ -128,7 +128,7 @@ fn bin_item(alloc: Global, reader: &mut Reader, before: usize) -> Result<ItemTre
     ensures reads { Reads (AnItem before ∷ []) reader.old reader.new result }
     ensures is { IfOk result (λ item. IsItem reader.old.rest reader.new.rest item) }
 {
-    within(reader, before < 16, Many::Columns)?;
+    within(reader, before < COLUMN_LIMIT as usize, Many::Columns)?;
     let _kind = reader.kind();
     reader.advance();
     expect(reader, TokenKind::Open)?;
@@ -239,7 +239,7 @@ impl Member for Linked {
     fn read(alloc: Global, reader: &mut Reader, before: usize) -> Result<Word, BookFault> {
         match reader.kind() {
             TokenKind::Name => {
-                within(reader, before < 64, Many::Links)?;
+                within(reader, before < LINK_LIMIT as usize, Many::Links)?;
                 within(reader, is_short(reader), Many::NameBytes)?;
                 take_column(alloc, reader)
             }

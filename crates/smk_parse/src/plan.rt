@@ -2,6 +2,7 @@
 
 ghost use Rattle.std.specs.Prelude.{◌≡◌, ◌∷◌, ◌+◌, ◌<◌, ◌≤◌, [], ℕ, List, Some, is_some, true, IsTrue, IfOk, IfErr, OnOk};
 ghost use Rattle.smk_parse.specs.Vocabulary.{TooMany, Nodes, tree_image, step_image, ask_step_image, head_of, tail_of, is_more, Symbol, Token, First, step_symbols, ask_symbols, IsSource, IsPlan, IsStep, IsAskStep, node_more, ASource, ASteps, AStep, AnAskStep};
+ghost use Rattle.smk_base.specs.declared.limits.TheConstants.{NODE_LIMIT};
 ghost use Rattle.smk_base.specs.declared.token.TokenKind.TheVariants as kinds;
 ghost use Rattle.smk_parse.specs.{Texts.Advances, Reads.Reads};
 
@@ -10,21 +11,23 @@ use crate::pred::{on, pred};
 use crate::reader::Reader;
 use crate::tokens::{expect, name, within, wrong};
 use smk_base::TokenKind::{Distinct, Group, Join, Product, Project, Theta, Union, Where};
-use smk_base::{AskStep, BookFault, ItemTree, Many, PairTree, StepTree, TokenKind, Tree};
+use smk_base::{
+    AskStep, BookFault, DEPTH_LIMIT, ItemTree, Many, NODE_LIMIT, PairTree, StepTree, TokenKind, Tree,
+};
 use std::alloc::Global;
 
 /// The token in hand is taken, and makes a node of the plan.
 fn take_node(reader: &mut Reader) -> Result<(), BookFault>
     requires { IsTrue (is_more (head_of reader.old.rest).kind) }
     ensures taken { OnOk result (Advances (node_more reader.old.counts) reader.old reader.new) }
-    ensures few { OnOk result (reader.old.counts.nodes < 64) }
-    ensures many { IfErr result (λ fault. 64 ≤ reader.old.counts.nodes) }
+    ensures few { OnOk result (reader.old.counts.nodes < NODE_LIMIT) }
+    ensures many { IfErr result (λ fault. NODE_LIMIT ≤ reader.old.counts.nodes) }
     ensures fault { IfErr result (λ fault. fault ≡ TooMany (head_of reader.old.rest).at Nodes) }
     ensures here { reader.old.rest ≡ head_of reader.old.rest ∷ tail_of reader.old.rest }
 {
     let _kind = reader.kind();
     let nodes = reader.nodes();
-    within(reader, nodes < 64, Many::Nodes)?;
+    within(reader, nodes < NODE_LIMIT, Many::Nodes)?;
     reader.advance_to(nodes + 1, 0);
     Ok(())
 }
@@ -60,7 +63,7 @@ fn source(alloc: Global, reader: &mut Reader, depth: u32) -> Result<Box<Tree>, B
     match reader.kind() {
         TokenKind::Scan => scan(alloc, reader),
         TokenKind::Open => {
-            within(reader, depth < 32, Many::Depth)?;
+            within(reader, depth < DEPTH_LIMIT, Many::Depth)?;
             reader.advance();
             let inner = plan(alloc, reader, depth + 1)?;
             expect(reader, TokenKind::Close)?;

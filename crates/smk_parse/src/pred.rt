@@ -7,7 +7,7 @@ ghost use Rattle.smk_parse.specs.Reads.{Reads};
 
 use crate::reader::Reader;
 use crate::tokens::{column, column_in_hand, expect, is_column, is_short, literal, within, wrong};
-use smk_base::{BookFault, CmpOp, Many, PredTree, Term, TokenKind};
+use smk_base::{BookFault, COMPARE_LIMIT, CmpOp, DEPTH_LIMIT, Many, PredTree, Term, TokenKind};
 use std::alloc::Global;
 
 /// The `on` before a predicate, whose comparisons are counted from none.
@@ -65,7 +65,7 @@ fn compare(alloc: Global, reader: &mut Reader) -> Result<Box<PredTree>, BookFaul
         return Err(wrong(reader));
     }
     let compares = reader.compares();
-    within(reader, compares < 128, Many::Compares)?;
+    within(reader, compares < COMPARE_LIMIT, Many::Compares)?;
     within(reader, is_short(reader), Many::NameBytes)?;
     let left = column_in_hand(alloc, reader)?;
     reader.advance_to(reader.nodes(), compares + 1);
@@ -82,13 +82,13 @@ fn prim(alloc: Global, reader: &mut Reader, depth: u32) -> Result<Box<PredTree>,
 {
     match reader.kind() {
         TokenKind::Not => {
-            within(reader, depth < 32, Many::Depth)?;
+            within(reader, depth < DEPTH_LIMIT, Many::Depth)?;
             reader.advance();
             let inner = prim(alloc, reader, depth + 1)?;
             Ok(Box::new(alloc, PredTree::Not(inner))?)
         }
         TokenKind::Open => {
-            within(reader, depth < 32, Many::Depth)?;
+            within(reader, depth < DEPTH_LIMIT, Many::Depth)?;
             reader.advance();
             let inner = pred(alloc, reader, depth + 1)?;
             expect(reader, TokenKind::Close)?;

@@ -5,7 +5,7 @@ ghost use Rattle.smk_parse.specs.Vocabulary.{NoMemory, TooMany, head_of, is_more
 ghost use Rattle.smk_parse.specs.{Texts.Advances, Reads.Reads, Reads.is_column, Reads.column_name, Reads.column_word};
 
 use crate::reader::Reader;
-use smk_base::{BookFault, Lit, Many, Text, TokenKind, Value, Word};
+use smk_base::{BookFault, COLUMN_LIMIT, Lit, Many, NAME_LIMIT, Text, TokenKind, Value, Word};
 use std::alloc::Global;
 
 /// The fault at a token that may not stand here.
@@ -122,7 +122,7 @@ fn name_in_hand<'t>(reader: &Reader<'t>) -> &'t [u8]
 pub fn is_short(reader: &Reader) -> bool
     ensures { result ≡ is_short (head_of reader.now.rest) }
 {
-    name_in_hand(reader).len() <= 64
+    name_in_hand(reader).len() <= NAME_LIMIT as usize
 }
 
 /// The word of the column in hand.
@@ -192,7 +192,7 @@ pub fn first_column(alloc: Global, reader: &mut Reader, before: usize) -> Result
     if !is_column(reader.kind()) {
         return Err(wrong(reader));
     }
-    within(reader, before < 16, Many::Columns)?;
+    within(reader, before < COLUMN_LIMIT as usize, Many::Columns)?;
     within(reader, is_short(reader), Many::NameBytes)?;
     take_column(alloc, reader)
 }

@@ -1,18 +1,19 @@
 use Rattle.std.proofs.Common.{◌+◌, ◌-◌, ◌*◌, [], ◌∷◌, length}
+use Rattle.smk_base.specs.declared.limits.TheConstants.{DEPTH_LIMIT}
 use Rattle.smk_parse.{specs.Vocabulary.tree_image, specs.Vocabulary.AreSteps, specs.Vocabulary.IsPlan, specs.Vocabulary.ASource, specs.Vocabulary.ASteps, proofs.Steps.IsChain}
 use Rattle.smk_parse.proofs.plan.+plan.Given as goal
 
 abbrev pub decreases-source : goal.decreases-source
-decreases-source l = (32 - l.depth) * 4
+decreases-source l = (DEPTH_LIMIT - l.depth) * 4
 
 abbrev pub decreases-parts : goal.decreases-parts
-decreases-parts l = (32 - l.depth) * 4 + 1
+decreases-parts l = (DEPTH_LIMIT - l.depth) * 4 + 1
 
 abbrev pub decreases-step : goal.decreases-step
-decreases-step l = (32 - l.depth) * 4 + 2
+decreases-step l = (DEPTH_LIMIT - l.depth) * 4 + 2
 
 abbrev pub decreases-plan : goal.decreases-plan
-decreases-plan l = (32 - l.depth) * 4 + 3
+decreases-plan l = (DEPTH_LIMIT - l.depth) * 4 + 3
 
 abbrev pub invariant-plan-steps : goal.invariant-plan-steps
 invariant-plan-steps l = IsChain (ASource l.depth ∷ ASteps l.depth ∷ []) (ASteps l.depth) AreSteps IsPlan l.fn.reader l.reader (tree_image l.input.value)

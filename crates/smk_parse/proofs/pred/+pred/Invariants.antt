@@ -1,16 +1,17 @@
 use Rattle.std.proofs.Common.{◌+◌, ◌-◌, ◌*◌, [], ◌∷◌, length}
+use Rattle.smk_base.specs.declared.limits.TheConstants.{DEPTH_LIMIT}
 use Rattle.smk_parse.specs.Vocabulary.{pred_image, AreAnds, IsConj, AreOrs, IsPred, APrim, AnAnds, AnOrs}
 use Rattle.smk_parse.proofs.Steps.{IsChain}
 use Rattle.smk_parse.proofs.pred.+pred.Given as goal
 
 abbrev pub decreases-prim : goal.decreases-prim
-decreases-prim l = (32 - l.depth) * 4
+decreases-prim l = (DEPTH_LIMIT - l.depth) * 4
 
 abbrev pub decreases-conj : goal.decreases-conj
-decreases-conj l = (32 - l.depth) * 4 + 1
+decreases-conj l = (DEPTH_LIMIT - l.depth) * 4 + 1
 
 abbrev pub decreases-pred : goal.decreases-pred
-decreases-pred l = (32 - l.depth) * 4 + 2
+decreases-pred l = (DEPTH_LIMIT - l.depth) * 4 + 2
 
 abbrev pub invariant-conj-ands : goal.invariant-conj-ands
 invariant-conj-ands l = IsChain (APrim l.depth ∷ AnAnds l.depth ∷ []) (AnAnds l.depth) AreAnds IsConj l.fn.reader l.reader (pred_image l.left.value)
