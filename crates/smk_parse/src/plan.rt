@@ -12,7 +12,8 @@ use crate::reader::Reader;
 use crate::tokens::{expect, name, within, wrong};
 use smk_base::TokenKind::{Distinct, Group, Join, Product, Project, Theta, Union, Where};
 use smk_base::{
-    AskStep, BookFault, DEPTH_LIMIT, ItemTree, Many, NODE_LIMIT, PairTree, StepTree, TokenKind, Tree,
+    AskStep, BookFault, DEPTH_LIMIT, ItemTree, Many, NODE_LIMIT, PairTree, StepTree, TokenKind,
+    Tree,
 };
 use std::alloc::Global;
 
