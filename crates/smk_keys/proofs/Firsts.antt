@@ -1,16 +1,12 @@
 -- Classes against the items at their first occurrences.
-use Rattle.std.proofs.Common.{◌≡◌, ℕ, zero, suc, ◌+◌, ◌<◌, ◌≤◌, Bool, true, false, if◌then◌else◌, List, [], ◌∷◌, ◌++◌, length, map, take, get_or, refl, ap, sym, subst, ◌∙◌, arith, Decides, inl, inr, add-one}
-use Rattle.std.specs.Prelude.{fold}
+use Rattle.std.proofs.Common.{◌≡◌, ℕ, zero, suc, ◌+◌, ◌<◌, ◌≤◌, Bool, true, false, List, [], ◌∷◌, ◌++◌, length, map, take, get_or, refl, ap, sym, subst, ◌∙◌, arith, Decides, inl, inr, add-one}
 use Rattle.std.specs.List.{list_any}
 use Rattle.std.proofs.lemmas.Bool.{cases_order, cases_Bool, cases_lt}
 use Rattle.std.proofs.lemmas.List.{get_or-map, get_or-take, length-take-le, length-map, take_more, take_all, map_more, get_or_default}
 use Rattle.std.proofs.lemmas.List.Folds.{list_any_at, list_any_none}
-use Rattle.smk_keys.specs.Classes.{first_items}
+use Rattle.std.proofs.lemmas.List.Sums.{fold_push}
+use Rattle.smk_base.specs.Firsts.{first_items, with_item}
 use Rattle.smk_keys.specs.Numbers.{AreNumbers}
-
-fold_push : {A B : Type 0} (f : B → A → B) (b : B) (xs : List A) (x : A) → fold f b (xs ++ x ∷ []) ≡ f (fold f b xs) x
-fold_push f b [] x = refl
-fold_push f b (y ∷ ys) x = fold_push f (f b y) ys x
 
 -- equal items have one class, classes are numbered in the order in which they come first, and firsts has the first place of each; none stands past the end
 pub record AreClasses {X : Type 0} (none : X) (items : List X) (of firsts : List ℕ) : Type 0 where
@@ -58,8 +54,8 @@ record Reach {X : Type 0} (eq : X → X → Bool) (none : X) (items : List X) (o
   is : IsReached eq none items of firsts n count
 
 module _ {X : Type 0} (eq : X → X → Bool) (decides : (x y : X) → Decides (eq x y) (x ≡ y)) (none : X) (items : List X) (of firsts : List ℕ) (are : AreClasses none items of firsts) where
-  one_more : (n : ℕ) → n < length items → first_items eq (take (n + 1) items) ≡ (if list_any (eq (get_or items n none)) (first_items eq (take n items)) then first_items eq (take n items) else first_items eq (take n items) ++ get_or items n none ∷ [])
-  one_more n h = ap (first_items eq) (take_more items n none h) ∙ fold_push (λ found item. if list_any (eq item) found then found else found ++ item ∷ []) [] (take n items) (get_or items n none)
+  one_more : (n : ℕ) → n < length items → first_items eq (take (n + 1) items) ≡ with_item eq (first_items eq (take n items)) (get_or items n none)
+  one_more n h = ap (first_items eq) (take_more items n none h) ∙ fold_push (with_item eq) [] (take n items) (get_or items n none)
 
   -- an item of a class that is there
   there : (n c : ℕ) → n < length items → IsReached eq none items of firsts n c → get_or of n 0 < c → IsReached eq none items of firsts (n + 1) c

@@ -1,6 +1,6 @@
 -- Keys in classes of equal ones.
-use Rattle.std.specs.Prelude.{ℕ, ◌<◌, Bool, List, [], ◌∷◌, ◌++◌, length, map, fold, if◌then◌else◌}
-use Rattle.std.specs.List.{list_any, position_or_len}
+use Rattle.std.specs.Prelude.{ℕ, ◌<◌, Bool, List, length, map}
+use Rattle.std.specs.List.{position_or_len}
 use Rattle.smk_base.specs.declared.value.Value.{Value}
 use Rattle.smk_base.specs.declared.value.Kind.{Kind}
 pub use Rattle.smk_base.specs.Firsts.{first_items}
