@@ -1,7 +1,6 @@
--- Parts of lists of bytes that are written or read one after the other.
-use Rattle.std.proofs.Common.{◌≡◌, ◌≤◌, ◌-◌, ◌⊎◌, inl, inr, ℕ, List, [], ◌++◌, Option, Some, None, IfSome, length, take, drop, refl, sym, ap, ◌∙◌, arith, append_assoc, append-nil, take-append-drop}
+-- Parts of lists of bytes that are written one after the other.
+use Rattle.std.proofs.Common.{◌≡◌, ◌-◌, ℕ, List, ◌++◌, Option, Some, None, length, take, drop, sym, ap, ◌∙◌, append_assoc, take-append-drop}
 use Rattle.std.proofs.lemmas.List.{take_rest}
-use Rattle.std.proofs.lemmas.Grind.{common_steps}
 use Rattle.std.specs.Io.KnownBytes as known
 use Rattle.smk_outside.specs.Outside.{AppendsPart}
 
@@ -25,25 +24,3 @@ Appends-kept None b c xs first kept = tt
 Appends-kept (Some a) None c xs first kept = absurd first
 Appends-kept (Some a) (Some b) None xs first kept = absurd kept
 Appends-kept (Some a) (Some b) (Some c) xs first kept = kept ∙ first
-
-pub Consumes-trans : (a b c : Option (List ℕ)) (xs ys : List ℕ) → known.Consumes a b xs → known.Consumes b c ys → known.Consumes a c (xs ++ ys)
-Consumes-trans None b c xs ys first second = tt
-Consumes-trans (Some a) None c xs ys first second = absurd first
-Consumes-trans (Some a) (Some b) None xs ys first second = absurd second
-Consumes-trans (Some a) (Some b) (Some c) xs ys first second = first ∙ ap (λ l. xs ++ l) second ∙ sym (append_assoc xs ys c)
-
--- what was read up to the end, or up to this many bytes, is the front of the whole
-pub IsFront-read : (a b : Option (List ℕ)) (front : List ℕ) (most : ℕ) → known.Consumes a b front → length front ≤ most
-    → known.IsAtEnd b ⊎ most ≤ length front → IfSome a (λ whole. front ≡ take most whole)
-IsFront-read None b front most read short done = tt
-IsFront-read (Some a) None front most read short done = absurd read
-IsFront-read (Some a) (Some b) front most read short (inl ended) = grind (arith, common_steps, read, ended, short)
-IsFront-read (Some a) (Some b) front most read short (inr full) = grind (arith, common_steps, read, short, full)
-
-pub Consumes-none : (a : Option (List ℕ)) → known.Consumes a a []
-Consumes-none None = tt
-Consumes-none (Some a) = refl
-
--- the first 0 bytes are none
-pub append-take-none : (front bytes : List ℕ) (n : ℕ) → n ≡ 0 → front ++ take n bytes ≡ front
-append-take-none front bytes n none = ap (λ k. front ++ take k bytes) none ∙ append-nil front

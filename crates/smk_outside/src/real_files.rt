@@ -1,4 +1,4 @@
-ghost use Rattle.std.specs.Prelude.{◌≡◌, ◌+◌, ◌≤◌, ◌⊎◌, None, take, length, vec_len, IfOk, OnOk, IfSome, IsErr, IsErrOf, OnErr, MatchResult};
+ghost use Rattle.std.specs.Prelude.{◌≡◌, ◌+◌, ◌≤◌, ◌⊎◌, None, take, length, IfOk, OnOk, IfSome, IsErr, IsErrOf, OnErr, MatchResult};
 ghost use Rattle.smk_outside.specs.Outside.{Rose, IsMissing, IsFrontOf, next_count};
 
 use crate::files::Files;
@@ -8,9 +8,6 @@ use std::fs::OpenFile;
 use std::io::{ErrorKind, Read};
 use std::marker::Model;
 use std::{fs, io, rt};
-
-// How many bytes are asked for at once.
-const PIECE: usize = 65536;
 
 /// The files of the system. It tells nothing of them. Contracts see its count of faults.
 #[derive(Drop)]
@@ -95,22 +92,14 @@ fn fault_of(e: &io::Error) -> FilesFault {
     }
 }
 
-// The first bytes that a reader gives, at most this many. A read of no bytes is the end. Room for `size` bytes is
-// reserved first, as far as they are wanted.
+// The first bytes that a reader gives, at most this many. A read of no bytes is the end. Room is reserved first for `size`
+// bytes, as far as they are wanted, and for one more, so that the last read meets the end without growing.
 fn read_front<F: Read>(alloc: Global, file: &mut F, most: usize, size: usize) -> io::Result<Vec<u8>>
     ensures short { IfOk result (λ front. length front.items ≤ most) }
     ensures bytes { IfOk result (λ front. IfSome (F.remaining file.old) (λ whole. front.items ≡ take most whole)) }
 {
-    let mut piece = vec![in alloc; 0u8; PIECE]?;
-    let mut front = Vec::with_capacity(alloc, size.min(most))?;
-    while front.len() < most {
-        let asked = PIECE.min(most - front.len());
-        let part = &mut piece[..asked];
-        let count = file.read(part)?;
-        if count == 0 {
-            break;
-        }
-        front.extend_from_slice(&part[..count])?;
-    }
+    let mut front = Vec::with_capacity(alloc, size.min(most).saturating_add(1))?;
+    file.take(most as u64).read_to_end(&mut front)?;
+    front.truncate(most);
     Ok(front)
 }
