@@ -12,6 +12,7 @@ use Rattle.smk_base.specs.PlanImage.{unary_of}
 use Rattle.smk_base.specs.Plans.{Expr, Leaf, Apply, Combine}
 use Rattle.smk_base.specs.Trees.{AskStepImage, StepImage, SelectNode, ProjectNode, DistinctNode, GroupNode, JoinNode, ThetaNode, ProductNode, UnionAllNode, UnionNode}
 use Rattle.smk_base.specs.TreeImage.{ask_step_image}
+use Rattle.smk_base.specs.declared.limits.TheConstants.{NODE_LIMIT}
 use Rattle.smk_model.specs.Asks.{AskPlan, asked_plan, chain, scan_of, step_after, typed_steps}
 use Rattle.smk_model.specs.Catalogs.{each_table_kinds}
 use Rattle.smk_model.specs.Limits.{KeepsAskStep, KeepsStep}
@@ -143,9 +144,9 @@ steps_fail columns steps fault fails other = rw (fails other) refl
 pub record PartsFit (columns : List Column) (made : TypedSteps) : Type 0 where
   pub fits : PlanFits (chain (map unary_of made.ops)) (kinds_of columns ∷ [])
   pub kinds : plan_kinds (chain (map unary_of made.ops)) (kinds_of columns ∷ []) ≡ made.kinds
-  pub few : length made.ops ≤ 64
+  pub few : length made.ops ≤ NODE_LIMIT
 
-pub parts_fit : (columns : List Column) (n : ℕ) (typed : TypedPlan) (result : Result TypedSteps TypeFault) → n ≤ 64 → StepsFit columns n typed → Finds result (Ok (asked_plan typed)) steps_image → IfOk result (PartsFit columns)
+pub parts_fit : (columns : List Column) (n : ℕ) (typed : TypedPlan) (result : Result TypedSteps TypeFault) → n ≤ NODE_LIMIT → StepsFit columns n typed → Finds result (Ok (asked_plan typed)) steps_image → IfOk result (PartsFit columns)
 parts_fit columns n typed (Ok made) low fit found =
     let same : asked_plan typed ≡ steps_image made = ok_same _ _ found in
     let plan : typed.plan ≡ chain (map unary_of made.ops) = ap (λ (p : AskPlan). p.plan) same in

@@ -8,6 +8,7 @@ use Rattle.smk_base.specs.TreeImage.{stmt_image}
 use Rattle.smk_base.specs.Trees.{StmtImage}
 use Rattle.smk_base.specs.declared.tree.Stmt.{Stmt}
 use Rattle.smk_base.specs.declared.type_fault.TypeFault.{TypeFault}
+use Rattle.smk_base.specs.declared.limits.TheConstants.{TABLE_LIMIT, VIEW_LIMIT}
 use Rattle.smk_model.specs.Expanded.{HasNoDependency, IsNoDependency}
 use Rattle.smk_model.specs.Limits.{KeepsLimits, KeepsStmt, is_table, is_view}
 use Rattle.smk_model.specs.Names.{in_turn}
@@ -62,10 +63,10 @@ rest_at book catalog stmts i s below here before =
     subst (λ (rest : List Stmt). IsBefore book catalog (map stmt_image rest)) e before
 
 -- there is room for the next statement's table or view
-pub next_tables : (book : List StmtImage) (catalog : CatalogImage) (s : StmtImage) (more : List StmtImage) → IsBefore book catalog (s ∷ more) → length catalog.tables + one_if (is_table s) ≤ 16
+pub next_tables : (book : List StmtImage) (catalog : CatalogImage) (s : StmtImage) (more : List StmtImage) → IsBefore book catalog (s ∷ more) → length catalog.tables + one_if (is_table s) ≤ TABLE_LIMIT
 next_tables book catalog s more before = omega (arith, before.few_tables, counted is_table s more)
 
-pub next_views : (book : List StmtImage) (catalog : CatalogImage) (s : StmtImage) (more : List StmtImage) → IsBefore book catalog (s ∷ more) → length catalog.views + one_if (is_view s) ≤ 64
+pub next_views : (book : List StmtImage) (catalog : CatalogImage) (s : StmtImage) (more : List StmtImage) → IsBefore book catalog (s ∷ more) → length catalog.views + one_if (is_view s) ≤ VIEW_LIMIT
 next_views book catalog s more before = omega (arith, before.few_views, counted is_view s more)
 
 -- after the last statement

@@ -14,6 +14,8 @@ use Rattle.smk_base.specs.declared.catalog.LinkInfo.{LinkInfo}
 use Rattle.smk_base.specs.declared.tree.Word.{Word}
 use Rattle.smk_base.specs.declared.type_fault.TypeFault.TheVariants.{RepeatedDeclaration}
 use Rattle.smk_base.specs.CatalogImage.{view_image}
+use Rattle.smk_base.specs.declared.limits.TheConstants.{TABLE_LIMIT}
+use Rattle.smk_base.specs.declared.rel.TheConstants.{COLUMN_LIMIT}
 use Rattle.smk_model.specs.Names.{unless}
 use Rattle.smk_model.specs.Typing.{Linked, same_form, same_back, same_fwd, same_link, all_linked, linked_to, view_named, to_after}
 use Rattle.smk_typing.specs.declared.form.Form.{Form}
@@ -23,8 +25,8 @@ use Rattle.smk_typing.specs.Keys.{AreTables, form_of, back_key, fwd_key, link_ke
 
 -- tables and views
 
-pub tables_push : (tables : List TableInfo) (table : TableInfo) → AreTables tables → length tables < 16 → length table.cols ≤ 16 → AreTables (tables ++ table ∷ [])
-tables_push tables table held room narrow = (omega (arith, length-append tables (table ∷ [])), All-push (λ (each : TableInfo). length each.cols ≤ 16) tables table held.1 narrow)
+pub tables_push : (tables : List TableInfo) (table : TableInfo) → AreTables tables → length tables < TABLE_LIMIT → length table.cols ≤ COLUMN_LIMIT → AreTables (tables ++ table ∷ [])
+tables_push tables table held room narrow = (omega (arith, length-append tables (table ∷ [])), All-push (λ (each : TableInfo). length each.cols ≤ COLUMN_LIMIT) tables table held.1 narrow)
 
 -- the names of views are those of their images
 pub view_names : (views : List ViewInfo) → map (λ view. view.name) (map view_image views) ≡ map (λ view. view.name) views

@@ -19,6 +19,7 @@ use Rattle.smk_base.specs.declared.plan.Agg.TheVariants as aggs
 use Rattle.smk_base.specs.declared.catalog.Column.{Column}
 use Rattle.smk_base.specs.declared.type_fault.TypeFault.TheVariants.{KindMismatch, DuplicateName, SumTooDeep, EmptyList, RowTooWide}
 use Rattle.smk_base.specs.Rels.{kind_in}
+use Rattle.smk_base.specs.declared.rel.TheConstants.{COLUMN_LIMIT}
 use Rattle.smk_model.specs.Names.{in_turn, column_named, has_name, kinds_of, is_text}
 use Rattle.smk_model.specs.Kinds.{IsInt, ItemFits, AggFits, kind_of_item, kind_of_agg, ItemsFit, GroupFits}
 use Rattle.smk_model.specs.Limits.{Divides, KeepsItems}
@@ -148,8 +149,8 @@ group_stands columns at words trees group e =
     let start : AggsMade columns before ([], keys.0.1) = (All-nil _, let e : before ++ [] ≡ before = append-nil before in e ∙ keyed.1) in
     let all = in_turn_keeps (AggsMade columns before) (λ w. Unit {0}) (agg_after columns) (agg_more columns before) ([], keys.0.1) listed.0 trees start (λ k d p. tt) listed.1 in
     let some = unless_ok (nat_eq (length listed.0.1) 0) (EmptyList at) _ group listed.2 in
-    let few = unless_ok (nat_lt 16 (length listed.0.1)) (RowTooWide at) (Ok (record { keys = keys.0.0; aggs = listed.0.0; columns = listed.0.1 })) group some.1 in
+    let few = unless_ok (nat_lt COLUMN_LIMIT (length listed.0.1)) (RowTooWide at) (Ok (record { keys = keys.0.0; aggs = listed.0.0; columns = listed.0.1 })) group some.1 in
     let long : length keys.0.0 + length listed.0.0 ≡ length listed.0.1 = group_long columns keys.0.0 listed.0.0 listed.0.1 all.1 in
     let not_none : 0 < length listed.0.1 = grind (arith, some.0) in
-    let not_many : length listed.0.1 ≤ 16 = grind (arith, few.0) in
+    let not_many : length listed.0.1 ≤ COLUMN_LIMIT = grind (arith, few.0) in
     ok_keeps (GroupStands columns) _ group few.1 (record { keyed = keyed.0; each = all.0; some = omega (arith, long, not_none); few = omega (arith, long, not_many) }, all.1)

@@ -15,6 +15,7 @@ use Rattle.smk_base.specs.declared.type_fault.TypeFault.TheVariants.{KindMismatc
 use Rattle.smk_base.specs.Plans.{Formula, Expr, Leaf, Apply, Combine, Unary, Selection, Projection, Distinction, Grouping, Binary, Equijoin, ThetaJoin, CrossProduct, BagUnion, SetUnion}
 use Rattle.smk_base.specs.Trees.{PredImage, TreeImage, ScanNode, StepNode, StepImage, SelectNode, ProjectNode, DistinctNode, GroupNode, JoinNode, ThetaNode, ProductNode, UnionAllNode, UnionNode}
 use Rattle.smk_base.specs.Rels.{kind_in}
+use Rattle.smk_base.specs.declared.rel.TheConstants.{COLUMN_LIMIT}
 use Rattle.smk_model.specs.Names.{in_turn, column_named, kinds_of, same_sort}
 use Rattle.smk_model.specs.Kinds.{AreAlike, FormulaFits, PairFits, Fits1, Fits2, FewTogether, kinds1, kinds2, wider, wider_kinds}
 use Rattle.smk_model.specs.Plain.{leaves, width}
@@ -75,9 +76,9 @@ united_parts at lefts rights columns e =
 joined_whole : (at : ℕ) (lefts rights columns : List Column) → joined at lefts rights ≡ Ok columns → FewTogether (kinds_of lefts) (kinds_of rights) × (kinds_of lefts ++ kinds_of rights ≡ kinds_of columns)
 joined_whole at lefts rights columns e =
     let first = unless_ok (share_a_name lefts rights) (DuplicateName at) _ columns e in
-    let second = unless_ok (nat_lt 16 (length lefts + length rights)) (RowTooWide at) (Ok (lefts ++ rights)) columns first.1 in
+    let second = unless_ok (nat_lt COLUMN_LIMIT (length lefts + length rights)) (RowTooWide at) (Ok (lefts ++ rights)) columns first.1 in
     let same : lefts ++ rights ≡ columns = cc second.1 in
-    let few : length lefts + length rights ≤ 16 = grind (arith, second.0) in
+    let few : length lefts + length rights ≤ COLUMN_LIMIT = grind (arith, second.0) in
     (omega (arith, few, kinds_long lefts, kinds_long rights), sym (map-append (λ (c : Column). c.kind) lefts rights) ∙ ap kinds_of same)
 
 joined_parts : (at : ℕ) (trees : List PairTree) (pairs : List (ℕ × ℕ)) (lefts rights columns : List Column) → in_turn (pair_after lefts rights) [] trees ≡ Ok pairs → joined at lefts rights ≡ Ok columns → Fits2Made (Equijoin pairs) lefts rights columns

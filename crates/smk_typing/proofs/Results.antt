@@ -3,6 +3,7 @@ use Rattle.std.proofs.Common.{◌≡◌, ◌+◌, ◌≤◌, ℕ, suc, Bool, tru
 use Rattle.std.specs.Prelude.{OnOk}
 use Rattle.smk_base.specs.declared.catalog.Column.{Column}
 use Rattle.smk_base.specs.declared.type_fault.TypeFault.{TypeFault}
+use Rattle.smk_base.specs.declared.rel.TheConstants.{COLUMN_LIMIT}
 use Rattle.smk_model.specs.Names.{Typed, ◌>>=◌, unless, in_turn}
 
 -- the first of two rules gave a result, from which the second made this one
@@ -44,8 +45,8 @@ pub ok_same : {A : Type 0} (a b : A) → (let found : Typed A = Ok a in found) �
 ok_same a b e = cc e
 
 -- the same columns are as few
-pub as_narrow : {A : Type 0} (r : Typed A) (new old : List Column) → OnOk r (new ≡ old) → length old ≤ 16 → OnOk r (length new ≤ 16)
-as_narrow (Ok a) new old same few = subst (λ (columns : List Column). length columns ≤ 16) (sym same) few
+pub as_narrow : {A : Type 0} (r : Typed A) (new old : List Column) → OnOk r (new ≡ old) → length old ≤ COLUMN_LIMIT → OnOk r (length new ≤ COLUMN_LIMIT)
+as_narrow (Ok a) new old same few = subst (λ (columns : List Column). length columns ≤ COLUMN_LIMIT) (sym same) few
 as_narrow (Err fault) new old same few = tt
 
 -- a result is no fault

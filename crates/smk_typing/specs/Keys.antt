@@ -5,6 +5,7 @@ use Rattle.smk_base.specs.declared.catalog.Back.{Back}
 use Rattle.smk_base.specs.declared.catalog.Fwd.{Fwd}
 use Rattle.smk_base.specs.declared.catalog.BackExtra.{BackExtra}
 use Rattle.smk_base.specs.declared.catalog.BackExtra.TheVariants as extras
+use Rattle.smk_base.specs.declared.limits.TheConstants.{TABLE_LIMIT}
 use Rattle.smk_base.specs.declared.rel.TheConstants.{COLUMN_LIMIT}
 use Rattle.smk_model.specs.Typing.{Linked}
 use Rattle.smk_typing.specs.declared.form.Form.{Form}
@@ -12,7 +13,7 @@ use Rattle.smk_typing.specs.declared.form.Form.TheVariants.{Plain, By, Grouped}
 
 -- at most 16 tables, of at most 16 columns each
 abbrev pub AreTables : List TableInfo → Type 0
-AreTables tables = (length tables ≤ 16) × All (λ table. length table.cols ≤ COLUMN_LIMIT) tables
+AreTables tables = (length tables ≤ TABLE_LIMIT) × All (λ table. length table.cols ≤ COLUMN_LIMIT) tables
 
 -- the form of a backward declaration
 abbrev pub form_of : BackExtra → Form

@@ -2,6 +2,7 @@
 use Rattle.std.specs.Prelude.{◌≡◌, ℕ, ◌+◌, ◌≤◌, Bool, cond, List, length, count_by, All}
 use Rattle.smk_base.specs.Trees.{StmtImage}
 use Rattle.smk_base.specs.CatalogImage.{CatalogImage}
+use Rattle.smk_base.specs.declared.limits.TheConstants.{TABLE_LIMIT, VIEW_LIMIT}
 use Rattle.smk_model.specs.Names.{in_turn}
 use Rattle.smk_model.specs.Expanded.{HasNoDependency}
 use Rattle.smk_model.specs.Limits.{KeepsStmt, is_table, is_view}
@@ -15,7 +16,7 @@ one_if test = cond test 1 0
 pub record IsBefore (book : List StmtImage) (catalog : CatalogImage) (rest : List StmtImage) : Type 0 where
   pub typed : IsTyped catalog
   pub types_rest : types book ≡ in_turn stmt_after catalog rest
-  pub few_tables : length catalog.tables + count_by is_table rest ≤ 16
-  pub few_views : length catalog.views + count_by is_view rest ≤ 64
+  pub few_tables : length catalog.tables + count_by is_table rest ≤ TABLE_LIMIT
+  pub few_views : length catalog.views + count_by is_view rest ≤ VIEW_LIMIT
   pub each : All KeepsStmt rest
   pub replaced : HasNoDependency rest

@@ -1,5 +1,6 @@
 ghost use Rattle.std.specs.Prelude.{◌≡◌, ◌<◌, ◌≤◌, length, map, IfOk};
 ghost use Rattle.smk_base.specs.CatalogImage.{catalog_image, view_image};
+ghost use Rattle.smk_base.specs.declared.limits.TheConstants.{VIEW_LIMIT};
 ghost use Rattle.smk_base.specs.declared.rel.TheConstants.{COLUMN_LIMIT};
 ghost use Rattle.smk_model.specs.Catalogs.{IsWithinLimits};
 ghost use Rattle.smk_model.specs.Typing as typing;
@@ -28,7 +29,7 @@ impl Keyed for ViewInfo {
 
     ghost key_of = { λ view. view.name };
 
-    ghost kept = { λ views. length views ≤ 64 };
+    ghost kept = { λ views. length views ≤ VIEW_LIMIT };
 }
 
 impl Keyed for Back {

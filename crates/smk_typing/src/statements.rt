@@ -2,6 +2,7 @@ ghost use Rattle.std.specs.Prelude.{◌≡◌, ◌+◌, ◌<◌, ◌≤◌, [], 
 ghost use Rattle.smk_base.specs.CatalogImage.{view_image};
 ghost use Rattle.smk_base.specs.PlanImage.{expr_of};
 ghost use Rattle.smk_base.specs.TreeImage.{stmt_image, tree_image};
+ghost use Rattle.smk_base.specs.declared.limits.TheConstants.{TABLE_LIMIT, VIEW_LIMIT};
 ghost use Rattle.smk_base.specs.declared.rel.TheConstants.{COLUMN_LIMIT};
 ghost use Rattle.smk_model.specs.Expanded.{IsNoDependency};
 ghost use Rattle.smk_model.specs.Limits.{KeepsStmt, KeepsTree, is_table, is_view};
@@ -28,8 +29,8 @@ use std::mem;
 
 /// The catalog after one more statement.
 pub fn stmt_after(alloc: Global, draft: &mut Draft, stmt: &Stmt) -> Result<(), TypeFault>
-    requires tables { length draft.old.tables + one_if (is_table (stmt_image stmt.now)) ≤ 16 }
-    requires views { length draft.old.views + one_if (is_view (stmt_image stmt.now)) ≤ 64 }
+    requires tables { length draft.old.tables + one_if (is_table (stmt_image stmt.now)) ≤ TABLE_LIMIT }
+    requires views { length draft.old.views + one_if (is_view (stmt_image stmt.now)) ≤ VIEW_LIMIT }
     requires kept { KeepsStmt (stmt_image stmt.now) }
     requires replaced { IsNoDependency (stmt_image stmt.now) }
     ensures { Finds result (typing.stmt_after (draft_image draft.old) (stmt_image stmt.now)) (λ _. draft_image draft.new) }
@@ -74,7 +75,7 @@ fn table_after(
     file: &Text,
     decls: &[Decl],
 ) -> Result<(), TypeFault>
-    requires room { length draft.old.tables < 16 }
+    requires room { length draft.old.tables < TABLE_LIMIT }
     requires few { length decls.now ≤ COLUMN_LIMIT }
     ensures { Finds result (typing.table_after (draft_image draft.old) name.now file.now decls.now) (λ _. draft_image draft.new) }
 {
@@ -130,7 +131,7 @@ fn named_view(alloc: Global, name: Text, typed: Typed) -> Result<ViewInfo, TypeF
 
 /// The catalog after a `view` statement.
 fn view_after(alloc: Global, draft: &mut Draft, name: &Word, tree: &Tree) -> Result<(), TypeFault>
-    requires room { length draft.old.views < 64 }
+    requires room { length draft.old.views < VIEW_LIMIT }
     requires kept { KeepsTree (tree_image tree.now) }
     ensures { Finds result (typing.view_after (draft_image draft.old) name.now (tree_image tree.now)) (λ _. draft_image draft.new) }
 {

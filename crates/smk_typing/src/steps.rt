@@ -1,6 +1,7 @@
 ghost use Rattle.std.specs.Prelude.{◌≡◌, ◌≤◌, [], ◌∷◌, map, length, All, Ok, IfOk};
 ghost use Rattle.smk_base.specs.PlanImage.{expr_of, unary_of};
 ghost use Rattle.smk_base.specs.TreeImage.{ask_step_image};
+ghost use Rattle.smk_base.specs.declared.limits.TheConstants.{NODE_LIMIT};
 ghost use Rattle.smk_base.specs.declared.rel.TheConstants.{COLUMN_LIMIT};
 ghost use Rattle.smk_model.specs.Asks.{asked_plan, chain, typed_steps};
 ghost use Rattle.smk_model.specs.Limits.{KeepsAskStep, KeepsSteps};
@@ -42,7 +43,7 @@ pub fn check_steps(
     ensures fits { IfOk result (λ typed. PlanFits (chain (map unary_of typed.ops)) (kinds_of (map column_of cols.now) ∷ [])) }
     ensures kinds { IfOk result (λ typed. plan_kinds (chain (map unary_of typed.ops)) (kinds_of (map column_of cols.now) ∷ []) ≡ typed.kinds) }
     ensures named { IfOk result (λ typed. length typed.names ≡ length typed.kinds) }
-    ensures few { IfOk result (λ typed. length typed.ops ≤ 64) }
+    ensures few { IfOk result (λ typed. length typed.ops ≤ NODE_LIMIT) }
 {
     let columns = columns_of(alloc, cols)?;
     let mut typed = Typed {
