@@ -1,4 +1,4 @@
-ghost use Rattle.std.specs.Prelude.{◌≡◌, ◌<◌, ◌≤◌};
+ghost use Rattle.std.specs.Prelude.{◌<◌, ◌≤◌};
 ghost use Rattle.smk_base.specs.declared.workers.TheConstants.{WORKER_LIMIT};
 
 use smk_base::{Dir, Op1, Op2, Rel};
@@ -22,8 +22,6 @@ impl<'g, G: Gate + Sync, B: OpBody> Pieces<'g, G, B> {
     pub fn new(inner: B, gate: &'g G, workers: u32) -> Pieces<'g, G, B>
         requires some { 0 < workers }
         requires few { workers ≤ WORKER_LIMIT }
-        ensures inner { result.inner ≡ inner }
-        ensures workers { result.workers ≡ workers }
     {
         Pieces {
             inner,

@@ -1,4 +1,3 @@
-ghost use Rattle.std.specs.Prelude.{◌≡◌};
 ghost use Rattle.smk_base.specs.PlanImage.{unary_of};
 ghost use Rattle.smk_model.specs.Kinds.{Fits1};
 
@@ -28,9 +27,7 @@ pub struct Counted<B: OpBody> {
 
 impl<B: OpBody> Counted<B> {
     /// Nothing was called yet.
-    pub fn new(inner: B) -> Counted<B>
-        ensures { result.inner ≡ inner }
-    {
+    pub fn new(inner: B) -> Counted<B> {
         Counted {
             inner,
             one: AtomicU64::new(0),
