@@ -1,6 +1,6 @@
 -- How a run ends, from what its work comes to and what is said.
 use Rattle.std.proofs.Common.{◌≡◌, ◌∙◌, [], ℕ, List, map, Option, Some, None, option_map, Result, Ok, Err, IfOk, refl, ap, sym, subst, inl, inr, arith}
-use Rattle.std.specs.Prelude.{◌⊎◌, ⊤}
+use Rattle.std.specs.Prelude.{◌⊎◌, ⊤, Bool, true, false, cond}
 use Rattle.smk_base.specs.CatalogImage.{CatalogImage}
 use Rattle.smk_base.specs.declared.demo.TheConstants.{DEMO_BOOK_NAME, DEMO_SCRIPT_NAME}
 use Rattle.smk_base.specs.declared.fault.Fault.{Fault}
@@ -10,7 +10,7 @@ use Rattle.smk_outside.specs.Outside.{IsPrefix, Appends, AppendsPart, Rose}
 use Rattle.smk_model.specs.Demo.{demo_of, summary, summary_of}
 use Rattle.smk_model.specs.NodeFaults.{NodeFault, FullRows, FullPairs}
 use Rattle.smk_model.specs.Opening.{ViewFault, first_view_fault, named_fault, fault_named}
-use Rattle.smk_model.specs.Reports.{Report, report_of, size_of_view}
+use Rattle.smk_model.specs.Reports.{Report, is_turned_down, report_of, size_of_view}
 use Rattle.smk_model.specs.Readings.{Reading, AreReadingsOf}
 use Rattle.smk_model.specs.Session.{Workbook, view_at}
 use Rattle.smk_model.specs.Values.{Row}
@@ -18,11 +18,11 @@ use Rattle.smk_model.specs.Words.{TextSource, Files, Demo, words_of}
 use Rattle.smk_model.specs.Outcome.{Held, Inputs, text_named, unless_view_fault, reported as report_or_fault, ReadsInputs, unusable, usable, Outcome, unreadable, read, written_for, written_of, NamesRead, nothing_held, WhereTold, UntoldCause, IsReport, HasCause}
 use Rattle.smk_top.specs.declared.counts.Counts.{Counts}
 use Rattle.smk_top.specs.declared.status.Status.{Status}
-use Rattle.smk_top.specs.declared.status.Status.TheVariants.{WriteFault}
+use Rattle.smk_top.specs.declared.status.Status.TheVariants.{Done, DoneWithRefusals, WriteFault}
 use Rattle.smk_top.specs.declared.stop.Stop.{Stop}
 use Rattle.smk_top.specs.declared.stop.Stop.TheVariants.{At, Unwritten, Exhausted}
-use Rattle.smk_top.specs.Statuses.{status_of_report}
-use Rattle.smk_top.specs.Collecting.{ReadsAll, IsInputs, Starts, IsSayable}
+use Rattle.smk_top.specs.Statuses.{IsReadingFault, status_of_fault, status_of_report}
+use Rattle.smk_top.specs.Collecting.{ReadsAll, IsInputs, Starts, IsSayable, LooksBehindReading}
 use Rattle.smk_top.specs.Counting.{counts_of}
 use Rattle.smk_top.specs.Writing.{PutsPieces}
 use Rattle.smk_top.specs.Endings.{IsBegun, reported, faulted, unwritten, exhausted, fault_unsaid, memory_unsaid, RunEnds, Works, Reports, SaysMemory, SaysFault}
@@ -225,3 +225,42 @@ pub ends_faulted : (words : List (List ℕ)) (held : Option Held) (files_rose ou
 ends_faulted words held files_rose out_rose err_rose a b e f fault status w (inl (said, q, inl (is, text))) = ([], said, w.1, q, rw (is, text) (faulted fault w.0))
 ends_faulted words held files_rose out_rose err_rose a b e f fault status w (inl (said, q, inr (is, front, rose))) = ([], said, w.1, q, rw is (fault_unsaid fault said w.0 front rose))
 ends_faulted words held files_rose out_rose err_rose a b e f fault status w (inr says) = memory_ends words held files_rose out_rose err_rose a b e f [] status w.1 (inl refl) says
+
+-- a step that makes no look makes none before its fault
+pub looks_at_nothing : {X : Type 0} (stop : Stop) (n : ℕ) → LooksBehindReading {X = X} (Err stop) n n
+looks_at_nothing (At fault) n = λ met. refl
+looks_at_nothing Unwritten n = tt
+looks_at_nothing Exhausted n = tt
+
+-- a fault of the views is none of what is read
+views_are_later : (fault : Fault) → IsOfViews fault → IsReadingFault (status_of_fault fault) → ⊥
+unfolding IsOfViews
+views_are_later (ViewRows view node) h met = met
+views_are_later (ViewPairs view node name) h met = met
+views_are_later _ h met = absurd h
+
+pub reports_later : (writes : Report → List ℕ) (given : Inputs) (rose : Type 0) (a b : Option (List ℕ)) (before after : ℕ) (result : Result Counts Stop) → Reports writes given rose a b result → LooksBehindReading result before after
+unfolding OnlyViews
+reports_later writes given rose a b before after (Ok counts) w = tt
+reports_later writes given rose a b before after (Err (At fault)) w = λ met. absurd (views_are_later fault (subst (λ (r : Result Report Fault). OnlyViews r) w.0 (views_reported given)) met)
+reports_later writes given rose a b before after (Err Unwritten) w = tt
+reports_later writes given rose a b before after (Err Exhausted) w = tt
+
+-- neither a report nor want of memory is a fault of what is read
+pub no_report_is_a_fault : (report : Report) (status : Status) → status ≡ status_of_report report → IsReadingFault status → ⊥
+no_report_is_a_fault report status is met = by (is_turned_down report) (subst IsReadingFault is met)
+  where
+    by : (turned : Bool) → IsReadingFault (cond turned DoneWithRefusals Done) → ⊥
+    by true met = met
+    by false met = met
+
+pub no_memory_is_no_fault : (rose : Type 0) (a b : Option (List ℕ)) (status : Status) → SaysMemory rose a b status → IsReadingFault status → ⊥
+no_memory_is_no_fault rose a b status (said, p, inl (is, text)) met = subst IsReadingFault is met
+no_memory_is_no_fault rose a b status (said, p, inr (is, front, up)) met = subst IsReadingFault is met
+
+-- a fault of what is read that is said
+pub said_later : (fault : Fault) (rose : Type 0) (a b : Option (List ℕ)) (status : Status) (before after : ℕ)
+    → SaysFault fault rose a b status → LooksBehindReading {X = Counts} (Err (At fault)) before after → IsReadingFault status → after ≡ before
+said_later fault rose a b status before after (inl (said, p, inl (is, text))) later met = later (subst IsReadingFault is met)
+said_later fault rose a b status before after (inl (said, p, inr (is, front, up))) later met = absurd (subst IsReadingFault is met)
+said_later fault rose a b status before after (inr says) later met = absurd (no_memory_is_no_fault rose a b status says met)

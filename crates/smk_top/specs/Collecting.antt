@@ -12,6 +12,7 @@ use Rattle.smk_model.specs.Words.{words_of}
 use Rattle.smk_model.specs.Outcome.{Held, Inputs, OpensScript, ReadsFiles, ReadsInputs, NamesAsked, load_all, UntoldCause, WhereTold, run_looks}
 use Rattle.smk_top.specs.declared.stop.Stop.{Stop}
 use Rattle.smk_top.specs.declared.stop.Stop.TheVariants.{At, Unwritten, Exhausted}
+use Rattle.smk_top.specs.Statuses.{IsReadingFault, status_of_fault}
 
 -- the answer of a step, seen so, is one that the definition has, or memory is wanting
 abbrev pub Answers : {A X : Type 0} → (Result A Fault → Type 0) → (X → A) → Result X Stop → Type 0
@@ -82,6 +83,13 @@ Starts book (Err Exhausted) = ⊤
 -- no look was made, or at most those of a run that reads such inputs
 abbrev pub RunLooks : List (List ℕ) → Option Held → ℕ → ℕ → Type 0
 RunLooks words held before after = (after ≡ before) ⊎ ((given : Inputs) × IsInputs words held given × (after ≤ before + run_looks given))
+
+-- where a step stops by a fault of what is read, no look was made
+abbrev pub LooksBehindReading : {X : Type 0} → Result X Stop → ℕ → ℕ → Type 0
+LooksBehindReading (Err (At fault)) before after = IsReadingFault (status_of_fault fault) → after ≡ before
+LooksBehindReading (Err Unwritten) before after = ⊤
+LooksBehindReading (Err Exhausted) before after = ⊤
+LooksBehindReading (Ok x) before after = ⊤
 
 -- a fault of a step has a line that says it
 abbrev pub IsSayable : {X : Type 0} → Result X Stop → Type 0

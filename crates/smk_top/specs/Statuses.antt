@@ -1,5 +1,5 @@
 -- The numbers of the statuses, and the statuses of reports and faults.
-use Rattle.std.specs.Prelude.{ℕ, cond}
+use Rattle.std.specs.Prelude.{⊤, ℕ, cond}
 use Rattle.smk_base.specs.declared.fault.Fault.{Fault}
 use Rattle.smk_base.specs.declared.fault.Fault.TheVariants as faults
 use Rattle.smk_model.specs.Reports.{Report, is_turned_down}
@@ -32,3 +32,11 @@ status_of_fault (faults.TableRows table) = Limit
 status_of_fault (faults.ViewRows view node) = Limit
 status_of_fault (faults.ViewPairs view node table) = Limit
 status_of_fault (faults.Unread file) = ReadFault
+
+-- the words, the book, a table or a file are at fault, which is met before any row is looked at
+abbrev pub IsReadingFault : Status → Type 0
+IsReadingFault Usage = ⊤
+IsReadingFault BadBook = ⊤
+IsReadingFault BadTable = ⊤
+IsReadingFault ReadFault = ⊤
+IsReadingFault _ = ⊥

@@ -14,8 +14,8 @@ ghost use Rattle.smk_top.specs.Counting.{counts_of};
 ghost use Rattle.smk_top.specs.Image.{texts_image};
 ghost use Rattle.smk_top.specs.Endings.{RunEnds, Works, Reports, SaysFault, SaysMemory};
 ghost use Rattle.smk_top.specs.Loaded.{inputs_with};
-ghost use Rattle.smk_top.specs.Collecting.{IsSayable, RunLooks};
-ghost use Rattle.smk_top.specs.Statuses.{status_of_fault, status_of_report};
+ghost use Rattle.smk_top.specs.Collecting.{IsSayable, LooksBehindReading, RunLooks};
+ghost use Rattle.smk_top.specs.Statuses.{IsReadingFault, status_of_fault, status_of_report};
 
 use crate::called::{RunTexts, RunWords};
 use crate::collecting::read_all;
@@ -141,6 +141,7 @@ fn work_on<R: Threads + Sync, F: Files, O: Sink, G: Gate + Sync, L: Ledger>(
     ensures files_later { F.faults files.old ≤ F.faults files.new }
     ensures out_later { O.faults out.old ≤ O.faults out.new }
     ensures looks { (words : List (List ℕ)) → words_of words ≡ Some (texts_image call.now.texts) → RunLooks words (F.held files.old) steps.old steps.new }
+    ensures no_look { LooksBehindReading result steps.old steps.new }
     ensures demo { (flights : ℕ) → texts_image call.now.texts ≡ Demo flights → F.faults files.new ≡ F.faults files.old }
 {
     match &call.texts {
@@ -173,6 +174,7 @@ fn work<R: Threads + Sync, F: Files, O: Sink, G: Gate + Sync, L: Ledger>(
     ensures files_later { F.faults files.old ≤ F.faults files.new }
     ensures out_later { O.faults out.old ≤ O.faults out.new }
     ensures looks { RunLooks (map (λ w. w.now) words.entry.now) (F.held files.old) steps.old steps.new }
+    ensures no_look { LooksBehindReading result steps.old steps.new }
     ensures demo { (flights : ℕ) → words_of (map (λ w. w.now) words.entry.now) ≡ Some (Demo flights) → F.faults files.new ≡ F.faults files.old }
 {
     let found = read_words(alloc, words)?;
@@ -211,6 +213,7 @@ pub fn run<R: Threads + Sync, F: Files, O: Sink, E: Sink, G: Gate + Sync, L: Led
     ensures out_later { O.faults out.old ≤ O.faults out.new }
     ensures err_later { E.faults err.old ≤ E.faults err.new }
     ensures looks { RunLooks (map (λ w. w.now) words.entry.now) (F.held files.old) steps.old steps.new }
+    ensures no_look { IsReadingFault result → steps.new ≡ steps.old }
     ensures demo { (flights : ℕ) → words_of (map (λ w. w.now) words.entry.now) ≡ Some (Demo flights) → F.faults files.new ≡ F.faults files.old }
 {
     match work(rt, alloc, words, files, out, gate, steps) {

@@ -9,7 +9,7 @@ use Rattle.smk_model.proofs.SomeOutcome.{some_reading}
 use Rattle.smk_top.specs.declared.called.RunTexts.{RunTexts}
 use Rattle.smk_top.specs.Image.{texts_image}
 use Rattle.smk_top.specs.Loaded.{script_bytes, inputs_with}
-use Rattle.smk_top.proofs.Endings.{files_stop, files_read, demo_stops, demo_read, files_write, demo_writes, reports}
+use Rattle.smk_top.proofs.Endings.{files_stop, files_read, demo_stops, demo_read, files_write, demo_writes, reports, reports_later, looks_at_nothing}
 use Rattle.smk_top.proofs.program.work_on.Goals as goal
 
 pub returns-in_err-inputs-in-Files-clause-works : goal.returns-in_err-inputs-in-Files-clause-works
@@ -72,3 +72,23 @@ returns-in_ok-inputs-in-Demo-clause-looks g c words is =
       demo_read words c.in-Demo.flights.count (g.F.Files.held c.args.files.now) inputs_with script_bytes c.in_ok-inputs-in-Demo.inputs said.0 asked c.in_ok-inputs-in-Demo.ensures.read said.1,
       c.summarize.ensures.looks said.0 said.1,
     )
+
+pub returns-in_err-inputs-in-Files-clause-no_look : goal.returns-in_err-inputs-in-Files-clause-no_look
+returns-in_err-inputs-in-Files-clause-no_look g c =
+    let p = err_from_is_err_and c.from_residual.result c.from_residual.ensures.1 in
+    rw (p.1, p.2) (looks_at_nothing c.in_err-inputs-in-Files.field-0.0 _)
+
+pub returns-in_ok-inputs-in-Files-clause-no_look : goal.returns-in_ok-inputs-in-Files-clause-no_look
+returns-in_ok-inputs-in-Files-clause-no_look g c =
+    let said = some_reading (script_bytes c.in_ok-inputs-in-Files.inputs) in
+    reports_later (λ (report : Report). report.text) (inputs_with c.in_ok-inputs-in-Files.inputs said.0) _ _ _ _ _ c.report.result (c.report.ensures.works said.0 said.1)
+
+pub returns-in_err-inputs-in-Demo-clause-no_look : goal.returns-in_err-inputs-in-Demo-clause-no_look
+returns-in_err-inputs-in-Demo-clause-no_look g c =
+    let p = err_from_is_err_and c.from_residual-in_err-inputs-in-Demo.result c.from_residual-in_err-inputs-in-Demo.ensures.1 in
+    rw (p.1, p.2) (looks_at_nothing c.in_err-inputs-in-Demo.field-0.0 _)
+
+pub returns-in_ok-inputs-in-Demo-clause-no_look : goal.returns-in_ok-inputs-in-Demo-clause-no_look
+returns-in_ok-inputs-in-Demo-clause-no_look g c =
+    let said = some_reading (script_bytes c.in_ok-inputs-in-Demo.inputs) in
+    reports_later (summary_of c.in-Demo.flights.count) (inputs_with c.in_ok-inputs-in-Demo.inputs said.0) _ _ _ _ _ c.summarize.result (c.summarize.ensures.works said.0 said.1)
