@@ -1,7 +1,6 @@
 //! Plans with the lineage that is needed, composed over their steps.
 
-use crate::contents::{Content, has_content, has_rows, have_contents};
-use crate::opened::open_book;
+use crate::contents::{has_content, has_rows, have_contents};
 use crate::shop::{CONTENTS, shop};
 use smk_defer::Defer;
 use smk_inject::Inject;
@@ -9,23 +8,6 @@ use smk_marks::{is_growing, scanned_table};
 use smk_plain::Plain;
 use smk_test_bodies::{Calls, Counted};
 use std::test::Fail;
-
-// Two tables whose rows are joined one by one, so that the last step's lists serve both.
-const MATCHED: &str = "\
-table a from \"a.csv\" (k int)
-table b from \"b.csv\" (j int)
-view v = scan a | join scan b on k = j | where k > 1
-lineage back v to a
-lineage fwd a to v
-lineage back v to b
-lineage fwd b to v
-";
-
-const PAIRED: Content = Content {
-    view: 0,
-    rows: "2 2 \n",
-    maps: "table 0\nback [1] below 2\nfwd [] [0] below 1\ntable 1\nback [1] below 2\nfwd [] [0] below 1\n",
-};
 
 #[test]
 fn views_keep_what_is_needed(rt: HostRuntime) -> Result<(), Fail> {
@@ -55,14 +37,6 @@ fn each_step_is_asked_once(rt: HostRuntime) -> Result<(), Fail> {
         finish: 2,
     };
     assert_eq!(rt; body.calls(), calls);
-    Ok(())
-}
-
-#[test]
-fn lists_of_a_step_serve_two_tables(rt: HostRuntime) -> Result<(), Fail> {
-    let files = [b"k\n1\n2\n".as_slice(), b"j\n1\n2\n".as_slice()];
-    let matched = open_book(rt.alloc(), MATCHED, files.as_slice())?;
-    assert!(rt; has_content(&rt, rt, &Inject, &matched, &PAIRED)?);
     Ok(())
 }
 

@@ -25,6 +25,8 @@ mod growing;
 #[cfg(test)]
 mod joined;
 #[cfg(test)]
+mod lines;
+#[cfg(test)]
 mod meetings;
 #[cfg(test)]
 mod opened;
