@@ -142,7 +142,7 @@ unfolding next_record
 same_next s [] h = rw (not_ended_at_end s h) refl
 same_next s (c ∷ a) h = rw (same_start s c h) refl
 
-pub same_after : (s : State) (a : List ℕ) → is_start s ≡ true → records_after s a ≡ records default_config a
+same_after : (s : State) (a : List ℕ) → is_start s ≡ true → records_after s a ≡ records default_config a
 unfolding records_after records_from
 same_after s a h = rw (add-one, same_next s a h) refl
 
@@ -150,16 +150,12 @@ nothing : (s : State) → is_start s ≡ true → next_record default_config s [
 unfolding next_record
 nothing s h = rw (not_ended_at_end s h) refl
 
-pub nothing_read : records default_config [] ≡ []
-unfolding records_from next_record
-nothing_read = refl
-
-pub from_after : (a : List ℕ) → records default_config a ≡ records_after st.StartRecord a
+from_after : (a : List ℕ) → records default_config a ≡ records_after st.StartRecord a
 unfolding records_after
 from_after a = refl
 
 -- what begins alike goes on alike
-pub through : (s : State) (a : List ℕ) (t : State) (b : List ℕ) → is_start s ≡ true → is_start t ≡ true → next_record default_config s [] [] a ≡ next_record default_config t [] [] b → records_after s a ≡ records_after t b
+through : (s : State) (a : List ℕ) (t : State) (b : List ℕ) → is_start s ≡ true → is_start t ≡ true → next_record default_config s [] [] a ≡ next_record default_config t [] [] b → records_after s a ≡ records_after t b
 through s a t b start begin h = by (next_record default_config t [] [] b) refl
   where
     by : (o : Option Read) → next_record default_config t [] [] b ≡ o → records_after s a ≡ records_after t b

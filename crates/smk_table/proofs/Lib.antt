@@ -6,7 +6,6 @@ pub mod Narrows
 pub mod JoinNarrows
 pub mod Shown
 pub mod Cuts
-pub mod UnquotedText
 pub mod Lines
 pub mod PieceSteps
 pub mod PieceRows

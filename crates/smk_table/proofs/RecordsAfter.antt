@@ -7,7 +7,7 @@ use Rattle.csv.specs.declared.parser.State.{State}
 use Rattle.csv.specs.declared.parser.State.TheVariants as st
 use Rattle.csv.specs.declared.reader.Reader.{Reader}
 use Rattle.smk_base.specs.Marks.{begins_with_mark}
-use Rattle.smk_table.specs.CsvReader.{is_start, records_after, text_left, reader_left, IsReaderBetween}
+use Rattle.smk_table.specs.CsvReader.{is_start, records_after, text_left, records_left, IsBetween}
 
 ends_start : (s : State) (c : ℕ) → is_end (step default_config s c).1 ≡ true → is_start (step default_config s c).0 ≡ true
 ends_start st.StartRecord c h = grind arith
@@ -114,31 +114,31 @@ told_is : (o : Option (List ℕ)) → IsSome o → (y : List ℕ) × (o ≡ Some
 told_is None h = absurd (true≢false (sym h))
 told_is (Some y) h = (y, refl)
 
-pub reader_left_is : (a : Reader (Bor (List ℕ))) (y : List ℕ) → text_left a ≡ Some y → reader_left a ≡ records_after a.state y
-unfolding reader_left
-reader_left_is a y e = rw e refl
+pub records_left_is : (a : Reader (Bor (List ℕ))) (y : List ℕ) → text_left a ≡ Some y → records_left a ≡ records_after a.state y
+unfolding records_left
+records_left_is a y e = rw e refl
 
-pub reads-found : (a b : Reader (Bor (List ℕ))) (f : List (List ℕ)) → IsReaderBetween a → ReadRecord (λ (s : Bor (List ℕ)). Some s.now) a b true f → b.first ≡ true
-    → IsReaderBetween b × (reader_left a ≡ f ∷ reader_left b)
+pub reads-found : (a b : Reader (Bor (List ℕ))) (f : List (List ℕ)) → IsBetween a → ReadRecord (λ (s : Bor (List ℕ)). Some s.now) a b true f → b.first ≡ true
+    → IsBetween b × (records_left a ≡ f ∷ records_left b)
 reads-found a b f at r first =
     let y = told_is (text_left a) at.told in
     let next = read_some a.state y.0 _ f b.state at.starts (rw (at.plain, y.1) at r.0) in
     let rest : text_left b ≡ Some next.0 = rw r.1 next.1 in (
       record { untrimmed = r.3 ∙ at.untrimmed; ready = inl first; plain = r.2 ∙ at.plain; told = ap is_some rest; starts = next.2 },
-      reader_left_is a y.0 y.1 ∙ next.3 ∙ ap (λ l. f ∷ l) (sym (reader_left_is b next.0 rest)),
+      records_left_is a y.0 y.1 ∙ next.3 ∙ ap (λ l. f ∷ l) (sym (records_left_is b next.0 rest)),
     )
 
-pub reads-ended : (a b : Reader (Bor (List ℕ))) (f : List (List ℕ)) → IsReaderBetween a → ReadRecord (λ (s : Bor (List ℕ)). Some s.now) a b false f → reader_left a ≡ []
+pub reads-ended : (a b : Reader (Bor (List ℕ))) (f : List (List ℕ)) → IsBetween a → ReadRecord (λ (s : Bor (List ℕ)). Some s.now) a b false f → records_left a ≡ []
 reads-ended a b f at r =
     let y = told_is (text_left a) at.told in
-    reader_left_is a y.0 y.1 ∙ read_none a.state y.0 _ f b.state (rw (at.plain, y.1) at r.0)
+    records_left_is a y.0 y.1 ∙ read_none a.state y.0 _ f b.state (rw (at.plain, y.1) at r.0)
 
 -- the clauses of a read that gave an answer
-pub found-says : (a b : Reader (Bor (List ℕ))) (f : List (List ℕ)) (found : Bool) → IsReaderBetween a → ReadRecord (λ (s : Bor (List ℕ)). Some s.now) a b found f → b.first ≡ true
-    → OnTrue found (IsReaderBetween b × (reader_left a ≡ f ∷ reader_left b))
+pub found-says : (a b : Reader (Bor (List ℕ))) (f : List (List ℕ)) (found : Bool) → IsBetween a → ReadRecord (λ (s : Bor (List ℕ)). Some s.now) a b found f → b.first ≡ true
+    → OnTrue found (IsBetween b × (records_left a ≡ f ∷ records_left b))
 found-says a b f true at r first = reads-found a b f at r first
 found-says a b f false at r first = tt
 
-pub ended-says : (a b : Reader (Bor (List ℕ))) (f : List (List ℕ)) (found : Bool) → IsReaderBetween a → ReadRecord (λ (s : Bor (List ℕ)). Some s.now) a b found f → OnFalse found (reader_left a ≡ [])
+pub ended-says : (a b : Reader (Bor (List ℕ))) (f : List (List ℕ)) (found : Bool) → IsBetween a → ReadRecord (λ (s : Bor (List ℕ)). Some s.now) a b found f → OnFalse found (records_left a ≡ [])
 ended-says a b f true at r = tt
 ended-says a b f false at r = reads-ended a b f at r

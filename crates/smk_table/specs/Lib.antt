@@ -4,7 +4,5 @@ pub mod Choosing
 pub mod Named
 pub mod Narrowed
 pub mod Showing
-pub mod Sources
 pub mod Cuts
 pub mod Pieces
-pub mod Unquoted

@@ -8,8 +8,8 @@ ghost use Rattle.smk_table.specs.Cuts.{AreLines, is_unquoted, read_of};
 
 use std::alloc::{AllocError, Global};
 
-/// Whether a text has no quote. It looks at every byte, since a loop that may end early takes a byte at a time.
-pub(crate) fn is_unquoted_text(text: &[u8]) -> bool
+// Whether a text has no quote. It looks at every byte, since a loop that may end early takes a byte at a time.
+fn is_unquoted_text(text: &[u8]) -> bool
     ensures { result ≡ list_all is_unquoted text.now }
 {
     let mut unquoted = true;

@@ -1,6 +1,7 @@
-ghost use Rattle.std.specs.Prelude.{◌≡◌, ◌≢◌, ◌⊎◌, ◌<◌, ◌≤◌, ◌+◌, [], length, IfOk, IfErr, IfSome, OnOk, Ok, Err};
+ghost use Rattle.std.specs.Prelude.{◌≡◌, ◌≢◌, ◌⊎◌, ◌<◌, ◌≤◌, ◌+◌, [], length, IfOk, IfErr, IfSome, OnOk, Ok, Err, slice_index_or};
 ghost use Rattle.std.specs.List.{list_all};
 ghost use Rattle.std.specs.Option.{ok_or, option_map};
+ghost use Rattle.csv.specs.Records.{fields_of};
 ghost use Rattle.smk_base.specs.declared.fault.TableFault.TheVariants.{NoMemory, BadInt};
 ghost use Rattle.smk_base.specs.declared.value.Kind.TheVariants as kinds;
 ghost use Rattle.smk_base.specs.declared.value.Value.TheVariants as values;
@@ -9,19 +10,25 @@ ghost use Rattle.smk_base.specs.Rels.{Fits, kind_in};
 ghost use Rattle.smk_base.specs.declared.rel.TheConstants.{COLUMN_LIMIT};
 ghost use Rattle.smk_model.specs.Tables.{AreColumns, IsBaseColumn, all_or_first, numbered, column_place, cell_value, field_value, int_value, text_value, record_row, kinds_of};
 ghost use Rattle.smk_table.specs.Growing.{with_cell, with_row};
-ghost use Rattle.smk_table.specs.Sources.{fields_read};
 
-use crate::csv_reader::{Records, field_at, field_count};
+use csv::ByteRecord;
 use smk_base::{ColDecl, ColDecls, Kind, ROW_LIMIT, RelBuilder, TableFault, Value, read_int};
 use std::alloc::Global;
 
+// The field at a place, and no bytes past the last.
+fn field_at(fields: &ByteRecord, place: usize) -> &[u8]
+    ensures { result.now ≡ slice_index_or (fields_of fields.now) place [] }
+{
+    fields.get(place).unwrap_or(&[])
+}
+
 /// The place of declared column c in the header.
-fn place_of(header: &Records<'_>, decl: &ColDecl, c: u32) -> Result<usize, TableFault>
-    ensures { result ≡ column_place (fields_read header.now) c decl.now }
+fn place_of(header: &ByteRecord, decl: &ColDecl, c: u32) -> Result<usize, TableFault>
+    ensures { result ≡ column_place (fields_of header.now) c decl.now }
 {
     let name = decl.name.as_slice();
     let mut found = None;
-    for place in 0..field_count(header) {
+    for place in 0..header.len() {
         if field_at(header, place) == name {
             if found.is_some() {
                 return Err(TableFault::RepeatedColumn { col: c });
@@ -35,13 +42,13 @@ fn place_of(header: &Records<'_>, decl: &ColDecl, c: u32) -> Result<usize, Table
 /// The places of the declared columns in the header, in order.
 pub(crate) fn column_places(
     alloc: Global,
-    header: &Records<'_>,
+    header: &ByteRecord,
     cols: &ColDecls,
 ) -> Result<Vec<usize>, TableFault>
     requires { length cols.now ≤ COLUMN_LIMIT }
     ensures count { IfOk result (λ places. length places.items ≡ length cols.now) }
-    ensures ok { IfOk result (λ places. all_or_first (numbered (column_place (fields_read header.now)) 0 cols.now) ≡ Ok places.items) }
-    ensures fault { IfErr result (λ fault. (fault ≡ NoMemory) ⊎ (all_or_first (numbered (column_place (fields_read header.now)) 0 cols.now) ≡ Err fault)) }
+    ensures ok { IfOk result (λ places. all_or_first (numbered (column_place (fields_of header.now)) 0 cols.now) ≡ Ok places.items) }
+    ensures fault { IfErr result (λ fault. (fault ≡ NoMemory) ⊎ (all_or_first (numbered (column_place (fields_of header.now)) 0 cols.now) ≡ Err fault)) }
 {
     let mut places = Vec::new(alloc);
     for (c, decl) in cols.as_slice().iter().enumerate() {
@@ -117,7 +124,7 @@ fn push_values(
     cols: &ColDecls,
     places: &[usize],
     nth: u32,
-    fields: &Records<'_>,
+    fields: &ByteRecord,
 ) -> Result<(), TableFault>
     requires columns { AreColumns cols.now }
     requires places { length places.now ≡ length cols.now }
@@ -126,8 +133,8 @@ fn push_values(
     requires room { length rel.old.rows < ROW_LIMIT }
     ensures kinds { rel.new.kinds ≡ rel.old.kinds }
     ensures begun { OnOk result (rel.new.begun ≡ []) }
-    ensures pushed { OnOk result (with_row rel.old.rows (all_or_first (numbered (cell_value places.now nth (fields_read fields.now)) 0 cols.now)) ≡ Ok rel.new.rows) }
-    ensures fault { IfErr result (λ fault. (fault ≡ NoMemory) ⊎ (all_or_first (numbered (cell_value places.now nth (fields_read fields.now)) 0 cols.now) ≡ Err fault)) }
+    ensures pushed { OnOk result (with_row rel.old.rows (all_or_first (numbered (cell_value places.now nth (fields_of fields.now)) 0 cols.now)) ≡ Ok rel.new.rows) }
+    ensures fault { IfErr result (λ fault. (fault ≡ NoMemory) ⊎ (all_or_first (numbered (cell_value places.now nth (fields_of fields.now)) 0 cols.now) ≡ Err fault)) }
 {
     for (c, decl) in cols.as_slice().iter().enumerate() {
         push_value(rel, decl, field_at(fields, places[c]), nth, c as u32)?;
@@ -143,7 +150,7 @@ pub(crate) fn push_record(
     places: &[usize],
     width: usize,
     nth: u32,
-    fields: &Records<'_>,
+    fields: &ByteRecord,
 ) -> Result<(), TableFault>
     requires columns { AreColumns cols.now }
     requires places { length places.now ≡ length cols.now }
@@ -153,14 +160,14 @@ pub(crate) fn push_record(
     requires few { length rel.old.rows ≤ ROW_LIMIT }
     ensures kinds { rel.new.kinds ≡ rel.old.kinds }
     ensures begun { OnOk result (rel.new.begun ≡ []) }
-    ensures pushed { OnOk result (with_row rel.old.rows (record_row cols.now places.now width nth (fields_read fields.now)) ≡ Ok rel.new.rows) }
+    ensures pushed { OnOk result (with_row rel.old.rows (record_row cols.now places.now width nth (fields_of fields.now)) ≡ Ok rel.new.rows) }
     ensures room { IfOk result (λ _. nth ≢ ROW_LIMIT + 1) }
-    ensures fault { IfErr result (λ fault. (fault ≡ NoMemory) ⊎ (record_row cols.now places.now width nth (fields_read fields.now) ≡ Err fault)) }
+    ensures fault { IfErr result (λ fault. (fault ≡ NoMemory) ⊎ (record_row cols.now places.now width nth (fields_of fields.now) ≡ Err fault)) }
 {
     if nth == ROW_LIMIT + 1 {
         return Err(TableFault::TooManyRows);
     }
-    if field_count(fields) != width {
+    if fields.len() != width {
         return Err(TableFault::Ragged { nth });
     }
     push_values(rel, cols, places, nth, fields)

@@ -12,7 +12,6 @@ mod narrowing;
 mod pieces;
 mod records;
 mod table;
-mod unquoted;
 
 pub use chosen::Chosen;
 pub use grouped_join::{GroupedJoin, narrow_grouped_join};

@@ -6,15 +6,16 @@ ghost use Rattle.smk_base.specs.declared.fault.TableFault.TheVariants.{NoMemory}
 ghost use Rattle.smk_base.specs.declared.workers.TheConstants.{WORKER_LIMIT};
 ghost use Rattle.smk_model.specs.Tables.{AreColumns, kinds_of, table_of};
 ghost use Rattle.smk_table.specs.Cuts.{read_of};
-ghost use Rattle.smk_table.specs.Sources.{IsBetween, records_left};
+ghost use Rattle.smk_table.specs.CsvReader.{IsBetween, records_left};
 ghost use Rattle.smk_table.specs.Pieces.{Gives, HasHeader, behind_header, rows_from, parts_of, parts_behind};
 
-use crate::csv_reader::{Records, field_count, next_record, reader_of};
+use crate::csv_reader::{next_record, reader_of};
 use crate::cutting::pieces;
 use crate::fields::column_places;
 use crate::joining::join_parts;
 use crate::records::{empty_rel, read_rows, read_table};
 use crate::table::Table;
+use csv::{ByteRecord, Reader};
 use smk_base::{ColDecls, Rel, TableFault, without_mark};
 use smk_outside::Gate;
 use std::alloc::{AllocError, Global};
@@ -30,7 +31,8 @@ struct Header {
 // The header of the records that are left, where there is one.
 fn header_left(
     alloc: Global,
-    reader: &mut Records<'_>,
+    reader: &mut Reader<&[u8]>,
+    row: &mut ByteRecord,
     cols: &ColDecls,
 ) -> Result<Option<Header>, TableFault>
     requires between { IsBetween reader.old }
@@ -39,11 +41,11 @@ fn header_left(
     ensures found { IfOk result (λ found. IfSome found (λ header. HasHeader cols.now (records_left reader.old) header.width (Ok header.places.items))) }
     ensures fault { IfErr result (λ fault. (fault ≡ NoMemory) ⊎ ((width : ℕ) × HasHeader cols.now (records_left reader.old) width (Err fault))) }
 {
-    if !next_record(reader)? {
+    if !next_record(reader, row)? {
         return Ok(None);
     }
-    let width = field_count(reader);
-    match column_places(alloc, reader, cols) {
+    let width = row.len();
+    match column_places(alloc, row, cols) {
         Ok(places) => Ok(Some(Header { places, width })),
         Err(fault) => Err(fault),
     }
@@ -58,7 +60,8 @@ fn header_of(alloc: Global, text: &[u8], cols: &ColDecls) -> Result<Option<Heade
     ensures fault { IfErr result (λ fault. (fault ≡ NoMemory) ⊎ ((width : ℕ) × HasHeader cols.now (records default_config text.now) width (Err fault))) }
 {
     let mut reader = reader_of(alloc, text);
-    header_left(alloc, &mut reader, cols)
+    let mut row = ByteRecord::new(alloc);
+    header_left(alloc, &mut reader, &mut row, cols)
 }
 
 // The rows of the records of a piece of a text, each with its number in the piece, behind the header where the piece has it.
@@ -76,11 +79,12 @@ fn read_piece(
     ensures { Gives cols.now (rows_from cols.now places.now width 1 (behind_header has_header (records default_config text.now))) result }
 {
     let mut reader = reader_of(alloc, text);
+    let mut row = ByteRecord::new(alloc);
     let mut rel = empty_rel(alloc, cols)?;
-    if has_header && !next_record(&mut reader)? {
+    if has_header && !next_record(&mut reader, &mut row)? {
         return Ok(rel.finish(alloc)?);
     }
-    read_rows(&mut reader, cols, places, width, &mut rel)?;
+    read_rows(&mut reader, &mut row, cols, places, width, &mut rel)?;
     Ok(rel.finish(alloc)?)
 }
 

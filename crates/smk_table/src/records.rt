@@ -1,11 +1,12 @@
 ghost use Rattle.std.specs.Prelude.{◌≡◌, ◌⊎◌, ◌<◌, ◌≤◌, [], length, IfOk, IfErr, OnOk, Ok, Err};
 ghost use Rattle.smk_base.specs.declared.fault.TableFault.TheVariants.{NoMemory};
 ghost use Rattle.smk_model.specs.Tables.{AreColumns, IsBase, table_of, table_of_records, kinds_of, all_or_first, numbered, record_row};
-ghost use Rattle.smk_table.specs.Sources.{IsBetween, records_left};
+ghost use Rattle.smk_table.specs.CsvReader.{IsBetween, records_left};
 
-use crate::csv_reader::{Records, field_count, next_record, reader_of};
+use crate::csv_reader::{next_record, reader_of};
 use crate::fields::{column_places, push_record};
 use crate::table::Table;
+use csv::{ByteRecord, Reader};
 use smk_base::{ColDecls, Kind, ROW_LIMIT, RelBuilder, TableFault, without_mark};
 use std::alloc::{AllocError, Global};
 
@@ -17,13 +18,15 @@ pub fn read_table(alloc: Global, bytes: &[u8], cols: &ColDecls) -> Result<Table,
     ensures fault { IfErr result (λ fault. (fault ≡ NoMemory) ⊎ (table_of cols.now bytes.now ≡ Err fault)) }
 {
     let mut reader = reader_of(alloc, without_mark(bytes));
-    read_records(alloc, &mut reader, cols)
+    let mut row = ByteRecord::new(alloc);
+    read_records(alloc, &mut reader, &mut row, cols)
 }
 
 /// The table of all the records that are left, of which the first is the header.
 fn read_records(
     alloc: Global,
-    reader: &mut Records<'_>,
+    reader: &mut Reader<&[u8]>,
+    row: &mut ByteRecord,
     cols: &ColDecls,
 ) -> Result<Table, TableFault>
     requires between { IsBetween reader.old }
@@ -32,13 +35,13 @@ fn read_records(
     ensures kinds { IfOk result (λ table. table.kinds ≡ kinds_of cols.now) }
     ensures fault { IfErr result (λ fault. (fault ≡ NoMemory) ⊎ (table_of_records cols.now (records_left reader.old) ≡ Err fault)) }
 {
-    if !next_record(reader)? {
+    if !next_record(reader, row)? {
         return Err(TableFault::NoHeader);
     }
-    let places = column_places(alloc, reader, cols)?;
-    let width = field_count(reader);
+    let places = column_places(alloc, row, cols)?;
+    let width = row.len();
     let mut rel = empty_rel(alloc, cols)?;
-    read_rows(reader, cols, places.as_slice(), width, &mut rel)?;
+    read_rows(reader, row, cols, places.as_slice(), width, &mut rel)?;
     Ok(Table::of_rel(rel.finish(alloc)?.shared(alloc)?))
 }
 
@@ -56,7 +59,8 @@ pub(crate) fn empty_rel(alloc: Global, cols: &ColDecls) -> Result<RelBuilder, Al
 
 /// Puts the rows of all the records that are left behind no row.
 pub(crate) fn read_rows(
-    reader: &mut Records<'_>,
+    reader: &mut Reader<&[u8]>,
+    row: &mut ByteRecord,
     cols: &ColDecls,
     places: &[usize],
     width: usize,
@@ -74,10 +78,10 @@ pub(crate) fn read_rows(
     ensures fault { IfErr result (λ fault. (fault ≡ NoMemory) ⊎ (all_or_first (numbered (record_row cols.now places.now width) 1 (records_left reader.old)) ≡ Err fault)) }
 {
     for nth in 1..ROW_LIMIT + 2 {
-        if !next_record(reader)? {
+        if !next_record(reader, row)? {
             return Ok(());
         }
-        push_record(rel, cols, places, width, nth, reader)?;
+        push_record(rel, cols, places, width, nth, row)?;
     }
     unreachable!()
 }

@@ -2,7 +2,7 @@ use Rattle.std.proofs.Common.{◌≡◌, ◌≤◌, ◌+◌, ◌++◌, [], lengt
 use Rattle.smk_model.specs.Names.{◌>>=◌}
 use Rattle.smk_model.specs.Tables.{all_or_first, numbered, record_row, kinds_of}
 use Rattle.smk_base.specs.declared.rel.TheConstants.{ROW_LIMIT}
-use Rattle.smk_table.specs.Sources.{IsBetween, records_left}
+use Rattle.smk_table.specs.CsvReader.{IsBetween, records_left}
 use Rattle.smk_table.proofs.records.read_rows.Given as goal
 
 abbrev pub invariant-loop-nth : goal.invariant-loop-nth

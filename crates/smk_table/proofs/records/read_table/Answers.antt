@@ -1,4 +1,4 @@
-use Rattle.smk_table.specs.Sources.{records_left}
+use Rattle.smk_table.specs.CsvReader.{records_left}
 use Rattle.smk_table.proofs.TableRows.{table_of-left}
 use Rattle.smk_table.proofs.records.read_table.Goals as goal
 

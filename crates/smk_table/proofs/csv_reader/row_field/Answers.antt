@@ -1,7 +1,0 @@
-use Rattle.std.proofs.Common.{Bor, List, ℕ, ◌∙◌, ap, refl}
-use Rattle.csv.specs.Records.{fields_of}
-use Rattle.smk_table.proofs.FieldPlaces.{found_field}
-use Rattle.smk_table.proofs.csv_reader.row_field.Goals as goal
-
-pub returns : goal.returns
-returns c = ap (λ (s : Bor (List ℕ)). s.now) c.unwrap_or.ensures ∙ found_field (fields_of c.args.row.now) c.args.place c.get.result _ c.get.ensures.value refl
