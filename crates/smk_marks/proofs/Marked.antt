@@ -2,7 +2,7 @@
 use Rattle.std.proofs.Common.{◌≡◌, ℕ, suc, ◌+◌, ◌<◌, ◌≤◌, pos, Bool, List, [], ◌∷◌, ◌++◌, length, map, take, refl, ap, sym, ◌∙◌, subst, arith, get_or, nat_eq, nat_lt, cond, inl, inr}
 use Rattle.std.specs.List.{filter, All}
 use Rattle.std.proofs.lemmas.Int.{ints}
-use Rattle.std.proofs.lemmas.List.{length-map, length-append, get_or_append_left}
+use Rattle.std.proofs.lemmas.List.{length-map, length-append, get_or_append_left, get_or-map}
 use Rattle.std.proofs.lemmas.List.Elements.{All-map, All-append, All-nil}
 use Rattle.std.proofs.lemmas.Slice.Zip.{AllZip-long}
 use Rattle.std.proofs.lemmas.Bool.{cases_Bool}
@@ -17,7 +17,7 @@ use Rattle.smk_model.specs.Values.{Row}
 use Rattle.smk_model.specs.Lineage.{upto, row_at, sub}
 use Rattle.smk_model.specs.Classes.{first_places}
 use Rattle.smk_model.specs.Kinds.{AggFits, GroupFits, IsSummed, kind_of_agg, summed}
-use Rattle.smk_model.proofs.Places.{map_map, map_upto_take, upto_below}
+use Rattle.smk_model.proofs.Places.{map_upto_take, upto_below}
 use Rattle.smk_model.proofs.Classes.{first_below}
 use Rattle.smk_model.proofs.QueryAnswers.{answers_are_places}
 use Rattle.smk_body.proofs.Classing.{few_firsts}
@@ -37,11 +37,12 @@ pub upto_within : (n m : ℕ) → n ≤ m → All (λ c. c < m) (upto n)
 upto_within n m h = λ i d l. omega (arith, h, upto_below n i d l)
 
 -- the keys of the rows at marks
-pub keys_at_marks : (ks : List Kind) (rows : List Row) (k : ℕ) (A : List ℕ) → All (RowFits ks) rows → k ≤ length ks → All (λ m. m < length rows) A → map (picked (upto k)) (sub rows A) ≡ map (λ m. take k (row_at rows m)) A
+pub keys_at_marks : (ks : List Kind) (rows : List Row) (k : ℕ) (A : List ℕ) → All (RowFits ks) rows → k ≤ length ks → All (λ m. m < length rows) A → sub (map (picked (upto k)) rows) A ≡ map (λ m. take k (row_at rows m)) A
 keys_at_marks ks rows k A fit h low =
-    map_map (picked (upto k)) (row_at rows) A
-    ∙ map_below (λ m. picked (upto k) (row_at rows m)) (λ m. take k (row_at rows m)) (length rows) A low
-    (λ m l. map_upto_take (row_at rows m) (values.Int (pos 0)) k (omega (arith, h, AllZip-long Fits ks (row_at rows m) (fit m [] l))))
+    map_below (row_at (map (picked (upto k)) rows)) (λ m. take k (row_at rows m)) (length rows) A low
+    (λ m l.
+    get_or-map (picked (upto k)) rows m [] [] l
+    ∙ map_upto_take (row_at rows m) (values.Int (pos 0)) k (omega (arith, h, AllZip-long Fits ks (row_at rows m) (fit m [] l))))
 
 -- aggregates over rows with one more column behind
 

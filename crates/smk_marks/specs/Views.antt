@@ -1,9 +1,9 @@
 -- What is kept of a view that is a grouping over a chain, and the groups that are made of what chosen rows of its table reach.
-use Rattle.std.specs.Prelude.{◌≡◌, ◌<◌, ◌≤◌, ◌+◌, ℕ, true, cond, List, [], ◌∷◌, ◌++◌, length, map, nat_eq, Option, Some, None, All}
+use Rattle.std.specs.Prelude.{◌≡◌, ◌<◌, ◌≤◌, ◌+◌, ℕ, Bool, true, false, cond, List, [], ◌∷◌, ◌++◌, length, map, nat_eq, Option, Some, None, All}
 use Rattle.std.specs.List.{list_all}
 use Rattle.smk_base.specs.PlanImage.{expr_of}
 use Rattle.smk_base.specs.Places.{upto}
-use Rattle.smk_base.specs.Plans.{Apply, Grouping, Expr}
+use Rattle.smk_base.specs.Plans.{Selection, Projection, Distinction, Grouping, Expr, Leaf, Apply, Combine}
 use Rattle.smk_base.specs.Rels.{Relation, kind_in}
 use Rattle.smk_base.specs.declared.plan.Agg.{Agg}
 use Rattle.smk_base.specs.declared.plan.Agg.TheVariants.{Count, Sum, Min, Max}
@@ -25,6 +25,15 @@ use Rattle.smk_marks.specs.declared.view.KeptView.{KeptView}
 -- a grouping over a chain, as a plan
 abbrev pub plan_of : GroupedChain → Expr
 plan_of last = Apply (Grouping last.keys.now last.aggs.now) (expr_of last.chain.now)
+
+-- whether a plan is a grouping over a chain
+abbrev pub ends_in_groups : Expr → Bool
+ends_in_groups (Leaf table) = false
+ends_in_groups (Apply (Selection formula) input) = false
+ends_in_groups (Apply (Projection items) input) = false
+ends_in_groups (Apply (Distinction items) input) = false
+ends_in_groups (Apply (Grouping keys aggs) input) = is_chain input
+ends_in_groups (Combine op left right) = false
 
 -- a plan is this grouping over this chain
 pub record EndsInGroups (plan : Expr) (last : GroupedChain) : Type 0 where
@@ -65,6 +74,10 @@ over_one (Max c) = Max 0
 -- the rows at these rids of a table that reach a mark, unless all aggregates are counts
 abbrev pub rows_reached : KeptView → Relation → List ℕ → Option Relation
 rows_reached view table S = cond (list_all is_count view.plan.aggs.now) None (Some (record { kinds = table.kinds; rows = sub table.rows (kept view.forward.now S) }))
+
+-- the looks for these: one for each that reaches a mark, and none for counts alone
+abbrev pub looks_of_reach : KeptView → List ℕ → ℕ
+looks_of_reach view S = cond (list_all is_count view.plan.aggs.now) 0 (length (kept view.forward.now S))
 
 -- the groups of marks that rows have, over what the chain makes of the rows
 abbrev pub groups_of : KeptView → List ℕ → Relation → Relation

@@ -92,8 +92,8 @@ pub(crate) fn keys_at(
 {
     let _rows = content.len();
     let columns = first_columns(alloc, width)?;
-    let rows = content.gather(alloc, marks)?;
-    let made = rows.pick_columns(alloc, columns.as_slice())?;
+    let keys = content.pick_columns(alloc, columns.as_slice())?;
+    let made = keys.gather(alloc, marks)?;
     Ok(made)
 }
 

@@ -3,7 +3,7 @@ ghost use Rattle.std.specs.List.{list_all};
 ghost use Rattle.smk_base.specs.declared.rel.TheConstants.{ROW_LIMIT};
 ghost use Rattle.smk_model.specs.Lineage.{sub};
 ghost use Rattle.smk_marks.specs.Marks.{is_count, kept, marks_at};
-ghost use Rattle.smk_marks.specs.Views.{rows_reached};
+ghost use Rattle.smk_marks.specs.Views.{looks_of_reach, rows_reached};
 
 use crate::view::KeptView;
 use smk_base::{Agg, Rids};
@@ -20,7 +20,7 @@ pub struct Reached {
     pub rows: Option<Chosen>,
 }
 
-/// What the rows at these rids reach of a view. It is at most one look for each, and none where all aggregates are counts.
+/// What the rows at these rids reach of a view. It is at most one look for each row that reaches a mark, and none where all aggregates are counts.
 pub fn reach<L: Ledger>(
     alloc: Global,
     view: &KeptView<'_>,
@@ -33,7 +33,7 @@ pub fn reach<L: Ledger>(
     requires few { length chosen.now ≤ ROW_LIMIT }
     ensures marks { IfOk result (λ reached. reached.marks ≡ marks_at view.now.forward.now chosen.now) }
     ensures rows { IfOk result (λ reached. reached.rows ≡ rows_reached view.now table.now chosen.now) }
-    ensures looks { steps.new ≤ steps.old + length chosen.now }
+    ensures looks { steps.new ≤ steps.old + looks_of_reach view.now chosen.now }
 {
     if are_counts(view.plan.aggs.as_slice()) {
         let marks = marks_reached(alloc, view.forward, chosen)?;
@@ -56,7 +56,7 @@ fn reach_rows<L: Ledger>(
     requires few { length chosen.now ≤ ROW_LIMIT }
     ensures marks { IfOk result (λ reached. reached.marks ≡ marks_at forward.now chosen.now) }
     ensures rows { IfOk result (λ reached. reached.rows ≡ Some (record { kinds = table.now.kinds; rows = sub table.now.rows (kept forward.now chosen.now) })) }
-    ensures looks { steps.new ≤ steps.old + length chosen.now }
+    ensures looks { steps.new ≤ steps.old + length (kept forward.now chosen.now) }
 {
     let (rids, marks) = kept_and_marks(alloc, forward, chosen)?;
     let rows = table.choose(alloc, rids.as_slice(), steps)?;

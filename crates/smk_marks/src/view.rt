@@ -1,6 +1,6 @@
-ghost use Rattle.std.specs.Prelude.{IfSome};
+ghost use Rattle.std.specs.Prelude.{◌≡◌, false, IfNone, IfSome};
 ghost use Rattle.smk_base.specs.PlanImage.{expr_of};
-ghost use Rattle.smk_marks.specs.Views.{EndsInGroups};
+ghost use Rattle.smk_marks.specs.Views.{EndsInGroups, ends_in_groups};
 
 use crate::growing::is_growing;
 use smk_base::{Aggs, Keys, Op1, Plan, Rel};
@@ -22,9 +22,10 @@ pub struct KeptView<'a> {
     pub forward: &'a RidMap,
 }
 
-/// The grouping in which a plan ends and its input, where that is a chain. It takes no memory.
+/// The grouping in which a plan ends and its input, exactly where that is a chain. It takes no memory.
 pub fn grouped_chain(plan: &Plan) -> Option<GroupedChain<'_>>
-    ensures { IfSome result (EndsInGroups (expr_of plan.now)) }
+    ensures ends { IfSome result (EndsInGroups (expr_of plan.now)) }
+    ensures none { IfNone result (ends_in_groups (expr_of plan.now) ≡ false) }
 {
     let grows = is_growing(plan);
     match plan {

@@ -9,7 +9,7 @@ pub choose-requires-clause-few : goal.choose-requires-clause-few
 choose-requires-clause-few g c = omega (arith, ap length (c.as_slice.ensures.value ∙ c.in_ok-rids.ensures.rids), kept_few c.args.forward.now c.args.chosen.now, c.requires.few)
 
 pub returns-in_err-rows-clause-looks : goal.returns-in_err-rows-clause-looks
-returns-in_err-rows-clause-looks g c = omega (arith, c.choose.ensures.looks, ap length (c.as_slice.ensures.value ∙ c.in_ok-rids.ensures.rids), kept_few c.args.forward.now c.args.chosen.now)
+returns-in_err-rows-clause-looks g c = omega (arith, c.choose.ensures.looks, ap length (c.as_slice.ensures.value ∙ c.in_ok-rids.ensures.rids))
 
 pub returns-clause-looks : goal.returns-clause-looks
-returns-clause-looks g c = omega (arith, c.choose.ensures.looks, ap length (c.as_slice.ensures.value ∙ c.in_ok-rids.ensures.rids), kept_few c.args.forward.now c.args.chosen.now)
+returns-clause-looks g c = omega (arith, c.choose.ensures.looks, ap length (c.as_slice.ensures.value ∙ c.in_ok-rids.ensures.rids))
