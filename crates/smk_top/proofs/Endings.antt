@@ -227,7 +227,7 @@ ends_faulted words held files_rose out_rose err_rose a b e f fault status w (inl
 ends_faulted words held files_rose out_rose err_rose a b e f fault status w (inr says) = memory_ends words held files_rose out_rose err_rose a b e f [] status w.1 (inl refl) says
 
 -- a step that makes no look makes none before its fault
-pub looks_at_nothing : {X : Type 0} (stop : Stop) (n : ℕ) → LooksBehindReading {X = X} (Err stop) n n
+pub looks_at_nothing : (stop : Stop) (n : ℕ) → LooksBehindReading {X = Counts} (Err stop) n n
 looks_at_nothing (At fault) n = λ met. refl
 looks_at_nothing Unwritten n = tt
 looks_at_nothing Exhausted n = tt
