@@ -3,7 +3,7 @@ use Rattle.std.proofs.Common.{◌≡◌, ◌∙◌, ◌<◌, ◌≤◌, ◌+◌,
 use Rattle.std.specs.Prelude.{slice_range}
 use Rattle.std.proofs.lemmas.Bool.{cases_lt}
 use Rattle.std.proofs.lemmas.Simd.{map-map}
-use Rattle.std.proofs.lemmas.List.{get_or_append_left, get_or-append_right, get_or-map, get_or-take, get_or-drop, get_or_default, length-map, length-drop, take-map, drop-map, length-take-le, take_all, take_more, append-nil, append_assoc, map-append}
+use Rattle.std.proofs.lemmas.List.{get_or_append_left, get_or-append_right, get_or-append-add, get_or-map, get_or-take, get_or-drop, get_or_default, length-map, length-drop, take-map, drop-map, length-take-le, take_all, take_more, take-append-drop, append-nil, append_assoc, map-append}
 use Rattle.std.proofs.lemmas.List.Sums.{sum_by-append, sum_by-cons, sum_by_push}
 use Rattle.smk_base.specs.Rels.{Relation, row_in, rows_at}
 use Rattle.smk_model.specs.Values.{Row}
@@ -18,7 +18,7 @@ use Rattle.smk_keys.proofs.Rowed.{key_same}
 use Rattle.smk_body.specs.Halves.{AreNumbered}
 use Rattle.smk_body.proofs.Classing.{are_numbered, few_firsts}
 use Rattle.smk_body.specs.Cuts.{AreParts, HasKeys, cut_at}
-use Rattle.smk_body.specs.Renumbered.{HasRoom, StandFor, key_total, numbers_from, row_total}
+use Rattle.smk_body.specs.Renumbered.{StandFor, key_total, numbers_from}
 use Rattle.smk_body.proofs.Cutting.{cut_grows, cut_within}
 
 pub length_range : (rows : List Row) (n m : ℕ) → n ≤ m → m ≤ length rows → length (slice_range rows n m) ≡ m - n
@@ -221,13 +221,42 @@ numbers_one base part = append-nil (map (λ x. base + x) part.of)
 numbers_push : (base : ℕ) (parts : List ClassesImage) (part : ClassesImage) → numbers_from base (parts ++ part ∷ []) ≡ numbers_from base parts ++ map (λ x. base + key_total parts + x) part.of
 numbers_push base parts part = numbers_append base parts (part ∷ []) ∙ ap (λ rest. numbers_from base parts ++ rest) (numbers_one (base + key_total parts) part)
 
--- each row has one
-pub length-numbers_from : (base : ℕ) (parts : List ClassesImage) → length (numbers_from base parts) ≡ row_total parts
-length-numbers_from base [] = refl
-length-numbers_from base (part ∷ parts) =
-    length-append (map (λ x. base + x) part.of) (numbers_from (base + length part.firsts) parts)
-    ∙ ap₂ ◌+◌ (length-map part.of (λ x. base + x)) (length-numbers_from (base + length part.firsts) parts)
-    ∙ sym (sum_by-cons (λ q. length q.of) part parts)
+-- one part more, whose numbers begin behind the keys of the parts before it
+module _ (parts : List ClassesImage) (i : ℕ) (part : ClassesImage) (below : i < length parts) (read : part ≡ get_or parts i part) (from : ℕ) (count : from ≡ key_total (take i parts)) where
+  abbrev before : List ℕ
+  before = numbers_from 0 (take i parts)
+
+  abbrev moved : List ℕ
+  moved = map (λ x. from + x) part.of
+
+  so_far : take (i + 1) parts ≡ take i parts ++ part ∷ []
+  so_far = take_more parts i part below ∙ ap (λ x. take i parts ++ x ∷ []) (sym read)
+
+  pub keys_more : from + length part.firsts ≡ key_total (take (i + 1) parts)
+  keys_more = ap (λ k. k + length part.firsts) count ∙ sym (ap key_total so_far ∙ sum_by_push (λ q. length q.firsts) (take i parts) part)
+
+  pub numbers_more : numbers_from 0 (take (i + 1) parts) ≡ before ++ moved
+  numbers_more =
+      ap (numbers_from 0) so_far ∙ numbers_push 0 (take i parts) part
+      ∙ ap (λ b. before ++ map (λ x. b + x) part.of) (let same : 0 + key_total (take i parts) ≡ from = omega (arith, count) in same)
+
+  -- what a table has for them
+  pub entries_more : (table of : List ℕ) → of ≡ map (λ k. get_or table k 0) before → of ++ map (λ class. get_or table (from + class) 0) part.of ≡ map (λ k. get_or table k 0) (numbers_from 0 (take (i + 1) parts))
+  entries_more table of is =
+      let entry = λ (k : ℕ). get_or table k 0 in
+      ap₂ ◌++◌ is (sym (map-map entry (λ x. from + x) part.of)) ∙ sym (map-append entry before moved) ∙ ap (map entry) (sym numbers_more)
+
+  -- they are among the numbers of all parts
+  pub moved_within : (n : ℕ) → All (λ number. number < n) (numbers_from 0 parts) → All (λ class. from + class < n) part.of
+  moved_within n all = λ k d h. (
+      let rest = numbers_from (0 + key_total (take (i + 1) parts)) (drop (i + 1) parts) in
+      let split : numbers_from 0 parts ≡ (before ++ moved) ++ rest =
+      ap (numbers_from 0) (sym (take-append-drop (i + 1) parts)) ∙ numbers_append 0 (take (i + 1) parts) (drop (i + 1) parts) ∙ ap (λ numbers. numbers ++ rest) numbers_more in
+      let long = length-map part.of (λ x. from + x) in
+      let inside : length before + k < length (before ++ moved) = omega (arith, h, length-append before moved, long) in
+      let at : get_or ((before ++ moved) ++ rest) (length before + k) (from + d) ≡ from + get_or part.of k d =
+      get_or_append_left (before ++ moved) rest (from + d) (length before + k) inside ∙ get_or-append-add before moved k (from + d) ∙ get_or-map (λ x. from + x) part.of k d (from + d) h in
+      subst (λ x. x < n) at (subst (All (λ number. number < n)) split all (length before + k) (from + d) (omega (arith, inside, length-append (before ++ moved) rest))))
 
 -- the keys of part p behind those of the parts before it
 module _ (keys : List ℕ) (rows : List Row) (workers p : ℕ) (made : List ClassesImage) (part : ClassesImage) (below : p < workers)
@@ -247,20 +276,15 @@ module _ (keys : List ℕ) (rows : List Row) (workers p : ℕ) (made : List Clas
   within : to ≤ length rows
   within = cut_within workers (length rows) (p + 1) (omega arith)
 
-  so_far : take (p + 1) made ≡ take p made ++ part ∷ []
-  so_far = take_more made p part (omega (arith, are.0)) ∙ ap (λ x. take p made ++ x ∷ []) (sym read)
-
   pub next_keys : (firsts : List ℕ) → length firsts ≡ key_total (take p made) → length (firsts ++ map (λ x. from + x) part.firsts) ≡ key_total (take (p + 1) made)
   next_keys firsts long =
-      length-append firsts (map (λ x. from + x) part.firsts) ∙ ap₂ ◌+◌ long (length-map part.firsts (λ x. from + x))
-      ∙ sym (ap key_total so_far ∙ sum_by_push (λ q. length q.firsts) (take p made) part)
+      length-append firsts (map (λ x. from + x) part.firsts) ∙ ap (λ k. length firsts + k) (length-map part.firsts (λ x. from + x))
+      ∙ keys_more made p part (omega (arith, are.0)) read (length firsts) long
 
   pub next_numbers : (firsts : List ℕ) → length firsts ≡ key_total (take p made) → StandFor (map (key_of keys) rows) from firsts (numbers_from 0 (take p made))
       → StandFor (map (key_of keys) rows) to (firsts ++ map (λ x. from + x) part.firsts) (numbers_from 0 (take (p + 1) made))
   next_numbers firsts long so =
-      let more : numbers_from 0 (take p made) ++ map (λ x. length firsts + x) part.of ≡ numbers_from 0 (take (p + 1) made) =
-      ap (λ b. numbers_from 0 (take p made) ++ map (λ x. b + x) part.of) (let count : length firsts ≡ 0 + key_total (take p made) = omega (arith, long) in count) ∙ sym (ap (numbers_from 0) so_far ∙ numbers_push 0 (take p made) part) in
-      subst (StandFor (map (key_of keys) rows) to (firsts ++ map (λ x. from + x) part.firsts)) more
+      subst (StandFor (map (key_of keys) rows) to (firsts ++ map (λ x. from + x) part.firsts)) (sym (numbers_more made p part (omega (arith, are.0)) read (length firsts) long))
       (stand_next (key_of keys) rows from to (part) has order within firsts (numbers_from 0 (take p made)) so)
 
   pub places_fit : (bound : ℕ) → length rows < bound → All (λ x. from + x < bound) part.firsts
@@ -281,79 +305,6 @@ firsts_within keys places made e =
 pub stand_numbers : (keys : List Row) (n : ℕ) (firsts of : List ℕ) → StandFor keys n firsts of → All (λ number. number < length firsts) of
 stand_numbers keys n firsts of so = λ i d h. rw (get_or_default of i d 0 h) (so.within i (omega (arith, so.long)))
 
--- each half of the parts has room where they all have
-module _ (base : ℕ) (parts low high : List ClassesImage) (table of front back : List ℕ) (room : HasRoom base parts table of) (cut : parts ≡ low ++ high) (split : of ≡ front ++ back) (long : length front ≡ row_total low) where
-  abbrev lows : List ℕ
-  lows = numbers_from base low
-
-  abbrev highs : List ℕ
-  highs = numbers_from (base + key_total low) high
-
-  all : All (λ number. number < length table) (lows ++ highs)
-  all = subst (All (λ number. number < length table)) (ap (numbers_from base) cut ∙ numbers_append base low high) room.within
-
-  rows_both : row_total parts ≡ row_total low + row_total high
-  rows_both = ap row_total cut ∙ sum_by-append (λ q. length q.of) low high
-
-  keys_both : key_total parts ≡ key_total low + key_total high
-  keys_both = ap key_total cut ∙ sum_by-append (λ q. length q.firsts) low high
-
-  long_both : length of ≡ length front + length back
-  long_both = ap length split ∙ length-append front back
-
-  pub room_low : 0 < length low → HasRoom base low table front
-  room_low some = record {
-    some = some;
-    rows = long;
-    keys = omega (arith, room.keys, keys_both);
-    within = λ k d h. subst (λ x. x < length table) (get_or_append_left lows highs d k h) (all k d (omega (arith, h, length-append lows highs)));
-  }
-
-  pub room_high : 0 < length high → HasRoom (base + key_total low) high table back
-  room_high some = record {
-    some = some;
-    rows = omega (arith, room.rows, rows_both, long_both, long);
-    keys = omega (arith, room.keys, keys_both);
-    within = λ k d h. (
-        let back : length lows + k - length lows ≡ k = omega arith in
-        subst (λ x. x < length table) (get_or-append_right lows highs (length lows) (length lows + k) d refl (omega arith) ∙ ap (λ i. get_or highs i d) back) (all (length lows + k) d (omega (arith, h, length-append lows highs))));
-  }
-
--- what is put for both halves is put for all
-pub put_both : (base : ℕ) (parts low high : List ClassesImage) (table front back : List ℕ) → parts ≡ low ++ high
-    → front ≡ map (λ k. get_or table k 0) (numbers_from base low) → back ≡ map (λ k. get_or table k 0) (numbers_from (base + key_total low) high)
-    → front ++ back ≡ map (λ k. get_or table k 0) (numbers_from base parts)
-put_both base parts low high table front back cut lows highs =
-    ap₂ ◌++◌ lows highs ∙ sym (map-append (λ k. get_or table k 0) (numbers_from base low) (numbers_from (base + key_total low) high))
-    ∙ ap (map (λ k. get_or table k 0)) (sym (ap (numbers_from base) cut ∙ numbers_append base low high))
-
--- one part has room for its classes, and what is put for them is put for all
-module _ (base : ℕ) (parts : List ClassesImage) (part : ClassesImage) (table of : List ℕ) (room : HasRoom base parts table of) (one : length parts ≡ 1) (read : part ≡ get_or parts 0 part) where
-  only : parts ≡ part ∷ []
-  only = sym (take_all (0 + 1) parts (omega arith)) ∙ take_more parts 0 part (omega arith) ∙ ap (λ x. x ∷ []) (sym read)
-
-  numbers_of : numbers_from base parts ≡ map (λ x. base + x) part.of
-  numbers_of = ap (numbers_from base) only ∙ numbers_one base part
-
-  pub one_within : All (λ class. base + class < length table) part.of
-  one_within = λ k d h. (
-      let same : get_or (map (λ x. base + x) part.of) k (base + d) ≡ base + get_or part.of k d = get_or-map (λ x. base + x) part.of k d (base + d) h in
-      subst (λ x. x < length table) (ap (λ numbers. get_or numbers k (base + d)) numbers_of ∙ same)
-      (room.within k (base + d) (omega (arith, h, ap length numbers_of, length-map part.of (λ x. base + x)))))
-
-  pub one_put : map (λ class. get_or table (base + class) 0) part.of ≡ map (λ k. get_or table k 0) (numbers_from base parts)
-  one_put = sym (map-map (λ k. get_or table k 0) (λ x. base + x) part.of) ∙ sym (ap (map (λ k. get_or table k 0)) numbers_of)
-
 -- the first keys have as many classes as places
 pub classes_long : (keys : List Row) (places : List ℕ) (classes : ClassesImage) → classes ≡ classes_of (map (row_in keys) places) → length classes.of ≡ length places
 classes_long keys places classes e = ap (λ (m : ClassesImage). length m.of) e ∙ (AreClasses-keys (map (row_in keys) places)).long ∙ length-map places (row_in keys)
-
--- a table with an entry for each first place has one for the key of each row
-pub stand_room : (keys : List Row) (n : ℕ) (parts : List ClassesImage) (places table of : List ℕ) → 0 < length parts → StandFor keys n places (numbers_from 0 parts) → length places ≡ key_total parts
-    → length table ≡ length places → length of ≡ n → HasRoom 0 parts table of
-stand_room keys n parts places table of some so count entries long = record {
-  some = some;
-  rows = long ∙ sym so.long ∙ length-numbers_from 0 parts;
-  keys = omega (arith, count, entries);
-  within = subst (λ m. All (λ number. number < m) (numbers_from 0 parts)) (sym entries) (stand_numbers keys n places (numbers_from 0 parts) so);
-}

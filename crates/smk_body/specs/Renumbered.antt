@@ -14,10 +14,7 @@ pub record StandFor (keys : List Row) (n : ℕ) (firsts of : List ℕ) : Type 0 
   pub first : (k i : ℕ) → k < length firsts → i < slice_index firsts k → slice_index of i < k
   pub same : (i : ℕ) → i < n → row_at keys (slice_index firsts (slice_index of i)) ≡ row_at keys i
 
--- how many rows these parts have, and how many keys
-abbrev pub row_total : List ClassesImage → ℕ
-row_total = sum_by (λ part. length part.of)
-
+-- how many keys these parts have
 abbrev pub key_total : List ClassesImage → ℕ
 key_total = sum_by (λ part. length part.firsts)
 
@@ -25,10 +22,3 @@ key_total = sum_by (λ part. length part.firsts)
 abbrev pub numbers_from : ℕ → List ClassesImage → List ℕ
 numbers_from base [] = []
 numbers_from base (part ∷ parts) = map (λ x. base + x) part.of ++ numbers_from (base + length part.firsts) parts
-
--- that there is a place for each row of these parts, and an entry of a table for each of their keys, which are numbered from one number on
-pub record HasRoom (base : ℕ) (parts : List ClassesImage) (table of : List ℕ) : Type 0 where
-  pub some : 0 < length parts
-  pub rows : length of ≡ row_total parts
-  pub keys : base + key_total parts ≤ length table
-  pub within : All (λ number. number < length table) (numbers_from base parts)

@@ -16,7 +16,7 @@ use smk_keys::Classes;
 use std::alloc::{AllocError, Global};
 
 /// How many places each class has, by a count where their sizes aren't known.
-pub fn counts(
+pub(crate) fn counts(
     alloc: Global,
     of: &[u32],
     count: u32,
@@ -118,7 +118,7 @@ fn wide_sums(
 }
 
 /// The place of the least or the greatest value of column c in each class, the first of equal ones.
-pub fn best_places(
+pub(crate) fn best_places(
     alloc: Global,
     rel: &Rel,
     c: u32,

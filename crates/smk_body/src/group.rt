@@ -12,6 +12,7 @@ ghost use Rattle.smk_keys.specs.Classes.{classes_of};
 ghost use Rattle.smk_body.specs.Halves.{AreNumbered, better, class_places, class_sizes};
 
 use crate::aggregates::{best_places, counts, sums};
+use crate::gather::columns_at;
 use smk_base::{Agg, Kind, Rel};
 use smk_keys::Classes;
 use std::alloc::{AllocError, Global};
@@ -48,9 +49,7 @@ pub(crate) fn sized_group_rows(
     ensures rows { IfOk result (λ made. made.rows ≡ step1 (Grouping keys.now aggs.now) rel.now.rows) }
 {
     let _rows = rel.len();
-    let firsts = rel.gather(alloc, classes.firsts())?;
-    let mut made = firsts.pick_columns(alloc, keys)?;
-    drop(firsts);
+    let mut made = columns_at(alloc, rel, classes.firsts(), keys)?;
     for agg in aggs {
         let column = agg_column(alloc, rel, classes, sizes, agg)?;
         made = made.beside(column)?;
@@ -139,6 +138,5 @@ pub fn best_column(
 {
     let _rows = rel.len();
     let places = best_places(alloc, rel, c, classes, greatest)?;
-    let rows = rel.gather(alloc, places.as_slice())?;
-    rows.pick_columns(alloc, &[c])
+    columns_at(alloc, rel, places.as_slice(), &[c])
 }

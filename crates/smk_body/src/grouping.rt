@@ -1,16 +1,15 @@
 //! Groupings: the group of each row by its key.
 
 ghost use Rattle.std.specs.Prelude.{◌≡◌, ◌<◌, ◌≤◌, ◌+◌, ◌++◌, IfOk, OnOk, All, length, map, slice_index};
-ghost use Rattle.std.specs.Thread.{IsSync};
-ghost use Rattle.smk_base.specs.declared.rel.TheConstants.{COLUMN_LIMIT};
+ghost use Rattle.smk_base.specs.declared.rel.TheConstants.{COLUMN_LIMIT, ROW_LIMIT};
 ghost use Rattle.smk_base.specs.declared.workers.TheConstants.{WORKER_LIMIT};
 ghost use Rattle.smk_model.specs.Plain.{key_of};
 ghost use Rattle.smk_keys.specs.Classes.{classes_of};
 ghost use Rattle.smk_body.specs.Cuts.{AreParts, HasKeys, cut_at};
-ghost use Rattle.smk_body.specs.Renumbered.{HasRoom, StandFor, key_total, numbers_from, row_total};
+ghost use Rattle.smk_body.specs.Renumbered.{StandFor, key_total, numbers_from};
 
 use crate::classes::row_classes;
-use crate::crew::{Crew, LEAST_ROWS, Work};
+use crate::crew::{Crew, Work};
 use crate::groups::Groups;
 use crate::parts::{cut_place, cut_range, in_parts};
 use crate::texts::{is_text_key, text_classes};
@@ -18,7 +17,7 @@ use smk_base::Rel;
 use smk_keys::Classes;
 use std::alloc::{AllocError, Global};
 use std::marker::Sync;
-use std::thread::{Threads, join_mut};
+use std::thread::Threads;
 
 /// The groups of the rows by their keys, found by the crew.
 pub(crate) fn found_groups<R: Threads + Sync, C: Crew + Sync>(
@@ -120,8 +119,7 @@ fn all_classes<R: Threads + Sync, C: Crew + Sync>(
     let picked = rel.pick_columns(work.alloc, keys)?;
     let first_keys = picked.gather(work.alloc, places.as_slice())?;
     let classes = row_classes(work.alloc, &first_keys)?;
-    let mut of = vec![in work.alloc; 0u32; rows]?;
-    put_classes(work.rt, parts, classes.of(), 0, of.as_mut_slice());
+    let of = renumbered(work.alloc, parts, classes.of(), rows)?;
     let firsts = taken_at(work.alloc, places.as_slice(), classes.firsts())?;
     Ok(Classes::of_parts(of, firsts))
 }
@@ -160,87 +158,40 @@ fn push_moved(numbers: &mut Vec<u32>, by: u32, more: &[u32]) -> Result<(), Alloc
     Ok(())
 }
 
-// Puts in the place of each row of these parts the entry that a table has for its key, whose keys are numbered from one number on. The parts are halved, and where they have many rows each half has a thread.
-#[cycle(halves)]
-fn put_classes<R: Threads + Sync>(
-    rt: &R,
+// For each row of these parts the entry that a table has for its key, whose keys are numbered one part behind the other.
+fn renumbered(
+    alloc: Global,
     parts: &[Classes],
     table: &[u32],
-    from: usize,
-    of: &mut [u32],
-)
-    requires { HasRoom from parts.now table.now of.old }
-    ensures { of.new ≡ map (slice_index table.now) (numbers_from from parts.now) }
+    rows: usize,
+) -> Result<Vec<u32>, AllocError>
+    requires few { key_total parts.now ≤ ROW_LIMIT }
+    requires within { All (λ number. number < length table.now) (numbers_from 0 parts.now) }
+    ensures { IfOk result (λ of. of.items ≡ map (slice_index table.now) (numbers_from 0 parts.now)) }
 {
-    if parts.len() == 1 {
-        put_part(parts[0].of(), table, from, of);
-        return;
-    }
-    let (low, high) = parts.split_at(parts.len() / 2);
-    let (rows, keys) = row_and_key_counts(low);
-    let (front, back) = of.split_at_mut(rows);
-    both_halves(rt, table, low, from, front, high, from + keys, back);
-}
-
-// The same of two lists of parts.
-#[cycle(halves)]
-fn both_halves<R: Threads + Sync>(
-    rt: &R,
-    table: &[u32],
-    low: &[Classes],
-    from: usize,
-    front: &mut [u32],
-    high: &[Classes],
-    mid: usize,
-    back: &mut [u32],
-)
-    requires front { HasRoom from low.now table.now front.old }
-    requires back { HasRoom mid high.now table.now back.old }
-    ensures front { front.new ≡ map (slice_index table.now) (numbers_from from low.now) }
-    ensures back { back.new ≡ map (slice_index table.now) (numbers_from mid high.now) }
-{
-    if front.len() < LEAST_ROWS {
-        put_classes(rt, low, table, from, front);
-        put_classes(rt, high, table, mid, back);
-        return;
-    }
-    let mut lower = ||
-        requires { IsSync R.row × HasRoom from low.now table.now front.now }
-        ensures { front.exit.now ≡ map (slice_index table.entry.now) (numbers_from from low.entry.now) }
-    { put_classes(rt, low, table, from, front) };
-    let mut upper = ||
-        requires { IsSync R.row × HasRoom mid high.now table.now back.now }
-        ensures { back.exit.now ≡ map (slice_index table.entry.now) (numbers_from mid high.entry.now) }
-    { put_classes(rt, high, table, mid, back) };
-    join_mut(rt, &mut lower, &mut upper);
-}
-
-// Puts the entry that a table has for each of these classes, numbered from one number on.
-fn put_part(classes: &[u32], table: &[u32], from: usize, of: &mut [u32])
-    requires long { length of.old ≡ length classes.now }
-    requires keys { from ≤ length table.now }
-    requires within { All (λ class. from + class < length table.now) classes.now }
-    ensures { of.new ≡ map (λ class. slice_index table.now (from + class)) classes.now }
-{
-    let entries = &table[from..];
-    for k in 0..of.len() {
-        of[k] = entries[classes[k] as usize];
-    }
-}
-
-// How many rows these parts have, and how many keys.
-fn row_and_key_counts(parts: &[Classes]) -> (usize, usize)
-    requires rows { row_total parts.now < 18446744073709551616 }
-    requires keys { key_total parts.now < 18446744073709551616 }
-    ensures { result ≡ (row_total parts.now, key_total parts.now) }
-{
-    let mut rows = 0;
-    let mut keys = 0;
+    let mut of = Vec::with_capacity(alloc, rows)?;
+    let mut from = 0;
     for part in parts {
-        rows += part.of().len();
-        keys += part.firsts().len();
+        push_entries(&mut of, table, from, part.of())?;
+        from += part.firsts().len() as u32;
     }
-    (rows, keys)
+    Ok(of)
+}
+
+// Puts the entry last that a table has for each of these classes, numbered from one number on.
+fn push_entries(
+    of: &mut Vec<u32>,
+    table: &[u32],
+    from: u32,
+    classes: &[u32],
+) -> Result<(), AllocError>
+    requires { All (λ class. from + class < length table.now) classes.now }
+    ensures { OnOk result (of.new.items ≡ of.old.items ++ map (λ class. slice_index table.now (from + class)) classes.now) }
+{
+    for class in classes {
+        of.push(table[from as usize + *class as usize])?;
+    }
+    Ok(())
 }
 
 // The numbers at these places.

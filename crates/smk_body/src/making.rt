@@ -22,7 +22,7 @@ use std::thread::Threads;
 
 /// The rows of a step with one input, and of the wanted lists those that go against what it found.
 #[tactic(auto, using(crate::proofs::Deriving::rows_met))]
-pub fn rows_and_turned1<R: Threads + Sync, C: Crew + Sync>(
+pub(crate) fn rows_and_turned1<R: Threads + Sync, C: Crew + Sync>(
     work: &Work<'_, R, C>,
     op: &Op1,
     input: &Rel,
@@ -59,7 +59,7 @@ pub fn rows_and_turned1<R: Threads + Sync, C: Crew + Sync>(
 
 /// The same of a step with two inputs.
 #[tactic(auto, using(crate::proofs::Deriving::rows_joined))]
-pub fn rows_and_turned2<R: Threads + Sync, C: Crew + Sync>(
+pub(crate) fn rows_and_turned2<R: Threads + Sync, C: Crew + Sync>(
     work: &Work<'_, R, C>,
     op: &Op2,
     left: &Rel,

@@ -34,9 +34,9 @@ pub(crate) fn regrouped(
     ensures { IfOk result (λ made. made ≡ record { kinds = both.now.kinds; rows = step1 (Grouping keys.now (all_over_parts (length keys.now) aggs.now)) both.now.rows }) }
 {
     let _rows = both.len();
-    let firsts = both.gather(alloc, classes.firsts())?;
-    let mut made = firsts.pick_columns(alloc, keys)?;
-    drop(firsts);
+    let picked = both.pick_columns(alloc, keys)?;
+    let mut made = picked.gather(alloc, classes.firsts())?;
+    drop(picked);
     let first = keys.len() as u32;
     for i in 0..aggs.len() {
         let column = joined_column(alloc, both, classes, first + i as u32, &aggs[i])?;

@@ -1,10 +1,11 @@
 -- What the body that defers leaves pending: the step of the call, its inputs and what is wanted, its keys and the number of its rows.
-use Rattle.std.specs.Prelude.{◌≡◌, length, Some, None, false}
+use Rattle.std.specs.Prelude.{◌≡◌, length, Some, None}
 use Rattle.smk_base.specs.Plans.{Unary, Binary}
 use Rattle.smk_base.specs.PlanImage.{unary_of, binary_of}
 use Rattle.smk_base.specs.Rels.{Relation}
 use Rattle.smk_base.specs.declared.plan.Dir.{Dir}
 use Rattle.smk_model.specs.Plain.{step1, step2}
+use Rattle.smk_body.specs.Findings.{left_want}
 use Rattle.smk_body.specs.declared.local.Want.{Want}
 use Rattle.smk_defer.specs.declared.kept.Kept.{Kept}
 use Rattle.smk_defer.specs.declared.kept.KeptOp.{KeptOp}
@@ -19,10 +20,6 @@ IsOne op (Two kept) = ⊥
 abbrev pub IsTwo : Binary → KeptOp → Type 0
 IsTwo op (One kept) = ⊥
 IsTwo op (Two kept) = binary_of kept ≡ op
-
--- what is wanted of a step with one input: on its right side nothing
-abbrev pub left_want : Dir → Want
-left_want want = record { left = want; right = record { back = false; fwd = false } }
 
 -- what is left of a step with one input
 pub record Leaves1 (step : Unary) (input : Relation) (asked : Dir) (kept : Kept) : Type 0 where

@@ -13,13 +13,13 @@ use Rattle.smk_body.specs.Halves.{class_places}
 use Rattle.smk_body.proofs.Classing.{rows_numbered}
 use Rattle.smk_body.proofs.Aggregating.{keys_at_firsts, groups_are}
 use Rattle.smk_body.proofs.Besides.{column_more, related}
+use Rattle.smk_body.proofs.Parting.{first_places_are}
 use Rattle.smk_body.proofs.group.sized_group_rows.Goals as goal
 
-pub gather-requires-clause-within : goal.gather-requires-clause-within
-gather-requires-clause-within c = rw c.firsts.ensures (rows_numbered c.args.keys.now c.args.rel.now.rows c.args.classes.now c.requires.classes).within
-
-pub gather-requires-clause-few : goal.gather-requires-clause-few
-gather-requires-clause-few c = omega (arith, ap length c.firsts.ensures, (rows_numbered c.args.keys.now c.args.rel.now.rows c.args.classes.now c.requires.classes).few, c.len-rows.ensures.keeps.few_rows)
+pub columns_at-requires : goal.columns_at-requires
+columns_at-requires c =
+    first_places_are c.args.rel.now c.args.classes.now c.firsts.result.now c.args.keys.now c.requires.fits.keyed (omega (arith, c.requires.fits.few)) c.len-rows.ensures.keeps.few_rows
+    (rows_numbered c.args.keys.now c.args.rel.now.rows c.args.classes.now c.requires.classes) c.firsts.ensures
 
 pub agg_column-requires-clause-classes : goal.agg_column-requires-clause-classes
 agg_column-requires-clause-classes c = rows_numbered c.args.keys.now c.args.rel.now.rows c.args.classes.now c.requires.classes
@@ -29,8 +29,8 @@ loop-agg-init c =
     let rel = c.args.rel.now in
     let keys = c.args.keys.now in
     c.in_ok-made.ensures
-    ∙ related (ap (λ (r : Relation). map (kind_in r.kinds) keys) c.in_ok-firsts.ensures ∙ sym (append-nil (map (kind_in rel.kinds) keys)))
-    (ap (λ (r : Relation). map (picked keys) r.rows) c.in_ok-firsts.ensures ∙ ap (λ (z : List ℕ). map (picked keys) (rows_at rel.rows z)) c.firsts.ensures ∙ keys_at_firsts keys rel.rows c.args.classes.now.firsts)
+    ∙ related (sym (append-nil (map (kind_in rel.kinds) keys)))
+    (ap (λ (z : List ℕ). map (picked keys) (rows_at rel.rows z)) c.firsts.ensures ∙ keys_at_firsts keys rel.rows c.args.classes.now.firsts)
 
 pub beside-requires-clause-long : goal.beside-requires-clause-long
 beside-requires-clause-long c =

@@ -1,5 +1,5 @@
 use Rattle.std.proofs.Common.{◌≡◌, ◌∙◌, ℕ, ◌+◌, ◌<◌, ◌++◌, ◌∷◌, [], List, length, map, take, ap, sym, subst, arith, All, get_or}
-use Rattle.std.proofs.lemmas.List.{take_all, take_more}
+use Rattle.std.proofs.lemmas.List.{length-map, take_all, take_more}
 use Rattle.smk_base.specs.declared.value.Kind.TheVariants as kinds
 use Rattle.smk_base.specs.declared.plan.Agg.{Agg}
 use Rattle.smk_base.specs.declared.plan.Agg.TheVariants.{Count}
@@ -13,28 +13,33 @@ use Rattle.smk_body.specs.Halves.{class_places}
 use Rattle.smk_body.proofs.Classing.{rows_numbered}
 use Rattle.smk_body.proofs.Aggregating.{keys_at_firsts, groups_are}
 use Rattle.smk_body.proofs.Besides.{column_more, related}
+use Rattle.smk_body.proofs.Parting.{columns_at_places}
 use Rattle.smk_model.specs.Growth.{all_over_parts}
 use Rattle.smk_chain.proofs.Columns.{class_row, class_values, over_long, over_at, column_fits, first_kinds, keys_below}
 use Rattle.smk_chain.proofs.groups.regrouped.Goals as goal
 
+pub pick_columns-requires-clause-within : goal.pick_columns-requires-clause-within
+pick_columns-requires-clause-within c = keys_below c.args.keys.now (length c.args.both.now.kinds) c.requires.keys (omega (arith, c.requires.columns))
+
 pub gather-requires-clause-within : goal.gather-requires-clause-within
-gather-requires-clause-within c = rw c.firsts.ensures (rows_numbered c.args.keys.now c.args.both.now.rows c.args.classes.now c.requires.classes).within
+gather-requires-clause-within c =
+    let are = rows_numbered c.args.keys.now c.args.both.now.rows c.args.classes.now c.requires.classes in
+    let long : length c.in_ok-picked.picked.rows ≡ length c.args.both.now.rows = ap (λ (r : Relation). length r.rows) c.in_ok-picked.ensures ∙ length-map c.args.both.now.rows (picked c.args.keys.now) in
+    rw (c.firsts.ensures, long) are.within
 
 pub gather-requires-clause-few : goal.gather-requires-clause-few
 gather-requires-clause-few c = omega (arith, ap length c.firsts.ensures, (rows_numbered c.args.keys.now c.args.both.now.rows c.args.classes.now c.requires.classes).few, c.len-rows.ensures.keeps.few_rows)
-
-pub pick_columns-requires-clause-within : goal.pick_columns-requires-clause-within
-pick_columns-requires-clause-within c =
-    rw (ap (λ (r : Relation). length r.kinds) c.in_ok-firsts.ensures) (keys_below c.args.keys.now (length c.args.both.now.kinds) c.requires.keys (omega (arith, c.requires.columns)))
 
 pub loop-i-init : goal.loop-i-init
 loop-i-init c =
     let both = c.args.both.now in
     let keys = c.args.keys.now in
+    let firsts = c.args.classes.now.firsts in
     let none : length keys ≡ length keys + 0 = omega arith in
     c.in_ok-made.ensures
-    ∙ related (ap (λ (r : Relation). map (kind_in r.kinds) keys) c.in_ok-firsts.ensures ∙ ap (map (kind_in both.kinds)) c.requires.keys ∙ first_kinds both.kinds (length keys) (omega (arith, c.requires.columns)) ∙ ap (λ m. take m both.kinds) none)
-    (ap (λ (r : Relation). map (picked keys) r.rows) c.in_ok-firsts.ensures ∙ ap (λ (z : List ℕ). map (picked keys) (rows_at both.rows z)) c.firsts.ensures ∙ keys_at_firsts keys both.rows c.args.classes.now.firsts)
+    ∙ related (ap (λ (r : Relation). r.kinds) c.in_ok-picked.ensures ∙ ap (map (kind_in both.kinds)) c.requires.keys ∙ first_kinds both.kinds (length keys) (omega (arith, c.requires.columns)) ∙ ap (λ m. take m both.kinds) none)
+    (ap (λ (r : Relation). rows_at r.rows c.firsts.result.now) c.in_ok-picked.ensures ∙ ap (λ (z : List ℕ). rows_at (map (picked keys) both.rows) z) c.firsts.ensures
+    ∙ columns_at_places both firsts keys (rows_numbered keys both.rows c.args.classes.now c.requires.classes).within ∙ keys_at_firsts keys both.rows firsts)
 
 pub joined_column-requires-clause-classes : goal.joined_column-requires-clause-classes
 joined_column-requires-clause-classes c = rows_numbered c.args.keys.now c.args.both.now.rows c.args.classes.now c.requires.classes

@@ -4,11 +4,11 @@ use Rattle.smk_rid.proofs.Sets.{is_below}
 use Rattle.smk_push.proofs.Rows.{few_places}
 use Rattle.smk_push.proofs.group.group_at.Goals as goal
 
-pub rows_of-requires-clause-within : goal.rows_of-requires-clause-within
-rows_of-requires-clause-within c = is_below (length c.args.grouping.now.rel.rows) c.args.rids.now c.requires.set
+pub gather-requires-clause-within : goal.gather-requires-clause-within
+gather-requires-clause-within c = is_below (length c.args.grouping.now.rel.rows) c.args.rids.now c.requires.set
 
-pub rows_of-requires-clause-few : goal.rows_of-requires-clause-few
-rows_of-requires-clause-few c = omega (arith, few_places (length c.args.grouping.now.rel.rows) c.args.rids.now c.requires.set, c.len-rows.ensures.keeps.few_rows)
+pub gather-requires-clause-few : goal.gather-requires-clause-few
+gather-requires-clause-few c = omega (arith, few_places (length c.args.grouping.now.rel.rows) c.args.rids.now c.requires.set, c.len-rows.ensures.keeps.few_rows)
 
 pub group_rows-requires-clause-fits : goal.group_rows-requires-clause-fits
 group_rows-requires-clause-fits c = grind (arith, common_steps)
