@@ -3,8 +3,8 @@ use Rattle.std.proofs.Common.{◌≡◌, ◌∙◌, ◌<◌, ◌≤◌, ◌+◌,
 use Rattle.std.specs.Prelude.{slice_range}
 use Rattle.std.proofs.lemmas.Bool.{cases_lt}
 use Rattle.std.proofs.lemmas.Simd.{map-map}
-use Rattle.std.proofs.lemmas.List.{get_or_append_left, get_or-append_right, get_or-append-add, get_or-map, get_or-take, get_or-drop, get_or_default, length-map, length-drop, take-map, drop-map, length-take-le, take_all, take_more, take-append-drop, append-nil, append_assoc, map-append}
-use Rattle.std.proofs.lemmas.List.Sums.{sum_by-append, sum_by-cons, sum_by_push}
+use Rattle.std.proofs.lemmas.List.{get_or_append_left, get_or-append_right, get_or-append-add, get_or-map, get_or-take, get_or-drop, get_or_default, length-map, length-drop, take-map, drop-map, length-take-le, take_more, take-append-drop, append-nil, append_assoc, map-append}
+use Rattle.std.proofs.lemmas.List.Sums.{sum_by-cons, sum_by_push}
 use Rattle.smk_base.specs.Rels.{Relation, row_in, rows_at}
 use Rattle.smk_model.specs.Values.{Row}
 use Rattle.smk_model.specs.Plain.{key_of}

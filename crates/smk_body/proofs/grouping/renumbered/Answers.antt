@@ -1,5 +1,4 @@
-use Rattle.std.proofs.Common.{◌≡◌, ◌∙◌, ◌+◌, ◌++◌, length, map, get_or, ap, sym, arith}
-use Rattle.std.proofs.lemmas.Grind.{common_steps}
+use Rattle.std.proofs.Common.{◌∙◌, ◌+◌, ◌++◌, length, map, get_or, ap}
 use Rattle.smk_body.proofs.Renumbering.{entries_more, keys_more, moved_within}
 use Rattle.smk_body.proofs.grouping.renumbered.Goals as goal
 
