@@ -1,4 +1,4 @@
-pub mod FieldTexts
 pub mod FullViews
+pub mod PageTexts
 pub mod Parts
 pub mod PieceTexts

@@ -1,5 +1,5 @@
 -- Lists as the loops over a line's parts and a row's columns go on.
-use Rattle.std.proofs.Common.{◌≡◌, ◌∙◌, ◌<◌, ◌+◌, ◌++◌, ◌∷◌, [], ℕ, List, length, map, take, drop, get_or, refl, ap, Bor, arith, append-nil, append_assoc, add-one, zero-add, decimal}
+use Rattle.std.proofs.Common.{◌≡◌, ◌∙◌, ◌<◌, ◌+◌, ◌++◌, ◌∷◌, [], ℕ, List, length, map, take, drop, get_or, refl, sym, ap, subst, Bor, arith, append-nil, append_assoc, add-one, zero-add, decimal}
 use Rattle.std.specs.List.{flat_map, AllZip}
 use Rattle.std.proofs.lemmas.List.{take_more, take_all, map-append}
 use Rattle.std.proofs.lemmas.List.Elements.{All-get_or}
@@ -10,6 +10,9 @@ use Rattle.smk_base.specs.declared.value.Kind.{Kind}
 use Rattle.smk_base.specs.Rels.{Relation, IsRelation, RowFits, Fits, row_in, value_in}
 use Rattle.smk_base.specs.declared.value.Value.TheVariants as values
 use Rattle.smk_model.specs.Values.{Row}
+use Rattle.smk_report.specs.Pages.{Adds}
+use Rattle.smk_report.specs.declared.page.Page.{Page}
+use Rattle.smk_report.proofs.PageTexts.{adds_then}
 use Rattle.smk_model.specs.Lineage.{upto}
 use Rattle.smk_model.specs.Texts.{value_text, record_line, row_lines_to}
 
@@ -55,12 +58,13 @@ lines_more number rows i =
     let f : ℕ → List ℕ = λ i. record_line (decimal (number i) ∷ map value_text (row_in rows i)) in
     rw add-one (flat_map-append f (upto i) (i ∷ []) ∙ ap (λ x. flat_map f (upto i) ++ x) (append-nil (f i)))
 
--- a text that has the records of i rows has one more
-pub lines_added : (start before after : List ℕ) (number : ℕ → ℕ) (rows : List Row) (i n : ℕ) (row : Row) → number i ≡ n → row_in rows i ≡ row
-    → before ≡ start ++ row_lines_to number rows i → after ≡ before ++ record_line (decimal n ∷ map value_text row)
-    → after ≡ start ++ row_lines_to number rows (i + 1)
-lines_added start before after number rows i n row is at old new =
-    new ∙ rw (old, ← is, ← at, lines_more number rows i) (append_assoc start (row_lines_to number rows i) (record_line (decimal (number i) ∷ map value_text (row_in rows i))))
+-- one more record behind those of i rows
+pub lines_added : (old mid new : Page) (number : ℕ → ℕ) (rows : List Row) (i n : ℕ) (row : Row) → number i ≡ n → row_in rows i ≡ row
+    → Adds old mid (row_lines_to number rows i) → Adds mid new (record_line (decimal n ∷ map value_text row))
+    → Adds old new (row_lines_to number rows (i + 1))
+lines_added old mid new number rows i n row is at before last =
+    let whole : row_lines_to number rows (i + 1) ≡ row_lines_to number rows i ++ record_line (decimal n ∷ map value_text row) = rw (← is, ← at) (lines_more number rows i) in
+    subst (λ (x : List ℕ). Adds old new x) (sym whole) (adds_then old mid new (row_lines_to number rows i) (record_line (decimal n ∷ map value_text row)) before last)
 
 -- rows that are numbered from the first place on are numbered by their places
 pub lines_from_first : (rows : List Row) (n : ℕ) → row_lines_to (λ (k : ℕ). 0 + k) (drop 0 rows) n ≡ row_lines_to (λ (k : ℕ). k) rows n

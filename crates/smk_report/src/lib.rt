@@ -1,13 +1,13 @@
-//! The texts that Smoke writes. Rows are written as `csv` writes them, numbers with `itoa`.
+//! The texts that Smoke writes. Rows are written by `csv`, numbers by `itoa`.
 #![tactic(auto)]
 
 mod answers;
 mod faults;
-mod fields;
 mod lines;
 mod linked;
 mod lookup;
 mod names;
+mod page;
 mod pieces;
 mod refusals;
 mod replies;

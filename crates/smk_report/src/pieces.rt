@@ -7,7 +7,7 @@ ghost use Rattle.smk_model.specs.Texts as texts;
 ghost use Rattle.smk_report.specs.PieceTexts.{IsPiece, piece_at};
 
 use crate::lines::line_around;
-use crate::texts::{header, numbered_lines, view_text, with_room};
+use crate::texts::{numbered_lines, page_for, view_text, with_header};
 use smk_base::{ListOf, ROW_LIMIT, Rel, Text};
 use std::alloc::{AllocError, Global};
 use std::thread::{Threads, map_indices};
@@ -45,9 +45,9 @@ fn piece_text(alloc: Global, rel: &Rel, count: u32, p: u32) -> Result<Vec<u8>, A
 {
     let from = piece_place(count, rel.len(), p);
     let to = piece_place(count, rel.len(), p + 1);
-    let mut text = with_room(Vec::new(alloc), rel.width(), to - from)?;
-    numbered_lines(&mut text, rel, from, to - from)?;
-    Ok(text)
+    let mut page = page_for(Vec::new(alloc), rel.width(), to - from)?;
+    numbered_lines(&mut page, rel, from, to - from)?;
+    page.finish()
 }
 
 // What all pieces have written, or want of memory where one of them wanted it.
@@ -148,13 +148,13 @@ fn joined_text<R: Threads + Sync>(
     requires few { count ≤ WORKER_LIMIT }
     ensures { IfOk result (λ text. text.items ≡ texts.view_text name.now columns.now rel.now.rows) }
 {
-    let mut text = line_around(
+    let front = line_around(
         alloc,
         &[b"view ", name.as_slice(), b" "],
         rel.len() as u64,
         &[],
     )?;
-    header(&mut text, b"row", columns)?;
+    let mut text = with_header(front, columns)?;
     add_lines(rt, alloc, &mut text, rel, count)?;
     Ok(text)
 }

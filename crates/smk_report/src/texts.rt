@@ -2,9 +2,10 @@ ghost use Rattle.std.specs.Prelude.{◌≡◌, ◌<◌, ◌≤◌, ◌+◌, ◌+
 ghost use Rattle.smk_base.specs.Rels.{row_in, IsRelation};
 ghost use Rattle.smk_base.specs.declared.rel.TheConstants.{COLUMN_LIMIT, ROW_LIMIT};
 ghost use Rattle.smk_model.specs.Texts as texts;
+ghost use Rattle.smk_report.specs.Pages.{Adds, Says};
 
-use crate::fields::{add_cell, add_field, begin_with, begin_with_number};
 use crate::lines::line_around;
+use crate::page::Page;
 use itoa::Buffer;
 use smk_base::{ColDecls, ListOf, Rel, Rids, Text};
 use std::alloc::{AllocError, Global};
@@ -12,67 +13,69 @@ use std::alloc::{AllocError, Global};
 // How many bytes are reserved for a field; most are shorter.
 const FIELD_BYTES: usize = 8;
 
-/// Writes the record of the names of the columns. After an error the text is of no use.
-pub fn header(text: &mut Vec<u8>, first: &[u8], columns: &ListOf<Text>) -> Result<(), AllocError>
-    requires { 0 < length first.now }
-    ensures { OnOk result (text.new.items ≡ text.old.items ++ texts.record_line (first.now ∷ columns.now)) }
+// Writes the record of the names of the columns.
+fn header(page: &mut Page, first: &[u8], columns: &ListOf<Text>) -> Result<(), AllocError>
+    ensures { OnOk result (Adds page.old page.new (texts.record_line (first.now ∷ columns.now))) }
 {
-    begin_with(text, first)?;
+    page.field(first)?;
     for column in columns.as_slice() {
-        add_field(text, column.as_slice())?;
+        page.field(column.as_slice())?;
     }
-    text.push(b'\n')?;
-    Ok(())
+    page.end()
 }
 
-// Writes the record of a row: a number, and the row's values. After an error the text is of no use.
-fn row(text: &mut Vec<u8>, number: u32, rel: &Rel, i: u32) -> Result<(), AllocError>
+// Writes the record of a row: a number, and the row's values.
+fn row(page: &mut Page, number: u32, rel: &Rel, i: u32) -> Result<(), AllocError>
     requires in_range { i < length rel.now.rows }
     requires keeps { IsRelation rel.now }
-    ensures { OnOk result (text.new.items ≡ text.old.items ++ texts.record_line (decimal number ∷ map texts.value_text (row_in rel.now.rows i))) }
+    ensures { OnOk result (Adds page.old page.new (texts.record_line (decimal number ∷ map texts.value_text (row_in rel.now.rows i)))) }
 {
-    begin_with_number(text, number)?;
+    page.number(number)?;
     for c in 0..rel.width() {
-        add_cell(text, rel.cell(i, c))?;
+        page.cell(rel.cell(i, c))?;
     }
-    text.push(b'\n')?;
-    Ok(())
+    page.end()
 }
 
-/// Writes the records of so many rows from a place on, with their places. After an error the text is of no use.
-pub fn numbered_lines(
-    text: &mut Vec<u8>,
-    rel: &Rel,
-    from: u32,
-    count: u32,
-) -> Result<(), AllocError>
+/// Writes the records of so many rows from a place on, with their places.
+pub fn numbered_lines(page: &mut Page, rel: &Rel, from: u32, count: u32) -> Result<(), AllocError>
     requires in_range { from + count ≤ length rel.now.rows }
     requires keeps { IsRelation rel.now }
-    ensures { OnOk result (text.new.items ≡ text.old.items ++ texts.row_lines_to (λ k. from + k) (drop from rel.now.rows) count) }
+    ensures { OnOk result (Adds page.old page.new (texts.row_lines_to (λ k. from + k) (drop from rel.now.rows) count)) }
 {
     for k in 0..count {
-        row(text, from + k, rel, from + k)?;
+        row(page, from + k, rel, from + k)?;
     }
     Ok(())
 }
 
-// Writes the records of all rows with their places. After an error the text is of no use.
-fn all_lines(text: &mut Vec<u8>, rel: &Rel) -> Result<(), AllocError>
-    ensures { OnOk result (text.new.items ≡ text.old.items ++ texts.row_lines (λ i. i) rel.now.rows) }
+// Writes the record of the names of the columns, and those of all rows with their places.
+fn numbered_rows(page: &mut Page, columns: &ListOf<Text>, rel: &Rel) -> Result<(), AllocError>
+    ensures { OnOk result (Adds page.old page.new (texts.record_line (codes "row" ∷ columns.now) ++ texts.row_lines (λ i. i) rel.now.rows)) }
 {
-    numbered_lines(text, rel, 0, rel.len())
+    header(page, b"row", columns)?;
+    numbered_lines(page, rel, 0, rel.len())
 }
 
-/// A text with room for the records of so many rows of so many values behind it, so that a long text rarely moves while it grows.
-pub fn with_room(front: Vec<u8>, width: u32, rows: u32) -> Result<Vec<u8>, AllocError>
+/// A page that begins with a text and has room for the records of so many rows of so many values, so that a long text rarely moves while it grows.
+pub fn page_for(front: Vec<u8>, width: u32, rows: u32) -> Result<Page, AllocError>
     requires few_columns { width ≤ COLUMN_LIMIT }
     requires few_rows { rows ≤ ROW_LIMIT }
-    ensures { IfOk result (λ text. text.items ≡ front.items) }
+    ensures { IfOk result (λ page. Says page front.items []) }
 {
     let fields = rows as usize * (width as usize + 1);
     let mut text = front;
     text.reserve(fields * FIELD_BYTES)?;
-    Ok(text)
+    Ok(Page::new(text))
+}
+
+/// A text with the record of the names of columns behind it.
+pub fn with_header(front: Vec<u8>, columns: &ListOf<Text>) -> Result<Vec<u8>, AllocError>
+    ensures { IfOk result (λ text. text.items ≡ front.items ++ texts.record_line (codes "row" ∷ columns.now)) }
+{
+    let mut page = Page::new(front);
+    header(&mut page, b"row", columns)?;
+    page.finish()
 }
 
 /// A text with the records of the names of columns and of rows with their places behind it.
@@ -85,10 +88,9 @@ pub fn with_rows(
     requires { length columns.now ≡ length rel.now.kinds }
     ensures { IfOk result (λ text. text.items ≡ front.items ++ texts.record_line (codes "row" ∷ columns.now) ++ texts.row_lines (λ i. i) rel.now.rows) }
 {
-    let mut text = with_room(front, rel.width(), rel.len())?;
-    header(&mut text, b"row", columns)?;
-    all_lines(&mut text, rel)?;
-    Ok(text)
+    let mut page = page_for(front, rel.width(), rel.len())?;
+    numbered_rows(&mut page, columns, rel)?;
+    page.finish()
 }
 
 /// The text of a view: its name and number of rows, the names of its columns, and its rows with their places.
@@ -110,27 +112,40 @@ pub fn view_text(
     with_rows(alloc, front, columns, rel)
 }
 
-// Writes the record of the names of the columns that a table declares. After an error the text is of no use.
-fn table_header(text: &mut Vec<u8>, columns: &ColDecls) -> Result<(), AllocError>
-    ensures { OnOk result (text.new.items ≡ text.old.items ++ texts.record_line (codes "rid" ∷ map (λ column. column.name) columns.now)) }
+// Writes the record of the names of the columns that a table declares.
+fn table_header(page: &mut Page, columns: &ColDecls) -> Result<(), AllocError>
+    ensures { OnOk result (Adds page.old page.new (texts.record_line (codes "rid" ∷ map (λ column. column.name) columns.now))) }
 {
-    begin_with(text, b"rid")?;
+    page.field(b"rid")?;
     for column in columns.as_slice() {
-        add_field(text, column.name.as_slice())?;
+        page.field(column.name.as_slice())?;
     }
-    text.push(b'\n')?;
+    page.end()
+}
+
+// Writes the records of all rows with these numbers.
+fn placed_lines(page: &mut Page, rids: &[u32], rel: &Rel) -> Result<(), AllocError>
+    requires { length rids.now ≡ length rel.now.rows }
+    ensures { OnOk result (Adds page.old page.new (texts.row_lines (λ i. slice_index_or rids.now i 0) rel.now.rows)) }
+{
+    for i in 0..rel.len() {
+        row(page, rids[i as usize], rel, i)?;
+    }
     Ok(())
 }
 
-// Writes the records of all rows with these numbers. After an error the text is of no use.
-fn placed_lines(text: &mut Vec<u8>, rids: &[u32], rel: &Rel) -> Result<(), AllocError>
+// Writes the record of the names of the columns that a table declares, and those of all rows with these numbers.
+fn placed_rows(
+    page: &mut Page,
+    columns: &ColDecls,
+    rids: &[u32],
+    rel: &Rel,
+) -> Result<(), AllocError>
     requires { length rids.now ≡ length rel.now.rows }
-    ensures { OnOk result (text.new.items ≡ text.old.items ++ texts.row_lines (λ i. slice_index_or rids.now i 0) rel.now.rows) }
+    ensures { OnOk result (Adds page.old page.new (texts.record_line (codes "rid" ∷ map (λ column. column.name) columns.now) ++ texts.row_lines (λ i. slice_index_or rids.now i 0) rel.now.rows)) }
 {
-    for i in 0..rel.len() {
-        row(text, rids[i as usize], rel, i)?;
-    }
-    Ok(())
+    table_header(page, columns)?;
+    placed_lines(page, rids, rel)
 }
 
 /// A text with the record of the names of the columns that a table declares behind it.
@@ -141,9 +156,9 @@ pub fn with_table_header(
 ) -> Result<Vec<u8>, AllocError>
     ensures { IfOk result (λ text. text.items ≡ front.items ++ texts.record_line (codes "rid" ∷ map (λ column. column.name) columns.now)) }
 {
-    let mut text = front;
-    table_header(&mut text, columns)?;
-    Ok(text)
+    let mut page = Page::new(front);
+    table_header(&mut page, columns)?;
+    page.finish()
 }
 
 /// A text with the records of rows with these numbers behind it.
@@ -156,9 +171,9 @@ pub fn with_numbered_rows(
     requires { length rids.now ≡ length rel.now.rows }
     ensures { IfOk result (λ text. text.items ≡ front.items ++ texts.row_lines (λ i. slice_index_or rids.now i 0) rel.now.rows) }
 {
-    let mut text = with_room(front, rel.width(), rel.len())?;
-    placed_lines(&mut text, rids, rel)?;
-    Ok(text)
+    let mut page = page_for(front, rel.width(), rel.len())?;
+    placed_lines(&mut page, rids, rel)?;
+    page.finish()
 }
 
 /// A text with the records of the names of the columns that a table declares, and of rows with these numbers, behind it.
@@ -172,10 +187,9 @@ pub fn with_placed_rows(
     requires { length rids.now ≡ length rel.now.rows }
     ensures { IfOk result (λ text. text.items ≡ front.items ++ texts.record_line (codes "rid" ∷ map (λ column. column.name) columns.now) ++ texts.row_lines (λ i. slice_index_or rids.now i 0) rel.now.rows) }
 {
-    let mut text = with_room(front, rel.width(), rel.len())?;
-    table_header(&mut text, columns)?;
-    placed_lines(&mut text, rids, rel)?;
-    Ok(text)
+    let mut page = page_for(front, rel.width(), rel.len())?;
+    placed_rows(&mut page, columns, rids, rel)?;
+    page.finish()
 }
 
 /// The text of a backward answer, with the columns that the table declares.

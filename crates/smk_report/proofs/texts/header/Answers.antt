@@ -1,18 +1,22 @@
-use Rattle.std.proofs.Common.{◌∙◌, ℕ, List, ◌+◌, ◌++◌, ◌∷◌, take, take_all, ap, arith}
-use Rattle.csv.specs.Writing.{default_writer, field_text, row_body}
-use Rattle.smk_report.proofs.FieldTexts.{item_more, field_added, record_ended}
+use Rattle.std.proofs.Common.{◌∙◌, ℕ, List, ◌+◌, ◌++◌, ◌∷◌, [], take, take_all, sym, subst, arith}
+use Rattle.std.proofs.lemmas.Result.{on_ok_weaker}
+use Rattle.smk_model.specs.Texts.{record_line}
+use Rattle.smk_report.specs.Pages.{Says}
+use Rattle.smk_report.proofs.PageTexts.{item_more}
 use Rattle.smk_report.proofs.texts.header.Goals as goal
 
+pub loop-column-init : goal.loop-column-init
+loop-column-init c text says = c.in_ok-field.ensures text [] says
+
 pub loop-column-preserved : goal.loop-column-preserved
-loop-column-preserved c =
+loop-column-preserved c text says =
     let columns = c.as_slice-column-items.result.now in
     let i = c.loop-column.column-index in
-    field_added c.args.text.now.items _ _ c.args.first.now (take i columns) (take (i + 1) columns) c.column-item.result
-    (item_more columns i c.column-item.result c.loop-column-test.true c.column-item.is) c.loop-column.invariant
-    (c.in_ok-add_field.ensures ∙ ap (λ (x : List ℕ). c.loop-column.text.items ++ (44 ∷ field_text default_writer x)) c.as_slice.ensures)
+    let more = item_more columns i c.column-item.result c.loop-column-test.true c.column-item.is in
+    let now = subst (λ (x : List ℕ). Says _ text (c.args.first.now ∷ (take i columns ++ x ∷ []))) c.as_slice.ensures (c.in_ok-field-2.ensures text (c.args.first.now ∷ take i columns) (c.loop-column.invariant text says)) in
+    subst (λ (fields : List (List ℕ)). Says _ text (c.args.first.now ∷ fields)) (sym more) now
 
 pub returns : goal.returns
-returns c =
+returns c = on_ok_weaker c.end.result (λ ends text says.
     let all = take_all c.loop-column.column-index c.as_slice-column-items.result.now (omega (arith, c.loop-column-test.false)) ∙ c.as_slice-column-items.ensures in
-    record_ended c.args.text.now.items _ _ c.args.first.now c.args.columns.now c.requires
-    (c.loop-column.invariant ∙ ap (λ (x : List (List ℕ)). c.args.text.now.items ++ row_body default_writer (c.args.first.now ∷ x)) all) c.in_ok-push.ensures.items
+    ends text (c.args.first.now ∷ c.args.columns.now) (subst (λ (fields : List (List ℕ)). Says _ text (c.args.first.now ∷ fields)) all (c.loop-column.invariant text says))) c.end.ensures

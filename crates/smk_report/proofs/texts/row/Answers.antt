@@ -1,26 +1,26 @@
-use Rattle.std.proofs.Common.{◌≡◌, ◌∙◌, ◌<◌, ◌^◌, ℕ, List, ◌++◌, ◌∷◌, length, map, take, ap, arith, decimal}
-use Rattle.std.proofs.lemmas.Fmt.{decimal_nonempty}
-use Rattle.csv.specs.Writing.{default_writer, field_text, row_body}
+use Rattle.std.proofs.Common.{◌≡◌, ◌<◌, ℕ, List, ◌++◌, ◌∷◌, [], length, map, take, sym, subst, arith, decimal}
+use Rattle.std.proofs.lemmas.Result.{on_ok_weaker}
 use Rattle.smk_base.specs.declared.value.Value.{Value}
 use Rattle.smk_base.specs.Rels.{row_in, value_in}
 use Rattle.smk_model.specs.Texts.{value_text}
-use Rattle.smk_report.proofs.FieldTexts.{field_added, record_ended}
+use Rattle.smk_report.specs.Pages.{Says}
 use Rattle.smk_report.proofs.Parts.{row_width, values_more, values_all}
 use Rattle.smk_report.proofs.texts.row.Goals as goal
 
+pub loop-c-init : goal.loop-c-init
+loop-c-init c text says = c.in_ok-number.ensures text [] says
+
 pub loop-c-preserved : goal.loop-c-preserved
-loop-c-preserved c =
+loop-c-preserved c text says =
     let row = row_in c.args.rel.now.rows c.args.i in
     let at = c.loop-c.c in
+    let fields : List (List ℕ) = map value_text (take at row) in
     let there : at < length row = omega (arith, row_width c.args.rel.now c.args.i c.requires.keeps c.requires.in_range, c.width-c-end.ensures.count, c.loop-c-test.true) in
-    field_added c.args.text.now.items _ _ (decimal c.args.number) (map value_text (take at row)) _ (value_text (value_in row at))
-    (values_more row at there) c.loop-c.invariant
-    (c.in_ok-add_cell.ensures ∙ ap (λ (value : Value). c.loop-c.text.items ++ (44 ∷ field_text default_writer (value_text value))) c.cell.ensures.value)
+    let now = subst (λ (value : Value). Says _ text (decimal c.args.number ∷ (fields ++ value_text value ∷ []))) c.cell.ensures.value (c.in_ok-cell-2.ensures text (decimal c.args.number ∷ fields) (c.loop-c.invariant text says)) in
+    subst (λ (more : List (List ℕ)). Says _ text (decimal c.args.number ∷ more)) (sym (values_more row at there)) now
 
 pub returns : goal.returns
-returns c =
+returns c = on_ok_weaker c.end.result (λ ends text says.
     let row = row_in c.args.rel.now.rows c.args.i in
-    let small : c.args.number < 2 ^ 64 = omega (arith, c.ranges.number.fits) in
     let size : length row ≡ c.loop-c.c = omega (arith, row_width c.args.rel.now c.args.i c.requires.keeps c.requires.in_range, c.width-c-end.ensures.count, c.loop-c-test.false, c.loop-c.auto.c-end) in
-    record_ended c.args.text.now.items _ _ (decimal c.args.number) (map value_text row) (decimal_nonempty c.args.number small)
-    (c.loop-c.invariant ∙ ap (λ (x : List (List ℕ)). c.args.text.now.items ++ row_body default_writer (decimal c.args.number ∷ x)) (values_all row c.loop-c.c size)) c.in_ok-push.ensures.items
+    ends text (decimal c.args.number ∷ map value_text row) (subst (λ (fields : List (List ℕ)). Says _ text (decimal c.args.number ∷ fields)) (values_all row c.loop-c.c size) (c.loop-c.invariant text says))) c.end.ensures

@@ -1,21 +1,24 @@
-use Rattle.std.proofs.Common.{◌∙◌, ◌<◌, ℕ, List, ◌+◌, ◌++◌, ◌∷◌, length, map, take, take_all, ap, arith, codes}
-use Rattle.csv.specs.Writing.{default_writer, field_text, row_body}
+use Rattle.std.proofs.Common.{◌∙◌, ℕ, List, ◌+◌, ◌++◌, ◌∷◌, [], map, take, take_all, sym, subst, arith, codes}
+use Rattle.std.proofs.lemmas.Result.{on_ok_weaker}
 use Rattle.smk_base.specs.declared.col_decl.ColDecl.{ColDecl}
-use Rattle.smk_report.proofs.FieldTexts.{field_added, record_ended}
+use Rattle.smk_report.specs.Pages.{Says}
 use Rattle.smk_report.proofs.Parts.{declared_more}
 use Rattle.smk_report.proofs.texts.table_header.Goals as goal
 
+pub loop-column-init : goal.loop-column-init
+loop-column-init c text says = c.in_ok-field.ensures text [] says
+
 pub loop-column-preserved : goal.loop-column-preserved
-loop-column-preserved c =
+loop-column-preserved c text says =
     let columns = c.as_slice-column-items.result.now in
     let i = c.loop-column.column-index in
-    field_added c.args.text.now.items _ _ (codes "rid") (map (λ (column : ColDecl). column.name) (take i columns)) (map (λ (column : ColDecl). column.name) (take (i + 1) columns)) c.column-item.result.name
-    (declared_more columns i c.column-item.result c.loop-column-test.true c.column-item.is) c.loop-column.invariant
-    (c.in_ok-add_field.ensures ∙ ap (λ (x : List ℕ). c.loop-column.text.items ++ (44 ∷ field_text default_writer x)) c.as_slice.ensures)
+    let names : List (List ℕ) = map (λ (column : ColDecl). column.name) (take i columns) in
+    let more = declared_more columns i c.column-item.result c.loop-column-test.true c.column-item.is in
+    let now = subst (λ (x : List ℕ). Says _ text (codes "rid" ∷ (names ++ x ∷ []))) c.as_slice.ensures (c.in_ok-field-2.ensures text (codes "rid" ∷ names) (c.loop-column.invariant text says)) in
+    subst (λ (fields : List (List ℕ)). Says _ text (codes "rid" ∷ fields)) (sym more) now
 
 pub returns : goal.returns
-returns c =
+returns c = on_ok_weaker c.end.result (λ ends text says.
     let all = take_all c.loop-column.column-index c.as_slice-column-items.result.now (omega (arith, c.loop-column-test.false)) ∙ c.as_slice-column-items.ensures in
-    let some : 0 < length (codes "rid") = omega arith in
-    record_ended c.args.text.now.items _ _ (codes "rid") (map (λ (column : ColDecl). column.name) c.args.columns.now) some
-    (c.loop-column.invariant ∙ ap (λ (x : List ColDecl). c.args.text.now.items ++ row_body default_writer (codes "rid" ∷ map (λ (column : ColDecl). column.name) x)) all) c.in_ok-push.ensures.items
+    ends text (codes "rid" ∷ map (λ (column : ColDecl). column.name) c.args.columns.now)
+    (subst (λ (columns : List ColDecl). Says _ text (codes "rid" ∷ map (λ (column : ColDecl). column.name) columns)) all (c.loop-column.invariant text says))) c.end.ensures
