@@ -1,4 +1,4 @@
-//! Functional dependencies: a book with the views that show them, what violates one, and the text of it.
+//! What violates a functional dependency of a book: the answer to an `fd` line, by the rows of its view's marks, and the text of it. The book with the views that show its dependencies is that of `expand`.
 #![tactic(auto)]
 
 mod marks;
@@ -7,3 +7,4 @@ mod said;
 
 pub use profiling::profile;
 pub use said::profile_text;
+pub use smk_expand::{Expanded, expand};
