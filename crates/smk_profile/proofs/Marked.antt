@@ -17,7 +17,7 @@ use Rattle.smk_model.specs.Session.{State, first_content}
 use Rattle.smk_model.specs.Typing.{info_at}
 use Rattle.smk_model.proofs.Profiles.{dependencies_answered}
 use Rattle.smk_session.specs.Sessions.{SessionImage, state_of}
-use Rattle.smk_profile.specs.Marked.{IsAnsweredByRows}
+use Rattle.smk_profile.specs.Marked.{HasMarks, IsAnsweredByRows, IsMarkLine, with_mark}
 
 -- the first n of some groups are made, within as many looks as they have rows
 pub record Marked (wanted : List Group) (n : ℕ) (groups : List Group) (before now : ℕ) : Type 0 where
@@ -96,41 +96,48 @@ marks_on catalog state view v mark before now after groups g placed shows low ma
     one_more (wanted catalog state v) mark before now after groups g made low (subst (λ (x : Group). get_or (wanted catalog state v) mark x ≡ x) e (wanted_at catalog state v mark low))
     (omega (arith, looks, looks_are catalog state view v mark placed shows low, ap (λ (x : Group). length x.rids) e))
 
--- the same in a session that is as it was, for the n-th of as many marks as the view has rows
-pub record Meets (old : SessionImage) (view table : List ℕ) (v mark count : ℕ) : Type 0 where
+-- another mark in the place of that of the `back` line for a mark
+pub has_marks : (view table : List ℕ) (line : Line) → IsMarkLine view table line → HasMarks line
+has_marks view table line asks = subst HasMarks (sym asks.1) tt
+
+pub marked_with : (view table : List ℕ) (line now : Line) (mark : ℕ) → IsMarkLine view table line → now ≡ with_mark line mark → now ≡ mark_line view table mark
+marked_with view table line now mark asks is = is ∙ ap (λ (x : Line). with_mark x mark) asks.1
+
+-- the same in a session that is as it was, for the line of the n-th of as many marks as the view has rows
+pub record Meets (old : SessionImage) (view : List ℕ) (v mark count : ℕ) (line : Line) : Type 0 where
   pub placed : view_place (catalog_image old.catalog) view ≡ Some v
   pub shows : ShowsDependency (catalog_image old.catalog) v
-  pub named : table ≡ (info_at old.catalog.tables (shown_by (catalog_image old.catalog) v).table).name
+  pub asked : line ≡ line_of (catalog_image old.catalog) view v mark
   pub number : count ≡ length (first_content (catalog_image old.catalog) (state_of old) v)
   pub low : mark < count
 
 abbrev pub wanted_in : SessionImage → ℕ → List Group
 wanted_in old v = wanted (catalog_image old.catalog) (state_of old) v
 
-low_in : (old : SessionImage) (view table : List ℕ) (v mark count : ℕ) → Meets old view table v mark count → mark < length (wanted_in old v)
-low_in old view table v mark count meets = omega (arith, meets.low, meets.number, wanted_number (catalog_image old.catalog) (state_of old) view v meets.placed meets.shows)
+low_in : (old : SessionImage) (view : List ℕ) (v mark count : ℕ) (line : Line) → Meets old view v mark count line → mark < length (wanted_in old v)
+low_in old view v mark count line meets = omega (arith, meets.low, meets.number, wanted_number (catalog_image old.catalog) (state_of old) view v meets.placed meets.shows)
 
-pub answered_in : (old now : SessionImage) (view table : List ℕ) (v mark count : ℕ) → now ≡ old → Meets old view table v mark count → IsAnsweredByRows (catalog_image now.catalog) (state_of now) (mark_line view table mark)
-answered_in old now view table v mark count same meets =
-    let stands = answered (catalog_image old.catalog) (state_of old) view v mark meets.placed meets.shows (low_in old view table v mark count meets) in
-    subst (λ (s : SessionImage). IsAnsweredByRows (catalog_image s.catalog) (state_of s) (mark_line view table mark)) (sym same)
-    (subst (λ (t : List ℕ). IsAnsweredByRows (catalog_image old.catalog) (state_of old) (mark_line view t mark)) (sym meets.named) stands)
+pub answered_in : (old now : SessionImage) (view : List ℕ) (v mark count : ℕ) (line : Line) → now ≡ old → Meets old view v mark count line → IsAnsweredByRows (catalog_image now.catalog) (state_of now) line
+answered_in old now view v mark count line same meets =
+    let stands = answered (catalog_image old.catalog) (state_of old) view v mark meets.placed meets.shows (low_in old view v mark count line meets) in
+    subst (λ (s : SessionImage). IsAnsweredByRows (catalog_image s.catalog) (state_of s) line) (sym same)
+    (subst (λ (l : Line). IsAnsweredByRows (catalog_image old.catalog) (state_of old) l) (sym meets.asked) stands)
 
-looks_in : (old now : SessionImage) (view table : List ℕ) (v mark count before after : ℕ) → now ≡ old → Meets old view table v mark count
-    → after ≤ before + line_looks (catalog_image now.catalog) (state_of now) (mark_line view table mark) → after ≤ before + line_looks (catalog_image old.catalog) (state_of old) (line_of (catalog_image old.catalog) view v mark)
-looks_in old now view table v mark count before after same meets h =
-    subst (λ (t : List ℕ). after ≤ before + line_looks (catalog_image old.catalog) (state_of old) (mark_line view t mark)) meets.named
-    (subst (λ (s : SessionImage). after ≤ before + line_looks (catalog_image s.catalog) (state_of s) (mark_line view table mark)) same h)
+looks_in : (old now : SessionImage) (view : List ℕ) (v mark count : ℕ) (line : Line) (before after : ℕ) → now ≡ old → Meets old view v mark count line
+    → after ≤ before + line_looks (catalog_image now.catalog) (state_of now) line → after ≤ before + line_looks (catalog_image old.catalog) (state_of old) (line_of (catalog_image old.catalog) view v mark)
+looks_in old now view v mark count line before after same meets h =
+    subst (λ (l : Line). after ≤ before + line_looks (catalog_image old.catalog) (state_of old) l) meets.asked
+    (subst (λ (s : SessionImage). after ≤ before + line_looks (catalog_image s.catalog) (state_of s) line) same h)
 
-pub stops_in : (old now : SessionImage) (view table : List ℕ) (v mark count first before after : ℕ) (groups : List Group) → now ≡ old → Meets old view table v mark count
-    → Marked (wanted_in old v) mark groups first before → after ≤ before + line_looks (catalog_image now.catalog) (state_of now) (mark_line view table mark) → after ≤ first + looks_of_groups (wanted_in old v)
-stops_in old now view table v mark count first before after groups same meets made h =
-    stops (catalog_image old.catalog) (state_of old) view v mark first before after groups meets.placed meets.shows (low_in old view table v mark count meets) made (looks_in old now view table v mark count before after same meets h)
+pub stops_in : (old now : SessionImage) (view : List ℕ) (v mark count : ℕ) (line : Line) (first before after : ℕ) (groups : List Group) → now ≡ old → Meets old view v mark count line
+    → Marked (wanted_in old v) mark groups first before → after ≤ before + line_looks (catalog_image now.catalog) (state_of now) line → after ≤ first + looks_of_groups (wanted_in old v)
+stops_in old now view v mark count line first before after groups same meets made h =
+    stops (catalog_image old.catalog) (state_of old) view v mark first before after groups meets.placed meets.shows (low_in old view v mark count line meets) made (looks_in old now view v mark count line before after same meets h)
 
-pub on_in : (old now : SessionImage) (view table : List ℕ) (v mark count first before after : ℕ) (groups : List Group) (g : Group) → now ≡ old → Meets old view table v mark count
-    → Marked (wanted_in old v) mark groups first before → (reply (catalog_image now.catalog) (state_of now) (mark_line view table mark)).0 ≡ Back g.rids g.rows
-    → after ≤ before + line_looks (catalog_image now.catalog) (state_of now) (mark_line view table mark) → Marked (wanted_in old v) (mark + 1) (groups ++ g ∷ []) first after
-on_in old now view table v mark count first before after groups g same meets made told h =
-    let told2 = subst (λ (t : List ℕ). (reply (catalog_image old.catalog) (state_of old) (mark_line view t mark)).0 ≡ Back g.rids g.rows) meets.named
-    (subst (λ (s : SessionImage). (reply (catalog_image s.catalog) (state_of s) (mark_line view table mark)).0 ≡ Back g.rids g.rows) same told) in
-    marks_on (catalog_image old.catalog) (state_of old) view v mark first before after groups g meets.placed meets.shows (low_in old view table v mark count meets) made told2 (looks_in old now view table v mark count before after same meets h)
+pub on_in : (old now : SessionImage) (view : List ℕ) (v mark count : ℕ) (line : Line) (first before after : ℕ) (groups : List Group) (g : Group) → now ≡ old → Meets old view v mark count line
+    → Marked (wanted_in old v) mark groups first before → (reply (catalog_image now.catalog) (state_of now) line).0 ≡ Back g.rids g.rows
+    → after ≤ before + line_looks (catalog_image now.catalog) (state_of now) line → Marked (wanted_in old v) (mark + 1) (groups ++ g ∷ []) first after
+on_in old now view v mark count line first before after groups g same meets made told h =
+    let told2 = subst (λ (l : Line). (reply (catalog_image old.catalog) (state_of old) l).0 ≡ Back g.rids g.rows) meets.asked
+    (subst (λ (s : SessionImage). (reply (catalog_image s.catalog) (state_of s) line).0 ≡ Back g.rids g.rows) same told) in
+    marks_on (catalog_image old.catalog) (state_of old) view v mark first before after groups g meets.placed meets.shows (low_in old view v mark count line meets) made told2 (looks_in old now view v mark count line before after same meets h)

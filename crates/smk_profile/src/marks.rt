@@ -1,12 +1,12 @@
 // The rows that the marks of the view of a dependency came from.
-ghost use Rattle.std.specs.Prelude.{◌≡◌, ◌≤◌, ◌<◌, ◌+◌, length, Some, IfOk};
+ghost use Rattle.std.specs.Prelude.{◌≡◌, ◌≤◌, ◌<◌, ◌+◌, length, Some, IfOk, OnOk};
 ghost use Rattle.smk_base.specs.CatalogImage.{catalog_image, view_place};
 ghost use Rattle.smk_model.specs.Looks.{line_looks};
 ghost use Rattle.smk_model.specs.Profiles as profiles;
 ghost use Rattle.smk_model.specs.Profiles.{ShowsDependency, groups_of, looks_of_groups, shown_by};
 ghost use Rattle.smk_model.specs.Replies.{reply};
 ghost use Rattle.smk_model.specs.Typing.{info_at};
-ghost use Rattle.smk_profile.specs.Marked.{IsAnsweredByRows};
+ghost use Rattle.smk_profile.specs.Marked.{HasMarks, IsAnsweredByRows, IsMarkLine, with_mark};
 ghost use Rattle.smk_base.specs.declared.reply.Reply.TheVariants.{Back};
 ghost use Rattle.smk_session.specs.Sessions.{state_of};
 
@@ -18,7 +18,12 @@ use std::sync::ledger::Ledger;
 use std::thread::Threads;
 
 // The `back` line for a mark of a view.
-fn mark_line(alloc: Global, view: &Text, table: &Text, mark: u32) -> Result<Line, AllocError>
+pub(crate) fn mark_line(
+    alloc: Global,
+    view: &Text,
+    table: &Text,
+    mark: u32,
+) -> Result<Line, AllocError>
     ensures { IfOk result (λ line. line ≡ profiles.mark_line view.now table.now mark) }
 {
     let mut marks = Rids::new(alloc);
@@ -33,45 +38,38 @@ fn mark_line(alloc: Global, view: &Text, table: &Text, mark: u32) -> Result<Line
     })
 }
 
-// The reply to the `back` line for a mark of a view. The session stays as it is where the state does.
-fn mark_reply<R: Threads + Sync, G: Gate + Sync, L: Ledger>(
-    rt: &R,
-    alloc: Global,
-    session: &mut Session,
-    view: &Text,
-    table: &Text,
-    mark: u32,
-    gate: &G,
-    steps: &mut Steps<L>,
-) -> Result<Reply, AllocError>
-    requires stays { (reply (catalog_image session.old.catalog) (state_of session.old) (profiles.mark_line view.now table.now mark)).1 ≡ state_of session.old }
-    ensures reply { IfOk result (λ told. told ≡ (reply (catalog_image session.old.catalog) (state_of session.old) (profiles.mark_line view.now table.now mark)).0) }
-    ensures same { session.new ≡ session.old }
-    ensures looks { steps.new ≤ steps.old + line_looks (catalog_image session.old.catalog) (state_of session.old) (profiles.mark_line view.now table.now mark) }
+// Puts another mark in the place of that of a `back` line. After an error the line has none.
+fn put_mark(line: &mut Line, mark: u32) -> Result<(), AllocError>
+    requires { HasMarks line.old }
+    ensures { OnOk result (line.new ≡ with_mark line.old mark) }
 {
-    let line = mark_line(alloc, view, table, mark)?;
-    let reply = session.answer(rt, alloc, &line, gate, steps);
-    drop(line);
-    reply
+    match line {
+        Line::Back {
+            marks: Marks::Listed(marks),
+            ..
+        } => {
+            marks.clear();
+            marks.push(mark)
+        }
+        _ => unreachable!(),
+    }
 }
 
-// The rows that a mark of a view came from, where the `back` line for it is answered by rows.
+// The rows that a mark of a view came from, where the `back` line for it is answered by rows. The session stays as it is.
 fn mark_group<R: Threads + Sync, G: Gate + Sync, L: Ledger>(
     rt: &R,
     alloc: Global,
     session: &mut Session,
-    view: &Text,
-    table: &Text,
-    mark: u32,
+    line: &Line,
     gate: &G,
     steps: &mut Steps<L>,
 ) -> Result<Group, AllocError>
-    requires answered { IsAnsweredByRows (catalog_image session.old.catalog) (state_of session.old) (profiles.mark_line view.now table.now mark) }
-    ensures group { IfOk result (λ group. (reply (catalog_image session.old.catalog) (state_of session.old) (profiles.mark_line view.now table.now mark)).0 ≡ Back group.rids group.rows) }
+    requires answered { IsAnsweredByRows (catalog_image session.old.catalog) (state_of session.old) line.now }
+    ensures group { IfOk result (λ group. (reply (catalog_image session.old.catalog) (state_of session.old) line.now).0 ≡ Back group.rids group.rows) }
     ensures same { session.new ≡ session.old }
-    ensures looks { steps.new ≤ steps.old + line_looks (catalog_image session.old.catalog) (state_of session.old) (profiles.mark_line view.now table.now mark) }
+    ensures looks { steps.new ≤ steps.old + line_looks (catalog_image session.old.catalog) (state_of session.old) line.now }
 {
-    match mark_reply(rt, alloc, session, view, table, mark, gate, steps)? {
+    match session.answer(rt, alloc, line, gate, steps)? {
         Reply::Back { rids, rows } => Ok(Group { rids, rows }),
         Reply::View { .. }
         | Reply::Grouped { .. }
@@ -83,21 +81,21 @@ fn mark_group<R: Threads + Sync, G: Gate + Sync, L: Ledger>(
     }
 }
 
-/// The rows that each mark of the view of a dependency came from, in the order of the marks, by the `back` lines for them. The session stays as it is.
+/// The rows that each mark of the view of a dependency came from, in the order of the marks, by the `back` lines for them: the line for one of them, in which each mark is put in turn. The session stays as it is.
 pub(crate) fn mark_groups<R: Threads + Sync, G: Gate + Sync, L: Ledger>(
     rt: &R,
     alloc: Global,
     session: &mut Session,
     view: &Text,
     v: u32,
-    table: &Text,
+    line: &mut Line,
     gate: &G,
     steps: &mut Steps<L>,
 ) -> Result<Groups, AllocError>
     requires within { v < length session.old.catalog.views }
     requires placed { view_place (catalog_image session.old.catalog) view.now ≡ Some v }
     requires shows { ShowsDependency (catalog_image session.old.catalog) v }
-    requires named { table.now ≡ (info_at session.old.catalog.tables (shown_by (catalog_image session.old.catalog) v).table).name }
+    requires asks { IsMarkLine view.now (info_at session.old.catalog.tables (shown_by (catalog_image session.old.catalog) v).table).name line.old }
     ensures groups { IfOk result (λ groups. groups ≡ groups_of (catalog_image session.old.catalog) (state_of session.old) (shown_by (catalog_image session.old.catalog) v)) }
     ensures same { session.new ≡ session.old }
     ensures looks { steps.new ≤ steps.old + looks_of_groups (groups_of (catalog_image session.old.catalog) (state_of session.old) (shown_by (catalog_image session.old.catalog) v)) }
@@ -105,7 +103,8 @@ pub(crate) fn mark_groups<R: Threads + Sync, G: Gate + Sync, L: Ledger>(
     let count = session.first(v).len();
     let mut groups = Groups::new(alloc);
     for mark in 0..count {
-        let group = mark_group(rt, alloc, session, view, table, mark, gate, steps)?;
+        put_mark(line, mark)?;
+        let group = mark_group(rt, alloc, session, line, gate, steps)?;
         groups.push(group)?;
     }
     Ok(groups)

@@ -9,7 +9,7 @@ ghost use Rattle.smk_model.specs.Profiles as profiles;
 ghost use Rattle.smk_model.specs.Profiles.{AreDependencies, ShowsDependency, groups_of, looks_of_groups, shown_by};
 ghost use Rattle.smk_session.specs.Sessions.{state_of};
 
-use crate::marks::mark_groups;
+use crate::marks::{mark_groups, mark_line};
 use smk_base::{Catalog, Names, Plan, ProfileRefusal, ProfileReply, Text};
 use smk_outside::{Gate, Steps};
 use smk_session::Session;
@@ -74,11 +74,10 @@ fn found<R: Threads + Sync, G: Gate + Sync, L: Ledger>(
     ensures looks { steps.new ≤ steps.old + looks_of_groups (groups_of (catalog_image session.old.catalog) (state_of session.old) (shown_by (catalog_image session.old.catalog) v)) }
 {
     let table = table_shown(session.catalog(), v);
-    let name = session.catalog().tables.as_slice()[table as usize]
-        .name
-        .copy(alloc)?;
-    let made = mark_groups(rt, alloc, session, view, v, &name, gate, steps);
-    drop(name);
+    let name = &session.catalog().tables.as_slice()[table as usize].name;
+    let mut line = mark_line(alloc, view, name, 0)?;
+    let made = mark_groups(rt, alloc, session, view, v, &mut line, gate, steps);
+    drop(line);
     Ok(ProfileReply::Found {
         table,
         marks: made?,
