@@ -1,7 +1,7 @@
-use Rattle.std.proofs.Common.{◌∙◌, ℕ, List, ◌+◌, ◌++◌, ◌∷◌, [], map, take, take_all, sym, subst, arith, codes}
+use Rattle.std.proofs.Common.{◌∙◌, ℕ, List, ◌+◌, ◌++◌, ◌∷◌, [], map, take, take_all, sym, ap, arith, codes}
 use Rattle.std.proofs.lemmas.Result.{on_ok_weaker}
 use Rattle.smk_base.specs.declared.col_decl.ColDecl.{ColDecl}
-use Rattle.smk_report.specs.Pages.{Says}
+use Rattle.smk_report.proofs.PageTexts.{says_same}
 use Rattle.smk_report.proofs.Parts.{declared_more}
 use Rattle.smk_report.proofs.texts.table_header.Goals as goal
 
@@ -14,11 +14,11 @@ loop-column-preserved c text says =
     let i = c.loop-column.column-index in
     let names : List (List ℕ) = map (λ (column : ColDecl). column.name) (take i columns) in
     let more = declared_more columns i c.column-item.result c.loop-column-test.true c.column-item.is in
-    let now = subst (λ (x : List ℕ). Says _ text (codes "rid" ∷ (names ++ x ∷ []))) c.as_slice.ensures (c.in_ok-field-2.ensures text (codes "rid" ∷ names) (c.loop-column.invariant text says)) in
-    subst (λ (fields : List (List ℕ)). Says _ text (codes "rid" ∷ fields)) (sym more) now
+    says_same _ text _ _ (ap (λ (x : List ℕ). codes "rid" ∷ (names ++ x ∷ [])) c.as_slice.ensures ∙ ap (λ (fields : List (List ℕ)). codes "rid" ∷ fields) (sym more))
+    (c.in_ok-field-2.ensures text (codes "rid" ∷ names) (c.loop-column.invariant text says))
 
 pub returns : goal.returns
 returns c = on_ok_weaker c.end.result (λ ends text says.
     let all = take_all c.loop-column.column-index c.as_slice-column-items.result.now (omega (arith, c.loop-column-test.false)) ∙ c.as_slice-column-items.ensures in
     ends text (codes "rid" ∷ map (λ (column : ColDecl). column.name) c.args.columns.now)
-    (subst (λ (columns : List ColDecl). Says _ text (codes "rid" ∷ map (λ (column : ColDecl). column.name) columns)) all (c.loop-column.invariant text says))) c.end.ensures
+    (says_same _ text _ _ (ap (λ (columns : List ColDecl). codes "rid" ∷ map (λ (column : ColDecl). column.name) columns) all) (c.loop-column.invariant text says))) c.end.ensures
