@@ -1,6 +1,5 @@
 use Rattle.std.proofs.Common.{◌∙◌, refl}
-use Rattle.csv.specs.Writing.{is_blank, with_flexible}
-use Rattle.std.specs.Prelude.{true}
+use Rattle.csv.specs.Writing.{is_blank}
 use Rattle.smk_report.proofs.page.Page.new.Goals as goal
 
 pub returns : goal.returns
