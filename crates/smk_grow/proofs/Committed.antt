@@ -8,10 +8,9 @@ use Rattle.smk_base.specs.Rels.{Relation}
 use Rattle.smk_base.specs.declared.brush.BrushOn.{BrushOn}
 use Rattle.smk_model.specs.Selection.{each_rows}
 use Rattle.smk_compose.specs.declared.kept_maps.Run.{Run}
+use Rattle.smk_skip.specs.Splits.{SplitImage}
 use Rattle.smk_session.specs.Extras.{splits_of, all_cubes, split_in, cubes_in}
 use Rattle.smk_session.specs.Sessions.{SessionImage, opened, opened_views, workbook_image, workbook_of}
-use Rattle.smk_session.specs.declared.extra.CubesOn.{CubesOn}
-use Rattle.smk_session.specs.declared.extra.SplitOn.{SplitOn}
 use Rattle.smk_grow.specs.Grown.{first_tables}
 use Rattle.smk_grow.specs.Images.{renewed}
 use Rattle.smk_grow.specs.Renewals.{IsFresh, IsGrown}
@@ -29,13 +28,13 @@ committed_views session t len fresh grown f =
 
 pub committed_splits : (session : SessionImage) (t len : ℕ) (fresh : Fresh) → IsGrown session t len → IsFresh t (workbook_of session) fresh → replaced fresh.extras.splits.items session.splits ≡ splits_of (workbook_of session)
 committed_splits session t len fresh grown f =
-    ap (λ (l : List (Option SplitOn)). replaced l session.splits) f.splits
+    ap (λ (l : List (Option SplitImage)). replaced l session.splits) f.splits
     ∙ ap (replaced (filter_map (fresh_split t (workbook_of session)) session.catalog.backs)) grown.extras.splits_are
     ∙ replaced_splits (catalog_image session.catalog) t (each_rows (first_tables session.tables t len)) (each_rows session.tables) session.catalog.backs (same_but session.tables t len)
 
 pub committed_cubes : (session : SessionImage) (t len : ℕ) (fresh : Fresh) → IsGrown session t len → IsFresh t (workbook_of session) fresh → replaced fresh.extras.cubes.items session.cubes ≡ all_cubes (workbook_of session)
 committed_cubes session t len fresh grown f =
-    ap (λ (l : List (Option CubesOn)). replaced l session.cubes) f.cubes
+    ap (λ (l : List (Option (List Relation))). replaced l session.cubes) f.cubes
     ∙ ap (replaced (filter_map (fresh_cubes t (workbook_of session)) session.catalog.backs)) grown.extras.cubes_are
     ∙ replaced_cubes (catalog_image session.catalog) t (each_rows (first_tables session.tables t len)) (each_rows session.tables) session.catalog.backs (same_but session.tables t len)
 
@@ -62,10 +61,10 @@ few_cubes session t len fresh grown f =
 
 -- what a session keeps then
 
-abbrev image_of : SessionImage → List Run → List SplitOn → List CubesOn → List BrushOn → List (Option Relation) → SessionImage
+abbrev image_of : SessionImage → List Run → List SplitImage → List (List Relation) → List BrushOn → List (Option Relation) → SessionImage
 image_of session views splits cubes brushes contents = record session { views = views; splits = splits; cubes = cubes; brushes = brushes; contents = contents }
 
-pub committed : (session : SessionImage) (t len : ℕ) (fresh : Fresh) (views : List Run) (splits : List SplitOn) (cubes : List CubesOn) (brushes : List BrushOn) (contents : List (Option Relation))
+pub committed : (session : SessionImage) (t len : ℕ) (fresh : Fresh) (views : List Run) (splits : List SplitImage) (cubes : List (List Relation)) (brushes : List BrushOn) (contents : List (Option Relation))
     → IsGrown session t len → IsFresh t (workbook_of session) fresh
     → views ≡ replaced fresh.views.items session.views → splits ≡ replaced fresh.extras.splits.items session.splits → cubes ≡ replaced fresh.extras.cubes.items session.cubes
     → brushes ≡ [] → contents ≡ map (λ (w : ℕ). None) (upto (length session.contents))

@@ -15,6 +15,7 @@ use Rattle.smk_model.specs.Catalogs.{table_kinds}
 use Rattle.smk_model.specs.Typing.{info_at}
 use Rattle.smk_model.proofs.Unscanned.{unscanned_stays}
 use Rattle.smk_push.specs.Cubes.{cubes_of}
+use Rattle.smk_skip.specs.Splits.{SplitImage}
 use Rattle.smk_model.specs.Session.{Workbook, view_at}
 use Rattle.smk_model.specs.Values.{Row}
 use Rattle.smk_session.specs.Extras.{backs_of, table_of, split_in, cubes_in, split_for, cubes_for}
@@ -111,12 +112,15 @@ same_backs catalog t v u A B same none ne =
 same_table : (catalog : CatalogImage) (t u : ℕ) (A B : List (List Row)) → SameBut t A B → nat_eq u t ≡ false → table_of (book_over catalog A) u ≡ table_of (book_over catalog B) u
 same_table catalog t u A B same ne = ap (λ (rows : List Row). rel_of (table_kinds (info_at catalog.tables u)) rows) (same u ne)
 
+abbrev split_of : Lists → Relation → ℕ → SplitImage
+split_of map table column = record { map = map; rows = table.rows; col = column }
+
 same_split : (catalog : CatalogImage) (t v u : ℕ) (extra : BackExtra) (A B : List (List Row)) → SameBut t A B → scans catalog t v ≡ false → nat_eq u t ≡ false
     → split_for (book_over catalog A) v u extra ≡ split_for (book_over catalog B) v u extra
 same_split catalog t v u extras.Plain A B same none ne = refl
 same_split catalog t v u (extras.By column) A B same none ne =
-    ap (λ (map : Lists). Some (record { view = v; table = u; col = column; split = record { map = map; rows = (table_of (book_over catalog A) u).rows; col = column } })) (same_backs catalog t v u A B same none ne)
-    ∙ ap (λ (r : Relation). Some (record { view = v; table = u; col = column; split = record { map = backs_of (book_over catalog B) v u; rows = r.rows; col = column } })) (same_table catalog t u A B same ne)
+    ap (λ (map : Lists). Some (split_of map (table_of (book_over catalog A) u) column)) (same_backs catalog t v u A B same none ne)
+    ∙ ap (λ (r : Relation). Some (split_of (backs_of (book_over catalog B) v u) r column)) (same_table catalog t u A B same ne)
 same_split catalog t v u (extras.Grouped keys aggs names kinds) A B same none ne = refl
 
 same_cubes : (catalog : CatalogImage) (t v u : ℕ) (extra : BackExtra) (A B : List (List Row)) → SameBut t A B → scans catalog t v ≡ false → nat_eq u t ≡ false
@@ -124,8 +128,8 @@ same_cubes : (catalog : CatalogImage) (t v u : ℕ) (extra : BackExtra) (A B : L
 same_cubes catalog t v u extras.Plain A B same none ne = refl
 same_cubes catalog t v u (extras.By column) A B same none ne = refl
 same_cubes catalog t v u (extras.Grouped keys aggs names kinds) A B same none ne =
-    ap (λ (map : Lists). Some (record { view = v; table = u; cubes = cubes_of map (table_of (book_over catalog A) u) keys aggs })) (same_backs catalog t v u A B same none ne)
-    ∙ ap (λ (r : Relation). Some (record { view = v; table = u; cubes = cubes_of (backs_of (book_over catalog B) v u) r keys aggs })) (same_table catalog t u A B same ne)
+    ap (λ (map : Lists). Some (cubes_of map (table_of (book_over catalog A) u) keys aggs)) (same_backs catalog t v u A B same none ne)
+    ∙ ap (λ (r : Relation). Some (cubes_of (backs_of (book_over catalog B) v u) r keys aggs)) (same_table catalog t u A B same ne)
 
 pub replaced_splits : (catalog : CatalogImage) (t : ℕ) (A B : List (List Row)) (backs : List Back) → SameBut t A B
     → replaced (filter_map (fresh_split t (book_over catalog B)) backs) (filter_map (split_in (book_over catalog A)) backs) ≡ filter_map (split_in (book_over catalog B)) backs

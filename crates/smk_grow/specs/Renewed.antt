@@ -3,6 +3,7 @@ use Rattle.std.specs.Prelude.{ℕ, Bool, cond, ◌&&◌, ◌||◌, nat_eq, List,
 use Rattle.std.specs.List.{list_any}
 use Rattle.smk_base.specs.CatalogImage.{CatalogImage}
 use Rattle.smk_base.specs.Places.{empty_lists}
+use Rattle.smk_base.specs.Rels.{Relation}
 use Rattle.smk_base.specs.declared.catalog.Back.{Back}
 use Rattle.smk_base.specs.declared.need.Needed.{Needed}
 use Rattle.smk_model.specs.Appends.{depends_on, scans}
@@ -15,11 +16,10 @@ use Rattle.smk_model.specs.Session.{Workbook, view_at}
 use Rattle.smk_model.specs.Workload.{needs}
 use Rattle.smk_compose.specs.declared.kept_maps.KeptMap.{KeptMap}
 use Rattle.smk_compose.specs.declared.kept_maps.Run.{Run}
+use Rattle.smk_skip.specs.Splits.{SplitImage}
 use Rattle.smk_session.specs.Answers.{is_of_table}
 use Rattle.smk_session.specs.Extras.{split_in, cubes_in}
 use Rattle.smk_session.specs.Sessions.{opened}
-use Rattle.smk_session.specs.declared.extra.CubesOn.{CubesOn}
-use Rattle.smk_session.specs.declared.extra.SplitOn.{SplitOn}
 
 -- the values, with a fresh one in the place of each for which there is one
 abbrev pub newer : {A : Type 0} → Option A → A → A
@@ -66,10 +66,10 @@ moved_view t size run = cond (list_any (is_of_table t) run.kept) (Some (record {
 abbrev pub if_depends : {A : Type 0} → Bool → A → Option A
 if_depends depends made = cond depends (Some made) None
 
-abbrev pub fresh_split : ℕ → Workbook → Back → Option (Option SplitOn)
+abbrev pub fresh_split : ℕ → Workbook → Back → Option (Option SplitImage)
 fresh_split t book declared = option_map (if_depends (depends_on book.catalog t declared)) (split_in book declared)
 
-abbrev pub fresh_cubes : ℕ → Workbook → Back → Option (Option CubesOn)
+abbrev pub fresh_cubes : ℕ → Workbook → Back → Option (Option (List Relation))
 fresh_cubes t book declared = option_map (if_depends (depends_on book.catalog t declared)) (cubes_in book declared)
 
 -- the fault of a view, if it scans the table

@@ -18,7 +18,7 @@ use smk_base::{Aggs, Back, BackExtra, Keys};
 use smk_outside::Steps;
 use smk_push::Cubes;
 use smk_rid::RidMap;
-use smk_session::{CubesOn, Opened, SplitOn, back_kept};
+use smk_session::{Opened, back_kept};
 use smk_skip::Split;
 use smk_table::Table;
 use smk_typing::TypedBook;
@@ -39,8 +39,8 @@ pub(crate) struct Views<'a> {
 // What takes the places of splits and of groupings.
 #[derive(Drop)]
 pub(crate) struct FreshExtras {
-    pub(crate) splits: Vec<Option<SplitOn>>,
-    pub(crate) cubes: Vec<Option<CubesOn>>,
+    pub(crate) splits: Vec<Option<Split>>,
+    pub(crate) cubes: Vec<Option<Cubes>>,
 }
 
 // A view as it is now.
@@ -92,7 +92,7 @@ fn fresh_split_on<L: Ledger>(
     declared: &Back,
     col: u32,
     steps: &mut Steps<L>,
-) -> Result<Option<SplitOn>, AllocError>
+) -> Result<Option<Split>, AllocError>
     requires views { AreViews views.now }
     requires declared { IsDeclared views.now.book.now declared.now }
     requires column { col < length (table_kinds (info_at views.now.book.now.tables declared.now.table)) }
@@ -103,12 +103,7 @@ fn fresh_split_on<L: Ledger>(
         let map = declared_map(views, declared);
         let table = declared_table(views, declared);
         let split = Split::build(alloc, map, table, col, steps)?;
-        Ok(Some(SplitOn {
-            view: declared.view,
-            table: declared.table,
-            col,
-            split,
-        }))
+        Ok(Some(split))
     } else {
         Ok(None)
     }
@@ -122,7 +117,7 @@ fn fresh_cubes_on<L: Ledger>(
     keys: &Keys,
     aggs: &Aggs,
     steps: &mut Steps<L>,
-) -> Result<Option<CubesOn>, AllocError>
+) -> Result<Option<Cubes>, AllocError>
     requires views { AreViews views.now }
     requires declared { IsDeclared views.now.book.now declared.now }
     requires fits { GroupFits (table_kinds (info_at views.now.book.now.tables declared.now.table)) keys.now aggs.now }
@@ -133,11 +128,7 @@ fn fresh_cubes_on<L: Ledger>(
         let map = declared_map(views, declared);
         let table = declared_table(views, declared);
         let cubes = Cubes::build(alloc, map, table, keys, aggs, steps)?;
-        Ok(Some(CubesOn {
-            view: declared.view,
-            table: declared.table,
-            cubes,
-        }))
+        Ok(Some(cubes))
     } else {
         Ok(None)
     }

@@ -1,5 +1,5 @@
 -- The parts of a backward answer, by what is kept of a view and a table.
-use Rattle.std.proofs.Common.{◌≡◌, ℕ, ◌<◌, Bool, true, false, ◌&&◌, ◌||◌, cond, List, [], ◌∷◌, length, refl, ap, sym, ◌∙◌, subst, nat_eq, Ok, Err, Option, Some, None, option_map, ok_or, All, inl, inr, find}
+use Rattle.std.proofs.Common.{◌≡◌, ℕ, ◌<◌, Bool, true, false, ◌&&◌, ◌||◌, cond, List, [], ◌∷◌, length, refl, ap, sym, ◌∙◌, subst, nat_eq, Ok, Err, Option, Some, None, option_map, ok_or, slice_get, All, inl, inr}
 use Rattle.std.specs.List.{list_all, list_any}
 use Rattle.std.proofs.lemmas.Bool.{cases_Bool, eqb-true, false≢true}
 use Rattle.std.proofs.lemmas.List.{get_or-map, length-map}
@@ -35,12 +35,11 @@ use Rattle.smk_model.proofs.Composed.{lists_stand}
 use Rattle.smk_model.proofs.Places.{same_below}
 use Rattle.smk_compose.specs.declared.kept_maps.Run.{Run}
 use Rattle.smk_push.specs.Cubes.{cube_at, cube_of}
+use Rattle.smk_skip.specs.Splits.{SplitImage}
 use Rattle.smk_session.specs.Answers.{BacksFit, back_by, kept_back, rows_told, state_lent, within_asked}
-use Rattle.smk_session.specs.Extras.{are_cubes_on, backs_of, is_split_on, split_on, table_of}
-use Rattle.smk_session.specs.BackAnswers.{CubesFit, IsPairOf, SplitsFit, cubes_asked, grouped_by, matching_by, one_asked, sort_asked, split_asked, with_value_asked}
+use Rattle.smk_session.specs.Extras.{backs_of, cubes_place, split_on, split_place, table_of}
+use Rattle.smk_session.specs.BackAnswers.{CubesFit, IsPairOf, SplitsFit, cubes_asked, grouped_by, matching_by, one_asked, sort_asked, split_asked, split_kept, with_value_asked}
 use Rattle.smk_session.specs.Sessions.{state_over, workbook_image}
-use Rattle.smk_session.specs.declared.extra.CubesOn.{CubesOn}
-use Rattle.smk_session.specs.declared.extra.SplitOn.{SplitOn}
 use Rattle.smk_session.specs.declared.lent.Lent.{Lent}
 use Rattle.smk_session.specs.declared.backward.Pair.{Pair}
 use Rattle.smk_session.proofs.Declared.{cubes_found, cubes_of_grouped, grouping_fits, split_found}
@@ -74,29 +73,39 @@ backs_fit tables views pair p m kept = ap (λ (l : Lists). l.bound) (map_is tabl
 
 -- the rows with a value
 
-split_is : (tables : List Relation) (views : List Run) (pair : Pair) (c : ℕ) → IsPairOf tables views pair
-    → find (is_split_on pair.view pair.table c) pair.splits.now ≡ cond (list_any (is_split pair.view pair.table c) pair.catalog.now.backs) (Some (split_on (book_of tables pair) pair.view pair.table c)) None
-split_is tables views pair c p =
-    ap (find (is_split_on pair.view pair.table c)) p.extras.splits_are ∙ split_found (book_of tables pair) pair.view pair.table c pair.catalog.now.backs
+abbrev by_column : Workbook → ℕ → ℕ → ℕ → ℕ × SplitImage
+by_column book v t c = (c, split_on book v t c)
 
-split_map : (place : Option ℕ) (split_at : ℕ → Option SplitOn) (declared : ℕ → Bool) (kept : ℕ → SplitOn) (split : SplitOn) (m : Lists) → ((c : ℕ) → split_at c ≡ cond (declared c) (Some (kept c)) None) → ((c : ℕ) → (kept c).split.map ≡ m)
-    → ◌>>=◌ (ok_or place NoSplit) (λ c. ok_or (split_at c) NoSplit) ≡ Ok split → split.split.map ≡ m
+where_some : {A B : Type 0} (f : A → B) (b : Bool) (x : A) → option_map f (cond b (Some x) None) ≡ cond b (Some (f x)) None
+where_some f true x = refl
+where_some f false x = refl
+
+split_is : (tables : List Relation) (views : List Run) (pair : Pair) (c : ℕ) → IsPairOf tables views pair
+    → split_kept pair c ≡ cond (list_any (is_split pair.view pair.table c) pair.catalog.now.backs) (Some (by_column (book_of tables pair) pair.view pair.table c)) None
+split_is tables views pair c p =
+    let named : SplitImage → ℕ × SplitImage = λ split. (c, split) in
+    ap (λ (l : List SplitImage). option_map named (slice_get l (split_place pair.view pair.table c pair.catalog.now.backs))) p.extras.splits_are
+    ∙ ap (option_map named) (split_found (book_of tables pair) pair.view pair.table c pair.catalog.now.backs)
+    ∙ where_some named (list_any (is_split pair.view pair.table c) pair.catalog.now.backs) (split_on (book_of tables pair) pair.view pair.table c)
+
+split_map : (place : Option ℕ) (split_at : ℕ → Option (ℕ × SplitImage)) (declared : ℕ → Bool) (kept : ℕ → ℕ × SplitImage) (split : ℕ × SplitImage) (m : Lists) → ((c : ℕ) → split_at c ≡ cond (declared c) (Some (kept c)) None) → ((c : ℕ) → (kept c).1.map ≡ m)
+    → ◌>>=◌ (ok_or place NoSplit) (λ c. ok_or (split_at c) NoSplit) ≡ Ok split → split.1.map ≡ m
 split_map None split_at declared kept split m found maps h = absurd (cc)
 split_map (Some c) split_at declared kept split m found maps h = by (declared c) (ap (λ o. ok_or o NoSplit) (sym (found c)) ∙ h)
   where
-    by : (b : Bool) → ok_or (cond b (Some (kept c)) None) NoSplit ≡ Ok split → split.split.map ≡ m
-    by true is = (let same : kept c ≡ split = cc in ap (λ (s : SplitOn). s.split.map) (sym same) ∙ maps c)
+    by : (b : Bool) → ok_or (cond b (Some (kept c)) None) NoSplit ≡ Ok split → split.1.map ≡ m
+    by true is = (let same : kept c ≡ split = cc in ap (λ (s : ℕ × SplitImage). s.1.map) (sym same) ∙ maps c)
     by false is = absurd (cc)
 
 pub splits_fit : (tables : List Relation) (views : List Run) (pair : Pair) → IsPairOf tables views pair → SplitsFit pair
 splits_fit tables views pair p m name split kept asked =
-    split_map (column_place (catalog_image pair.catalog.now) pair.table name) (λ c. find (is_split_on pair.view pair.table c) pair.splits.now) (λ c. list_any (is_split pair.view pair.table c) pair.catalog.now.backs)
-    (split_on (book_of tables pair) pair.view pair.table) split (lists_of tables pair) (λ c. split_is tables views pair c p) (λ c. refl) asked
+    split_map (column_place (catalog_image pair.catalog.now) pair.table name) (split_kept pair) (λ c. list_any (is_split pair.view pair.table c) pair.catalog.now.backs)
+    (by_column (book_of tables pair) pair.view pair.table) split (lists_of tables pair) (λ c. split_is tables views pair c p) (λ c. refl) asked
     ∙ sym (map_is tables views pair m p kept)
 
 -- the members with a value are the part of the rids
 part_is : (tables : List Relation) (brushes : List BrushOn) (views : List Run) (pair : Pair) (c : ℕ) (marks : Marks) (value : Value) → IsPairOf tables views pair
-    → ◌>>=◌ (with_value_asked (split_on (book_of tables pair) pair.view pair.table c).split marks value) (λ rids. Ok (rows_told pair.rows.now rids))
+    → ◌>>=◌ (with_value_asked (split_on (book_of tables pair) pair.view pair.table c) marks value) (λ rids. Ok (rows_told pair.rows.now rids))
     ≡ ◌>>=◌ (rids_of (catalog_image pair.catalog.now) (state_over tables brushes) pair.view pair.table marks) (λ rids. Ok (rows_reply (catalog_image pair.catalog.now) (state_over tables brushes) pair.table (with_value (rows_of_table (state_over tables brushes) pair.table) c value rids)))
 part_is tables brushes views pair c marks value p =
     let image : CatalogImage = catalog_image pair.catalog.now in
@@ -114,12 +123,12 @@ sort_then : {B : Type 0} (b : Bool) (next : Asked B) → ◌>>=◌ (provided b V
 sort_then true next = refl
 sort_then false next = refl
 
-abbrev rows_by : Pair → Marks → Value → SplitOn → Asked Reply
+abbrev rows_by : Pair → Marks → Value → ℕ × SplitImage → Asked Reply
 rows_by pair marks value split =
-    ◌>>=◌ (sort_asked (catalog_image pair.catalog.now) pair.table split.col value) (λ same.
-    ◌>>=◌ (with_value_asked split.split marks value) (λ rids. Ok (rows_told pair.rows.now rids)))
+    ◌>>=◌ (sort_asked (catalog_image pair.catalog.now) pair.table split.0 value) (λ same.
+    ◌>>=◌ (with_value_asked split.1 marks value) (λ rids. Ok (rows_told pair.rows.now rids)))
 
-split_then : {B : Type 0} (place : Option ℕ) (split_at : ℕ → Option SplitOn) (declared : ℕ → Bool) (kept : ℕ → SplitOn) (next : SplitOn → Asked B) (told : ℕ → Asked B) → ((c : ℕ) → split_at c ≡ cond (declared c) (Some (kept c)) None) → ((c : ℕ) → next (kept c) ≡ told c)
+split_then : {B : Type 0} (place : Option ℕ) (split_at : ℕ → Option (ℕ × SplitImage)) (declared : ℕ → Bool) (kept : ℕ → ℕ × SplitImage) (next : ℕ × SplitImage → Asked B) (told : ℕ → Asked B) → ((c : ℕ) → split_at c ≡ cond (declared c) (Some (kept c)) None) → ((c : ℕ) → next (kept c) ≡ told c)
     → ◌>>=◌ (◌>>=◌ (ok_or place NoSplit) (λ c. ok_or (split_at c) NoSplit)) next ≡ ◌>>=◌ (◌>>=◌ (ok_or place NoSplit) (λ c. provided (declared c) NoSplit (Ok c))) told
 split_then None split_at declared kept next told found same = refl
 split_then {B} (Some c) split_at declared kept next told found same = ap (λ o. ◌>>=◌ (ok_or o NoSplit) next) (found c) ∙ by (declared c)
@@ -133,12 +142,12 @@ matching_told : (tables : List Relation) (brushes : List BrushOn) (views : List 
 matching_told tables brushes views pair marks name value p =
     let image : CatalogImage = catalog_image pair.catalog.now in
     let state : State = state_over tables brushes in
-    split_then (column_place image pair.table name) (λ c. find (is_split_on pair.view pair.table c) pair.splits.now) (λ c. list_any (is_split pair.view pair.table c) pair.catalog.now.backs)
-    (split_on (book_of tables pair) pair.view pair.table) (rows_by pair marks value)
+    split_then (column_place image pair.table name) (split_kept pair) (λ c. list_any (is_split pair.view pair.table c) pair.catalog.now.backs)
+    (by_column (book_of tables pair) pair.view pair.table) (rows_by pair marks value)
     (λ c. provided (is_of_column image pair.table c value) ValueKind (◌>>=◌ (rids_of image state pair.view pair.table marks) (λ rids. Ok (rows_reply image state pair.table (with_value (rows_of_table state pair.table) c value rids)))))
     (λ c. split_is tables views pair c p)
     (λ c.
-    sort_then (is_of_column image pair.table c value) (◌>>=◌ (with_value_asked (split_on (book_of tables pair) pair.view pair.table c).split marks value) (λ rids. Ok (rows_told pair.rows.now rids)))
+    sort_then (is_of_column image pair.table c value) (◌>>=◌ (with_value_asked (split_on (book_of tables pair) pair.view pair.table c) marks value) (λ rids. Ok (rows_told pair.rows.now rids)))
     ∙ ap (provided (is_of_column image pair.table c value) ValueKind) (part_is tables brushes views pair c marks value p))
 
 -- an answer, where the backward query of a view to a table is declared
@@ -161,14 +170,14 @@ matching_is tables brushes views pair marks name value p =
 -- the groups of a mark
 
 cubes_are : (tables : List Relation) (views : List Run) (pair : Pair) → IsPairOf tables views pair
-    → find (are_cubes_on pair.view pair.table) pair.cubes.now ≡ option_map (cubes_of_grouped (book_of tables pair) pair.view pair.table) (grouping_of (catalog_image pair.catalog.now) pair.view pair.table)
-cubes_are tables views pair p = ap (find (are_cubes_on pair.view pair.table)) p.extras.cubes_are ∙ cubes_found (book_of tables pair) pair.view pair.table pair.catalog.now.backs
+    → slice_get pair.cubes.now (cubes_place pair.view pair.table pair.catalog.now.backs) ≡ option_map (cubes_of_grouped (book_of tables pair) pair.view pair.table) (grouping_of (catalog_image pair.catalog.now) pair.view pair.table)
+cubes_are tables views pair p = ap (λ (l : List (List Relation)). slice_get l (cubes_place pair.view pair.table pair.catalog.now.backs)) p.extras.cubes_are ∙ cubes_found (book_of tables pair) pair.view pair.table pair.catalog.now.backs
 
-cubes_map : (book : Workbook) (v t : ℕ) (declared : Option Grouped) (kept : CubesOn) → ok_or (option_map (cubes_of_grouped book v t) declared) NoGroup ≡ Ok kept → length kept.cubes ≡ length (backs_of book v t).lists
+cubes_map : (book : Workbook) (v t : ℕ) (declared : Option Grouped) (kept : List Relation) → ok_or (option_map (cubes_of_grouped book v t) declared) NoGroup ≡ Ok kept → length kept ≡ length (backs_of book v t).lists
 cubes_map book v t None kept h = absurd (cc)
 cubes_map book v t (Some grouped) kept h =
     let same : cubes_of_grouped book v t grouped ≡ kept = cc in
-    ap (λ (k : CubesOn). length k.cubes) (sym same) ∙ length-map (backs_of book v t).lists (cube_of (table_of book t) grouped.keys grouped.aggs)
+    ap (λ (k : List Relation). length k) (sym same) ∙ length-map (backs_of book v t).lists (cube_of (table_of book t) grouped.keys grouped.aggs)
 
 pub cubes_fit : (tables : List Relation) (views : List Run) (pair : Pair) → IsPairOf tables views pair → CubesFit pair
 cubes_fit tables views pair p m kept backs asked =
@@ -204,7 +213,7 @@ rel_of kinds rows = record { kinds = kinds; rows = rows }
 -- the groups of a mark are the declared grouping over its rids
 cube_is : (book : Workbook) (state : State) (v t mark : ℕ) (more : List ℕ) (grouped : Grouped) → state.tables ≡ book.tables → kinds1 (Grouping grouped.keys grouped.aggs) (table_kinds (info_at book.catalog.tables t)) ≡ grouped.kinds
     → list_all (nat_eq mark) more ≡ true → mark < length (backs_of book v t).lists
-    → cube_at (cubes_of_grouped book v t grouped).cubes mark ≡ cube state t grouped (members_at (backs_of book v t) (mark ∷ more))
+    → cube_at (cubes_of_grouped book v t grouped) mark ≡ cube state t grouped (members_at (backs_of book v t) (mark ∷ more))
 cube_is book state v t mark more grouped tables kinds one low =
     let m : Lists = backs_of book v t in
     get_or-map (cube_of (table_of book t) grouped.keys grouped.aggs) m.lists mark [] (rel_of [] []) low
@@ -213,8 +222,8 @@ cube_is book state v t mark more grouped tables kinds one low =
     (sym (members_one m mark more (lists_stand.backs_places (view_at book.catalog v).plan book.tables t) one low))
     ∙ rw (sym tables) refl
 
-abbrev read_off : Lists → CubesOn → ℕ → Marks → Asked Reply
-read_off m kept mark marks = ◌>>=◌ (within_asked marks (length m.lists)) (λ within. Ok (replies.Grouped (cube_at kept.cubes mark)))
+abbrev read_off : Lists → List Relation → ℕ → Marks → Asked Reply
+read_off m kept mark marks = ◌>>=◌ (within_asked marks (length m.lists)) (λ within. Ok (replies.Grouped (cube_at kept mark)))
 
 groups_told : (tables : List Relation) (brushes : List BrushOn) (pair : Pair) (grouped : Grouped) (marks : Marks)
     → kinds1 (Grouping grouped.keys grouped.aggs) (table_kinds (info_at pair.catalog.now.tables pair.table)) ≡ grouped.kinds
@@ -229,12 +238,12 @@ groups_told tables brushes pair grouped (markings.Listed (mark ∷ more)) kinds 
     let marks : List ℕ = mark ∷ more in
     let m : Lists = lists_of tables pair in
     let n : ℕ = length m.lists in
-    let kept : CubesOn = cubes_of_grouped book pair.view pair.table grouped in
+    let kept : List Relation = cubes_of_grouped book pair.view pair.table grouped in
     elim (cases_Bool (list_all (nat_eq mark) more)) [
       | inr e ↦ rw e refl
       | inl e ↦ rw e
-          (then_row (first_outside marks n) n tt (λ within. replies.Grouped (cube_at kept.cubes mark))
-          ∙ same_row (first_outside marks n) n (Ok (replies.Grouped (cube_at kept.cubes mark))) (Ok (replies.Grouped (cube state pair.table grouped (members_at m marks)))) (λ none.
+          (then_row (first_outside marks n) n tt (λ within. replies.Grouped (cube_at kept mark))
+          ∙ same_row (first_outside marks n) n (Ok (replies.Grouped (cube_at kept mark))) (Ok (replies.Grouped (cube state pair.table grouped (members_at m marks)))) (λ none.
           ap (λ r. Ok (replies.Grouped r)) (cube_is book state pair.view pair.table mark more grouped refl kinds e (All-head (λ o. o < n) mark more (none_outside marks n none))))
           ∙ sym (then_row (first_outside marks n) n (members_at m marks) (λ rids. replies.Grouped (cube state pair.table grouped rids)))
           ∙ ap (λ (a : Asked (List ℕ)). ◌>>=◌ a (λ rids. Ok (replies.Grouped (cube state pair.table grouped rids)))) (backs_asked (view_at image pair.view).plan state.tables pair.table (markings.Listed marks)))
@@ -246,7 +255,7 @@ grouped_told : (tables : List Relation) (brushes : List BrushOn) (views : List R
 grouped_told tables brushes views pair marks p =
     let image : CatalogImage = catalog_image pair.catalog.now in
     let state : State = state_over tables brushes in
-    ap (λ (o : Option CubesOn). ◌>>=◌ (ok_or o NoGroup) (λ kept. ◌>>=◌ (one_asked marks) (λ mark. read_off (lists_of tables pair) kept mark marks))) (cubes_are tables views pair p)
+    ap (λ (o : Option (List Relation)). ◌>>=◌ (ok_or o NoGroup) (λ kept. ◌>>=◌ (one_asked marks) (λ mark. read_off (lists_of tables pair) kept mark marks))) (cubes_are tables views pair p)
     ∙ by (grouping_of image pair.view pair.table) refl
   where
     by : (declared : Option Grouped) → grouping_of (catalog_image pair.catalog.now) pair.view pair.table ≡ declared

@@ -1,6 +1,6 @@
 -- What is kept for the declarations, one after the other, and where it is found.
-use Rattle.std.proofs.Common.{◌≡◌, ◌≢◌, ℕ, zero, suc, ◌+◌, ◌<◌, ◌≤◌, Bool, true, false, ◌&&◌, ◌||◌, cond, List, [], ◌∷◌, ◌++◌, length, take, get_or, refl, ap, sym, ◌∙◌, subst, arith, nat_eq, Option, Some, None, Result, Ok, Err, ok_or, option_map, All, inl, inr, find, append_assoc, append-nil, take_all}
-use Rattle.std.specs.List.{AllZip, cons_option, filter, filter_map, list_any, sum_by}
+use Rattle.std.proofs.Common.{◌≡◌, ◌≢◌, ℕ, zero, suc, ◌+◌, ◌<◌, ◌≤◌, Bool, true, false, ◌&&◌, ◌||◌, cond, List, [], ◌∷◌, ◌++◌, length, take, get_or, refl, ap, sym, ◌∙◌, subst, arith, nat_eq, Option, Some, None, Result, Ok, Err, ok_or, option_map, is_some, slice_get, All, inl, inr, append_assoc, append-nil, take_all}
+use Rattle.std.specs.List.{AllZip, cons_option, filter, filter_map, list_any, position_or_len, sum_by}
 use Rattle.std.specs.Option.{option_or, option_to_list}
 use Rattle.std.specs.declared.alloc.AllocError.{AllocError}
 use Rattle.std.proofs.lemmas.Bool.{cases_Bool, eq-eqb, eqb-true, false≢true}
@@ -21,17 +21,17 @@ use Rattle.smk_base.specs.declared.reply.Refusal.TheVariants.{Undeclared}
 use Rattle.smk_base.specs.declared.value.Kind.{Kind}
 use Rattle.smk_model.specs.Catalogs.{BackFits, ExtraFits, GroupingFits, IsCatalog, table_kinds}
 use Rattle.smk_model.specs.Looks.{looks_of_extra}
+use Rattle.smk_model.specs.Opening.{first_some}
 use Rattle.smk_model.specs.Replies.{Grouped, first_grouping, grouping_in, is_by, is_split}
 use Rattle.smk_model.specs.Session.{Workbook, view_at}
 use Rattle.smk_model.specs.Typing.{info_at}
 use Rattle.smk_model.specs.Workload.{is_back, is_link}
 use Rattle.smk_compose.specs.declared.kept_maps.Run.{Run}
+use Rattle.smk_skip.specs.Splits.{SplitImage}
 use Rattle.smk_session.specs.Answers.{kept_back}
-use Rattle.smk_session.specs.Extras.{backs_of, split_on, cubes_on, split_for, cubes_for, split_in, cubes_in, is_split_on, are_cubes_on}
+use Rattle.smk_session.specs.Extras.{backs_of, split_on, cubes_on, split_for, cubes_for, split_in, cubes_in, asks_split, asks_groups, split_place, cubes_place}
 use Rattle.smk_session.specs.Making.{IsDeclared, MakesAs, declared_in}
 use Rattle.smk_session.specs.Sessions.{AreOpened, workbook_image}
-use Rattle.smk_session.specs.declared.extra.CubesOn.{CubesOn}
-use Rattle.smk_session.specs.declared.extra.SplitOn.{SplitOn}
 use Rattle.smk_session.specs.declared.making.Asked.{Asked}
 use Rattle.smk_session.specs.declared.making.Made.{Made}
 use Rattle.smk_session.proofs.KeptOf.{kept_back_is}
@@ -150,6 +150,26 @@ looks_of_more extras.Plain rows more = absurd (more refl)
 looks_of_more (extras.By column) rows more = refl
 looks_of_more (extras.Grouped keys aggs names kinds) rows more = refl
 
+-- what is kept for the first declaration that passes, at its place among those that ask for it
+
+kept_step : {Y : Type 0} (p : Back → Bool) (made : Option Y) (asks takes : Bool) (declared : Back) (kept : List Y) (more : List Back) → asks ≡ is_some made → p declared ≡ takes
+    → slice_get (cons_option made kept) (position_or_len p (cond asks (declared ∷ more) more)) ≡ option_or (cond takes made None) (slice_get kept (position_or_len p more))
+kept_step p None true takes declared kept more e f = absurd (cc e)
+kept_step p None false true declared kept more e f = refl
+kept_step p None false false declared kept more e f = refl
+kept_step p (Some y) false takes declared kept more e f = absurd (cc e)
+kept_step p (Some y) true true declared kept more e f = rw f refl
+kept_step p (Some y) true false declared kept more e f =
+    let next : 1 + position_or_len p more ≡ suc (position_or_len p more) = omega arith in
+    rw f (ap (slice_get (y ∷ kept)) next)
+
+kept_first : {Y : Type 0} (h : Back → Option Y) (q p : Back → Bool) → ((declared : Back) → q declared ≡ is_some (h declared)) → (declarations : List Back)
+    → slice_get (filter_map h declarations) (position_or_len p (filter q declarations)) ≡ first_some (λ declared. cond (p declared) (h declared) None) declarations
+kept_first h q p asks [] = refl
+kept_first h q p asks (declared ∷ more) =
+    kept_step p (h declared) (q declared) (p declared) declared (filter_map h more) (filter q more) (asks declared) refl
+    ∙ ap (option_or (cond (p declared) (h declared) None)) (kept_first h q p asks more)
+
 -- the split by a column is found exactly where it is declared
 
 both : (a b : Bool) → (a && b) ≡ true → (a ≡ true) × (b ≡ true)
@@ -161,63 +181,88 @@ and_false : (a : Bool) → (a && false) ≡ false
 and_false true = refl
 and_false false = refl
 
+split_asked : (book : Workbook) (v t : ℕ) (extra : BackExtra) → asks_split extra ≡ is_some (split_for book v t extra)
+split_asked book v t extras.Plain = refl
+split_asked book v t (extras.By column) = refl
+split_asked book v t (extras.Grouped keys aggs names kinds) = refl
+
 same_split : (book : Workbook) (w u column v t c : ℕ) → ((nat_eq w v && nat_eq u t) && nat_eq column c) ≡ true → split_on book w u column ≡ split_on book v t c
 same_split book w u column v t c h =
     let pair = both (nat_eq w v && nat_eq u t) (nat_eq column c) h in
     let names = both (nat_eq w v) (nat_eq u t) pair.0 in
     rw (eqb-true w v names.0, eqb-true u t names.1, eqb-true column c pair.1) refl
 
-split_more : (book : Workbook) (v t c w u : ℕ) (extra : BackExtra) (kept : List SplitOn) (more : Bool) → find (is_split_on v t c) kept ≡ cond more (Some (split_on book v t c)) None
-    → find (is_split_on v t c) (cons_option (split_for book w u extra) kept) ≡ cond (((nat_eq w v && nat_eq u t) && is_by c extra) || more) (Some (split_on book v t c)) None
+split_more : (book : Workbook) (v t c w u : ℕ) (extra : BackExtra) (kept : Option SplitImage) (more : Bool) → kept ≡ cond more (Some (split_on book v t c)) None
+    → option_or (cond ((nat_eq w v && nat_eq u t) && is_by c extra) (split_for book w u extra) None) kept ≡ cond (((nat_eq w v && nat_eq u t) && is_by c extra) || more) (Some (split_on book v t c)) None
 split_more book v t c w u extras.Plain kept more h = rw (and_false (nat_eq w v && nat_eq u t)) h
 split_more book v t c w u (extras.Grouped keys aggs names kinds) kept more h = rw (and_false (nat_eq w v && nat_eq u t)) h
 split_more book v t c w u (extras.By column) kept more h = elim (cases_Bool ((nat_eq w v && nat_eq u t) && nat_eq column c)) [
-  | inl e ↦ rw (e) (ap (λ (split : SplitOn). Some split) (same_split book w u column v t c e))
+  | inl e ↦ rw (e) (ap (λ (split : SplitImage). Some split) (same_split book w u column v t c e))
   | inr e ↦ rw (e) h
 ]
 
-pub split_found : (book : Workbook) (v t c : ℕ) (declarations : List Back) → find (is_split_on v t c) (filter_map (split_in book) declarations) ≡ cond (list_any (is_split v t c) declarations) (Some (split_on book v t c)) None
-split_found book v t c [] = refl
-split_found book v t c (declared ∷ more) =
-    split_more book v t c declared.view declared.table declared.extra (filter_map (split_in book) more) (list_any (is_split v t c) more) (split_found book v t c more)
+split_first : (book : Workbook) (v t c : ℕ) (declarations : List Back) → first_some (λ declared. cond (is_split v t c declared) (split_in book declared) None) declarations ≡ cond (list_any (is_split v t c) declarations) (Some (split_on book v t c)) None
+split_first book v t c [] = refl
+split_first book v t c (declared ∷ more) =
+    split_more book v t c declared.view declared.table declared.extra (first_some (λ declared. cond (is_split v t c declared) (split_in book declared) None) more) (list_any (is_split v t c) more) (split_first book v t c more)
 
--- a split that is found is by the column
-pub found_column : (v t c : ℕ) (splits : List SplitOn) (split : SplitOn) → find (is_split_on v t c) splits ≡ Some split → split.col ≡ c
-found_column v t c [] split h = absurd (cc)
-found_column v t c (first ∷ more) split h = elim (cases_Bool (is_split_on v t c first)) [
-  | inl e ↦
-      (let is : Some first ≡ Some split = rw e at h in
-      let same : first ≡ split = cc in
-      ap (λ (s : SplitOn). s.col) (sym same) ∙ eqb-true first.col c (both (nat_eq first.view v && nat_eq first.table t) (nat_eq first.col c) e).1)
-  | inr e ↦ (let there : find (is_split_on v t c) more ≡ Some split = rw e at h in found_column v t c more split there)
-]
+pub split_found : (book : Workbook) (v t c : ℕ) (declarations : List Back) → slice_get (filter_map (split_in book) declarations) (split_place v t c declarations) ≡ cond (list_any (is_split v t c) declarations) (Some (split_on book v t c)) None
+split_found book v t c declarations =
+    kept_first (split_in book) (λ (declared : Back). asks_split declared.extra) (is_split v t c) (λ declared. split_asked book declared.view declared.table declared.extra) declarations
+    ∙ split_first book v t c declarations
 
 -- the groups are found exactly where a grouping is declared, and are those of the first one
 
-abbrev pub cubes_of_grouped : Workbook → ℕ → ℕ → Grouped → CubesOn
+abbrev pub cubes_of_grouped : Workbook → ℕ → ℕ → Grouped → List Relation
 cubes_of_grouped book v t grouped = cubes_on book v t grouped.keys grouped.aggs
 
-cubes_here : (book : Workbook) (v t w u : ℕ) (extra : BackExtra) (kept : List CubesOn) (more : Option Grouped) → (nat_eq w v && nat_eq u t) ≡ true → find (are_cubes_on v t) kept ≡ option_map (cubes_of_grouped book v t) more
-    → find (are_cubes_on v t) (cons_option (cubes_for book w u extra) kept) ≡ option_map (cubes_of_grouped book v t) (option_or (grouping_in extra) more)
+groups_asked : (book : Workbook) (v t : ℕ) (extra : BackExtra) → asks_groups extra ≡ is_some (cubes_for book v t extra)
+groups_asked book v t extras.Plain = refl
+groups_asked book v t (extras.By column) = refl
+groups_asked book v t (extras.Grouped keys aggs names kinds) = refl
+
+cubes_here : (book : Workbook) (v t w u : ℕ) (extra : BackExtra) (kept : Option (List Relation)) (more : Option Grouped) → (nat_eq w v && nat_eq u t) ≡ true → kept ≡ option_map (cubes_of_grouped book v t) more
+    → option_or (cubes_for book w u extra) kept ≡ option_map (cubes_of_grouped book v t) (option_or (grouping_in extra) more)
 cubes_here book v t w u extras.Plain kept more e h = h
 cubes_here book v t w u (extras.By column) kept more e h = h
 cubes_here book v t w u (extras.Grouped keys aggs names kinds) kept more e h =
     let pair = both (nat_eq w v) (nat_eq u t) e in
     let same : cubes_on book w u keys aggs ≡ cubes_on book v t keys aggs = rw (eqb-true w v pair.0, eqb-true u t pair.1) refl in
-    rw e (ap (λ (cubes : CubesOn). Some cubes) same)
+    ap (λ (cubes : List Relation). Some cubes) same
 
-cubes_elsewhere : (book : Workbook) (v t w u : ℕ) (extra : BackExtra) (kept : List CubesOn) → (nat_eq w v && nat_eq u t) ≡ false → find (are_cubes_on v t) (cons_option (cubes_for book w u extra) kept) ≡ find (are_cubes_on v t) kept
-cubes_elsewhere book v t w u extras.Plain kept e = refl
-cubes_elsewhere book v t w u (extras.By column) kept e = refl
-cubes_elsewhere book v t w u (extras.Grouped keys aggs names kinds) kept e = rw e refl
+cubes_first : (book : Workbook) (v t : ℕ) (declarations : List Back)
+    → first_some (λ declared. cond (is_back v t declared) (cubes_in book declared) None) declarations ≡ option_map (cubes_of_grouped book v t) (first_grouping (filter (is_back v t) declarations))
+cubes_first book v t [] = refl
+cubes_first book v t (declared ∷ more) = elim (cases_Bool (is_back v t declared)) [
+  | inl e ↦ rw e (cubes_here book v t declared.view declared.table declared.extra (first_some (λ declared. cond (is_back v t declared) (cubes_in book declared) None) more) (first_grouping (filter (is_back v t) more)) e (cubes_first book v t more))
+  | inr e ↦ rw e (cubes_first book v t more)
+]
 
 pub cubes_found : (book : Workbook) (v t : ℕ) (declarations : List Back)
-    → find (are_cubes_on v t) (filter_map (cubes_in book) declarations) ≡ option_map (cubes_of_grouped book v t) (first_grouping (filter (is_back v t) declarations))
-cubes_found book v t [] = refl
-cubes_found book v t (declared ∷ more) = elim (cases_Bool (is_back v t declared)) [
-  | inl e ↦ rw e (cubes_here book v t declared.view declared.table declared.extra (filter_map (cubes_in book) more) (first_grouping (filter (is_back v t) more)) e (cubes_found book v t more))
-  | inr e ↦ rw e (cubes_elsewhere book v t declared.view declared.table declared.extra (filter_map (cubes_in book) more) e ∙ cubes_found book v t more)
+    → slice_get (filter_map (cubes_in book) declarations) (cubes_place v t declarations) ≡ option_map (cubes_of_grouped book v t) (first_grouping (filter (is_back v t) declarations))
+cubes_found book v t declarations =
+    kept_first (cubes_in book) (λ (declared : Back). asks_groups declared.extra) (is_back v t) (λ declared. groups_asked book declared.view declared.table declared.extra) declarations
+    ∙ cubes_first book v t declarations
+
+-- the place of the first that passes, among those that are counted, where none before it does
+
+pub place_found : (q p : Back → Bool) (xs : List Back) (i : ℕ) (d : Back) → i < length xs → d ≡ get_or xs i d → position_or_len p (filter q (take i xs)) ≡ length (filter q (take i xs)) → q d ≡ true → p d ≡ true
+    → position_or_len p (filter q xs) ≡ length (filter q (take i xs))
+place_found q p [] i d low at none asks is = absurd (omega (arith, low))
+place_found q p (x ∷ xs) zero d low at none asks is = rw (ap q (sym at) ∙ asks, ap p (sym at) ∙ is) refl
+place_found q p (x ∷ xs) (suc i) d low at none asks is = elim (cases_Bool (q x)) [
+  | inr out ↦ (let so_far = rw out at none in rw out (place_found q p xs i d (omega (arith, low)) at so_far asks is))
+  | inl inside ↦ elim (cases_Bool (p x)) [
+      | inl here ↦ (let so_far = rw (inside, here) at none in absurd (omega (arith, so_far)))
+      | inr past ↦
+          (let so_far = rw (inside, past) at none in
+          let rest = place_found q p xs i d (omega (arith, low)) at (omega (arith, so_far)) asks is in
+          rw (inside, past) (omega (arith, rest)))
+    ]
 ]
+
+pub both_true : (a b : Bool) → a ≡ true → b ≡ true → (a && b) ≡ true
+both_true a b h k = rw (h, k) refl
 
 -- a declared grouping fits its table
 

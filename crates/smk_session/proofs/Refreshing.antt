@@ -12,7 +12,7 @@ use Rattle.smk_model.specs.Session.{leaves_now, view_at}
 use Rattle.smk_model.specs.Values.{Row}
 use Rattle.smk_compose.specs.declared.fault.EvalFault.{EvalFault}
 use Rattle.smk_compose.specs.declared.fault.EvalFault.TheVariants.{Rows}
-use Rattle.smk_session.specs.Refreshed.{HasLeaves, IsAnew, IsContent, IsEvaluated, IsFetched, IsMade, IsOf, IsRun, IsSource, Shows, book_at, state_next}
+use Rattle.smk_session.specs.Refreshed.{HasLeaves, IsAnew, IsContent, IsEvaluated, IsFetched, IsMade, IsOf, IsRun, IsSource, Shows, book_at, read_by_marks, state_next}
 use Rattle.smk_session.specs.declared.evaluating.Evaluated.{Evaluated}
 use Rattle.smk_session.specs.declared.evaluating.Fetched.{Fetched}
 use Rattle.smk_session.specs.declared.evaluating.Source.{Source}
@@ -54,7 +54,7 @@ shown_made refresh w rel (Err e) shows is = λ node h. absurd (cc (sym is ∙ h)
 
 source_made : (refresh : Refresh) (w : ℕ) (source : Source) (made : Result Relation EvalFault) → IsSource refresh w source → IsMade source made → IsContent refresh w made
 source_made refresh w (sources.Leaves plan leaves) made is run = leaves_made refresh w (expr_of plan.now) leaves made is run
-source_made refresh w (sources.Made rel) made is of = shown_made refresh w rel made is of
+source_made refresh w (sources.Marks view reached) made is of = shown_made refresh w (read_by_marks view reached) made is of
 
 -- and its marks are those that are fetched
 

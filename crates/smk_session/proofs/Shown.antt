@@ -16,10 +16,9 @@ use Rattle.smk_model.specs.Selection.{each_rows}
 use Rattle.smk_model.specs.Session.{State, is_brush, linked, view_at, with_brush, without_brush}
 use Rattle.smk_model.proofs.Places.{get_or_map_upto, length_upto, upto_below, has_upto}
 use Rattle.smk_compose.specs.declared.kept_maps.Run.{Run}
+use Rattle.smk_skip.specs.Splits.{SplitImage}
 use Rattle.smk_session.specs.Answers.{content_at, placed}
 use Rattle.smk_session.specs.Sessions.{AreExtras, AreInForce, AreOpened, BrushFits, IsSession, content_kept, follows, same_pair, state_over}
-use Rattle.smk_session.specs.declared.extra.CubesOn.{CubesOn}
-use Rattle.smk_session.specs.declared.extra.SplitOn.{SplitOn}
 use Rattle.smk_session.specs.declared.mode.Mode.{Mode}
 use Rattle.smk_session.specs.declared.turn.Content.{Content}
 use Rattle.smk_session.proofs.InForce.{brush_leaves, clear_leaves, placed_are, untouched}
@@ -76,7 +75,7 @@ none_in_force catalog tables views contents n o long are = record {
 }
 
 -- so that is a session
-pub session_begun : (catalog : Catalog) (near tables : List Relation) (views : List Run) (splits : List SplitOn) (cubes : List CubesOn) (brushes : List BrushOn) (contents : List (Option Relation)) (mode : Mode) (workers : ℕ)
+pub session_begun : (catalog : Catalog) (near tables : List Relation) (views : List Run) (splits : List SplitImage) (cubes : List (List Relation)) (brushes : List BrushOn) (contents : List (Option Relation)) (mode : Mode) (workers : ℕ)
     → near ≡ tables → AreOpened catalog near views → AreExtras catalog near splits cubes → brushes ≡ [] → contents ≡ map (λ w. None) (upto (length views)) → 1 ≤ workers → workers ≤ 64
     → IsSession (record { catalog = catalog; tables = tables; views = views; splits = splits; cubes = cubes; brushes = brushes; contents = contents; mode = mode; workers = workers })
 session_begun catalog near tables views splits cubes brushes contents mode workers same o extras none are some few =

@@ -1,6 +1,6 @@
 -- What the calls say that work out the parts of a backward answer.
-use Rattle.std.specs.Prelude.{◌≡◌, ◌<◌, ℕ, nat_eq, List, [], ◌∷◌, length, slice_index_or, ok_or, Ok, Err}
-use Rattle.std.specs.List.{find, list_all}
+use Rattle.std.specs.Prelude.{◌≡◌, ◌<◌, ℕ, nat_eq, Option, List, [], ◌∷◌, length, slice_get, slice_index_or, ok_or, Ok, Err, option_map}
+use Rattle.std.specs.List.{list_all}
 use Rattle.smk_base.specs.CatalogImage.{CatalogImage, catalog_image}
 use Rattle.smk_base.specs.Places.{Lists}
 use Rattle.smk_base.specs.Rels.{Relation}
@@ -16,10 +16,8 @@ use Rattle.smk_compose.specs.declared.kept_maps.Run.{Run}
 use Rattle.smk_push.specs.Cubes.{cube_at}
 use Rattle.smk_skip.specs.Splits.{SplitImage, members_with}
 use Rattle.smk_session.specs.Answers.{kept_back, rows_told, within_asked}
-use Rattle.smk_session.specs.Extras.{is_split_on, are_cubes_on}
+use Rattle.smk_session.specs.Extras.{split_place, cubes_place}
 use Rattle.smk_session.specs.Sessions.{AreExtras, AreOpened}
-use Rattle.smk_session.specs.declared.extra.CubesOn.{CubesOn}
-use Rattle.smk_session.specs.declared.extra.SplitOn.{SplitOn}
 use Rattle.smk_session.specs.declared.backward.Pair.{Pair}
 
 -- what a session holds of a view and a table
@@ -31,14 +29,16 @@ pub record IsPairOf (tables : List Relation) (views : List Run) (pair : Pair) : 
   pub run_is : pair.run.now ≡ slice_index_or views pair.view pair.run.now
   pub rows_are : pair.rows.now ≡ slice_index_or tables pair.table pair.rows.now
 
--- the split that is kept by the column of this name, and the groups that are kept
-abbrev pub split_asked : Pair → List ℕ → Asked SplitOn
-split_asked pair name =
-    ok_or (column_place (catalog_image pair.catalog.now) pair.table name) NoSplit >>= λ c.
-    ok_or (find (is_split_on pair.view pair.table c) pair.splits.now) NoSplit
+-- a column with the split that is kept by it: the splits stand in the order of their declarations
+abbrev pub split_kept : Pair → ℕ → Option (ℕ × SplitImage)
+split_kept pair c = option_map (λ split. (c, split)) (slice_get pair.splits.now (split_place pair.view pair.table c pair.catalog.now.backs))
 
-abbrev pub cubes_asked : Pair → Asked CubesOn
-cubes_asked pair = ok_or (find (are_cubes_on pair.view pair.table) pair.cubes.now) NoGroup
+-- the same of the column of this name, and the groups that are kept
+abbrev pub split_asked : Pair → List ℕ → Asked (ℕ × SplitImage)
+split_asked pair name = ok_or (column_place (catalog_image pair.catalog.now) pair.table name) NoSplit >>= λ c. ok_or (split_kept pair c) NoSplit
+
+abbrev pub cubes_asked : Pair → Asked (List Relation)
+cubes_asked pair = ok_or (slice_get pair.cubes.now (cubes_place pair.view pair.table pair.catalog.now.backs)) NoGroup
 
 -- nothing, unless a value is of another sort than the column
 abbrev pub sort_asked : CatalogImage → ℕ → ℕ → Value → Asked (Unit {0})
@@ -58,9 +58,9 @@ one_asked (markings.Listed (mark ∷ more)) = provided (list_all (nat_eq mark) m
 abbrev pub matching_by : Pair → Marks → List ℕ → Value → Asked Reply
 matching_by pair marks name value =
     kept_back pair.run.now.kept pair.table >>= λ map.
-    split_asked pair name >>= λ split.
-    sort_asked (catalog_image pair.catalog.now) pair.table split.col value >>= λ same.
-    with_value_asked split.split marks value >>= λ rids.
+    split_asked pair name >>= λ found.
+    sort_asked (catalog_image pair.catalog.now) pair.table found.0 value >>= λ same.
+    with_value_asked found.1 marks value >>= λ rids.
     Ok (rows_told pair.rows.now rids)
 
 abbrev pub grouped_by : Pair → Marks → Asked Reply
@@ -69,11 +69,11 @@ grouped_by pair marks =
     cubes_asked pair >>= λ kept.
     one_asked marks >>= λ mark.
     within_asked marks (length map.lists) >>= λ within.
-    Ok (replies.Grouped (cube_at kept.cubes mark))
+    Ok (replies.Grouped (cube_at kept mark))
 
 -- the split that is kept is one of the lists that are kept, and there are groups for each of them
 abbrev pub SplitsFit : Pair → Type 0
-SplitsFit pair = (map : Lists) (name : List ℕ) (split : SplitOn) → kept_back pair.run.now.kept pair.table ≡ Ok map → split_asked pair name ≡ Ok split → split.split.map ≡ map
+SplitsFit pair = (map : Lists) (name : List ℕ) (found : ℕ × SplitImage) → kept_back pair.run.now.kept pair.table ≡ Ok map → split_asked pair name ≡ Ok found → found.1.map ≡ map
 
 abbrev pub CubesFit : Pair → Type 0
-CubesFit pair = (map : Lists) (kept : CubesOn) → kept_back pair.run.now.kept pair.table ≡ Ok map → cubes_asked pair ≡ Ok kept → length kept.cubes ≡ length map.lists
+CubesFit pair = (map : Lists) (kept : List Relation) → kept_back pair.run.now.kept pair.table ≡ Ok map → cubes_asked pair ≡ Ok kept → length kept ≡ length map.lists

@@ -1,6 +1,6 @@
 -- What is kept for the backward declarations that ask for more than rows: a split for each column, and the groups of each grouping.
-use Rattle.std.specs.Prelude.{ℕ, Bool, ◌&&◌, nat_eq, List, Option, Some, None}
-use Rattle.std.specs.List.{filter_map}
+use Rattle.std.specs.Prelude.{ℕ, Bool, true, false, List, Option, Some, None}
+use Rattle.std.specs.List.{filter, filter_map, position_or_len}
 use Rattle.smk_base.specs.Places.{Lists}
 use Rattle.smk_base.specs.Rels.{Relation}
 use Rattle.smk_base.specs.declared.catalog.Back.{Back}
@@ -10,11 +10,12 @@ use Rattle.smk_base.specs.declared.plan.Agg.{Agg}
 use Rattle.smk_model.specs.Catalogs.{table_kinds}
 use Rattle.smk_model.specs.Composed.{backs}
 use Rattle.smk_model.specs.Plain.{table_at}
+use Rattle.smk_model.specs.Replies.{is_split}
 use Rattle.smk_model.specs.Session.{Workbook, view_at}
 use Rattle.smk_model.specs.Typing.{info_at}
+use Rattle.smk_model.specs.Workload.{is_back}
 use Rattle.smk_push.specs.Cubes.{cubes_of}
-use Rattle.smk_session.specs.declared.extra.CubesOn.{CubesOn}
-use Rattle.smk_session.specs.declared.extra.SplitOn.{SplitOn}
+use Rattle.smk_skip.specs.Splits.{SplitImage}
 
 -- the backward lists of a view to a table
 abbrev pub backs_of : Workbook → ℕ → ℕ → Lists
@@ -25,41 +26,53 @@ abbrev pub table_of : Workbook → ℕ → Relation
 table_of book t = record { kinds = table_kinds (info_at book.catalog.tables t); rows = table_at book.tables t }
 
 -- these lists split by a column of the table
-abbrev pub split_on : Workbook → ℕ → ℕ → ℕ → SplitOn
-split_on book v t c = record { view = v; table = t; col = c; split = record { map = backs_of book v t; rows = (table_of book t).rows; col = c } }
+abbrev pub split_on : Workbook → ℕ → ℕ → ℕ → SplitImage
+split_on book v t c = record { map = backs_of book v t; rows = (table_of book t).rows; col = c }
 
 -- a grouping of the rows of the table, made for each of these lists
-abbrev pub cubes_on : Workbook → ℕ → ℕ → List ℕ → List Agg → CubesOn
-cubes_on book v t keys aggs = record { view = v; table = t; cubes = cubes_of (backs_of book v t) (table_of book t) keys aggs }
+abbrev pub cubes_on : Workbook → ℕ → ℕ → List ℕ → List Agg → List Relation
+cubes_on book v t keys aggs = cubes_of (backs_of book v t) (table_of book t) keys aggs
 
 -- the split, and the groups, that are asked for besides the rows
-abbrev pub split_for : Workbook → ℕ → ℕ → BackExtra → Option SplitOn
+abbrev pub split_for : Workbook → ℕ → ℕ → BackExtra → Option SplitImage
 split_for book v t extras.Plain = None
 split_for book v t (extras.By column) = Some (split_on book v t column)
 split_for book v t (extras.Grouped keys aggs names kinds) = None
 
-abbrev pub cubes_for : Workbook → ℕ → ℕ → BackExtra → Option CubesOn
+abbrev pub cubes_for : Workbook → ℕ → ℕ → BackExtra → Option (List Relation)
 cubes_for book v t extras.Plain = None
 cubes_for book v t (extras.By column) = None
 cubes_for book v t (extras.Grouped keys aggs names kinds) = Some (cubes_on book v t keys aggs)
 
 -- those of a declaration
-abbrev pub split_in : Workbook → Back → Option SplitOn
+abbrev pub split_in : Workbook → Back → Option SplitImage
 split_in book declared = split_for book declared.view declared.table declared.extra
 
-abbrev pub cubes_in : Workbook → Back → Option CubesOn
+abbrev pub cubes_in : Workbook → Back → Option (List Relation)
 cubes_in book declared = cubes_for book declared.view declared.table declared.extra
 
 -- one split for each column that is declared, and the groups of each declared grouping, in the order of the declarations
-abbrev pub splits_of : Workbook → List SplitOn
+abbrev pub splits_of : Workbook → List SplitImage
 splits_of book = filter_map (split_in book) book.catalog.backs
 
-abbrev pub all_cubes : Workbook → List CubesOn
+abbrev pub all_cubes : Workbook → List (List Relation)
 all_cubes book = filter_map (cubes_in book) book.catalog.backs
 
--- whether a split is that of a view's backward query by a column, and groups those of a view's backward query
-abbrev pub is_split_on : ℕ → ℕ → ℕ → SplitOn → Bool
-is_split_on v t c split = (nat_eq split.view v && nat_eq split.table t) && nat_eq split.col c
+-- whether a split is asked for, and whether groups
+abbrev pub asks_split : BackExtra → Bool
+asks_split extras.Plain = false
+asks_split (extras.By column) = true
+asks_split (extras.Grouped keys aggs names kinds) = false
 
-abbrev pub are_cubes_on : ℕ → ℕ → CubesOn → Bool
-are_cubes_on v t cubes = nat_eq cubes.view v && nat_eq cubes.table t
+abbrev pub asks_groups : BackExtra → Bool
+asks_groups extras.Plain = false
+asks_groups (extras.By column) = false
+asks_groups (extras.Grouped keys aggs names kinds) = true
+
+-- the place of the split of a view's backward query by a column among the splits of these declarations, or how many there are where there is none
+abbrev pub split_place : ℕ → ℕ → ℕ → List Back → ℕ
+split_place v t c declarations = position_or_len (is_split v t c) (filter (λ (declared : Back). asks_split declared.extra) declarations)
+
+-- the same of the first grouping of a view's backward query
+abbrev pub cubes_place : ℕ → ℕ → List Back → ℕ
+cubes_place v t declarations = position_or_len (is_back v t) (filter (λ (declared : Back). asks_groups declared.extra) declarations)

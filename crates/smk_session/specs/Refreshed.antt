@@ -1,5 +1,5 @@
 -- What the calls say that make views anew under other brushes.
-use Rattle.std.specs.Prelude.{◌≡◌, ◌<◌, ◌^◌, ℕ, List, Option, Result, MatchResult, true, Some, None, All, length, map}
+use Rattle.std.specs.Prelude.{◌≡◌, ◌<◌, ◌^◌, ℕ, Bool, ◌&&◌, nat_eq, List, Option, Result, MatchResult, true, Some, None, All, IfSome, length, map}
 use Rattle.smk_base.specs.CatalogImage.{CatalogImage}
 use Rattle.smk_base.specs.PlanImage.{expr_of}
 use Rattle.smk_base.specs.Plans.{Expr}
@@ -15,7 +15,8 @@ use Rattle.smk_model.specs.Tables.{all_or_first}
 use Rattle.smk_model.specs.Workload.{declares_fwd}
 use Rattle.smk_compose.specs.declared.fault.EvalFault.{EvalFault}
 use Rattle.smk_compose.specs.declared.fault.EvalFault.TheVariants.{NoMemory, Rows}
-use Rattle.smk_marks.specs.Views.{EndsInGroups}
+use Rattle.smk_marks.specs.Views.{CanGroup, EndsInGroups, ends_in_groups, grouped_by_marks}
+use Rattle.smk_marks.specs.declared.reached.Reached.{Reached}
 use Rattle.smk_marks.specs.declared.view.KeptView.{KeptView}
 use Rattle.smk_session.specs.Answers.{AreOn, IsLent, book_of, chosen_of, content_at, state_at}
 use Rattle.smk_session.specs.Sessions.{BrushFits, opened, workbook_image}
@@ -86,6 +87,10 @@ pub record IsKept (held : Lent) (w : ℕ) (view : KeptView) : Type 0 where
   pub content : view.content.now ≡ (opened (workbook_image held.catalog.now held.tables.now) w).rel
   pub forward : view.forward.now ≡ forwards (view_at (book_of held) w).plan (each_rows held.tables.now) (selected_table (view_at (book_of held) w).plan)
 
+-- whether a view is a grouping over a chain of the table
+abbrev pub groups_table : Refresh → ℕ → Bool
+groups_table refresh w = ends_in_groups (view_at (book_at refresh) w).plan && nat_eq refresh.table (selected_table (view_at (book_at refresh) w).plan)
+
 -- a plan can be evaluated over rows of its leaves
 pub record CanRun (plan : Expr) (leaves : List Relation) : Type 0 where
   pub wide : length leaves ≡ width plan
@@ -105,10 +110,15 @@ IsRun plan leaves made = MatchResult made (HasRows plan leaves) (λ e. (node : �
 abbrev pub IsOf : Relation → Result Relation EvalFault → Type 0
 IsOf rel made = MatchResult made (λ own. own ≡ rel) (λ e. e ≡ NoMemory)
 
+-- the rows of a view by what is kept of it: the groups of what is reached there, or its first content where nothing is selected for it
+abbrev pub read_by_marks : KeptView → Option Reached → Relation
+read_by_marks view (Some reached) = grouped_by_marks view reached
+read_by_marks view None = view.content.now
+
 -- a view can be made from what is fetched
 abbrev pub IsReady : Source → Type 0
 IsReady (sources.Leaves plan leaves) = CanRun (expr_of plan.now) leaves
-IsReady (sources.Made rel) = Unit {0}
+IsReady (sources.Marks view reached) = IfSome reached (CanGroup view)
 
 abbrev pub CanEvaluate : Fetched → Type 0
 CanEvaluate fetched = IsReady fetched.source
@@ -116,7 +126,7 @@ CanEvaluate fetched = IsReady fetched.source
 -- what is made from it
 abbrev pub IsMade : Source → Result Relation EvalFault → Type 0
 IsMade (sources.Leaves plan leaves) made = IsRun (expr_of plan.now) leaves made
-IsMade (sources.Made rel) made = IsOf rel made
+IsMade (sources.Marks view reached) made = IsOf (read_by_marks view reached) made
 
 -- a view is evaluated where that is made, and its marks are those that are fetched
 pub record IsEvaluated (fetched : Fetched) (view : Evaluated) : Type 0 where
@@ -129,10 +139,10 @@ pub record HasLeaves (refresh : Refresh) (w : ℕ) (plan : Expr) (leaves : List 
   pub rows : each_rows leaves ≡ leaves_now (book_at refresh) (state_next refresh) w
   pub kinds : plan_kinds plan (each_kinds leaves) ≡ (view_at (book_at refresh) w).kinds
 
--- what is fetched is this, or what the view shows
+-- what is fetched is this, or that of which the view shows the rows
 abbrev pub IsSource : Refresh → ℕ → Source → Type 0
 IsSource refresh w (sources.Leaves plan leaves) = HasLeaves refresh w (expr_of plan.now) leaves
-IsSource refresh w (sources.Made rel) = Shows refresh w rel
+IsSource refresh w (sources.Marks view reached) = Shows refresh w (read_by_marks view reached)
 
 -- with the view's marks
 pub record IsFetched (refresh : Refresh) (w : ℕ) (fetched : Fetched) : Type 0 where

@@ -17,9 +17,8 @@ use Rattle.smk_model.specs.Session.{Workbook, State, is_brush, linked, rows_of_t
 use Rattle.smk_model.specs.Workload.{needs}
 use Rattle.smk_compose.specs.KeptMaps.{kept_at}
 use Rattle.smk_compose.specs.declared.kept_maps.Run.{Run}
+use Rattle.smk_skip.specs.Splits.{SplitImage}
 use Rattle.smk_session.specs.Extras.{splits_of, all_cubes}
-use Rattle.smk_session.specs.declared.extra.CubesOn.{CubesOn}
-use Rattle.smk_session.specs.declared.extra.SplitOn.{SplitOn}
 use Rattle.smk_session.specs.declared.mode.Mode.{Mode}
 use Rattle.smk_session.specs.declared.fault.StartFault.{StartFault}
 use Rattle.smk_session.specs.declared.fault.StartFault.TheVariants.{Rows, Pairs, NoMemory}
@@ -33,8 +32,8 @@ pub record SessionImage : Type 0 where
   pub catalog : Catalog
   pub tables : List Relation
   pub views : List Run
-  pub splits : List SplitOn
-  pub cubes : List CubesOn
+  pub splits : List SplitImage
+  pub cubes : List (List Relation)
   pub brushes : List BrushOn
   pub contents : List (Option Relation)
   pub mode : Mode
@@ -67,7 +66,7 @@ pub record AreOpened (catalog : Catalog) (tables : List Relation) (views : List 
   pub views_are : views ≡ opened_views (workbook_image catalog tables)
 
 -- what is kept for the declarations that ask for more than rows is what they mean over the tables
-pub record AreExtras (catalog : Catalog) (tables : List Relation) (splits : List SplitOn) (cubes : List CubesOn) : Type 0 where
+pub record AreExtras (catalog : Catalog) (tables : List Relation) (splits : List SplitImage) (cubes : List (List Relation)) : Type 0 where
   pub splits_are : splits ≡ splits_of (workbook_image catalog tables)
   pub cubes_are : cubes ≡ all_cubes (workbook_image catalog tables)
 

@@ -1,22 +1,23 @@
 // The answers to backward queries: rows, those of them with a value, and the groups of them.
-ghost use Rattle.std.specs.Prelude.{◌≡◌, ◌<◌, ◌≤◌, ◌+◌, Ok, nat_eq, length, option_map, IfOk, IfSome, MatchResult};
-ghost use Rattle.std.specs.List.{find, list_all};
+ghost use Rattle.std.specs.Prelude.{◌≡◌, ◌<◌, ◌≤◌, ◌+◌, Ok, nat_eq, length, IfOk, IfSome, MatchResult};
+ghost use Rattle.std.specs.List.{list_all};
 ghost use Rattle.smk_base.specs.CatalogImage.{catalog_image};
 ghost use Rattle.smk_base.specs.Places.{IsPlaces};
 ghost use Rattle.smk_model.specs.Replies as replies;
 ghost use Rattle.smk_model.specs.Typing.{info_at};
+ghost use Rattle.smk_model.specs.Workload as workload;
 ghost use Rattle.smk_session.specs.Answers.{Gives, Turns, BacksFit, IsLent, back_by, looks_of_asked};
-ghost use Rattle.smk_session.specs.Extras.{is_split_on, are_cubes_on};
+ghost use Rattle.smk_session.specs.Extras.{split_place, cubes_place};
 ghost use Rattle.smk_session.specs.BackAnswers.{IsPairOf, SplitsFit, CubesFit, split_asked, cubes_asked, one_asked, sort_asked, with_value_asked, matching_by, grouped_by};
 
-use crate::extra::{CubesOn, SplitOn};
 use crate::lent::Lent;
 use crate::lineage::back_map;
 use crate::marks::{all_places, check_marks, marked_members};
 use crate::turned::Turned;
-use smk_base::{Catalog, ColDecl, Kind, Marks, Refusal, Reply, Rids, Text, Value};
+use smk_base::{Back, BackExtra, Catalog, ColDecl, Kind, Marks, Refusal, Reply, Rids, Text, Value};
 use smk_compose::{Run, fetch_rids};
 use smk_outside::Steps;
+use smk_push::Cubes;
 use smk_skip::Split;
 use smk_table::Table;
 use std::alloc::Global;
@@ -30,8 +31,8 @@ pub(crate) struct Pair<'a> {
     pub(crate) catalog: &'a Catalog,
     pub(crate) run: &'a Run,
     pub(crate) rows: &'a Table,
-    pub(crate) splits: &'a [SplitOn],
-    pub(crate) cubes: &'a [CubesOn],
+    pub(crate) splits: &'a [Split],
+    pub(crate) cubes: &'a [Cubes],
 }
 
 // What is held of a view and a table.
@@ -111,42 +112,69 @@ fn is_of_column(catalog: &Catalog, t: usize, c: usize, value: &Value) -> bool
     is_of_sort(columns(catalog, t)[c].kind, value)
 }
 
-// The split that is kept of a view and a table by a column.
-fn split_by(splits: &[SplitOn], v: usize, t: usize, c: usize) -> Option<&SplitOn>
-    ensures { option_map (λ split. split.now) result ≡ find (is_split_on v t c) splits.now }
+// Whether a declaration is of a view's backward query to a table.
+fn is_back(declared: &Back, v: usize, t: usize) -> bool
+    ensures { result ≡ workload.is_back v t declared.now }
 {
-    splits.iter().find(|split| {
-        split.view as usize == v && split.table as usize == t && split.col as usize == c
-    })
+    declared.view as usize == v && declared.table as usize == t
 }
 
-// The groups that are kept of a view and a table.
-fn cubes_by(cubes: &[CubesOn], v: usize, t: usize) -> Option<&CubesOn>
-    ensures { option_map (λ cubes. cubes.now) result ≡ find (are_cubes_on v t) cubes.now }
+// How many splits stand before that of a view's backward query by a column, or how many there are.
+fn split_place(declarations: &[Back], v: usize, t: usize, c: usize) -> usize
+    ensures { result ≡ split_place v t c declarations.now }
 {
-    cubes.iter().find(|cubes| cubes.view as usize == v && cubes.table as usize == t)
+    let mut place = 0usize;
+    for declared in declarations {
+        if let BackExtra::By(col) = &declared.extra {
+            if is_back(declared, v, t) && *col as usize == c {
+                return place;
+            }
+            place += 1;
+        }
+    }
+    place
 }
 
-// The split by the column of this name. It is kept exactly where it is declared.
-fn split_named<'a>(pair: &'a Pair<'_>, name: &Text) -> Result<&'a SplitOn, Turned>
+// How many groupings stand before the first of a view's backward query, or how many there are.
+fn cubes_place(declarations: &[Back], v: usize, t: usize) -> usize
+    ensures { result ≡ cubes_place v t declarations.now }
+{
+    let mut place = 0usize;
+    for declared in declarations {
+        if let BackExtra::Grouped { .. } = &declared.extra {
+            if is_back(declared, v, t) {
+                return place;
+            }
+            place += 1;
+        }
+    }
+    place
+}
+
+// The column of this name, and the split by it. It is kept exactly where it is declared.
+fn split_named<'a>(pair: &'a Pair<'_>, name: &Text) -> Result<(usize, &'a Split), Turned>
     requires { pair.now.table < length pair.now.catalog.now.tables }
-    ensures gives { MatchResult result (λ split. split_asked pair.now name.now ≡ Ok split.now) (λ turned. Turns turned (split_asked pair.now name.now)) }
-    ensures column { IfOk result (λ split. split.now.col < length (info_at pair.now.catalog.now.tables pair.now.table).cols) }
+    ensures gives { MatchResult result (λ found. split_asked pair.now name.now ≡ Ok (found.0, found.1.now)) (λ turned. Turns turned (split_asked pair.now name.now)) }
+    ensures column { IfOk result (λ found. found.0 < length (info_at pair.now.catalog.now.tables pair.now.table).cols) }
 {
     match column_place(pair.catalog, pair.table, name) {
-        Some(c) => match split_by(pair.splits, pair.view, pair.table, c) {
-            Some(split) => Ok(split),
-            None => Err(Turned::Refused(Refusal::NoSplit)),
-        },
+        Some(c) => {
+            let declarations = pair.catalog.backs.as_slice();
+            match pair.splits.get(split_place(declarations, pair.view, pair.table, c)) {
+                Some(split) => Ok((c, split)),
+                None => Err(Turned::Refused(Refusal::NoSplit)),
+            }
+        }
         None => Err(Turned::Refused(Refusal::NoSplit)),
     }
 }
 
 // The declared groups. They are kept exactly where a grouping is declared.
-fn cubes_declared<'a>(pair: &'a Pair<'_>) -> Result<&'a CubesOn, Turned>
+fn cubes_declared<'a>(pair: &'a Pair<'_>) -> Result<&'a Cubes, Turned>
     ensures { MatchResult result (λ cubes. cubes_asked pair.now ≡ Ok cubes.now) (λ turned. Turns turned (cubes_asked pair.now)) }
 {
-    match cubes_by(pair.cubes, pair.view, pair.table) {
+    let declarations = pair.catalog.backs.as_slice();
+    match pair.cubes.get(cubes_place(declarations, pair.view, pair.table)) {
         Some(cubes) => Ok(cubes),
         None => Err(Turned::Refused(Refusal::NoGroup)),
     }
@@ -203,9 +231,9 @@ pub(crate) fn matching_rows<L: Ledger>(
     ensures looks { steps.new ≤ steps.old + looks_of_asked (matching_by pair.now marks.now name.now value.now) }
 {
     let map = back_map(pair.run, pair.table)?;
-    let split = split_named(pair, name)?;
-    check_sort(pair.catalog, pair.table, split.col as usize, value)?;
-    let rids = marked_with(alloc, &split.split, map.len(), marks, value)?;
+    let (column, split) = split_named(pair, name)?;
+    check_sort(pair.catalog, pair.table, column, value)?;
+    let rids = marked_with(alloc, split, map.len(), marks, value)?;
     let rows = fetch_rids(alloc, pair.rows, rids.as_slice(), steps)?;
     Ok(Reply::Back { rids, rows })
 }
@@ -240,6 +268,6 @@ pub(crate) fn groups(alloc: Global, pair: &Pair<'_>, marks: &Marks) -> Result<Re
     let kept = cubes_declared(pair)?;
     let mark = one_mark(marks)?;
     check_marks(marks, map.len())?;
-    let rel = kept.cubes.groups(mark).copy(alloc)?;
+    let rel = kept.groups(mark).copy(alloc)?;
     Ok(Reply::Grouped { rel })
 }

@@ -47,7 +47,7 @@ fn keep_beside<R: Threads + Sync, G: Gate + Sync, L: Ledger>(
     steps: &mut Steps<L>,
 ) -> Result<Beside, AllocError>
     requires { IsOpened opened.now }
-    ensures extras { IfOk result (λ made. AreExtras opened.now.book.now opened.now.tables.now made.extras.splits made.extras.cubes) }
+    ensures extras { IfOk result (λ made. AreExtras opened.now.book.now opened.now.tables.now made.extras.splits.items made.extras.cubes.items) }
     ensures contents { IfOk result (λ made. made.contents.items ≡ map (λ w. None) (upto (length opened.now.views.now))) }
     ensures looks { steps.new ≤ steps.old + sum_by (looks_of_back (book_in opened.now)) opened.now.book.now.backs }
 {
@@ -66,7 +66,7 @@ pub(crate) fn begin<R: Threads + Sync, G: Gate + Sync, L: Ledger>(
 ) -> Result<Begun, StartFault>
     requires kinds { each_kinds tables.now ≡ each_table_kinds book.now.tables }
     ensures opened { IfOk result (λ begun. AreOpened book.now tables.now begun.views.items) }
-    ensures extras { IfOk result (λ begun. AreExtras book.now tables.now begun.extras.splits begun.extras.cubes) }
+    ensures extras { IfOk result (λ begun. AreExtras book.now tables.now begun.extras.splits.items begun.extras.cubes.items) }
     ensures contents { IfOk result (λ begun. begun.contents.items ≡ map (λ w. None) (upto (length begun.views.items))) }
     ensures none { OnOk result (first_view_fault (workbook_image book.now tables.now) ≡ None) }
     ensures fault { IfErr result (λ e. IsStartFault e (first_view_fault (workbook_image book.now tables.now))) }

@@ -1,25 +1,34 @@
 // Views, made anew from what is fetched for them.
-ghost use Rattle.std.specs.Prelude.{All, IfOk};
+ghost use Rattle.std.specs.Prelude.{◌≡◌, All, IfOk, IfSome};
 ghost use Rattle.std.specs.List.{AllZip};
-ghost use Rattle.smk_session.specs.Refreshed.{CanEvaluate, IsEvaluated, IsReady, IsMade};
+ghost use Rattle.smk_base.specs.PlanImage.{expr_of};
+ghost use Rattle.smk_marks.specs.Views.{CanGroup};
+ghost use Rattle.smk_session.specs.Refreshed.{CanEvaluate, CanRun, IsEvaluated, IsReady, IsRun, IsMade, read_by_marks};
 
 use crate::workers::Workers;
 use smk_base::{Plan, Rel, Rids};
 use smk_body::Work;
 use smk_compose::{EvalFault, Leaves, eval_leaves};
+use smk_marks::{KeptView, Reached, content_by_marks};
 use smk_outside::Gate;
 use smk_par::Pieces;
 use smk_plain::Plain;
-use std::alloc::AllocError;
+use std::alloc::{AllocError, Global};
 use std::thread::{Threads, map_vec};
 
 // What a view is made from.
 #[derive(Drop)]
 pub(crate) enum Source<'a> {
     // Its plan, and the rows of the plan's leaves.
-    Leaves { plan: &'a Plan, leaves: Leaves },
-    // Its rows, which are made from what is kept of it.
-    Made(Rel),
+    Leaves {
+        plan: &'a Plan,
+        leaves: Leaves,
+    },
+    // What is kept of it, and what the rows selected for it reach there, where a brush concerns it.
+    Marks {
+        view: KeptView<'a>,
+        reached: Option<Reached>,
+    },
 }
 
 // A view for which all is fetched that it is made from: its number among the linked ones, these things, and its marks that the selected rows reach.
@@ -51,8 +60,8 @@ pub(crate) fn evaluate<R: Threads + Sync, G: Gate + Sync>(
     }
 }
 
-// A view that is evaluated beside others: it passes the gate, and no step of it is cut.
-fn evaluate_whole<R: Threads + Sync, G: Gate + Sync>(
+// A view that is evaluated beside others: it passes the gate first.
+fn evaluate_beside<R: Threads + Sync, G: Gate + Sync>(
     work: &Work<'_, R, Workers<'_, G>>,
     fetched: Fetched<'_>,
 ) -> Evaluated
@@ -60,13 +69,10 @@ fn evaluate_whole<R: Threads + Sync, G: Gate + Sync>(
     ensures { IsEvaluated fetched.entry result }
 {
     work.crew.gate.arrive(fetched.place);
-    Evaluated {
-        made: make_whole(work, fetched.source),
-        marks: fetched.marks,
-    }
+    evaluate(work, fetched)
 }
 
-// The rows of a view, each step of which is cut into pieces where there are several workers.
+// The rows of a view.
 fn make<R: Threads + Sync, G: Gate + Sync>(
     work: &Work<'_, R, Workers<'_, G>>,
     source: Source<'_>,
@@ -74,48 +80,67 @@ fn make<R: Threads + Sync, G: Gate + Sync>(
     requires { IsReady source }
     ensures { IsMade source.entry result }
 {
+    match source {
+        Source::Leaves { plan, leaves } => run_leaves(work, plan, leaves),
+        Source::Marks { view, reached } => Ok(read_marks(work.alloc, &view, &reached)?),
+    }
+}
+
+// The rows that a plan gives of its leaves, each step cut into pieces where there are several workers.
+#[tactic(auto, using(crate::proofs::Refreshing::evaluated))]
+fn run_leaves<R: Threads + Sync, G: Gate + Sync>(
+    work: &Work<'_, R, Workers<'_, G>>,
+    plan: &Plan,
+    leaves: Leaves,
+) -> Result<Rel, EvalFault>
+    requires { CanRun (expr_of plan.now) leaves }
+    ensures { IsRun (expr_of plan.now) leaves result }
+{
     if work.crew.workers == 1 {
-        make_whole(work, source)
+        eval_leaves(work.rt, work.alloc, &Plain, plan, leaves)
     } else {
-        make_in_pieces(work, source)
+        let body = Pieces::new(Plain, work.crew.gate, work.crew.workers);
+        eval_leaves(work.rt, work.alloc, &body, plan, leaves)
     }
 }
 
-// The rows of a view, no step of which is cut.
-#[tactic(auto, using(crate::proofs::Refreshing::evaluated))]
-fn make_whole<R: Threads + Sync, G: Gate + Sync>(
-    work: &Work<'_, R, Workers<'_, G>>,
-    source: Source<'_>,
-) -> Result<Rel, EvalFault>
-    requires { IsReady source }
-    ensures { IsMade source.entry result }
+// The rows of a view by what is kept of it: the groups of what is reached there, or its first content where no brush concerns it.
+fn read_marks(
+    alloc: Global,
+    view: &KeptView<'_>,
+    reached: &Option<Reached>,
+) -> Result<Rel, AllocError>
+    requires { IfSome reached.now (CanGroup view.now) }
+    ensures { IfOk result (λ rel. rel ≡ read_by_marks view.now reached.now) }
 {
-    match source {
-        Source::Leaves { plan, leaves } => eval_leaves(work.rt, work.alloc, &Plain, plan, leaves),
-        Source::Made(rel) => Ok(rel),
+    match reached {
+        Some(reached) => content_by_marks(alloc, view, reached),
+        None => view.content.copy(alloc),
     }
 }
 
-// The rows of a view, each step of which is cut into pieces.
-#[tactic(auto, using(crate::proofs::Refreshing::evaluated))]
-fn make_in_pieces<R: Threads + Sync, G: Gate + Sync>(
-    work: &Work<'_, R, Workers<'_, G>>,
-    source: Source<'_>,
-) -> Result<Rel, EvalFault>
-    requires { IsReady source }
-    ensures { IsMade source.entry result }
-{
-    match source {
-        Source::Leaves { plan, leaves } => {
-            let body = Pieces::new(Plain, work.crew.gate, work.crew.workers);
-            eval_leaves(work.rt, work.alloc, &body, plan, leaves)
-        }
-        Source::Made(rel) => Ok(rel),
-    }
-}
-
-// Several views, all at once.
+// Several views, all at once. No step of them is cut.
 pub(crate) fn evaluate_at_once<R: Threads + Sync, G: Gate + Sync>(
+    work: &Work<'_, R, Workers<'_, G>>,
+    views: Vec<Fetched<'_>>,
+) -> Result<Vec<Evaluated>, AllocError>
+    requires { All CanEvaluate views.items }
+    ensures { IfOk result (λ made. AllZip IsEvaluated views.entry.items made.items) }
+{
+    let crew = Workers {
+        gate: work.crew.gate,
+        workers: 1,
+    };
+    let alone = Work {
+        rt: work.rt,
+        alloc: work.alloc,
+        crew: &crew,
+    };
+    evaluate_each(&alone, views)
+}
+
+// Several views, all at once, each by as many workers as `work` has.
+fn evaluate_each<R: Threads + Sync, G: Gate + Sync>(
     work: &Work<'_, R, Workers<'_, G>>,
     views: Vec<Fetched<'_>>,
 ) -> Result<Vec<Evaluated>, AllocError>
@@ -128,7 +153,7 @@ pub(crate) fn evaluate_at_once<R: Threads + Sync, G: Gate + Sync>(
         &|fetched: Fetched<'_>| -> Evaluated
             requires { CanEvaluate fetched }
             ensures { IsEvaluated fetched.entry result }
-        { evaluate_whole(work, fetched) },
+        { evaluate_beside(work, fetched) },
     )?;
     Ok(made)
 }

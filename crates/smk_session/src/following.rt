@@ -1,5 +1,5 @@
 // The views that follow a brush, made anew under other brushes.
-ghost use Rattle.std.specs.Prelude.{◌≡◌, ◌<◌, ◌≤◌, ◌+◌, ◌∷◌, ℕ, Ok, None, Some, Option, true, cond, length, All, IfOk, IfSome, MatchResult};
+ghost use Rattle.std.specs.Prelude.{◌≡◌, ◌<◌, ◌≤◌, ◌+◌, ◌∷◌, ℕ, Ok, None, Some, Option, true, false, cond, length, All, IfOk, IfSome, IfNone, MatchResult};
 ghost use Rattle.smk_base.specs.Places.{members_at};
 ghost use Rattle.smk_base.specs.PlanImage.{expr_of};
 ghost use Rattle.smk_model.specs.Composed.{forwards};
@@ -12,7 +12,7 @@ ghost use Rattle.smk_base.specs.declared.reply.Linked.{Linked as LinkedImage};
 ghost use Rattle.std.specs.List.{AllZip, list_any, sum_by};
 ghost use Rattle.smk_compose.specs.declared.fault.EvalFault.TheVariants as faults;
 ghost use Rattle.smk_session.specs.Answers.{Turns, rids_or_all, content_at};
-ghost use Rattle.smk_session.specs.Refreshed.{CanEvaluate, IsAnew, IsChosen, IsFetched, IsKept, IsReady, IsRefresh, IsSource, Names, book_at, contents_at, linked_at, looks_now, marks_next, state_next};
+ghost use Rattle.smk_session.specs.Refreshed.{CanEvaluate, IsAnew, IsChosen, IsFetched, IsKept, IsReady, IsRefresh, IsSource, Names, book_at, contents_at, groups_table, linked_at, looks_now, marks_next, state_next};
 ghost use Rattle.smk_session.specs.Sessions.{follows};
 
 use crate::chosen::{chosen, picks};
@@ -28,7 +28,7 @@ use crate::workers::Workers;
 use smk_base::{Linked, Linkeds, Refusal, Rids};
 use smk_body::Work;
 use smk_compose::{EvalFault, fetch_leaves};
-use smk_marks::{KeptView, content_by_marks, grouped_chain, reach, scanned_table};
+use smk_marks::{KeptView, grouped_chain, reach, scanned_table};
 use smk_outside::{Gate, Steps};
 use smk_rid::RidMap;
 use std::alloc::{AllocError, Global};
@@ -98,26 +98,29 @@ fn at_node(view: u32, fault: EvalFault) -> Turned
     }
 }
 
-// What is kept of a view that is a grouping over a chain of the table.
+// What is kept of a view, exactly where it is a grouping over a chain of the table.
 fn kept_view<'a>(refresh: &Refresh<'a>, w: u32) -> Option<KeptView<'a>>
     requires refresh { IsRefresh refresh.now }
     requires view { w < length refresh.now.held.now.catalog.now.views }
     requires declared { declares_fwd (book_at refresh.now) w refresh.now.table ≡ true }
     ensures kept { IfSome result (IsKept refresh.now.held.now w) }
     ensures table { IfSome result (λ view. refresh.now.table ≡ selected_table (expr_of view.plan.chain.now)) }
+    ensures none { IfNone result (groups_table refresh.now w ≡ false) }
 {
     let held = refresh.held;
-    match grouped_chain(&view_of(held.catalog, w).plan) {
-        Some(plan) if scanned_table(plan.chain) == refresh.table => Some(KeptView {
+    let plan = grouped_chain(&view_of(held.catalog, w).plan)?;
+    if scanned_table(plan.chain) == refresh.table {
+        Some(KeptView {
             plan,
             content: &held.views[w as usize].rel,
             forward: declared_map(refresh, w),
-        }),
-        _ => None,
+        })
+    } else {
+        None
     }
 }
 
-// A view made from what is kept of it: by what the rows selected for it reach, or its first content where no brush concerns it.
+// What is kept of a view, and what the rows selected for it reach there, where a brush concerns it. Nothing is made of it yet.
 fn fetch_marks<'a, L: Ledger>(
     alloc: Global,
     refresh: &Refresh<'a>,
@@ -140,13 +143,15 @@ fn fetch_marks<'a, L: Ledger>(
     match chosen {
         Some(rids) => {
             let reached = reach(alloc, &view, table, rids.as_slice(), steps)?;
-            let made = content_by_marks(alloc, &view, &reached)?;
-            Ok(Source::Made(made))
+            Ok(Source::Marks {
+                view,
+                reached: Some(reached),
+            })
         }
-        None => {
-            let first = view.content.copy(alloc)?;
-            Ok(Source::Made(first))
-        }
+        None => Ok(Source::Marks {
+            view,
+            reached: None,
+        }),
     }
 }
 

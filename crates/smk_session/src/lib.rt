@@ -29,7 +29,6 @@ mod turned;
 mod workers;
 
 pub use answer::has_refused;
-pub use extra::{CubesOn, SplitOn};
 pub use fault::StartFault;
 pub use lineage::back_kept;
 pub use mode::Mode;
@@ -37,3 +36,4 @@ pub use opening::{open_view, view_of};
 pub use parts::{Opened, Parts};
 pub use session::Session;
 pub use session_laws::nothing_kept;
+pub use smk_base::BrushOn;

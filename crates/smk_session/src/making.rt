@@ -12,7 +12,7 @@ ghost use Rattle.smk_session.specs.Making.{IsOpened, IsDeclared, IsAsked, MakesA
 ghost use Rattle.smk_session.specs.Sessions.{AreExtras, AreOpened, workbook_image};
 
 use crate::abreast::are_few;
-use crate::extra::{CubesOn, Extras, Groupings, SplitOn, Splits};
+use crate::extra::Extras;
 use crate::lineage::back_kept;
 use crate::workers::Workers;
 use smk_base::{Aggs, Back, BackExtra, Catalog, Keys, Rel};
@@ -46,8 +46,8 @@ struct Asked<'a> {
 // What a declaration asks for besides the rows.
 #[derive(Drop)]
 struct Made {
-    split: Option<SplitOn>,
-    cubes: Option<CubesOn>,
+    split: Option<Split>,
+    cubes: Option<Cubes>,
 }
 
 // The backward lineage that a declaration asks for. It is kept.
@@ -103,21 +103,14 @@ fn made_split(
     opened: &Opening<'_>,
     asked: &Asked<'_>,
     col: u32,
-) -> Result<SplitOn, AllocError>
+) -> Result<Split, AllocError>
     requires opened { IsOpened opened.now }
     requires asked { IsAsked opened.now.book.now opened.now.tables.now asked.now }
     requires column { col < length (table_kinds (info_at opened.now.book.now.tables asked.now.declared.now.table)) }
     ensures { IfOk result (λ made. made ≡ split_on (book_in opened.now) asked.now.declared.now.view asked.now.declared.now.table col) }
 {
-    let declared = asked.declared;
-    let map = declared_map(opened, declared);
-    let split = Split::of_rows(alloc, map, &asked.rows, col)?;
-    Ok(SplitOn {
-        view: declared.view,
-        table: declared.table,
-        col,
-        split,
-    })
+    let map = declared_map(opened, asked.declared);
+    Split::of_rows(alloc, map, &asked.rows, col)
 }
 
 // The groups of each list of the lineage of a declaration.
@@ -127,7 +120,7 @@ fn made_cubes(
     asked: Asked<'_>,
     keys: &Keys,
     aggs: &Aggs,
-) -> Result<CubesOn, AllocError>
+) -> Result<Cubes, AllocError>
     requires opened { IsOpened opened.now }
     requires asked { IsAsked opened.now.book.now opened.now.tables.now asked }
     requires fits { GroupFits (table_kinds (info_at opened.now.book.now.tables asked.declared.now.table)) keys.now aggs.now }
@@ -135,12 +128,7 @@ fn made_cubes(
 {
     let Asked { declared, rows } = asked;
     let map = declared_map(opened, declared);
-    let cubes = Cubes::of_rows(alloc, map, &Chosen::of_rel(rows), keys, aggs)?;
-    Ok(CubesOn {
-        view: declared.view,
-        table: declared.table,
-        cubes,
-    })
+    Cubes::of_rows(alloc, map, &Chosen::of_rel(rows), keys, aggs)
 }
 
 // What a declaration asks for besides the rows.
@@ -204,8 +192,8 @@ fn make_each<R: Threads + Sync>(
 
 // Puts last what a declaration asks for besides the rows.
 fn put_made(extras: &mut Extras, made: Made) -> Result<(), AllocError>
-    ensures splits { OnOk result (extras.new.splits ≡ extras.old.splits ++ option_to_list made.split) }
-    ensures cubes { OnOk result (extras.new.cubes ≡ extras.old.cubes ++ option_to_list made.cubes) }
+    ensures splits { OnOk result (extras.new.splits.items ≡ extras.old.splits.items ++ option_to_list made.split) }
+    ensures cubes { OnOk result (extras.new.cubes.items ≡ extras.old.cubes.items ++ option_to_list made.cubes) }
 {
     let Made { split, cubes } = made;
     if let Some(split) = split {
@@ -227,8 +215,8 @@ fn put_each<R: Threads + Sync>(
 ) -> Result<(), AllocError>
     requires opened { IsOpened opened.now }
     requires asked { All (IsAsked opened.now.book.now opened.now.tables.now) all.items }
-    ensures splits { OnOk result (extras.new.splits ≡ extras.old.splits ++ filter_map (split_in (book_in opened.now)) (declared_in all.entry.items)) }
-    ensures cubes { OnOk result (extras.new.cubes ≡ extras.old.cubes ++ filter_map (cubes_in (book_in opened.now)) (declared_in all.entry.items)) }
+    ensures splits { OnOk result (extras.new.splits.items ≡ extras.old.splits.items ++ filter_map (split_in (book_in opened.now)) (declared_in all.entry.items)) }
+    ensures cubes { OnOk result (extras.new.cubes.items ≡ extras.old.cubes.items ++ filter_map (cubes_in (book_in opened.now)) (declared_in all.entry.items)) }
 {
     for made in make_each(rt, alloc, opened, all)? {
         put_made(extras, made?)?;
@@ -251,14 +239,14 @@ pub(crate) fn make_extras<R: Threads + Sync, G: Gate + Sync, L: Ledger>(
     steps: &mut Steps<L>,
 ) -> Result<Extras, AllocError>
     requires { IsOpened opened.now }
-    ensures extras { IfOk result (λ made. AreExtras opened.now.book.now opened.now.tables.now made.splits made.cubes) }
+    ensures extras { IfOk result (λ made. AreExtras opened.now.book.now opened.now.tables.now made.splits.items made.cubes.items) }
     ensures looks { steps.new ≤ steps.old + sum_by (looks_of_back (book_in opened.now)) opened.now.book.now.backs }
 {
     let alloc = work.alloc;
     let most = most_at_once(work.crew.workers, opened.tables);
     let mut extras = Extras {
-        splits: Splits::new(alloc),
-        cubes: Groupings::new(alloc),
+        splits: Vec::new(alloc),
+        cubes: Vec::new(alloc),
     };
     let mut waiting = Vec::new(alloc);
     for declared in opened.book.backs.as_slice() {

@@ -1,7 +1,8 @@
-use crate::extra::{CubesOn, SplitOn};
 use crate::mode::Mode;
 use smk_base::{BrushOn, Rel};
 use smk_compose::Run;
+use smk_push::Cubes;
+use smk_skip::Split;
 use smk_table::Table;
 use smk_typing::TypedBook;
 
@@ -18,9 +19,9 @@ pub struct Parts {
     /// The views as they are first evaluated, in the book's order.
     pub views: Vec<Opened>,
     /// One split for each declaration by a column, in their order.
-    pub splits: Vec<SplitOn>,
+    pub splits: Vec<Split>,
     /// The groups of each declared grouping, in their order.
-    pub cubes: Vec<CubesOn>,
+    pub cubes: Vec<Cubes>,
     /// The brushes in force, at most one for each pair of a view and a table.
     pub brushes: Vec<BrushOn>,
     /// For each view the content under the brushes in force, where it follows one of them.

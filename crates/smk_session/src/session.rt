@@ -12,7 +12,6 @@ ghost use Rattle.smk_session.specs.Sessions.{IsSession, IsStartFault, opened, st
 
 use crate::answer::answer_to;
 use crate::beginning::begin;
-use crate::extra::{Groupings, Splits};
 use crate::fault::StartFault;
 use crate::lent::Lent;
 use crate::mode::Mode;
@@ -24,6 +23,8 @@ use smk_base::{Catalog, Line, Rel, Reply};
 use smk_body::Work;
 use smk_compose::Run;
 use smk_outside::{Gate, Steps};
+use smk_push::Cubes;
+use smk_skip::Split;
 use smk_table::Table;
 use smk_typing::TypedBook;
 use std::alloc::{AllocError, Global};
@@ -37,8 +38,8 @@ pub struct Session {
     book: TypedBook,
     tables: Vec<Table>,
     views: Vec<Run>,
-    splits: Splits,
-    cubes: Groupings,
+    splits: Vec<Split>,
+    cubes: Vec<Cubes>,
     brushes: Brushes,
     contents: Vec<Option<Rel>>,
     mode: Mode,
@@ -54,9 +55,9 @@ impl Model for Session {
 
     ghost coded = { Prim.hlevel (codes, held.the_row.coded) };
 
-    ghost view = { λ a. record { catalog = a.book; tables = a.tables.items; views = a.views.items; splits = a.splits; cubes = a.cubes; brushes = a.brushes; contents = a.contents.items; mode = a.mode; workers = a.workers } };
+    ghost view = { λ a. record { catalog = a.book; tables = a.tables.items; views = a.views.items; splits = a.splits.items; cubes = a.cubes.items; brushes = a.brushes; contents = a.contents.items; mode = a.mode; workers = a.workers } };
 
-    ghost invariant = { λ a. IsSession (record { catalog = a.book; tables = a.tables.items; views = a.views.items; splits = a.splits; cubes = a.cubes; brushes = a.brushes; contents = a.contents.items; mode = a.mode; workers = a.workers }) };
+    ghost invariant = { λ a. IsSession (record { catalog = a.book; tables = a.tables.items; views = a.views.items; splits = a.splits.items; cubes = a.cubes.items; brushes = a.brushes; contents = a.contents.items; mode = a.mode; workers = a.workers }) };
 }
 
 impl Session {
@@ -127,8 +128,8 @@ impl Session {
             book,
             tables,
             views,
-            splits: Splits::from_vec(splits),
-            cubes: Groupings::from_vec(cubes),
+            splits,
+            cubes,
             brushes: Brushes::from_vec(brushes),
             contents: now,
             mode,
@@ -156,8 +157,8 @@ impl Session {
             book,
             tables,
             views,
-            splits: splits.into_vec(),
-            cubes: cubes.into_vec(),
+            splits,
+            cubes,
             brushes: brushes.into_vec(),
             now: contents,
             mode,

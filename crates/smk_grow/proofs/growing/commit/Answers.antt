@@ -3,9 +3,8 @@ use Rattle.std.specs.Vec.{with_items}
 use Rattle.std.proofs.lemmas.List.{with_items_is}
 use Rattle.smk_base.specs.Places.{upto}
 use Rattle.smk_base.specs.Rels.{Relation}
+use Rattle.smk_skip.specs.Splits.{SplitImage}
 use Rattle.smk_session.specs.Parts.{parts_image}
-use Rattle.smk_session.specs.declared.extra.CubesOn.{CubesOn}
-use Rattle.smk_session.specs.declared.extra.SplitOn.{SplitOn}
 use Rattle.smk_compose.specs.declared.kept_maps.Run.{Run}
 use Rattle.smk_grow.specs.Renewed.{replaced}
 use Rattle.smk_grow.proofs.Committed.{committed, few_cubes, few_splits, few_views}
@@ -13,12 +12,12 @@ use Rattle.smk_grow.proofs.growing.commit.Goals as goal
 
 pub replace-requires-2 : goal.replace-requires-2
 replace-requires-2 c =
-    subst (λ (l : List SplitOn). length c.args.fresh.extras.splits.items ≤ length l) (sym c.as_mut_slice-2.ensures.value)
+    subst (λ (l : List SplitImage). length c.args.fresh.extras.splits.items ≤ length l) (sym c.as_mut_slice-2.ensures.value)
     (few_splits (parts_image c.args.parts.now) c.args.table c.args.len c.args.fresh c.requires.grown c.requires.fresh)
 
 pub replace-requires-3 : goal.replace-requires-3
 replace-requires-3 c =
-    subst (λ (l : List CubesOn). length c.args.fresh.extras.cubes.items ≤ length l) (sym c.as_mut_slice-3.ensures.value)
+    subst (λ (l : List (List Relation)). length c.args.fresh.extras.cubes.items ≤ length l) (sym c.as_mut_slice-3.ensures.value)
     (few_cubes (parts_image c.args.parts.now) c.args.table c.args.len c.args.fresh c.requires.grown c.requires.fresh)
 
 pub returns-clause-parts : goal.returns-clause-parts

@@ -32,16 +32,16 @@ loop-declared-preserved g c =
     let put = c.if-len-most.extras in
     let waiting = c.if-len-most.waiting.items in
     let low : i < length declarations = omega (arith, c.loop-declared-test.true) in
-    let splits : put.splits ++ filter_map (split_in book) (declared_in waiting) ≡ filter_map (split_in book) (take i declarations) = elim c.if-len-most.branch [
+    let splits : put.splits.items ++ filter_map (split_in book) (declared_in waiting) ≡ filter_map (split_in book) (take i declarations) = elim c.if-len-most.branch [
       | then-len-most+in_ok-put_each w ↦
           rw (w.extras-is, w.waiting-is, w.replace-all.ensures.after, w.new-then-len-most.ensures.items)
-          (append-nil w.put_each.new.extras.splits ∙ w.in_ok-put_each.ensures.splits ∙ ap (λ (v : Vec Asked Global). c.loop-declared.extras.splits ++ filter_map (split_in book) (declared_in v.items)) w.replace-all.ensures.value ∙ c.loop-declared.invariant.splits)
+          (append-nil w.put_each.new.extras.splits.items ∙ w.in_ok-put_each.ensures.splits ∙ ap (λ (v : Vec Asked Global). c.loop-declared.extras.splits.items ++ filter_map (split_in book) (declared_in v.items)) w.replace-all.ensures.value ∙ c.loop-declared.invariant.splits)
       | else-len-most w ↦ rw (w.extras-is, w.waiting-is) c.loop-declared.invariant.splits
     ] in
-    let cubes : put.cubes ++ filter_map (cubes_in book) (declared_in waiting) ≡ filter_map (cubes_in book) (take i declarations) = elim c.if-len-most.branch [
+    let cubes : put.cubes.items ++ filter_map (cubes_in book) (declared_in waiting) ≡ filter_map (cubes_in book) (take i declarations) = elim c.if-len-most.branch [
       | then-len-most+in_ok-put_each w ↦
           rw (w.extras-is, w.waiting-is, w.replace-all.ensures.after, w.new-then-len-most.ensures.items)
-          (append-nil w.put_each.new.extras.cubes ∙ w.in_ok-put_each.ensures.cubes ∙ ap (λ (v : Vec Asked Global). c.loop-declared.extras.cubes ++ filter_map (cubes_in book) (declared_in v.items)) w.replace-all.ensures.value ∙ c.loop-declared.invariant.cubes)
+          (append-nil w.put_each.new.extras.cubes.items ∙ w.in_ok-put_each.ensures.cubes ∙ ap (λ (v : Vec Asked Global). c.loop-declared.extras.cubes.items ++ filter_map (cubes_in book) (declared_in v.items)) w.replace-all.ensures.value ∙ c.loop-declared.invariant.cubes)
       | else-len-most w ↦ rw (w.extras-is, w.waiting-is) c.loop-declared.invariant.cubes
     ] in
     let asked : All fits waiting = elim c.if-len-most.branch [
@@ -55,16 +55,16 @@ loop-declared-preserved g c =
           let own = rw w.in-Some.is at c.in_ok-asked.ensures.asked in
           let same = rw w.in-Some.is at c.in_ok-asked.ensures.declared in
           record {
-            splits = rw w.waiting-is (kept_waiting (split_in book) declarations i declared put.splits waiting w.push.new.self.items one low c.declared-item.is splits w.in_ok-push.ensures.items same);
-            cubes = rw w.waiting-is (kept_waiting (cubes_in book) declarations i declared put.cubes waiting w.push.new.self.items one low c.declared-item.is cubes w.in_ok-push.ensures.items same);
+            splits = rw w.waiting-is (kept_waiting (split_in book) declarations i declared put.splits.items waiting w.push.new.self.items one low c.declared-item.is splits w.in_ok-push.ensures.items same);
+            cubes = rw w.waiting-is (kept_waiting (cubes_in book) declarations i declared put.cubes.items waiting w.push.new.self.items one low c.declared-item.is cubes w.in_ok-push.ensures.items same);
             asked = rw (w.waiting-is, w.in_ok-push.ensures.items) (All-push fits waiting one asked own);
             looks = looks;
           }
       | in_default w ↦
           let plain = rw w.in_default.is at c.in_ok-asked.ensures.none in
           record {
-            splits = rw w.waiting-is (kept_none (split_in book) declarations i declared (put.splits ++ filter_map (split_in book) (declared_in waiting)) low c.declared-item.is splits (ap (split_for book declared.view declared.table) plain));
-            cubes = rw w.waiting-is (kept_none (cubes_in book) declarations i declared (put.cubes ++ filter_map (cubes_in book) (declared_in waiting)) low c.declared-item.is cubes (ap (cubes_for book declared.view declared.table) plain));
+            splits = rw w.waiting-is (kept_none (split_in book) declarations i declared (put.splits.items ++ filter_map (split_in book) (declared_in waiting)) low c.declared-item.is splits (ap (split_for book declared.view declared.table) plain));
+            cubes = rw w.waiting-is (kept_none (cubes_in book) declarations i declared (put.cubes.items ++ filter_map (cubes_in book) (declared_in waiting)) low c.declared-item.is cubes (ap (cubes_for book declared.view declared.table) plain));
             asked = rw w.waiting-is asked;
             looks = looks;
           }

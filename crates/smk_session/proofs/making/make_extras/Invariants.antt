@@ -7,8 +7,8 @@ use Rattle.smk_session.proofs.making.make_extras.Given as goal
 
 abbrev pub invariant-loop-declared : goal.invariant-loop-declared
 invariant-loop-declared g l = record {
-  splits : l.extras.splits ++ filter_map (split_in (book_in l.opened)) (declared_in l.waiting.items) ≡ filter_map (split_in (book_in l.opened)) (take l.declared-index l.declared-items);
-  cubes : l.extras.cubes ++ filter_map (cubes_in (book_in l.opened)) (declared_in l.waiting.items) ≡ filter_map (cubes_in (book_in l.opened)) (take l.declared-index l.declared-items);
+  splits : l.extras.splits.items ++ filter_map (split_in (book_in l.opened)) (declared_in l.waiting.items) ≡ filter_map (split_in (book_in l.opened)) (take l.declared-index l.declared-items);
+  cubes : l.extras.cubes.items ++ filter_map (cubes_in (book_in l.opened)) (declared_in l.waiting.items) ≡ filter_map (cubes_in (book_in l.opened)) (take l.declared-index l.declared-items);
   asked : All (IsAsked l.opened.book.now l.opened.tables.now) l.waiting.items;
   looks : l.steps ≤ l.initial.steps + sum_by (looks_of_back (book_in l.opened)) (take l.declared-index l.declared-items);
 }

@@ -20,8 +20,8 @@ loop-made-preserved g c =
     let is : IsMade book at.0 one = subst (MakesAs book at.0) c.in_ok-made.was at.3 in
     rw (length_push c.loop-made.yielded c.in-Some.made)
     (record {
-      splits = kept_put (split_in book) all n at.0 one.split c.args.extras.now.splits c.loop-made.extras.splits c.put_made.new.extras.splits at.1 at.2 c.loop-made.invariant.splits is.split c.in_ok-put_made.ensures.splits;
-      cubes = kept_put (cubes_in book) all n at.0 one.cubes c.args.extras.now.cubes c.loop-made.extras.cubes c.put_made.new.extras.cubes at.1 at.2 c.loop-made.invariant.cubes is.cubes c.in_ok-put_made.ensures.cubes;
+      splits = kept_put (split_in book) all n at.0 one.split c.args.extras.now.splits.items c.loop-made.extras.splits.items c.put_made.new.extras.splits.items at.1 at.2 c.loop-made.invariant.splits is.split c.in_ok-put_made.ensures.splits;
+      cubes = kept_put (cubes_in book) all n at.0 one.cubes c.args.extras.now.cubes.items c.loop-made.extras.cubes.items c.put_made.new.extras.cubes.items at.1 at.2 c.loop-made.invariant.cubes is.cubes c.in_ok-put_made.ensures.cubes;
     })
 
 pub returns-clause-splits : goal.returns-clause-splits
@@ -30,7 +30,7 @@ returns-clause-splits g c =
     let made = c.in_ok-made-items.made-items in
     let given_items = c.into_iter-made-iterator.ensures.into_iter_gives in
     let end = YieldsList-end (YieldsList-from_vec {s = c.into_iter-made-iterator.result} made.items given_items.0 (omega (arith, given_items.1, made.ok))) c.loop-made.yielded c.loop-made.made-iterator c.loop-made.yielded_by c.next.result c.next.new.self c.in-None.is c.next.ensures.steps in
-    kept_all book (split_in book) c.args.all.items made.items (length c.loop-made.yielded) c.args.extras.now.splits c.loop-made.extras.splits c.in_ok-made-items.ensures end.1 c.loop-made.invariant.splits
+    kept_all book (split_in book) c.args.all.items made.items (length c.loop-made.yielded) c.args.extras.now.splits.items c.loop-made.extras.splits.items c.in_ok-made-items.ensures end.1 c.loop-made.invariant.splits
 
 pub returns-clause-cubes : goal.returns-clause-cubes
 returns-clause-cubes g c =
@@ -38,4 +38,4 @@ returns-clause-cubes g c =
     let made = c.in_ok-made-items.made-items in
     let given_items = c.into_iter-made-iterator.ensures.into_iter_gives in
     let end = YieldsList-end (YieldsList-from_vec {s = c.into_iter-made-iterator.result} made.items given_items.0 (omega (arith, given_items.1, made.ok))) c.loop-made.yielded c.loop-made.made-iterator c.loop-made.yielded_by c.next.result c.next.new.self c.in-None.is c.next.ensures.steps in
-    kept_all book (cubes_in book) c.args.all.items made.items (length c.loop-made.yielded) c.args.extras.now.cubes c.loop-made.extras.cubes c.in_ok-made-items.ensures end.1 c.loop-made.invariant.cubes
+    kept_all book (cubes_in book) c.args.all.items made.items (length c.loop-made.yielded) c.args.extras.now.cubes.items c.loop-made.extras.cubes.items c.in_ok-made-items.ensures end.1 c.loop-made.invariant.cubes

@@ -6,6 +6,6 @@ use Rattle.smk_session.proofs.making.put_each.Given as goal
 
 abbrev pub invariant-loop-made : goal.invariant-loop-made
 invariant-loop-made g l = record {
-  splits : l.extras.splits ≡ l.initial.extras.splits ++ filter_map (split_in (book_in l.opened)) (take (length l.yielded) (declared_in l.fn.all.items));
-  cubes : l.extras.cubes ≡ l.initial.extras.cubes ++ filter_map (cubes_in (book_in l.opened)) (take (length l.yielded) (declared_in l.fn.all.items));
+  splits : l.extras.splits.items ≡ l.initial.extras.splits.items ++ filter_map (split_in (book_in l.opened)) (take (length l.yielded) (declared_in l.fn.all.items));
+  cubes : l.extras.cubes.items ≡ l.initial.extras.cubes.items ++ filter_map (cubes_in (book_in l.opened)) (take (length l.yielded) (declared_in l.fn.all.items));
 }

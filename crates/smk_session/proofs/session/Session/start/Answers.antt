@@ -24,11 +24,11 @@ returns-clause-none g c = subst (λ (T : List Relation). first_view_fault (workb
 pub invariant_of-result : goal.invariant_of-result
 invariant_of-result g c =
     let begun = c.in_ok-begun.begun in
-    session_begun c.args.book _ c.args.tables.items begun.views.items begun.extras.splits begun.extras.cubes c.new.result begun.contents.items c.args.mode c.args.workers
+    session_begun c.args.book _ c.args.tables.items begun.views.items begun.extras.splits.items begun.extras.cubes.items c.new.result begun.contents.items c.args.mode c.args.workers
     c.as_slice.ensures.value c.in_ok-begun.ensures.opened c.in_ok-begun.ensures.extras c.new.ensures c.in_ok-begun.ensures.contents c.requires.some_workers c.requires.few_workers
 
 pub returns-clause-keeps : goal.returns-clause-keeps
 returns-clause-keeps g c =
     let begun = c.in_ok-begun.begun in
-    session_begun c.args.book _ c.args.tables.items begun.views.items begun.extras.splits begun.extras.cubes c.new.result begun.contents.items c.args.mode c.args.workers
+    session_begun c.args.book _ c.args.tables.items begun.views.items begun.extras.splits.items begun.extras.cubes.items c.new.result begun.contents.items c.args.mode c.args.workers
     c.as_slice.ensures.value c.in_ok-begun.ensures.opened c.in_ok-begun.ensures.extras c.new.ensures c.in_ok-begun.ensures.contents c.requires.some_workers c.requires.few_workers

@@ -1,7 +1,7 @@
 use Rattle.std.proofs.Common.{subst, sym, get_or, arith}
 use Rattle.smk_session.specs.Refreshed.{IsEvaluated}
 use Rattle.smk_session.proofs.Refreshing.{zip_of}
-use Rattle.smk_session.proofs.evaluating.evaluate_at_once.Goals as goal
+use Rattle.smk_session.proofs.evaluating.evaluate_each.Goals as goal
 
 pub returns : goal.returns
 returns g c =
