@@ -253,12 +253,12 @@ place_found q p (x ∷ xs) zero d low at none asks is = rw (ap q (sym at) ∙ as
 place_found q p (x ∷ xs) (suc i) d low at none asks is = elim (cases_Bool (q x)) [
   | inr out ↦ (let so_far = rw out at none in rw out (place_found q p xs i d (omega (arith, low)) at so_far asks is))
   | inl inside ↦ elim (cases_Bool (p x)) [
-      | inl here ↦ (let so_far = rw (inside, here) at none in absurd (omega (arith, so_far)))
-      | inr past ↦
-          (let so_far = rw (inside, past) at none in
-          let rest = place_found q p xs i d (omega (arith, low)) at (omega (arith, so_far)) asks is in
-          rw (inside, past) (omega (arith, rest)))
-    ]
+    | inl here ↦ (let so_far = rw (inside, here) at none in absurd (omega (arith, so_far)))
+    | inr past ↦
+        (let so_far = rw (inside, past) at none in
+        let rest = place_found q p xs i d (omega (arith, low)) at (omega (arith, so_far)) asks is in
+        rw (inside, past) (omega (arith, rest)))
+  ]
 ]
 
 pub both_true : (a b : Bool) → a ≡ true → b ≡ true → (a && b) ≡ true

@@ -160,7 +160,10 @@ fn split_named<'a>(pair: &'a Pair<'_>, name: &Text) -> Result<(usize, &'a Split)
     match column_place(pair.catalog, pair.table, name) {
         Some(c) => {
             let declarations = pair.catalog.backs.as_slice();
-            match pair.splits.get(split_place(declarations, pair.view, pair.table, c)) {
+            match pair
+                .splits
+                .get(split_place(declarations, pair.view, pair.table, c))
+            {
                 Some(split) => Ok((c, split)),
                 None => Err(Turned::Refused(Refusal::NoSplit)),
             }
@@ -174,7 +177,10 @@ fn cubes_declared<'a>(pair: &'a Pair<'_>) -> Result<&'a Cubes, Turned>
     ensures { MatchResult result (λ cubes. cubes_asked pair.now ≡ Ok cubes.now) (λ turned. Turns turned (cubes_asked pair.now)) }
 {
     let declarations = pair.catalog.backs.as_slice();
-    match pair.cubes.get(cubes_place(declarations, pair.view, pair.table)) {
+    match pair
+        .cubes
+        .get(cubes_place(declarations, pair.view, pair.table))
+    {
         Some(cubes) => Ok(cubes),
         None => Err(Turned::Refused(Refusal::NoGroup)),
     }

@@ -13,6 +13,6 @@ loop-part-preserved c =
     let part = c.part-item.result in
     let from = c.loop-part.from in (
       c.in_ok-push_entries.ensures ∙ ap (λ of. c.loop-part.of.items ++ map (λ class. get_or c.args.table.now (from + class) 0) of) c.of.ensures
-      ∙ entries_more parts i part c.loop-part-test.true c.part-item.is from c.loop-part.invariant.1 c.args.table.now c.loop-part.of.items c.loop-part.invariant.0,
+          ∙ entries_more parts i part c.loop-part-test.true c.part-item.is from c.loop-part.invariant.1 c.args.table.now c.loop-part.of.items c.loop-part.invariant.0,
       rw c.firsts.ensures (keys_more parts i part c.loop-part-test.true c.part-item.is from c.loop-part.invariant.1),
     )
