@@ -1,7 +1,11 @@
 use Rattle.std.proofs.Common.{subst, sym, get_or, arith}
+use denote.Param.Send.{sendable}
 use Rattle.smk_session.specs.Refreshed.{IsEvaluated}
 use Rattle.smk_session.proofs.Refreshing.{zip_of}
 use Rattle.smk_session.proofs.evaluating.evaluate_each.Goals as goal
+
+pub map_vec-requires-send-J : goal.map_vec-requires-send-J
+map_vec-requires-send-J g c = search sendable depth 30
 
 pub returns : goal.returns
 returns g c =
