@@ -1,5 +1,5 @@
 -- A conversation over a book: what is said of each line that is heard, and where the line leaves the session.
-use Rattle.std.specs.Prelude.{◌≡◌, ◌≤◌, ◌<◌, ◌+◌, ⊤, ℕ, Bool, true, false, ◌&&◌, cond, nat_eq, List, [], ◌∷◌, ◌++◌, length, drop, map, Option, Some, None, Result, Ok, Err, codes}
+use Rattle.std.specs.Prelude.{◌≡◌, ◌⊎◌, ◌≤◌, ◌<◌, ◌+◌, ⊤, ℕ, Bool, true, false, ◌&&◌, cond, nat_eq, List, [], ◌∷◌, ◌++◌, length, drop, map, Option, Some, None, Result, Ok, Err, codes}
 use Rattle.std.specs.List.{filter, flat_map, scan}
 use Rattle.smk_base.specs.CatalogImage.{CatalogImage}
 use Rattle.smk_base.specs.Marks.{after_marks}
@@ -21,12 +21,12 @@ pub record HeardLine : Type 0 where
   pub reading : Reading
   pub rows : List Row
 
--- a turn: a line that is answered as that of a script; an `append` to a table of the book whose file has a fault; an `append` where nothing may be appended; a line that memory was wanting for; and one that is too long
+-- a turn: a line that is answered as that of a script; an `append` to a table of the book whose file has a fault; an `append` where nothing may be appended; a line that memory was wanting for, as it would have been answered; and one that is too long
 pub data TalkTurn : Type 0 where
   Replied : HeardLine → TalkTurn
   Unbrought : List ℕ → Fault → TalkTurn
   ReadOnly : List ℕ → TalkTurn
-  Forgone : List ℕ → TalkTurn
+  Forgone : HeardLine → TalkTurn
   TooLong : List ℕ → TalkTurn
 
 -- the line that was heard
@@ -34,7 +34,7 @@ abbrev pub line_of : TalkTurn → List ℕ
 line_of (Replied heard) = heard.bytes
 line_of (Unbrought bytes fault) = bytes
 line_of (ReadOnly bytes) = bytes
-line_of (Forgone bytes) = bytes
+line_of (Forgone heard) = heard.bytes
 line_of (TooLong bytes) = bytes
 
 -- where a conversation stands: the state of the session, and how many lines were heard
@@ -59,24 +59,28 @@ forgone_text = line (codes "refused no memory" ∷ [])
 abbrev pub too_long_text : List ℕ
 too_long_text = line (codes "refused line too long" ∷ [])
 
--- what a line comes to that is refused by such a text; looks that were made before memory was wanting are not in it
-abbrev pub refused_told : List ℕ → Told
-refused_told text = record { text = text; replies = 1; refused = 1; unread = 0; looks = 0 }
+-- what a line comes to that is refused by such a text, after at most so many looks
+abbrev pub refused_told : List ℕ → ℕ → Told
+refused_told text looks = record { text = text; replies = 1; refused = 1; unread = 0; looks = looks }
 
--- what a turn comes to: a line that is answered, to what it does in a script, where its number is that of the lines heard
+-- what a line comes to in a script, where its number is that of the lines heard
+abbrev pub heard_told : BookSaid → TalkState → HeardLine → Told
+heard_told said state heard = line_told said state.session (state.heard + 1) heard.rows heard.reading
+
+-- what a turn comes to. Memory may be wanting at any of the looks that the line would have made
 abbrev pub turn_told : BookSaid → TalkState → TalkTurn → Told
-turn_told said state (Replied heard) = line_told said state.session (state.heard + 1) heard.rows heard.reading
-turn_told said state (Unbrought bytes fault) = refused_told (unbrought_text fault)
-turn_told said state (ReadOnly bytes) = refused_told read_only_text
-turn_told said state (Forgone bytes) = refused_told forgone_text
-turn_told said state (TooLong bytes) = refused_told too_long_text
+turn_told said state (Replied heard) = heard_told said state heard
+turn_told said state (Unbrought bytes fault) = refused_told (unbrought_text fault) 0
+turn_told said state (ReadOnly bytes) = refused_told read_only_text 0
+turn_told said state (Forgone heard) = refused_told forgone_text (heard_told said state heard).looks
+turn_told said state (TooLong bytes) = refused_told too_long_text 0
 
 -- the state of the session after a turn: only a line that is answered changes it
 abbrev pub session_after : BookSaid → State → TalkTurn → State
 session_after said state (Replied heard) = state_after said state heard.rows heard.reading
 session_after said state (Unbrought bytes fault) = state
 session_after said state (ReadOnly bytes) = state
-session_after said state (Forgone bytes) = state
+session_after said state (Forgone heard) = state
 session_after said state (TooLong bytes) = state
 
 abbrev pub turn_after : BookSaid → TalkState → TalkTurn → TalkState
@@ -155,7 +159,7 @@ pub record IsAppend (text : List ℕ) : Type 0 where
   pub reads : IsReading text reading
   pub appends : asks_append reading ≡ true
 
--- a turn that may be one in a state, by whether nothing may be appended and by what comes of files: a line of the grammar is answered as what it says. Any line may be one that memory was wanting for
+-- a turn that may be one in a state, by whether nothing may be appended and by what comes of files: a line of the grammar is answered as what it says. Any line may be one that memory was wanting for, before its rows were there or behind that
 abbrev pub FitsTalk : Bool → CatalogImage → (Option TableInfo → Result (List Row) Fault → Type 0) → TalkState → TalkTurn → Type 0
 FitsTalk read_only catalog Brings state (Replied heard) =
     (length heard.bytes ≤ line_limit) × IsReading (text_read state.heard heard.bytes) heard.reading
@@ -163,7 +167,8 @@ FitsTalk read_only catalog Brings state (Replied heard) =
 FitsTalk read_only catalog Brings state (Unbrought bytes fault) =
     (length bytes ≤ line_limit) × IsUnbrought catalog Brings (text_read state.heard bytes) fault × (read_only ≡ false)
 FitsTalk read_only catalog Brings state (ReadOnly bytes) = (length bytes ≤ line_limit) × IsAppend (text_read state.heard bytes) × (read_only ≡ true)
-FitsTalk read_only catalog Brings state (Forgone bytes) = ⊤
+FitsTalk read_only catalog Brings state (Forgone heard) =
+    IsReading (text_read state.heard heard.bytes) heard.reading × ((heard.rows ≡ []) ⊎ Brings (appended_at catalog heard.reading) (Ok heard.rows))
 FitsTalk read_only catalog Brings state (TooLong bytes) = line_limit < length bytes
 
 -- what lines say, and the rows that they bring, line by line

@@ -11,8 +11,11 @@ use Rattle.smk_model.specs.Reports.{is_turned_down}
 use Rattle.smk_model.specs.Conversation.{HeardLine, TalkTurn, Replied, Unbrought, ReadOnly, Forgone, TooLong, unbrought_text, talk_texts, talk_said, talk_report, rows_brought, text_read}
 
 -- the line's bytes don't matter to what is said of it
+abbrev pub reading_heard : Reading → HeardLine
+reading_heard reading = record { bytes = []; reading = reading; rows = [] }
+
 abbrev pub heard_as : Reading → TalkTurn
-heard_as reading = Replied (record { bytes = []; reading = reading; rows = [] })
+heard_as reading = Replied (reading_heard reading)
 
 abbrev pub heard_append : HeardLine
 heard_append = record { bytes = codes "append t \"more.csv\""; reading = append_line (codes "t"); rows = more_rows }
@@ -25,7 +28,7 @@ small_talk =
     ∷ TooLong []
     ∷ Replied heard_append
     ∷ heard_as (Unread 3)
-    ∷ Forgone []
+    ∷ Forgone heard_append
     ∷ heard_as (plain_reading (lines.Show (codes "g")))
     ∷ []
 

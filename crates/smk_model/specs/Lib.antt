@@ -20,6 +20,7 @@ pub mod Opening
 pub mod ReplyLaws
 pub mod SessionExamples
 pub mod Words
+pub mod TalkWords
 pub mod Asks
 pub mod AskTexts
 pub mod AskLaws
@@ -73,3 +74,4 @@ pub mod AppendLaws
 pub mod Conversation
 pub mod ConversationLaws
 pub mod ConversationExamples
+pub mod TalkStarts

@@ -47,9 +47,12 @@ smoke_app = with_rule (with_rule (with_rule (with_rule (with_rule (on_top (λ s.
 abbrev pub Values : Type 0
 Values = List ℕ → Option (List ℕ)
 
--- those that clap gives where it takes the words
+-- those that clap gives where it takes the words for a command
+abbrev pub value_given_to : App → List (List ℕ) → Values
+value_given_to app words name = first_of name (matches_of app words)
+
 abbrev pub value_given : List (List ℕ) → Values
-value_given words name = first_of name (matches_of smoke_app words)
+value_given words = value_given_to smoke_app words
 
 -- the mode of a name
 abbrev pub mode_named : List ℕ → Option Mode

@@ -1,0 +1,73 @@
+-- How a conversation starts, by its words and by what the files hold: over what it reads, or with its first fault.
+use Rattle.std.specs.Prelude.{◌≡◌, ◌⊎◌, ⊤, ⊥, ℕ, List, [], ◌∷◌, Option, Some, None, Result, Ok, Err, codes}
+use Rattle.smk_base.specs.declared.catalog.TableInfo.{TableInfo}
+use Rattle.smk_base.specs.declared.fault.Fault.{Fault}
+use Rattle.smk_base.specs.declared.fault.Fault.TheVariants.{Usage, Unread}
+use Rattle.smk_model.specs.FaultTexts.{fault_text}
+use Rattle.smk_model.specs.Opening.{ViewFault, first_view_fault, fault_named}
+use Rattle.smk_model.specs.Outcome.{Held, Inputs, ReadsFiles, NamesAsked, UntoldCause, WhereTold, book_of, source_of, load}
+use Rattle.smk_model.specs.TalkWords.{TalkCall, talk_call_of, talk_source}
+use Rattle.smk_model.specs.Texts.{line}
+use Rattle.smk_model.specs.Values.{Row}
+use Rattle.smk_model.specs.Words.{TextSource, Files, Demo}
+
+-- what is read before the first line, or its first fault: the book and its tables, as by a run without a script
+pub data ReadsTalk (words : List (List ℕ)) (held : Held) : Result Inputs Fault → Type 0 where
+  unusable : talk_call_of words ≡ None → ReadsTalk words held (Err Usage)
+  usable : {call : TalkCall} {answer : Result Inputs Fault} → talk_call_of words ≡ Some call → ReadsFiles (source_of call.texts held) (book_of call.texts) None answer → ReadsTalk words held answer
+
+-- what was read, unless a node of a view has too many rows, or too many pairs with a table that the view needs
+abbrev pub read_unless : Inputs → Option ViewFault → Result Inputs Fault
+read_unless given (Some found) = Err (fault_named given.book.catalog found)
+read_unless given None = Ok given
+
+abbrev pub started : Inputs → Result Inputs Fault
+started given = read_unless given (first_view_fault given.book)
+
+-- what a conversation starts over, or the first fault
+pub data StartsTalk (words : List (List ℕ)) (held : Held) : Result Inputs Fault → Type 0 where
+  unreadable : {fault : Fault} → ReadsTalk words held (Err fault) → StartsTalk words held (Err fault)
+  read : {inputs : Inputs} {answer : Result Inputs Fault} → ReadsTalk words held (Ok inputs) → started inputs ≡ answer → StartsTalk words held answer
+
+-- a fault that a read may say since it failed; a demo reads no file
+abbrev pub NamesReadFirst : Option TextSource → Held → Fault → Type 0
+NamesReadFirst (Some (Files book script)) held fault = NamesAsked held book None fault
+NamesReadFirst (Some (Demo n)) held fault = ⊥
+NamesReadFirst None held fault = ⊥
+
+-- the cause of a fault: it is what the conversation starts with, or a read failed, which the count of faults shows
+abbrev pub HasTalkCause : List (List ℕ) → Option Held → Type 0 → Fault → Type 0
+HasTalkCause words held rose fault = WhereTold held (talk_source words) (UntoldCause rose fault) (λ held. StartsTalk words held (Err fault) ⊎ (rose × NamesReadFirst (talk_source words) held fault))
+
+-- these inputs are those that it starts over
+abbrev pub IsTalkStart : List (List ℕ) → Option Held → Inputs → Type 0
+IsTalkStart words held given = WhereTold held (talk_source words) ⊤ (λ held. StartsTalk words held (Ok given))
+
+-- the file of this table couldn't be read
+abbrev pub IsUnreadFile : TableInfo → Result (List Row) Fault → Type 0
+IsUnreadFile table brought = brought ≡ Err (Unread table.file)
+
+-- what comes of the file of a line where the files don't tell what they hold
+abbrev pub BringsUntold : Type 0 → Result (List Row) Fault → Type 0
+BringsUntold rose (Ok rows) = ⊤
+BringsUntold rose (Err fault) = UntoldCause rose fault
+
+-- what comes of the file of a line, if it appends one: what the files hold, which are those that the book was found in, or it can't be read, and the count of faults shows that; a line that reads no file brings no rows
+abbrev pub TalkBrings : Option TextSource → Option Held → Type 0 → Option TableInfo → Result (List Row) Fault → Type 0
+TalkBrings source held rose None brought = brought ≡ Ok []
+TalkBrings None held rose (Some table) brought = ⊥
+TalkBrings (Some (Files book script)) None rose (Some table) brought = BringsUntold rose brought
+TalkBrings (Some (Files book script)) (Some held) rose (Some table) brought = (load held table ≡ brought) ⊎ (rose × IsUnreadFile table brought)
+TalkBrings (Some (Demo n)) held rose (Some table) brought = load (source_of (Demo n) (λ name. None)) table ≡ brought
+
+-- what is said of words that call for no conversation, and where no line can be heard
+abbrev pub talk_usage_text : List ℕ
+talk_usage_text = line (codes "usage: smoke_live [--mode inject|defer] [--workers 1..64] [--read-only] (BOOK | --demo N)" ∷ [])
+
+abbrev pub unheard_text : List ℕ
+unheard_text = line (codes "smoke_live: cannot read standard input" ∷ [])
+
+-- what is said of a fault: what a run says of it, but for its words
+abbrev pub talk_fault_text : Fault → List ℕ
+talk_fault_text Usage = talk_usage_text
+talk_fault_text fault = fault_text fault
