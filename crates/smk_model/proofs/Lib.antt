@@ -79,3 +79,4 @@ pub mod AppendExamples
 pub mod Appends
 pub mod Conversation
 pub mod ConversationExamples
+pub mod TalkStarts

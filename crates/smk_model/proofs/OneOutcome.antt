@@ -53,14 +53,14 @@ same_file {A} {held} {name} {says} {a} {b} one (read {bytes} h p) (read {bytes =
     let e : others ≡ bytes = cc in
     one bytes a b p (subst (λ l. says l b) e q)
 
-same_opened : {held : Held} {book : List ℕ} {a b : Result BookSaid Fault} → OpensBook held book a → OpensBook held book b → a ≡ b
+pub same_opened : {held : Held} {book : List ℕ} {a b : Result BookSaid Fault} → OpensBook held book a → OpensBook held book b → a ≡ b
 same_opened p q = same_file (λ bytes x y h k. same_book h k) p q
 
 same_read : {held : Held} {s : Option (List ℕ)} {a b : Result (List Reading) Fault} → OpensScript held s a → OpensScript held s b → a ≡ b
 same_read no_script no_script = refl
 same_read (a_script p) (a_script q) = same_file (λ bytes x y h k. same_script h k) p q
 
-same_files : {held : Held} {book : List ℕ} {script : Option (List ℕ)} {a b : Result Inputs Fault} → ReadsFiles held book script a → ReadsFiles held book script b → a ≡ b
+pub same_files : {held : Held} {book : List ℕ} {script : Option (List ℕ)} {a b : Result Inputs Fault} → ReadsFiles held book script a → ReadsFiles held book script b → a ≡ b
 same_files (no_book b) (no_book c) = let o = same_opened b c in cc
 same_files (no_book b) (no_tables c u) = let o = same_opened b c in absurd (cc)
 same_files (no_book b) (no_readings c u r) = let o = same_opened b c in absurd (cc)

@@ -1,12 +1,14 @@
 -- What a conversation says is what a run writes.
-use Rattle.std.specs.Prelude.{◌≡◌, ◌++◌, ℕ, List, Some, Ok, map}
+use Rattle.std.specs.Prelude.{◌≡◌, ◌++◌, ℕ, List, Some, None, Result, Ok, map}
 use Rattle.std.specs.List.{concat, flat_map, scan}
 use Rattle.smk_base.specs.Marks.{after_marks}
+use Rattle.smk_base.specs.declared.fault.Fault.{Fault}
 use Rattle.smk_model.specs.Conversation.{HeardLine, TalkTurn, Replied, first_talk_state, turn_after, turn_block, opening_block, talk_report, talk_texts, talk_said, readings_of, rows_brought, AreHeard, texts_read}
 use Rattle.smk_model.specs.Lines.{lines}
 use Rattle.smk_model.specs.Outcome.{Held, Inputs, ReadsFiles, content_of}
 use Rattle.smk_model.specs.Reports.{report_of}
 use Rattle.smk_model.specs.Session.{Workbook}
+use Rattle.smk_model.specs.TalkStarts.{StartsTalk}
 
 -- what is said, put together and block by block, and what a run of the same lines has in its report
 pub record TalksAsReported : Type 0 where
@@ -23,3 +25,8 @@ pub record TalksAsReported : Type 0 where
   pub run : (held : Held) (book script bytes : List ℕ) (given : Inputs) (heard : List HeardLine)
       → ReadsFiles held book (Some script) (Ok given) → content_of held script ≡ Ok bytes → lines (after_marks bytes) ≡ texts_read 0 heard → AreHeard held given.book.catalog 0 heard
       → talk_report given.book given.fds (map Replied heard) ≡ report_of given.book given.fds given.added given.readings
+
+-- words and files have one start of a conversation, and it is over the workbook of a run over the same book
+pub record OneTalkStart : Type 0 where
+  pub one : (words : List (List ℕ)) (held : Held) (a b : Result Inputs Fault) → StartsTalk words held a → StartsTalk words held b → a ≡ b
+  pub same : (held : Held) (book script : List ℕ) (first given : Inputs) → ReadsFiles held book None (Ok first) → ReadsFiles held book (Some script) (Ok given) → (first.book ≡ given.book) × (first.fds ≡ given.fds)

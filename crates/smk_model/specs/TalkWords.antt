@@ -1,5 +1,5 @@
 -- The words of a conversation: what clap takes, by its own rule for this command, and what it is asked for.
-use Rattle.std.specs.Prelude.{ℕ, Bool, false, List, Option, Some, None, option_map, codes}
+use Rattle.std.specs.Prelude.{ℕ, Bool, true, false, List, Option, Some, None, option_map, codes}
 use Rattle.std.specs.Str.{bytes_eq}
 use Rattle.clap.specs.Words.{App, Rule, new_app, new_rule, with_rule, fault_of}
 use Rattle.clap.specs.Simple.{on_top}

@@ -1,12 +1,18 @@
 //! Laws of conversations. Each is an empty function whose contract is the law.
 
 ghost use Rattle.smk_model.specs.ConversationExamples.{ConversationsHold};
-ghost use Rattle.smk_model.specs.ConversationLaws.{TalksAsReported};
+ghost use Rattle.smk_model.specs.ConversationLaws.{TalksAsReported, OneTalkStart};
 
 /// What a conversation says is, but for its empty lines, what a run writes.
 #[tactic(auto, using(crate::proofs::Conversation::talks_as_reported))]
 pub fn talks_as_reported()
     ensures { TalksAsReported }
+{}
+
+/// Words and files have one start of a conversation, and it is over the workbook of a run over the same book.
+#[tactic(auto, using(crate::proofs::TalkStarts::one_talk_start))]
+pub fn one_talk_start()
+    ensures { OneTalkStart }
 {}
 
 /// A conversation over a book of one table and one view, line by line.
