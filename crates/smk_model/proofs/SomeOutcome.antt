@@ -23,7 +23,7 @@ use Rattle.smk_model.proofs.Closing.{book_finishes, any_finishes}
 pub faultless_texts_spell : FaultlessTextsSpell
 faultless_texts_spell text e = faultless_have_trees.book (tokens text) (book_finishes text e) e
 
-some_line : (text : List ℕ) → (reading : Reading) × IsReading text reading
+pub some_line : (text : List ℕ) → (reading : Reading) × IsReading text reading
 some_line text = by (head_of (tokens text)).kind refl (any_fault (tokens text)) refl
   where
     by : (k : TokenKind) → (head_of (tokens text)).kind ≡ k → (f : Option BookFault) → any_fault (tokens text) ≡ f → (reading : Reading) × IsReading text reading

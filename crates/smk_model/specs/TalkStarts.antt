@@ -3,9 +3,10 @@ use Rattle.std.specs.Prelude.{◌≡◌, ◌⊎◌, ⊤, ℕ, List, [], ◌∷�
 use Rattle.smk_base.specs.declared.catalog.TableInfo.{TableInfo}
 use Rattle.smk_base.specs.declared.fault.Fault.{Fault}
 use Rattle.smk_base.specs.declared.fault.Fault.TheVariants.{Usage, Unread}
+use Rattle.smk_model.specs.Demo.{demo_of}
 use Rattle.smk_model.specs.FaultTexts.{fault_text}
 use Rattle.smk_model.specs.Opening.{ViewFault, first_view_fault, fault_named}
-use Rattle.smk_model.specs.Outcome.{Held, Inputs, ReadsFiles, NamesAsked, UntoldCause, WhereTold, book_of, source_of, load}
+use Rattle.smk_model.specs.Outcome.{Held, Inputs, ReadsFiles, NamesAsked, UntoldCause, WhereTold, book_of, source_of, text_named, load}
 use Rattle.smk_model.specs.TalkWords.{TalkCall, talk_call_of, talk_source}
 use Rattle.smk_model.specs.Texts.{line}
 use Rattle.smk_model.specs.Values.{Row}
@@ -52,13 +53,17 @@ abbrev pub BringsUntold : Type 0 → Result (List Row) Fault → Type 0
 BringsUntold rose (Ok rows) = ⊤
 BringsUntold rose (Err fault) = UntoldCause rose fault
 
--- what comes of the file of a line, if it appends one: what the files hold, which are those that the book was found in, or it can't be read, and the count of faults shows that; a line that reads no file brings no rows
+-- what comes of the file of a line, if it appends one: what the files hold, or it can't be read, and the count of faults shows that; a line that reads no file brings no rows
+abbrev pub BringsBy : Option Held → Type 0 → Option TableInfo → Result (List Row) Fault → Type 0
+BringsBy held rose None brought = brought ≡ Ok []
+BringsBy None rose (Some table) brought = BringsUntold rose brought
+BringsBy (Some held) rose (Some table) brought = (load held table ≡ brought) ⊎ (rose × IsUnreadFile table brought)
+
+-- the files of lines are those that the book was found in: a demo's are its texts, which are read without a fault
 abbrev pub TalkBrings : Option TextSource → Option Held → Type 0 → Option TableInfo → Result (List Row) Fault → Type 0
-TalkBrings source held rose None brought = brought ≡ Ok []
-TalkBrings None held rose (Some table) brought = ⊥
-TalkBrings (Some (Files book script)) None rose (Some table) brought = BringsUntold rose brought
-TalkBrings (Some (Files book script)) (Some held) rose (Some table) brought = (load held table ≡ brought) ⊎ (rose × IsUnreadFile table brought)
-TalkBrings (Some (Demo n)) held rose (Some table) brought = load (source_of (Demo n) (λ name. None)) table ≡ brought
+TalkBrings None held rose table brought = ⊥
+TalkBrings (Some (Files book script)) held rose table brought = BringsBy held rose table brought
+TalkBrings (Some (Demo n)) held rose table brought = BringsBy (Some (text_named (demo_of n))) ⊥ table brought
 
 -- what is said of words that call for no conversation, and where no line can be heard
 abbrev pub talk_usage_text : List ℕ
