@@ -2,7 +2,6 @@
 use Rattle.std.proofs.Common.{◌≡◌, ◌∙◌, ◌<◌, ◌≤◌, ℕ, ℤ, pos, suc, ◌+◌, true, false, Bool, List, [], ◌∷◌, ◌++◌, length, map, refl, sym, ap, subst, arith, All, get_or, nat_eq, filter}
 use Rattle.std.proofs.lemmas.List.{length-map, get_or-map, get_or_default, append-nil}
 use Rattle.std.proofs.lemmas.List.Elements.{All-map, All-weaker}
-use Rattle.std.proofs.lemmas.Int.{ints}
 use Rattle.std.proofs.lemmas.Bool.{eq-eqb, ne_eqb}
 use Rattle.smk_keys.specs.Classes.{ClassesImage}
 use Rattle.smk_base.specs.declared.value.Value.{Value}
@@ -21,29 +20,24 @@ use Rattle.smk_model.specs.Classes.{classes, first_places}
 use Rattle.smk_model.proofs.Places.{map_map, map_upto, map_upto_agree, same_below, places_below}
 use Rattle.smk_model.proofs.Firsts.{sub_key}
 use Rattle.smk_model.proofs.Classes.{classes_are, first_below}
-use Rattle.smk_body.specs.Halves.{AreNumbered, best_place, better, class_places}
+use Rattle.smk_body.specs.Halves.{AreNumbered, best_place, better, class_places, class_sizes}
 use Rattle.smk_body.proofs.Fitting.{value_fits, within_more, total_within, All-head, All-rest}
 use Rattle.smk_body.proofs.Folding.{length_places-le, int_at, best_of_class}
 use Rattle.smk_body.proofs.Classing.{first_at, length_firsts}
 
--- a column of ints
-pub int_rows : (F : ℕ → ℤ) (G : ℕ → Value) (n : ℕ) → ((p : ℕ) → values.Int (F p) ≡ G p) → map (λ (z : ℤ). values.Int z ∷ []) (map F (upto n)) ≡ map (λ p. G p ∷ []) (upto n)
-int_rows F G n same = map_map (λ (z : ℤ). values.Int z ∷ []) F (upto n) ∙ map_upto_agree (λ p. values.Int (F p) ∷ []) (λ p. G p ∷ []) n (λ p h. ap (λ (v : Value). v ∷ []) (same p))
-
-pub counted_rows : (rows : List Row) (of : List ℕ) (n k : ℕ) → map (λ (z : ℤ). values.Int z ∷ []) (map (λ p. pos (length (class_places of n p))) (upto k)) ≡ map (λ p. aggregate (sub rows (class_places of n p)) Count ∷ []) (upto k)
-counted_rows rows of n k = int_rows (λ p. pos (length (class_places of n p))) (λ p. aggregate (sub rows (class_places of n p)) Count) k (λ p. ap (λ m. values.Int (pos m)) (sym (length-map (class_places of n p) (row_at rows))))
+-- the sizes of classes, as a column
+pub counted_rows : (rows : List Row) (classes : ClassesImage) (n : ℕ) (sizes : List ℕ) → sizes ≡ class_sizes classes → length classes.of ≡ n
+    → map (λ (m : ℕ). values.Int (pos m) ∷ []) sizes ≡ map (λ p. aggregate (sub rows (class_places classes.of n p)) Count ∷ []) (upto (length classes.firsts))
+counted_rows rows classes n sizes e long =
+    ap (map (λ (m : ℕ). values.Int (pos m) ∷ [])) e ∙ map_map (λ (m : ℕ). values.Int (pos m) ∷ []) (λ p. length (class_places classes.of (length classes.of) p)) (upto (length classes.firsts))
+    ∙ map_upto_agree (λ p. values.Int (pos (length (class_places classes.of (length classes.of) p))) ∷ []) (λ p. aggregate (sub rows (class_places classes.of n p)) Count ∷ []) (length classes.firsts) (λ p h.
+    ap (λ m. values.Int (pos (length (class_places classes.of m p))) ∷ []) long ∙ ap (λ m. values.Int (pos m) ∷ []) (sym (length-map (class_places classes.of n p) (row_at rows))))
 
 pub summed_rows : (rows : List Row) (c : ℕ) (of : List ℕ) (n k : ℕ) → map (λ (z : ℤ). values.Int z ∷ []) (map (λ p. total (map (λ i. number_of (value_at (row_at rows i) c)) (class_places of n p))) (upto k)) ≡ map (λ p. aggregate (sub rows (class_places of n p)) (Sum c) ∷ []) (upto k)
 summed_rows rows c of n k =
-    int_rows (λ p. total (map (λ i. number_of (value_at (row_at rows i) c)) (class_places of n p))) (λ p. aggregate (sub rows (class_places of n p)) (Sum c)) k
-    (λ p. ap (λ (ns : List ℤ). values.Int (total ns)) (sym (map_map (λ (row : Row). number_of (value_at row c)) (row_at rows) (class_places of n p))))
-
--- a count is of level 0
-count_small : (m : ℕ) → m ≤ 1048576 → IsWithin 0 (pos m)
-count_small m h = omega (arith, ints)
-
-pub counts_within : (of : List ℕ) (n k : ℕ) → n ≤ 1048576 → All (IsWithin 0) (map (λ p. pos (length (class_places of n p))) (upto k))
-counts_within of n k few = All-map (IsWithin 0) (λ p. pos (length (class_places of n p))) (upto k) (λ i d h. let p = get_or (upto k) i d in count_small (length (class_places of n p)) (omega (arith, length_places-le (λ j. nat_eq (get_or of j 0) p) n)))
+    let sum = λ (p : ℕ). total (map (λ i. number_of (value_at (row_at rows i) c)) (class_places of n p)) in
+    map_map (λ (z : ℤ). values.Int z ∷ []) sum (upto k) ∙ map_upto_agree (λ p. values.Int (sum p) ∷ []) (λ p. aggregate (sub rows (class_places of n p)) (Sum c) ∷ []) k
+    (λ p h. ap (λ (ns : List ℤ). values.Int (total ns) ∷ []) (sym (map_map (λ (row : Row). number_of (value_at row c)) (row_at rows) (class_places of n p))))
 
 -- the ints of a column
 pub value_is : (rows : List Row) (c : ℕ) (numbers : List ℤ) (i : ℕ) → map values.Int numbers ≡ column_values c rows → i < length rows → values.Int (int_at numbers i) ≡ value_at (row_at rows i) c
@@ -148,14 +142,7 @@ best_rows g rows c classes are =
     let a = get_or classes.firsts p 0 in
     ap (λ (v : Value). v ∷ []) (best_of_class g V (λ i. nat_eq (get_or classes.of i 0) p) a (length rows) (eq-eqb (get_or classes.of a 0) p (are.first p h)) (λ j l. ne_eqb (get_or classes.of j 0) p (are.none p j h l)) (are.within p 0 h)))
 
--- counts and sums by the numbers of classes that a caller has
-pub counts_is : (classes : ClassesImage) (n : ℕ) (of firsts : List ℕ) → of ≡ classes.of → firsts ≡ classes.firsts → length classes.of ≡ n
-    → map (λ p. pos (length (class_places of (length of) p))) (upto (length firsts)) ≡ map (λ p. pos (length (class_places classes.of n p))) (upto (length classes.firsts))
-counts_is classes n of firsts e f long =
-    ap (λ (z : List ℕ). map (λ p. pos (length (class_places z (length z) p))) (upto (length firsts))) e
-    ∙ ap (λ (z : List ℕ). map (λ p. pos (length (class_places classes.of (length classes.of) p))) (upto (length z))) f
-    ∙ ap (λ m. map (λ p. pos (length (class_places classes.of m p))) (upto (length classes.firsts))) long
-
+-- sums by the numbers of classes that a caller has
 pub sums_is : (rows : List Row) (c : ℕ) (classes : ClassesImage) (of firsts : List ℕ) → of ≡ classes.of → firsts ≡ classes.firsts
     → map (λ p. total (map (λ i. number_of (value_at (row_at rows i) c)) (class_places of (length rows) p))) (upto (length firsts)) ≡ map (λ p. total (map (λ i. number_of (value_at (row_at rows i) c)) (class_places classes.of (length rows) p))) (upto (length classes.firsts))
 sums_is rows c classes of firsts e f =

@@ -13,7 +13,7 @@ use Rattle.smk_base.specs.Places.{upto, places, has}
 use Rattle.smk_base.specs.Rels.{IsWithin}
 use Rattle.smk_model.specs.Plain.{total, combined}
 use Rattle.smk_model.specs.Locals.{singles}
-use Rattle.smk_model.proofs.Places.{get_or_map_upto, map_upto_agree, map_map, places_below, same_below, places_false, upto_below}
+use Rattle.smk_model.proofs.Places.{get_or_map_upto, map_upto_agree, places_below, same_below, places_false, upto_below}
 use Rattle.smk_model.proofs.Directions.{length_each}
 use Rattle.smk_body.proofs.Fitting.{total_within}
 use Rattle.smk_body.proofs.Turning.{single_at}
@@ -73,9 +73,6 @@ sized of n k p h = ap length (same_below (λ i. has (get_or (singles of n).lists
 
 pub sizes_are : (of : List ℕ) (n : ℕ) → sizes_of (singles of n) (length of) ≡ map (λ p. length (class_places of (length of) p)) (upto n)
 sizes_are of n = map_upto_agree (size_of (singles of n).lists (length of)) (λ p. length (class_places of (length of) p)) n (λ p h. sized of n (length of) p (omega arith))
-
-pub counts_are : (of : List ℕ) (n : ℕ) → map pos (sizes_of (singles of n) (length of)) ≡ map (λ p. pos (length (class_places of (length of) p))) (upto n)
-counts_are of n = ap (map pos) (sizes_are of n) ∙ map_map pos (λ p. length (class_places of (length of) p)) (upto n)
 
 -- sums
 

@@ -1,4 +1,4 @@
-ghost use Rattle.std.specs.Prelude.{◌≡◌, ◌<◌, ◌≤◌, pos, IfOk, IfSome, All, length, map, slice_index_or, vec_len};
+ghost use Rattle.std.specs.Prelude.{◌≡◌, ◌<◌, ◌≤◌, pos, IfOk, All, length, map, slice_index_or, vec_len};
 ghost use Rattle.smk_base.specs.Places.{upto};
 ghost use Rattle.smk_base.specs.Rels.{IsWithin, kind_in};
 ghost use Rattle.smk_model.specs.Values.{value_at};
@@ -9,45 +9,10 @@ ghost use Rattle.smk_body.specs.Halves.{AreNumbered, best_place, bests_of, class
 ghost use Rattle.smk_base.specs.declared.value.Value.TheVariants as values;
 ghost use Rattle.smk_base.specs.declared.rel.TheConstants.{ROW_LIMIT};
 
-use crate::lists::counted;
 use crate::rows::compare;
 use smk_base::{Ints, Kind, Rel};
 use smk_keys::Classes;
 use std::alloc::{AllocError, Global};
-
-/// How many places each class has, by a count where their sizes aren't known.
-pub(crate) fn counts(
-    alloc: Global,
-    of: &[u32],
-    count: u32,
-    sizes: Option<&[u32]>,
-) -> Result<Vec<i128>, AllocError>
-    requires few { length of.now ≤ ROW_LIMIT }
-    requires below { All (λ p. p < count) of.now }
-    requires sizes { IfSome sizes (λ known. known.now ≡ map (λ p. length (class_places of.now (length of.now) p)) (upto count)) }
-    ensures counts { IfOk result (λ v. v.items ≡ map (λ p. pos (length (class_places of.now (length of.now) p))) (upto count)) }
-    ensures long { IfOk result (λ v. vec_len v ≡ count) }
-{
-    match sizes {
-        Some(known) => as_ints(alloc, known),
-        None => {
-            let made = counted(alloc, of, count)?;
-            as_ints(alloc, made.as_slice())
-        }
-    }
-}
-
-// These numbers as ints.
-fn as_ints(alloc: Global, numbers: &[u32]) -> Result<Vec<i128>, AllocError>
-    ensures ints { IfOk result (λ v. v.items ≡ map pos numbers.now) }
-    ensures long { IfOk result (λ v. vec_len v ≡ length numbers.now) }
-{
-    let mut made = Vec::with_capacity(alloc, numbers.len())?;
-    for number in numbers {
-        made.push(i128::from(*number))?;
-    }
-    Ok(made)
-}
 
 /// The sum of the ints in column c over each class.
 pub fn sums(

@@ -11,8 +11,9 @@ ghost use Rattle.smk_model.specs.Kinds.{AggFits, GroupFits, IsSummed, kind_of_ag
 ghost use Rattle.smk_keys.specs.Classes.{classes_of};
 ghost use Rattle.smk_body.specs.Halves.{AreNumbered, better, class_places, class_sizes};
 
-use crate::aggregates::{best_places, counts, sums};
+use crate::aggregates::{best_places, sums};
 use crate::gather::columns_at;
+use crate::lists::counted;
 use smk_base::{Agg, Kind, Rel};
 use smk_keys::Classes;
 use std::alloc::{AllocError, Global};
@@ -90,10 +91,14 @@ fn count_column(
     ensures { IfOk result (λ made. made ≡ record { kinds = Int 0 ∷ []; rows = map (λ p. aggregate (sub rel.now.rows (class_places classes.now.of (length rel.now.rows) p)) Count ∷ []) (upto (length classes.now.firsts)) }) }
 {
     let _rows = rel.len();
-    let count = classes.firsts().len() as u32;
-    let numbers = counts(alloc, classes.of(), count, sizes)?;
-    let made = Rel::of_ints(alloc, 0, numbers)?;
-    Ok(made)
+    match sizes {
+        Some(known) => Rel::of_counts(alloc, 0, known),
+        None => {
+            let count = classes.firsts().len() as u32;
+            let made = counted(alloc, classes.of(), count)?;
+            Rel::of_counts(alloc, 0, made.as_slice())
+        }
+    }
 }
 
 // The sum of the ints in column c over the rows of each class.

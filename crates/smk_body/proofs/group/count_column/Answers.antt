@@ -1,28 +1,29 @@
-use Rattle.std.proofs.Common.{◌∙◌, length, ap, refl, arith}
-use Rattle.smk_body.proofs.Aggregating.{counted_rows, counts_within, counts_is}
-use Rattle.smk_body.proofs.Besides.{related, ints_of}
+use Rattle.std.proofs.Common.{◌≡◌, ◌∙◌, ◌∷◌, [], ℕ, List, length, ap, subst, arith, IfOk}
+use Rattle.smk_base.specs.declared.value.Kind.TheVariants as kinds
+use Rattle.smk_model.specs.Values.{Row}
+use Rattle.smk_model.proofs.Directions.{length_each}
+use Rattle.smk_body.specs.Halves.{class_places, class_sizes}
+use Rattle.smk_body.proofs.Aggregating.{counted_rows}
+use Rattle.smk_body.proofs.Besides.{relation}
+use Rattle.smk_body.proofs.Folding.{sizes_are}
 use Rattle.smk_body.proofs.group.count_column.Goals as goal
 
-pub overflow_cast-count : goal.overflow_cast-count
-overflow_cast-count c = omega (arith, ap length c.firsts.ensures, c.requires.classes.few, c.len-rows.ensures.keeps.few_rows)
+pub of_counts-requires-clause-few : goal.of_counts-requires-clause-few
+of_counts-requires-clause-few c =
+    let classes = c.args.classes.now in
+    let known : c.in-Some.known.now ≡ class_sizes classes = rw c.in-Some.is at c.requires.sizes in
+    omega (arith, ap length known, length_each (λ (p : ℕ). length (class_places classes.of (length classes.of) p)) (length classes.firsts), c.requires.classes.few, c.len-rows.ensures.keeps.few_rows)
 
-pub counts-requires-clause-sizes : goal.counts-requires-clause-sizes
-counts-requires-clause-sizes c = rw (c.of.ensures, c.firsts.ensures) c.requires.sizes
-
-pub of_ints-requires-clause-few : goal.of_ints-requires-clause-few
-of_ints-requires-clause-few c = omega (arith, c.in_ok-numbers.ensures.long, ap length c.firsts.ensures, c.requires.classes.few, c.len-rows.ensures.keeps.few_rows)
-
-pub of_ints-requires-clause-within : goal.of_ints-requires-clause-within
-of_ints-requires-clause-within c =
+pub returns-in-Some : goal.returns-in-Some
+returns-in-Some c =
     let rows = c.args.rel.now.rows in
     let classes = c.args.classes.now in
-    rw (c.in_ok-numbers.ensures.counts, c.of.ensures, c.requires.classes.long) (counts_within classes.of (length rows) (length c.firsts.result.now) c.len-rows.ensures.keeps.few_rows)
+    let known : c.in-Some.known.now ≡ class_sizes classes = rw c.in-Some.is at c.requires.sizes in
+    subst (λ (z : List Row). IfOk c.of_counts.result (λ made. made ≡ relation (kinds.Int 0 ∷ []) z)) (counted_rows rows classes (length rows) c.in-Some.known.now known c.requires.classes.long) c.of_counts.ensures
 
-pub returns : goal.returns
-returns c =
+pub returns-in_ok-made-in-None : goal.returns-in_ok-made-in-None
+returns-in_ok-made-in-None c =
     let rows = c.args.rel.now.rows in
     let classes = c.args.classes.now in
-    c.in_ok-made.ensures ∙ ints_of 0 (c.in_ok-numbers.ensures.counts ∙ counts_is classes (length rows) c.of.result.now c.firsts.result.now c.of.ensures c.firsts.ensures c.requires.classes.long) ∙ related refl (counted_rows rows classes.of (length rows) (length classes.firsts))
-
-pub counts-requires-clause-below : goal.counts-requires-clause-below
-counts-requires-clause-below c = rw (c.of.ensures, c.firsts.ensures) c.requires.classes.below
+    let made : c.as_slice.result.now ≡ class_sizes classes = c.as_slice.ensures.value ∙ c.in_ok-made-in-None.ensures.sizes ∙ rw (c.of.ensures, c.firsts.ensures) (sizes_are classes.of (length classes.firsts)) in
+    subst (λ (z : List Row). IfOk c.of_counts-in-None.result (λ made. made ≡ relation (kinds.Int 0 ∷ []) z)) (counted_rows rows classes (length rows) c.as_slice.result.now made c.requires.classes.long) c.of_counts-in-None.ensures
