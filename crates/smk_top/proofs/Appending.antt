@@ -12,11 +12,11 @@ use Rattle.smk_session.specs.Sessions.{SessionImage, state_of, workbook_of}
 use Rattle.std.proofs.lemmas.List.{take_more, length-append}
 use Rattle.std.proofs.lemmas.List.Concat.{flat_map-append}
 use Rattle.smk_outside.specs.Outside.{Appends, AppendsPart}
-use Rattle.smk_top.specs.declared.stop.Stop.{Stop}
-use Rattle.smk_top.specs.declared.stop.Stop.TheVariants.{At, Unwritten, Exhausted}
+use Rattle.smk_inputs.specs.declared.stop.Stop.{Stop}
+use Rattle.smk_inputs.specs.declared.stop.Stop.TheVariants.{At, Unwritten, Exhausted}
+use Rattle.smk_inputs.specs.Loaded.{said_of}
 use Rattle.smk_top.specs.declared.counts.Counts.{Counts}
 use Rattle.smk_top.specs.Counting.{counts_together, counts_told, counts_of, text_counted}
-use Rattle.smk_top.specs.Loaded.{said_of}
 use Rattle.smk_top.specs.Writing.{Puts, PutsPieces}
 
 -- nothing, and one after the other

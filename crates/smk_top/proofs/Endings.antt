@@ -16,13 +16,14 @@ use Rattle.smk_model.specs.Session.{Workbook, view_at}
 use Rattle.smk_model.specs.Values.{Row}
 use Rattle.smk_model.specs.Words.{TextSource, Files, Demo, words_of}
 use Rattle.smk_model.specs.Outcome.{Held, Inputs, text_named, unless_view_fault, reported as report_or_fault, ReadsInputs, unusable, usable, Outcome, unreadable, read, written_for, written_of, NamesRead, nothing_held, WhereTold, UntoldCause, IsReport, HasCause}
+use Rattle.smk_inputs.specs.declared.stop.Stop.{Stop}
+use Rattle.smk_inputs.specs.declared.stop.Stop.TheVariants.{At, Unwritten, Exhausted}
+use Rattle.smk_inputs.specs.Collecting.{ReadsAll, Starts, IsSayable}
 use Rattle.smk_top.specs.declared.counts.Counts.{Counts}
 use Rattle.smk_top.specs.declared.status.Status.{Status}
 use Rattle.smk_top.specs.declared.status.Status.TheVariants.{Done, DoneWithRefusals, WriteFault}
-use Rattle.smk_top.specs.declared.stop.Stop.{Stop}
-use Rattle.smk_top.specs.declared.stop.Stop.TheVariants.{At, Unwritten, Exhausted}
 use Rattle.smk_top.specs.Statuses.{IsReadingFault, status_of_fault, status_of_report}
-use Rattle.smk_top.specs.Collecting.{ReadsAll, IsInputs, Starts, IsSayable, LooksBehindReading}
+use Rattle.smk_top.specs.Looking.{IsInputs, LooksBehindReading}
 use Rattle.smk_top.specs.Counting.{counts_of}
 use Rattle.smk_top.specs.Writing.{PutsPieces}
 use Rattle.smk_top.specs.Endings.{IsBegun, reported, faulted, unwritten, exhausted, fault_unsaid, memory_unsaid, RunEnds, Works, Reports, SaysMemory, SaysFault}

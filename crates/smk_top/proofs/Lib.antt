@@ -1,5 +1,3 @@
-mod Fronts
-mod Stops
 mod Appending
 mod ViewParts
 mod StartNames
@@ -7,11 +5,4 @@ mod Walks
 mod Endings
 mod Completes
 mod ReplyFits
-mod FileReads
-mod TableLoads
-mod NamedTables
-mod LinesBring
-mod AddedReads
 mod Answered
-mod ScriptReads
-mod WordsTaken

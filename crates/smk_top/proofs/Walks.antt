@@ -8,12 +8,12 @@ use Rattle.smk_model.specs.Session.{State}
 use Rattle.smk_model.specs.Values.{Row}
 use Rattle.smk_model.proofs.OneOutcome.{same_readings}
 use Rattle.smk_outside.specs.Outside.{Appends, AppendsPart}
+use Rattle.smk_inputs.specs.declared.stop.Stop.{Stop}
 use Rattle.smk_top.specs.declared.counts.Counts.{Counts}
-use Rattle.smk_top.specs.declared.stop.Stop.{Stop}
 use Rattle.smk_top.specs.Counting.{counts_together, counts_told}
 use Rattle.smk_top.specs.Writing.{PutsPieces}
+use Rattle.smk_inputs.proofs.ScriptReads.{readings_more, rest_said}
 use Rattle.smk_top.proofs.Appending.{appends_none, appends_more, front_of, next_stops}
-use Rattle.smk_top.proofs.ScriptReads.{readings_more, rest_said}
 
 -- the state after lines, and the rows that are left behind them of those that lines bring
 abbrev pub state_through : BookSaid → State → List (List Row) → List Reading → State

@@ -6,9 +6,9 @@ use Rattle.smk_model.specs.Texts.{no_memory_text}
 use Rattle.smk_model.specs.Reports.{Report}
 use Rattle.smk_model.specs.Outcome.{Held, Inputs, IsReport, HasCause, written_of, reported as report_or_fault}
 use Rattle.smk_outside.specs.Outside.{IsPrefix, Appends, AppendsPart}
+use Rattle.smk_inputs.specs.declared.stop.Stop.{Stop}
+use Rattle.smk_inputs.specs.declared.stop.Stop.TheVariants.{At, Unwritten, Exhausted}
 use Rattle.smk_top.specs.declared.counts.Counts.{Counts}
-use Rattle.smk_top.specs.declared.stop.Stop.{Stop}
-use Rattle.smk_top.specs.declared.stop.Stop.TheVariants.{At, Unwritten, Exhausted}
 use Rattle.smk_top.specs.declared.status.Status.{Status}
 use Rattle.smk_top.specs.declared.status.Status.TheVariants.{WriteFault, NoMemory}
 use Rattle.smk_top.specs.Statuses.{status_of_report, status_of_fault}

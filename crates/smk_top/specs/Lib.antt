@@ -1,11 +1,7 @@
-pub mod Image
 pub mod Answering
-pub mod WordsTaken
-pub mod Added
-pub mod Loaded
 pub mod Statuses
 pub mod Endings
-pub mod Collecting
+pub mod Looking
 pub mod Writing
 pub mod Counting
 pub mod Completeness

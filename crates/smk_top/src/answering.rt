@@ -15,9 +15,10 @@ ghost use Rattle.smk_model.specs.Selection.{each_rows};
 ghost use Rattle.smk_model.specs.Typing.{info_at};
 ghost use Rattle.smk_model.specs.Values.{Row};
 ghost use Rattle.smk_session.specs.Sessions.{state_of};
-ghost use Rattle.smk_top.specs.Added.{BeginsWith, tables_left};
-ghost use Rattle.smk_top.specs.Answering.{IsAnswered, KeepsLine};
-ghost use Rattle.smk_top.specs.Loaded.{said_of};
+ghost use Rattle.smk_inputs.specs.Added.{BeginsWith, tables_left};
+ghost use Rattle.smk_inputs.specs.LineLimits.{KeepsLine};
+ghost use Rattle.smk_inputs.specs.Loaded.{said_of};
+ghost use Rattle.smk_top.specs.Answering.{IsAnswered};
 
 use smk_ask::{ask, ask_text};
 use smk_base::{

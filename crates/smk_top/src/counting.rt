@@ -1,10 +1,10 @@
 // Counts of parts of a report together.
 ghost use Rattle.std.specs.Prelude.{◌≡◌, ◌+◌, IfOk, IfErr};
+ghost use Rattle.smk_inputs.specs.declared.stop.Stop.TheVariants.{Exhausted as exhausted};
 ghost use Rattle.smk_top.specs.Counting.{counts_together};
-ghost use Rattle.smk_top.specs.declared.stop.Stop.TheVariants.{Exhausted as exhausted};
 
 use crate::counts::Counts;
-use crate::stop::Stop;
+use smk_inputs::Stop;
 
 /// Nothing.
 pub const NOTHING: Counts = Counts {

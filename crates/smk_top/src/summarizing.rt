@@ -1,9 +1,8 @@
 // The run of a demo, of whose report only a summary is written.
-ghost use Rattle.std.specs.Prelude.{◌≡◌, ◌≤◌, ◌<◌, ◌+◌, [], List, None, Some, length, map, IfOk};
+ghost use Rattle.std.specs.Prelude.{◌≡◌, ◌≤◌, ◌<◌, ◌+◌, [], List, None, length, map, IfOk};
 ghost use Rattle.smk_base.specs.CatalogImage.{catalog_image};
 ghost use Rattle.smk_base.specs.Marks.{after_marks};
-ghost use Rattle.smk_base.specs.declared.demo.TheConstants.{DEMO_BOOK_NAME, DEMO_SCRIPT_NAME};
-ghost use Rattle.smk_model.specs.Demo.{demo_of, summary, summary_of};
+ghost use Rattle.smk_model.specs.Demo.{summary, summary_of};
 ghost use Rattle.smk_model.specs.Lines.{lines};
 ghost use Rattle.smk_model.specs.Opening.{first_view_fault};
 ghost use Rattle.smk_model.specs.Outcome as outcomes;
@@ -14,25 +13,19 @@ ghost use Rattle.smk_model.specs.Selection.{each_rows};
 ghost use Rattle.smk_model.specs.Session.{view_at};
 ghost use Rattle.smk_outside.specs.Outside.{Rose};
 ghost use Rattle.smk_session.specs.Sessions.{workbook_of};
-ghost use Rattle.smk_top.specs.Added.{BringTables};
+ghost use Rattle.smk_inputs.specs.Added.{BringTables};
+ghost use Rattle.smk_inputs.specs.Loaded.{inputs_with};
+ghost use Rattle.smk_inputs.specs.Collecting.{IsSayable};
 ghost use Rattle.smk_top.specs.Endings.{Reports};
-ghost use Rattle.smk_top.specs.Loaded.{script_bytes, inputs_with};
-ghost use Rattle.smk_top.specs.Collecting.{ReadsAll, IsSayable};
 ghost use Rattle.smk_top.specs.Writing.{PutsPieces};
 
-use crate::called::Flights;
-use crate::collecting::read_all;
 use crate::counts::Counts;
-use crate::demo_texts::DemoTexts;
-use crate::inputs::Inputs;
 use crate::nowhere::Nowhere;
 use crate::reporting::{put, write_report};
-use crate::settings::Settings;
 use crate::starting::{Started, start};
-use crate::stop::Stop;
-use crate::words::text_of;
-use smk_base::{DEMO_BOOK_NAME, DEMO_SCRIPT_NAME, ListOf, Names, Size, Sizes};
-use smk_demo::{demo, summary_text};
+use smk_base::{ListOf, Names, Size, Sizes};
+use smk_demo::summary_text;
+use smk_inputs::{Flights, Inputs, Settings, Stop};
 use smk_outside::{Gate, Sink, Steps};
 use smk_session::Session;
 use smk_table::Table;
@@ -40,27 +33,6 @@ use std::alloc::{AllocError, Global};
 use std::collections::VecDeque;
 use std::sync::ledger::Ledger;
 use std::thread::Threads;
-
-/// What is read of the texts of a demo.
-pub fn read_demo<R: Threads + Sync, G: Gate + Sync>(
-    rt: &R,
-    alloc: Global,
-    settings: Settings,
-    flights: Flights,
-    gate: &G,
-) -> Result<Inputs, Stop>
-    ensures read { ReadsAll (Some (outcomes.text_named (demo_of flights.count))) (Rose 0 0) DEMO_BOOK_NAME.now (Some DEMO_SCRIPT_NAME.now) inputs_with script_bytes result }
-    ensures shown { IfOk result (λ inputs. AreDependencies (catalog_image inputs.book) inputs.fds) }
-    ensures fits { IfOk result (λ inputs. BringTables (catalog_image inputs.book) (lines (after_marks inputs.script.items)) inputs.added.items) }
-    ensures said { IsSayable result }
-{
-    let mut texts = DemoTexts {
-        texts: demo(alloc, flights.count)?,
-    };
-    let book = text_of(alloc, DEMO_BOOK_NAME)?;
-    let script = text_of(alloc, DEMO_SCRIPT_NAME)?;
-    read_all(rt, alloc, settings, &mut texts, &book, Some(&script), gate)
-}
 
 // The sizes of the views, as they are first evaluated.
 fn sizes_of(alloc: Global, session: &Session) -> Result<Sizes, AllocError>

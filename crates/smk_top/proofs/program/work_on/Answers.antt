@@ -6,9 +6,9 @@ use Rattle.smk_model.specs.Demo.{summary_of}
 use Rattle.smk_model.specs.Reports.{Report}
 use Rattle.smk_model.specs.Words.{Files, Demo, words_of}
 use Rattle.smk_model.proofs.SomeOutcome.{some_reading}
-use Rattle.smk_top.specs.declared.called.RunTexts.{RunTexts}
-use Rattle.smk_top.specs.Image.{texts_image}
-use Rattle.smk_top.specs.Loaded.{script_bytes, inputs_with}
+use Rattle.smk_inputs.specs.declared.called.RunTexts.{RunTexts}
+use Rattle.smk_inputs.specs.Image.{texts_image}
+use Rattle.smk_inputs.specs.Loaded.{script_bytes, inputs_with}
 use Rattle.smk_top.proofs.Endings.{files_stop, files_read, demo_stops, demo_read, files_write, demo_writes, reports, reports_later, looks_at_nothing}
 use Rattle.smk_top.proofs.program.work_on.Goals as goal
 

@@ -4,10 +4,10 @@ use Rattle.smk_model.specs.Reports.{line_told, next_rows}
 use Rattle.smk_model.specs.Selection.{each_rows}
 use Rattle.smk_model.specs.Texts.{bad_line_text}
 use Rattle.smk_session.specs.Sessions.{SessionImage, state_of}
-use Rattle.smk_top.specs.Loaded.{said_of}
-use Rattle.smk_top.specs.Image.{reading_image}
+use Rattle.smk_inputs.specs.Loaded.{said_of}
+use Rattle.smk_inputs.specs.Image.{reading_image}
+use Rattle.smk_inputs.specs.declared.script.Reading.{Reading}
 use Rattle.smk_top.specs.declared.counts.Counts.{Counts}
-use Rattle.smk_top.specs.declared.script.Reading.{Reading}
 use Rattle.smk_top.proofs.Appending.{first_stops}
 use Rattle.smk_top.proofs.reporting.write_line.Goals as goal
 

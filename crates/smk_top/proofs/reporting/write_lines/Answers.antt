@@ -7,12 +7,12 @@ use Rattle.smk_model.specs.Lines.{lines}
 use Rattle.smk_model.specs.Selection.{each_rows}
 use Rattle.smk_outside.specs.Outside.{Rose}
 use Rattle.smk_session.specs.Sessions.{SessionImage}
-use Rattle.smk_top.specs.Added.{BringTables}
-use Rattle.smk_top.specs.Loaded.{said_of}
+use Rattle.smk_inputs.specs.Added.{BringTables}
+use Rattle.smk_inputs.specs.Loaded.{said_of}
 use Rattle.smk_top.specs.declared.counts.Counts.{Counts}
-use Rattle.smk_top.proofs.Stops.{rose_within}
+use Rattle.smk_inputs.proofs.Stops.{rose_within}
+use Rattle.smk_inputs.proofs.LinesBring.{rows_behind, line_begins, lines_go_on}
 use Rattle.smk_top.proofs.Appending.{wants_stop}
-use Rattle.smk_top.proofs.LinesBring.{rows_behind, line_begins, lines_go_on}
 use Rattle.smk_top.proofs.Walks.{walk_begins, walk_on, walk_wants, walk_stops, walk_ends}
 use Rattle.smk_top.proofs.reporting.write_lines.Goals as goal
 

@@ -3,8 +3,8 @@ use Rattle.smk_base.specs.CatalogImage.{catalog_image}
 use Rattle.smk_model.specs.Lines.{lines}
 use Rattle.smk_model.specs.Selection.{each_rows}
 use Rattle.smk_session.specs.Sessions.{state_of}
-use Rattle.smk_top.specs.Added.{BringTables}
-use Rattle.smk_top.specs.Loaded.{said_of}
+use Rattle.smk_inputs.specs.Added.{BringTables}
+use Rattle.smk_inputs.specs.Loaded.{said_of}
 use Rattle.smk_top.proofs.Walks.{Walks}
 use Rattle.smk_top.proofs.reporting.write_lines.Given as goal
 

@@ -8,7 +8,7 @@ use Rattle.smk_model.specs.Selection.{each_rows}
 use Rattle.smk_model.specs.ViewTexts.{views_text}
 use Rattle.smk_session.specs.Sessions.{workbook_of}
 use Rattle.smk_top.specs.declared.counts.Counts.{Counts}
-use Rattle.smk_top.proofs.Stops.{rose_within}
+use Rattle.smk_inputs.proofs.Stops.{rose_within}
 use Rattle.smk_top.proofs.Appending.{first_stops, then_lines, whole_part, report_counts}
 use Rattle.smk_top.proofs.reporting.write_report.Goals as goal
 

@@ -9,8 +9,8 @@ use Rattle.smk_outside.specs.Outside.{Rose}
 use Rattle.smk_model.specs.ViewTexts.{text_of_view}
 use Rattle.smk_model.specs.Session.{no_view}
 use Rattle.smk_session.specs.Sessions.{workbook_of}
-use Rattle.smk_top.proofs.Stops.{rose_within}
 use Rattle.smk_top.specs.declared.counts.Counts.{Counts}
+use Rattle.smk_inputs.proofs.Stops.{rose_within}
 use Rattle.smk_top.proofs.Appending.{want_here, fails_here, wants_stop}
 use Rattle.smk_top.proofs.reporting.write_views.Goals as goal
 

@@ -4,7 +4,7 @@ use Rattle.smk_base.specs.CatalogImage.{catalog_image}
 use Rattle.smk_base.specs.Marks.{after_marks}
 use Rattle.smk_base.specs.declared.catalog.Catalog.{Catalog}
 use Rattle.smk_model.specs.Lines.{lines}
-use Rattle.smk_top.specs.Added.{BringTables}
+use Rattle.smk_inputs.specs.Added.{BringTables}
 use Rattle.smk_model.specs.Profiles.{AreDependencies}
 use Rattle.smk_base.specs.declared.catalog.TableInfo.{TableInfo}
 use Rattle.smk_base.specs.declared.catalog.ViewInfo.{ViewInfo}

@@ -1,7 +1,7 @@
 use Rattle.std.proofs.Common.{◌∙◌, ℕ, List, ap, sym, subst}
 use Rattle.smk_model.specs.Readings.{AreReadingsOf}
 use Rattle.smk_model.specs.Selection.{each_rows}
-use Rattle.smk_top.specs.Loaded.{inputs_with}
+use Rattle.smk_inputs.specs.Loaded.{inputs_with}
 use Rattle.smk_top.proofs.summarizing.summarize.Goals as goal
 
 pub returns-clause-works : goal.returns-clause-works

@@ -1,0 +1,131 @@
+-- What is read of a file follows from its content.
+use Rattle.std.proofs.Common.{◌≡◌, ◌≢◌, ◌∙◌, ℕ, List, Option, Some, None, Result, Ok, Err, refl, sym, ap, inl, inr, subst}
+use Rattle.smk_base.specs.CatalogImage.{CatalogImage}
+use Rattle.smk_base.specs.Marks.{after_marks}
+use Rattle.smk_base.specs.declared.fault.Fault.{Fault}
+use Rattle.smk_base.specs.declared.fault.Fault.TheVariants.{Book, Types}
+use Rattle.smk_base.specs.declared.fault.BookFault.{BookFault}
+use Rattle.smk_base.specs.declared.fault.BookFault.TheVariants as book_faults
+use Rattle.smk_base.specs.declared.tree.Book.{Book as Statements}
+use Rattle.smk_base.specs.Trees.{StmtImage}
+use Rattle.smk_base.specs.TreeImage.{book_image, ask_image, any_image}
+use Rattle.smk_base.specs.declared.fault.LineFault.TheVariants as line_faults
+use Rattle.smk_base.specs.declared.tree.AnyLine.{AnyLine}
+use Rattle.smk_base.specs.declared.tree.AnyLine.TheVariants as any_lines
+use Rattle.smk_model.specs.Names.{Typed}
+use Rattle.smk_model.specs.Typing.{types}
+use Rattle.smk_model.specs.Expanded.{expanded, dependency_names, HasNoDependency}
+use Rattle.smk_model.specs.Profiles.{AreDependencies}
+use Rattle.smk_model.specs.Readings.{Nothing, Asks, Unread as Unread', IsReading, says_nothing, asks, leaves}
+use Rattle.smk_model.specs.Reports.{BookSaid}
+use Rattle.smk_model.specs.Outcome.{Held, content_of, Parses, spells, misspells, BookSays, unparsed, parsed, said_or_fault, statements_say, FileSays, unread, read, UntoldCause}
+use Rattle.smk_model.specs.Limits.{KeepsLimits}
+use Rattle.smk_model.proofs.Expanded.{expanded_stands}
+use Rattle.smk_model.proofs.Keeping.{faultless_keep_limits, faultless_asks_keep_limits}
+use Rattle.smk_parse.specs.Answers.{IsBookAnswer, IsAnyAnswer}
+use Rattle.smk_inputs.specs.LineLimits.{KeepsLine}
+use Rattle.smk_inputs.specs.declared.stop.Stop.{Stop}
+use Rattle.smk_inputs.specs.declared.stop.Stop.TheVariants.{At, Unwritten, Exhausted}
+use Rattle.smk_inputs.specs.Collecting.{Answers, ReadsNamed}
+
+-- the file is read, and then its bytes say this
+pub says_after : {A X Y : Type 0} (image : X → A) (content : Y → List ℕ) (held : Option Held) (rose : Type 0) (name bytes : List ℕ) (y : Y) (says : List ℕ → Result A Fault → Type 0) (r : Result X Stop)
+    → ReadsNamed held rose name (λ h answer. content_of h name ≡ answer) content (Ok y) → bytes ≡ content y
+    → ((fault : Fault) → says bytes (Err fault) → UntoldCause rose fault)
+    → Answers (says bytes) image r → ReadsNamed held rose name (λ h. FileSays h name says) image r
+says_after image content (Some held) rose name bytes y says (Ok x) is same own a = read is (subst (λ (b : List ℕ). says b (Ok (image x))) same a)
+says_after image content (Some held) rose name bytes y says (Err (At fault)) is same own a = inl (read is (subst (λ (b : List ℕ). says b (Err fault)) same a))
+says_after image content (Some held) rose name bytes y says (Err Unwritten) is same own a = a
+says_after image content (Some held) rose name bytes y says (Err Exhausted) is same own a = tt
+says_after image content None rose name bytes y says (Ok x) is same own a = tt
+says_after image content None rose name bytes y says (Err (At fault)) is same own a = own fault a
+says_after image content None rose name bytes y says (Err Unwritten) is same own a = a
+says_after image content None rose name bytes y says (Err Exhausted) is same own a = tt
+
+-- the file isn't read
+pub says_stop : {A X Y : Type 0} (image : X → A) (content : Y → List ℕ) (held : Option Held) (rose : Type 0) (name : List ℕ) (says : List ℕ → Result A Fault → Type 0) (stop : Stop)
+    → ReadsNamed {X = Y} held rose name (λ h answer. content_of h name ≡ answer) content (Err stop) → ReadsNamed {X = X} held rose name (λ h. FileSays h name says) image (Err stop)
+says_stop image content (Some held) rose name says (At fault) (inl is) = inl (unread is)
+says_stop image content (Some held) rose name says (At fault) (inr up) = inr up
+says_stop image content (Some held) rose name says Unwritten is = is
+says_stop image content (Some held) rose name says Exhausted is = tt
+says_stop image content None rose name says (At fault) is = is
+says_stop image content None rose name says Unwritten is = is
+says_stop image content None rose name says Exhausted is = tt
+
+-- the same, said in other words
+pub reads_as : {A X : Type 0} (image : X → A) (held : Option Held) (rose : Type 0) (name : List ℕ) (says other : Held → Result A Fault → Type 0) (r : Result X Stop)
+    → ((h : Held) (answer : Result A Fault) → says h answer → other h answer) → ReadsNamed held rose name says image r → ReadsNamed held rose name other image r
+reads_as image (Some held) rose name says other (Ok x) change a = change held (Ok (image x)) a
+reads_as image (Some held) rose name says other (Err (At fault)) change (inl a) = inl (change held (Err fault) a)
+reads_as image (Some held) rose name says other (Err (At fault)) change (inr up) = inr up
+reads_as image (Some held) rose name says other (Err Unwritten) change a = a
+reads_as image (Some held) rose name says other (Err Exhausted) change a = tt
+reads_as image None rose name says other (Ok x) change a = tt
+reads_as image None rose name says other (Err (At fault)) change a = a
+reads_as image None rose name says other (Err Unwritten) change a = a
+reads_as image None rose name says other (Err Exhausted) change a = tt
+
+-- a book's text
+pub spelt : (text : List ℕ) (book : Statements) → IsBookAnswer text (Ok book) → Parses text (Ok (book_image book))
+spelt text book is = spells is.0 is.1
+
+pub keeps_limits : (text : List ℕ) (book : Statements) → IsBookAnswer text (Ok book) → KeepsLimits (book_image book)
+keeps_limits text book is = faultless_keep_limits text (book_image book) is.0 is.1
+
+pub misspelt : (text : List ℕ) (fault : BookFault) → IsBookAnswer text (Err fault) → fault ≢ book_faults.NoMemory → Parses text (Err (Book fault))
+misspelt text (book_faults.BadToken at) is other = misspells is
+misspelt text (book_faults.Unexpected at) is other = misspells is
+misspelt text (book_faults.TooMany at what) is other = misspells is
+misspelt text (book_faults.BadNumber at) is other = misspells is
+misspelt text book_faults.NoMemory is other = absurd (other refl)
+
+-- a book in which each dependency is replaced
+pub expanded_keeps : (book made : List StmtImage) → made ≡ expanded book → KeepsLimits book → KeepsLimits made
+expanded_keeps book made same keeps = subst KeepsLimits (sym same) (expanded_stands.limits book keeps)
+
+pub expanded_none : (book made : List StmtImage) → made ≡ expanded book → HasNoDependency made
+expanded_none book made same = subst HasNoDependency (sym same) (expanded_stands.none book)
+
+pub expanded_shown : (book made : List StmtImage) (fds : List (List ℕ)) (catalog : CatalogImage) → made ≡ expanded book → fds ≡ dependency_names book → types made ≡ Ok catalog → AreDependencies catalog fds
+expanded_shown book made fds catalog same names typed = subst (AreDependencies catalog) (sym names) (expanded_stands.shown book catalog (ap types (sym same) ∙ typed))
+
+-- a line's text
+pub says_none : (text : List ℕ) → IsAnyAnswer text (Ok None) → IsReading text Nothing
+says_none text is = says_nothing is
+
+pub says_line : (text : List ℕ) (line : AnyLine) → IsAnyAnswer text (Ok (Some line)) → IsReading text (Asks (any_image line))
+says_line text line is = asks is.0 is.1 is.2
+
+pub says_fault : (text : List ℕ) (at : ℕ) → IsAnyAnswer text (Err (line_faults.NotALine at)) → IsReading text (Unread' at)
+says_fault text at is = leaves is.0 is.1.1.0 is.1.1.1
+
+pub keeps_line : (text : List ℕ) (line : AnyLine) → IsAnyAnswer text (Ok (Some line)) → KeepsLine (any_image line)
+keeps_line text (any_lines.Plain line) is = tt
+keeps_line text (any_lines.Profile view) is = tt
+keeps_line text (any_lines.Append table file) is = tt
+keeps_line text (any_lines.Ask asked) is = faultless_asks_keep_limits text (ask_image asked) is.1 is.2
+
+pub ruleset lines_say = (says_none, says_line, says_fault, keeps_line)
+
+-- the bytes of a book's file say no fault of a file that isn't read
+book_typed : (fds : List (List ℕ)) (answer : Typed CatalogImage) (rose : Type 0) (fault : Fault) → said_or_fault fds answer ≡ Err fault → UntoldCause rose fault
+book_typed fds (Ok catalog) rose fault e = absurd (cc)
+book_typed fds (Err found) rose fault e = let same : Types found ≡ fault = cc in subst (UntoldCause rose) same tt
+
+pub book_untold : (bytes : List ℕ) (rose : Type 0) (fault : Fault) → BookSays bytes (Err fault) → UntoldCause rose fault
+book_untold bytes rose fault (unparsed (misspells is)) = tt
+book_untold bytes rose fault (parsed {stmts = stmts} is e) = book_typed (dependency_names stmts) (types (expanded stmts)) rose fault e
+
+-- a book's file, after its text was parsed, or was not
+pub book_unparsed : {X Y : Type 0} (trees : X → List StmtImage) (image : Y → BookSaid) (bytes text : List ℕ) (stop : Stop) → text ≡ after_marks bytes → Answers {X = X} (Parses text) trees (Err stop) → Answers {X = Y} (BookSays bytes) image (Err stop)
+book_unparsed trees image bytes text (At fault) same is = unparsed (subst (λ (t : List ℕ). Parses t (Err fault)) same is)
+book_unparsed trees image bytes text Unwritten same is = is
+book_unparsed trees image bytes text Exhausted same is = tt
+
+pub book_says : {X Y : Type 0} (trees : X → List StmtImage) (image : Y → BookSaid) (bytes text : List ℕ) (book : X) (r : Result Y Stop) → text ≡ after_marks bytes → Answers (Parses text) trees (Ok book)
+    → Answers (λ answer. statements_say (trees book) ≡ answer) image r → Answers (BookSays bytes) image r
+book_says trees image bytes text book (Ok typed) same is e = parsed (subst (λ (t : List ℕ). Parses t (Ok (trees book))) same is) e
+book_says trees image bytes text book (Err (At fault)) same is e = parsed (subst (λ (t : List ℕ). Parses t (Ok (trees book))) same is) e
+book_says trees image bytes text book (Err Unwritten) same is e = e
+book_says trees image bytes text book (Err Exhausted) same is e = tt

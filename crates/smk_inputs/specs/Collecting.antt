@@ -1,0 +1,82 @@
+-- What the steps of a run say before anything is written.
+use Rattle.std.specs.Prelude.{◌≡◌, ◌⊎◌, ⊤, ℕ, List, ◌∷◌, ◌++◌, Option, Some, None, option_map, Result, Ok, Err}
+use Rattle.smk_base.specs.declared.fault.Fault.{Fault}
+use Rattle.smk_base.specs.declared.fault.Fault.TheVariants.{Unread}
+use Rattle.smk_base.specs.declared.catalog.TableInfo.{TableInfo}
+use Rattle.smk_model.specs.Values.{Row}
+use Rattle.smk_model.specs.FaultTexts.{IsSaid}
+use Rattle.smk_model.specs.Readings.{Reading, AreReadingsOf}
+use Rattle.smk_model.specs.Session.{Workbook}
+use Rattle.smk_model.specs.Opening.{first_view_fault, fault_named}
+use Rattle.smk_model.specs.Outcome.{Held, Inputs, OpensScript, ReadsFiles, NamesAsked, load_all, UntoldCause}
+use Rattle.smk_inputs.specs.declared.stop.Stop.{Stop}
+use Rattle.smk_inputs.specs.declared.stop.Stop.TheVariants.{At, Unwritten, Exhausted}
+
+-- the answer of a step, seen so, is one that the definition has, or memory is wanting
+abbrev pub Answers : {A X : Type 0} → (Result A Fault → Type 0) → (X → A) → Result X Stop → Type 0
+Answers says image (Ok x) = says (Ok (image x))
+Answers says image (Err (At fault)) = says (Err fault)
+Answers says image (Err Unwritten) = ⊥
+Answers says image (Err Exhausted) = ⊤
+
+-- a step that reads the file of a name answers as the definition has it of what the files hold, or the file can't be read, or memory is wanting
+abbrev pub ReadsNamed : {A X : Type 0} → Option Held → Type 0 → List ℕ → (Held → Result A Fault → Type 0) → (X → A) → Result X Stop → Type 0
+ReadsNamed (Some held) rose name says image (Ok x) = says held (Ok (image x))
+ReadsNamed (Some held) rose name says image (Err (At fault)) = says held (Err fault) ⊎ (rose × (fault ≡ Unread name))
+ReadsNamed (Some held) rose name says image (Err Unwritten) = ⊥
+ReadsNamed (Some held) rose name says image (Err Exhausted) = ⊤
+ReadsNamed None rose name says image (Ok x) = ⊤
+ReadsNamed None rose name says image (Err (At fault)) = UntoldCause rose fault
+ReadsNamed None rose name says image (Err Unwritten) = ⊥
+ReadsNamed None rose name says image (Err Exhausted) = ⊤
+
+-- the file of one of these tables is unread, and those before it are loaded
+pub data IsUnreadAmong (held : Held) (tables : List TableInfo) (fault : Fault) : Type 0 where
+  unread_among : {rows : List (List Row)} (before : List TableInfo) (table : TableInfo) (behind : List TableInfo) → tables ≡ before ++ table ∷ behind → load_all held before ≡ Ok rows → fault ≡ Unread table.file → IsUnreadAmong held tables fault
+
+-- the same for the files of tables, one after the other
+abbrev pub Loads : {X : Type 0} → Option Held → Type 0 → List TableInfo → (X → List (List Row)) → Result X Stop → Type 0
+Loads (Some held) rose tables image (Ok x) = load_all held tables ≡ Ok (image x)
+Loads (Some held) rose tables image (Err (At fault)) = (load_all held tables ≡ Err fault) ⊎ (rose × IsUnreadAmong held tables fault)
+Loads (Some held) rose tables image (Err Unwritten) = ⊥
+Loads (Some held) rose tables image (Err Exhausted) = ⊤
+Loads None rose tables image (Ok x) = ⊤
+Loads None rose tables image (Err (At fault)) = UntoldCause rose fault
+Loads None rose tables image (Err Unwritten) = ⊥
+Loads None rose tables image (Err Exhausted) = ⊤
+
+-- the bytes of a run's script, of which there are none where it has no script; or a fault with its cause, or memory is wanting
+abbrev pub OpensBytes : {X : Type 0} → Option Held → Type 0 → Option (List ℕ) → (X → List ℕ) → Result X Stop → Type 0
+OpensBytes (Some held) rose script bytes (Ok x) = (readings : List Reading) → AreReadingsOf (bytes x) readings → OpensScript held script (Ok readings)
+OpensBytes (Some held) rose script bytes (Err (At fault)) = OpensScript held script (Err fault) ⊎ (rose × ((name : List ℕ) × (script ≡ Some name) × (fault ≡ Unread name)))
+OpensBytes (Some held) rose script bytes (Err Unwritten) = ⊥
+OpensBytes (Some held) rose script bytes (Err Exhausted) = ⊤
+OpensBytes None rose script bytes (Ok x) = ⊤
+OpensBytes None rose script bytes (Err (At fault)) = UntoldCause rose fault
+OpensBytes None rose script bytes (Err Unwritten) = ⊥
+OpensBytes None rose script bytes (Err Exhausted) = ⊤
+
+-- what is read under the names of a book and a script, whatever readings the script has; or a fault with its cause; or memory is wanting
+abbrev pub ReadsAll : {X : Type 0} → Option Held → Type 0 → List ℕ → Option (List ℕ) → (X → List Reading → Inputs) → (X → List ℕ) → Result X Stop → Type 0
+ReadsAll (Some held) rose book script reads bytes (Ok x) = (readings : List Reading) → AreReadingsOf (bytes x) readings → ReadsFiles held book script (Ok (reads x readings))
+ReadsAll (Some held) rose book script reads bytes (Err (At fault)) = ReadsFiles held book script (Err fault) ⊎ (rose × NamesAsked held book script fault)
+ReadsAll (Some held) rose book script reads bytes (Err Unwritten) = ⊥
+ReadsAll (Some held) rose book script reads bytes (Err Exhausted) = ⊤
+ReadsAll None rose book script reads bytes (Ok x) = ⊤
+ReadsAll None rose book script reads bytes (Err (At fault)) = UntoldCause rose fault
+ReadsAll None rose book script reads bytes (Err Unwritten) = ⊥
+ReadsAll None rose book script reads bytes (Err Exhausted) = ⊤
+
+-- no view has a fault, or it is the first one; or memory is wanting
+abbrev pub Starts : {X : Type 0} → Workbook → Result X Stop → Type 0
+Starts book (Ok x) = first_view_fault book ≡ None
+Starts book (Err (At fault)) = option_map (fault_named book.catalog) (first_view_fault book) ≡ Some fault
+Starts book (Err Unwritten) = ⊥
+Starts book (Err Exhausted) = ⊤
+
+-- a fault of a step has a line that says it
+abbrev pub IsSayable : {X : Type 0} → Result X Stop → Type 0
+IsSayable (Err (At fault)) = IsSaid fault
+IsSayable (Err Unwritten) = ⊤
+IsSayable (Err Exhausted) = ⊤
+IsSayable (Ok x) = ⊤

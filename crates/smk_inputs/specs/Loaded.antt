@@ -1,0 +1,34 @@
+-- What a run reads, as the definitions see it.
+use Rattle.std.specs.Prelude.{ℕ, List}
+use Rattle.smk_base.specs.CatalogImage.{catalog_image}
+use Rattle.smk_base.specs.declared.catalog.Catalog.{Catalog}
+use Rattle.smk_model.specs.Outcome as outcomes
+use Rattle.smk_model.specs.Reports.{BookSaid}
+use Rattle.smk_model.specs.Readings.{Reading}
+use Rattle.smk_model.specs.Session.{Workbook}
+use Rattle.smk_session.specs.Sessions.{workbook_image}
+use Rattle.smk_inputs.specs.declared.inputs.Inputs.{Inputs}
+use Rattle.smk_model.specs.Selection.{each_rows}
+use Rattle.smk_inputs.specs.declared.collecting.Rest.{Rest}
+use Rattle.smk_inputs.specs.declared.opening.OpenedBook.{OpenedBook}
+
+-- what a checked book says with the names of its dependencies, and so a book that was opened
+abbrev pub said_of : Catalog → List (List ℕ) → BookSaid
+said_of book fds = record { catalog = catalog_image book; fds = fds }
+
+abbrev pub book_said : OpenedBook → BookSaid
+book_said opened = said_of opened.book opened.fds
+
+abbrev pub workbook_read : Inputs → Workbook
+workbook_read inputs = workbook_image inputs.book inputs.tables.items
+
+abbrev pub script_bytes : Inputs → List ℕ
+script_bytes inputs = inputs.script.items
+
+-- with what the lines of the script say
+abbrev pub inputs_with : Inputs → List Reading → outcomes.Inputs
+inputs_with inputs said = record { book = workbook_read inputs; fds = inputs.fds; readings = said; added = each_rows inputs.added.items }
+
+-- what was read after a book, with what this says and what the lines of the script say
+abbrev pub with_rest : BookSaid → Rest → List Reading → outcomes.Inputs
+with_rest book rest said = record { book = record { catalog = book.catalog; tables = each_rows rest.tables.items }; fds = book.fds; readings = said; added = each_rows rest.added.items }

@@ -1,0 +1,126 @@
+// The tables of the files that the lines of a script append.
+ghost use Rattle.std.specs.Prelude.{◌≡◌, ◌≤◌, ◌++◌, List, All, IfOk, IfErr, OnOk};
+ghost use Rattle.std.specs.Option.{option_to_list};
+ghost use Rattle.smk_base.specs.CatalogImage.{catalog_image};
+ghost use Rattle.smk_base.specs.Trees.{AppendedLine};
+ghost use Rattle.smk_model.specs.Catalogs.{each_table_kinds};
+ghost use Rattle.smk_model.specs.Lines.{lines};
+ghost use Rattle.smk_model.specs.Outcome.{appended, appended_at, appended_by};
+ghost use Rattle.smk_model.specs.Readings as readings;
+ghost use Rattle.smk_model.specs.Readings.{AreReadings};
+ghost use Rattle.smk_model.specs.Selection.{each_kinds, each_rows};
+ghost use Rattle.smk_model.specs.Tables.{AreColumns};
+ghost use Rattle.smk_outside.specs.Outside.{Rose};
+ghost use Rattle.smk_inputs.specs.Added.{BringTables};
+ghost use Rattle.smk_inputs.specs.Image.{reading_image};
+ghost use Rattle.smk_inputs.specs.Collecting.{Loads, IsSayable};
+ghost use Rattle.smk_inputs.specs.declared.stop.Stop.TheVariants.{Exhausted as exhausted};
+
+use crate::loading::load;
+use crate::script::{Reading, reading_of};
+use crate::settings::Settings;
+use crate::stop::Stop;
+use smk_base::{AnyLine, Catalog, Text};
+use smk_outside::{Files, Gate};
+use smk_parse::line_at;
+use smk_table::Table;
+use std::alloc::Global;
+use std::collections::VecDeque;
+use std::thread::Threads;
+
+// The table of the file that a line appends to the table of this name, where the book has it. Where it hasn't, nothing is read.
+fn bring_rows<R: Threads + Sync, F: Files, G: Gate + Sync>(
+    rt: &R,
+    alloc: Global,
+    settings: Settings,
+    files: &mut F,
+    catalog: &Catalog,
+    table: &Text,
+    file: &Text,
+    gate: &G,
+) -> Result<Option<Table>, Stop>
+    requires { All (λ info. AreColumns info.cols) catalog.now.tables }
+    ensures read { Loads (F.held files.old) (Rose (F.faults files.old) (F.faults files.new)) (option_to_list (appended_by (catalog_image catalog.now) (AppendedLine table.now file.now)))
+        (λ brought. each_rows (option_to_list brought)) result }
+    ensures kinds { IfOk result (λ brought. each_kinds (option_to_list brought) ≡ each_table_kinds (option_to_list (appended_by (catalog_image catalog.now) (AppendedLine table.now file.now)))) }
+    ensures said { IsSayable result }
+    ensures held { F.held files.new ≡ F.held files.old }
+    ensures later { F.faults files.old ≤ F.faults files.new }
+{
+    match catalog.table_place(table) {
+        Some(t) => {
+            let info = &catalog.tables.as_slice()[t];
+            let rows = load(rt, alloc, settings, files, file, info, gate)?;
+            Ok(Some(rows))
+        }
+        None => Ok(None),
+    }
+}
+
+// The table that a line brings, if it brings one. It lets go of what the line says.
+fn bring<R: Threads + Sync, F: Files, G: Gate + Sync>(
+    rt: &R,
+    alloc: Global,
+    settings: Settings,
+    files: &mut F,
+    catalog: &Catalog,
+    reading: Reading,
+    gate: &G,
+) -> Result<Option<Table>, Stop>
+    requires { All (λ info. AreColumns info.cols) catalog.now.tables }
+    ensures read { Loads (F.held files.old) (Rose (F.faults files.old) (F.faults files.new)) (option_to_list (appended_at (catalog_image catalog.now) (reading_image reading)))
+        (λ brought. each_rows (option_to_list brought)) result }
+    ensures kinds { IfOk result (λ brought. each_kinds (option_to_list brought) ≡ each_table_kinds (option_to_list (appended_at (catalog_image catalog.now) (reading_image reading)))) }
+    ensures said { IsSayable result }
+    ensures held { F.held files.new ≡ F.held files.old }
+    ensures later { F.faults files.old ≤ F.faults files.new }
+{
+    match reading {
+        Reading::Asks(AnyLine::Append { table, file }) => {
+            bring_rows(rt, alloc, settings, files, catalog, &table, &file, gate)
+        }
+        Reading::Asks(AnyLine::Plain(_) | AnyLine::Ask(_) | AnyLine::Profile { .. })
+        | Reading::Nothing
+        | Reading::Unread(_) => Ok(None),
+    }
+}
+
+// Puts the table that a line brings behind those of the lines before it.
+fn keep(added: &mut VecDeque<Table>, brought: Option<Table>) -> Result<(), Stop>
+    ensures kept { OnOk result (added.new.items ≡ added.old.items ++ option_to_list brought) }
+    ensures wants { IfErr result (λ stop. stop ≡ exhausted) }
+{
+    if let Some(table) = brought {
+        added.push_back(table)?;
+    }
+    Ok(())
+}
+
+/// The tables that the lines of a script bring, line by line. Nothing else is kept of the lines.
+pub fn read_added<R: Threads + Sync, F: Files, G: Gate + Sync>(
+    rt: &R,
+    alloc: Global,
+    settings: Settings,
+    files: &mut F,
+    catalog: &Catalog,
+    script: &[u8],
+    gate: &G,
+) -> Result<VecDeque<Table>, Stop>
+    requires { All (λ info. AreColumns info.cols) catalog.now.tables }
+    ensures read { (said : List readings.Reading) → AreReadings (lines script.now) said
+        → Loads (F.held files.old) (Rose (F.faults files.old) (F.faults files.new)) (appended (catalog_image catalog.now) said) (λ added. each_rows added.items) result }
+    ensures fits { IfOk result (λ added. BringTables (catalog_image catalog.now) (lines script.now) added.items) }
+    ensures said { IsSayable result }
+    ensures held { F.held files.new ≡ F.held files.old }
+    ensures later { F.faults files.old ≤ F.faults files.new }
+{
+    let mut added = VecDeque::new(alloc);
+    let mut from = 0;
+    while let Some(span) = line_at(script, from) {
+        let reading = reading_of(alloc, &script[span.start..span.end])?;
+        let brought = bring(rt, alloc, settings, files, catalog, reading, gate)?;
+        keep(&mut added, brought)?;
+        from = span.next;
+    }
+    Ok(added)
+}

@@ -1,0 +1,187 @@
+// The words of a run, as clap takes them.
+ghost use Rattle.std.specs.Prelude.{◌≡◌, ◌≤◌, IfOk, IfSome, false, map};
+ghost use Rattle.std.specs.Option.{option_map};
+ghost use Rattle.clap.specs.Words.{app_of, rule_of, new_rule};
+ghost use Rattle.smk_model.specs.Words as calls;
+ghost use Rattle.smk_inputs.specs.Image.{invocation_image, mode_image, settings_image, texts_image};
+ghost use Rattle.smk_inputs.specs.WordsTaken.{MatchesOf, values_of};
+
+use crate::called::{Flights, RunTexts, RunWords};
+use crate::settings::Settings;
+use clap::builder::ValueParser;
+use clap::error::ErrorKind;
+use clap::{Arg, ArgMatches, Command};
+use smk_base::{Text, WORKER_LIMIT, read_int};
+use smk_session::Mode;
+use std::alloc::{AllocError, Global};
+
+// The most workers that a run may have, as the number that clap reads.
+const MOST_WORKERS: i64 = WORKER_LIMIT as i64;
+
+// The most flights that a demo may have.
+const MOST_FLIGHTS: i64 = 200_000;
+
+// The option `--mode`.
+fn mode_arg<'a>(alloc: Global) -> Arg<'a>
+    ensures rule { rule_of result ≡ calls.mode_rule }
+    ensures local { result.global ≡ false }
+{
+    Arg::new(alloc, "mode").long("mode").default_value("inject")
+}
+
+// The option `--workers`.
+fn workers_arg<'a>(alloc: Global) -> Arg<'a>
+    ensures rule { rule_of result ≡ calls.workers_rule }
+    ensures local { result.global ≡ false }
+{
+    Arg::new(alloc, "workers")
+        .long("workers")
+        .value_parser(ValueParser::Signed(1, MOST_WORKERS))
+        .default_value("1")
+}
+
+// The option `--demo`.
+fn demo_arg<'a>(alloc: Global) -> Arg<'a>
+    ensures rule { rule_of result ≡ calls.demo_rule }
+    ensures local { result.global ≡ false }
+{
+    Arg::new(alloc, "demo")
+        .long("demo")
+        .value_parser(ValueParser::Signed(1, MOST_FLIGHTS))
+}
+
+// A place of this name.
+fn place_arg<'a>(alloc: Global, name: &'a str) -> Arg<'a>
+    ensures rule { rule_of result ≡ new_rule name.entry.now }
+    ensures local { result.global ≡ false }
+{
+    Arg::new(alloc, name)
+}
+
+// The command of a run: its options, and then its places.
+fn smoke_command<'a>(alloc: Global) -> Result<Command<'a>, AllocError>
+    ensures { IfOk result (λ command. app_of command ≡ calls.smoke_app) }
+{
+    let plain = Command::new(alloc, "smoke").no_binary_name(true);
+    let with_mode = plain.arg(mode_arg(alloc))?;
+    let with_workers = with_mode.arg(workers_arg(alloc))?;
+    let with_demo = with_workers.arg(demo_arg(alloc))?;
+    let with_book = with_demo.arg(place_arg(alloc, "book"))?;
+    let with_script = with_book.arg(place_arg(alloc, "script"))?;
+    Ok(with_script)
+}
+
+// What clap makes of the words, or none where it doesn't take them.
+fn matches_in<'a>(alloc: Global, words: &'a [&'a str]) -> Result<Option<ArgMatches<'a>>, AllocError>
+    ensures { IfOk result (MatchesOf (map (λ w. w.now) words.entry.now)) }
+{
+    match smoke_command(alloc)?.try_get_matches_from(words) {
+        Ok(matches) => Ok(Some(matches)),
+        Err(e) => match e.kind() {
+            ErrorKind::OutOfMemory => Err(AllocError),
+            _ => Ok(None),
+        },
+    }
+}
+
+// The mode of a name.
+fn mode_of(name: &str) -> Option<Mode>
+    ensures { option_map mode_image result ≡ calls.mode_named name.now }
+{
+    match name {
+        "inject" => Some(Mode::Inject),
+        "defer" => Some(Mode::Defer),
+        _ => None,
+    }
+}
+
+// So many workers, unless there may not be so many.
+fn workers_counted(number: i64) -> Option<u32>
+    ensures counted { result ≡ calls.workers_counted number }
+    ensures some { IfSome result (λ workers. 1 ≤ workers) }
+    ensures few { IfSome result (λ workers. workers ≤ WORKER_LIMIT) }
+{
+    if number < 1 || number > MOST_WORKERS {
+        return None;
+    }
+    Some(number as u32)
+}
+
+// The settings, unless the mode isn't known or there may not be so many workers.
+fn settings_of(matches: &ArgMatches<'_>) -> Option<Settings>
+    ensures { option_map settings_image result ≡ calls.settings_in (values_of matches.now) }
+{
+    let mode = mode_of(matches.get_str("mode")?)?;
+    let number = read_int(matches.get_str("workers")?.as_bytes())?;
+    let workers = workers_counted(number)?;
+    Some(Settings { mode, workers })
+}
+
+/// A text of these bytes.
+pub fn text_of(alloc: Global, bytes: &[u8]) -> Result<Text, AllocError>
+    ensures { IfOk result (λ text. text ≡ bytes.now) }
+{
+    Ok(Text::from_vec(Vec::from_slice(alloc, bytes)?))
+}
+
+// The bytes of a word where there is one.
+fn text_if_any(alloc: Global, word: Option<&str>) -> Result<Option<Text>, AllocError>
+    ensures { IfOk result (λ text. text ≡ option_map (λ w. w.now) word.entry) }
+{
+    match word {
+        Some(word) => Ok(Some(text_of(alloc, word.as_bytes())?)),
+        None => Ok(None),
+    }
+}
+
+// The demo of a number of flights, unless there may not be so many.
+fn demo_sized(number: i64) -> Option<RunTexts>
+    ensures { option_map texts_image result ≡ calls.demo_sized number }
+{
+    if number < 1 || number > MOST_FLIGHTS {
+        return None;
+    }
+    Some(RunTexts::Demo(Flights {
+        count: number as u32,
+    }))
+}
+
+// The texts that matches ask for, those of a demo or those of files, unless none or both are given.
+fn texts_in(alloc: Global, matches: &ArgMatches<'_>) -> Result<Option<RunTexts>, AllocError>
+    ensures { IfOk result (λ found. option_map texts_image found ≡ calls.texts_in (values_of matches.now)) }
+{
+    match (matches.get_str("demo"), matches.get_str("book")) {
+        (None, Some(book)) => Ok(Some(RunTexts::Files {
+            book: text_of(alloc, book.as_bytes())?,
+            script: text_if_any(alloc, matches.get_str("script"))?,
+        })),
+        (Some(number), None) => Ok(match read_int(number.as_bytes()) {
+            Some(number) => demo_sized(number),
+            None => None,
+        }),
+        _ => Ok(None),
+    }
+}
+
+// What matches call a run for, unless the settings or the texts aren't said.
+fn called_for(alloc: Global, matches: &ArgMatches<'_>) -> Result<Option<RunWords>, AllocError>
+    ensures { IfOk result (λ found. option_map invocation_image found ≡ calls.invocation_in (values_of matches.now)) }
+{
+    let Some(settings) = settings_of(matches) else {
+        return Ok(None);
+    };
+    match texts_in(alloc, matches)? {
+        Some(texts) => Ok(Some(RunWords { settings, texts })),
+        None => Ok(None),
+    }
+}
+
+/// What the words of a run call it for, or none where they are not those of a run.
+pub fn read_words(alloc: Global, words: &[&str]) -> Result<Option<RunWords>, AllocError>
+    ensures { IfOk result (λ found. option_map invocation_image found ≡ calls.invocation_of (map (λ w. w.now) words.entry.now)) }
+{
+    match matches_in(alloc, words)? {
+        Some(matches) => called_for(alloc, &matches),
+        None => Ok(None),
+    }
+}

@@ -1,7 +1,0 @@
-use Rattle.std.proofs.Common.{arith}
-use Rattle.std.proofs.lemmas.Grind.{common_steps}
-use Rattle.smk_top.proofs.FileReads.{spelt, keeps_limits, misspelt}
-use Rattle.smk_top.proofs.opening.parsed.Goals as goal
-
-pub returns-in-Err : goal.returns-in-Err
-returns-in-Err c = grind (arith, common_steps, spelt, keeps_limits, misspelt)

@@ -1,0 +1,22 @@
+-- How often a run looks at rows.
+use Rattle.std.specs.Prelude.{◌≡◌, ◌⊎◌, ◌≤◌, ◌+◌, ⊤, ℕ, List, Option, Result, Ok, Err}
+use Rattle.smk_model.specs.Outcome.{Held, Inputs, ReadsInputs, WhereTold, run_looks}
+use Rattle.smk_model.specs.Words.{words_of}
+use Rattle.smk_inputs.specs.declared.stop.Stop.{Stop}
+use Rattle.smk_inputs.specs.declared.stop.Stop.TheVariants.{At, Unwritten, Exhausted}
+use Rattle.smk_top.specs.Statuses.{IsReadingFault, status_of_fault}
+
+-- these inputs are those of the run
+abbrev pub IsInputs : List (List ℕ) → Option Held → Inputs → Type 0
+IsInputs words held inputs = WhereTold held (words_of words) ⊤ (λ held. ReadsInputs words held (Ok inputs))
+
+-- no look was made, or at most those of a run that reads such inputs
+abbrev pub RunLooks : List (List ℕ) → Option Held → ℕ → ℕ → Type 0
+RunLooks words held before after = (after ≡ before) ⊎ ((given : Inputs) × IsInputs words held given × (after ≤ before + run_looks given))
+
+-- where a step stops by a fault of what is read, no look was made
+abbrev pub LooksBehindReading : {X : Type 0} → Result X Stop → ℕ → ℕ → Type 0
+LooksBehindReading (Err (At fault)) before after = IsReadingFault (status_of_fault fault) → after ≡ before
+LooksBehindReading (Err Unwritten) before after = ⊤
+LooksBehindReading (Err Exhausted) before after = ⊤
+LooksBehindReading (Ok x) before after = ⊤
