@@ -3,12 +3,14 @@ use Rattle.smk_base.specs.TreeImage.{any_image}
 use Rattle.smk_model.specs.Readings as readings
 use Rattle.smk_model.specs.Words.{Invocation}
 use Rattle.smk_model.specs.Words as calls
+use Rattle.smk_model.specs.TalkWords.{TalkCall}
 use Rattle.smk_session.specs.declared.mode.Mode.{Mode}
 use Rattle.smk_session.specs.declared.mode.Mode.TheVariants.{Inject, Defer}
 use Rattle.smk_inputs.specs.declared.settings.Settings.{Settings}
 use Rattle.smk_inputs.specs.declared.called.RunTexts.{RunTexts}
 use Rattle.smk_inputs.specs.declared.called.RunTexts.TheVariants.{Files, Demo}
 use Rattle.smk_inputs.specs.declared.called.RunWords.{RunWords}
+use Rattle.smk_inputs.specs.declared.called.TalkWords.{TalkWords}
 use Rattle.smk_inputs.specs.declared.script.Reading.{Reading}
 use Rattle.smk_inputs.specs.declared.script.Reading.TheVariants.{Nothing, Asks, Unread}
 
@@ -26,6 +28,10 @@ texts_image (Demo flights) = calls.Demo flights.count
 -- what a run is called for
 abbrev pub invocation_image : RunWords → Invocation
 invocation_image words = record { settings = settings_image words.settings; texts = texts_image words.texts }
+
+-- what a conversation is called for
+abbrev pub talk_image : TalkWords → TalkCall
+talk_image words = record { settings = settings_image words.settings; texts = texts_image words.texts; read_only = words.read_only }
 
 -- what a line says
 abbrev pub reading_image : Reading → readings.Reading

@@ -57,27 +57,27 @@ fn bring_rows<R: Threads + Sync, F: Files, G: Gate + Sync>(
     }
 }
 
-// The table that a line brings, if it brings one. It lets go of what the line says.
-fn bring<R: Threads + Sync, F: Files, G: Gate + Sync>(
+/// The table that a line brings, if it brings one.
+pub fn bring<R: Threads + Sync, F: Files, G: Gate + Sync>(
     rt: &R,
     alloc: Global,
     settings: Settings,
     files: &mut F,
     catalog: &Catalog,
-    reading: Reading,
+    reading: &Reading,
     gate: &G,
 ) -> Result<Option<Table>, Stop>
     requires { All (λ info. AreColumns info.cols) catalog.now.tables }
-    ensures read { Loads (F.held files.old) (Rose (F.faults files.old) (F.faults files.new)) (option_to_list (appended_at (catalog_image catalog.now) (reading_image reading)))
+    ensures read { Loads (F.held files.old) (Rose (F.faults files.old) (F.faults files.new)) (option_to_list (appended_at (catalog_image catalog.now) (reading_image reading.now)))
         (λ brought. each_rows (option_to_list brought)) result }
-    ensures kinds { IfOk result (λ brought. each_kinds (option_to_list brought) ≡ each_table_kinds (option_to_list (appended_at (catalog_image catalog.now) (reading_image reading)))) }
+    ensures kinds { IfOk result (λ brought. each_kinds (option_to_list brought) ≡ each_table_kinds (option_to_list (appended_at (catalog_image catalog.now) (reading_image reading.now)))) }
     ensures said { IsSayable result }
     ensures held { F.held files.new ≡ F.held files.old }
     ensures later { F.faults files.old ≤ F.faults files.new }
 {
     match reading {
         Reading::Asks(AnyLine::Append { table, file }) => {
-            bring_rows(rt, alloc, settings, files, catalog, &table, &file, gate)
+            bring_rows(rt, alloc, settings, files, catalog, table, file, gate)
         }
         Reading::Asks(AnyLine::Plain(_) | AnyLine::Ask(_) | AnyLine::Profile { .. })
         | Reading::Nothing
@@ -118,7 +118,7 @@ pub fn read_added<R: Threads + Sync, F: Files, G: Gate + Sync>(
     let mut from = 0;
     while let Some(span) = line_at(script, from) {
         let reading = reading_of(alloc, &script[span.start..span.end])?;
-        let brought = bring(rt, alloc, settings, files, catalog, reading, gate)?;
+        let brought = bring(rt, alloc, settings, files, catalog, &reading, gate)?;
         keep(&mut added, brought)?;
         from = span.next;
     }

@@ -1,4 +1,4 @@
-// What the words of a run call it for.
+// What the words of a run and of a conversation call it for.
 ghost use Rattle.std.specs.Prelude.{◌≤◌};
 
 use crate::settings::Settings;
@@ -26,4 +26,12 @@ pub enum RunTexts {
 pub struct RunWords {
     pub settings: Settings,
     pub texts: RunTexts,
+}
+
+/// What a conversation is called for: how it works, where its texts come from, which is without a script, and whether nothing may be appended.
+#[derive(Drop)]
+pub struct TalkWords {
+    pub settings: Settings,
+    pub texts: RunTexts,
+    pub read_only: bool,
 }

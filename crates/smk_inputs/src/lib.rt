@@ -1,4 +1,4 @@
-//! What a run reads before a session begins: its words, its files, its book and tables, and its script.
+//! What is read before a session begins: words, files, the book and its tables, and the script of a run; and the files of lines that append.
 #![tactic(auto)]
 
 mod adding;
@@ -14,10 +14,12 @@ mod settings;
 mod stop;
 mod words;
 
-pub use called::{Flights, RunTexts, RunWords};
+pub use adding::bring;
+pub use called::{Flights, RunTexts, RunWords, TalkWords};
 pub use collecting::{read_all, read_demo};
+pub use demo_texts::DemoTexts;
 pub use inputs::Inputs;
 pub use script::{Reading, reading_of};
 pub use settings::Settings;
 pub use stop::Stop;
-pub use words::read_words;
+pub use words::{read_talk_words, read_words, text_of};

@@ -1,16 +1,17 @@
-// The words of a run, as clap takes them.
-ghost use Rattle.std.specs.Prelude.{◌≡◌, ◌≤◌, IfOk, IfSome, false, map};
+// The words of a run and of a conversation, as clap takes them.
+ghost use Rattle.std.specs.Prelude.{◌≡◌, ◌≤◌, IfOk, IfSome, true, false, map};
 ghost use Rattle.std.specs.Option.{option_map};
-ghost use Rattle.clap.specs.Words.{app_of, rule_of, new_rule};
+ghost use Rattle.clap.specs.Words.{app_of, is_simple_and_free, rule_of, new_rule};
+ghost use Rattle.smk_model.specs.TalkWords as talks;
 ghost use Rattle.smk_model.specs.Words as calls;
-ghost use Rattle.smk_inputs.specs.Image.{invocation_image, mode_image, settings_image, texts_image};
+ghost use Rattle.smk_inputs.specs.Image.{invocation_image, mode_image, settings_image, talk_image, texts_image};
 ghost use Rattle.smk_inputs.specs.WordsTaken.{MatchesOf, values_of};
 
-use crate::called::{Flights, RunTexts, RunWords};
+use crate::called::{Flights, RunTexts, RunWords, TalkWords};
 use crate::settings::Settings;
 use clap::builder::ValueParser;
 use clap::error::ErrorKind;
-use clap::{Arg, ArgMatches, Command};
+use clap::{Arg, ArgAction, ArgMatches, Command};
 use smk_base::{Text, WORKER_LIMIT, read_int};
 use smk_session::Mode;
 use std::alloc::{AllocError, Global};
@@ -71,11 +72,38 @@ fn smoke_command<'a>(alloc: Global) -> Result<Command<'a>, AllocError>
     Ok(with_script)
 }
 
-// What clap makes of the words, or none where it doesn't take them.
-fn matches_in<'a>(alloc: Global, words: &'a [&'a str]) -> Result<Option<ArgMatches<'a>>, AllocError>
-    ensures { IfOk result (MatchesOf (map (λ w. w.now) words.entry.now)) }
+// The option `--read-only`.
+fn read_only_arg<'a>(alloc: Global) -> Arg<'a>
+    ensures rule { rule_of result ≡ talks.read_only_rule }
+    ensures local { result.global ≡ false }
 {
-    match smoke_command(alloc)?.try_get_matches_from(words) {
+    Arg::new(alloc, "read-only")
+        .long("read-only")
+        .action(ArgAction::SetTrue)
+}
+
+// The command of a conversation: its options, and then its place.
+fn talk_command<'a>(alloc: Global) -> Result<Command<'a>, AllocError>
+    ensures { IfOk result (λ command. app_of command ≡ talks.talk_app) }
+{
+    let plain = Command::new(alloc, "smoke_live").no_binary_name(true);
+    let with_mode = plain.arg(mode_arg(alloc))?;
+    let with_workers = with_mode.arg(workers_arg(alloc))?;
+    let with_demo = with_workers.arg(demo_arg(alloc))?;
+    let with_read_only = with_demo.arg(read_only_arg(alloc))?;
+    let with_book = with_read_only.arg(place_arg(alloc, "book"))?;
+    Ok(with_book)
+}
+
+// What clap makes of the words for a command, or none where it doesn't take them.
+fn matches_in<'a>(
+    command: Command<'a>,
+    words: &'a [&'a str],
+) -> Result<Option<ArgMatches<'a>>, AllocError>
+    requires simple { is_simple_and_free (app_of command) ≡ true }
+    ensures { IfOk result (MatchesOf (app_of command) (map (λ w. w.now) words.entry.now)) }
+{
+    match command.try_get_matches_from(words) {
         Ok(matches) => Ok(Some(matches)),
         Err(e) => match e.kind() {
             ErrorKind::OutOfMemory => Err(AllocError),
@@ -146,14 +174,19 @@ fn demo_sized(number: i64) -> Option<RunTexts>
     }))
 }
 
-// The texts that matches ask for, those of a demo or those of files, unless none or both are given.
-fn texts_in(alloc: Global, matches: &ArgMatches<'_>) -> Result<Option<RunTexts>, AllocError>
-    ensures { IfOk result (λ found. option_map texts_image found ≡ calls.texts_in (values_of matches.now)) }
+// The texts that are asked for by the values of `--demo`, of the book and of the script: those of a demo or those of files, unless none or both are given.
+fn texts_named(
+    alloc: Global,
+    number: Option<&str>,
+    book: Option<&str>,
+    script: Option<&str>,
+) -> Result<Option<RunTexts>, AllocError>
+    ensures { IfOk result (λ found. option_map texts_image found ≡ calls.texts_named (option_map (λ w. w.now) number.entry) (option_map (λ w. w.now) book.entry) (option_map (λ w. w.now) script.entry)) }
 {
-    match (matches.get_str("demo"), matches.get_str("book")) {
+    match (number, book) {
         (None, Some(book)) => Ok(Some(RunTexts::Files {
             book: text_of(alloc, book.as_bytes())?,
-            script: text_if_any(alloc, matches.get_str("script"))?,
+            script: text_if_any(alloc, script)?,
         })),
         (Some(number), None) => Ok(match read_int(number.as_bytes()) {
             Some(number) => demo_sized(number),
@@ -161,6 +194,18 @@ fn texts_in(alloc: Global, matches: &ArgMatches<'_>) -> Result<Option<RunTexts>,
         }),
         _ => Ok(None),
     }
+}
+
+// The texts that matches ask for.
+fn texts_in(alloc: Global, matches: &ArgMatches<'_>) -> Result<Option<RunTexts>, AllocError>
+    ensures { IfOk result (λ found. option_map texts_image found ≡ calls.texts_in (values_of matches.now)) }
+{
+    texts_named(
+        alloc,
+        matches.get_str("demo"),
+        matches.get_str("book"),
+        matches.get_str("script"),
+    )
 }
 
 // What matches call a run for, unless the settings or the texts aren't said.
@@ -180,8 +225,39 @@ fn called_for(alloc: Global, matches: &ArgMatches<'_>) -> Result<Option<RunWords
 pub fn read_words(alloc: Global, words: &[&str]) -> Result<Option<RunWords>, AllocError>
     ensures { IfOk result (λ found. option_map invocation_image found ≡ calls.invocation_of (map (λ w. w.now) words.entry.now)) }
 {
-    match matches_in(alloc, words)? {
+    match matches_in(smoke_command(alloc)?, words)? {
         Some(matches) => called_for(alloc, &matches),
+        None => Ok(None),
+    }
+}
+
+// What matches call a conversation for, unless the settings or the texts aren't said.
+fn called_to_talk(
+    alloc: Global,
+    matches: &ArgMatches<'_>,
+) -> Result<Option<TalkWords>, AllocError>
+    ensures { IfOk result (λ found. option_map talk_image found ≡ talks.talk_call_in (values_of matches.now)) }
+{
+    let Some(settings) = settings_of(matches) else {
+        return Ok(None);
+    };
+    let read_only = matches.get_str("read-only") == Some("true");
+    match texts_named(alloc, matches.get_str("demo"), matches.get_str("book"), None)? {
+        Some(texts) => Ok(Some(TalkWords {
+            settings,
+            texts,
+            read_only,
+        })),
+        None => Ok(None),
+    }
+}
+
+/// What the words of a conversation call it for, or none where they are not those of one.
+pub fn read_talk_words(alloc: Global, words: &[&str]) -> Result<Option<TalkWords>, AllocError>
+    ensures { IfOk result (λ found. option_map talk_image found ≡ talks.talk_call_of (map (λ w. w.now) words.entry.now)) }
+{
+    match matches_in(talk_command(alloc)?, words)? {
+        Some(matches) => called_to_talk(alloc, &matches),
         None => Ok(None),
     }
 }
