@@ -6,6 +6,7 @@ use Rattle.smk_base.specs.CatalogImage.{CatalogImage, catalog_image}
 use Rattle.smk_base.specs.Places.{IsPlaces, Lists, has, members_at, places, upto}
 use Rattle.smk_base.specs.Rels.{Relation}
 use Rattle.smk_base.specs.declared.brush.BrushOn.{BrushOn}
+use Rattle.smk_base.specs.declared.catalog.Catalog.{Catalog}
 use Rattle.smk_base.specs.declared.pick.Pick.{Pick}
 use Rattle.smk_base.specs.declared.tree.Marks.{Marks}
 use Rattle.smk_base.specs.declared.reply.Reply.{Reply}
@@ -103,10 +104,13 @@ abbrev pub content_at : CatalogImage → State → ℕ → Content
 content_at catalog state w = record { view = w; rel = content_kept catalog state w }
 
 -- a change comes with a reply that is no refusal, and leaves what every session keeps
-pub record Changes (held : Lent) (reply : Reply) (change : Change) : Type 0 where
+pub record ChangesOver (catalog : Catalog) (tables : List Relation) (contents : List (Option Relation)) (reply : Reply) (change : Change) : Type 0 where
   pub answered : is_refused reply ≡ false
-  pub known : All (λ content. content.view < length held.contents.now) change.contents
-  pub in_force : AreInForce held.catalog.now held.tables.now change.brushes (placed change.contents held.contents.now)
+  pub known : All (λ content. content.view < length contents) change.contents
+  pub in_force : AreInForce catalog tables change.brushes (placed change.contents contents)
+
+abbrev pub Changes : Lent → Reply → Change → Type 0
+Changes held reply change = ChangesOver held.catalog.now held.tables.now held.contents.now reply change
 
 -- the brushes on a table with so many rows are on rids of it, ascending and without repeats
 abbrev pub AreOn : ℕ → ℕ → List BrushOn → Type 0

@@ -7,3 +7,4 @@ pub mod Parts
 pub mod Refreshed
 pub mod SessionLaws
 pub mod Sessions
+pub mod Turns

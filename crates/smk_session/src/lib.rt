@@ -37,3 +37,4 @@ pub use parts::{Opened, Parts};
 pub use session::Session;
 pub use session_laws::nothing_kept;
 pub use smk_base::BrushOn;
+pub use turn::Turn;

@@ -9,6 +9,7 @@ ghost use Rattle.smk_model.specs.Replies as replies;
 ghost use Rattle.smk_model.specs.Selection.{each_kinds};
 ghost use Rattle.smk_session.specs.Parts.{parts_image};
 ghost use Rattle.smk_session.specs.Sessions.{IsSession, IsStartFault, opened, state_of, workbook_image, workbook_of};
+ghost use Rattle.smk_session.specs.Turns.{IsTurnOf, state_turned};
 
 use crate::answer::answer_to;
 use crate::beginning::begin;
@@ -182,6 +183,73 @@ impl Session {
         self.book.catalog()
     }
 
+    /// What a line is answered, and what it changes, which is nothing where it is refused. The session stays as it is. Rows of a table that are answered are one look each, those without the value that is asked for and those of a grouping none, and so are the rows that are selected for the views that follow a brush. With several workers two views or more that follow are made anew at the same time, once the rows of all are selected: the i-th of them, from 0, passes the gate with i; one alone is made in pieces, as by `start`.
+    pub fn turn<R: Threads + Sync, G: Gate + Sync, L: Ledger>(
+        &self,
+        rt: &R,
+        alloc: Global,
+        line: &Line,
+        gate: &G,
+        steps: &mut Steps<L>,
+    ) -> Result<Turn, AllocError>
+        ensures reply { IfOk result (λ turn. (turn.reply, state_turned self.now turn) ≡ replies.reply (catalog_image self.now.catalog) (state_of self.now) line.now) }
+        ensures fits { IfOk result (IsTurnOf self.now) }
+        ensures looks { steps.new ≤ steps.old + line_looks (catalog_image self.now.catalog) (state_of self.now) line.now }
+    {
+        let held = Lent {
+            catalog: self.book.catalog(),
+            tables: self.tables.as_slice(),
+            views: self.views.as_slice(),
+            splits: self.splits.as_slice(),
+            cubes: self.cubes.as_slice(),
+            brushes: self.brushes.as_slice(),
+            contents: self.contents.as_slice(),
+        };
+        let workers = Workers {
+            gate,
+            workers: self.workers,
+        };
+        let work = Work {
+            rt,
+            alloc,
+            crew: &workers,
+        };
+        match answer_to(&work, &held, line, steps) {
+            Ok(turn) => Ok(turn),
+            Err(Turned::Refused(refusal)) => Ok(Turn {
+                reply: Reply::Refused(refusal),
+                change: None,
+            }),
+            Err(Turned::Exhausted) => Err(AllocError),
+        }
+    }
+
+    /// Takes a turn: puts what it changes in force, and gives its reply. It takes no memory and makes no look. After the turn of a line that is refused, and after one that leaves the state, the session is as it was.
+    pub fn take(&mut self, turn: Turn) -> Reply
+        requires fits { IsTurnOf self.old turn }
+        ensures reply { result ≡ turn.reply }
+        ensures state { state_of self.new ≡ state_turned self.old turn }
+        ensures refused { replies.is_refused turn.reply ≡ true → self.new ≡ self.old }
+        ensures same { state_of self.new ≡ state_of self.old → self.new ≡ self.old }
+        ensures book { self.new.catalog ≡ self.old.catalog }
+        ensures tables { self.new.tables ≡ self.old.tables }
+        ensures views { self.new.views ≡ self.old.views }
+        ensures splits { self.new.splits ≡ self.old.splits }
+        ensures cubes { self.new.cubes ≡ self.old.cubes }
+        ensures mode { self.new.mode ≡ self.old.mode }
+        ensures workers { self.new.workers ≡ self.old.workers }
+    {
+        let Turn { reply, change } = turn;
+        match change {
+            None => reply,
+            Some(change) => {
+                place(self.contents.as_mut_slice(), change.contents);
+                self.brushes = change.brushes;
+                reply
+            }
+        }
+    }
+
     /// The reply to a line, after which the brushes in force are those of the next state. Rows of a table that are answered are one look each, those without the value that is asked for and those of a grouping none, and so are the rows that are selected for the views that follow a brush. With several workers two views or more that follow are made anew at the same time, once the rows of all are selected: the i-th of them, from 0, passes the gate with i; one alone is made in pieces, as by `start`. After an error, after a line that is refused, and after one that leaves the state, the session is as it was.
     pub fn answer<R: Threads + Sync, G: Gate + Sync, L: Ledger>(
         &mut self,
@@ -204,35 +272,7 @@ impl Session {
         ensures kept { OnErr result (self.new ≡ self.old) }
         ensures looks { steps.new ≤ steps.old + line_looks (catalog_image self.old.catalog) (state_of self.old) line.now }
     {
-        let held = Lent {
-            catalog: self.book.catalog(),
-            tables: self.tables.as_slice(),
-            views: self.views.as_slice(),
-            splits: self.splits.as_slice(),
-            cubes: self.cubes.as_slice(),
-            brushes: self.brushes.as_slice(),
-            contents: self.contents.as_slice(),
-        };
-        let workers = Workers {
-            gate,
-            workers: self.workers,
-        };
-        let work = Work {
-            rt,
-            alloc,
-            crew: &workers,
-        };
-        match answer_to(&work, &held, line, steps) {
-            Ok(Turn { reply, change }) => match change {
-                None => Ok(reply),
-                Some(change) => {
-                    place(self.contents.as_mut_slice(), change.contents);
-                    self.brushes = change.brushes;
-                    Ok(reply)
-                }
-            },
-            Err(Turned::Refused(refusal)) => Ok(Reply::Refused(refusal)),
-            Err(Turned::Exhausted) => Err(AllocError),
-        }
+        let turn = self.turn(rt, alloc, line, gate, steps)?;
+        Ok(self.take(turn))
     }
 }

@@ -3,10 +3,11 @@ ghost use Rattle.smk_session.specs.Answers.{placed};
 
 use smk_base::{BrushOn, ListOf, Rel, Reply};
 
-// The reply to a line, and what takes the place of the brushes and of contents where the line changes them.
+/// What a line is answered, and what it changes: what takes the place of the brushes and of contents, where the line changes them.
 #[derive(Drop)]
-pub(crate) struct Turn {
-    pub(crate) reply: Reply,
+pub struct Turn {
+    /// The reply to the line.
+    pub reply: Reply,
     pub(crate) change: Option<Change>,
 }
 
