@@ -101,7 +101,7 @@ fn matches_in<'a>(
     words: &'a [&'a str],
 ) -> Result<Option<ArgMatches<'a>>, AllocError>
     requires simple { is_simple_and_free (app_of command) ≡ true }
-    ensures { IfOk result (MatchesOf (app_of command) (map (λ w. w.now) words.entry.now)) }
+    ensures { IfOk result (MatchesOf (app_of command.entry) (map (λ w. w.now) words.entry.now)) }
 {
     match command.try_get_matches_from(words) {
         Ok(matches) => Ok(Some(matches)),
@@ -232,17 +232,19 @@ pub fn read_words(alloc: Global, words: &[&str]) -> Result<Option<RunWords>, All
 }
 
 // What matches call a conversation for, unless the settings or the texts aren't said.
-fn called_to_talk(
-    alloc: Global,
-    matches: &ArgMatches<'_>,
-) -> Result<Option<TalkWords>, AllocError>
+fn called_to_talk(alloc: Global, matches: &ArgMatches<'_>) -> Result<Option<TalkWords>, AllocError>
     ensures { IfOk result (λ found. option_map talk_image found ≡ talks.talk_call_in (values_of matches.now)) }
 {
     let Some(settings) = settings_of(matches) else {
         return Ok(None);
     };
     let read_only = matches.get_str("read-only") == Some("true");
-    match texts_named(alloc, matches.get_str("demo"), matches.get_str("book"), None)? {
+    match texts_named(
+        alloc,
+        matches.get_str("demo"),
+        matches.get_str("book"),
+        None,
+    )? {
         Some(texts) => Ok(Some(TalkWords {
             settings,
             texts,
