@@ -1,5 +1,5 @@
 -- Clap's matches are those of the words, and so is what is said by them.
-use Rattle.std.proofs.Common.{◌≡◌, ◌≢◌, ◌∙◌, ℕ, List, [], ◌∷◌, Option, Some, None, true, ap, refl, subst, fun_ext}
+use Rattle.std.proofs.Common.{◌≡◌, ◌≢◌, ◌∙◌, ℕ, List, [], ◌∷◌, Option, Some, None, true, ap, refl, subst}
 use Rattle.std.proofs.lemmas.Bool.{and_parts}
 use Rattle.clap.specs.Kinds.{Kinds}
 use Rattle.clap.specs.Words.{App, HasMatchesOf, found_of, first_of, fault_of, is_simple, is_simple_and_free}
@@ -18,7 +18,7 @@ pub said_by_matches : {A : Type 0} (says : Values → Option A) (app asked : App
     → says (values_of matches) ≡ where_taken (fault_of asked words) (says (value_given_to asked words))
 said_by_matches says app asked words matches is taken =
     subst (λ (a : App). says (values_of matches) ≡ where_taken (fault_of a words) (says (value_given_to a words))) is
-    (ap says (fun_ext taken.1) ∙ rw taken.0 refl)
+    (ap says (λ i name. taken.1 name i) ∙ rw taken.0 refl)
 
 -- where there are kinds of error nothing is said
 none_where_refused : {A : Type 0} (kinds : Kinds) (found : Option A) → kinds ≢ [] → None ≡ where_taken kinds found
