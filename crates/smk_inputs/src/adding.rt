@@ -1,5 +1,5 @@
 // The tables of the files that the lines of a script append.
-ghost use Rattle.std.specs.Prelude.{◌≡◌, ◌≤◌, ◌++◌, List, All, IfOk, IfErr, OnOk};
+ghost use Rattle.std.specs.Prelude.{◌≡◌, ◌≤◌, ◌++◌, true, is_some, List, All, IfOk, IfErr, OnOk, OnErr};
 ghost use Rattle.std.specs.Option.{option_to_list};
 ghost use Rattle.smk_base.specs.CatalogImage.{catalog_image};
 ghost use Rattle.smk_base.specs.Trees.{AppendedLine};
@@ -43,6 +43,7 @@ fn bring_rows<R: Threads + Sync, F: Files, G: Gate + Sync>(
     ensures read { Loads (F.held files.old) (Rose (F.faults files.old) (F.faults files.new)) (option_to_list (appended_by (catalog_image catalog.now) (AppendedLine table.now file.now)))
         (λ brought. each_rows (option_to_list brought)) result }
     ensures kinds { IfOk result (λ brought. each_kinds (option_to_list brought) ≡ each_table_kinds (option_to_list (appended_by (catalog_image catalog.now) (AppendedLine table.now file.now)))) }
+    ensures asked { OnErr result (is_some (appended_by (catalog_image catalog.now) (AppendedLine table.now file.now)) ≡ true) }
     ensures said { IsSayable result }
     ensures held { F.held files.new ≡ F.held files.old }
     ensures later { F.faults files.old ≤ F.faults files.new }
@@ -57,7 +58,7 @@ fn bring_rows<R: Threads + Sync, F: Files, G: Gate + Sync>(
     }
 }
 
-/// The table that a line brings, if it brings one.
+/// The table that a line brings, if it brings one. Only where it appends to a table of the book a file is read.
 pub fn bring<R: Threads + Sync, F: Files, G: Gate + Sync>(
     rt: &R,
     alloc: Global,
@@ -71,6 +72,7 @@ pub fn bring<R: Threads + Sync, F: Files, G: Gate + Sync>(
     ensures read { Loads (F.held files.old) (Rose (F.faults files.old) (F.faults files.new)) (option_to_list (appended_at (catalog_image catalog.now) (reading_image reading.now)))
         (λ brought. each_rows (option_to_list brought)) result }
     ensures kinds { IfOk result (λ brought. each_kinds (option_to_list brought) ≡ each_table_kinds (option_to_list (appended_at (catalog_image catalog.now) (reading_image reading.now)))) }
+    ensures asked { OnErr result (is_some (appended_at (catalog_image catalog.now) (reading_image reading.now)) ≡ true) }
     ensures said { IsSayable result }
     ensures held { F.held files.new ≡ F.held files.old }
     ensures later { F.faults files.old ≤ F.faults files.new }

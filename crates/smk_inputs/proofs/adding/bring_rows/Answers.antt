@@ -1,5 +1,6 @@
 use Rattle.std.proofs.Common.{◌∙◌, Option, None, Err, Ok, Some, [], ◌∷◌, ap, sym, subst, refl}
 use Rattle.std.proofs.lemmas.Result.{err_from_is_err_and}
+use Rattle.std.specs.Prelude.{is_some}
 use Rattle.std.specs.Option.{option_to_list}
 use Rattle.smk_base.specs.CatalogImage.{catalog_image}
 use Rattle.smk_base.specs.declared.catalog.TableInfo.{TableInfo}
@@ -40,3 +41,9 @@ pub returns-in-None-clause-kinds : goal.returns-in-None-clause-kinds
 returns-in-None-clause-kinds g c =
     let asked = appended_nowhere (catalog_image c.args.catalog.now) c.args.table.now c.args.file.now (sym c.in-None.ensures.place) in
     ap (λ (o : Option TableInfo). each_table_kinds (option_to_list o)) (sym asked)
+
+pub returns-in_err-rows-in-Some-clause-asked : goal.returns-in_err-rows-in-Some-clause-asked
+returns-in_err-rows-in-Some-clause-asked g c =
+    let p = err_from_is_err_and c.from_residual.result c.from_residual.ensures.1 in
+    let asked = appended_found (catalog_image c.args.catalog.now) c.as_slice.result.now c.args.table.now c.args.file.now c.in-Some.t c.index-as_slice-t.result c.in-Some.ensures.place c.as_slice.ensures c.index-as_slice-t.is in
+    rw (p.1, p.2) (ap is_some asked)
