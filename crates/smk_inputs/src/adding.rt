@@ -120,7 +120,9 @@ pub fn read_added<R: Threads + Sync, F: Files, G: Gate + Sync>(
     let mut from = 0;
     while let Some(span) = line_at(script, from) {
         let reading = reading_of(alloc, &script[span.start..span.end])?;
-        let brought = bring(rt, alloc, settings, files, catalog, &reading, gate)?;
+        let found = bring(rt, alloc, settings, files, catalog, &reading, gate);
+        drop(reading);
+        let brought = found?;
         keep(&mut added, brought)?;
         from = span.next;
     }

@@ -27,7 +27,7 @@ pub returns-in_err-brought-clause-read : goal.returns-in_err-brought-clause-read
 returns-in_err-brought-clause-read g c said all =
     let p = err_from_is_err_and c.from_residual-in_err-brought.result c.from_residual-in_err-brought.ensures.1 in
     let inv = c.loop-span.invariant in
-    let wide : Rose (g.F.Files.faults c.loop-span.files) (g.F.Files.faults c.bring.new.files) → Rose (g.F.Files.faults c.args.files.now) (g.F.Files.faults c.bring.new.files) =
+    let wide : Rose (g.F.Files.faults c.loop-span.files) (g.F.Files.faults c.bring-found.new.files) → Rose (g.F.Files.faults c.args.files.now) (g.F.Files.faults c.bring-found.new.files) =
     λ up. rose_within _ _ _ _ inv.later c.in_err-brought.ensures.later (omega arith) up in
     rw (p.1, p.2) (pass_stops _ deque_items _ _ _ _ _ _ _ _ _ _ _ inv.passed c.in-Some.ensures.some.cut c.in_ok-reading.ensures.says wide (rw inv.held at c.in_err-brought.ensures.read) said all)
 
