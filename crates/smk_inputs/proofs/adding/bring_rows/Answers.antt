@@ -46,4 +46,4 @@ pub returns-in_err-rows-in-Some-clause-asked : goal.returns-in_err-rows-in-Some-
 returns-in_err-rows-in-Some-clause-asked g c =
     let p = err_from_is_err_and c.from_residual.result c.from_residual.ensures.1 in
     let asked = appended_found (catalog_image c.args.catalog.now) c.as_slice.result.now c.args.table.now c.args.file.now c.in-Some.t c.index-as_slice-t.result c.in-Some.ensures.place c.as_slice.ensures c.index-as_slice-t.is in
-    rw (p.1, p.2) (ap is_some asked)
+    rw p.1 (ap is_some asked)
