@@ -77,6 +77,6 @@ pub err_same : {A E X : Type 0} (r : Result A E) (x y z : X) → y ≡ z → OnE
 err_same (Ok told) x y z same h = tt
 err_same (Err error) x y z same h = h ∙ same
 
-pub told_same : {A E : Type 0} (r : Result A E) (y z : A) → y ≡ z → IfOk r (λ told. told ≡ y) → IfOk r (λ told. told ≡ z)
-told_same (Ok told) y z same h = h ∙ same
-told_same (Err error) y z same h = tt
+pub told_same : {A B E : Type 0} (r : Result A E) (f : A → B) (y z : B) → y ≡ z → IfOk r (λ told. f told ≡ y) → IfOk r (λ told. f told ≡ z)
+told_same (Ok told) f y z same h = h ∙ same
+told_same (Err error) f y z same h = tt

@@ -1,19 +1,25 @@
 -- What holds after a line, by its answer.
-use Rattle.std.proofs.Common.{◌≡◌, ℕ, ◌+◌, ◌<◌, ◌≤◌, Bool, true, false, List, [], length, refl, ap, sym, ◌∙◌, subst, arith, Option, Some, None, is_some, Result, Ok, Err, IfOk, OnOk, OnErr}
+use Rattle.std.proofs.Common.{◌≡◌, ℕ, ◌+◌, ◌<◌, ◌≤◌, Bool, true, false, List, [], length, refl, ap, sym, ◌∙◌, subst, arith, Option, Some, None, is_some, Result, Ok, Err, All, IfOk, OnOk, OnErr}
 use Rattle.std.proofs.lemmas.Bool.{false≢true}
-use Rattle.smk_base.specs.CatalogImage.{catalog_image}
+use Rattle.smk_base.specs.CatalogImage.{CatalogImage, catalog_image}
 use Rattle.smk_base.specs.Rels.{Relation}
 use Rattle.smk_base.specs.declared.catalog.Catalog.{Catalog}
-use Rattle.smk_model.specs.Appends.{turn_at}
+use Rattle.smk_base.specs.declared.reply.AppendReply.{AppendReply}
+use Rattle.smk_base.specs.declared.reply.AppendReply.TheVariants.{Added}
+use Rattle.smk_model.specs.Appends.{append_turn, scanning, scans, turn_at}
+use Rattle.smk_model.specs.AppendTexts.{IsAppendReply}
 use Rattle.smk_model.specs.Catalogs.{each_table_kinds, table_kinds}
 use Rattle.smk_model.specs.Opening.{ViewFault}
 use Rattle.smk_model.specs.Selection.{each_kinds}
 use Rattle.smk_model.specs.Typing.{info_at}
 use Rattle.smk_model.specs.Values.{Row}
+use Rattle.smk_model.proofs.Appends.{appends_fit}
+use Rattle.smk_model.proofs.Places.{places_below}
 use Rattle.smk_compose.specs.Fetched.{table_of}
-use Rattle.smk_session.specs.Sessions.{IsSession, SessionImage, state_of}
+use Rattle.smk_session.specs.Sessions.{IsSession, SessionImage, state_of, workbook_image, workbook_of}
 use Rattle.smk_session.proofs.Opened.{table_is, tables_long}
-use Rattle.smk_grow.specs.Images.{next_image, renewed_unless, shortened}
+use Rattle.smk_grow.specs.Images.{next_image, renewed, renewed_unless, shortened}
+use Rattle.smk_grow.specs.Told.{added_told, told_text}
 use Rattle.smk_grow.proofs.Grown.{at_table}
 use Rattle.smk_grow.proofs.Images.{next_keeps, next_state}
 
@@ -45,3 +51,27 @@ pub told_state : {A E : Type 0} (r : Result A E) (session parts next result : Se
 told_state (Ok told) session parts next result t more same low after is =
     ap state_of (is ∙ after ∙ ap (λ (s : SessionImage). next_image s t more) same) ∙ next_state session t more low
 told_state (Err error) session parts next result t more same low after is = tt
+
+-- the views that scan a table are views of the book
+
+pub scanning_known : (catalog : CatalogImage) (t : ℕ) (views : List ℕ) → views ≡ scanning catalog t → All (λ v. v < length catalog.views) views
+scanning_known catalog t views are = subst (All (λ v. v < length catalog.views)) (sym are) (places_below (scans catalog t) (length catalog.views))
+
+-- the text that is made before anything takes its place is that of the session after it
+
+pub told_committed : (said : Option (List ℕ)) (session next : SessionImage) (tables : List Relation) (t rows : ℕ) (fresh views text : List ℕ) → tables ≡ session.tables
+    → text ≡ added_told said (workbook_image session.catalog tables) rows fresh → fresh ≡ scanning (catalog_image session.catalog) t → views ≡ scanning (catalog_image session.catalog) t → next ≡ renewed session
+    → text ≡ told_text said (workbook_of next) (Added rows views)
+told_committed said session next tables t rows fresh views text there is fresh_are views_are after =
+    is
+    ∙ ap (λ (T : List Relation). added_told said (workbook_image session.catalog T) rows fresh) there
+    ∙ ap (added_told said (workbook_of session) rows) (fresh_are ∙ sym views_are)
+    ∙ ap (λ (s : SessionImage). added_told said (workbook_of s) rows views) (sym after)
+
+-- an answer is one of the session's book
+
+pub told_fits : (before after : SessionImage) (table : List ℕ) (more : List Row) (told : AppendReply) → after.catalog ≡ before.catalog
+    → told ≡ (append_turn (catalog_image before.catalog) (state_of before) table more).reply → IsAppendReply (catalog_image after.catalog) told
+told_fits before after table more told same is =
+    subst (λ (k : Catalog). IsAppendReply (catalog_image k) told) (sym same)
+    (subst (IsAppendReply (catalog_image before.catalog)) (sym is) (appends_fit (catalog_image before.catalog) (state_of before) table more))

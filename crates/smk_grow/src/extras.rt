@@ -44,7 +44,7 @@ pub(crate) struct FreshExtras {
 }
 
 // A view as it is now.
-fn view_now<'a>(views: &'a Views<'_>, v: u32) -> &'a Opened
+pub(crate) fn view_now<'a>(views: &'a Views<'_>, v: u32) -> &'a Opened
     requires views { AreViews views.now }
     requires view { v < length views.now.book.now.views }
     ensures { result.now ≡ opened (book_in views.now) v }

@@ -1,5 +1,5 @@
 // Rows behind those of a table, and what is kept made anew.
-ghost use Rattle.std.specs.Prelude.{◌≡◌, ◌<◌, ◌≤◌, ◌+◌, Some, length, map, IfOk, OnOk, OnErr};
+ghost use Rattle.std.specs.Prelude.{◌≡◌, ◌<◌, ◌≤◌, ◌+◌, Some, length, map, option_map, IfOk, OnOk, OnErr};
 ghost use Rattle.std.specs.List.{sum_by};
 ghost use Rattle.smk_base.specs.CatalogImage.{catalog_image};
 ghost use Rattle.smk_base.specs.Places.{upto};
@@ -12,13 +12,14 @@ ghost use Rattle.smk_grow.specs.Grown.{longer_tables, first_tables, rows_of};
 ghost use Rattle.smk_grow.specs.Images.{grown_unless, next_image, renewed, renewed_unless, shortened, told_unless};
 ghost use Rattle.smk_grow.specs.Renewals.{IsGrown, IsFresh, last_of};
 ghost use Rattle.smk_grow.specs.Renewed.{apart_view, looks_again, looks_of_declared};
+ghost use Rattle.smk_grow.specs.Told.{told_text};
 
 use crate::apart::open_apart;
 use crate::refusing::refused;
 use crate::renewal::Renewal;
-use crate::renewing::{Fresh, renew};
+use crate::renewing::{Fresh, renew_told};
 use crate::replacing::{forget, release, replace};
-use smk_base::{AppendRefusal, AppendReply, ROW_LIMIT, Rids};
+use smk_base::{AppendRefusal, AppendReply, ROW_LIMIT, Rids, Text};
 use smk_outside::{Gate, Steps};
 use smk_session::{Opened, Parts};
 use smk_table::Table;
@@ -66,7 +67,7 @@ fn commit(parts: &mut Parts, table: u32, len: u32, fresh: Fresh) -> Rids
     scanning
 }
 
-// What a session keeps, made anew over a table that has been lengthened. After a refusal and an error the table is cut to so many rows, and nothing else has changed.
+// What a session keeps, made anew over a table that has been lengthened, with the text of what is added where the table's name is given. After a refusal and an error the table is cut to so many rows, and nothing else has changed.
 fn renew_parts<R: Threads + Sync, G: Gate + Sync, L: Ledger>(
     rt: &R,
     alloc: Global,
@@ -76,11 +77,13 @@ fn renew_parts<R: Threads + Sync, G: Gate + Sync, L: Ledger>(
     len: u32,
     rows: u32,
     apart: &[Option<Opened>],
+    said: Option<&Text>,
     steps: &mut Steps<L>,
-) -> Result<AppendReply, AllocError>
+) -> Result<(AppendReply, Vec<u8>), AllocError>
     requires grown { IsGrown (parts_image parts.old) table len }
     requires apart { apart.now ≡ map (apart_view table (last_of (parts_image parts.old) table len)) (upto (length (workbook_of (parts_image parts.old)).catalog.views)) }
-    ensures reply { IfOk result (λ told. told ≡ told_unless (first_some (view_fault (workbook_of (parts_image parts.old))) (scanning (workbook_of (parts_image parts.old)).catalog table)) rows (scanning (workbook_of (parts_image parts.old)).catalog table)) }
+    ensures reply { IfOk result (λ told. told.0 ≡ told_unless (first_some (view_fault (workbook_of (parts_image parts.old))) (scanning (workbook_of (parts_image parts.old)).catalog table)) rows (scanning (workbook_of (parts_image parts.old)).catalog table)) }
+    ensures text { IfOk result (λ told. told.1.items ≡ told_text (option_map (λ name. name.now) said.entry) (workbook_of (parts_image parts.new)) told.0) }
     ensures after { OnOk result (parts_image parts.new ≡ renewed_unless (first_some (view_fault (workbook_of (parts_image parts.old))) (scanning (workbook_of (parts_image parts.old)).catalog table)) table len (parts_image parts.old)) }
     ensures kept { OnErr result (parts_image parts.new ≡ shortened table len (parts_image parts.old)) }
     ensures looks { steps.new ≤ steps.old + sum_by (looks_again table (workbook_of (parts_image parts.old))) (upto (length (workbook_of (parts_image parts.old)).catalog.views)) + sum_by (looks_of_declared table (workbook_of (parts_image parts.old))) (workbook_of (parts_image parts.old)).catalog.backs }
@@ -92,24 +95,26 @@ fn renew_parts<R: Threads + Sync, G: Gate + Sync, L: Ledger>(
         mode: parts.mode,
         workers: parts.workers,
     };
-    let made = renew(
+    let made = renew_told(
         rt,
         alloc,
         gate,
         &renewal,
         len,
+        rows,
         parts.views.as_slice(),
         apart,
+        said,
         steps,
     );
     match made {
-        Ok(fresh) => {
+        Ok((fresh, text)) => {
             let views = commit(parts, table, len, fresh);
-            Ok(AppendReply::Added { rows, views })
+            Ok((AppendReply::Added { rows, views }, text))
         }
         Err(fault) => {
             shorten(parts.tables.as_mut_slice(), table, len);
-            refused(fault)
+            refused(alloc, fault)
         }
     }
 }
@@ -122,13 +127,15 @@ fn grow<R: Threads + Sync, G: Gate + Sync, L: Ledger>(
     parts: &mut Parts,
     table: u32,
     more: Table,
+    said: Option<&Text>,
     steps: &mut Steps<L>,
-) -> Result<AppendReply, AllocError>
+) -> Result<(AppendReply, Vec<u8>), AllocError>
     requires keeps { IsSession (parts_image parts.old) }
     requires table { table < length (parts_image parts.old).tables }
     requires kinds { more.kinds ≡ (table_of (parts_image parts.old).tables table).kinds }
     requires few { length (rows_of (parts_image parts.old).tables table) + length more.rows ≤ ROW_LIMIT }
-    ensures reply { IfOk result (λ told. told ≡ told_unless (longer_fault (catalog_image (parts_image parts.old).catalog) (state_of (parts_image parts.old)) table more.rows) (length more.rows) (scanning (catalog_image (parts_image parts.old).catalog) table)) }
+    ensures reply { IfOk result (λ told. told.0 ≡ told_unless (longer_fault (catalog_image (parts_image parts.old).catalog) (state_of (parts_image parts.old)) table more.rows) (length more.rows) (scanning (catalog_image (parts_image parts.old).catalog) table)) }
+    ensures text { IfOk result (λ told. told.1.items ≡ told_text (option_map (λ name. name.now) said.entry) (workbook_of (parts_image parts.new)) told.0) }
     ensures after { OnOk result (parts_image parts.new ≡ grown_unless (longer_fault (catalog_image (parts_image parts.old).catalog) (state_of (parts_image parts.old)) table more.rows) table more.rows (parts_image parts.old)) }
     ensures kept { OnErr result (parts_image parts.new ≡ parts_image parts.old) }
     ensures looks { steps.new ≤ steps.old + looks_of_longer (catalog_image (parts_image parts.old).catalog) (state_of (parts_image parts.old)) table more.rows }
@@ -158,6 +165,7 @@ fn grow<R: Threads + Sync, G: Gate + Sync, L: Ledger>(
         len,
         rows,
         apart.as_slice(),
+        said,
         steps,
     )
 }
@@ -170,20 +178,23 @@ pub(crate) fn grow_within<R: Threads + Sync, G: Gate + Sync, L: Ledger>(
     parts: &mut Parts,
     table: u32,
     more: Table,
+    said: Option<&Text>,
     steps: &mut Steps<L>,
-) -> Result<AppendReply, AllocError>
+) -> Result<(AppendReply, Vec<u8>), AllocError>
     requires keeps { IsSession (parts_image parts.old) }
     requires table { table < length (parts_image parts.old).tables }
     requires kinds { more.kinds ≡ (table_of (parts_image parts.old).tables table).kinds }
-    ensures reply { IfOk result (λ told. told ≡ (turn_at (catalog_image (parts_image parts.old).catalog) (state_of (parts_image parts.old)) more.rows (Some table)).reply) }
+    ensures reply { IfOk result (λ told. told.0 ≡ (turn_at (catalog_image (parts_image parts.old).catalog) (state_of (parts_image parts.old)) more.rows (Some table)).reply) }
+    ensures text { IfOk result (λ told. told.1.items ≡ told_text (option_map (λ name. name.now) said.entry) (workbook_of (parts_image parts.new)) told.0) }
     ensures after { OnOk result (parts_image parts.new ≡ next_image (parts_image parts.old) table more.rows) }
     ensures kept { OnErr result (parts_image parts.new ≡ parts_image parts.old) }
     ensures looks { steps.new ≤ steps.old + append_looks_at (catalog_image (parts_image parts.old).catalog) (state_of (parts_image parts.old)) more.rows (Some table) }
 {
     let together = parts.tables[table as usize].len() as u64 + more.len() as u64;
     if together > ROW_LIMIT as u64 {
-        Ok(AppendReply::Refused(AppendRefusal::TableRows))
+        let refusal = AppendRefusal::TableRows;
+        Ok((AppendReply::Refused(refusal), Vec::new(alloc)))
     } else {
-        grow(rt, alloc, gate, parts, table, more, steps)
+        grow(rt, alloc, gate, parts, table, more, said, steps)
     }
 }

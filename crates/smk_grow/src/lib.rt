@@ -12,7 +12,8 @@ mod renewing;
 mod replacing;
 mod said;
 mod scans;
+mod telling;
 mod views;
 
-pub use appending::append;
+pub use appending::{append, append_told};
 pub use said::append_text;

@@ -2,22 +2,31 @@
 ghost use Rattle.std.specs.Prelude.{◌≡◌, ℕ, true, is_some, List, Option, IfOk, OnOk};
 ghost use Rattle.smk_model.specs.Opening.{ViewFault};
 ghost use Rattle.smk_session.specs.Sessions.{IsStartFault};
+ghost use Rattle.smk_model.specs.Session.{Workbook};
 ghost use Rattle.smk_grow.specs.Images.{told_unless};
+ghost use Rattle.smk_grow.specs.Told.{told_text};
 
 use smk_base::{AppendRefusal, AppendReply};
 use smk_session::StartFault;
-use std::alloc::AllocError;
+use std::alloc::{AllocError, Global};
 
-pub(crate) fn refused(fault: StartFault) -> Result<AppendReply, AllocError>
-    ensures told { (found : Option ViewFault) (rows : ℕ) (views : List ℕ) → IsStartFault fault found → IfOk result (λ told. told ≡ told_unless found rows views) }
+// What is answered then, without a text.
+pub(crate) fn refused(
+    alloc: Global,
+    fault: StartFault,
+) -> Result<(AppendReply, Vec<u8>), AllocError>
+    ensures told { (found : Option ViewFault) (rows : ℕ) (views : List ℕ) → IsStartFault fault found → IfOk result (λ told. told.0 ≡ told_unless found rows views) }
     ensures found { (found : Option ViewFault) → IsStartFault fault found → OnOk result (is_some found ≡ true) }
+    ensures text { (said : Option (List ℕ)) (book : Workbook) → IfOk result (λ told. told.1.items ≡ told_text said book told.0) }
 {
     match fault {
         StartFault::Rows { view, node } => {
-            Ok(AppendReply::Refused(AppendRefusal::ViewRows { view, node }))
+            let refusal = AppendRefusal::ViewRows { view, node };
+            Ok((AppendReply::Refused(refusal), Vec::new(alloc)))
         }
         StartFault::Pairs { view, node, table } => {
-            Ok(AppendReply::Refused(AppendRefusal::ViewPairs { view, node, table }))
+            let refusal = AppendRefusal::ViewPairs { view, node, table };
+            Ok((AppendReply::Refused(refusal), Vec::new(alloc)))
         }
         StartFault::NoMemory => Err(AllocError),
     }

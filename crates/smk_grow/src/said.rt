@@ -48,6 +48,18 @@ fn with_views(
     Ok(text)
 }
 
+// How many rows were appended.
+pub(crate) fn added_line(alloc: Global, table: &Text, rows: u32) -> Result<Vec<u8>, AllocError>
+    ensures { IfOk result (λ text. text.items ≡ line (codes "append " ∷ table.now ∷ codes " " ∷ decimal rows ∷ [])) }
+{
+    line_around(
+        alloc,
+        &[b"append ", table.as_slice(), b" "],
+        rows as u64,
+        &[],
+    )
+}
+
 // How many rows were appended, and the views that scan the table.
 fn added_text(
     alloc: Global,
@@ -59,12 +71,7 @@ fn added_text(
     requires { All (λ v. v < length (catalog_image session.now.catalog).views) views.now }
     ensures { IfOk result (λ text. text.items ≡ texts.added_text (workbook_of session.now) table.now rows views.now) }
 {
-    let front = line_around(
-        alloc,
-        &[b"append ", table.as_slice(), b" "],
-        rows as u64,
-        &[],
-    )?;
+    let front = added_line(alloc, table, rows)?;
     with_views(alloc, front, session, views)
 }
 
@@ -105,7 +112,7 @@ fn pairs_text(
 }
 
 // Why a line is refused.
-fn refused_text(
+pub(crate) fn refused_text(
     alloc: Global,
     cat: &Catalog,
     table: &Text,

@@ -1,9 +1,10 @@
-use Rattle.std.proofs.Common.{◌≡◌, ◌∙◌, ◌≤◌, ◌<◌, ◌+◌, Some, ap, length, subst, sym}
+use Rattle.std.proofs.Common.{◌≡◌, ◌∙◌, ◌≤◌, ◌<◌, ◌+◌, IfOk, Some, ap, length, option_map, subst, sym}
 use Rattle.smk_base.specs.CatalogImage.{catalog_image}
 use Rattle.smk_model.specs.Appends.{append_looks_at}
 use Rattle.smk_compose.specs.Fetched.{table_of}
 use Rattle.smk_session.specs.Parts.{parts_image}
-use Rattle.smk_session.specs.Sessions.{IsSession, SessionImage, state_of}
+use Rattle.smk_session.specs.Sessions.{IsSession, SessionImage, state_of, workbook_of}
+use Rattle.smk_grow.specs.Told.{told_text}
 use Rattle.smk_grow.proofs.Told.{kinds_at, table_below, told_keeps, told_state}
 use Rattle.smk_grow.proofs.appending.append_at.Goals as goal
 
@@ -33,3 +34,7 @@ returns-clause-after g c =
 pub returns-clause-looks : goal.returns-clause-looks
 returns-clause-looks g c =
     subst (λ (i : SessionImage). c.grow_within-told.new.steps ≤ c.args.steps.now + append_looks_at (catalog_image i.catalog) (state_of i) c.args.more.rows (Some c.args.table)) c.into_parts-parts.ensures.parts c.grow_within-told.ensures.looks
+
+pub returns-clause-text : goal.returns-clause-text
+returns-clause-text g c =
+    subst (λ (i : SessionImage). IfOk c.grow_within-told.result (λ told. told.1.items ≡ told_text (option_map (λ name. name.now) c.args.said) (workbook_of i) told.0)) (sym c.from_parts.ensures.session) c.grow_within-told.ensures.text

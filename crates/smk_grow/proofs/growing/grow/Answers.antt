@@ -87,7 +87,7 @@ returns-clause-reply g c =
     let fault = lengthened_fault session parts t c.len-len.result c.args.more.rows l in
     let rows = c.len-rows.ensures.count in
     let views = scanning (catalog_image session.catalog) t in
-    told_same c.renew_parts.result (told_unless (fault_in t parts) c.len-rows.result views) (told_unless (longer_fault (catalog_image session.catalog) (state_of session) t c.args.more.rows) (length c.args.more.rows) views)
+    told_same c.renew_parts.result (λ told. told.0) (told_unless (fault_in t parts) c.len-rows.result views) (told_unless (longer_fault (catalog_image session.catalog) (state_of session) t c.args.more.rows) (length c.args.more.rows) views)
     (ap (λ (found : Option ViewFault). told_unless found c.len-rows.result views) fault ∙ ap (λ (n : ℕ). told_unless (longer_fault (catalog_image session.catalog) (state_of session) t c.args.more.rows) n views) rows) c.renew_parts.ensures.reply
 
 pub returns-clause-after : goal.returns-clause-after
@@ -143,3 +143,6 @@ returns-clause-looks g c =
       low = c.requires.table;
     } in
     lengthened_looks session parts t c.len-len.result c.args.more.rows c.args.steps.now c.open_apart.new.steps c.renew_parts.new.steps l c.open_apart.ensures.looks c.renew_parts.ensures.looks
+
+pub returns-clause-text : goal.returns-clause-text
+returns-clause-text g c = c.renew_parts.ensures.text

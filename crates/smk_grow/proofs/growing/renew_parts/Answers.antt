@@ -11,7 +11,7 @@ use Rattle.smk_session.specs.Sessions.{IsStartFault, workbook_image, workbook_of
 use Rattle.smk_grow.specs.Grown.{first_tables}
 use Rattle.smk_grow.specs.Renewed.{looks_again, looks_of_declared}
 use Rattle.smk_grow.proofs.Images.{with_tables}
-use Rattle.smk_grow.proofs.Told.{after_refusal}
+use Rattle.smk_grow.proofs.Told.{after_refusal, told_committed}
 use Rattle.smk_grow.proofs.growing.renew_parts.Goals as goal
 
 pub returns-in-Err-clause-after : goal.returns-in-Err-clause-after
@@ -29,5 +29,10 @@ pub returns-in-Err-clause-looks : goal.returns-in-Err-clause-looks
 returns-in-Err-clause-looks g c =
     let session = parts_image c.args.parts.now in
     let book = workbook_of session in
-    subst (λ (T : List Relation). c.renew-made.new.steps ≤ c.args.steps.now + sum_by (looks_again c.args.table (workbook_image session.catalog T)) (upto (length book.catalog.views)) + sum_by (looks_of_declared c.args.table (workbook_image session.catalog T)) book.catalog.backs)
-    c.as_slice.ensures.value c.renew-made.ensures.looks
+    subst (λ (T : List Relation). c.renew_told-made.new.steps ≤ c.args.steps.now + sum_by (looks_again c.args.table (workbook_image session.catalog T)) (upto (length book.catalog.views)) + sum_by (looks_of_declared c.args.table (workbook_image session.catalog T)) book.catalog.backs)
+    c.as_slice.ensures.value c.renew_told-made.ensures.looks
+
+pub returns-in-Ok-clause-text : goal.returns-in-Ok-clause-text
+returns-in-Ok-clause-text g c =
+    let session = parts_image c.args.parts.now in
+    told_committed _ session (parts_image c.commit-views.new.parts) c.as_slice.result.now c.args.table c.args.rows c.in-Ok.fresh.scanning c.commit-views.result c.in-Ok.text.items c.as_slice.ensures.value c.in-Ok.ensures.text c.in-Ok.ensures.fresh.scanning c.commit-views.ensures.scanning c.commit-views.ensures.parts
