@@ -4,7 +4,7 @@ use smk_base::Text;
 use smk_outside::MemFiles;
 use std::alloc::{AllocError, Global};
 
-/// What has to come of each run of a case.
+/// What a run or a conversation comes to. Of a conversation `out` is what happened in it.
 #[derive(Drop)]
 pub struct Ending {
     pub status: u8,
@@ -16,9 +16,30 @@ pub struct Ending {
 pub fn ending_of(alloc: Global, case: &[Section<'_>]) -> Result<Ending> {
     Ok(Ending {
         status: status_of(case).context("the case wants no status")?,
-        out: bytes_of(alloc, case, Part::Out)?,
+        out: bytes_of(alloc, case, said_in(case))?,
         err: bytes_of(alloc, case, Part::Err)?,
     })
+}
+
+// The part of what is said.
+fn said_in(case: &[Section<'_>]) -> Part<'static> {
+    if has_part(case, Part::Talk) {
+        Part::Talk
+    } else {
+        Part::Out
+    }
+}
+
+/// Whether a case has a section of this part. One with a `talk` is a conversation.
+pub fn has_part(case: &[Section<'_>], wanted: Part<'_>) -> bool {
+    for section in case {
+        if let Head::Bytes(part, _) = section.head
+            && part.is(wanted)
+        {
+            return true;
+        }
+    }
+    false
 }
 
 fn status_of(case: &[Section<'_>]) -> Option<u8> {
@@ -30,8 +51,8 @@ fn status_of(case: &[Section<'_>]) -> Option<u8> {
     None
 }
 
-// The bytes of all sections of a part, one behind the other.
-fn bytes_of(alloc: Global, sections: &[Section<'_>], wanted: Part<'_>) -> Result<Vec<u8>> {
+/// The bytes of all sections of a part, one behind the other.
+pub fn bytes_of(alloc: Global, sections: &[Section<'_>], wanted: Part<'_>) -> Result<Vec<u8>> {
     let mut bytes = Vec::new(alloc);
     for section in sections {
         if let Head::Bytes(part, form) = section.head
@@ -175,19 +196,19 @@ pub fn cut_files_of<'a>(
     Ok(MemFiles::new(files, reads_of(alloc, case)?))
 }
 
-/// The number of bytes that a file of a case has. It has to be there.
-pub fn len_of<'a>(
+/// The bytes of a file of a case. It has to be there.
+pub fn file_of<'a>(
     alloc: Global,
     shared: &[Section<'a>],
     case: &[Section<'a>],
     name: &str,
-) -> Result<usize> {
-    for (other, bytes) in named_files(alloc, shared, case)?.iter() {
+) -> Result<Vec<u8>> {
+    for (other, bytes) in named_files(alloc, shared, case)? {
         if other.as_slice() == name.as_bytes() {
-            return Ok(bytes.as_slice().len());
+            return Ok(bytes.into_vec());
         }
     }
-    bail!("there is no file {name} to cut")
+    bail!("there is no file {name}")
 }
 
 fn named_files<'a>(
@@ -251,7 +272,18 @@ fn reads_of(alloc: Global, case: &[Section<'_>]) -> Result<Vec<u32>, AllocError>
     Ok(reads)
 }
 
-/// The numbers of the puts to `out` or to `err` that are to fail, and after how many bytes.
+/// The numbers of the lines that can't be heard.
+pub fn hears_of(alloc: Global, case: &[Section<'_>]) -> Result<Vec<u32>, AllocError> {
+    let mut hears = Vec::new(alloc);
+    for section in case {
+        if let Head::FailingHear(call) = section.head {
+            hears.push(call)?;
+        }
+    }
+    Ok(hears)
+}
+
+/// The numbers of the puts to `out` or to `err`, or of the texts that are said, that are to fail, and after how many bytes.
 pub fn puts_of(
     alloc: Global,
     case: &[Section<'_>],
@@ -266,4 +298,29 @@ pub fn puts_of(
         }
     }
     Ok(puts)
+}
+
+/// Whether a run with these words is to be held as a conversation, too, by the sections of an archive or of a case.
+pub fn is_conversed(sections: &[Section<'_>], words: &[&str]) -> bool {
+    let workers = workers_in(words);
+    for section in sections {
+        if let Head::Conversed(numbers) = section.head
+            && numbers.split(' ').any(|number| number == workers)
+        {
+            return true;
+        }
+    }
+    false
+}
+
+// The number of workers that words name.
+fn workers_in<'a>(words: &[&'a str]) -> &'a str {
+    let mut is_next = false;
+    for word in words {
+        if is_next {
+            return *word;
+        }
+        is_next = *word == "--workers";
+    }
+    ""
 }

@@ -1,6 +1,6 @@
-use crate::case::{cut_files_of, len_of};
-use crate::compare::print_title;
-use crate::running::{CUT_ROOM, Ran, run_words};
+use crate::case::{Ending, cut_files_of, file_of};
+use crate::compare::{RUN, print_title};
+use crate::running::{SMALL_ROOM, run_words};
 use crate::section::{Cut, Head, Section};
 use anyhow::Result;
 use std::io;
@@ -35,11 +35,11 @@ fn run_fronts<'a, R: Threads + Sync + Print + AllocGlobal>(
     case: &[Section<'a>],
     cut: Cut<'_>,
 ) -> Result<()> {
-    for len in 0..len_of(rt.alloc(), shared, case, cut.file)? {
+    for len in 0..file_of(rt.alloc(), shared, case, cut.file)?.len() {
         let files = cut_files_of(rt.alloc(), shared, case, cut.file, len)?;
-        let ran = run_words(system, rt, rt.alloc(), words, files, case, CUT_ROOM)?;
+        let ran = run_words(system, rt, rt.alloc(), words, files, case, SMALL_ROOM)?;
         if !is_one_of(&ran, cut.statuses) {
-            print_title(rt, archive, name, words)?;
+            print_title(rt, archive, name, RUN, words)?;
             print_cut(rt, cut, len, &ran)?;
         }
     }
@@ -47,19 +47,15 @@ fn run_fronts<'a, R: Threads + Sync + Print + AllocGlobal>(
 }
 
 // Whether a run has one of these statuses, and has said nothing on `out` where it ended by a fault and nothing on `err` where it didn't.
-fn is_one_of(ran: &Ran, statuses: &str) -> bool {
-    let code = ran.status.code();
-    let silent = if code < 2 {
-        ran.err.bytes()
-    } else {
-        ran.out.bytes()
-    };
+fn is_one_of(ran: &Ending, statuses: &str) -> bool {
+    let code = ran.status;
+    let silent = if code < 2 { &ran.err } else { &ran.out };
     silent.is_empty() && statuses.split(' ').any(|status| status.parse() == Ok(code))
 }
 
 // Prints where a file was cut, and what came of it.
-fn print_cut<R: Print>(rt: &R, cut: Cut<'_>, len: usize, ran: &Ran) -> io::Result<()> {
+fn print_cut<R: Print>(rt: &R, cut: Cut<'_>, len: usize, ran: &Ending) -> io::Result<()> {
     println!(rt; "  status with {} cut behind {len} bytes", cut.file)?;
     println!(rt; "    wanted one of {}", cut.statuses)?;
-    println!(rt; "    got    {}", ran.status.code())
+    println!(rt; "    got    {}", ran.status)
 }

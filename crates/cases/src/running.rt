@@ -1,6 +1,6 @@
 ghost use Rattle.std.specs.Prelude.{◌≡◌, ◌<◌};
 
-use crate::case::puts_of;
+use crate::case::{Ending, puts_of};
 use crate::section::{Part, Section};
 use anyhow::Result;
 use smk_outside::{Idle, MemFiles, MemSink, Steps};
@@ -13,16 +13,8 @@ use std::thread::Threads;
 /// How many bytes a sink of a run has room for.
 pub const ROOM: u64 = 16_777_216;
 
-/// How many where a file is cut, of which there are many runs.
-pub const CUT_ROOM: u64 = 65_536;
-
-/// What a run came to.
-#[derive(Drop)]
-pub struct Ran {
-    pub status: Status,
-    pub out: MemSink,
-    pub err: MemSink,
-}
+/// How many where little is written: to `err` in a conversation, and where a file is cut, of which there are many runs.
+pub const SMALL_ROOM: u64 = 65_536;
 
 // A run with a counter of looks over this ledger.
 fn counted_run<R: Threads + Sync, L: Ledger>(
@@ -52,7 +44,7 @@ pub fn run_words<R: Threads + Sync>(
     mut files: MemFiles,
     case: &[Section<'_>],
     room: u64,
-) -> Result<Ran> {
+) -> Result<Ending> {
     let mut out = MemSink::new(alloc, puts_of(alloc, case, Part::Out)?, room)?;
     let mut err = MemSink::new(alloc, puts_of(alloc, case, Part::Err)?, room)?;
     let status = counted_run::<_, Brand>(
@@ -65,5 +57,9 @@ pub fn run_words<R: Threads + Sync>(
         &mut err,
         Blank::new(1),
     );
-    Ok(Ran { status, out, err })
+    Ok(Ending {
+        status: status.code(),
+        out: Vec::from_slice(alloc, out.bytes())?,
+        err: Vec::from_slice(alloc, err.bytes())?,
+    })
 }

@@ -6,6 +6,8 @@ use std::alloc::Global;
 #[derive(Clone, Copy)]
 pub enum Part<'a> {
     File(&'a str),
+    In,
+    Talk,
     Out,
     Err,
 }
@@ -14,6 +16,7 @@ impl Part<'_> {
     pub fn is(self, other: Part<'_>) -> bool {
         match (self, other) {
             (Part::File(name), Part::File(other)) => name == other,
+            (Part::In, Part::In) | (Part::Talk, Part::Talk) => true,
             (Part::Out, Part::Out) | (Part::Err, Part::Err) => true,
             _ => false,
         }
@@ -29,16 +32,20 @@ pub enum Head<'a> {
     Each(&'a str, &'a str),
     /// The shared file of this name isn't there.
     Without(&'a str),
-    /// Bytes of a file, or wanted bytes.
+    /// Bytes of a file or of the lines of a conversation, or wanted bytes.
     Bytes(Part<'a>, Form),
     /// The wanted status.
     Status(u8),
     /// The read of this number fails.
     FailingRead(u32),
-    /// The put of this number to `out` or `err` fails after so many bytes.
+    /// The line of this number can't be heard.
+    FailingHear(u32),
+    /// The put of this number to `out` or `err`, or the text of this number that is said, fails after so many bytes.
     FailingPut(Part<'a>, u32, u64),
     /// Each run is made with every proper front of a file, too.
     Cut(Cut<'a>),
+    /// Each run with one of these numbers of workers that comes to a whole report is held as a conversation, too.
+    Conversed(&'a str),
 }
 
 /// The name of a file that is cut, and the statuses of which the run of each of its fronts has one, with blanks between them.
@@ -84,10 +91,13 @@ fn head_of(line: &str) -> Option<Head<'_>> {
             let (name, form) = rest.split_once(' ').unwrap_or((rest, ""));
             Some(Head::Bytes(Part::File(name), Form::read(form)?))
         }
+        "in" => Some(Head::Bytes(Part::In, Form::read(rest)?)),
+        "talk" => Some(Head::Bytes(Part::Talk, Form::read(rest)?)),
         "out" => Some(Head::Bytes(Part::Out, Form::read(rest)?)),
         "err" => Some(Head::Bytes(Part::Err, Form::read(rest)?)),
         "status" => Some(Head::Status(rest.parse().ok()?)),
         "fails" => failure_of(rest),
+        "conversed" => Some(Head::Conversed(rest)),
         "cut" => {
             let (file, statuses) = rest.split_once(": ")?;
             Some(Head::Cut(Cut { file, statuses }))
@@ -96,11 +106,13 @@ fn head_of(line: &str) -> Option<Head<'_>> {
     }
 }
 
-// The failure behind `fails`: `read K`, `out K after N` or `err K after N`.
+// The failure behind `fails`: `read K`, `hear K`, `say K after N`, `out K after N` or `err K after N`.
 fn failure_of(failure: &str) -> Option<Head<'_>> {
     let (what, rest) = failure.split_once(' ')?;
     let part = match what {
         "read" => return Some(Head::FailingRead(rest.parse().ok()?)),
+        "hear" => return Some(Head::FailingHear(rest.parse().ok()?)),
+        "say" => Part::Talk,
         "out" => Part::Out,
         "err" => Part::Err,
         _ => return None,
