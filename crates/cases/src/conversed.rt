@@ -28,12 +28,11 @@ pub fn converse_run<R: Threads + Sync + Print + AllocGlobal>(
     };
     let files = files_of(alloc, shared, case)?;
     let (talk, ending) = talk_words(system, rt, alloc, words, files, case, &bytes)?;
-    let said = match texts_in(alloc, talk.events())? {
-        Some(texts) => Ending {
-            out: texts,
-            ..ending
-        },
-        None => ending,
+    let Ending { status, out, err } = ending;
+    let said = Ending {
+        status,
+        out: texts_in(alloc, talk.events())?.unwrap_or(out),
+        err,
     };
     print_differences(rt, archive, name, CONVERSED, words, ran, &said)?;
     Ok(1)
