@@ -6,3 +6,6 @@ mod Endings
 mod Completes
 mod ReplyFits
 mod Answered
+mod TalkStretches
+mod TalkLines
+mod TalkEndings

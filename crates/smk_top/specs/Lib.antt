@@ -5,3 +5,5 @@ pub mod Looking
 pub mod Writing
 pub mod Counting
 pub mod Completeness
+pub mod Talking
+pub mod TalkEndings

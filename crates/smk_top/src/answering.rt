@@ -1,33 +1,39 @@
 // What the lines of a script come to. Each kind of line has one function here, and `answer_line` is the one place that knows which kinds there are.
-ghost use Rattle.std.specs.Prelude.{◌≡◌, ◌≤◌, ◌+◌, ℕ, List, Some, None, is_some, IfSome, IfOk};
+ghost use Rattle.std.specs.Prelude.{◌≡◌, ◌≤◌, ◌+◌, ℕ, List, Some, None, cond, is_some, length, IfSome, IfOk, OnOk, OnErr};
 ghost use Rattle.smk_base.specs.CatalogImage.{catalog_image, table_place};
 ghost use Rattle.smk_base.specs.TreeImage.{any_image, ask_image};
 ghost use Rattle.smk_model.specs.Appends as appends;
 ghost use Rattle.smk_model.specs.Asks.{is_ask_refused};
 ghost use Rattle.smk_model.specs.Catalogs.{table_kinds};
 ghost use Rattle.smk_model.specs.Limits.{KeepsAsk};
-ghost use Rattle.smk_model.specs.Outcome.{appended_by};
+ghost use Rattle.smk_model.specs.Outcome.{appended_at, appended_by};
 ghost use Rattle.smk_model.specs.Profiles as profiles;
 ghost use Rattle.smk_model.specs.Profiles.{AreDependencies};
 ghost use Rattle.smk_model.specs.ReplyTexts.{table_named};
 ghost use Rattle.smk_model.specs.Reports as reports;
 ghost use Rattle.smk_model.specs.Selection.{each_rows};
+ghost use Rattle.smk_model.specs.Texts as line_texts;
 ghost use Rattle.smk_model.specs.Typing.{info_at};
 ghost use Rattle.smk_model.specs.Values.{Row};
 ghost use Rattle.smk_session.specs.Sessions.{state_of};
 ghost use Rattle.smk_inputs.specs.Added.{BeginsWith, tables_left};
-ghost use Rattle.smk_inputs.specs.LineLimits.{KeepsLine};
+ghost use Rattle.smk_inputs.specs.Image.{reading_image};
+ghost use Rattle.smk_inputs.specs.LineLimits.{KeepsLine, KeepsReading};
 ghost use Rattle.smk_inputs.specs.Loaded.{said_of};
 ghost use Rattle.smk_top.specs.Answering.{IsAnswered};
+ghost use Rattle.smk_top.specs.Counting.{counts_told};
 
+use crate::counting::NOTHING;
+use crate::counts::Counts;
 use smk_ask::{ask, ask_text};
 use smk_base::{
     AnyLine, AppendRefusal, AppendReply, AskLine, AskReply, Line, Names, ProfileReply, Text,
 };
-use smk_grow::{append, append_text};
+use smk_grow::{append_text, append_told};
+use smk_inputs::Reading;
 use smk_outside::{Gate, Steps};
 use smk_profile::{profile, profile_text};
-use smk_report::reply_text;
+use smk_report::{bad_line_text, reply_text};
 use smk_session::{Session, has_refused};
 use smk_table::Table;
 use std::alloc::{AllocError, Global};
@@ -35,11 +41,11 @@ use std::collections::VecDeque;
 use std::sync::ledger::Ledger;
 use std::thread::Threads;
 
-/// What a line of a script comes to: its text, and whether it is refused.
+// What a line of the grammar comes to: its text, and whether it is refused.
 #[derive(Drop)]
-pub struct Answered {
-    pub text: Vec<u8>,
-    pub refused: bool,
+pub(crate) struct Answered {
+    pub(crate) text: Vec<u8>,
+    pub(crate) refused: bool,
 }
 
 // A line that the session answers by itself.
@@ -54,10 +60,13 @@ fn answer_plain<R: Threads + Sync, G: Gate + Sync, L: Ledger>(
     ensures told { IfOk result (λ told. IsAnswered told (reports.plain_answered (catalog_image session.old.catalog) (state_of session.old) line.now)) }
     ensures after { IfOk result (λ told. state_of session.new ≡ (reports.plain_answered (catalog_image session.old.catalog) (state_of session.old) line.now).next) }
     ensures book { session.new.catalog ≡ session.old.catalog }
+    ensures kept { OnErr result (session.new ≡ session.old) }
     ensures looks { steps.new ≤ steps.old + (reports.plain_answered (catalog_image session.old.catalog) (state_of session.old) line.now).looks }
 {
-    let reply = session.answer(rt, alloc, line, gate, steps)?;
-    let text = reply_text(alloc, session.catalog(), line, &reply)?;
+    let turn = session.turn(rt, alloc, line, gate, steps)?;
+    let text = reply_text(alloc, session.catalog(), line, &turn.reply)?;
+    // Nothing wants memory any more.
+    let reply = session.take(turn);
     let refused = has_refused(&reply);
     Ok(Answered { text, refused })
 }
@@ -85,6 +94,7 @@ fn answer_ask<R: Threads + Sync, G: Gate + Sync, L: Ledger>(
     ensures told { IfOk result (λ told. IsAnswered told (reports.ask_answered (catalog_image session.old.catalog) (state_of session.old) (ask_image line.now))) }
     ensures after { IfOk result (λ told. state_of session.new ≡ (reports.ask_answered (catalog_image session.old.catalog) (state_of session.old) (ask_image line.now)).next) }
     ensures book { session.new.catalog ≡ session.old.catalog }
+    ensures kept { OnErr result (session.new ≡ session.old) }
     ensures looks { steps.new ≤ steps.old + (reports.ask_answered (catalog_image session.old.catalog) (state_of session.old) (ask_image line.now)).looks }
 {
     let reply = ask(rt, alloc, session, line, gate, steps)?;
@@ -117,6 +127,7 @@ fn answer_profile<R: Threads + Sync, G: Gate + Sync, L: Ledger>(
     ensures told { IfOk result (λ told. IsAnswered told (reports.profile_answered (said_of session.old.catalog fds.now) (state_of session.old) view.now)) }
     ensures after { IfOk result (λ told. state_of session.new ≡ (reports.profile_answered (said_of session.old.catalog fds.now) (state_of session.old) view.now).next) }
     ensures book { session.new.catalog ≡ session.old.catalog }
+    ensures kept { OnErr result (session.new ≡ session.old) }
     ensures looks { steps.new ≤ steps.old + (reports.profile_answered (said_of session.old.catalog fds.now) (state_of session.old) view.now).looks }
 {
     let reply = profile(rt, alloc, session, fds, view, gate, steps)?;
@@ -144,39 +155,35 @@ fn append_rows<R: Threads + Sync, G: Gate + Sync, L: Ledger>(
     more: Table,
     gate: &G,
     steps: &mut Steps<L>,
-) -> Result<(Session, Answered), AllocError>
+) -> (Session, Result<Answered, AllocError>)
     requires kinds { (t : ℕ) → table_place (catalog_image session.catalog) table.now ≡ Some t → more.kinds ≡ table_kinds (info_at session.catalog.tables t) }
-    ensures told { IfOk result (λ done. IsAnswered done.1 (reports.append_answered (catalog_image session.catalog) (state_of session) table.now more.rows)) }
-    ensures after { IfOk result (λ done. state_of done.0 ≡ (reports.append_answered (catalog_image session.catalog) (state_of session) table.now more.rows).next) }
-    ensures book { IfOk result (λ done. done.0.catalog ≡ session.catalog) }
+    ensures told { IfOk result.1 (λ told. IsAnswered told (reports.append_answered (catalog_image session.catalog) (state_of session) table.now more.rows)) }
+    ensures after { OnOk result.1 (state_of result.0 ≡ (reports.append_answered (catalog_image session.catalog) (state_of session) table.now more.rows).next) }
+    ensures kept { OnErr result.1 (result.0 ≡ session) }
+    ensures book { result.0.catalog ≡ session.catalog }
     ensures looks { steps.new ≤ steps.old + (reports.append_answered (catalog_image session.catalog) (state_of session) table.now more.rows).looks }
 {
-    let (session, told) = append(rt, alloc, session, table, more, gate, steps);
-    let reply = told?;
-    let text = append_text(alloc, &session, table, &reply)?;
-    let refused = is_append_refused(&reply);
-    Ok((session, Answered { text, refused }))
+    let (session, told) = append_told(rt, alloc, session, table, more, gate, steps);
+    match told {
+        Ok((reply, text)) => {
+            let refused = is_append_refused(&reply);
+            (session, Ok(Answered { text, refused }))
+        }
+        Err(e) => (session, Err(e)),
+    }
 }
 
 // A line that appends to a table that the book hasn't.
-fn refuse_rows(
-    alloc: Global,
-    session: Session,
-    table: &Text,
-) -> Result<(Session, Answered), AllocError>
-    requires { table_place (catalog_image session.catalog) table.now ≡ None }
-    ensures told { (more : List Row) → IfOk result (λ done. IsAnswered done.1 (reports.append_answered (catalog_image session.catalog) (state_of session) table.now more)) }
-    ensures same { IfOk result (λ done. done.0 ≡ session) }
+fn refuse_rows(alloc: Global, session: &Session, table: &Text) -> Result<Answered, AllocError>
+    requires { table_place (catalog_image session.now.catalog) table.now ≡ None }
+    ensures told { (more : List Row) → IfOk result (λ told. IsAnswered told (reports.append_answered (catalog_image session.now.catalog) (state_of session.now) table.now more)) }
 {
     let reply = AppendReply::Refused(AppendRefusal::UnknownTable);
-    let text = append_text(alloc, &session, table, &reply)?;
-    Ok((
-        session,
-        Answered {
-            text,
-            refused: true,
-        },
-    ))
+    let text = append_text(alloc, session, table, &reply)?;
+    Ok(Answered {
+        text,
+        refused: true,
+    })
 }
 
 // A line that appends the rows of the next of these tables.
@@ -188,16 +195,18 @@ fn answer_append<R: Threads + Sync, G: Gate + Sync, L: Ledger>(
     added: &mut VecDeque<Table>,
     gate: &G,
     steps: &mut Steps<L>,
-) -> Result<(Session, Answered), AllocError>
+) -> (Session, Result<Answered, AllocError>)
     requires { IfSome (table_named (catalog_image session.catalog) table.now) (λ info. BeginsWith info added.old.items) }
-    ensures told { IfOk result (λ done. IsAnswered done.1 (reports.append_answered (catalog_image session.catalog) (state_of session) table.now (reports.next_rows (each_rows added.old.items)))) }
-    ensures after { IfOk result (λ done. state_of done.0 ≡ (reports.append_answered (catalog_image session.catalog) (state_of session) table.now (reports.next_rows (each_rows added.old.items))).next) }
-    ensures book { IfOk result (λ done. done.0.catalog ≡ session.catalog) }
-    ensures left { IfOk result (λ done. added.new.items ≡ tables_left (is_some (table_place (catalog_image session.catalog) table.now)) added.old.items) }
+    ensures told { IfOk result.1 (λ told. IsAnswered told (reports.append_answered (catalog_image session.catalog) (state_of session) table.now (reports.next_rows (each_rows added.old.items)))) }
+    ensures after { OnOk result.1 (state_of result.0 ≡ (reports.append_answered (catalog_image session.catalog) (state_of session) table.now (reports.next_rows (each_rows added.old.items))).next) }
+    ensures kept { OnErr result.1 (result.0 ≡ session) }
+    ensures book { result.0.catalog ≡ session.catalog }
+    ensures left { OnOk result.1 (added.new.items ≡ tables_left (is_some (table_place (catalog_image session.catalog) table.now)) added.old.items) }
     ensures looks { steps.new ≤ steps.old + (reports.append_answered (catalog_image session.catalog) (state_of session) table.now (reports.next_rows (each_rows added.old.items))).looks }
 {
     if session.catalog().table_place(table).is_none() {
-        return refuse_rows(alloc, session, table);
+        let told = refuse_rows(alloc, &session, table);
+        return (session, told);
     }
     match added.pop_front() {
         Some(more) => append_rows(rt, alloc, session, table, more, gate, steps),
@@ -205,8 +214,8 @@ fn answer_append<R: Threads + Sync, G: Gate + Sync, L: Ledger>(
     }
 }
 
-/// What a line of any kind comes to, over a book whose dependencies have these names, and the session in the next state. A line that appends rows takes the first of these tables. After an error nothing is said of them.
-pub fn answer_line<R: Threads + Sync, G: Gate + Sync, L: Ledger>(
+// What a line of any kind comes to, over a book whose dependencies have these names, and the session in the next state. A line that appends rows takes the first of these tables. After an error the session is as it was.
+fn answer_line<R: Threads + Sync, G: Gate + Sync, L: Ledger>(
     rt: &R,
     alloc: Global,
     session: Session,
@@ -215,32 +224,117 @@ pub fn answer_line<R: Threads + Sync, G: Gate + Sync, L: Ledger>(
     added: &mut VecDeque<Table>,
     gate: &G,
     steps: &mut Steps<L>,
-) -> Result<(Session, Answered), AllocError>
+) -> (Session, Result<Answered, AllocError>)
     requires kept { KeepsLine (any_image line.now) }
     requires shown { AreDependencies (catalog_image session.catalog) fds.now }
     requires fits { IfSome (appended_by (catalog_image session.catalog) (any_image line.now)) (λ info. BeginsWith info added.old.items) }
-    ensures told { IfOk result (λ done. IsAnswered done.1 (reports.answered (said_of session.catalog fds.now) (state_of session) (reports.next_rows (each_rows added.old.items)) (any_image line.now))) }
-    ensures after { IfOk result (λ done. state_of done.0 ≡ (reports.answered (said_of session.catalog fds.now) (state_of session) (reports.next_rows (each_rows added.old.items)) (any_image line.now)).next) }
-    ensures book { IfOk result (λ done. done.0.catalog ≡ session.catalog) }
-    ensures left { IfOk result (λ done. added.new.items ≡ tables_left (reports.appends (catalog_image session.catalog) (any_image line.now)) added.old.items) }
+    ensures told { IfOk result.1 (λ told. IsAnswered told (reports.answered (said_of session.catalog fds.now) (state_of session) (reports.next_rows (each_rows added.old.items)) (any_image line.now))) }
+    ensures after { OnOk result.1 (state_of result.0 ≡ (reports.answered (said_of session.catalog fds.now) (state_of session) (reports.next_rows (each_rows added.old.items)) (any_image line.now)).next) }
+    ensures kept { OnErr result.1 (result.0 ≡ session) }
+    ensures book { result.0.catalog ≡ session.catalog }
+    ensures left { OnOk result.1 (added.new.items ≡ tables_left (reports.appends (catalog_image session.catalog) (any_image line.now)) added.old.items) }
     ensures looks { steps.new ≤ steps.old + (reports.answered (said_of session.catalog fds.now) (state_of session) (reports.next_rows (each_rows added.old.items)) (any_image line.now)).looks }
 {
     let mut session = session;
     match line {
         AnyLine::Plain(line) => {
-            let told = answer_plain(rt, alloc, &mut session, line, gate, steps)?;
-            Ok((session, told))
+            let told = answer_plain(rt, alloc, &mut session, line, gate, steps);
+            (session, told)
         }
         AnyLine::Ask(line) => {
-            let told = answer_ask(rt, alloc, &mut session, line, gate, steps)?;
-            Ok((session, told))
+            let told = answer_ask(rt, alloc, &mut session, line, gate, steps);
+            (session, told)
         }
         AnyLine::Profile { view } => {
-            let told = answer_profile(rt, alloc, &mut session, fds, view, gate, steps)?;
-            Ok((session, told))
+            let told = answer_profile(rt, alloc, &mut session, fds, view, gate, steps);
+            (session, told)
         }
         AnyLine::Append { table, .. } => {
             answer_append(rt, alloc, session, table, added, gate, steps)
+        }
+    }
+}
+
+/// What a line of a script comes to: its text and its counts.
+#[derive(Drop)]
+pub struct LineTold {
+    pub text: Vec<u8>,
+    pub counts: Counts,
+}
+
+// The text and the counts of a line that is answered.
+fn counted(told: Answered) -> LineTold
+    ensures text { result.text ≡ told.text }
+    ensures counts { result.counts ≡ record { replies = 1; refused = cond told.refused 1 0; unread = 0; bytes = length told.text.items } }
+{
+    let Answered { text, refused } = told;
+    let counts = Counts {
+        replies: 1,
+        refused: if refused { 1 } else { 0 },
+        unread: 0,
+        bytes: text.len() as u64,
+    };
+    LineTold { text, counts }
+}
+
+// The text and the counts of a line with this number that isn't in the grammar.
+fn unread_line(alloc: Global, number: u64, at: u64) -> Result<LineTold, AllocError>
+    ensures text { IfOk result (λ told. told.text.items ≡ line_texts.bad_line_text number at) }
+    ensures counts { IfOk result (λ told. told.counts ≡ record { replies = 0; refused = 0; unread = 1; bytes = length (line_texts.bad_line_text number at) }) }
+{
+    let text = bad_line_text(alloc, number, at)?;
+    let counts = Counts {
+        unread: 1,
+        bytes: text.len() as u64,
+        ..NOTHING
+    };
+    Ok(LineTold { text, counts })
+}
+
+/// What the line with this number that says this comes to, over a book whose dependencies have these names, and the session in the next state. A line that appends rows takes the first of these tables. After an error the session is as it was.
+pub fn tell_line<R: Threads + Sync, G: Gate + Sync, L: Ledger>(
+    rt: &R,
+    alloc: Global,
+    session: Session,
+    fds: &Names,
+    number: u64,
+    reading: &Reading,
+    added: &mut VecDeque<Table>,
+    gate: &G,
+    steps: &mut Steps<L>,
+) -> (Session, Result<LineTold, AllocError>)
+    requires kept { KeepsReading (reading_image reading.now) }
+    requires shown { AreDependencies (catalog_image session.catalog) fds.now }
+    requires fits { IfSome (appended_at (catalog_image session.catalog) (reading_image reading.now)) (λ info. BeginsWith info added.old.items) }
+    ensures text { IfOk result.1 (λ told. told.text.items ≡ (reports.line_told (said_of session.catalog fds.now) (state_of session) number (reports.next_rows (each_rows added.old.items)) (reading_image reading.now)).text) }
+    ensures counts { IfOk result.1 (λ told. told.counts ≡ counts_told (reports.line_told (said_of session.catalog fds.now) (state_of session) number (reports.next_rows (each_rows added.old.items)) (reading_image reading.now))) }
+    ensures after { OnOk result.1 (state_of result.0 ≡ reports.state_after (said_of session.catalog fds.now) (state_of session) (reports.next_rows (each_rows added.old.items)) (reading_image reading.now)) }
+    ensures kept { OnErr result.1 (result.0 ≡ session) }
+    ensures book { result.0.catalog ≡ session.catalog }
+    ensures left { OnOk result.1 (added.new.items ≡ tables_left (reports.brings_rows (catalog_image session.catalog) (reading_image reading.now)) added.old.items) }
+    ensures looks { steps.new ≤ steps.old + (reports.line_told (said_of session.catalog fds.now) (state_of session) number (reports.next_rows (each_rows added.old.items)) (reading_image reading.now)).looks }
+{
+    match reading {
+        Reading::Nothing => {
+            let text = Vec::new(alloc);
+            (
+                session,
+                Ok(LineTold {
+                    text,
+                    counts: NOTHING,
+                }),
+            )
+        }
+        Reading::Asks(line) => {
+            let (session, told) = answer_line(rt, alloc, session, fds, line, added, gate, steps);
+            match told {
+                Ok(told) => (session, Ok(counted(told))),
+                Err(e) => (session, Err(e)),
+            }
+        }
+        Reading::Unread(at) => {
+            let told = unread_line(alloc, number, *at);
+            (session, told)
         }
     }
 }

@@ -1,7 +1,8 @@
-//! The top call of Smoke: a run, from its words to its report.
+//! The top calls of Smoke: a run, from its words to its report, and a conversation, line by line.
 #![tactic(auto)]
 
 mod answering;
+mod conversing;
 mod counting;
 mod counts;
 mod laws;
@@ -11,7 +12,9 @@ mod reporting;
 mod starting;
 mod status;
 mod summarizing;
+mod talking;
 
+pub use conversing::converse;
 pub use laws::completeness;
 pub use program::run;
 pub use status::Status;

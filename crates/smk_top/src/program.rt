@@ -56,8 +56,8 @@ fn status_of_counts(counts: Counts) -> Status
     }
 }
 
-// Says that memory was wanting.
-fn say_no_memory<E: Sink>(err: &mut E) -> Status
+/// Says that memory was wanting.
+pub fn say_no_memory<E: Sink>(err: &mut E) -> Status
     ensures said { SaysMemory (Rose (E.faults err.old) (E.faults err.new)) (E.written err.old) (E.written err.new) result }
     ensures later { E.faults err.old ≤ E.faults err.new }
 {
@@ -67,8 +67,8 @@ fn say_no_memory<E: Sink>(err: &mut E) -> Status
     }
 }
 
-// Says a fault.
-fn say_fault<E: Sink>(alloc: Global, fault: &Fault, err: &mut E) -> Status
+/// Says a fault.
+pub fn say_fault<E: Sink>(alloc: Global, fault: &Fault, err: &mut E) -> Status
     requires { IsSaid fault.now }
     ensures said { SaysFault fault.now (Rose (E.faults err.old) (E.faults err.new)) (E.written err.old) (E.written err.new) result }
     ensures later { E.faults err.old ≤ E.faults err.new }

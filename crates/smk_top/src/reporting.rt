@@ -22,14 +22,14 @@ ghost use Rattle.smk_inputs.specs.Loaded.{said_of};
 ghost use Rattle.smk_top.specs.Counting.{counts_told, counts_of, text_counted};
 ghost use Rattle.smk_top.specs.Writing.{Puts, PutsPieces};
 
-use crate::answering::{Answered, answer_line};
+use crate::answering::{LineTold, tell_line};
 use crate::counting::{NOTHING, together};
 use crate::counts::Counts;
-use smk_base::{AnyLine, Names, without_mark};
+use smk_base::{Names, without_mark};
 use smk_inputs::{Reading, Settings, Stop, reading_of};
 use smk_outside::{Gate, Sink, Steps};
 use smk_parse::line_at;
-use smk_report::{bad_line_text, view_text_in_pieces};
+use smk_report::view_text_in_pieces;
 use smk_session::Session;
 use smk_table::Table;
 use std::alloc::{AllocError, Global};
@@ -48,8 +48,19 @@ pub fn put<O: Sink>(out: &mut O, text: &[u8]) -> Result<(), Stop>
     }
 }
 
-// The text of the view with this number.
-fn text_of_view<R: Threads + Sync>(
+// Writes a text, where it has a byte.
+fn put_some<O: Sink>(out: &mut O, text: &[u8]) -> Result<(), Stop>
+    ensures text { Puts text.now (Rose (O.faults out.old) (O.faults out.new)) (O.written out.old) (O.written out.new) result }
+    ensures later { O.faults out.old ≤ O.faults out.new }
+{
+    if text.is_empty() {
+        return Ok(());
+    }
+    put(out, text)
+}
+
+/// The text of the view with this number.
+pub fn text_of_view<R: Threads + Sync>(
     rt: &R,
     alloc: Global,
     settings: Settings,
@@ -99,76 +110,6 @@ fn write_views<R: Threads + Sync, O: Sink>(
     Ok(counts)
 }
 
-// Writes a text that is counted so, but for its bytes, and tells the counts with these.
-fn write_counted<O: Sink>(out: &mut O, text: Vec<u8>, counts: Counts) -> Result<Counts, Stop>
-    ensures text { Puts text.items (Rose (O.faults out.old) (O.faults out.new)) (O.written out.old) (O.written out.new) result }
-    ensures counts { IfOk result (λ told. told ≡ record { replies = counts.replies; refused = counts.refused; unread = counts.unread; bytes = length text.items }) }
-    ensures later { O.faults out.old ≤ O.faults out.new }
-{
-    match out.put(text.as_slice()) {
-        Ok(()) => Ok(Counts {
-            bytes: text.len() as u64,
-            ..counts
-        }),
-        Err(_) => Err(Stop::Unwritten),
-    }
-}
-
-// The counts of a line that is answered, but for its bytes.
-fn answer_counts(refused: bool) -> Counts
-    ensures { result ≡ record { replies = 1; refused = cond refused 1 0; unread = 0; bytes = 0 } }
-{
-    Counts {
-        replies: 1,
-        refused: if refused { 1 } else { 0 },
-        ..NOTHING
-    }
-}
-
-// Writes the text of a line that is answered, and tells its counts beside the session.
-fn write_answer<R: Threads + Sync, G: Gate + Sync, O: Sink, L: Ledger>(
-    rt: &R,
-    alloc: Global,
-    session: Session,
-    fds: &Names,
-    line: &AnyLine,
-    added: &mut VecDeque<Table>,
-    gate: &G,
-    out: &mut O,
-    steps: &mut Steps<L>,
-) -> Result<(Session, Counts), Stop>
-    requires kept { KeepsLine (any_image line.now) }
-    requires shown { AreDependencies (catalog_image session.catalog) fds.now }
-    requires fits { IfSome (appended_by (catalog_image session.catalog) (any_image line.now)) (λ info. BeginsWith info added.old.items) }
-    ensures written { PutsPieces (reports.line_told (said_of session.catalog fds.now) (state_of session) 0 (reports.next_rows (each_rows added.old.items)) (readings.Asks (any_image line.now))).text
-        (Rose (O.faults out.old) (O.faults out.new)) (O.written out.old) (O.written out.new) result }
-    ensures counts { IfOk result (λ done. done.1 ≡ counts_told (reports.line_told (said_of session.catalog fds.now) (state_of session) 0 (reports.next_rows (each_rows added.old.items)) (readings.Asks (any_image line.now)))) }
-    ensures after { IfOk result (λ done. state_of done.0 ≡ reports.state_after (said_of session.catalog fds.now) (state_of session) (reports.next_rows (each_rows added.old.items)) (readings.Asks (any_image line.now))) }
-    ensures book { IfOk result (λ done. done.0.catalog ≡ session.catalog) }
-    ensures left { IfOk result (λ done. added.new.items ≡ tables_left (reports.appends (catalog_image session.catalog) (any_image line.now)) added.old.items) }
-    ensures later { O.faults out.old ≤ O.faults out.new }
-    ensures looks { steps.new ≤ steps.old + (reports.line_told (said_of session.catalog fds.now) (state_of session) 0 (reports.next_rows (each_rows added.old.items)) (readings.Asks (any_image line.now))).looks }
-{
-    let (session, told) = answer_line(rt, alloc, session, fds, line, added, gate, steps)?;
-    let Answered { text, refused } = told;
-    let counts = write_counted(out, text, answer_counts(refused))?;
-    Ok((session, counts))
-}
-
-// Writes the text of a line with this number that isn't in the grammar.
-fn write_unread<O: Sink>(alloc: Global, number: u64, at: u64, out: &mut O) -> Result<Counts, Stop>
-    ensures written { PutsPieces (line_texts.bad_line_text number at) (Rose (O.faults out.old) (O.faults out.new)) (O.written out.old) (O.written out.new) result }
-    ensures counts { IfOk result (λ counts. counts ≡ record { replies = 0; refused = 0; unread = 1; bytes = length (line_texts.bad_line_text number at) }) }
-    ensures later { O.faults out.old ≤ O.faults out.new }
-{
-    let text = bad_line_text(alloc, number, at)?;
-    let counts = Counts {
-        unread: 1,
-        ..NOTHING
-    };
-    write_counted(out, text, counts)
-}
-
 // Writes the text of the line with this number that says this, where it has one, and lets go of what it says. It tells the counts beside the session.
 fn write_line<R: Threads + Sync, G: Gate + Sync, O: Sink, L: Ledger>(
     rt: &R,
@@ -194,16 +135,12 @@ fn write_line<R: Threads + Sync, G: Gate + Sync, O: Sink, L: Ledger>(
     ensures later { O.faults out.old ≤ O.faults out.new }
     ensures looks { steps.new ≤ steps.old + (reports.line_told (said_of session.catalog fds.now) (state_of session) number (reports.next_rows (each_rows added.old.items)) (reading_image reading)).looks }
 {
-    match reading {
-        Reading::Nothing => Ok((session, NOTHING)),
-        Reading::Asks(line) => {
-            write_answer(rt, alloc, session, fds, &line, added, gate, out, steps)
-        }
-        Reading::Unread(at) => {
-            let counts = write_unread(alloc, number, at, out)?;
-            Ok((session, counts))
-        }
-    }
+    let (session, told) = tell_line(
+        rt, alloc, session, fds, number, &reading, added, gate, steps,
+    );
+    let LineTold { text, counts } = told?;
+    put_some(out, text.as_slice())?;
+    Ok((session, counts))
 }
 
 // Writes the texts of the lines of a script, each before the next line is read, and counts them. The lines that append rows take those of these tables, line by line.

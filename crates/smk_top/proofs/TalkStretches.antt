@@ -1,0 +1,293 @@
+-- Stretches of a conversation over a book, one after the other, with what they come to.
+use Rattle.std.proofs.Common.{zero, suc, ◌≡◌, ◌≤◌, ◌<◌, ◌+◌, ℕ, Bool, true, false, List, [], ◌∷◌, ◌++◌, Option, Some, None, Result, Ok, Err, refl, sym, ap, ◌∙◌, subst, arith, inl, inr, length, length-append}
+use Rattle.std.specs.Prelude.{◌⊎◌, ◌||◌, nat_lt, ⊤}
+use borrow.Author.Tests.{lt-ltb}
+use Rattle.std.specs.List.{fold}
+use Rattle.smk_base.specs.declared.catalog.TableInfo.{TableInfo}
+use Rattle.smk_base.specs.declared.fault.Fault.{Fault}
+use Rattle.smk_base.specs.declared.fault.Fault.TheVariants.{Usage, Book, Types, Table, FileLong, TableRows, ViewRows, ViewPairs, Unread}
+use Rattle.smk_model.specs.Conversation.{TalkTurn, Replied, Unbrought, ReadOnly, Forgone, TooLong, TalkState, line_of, session_after, turn_after, turn_told, turn_text, turns_told, FitsTalk, IsUnbrought}
+use Rattle.smk_model.specs.Outcome.{Held, UntoldCause, appended_at}
+use Rattle.smk_model.specs.Session.{State}
+use Rattle.smk_model.specs.Reports.{BookSaid, Told, nothing_told, followed_by}
+use Rattle.smk_model.specs.TalkStarts.{BringsBy}
+use Rattle.smk_model.specs.Values.{Row}
+use Rattle.smk_outside.proofs.Stretches as stretches
+use Rattle.smk_outside.specs.declared.event.Event.TheVariants.{Heard, End}
+use Rattle.smk_outside.specs.Hearing.{Hears}
+use Rattle.smk_outside.specs.Saying.{AreFront, Says, SaysFront}
+use Rattle.smk_outside.specs.Turning.{ReplyGives}
+use Rattle.smk_outside.specs.Conversing.{Stretch, Cause, Talks, TakesBy, last_state}
+use Rattle.smk_outside.proofs.Telling.{Adds-trans, Takes-trans, TakesBy-trans, TakesBy-unheard}
+use Rattle.std.proofs.lemmas.List.{map-append}
+use Rattle.std.proofs.lemmas.List.Sums.{fold-append}
+use Rattle.smk_outside.specs.Told.{Told as ToldBy, Adds, AreAll, says}
+use Rattle.smk_outside.specs.declared.ending.Ending.{Ending}
+use Rattle.smk_outside.specs.declared.ending.Ending.TheVariants.{Ended, Unheard, Unsaid, Outlasted}
+use Rattle.smk_inputs.proofs.Stops.{untold_within}
+use Rattle.smk_top.specs.Talking.{talk_rules, is_down, talk_at, AnswersLine, TalkStretch, TakesTurn, EndsTurn, TurnTaken, Talked}
+
+-- what is told of turns, one part after the other: the sums
+sums : (said : BookSaid) (state : TalkState) (a b : List TalkTurn)
+    → ((turns_told said state (a ++ b)).refused ≡ (turns_told said state a).refused + (turns_told said (last_state (talk_rules said) state a) b).refused)
+    × ((turns_told said state (a ++ b)).unread ≡ (turns_told said state a).unread + (turns_told said (last_state (talk_rules said) state a) b).unread)
+    × ((turns_told said state (a ++ b)).looks ≡ (turns_told said state a).looks + (turns_told said (last_state (talk_rules said) state a) b).looks)
+sums said state [] b = (omega arith, omega arith, omega arith)
+sums said state (turn ∷ a) b =
+    let (r, u, l) = sums said (turn_after said state turn) a b in
+    (added _ _ _ _ r, added _ _ _ _ u, added _ _ _ _ l)
+  where
+    added : (x y z w : ℕ) → y ≡ z + w → x + y ≡ (x + z) + w
+    added x y z w is = omega (arith, is)
+
+-- a sum is above nought exactly where a part is
+either : (a b : ℕ) → nat_lt 0 (a + b) ≡ (nat_lt 0 a || nat_lt 0 b)
+either zero b = ap (λ n. nat_lt 0 n) (omega arith)
+either (suc a) b =
+    let whole : nat_lt 0 (suc a + b) ≡ true = lt-ltb _ _ (omega arith) in
+    let part : nat_lt 0 (suc a) ≡ true = lt-ltb _ _ (omega arith) in
+    rw whole (rw part refl)
+
+sides : (a b c d : Bool) → ((a || b) || (c || d)) ≡ ((a || c) || (b || d))
+sides true true true d = refl
+sides true true false d = refl
+sides true false true d = refl
+sides true false false true = refl
+sides true false false false = refl
+sides false true true true = refl
+sides false true true false = refl
+sides false true false true = refl
+sides false true false false = refl
+sides false false true true = refl
+sides false false true false = refl
+sides false false false d = refl
+
+-- a line of turns is turned down where one of either part is
+down_either : (a b c : Told) → c.refused ≡ a.refused + b.refused → c.unread ≡ a.unread + b.unread → is_down c ≡ (is_down a || is_down b)
+down_either a b c r u =
+    ap (λ n. nat_lt 0 n || nat_lt 0 c.unread) r ∙ ap (λ n. nat_lt 0 (a.refused + b.refused) || nat_lt 0 n) u
+    ∙ ap (λ t. t || nat_lt 0 (a.unread + b.unread)) (either a.refused b.refused)
+    ∙ ap (λ t. (nat_lt 0 a.refused || nat_lt 0 b.refused) || t) (either a.unread b.unread)
+    ∙ sides (nat_lt 0 a.refused) (nat_lt 0 b.refused) (nat_lt 0 a.unread) (nat_lt 0 b.unread)
+
+-- what one turn comes to
+one_down : (told : Told) → is_down told ≡ is_down (followed_by told nothing_told)
+one_down told =
+    let r : told.refused ≡ told.refused + 0 = omega arith in
+    let u : told.unread ≡ told.unread + 0 = omega arith in
+    ap (λ n. nat_lt 0 n || nat_lt 0 told.unread) r ∙ ap (λ n. nat_lt 0 (told.refused + 0) || nat_lt 0 n) u
+
+one_looks : (told : Told) (before after : ℕ) → after ≤ before + told.looks → after ≤ before + (followed_by told nothing_told).looks
+one_looks told before after few = omega (arith, few)
+
+module _ (said : BookSaid) (read_only : Bool) (held : Option Held) where
+  -- what came of a file came of it in a part
+  brings_more : (rose_here rose : Type 0) → (rose_here → rose) → (h : Option Held) (table : Option TableInfo) (brought : Result (List Row) Fault) → BringsBy h rose_here table brought → BringsBy h rose table brought
+  brings_more rose_here rose wide h None brought is = is
+  brings_more rose_here rose wide None (Some table) (Ok rows) is = tt
+  brings_more rose_here rose wide None (Some table) (Err fault) is = untold_within rose_here rose fault wide is
+  brings_more rose_here rose wide (Some h) (Some table) brought (inl is) = inl is
+  brings_more rose_here rose wide (Some h) (Some table) brought (inr (up, unread)) = inr (wide up, unread)
+
+  -- turns fit by whatever more may come of files
+  pub fits_by : (Here More : Option TableInfo → Result (List Row) Fault → Type 0) → ((table : Option TableInfo) (brought : Result (List Row) Fault) → Here table brought → More table brought)
+      → (state : TalkState) (turn : TalkTurn) → FitsTalk read_only said.catalog Here state turn → FitsTalk read_only said.catalog More state turn
+  fits_by Here More wide state (Replied heard) (short, reads, allowed, brought) = (short, reads, allowed, wide (appended_at said.catalog heard.reading) (Ok heard.rows) brought)
+  fits_by Here More wide state (Unbrought bytes fault) (short, un, allowed) =
+      (short, record { reading = un.reading; table = un.table; reads = un.reads; appends = un.appends; brings = wide (Some un.table) (Err fault) un.brings }, allowed)
+  fits_by Here More wide state (ReadOnly bytes) is = is
+  fits_by Here More wide state (Forgone heard) (reads, inl none) = (reads, inl none)
+  fits_by Here More wide state (Forgone heard) (reads, inr brought) = (reads, inr (wide (appended_at said.catalog heard.reading) (Ok heard.rows) brought))
+  fits_by Here More wide state (TooLong bytes) is = is
+
+  -- a stretch, as part of a longer time
+  pub stretch_within : (rose_here rose : Type 0) (saying : List (List ℕ)) (first last : TalkState) (before after : ToldBy) (ending : Ending) (down : Bool) (looks_before looks_after : ℕ) → (rose_here → rose)
+      → (part : TalkStretch said read_only held rose_here saying first last before after ending down looks_before looks_after)
+      → (whole : TalkStretch said read_only held rose saying first last before after ending down looks_before looks_after) × (whole.talk.turns ≡ part.talk.turns)
+  stretch_within rose_here rose saying first last before after ending down looks_before looks_after wide part = (
+    record {
+      talk = record {
+        turns = part.talk.turns;
+        events = part.talk.events;
+        talks = stretches.talks_refit (talk_rules said) (FitsTalk read_only said.catalog (BringsBy held rose_here)) (FitsTalk read_only said.catalog (BringsBy held rose)) (fits_by (BringsBy held rose_here) (BringsBy held rose) (brings_more rose_here rose wide held)) first saying ending part.talk.turns part.talk.events part.talk.talks;
+        state = part.talk.state;
+        adds = part.talk.adds;
+        takes = part.talk.takes;
+      };
+      turned = part.turned;
+      looks = part.looks;
+    },
+    refl,
+  )
+
+  -- two stretches, one after the other
+  pub stretches_joined : (rose : Type 0) (saying : List (List ℕ)) (first mid last : TalkState) (before between after : ToldBy) (ending : Ending) (down more : Bool) (looks_before looks_between looks_after : ℕ)
+      → (p : TalkStretch said read_only held rose saying first mid before between Outlasted down looks_before looks_between)
+      → (q : TalkStretch said read_only held rose [] mid last between after ending more looks_between looks_after)
+      → (whole : TalkStretch said read_only held rose saying first last before after ending (down || more) looks_before looks_after) × (whole.talk.turns ≡ p.talk.turns ++ q.talk.turns)
+  stretches_joined rose saying first mid last before between after ending down more looks_before looks_between looks_after p q =
+      let s = sums said first p.talk.turns q.talk.turns in
+      let at = subst (λ m. is_down (turns_told said m q.talk.turns) ≡ is_down (turns_told said (last_state (talk_rules said) first p.talk.turns) q.talk.turns)) (sym p.talk.state) refl in
+      let looks : looks_after ≤ looks_between + (turns_told said (last_state (talk_rules said) first p.talk.turns) q.talk.turns).looks = subst (λ m. looks_after ≤ looks_between + (turns_told said m q.talk.turns).looks) p.talk.state q.looks in (
+        record {
+          talk = record {
+            turns = p.talk.turns ++ q.talk.turns;
+            events = p.talk.events ++ q.talk.events;
+            talks = stretches.talks_on (talk_rules said) (FitsTalk read_only said.catalog (BringsBy held rose)) first saying ending p.talk.turns q.talk.turns p.talk.events q.talk.events p.talk.talks
+                (subst (λ s. Talks (talk_rules said) (FitsTalk read_only said.catalog (BringsBy held rose)) s [] ending q.talk.turns q.talk.events) p.talk.state q.talk.talks);
+            state = q.talk.state ∙ ap (λ s. last_state (talk_rules said) s q.talk.turns) p.talk.state ∙ sym (fold-append (turn_after said) first p.talk.turns q.talk.turns);
+            adds = Adds-trans before between after p.talk.events q.talk.events p.talk.adds q.talk.adds;
+            takes = subst (TakesBy ending before after) (sym (map-append line_of p.talk.turns q.talk.turns)) (TakesBy-trans ending before between after _ _ p.talk.takes q.talk.takes);
+          };
+          turned = ap (λ d. d || more) p.turned ∙ ap (λ d. is_down (turns_told said first p.talk.turns) || d) (q.turned ∙ at)
+              ∙ sym (down_either (turns_told said first p.talk.turns) (turns_told said (last_state (talk_rules said) first p.talk.turns) q.talk.turns) (turns_told said first (p.talk.turns ++ q.talk.turns)) s.0 s.1);
+          looks = within _ _ _ _ _ _ p.looks looks s.2;
+        },
+        refl,
+      )
+    where
+      within : (a b c x y z : ℕ) → b ≤ a + x → c ≤ b + y → z ≡ x + y → c ≤ a + z
+      within a b c x y z p q s = omega (arith, p, q, s)
+
+  -- a line that was heard is answered
+  pub turn_taken : (rose talk_before talk_rose : Type 0) (first : TalkState) (bytes : List ℕ) (after_state : State) (text : List ℕ) (down : Bool) (looks_before looks_after : ℕ) (before between after : ToldBy) (result : Option Ending)
+      → AnswersLine said read_only held rose first bytes after_state text down looks_before looks_after
+      → Hears before between bytes → (talk_before → talk_rose) → ReplyGives talk_before between after (text ∷ (10 ∷ []) ∷ []) result
+      → TurnTaken said read_only held rose talk_rose first (talk_at after_state (first.heard + 1)) before after result down looks_before looks_after
+  turn_taken rose talk_before talk_rose first bytes after_state text down looks_before looks_after before between after None a heard why given = record {
+    stretch = record {
+      talk = record {
+        turns = a.turn ∷ [];
+        events = Heard (line_of a.turn) ∷ says (text ∷ (10 ∷ []) ∷ []);
+        talks = (says (text ∷ (10 ∷ []) ∷ []), a.fits, refl, ap (λ t. says (t ∷ (10 ∷ []) ∷ [])) a.is);
+        state = ap (λ s. talk_at s (first.heard + 1)) a.session;
+        adds = Adds-trans before between after _ _ (subst (Hears before between) (sym a.line) heard).0 given.0;
+        takes = Takes-trans before between after _ _ (subst (Hears before between) (sym a.line) heard).1 given.1;
+      };
+      turned = a.turned ∙ one_down (turn_told said first a.turn);
+      looks = one_looks (turn_told said first a.turn) looks_before looks_after a.looks;
+    };
+    one = refl;
+  }
+  turn_taken rose talk_before talk_rose first bytes after_state text down looks_before looks_after before between after (Some Unsaid) a heard why ((events, front, added, taken), cause) = record {
+    last = talk_at after_state (first.heard + 1);
+    stretch = record {
+      talk = record {
+        turns = a.turn ∷ [];
+        events = Heard (line_of a.turn) ∷ events;
+        talks = (events, a.fits, refl, subst (λ t. AreFront (t ∷ (10 ∷ []) ∷ []) events) a.is front);
+        state = ap (λ s. talk_at s (first.heard + 1)) a.session;
+        adds = Adds-trans before between after _ _ (subst (Hears before between) (sym a.line) heard).0 added;
+        takes = Takes-trans before between after _ _ (subst (Hears before between) (sym a.line) heard).1 taken;
+      };
+      turned = a.turned ∙ one_down (turn_told said first a.turn);
+      looks = one_looks (turn_told said first a.turn) looks_before looks_after a.looks;
+    };
+    cause = λ _. why cause;
+  }
+  turn_taken rose talk_before talk_rose first bytes after_state text down looks_before looks_after before between after (Some Ended) a heard why given = absurd given
+  turn_taken rose talk_before talk_rose first bytes after_state text down looks_before looks_after before between after (Some Unheard) a heard why given = absurd given
+  turn_taken rose talk_before talk_rose first bytes after_state text down looks_before looks_after before between after (Some Outlasted) a heard why given = absurd given
+
+  -- no line comes any more, or none can be heard
+  pub no_line : (rose talk_rose : Type 0) (first : TalkState) (before after : ToldBy) (looks_before looks_after : ℕ) → Adds before after (End ∷ []) → AreAll before [] → looks_after ≡ looks_before
+      → EndsTurn said read_only held rose talk_rose first before after Ended false looks_before looks_after
+  no_line rose talk_rose first before after looks_before looks_after added all none = record {
+    last = first;
+    stretch = record { talk = record { turns = []; events = End ∷ []; talks = refl; state = refl; adds = added; takes = all }; turned = refl; looks = omega (arith, none) };
+    cause = λ _. tt;
+  }
+
+  pub no_hearing : (rose talk_rose : Type 0) (first : TalkState) (before after : ToldBy) (looks_before looks_after : ℕ) → Adds before after [] → talk_rose → looks_after ≡ looks_before
+      → EndsTurn said read_only held rose talk_rose first before after Unheard false looks_before looks_after
+  no_hearing rose talk_rose first before after looks_before looks_after added cause none = record {
+    last = first;
+    stretch = record { talk = record { turns = []; events = []; talks = refl; state = refl; adds = added; takes = TakesBy-unheard before after }; turned = refl; looks = omega (arith, none) };
+    cause = λ _. cause;
+  }
+
+  -- what is said first is said, or breaks off
+  pub begins : (rose : Type 0) (saying : List (List ℕ)) (first : TalkState) (before after : ToldBy) (looks : ℕ) → Says before after saying
+      → (stretch : TalkStretch said read_only held rose saying first first before after Outlasted false looks looks) × (length stretch.talk.turns ≡ 0)
+  begins rose saying first before after looks given = (
+    record { talk = record { turns = []; events = says saying; talks = refl; state = refl; adds = given.0; takes = given.1 }; turned = refl; looks = omega arith },
+    refl,
+  )
+
+  pub breaks_off : (rose talk_rose : Type 0) (saying : List (List ℕ)) (first : TalkState) (before after : ToldBy) (looks : ℕ) → SaysFront before after saying → talk_rose
+      → Talked said read_only held rose talk_rose saying first before after Unsaid false looks looks
+  breaks_off rose talk_rose saying first before after looks (events, front, added, taken) cause = record {
+    last = first;
+    stretch = record { talk = record { turns = []; events = events; talks = front; state = refl; adds = added; takes = taken }; turned = refl; looks = omega arith };
+    cause = cause;
+  }
+
+  -- one turn more
+  pub one_more : (rose_before rose_here rose : Type 0) (saying : List (List ℕ)) (first mid last : TalkState) (before between after : ToldBy) (down more : Bool) (looks_before looks_between looks_after count : ℕ) → (rose_before → rose) → (rose_here → rose)
+      → (p : TalkStretch said read_only held rose_before saying first mid before between Outlasted down looks_before looks_between) → length p.talk.turns ≡ count
+      → TakesTurn said read_only held rose_here mid last between after more looks_between looks_after
+      → (whole : TalkStretch said read_only held rose saying first last before after Outlasted (down || more) looks_before looks_after) × (length whole.talk.turns ≡ count + 1)
+  one_more rose_before rose_here rose saying first mid last before between after down more looks_before looks_between looks_after count wide wider p long turn =
+      let (q, same) = stretch_within rose_before rose saying first mid before between Outlasted down looks_before looks_between wide p in
+      let (t, alike) = stretch_within rose_here rose [] mid last between after Outlasted more looks_between looks_after wider turn.stretch in
+      let (whole, is) = stretches_joined rose saying first mid last before between after Outlasted down more looks_before looks_between looks_after q t in
+      (whole, ap length is ∙ length-append q.talk.turns t.talk.turns ∙ added _ _ _ _ (ap length same ∙ long) (ap length alike ∙ turn.one))
+    where
+      added : (a b c d : ℕ) → a ≡ b → c ≡ d → a + c ≡ b + d
+      added a b c d p q = omega (arith, p, q)
+
+  -- the last turn
+  pub last_one : (rose_before rose_here rose talk_here talk_rose : Type 0) (saying : List (List ℕ)) (first mid : TalkState) (before between after : ToldBy) (ending : Ending) (down more : Bool) (looks_before looks_between looks_after : ℕ) → (rose_before → rose) → (rose_here → rose) → (talk_here → talk_rose)
+      → TalkStretch said read_only held rose_before saying first mid before between Outlasted down looks_before looks_between
+      → EndsTurn said read_only held rose_here talk_here mid between after ending more looks_between looks_after
+      → Talked said read_only held rose talk_rose saying first before after ending (down || more) looks_before looks_after
+  last_one rose_before rose_here rose talk_here talk_rose saying first mid before between after ending down more looks_before looks_between looks_after wide wider why p turn =
+      let (q, same) = stretch_within rose_before rose saying first mid before between Outlasted down looks_before looks_between wide p in
+      let (t, alike) = stretch_within rose_here rose [] mid turn.last between after ending more looks_between looks_after wider turn.stretch in
+      let (whole, is) = stretches_joined rose saying first mid turn.last before between after ending down more looks_before looks_between looks_after q t in
+      record { last = turn.last; stretch = whole; cause = caused ending (length whole.talk.turns) (turn.cause (length whole.talk.turns)) }
+    where
+      caused : (e : Ending) (count : ℕ) → Cause e talk_here count → Cause e talk_rose count
+      caused Ended count cause = cause
+      caused Unheard count cause = why cause
+      caused Unsaid count cause = why cause
+      caused Outlasted count cause = cause
+
+  -- as many turns as can be counted
+  pub outlasts : (rose_before rose talk_rose : Type 0) (saying : List (List ℕ)) (first last : TalkState) (before after : ToldBy) (down : Bool) (looks_before looks_after : ℕ) → (rose_before → rose)
+      → (p : TalkStretch said read_only held rose_before saying first last before after Outlasted down looks_before looks_after) → length p.talk.turns ≡ 18446744073709551615
+      → Talked said read_only held rose talk_rose saying first before after Outlasted down looks_before looks_after
+  outlasts rose_before rose talk_rose saying first last before after down looks_before looks_after wide p long =
+      let (q, same) = stretch_within rose_before rose saying first last before after Outlasted down looks_before looks_after wide p in
+      record { last = last; stretch = q; cause = ap length same ∙ long }
+
+  -- what is said first, and then a conversation
+  pub begun_talk : (rose talk_here talk_rose : Type 0) (saying : List (List ℕ)) (first : TalkState) (before between after : ToldBy) (ending : Ending) (down : Bool) (looks_before looks_after : ℕ) → (talk_here → talk_rose) → Says before between saying
+      → Talked said read_only held rose talk_here [] first between after ending down looks_before looks_after → Talked said read_only held rose talk_rose saying first before after ending down looks_before looks_after
+  begun_talk rose talk_here talk_rose saying first before between after ending down looks_before looks_after why given t =
+      let (opening, none) = begins rose saying first before between looks_before given in
+      let (whole, is) = stretches_joined rose saying first first t.last before between after ending false down looks_before looks_before looks_after opening t.stretch in
+      record { last = t.last; stretch = whole; cause = caused ending (length whole.talk.turns) (length t.stretch.talk.turns) (ap length is ∙ length-append opening.talk.turns t.stretch.talk.turns ∙ behind _ _ none) t.cause }
+    where
+      behind : (a b : ℕ) → a ≡ 0 → a + b ≡ b
+      behind a b none = omega (arith, none)
+
+      caused : (e : Ending) (whole count : ℕ) → whole ≡ count → Cause e talk_here count → Cause e talk_rose whole
+      caused Ended whole count same cause = cause
+      caused Unheard whole count same cause = why cause
+      caused Unsaid whole count same cause = why cause
+      caused Outlasted whole count same cause = same ∙ cause
+
+  -- a conversation, as part of a longer time
+  pub talked_within : (rose_here rose talk_rose : Type 0) (saying : List (List ℕ)) (first : TalkState) (before after : ToldBy) (ending : Ending) (down : Bool) (looks_first looks_before looks_after : ℕ) (more : ℕ) → (rose_here → rose) → looks_before ≤ looks_first + more
+      → Talked said read_only held rose_here talk_rose saying first before after ending down looks_before looks_after → Talked said read_only held rose talk_rose saying first before after ending down (looks_first + more) looks_after
+  talked_within rose_here rose talk_rose saying first before after ending down looks_first looks_before looks_after more wide few t =
+      let (q, same) = stretch_within rose_here rose saying first t.last before after ending down looks_before looks_after wide t.stretch in
+      record {
+        last = t.last;
+        stretch = record { talk = q.talk; turned = q.turned; looks = within _ _ _ _ few q.looks };
+        cause = subst (λ turns. Cause ending talk_rose (length turns)) (sym same) t.cause;
+      }
+    where
+      within : (a b c x : ℕ) → b ≤ a → c ≤ b + x → c ≤ a + x
+      within a b c x p q = omega (arith, p, q)

@@ -1,0 +1,33 @@
+use Rattle.std.proofs.Common.{[], ◌∷◌, ◌≡◌, ℕ, List, Option, Some, false, refl, ap, subst, sym, ◌∙◌, arith}
+use Rattle.smk_base.specs.declared.catalog.Catalog.{Catalog}
+use Rattle.smk_model.specs.Conversation.{block_of}
+use Rattle.smk_model.specs.Outcome.{Held}
+use Rattle.smk_model.specs.Reports.{BookSaid}
+use Rattle.smk_outside.proofs.Telling.{Rose-after}
+use Rattle.smk_outside.specs.Outside.{Rose}
+use Rattle.smk_outside.specs.Turning.{ReplyGives}
+use Rattle.smk_outside.specs.declared.ending.Ending.{Ending}
+use Rattle.smk_outside.specs.declared.ending.Ending.TheVariants.{Ended, Unheard, Unsaid, Outlasted}
+use Rattle.smk_top.specs.Talking.{TakesTurn, EndsTurn, TurnTaken, Talked, talk_at}
+use Rattle.smk_inputs.proofs.Stops.{rose_within}
+use Rattle.smk_top.proofs.TalkStretches.{breaks_off, begun_talk}
+use Rattle.smk_session.specs.Sessions.{state_of}
+use Rattle.smk_inputs.specs.Loaded.{said_of}
+use Rattle.smk_top.proofs.talking.hold.Goals as goal
+
+pub returns-in-Some-clause-talked : goal.returns-in-Some-clause-talked
+returns-in-Some-clause-talked g c = broken c.in-Some.ending refl c.in-Some.ensures.gives
+  where
+    broken : (e : Ending) → c.in-Some.ending ≡ e → ReplyGives (Rose (g.T.Talk.faults c.args.talk.now) (g.T.Talk.faults c.say_block.new.talk)) (g.T.Talk.told c.args.talk.now) (g.T.Talk.told c.say_block.new.talk) (block_of c.args.opening.now) (Some e)
+        → Talked (said_of c.args.session.catalog c.args.manner.now.fds.now) c.args.manner.now.read_only (g.F.Files.held c.args.files.now) (Rose (g.F.Files.faults c.args.files.now) (g.F.Files.faults c.args.files.now)) (Rose (g.T.Talk.faults c.args.talk.now) (g.T.Talk.faults c.say_block.new.talk))
+        (block_of c.args.opening.now) (talk_at (state_of c.args.session) 0) (g.T.Talk.told c.args.talk.now) (g.T.Talk.told c.say_block.new.talk) e false c.args.steps.now c.args.steps.now
+    broken Unsaid is (front, cause) = breaks_off _ _ _ _ _ _ _ _ _ _ front cause
+    broken Ended is given = absurd given
+    broken Unheard is given = absurd given
+    broken Outlasted is given = absurd given
+
+pub returns-in-None-clause-talked : goal.returns-in-None-clause-talked
+returns-in-None-clause-talked g c =
+    let said = rw c.in-None.is at c.say_block.ensures.gives in
+    begun_talk (said_of c.args.session.catalog c.args.manner.now.fds.now) c.args.manner.now.read_only (g.F.Files.held c.args.files.now) _ _ _ (block_of c.args.opening.now) _ (g.T.Talk.told c.args.talk.now) (g.T.Talk.told c.say_block.new.talk) (g.T.Talk.told c.take_turns.new.talk) _ _ _ _
+    (Rose-after _ _ _ c.say_block.ensures.later) said c.take_turns.ensures.talked

@@ -1,0 +1,60 @@
+use Rattle.std.proofs.Common.{[], ◌∷◌, ◌≡◌, ℕ, List, Option, Some, false, refl, ap, subst, sym, ◌∙◌, arith}
+use Rattle.smk_base.specs.declared.catalog.Catalog.{Catalog}
+use Rattle.smk_model.specs.Conversation.{block_of}
+use Rattle.smk_model.specs.Outcome.{Held}
+use Rattle.smk_model.specs.Reports.{BookSaid}
+use Rattle.smk_outside.proofs.Telling.{Rose-after}
+use Rattle.smk_outside.specs.Outside.{Rose}
+use Rattle.smk_outside.specs.Turning.{ReplyGives}
+use Rattle.smk_outside.specs.declared.ending.Ending.{Ending}
+use Rattle.smk_outside.specs.declared.ending.Ending.TheVariants.{Ended, Unheard, Unsaid, Outlasted}
+use Rattle.smk_top.specs.Talking.{TakesTurn, EndsTurn, TurnTaken, Talked, talk_at}
+use Rattle.smk_top.proofs.TalkEndings.{says_nothing}
+use Rattle.smk_inputs.proofs.Stops.{rose_within}
+use Rattle.smk_top.proofs.TalkStretches.{begins, breaks_off, one_more, last_one, outlasts}
+use Rattle.smk_session.specs.Sessions.{state_of}
+use Rattle.smk_inputs.specs.Loaded.{said_of}
+use Rattle.smk_top.proofs.talking.take_turns.Goals as goal
+
+pub loop-heard-init : goal.loop-heard-init
+loop-heard-init g c =
+    let (stretch, none) = begins (said_of c.args.session.catalog c.args.manner.now.fds.now) c.args.manner.now.read_only (g.F.Files.held c.args.files.now) (Rose (g.F.Files.faults c.args.files.now) (g.F.Files.faults c.args.files.now))
+    [] (talk_at (state_of c.args.session) 0) (g.T.Talk.told c.args.talk.now) (g.T.Talk.told c.args.talk.now) c.args.steps.now (says_nothing (g.T.Talk.told c.args.talk.now) (g.T.Talk.told c.args.talk.now) refl) in
+    record { stretch = stretch; count = none; book = refl; held = refl; later = omega arith; talk_later = omega arith }
+
+pub take_turn-taken-requires-clause-shown : goal.take_turn-taken-requires-clause-shown
+take_turn-taken-requires-clause-shown g c κs within = rw c.loop-heard.invariant.book c.requires.shown
+
+pub loop-heard-preserved : goal.loop-heard-preserved
+loop-heard-preserved g c =
+    let inv = c.loop-heard.invariant in
+    let turn = rw (inv.book, inv.held, c.in_default.is) at c.take_turn-taken.ensures.taken in
+    let more = one_more (said_of c.args.session.catalog c.args.manner.now.fds.now) c.args.manner.now.read_only (g.F.Files.held c.args.files.now) _ _ _ [] _ _ _
+    (g.T.Talk.told c.args.talk.now) (g.T.Talk.told c.loop-heard.talk) (g.T.Talk.told c.take_turn-taken.new.talk) _ _ _ _ _ _
+    (λ up. rose_within (g.F.Files.faults c.args.files.now) (g.F.Files.faults c.args.files.now) (g.F.Files.faults c.loop-heard.files) (g.F.Files.faults c.take_turn-taken.new.files) (omega arith) inv.later c.take_turn-taken.ensures.later up)
+    (λ up. rose_within (g.F.Files.faults c.args.files.now) (g.F.Files.faults c.loop-heard.files) (g.F.Files.faults c.take_turn-taken.new.files) (g.F.Files.faults c.take_turn-taken.new.files) inv.later c.take_turn-taken.ensures.later (omega arith) up)
+    inv.stretch inv.count turn in
+    rw c.either-down.ensures (record {
+      stretch = more.0;
+      count = more.1;
+      book = c.take_turn-taken.ensures.book ∙ inv.book;
+      held = c.take_turn-taken.ensures.held ∙ inv.held;
+      later = omega (arith, inv.later, c.take_turn-taken.ensures.later);
+      talk_later = omega (arith, inv.talk_later, c.take_turn-taken.ensures.talk_later);
+    })
+
+pub returns-in-Some-clause-talked : goal.returns-in-Some-clause-talked
+returns-in-Some-clause-talked g c =
+    let inv = c.loop-heard.invariant in
+    let turn = rw (inv.book, inv.held, c.in-Some.is) at c.take_turn-taken.ensures.taken in
+    rw c.either-down.ensures
+    (last_one (said_of c.args.session.catalog c.args.manner.now.fds.now) c.args.manner.now.read_only (g.F.Files.held c.args.files.now) _ _ _ _ _ [] _ _
+    (g.T.Talk.told c.args.talk.now) (g.T.Talk.told c.loop-heard.talk) (g.T.Talk.told c.take_turn-taken.new.talk) _ _ _ _ _ _
+    (λ up. rose_within (g.F.Files.faults c.args.files.now) (g.F.Files.faults c.args.files.now) (g.F.Files.faults c.loop-heard.files) (g.F.Files.faults c.take_turn-taken.new.files) (omega arith) inv.later c.take_turn-taken.ensures.later up)
+    (λ up. rose_within (g.F.Files.faults c.args.files.now) (g.F.Files.faults c.loop-heard.files) (g.F.Files.faults c.take_turn-taken.new.files) (g.F.Files.faults c.take_turn-taken.new.files) inv.later c.take_turn-taken.ensures.later (omega arith) up)
+    (Rose-after _ _ _ inv.talk_later) inv.stretch turn)
+
+pub returns-clause-talked : goal.returns-clause-talked
+returns-clause-talked g c =
+    let inv = c.loop-heard.invariant in
+    outlasts (said_of c.args.session.catalog c.args.manner.now.fds.now) c.args.manner.now.read_only (g.F.Files.held c.args.files.now) _ _ _ [] _ _ (g.T.Talk.told c.args.talk.now) (g.T.Talk.told c.loop-heard.talk) _ _ _ (λ up. up) inv.stretch (omega (arith, inv.count))

@@ -1,0 +1,67 @@
+-- The rules of a conversation over a book, and stretches of it with what they come to.
+use Rattle.std.specs.Prelude.{◌≡◌, ◌≤◌, ◌+◌, ⊤, ℕ, Bool, ◌||◌, nat_lt, List, [], length, Option, Some, None}
+use Rattle.smk_base.specs.CatalogImage.{CatalogImage}
+use Rattle.smk_model.specs.Conversation.{TalkTurn, TalkState, line_of, turn_after, turn_block, turn_told, turn_text, turns_told, session_after, FitsTalk, line_limit}
+use Rattle.smk_model.specs.Outcome.{Held}
+use Rattle.smk_model.specs.Reports.{BookSaid, Told}
+use Rattle.smk_model.specs.Session.{State}
+use Rattle.smk_model.specs.TalkStarts.{BringsBy}
+use Rattle.smk_outside.specs.Conversing.{Rules, Stretch, Cause}
+use Rattle.smk_outside.specs.Told.{Told as ToldBy}
+use Rattle.smk_outside.specs.declared.ending.Ending.{Ending}
+use Rattle.smk_outside.specs.declared.ending.Ending.TheVariants.{Outlasted}
+use Rattle.smk_top.specs.declared.talking.Words.{Words}
+use Rattle.smk_top.specs.declared.talking.Words.TheVariants.{Made, Ready}
+
+-- what is said of each turn over a book, and the state after it
+abbrev pub talk_rules : BookSaid → Rules TalkState TalkTurn
+talk_rules said = record { line = line_of; texts = turn_block said; next = turn_after said }
+
+-- whether a line that comes to this is refused or not read
+abbrev pub is_down : Told → Bool
+is_down told = nat_lt 0 told.refused || nat_lt 0 told.unread
+
+-- a line, by its bytes, is answered by a text, in one of the turns that may be
+pub record AnswersLine (said : BookSaid) (read_only : Bool) (held : Option Held) (rose : Type 0) (state : TalkState) (bytes : List ℕ) (after : State) (text : List ℕ) (down : Bool) (looks_before looks_after : ℕ) : Type 0 where
+  pub turn : TalkTurn
+  pub line : line_of turn ≡ bytes
+  pub fits : FitsTalk read_only said.catalog (BringsBy held rose) state turn
+  pub session : after ≡ session_after said state.session turn
+  pub is : text ≡ turn_text said state turn
+  pub turned : down ≡ is_down (turn_told said state turn)
+  pub looks : looks_after ≤ looks_before + (turn_told said state turn).looks
+
+-- a stretch of a conversation, with the looks that were made in it, and whether a line of it was turned down
+pub record TalkStretch (said : BookSaid) (read_only : Bool) (held : Option Held) (rose : Type 0) (saying : List (List ℕ)) (first last : TalkState) (before after : ToldBy) (ending : Ending) (down : Bool) (looks_before looks_after : ℕ) : Type 0 where
+  pub talk : Stretch (talk_rules said) (FitsTalk read_only said.catalog (BringsBy held rose)) saying first last before after ending
+  pub turned : down ≡ is_down (turns_told said first talk.turns)
+  pub looks : looks_after ≤ looks_before + (turns_told said first talk.turns).looks
+
+-- one turn more, or the end with its cause
+pub record TakesTurn (said : BookSaid) (read_only : Bool) (held : Option Held) (rose : Type 0) (first last : TalkState) (before after : ToldBy) (down : Bool) (looks_before looks_after : ℕ) : Type 0 where
+  pub stretch : TalkStretch said read_only held rose [] first last before after Outlasted down looks_before looks_after
+  pub one : length stretch.talk.turns ≡ 1
+
+pub record EndsTurn (said : BookSaid) (read_only : Bool) (held : Option Held) (rose talk_rose : Type 0) (first : TalkState) (before after : ToldBy) (ending : Ending) (down : Bool) (looks_before looks_after : ℕ) : Type 0 where
+  pub last : TalkState
+  pub stretch : TalkStretch said read_only held rose [] first last before after ending down looks_before looks_after
+  pub cause : (count : ℕ) → Cause ending talk_rose count
+
+abbrev pub TurnTaken : BookSaid → Bool → Option Held → Type 0 → Type 0 → TalkState → TalkState → ToldBy → ToldBy → Option Ending → Bool → ℕ → ℕ → Type 0
+TurnTaken said read_only held rose talk_rose first next before after None down looks_before looks_after = TakesTurn said read_only held rose first next before after down looks_before looks_after
+TurnTaken said read_only held rose talk_rose first next before after (Some ending) down looks_before looks_after = EndsTurn said read_only held rose talk_rose first before after ending down looks_before looks_after
+
+-- a whole conversation over a book
+pub record Talked (said : BookSaid) (read_only : Bool) (held : Option Held) (rose talk_rose : Type 0) (saying : List (List ℕ)) (first : TalkState) (before after : ToldBy) (ending : Ending) (down : Bool) (looks_before looks_after : ℕ) : Type 0 where
+  pub last : TalkState
+  pub stretch : TalkStretch said read_only held rose saying first last before after ending down looks_before looks_after
+  pub cause : Cause ending talk_rose (length stretch.talk.turns)
+
+-- the state of a conversation, behind so many lines
+abbrev pub talk_at : State → ℕ → TalkState
+talk_at state heard = record { session = state; heard = heard }
+
+-- the bytes that are said
+abbrev pub words_bytes : Words → List ℕ
+words_bytes (Made text) = text.items
+words_bytes (Ready text) = text.now

@@ -1,0 +1,228 @@
+// A conversation, from its words to its end.
+ghost use Rattle.std.specs.Prelude.{◌≡◌, ◌≤◌, ℕ, List, Some, map, IfOk};
+ghost use Rattle.std.specs.List.{flat_map};
+ghost use Rattle.smk_inputs.specs.Image.{texts_image};
+ghost use Rattle.smk_model.specs.FaultTexts.{IsSaid};
+ghost use Rattle.smk_model.specs.TalkWords.{talk_call_of, talk_source};
+ghost use Rattle.smk_model.specs.ViewTexts as view_texts;
+ghost use Rattle.smk_model.specs.Words.{Demo};
+ghost use Rattle.smk_outside.specs.Outside.{Rose};
+ghost use Rattle.smk_session.specs.Sessions.{workbook_of};
+ghost use Rattle.smk_inputs.specs.Collecting.{IsSayable};
+ghost use Rattle.smk_top.specs.TalkEndings.{BeginsTalk, ConverseEnds, SaysReady, SaysTalkFault, SaysTalkEnd, TalkWorks, is_called};
+
+use crate::program::{say_fault, say_no_memory};
+use crate::reporting::text_of_view;
+use crate::starting::{Started, start};
+use crate::status::Status;
+use crate::talking::{Manner, TalkEnd, hold};
+use smk_base::{DEMO_BOOK_NAME, Fault, Text};
+use smk_demo::demo;
+use smk_inputs::{
+    DemoTexts, RunTexts, Settings, Stop, TalkWords, read_all, read_talk_words, text_of,
+};
+use smk_outside::{Ending, Files, Gate, Sink, Steps, Talk};
+use smk_session::Session;
+use std::alloc::{AllocError, Global};
+use std::sync::ledger::Ledger;
+use std::thread::Threads;
+
+// What is said of words that call for no conversation.
+const USAGE: &[u8] =
+    b"usage: smoke_live [--mode inject|defer] [--workers 1..64] [--read-only] (BOOK | --demo N)\n";
+
+// What is said where no line can be heard.
+const UNHEARD: &[u8] = b"smoke_live: cannot read standard input\n";
+
+// The texts of all views, in the book's order, as one text.
+fn views_text<R: Threads + Sync>(
+    rt: &R,
+    alloc: Global,
+    settings: Settings,
+    session: &Session,
+) -> Result<Vec<u8>, AllocError>
+    ensures { IfOk result (λ text. text.items ≡ view_texts.views_text (workbook_of session.now)) }
+{
+    let mut text = Vec::new(alloc);
+    for number in 0..session.catalog().views.as_slice().len() as u32 {
+        let view = text_of_view(rt, alloc, settings, session, number)?;
+        text.extend_from_slice(view.as_slice())?;
+    }
+    Ok(text)
+}
+
+// A conversation over the book of a file, by how it is called for.
+fn begin<R: Threads + Sync, F: Files, T: Talk, G: Gate + Sync, L: Ledger>(
+    rt: &R,
+    alloc: Global,
+    settings: Settings,
+    read_only: bool,
+    files: &mut F,
+    book: &Text,
+    talk: &mut T,
+    gate: &G,
+    steps: &mut Steps<L>,
+) -> Result<TalkEnd, Stop>
+    ensures begins { BeginsTalk (F.held files.old) (Rose (F.faults files.old) (F.faults files.new)) (Rose (T.faults talk.old) (T.faults talk.new)) book.now read_only (T.told talk.old) (T.told talk.new) steps.old steps.new result }
+    ensures said { IsSayable result }
+    ensures held { F.held files.new ≡ F.held files.old }
+    ensures later { F.faults files.old ≤ F.faults files.new }
+    ensures talk_later { T.faults talk.old ≤ T.faults talk.new }
+{
+    let inputs = read_all(rt, alloc, settings, files, book, None, gate)?;
+    let Started { session, fds, .. } = start(rt, alloc, inputs, settings, gate, steps)?;
+    let opening = views_text(rt, alloc, settings, &session)?;
+    let manner = Manner {
+        fds: &fds,
+        settings,
+        read_only,
+    };
+    let end = hold(
+        rt,
+        alloc,
+        &manner,
+        files,
+        talk,
+        session,
+        opening.as_slice(),
+        gate,
+        steps,
+    );
+    Ok(end)
+}
+
+// The conversation that is called for.
+fn talk_on<R: Threads + Sync, F: Files, T: Talk, G: Gate + Sync, L: Ledger>(
+    rt: &R,
+    alloc: Global,
+    call: &TalkWords,
+    files: &mut F,
+    talk: &mut T,
+    gate: &G,
+    steps: &mut Steps<L>,
+) -> Result<TalkEnd, Stop>
+    ensures works { (words : List (List ℕ)) → is_called words call.now → TalkWorks words (F.held files.old) (Rose (F.faults files.old) (F.faults files.new)) (Rose (T.faults talk.old) (T.faults talk.new)) (T.told talk.old) (T.told talk.new) steps.old steps.new result }
+    ensures said { IsSayable result }
+    ensures held { F.held files.new ≡ F.held files.old }
+    ensures later { F.faults files.old ≤ F.faults files.new }
+    ensures talk_later { T.faults talk.old ≤ T.faults talk.new }
+    ensures demo { (flights : ℕ) → texts_image call.now.texts ≡ Demo flights → F.faults files.new ≡ F.faults files.old }
+{
+    let settings = call.settings;
+    let read_only = call.read_only;
+    match &call.texts {
+        RunTexts::Files { book, .. } => {
+            begin(
+                rt, alloc, settings, read_only, files, book, talk, gate, steps,
+            )
+        }
+        RunTexts::Demo(flights) => {
+            let mut texts = DemoTexts {
+                texts: demo(alloc, flights.count)?,
+            };
+            let book = text_of(alloc, DEMO_BOOK_NAME)?;
+            begin(
+                rt, alloc, settings, read_only, &mut texts, &book, talk, gate, steps,
+            )
+        }
+    }
+}
+
+// The conversation that the words call for.
+fn talk_for<R: Threads + Sync, F: Files, T: Talk, G: Gate + Sync, L: Ledger>(
+    rt: &R,
+    alloc: Global,
+    words: &[&str],
+    files: &mut F,
+    talk: &mut T,
+    gate: &G,
+    steps: &mut Steps<L>,
+) -> Result<TalkEnd, Stop>
+    ensures works { TalkWorks (map (λ w. w.now) words.entry.now) (F.held files.old) (Rose (F.faults files.old) (F.faults files.new)) (Rose (T.faults talk.old) (T.faults talk.new)) (T.told talk.old) (T.told talk.new) steps.old steps.new result }
+    ensures said { IsSayable result }
+    ensures held { F.held files.new ≡ F.held files.old }
+    ensures later { F.faults files.old ≤ F.faults files.new }
+    ensures talk_later { T.faults talk.old ≤ T.faults talk.new }
+    ensures demo { (flights : ℕ) → talk_source (map (λ w. w.now) words.entry.now) ≡ Some (Demo flights) → F.faults files.new ≡ F.faults files.old }
+{
+    let found = read_talk_words(alloc, words)?;
+    match found {
+        Some(call) => talk_on(rt, alloc, &call, files, talk, gate, steps),
+        None => Err(Stop::At(Fault::Usage)),
+    }
+}
+
+// Says a text that stands ready, and tells the status behind it.
+fn say_ready<E: Sink>(err: &mut E, text: &[u8], status: Status) -> Status
+    ensures said { SaysReady text.now status (Rose (E.faults err.old) (E.faults err.new)) (E.written err.old) (E.written err.new) result }
+    ensures later { E.faults err.old ≤ E.faults err.new }
+{
+    match err.put(text) {
+        Ok(()) => status,
+        Err(_) => Status::WriteFault,
+    }
+}
+
+// Says a fault of the start.
+fn say_talk_fault<E: Sink>(alloc: Global, fault: &Fault, err: &mut E) -> Status
+    requires { IsSaid fault.now }
+    ensures said { SaysTalkFault fault.now (Rose (E.faults err.old) (E.faults err.new)) (E.written err.old) (E.written err.new) result }
+    ensures later { E.faults err.old ≤ E.faults err.new }
+{
+    match fault {
+        Fault::Usage => say_ready(err, USAGE, Status::Usage),
+        _ => say_fault(alloc, fault, err),
+    }
+}
+
+// Says why a conversation ended, where that is to be said.
+fn say_end<E: Sink>(end: TalkEnd, err: &mut E) -> Status
+    ensures said { SaysTalkEnd end (Rose (E.faults err.old) (E.faults err.new)) (E.written err.old) (E.written err.new) result }
+    ensures later { E.faults err.old ≤ E.faults err.new }
+{
+    match end.ending {
+        Ending::Ended | Ending::Outlasted => {
+            if end.down {
+                Status::DoneWithRefusals
+            } else {
+                Status::Done
+            }
+        }
+        Ending::Unheard => say_ready(err, UNHEARD, Status::ReadFault),
+        Ending::Unsaid => Status::WriteFault,
+    }
+}
+
+/// A conversation with Smoke. Its `words` are those after the program's name: a book's file name, or `--demo` with a number of flights; `--mode`
+/// and `--workers` as of a run; and `--read-only`, by which nothing may be appended.
+///
+/// It reads the book and the book's tables from `files`, evaluates the views, and says their texts to `talk`. Then it hears a line from there, says
+/// what a run's report has for that line, and hears the next one, up to the end of the lines. Behind each text it says an empty line. A line that
+/// appends has its file read as it is heard. No line ends the conversation: where its file has a fault, where nothing may be appended, where
+/// memory was wanting or where the line is too long, it is refused, and the session is as it was. Where there is a fault before the first line,
+/// nothing is said to `talk`, and one line is written to `err`. How it may end is `ConverseEnds`.
+pub fn converse<R: Threads + Sync, F: Files, T: Talk, E: Sink, G: Gate + Sync, L: Ledger>(
+    rt: &R,
+    alloc: Global,
+    words: &[&str],
+    files: &mut F,
+    talk: &mut T,
+    err: &mut E,
+    gate: &G,
+    steps: &mut Steps<L>,
+) -> Status
+    ensures ends { ConverseEnds (map (λ w. w.now) words.entry.now) (F.held files.old)
+        (Rose (F.faults files.old) (F.faults files.new)) (Rose (T.faults talk.old) (T.faults talk.new)) (Rose (E.faults err.old) (E.faults err.new))
+        (T.told talk.old) (T.told talk.new) steps.old steps.new (E.written err.old) (E.written err.new) result }
+    ensures held { F.held files.new ≡ F.held files.old }
+    ensures files_later { F.faults files.old ≤ F.faults files.new }
+    ensures talk_later { T.faults talk.old ≤ T.faults talk.new }
+    ensures err_later { E.faults err.old ≤ E.faults err.new }
+    ensures demo { (flights : ℕ) → talk_source (map (λ w. w.now) words.entry.now) ≡ Some (Demo flights) → F.faults files.new ≡ F.faults files.old }
+{
+    match talk_for(rt, alloc, words, files, talk, gate, steps) {
+        Ok(end) => say_end(end, err),
+        Err(Stop::At(fault)) => say_talk_fault(alloc, &fault, err),
+        Err(_) => say_no_memory(err),
+    }
+}

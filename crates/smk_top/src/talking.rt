@@ -1,0 +1,424 @@
+// A conversation over a session, line by line.
+ghost use Rattle.std.specs.Prelude.{◌≡◌, ◌≤◌, ◌<◌, ◌+◌, ◌&&◌, ◌||◌, ℕ, true, false, List, [], ◌∷◌, Option, Ok, length, IfOk};
+ghost use Rattle.std.specs.Option.{option_to_list};
+ghost use Rattle.smk_base.specs.CatalogImage.{catalog_image};
+ghost use Rattle.smk_model.specs.Catalogs.{each_table_kinds};
+ghost use Rattle.smk_model.specs.Conversation.{asks_append, block_of, line_limit, text_read, unbrought_text};
+ghost use Rattle.smk_model.specs.FaultTexts.{IsSaid};
+ghost use Rattle.smk_model.specs.Outcome.{Held, appended_at};
+ghost use Rattle.smk_model.specs.Profiles.{AreDependencies};
+ghost use Rattle.smk_model.specs.Readings.{IsReading};
+ghost use Rattle.smk_model.specs.Reports.{next_rows};
+ghost use Rattle.smk_model.specs.Selection.{each_kinds, each_rows};
+ghost use Rattle.smk_model.specs.TalkStarts.{BringsBy};
+ghost use Rattle.smk_outside.specs.Outside.{Rose};
+ghost use Rattle.smk_outside.specs.Turning.{ReplyGives};
+ghost use Rattle.smk_session.specs.Sessions.{state_of};
+ghost use Rattle.smk_inputs.specs.LineLimits.{KeepsReading};
+ghost use Rattle.smk_inputs.specs.Image.{reading_image};
+ghost use Rattle.smk_inputs.specs.Loaded.{said_of};
+ghost use Rattle.smk_top.specs.Talking.{AnswersLine, TurnTaken, Talked, talk_at, words_bytes};
+
+use crate::answering::{LineTold, tell_line};
+use smk_base::{AnyLine, Fault, Names, without_mark};
+use smk_inputs::{Reading, Settings, Stop, bring, reading_of};
+use smk_outside::{Ending, Files, Gate, Heard, Steps, Talk, TalkFault};
+use smk_report::fault_text;
+use smk_session::Session;
+use smk_table::Table;
+use std::alloc::{AllocError, Global};
+use std::collections::VecDeque;
+use std::sync::ledger::Ledger;
+use std::thread::Threads;
+
+// The most bytes that a line may have.
+const LINE_LIMIT: u64 = 67_108_864;
+
+// The refusals that take no memory.
+const READ_ONLY: &[u8] = b"refused read only\n";
+
+const FORGONE: &[u8] = b"refused no memory\n";
+
+const TOO_LONG: &[u8] = b"refused line too long\n";
+
+/// How a conversation is held: the names of its book's dependencies, how the session works, and whether nothing may be appended.
+#[derive(Drop)]
+pub struct Manner<'a> {
+    pub fds: &'a Names,
+    pub settings: Settings,
+    pub read_only: bool,
+}
+
+// What is said of a line: a text that was made for it, or one that stands ready.
+#[derive(Drop)]
+enum Words {
+    Made(Vec<u8>),
+    Ready(&'static [u8]),
+}
+
+impl Words {
+    // The bytes.
+    fn as_slice(&self) -> &[u8]
+        ensures { result.now ≡ words_bytes self.now }
+    {
+        match self {
+            Words::Made(text) => text.as_slice(),
+            Words::Ready(text) => text,
+        }
+    }
+}
+
+// What is said of a line, and whether it is refused or not read.
+#[derive(Drop)]
+struct Said {
+    words: Words,
+    down: bool,
+}
+
+// A refusal that stands ready.
+fn refusal(text: &'static [u8]) -> Said
+    ensures words { words_bytes result.words ≡ text.now }
+    ensures down { result.down ≡ true }
+{
+    Said {
+        words: Words::Ready(text),
+        down: true,
+    }
+}
+
+// Whether a line asks for rows to be appended.
+fn appends(reading: &Reading) -> bool
+    ensures { result ≡ asks_append (reading_image reading.now) }
+{
+    match reading {
+        Reading::Asks(AnyLine::Append { .. }) => true,
+        _ => false,
+    }
+}
+
+// The refusal of a line whose file has this fault: what a run says of it, behind another word.
+fn unbrought(alloc: Global, fault: &Fault) -> Result<Said, AllocError>
+    requires { IsSaid fault.now }
+    ensures words { IfOk result (λ said. words_bytes said.words ≡ unbrought_text fault.now) }
+    ensures down { IfOk result (λ said. said.down ≡ true) }
+{
+    let said = fault_text(alloc, fault)?;
+    let front = b"smoke: ".len().min(said.len());
+    let mut text = Vec::from_slice(alloc, b"refused ")?;
+    text.extend_from_slice(&said.as_slice()[front..])?;
+    Ok(Said {
+        words: Words::Made(text),
+        down: true,
+    })
+}
+
+// The table that was brought, if one was, as those of lines in a row.
+fn in_a_row(alloc: Global, brought: Option<Table>) -> Result<VecDeque<Table>, AllocError>
+    ensures { IfOk result (λ added. added.items ≡ option_to_list brought) }
+{
+    let mut added = VecDeque::new(alloc);
+    match brought {
+        Some(table) => {
+            added.push_back(table)?;
+            Ok(added)
+        }
+        None => Ok(added),
+    }
+}
+
+// What is said of a line that says this, once the rows of its file are there, and the session after it.
+fn answer_brought<R: Threads + Sync, G: Gate + Sync, L: Ledger>(
+    rt: &R,
+    alloc: Global,
+    manner: &Manner<'_>,
+    session: Session,
+    heard: u64,
+    reading: &Reading,
+    brought: Option<Table>,
+    gate: &G,
+    steps: &mut Steps<L>,
+) -> (Session, Said)
+    requires shown { AreDependencies (catalog_image session.catalog) manner.now.fds.now }
+    requires few { heard < 18446744073709551615 }
+    requires kept { KeepsReading (reading_image reading.now) }
+    requires kinds { each_kinds (option_to_list brought) ≡ each_table_kinds (option_to_list (appended_at (catalog_image session.catalog) (reading_image reading.now))) }
+    ensures answer { (held : Option Held) (faults faults_after : ℕ) (bytes : List ℕ) → length bytes ≤ line_limit → IsReading (text_read heard bytes) (reading_image reading.now)
+        → (manner.now.read_only && asks_append (reading_image reading.now)) ≡ false → BringsBy held (Rose faults faults_after) (appended_at (catalog_image session.catalog) (reading_image reading.now)) (Ok (next_rows (each_rows (option_to_list brought))))
+        → AnswersLine (said_of session.catalog manner.now.fds.now) manner.now.read_only held (Rose faults faults_after) (talk_at (state_of session) heard) bytes (state_of result.0) (words_bytes result.1.words) result.1.down steps.old steps.new }
+    ensures book { result.0.catalog ≡ session.catalog }
+{
+    let mut added = match in_a_row(alloc, brought) {
+        Ok(added) => added,
+        Err(_) => return (session, refusal(FORGONE)),
+    };
+    let (session, told) = tell_line(
+        rt,
+        alloc,
+        session,
+        manner.fds,
+        heard + 1,
+        reading,
+        &mut added,
+        gate,
+        steps,
+    );
+    match told {
+        Ok(LineTold { text, counts }) => {
+            let said = Said {
+                words: Words::Made(text),
+                down: either(counts.refused > 0, counts.unread > 0),
+            };
+            (session, said)
+        }
+        Err(_) => (session, refusal(FORGONE)),
+    }
+}
+
+// What is said of a line that says this, and the session after it.
+fn answer_reading<R: Threads + Sync, F: Files, G: Gate + Sync, L: Ledger>(
+    rt: &R,
+    alloc: Global,
+    manner: &Manner<'_>,
+    files: &mut F,
+    session: Session,
+    heard: u64,
+    reading: &Reading,
+    gate: &G,
+    steps: &mut Steps<L>,
+) -> (Session, Said)
+    requires shown { AreDependencies (catalog_image session.catalog) manner.now.fds.now }
+    requires few { heard < 18446744073709551615 }
+    requires kept { KeepsReading (reading_image reading.now) }
+    ensures answer { (bytes : List ℕ) → length bytes ≤ line_limit → IsReading (text_read heard bytes) (reading_image reading.now)
+        → AnswersLine (said_of session.catalog manner.now.fds.now) manner.now.read_only (F.held files.old) (Rose (F.faults files.old) (F.faults files.new)) (talk_at (state_of session) heard) bytes (state_of result.0) (words_bytes result.1.words) result.1.down steps.old steps.new }
+    ensures book { result.0.catalog ≡ session.catalog }
+    ensures held { F.held files.new ≡ F.held files.old }
+    ensures later { F.faults files.old ≤ F.faults files.new }
+{
+    if manner.read_only && appends(reading) {
+        return (session, refusal(READ_ONLY));
+    }
+    let settings = manner.settings;
+    match bring(rt, alloc, settings, files, session.catalog(), reading, gate) {
+        Ok(brought) => {
+            answer_brought(
+                rt, alloc, manner, session, heard, reading, brought, gate, steps,
+            )
+        }
+        Err(Stop::At(fault)) => match unbrought(alloc, &fault) {
+            Ok(said) => (session, said),
+            Err(_) => (session, refusal(FORGONE)),
+        },
+        Err(_) => (session, refusal(FORGONE)),
+    }
+}
+
+// The bytes of a line as they are read, behind so many lines.
+fn text_heard(heard: u64, bytes: &[u8]) -> &[u8]
+    ensures { result.now ≡ text_read heard bytes.now }
+{
+    if heard == 0 {
+        without_mark(bytes)
+    } else {
+        bytes
+    }
+}
+
+// What is said of a line with these bytes, behind so many lines, and the session after it.
+fn answer_bytes<R: Threads + Sync, F: Files, G: Gate + Sync, L: Ledger>(
+    rt: &R,
+    alloc: Global,
+    manner: &Manner<'_>,
+    files: &mut F,
+    session: Session,
+    heard: u64,
+    bytes: &[u8],
+    gate: &G,
+    steps: &mut Steps<L>,
+) -> (Session, Said)
+    requires shown { AreDependencies (catalog_image session.catalog) manner.now.fds.now }
+    requires few { heard < 18446744073709551615 }
+    requires short { length bytes.now ≤ line_limit }
+    ensures answer { AnswersLine (said_of session.catalog manner.now.fds.now) manner.now.read_only (F.held files.old) (Rose (F.faults files.old) (F.faults files.new)) (talk_at (state_of session) heard) bytes.now (state_of result.0) (words_bytes result.1.words) result.1.down steps.old steps.new }
+    ensures book { result.0.catalog ≡ session.catalog }
+    ensures held { F.held files.new ≡ F.held files.old }
+    ensures later { F.faults files.old ≤ F.faults files.new }
+{
+    match reading_of(alloc, text_heard(heard, bytes)) {
+        Ok(reading) => {
+            answer_reading(
+                rt, alloc, manner, files, session, heard, &reading, gate, steps,
+            )
+        }
+        Err(_) => (session, refusal(FORGONE)),
+    }
+}
+
+// Says a text and an empty line behind it. It tells whether the conversation ends by this.
+fn say_block<T: Talk>(talk: &mut T, text: &[u8]) -> Option<Ending>
+    ensures gives { ReplyGives (Rose (T.faults talk.old) (T.faults talk.new)) (T.told talk.old) (T.told talk.new) (text.now ∷ (10 ∷ []) ∷ []) result }
+    ensures later { T.faults talk.old ≤ T.faults talk.new }
+{
+    match talk.say(text) {
+        Ok(()) => {}
+        Err(_) => return Some(Ending::Unsaid),
+    }
+    match talk.say(b"\n") {
+        Ok(()) => None,
+        Err(_) => Some(Ending::Unsaid),
+    }
+}
+
+// A session after a turn, whether the conversation ends by that, and whether a line was refused or not read.
+#[derive(Drop)]
+struct Taken {
+    session: Session,
+    ending: Option<Ending>,
+    down: bool,
+}
+
+// Hears a line, and says what it is answered.
+fn take_turn<R: Threads + Sync, F: Files, T: Talk, G: Gate + Sync, L: Ledger>(
+    rt: &R,
+    alloc: Global,
+    manner: &Manner<'_>,
+    files: &mut F,
+    talk: &mut T,
+    session: Session,
+    heard: u64,
+    gate: &G,
+    steps: &mut Steps<L>,
+) -> Taken
+    requires shown { AreDependencies (catalog_image session.catalog) manner.now.fds.now }
+    requires few { heard < 18446744073709551615 }
+    ensures taken { TurnTaken (said_of session.catalog manner.now.fds.now) manner.now.read_only (F.held files.old) (Rose (F.faults files.old) (F.faults files.new)) (Rose (T.faults talk.old) (T.faults talk.new))
+        (talk_at (state_of session) heard) (talk_at (state_of result.session) (heard + 1)) (T.told talk.old) (T.told talk.new) result.ending result.down steps.old steps.new }
+    ensures book { result.session.catalog ≡ session.catalog }
+    ensures held { F.held files.new ≡ F.held files.old }
+    ensures later { F.faults files.old ≤ F.faults files.new }
+    ensures talk_later { T.faults talk.old ≤ T.faults talk.new }
+{
+    match talk.hear(alloc, LINE_LIMIT) {
+        Ok(Heard::Line(bytes)) => {
+            let (session, said) = answer_bytes(
+                rt,
+                alloc,
+                manner,
+                files,
+                session,
+                heard,
+                bytes.as_slice(),
+                gate,
+                steps,
+            );
+            let ending = say_block(talk, said.words.as_slice());
+            Taken {
+                session,
+                ending,
+                down: said.down,
+            }
+        }
+        Ok(Heard::Long) => {
+            let ending = say_block(talk, TOO_LONG);
+            Taken {
+                session,
+                ending,
+                down: true,
+            }
+        }
+        Ok(Heard::End) => Taken {
+            session,
+            ending: Some(Ending::Ended),
+            down: false,
+        },
+        Err(TalkFault::NoMemory) => {
+            let ending = say_block(talk, FORGONE);
+            Taken {
+                session,
+                ending,
+                down: true,
+            }
+        }
+        Err(TalkFault::Failed) => Taken {
+            session,
+            ending: Some(Ending::Unheard),
+            down: false,
+        },
+    }
+}
+
+// Whether one or the other is so.
+fn either(a: bool, b: bool) -> bool
+    ensures { result ≡ (a || b) }
+{
+    if a { true } else { b }
+}
+
+/// How a conversation ended, and whether a line of it was refused or not read.
+#[derive(Drop)]
+pub struct TalkEnd {
+    pub ending: Ending,
+    pub down: bool,
+}
+
+// The turns of a conversation, up to its end.
+fn take_turns<R: Threads + Sync, F: Files, T: Talk, G: Gate + Sync, L: Ledger>(
+    rt: &R,
+    alloc: Global,
+    manner: &Manner<'_>,
+    files: &mut F,
+    talk: &mut T,
+    session: Session,
+    gate: &G,
+    steps: &mut Steps<L>,
+) -> TalkEnd
+    requires shown { AreDependencies (catalog_image session.catalog) manner.now.fds.now }
+    ensures talked { Talked (said_of session.catalog manner.now.fds.now) manner.now.read_only (F.held files.old) (Rose (F.faults files.old) (F.faults files.new)) (Rose (T.faults talk.old) (T.faults talk.new))
+        [] (talk_at (state_of session) 0) (T.told talk.old) (T.told talk.new) result.ending result.down steps.old steps.new }
+    ensures held { F.held files.new ≡ F.held files.old }
+    ensures later { F.faults files.old ≤ F.faults files.new }
+    ensures talk_later { T.faults talk.old ≤ T.faults talk.new }
+{
+    let mut session = session;
+    let mut down = false;
+    for heard in 0..u64::MAX {
+        let taken = take_turn(rt, alloc, manner, files, talk, session, heard, gate, steps);
+        down = either(down, taken.down);
+        if let Some(ending) = taken.ending {
+            return TalkEnd { ending, down };
+        }
+        session = taken.session;
+    }
+    TalkEnd {
+        ending: Ending::Outlasted,
+        down,
+    }
+}
+
+/// A conversation with a session that begins: it says the texts of all views, and then hears lines and answers each before it hears the next. Behind each text it says an empty line.
+pub fn hold<R: Threads + Sync, F: Files, T: Talk, G: Gate + Sync, L: Ledger>(
+    rt: &R,
+    alloc: Global,
+    manner: &Manner<'_>,
+    files: &mut F,
+    talk: &mut T,
+    session: Session,
+    opening: &[u8],
+    gate: &G,
+    steps: &mut Steps<L>,
+) -> TalkEnd
+    requires shown { AreDependencies (catalog_image session.catalog) manner.now.fds.now }
+    ensures talked { Talked (said_of session.catalog manner.now.fds.now) manner.now.read_only (F.held files.old) (Rose (F.faults files.old) (F.faults files.new)) (Rose (T.faults talk.old) (T.faults talk.new))
+        (block_of opening.now) (talk_at (state_of session) 0) (T.told talk.old) (T.told talk.new) result.ending result.down steps.old steps.new }
+    ensures held { F.held files.new ≡ F.held files.old }
+    ensures later { F.faults files.old ≤ F.faults files.new }
+    ensures talk_later { T.faults talk.old ≤ T.faults talk.new }
+{
+    match say_block(talk, opening) {
+        Some(ending) => TalkEnd {
+            ending,
+            down: false,
+        },
+        None => take_turns(rt, alloc, manner, files, talk, session, gate, steps),
+    }
+}
