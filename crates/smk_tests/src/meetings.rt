@@ -5,8 +5,9 @@ ghost use Rattle.std.specs.Prelude.{◌≡◌, ◌<◌};
 use crate::runs::{put, ran_over};
 use crate::sessions::{line_of, started};
 use crate::shop::{BOOK, REGIONS, SALES};
-use smk_base::{Line, Reply};
+use smk_base::Line;
 use smk_outside::{MemFiles, Steps};
+use smk_report::reply_text;
 use smk_session::{Mode, Session};
 use smk_test_bodies::Meeting;
 use smk_top::Status;
@@ -125,17 +126,18 @@ fn two_views_of_a_book_meet(rt: HostRuntime) -> Result<(), Fail> {
     Ok(())
 }
 
-// The answer to a line by a session whose views pass a gate, and who came there.
+// The text of the answer to a line by a session whose views pass a gate, and who came there.
 fn told<R: Threads + Sync, L: Ledger>(
     rt: &R,
     alloc: Global,
     session: &mut Session,
     line: &Line,
     steps: &mut Steps<L>,
-) -> Result<(Reply, [u64; 3]), AllocError> {
+) -> Result<(Vec<u8>, [u64; 3]), AllocError> {
     let gate = Meeting::new();
     let reply = session.answer(rt, alloc, line, &gate, steps)?;
-    Ok((reply, gate.came()))
+    let text = reply_text(alloc, session.catalog(), line, &reply)?;
+    Ok((text, gate.came()))
 }
 
 // The same; after want of memory it is asked again, at a gate of its own.
@@ -145,64 +147,110 @@ fn told_again<R: Threads + Sync, L: Ledger>(
     session: &mut Session,
     line: &Line,
     steps: &mut Steps<L>,
-) -> Result<(Reply, [u64; 3]), AllocError> {
+) -> Result<(Vec<u8>, [u64; 3]), AllocError> {
     match told(rt, alloc, session, line, steps) {
         Ok(told) => Ok(told),
         Err(_) => told(rt, alloc, session, line, steps),
     }
 }
 
-// The answer to a brush by a session of its own, and who came to its gate.
+// The text of the answer to a brush by a session of a book over the shop's tables, and who came to its gate. The book is given by its bytes, since a call with a text can't choose the ledger.
 fn told_in_two<R: Threads + Sync, L: Ledger>(
     system: HostRuntime,
     rt: &R,
     alloc: Global,
-    line: &Line,
+    book: &[u8],
     blank: Blank,
-) -> Result<(Reply, [u64; 3]), Fail>
+) -> Result<(Vec<u8>, [u64; 3]), Fail>
     requires name { L.name ≡ blank.name }
     requires parts { L.parts ≡ blank.parts }
     requires some { 0 < blank.parts }
 {
+    let line = line_of(alloc, b"brush by_region 0 on sales")?;
     let mut steps: Steps<L> = Steps::new(system, blank);
     let files = [SALES, REGIONS];
     let mut session = started(
         rt,
         alloc,
-        BOOK,
+        str::from_utf8(book)?,
         files.as_slice(),
         Mode::Inject,
         2,
         &mut steps,
     )?;
-    let told = told_again(rt, alloc, &mut session, line, &mut steps);
+    let told = told_again(rt, alloc, &mut session, &line, &mut steps);
     drop(session);
     Ok(told?)
 }
 
-// Whether the brush selects rows 0 and 2 and two views follow it, of a row each and of none.
-fn is_brush(reply: &Reply) -> bool {
-    match reply {
-        Reply::Brush { rids, linked } => match linked.as_slice() {
-            [by_zone, few] => {
-                rids.as_slice() == [0, 2].as_slice()
-                    && by_zone.marks.as_slice() == [0].as_slice()
-                    && by_zone.rel.len() == 1
-                    && few.marks.as_slice().is_empty()
-                    && few.rel.len() == 0
-            }
-            _ => false,
-        },
-        _ => false,
-    }
+const BRUSHED: &str = "\
+brush by_region on sales 2
+rids 0 2
+linked by_zone 1
+marks 0
+view by_zone 1
+row,zone,total
+0,A,40
+linked few 0
+marks
+view few 0
+row,region,n
+";
+
+// Each view comes once, so no step of theirs is cut.
+#[test]
+fn two_views_that_follow_a_brush_meet_and_asked_again_its_reply_is_whole(
+    rt: HostRuntime,
+) -> Result<(), Fail> {
+    let (text, came) = told_in_two::<_, Brand>(
+        rt,
+        &rt,
+        rt.alloc(),
+        BOOK.as_bytes(),
+        Blank::new(1),
+    )?;
+    assert_eq!(rt; str::from_utf8(text.as_slice())?, BRUSHED);
+    assert_eq!(rt; came, [1, 1, 0]);
+    Ok(())
 }
 
-// Each comes once, so no step of theirs is cut.
+// Two groupings over chains, which follow a brush by the forward lineage that is kept of them.
+const GROUPINGS: &str = "\
+table sales from \"sales.csv\" (id int, region text, amount int)
+table regions from \"regions.csv\" (name text, zone text)
+view by_region = scan sales | group region {n = count}
+view by_tens = scan sales | project bin(amount, 10) as tens | group tens {n = count}
+view dear = scan sales | where amount >= 20 | group region {n = count}
+link by_region on sales to by_tens, dear
+";
+
+const GROUPED: &str = "\
+brush by_region on sales 2
+rids 0 2
+linked by_tens 2
+marks 0 2
+view by_tens 2
+row,tens,n
+0,1,1
+1,3,1
+linked dear 1
+marks 1
+view dear 1
+row,region,n
+0,north,1
+";
+
+// Each comes once, too.
 #[test]
-fn two_views_that_follow_a_brush_meet(rt: HostRuntime) -> Result<(), Fail> {
-    let line = line_of(rt.alloc(), b"brush by_region 0 on sales")?;
-    let (reply, came) = told_in_two::<_, Brand>(rt, &rt, rt.alloc(), &line, Blank::new(1))?;
-    assert!(rt; is_brush(&reply));
+fn two_groupings_over_chains_that_follow_a_brush_meet(rt: HostRuntime) -> Result<(), Fail> {
+    let (text, came) = told_in_two::<_, Brand>(
+        rt,
+        &rt,
+        rt.alloc(),
+        GROUPINGS.as_bytes(),
+        Blank::new(1),
+    )?;
+    assert_eq!(rt; str::from_utf8(text.as_slice())?, GROUPED);
     assert_eq!(rt; came, [1, 1, 0]);
     Ok(())
 }
