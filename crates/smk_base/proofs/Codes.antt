@@ -1,10 +1,11 @@
 -- The codes of texts in a list of different texts.
-use Rattle.std.proofs.Common.{◌≡◌, ℕ, suc, ◌+◌, ◌<◌, ◌≤◌, ◌++◌, ap, Bool, true, false, List, [], ◌∷◌, length, take, get_or, refl, sym, ◌∙◌, arith, true≢false, Decides, inl, inr, Some}
+use Rattle.std.proofs.Common.{◌≡◌, ℕ, suc, ◌+◌, ◌<◌, ◌≤◌, ◌++◌, ap, Bool, true, false, List, [], ◌∷◌, length, take, get_or, refl, sym, ◌∙◌, arith, true≢false, Decides, inl, inr, Some, None}
 use Rattle.std.proofs.lemmas.List.Quantifiers.{position-Some}
+use Rattle.std.proofs.lemmas.Option.{none-some}
 use Rattle.std.specs.Cmp.{unsigned_Decides}
 use Rattle.std.specs.List.{list_any, position_or_len}
 use Rattle.std.proofs.lemmas.Bool.{cases_order, cases_Bool, lt-ltb}
-use Rattle.std.proofs.lemmas.List.{get_or-take, length-take-le, get_or_push, length_push, get_or_default, get_or_append_left}
+use Rattle.std.proofs.lemmas.List.{get_or-take, length-take-le, get_or_push, length_push, get_or_default, get_or_append_left, take_more}
 use Rattle.std.proofs.lemmas.List.Folds.{list_any_at, list_any_none}
 use Rattle.std.proofs.lemmas.Map.Keys.{apart_from_distinct}
 use Rattle.std.proofs.lemmas.Slice.Eq.{slice_eq-Decides}
@@ -97,3 +98,17 @@ pub with_text-among : (texts : List (List ℕ)) (k j : ℕ) → j < k → k ≤ 
 with_text-among texts k j h p =
     let long : length (take k texts) ≡ k = length-take-le k texts p in
     ap (with_text (take k texts)) (sym (get_or-take k texts j [] h)) ∙ with_text-there (take k texts) j (omega (arith, long))
+
+-- each of different texts is new behind those before it
+pub with_text-next : (texts : List (List ℕ)) (k : ℕ) → AreTexts texts → k < length texts → with_text (take k texts) (get_or texts k []) ≡ take (k + 1) texts
+with_text-next texts k different h = with_text-behind texts k k different (omega arith) h ∙ sym (take_more texts k [] h)
+
+-- a text that is there has a code, and one without a code isn't there
+known : (texts : List (List ℕ)) (t : List ℕ) → list_any (text_eq t) texts ≡ true → code_in texts t ≡ Some (code_or_last texts t)
+known texts t there = rw (lt-ltb (code_or_last texts t) (length texts) (found_at (text_eq t) texts [] there).0) refl
+
+pub absent : (texts : List (List ℕ)) (t : List ℕ) → code_in texts t ≡ None → list_any (text_eq t) texts ≡ false
+absent texts t none = elim (cases_Bool (list_any (text_eq t) texts)) [
+  | inl there ↦ absurd (none-some (code_or_last texts t) (sym none ∙ known texts t there))
+  | inr not ↦ not
+]

@@ -1,5 +1,5 @@
 -- Dictionaries of first occurrences.
-use Rattle.std.proofs.Common.{◌≡◌, ℕ, suc, ◌+◌, ◌<◌, ◌≤◌, List, [], ◌∷◌, ◌++◌, length, map, get_or, refl, Some, ap, sym, subst, ◌∙◌, arith, inl, inr, All, set, replicate, take, drop, max}
+use Rattle.std.proofs.Common.{◌≡◌, ℕ, suc, ◌+◌, ◌<◌, ◌≤◌, false, List, [], ◌∷◌, ◌++◌, length, map, get_or, refl, Some, ap, sym, subst, ◌∙◌, arith, inl, inr, All, set, replicate, take, drop, max}
 use Rattle.std.specs.Cmp.{decided}
 use Rattle.std.proofs.lemmas.Map.Keys.{IsDistinct-push, IsDistinct-from_apart}
 use Rattle.std.specs.Prelude.{fold}
@@ -10,6 +10,7 @@ use Rattle.std.proofs.lemmas.List.Sums.{fold-append}
 use Rattle.std.proofs.lemmas.List.Elements.{All-push, All-from_get_or}
 use Rattle.std.proofs.lemmas.List.Quantifiers.{position-Some}
 use Rattle.std.proofs.lemmas.Option.{slice_get-get_or}
+use Rattle.indexmap.proofs.MapLemmas.{distinct-take}
 use Rattle.smk_base.specs.Dicts.{text_eq, code_in, code_or_last, with_text, AreTexts}
 use Rattle.smk_base.proofs.Codes.{added, kept, with_text-there, with_text-behind, with_text-among, code-at, text_same}
 use Rattle.smk_base.specs.TextColumns.{text_in, text_firsts, texts_at, AreCodes, AreRecoded}
@@ -60,18 +61,27 @@ AreCodes-add dict codes t is room =
       firsts = rw (at, text_firsts_push (texts_at dict codes) t) (ap (λ found. with_text found t) is.firsts);
     }
 
-AreTexts-with_text : (dict : List (List ℕ)) (t : List ℕ) → AreTexts dict → AreTexts (with_text dict t)
+pub AreTexts-push : (dict : List (List ℕ)) (t : List ℕ) → AreTexts dict → list_any (text_eq t) dict ≡ false → AreTexts (dict ++ t ∷ [])
+AreTexts-push dict t h new = IsDistinct-push (decided text_eq text_same) dict t h new
+
+pub AreTexts-take : (n : ℕ) (dict : List (List ℕ)) → AreTexts dict → AreTexts (take n dict)
+AreTexts-take n dict h = distinct-take (decided text_eq text_same) n dict h
+
+pub AreTexts-with_text : (dict : List (List ℕ)) (t : List ℕ) → AreTexts dict → AreTexts (with_text dict t)
 AreTexts-with_text dict t h = elim (cases_Bool (list_any (text_eq t) dict)) [
   | inl e ↦ rw e h
-  | inr e ↦ rw e (IsDistinct-push (decided text_eq text_same) dict t h e)
+  | inr e ↦ rw e (AreTexts-push dict t h e)
 ]
 
 AreTexts-from : (found texts : List (List ℕ)) → AreTexts found → AreTexts (fold with_text found texts)
 AreTexts-from found [] h = h
 AreTexts-from found (t ∷ ts) h = AreTexts-from (with_text found t) ts (AreTexts-with_text found t h)
 
+pub AreTexts-none : AreTexts []
+AreTexts-none = IsDistinct-from_apart text_eq [] (λ i j d p q. absurd (omega arith))
+
 pub AreTexts-firsts : (texts : List (List ℕ)) → AreTexts (text_firsts texts)
-AreTexts-firsts texts = AreTexts-from [] texts (IsDistinct-from_apart text_eq [] (λ i j d p q. absurd (omega arith)))
+AreTexts-firsts texts = AreTexts-from [] texts AreTexts-none
 
 pub dict_short : (dict : List (List ℕ)) (codes : List ℕ) → AreCodes dict codes → length dict ≤ length codes
 dict_short dict codes is = omega (arith, few_firsts (texts_at dict codes), ap length is.firsts, length-map codes (text_in dict))

@@ -18,6 +18,7 @@ pub mod NextTexts
 pub mod Images
 pub mod Columns
 pub mod Stores
+pub mod HeldTexts
 pub mod Holds
 pub mod Relations
 pub mod Builders

@@ -1,39 +1,38 @@
-ghost use Rattle.std.specs.Prelude.{◌≡◌, ◌<◌, ◌≤◌, ◌+◌, ◌*◌, [], length, take, Some, IfOk, IfSome, OnOk, OnErr, IsOk, slice_index_or};
-ghost use Rattle.smk_base.specs.Dicts.{AreTexts, code_in, code_or_last, with_text};
+ghost use Rattle.std.specs.Prelude.{◌≡◌, ◌<◌, ◌≤◌, ◌∷◌, ◌++◌, [], length, position, take, IfOk, IfSome, OnOk, OnErr, IsOk, slice_index_or, vec_len, vec_capacity};
+ghost use Rattle.smk_base.specs.Dicts.{AreTexts, code_in, code_or_last, text_eq, texts_of, with_text};
+ghost use Rattle.smk_base.specs.declared.dict.TheConstants.{FEW};
 ghost use Rattle.smk_base.specs.declared.rel.TheConstants.{ROW_LIMIT};
 
+use crate::hashed::Hashed;
 use crate::list::Text;
-use indexmap::IndexSet;
 use std::alloc::{AllocError, Global};
 use std::marker::Model;
 
-// How many seats a dictionary has for texts that are found without their hash, once it has seats.
-const SEATS: usize = 1024;
+/// How many texts lie in a list. So many take the least memory there, and comparing a text with each of them costs less than its hash.
+const FEW: usize = 4;
 
-// How many texts are found by their hash before seats are worth their memory.
-const FOUND_WITHOUT_SEATS: u32 = 64;
+// Where the texts lie: a few in a list, or more of them in a table of hashes.
+#[derive(Drop)]
+pub(crate) enum Held {
+    Few(Vec<Vec<u8>>),
+    Many(Box<Hashed>),
+}
 
 /// Different texts, each with the place of its first occurrence as its code. Contracts see the list of them, and how many more fit without memory.
 #[derive(Drop)]
 pub struct Dict {
-    texts: IndexSet<Vec<u8>>,
-    // A code at the seat of its text, or any other number: who reads one compares the text.
-    seats: Vec<u32>,
-    // How many texts were found by their hash before there were seats.
-    found: u32,
+    held: Held,
 }
 
 impl Model for Dict {
-    ghost use Rattle.std.specs.Prelude.{length, ◌≤◌, ◌*◌};
-    ghost use Rattle.smk_base.specs.declared.rel.TheConstants.{ROW_LIMIT};
-    ghost use Rattle.indexmap.specs.IndexSet.{spare};
-    ghost use Rattle.smk_base.specs.Dicts.{DictImage, AreTexts, texts_of};
+    ghost use Rattle.smk_base.specs.Dicts.{DictImage, IsDict};
+    ghost use Rattle.smk_base.specs.HeldTexts.{dict_held};
 
     ghost Value = { DictImage };
 
-    ghost view = { λ a. record { texts = texts_of a.texts.keys; room = spare a.texts } };
+    ghost view = { λ a. dict_held a.held };
 
-    ghost invariant = { λ a. record { different : AreTexts (texts_of a.texts.keys); few : length a.texts.keys ≤ ROW_LIMIT } };
+    ghost invariant = { λ a. IsDict (dict_held a.held) };
 }
 
 impl Dict {
@@ -42,9 +41,7 @@ impl Dict {
         ensures { result.texts ≡ [] }
     {
         Dict {
-            texts: IndexSet::new(alloc),
-            seats: Vec::new(alloc),
-            found: 0,
+            held: Held::Few(Vec::new(alloc)),
         }
     }
 
@@ -54,7 +51,10 @@ impl Dict {
         ensures distinct { AreTexts self.now.texts }
         ensures few { length self.now.texts ≤ ROW_LIMIT }
     {
-        self.texts.len() as u32
+        match &self.held {
+            Held::Few(list) => list.len() as u32,
+            Held::Many(hashed) => hashed.len(),
+        }
     }
 
     /// The text with this code. It takes no memory.
@@ -62,7 +62,10 @@ impl Dict {
         requires { i < length self.now.texts }
         ensures { result.now ≡ slice_index_or self.now.texts i [] }
     {
-        self.texts[i as usize].as_slice()
+        match &self.held {
+            Held::Few(list) => list[i as usize].as_slice(),
+            Held::Many(hashed) => hashed.text(i),
+        }
     }
 
     /// The code of a text, None exactly where it isn't there. It takes no memory.
@@ -76,31 +79,9 @@ impl Dict {
     pub fn code_of_bytes(&self, text: &[u8]) -> Option<u32>
         ensures { result ≡ code_in self.now.texts text.now }
     {
-        match self.seated(text) {
-            Some(code) => Some(code),
-            None => self.searched(text),
-        }
-    }
-
-    // The code of a text by its hash.
-    fn searched(&self, text: &[u8]) -> Option<u32>
-        ensures { result ≡ code_in self.now.texts text.now }
-    {
-        match self.texts.get_index_of(text) {
-            Some(place) => Some(place as u32),
-            None => None,
-        }
-    }
-
-    // The code at the seat of a text, if it is the text's.
-    fn seated(&self, text: &[u8]) -> Option<u32>
-        ensures { IfSome result (λ code. code_in self.now.texts text.now ≡ Some code) }
-    {
-        let code = *self.seats.get(seat_of(text))?;
-        if code < self.len() && self.text(code) == text {
-            Some(code)
-        } else {
-            None
+        match &self.held {
+            Held::Few(list) => place_of(list.as_slice(), text),
+            Held::Many(hashed) => hashed.code_of_bytes(text),
         }
     }
 
@@ -109,7 +90,16 @@ impl Dict {
         ensures same { self.new.texts ≡ self.old.texts }
         ensures room { OnOk result (0 < self.new.room) }
     {
-        self.texts.reserve(1)
+        match &mut self.held {
+            Held::Few(list) if list.len() < FEW => list.reserve(1),
+            Held::Few(list) => {
+                let mut hashed = hashed_from(list.as_slice(), *list.allocator())?;
+                hashed.reserve()?;
+                self.held = Held::Many(hashed);
+                Ok(())
+            }
+            Held::Many(hashed) => hashed.reserve(),
+        }
     }
 
     /// The code of a text, which goes last where it isn't there. After an error the texts are as before, and there is none where there was room.
@@ -120,8 +110,23 @@ impl Dict {
         ensures kept { OnErr result (self.new.texts ≡ self.old.texts) }
         ensures succeeds { 0 < self.old.room → IsOk result }
     {
-        let (code, _) = self.texts.insert_full(text.into_vec())?;
-        Ok(code as u32)
+        match &mut self.held {
+            Held::Few(list) => match place_of(list.as_slice(), text.as_slice()) {
+                Some(code) => Ok(code),
+                None if list.len() < FEW => {
+                    list.reserve(1)?;
+                    list.push_reserved(text.into_vec());
+                    Ok(list.len() as u32 - 1)
+                }
+                None => {
+                    let mut hashed = hashed_from(list.as_slice(), *list.allocator())?;
+                    let code = hashed.add(text)?;
+                    self.held = Held::Many(hashed);
+                    Ok(code)
+                }
+            },
+            Held::Many(hashed) => hashed.add(text),
+        }
     }
 
     /// The code of a text, which goes last where it isn't there. It takes memory for a new text, and once to find texts faster. After an error the texts are as before.
@@ -131,68 +136,67 @@ impl Dict {
         ensures texts { OnOk result (self.new.texts ≡ with_text self.old.texts text.now) }
         ensures kept { OnErr result (self.new.texts ≡ self.old.texts) }
     {
-        match self.found(text) {
-            Some(code) => Ok(code),
-            None => {
-                let alloc = *self.texts.allocator();
-                self.add(Text::from_vec(Vec::from_slice(alloc, text)?))
-            }
+        match &mut self.held {
+            Held::Few(list) => match place_of(list.as_slice(), text) {
+                Some(code) => Ok(code),
+                None => {
+                    let alloc = *list.allocator();
+                    self.add(Text::from_vec(Vec::from_slice(alloc, text)?))
+                }
+            },
+            Held::Many(hashed) => hashed.add_bytes(text),
         }
-    }
-
-    // The code of a text, whose seat is noted.
-    fn found(&mut self, text: &[u8]) -> Option<u32>
-        ensures code { result ≡ code_in self.old.texts text.now }
-        ensures same { self.new.texts ≡ self.old.texts }
-    {
-        if let Some(code) = self.seated(text) {
-            return Some(code);
-        }
-        let code = self.searched(text)?;
-        put_seat(&mut self.seats, &mut self.found, text, code);
-        Some(code)
     }
 
     /// A copy with the same texts.
     pub fn copy(&self, alloc: Global) -> Result<Dict, AllocError>
         ensures { IfOk result (λ copy. copy.texts ≡ self.now.texts) }
     {
-        Ok(Dict {
-            texts: self.texts.clone()?,
-            seats: Vec::from_slice(alloc, self.seats.as_slice())?,
-            found: self.found,
-        })
+        match &self.held {
+            Held::Few(list) => Ok(Dict {
+                held: Held::Few(list.clone()?),
+            }),
+            Held::Many(hashed) => Ok(Dict {
+                held: Held::Many(Box::new(alloc, hashed.copy(alloc)?)?),
+            }),
+        }
     }
 
     /// Keeps the first texts.
     pub fn truncate(&mut self, len: u32)
         ensures { self.new.texts ≡ take len self.old.texts }
     {
-        self.texts.truncate(len as usize);
+        match &mut self.held {
+            Held::Few(list) => list.truncate(len as usize),
+            Held::Many(hashed) => hashed.truncate(len),
+        }
     }
 }
 
-// The seat of a text, by its last bytes, in which short texts differ most.
-fn seat_of(text: &[u8]) -> usize
-    ensures { result < SEATS }
+// The place of a text among these.
+fn place_among(list: &[Vec<u8>], text: &[u8]) -> Option<usize>
+    ensures place { result ≡ position (λ known. text_eq text.now known.items) list.now }
+    ensures within { IfSome result (λ place. place < length list.now) }
 {
-    match text {
-        [.., first, last] => (usize::from(*first) * 37 + usize::from(*last)) % SEATS,
-        [last] => usize::from(*last),
-        [] => 0,
+    list.iter().position(|known| text == known.as_slice())
+}
+
+// The code of a text of a list.
+fn place_of(list: &[Vec<u8>], text: &[u8]) -> Option<u32>
+    requires { length list.now ≤ ROW_LIMIT }
+    ensures { result ≡ code_in (texts_of list.now) text.now }
+{
+    match place_among(list, text) {
+        Some(place) => Some(place as u32),
+        None => None,
     }
 }
 
-// Puts a code at the seat of its text, once seats are worth their memory and if there is memory for them.
-fn put_seat(seats: &mut Vec<u32>, found: &mut u32, text: &[u8], code: u32) {
-    if *found < FOUND_WITHOUT_SEATS {
-        *found += 1;
-        return;
-    }
-    if seats.is_empty() {
-        let _made = seats.resize(SEATS, 0);
-    }
-    if let Some(place) = seats.get_mut(seat_of(text)) {
-        *place = code;
-    }
+// Copies of the texts of a list, in a table of hashes.
+fn hashed_from(list: &[Vec<u8>], alloc: Global) -> Result<Box<Hashed>, AllocError>
+    requires different { AreTexts (texts_of list.now) }
+    requires few { length list.now ≤ ROW_LIMIT }
+    ensures { IfOk result (λ hashed. hashed.value.texts ≡ texts_of list.now) }
+{
+    Ok(Box::new(alloc, Hashed::of_texts(alloc, list)?)?)
 }

@@ -9,6 +9,7 @@ mod copied;
 mod demo;
 mod dict;
 mod fault;
+mod hashed;
 mod limits;
 mod list;
 mod need;

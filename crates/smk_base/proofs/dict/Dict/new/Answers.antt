@@ -1,10 +1,6 @@
-use Rattle.std.proofs.Common.{rules}
-use Rattle.smk_base.specs.Dicts.{text_eq}
-use Rattle.smk_base.proofs.Texts.{distinct-map}
+use Rattle.std.proofs.Common.{arith}
+use Rattle.smk_base.proofs.Recoding.{AreTexts-none}
 use Rattle.smk_base.proofs.dict.Dict.new.Goals as goal
 
 pub invariant_of-result : goal.invariant_of-result
-invariant_of-result c = record {
-  different = distinct-map text_eq (λ v. v.items) _ c.new.ensures.unique;
-  few = search rules;
-}
+invariant_of-result c = rw (c.new.ensures.items) (record { different = AreTexts-none; few = omega arith })

@@ -1,7 +1,7 @@
 use Rattle.std.proofs.Common.{sym, ◌∙◌, ap, arith}
 use Rattle.smk_base.specs.Dicts.{code_in}
 use Rattle.smk_base.proofs.Codes.{text_same, code_in-at}
-use Rattle.smk_base.proofs.dict.Dict.seated.Goals as goal
+use Rattle.smk_base.proofs.hashed.Hashed.seated.Goals as goal
 
 pub returns-then-eq : goal.returns-then-eq
 returns-then-eq c =
