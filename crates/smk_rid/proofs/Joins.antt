@@ -1,13 +1,14 @@
 -- Lists put together.
-use Rattle.std.proofs.Common.{◌≡◌, ◌∙◌, ◌<◌, ◌≤◌, ◌+◌, ℕ, length, List, [], ◌∷◌, ◌++◌, refl, sym, ap, arith, get_or, set, ◌||◌, nat_eq}
-use Rattle.std.specs.List.{All, list_any, flat_map}
+use Rattle.std.proofs.Common.{◌≡◌, ◌∙◌, ◌<◌, ◌≤◌, ◌+◌, ℕ, length, List, [], ◌∷◌, ◌++◌, refl, sym, ap, arith, map, get_or, set, ◌||◌, nat_eq}
+use Rattle.std.specs.List.{All, concat, list_any, flat_map}
 use Rattle.std.proofs.lemmas.List.Elements.{All-map, All-push, All-set}
-use Rattle.std.proofs.lemmas.List.Folds.{list_any-append}
+use Rattle.std.proofs.lemmas.List.Concat.{concat_is}
+use Rattle.std.proofs.lemmas.List.Folds.{flat_map-map, list_any-append}
 use Rattle.std.proofs.lemmas.List.Sums.{sum_by_push, sum_by-set}
-use Rattle.std.proofs.lemmas.List.{length_push, length-set, length-map}
+use Rattle.std.proofs.lemmas.List.{get_or_default, length_push, length-set, length-map, same_lists}
 use Rattle.smk_base.specs.Places.{Lists, upto, places, has, IsPlaces, pairs_of, list_at, members_at, composed, merged}
 use Rattle.smk_rid.specs.Maps.{IsMap, with_list, with_rid_at, merge_at}
-use Rattle.smk_rid.proofs.Sets.{same_below, nil_is, places_are, length-upto, or_false, alone}
+use Rattle.smk_rid.proofs.Sets.{at_upto, same_below, nil_is, places_are, length-upto, or_false, alone}
 use Rattle.smk_rid.proofs.Rising.{set_push}
 
 pub has-flat_map : (f : ℕ → List ℕ) (xs : List ℕ) (r : ℕ) → has (flat_map f xs) r ≡ list_any (λ i. has (f i) r) xs
@@ -57,3 +58,17 @@ pub members_one : (m : Lists) (xs : List ℕ) → length xs ≡ 1 → IsPlaces m
 members_one m xs h set =
     let l = list_at m (get_or xs 0 0) in
     sym set ∙ same_below (has l) (λ r. list_any (λ i. has (list_at m i) r) (get_or xs 0 0 ∷ [])) m.bound (λ k low. or_false (has l k)) ∙ ap (members_at m) (sym (alone xs h))
+
+-- all lists one after the other
+pub flat_all : (lists : List (List ℕ)) → concat lists ≡ flat_map (λ i. get_or lists i []) (upto (length lists))
+flat_all lists =
+    concat_is lists ∙ sym (sym (flat_map-map (λ (l : List ℕ). l) (λ i. get_or lists i []) (upto (length lists))) ∙ ap (flat_map (λ (l : List ℕ). l)) (all_lists lists))
+  where
+    all_lists : (lists : List (List ℕ)) → map (λ i. get_or lists i []) (upto (length lists)) ≡ lists
+    all_lists lists =
+        let at = λ (i : ℕ). get_or lists i [] in
+        let n = length lists in
+        let long : length (map at (upto n)) ≡ n = length-map (upto n) at ∙ length-upto n in
+        same_lists (map at (upto n)) lists long (λ k d low.
+        let lowk : k < n = omega (arith, low, long) in
+        at_upto at n k d lowk ∙ get_or_default lists k [] d lowk)

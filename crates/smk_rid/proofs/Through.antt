@@ -4,10 +4,10 @@ use Rattle.std.specs.List.{All, flat_map}
 use Rattle.std.proofs.lemmas.List.{append-nil, map-append}
 use Rattle.std.proofs.lemmas.List.Elements.{All-append, All-nil, All-weaker}
 use Rattle.std.proofs.lemmas.List.Sums.{sum_by_push}
-use Rattle.smk_base.specs.Places.{Lists, IsPlaces, pairs_of, list_at, members_at}
+use Rattle.smk_base.specs.Places.{Lists, IsPlaces, pairs_of, list_at, members_at, upto}
 use Rattle.smk_rid.specs.Maps.{IsMap}
 use Rattle.smk_rid.specs.Packing.{one_of}
-use Rattle.smk_rid.proofs.Sets.{none_pass, is_below, lifted}
+use Rattle.smk_rid.proofs.Sets.{none_pass, is_below, lifted, upto_below}
 use Rattle.smk_rid.proofs.Joins.{members_one}
 
 -- the members of the list at no place or at one are that list
@@ -38,3 +38,7 @@ ones_push rids r = map-append one_of rids (r ∷ [])
 
 pub pairs_push : (lists : List (List ℕ)) (list : List ℕ) → pairs_of (lists ++ list ∷ []) ≡ pairs_of lists + length list
 pairs_push lists list = sum_by_push (length {A = ℕ}) lists list
+
+-- the rids of all lists, one after the other, are below the bound
+pub all_below : (m : Lists) → All (IsPlaces m.bound) m.lists → All (λ r. r < m.bound) (flat_map (list_at m) (upto (length m.lists)))
+all_below m sets = flat_below m (upto (length m.lists)) sets (upto_below (length m.lists))

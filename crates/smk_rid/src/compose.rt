@@ -1,12 +1,12 @@
 ghost use Rattle.std.specs.Prelude.{◌≡◌, ◌<◌, ◌≤◌, ◌+◌, ◌∷◌, ◌++◌, ℕ, [], length, slice_index_or, vec_capacity, IfOk, IfErr, IsTrue, OnOk};
 ghost use Rattle.std.specs.List.{All, AllPairs, flat_map, list_any};
-ghost use Rattle.smk_base.specs.Places.{IsPlaces, composed, has, list_at, members_at, pairs_of};
+ghost use Rattle.smk_base.specs.Places.{IsPlaces, composed, has, list_at, members_at, pairs_of, upto};
 ghost use Rattle.smk_rid.specs.Maps.{IsMap, IsSingle};
 ghost use Rattle.smk_rid.specs.Packing.{one_of};
 ghost use Rattle.smk_rid.specs.declared.fault.RidFault.TheVariants.{Pairs};
 
 use crate::array::{NONE, RidArray};
-use crate::distinct::{count_at, is_dense, make_set, marked_at};
+use crate::distinct::{count_at, is_dense, make_set, marked_at, set_of};
 use crate::fault::RidFault;
 use crate::map::{PAIR_LIMIT, RidMap};
 use crate::packed::Packed;
@@ -21,6 +21,15 @@ impl RidMap {
         ensures set { IfOk result (λ rids. IsPlaces self.now.bound rids) }
     {
         let rids = joined(alloc, self, places)?;
+        Ok(Rids::from_vec(rids))
+    }
+
+    /// The rids of all lists, ascending without repeats.
+    pub fn join_all(&self, alloc: Global) -> Result<Rids, AllocError>
+        ensures rids { IfOk result (λ rids. rids ≡ members_at self.now (upto (length self.now.lists))) }
+        ensures set { IfOk result (λ rids. IsPlaces self.now.bound rids) }
+    {
+        let rids = joined_all(alloc, self)?;
         Ok(Rids::from_vec(rids))
     }
 
@@ -115,6 +124,19 @@ fn joined(alloc: Global, map: &RidMap, places: &[u32]) -> Result<Vec<u32>, Alloc
     let mut rids = Vec::with_capacity(alloc, count as usize)?;
     gather(alloc, &mut rids, map, places)?;
     Ok(rids)
+}
+
+// The rids of all lists, ascending without repeats.
+fn joined_all(alloc: Global, map: &RidMap) -> Result<Vec<u32>, AllocError>
+    ensures { IfOk result (λ rids. rids.items ≡ members_at map.now (upto (length map.now.lists))) }
+{
+    // Its clauses say that each list is a set of rids below the bound, and that they are few.
+    let _pairs = map.pairs();
+    match (map.array(), map.packed()) {
+        (Some(lists), _) => set_of_numbers(alloc, lists, map.bound()),
+        (None, Some(all)) => set_of(alloc, all, map.bound()),
+        (None, None) => unreachable!(),
+    }
 }
 
 // Puts the rids of the lists at these places last, as one list, unless there are too many pairs then. The memory of `rids` is used again for each list that is made of several.
@@ -228,6 +250,22 @@ fn put_rids(rids: &mut Vec<u32>, lists: &RidArray, places: &[u32]) -> bool
         }
     }
     rises
+}
+
+// The rids of lists of at most one rid, ascending without repeats.
+fn set_of_numbers(alloc: Global, lists: &RidArray, bound: u32) -> Result<Vec<u32>, AllocError>
+    requires sets { All (IsPlaces bound) lists.now }
+    ensures { IfOk result (λ set. set.items ≡ members_at (record { lists = lists.now; bound = bound }) (upto (length lists.now))) }
+{
+    let mut rids = Vec::with_capacity(alloc, lists.len())?;
+    for i in 0..lists.len() {
+        let rid = lists.number(i);
+        if rid != NONE {
+            rids.push_reserved(rid);
+        }
+    }
+    make_set(alloc, &mut rids, bound)?;
+    Ok(rids)
 }
 
 // Whether rids rise with one more: they did so far, and it is no less than this.
