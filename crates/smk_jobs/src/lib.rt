@@ -1,0 +1,6 @@
+//! Jobs whose results are gathered in order, in this thread or in as many as may run at once.
+#![tactic(auto)]
+
+mod jobs;
+
+pub use jobs::each_or_first;
