@@ -19,7 +19,6 @@ use crate::chosen::{chosen, picks};
 use crate::evaluating::{Evaluated, Fetched, Source, evaluate, evaluate_at_once};
 use crate::lineage::fwd_kept;
 use crate::links::{follows_some, linked};
-use crate::marks::all_places;
 use crate::opening::view_of;
 use crate::refresh::Refresh;
 use crate::turn::{Content, Contents};
@@ -50,10 +49,7 @@ fn reached(alloc: Global, map: &RidMap, chosen: Option<Rids>) -> Result<Rids, Al
 {
     match chosen {
         Some(rids) => map.join_up(alloc, rids.as_slice()),
-        None => {
-            let rids = all_places(alloc, map.len())?;
-            map.join_up(alloc, rids.as_slice())
-        }
+        None => map.join_all(alloc),
     }
 }
 

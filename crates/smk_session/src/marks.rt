@@ -50,10 +50,7 @@ pub(crate) fn marked_members(alloc: Global, map: &RidMap, marks: &Marks) -> Resu
 {
     check_marks(marks, map.len())?;
     match marks {
-        Marks::All => {
-            let places = all_places(alloc, map.len())?;
-            Ok(map.join_up(alloc, places.as_slice())?)
-        }
+        Marks::All => Ok(map.join_all(alloc)?),
         Marks::Listed(listed) => Ok(map.join_up(alloc, listed.as_slice())?),
     }
 }
