@@ -26,10 +26,10 @@ use Rattle.smk_body.proofs.Folding.{length_places-le, int_at, best_of_class}
 use Rattle.smk_body.proofs.Classing.{first_at, length_firsts}
 
 -- the sizes of classes, as a column
-pub counted_rows : (rows : List Row) (classes : ClassesImage) (n : ℕ) (sizes : List ℕ) → sizes ≡ class_sizes classes → length classes.of ≡ n
-    → map (λ (m : ℕ). values.Int (pos m) ∷ []) sizes ≡ map (λ p. aggregate (sub rows (class_places classes.of n p)) Count ∷ []) (upto (length classes.firsts))
-counted_rows rows classes n sizes e long =
-    ap (map (λ (m : ℕ). values.Int (pos m) ∷ [])) e ∙ map_map (λ (m : ℕ). values.Int (pos m) ∷ []) (λ p. length (class_places classes.of (length classes.of) p)) (upto (length classes.firsts))
+pub counted_rows : (rows : List Row) (classes : ClassesImage) (n : ℕ) → length classes.of ≡ n
+    → map (λ (m : ℕ). values.Int (pos m) ∷ []) (class_sizes classes) ≡ map (λ p. aggregate (sub rows (class_places classes.of n p)) Count ∷ []) (upto (length classes.firsts))
+counted_rows rows classes n long =
+    map_map (λ (m : ℕ). values.Int (pos m) ∷ []) (λ p. length (class_places classes.of (length classes.of) p)) (upto (length classes.firsts))
     ∙ map_upto_agree (λ p. values.Int (pos (length (class_places classes.of (length classes.of) p))) ∷ []) (λ p. aggregate (sub rows (class_places classes.of n p)) Count ∷ []) (length classes.firsts) (λ p h.
     ap (λ m. values.Int (pos (length (class_places classes.of m p))) ∷ []) long ∙ ap (λ m. values.Int (pos m) ∷ []) (sym (length-map (class_places classes.of n p) (row_at rows))))
 

@@ -1,9 +1,11 @@
-ghost use Rattle.std.specs.Prelude.{◌≡◌, ◌<◌, ◌≤◌, [], ◌∷◌, IfOk, IfSome, All, length, map};
+ghost use Rattle.std.specs.Prelude.{◌≡◌, ◌<◌, ◌≤◌, [], ◌∷◌, pos, IfOk, IfSome, All, length, map};
 ghost use Rattle.smk_base.specs.Places.{upto};
 ghost use Rattle.smk_base.specs.Plans.{Grouping};
 ghost use Rattle.smk_base.specs.Rels.{kind_in};
 ghost use Rattle.smk_base.specs.declared.value.Kind.TheVariants.{Int};
-ghost use Rattle.smk_base.specs.declared.plan.Agg.TheVariants.{Count, Sum};
+ghost use Rattle.smk_base.specs.declared.plan.Agg.TheVariants.{Sum};
+ghost use Rattle.smk_base.specs.declared.rel.TheConstants.{ROW_LIMIT};
+ghost use Rattle.smk_base.specs.declared.value.Value.TheVariants as values;
 ghost use Rattle.smk_model.specs.Values.{value_at};
 ghost use Rattle.smk_model.specs.Plain.{aggregate, combined, key_of, step1};
 ghost use Rattle.smk_model.specs.Lineage.{row_at, sub};
@@ -59,7 +61,7 @@ pub(crate) fn sized_group_rows(
 }
 
 /// An aggregate over the rows of each class.
-pub(crate) fn agg_column(
+pub fn agg_column(
     alloc: Global,
     rel: &Rel,
     classes: &Classes,
@@ -71,26 +73,26 @@ pub(crate) fn agg_column(
     requires sizes { IfSome sizes (λ known. known.now ≡ class_sizes classes.now) }
     ensures { IfOk result (λ made. made ≡ record { kinds = kind_of_agg rel.now.kinds agg.now ∷ []; rows = map (λ p. aggregate (sub rel.now.rows (class_places classes.now.of (length rel.now.rows) p)) agg.now ∷ []) (upto (length classes.now.firsts)) }) }
 {
+    let _rows = rel.len();
     match agg {
-        Agg::Count => count_column(alloc, rel, classes, sizes),
+        Agg::Count => count_column(alloc, classes, sizes),
         Agg::Sum(c) => sum_column(alloc, rel, *c, classes),
         Agg::Min(c) => best_column(alloc, rel, *c, classes, false),
         Agg::Max(c) => best_column(alloc, rel, *c, classes, true),
     }
 }
 
-// The number of rows of each class.
-fn count_column(
+/// The number of rows of each class, from the sizes of the classes where they are known.
+pub fn count_column(
     alloc: Global,
-    rel: &Rel,
     classes: &Classes,
     sizes: Option<&[u32]>,
 ) -> Result<Rel, AllocError>
-    requires classes { AreNumbered (length rel.now.rows) classes.now }
+    requires few { length classes.now.of ≤ ROW_LIMIT }
+    requires classes { AreNumbered (length classes.now.of) classes.now }
     requires sizes { IfSome sizes (λ known. known.now ≡ class_sizes classes.now) }
-    ensures { IfOk result (λ made. made ≡ record { kinds = Int 0 ∷ []; rows = map (λ p. aggregate (sub rel.now.rows (class_places classes.now.of (length rel.now.rows) p)) Count ∷ []) (upto (length classes.now.firsts)) }) }
+    ensures { IfOk result (λ made. made ≡ record { kinds = Int 0 ∷ []; rows = map (λ size. values.Int (pos size) ∷ []) (class_sizes classes.now) }) }
 {
-    let _rows = rel.len();
     match sizes {
         Some(known) => Rel::of_counts(alloc, 0, known),
         None => {

@@ -39,7 +39,7 @@ pub use body::{OpBody, OpFault};
 pub use both::Both;
 pub use crew::{Crew, Work};
 pub use found::{Found, Made};
-pub use group::{best_column, group_rows};
+pub use group::{agg_column, best_column, count_column, group_rows};
 pub use groups::Groups;
 pub use join::{left_columns, matched, right_columns};
 pub use listing::{lineage, lineage_of, no_side, nothing};
