@@ -1,8 +1,8 @@
 #!/usr/bin/env python3
 """Serves a dashboard over examples/bikes to a browser on this machine. One smoke_live runs all the time, and answers each click.
 
-This is an example of a client, and not part of what is proved. No line is written by a page: the page sends the name of a chart, which has to
-be one of CHARTS, and marks, which have to be ints and rows of that chart, and the line is made here.
+This is an example of a client, and not part of what is proved. A page never writes a line. It sends the name of a chart, which must be one of
+CHARTS, and marks, which must be ints and rows of that chart. The line is made here.
 """
 import argparse
 import http.server
