@@ -1,4 +1,4 @@
-// Draws the charts that serve.py gives, and sends it what is clicked. Nothing is worked out here but where things stand.
+// Draws the charts that serve.py gives, and sends it what is clicked. It works out no number of a chart, only where things stand.
 "use strict";
 
 const CHARTS = {
