@@ -1,8 +1,7 @@
 #!/usr/bin/env python3
 """Serves a dashboard over examples/bikes to a browser on this machine. One smoke_live runs all the time, and answers each click.
 
-This is an example of a client, and not part of what is proved. A page never writes a line. It sends the name of a chart, which must be one of
-CHARTS, and marks, which must be ints and rows of that chart. The line is made here.
+An example of a client, and not proved. A page never writes a line: it sends a chart, one of CHARTS, and marks, ints below its number of bars.
 """
 import argparse
 import http.server
@@ -135,8 +134,6 @@ def main():
     words.add_argument("--port", type=int, default=8000, help="0 is any free port")
     words.add_argument("program", type=pathlib.Path, nargs="?", default=BUILT, help="smoke_live, if it is not in its out/")
     given = words.parse_args()
-    if not given.program.is_file():
-        sys.exit(f"{given.program} is not there: README.md says how to build it")
     for number in (signal.SIGINT, signal.SIGTERM):
         signal.signal(number, lambda *_: sys.exit())
     with (http.server.ThreadingHTTPServer(("127.0.0.1", given.port), Handler) as server,
@@ -147,4 +144,7 @@ def main():
 
 
 if __name__ == "__main__":
-    main()
+    try:
+        main()
+    except OSError as fault:
+        sys.exit(f"serve.py: {fault}. README.md says how to build the program, and --port takes another port.")
