@@ -97,7 +97,7 @@ function make(name, records) {
 function draw(name) {
   const {section, svg, bars, said} = charts[name];
   if (!said) return;
-  const width = svg.clientWidth;
+  const width = svg.getBoundingClientRect().width;
   const widest = Math.max(...said.whole.map(record => record[2]));
   const scale = Math.max(0, width - LABEL - NUMBER) / widest;
   const now = Object.fromEntries(said.now.map(record => [record[1], Number(record[2])]));
@@ -150,9 +150,10 @@ async function clear(name) {
 
 function key(event, name, mark) {
   const place = {ArrowDown: "nextElementSibling", ArrowUp: "previousElementSibling"}[event.key];
-  if (event.key === "Enter" || event.key === " ") inTurn(() => click(name, mark, event.shiftKey));
-  else if (place) event.currentTarget[place]?.focus();
-  else return;
+  const isChoice = event.key === "Enter" || event.key === " ";
+  if (!isChoice && !place) return;
+  if (isChoice && !event.repeat) inTurn(() => click(name, mark, event.shiftKey));
+  if (place) event.currentTarget[place]?.focus();
   event.preventDefault();
 }
 
