@@ -1,28 +1,18 @@
 -- Chains of selections and projections over a scan, row by row.
-use Rattle.std.proofs.Common.{◌≡◌, ℕ, ℤ, pos, suc, ◌<◌, Bool, true, List, [], ◌∷◌, length, map, refl, ap, sym, ◌∙◌, arith, get_or, ◌&&◌, nat_eq, inl, inr, Option}
+use Rattle.std.proofs.Common.{◌≡◌, ℕ, suc, ◌<◌, Bool, true, List, [], ◌∷◌, length, map, refl, ap, sym, ◌∙◌, arith, get_or, ◌&&◌, nat_eq, inl, inr, Option}
 use Rattle.std.specs.List.{filter}
 use Rattle.std.proofs.lemmas.List.{get_or-map, length-map, map-id}
 use Rattle.std.proofs.lemmas.List.Elements.{All-get_or, filter_passes}
 use Rattle.std.proofs.lemmas.Bool.{or_cases, and_parts, eqb-true, eq-eqb, false≢true}
-use Rattle.smk_base.specs.Rels.{Relation, bin_of, kind_in, value_in}
-use Rattle.smk_base.specs.declared.plan.Item.{Item}
-use Rattle.smk_base.specs.declared.plan.Item.TheVariants.{Bin}
-use Rattle.smk_base.specs.declared.value.Kind.{Kind}
-use Rattle.smk_base.specs.declared.value.Kind.TheVariants as kinds
-use Rattle.smk_base.specs.declared.value.Value.{Value}
-use Rattle.smk_base.specs.declared.value.Value.TheVariants.{Int}
 use Rattle.smk_base.specs.Plans.{Selection, Projection, Distinction, Grouping, Expr, Leaf, Apply, Combine}
-use Rattle.smk_model.specs.Values.{Row, meets, value_at}
-use Rattle.smk_model.specs.Kinds.{kind_of_item}
-use Rattle.smk_model.specs.Plain.{image, item_at, eval, leaves}
+use Rattle.smk_model.specs.Values.{Row, meets}
+use Rattle.smk_model.specs.Plain.{image, eval, leaves}
 use Rattle.smk_model.specs.Lineage.{places, has, row_at, sub}
 use Rattle.smk_model.specs.Composed.{table_at}
 use Rattle.smk_model.specs.LineageLaws.{selected_table}
-use Rattle.smk_model.specs.Selection.{selected, kept_rows, plan_kinds}
+use Rattle.smk_model.specs.Selection.{selected, kept_rows}
 use Rattle.smk_model.proofs.Places.{filter_map, map_map, has_places}
 use Rattle.smk_model.proofs.Anys.{or_false}
-use Rattle.smk_model.proofs.Parts.{map_agree}
-use Rattle.smk_body.proofs.Besides.{relation, related}
 use Rattle.smk_model.proofs.CuiWidom.{length_selected, selected_below, selected_row}
 use Rattle.smk_model.proofs.Selections.{filter_filter, filter-true}
 use Rattle.smk_model.proofs.Comes.{rows_in, comes}
@@ -127,17 +117,3 @@ reaches (Apply (Projection items) input) tables r h low p =
 reaches (Apply (Distinction items) input) tables r h low p = absurd (false≢true h)
 reaches (Apply (Grouping keys aggs) input) tables r h low p = absurd (false≢true h)
 reaches (Combine op left right) tables r h low p = absurd (false≢true h)
-
--- column c of images that is a bin
-
-pub bin_column : (items : List Item) (input : Expr) (K : List (List Kind)) (rows : List Row) (c col : ℕ) (w : ℤ) (item : Item) (below : Relation) → item ≡ get_or items c item → item ≡ Bin col w → c < length items
-    → below ≡ record { kinds = kind_in (plan_kinds input K) col ∷ []; rows = map (λ row. value_at (made input row) col ∷ []) rows }
-    → relation (kind_in below.kinds 0 ∷ []) (map (λ row. bin_of w (value_in row 0) ∷ []) below.rows)
-    ≡ relation (kind_in (plan_kinds (Apply (Projection items) input) K) c ∷ []) (map (λ row. value_at (made (Apply (Projection items) input) row) c ∷ []) rows)
-bin_column items input K rows c col w item below at is low of =
-    related
-    (ap (λ (r : Relation). kind_in r.kinds 0 ∷ []) of ∙ ap (λ (i : Item). kind_of_item (plan_kinds input K) i ∷ []) (sym is ∙ at) ∙ sym (ap (λ (k : Kind). k ∷ []) (get_or-map (kind_of_item (plan_kinds input K)) items c item kinds.Text low)))
-    (ap (λ (r : Relation). map (λ row. bin_of w (value_in row 0) ∷ []) r.rows) of
-    ∙ map_map (λ (row : Row). bin_of w (value_in row 0) ∷ []) (λ (row : Row). value_at (made input row) col ∷ []) rows
-    ∙ map_agree (λ (row : Row). bin_of w (value_at (made input row) col) ∷ []) (λ (row : Row). value_at (image items (made input row)) c ∷ [])
-    (λ row. ap (λ (i : Item). item_at (made input row) i ∷ []) (sym is ∙ at) ∙ sym (ap (λ (v : Value). v ∷ []) (get_or-map (item_at (made input row)) items c item (Int (pos 0)) low))) rows)

@@ -1,5 +1,5 @@
 -- Counts over the rows of marks, and aggregates over one column of these rows.
-use Rattle.std.proofs.Common.{◌≡◌, ℕ, pos, true, List, [], ◌∷◌, ◌++◌, length, map, take, refl, ap, sym, ◌∙◌, get_or, nat_eq}
+use Rattle.std.proofs.Common.{◌≡◌, ℕ, true, List, [], ◌∷◌, ◌++◌, length, map, take, refl, ap, sym, ◌∙◌, get_or, nat_eq}
 use Rattle.std.specs.List.{list_all}
 use Rattle.std.proofs.lemmas.List.{get_or-map, length-map}
 use Rattle.std.proofs.lemmas.Bool.{false≢true}
@@ -9,13 +9,14 @@ use Rattle.smk_base.specs.declared.value.Value.{Value}
 use Rattle.smk_base.specs.declared.value.Value.TheVariants.{Int}
 use Rattle.smk_model.specs.Values.{Row, value_at}
 use Rattle.smk_model.specs.Plain.{aggregate, combined, greater, lesser, number_of, total}
-use Rattle.smk_model.specs.Lineage.{places, row_at, sub}
+use Rattle.smk_model.specs.Lineage.{places, row_at, sub, upto}
 use Rattle.smk_model.proofs.Parts.{map_agree}
-use Rattle.smk_model.proofs.Places.{map_map, places_below}
-use Rattle.smk_keys.specs.Classes.{first_items}
-use Rattle.smk_marks.specs.Marks.{is_count, marked_group, marked_values, with_mark}
+use Rattle.smk_model.proofs.Places.{map_map, map_upto_agree, places_below}
+use Rattle.smk_keys.specs.Classes.{ClassesImage, first_items}
+use Rattle.smk_body.specs.Halves.{class_places}
+use Rattle.smk_marks.specs.Marks.{class_values, is_count, marked_group, with_mark}
 use Rattle.smk_marks.specs.MarkLaws.{CountsAlone}
-use Rattle.smk_marks.proofs.Values.{map_below}
+use Rattle.smk_marks.proofs.Classed.{map_below}
 
 -- counts alone
 
@@ -36,46 +37,37 @@ counts_alone k aggs content marks rows others all e =
     map_agree (marked_group k aggs content marks rows) (marked_group k aggs content marks others)
     (λ m. ap (λ z. take k (row_at content m) ++ z) (same_counts (with_mark marks rows m) (with_mark marks others m) (as_many marks rows others m e) aggs all)) (first_items nat_eq marks)
 
-pub counted : (marks : List ℕ) (rows others : List Row) → length rows ≡ length others → marked_values (Count ∷ []) marks rows ≡ marked_values (Count ∷ []) marks others
-counted marks rows others e =
-    map_agree (λ m. map (aggregate (with_mark marks rows m)) (Count ∷ [])) (λ m. map (aggregate (with_mark marks others m)) (Count ∷ []))
-    (λ m. ap (λ (n : ℕ). Int (pos n) ∷ []) (as_many marks rows others m e)) (first_items nat_eq marks)
-
 -- one column of the rows
-
-marked_images : (h : Row → Row) (marks : List ℕ) (rows : List Row) (m : ℕ) → with_mark marks (map h rows) m ≡ map h (with_mark marks rows m)
-marked_images h marks rows m =
-    let t = λ (i : ℕ). nat_eq (get_or marks i 0) m in
-    ap (λ n. sub (map h rows) (places t n)) (length-map rows h)
-    ∙ map_below (row_at (map h rows)) (λ i. h (row_at rows i)) (length rows) (places t (length rows)) (places_below t (length rows)) (λ i l. get_or-map h rows i [] [] l)
-    ∙ sym (map_map h (row_at rows) (places t (length rows)))
 
 -- column c of each row
 abbrev pub column : ℕ → Row → Row
 column c row = value_at row c ∷ []
 
 -- an aggregate over rows of a column alone that gives what another gives over the rows
-abbrev Narrows : ℕ → Agg → Agg → Type 0
+abbrev pub Narrows : ℕ → Agg → Agg → Type 0
 Narrows c agg over = (rows : List Row) → aggregate (map (column c) rows) over ≡ aggregate rows agg
 
-narrowed : (c : ℕ) (agg over : Agg) (marks : List ℕ) (rows : List Row) → Narrows c agg over → marked_values (over ∷ []) marks (map (column c) rows) ≡ marked_values (agg ∷ []) marks rows
-narrowed c agg over marks rows h =
-    map_agree (λ m. aggregate (with_mark marks (map (column c) rows) m) over ∷ []) (λ m. aggregate (with_mark marks rows m) agg ∷ [])
-    (λ m. ap (λ (v : Value). v ∷ []) (ap (λ z. aggregate z over) (marked_images (column c) marks rows m) ∙ h (with_mark marks rows m))) (first_items nat_eq marks)
+pub sums_narrow : (c : ℕ) → Narrows c (Sum c) (Sum 0)
+sums_narrow c rows = ap (λ ns. Int (total ns)) (map_map (λ (row : Row). number_of (value_at row 0)) (column c) rows)
 
--- over images of rows
+pub mins_narrow : (c : ℕ) → Narrows c (Min c) (Min 0)
+mins_narrow c rows = ap (combined lesser) (map_map (λ (row : Row). value_at row 0) (column c) rows)
 
-pub sum_of : (c : ℕ) (made : Row → Row) (marks : List ℕ) (rows : List Row) → marked_values (Sum 0 ∷ []) marks (map (λ row. value_at (made row) c ∷ []) rows) ≡ marked_values (Sum c ∷ []) marks (map made rows)
-sum_of c made marks rows =
-    ap (marked_values (Sum 0 ∷ []) marks) (sym (map_map (column c) made rows))
-    ∙ narrowed c (Sum c) (Sum 0) marks (map made rows) (λ A. ap (λ ns. Int (total ns)) (map_map (λ (row : Row). number_of (value_at row 0)) (column c) A))
+pub maxs_narrow : (c : ℕ) → Narrows c (Max c) (Max 0)
+maxs_narrow c rows = ap (combined greater) (map_map (λ (row : Row). value_at row 0) (column c) rows)
 
-pub min_of : (c : ℕ) (made : Row → Row) (marks : List ℕ) (rows : List Row) → marked_values (Min 0 ∷ []) marks (map (λ row. value_at (made row) c ∷ []) rows) ≡ marked_values (Min c ∷ []) marks (map made rows)
-min_of c made marks rows =
-    ap (marked_values (Min 0 ∷ []) marks) (sym (map_map (column c) made rows))
-    ∙ narrowed c (Min c) (Min 0) marks (map made rows) (λ A. ap (combined lesser) (map_map (λ (row : Row). value_at row 0) (column c) A))
-
-pub max_of : (c : ℕ) (made : Row → Row) (marks : List ℕ) (rows : List Row) → marked_values (Max 0 ∷ []) marks (map (λ row. value_at (made row) c ∷ []) rows) ≡ marked_values (Max c ∷ []) marks (map made rows)
-max_of c made marks rows =
-    ap (marked_values (Max 0 ∷ []) marks) (sym (map_map (column c) made rows))
-    ∙ narrowed c (Max c) (Max 0) marks (map made rows) (λ A. ap (combined greater) (map_map (λ (row : Row). value_at row 0) (column c) A))
+-- over the rows of each class, of images of rows
+pub narrowed : (c : ℕ) (agg over : Agg) (made : Row → Row) (rows : List Row) (classes : ClassesImage) → Narrows c agg over
+    → class_values classes (map (λ row. value_at (made row) c ∷ []) rows) over ≡ class_values classes (map made rows) agg
+narrowed c agg over made rows classes h =
+    let inputs = map made rows in
+    let n = length inputs in
+    let A = λ (p : ℕ). class_places classes.of n p in
+    ap (λ (z : List Row). class_values classes z over) (sym (map_map (column c) made rows))
+    ∙ ap (λ (m : ℕ). map (λ p. aggregate (sub (map (column c) inputs) (class_places classes.of m p)) over ∷ []) (upto (length classes.firsts))) (length-map inputs (column c))
+    ∙ map_upto_agree (λ p. aggregate (sub (map (column c) inputs) (A p)) over ∷ []) (λ p. aggregate (sub inputs (A p)) agg ∷ []) (length classes.firsts) (λ p _.
+    ap (λ (v : Value). v ∷ [])
+    (ap (λ (z : List Row). aggregate z over)
+    (map_below (row_at (map (column c) inputs)) (λ i. column c (row_at inputs i)) n (A p) (places_below (λ i. nat_eq (get_or classes.of i 0) p) n) (λ i l. get_or-map (column c) inputs i [] [] l)
+    ∙ sym (map_map (column c) (row_at inputs) (A p)))
+    ∙ h (sub inputs (A p))))

@@ -1,11 +1,10 @@
 pub mod Chains
 pub mod Forward
 pub mod ByMarks
-pub mod Values
+pub mod Classed
 pub mod Marked
 pub mod Counted
 pub mod Small
 pub mod Kept
-pub mod Read
 pub mod Looks
 pub mod Binned

@@ -1,5 +1,5 @@
 -- What is kept of a view that is a grouping over a chain, and the groups that are made of what chosen rows of its table reach.
-use Rattle.std.specs.Prelude.{◌≡◌, ◌<◌, ◌≤◌, ◌+◌, ℕ, Bool, true, false, cond, List, [], ◌∷◌, ◌++◌, length, map, nat_eq, Option, Some, None, All}
+use Rattle.std.specs.Prelude.{◌≡◌, ◌<◌, ◌≤◌, ◌+◌, ℕ, Bool, true, false, cond, List, [], ◌∷◌, ◌++◌, length, map, Option, Some, None, All}
 use Rattle.std.specs.List.{list_all}
 use Rattle.smk_base.specs.PlanImage.{expr_of}
 use Rattle.smk_base.specs.Places.{upto}
@@ -10,14 +10,12 @@ use Rattle.smk_base.specs.declared.plan.Agg.TheVariants.{Count, Sum, Min, Max}
 use Rattle.smk_base.specs.declared.rel.TheConstants.{ROW_LIMIT}
 use Rattle.smk_base.specs.declared.value.Kind.{Kind}
 use Rattle.smk_base.specs.declared.value.Kind.TheVariants.{Int}
-use Rattle.smk_keys.specs.Classes.{classes_of, first_items}
 use Rattle.smk_model.specs.Growth.{is_chain}
 use Rattle.smk_model.specs.Kinds.{AggFits, kind_of_agg}
 use Rattle.smk_model.specs.Lineage.{sub}
 use Rattle.smk_model.specs.Selection.{PlanFits, plan_kinds}
 use Rattle.smk_model.specs.Values.{value_at}
 use Rattle.smk_marks.specs.Marks.{is_count, kept, made, mark_row, marked_groups}
-use Rattle.smk_marks.specs.declared.columns.MarkColumn.{MarkColumn}
 use Rattle.smk_marks.specs.declared.reached.Reached.{Reached}
 use Rattle.smk_marks.specs.declared.view.GroupedChain.{GroupedChain}
 use Rattle.smk_marks.specs.declared.view.KeptView.{KeptView}
@@ -40,12 +38,6 @@ pub record EndsInGroups (plan : Expr) (last : GroupedChain) : Type 0 where
   pub plan_is : plan ≡ plan_of last
   pub chain : is_chain (expr_of last.chain.now) ≡ true
 
--- a column of marks with the classes of these, and the first mark of each class
-pub record IsMarkColumn (marked : MarkColumn) : Type 0 where
-  pub column : marked.column ≡ record { kinds = Int 0 ∷ []; rows = map mark_row marked.marks.now }
-  pub classes : marked.classes ≡ classes_of (map mark_row marked.marks.now)
-  pub firsts : marked.firsts.items ≡ first_items nat_eq marked.marks.now
-
 -- an aggregate fits what a chain makes of rows of these kinds; a count fits any rows
 abbrev pub Reads : Expr → List Kind → Agg → Type 0
 Reads chain kinds Count = Unit {0}
@@ -56,20 +48,6 @@ Reads chain kinds (Max c) = PlanFits chain (kinds ∷ []) × AggFits (plan_kinds
 -- column c of what a chain makes of rows
 abbrev pub chain_values : Expr → Relation → ℕ → Relation
 chain_values chain rows c = record { kinds = kind_in (plan_kinds chain (rows.kinds ∷ [])) c ∷ []; rows = map (λ row. value_at (made chain row) c ∷ []) rows.rows }
-
--- the column that an aggregate reads; for a count, any column of as many rows
-abbrev pub column_read : Expr → List ℕ → Relation → Agg → Relation
-column_read chain marks rows Count = record { kinds = Int 0 ∷ []; rows = map mark_row marks }
-column_read chain marks rows (Sum c) = chain_values chain rows c
-column_read chain marks rows (Min c) = chain_values chain rows c
-column_read chain marks rows (Max c) = chain_values chain rows c
-
--- the same aggregate over that column alone
-abbrev pub over_one : Agg → Agg
-over_one Count = Count
-over_one (Sum c) = Sum 0
-over_one (Min c) = Min 0
-over_one (Max c) = Max 0
 
 -- the rows at these rids of a table that reach a mark, unless all aggregates are counts
 abbrev pub rows_reached : KeptView → Relation → List ℕ → Option Relation

@@ -1,42 +1,38 @@
-ghost use Rattle.std.specs.Prelude.{◌≡◌, ◌≢◌, ◌<◌, ◌≤◌, ◌≤ℤ◌, [], ◌∷◌, pos, true, All, IfOk, length, map, take, slice_index_or, vec_len};
+ghost use Rattle.std.specs.Prelude.{◌≡◌, ◌≢◌, ◌<◌, ◌≤◌, ◌≤ℤ◌, [], ◌∷◌, pos, true, All, IfOk, length, map, nat_eq, take, slice_index_or};
 ghost use Rattle.smk_base.specs.PlanImage.{expr_of};
 ghost use Rattle.smk_base.specs.Places.{upto};
 ghost use Rattle.smk_base.specs.Rels.{bin_of, kind_in, value_in};
 ghost use Rattle.smk_base.specs.declared.rel.TheConstants.{ROW_LIMIT};
 ghost use Rattle.smk_base.specs.declared.value.Kind.TheVariants as kinds;
+ghost use Rattle.smk_keys.specs.Classes.{classing_of};
 ghost use Rattle.smk_model.specs.Growth.{is_chain};
 ghost use Rattle.smk_model.specs.Lineage.{row_at};
 ghost use Rattle.smk_model.specs.Selection.{PlanFits, plan_kinds};
-ghost use Rattle.smk_marks.specs.Views.{IsMarkColumn, chain_values};
+ghost use Rattle.smk_marks.specs.Views.{chain_values};
 
 use smk_base::{Item, Op1, Plan, Rel};
 use smk_keys::Classes;
 use smk_table::Chosen;
 use std::alloc::{AllocError, Global};
 
-// Marks, a column of them, their classes, and the first mark of each class.
-#[derive(Drop)]
-pub(crate) struct MarkColumn<'a> {
-    pub(crate) marks: &'a [u32],
-    pub(crate) column: Rel,
-    pub(crate) classes: Classes,
-    pub(crate) firsts: Vec<u32>,
-}
+// Classes of marks are found by a table of all marks where there are more marks than one in so many; else by their values, so that few marks never pay for such a table.
+const TABLE_SHARE: u32 = 16;
 
-// Marks as ints.
-fn mark_ints(alloc: Global, marks: &[u32]) -> Result<Vec<i128>, AllocError>
-    ensures ints { IfOk result (λ v. v.items ≡ map pos marks.now) }
-    ensures long { IfOk result (λ v. vec_len v ≡ length marks.now) }
+// The classes of marks below a bound.
+pub(crate) fn mark_classes(alloc: Global, marks: &[u32], bound: u32) -> Result<Classes, AllocError>
+    requires few { length marks.now ≤ ROW_LIMIT }
+    requires below { All (λ mark. mark < bound) marks.now }
+    ensures { IfOk result (λ made. made ≡ classing_of nat_eq marks.now) }
 {
-    let mut ints = Vec::with_capacity(alloc, marks.len())?;
-    for mark in marks {
-        ints.push(i128::from(*mark))?;
+    if marks.len() > (bound / TABLE_SHARE) as usize {
+        return Classes::of_numbers(alloc, marks, bound);
     }
-    Ok(ints)
+    let column = Rel::of_counts(alloc, 0, marks)?;
+    Classes::of_rows(alloc, &column, &[0])
 }
 
 // The marks at these places.
-fn marks_in(alloc: Global, marks: &[u32], places: &[u32]) -> Result<Vec<u32>, AllocError>
+pub(crate) fn marks_in(alloc: Global, marks: &[u32], places: &[u32]) -> Result<Vec<u32>, AllocError>
     requires { All (λ place. place < length marks.now) places.now }
     ensures { IfOk result (λ made. made.items ≡ map (λ place. slice_index_or marks.now place 0) places.now) }
 {
@@ -45,26 +41,6 @@ fn marks_in(alloc: Global, marks: &[u32], places: &[u32]) -> Result<Vec<u32>, Al
         made.push(marks[*place as usize])?;
     }
     Ok(made)
-}
-
-// Marks with a column of them, and their classes.
-pub(crate) fn mark_column(alloc: Global, marks: &[u32]) -> Result<MarkColumn<'_>, AllocError>
-    requires few { length marks.now ≤ ROW_LIMIT }
-    requires small { All (λ mark. mark < ROW_LIMIT) marks.now }
-    ensures marks { IfOk result (λ made. made.marks.now ≡ marks.now) }
-    ensures is { IfOk result IsMarkColumn }
-{
-    let ints = mark_ints(alloc, marks)?;
-    let own = Rel::of_ints(alloc, 0, ints)?;
-    let column = own.shared(alloc)?;
-    let classes = Classes::of_rows(alloc, &column, &[0])?;
-    let firsts = marks_in(alloc, marks, classes.firsts())?;
-    Ok(MarkColumn {
-        marks,
-        column,
-        classes,
-        firsts,
-    })
 }
 
 // The first columns, so many.

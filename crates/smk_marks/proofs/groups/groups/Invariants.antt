@@ -14,6 +14,6 @@ abbrev pub invariant-loop-agg : goal.invariant-loop-agg
 invariant-loop-agg l = l.made ≡ record {
   kinds = map (kind_in l.view.content.now.kinds) (upto (length l.view.plan.keys.now)) ++ map (kind_of_agg (plan_kinds (expr_of l.view.plan.chain.now) (l.rows.kinds ∷ []))) (take l.agg-index l.aggs);
   rows = map
-      (λ m. take (length l.view.plan.keys.now) (row_at l.view.content.now.rows m) ++ map (aggregate (with_mark l.marked.marks.now (map (made (expr_of l.view.plan.chain.now)) l.rows.rows) m)) (take l.agg-index l.aggs))
-      (first_items nat_eq l.marked.marks.now);
+      (λ m. take (length l.view.plan.keys.now) (row_at l.view.content.now.rows m) ++ map (aggregate (with_mark l.marks (map (made (expr_of l.view.plan.chain.now)) l.rows.rows) m)) (take l.agg-index l.aggs))
+      (first_items nat_eq l.marks);
 }
