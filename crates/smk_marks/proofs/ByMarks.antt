@@ -1,40 +1,35 @@
 -- Groups by marks.
-use Rattle.std.proofs.Common.{◌≡◌, ℕ, suc, ◌<◌, Bool, true, false, cond, List, [], ◌∷◌, ◌++◌, length, map, take, refl, ap, sym, ◌∙◌, subst, arith, get_or, nat_eq, nat_lt, inl, inr, if◌then◌else◌}
-use Rattle.std.specs.List.{list_any, filter, fold, All}
-use Rattle.std.proofs.lemmas.List.{get_or-map, length-map, map-append, take-append-le, take_all, get_or_default}
+use Rattle.std.proofs.Common.{◌≡◌, ℕ, suc, ◌<◌, Bool, true, false, cond, List, [], ◌∷◌, ◌++◌, length, map, take, refl, ap, sym, ◌∙◌, subst, arith, get_or, nat_eq, nat_lt, inl, inr}
+use Rattle.std.specs.List.{filter, All}
+use Rattle.std.proofs.lemmas.List.{get_or-map, length-map, take-append-le, take_all, get_or_default}
 use Rattle.std.proofs.lemmas.List.Elements.{All-filter, All-map}
-use Rattle.std.proofs.lemmas.List.Folds.{list_any-append}
-use Rattle.std.proofs.lemmas.Bool.{cases_Bool, or_cases, or_right, false≢true, false_from_ne_true}
+use Rattle.std.proofs.lemmas.Bool.{cases_Bool, or_right}
 use Rattle.smk_base.specs.Places.{Lists, list_at}
 use Rattle.smk_base.specs.declared.plan.Agg.{Agg}
 use Rattle.smk_base.specs.Plans.{Grouping, Expr, Apply}
 use Rattle.smk_model.specs.Values.{Row}
-use Rattle.smk_model.specs.Plain.{row_eq, add_first, key_of, aggregate, firsts, grouped, rows_over}
+use Rattle.smk_model.specs.Plain.{row_eq, key_of, aggregate, firsts, grouped, rows_over}
 use Rattle.smk_model.specs.Lineage.{row_at, sub}
 use Rattle.smk_model.specs.Composed.{table_at}
 use Rattle.smk_model.specs.Classes.{places_in}
 use Rattle.smk_model.specs.LineageLaws.{selected_table}
 use Rattle.smk_model.proofs.Places.{map_map, same_below, has_passes, has_below}
-use Rattle.smk_model.proofs.Firsts.{row_same, row_is, holds, holds_here, holds_at, holds_single, firsts_from, sub_key, place_of}
+use Rattle.smk_model.proofs.Firsts.{holds, holds_here, holds_at, firsts_from, sub_key, place_of}
 use Rattle.smk_model.proofs.Locals.{IsApart, firsts_apart}
-use Rattle.smk_model.proofs.Classes.{place_in, found_below, found_at, key_test}
+use Rattle.smk_model.proofs.Classes.{place_in, first_below, found_below, found_at, key_test}
 use Rattle.smk_model.proofs.Comes.{rows_in, rows_whole}
-use Rattle.smk_keys.specs.Classes.{first_items, classing_of, classes_of}
+use Rattle.smk_keys.specs.Classes.{ClassesImage, first_items, classing_of, classes_of}
 use Rattle.smk_keys.specs.Keys.{key_eq}
 use Rattle.smk_keys.specs.Numbers.{AreNumbers}
 use Rattle.smk_keys.proofs.Classing.{classing-numbers}
+use Rattle.smk_keys.proofs.Placed.{keys-firsts}
 use Rattle.smk_keys.proofs.Rowed.{key_same}
 use Rattle.smk_model.specs.Growth.{is_chain}
 use Rattle.smk_marks.specs.Marks.{made, passes, kept, marks_at, with_mark, marked_group, marked_groups}
 use Rattle.smk_marks.specs.MarkLaws.{marks_of, input_at, AreRids, GroupMarks}
 use Rattle.smk_marks.proofs.Chains.{chain_picks}
+use Rattle.smk_marks.proofs.Classed.{firsts_are, map_below}
 use Rattle.smk_marks.proofs.Forward.{key_known, list_is}
-
-row_turned : (a b : Row) → row_eq a b ≡ row_eq b a
-row_turned a b = elim (cases_Bool (row_eq a b)) [
-  | inl p ↦ p ∙ sym ((row_same b a).1 (sym (row_is a b p)))
-  | inr p ↦ p ∙ sym (false_from_ne_true (row_eq b a) (λ q. false≢true (sym p ∙ (row_same a b).1 (sym (row_is b a q)))))
-]
 
 -- functions that agree on the members
 pub map_held : {X : Type 0} (f g : Row → X) (xs : List Row) → ((k : Row) → holds xs k ≡ true → f k ≡ g k) → map f xs ≡ map g xs
@@ -45,43 +40,10 @@ map_held f g (x ∷ xs) h = rw (h x (holds_here x xs), map_held f g xs (λ k q. 
 abbrev pub AreKnown : List Row → List Row → Type 0
 AreKnown known xs = (k : Row) → holds xs k ≡ true → holds known k ≡ true
 
--- the first occurrences of images are the images of the first occurrences, where known rows have equal images exactly where they are equal
-module _ {X : Type 0} (eq : X → X → Bool) (h : Row → X) (known : List Row) (same : (a b : Row) → holds known a ≡ true → holds known b ≡ true → eq (h a) (h b) ≡ row_eq a b) where
-  any_image : (x : Row) (xs : List Row) → holds known x ≡ true → AreKnown known xs → list_any (eq (h x)) (map h xs) ≡ holds xs x
-  any_image x [] k all = refl
-  any_image x (y ∷ ys) k all = rw (same x y k (all y (holds_here y ys)), any_image x ys k (λ z q. all z (or_right (row_eq z y) _ q))) refl
-
-  abbrev push : List X → X → List X
-  push these item = if list_any (eq item) these then these else these ++ item ∷ []
-
-  pushed : (b : Bool) (seen : List Row) (x : Row) → (if b then map h seen else map h seen ++ h x ∷ []) ≡ map h (cond b seen (seen ++ x ∷ []))
-  pushed true seen x = refl
-  pushed false seen x = sym (map-append h seen (x ∷ []))
-
-  known_more : (b : Bool) (seen : List Row) (x : Row) → AreKnown known seen → holds known x ≡ true → AreKnown known (cond b seen (seen ++ x ∷ []))
-  known_more true seen x old here = old
-  known_more false seen x old here = λ k q. elim (or_cases (holds seen k) (holds (x ∷ []) k) (sym (list_any-append (row_eq k) seen (x ∷ [])) ∙ q)) [
-    | inl o ↦ old k o
-    | inr o ↦ subst (λ (z : Row). holds known z ≡ true) (sym (holds_single x k o)) here
-  ]
-
-  fold_images : (seen xs : List Row) → AreKnown known seen → AreKnown known xs → fold push (map h seen) (map h xs) ≡ map h (fold add_first seen xs)
-  fold_images seen [] old all = refl
-  fold_images seen (x ∷ xs) old all =
-      let here : holds known x ≡ true = all x (holds_here x xs) in
-      ap (λ z. fold push z (map h xs)) (ap (λ b. if b then map h seen else map h seen ++ h x ∷ []) (any_image x seen here old) ∙ pushed (holds seen x) seen x)
-      ∙ fold_images (add_first seen x) xs (known_more (holds seen x) seen x old here) (λ k q. all k (or_right (row_eq k x) _ q))
-
-  pub firsts_images : (xs : List Row) → AreKnown known xs → first_items eq (map h xs) ≡ map h (firsts xs)
-  firsts_images xs all = fold_images [] xs (λ k q. absurd (false≢true q)) all
-
 -- known rows that are apart, as numbers
 module _ (known : List Row) (apart : IsApart known) where
   pub same_number : (a b : Row) → holds known a ≡ true → holds known b ≡ true → nat_eq (place_in known a) (place_in known b) ≡ row_eq b a
   same_number a b p q = sym (key_test known a (place_in known b) apart p (found_below known b q)) ∙ ap (λ (z : Row). row_eq z a) (found_at known b q)
-
-  pub first_numbers : (xs : List Row) → AreKnown known xs → first_items nat_eq (places_in known xs) ≡ places_in known (firsts xs)
-  first_numbers xs all = firsts_images nat_eq (place_in known) known (λ a b p q. same_number a b p q ∙ row_turned b a) xs all
 
   pub are_numbers : (xs : List Row) → AreKnown known xs → AreNumbers [] xs (length known) (places_in known xs)
   are_numbers xs all =
@@ -96,6 +58,15 @@ module _ (known : List Row) (apart : IsApart known) where
     where
       any_at : (xs : List Row) (i : ℕ) (d : Row) → i < length xs → holds xs (get_or xs i d) ≡ true
       any_at xs i d l = subst (λ (z : Row). holds xs z ≡ true) (get_or_default xs i [] d l) (holds_at xs i l)
+
+  pub first_numbers : (xs : List Row) → AreKnown known xs → first_items nat_eq (places_in known xs) ≡ places_in known (firsts xs)
+  first_numbers xs all =
+      let numbers = places_in known xs in
+      let number = λ (p : ℕ). get_or numbers p 0 in
+      let found = (classes_of xs).firsts in
+      sym (firsts_are numbers) ∙ ap (λ (z : ClassesImage). map number z.firsts) (classing-numbers key_eq key_same [] xs (length known) numbers (are_numbers xs all))
+      ∙ map_below number (λ p. place_in known (row_at xs p)) (length xs) found (first_below xs) (λ p l. get_or-map (place_in known) xs p [] 0 l)
+      ∙ sym (map_map (place_in known) (row_at xs) found) ∙ ap (map (place_in known)) (keys-firsts xs)
 
 -- a grouping over a chain
 
