@@ -1,27 +1,21 @@
--- What is kept of the views as they are now.
-use Rattle.std.proofs.Common.{◌≡◌, ℕ, ◌+◌, ◌<◌, ◌≤◌, Bool, true, false, ◌||◌, cond, List, [], ◌∷◌, length, map, get_or, refl, ap, sym, ◌∙◌, subst, arith, Option, Some, None, Ok, Err, inl, inr}
-use Rattle.std.proofs.lemmas.Bool.{cases_Bool}
+-- The views as they are now.
+use Rattle.std.proofs.Common.{◌≡◌, ℕ, ◌<◌, List, length, map, get_or, ap, ◌∙◌, arith, Option, None}
 use Rattle.std.proofs.lemmas.List.{length-map}
 use Rattle.smk_base.specs.CatalogImage.{catalog_image, view_image}
 use Rattle.smk_base.specs.Places.{upto}
 use Rattle.smk_base.specs.Rels.{Relation}
-use Rattle.smk_base.specs.declared.catalog.Back.{Back}
 use Rattle.smk_base.specs.declared.catalog.Catalog.{Catalog}
-use Rattle.smk_base.specs.declared.reply.Refusal.TheVariants.{Undeclared}
-use Rattle.smk_model.specs.Appends.{scans}
-use Rattle.smk_model.specs.Selection.{each_rows}
-use Rattle.smk_model.specs.Session.{Workbook, view_at}
+use Rattle.smk_model.specs.Catalogs.{each_table_kinds}
+use Rattle.smk_model.specs.Selection.{each_kinds, each_rows}
+use Rattle.smk_model.specs.Session.{Workbook}
 use Rattle.smk_model.proofs.Places.{get_or_map_upto, length_upto}
 use Rattle.smk_compose.specs.declared.kept_maps.Run.{Run}
-use Rattle.smk_session.specs.Answers.{kept_back}
-use Rattle.smk_session.specs.Extras.{backs_of}
-use Rattle.smk_session.specs.Making.{IsDeclared}
+use Rattle.smk_session.specs.Making.{AreNow, newer}
 use Rattle.smk_session.specs.Sessions.{opened, opened_views, workbook_image}
-use Rattle.smk_session.proofs.KeptOf.{kept_back_is}
 use Rattle.smk_grow.specs.Grown.{first_tables}
-use Rattle.smk_grow.specs.Renewed.{fresh_view, is_asked}
+use Rattle.smk_grow.specs.Renewed.{fresh_view}
 use Rattle.smk_grow.proofs.Fresh.{same_but}
-use Rattle.smk_grow.proofs.Renewed.{untouched}
+use Rattle.smk_grow.proofs.Renewed.{newer_is}
 
 -- a place in a list of one for each view
 
@@ -37,26 +31,21 @@ pub long_views : {X : Type 0} (catalog : Catalog) (f : ℕ → X) (xs : List X) 
 long_views catalog f xs are =
     ap length are ∙ length-map (upto (length (catalog_image catalog).views)) f ∙ length_upto (length (catalog_image catalog).views) ∙ views_count catalog
 
--- the view as it is now
-
-pub now_some : (t : ℕ) (book : Workbook) (v : ℕ) (run : Run) → Some run ≡ fresh_view t book v → run ≡ opened book v
-now_some t book v run is = elim (cases_Bool (scans book.catalog t v || is_asked book.catalog t v)) [
-  | inl held ↦ (let here : Some run ≡ Some (opened book v) = rw held at is in cc)
-  | inr failed ↦ (let here : Some run ≡ None = rw failed at is in absurd (cc))
-]
-
-pub now_none : (catalog : Catalog) (tables : List Relation) (t len v : ℕ) (old : Run) → None ≡ fresh_view t (workbook_image catalog tables) v → old ≡ opened (workbook_image catalog (first_tables tables t len)) v → old ≡ opened (workbook_image catalog tables) v
-now_none catalog tables t len v old is before = elim (cases_Bool (scans (catalog_image catalog) t v || is_asked (catalog_image catalog) t v)) [
-  | inl held ↦ (let here : None ≡ Some (opened (workbook_image catalog tables) v) = rw held at is in absurd (cc))
-  | inr failed ↦ before ∙ untouched (catalog_image catalog) t v (each_rows (first_tables tables t len)) (each_rows tables) (same_but tables t len) failed
-]
-
--- the lineage of a declaration is kept
-
-pub declared_kept : (catalog : Catalog) (tables : List Relation) (declared : Back) (run : Run) → IsDeclared catalog declared → run ≡ opened (workbook_image catalog tables) declared.view
-    → kept_back run.kept declared.table ≡ Ok (backs_of (workbook_image catalog tables) declared.view declared.table)
-declared_kept catalog tables declared run d is =
+-- so the views are what they mean, with what takes their places
+pub now_opened : (catalog : Catalog) (tables : List Relation) (views : List Run) (fresh : List (Option Run)) (t len : ℕ) → each_kinds tables ≡ each_table_kinds catalog.tables → views ≡ opened_views (workbook_image catalog (first_tables tables t len))
+    → fresh ≡ map (fresh_view t (workbook_image catalog tables)) (upto (length (catalog_image catalog).views)) → AreNow catalog tables views fresh
+now_opened catalog tables views fresh t len kinds olds news =
     let book : Workbook = workbook_image catalog tables in
-    ap (λ (r : Run). kept_back r.kept declared.table) is
-    ∙ kept_back_is book.catalog (view_at book.catalog declared.view).plan book.tables declared.view declared.table d.fits.table
-    ∙ ap (λ (b : Bool). cond b (Ok (backs_of book declared.view declared.table)) (Err Undeclared)) d.declares
+    let count = length (catalog_image catalog).views in
+    let first : Workbook = workbook_image catalog (first_tables tables t len) in
+    record {
+      kinds = kinds;
+      long = long_views catalog (opened first) views olds;
+      views_are = λ v run low.
+          let below : v < count = omega (arith, low, views_count catalog) in
+          let again : get_or fresh v None ≡ fresh_view t book v = ap (λ (l : List (Option Run)). get_or l v None) news ∙ get_or_map_upto (fresh_view t book) count v None below in
+          let before : get_or views v run ≡ opened first v = ap (λ (l : List Run). get_or l v run) olds ∙ get_or_map_upto (opened first) count v run below in
+          ap (λ (o : Option Run). newer o (get_or views v run)) again
+          ∙ ap (newer (fresh_view t book v)) before
+          ∙ newer_is (catalog_image catalog) t v (each_rows (first_tables tables t len)) (each_rows tables) (same_but tables t len);
+    }

@@ -8,4 +8,5 @@ pub mod Kept
 pub mod Lengthened
 pub mod Renewed
 pub mod Replaced
+pub mod Spread
 pub mod Told

@@ -30,7 +30,8 @@ use Rattle.smk_compose.specs.declared.kept_maps.KeptMap.{KeptMap}
 use Rattle.smk_compose.specs.declared.kept_maps.Run.{Run}
 use Rattle.smk_session.specs.Answers.{is_of_table}
 use Rattle.smk_session.specs.Sessions.{opened}
-use Rattle.smk_grow.specs.Renewed.{chains, names_table, is_asked, fresh_view, moved_kept, moved_view, newer}
+use Rattle.smk_session.specs.Making.{newer}
+use Rattle.smk_grow.specs.Renewed.{chains, names_table, is_asked, fresh_view, moved_kept, moved_view}
 
 -- tables that are the same but for one
 abbrev pub SameBut : ℕ → List (List Row) → List (List Row) → Type 0

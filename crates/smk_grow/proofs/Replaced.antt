@@ -20,7 +20,8 @@ use Rattle.smk_model.specs.Session.{Workbook, view_at}
 use Rattle.smk_model.specs.Values.{Row}
 use Rattle.smk_session.specs.Extras.{backs_of, table_of, split_in, cubes_in, split_for, cubes_for}
 use Rattle.smk_session.specs.Sessions.{opened}
-use Rattle.smk_grow.specs.Renewed.{newer, replaced, put_at, fresh_view, fresh_split, fresh_cubes, if_depends}
+use Rattle.smk_session.specs.Making.{newer}
+use Rattle.smk_grow.specs.Renewed.{replaced, put_at, fresh_view, fresh_split, fresh_cubes, if_depends}
 use Rattle.smk_grow.proofs.Grown.{rel_of}
 use Rattle.smk_grow.proofs.Renewed.{SameBut, book_over, either_false, newer_is}
 

@@ -1,6 +1,5 @@
 -- What the calls say that make views, splits and groupings over a longer table.
 use Rattle.std.specs.Prelude.{◌≡◌, ◌<◌, ◌≤◌, ℕ, List, length, map, Option}
-use Rattle.smk_base.specs.CatalogImage.{catalog_image}
 use Rattle.smk_base.specs.Places.{upto}
 use Rattle.smk_base.specs.declared.workers.TheConstants.{WORKER_LIMIT}
 use Rattle.std.specs.List.{filter_map}
@@ -8,11 +7,10 @@ use Rattle.smk_model.specs.Appends.{scanning}
 use Rattle.smk_model.specs.Catalogs.{each_table_kinds}
 use Rattle.smk_model.specs.Selection.{each_kinds, row_limit}
 use Rattle.smk_model.specs.Session.{Workbook}
-use Rattle.smk_session.specs.Sessions.{AreExtras, AreOpened, SessionImage, opened_views, workbook_image}
+use Rattle.smk_session.specs.Sessions.{AreExtras, AreOpened, SessionImage, workbook_image}
 use Rattle.smk_grow.specs.Grown.{rows_of, first_tables, last_tables}
 use Rattle.smk_grow.specs.Renewed.{fresh_view, fresh_split, fresh_cubes}
 use Rattle.smk_grow.specs.declared.renewal.Renewal.{Renewal}
-use Rattle.smk_grow.specs.declared.extras.Views.{Views}
 use Rattle.smk_grow.specs.declared.renewing.Fresh.{Fresh}
 
 -- a checked book over tables of its kinds, one of which grows
@@ -32,16 +30,6 @@ first_book renewal len = workbook_image renewal.book.now (first_tables renewal.t
 
 abbrev pub last_book : Renewal → ℕ → Workbook
 last_book renewal len = workbook_image renewal.book.now (last_tables renewal.tables.now renewal.table len)
-
--- the views of a book over tables, one of which had only so many rows when they were made, and those that take their places
-pub record AreViews (views : Views) : Type 0 where
-  pub kinds : each_kinds views.tables.now ≡ each_table_kinds views.book.now.tables
-  pub table : views.table < length views.tables.now
-  pub olds : views.olds.now ≡ opened_views (workbook_image views.book.now (first_tables views.tables.now views.table views.len))
-  pub fresh : views.fresh.now ≡ map (fresh_view views.table (workbook_image views.book.now views.tables.now)) (upto (length (catalog_image views.book.now).views))
-
-abbrev pub book_in : Views → Workbook
-book_in views = workbook_image views.book.now views.tables.now
 
 -- what takes the place of what is kept over the tables without the new rows, and the views that scan the table
 pub record IsFresh (t : ℕ) (book : Workbook) (fresh : Fresh) : Type 0 where

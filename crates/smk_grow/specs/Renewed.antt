@@ -19,13 +19,10 @@ use Rattle.smk_compose.specs.declared.kept_maps.Run.{Run}
 use Rattle.smk_skip.specs.Splits.{SplitImage}
 use Rattle.smk_session.specs.Answers.{is_of_table}
 use Rattle.smk_session.specs.Extras.{split_in, cubes_in}
+use Rattle.smk_session.specs.Making.{is_wanted, newer}
 use Rattle.smk_session.specs.Sessions.{opened}
 
 -- the values, with a fresh one in the place of each for which there is one
-abbrev pub newer : {A : Type 0} → Option A → A → A
-newer (Some fresh) old = fresh
-newer None old = old
-
 abbrev pub replaced : {A : Type 0} → List (Option A) → List A → List A
 replaced [] olds = olds
 replaced (fresh ∷ more) [] = []
@@ -71,6 +68,13 @@ fresh_split t book declared = option_map (if_depends (depends_on book.catalog t 
 
 abbrev pub fresh_cubes : ℕ → Workbook → Back → Option (Option (List Relation))
 fresh_cubes t book declared = option_map (if_depends (depends_on book.catalog t declared)) (cubes_in book declared)
+
+-- the same where the table that has grown may be none
+abbrev pub split_again : Option ℕ → Workbook → Back → Option (Option SplitImage)
+split_again grown book declared = option_map (if_depends (is_wanted book.catalog grown declared)) (split_in book declared)
+
+abbrev pub cubes_again : Option ℕ → Workbook → Back → Option (Option (List Relation))
+cubes_again grown book declared = option_map (if_depends (is_wanted book.catalog grown declared)) (cubes_in book declared)
 
 -- the fault of a view, if it scans the table
 abbrev pub scan_fault : ℕ → Workbook → ℕ → Option ViewFault

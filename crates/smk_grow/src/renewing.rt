@@ -10,14 +10,14 @@ ghost use Rattle.smk_grow.specs.Renewals.{IsRenewal, IsFresh, book_of, first_boo
 ghost use Rattle.smk_grow.specs.Renewed.{apart_view, fresh_view, looks_again, looks_of_declared};
 ghost use Rattle.smk_grow.specs.Told.{added_told};
 
-use crate::extras::{FreshExtras, Views, fresh_extras};
+use crate::extras::{FreshExtras, fresh_extras};
 use crate::renewal::Renewal;
 use crate::scans::scanning_views;
 use crate::telling::added_now;
 use crate::views::each_fresh;
 use smk_base::{Rids, Text};
 use smk_outside::{Gate, Steps};
-use smk_session::{Opened, StartFault};
+use smk_session::{Opened, Opening, StartFault};
 use std::alloc::{AllocError, Global};
 use std::sync::ledger::Ledger;
 use std::thread::Threads;
@@ -31,7 +31,8 @@ pub(crate) struct Fresh {
 }
 
 // What takes the places of splits and groupings, once the views are made, with these.
-fn with_extras<L: Ledger>(
+fn with_extras<R: Threads + Sync, L: Ledger>(
+    rt: &R,
     alloc: Global,
     renewal: &Renewal<'_>,
     len: u32,
@@ -45,15 +46,14 @@ fn with_extras<L: Ledger>(
     ensures fresh { IfOk result (IsFresh renewal.now.table (book_of renewal.now)) }
     ensures looks { steps.new ≤ steps.old + sum_by (looks_of_declared renewal.now.table (book_of renewal.now)) (book_of renewal.now).catalog.backs }
 {
-    let kept = Views {
+    let opening = Opening {
         book: renewal.book,
         tables: renewal.tables,
-        table: renewal.table,
-        len,
-        olds,
+        views: olds,
         fresh: views.as_slice(),
+        grown: Some(renewal.table),
     };
-    let extras = fresh_extras(alloc, &kept, steps)?;
+    let extras = fresh_extras(rt, alloc, renewal.workers, &opening, steps)?;
     let scanning = scanning_views(alloc, renewal.book, renewal.table)?;
     Ok(Fresh {
         views,
@@ -83,7 +83,7 @@ fn renew<R: Threads + Sync, G: Gate + Sync, L: Ledger>(
     ensures looks { steps.new ≤ steps.old + sum_by (looks_again renewal.now.table (book_of renewal.now)) (upto (length (book_of renewal.now).catalog.views)) + sum_by (looks_of_declared renewal.now.table (book_of renewal.now)) (book_of renewal.now).catalog.backs }
 {
     match each_fresh(rt, alloc, gate, renewal, len, olds, apart, steps) {
-        Ok(views) => match with_extras(alloc, renewal, len, olds, views, steps) {
+        Ok(views) => match with_extras(rt, alloc, renewal, len, olds, views, steps) {
             Ok(fresh) => Ok(fresh),
             Err(_) => Err(StartFault::NoMemory),
         },
@@ -109,13 +109,12 @@ fn fresh_text<R: Threads + Sync>(
 {
     match said {
         Some(name) => {
-            let views = Views {
+            let views = Opening {
                 book: renewal.book,
                 tables: renewal.tables,
-                table: renewal.table,
-                len,
-                olds,
+                views: olds,
                 fresh: fresh.views.as_slice(),
+                grown: Some(renewal.table),
             };
             let scanning = fresh.scanning.as_slice();
             added_now(rt, alloc, renewal.workers, &views, name, rows, scanning)

@@ -5,13 +5,12 @@ ghost use Rattle.smk_base.specs.declared.workers.TheConstants.{WORKER_LIMIT};
 ghost use Rattle.smk_model.specs.AppendTexts as texts;
 ghost use Rattle.smk_model.specs.Session.{view_at};
 ghost use Rattle.smk_model.specs.ViewTexts.{text_of_view};
-ghost use Rattle.smk_grow.specs.Renewals.{AreViews, book_in};
+ghost use Rattle.smk_session.specs.Making.{IsOpened, book_in};
 
-use crate::extras::{Views, view_now};
 use crate::said::added_line;
 use smk_base::Text;
 use smk_report::view_text_in_pieces;
-use smk_session::view_of;
+use smk_session::{Opening, view_now, view_of};
 use std::alloc::{AllocError, Global};
 use std::thread::Threads;
 
@@ -21,12 +20,12 @@ fn with_view_now<R: Threads + Sync>(
     alloc: Global,
     workers: u32,
     front: Vec<u8>,
-    views: &Views<'_>,
+    views: &Opening<'_>,
     v: u32,
 ) -> Result<Vec<u8>, AllocError>
     requires some_workers { 1 ≤ workers }
     requires few_workers { workers ≤ WORKER_LIMIT }
-    requires views { AreViews views.now }
+    requires views { IsOpened views.now }
     requires view { v < length views.now.book.now.views }
     ensures { IfOk result (λ text. text.items ≡ front.items ++ text_of_view (book_in views.now) (view_at (book_in views.now).catalog v)) }
 {
@@ -44,12 +43,12 @@ fn with_views_now<R: Threads + Sync>(
     alloc: Global,
     workers: u32,
     front: Vec<u8>,
-    views: &Views<'_>,
+    views: &Opening<'_>,
     scanning: &[u32],
 ) -> Result<Vec<u8>, AllocError>
     requires some_workers { 1 ≤ workers }
     requires few_workers { workers ≤ WORKER_LIMIT }
-    requires views { AreViews views.now }
+    requires views { IsOpened views.now }
     requires scanning { All (λ v. v < length views.now.book.now.views) scanning.now }
     ensures { IfOk result (λ text. text.items ≡ front.items ++ flat_map (λ v. text_of_view (book_in views.now) (view_at (book_in views.now).catalog v)) scanning.now) }
 {
@@ -65,14 +64,14 @@ pub(crate) fn added_now<R: Threads + Sync>(
     rt: &R,
     alloc: Global,
     workers: u32,
-    views: &Views<'_>,
+    views: &Opening<'_>,
     table: &Text,
     rows: u32,
     scanning: &[u32],
 ) -> Result<Vec<u8>, AllocError>
     requires some_workers { 1 ≤ workers }
     requires few_workers { workers ≤ WORKER_LIMIT }
-    requires views { AreViews views.now }
+    requires views { IsOpened views.now }
     requires scanning { All (λ v. v < length views.now.book.now.views) scanning.now }
     ensures { IfOk result (λ text. text.items ≡ texts.added_text (book_in views.now) table.now rows scanning.now) }
 {

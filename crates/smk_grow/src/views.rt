@@ -11,11 +11,10 @@ ghost use Rattle.smk_grow.specs.Renewed.{apart_view, chains, fresh_view, moved_k
 
 use crate::chained::grown_view;
 use crate::renewal::Renewal;
-use crate::scans::view_scans;
 use smk_compose::{KeptMap, Kepts, Run};
 use smk_outside::{Gate, Steps};
 use smk_rid::RidMap;
-use smk_session::{Opened, StartFault, open_view};
+use smk_session::{Opened, StartFault, open_view, view_scans};
 use std::alloc::{AllocError, Global};
 use std::sync::ledger::Ledger;
 use std::thread::Threads;

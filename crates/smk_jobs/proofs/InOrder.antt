@@ -1,5 +1,5 @@
 -- Results of jobs, in order.
-use Rattle.std.proofs.Common.{◌≡◌, ◌∙◌, ℕ, suc, ◌+◌, ◌<◌, List, [], ◌∷◌, ◌++◌, Result, Ok, Err, length, take, drop, get_or, ap, sym, refl, subst, arith, drop-cons, take-append-drop, append-nil, length-append, IfOk, IfErr, ◌⊎◌, inl, inr}
+use Rattle.std.proofs.Common.{◌≡◌, ◌∙◌, ℕ, suc, ◌+◌, ◌<◌, List, [], ◌∷◌, ◌++◌, Result, Ok, Err, length, take, drop, get_or, ap, sym, refl, subst, arith, drop-cons, take-append-drop, append-nil, length-append, IfOk, IfErr, ◌⊎◌, inl, inr, All}
 use Rattle.std.specs.List.{AllZip}
 use Rattle.std.proofs.lemmas.List.{take_more, append_assoc, get_or_append_left, get_or-append-add}
 use Rattle.std.proofs.lemmas.Slice.Zip.{all_zipped_more}
@@ -68,6 +68,12 @@ front_at xs ys zs k d is low = (sym (get_or_append_left xs ys d k low) ∙ ap (�
 
 pub back_at : {A : Type 0} (xs ys zs : List A) (k : ℕ) (d : A) → xs ++ ys ≡ zs → k < length ys → (get_or ys k d ≡ get_or zs (length xs + k) d) × (length xs + k < length zs)
 back_at xs ys zs k d is low = (sym (get_or-append-add xs ys k d) ∙ ap (λ l. get_or l (length xs + k) d) is, omega (arith, low, length-append xs ys, ap (λ l. length l) is))
+
+pub all_front : {A : Type 0} (P : A → Type 0) (xs ys zs : List A) → xs ++ ys ≡ zs → All P zs → All P xs
+all_front P xs ys zs is all = λ k d low. let at = front_at xs ys zs k d is low in rw at.0 (all k d at.1)
+
+pub all_back : {A : Type 0} (P : A → Type 0) (xs ys zs : List A) → xs ++ ys ≡ zs → All P zs → All P ys
+all_back P xs ys zs is all = λ k d low. let at = back_at xs ys zs k d is low in rw at.0 (all (length xs + k) d at.1)
 
 -- the values of a group, or its first fault, by its results
 

@@ -60,6 +60,19 @@ fn add_group<
     put_all(all, results)
 }
 
+/// All the jobs that wait, if they are `most` or more, and else none. The others go on waiting.
+pub fn due<J: Drop>(alloc: Global, most: u32, waiting: &mut Vec<J>) -> Vec<J>
+    ensures jobs { result.items ++ waiting.new.items ≡ waiting.old.items }
+    ensures none { length waiting.old.items < most → result.items ≡ [] }
+    ensures all { most ≤ length waiting.old.items → waiting.new.items ≡ [] }
+{
+    if waiting.len() < most as usize {
+        Vec::new(alloc)
+    } else {
+        mem::replace(waiting, Vec::new(alloc))
+    }
+}
+
 /// Does each job by a call of `f`: the values in the jobs' order, or the first fault in that order, or what want of memory gives.
 ///
 /// The jobs are cut into groups of `most`, the last of what is left. The jobs of a group may run at once, each in a thread of its own; a job that is alone in its group runs in this thread. A group is done to its end, and none begins after one with a fault.

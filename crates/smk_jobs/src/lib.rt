@@ -3,4 +3,4 @@
 
 mod jobs;
 
-pub use jobs::each_or_first;
+pub use jobs::{due, each_or_first};

@@ -1,8 +1,7 @@
 -- What is kept for the declarations, one after the other, and where it is found.
-use Rattle.std.proofs.Common.{◌≡◌, ◌≢◌, ℕ, zero, suc, ◌+◌, ◌<◌, ◌≤◌, Bool, true, false, ◌&&◌, ◌||◌, cond, List, [], ◌∷◌, ◌++◌, length, take, get_or, refl, ap, sym, ◌∙◌, subst, arith, nat_eq, Option, Some, None, Result, Ok, Err, ok_or, option_map, is_some, slice_get, All, inl, inr, append_assoc, append-nil, take_all}
+use Rattle.std.proofs.Common.{◌≡◌, ℕ, zero, suc, ◌+◌, ◌<◌, ◌≤◌, Bool, true, false, ◌&&◌, ◌||◌, cond, List, [], ◌∷◌, ◌++◌, length, take, get_or, refl, ap, sym, ◌∙◌, subst, arith, nat_eq, Option, Some, None, Ok, Err, ok_or, option_map, is_some, slice_get, All, inl, inr, append_assoc, append-nil, take_all}
 use Rattle.std.specs.List.{AllZip, cons_option, filter, filter_map, list_any, position_or_len, sum_by}
 use Rattle.std.specs.Option.{option_or, option_to_list}
-use Rattle.std.specs.declared.alloc.AllocError.{AllocError}
 use Rattle.std.proofs.lemmas.Bool.{cases_Bool, eq-eqb, eqb-true, false≢true}
 use Rattle.std.proofs.lemmas.List.{get_or-map, length-map, map-append, take_more}
 use Rattle.std.proofs.lemmas.List.Elements.{All-head, All-tail, filter_map-append}
@@ -20,22 +19,48 @@ use Rattle.smk_base.specs.declared.catalog.TableInfo.{TableInfo}
 use Rattle.smk_base.specs.declared.reply.Refusal.TheVariants.{Undeclared}
 use Rattle.smk_base.specs.declared.value.Kind.{Kind}
 use Rattle.smk_model.specs.Catalogs.{BackFits, ExtraFits, GroupingFits, IsCatalog, table_kinds}
-use Rattle.smk_model.specs.Looks.{looks_of_extra}
+use Rattle.smk_model.specs.Looks.{looks_of_back}
 use Rattle.smk_model.specs.Opening.{first_some}
 use Rattle.smk_model.specs.Replies.{Grouped, first_grouping, grouping_in, is_by, is_split}
 use Rattle.smk_model.specs.Session.{Workbook, view_at}
 use Rattle.smk_model.specs.Typing.{info_at}
 use Rattle.smk_model.specs.Workload.{is_back, is_link}
+use Rattle.smk_model.proofs.Places.{get_or_map_upto}
 use Rattle.smk_compose.specs.declared.kept_maps.Run.{Run}
 use Rattle.smk_skip.specs.Splits.{SplitImage}
 use Rattle.smk_session.specs.Answers.{kept_back}
 use Rattle.smk_session.specs.Extras.{backs_of, split_on, cubes_on, split_for, cubes_for, split_in, cubes_in, asks_split, asks_groups, split_place, cubes_place}
-use Rattle.smk_session.specs.Making.{IsDeclared, MakesAs, declared_in}
-use Rattle.smk_session.specs.Sessions.{AreOpened, workbook_image}
+use Rattle.smk_session.specs.Making.{AreNow, IsDeclared, IsMade, cubes_wanted, declared_in, looks_wanted, newer, split_wanted}
+use Rattle.smk_session.specs.Sessions.{AreOpened, opened, workbook_image}
 use Rattle.smk_session.specs.declared.making.Asked.{Asked}
 use Rattle.smk_session.specs.declared.making.Made.{Made}
 use Rattle.smk_session.proofs.KeptOf.{kept_back_is}
-use Rattle.smk_session.proofs.Opened.{run_is}
+use Rattle.smk_session.proofs.Opened.{views_long}
+
+-- a view whose place is taken
+pub now_fresh : (fresh : List (Option Run)) (views : List Run) (v : ℕ) (run : Run) → get_or fresh v None ≡ Some run → newer (get_or fresh v None) (get_or views v run) ≡ run
+now_fresh fresh views v run at = ap (λ (o : Option Run). newer o (get_or views v run)) at
+
+-- views none of whose places are taken
+pub just_opened : (catalog : Catalog) (tables : List Relation) (views : List Run) → AreOpened catalog tables views → AreNow catalog tables views []
+just_opened catalog tables views o = record {
+  kinds = o.kinds;
+  long = views_long catalog tables views o;
+  views_are = λ v run low.
+      let below : v < length (catalog_image catalog).views = omega (arith, low, length-map catalog.views view_image) in
+      ap (λ (runs : List Run). get_or runs v run) o.views_are ∙ get_or_map_upto (opened (workbook_image catalog tables)) (length (catalog_image catalog).views) v run below;
+}
+
+-- what a start makes is all that is asked for
+
+pub splits_whole : (book : Workbook) (grown : Option ℕ) → grown ≡ None → split_wanted book grown ≡ split_in book
+splits_whole book grown is = ap (split_wanted book) is
+
+pub cubes_whole : (book : Workbook) (grown : Option ℕ) → grown ≡ None → cubes_wanted book grown ≡ cubes_in book
+cubes_whole book grown is = ap (cubes_wanted book) is
+
+pub looks_whole : (book : Workbook) (grown : Option ℕ) → grown ≡ None → looks_wanted book grown ≡ looks_of_back book
+looks_whole book grown is = ap (looks_wanted book) is
 
 -- each declaration of a checked book is declared by it
 
@@ -48,14 +73,13 @@ is_declared catalog i d checked low =
       declares = ap (λ b. b || list_any (is_link declared.view declared.table) catalog.links) (list_any_at (is_back declared.view declared.table) catalog.backs i d low own);
     }
 
--- so its lineage is kept
+-- the lineage of a declaration is kept
 
-pub declared_kept : (catalog : Catalog) (tables : List Relation) (views : List Run) (declared : Back) (run : Run) → AreOpened catalog tables views → IsDeclared catalog declared → run ≡ get_or views declared.view run
+pub declared_kept : (catalog : Catalog) (tables : List Relation) (declared : Back) (run : Run) → IsDeclared catalog declared → run ≡ opened (workbook_image catalog tables) declared.view
     → kept_back run.kept declared.table ≡ Ok (backs_of (workbook_image catalog tables) declared.view declared.table)
-declared_kept catalog tables views declared run o d is =
+declared_kept catalog tables declared run d is =
     let book : Workbook = workbook_image catalog tables in
-    let low : declared.view < length catalog.views = omega (arith, d.fits.view, length-map catalog.views view_image) in
-    ap (λ (r : Run). kept_back r.kept declared.table) (run_is catalog tables views declared.view run o low is)
+    ap (λ (r : Run). kept_back r.kept declared.table) is
     ∙ kept_back_is book.catalog (view_at book.catalog declared.view).plan book.tables declared.view declared.table d.fits.table
     ∙ ap (λ (b : Bool). cond b (Ok (backs_of book declared.view declared.table)) (Err Undeclared)) d.declares
 
@@ -98,9 +122,9 @@ looks_within f xs all i start before after x are low is so_far here =
 
 -- what waits, once one declaration more does, or asks for nothing
 
-pub kept_waiting : {Y : Type 0} (h : Back → Option Y) (xs : List Back) (i : ℕ) (x : Back) (front : List Y) (before after : List Asked) (asked : Asked) → i < length xs → x ≡ get_or xs i x
-    → front ++ filter_map h (declared_in before) ≡ filter_map h (take i xs) → after ≡ before ++ asked ∷ [] → asked.declared.now ≡ x → front ++ filter_map h (declared_in after) ≡ filter_map h (take (i + 1) xs)
-kept_waiting h xs i x front before after asked low is are pushed same =
+pub kept_waiting : {Y : Type 0} (h w : Back → Option Y) (xs : List Back) (i : ℕ) (x : Back) (front : List Y) (before after : List Asked) (asked : Asked) → i < length xs → x ≡ get_or xs i x
+    → front ++ filter_map h (declared_in before) ≡ filter_map w (take i xs) → after ≡ before ++ asked ∷ [] → asked.declared.now ≡ x → h x ≡ w x → front ++ filter_map h (declared_in after) ≡ filter_map w (take (i + 1) xs)
+kept_waiting h w xs i x front before after asked low is are pushed same wanted =
     let waiting = filter_map h (declared_in before) in
     ap (λ l. front ++ filter_map h (declared_in l)) pushed
     ∙ ap (λ l. front ++ filter_map h l) (map-append (λ (a : Asked). a.declared.now) before (asked ∷ []))
@@ -108,7 +132,24 @@ kept_waiting h xs i x front before after asked low is are pushed same =
     ∙ ap (λ l. front ++ (waiting ++ l)) (one_kept h asked.declared.now)
     ∙ sym (append_assoc front waiting (option_to_list (h asked.declared.now)))
     ∙ ap (λ d. (front ++ waiting) ++ option_to_list (h d)) same
-    ∙ kept_next h xs i x (front ++ waiting) ((front ++ waiting) ++ option_to_list (h x)) low is are refl
+    ∙ ap (λ o. (front ++ waiting) ++ option_to_list o) wanted
+    ∙ kept_next w xs i x (front ++ waiting) ((front ++ waiting) ++ option_to_list (w x)) low is are refl
+
+-- what is wanted is what is asked for
+
+pub want_kept : {A : Type 0} (b : Bool) (o : Option A) → b ≡ true → o ≡ cond b o None
+want_kept true o h = refl
+want_kept false o h = absurd (false≢true h)
+
+-- and once those that are due are made
+pub kept_due : {Y : Type 0} (h : Back → Option Y) (front put all : List Y) (due rest waiting : List Asked) → due ++ rest ≡ waiting → put ≡ front ++ filter_map h (declared_in due) → front ++ filter_map h (declared_in waiting) ≡ all
+    → put ++ filter_map h (declared_in rest) ≡ all
+kept_due h front put all due rest waiting cut is are =
+    ap (λ l. l ++ filter_map h (declared_in rest)) is
+    ∙ append_assoc front (filter_map h (declared_in due)) (filter_map h (declared_in rest))
+    ∙ ap (λ l. front ++ l) (sym (filter_map-append h (declared_in due) (declared_in rest)) ∙ ap (filter_map h) (sym (map-append (λ (a : Asked). a.declared.now) due rest)))
+    ∙ ap (λ l. front ++ filter_map h (declared_in l)) cut
+    ∙ are
 
 pub kept_none : {Y : Type 0} (h : Back → Option Y) (xs : List Back) (i : ℕ) (x : Back) (all : List Y) → i < length xs → x ≡ get_or xs i x → all ≡ filter_map h (take i xs) → h x ≡ None → all ≡ filter_map h (take (i + 1) xs)
 kept_none h xs i x all low is are none =
@@ -116,14 +157,14 @@ kept_none h xs i x all low is are none =
 
 -- what is made of the declarations that wait, one after the other
 
-pub made_at : (book : Workbook) (all : List Asked) (made : List (Result Made AllocError)) (n : ℕ) (r : Result Made AllocError) → AllZip (MakesAs book) all made → n < length made → r ≡ get_or made n r
-    → (asked : Asked) × (n < length all) × (asked ≡ get_or all n asked) × MakesAs book asked r
-made_at book [] [] n r zip low is = absurd (omega (arith, low))
-made_at book [] (m ∷ ms) n r zip low is = absurd zip
-made_at book (a ∷ more) [] n r zip low is = absurd zip
-made_at book (a ∷ more) (m ∷ ms) zero r zip low is = (a, omega arith, refl, subst (MakesAs book a) (sym is) zip.0)
-made_at book (a ∷ more) (m ∷ ms) (suc n) r zip low is =
-    let rest = made_at book more ms n r zip.1 (omega (arith, low)) is in
+pub made_at : (book : Workbook) (all : List Asked) (made : List Made) (n : ℕ) (one : Made) → AllZip (IsMade book) all made → n < length made → one ≡ get_or made n one
+    → (asked : Asked) × (n < length all) × (asked ≡ get_or all n asked) × IsMade book asked one
+made_at book [] [] n one zip low is = absurd (omega (arith, low))
+made_at book [] (m ∷ ms) n one zip low is = absurd zip
+made_at book (a ∷ more) [] n one zip low is = absurd zip
+made_at book (a ∷ more) (m ∷ ms) zero one zip low is = (a, omega arith, refl, subst (IsMade book a) (sym is) zip.0)
+made_at book (a ∷ more) (m ∷ ms) (suc n) one zip low is =
+    let rest = made_at book more ms n one zip.1 (omega (arith, low)) is in
     (rest.0, omega (arith, rest.1), rest.2, rest.3)
 
 pub kept_put : {Y : Type 0} (h : Back → Option Y) (all : List Asked) (n : ℕ) (asked : Asked) (put : Option Y) (old before after : List Y) → n < length all → asked ≡ get_or all n asked
@@ -139,16 +180,10 @@ kept_put h all n asked put old before after low is are made pushed =
     ∙ ap (λ o. old ++ (filter_map h (take n declared) ++ option_to_list o)) made
     ∙ ap (λ l. old ++ l) (kept_next h declared n asked.declared.now (filter_map h (take n declared)) _ long same refl refl)
 
-pub kept_all : {Y : Type 0} (book : Workbook) (h : Back → Option Y) (all : List Asked) (made : List (Result Made AllocError)) (n : ℕ) (old after : List Y) → AllZip (MakesAs book) all made → n ≡ length made
+pub kept_all : {Y : Type 0} (book : Workbook) (h : Back → Option Y) (all : List Asked) (made : List Made) (n : ℕ) (old after : List Y) → AllZip (IsMade book) all made → n ≡ length made
     → after ≡ old ++ filter_map h (take n (declared_in all)) → after ≡ old ++ filter_map h (declared_in all)
 kept_all book h all made n old after zip whole are =
-    are ∙ ap (λ l. old ++ filter_map h l) (take_all n (declared_in all) (omega (arith, whole, AllZip-long (MakesAs book) all made zip, length-map all (λ (a : Asked). a.declared.now))))
-
--- what asks for more than rows looks at each row of its table
-pub looks_of_more : (extra : BackExtra) (rows : ℕ) → extra ≢ extras.Plain → looks_of_extra extra rows ≡ rows
-looks_of_more extras.Plain rows more = absurd (more refl)
-looks_of_more (extras.By column) rows more = refl
-looks_of_more (extras.Grouped keys aggs names kinds) rows more = refl
+    are ∙ ap (λ l. old ++ filter_map h l) (take_all n (declared_in all) (omega (arith, whole, AllZip-long (IsMade book) all made zip, length-map all (λ (a : Asked). a.declared.now))))
 
 -- what is kept for the first declaration that passes, at its place among those that ask for it
 

@@ -46,13 +46,14 @@ fn keep_beside<R: Threads + Sync, G: Gate + Sync, L: Ledger>(
     opened: &Opening<'_>,
     steps: &mut Steps<L>,
 ) -> Result<Beside, AllocError>
-    requires { IsOpened opened.now }
+    requires opened { IsOpened opened.now }
+    requires whole { opened.now.grown ≡ None }
     ensures extras { IfOk result (λ made. AreExtras opened.now.book.now opened.now.tables.now made.extras.splits.items made.extras.cubes.items) }
     ensures contents { IfOk result (λ made. made.contents.items ≡ map (λ w. None) (upto (length opened.now.views.now))) }
     ensures looks { steps.new ≤ steps.old + sum_by (looks_of_back (book_in opened.now)) opened.now.book.now.backs }
 {
     let contents = no_contents(work.alloc, opened.views.len())?;
-    let extras = make_extras(work, opened, steps)?;
+    let extras = make_extras(work.rt, work.alloc, work.crew.workers, opened, steps)?;
     Ok(Beside { extras, contents })
 }
 
@@ -74,9 +75,11 @@ pub(crate) fn begin<R: Threads + Sync, G: Gate + Sync, L: Ledger>(
 {
     let views = open_views(work, mode, book, tables, steps)?;
     let opened = Opening {
-        book: book.catalog(),
+        book,
         tables,
         views: views.as_slice(),
+        fresh: &[],
+        grown: None,
     };
     let beside = keep_beside(work, &opened, steps)?;
     Ok(Begun {

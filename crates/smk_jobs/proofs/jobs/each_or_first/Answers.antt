@@ -1,5 +1,5 @@
-use Rattle.std.proofs.Common.{alloc_error, length, ◌+◌}
-use Rattle.smk_jobs.proofs.InOrder.{back_at, group_more, group_told}
+use Rattle.std.proofs.Common.{alloc_error}
+use Rattle.smk_jobs.proofs.InOrder.{all_back, group_more, group_told}
 use Rattle.std.proofs.lemmas.Result.{err_from_is_err_and}
 use Rattle.smk_jobs.specs.contracts.jobs.each_or_first.F-Fn.{words}
 use Rattle.smk_jobs.proofs.jobs.each_or_first.Goals as goal
@@ -12,9 +12,7 @@ loop-rest-preserved g c =
     let cut = c.in_ok-group.ensures.jobs in
     let put = c.in_ok-add_group.ensures.all in
     record {
-      jobs = λ k d low.
-          let at = back_at group later rest k d cut low in
-          rw at.0 (c.loop-rest.invariant.jobs (length group + k) d at.1);
+      jobs = all_back ((words g.row.R g.row.J g.row.T g.row.E g.row.F g.F.Fn).pre c.args.f.now) group later rest cut c.loop-rest.invariant.jobs;
       done = group_more _ c.args.jobs.items rest later group c.loop-rest.all.items c.add_group.new.all.items put.0 c.loop-rest.invariant.done cut put.1 put.2;
     }
 
