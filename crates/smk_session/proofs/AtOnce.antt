@@ -1,25 +1,20 @@
--- What views that are opened at once are, and the first fault among them.
-use Rattle.std.proofs.Common.{◌≡◌, ◌≢◌, ◌∙◌, ℕ, suc, ◌+◌, ◌<◌, List, [], ◌∷◌, ◌++◌, Result, Ok, Err, IfOk, IfErr, OnOk, length, map, take, drop, get_or, ap, sym, refl, subst, arith, Option, Some, None, drop-cons, take-append-drop}
+-- What views are opened as, so many at once, and the first fault among them.
+use Rattle.std.proofs.Common.{◌≡◌, ◌∙◌, ℕ, suc, zero, ◌+◌, ◌≤◌, List, [], ◌∷◌, ◌++◌, Result, Ok, Err, IfOk, IfErr, OnOk, map, ap, sym, refl, subst, arith, Option, None, inl, inr, ◌⊎◌}
 use Rattle.std.specs.List.{AllZip}
 use Rattle.std.specs.Option.{option_or}
-use Rattle.std.proofs.lemmas.List.{take_more, map-append}
-use Rattle.smk_base.specs.CatalogImage.{catalog_image}
+use Rattle.std.proofs.lemmas.Bool.{cases_lt}
+use Rattle.std.proofs.lemmas.List.{append_assoc, map-append}
 use Rattle.smk_base.specs.Places.{upto}
-use Rattle.smk_base.specs.Rels.{Relation}
-use Rattle.smk_base.specs.declared.catalog.Catalog.{Catalog}
-use Rattle.smk_model.specs.Catalogs.{IsCatalog, each_table_kinds}
-use Rattle.smk_model.specs.Names.{◌>>=◌}
-use Rattle.smk_model.specs.Opening.{ViewFault, view_fault, first_some, first_view_fault}
-use Rattle.smk_model.specs.Selection.{each_kinds}
+use Rattle.smk_model.specs.Opening.{ViewFault, view_fault, first_some}
 use Rattle.smk_model.specs.Session.{Workbook}
-use Rattle.smk_model.specs.Tables.{all_or_first}
-use Rattle.smk_model.proofs.InOrder.{then_value, then_fault}
 use Rattle.smk_compose.specs.declared.kept_maps.Run.{Run}
-use Rattle.smk_session.specs.Openings.{OpensAs, views_of}
-use Rattle.smk_session.specs.Sessions.{AreOpened, IsStartFault, opened, workbook_image}
+use Rattle.smk_jobs.specs.Jobs.{FirstFault}
+use Rattle.smk_session.specs.Openings.{Opens, OpensAs, faults_of, views_of}
+use Rattle.smk_session.specs.Sessions.{IsStartFault, opened}
 use Rattle.smk_session.specs.declared.fault.StartFault.{StartFault}
 use Rattle.smk_session.specs.declared.fault.StartFault.TheVariants.{Rows, Pairs, NoMemory}
 use Rattle.smk_session.specs.declared.opening.Stocked.{Stocked}
+use Rattle.smk_session.proofs.Starts.{first_append, first_more}
 
 -- what a view is opened as, by the clauses on one result
 pub opening_made : (book : Workbook) (stocked : Stocked) (made : Result Run StartFault) → IfOk made (λ run. run ≡ opened book stocked.view) → OnOk made (view_fault book stocked.view ≡ None)
@@ -27,74 +22,83 @@ pub opening_made : (book : Workbook) (stocked : Stocked) (made : Result Run Star
 opening_made book stocked (Ok run) is none fault = record { run = is; none = none }
 opening_made book stocked (Err e) is none fault = fault
 
--- one view more
-pub views_more : (before after : List Stocked) (stocked : Stocked) (n : ℕ) → after ≡ before ++ stocked ∷ [] → views_of before ≡ upto n → stocked.view ≡ n → views_of after ≡ upto (n + 1)
-views_more before after stocked n pushed are is =
+-- of several views
+
+pub runs_are : (book : Workbook) (stocked : List Stocked) (runs : List Run) → AllZip (λ (s : Stocked) run. Opens book s.view run) stocked runs → (runs ≡ map (opened book) (views_of stocked)) × (faults_of book stocked ≡ None)
+runs_are book [] [] all = (refl, refl)
+runs_are book [] (run ∷ runs) all = absurd all
+runs_are book (s ∷ ss) [] all = absurd all
+runs_are book (s ∷ ss) (run ∷ runs) all =
+    let rest = runs_are book ss runs all.1 in
+    (ap (λ r. r ∷ runs) all.0.run ∙ ap (λ l. opened book s.view ∷ l) rest.0, rw (all.0.none) rest.1)
+
+fault_front : (e : StartFault) (first rest : Option ViewFault) → IsStartFault e first → IsStartFault e (option_or first rest)
+fault_front (Rows view node) first rest h = rw h refl
+fault_front (Pairs view node table) first rest h = rw h refl
+fault_front NoMemory first rest h = tt
+
+fault_is : (book : Workbook) (stocked : List Stocked) (e : StartFault) → FirstFault {T = Run} (OpensAs book) stocked e → IsStartFault e (faults_of book stocked)
+fault_is book [] e first = absurd first
+fault_is book (s ∷ ss) e (Ok run, opens, first) = rw (opens.none) (fault_is book ss e first)
+fault_is book (s ∷ ss) e (Err f, opens, same) = fault_front e (view_fault book s.view) (faults_of book ss) (subst (λ x. IsStartFault x (view_fault book s.view)) same opens)
+
+pub fault_among : (book : Workbook) (stocked : List Stocked) (e : StartFault) → FirstFault {T = Run} (OpensAs book) stocked e ⊎ (e ≡ NoMemory) → IsStartFault e (faults_of book stocked)
+fault_among book stocked e (inl first) = fault_is book stocked e first
+fault_among book stocked e (inr none) = subst (λ x. IsStartFault x (faults_of book stocked)) (sym none) tt
+
+-- the fault of the first views is the first of all
+
+pub fault_stays : (e : StartFault) (value : ℕ → Option ViewFault) (i n : ℕ) → i ≤ n → IsStartFault e (first_some value (upto i)) → IsStartFault e (first_some value (upto n))
+fault_stays e value i zero within h = let is : i ≡ zero = omega (arith, within) in subst (λ m. IsStartFault e (first_some value (upto m))) is h
+fault_stays e value i (suc n) within h = elim (cases_lt n i) [
+  | inl above ↦ (let is : i ≡ suc n = omega (arith, within, above) in subst (λ m. IsStartFault e (first_some value (upto m))) is h)
+  | inr below ↦ rw (first_more value n) (fault_front e (first_some value (upto n)) (value n) (fault_stays e value i n (omega (arith, below)) h))
+]
+
+-- those that wait, once those that are due are opened
+
+views_joined : (due rest waiting : List Stocked) → due ++ rest ≡ waiting → views_of waiting ≡ views_of due ++ views_of rest
+views_joined due rest waiting cut = ap views_of (sym cut) ∙ map-append (λ (s : Stocked). s.view) due rest
+
+faults_joined : (book : Workbook) (due rest waiting : List Stocked) → due ++ rest ≡ waiting → faults_of book waiting ≡ option_or (faults_of book due) (faults_of book rest)
+faults_joined book due rest waiting cut = ap (first_some (view_fault book)) (views_joined due rest waiting cut) ∙ first_append (view_fault book) (views_of due) (views_of rest)
+
+pub opened_due : (book : Workbook) (n : ℕ) (before made after : List Run) (due rest waiting : List Stocked) → due ++ rest ≡ waiting → made ≡ map (opened book) (views_of due) → after ≡ before ++ made
+    → before ++ map (opened book) (views_of waiting) ≡ map (opened book) (upto n) → after ++ map (opened book) (views_of rest) ≡ map (opened book) (upto n)
+opened_due book n before made after due rest waiting cut is put are =
+    ap (λ l. l ++ map (opened book) (views_of rest)) (put ∙ ap (λ l. before ++ l) is)
+    ∙ append_assoc before (map (opened book) (views_of due)) (map (opened book) (views_of rest))
+    ∙ ap (λ l. before ++ l) (sym (map-append (opened book) (views_of due) (views_of rest)) ∙ ap (map (opened book)) (sym (views_joined due rest waiting cut)))
+    ∙ are
+
+pub none_due : (book : Workbook) (n : ℕ) (due rest waiting : List Stocked) → due ++ rest ≡ waiting → faults_of book due ≡ None → first_some (view_fault book) (upto n) ≡ faults_of book waiting → first_some (view_fault book) (upto n) ≡ faults_of book rest
+none_due book n due rest waiting cut none so_far = so_far ∙ faults_joined book due rest waiting cut ∙ ap (λ o. option_or o (faults_of book rest)) none
+
+pub fault_due : (book : Workbook) (i n : ℕ) (e : StartFault) (due rest waiting : List Stocked) → i ≤ n → due ++ rest ≡ waiting → first_some (view_fault book) (upto i) ≡ faults_of book waiting → IsStartFault e (faults_of book due)
+    → IsStartFault e (first_some (view_fault book) (upto n))
+fault_due book i n e due rest waiting within cut so_far h =
+    fault_stays e (view_fault book) i n within (rw (so_far, faults_joined book due rest waiting cut) (fault_front e (faults_of book due) (faults_of book rest) h))
+
+-- and one view more
+
+pub opened_more : (book : Workbook) (n : ℕ) (made : List Run) (before after : List Stocked) (stocked : Stocked) → after ≡ before ++ stocked ∷ [] → stocked.view ≡ n → made ++ map (opened book) (views_of before) ≡ map (opened book) (upto n)
+    → made ++ map (opened book) (views_of after) ≡ map (opened book) (upto (n + 1))
+opened_more book n made before after stocked pushed is are =
     let e : n + 1 ≡ suc n = omega arith in
-    rw (e, pushed) (map-append (λ (s : Stocked). s.view) before (stocked ∷ []) ∙ ap (λ l. l ++ stocked.view ∷ []) are ∙ ap (λ v. upto n ++ v ∷ []) is)
+    let last = opened book n ∷ [] in
+    let views : views_of after ≡ views_of before ++ n ∷ [] = ap views_of pushed ∙ map-append (λ (s : Stocked). s.view) before (stocked ∷ []) ∙ ap (λ v. views_of before ++ v ∷ []) is in
+    rw (e, views) (
+    ap (λ l. made ++ l) (map-append (opened book) (views_of before) (n ∷ []))
+    ∙ sym (append_assoc made (map (opened book) (views_of before)) last)
+    ∙ ap (λ l. l ++ last) are
+    ∙ sym (map-append (opened book) (upto n) (n ∷ [])))
 
--- the values so far, one value more, and the first fault
-
-pub all_more : {A E : Type 0} (rs : List (Result A E)) (n : ℕ) (r : Result A E) (xs : List A) (x : A) → n < length rs → r ≡ get_or rs n r → all_or_first (take n rs) ≡ Ok xs → r ≡ Ok x → all_or_first (take (n + 1) rs) ≡ Ok (xs ++ x ∷ [])
-all_more rs n r xs x low at so_far is = ap all_or_first (take_more rs n r low ∙ ap (λ q. take n rs ++ q ∷ []) (sym at)) ∙ then_value (take n rs) r xs x so_far is
-
-pub first_stays : {A E : Type 0} (rs : List (Result A E)) (n : ℕ) (r : Result A E) (xs : List A) (e : E) → n < length rs → r ≡ get_or rs n r → all_or_first (take n rs) ≡ Ok xs → r ≡ Err e → all_or_first rs ≡ Err e
-first_stays rs n r xs e low at so_far is =
-    ap all_or_first (sym (take-append-drop n rs) ∙ ap (λ l. take n rs ++ l) (drop-cons rs n r low ∙ ap (λ q. q ∷ drop (suc n) rs) (sym at)))
-    ∙ then_fault (take n rs) r (drop (suc n) rs) xs e so_far is
-
--- the first fault of views, one after the other
-
-fault_here : (e : StartFault) (first rest : Option ViewFault) → IsStartFault e first → IsStartFault e (option_or first rest)
-fault_here (Rows view node) first rest h = rw h refl
-fault_here (Pairs view node table) first rest h = rw h refl
-fault_here NoMemory first rest h = tt
-
-then_ok : {A E : Type 0} (rest : Result (List A) E) (x : A) (all : List A) → ◌>>=◌ rest (λ xs. Ok (x ∷ xs)) ≡ Ok all → (xs : List A) × (rest ≡ Ok xs) × (all ≡ x ∷ xs)
-then_ok (Ok xs) x all h = (xs, refl, cc)
-then_ok (Err e) x all h = cc
-
-then_err : {A E : Type 0} (rest : Result (List A) E) (x : A) (e : E) → ◌>>=◌ rest (λ xs. Ok (x ∷ xs)) ≡ Err e → rest ≡ Err e
-then_err (Ok xs) x e h = cc
-then_err (Err f) x e h = cc
-
-abbrev fault_among : Workbook → List Stocked → Option ViewFault
-fault_among book stocked = first_some (view_fault book) (views_of stocked)
-
-runs_are : (book : Workbook) (stocked : List Stocked) (made : List (Result Run StartFault)) (runs : List Run) → AllZip (OpensAs book) stocked made → all_or_first made ≡ Ok runs → (runs ≡ map (opened book) (views_of stocked)) × (fault_among book stocked ≡ None)
-runs_are book [] [] runs all h = (cc, refl)
-runs_are book [] (m ∷ ms) runs all h = absurd all
-runs_are book (s ∷ ss) [] runs all h = absurd all
-runs_are book (s ∷ ss) (Err e ∷ ms) runs all h = cc
-runs_are book (s ∷ ss) (Ok run ∷ ms) runs all h =
-    let at = then_ok (all_or_first ms) run runs h in
-    let rest = runs_are book ss ms at.0 all.1 at.1 in
-    (at.2 ∙ ap (λ r. r ∷ at.0) all.0.run ∙ ap (λ l. opened book s.view ∷ l) rest.0, rw (all.0.none) rest.1)
-
-fault_is : (book : Workbook) (stocked : List Stocked) (made : List (Result Run StartFault)) (e : StartFault) → AllZip (OpensAs book) stocked made → all_or_first made ≡ Err e → IsStartFault e (fault_among book stocked)
-fault_is book [] [] e all h = cc
-fault_is book [] (m ∷ ms) e all h = absurd all
-fault_is book (s ∷ ss) [] e all h = absurd all
-fault_is book (s ∷ ss) (Err f ∷ ms) e all h =
-    let same : f ≡ e = cc in
-    fault_here e (view_fault book s.view) (fault_among book ss) (subst (λ x. IsStartFault x (view_fault book s.view)) same all.0)
-fault_is book (s ∷ ss) (Ok run ∷ ms) e all h = rw (all.0.none) (fault_is book ss ms e all.1 (then_err (all_or_first ms) run e h))
-
-first_among : (book : Workbook) (stocked : List Stocked) (made : List (Result Run StartFault)) (e : StartFault) → AllZip (OpensAs book) stocked made → (e ≢ NoMemory → all_or_first made ≡ Err e) → IsStartFault e (fault_among book stocked)
-first_among book stocked made (Rows view node) all first = fault_is book stocked made (Rows view node) all (first (λ h. cc))
-first_among book stocked made (Pairs view node table) all first = fault_is book stocked made (Pairs view node table) all (first (λ h. cc))
-first_among book stocked made NoMemory all first = tt
-
--- of all views of a book
-
-pub all_are : (catalog : Catalog) (tables : List Relation) (stocked : List Stocked) (made : List (Result Run StartFault)) (runs : List Run) → IsCatalog (catalog_image catalog) → each_kinds tables ≡ each_table_kinds catalog.tables
-    → views_of stocked ≡ upto (length (catalog_image catalog).views) → AllZip (OpensAs (workbook_image catalog tables)) stocked made → all_or_first made ≡ Ok runs → AreOpened catalog tables runs
-all_are catalog tables stocked made runs checked kinds named all h =
-    record { checked = checked; kinds = kinds; views_are = (runs_are (workbook_image catalog tables) stocked made runs all h).0 ∙ ap (map (opened (workbook_image catalog tables))) named }
-
-pub none_is : (book : Workbook) (stocked : List Stocked) (made : List (Result Run StartFault)) (runs : List Run) → views_of stocked ≡ upto (length book.catalog.views) → AllZip (OpensAs book) stocked made → all_or_first made ≡ Ok runs → first_view_fault book ≡ None
-none_is book stocked made runs named all h = ap (first_some (view_fault book)) (sym named) ∙ (runs_are book stocked made runs all h).1
-
-pub first_is : (book : Workbook) (stocked : List Stocked) (made : List (Result Run StartFault)) (e : StartFault) → views_of stocked ≡ upto (length book.catalog.views) → AllZip (OpensAs book) stocked made → (e ≢ NoMemory → all_or_first made ≡ Err e)
-    → IsStartFault e (first_view_fault book)
-first_is book stocked made e named all first = subst (λ (l : List ℕ). IsStartFault e (first_some (view_fault book) l)) named (first_among book stocked made e all first)
+pub none_more : (book : Workbook) (n : ℕ) (before after : List Stocked) (stocked : Stocked) → after ≡ before ++ stocked ∷ [] → stocked.view ≡ n → first_some (view_fault book) (upto n) ≡ faults_of book before
+    → first_some (view_fault book) (upto (n + 1)) ≡ faults_of book after
+none_more book n before after stocked pushed is so_far =
+    let e : n + 1 ≡ suc n = omega arith in
+    let views : views_of after ≡ views_of before ++ n ∷ [] = ap views_of pushed ∙ map-append (λ (s : Stocked). s.view) before (stocked ∷ []) ∙ ap (λ v. views_of before ++ v ∷ []) is in
+    rw (e, views) (
+    first_append (view_fault book) (upto n) (n ∷ [])
+    ∙ ap (λ o. option_or o (first_some (view_fault book) (n ∷ []))) so_far
+    ∙ sym (first_append (view_fault book) (views_of before) (n ∷ [])))

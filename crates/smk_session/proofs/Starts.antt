@@ -24,12 +24,12 @@ or_none : {X : Type 0} (o : Option X) → option_or o None ≡ o
 or_none (Some x) = refl
 or_none None = refl
 
-first_append : {A B : Type 0} (value : A → Option B) (xs ys : List A) → first_some value (xs ++ ys) ≡ option_or (first_some value xs) (first_some value ys)
+pub first_append : {A B : Type 0} (value : A → Option B) (xs ys : List A) → first_some value (xs ++ ys) ≡ option_or (first_some value xs) (first_some value ys)
 first_append value [] ys = refl
 first_append value (x ∷ xs) ys = ap (option_or (value x)) (first_append value xs ys) ∙ or_or (value x) (first_some value xs) (first_some value ys)
 
 -- one number more
-first_more : {B : Type 0} (value : ℕ → Option B) (n : ℕ) → first_some value (upto (suc n)) ≡ option_or (first_some value (upto n)) (value n)
+pub first_more : {B : Type 0} (value : ℕ → Option B) (n : ℕ) → first_some value (upto (suc n)) ≡ option_or (first_some value (upto n)) (value n)
 first_more value n = first_append value (upto n) (n ∷ []) ∙ ap (option_or (first_some value (upto n))) (or_none (value n))
 
 pub none_more : {B : Type 0} (value : ℕ → Option B) (n : ℕ) → first_some value (upto n) ≡ None → value n ≡ None → first_some value (upto (n + 1)) ≡ None

@@ -1,10 +1,10 @@
 -- What the calls say that open views.
-use Rattle.std.specs.Prelude.{◌≡◌, ◌<◌, ℕ, List, Result, MatchResult, None, length, map}
+use Rattle.std.specs.Prelude.{◌≡◌, ◌<◌, ℕ, List, Option, Result, MatchResult, None, length, map}
 use Rattle.smk_base.specs.CatalogImage.{catalog_image}
 use Rattle.smk_base.specs.Rels.{Relation}
 use Rattle.smk_base.specs.declared.catalog.Catalog.{Catalog}
 use Rattle.smk_model.specs.Catalogs.{each_table_kinds}
-use Rattle.smk_model.specs.Opening.{view_fault}
+use Rattle.smk_model.specs.Opening.{ViewFault, first_some, view_fault}
 use Rattle.smk_model.specs.Plain.{whole}
 use Rattle.smk_model.specs.Selection.{each_kinds, each_rows, leaf_kinds}
 use Rattle.smk_model.specs.Session.{Workbook, view_at}
@@ -31,3 +31,7 @@ OpensAs book stocked made = MatchResult made (Opens book stocked.view) (λ e. Is
 -- the views whose rows are fetched
 abbrev pub views_of : List Stocked → List ℕ
 views_of all = map (λ (stocked : Stocked). stocked.view) all
+
+-- the first fault of these views
+abbrev pub faults_of : Workbook → List Stocked → Option ViewFault
+faults_of book stocked = first_some (view_fault book) (views_of stocked)

@@ -1,5 +1,5 @@
 // The views of a book over its tables, with the lineage that its declared queries need.
-ghost use Rattle.std.specs.Prelude.{◌≡◌, ◌<◌, ◌≤◌, ◌+◌, None, Option, length, map, option_map, IfOk, IfErr, OnOk, IsTrue};
+ghost use Rattle.std.specs.Prelude.{◌≡◌, ◌<◌, ◌≤◌, ◌+◌, None, Option, length, map, option_map, All, IfOk, IfErr, OnOk, IsTrue};
 ghost use Rattle.std.specs.List.{sum_by};
 ghost use Rattle.smk_base.specs.CatalogImage.{catalog_image, view_image};
 ghost use Rattle.smk_base.specs.Places.{upto};
@@ -11,10 +11,10 @@ ghost use Rattle.smk_model.specs.Opening.{view_fault, first_view_fault};
 ghost use Rattle.smk_model.specs.Selection.{each_kinds};
 ghost use Rattle.smk_model.specs.Session.{view_at};
 ghost use Rattle.smk_compose.specs.Through.{IsFirst};
-ghost use Rattle.smk_session.specs.Openings.{CanOpen};
+ghost use Rattle.smk_session.specs.Openings.{CanOpen, OpensAs, faults_of, views_of};
 ghost use Rattle.smk_session.specs.Sessions.{AreOpened, IsStartFault, fault_in, opened, workbook_image};
 
-use crate::abreast::{are_few, open_at_once};
+use crate::abreast::{share_of, views_at_once};
 use crate::fault::StartFault;
 use crate::mode::Mode;
 use crate::parts::Opened;
@@ -24,6 +24,7 @@ use smk_body::{OpBody, Work};
 use smk_compose::{Leaves, RunFault, fetch_leaves, run_leaves};
 use smk_defer::Defer;
 use smk_inject::Inject;
+use smk_jobs::{due, each_or_first};
 use smk_outside::{Gate, Steps};
 use smk_par::Pieces;
 use smk_table::Table;
@@ -165,14 +166,62 @@ pub fn open_view<R: Threads + Sync, G: Gate + Sync, L: Ledger>(
     open_stocked(&work, mode, book, tables, stocked)
 }
 
-// All views in the book's order, one after the other, or the first that is too big.
-fn open_in_turn<R: Threads + Sync, G: Gate + Sync, L: Ledger>(
+// A view that is opened beside others passes the gate first, with its number.
+#[tactic(auto, using(crate::proofs::AtOnce::opening_made))]
+fn open_beside<R: Threads + Sync, G: Gate + Sync>(
     work: &Work<'_, R, Workers<'_, G>>,
+    most: u32,
+    mode: Mode,
+    book: &TypedBook,
+    tables: &[Table],
+    stocked: Stocked,
+) -> Result<Opened, StartFault>
+    requires { CanOpen book.now tables.now stocked }
+    ensures { OpensAs (workbook_image book.now tables.now) stocked result }
+{
+    if most > 1 {
+        work.crew.gate.arrive(stocked.view);
+    }
+    open_stocked(work, mode, book, tables, stocked)
+}
+
+// Views whose rows are fetched, so many of them opened at once and each by as many workers as `work` has, or the first fault among them.
+fn open_each<R: Threads + Sync, G: Gate + Sync>(
+    work: &Work<'_, R, Workers<'_, G>>,
+    most: u32,
+    mode: Mode,
+    book: &TypedBook,
+    tables: &[Table],
+    all: Vec<Stocked>,
+) -> Result<Vec<Opened>, StartFault>
+    requires most { 1 ≤ most }
+    requires stocked { All (CanOpen book.now tables.now) all.items }
+    ensures opened { IfOk result (λ views. views.items ≡ map (opened (workbook_image book.now tables.now)) (views_of all.items)) }
+    ensures none { OnOk result (faults_of (workbook_image book.now tables.now) all.items ≡ None) }
+    ensures fault { IfErr result (λ e. IsStartFault e (faults_of (workbook_image book.now tables.now) all.items)) }
+{
+    each_or_first(
+        work.rt,
+        work.alloc,
+        most,
+        all,
+        &|stocked: Stocked| -> Result<Opened, StartFault>
+            requires { CanOpen book.now tables.now stocked }
+            ensures { OpensAs (workbook_image book.entry.now tables.entry.now) stocked result }
+        { open_beside(work, most, mode, book, tables, stocked) },
+    )
+}
+
+// All views in the book's order, or the first that is too big, each by its share of the workers. So many are opened at once when their rows are fetched.
+fn open_by<R: Threads + Sync, G: Gate + Sync, L: Ledger>(
+    work: &Work<'_, R, Workers<'_, G>>,
+    most: u32,
     mode: Mode,
     book: &TypedBook,
     tables: &[Table],
     steps: &mut Steps<L>,
 ) -> Result<Vec<Opened>, StartFault>
+    requires most { 1 ≤ most }
     requires kinds { each_kinds tables.now ≡ each_table_kinds book.now.tables }
     ensures opened { IfOk result (λ views. AreOpened book.now tables.now views.items) }
     ensures none { OnOk result (first_view_fault (workbook_image book.now tables.now) ≡ None) }
@@ -180,25 +229,20 @@ fn open_in_turn<R: Threads + Sync, G: Gate + Sync, L: Ledger>(
     ensures looks { steps.new ≤ steps.old + sum_by (looks_of_view (workbook_image book.now tables.now)) (workbook_image book.now tables.now).catalog.views }
 {
     let count = book.catalog().views.as_slice().len();
-    let crew = work.crew;
     let mut views = Vec::with_capacity(work.alloc, count)?;
+    let mut waiting = Vec::new(work.alloc);
     for v in 0..count as u32 {
-        views.push(open_view(
-            work.rt,
-            work.alloc,
-            mode,
-            crew.workers,
-            crew.gate,
-            book,
-            tables,
-            v,
-            steps,
-        )?)?;
+        let all = due(work.alloc, most, &mut waiting);
+        let mut some = open_each(work, most, mode, book, tables, all)?;
+        views.append(&mut some)?;
+        waiting.push(stock(work.alloc, book, tables, v, steps)?)?;
     }
+    let mut rest = open_each(work, most, mode, book, tables, waiting)?;
+    views.append(&mut rest)?;
     Ok(views)
 }
 
-// All views in the book's order, or the first that is too big. Two or more are opened at once where there are several workers and rows enough.
+// All views in the book's order, or the first that is too big. Two or more are opened at once where there are several workers and rows enough, each by its share of them.
 pub(crate) fn open_views<R: Threads + Sync, G: Gate + Sync, L: Ledger>(
     work: &Work<'_, R, Workers<'_, G>>,
     mode: Mode,
@@ -212,11 +256,18 @@ pub(crate) fn open_views<R: Threads + Sync, G: Gate + Sync, L: Ledger>(
     ensures fault { IfErr result (λ e. IsStartFault e (first_view_fault (workbook_image book.now tables.now))) }
     ensures looks { steps.new ≤ steps.old + sum_by (looks_of_view (workbook_image book.now tables.now)) (workbook_image book.now tables.now).catalog.views }
 {
-    if work.crew.workers == 1 || book.catalog().views.as_slice().len() < 2 || are_few(tables) {
-        open_in_turn(work, mode, book, tables, steps)
-    } else {
-        open_at_once(work, mode, book, tables, steps)
-    }
+    let count = book.catalog().views.as_slice().len();
+    let most = views_at_once(work.crew.workers, count as u32, tables);
+    let crew = Workers {
+        gate: work.crew.gate,
+        workers: share_of(work.crew.workers, most),
+    };
+    let share = Work {
+        rt: work.rt,
+        alloc: work.alloc,
+        crew: &crew,
+    };
+    open_by(&share, most, mode, book, tables, steps)
 }
 
 // No content is kept beside the first ones of so many views.
