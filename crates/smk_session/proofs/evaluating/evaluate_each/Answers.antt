@@ -3,6 +3,7 @@ use Rattle.std.proofs.Crossing.{crosses}
 use denote.Param.Send.{IsSend, IsSync, sendable}
 use Rattle.smk_base.proofs.plan.Plan.TheLaws.TheKnot
 use Rattle.smk_base.proofs.plan.Pred.TheLaws.TheKnot as TheKnot'
+use Rattle.smk_base.specs.contracts.dict.Dict as dict
 use Rattle.smk_base.specs.contracts.rel.Rel as rel
 use Rattle.smk_rid.specs.contracts.map.RidMap as map
 use Rattle.smk_table.specs.contracts.chosen.Chosen as chosen
@@ -16,11 +17,17 @@ use Rattle.smk_session.proofs.evaluating.evaluate_each.Goals as goal
 map_sync : IsSync map.the_row
 map_sync = search (sendable, crosses) depth 60
 
+dict_sync : IsSync dict.the_row
+dict_sync = search (sendable, crosses) depth 60 fits 40000
+
+dict_send : IsSend dict.the_row
+dict_send = search (sendable, crosses) depth 60 fits 40000
+
 rel_sync : IsSync rel.the_row
-rel_sync = search (sendable, crosses) depth 60 fits 40000
+rel_sync = search (dict_sync, dict_send, sendable, crosses) depth 60 fits 40000
 
 rel_send : IsSend rel.the_row
-rel_send = search (sendable, crosses) depth 60 fits 40000
+rel_send = search (dict_sync, dict_send, sendable, crosses) depth 60 fits 40000
 
 chosen_send : IsSend chosen.the_row
 chosen_send = search (rel_send, sendable, crosses) depth 60
