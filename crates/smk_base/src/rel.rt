@@ -302,6 +302,7 @@ impl Rel {
             columns: mut more,
             ..
         } = right;
+        columns.reserve_exact(more.len())?;
         columns.append(&mut more)?;
         Ok(Rel { columns, count })
     }
