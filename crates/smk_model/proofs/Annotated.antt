@@ -10,6 +10,8 @@ use Rattle.smk_model.specs.Plain.{row_eq, image, key_of, firsts, grouped, agree,
 use Rattle.smk_model.specs.Lineage.{upto, places, row_at, matching, match_at, from1, from_left, from_right}
 use Rattle.smk_model.specs.Annotated.{Marked, no_mark, mark_at, rows_of, both, gathered, nested_marks, ann1, ann2, ann_from}
 use Rattle.smk_model.specs.LineageLaws.{RowsAgree, united, StepByStep}
+use Rattle.smk_base.proofs.Texts.{list_any-map}
+use Rattle.smk_model.proofs.Anys.{or_false}
 use Rattle.smk_model.proofs.Places.{filter_map, map_map, map_flat_map, flat_map_map, flat_map_agree, map_upto, at_places}
 
 -- rows
@@ -68,24 +70,16 @@ rows_agree plan E = rows_from plan E 0
 
 -- sets
 
-list_any_map : {X Y : Type 0} (p : Y → Bool) (g : X → Y) (xs : List X) → list_any p (map g xs) ≡ list_any (λ x. p (g x)) xs
-list_any_map p g [] = refl
-list_any_map p g (x ∷ xs) = ap (λ t. p (g x) || t) (list_any_map p g xs)
-
 pub row_of_mark : (marked : List Marked) (i : ℕ) → (mark_at marked i).0 ≡ row_at (rows_of marked) i
 row_of_mark [] i = refl
 row_of_mark (m ∷ marked) zero = refl
 row_of_mark (m ∷ marked) (suc i) = row_of_mark marked i
 
-or_false : (b : Bool) → b ≡ (b || false)
-or_false true = refl
-or_false false = refl
-
 or_both : (a b : Bool) → (a || b) ≡ ((a || false) || (b || false))
-or_both a b = rw (sym (or_false a), sym (or_false b)) refl
+or_both a b = rw (or_false a, or_false b) refl
 
 or_twice : (a : Bool) → a ≡ ((a || false) || false)
-or_twice a = or_false a ∙ or_false (a || false)
+or_twice a = sym (or_false a) ∙ sym (or_false (a || false))
 
 -- the places of the marked rows that pass are those of the rows
 same_places : (f : Row → Bool) (marked : List Marked) → places (λ i. f (mark_at marked i).0) (length marked) ≡ places (λ i. f (row_at (rows_of marked) i)) (length (rows_of marked))
@@ -96,7 +90,7 @@ same_places f marked =
 gathered_is : (f : Row → Bool) (marked : List Marked) (leaf rid : ℕ) → gathered f marked leaf rid ≡ united marked (places (λ i. f (row_at (rows_of marked) i)) (length (rows_of marked))) leaf rid
 gathered_is f marked leaf rid =
     ap (list_any (λ m. m.1 leaf rid)) (sym (at_places (λ m. f m.0) marked no_mark))
-    ∙ list_any_map (λ m. m.1 leaf rid) (mark_at marked) (places (λ i. f (mark_at marked i).0) (length marked))
+    ∙ list_any-map (λ m. m.1 leaf rid) (mark_at marked) (places (λ i. f (mark_at marked i).0) (length marked))
     ∙ ap (list_any (λ i. (mark_at marked i).1 leaf rid)) (same_places f marked)
 
 selected_mark : (formula : Formula) (marked : List Marked) (o : ℕ) → o < length (filter (meets formula) (rows_of marked))
@@ -109,10 +103,10 @@ selected_mark formula marked o h =
     ap (λ t. mark_at t o) (sym is) ∙ get_or-map (mark_at marked) P o 0 no_mark long
 
 step_one : (op : Unary) (marked : List Marked) (o leaf rid : ℕ) → o < length (step1 op (rows_of marked)) → (mark_at (ann1 op marked) o).1 leaf rid ≡ united marked (from1 op (rows_of marked) o) leaf rid
-step_one (Selection formula) marked o leaf rid h = ap (λ (m : Marked). m.1 leaf rid) (selected_mark formula marked o h) ∙ or_false _
+step_one (Selection formula) marked o leaf rid h = ap (λ (m : Marked). m.1 leaf rid) (selected_mark formula marked o h) ∙ sym (or_false _)
 step_one (Projection items) marked o leaf rid h =
     let low : o < length marked = omega (arith, h, length-map (rows_of marked) (image items), length-map marked (λ (m : Marked). m.0)) in
-    ap (λ (m : Marked). m.1 leaf rid) (get_or-map (λ (m : Marked). (image items m.0, m.1)) marked o no_mark no_mark low) ∙ or_false _
+    ap (λ (m : Marked). m.1 leaf rid) (get_or-map (λ (m : Marked). (image items m.0, m.1)) marked o no_mark no_mark low) ∙ sym (or_false _)
 step_one (Distinction items) marked o leaf rid h =
     let found = firsts (map (image items) (rows_of marked)) in
     ap (λ (m : Marked). m.1 leaf rid) (get_or-map (λ r. (r, gathered (λ row. row_eq r (image items row)) marked)) found o [] no_mark h)
@@ -155,7 +149,7 @@ step_two BagUnion ls rs o leaf rid h =
     let same : n ≡ length ls = length-map ls (λ (m : Marked). m.0) in
     elim (cases_Bool (nat_lt o n)) [
       | inl p ↦ rw p (ap (λ (m : Marked). m.1 leaf rid) (get_or_append_left ls rs no_mark o (omega (arith, ltb-true o n p, same))) ∙ or_twice ((mark_at ls o).1 leaf rid))
-      | inr p ↦ rw p (ap (λ (m : Marked). m.1 leaf rid) (get_or-append_right ls rs n o no_mark (sym same) (ltb-false o n p)) ∙ or_false _)
+      | inr p ↦ rw p (ap (λ (m : Marked). m.1 leaf rid) (get_or-append_right ls rs n o no_mark (sym same) (ltb-false o n p)) ∙ sym (or_false _))
     ]
 step_two SetUnion ls rs o leaf rid h =
     let found = firsts (rows_of ls ++ rows_of rs) in

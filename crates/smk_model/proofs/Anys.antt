@@ -17,10 +17,6 @@ pub any_below : (f g : ℕ → Bool) (n : ℕ) (A : List ℕ) → All (λ o. o <
 any_below f g n [] low h = refl
 any_below f g n (o ∷ os) low h = rw (h o (low 0 0 (omega arith)), any_below f g n os (λ k d l. low (suc k) d (omega arith)) h) refl
 
-pub any_map : {X Y : Type 0} (p : Y → Bool) (g : X → Y) (xs : List X) → list_any p (map g xs) ≡ list_any (λ x. p (g x)) xs
-any_map p g [] = refl
-any_map p g (x ∷ xs) = ap (λ t. p (g x) || t) (any_map p g xs)
-
 pub any_false : {X : Type 0} (A : List X) → list_any (λ x. false) A ≡ false
 any_false [] = refl
 any_false (x ∷ xs) = any_false xs

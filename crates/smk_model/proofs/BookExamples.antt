@@ -3,9 +3,7 @@ use Rattle.std.proofs.Common.{List, ◌∷◌, refl}
 use Rattle.smk_model.specs.Tokens.{Token}
 use Rattle.smk_model.specs.Grammar.{First, name, plain, number, no_more, listed, by_itself, by_as, column_item, gt, ne, column_term, literal_term, compared, conj, no_and, one_and, pred, no_or, plan, scan, inner_plan, no_step, one_step, project_step, theta_step, product_step, view_stmt, no_stmt, one_stmt}
 use Rattle.smk_model.specs.BookExamples.{BooksHold}
-
-stands : {t : Token} {b : List Token} → First t.kind t (t ∷ b) b
-stands = record { is_kind = refl; is_first = refl }
+use Rattle.smk_model.proofs.LineExamples.{stands}
 
 pub books_hold : BooksHold
 books_hold = record {

@@ -12,7 +12,8 @@ use Rattle.smk_model.specs.Plain.{row_eq, key_of, firsts, grouped, eval, lesser,
 use Rattle.smk_model.specs.Lineage.{row_at}
 use Rattle.smk_model.specs.Annotated.{Marked, no_mark, mark_at, rows_of, gathered, scanned, ann, relates, back}
 use Rattle.smk_model.proofs.Places.{filter_map, map_map, same_below, has_places}
-use Rattle.smk_model.proofs.Anys.{any_map, or_false, any_same}
+use Rattle.smk_base.proofs.Texts.{list_any-map}
+use Rattle.smk_model.proofs.Anys.{or_false, any_same}
 use Rattle.smk_model.proofs.Annotated.{rows_from}
 use Rattle.smk_model.proofs.Firsts.{holds, holds_here, row_is, firsts_from}
 use Rattle.smk_model.proofs.Spread.{extremes_apart}
@@ -80,7 +81,7 @@ gathered_scan test rows rid low =
     let P = places (λ i. test (row_at rows i)) (length rows) in
     let own : ℕ → Marked = λ i. (row_at rows i, λ leaf r. nat_eq 0 leaf && nat_eq i r) in
     ap (list_any (λ (m : Marked). m.1 0 rid)) (filter_map (λ (m : Marked). test m.0) own (upto (length rows)))
-    ∙ any_map (λ (m : Marked). m.1 0 rid) own P
+    ∙ list_any-map (λ (m : Marked). m.1 0 rid) own P
     ∙ any_same (λ i. nat_eq i rid) (nat_eq rid) P (λ i. nat_eq_equiv.symm i rid)
     ∙ has_places (λ i. test (row_at rows i)) (length rows) rid low
 

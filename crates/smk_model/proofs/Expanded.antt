@@ -10,6 +10,7 @@ use Rattle.smk_model.specs.Expanded.{violations_tree, in_its_place, expanded, Is
 use Rattle.smk_model.specs.ExpandedLaws.{ExpandedStands}
 use Rattle.smk_model.specs.Limits.{KeepsLimits, KeepsStmt, is_table, is_view}
 use Rattle.smk_model.specs.Names.{Typed, in_turn, ◌>>=◌}
+use Rattle.smk_model.proofs.Rules.{then_same}
 use Rattle.smk_model.proofs.Shown.{dependencies_shown}
 use Rattle.smk_model.specs.Typing.{stmt_after, view_after, back_after, nothing_declared}
 
@@ -101,10 +102,6 @@ in_turn-append {A} rule made (x ∷ xs) ys = by (rule made x) (λ more. in_turn-
     by : (first : Typed A) → ((more : A) → in_turn rule more (xs ++ ys) ≡ (in_turn rule more xs >>= λ last. in_turn rule last ys)) → (first >>= λ more. in_turn rule more (xs ++ ys)) ≡ ((first >>= λ more. in_turn rule more xs) >>= λ last. in_turn rule last ys)
     by (Ok more) h = h more
     by (Err fault) h = refl
-
-then_same : {A B : Type 0} (first : Typed A) {f g : A → Typed B} → ((a : A) → f a ≡ g a) → (first >>= f) ≡ (first >>= g)
-then_same (Ok a) h = h a
-then_same (Err fault) h = refl
 
 then_done : {A : Type 0} (first : Typed A) → (first >>= λ a. Ok a) ≡ first
 then_done (Ok a) = refl

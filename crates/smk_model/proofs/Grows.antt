@@ -16,7 +16,8 @@ use Rattle.smk_model.specs.Locals.{back1, fwd1}
 use Rattle.smk_model.specs.Composed.{table_at, rows_over, backs, forwards}
 use Rattle.smk_model.specs.LineageLaws.{selected_table}
 use Rattle.smk_model.proofs.Places.{map_map, same_below, places_below, places_false}
-use Rattle.smk_model.proofs.Anys.{any_same, any_below, any_false, any_map, or_false, and_false}
+use Rattle.smk_base.proofs.Texts.{list_any-map}
+use Rattle.smk_model.proofs.Anys.{any_same, any_below, any_false, or_false, and_false}
 use Rattle.smk_model.proofs.CuiWidom.{length_selected}
 use Rattle.smk_model.proofs.Ranges.{from1_below}
 use Rattle.smk_model.proofs.Locals.{at_each}
@@ -121,7 +122,7 @@ chained_step op input old new grown table step below =
     let here : (o r : ℕ) → comes (Apply op input) grown table o r ≡ list_any (λ i. h i r) (from1 op (X ++ Y) o) = λ o r. ap (λ W. list_any (λ i. h i r) (from1 op W o)) below.rows in
     let left : (o r : ℕ) → o < length (step1 op X) → comes (Apply op input) grown table o r ≡ list_any (λ i. h i r) (from1 op X o) = λ o r l. here o r ∙ ap (list_any (λ i. h i r)) (step.old o l) in
     let right : (o r : ℕ) → o < length (step1 op Y) → comes (Apply op input) grown table (length (step1 op X) + o) r ≡ list_any (λ i. h (length X + i) r) (from1 op Y o) = λ o r l.
-    here (length (step1 op X) + o) r ∙ ap (list_any (λ i. h i r)) (step.new o l) ∙ any_map (λ i. h i r) (λ i. length X + i) (from1 op Y o) in
+    here (length (step1 op X) + o) r ∙ ap (list_any (λ i. h i r)) (step.new o l) ∙ list_any-map (λ i. h i r) (λ i. length X + i) (from1 op Y o) in
     record {
       rows = ap (step1 op) below.rows ∙ step.rows;
       blocks = record {
@@ -185,7 +186,7 @@ module _ (f g h : ℕ → ℕ → Bool) (xs ys : List Row) (n n' : ℕ) (b : Are
   both_places : (t : ℕ → Bool) → list_any t (at_key k (xs ++ ys)) ≡ (list_any t (at_key k xs) || list_any (λ i. t (length xs + i)) (at_key k ys))
   both_places t =
       ap (list_any t) (passing_two (row_eq k) xs ys) ∙ list_any-append t (at_key k xs) (map (λ i. length xs + i) (at_key k ys))
-      ∙ ap (λ z. list_any t (at_key k xs) || z) (any_map t (λ i. length xs + i) (at_key k ys))
+      ∙ ap (λ z. list_any t (at_key k xs) || z) (list_any-map t (λ i. length xs + i) (at_key k ys))
 
   over_first : (r : ℕ) → r < n → list_any (λ i. h i r) (at_key k (xs ++ ys)) ≡ list_any (λ i. f i r) (at_key k xs)
   over_first r m =

@@ -13,16 +13,13 @@ use Rattle.smk_base.specs.Trees.{StmtImage, AskImage}
 use Rattle.smk_model.specs.Tokens.{Token, Keyword, keywords, kind_in, word_kind, is_gap, is_letter, is_word_byte, no_line_end, is_quoted_byte, number_kind, digits_value, int_value, string_len, Front, Between, Begins, string_front, quoted_front, or_equal, unequal_front, minus_front, number_front, word_front, symbol_front, front, is_more, put, tokens_from, tokens}
 use Rattle.smk_base.specs.declared.tree.Marks.{Marks}
 use Rattle.smk_base.specs.declared.limits.TheConstants.{NODE_LIMIT}
+use Rattle.smk_base.proofs.Blanks.{cases_on}
 use Rattle.smk_model.specs.Grammar.{AreMarks, all_marks, listed_marks, listed, IsAskLine, ask_line, asked_line, whole_any_line}
 use Rattle.smk_model.specs.Limits.{KeepsLimits, HasMarks, KeepsAsk}
 use Rattle.smk_model.specs.Machine.{fault_in, book_symbols, any_symbols, no_counts}
 use Rattle.smk_model.specs.GrammarLaws.{FaultlessKeepLimits, FaultlessAsksKeepLimits}
 use Rattle.smk_model.proofs.Reading.{Ranged, Adds, Gets, on, over}
 use Rattle.smk_model.proofs.Texts.{Held, Keeps, stmts_text, no_tally, whole_ask_text}
-
-cases_on : (b : Bool) (P : Bool → Type 0) → (b ≡ true → P true) → (b ≡ false → P false) → P b
-cases_on true P f g = f refl
-cases_on false P f g = g refl
 
 -- kinds but that of numbers
 not_number : TokenKind → Bool

@@ -36,6 +36,7 @@ pub mod Texts
 pub mod Keeping
 pub mod Expanded
 pub mod FirstPlaces
+pub mod Rules
 pub mod Shown
 pub mod ExpandedExamples
 pub mod Alike

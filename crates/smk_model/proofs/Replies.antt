@@ -21,14 +21,11 @@ use Rattle.smk_model.specs.Session.{State, view_at, under}
 use Rattle.smk_model.specs.Replies.{Asked, staying, or_refused, is_refused, named_view, named_back, named_fwd, brush_of, all_linked, brushed, cleared, linked_pair}
 use Rattle.smk_model.specs.ReplyLaws.{FirstContents, RefusedStay, MarksStay}
 use Rattle.smk_model.proofs.Places.{map_upto}
-
-all_kept : {X : Type 0} (xs : List X) → filter (λ x. true) xs ≡ xs
-all_kept [] = refl
-all_kept (x ∷ xs) = ap (λ l. x ∷ l) (all_kept xs)
+use Rattle.smk_model.proofs.Selections.{filter-true}
 
 -- the rows at all rids are all rows
 pub whole_sub : (rows : List Row) → sub rows (places (λ rid. true) (length rows)) ≡ rows
-whole_sub rows = ap (sub rows) (all_kept (upto (length rows))) ∙ map_upto rows []
+whole_sub rows = ap (sub rows) (filter-true (upto (length rows))) ∙ map_upto rows []
 
 -- a pick of all rows of a table
 abbrev all_of : List (List Row) → ℕ → Pick

@@ -38,19 +38,8 @@ use Rattle.smk_model.specs.Session.{view_at, no_view}
 use Rattle.smk_model.specs.TypedSteps.{TypedPlan, TypedGroup, named, key_after, typed_agg, agg_after, whole_group, typed_group, typed_pred, selected, grouped}
 use Rattle.smk_model.specs.Typing.{table_after, view_after, view_of, back_after, fwd_after, link_after, depends_after, stmt_after, types, table_named, view_named, typed_plan, columns_of, info_at, no_table, nothing_declared, decl_after, typed_extra, to_after}
 use Rattle.smk_model.specs.Workload.{is_back}
+use Rattle.smk_model.proofs.Rules.{made_of, ok_same, unless_ok}
 use Rattle.smk_model.proofs.FirstPlaces.{first_behind, place_grows, named_place, at_end}
-
--- what a rule that gave a result was made of
-made_of : {A B : Type 0} (first : Typed A) (next : A → Typed B) (b : B) → (first >>= next) ≡ Ok b → (a : A) × (first ≡ Ok a) × (next a ≡ Ok b)
-made_of (Ok a) next b e = (a, refl, e)
-made_of (Err fault) next b e = absurd (cc e)
-
-unless_ok : {A : Type 0} (wrong : Bool) (fault : TypeFault) (found : Typed A) (a : A) → unless wrong fault found ≡ Ok a → (wrong ≡ false) × (found ≡ Ok a)
-unless_ok true fault found a e = absurd (cc e)
-unless_ok false fault found a e = (refl, e)
-
-ok_same : {A : Type 0} (a b : A) → (let found : Typed A = Ok a in found) ≡ Ok b → a ≡ b
-ok_same a b e = cc e
 
 place_of_ok : (place : Option ℕ) (fault : TypeFault) (n : ℕ) → (let found : Typed ℕ = ok_or place fault in found) ≡ Ok n → place ≡ Some n
 place_of_ok None fault n e = absurd (cc e)

@@ -27,6 +27,7 @@ use Rattle.smk_typing.specs.Images.{steps_image}
 use Rattle.smk_typing.specs.declared.steps.TypedSteps.{TypedSteps}
 use Rattle.smk_typing.specs.Steps.{IsChain, asked_after}
 use Rattle.smk_typing.proofs.PlansFit.{Stands, scan_stands, stepped_stands}
+use Rattle.smk_model.proofs.Rules.{then_same}
 use Rattle.smk_typing.proofs.Results.{made_of, ok_keeps, ok_same}
 
 abbrev Keeps : AskStepImage → Type 0
@@ -50,15 +51,10 @@ step_keeps steps i step all below here =
     let there : get_or (map ask_step_image steps) i (ask_step_image step) ≡ ask_step_image step = get_or-map ask_step_image steps i step (ask_step_image step) below ∙ ap ask_step_image (sym here) in
     keeps_any (ask_step_image step).what (subst Keeps there (all i (ask_step_image step) low))
 
--- what follows a rule, where it comes to the same
-next_same : {A B : Type 0} (first : Typed A) (f g : A → Typed B) → ((a : A) → f a ≡ g a) → (first >>= f) ≡ (first >>= g)
-next_same (Ok a) f g same = same a
-next_same (Err fault) f g same = refl
-
 -- steps as they are declared, and as the definitions see them
 in_turn_seen : (typed : TypedPlan) (steps : List AskStep) → in_turn asked_after typed steps ≡ in_turn step_after typed (map ask_step_image steps)
 in_turn_seen typed [] = refl
-in_turn_seen typed (step ∷ steps) = next_same (asked_after typed step) _ _ (λ more. in_turn_seen more steps)
+in_turn_seen typed (step ∷ steps) = then_same (asked_after typed step) (λ more. in_turn_seen more steps)
 
 -- over columns that were copied
 pub in_turn_over : (cols : List ColDecl) (columns : List Column) (steps : List AskStep) → (let found : Typed (List Column) = Ok (map column_of cols) in found) ≡ Ok columns

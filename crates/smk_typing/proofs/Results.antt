@@ -4,17 +4,8 @@ use Rattle.std.specs.Prelude.{OnOk}
 use Rattle.smk_base.specs.declared.catalog.Column.{Column}
 use Rattle.smk_base.specs.declared.type_fault.TypeFault.{TypeFault}
 use Rattle.smk_base.specs.declared.rel.TheConstants.{COLUMN_LIMIT}
-use Rattle.smk_model.specs.Names.{Typed, ◌>>=◌, unless, in_turn}
-
--- the first of two rules gave a result, from which the second made this one
-pub made_of : {A B : Type 0} (first : Typed A) (next : A → Typed B) (b : B) → (first >>= next) ≡ Ok b → (a : A) × (first ≡ Ok a) × (next a ≡ Ok b)
-made_of (Ok a) next b e = (a, refl, e)
-made_of (Err fault) next b e = absurd (cc e)
-
--- the fault does not hold where there is a result
-pub unless_ok : {A : Type 0} (wrong : Bool) (fault : TypeFault) (found : Typed A) (a : A) → unless wrong fault found ≡ Ok a → (wrong ≡ false) × (found ≡ Ok a)
-unless_ok true fault found a e = absurd (cc e)
-unless_ok false fault found a e = (refl, e)
+use Rattle.smk_model.specs.Names.{Typed, ◌>>=◌, in_turn}
+pub use Rattle.smk_model.proofs.Rules.{made_of, ok_same, unless_ok}
 
 -- what a result keeps, the same result keeps
 pub ok_keeps : {A : Type 0} (P : A → Type 0) (a b : A) → (let found : Typed A = Ok a in found) ≡ Ok b → P a → P b
@@ -40,9 +31,6 @@ in_turn_long size rule step a b (x ∷ xs) e =
 pub first_fails : {A B C : Type 0} (first : Typed A) (f : A → B) (g : A → C) (fault : TypeFault) → (let found : Typed B = first >>= (λ a. Ok (f a)) in found) ≡ Err fault → (let found : Typed C = first >>= (λ a. Ok (g a)) in found) ≡ Err fault
 first_fails (Ok a) f g fault e = absurd (cc e)
 first_fails (Err other) f g fault e = let same : other ≡ fault = cc e in rw same refl
-
-pub ok_same : {A : Type 0} (a b : A) → (let found : Typed A = Ok a in found) ≡ Ok b → a ≡ b
-ok_same a b e = cc e
 
 -- the same columns are as few
 pub as_narrow : {A : Type 0} (r : Typed A) (new old : List Column) → OnOk r (new ≡ old) → length old ≤ COLUMN_LIMIT → OnOk r (length new ≤ COLUMN_LIMIT)
