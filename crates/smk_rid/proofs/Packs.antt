@@ -1,14 +1,14 @@
 -- Lists that lie one after the other.
 use Rattle.std.proofs.Common.{◌≡◌, ◌∙◌, ◌<◌, ◌≤◌, ◌+◌, ◌-◌, ℕ, length, List, [], ◌∷◌, ◌++◌, refl, sym, ap, map, arith, get_or, take, drop, inl, inr, cond, ltb}
 use Rattle.std.specs.List.{concat, slice_range}
-use Rattle.std.proofs.lemmas.List.{length-append, take_at, drop_at, same_lists, length-map, take_all, take-append-le, get_or_append_left, get_or_push, get_or_default, length_push, append-nil, take-append-drop, drop_more, get_or-take, nil_from_length, get_or-drop, length-take-le, get_or-map, take-map}
+use Rattle.std.proofs.lemmas.List.{length-append, take_at, drop_at, same_lists, length-map, take_all, take-append-le, get_or_append_left, get_or_push, get_or_default, length_push, append-nil, take-append-drop, drop_more, get_or-take, nil_from_length, get_or-drop, length-take-le, get_or-map}
 use Rattle.std.proofs.lemmas.Bool.{cases_lt, ne_eqb, lt-ltb, le-ltb}
 use Rattle.std.specs.List.{All}
 use Rattle.std.proofs.lemmas.List.Folds.{concat-append}
 use Rattle.std.proofs.lemmas.List.Sums.{sum_by_push, sum_by_more, sum_by-take-le, sum_by-cons}
 use Rattle.smk_base.specs.Places.{upto, pairs_of}
 use Rattle.smk_rid.specs.Packing.{one_of, part, cut, IsPacking}
-use Rattle.smk_rid.proofs.Sets.{length-upto, at_upto, sum_over, alone}
+use Rattle.smk_rid.proofs.Sets.{length-upto, at_upto, alone}
 
 -- the length of all lists together
 pub length-concat : (lists : List (List ℕ)) → length (concat lists) ≡ pairs_of lists
@@ -119,12 +119,3 @@ array_is q lists long each =
     same_lists (map one_of (take n q)) lists size2 (λ k d low.
     let lowk : k < n = omega (arith, low, size2) in
     get_or-map one_of (take n q) k 0 d (omega (arith, lowk, size)) ∙ ap one_of (get_or-take n q k 0 lowk) ∙ each k lowk ∙ get_or_default lists k [] d lowk)
-
--- one more rid of an array is within all
-pub array_few : (xs : List ℕ) (i p : ℕ) → p < length (take i xs) → (get_or (take i xs) p 0 ≡ 4294967295 → ⊥) → pairs_of (map one_of (take p (take i xs))) + 1 ≤ pairs_of (map one_of xs)
-array_few xs i p low some =
-    let x = get_or (take i xs) p 0 in
-    let most = sum_over one_of (take i xs) p 0 low in
-    let all : pairs_of (map one_of (take i xs)) ≤ pairs_of (map one_of xs) = rw (sym (take-map one_of i xs)) (sum_by-take-le (length {A = ℕ}) (map one_of xs) i) in
-    let e : one_of x ≡ x ∷ [] = (let t = ne_eqb x 4294967295 some in rw t refl) in
-    omega (arith, most, all, ap length e)

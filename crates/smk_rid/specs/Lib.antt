@@ -1,5 +1,6 @@
 pub mod Maps
 pub mod Packing
+pub mod Forms
 pub mod Storage
 pub mod Fill
 pub mod Grow

@@ -190,21 +190,10 @@ fn gather_lists(
     // Its clauses say that each list is a set of rids below the bound.
     let _pairs = map.pairs();
     rids.clear();
-    put_lists(rids, map, places)?;
+    map.put_at(rids, places)?;
     let several = places.len() > 1;
     if several {
         make_set(alloc, rids, map.bound())?;
-    }
-    Ok(())
-}
-
-// Puts the rids of the lists at these places last.
-fn put_lists(rids: &mut Vec<u32>, map: &RidMap, places: &[u32]) -> Result<(), AllocError>
-    requires { All (λ p. p < length map.now.lists) places.now }
-    ensures { OnOk result (rids.new.items ≡ rids.old.items ++ flat_map (list_at map.now) places.now) }
-{
-    for p in places {
-        rids.extend_from_slice(map.at(*p))?;
     }
     Ok(())
 }

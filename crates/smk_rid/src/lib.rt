@@ -2,6 +2,7 @@
 #![tactic(auto)]
 
 mod array;
+mod code;
 mod compose;
 mod distinct;
 mod fault;
@@ -12,6 +13,7 @@ mod invert;
 mod map;
 mod marks;
 mod merge;
+mod narrow;
 mod own;
 mod packed;
 mod short;

@@ -1,12 +1,13 @@
-ghost use Rattle.std.specs.Prelude.{◌≡◌, ◌<◌, ◌≤◌, ◌↔◌, [], ◌∷◌, length, map, take, slice_index_or, IfOk, IfSome, IsTrue, is_none, is_some, Option};
-ghost use Rattle.std.specs.List.{All, concat};
+ghost use Rattle.std.specs.Prelude.{◌≡◌, ◌<◌, ◌≤◌, ◌↔◌, [], ◌∷◌, ◌++◌, length, map, nat_lt, take, slice_index_or, IfOk, IfSome, IsTrue, OnOk, is_none, is_some, Option};
+ghost use Rattle.std.specs.List.{All, concat, filter, flat_map};
 ghost use Rattle.std.specs.Option.{option_to_list};
-ghost use Rattle.smk_base.specs.Places.{IsPlaces, pairs_of, own_lists, empty_lists};
+ghost use Rattle.smk_base.specs.Places.{IsPlaces, pairs_of, own_lists, empty_lists, list_at};
 ghost use Rattle.smk_base.specs.declared.rel.TheConstants.{ROW_LIMIT};
 ghost use Rattle.smk_rid.specs.Packing.{one_of};
 ghost use Rattle.smk_rid.specs.Maps.{IsMap, IsSingle, array_lists};
 
 use crate::array::{NONE, RidArray};
+use crate::narrow::numbers_below;
 use crate::packed::Packed;
 use std::alloc::{AllocError, Global};
 use std::marker::Model;
@@ -14,7 +15,7 @@ use std::marker::Model;
 /// How many pairs of a row and a rid a RidMap may have.
 pub const PAIR_LIMIT: u32 = 16_777_216;
 
-/// For each row of one list the rids that it has in another, ascending without repeats and below a bound: at most 16,777,216 together. Contracts see the lists and the bound.
+/// For each row of one list the rids that it has in another, ascending without repeats and below a bound: at most 16,777,216 together. Lists of at most one rid each are a rid array, of one, two or four bytes a list, and of no memory if it was made of empty lists alone. Other lists are a rid index. Contracts see the lists and the bound.
 #[derive(Drop)]
 pub struct RidMap {
     storage: Storage,
@@ -48,19 +49,22 @@ impl RidMap {
         requires { len ≤ ROW_LIMIT }
         ensures { IfOk result (λ made. made ≡ own_lists len) }
     {
-        let mut rids = Vec::with_capacity(alloc, len as usize)?;
-        for i in 0..len {
-            rids.push_reserved(i);
-        }
+        let rids = numbers_below(alloc, len)?;
         Ok(RidMap::of_array(RidArray::of(rids), len, len))
     }
 
+    /// So many empty lists. It takes no memory.
+    pub fn of_none(len: u32, bound: u32) -> RidMap
+        ensures { result ≡ empty_lists len bound }
+    {
+        RidMap::of_array(RidArray::of_none(len as usize), bound, 0)
+    }
+
     /// So many empty lists.
-    pub fn empty(alloc: Global, len: u32, bound: u32) -> Result<RidMap, AllocError>
+    pub fn empty(_alloc: Global, len: u32, bound: u32) -> Result<RidMap, AllocError>
         ensures { IfOk result (λ made. made ≡ empty_lists len bound) }
     {
-        let rids = vec![in alloc; NONE; len as usize]?;
-        Ok(RidMap::of_array(RidArray::of(rids), bound, 0))
+        Ok(RidMap::of_none(len, bound))
     }
 
     /// One list for each of these, of its rid alone, or empty.
@@ -119,6 +123,28 @@ impl RidMap {
         self.pairs
     }
 
+    /// The same lists, in less room where there is a way: those of at most one rid take one byte each at a bound of up to 255, and two at one of up to 65,535, if they are at least twice as many as the bound.
+    pub fn narrowed(self, alloc: Global) -> Result<RidMap, AllocError>
+        ensures { IfOk result (λ made. made ≡ self) }
+    {
+        let RidMap {
+            storage,
+            bound,
+            pairs,
+        } = self;
+        match storage {
+            Storage::Array(lists) => {
+                let lists = lists.narrowed(alloc, bound)?;
+                Ok(RidMap::of_array(lists, bound, pairs))
+            }
+            storage => Ok(RidMap {
+                storage,
+                bound,
+                pairs,
+            }),
+        }
+    }
+
     /// A copy.
     pub fn copy(&self, alloc: Global) -> Result<RidMap, AllocError>
         ensures { IfOk result (λ copy. copy ≡ self.now) }
@@ -142,6 +168,34 @@ impl RidMap {
         ensures below { All (λ rid. rid < self.now.bound) result.now }
     {
         self.storage.at(i as usize)
+    }
+
+    /// Puts the rids of the lists at these places last, those of each place behind those of the one before.
+    pub fn put_at(&self, rids: &mut Vec<u32>, places: &[u32]) -> Result<(), AllocError>
+        requires { All (λ p. p < length self.now.lists) places.now }
+        ensures { OnOk result (rids.new.items ≡ rids.old.items ++ flat_map (list_at self.now) places.now) }
+    {
+        rids.reserve(places.len())?;
+        match &self.storage {
+            Storage::Array(lists) => {
+                lists.put_at(rids, places);
+                Ok(())
+            }
+            Storage::Index(lists) => lists.put_at(rids, places),
+        }
+    }
+
+    /// Those of these places whose lists aren't empty, in their order.
+    pub fn kept_at(&self, alloc: Global, places: &[u32]) -> Result<Vec<u32>, AllocError>
+        requires { All (λ p. p < length self.now.lists) places.now }
+        ensures { IfOk result (λ kept. kept.items ≡ filter (λ p. nat_lt 0 (length (list_at self.now p))) places.now) }
+    {
+        let mut kept = Vec::with_capacity(alloc, places.len())?;
+        match &self.storage {
+            Storage::Array(lists) => lists.keep_at(&mut kept, places),
+            Storage::Index(lists) => lists.keep_at(&mut kept, places),
+        }
+        Ok(kept)
     }
 
     /// How many rids the lists before i have. It takes no memory. It is read off, but for an array with empty lists, where the rids before i are counted.

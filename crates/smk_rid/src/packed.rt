@@ -1,5 +1,5 @@
 ghost use Rattle.std.specs.Prelude.{◌≡◌, ◌<◌, ◌≤◌, ◌+◌, ◌↔◌, [], ◌∷◌, ◌++◌, length, map, take, slice_index_or, IfOk, IfErr, OnOk, IsTrue, nat_lt, if◌then◌else◌, slice_index, slice_range, vec_len, vec_capacity};
-ghost use Rattle.std.specs.List.{All, concat};
+ghost use Rattle.std.specs.List.{All, concat, filter, flat_map};
 ghost use Rattle.smk_base.specs.Places.{pairs_of};
 ghost use Rattle.smk_rid.specs.Maps.{IsSingle};
 ghost use Rattle.smk_rid.specs.declared.fault.RidFault.TheVariants.{Pairs};
@@ -80,6 +80,30 @@ impl Packed {
         ensures { result.now ≡ slice_index_or self.now i [] }
     {
         between(self.rids.as_slice(), self.starts[i], self.starts[i + 1])
+    }
+
+    /// Puts the rids of the lists at these places last.
+    pub fn put_at(&self, rids: &mut Vec<u32>, places: &[u32]) -> Result<(), AllocError>
+        requires { All (λ p. p < length self.now) places.now }
+        ensures { OnOk result (rids.new.items ≡ rids.old.items ++ flat_map (λ p. slice_index_or self.now p []) places.now) }
+    {
+        for p in places {
+            rids.extend_from_slice(self.at(*p as usize))?;
+        }
+        Ok(())
+    }
+
+    /// Puts those of these places last whose lists aren't empty. There is room for them.
+    pub fn keep_at(&self, kept: &mut Vec<u32>, places: &[u32])
+        requires within { All (λ p. p < length self.now) places.now }
+        requires room { vec_len kept.old + length places.now ≤ vec_capacity kept.old }
+        ensures { kept.new.items ≡ kept.old.items ++ filter (λ p. nat_lt 0 (length (slice_index_or self.now p []))) places.now }
+    {
+        for p in places {
+            if self.at(*p as usize).len() > 0 {
+                kept.push_reserved(*p);
+            }
+        }
     }
 
     /// How many rids the lists before i have.

@@ -1,7 +1,7 @@
-use Rattle.std.proofs.Common.{arith, ◌≡◌}
-use Rattle.smk_base.specs.Places.{followed}
+use Rattle.std.proofs.Common.{arith, ◌≡◌, ap}
+use Rattle.smk_base.specs.Places.{pairs_of, followed}
 use Rattle.smk_rid.specs.Maps.{IsSingle}
-use Rattle.smk_rid.proofs.Following.{below_moved, IsMap-followed, single-followed}
+use Rattle.smk_rid.proofs.Following.{below_moved, IsMap-followed, pairs_followed, single-followed}
 use Rattle.smk_rid.proofs.map.RidMap.followed_by.Goals as goal
 
 pub followed_arrays-requires-clause-below : goal.followed_arrays-requires-clause-below
@@ -30,3 +30,10 @@ of_packed-requires c =
     let a = c.args.self.now in
     let b = c.args.other.now in
     rw (c.in_ok-lists-in_default.ensures, c.bound-by.ensures, c.bound.ensures) (IsMap-followed a b c.pairs.ensures.keeps c.pairs-2.ensures.keeps c.requires.lists c.requires.few)
+
+pub of_array-requires-clause-pairs : goal.of_array-requires-clause-pairs
+of_array-requires-clause-pairs c =
+    let a = c.args.self.now in
+    let b = c.args.other.now in
+    let lists : c.in_ok-lists-in-Some-Some.lists ≡ (followed a b).lists = rw (c.in-Some-Some.ensures.lists, c.in-Some-Some.ensures'.lists, c.bound-by.ensures) at c.in_ok-lists-in-Some-Some.ensures in
+    omega (arith, c.pairs.ensures.counted, c.pairs-2.ensures.counted, pairs_followed a b, ap pairs_of lists)
