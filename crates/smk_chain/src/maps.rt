@@ -10,7 +10,7 @@ ghost use Rattle.smk_chain.specs.Parts.{both_maps, by_classes, followed_maps, jo
 
 use smk_base::Needed;
 use smk_body::side_of_classes;
-use smk_compose::{KeptMap, Kepts};
+use smk_compose::{KeptMap, Kepts, narrow};
 use smk_keys::Classes;
 use smk_rid::{RidFault, RidMap};
 use smk_table::Table;
@@ -83,43 +83,41 @@ fn map_of_both(
     ensures other { nat_eq need.table scanned ≡ false → IfOk result (λ made. made ≡ void_map rows size need) }
 {
     if need.table == scanned {
-        scanned_map(alloc, need, groups, old, new)
+        let map = scanned_map(alloc, need, groups, old, new)?;
+        in_least_room(alloc, map)
     } else {
-        empty_map(alloc, need, rows, size)
+        Ok(empty_map(need, rows, size))
     }
+}
+
+// The same map in the least room.
+fn in_least_room(alloc: Global, map: KeptMap) -> Result<KeptMap, AllocError>
+    ensures { IfOk result (λ made. made ≡ map) }
+{
+    let mut map = map;
+    narrow(alloc, &mut map.back)?;
+    narrow(alloc, &mut map.fwd)?;
+    Ok(map)
 }
 
 // Empty lists in the needed directions.
-fn empty_map(alloc: Global, need: Needed, rows: u32, size: u32) -> Result<KeptMap, AllocError>
-    ensures { IfOk result (λ made. made ≡ void_map rows size need) }
+fn empty_map(need: Needed, rows: u32, size: u32) -> KeptMap
+    ensures { result ≡ void_map rows size need }
 {
-    let back = empty_if(alloc, need.dir.back, rows, size)?;
-    match empty_if(alloc, need.dir.fwd, size, rows) {
-        Ok(fwd) => Ok(KeptMap {
-            table: need.table,
-            back,
-            fwd,
-        }),
-        Err(error) => {
-            drop(back);
-            Err(error)
-        }
+    KeptMap {
+        table: need.table,
+        back: empty_if(need.dir.back, rows, size),
+        fwd: empty_if(need.dir.fwd, size, rows),
     }
 }
 
-fn empty_if(
-    alloc: Global,
-    is_needed: bool,
-    len: u32,
-    bound: u32,
-) -> Result<Option<RidMap>, AllocError>
-    ensures { IfOk result (λ made. made ≡ wanted is_needed (empty_lists len bound)) }
+fn empty_if(is_needed: bool, len: u32, bound: u32) -> Option<RidMap>
+    ensures { result ≡ wanted is_needed (empty_lists len bound) }
 {
     if is_needed {
-        let map = RidMap::empty(alloc, len, bound)?;
-        Ok(Some(map))
+        Some(RidMap::of_none(len, bound))
     } else {
-        Ok(None)
+        None
     }
 }
 

@@ -11,7 +11,7 @@ use smk_rid::RidMap;
 use smk_table::Table;
 use std::alloc::{AllocError, Global};
 
-/// Puts an empty map for each that is needed and isn't there.
+/// Puts an empty map for each that is needed and isn't there. Those that are there take the least room then.
 pub(crate) fn fill(
     alloc: Global,
     maps: &mut [KeptMap],
@@ -56,7 +56,17 @@ fn fill_map(
     ensures { OnOk result (map.new ≡ or_empty is_needed map.old len bound) }
 {
     if is_needed && map.is_none() {
-        put(map, Some(RidMap::empty(alloc, len, bound)?));
+        put(map, Some(RidMap::of_none(len, bound)));
+    }
+    narrow(alloc, map)
+}
+
+/// The same lists in the least room, where there are lists.
+pub fn narrow(alloc: Global, map: &mut Option<RidMap>) -> Result<(), AllocError>
+    ensures { OnOk result (map.new ≡ map.old) }
+{
+    if let Some(lists) = map.take() {
+        put(map, Some(lists.narrowed(alloc)?));
     }
     Ok(())
 }

@@ -19,6 +19,7 @@ mod walk;
 pub use eval::eval_leaves;
 pub use fault::{EvalFault, RunFault};
 pub use fetch::fetch_leaves;
+pub use fill::narrow;
 pub use kept_maps::{KeptMap, Kepts, Run};
 pub use leaves::Leaves;
 pub use rows::fetch_rids;
