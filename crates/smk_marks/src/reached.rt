@@ -58,7 +58,8 @@ fn reach_rows<L: Ledger>(
     ensures rows { IfOk result (λ reached. reached.rows ≡ Some (record { kinds = table.now.kinds; rows = sub table.now.rows (kept forward.now chosen.now) })) }
     ensures looks { steps.new ≤ steps.old + length (kept forward.now chosen.now) }
 {
-    let (rids, marks) = kept_and_marks(alloc, forward, chosen)?;
+    let marks = marks_reached(alloc, forward, chosen)?;
+    let rids = forward.kept_at(alloc, chosen)?;
     let rows = table.choose(alloc, rids.as_slice(), steps)?;
     Ok(Reached {
         marks,
@@ -85,48 +86,12 @@ fn is_count(agg: &Agg) -> bool
     }
 }
 
-// Puts the members of a list last. Most lists have one.
-fn put_list(marks: &mut Vec<u32>, list: &[u32]) -> Result<(), AllocError>
-    ensures { OnOk result (marks.new.items ≡ marks.old.items ++ list.now) }
-{
-    if list.len() == 1 {
-        marks.push(list[0])?;
-    } else {
-        marks.extend_from_slice(list)?;
-    }
-    Ok(())
-}
-
 // The marks that the rids reach, those of each rid behind those of the one before.
 fn marks_reached(alloc: Global, forward: &RidMap, chosen: &[u32]) -> Result<Rids, AllocError>
     requires { All (λ rid. rid < length forward.now.lists) chosen.now }
     ensures { IfOk result (λ marks. marks ≡ marks_at forward.now chosen.now) }
 {
-    let mut marks = Vec::with_capacity(alloc, chosen.len())?;
-    for rid in chosen {
-        put_list(&mut marks, forward.at(*rid))?;
-    }
+    let mut marks = Vec::new(alloc);
+    forward.put_at(&mut marks, chosen)?;
     Ok(Rids::from_vec(marks))
-}
-
-// The rids that reach a mark, and the marks that they reach.
-fn kept_and_marks(
-    alloc: Global,
-    forward: &RidMap,
-    chosen: &[u32],
-) -> Result<(Vec<u32>, Rids), AllocError>
-    requires { All (λ rid. rid < length forward.now.lists) chosen.now }
-    ensures rids { IfOk result (λ made. made.0.items ≡ kept forward.now chosen.now) }
-    ensures marks { IfOk result (λ made. made.1 ≡ marks_at forward.now chosen.now) }
-{
-    let mut rids = Vec::with_capacity(alloc, chosen.len())?;
-    let mut marks = Vec::with_capacity(alloc, chosen.len())?;
-    for rid in chosen {
-        let list = forward.at(*rid);
-        if list.len() > 0 {
-            rids.push(*rid)?;
-        }
-        put_list(&mut marks, list)?;
-    }
-    Ok((rids, Rids::from_vec(marks)))
 }
