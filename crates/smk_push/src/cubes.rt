@@ -3,10 +3,11 @@ ghost use Rattle.smk_model.specs.Kinds.{GroupFits};
 ghost use Rattle.smk_push.specs.Cubes.{cube_at, cubes_of};
 
 use crate::group::group_at;
+use crate::input::input_of;
 use smk_base::{Aggs, Keys, Rel};
 use smk_outside::Steps;
 use smk_rid::RidMap;
-use smk_table::{Chosen, Table, narrow_group};
+use smk_table::{Chosen, Table};
 use std::alloc::{AllocError, Global};
 use std::marker::Model;
 use std::sync::ledger::Ledger;
@@ -57,10 +58,13 @@ impl Cubes {
         requires bound { map.now.bound ≡ length all.now.rows }
         ensures { IfOk result (λ cubes. cubes ≡ cubes_of map.now all.now keys.now aggs.now) }
     {
-        let grouping = narrow_group(alloc, keys.as_slice(), aggs.as_slice(), all)?;
+        let _rows = all.len();
+        let input = input_of(alloc, keys.as_slice(), aggs.as_slice(), all)?;
+        let mut table = vec![in alloc; 0u32; input.classes.firsts().len()]?;
         let mut groups = Vec::with_capacity(alloc, map.len() as usize)?;
         for mark in 0..map.len() {
-            let made = group_at(alloc, &grouping, map.at(mark))?;
+            let rids = map.at(mark);
+            let made = group_at(alloc, &input, rids, table.as_mut_slice())?;
             groups.push(made)?;
         }
         Ok(Cubes { groups })

@@ -1,0 +1,144 @@
+-- Aggregates over no columns but those that they read.
+use Rattle.std.proofs.Common.{◌≡◌, ◌∙◌, ◌<◌, ◌≤◌, ◌+◌, ◌++◌, ◌∷◌, [], ℕ, pos, Some, None, List, All, length, map, get_or, refl, sym, ap, subst, arith, inl, inr}
+use Rattle.std.proofs.lemmas.Bool.{cases_lt}
+use Rattle.std.proofs.lemmas.List.{get_or-map, get_or_append_left, get_or_default, get_or_push, append-nil, length-append, length-map, length_push, same_lists}
+use Rattle.std.proofs.lemmas.List.Elements.{All-nil, All-push}
+use Rattle.std.proofs.lemmas.Option.{none-some}
+use Rattle.smk_base.specs.Rels.{Relation, kind_in, picked, row_in, rows_at}
+use Rattle.smk_base.specs.declared.plan.Agg.{Agg}
+use Rattle.smk_base.specs.declared.plan.Agg.TheVariants.{Count, Sum, Min, Max}
+use Rattle.smk_base.specs.declared.value.Kind.{Kind}
+use Rattle.smk_base.specs.declared.value.Value.TheVariants.{Int}
+use Rattle.smk_base.specs.declared.value.Kind.TheVariants as kinds
+use Rattle.smk_model.specs.Kinds.{AggFits, kind_of_agg, summed}
+use Rattle.smk_model.specs.Plain.{aggregate, combined, greater, lesser, number_of, total}
+use Rattle.smk_model.specs.Values.{Row, value_at}
+use Rattle.smk_model.proofs.Places.{map_map}
+use Rattle.smk_body.proofs.Aggregating.{map_where}
+use Rattle.smk_body.proofs.Besides.{map_same}
+use Rattle.smk_push.specs.Inputs.{AreRead, moved_to, read_by}
+
+-- an aggregate reads at a place among columns what another reads of all columns
+abbrev Reads : List ℕ → ℕ → Agg → Type 0
+Reads cols place agg = (c : ℕ) → read_by agg ≡ Some c → (place < length cols) × (get_or cols place 0 ≡ c)
+
+pub record Stands (cols : List ℕ) (agg over : Agg) : Type 0 where
+  pub place : ℕ
+  pub moved : over ≡ moved_to place agg
+  pub reads : (c : ℕ) → read_by agg ≡ Some c → (place < length cols) × (get_or cols place 0 ≡ c)
+
+-- the first n aggregates are over columns that some of so many columns are
+pub record IsRead (width : ℕ) (aggs : List Agg) (n : ℕ) (over : List Agg) (cols : List ℕ) : Type 0 where
+  pub long : length over ≡ n
+  pub few : length cols ≤ n
+  pub within : All (λ c. c < width) cols
+  pub each : (k : ℕ) → k < n → Stands cols (get_or aggs k Count) (get_or over k Count)
+
+pub IsRead-none : (width : ℕ) (aggs : List Agg) → IsRead width aggs 0 [] []
+IsRead-none width aggs = record { long = refl; few = omega arith; within = All-nil (λ c. c < width); each = λ k h. absurd (omega arith) }
+
+-- one aggregate more, with the column that it reads
+one_more : (width : ℕ) (aggs : List Agg) (n : ℕ) (over : List Agg) (cols more : List ℕ) → IsRead width aggs n over cols → length more ≤ 1 → All (λ c. c < width) (cols ++ more)
+    → ((c : ℕ) → read_by (get_or aggs n Count) ≡ Some c → more ≡ c ∷ []) → IsRead width aggs (n + 1) (over ++ moved_to (length cols) (get_or aggs n Count) ∷ []) (cols ++ more)
+one_more width aggs n over cols more so few within read =
+    let last = moved_to (length cols) (get_or aggs n Count) in
+    record {
+      long = omega (arith, length_push over last, so.long);
+      few = omega (arith, length-append cols more, so.few, few);
+      within = within;
+      each = λ k h. elim (cases_lt k n) [
+        | inl less ↦ (
+            let old = so.each k less in
+            rw (get_or_append_left over (last ∷ []) Count k (omega (arith, so.long, less))) (record {
+              place = old.place;
+              moved = old.moved;
+              reads = λ c r. (omega (arith, length-append cols more, (old.reads c r).0), get_or_append_left cols more 0 old.place (old.reads c r).0 ∙ (old.reads c r).1);
+            }))
+        | inr above ↦ (
+            let here : k ≡ n = omega arith in
+            rw (here, get_or_push over last Count n so.long) (record {
+              place = length cols;
+              moved = refl;
+              reads = λ c r. rw (read c r) (omega (arith, length_push cols c), get_or_push cols c 0 (length cols) refl);
+            }))
+      ];
+    }
+
+pub IsRead-count : (width : ℕ) (aggs : List Agg) (n : ℕ) (over : List Agg) (cols : List ℕ) → IsRead width aggs n over cols → read_by (get_or aggs n Count) ≡ None
+    → IsRead width aggs (n + 1) (over ++ moved_to (length cols) (get_or aggs n Count) ∷ []) cols
+IsRead-count width aggs n over cols so none =
+    subst (IsRead width aggs (n + 1) (over ++ moved_to (length cols) (get_or aggs n Count) ∷ [])) (append-nil cols)
+    (one_more width aggs n over cols [] so (omega arith) (rw (append-nil cols) so.within) (λ c r. (let no : None ≡ Some c = sym none ∙ r in absurd (none-some c no))))
+
+pub IsRead-column : (width : ℕ) (aggs : List Agg) (n : ℕ) (over : List Agg) (cols : List ℕ) (c : ℕ) → IsRead width aggs n over cols → read_by (get_or aggs n Count) ≡ Some c → c < width
+    → IsRead width aggs (n + 1) (over ++ moved_to (length cols) (get_or aggs n Count) ∷ []) (cols ++ c ∷ [])
+IsRead-column width aggs n over cols c so some low =
+    one_more width aggs n over cols (c ∷ []) so (omega arith) (All-push (λ x. x < width) cols c so.within low) (λ x r. (let same : Some c ≡ Some x = sym some ∙ r in let e : c ≡ x = cc in ap (λ (z : ℕ). z ∷ []) e))
+
+-- the column that an aggregate reads is there
+pub column_there : (kinds : List Kind) (agg : Agg) (c : ℕ) → AggFits kinds agg → read_by agg ≡ Some c → c < length kinds
+column_there kinds Count c fits r = absurd (none-some c r)
+column_there kinds (Sum x) c fits r = let e : x ≡ c = cc in rw (sym e) fits.0
+column_there kinds (Min x) c fits r = let e : x ≡ c = cc in rw (sym e) fits
+column_there kinds (Max x) c fits r = let e : x ≡ c = cc in rw (sym e) fits
+
+-- a value, a kind at the place of a column
+value_there : (cols : List ℕ) (p c : ℕ) (row : Row) → (p < length cols) × (get_or cols p 0 ≡ c) → value_at (picked cols row) p ≡ value_at row c
+value_there cols p c row at = get_or-map (value_at row) cols p 0 (Int (pos 0)) at.0 ∙ ap (value_at row) at.1
+
+kind_there : (cols : List ℕ) (p c : ℕ) (ks : List Kind) → (p < length cols) × (get_or cols p 0 ≡ c) → kind_in (map (kind_in ks) cols) p ≡ kind_in ks c
+kind_there cols p c ks at = get_or-map (kind_in ks) cols p 0 kinds.Text at.0 ∙ ap (kind_in ks) at.1
+
+values_there : (cols : List ℕ) (p c : ℕ) (rows : List Row) → (p < length cols) × (get_or cols p 0 ≡ c) → map (λ row. value_at row p) (map (picked cols) rows) ≡ map (λ row. value_at row c) rows
+values_there cols p c rows at = map_map (λ (row : Row). value_at row p) (picked cols) rows ∙ map_same (λ row. value_at (picked cols row) p) (λ row. value_at row c) rows (λ row. value_there cols p c row at)
+
+over_value : (cols : List ℕ) (p : ℕ) (agg : Agg) (rows : List Row) → Reads cols p agg → aggregate (map (picked cols) rows) (moved_to p agg) ≡ aggregate rows agg
+over_value cols p Count rows h = ap (λ n. Int (pos n)) (length-map rows (picked cols))
+over_value cols p (Sum c) rows h =
+    ap (λ ns. Int (total ns)) (sym (map_map number_of (λ (row : Row). value_at row p) (map (picked cols) rows)) ∙ ap (map number_of) (values_there cols p c rows (h c refl)) ∙ map_map number_of (λ (row : Row). value_at row c) rows)
+over_value cols p (Min c) rows h = ap (combined lesser) (values_there cols p c rows (h c refl))
+over_value cols p (Max c) rows h = ap (combined greater) (values_there cols p c rows (h c refl))
+
+over_kind : (cols : List ℕ) (p : ℕ) (agg : Agg) (ks : List Kind) → Reads cols p agg → kind_of_agg (map (kind_in ks) cols) (moved_to p agg) ≡ kind_of_agg ks agg
+over_kind cols p Count ks h = refl
+over_kind cols p (Sum c) ks h = ap summed (kind_there cols p c ks (h c refl))
+over_kind cols p (Min c) ks h = kind_there cols p c ks (h c refl)
+over_kind cols p (Max c) ks h = kind_there cols p c ks (h c refl)
+
+over_fits : (cols : List ℕ) (p : ℕ) (agg : Agg) (ks : List Kind) → Reads cols p agg → AggFits ks agg → AggFits (map (kind_in ks) cols) (moved_to p agg)
+over_fits cols p Count ks h fits = fits
+over_fits cols p (Sum c) ks h fits = (omega (arith, length-map cols (kind_in ks), (h c refl).0), rw (kind_there cols p c ks (h c refl)) fits.1)
+over_fits cols p (Min c) ks h fits = omega (arith, length-map cols (kind_in ks), (h c refl).0)
+over_fits cols p (Max c) ks h fits = omega (arith, length-map cols (kind_in ks), (h c refl).0)
+
+-- what is made of each of the aggregates
+each_same : {Y : Type 0} (f g : Agg → Y) (aggs over : List Agg) → length over ≡ length aggs → ((k : ℕ) → k < length aggs → f (get_or over k Count) ≡ g (get_or aggs k Count)) → map f over ≡ map g aggs
+each_same f g aggs over long h = same_lists (map f over) (map g aggs) (length-map over f ∙ long ∙ sym (length-map aggs g)) (λ k d l.
+    let low : k < length aggs = omega (arith, l, length-map over f, long) in
+    get_or-map f over k Count d (omega (arith, low, long)) ∙ h k low ∙ sym (get_or-map g aggs k Count d low))
+
+-- rows at places, of columns
+pub rows_picked : (cols : List ℕ) (rows : List Row) (A : List ℕ) → All (λ r. r < length rows) A → rows_at (map (picked cols) rows) A ≡ map (picked cols) (rows_at rows A)
+rows_picked cols rows A low = map_where (row_in (map (picked cols) rows)) (λ i. picked cols (row_in rows i)) (λ i. i < length rows) A (λ i h. get_or-map (picked cols) rows i [] [] h) low ∙ sym (map_map (picked cols) (row_in rows) A)
+
+pub AreRead-all : (all rows : Relation) (aggs over : List Agg) (cols : List ℕ) (n : ℕ) → n ≡ length aggs → All (AggFits all.kinds) aggs → IsRead (length all.kinds) aggs n over cols
+    → rows ≡ record { kinds = map (kind_in all.kinds) cols; rows = map (picked cols) all.rows } → AreRead all aggs rows over
+AreRead-all all rows aggs over cols n e fits so is =
+    let stands : (k : ℕ) → k < length aggs → Stands cols (get_or aggs k Count) (get_or over k Count) = λ k h. so.each k (omega (arith, e)) in
+    let long : length over ≡ length aggs = so.long ∙ e in
+    rw is (record {
+      fits = λ k d h.
+          let low : k < length aggs = omega (arith, h, long) in
+          let s = stands k low in
+          rw (get_or_default over k d Count h, s.moved) (over_fits cols s.place (get_or aggs k Count) all.kinds s.reads (fits k Count low));
+      kinds = each_same (kind_of_agg (map (kind_in all.kinds) cols)) (kind_of_agg all.kinds) aggs over long (λ k h.
+          let s = stands k h in
+          ap (kind_of_agg (map (kind_in all.kinds) cols)) s.moved ∙ over_kind cols s.place (get_or aggs k Count) all.kinds s.reads);
+      long = length-map all.rows (picked cols);
+      values = λ A low.
+          let R = rows_at all.rows A in
+          ap (λ z. map (aggregate z) over) (rows_picked cols all.rows A low)
+          ∙ each_same (aggregate (map (picked cols) R)) (aggregate R) aggs over long (λ k h.
+          let s = stands k h in
+          ap (aggregate (map (picked cols) R)) s.moved ∙ over_value cols s.place (get_or aggs k Count) R s.reads);
+    })
