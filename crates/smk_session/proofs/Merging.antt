@@ -1,12 +1,15 @@
 -- What two ascending lists have in common, in one pass over both.
-use Rattle.std.proofs.Common.{◌≡◌, ℕ, ◌+◌, ◌<◌, ◌≤◌, Bool, true, false, cond, List, [], ◌∷◌, ◌++◌, length, take, get_or, ap, sym, ◌∙◌, arith, nat_eq, inl, inr}
+use Rattle.std.proofs.Common.{◌≡◌, ℕ, ◌+◌, ◌<◌, ◌≤◌, ◌-◌, ◌&&◌, refl, All, Bool, true, false, cond, List, [], ◌∷◌, ◌++◌, length, take, get_or, ap, sym, ◌∙◌, arith, nat_eq, inl, inr}
 use Rattle.std.specs.List.{filter}
 use Rattle.std.proofs.lemmas.Bool.{cases_lt, eq-eqb, ne_eqb}
 use Rattle.std.proofs.lemmas.List.{append-nil, get_or_default, take_more}
-use Rattle.std.proofs.lemmas.List.Elements.{filter-append}
+use Rattle.std.proofs.lemmas.List.Elements.{All-weaker, filter-append}
 use Rattle.std.proofs.lemmas.List.Folds.{list_any_at, list_any_none}
 use Rattle.smk_base.specs.Picks.{IsAscending}
-use Rattle.smk_base.specs.Places.{has}
+use Rattle.smk_base.specs.Places.{has, IsPlaces, places, upto}
+use Rattle.smk_model.proofs.Places.{same_below}
+use Rattle.smk_model.proofs.Selections.{filter_filter}
+use Rattle.smk_session.proofs.Rids.{ascending_places}
 
 has_there : (others : List ℕ) (place x : ℕ) → place < length others → get_or others place 0 ≡ x → has others x ≡ true
 has_there others place x low is = list_any_at (nat_eq x) others place 0 low (eq-eqb x (get_or others place 0) (sym is))
@@ -50,3 +53,29 @@ pub passed_next : (others ones : List ℕ) (i x place : ℕ) → IsAscending one
     → (k m : ℕ) → k < place → i + 1 ≤ m → m < length ones → get_or others k 0 < get_or ones m 0
 passed_next others ones i x place rises is less k m l past low =
     let a = less k l in let b = rises i m (omega (arith, past)) low in omega (arith, a, b, is)
+
+-- the rids of one that the other has are those of the other that the one has
+
+abbrev end_of : List ℕ → ℕ
+end_of A = get_or A (length A - 1) 0 + 1
+
+before_end : (A : List ℕ) → IsAscending A → All (λ r. r < end_of A) A
+before_end A rises k d low = elim (cases_lt k (length A - 1)) [
+  | inl l ↦ (let h = rises k (length A - 1) l (omega arith) in omega (arith, h, get_or_default A k d 0 low))
+  | inr g ↦ (let same : k ≡ length A - 1 = omega (arith, g, low) in omega (arith, get_or_default A k d 0 low, ap (λ i. get_or A i 0) same))
+]
+
+and_turned : (a b : Bool) → (a && b) ≡ (b && a)
+and_turned true true = refl
+and_turned true false = refl
+and_turned false true = refl
+and_turned false false = refl
+
+pub common_turned : (A B : List ℕ) → IsAscending A → IsAscending B → filter (has B) A ≡ filter (has A) B
+common_turned A B a b =
+    let n : ℕ = end_of A + end_of B in
+    let one : IsPlaces n A = ascending_places n A a (All-weaker (λ r. r < end_of A) (λ r. r < n) (λ r h. omega (arith, h)) A (before_end A a)) in
+    let two : IsPlaces n B = ascending_places n B b (All-weaker (λ r. r < end_of B) (λ r. r < n) (λ r h. omega (arith, h)) B (before_end B b)) in
+    ap (filter (has B)) (sym one) ∙ filter_filter (has B) (has A) (upto n)
+    ∙ same_below (λ r. has A r && has B r) (λ r. has B r && has A r) n (λ r l. and_turned (has A r) (has B r))
+    ∙ sym (filter_filter (has A) (has B) (upto n)) ∙ ap (filter (has A)) two

@@ -1,5 +1,5 @@
 // The rows that brushes select for a view.
-ghost use Rattle.std.specs.Prelude.{◌≡◌, ◌≢◌, ◌<◌, ◌≤◌, ℕ, length, slice_index, All, IfOk, IfSome};
+ghost use Rattle.std.specs.Prelude.{◌≡◌, ◌≢◌, ◌<◌, ◌≤◌, ℕ, false, length, slice_index, slice_index_or, All, IfOk, IfSome};
 ghost use Rattle.std.specs.Bool.{OnTrue, OnFalse};
 ghost use Rattle.std.specs.List.{filter};
 ghost use Rattle.smk_base.specs.CatalogImage.{catalog_image};
@@ -13,15 +13,37 @@ use crate::links::concerns;
 use smk_base::{BrushOn, Catalog, Pick, Picks, Rids};
 use std::alloc::{AllocError, Global};
 
+// How many rids are passed at a time while all of them are less.
+const STRIDE: usize = 8;
+
+// Rids are marked where the list is longer than one in so many below their bound.
+const MARKED_SHARE: usize = 64;
+
+// A place from this one on, before which all rids are less: whole strides are passed.
+fn strides_from(rids: &[u32], from: usize, rid: u32) -> usize
+    requires rising { IsAscending rids.now }
+    requires within { from ≤ length rids.now }
+    ensures after { from ≤ result }
+    ensures within { result ≤ length rids.now }
+    ensures less { (k : ℕ) → from ≤ k → k < result → slice_index rids.now k < rid }
+{
+    let mut place = from;
+    while rids.len() - place > STRIDE && rids[place + STRIDE] < rid {
+        place += STRIDE;
+    }
+    place
+}
+
 // The first place, from this one on, whose rid isn't less.
 fn place_from(rids: &[u32], from: usize, rid: u32) -> usize
-    requires { from ≤ length rids.now }
+    requires rising { IsAscending rids.now }
+    requires within { from ≤ length rids.now }
     ensures after { from ≤ result }
     ensures within { result ≤ length rids.now }
     ensures less { (k : ℕ) → from ≤ k → k < result → slice_index rids.now k < rid }
     ensures not_less { result < length rids.now → rid ≤ slice_index rids.now result }
 {
-    let mut place = from;
+    let mut place = strides_from(rids, from, rid);
     while place < rids.len() && rids[place] < rid {
         place += 1;
     }
@@ -36,8 +58,8 @@ fn is_at(rids: &[u32], place: usize, rid: u32) -> bool
     place < rids.len() && rids[place] == rid
 }
 
-// The rids that both ascending lists have, in one pass over the two.
-fn common(alloc: Global, ones: &[u32], others: &[u32]) -> Result<Rids, AllocError>
+// The rids of one ascending list that another has, in one pass over the two.
+fn passed_of(alloc: Global, ones: &[u32], others: &[u32]) -> Result<Rids, AllocError>
     requires ones { IsAscending ones.now }
     requires others { IsAscending others.now }
     ensures { IfOk result (λ made. made ≡ filter (has others.now) ones.now) }
@@ -51,6 +73,73 @@ fn common(alloc: Global, ones: &[u32], others: &[u32]) -> Result<Rids, AllocErro
         }
     }
     Ok(Rids::from_vec(made))
+}
+
+// What all rids of an ascending list are below.
+fn end_of(rids: &[u32]) -> usize
+    requires { IsAscending rids.now }
+    ensures { All (λ rid. rid < result) rids.now }
+{
+    match rids.last() {
+        Some(last) => *last as usize + 1,
+        None => 0,
+    }
+}
+
+// Which rids below a bound are among these.
+fn marks_of(alloc: Global, rids: &[u32], bound: usize) -> Result<Vec<bool>, AllocError>
+    requires { All (λ rid. rid < bound) rids.now }
+    ensures len { IfOk result (λ marks. length marks.items ≡ bound) }
+    ensures each { IfOk result (λ marks. (r : ℕ) → slice_index_or marks.items r false ≡ has rids.now r) }
+{
+    let mut marks = vec![in alloc; false; bound]?;
+    for rid in rids {
+        marks[*rid as usize] = true;
+    }
+    Ok(marks)
+}
+
+// The rids of one list that another has, where each of the other is marked.
+fn marked_of(alloc: Global, ones: &[u32], others: &[u32], bound: usize) -> Result<Rids, AllocError>
+    requires ones { All (λ rid. rid < bound) ones.now }
+    requires others { All (λ rid. rid < bound) others.now }
+    ensures { IfOk result (λ made. made ≡ filter (has others.now) ones.now) }
+{
+    let marks = marks_of(alloc, others, bound)?;
+    let mut made = Vec::new(alloc);
+    for rid in ones {
+        if marks[*rid as usize] {
+            made.push(*rid)?;
+        }
+    }
+    Ok(Rids::from_vec(made))
+}
+
+// The rids of one ascending list that another has: by marks where both lists are long, so that no step waits for a comparison, and else in one pass, which passes many of the other at a time.
+fn kept_of(alloc: Global, ones: &[u32], others: &[u32]) -> Result<Rids, AllocError>
+    requires ones { IsAscending ones.now }
+    requires others { IsAscending others.now }
+    ensures { IfOk result (λ made. made ≡ filter (has others.now) ones.now) }
+{
+    let bound = end_of(ones).max(end_of(others));
+    if ones.len() > bound / MARKED_SHARE && others.len() / STRIDE < ones.len() {
+        marked_of(alloc, ones, others, bound)
+    } else {
+        passed_of(alloc, ones, others)
+    }
+}
+
+// The rids that both ascending lists have: those of the shorter that the longer has, since many of the longer are passed at a time.
+fn common(alloc: Global, ones: &[u32], others: &[u32]) -> Result<Rids, AllocError>
+    requires ones { IsAscending ones.now }
+    requires others { IsAscending others.now }
+    ensures { IfOk result (λ made. made ≡ filter (has others.now) ones.now) }
+{
+    if ones.len() <= others.len() {
+        kept_of(alloc, ones, others)
+    } else {
+        kept_of(alloc, others, ones)
+    }
 }
 
 // The rids that are left of those chosen so far under one more brush.
