@@ -1,9 +1,15 @@
-ghost use Rattle.std.specs.Prelude.{◌≡◌, ◌++◌, ◌∷◌, [], length, map, decimal, IfOk, OnOk};
+ghost use Rattle.std.specs.Prelude.{◌≡◌, ◌≤◌, ◌+◌, ◌++◌, ◌∷◌, [], length, map, take, decimal, codes, IfOk, OnOk};
 ghost use Rattle.std.specs.List.{flat_map};
 ghost use Rattle.smk_model.specs.Texts as texts;
 
 use itoa::Buffer;
 use std::alloc::{AllocError, Global};
+
+// How many bytes a number takes at most, with a space before it.
+const NUMBER_BYTES: usize = 11;
+
+// How many bytes numbers are written into before these are put behind a text.
+const ROOM_BYTES: usize = 2048;
 
 /// Writes parts behind a text, one after the other. After an error the text is of no use.
 #[tactic(auto, using(crate::proofs::Parts::joined_more))]
@@ -76,16 +82,38 @@ pub fn line_around(
     Ok(text)
 }
 
+// Writes a space and digits into a room, from a place on. It tells where they end.
+fn put_digits(room: &mut [u8], from: usize, digits: &[u8]) -> usize
+    requires { from + 1 + length digits.now ≤ length room.old }
+    ensures end { result ≡ from + 1 + length digits.now }
+    ensures len { length room.new ≡ length room.old }
+    ensures bytes { take result room.new ≡ take from room.old ++ codes " " ++ digits.now }
+{
+    room[from] = b' ';
+    let mut end = from + 1;
+    for digit in digits {
+        room[end] = *digit;
+        end += 1;
+    }
+    end
+}
+
 // Writes a line of numbers behind a text: a word, and each number after a space. After an error the text is of no use.
 fn add_numbers(text: &mut Vec<u8>, word: &[u8], numbers: &[u32]) -> Result<(), AllocError>
     ensures { OnOk result (text.new.items ≡ text.old.items ++ texts.numbers_line word.now numbers.now) }
 {
     let mut digits = Buffer::new();
+    let mut room = [0u8; ROOM_BYTES];
+    let mut used = 0;
     text.extend_from_slice(word)?;
     for number in numbers {
-        text.push(b' ')?;
-        text.extend_from_slice(digits.format(*number).as_bytes())?;
+        if used > ROOM_BYTES - NUMBER_BYTES {
+            text.extend_from_slice(&room[..used])?;
+            used = 0;
+        }
+        used = put_digits(&mut room, used, digits.format(*number).as_bytes());
     }
+    text.extend_from_slice(&room[..used])?;
     text.push(b'\n')?;
     Ok(())
 }
