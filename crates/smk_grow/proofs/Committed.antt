@@ -7,24 +7,28 @@ use Rattle.smk_base.specs.Places.{upto}
 use Rattle.smk_base.specs.Rels.{Relation}
 use Rattle.smk_base.specs.declared.brush.BrushOn.{BrushOn}
 use Rattle.smk_model.specs.Selection.{each_rows}
+use Rattle.smk_model.specs.Session.{Workbook}
 use Rattle.smk_compose.specs.declared.kept_maps.Run.{Run}
 use Rattle.smk_skip.specs.Splits.{SplitImage}
 use Rattle.smk_session.specs.Extras.{splits_of, all_cubes, split_in, cubes_in}
-use Rattle.smk_session.specs.Sessions.{SessionImage, opened, opened_views, workbook_image, workbook_of}
+use Rattle.smk_session.specs.Sessions.{SessionImage, opened_views, workbook_image, workbook_of}
 use Rattle.smk_grow.specs.Grown.{first_tables}
 use Rattle.smk_grow.specs.Images.{renewed}
 use Rattle.smk_grow.specs.Renewals.{IsFresh, IsGrown}
-use Rattle.smk_grow.specs.Renewed.{fresh_cubes, fresh_split, fresh_view, replaced}
+use Rattle.smk_grow.specs.Renewed.{fresh_cubes, fresh_split, fresh_view, kept_view, replaced}
 use Rattle.smk_grow.specs.declared.renewing.Fresh.{Fresh}
 use Rattle.smk_grow.proofs.Fresh.{same_but}
 use Rattle.smk_grow.proofs.Replaced.{long_cubes, long_splits, replaced_cubes, replaced_splits, replaced_views}
+
+abbrev before : SessionImage → ℕ → ℕ → Workbook
+before session t len = workbook_image session.catalog (first_tables session.tables t len)
 
 pub committed_views : (session : SessionImage) (t len : ℕ) (fresh : Fresh) → IsGrown session t len → IsFresh t (workbook_of session) fresh → replaced fresh.views.items session.views ≡ opened_views (workbook_of session)
 committed_views session t len fresh grown f =
     let n = length (catalog_image session.catalog).views in
     ap (λ (l : List (Option Run)). replaced l session.views) f.views
-    ∙ ap (replaced (map (fresh_view t (workbook_of session)) (upto n))) grown.opened.views_are
-    ∙ replaced_views (catalog_image session.catalog) t (each_rows (first_tables session.tables t len)) (each_rows session.tables) n (same_but session.tables t len)
+    ∙ ap (replaced (map (fresh_view t (workbook_of session)) (upto n))) grown.views_are
+    ∙ replaced_views t (before session t len) (workbook_of session) n
 
 pub committed_splits : (session : SessionImage) (t len : ℕ) (fresh : Fresh) → IsGrown session t len → IsFresh t (workbook_of session) fresh → replaced fresh.extras.splits.items session.splits ≡ splits_of (workbook_of session)
 committed_splits session t len fresh grown f =
@@ -44,7 +48,7 @@ pub few_views : (session : SessionImage) (t len : ℕ) (fresh : Fresh) → IsGro
 few_views session t len fresh grown f =
     let n = length (catalog_image session.catalog).views in
     let made : length fresh.views.items ≡ length (upto n) = ap length f.views ∙ length-map (upto n) (fresh_view t (workbook_of session)) in
-    let there : length session.views ≡ length (upto n) = ap length grown.opened.views_are ∙ length-map (upto n) (opened (workbook_image session.catalog (first_tables session.tables t len))) in
+    let there : length session.views ≡ length (upto n) = ap length grown.views_are ∙ length-map (upto n) (kept_view t (before session t len) (workbook_of session)) in
     omega (arith, made, there)
 
 pub few_splits : (session : SessionImage) (t len : ℕ) (fresh : Fresh) → IsGrown session t len → IsFresh t (workbook_of session) fresh → length fresh.extras.splits.items ≤ length session.splits

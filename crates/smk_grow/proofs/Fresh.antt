@@ -16,9 +16,9 @@ use Rattle.smk_session.specs.Sessions.{IsStartFault, opened, workbook_image}
 use Rattle.smk_session.specs.declared.fault.StartFault.{StartFault}
 use Rattle.smk_session.specs.declared.fault.StartFault.TheVariants.{Rows, Pairs, NoMemory}
 use Rattle.smk_grow.specs.Grown.{rows_of, first_tables}
-use Rattle.smk_grow.specs.Renewed.{apart_view, chains, fresh_view, is_asked, moved_view, scan_fault, looks_again, looks_apart}
+use Rattle.smk_grow.specs.Renewed.{apart_view, chains, fresh_view, kept_view, scan_fault, looks_again, looks_apart}
 use Rattle.smk_grow.proofs.Grown.{other_with, rows_is}
-use Rattle.smk_grow.proofs.Renewed.{SameBut, chain_looks, chain_never_full, chains_scan, moved_is}
+use Rattle.smk_grow.proofs.Renewed.{SameBut, chain_looks, chain_never_full, chains_scan}
 
 -- the first rows of a table leave the others as they are
 pub same_but : (tables : List Relation) (t len : ℕ) → SameBut t (each_rows (first_tables tables t len)) (each_rows tables)
@@ -52,6 +52,11 @@ no_scan_fault t book v failed = rw failed refl
 pub scan_looks : (t : ℕ) (book : Workbook) (v : ℕ) → chains book.catalog t v ≡ false → scans book.catalog t v ≡ true → looks_again t book v ≡ rows_in (whole (view_at book.catalog v).plan book.tables)
 scan_looks t book v other held = rw (other, held) refl
 
+-- until then it is what it was over the tables before
+
+pub scan_kept : (t : ℕ) (before book : Workbook) (v : ℕ) → scans book.catalog t v ≡ true → kept_view t before book v ≡ opened before v
+scan_kept t before book v held = rw held refl
+
 -- a growing chain
 
 pub chain_fresh : (t : ℕ) (book : Workbook) (v : ℕ) (run : Run) → chains book.catalog t v ≡ true → run ≡ opened book v → Some run ≡ fresh_view t book v
@@ -67,14 +72,6 @@ pub chain_apart_looks : (catalog : Catalog) (tables : List Relation) (t v : ℕ)
     → rows_in (whole (view_at (catalog_image catalog) v).plan (each_rows tables)) ≡ looks_apart t (catalog_image catalog) (length (rows_of tables t)) v
 chain_apart_looks catalog tables t v low chained =
     chain_looks (workbook_image catalog tables) t v chained ∙ ap length (rows_is tables t low) ∙ rw chained refl
-
--- a view that doesn't scan the table
-
-pub moved_fresh : (catalog : Catalog) (tables : List Relation) (t len v size : ℕ) (old : Run) → t < length tables → scans (catalog_image catalog) t v ≡ false → size ≡ length (rows_of tables t) → old ≡ opened (workbook_image catalog (first_tables tables t len)) v
-    → moved_view t size old ≡ fresh_view t (workbook_image catalog tables) v
-moved_fresh catalog tables t len v size old low none is before =
-    ap (moved_view t size) before
-    ∙ moved_is (catalog_image catalog) t v size (each_rows (first_tables tables t len)) (each_rows tables) (same_but tables t len) none (is ∙ sym (ap length (rows_is tables t low)))
 
 -- so memory is what is wanting where it isn't made
 

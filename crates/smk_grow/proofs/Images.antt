@@ -17,6 +17,7 @@ use Rattle.smk_model.specs.Selection.{each_kinds, each_rows, row_limit}
 use Rattle.smk_model.specs.Session.{State, Workbook}
 use Rattle.smk_model.specs.Values.{Row}
 use Rattle.smk_model.proofs.Places.{length_upto}
+use Rattle.smk_compose.specs.declared.kept_maps.Run.{Run}
 use Rattle.smk_session.specs.Extras.{splits_of, all_cubes}
 use Rattle.smk_session.specs.Sessions.{AreExtras, AreInForce, AreOpened, IsSession, SessionImage, contents_kept, content_kept, opened_views, opened, state_of, state_over, workbook_image, workbook_of}
 use Rattle.smk_session.proofs.Shown.{none_in_force}
@@ -24,7 +25,7 @@ use Rattle.smk_session.proofs.Opened.{views_long}
 use Rattle.smk_grow.specs.Grown.{rows_of, longer_tables, first_tables, last_tables}
 use Rattle.smk_grow.specs.Images.{lengthened, shortened, renewed, told_unless, renewed_unless, grown_unless, next_image}
 use Rattle.smk_grow.specs.Renewals.{IsGrown}
-use Rattle.smk_grow.specs.Renewed.{looks_apart, looks_again, looks_of_declared}
+use Rattle.smk_grow.specs.Renewed.{kept_views, looks_apart, looks_again, looks_of_declared}
 use Rattle.smk_grow.proofs.Folds.{looks_depending, looks_scanning}
 use Rattle.smk_grow.proofs.Grown.{each_kinds_with, first_of_longer, longer_is, rows_is, table_with}
 
@@ -44,7 +45,7 @@ grown_is session t more keeps low few =
     let longer_rows : rows_of (longer_tables session.tables t more) t ≡ rows_of session.tables t ++ more = ap (λ (r : Relation). r.rows) (table_with session.tables t (rows_of session.tables t ++ more) low) in
     let long = ap (length {A = Row}) longer_rows ∙ length-append (rows_of session.tables t) more in
     record {
-      opened = subst (λ (T : List Relation). AreOpened session.catalog T session.views) (sym (first_of_longer session.tables t more low)) keeps.opened;
+      views_are = ap (λ (T : List Relation). kept_views t (workbook_image session.catalog T) (workbook_of (lengthened t more session))) (sym (first_of_longer session.tables t more low));
       extras = subst (λ (T : List Relation). AreExtras session.catalog T session.splits session.cubes) (sym (first_of_longer session.tables t more low)) keeps.extras;
       kinds = each_kinds_with session.tables t (rows_of session.tables t ++ more) ∙ keeps.opened.kinds;
       table = omega (arith, low, length-set {A = Relation});
@@ -59,13 +60,18 @@ grown_is session t more keeps low few =
 abbrev pub with_tables : SessionImage → List Relation → SessionImage
 with_tables session tables = record session { tables = tables }
 
-pub shortened_longer : (session : SessionImage) (t : ℕ) (more : List Row) → t < length session.tables → shortened t (length (rows_of session.tables t)) (lengthened t more session) ≡ session
-shortened_longer session t more low = ap (λ (T : List Relation). with_tables session T) (first_of_longer session.tables t more low)
+abbrev pub placed : SessionImage → List Relation → List Run → SessionImage
+placed session tables views = record session { tables = tables; views = views }
 
-pub renewed_is : (found : Option ViewFault) (session : SessionImage) (t : ℕ) (more : List Row) → t < length session.tables
+pub shortened_longer : (session : SessionImage) (t : ℕ) (more : List Row) → IsSession session → t < length session.tables → shortened t (length (rows_of session.tables t)) (lengthened t more session) ≡ session
+shortened_longer session t more keeps low =
+    ap (λ (T : List Relation). placed session T (opened_views (workbook_image session.catalog T))) (first_of_longer session.tables t more low)
+    ∙ ap (placed session session.tables) (sym keeps.opened.views_are)
+
+pub renewed_is : (found : Option ViewFault) (session : SessionImage) (t : ℕ) (more : List Row) → IsSession session → t < length session.tables
     → renewed_unless found t (length (rows_of session.tables t)) (lengthened t more session) ≡ grown_unless found t more session
-renewed_is (Some found) session t more low = shortened_longer session t more low
-renewed_is None session t more low = refl
+renewed_is (Some found) session t more keeps low = shortened_longer session t more keeps low
+renewed_is None session t more keeps low = refl
 
 -- the fault and the looks
 

@@ -6,15 +6,13 @@ use Rattle.smk_base.specs.Places.{upto}
 use Rattle.smk_base.specs.Rels.{Relation}
 use Rattle.smk_base.specs.declared.catalog.Catalog.{Catalog}
 use Rattle.smk_model.specs.Catalogs.{each_table_kinds}
-use Rattle.smk_model.specs.Selection.{each_kinds, each_rows}
+use Rattle.smk_model.specs.Selection.{each_kinds}
 use Rattle.smk_model.specs.Session.{Workbook}
 use Rattle.smk_model.proofs.Places.{get_or_map_upto, length_upto}
 use Rattle.smk_compose.specs.declared.kept_maps.Run.{Run}
 use Rattle.smk_session.specs.Making.{AreNow, newer}
-use Rattle.smk_session.specs.Sessions.{opened, opened_views, workbook_image}
-use Rattle.smk_grow.specs.Grown.{first_tables}
-use Rattle.smk_grow.specs.Renewed.{fresh_view}
-use Rattle.smk_grow.proofs.Fresh.{same_but}
+use Rattle.smk_session.specs.Sessions.{opened, workbook_image}
+use Rattle.smk_grow.specs.Renewed.{fresh_view, kept_view, kept_views}
 use Rattle.smk_grow.proofs.Renewed.{newer_is}
 
 -- a place in a list of one for each view
@@ -32,20 +30,19 @@ long_views catalog f xs are =
     ap length are ∙ length-map (upto (length (catalog_image catalog).views)) f ∙ length_upto (length (catalog_image catalog).views) ∙ views_count catalog
 
 -- so the views are what they mean, with what takes their places
-pub now_opened : (catalog : Catalog) (tables : List Relation) (views : List Run) (fresh : List (Option Run)) (t len : ℕ) → each_kinds tables ≡ each_table_kinds catalog.tables → views ≡ opened_views (workbook_image catalog (first_tables tables t len))
+pub now_opened : (catalog : Catalog) (tables : List Relation) (views : List Run) (fresh : List (Option Run)) (t : ℕ) (before : Workbook) → each_kinds tables ≡ each_table_kinds catalog.tables → views ≡ kept_views t before (workbook_image catalog tables)
     → fresh ≡ map (fresh_view t (workbook_image catalog tables)) (upto (length (catalog_image catalog).views)) → AreNow catalog tables views fresh
-now_opened catalog tables views fresh t len kinds olds news =
+now_opened catalog tables views fresh t before kinds olds news =
     let book : Workbook = workbook_image catalog tables in
     let count = length (catalog_image catalog).views in
-    let first : Workbook = workbook_image catalog (first_tables tables t len) in
     record {
       kinds = kinds;
-      long = long_views catalog (opened first) views olds;
+      long = long_views catalog (kept_view t before book) views olds;
       views_are = λ v run low.
           let below : v < count = omega (arith, low, views_count catalog) in
           let again : get_or fresh v None ≡ fresh_view t book v = ap (λ (l : List (Option Run)). get_or l v None) news ∙ get_or_map_upto (fresh_view t book) count v None below in
-          let before : get_or views v run ≡ opened first v = ap (λ (l : List Run). get_or l v run) olds ∙ get_or_map_upto (opened first) count v run below in
+          let old : get_or views v run ≡ kept_view t before book v = ap (λ (l : List Run). get_or l v run) olds ∙ get_or_map_upto (kept_view t before book) count v run below in
           ap (λ (o : Option Run). newer o (get_or views v run)) again
-          ∙ ap (newer (fresh_view t book v)) before
-          ∙ newer_is (catalog_image catalog) t v (each_rows (first_tables tables t len)) (each_rows tables) (same_but tables t len);
+          ∙ ap (newer (fresh_view t book v)) old
+          ∙ newer_is t before book v;
     }

@@ -11,22 +11,51 @@ use Rattle.smk_model.specs.Selection.{row_limit}
 use Rattle.smk_model.specs.Session.{Workbook}
 use Rattle.smk_model.specs.Values.{Row}
 use Rattle.smk_compose.specs.Fetched.{table_of}
+use Rattle.smk_compose.specs.declared.kept_maps.Run.{Run}
 use Rattle.smk_session.specs.Sessions.{IsSession, SessionImage, state_of, workbook_image, workbook_of}
-use Rattle.smk_grow.specs.Grown.{rows_of}
+use Rattle.smk_grow.specs.Grown.{rows_of, first_tables, longer_tables}
 use Rattle.smk_grow.specs.Images.{grown_unless, lengthened, renewed_unless, shortened}
 use Rattle.smk_grow.specs.Renewals.{IsGrown, last_of}
-use Rattle.smk_grow.specs.Renewed.{looks_again, looks_apart, looks_of_declared}
+use Rattle.smk_grow.specs.Renewed.{looks_again, looks_apart, looks_of_declared, moved_views}
 use Rattle.smk_grow.proofs.Grown.{last_of_longer}
-use Rattle.smk_grow.proofs.Images.{fault_is, grown_is, looks_are, renewed_is, shortened_longer}
+use Rattle.smk_grow.proofs.Images.{fault_is, grown_is, looks_are, placed, renewed_is, shortened_longer}
+use Rattle.smk_grow.proofs.Moved.{moved_back, moved_longer}
+
+-- more rows behind those of a table, with the views moved that don't scan it, and back
+
+pub lengthened_parts : (session : SessionImage) (t size : ℕ) (more : List Row) (tables : List Relation) (views : List Run) → IsSession session → t < length session.tables
+    → tables ≡ longer_tables session.tables t more → size ≡ length (rows_of tables t) → views ≡ moved_views (catalog_image session.catalog) t size session.views → placed session tables views ≡ lengthened t more session
+lengthened_parts session t size more tables views keeps low tables_are long views_are =
+    let size_is = long ∙ ap (λ (T : List Relation). length (rows_of T t)) tables_are in
+    ap (λ (T : List Relation). placed session T views) tables_are
+    ∙ ap (placed session (longer_tables session.tables t more)) (views_are ∙ moved_longer session.catalog session.tables t size more session.views low size_is keeps.opened.views_are)
+
+pub shortened_parts : (session : SessionImage) (t len : ℕ) (tables : List Relation) (views : List Run) → IsGrown session t len
+    → tables ≡ first_tables session.tables t len → views ≡ moved_views (catalog_image session.catalog) t len session.views → placed session tables views ≡ shortened t len session
+shortened_parts session t len tables views grown tables_are views_are =
+    ap (λ (T : List Relation). placed session T views) tables_are
+    ∙ ap (placed session (first_tables session.tables t len)) (views_are ∙ moved_back session.catalog session.tables t len session.views grown.table grown.within grown.views_are)
+
+-- a session lengthened so
 
 pub record IsLengthened (session parts : SessionImage) (t len : ℕ) (more : List Row) : Type 0 where
+  pub keeps : IsSession session
   pub same : parts ≡ lengthened t more session
   pub long : len ≡ length (rows_of session.tables t)
   pub low : t < length session.tables
 
-pub lengthened_grown : (session parts : SessionImage) (t len : ℕ) (more : List Row) → IsLengthened session parts t len more → IsSession session → length (rows_of session.tables t) + length more ≤ row_limit → IsGrown parts t len
-lengthened_grown session parts t len more l keeps few =
-    subst (λ (i : SessionImage). IsGrown i t len) (sym l.same) (subst (λ (n : ℕ). IsGrown (lengthened t more session) t n) (sym l.long) (grown_is session t more keeps l.low few))
+pub lengthened_one : (session near parts : SessionImage) (t len : ℕ) (more taken : Relation) → IsSession session → t < length session.tables → near ≡ session → taken ≡ more → parts ≡ lengthened t taken.rows near → len ≡ length (rows_of session.tables t)
+    → IsLengthened session parts t len more.rows
+lengthened_one session near parts t len more taken keeps low near_is taken_is is long = record {
+  keeps = keeps;
+  same = is ∙ ap (lengthened t taken.rows) near_is ∙ ap (λ (r : Relation). lengthened t r.rows session) taken_is;
+  long = long;
+  low = low;
+}
+
+pub lengthened_grown : (session parts : SessionImage) (t len : ℕ) (more : List Row) → IsLengthened session parts t len more → length (rows_of session.tables t) + length more ≤ row_limit → IsGrown parts t len
+lengthened_grown session parts t len more l few =
+    subst (λ (i : SessionImage). IsGrown i t len) (sym l.same) (subst (λ (n : ℕ). IsGrown (lengthened t more session) t n) (sym l.long) (grown_is session t more l.keeps l.low few))
 
 pub lengthened_last : (session parts : SessionImage) (t len : ℕ) (more : Relation) → IsLengthened session parts t len more.rows → more.kinds ≡ (table_of session.tables t).kinds → last_of parts t len ≡ workbook_image session.catalog (set session.tables t more)
 lengthened_last session parts t len more l kinds =
@@ -46,11 +75,11 @@ lengthened_after session parts t len more l =
     ap (λ (found : Option ViewFault). renewed_unless found t len parts) (lengthened_fault session parts t len more l)
     ∙ ap (λ (i : SessionImage). renewed_unless (longer_fault (catalog_image session.catalog) (state_of session) t more) t len i) l.same
     ∙ ap (λ (n : ℕ). renewed_unless (longer_fault (catalog_image session.catalog) (state_of session) t more) t n (lengthened t more session)) l.long
-    ∙ renewed_is (longer_fault (catalog_image session.catalog) (state_of session) t more) session t more l.low
+    ∙ renewed_is (longer_fault (catalog_image session.catalog) (state_of session) t more) session t more l.keeps l.low
 
 pub lengthened_kept : (session parts : SessionImage) (t len : ℕ) (more : List Row) → IsLengthened session parts t len more → shortened t len parts ≡ session
 lengthened_kept session parts t len more l =
-    ap (shortened t len) l.same ∙ ap (λ (n : ℕ). shortened t n (lengthened t more session)) l.long ∙ shortened_longer session t more l.low
+    ap (shortened t len) l.same ∙ ap (λ (n : ℕ). shortened t n (lengthened t more session)) l.long ∙ shortened_longer session t more l.keeps l.low
 
 pub lengthened_looks : (session parts : SessionImage) (t len : ℕ) (more : List Row) (start between after : ℕ) → IsLengthened session parts t len more
     → between ≤ start + sum_by (looks_apart t (catalog_image session.catalog) (length more)) (upto (length (catalog_image session.catalog).views))

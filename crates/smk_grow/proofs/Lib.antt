@@ -6,6 +6,7 @@ pub mod Grown
 pub mod Images
 pub mod Kept
 pub mod Lengthened
+pub mod Moved
 pub mod Renewed
 pub mod Replaced
 pub mod Spread

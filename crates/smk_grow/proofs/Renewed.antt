@@ -1,6 +1,5 @@
 -- What a view is over a longer table.
 use Rattle.std.proofs.Common.{◌≡◌, ℕ, ◌+◌, ◌<◌, ◌≤◌, Bool, true, false, ◌&&◌, ◌||◌, cond, List, [], ◌∷◌, length, map, refl, ap, sym, ◌∙◌, subst, arith, nat_eq, Option, Some, None, option_map, inl, inr}
-use Rattle.std.specs.List.{list_any, sum_by}
 use Rattle.std.proofs.lemmas.Bool.{cases_Bool, eq-eqb, eqb-true, false≢true}
 use Rattle.smk_base.specs.CatalogImage.{CatalogImage}
 use Rattle.smk_base.specs.Places.{Lists, empty_lists, has}
@@ -28,10 +27,9 @@ use Rattle.smk_body.specs.Locals.{wanted}
 use Rattle.smk_compose.specs.KeptMaps.{kept_at}
 use Rattle.smk_compose.specs.declared.kept_maps.KeptMap.{KeptMap}
 use Rattle.smk_compose.specs.declared.kept_maps.Run.{Run}
-use Rattle.smk_session.specs.Answers.{is_of_table}
 use Rattle.smk_session.specs.Sessions.{opened}
 use Rattle.smk_session.specs.Making.{newer}
-use Rattle.smk_grow.specs.Renewed.{chains, names_table, is_asked, fresh_view, moved_kept, moved_view}
+use Rattle.smk_grow.specs.Renewed.{chains, fresh_view, kept_view, moved_kept, moved_view}
 
 -- tables that are the same but for one
 abbrev pub SameBut : ℕ → List (List Row) → List (List Row) → Type 0
@@ -51,19 +49,6 @@ same_kept plan t A B need same none ne =
     let long : length (table_at A need.table) ≡ length (table_at B need.table) = ap (length {A = Row}) (same need.table ne) in
     rw (unscanned_stays.backs plan A B need.table agree long, unscanned_stays.forwards plan A B need.table agree long) refl
 
-pub either_false : (a b : Bool) → (a || b) ≡ false → (a ≡ false) × (b ≡ false)
-either_false true b h = absurd (false≢true (sym h))
-either_false false b h = (refl, h)
-
-no_need : (t : ℕ) (need : Needed) (more : List Needed) → list_any (names_table t) (need ∷ more) ≡ false → (nat_eq need.table t ≡ false) × (list_any (names_table t) more ≡ false)
-no_need t need more h = either_false (nat_eq need.table t) (list_any (names_table t) more) h
-
-same_kepts : (plan : Expr) (t : ℕ) (A B : List (List Row)) (needs : List Needed) → SameBut t A B → has (leaves plan) t ≡ false → list_any (names_table t) needs ≡ false → map (kept_at plan A) needs ≡ map (kept_at plan B) needs
-same_kepts plan t A B [] same none not = refl
-same_kepts plan t A B (need ∷ more) same none not =
-    let h = no_need t need more not in
-    rw (same_kept plan t A B need same none h.0, same_kepts plan t A B more same none h.1) refl
-
 abbrev run_of : Relation → List KeptMap → Run
 run_of rel kept = record { rel = rel; kept = kept }
 
@@ -73,22 +58,15 @@ rel_at catalog v rows = record { kinds = (view_at catalog v).kinds; rows = rows 
 abbrev pub book_over : CatalogImage → List (List Row) → Workbook
 book_over catalog tables = record { catalog = catalog; tables = tables }
 
--- a view that doesn't scan the table, and keeps no lineage to it
+-- with what takes its place a view is what it means, whatever the tables were before
 
-pub untouched : (catalog : CatalogImage) (t v : ℕ) (A B : List (List Row)) → SameBut t A B → (scans catalog t v || is_asked catalog t v) ≡ false → opened (book_over catalog A) v ≡ opened (book_over catalog B) v
-untouched catalog t v A B same out =
-    let h = either_false (scans catalog t v) (is_asked catalog t v) out in
-    let plan = (view_at catalog v).plan in
-    ap (λ (rows : List Row). run_of (rel_at catalog v rows) (map (kept_at plan A) (needs catalog v))) (unscanned_stays.rows plan A B (same_leaves plan t A B same h.0))
-    ∙ ap (run_of (rel_at catalog v (rows_over plan B))) (same_kepts plan t A B (needs catalog v) same h.0 h.1)
-
-pub newer_is : (catalog : CatalogImage) (t v : ℕ) (A B : List (List Row)) → SameBut t A B → newer (fresh_view t (book_over catalog B) v) (opened (book_over catalog A) v) ≡ opened (book_over catalog B) v
-newer_is catalog t v A B same = elim (cases_Bool (scans catalog t v || is_asked catalog t v)) [
+pub newer_is : (t : ℕ) (before book : Workbook) (v : ℕ) → newer (fresh_view t book v) (kept_view t before book v) ≡ opened book v
+newer_is t before book v = elim (cases_Bool (scans book.catalog t v)) [
   | inl held ↦ rw held refl
-  | inr failed ↦ rw failed (untouched catalog t v A B same failed)
+  | inr failed ↦ rw failed refl
 ]
 
--- one that doesn't scan the table, and keeps lineage to it: empty lists
+-- a view that doesn't scan the table, over more or fewer rows of it: its lineage to it is empty lists, and all else is the same
 
 emptied : (b : Bool) (lists : Lists) (made : Lists) → option_map (λ (map : Lists). made) (wanted b lists) ≡ wanted b made
 emptied true lists made = refl
@@ -116,22 +94,13 @@ moved_all : (plan : Expr) (t : ℕ) (A B : List (List Row)) (needs : List Needed
 moved_all plan t A B [] same none = refl
 moved_all plan t A B (need ∷ more) same none = rw (moved_one plan t A B need same none, moved_all plan t A B more same none) refl
 
-any_kept : (plan : Expr) (t : ℕ) (A : List (List Row)) (needs : List Needed) → list_any (is_of_table t) (map (kept_at plan A) needs) ≡ list_any (names_table t) needs
-any_kept plan t A [] = refl
-any_kept plan t A (need ∷ more) = ap (λ b. nat_eq need.table t || b) (any_kept plan t A more)
-
 pub moved_is : (catalog : CatalogImage) (t v size : ℕ) (A B : List (List Row)) → SameBut t A B → scans catalog t v ≡ false → size ≡ length (table_at B t)
-    → moved_view t size (opened (book_over catalog A) v) ≡ fresh_view t (book_over catalog B) v
+    → moved_view t size (opened (book_over catalog A) v) ≡ opened (book_over catalog B) v
 moved_is catalog t v size A B same none is =
     let plan = (view_at catalog v).plan in
-    let made : Run = run_of (rel_at catalog v (rows_over plan A)) (map (moved_kept t (length (rows_over plan A)) (length (table_at B t))) (map (kept_at plan A) (needs catalog v))) in
-    let right : made ≡ opened (book_over catalog B) v =
-    ap (run_of (rel_at catalog v (rows_over plan A))) (moved_all plan t A B (needs catalog v) same none)
-    ∙ ap (λ (rows : List Row). run_of (rel_at catalog v rows) (map (kept_at plan B) (needs catalog v))) (unscanned_stays.rows plan A B (same_leaves plan t A B same none)) in
     ap (λ (n : ℕ). moved_view t n (opened (book_over catalog A) v)) is
-    ∙ ap (λ (b : Bool). cond b (Some made) None) (any_kept plan t A (needs catalog v))
-    ∙ ap (λ (run : Run). cond (is_asked catalog t v) (Some run) None) right
-    ∙ ap (λ (b : Bool). cond (b || is_asked catalog t v) (Some (opened (book_over catalog B) v)) None) (sym none)
+    ∙ ap (run_of (rel_at catalog v (rows_over plan A))) (moved_all plan t A B (needs catalog v) same none)
+    ∙ ap (λ (rows : List Row). run_of (rel_at catalog v rows) (map (kept_at plan B) (needs catalog v))) (unscanned_stays.rows plan A B (same_leaves plan t A B same none))
 
 -- a growing chain: it scans the table alone, and is never too big
 

@@ -21,9 +21,9 @@ use Rattle.smk_model.specs.Values.{Row}
 use Rattle.smk_session.specs.Extras.{backs_of, table_of, split_in, cubes_in, split_for, cubes_for}
 use Rattle.smk_session.specs.Sessions.{opened}
 use Rattle.smk_session.specs.Making.{newer}
-use Rattle.smk_grow.specs.Renewed.{replaced, put_at, fresh_view, fresh_split, fresh_cubes, if_depends}
+use Rattle.smk_grow.specs.Renewed.{replaced, put_at, fresh_view, kept_view, fresh_split, fresh_cubes, if_depends}
 use Rattle.smk_grow.proofs.Grown.{rel_of}
-use Rattle.smk_grow.proofs.Renewed.{SameBut, book_over, either_false, newer_is}
+use Rattle.smk_grow.proofs.Renewed.{SameBut, book_over, newer_is}
 
 -- the last fresh value is put first
 
@@ -46,9 +46,8 @@ replaced_map : {I X : Type 0} (fresh : I → Option X) (old new : I → X) → (
 replaced_map fresh old new each [] = refl
 replaced_map fresh old new each (i ∷ is) = rw (each i, replaced_map fresh old new each is) refl
 
-pub replaced_views : (catalog : CatalogImage) (t : ℕ) (A B : List (List Row)) (n : ℕ) → SameBut t A B
-    → replaced (map (fresh_view t (book_over catalog B)) (upto n)) (map (opened (book_over catalog A)) (upto n)) ≡ map (opened (book_over catalog B)) (upto n)
-replaced_views catalog t A B n same = replaced_map (fresh_view t (book_over catalog B)) (opened (book_over catalog A)) (opened (book_over catalog B)) (λ v. newer_is catalog t v A B same) (upto n)
+pub replaced_views : (t : ℕ) (before book : Workbook) (n : ℕ) → replaced (map (fresh_view t book) (upto n)) (map (kept_view t before book) (upto n)) ≡ map (opened book) (upto n)
+replaced_views t before book n = replaced_map (fresh_view t book) (kept_view t before book) (opened book) (newer_is t before book) (upto n)
 
 -- what declarations ask for
 
@@ -131,6 +130,10 @@ same_cubes catalog t v u (extras.By column) A B same none ne = refl
 same_cubes catalog t v u (extras.Grouped keys aggs names kinds) A B same none ne =
     ap (λ (map : Lists). Some (cubes_of map (table_of (book_over catalog A) u) keys aggs)) (same_backs catalog t v u A B same none ne)
     ∙ ap (λ (r : Relation). Some (cubes_of (backs_of (book_over catalog B) v u) r keys aggs)) (same_table catalog t u A B same ne)
+
+either_false : (a b : Bool) → (a || b) ≡ false → (a ≡ false) × (b ≡ false)
+either_false true b h = absurd (false≢true (sym h))
+either_false false b h = (refl, h)
 
 pub replaced_splits : (catalog : CatalogImage) (t : ℕ) (A B : List (List Row)) (backs : List Back) → SameBut t A B
     → replaced (filter_map (fresh_split t (book_over catalog B)) backs) (filter_map (split_in (book_over catalog A)) backs) ≡ filter_map (split_in (book_over catalog B)) backs

@@ -9,15 +9,23 @@ use Rattle.smk_model.specs.Appends.{is_too_long, longer_fault, refusal_of}
 use Rattle.smk_model.specs.Opening.{ViewFault}
 use Rattle.smk_model.specs.Values.{Row}
 use Rattle.smk_session.specs.Extras.{splits_of, all_cubes}
-use Rattle.smk_session.specs.Sessions.{SessionImage, opened_views, state_of, workbook_of}
+use Rattle.smk_session.specs.Sessions.{SessionImage, opened_views, state_of, workbook_image, workbook_of}
 use Rattle.smk_grow.specs.Grown.{longer_tables, first_tables}
+use Rattle.smk_grow.specs.Renewed.{kept_views}
 
--- with more rows behind those of a table, and with only the first of them
+-- with more rows behind those of a table: the views that scan it are still those before, the others over the longer table
 abbrev pub lengthened : ℕ → List Row → SessionImage → SessionImage
-lengthened t more session = record session { tables = longer_tables session.tables t more }
+lengthened t more session = record session {
+  tables = longer_tables session.tables t more;
+  views = kept_views t (workbook_of session) (workbook_image session.catalog (longer_tables session.tables t more));
+}
 
+-- with only the first rows of a table, and all views over these
 abbrev pub shortened : ℕ → ℕ → SessionImage → SessionImage
-shortened t len session = record session { tables = first_tables session.tables t len }
+shortened t len session = record session {
+  tables = first_tables session.tables t len;
+  views = opened_views (workbook_image session.catalog (first_tables session.tables t len));
+}
 
 -- with everything made of its tables, and no brush in force
 abbrev pub renewed : SessionImage → SessionImage

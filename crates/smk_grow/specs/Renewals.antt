@@ -7,9 +7,9 @@ use Rattle.smk_model.specs.Appends.{scanning}
 use Rattle.smk_model.specs.Catalogs.{each_table_kinds}
 use Rattle.smk_model.specs.Selection.{each_kinds, row_limit}
 use Rattle.smk_model.specs.Session.{Workbook}
-use Rattle.smk_session.specs.Sessions.{AreExtras, AreOpened, SessionImage, workbook_image}
+use Rattle.smk_session.specs.Sessions.{AreExtras, SessionImage, workbook_image, workbook_of}
 use Rattle.smk_grow.specs.Grown.{rows_of, first_tables, last_tables}
-use Rattle.smk_grow.specs.Renewed.{fresh_view, fresh_split, fresh_cubes}
+use Rattle.smk_grow.specs.Renewed.{fresh_view, fresh_split, fresh_cubes, kept_views}
 use Rattle.smk_grow.specs.declared.renewal.Renewal.{Renewal}
 use Rattle.smk_grow.specs.declared.renewing.Fresh.{Fresh}
 
@@ -38,9 +38,9 @@ pub record IsFresh (t : ℕ) (book : Workbook) (fresh : Fresh) : Type 0 where
   pub cubes : fresh.extras.cubes.items ≡ filter_map (fresh_cubes t book) book.catalog.backs
   pub scanning : fresh.scanning ≡ scanning book.catalog t
 
--- a session whose table is longer already: what it keeps is still that of the table with only so many rows
+-- a session whose table is longer already: but for the views that don't scan it, what it keeps is still that of the table with only so many rows
 pub record IsGrown (session : SessionImage) (t len : ℕ) : Type 0 where
-  pub opened : AreOpened session.catalog (first_tables session.tables t len) session.views
+  pub views_are : session.views ≡ kept_views t (workbook_image session.catalog (first_tables session.tables t len)) (workbook_of session)
   pub extras : AreExtras session.catalog (first_tables session.tables t len) session.splits session.cubes
   pub kinds : each_kinds session.tables ≡ each_table_kinds session.catalog.tables
   pub table : t < length session.tables

@@ -1,11 +1,9 @@
 -- What takes the place of what a session keeps when a table has grown.
-use Rattle.std.specs.Prelude.{ℕ, Bool, cond, ◌&&◌, ◌||◌, nat_eq, List, [], ◌∷◌, length, map, set, Option, Some, None, option_map}
-use Rattle.std.specs.List.{list_any}
+use Rattle.std.specs.Prelude.{ℕ, Bool, cond, ◌&&◌, List, [], ◌∷◌, length, get_or, map, set, Option, Some, None, option_map}
 use Rattle.smk_base.specs.CatalogImage.{CatalogImage}
-use Rattle.smk_base.specs.Places.{empty_lists}
+use Rattle.smk_base.specs.Places.{empty_lists, upto}
 use Rattle.smk_base.specs.Rels.{Relation}
 use Rattle.smk_base.specs.declared.catalog.Back.{Back}
-use Rattle.smk_base.specs.declared.need.Needed.{Needed}
 use Rattle.smk_model.specs.Appends.{depends_on, scans}
 use Rattle.smk_model.specs.Growth.{is_growing}
 use Rattle.smk_model.specs.Looks.{looks_of_back}
@@ -13,7 +11,6 @@ use Rattle.smk_model.specs.Opening.{ViewFault, view_fault}
 use Rattle.smk_model.specs.Plain.{whole}
 use Rattle.smk_model.specs.Selection.{rows_in}
 use Rattle.smk_model.specs.Session.{Workbook, view_at}
-use Rattle.smk_model.specs.Workload.{needs}
 use Rattle.smk_compose.specs.declared.kept_maps.KeptMap.{KeptMap}
 use Rattle.smk_compose.specs.declared.kept_maps.Run.{Run}
 use Rattle.smk_skip.specs.Splits.{SplitImage}
@@ -37,27 +34,40 @@ put_at olds i None = olds
 abbrev pub chains : CatalogImage → ℕ → ℕ → Bool
 chains catalog t v = scans catalog t v && is_growing (view_at catalog v).plan
 
--- whether some declared query of a view names a table
-abbrev pub names_table : ℕ → Needed → Bool
-names_table t need = nat_eq need.table t
-
-abbrev pub is_asked : CatalogImage → ℕ → ℕ → Bool
-is_asked catalog t v = list_any (names_table t) (needs catalog v)
-
 -- a view that is a growing chain, over the new rows alone
 abbrev pub apart_view : ℕ → Workbook → ℕ → Option Run
 apart_view t book v = cond (chains book.catalog t v) (Some (opened book v)) None
 
--- a view over the longer table, where it scans the table or keeps lineage to it
+-- a view over the longer table, where it scans the table
 abbrev pub fresh_view : ℕ → Workbook → ℕ → Option Run
-fresh_view t book v = cond (scans book.catalog t v || is_asked book.catalog t v) (Some (opened book v)) None
+fresh_view t book v = cond (scans book.catalog t v) (Some (opened book v)) None
 
--- the lineage to the longer table of a view that doesn't scan it: as many empty lists as before
+-- a view until then: over the tables before where it scans the table, and else over those with the longer table already
+abbrev pub kept_view : ℕ → Workbook → Workbook → ℕ → Run
+kept_view t before book v = opened (cond (scans book.catalog t v) before book) v
+
+abbrev pub kept_views : ℕ → Workbook → Workbook → List Run
+kept_views t before book = map (kept_view t before book) (upto (length book.catalog.views))
+
+-- the lineage of a view of so many rows that doesn't scan a table, once the table has so many: to the table so many empty lists
 abbrev pub moved_kept : ℕ → ℕ → ℕ → KeptMap → KeptMap
 moved_kept t rows size kept = cond (is_of_table t kept) (record { table = kept.table; back = option_map (λ map. empty_lists rows size) kept.back; fwd = option_map (λ map. empty_lists size rows) kept.fwd }) kept
 
-abbrev pub moved_view : ℕ → ℕ → Run → Option Run
-moved_view t size run = cond (list_any (is_of_table t) run.kept) (Some (record { rel = run.rel; kept = map (moved_kept t (length run.rel.rows) size) run.kept })) None
+abbrev pub moved_view : ℕ → ℕ → Run → Run
+moved_view t size run = record { rel = run.rel; kept = map (moved_kept t (length run.rel.rows) size) run.kept }
+
+-- the views, with the lineage of those that don't scan the table once it has so many rows
+abbrev pub no_view : Run
+no_view = record { rel = record { kinds = []; rows = [] }; kept = [] }
+
+abbrev pub view_in : List Run → ℕ → Run
+view_in views v = get_or views v no_view
+
+abbrev pub moved_at : CatalogImage → ℕ → ℕ → List Run → ℕ → Run
+moved_at catalog t size views v = cond (scans catalog t v) (view_in views v) (moved_view t size (view_in views v))
+
+abbrev pub moved_views : CatalogImage → ℕ → ℕ → List Run → List Run
+moved_views catalog t size views = map (moved_at catalog t size views) (upto (length views))
 
 -- what a declaration asks for besides the rows, over the longer table, where it depends on the table
 abbrev pub if_depends : {A : Type 0} → Bool → A → Option A

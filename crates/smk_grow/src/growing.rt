@@ -9,12 +9,13 @@ ghost use Rattle.smk_compose.specs.Fetched.{table_of};
 ghost use Rattle.smk_session.specs.Parts.{parts_image};
 ghost use Rattle.smk_session.specs.Sessions.{IsSession, state_of, workbook_of};
 ghost use Rattle.smk_grow.specs.Grown.{longer_tables, first_tables, rows_of};
-ghost use Rattle.smk_grow.specs.Images.{grown_unless, next_image, renewed, renewed_unless, shortened, told_unless};
+ghost use Rattle.smk_grow.specs.Images.{grown_unless, lengthened, next_image, renewed, renewed_unless, shortened, told_unless};
 ghost use Rattle.smk_grow.specs.Renewals.{IsGrown, IsFresh, last_of};
 ghost use Rattle.smk_grow.specs.Renewed.{apart_view, looks_again, looks_of_declared};
 ghost use Rattle.smk_grow.specs.Told.{told_text};
 
 use crate::apart::open_apart;
+use crate::moving::move_views;
 use crate::refusing::refused;
 use crate::renewal::Renewal;
 use crate::renewing::{Fresh, renew_told};
@@ -38,6 +39,26 @@ fn lengthen(alloc: Global, tables: &mut [Table], table: u32, more: Table) -> Res
     tables[table as usize].absorb(alloc, more)
 }
 
+// The same for a session, with the views moved that don't scan the table.
+fn lengthen_parts(
+    alloc: Global,
+    parts: &mut Parts,
+    table: u32,
+    more: Table,
+) -> Result<(), AllocError>
+    requires keeps { IsSession (parts_image parts.old) }
+    requires table { table < length (parts_image parts.old).tables }
+    requires kinds { more.kinds ≡ (table_of (parts_image parts.old).tables table).kinds }
+    requires few { length (rows_of (parts_image parts.old).tables table) + length more.rows ≤ ROW_LIMIT }
+    ensures longer { OnOk result (parts_image parts.new ≡ lengthened table more.rows (parts_image parts.old)) }
+    ensures kept { OnErr result (parts_image parts.new ≡ parts_image parts.old) }
+{
+    lengthen(alloc, parts.tables.as_mut_slice(), table, more)?;
+    let size = parts.tables[table as usize].len();
+    move_views(alloc, &parts.book, parts.views.as_mut_slice(), table, size);
+    Ok(())
+}
+
 // Leaves the first rows of a table. It takes no memory.
 fn shorten(tables: &mut [Table], table: u32, len: u32)
     requires table { table < length tables.old }
@@ -45,6 +66,15 @@ fn shorten(tables: &mut [Table], table: u32, len: u32)
     ensures { tables.new ≡ first_tables tables.old table len }
 {
     tables[table as usize].cut(len);
+}
+
+// The same for a session, with the views moved back that don't scan the table.
+fn shorten_parts(alloc: Global, parts: &mut Parts, table: u32, len: u32)
+    requires { IsGrown (parts_image parts.old) table len }
+    ensures { parts_image parts.new ≡ shortened table len (parts_image parts.old) }
+{
+    shorten(parts.tables.as_mut_slice(), table, len);
+    move_views(alloc, &parts.book, parts.views.as_mut_slice(), table, len);
 }
 
 // Puts what was made anew in the places of what was kept, and takes all brushes out of force. It takes no memory.
@@ -67,7 +97,7 @@ fn commit(parts: &mut Parts, table: u32, len: u32, fresh: Fresh) -> Rids
     scanning
 }
 
-// What a session keeps, made anew over a table that has been lengthened, with the text of what is added where the table's name is given. After a refusal and an error the table is cut to so many rows, and nothing else has changed.
+// What a session keeps, made anew over a table that has been lengthened, with the text of what is added where the table's name is given. After a refusal and an error the table is cut to so many rows, and all views are those over these.
 fn renew_parts<R: Threads + Sync, G: Gate + Sync, L: Ledger>(
     rt: &R,
     alloc: Global,
@@ -113,7 +143,7 @@ fn renew_parts<R: Threads + Sync, G: Gate + Sync, L: Ledger>(
             Ok((AppendReply::Added { rows, views }, text))
         }
         Err(fault) => {
-            shorten(parts.tables.as_mut_slice(), table, len);
+            shorten_parts(alloc, parts, table, len);
             refused(alloc, fault)
         }
     }
@@ -155,7 +185,7 @@ fn grow<R: Threads + Sync, G: Gate + Sync, L: Ledger>(
         &mut more,
         steps,
     )?;
-    lengthen(alloc, parts.tables.as_mut_slice(), table, more)?;
+    lengthen_parts(alloc, parts, table, more)?;
     renew_parts(
         rt,
         alloc,

@@ -6,6 +6,7 @@ mod appending;
 mod chained;
 mod extras;
 mod growing;
+mod moving;
 mod refusing;
 mod renewal;
 mod renewing;

@@ -4,10 +4,10 @@ ghost use Rattle.std.specs.List.{sum_by};
 ghost use Rattle.smk_base.specs.Places.{upto};
 ghost use Rattle.smk_model.specs.Appends.{scanning};
 ghost use Rattle.smk_model.specs.Opening.{first_some, view_fault};
-ghost use Rattle.smk_session.specs.Sessions.{IsStartFault, opened_views};
+ghost use Rattle.smk_session.specs.Sessions.{IsStartFault};
 ghost use Rattle.smk_grow.specs.Grown.{rows_of};
 ghost use Rattle.smk_grow.specs.Renewals.{IsRenewal, IsFresh, book_of, first_book, last_book};
-ghost use Rattle.smk_grow.specs.Renewed.{apart_view, fresh_view, looks_again, looks_of_declared};
+ghost use Rattle.smk_grow.specs.Renewed.{apart_view, fresh_view, kept_views, looks_again, looks_of_declared};
 ghost use Rattle.smk_grow.specs.Told.{added_told};
 
 use crate::extras::{FreshExtras, fresh_extras};
@@ -41,7 +41,7 @@ fn with_extras<R: Threads + Sync, L: Ledger>(
     steps: &mut Steps<L>,
 ) -> Result<Fresh, AllocError>
     requires renewal { IsRenewal renewal.now }
-    requires olds { olds.now ≡ opened_views (first_book renewal.now len) }
+    requires olds { olds.now ≡ kept_views renewal.now.table (first_book renewal.now len) (book_of renewal.now) }
     requires views { views.items ≡ map (fresh_view renewal.now.table (book_of renewal.now)) (upto (length (book_of renewal.now).catalog.views)) }
     ensures fresh { IfOk result (IsFresh renewal.now.table (book_of renewal.now)) }
     ensures looks { steps.new ≤ steps.old + sum_by (looks_of_declared renewal.now.table (book_of renewal.now)) (book_of renewal.now).catalog.backs }
@@ -75,7 +75,7 @@ fn renew<R: Threads + Sync, G: Gate + Sync, L: Ledger>(
 ) -> Result<Fresh, StartFault>
     requires renewal { IsRenewal renewal.now }
     requires len { len ≤ length (rows_of renewal.now.tables.now renewal.now.table) }
-    requires olds { olds.now ≡ opened_views (first_book renewal.now len) }
+    requires olds { olds.now ≡ kept_views renewal.now.table (first_book renewal.now len) (book_of renewal.now) }
     requires apart { apart.now ≡ map (apart_view renewal.now.table (last_book renewal.now len)) (upto (length (book_of renewal.now).catalog.views)) }
     ensures fresh { IfOk result (IsFresh renewal.now.table (book_of renewal.now)) }
     ensures none { OnOk result (first_some (view_fault (book_of renewal.now)) (scanning (book_of renewal.now).catalog renewal.now.table) ≡ None) }
@@ -103,7 +103,7 @@ fn fresh_text<R: Threads + Sync>(
     said: Option<&Text>,
 ) -> Result<Vec<u8>, AllocError>
     requires renewal { IsRenewal renewal.now }
-    requires olds { olds.now ≡ opened_views (first_book renewal.now len) }
+    requires olds { olds.now ≡ kept_views renewal.now.table (first_book renewal.now len) (book_of renewal.now) }
     requires fresh { IsFresh renewal.now.table (book_of renewal.now) fresh.now }
     ensures { IfOk result (λ text. text.items ≡ added_told (option_map (λ name. name.now) said.entry) (book_of renewal.now) rows fresh.now.scanning) }
 {
@@ -138,7 +138,7 @@ pub(crate) fn renew_told<R: Threads + Sync, G: Gate + Sync, L: Ledger>(
 ) -> Result<(Fresh, Vec<u8>), StartFault>
     requires renewal { IsRenewal renewal.now }
     requires len { len ≤ length (rows_of renewal.now.tables.now renewal.now.table) }
-    requires olds { olds.now ≡ opened_views (first_book renewal.now len) }
+    requires olds { olds.now ≡ kept_views renewal.now.table (first_book renewal.now len) (book_of renewal.now) }
     requires apart { apart.now ≡ map (apart_view renewal.now.table (last_book renewal.now len)) (upto (length (book_of renewal.now).catalog.views)) }
     ensures fresh { IfOk result (λ made. IsFresh renewal.now.table (book_of renewal.now) made.0) }
     ensures text { IfOk result (λ made. made.1.items ≡ added_told (option_map (λ name. name.now) said.entry) (book_of renewal.now) rows made.0.scanning) }

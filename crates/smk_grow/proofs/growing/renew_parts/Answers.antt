@@ -1,16 +1,12 @@
 use Rattle.std.proofs.Common.{◌≡◌, ◌∙◌, ◌≤◌, ◌+◌, List, Option, ap, arith, length, subst, is_some}
 use Rattle.std.specs.List.{sum_by}
-use Rattle.std.specs.Vec.{with_items}
-use Rattle.std.proofs.lemmas.List.{with_items_is}
 use Rattle.smk_base.specs.Places.{upto}
 use Rattle.smk_base.specs.Rels.{Relation}
 use Rattle.smk_model.specs.Appends.{scanning}
 use Rattle.smk_model.specs.Opening.{first_some, view_fault}
 use Rattle.smk_session.specs.Parts.{parts_image}
 use Rattle.smk_session.specs.Sessions.{IsStartFault, workbook_image, workbook_of}
-use Rattle.smk_grow.specs.Grown.{first_tables}
 use Rattle.smk_grow.specs.Renewed.{looks_again, looks_of_declared}
-use Rattle.smk_grow.proofs.Images.{with_tables}
 use Rattle.smk_grow.proofs.Told.{after_refusal, told_committed}
 use Rattle.smk_grow.proofs.growing.renew_parts.Goals as goal
 
@@ -20,10 +16,7 @@ returns-in-Err-clause-after g c =
     let book = workbook_of session in
     let found = first_some (view_fault book) (scanning book.catalog c.args.table) in
     let fault = subst (λ (T : List Relation). IsStartFault c.in-Err.fault (first_some (view_fault (workbook_image session.catalog T)) (scanning book.catalog c.args.table))) c.as_slice.ensures.value c.in-Err.ensures.fault in
-    let tables = c.args.parts.now.tables in
-    let cut = (with_items tables c.shorten.new.tables).items in
-    after_refusal c.refused.result found c.args.table c.args.len session (with_tables session cut) (c.refused.ensures.found found fault)
-    (ap (with_tables session) (with_items_is tables c.shorten.new.tables (omega (arith, c.shorten.auto.tables, ap length c.as_mut_slice.ensures.value, tables.ok.0)) ∙ c.shorten.ensures ∙ ap (λ (T : List Relation). first_tables T c.args.table c.args.len) c.as_mut_slice.ensures.value))
+    after_refusal c.refused.result found c.args.table c.args.len session (parts_image c.shorten_parts.new.parts) (c.refused.ensures.found found fault) c.shorten_parts.ensures
 
 pub returns-in-Err-clause-looks : goal.returns-in-Err-clause-looks
 returns-in-Err-clause-looks g c =

@@ -1,7 +1,7 @@
 use Rattle.std.proofs.Common.{◌<◌, ◌∙◌, ℕ, subst, All}
 use Rattle.std.proofs.lemmas.List.{length-map}
 use Rattle.smk_base.specs.CatalogImage.{view_image}
-use Rattle.smk_grow.specs.Renewals.{book_of}
+use Rattle.smk_grow.specs.Renewals.{book_of, first_book}
 use Rattle.smk_grow.proofs.Kept.{now_opened}
 use Rattle.smk_grow.proofs.Told.{scanning_known}
 use Rattle.smk_grow.proofs.renewing.fresh_text.Goals as goal
@@ -15,4 +15,4 @@ added_now-requires-clause-scanning g c κs within =
 pub added_now-requires-clause-views : goal.added_now-requires-clause-views
 added_now-requires-clause-views g c κs within =
     let r = c.args.renewal.now in
-    now_opened r.book.now r.tables.now c.args.olds.now c.as_slice.result.now r.table c.args.len c.requires.renewal.kinds c.requires.olds (c.as_slice.ensures.value ∙ c.requires.fresh.views)
+    now_opened r.book.now r.tables.now c.args.olds.now c.as_slice.result.now r.table (first_book r c.args.len) c.requires.renewal.kinds c.requires.olds (c.as_slice.ensures.value ∙ c.requires.fresh.views)

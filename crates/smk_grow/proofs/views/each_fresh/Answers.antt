@@ -1,11 +1,10 @@
-use Rattle.std.proofs.Common.{◌≡◌, ◌∙◌, ◌<◌, ◌≤◌, ◌+◌, ap, get_or, length, arith}
+use Rattle.std.proofs.Common.{◌∙◌, ◌<◌, ◌≤◌, ◌+◌, ap, length, arith}
 use Rattle.std.proofs.lemmas.Result.{err_from_is_err_and}
 use Rattle.smk_base.specs.declared.catalog.Catalog.{Catalog}
 use Rattle.smk_base.specs.declared.catalog.ViewInfo.{ViewInfo}
-use Rattle.smk_session.specs.Sessions.{opened}
 use Rattle.smk_session.proofs.Starts.{fault_first, none_more, views_more}
 use Rattle.smk_grow.specs.Renewals.{book_of, first_book, last_book}
-use Rattle.smk_grow.specs.Renewed.{apart_view, fresh_view, scan_fault, looks_again}
+use Rattle.smk_grow.specs.Renewed.{apart_view, fresh_view, kept_view, scan_fault, looks_again}
 use Rattle.smk_grow.proofs.Folds.{looks_below, looks_upto}
 use Rattle.smk_grow.proofs.Kept.{at_view, long_views, views_count}
 use Rattle.smk_grow.proofs.views.each_fresh.Goals as goal
@@ -15,7 +14,7 @@ one_fresh-requires-clause-old g c κs within =
     let r = c.args.renewal.now in
     let count = c.as_slice-count.ensures ∙ ap (λ (k : Catalog). k.views) c.catalog.ensures.value in
     let low : c.loop-v.v < length r.book.now.views = omega (arith, c.loop-v-test.true, ap (length {A = ViewInfo}) count) in
-    let here = at_view r.book.now (opened (first_book r c.args.len)) c.args.olds.now c.loop-v.v c.index-olds-v.result c.requires.olds low c.index-olds-v.is in
+    let here = at_view r.book.now (kept_view r.table (first_book r c.args.len) (book_of r)) c.args.olds.now c.loop-v.v c.index-olds-v.result c.requires.olds low c.index-olds-v.is in
     cc (here, c.index-olds-v.is)
 
 pub one_fresh-requires-clause-apart : goal.one_fresh-requires-clause-apart
@@ -30,7 +29,7 @@ pub bounds-olds-v : goal.bounds-olds-v
 bounds-olds-v g c =
     let r = c.args.renewal.now in
     let count = c.as_slice-count.ensures ∙ ap (λ (k : Catalog). k.views) c.catalog.ensures.value in
-    omega (arith, c.loop-v-test.true, ap (length {A = ViewInfo}) count, long_views r.book.now (opened (first_book r c.args.len)) c.args.olds.now c.requires.olds)
+    omega (arith, c.loop-v-test.true, ap (length {A = ViewInfo}) count, long_views r.book.now (kept_view r.table (first_book r c.args.len) (book_of r)) c.args.olds.now c.requires.olds)
 
 pub bounds-apart-v : goal.bounds-apart-v
 bounds-apart-v g c =

@@ -1,6 +1,0 @@
-use Rattle.std.proofs.Common.{◌≡◌, map, take}
-use Rattle.smk_grow.specs.Renewed.{moved_kept}
-use Rattle.smk_grow.proofs.views.moved_maps.Given as goal
-
-abbrev pub invariant-loop-kept : goal.invariant-loop-kept
-invariant-loop-kept l = l.made ≡ map (moved_kept l.table l.rows l.size) (take l.kept-index l.kepts)
