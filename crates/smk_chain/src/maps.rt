@@ -90,7 +90,7 @@ fn map_of_both(
     }
 }
 
-// The same map in the least room.
+// The same map, narrowed.
 fn in_least_room(alloc: Global, map: KeptMap) -> Result<KeptMap, AllocError>
     ensures { IfOk result (λ made. made ≡ map) }
 {

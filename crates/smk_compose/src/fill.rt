@@ -11,7 +11,7 @@ use smk_rid::RidMap;
 use smk_table::Table;
 use std::alloc::{AllocError, Global};
 
-/// Puts an empty map for each that is needed and isn't there. Those that are there take the least room then.
+/// Puts an empty map for each that is needed and isn't there. Those that are there are narrowed.
 pub(crate) fn fill(
     alloc: Global,
     maps: &mut [KeptMap],
@@ -61,7 +61,7 @@ fn fill_map(
     narrow(alloc, map)
 }
 
-/// The same lists in the least room, where there are lists.
+/// The same lists, narrowed, where there are lists. After an error the map is of no use.
 pub fn narrow(alloc: Global, map: &mut Option<RidMap>) -> Result<(), AllocError>
     ensures { OnOk result (map.new ≡ map.old) }
 {

@@ -170,7 +170,7 @@ impl RidMap {
         self.storage.at(i as usize)
     }
 
-    /// Puts the rids of the lists at these places last, those of each place behind those of the one before.
+    /// Puts the rids of the lists at these places last, those of each place behind those of the one before. After an error the Vec is of no use.
     pub fn put_at(&self, rids: &mut Vec<u32>, places: &[u32]) -> Result<(), AllocError>
         requires { All (λ p. p < length self.now.lists) places.now }
         ensures { OnOk result (rids.new.items ≡ rids.old.items ++ flat_map (list_at self.now) places.now) }
