@@ -1,4 +1,5 @@
 pub mod FullViews
+mod Numbers
 pub mod PageTexts
 pub mod Parts
 pub mod PieceTexts

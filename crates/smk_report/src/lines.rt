@@ -1,15 +1,15 @@
-ghost use Rattle.std.specs.Prelude.{◌≡◌, ◌≤◌, ◌+◌, ◌++◌, ◌∷◌, [], length, map, take, decimal, codes, IfOk, OnOk};
+ghost use Rattle.std.specs.Prelude.{◌≡◌, ◌≤◌, ◌+◌, ◌*◌, ◌++◌, ◌∷◌, [], length, map, drop, decimal, codes, IfOk, OnOk};
 ghost use Rattle.std.specs.List.{flat_map};
 ghost use Rattle.smk_model.specs.Texts as texts;
 
-use itoa::Buffer;
+use itoa::{Buffer, write_digits};
 use std::alloc::{AllocError, Global};
 
-// How many bytes a number takes at most, with a space before it.
-const NUMBER_BYTES: usize = 11;
+// How many bytes the room has for so many numbers, each of at most ten digits behind a space.
+const ROOM_BYTES: usize = 2046;
 
-// How many bytes numbers are written into before these are put behind a text.
-const ROOM_BYTES: usize = 2048;
+// How many numbers are written into a room before these are put behind a text.
+const ROOM_NUMBERS: usize = 186;
 
 /// Writes parts behind a text, one after the other. After an error the text is of no use.
 #[tactic(auto, using(crate::proofs::Parts::joined_more))]
@@ -82,38 +82,49 @@ pub fn line_around(
     Ok(text)
 }
 
-// Writes a space and digits into a room, from a place on. It tells where they end.
-fn put_digits(room: &mut [u8], from: usize, digits: &[u8]) -> usize
-    requires { from + 1 + length digits.now ≤ length room.old }
-    ensures end { result ≡ from + 1 + length digits.now }
+// Writes a space and a number into a room, so that they end at a place. It tells where they begin.
+fn put_number(room: &mut [u8], number: u32, end: usize) -> usize
+    requires fits { 11 ≤ end }
+    requires within { end ≤ length room.old }
+    ensures few { end ≤ result + 11 }
+    ensures within { result ≤ length room.new }
     ensures len { length room.new ≡ length room.old }
-    ensures bytes { take result room.new ≡ take from room.old ++ codes " " ++ digits.now }
+    ensures bytes { drop result room.new ≡ codes " " ++ decimal number ++ drop end room.old }
 {
-    room[from] = b' ';
-    let mut end = from + 1;
-    for digit in digits {
-        room[end] = *digit;
-        end += 1;
+    let start = write_digits(number as u64, room, end);
+    room[start - 1] = b' ';
+    start - 1
+}
+
+// Writes numbers into a room, each behind a space, so that they end where the room does. It tells where they begin.
+fn put_numbers(room: &mut [u8], numbers: &[u32]) -> usize
+    requires { 11 * length numbers.now ≤ length room.old }
+    ensures within { result ≤ length room.new }
+    ensures len { length room.new ≡ length room.old }
+    ensures bytes { drop result room.new ≡ flat_map (λ n. codes " " ++ decimal n) numbers.now }
+{
+    let mut from = room.len();
+    let mut left = numbers.len();
+    while left > 0 {
+        left -= 1;
+        from = put_number(room, numbers[left], from);
     }
-    end
+    from
 }
 
 // Writes a line of numbers behind a text: a word, and each number after a space. After an error the text is of no use.
 fn add_numbers(text: &mut Vec<u8>, word: &[u8], numbers: &[u32]) -> Result<(), AllocError>
     ensures { OnOk result (text.new.items ≡ text.old.items ++ texts.numbers_line word.now numbers.now) }
 {
-    let mut digits = Buffer::new();
     let mut room = [0u8; ROOM_BYTES];
-    let mut used = 0;
+    let mut done = 0;
     text.extend_from_slice(word)?;
-    for number in numbers {
-        if used > ROOM_BYTES - NUMBER_BYTES {
-            text.extend_from_slice(&room[..used])?;
-            used = 0;
-        }
-        used = put_digits(&mut room, used, digits.format(*number).as_bytes());
+    while done < numbers.len() {
+        let next = numbers.len().min(done + ROOM_NUMBERS);
+        let from = put_numbers(&mut room, &numbers[done..next]);
+        text.extend_from_slice(&room[from..])?;
+        done = next;
     }
-    text.extend_from_slice(&room[..used])?;
     text.push(b'\n')?;
     Ok(())
 }
