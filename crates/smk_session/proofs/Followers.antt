@@ -1,7 +1,7 @@
 -- What is asked of a view that follows brushes, by what is kept of it.
-use Rattle.std.proofs.Common.{◌≡◌, ℕ, ◌+◌, ◌<◌, Bool, true, false, ◌||◌, cond, List, [], ◌∷◌, ◌++◌, length, map, take, get_or, refl, ap, sym, ◌∙◌, subst, arith, Option, Some, None, All, Ok, Err}
+use Rattle.std.proofs.Common.{◌≡◌, ℕ, ◌+◌, ◌<◌, Bool, true, false, ◌||◌, cond, List, [], ◌∷◌, ◌++◌, length, map, get_or, refl, ap, sym, ◌∙◌, subst, arith, Option, Some, None, All, Ok, Err}
 use Rattle.std.specs.List.{list_any}
-use Rattle.std.proofs.lemmas.List.{length-map, map-append, take_more}
+use Rattle.std.proofs.lemmas.List.{length-map}
 use Rattle.smk_base.specs.CatalogImage.{CatalogImage, ViewImage, catalog_image, view_image}
 use Rattle.smk_base.specs.Picks.{IsAscending}
 use Rattle.smk_base.specs.Places.{IsPlaces, Lists, has, members_at}
@@ -197,9 +197,3 @@ all_named refresh v ws checked are k d low =
       view = omega (arith, all k d low, length-map catalog.views view_image);
       declared = linked_declares (catalog_image catalog) v refresh.table (get_or ws k d) (ap (λ (l : List ℕ). has l (get_or ws k d)) (sym are) ∙ has_item ws k d low);
     }
-
--- one view more
-
-pub mapped_more : {X Y : Type 0} (f : X → Y) (xs : List X) (i : ℕ) (d : X) (ys : List Y) (y : Y) → i < length xs → ys ≡ map f (take i xs) → y ≡ f (get_or xs i d) → ys ++ y ∷ [] ≡ map f (take (i + 1) xs)
-mapped_more f xs i d ys y low are is =
-    ap (λ l. l ++ y ∷ []) are ∙ ap (λ z. map f (take i xs) ++ z ∷ []) is ∙ sym (map-append f (take i xs) (get_or xs i d ∷ [])) ∙ ap (map f) (sym (take_more xs i d low))

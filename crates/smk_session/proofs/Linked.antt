@@ -1,8 +1,8 @@
 -- The views that links name, and what is asked of them one after the other.
-use Rattle.std.proofs.Common.{◌≡◌, ℕ, ◌+◌, ◌<◌, ◌≤◌, Bool, true, false, ◌&&◌, ◌||◌, cond, List, [], ◌∷◌, ◌++◌, length, map, take, drop, get_or, refl, ap, sym, ◌∙◌, arith, nat_eq, Result, Ok, Err, All, inl, inr, append-nil, append_assoc, drop-cons, take-append-drop}
+use Rattle.std.proofs.Common.{◌≡◌, ℕ, ◌+◌, ◌<◌, ◌≤◌, Bool, true, false, ◌&&◌, ◌||◌, cond, List, [], ◌∷◌, ◌++◌, length, take, get_or, refl, ap, sym, ◌∙◌, arith, nat_eq, All, inl, inr, append-nil, append_assoc}
 use Rattle.std.specs.List.{filter, flat_map, list_any, sum_by}
 use Rattle.std.proofs.lemmas.Bool.{cases_Bool, eq-eqb, false≢true}
-use Rattle.std.proofs.lemmas.List.{map-append, take_more}
+use Rattle.std.proofs.lemmas.List.{take_more}
 use Rattle.std.proofs.lemmas.List.Elements.{All-append, All-head, All-tail}
 use Rattle.std.proofs.lemmas.List.Folds.{list_any-append, list_any_at}
 use Rattle.std.proofs.lemmas.List.Sums.{sum_by_more, sum_by-take-le}
@@ -11,9 +11,7 @@ use Rattle.smk_base.specs.Places.{has}
 use Rattle.smk_base.specs.declared.catalog.LinkInfo.{LinkInfo}
 use Rattle.smk_model.specs.Catalogs.{LinkFits}
 use Rattle.smk_model.specs.Session.{linked}
-use Rattle.smk_model.specs.Tables.{all_or_first}
 use Rattle.smk_model.specs.Workload.{declares_fwd, is_fwd, is_link, is_linked}
-use Rattle.smk_model.proofs.InOrder.{then_value, then_fault}
 
 -- a view is among those that links name where a link names it
 
@@ -57,20 +55,6 @@ linked_low catalog tables views v t h = linked_low_of (is_link v t) tables views
 
 pub has_item : (xs : List ℕ) (i d : ℕ) → i < length xs → has xs (get_or xs i d) ≡ true
 has_item xs i d low = list_any_at (nat_eq (get_or xs i d)) xs i d low (eq-eqb (get_or xs i d) (get_or xs i d) refl)
-
--- the values so far, one value more, and the first refusal
-
-pub told_more : {X A E : Type 0} (f : X → Result A E) (xs : List X) (i : ℕ) (d : X) (made : List A) (one : A) → i < length xs → all_or_first (map f (take i xs)) ≡ Ok made → f (get_or xs i d) ≡ Ok one
-    → all_or_first (map f (take (i + 1) xs)) ≡ Ok (made ++ one ∷ [])
-told_more f xs i d made one low h is = ap (λ l. all_or_first (map f l)) (take_more xs i d low) ∙ ap all_or_first (map-append f (take i xs) (get_or xs i d ∷ [])) ∙ then_value (map f (take i xs)) (f (get_or xs i d)) made one h is
-
-pub refused_first : {X A E : Type 0} (f : X → Result A E) (xs : List X) (i : ℕ) (d : X) (made : List A) (e : E) → i < length xs → all_or_first (map f (take i xs)) ≡ Ok made → f (get_or xs i d) ≡ Err e
-    → all_or_first (map f xs) ≡ Err e
-refused_first f xs i d made e low h is =
-    ap (λ l. all_or_first (map f l)) (sym (take-append-drop i xs))
-    ∙ ap all_or_first (map-append f (take i xs) (drop i xs))
-    ∙ ap (λ l. all_or_first (map f (take i xs) ++ map f l)) (drop-cons xs i d low)
-    ∙ then_fault (map f (take i xs)) (f (get_or xs i d)) _ made e h is
 
 -- the looks so far, and of one more
 

@@ -1,23 +1,32 @@
 -- What views are evaluated to that are made anew, and what is asked of them one after the other.
-use Rattle.std.proofs.Common.{◌≡◌, ◌∙◌, ◌<◌, ◌+◌, ℕ, List, [], ◌∷◌, Result, Ok, Err, IfOk, IfErr, OnOk, length, suc, take, drop, ◌++◌, get_or, ap, sym, subst, arith, drop-cons, Some, None}
+use Rattle.std.proofs.Common.{◌≡◌, ◌∙◌, ◌<◌, ◌+◌, ℕ, List, [], ◌∷◌, ◌++◌, Result, Ok, Err, IfOk, IfErr, OnOk, length, take, drop, get_or, map, ap, sym, subst, Some, None, ◌⊎◌, inl, inr, append-nil}
 use Rattle.std.specs.List.{AllZip}
-use Rattle.std.proofs.lemmas.List.{take_more}
+use Rattle.std.proofs.lemmas.List.{append_assoc, map-append, take-append-drop, take_more}
 use Rattle.smk_base.specs.PlanImage.{expr_of}
 use Rattle.smk_base.specs.Plans.{Expr}
 use Rattle.smk_base.specs.Rels.{Relation}
+use Rattle.smk_base.specs.declared.reply.Linked.{Linked}
 use Rattle.smk_base.specs.declared.value.Kind.{Kind}
 use Rattle.smk_model.specs.Plain.{eval}
+use Rattle.smk_model.specs.Replies.{Asked, linked_now}
 use Rattle.smk_model.specs.Selection.{each_kinds, each_rows, first_full, plan_kinds}
 use Rattle.smk_model.specs.Session.{leaves_now, view_at}
+use Rattle.smk_model.specs.Tables.{all_or_first}
 use Rattle.smk_model.specs.Values.{Row}
+use Rattle.smk_model.proofs.InOrder.{then_fault, then_value}
+use Rattle.smk_jobs.specs.Jobs.{FirstFault}
 use Rattle.smk_compose.specs.declared.fault.EvalFault.{EvalFault}
 use Rattle.smk_compose.specs.declared.fault.EvalFault.TheVariants.{Rows}
-use Rattle.smk_session.specs.Refreshed.{HasLeaves, IsAnew, IsContent, IsEvaluated, IsFetched, IsMade, IsOf, IsRun, IsSource, Shows, book_at, read_by_marks, state_next}
-use Rattle.smk_session.specs.declared.evaluating.Evaluated.{Evaluated}
+use Rattle.smk_session.specs.Answers.{Turns, content_at}
+use Rattle.smk_session.specs.Refreshed.{AreFollowed, Follows, FollowsAs, HasLeaves, IsContent, IsMade, IsOf, IsRun, IsSource, Shows, book_at, contents_at, linked_at, read_by_marks, state_next, views_of}
 use Rattle.smk_session.specs.declared.evaluating.Fetched.{Fetched}
 use Rattle.smk_session.specs.declared.evaluating.Source.{Source}
 use Rattle.smk_session.specs.declared.evaluating.Source.TheVariants as sources
+use Rattle.smk_session.specs.declared.following.Followed.{Followed}
 use Rattle.smk_session.specs.declared.refresh.Refresh.{Refresh}
+use Rattle.smk_session.specs.declared.turn.Content.{Content}
+use Rattle.smk_session.specs.declared.turned.Turned.{Turned}
+use Rattle.smk_session.specs.declared.turned.Turned.TheVariants.{Exhausted}
 
 -- what a plan is evaluated to, by the clauses on one result
 
@@ -52,60 +61,71 @@ shown_made : (refresh : Refresh) (w : ℕ) (rel : Relation) (made : Result Relat
 shown_made refresh w rel (Ok own) shows is = subst (Shows refresh w) (sym is) shows
 shown_made refresh w rel (Err e) shows is = λ node h. absurd (cc (sym is ∙ h))
 
-source_made : (refresh : Refresh) (w : ℕ) (source : Source) (made : Result Relation EvalFault) → IsSource refresh w source → IsMade source made → IsContent refresh w made
+pub source_made : (refresh : Refresh) (w : ℕ) (source : Source) (made : Result Relation EvalFault) → IsSource refresh w source → IsMade source made → IsContent refresh w made
 source_made refresh w (sources.Leaves plan leaves) made is run = leaves_made refresh w (expr_of plan.now) leaves made is run
 source_made refresh w (sources.Marks view reached) made is of = shown_made refresh w (read_by_marks view reached) made is of
 
--- and its marks are those that are fetched
+-- several views, one after the other
 
-pub made_anew : (refresh : Refresh) (w : ℕ) (fetched : Fetched) (view : Evaluated) → IsFetched refresh w fetched → IsEvaluated fetched view → IsAnew refresh w view
-made_anew refresh w fetched view is of = record { content = source_made refresh w fetched.source view.made is.source of.made; marks = of.marks ∙ is.marks }
+abbrev now_at : Refresh → ℕ → Asked Linked
+now_at refresh w = linked_now (book_at refresh) (state_next refresh) refresh.table w
 
--- so of several views
+abbrev followed_with : List Linked → List Content → Followed
+followed_with linked contents = record { linked = linked; contents = contents }
 
-pub all_anew : (refresh : Refresh) (views : List ℕ) (fetched : List Fetched) (made : List Evaluated) → AllZip (IsFetched refresh) views fetched → AllZip IsEvaluated fetched made → AllZip (IsAnew refresh) views made
-all_anew refresh [] [] [] are of = tt
-all_anew refresh [] [] (m ∷ ms) are of = absurd of
-all_anew refresh [] (f ∷ fs) made are of = absurd are
-all_anew refresh (w ∷ ws) [] made are of = absurd are
-all_anew refresh (w ∷ ws) (f ∷ fs) [] are of = absurd of
-all_anew refresh (w ∷ ws) (f ∷ fs) (m ∷ ms) are of = (made_anew refresh w f m are.0 of.0, all_anew refresh ws fs ms are.1 of.1)
+one_more : (refresh : Refresh) (done : List ℕ) (w : ℕ) (linked : List Linked) (contents : List Content) (one : Linked × Content) → AreFollowed refresh done (followed_with linked contents) → Follows refresh w one
+    → AreFollowed refresh (done ++ w ∷ []) (followed_with (linked ++ one.0 ∷ []) (contents ++ one.1 ∷ []))
+one_more refresh done w linked contents one are is = record {
+  linked = ap all_or_first (map-append (now_at refresh) done (w ∷ [])) ∙ then_value (map (now_at refresh) done) (now_at refresh w) linked one.0 are.linked is.linked;
+  contents = ap (λ l. l ++ one.1 ∷ []) are.contents ∙ ap (λ c. contents_at refresh done ++ c ∷ []) is.content ∙ sym (map-append (content_at (book_at refresh) (state_next refresh)) done (w ∷ []));
+}
 
--- pairs of two lists
+pub all_more : (refresh : Refresh) (done : List ℕ) (linked : List Linked) (contents : List Content) (all : List Fetched) (made : List (Linked × Content)) → AreFollowed refresh done (followed_with linked contents)
+    → AllZip (λ (fetched : Fetched) one. FollowsAs refresh fetched.view (Ok one)) all made
+    → AreFollowed refresh (done ++ views_of all) (followed_with (linked ++ map (λ (one : Linked × Content). one.0) made) (contents ++ map (λ (one : Linked × Content). one.1) made))
+all_more refresh done linked contents [] [] are zip = rw (append-nil done, append-nil linked, append-nil contents) are
+all_more refresh done linked contents [] (one ∷ made) are zip = absurd zip
+all_more refresh done linked contents (f ∷ all) [] are zip = absurd zip
+all_more refresh done linked contents (f ∷ all) (one ∷ made) are zip =
+    rw (← append_assoc done (f.view ∷ []) (views_of all), ← append_assoc linked (one.0 ∷ []) (map (λ (m : Linked × Content). m.0) made), ← append_assoc contents (one.1 ∷ []) (map (λ (m : Linked × Content). m.1) made))
+    (all_more refresh (done ++ f.view ∷ []) (linked ++ one.0 ∷ []) (contents ++ one.1 ∷ []) all made (one_more refresh done f.view linked contents one are zip.0) zip.1)
 
--- from the pair at each place
-pub zip_of : {A B : Type 0} (R : A → B → Type 0) (xs : List A) (ys : List B) → length ys ≡ length xs → ((i : ℕ) (d : A) (e : B) → i < length xs → R (get_or xs i d) (get_or ys i e)) → AllZip R xs ys
-zip_of R [] [] long each = tt
-zip_of R [] (y ∷ ys) long each = absurd (omega (arith, long))
-zip_of R (x ∷ xs) [] long each = absurd (omega (arith, long))
-zip_of R (x ∷ xs) (y ∷ ys) long each = (each 0 x y (omega arith), zip_of R xs ys (omega (arith, long)) (λ i d e low. each (suc i) d e (omega (arith, low))))
+-- and the first refusal
 
-some_left : {A B : Type 0} (R : A → B → Type 0) (x : A) (xs : List A) (ys : List B) → AllZip R (x ∷ xs) ys → 0 < length ys
-some_left R x xs [] all = absurd all
-some_left R x xs (y ∷ ys) all = omega arith
+pub refused_among : (refresh : Refresh) (done rest : List ℕ) (linked : List Linked) (contents : List Content) (all : List Fetched) (e : Turned) → AreFollowed refresh done (followed_with linked contents)
+    → FirstFault {T = Linked × Content} (λ (fetched : Fetched). FollowsAs refresh fetched.view) all e ⊎ (e ≡ Exhausted) → Turns e (linked_at refresh (done ++ (views_of all ++ rest)))
+refused_among refresh done rest linked contents [] e are (inl first) = absurd first
+refused_among refresh done rest linked contents (f ∷ all) e are (inl (Ok one, follows, first)) =
+    subst (λ (l : List ℕ). Turns e (linked_at refresh l)) (append_assoc done (f.view ∷ []) (views_of all ++ rest))
+    (refused_among refresh (done ++ f.view ∷ []) rest (linked ++ one.0 ∷ []) (contents ++ one.1 ∷ []) all e (one_more refresh done f.view linked contents one are follows) (inl first))
+refused_among refresh done rest linked contents (f ∷ all) e are (inl (Err fault, turns, same)) = λ refusal is.
+    ap all_or_first (map-append (now_at refresh) done (f.view ∷ (views_of all ++ rest)))
+    ∙ then_fault (map (now_at refresh) done) (now_at refresh f.view) (map (now_at refresh) (views_of all ++ rest)) linked refusal are.linked (turns refusal (same ∙ is))
+refused_among refresh done rest linked contents all e are (inr none) = λ refusal is. absurd (cc (sym none ∙ is))
 
--- where the first list goes on at a place, so does the second
+-- those that wait, once those that are due are made
 
-first_left : {A B : Type 0} (R : A → B → Type 0) (xs : List A) (i : ℕ) (d : A) (ys : List B) → i < length xs → AllZip R (drop i xs) ys → AllZip R (get_or xs i d ∷ drop (i + 1) xs) ys
-first_left R xs i d ys low all =
-    let next : suc i ≡ i + 1 = omega arith in
-    subst (λ n. AllZip R (get_or xs i d ∷ drop n xs) ys) next (subst (λ l. AllZip R l ys) (drop-cons xs i d low) all)
+waiting_is : (due rest waiting : List Fetched) → due ++ rest ≡ waiting → views_of due ++ views_of rest ≡ views_of waiting
+waiting_is due rest waiting cut = sym (map-append (λ (fetched : Fetched). fetched.view) due rest) ∙ ap views_of cut
 
-pub zip_left : {A B : Type 0} (R : A → B → Type 0) (xs : List A) (i : ℕ) (d : A) (ys : List B) → i < length xs → AllZip R (drop i xs) ys → 0 < length ys
-zip_left R xs i d ys low all = some_left R (get_or xs i d) (drop (i + 1) xs) ys (first_left R xs i d ys low all)
+pub next_waits : (refresh : Refresh) (views : List ℕ) (i d : ℕ) (before after : Followed) (due rest waiting next : List Fetched) → i < length views → due ++ rest ≡ waiting
+    → (done : List ℕ) × (done ++ views_of waiting ≡ take i views) × AreFollowed refresh done before → ((done : List ℕ) → AreFollowed refresh done before → AreFollowed refresh (done ++ views_of due) after)
+    → views_of next ≡ views_of rest ++ get_or views i d ∷ [] → (done : List ℕ) × (done ++ views_of next ≡ take (i + 1) views) × AreFollowed refresh done after
+next_waits refresh views i d before after due rest waiting next low cut (done, is, are) put more = (
+  done ++ views_of due,
+  ap (λ l. done ++ views_of due ++ l) more
+      ∙ sym (append_assoc (done ++ views_of due) (views_of rest) (get_or views i d ∷ []))
+      ∙ ap (λ l. l ++ get_or views i d ∷ []) (append_assoc done (views_of due) (views_of rest) ∙ ap (λ l. done ++ l) (waiting_is due rest waiting cut) ∙ is)
+      ∙ sym (take_more views i d low),
+  put done are,
+)
 
-pub zip_next : {A B : Type 0} (R : A → B → Type 0) (xs : List A) (i : ℕ) (d : A) (ys rest : List B) (y : B) → i < length xs → AllZip R (drop i xs) ys → ys ≡ y ∷ rest → R (get_or xs i d) y × AllZip R (drop (i + 1) xs) rest
-zip_next R xs i d ys rest y low all is = subst (AllZip R (get_or xs i d ∷ drop (i + 1) xs)) is (first_left R xs i d ys low all)
-
--- one pair more
-
-zip_behind : {A B : Type 0} (R : A → B → Type 0) (xs : List A) (ys : List B) (x : A) (y : B) → AllZip R xs ys → R x y → AllZip R (xs ++ x ∷ []) (ys ++ y ∷ [])
-zip_behind R [] [] x y all one = (one, tt)
-zip_behind R [] (w ∷ ws) x y all one = absurd all
-zip_behind R (v ∷ vs) [] x y all one = absurd all
-zip_behind R (v ∷ vs) (w ∷ ws) x y all one = (all.0, zip_behind R vs ws x y all.1 one)
-
-pub zip_more : {A B : Type 0} (R : A → B → Type 0) (xs : List A) (i : ℕ) (d : A) (ys zs : List B) (y : B) → i < length xs → AllZip R (take i xs) ys → R (get_or xs i d) y → zs ≡ ys ++ y ∷ [] → AllZip R (take (i + 1) xs) zs
-zip_more R xs i d ys zs y low all one is =
-    subst (AllZip R (take (i + 1) xs)) (sym is)
-    (subst (λ l. AllZip R l (ys ++ y ∷ [])) (sym (take_more xs i d low)) (zip_behind R (take i xs) ys (get_or xs i d) y all one))
+pub refused_due : (refresh : Refresh) (views : List ℕ) (i : ℕ) (before : Followed) (due rest waiting : List Fetched) (e : Turned) → due ++ rest ≡ waiting → (done : List ℕ) × (done ++ views_of waiting ≡ take i views) × AreFollowed refresh done before
+    → ((done after : List ℕ) → AreFollowed refresh done before → Turns e (linked_at refresh (done ++ (views_of due ++ after)))) → Turns e (linked_at refresh views)
+refused_due refresh views i before due rest waiting e cut (done, is, are) turns =
+    subst (λ (l : List ℕ). Turns e (linked_at refresh l))
+    (ap (λ l. done ++ l) (sym (append_assoc (views_of due) (views_of rest) (drop i views)) ∙ ap (λ l. l ++ drop i views) (waiting_is due rest waiting cut))
+    ∙ sym (append_assoc done (views_of waiting) (drop i views))
+    ∙ ap (λ l. l ++ drop i views) is
+    ∙ take-append-drop i views)
+    (turns done (views_of rest ++ drop i views) are)

@@ -1,5 +1,5 @@
 -- What the calls say that make views anew under other brushes.
-use Rattle.std.specs.Prelude.{◌≡◌, ◌<◌, ◌^◌, ℕ, Bool, ◌&&◌, nat_eq, List, Option, Result, MatchResult, true, Some, None, All, IfSome, length, map}
+use Rattle.std.specs.Prelude.{◌≡◌, ◌<◌, ◌^◌, ℕ, Bool, ◌&&◌, nat_eq, List, Option, Result, Ok, MatchResult, true, Some, None, All, IfSome, length, map}
 use Rattle.smk_base.specs.CatalogImage.{CatalogImage}
 use Rattle.smk_base.specs.PlanImage.{expr_of}
 use Rattle.smk_base.specs.Plans.{Expr}
@@ -18,15 +18,16 @@ use Rattle.smk_compose.specs.declared.fault.EvalFault.TheVariants.{NoMemory, Row
 use Rattle.smk_marks.specs.Views.{CanGroup, EndsInGroups, ends_in_groups, grouped_by_marks}
 use Rattle.smk_marks.specs.declared.reached.Reached.{Reached}
 use Rattle.smk_marks.specs.declared.view.KeptView.{KeptView}
-use Rattle.smk_session.specs.Answers.{AreOn, IsLent, book_of, chosen_of, content_at, state_at}
+use Rattle.smk_session.specs.Answers.{AreOn, IsLent, Turns, book_of, chosen_of, content_at, state_at}
 use Rattle.smk_session.specs.Sessions.{BrushFits, opened, workbook_image}
-use Rattle.smk_session.specs.declared.evaluating.Evaluated.{Evaluated}
 use Rattle.smk_session.specs.declared.evaluating.Fetched.{Fetched}
 use Rattle.smk_session.specs.declared.evaluating.Source.{Source}
 use Rattle.smk_session.specs.declared.evaluating.Source.TheVariants as sources
+use Rattle.smk_session.specs.declared.following.Followed.{Followed}
 use Rattle.smk_session.specs.declared.lent.Lent.{Lent}
 use Rattle.smk_session.specs.declared.refresh.Refresh.{Refresh}
 use Rattle.smk_session.specs.declared.turn.Content.{Content}
+use Rattle.smk_session.specs.declared.turned.Turned.{Turned}
 
 -- the brushes that come into force fit, and the table is there
 pub record IsRefresh (refresh : Refresh) : Type 0 where
@@ -76,10 +77,18 @@ pub record Shows (refresh : Refresh) (w : ℕ) (rel : Relation) : Type 0 where
 abbrev pub IsContent : Refresh → ℕ → Result Relation EvalFault → Type 0
 IsContent refresh w made = MatchResult made (Shows refresh w) (λ e. (node : ℕ) → e ≡ Rows node → first_full (view_at (book_at refresh) w).plan (leaves_now (book_at refresh) (state_next refresh) w) ≡ Some node)
 
--- a view made anew has this content, and its marks
-pub record IsAnew (refresh : Refresh) (w : ℕ) (view : Evaluated) : Type 0 where
-  pub content : IsContent refresh w view.made
-  pub marks : view.marks ≡ marks_next refresh w
+-- a view made anew, with what is kept of it, or the refusal of its first node that has too many rows
+pub record Follows (refresh : Refresh) (w : ℕ) (made : Linked × Content) : Type 0 where
+  pub linked : linked_now (book_at refresh) (state_next refresh) refresh.table w ≡ Ok made.0
+  pub content : made.1 ≡ content_at (book_at refresh) (state_next refresh) w
+
+abbrev pub FollowsAs : Refresh → ℕ → Result (Linked × Content) Turned → Type 0
+FollowsAs refresh w made = MatchResult made (Follows refresh w) (λ turned. Turns turned (linked_now (book_at refresh) (state_next refresh) refresh.table w))
+
+-- these views are made anew
+pub record AreFollowed (refresh : Refresh) (views : List ℕ) (followed : Followed) : Type 0 where
+  pub linked : linked_at refresh views ≡ Ok followed.linked
+  pub contents : followed.contents ≡ contents_at refresh views
 
 -- what is kept of a view that is a grouping over a chain: its first content, and its forward lists
 pub record IsKept (held : Lent) (w : ℕ) (view : KeptView) : Type 0 where
@@ -120,18 +129,10 @@ abbrev pub IsReady : Source → Type 0
 IsReady (sources.Leaves plan leaves) = CanRun (expr_of plan.now) leaves
 IsReady (sources.Marks view reached) = IfSome reached (CanGroup view)
 
-abbrev pub CanEvaluate : Fetched → Type 0
-CanEvaluate fetched = IsReady fetched.source
-
 -- what is made from it
 abbrev pub IsMade : Source → Result Relation EvalFault → Type 0
 IsMade (sources.Leaves plan leaves) made = IsRun (expr_of plan.now) leaves made
 IsMade (sources.Marks view reached) made = IsOf (read_by_marks view reached) made
-
--- a view is evaluated where that is made, and its marks are those that are fetched
-pub record IsEvaluated (fetched : Fetched) (view : Evaluated) : Type 0 where
-  pub made : IsMade fetched.source view.made
-  pub marks : view.marks ≡ fetched.marks
 
 -- a view's plan with the rows selected for it
 pub record HasLeaves (refresh : Refresh) (w : ℕ) (plan : Expr) (leaves : List Relation) : Type 0 where
@@ -144,7 +145,12 @@ abbrev pub IsSource : Refresh → ℕ → Source → Type 0
 IsSource refresh w (sources.Leaves plan leaves) = HasLeaves refresh w (expr_of plan.now) leaves
 IsSource refresh w (sources.Marks view reached) = Shows refresh w (read_by_marks view reached)
 
--- with the view's marks
-pub record IsFetched (refresh : Refresh) (w : ℕ) (fetched : Fetched) : Type 0 where
-  pub source : IsSource refresh w fetched.source
-  pub marks : fetched.marks ≡ marks_next refresh w
+-- a view can be made from what is fetched for it, with its marks
+pub record IsFetched (refresh : Refresh) (fetched : Fetched) : Type 0 where
+  pub source : IsSource refresh fetched.view fetched.source
+  pub ready : IsReady fetched.source
+  pub marks : fetched.marks ≡ marks_next refresh fetched.view
+
+-- the views for which all is fetched
+abbrev pub views_of : List Fetched → List ℕ
+views_of all = map (λ (fetched : Fetched). fetched.view) all

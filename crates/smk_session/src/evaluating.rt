@@ -1,9 +1,8 @@
 // Views, made anew from what is fetched for them.
-ghost use Rattle.std.specs.Prelude.{◌≡◌, All, IfOk, IfSome};
-ghost use Rattle.std.specs.List.{AllZip};
+ghost use Rattle.std.specs.Prelude.{◌≡◌, IfOk, IfSome};
 ghost use Rattle.smk_base.specs.PlanImage.{expr_of};
 ghost use Rattle.smk_marks.specs.Views.{CanGroup};
-ghost use Rattle.smk_session.specs.Refreshed.{CanEvaluate, CanRun, IsEvaluated, IsReady, IsRun, IsMade, read_by_marks};
+ghost use Rattle.smk_session.specs.Refreshed.{CanRun, IsReady, IsRun, IsMade, read_by_marks};
 
 use crate::workers::Workers;
 use smk_base::{Plan, Rel, Rids};
@@ -14,7 +13,7 @@ use smk_outside::Gate;
 use smk_par::Pieces;
 use smk_plain::Plain;
 use std::alloc::{AllocError, Global};
-use std::thread::{Threads, map_vec};
+use std::thread::Threads;
 
 // What a view is made from.
 #[derive(Drop)]
@@ -31,49 +30,17 @@ pub(crate) enum Source<'a> {
     },
 }
 
-// A view for which all is fetched that it is made from: its number among the linked ones, these things, and its marks that the selected rows reach.
+// A view for which all is fetched that it is made from: its place among the linked ones, its number, these things, and its marks that the selected rows reach.
 #[derive(Drop)]
 pub(crate) struct Fetched<'a> {
     pub(crate) place: u32,
+    pub(crate) view: u32,
     pub(crate) source: Source<'a>,
     pub(crate) marks: Rids,
 }
 
-// A view that is evaluated: its rows, or the node that has too many, and its marks.
-#[derive(Drop)]
-pub(crate) struct Evaluated {
-    pub(crate) made: Result<Rel, EvalFault>,
-    pub(crate) marks: Rids,
-}
-
-// A view, by steps that are cut into pieces where there are several workers.
+// The rows of a view, by steps that are cut into pieces where there are several workers.
 pub(crate) fn evaluate<R: Threads + Sync, G: Gate + Sync>(
-    work: &Work<'_, R, Workers<'_, G>>,
-    fetched: Fetched<'_>,
-) -> Evaluated
-    requires { CanEvaluate fetched }
-    ensures { IsEvaluated fetched.entry result }
-{
-    Evaluated {
-        made: make(work, fetched.source),
-        marks: fetched.marks,
-    }
-}
-
-// A view that is evaluated beside others: it passes the gate first.
-fn evaluate_beside<R: Threads + Sync, G: Gate + Sync>(
-    work: &Work<'_, R, Workers<'_, G>>,
-    fetched: Fetched<'_>,
-) -> Evaluated
-    requires { CanEvaluate fetched }
-    ensures { IsEvaluated fetched.entry result }
-{
-    work.crew.gate.arrive(fetched.place);
-    evaluate(work, fetched)
-}
-
-// The rows of a view.
-fn make<R: Threads + Sync, G: Gate + Sync>(
     work: &Work<'_, R, Workers<'_, G>>,
     source: Source<'_>,
 ) -> Result<Rel, EvalFault>
@@ -117,43 +84,4 @@ fn read_marks(
         Some(reached) => content_by_marks(alloc, view, reached),
         None => view.content.copy(alloc),
     }
-}
-
-// Several views, all at once. No step of them is cut.
-pub(crate) fn evaluate_at_once<R: Threads + Sync, G: Gate + Sync>(
-    work: &Work<'_, R, Workers<'_, G>>,
-    views: Vec<Fetched<'_>>,
-) -> Result<Vec<Evaluated>, AllocError>
-    requires { All CanEvaluate views.items }
-    ensures { IfOk result (λ made. AllZip IsEvaluated views.entry.items made.items) }
-{
-    let crew = Workers {
-        gate: work.crew.gate,
-        workers: 1,
-    };
-    let alone = Work {
-        rt: work.rt,
-        alloc: work.alloc,
-        crew: &crew,
-    };
-    evaluate_each(&alone, views)
-}
-
-// Several views, all at once, each by as many workers as `work` has.
-fn evaluate_each<R: Threads + Sync, G: Gate + Sync>(
-    work: &Work<'_, R, Workers<'_, G>>,
-    views: Vec<Fetched<'_>>,
-) -> Result<Vec<Evaluated>, AllocError>
-    requires { All CanEvaluate views.items }
-    ensures { IfOk result (λ made. AllZip IsEvaluated views.entry.items made.items) }
-{
-    let made = map_vec(
-        work.rt,
-        views,
-        &|fetched: Fetched<'_>| -> Evaluated
-            requires { CanEvaluate fetched }
-            ensures { IsEvaluated fetched.entry result }
-        { evaluate_beside(work, fetched) },
-    )?;
-    Ok(made)
 }

@@ -1,5 +1,5 @@
 // The views that follow a brush, made anew under other brushes.
-ghost use Rattle.std.specs.Prelude.{◌≡◌, ◌<◌, ◌≤◌, ◌+◌, ◌∷◌, ℕ, Ok, None, Some, Option, true, false, cond, length, All, IfOk, IfSome, IfNone, MatchResult};
+ghost use Rattle.std.specs.Prelude.{◌≡◌, ◌<◌, ◌≤◌, ◌+◌, ◌++◌, ◌∷◌, [], ℕ, List, Ok, None, Some, Option, true, false, cond, length, All, IfOk, IfErr, IfSome, IfNone, MatchResult, OnOk};
 ghost use Rattle.smk_base.specs.Places.{members_at};
 ghost use Rattle.smk_base.specs.PlanImage.{expr_of};
 ghost use Rattle.smk_model.specs.Composed.{forwards};
@@ -9,14 +9,14 @@ ghost use Rattle.smk_model.specs.Replies as replies;
 ghost use Rattle.smk_model.specs.Session as sessions;
 ghost use Rattle.smk_model.specs.Workload.{declares_fwd};
 ghost use Rattle.smk_base.specs.declared.reply.Linked.{Linked as LinkedImage};
-ghost use Rattle.std.specs.List.{AllZip, list_any, sum_by};
+ghost use Rattle.std.specs.List.{list_any, sum_by};
 ghost use Rattle.smk_compose.specs.declared.fault.EvalFault.TheVariants as faults;
 ghost use Rattle.smk_session.specs.Answers.{Turns, rids_or_all, content_at};
-ghost use Rattle.smk_session.specs.Refreshed.{CanEvaluate, IsAnew, IsChosen, IsFetched, IsKept, IsReady, IsRefresh, IsSource, Names, book_at, contents_at, groups_table, linked_at, looks_now, marks_next, state_next};
+ghost use Rattle.smk_session.specs.Refreshed.{AreFollowed, FollowsAs, IsChosen, IsFetched, IsKept, IsReady, IsRefresh, IsSource, Names, book_at, contents_at, groups_table, linked_at, looks_now, marks_next, state_next, views_of};
 ghost use Rattle.smk_session.specs.Sessions.{follows};
 
 use crate::chosen::{chosen, picks};
-use crate::evaluating::{Evaluated, Fetched, Source, evaluate, evaluate_at_once};
+use crate::evaluating::{Fetched, Source, evaluate};
 use crate::lineage::fwd_kept;
 use crate::links::{follows_some, linked};
 use crate::opening::view_of;
@@ -27,11 +27,11 @@ use crate::workers::Workers;
 use smk_base::{Linked, Linkeds, Refusal, Rids};
 use smk_body::Work;
 use smk_compose::{EvalFault, fetch_leaves};
+use smk_jobs::{due, each_or_first};
 use smk_marks::{KeptView, grouped_chain, reach, scanned_table};
 use smk_outside::{Gate, Steps};
 use smk_rid::RidMap;
 use std::alloc::{AllocError, Global};
-use std::collections::VecDeque;
 use std::sync::ledger::Ledger;
 use std::thread::Threads;
 
@@ -193,48 +193,33 @@ fn fetch_source<'a, L: Ledger>(
     }
 }
 
-// What a view is made from, and its marks, by the rows selected for it on the table. These are worked out once.
+// Puts last a view with what it is made from, and its marks, by the rows selected for it on the table. These are worked out once.
 fn fetch<'a, L: Ledger>(
     alloc: Global,
     refresh: &Refresh<'a>,
     place: u32,
     w: u32,
+    waiting: &mut Vec<Fetched<'a>>,
     steps: &mut Steps<L>,
-) -> Result<Fetched<'a>, AllocError>
+) -> Result<(), AllocError>
     requires refresh { IsRefresh refresh.now }
     requires view { w < length refresh.now.held.now.catalog.now.views }
     requires declared { declares_fwd (book_at refresh.now) w refresh.now.table ≡ true }
-    ensures fetched { IfOk result (IsFetched refresh.now w) }
-    ensures ready { IfOk result CanEvaluate }
+    ensures fetched { OnOk result (All (IsFetched refresh.now) waiting.old.items → All (IsFetched refresh.now) waiting.new.items) }
+    ensures views { OnOk result (views_of waiting.new.items ≡ views_of waiting.old.items ++ w ∷ []) }
     ensures looks { steps.new ≤ steps.old + looks_now refresh.now w }
 {
     let catalog = refresh.held.catalog;
     let chosen = chosen(alloc, catalog, refresh.brushes, w, refresh.table)?;
     let source = fetch_source(alloc, refresh, w, &chosen, steps)?;
     let marks = marks_now(alloc, refresh, w, chosen)?;
-    Ok(Fetched {
+    waiting.push(Fetched {
         place,
+        view: w,
         source,
         marks,
-    })
-}
-
-// A view made anew over the rows selected for it. No lineage is captured.
-#[tactic(auto, using(crate::proofs::Refreshing::made_anew))]
-fn view_now<R: Threads + Sync, G: Gate + Sync, L: Ledger>(
-    work: &Work<'_, R, Workers<'_, G>>,
-    refresh: &Refresh<'_>,
-    w: u32,
-    steps: &mut Steps<L>,
-) -> Result<Evaluated, AllocError>
-    requires refresh { IsRefresh refresh.now }
-    requires view { w < length refresh.now.held.now.catalog.now.views }
-    requires declared { declares_fwd (book_at refresh.now) w refresh.now.table ≡ true }
-    ensures anew { IfOk result (IsAnew refresh.now w) }
-    ensures looks { steps.new ≤ steps.old + looks_now refresh.now w }
-{
-    let fetched = fetch(work.alloc, refresh, 0, w, steps)?;
-    Ok(evaluate(work, fetched))
+    })?;
+    Ok(())
 }
 
 // What is kept of a view that shows this: nothing where no brush concerns it, since it shows its first content then.
@@ -252,141 +237,98 @@ fn to_keep(alloc: Global, refresh: &Refresh<'_>, shown: &Linked) -> Result<Conte
     })
 }
 
-// A linked view that is made anew, with what is kept of it.
-fn followed_one(
-    alloc: Global,
+// A view made anew over what is fetched for it, with what is kept of it. No lineage is captured. A view that is made beside others passes the gate first.
+#[tactic(auto, using(crate::proofs::Refreshing::source_made))]
+fn follow_one<R: Threads + Sync, G: Gate + Sync>(
+    work: &Work<'_, R, Workers<'_, G>>,
+    most: u32,
     refresh: &Refresh<'_>,
-    w: u32,
-    view: Evaluated,
+    fetched: Fetched<'_>,
 ) -> Result<(Linked, Content), Turned>
-    requires { IsAnew refresh.now w view }
-    ensures told { MatchResult result (λ made. replies.linked_now (book_at refresh.now) (state_next refresh.now) refresh.now.table w ≡ Ok made.0) (λ turned. Turns turned (replies.linked_now (book_at refresh.now) (state_next refresh.now) refresh.now.table w)) }
-    ensures content { IfOk result (λ made. made.1 ≡ content_at (book_at refresh.now) (state_next refresh.now) w) }
+    requires { IsFetched refresh.now fetched }
+    ensures { FollowsAs refresh.now fetched.entry.view result }
 {
-    let Evaluated { made, marks } = view;
-    match made {
+    let Fetched {
+        place,
+        view,
+        source,
+        marks,
+    } = fetched;
+    if most > 1 {
+        work.crew.gate.arrive(place);
+    }
+    match evaluate(work, source) {
         Ok(rel) => {
-            let shown = Linked {
-                view: w,
-                marks,
-                rel,
-            };
-            let content = to_keep(alloc, refresh, &shown)?;
+            let shown = Linked { view, marks, rel };
+            let content = to_keep(work.alloc, refresh, &shown)?;
             Ok((shown, content))
         }
-        Err(fault) => Err(at_node(w, fault)),
+        Err(fault) => Err(at_node(view, fault)),
     }
 }
 
-// These views, one after the other, or the refusal of the first that has too many rows.
-fn follow_in_turn<R: Threads + Sync, G: Gate + Sync, L: Ledger>(
+// Puts last the views for which all is fetched, so many of them made at once, or gives the refusal of the first that has too many rows.
+fn put_each<R: Threads + Sync, G: Gate + Sync>(
     work: &Work<'_, R, Workers<'_, G>>,
+    most: u32,
+    refresh: &Refresh<'_>,
+    all: Vec<Fetched<'_>>,
+    followed: &mut Followed,
+) -> Result<(), Turned>
+    requires most { 1 ≤ most }
+    requires fetched { All (IsFetched refresh.now) all.items }
+    ensures followed { OnOk result ((done : List ℕ) → AreFollowed refresh.now done followed.old → AreFollowed refresh.now (done ++ views_of all.entry.items) followed.new) }
+    ensures turned { IfErr result (λ turned. (done rest : List ℕ) → AreFollowed refresh.now done followed.old → Turns turned (linked_at refresh.now (done ++ (views_of all.entry.items ++ rest)))) }
+{
+    let made = each_or_first(
+        work.rt,
+        work.alloc,
+        most,
+        all,
+        &|fetched: Fetched<'_>| -> Result<(Linked, Content), Turned>
+            requires { IsFetched refresh.now fetched }
+            ensures { FollowsAs refresh.entry.now fetched.entry.view result }
+        { follow_one(work, most, refresh, fetched) },
+    )?;
+    for (shown, content) in made {
+        followed.contents.push(content)?;
+        followed.linked.push(shown)?;
+    }
+    Ok(())
+}
+
+// These views, or the refusal of the first that has too many rows. So many are made at once when their rows are fetched.
+fn follow_by<R: Threads + Sync, G: Gate + Sync, L: Ledger>(
+    work: &Work<'_, R, Workers<'_, G>>,
+    most: u32,
     refresh: &Refresh<'_>,
     views: &[u32],
     steps: &mut Steps<L>,
 ) -> Result<Followed, Turned>
+    requires most { 1 ≤ most }
     requires refresh { IsRefresh refresh.now }
     requires named { Names refresh.now views.now }
     ensures linked { MatchResult result (λ followed. linked_at refresh.now views.now ≡ Ok followed.linked) (λ turned. Turns turned (linked_at refresh.now views.now)) }
     ensures contents { IfOk result (λ followed. followed.contents ≡ contents_at refresh.now views.now) }
     ensures looks { steps.new ≤ steps.old + sum_by (looks_now refresh.now) views.now }
 {
-    let mut shown = Linkeds::new(work.alloc);
-    let mut contents = Contents::new(work.alloc);
-    for w in views {
-        let view = view_now(work, refresh, *w, steps)?;
-        let one = followed_one(work.alloc, refresh, *w, view)?;
-        contents.push(one.1)?;
-        shown.push(one.0)?;
-    }
-    Ok(Followed {
-        linked: shown,
-        contents,
-    })
-}
-
-// These views with the rows selected for them, one look each.
-fn fetch_each<'a, L: Ledger>(
-    alloc: Global,
-    refresh: &Refresh<'a>,
-    views: &[u32],
-    steps: &mut Steps<L>,
-) -> Result<Vec<Fetched<'a>>, AllocError>
-    requires refresh { IsRefresh refresh.now }
-    requires named { Names refresh.now views.now }
-    ensures fetched { IfOk result (λ all. AllZip (IsFetched refresh.now) views.now all.items) }
-    ensures ready { IfOk result (λ all. All CanEvaluate all.items) }
-    ensures looks { steps.new ≤ steps.old + sum_by (looks_now refresh.now) views.now }
-{
-    let mut all = Vec::with_capacity(alloc, views.len())?;
+    let mut followed = Followed {
+        linked: Linkeds::new(work.alloc),
+        contents: Contents::new(work.alloc),
+    };
+    let mut waiting = Vec::new(work.alloc);
     let mut place = 0u32;
     for w in views {
-        let one = fetch(alloc, refresh, place, *w, steps)?;
-        all.push(one)?;
+        let all = due(work.alloc, most, &mut waiting);
+        put_each(work, most, refresh, all, &mut followed)?;
+        fetch(work.alloc, refresh, place, *w, &mut waiting, steps)?;
         place = place.saturating_add(1);
     }
-    Ok(all)
+    put_each(work, most, refresh, waiting, &mut followed)?;
+    Ok(followed)
 }
 
-// These views, made anew, or the refusal of the first that has too many rows.
-fn gather(
-    alloc: Global,
-    refresh: &Refresh<'_>,
-    views: &[u32],
-    made: Vec<Evaluated>,
-) -> Result<Followed, Turned>
-    requires refresh { IsRefresh refresh.now }
-    requires named { Names refresh.now views.now }
-    requires made { AllZip (IsAnew refresh.now) views.now made.items }
-    ensures linked { MatchResult result (λ followed. linked_at refresh.now views.now ≡ Ok followed.linked) (λ turned. Turns turned (linked_at refresh.now views.now)) }
-    ensures contents { IfOk result (λ followed. followed.contents ≡ contents_at refresh.now views.now) }
-{
-    let mut rest = VecDeque::from_vec(made);
-    let mut shown = Linkeds::new(alloc);
-    let mut contents = Contents::new(alloc);
-    for w in views {
-        let first = first_of(&mut rest);
-        let one = followed_one(alloc, refresh, *w, first)?;
-        contents.push(one.1)?;
-        shown.push(one.0)?;
-    }
-    Ok(Followed {
-        linked: shown,
-        contents,
-    })
-}
-
-// Takes the first one out.
-fn first_of<T: Drop>(queue: &mut VecDeque<T>) -> T
-    requires { 0 < length queue.old.items }
-    ensures { queue.old.items ≡ result ∷ queue.new.items }
-{
-    match queue.pop_front() {
-        Some(first) => first,
-        None => unreachable!(),
-    }
-}
-
-// These views, all at once once their rows are fetched, or the refusal of the first that has too many rows.
-#[tactic(auto, using(crate::proofs::Refreshing::all_anew))]
-fn follow_at_once<R: Threads + Sync, G: Gate + Sync, L: Ledger>(
-    work: &Work<'_, R, Workers<'_, G>>,
-    refresh: &Refresh<'_>,
-    views: &[u32],
-    steps: &mut Steps<L>,
-) -> Result<Followed, Turned>
-    requires refresh { IsRefresh refresh.now }
-    requires named { Names refresh.now views.now }
-    ensures linked { MatchResult result (λ followed. linked_at refresh.now views.now ≡ Ok followed.linked) (λ turned. Turns turned (linked_at refresh.now views.now)) }
-    ensures contents { IfOk result (λ followed. followed.contents ≡ contents_at refresh.now views.now) }
-    ensures looks { steps.new ≤ steps.old + sum_by (looks_now refresh.now) views.now }
-{
-    let fetched = fetch_each(work.alloc, refresh, views, steps)?;
-    let made = evaluate_at_once(work, fetched)?;
-    gather(work.alloc, refresh, views, made)
-}
-
-// The views that the links of a view on the table name, or the refusal of the first that has too many rows. Two or more are evaluated at once where there are several workers.
+// The views that the links of a view on the table name, or the refusal of the first that has too many rows. Two or more are made at once where there are several workers, and no step of them is cut.
 pub(crate) fn follow<R: Threads + Sync, G: Gate + Sync, L: Ledger>(
     work: &Work<'_, R, Workers<'_, G>>,
     refresh: &Refresh<'_>,
@@ -399,9 +341,19 @@ pub(crate) fn follow<R: Threads + Sync, G: Gate + Sync, L: Ledger>(
     ensures looks { steps.new ≤ steps.old + looks_of_linked (book_at refresh.now) (state_next refresh.now) v refresh.now.table }
 {
     let views = linked(work.alloc, refresh.held.catalog, v, refresh.table)?;
-    if work.crew.workers == 1 || views.len() < 2 {
-        follow_in_turn(work, refresh, views.as_slice(), steps)
+    let (most, workers) = if work.crew.workers == 1 || views.len() < 2 {
+        (1, work.crew.workers)
     } else {
-        follow_at_once(work, refresh, views.as_slice(), steps)
-    }
+        (u32::MAX, 1)
+    };
+    let crew = Workers {
+        gate: work.crew.gate,
+        workers,
+    };
+    let each = Work {
+        rt: work.rt,
+        alloc: work.alloc,
+        crew: &crew,
+    };
+    follow_by(&each, most, refresh, views.as_slice(), steps)
 }
