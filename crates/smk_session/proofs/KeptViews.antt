@@ -1,9 +1,9 @@
 -- What is made of a view from what is kept of it shows its content.
-use Rattle.std.proofs.Common.{◌≡◌, ◌≢◌, ℕ, ◌+◌, ◌<◌, ◌≤◌, Bool, true, false, ◌&&◌, inl, inr, cond, List, [], ◌∷◌, length, map, get_or, refl, ap, sym, ◌∙◌, subst, arith, nat_eq, Option, Some, None, option_map, All, find}
+use Rattle.std.proofs.Common.{◌≡◌, ◌≢◌, ℕ, ◌<◌, ◌≤◌, Bool, true, false, ◌&&◌, inl, inr, List, [], ◌∷◌, length, map, get_or, refl, ap, sym, ◌∙◌, subst, arith, nat_eq, Option, Some, None, option_map, All, find}
 use Rattle.std.specs.List.{filter, list_any}
 use Rattle.std.proofs.lemmas.Bool.{cases_Bool, eqb-true}
 use Rattle.std.proofs.lemmas.List.{get_or-map, length-map}
-use Rattle.smk_base.specs.CatalogImage.{CatalogImage, ViewImage, catalog_image, view_image}
+use Rattle.smk_base.specs.CatalogImage.{CatalogImage, ViewImage, view_image}
 use Rattle.smk_base.specs.Places.{Lists, places, upto}
 use Rattle.smk_base.specs.PlanImage.{expr_of}
 use Rattle.smk_base.specs.Plans.{Expr, Leaf, Apply, Combine}
@@ -17,13 +17,13 @@ use Rattle.smk_model.specs.Composed.{forwards}
 use Rattle.smk_model.specs.Growth.{is_chain}
 use Rattle.smk_model.specs.Lineage.{row_at, sub}
 use Rattle.smk_model.specs.LineageLaws.{selected_table}
-use Rattle.smk_model.specs.Plain.{eval, leaves, rows_over, table_at}
+use Rattle.smk_model.specs.Plain.{eval, rows_over, table_at}
 use Rattle.smk_model.specs.Replies.{content_of}
-use Rattle.smk_model.specs.Selection.{PlanFits, ScansFit, each_kinds, each_rows, first_full, leaf_kinds, over, picked, plan_kinds, rows_in}
+use Rattle.smk_model.specs.Selection.{PlanFits, ScansFit, each_rows, first_full, leaf_kinds, over, picked, plan_kinds, rows_in}
 use Rattle.smk_model.specs.Session.{State, concerns, leaves_now, no_view, picks_for, selected_for, view_at}
 use Rattle.smk_model.specs.Values.{Row}
 use Rattle.smk_model.proofs.Composed.{lists_stand}
-use Rattle.smk_model.proofs.Places.{length_upto, places_below}
+use Rattle.smk_model.proofs.Places.{length_upto, map_upto, places_below}
 use Rattle.smk_model.proofs.Selections.{filter-true}
 use Rattle.smk_body.proofs.Besides.{related}
 use Rattle.smk_compose.specs.declared.kept_maps.Run.{Run}
@@ -63,6 +63,17 @@ picked_now catalog state w t low =
 
 few_places : (q : ℕ → Bool) (n : ℕ) → length (places q n) ≤ n
 few_places q n = subst (λ (m : ℕ). length (places q n) ≤ m) (length_upto n) (few_kept q (upto n))
+
+-- where as many places are kept as there are, all are
+all_pass : (q : ℕ → Bool) (xs : List ℕ) → length xs ≤ length (filter q xs) → filter q xs ≡ xs
+all_pass q [] h = refl
+all_pass q (x ∷ xs) h = elim (cases_Bool (q x)) [
+  | inl p ↦ rw p (ap (λ l. x ∷ l) (all_pass q xs (omega (arith, rw p at h))))
+  | inr p ↦ absurd (omega (arith, few_kept q xs, rw p at h))
+]
+
+full_places : (q : ℕ → Bool) (n : ℕ) → n ≤ length (places q n) → places q n ≡ upto n
+full_places q n h = all_pass q (upto n) (omega (arith, h, length_upto n))
 
 one_leaf : (L : List Row) → rows_in (L ∷ []) ≡ length L
 one_leaf L = omega arith
@@ -178,20 +189,25 @@ module _ (refresh : Refresh) (w : ℕ) (view : KeptView) (table : Relation) (is 
   marks_ready reached small marks rows = kept_marks.ready view table (each_rows tables) S reached kept_of (reached_by reached small marks rows) rids_low
 
   -- all rows, where no brush concerns the view
-  all_rows : list_any (concerns (book_at refresh) w t) refresh.brushes.now ≡ false → sub table.rows S ≡ table.rows
+  pub all_rows : list_any (concerns (book_at refresh) w t) refresh.brushes.now ≡ false → sub table.rows S ≡ table.rows
   all_rows alone = ap (λ (L : List Row). sub L S) rows_are ∙ whole_where (book_at refresh) (state_next refresh) w t alone ∙ sym rows_are
 
-  pub first_shown : (chosen : Option (List ℕ)) → length table.rows ≤ 1048576 → chosen ≡ chosen_of (book_at refresh) refresh.brushes.now w t (length (table_at (each_rows tables) t)) → chosen ≡ None → Shows refresh w view.content.now
-  first_shown chosen small made none =
-      let alone = none_is (list_any (concerns (book_at refresh) w t) refresh.brushes.now) S (sym none ∙ made) in
-      record {
-        content =
-            related kept_of.kinds
-            (kept_of.content ∙ ap (λ (ts : List ℕ). eval (plan_of view.plan) (map (table_at (each_rows tables)) ts)) (chain_picks.scans chain kept.plan.chain)
-            ∙ ap (λ (L : List Row). eval (plan_of view.plan) (L ∷ [])) (sym rows_are ∙ sym (all_rows alone)))
-            ∙ content_is;
-        few = never small;
-      }
+  -- or where all are selected
+  pub full_rows : length table.rows ≤ length S → sub table.rows S ≡ table.rows
+  full_rows all =
+      let L = table_at (each_rows tables) t in
+      let full : S ≡ upto (length L) = full_places _ (length L) (omega (arith, all, ap length rows_are)) in
+      ap (λ (K : List Row). sub K S) rows_are ∙ ap (sub L) full ∙ map_upto L [] ∙ sym rows_are
+
+  pub first_shown : length table.rows ≤ 1048576 → sub table.rows S ≡ table.rows → Shows refresh w view.content.now
+  first_shown small all = record {
+    content =
+        related kept_of.kinds
+        (kept_of.content ∙ ap (λ (ts : List ℕ). eval (plan_of view.plan) (map (table_at (each_rows tables)) ts)) (chain_picks.scans chain kept.plan.chain)
+        ∙ ap (λ (L : List Row). eval (plan_of view.plan) (L ∷ [])) (sym rows_are ∙ sym all))
+        ∙ content_is;
+    few = never small;
+  }
 
 -- the kept parts of a view are what it gives
 
@@ -274,4 +290,9 @@ module _ (refresh : Refresh) (w : ℕ) (view : KeptView) (is : IsRefresh refresh
         marks_ready refresh w view table is low kept here reached small (marks ∙ ap (marks_at view.forward.now) (sym (rids_are rids some))) (rows ∙ ap (rows_reached view table) (sym (rids_are rids some)))
 
     pub whole_shown : chosen ≡ None → Shows refresh w view.content.now
-    whole_shown none = first_shown refresh w view table is low kept here chosen small chosen_is none
+    whole_shown none =
+        let alone = none_is (list_any (concerns (book_at refresh) w s) refresh.brushes.now) (selected_for (book_at refresh) (state_next refresh) w s) (sym none ∙ chosen_is) in
+        first_shown refresh w view table is low kept here small (all_rows refresh w view table is low kept here alone)
+
+    pub full_shown : (rids : List ℕ) → chosen ≡ Some rids → length table.rows ≤ length rids → Shows refresh w view.content.now
+    full_shown rids some all = first_shown refresh w view table is low kept here small (full_rows refresh w view table is low kept here (omega (arith, all, ap length (rids_are rids some))))

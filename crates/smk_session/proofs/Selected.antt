@@ -88,6 +88,20 @@ chosen_same test brushes i n brush low at is =
     ap (λ (l : List BrushOn). cond (list_any test (take i brushes)) (Some (places (λ rid. list_all (λ (b : BrushOn). has b.rids rid) l) n)) None) (sym kept)
     ∙ ap (λ b. cond b (Some (places (in_all test (take (i + 1) brushes)) n)) None) (sym any)
 
+-- tests that agree on all brushes choose the same rids
+
+any_alike : (f g : BrushOn → Bool) (brushes : List BrushOn) → All (λ brush. f brush ≡ g brush) brushes → list_any f brushes ≡ list_any g brushes
+any_alike f g [] h = refl
+any_alike f g (b ∷ bs) h = rw (h 0 b (omega arith), any_alike f g bs (λ k d low. h (suc k) d (omega arith))) refl
+
+filter_alike : (f g : BrushOn → Bool) (brushes : List BrushOn) → All (λ brush. f brush ≡ g brush) brushes → filter f brushes ≡ filter g brushes
+filter_alike f g [] h = refl
+filter_alike f g (b ∷ bs) h = rw (h 0 b (omega arith), filter_alike f g bs (λ k d low. h (suc k) d (omega arith))) refl
+
+pub chosen_alike : (f g : BrushOn → Bool) (brushes : List BrushOn) (n : ℕ) → All (λ brush. f brush ≡ g brush) brushes → chosen_by f brushes n ≡ chosen_by g brushes n
+chosen_alike f g brushes n h =
+    rw (any_alike f g brushes h) (ap (λ (l : List BrushOn). cond (list_any g brushes) (Some (places (λ rid. list_all (λ (b : BrushOn). has b.rids rid) l) n)) None) (filter_alike f g brushes h))
+
 -- what is chosen so far is ascending
 pub chosen_ascends : (test : BrushOn → Bool) (brushes : List BrushOn) (n : ℕ) → IfSome (chosen_by test brushes n) IsAscending
 chosen_ascends test brushes n = by (list_any test brushes)

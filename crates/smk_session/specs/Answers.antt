@@ -20,6 +20,7 @@ use Rattle.smk_model.specs.Replies.{Asked, is_refused, unless_outside, marked}
 use Rattle.smk_model.specs.Session.{State, concerns, selected_for, under}
 use Rattle.smk_compose.specs.declared.kept_maps.KeptMap.{KeptMap}
 use Rattle.smk_session.specs.Sessions.{AreExtras, AreInForce, AreOpened, content_kept, state_over}
+use Rattle.smk_session.specs.declared.chosen.Choice.{Choice}
 use Rattle.smk_session.specs.declared.lent.Lent.{Lent}
 use Rattle.smk_session.specs.declared.turn.Change.{Change}
 use Rattle.smk_session.specs.declared.turn.Content.{Content}
@@ -122,6 +123,10 @@ chosen_of catalog brushes w t n =
     cond (list_any (concerns catalog w t) brushes)
     (Some (places (λ rid. list_all (λ brush. has brush.rids rid) (filter (concerns catalog w t) brushes)) n))
     None
+
+-- the rids of a choice are those that brushes select of a table for its view
+abbrev pub IsChoice : CatalogImage → List BrushOn → ℕ → Choice → Type 0
+IsChoice catalog brushes t choice = (n : ℕ) → AreOn t n brushes → choice.rids ≡ chosen_of catalog brushes choice.view t n
 
 -- those that are left of the rids chosen so far under one more brush
 abbrev pub narrowed_by : Option (List ℕ) → List ℕ → List ℕ

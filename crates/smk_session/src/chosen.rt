@@ -1,11 +1,12 @@
 // The rows that brushes select for a view.
-ghost use Rattle.std.specs.Prelude.{◌≡◌, ◌≢◌, ◌<◌, ◌≤◌, ℕ, false, length, slice_index, slice_index_or, All, IfOk, IfSome};
+ghost use Rattle.std.specs.Prelude.{◌≡◌, ◌≢◌, ◌<◌, ◌≤◌, ℕ, false, length, slice_index, slice_index_or, All, IfOk, IfSome, OnOk};
 ghost use Rattle.std.specs.Bool.{OnTrue, OnFalse};
 ghost use Rattle.std.specs.List.{filter};
 ghost use Rattle.smk_base.specs.CatalogImage.{catalog_image};
 ghost use Rattle.smk_base.specs.Picks.{IsAscending};
 ghost use Rattle.smk_base.specs.Places.{has};
-ghost use Rattle.smk_session.specs.Answers.{AreOn, IsLent, book_of, state_at, chosen_of, narrowed_by, picks_chosen};
+ghost use Rattle.smk_model.specs.Session as sessions;
+ghost use Rattle.smk_session.specs.Answers.{AreOn, IsChoice, IsLent, book_of, state_at, chosen_of, narrowed_by, picks_chosen};
 ghost use Rattle.smk_session.specs.Sessions.{BrushFits};
 
 use crate::lent::Lent;
@@ -155,7 +156,7 @@ fn narrowed(alloc: Global, chosen: Option<Rids>, rids: &Rids) -> Result<Rids, Al
 }
 
 // The rids of a table that brushes select for a view: none where no brush concerns it.
-pub(crate) fn chosen(
+fn chosen(
     alloc: Global,
     catalog: &Catalog,
     brushes: &[BrushOn],
@@ -172,6 +173,63 @@ pub(crate) fn chosen(
         }
     }
     Ok(chosen)
+}
+
+// The rids of a table that brushes select for a view: none where no brush concerns it.
+#[derive(Drop)]
+pub(crate) struct Choice {
+    pub(crate) view: u32,
+    pub(crate) rids: Option<Rids>,
+}
+
+// Whether the same brushes concern two views on a table.
+fn are_alike(catalog: &Catalog, brushes: &[BrushOn], t: u32, w: u32, other: u32) -> bool
+    ensures { OnTrue result (All (λ brush. sessions.concerns (catalog_image catalog.now) w t brush ≡ sessions.concerns (catalog_image catalog.now) other t brush) brushes.now) }
+{
+    brushes.iter().all(|brush| concerns(catalog, w, t, brush) == concerns(catalog, other, t, brush))
+}
+
+// Where the rids stand that brushes select for a view: as those of a view that the same brushes concern.
+fn place_of(
+    catalog: &Catalog,
+    brushes: &[BrushOn],
+    t: u32,
+    w: u32,
+    choices: &[Choice],
+) -> Option<usize>
+    requires choices { All (IsChoice (catalog_image catalog.now) brushes.now t) choices.now }
+    ensures place { IfSome result (λ p. p < length choices.now) }
+    ensures own { IfSome result (λ p. (d : _) (n : ℕ) → AreOn t n brushes.now → (slice_index_or choices.now p d).rids ≡ chosen_of (catalog_image catalog.now) brushes.now w t n) }
+{
+    for i in 0..choices.len() {
+        if are_alike(catalog, brushes, t, w, choices[i].view) {
+            return Some(i);
+        }
+    }
+    None
+}
+
+// Puts the rids last that brushes select of a table for a view, unless they stand there for a view that the same brushes concern. It tells where they stand.
+pub(crate) fn choose(
+    alloc: Global,
+    catalog: &Catalog,
+    brushes: &[BrushOn],
+    w: u32,
+    t: u32,
+    choices: &mut Vec<Choice>,
+) -> Result<usize, AllocError>
+    requires rising { All (λ brush. IsAscending brush.rids) brushes.now }
+    requires choices { All (IsChoice (catalog_image catalog.now) brushes.now t) choices.old.items }
+    ensures choices { OnOk result (All (IsChoice (catalog_image catalog.now) brushes.now t) choices.new.items) }
+    ensures place { IfOk result (λ p. p < length choices.new.items) }
+    ensures own { IfOk result (λ p. (d : _) (n : ℕ) → AreOn t n brushes.now → (slice_index_or choices.new.items p d).rids ≡ chosen_of (catalog_image catalog.now) brushes.now w t n) }
+{
+    if let Some(place) = place_of(catalog, brushes, t, w, choices.as_slice()) {
+        return Ok(place);
+    }
+    let rids = chosen(alloc, catalog, brushes, w, t)?;
+    choices.push(Choice { view: w, rids })?;
+    Ok(choices.len() - 1)
 }
 
 // What is picked of the tables for a view. A table that no brush concerns is whole, and isn't among the picks.

@@ -12,10 +12,10 @@ ghost use Rattle.smk_base.specs.declared.reply.Linked.{Linked as LinkedImage};
 ghost use Rattle.std.specs.List.{list_any, sum_by};
 ghost use Rattle.smk_compose.specs.declared.fault.EvalFault.TheVariants as faults;
 ghost use Rattle.smk_session.specs.Answers.{Turns, rids_or_all, content_at};
-ghost use Rattle.smk_session.specs.Refreshed.{AreFollowed, FollowsAs, IsChosen, IsFetched, IsKept, IsReady, IsRefresh, IsSource, Names, book_at, contents_at, groups_table, linked_at, looks_now, marks_next, state_next, views_of};
+ghost use Rattle.smk_session.specs.Refreshed.{AreChoices, AreFollowed, FollowsAs, IsChosen, IsFetched, IsKept, IsReady, IsRefresh, IsSource, Names, book_at, contents_at, groups_table, linked_at, looks_now, marks_next, state_next, views_of};
 ghost use Rattle.smk_session.specs.Sessions.{follows};
 
-use crate::chosen::{chosen, picks};
+use crate::chosen::{Choice, choose, picks};
 use crate::evaluating::{Fetched, Source, evaluate};
 use crate::lineage::fwd_kept;
 use crate::links::{follows_some, linked};
@@ -43,9 +43,9 @@ pub(crate) struct Followed {
 }
 
 // The members of the lists at these rids, or of all lists.
-fn reached(alloc: Global, map: &RidMap, chosen: Option<Rids>) -> Result<Rids, AllocError>
-    requires { All (λ rid. rid < length map.now.lists) (rids_or_all chosen (length map.now.lists)) }
-    ensures { IfOk result (λ marks. marks ≡ members_at map.now (rids_or_all chosen (length map.now.lists))) }
+fn reached(alloc: Global, map: &RidMap, chosen: &Option<Rids>) -> Result<Rids, AllocError>
+    requires { All (λ rid. rid < length map.now.lists) (rids_or_all chosen.now (length map.now.lists)) }
+    ensures { IfOk result (λ marks. marks ≡ members_at map.now (rids_or_all chosen.now (length map.now.lists))) }
 {
     match chosen {
         Some(rids) => map.join_up(alloc, rids.as_slice()),
@@ -72,12 +72,12 @@ fn marks_now(
     alloc: Global,
     refresh: &Refresh<'_>,
     w: u32,
-    chosen: Option<Rids>,
+    chosen: &Option<Rids>,
 ) -> Result<Rids, AllocError>
     requires refresh { IsRefresh refresh.now }
     requires view { w < length refresh.now.held.now.catalog.now.views }
     requires declared { declares_fwd (book_at refresh.now) w refresh.now.table ≡ true }
-    requires chosen { IsChosen refresh.now w chosen }
+    requires chosen { IsChosen refresh.now w chosen.now }
     ensures { IfOk result (λ marks. marks ≡ marks_next refresh.now w) }
 {
     let map = declared_map(refresh, w);
@@ -116,7 +116,7 @@ fn kept_view<'a>(refresh: &Refresh<'a>, w: u32) -> Option<KeptView<'a>>
     }
 }
 
-// What is kept of a view, and what the rows selected for it reach there, where a brush concerns it. Nothing is made of it yet.
+// What is kept of a view, and what the rows selected for it reach there, where these are not all rows of the table: it shows its first content where they are. Nothing is made of it yet.
 fn fetch_marks<'a, L: Ledger>(
     alloc: Global,
     refresh: &Refresh<'a>,
@@ -135,16 +135,16 @@ fn fetch_marks<'a, L: Ledger>(
     ensures looks { steps.new ≤ steps.old + looks_now refresh.now w }
 {
     let table = &refresh.held.tables[refresh.table as usize];
-    let _rows = table.len();
+    let rows = table.len() as usize;
     match chosen {
-        Some(rids) => {
+        Some(rids) if rids.as_slice().len() < rows => {
             let reached = reach(alloc, &view, table, rids.as_slice(), steps)?;
             Ok(Source::Marks {
                 view,
                 reached: Some(reached),
             })
         }
-        None => Ok(Source::Marks {
+        _ => Ok(Source::Marks {
             view,
             reached: None,
         }),
@@ -199,19 +199,23 @@ fn fetch<'a, L: Ledger>(
     refresh: &Refresh<'a>,
     place: u32,
     w: u32,
+    choices: &mut Vec<Choice>,
     waiting: &mut Vec<Fetched<'a>>,
     steps: &mut Steps<L>,
 ) -> Result<(), AllocError>
     requires refresh { IsRefresh refresh.now }
+    requires choices { AreChoices refresh.now choices.old.items }
     requires view { w < length refresh.now.held.now.catalog.now.views }
     requires declared { declares_fwd (book_at refresh.now) w refresh.now.table ≡ true }
+    ensures choices { OnOk result (AreChoices refresh.now choices.new.items) }
     ensures fetched { OnOk result (All (IsFetched refresh.now) waiting.old.items → All (IsFetched refresh.now) waiting.new.items) }
     ensures views { OnOk result (views_of waiting.new.items ≡ views_of waiting.old.items ++ w ∷ []) }
     ensures looks { steps.new ≤ steps.old + looks_now refresh.now w }
 {
     let catalog = refresh.held.catalog;
-    let chosen = chosen(alloc, catalog, refresh.brushes, w, refresh.table)?;
-    let source = fetch_source(alloc, refresh, w, &chosen, steps)?;
+    let at = choose(alloc, catalog, refresh.brushes, w, refresh.table, choices)?;
+    let chosen = &choices[at].rids;
+    let source = fetch_source(alloc, refresh, w, chosen, steps)?;
     let marks = marks_now(alloc, refresh, w, chosen)?;
     waiting.push(Fetched {
         place,
@@ -316,12 +320,21 @@ fn follow_by<R: Threads + Sync, G: Gate + Sync, L: Ledger>(
         linked: Linkeds::new(work.alloc),
         contents: Contents::new(work.alloc),
     };
+    let mut choices = Vec::new(work.alloc);
     let mut waiting = Vec::new(work.alloc);
     let mut place = 0u32;
     for w in views {
         let all = due(work.alloc, most, &mut waiting);
         put_each(work, most, refresh, all, &mut followed)?;
-        fetch(work.alloc, refresh, place, *w, &mut waiting, steps)?;
+        fetch(
+            work.alloc,
+            refresh,
+            place,
+            *w,
+            &mut choices,
+            &mut waiting,
+            steps,
+        )?;
         place = place.saturating_add(1);
     }
     put_each(work, most, refresh, waiting, &mut followed)?;

@@ -4,8 +4,8 @@ use Rattle.smk_session.specs.Refreshed.{IsFetched}
 use Rattle.smk_session.proofs.Followers.{rids_rise}
 use Rattle.smk_session.proofs.following.fetch.Goals as goal
 
-pub chosen-requires : goal.chosen-requires
-chosen-requires g c = rids_rise c.args.refresh.now.held.now.catalog.now c.args.refresh.now.held.now.tables.now c.args.refresh.now.brushes.now c.requires.refresh.fit
+pub choose-requires-clause-rising : goal.choose-requires-clause-rising
+choose-requires-clause-rising g c = rids_rise c.args.refresh.now.held.now.catalog.now c.args.refresh.now.held.now.tables.now c.args.refresh.now.brushes.now c.requires.refresh.fit
 
 pub returns-clause-fetched : goal.returns-clause-fetched
 returns-clause-fetched g c = λ all.

@@ -41,6 +41,7 @@ loop-w-preserved g c =
     let cut = c.due-all.ensures.jobs in
     record {
       followed = next_waits r ws i 0 c.loop-w.followed c.put_each.new.followed due rest c.loop-w.waiting.items c.fetch.new.waiting.items low cut c.loop-w.invariant.followed c.in_ok-put_each.ensures.followed c.in_ok-fetch.ensures.views;
+      choices = c.in_ok-fetch.ensures.choices;
       fetched = c.in_ok-fetch.ensures.fetched (all_back (IsFetched r) due rest c.loop-w.waiting.items cut c.loop-w.invariant.fetched);
       looks = looks_next (looks_now r) ws i c.args.steps.now c.loop-w.steps c.fetch.new.steps 0 low c.loop-w.invariant.looks c.fetch.ensures.looks;
     }

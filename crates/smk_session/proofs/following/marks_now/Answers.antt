@@ -10,8 +10,8 @@ pub reached-requires : goal.reached-requires
 reached-requires c =
     let refresh = c.args.refresh.now in
     let held = refresh.held.now in
-    chosen_inside held.catalog.now held.tables.now refresh.brushes.now c.args.w refresh.table c.declared_map-map.result.now c.args.chosen c.declared_map-map.ensures
-    (chosen_there held.catalog.now held.tables.now refresh.brushes.now c.args.w refresh.table c.args.chosen c.requires.refresh.fit c.requires.chosen)
+    chosen_inside held.catalog.now held.tables.now refresh.brushes.now c.args.w refresh.table c.declared_map-map.result.now c.args.chosen.now c.declared_map-map.ensures
+    (chosen_there held.catalog.now held.tables.now refresh.brushes.now c.args.w refresh.table c.args.chosen.now c.requires.refresh.fit c.requires.chosen)
 
 pub returns : goal.returns
 returns c =
@@ -19,7 +19,7 @@ returns c =
     let held = refresh.held.now in
     let map = c.declared_map-map.result.now in
     IfOk-weaker c.reached.result
-    (λ marks. marks ≡ members_at map (rids_or_all c.args.chosen (length map.lists))) (λ marks. marks ≡ marks_next refresh c.args.w)
-    (λ marks. marks_reached held.catalog.now held.tables.now refresh.brushes.now c.args.w refresh.table map c.args.chosen marks c.declared_map-map.ensures
-    (chosen_there held.catalog.now held.tables.now refresh.brushes.now c.args.w refresh.table c.args.chosen c.requires.refresh.fit c.requires.chosen))
+    (λ marks. marks ≡ members_at map (rids_or_all c.args.chosen.now (length map.lists))) (λ marks. marks ≡ marks_next refresh c.args.w)
+    (λ marks. marks_reached held.catalog.now held.tables.now refresh.brushes.now c.args.w refresh.table map c.args.chosen.now marks c.declared_map-map.ensures
+    (chosen_there held.catalog.now held.tables.now refresh.brushes.now c.args.w refresh.table c.args.chosen.now c.requires.refresh.fit c.requires.chosen))
     c.reached.ensures
