@@ -67,12 +67,11 @@ fn parts_classed<R: Threads + Sync, C: Crew + Sync>(
     requires few { workers ≤ WORKER_LIMIT }
     ensures { IfOk result (λ made. AreParts (λ p. HasKeys keys.now rel.now.rows (cut_at workers (length rel.now.rows) p) (cut_at workers (length rel.now.rows) (p + 1))) workers made.items) }
 {
-    let made = in_parts(
+    in_parts(
         work,
         workers,
         &|p| part_classed(work.crew, work.alloc, rel, keys, workers, p),
-    )?;
-    Ok(made)
+    )
 }
 
 // The classes of the keys of part p, in whatever thread.
@@ -82,16 +81,15 @@ fn part_classed<C: Crew>(
     rel: &Rel,
     keys: &[u32],
     workers: u32,
-    p: usize,
+    p: u32,
 ) -> Result<Classes, AllocError>
     requires keys { All (λ c. c < length rel.now.kinds) keys.now }
     requires few { workers ≤ WORKER_LIMIT }
     requires part { p < workers }
     ensures { IfOk result (HasKeys keys.now rel.now.rows (cut_at workers (length rel.now.rows) p) (cut_at workers (length rel.now.rows) (p + 1))) }
 {
-    let number = p as u32;
-    crew.arrive(number);
-    let (from, to) = cut_range(workers, rel.len(), number);
+    crew.arrive(p);
+    let (from, to) = cut_range(workers, rel.len(), p);
     Classes::of_rows_between(alloc, rel, keys, from, to)
 }
 

@@ -1,16 +1,17 @@
 //! The parts of a step: stretches of the rows of its input.
 
-ghost use Rattle.std.specs.Prelude.{◌≡◌, ◌<◌, ◌≤◌, ◌+◌, ℕ, Ok, IfOk, length, map, slice_index_or, sum};
+ghost use Rattle.std.specs.Prelude.{◌≡◌, ◌<◌, ◌≤◌, ◌+◌, ℕ, Ok, IfOk, sum};
 ghost use Rattle.std.specs.Bool.{OnTrue, OnFalse};
 ghost use Rattle.smk_base.specs.declared.rel.TheConstants.{ROW_LIMIT};
 ghost use Rattle.smk_base.specs.declared.workers.TheConstants.{WORKER_LIMIT};
-ghost use Rattle.smk_body.specs.Cuts.{cut_at};
+ghost use Rattle.smk_body.specs.Cuts.{AreParts, cut_at};
 
 use crate::crew::{Crew, Work};
 use smk_base::ROW_LIMIT;
+use smk_jobs::each_or_first;
 use std::alloc::{AllocError, Global};
 use std::marker::{Send, Sync};
-use std::thread::{Threads, map_indices};
+use std::thread::Threads;
 
 /// Where part p of so many begins among n rows; the last ends where one more would begin. It takes no memory.
 #[tactic(auto, using(crate::proofs::Cutting::product_small))]
@@ -38,31 +39,18 @@ pub(crate) fn cut_range(workers: u32, n: u32, p: u32) -> (u32, u32)
     (cut_place(workers, n, p), cut_place(workers, n, p + 1))
 }
 
-/// What each of so many parts makes, in threads, or want of memory where one of them wanted it.
+/// What each of so many parts makes, all at once, or want of memory where one of them wanted it.
 pub(crate) fn in_parts<
     R: Threads + Sync,
     C: Crew + Sync,
     X: Send + Drop,
-    F: Fn(usize) -> Result<X, AllocError> + Sync,
+    F: Fn(u32) -> Result<X, AllocError> + Sync,
 >(work: &Work<'_, R, C>, workers: u32, part: &F) -> Result<Vec<X>, AllocError>
     requires { (p : ℕ) → p < workers → F.pre part.now p }
-    ensures all { IfOk result (λ made. length made.items ≡ workers) }
-    ensures each { IfOk result (λ made. (p : ℕ) (d : X) → p < workers → F.post part.now p (Ok (slice_index_or made.items p d))) }
+    ensures { IfOk result (λ made. AreParts (λ p one. F.post part.now p (Ok one)) workers made.items) }
 {
-    let tried = map_indices(work.rt, work.alloc, workers as usize, part)?;
-    let made = all_made(work.alloc, tried)?;
-    Ok(made)
-}
-
-// What all parts have made, or want of memory where one of them wanted it.
-fn all_made<X: Drop>(alloc: Global, made: Vec<Result<X, AllocError>>) -> Result<Vec<X>, AllocError>
-    ensures { IfOk result (λ all. map Ok all.items ≡ made.items) }
-{
-    let mut all = Vec::with_capacity(alloc, made.len())?;
-    for part in made {
-        all.push(part?)?;
-    }
-    Ok(all)
+    let parts: Vec<u32> = (0..workers).collect(work.alloc)?;
+    each_or_first(work.rt, work.alloc, u32::MAX, parts, part)
 }
 
 /// Whether the rows that the parts have counted are more than a step may have.

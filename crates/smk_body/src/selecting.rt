@@ -58,12 +58,11 @@ fn parts_selected<R: Threads + Sync, C: Crew + Sync>(
     requires few { workers ≤ WORKER_LIMIT }
     ensures { IfOk result (λ made. AreParts (λ p v. HasPlaces (formula_of pred.now) rel.now.rows (cut_at workers (length rel.now.rows) p) (cut_at workers (length rel.now.rows) (p + 1)) v.items) workers made.items) }
 {
-    let made = in_parts(
+    in_parts(
         work,
         workers,
         &|p| part_selected(work.crew, work.alloc, rel, pred, workers, p),
-    )?;
-    Ok(made)
+    )
 }
 
 // The places of part p, in whatever thread.
@@ -73,16 +72,15 @@ fn part_selected<C: Crew>(
     rel: &Rel,
     pred: &Pred,
     workers: u32,
-    p: usize,
+    p: u32,
 ) -> Result<Vec<u32>, AllocError>
     requires fits { FormulaFits rel.now.kinds (formula_of pred.now) }
     requires few { workers ≤ WORKER_LIMIT }
     requires part { p < workers }
     ensures { IfOk result (λ v. HasPlaces (formula_of pred.now) rel.now.rows (cut_at workers (length rel.now.rows) p) (cut_at workers (length rel.now.rows) (p + 1)) v.items) }
 {
-    let number = p as u32;
-    crew.arrive(number);
-    let (from, to) = cut_range(workers, rel.len(), number);
+    crew.arrive(p);
+    let (from, to) = cut_range(workers, rel.len(), p);
     selected(alloc, rel, pred, from, to)
 }
 

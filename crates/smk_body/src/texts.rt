@@ -60,12 +60,11 @@ fn parts_risen<R: Threads + Sync, C: Crew + Sync>(
     requires few { workers ≤ WORKER_LIMIT }
     ensures { IfOk result (λ made. AreParts (λ p v. AreRises (codes_of rel.now.rows c) (cut_at workers (length rel.now.rows) p) (cut_at workers (length rel.now.rows) (p + 1)) v.items) workers made.items) }
 {
-    let made = in_parts(
+    in_parts(
         work,
         workers,
         &|p| part_risen(work.crew, work.alloc, rel, c, workers, p),
-    )?;
-    Ok(made)
+    )
 }
 
 // The rises of part p, in whatever thread.
@@ -75,7 +74,7 @@ fn part_risen<C: Crew>(
     rel: &Rel,
     c: u32,
     workers: u32,
-    p: usize,
+    p: u32,
 ) -> Result<Vec<u32>, AllocError>
     requires column { c < length rel.now.kinds }
     requires text { kind_in rel.now.kinds c ≡ kinds.Text }
@@ -83,9 +82,8 @@ fn part_risen<C: Crew>(
     requires part { p < workers }
     ensures { IfOk result (λ v. AreRises (codes_of rel.now.rows c) (cut_at workers (length rel.now.rows) p) (cut_at workers (length rel.now.rows) (p + 1)) v.items) }
 {
-    let number = p as u32;
-    crew.arrive(number);
-    let (from, to) = cut_range(workers, rel.len(), number);
+    crew.arrive(p);
+    let (from, to) = cut_range(workers, rel.len(), p);
     rises_between(alloc, rel.codes(c), from, to)
 }
 

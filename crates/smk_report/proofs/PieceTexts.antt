@@ -1,9 +1,9 @@
 -- Pieces of the records of rows, put behind one another.
-use Rattle.std.proofs.Common.{◌≡◌, ◌∙◌, ◌<◌, ◌≤◌, ◌+◌, ◌-◌, ◌*◌, ◌/◌, ◌++◌, ◌∷◌, [], ℕ, zero, suc, List, length, map, drop, get_or, sym, ap, subst, arith, Vec, Global, Result, Ok, IfOk, append-nil, append_assoc, decimal}
-use Rattle.std.specs.List.{flat_map}
+use Rattle.std.proofs.Common.{◌≡◌, ◌∙◌, ◌<◌, ◌≤◌, ◌+◌, ◌-◌, ◌*◌, ◌/◌, ◌++◌, ◌∷◌, [], ℕ, zero, suc, List, length, map, drop, sym, ap, arith, append-nil, append_assoc, decimal}
+use Rattle.std.specs.List.{AllZip, flat_map, range_with_len}
 use Rattle.std.proofs.Math.Nat.{mul-le-mul}
 use Rattle.std.proofs.lemmas.Nat.{div-add-mod', mod_below}
-use Rattle.std.proofs.lemmas.List.{get_or-drop, get_or-map, length-map}
+use Rattle.std.proofs.lemmas.List.{get_or-drop}
 use Rattle.smk_base.specs.Rels.{row_in}
 use Rattle.smk_model.specs.Values.{Row}
 use Rattle.smk_model.specs.Texts.{record_line, value_text, row_lines_to}
@@ -53,32 +53,18 @@ piece_added rows count p from to text begins ends is =
     rw (← begins, ← ends, is) (ap (λ (x : ℕ). row_lines_to (λ (k : ℕ). k) rows x) whole ∙ lines_split rows from (to - from))
 
 -- all pieces up to one have the records of all rows up to there
-joined_to : {A : Type 0} (bytes : A → List ℕ) (at : ℕ → List ℕ) (pieces : List A) (k : ℕ)
-    → ((p : ℕ) (d : A) → p < length pieces → at (k + p + 1) ≡ at (k + p) ++ bytes (get_or pieces p d))
-    → at (k + length pieces) ≡ at k ++ flat_map bytes pieces
-joined_to bytes at [] k each = ap at (omega arith) ∙ sym (append-nil (at k))
-joined_to bytes at (piece ∷ rest) k each =
-    let first : at (k + 1) ≡ at k ++ bytes piece = ap at (omega arith) ∙ each 0 piece (omega arith) ∙ ap (λ (x : ℕ). at x ++ bytes piece) (omega arith) in
-    let then = joined_to bytes at rest (k + 1) (λ p d h. ap at (omega arith) ∙ each (suc p) d (omega arith) ∙ ap (λ (x : ℕ). at x ++ bytes (get_or rest p d)) (omega arith)) in
-    ap at (omega arith) ∙ then ∙ ap (λ (x : List ℕ). x ++ flat_map bytes rest) first ∙ append_assoc (at k) (bytes piece) (flat_map bytes rest)
+joined_to : {A : Type 0} (bytes : A → List ℕ) (at : ℕ → List ℕ) (k n : ℕ) (pieces : List A) → AllZip (λ p piece. at (p + 1) ≡ at p ++ bytes piece) (range_with_len k n) pieces → at (k + n) ≡ at k ++ flat_map bytes pieces
+joined_to bytes at k zero [] each = ap at (omega arith) ∙ sym (append-nil (at k))
+joined_to bytes at k zero (piece ∷ rest) each = absurd each
+joined_to bytes at k (suc n) [] each = absurd each
+joined_to bytes at k (suc n) (piece ∷ rest) each =
+    ap at (omega arith) ∙ joined_to bytes at (k + 1) n rest each.1 ∙ ap (λ (x : List ℕ). x ++ flat_map bytes rest) each.0 ∙ append_assoc (at k) (bytes piece) (flat_map bytes rest)
 
 -- all pieces have the records of all rows
-pub pieces_joined : {A : Type 0} (bytes : A → List ℕ) (rows : List Row) (count : ℕ) (pieces : List A) → 0 < count → length pieces ≡ count
-    → ((p : ℕ) (d : A) → p < count → IsPiece rows count p (bytes (get_or pieces p d)))
+pub pieces_joined : {A : Type 0} (bytes : A → List ℕ) (rows : List Row) (count : ℕ) (pieces : List A) → 0 < count → AllZip (λ p piece. IsPiece rows count p (bytes piece)) (range_with_len 0 count) pieces
     → flat_map bytes pieces ≡ row_lines_to (λ (k : ℕ). k) rows (length rows)
-pieces_joined bytes rows count pieces some size each =
+pieces_joined bytes rows count pieces some each =
     let at : ℕ → List ℕ = λ p. row_lines_to (λ (k : ℕ). k) rows (piece_at count (length rows) p) in
     let none : piece_at count (length rows) 0 ≡ 0 = omega arith in
-    let all = joined_to bytes at pieces 0 (λ p d h. ap at (omega arith) ∙ each p d (omega arith) ∙ ap (λ (x : ℕ). at x ++ bytes (get_or pieces p d)) (omega arith)) in
-    let last : piece_at count (length rows) (0 + length pieces) ≡ length rows = ap (piece_at count (length rows)) (omega arith) ∙ piece_last count (length rows) some in
-    sym (ap (λ (x : ℕ). row_lines_to (λ (k : ℕ). k) rows x ++ flat_map bytes pieces) none) ∙ sym all ∙ ap (λ (x : ℕ). row_lines_to (λ (k : ℕ). k) rows x) last
-
--- what all pieces have written
-pub pieces_made : {E : Type 0} (rows : List Row) (count : ℕ) (all : List (Vec ℕ Global)) (tried : List (Result (Vec ℕ Global) E)) → map Ok all ≡ tried
-    → ((p : ℕ) (e : Result (Vec ℕ Global) E) → p < count → IfOk (get_or tried p e) (λ text. IsPiece rows count p text.items))
-    → length tried ≡ count → (p : ℕ) (d : Vec ℕ Global) → p < count → IsPiece rows count p (get_or all p d).items
-pieces_made {E} rows count all tried same each size p d h =
-    let whole : length all ≡ length tried = sym (length-map all Ok) ∙ ap (λ (xs : List (Result (Vec ℕ Global) E)). length xs) same in
-    let there : p < length all = omega (arith, whole, size, h) in
-    let at : get_or tried p (Ok d) ≡ Ok (get_or all p d) = ap (λ (xs : List (Result (Vec ℕ Global) E)). get_or xs p (Ok d)) (sym same) ∙ get_or-map Ok all p d (Ok d) there in
-    subst (λ (r : Result (Vec ℕ Global) E). IfOk r (λ text. IsPiece rows count p text.items)) at (each p (Ok d) h)
+    let last : piece_at count (length rows) (0 + count) ≡ length rows = ap (piece_at count (length rows)) (omega arith) ∙ piece_last count (length rows) some in
+    sym (ap (λ (x : ℕ). row_lines_to (λ (k : ℕ). k) rows x ++ flat_map bytes pieces) none) ∙ sym (joined_to bytes at 0 count pieces each) ∙ ap (λ (x : ℕ). row_lines_to (λ (k : ℕ). k) rows x) last

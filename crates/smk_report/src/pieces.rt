@@ -1,6 +1,6 @@
 // The text of a view with many rows, which is written in pieces, in threads.
-ghost use Rattle.std.specs.Prelude.{◌≡◌, ◌<◌, ◌≤◌, ◌++◌, ℕ, Ok, length, map, slice_index_or, IfOk, OnOk};
-ghost use Rattle.std.specs.List.{flat_map};
+ghost use Rattle.std.specs.Prelude.{◌≡◌, ◌<◌, ◌≤◌, ◌++◌, length, IfOk, OnOk};
+ghost use Rattle.std.specs.List.{AllZip, flat_map, range_with_len};
 ghost use Rattle.smk_base.specs.declared.rel.TheConstants.{ROW_LIMIT};
 ghost use Rattle.smk_base.specs.declared.workers.TheConstants.{WORKER_LIMIT};
 ghost use Rattle.smk_model.specs.Texts as texts;
@@ -9,8 +9,9 @@ ghost use Rattle.smk_report.specs.PieceTexts.{IsPiece, piece_at};
 use crate::lines::line_around;
 use crate::texts::{numbered_lines, page_for, view_text, with_header};
 use smk_base::{ListOf, ROW_LIMIT, Rel, Text};
+use smk_jobs::each_or_first;
 use std::alloc::{AllocError, Global};
-use std::thread::{Threads, map_indices};
+use std::thread::Threads;
 
 // How many rows a piece has at least, so that a view of some thousand rows starts no thread.
 const PIECE_ROWS: u32 = 16_384;
@@ -50,53 +51,28 @@ fn piece_text(alloc: Global, rel: &Rel, count: u32, p: u32) -> Result<Vec<u8>, A
     page.finish()
 }
 
-// What all pieces have written, or want of memory where one of them wanted it.
-fn all_written(
-    alloc: Global,
-    pieces: Vec<Result<Vec<u8>, AllocError>>,
-) -> Result<Vec<Vec<u8>>, AllocError>
-    ensures { IfOk result (λ all. map Ok all.items ≡ pieces.items) }
-{
-    let mut all = Vec::with_capacity(alloc, pieces.len())?;
-    for piece in pieces {
-        all.push(piece?)?;
-    }
-    Ok(all)
-}
-
-// What each of so many pieces has written, in threads, or want of memory.
-fn tried_texts<R: Threads + Sync>(
-    rt: &R,
-    alloc: Global,
-    rel: &Rel,
-    count: u32,
-) -> Result<Vec<Result<Vec<u8>, AllocError>>, AllocError>
-    requires { count ≤ WORKER_LIMIT }
-    ensures all { IfOk result (λ made. length made.items ≡ count) }
-    ensures each { IfOk result (λ made. (p : ℕ) (e : _) → p < count → IfOk (slice_index_or made.items p e) (λ text. IsPiece rel.now.rows count p text.items)) }
-{
-    map_indices(
-        rt,
-        alloc,
-        count as usize,
-        &|p| { piece_text(alloc, rel, count, p as u32) },
-    )
-}
-
-// The texts of so many pieces.
+// The texts of so many pieces, all written at once.
 fn piece_texts<R: Threads + Sync>(
     rt: &R,
     alloc: Global,
     rel: &Rel,
     count: u32,
 ) -> Result<Vec<Vec<u8>>, AllocError>
-    requires { count ≤ WORKER_LIMIT }
-    ensures all { IfOk result (λ made. length made.items ≡ count) }
-    ensures each { IfOk result (λ made. (p : ℕ) (d : _) → p < count → IsPiece rel.now.rows count p (slice_index_or made.items p d).items) }
+    requires some { 1 ≤ count }
+    requires few { count ≤ WORKER_LIMIT }
+    ensures { IfOk result (λ made. AllZip (λ p text. IsPiece rel.now.rows count p text.items) (range_with_len 0 count) made.items) }
 {
-    let tried = tried_texts(rt, alloc, rel, count)?;
-    let made = all_written(alloc, tried)?;
-    Ok(made)
+    let places: Vec<u32> = (0..count).collect(alloc)?;
+    each_or_first(
+        rt,
+        alloc,
+        count,
+        places,
+        &|p: u32| -> Result<Vec<u8>, AllocError>
+            requires { (count ≤ WORKER_LIMIT) × (p < count) }
+            ensures { IfOk result (λ text. IsPiece rel.entry.now.rows count p text.items) }
+        { piece_text(alloc, rel, count, p) },
+    )
 }
 
 // How many bytes texts have together, or as many as can be said.

@@ -9,5 +9,5 @@ pub returns : goal.returns
 returns g c =
     let rows = c.args.rel.now.rows in
     let all : flat_map (λ (piece : Vec ℕ Global). piece.items) c.in_ok-pieces.pieces.items ≡ row_lines_to (λ (k : ℕ). k) rows (length rows) =
-    pieces_joined (λ (piece : Vec ℕ Global). piece.items) rows c.args.count c.in_ok-pieces.pieces.items c.requires.some c.in_ok-pieces.ensures.all c.in_ok-pieces.ensures.each in
+    pieces_joined (λ (piece : Vec ℕ Global). piece.items) rows c.args.count c.in_ok-pieces.pieces.items c.requires.some c.in_ok-pieces.ensures in
     rw (← all) (first_of (search rules, grind (arith, common_steps)))
