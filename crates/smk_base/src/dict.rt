@@ -9,7 +9,7 @@ use std::alloc::{AllocError, Global};
 use std::marker::Model;
 
 /// How many texts lie in a list. So many take the least memory there, and comparing a text with each of them costs less than its hash.
-const FEW: usize = 4;
+const FEW: usize = 8;
 
 // Where the texts lie: a few in a list, or more of them in a table of hashes.
 #[derive(Drop)]

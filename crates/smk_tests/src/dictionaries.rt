@@ -24,12 +24,17 @@ fn cut(dict: &mut Dict, len: u32) {
 #[test]
 fn texts_that_end_alike(rt: HostRuntime) -> Result<(), Fail> {
     let mut dict = Dict::new(rt.alloc());
-    let texts: [&[u8]; 6] = [b"n-1", b"s-1", b"-1", b"n-1", b"", b"1"];
+    let texts: [&[u8]; 10] = [
+        b"n-1", b"s-1", b"-1", b"n-1", b"", b"1", b"e-1", b"w-1", b"n-2", b"s-2",
+    ];
     let mut codes = Vec::new(rt.alloc());
     for _ in 0..32 {
         codes = coded(rt.alloc(), &mut dict, texts.as_slice())?;
     }
-    assert_eq!(rt; codes.as_slice(), [0u32, 1, 2, 0, 3, 4].as_slice());
+    assert_eq!(rt;
+        codes.as_slice(),
+        [0u32, 1, 2, 0, 3, 4, 5, 6, 7, 8].as_slice()
+    );
     assert_eq!(rt; dict.code_of_bytes(b"-1"), Some(2));
     cut(&mut dict, 2);
     assert_eq!(rt; (dict.code_of_bytes(b"-1"), dict.len()), (None, 2));
