@@ -1,12 +1,28 @@
 -- Rows at places, and their columns.
-use Rattle.std.proofs.Common.{◌≡◌, ◌∙◌, ◌<◌, ℕ, suc, List, [], ◌∷◌, length, map, All, Option, Some, refl, ap, subst, arith}
+use Rattle.std.proofs.Common.{◌≡◌, ◌∙◌, ◌<◌, ◌≤◌, ℕ, suc, List, [], ◌∷◌, length, map, All, Option, None, Some, refl, ap, subst, sym, arith}
 use Rattle.std.proofs.lemmas.List.{get_or-map, length-map}
+use Rattle.std.proofs.lemmas.List.Elements.{All-cons, All-nil}
+use Rattle.smk_base.specs.declared.value.Kind.{Kind}
 use Rattle.smk_base.specs.declared.value.Value.{Value}
-use Rattle.smk_base.specs.Rels.{Relation, kind_in, picked, row_in, rows_at}
+use Rattle.smk_base.specs.Rels.{IsRelation, Relation, RowFits, kind_in, picked, row_in, rows_at}
 use Rattle.smk_table.specs.Choosing.{chosen_of, AreInside}
 
 pub rows_at_long : (rows : List (List Value)) (rids : List ℕ) → length (rows_at rows rids) ≡ length rids
 rows_at_long rows rids = length-map rids (row_in rows)
+
+-- rows at places of a relation are one
+fits_at : (kinds : List Kind) (rows : List (List Value)) (rids : List ℕ) → All (RowFits kinds) rows → All (λ rid. rid < length rows) rids → All (RowFits kinds) (rows_at rows rids)
+fits_at kinds rows [] fit inside = All-nil (RowFits kinds)
+fits_at kinds rows (r ∷ rids) fit inside = All-cons (RowFits kinds) (row_in rows r) (rows_at rows rids) (fit r [] (inside 0 r (omega arith))) (fits_at kinds rows rids fit (λ k d p. inside (suc k) d (omega arith)))
+
+pub chosen_keeps : (rel : Relation) (kept : Option (List ℕ)) → IsRelation rel → AreInside rel kept → IsRelation (chosen_of rel kept)
+chosen_keeps rel None is inside = is
+chosen_keeps rel (Some rids) is inside = record {
+  few_columns = is.few_columns;
+  low_levels = is.low_levels;
+  few_rows = subst (λ (n : ℕ). n ≤ 1048576) (sym (rows_at_long rel.rows rids)) inside.1;
+  fit = fits_at rel.kinds rel.rows rids is.fit inside.0;
+}
 
 -- a row's columns are those of the row at its place
 pub rows_at_picked : (cols : List ℕ) (rows : List (List Value)) (rids : List ℕ) → All (λ rid. rid < length rows) rids → rows_at (map (picked cols) rows) rids ≡ map (picked cols) (rows_at rows rids)

@@ -1,5 +1,5 @@
 ghost use Rattle.std.specs.Prelude.{◌≡◌, ◌<◌, ◌≤◌, length, map, All, IfOk};
-ghost use Rattle.smk_base.specs.Rels.{kind_in, picked, rows_at};
+ghost use Rattle.smk_base.specs.Rels.{IsRelation, kind_in, picked, rows_at};
 ghost use Rattle.smk_base.specs.declared.rel.TheConstants.{COLUMN_LIMIT, ROW_LIMIT};
 
 use smk_base::{Rel, Rids};
@@ -67,8 +67,23 @@ impl Chosen {
     pub fn width(&self) -> u32
         ensures count { result ≡ length self.now.kinds }
         ensures few { result ≤ COLUMN_LIMIT }
+        ensures keeps { IsRelation self.now }
     {
         self.rel.width()
+    }
+
+    /// The same rows, whose table's values copies share: a column that is picked is then counted, and no value of it is copied.
+    pub fn shared(self, alloc: Global) -> Result<Chosen, AllocError>
+        ensures { IfOk result (λ chosen. chosen ≡ self) }
+    {
+        let Chosen { rel, rids } = self;
+        match rel.shared(alloc) {
+            Ok(rel) => Ok(Chosen { rel, rids }),
+            Err(error) => {
+                drop(rids);
+                Err(error)
+            }
+        }
     }
 
     /// The rows with all their columns.
