@@ -66,4 +66,4 @@ returns c =
     let r = c.args.renewal.now in
     let view = c.view_of-view.result.now in
     let of = chain_of r.book.now c.catalog.result.now r.tables.now r.table c.args.v view c.in_ok-need.need c.catalog.ensures.value c.view_of-view.ensures.view c.view_of-view.ensures.fits c.requires.renewal.kinds c.in_ok-need.ensures.needs c.requires.renewal.table c.requires.chains in
-    told_same c.grown.result (λ run. run) _ _ (sym (opened_is r.book.now r.tables.now r.table c.args.v view c.in_ok-need.need (each_rows r.tables.now) of)) c.grown.ensures
+    told_same c.grown.result (λ run. run) (sym (opened_is r.book.now r.tables.now r.table c.args.v view c.in_ok-need.need (each_rows r.tables.now) of)) c.grown.ensures
