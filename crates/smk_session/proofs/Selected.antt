@@ -88,14 +88,6 @@ chosen_same test brushes i n brush low at is =
     ap (λ (l : List BrushOn). cond (list_any test (take i brushes)) (Some (places (λ rid. list_all (λ (b : BrushOn). has b.rids rid) l) n)) None) (sym kept)
     ∙ ap (λ b. cond b (Some (places (in_all test (take (i + 1) brushes)) n)) None) (sym any)
 
--- what is chosen so far is ascending
-pub chosen_ascends : (test : BrushOn → Bool) (brushes : List BrushOn) (n : ℕ) → IfSome (chosen_by test brushes n) IsAscending
-chosen_ascends test brushes n = by (list_any test brushes)
-  where
-    by : (b : Bool) → IfSome (cond b (Some (places (in_all test brushes) n)) None) IsAscending
-    by true = places_ascend (in_all test brushes) n
-    by false = tt
-
 pub narrowed_ascends : (chosen : Option (List ℕ)) (rids : List ℕ) → IfSome chosen IsAscending → IsAscending rids → IsAscending (narrowed_by chosen rids)
 narrowed_ascends (Some chosen) rids rises up = filter_ascends (has rids) chosen rises
 narrowed_ascends None rids rises up = up
