@@ -23,3 +23,4 @@ pub use fill::RidFill;
 pub use grow::RidGrow;
 pub use map::{PAIR_LIMIT, RidMap};
 pub use marks::RidMarks;
+pub use narrow::numbers_below;
