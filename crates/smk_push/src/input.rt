@@ -1,6 +1,5 @@
 //! What the groupings of the rows at any rids are made from, made once for all of them.
 ghost use Rattle.std.specs.Prelude.{◌≡◌, ◌<◌, ◌≤◌, ℕ, List, length, All, IfOk};
-ghost use Rattle.smk_base.specs.Places.{upto};
 ghost use Rattle.smk_base.specs.declared.rel.TheConstants.{COLUMN_LIMIT};
 ghost use Rattle.smk_model.specs.Kinds.{AggFits, GroupFits};
 ghost use Rattle.smk_push.specs.Cubes.{cube_of};
@@ -8,6 +7,7 @@ ghost use Rattle.smk_push.specs.Inputs.{AreRead, IsInput, cube_from, moved_to, r
 
 use smk_base::{Agg, Aggs, Rel};
 use smk_keys::Classes;
+use smk_rid::numbers_below;
 use smk_table::Chosen;
 use std::alloc::{AllocError, Global};
 
@@ -32,7 +32,7 @@ pub(crate) fn input_of(
     ensures long { IfOk result (λ made. length made.keys.rows ≡ length all.now.rows) }
     ensures cubes { IfOk result (λ made. (rids : List ℕ) → All (λ rid. rid < length all.now.rows) rids → cube_from made.keys made.rows made.aggs rids ≡ cube_of all.now keys.now aggs.now rids) }
 {
-    let columns = first_columns(alloc, keys.len() as u32)?;
+    let columns = numbers_below(alloc, keys.len() as u32)?;
     let keys = all.columns(alloc, keys)?;
     let classes = Classes::of_rows(alloc, &keys, columns.as_slice())?;
     let (aggs, rows) = read_columns(alloc, aggs, all)?;
@@ -42,17 +42,6 @@ pub(crate) fn input_of(
         rows,
         aggs,
     })
-}
-
-// The first columns, so many.
-fn first_columns(alloc: Global, count: u32) -> Result<Vec<u32>, AllocError>
-    ensures { IfOk result (λ columns. columns.items ≡ upto count) }
-{
-    let mut columns = Vec::with_capacity(alloc, count as usize)?;
-    for column in 0..count {
-        columns.push(column)?;
-    }
-    Ok(columns)
 }
 
 // The aggregates over no columns but those that they read, and the rows with these columns.
