@@ -1,10 +1,9 @@
 -- A session with a longer table, of which nothing is made anew yet.
-use Rattle.std.proofs.Common.{◌≡◌, ℕ, ◌+◌, ◌<◌, ◌≤◌, List, length, map, set, refl, ap, sym, ◌∙◌, subst, arith, Option, Some, None, Result, Ok, Err, IfOk, OnOk, OnErr}
+use Rattle.std.proofs.Common.{◌≡◌, ℕ, ◌+◌, ◌<◌, ◌≤◌, List, length, map, set, ap, sym, ◌∙◌, subst, arith, Option, Result, Ok, Err, IfOk, OnOk, OnErr}
 use Rattle.std.specs.List.{sum_by}
 use Rattle.smk_base.specs.CatalogImage.{catalog_image}
 use Rattle.smk_base.specs.Places.{upto}
 use Rattle.smk_base.specs.Rels.{Relation}
-use Rattle.smk_base.specs.declared.catalog.Catalog.{Catalog}
 use Rattle.smk_model.specs.Appends.{longer_fault, looks_of_longer, scanning}
 use Rattle.smk_model.specs.Opening.{ViewFault, first_some, view_fault}
 use Rattle.smk_model.specs.Selection.{row_limit}

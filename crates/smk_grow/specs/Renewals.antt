@@ -1,5 +1,5 @@
 -- What the calls say that make views, splits and groupings over a longer table.
-use Rattle.std.specs.Prelude.{◌≡◌, ◌<◌, ◌≤◌, ℕ, List, length, map, Option}
+use Rattle.std.specs.Prelude.{◌≡◌, ◌<◌, ◌≤◌, ℕ, List, length, map}
 use Rattle.smk_base.specs.Places.{upto}
 use Rattle.smk_base.specs.declared.workers.TheConstants.{WORKER_LIMIT}
 use Rattle.std.specs.List.{filter_map}

@@ -1,4 +1,4 @@
-use Rattle.std.proofs.Common.{◌≡◌, ◌∙◌, ◌<◌, ◌≤◌, List, ap, length, arith, subst, sym}
+use Rattle.std.proofs.Common.{◌≡◌, ◌∙◌, ◌<◌, List, ap, length, arith, sym}
 use Rattle.std.proofs.lemmas.List.{with_items_is}
 use Rattle.smk_base.specs.Rels.{Relation}
 use Rattle.smk_model.specs.Selection.{each_kinds}

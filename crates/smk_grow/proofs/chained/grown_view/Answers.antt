@@ -1,14 +1,9 @@
-use Rattle.std.proofs.Common.{◌≡◌, ◌<◌, ◌≤◌, ℕ, ◌∙◌, All, List, length, ap, subst, sym, arith}
-use Rattle.smk_base.specs.CatalogImage.{ViewImage, catalog_image, view_image}
+use Rattle.std.proofs.Common.{◌<◌, ◌≤◌, ℕ, All, subst, sym}
 use Rattle.smk_base.specs.PlanImage.{expr_of}
-use Rattle.smk_base.specs.declared.catalog.Catalog.{Catalog}
 use Rattle.smk_base.specs.declared.need.Needed.{Needed}
-use Rattle.smk_model.specs.Catalogs.{ViewFits}
-use Rattle.smk_model.specs.LineageLaws.{selected_table}
-use Rattle.smk_model.specs.Plain.{table_at}
 use Rattle.smk_model.specs.Selection.{ScansFit, each_rows}
 use Rattle.smk_session.proofs.Opened.{tables_long}
-use Rattle.smk_grow.proofs.ChainRuns.{IsChain, before_is, behind_is, chain_fits, chain_grows, chain_of, chain_long, opened_is}
+use Rattle.smk_grow.proofs.ChainRuns.{before_is, behind_is, chain_fits, chain_grows, chain_of, chain_long, opened_is}
 use Rattle.smk_grow.proofs.Lengthened.{told_same}
 use Rattle.smk_grow.proofs.chained.grown_view.Goals as goal
 

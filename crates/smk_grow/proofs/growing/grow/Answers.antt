@@ -1,8 +1,5 @@
-use Rattle.std.proofs.Common.{◌≡◌, ◌∙◌, ap, length, map, subst, sym}
-use Rattle.smk_base.specs.Rels.{Relation}
-use Rattle.smk_model.specs.Appends.{scanning}
+use Rattle.std.proofs.Common.{◌∙◌}
 use Rattle.smk_session.specs.Parts.{parts_image}
-use Rattle.smk_session.specs.Sessions.{state_of}
 use Rattle.smk_grow.proofs.Lengthened.{err_same, first_looks, lengthened_after, lengthened_apart, lengthened_grown, lengthened_kept, lengthened_looks, lengthened_one, lengthened_told, ok_same, told_same}
 use Rattle.smk_grow.proofs.growing.grow.Goals as goal
 
