@@ -6,7 +6,7 @@ use Rattle.std.proofs.lemmas.List.{length-append, length-map, length-set}
 use Rattle.smk_base.specs.CatalogImage.{CatalogImage, catalog_image}
 use Rattle.smk_base.specs.Places.{upto}
 use Rattle.smk_base.specs.Rels.{Relation}
-use Rattle.smk_model.specs.Appends.{depends_on, is_too_long, longer, longer_book, longer_fault, looks_of_longer, scanning, turn_at, turn_unless, looks_of_scan}
+use Rattle.smk_model.specs.Appends.{depends_on, is_too_long, longer_book, longer_fault, looks_of_longer, scanning, turn_at, turn_unless, looks_of_scan}
 use Rattle.smk_model.specs.Looks.{looks_of_back}
 use Rattle.smk_model.specs.Opening.{ViewFault, first_some, view_fault}
 use Rattle.smk_model.specs.Selection.{row_limit}
