@@ -1,11 +1,11 @@
 -- What a growing chain gives of the parts of its table, put together, is what it gives of the table.
 use Rattle.std.proofs.Common.{◌≡◌, ◌∙◌, ℕ, ◌+◌, ◌<◌, ◌≤◌, Bool, true, false, cond, List, [], ◌∷◌, ◌++◌, length, map, take, drop, refl, sym, ap, subst, arith, get_or, nat_eq, Option, Some, None, inl, inr}
-use Rattle.std.proofs.lemmas.Bool.{cases_Bool, eqb-true, false≢true, le-ltb}
+use Rattle.std.proofs.lemmas.Bool.{cases_Bool, eqb-true, le-ltb}
 use Rattle.std.proofs.lemmas.List.{length-map, length-append, get_or-map, get_or-set_same, take-append-drop}
 use Rattle.smk_base.specs.Places.{Lists, upto, pairs_of, has, inverted, composed, followed}
 use Rattle.smk_base.specs.declared.plan.Agg.{Agg}
 use Rattle.smk_base.specs.declared.need.Needed.{Needed}
-use Rattle.smk_base.specs.Plans.{Selection, Projection, Distinction, Grouping, Expr, Leaf, Apply, Combine}
+use Rattle.smk_base.specs.Plans.{Grouping, Expr, Leaf, Apply, Combine}
 use Rattle.smk_keys.specs.Classes.{ClassesImage}
 use Rattle.smk_model.specs.Values.{Row}
 use Rattle.smk_model.specs.Plain.{key_of, firsts, leaves, step1}
@@ -278,12 +278,3 @@ all_maps plan tables before behind groups rows need old new growing o w long is 
           ∙ ap (λ r. void_map r (length (table_at tables n.table)) n) long ∙ void_is plan tables n growing there
     ])
     ∙ sym (map_map (kept_at plan tables) (λ i. get_or need i no_need) (upto (length need))) ∙ ap (map (kept_at plan tables)) (map_upto need no_need)
-
--- a growing chain whose last step is no grouping
-pub chain_or_group : (plan : Expr) → is_growing plan ≡ true → ((keys : List ℕ) (aggs : List Agg) (input : Expr) → plan ≡ Apply (Grouping keys aggs) input → ⊥) → is_chain plan ≡ true
-chain_or_group (Leaf table) c none = refl
-chain_or_group (Apply (Selection formula) input) c none = c
-chain_or_group (Apply (Projection items) input) c none = c
-chain_or_group (Apply (Distinction items) input) c none = absurd (false≢true c)
-chain_or_group (Apply (Grouping keys aggs) input) c none = absurd (none keys aggs input refl)
-chain_or_group (Combine op left right) c none = absurd (false≢true c)

@@ -3,4 +3,3 @@ pub mod FitRows
 pub mod Joining
 pub mod Levels
 pub mod Running
-pub mod Tables

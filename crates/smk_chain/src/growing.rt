@@ -1,5 +1,4 @@
 ghost use Rattle.std.specs.Prelude.{◌≡◌, ◌+◌, ◌≤◌, ◌++◌, true, All, Some, None, length, IfOk};
-ghost use Rattle.smk_base.specs.Places.{upto};
 ghost use Rattle.smk_base.specs.PlanImage.{expr_of};
 ghost use Rattle.smk_base.specs.Rels.{RowFits};
 ghost use Rattle.smk_model.specs.Composed.{table_at};
@@ -19,6 +18,7 @@ use smk_base::{Agg, Aggs, Keys, Need, Needed, Plan, Rel};
 use smk_compose::{KeptMap, Run};
 use smk_keys::Classes;
 use smk_marks::scanned_table;
+use smk_rid::numbers_below;
 use smk_table::Table;
 use std::alloc::{AllocError, Global};
 
@@ -134,7 +134,7 @@ fn groups_of_both(
     ensures rows { IfOk result (λ made. made.0 ≡ record { kinds = both.now.kinds; rows = joint_groups keys aggs.now both.now.rows }) }
     ensures classes { IfOk result (λ made. made.1 ≡ joint_classes keys both.now.rows) }
 {
-    let columns = first_columns(alloc, keys)?;
+    let columns = numbers_below(alloc, keys)?;
     let columns = columns.as_slice();
     let classes = Classes::of_rows(alloc, both, columns)?;
     let rel = regrouped(alloc, both, &classes, columns, aggs)?;
@@ -149,17 +149,6 @@ fn rows_of_both(alloc: Global, old: &Rel, new: &Rel) -> Result<Rel, AllocError>
 {
     let rows = old.copy(alloc)?;
     rows.followed_by(alloc, new)
-}
-
-// The numbers of so many columns.
-fn first_columns(alloc: Global, count: u32) -> Result<Vec<u32>, AllocError>
-    ensures { IfOk result (λ columns. columns.items ≡ upto count) }
-{
-    let mut columns = Vec::with_capacity(alloc, count as usize)?;
-    for c in 0..count {
-        columns.push(c)?;
-    }
-    Ok(columns)
 }
 
 // These rows, with the maps of the needed tables, from those of the old rows and of the new ones.

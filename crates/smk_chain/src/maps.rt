@@ -84,14 +84,14 @@ fn map_of_both(
 {
     if need.table == scanned {
         let map = scanned_map(alloc, need, groups, old, new)?;
-        in_least_room(alloc, map)
+        narrowed(alloc, map)
     } else {
         Ok(empty_map(need, rows, size))
     }
 }
 
 // The same map, narrowed.
-fn in_least_room(alloc: Global, map: KeptMap) -> Result<KeptMap, AllocError>
+fn narrowed(alloc: Global, map: KeptMap) -> Result<KeptMap, AllocError>
     ensures { IfOk result (λ made. made ≡ map) }
 {
     let mut map = map;

@@ -1,6 +1,6 @@
 -- A view that is a growing chain, as the run of its plan.
-use Rattle.std.proofs.Common.{◌≡◌, ℕ, ◌<◌, ◌≤◌, true, List, [], length, map, take, drop, set, refl, ap, sym, ◌∙◌, subst, arith}
-use Rattle.smk_base.specs.CatalogImage.{CatalogImage, ViewImage, catalog_image, view_image}
+use Rattle.std.proofs.Common.{◌≡◌, ℕ, ◌<◌, true, List, [], length, take, drop, set, ap, sym, ◌∙◌, subst}
+use Rattle.smk_base.specs.CatalogImage.{ViewImage, catalog_image, view_image}
 use Rattle.smk_base.specs.PlanImage.{expr_of}
 use Rattle.smk_base.specs.Plans.{Expr}
 use Rattle.smk_base.specs.Rels.{Relation}

@@ -1,7 +1,6 @@
 -- What a session keeps once fresh values are in the places of what they replace.
-use Rattle.std.proofs.Common.{◌≡◌, ℕ, ◌<◌, ◌≤◌, List, [], length, map, refl, ap, sym, ◌∙◌, arith, Option, None}
+use Rattle.std.proofs.Common.{◌≡◌, ℕ, ◌≤◌, List, [], length, map, refl, ap, sym, ◌∙◌, arith, Option, None}
 use Rattle.std.specs.List.{filter_map}
-use Rattle.std.proofs.lemmas.List.{length-map}
 use Rattle.smk_base.specs.CatalogImage.{catalog_image}
 use Rattle.smk_base.specs.Places.{upto}
 use Rattle.smk_base.specs.Rels.{Relation}
@@ -10,12 +9,12 @@ use Rattle.smk_model.specs.Selection.{each_rows}
 use Rattle.smk_model.specs.Session.{Workbook}
 use Rattle.smk_compose.specs.declared.kept_maps.Run.{Run}
 use Rattle.smk_skip.specs.Splits.{SplitImage}
-use Rattle.smk_session.specs.Extras.{splits_of, all_cubes, split_in, cubes_in}
+use Rattle.smk_session.specs.Extras.{splits_of, all_cubes}
 use Rattle.smk_session.specs.Sessions.{SessionImage, opened_views, workbook_image, workbook_of}
 use Rattle.smk_grow.specs.Grown.{first_tables}
 use Rattle.smk_grow.specs.Images.{renewed}
 use Rattle.smk_grow.specs.Renewals.{IsFresh, IsGrown}
-use Rattle.smk_grow.specs.Renewed.{fresh_cubes, fresh_split, fresh_view, kept_view, replaced}
+use Rattle.smk_grow.specs.Renewed.{fresh_cubes, fresh_split, fresh_view, replaced}
 use Rattle.smk_grow.specs.declared.renewing.Fresh.{Fresh}
 use Rattle.smk_grow.proofs.Fresh.{same_but}
 use Rattle.smk_grow.proofs.Replaced.{long_cubes, long_splits, replaced_cubes, replaced_splits, replaced_views}
@@ -43,13 +42,6 @@ committed_cubes session t len fresh grown f =
     ∙ replaced_cubes (catalog_image session.catalog) t (each_rows (first_tables session.tables t len)) (each_rows session.tables) session.catalog.backs (same_but session.tables t len)
 
 -- there are as many of them
-
-pub few_views : (session : SessionImage) (t len : ℕ) (fresh : Fresh) → IsGrown session t len → IsFresh t (workbook_of session) fresh → length fresh.views.items ≤ length session.views
-few_views session t len fresh grown f =
-    let n = length (catalog_image session.catalog).views in
-    let made : length fresh.views.items ≡ length (upto n) = ap length f.views ∙ length-map (upto n) (fresh_view t (workbook_of session)) in
-    let there : length session.views ≡ length (upto n) = ap length grown.views_are ∙ length-map (upto n) (kept_view t (before session t len) (workbook_of session)) in
-    omega (arith, made, there)
 
 pub few_splits : (session : SessionImage) (t len : ℕ) (fresh : Fresh) → IsGrown session t len → IsFresh t (workbook_of session) fresh → length fresh.extras.splits.items ≤ length session.splits
 few_splits session t len fresh grown f =

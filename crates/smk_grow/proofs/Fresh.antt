@@ -1,8 +1,7 @@
 -- What takes the place of a view, by what the view is.
-use Rattle.std.proofs.Common.{◌≡◌, ℕ, ◌+◌, ◌<◌, ◌≤◌, Bool, true, false, ◌||◌, cond, List, [], ◌∷◌, ◌++◌, length, map, get_or, refl, ap, sym, ◌∙◌, subst, arith, Option, Some, None, inl, inr}
-use Rattle.std.proofs.lemmas.Bool.{cases_Bool, false≢true}
+use Rattle.std.proofs.Common.{◌≡◌, ℕ, ◌<◌, ◌≤◌, true, List, length, refl, ap, sym, ◌∙◌, arith, Option, Some, None, inl, inr}
+use Rattle.std.proofs.lemmas.Bool.{cases_Bool}
 use Rattle.smk_base.specs.CatalogImage.{catalog_image}
-use Rattle.smk_base.specs.Places.{upto}
 use Rattle.smk_base.specs.Rels.{Relation}
 use Rattle.smk_base.specs.declared.catalog.Catalog.{Catalog}
 use Rattle.smk_model.specs.Appends.{scans}
@@ -16,7 +15,7 @@ use Rattle.smk_session.specs.Sessions.{IsStartFault, opened, workbook_image}
 use Rattle.smk_session.specs.declared.fault.StartFault.{StartFault}
 use Rattle.smk_session.specs.declared.fault.StartFault.TheVariants.{Rows, Pairs, NoMemory}
 use Rattle.smk_grow.specs.Grown.{rows_of, first_tables}
-use Rattle.smk_grow.specs.Renewed.{apart_view, chains, fresh_view, kept_view, scan_fault, looks_again, looks_apart}
+use Rattle.smk_grow.specs.Renewed.{apart_view, chains, kept_view, scan_fault, looks_apart}
 use Rattle.smk_grow.proofs.Grown.{other_with, rows_is}
 use Rattle.smk_grow.proofs.Renewed.{SameBut, chain_looks, chain_never_full, chains_scan}
 
@@ -32,25 +31,10 @@ some_apart t book v run is = elim (cases_Bool (chains book.catalog t v)) [
   | inr failed ↦ (let here : Some run ≡ None = rw failed at is in absurd (cc))
 ]
 
-pub none_apart : (t : ℕ) (book : Workbook) (v : ℕ) → None ≡ apart_view t book v → chains book.catalog t v ≡ false
-none_apart t book v is = elim (cases_Bool (chains book.catalog t v)) [
-  | inl held ↦ (let here : None ≡ Some (opened book v) = rw held at is in absurd (cc))
-  | inr failed ↦ failed
-]
-
 -- a view that scans the table
-
-pub scan_fresh : (t : ℕ) (book : Workbook) (v : ℕ) (run : Run) → scans book.catalog t v ≡ true → run ≡ opened book v → Some run ≡ fresh_view t book v
-scan_fresh t book v run held is = rw (is, held) refl
 
 pub scan_fault_is : (t : ℕ) (book : Workbook) (v : ℕ) → scans book.catalog t v ≡ true → scan_fault t book v ≡ view_fault book v
 scan_fault_is t book v held = rw held refl
-
-pub no_scan_fault : (t : ℕ) (book : Workbook) (v : ℕ) → scans book.catalog t v ≡ false → scan_fault t book v ≡ None
-no_scan_fault t book v failed = rw failed refl
-
-pub scan_looks : (t : ℕ) (book : Workbook) (v : ℕ) → chains book.catalog t v ≡ false → scans book.catalog t v ≡ true → looks_again t book v ≡ rows_in (whole (view_at book.catalog v).plan book.tables)
-scan_looks t book v other held = rw (other, held) refl
 
 -- until then it is what it was over the tables before
 
@@ -58,9 +42,6 @@ pub scan_kept : (t : ℕ) (before book : Workbook) (v : ℕ) → scans book.cata
 scan_kept t before book v held = rw held refl
 
 -- a growing chain
-
-pub chain_fresh : (t : ℕ) (book : Workbook) (v : ℕ) (run : Run) → chains book.catalog t v ≡ true → run ≡ opened book v → Some run ≡ fresh_view t book v
-chain_fresh t book v run chained is = scan_fresh t book v run (chains_scan book.catalog t v chained) is
 
 pub chain_no_fault : (catalog : Catalog) (tables : List Relation) (t v : ℕ) → t < length tables → length (rows_of tables t) ≤ row_limit → chains (catalog_image catalog) t v ≡ true → scan_fault t (workbook_image catalog tables) v ≡ None
 chain_no_fault catalog tables t v low few chained =

@@ -1,5 +1,5 @@
 -- Tables of which one has other rows.
-use Rattle.std.proofs.Common.{◌≡◌, ◌≢◌, ℕ, zero, suc, ◌<◌, ◌≤◌, ◌+◌, Bool, true, false, List, [], ◌∷◌, ◌++◌, length, get_or, map, take, drop, set, refl, ap, sym, ◌∙◌, subst, arith, nat_eq}
+use Rattle.std.proofs.Common.{◌≡◌, ◌≢◌, ℕ, zero, suc, ◌<◌, false, List, [], ◌∷◌, ◌++◌, length, get_or, take, drop, set, refl, ap, sym, ◌∙◌, arith, nat_eq}
 use Rattle.std.proofs.lemmas.Bool.{eq-eqb, false≢true}
 use Rattle.std.proofs.lemmas.List.{get_or-map, get_or-set_same, get_or-set_other, length-map, length-set, map-set, set-set, set-get_or}
 use Rattle.std.proofs.Math.Seq.{map-set_same}
@@ -102,10 +102,6 @@ set_back tables t more own is = set-set tables t more own ∙ ap (set tables t) 
 
 pub long_set : (tables : List Relation) (t : ℕ) (more : Relation) → length (set tables t more) ≡ length tables
 long_set tables t more = length-set tables t more
-
-pub with_is : (tables : List Relation) (t : ℕ) (made : Relation) (rows : List Row) → made.kinds ≡ (table_of tables t).kinds → made.rows ≡ rows → set tables t made ≡ with_rows tables t rows
-with_is tables t made rows kinds are =
-    ap (λ (k : List Kind). set tables t (rel_of k made.rows)) kinds ∙ ap (λ (l : List Row). set tables t (rel_of (table_of tables t).kinds l)) are
 
 default_same : (tables : List Relation) (t : ℕ) (d e : Relation) → t < length tables → get_or tables t d ≡ get_or tables t e
 default_same [] t d e low = absurd (omega arith)

@@ -1,33 +1,26 @@
 -- A session before and after a line that appends rows.
-use Rattle.std.proofs.Common.{◌≡◌, ℕ, ◌+◌, ◌<◌, ◌≤◌, Bool, true, false, cond, List, [], ◌∷◌, ◌++◌, length, map, refl, ap, sym, ◌∙◌, subst, arith, Option, Some, None, inl, inr}
+use Rattle.std.proofs.Common.{◌≡◌, ℕ, ◌+◌, ◌<◌, ◌≤◌, Bool, true, false, cond, List, [], ◌++◌, length, refl, ap, sym, ◌∙◌, subst, arith, Option, Some, None, inl, inr}
 use Rattle.std.specs.List.{filter, sum_by}
-use Rattle.std.proofs.lemmas.Bool.{cases_Bool, false≢true}
+use Rattle.std.proofs.lemmas.Bool.{cases_Bool}
 use Rattle.std.proofs.lemmas.List.{length-append, length-map, length-set}
 use Rattle.smk_base.specs.CatalogImage.{CatalogImage, catalog_image}
 use Rattle.smk_base.specs.Places.{upto}
 use Rattle.smk_base.specs.Rels.{Relation}
-use Rattle.smk_base.specs.declared.brush.BrushOn.{BrushOn}
-use Rattle.smk_base.specs.declared.reply.AppendReply.{AppendReply}
-use Rattle.smk_base.specs.declared.value.Kind.{Kind}
-use Rattle.smk_model.specs.Appends.{depends_on, is_append_refused, is_too_long, longer, longer_book, longer_fault, looks_of_longer, scanning, turn_at, turn_unless, looks_of_scan}
-use Rattle.smk_model.specs.Catalogs.{each_table_kinds}
+use Rattle.smk_model.specs.Appends.{depends_on, is_too_long, longer_book, longer_fault, looks_of_longer, scanning, turn_at, turn_unless, looks_of_scan}
 use Rattle.smk_model.specs.Looks.{looks_of_back}
 use Rattle.smk_model.specs.Opening.{ViewFault, first_some, view_fault}
-use Rattle.smk_model.specs.Selection.{each_kinds, each_rows, row_limit}
+use Rattle.smk_model.specs.Selection.{row_limit}
 use Rattle.smk_model.specs.Session.{State, Workbook}
 use Rattle.smk_model.specs.Values.{Row}
-use Rattle.smk_model.proofs.Places.{length_upto}
 use Rattle.smk_compose.specs.declared.kept_maps.Run.{Run}
-use Rattle.smk_session.specs.Extras.{splits_of, all_cubes}
-use Rattle.smk_session.specs.Sessions.{AreExtras, AreInForce, AreOpened, IsSession, SessionImage, contents_kept, content_kept, opened_views, opened, state_of, state_over, workbook_image, workbook_of}
+use Rattle.smk_session.specs.Sessions.{AreExtras, AreOpened, IsSession, SessionImage, content_kept, opened_views, opened, state_of, workbook_image, workbook_of}
 use Rattle.smk_session.proofs.Shown.{none_in_force}
-use Rattle.smk_session.proofs.Opened.{views_long}
-use Rattle.smk_grow.specs.Grown.{rows_of, longer_tables, first_tables, last_tables}
-use Rattle.smk_grow.specs.Images.{lengthened, shortened, renewed, told_unless, renewed_unless, grown_unless, next_image}
+use Rattle.smk_grow.specs.Grown.{rows_of, longer_tables}
+use Rattle.smk_grow.specs.Images.{lengthened, shortened, renewed, renewed_unless, grown_unless, next_image}
 use Rattle.smk_grow.specs.Renewals.{IsGrown}
 use Rattle.smk_grow.specs.Renewed.{kept_views, looks_apart, looks_again, looks_of_declared}
 use Rattle.smk_grow.proofs.Folds.{looks_depending, looks_scanning}
-use Rattle.smk_grow.proofs.Grown.{each_kinds_with, first_of_longer, longer_is, rows_is, table_with}
+use Rattle.smk_grow.proofs.Grown.{each_kinds_with, first_of_longer, longer_is, table_with}
 
 -- the longer tables are those of the longer book
 
@@ -97,10 +90,6 @@ looks_are session t more start between after low first second =
 
 -- the answer and the next session
 
-pub told_is : (found : Option ViewFault) (catalog : CatalogImage) (state : State) (t : ℕ) (more : List Row) → told_unless found (length more) (scanning catalog t) ≡ (turn_unless catalog state t more found).reply
-told_is (Some found) catalog state t more = refl
-told_is None catalog state t more = refl
-
 grown_keeps : (found : Option ViewFault) (session : SessionImage) (t : ℕ) (more : List Row) → IsSession session → t < length session.tables → IsSession (grown_unless found t more session)
 grown_keeps (Some found) session t more keeps low = keeps
 grown_keeps None session t more keeps low =
@@ -143,36 +132,3 @@ next_state session t more low = elim (cases_Bool (is_too_long (state_of session)
   | inl long ↦ rw long refl
   | inr short ↦ rw short (grown_state (longer_fault (catalog_image session.catalog) (state_of session) t more) session t more low)
 ]
-
-grown_refused : (found : Option ViewFault) (session : SessionImage) (t : ℕ) (more : List Row) → is_append_refused (turn_unless (catalog_image session.catalog) (state_of session) t more found).reply ≡ true → grown_unless found t more session ≡ session
-grown_refused (Some found) session t more h = refl
-grown_refused None session t more h = absurd (false≢true h)
-
-pub next_refused : (session : SessionImage) (t : ℕ) (more : List Row) → is_append_refused (turn_at (catalog_image session.catalog) (state_of session) more (Some t)).reply ≡ true → next_image session t more ≡ session
-next_refused session t more h = elim (cases_Bool (is_too_long (state_of session) t more)) [
-  | inl long ↦ rw long refl
-  | inr short ↦
-      (let there : is_append_refused (turn_unless (catalog_image session.catalog) (state_of session) t more (longer_fault (catalog_image session.catalog) (state_of session) t more)).reply ≡ true = rw short at h in
-      rw short (grown_refused (longer_fault (catalog_image session.catalog) (state_of session) t more) session t more there))
-]
-
--- the book, the mode and the workers stay
-
-pub record StaysBeside (session next : SessionImage) : Type 0 where
-  pub book : next.catalog ≡ session.catalog
-  pub mode : next.mode ≡ session.mode
-  pub workers : next.workers ≡ session.workers
-
-stays : (session : SessionImage) → StaysBeside session session
-stays session = record { book = refl; mode = refl; workers = refl }
-
-grown_beside : (found : Option ViewFault) (session : SessionImage) (t : ℕ) (more : List Row) → StaysBeside session (grown_unless found t more session)
-grown_beside (Some found) session t more = stays session
-grown_beside None session t more = record { book = refl; mode = refl; workers = refl }
-
-pub next_beside : (session : SessionImage) (t : ℕ) (more : List Row) → StaysBeside session (next_image session t more)
-next_beside session t more = by (is_too_long (state_of session) t more)
-  where
-    by : (long : Bool) → StaysBeside session (cond long session (grown_unless (longer_fault (catalog_image session.catalog) (state_of session) t more) t more session))
-    by true = stays session
-    by false = grown_beside (longer_fault (catalog_image session.catalog) (state_of session) t more) session t more

@@ -1,5 +1,5 @@
 -- The views that don't scan a table, moved to more rows of it, and back.
-use Rattle.std.proofs.Common.{◌≡◌, ℕ, zero, suc, ◌+◌, ◌<◌, ◌≤◌, Bool, true, false, cond, List, [], ◌∷◌, ◌++◌, length, get_or, map, set, take, drop, refl, ap, sym, ◌∙◌, arith, inl, inr}
+use Rattle.std.proofs.Common.{◌≡◌, ℕ, zero, suc, ◌+◌, ◌<◌, ◌≤◌, cond, List, [], ◌∷◌, ◌++◌, length, get_or, map, set, take, drop, refl, ap, sym, ◌∙◌, arith, inl, inr}
 use Rattle.std.proofs.lemmas.Bool.{cases_Bool}
 use Rattle.std.proofs.lemmas.List.{ext_get_or, length-map, length-take-le}
 use Rattle.smk_base.specs.CatalogImage.{CatalogImage, catalog_image}
@@ -9,7 +9,6 @@ use Rattle.smk_base.specs.declared.catalog.Catalog.{Catalog}
 use Rattle.smk_model.specs.Appends.{scans}
 use Rattle.smk_model.specs.Plain.{table_at}
 use Rattle.smk_model.specs.Selection.{each_rows}
-use Rattle.smk_model.specs.Session.{Workbook}
 use Rattle.smk_model.specs.Values.{Row}
 use Rattle.smk_model.proofs.Places.{get_or_map_upto, length_upto, map_upto_agree}
 use Rattle.smk_compose.specs.declared.kept_maps.Run.{Run}

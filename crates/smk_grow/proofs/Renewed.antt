@@ -1,6 +1,6 @@
 -- What a view is over a longer table.
-use Rattle.std.proofs.Common.{◌≡◌, ℕ, ◌+◌, ◌<◌, ◌≤◌, Bool, true, false, ◌&&◌, ◌||◌, cond, List, [], ◌∷◌, length, map, refl, ap, sym, ◌∙◌, subst, arith, nat_eq, Option, Some, None, option_map, inl, inr}
-use Rattle.std.proofs.lemmas.Bool.{cases_Bool, eq-eqb, eqb-true, false≢true}
+use Rattle.std.proofs.Common.{◌≡◌, ℕ, ◌≤◌, Bool, true, false, ◌&&◌, List, [], ◌∷◌, length, map, refl, ap, sym, ◌∙◌, subst, arith, nat_eq, Option, None, option_map, inl, inr}
+use Rattle.std.proofs.lemmas.Bool.{cases_Bool, eqb-true, false≢true}
 use Rattle.smk_base.specs.CatalogImage.{CatalogImage}
 use Rattle.smk_base.specs.Places.{Lists, empty_lists, has}
 use Rattle.smk_base.specs.Plans.{Expr}
@@ -11,7 +11,7 @@ use Rattle.smk_model.specs.Composed.{backs, forwards, rows_over}
 use Rattle.smk_model.specs.Growth.{is_growing}
 use Rattle.smk_model.specs.GrowthLaws.{AgreeAtLeaves}
 use Rattle.smk_model.specs.LineageLaws.{selected_table}
-use Rattle.smk_model.specs.NodeFaults.{NodeFault, asked_of, first_fault}
+use Rattle.smk_model.specs.NodeFaults.{NodeFault}
 use Rattle.smk_model.specs.Opening.{view_fault, fault_of_view}
 use Rattle.smk_model.specs.Plain.{leaves, table_at, whole}
 use Rattle.smk_model.specs.Selection.{rows_in, row_limit}
@@ -20,7 +20,7 @@ use Rattle.smk_model.specs.Values.{Row}
 use Rattle.smk_model.specs.Workload.{needs}
 use Rattle.smk_model.proofs.Composed.{lists_stand}
 use Rattle.smk_model.proofs.NeverFull.{growing_never_full}
-use Rattle.smk_model.proofs.Places.{has_single, map_map}
+use Rattle.smk_model.proofs.Places.{has_single}
 use Rattle.smk_model.proofs.Thin.{growing_is_thin}
 use Rattle.smk_model.proofs.Unscanned.{unscanned_stays}
 use Rattle.smk_body.specs.Locals.{wanted}

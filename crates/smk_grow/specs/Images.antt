@@ -2,7 +2,6 @@
 use Rattle.std.specs.Prelude.{ℕ, cond, List, [], length, map, Option, Some, None}
 use Rattle.smk_base.specs.CatalogImage.{catalog_image}
 use Rattle.smk_base.specs.Places.{upto}
-use Rattle.smk_base.specs.Rels.{Relation}
 use Rattle.smk_base.specs.declared.reply.AppendReply.{AppendReply}
 use Rattle.smk_base.specs.declared.reply.AppendReply.TheVariants.{Added, Refused}
 use Rattle.smk_model.specs.Appends.{is_too_long, longer_fault, refusal_of}

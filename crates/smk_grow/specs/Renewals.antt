@@ -1,5 +1,5 @@
 -- What the calls say that make views, splits and groupings over a longer table.
-use Rattle.std.specs.Prelude.{◌≡◌, ◌<◌, ◌≤◌, ℕ, List, length, map, Option}
+use Rattle.std.specs.Prelude.{◌≡◌, ◌<◌, ◌≤◌, ℕ, List, length, map}
 use Rattle.smk_base.specs.Places.{upto}
 use Rattle.smk_base.specs.declared.workers.TheConstants.{WORKER_LIMIT}
 use Rattle.std.specs.List.{filter_map}
@@ -7,8 +7,10 @@ use Rattle.smk_model.specs.Appends.{scanning}
 use Rattle.smk_model.specs.Catalogs.{each_table_kinds}
 use Rattle.smk_model.specs.Selection.{each_kinds, row_limit}
 use Rattle.smk_model.specs.Session.{Workbook}
-use Rattle.smk_session.specs.Sessions.{AreExtras, SessionImage, workbook_image, workbook_of}
+use Rattle.smk_model.specs.Values.{Row}
+use Rattle.smk_session.specs.Sessions.{AreExtras, IsSession, SessionImage, workbook_image, workbook_of}
 use Rattle.smk_grow.specs.Grown.{rows_of, first_tables, last_tables}
+use Rattle.smk_grow.specs.Images.{lengthened}
 use Rattle.smk_grow.specs.Renewed.{fresh_view, fresh_split, fresh_cubes, kept_views}
 use Rattle.smk_grow.specs.declared.renewal.Renewal.{Renewal}
 use Rattle.smk_grow.specs.declared.renewing.Fresh.{Fresh}
@@ -37,6 +39,13 @@ pub record IsFresh (t : ℕ) (book : Workbook) (fresh : Fresh) : Type 0 where
   pub splits : fresh.extras.splits.items ≡ filter_map (fresh_split t book) book.catalog.backs
   pub cubes : fresh.extras.cubes.items ≡ filter_map (fresh_cubes t book) book.catalog.backs
   pub scanning : fresh.scanning ≡ scanning book.catalog t
+
+-- a session before and after rows are put behind the so many of a table, of which nothing is made anew yet
+pub record IsLengthened (session parts : SessionImage) (t len : ℕ) (more : List Row) : Type 0 where
+  pub keeps : IsSession session
+  pub same : parts ≡ lengthened t more session
+  pub long : len ≡ length (rows_of session.tables t)
+  pub low : t < length session.tables
 
 -- a session whose table is longer already: but for the views that don't scan it, what it keeps is still that of the table with only so many rows
 pub record IsGrown (session : SessionImage) (t len : ℕ) : Type 0 where

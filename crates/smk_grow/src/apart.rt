@@ -3,10 +3,8 @@ ghost use Rattle.std.specs.Prelude.{◌≡◌, ◌<◌, ◌≤◌, ◌+◌, leng
 ghost use Rattle.std.specs.List.{sum_by};
 ghost use Rattle.smk_base.specs.CatalogImage.{catalog_image};
 ghost use Rattle.smk_base.specs.Places.{upto};
-ghost use Rattle.smk_base.specs.declared.workers.TheConstants.{WORKER_LIMIT};
-ghost use Rattle.smk_model.specs.Catalogs.{each_table_kinds};
-ghost use Rattle.smk_model.specs.Selection.{each_kinds};
-ghost use Rattle.smk_session.specs.Sessions.{workbook_image};
+ghost use Rattle.smk_session.specs.Parts.{parts_image};
+ghost use Rattle.smk_session.specs.Sessions.{IsSession, workbook_image, workbook_of};
 ghost use Rattle.smk_session.specs.declared.fault.StartFault.TheVariants as faults;
 ghost use Rattle.smk_compose.specs.Fetched.{table_of};
 ghost use Rattle.smk_grow.specs.Grown.{rows_of};
@@ -16,9 +14,8 @@ ghost use Rattle.smk_grow.specs.Renewed.{apart_view, looks_apart};
 use crate::renewal::Renewal;
 use crate::scans::view_chains;
 use smk_outside::{Gate, Steps};
-use smk_session::{Mode, Opened, StartFault, open_view};
+use smk_session::{Opened, Parts, StartFault, open_view};
 use smk_table::Table;
-use smk_typing::TypedBook;
 use std::alloc::{AllocError, Global};
 use std::mem::swap;
 use std::sync::ledger::Ledger;
@@ -88,38 +85,34 @@ fn each_apart<R: Threads + Sync, G: Gate + Sync, L: Ledger>(
     Ok(views)
 }
 
-// The views that are growing chains on a table, over tables in which only new rows stand for it. The tables and the new rows are as before.
+// The views of a session that are growing chains on a table, over tables in which only new rows stand for it. The session and the new rows are as before.
 pub(crate) fn open_apart<R: Threads + Sync, G: Gate + Sync, L: Ledger>(
     rt: &R,
     alloc: Global,
-    mode: Mode,
-    workers: u32,
     gate: &G,
-    book: &TypedBook,
-    tables: &mut [Table],
+    parts: &mut Parts,
     table: u32,
     more: &mut Table,
     steps: &mut Steps<L>,
 ) -> Result<Vec<Option<Opened>>, AllocError>
-    requires kinds { each_kinds tables.old ≡ each_table_kinds book.now.tables }
-    requires some_workers { 1 ≤ workers }
-    requires few_workers { workers ≤ WORKER_LIMIT }
-    requires table { table < length tables.old }
-    requires more { more.old.kinds ≡ (table_of tables.old table).kinds }
-    ensures tables { tables.new ≡ tables.old }
+    requires keeps { IsSession (parts_image parts.old) }
+    requires table { table < length (parts_image parts.old).tables }
+    requires more { more.old.kinds ≡ (table_of (parts_image parts.old).tables table).kinds }
+    ensures parts { parts_image parts.new ≡ parts_image parts.old }
     ensures more { more.new ≡ more.old }
-    ensures views { IfOk result (λ made. made.items ≡ map (apart_view table (workbook_image book.now (set tables.old table more.old))) (upto (length (catalog_image book.now).views))) }
-    ensures looks { steps.new ≤ steps.old + sum_by (looks_apart table (catalog_image book.now) (length more.old.rows)) (upto (length (catalog_image book.now).views)) }
+    ensures views { IfOk result (λ made. made.items ≡ map (apart_view table (workbook_image (parts_image parts.old).catalog (set (parts_image parts.old).tables table more.old))) (upto (length (workbook_of (parts_image parts.old)).catalog.views))) }
+    ensures looks { steps.new ≤ steps.old + sum_by (looks_apart table (workbook_of (parts_image parts.old)).catalog (length more.old.rows)) (upto (length (workbook_of (parts_image parts.old)).catalog.views)) }
 {
     // Its clauses say that the rows are not too many.
     let _rows = more.len();
+    let tables = parts.tables.as_mut_slice();
     swap(&mut tables[table as usize], more);
     let renewal = Renewal {
-        book,
+        book: &parts.book,
         tables: &*tables,
         table,
-        mode,
-        workers,
+        mode: parts.mode,
+        workers: parts.workers,
     };
     let views = each_apart(rt, alloc, gate, &renewal, steps);
     swap(&mut tables[table as usize], more);

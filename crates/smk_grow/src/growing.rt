@@ -9,8 +9,8 @@ ghost use Rattle.smk_compose.specs.Fetched.{table_of};
 ghost use Rattle.smk_session.specs.Parts.{parts_image};
 ghost use Rattle.smk_session.specs.Sessions.{IsSession, state_of, workbook_of};
 ghost use Rattle.smk_grow.specs.Grown.{longer_tables, first_tables, rows_of};
-ghost use Rattle.smk_grow.specs.Images.{grown_unless, lengthened, next_image, renewed, renewed_unless, shortened, told_unless};
-ghost use Rattle.smk_grow.specs.Renewals.{IsGrown, IsFresh, last_of};
+ghost use Rattle.smk_grow.specs.Images.{grown_unless, next_image, renewed, renewed_unless, shortened, told_unless};
+ghost use Rattle.smk_grow.specs.Renewals.{IsGrown, IsFresh, IsLengthened, last_of};
 ghost use Rattle.smk_grow.specs.Renewed.{apart_view, looks_again, looks_of_declared};
 ghost use Rattle.smk_grow.specs.Told.{told_text};
 
@@ -39,24 +39,25 @@ fn lengthen(alloc: Global, tables: &mut [Table], table: u32, more: Table) -> Res
     tables[table as usize].absorb(alloc, more)
 }
 
-// The same for a session, with the views moved that don't scan the table.
+// The same for a session, with the views moved that don't scan the table. Gives how many rows the table had.
 fn lengthen_parts(
     alloc: Global,
     parts: &mut Parts,
     table: u32,
     more: Table,
-) -> Result<(), AllocError>
+) -> Result<u32, AllocError>
     requires keeps { IsSession (parts_image parts.old) }
     requires table { table < length (parts_image parts.old).tables }
     requires kinds { more.kinds ≡ (table_of (parts_image parts.old).tables table).kinds }
     requires few { length (rows_of (parts_image parts.old).tables table) + length more.rows ≤ ROW_LIMIT }
-    ensures longer { OnOk result (parts_image parts.new ≡ lengthened table more.rows (parts_image parts.old)) }
+    ensures longer { IfOk result (λ len. IsLengthened (parts_image parts.old) (parts_image parts.new) table len more.rows) }
     ensures kept { OnErr result (parts_image parts.new ≡ parts_image parts.old) }
 {
+    let len = parts.tables[table as usize].len();
     lengthen(alloc, parts.tables.as_mut_slice(), table, more)?;
     let size = parts.tables[table as usize].len();
     move_views(alloc, &parts.book, parts.views.as_mut_slice(), table, size);
-    Ok(())
+    Ok(len)
 }
 
 // Leaves the first rows of a table. It takes no memory.
@@ -170,22 +171,10 @@ fn grow<R: Threads + Sync, G: Gate + Sync, L: Ledger>(
     ensures kept { OnErr result (parts_image parts.new ≡ parts_image parts.old) }
     ensures looks { steps.new ≤ steps.old + looks_of_longer (catalog_image (parts_image parts.old).catalog) (state_of (parts_image parts.old)) table more.rows }
 {
-    let len = parts.tables[table as usize].len();
     let rows = more.len();
     let mut more = more;
-    let apart = open_apart(
-        rt,
-        alloc,
-        parts.mode,
-        parts.workers,
-        gate,
-        &parts.book,
-        parts.tables.as_mut_slice(),
-        table,
-        &mut more,
-        steps,
-    )?;
-    lengthen_parts(alloc, parts, table, more)?;
+    let apart = open_apart(rt, alloc, gate, parts, table, &mut more, steps)?;
+    let len = lengthen_parts(alloc, parts, table, more)?;
     renew_parts(
         rt,
         alloc,

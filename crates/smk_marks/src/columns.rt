@@ -12,6 +12,7 @@ ghost use Rattle.smk_marks.specs.Views.{chain_values};
 
 use smk_base::{Item, Op1, Plan, Rel};
 use smk_keys::Classes;
+use smk_rid::numbers_below;
 use smk_table::Chosen;
 use std::alloc::{AllocError, Global};
 
@@ -43,17 +44,6 @@ pub(crate) fn marks_in(alloc: Global, marks: &[u32], places: &[u32]) -> Result<V
     Ok(made)
 }
 
-// The first columns, so many.
-fn first_columns(alloc: Global, count: u32) -> Result<Vec<u32>, AllocError>
-    ensures { IfOk result (λ columns. columns.items ≡ upto count) }
-{
-    let mut columns = Vec::with_capacity(alloc, count as usize)?;
-    for column in 0..count {
-        columns.push(column)?;
-    }
-    Ok(columns)
-}
-
 // The keys of groups at these marks: the first values of the rows there.
 pub(crate) fn keys_at(
     alloc: Global,
@@ -67,7 +57,7 @@ pub(crate) fn keys_at(
     ensures { IfOk result (λ made. made ≡ record { kinds = map (kind_in content.now.kinds) (upto width); rows = map (λ mark. take width (row_at content.now.rows mark)) marks.now }) }
 {
     let _rows = content.len();
-    let columns = first_columns(alloc, width)?;
+    let columns = numbers_below(alloc, width)?;
     let keys = content.pick_columns(alloc, columns.as_slice())?;
     let made = keys.gather(alloc, marks)?;
     Ok(made)

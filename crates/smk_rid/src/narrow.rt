@@ -82,7 +82,7 @@ fn codes_of<C: Code>(alloc: Global, rids: &[u32]) -> Result<Vec<C>, AllocError>
     Ok(codes)
 }
 
-/// The numbers below a bound.
+/// The numbers below a bound, ascending.
 pub fn numbers_below(alloc: Global, bound: u32) -> Result<Vec<u32>, AllocError>
     ensures { IfOk result (λ numbers. numbers.items ≡ upto bound) }
 {

@@ -1,5 +1,5 @@
 -- The parts of a backward answer, by what is kept of a view and a table.
-use Rattle.std.proofs.Common.{◌≡◌, ℕ, ◌<◌, Bool, true, false, ◌&&◌, ◌||◌, cond, List, [], ◌∷◌, length, refl, ap, sym, ◌∙◌, subst, nat_eq, Ok, Err, Option, Some, None, option_map, ok_or, slice_get, All, inl, inr}
+use Rattle.std.proofs.Common.{◌≡◌, ℕ, ◌<◌, Bool, true, false, ◌&&◌, ◌||◌, cond, List, [], ◌∷◌, length, refl, ap, sym, ◌∙◌, nat_eq, Ok, Err, Option, Some, None, option_map, ok_or, slice_get, All, inl, inr}
 use Rattle.std.specs.List.{list_all, list_any}
 use Rattle.std.proofs.lemmas.Bool.{cases_Bool, eqb-true, false≢true}
 use Rattle.std.proofs.lemmas.List.{get_or-map, length-map}
@@ -44,7 +44,7 @@ use Rattle.smk_session.specs.declared.lent.Lent.{Lent}
 use Rattle.smk_session.specs.declared.backward.Pair.{Pair}
 use Rattle.smk_session.proofs.Declared.{cubes_found, cubes_of_grouped, grouping_fits, split_found}
 use Rattle.smk_session.proofs.KeptOf.{kept_back_is}
-use Rattle.smk_session.proofs.Marked.{backs_asked, listed_low, none_outside, passed, same_row}
+use Rattle.smk_session.proofs.Marked.{backs_asked, none_outside, passed, same_row}
 use Rattle.smk_session.proofs.Opened.{ok_is, plain_is, provided_then, run_is, table_is, then_row}
 
 abbrev book_of : List Relation → Pair → Workbook
@@ -271,16 +271,6 @@ pub grouped_is : (tables : List Relation) (brushes : List BrushOn) (views : List
 grouped_is tables brushes views pair marks p =
     declared_then tables views pair (λ m. ◌>>=◌ (cubes_asked pair) (λ kept. ◌>>=◌ (one_asked marks) (λ mark. read_off m kept mark marks)))
     (back_reply (catalog_image pair.catalog.now) (state_over tables brushes) pair.view pair.table marks thens.Grouped) p (grouped_told tables brushes views pair marks p)
-
--- a mark that is there
-pub one_low : (marks : Marks) (mark n : ℕ) → one_asked marks ≡ Ok mark → within_asked marks n ≡ passed → mark < n
-one_low markings.All mark n one within = absurd (cc)
-one_low (markings.Listed []) mark n one within = absurd (cc)
-one_low (markings.Listed (first ∷ more)) mark n one within = by (list_all (nat_eq first) more) one
-  where
-    by : (b : Bool) → provided b ManyMarks (Ok first) ≡ Ok mark → mark < n
-    by true is = (let same : first ≡ mark = cc in subst (λ (k : ℕ). k < n) same (All-head (λ o. o < n) first more (listed_low (first ∷ more) n within)))
-    by false is = absurd (cc)
 
 -- the rows
 pub back_is : (tables : List Relation) (brushes : List BrushOn) (views : List Run) (pair : Pair) (marks : Marks) → IsPairOf tables views pair

@@ -2,10 +2,9 @@
 use Rattle.std.proofs.Common.{◌≡◌, ℕ, zero, suc, ◌+◌, ◌<◌, ◌≤◌, Bool, true, false, ◌&&◌, ◌||◌, cond, List, [], ◌∷◌, ◌++◌, length, take, get_or, refl, ap, sym, ◌∙◌, subst, arith, nat_eq, Option, Some, None, Ok, Err, ok_or, option_map, is_some, slice_get, All, inl, inr, append_assoc, append-nil, take_all}
 use Rattle.std.specs.List.{AllZip, cons_option, filter, filter_map, list_any, position_or_len, sum_by}
 use Rattle.std.specs.Option.{option_or, option_to_list}
-use Rattle.std.proofs.lemmas.Bool.{cases_Bool, eq-eqb, eqb-true, false≢true}
+use Rattle.std.proofs.lemmas.Bool.{cases_Bool, eqb-true, false≢true}
 use Rattle.std.proofs.lemmas.List.{get_or-map, length-map, map-append, take_more}
 use Rattle.std.proofs.lemmas.List.Elements.{All-head, All-tail, filter_map-append}
-use Rattle.std.proofs.lemmas.List.Folds.{list_any_at}
 use Rattle.std.proofs.lemmas.List.Sums.{sum_by_more, sum_by-take-le}
 use Rattle.std.proofs.lemmas.Slice.Zip.{AllZip-long}
 use Rattle.smk_base.specs.CatalogImage.{catalog_image, view_image}
@@ -18,13 +17,13 @@ use Rattle.smk_base.specs.declared.catalog.Catalog.{Catalog}
 use Rattle.smk_base.specs.declared.catalog.TableInfo.{TableInfo}
 use Rattle.smk_base.specs.declared.reply.Refusal.TheVariants.{Undeclared}
 use Rattle.smk_base.specs.declared.value.Kind.{Kind}
-use Rattle.smk_model.specs.Catalogs.{BackFits, ExtraFits, GroupingFits, IsCatalog, table_kinds}
+use Rattle.smk_model.specs.Catalogs.{BackFits, ExtraFits, GroupingFits, table_kinds}
 use Rattle.smk_model.specs.Looks.{looks_of_back}
 use Rattle.smk_model.specs.Opening.{first_some}
 use Rattle.smk_model.specs.Replies.{Grouped, first_grouping, grouping_in, is_by, is_split}
 use Rattle.smk_model.specs.Session.{Workbook, view_at}
 use Rattle.smk_model.specs.Typing.{info_at}
-use Rattle.smk_model.specs.Workload.{is_back, is_link}
+use Rattle.smk_model.specs.Workload.{is_back}
 use Rattle.smk_model.proofs.Places.{get_or_map_upto}
 use Rattle.smk_compose.specs.declared.kept_maps.Run.{Run}
 use Rattle.smk_skip.specs.Splits.{SplitImage}
@@ -61,17 +60,6 @@ cubes_whole book grown is = ap (cubes_wanted book) is
 
 pub looks_whole : (book : Workbook) (grown : Option ℕ) → grown ≡ None → looks_wanted book grown ≡ looks_of_back book
 looks_whole book grown is = ap (looks_wanted book) is
-
--- each declaration of a checked book is declared by it
-
-pub is_declared : (catalog : Catalog) (i : ℕ) (d : Back) → IsCatalog (catalog_image catalog) → i < length catalog.backs → IsDeclared catalog (get_or catalog.backs i d)
-is_declared catalog i d checked low =
-    let declared : Back = get_or catalog.backs i d in
-    let own : is_back declared.view declared.table declared ≡ true = rw (eq-eqb declared.view declared.view refl, eq-eqb declared.table declared.table refl) refl in
-    record {
-      fits = checked.typed.backs i d low;
-      declares = ap (λ b. b || list_any (is_link declared.view declared.table) catalog.links) (list_any_at (is_back declared.view declared.table) catalog.backs i d low own);
-    }
 
 -- the lineage of a declaration is kept
 

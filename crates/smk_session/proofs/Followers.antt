@@ -12,29 +12,26 @@ use Rattle.smk_base.specs.declared.brush.BrushOn.{BrushOn}
 use Rattle.smk_base.specs.declared.catalog.Catalog.{Catalog}
 use Rattle.smk_base.specs.declared.catalog.ViewInfo.{ViewInfo}
 use Rattle.smk_base.specs.declared.pick.Pick.{Pick}
-use Rattle.smk_base.specs.declared.reply.Refusal.{Refusal}
 use Rattle.smk_base.specs.declared.reply.Refusal.TheVariants.{Undeclared}
-use Rattle.smk_base.specs.declared.tree.Marks.{Marks}
 use Rattle.smk_base.specs.declared.value.Kind.{Kind}
-use Rattle.smk_model.specs.Composed.{backs, forwards}
+use Rattle.smk_model.specs.Composed.{forwards}
 use Rattle.smk_model.specs.Catalogs.{IsCatalog, ViewFits, each_table_kinds}
-use Rattle.smk_model.specs.Replies.{marks_fwd, rids_of}
-use Rattle.smk_model.specs.Selection.{PickFits, PlanFits, ScansFit, each_kinds, each_rows, leaf_kinds, over, plan_kinds}
+use Rattle.smk_model.specs.Replies.{marks_fwd}
+use Rattle.smk_model.specs.Selection.{PickFits, PlanFits, each_kinds, each_rows, leaf_kinds, over, plan_kinds}
 use Rattle.smk_model.specs.Session.{concerns, leaves_now, linked, rows_of_table, selected_for, view_at}
-use Rattle.smk_model.specs.Workload.{declares_back, declares_fwd, is_link}
+use Rattle.smk_model.specs.Workload.{declares_fwd}
 use Rattle.smk_model.proofs.Composed.{lists_stand}
 use Rattle.smk_model.proofs.Places.{places_below}
 use Rattle.smk_compose.specs.declared.kept_maps.Run.{Run}
-use Rattle.smk_session.specs.Answers.{AreOn, chosen_of, kept_back, kept_fwd, members_asked, picks_chosen, rids_or_all}
+use Rattle.smk_session.specs.Answers.{AreOn, chosen_of, kept_fwd, picks_chosen, rids_or_all}
 use Rattle.smk_session.specs.Refreshed.{Names, book_at}
 use Rattle.smk_session.specs.declared.refresh.Refresh.{Refresh}
 use Rattle.smk_session.specs.Sessions.{AreOpened, BrushFits, state_over}
 use Rattle.smk_session.proofs.Rids.{rids_ascend}
 use Rattle.smk_session.proofs.Selected.{chosen_or_all, picks_fit, picks_more, picks_same, same_leaves}
-use Rattle.smk_session.proofs.KeptOf.{kept_back_is, kept_fwd_is}
+use Rattle.smk_session.proofs.KeptOf.{kept_fwd_is}
 use Rattle.smk_session.proofs.Linked.{has_item, linked_declares, linked_low}
-use Rattle.smk_session.proofs.Marked.{backs_asked}
-use Rattle.smk_session.proofs.Opened.{ok_is, run_is, tables_long}
+use Rattle.smk_session.proofs.Opened.{run_is}
 
 -- the lists that are kept of a declared query
 
@@ -47,38 +44,6 @@ declared_fwd catalog tables views w t run o low_w low_t is declared =
     ap (λ (r : Run). kept_fwd r.kept t) (run_is catalog tables views w run o low_w is)
     ∙ kept_fwd_is (catalog_image catalog) (plan_of catalog w) (each_rows tables) w t low_t
     ∙ ap (λ (b : Bool). cond b (Ok (forwards (plan_of catalog w) (each_rows tables) t)) (Err Undeclared)) declared
-
-pub back_lists : (catalog : Catalog) (tables : List Relation) (views : List Run) (v t : ℕ) (run : Run) (map : Lists) → AreOpened catalog tables views → v < length catalog.views → t < length catalog.tables → run ≡ get_or views v run
-    → kept_back run.kept t ≡ Ok map → map ≡ backs (plan_of catalog v) (each_rows tables) t
-back_lists catalog tables views v t run map o low_v low_t is kept =
-    ok_is (declares_back (catalog_image catalog) v t) (backs (plan_of catalog v) (each_rows tables) t) map
-    (sym (kept_back_is (catalog_image catalog) (plan_of catalog v) (each_rows tables) v t low_t) ∙ ap (λ (r : Run). kept_back r.kept t) (sym (run_is catalog tables views v run o low_v is)) ∙ kept)
-
--- a declared query is never refused
-
-never : {X E : Type 0} (b : Bool) (m : X) (e f : E) → b ≡ true → cond b (Ok m) (Err e) ≡ Err f → ⊥
-never true m e f is h = cc
-never false m e f is h = cc
-
-pub back_kept : (catalog : Catalog) (tables : List Relation) (views : List Run) (v t : ℕ) (run : Run) (refusal : Refusal) → AreOpened catalog tables views → v < length catalog.views → t < length catalog.tables → run ≡ get_or views v run
-    → declares_back (catalog_image catalog) v t ≡ true → kept_back run.kept t ≡ Err refusal → ⊥
-back_kept catalog tables views v t run refusal o low_v low_t is declared h =
-    never (declares_back (catalog_image catalog) v t) (backs (plan_of catalog v) (each_rows tables) t) Undeclared refusal declared
-    (sym (kept_back_is (catalog_image catalog) (plan_of catalog v) (each_rows tables) v t low_t) ∙ ap (λ (r : Run). kept_back r.kept t) (sym (run_is catalog tables views v run o low_v is)) ∙ h)
-
-or_right : (a b : Bool) → b ≡ true → (a || b) ≡ true
-or_right true b h = refl
-or_right false b h = h
-
--- a link declares its backward query
-pub link_declares : (catalog : CatalogImage) (v t : ℕ) → list_any (is_link v t) catalog.links ≡ true → declares_back catalog v t ≡ true
-link_declares catalog v t h = or_right _ (list_any (is_link v t) catalog.links) h
-
--- the rids that marks select
-
-pub rids_asked : (catalog : Catalog) (tables : List Relation) (brushes : List BrushOn) (v t : ℕ) (map : Lists) (marks : Marks) → map ≡ backs (plan_of catalog v) (each_rows tables) t
-    → members_asked map marks ≡ rids_of (catalog_image catalog) (state_over tables brushes) v t marks
-rids_asked catalog tables brushes v t map marks are = ap (λ m. members_asked m marks) are ∙ backs_asked (plan_of catalog v) (each_rows tables) t marks
 
 -- brushes on a table are on its rows
 
@@ -137,9 +102,6 @@ picks_known catalog tables brushes w picks are =
     (picks_fit (catalog_image catalog) (state_over tables brushes) w)
 
 -- the content of a view over them
-
-pub scans_known : (catalog : Catalog) (tables : List Relation) (view : ViewInfo) → each_kinds tables ≡ each_table_kinds catalog.tables → ViewFits catalog.tables (view_image view) → ScansFit (length tables) (expr_of view.plan)
-scans_known catalog tables view kinds fits = subst (λ (n : ℕ). ScansFit n (expr_of view.plan)) (sym (tables_long catalog tables kinds)) fits.scans
 
 leaves_kinds : (catalog : Catalog) (tables leaves : List Relation) (plan : Expr) → each_kinds tables ≡ each_table_kinds catalog.tables → each_kinds leaves ≡ leaf_kinds plan (each_kinds tables) → each_kinds leaves ≡ leaf_kinds plan (each_table_kinds catalog.tables)
 leaves_kinds catalog tables leaves plan kinds of = of ∙ ap (leaf_kinds plan) kinds

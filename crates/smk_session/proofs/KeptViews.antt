@@ -14,7 +14,6 @@ use Rattle.smk_base.specs.declared.pick.Pick.{Pick}
 use Rattle.smk_base.specs.declared.value.Kind.{Kind}
 use Rattle.smk_model.specs.Catalogs.{ViewFits, each_table_kinds}
 use Rattle.smk_model.specs.Composed.{forwards}
-use Rattle.smk_model.specs.Growth.{is_chain}
 use Rattle.smk_model.specs.Lineage.{row_at, sub}
 use Rattle.smk_model.specs.LineageLaws.{selected_table}
 use Rattle.smk_model.specs.Plain.{eval, rows_over, table_at}
@@ -29,8 +28,7 @@ use Rattle.smk_body.proofs.Besides.{related}
 use Rattle.smk_compose.specs.declared.kept_maps.Run.{Run}
 use Rattle.smk_marks.specs.KeptLaws.{IsKeptOf, IsReachedBy}
 use Rattle.smk_marks.specs.Marks.{marks_at}
-use Rattle.smk_marks.specs.Views.{CanGroup, EndsInGroups, ends_in_groups, grouped_by_marks, plan_of, rows_reached}
-use Rattle.smk_marks.specs.declared.view.GroupedChain.{GroupedChain}
+use Rattle.smk_marks.specs.Views.{CanGroup, EndsInGroups, grouped_by_marks, plan_of, rows_reached}
 use Rattle.smk_marks.specs.declared.reached.Reached.{Reached}
 use Rattle.smk_marks.specs.declared.view.KeptView.{KeptView}
 use Rattle.smk_marks.proofs.Chains.{chain_picks}
@@ -38,7 +36,7 @@ use Rattle.smk_marks.proofs.Kept.{kept_marks}
 use Rattle.smk_marks.proofs.Marked.{few_kept}
 use Rattle.smk_marks.proofs.Small.{never_full}
 use Rattle.smk_session.specs.Answers.{AreOn, IsLent, book_of, chosen_of, pick_for}
-use Rattle.smk_session.specs.Refreshed.{IsKept, IsRefresh, Shows, book_at, groups_table, looks_now, state_next}
+use Rattle.smk_session.specs.Refreshed.{IsKept, IsRefresh, Shows, book_at, looks_now, state_next}
 use Rattle.smk_session.specs.declared.lent.Lent.{Lent}
 use Rattle.smk_session.specs.declared.refresh.Refresh.{Refresh}
 use Rattle.smk_session.proofs.Followers.{chosen_there}
@@ -221,24 +219,6 @@ view_kept held w t run info view h low is named ends content same fwd =
       content = content ∙ ap (λ (r : Run). r.rel) (run_is held.catalog.now held.tables.now held.views.now w run h.opened low is);
       forward = fwd ∙ ap (forwards plan (each_rows held.tables.now)) (same ∙ sym (ap selected_table here.plan_is));
     }
-
--- of any other view nothing is
-
-abbrev grouped_in : ℕ → ViewImage → Bool
-grouped_in t image = ends_in_groups image.plan && nat_eq t (selected_table image.plan)
-
-pub no_chain : (refresh : Refresh) (w : ℕ) (info : ViewInfo) → view_image info ≡ view_at (book_at refresh) w → ends_in_groups (expr_of info.plan) ≡ false → groups_table refresh w ≡ false
-no_chain refresh w info named none =
-    subst (λ (image : ViewImage). grouped_in refresh.table image ≡ false) named (ap (λ b. b && nat_eq refresh.table (selected_table (expr_of info.plan))) none)
-
-pub other_table : (refresh : Refresh) (w : ℕ) (info : ViewInfo) (last : GroupedChain) → view_image info ≡ view_at (book_at refresh) w → EndsInGroups (expr_of info.plan) last → selected_table (expr_of last.chain.now) ≢ refresh.table → groups_table refresh w ≡ false
-other_table refresh w info last named ends other =
-    subst (λ (image : ViewImage). grouped_in refresh.table image ≡ false) named
-    (subst (λ (p : Expr). (ends_in_groups p && nat_eq refresh.table (selected_table p)) ≡ false) (sym ends.plan_is)
-    (elim (cases_Bool (nat_eq refresh.table (selected_table (expr_of last.chain.now)))) [
-      | inl same ↦ absurd (other (sym (eqb-true refresh.table (selected_table (expr_of last.chain.now)) same)))
-      | inr apart ↦ ap (λ b. is_chain (expr_of last.chain.now) && b) apart ∙ ap (λ b. b && false) ends.chain
-    ]))
 
 -- what is chosen of the table of such a view
 

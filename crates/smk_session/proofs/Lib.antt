@@ -16,4 +16,3 @@ mod Rids
 mod Selected
 pub mod Shown
 pub mod Starts
-mod Turns

@@ -68,21 +68,3 @@ looks_all f xs i start after h = omega (arith, h, sum_by-take-le f xs i)
 -- they are some of all
 pub looks_so_far : {X : Type 0} (f : X → ℕ) (xs : List X) (i start before after : ℕ) (d : X) → i < length xs → before ≤ start + sum_by f (take i xs) → after ≤ before + f (get_or xs i d) → after ≤ start + sum_by f xs
 looks_so_far f xs i start before after d low so_far here = looks_all f xs (i + 1) start after (looks_next f xs i start before after d low so_far here)
-
--- one link more
-pub linked_more : (p : LinkInfo → Bool) (links : List LinkInfo) (i : ℕ) (link : LinkInfo) → i < length links → link ≡ get_or links i link
-    → flat_map (λ (l : LinkInfo). l.to) (filter p (take (i + 1) links)) ≡ flat_map (λ (l : LinkInfo). l.to) (filter p (take i links)) ++ cond (p link) link.to []
-linked_more p links i link low is =
-    ap (λ l. flat_map (λ (m : LinkInfo). m.to) (filter p l)) (take_more links i link low ∙ ap (λ m. take i links ++ m ∷ []) (sym is))
-    ∙ behind (take i links)
-  where
-    nothing : (b : Bool) → flat_map (λ (m : LinkInfo). m.to) (cond b (link ∷ []) []) ≡ cond b link.to []
-    nothing true = append-nil link.to
-    nothing false = refl
-
-    behind : (ls : List LinkInfo) → flat_map (λ (m : LinkInfo). m.to) (filter p (ls ++ link ∷ [])) ≡ flat_map (λ (m : LinkInfo). m.to) (filter p ls) ++ cond (p link) link.to []
-    behind [] = nothing (p link)
-    behind (m ∷ ls) = elim (cases_Bool (p m)) [
-      | inl h ↦ rw h (ap (λ t. m.to ++ t) (behind ls) ∙ sym (append_assoc m.to _ _))
-      | inr h ↦ rw h (behind ls)
-    ]

@@ -6,7 +6,7 @@ use Rattle.std.proofs.lemmas.List.{append-nil, get_or_default, take_more}
 use Rattle.std.proofs.lemmas.List.Elements.{All-weaker, filter-append}
 use Rattle.std.proofs.lemmas.List.Folds.{list_any_at, list_any_none}
 use Rattle.smk_base.specs.Picks.{IsAscending}
-use Rattle.smk_base.specs.Places.{has, IsPlaces, places, upto}
+use Rattle.smk_base.specs.Places.{has, IsPlaces, upto}
 use Rattle.smk_model.proofs.Places.{same_below}
 use Rattle.smk_model.proofs.Selections.{filter_filter}
 use Rattle.smk_session.proofs.Rids.{ascending_places}

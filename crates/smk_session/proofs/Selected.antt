@@ -102,14 +102,7 @@ pub chosen_alike : (f g : BrushOn → Bool) (brushes : List BrushOn) (n : ℕ) �
 chosen_alike f g brushes n h =
     rw (any_alike f g brushes h) (ap (λ (l : List BrushOn). cond (list_any g brushes) (Some (places (λ rid. list_all (λ (b : BrushOn). has b.rids rid) l) n)) None) (filter_alike f g brushes h))
 
--- what is chosen so far is ascending
-pub chosen_ascends : (test : BrushOn → Bool) (brushes : List BrushOn) (n : ℕ) → IfSome (chosen_by test brushes n) IsAscending
-chosen_ascends test brushes n = by (list_any test brushes)
-  where
-    by : (b : Bool) → IfSome (cond b (Some (places (in_all test brushes) n)) None) IsAscending
-    by true = places_ascend (in_all test brushes) n
-    by false = tt
-
+-- what is chosen so far is ascending, and stays so
 pub narrowed_ascends : (chosen : Option (List ℕ)) (rids : List ℕ) → IfSome chosen IsAscending → IsAscending rids → IsAscending (narrowed_by chosen rids)
 narrowed_ascends (Some chosen) rids rises up = filter_ascends (has rids) chosen rises
 narrowed_ascends None rids rises up = up

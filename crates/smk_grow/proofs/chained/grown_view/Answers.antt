@@ -1,14 +1,9 @@
-use Rattle.std.proofs.Common.{◌≡◌, ◌<◌, ◌≤◌, ℕ, ◌∙◌, All, List, length, ap, subst, sym, arith}
-use Rattle.smk_base.specs.CatalogImage.{ViewImage, catalog_image, view_image}
+use Rattle.std.proofs.Common.{◌<◌, ◌≤◌, ℕ, All, subst, sym}
 use Rattle.smk_base.specs.PlanImage.{expr_of}
-use Rattle.smk_base.specs.declared.catalog.Catalog.{Catalog}
 use Rattle.smk_base.specs.declared.need.Needed.{Needed}
-use Rattle.smk_model.specs.Catalogs.{ViewFits}
-use Rattle.smk_model.specs.LineageLaws.{selected_table}
-use Rattle.smk_model.specs.Plain.{table_at}
 use Rattle.smk_model.specs.Selection.{ScansFit, each_rows}
 use Rattle.smk_session.proofs.Opened.{tables_long}
-use Rattle.smk_grow.proofs.ChainRuns.{IsChain, before_is, behind_is, chain_fits, chain_grows, chain_of, chain_long, opened_is}
+use Rattle.smk_grow.proofs.ChainRuns.{before_is, behind_is, chain_fits, chain_grows, chain_of, chain_long, opened_is}
 use Rattle.smk_grow.proofs.Lengthened.{told_same}
 use Rattle.smk_grow.proofs.chained.grown_view.Goals as goal
 
@@ -66,4 +61,4 @@ returns c =
     let r = c.args.renewal.now in
     let view = c.view_of-view.result.now in
     let of = chain_of r.book.now c.catalog.result.now r.tables.now r.table c.args.v view c.in_ok-need.need c.catalog.ensures.value c.view_of-view.ensures.view c.view_of-view.ensures.fits c.requires.renewal.kinds c.in_ok-need.ensures.needs c.requires.renewal.table c.requires.chains in
-    told_same c.grown.result (λ run. run) _ _ (sym (opened_is r.book.now r.tables.now r.table c.args.v view c.in_ok-need.need (each_rows r.tables.now) of)) c.grown.ensures
+    told_same c.grown.result (λ run. run) (sym (opened_is r.book.now r.tables.now r.table c.args.v view c.in_ok-need.need (each_rows r.tables.now) of)) c.grown.ensures

@@ -5,9 +5,8 @@ use Rattle.smk_base.specs.Places.{upto}
 use Rattle.smk_base.specs.Rels.{Relation}
 use Rattle.smk_skip.specs.Splits.{SplitImage}
 use Rattle.smk_session.specs.Parts.{parts_image}
-use Rattle.smk_compose.specs.declared.kept_maps.Run.{Run}
 use Rattle.smk_grow.specs.Renewed.{replaced}
-use Rattle.smk_grow.proofs.Committed.{committed, few_cubes, few_splits, few_views}
+use Rattle.smk_grow.proofs.Committed.{committed, few_cubes, few_splits}
 use Rattle.smk_grow.proofs.growing.commit.Goals as goal
 
 pub replace-requires-2 : goal.replace-requires-2

@@ -27,6 +27,11 @@ returns-clause-longer c =
     let there = with_items_is tables c.lengthen.new.tables (omega (arith, ap length longer, long_with session.tables t more, tables.ok.0)) ∙ longer in
     let now = (with_items tables c.lengthen.new.tables).items in
     let low : t < length now = omega (arith, c.requires.table, ap length there, long_with session.tables t more) in
-    let size : c.len-size.result ≡ length (rows_of now t) = c.len-size.ensures.count ∙ ap (λ (r : Relation). length r.rows) (at_is now t c.index.result.now low c.index.ensures) in
+    let size : c.len-size.result ≡ length (rows_of now t) = c.len-size.ensures.count ∙ ap (λ (r : Relation). length r.rows) (at_is now t c.index-2.result.now low c.index-2.ensures) in
     let moved = with_items_is views c.move_views.new.views (omega (arith, c.move_views.auto.views, ap length c.as_mut_slice-2.ensures.value, views.ok.0)) ∙ c.move_views.ensures ∙ ap (moved_views (catalog_image session.catalog) t c.len-size.result) c.as_mut_slice-2.ensures.value in
-    lengthened_parts session t c.len-size.result more now (with_items views c.move_views.new.views).items c.requires.keeps c.requires.table there size moved
+    record {
+      keeps = c.requires.keeps;
+      same = lengthened_parts session t c.len-size.result more now (with_items views c.move_views.new.views).items c.requires.keeps c.requires.table there size moved;
+      long = c.len-len.ensures.count ∙ ap (λ (r : Relation). length r.rows) (at_is session.tables t c.index.result.now c.requires.table c.index.ensures);
+      low = c.requires.table;
+    }

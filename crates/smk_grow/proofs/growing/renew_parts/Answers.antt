@@ -1,4 +1,4 @@
-use Rattle.std.proofs.Common.{◌≡◌, ◌∙◌, ◌≤◌, ◌+◌, List, Option, ap, arith, length, subst, is_some}
+use Rattle.std.proofs.Common.{◌≤◌, ◌+◌, List, length, subst}
 use Rattle.std.specs.List.{sum_by}
 use Rattle.smk_base.specs.Places.{upto}
 use Rattle.smk_base.specs.Rels.{Relation}

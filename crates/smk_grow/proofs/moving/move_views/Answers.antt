@@ -1,4 +1,4 @@
-use Rattle.std.proofs.Common.{◌∙◌, ◌<◌, ◌≤◌, ap, length, arith}
+use Rattle.std.proofs.Common.{◌∙◌, ◌≤◌, ap, length, arith}
 use Rattle.smk_base.specs.CatalogImage.{catalog_image}
 use Rattle.smk_base.specs.declared.catalog.Catalog.{Catalog}
 use Rattle.smk_base.specs.declared.catalog.ViewInfo.{ViewInfo}

@@ -1,4 +1,4 @@
-use Rattle.std.proofs.Common.{◌≡◌, ◌∙◌, Option, subst, sym}
+use Rattle.std.proofs.Common.{◌∙◌, Option, subst, sym}
 use Rattle.smk_model.specs.Opening.{ViewFault}
 use Rattle.smk_session.specs.Sessions.{IsStartFault}
 use Rattle.smk_grow.specs.Renewals.{book_of}

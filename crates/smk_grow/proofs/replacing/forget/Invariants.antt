@@ -1,6 +1,5 @@
 use Rattle.std.proofs.Common.{◌≡◌, ℕ, map, take, None}
 use Rattle.smk_base.specs.Places.{upto}
-use Rattle.smk_base.specs.Rels.{Relation}
 use Rattle.smk_grow.proofs.replacing.forget.Given as goal
 
 abbrev pub invariant-loop-content : goal.invariant-loop-content

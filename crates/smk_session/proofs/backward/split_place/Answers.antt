@@ -1,4 +1,4 @@
-use Rattle.std.proofs.Common.{◌∙◌, ap, sym, arith}
+use Rattle.std.proofs.Common.{◌∙◌, ap, sym}
 use Rattle.std.proofs.lemmas.Bool.{eq-eqb}
 use Rattle.smk_base.specs.declared.catalog.Back.{Back}
 use Rattle.smk_model.specs.Replies.{is_by, is_split}
