@@ -1,8 +1,8 @@
 -- What is asked of a view that follows brushes, by what is kept of it.
-use Rattle.std.proofs.Common.{◌≡◌, ℕ, ◌+◌, ◌<◌, Bool, true, false, ◌||◌, cond, List, [], ◌∷◌, ◌++◌, length, map, get_or, refl, ap, sym, ◌∙◌, subst, arith, Option, Some, None, All, Ok, Err}
+use Rattle.std.proofs.Common.{◌≡◌, ℕ, ◌+◌, ◌<◌, Bool, true, false, cond, List, [], ◌∷◌, ◌++◌, length, map, get_or, refl, ap, sym, ◌∙◌, subst, arith, Option, Some, None, All, Ok, Err}
 use Rattle.std.specs.List.{list_any}
 use Rattle.std.proofs.lemmas.List.{length-map}
-use Rattle.smk_base.specs.CatalogImage.{CatalogImage, ViewImage, catalog_image, view_image}
+use Rattle.smk_base.specs.CatalogImage.{ViewImage, catalog_image, view_image}
 use Rattle.smk_base.specs.Picks.{IsAscending}
 use Rattle.smk_base.specs.Places.{IsPlaces, Lists, has, members_at}
 use Rattle.smk_base.specs.PlanImage.{expr_of}

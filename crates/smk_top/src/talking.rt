@@ -277,6 +277,21 @@ struct Taken {
     down: bool,
 }
 
+// Says a refusal that stands ready, after which the session is as it was.
+fn say_ready<T: Talk>(talk: &mut T, session: Session, text: &'static [u8]) -> Taken
+    ensures gives { ReplyGives (Rose (T.faults talk.old) (T.faults talk.new)) (T.told talk.old) (T.told talk.new) (text.now ∷ (10 ∷ []) ∷ []) result.ending }
+    ensures session { result.session ≡ session }
+    ensures down { result.down ≡ true }
+    ensures later { T.faults talk.old ≤ T.faults talk.new }
+{
+    let ending = say_block(talk, text);
+    Taken {
+        session,
+        ending,
+        down: true,
+    }
+}
+
 // Hears a line, and says what it is answered.
 fn take_turn<R: Threads + Sync, F: Files, T: Talk, G: Gate + Sync, L: Ledger>(
     rt: &R,
@@ -318,27 +333,13 @@ fn take_turn<R: Threads + Sync, F: Files, T: Talk, G: Gate + Sync, L: Ledger>(
                 down: said.down,
             }
         }
-        Ok(Heard::Long) => {
-            let ending = say_block(talk, TOO_LONG);
-            Taken {
-                session,
-                ending,
-                down: true,
-            }
-        }
+        Ok(Heard::Long) => say_ready(talk, session, TOO_LONG),
         Ok(Heard::End) => Taken {
             session,
             ending: Some(Ending::Ended),
             down: false,
         },
-        Err(TalkFault::NoMemory) => {
-            let ending = say_block(talk, FORGONE);
-            Taken {
-                session,
-                ending,
-                down: true,
-            }
-        }
+        Err(TalkFault::NoMemory) => say_ready(talk, session, FORGONE),
         Err(TalkFault::Failed) => Taken {
             session,
             ending: Some(Ending::Unheard),

@@ -22,10 +22,10 @@ pub returns-in-Ok-Long-clause-taken : goal.returns-in-Ok-Long-clause-taken
 returns-in-Ok-Long-clause-taken g c =
     let (line, heard, long) = rw c.in-Ok-Long.field-0-is at c.in-Ok-Long.ensures.gives in
     let said = said_of c.args.session.catalog c.args.manner.now.fds.now in
-    turn_taken said c.args.manner.now.read_only (g.F.Files.held c.args.files.now) _ _ _ (talk_at (state_of c.args.session) c.args.heard) _ _ _ _ _ _
-    (g.T.Talk.told c.args.talk.now) (g.T.Talk.told c.hear.new.self) (g.T.Talk.told c.say_block-ending-in-Ok-Long.new.talk) c.say_block-ending-in-Ok-Long.result
+    rw (c.say_ready.ensures.session, c.say_ready.ensures.down) (turn_taken said c.args.manner.now.read_only (g.F.Files.held c.args.files.now) _ _ _ (talk_at (state_of c.args.session) c.args.heard) _ _ _ _ _ _
+    (g.T.Talk.told c.args.talk.now) (g.T.Talk.told c.hear.new.self) (g.T.Talk.told c.say_ready.new.talk) c.say_ready.result.ending
     (too_long said c.args.manner.now.read_only (g.F.Files.held c.args.files.now) _ (talk_at (state_of c.args.session) c.args.heard) line (state_of c.args.session) _ _ _ _ long refl refl refl refl)
-    heard (Rose-after _ _ _ c.hear.ensures.later) c.say_block-ending-in-Ok-Long.ensures.gives
+    heard (Rose-after _ _ _ c.hear.ensures.later) c.say_ready.ensures.gives)
 
 pub returns-in-Ok-End-clause-taken : goal.returns-in-Ok-End-clause-taken
 returns-in-Ok-End-clause-taken g c =
@@ -37,10 +37,10 @@ pub returns-in-Err-NoMemory-clause-taken : goal.returns-in-Err-NoMemory-clause-t
 returns-in-Err-NoMemory-clause-taken g c =
     let (line, heard) = rw c.in-Err-NoMemory.field-0-is at c.in-Err-NoMemory.ensures.gives in
     let said = said_of c.args.session.catalog c.args.manner.now.fds.now in
-    turn_taken said c.args.manner.now.read_only (g.F.Files.held c.args.files.now) _ _ _ (talk_at (state_of c.args.session) c.args.heard) _ _ _ _ _ _
-    (g.T.Talk.told c.args.talk.now) (g.T.Talk.told c.hear.new.self) (g.T.Talk.told c.say_block-ending-in-Err-NoMemory.new.talk) c.say_block-ending-in-Err-NoMemory.result
+    rw (c.say_ready-in-Err-NoMemory.ensures.session, c.say_ready-in-Err-NoMemory.ensures.down) (turn_taken said c.args.manner.now.read_only (g.F.Files.held c.args.files.now) _ _ _ (talk_at (state_of c.args.session) c.args.heard) _ _ _ _ _ _
+    (g.T.Talk.told c.args.talk.now) (g.T.Talk.told c.hear.new.self) (g.T.Talk.told c.say_ready-in-Err-NoMemory.new.talk) c.say_ready-in-Err-NoMemory.result.ending
     (forgone_before said c.args.manner.now.read_only (g.F.Files.held c.args.files.now) _ (talk_at (state_of c.args.session) c.args.heard) line (state_of c.args.session) _ _ _ _ refl refl refl refl)
-    heard (Rose-after _ _ _ c.hear.ensures.later) c.say_block-ending-in-Err-NoMemory.ensures.gives
+    heard (Rose-after _ _ _ c.hear.ensures.later) c.say_ready-in-Err-NoMemory.ensures.gives)
 
 pub returns-in-Err-Failed-clause-taken : goal.returns-in-Err-Failed-clause-taken
 returns-in-Err-Failed-clause-taken g c =
