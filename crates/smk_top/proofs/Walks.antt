@@ -1,8 +1,9 @@
 -- The walk over the lines of a script, one part after the other.
 use Rattle.std.proofs.Common.{◌≡◌, ◌∙◌, ◌≤◌, ◌+◌, ◌++◌, ◌∷◌, [], ℕ, List, length, drop, Option, Err, refl, sym, ap, subst, append_assoc, append-nil, arith}
 use Rattle.std.proofs.lemmas.List.{length-append, drop_all}
+use Rattle.smk_base.specs.Marks.{after_marks}
 use Rattle.smk_model.specs.Lines.{lines}
-use Rattle.smk_model.specs.Readings.{Reading, IsReading, AreReadings, no_line}
+use Rattle.smk_model.specs.Readings.{Reading, IsReading, AreReadings, AreReadingsOf, no_line}
 use Rattle.smk_model.specs.Reports.{BookSaid, Told, nothing_told, followed_by, brings_rows, next_rows, rows_left, line_told, state_after, lines_told}
 use Rattle.smk_model.specs.Session.{State}
 use Rattle.smk_model.specs.Values.{Row}
@@ -80,6 +81,10 @@ pub record IsWalked (catalog : BookSaid) (state : State) (added : List (List Row
 abbrev pub Walks : BookSaid → State → List (List Row) → List ℕ → ℕ → ℕ → Option (List ℕ) → Option (List ℕ) → State → List (List Row) → ℕ → ℕ → Counts → Type 0
 Walks catalog state added script from number before after now rest first looks counts =
     (walked : IsWalked catalog state added script from number before after now rest first looks) × (counts ≡ counts_told (lines_told catalog state 1 added walked.said))
+
+-- the readings of a script are those of its text without marks
+pub readings_of_text : (text bytes script : List ℕ) (said : List Reading) → text ≡ after_marks bytes → bytes ≡ script → AreReadingsOf script said → AreReadings (lines text) said
+readings_of_text text bytes script said rest value all = rw (rest, value) all
 
 -- before the first line
 pub walk_begins : (catalog : BookSaid) (state now : State) (added rest : List (List Row)) (script : List ℕ) (a : Option (List ℕ)) (first : ℕ) → now ≡ state → rest ≡ added

@@ -1,5 +1,5 @@
 // What the lines of a script come to. Each kind of line has one function here, and `answer_line` is the one place that knows which kinds there are.
-ghost use Rattle.std.specs.Prelude.{◌≡◌, ◌≤◌, ◌+◌, ℕ, List, Some, None, cond, is_some, length, IfSome, IfOk, OnOk, OnErr};
+ghost use Rattle.std.specs.Prelude.{◌≡◌, ◌≤◌, ◌<◌, ◌+◌, ℕ, List, Some, None, cond, is_some, length, IfSome, IfOk, OnOk, OnErr};
 ghost use Rattle.smk_base.specs.CatalogImage.{catalog_image, table_place};
 ghost use Rattle.smk_base.specs.TreeImage.{any_image, ask_image};
 ghost use Rattle.smk_model.specs.Appends as appends;
@@ -25,6 +25,8 @@ ghost use Rattle.smk_top.specs.Counting.{counts_told};
 
 use crate::counting::NOTHING;
 use crate::counts::Counts;
+use crate::engine::Engine;
+use crate::stand::Stand;
 use smk_ask::{ask, ask_text};
 use smk_base::{
     AnyLine, AppendRefusal, AppendReply, AskLine, AskReply, Line, Names, ProfileReply, Text,
@@ -50,11 +52,9 @@ pub(crate) struct Answered {
 
 // A line that the session answers by itself.
 fn answer_plain<R: Threads + Sync, G: Gate + Sync, L: Ledger>(
-    rt: &R,
-    alloc: Global,
+    engine: &Engine<'_, R, G>,
     session: &mut Session,
     line: &Line,
-    gate: &G,
     steps: &mut Steps<L>,
 ) -> Result<Answered, AllocError>
     ensures told { IfOk result (λ told. IsAnswered told (reports.plain_answered (catalog_image session.old.catalog) (state_of session.old) line.now)) }
@@ -63,8 +63,8 @@ fn answer_plain<R: Threads + Sync, G: Gate + Sync, L: Ledger>(
     ensures kept { OnErr result (session.new ≡ session.old) }
     ensures looks { steps.new ≤ steps.old + (reports.plain_answered (catalog_image session.old.catalog) (state_of session.old) line.now).looks }
 {
-    let turn = session.turn(rt, alloc, line, gate, steps)?;
-    let text = reply_text(alloc, session.catalog(), line, &turn.reply)?;
+    let turn = session.turn(engine.rt, engine.alloc, line, engine.gate, steps)?;
+    let text = reply_text(engine.alloc, session.catalog(), line, &turn.reply)?;
     // Nothing wants memory any more.
     let reply = session.take(turn);
     let refused = has_refused(&reply);
@@ -83,11 +83,9 @@ fn is_refused(reply: &AskReply) -> bool
 
 // A line that asks for steps over a backward answer.
 fn answer_ask<R: Threads + Sync, G: Gate + Sync, L: Ledger>(
-    rt: &R,
-    alloc: Global,
+    engine: &Engine<'_, R, G>,
     session: &mut Session,
     line: &AskLine,
-    gate: &G,
     steps: &mut Steps<L>,
 ) -> Result<Answered, AllocError>
     requires { KeepsAsk (ask_image line.now) }
@@ -97,8 +95,8 @@ fn answer_ask<R: Threads + Sync, G: Gate + Sync, L: Ledger>(
     ensures kept { OnErr result (session.new ≡ session.old) }
     ensures looks { steps.new ≤ steps.old + (reports.ask_answered (catalog_image session.old.catalog) (state_of session.old) (ask_image line.now)).looks }
 {
-    let reply = ask(rt, alloc, session, line, gate, steps)?;
-    let text = ask_text(alloc, line, &reply)?;
+    let reply = ask(engine.rt, engine.alloc, session, line, engine.gate, steps)?;
+    let text = ask_text(engine.alloc, line, &reply)?;
     let refused = is_refused(&reply);
     Ok(Answered { text, refused })
 }
@@ -115,12 +113,10 @@ fn is_profile_refused(reply: &ProfileReply) -> bool
 
 // A line that asks what violates a dependency.
 fn answer_profile<R: Threads + Sync, G: Gate + Sync, L: Ledger>(
-    rt: &R,
-    alloc: Global,
+    engine: &Engine<'_, R, G>,
     session: &mut Session,
     fds: &Names,
     view: &Text,
-    gate: &G,
     steps: &mut Steps<L>,
 ) -> Result<Answered, AllocError>
     requires { AreDependencies (catalog_image session.old.catalog) fds.now }
@@ -130,8 +126,16 @@ fn answer_profile<R: Threads + Sync, G: Gate + Sync, L: Ledger>(
     ensures kept { OnErr result (session.new ≡ session.old) }
     ensures looks { steps.new ≤ steps.old + (reports.profile_answered (said_of session.old.catalog fds.now) (state_of session.old) view.now).looks }
 {
-    let reply = profile(rt, alloc, session, fds, view, gate, steps)?;
-    let text = profile_text(alloc, session.catalog(), view, &reply)?;
+    let reply = profile(
+        engine.rt,
+        engine.alloc,
+        session,
+        fds,
+        view,
+        engine.gate,
+        steps,
+    )?;
+    let text = profile_text(engine.alloc, session.catalog(), view, &reply)?;
     let refused = is_profile_refused(&reply);
     Ok(Answered { text, refused })
 }
@@ -148,12 +152,10 @@ fn is_append_refused(reply: &AppendReply) -> bool
 
 // Rows that a line appends to the table of this name, which the book has.
 fn append_rows<R: Threads + Sync, G: Gate + Sync, L: Ledger>(
-    rt: &R,
-    alloc: Global,
+    engine: &Engine<'_, R, G>,
     session: Session,
     table: &Text,
     more: Table,
-    gate: &G,
     steps: &mut Steps<L>,
 ) -> (Session, Result<Answered, AllocError>)
     requires kinds { (t : ℕ) → table_place (catalog_image session.catalog) table.now ≡ Some t → more.kinds ≡ table_kinds (info_at session.catalog.tables t) }
@@ -163,7 +165,15 @@ fn append_rows<R: Threads + Sync, G: Gate + Sync, L: Ledger>(
     ensures book { result.0.catalog ≡ session.catalog }
     ensures looks { steps.new ≤ steps.old + (reports.append_answered (catalog_image session.catalog) (state_of session) table.now more.rows).looks }
 {
-    let (session, told) = append_told(rt, alloc, session, table, more, gate, steps);
+    let (session, told) = append_told(
+        engine.rt,
+        engine.alloc,
+        session,
+        table,
+        more,
+        engine.gate,
+        steps,
+    );
     match told {
         Ok((reply, text)) => {
             let refused = is_append_refused(&reply);
@@ -188,12 +198,10 @@ fn refuse_rows(alloc: Global, session: &Session, table: &Text) -> Result<Answere
 
 // A line that appends the rows of the next of these tables.
 fn answer_append<R: Threads + Sync, G: Gate + Sync, L: Ledger>(
-    rt: &R,
-    alloc: Global,
+    engine: &Engine<'_, R, G>,
     session: Session,
     table: &Text,
     added: &mut VecDeque<Table>,
-    gate: &G,
     steps: &mut Steps<L>,
 ) -> (Session, Result<Answered, AllocError>)
     requires { IfSome (table_named (catalog_image session.catalog) table.now) (λ info. BeginsWith info added.old.items) }
@@ -205,24 +213,22 @@ fn answer_append<R: Threads + Sync, G: Gate + Sync, L: Ledger>(
     ensures looks { steps.new ≤ steps.old + (reports.append_answered (catalog_image session.catalog) (state_of session) table.now (reports.next_rows (each_rows added.old.items))).looks }
 {
     if session.catalog().table_place(table).is_none() {
-        let told = refuse_rows(alloc, &session, table);
+        let told = refuse_rows(engine.alloc, &session, table);
         return (session, told);
     }
     match added.pop_front() {
-        Some(more) => append_rows(rt, alloc, session, table, more, gate, steps),
+        Some(more) => append_rows(engine, session, table, more, steps),
         None => unreachable!(),
     }
 }
 
 // What a line of any kind comes to, over a book whose dependencies have these names, and the session in the next state. A line that appends rows takes the first of these tables. After an error the session is as it was.
 fn answer_line<R: Threads + Sync, G: Gate + Sync, L: Ledger>(
-    rt: &R,
-    alloc: Global,
+    engine: &Engine<'_, R, G>,
     session: Session,
     fds: &Names,
     line: &AnyLine,
     added: &mut VecDeque<Table>,
-    gate: &G,
     steps: &mut Steps<L>,
 ) -> (Session, Result<Answered, AllocError>)
     requires kept { KeepsLine (any_image line.now) }
@@ -238,20 +244,18 @@ fn answer_line<R: Threads + Sync, G: Gate + Sync, L: Ledger>(
     let mut session = session;
     match line {
         AnyLine::Plain(line) => {
-            let told = answer_plain(rt, alloc, &mut session, line, gate, steps);
+            let told = answer_plain(engine, &mut session, line, steps);
             (session, told)
         }
         AnyLine::Ask(line) => {
-            let told = answer_ask(rt, alloc, &mut session, line, gate, steps);
+            let told = answer_ask(engine, &mut session, line, steps);
             (session, told)
         }
         AnyLine::Profile { view } => {
-            let told = answer_profile(rt, alloc, &mut session, fds, view, gate, steps);
+            let told = answer_profile(engine, &mut session, fds, view, steps);
             (session, told)
         }
-        AnyLine::Append { table, .. } => {
-            answer_append(rt, alloc, session, table, added, gate, steps)
-        }
+        AnyLine::Append { table, .. } => { answer_append(engine, session, table, added, steps) }
     }
 }
 
@@ -291,34 +295,31 @@ fn unread_line(alloc: Global, number: u64, at: u64) -> Result<LineTold, AllocErr
     Ok(LineTold { text, counts })
 }
 
-/// What the line with this number that says this comes to, over a book whose dependencies have these names, and the session in the next state. A line that appends rows takes the first of these tables. After an error the session is as it was.
+/// What a line that says this comes to where it stands, and the session in the next state. A line that appends rows takes the first of these tables. After an error the session is as it was.
 pub fn tell_line<R: Threads + Sync, G: Gate + Sync, L: Ledger>(
-    rt: &R,
-    alloc: Global,
-    session: Session,
-    fds: &Names,
-    number: u64,
+    engine: &Engine<'_, R, G>,
+    stand: Stand<'_>,
     reading: &Reading,
     added: &mut VecDeque<Table>,
-    gate: &G,
     steps: &mut Steps<L>,
 ) -> (Session, Result<LineTold, AllocError>)
     requires kept { KeepsReading (reading_image reading.now) }
-    requires shown { AreDependencies (catalog_image session.catalog) fds.now }
-    requires fits { IfSome (appended_at (catalog_image session.catalog) (reading_image reading.now)) (λ info. BeginsWith info added.old.items) }
-    ensures text { IfOk result.1 (λ told. told.text.items ≡ (reports.line_told (said_of session.catalog fds.now) (state_of session) number (reports.next_rows (each_rows added.old.items)) (reading_image reading.now)).text) }
-    ensures counts { IfOk result.1 (λ told. told.counts ≡ counts_told (reports.line_told (said_of session.catalog fds.now) (state_of session) number (reports.next_rows (each_rows added.old.items)) (reading_image reading.now))) }
-    ensures after { OnOk result.1 (state_of result.0 ≡ reports.state_after (said_of session.catalog fds.now) (state_of session) (reports.next_rows (each_rows added.old.items)) (reading_image reading.now)) }
-    ensures kept { OnErr result.1 (result.0 ≡ session) }
-    ensures book { result.0.catalog ≡ session.catalog }
-    ensures left { OnOk result.1 (added.new.items ≡ tables_left (reports.brings_rows (catalog_image session.catalog) (reading_image reading.now)) added.old.items) }
-    ensures looks { steps.new ≤ steps.old + (reports.line_told (said_of session.catalog fds.now) (state_of session) number (reports.next_rows (each_rows added.old.items)) (reading_image reading.now)).looks }
+    requires shown { AreDependencies (catalog_image stand.session.catalog) stand.fds.now }
+    requires few { stand.before < 18446744073709551615 }
+    requires fits { IfSome (appended_at (catalog_image stand.session.catalog) (reading_image reading.now)) (λ info. BeginsWith info added.old.items) }
+    ensures text { IfOk result.1 (λ told. told.text.items ≡ (reports.line_told (said_of stand.entry.session.catalog stand.entry.fds.now) (state_of stand.entry.session) (stand.entry.before + 1) (reports.next_rows (each_rows added.old.items)) (reading_image reading.now)).text) }
+    ensures counts { IfOk result.1 (λ told. told.counts ≡ counts_told (reports.line_told (said_of stand.entry.session.catalog stand.entry.fds.now) (state_of stand.entry.session) (stand.entry.before + 1) (reports.next_rows (each_rows added.old.items)) (reading_image reading.now))) }
+    ensures after { OnOk result.1 (state_of result.0 ≡ reports.state_after (said_of stand.entry.session.catalog stand.entry.fds.now) (state_of stand.entry.session) (reports.next_rows (each_rows added.old.items)) (reading_image reading.now)) }
+    ensures kept { OnErr result.1 (result.0 ≡ stand.entry.session) }
+    ensures book { result.0.catalog ≡ stand.entry.session.catalog }
+    ensures left { OnOk result.1 (added.new.items ≡ tables_left (reports.brings_rows (catalog_image stand.entry.session.catalog) (reading_image reading.now)) added.old.items) }
+    ensures looks { steps.new ≤ steps.old + (reports.line_told (said_of stand.entry.session.catalog stand.entry.fds.now) (state_of stand.entry.session) (stand.entry.before + 1) (reports.next_rows (each_rows added.old.items)) (reading_image reading.now)).looks }
 {
     match reading {
         Reading::Nothing => {
-            let text = Vec::new(alloc);
+            let text = Vec::new(engine.alloc);
             (
-                session,
+                stand.session,
                 Ok(LineTold {
                     text,
                     counts: NOTHING,
@@ -326,15 +327,15 @@ pub fn tell_line<R: Threads + Sync, G: Gate + Sync, L: Ledger>(
             )
         }
         Reading::Asks(line) => {
-            let (session, told) = answer_line(rt, alloc, session, fds, line, added, gate, steps);
+            let (session, told) = answer_line(engine, stand.session, stand.fds, line, added, steps);
             match told {
                 Ok(told) => (session, Ok(counted(told))),
                 Err(e) => (session, Err(e)),
             }
         }
         Reading::Unread(at) => {
-            let told = unread_line(alloc, number, *at);
-            (session, told)
+            let told = unread_line(engine.alloc, stand.before + 1, *at);
+            (stand.session, told)
         }
     }
 }

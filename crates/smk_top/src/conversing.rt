@@ -11,6 +11,7 @@ ghost use Rattle.smk_session.specs.Sessions.{workbook_of};
 ghost use Rattle.smk_inputs.specs.Collecting.{IsSayable};
 ghost use Rattle.smk_top.specs.TalkEndings.{BeginsTalk, ConverseEnds, SaysReady, SaysTalkFault, SaysTalkEnd, TalkWorks, is_called};
 
+use crate::engine::Engine;
 use crate::program::{say_fault, say_no_memory};
 use crate::reporting::text_of_view;
 use crate::starting::{Started, start};
@@ -53,52 +54,46 @@ fn views_text<R: Threads + Sync>(
 
 // A conversation over the book of a file, by how it is called for.
 fn begin<R: Threads + Sync, F: Files, T: Talk, G: Gate + Sync, L: Ledger>(
-    rt: &R,
-    alloc: Global,
-    settings: Settings,
-    read_only: bool,
+    engine: &Engine<'_, R, G>,
+    call: &TalkWords,
     files: &mut F,
     book: &Text,
     talk: &mut T,
-    gate: &G,
     steps: &mut Steps<L>,
 ) -> Result<TalkEnd, Stop>
-    ensures begins { BeginsTalk (F.held files.old) (Rose (F.faults files.old) (F.faults files.new)) (Rose (T.faults talk.old) (T.faults talk.new)) book.now read_only (T.told talk.old) (T.told talk.new) steps.old steps.new result }
+    ensures begins { BeginsTalk (F.held files.old) (Rose (F.faults files.old) (F.faults files.new)) (Rose (T.faults talk.old) (T.faults talk.new)) book.now call.now.read_only (T.told talk.old) (T.told talk.new) steps.old steps.new result }
     ensures said { IsSayable result }
     ensures held { F.held files.new ≡ F.held files.old }
     ensures later { F.faults files.old ≤ F.faults files.new }
     ensures talk_later { T.faults talk.old ≤ T.faults talk.new }
 {
-    let inputs = read_all(rt, alloc, settings, files, book, None, gate)?;
-    let Started { session, fds, .. } = start(rt, alloc, inputs, settings, gate, steps)?;
-    let opening = views_text(rt, alloc, settings, &session)?;
+    let settings = call.settings;
+    let inputs = read_all(
+        engine.rt,
+        engine.alloc,
+        settings,
+        files,
+        book,
+        None,
+        engine.gate,
+    )?;
+    let Started { session, fds, .. } = start(engine, inputs, settings, steps)?;
+    let opening = views_text(engine.rt, engine.alloc, settings, &session)?;
     let manner = Manner {
+        opening: opening.as_slice(),
         fds: &fds,
         settings,
-        read_only,
+        read_only: call.read_only,
     };
-    let end = hold(
-        rt,
-        alloc,
-        &manner,
-        files,
-        talk,
-        session,
-        opening.as_slice(),
-        gate,
-        steps,
-    );
-    Ok(end)
+    Ok(hold(engine, &manner, files, talk, session, steps))
 }
 
 // The conversation that is called for.
 fn talk_on<R: Threads + Sync, F: Files, T: Talk, G: Gate + Sync, L: Ledger>(
-    rt: &R,
-    alloc: Global,
+    engine: &Engine<'_, R, G>,
     call: &TalkWords,
     files: &mut F,
     talk: &mut T,
-    gate: &G,
     steps: &mut Steps<L>,
 ) -> Result<TalkEnd, Stop>
     ensures works { (words : List (List ℕ)) → is_called words call.now → TalkWorks words (F.held files.old) (Rose (F.faults files.old) (F.faults files.new)) (Rose (T.faults talk.old) (T.faults talk.new)) (T.told talk.old) (T.told talk.new) steps.old steps.new result }
@@ -108,34 +103,24 @@ fn talk_on<R: Threads + Sync, F: Files, T: Talk, G: Gate + Sync, L: Ledger>(
     ensures talk_later { T.faults talk.old ≤ T.faults talk.new }
     ensures demo { (flights : ℕ) → texts_image call.now.texts ≡ Demo flights → F.faults files.new ≡ F.faults files.old }
 {
-    let settings = call.settings;
-    let read_only = call.read_only;
     match &call.texts {
-        RunTexts::Files { book, .. } => {
-            begin(
-                rt, alloc, settings, read_only, files, book, talk, gate, steps,
-            )
-        }
+        RunTexts::Files { book, .. } => { begin(engine, call, files, book, talk, steps) }
         RunTexts::Demo(flights) => {
             let mut texts = DemoTexts {
-                texts: demo(alloc, flights.count)?,
+                texts: demo(engine.alloc, flights.count)?,
             };
-            let book = text_of(alloc, DEMO_BOOK_NAME)?;
-            begin(
-                rt, alloc, settings, read_only, &mut texts, &book, talk, gate, steps,
-            )
+            let book = text_of(engine.alloc, DEMO_BOOK_NAME)?;
+            begin(engine, call, &mut texts, &book, talk, steps)
         }
     }
 }
 
 // The conversation that the words call for.
 fn talk_for<R: Threads + Sync, F: Files, T: Talk, G: Gate + Sync, L: Ledger>(
-    rt: &R,
-    alloc: Global,
+    engine: &Engine<'_, R, G>,
     words: &[&str],
     files: &mut F,
     talk: &mut T,
-    gate: &G,
     steps: &mut Steps<L>,
 ) -> Result<TalkEnd, Stop>
     ensures works { TalkWorks (map (λ w. w.now) words.entry.now) (F.held files.old) (Rose (F.faults files.old) (F.faults files.new)) (Rose (T.faults talk.old) (T.faults talk.new)) (T.told talk.old) (T.told talk.new) steps.old steps.new result }
@@ -145,9 +130,9 @@ fn talk_for<R: Threads + Sync, F: Files, T: Talk, G: Gate + Sync, L: Ledger>(
     ensures talk_later { T.faults talk.old ≤ T.faults talk.new }
     ensures demo { (flights : ℕ) → talk_source (map (λ w. w.now) words.entry.now) ≡ Some (Demo flights) → F.faults files.new ≡ F.faults files.old }
 {
-    let found = read_talk_words(alloc, words)?;
+    let found = read_talk_words(engine.alloc, words)?;
     match found {
-        Some(call) => talk_on(rt, alloc, &call, files, talk, gate, steps),
+        Some(call) => talk_on(engine, &call, files, talk, steps),
         None => Err(Stop::At(Fault::Usage)),
     }
 }
@@ -220,7 +205,8 @@ pub fn converse<R: Threads + Sync, F: Files, T: Talk, E: Sink, G: Gate + Sync, L
     ensures err_later { E.faults err.old ≤ E.faults err.new }
     ensures demo { (flights : ℕ) → talk_source (map (λ w. w.now) words.entry.now) ≡ Some (Demo flights) → F.faults files.new ≡ F.faults files.old }
 {
-    match talk_for(rt, alloc, words, files, talk, gate, steps) {
+    let engine = Engine { rt, alloc, gate };
+    match talk_for(&engine, words, files, talk, steps) {
         Ok(end) => say_end(end, err),
         Err(Stop::At(fault)) => say_talk_fault(alloc, &fault, err),
         Err(_) => say_no_memory(err),

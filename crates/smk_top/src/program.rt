@@ -19,8 +19,9 @@ ghost use Rattle.smk_top.specs.Looking.{LooksBehindReading, RunLooks};
 ghost use Rattle.smk_top.specs.Statuses.{IsReadingFault, status_of_fault, status_of_report};
 
 use crate::counts::Counts;
+use crate::engine::Engine;
 use crate::reporting::write_report;
-use crate::starting::{Started, start};
+use crate::starting::start;
 use crate::status::Status;
 use crate::summarizing::summarize;
 use smk_base::Fault;
@@ -84,11 +85,9 @@ pub fn say_fault<E: Sink>(alloc: Global, fault: &Fault, err: &mut E) -> Status
 
 // Evaluates the views of what was read, and writes the report. It tells the counts of its lines.
 fn report<R: Threads + Sync, G: Gate + Sync, O: Sink, L: Ledger>(
-    rt: &R,
-    alloc: Global,
+    engine: &Engine<'_, R, G>,
     settings: Settings,
     inputs: Inputs,
-    gate: &G,
     out: &mut O,
     steps: &mut Steps<L>,
 ) -> Result<Counts, Stop>
@@ -100,34 +99,16 @@ fn report<R: Threads + Sync, G: Gate + Sync, O: Sink, L: Ledger>(
     ensures out_later { O.faults out.old ≤ O.faults out.new }
     ensures looks { (said : List Reading) → AreReadingsOf inputs.script.items said → steps.new ≤ steps.old + run_looks (inputs_with inputs said) }
 {
-    let Started {
-        session,
-        fds,
-        script,
-        added,
-    } = start(rt, alloc, inputs, settings, gate, steps)?;
-    write_report(
-        rt,
-        alloc,
-        settings,
-        session,
-        &fds,
-        script.as_slice(),
-        added,
-        gate,
-        out,
-        steps,
-    )
+    let started = start(engine, inputs, settings, steps)?;
+    write_report(engine, settings, started, out, steps)
 }
 
 // Reads what a run is called for, and writes the report, or a demo's summary. It tells the counts of the report's lines.
 fn work_on<R: Threads + Sync, F: Files, O: Sink, G: Gate + Sync, L: Ledger>(
-    rt: &R,
-    alloc: Global,
+    engine: &Engine<'_, R, G>,
     call: &RunWords,
     files: &mut F,
     out: &mut O,
-    gate: &G,
     steps: &mut Steps<L>,
 ) -> Result<Counts, Stop>
     ensures works { (words : List (List ℕ)) → words_of words ≡ Some (texts_image call.now.texts)
@@ -143,25 +124,31 @@ fn work_on<R: Threads + Sync, F: Files, O: Sink, G: Gate + Sync, L: Ledger>(
     match &call.texts {
         RunTexts::Files { book, script } => {
             let settings = call.settings;
-            let inputs = read_all(rt, alloc, settings, files, book, script.as_ref(), gate)?;
-            report(rt, alloc, settings, inputs, gate, out, steps)
+            let inputs = read_all(
+                engine.rt,
+                engine.alloc,
+                settings,
+                files,
+                book,
+                script.as_ref(),
+                engine.gate,
+            )?;
+            report(engine, settings, inputs, out, steps)
         }
         RunTexts::Demo(flights) => {
             let settings = call.settings;
-            let inputs = read_demo(rt, alloc, settings, *flights, gate)?;
-            summarize(rt, alloc, *flights, settings, inputs, gate, out, steps)
+            let inputs = read_demo(engine.rt, engine.alloc, settings, *flights, engine.gate)?;
+            summarize(engine, *flights, settings, inputs, out, steps)
         }
     }
 }
 
 // Reads what the words name, and writes the report, or a demo's summary. It tells the counts of the report's lines.
 fn work<R: Threads + Sync, F: Files, O: Sink, G: Gate + Sync, L: Ledger>(
-    rt: &R,
-    alloc: Global,
+    engine: &Engine<'_, R, G>,
     words: &[&str],
     files: &mut F,
     out: &mut O,
-    gate: &G,
     steps: &mut Steps<L>,
 ) -> Result<Counts, Stop>
     ensures works { Works (map (λ w. w.now) words.entry.now) (F.held files.old) (Rose (F.faults files.old) (F.faults files.new)) (Rose (O.faults out.old) (O.faults out.new)) (O.written out.old) (O.written out.new) result }
@@ -173,9 +160,9 @@ fn work<R: Threads + Sync, F: Files, O: Sink, G: Gate + Sync, L: Ledger>(
     ensures no_look { LooksBehindReading result steps.old steps.new }
     ensures demo { (flights : ℕ) → words_of (map (λ w. w.now) words.entry.now) ≡ Some (Demo flights) → F.faults files.new ≡ F.faults files.old }
 {
-    let found = read_words(alloc, words)?;
+    let found = read_words(engine.alloc, words)?;
     match found {
-        Some(call) => work_on(rt, alloc, &call, files, out, gate, steps),
+        Some(call) => work_on(engine, &call, files, out, steps),
         None => Err(Stop::At(Fault::Usage)),
     }
 }
@@ -212,7 +199,8 @@ pub fn run<R: Threads + Sync, F: Files, O: Sink, E: Sink, G: Gate + Sync, L: Led
     ensures no_look { IsReadingFault result → steps.new ≡ steps.old }
     ensures demo { (flights : ℕ) → words_of (map (λ w. w.now) words.entry.now) ≡ Some (Demo flights) → F.faults files.new ≡ F.faults files.old }
 {
-    match work(rt, alloc, words, files, out, gate, steps) {
+    let engine = Engine { rt, alloc, gate };
+    match work(&engine, words, files, out, steps) {
         Ok(counts) => status_of_counts(counts),
         Err(Stop::At(fault)) => say_fault(alloc, &fault, err),
         Err(Stop::Unwritten) => Status::WriteFault,

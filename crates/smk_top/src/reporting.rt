@@ -25,7 +25,10 @@ ghost use Rattle.smk_top.specs.Writing.{Puts, PutsPieces};
 use crate::answering::{LineTold, tell_line};
 use crate::counting::{NOTHING, together};
 use crate::counts::Counts;
-use smk_base::{Names, without_mark};
+use crate::engine::Engine;
+use crate::stand::Stand;
+use crate::starting::Started;
+use smk_base::without_mark;
 use smk_inputs::{Reading, Settings, Stop, reading_of};
 use smk_outside::{Gate, Sink, Steps};
 use smk_parse::line_at;
@@ -110,111 +113,94 @@ fn write_views<R: Threads + Sync, O: Sink>(
     Ok(counts)
 }
 
-// Writes the text of the line with this number that says this, where it has one, and lets go of what it says. It tells the counts beside the session.
+// Writes the text of a line that says this where it stands, where it has one, and lets go of what it says. It tells the counts beside the session.
 fn write_line<R: Threads + Sync, G: Gate + Sync, O: Sink, L: Ledger>(
-    rt: &R,
-    alloc: Global,
-    session: Session,
-    fds: &Names,
-    number: u64,
+    engine: &Engine<'_, R, G>,
+    stand: Stand<'_>,
     reading: Reading,
     added: &mut VecDeque<Table>,
-    gate: &G,
     out: &mut O,
     steps: &mut Steps<L>,
 ) -> Result<(Session, Counts), Stop>
     requires kept { KeepsReading (reading_image reading) }
-    requires shown { AreDependencies (catalog_image session.catalog) fds.now }
-    requires fits { IfSome (appended_at (catalog_image session.catalog) (reading_image reading)) (λ info. BeginsWith info added.old.items) }
-    ensures written { PutsPieces (reports.line_told (said_of session.catalog fds.now) (state_of session) number (reports.next_rows (each_rows added.old.items)) (reading_image reading)).text
+    requires shown { AreDependencies (catalog_image stand.session.catalog) stand.fds.now }
+    requires few { stand.before < 18446744073709551615 }
+    requires fits { IfSome (appended_at (catalog_image stand.session.catalog) (reading_image reading)) (λ info. BeginsWith info added.old.items) }
+    ensures written { PutsPieces (reports.line_told (said_of stand.entry.session.catalog stand.entry.fds.now) (state_of stand.entry.session) (stand.entry.before + 1) (reports.next_rows (each_rows added.old.items)) (reading_image reading)).text
         (Rose (O.faults out.old) (O.faults out.new)) (O.written out.old) (O.written out.new) result }
-    ensures counts { IfOk result (λ done. done.1 ≡ counts_told (reports.line_told (said_of session.catalog fds.now) (state_of session) number (reports.next_rows (each_rows added.old.items)) (reading_image reading))) }
-    ensures after { IfOk result (λ done. state_of done.0 ≡ reports.state_after (said_of session.catalog fds.now) (state_of session) (reports.next_rows (each_rows added.old.items)) (reading_image reading)) }
-    ensures book { IfOk result (λ done. done.0.catalog ≡ session.catalog) }
-    ensures left { IfOk result (λ done. added.new.items ≡ tables_left (reports.brings_rows (catalog_image session.catalog) (reading_image reading)) added.old.items) }
+    ensures counts { IfOk result (λ done. done.1 ≡ counts_told (reports.line_told (said_of stand.entry.session.catalog stand.entry.fds.now) (state_of stand.entry.session) (stand.entry.before + 1) (reports.next_rows (each_rows added.old.items)) (reading_image reading))) }
+    ensures after { IfOk result (λ done. state_of done.0 ≡ reports.state_after (said_of stand.entry.session.catalog stand.entry.fds.now) (state_of stand.entry.session) (reports.next_rows (each_rows added.old.items)) (reading_image reading)) }
+    ensures book { IfOk result (λ done. done.0.catalog ≡ stand.entry.session.catalog) }
+    ensures left { IfOk result (λ done. added.new.items ≡ tables_left (reports.brings_rows (catalog_image stand.entry.session.catalog) (reading_image reading)) added.old.items) }
     ensures later { O.faults out.old ≤ O.faults out.new }
-    ensures looks { steps.new ≤ steps.old + (reports.line_told (said_of session.catalog fds.now) (state_of session) number (reports.next_rows (each_rows added.old.items)) (reading_image reading)).looks }
+    ensures looks { steps.new ≤ steps.old + (reports.line_told (said_of stand.entry.session.catalog stand.entry.fds.now) (state_of stand.entry.session) (stand.entry.before + 1) (reports.next_rows (each_rows added.old.items)) (reading_image reading)).looks }
 {
-    let (session, told) = tell_line(
-        rt, alloc, session, fds, number, &reading, added, gate, steps,
-    );
+    let (session, told) = tell_line(engine, stand, &reading, added, steps);
     let LineTold { text, counts } = told?;
     put_some(out, text.as_slice())?;
     Ok((session, counts))
 }
 
-// Writes the texts of the lines of a script, each before the next line is read, and counts them. The lines that append rows take those of these tables, line by line.
+// Writes the texts of the lines of the script of what is started, each before the next line is read, and counts them. The lines that append rows take its tables, line by line.
 fn write_lines<R: Threads + Sync, G: Gate + Sync, O: Sink, L: Ledger>(
-    rt: &R,
-    alloc: Global,
-    session: Session,
-    fds: &Names,
-    script: &[u8],
-    added: VecDeque<Table>,
-    gate: &G,
+    engine: &Engine<'_, R, G>,
+    started: Started,
     out: &mut O,
     steps: &mut Steps<L>,
 ) -> Result<Counts, Stop>
-    requires shown { AreDependencies (catalog_image session.catalog) fds.now }
-    requires fits { BringTables (catalog_image session.catalog) (lines script.now) added.items }
-    ensures written { (said : List readings.Reading) → AreReadings (lines script.now) said → PutsPieces (reports.lines_told (said_of session.catalog fds.now) (state_of session) 1 (each_rows added.items) said).text
+    requires shown { AreDependencies (catalog_image started.session.catalog) started.fds }
+    requires fits { BringTables (catalog_image started.session.catalog) (lines (after_marks started.script.items)) started.added.items }
+    ensures written { (said : List readings.Reading) → AreReadingsOf started.script.items said → PutsPieces (reports.lines_told (said_of started.session.catalog started.fds) (state_of started.session) 1 (each_rows started.added.items) said).text
         (Rose (O.faults out.old) (O.faults out.new)) (O.written out.old) (O.written out.new) result }
-    ensures counts { (said : List readings.Reading) → AreReadings (lines script.now) said → IfOk result (λ counts. counts ≡ counts_told (reports.lines_told (said_of session.catalog fds.now) (state_of session) 1 (each_rows added.items) said)) }
+    ensures counts { (said : List readings.Reading) → AreReadingsOf started.script.items said → IfOk result (λ counts. counts ≡ counts_told (reports.lines_told (said_of started.session.catalog started.fds) (state_of started.session) 1 (each_rows started.added.items) said)) }
     ensures later { O.faults out.old ≤ O.faults out.new }
-    ensures looks { (said : List readings.Reading) → AreReadings (lines script.now) said → steps.new ≤ steps.old + (reports.lines_told (said_of session.catalog fds.now) (state_of session) 1 (each_rows added.items) said).looks }
+    ensures looks { (said : List readings.Reading) → AreReadingsOf started.script.items said → steps.new ≤ steps.old + (reports.lines_told (said_of started.session.catalog started.fds) (state_of started.session) 1 (each_rows started.added.items) said).looks }
 {
-    let mut session = session;
-    let mut added = added;
+    let Started {
+        mut session,
+        fds,
+        script,
+        mut added,
+    } = started;
+    let text = without_mark(script.as_slice());
     let mut counts = NOTHING;
-    let mut number = 0;
+    let mut before = 0;
     let mut from = 0;
-    while let Some(span) = line_at(script, from) {
-        number += 1;
-        let reading = reading_of(alloc, &script[span.start..span.end])?;
+    while let Some(span) = line_at(text, from) {
+        let reading = reading_of(engine.alloc, &text[span.start..span.end])?;
         // Only what the next line says is kept beside it.
-        let (next, line) = write_line(
-            rt, alloc, session, fds, number, reading, &mut added, gate, out, steps,
-        )?;
+        let stand = Stand {
+            session,
+            fds: &fds,
+            before,
+        };
+        let (next, line) = write_line(engine, stand, reading, &mut added, out, steps)?;
         session = next;
+        before += 1;
         from = span.next;
         counts = together(counts, line)?;
     }
     Ok(counts)
 }
 
-/// Writes the report of a session that begins: the texts of the views, then those of the lines of a script, each before the next line is read. It tells what it counted. The lines that append rows take those of these tables, line by line.
+/// Writes the report of a session that begins: the texts of the views, then those of the lines of its script, each before the next line is read. It tells what it counted. The lines that append rows take its tables, line by line.
 pub fn write_report<R: Threads + Sync, G: Gate + Sync, O: Sink, L: Ledger>(
-    rt: &R,
-    alloc: Global,
+    engine: &Engine<'_, R, G>,
     settings: Settings,
-    session: Session,
-    fds: &Names,
-    script: &[u8],
-    added: VecDeque<Table>,
-    gate: &G,
+    started: Started,
     out: &mut O,
     steps: &mut Steps<L>,
 ) -> Result<Counts, Stop>
-    requires begun { session.brushes ≡ [] }
-    requires shown { AreDependencies (catalog_image session.catalog) fds.now }
-    requires fits { BringTables (catalog_image session.catalog) (lines (after_marks script.now)) added.items }
-    ensures written { (said : List readings.Reading) → AreReadingsOf script.now said → PutsPieces (reports.report_of (workbook_of session) fds.now (each_rows added.items) said).text
+    requires begun { started.session.brushes ≡ [] }
+    requires shown { AreDependencies (catalog_image started.session.catalog) started.fds }
+    requires fits { BringTables (catalog_image started.session.catalog) (lines (after_marks started.script.items)) started.added.items }
+    ensures written { (said : List readings.Reading) → AreReadingsOf started.script.items said → PutsPieces (reports.report_of (workbook_of started.session) started.fds (each_rows started.added.items) said).text
         (Rose (O.faults out.old) (O.faults out.new)) (O.written out.old) (O.written out.new) result }
-    ensures counts { (said : List readings.Reading) → AreReadingsOf script.now said → IfOk result (λ counts. counts ≡ counts_of (reports.report_of (workbook_of session) fds.now (each_rows added.items) said)) }
+    ensures counts { (said : List readings.Reading) → AreReadingsOf started.script.items said → IfOk result (λ counts. counts ≡ counts_of (reports.report_of (workbook_of started.session) started.fds (each_rows started.added.items) said)) }
     ensures later { O.faults out.old ≤ O.faults out.new }
-    ensures looks { (said : List readings.Reading) → AreReadingsOf script.now said → steps.new ≤ steps.old + (reports.script_told (workbook_of session) fds.now (each_rows added.items) said).looks }
+    ensures looks { (said : List readings.Reading) → AreReadingsOf started.script.items said → steps.new ≤ steps.old + (reports.script_told (workbook_of started.session) started.fds (each_rows started.added.items) said).looks }
 {
-    let views = write_views(rt, alloc, settings, &session, out)?;
-    let lines = write_lines(
-        rt,
-        alloc,
-        session,
-        fds,
-        without_mark(script),
-        added,
-        gate,
-        out,
-        steps,
-    )?;
+    let views = write_views(engine.rt, engine.alloc, settings, &started.session, out)?;
+    let lines = write_lines(engine, started, out, steps)?;
     together(views, lines)
 }

@@ -14,6 +14,7 @@ ghost use Rattle.smk_inputs.specs.Loaded.{workbook_read, script_bytes};
 ghost use Rattle.smk_inputs.specs.Collecting.{Starts, IsSayable};
 ghost use Rattle.smk_top.specs.declared.starting.Started.{Started as StartedShape};
 
+use crate::engine::Engine;
 use smk_base::{Catalog, Fault, ListOf, TableInfo, Text, ViewInfo};
 use smk_inputs::{Inputs, Settings, Stop};
 use smk_outside::{Gate, Steps};
@@ -105,11 +106,9 @@ fn stop_of(alloc: Global, names: Names, fault: StartFault) -> Stop
 
 /// A session that begins over what was read, with the rest of that; or the first view with a node that is too big. The names that a fault says are copied before, since the book is dropped with it.
 pub fn start<R: Threads + Sync, G: Gate + Sync, L: Ledger>(
-    rt: &R,
-    alloc: Global,
+    engine: &Engine<'_, R, G>,
     inputs: Inputs,
     settings: Settings,
-    gate: &G,
     steps: &mut Steps<L>,
 ) -> Result<Started, Stop>
     requires shown { AreDependencies (catalog_image inputs.book) inputs.fds }
@@ -127,7 +126,7 @@ pub fn start<R: Threads + Sync, G: Gate + Sync, L: Ledger>(
     ensures fits { IfOk result (λ begun. BringTables (catalog_image begun.session.catalog) (lines (after_marks begun.script.items)) begun.added.items) }
     ensures said { IsSayable result }
 {
-    let names = names_of(alloc, inputs.book.catalog())?;
+    let names = names_of(engine.alloc, inputs.book.catalog())?;
     let Settings { mode, workers, .. } = settings;
     let Inputs {
         book,
@@ -136,13 +135,22 @@ pub fn start<R: Threads + Sync, G: Gate + Sync, L: Ledger>(
         script,
         added,
     } = inputs;
-    match Session::start(rt, alloc, book, tables, mode, workers, gate, steps) {
+    match Session::start(
+        engine.rt,
+        engine.alloc,
+        book,
+        tables,
+        mode,
+        workers,
+        engine.gate,
+        steps,
+    ) {
         Ok(session) => Ok(Started {
             session,
             fds,
             script,
             added,
         }),
-        Err(fault) => Err(stop_of(alloc, names, fault)),
+        Err(fault) => Err(stop_of(engine.alloc, names, fault)),
     }
 }

@@ -20,17 +20,16 @@ ghost use Rattle.smk_top.specs.Endings.{Reports};
 ghost use Rattle.smk_top.specs.Writing.{PutsPieces};
 
 use crate::counts::Counts;
+use crate::engine::Engine;
 use crate::nowhere::Nowhere;
 use crate::reporting::{put, write_report};
 use crate::starting::{Started, start};
-use smk_base::{ListOf, Names, Size, Sizes};
+use smk_base::{ListOf, Size, Sizes};
 use smk_demo::summary_text;
 use smk_inputs::{Flights, Inputs, Settings, Stop};
 use smk_outside::{Gate, Sink, Steps};
 use smk_session::Session;
-use smk_table::Table;
 use std::alloc::{AllocError, Global};
-use std::collections::VecDeque;
 use std::sync::ledger::Ledger;
 use std::thread::Threads;
 
@@ -84,51 +83,33 @@ fn put_summary<O: Sink>(
 
 // Answers the script of a demo's session that begins, and writes the summary of the report. It tells the counts of the report's lines.
 fn write_summary<R: Threads + Sync, G: Gate + Sync, O: Sink, L: Ledger>(
-    rt: &R,
-    alloc: Global,
+    engine: &Engine<'_, R, G>,
     flights: Flights,
     settings: Settings,
-    session: Session,
-    fds: &Names,
-    script: &[u8],
-    added: VecDeque<Table>,
-    gate: &G,
+    started: Started,
     out: &mut O,
     steps: &mut Steps<L>,
 ) -> Result<Counts, Stop>
-    requires begun { session.brushes ≡ [] }
-    requires shown { AreDependencies (catalog_image session.catalog) fds.now }
-    requires fits { BringTables (catalog_image session.catalog) (lines (after_marks script.now)) added.items }
-    ensures works { (given : outcomes.Inputs) → AreReadingsOf script.now given.readings → first_view_fault given.book ≡ None → workbook_of session ≡ given.book → fds.now ≡ given.fds → each_rows added.items ≡ given.added
+    requires begun { started.session.brushes ≡ [] }
+    requires shown { AreDependencies (catalog_image started.session.catalog) started.fds }
+    requires fits { BringTables (catalog_image started.session.catalog) (lines (after_marks started.script.items)) started.added.items }
+    ensures works { (given : outcomes.Inputs) → AreReadingsOf started.script.items given.readings → first_view_fault given.book ≡ None → workbook_of started.session ≡ given.book → started.fds ≡ given.fds → each_rows started.added.items ≡ given.added
         → Reports (summary_of flights.count) given (Rose (O.faults out.old) (O.faults out.new)) (O.written out.old) (O.written out.new) result }
     ensures said { IsSayable result }
     ensures out_later { O.faults out.old ≤ O.faults out.new }
-    ensures looks { (said : List Reading) → AreReadingsOf script.now said → steps.new ≤ steps.old + (script_told (workbook_of session) fds.now (each_rows added.items) said).looks }
+    ensures looks { (said : List Reading) → AreReadingsOf started.script.items said → steps.new ≤ steps.old + (script_told (workbook_of started.session) started.fds (each_rows started.added.items) said).looks }
 {
-    let sizes = sizes_of(alloc, &session)?;
-    let counts = write_report(
-        rt,
-        alloc,
-        settings,
-        session,
-        fds,
-        script,
-        added,
-        gate,
-        &mut Nowhere,
-        steps,
-    )?;
-    put_summary(alloc, flights, &sizes, counts, out)
+    let sizes = sizes_of(engine.alloc, &started.session)?;
+    let counts = write_report(engine, settings, started, &mut Nowhere, steps)?;
+    put_summary(engine.alloc, flights, &sizes, counts, out)
 }
 
 /// Evaluates the views of a demo and answers its script, and writes the summary of the report. It tells the counts of the report's lines.
 pub fn summarize<R: Threads + Sync, G: Gate + Sync, O: Sink, L: Ledger>(
-    rt: &R,
-    alloc: Global,
+    engine: &Engine<'_, R, G>,
     flights: Flights,
     settings: Settings,
     inputs: Inputs,
-    gate: &G,
     out: &mut O,
     steps: &mut Steps<L>,
 ) -> Result<Counts, Stop>
@@ -140,23 +121,6 @@ pub fn summarize<R: Threads + Sync, G: Gate + Sync, O: Sink, L: Ledger>(
     ensures out_later { O.faults out.old ≤ O.faults out.new }
     ensures looks { (said : List Reading) → AreReadingsOf inputs.script.items said → steps.new ≤ steps.old + outcomes.run_looks (inputs_with inputs said) }
 {
-    let Started {
-        session,
-        fds,
-        script,
-        added,
-    } = start(rt, alloc, inputs, settings, gate, steps)?;
-    write_summary(
-        rt,
-        alloc,
-        flights,
-        settings,
-        session,
-        &fds,
-        script.as_slice(),
-        added,
-        gate,
-        out,
-        steps,
-    )
+    let started = start(engine, inputs, settings, steps)?;
+    write_summary(engine, flights, settings, started, out, steps)
 }

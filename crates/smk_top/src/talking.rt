@@ -1,5 +1,5 @@
 // A conversation over a session, line by line.
-ghost use Rattle.std.specs.Prelude.{◌≡◌, ◌≤◌, ◌<◌, ◌+◌, ◌&&◌, ◌||◌, ℕ, true, false, List, [], ◌∷◌, Option, Ok, length, IfOk};
+ghost use Rattle.std.specs.Prelude.{◌≡◌, ◌≤◌, ◌<◌, ◌+◌, ◌&&◌, ◌||◌, ℕ, Bool, true, false, List, [], ◌∷◌, Option, Ok, length, IfOk};
 ghost use Rattle.std.specs.Option.{option_to_list};
 ghost use Rattle.smk_base.specs.CatalogImage.{catalog_image};
 ghost use Rattle.smk_model.specs.Catalogs.{each_table_kinds};
@@ -20,6 +20,8 @@ ghost use Rattle.smk_inputs.specs.Loaded.{said_of};
 ghost use Rattle.smk_top.specs.Talking.{AnswersLine, TurnTaken, Talked, talk_at, words_bytes};
 
 use crate::answering::{LineTold, tell_line};
+use crate::engine::Engine;
+use crate::stand::Stand;
 use smk_base::{AnyLine, Fault, Names, without_mark};
 use smk_inputs::{Reading, Settings, Stop, bring, reading_of};
 use smk_outside::{Ending, Files, Gate, Heard, Steps, Talk, TalkFault};
@@ -41,9 +43,10 @@ const FORGONE: &[u8] = b"refused no memory\n";
 
 const TOO_LONG: &[u8] = b"refused line too long\n";
 
-/// How a conversation is held: the names of its book's dependencies, how the session works, and whether nothing may be appended.
+/// How a conversation is held: the text that it begins with, the names of its book's dependencies, how the session works, and whether nothing may be appended.
 #[derive(Drop)]
 pub struct Manner<'a> {
+    pub opening: &'a [u8],
     pub fds: &'a Names,
     pub settings: Settings,
     pub read_only: bool,
@@ -128,40 +131,26 @@ fn in_a_row(alloc: Global, brought: Option<Table>) -> Result<VecDeque<Table>, Al
 
 // What is said of a line that says this, once the rows of its file are there, and the session after it.
 fn answer_brought<R: Threads + Sync, G: Gate + Sync, L: Ledger>(
-    rt: &R,
-    alloc: Global,
-    manner: &Manner<'_>,
-    session: Session,
-    heard: u64,
+    engine: &Engine<'_, R, G>,
+    stand: Stand<'_>,
     reading: &Reading,
     brought: Option<Table>,
-    gate: &G,
     steps: &mut Steps<L>,
 ) -> (Session, Said)
-    requires shown { AreDependencies (catalog_image session.catalog) manner.now.fds.now }
-    requires few { heard < 18446744073709551615 }
+    requires shown { AreDependencies (catalog_image stand.session.catalog) stand.fds.now }
+    requires few { stand.before < 18446744073709551615 }
     requires kept { KeepsReading (reading_image reading.now) }
-    requires kinds { each_kinds (option_to_list brought) ≡ each_table_kinds (option_to_list (appended_at (catalog_image session.catalog) (reading_image reading.now))) }
-    ensures answer { (held : Option Held) (faults faults_after : ℕ) (bytes : List ℕ) → length bytes ≤ line_limit → IsReading (text_read heard bytes) (reading_image reading.now)
-        → (manner.now.read_only && asks_append (reading_image reading.now)) ≡ false → BringsBy held (Rose faults faults_after) (appended_at (catalog_image session.catalog) (reading_image reading.now)) (Ok (next_rows (each_rows (option_to_list brought))))
-        → AnswersLine (said_of session.catalog manner.now.fds.now) manner.now.read_only held (Rose faults faults_after) (talk_at (state_of session) heard) bytes (state_of result.0) (words_bytes result.1.words) result.1.down steps.old steps.new }
-    ensures book { result.0.catalog ≡ session.catalog }
+    requires kinds { each_kinds (option_to_list brought) ≡ each_table_kinds (option_to_list (appended_at (catalog_image stand.session.catalog) (reading_image reading.now))) }
+    ensures answer { (held : Option Held) (read_only : Bool) (faults faults_after : ℕ) (bytes : List ℕ) → length bytes ≤ line_limit → IsReading (text_read stand.entry.before bytes) (reading_image reading.now)
+        → (read_only && asks_append (reading_image reading.now)) ≡ false → BringsBy held (Rose faults faults_after) (appended_at (catalog_image stand.entry.session.catalog) (reading_image reading.now)) (Ok (next_rows (each_rows (option_to_list brought))))
+        → AnswersLine (said_of stand.entry.session.catalog stand.entry.fds.now) read_only held (Rose faults faults_after) (talk_at (state_of stand.entry.session) stand.entry.before) bytes (state_of result.0) (words_bytes result.1.words) result.1.down steps.old steps.new }
+    ensures book { result.0.catalog ≡ stand.entry.session.catalog }
 {
-    let mut added = match in_a_row(alloc, brought) {
+    let mut added = match in_a_row(engine.alloc, brought) {
         Ok(added) => added,
-        Err(_) => return (session, refusal(FORGONE)),
+        Err(_) => return (stand.session, refusal(FORGONE)),
     };
-    let (session, told) = tell_line(
-        rt,
-        alloc,
-        session,
-        manner.fds,
-        heard + 1,
-        reading,
-        &mut added,
-        gate,
-        steps,
-    );
+    let (session, told) = tell_line(engine, stand, reading, &mut added, steps);
     match told {
         Ok(LineTold { text, counts }) => {
             let said = Said {
@@ -176,40 +165,40 @@ fn answer_brought<R: Threads + Sync, G: Gate + Sync, L: Ledger>(
 
 // What is said of a line that says this, and the session after it.
 fn answer_reading<R: Threads + Sync, F: Files, G: Gate + Sync, L: Ledger>(
-    rt: &R,
-    alloc: Global,
+    engine: &Engine<'_, R, G>,
     manner: &Manner<'_>,
     files: &mut F,
-    session: Session,
-    heard: u64,
+    stand: Stand<'_>,
     reading: &Reading,
-    gate: &G,
     steps: &mut Steps<L>,
 ) -> (Session, Said)
-    requires shown { AreDependencies (catalog_image session.catalog) manner.now.fds.now }
-    requires few { heard < 18446744073709551615 }
+    requires shown { AreDependencies (catalog_image stand.session.catalog) stand.fds.now }
+    requires few { stand.before < 18446744073709551615 }
     requires kept { KeepsReading (reading_image reading.now) }
-    ensures answer { (bytes : List ℕ) → length bytes ≤ line_limit → IsReading (text_read heard bytes) (reading_image reading.now)
-        → AnswersLine (said_of session.catalog manner.now.fds.now) manner.now.read_only (F.held files.old) (Rose (F.faults files.old) (F.faults files.new)) (talk_at (state_of session) heard) bytes (state_of result.0) (words_bytes result.1.words) result.1.down steps.old steps.new }
-    ensures book { result.0.catalog ≡ session.catalog }
+    ensures answer { (bytes : List ℕ) → length bytes ≤ line_limit → IsReading (text_read stand.entry.before bytes) (reading_image reading.now)
+        → AnswersLine (said_of stand.entry.session.catalog stand.entry.fds.now) manner.now.read_only (F.held files.old) (Rose (F.faults files.old) (F.faults files.new)) (talk_at (state_of stand.entry.session) stand.entry.before) bytes (state_of result.0) (words_bytes result.1.words) result.1.down steps.old steps.new }
+    ensures book { result.0.catalog ≡ stand.entry.session.catalog }
     ensures held { F.held files.new ≡ F.held files.old }
     ensures later { F.faults files.old ≤ F.faults files.new }
 {
     if manner.read_only && appends(reading) {
-        return (session, refusal(READ_ONLY));
+        return (stand.session, refusal(READ_ONLY));
     }
-    let settings = manner.settings;
-    match bring(rt, alloc, settings, files, session.catalog(), reading, gate) {
-        Ok(brought) => {
-            answer_brought(
-                rt, alloc, manner, session, heard, reading, brought, gate, steps,
-            )
-        }
-        Err(Stop::At(fault)) => match unbrought(alloc, &fault) {
-            Ok(said) => (session, said),
-            Err(_) => (session, refusal(FORGONE)),
+    match bring(
+        engine.rt,
+        engine.alloc,
+        manner.settings,
+        files,
+        stand.session.catalog(),
+        reading,
+        engine.gate,
+    ) {
+        Ok(brought) => answer_brought(engine, stand, reading, brought, steps),
+        Err(Stop::At(fault)) => match unbrought(engine.alloc, &fault) {
+            Ok(said) => (stand.session, said),
+            Err(_) => (stand.session, refusal(FORGONE)),
         },
-        Err(_) => (session, refusal(FORGONE)),
+        Err(_) => (stand.session, refusal(FORGONE)),
     }
 }
 
@@ -226,31 +215,24 @@ fn text_heard(heard: u64, bytes: &[u8]) -> &[u8]
 
 // What is said of a line with these bytes, behind so many lines, and the session after it.
 fn answer_bytes<R: Threads + Sync, F: Files, G: Gate + Sync, L: Ledger>(
-    rt: &R,
-    alloc: Global,
+    engine: &Engine<'_, R, G>,
     manner: &Manner<'_>,
     files: &mut F,
-    session: Session,
-    heard: u64,
+    stand: Stand<'_>,
     bytes: &[u8],
-    gate: &G,
     steps: &mut Steps<L>,
 ) -> (Session, Said)
-    requires shown { AreDependencies (catalog_image session.catalog) manner.now.fds.now }
-    requires few { heard < 18446744073709551615 }
+    requires shown { AreDependencies (catalog_image stand.session.catalog) stand.fds.now }
+    requires few { stand.before < 18446744073709551615 }
     requires short { length bytes.now ≤ line_limit }
-    ensures answer { AnswersLine (said_of session.catalog manner.now.fds.now) manner.now.read_only (F.held files.old) (Rose (F.faults files.old) (F.faults files.new)) (talk_at (state_of session) heard) bytes.now (state_of result.0) (words_bytes result.1.words) result.1.down steps.old steps.new }
-    ensures book { result.0.catalog ≡ session.catalog }
+    ensures answer { AnswersLine (said_of stand.entry.session.catalog stand.entry.fds.now) manner.now.read_only (F.held files.old) (Rose (F.faults files.old) (F.faults files.new)) (talk_at (state_of stand.entry.session) stand.entry.before) bytes.now (state_of result.0) (words_bytes result.1.words) result.1.down steps.old steps.new }
+    ensures book { result.0.catalog ≡ stand.entry.session.catalog }
     ensures held { F.held files.new ≡ F.held files.old }
     ensures later { F.faults files.old ≤ F.faults files.new }
 {
-    match reading_of(alloc, text_heard(heard, bytes)) {
-        Ok(reading) => {
-            answer_reading(
-                rt, alloc, manner, files, session, heard, &reading, gate, steps,
-            )
-        }
-        Err(_) => (session, refusal(FORGONE)),
+    match reading_of(engine.alloc, text_heard(stand.before, bytes)) {
+        Ok(reading) => answer_reading(engine, manner, files, stand, &reading, steps),
+        Err(_) => (stand.session, refusal(FORGONE)),
     }
 }
 
@@ -294,36 +276,30 @@ fn say_ready<T: Talk>(talk: &mut T, session: Session, text: &'static [u8]) -> Ta
 
 // Hears a line, and says what it is answered.
 fn take_turn<R: Threads + Sync, F: Files, T: Talk, G: Gate + Sync, L: Ledger>(
-    rt: &R,
-    alloc: Global,
+    engine: &Engine<'_, R, G>,
     manner: &Manner<'_>,
     files: &mut F,
     talk: &mut T,
-    session: Session,
-    heard: u64,
-    gate: &G,
+    stand: Stand<'_>,
     steps: &mut Steps<L>,
 ) -> Taken
-    requires shown { AreDependencies (catalog_image session.catalog) manner.now.fds.now }
-    requires few { heard < 18446744073709551615 }
-    ensures taken { TurnTaken (said_of session.catalog manner.now.fds.now) manner.now.read_only (F.held files.old) (Rose (F.faults files.old) (F.faults files.new)) (Rose (T.faults talk.old) (T.faults talk.new))
-        (talk_at (state_of session) heard) (talk_at (state_of result.session) (heard + 1)) (T.told talk.old) (T.told talk.new) result.ending result.down steps.old steps.new }
-    ensures book { result.session.catalog ≡ session.catalog }
+    requires shown { AreDependencies (catalog_image stand.session.catalog) stand.fds.now }
+    requires few { stand.before < 18446744073709551615 }
+    ensures taken { TurnTaken (said_of stand.entry.session.catalog stand.entry.fds.now) manner.now.read_only (F.held files.old) (Rose (F.faults files.old) (F.faults files.new)) (Rose (T.faults talk.old) (T.faults talk.new))
+        (talk_at (state_of stand.entry.session) stand.entry.before) (talk_at (state_of result.session) (stand.entry.before + 1)) (T.told talk.old) (T.told talk.new) result.ending result.down steps.old steps.new }
+    ensures book { result.session.catalog ≡ stand.entry.session.catalog }
     ensures held { F.held files.new ≡ F.held files.old }
     ensures later { F.faults files.old ≤ F.faults files.new }
     ensures talk_later { T.faults talk.old ≤ T.faults talk.new }
 {
-    match talk.hear(alloc, LINE_LIMIT) {
+    match talk.hear(engine.alloc, LINE_LIMIT) {
         Ok(Heard::Line(bytes)) => {
             let (session, said) = answer_bytes(
-                rt,
-                alloc,
+                engine,
                 manner,
                 files,
-                session,
-                heard,
+                stand,
                 bytes.as_slice(),
-                gate,
                 steps,
             );
             let ending = say_block(talk, said.words.as_slice());
@@ -333,15 +309,15 @@ fn take_turn<R: Threads + Sync, F: Files, T: Talk, G: Gate + Sync, L: Ledger>(
                 down: said.down,
             }
         }
-        Ok(Heard::Long) => say_ready(talk, session, TOO_LONG),
+        Ok(Heard::Long) => say_ready(talk, stand.session, TOO_LONG),
         Ok(Heard::End) => Taken {
-            session,
+            session: stand.session,
             ending: Some(Ending::Ended),
             down: false,
         },
-        Err(TalkFault::NoMemory) => say_ready(talk, session, FORGONE),
+        Err(TalkFault::NoMemory) => say_ready(talk, stand.session, FORGONE),
         Err(TalkFault::Failed) => Taken {
-            session,
+            session: stand.session,
             ending: Some(Ending::Unheard),
             down: false,
         },
@@ -364,13 +340,11 @@ pub struct TalkEnd {
 
 // The turns of a conversation, up to its end.
 fn take_turns<R: Threads + Sync, F: Files, T: Talk, G: Gate + Sync, L: Ledger>(
-    rt: &R,
-    alloc: Global,
+    engine: &Engine<'_, R, G>,
     manner: &Manner<'_>,
     files: &mut F,
     talk: &mut T,
     session: Session,
-    gate: &G,
     steps: &mut Steps<L>,
 ) -> TalkEnd
     requires shown { AreDependencies (catalog_image session.catalog) manner.now.fds.now }
@@ -383,7 +357,12 @@ fn take_turns<R: Threads + Sync, F: Files, T: Talk, G: Gate + Sync, L: Ledger>(
     let mut session = session;
     let mut down = false;
     for heard in 0..u64::MAX {
-        let taken = take_turn(rt, alloc, manner, files, talk, session, heard, gate, steps);
+        let stand = Stand {
+            session,
+            fds: manner.fds,
+            before: heard,
+        };
+        let taken = take_turn(engine, manner, files, talk, stand, steps);
         down = either(down, taken.down);
         if let Some(ending) = taken.ending {
             return TalkEnd { ending, down };
@@ -396,30 +375,27 @@ fn take_turns<R: Threads + Sync, F: Files, T: Talk, G: Gate + Sync, L: Ledger>(
     }
 }
 
-/// A conversation with a session that begins: it says the texts of all views, and then hears lines and answers each before it hears the next. Behind each text it says an empty line.
+/// A conversation with a session that begins: it says the text that it begins with, and then hears lines and answers each before it hears the next. Behind each text it says an empty line.
 pub fn hold<R: Threads + Sync, F: Files, T: Talk, G: Gate + Sync, L: Ledger>(
-    rt: &R,
-    alloc: Global,
+    engine: &Engine<'_, R, G>,
     manner: &Manner<'_>,
     files: &mut F,
     talk: &mut T,
     session: Session,
-    opening: &[u8],
-    gate: &G,
     steps: &mut Steps<L>,
 ) -> TalkEnd
     requires shown { AreDependencies (catalog_image session.catalog) manner.now.fds.now }
     ensures talked { Talked (said_of session.catalog manner.now.fds.now) manner.now.read_only (F.held files.old) (Rose (F.faults files.old) (F.faults files.new)) (Rose (T.faults talk.old) (T.faults talk.new))
-        (block_of opening.now) (talk_at (state_of session) 0) (T.told talk.old) (T.told talk.new) result.ending result.down steps.old steps.new }
+        (block_of manner.now.opening.now) (talk_at (state_of session) 0) (T.told talk.old) (T.told talk.new) result.ending result.down steps.old steps.new }
     ensures held { F.held files.new ≡ F.held files.old }
     ensures later { F.faults files.old ≤ F.faults files.new }
     ensures talk_later { T.faults talk.old ≤ T.faults talk.new }
 {
-    match say_block(talk, opening) {
+    match say_block(talk, manner.opening) {
         Some(ending) => TalkEnd {
             ending,
             down: false,
         },
-        None => take_turns(rt, alloc, manner, files, talk, session, gate, steps),
+        None => take_turns(engine, manner, files, talk, session, steps),
     }
 }

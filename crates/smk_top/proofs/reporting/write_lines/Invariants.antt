@@ -10,13 +10,13 @@ use Rattle.smk_top.proofs.reporting.write_lines.Given as goal
 
 abbrev pub invariant-loop-span : goal.invariant-loop-span
 invariant-loop-span g l = record {
-  walked : Walks (said_of l.initial.session.catalog l.fds) (state_of l.initial.session) (each_rows l.initial.added.items) l.script l.from l.number (g.O.Sink.written l.initial.out) (g.O.Sink.written l.out) (state_of l.session) (each_rows l.added.items) l.initial.steps l.steps l.counts;
+  walked : Walks (said_of l.initial.session.catalog l.fn.started.fds) (state_of l.initial.session) (each_rows l.initial.added.items) l.text l.from l.before (g.O.Sink.written l.initial.out) (g.O.Sink.written l.out) (state_of l.session) (each_rows l.added.items) l.initial.steps l.steps l.counts;
   book : l.session.catalog ≡ l.initial.session.catalog;
-  fits : BringTables (catalog_image l.session.catalog) (lines (drop l.from l.script)) l.added.items;
-  inside : l.from ≤ length l.script;
-  few : l.number ≤ l.from;
+  fits : BringTables (catalog_image l.session.catalog) (lines (drop l.from l.text)) l.added.items;
+  inside : l.from ≤ length l.text;
+  few : l.before ≤ l.from;
   later : g.O.Sink.faults l.initial.out ≤ g.O.Sink.faults l.out;
 }
 
 abbrev pub decreases-loop-span : goal.decreases-loop-span
-decreases-loop-span g l = length l.script - l.from
+decreases-loop-span g l = length l.text - l.from

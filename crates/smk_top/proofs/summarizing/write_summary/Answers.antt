@@ -16,7 +16,7 @@ returns-in_err-sizes-clause-works g c given are none same alike brought =
 pub returns-in_err-counts-clause-said : goal.returns-in_err-counts-clause-said
 returns-in_err-counts-clause-said g c =
     let p = err_from_is_err_and c.from_residual-in_err-counts.result c.from_residual-in_err-counts.ensures.1 in
-    let said = some_reading c.args.script.now in
+    let said = some_reading c.args.started.script.items in
     rw (p.1, p.2) (sayable_pieces {X = Counts} _ (Rose 0 0) None None (Err c.in_err-counts.field-0.0) (c.in_err-counts.ensures.written said.0 said.1))
 
 pub returns-in_err-counts-clause-works : goal.returns-in_err-counts-clause-works

@@ -10,4 +10,4 @@ returns-in-Ok-clause-answer g c = c.answer_reading.ensures.answer c.args.bytes.n
 
 pub returns-in-Err-clause-answer : goal.returns-in-Err-clause-answer
 returns-in-Err-clause-answer g c =
-    forgone_before (said_of c.args.session.catalog c.args.manner.now.fds.now) c.args.manner.now.read_only _ _ (talk_at (state_of c.args.session) c.args.heard) c.args.bytes.now _ _ _ _ _ refl c.refusal.ensures.words c.refusal.ensures.down refl
+    forgone_before (said_of c.args.stand.session.catalog c.args.stand.fds.now) c.args.manner.now.read_only _ _ (talk_at (state_of c.args.stand.session) c.args.stand.before) c.args.bytes.now _ _ _ _ _ refl c.refusal.ensures.words c.refusal.ensures.down refl

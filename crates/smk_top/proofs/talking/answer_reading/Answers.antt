@@ -17,7 +17,7 @@ use Rattle.smk_top.proofs.talking.answer_reading.Goals as goal
 
 pub returns-then-appends-clause-answer : goal.returns-then-appends-clause-answer
 returns-then-appends-clause-answer g c bytes short reads =
-    refused (said_of c.args.session.catalog c.args.manner.now.fds.now) c.args.manner.now.read_only (g.F.Files.held c.args.files.now) _ (talk_at (state_of c.args.session) c.args.heard) bytes
+    refused (said_of c.args.stand.session.catalog c.args.stand.fds.now) c.args.manner.now.read_only (g.F.Files.held c.args.files.now) _ (talk_at (state_of c.args.stand.session) c.args.stand.before) bytes
     (reading_image c.args.reading.now) _ _ _ _ _ short reads c.if-manner.true (sym c.if-appends.ensures) refl c.refusal.ensures.words c.refusal.ensures.down refl
 
 pub returns-in-Ok-clause-answer : goal.returns-in-Ok-clause-answer
@@ -28,8 +28,8 @@ returns-in-Ok-clause-answer g c bytes short reads =
     ] in
     let read = rw c.catalog.ensures.book at c.in-Ok.ensures.read in
     let kinds = rw c.catalog.ensures.book at c.in-Ok.ensures.kinds in
-    c.answer_brought.ensures.answer (g.F.Files.held c.args.files.now) (g.F.Files.faults c.args.files.now) (g.F.Files.faults c.bring.new.files) bytes short reads may
-    (brought_rows (g.F.Files.held c.args.files.now) _ (appended_at (catalog_image c.args.session.catalog) (reading_image c.args.reading.now)) c.in-Ok.brought kinds read)
+    c.answer_brought.ensures.answer (g.F.Files.held c.args.files.now) c.args.manner.now.read_only (g.F.Files.faults c.args.files.now) (g.F.Files.faults c.bring.new.files) bytes short reads may
+    (brought_rows (g.F.Files.held c.args.files.now) _ (appended_at (catalog_image c.args.stand.session.catalog) (reading_image c.args.reading.now)) c.in-Ok.brought kinds read)
 
 pub returns-in-Ok-unbrought-clause-answer : goal.returns-in-Ok-unbrought-clause-answer
 returns-in-Ok-unbrought-clause-answer g c bytes short reads =
@@ -39,18 +39,18 @@ returns-in-Ok-unbrought-clause-answer g c bytes short reads =
     ] in
     let read = rw (c.in-Err-At.field-0-is, c.catalog.ensures.book) at c.in-Err-At.ensures.read in
     let asked = rw c.catalog.ensures.book at c.in-Err-At.ensures.asked in
-    unbrought (said_of c.args.session.catalog c.args.manner.now.fds.now) c.args.manner.now.read_only (g.F.Files.held c.args.files.now) _ (talk_at (state_of c.args.session) c.args.heard) bytes
+    unbrought (said_of c.args.stand.session.catalog c.args.stand.fds.now) c.args.manner.now.read_only (g.F.Files.held c.args.files.now) _ (talk_at (state_of c.args.stand.session) c.args.stand.before) bytes
     (reading_image c.args.reading.now) c.in-Err-At.fault _ _ _ _ _ short reads may asked read refl c.in-Ok-unbrought.ensures.words c.in-Ok-unbrought.ensures.down refl
 
 pub returns-in-Err-At-clause-answer : goal.returns-in-Err-At-clause-answer
 returns-in-Err-At-clause-answer g c bytes short reads =
-    forgone (said_of c.args.session.catalog c.args.manner.now.fds.now) c.args.manner.now.read_only (g.F.Files.held c.args.files.now) _ (talk_at (state_of c.args.session) c.args.heard) bytes
+    forgone (said_of c.args.stand.session.catalog c.args.stand.fds.now) c.args.manner.now.read_only (g.F.Files.held c.args.files.now) _ (talk_at (state_of c.args.stand.session) c.args.stand.before) bytes
     (reading_image c.args.reading.now) [] _ _ _ _ _ reads (inl refl) refl c.refusal-in-Err-unbrought.ensures.words c.refusal-in-Err-unbrought.ensures.down (omega arith)
 
 pub returns : goal.returns
 returns g c = record {
   answer = λ bytes short reads.
-      forgone (said_of c.args.session.catalog c.args.manner.now.fds.now) c.args.manner.now.read_only (g.F.Files.held c.args.files.now) _ (talk_at (state_of c.args.session) c.args.heard) bytes
+      forgone (said_of c.args.stand.session.catalog c.args.stand.fds.now) c.args.manner.now.read_only (g.F.Files.held c.args.files.now) _ (talk_at (state_of c.args.stand.session) c.args.stand.before) bytes
       (reading_image c.args.reading.now) [] _ _ _ _ _ reads (inl refl) refl c.refusal-in-Err.ensures.words c.refusal-in-Err.ensures.down (omega arith);
   book = refl;
   held = c.bring.ensures.held;

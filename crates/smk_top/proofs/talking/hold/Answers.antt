@@ -18,9 +18,9 @@ use Rattle.smk_top.proofs.talking.hold.Goals as goal
 pub returns-in-Some-clause-talked : goal.returns-in-Some-clause-talked
 returns-in-Some-clause-talked g c = broken c.in-Some.ending refl c.in-Some.ensures.gives
   where
-    broken : (e : Ending) → c.in-Some.ending ≡ e → ReplyGives (Rose (g.T.Talk.faults c.args.talk.now) (g.T.Talk.faults c.say_block.new.talk)) (g.T.Talk.told c.args.talk.now) (g.T.Talk.told c.say_block.new.talk) (block_of c.args.opening.now) (Some e)
+    broken : (e : Ending) → c.in-Some.ending ≡ e → ReplyGives (Rose (g.T.Talk.faults c.args.talk.now) (g.T.Talk.faults c.say_block.new.talk)) (g.T.Talk.told c.args.talk.now) (g.T.Talk.told c.say_block.new.talk) (block_of c.args.manner.now.opening.now) (Some e)
         → Talked (said_of c.args.session.catalog c.args.manner.now.fds.now) c.args.manner.now.read_only (g.F.Files.held c.args.files.now) (Rose (g.F.Files.faults c.args.files.now) (g.F.Files.faults c.args.files.now)) (Rose (g.T.Talk.faults c.args.talk.now) (g.T.Talk.faults c.say_block.new.talk))
-        (block_of c.args.opening.now) (talk_at (state_of c.args.session) 0) (g.T.Talk.told c.args.talk.now) (g.T.Talk.told c.say_block.new.talk) e false c.args.steps.now c.args.steps.now
+        (block_of c.args.manner.now.opening.now) (talk_at (state_of c.args.session) 0) (g.T.Talk.told c.args.talk.now) (g.T.Talk.told c.say_block.new.talk) e false c.args.steps.now c.args.steps.now
     broken Unsaid is (front, cause) = breaks_off _ _ _ _ _ _ _ _ _ _ front cause
     broken Ended is given = absurd given
     broken Unheard is given = absurd given
@@ -29,5 +29,5 @@ returns-in-Some-clause-talked g c = broken c.in-Some.ending refl c.in-Some.ensur
 pub returns-in-None-clause-talked : goal.returns-in-None-clause-talked
 returns-in-None-clause-talked g c =
     let said = rw c.in-None.is at c.say_block.ensures.gives in
-    begun_talk (said_of c.args.session.catalog c.args.manner.now.fds.now) c.args.manner.now.read_only (g.F.Files.held c.args.files.now) _ _ _ (block_of c.args.opening.now) _ (g.T.Talk.told c.args.talk.now) (g.T.Talk.told c.say_block.new.talk) (g.T.Talk.told c.take_turns.new.talk) _ _ _ _
+    begun_talk (said_of c.args.session.catalog c.args.manner.now.fds.now) c.args.manner.now.read_only (g.F.Files.held c.args.files.now) _ _ _ (block_of c.args.manner.now.opening.now) _ (g.T.Talk.told c.args.talk.now) (g.T.Talk.told c.say_block.new.talk) (g.T.Talk.told c.take_turns.new.talk) _ _ _ _
     (Rose-after _ _ _ c.say_block.ensures.later) said c.take_turns.ensures.talked
