@@ -295,7 +295,7 @@ fn unread_line(alloc: Global, number: u64, at: u64) -> Result<LineTold, AllocErr
     Ok(LineTold { text, counts })
 }
 
-/// What a line that says this comes to where it stands, and the session in the next state. A line that appends rows takes the first of these tables. After an error the session is as it was.
+/// What the line that comes next and says this comes to, and the session in the next state. A line that appends rows takes the first of these tables. After an error the session is as it was.
 pub fn tell_line<R: Threads + Sync, G: Gate + Sync, L: Ledger>(
     engine: &Engine<'_, R, G>,
     stand: Stand<'_>,

@@ -113,7 +113,7 @@ fn write_views<R: Threads + Sync, O: Sink>(
     Ok(counts)
 }
 
-// Writes the text of a line that says this where it stands, where it has one, and lets go of what it says. It tells the counts beside the session.
+// Writes the text of the line that comes next and says this, if it has one, and lets go of what it says. It tells the counts beside the session.
 fn write_line<R: Threads + Sync, G: Gate + Sync, O: Sink, L: Ledger>(
     engine: &Engine<'_, R, G>,
     stand: Stand<'_>,
@@ -141,7 +141,7 @@ fn write_line<R: Threads + Sync, G: Gate + Sync, O: Sink, L: Ledger>(
     Ok((session, counts))
 }
 
-// Writes the texts of the lines of the script of what is started, each before the next line is read, and counts them. The lines that append rows take its tables, line by line.
+// Writes the texts of the lines of a script, each before the next line is read, and counts them. The lines that append rows take the tables that were brought, line by line.
 fn write_lines<R: Threads + Sync, G: Gate + Sync, O: Sink, L: Ledger>(
     engine: &Engine<'_, R, G>,
     started: Started,
@@ -183,7 +183,7 @@ fn write_lines<R: Threads + Sync, G: Gate + Sync, O: Sink, L: Ledger>(
     Ok(counts)
 }
 
-/// Writes the report of a session that begins: the texts of the views, then those of the lines of its script, each before the next line is read. It tells what it counted. The lines that append rows take its tables, line by line.
+/// Writes the report of a session that begins: the texts of the views, then those of the lines of its script, each before the next line is read. It tells what it counted. The lines that append rows take the tables that were brought, line by line.
 pub fn write_report<R: Threads + Sync, G: Gate + Sync, O: Sink, L: Ledger>(
     engine: &Engine<'_, R, G>,
     settings: Settings,

@@ -43,7 +43,7 @@ const FORGONE: &[u8] = b"refused no memory\n";
 
 const TOO_LONG: &[u8] = b"refused line too long\n";
 
-/// How a conversation is held: the text that it begins with, the names of its book's dependencies, how the session works, and whether nothing may be appended.
+/// How a conversation is held: its opening, which is said first, the names of its book's dependencies, how the session works, and whether nothing may be appended.
 #[derive(Drop)]
 pub struct Manner<'a> {
     pub opening: &'a [u8],
@@ -375,7 +375,7 @@ fn take_turns<R: Threads + Sync, F: Files, T: Talk, G: Gate + Sync, L: Ledger>(
     }
 }
 
-/// A conversation with a session that begins: it says the text that it begins with, and then hears lines and answers each before it hears the next. Behind each text it says an empty line.
+/// A conversation with a session that begins: it says its opening, and then hears lines and answers each before it hears the next. Behind each text it says an empty line.
 pub fn hold<R: Threads + Sync, F: Files, T: Talk, G: Gate + Sync, L: Ledger>(
     engine: &Engine<'_, R, G>,
     manner: &Manner<'_>,
