@@ -16,6 +16,7 @@ ghost use Rattle.smk_inputs.specs.Image.{reading_image};
 ghost use Rattle.smk_inputs.specs.Collecting.{Loads, IsSayable};
 ghost use Rattle.smk_inputs.specs.declared.stop.Stop.TheVariants.{Exhausted as exhausted};
 
+use crate::engine::Engine;
 use crate::loading::load;
 use crate::script::{Reading, reading_of};
 use crate::settings::Settings;
@@ -24,20 +25,17 @@ use smk_base::{AnyLine, Catalog, Text};
 use smk_outside::{Files, Gate};
 use smk_parse::line_at;
 use smk_table::Table;
-use std::alloc::Global;
 use std::collections::VecDeque;
 use std::thread::Threads;
 
 // The table of the file that a line appends to the table of this name, where the book has it. Where it hasn't, nothing is read.
 fn bring_rows<R: Threads + Sync, F: Files, G: Gate + Sync>(
-    rt: &R,
-    alloc: Global,
+    engine: &Engine<'_, R, G>,
     settings: Settings,
     files: &mut F,
     catalog: &Catalog,
     table: &Text,
     file: &Text,
-    gate: &G,
 ) -> Result<Option<Table>, Stop>
     requires { All (λ info. AreColumns info.cols) catalog.now.tables }
     ensures read { Loads (F.held files.old) (Rose (F.faults files.old) (F.faults files.new)) (option_to_list (appended_by (catalog_image catalog.now) (AppendedLine table.now file.now)))
@@ -51,7 +49,7 @@ fn bring_rows<R: Threads + Sync, F: Files, G: Gate + Sync>(
     match catalog.table_place(table) {
         Some(t) => {
             let info = &catalog.tables.as_slice()[t];
-            let rows = load(rt, alloc, settings, files, file, info, gate)?;
+            let rows = load(engine, settings, files, file, info)?;
             Ok(Some(rows))
         }
         None => Ok(None),
@@ -60,13 +58,11 @@ fn bring_rows<R: Threads + Sync, F: Files, G: Gate + Sync>(
 
 /// The table that a line brings, if it brings one. Only where it appends to a table of the book a file is read.
 pub fn bring<R: Threads + Sync, F: Files, G: Gate + Sync>(
-    rt: &R,
-    alloc: Global,
+    engine: &Engine<'_, R, G>,
     settings: Settings,
     files: &mut F,
     catalog: &Catalog,
     reading: &Reading,
-    gate: &G,
 ) -> Result<Option<Table>, Stop>
     requires { All (λ info. AreColumns info.cols) catalog.now.tables }
     ensures read { Loads (F.held files.old) (Rose (F.faults files.old) (F.faults files.new)) (option_to_list (appended_at (catalog_image catalog.now) (reading_image reading.now)))
@@ -79,7 +75,7 @@ pub fn bring<R: Threads + Sync, F: Files, G: Gate + Sync>(
 {
     match reading {
         Reading::Asks(AnyLine::Append { table, file }) => {
-            bring_rows(rt, alloc, settings, files, catalog, table, file, gate)
+            bring_rows(engine, settings, files, catalog, table, file)
         }
         Reading::Asks(AnyLine::Plain(_) | AnyLine::Ask(_) | AnyLine::Profile { .. })
         | Reading::Nothing
@@ -100,13 +96,11 @@ fn keep(added: &mut VecDeque<Table>, brought: Option<Table>) -> Result<(), Stop>
 
 /// The tables that the lines of a script bring, line by line. Nothing else is kept of the lines.
 pub fn read_added<R: Threads + Sync, F: Files, G: Gate + Sync>(
-    rt: &R,
-    alloc: Global,
+    engine: &Engine<'_, R, G>,
     settings: Settings,
     files: &mut F,
     catalog: &Catalog,
     script: &[u8],
-    gate: &G,
 ) -> Result<VecDeque<Table>, Stop>
     requires { All (λ info. AreColumns info.cols) catalog.now.tables }
     ensures read { (said : List readings.Reading) → AreReadings (lines script.now) said
@@ -116,11 +110,11 @@ pub fn read_added<R: Threads + Sync, F: Files, G: Gate + Sync>(
     ensures held { F.held files.new ≡ F.held files.old }
     ensures later { F.faults files.old ≤ F.faults files.new }
 {
-    let mut added = VecDeque::new(alloc);
+    let mut added = VecDeque::new(engine.alloc);
     let mut from = 0;
     while let Some(span) = line_at(script, from) {
-        let reading = reading_of(alloc, &script[span.start..span.end])?;
-        let found = bring(rt, alloc, settings, files, catalog, &reading, gate);
+        let reading = reading_of(engine.alloc, &script[span.start..span.end])?;
+        let found = bring(engine, settings, files, catalog, &reading);
         drop(reading);
         let brought = found?;
         keep(&mut added, brought)?;

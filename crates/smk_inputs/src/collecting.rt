@@ -20,6 +20,7 @@ ghost use Rattle.smk_inputs.specs.Collecting.{ReadsNamed, ReadsAll, IsSayable};
 use crate::adding::read_added;
 use crate::called::Flights;
 use crate::demo_texts::DemoTexts;
+use crate::engine::Engine;
 use crate::inputs::Inputs;
 use crate::loading::load_all;
 use crate::opening::{OpenedBook, open_book};
@@ -31,7 +32,6 @@ use smk_base::{Catalog, DEMO_BOOK_NAME, DEMO_SCRIPT_NAME, Text, without_mark};
 use smk_demo::demo;
 use smk_outside::{Files, Gate};
 use smk_table::Table;
-use std::alloc::Global;
 use std::collections::VecDeque;
 use std::thread::Threads;
 
@@ -45,13 +45,11 @@ struct Rest {
 
 // What is read after a book: its tables, the script, and the files that the lines of the script append.
 fn read_rest<R: Threads + Sync, F: Files, G: Gate + Sync>(
-    rt: &R,
-    alloc: Global,
+    engine: &Engine<'_, R, G>,
     settings: Settings,
     files: &mut F,
     catalog: &Catalog,
     script: Option<&Text>,
-    gate: &G,
 ) -> Result<Rest, Stop>
     requires { All (λ info. AreColumns info.cols) catalog.now.tables }
     ensures read { (book : List ℕ) (said : BookSaid) → said.catalog ≡ catalog_image catalog.now → ReadsNamed (F.held files.old) (Unit {0}) book (λ held. OpensBook held book) (λ opened. opened) (Ok said)
@@ -63,10 +61,10 @@ fn read_rest<R: Threads + Sync, F: Files, G: Gate + Sync>(
     ensures later { F.faults files.old ≤ F.faults files.new }
 {
     let infos = catalog.tables.as_slice();
-    let tables = load_all(rt, alloc, settings, files, infos, gate)?;
-    let script = open_script(alloc, files, script)?;
+    let tables = load_all(engine, settings, files, infos)?;
+    let script = open_script(engine.alloc, files, script)?;
     let text = without_mark(script.as_slice());
-    let added = read_added(rt, alloc, settings, files, catalog, text, gate)?;
+    let added = read_added(engine, settings, files, catalog, text)?;
     Ok(Rest {
         tables,
         script,
@@ -76,13 +74,11 @@ fn read_rest<R: Threads + Sync, F: Files, G: Gate + Sync>(
 
 /// What is read of the book and the script of these names, or why that stops.
 pub fn read_all<R: Threads + Sync, F: Files, G: Gate + Sync>(
-    rt: &R,
-    alloc: Global,
+    engine: &Engine<'_, R, G>,
     settings: Settings,
     files: &mut F,
     book: &Text,
     script: Option<&Text>,
-    gate: &G,
 ) -> Result<Inputs, Stop>
     ensures read { ReadsAll (F.held files.old) (Rose (F.faults files.old) (F.faults files.new)) book.now (option_copied script.entry) inputs_with script_bytes result }
     ensures shown { IfOk result (λ inputs. AreDependencies (catalog_image inputs.book) inputs.fds) }
@@ -91,8 +87,8 @@ pub fn read_all<R: Threads + Sync, F: Files, G: Gate + Sync>(
     ensures held { F.held files.new ≡ F.held files.old }
     ensures later { F.faults files.old ≤ F.faults files.new }
 {
-    let OpenedBook { book, fds } = open_book(alloc, files, book)?;
-    let rest = read_rest(rt, alloc, settings, files, book.catalog(), script, gate)?;
+    let OpenedBook { book, fds } = open_book(engine.alloc, files, book)?;
+    let rest = read_rest(engine, settings, files, book.catalog(), script)?;
     Ok(Inputs {
         book,
         fds,
@@ -104,11 +100,9 @@ pub fn read_all<R: Threads + Sync, F: Files, G: Gate + Sync>(
 
 /// What is read of the texts of a demo.
 pub fn read_demo<R: Threads + Sync, G: Gate + Sync>(
-    rt: &R,
-    alloc: Global,
+    engine: &Engine<'_, R, G>,
     settings: Settings,
     flights: Flights,
-    gate: &G,
 ) -> Result<Inputs, Stop>
     ensures read { ReadsAll (Some (text_named (demo_of flights.count))) (Rose 0 0) DEMO_BOOK_NAME.now (Some DEMO_SCRIPT_NAME.now) inputs_with script_bytes result }
     ensures shown { IfOk result (λ inputs. AreDependencies (catalog_image inputs.book) inputs.fds) }
@@ -116,9 +110,9 @@ pub fn read_demo<R: Threads + Sync, G: Gate + Sync>(
     ensures said { IsSayable result }
 {
     let mut texts = DemoTexts {
-        texts: demo(alloc, flights.count)?,
+        texts: demo(engine.alloc, flights.count)?,
     };
-    let book = text_of(alloc, DEMO_BOOK_NAME)?;
-    let script = text_of(alloc, DEMO_SCRIPT_NAME)?;
-    read_all(rt, alloc, settings, &mut texts, &book, Some(&script), gate)
+    let book = text_of(engine.alloc, DEMO_BOOK_NAME)?;
+    let script = text_of(engine.alloc, DEMO_SCRIPT_NAME)?;
+    read_all(engine, settings, &mut texts, &book, Some(&script))
 }

@@ -10,6 +10,7 @@ ghost use Rattle.smk_base.specs.declared.fault.TableFault.TheVariants as table_f
 ghost use Rattle.smk_outside.specs.Outside.{Rose};
 ghost use Rattle.smk_inputs.specs.Collecting.{Answers, ReadsNamed, Loads, IsSayable};
 
+use crate::engine::Engine;
 use crate::files::content;
 use crate::settings::Settings;
 use crate::stop::Stop;
@@ -58,12 +59,10 @@ fn fault_of_table(alloc: Global, info: &TableInfo, fault: TableFault) -> Result<
 // The table of the bytes of a file.
 #[tactic(auto, using(crate::proofs::TableLoads::kinds_declared))]
 fn table_of<R: Threads + Sync, G: Gate + Sync>(
-    rt: &R,
-    alloc: Global,
+    engine: &Engine<'_, R, G>,
     settings: Settings,
     info: &TableInfo,
     bytes: &[u8],
-    gate: &G,
 ) -> Result<Table, Stop>
     requires { AreColumns info.now.cols }
     ensures answers { Answers (λ answer. outcomes.or_table_fault info.now (csv_tables.table_of info.now.cols bytes.now) ≡ answer) (λ table. table.rows) result }
@@ -71,22 +70,28 @@ fn table_of<R: Threads + Sync, G: Gate + Sync>(
     ensures said { IsSayable result }
 {
     let workers = settings.workers;
-    match read_table_in_pieces(rt, alloc, bytes, &info.cols, workers, PIECE_BYTES, gate) {
+    match read_table_in_pieces(
+        engine.rt,
+        engine.alloc,
+        bytes,
+        &info.cols,
+        workers,
+        PIECE_BYTES,
+        engine.gate,
+    ) {
         Ok(table) => Ok(table),
         Err(TableFault::NoMemory) => Err(Stop::Exhausted),
-        Err(fault) => Err(Stop::At(fault_of_table(alloc, info, fault)?)),
+        Err(fault) => Err(Stop::At(fault_of_table(engine.alloc, info, fault)?)),
     }
 }
 
 /// A table, by a file, which is its own or that of rows that are appended to it.
 pub fn load<R: Threads + Sync, F: Files, G: Gate + Sync>(
-    rt: &R,
-    alloc: Global,
+    engine: &Engine<'_, R, G>,
     settings: Settings,
     files: &mut F,
     file: &Text,
     info: &TableInfo,
-    gate: &G,
 ) -> Result<Table, Stop>
     requires { AreColumns info.now.cols }
     ensures read { ReadsNamed (F.held files.old) (Rose (F.faults files.old) (F.faults files.new)) file.now
@@ -96,18 +101,16 @@ pub fn load<R: Threads + Sync, F: Files, G: Gate + Sync>(
     ensures held { F.held files.new ≡ F.held files.old }
     ensures later { F.faults files.old ≤ F.faults files.new }
 {
-    let bytes = content(alloc, files, file)?;
-    table_of(rt, alloc, settings, info, bytes.as_slice(), gate)
+    let bytes = content(engine.alloc, files, file)?;
+    table_of(engine, settings, info, bytes.as_slice())
 }
 
 /// The tables of a book, in its order.
 pub fn load_all<R: Threads + Sync, F: Files, G: Gate + Sync>(
-    rt: &R,
-    alloc: Global,
+    engine: &Engine<'_, R, G>,
     settings: Settings,
     files: &mut F,
     infos: &[TableInfo],
-    gate: &G,
 ) -> Result<Vec<Table>, Stop>
     requires { All (λ info. AreColumns info.cols) infos.now }
     ensures read { Loads (F.held files.old) (Rose (F.faults files.old) (F.faults files.new)) infos.now (λ tables. each_rows tables.items) result }
@@ -116,9 +119,9 @@ pub fn load_all<R: Threads + Sync, F: Files, G: Gate + Sync>(
     ensures held { F.held files.new ≡ F.held files.old }
     ensures later { F.faults files.old ≤ F.faults files.new }
 {
-    let mut tables = Vec::new(alloc);
+    let mut tables = Vec::new(engine.alloc);
     for info in infos {
-        tables.push(load(rt, alloc, settings, files, &info.file, info, gate)?)?;
+        tables.push(load(engine, settings, files, &info.file, info)?)?;
     }
     Ok(tables)
 }

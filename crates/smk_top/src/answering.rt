@@ -25,14 +25,13 @@ ghost use Rattle.smk_top.specs.Counting.{counts_told};
 
 use crate::counting::NOTHING;
 use crate::counts::Counts;
-use crate::engine::Engine;
 use crate::stand::Stand;
 use smk_ask::{ask, ask_text};
 use smk_base::{
     AnyLine, AppendRefusal, AppendReply, AskLine, AskReply, Line, Names, ProfileReply, Text,
 };
 use smk_grow::{append_text, append_told};
-use smk_inputs::Reading;
+use smk_inputs::{Engine, Reading};
 use smk_outside::{Gate, Steps};
 use smk_profile::{profile, profile_text};
 use smk_report::{bad_line_text, reply_text};

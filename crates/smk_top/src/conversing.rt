@@ -11,7 +11,6 @@ ghost use Rattle.smk_session.specs.Sessions.{workbook_of};
 ghost use Rattle.smk_inputs.specs.Collecting.{IsSayable};
 ghost use Rattle.smk_top.specs.TalkEndings.{BeginsTalk, ConverseEnds, SaysReady, SaysTalkFault, SaysTalkEnd, TalkWorks, is_called};
 
-use crate::engine::Engine;
 use crate::program::{say_fault, say_no_memory};
 use crate::reporting::text_of_view;
 use crate::starting::{Started, start};
@@ -20,7 +19,7 @@ use crate::talking::{Manner, TalkEnd, hold};
 use smk_base::{DEMO_BOOK_NAME, Fault, Text};
 use smk_demo::demo;
 use smk_inputs::{
-    DemoTexts, RunTexts, Settings, Stop, TalkWords, read_all, read_talk_words, text_of,
+    DemoTexts, Engine, RunTexts, Settings, Stop, TalkWords, read_all, read_talk_words, text_of,
 };
 use smk_outside::{Ending, Files, Gate, Sink, Steps, Talk};
 use smk_session::Session;
@@ -68,15 +67,7 @@ fn begin<R: Threads + Sync, F: Files, T: Talk, G: Gate + Sync, L: Ledger>(
     ensures talk_later { T.faults talk.old ≤ T.faults talk.new }
 {
     let settings = call.settings;
-    let inputs = read_all(
-        engine.rt,
-        engine.alloc,
-        settings,
-        files,
-        book,
-        None,
-        engine.gate,
-    )?;
+    let inputs = read_all(engine, settings, files, book, None)?;
     let Started { session, fds, .. } = start(engine, inputs, settings, steps)?;
     let opening = views_text(engine.rt, engine.alloc, settings, &session)?;
     let manner = Manner {

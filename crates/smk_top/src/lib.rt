@@ -5,7 +5,6 @@ mod answering;
 mod conversing;
 mod counting;
 mod counts;
-mod engine;
 mod laws;
 mod nowhere;
 mod program;

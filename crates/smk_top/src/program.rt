@@ -19,13 +19,14 @@ ghost use Rattle.smk_top.specs.Looking.{LooksBehindReading, RunLooks};
 ghost use Rattle.smk_top.specs.Statuses.{IsReadingFault, status_of_fault, status_of_report};
 
 use crate::counts::Counts;
-use crate::engine::Engine;
 use crate::reporting::write_report;
 use crate::starting::start;
 use crate::status::Status;
 use crate::summarizing::summarize;
 use smk_base::Fault;
-use smk_inputs::{Inputs, RunTexts, RunWords, Settings, Stop, read_all, read_demo, read_words};
+use smk_inputs::{
+    Engine, Inputs, RunTexts, RunWords, Settings, Stop, read_all, read_demo, read_words,
+};
 use smk_outside::{Files, Gate, Sink, Steps};
 use smk_report::{fault_text, no_memory_text};
 use std::alloc::Global;
@@ -124,20 +125,12 @@ fn work_on<R: Threads + Sync, F: Files, O: Sink, G: Gate + Sync, L: Ledger>(
     match &call.texts {
         RunTexts::Files { book, script } => {
             let settings = call.settings;
-            let inputs = read_all(
-                engine.rt,
-                engine.alloc,
-                settings,
-                files,
-                book,
-                script.as_ref(),
-                engine.gate,
-            )?;
+            let inputs = read_all(engine, settings, files, book, script.as_ref())?;
             report(engine, settings, inputs, out, steps)
         }
         RunTexts::Demo(flights) => {
             let settings = call.settings;
-            let inputs = read_demo(engine.rt, engine.alloc, settings, *flights, engine.gate)?;
+            let inputs = read_demo(engine, settings, *flights)?;
             summarize(engine, *flights, settings, inputs, out, steps)
         }
     }

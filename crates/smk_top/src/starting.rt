@@ -14,9 +14,8 @@ ghost use Rattle.smk_inputs.specs.Loaded.{workbook_read, script_bytes};
 ghost use Rattle.smk_inputs.specs.Collecting.{Starts, IsSayable};
 ghost use Rattle.smk_top.specs.declared.starting.Started.{Started as StartedShape};
 
-use crate::engine::Engine;
 use smk_base::{Catalog, Fault, ListOf, TableInfo, Text, ViewInfo};
-use smk_inputs::{Inputs, Settings, Stop};
+use smk_inputs::{Engine, Inputs, Settings, Stop};
 use smk_outside::{Gate, Steps};
 use smk_session::{Session, StartFault};
 use smk_table::Table;

@@ -20,13 +20,12 @@ ghost use Rattle.smk_top.specs.Endings.{Reports};
 ghost use Rattle.smk_top.specs.Writing.{PutsPieces};
 
 use crate::counts::Counts;
-use crate::engine::Engine;
 use crate::nowhere::Nowhere;
 use crate::reporting::{put, write_report};
 use crate::starting::{Started, start};
 use smk_base::{ListOf, Size, Sizes};
 use smk_demo::summary_text;
-use smk_inputs::{Flights, Inputs, Settings, Stop};
+use smk_inputs::{Engine, Flights, Inputs, Settings, Stop};
 use smk_outside::{Gate, Sink, Steps};
 use smk_session::Session;
 use std::alloc::{AllocError, Global};

@@ -20,10 +20,9 @@ ghost use Rattle.smk_inputs.specs.Loaded.{said_of};
 ghost use Rattle.smk_top.specs.Talking.{AnswersLine, TurnTaken, Talked, talk_at, words_bytes};
 
 use crate::answering::{LineTold, tell_line};
-use crate::engine::Engine;
 use crate::stand::Stand;
 use smk_base::{AnyLine, Fault, Names, without_mark};
-use smk_inputs::{Reading, Settings, Stop, bring, reading_of};
+use smk_inputs::{Engine, Reading, Settings, Stop, bring, reading_of};
 use smk_outside::{Ending, Files, Gate, Heard, Steps, Talk, TalkFault};
 use smk_report::fault_text;
 use smk_session::Session;
@@ -185,13 +184,11 @@ fn answer_reading<R: Threads + Sync, F: Files, G: Gate + Sync, L: Ledger>(
         return (stand.session, refusal(READ_ONLY));
     }
     match bring(
-        engine.rt,
-        engine.alloc,
+        engine,
         manner.settings,
         files,
         stand.session.catalog(),
         reading,
-        engine.gate,
     ) {
         Ok(brought) => answer_brought(engine, stand, reading, brought, steps),
         Err(Stop::At(fault)) => match unbrought(engine.alloc, &fault) {
