@@ -1,9 +1,8 @@
 // A conversation, from its words to its end.
 ghost use Rattle.std.specs.Prelude.{◌≡◌, ◌≤◌, ℕ, List, Some, map, IfOk};
-ghost use Rattle.std.specs.List.{flat_map};
 ghost use Rattle.smk_inputs.specs.Image.{texts_image};
 ghost use Rattle.smk_model.specs.FaultTexts.{IsSaid};
-ghost use Rattle.smk_model.specs.TalkWords.{talk_call_of, talk_source};
+ghost use Rattle.smk_model.specs.TalkWords.{talk_source};
 ghost use Rattle.smk_model.specs.ViewTexts as view_texts;
 ghost use Rattle.smk_model.specs.Words.{Demo};
 ghost use Rattle.smk_outside.specs.Outside.{Rose};
