@@ -2,7 +2,7 @@
 ghost use Rattle.std.specs.Prelude.{◌≡◌, ◌≤◌, ◌<◌, ◌^◌, [], ◌∷◌, map, length, None, Ok, Err, IfOk, OnOk, ◌≢◌};
 ghost use Rattle.smk_base.specs.PlanImage.{expr_of, unary_of};
 ghost use Rattle.smk_base.specs.TreeImage.{ask_image};
-ghost use Rattle.smk_base.specs.declared.type_fault.TypeFault.TheVariants.{NoMemory};
+ghost use Rattle.smk_base.specs.declared.book.type_fault.TypeFault.TheVariants.{NoMemory};
 ghost use Rattle.smk_base.specs.declared.rel.TheConstants.{COLUMN_LIMIT};
 ghost use Rattle.smk_model.specs.Asks.{chain, steps_reply, typed_steps};
 ghost use Rattle.smk_model.specs.Limits.{KeepsSteps};

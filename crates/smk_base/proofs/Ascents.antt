@@ -5,7 +5,7 @@ use Rattle.std.proofs.lemmas.List.{length-append, length-map, map-append, get_or
 use Rattle.std.proofs.lemmas.List.Elements.{All-push}
 use Rattle.smk_base.specs.Picks.{IsAscending}
 use Rattle.smk_base.specs.Needs.{IsNeed, is_needed}
-use Rattle.smk_base.specs.declared.need.Needed.{Needed}
+use Rattle.smk_base.specs.declared.book.need.Needed.{Needed}
 
 ascending_more : (A : List ℕ) (x : ℕ) → IsAscending A → ((i : ℕ) → i < length A → get_or A i 0 < x) → IsAscending (A ++ x ∷ [])
 ascending_more A x rises above i j before low =

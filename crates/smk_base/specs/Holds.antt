@@ -1,7 +1,7 @@
 -- Where the values of a column of a Rel lie.
 use Rattle.std.specs.Prelude.{None, false}
-use Rattle.smk_base.specs.declared.rel_column.Hold.{Hold}
-use Rattle.smk_base.specs.declared.rel_column.Hold.TheVariants.{Own, Shared}
+use Rattle.smk_base.specs.declared.rel.rel_column.Hold.{Hold}
+use Rattle.smk_base.specs.declared.rel.rel_column.Hold.TheVariants.{Own, Shared}
 use Rattle.smk_base.specs.Images.{ColumnImage}
 
 -- the column: one that copies share has no room

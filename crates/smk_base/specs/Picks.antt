@@ -1,6 +1,6 @@
 -- Rows picked of some tables.
 use Rattle.std.specs.Prelude.{ℕ, ◌<◌, List, length, map, slice_index_or, All}
-use Rattle.smk_base.specs.declared.pick.Pick.{Pick}
+use Rattle.smk_base.specs.declared.list.table_rids.Pick.{Pick}
 
 -- ascending without repeats: every number is less than each later one
 abbrev pub IsAscending : List ℕ → Type 0

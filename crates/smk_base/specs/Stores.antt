@@ -4,8 +4,8 @@ use Rattle.smk_base.specs.declared.value.Kind.{Kind}
 use Rattle.smk_base.specs.declared.value.Kind.TheVariants as kinds
 use Rattle.smk_base.specs.declared.value.Value.{Value}
 use Rattle.smk_base.specs.declared.value.Value.TheVariants as values
-use Rattle.smk_base.specs.declared.value_column.Store.{Store}
-use Rattle.smk_base.specs.declared.value_column.Store.TheVariants.{Small, Wide, Texts}
+use Rattle.smk_base.specs.declared.rel.value_column.Store.{Store}
+use Rattle.smk_base.specs.declared.rel.value_column.Store.TheVariants.{Small, Wide, Texts}
 use Rattle.smk_base.specs.Images.{ColumnImage}
 use Rattle.smk_base.specs.NextTexts.{next_text}
 use Rattle.smk_base.specs.TextColumns.{text_firsts}

@@ -3,7 +3,7 @@ use Rattle.std.specs.Prelude.{◌≡◌, ℕ, ◌<◌, ◌≤◌, List, [], leng
 use Rattle.smk_base.specs.Dicts.{text_eq}
 use Rattle.smk_base.specs.Firsts.{first_items}
 use Rattle.smk_base.specs.declared.rel.TheConstants.{ROW_LIMIT}
-use Rattle.smk_base.specs.declared.text_column.TheConstants.{NO_CODE}
+use Rattle.smk_base.specs.declared.rel.text_column.TheConstants.{NO_CODE}
 
 -- the texts of a column, how many more fit without memory, and how many of them may be new
 pub record TextImage : Type 0 where

@@ -1,15 +1,15 @@
 -- Books and lines as they are written, without where they lie in memory: the data that the definitions of the grammar and of the typing are over. Parts that hold no box stand as they are declared.
 use Rattle.std.specs.Prelude.{ℕ, List}
-use Rattle.smk_base.specs.declared.plan.CmpOp.{CmpOp}
-use Rattle.smk_base.specs.declared.tree.Word.{Word}
-use Rattle.smk_base.specs.declared.tree.Decl.{Decl}
-use Rattle.smk_base.specs.declared.tree.Extra.{Extra}
-use Rattle.smk_base.specs.declared.tree.ItemTree.{ItemTree}
-use Rattle.smk_base.specs.declared.tree.AggTree.{AggTree}
-use Rattle.smk_base.specs.declared.tree.PairTree.{PairTree}
-use Rattle.smk_base.specs.declared.tree.Term.{Term}
-use Rattle.smk_base.specs.declared.tree.Marks.{Marks}
-use Rattle.smk_base.specs.declared.tree.Line.{Line}
+use Rattle.smk_base.specs.declared.book.plan.CmpOp.{CmpOp}
+use Rattle.smk_base.specs.declared.book.tree.Word.{Word}
+use Rattle.smk_base.specs.declared.book.tree.Decl.{Decl}
+use Rattle.smk_base.specs.declared.book.tree.Extra.{Extra}
+use Rattle.smk_base.specs.declared.book.tree.ItemTree.{ItemTree}
+use Rattle.smk_base.specs.declared.book.tree.AggTree.{AggTree}
+use Rattle.smk_base.specs.declared.book.tree.PairTree.{PairTree}
+use Rattle.smk_base.specs.declared.book.tree.Term.{Term}
+use Rattle.smk_base.specs.declared.book.tree.Marks.{Marks}
+use Rattle.smk_base.specs.declared.book.tree.Line.{Line}
 
 -- a predicate
 pub data PredImage : Type 0 where

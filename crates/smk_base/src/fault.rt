@@ -1,8 +1,8 @@
 ghost use Rattle.std.specs.Prelude.{◌≡◌};
 ghost use Rattle.smk_base.specs.declared.fault.BookFault.TheVariants.{NoMemory};
 
+use crate::book::type_fault::TypeFault;
 use crate::list::Text;
-use crate::type_fault::TypeFault;
 use std::alloc::{AllocError, AllocFailed};
 use thiserror::Error;
 

@@ -1,6 +1,10 @@
 ghost use Rattle.std.specs.Prelude.{◌≡◌, [], ◌∷◌, ◌++◌, IfOk, OnOk, OnErr};
 
-use crate::copied::Copied;
+pub(crate) mod copied;
+pub(crate) mod picks;
+pub(crate) mod table_rids;
+
+use crate::list::copied::Copied;
 use crate::value::Value;
 use std::alloc::{AllocError, Global};
 use std::hash::{Hash, Hasher};

@@ -10,16 +10,24 @@ ghost use Rattle.smk_base.specs.TextColumns.{text_firsts, text_in};
 ghost use Rattle.smk_base.specs.declared.value.Kind.TheVariants as kinds;
 ghost use Rattle.smk_base.specs.declared.value.Value.TheVariants as values;
 
-use crate::columns::{
+pub(crate) mod dict;
+mod each_column;
+mod hashed;
+pub(crate) mod rel_builder;
+mod rel_column;
+mod text_column;
+pub(crate) mod value_column;
+
+use crate::list::Row;
+use crate::rel::dict::Dict;
+use crate::rel::each_column::{
     append_each, begun_columns, copy_each, gather_each, make_each_ready, own_each, owned_each,
     pick_each, push_each, share_each, truncate_each, widen_each,
 };
-use crate::dict::Dict;
-use crate::list::Row;
-use crate::rel_column::RelColumn;
-use crate::text_column::TextColumn;
+use crate::rel::rel_column::RelColumn;
+use crate::rel::text_column::TextColumn;
+use crate::rel::value_column::{Ints, ValueColumn};
 use crate::value::{CellRef, Kind, Value};
-use crate::value_column::{Ints, ValueColumn};
 use std::alloc::{AllocError, Global};
 use std::marker::Model;
 

@@ -1,7 +1,7 @@
-use crate::catalog::ColNames;
+use crate::book::catalog::ColNames;
+use crate::book::type_fault::TypeFault;
 use crate::list::{ListOf, Rids};
 use crate::rel::Rel;
-use crate::type_fault::TypeFault;
 
 /// The answer to a line of a script.
 #[derive(Drop)]

@@ -5,8 +5,8 @@ use Rattle.std.specs.Ordering.{int_cmp}
 use Rattle.smk_base.specs.Places.{places}
 use Rattle.smk_base.specs.Plans.{Comparison}
 use Rattle.smk_base.specs.Rels.{column_values}
-use Rattle.smk_base.specs.declared.plan.CmpOp.{CmpOp}
-use Rattle.smk_base.specs.declared.plan.Operand.TheVariants as operands
+use Rattle.smk_base.specs.declared.book.plan.CmpOp.{CmpOp}
+use Rattle.smk_base.specs.declared.book.plan.Operand.TheVariants as operands
 use Rattle.smk_base.specs.declared.value.Value.{Value}
 use Rattle.smk_base.specs.declared.value.Value.TheVariants as values
 use Rattle.smk_model.specs.Values.{Row, holds, meets, value_cmp}

@@ -4,7 +4,7 @@ use Rattle.std.specs.List.{AllZip}
 use Rattle.std.proofs.lemmas.List.{map-append, length-map, length-append, get_or-map}
 use Rattle.std.proofs.lemmas.List.Elements.{All-map, All-take, All-drop, All-weaker}
 use Rattle.std.proofs.lemmas.Slice.Zip.{AllZip-long}
-use Rattle.smk_base.specs.declared.plan.Agg.{Agg}
+use Rattle.smk_base.specs.declared.book.plan.Agg.{Agg}
 use Rattle.smk_base.specs.declared.value.Kind.TheVariants.{Int, Text}
 use Rattle.smk_base.specs.declared.value.Kind.{Kind}
 use Rattle.smk_base.specs.declared.value.Value.{Value}

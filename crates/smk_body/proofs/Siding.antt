@@ -5,8 +5,8 @@ use Rattle.std.proofs.lemmas.List.{map-append, map-id, length-map, length-replic
 use Rattle.std.proofs.lemmas.List.Elements.{All-take, All-drop}
 use Rattle.std.proofs.Math.Seq.{take-append_seam, drop-append_seam}
 use Rattle.smk_base.specs.Places.{Lists, upto, own_lists, inverted, IsPlaces}
-use Rattle.smk_base.specs.declared.plan.Dir.{Dir}
-use Rattle.smk_base.specs.declared.plan.Item.{Item}
+use Rattle.smk_base.specs.declared.book.plan.Dir.{Dir}
+use Rattle.smk_base.specs.declared.book.plan.Item.{Item}
 use Rattle.smk_rid.proofs.Rising.{rising_is}
 use Rattle.smk_model.specs.Values.{Row}
 use Rattle.smk_model.specs.Plain.{firsts}
@@ -19,8 +19,8 @@ use Rattle.smk_model.proofs.Directions.{length_each}
 use Rattle.smk_model.proofs.Parts.{map_agree}
 use Rattle.smk_model.proofs.Classes.{place_in, classes_are}
 use Rattle.smk_body.specs.Locals.{side_of}
-use Rattle.smk_body.specs.declared.local.Side.{Side}
-use Rattle.smk_body.specs.declared.local.Local.{Local}
+use Rattle.smk_body.specs.declared.keep.local.Side.{Side}
+use Rattle.smk_body.specs.declared.keep.local.Local.{Local}
 use Rattle.smk_body.proofs.Classing.{length_of, rest_of}
 
 -- a side whose output rows each come from one row, and one whose input rows each reach one

@@ -3,7 +3,7 @@ use Rattle.std.proofs.Common.{◌≡◌, ◌<◌, ◌≤◌, ℕ, true, List, �
 use Rattle.std.proofs.lemmas.List.{length-append, length-drop}
 use Rattle.smk_base.specs.Plans.{Formula, Unary, Selection, Projection, Distinction, Grouping, Binary, Equijoin, ThetaJoin, CrossProduct, BagUnion, SetUnion}
 use Rattle.smk_base.specs.Rels.{Relation}
-use Rattle.smk_base.specs.declared.plan.Dir.{Dir}
+use Rattle.smk_base.specs.declared.book.plan.Dir.{Dir}
 use Rattle.smk_base.specs.declared.rel.TheConstants.{ROW_LIMIT}
 use Rattle.smk_keys.specs.Classes.{ClassesImage, classes_of}
 use Rattle.smk_model.specs.Lineage.{matching, meeting, row_at}
@@ -20,7 +20,7 @@ use Rattle.smk_body.specs.Bounds.{AreBoth, AreGroups, AreRowPairs, ArePlaces, Bo
 use Rattle.smk_body.specs.Findings.{finding1, finding2, left_want, local_of, pairs_found}
 use Rattle.smk_body.specs.Halves.{AreNumbered, AreWithin, PlacePairs, halves_of}
 use Rattle.smk_body.specs.Locals.{local1, local2}
-use Rattle.smk_body.specs.declared.local.Want.{Want}
+use Rattle.smk_body.specs.declared.keep.local.Want.{Want}
 
 pub lineage1 : (op : Unary) (input : Relation) (want : Dir) → local_of (finding1 op input) (left_want want) ≡ local1 op input.rows want
 lineage1 (Selection formula) input want = ap one_side (by_sources want refl refl (one_each.selection formula input.rows))

@@ -5,7 +5,7 @@ use Rattle.std.specs.Ordering.{int_cmp, is_lt, is_gt}
 use Rattle.smk_base.specs.declared.rel.TheConstants.{ROW_LIMIT}
 use Rattle.smk_base.specs.Places.{upto, places}
 use Rattle.smk_base.specs.Plans.{Formula}
-use Rattle.smk_base.specs.declared.plan.CmpOp.{CmpOp}
+use Rattle.smk_base.specs.declared.book.plan.CmpOp.{CmpOp}
 use Rattle.smk_base.specs.declared.value.Value.{Value}
 use Rattle.smk_model.specs.Values.{Row, holds, meets, value_cmp}
 use Rattle.smk_model.specs.Plain.{lesser, greater}

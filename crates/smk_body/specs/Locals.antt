@@ -2,12 +2,12 @@
 use Rattle.std.specs.Prelude.{Bool, true, false, not, ◌&&◌, List, Option, Some, None}
 use Rattle.smk_base.specs.Places.{Lists}
 use Rattle.smk_base.specs.Plans.{Unary, Binary}
-use Rattle.smk_base.specs.declared.plan.Dir.{Dir}
+use Rattle.smk_base.specs.declared.book.plan.Dir.{Dir}
 use Rattle.smk_model.specs.Values.{Row}
 use Rattle.smk_model.specs.Locals.{back1, fwd1, back_left, fwd_left, back_right, fwd_right}
-use Rattle.smk_body.specs.declared.local.Side.{Side}
-use Rattle.smk_body.specs.declared.local.Local.{Local}
-use Rattle.smk_body.specs.declared.local.Want.{Want}
+use Rattle.smk_body.specs.declared.keep.local.Side.{Side}
+use Rattle.smk_body.specs.declared.keep.local.Local.{Local}
+use Rattle.smk_body.specs.declared.keep.local.Want.{Want}
 
 -- lists where they are wanted
 abbrev pub wanted : Bool → Lists → Option Lists

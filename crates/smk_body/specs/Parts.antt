@@ -1,7 +1,7 @@
 -- Columns of rows, and aggregates of classes, of which each may be made beside the others.
 use Rattle.std.specs.Prelude.{ℕ, ◌<◌, ◌≤◌, List, length, map, All}
 use Rattle.smk_base.specs.declared.rel.TheConstants.{COLUMN_LIMIT, ROW_LIMIT}
-use Rattle.smk_base.specs.declared.plan.Agg.{Agg}
+use Rattle.smk_base.specs.declared.book.plan.Agg.{Agg}
 use Rattle.smk_base.specs.Places.{upto}
 use Rattle.smk_base.specs.Rels.{Relation, kind_in, picked, rows_at}
 use Rattle.smk_keys.specs.Classes.{ClassesImage}

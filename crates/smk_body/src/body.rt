@@ -3,20 +3,20 @@ ghost use Rattle.std.specs.Prelude.{◌≡◌, ◌<◌, ◌≤◌, ◌||◌, Boo
 ghost use Rattle.smk_base.specs.PlanImage.{binary_of, unary_of};
 ghost use Rattle.smk_base.specs.Plans.{Binary, Unary};
 ghost use Rattle.smk_base.specs.Rels.{Relation};
-ghost use Rattle.smk_base.specs.declared.plan.Dir.{Dir};
+ghost use Rattle.smk_base.specs.declared.book.plan.Dir.{Dir};
 ghost use Rattle.smk_base.specs.declared.rel.TheConstants.{ROW_LIMIT};
 ghost use Rattle.smk_model.specs.Plain.{step1, step2};
 ghost use Rattle.smk_model.specs.Kinds.{Fits1, Fits2, kinds1, kinds2};
 ghost use Rattle.smk_body.specs.Findings.{finding1, finding2, left_want, local_of, turned_of, want_at_once};
 ghost use Rattle.smk_body.specs.Locals.{local1, local2, is_nothing, is_nothing2};
-ghost use Rattle.smk_body.specs.declared.local.Local.{Local};
-ghost use Rattle.smk_body.specs.declared.local.Want.{Want};
+ghost use Rattle.smk_body.specs.declared.keep.local.Local.{Local};
+ghost use Rattle.smk_body.specs.declared.keep.local.Want.{Want};
 
 use crate::crew::{Crew, Work};
-use crate::finding::{find1, find2};
-use crate::found::Made;
-use crate::local::{Local, Want};
-use crate::making::{rows_and_turned1, rows_and_turned2};
+use crate::find::found::Made;
+use crate::find::{find1, find2};
+use crate::keep::local::{Local, Want};
+use crate::make::{rows_and_turned1, rows_and_turned2};
 use smk_base::{Dir, Op1, Op2, Rel};
 use std::alloc::{AllocError, Global};
 use std::marker::Sync;

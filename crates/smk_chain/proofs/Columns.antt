@@ -7,8 +7,8 @@ use Rattle.smk_base.specs.declared.value.Value.{Value}
 use Rattle.smk_base.specs.declared.value.Value.TheVariants as values
 use Rattle.smk_base.specs.declared.value.Kind.{Kind}
 use Rattle.smk_base.specs.declared.value.Kind.TheVariants as kinds
-use Rattle.smk_base.specs.declared.plan.Agg.{Agg}
-use Rattle.smk_base.specs.declared.plan.Agg.TheVariants.{Count, Sum}
+use Rattle.smk_base.specs.declared.book.plan.Agg.{Agg}
+use Rattle.smk_base.specs.declared.book.plan.Agg.TheVariants.{Count, Sum}
 use Rattle.smk_base.specs.Places.{upto}
 use Rattle.smk_base.specs.Plans.{Grouping}
 use Rattle.smk_base.specs.Rels.{Fits, RowFits, IsWithin, IsWider, kind_in}

@@ -11,10 +11,10 @@ use Rattle.smk_base.specs.declared.value.Kind.{Kind}
 use Rattle.smk_base.specs.declared.value.Kind.TheVariants as kinds
 use Rattle.smk_base.specs.declared.value.Value.{Value}
 use Rattle.smk_base.specs.declared.value.Value.TheVariants as values
-use Rattle.smk_base.specs.declared.plan.Item.{Item}
-use Rattle.smk_base.specs.declared.plan.Item.TheVariants.{Col, Bin}
-use Rattle.smk_base.specs.declared.plan.Agg.{Agg}
-use Rattle.smk_base.specs.declared.plan.Agg.TheVariants.{Count, Sum, Min, Max}
+use Rattle.smk_base.specs.declared.book.plan.Item.{Item}
+use Rattle.smk_base.specs.declared.book.plan.Item.TheVariants.{Col, Bin}
+use Rattle.smk_base.specs.declared.book.plan.Agg.{Agg}
+use Rattle.smk_base.specs.declared.book.plan.Agg.TheVariants.{Count, Sum, Min, Max}
 use Rattle.smk_base.specs.Plans.{Unary, Selection, Projection, Distinction, Grouping, Expr, Leaf, Apply, Combine}
 use Rattle.smk_base.proofs.Kept.{Within-bin}
 use Rattle.smk_body.proofs.Fitting.{value_fits, total_within, All-head, All-rest}

@@ -3,8 +3,8 @@ use Rattle.std.proofs.Common.{◌≡◌, ◌∙◌, ℕ, ◌+◌, ◌<◌, ◌�
 use Rattle.std.proofs.lemmas.Bool.{cases_Bool, eqb-true, le-ltb}
 use Rattle.std.proofs.lemmas.List.{length-map, length-append, get_or-map, get_or-set_same, take-append-drop}
 use Rattle.smk_base.specs.Places.{Lists, upto, pairs_of, has, inverted, composed, followed}
-use Rattle.smk_base.specs.declared.plan.Agg.{Agg}
-use Rattle.smk_base.specs.declared.need.Needed.{Needed}
+use Rattle.smk_base.specs.declared.book.plan.Agg.{Agg}
+use Rattle.smk_base.specs.declared.book.need.Needed.{Needed}
 use Rattle.smk_base.specs.Plans.{Grouping, Expr, Leaf, Apply, Combine}
 use Rattle.smk_keys.specs.Classes.{ClassesImage}
 use Rattle.smk_model.specs.Values.{Row}

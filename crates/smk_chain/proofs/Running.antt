@@ -2,8 +2,8 @@
 use Rattle.std.proofs.Common.{◌≡◌, ◌∙◌, ℕ, ◌+◌, ◌<◌, ◌≤◌, true, List, [], ◌++◌, length, map, refl, sym, ap, subst, arith, All, get_or, nat_eq, Option, Some, None}
 use Rattle.std.proofs.lemmas.List.{length-map, length-append, get_or-map}
 use Rattle.smk_base.specs.declared.value.Kind.{Kind}
-use Rattle.smk_base.specs.declared.plan.Agg.{Agg}
-use Rattle.smk_base.specs.declared.need.Needed.{Needed}
+use Rattle.smk_base.specs.declared.book.plan.Agg.{Agg}
+use Rattle.smk_base.specs.declared.book.need.Needed.{Needed}
 use Rattle.smk_base.specs.declared.rel.TheConstants.{ROW_LIMIT}
 use Rattle.smk_base.specs.Plans.{Grouping, Expr, Apply}
 use Rattle.smk_base.specs.Rels.{Relation, RowFits, kind_in}

@@ -1,7 +1,7 @@
 -- The maps of old rows and those of new ones, put together.
 use Rattle.std.specs.Prelude.{◌≡◌, ℕ, ◌+◌, ◌<◌, ◌≤◌, cond, true, false, nat_eq, List, length, map, slice_index_or, Option, Some, None, All}
 use Rattle.smk_base.specs.Places.{Lists, upto, pairs_of, inverted, empty_lists, followed}
-use Rattle.smk_base.specs.declared.need.Needed.{Needed}
+use Rattle.smk_base.specs.declared.book.need.Needed.{Needed}
 use Rattle.smk_base.specs.declared.rel.TheConstants.{ROW_LIMIT}
 use Rattle.smk_keys.specs.Classes.{ClassesImage}
 use Rattle.smk_model.specs.Values.{Row}

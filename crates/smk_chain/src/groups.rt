@@ -5,7 +5,7 @@ ghost use Rattle.smk_base.specs.Places.{upto};
 ghost use Rattle.smk_base.specs.Plans.{Grouping};
 ghost use Rattle.smk_base.specs.Rels.{Fits, RowFits, kind_in};
 ghost use Rattle.smk_base.specs.declared.value.Kind.TheVariants.{Int};
-ghost use Rattle.smk_base.specs.declared.plan.Agg.TheVariants.{Sum};
+ghost use Rattle.smk_base.specs.declared.book.plan.Agg.TheVariants.{Sum};
 ghost use Rattle.smk_model.specs.Plain.{aggregate, key_of, step1};
 ghost use Rattle.smk_model.specs.Lineage.{sub};
 ghost use Rattle.smk_model.specs.Kinds.{AggFits, IsSummed};

@@ -18,7 +18,7 @@ use Rattle.smk_compose.specs.KeptMaps.{held_at, kept_at}
 use Rattle.smk_compose.specs.Walk.{AreDirected, AreWhole, WholeWhereNeeded}
 use Rattle.smk_compose.specs.Through.{is_heavy, has_heavy, node_fault, pairs_fault, or_empty, filled, map_at, no_map, no_need}
 use Rattle.smk_compose.specs.declared.kept_maps.KeptMap.{KeptMap}
-use Rattle.smk_base.specs.declared.need.Needed.{Needed}
+use Rattle.smk_base.specs.declared.book.need.Needed.{Needed}
 use Rattle.smk_compose.proofs.Wants.{mk_same}
 use Rattle.smk_compose.proofs.Counts.{pairs_part, pairs_unscanned}
 use Rattle.smk_model.proofs.Counts.{pairs_forward}

@@ -7,7 +7,7 @@ use Rattle.std.proofs.lemmas.List.{map-append, drop-map, length-map, get_or_defa
 use Rattle.std.proofs.lemmas.List.Sums.{sum_by-append}
 use Rattle.smk_base.specs.Rels.{Relation}
 use Rattle.smk_base.specs.Picks.{IsAscending}
-use Rattle.smk_base.specs.declared.pick.Pick.{Pick}
+use Rattle.smk_base.specs.declared.list.table_rids.Pick.{Pick}
 use Rattle.smk_model.specs.Values.{Row}
 use Rattle.smk_model.specs.Lineage.{sub}
 use Rattle.smk_model.specs.Selection.{each_rows, each_kinds, rows_in, picked, kept_rows, selected, PickFits}

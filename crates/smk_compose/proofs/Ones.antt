@@ -15,7 +15,7 @@ use Rattle.smk_body.specs.Locals.{wanted}
 use Rattle.smk_compose.specs.KeptMaps.{held_at}
 use Rattle.smk_compose.specs.Through.{chained, Chains, through, side1, Passes, node_fault}
 use Rattle.smk_compose.specs.declared.kept_maps.KeptMap.{KeptMap}
-use Rattle.smk_base.specs.declared.need.Needed.{Needed}
+use Rattle.smk_base.specs.declared.book.need.Needed.{Needed}
 use Rattle.smk_compose.proofs.Wants.{mk_same, map_agree}
 
 -- one map

@@ -13,7 +13,7 @@ use Rattle.smk_body.specs.Locals.{wanted}
 use Rattle.smk_model.specs.NodeFaults.{pair_limit}
 use Rattle.smk_compose.specs.KeptMaps.{held_at}
 use Rattle.smk_compose.specs.Through.{is_heavy, has_heavy, scan_at}
-use Rattle.smk_base.specs.declared.need.Needed.{Needed}
+use Rattle.smk_base.specs.declared.book.need.Needed.{Needed}
 use Rattle.smk_compose.proofs.Wants.{mk_same, map_agree}
 
 wanted_scan : (e d : Bool) (X Y : Lists) → (e ≡ true → X ≡ Y) → wanted (e && d) X ≡ wanted (d && (e || false)) Y

@@ -15,7 +15,7 @@ use Rattle.smk_body.specs.Locals.{wanted}
 use Rattle.smk_compose.specs.KeptMaps.{held_at}
 use Rattle.smk_compose.specs.Through.{chained, joined, Joins, together, together_all, side_left, side_right, Meets, map_at, no_map, no_need}
 use Rattle.smk_compose.specs.declared.kept_maps.KeptMap.{KeptMap}
-use Rattle.smk_base.specs.declared.need.Needed.{Needed}
+use Rattle.smk_base.specs.declared.book.need.Needed.{Needed}
 use Rattle.smk_compose.proofs.Chains.{composed_sets}
 use Rattle.smk_compose.proofs.Wants.{mk_same}
 use Rattle.smk_compose.proofs.Togethers.{joined_same, joins_along, lists_same}

@@ -5,9 +5,9 @@ use Rattle.std.specs.Option.{option_or}
 use Rattle.std.proofs.lemmas.List.{length-map, get_or-drop, get_or-map}
 use Rattle.smk_base.specs.Plans.{Unary, Binary, Equijoin, Grouping, Expr, Leaf, Apply, Combine}
 use Rattle.smk_base.specs.Rels.{Relation}
-use Rattle.smk_base.specs.declared.need.Needed.{Needed}
-use Rattle.smk_base.specs.declared.plan.Agg.{Agg}
-use Rattle.smk_base.specs.declared.pick.Pick.{Pick}
+use Rattle.smk_base.specs.declared.book.need.Needed.{Needed}
+use Rattle.smk_base.specs.declared.book.plan.Agg.{Agg}
+use Rattle.smk_base.specs.declared.list.table_rids.Pick.{Pick}
 use Rattle.smk_model.specs.Values.{Row}
 use Rattle.smk_model.specs.Plain.{step1, step2, leaves, width, eval, whole, table_at}
 use Rattle.smk_model.specs.Kinds.{Fits2, GroupFits, kinds1, kinds2}

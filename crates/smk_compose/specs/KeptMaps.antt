@@ -2,7 +2,7 @@
 use Rattle.std.specs.Prelude.{ℕ, ◌<◌, ◌&&◌, List, All}
 use Rattle.smk_base.specs.Places.{has}
 use Rattle.smk_base.specs.Plans.{Expr}
-use Rattle.smk_base.specs.declared.need.Needed.{Needed}
+use Rattle.smk_base.specs.declared.book.need.Needed.{Needed}
 use Rattle.smk_model.specs.Values.{Row}
 use Rattle.smk_model.specs.Plain.{leaves}
 use Rattle.smk_model.specs.Composed.{backs, forwards}

@@ -3,7 +3,7 @@ use Rattle.std.specs.Prelude.{◌≡◌, ℕ, ◌<◌, List, [], length, map, sl
 use Rattle.smk_base.specs.Needs.{is_needed}
 use Rattle.smk_base.specs.Plans.{Expr}
 use Rattle.smk_base.specs.Rels.{Relation}
-use Rattle.smk_base.specs.declared.need.Needed.{Needed}
+use Rattle.smk_base.specs.declared.book.need.Needed.{Needed}
 use Rattle.smk_model.specs.Values.{Row}
 use Rattle.smk_model.specs.Plain.{leaves, width, eval, table_at}
 use Rattle.smk_model.specs.Selection.{each_kinds, each_rows, plan_kinds}

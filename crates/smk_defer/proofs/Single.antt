@@ -7,14 +7,14 @@ use Rattle.std.specs.Coded.{×_prop}
 use Rattle.std.specs.List.{AllZip}
 use Rattle.smk_base.specs.declared.value.Kind.{Kind}
 use Rattle.smk_base.specs.declared.value.Kind.TheVariants.{Int, Text}
-use Rattle.smk_base.specs.declared.plan.Operand.TheVariants as operands
-use Rattle.smk_base.specs.declared.plan.Item.{Item}
-use Rattle.smk_base.specs.declared.plan.Item.TheVariants as items
-use Rattle.smk_base.specs.declared.plan.Agg.{Agg}
-use Rattle.smk_base.specs.declared.plan.Agg.TheVariants.{Count, Sum, Min, Max}
+use Rattle.smk_base.specs.declared.book.plan.Operand.TheVariants as operands
+use Rattle.smk_base.specs.declared.book.plan.Item.{Item}
+use Rattle.smk_base.specs.declared.book.plan.Item.TheVariants as items
+use Rattle.smk_base.specs.declared.book.plan.Agg.{Agg}
+use Rattle.smk_base.specs.declared.book.plan.Agg.TheVariants.{Count, Sum, Min, Max}
 use Rattle.smk_base.specs.Plans.{Formula, Comparison, Conjunction, Disjunction, Negation, Unary, Selection, Projection, Distinction, Grouping, Binary, Equijoin, ThetaJoin, CrossProduct, BagUnion, SetUnion}
-use Rattle.smk_base.specs.declared.plan.Op1.{Op1}
-use Rattle.smk_base.specs.declared.plan.Op2.{Op2}
+use Rattle.smk_base.specs.declared.book.plan.Op1.{Op1}
+use Rattle.smk_base.specs.declared.book.plan.Op2.{Op2}
 use Rattle.smk_base.specs.PlanImage.{unary_of, binary_of}
 use Rattle.smk_base.specs.Rels.{Relation}
 use Rattle.smk_model.specs.Names.{same_sort}

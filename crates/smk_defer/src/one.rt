@@ -3,7 +3,7 @@
 ghost use Rattle.std.specs.Prelude.{◌≡◌, ◌<◌, All, IfOk, List, length, map};
 ghost use Rattle.smk_base.specs.PlanImage.{formula_of, unary_of};
 ghost use Rattle.smk_base.specs.Plans.{Distinction, Grouping, Selection};
-ghost use Rattle.smk_base.specs.declared.plan.Agg.{Agg};
+ghost use Rattle.smk_base.specs.declared.book.plan.Agg.{Agg};
 ghost use Rattle.smk_model.specs.Kinds.{Fits1, FormulaFits, ItemsFit};
 ghost use Rattle.smk_model.specs.Plain.{firsts, image, key_of};
 ghost use Rattle.smk_body.specs.Locals.{local1};

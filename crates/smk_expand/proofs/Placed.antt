@@ -5,7 +5,7 @@ use Rattle.std.proofs.lemmas.List.{map_push}
 use Rattle.std.proofs.lemmas.List.Concat.{flat_map-append}
 use Rattle.smk_base.specs.Trees.{StmtImage}
 use Rattle.smk_base.specs.TreeImage.{stmt_image}
-use Rattle.smk_base.specs.declared.tree.Stmt.{Stmt}
+use Rattle.smk_base.specs.declared.book.tree.Stmt.{Stmt}
 
 -- two statements, one after the other
 pub two_put : (a b c : List Stmt) (x y : Stmt) (p q : StmtImage) → b ≡ a ++ x ∷ [] → c ≡ b ++ y ∷ [] → stmt_image x ≡ p → stmt_image y ≡ q → map stmt_image c ≡ map stmt_image a ++ p ∷ q ∷ []

@@ -7,7 +7,7 @@ use Rattle.std.proofs.lemmas.List.Sums.{sum_by-cons, sum_by_push}
 use Rattle.smk_base.specs.Places.{upto}
 use Rattle.smk_model.specs.Appends.{depends_on, scans, scanning}
 use Rattle.smk_model.specs.Looks.{looks_of_back}
-use Rattle.smk_base.specs.declared.catalog.Back.{Back}
+use Rattle.smk_base.specs.declared.book.catalog.Back.{Back}
 use Rattle.smk_model.specs.Growth.{is_growing}
 use Rattle.smk_model.specs.Opening.{first_some, view_fault}
 use Rattle.smk_model.specs.Plain.{whole}

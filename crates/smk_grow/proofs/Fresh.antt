@@ -3,7 +3,7 @@ use Rattle.std.proofs.Common.{◌≡◌, ℕ, ◌<◌, ◌≤◌, true, List, le
 use Rattle.std.proofs.lemmas.Bool.{cases_Bool}
 use Rattle.smk_base.specs.CatalogImage.{catalog_image}
 use Rattle.smk_base.specs.Rels.{Relation}
-use Rattle.smk_base.specs.declared.catalog.Catalog.{Catalog}
+use Rattle.smk_base.specs.declared.book.catalog.Catalog.{Catalog}
 use Rattle.smk_model.specs.Appends.{scans}
 use Rattle.smk_model.specs.NodeFaults.{FullRows, FullPairs}
 use Rattle.smk_model.specs.Opening.{ViewFault, view_fault}
@@ -12,8 +12,8 @@ use Rattle.smk_model.specs.Selection.{each_rows, row_limit, rows_in}
 use Rattle.smk_model.specs.Session.{Workbook, view_at}
 use Rattle.smk_compose.specs.declared.kept_maps.Run.{Run}
 use Rattle.smk_session.specs.Sessions.{IsStartFault, opened, workbook_image}
-use Rattle.smk_session.specs.declared.fault.StartFault.{StartFault}
-use Rattle.smk_session.specs.declared.fault.StartFault.TheVariants.{Rows, Pairs, NoMemory}
+use Rattle.smk_session.specs.declared.start.fault.StartFault.{StartFault}
+use Rattle.smk_session.specs.declared.start.fault.StartFault.TheVariants.{Rows, Pairs, NoMemory}
 use Rattle.smk_grow.specs.Grown.{rows_of, first_tables}
 use Rattle.smk_grow.specs.Renewed.{apart_view, chains, kept_view, scan_fault, looks_apart}
 use Rattle.smk_grow.proofs.Grown.{other_with, rows_is}

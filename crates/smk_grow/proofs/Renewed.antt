@@ -5,7 +5,7 @@ use Rattle.smk_base.specs.CatalogImage.{CatalogImage}
 use Rattle.smk_base.specs.Places.{Lists, empty_lists, has}
 use Rattle.smk_base.specs.Plans.{Expr}
 use Rattle.smk_base.specs.Rels.{Relation}
-use Rattle.smk_base.specs.declared.need.Needed.{Needed}
+use Rattle.smk_base.specs.declared.book.need.Needed.{Needed}
 use Rattle.smk_model.specs.Appends.{scans}
 use Rattle.smk_model.specs.Composed.{backs, forwards, rows_over}
 use Rattle.smk_model.specs.Growth.{is_growing}

@@ -5,9 +5,9 @@ use Rattle.std.proofs.lemmas.Bool.{false≢true}
 use Rattle.std.proofs.lemmas.List.{length-set}
 use Rattle.smk_base.specs.Places.{Lists, upto}
 use Rattle.smk_base.specs.Rels.{Relation}
-use Rattle.smk_base.specs.declared.catalog.Back.{Back}
-use Rattle.smk_base.specs.declared.catalog.BackExtra.{BackExtra}
-use Rattle.smk_base.specs.declared.catalog.BackExtra.TheVariants as extras
+use Rattle.smk_base.specs.declared.book.catalog.Back.{Back}
+use Rattle.smk_base.specs.declared.book.catalog.BackExtra.{BackExtra}
+use Rattle.smk_base.specs.declared.book.catalog.BackExtra.TheVariants as extras
 use Rattle.smk_base.specs.CatalogImage.{CatalogImage}
 use Rattle.smk_model.specs.Appends.{depends_on, scans}
 use Rattle.smk_model.specs.Catalogs.{table_kinds}

@@ -3,10 +3,10 @@ use Rattle.std.proofs.Common.{◌≡◌, ◌∙◌, ℕ, suc, ◌+◌, ◌<◌, 
 use Rattle.std.specs.List.{cons_option, filter_map}
 use Rattle.std.specs.Option.{option_to_list}
 use Rattle.smk_base.specs.Rels.{Relation}
-use Rattle.smk_base.specs.declared.catalog.Back.{Back}
-use Rattle.smk_base.specs.declared.catalog.BackExtra.{BackExtra}
-use Rattle.smk_base.specs.declared.catalog.BackExtra.TheVariants as extras
-use Rattle.smk_base.specs.declared.plan.Agg.{Agg}
+use Rattle.smk_base.specs.declared.book.catalog.Back.{Back}
+use Rattle.smk_base.specs.declared.book.catalog.BackExtra.{BackExtra}
+use Rattle.smk_base.specs.declared.book.catalog.BackExtra.TheVariants as extras
+use Rattle.smk_base.specs.declared.book.plan.Agg.{Agg}
 use Rattle.smk_base.specs.declared.value.Kind.{Kind}
 use Rattle.smk_model.specs.Session.{Workbook}
 use Rattle.smk_skip.specs.Splits.{SplitImage}

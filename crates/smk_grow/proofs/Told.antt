@@ -3,7 +3,7 @@ use Rattle.std.proofs.Common.{◌≡◌, ℕ, ◌<◌, true, List, [], length, a
 use Rattle.std.proofs.lemmas.Bool.{false≢true}
 use Rattle.smk_base.specs.CatalogImage.{CatalogImage, catalog_image}
 use Rattle.smk_base.specs.Rels.{Relation}
-use Rattle.smk_base.specs.declared.catalog.Catalog.{Catalog}
+use Rattle.smk_base.specs.declared.book.catalog.Catalog.{Catalog}
 use Rattle.smk_base.specs.declared.reply.AppendReply.{AppendReply}
 use Rattle.smk_base.specs.declared.reply.AppendReply.TheVariants.{Added}
 use Rattle.smk_model.specs.Appends.{append_turn, scanning, scans, turn_at}

@@ -3,7 +3,7 @@ use Rattle.std.specs.Prelude.{ℕ, Bool, cond, ◌&&◌, List, [], ◌∷◌, le
 use Rattle.smk_base.specs.CatalogImage.{CatalogImage}
 use Rattle.smk_base.specs.Places.{empty_lists, upto}
 use Rattle.smk_base.specs.Rels.{Relation}
-use Rattle.smk_base.specs.declared.catalog.Back.{Back}
+use Rattle.smk_base.specs.declared.book.catalog.Back.{Back}
 use Rattle.smk_model.specs.Appends.{depends_on, scans}
 use Rattle.smk_model.specs.Growth.{is_growing}
 use Rattle.smk_model.specs.Looks.{looks_of_back}

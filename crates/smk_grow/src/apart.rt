@@ -5,7 +5,7 @@ ghost use Rattle.smk_base.specs.CatalogImage.{catalog_image};
 ghost use Rattle.smk_base.specs.Places.{upto};
 ghost use Rattle.smk_session.specs.Parts.{parts_image};
 ghost use Rattle.smk_session.specs.Sessions.{IsSession, workbook_image, workbook_of};
-ghost use Rattle.smk_session.specs.declared.fault.StartFault.TheVariants as faults;
+ghost use Rattle.smk_session.specs.declared.start.fault.StartFault.TheVariants as faults;
 ghost use Rattle.smk_compose.specs.Fetched.{table_of};
 ghost use Rattle.smk_grow.specs.Grown.{rows_of};
 ghost use Rattle.smk_grow.specs.Renewals.{IsRenewal, book_of};

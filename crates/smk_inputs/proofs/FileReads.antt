@@ -6,12 +6,12 @@ use Rattle.smk_base.specs.declared.fault.Fault.{Fault}
 use Rattle.smk_base.specs.declared.fault.Fault.TheVariants.{Book, Types}
 use Rattle.smk_base.specs.declared.fault.BookFault.{BookFault}
 use Rattle.smk_base.specs.declared.fault.BookFault.TheVariants as book_faults
-use Rattle.smk_base.specs.declared.tree.Book.{Book as Statements}
+use Rattle.smk_base.specs.declared.book.tree.Book.{Book as Statements}
 use Rattle.smk_base.specs.Trees.{StmtImage}
 use Rattle.smk_base.specs.TreeImage.{book_image, ask_image, any_image}
 use Rattle.smk_base.specs.declared.fault.LineFault.TheVariants as line_faults
-use Rattle.smk_base.specs.declared.tree.AnyLine.{AnyLine}
-use Rattle.smk_base.specs.declared.tree.AnyLine.TheVariants as any_lines
+use Rattle.smk_base.specs.declared.book.tree.AnyLine.{AnyLine}
+use Rattle.smk_base.specs.declared.book.tree.AnyLine.TheVariants as any_lines
 use Rattle.smk_model.specs.Names.{Typed}
 use Rattle.smk_model.specs.Typing.{types}
 use Rattle.smk_model.specs.Expanded.{expanded, dependency_names, HasNoDependency}

@@ -10,7 +10,7 @@ use Rattle.std.proofs.lemmas.Option.{slice_get_past}
 use Rattle.smk_base.specs.CatalogImage.{CatalogImage, table_place}
 use Rattle.smk_base.specs.Dicts.{text_eq}
 use Rattle.smk_base.specs.Trees.{PlainLine, AskedLine, ProfiledLine, AppendedLine}
-use Rattle.smk_base.specs.declared.catalog.TableInfo.{TableInfo}
+use Rattle.smk_base.specs.declared.book.catalog.TableInfo.{TableInfo}
 use Rattle.smk_model.specs.Outcome.{filed, appended_by, appended_at}
 use Rattle.smk_model.specs.Readings.{Reading, Nothing, Asks, Unread}
 use Rattle.smk_model.specs.ReplyTexts.{table_named}

@@ -3,10 +3,10 @@ use Rattle.std.proofs.Common.{◌≡◌, ◌∙◌, ◌+◌, ◌<◌, ℕ, List,
 use Rattle.std.proofs.lemmas.List.{map-append, take_more}
 use Rattle.smk_base.specs.Rels.{Relation}
 use Rattle.smk_base.specs.declared.value.Kind.{Kind}
-use Rattle.smk_base.specs.declared.col_decl.ColDecl.{ColDecl}
-use Rattle.smk_base.specs.declared.catalog.Column.{Column}
+use Rattle.smk_base.specs.declared.book.col_decl.ColDecl.{ColDecl}
+use Rattle.smk_base.specs.declared.book.catalog.Column.{Column}
 use Rattle.smk_base.specs.declared.fault.Fault.{Fault}
-use Rattle.smk_base.specs.declared.catalog.TableInfo.{TableInfo}
+use Rattle.smk_base.specs.declared.book.catalog.TableInfo.{TableInfo}
 use Rattle.smk_model.specs.Values.{Row}
 use Rattle.smk_model.specs.Tables.{all_or_first, kinds_of}
 use Rattle.smk_model.specs.Catalogs.{table_kinds, each_table_kinds}

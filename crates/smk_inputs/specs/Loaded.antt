@@ -1,7 +1,7 @@
 -- What a run reads, as the definitions see it.
 use Rattle.std.specs.Prelude.{ℕ, List}
 use Rattle.smk_base.specs.CatalogImage.{catalog_image}
-use Rattle.smk_base.specs.declared.catalog.Catalog.{Catalog}
+use Rattle.smk_base.specs.declared.book.catalog.Catalog.{Catalog}
 use Rattle.smk_model.specs.Outcome as outcomes
 use Rattle.smk_model.specs.Reports.{BookSaid}
 use Rattle.smk_model.specs.Readings.{Reading}

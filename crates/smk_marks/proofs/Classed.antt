@@ -6,7 +6,7 @@ use Rattle.std.proofs.lemmas.List.{append-nil, length-map}
 use Rattle.std.proofs.lemmas.List.Elements.{All-map}
 use Rattle.std.proofs.lemmas.Bool.{cases_Bool, eqb-true, eq-eqb, false≢true, false_from_ne_true}
 use Rattle.smk_base.specs.Rels.{Relation, kind_in}
-use Rattle.smk_base.specs.declared.plan.Agg.{Agg}
+use Rattle.smk_base.specs.declared.book.plan.Agg.{Agg}
 use Rattle.smk_base.specs.declared.value.Kind.{Kind}
 use Rattle.smk_model.specs.Values.{Row}
 use Rattle.smk_model.specs.Plain.{aggregate}

@@ -2,11 +2,11 @@
 use Rattle.std.specs.Prelude.{◌≡◌, ℕ, pos, ◌<◌, nat_eq, true, List, [], ◌∷◌, ◌≤◌, length, map, All, None, Some}
 use Rattle.std.specs.List.{filter, list_all}
 use Rattle.smk_base.specs.Places.{Lists}
-use Rattle.smk_base.specs.declared.plan.Agg.{Agg}
-use Rattle.smk_base.specs.declared.pick.Pick.{Pick}
-use Rattle.smk_base.specs.declared.plan.Agg.TheVariants.{Count, Sum}
-use Rattle.smk_base.specs.declared.plan.CmpOp.TheVariants.{Ne}
-use Rattle.smk_base.specs.declared.plan.Operand.TheVariants.{Lit}
+use Rattle.smk_base.specs.declared.book.plan.Agg.{Agg}
+use Rattle.smk_base.specs.declared.list.table_rids.Pick.{Pick}
+use Rattle.smk_base.specs.declared.book.plan.Agg.TheVariants.{Count, Sum}
+use Rattle.smk_base.specs.declared.book.plan.CmpOp.TheVariants.{Ne}
+use Rattle.smk_base.specs.declared.book.plan.Operand.TheVariants.{Lit}
 use Rattle.smk_base.specs.declared.value.Value.{Value}
 use Rattle.smk_base.specs.declared.value.Value.TheVariants.{Int, Text}
 use Rattle.smk_base.specs.Plans.{Comparison, Selection, Grouping, Expr, Leaf, Apply}

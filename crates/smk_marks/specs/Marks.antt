@@ -3,8 +3,8 @@ use Rattle.std.specs.Prelude.{ℕ, pos, Bool, ◌&&◌, true, false, nat_eq, nat
 use Rattle.std.specs.List.{flat_map, filter}
 use Rattle.smk_base.specs.Places.{Lists, list_at, places, upto}
 use Rattle.smk_base.specs.declared.value.Value.TheVariants.{Int}
-use Rattle.smk_base.specs.declared.plan.Agg.{Agg}
-use Rattle.smk_base.specs.declared.plan.Agg.TheVariants.{Count, Sum, Min, Max}
+use Rattle.smk_base.specs.declared.book.plan.Agg.{Agg}
+use Rattle.smk_base.specs.declared.book.plan.Agg.TheVariants.{Count, Sum, Min, Max}
 use Rattle.smk_base.specs.Plans.{Selection, Projection, Distinction, Grouping, Expr, Leaf, Apply, Combine}
 use Rattle.smk_model.specs.Values.{Row, meets}
 use Rattle.smk_model.specs.Plain.{image, aggregate}

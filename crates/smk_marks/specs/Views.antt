@@ -5,8 +5,8 @@ use Rattle.smk_base.specs.PlanImage.{expr_of}
 use Rattle.smk_base.specs.Places.{upto}
 use Rattle.smk_base.specs.Plans.{Selection, Projection, Distinction, Grouping, Expr, Leaf, Apply, Combine}
 use Rattle.smk_base.specs.Rels.{Relation, kind_in}
-use Rattle.smk_base.specs.declared.plan.Agg.{Agg}
-use Rattle.smk_base.specs.declared.plan.Agg.TheVariants.{Count, Sum, Min, Max}
+use Rattle.smk_base.specs.declared.book.plan.Agg.{Agg}
+use Rattle.smk_base.specs.declared.book.plan.Agg.TheVariants.{Count, Sum, Min, Max}
 use Rattle.smk_base.specs.declared.rel.TheConstants.{ROW_LIMIT}
 use Rattle.smk_base.specs.declared.value.Kind.{Kind}
 use Rattle.smk_base.specs.declared.value.Kind.TheVariants.{Int}

@@ -1,8 +1,8 @@
 -- What the test of two kinds says.
 use Rattle.std.proofs.Common.{◌≡◌, true, rules}
 use denote.Enum.Bare.{same_true}
-use Rattle.smk_base.specs.contracts.token.TokenKind as contracts
-use Rattle.smk_base.specs.declared.token.TokenKind.{TokenKind}
+use Rattle.smk_base.specs.contracts.book.token.TokenKind as contracts
+use Rattle.smk_base.specs.declared.book.token.TokenKind.{TokenKind}
 use Rattle.smk_model.specs.TokenKinds.{same_kind}
 
 pub same_is : (k j : TokenKind) → same_kind k j ≡ true → k ≡ j

@@ -8,7 +8,7 @@ use Rattle.smk_base.specs.CatalogImage.{CatalogImage, table_place}
 use Rattle.smk_base.specs.Needs.{is_needed}
 use Rattle.smk_base.specs.Places.{upto}
 use Rattle.smk_base.specs.Plans.{Expr, Leaf, Apply, Combine}
-use Rattle.smk_base.specs.declared.need.Needed.{Needed}
+use Rattle.smk_base.specs.declared.book.need.Needed.{Needed}
 use Rattle.smk_base.specs.declared.reply.AppendRefusal.{AppendRefusal}
 use Rattle.smk_base.specs.declared.reply.AppendRefusal.TheVariants.{TableRows}
 use Rattle.smk_model.specs.Values.{Row}

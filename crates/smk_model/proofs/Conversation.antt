@@ -7,7 +7,7 @@ use Rattle.smk_base.specs.CatalogImage.{CatalogImage, table_place}
 use Rattle.smk_base.specs.Dicts.{text_eq}
 use Rattle.smk_base.specs.Marks.{after_marks}
 use Rattle.smk_base.specs.Trees.{PlainLine, AskedLine, ProfiledLine, AppendedLine}
-use Rattle.smk_base.specs.declared.catalog.TableInfo.{TableInfo}
+use Rattle.smk_base.specs.declared.book.catalog.TableInfo.{TableInfo}
 use Rattle.smk_model.specs.Values.{Row}
 use Rattle.smk_model.specs.Appends.{turn_at, append_looks_at}
 use Rattle.smk_model.specs.Conversation.{HeardLine, TalkTurn, Replied, TalkState, turn_after, turn_text, turn_block, block_of, opening_block, turns_told, readings_of, rows_brought, brings, FilesBring, AreHeard, texts_read}

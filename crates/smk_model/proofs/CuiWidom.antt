@@ -4,8 +4,8 @@ use Rattle.std.specs.List.{flat_map, filter, All}
 use Rattle.std.proofs.lemmas.List.{get_or-map, length-append, length-map, append-nil, get_or_append_left, get_or-append_right, nil_from_length}
 use Rattle.std.proofs.lemmas.List.Elements.{filter-append, All-get_or, filter_passes, All-nil, All-append, All-map}
 use Rattle.std.proofs.lemmas.Bool.{eq-eqb, cases_Bool, or_left, or_right, false≢true, ltb-true, ltb-false}
-use Rattle.smk_base.specs.declared.plan.Item.{Item}
-use Rattle.smk_base.specs.declared.plan.Agg.{Agg}
+use Rattle.smk_base.specs.declared.book.plan.Item.{Item}
+use Rattle.smk_base.specs.declared.book.plan.Agg.{Agg}
 use Rattle.smk_base.specs.Plans.{Formula, Unary, Selection, Projection, Distinction, Grouping, Binary, Equijoin, ThetaJoin, CrossProduct, BagUnion, SetUnion}
 use Rattle.smk_model.specs.Values.{Row, meets}
 use Rattle.smk_model.specs.Plain.{row_eq, image, key_of, aggregate, firsts, grouped, agree, meets_together, always, nested, step1, step2}

@@ -7,12 +7,12 @@ use Rattle.std.specs.Fmt.{digits}
 use Rattle.std.proofs.Math.ListN.{replicate}
 use Rattle.std.proofs.lemmas.List.{length-map, get_or-replicate}
 use Rattle.smk_base.specs.Places.{upto}
-use Rattle.smk_base.specs.declared.need.Needed.{Needed}
-use Rattle.smk_base.specs.declared.plan.Agg.{Agg}
-use Rattle.smk_base.specs.declared.plan.Agg.TheVariants.{Count, Sum, Max}
-use Rattle.smk_base.specs.declared.plan.CmpOp.TheVariants.{Ge}
-use Rattle.smk_base.specs.declared.plan.Item.TheVariants.{Bin}
-use Rattle.smk_base.specs.declared.plan.Operand.TheVariants.{Lit}
+use Rattle.smk_base.specs.declared.book.need.Needed.{Needed}
+use Rattle.smk_base.specs.declared.book.plan.Agg.{Agg}
+use Rattle.smk_base.specs.declared.book.plan.Agg.TheVariants.{Count, Sum, Max}
+use Rattle.smk_base.specs.declared.book.plan.CmpOp.TheVariants.{Ge}
+use Rattle.smk_base.specs.declared.book.plan.Item.TheVariants.{Bin}
+use Rattle.smk_base.specs.declared.book.plan.Operand.TheVariants.{Lit}
 use Rattle.smk_base.specs.declared.value.Value.TheVariants.{Int, Text}
 use Rattle.smk_base.specs.Plans.{Comparison, Unary, Selection, Projection, Grouping, Equijoin, Leaf, Apply, Combine}
 use Rattle.smk_base.specs.Values.{value_eq}

@@ -4,7 +4,7 @@ use Rattle.std.proofs.Common.{◌≡◌, suc, Bool, List, [], ◌∷◌, ◌++�
 use Rattle.std.proofs.lemmas.List.Sums.{sum_by-cons, sum_by-append}
 use Rattle.std.proofs.lemmas.List.Elements.{All-nil, All-cons, All-append}
 use Rattle.smk_base.specs.Trees.{StmtImage, TableNode, ViewNode, BackNode, FwdNode, LinkNode, DependsNode}
-use Rattle.smk_base.specs.declared.tree.Extra.TheVariants.{Plain}
+use Rattle.smk_base.specs.declared.book.tree.Extra.TheVariants.{Plain}
 use Rattle.smk_base.specs.CatalogImage.{CatalogImage}
 use Rattle.smk_model.specs.Expanded.{violations_tree, in_its_place, expanded, IsNoDependency, HasNoDependency}
 use Rattle.smk_model.specs.ExpandedLaws.{ExpandedStands}

@@ -5,9 +5,9 @@ use Rattle.std.proofs.Math.ListN.{get_or-eq_default}
 use Rattle.std.proofs.lemmas.Bool.{cases_Bool, cases_lt, eqb-true, le-ltb}
 use Rattle.std.proofs.lemmas.List.{length-append, length-map}
 use Rattle.std.proofs.lemmas.List.Sums.{sum_by-cons}
-use Rattle.smk_base.specs.declared.need.Needed.{Needed}
-use Rattle.smk_base.specs.declared.plan.Agg.{Agg}
-use Rattle.smk_base.specs.declared.plan.Item.{Item}
+use Rattle.smk_base.specs.declared.book.need.Needed.{Needed}
+use Rattle.smk_base.specs.declared.book.plan.Agg.{Agg}
+use Rattle.smk_base.specs.declared.book.plan.Item.{Item}
 use Rattle.smk_base.specs.Places.{Lists, upto, places, has, list_at, pairs_of, empty_lists, members_at, composed, merged}
 use Rattle.smk_base.specs.Plans.{Formula, Unary, Selection, Projection, Grouping, Binary, Expr, Leaf, Apply, Combine}
 use Rattle.smk_model.specs.Values.{Row}

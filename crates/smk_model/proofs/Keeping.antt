@@ -5,14 +5,14 @@ use Rattle.std.specs.Char.{is_ascii_digit}
 use Rattle.std.proofs.Common.{◌≡◌, ℕ, zero, suc, ◌+◌, ◌≤◌, List, [], ◌∷◌, Bool, true, false, ap, ◌∙◌, sym, subst, refl, arith}
 use Rattle.std.specs.List.{list_all}
 use Rattle.std.proofs.lemmas.Bool.{ltb-true, leb-true}
-use Rattle.smk_base.specs.declared.token.TokenKind.{TokenKind}
-use Rattle.smk_base.specs.declared.token.TokenKind.TheVariants as kinds
+use Rattle.smk_base.specs.declared.book.token.TokenKind.{TokenKind}
+use Rattle.smk_base.specs.declared.book.token.TokenKind.TheVariants as kinds
 use Rattle.smk_base.specs.declared.fault.BookFault.{BookFault}
 use Rattle.smk_base.specs.declared.fault.BookFault.TheVariants.{TooMany}
 use Rattle.smk_base.specs.Trees.{StmtImage, AskImage}
 use Rattle.smk_model.specs.Tokens.{Token, Keyword, keywords, kind_in, word_kind, is_gap, is_letter, is_word_byte, no_line_end, is_quoted_byte, number_kind, digits_value, int_value, string_len, Front, Between, Begins, string_front, quoted_front, or_equal, unequal_front, minus_front, number_front, word_front, symbol_front, front, is_more, put, tokens_from, tokens}
-use Rattle.smk_base.specs.declared.tree.Marks.{Marks}
-use Rattle.smk_base.specs.declared.limits.TheConstants.{NODE_LIMIT}
+use Rattle.smk_base.specs.declared.book.tree.Marks.{Marks}
+use Rattle.smk_base.specs.declared.book.limits.TheConstants.{NODE_LIMIT}
 use Rattle.smk_base.proofs.Blanks.{cases_on}
 use Rattle.smk_model.specs.Grammar.{AreMarks, all_marks, listed_marks, listed, IsAskLine, ask_line, asked_line, whole_any_line}
 use Rattle.smk_model.specs.Limits.{KeepsLimits, HasMarks, KeepsAsk}

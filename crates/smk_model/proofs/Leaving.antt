@@ -1,10 +1,10 @@
 -- No symbol of the machine is the end itself, or a token that can't be read.
 use Rattle.std.specs.Prelude.{Option, Some, None, cond, nat_lt, pos, int_le, ◌&&◌, ℤ}
 use Rattle.std.proofs.Common.{◌≡◌, ℕ, ◌+◌, List, [], ◌∷◌, ◌++◌, Bool, true, false, refl}
-use Rattle.smk_base.specs.declared.token.TokenKind.{TokenKind}
-use Rattle.smk_base.specs.declared.token.TokenKind.TheVariants as kinds
+use Rattle.smk_base.specs.declared.book.token.TokenKind.{TokenKind}
+use Rattle.smk_base.specs.declared.book.token.TokenKind.TheVariants as kinds
 use Rattle.smk_base.specs.declared.fault.Many.{Many}
-use Rattle.smk_base.specs.declared.limits.TheConstants.{TABLE_LIMIT, VIEW_LIMIT, LINEAGE_LIMIT, LINK_LIMIT, NODE_LIMIT, COMPARE_LIMIT, DEPTH_LIMIT}
+use Rattle.smk_base.specs.declared.book.limits.TheConstants.{TABLE_LIMIT, VIEW_LIMIT, LINEAGE_LIMIT, LINK_LIMIT, NODE_LIMIT, COMPARE_LIMIT, DEPTH_LIMIT}
 use Rattle.smk_base.specs.declared.rel.TheConstants.{COLUMN_LIMIT}
 use Rattle.smk_model.specs.Tokens.{Token, int_value}
 use Rattle.smk_model.specs.TokenKinds.{same_kind}

@@ -1,24 +1,24 @@
 -- What a faultless list of tokens spells.
 use Rattle.std.specs.Prelude.{Option, Some, None, is_some, cond, nat_lt, pos, int_le, int_lt, ◌^◌, ℤ, negsuc}
 use Rattle.std.proofs.Common.{◌≡◌, ℕ, ◌+◌, List, [], ◌∷◌, ◌++◌, Bool, true, false, ap, ◌∙◌, sym, subst, refl}
-use Rattle.smk_base.specs.declared.token.TokenKind.{TokenKind}
-use Rattle.smk_base.specs.declared.token.TokenKind.TheVariants as kinds
+use Rattle.smk_base.specs.declared.book.token.TokenKind.{TokenKind}
+use Rattle.smk_base.specs.declared.book.token.TokenKind.TheVariants as kinds
 use Rattle.smk_base.specs.declared.fault.Many.{Many}
-use Rattle.smk_base.specs.declared.plan.CmpOp.{CmpOp}
-use Rattle.smk_base.specs.declared.tree.Word.{Word}
-use Rattle.smk_base.specs.declared.tree.Lit.{Lit}
-use Rattle.smk_base.specs.declared.tree.Decl.{Decl}
-use Rattle.smk_base.specs.declared.tree.Extra.{Extra}
-use Rattle.smk_base.specs.declared.tree.ItemTree.{ItemTree}
-use Rattle.smk_base.specs.declared.tree.AggTree.{AggTree}
-use Rattle.smk_base.specs.declared.tree.AggWhat.{AggWhat}
-use Rattle.smk_base.specs.declared.tree.PairTree.{PairTree}
-use Rattle.smk_base.specs.declared.tree.Term.{Term}
-use Rattle.smk_base.specs.declared.tree.Marks.{Marks}
-use Rattle.smk_base.specs.declared.tree.Then.{Then}
-use Rattle.smk_base.specs.declared.tree.Line.{Line}
+use Rattle.smk_base.specs.declared.book.plan.CmpOp.{CmpOp}
+use Rattle.smk_base.specs.declared.book.tree.Word.{Word}
+use Rattle.smk_base.specs.declared.book.tree.Lit.{Lit}
+use Rattle.smk_base.specs.declared.book.tree.Decl.{Decl}
+use Rattle.smk_base.specs.declared.book.tree.Extra.{Extra}
+use Rattle.smk_base.specs.declared.book.tree.ItemTree.{ItemTree}
+use Rattle.smk_base.specs.declared.book.tree.AggTree.{AggTree}
+use Rattle.smk_base.specs.declared.book.tree.AggWhat.{AggWhat}
+use Rattle.smk_base.specs.declared.book.tree.PairTree.{PairTree}
+use Rattle.smk_base.specs.declared.book.tree.Term.{Term}
+use Rattle.smk_base.specs.declared.book.tree.Marks.{Marks}
+use Rattle.smk_base.specs.declared.book.tree.Then.{Then}
+use Rattle.smk_base.specs.declared.book.tree.Line.{Line}
 use Rattle.smk_base.specs.Trees.{PredImage, AndNode, OrNode, TreeImage, StepNode, StepImage, SelectNode, ProjectNode, DistinctNode, GroupNode, JoinNode, ThetaNode, ProductNode, UnionAllNode, UnionNode, StmtImage, AskStepImage, AnyLineImage}
-use Rattle.smk_base.specs.declared.limits.TheConstants.{TABLE_LIMIT, VIEW_LIMIT, LINEAGE_LIMIT, LINK_LIMIT, NODE_LIMIT, COMPARE_LIMIT, DEPTH_LIMIT}
+use Rattle.smk_base.specs.declared.book.limits.TheConstants.{TABLE_LIMIT, VIEW_LIMIT, LINEAGE_LIMIT, LINK_LIMIT, NODE_LIMIT, COMPARE_LIMIT, DEPTH_LIMIT}
 use Rattle.smk_base.specs.declared.rel.TheConstants.{COLUMN_LIMIT}
 use Rattle.smk_model.specs.Tokens.{Token, head_of, int_value}
 use Rattle.smk_model.specs.TokenKinds.{same_kind}

@@ -9,7 +9,7 @@ use Rattle.std.proofs.lemmas.List.Elements.{All-nil, All-cons}
 use Rattle.std.proofs.lemmas.List.Quantifiers.{position-Some}
 use Rattle.std.proofs.lemmas.Slice.Eq.{slice_eq-Decides}
 use Rattle.smk_base.specs.CatalogImage.{CatalogImage, view_place}
-use Rattle.smk_base.specs.declared.catalog.TableInfo.{TableInfo}
+use Rattle.smk_base.specs.declared.book.catalog.TableInfo.{TableInfo}
 use Rattle.smk_base.specs.Dicts.{text_eq}
 use Rattle.smk_model.specs.Dependencies.{Violation}
 use Rattle.smk_model.specs.Names.{is_taken}

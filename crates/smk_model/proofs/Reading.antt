@@ -3,14 +3,14 @@ use Rattle.std.specs.Prelude.{Err, cond, nat_lt, FitsSigned}
 use Rattle.std.specs.Int.{w64}
 use Rattle.std.proofs.Common.{◌≡◌, ℕ, ◌+◌, ◌≤◌, List, [], ◌∷◌, ◌++◌, Bool, true, false, ap, ◌∙◌, sym, subst, refl, append_assoc, arith}
 use Rattle.std.proofs.lemmas.Bool.{ltb-true}
-use Rattle.smk_base.specs.declared.token.TokenKind.{TokenKind}
-use Rattle.smk_base.specs.declared.token.TokenKind.TheVariants as kinds
+use Rattle.smk_base.specs.declared.book.token.TokenKind.{TokenKind}
+use Rattle.smk_base.specs.declared.book.token.TokenKind.TheVariants as kinds
 use Rattle.smk_base.specs.declared.fault.Many.{Many}
 use Rattle.smk_base.specs.declared.fault.Many.TheVariants.{Nodes}
 use Rattle.smk_base.specs.declared.fault.BookFault.TheVariants.{TooMany}
-use Rattle.smk_base.specs.declared.tree.Word.{Word}
-use Rattle.smk_base.specs.declared.tree.Lit.{Lit}
-use Rattle.smk_base.specs.declared.limits.TheConstants.{NODE_LIMIT}
+use Rattle.smk_base.specs.declared.book.tree.Word.{Word}
+use Rattle.smk_base.specs.declared.book.tree.Lit.{Lit}
+use Rattle.smk_base.specs.declared.book.limits.TheConstants.{NODE_LIMIT}
 use Rattle.smk_model.specs.Tokens.{Token, head_of, int_value}
 use Rattle.smk_model.specs.TokenKinds.{same_kind}
 use Rattle.smk_model.specs.Grammar.{First, IsColumn, plain, quoted, IsLiteral, number, string, AreMore, no_more, one_more, AreListed, listed}

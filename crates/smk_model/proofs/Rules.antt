@@ -1,6 +1,6 @@
 -- A rule of typing that goes on from the result of another.
 use Rattle.std.proofs.Common.{◌≡◌, Bool, true, false, Ok, Err, refl}
-use Rattle.smk_base.specs.declared.type_fault.TypeFault.{TypeFault}
+use Rattle.smk_base.specs.declared.book.type_fault.TypeFault.{TypeFault}
 use Rattle.smk_model.specs.Names.{Typed, ◌>>=◌, unless}
 
 -- the first of two rules gave a result, from which the second made this one

@@ -11,23 +11,23 @@ use Rattle.smk_base.proofs.Codes.{text_same}
 use Rattle.smk_base.specs.CatalogImage.{CatalogImage, ViewImage, view_place, table_place}
 use Rattle.smk_base.specs.Plans.{Formula, Comparison, Selection, Grouping, Leaf, Apply}
 use Rattle.smk_base.specs.Trees.{StmtImage, TreeImage, TableNode, ViewNode, BackNode, FwdNode, LinkNode, DependsNode, GroupNode, ScanNode, StepNode, CompareNode}
-use Rattle.smk_base.specs.declared.catalog.Back.{Back}
-use Rattle.smk_base.specs.declared.catalog.BackExtra.TheVariants as back_extras
-use Rattle.smk_base.specs.declared.catalog.Column.{Column}
-use Rattle.smk_base.specs.declared.catalog.TableInfo.{TableInfo}
-use Rattle.smk_base.specs.declared.plan.Agg.{Agg}
-use Rattle.smk_base.specs.declared.plan.Agg.TheVariants as aggs
-use Rattle.smk_base.specs.declared.plan.CmpOp.TheVariants.{Ne}
-use Rattle.smk_base.specs.declared.plan.Operand.TheVariants.{Col}
-use Rattle.smk_base.specs.declared.tree.AggWhat.{AggWhat}
-use Rattle.smk_base.specs.declared.tree.AggWhat.TheVariants as agg_trees
-use Rattle.smk_base.specs.declared.tree.Decl.{Decl}
-use Rattle.smk_base.specs.declared.tree.Extra.{Extra}
-use Rattle.smk_base.specs.declared.tree.Extra.TheVariants as extras
-use Rattle.smk_base.specs.declared.tree.Term.TheVariants as terms
-use Rattle.smk_base.specs.declared.tree.Word.{Word}
-use Rattle.smk_base.specs.declared.type_fault.TypeFault.{TypeFault}
-use Rattle.smk_base.specs.declared.type_fault.TypeFault.TheVariants.{DuplicateName, EmptyList, RowTooWide}
+use Rattle.smk_base.specs.declared.book.catalog.Back.{Back}
+use Rattle.smk_base.specs.declared.book.catalog.BackExtra.TheVariants as back_extras
+use Rattle.smk_base.specs.declared.book.catalog.Column.{Column}
+use Rattle.smk_base.specs.declared.book.catalog.TableInfo.{TableInfo}
+use Rattle.smk_base.specs.declared.book.plan.Agg.{Agg}
+use Rattle.smk_base.specs.declared.book.plan.Agg.TheVariants as aggs
+use Rattle.smk_base.specs.declared.book.plan.CmpOp.TheVariants.{Ne}
+use Rattle.smk_base.specs.declared.book.plan.Operand.TheVariants.{Col}
+use Rattle.smk_base.specs.declared.book.tree.AggWhat.{AggWhat}
+use Rattle.smk_base.specs.declared.book.tree.AggWhat.TheVariants as agg_trees
+use Rattle.smk_base.specs.declared.book.tree.Decl.{Decl}
+use Rattle.smk_base.specs.declared.book.tree.Extra.{Extra}
+use Rattle.smk_base.specs.declared.book.tree.Extra.TheVariants as extras
+use Rattle.smk_base.specs.declared.book.tree.Term.TheVariants as terms
+use Rattle.smk_base.specs.declared.book.tree.Word.{Word}
+use Rattle.smk_base.specs.declared.book.type_fault.TypeFault.{TypeFault}
+use Rattle.smk_base.specs.declared.book.type_fault.TypeFault.TheVariants.{DuplicateName, EmptyList, RowTooWide}
 use Rattle.smk_base.specs.declared.value.Kind.{Kind}
 use Rattle.smk_base.specs.declared.rel.TheConstants.{COLUMN_LIMIT}
 use Rattle.smk_model.specs.Dependencies.{Dependency, dependency_of, plan_of, extremes, extremes_differ}

@@ -1,11 +1,11 @@
 -- A list of tokens without a fault has a tree.
 use Rattle.std.specs.Prelude.{Result, Ok, Err, None, ◌&&◌}
 use Rattle.std.proofs.Common.{◌≡◌, true, List, [], ◌∷◌, ap, ◌∙◌, sym, subst, refl}
-use Rattle.smk_base.specs.declared.token.TokenKind.{TokenKind}
-use Rattle.smk_base.specs.declared.token.TokenKind.TheVariants as kinds
+use Rattle.smk_base.specs.declared.book.token.TokenKind.{TokenKind}
+use Rattle.smk_base.specs.declared.book.token.TokenKind.TheVariants as kinds
 use Rattle.smk_base.specs.declared.fault.BookFault.{BookFault}
 use Rattle.smk_base.specs.declared.fault.BookFault.TheVariants.{TooMany, BadNumber}
-use Rattle.smk_base.specs.declared.tree.Line.{Line}
+use Rattle.smk_base.specs.declared.book.tree.Line.{Line}
 use Rattle.smk_base.specs.Trees.{StmtImage, AnyLineImage}
 use Rattle.smk_model.specs.Tokens.{Token}
 use Rattle.smk_model.specs.Grammar.{AreStmts, no_stmt, no_default, by_itself, no_keys, no_aggs, no_more, no_step, no_and, no_or, no_extra, no_then, clear_line, IsWholeLine, whole_line, no_ask_step, IsWholeAnyLine, whole_any_line}

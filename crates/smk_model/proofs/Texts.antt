@@ -4,25 +4,25 @@ use Rattle.std.proofs.Common.{◌≡◌, ℕ, ◌+◌, ◌≤◌, List, [], ◌�
 use Rattle.std.proofs.lemmas.Bool.{le-leb, ltb-true}
 use Rattle.std.proofs.lemmas.List.Elements.{All-nil, All-cons}
 use Rattle.std.proofs.lemmas.List.Sums.{sum_by-cons}
-use Rattle.smk_base.specs.declared.token.TokenKind.{TokenKind}
-use Rattle.smk_base.specs.declared.token.TokenKind.TheVariants as kinds
+use Rattle.smk_base.specs.declared.book.token.TokenKind.{TokenKind}
+use Rattle.smk_base.specs.declared.book.token.TokenKind.TheVariants as kinds
 use Rattle.smk_base.specs.declared.fault.Many.TheVariants.{Tables, Views, Lineages, Links, Columns, Compares, Depth, NameBytes}
-use Rattle.smk_base.specs.declared.plan.CmpOp.{CmpOp}
-use Rattle.smk_base.specs.declared.tree.Word.{Word}
-use Rattle.smk_base.specs.declared.tree.Lit.{Lit}
-use Rattle.smk_base.specs.declared.tree.Decl.{Decl}
-use Rattle.smk_base.specs.declared.tree.Extra.{Extra}
-use Rattle.smk_base.specs.declared.tree.ItemTree.{ItemTree}
-use Rattle.smk_base.specs.declared.tree.AggTree.{AggTree}
-use Rattle.smk_base.specs.declared.tree.AggWhat.{AggWhat}
-use Rattle.smk_base.specs.declared.tree.PairTree.{PairTree}
-use Rattle.smk_base.specs.declared.tree.Term.{Term}
-use Rattle.smk_base.specs.declared.tree.Marks.{Marks}
-use Rattle.smk_base.specs.declared.tree.Then.{Then}
-use Rattle.smk_base.specs.declared.tree.Line.{Line}
-use Rattle.smk_base.specs.declared.tree.Line.TheVariants as lines
+use Rattle.smk_base.specs.declared.book.plan.CmpOp.{CmpOp}
+use Rattle.smk_base.specs.declared.book.tree.Word.{Word}
+use Rattle.smk_base.specs.declared.book.tree.Lit.{Lit}
+use Rattle.smk_base.specs.declared.book.tree.Decl.{Decl}
+use Rattle.smk_base.specs.declared.book.tree.Extra.{Extra}
+use Rattle.smk_base.specs.declared.book.tree.ItemTree.{ItemTree}
+use Rattle.smk_base.specs.declared.book.tree.AggTree.{AggTree}
+use Rattle.smk_base.specs.declared.book.tree.AggWhat.{AggWhat}
+use Rattle.smk_base.specs.declared.book.tree.PairTree.{PairTree}
+use Rattle.smk_base.specs.declared.book.tree.Term.{Term}
+use Rattle.smk_base.specs.declared.book.tree.Marks.{Marks}
+use Rattle.smk_base.specs.declared.book.tree.Then.{Then}
+use Rattle.smk_base.specs.declared.book.tree.Line.{Line}
+use Rattle.smk_base.specs.declared.book.tree.Line.TheVariants as lines
 use Rattle.smk_base.specs.Trees.{PredImage, TreeImage, StepImage, SelectNode, ProjectNode, DistinctNode, GroupNode, JoinNode, ThetaNode, ProductNode, UnionAllNode, UnionNode, StmtImage, TableNode, AskStepImage, AskImage, AnyLineImage, ProfiledLine, AppendedLine}
-use Rattle.smk_base.specs.declared.limits.TheConstants.{TABLE_LIMIT, VIEW_LIMIT, LINEAGE_LIMIT, LINK_LIMIT}
+use Rattle.smk_base.specs.declared.book.limits.TheConstants.{TABLE_LIMIT, VIEW_LIMIT, LINEAGE_LIMIT, LINK_LIMIT}
 use Rattle.smk_base.specs.declared.rel.TheConstants.{COLUMN_LIMIT}
 use Rattle.smk_model.specs.Tokens.{Token, head_of, int_value}
 use Rattle.smk_model.specs.Grammar.{First, IsName, name, IsColumn, number, string, IsFile, file, listed, IsType, int_type, text_type, IsDefault, no_default, default, IsDecl, decl, IsNamed, by_itself, by_as, IsWidth, width, IsItem, column_item, bin_item, IsWhat, count, sum, min, max, IsAgg, agg, AreKeys, no_keys, keys, AreAggs, no_aggs, aggs, IsPair, pair, IsOp, eq, ne, lt, le, gt, ge, IsTerm, column_term, literal_term, IsPrim, negated, bracketed, compared, IsConj, conj, AreAnds, no_and, one_and, IsPred, pred, AreOrs, no_or, one_or, IsPlan, plan, IsSource, scan, inner_plan, AreSteps, no_step, one_step, IsStep, where_step, project_step, distinct_step, group_step, join_step, theta_step, product_step, union_all_step, union_step, IsExtra, no_extra, by_extra, group_extra, table_stmt, view_stmt, back_stmt, fwd_stmt, link_stmt, depends_stmt, AreStmts, no_stmt, one_stmt, IsMark, mark, AreMarks, all_marks, listed_marks, IsThen, no_then, where_then, group_then, IsLine, show_line, back_line, fwd_line, brush_line, clear_line, clear_one_line, IsWholeLine, whole_line, HasOneInput, IsAskStep, ask_step, AreAskSteps, no_ask_step, one_ask_step, IsAskLine, ask_line, plain_line, asked_line, profiled_line, appended_line, IsWholeAnyLine, whole_any_line}

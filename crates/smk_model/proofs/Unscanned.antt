@@ -4,7 +4,7 @@ use Rattle.std.specs.List.{find}
 use Rattle.std.proofs.lemmas.List.Folds.{list_any-append}
 use Rattle.std.proofs.lemmas.Bool.{cases_Bool, or_left, or_right, eq-eqb, eqb-true, false≢true, false_from_ne_true}
 use Rattle.smk_base.specs.Places.{Lists, upto, places, has}
-use Rattle.smk_base.specs.declared.need.Needed.{Needed}
+use Rattle.smk_base.specs.declared.book.need.Needed.{Needed}
 use Rattle.smk_base.specs.Plans.{Expr, Leaf, Apply, Combine}
 use Rattle.smk_model.specs.Values.{Row}
 use Rattle.smk_model.specs.Plain.{leaves, width, eval, whole}

@@ -1,15 +1,15 @@
 -- Appended rows worked by hand: a line's tree, and what a run with an append line comes to.
 use Rattle.std.specs.Prelude.{◌≡◌, ℕ, pos, List, [], ◌∷◌, ◌++◌, codes}
-use Rattle.smk_base.specs.declared.catalog.TableInfo.{TableInfo}
-use Rattle.smk_base.specs.declared.catalog.BackExtra.{BackExtra}
-use Rattle.smk_base.specs.declared.catalog.BackExtra.TheVariants as extras
+use Rattle.smk_base.specs.declared.book.catalog.TableInfo.{TableInfo}
+use Rattle.smk_base.specs.declared.book.catalog.BackExtra.{BackExtra}
+use Rattle.smk_base.specs.declared.book.catalog.BackExtra.TheVariants as extras
 use Rattle.smk_base.specs.declared.fault.BookFault.TheVariants.{Unexpected}
-use Rattle.smk_base.specs.declared.plan.Agg.TheVariants.{Count, Sum}
+use Rattle.smk_base.specs.declared.book.plan.Agg.TheVariants.{Count, Sum}
 use Rattle.smk_base.specs.declared.reply.AppendReply.TheVariants.{Added, Refused}
 use Rattle.smk_base.specs.declared.reply.AppendRefusal.TheVariants.{UnknownTable}
-use Rattle.smk_base.specs.declared.tree.Line.TheVariants as lines
-use Rattle.smk_base.specs.declared.tree.Marks.TheVariants as markings
-use Rattle.smk_base.specs.declared.tree.Then.TheVariants as thens
+use Rattle.smk_base.specs.declared.book.tree.Line.TheVariants as lines
+use Rattle.smk_base.specs.declared.book.tree.Marks.TheVariants as markings
+use Rattle.smk_base.specs.declared.book.tree.Then.TheVariants as thens
 use Rattle.smk_base.specs.declared.value.Kind.TheVariants as kinds
 use Rattle.smk_base.specs.declared.value.Value.TheVariants as values
 use Rattle.smk_base.specs.CatalogImage.{CatalogImage}

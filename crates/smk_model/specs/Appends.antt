@@ -3,7 +3,7 @@ use Rattle.std.specs.Prelude.{ℕ, ◌+◌, Bool, true, false, ◌||◌, cond, n
 use Rattle.std.specs.List.{filter, sum_by}
 use Rattle.smk_base.specs.CatalogImage.{CatalogImage, table_place}
 use Rattle.smk_base.specs.Places.{places, has}
-use Rattle.smk_base.specs.declared.catalog.Back.{Back}
+use Rattle.smk_base.specs.declared.book.catalog.Back.{Back}
 use Rattle.smk_base.specs.declared.reply.AppendReply.{AppendReply}
 use Rattle.smk_base.specs.declared.reply.AppendReply.TheVariants.{Added, Refused}
 use Rattle.smk_base.specs.declared.reply.AppendRefusal.{AppendRefusal}

@@ -9,7 +9,7 @@ use Rattle.smk_base.specs.declared.reply.AskReply.{AskReply}
 use Rattle.smk_base.specs.declared.reply.AskReply.TheVariants as answers
 use Rattle.smk_base.specs.declared.reply.AskRefusal.{AskRefusal}
 use Rattle.smk_base.specs.declared.reply.AskRefusal.TheVariants.{Back, Steps}
-use Rattle.smk_base.specs.declared.type_fault.TypeFault.TheVariants.{NoMemory}
+use Rattle.smk_base.specs.declared.book.type_fault.TypeFault.TheVariants.{NoMemory}
 use Rattle.smk_base.specs.declared.rel.TheConstants.{COLUMN_LIMIT}
 use Rattle.smk_model.specs.Asks.{back_line, columns_named}
 use Rattle.smk_model.specs.FaultTexts.{type_words}

@@ -3,10 +3,10 @@ use Rattle.std.specs.Prelude.{◌≡◌, ℕ, pos, List, [], ◌∷◌, Some, co
 use Rattle.smk_base.specs.declared.fault.BookFault.{BookFault}
 use Rattle.smk_base.specs.declared.fault.BookFault.TheVariants.{BadToken, Unexpected}
 use Rattle.smk_base.specs.declared.value.Value.TheVariants.{Int}
-use Rattle.smk_base.specs.declared.plan.CmpOp.TheVariants.{Gt, Ne}
-use Rattle.smk_base.specs.declared.tree.Word.{Word}
-use Rattle.smk_base.specs.declared.tree.ItemTree.TheVariants as items
-use Rattle.smk_base.specs.declared.tree.Term.TheVariants as terms
+use Rattle.smk_base.specs.declared.book.plan.CmpOp.TheVariants.{Gt, Ne}
+use Rattle.smk_base.specs.declared.book.tree.Word.{Word}
+use Rattle.smk_base.specs.declared.book.tree.ItemTree.TheVariants as items
+use Rattle.smk_base.specs.declared.book.tree.Term.TheVariants as terms
 use Rattle.smk_base.specs.Trees.{CompareNode, AndNode, ScanNode, StepNode, ProjectNode, ThetaNode, ProductNode, StmtImage, ViewNode}
 use Rattle.smk_model.specs.Tokens.{tokens}
 use Rattle.smk_model.specs.Grammar.{AreStmts}

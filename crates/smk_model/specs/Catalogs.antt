@@ -1,14 +1,14 @@
 -- What every checked book keeps.
 use Rattle.std.specs.Prelude.{◌≡◌, ◌≤◌, ◌<◌, ℕ, List, map, length, All}
 use Rattle.smk_base.specs.declared.value.Kind.{Kind}
-use Rattle.smk_base.specs.declared.catalog.TableInfo.{TableInfo}
-use Rattle.smk_base.specs.declared.catalog.Back.{Back}
-use Rattle.smk_base.specs.declared.catalog.BackExtra.{BackExtra}
-use Rattle.smk_base.specs.declared.catalog.BackExtra.TheVariants.{Plain, By, Grouped}
-use Rattle.smk_base.specs.declared.catalog.Fwd.{Fwd}
-use Rattle.smk_base.specs.declared.catalog.LinkInfo.{LinkInfo}
-use Rattle.smk_base.specs.declared.plan.Agg.{Agg}
-use Rattle.smk_base.specs.declared.limits.TheConstants.{TABLE_LIMIT, VIEW_LIMIT, NODE_LIMIT}
+use Rattle.smk_base.specs.declared.book.catalog.TableInfo.{TableInfo}
+use Rattle.smk_base.specs.declared.book.catalog.Back.{Back}
+use Rattle.smk_base.specs.declared.book.catalog.BackExtra.{BackExtra}
+use Rattle.smk_base.specs.declared.book.catalog.BackExtra.TheVariants.{Plain, By, Grouped}
+use Rattle.smk_base.specs.declared.book.catalog.Fwd.{Fwd}
+use Rattle.smk_base.specs.declared.book.catalog.LinkInfo.{LinkInfo}
+use Rattle.smk_base.specs.declared.book.plan.Agg.{Agg}
+use Rattle.smk_base.specs.declared.book.limits.TheConstants.{TABLE_LIMIT, VIEW_LIMIT, NODE_LIMIT}
 use Rattle.smk_base.specs.declared.rel.TheConstants.{COLUMN_LIMIT}
 use Rattle.smk_base.specs.Plans.{Grouping}
 use Rattle.smk_base.specs.CatalogImage.{CatalogImage, ViewImage}

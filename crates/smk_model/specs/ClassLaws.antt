@@ -3,8 +3,8 @@ use Rattle.std.specs.Prelude.{◌≡◌, ℕ, ◌+◌, ◌<◌, true, not, List,
 use Rattle.std.specs.List.{list_any, filter, All}
 use Rattle.smk_base.specs.Plans.{Formula, Selection, Distinction, Grouping, Binary, SetUnion}
 use Rattle.smk_base.specs.Rels.{beside_rows}
-use Rattle.smk_base.specs.declared.plan.Item.{Item}
-use Rattle.smk_base.specs.declared.plan.Agg.{Agg}
+use Rattle.smk_base.specs.declared.book.plan.Item.{Item}
+use Rattle.smk_base.specs.declared.book.plan.Agg.{Agg}
 use Rattle.smk_model.specs.Values.{Row}
 use Rattle.smk_model.specs.Plain.{row_eq, image, key_of, aggregate, firsts, is_join, joins, step1, step2}
 use Rattle.smk_model.specs.Lineage.{upto, places, row_at, sub, meeting, matching, lefts_of, rights_of}

@@ -4,7 +4,7 @@ use Rattle.std.specs.List.{filter, flat_map, scan}
 use Rattle.smk_base.specs.CatalogImage.{CatalogImage}
 use Rattle.smk_base.specs.Marks.{after_marks}
 use Rattle.smk_base.specs.Trees.{AnyLineImage, PlainLine, AskedLine, ProfiledLine, AppendedLine}
-use Rattle.smk_base.specs.declared.catalog.TableInfo.{TableInfo}
+use Rattle.smk_base.specs.declared.book.catalog.TableInfo.{TableInfo}
 use Rattle.smk_base.specs.declared.fault.Fault.{Fault}
 use Rattle.smk_model.specs.FaultTexts.{fault_text}
 use Rattle.smk_model.specs.Outcome.{Held, appended_at, file_limit, load}

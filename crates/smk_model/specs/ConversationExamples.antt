@@ -1,10 +1,10 @@
 -- A conversation worked by hand: a line that isn't one, appended rows, a file with a fault, a line that is too long and one that memory was wanting for, and an answer.
 use Rattle.std.specs.Prelude.{◌≡◌, ℕ, true, List, [], ◌∷◌, Some, codes}
 use Rattle.std.specs.List.{concat}
-use Rattle.smk_base.specs.declared.catalog.BackExtra.TheVariants as extras
+use Rattle.smk_base.specs.declared.book.catalog.BackExtra.TheVariants as extras
 use Rattle.smk_base.specs.declared.fault.Fault.TheVariants.{Table, TableRows, FileLong, Unread as unread_fault}
 use Rattle.smk_base.specs.declared.fault.TableFault.TheVariants.{BadInt}
-use Rattle.smk_base.specs.declared.tree.Line.TheVariants as lines
+use Rattle.smk_base.specs.declared.book.tree.Line.TheVariants as lines
 use Rattle.smk_model.specs.AppendExamples.{keyed_book, more_rows, append_line}
 use Rattle.smk_model.specs.Readings.{Reading, Nothing, Unread, plain_reading}
 use Rattle.smk_model.specs.Reports.{is_turned_down}

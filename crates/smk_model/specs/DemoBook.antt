@@ -1,18 +1,18 @@
 -- What the texts of the demo say: the rows of its tables, the catalog of its book, and the readings of its script.
 use Rattle.std.specs.Prelude.{ℕ, ◌*◌, ◌/◌, ◌%◌, pos, ◌-ℤ◌, List, [], ◌∷◌, ◌++◌, map, codes, decimal}
-use Rattle.smk_base.specs.declared.col_decl.ColDecl.{ColDecl}
+use Rattle.smk_base.specs.declared.book.col_decl.ColDecl.{ColDecl}
 use Rattle.smk_base.specs.declared.value.Value.TheVariants as values
 use Rattle.smk_base.specs.declared.value.Kind.TheVariants as kinds
-use Rattle.smk_base.specs.declared.plan.CmpOp.TheVariants.{Ge}
-use Rattle.smk_base.specs.declared.plan.Operand.TheVariants.{Lit}
-use Rattle.smk_base.specs.declared.plan.Item.TheVariants.{Bin}
-use Rattle.smk_base.specs.declared.plan.Agg.TheVariants.{Count, Sum, Max}
-use Rattle.smk_base.specs.declared.catalog.TableInfo.{TableInfo}
-use Rattle.smk_base.specs.declared.catalog.BackExtra.TheVariants as extras
-use Rattle.smk_base.specs.declared.tree.Line.{Line}
-use Rattle.smk_base.specs.declared.tree.Line.TheVariants as lines
-use Rattle.smk_base.specs.declared.tree.Marks.TheVariants as markings
-use Rattle.smk_base.specs.declared.tree.Then.TheVariants as thens
+use Rattle.smk_base.specs.declared.book.plan.CmpOp.TheVariants.{Ge}
+use Rattle.smk_base.specs.declared.book.plan.Operand.TheVariants.{Lit}
+use Rattle.smk_base.specs.declared.book.plan.Item.TheVariants.{Bin}
+use Rattle.smk_base.specs.declared.book.plan.Agg.TheVariants.{Count, Sum, Max}
+use Rattle.smk_base.specs.declared.book.catalog.TableInfo.{TableInfo}
+use Rattle.smk_base.specs.declared.book.catalog.BackExtra.TheVariants as extras
+use Rattle.smk_base.specs.declared.book.tree.Line.{Line}
+use Rattle.smk_base.specs.declared.book.tree.Line.TheVariants as lines
+use Rattle.smk_base.specs.declared.book.tree.Marks.TheVariants as markings
+use Rattle.smk_base.specs.declared.book.tree.Then.TheVariants as thens
 use Rattle.smk_base.specs.Places.{upto}
 use Rattle.smk_base.specs.Plans.{Comparison, Selection, Projection, Grouping, Equijoin, Leaf, Apply, Combine}
 use Rattle.smk_base.specs.CatalogImage.{CatalogImage, ViewImage}

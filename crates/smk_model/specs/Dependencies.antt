@@ -4,10 +4,10 @@ use Rattle.std.specs.List.{list_any, filter}
 use Rattle.smk_base.specs.Places.{places}
 use Rattle.smk_base.specs.Plans.{Formula, Comparison, Selection, Grouping, Expr, Leaf, Apply}
 use Rattle.smk_base.specs.Values.{value_eq}
-use Rattle.smk_base.specs.declared.plan.Agg.{Agg}
-use Rattle.smk_base.specs.declared.plan.Agg.TheVariants.{Min, Max}
-use Rattle.smk_base.specs.declared.plan.CmpOp.TheVariants.{Ne}
-use Rattle.smk_base.specs.declared.plan.Operand.TheVariants.{Col}
+use Rattle.smk_base.specs.declared.book.plan.Agg.{Agg}
+use Rattle.smk_base.specs.declared.book.plan.Agg.TheVariants.{Min, Max}
+use Rattle.smk_base.specs.declared.book.plan.CmpOp.TheVariants.{Ne}
+use Rattle.smk_base.specs.declared.book.plan.Operand.TheVariants.{Col}
 use Rattle.smk_base.specs.declared.value.Value.{Value}
 use Rattle.smk_model.specs.Values.{Row, value_at}
 use Rattle.smk_model.specs.Plain.{row_eq, key_of, firsts, aggregate}

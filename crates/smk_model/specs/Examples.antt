@@ -6,10 +6,10 @@ use Rattle.smk_base.specs.declared.value.Kind.{Kind}
 use Rattle.smk_base.specs.declared.value.Kind.TheVariants as kinds
 use Rattle.smk_base.specs.declared.value.Value.{Value}
 use Rattle.smk_base.specs.declared.value.Value.TheVariants.{Int, Text}
-use Rattle.smk_base.specs.declared.plan.CmpOp.TheVariants.{Eq, Ne, Lt, Le, Gt, Ge}
-use Rattle.smk_base.specs.declared.plan.Operand.TheVariants as operands
-use Rattle.smk_base.specs.declared.plan.Item.TheVariants.{Col, Bin}
-use Rattle.smk_base.specs.declared.plan.Agg.TheVariants.{Count, Sum, Min, Max}
+use Rattle.smk_base.specs.declared.book.plan.CmpOp.TheVariants.{Eq, Ne, Lt, Le, Gt, Ge}
+use Rattle.smk_base.specs.declared.book.plan.Operand.TheVariants as operands
+use Rattle.smk_base.specs.declared.book.plan.Item.TheVariants.{Col, Bin}
+use Rattle.smk_base.specs.declared.book.plan.Agg.TheVariants.{Count, Sum, Min, Max}
 use Rattle.smk_base.specs.Plans.{Formula, Unary, Comparison, Conjunction, Disjunction, Negation, Selection, Projection, Distinction, Grouping, Equijoin, ThetaJoin, CrossProduct, BagUnion, SetUnion, Expr, Leaf, Apply, Combine}
 use Rattle.smk_model.specs.Values.{Row, value_cmp, bin}
 use Rattle.smk_model.specs.Plain.{step1, step2, whole}

@@ -3,17 +3,17 @@ use Rattle.std.specs.Prelude.{◌≡◌, ℕ, List, [], ◌∷◌, map, Option, 
 use Rattle.std.specs.List.{range_with_len}
 use Rattle.smk_base.specs.CatalogImage.{CatalogImage, ViewImage}
 use Rattle.smk_base.specs.declared.value.Kind.TheVariants as kinds
-use Rattle.smk_base.specs.declared.catalog.BackExtra.TheVariants as extras
-use Rattle.smk_base.specs.declared.catalog.TableInfo.{TableInfo}
+use Rattle.smk_base.specs.declared.book.catalog.BackExtra.TheVariants as extras
+use Rattle.smk_base.specs.declared.book.catalog.TableInfo.{TableInfo}
 use Rattle.smk_base.specs.declared.fault.BookFault.{BookFault}
 use Rattle.smk_base.specs.declared.fault.BookFault.TheVariants.{Unexpected, TooMany}
 use Rattle.smk_base.specs.declared.fault.Many.TheVariants.{Columns, NameBytes}
-use Rattle.smk_base.specs.declared.plan.Agg.TheVariants.{Min, Max}
-use Rattle.smk_base.specs.declared.plan.CmpOp.TheVariants.{Ne}
-use Rattle.smk_base.specs.declared.plan.Operand.TheVariants.{Col}
-use Rattle.smk_base.specs.declared.tree.Word.{Word}
-use Rattle.smk_base.specs.declared.type_fault.TypeFault.{TypeFault}
-use Rattle.smk_base.specs.declared.type_fault.TypeFault.TheVariants.{UnknownTable, UnknownColumn, DuplicateName, RowTooWide}
+use Rattle.smk_base.specs.declared.book.plan.Agg.TheVariants.{Min, Max}
+use Rattle.smk_base.specs.declared.book.plan.CmpOp.TheVariants.{Ne}
+use Rattle.smk_base.specs.declared.book.plan.Operand.TheVariants.{Col}
+use Rattle.smk_base.specs.declared.book.tree.Word.{Word}
+use Rattle.smk_base.specs.declared.book.type_fault.TypeFault.{TypeFault}
+use Rattle.smk_base.specs.declared.book.type_fault.TypeFault.TheVariants.{UnknownTable, UnknownColumn, DuplicateName, RowTooWide}
 use Rattle.smk_base.specs.Plans.{Comparison, Selection, Grouping, Leaf, Apply}
 use Rattle.smk_base.specs.Trees.{StmtImage, DependsNode, ProfiledLine}
 use Rattle.smk_model.specs.Tokens.{tokens}

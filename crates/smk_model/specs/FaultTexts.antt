@@ -8,8 +8,8 @@ use Rattle.smk_base.specs.declared.fault.Many.{Many}
 use Rattle.smk_base.specs.declared.fault.Many.TheVariants as many
 use Rattle.smk_base.specs.declared.fault.TableFault.{TableFault}
 use Rattle.smk_base.specs.declared.fault.TableFault.TheVariants as table
-use Rattle.smk_base.specs.declared.type_fault.TypeFault.{TypeFault}
-use Rattle.smk_base.specs.declared.type_fault.TypeFault.TheVariants as types
+use Rattle.smk_base.specs.declared.book.type_fault.TypeFault.{TypeFault}
+use Rattle.smk_base.specs.declared.book.type_fault.TypeFault.TheVariants as types
 use Rattle.smk_model.specs.Lines.{place_of}
 use Rattle.smk_model.specs.ShownNames.{shown}
 use Rattle.smk_model.specs.Texts.{line}

@@ -1,9 +1,9 @@
 -- What makes the grammar and the first fault believable: each law over all lists of tokens.
 use Rattle.std.specs.Prelude.{◌≡◌, ℕ, List, [], ◌∷◌, ◌++◌, Option, Some, None, Ok}
-use Rattle.smk_base.specs.declared.token.TokenKind.TheVariants.{End}
+use Rattle.smk_base.specs.declared.book.token.TokenKind.TheVariants.{End}
 use Rattle.smk_base.specs.declared.fault.BookFault.{BookFault}
 use Rattle.smk_base.specs.declared.fault.BookFault.TheVariants.{BadToken, Unexpected, TooMany, BadNumber, NoMemory}
-use Rattle.smk_base.specs.declared.tree.Line.{Line}
+use Rattle.smk_base.specs.declared.book.tree.Line.{Line}
 use Rattle.smk_base.specs.Trees.{StmtImage, AskImage, AnyLineImage, AskedLine, ProfiledLine, AppendedLine}
 use Rattle.smk_model.specs.Tokens.{Token, tokens}
 use Rattle.smk_model.specs.Grammar.{AreStmts, IsWholeLine, IsWholeAnyLine}

@@ -5,12 +5,12 @@ use Rattle.smk_base.specs.declared.value.Value.{Value}
 use Rattle.smk_base.specs.declared.value.Value.TheVariants as values
 use Rattle.smk_base.specs.declared.value.Kind.{Kind}
 use Rattle.smk_base.specs.declared.value.Kind.TheVariants.{Int, Text}
-use Rattle.smk_base.specs.declared.plan.Operand.{Operand}
-use Rattle.smk_base.specs.declared.plan.Operand.TheVariants as operands
-use Rattle.smk_base.specs.declared.plan.Item.{Item}
-use Rattle.smk_base.specs.declared.plan.Item.TheVariants as items
-use Rattle.smk_base.specs.declared.plan.Agg.{Agg}
-use Rattle.smk_base.specs.declared.plan.Agg.TheVariants.{Count, Sum, Min, Max}
+use Rattle.smk_base.specs.declared.book.plan.Operand.{Operand}
+use Rattle.smk_base.specs.declared.book.plan.Operand.TheVariants as operands
+use Rattle.smk_base.specs.declared.book.plan.Item.{Item}
+use Rattle.smk_base.specs.declared.book.plan.Item.TheVariants as items
+use Rattle.smk_base.specs.declared.book.plan.Agg.{Agg}
+use Rattle.smk_base.specs.declared.book.plan.Agg.TheVariants.{Count, Sum, Min, Max}
 use Rattle.smk_base.specs.declared.rel.TheConstants.{COLUMN_LIMIT}
 use Rattle.smk_base.specs.Plans.{Formula, Comparison, Conjunction, Disjunction, Negation, Unary, Selection, Projection, Distinction, Grouping, Binary, Equijoin, ThetaJoin, CrossProduct, BagUnion, SetUnion}
 use Rattle.smk_base.specs.Rels.{kind_in}

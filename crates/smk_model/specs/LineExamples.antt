@@ -1,16 +1,16 @@
 -- Lines of a script read by hand: their trees, and where a text leaves the grammar.
 use Rattle.std.specs.Prelude.{◌≡◌, ℕ, pos, List, [], ◌∷◌, Some, codes}
 use Rattle.smk_base.specs.declared.value.Value.TheVariants.{Int}
-use Rattle.smk_base.specs.declared.plan.CmpOp.TheVariants.{Gt}
-use Rattle.smk_base.specs.declared.tree.Word.{Word}
-use Rattle.smk_base.specs.declared.tree.ItemTree.TheVariants as items
-use Rattle.smk_base.specs.declared.tree.AggWhat.TheVariants.{Sum}
-use Rattle.smk_base.specs.declared.tree.Term.TheVariants as terms
+use Rattle.smk_base.specs.declared.book.plan.CmpOp.TheVariants.{Gt}
+use Rattle.smk_base.specs.declared.book.tree.Word.{Word}
+use Rattle.smk_base.specs.declared.book.tree.ItemTree.TheVariants as items
+use Rattle.smk_base.specs.declared.book.tree.AggWhat.TheVariants.{Sum}
+use Rattle.smk_base.specs.declared.book.tree.Term.TheVariants as terms
 use Rattle.smk_base.specs.declared.fault.BookFault.{BookFault}
 use Rattle.smk_base.specs.declared.fault.BookFault.TheVariants.{BadToken, Unexpected, BadNumber}
-use Rattle.smk_base.specs.declared.tree.Line.{Line}
-use Rattle.smk_base.specs.declared.tree.Line.TheVariants as lines
-use Rattle.smk_base.specs.declared.tree.Marks.TheVariants as markings
+use Rattle.smk_base.specs.declared.book.tree.Line.{Line}
+use Rattle.smk_base.specs.declared.book.tree.Line.TheVariants as lines
+use Rattle.smk_base.specs.declared.book.tree.Marks.TheVariants as markings
 use Rattle.smk_base.specs.Trees.{PredImage, CompareNode, SelectNode, DistinctNode, GroupNode, AskImage, AskedLine}
 use Rattle.smk_model.specs.Tokens.{tokens}
 use Rattle.smk_model.specs.Grammar.{IsWholeLine, IsWholeAnyLine}

@@ -2,8 +2,8 @@
 use Rattle.std.specs.Prelude.{◌≡◌, ℕ, ◌+◌, ◌<◌, ◌≤◌, Bool, true, false, List, [], ◌∷◌, ◌++◌, length, map, slice_index_or, slice_set, take}
 use Rattle.std.specs.List.{list_any, flat_map, All}
 use Rattle.smk_base.specs.Places.{IsPlaces}
-use Rattle.smk_base.specs.declared.plan.Item.{Item}
-use Rattle.smk_base.specs.declared.plan.Agg.{Agg}
+use Rattle.smk_base.specs.declared.book.plan.Item.{Item}
+use Rattle.smk_base.specs.declared.book.plan.Agg.{Agg}
 use Rattle.smk_base.specs.Plans.{Formula, Unary, Selection, Projection, Distinction, Grouping, Binary, BagUnion, SetUnion}
 use Rattle.smk_model.specs.Values.{Row}
 use Rattle.smk_model.specs.Plain.{row_eq, image, key_of, firsts, nested, is_join, joins, step1, step2}

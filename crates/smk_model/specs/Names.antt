@@ -5,10 +5,10 @@ use Rattle.std.specs.Cmp.Lexicographic.{pointwise}
 use Rattle.smk_base.specs.declared.value.Kind.{Kind}
 use Rattle.smk_base.specs.declared.value.Kind.TheVariants as kinds
 pub use Rattle.smk_base.specs.Widths.{same_sort}
-use Rattle.smk_base.specs.declared.tree.Word.{Word}
-use Rattle.smk_base.specs.declared.catalog.Column.{Column}
-use Rattle.smk_base.specs.declared.type_fault.TypeFault.{TypeFault}
-use Rattle.smk_base.specs.declared.type_fault.TypeFault.TheVariants.{UnknownColumn}
+use Rattle.smk_base.specs.declared.book.tree.Word.{Word}
+use Rattle.smk_base.specs.declared.book.catalog.Column.{Column}
+use Rattle.smk_base.specs.declared.book.type_fault.TypeFault.{TypeFault}
+use Rattle.smk_base.specs.declared.book.type_fault.TypeFault.TheVariants.{UnknownColumn}
 
 -- what a rule of typing gives: a result, or the fault with its place
 abbrev pub Typed : Type 0 → Type 0

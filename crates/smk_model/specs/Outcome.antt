@@ -6,8 +6,8 @@ use Rattle.std.specs.Cmp.Lexicographic.{pointwise}
 use Rattle.smk_base.specs.Marks.{after_marks}
 use Rattle.smk_base.specs.Trees.{StmtImage, AnyLineImage, PlainLine, AskedLine, ProfiledLine, AppendedLine}
 use Rattle.smk_base.specs.CatalogImage.{CatalogImage}
-use Rattle.smk_base.specs.declared.catalog.TableInfo.{TableInfo}
-use Rattle.smk_base.specs.declared.col_decl.ColDecl.{ColDecl}
+use Rattle.smk_base.specs.declared.book.catalog.TableInfo.{TableInfo}
+use Rattle.smk_base.specs.declared.book.col_decl.ColDecl.{ColDecl}
 use Rattle.smk_base.specs.declared.demo.Demo.{Demo as DemoTexts}
 use Rattle.smk_base.specs.declared.demo.DemoFile.{DemoFile}
 use Rattle.smk_base.specs.declared.demo.TheConstants.{DEMO_BOOK_NAME, DEMO_SCRIPT_NAME}

@@ -6,10 +6,10 @@ use Rattle.smk_base.specs.declared.reply.Group.{Group}
 use Rattle.smk_base.specs.declared.reply.ProfileReply.{ProfileReply}
 use Rattle.smk_base.specs.declared.reply.ProfileReply.TheVariants.{Found, Refused}
 use Rattle.smk_base.specs.declared.reply.ProfileRefusal.TheVariants.{UnknownView, NotProfile}
-use Rattle.smk_base.specs.declared.tree.Line.{Line}
-use Rattle.smk_base.specs.declared.tree.Line.TheVariants as lines
-use Rattle.smk_base.specs.declared.tree.Marks.TheVariants as markings
-use Rattle.smk_base.specs.declared.tree.Then.TheVariants as thens
+use Rattle.smk_base.specs.declared.book.tree.Line.{Line}
+use Rattle.smk_base.specs.declared.book.tree.Line.TheVariants as lines
+use Rattle.smk_base.specs.declared.book.tree.Marks.TheVariants as markings
+use Rattle.smk_base.specs.declared.book.tree.Then.TheVariants as thens
 use Rattle.smk_model.specs.Dependencies.{Dependency, Violation, violations, dependency_of, plan_of}
 use Rattle.smk_model.specs.Names.{is_taken}
 use Rattle.smk_model.specs.Replies.{rows_at_rids}

@@ -2,7 +2,7 @@
 use Rattle.std.specs.Prelude.{◌≡◌, ℕ, List, [], ◌∷◌, Some, None}
 use Rattle.smk_base.specs.declared.fault.BookFault.{BookFault}
 use Rattle.smk_base.specs.Trees.{AnyLineImage, PlainLine}
-use Rattle.smk_base.specs.declared.tree.Line.{Line}
+use Rattle.smk_base.specs.declared.book.tree.Line.{Line}
 use Rattle.smk_base.specs.Marks.{after_marks}
 use Rattle.smk_model.specs.Tokens.{tokens, HasNoToken}
 use Rattle.smk_model.specs.Grammar.{IsWholeAnyLine}

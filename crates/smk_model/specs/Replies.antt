@@ -8,16 +8,16 @@ use Rattle.smk_base.specs.Rels.{Relation}
 use Rattle.smk_base.specs.Values.{value_eq}
 use Rattle.smk_base.specs.CatalogImage.{CatalogImage, view_place, table_place}
 use Rattle.smk_base.specs.declared.brush.BrushOn.{BrushOn}
-use Rattle.smk_base.specs.declared.catalog.Back.{Back}
-use Rattle.smk_base.specs.declared.catalog.BackExtra.{BackExtra}
-use Rattle.smk_base.specs.declared.catalog.BackExtra.TheVariants as extras
-use Rattle.smk_base.specs.declared.plan.Agg.{Agg}
-use Rattle.smk_base.specs.declared.tree.Line.{Line}
-use Rattle.smk_base.specs.declared.tree.Line.TheVariants as lines
-use Rattle.smk_base.specs.declared.tree.Marks.{Marks}
-use Rattle.smk_base.specs.declared.tree.Marks.TheVariants as markings
-use Rattle.smk_base.specs.declared.tree.Then.{Then}
-use Rattle.smk_base.specs.declared.tree.Then.TheVariants as thens
+use Rattle.smk_base.specs.declared.book.catalog.Back.{Back}
+use Rattle.smk_base.specs.declared.book.catalog.BackExtra.{BackExtra}
+use Rattle.smk_base.specs.declared.book.catalog.BackExtra.TheVariants as extras
+use Rattle.smk_base.specs.declared.book.plan.Agg.{Agg}
+use Rattle.smk_base.specs.declared.book.tree.Line.{Line}
+use Rattle.smk_base.specs.declared.book.tree.Line.TheVariants as lines
+use Rattle.smk_base.specs.declared.book.tree.Marks.{Marks}
+use Rattle.smk_base.specs.declared.book.tree.Marks.TheVariants as markings
+use Rattle.smk_base.specs.declared.book.tree.Then.{Then}
+use Rattle.smk_base.specs.declared.book.tree.Then.TheVariants as thens
 use Rattle.smk_base.specs.declared.reply.Linked.{Linked}
 use Rattle.smk_base.specs.declared.reply.Reply.{Reply}
 use Rattle.smk_base.specs.declared.reply.Reply.TheVariants as replies

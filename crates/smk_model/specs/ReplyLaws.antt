@@ -2,10 +2,10 @@
 use Rattle.std.specs.Prelude.{◌≡◌, ℕ, true, List}
 use Rattle.smk_base.specs.CatalogImage.{CatalogImage}
 use Rattle.smk_base.specs.declared.brush.BrushOn.{BrushOn}
-use Rattle.smk_base.specs.declared.tree.Line.{Line}
-use Rattle.smk_base.specs.declared.tree.Line.TheVariants as lines
-use Rattle.smk_base.specs.declared.tree.Marks.{Marks}
-use Rattle.smk_base.specs.declared.tree.Then.{Then}
+use Rattle.smk_base.specs.declared.book.tree.Line.{Line}
+use Rattle.smk_base.specs.declared.book.tree.Line.TheVariants as lines
+use Rattle.smk_base.specs.declared.book.tree.Marks.{Marks}
+use Rattle.smk_base.specs.declared.book.tree.Then.{Then}
 use Rattle.smk_model.specs.Catalogs.{IsCatalog}
 use Rattle.smk_model.specs.ReplyTexts.{IsReplyTo}
 use Rattle.smk_model.specs.Session.{State, Workbook, first_state, first_content, content, under}

@@ -1,7 +1,7 @@
 -- The report of a run: the texts of the views in the book's order, then those of the lines, one after the other.
 use Rattle.std.specs.Prelude.{ℕ, ◌+◌, Bool, true, false, ◌||◌, cond, nat_lt, List, [], ◌∷◌, ◌++◌, length, map, is_some}
 use Rattle.smk_base.specs.CatalogImage.{CatalogImage, ViewImage, table_place}
-use Rattle.smk_base.specs.declared.tree.Line.{Line}
+use Rattle.smk_base.specs.declared.book.tree.Line.{Line}
 use Rattle.smk_base.specs.Trees.{AskImage, AnyLineImage, PlainLine, AskedLine, ProfiledLine, AppendedLine}
 use Rattle.smk_base.specs.declared.size.Size.{Size}
 use Rattle.smk_model.specs.Values.{Row}

@@ -5,7 +5,7 @@ use Rattle.smk_base.specs.Places.{places, has, upto}
 use Rattle.smk_base.specs.Plans.{Leaf}
 use Rattle.smk_base.specs.CatalogImage.{CatalogImage, ViewImage}
 use Rattle.smk_base.specs.declared.brush.BrushOn.{BrushOn}
-use Rattle.smk_base.specs.declared.pick.Pick.{Pick}
+use Rattle.smk_base.specs.declared.list.table_rids.Pick.{Pick}
 use Rattle.smk_model.specs.Values.{Row}
 use Rattle.smk_model.specs.Plain.{table_at, rows_over, eval}
 use Rattle.smk_model.specs.Selection.{over}

@@ -3,18 +3,18 @@ use Rattle.std.specs.Prelude.{◌≡◌, ℕ, pos, List, [], ◌∷◌, ◌++◌
 use Rattle.smk_base.specs.CatalogImage.{CatalogImage, ViewImage}
 use Rattle.smk_base.specs.Plans.{Expr}
 use Rattle.smk_base.specs.Trees.{AskImage, AskedLine}
-use Rattle.smk_base.specs.declared.catalog.BackExtra.TheVariants as extras
-use Rattle.smk_base.specs.declared.col_decl.ColDecl.{ColDecl}
-use Rattle.smk_base.specs.declared.plan.Agg.TheVariants.{Count}
+use Rattle.smk_base.specs.declared.book.catalog.BackExtra.TheVariants as extras
+use Rattle.smk_base.specs.declared.book.col_decl.ColDecl.{ColDecl}
+use Rattle.smk_base.specs.declared.book.plan.Agg.TheVariants.{Count}
 use Rattle.smk_base.specs.declared.value.Kind.{Kind}
 use Rattle.smk_base.specs.declared.value.Kind.TheVariants as kinds
 use Rattle.smk_base.specs.declared.value.Value.{Value}
 use Rattle.smk_base.specs.declared.value.Value.TheVariants as values
-use Rattle.smk_base.specs.declared.tree.Line.{Line}
-use Rattle.smk_base.specs.declared.tree.Line.TheVariants as lines
-use Rattle.smk_base.specs.declared.tree.Marks.{Marks}
-use Rattle.smk_base.specs.declared.tree.Marks.TheVariants as markings
-use Rattle.smk_base.specs.declared.tree.Then.TheVariants as thens
+use Rattle.smk_base.specs.declared.book.tree.Line.{Line}
+use Rattle.smk_base.specs.declared.book.tree.Line.TheVariants as lines
+use Rattle.smk_base.specs.declared.book.tree.Marks.{Marks}
+use Rattle.smk_base.specs.declared.book.tree.Marks.TheVariants as markings
+use Rattle.smk_base.specs.declared.book.tree.Then.TheVariants as thens
 use Rattle.smk_model.specs.LineExamples.{totals, unknown_amounts, of_no_view}
 use Rattle.smk_model.specs.Examples.{tables, by_region, by_zone, big, pair, names, few}
 use Rattle.smk_model.specs.Readings.{Asks, plain_reading}

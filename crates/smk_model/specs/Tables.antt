@@ -9,7 +9,7 @@ use Rattle.smk_base.specs.declared.value.Kind.{Kind}
 use Rattle.smk_base.specs.declared.value.Kind.TheVariants as kinds
 use Rattle.smk_base.specs.declared.value.Value.{Value}
 use Rattle.smk_base.specs.declared.value.Value.TheVariants as values
-use Rattle.smk_base.specs.declared.col_decl.ColDecl.{ColDecl}
+use Rattle.smk_base.specs.declared.book.col_decl.ColDecl.{ColDecl}
 use Rattle.smk_base.specs.declared.fault.TableFault.{TableFault}
 use Rattle.smk_base.specs.declared.fault.TableFault.TheVariants as faults
 use Rattle.smk_base.specs.declared.rel.TheConstants.{COLUMN_LIMIT}

@@ -1,6 +1,6 @@
 -- How a conversation starts, by its words and by what the files hold: over what it reads, or with its first fault.
 use Rattle.std.specs.Prelude.{◌≡◌, ◌⊎◌, ⊤, ℕ, List, [], ◌∷◌, Option, Some, None, Result, Ok, Err, codes}
-use Rattle.smk_base.specs.declared.catalog.TableInfo.{TableInfo}
+use Rattle.smk_base.specs.declared.book.catalog.TableInfo.{TableInfo}
 use Rattle.smk_base.specs.declared.fault.Fault.{Fault}
 use Rattle.smk_base.specs.declared.fault.Fault.TheVariants.{Usage, Unread}
 use Rattle.smk_model.specs.Demo.{demo_of}

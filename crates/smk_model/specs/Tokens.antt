@@ -2,9 +2,9 @@
 use Rattle.std.specs.Prelude.{◌≡◌, ℕ, zero, suc, ◌+◌, ◌-◌, ◌*◌, ◌^◌, ◌==◌, ◌||◌, ◌&&◌, Bool, true, false, List, [], ◌∷◌, drop, length, map, take, take_while, Option, Some, None, nat_eq, nat_lt, nat_le, if◌then◌else◌, not, ℤ, pos, neg_ℤ}
 use Rattle.std.specs.Char.{is_ascii_digit, is_ascii_alphabetic}
 use Rattle.std.specs.Cmp.Lexicographic.{pointwise}
-use Rattle.smk_base.specs.declared.token.TokenKind.{TokenKind}
-use Rattle.smk_base.specs.declared.token.TheConstants.{KEYWORDS}
-use Rattle.smk_base.specs.declared.token.TokenKind.TheVariants.{Name, Quoted, Number, Str, Comma, Open, Close, OpenBrace, CloseBrace, Bar, Equal, NotEqual, Less, LessEqual, Greater, GreaterEqual, End, Bad, Huge}
+use Rattle.smk_base.specs.declared.book.token.TokenKind.{TokenKind}
+use Rattle.smk_base.specs.declared.book.token.TheConstants.{KEYWORDS}
+use Rattle.smk_base.specs.declared.book.token.TokenKind.TheVariants.{Name, Quoted, Number, Str, Comma, Open, Close, OpenBrace, CloseBrace, Bar, Equal, NotEqual, Less, LessEqual, Greater, GreaterEqual, End, Bad, Huge}
 
 -- a token of a text: its place, its kind and its bytes
 pub record Token : Type 0 where

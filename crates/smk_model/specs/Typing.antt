@@ -3,20 +3,20 @@ use Rattle.std.specs.Prelude.{ℕ, Bool, false, true, not, ◌&&◌, nat_eq, Lis
 use Rattle.std.specs.List.{list_any, flat_map}
 use Rattle.smk_base.specs.declared.value.Kind.{Kind}
 use Rattle.smk_base.specs.declared.value.Kind.TheVariants as kinds
-use Rattle.smk_base.specs.declared.tree.Word.{Word}
-use Rattle.smk_base.specs.declared.tree.Lit.{Lit}
-use Rattle.smk_base.specs.declared.tree.Decl.{Decl}
-use Rattle.smk_base.specs.declared.tree.Extra.{Extra}
-use Rattle.smk_base.specs.declared.tree.Extra.TheVariants as extras
-use Rattle.smk_base.specs.declared.col_decl.ColDecl.{ColDecl}
-use Rattle.smk_base.specs.declared.catalog.Column.{Column}
-use Rattle.smk_base.specs.declared.catalog.TableInfo.{TableInfo}
-use Rattle.smk_base.specs.declared.catalog.Back.{Back}
-use Rattle.smk_base.specs.declared.catalog.BackExtra.{BackExtra}
-use Rattle.smk_base.specs.declared.catalog.BackExtra.TheVariants as back_extras
-use Rattle.smk_base.specs.declared.catalog.Fwd.{Fwd}
-use Rattle.smk_base.specs.declared.catalog.LinkInfo.{LinkInfo}
-use Rattle.smk_base.specs.declared.type_fault.TypeFault.TheVariants.{UnknownTable, UnknownView, DuplicateName, KindMismatch, SelfLink, RepeatedDeclaration}
+use Rattle.smk_base.specs.declared.book.tree.Word.{Word}
+use Rattle.smk_base.specs.declared.book.tree.Lit.{Lit}
+use Rattle.smk_base.specs.declared.book.tree.Decl.{Decl}
+use Rattle.smk_base.specs.declared.book.tree.Extra.{Extra}
+use Rattle.smk_base.specs.declared.book.tree.Extra.TheVariants as extras
+use Rattle.smk_base.specs.declared.book.col_decl.ColDecl.{ColDecl}
+use Rattle.smk_base.specs.declared.book.catalog.Column.{Column}
+use Rattle.smk_base.specs.declared.book.catalog.TableInfo.{TableInfo}
+use Rattle.smk_base.specs.declared.book.catalog.Back.{Back}
+use Rattle.smk_base.specs.declared.book.catalog.BackExtra.{BackExtra}
+use Rattle.smk_base.specs.declared.book.catalog.BackExtra.TheVariants as back_extras
+use Rattle.smk_base.specs.declared.book.catalog.Fwd.{Fwd}
+use Rattle.smk_base.specs.declared.book.catalog.LinkInfo.{LinkInfo}
+use Rattle.smk_base.specs.declared.book.type_fault.TypeFault.TheVariants.{UnknownTable, UnknownView, DuplicateName, KindMismatch, SelfLink, RepeatedDeclaration}
 use Rattle.smk_base.specs.Plans.{BagUnion, SetUnion, Leaf}
 use Rattle.smk_base.specs.Trees.{TreeImage, ScanNode, StepNode, StepImage, SelectNode, ProjectNode, DistinctNode, GroupNode, JoinNode, ThetaNode, ProductNode, UnionAllNode, UnionNode, StmtImage, TableNode, ViewNode, BackNode, FwdNode, LinkNode, DependsNode}
 use Rattle.smk_base.specs.CatalogImage.{ViewImage, CatalogImage}

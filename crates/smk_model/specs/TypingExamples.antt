@@ -4,15 +4,15 @@ use Rattle.std.specs.List.{range_with_len}
 use Rattle.smk_base.specs.declared.value.Kind.{Kind}
 use Rattle.smk_base.specs.declared.value.Kind.TheVariants as kinds
 use Rattle.smk_base.specs.declared.value.Value.TheVariants.{Int}
-use Rattle.smk_base.specs.declared.plan.CmpOp.TheVariants.{Eq, Ne, Gt}
-use Rattle.smk_base.specs.declared.tree.Word.{Word}
-use Rattle.smk_base.specs.declared.tree.Term.{Term}
-use Rattle.smk_base.specs.declared.tree.Term.TheVariants as terms
-use Rattle.smk_base.specs.declared.tree.ItemTree.TheVariants as items
-use Rattle.smk_base.specs.declared.catalog.Column.{Column}
-use Rattle.smk_base.specs.declared.catalog.TableInfo.{TableInfo}
-use Rattle.smk_base.specs.declared.type_fault.TypeFault.{TypeFault}
-use Rattle.smk_base.specs.declared.type_fault.TypeFault.TheVariants.{UnknownTable, UnknownColumn, DuplicateName, KindMismatch, RowTooWide}
+use Rattle.smk_base.specs.declared.book.plan.CmpOp.TheVariants.{Eq, Ne, Gt}
+use Rattle.smk_base.specs.declared.book.tree.Word.{Word}
+use Rattle.smk_base.specs.declared.book.tree.Term.{Term}
+use Rattle.smk_base.specs.declared.book.tree.Term.TheVariants as terms
+use Rattle.smk_base.specs.declared.book.tree.ItemTree.TheVariants as items
+use Rattle.smk_base.specs.declared.book.catalog.Column.{Column}
+use Rattle.smk_base.specs.declared.book.catalog.TableInfo.{TableInfo}
+use Rattle.smk_base.specs.declared.book.type_fault.TypeFault.{TypeFault}
+use Rattle.smk_base.specs.declared.book.type_fault.TypeFault.TheVariants.{UnknownTable, UnknownColumn, DuplicateName, KindMismatch, RowTooWide}
 use Rattle.smk_base.specs.Plans.{Expr}
 use Rattle.smk_base.specs.Trees.{PredImage, CompareNode, AndNode, TreeImage, ScanNode, StepNode, ProjectNode, ThetaNode, ProductNode}
 use Rattle.smk_model.specs.Examples.{near, grid}

@@ -7,10 +7,10 @@ use Rattle.std.specs.Cmp.Lexicographic.{slice_cmp}
 use Rattle.std.specs.Int.{int_div_euclid}
 use Rattle.smk_base.specs.declared.value.Value.{Value}
 use Rattle.smk_base.specs.declared.value.Value.TheVariants.{Int, Text}
-use Rattle.smk_base.specs.declared.plan.CmpOp.{CmpOp}
-use Rattle.smk_base.specs.declared.plan.CmpOp.TheVariants.{Eq, Ne, Lt, Le, Gt, Ge}
-use Rattle.smk_base.specs.declared.plan.Operand.{Operand}
-use Rattle.smk_base.specs.declared.plan.Operand.TheVariants.{Col, Lit}
+use Rattle.smk_base.specs.declared.book.plan.CmpOp.{CmpOp}
+use Rattle.smk_base.specs.declared.book.plan.CmpOp.TheVariants.{Eq, Ne, Lt, Le, Gt, Ge}
+use Rattle.smk_base.specs.declared.book.plan.Operand.{Operand}
+use Rattle.smk_base.specs.declared.book.plan.Operand.TheVariants.{Col, Lit}
 use Rattle.smk_base.specs.Rels.{value_in}
 use Rattle.smk_base.specs.Plans.{Formula, Comparison, Conjunction, Disjunction, Negation}
 

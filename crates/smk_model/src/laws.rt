@@ -1,30 +1,32 @@
 //! All laws, by name.
 
-pub use crate::append_laws::{appends_begin_anew, appends_fit, refused_appends_stay};
-pub use crate::ask_laws::{asked_backs_fit, asks_fit, chains_add_no_rows, chains_are_small};
-pub use crate::class_laws::{bulk, classes_are};
-pub use crate::composed_laws::{
+pub use crate::plans::class_laws::{bulk, classes_are};
+pub use crate::plans::composed_laws::{
     backs_compose, forwards_compose, leaves_split, lists_stand, merged_has_both,
 };
-pub use crate::conversation_laws::{conversations_hold, talks_as_reported};
-pub use crate::direction_laws::{inverses, one_each, pairs_forward};
-pub use crate::example_laws::{example_grows, examples_hold, runs_hold, sessions_hold};
-pub use crate::expanded_laws::expanded_stands;
-pub use crate::fault_laws::{first_of_all, nothing_asked};
-pub use crate::fd_laws::{dependencies_answered, fd_law, profiles_fit};
-pub use crate::grammar_laws::{
-    faultless_asks_keep_limits, faultless_have_trees, faultless_keep_limits, faults_stay,
-    one_any_line, one_book, one_line, taken_are_completed, texts_are_read,
-};
-pub use crate::growth_laws::{
+pub use crate::plans::direction_laws::{inverses, one_each, pairs_forward};
+pub use crate::plans::fault_laws::{first_of_all, nothing_asked};
+pub use crate::plans::growth_laws::{
     chain_grows, group_grows, groups_regroup, growing_is_thin, growing_never_full,
     regroups_by_place, unscanned_stays,
 };
-pub use crate::lineage_laws::{
+pub use crate::plans::lineage_laws::{
     answers_are_places, bin_is_floor, cui_widom, rows_agree, selection_lineage, step_by_step,
 };
-pub use crate::local_laws::{adds_no_rows, cut, lists_grow, locals_are};
-pub use crate::outcome_laws::{
+pub use crate::plans::local_laws::{adds_no_rows, cut, lists_grow, locals_are};
+pub use crate::runs::example_laws::{example_grows, examples_hold, runs_hold, sessions_hold};
+pub use crate::runs::grammar_laws::{
+    faultless_asks_keep_limits, faultless_have_trees, faultless_keep_limits, faults_stay,
+    one_any_line, one_book, one_line, taken_are_completed, texts_are_read,
+};
+pub use crate::runs::outcome_laws::{
     faultless_texts_spell, one_inputs, one_outcome, one_reading, some_outcome, some_reading,
 };
-pub use crate::reply_laws::{first_contents, marks_stay, refused_stay, replies_fit};
+pub use crate::sessions::append_laws::{appends_begin_anew, appends_fit, refused_appends_stay};
+pub use crate::sessions::ask_laws::{
+    asked_backs_fit, asks_fit, chains_add_no_rows, chains_are_small,
+};
+pub use crate::sessions::conversation_laws::{conversations_hold, talks_as_reported};
+pub use crate::sessions::expanded_laws::expanded_stands;
+pub use crate::sessions::fd_laws::{dependencies_answered, fd_law, profiles_fit};
+pub use crate::sessions::reply_laws::{first_contents, marks_stay, refused_stay, replies_fit};

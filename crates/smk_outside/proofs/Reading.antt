@@ -10,10 +10,10 @@ use Rattle.std.specs.Io.BufRead.{take_through, drop_through, strip_last, ends_wi
 use Rattle.std.proofs.KnownBytes.{Consumes-trans, Appends-nil}
 use Rattle.std.proofs.BufReadLemmas.{take_through-append, drop_through-append, take_through-nil, Consumes_shown, Consumes_through, zero_unless_positive}
 use Rattle.std.proofs.Transfers.{StopsAt-take}
-use Rattle.smk_outside.specs.declared.heard.Heard.{Heard}
-use Rattle.smk_outside.specs.declared.heard.Heard.TheVariants.{Line, Long, End}
-use Rattle.smk_outside.specs.declared.heard.TalkFault.{TalkFault}
-use Rattle.smk_outside.specs.declared.heard.TalkFault.TheVariants.{Failed, NoMemory}
+use Rattle.smk_outside.specs.declared.talk.heard.Heard.{Heard}
+use Rattle.smk_outside.specs.declared.talk.heard.Heard.TheVariants.{Line, Long, End}
+use Rattle.smk_outside.specs.declared.talk.heard.TalkFault.{TalkFault}
+use Rattle.smk_outside.specs.declared.talk.heard.TalkFault.TheVariants.{Failed, NoMemory}
 use Rattle.std.specs.Io.KnownBytes as known
 use Rattle.std.specs.Option.{option_map}
 use Rattle.smk_outside.specs.Told.{Told, AreFirst, says}

@@ -3,10 +3,10 @@ use Rattle.std.proofs.Common.{◌≡◌, ℕ, List, [], ◌∷◌, ◌++◌, ref
 use Rattle.std.proofs.lemmas.List.Folds.{concat-append}
 use Rattle.std.specs.List.{concat}
 use Rattle.std.specs.Io.KnownBytes as known
-use Rattle.smk_outside.specs.declared.event.Event.{Event}
-use Rattle.smk_outside.specs.declared.event.Event.TheVariants.{Heard, End}
-use Rattle.smk_outside.specs.declared.ending.Ending.{Ending}
-use Rattle.smk_outside.specs.declared.ending.Ending.TheVariants.{Ended, Unheard, Unsaid, Outlasted}
+use Rattle.smk_outside.specs.declared.talk.event.Event.{Event}
+use Rattle.smk_outside.specs.declared.talk.event.Event.TheVariants.{Heard, End}
+use Rattle.smk_outside.specs.declared.talk.ending.Ending.{Ending}
+use Rattle.smk_outside.specs.declared.talk.ending.Ending.TheVariants.{Ended, Unheard, Unsaid, Outlasted}
 use Rattle.smk_outside.specs.Outside.{IsPrefix}
 use Rattle.smk_outside.specs.Told.{Told, said_in, says}
 use Rattle.smk_outside.specs.Conversing.{Rules, texts_of, Talks, Conversation, AnyFits, SaysAll}

@@ -2,10 +2,10 @@
 use Rattle.std.proofs.Common.{◌≡◌, ◌+◌, ℕ, List, [], ◌∷◌, ◌++◌, Option, Some, None, refl, sym, ap, ◌∙◌, subst, arith, append_assoc, append-nil, length, length-append}
 use Rattle.std.proofs.lemmas.List.{map-append}
 use Rattle.std.proofs.lemmas.List.Sums.{fold-append}
-use Rattle.smk_outside.specs.declared.event.Event.{Event}
-use Rattle.smk_outside.specs.declared.event.Event.TheVariants.{Heard}
-use Rattle.smk_outside.specs.declared.ending.Ending.{Ending}
-use Rattle.smk_outside.specs.declared.ending.Ending.TheVariants.{Ended, Unheard, Unsaid, Outlasted}
+use Rattle.smk_outside.specs.declared.talk.event.Event.{Event}
+use Rattle.smk_outside.specs.declared.talk.event.Event.TheVariants.{Heard}
+use Rattle.smk_outside.specs.declared.talk.ending.Ending.{Ending}
+use Rattle.smk_outside.specs.declared.talk.ending.Ending.TheVariants.{Ended, Unheard, Unsaid, Outlasted}
 use Rattle.smk_outside.specs.Told.{Told, Adds, says}
 use Rattle.smk_outside.specs.Hearing.{Hears}
 use Rattle.smk_outside.specs.Saying.{Says, AreFront, SaysFront}

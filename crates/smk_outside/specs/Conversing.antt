@@ -2,10 +2,10 @@
 use Rattle.std.specs.Prelude.{◌≡◌, ℕ, ⊤, List, [], ◌∷◌, ◌++◌, length, map, IfSome}
 use Rattle.std.specs.List.{concat, flat_map, fold, scan}
 use Rattle.std.specs.Io.KnownBytes as known
-use Rattle.smk_outside.specs.declared.event.Event.{Event}
-use Rattle.smk_outside.specs.declared.event.Event.TheVariants.{Heard, End}
-use Rattle.smk_outside.specs.declared.ending.Ending.{Ending}
-use Rattle.smk_outside.specs.declared.ending.Ending.TheVariants.{Ended, Unheard, Unsaid, Outlasted}
+use Rattle.smk_outside.specs.declared.talk.event.Event.{Event}
+use Rattle.smk_outside.specs.declared.talk.event.Event.TheVariants.{Heard, End}
+use Rattle.smk_outside.specs.declared.talk.ending.Ending.{Ending}
+use Rattle.smk_outside.specs.declared.talk.ending.Ending.TheVariants.{Ended, Unheard, Unsaid, Outlasted}
 use Rattle.smk_outside.specs.Outside.{IsPrefix, Rose}
 use Rattle.smk_outside.specs.Told.{Told, said_in, Adds, Takes, AreAll, says}
 use Rattle.smk_outside.specs.Saying.{AreFront}

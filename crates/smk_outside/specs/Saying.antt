@@ -1,7 +1,7 @@
 -- What is said when something is to be said.
 use Rattle.std.specs.Prelude.{◌≡◌, ℕ, List, []}
 use Rattle.std.specs.List.{concat}
-use Rattle.smk_outside.specs.declared.event.Event.{Event}
+use Rattle.smk_outside.specs.declared.talk.event.Event.{Event}
 use Rattle.smk_outside.specs.Outside.{IsPrefix}
 use Rattle.smk_outside.specs.Told.{Told, Adds, Takes, says}
 

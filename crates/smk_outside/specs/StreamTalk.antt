@@ -4,10 +4,10 @@ use Rattle.std.specs.Option.{option_map}
 use Rattle.std.specs.Io.{StopsAt, IsEmptyOrEndsWith}
 use Rattle.std.specs.Io.BufRead.{take_through, drop_through, strip_last}
 use Rattle.std.specs.Io.KnownBytes as known
-use Rattle.smk_outside.specs.declared.heard.Heard.{Heard}
-use Rattle.smk_outside.specs.declared.heard.Heard.TheVariants.{Line, Long, End}
-use Rattle.smk_outside.specs.declared.heard.TalkFault.{TalkFault}
-use Rattle.smk_outside.specs.declared.heard.TalkFault.TheVariants.{Failed, NoMemory}
+use Rattle.smk_outside.specs.declared.talk.heard.Heard.{Heard}
+use Rattle.smk_outside.specs.declared.talk.heard.Heard.TheVariants.{Line, Long, End}
+use Rattle.smk_outside.specs.declared.talk.heard.TalkFault.{TalkFault}
+use Rattle.smk_outside.specs.declared.talk.heard.TalkFault.TheVariants.{Failed, NoMemory}
 use Rattle.smk_outside.specs.Told.{Told}
 
 -- the reader, the writer, and how many calls have failed

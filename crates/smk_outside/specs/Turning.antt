@@ -1,7 +1,7 @@
 -- What one turn of a conversation comes to, for the body of a loop that makes them.
 use Rattle.std.specs.Prelude.{◌≡◌, ℕ, List, [], length, Option, Some, None}
-use Rattle.smk_outside.specs.declared.ending.Ending.{Ending}
-use Rattle.smk_outside.specs.declared.ending.Ending.TheVariants.{Ended, Unheard, Unsaid, Outlasted}
+use Rattle.smk_outside.specs.declared.talk.ending.Ending.{Ending}
+use Rattle.smk_outside.specs.declared.talk.ending.Ending.TheVariants.{Ended, Unheard, Unsaid, Outlasted}
 use Rattle.smk_outside.specs.Told.{Told}
 use Rattle.smk_outside.specs.Saying.{Says, SaysFront}
 use Rattle.smk_outside.specs.Conversing.{Rules, Stretch, Cause}

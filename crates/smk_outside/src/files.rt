@@ -1,6 +1,9 @@
 ghost use Rattle.std.specs.Prelude.{◌≡◌, ◌+◌, ◌≤◌, ◌⊎◌, ℕ, List, Option, length, IfOk, IsErr, IsErrOf};
 ghost use Rattle.smk_outside.specs.Outside.{Rose, IsMissing, IsFrontOf};
 
+pub(crate) mod mem_files;
+pub(crate) mod real_files;
+
 use smk_base::FilesFault;
 use std::alloc::Global;
 

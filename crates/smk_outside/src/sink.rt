@@ -1,6 +1,9 @@
 ghost use Rattle.std.specs.Prelude.{◌≤◌, ℕ, List, Option, OnOk, OnErr};
 ghost use Rattle.smk_outside.specs.Outside.{Rose, Appends, AppendsPart};
 
+pub(crate) mod mem_sink;
+pub(crate) mod stream_sink;
+
 /// A write failed.
 #[derive(Drop, Clone, Copy)]
 pub struct Failed;

@@ -4,8 +4,14 @@ ghost use Rattle.smk_outside.specs.Saying.{Says, SaysFront};
 ghost use Rattle.smk_outside.specs.Outside.{Rose};
 ghost use Rattle.smk_outside.specs.Told.{Told};
 
-use crate::heard::{Heard, TalkFault};
+pub(crate) mod ending;
+pub(crate) mod event;
+pub(crate) mod heard;
+pub(crate) mod mem_talk;
+pub(crate) mod stream_talk;
+
 use crate::sink::Failed;
+use crate::talk::heard::{Heard, TalkFault};
 use std::alloc::Global;
 
 /// An object with two ends: lines come from it, and bytes are said to it.

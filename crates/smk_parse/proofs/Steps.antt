@@ -5,9 +5,9 @@ use Rattle.std.proofs.Common.{◌≡◌, ◌<◌, List, [], ◌∷◌, ◌++◌,
 use Rattle.std.proofs.lemmas.{Bool.lt-ltb, Grind.length_at_push}
 use Rattle.smk_model.{proofs.Alike.same_is, specs.Grammar.one_more}
 use Rattle.smk_parse.specs.{Reads.Leads, Reads.Fails, Reads.is_memory, Reads.Comes, Reads.Reads, Reads.is_column, Texts.Advances}
-use Rattle.smk_base.specs.declared.limits.TheConstants.{NODE_LIMIT}
+use Rattle.smk_base.specs.declared.book.limits.TheConstants.{NODE_LIMIT}
 use Rattle.smk_base.specs.declared.rel.TheConstants.{COLUMN_LIMIT}
-use Rattle.smk_base.specs.declared.token.TokenKind.TheVariants as kinds
+use Rattle.smk_base.specs.declared.book.token.TokenKind.TheVariants as kinds
 
 -- there is a token in hand
 abbrev pub Here : Configuration → Type 0

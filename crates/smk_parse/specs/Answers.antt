@@ -1,7 +1,7 @@
 -- What the parsers answer.
 use Rattle.std.specs.Prelude.{◌≡◌, ℕ, List, Option, Some, None, Result, Ok, Err}
 use Rattle.smk_parse.specs.Vocabulary.{BookFault, Book, LineFault, Line, BadToken, Unexpected, TooMany, BadNumber, NoMemory, book_image, any_image, tokens, HasNoToken, line_fault, any_fault, book_fault, place_of, IsWholeLine, IsWholeAnyLine, AreStmts}
-use Rattle.smk_base.specs.declared.tree.AnyLine.{AnyLine}
+use Rattle.smk_base.specs.declared.book.tree.AnyLine.{AnyLine}
 use Rattle.smk_base.specs.declared.fault.LineFault.TheVariants as line_faults
 
 -- a line's fault by that of its reader: it isn't a line, or memory ran out

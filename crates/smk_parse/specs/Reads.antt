@@ -1,7 +1,7 @@
 -- What a reader of some symbols answers.
 use Rattle.std.specs.Prelude.{◌≡◌, ℕ, ◌+◌, ◌≤◌, Bool, true, false, List, [], ◌∷◌, ◌++◌, length, Result, Ok, Err}
 use Rattle.smk_parse.specs.Vocabulary.{BookFault, NoMemory, TokenKind, Word, Marks, Token, inner, First, IsName, AreMarks, IsAskStep, AreAskSteps, AskStepImage, Configuration, PlanCounts, Symbol, AStmts, move_of, at_more, through}
-use Rattle.smk_base.specs.declared.token.TokenKind.TheVariants as kinds
+use Rattle.smk_base.specs.declared.book.token.TokenKind.TheVariants as kinds
 use Rattle.smk_model.specs.Machine as machine
 use Rattle.smk_parse.specs.declared.book.Tally.{Tally}
 

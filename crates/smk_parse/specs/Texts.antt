@@ -1,7 +1,7 @@
 -- What the code holds of a text.
 use Rattle.std.specs.Prelude.{◌≡◌, ℕ, ◌+◌, ◌-◌, ◌<◌, ◌≤◌, true, List, [], ◌∷◌, take, drop, length, min, cond, FitsSigned}
 use Rattle.smk_parse.specs.Vocabulary.{TokenKind, LineSpan, Token, Front, Between, Begins, tokens_from, is_more, head_of, int_value, Configuration, PlanCounts, first_line, lines, w64}
-use Rattle.smk_base.specs.declared.token.TokenKind.TheVariants.{Number}
+use Rattle.smk_base.specs.declared.book.token.TokenKind.TheVariants.{Number}
 use Rattle.smk_parse.specs.declared.front.Front as code
 use Rattle.smk_parse.specs.declared.front.Front.TheVariants as fronts
 

@@ -3,7 +3,7 @@
 ghost use Rattle.std.specs.Prelude.{◌≡◌, ◌∷◌, [], List, map, IfOk};
 ghost use Rattle.smk_parse.specs.Vocabulary.{Token, First, ask_image, ask_step_image, any_image, IsAskLine, IsAnyLine, IsWholeAnyLine, AToken, ALineName, AMarks, AnAskStep, AskSteps, any_symbols};
 ghost use Rattle.smk_model.specs.Machine as machine;
-ghost use Rattle.smk_base.specs.declared.token.TokenKind.TheVariants as kinds;
+ghost use Rattle.smk_base.specs.declared.book.token.TokenKind.TheVariants as kinds;
 ghost use Rattle.smk_parse.specs.{Reads.ArePiped, Reads.Reads, Answers.IsAnyAnswer};
 
 use crate::line::{as_line_fault, end, line, marked};

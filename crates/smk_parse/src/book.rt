@@ -2,7 +2,7 @@
 
 ghost use Rattle.std.specs.Prelude.{◌≡◌, ◌∷◌, ◌<◌, [], List, length, map, IsTrue, IfOk, OnOk};
 ghost use Rattle.smk_parse.specs.Vocabulary.{stmt_image, Token, head_of, is_more, First, IsExtra, IsStmt, AreStmts, AToken, AName, AColumn, AFirst, AType, ADefault, MoreDecls, MoreKeys, ASource, ASteps, ALineage, AnExtra, ALinked, MoreLinked, book_symbols};
-ghost use Rattle.smk_base.specs.declared.token.TokenKind.TheVariants as kinds;
+ghost use Rattle.smk_base.specs.declared.book.token.TokenKind.TheVariants as kinds;
 ghost use Rattle.smk_parse.specs.{Reads.AreNames, Reads.Reads, Reads.StmtReads, Answers.IsBookAnswer};
 
 use crate::lists::{Linked, aggs, keys, listed};

@@ -2,7 +2,7 @@
 
 ghost use Rattle.std.specs.Prelude.{◌≡◌, ◌∷◌, [], List, refl, IsTrue, IfOk, OnOk};
 ghost use Rattle.smk_parse.specs.Vocabulary.{Token, head_of, tail_of, is_more, First, IsMark, AreMarks, IsThen, IsLine, IsWholeLine, AToken, ALine, ALineName, AMark, MoreMarks, AMarks, AThen, ACleared, AnEnd, line_symbols};
-ghost use Rattle.smk_base.specs.declared.token.TokenKind.TheVariants as kinds;
+ghost use Rattle.smk_base.specs.declared.book.token.TokenKind.TheVariants as kinds;
 ghost use Rattle.smk_parse.specs.{Reads.IsMarked, Reads.Reads, Answers.IsLineAnswer, Answers.as_line_fault};
 
 use crate::lists::{Member, listed};

@@ -2,7 +2,7 @@
 
 ghost use Rattle.std.specs.Prelude.{◌≡◌, ◌∷◌, ◌++◌, ◌<◌, ◌≤◌, [], pos, ◌≤ℤ◌, refl, IfOk};
 ghost use Rattle.smk_parse.specs.Vocabulary.{head_of, AreListed, IsName, IsColumn, IsType, IsDefault, IsDecl, IsNamed, IsWidth, IsItem, IsWhat, IsAgg, IsPair, AreKeys, AreAggs, AToken, AColumn, AFirst, AType, ADefault, AnAs, AWidth, AnItem, AWhat, AKeys, AnAggs, ALinked, MoreDecls, MoreItems, MoreKeys, MoreAggs, MorePairs, MoreLinked};
-ghost use Rattle.smk_base.specs.declared.token.TokenKind.TheVariants as kinds;
+ghost use Rattle.smk_base.specs.declared.book.token.TokenKind.TheVariants as kinds;
 ghost use Rattle.smk_parse.specs.Reads.{MemberRule, Reads};
 
 use crate::reader::Reader;

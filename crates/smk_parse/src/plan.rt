@@ -2,8 +2,8 @@
 
 ghost use Rattle.std.specs.Prelude.{◌≡◌, ◌∷◌, ◌+◌, ◌<◌, ◌≤◌, [], ℕ, List, Some, is_some, true, IsTrue, IfOk, IfErr, OnOk};
 ghost use Rattle.smk_parse.specs.Vocabulary.{TooMany, Nodes, tree_image, step_image, ask_step_image, head_of, tail_of, is_more, Symbol, Token, First, step_symbols, ask_symbols, IsSource, IsPlan, IsStep, IsAskStep, node_more, ASource, ASteps, AStep, AnAskStep};
-ghost use Rattle.smk_base.specs.declared.limits.TheConstants.{NODE_LIMIT};
-ghost use Rattle.smk_base.specs.declared.token.TokenKind.TheVariants as kinds;
+ghost use Rattle.smk_base.specs.declared.book.limits.TheConstants.{NODE_LIMIT};
+ghost use Rattle.smk_base.specs.declared.book.token.TokenKind.TheVariants as kinds;
 ghost use Rattle.smk_parse.specs.{Texts.Advances, Reads.Reads};
 
 use crate::lists::{aggs, keys, listed};

@@ -2,7 +2,7 @@
 
 ghost use Rattle.std.specs.Prelude.{◌≡◌, ◌∷◌, ◌+◌, ◌<◌, [], ℕ, IfOk, OnOk};
 ghost use Rattle.smk_parse.specs.Vocabulary.{pred_image, head_of, First, IsOp, IsTerm, IsPrim, IsConj, IsPred, AnOn, AnOp, ATerm, APrim, AnAnds, AnOrs};
-ghost use Rattle.smk_base.specs.declared.token.TokenKind.TheVariants as kinds;
+ghost use Rattle.smk_base.specs.declared.book.token.TokenKind.TheVariants as kinds;
 ghost use Rattle.smk_parse.specs.Reads.{Reads};
 
 use crate::reader::Reader;

@@ -8,7 +8,7 @@ use Rattle.smk_base.specs.Rels.{Relation}
 use Rattle.smk_base.specs.declared.reply.Group.{Group}
 use Rattle.smk_base.specs.declared.reply.Reply.{Reply}
 use Rattle.smk_base.specs.declared.reply.Reply.TheVariants.{Back}
-use Rattle.smk_base.specs.declared.tree.Line.{Line}
+use Rattle.smk_base.specs.declared.book.tree.Line.{Line}
 use Rattle.smk_model.specs.Dependencies.{violation_at, no_violation}
 use Rattle.smk_model.specs.Looks.{line_looks}
 use Rattle.smk_model.specs.Profiles.{ShowsDependency, group_of, groups_of, looks_of_groups, mark_line, shown_by, violations_of}

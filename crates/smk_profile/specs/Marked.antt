@@ -3,9 +3,9 @@ use Rattle.std.specs.Prelude.{◌≡◌, ℕ, List, [], ◌∷◌}
 use Rattle.smk_base.specs.CatalogImage.{CatalogImage}
 use Rattle.smk_base.specs.declared.reply.Reply.{Reply}
 use Rattle.smk_base.specs.declared.reply.Reply.TheVariants.{Back}
-use Rattle.smk_base.specs.declared.tree.Line.{Line}
-use Rattle.smk_base.specs.declared.tree.Line.TheVariants as lines
-use Rattle.smk_base.specs.declared.tree.Marks.TheVariants as markings
+use Rattle.smk_base.specs.declared.book.tree.Line.{Line}
+use Rattle.smk_base.specs.declared.book.tree.Line.TheVariants as lines
+use Rattle.smk_base.specs.declared.book.tree.Marks.TheVariants as markings
 use Rattle.smk_model.specs.Profiles.{mark_line}
 use Rattle.smk_model.specs.Replies.{reply}
 use Rattle.smk_model.specs.Session.{State}

@@ -5,8 +5,8 @@ use Rattle.std.proofs.lemmas.List.{get_or-map, get_or_append_left, get_or_defaul
 use Rattle.std.proofs.lemmas.List.Elements.{All-nil, All-push}
 use Rattle.std.proofs.lemmas.Option.{none-some}
 use Rattle.smk_base.specs.Rels.{Relation, kind_in, picked, row_in, rows_at}
-use Rattle.smk_base.specs.declared.plan.Agg.{Agg}
-use Rattle.smk_base.specs.declared.plan.Agg.TheVariants.{Count, Sum, Min, Max}
+use Rattle.smk_base.specs.declared.book.plan.Agg.{Agg}
+use Rattle.smk_base.specs.declared.book.plan.Agg.TheVariants.{Count, Sum, Min, Max}
 use Rattle.smk_base.specs.declared.value.Kind.{Kind}
 use Rattle.smk_base.specs.declared.value.Value.TheVariants.{Int}
 use Rattle.smk_base.specs.declared.value.Kind.TheVariants as kinds

@@ -5,7 +5,7 @@ use Rattle.std.proofs.lemmas.List.{append-nil, get_or-map, length-map, map-appen
 use Rattle.std.proofs.lemmas.List.Elements.{All-map, All-filter}
 use Rattle.smk_base.specs.Places.{IsPlaces, has, upto, places}
 use Rattle.smk_base.specs.Rels.{Relation, kind_in, picked, row_in, rows_at, value_in}
-use Rattle.smk_base.specs.declared.plan.Agg.{Agg}
+use Rattle.smk_base.specs.declared.book.plan.Agg.{Agg}
 use Rattle.smk_keys.specs.Classes.{ClassesImage, classes_of, classing_of}
 use Rattle.smk_keys.specs.Numbers.{AreNumbers}
 use Rattle.smk_keys.proofs.Firsts.{AreNumbers-classes}

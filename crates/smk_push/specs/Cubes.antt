@@ -3,7 +3,7 @@ use Rattle.std.specs.Prelude.{ℕ, List, [], map, slice_index_or}
 use Rattle.smk_base.specs.Places.{Lists}
 use Rattle.smk_base.specs.Plans.{Grouping}
 use Rattle.smk_base.specs.Rels.{Relation}
-use Rattle.smk_base.specs.declared.plan.Agg.{Agg}
+use Rattle.smk_base.specs.declared.book.plan.Agg.{Agg}
 use Rattle.smk_model.specs.Kinds.{kinds1}
 use Rattle.smk_model.specs.Lineage.{sub}
 use Rattle.smk_model.specs.Plain.{step1}

@@ -2,8 +2,8 @@
 use Rattle.std.specs.Prelude.{ℕ, List, [], map}
 use Rattle.std.proofs.Math.ListN.{replicate}
 use Rattle.smk_rid.specs.Packing.{one_of}
-use Rattle.smk_rid.specs.declared.array.Form.{Form}
-use Rattle.smk_rid.specs.declared.array.Form.TheVariants.{Empty, Bytes, Halves, Words}
+use Rattle.smk_rid.specs.declared.hold.array.Form.{Form}
+use Rattle.smk_rid.specs.declared.hold.array.Form.TheVariants.{Empty, Bytes, Halves, Words}
 
 -- the lists, in whichever form
 abbrev pub lists_in : Form → List (List ℕ)

@@ -6,9 +6,9 @@ ghost use Rattle.smk_base.specs.declared.rel.TheConstants.{ROW_LIMIT};
 ghost use Rattle.smk_rid.specs.Packing.{one_of};
 ghost use Rattle.smk_rid.specs.Maps.{IsMap, IsSingle, array_lists};
 
-use crate::array::{NONE, RidArray};
-use crate::narrow::numbers_below;
-use crate::packed::Packed;
+use crate::hold::array::{NONE, RidArray};
+use crate::hold::narrow::numbers_below;
+use crate::hold::packed::Packed;
 use std::alloc::{AllocError, Global};
 use std::marker::Model;
 

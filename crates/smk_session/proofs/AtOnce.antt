@@ -11,9 +11,9 @@ use Rattle.smk_compose.specs.declared.kept_maps.Run.{Run}
 use Rattle.smk_jobs.specs.Jobs.{FirstFault}
 use Rattle.smk_session.specs.Openings.{Opens, OpensAs, faults_of, views_of}
 use Rattle.smk_session.specs.Sessions.{IsStartFault, opened}
-use Rattle.smk_session.specs.declared.fault.StartFault.{StartFault}
-use Rattle.smk_session.specs.declared.fault.StartFault.TheVariants.{Rows, Pairs, NoMemory}
-use Rattle.smk_session.specs.declared.opening.Stocked.{Stocked}
+use Rattle.smk_session.specs.declared.start.fault.StartFault.{StartFault}
+use Rattle.smk_session.specs.declared.start.fault.StartFault.TheVariants.{Rows, Pairs, NoMemory}
+use Rattle.smk_session.specs.declared.start.opening.Stocked.{Stocked}
 use Rattle.smk_session.proofs.Starts.{first_append, first_more}
 
 -- what a view is opened as, by the clauses on one result

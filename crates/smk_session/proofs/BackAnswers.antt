@@ -9,14 +9,14 @@ use Rattle.smk_base.specs.Places.{IsPlaces, Lists, has, list_at, members_at}
 use Rattle.smk_base.specs.Plans.{Grouping}
 use Rattle.smk_base.specs.Rels.{Relation}
 use Rattle.smk_base.specs.declared.brush.BrushOn.{BrushOn}
-use Rattle.smk_base.specs.declared.catalog.Catalog.{Catalog}
+use Rattle.smk_base.specs.declared.book.catalog.Catalog.{Catalog}
 use Rattle.smk_base.specs.declared.reply.Refusal.TheVariants.{ManyMarks, NoGroup, NoSplit, Undeclared, ValueKind}
 use Rattle.smk_base.specs.declared.reply.Reply.{Reply}
 use Rattle.smk_base.specs.declared.reply.Reply.TheVariants as replies
-use Rattle.smk_base.specs.declared.tree.Marks.{Marks}
-use Rattle.smk_base.specs.declared.tree.Marks.TheVariants as markings
-use Rattle.smk_base.specs.declared.tree.Then.{Then}
-use Rattle.smk_base.specs.declared.tree.Then.TheVariants as thens
+use Rattle.smk_base.specs.declared.book.tree.Marks.{Marks}
+use Rattle.smk_base.specs.declared.book.tree.Marks.TheVariants as markings
+use Rattle.smk_base.specs.declared.book.tree.Then.{Then}
+use Rattle.smk_base.specs.declared.book.tree.Then.TheVariants as thens
 use Rattle.smk_base.specs.declared.value.Kind.{Kind}
 use Rattle.smk_base.specs.declared.value.Value.{Value}
 use Rattle.smk_model.specs.Catalogs.{table_kinds}
@@ -41,7 +41,7 @@ use Rattle.smk_session.specs.Extras.{backs_of, cubes_place, split_on, split_plac
 use Rattle.smk_session.specs.BackAnswers.{CubesFit, IsPairOf, SplitsFit, cubes_asked, grouped_by, matching_by, one_asked, sort_asked, split_asked, split_kept, with_value_asked}
 use Rattle.smk_session.specs.Sessions.{state_over, workbook_image}
 use Rattle.smk_session.specs.declared.lent.Lent.{Lent}
-use Rattle.smk_session.specs.declared.backward.Pair.{Pair}
+use Rattle.smk_session.specs.declared.answer.backward.Pair.{Pair}
 use Rattle.smk_session.proofs.Declared.{cubes_found, cubes_of_grouped, grouping_fits, split_found}
 use Rattle.smk_session.proofs.KeptOf.{kept_back_is}
 use Rattle.smk_session.proofs.Marked.{backs_asked, none_outside, passed, same_row}

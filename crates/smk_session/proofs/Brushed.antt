@@ -6,11 +6,11 @@ use Rattle.smk_base.specs.Places.{Lists, upto}
 use Rattle.smk_base.specs.Plans.{Expr}
 use Rattle.smk_base.specs.Rels.{Relation}
 use Rattle.smk_base.specs.declared.brush.BrushOn.{BrushOn}
-use Rattle.smk_base.specs.declared.catalog.Catalog.{Catalog}
+use Rattle.smk_base.specs.declared.book.catalog.Catalog.{Catalog}
 use Rattle.smk_base.specs.declared.reply.Linked.{Linked}
 use Rattle.smk_base.specs.declared.reply.Refusal.TheVariants.{Undeclared}
 use Rattle.smk_base.specs.declared.reply.Reply.TheVariants as replies
-use Rattle.smk_base.specs.declared.tree.Marks.{Marks}
+use Rattle.smk_base.specs.declared.book.tree.Marks.{Marks}
 use Rattle.smk_model.specs.Composed.{backs}
 use Rattle.smk_model.specs.Looks.{looks_of_brush, looks_of_clear, looks_of_linked}
 use Rattle.smk_model.specs.Names.{◌>>=◌}
@@ -23,10 +23,10 @@ use Rattle.smk_session.specs.Answers.{Changes, IsLent, Turns, book_of, content_a
 use Rattle.smk_session.specs.Refreshed.{IsRefresh}
 use Rattle.smk_session.specs.Sessions.{AreInForce, AreOpened, BrushFits, state_over}
 use Rattle.smk_session.specs.declared.lent.Lent.{Lent}
-use Rattle.smk_session.specs.declared.refresh.Refresh.{Refresh}
+use Rattle.smk_session.specs.declared.brush.refresh.Refresh.{Refresh}
 use Rattle.smk_session.specs.declared.turn.Content.{Content}
-use Rattle.smk_session.specs.declared.turned.Turned.{Turned}
-use Rattle.smk_session.specs.declared.turned.Turned.TheVariants.{Refused, Exhausted}
+use Rattle.smk_session.specs.declared.answer.no_answer.Turned.{Turned}
+use Rattle.smk_session.specs.declared.answer.no_answer.Turned.TheVariants.{Refused, Exhausted}
 use Rattle.smk_session.proofs.KeptOf.{kept_back_is}
 use Rattle.smk_session.proofs.Linked.{or_right}
 use Rattle.smk_session.proofs.Opened.{run_is}

@@ -10,11 +10,11 @@ use Rattle.std.proofs.lemmas.Slice.Zip.{AllZip-long}
 use Rattle.smk_base.specs.CatalogImage.{catalog_image, view_image}
 use Rattle.smk_base.specs.Places.{Lists}
 use Rattle.smk_base.specs.Rels.{Relation}
-use Rattle.smk_base.specs.declared.catalog.Back.{Back}
-use Rattle.smk_base.specs.declared.catalog.BackExtra.{BackExtra}
-use Rattle.smk_base.specs.declared.catalog.BackExtra.TheVariants as extras
-use Rattle.smk_base.specs.declared.catalog.Catalog.{Catalog}
-use Rattle.smk_base.specs.declared.catalog.TableInfo.{TableInfo}
+use Rattle.smk_base.specs.declared.book.catalog.Back.{Back}
+use Rattle.smk_base.specs.declared.book.catalog.BackExtra.{BackExtra}
+use Rattle.smk_base.specs.declared.book.catalog.BackExtra.TheVariants as extras
+use Rattle.smk_base.specs.declared.book.catalog.Catalog.{Catalog}
+use Rattle.smk_base.specs.declared.book.catalog.TableInfo.{TableInfo}
 use Rattle.smk_base.specs.declared.reply.Refusal.TheVariants.{Undeclared}
 use Rattle.smk_base.specs.declared.value.Kind.{Kind}
 use Rattle.smk_model.specs.Catalogs.{BackFits, ExtraFits, GroupingFits, table_kinds}
@@ -31,8 +31,8 @@ use Rattle.smk_session.specs.Answers.{kept_back}
 use Rattle.smk_session.specs.Extras.{backs_of, split_on, cubes_on, split_for, cubes_for, split_in, cubes_in, asks_split, asks_groups, split_place, cubes_place}
 use Rattle.smk_session.specs.Making.{AreNow, IsDeclared, IsMade, cubes_wanted, declared_in, looks_wanted, newer, split_wanted}
 use Rattle.smk_session.specs.Sessions.{AreOpened, opened, workbook_image}
-use Rattle.smk_session.specs.declared.making.Asked.{Asked}
-use Rattle.smk_session.specs.declared.making.Made.{Made}
+use Rattle.smk_session.specs.declared.start.making.Asked.{Asked}
+use Rattle.smk_session.specs.declared.start.making.Made.{Made}
 use Rattle.smk_session.proofs.KeptOf.{kept_back_is}
 use Rattle.smk_session.proofs.Opened.{views_long}
 

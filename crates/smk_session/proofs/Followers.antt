@@ -9,9 +9,9 @@ use Rattle.smk_base.specs.PlanImage.{expr_of}
 use Rattle.smk_base.specs.Plans.{Expr}
 use Rattle.smk_base.specs.Rels.{Relation}
 use Rattle.smk_base.specs.declared.brush.BrushOn.{BrushOn}
-use Rattle.smk_base.specs.declared.catalog.Catalog.{Catalog}
-use Rattle.smk_base.specs.declared.catalog.ViewInfo.{ViewInfo}
-use Rattle.smk_base.specs.declared.pick.Pick.{Pick}
+use Rattle.smk_base.specs.declared.book.catalog.Catalog.{Catalog}
+use Rattle.smk_base.specs.declared.book.catalog.ViewInfo.{ViewInfo}
+use Rattle.smk_base.specs.declared.list.table_rids.Pick.{Pick}
 use Rattle.smk_base.specs.declared.reply.Refusal.TheVariants.{Undeclared}
 use Rattle.smk_base.specs.declared.value.Kind.{Kind}
 use Rattle.smk_model.specs.Composed.{forwards}
@@ -25,7 +25,7 @@ use Rattle.smk_model.proofs.Places.{places_below}
 use Rattle.smk_compose.specs.declared.kept_maps.Run.{Run}
 use Rattle.smk_session.specs.Answers.{AreOn, chosen_of, kept_fwd, picks_chosen, rids_or_all}
 use Rattle.smk_session.specs.Refreshed.{Names, book_at}
-use Rattle.smk_session.specs.declared.refresh.Refresh.{Refresh}
+use Rattle.smk_session.specs.declared.brush.refresh.Refresh.{Refresh}
 use Rattle.smk_session.specs.Sessions.{AreOpened, BrushFits, state_over}
 use Rattle.smk_session.proofs.Rids.{rids_ascend}
 use Rattle.smk_session.proofs.Selected.{chosen_or_all, picks_fit, picks_more, picks_same, same_leaves}

@@ -8,9 +8,9 @@ use Rattle.smk_base.specs.Places.{Lists, places, upto}
 use Rattle.smk_base.specs.PlanImage.{expr_of}
 use Rattle.smk_base.specs.Plans.{Expr, Leaf, Apply, Combine}
 use Rattle.smk_base.specs.Rels.{Relation}
-use Rattle.smk_base.specs.declared.catalog.Catalog.{Catalog}
-use Rattle.smk_base.specs.declared.catalog.ViewInfo.{ViewInfo}
-use Rattle.smk_base.specs.declared.pick.Pick.{Pick}
+use Rattle.smk_base.specs.declared.book.catalog.Catalog.{Catalog}
+use Rattle.smk_base.specs.declared.book.catalog.ViewInfo.{ViewInfo}
+use Rattle.smk_base.specs.declared.list.table_rids.Pick.{Pick}
 use Rattle.smk_base.specs.declared.value.Kind.{Kind}
 use Rattle.smk_model.specs.Catalogs.{ViewFits, each_table_kinds}
 use Rattle.smk_model.specs.Composed.{forwards}
@@ -38,7 +38,7 @@ use Rattle.smk_marks.proofs.Small.{never_full}
 use Rattle.smk_session.specs.Answers.{AreOn, IsLent, book_of, chosen_of, pick_for}
 use Rattle.smk_session.specs.Refreshed.{IsKept, IsRefresh, Shows, book_at, looks_now, state_next}
 use Rattle.smk_session.specs.declared.lent.Lent.{Lent}
-use Rattle.smk_session.specs.declared.refresh.Refresh.{Refresh}
+use Rattle.smk_session.specs.declared.brush.refresh.Refresh.{Refresh}
 use Rattle.smk_session.proofs.Followers.{chosen_there}
 use Rattle.smk_session.proofs.KeptOf.{find_mapped, found}
 use Rattle.smk_session.proofs.Opened.{run_is, tables_long}

@@ -7,7 +7,7 @@ use Rattle.std.proofs.lemmas.List.Folds.{list_any-append, list_any_at}
 use Rattle.std.proofs.lemmas.List.Sums.{sum_by_more, sum_by-take-le}
 use Rattle.smk_base.specs.CatalogImage.{CatalogImage}
 use Rattle.smk_base.specs.Places.{has}
-use Rattle.smk_base.specs.declared.catalog.LinkInfo.{LinkInfo}
+use Rattle.smk_base.specs.declared.book.catalog.LinkInfo.{LinkInfo}
 use Rattle.smk_model.specs.Catalogs.{LinkFits}
 use Rattle.smk_model.specs.Session.{linked}
 use Rattle.smk_model.specs.Workload.{declares_fwd, is_fwd, is_link, is_linked}

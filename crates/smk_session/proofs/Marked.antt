@@ -5,8 +5,8 @@ use Rattle.std.proofs.lemmas.Bool.{cases_Bool, leb-false}
 use Rattle.std.proofs.lemmas.List.Elements.{All-nil, All-cons}
 use Rattle.smk_base.specs.Places.{members_at}
 use Rattle.smk_base.specs.Plans.{Expr}
-use Rattle.smk_base.specs.declared.tree.Marks.{Marks}
-use Rattle.smk_base.specs.declared.tree.Marks.TheVariants as markings
+use Rattle.smk_base.specs.declared.book.tree.Marks.{Marks}
+use Rattle.smk_base.specs.declared.book.tree.Marks.TheVariants as markings
 use Rattle.smk_model.specs.Values.{Row}
 use Rattle.smk_model.specs.Plain.{table_at, rows_over, whole}
 use Rattle.smk_model.specs.Annotated.{back, fwd}

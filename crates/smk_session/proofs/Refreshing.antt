@@ -19,14 +19,14 @@ use Rattle.smk_compose.specs.declared.fault.EvalFault.{EvalFault}
 use Rattle.smk_compose.specs.declared.fault.EvalFault.TheVariants.{Rows}
 use Rattle.smk_session.specs.Answers.{Turns, content_at}
 use Rattle.smk_session.specs.Refreshed.{AreFollowed, Follows, FollowsAs, HasLeaves, IsContent, IsMade, IsOf, IsRun, IsSource, Shows, book_at, contents_at, linked_at, read_by_marks, state_next, views_of}
-use Rattle.smk_session.specs.declared.evaluating.Fetched.{Fetched}
-use Rattle.smk_session.specs.declared.evaluating.Source.{Source}
-use Rattle.smk_session.specs.declared.evaluating.Source.TheVariants as sources
-use Rattle.smk_session.specs.declared.following.Followed.{Followed}
-use Rattle.smk_session.specs.declared.refresh.Refresh.{Refresh}
+use Rattle.smk_session.specs.declared.brush.evaluating.Fetched.{Fetched}
+use Rattle.smk_session.specs.declared.brush.evaluating.Source.{Source}
+use Rattle.smk_session.specs.declared.brush.evaluating.Source.TheVariants as sources
+use Rattle.smk_session.specs.declared.brush.following.Followed.{Followed}
+use Rattle.smk_session.specs.declared.brush.refresh.Refresh.{Refresh}
 use Rattle.smk_session.specs.declared.turn.Content.{Content}
-use Rattle.smk_session.specs.declared.turned.Turned.{Turned}
-use Rattle.smk_session.specs.declared.turned.Turned.TheVariants.{Exhausted}
+use Rattle.smk_session.specs.declared.answer.no_answer.Turned.{Turned}
+use Rattle.smk_session.specs.declared.answer.no_answer.Turned.TheVariants.{Exhausted}
 
 -- what a plan is evaluated to, by the clauses on one result
 

@@ -9,7 +9,7 @@ use Rattle.smk_base.specs.CatalogImage.{CatalogImage}
 use Rattle.smk_base.specs.Picks.{ArePicks, IsAscending}
 use Rattle.smk_base.specs.Places.{IsPlaces, has, places, upto}
 use Rattle.smk_base.specs.declared.brush.BrushOn.{BrushOn}
-use Rattle.smk_base.specs.declared.pick.Pick.{Pick}
+use Rattle.smk_base.specs.declared.list.table_rids.Pick.{Pick}
 use Rattle.smk_model.specs.Values.{Row}
 use Rattle.smk_model.specs.Lineage.{sub}
 use Rattle.smk_model.specs.Plain.{leaves, table_at}

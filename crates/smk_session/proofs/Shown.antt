@@ -8,7 +8,7 @@ use Rattle.smk_base.specs.CatalogImage.{CatalogImage, view_image, catalog_image}
 use Rattle.smk_base.specs.Places.{has, upto}
 use Rattle.smk_base.specs.Rels.{Relation}
 use Rattle.smk_base.specs.declared.brush.BrushOn.{BrushOn}
-use Rattle.smk_base.specs.declared.catalog.Catalog.{Catalog}
+use Rattle.smk_base.specs.declared.book.catalog.Catalog.{Catalog}
 use Rattle.smk_model.specs.Values.{Row}
 use Rattle.smk_model.specs.Catalogs.{IsCatalog}
 use Rattle.smk_model.specs.Replies.{content_of}
@@ -19,7 +19,7 @@ use Rattle.smk_compose.specs.declared.kept_maps.Run.{Run}
 use Rattle.smk_skip.specs.Splits.{SplitImage}
 use Rattle.smk_session.specs.Answers.{content_at, placed}
 use Rattle.smk_session.specs.Sessions.{AreExtras, AreInForce, AreOpened, BrushFits, IsSession, content_kept, follows, same_pair, state_over}
-use Rattle.smk_session.specs.declared.mode.Mode.{Mode}
+use Rattle.smk_session.specs.declared.start.mode.Mode.{Mode}
 use Rattle.smk_session.specs.declared.turn.Content.{Content}
 use Rattle.smk_session.proofs.InForce.{brush_leaves, clear_leaves, placed_are, untouched}
 use Rattle.smk_session.proofs.Linked.{linked_low}

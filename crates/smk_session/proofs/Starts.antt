@@ -8,13 +8,13 @@ use Rattle.std.proofs.lemmas.List.Sums.{sum_by_more, sum_by-take-le}
 use Rattle.smk_base.specs.CatalogImage.{ViewImage}
 use Rattle.smk_base.specs.Places.{upto}
 use Rattle.smk_base.specs.Rels.{Relation}
-use Rattle.smk_base.specs.declared.catalog.Catalog.{Catalog}
+use Rattle.smk_base.specs.declared.book.catalog.Catalog.{Catalog}
 use Rattle.smk_model.specs.Opening.{ViewFault, first_some}
 use Rattle.smk_model.specs.Looks.{looks_of_view, looks_of_back, start_looks}
 use Rattle.smk_model.specs.Session.{Workbook, no_view}
 use Rattle.smk_session.specs.Sessions.{IsStartFault, workbook_image}
-use Rattle.smk_session.specs.declared.fault.StartFault.{StartFault}
-use Rattle.smk_session.specs.declared.fault.StartFault.TheVariants.{Rows, Pairs, NoMemory}
+use Rattle.smk_session.specs.declared.start.fault.StartFault.{StartFault}
+use Rattle.smk_session.specs.declared.start.fault.StartFault.TheVariants.{Rows, Pairs, NoMemory}
 
 or_or : {X : Type 0} (a b c : Option X) → option_or a (option_or b c) ≡ option_or (option_or a b) c
 or_or (Some x) b c = refl

@@ -6,9 +6,9 @@ use Rattle.smk_base.specs.CatalogImage.{CatalogImage, catalog_image}
 use Rattle.smk_base.specs.Places.{IsPlaces, Lists, has, members_at, places, upto}
 use Rattle.smk_base.specs.Rels.{Relation}
 use Rattle.smk_base.specs.declared.brush.BrushOn.{BrushOn}
-use Rattle.smk_base.specs.declared.catalog.Catalog.{Catalog}
-use Rattle.smk_base.specs.declared.pick.Pick.{Pick}
-use Rattle.smk_base.specs.declared.tree.Marks.{Marks}
+use Rattle.smk_base.specs.declared.book.catalog.Catalog.{Catalog}
+use Rattle.smk_base.specs.declared.list.table_rids.Pick.{Pick}
+use Rattle.smk_base.specs.declared.book.tree.Marks.{Marks}
 use Rattle.smk_base.specs.declared.reply.Reply.{Reply}
 use Rattle.smk_base.specs.declared.reply.Reply.TheVariants as replies
 use Rattle.smk_base.specs.declared.reply.Refusal.{Refusal}
@@ -20,12 +20,12 @@ use Rattle.smk_model.specs.Replies.{Asked, is_refused, unless_outside, marked}
 use Rattle.smk_model.specs.Session.{State, concerns, selected_for, under}
 use Rattle.smk_compose.specs.declared.kept_maps.KeptMap.{KeptMap}
 use Rattle.smk_session.specs.Sessions.{AreExtras, AreInForce, AreOpened, content_kept, state_over}
-use Rattle.smk_session.specs.declared.chosen.Choice.{Choice}
+use Rattle.smk_session.specs.declared.brush.chosen.Choice.{Choice}
 use Rattle.smk_session.specs.declared.lent.Lent.{Lent}
 use Rattle.smk_session.specs.declared.turn.Change.{Change}
 use Rattle.smk_session.specs.declared.turn.Content.{Content}
-use Rattle.smk_session.specs.declared.turned.Turned.{Turned}
-use Rattle.smk_session.specs.declared.turned.Turned.TheVariants.{Refused}
+use Rattle.smk_session.specs.declared.answer.no_answer.Turned.{Turned}
+use Rattle.smk_session.specs.declared.answer.no_answer.Turned.TheVariants.{Refused}
 
 -- the refusal is that of what is asked for, unless memory is wanting
 abbrev pub Turns : {A : Type 0} → Turned → Asked A → Type 0

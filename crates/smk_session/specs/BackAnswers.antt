@@ -7,8 +7,8 @@ use Rattle.smk_base.specs.Rels.{Relation}
 use Rattle.smk_base.specs.declared.reply.Reply.{Reply}
 use Rattle.smk_base.specs.declared.reply.Reply.TheVariants as replies
 use Rattle.smk_base.specs.declared.reply.Refusal.TheVariants.{ManyMarks, NoGroup, NoSplit, ValueKind}
-use Rattle.smk_base.specs.declared.tree.Marks.{Marks}
-use Rattle.smk_base.specs.declared.tree.Marks.TheVariants as markings
+use Rattle.smk_base.specs.declared.book.tree.Marks.{Marks}
+use Rattle.smk_base.specs.declared.book.tree.Marks.TheVariants as markings
 use Rattle.smk_base.specs.declared.value.Value.{Value}
 use Rattle.smk_model.specs.Names.{◌>>=◌}
 use Rattle.smk_model.specs.Replies.{Asked, column_place, is_of_column, marked, provided, unless_outside}
@@ -18,7 +18,7 @@ use Rattle.smk_skip.specs.Splits.{SplitImage, members_with}
 use Rattle.smk_session.specs.Answers.{kept_back, rows_told, within_asked}
 use Rattle.smk_session.specs.Extras.{split_place, cubes_place}
 use Rattle.smk_session.specs.Sessions.{AreExtras, AreOpened}
-use Rattle.smk_session.specs.declared.backward.Pair.{Pair}
+use Rattle.smk_session.specs.declared.answer.backward.Pair.{Pair}
 
 -- what a session holds of a view and a table
 pub record IsPairOf (tables : List Relation) (views : List Run) (pair : Pair) : Type 0 where

@@ -3,8 +3,8 @@ use Rattle.std.specs.Prelude.{◌≡◌, ◌<◌, ℕ, Bool, true, cond, List, O
 use Rattle.std.specs.declared.alloc.AllocError.{AllocError}
 use Rattle.smk_base.specs.CatalogImage.{CatalogImage, catalog_image}
 use Rattle.smk_base.specs.Rels.{Relation}
-use Rattle.smk_base.specs.declared.catalog.Back.{Back}
-use Rattle.smk_base.specs.declared.catalog.Catalog.{Catalog}
+use Rattle.smk_base.specs.declared.book.catalog.Back.{Back}
+use Rattle.smk_base.specs.declared.book.catalog.Catalog.{Catalog}
 use Rattle.smk_model.specs.Appends.{depends_on}
 use Rattle.smk_model.specs.Catalogs.{BackFits, each_table_kinds}
 use Rattle.smk_model.specs.Looks.{looks_of_back}
@@ -15,9 +15,9 @@ use Rattle.smk_session.specs.Extras.{table_of, split_in, cubes_in}
 use Rattle.smk_compose.specs.declared.kept_maps.Run.{Run}
 use Rattle.smk_skip.specs.Splits.{SplitImage}
 use Rattle.smk_session.specs.Sessions.{opened, workbook_image}
-use Rattle.smk_session.specs.declared.making.Asked.{Asked}
-use Rattle.smk_session.specs.declared.making.Made.{Made}
-use Rattle.smk_session.specs.declared.making.Opening.{Opening}
+use Rattle.smk_session.specs.declared.start.making.Asked.{Asked}
+use Rattle.smk_session.specs.declared.start.making.Made.{Made}
+use Rattle.smk_session.specs.declared.start.making.Opening.{Opening}
 
 abbrev pub book_in : Opening → Workbook
 book_in opening = workbook_image opening.book.now opening.tables.now

@@ -20,15 +20,15 @@ use Rattle.smk_marks.specs.declared.reached.Reached.{Reached}
 use Rattle.smk_marks.specs.declared.view.KeptView.{KeptView}
 use Rattle.smk_session.specs.Answers.{AreOn, IsChoice, IsLent, Turns, book_of, chosen_of, content_at, state_at}
 use Rattle.smk_session.specs.Sessions.{BrushFits, opened, workbook_image}
-use Rattle.smk_session.specs.declared.chosen.Choice.{Choice}
-use Rattle.smk_session.specs.declared.evaluating.Fetched.{Fetched}
-use Rattle.smk_session.specs.declared.evaluating.Source.{Source}
-use Rattle.smk_session.specs.declared.evaluating.Source.TheVariants as sources
-use Rattle.smk_session.specs.declared.following.Followed.{Followed}
+use Rattle.smk_session.specs.declared.brush.chosen.Choice.{Choice}
+use Rattle.smk_session.specs.declared.brush.evaluating.Fetched.{Fetched}
+use Rattle.smk_session.specs.declared.brush.evaluating.Source.{Source}
+use Rattle.smk_session.specs.declared.brush.evaluating.Source.TheVariants as sources
+use Rattle.smk_session.specs.declared.brush.following.Followed.{Followed}
 use Rattle.smk_session.specs.declared.lent.Lent.{Lent}
-use Rattle.smk_session.specs.declared.refresh.Refresh.{Refresh}
+use Rattle.smk_session.specs.declared.brush.refresh.Refresh.{Refresh}
 use Rattle.smk_session.specs.declared.turn.Content.{Content}
-use Rattle.smk_session.specs.declared.turned.Turned.{Turned}
+use Rattle.smk_session.specs.declared.answer.no_answer.Turned.{Turned}
 
 -- the brushes that come into force fit, and the table is there
 pub record IsRefresh (refresh : Refresh) : Type 0 where

@@ -5,7 +5,7 @@ use Rattle.smk_base.specs.CatalogImage.{CatalogImage, catalog_image}
 use Rattle.smk_base.specs.Places.{IsPlaces, has, upto}
 use Rattle.smk_base.specs.Rels.{Relation}
 use Rattle.smk_base.specs.declared.brush.BrushOn.{BrushOn}
-use Rattle.smk_base.specs.declared.catalog.Catalog.{Catalog}
+use Rattle.smk_base.specs.declared.book.catalog.Catalog.{Catalog}
 use Rattle.smk_base.specs.declared.workers.TheConstants.{WORKER_LIMIT}
 use Rattle.smk_model.specs.Catalogs.{IsCatalog, each_table_kinds}
 use Rattle.smk_model.specs.NodeFaults.{NodeFault, FullRows, FullPairs}
@@ -19,9 +19,9 @@ use Rattle.smk_compose.specs.KeptMaps.{kept_at}
 use Rattle.smk_compose.specs.declared.kept_maps.Run.{Run}
 use Rattle.smk_skip.specs.Splits.{SplitImage}
 use Rattle.smk_session.specs.Extras.{splits_of, all_cubes}
-use Rattle.smk_session.specs.declared.mode.Mode.{Mode}
-use Rattle.smk_session.specs.declared.fault.StartFault.{StartFault}
-use Rattle.smk_session.specs.declared.fault.StartFault.TheVariants.{Rows, Pairs, NoMemory}
+use Rattle.smk_session.specs.declared.start.mode.Mode.{Mode}
+use Rattle.smk_session.specs.declared.start.fault.StartFault.{StartFault}
+use Rattle.smk_session.specs.declared.start.fault.StartFault.TheVariants.{Rows, Pairs, NoMemory}
 
 -- a checked book with its tables
 abbrev pub workbook_image : Catalog → List Relation → Workbook

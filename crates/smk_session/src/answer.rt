@@ -3,14 +3,20 @@ ghost use Rattle.smk_model.specs.Looks.{line_looks};
 ghost use Rattle.smk_model.specs.Replies as replies;
 ghost use Rattle.smk_session.specs.Answers.{Gives, Turns, IsLent, Changes, book_of, state_lent, next_of, fwd_by, looks_of_asked};
 
-use crate::backward::{back_rows, groups, matching_rows, pair_of};
-use crate::brushing::{brush, clear, clear_one};
+mod backward;
+pub(crate) mod lineage;
+pub(crate) mod marks;
+pub(crate) mod names;
+pub(crate) mod no_answer;
+
+use crate::answer::backward::{back_rows, groups, matching_rows, pair_of};
+use crate::answer::lineage::fwd_map;
+use crate::answer::marks::marked_members;
+use crate::answer::names::{known_pair, known_view};
+use crate::answer::no_answer::Turned;
+use crate::brush::{brush, clear, clear_one};
 use crate::lent::Lent;
-use crate::lineage::fwd_map;
-use crate::marks::marked_members;
-use crate::names::{known_pair, known_view};
 use crate::turn::Turn;
-use crate::turned::Turned;
 use crate::workers::Workers;
 use smk_base::{Line, Marks, Rel, Reply, Text, Then};
 use smk_body::Work;

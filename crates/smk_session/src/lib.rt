@@ -1,43 +1,24 @@
 //! Sessions: the views of a book over its tables, with the lineage that its declared queries need, and the answers to the lines of a script.
 #![tactic(auto)]
 
-mod abreast;
 mod answer;
-mod backward;
-mod beginning;
-mod brushes;
-mod brushing;
-mod chosen;
-mod evaluating;
-mod extra;
-mod fault;
-mod following;
+mod brush;
+mod laws;
 mod lent;
-mod lineage;
-mod links;
-mod making;
-mod marks;
-mod mode;
-mod names;
-mod opening;
-mod parts;
-mod refresh;
-mod scans;
 mod session;
-mod session_laws;
+mod start;
 mod turn;
-mod turned;
 mod workers;
 
 pub use answer::has_refused;
-pub use extra::Extras;
-pub use fault::StartFault;
-pub use making::{Opening, make_extras, view_now, wants};
-pub use mode::Mode;
-pub use opening::{open_view, view_of};
-pub use parts::{Opened, Parts};
-pub use scans::view_scans;
+pub use laws::nothing_kept;
 pub use session::Session;
-pub use session_laws::nothing_kept;
 pub use smk_base::BrushOn;
+pub use start::extras::Extras;
+pub use start::fault::StartFault;
+pub use start::making::{Opening, make_extras, view_now, wants};
+pub use start::mode::Mode;
+pub use start::opening::{open_view, view_of};
+pub use start::parts::{Opened, Parts};
+pub use start::scans::view_scans;
 pub use turn::Turn;

@@ -12,13 +12,13 @@ ghost use Rattle.smk_session.specs.Sessions.{IsSession, IsStartFault, opened, st
 ghost use Rattle.smk_session.specs.Turns.{IsTurnOf, state_turned};
 
 use crate::answer::answer_to;
-use crate::beginning::begin;
-use crate::fault::StartFault;
+use crate::answer::no_answer::Turned;
 use crate::lent::Lent;
-use crate::mode::Mode;
-use crate::parts::Parts;
+use crate::start::begin;
+use crate::start::fault::StartFault;
+use crate::start::mode::Mode;
+use crate::start::parts::Parts;
 use crate::turn::{Brushes, Turn, place};
-use crate::turned::Turned;
 use crate::workers::Workers;
 use smk_base::{Catalog, Line, Rel, Reply};
 use smk_body::Work;
@@ -48,7 +48,7 @@ pub struct Session {
 }
 
 impl Model for Session {
-    ghost use Rattle.smk_base.specs.contracts.catalog.Catalog as held;
+    ghost use Rattle.smk_base.specs.contracts.book.catalog.Catalog as held;
     ghost use Rattle.std.specs.Coded.{codes};
     ghost use Rattle.smk_session.specs.Sessions.{SessionImage, IsSession};
 

@@ -10,7 +10,7 @@ use Rattle.smk_table.specs.Pieces.{Part, part_behind, parts_behind, rows_behind,
 use Rattle.smk_table.specs.Cuts.{read_of}
 use Rattle.std.proofs.Common.{Bor, Result, nat_eq, ne_eqb, map, ◌==◌, All, IfOk, Bool, true, false, true≢false, nat_le, le-leb}
 use Rattle.std.proofs.lemmas.List.{get_or-map, length-map}
-use Rattle.smk_base.specs.declared.col_decl.ColDecl.{ColDecl}
+use Rattle.smk_base.specs.declared.book.col_decl.ColDecl.{ColDecl}
 use Rattle.smk_model.specs.Tables.{kinds_of}
 
 abbrev pub all_behind : List (List Value) → List Part → Part

@@ -10,10 +10,10 @@ use Rattle.smk_base.specs.Places.{has, upto, places}
 use Rattle.smk_base.specs.Rels.{Relation, kind_in, value_in, row_in, rows_at, picked}
 use Rattle.smk_base.specs.declared.value.Value.TheVariants.{Int}
 use Rattle.smk_base.specs.declared.value.Kind.{Kind}
-use Rattle.smk_base.specs.declared.plan.Item.{Item}
-use Rattle.smk_base.specs.declared.plan.Item.TheVariants as items
-use Rattle.smk_base.specs.declared.plan.Agg.{Agg}
-use Rattle.smk_base.specs.declared.plan.Agg.TheVariants.{Count, Sum, Min, Max}
+use Rattle.smk_base.specs.declared.book.plan.Item.{Item}
+use Rattle.smk_base.specs.declared.book.plan.Item.TheVariants as items
+use Rattle.smk_base.specs.declared.book.plan.Agg.{Agg}
+use Rattle.smk_base.specs.declared.book.plan.Agg.TheVariants.{Count, Sum, Min, Max}
 use Rattle.smk_base.specs.Plans.{Grouping}
 use Rattle.smk_model.specs.Values.{Row, value_at}
 use Rattle.smk_model.specs.Plain.{item_at, image, key_of, firsts, number_of, total, combined, lesser, greater, aggregate, grouped, row_eq, step1}

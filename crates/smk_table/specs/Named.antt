@@ -2,10 +2,10 @@
 use Rattle.std.specs.Prelude.{ℕ, ◌+◌, Bool, false, ◌||◌, nat_eq, List, [], map, position, unwrap_or}
 use Rattle.std.specs.List.{list_any}
 use Rattle.smk_base.specs.Places.{places, has}
-use Rattle.smk_base.specs.declared.plan.Item.{Item}
-use Rattle.smk_base.specs.declared.plan.Item.TheVariants.{Col, Bin}
-use Rattle.smk_base.specs.declared.plan.Agg.{Agg}
-use Rattle.smk_base.specs.declared.plan.Agg.TheVariants.{Count, Sum, Min, Max}
+use Rattle.smk_base.specs.declared.book.plan.Item.{Item}
+use Rattle.smk_base.specs.declared.book.plan.Item.TheVariants.{Col, Bin}
+use Rattle.smk_base.specs.declared.book.plan.Agg.{Agg}
+use Rattle.smk_base.specs.declared.book.plan.Agg.TheVariants.{Count, Sum, Min, Max}
 
 -- whether an output column stands on a column
 abbrev pub is_of : ℕ → Item → Bool

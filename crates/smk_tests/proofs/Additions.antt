@@ -1,7 +1,7 @@
 -- What a session answers to appended rows.
 use Rattle.std.proofs.Common.{◌≡◌, ℕ, List, Result, Ok, IfOk, sym, subst}
 use Rattle.smk_base.specs.CatalogImage.{catalog_image}
-use Rattle.smk_base.specs.declared.catalog.Catalog.{Catalog}
+use Rattle.smk_base.specs.declared.book.catalog.Catalog.{Catalog}
 use Rattle.smk_base.specs.declared.reply.AppendReply.{AppendReply}
 use Rattle.smk_model.specs.Appends.{append_turn}
 use Rattle.smk_model.specs.AppendTexts.{IsAppendReply}

@@ -6,11 +6,11 @@ use Rattle.smk_base.specs.PlanImage.{expr_of}
 use Rattle.smk_base.specs.CatalogImage.{CatalogImage, view_image}
 use Rattle.smk_base.specs.TreeImage.{book_image}
 use Rattle.smk_base.specs.declared.value.Kind.{Kind}
-use Rattle.smk_base.specs.declared.tree.Book.{Book}
-use Rattle.smk_base.specs.declared.col_decl.ColDecl.{ColDecl}
-use Rattle.smk_base.specs.declared.catalog.Column.{Column}
-use Rattle.smk_base.specs.declared.catalog.TableInfo.{TableInfo}
-use Rattle.smk_base.specs.declared.catalog.ViewInfo.{ViewInfo}
+use Rattle.smk_base.specs.declared.book.tree.Book.{Book}
+use Rattle.smk_base.specs.declared.book.col_decl.ColDecl.{ColDecl}
+use Rattle.smk_base.specs.declared.book.catalog.Column.{Column}
+use Rattle.smk_base.specs.declared.book.catalog.TableInfo.{TableInfo}
+use Rattle.smk_base.specs.declared.book.catalog.ViewInfo.{ViewInfo}
 use Rattle.smk_model.specs.Expanded.{expanded, dependency_names, HasNoDependency}
 use Rattle.smk_model.specs.Limits.{KeepsLimits}
 use Rattle.smk_model.specs.Profiles.{AreDependencies}

@@ -1,8 +1,8 @@
 -- A reply that is told with the next state is one to its line, and its text is that of the line.
 use Rattle.std.proofs.Common.{◌≡◌, ◌∙◌, ap, sym, subst}
 use Rattle.smk_base.specs.CatalogImage.{CatalogImage, catalog_image}
-use Rattle.smk_base.specs.declared.catalog.Catalog.{Catalog}
-use Rattle.smk_base.specs.declared.tree.Line.{Line}
+use Rattle.smk_base.specs.declared.book.catalog.Catalog.{Catalog}
+use Rattle.smk_base.specs.declared.book.tree.Line.{Line}
 use Rattle.smk_base.specs.declared.reply.Reply.{Reply}
 use Rattle.smk_model.specs.Catalogs.{IsCatalog}
 use Rattle.smk_model.specs.ReplyTexts.{IsReplyTo, reply_text}

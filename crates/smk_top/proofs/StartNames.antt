@@ -1,7 +1,7 @@
 -- The names that a fault of a start says.
 use Rattle.std.proofs.Common.{◌≡◌, ◌∙◌, ℕ, zero, suc, List, [], ◌∷◌, map, get_or, Option, Some, option_map, refl, ap, sym}
 use Rattle.smk_base.specs.CatalogImage.{catalog_image, view_image}
-use Rattle.smk_base.specs.declared.catalog.Catalog.{Catalog}
+use Rattle.smk_base.specs.declared.book.catalog.Catalog.{Catalog}
 use Rattle.smk_base.specs.declared.fault.Fault.TheVariants.{ViewRows, ViewPairs}
 use Rattle.smk_model.specs.NodeFaults.{FullRows, FullPairs}
 use Rattle.smk_model.specs.Opening.{ViewFault, fault_named}

@@ -18,11 +18,11 @@ use Rattle.smk_outside.specs.Conversing.{Conversation, Cause}
 use Rattle.smk_outside.specs.Outside.{Rose}
 use Rattle.smk_outside.specs.Told.{Told, Follow, AreFirst}
 use Rattle.smk_outside.specs.Saying.{Says}
-use Rattle.smk_outside.specs.declared.event.Event.{Event}
+use Rattle.smk_outside.specs.declared.talk.event.Event.{Event}
 use Rattle.smk_outside.proofs.Stretches as stretches
 use Rattle.std.specs.Io.KnownBytes as known
 use Rattle.smk_model.proofs.SomeOutcome.{some_reading}
-use Rattle.smk_base.specs.declared.catalog.TableInfo.{TableInfo}
+use Rattle.smk_base.specs.declared.book.catalog.TableInfo.{TableInfo}
 use Rattle.smk_model.specs.Readings.{Reading}
 use Rattle.smk_model.specs.Values.{Row}
 use Rattle.smk_inputs.specs.Collecting.{ReadsAll, Starts}
@@ -30,8 +30,8 @@ use Rattle.smk_model.specs.Conversation.{block_of}
 use Rattle.smk_model.specs.Session.{Workbook, State, first_state}
 use Rattle.smk_model.specs.ViewTexts.{views_text}
 use Rattle.smk_top.proofs.TalkStretches.{fits_by, talked_within}
-use Rattle.smk_outside.specs.declared.ending.Ending.{Ending}
-use Rattle.smk_outside.specs.declared.ending.Ending.TheVariants.{Ended, Unheard, Unsaid, Outlasted}
+use Rattle.smk_outside.specs.declared.talk.ending.Ending.{Ending}
+use Rattle.smk_outside.specs.declared.talk.ending.Ending.TheVariants.{Ended, Unheard, Unsaid, Outlasted}
 use Rattle.smk_model.specs.Reports.{is_turned_down}
 use Rattle.smk_inputs.specs.Image.{settings_image, talk_image, texts_image}
 use Rattle.smk_inputs.specs.declared.called.RunTexts.{RunTexts}

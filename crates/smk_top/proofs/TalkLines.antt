@@ -4,7 +4,7 @@ use Rattle.std.specs.Prelude.{◌⊎◌, ◌&&◌, IfSome, is_some}
 use Rattle.std.specs.Option.{option_to_list}
 use Rattle.smk_base.specs.CatalogImage.{CatalogImage}
 use Rattle.smk_base.specs.Rels.{Relation}
-use Rattle.smk_base.specs.declared.catalog.TableInfo.{TableInfo}
+use Rattle.smk_base.specs.declared.book.catalog.TableInfo.{TableInfo}
 use Rattle.smk_base.specs.declared.fault.Fault.{Fault}
 use Rattle.smk_model.specs.Catalogs.{table_kinds, each_table_kinds}
 use Rattle.smk_model.specs.Conversation.{TalkState, HeardLine, Replied, Unbrought, ReadOnly, Forgone, TooLong, IsUnbrought, asks_append, heard_told, line_limit, text_read, unbrought_text, read_only_text, forgone_text, too_long_text}

@@ -3,7 +3,7 @@ use Rattle.std.proofs.Common.{zero, suc, ◌≡◌, ◌≤◌, ◌<◌, ◌+◌,
 use Rattle.std.specs.Prelude.{◌⊎◌, ◌||◌, nat_lt, ⊤}
 use borrow.Author.Tests.{lt-ltb}
 use Rattle.std.specs.List.{fold}
-use Rattle.smk_base.specs.declared.catalog.TableInfo.{TableInfo}
+use Rattle.smk_base.specs.declared.book.catalog.TableInfo.{TableInfo}
 use Rattle.smk_base.specs.declared.fault.Fault.{Fault}
 use Rattle.smk_base.specs.declared.fault.Fault.TheVariants.{Usage, Book, Types, Table, FileLong, TableRows, ViewRows, ViewPairs, Unread}
 use Rattle.smk_model.specs.Conversation.{TalkTurn, Replied, Unbrought, ReadOnly, Forgone, TooLong, TalkState, line_of, session_after, turn_after, turn_told, turn_text, turns_told, FitsTalk, IsUnbrought}
@@ -13,7 +13,7 @@ use Rattle.smk_model.specs.Reports.{BookSaid, Told, nothing_told, followed_by}
 use Rattle.smk_model.specs.TalkStarts.{BringsBy}
 use Rattle.smk_model.specs.Values.{Row}
 use Rattle.smk_outside.proofs.Stretches as stretches
-use Rattle.smk_outside.specs.declared.event.Event.TheVariants.{Heard, End}
+use Rattle.smk_outside.specs.declared.talk.event.Event.TheVariants.{Heard, End}
 use Rattle.smk_outside.specs.Hearing.{Hears}
 use Rattle.smk_outside.specs.Saying.{AreFront, Says, SaysFront}
 use Rattle.smk_outside.specs.Turning.{ReplyGives}
@@ -22,8 +22,8 @@ use Rattle.smk_outside.proofs.Telling.{Adds-trans, Takes-trans, TakesBy-trans, T
 use Rattle.std.proofs.lemmas.List.{map-append}
 use Rattle.std.proofs.lemmas.List.Sums.{fold-append}
 use Rattle.smk_outside.specs.Told.{Told as ToldBy, Adds, AreAll, says}
-use Rattle.smk_outside.specs.declared.ending.Ending.{Ending}
-use Rattle.smk_outside.specs.declared.ending.Ending.TheVariants.{Ended, Unheard, Unsaid, Outlasted}
+use Rattle.smk_outside.specs.declared.talk.ending.Ending.{Ending}
+use Rattle.smk_outside.specs.declared.talk.ending.Ending.TheVariants.{Ended, Unheard, Unsaid, Outlasted}
 use Rattle.smk_inputs.proofs.Stops.{untold_within}
 use Rattle.smk_top.specs.Talking.{talk_rules, is_down, talk_at, AnswersLine, TalkStretch, TakesTurn, EndsTurn, TurnTaken, Talked}
 

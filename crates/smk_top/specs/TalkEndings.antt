@@ -13,8 +13,8 @@ use Rattle.smk_outside.specs.Conversing.{Conversation}
 use Rattle.smk_outside.specs.Outside.{IsPrefix, Appends}
 use Rattle.smk_outside.specs.Saying.{Says}
 use Rattle.smk_outside.specs.Told.{Told}
-use Rattle.smk_outside.specs.declared.ending.Ending.{Ending}
-use Rattle.smk_outside.specs.declared.ending.Ending.TheVariants.{Ended, Unheard, Unsaid, Outlasted}
+use Rattle.smk_outside.specs.declared.talk.ending.Ending.{Ending}
+use Rattle.smk_outside.specs.declared.talk.ending.Ending.TheVariants.{Ended, Unheard, Unsaid, Outlasted}
 use Rattle.smk_inputs.specs.Image.{talk_image}
 use Rattle.smk_inputs.specs.declared.called.TalkWords.{TalkWords}
 use Rattle.smk_inputs.specs.declared.stop.Stop.{Stop}

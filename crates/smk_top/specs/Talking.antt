@@ -8,8 +8,8 @@ use Rattle.smk_model.specs.Session.{State}
 use Rattle.smk_model.specs.TalkStarts.{BringsBy}
 use Rattle.smk_outside.specs.Conversing.{Rules, Stretch, Cause}
 use Rattle.smk_outside.specs.Told.{Told as ToldBy}
-use Rattle.smk_outside.specs.declared.ending.Ending.{Ending}
-use Rattle.smk_outside.specs.declared.ending.Ending.TheVariants.{Outlasted}
+use Rattle.smk_outside.specs.declared.talk.ending.Ending.{Ending}
+use Rattle.smk_outside.specs.declared.talk.ending.Ending.TheVariants.{Outlasted}
 use Rattle.smk_top.specs.declared.talking.Words.{Words}
 use Rattle.smk_top.specs.declared.talking.Words.TheVariants.{Made, Ready}
 

@@ -3,7 +3,7 @@ ghost use Rattle.std.specs.Prelude.{◌≡◌, ◌≤◌, ◌+◌, [], List, Err
 ghost use Rattle.smk_base.specs.CatalogImage.{catalog_image};
 ghost use Rattle.smk_base.specs.Marks.{after_marks};
 ghost use Rattle.smk_base.specs.Rels.{Relation};
-ghost use Rattle.smk_base.specs.declared.catalog.Catalog.{Catalog as CatalogShape};
+ghost use Rattle.smk_base.specs.declared.book.catalog.Catalog.{Catalog as CatalogShape};
 ghost use Rattle.smk_model.specs.Lines.{lines};
 ghost use Rattle.smk_model.specs.Looks.{start_looks};
 ghost use Rattle.smk_model.specs.Profiles.{AreDependencies};

@@ -3,16 +3,16 @@ use Rattle.std.proofs.Common.{◌≡◌, ◌∙◌, ◌+◌, ◌<◌, ◌≤◌,
 use Rattle.std.specs.Prelude.{IfOk}
 use Rattle.std.proofs.lemmas.List.{length-map, get_or-map}
 use Rattle.std.proofs.lemmas.List.Elements.{All-head, All-tail}
-use Rattle.smk_base.specs.declared.col_decl.ColDecl.{ColDecl}
-use Rattle.smk_base.specs.declared.catalog.Column.{Column}
-use Rattle.smk_base.specs.declared.catalog.TableInfo.{TableInfo}
-use Rattle.smk_base.specs.declared.tree.AskStep.{AskStep}
-use Rattle.smk_base.specs.declared.type_fault.TypeFault.{TypeFault}
+use Rattle.smk_base.specs.declared.book.col_decl.ColDecl.{ColDecl}
+use Rattle.smk_base.specs.declared.book.catalog.Column.{Column}
+use Rattle.smk_base.specs.declared.book.catalog.TableInfo.{TableInfo}
+use Rattle.smk_base.specs.declared.book.tree.AskStep.{AskStep}
+use Rattle.smk_base.specs.declared.book.type_fault.TypeFault.{TypeFault}
 use Rattle.smk_base.specs.PlanImage.{unary_of}
 use Rattle.smk_base.specs.Plans.{Expr, Leaf, Apply, Combine}
 use Rattle.smk_base.specs.Trees.{AskStepImage, StepImage, SelectNode, ProjectNode, DistinctNode, GroupNode, JoinNode, ThetaNode, ProductNode, UnionAllNode, UnionNode}
 use Rattle.smk_base.specs.TreeImage.{ask_step_image}
-use Rattle.smk_base.specs.declared.limits.TheConstants.{NODE_LIMIT}
+use Rattle.smk_base.specs.declared.book.limits.TheConstants.{NODE_LIMIT}
 use Rattle.smk_model.specs.Asks.{AskPlan, asked_plan, chain, scan_of, step_after, typed_steps}
 use Rattle.smk_model.specs.Catalogs.{each_table_kinds}
 use Rattle.smk_model.specs.Limits.{KeepsAskStep, KeepsStep}

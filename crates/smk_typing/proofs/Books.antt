@@ -6,9 +6,9 @@ use Rattle.std.proofs.lemmas.List.Sums.{sum_by-cons}
 use Rattle.smk_base.specs.CatalogImage.{CatalogImage}
 use Rattle.smk_base.specs.TreeImage.{stmt_image}
 use Rattle.smk_base.specs.Trees.{StmtImage}
-use Rattle.smk_base.specs.declared.tree.Stmt.{Stmt}
-use Rattle.smk_base.specs.declared.type_fault.TypeFault.{TypeFault}
-use Rattle.smk_base.specs.declared.limits.TheConstants.{TABLE_LIMIT, VIEW_LIMIT}
+use Rattle.smk_base.specs.declared.book.tree.Stmt.{Stmt}
+use Rattle.smk_base.specs.declared.book.type_fault.TypeFault.{TypeFault}
+use Rattle.smk_base.specs.declared.book.limits.TheConstants.{TABLE_LIMIT, VIEW_LIMIT}
 use Rattle.smk_model.specs.Expanded.{HasNoDependency, IsNoDependency}
 use Rattle.smk_model.specs.Limits.{KeepsLimits, KeepsStmt, is_table, is_view}
 use Rattle.smk_model.specs.Names.{in_turn}

@@ -4,22 +4,22 @@ use Rattle.std.specs.List.{list_any}
 use Rattle.std.proofs.lemmas.List.{map-append}
 use Rattle.std.proofs.lemmas.List.Elements.{All-push}
 use Rattle.std.proofs.lemmas.Grind.{flat_map-append}
-use Rattle.smk_base.specs.declared.catalog.TableInfo.{TableInfo}
-use Rattle.smk_base.specs.declared.catalog.ViewInfo.{ViewInfo}
-use Rattle.smk_base.specs.declared.catalog.Back.{Back}
-use Rattle.smk_base.specs.declared.catalog.BackExtra.{BackExtra}
-use Rattle.smk_base.specs.declared.catalog.BackExtra.TheVariants.{Plain, By, Grouped}
-use Rattle.smk_base.specs.declared.catalog.Fwd.{Fwd}
-use Rattle.smk_base.specs.declared.catalog.LinkInfo.{LinkInfo}
-use Rattle.smk_base.specs.declared.tree.Word.{Word}
-use Rattle.smk_base.specs.declared.type_fault.TypeFault.TheVariants.{RepeatedDeclaration}
+use Rattle.smk_base.specs.declared.book.catalog.TableInfo.{TableInfo}
+use Rattle.smk_base.specs.declared.book.catalog.ViewInfo.{ViewInfo}
+use Rattle.smk_base.specs.declared.book.catalog.Back.{Back}
+use Rattle.smk_base.specs.declared.book.catalog.BackExtra.{BackExtra}
+use Rattle.smk_base.specs.declared.book.catalog.BackExtra.TheVariants.{Plain, By, Grouped}
+use Rattle.smk_base.specs.declared.book.catalog.Fwd.{Fwd}
+use Rattle.smk_base.specs.declared.book.catalog.LinkInfo.{LinkInfo}
+use Rattle.smk_base.specs.declared.book.tree.Word.{Word}
+use Rattle.smk_base.specs.declared.book.type_fault.TypeFault.TheVariants.{RepeatedDeclaration}
 use Rattle.smk_base.specs.CatalogImage.{view_image}
-use Rattle.smk_base.specs.declared.limits.TheConstants.{TABLE_LIMIT}
+use Rattle.smk_base.specs.declared.book.limits.TheConstants.{TABLE_LIMIT}
 use Rattle.smk_base.specs.declared.rel.TheConstants.{COLUMN_LIMIT}
 use Rattle.smk_model.specs.Names.{unless}
 use Rattle.smk_model.specs.Typing.{Linked, same_form, same_back, same_fwd, same_link, all_linked, linked_to, view_named, to_after}
-use Rattle.smk_typing.specs.declared.form.Form.{Form}
-use Rattle.smk_typing.specs.contracts.form.FormPartialEq.TheImpl.{ghosts}
+use Rattle.smk_typing.specs.declared.draft.form.Form.{Form}
+use Rattle.smk_typing.specs.contracts.draft.form.FormPartialEq.TheImpl.{ghosts}
 use Rattle.smk_typing.specs.Drafts.{over}
 use Rattle.smk_typing.specs.Keys.{AreTables, form_of, back_key, fwd_key, link_key}
 

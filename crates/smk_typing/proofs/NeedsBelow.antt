@@ -4,7 +4,7 @@ use Rattle.std.specs.List.{filter}
 use Rattle.std.proofs.lemmas.List.Elements.{All-map, All-filter}
 use Rattle.smk_base.specs.Places.{upto}
 use Rattle.smk_base.specs.Needs.{is_needed}
-use Rattle.smk_base.specs.declared.need.Needed.{Needed}
+use Rattle.smk_base.specs.declared.book.need.Needed.{Needed}
 use Rattle.smk_base.specs.CatalogImage.{CatalogImage}
 use Rattle.smk_model.specs.Workload.{needed_at}
 use Rattle.smk_model.proofs.Places.{upto_below}

@@ -7,11 +7,11 @@ use Rattle.std.proofs.lemmas.Bool.{and_parts, not-false}
 use Rattle.std.proofs.lemmas.List.{length-map, map-append, append_assoc, get_or-map}
 use Rattle.std.proofs.lemmas.List.Elements.{All-push, All-nil}
 use Rattle.smk_base.specs.declared.value.Kind.{Kind}
-use Rattle.smk_base.specs.declared.tree.Word.{Word}
-use Rattle.smk_base.specs.declared.tree.PairTree.{PairTree}
-use Rattle.smk_base.specs.declared.catalog.Column.{Column}
-use Rattle.smk_base.specs.declared.catalog.TableInfo.{TableInfo}
-use Rattle.smk_base.specs.declared.type_fault.TypeFault.TheVariants.{KindMismatch, DuplicateName, RowTooWide, UnionShape, UnknownTable}
+use Rattle.smk_base.specs.declared.book.tree.Word.{Word}
+use Rattle.smk_base.specs.declared.book.tree.PairTree.{PairTree}
+use Rattle.smk_base.specs.declared.book.catalog.Column.{Column}
+use Rattle.smk_base.specs.declared.book.catalog.TableInfo.{TableInfo}
+use Rattle.smk_base.specs.declared.book.type_fault.TypeFault.TheVariants.{KindMismatch, DuplicateName, RowTooWide, UnionShape, UnknownTable}
 use Rattle.smk_base.specs.Plans.{Formula, Expr, Leaf, Apply, Combine, Unary, Selection, Projection, Distinction, Grouping, Binary, Equijoin, ThetaJoin, CrossProduct, BagUnion, SetUnion}
 use Rattle.smk_base.specs.Trees.{PredImage, TreeImage, ScanNode, StepNode, StepImage, SelectNode, ProjectNode, DistinctNode, GroupNode, JoinNode, ThetaNode, ProductNode, UnionAllNode, UnionNode}
 use Rattle.smk_base.specs.Rels.{kind_in}

@@ -4,13 +4,13 @@ use Rattle.std.specs.Prelude.{ok_or, option_map}
 use Rattle.std.proofs.lemmas.List.{length-map, get_or-map}
 use Rattle.smk_base.specs.declared.value.Kind.{Kind}
 use Rattle.smk_base.specs.declared.value.Kind.TheVariants as kinds
-use Rattle.smk_base.specs.declared.tree.Word.{Word}
-use Rattle.smk_base.specs.declared.tree.Term.{Term}
-use Rattle.smk_base.specs.declared.tree.Term.TheVariants as terms
-use Rattle.smk_base.specs.declared.plan.Operand.{Operand}
-use Rattle.smk_base.specs.declared.plan.Operand.TheVariants as operands
-use Rattle.smk_base.specs.declared.catalog.Column.{Column}
-use Rattle.smk_base.specs.declared.type_fault.TypeFault.TheVariants.{UnknownColumn, KindMismatch}
+use Rattle.smk_base.specs.declared.book.tree.Word.{Word}
+use Rattle.smk_base.specs.declared.book.tree.Term.{Term}
+use Rattle.smk_base.specs.declared.book.tree.Term.TheVariants as terms
+use Rattle.smk_base.specs.declared.book.plan.Operand.{Operand}
+use Rattle.smk_base.specs.declared.book.plan.Operand.TheVariants as operands
+use Rattle.smk_base.specs.declared.book.catalog.Column.{Column}
+use Rattle.smk_base.specs.declared.book.type_fault.TypeFault.TheVariants.{UnknownColumn, KindMismatch}
 use Rattle.smk_base.specs.Plans.{Formula, Comparison}
 use Rattle.smk_base.specs.Trees.{PredImage, CompareNode, AndNode, OrNode, NotNode}
 use Rattle.smk_base.specs.Rels.{kind_in}

@@ -1,7 +1,7 @@
 -- A list whose members are taken in turn, member by member.
 use Rattle.std.proofs.Common.{◌≡◌, ◌∙◌, ◌+◌, ◌<◌, ◌≤◌, ℕ, List, ◌∷◌, length, drop, get_or, Ok, refl, sym, ap}
 use Rattle.std.proofs.lemmas.List.{drop_more, at_drop_all}
-use Rattle.smk_base.specs.declared.type_fault.TypeFault.{TypeFault}
+use Rattle.smk_base.specs.declared.book.type_fault.TypeFault.{TypeFault}
 use Rattle.smk_model.specs.Names.{Typed, in_turn}
 use Rattle.smk_typing.specs.Answers.{Fails}
 use Rattle.smk_typing.specs.Turns.{Remains}

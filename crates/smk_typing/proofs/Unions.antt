@@ -3,7 +3,7 @@ use Rattle.std.proofs.Common.{◌≡◌, ◌<◌, ◌≤◌, ◌+◌, ◌∙◌,
 use Rattle.std.proofs.lemmas.List.{take_more, take_all, map-append}
 use Rattle.std.proofs.lemmas.Slice.Zip.{get_or-zip, length-zip}
 use Rattle.std.specs.List.{zip}
-use Rattle.smk_base.specs.declared.catalog.Column.{Column}
+use Rattle.smk_base.specs.declared.book.catalog.Column.{Column}
 use Rattle.smk_model.specs.TypedSteps.{united_column}
 
 -- one more place of both sides

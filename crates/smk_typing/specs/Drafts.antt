@@ -1,9 +1,9 @@
 -- A draft as the definitions see it.
 use Rattle.std.specs.Prelude.{ℕ, List, [], ◌∷◌, ◌++◌, map, Ok}
-use Rattle.smk_base.specs.declared.catalog.TableInfo.{TableInfo}
-use Rattle.smk_base.specs.declared.catalog.ViewInfo.{ViewInfo}
-use Rattle.smk_base.specs.declared.catalog.LinkInfo.{LinkInfo}
-use Rattle.smk_base.specs.declared.tree.Word.{Word}
+use Rattle.smk_base.specs.declared.book.catalog.TableInfo.{TableInfo}
+use Rattle.smk_base.specs.declared.book.catalog.ViewInfo.{ViewInfo}
+use Rattle.smk_base.specs.declared.book.catalog.LinkInfo.{LinkInfo}
+use Rattle.smk_base.specs.declared.book.tree.Word.{Word}
 use Rattle.smk_base.specs.CatalogImage.{CatalogImage, ViewImage, view_image}
 use Rattle.smk_base.specs.Trees.{TreeImage}
 use Rattle.smk_model.specs.Names.{Typed, ◌>>=◌, in_turn}

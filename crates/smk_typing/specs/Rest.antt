@@ -2,7 +2,7 @@
 use Rattle.std.specs.Prelude.{◌≡◌, ℕ, ◌+◌, ◌≤◌, Bool, cond, List, length, count_by, All}
 use Rattle.smk_base.specs.Trees.{StmtImage}
 use Rattle.smk_base.specs.CatalogImage.{CatalogImage}
-use Rattle.smk_base.specs.declared.limits.TheConstants.{TABLE_LIMIT, VIEW_LIMIT}
+use Rattle.smk_base.specs.declared.book.limits.TheConstants.{TABLE_LIMIT, VIEW_LIMIT}
 use Rattle.smk_model.specs.Names.{in_turn}
 use Rattle.smk_model.specs.Expanded.{HasNoDependency}
 use Rattle.smk_model.specs.Limits.{KeepsStmt, is_table, is_view}

@@ -2,7 +2,7 @@
 use Rattle.std.specs.Prelude.{◌≡◌}
 use Rattle.smk_base.specs.Plans.{Expr, Leaf, Apply, Combine}
 use Rattle.smk_base.specs.TreeImage.{ask_step_image}
-use Rattle.smk_base.specs.declared.tree.AskStep.{AskStep}
+use Rattle.smk_base.specs.declared.book.tree.AskStep.{AskStep}
 use Rattle.smk_model.specs.Asks.{step_after}
 use Rattle.smk_model.specs.Names.{Typed}
 use Rattle.smk_model.specs.TypedSteps.{TypedPlan}

@@ -8,9 +8,14 @@ ghost use Rattle.smk_model.specs.Typing.{nothing_declared, types};
 ghost use Rattle.smk_typing.specs.Answers.{Finds};
 ghost use Rattle.smk_typing.specs.Drafts.{draft_image};
 
+pub(crate) mod declared;
+pub(crate) mod links;
+mod statements;
+pub(crate) mod typed_book;
+
+use crate::book::statements::stmt_after;
+use crate::book::typed_book::TypedBook;
 use crate::draft::Draft;
-use crate::statements::stmt_after;
-use crate::typed_book::TypedBook;
 use smk_base::{Book, Stmt, TypeFault};
 use std::alloc::Global;
 

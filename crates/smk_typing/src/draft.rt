@@ -1,6 +1,6 @@
 ghost use Rattle.std.specs.Prelude.{◌≡◌, ◌<◌, ◌≤◌, length, map, IfOk};
 ghost use Rattle.smk_base.specs.CatalogImage.{catalog_image, view_image};
-ghost use Rattle.smk_base.specs.declared.limits.TheConstants.{VIEW_LIMIT};
+ghost use Rattle.smk_base.specs.declared.book.limits.TheConstants.{VIEW_LIMIT};
 ghost use Rattle.smk_base.specs.declared.rel.TheConstants.{COLUMN_LIMIT};
 ghost use Rattle.smk_model.specs.Catalogs.{IsWithinLimits};
 ghost use Rattle.smk_model.specs.Typing as typing;
@@ -8,9 +8,12 @@ ghost use Rattle.smk_typing.specs.Answers.{Finds};
 ghost use Rattle.smk_typing.specs.Drafts.{draft_image};
 ghost use Rattle.smk_typing.specs.Keys.{AreTables, back_key, fwd_key};
 
-use crate::form::Form;
-use crate::indexed::{Indexed, Keyed};
-use crate::links::Links;
+pub(crate) mod form;
+pub(crate) mod indexed;
+
+use crate::book::links::Links;
+use crate::draft::form::Form;
+use crate::draft::indexed::{Indexed, Keyed};
 use smk_base::{
     Back, Catalog, ColDecls, Column, Columns, Fwd, TableInfo, Text, TypeFault, ViewInfo, Word,
 };

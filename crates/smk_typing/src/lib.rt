@@ -2,25 +2,13 @@
 #![tactic(auto)]
 
 mod book;
-mod columns;
-mod declared;
 mod draft;
-mod form;
-mod indexed;
-mod links;
-mod lists;
 mod needs;
-mod places;
 mod plan;
-mod predicate;
-mod sides;
-mod statements;
 mod steps;
-mod typed;
-mod typed_book;
 
 pub use book::check;
+pub use book::typed_book::TypedBook;
 pub use needs::needed;
 pub use smk_base::TypeFault;
 pub use steps::{Ops, TypedSteps, check_steps};
-pub use typed_book::TypedBook;

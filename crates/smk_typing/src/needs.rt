@@ -4,7 +4,7 @@ ghost use Rattle.smk_base.specs.CatalogImage.{catalog_image};
 ghost use Rattle.smk_base.specs.Places.{has};
 ghost use Rattle.smk_model.specs.Workload.{is_back, is_link, is_fwd, is_linked, declares_back, declares_fwd, needed_at, needs};
 
-use crate::typed_book::TypedBook;
+use crate::book::typed_book::TypedBook;
 use smk_base::{Back, Catalog, Dir, Fwd, LinkInfo, Need, Needed};
 use std::alloc::{AllocError, Global};
 

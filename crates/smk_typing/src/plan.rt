@@ -10,13 +10,20 @@ ghost use Rattle.smk_model.specs.Typing as typing;
 ghost use Rattle.smk_typing.specs.Answers.{Finds};
 ghost use Rattle.smk_typing.specs.Images.{plan_of};
 
+pub(crate) mod columns;
+pub(crate) mod lists;
+pub(crate) mod places;
+mod predicate;
+mod sides;
+pub(crate) mod typed;
+
+use crate::draft::indexed::Indexed;
 use crate::draft::{columns_at, table_named};
-use crate::indexed::Indexed;
-use crate::lists::{typed_group, typed_items, typed_pairs};
-use crate::places::{boxed, boxes, put};
-use crate::predicate::typed_pred;
-use crate::sides::{join_columns, united};
-use crate::typed::{Group, Typed};
+use crate::plan::lists::{typed_group, typed_items, typed_pairs};
+use crate::plan::places::{boxed, boxes, put};
+use crate::plan::predicate::typed_pred;
+use crate::plan::sides::{join_columns, united};
+use crate::plan::typed::{Group, Typed};
 use smk_base::{
     AggTree, Columns, ItemTree, Op1, Op2, PairTree, Plan, PredTree, StepTree, TableInfo, Tree,
     TypeFault, Word,

@@ -1,7 +1,7 @@
 ghost use Rattle.std.specs.Prelude.{◌≡◌, ◌≤◌, [], ◌∷◌, map, length, All, Ok, IfOk};
 ghost use Rattle.smk_base.specs.PlanImage.{expr_of, unary_of};
 ghost use Rattle.smk_base.specs.TreeImage.{ask_step_image};
-ghost use Rattle.smk_base.specs.declared.limits.TheConstants.{NODE_LIMIT};
+ghost use Rattle.smk_base.specs.declared.book.limits.TheConstants.{NODE_LIMIT};
 ghost use Rattle.smk_base.specs.declared.rel.TheConstants.{COLUMN_LIMIT};
 ghost use Rattle.smk_model.specs.Asks.{asked_plan, chain, typed_steps};
 ghost use Rattle.smk_model.specs.Limits.{KeepsAskStep, KeepsSteps};
@@ -12,11 +12,11 @@ ghost use Rattle.smk_typing.specs.Answers.{Finds};
 ghost use Rattle.smk_typing.specs.Images.{plan_of, steps_image};
 ghost use Rattle.smk_typing.specs.Steps.{IsChain, asked_after};
 
-use crate::declared::names_and_kinds;
+use crate::book::declared::names_and_kinds;
 use crate::draft::columns_of;
-use crate::indexed::Indexed;
+use crate::draft::indexed::Indexed;
 use crate::plan::put_step;
-use crate::typed::Typed;
+use crate::plan::typed::Typed;
 use smk_base::{AskStep, AskSteps, ColDecls, ColNames, Kinds, ListOf, Op1, Plan, TypeFault};
 use std::alloc::Global;
 

@@ -1,6 +1,6 @@
 use Rattle.std.proofs.Common.{◌≡◌, ◌∙◌, List, ◌++◌, length, ap, subst, Some, None, IfOk}
 use Rattle.smk_base.specs.PlanImage.{expr_of}
-use Rattle.smk_base.specs.declared.need.Needed.{Needed}
+use Rattle.smk_base.specs.declared.book.need.Needed.{Needed}
 use Rattle.smk_model.specs.LineageLaws.{selected_table}
 use Rattle.smk_model.specs.Selection.{each_kinds, each_rows}
 use Rattle.smk_compose.specs.declared.kept_maps.Run.{Run}

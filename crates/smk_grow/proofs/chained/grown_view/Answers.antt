@@ -1,6 +1,6 @@
 use Rattle.std.proofs.Common.{◌<◌, ◌≤◌, ℕ, All, subst, sym}
 use Rattle.smk_base.specs.PlanImage.{expr_of}
-use Rattle.smk_base.specs.declared.need.Needed.{Needed}
+use Rattle.smk_base.specs.declared.book.need.Needed.{Needed}
 use Rattle.smk_model.specs.Selection.{ScansFit, each_rows}
 use Rattle.smk_session.proofs.Opened.{tables_long}
 use Rattle.smk_grow.proofs.ChainRuns.{before_is, behind_is, chain_fits, chain_grows, chain_of, chain_long, opened_is}

@@ -2,7 +2,7 @@ use Rattle.std.proofs.Common.{◌≡◌, ◌∙◌, ◌∷◌, [], List, length,
 use Rattle.std.proofs.lemmas.List.{length-map}
 use Rattle.smk_base.specs.PlanImage.{expr_of}
 use Rattle.smk_base.specs.Rels.{kind_in}
-use Rattle.smk_base.specs.declared.plan.Agg.TheVariants.{Sum, Min, Max}
+use Rattle.smk_base.specs.declared.book.plan.Agg.TheVariants.{Sum, Min, Max}
 use Rattle.smk_base.specs.declared.value.Kind.TheVariants as kinds
 use Rattle.smk_model.specs.Kinds.{kind_of_agg}
 use Rattle.smk_model.specs.Selection.{plan_kinds}

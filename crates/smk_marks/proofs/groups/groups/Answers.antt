@@ -3,8 +3,8 @@ use Rattle.std.proofs.lemmas.List.{length-append, length-map, length-take-le, ma
 use Rattle.smk_base.specs.PlanImage.{expr_of}
 use Rattle.smk_base.specs.Places.{upto}
 use Rattle.smk_base.specs.Rels.{Relation, beside_rows, kind_in}
-use Rattle.smk_base.specs.declared.plan.Agg.{Agg}
-use Rattle.smk_base.specs.declared.plan.Agg.TheVariants.{Count}
+use Rattle.smk_base.specs.declared.book.plan.Agg.{Agg}
+use Rattle.smk_base.specs.declared.book.plan.Agg.TheVariants.{Count}
 use Rattle.smk_keys.specs.Classes.{ClassesImage, first_items}
 use Rattle.smk_model.specs.Kinds.{kind_of_agg}
 use Rattle.smk_model.specs.Lineage.{row_at}

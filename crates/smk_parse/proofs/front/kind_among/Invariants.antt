@@ -1,5 +1,5 @@
 use Rattle.std.proofs.Common.{◌≡◌, drop, map}
-use Rattle.smk_base.specs.declared.token.TokenKind.TheVariants.{Name}
+use Rattle.smk_base.specs.declared.book.token.TokenKind.TheVariants.{Name}
 use Rattle.smk_parse.specs.Vocabulary.{kind_in}
 use Rattle.smk_parse.proofs.front.kind_among.Given as goal
 

@@ -1,5 +1,5 @@
 use Rattle.std.proofs.Common.{◌+◌, ◌-◌, ◌*◌, [], ◌∷◌, length}
-use Rattle.smk_base.specs.declared.limits.TheConstants.{DEPTH_LIMIT}
+use Rattle.smk_base.specs.declared.book.limits.TheConstants.{DEPTH_LIMIT}
 use Rattle.smk_parse.specs.Vocabulary.{pred_image, AreAnds, IsConj, AreOrs, IsPred, APrim, AnAnds, AnOrs}
 use Rattle.smk_parse.proofs.Steps.{IsChain}
 use Rattle.smk_parse.proofs.pred.+pred.Given as goal

@@ -1,7 +1,7 @@
 use Rattle.std.proofs.Common.{◌≡◌, ◌∙◌, ◌+◌, ◌++◌, ◌∷◌, [], ℕ, List, length, map, take, get_or, ap, sym, arith, append_assoc}
 use Rattle.std.proofs.lemmas.List.{map_more, length-map, length-append, length-take-le, take_all}
-use Rattle.smk_base.specs.declared.plan.Agg.TheVariants.{Count}
-use Rattle.smk_base.specs.declared.plan.Agg.{Agg}
+use Rattle.smk_base.specs.declared.book.plan.Agg.TheVariants.{Count}
+use Rattle.smk_base.specs.declared.book.plan.Agg.{Agg}
 use Rattle.smk_base.specs.Places.{upto}
 use Rattle.smk_base.specs.Rels.{Relation, beside_rows, row_in, rows_at}
 use Rattle.smk_model.specs.Plain.{aggregate}

@@ -1,6 +1,6 @@
 use Rattle.std.proofs.Common.{◌≡◌, ◌∙◌, ◌∷◌, ◌++◌, [], ℕ, Some, List, length, map, get_or, ap, sym, rules, arith}
-use Rattle.smk_base.specs.declared.plan.Agg.{Agg}
-use Rattle.smk_base.specs.declared.plan.Agg.TheVariants.{Count}
+use Rattle.smk_base.specs.declared.book.plan.Agg.{Agg}
+use Rattle.smk_base.specs.declared.book.plan.Agg.TheVariants.{Count}
 use Rattle.smk_base.specs.Rels.{kind_in, picked}
 use Rattle.smk_body.proofs.Besides.{relation}
 use Rattle.smk_push.specs.Inputs.{moved_to, read_by}

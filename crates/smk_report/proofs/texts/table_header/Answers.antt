@@ -1,6 +1,6 @@
 use Rattle.std.proofs.Common.{◌∙◌, ℕ, List, ◌++◌, ◌∷◌, [], map, take, take_all, sym, ap, arith, codes}
 use Rattle.std.proofs.lemmas.Result.{on_ok_weaker}
-use Rattle.smk_base.specs.declared.col_decl.ColDecl.{ColDecl}
+use Rattle.smk_base.specs.declared.book.col_decl.ColDecl.{ColDecl}
 use Rattle.smk_report.proofs.PageTexts.{says_same}
 use Rattle.smk_report.proofs.Parts.{declared_more}
 use Rattle.smk_report.proofs.texts.table_header.Goals as goal

@@ -3,8 +3,8 @@ use Rattle.std.proofs.lemmas.List.{length-map}
 use Rattle.std.proofs.lemmas.Result.{err_from_is_err_and}
 use Rattle.std.proofs.lemmas.Grind.{common_steps}
 use Rattle.smk_base.specs.CatalogImage.{catalog_image, view_image}
-use Rattle.smk_base.specs.declared.catalog.Catalog.{Catalog}
-use Rattle.smk_base.specs.declared.catalog.ViewInfo.{ViewInfo}
+use Rattle.smk_base.specs.declared.book.catalog.Catalog.{Catalog}
+use Rattle.smk_base.specs.declared.book.catalog.ViewInfo.{ViewInfo}
 use Rattle.smk_outside.specs.Outside.{Rose}
 use Rattle.smk_model.specs.ViewTexts.{text_of_view}
 use Rattle.smk_model.specs.Session.{no_view}

@@ -2,12 +2,12 @@ use Rattle.std.proofs.Common.{◌∙◌, ap, map, sym, subst, arith}
 use Rattle.std.proofs.lemmas.Grind.{common_steps}
 use Rattle.smk_base.specs.CatalogImage.{catalog_image}
 use Rattle.smk_base.specs.Marks.{after_marks}
-use Rattle.smk_base.specs.declared.catalog.Catalog.{Catalog}
+use Rattle.smk_base.specs.declared.book.catalog.Catalog.{Catalog}
 use Rattle.smk_model.specs.Lines.{lines}
 use Rattle.smk_inputs.specs.Added.{BringTables}
 use Rattle.smk_model.specs.Profiles.{AreDependencies}
-use Rattle.smk_base.specs.declared.catalog.TableInfo.{TableInfo}
-use Rattle.smk_base.specs.declared.catalog.ViewInfo.{ViewInfo}
+use Rattle.smk_base.specs.declared.book.catalog.TableInfo.{TableInfo}
+use Rattle.smk_base.specs.declared.book.catalog.ViewInfo.{ViewInfo}
 use Rattle.smk_top.proofs.starting.start.Goals as goal
 
 pub returns-in-Err-clause-starts : goal.returns-in-Err-clause-starts

@@ -1,7 +1,7 @@
 -- The conversation so far, in which as many turns were made as the loop counts.
 use Rattle.std.proofs.Common.{◌≡◌, ◌≤◌, [], length}
 use Rattle.smk_outside.specs.Outside.{Rose}
-use Rattle.smk_outside.specs.declared.ending.Ending.TheVariants.{Outlasted}
+use Rattle.smk_outside.specs.declared.talk.ending.Ending.TheVariants.{Outlasted}
 use Rattle.smk_top.specs.Talking.{TalkStretch, talk_at}
 use Rattle.smk_session.specs.Sessions.{state_of}
 use Rattle.smk_inputs.specs.Loaded.{said_of}

@@ -1,5 +1,5 @@
 use Rattle.std.proofs.Common.{◌∙◌, Ok, ap, sym}
-use Rattle.smk_base.specs.declared.plan.Plan.{Plan}
+use Rattle.smk_base.specs.declared.book.plan.Plan.{Plan}
 use Rattle.smk_base.specs.PlanImage.{expr_of, unary_of}
 use Rattle.smk_base.specs.Plans.{Apply}
 use Rattle.smk_model.specs.Names.{Typed}

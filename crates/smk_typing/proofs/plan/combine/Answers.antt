@@ -1,5 +1,5 @@
 use Rattle.std.proofs.Common.{◌≡◌, ◌∙◌, refl, Ok, ap}
-use Rattle.smk_base.specs.declared.plan.Plan.{Plan}
+use Rattle.smk_base.specs.declared.book.plan.Plan.{Plan}
 use Rattle.smk_base.specs.PlanImage.{expr_of, binary_of}
 use Rattle.smk_base.specs.Plans.{Combine}
 use Rattle.smk_model.specs.Names.{Typed}

@@ -1,5 +1,5 @@
 use Rattle.std.proofs.Common.{List, Ok, ap}
-use Rattle.smk_base.specs.declared.catalog.Column.{Column}
+use Rattle.smk_base.specs.declared.book.catalog.Column.{Column}
 use Rattle.smk_base.specs.Plans.{Leaf}
 use Rattle.smk_model.specs.Names.{Typed}
 use Rattle.smk_model.specs.TypedSteps.{TypedPlan}

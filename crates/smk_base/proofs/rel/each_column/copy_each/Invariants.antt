@@ -1,0 +1,11 @@
+use Rattle.std.proofs.Common.{◌≡◌, ◌≤◌, length}
+use Rattle.std.specs.Prelude.{vec_len, vec_capacity}
+use Rattle.smk_base.specs.Relations.{AreMade, column_in}
+use Rattle.smk_base.proofs.rel.each_column.copy_each.Given as goal
+
+abbrev pub invariant-loop-column : goal.invariant-loop-column
+invariant-loop-column l = record {
+  made : AreMade l.count l.column-index (λ k. (column_in l.columns k).kind) (λ k. (column_in l.columns k).cells) l.made.items;
+  len : vec_len l.made ≡ l.column-index;
+  room : length l.columns ≤ vec_capacity l.made;
+}

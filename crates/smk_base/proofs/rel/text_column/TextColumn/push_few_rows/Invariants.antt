@@ -1,0 +1,6 @@
+use Rattle.std.proofs.Common.{◌≡◌, ◌++◌, take, map}
+use Rattle.smk_base.specs.TextColumns.{text_in}
+use Rattle.smk_base.proofs.rel.text_column.TextColumn.push_few_rows.Given as goal
+
+abbrev pub invariant-loop-place : goal.invariant-loop-place
+invariant-loop-place l = l.self.texts ≡ l.initial.self.texts ++ map (text_in l.other.texts) (take l.place-index l.places)

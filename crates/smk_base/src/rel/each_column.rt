@@ -1,0 +1,213 @@
+//! Loops over the columns of a relation.
+ghost use Rattle.std.specs.Prelude.{◌≡◌, ℕ, ◌<◌, ◌≤◌, ◌+◌, true, [], ◌∷◌, ◌++◌, length, map, take, All, IfOk, OnOk, OnErr, slice_index, slice_index_or};
+ghost use Rattle.smk_base.specs.Cells.{value_of_cell, cell_in};
+ghost use Rattle.smk_base.specs.Rels.{IsColumn, IsWider, Fits, kind_in, value_in};
+ghost use Rattle.smk_base.specs.Columns.{IsColumnOf, IsReady};
+ghost use Rattle.smk_base.specs.Relations.{column_in, AreMade, AreLonger};
+
+use crate::rel::ROW_LIMIT;
+use crate::rel::rel_column::RelColumn;
+use crate::rel::value_column::ValueColumn;
+use crate::value::{CellRef, Kind};
+use std::alloc::{AllocError, Global};
+use std::mem;
+
+/// Columns of these kinds with no row, which may grow.
+pub(crate) fn begun_columns(alloc: Global, kinds: &[Kind]) -> Result<Vec<ValueColumn>, AllocError>
+    requires { All IsColumn kinds.now }
+    ensures { IfOk result (λ made. AreMade 0 (length kinds.now) (kind_in kinds.now) (λ k. []) made.items) }
+{
+    let mut made = Vec::with_capacity(alloc, kinds.len())?;
+    for kind in kinds {
+        made.push_reserved(ValueColumn::new(alloc, *kind));
+    }
+    Ok(made)
+}
+
+/// The columns, each of which its values lie with alone.
+pub(crate) fn owned_each(
+    alloc: Global,
+    mut columns: Vec<ValueColumn>,
+    count: u32,
+) -> Result<Vec<RelColumn>, AllocError>
+    requires { All (IsColumnOf count) columns.items }
+    ensures { IfOk result (λ made. AreMade count (length columns.items) (λ k. (column_in columns.items k).kind) (λ k. (column_in columns.items k).cells) made.items) }
+{
+    let mut made = Vec::with_capacity(alloc, columns.len())?;
+    for c in 0..columns.len() {
+        let column = mem::replace(&mut columns[c], ValueColumn::new(alloc, Kind::Text));
+        made.push_reserved(RelColumn::own(column));
+    }
+    Ok(made)
+}
+
+/// Makes all the room that a row needs to go last.
+pub(crate) fn make_each_ready(
+    columns: &mut Vec<RelColumn>,
+    cells: &[CellRef],
+    count: u32,
+) -> Result<(), AllocError>
+    requires each { All (IsColumnOf count) columns.old.items }
+    requires long { length cells.now ≡ length columns.old.items }
+    requires fits { (k : ℕ) → k < length columns.old.items → Fits (column_in columns.old.items k).kind (value_of_cell (cell_in cells.now k)) }
+    ensures same { AreMade count (length columns.old.items) (λ k. (column_in columns.old.items k).kind) (λ k. (column_in columns.old.items k).cells) columns.new.items }
+    ensures ready { OnOk result ((k : ℕ) → k < length columns.old.items → IsReady (column_in columns.new.items k) (value_of_cell (cell_in cells.now k))) }
+{
+    let alloc = *columns.allocator();
+    for c in 0..columns.len() {
+        columns[c].make_ready(alloc, cells[c])?;
+    }
+    Ok(())
+}
+
+/// Puts a row last that is ready to go there.
+pub(crate) fn push_each(columns: &mut Vec<RelColumn>, cells: &[CellRef], count: u32)
+    requires few { count < ROW_LIMIT }
+    requires each { All (IsColumnOf count) columns.old.items }
+    requires long { length cells.now ≡ length columns.old.items }
+    requires fits { (k : ℕ) → k < length columns.old.items → Fits (column_in columns.old.items k).kind (value_of_cell (cell_in cells.now k)) }
+    requires ready { (k : ℕ) → k < length columns.old.items → IsReady (column_in columns.old.items k) (value_of_cell (cell_in cells.now k)) }
+    ensures { AreMade (count + 1) (length columns.old.items) (λ k. (column_in columns.old.items k).kind) (λ k. (column_in columns.old.items k).cells ++ value_of_cell (cell_in cells.now k) ∷ []) columns.new.items }
+{
+    for c in 0..columns.len() {
+        columns[c].push(cells[c]);
+    }
+}
+
+/// The rows at these places, in this order.
+pub(crate) fn gather_each(
+    alloc: Global,
+    columns: &[RelColumn],
+    count: u32,
+    places: &[u32],
+) -> Result<Vec<RelColumn>, AllocError>
+    requires each { All (IsColumnOf count) columns.now }
+    requires within { All (λ place. place < count) places.now }
+    requires few { length places.now ≤ ROW_LIMIT }
+    ensures { IfOk result (λ made. AreMade (length places.now) (length columns.now) (λ k. (column_in columns.now k).kind) (λ k. map (value_in (column_in columns.now k).cells) places.now) made.items) }
+{
+    let mut made = Vec::with_capacity(alloc, columns.len())?;
+    for column in columns {
+        made.push_reserved(column.gather(alloc, places)?);
+    }
+    Ok(made)
+}
+
+/// Copies of the columns.
+pub(crate) fn copy_each(
+    alloc: Global,
+    columns: &[RelColumn],
+    count: u32,
+) -> Result<Vec<RelColumn>, AllocError>
+    requires { All (IsColumnOf count) columns.now }
+    ensures { IfOk result (λ made. AreMade count (length columns.now) (λ k. (column_in columns.now k).kind) (λ k. (column_in columns.now k).cells) made.items) }
+{
+    let mut made = Vec::with_capacity(alloc, columns.len())?;
+    for column in columns {
+        made.push_reserved(column.copy(alloc)?);
+    }
+    Ok(made)
+}
+
+/// Lets copies share the values of each column.
+pub(crate) fn share_each(
+    alloc: Global,
+    columns: &mut Vec<RelColumn>,
+    count: u32,
+) -> Result<(), AllocError>
+    requires { All (IsColumnOf count) columns.old.items }
+    ensures { AreMade count (length columns.old.items) (λ k. (column_in columns.old.items k).kind) (λ k. (column_in columns.old.items k).cells) columns.new.items }
+{
+    for c in 0..columns.len() {
+        columns[c].share(alloc)?;
+    }
+    Ok(())
+}
+
+/// Copies of these columns, in this order.
+pub(crate) fn pick_each(
+    alloc: Global,
+    columns: &[RelColumn],
+    count: u32,
+    cols: &[u32],
+) -> Result<Vec<RelColumn>, AllocError>
+    requires each { All (IsColumnOf count) columns.now }
+    requires within { All (λ c. c < length columns.now) cols.now }
+    ensures { IfOk result (λ made. AreMade count (length cols.now) (λ k. (column_in columns.now (slice_index cols.now k)).kind) (λ k. (column_in columns.now (slice_index cols.now k)).cells) made.items) }
+{
+    let mut made = Vec::with_capacity(alloc, cols.len())?;
+    for c in cols {
+        made.push_reserved(columns[*c as usize].copy(alloc)?);
+    }
+    Ok(made)
+}
+
+/// Puts the rows of other columns last. After an error the first columns may have them.
+pub(crate) fn append_each(
+    alloc: Global,
+    columns: &mut Vec<RelColumn>,
+    count: u32,
+    others: &[RelColumn],
+    more: u32,
+) -> Result<(), AllocError>
+    requires each { All (IsColumnOf count) columns.old.items }
+    requires others { All (IsColumnOf more) others.now }
+    requires few { count + more ≤ ROW_LIMIT }
+    requires wide { length columns.old.items ≡ length others.now }
+    requires wider { (k : ℕ) → k < length columns.old.items → IsWider (column_in columns.old.items k).kind (column_in others.now k).kind }
+    ensures appended { OnOk result (AreMade (count + more) (length columns.old.items) (λ k. (column_in columns.old.items k).kind) (λ k. (column_in columns.old.items k).cells ++ (column_in others.now k).cells) columns.new.items) }
+    ensures longer { OnErr result (AreLonger count columns.old.items columns.new.items) }
+{
+    for c in 0..columns.len() {
+        columns[c].append(alloc, &others[c])?;
+    }
+    Ok(())
+}
+
+/// Lets the values of each column lie with it alone: it copies those that others hold too.
+pub(crate) fn own_each(
+    alloc: Global,
+    columns: &mut Vec<RelColumn>,
+    count: u32,
+) -> Result<(), AllocError>
+    requires { All (IsColumnOf count) columns.old.items }
+    ensures same { AreMade count (length columns.old.items) (λ k. (column_in columns.old.items k).kind) (λ k. (column_in columns.old.items k).cells) columns.new.items }
+    ensures own { OnOk result ((k : ℕ) → k < length columns.old.items → (column_in columns.new.items k).own ≡ true) }
+{
+    for c in 0..columns.len() {
+        columns[c].make_own(alloc)?;
+    }
+    Ok(())
+}
+
+/// Keeps the first rows of columns whose values lie with them alone where they have more.
+pub(crate) fn truncate_each(columns: &mut Vec<RelColumn>, count: u32)
+    requires each { (k : ℕ) → k < length columns.old.items → count ≤ length (column_in columns.old.items k).cells }
+    requires own { (k : ℕ) → k < length columns.old.items → count < length (column_in columns.old.items k).cells → (column_in columns.old.items k).own ≡ true }
+    ensures { AreMade count (length columns.old.items) (λ k. (column_in columns.old.items k).kind) (λ k. take count (column_in columns.old.items k).cells) columns.new.items }
+{
+    for c in 0..columns.len() {
+        columns[c].truncate(count);
+    }
+}
+
+/// The same values in columns of these kinds, none of which is a narrower one.
+pub(crate) fn widen_each(
+    alloc: Global,
+    mut columns: Vec<RelColumn>,
+    count: u32,
+    kinds: &[Kind],
+) -> Result<Vec<RelColumn>, AllocError>
+    requires each { All (IsColumnOf count) columns.items }
+    requires low { All IsColumn kinds.now }
+    requires wide { length columns.items ≡ length kinds.now }
+    requires wider { (k : ℕ) → k < length columns.items → IsWider (kind_in kinds.now k) (column_in columns.items k).kind }
+    ensures { IfOk result (λ made. AreMade count (length columns.items) (kind_in kinds.now) (λ k. (column_in columns.items k).cells) made.items) }
+{
+    let mut made = Vec::with_capacity(alloc, kinds.len())?;
+    for c in 0..kinds.len() {
+        let column = mem::replace(&mut columns[c], RelColumn::new(alloc, Kind::Text));
+        made.push_reserved(column.widened(alloc, kinds[c])?);
+    }
+    Ok(made)
+}

@@ -1,0 +1,26 @@
+use Rattle.std.proofs.Common.{◌∙◌, ◌<◌, length, arith}
+use Rattle.std.proofs.lemmas.List.{take_more, take_all}
+use Rattle.std.proofs.lemmas.Grind.{common_steps}
+use Rattle.std.proofs.lemmas.Slice.Zip.{AllZip-long}
+use Rattle.smk_base.specs.declared.value.Kind.TheVariants as kinds
+use Rattle.smk_model.specs.Kinds.{wider_kinds, AreAlike}
+use Rattle.smk_body.proofs.Fitting.{length-wider_kinds, kind_in-wider_kinds}
+use Rattle.smk_body.proofs.make.unions.union_kinds.Goals as goal
+
+pub loop-c-preserved : goal.loop-c-preserved
+loop-c-preserved c =
+    let ls = c.args.left.now.kinds in
+    let rs = c.args.right.now.kinds in
+    let long = length-wider_kinds ls rs c.requires in
+    let low : c.loop-c.c < length (wider_kinds ls rs) = omega arith in
+    let here = kind_in-wider_kinds ls rs c.loop-c.c c.requires (omega arith) in
+    let more = take_more (wider_kinds ls rs) c.loop-c.c kinds.Text low in
+    grind (arith, common_steps)
+
+pub returns : goal.returns
+returns c =
+    let long = length-wider_kinds c.args.left.now.kinds c.args.right.now.kinds c.requires in
+    c.loop-c.invariant ∙ take_all c.loop-c.c (wider_kinds c.args.left.now.kinds c.args.right.now.kinds) (omega arith)
+
+pub kind-requires-in-loop-c : goal.kind-requires-in-loop-c
+kind-requires-in-loop-c c = omega (arith, AllZip-long AreAlike c.args.left.now.kinds c.args.right.now.kinds c.requires)

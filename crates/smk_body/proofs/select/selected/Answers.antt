@@ -1,4 +1,0 @@
-use Rattle.smk_body.proofs.select.selected.Goals as goal
-
-pub compared-requires-clause-fits : goal.compared-requires-clause-fits
-compared-requires-clause-fits c = rw c.in-Lit.is at (rw c.in-Cmp.is at c.requires.fits)

@@ -1,0 +1,203 @@
+//! The rows of a grouping and of a distinct, from the groups of their rows, and beside them the places of each group.
+
+ghost use Rattle.std.specs.Prelude.{◌≡◌, ◌<◌, IfOk, Some, length, map};
+ghost use Rattle.std.specs.Thread.{IsSync};
+ghost use Rattle.smk_base.specs.Places.{inverted};
+ghost use Rattle.smk_base.specs.Plans.{Grouping};
+ghost use Rattle.smk_keys.specs.Classes.{classes_of};
+ghost use Rattle.smk_model.specs.Kinds.{GroupFits, kinds1};
+ghost use Rattle.smk_model.specs.Locals.{singles};
+ghost use Rattle.smk_model.specs.Plain.{firsts, key_of, step1};
+ghost use Rattle.smk_body.specs.Locals.{wanted};
+ghost use Rattle.smk_body.specs.Parts.{AreAggsOf, ArePlacesOf, aggregates_of, columns_of};
+
+use crate::crew::{Crew, LEAST_ROWS, Work};
+use crate::find::groups::Groups;
+use crate::keep::lists::{counted, sized_lists};
+use crate::make::agg_columns::{agg_column, group_rows, sized_group_rows};
+use crate::make::gather::{both_of, columns_at};
+use smk_base::{Agg, Rel};
+use smk_rid::RidMap;
+use std::alloc::{AllocError, Global};
+use std::marker::Sync;
+use std::thread::{Threads, join};
+
+/// The first row of each group, and the places of the group where they are wanted.
+#[tactic(auto, using(crate::proofs::Deriving::rows_first))]
+pub(crate) fn firsts_and_turned(
+    alloc: Global,
+    rel: &Rel,
+    groups: &Groups,
+    asked: bool,
+) -> Result<(Rel, Option<RidMap>), AllocError>
+    requires { groups.now ≡ classes_of rel.now.rows }
+    ensures kinds { IfOk result (λ made. made.0.kinds ≡ rel.now.kinds) }
+    ensures rows { IfOk result (λ made. made.0.rows ≡ firsts rel.now.rows) }
+    ensures turned { IfOk result (λ made. made.1 ≡ wanted asked (inverted (singles groups.now.of (length groups.now.firsts)))) }
+{
+    let rows = rel.gather(alloc, groups.classes().firsts())?;
+    let lists = groups.backward(alloc, asked)?;
+    Ok((rows, lists))
+}
+
+/// The rows of a grouping, and the places of each group where they are wanted. One aggregate or none over few groups isn't worth a thread.
+pub(crate) fn grouped_and_turned<R: Threads + Sync, C: Crew + Sync>(
+    work: &Work<'_, R, C>,
+    rel: &Rel,
+    groups: &Groups,
+    keys: &[u32],
+    aggs: &[Agg],
+    asked: bool,
+) -> Result<(Rel, Option<RidMap>), AllocError>
+    requires fits { GroupFits rel.now.kinds keys.now aggs.now }
+    requires groups { groups.now ≡ classes_of (map (key_of keys.now) rel.now.rows) }
+    ensures kinds { IfOk result (λ made. made.0.kinds ≡ kinds1 (Grouping keys.now aggs.now) rel.now.kinds) }
+    ensures rows { IfOk result (λ made. made.0.rows ≡ step1 (Grouping keys.now aggs.now) rel.now.rows) }
+    ensures turned { IfOk result (λ made. made.1 ≡ wanted asked (inverted (singles groups.now.of (length groups.now.firsts)))) }
+{
+    let few = aggs.len() < 2 && groups.classes().firsts().len() < LEAST_ROWS;
+    if few || work.is_alone(rel.len() as usize) {
+        return grouped_alone(work.alloc, rel, groups, keys, aggs, asked);
+    }
+    grouped_beside(work, rel, groups, keys, aggs, asked)
+}
+
+// The same in this thread alone.
+fn grouped_alone(
+    alloc: Global,
+    rel: &Rel,
+    groups: &Groups,
+    keys: &[u32],
+    aggs: &[Agg],
+    asked: bool,
+) -> Result<(Rel, Option<RidMap>), AllocError>
+    requires fits { GroupFits rel.now.kinds keys.now aggs.now }
+    requires groups { groups.now ≡ classes_of (map (key_of keys.now) rel.now.rows) }
+    ensures kinds { IfOk result (λ made. made.0.kinds ≡ kinds1 (Grouping keys.now aggs.now) rel.now.kinds) }
+    ensures rows { IfOk result (λ made. made.0.rows ≡ step1 (Grouping keys.now aggs.now) rel.now.rows) }
+    ensures turned { IfOk result (λ made. made.1 ≡ wanted asked (inverted (singles groups.now.of (length groups.now.firsts)))) }
+{
+    // Where each group has one row the lists are marks, and no size is counted.
+    if asked && groups.classes().firsts().len() < rel.len() as usize {
+        return sized_and_turned(alloc, rel, groups, keys, aggs);
+    }
+    let rows = group_rows(alloc, rel, groups.classes(), keys, aggs)?;
+    let lists = groups.backward(alloc, asked)?;
+    Ok((rows, lists))
+}
+
+// The same, where the lists are wanted: the sizes of the groups are counted once, for the rows and for the lists.
+fn sized_and_turned(
+    alloc: Global,
+    rel: &Rel,
+    groups: &Groups,
+    keys: &[u32],
+    aggs: &[Agg],
+) -> Result<(Rel, Option<RidMap>), AllocError>
+    requires fits { GroupFits rel.now.kinds keys.now aggs.now }
+    requires groups { groups.now ≡ classes_of (map (key_of keys.now) rel.now.rows) }
+    ensures kinds { IfOk result (λ made. made.0.kinds ≡ kinds1 (Grouping keys.now aggs.now) rel.now.kinds) }
+    ensures rows { IfOk result (λ made. made.0.rows ≡ step1 (Grouping keys.now aggs.now) rel.now.rows) }
+    ensures turned { IfOk result (λ made. made.1 ≡ Some (inverted (singles groups.now.of (length groups.now.firsts)))) }
+{
+    let classes = groups.classes();
+    let of = classes.of();
+    let count = classes.firsts().len() as u32;
+    let sizes = counted(alloc, of, count)?;
+    let rows = sized_group_rows(alloc, rel, classes, Some(sizes.as_slice()), keys, aggs)?;
+    let lists = sized_lists(alloc, of, sizes.as_slice())?;
+    Ok((rows, Some(lists)))
+}
+
+// The rows of a grouping and those lists at the same time.
+fn grouped_beside<R: Threads + Sync, C: Crew + Sync>(
+    work: &Work<'_, R, C>,
+    rel: &Rel,
+    groups: &Groups,
+    keys: &[u32],
+    aggs: &[Agg],
+    asked: bool,
+) -> Result<(Rel, Option<RidMap>), AllocError>
+    requires fits { GroupFits rel.now.kinds keys.now aggs.now }
+    requires groups { groups.now ≡ classes_of (map (key_of keys.now) rel.now.rows) }
+    ensures kinds { IfOk result (λ both. both.0.kinds ≡ kinds1 (Grouping keys.now aggs.now) rel.now.kinds) }
+    ensures rows { IfOk result (λ both. both.0.rows ≡ step1 (Grouping keys.now aggs.now) rel.now.rows) }
+    ensures turned { IfOk result (λ both. both.1 ≡ wanted asked (inverted (singles groups.now.of (length groups.now.firsts)))) }
+{
+    let turn = || -> Result<Option<RidMap>, AllocError>
+        ensures { IfOk result (λ made. made ≡ wanted asked (inverted (singles groups.entry.now.of (length groups.entry.now.firsts)))) }
+    { groups.backward(work.alloc, asked) };
+    let make = || -> Result<Rel, AllocError>
+        requires { IsSync R.row × IsSync C.row × GroupFits rel.now.kinds keys.now aggs.now × (groups.now ≡ classes_of (map (key_of keys.now) rel.now.rows)) }
+        ensures { IfOk result (λ made. (made.kinds ≡ kinds1 (Grouping keys.entry.now aggs.entry.now) rel.entry.now.kinds) × (made.rows ≡ step1 (Grouping keys.entry.now aggs.entry.now) rel.entry.now.rows)) }
+    { keys_and_aggs(work, rel, groups, keys, aggs) };
+    let (lists, rows) = join(work.rt, turn, make);
+    both_of(rows, lists)
+}
+
+// The rows of a grouping: the keys beside the aggregates, which are made at the same time.
+fn keys_and_aggs<R: Threads + Sync, C: Crew + Sync>(
+    work: &Work<'_, R, C>,
+    rel: &Rel,
+    groups: &Groups,
+    keys: &[u32],
+    aggs: &[Agg],
+) -> Result<Rel, AllocError>
+    requires fits { GroupFits rel.now.kinds keys.now aggs.now }
+    requires groups { groups.now ≡ classes_of (map (key_of keys.now) rel.now.rows) }
+    ensures { IfOk result (λ made. (made.kinds ≡ kinds1 (Grouping keys.now aggs.now) rel.now.kinds) × (made.rows ≡ step1 (Grouping keys.now aggs.now) rel.now.rows)) }
+{
+    let firsts = groups.classes().firsts();
+    let first = || -> Result<Rel, AllocError>
+        requires { ArePlacesOf rel.now firsts.now keys.now }
+        ensures { IfOk result (λ made. made ≡ columns_of rel.entry.now firsts.entry.now keys.entry.now) }
+    { columns_at(work.alloc, rel, firsts, keys) };
+    let over = || -> Result<Rel, AllocError>
+        requires { IsSync R.row × IsSync C.row × AreAggsOf rel.now groups.now aggs.now }
+        ensures { IfOk result (λ made. made ≡ aggregates_of rel.entry.now groups.entry.now aggs.entry.now) }
+    { agg_columns(work, rel, groups, aggs) };
+    let (lefts, rights) = join(work.rt, first, over);
+    let (left, right) = both_of(lefts, rights)?;
+    left.beside(right)
+}
+
+// The aggregates over the rows of each group, all at the same time.
+#[cycle(aggregates)]
+fn agg_columns<R: Threads + Sync, C: Crew + Sync>(
+    work: &Work<'_, R, C>,
+    rel: &Rel,
+    groups: &Groups,
+    aggs: &[Agg],
+) -> Result<Rel, AllocError>
+    requires { AreAggsOf rel.now groups.now aggs.now }
+    ensures { IfOk result (λ made. made ≡ aggregates_of rel.now groups.now aggs.now) }
+{
+    if aggs.len() < 2 {
+        return few_columns(work.alloc, rel, groups, aggs);
+    }
+    let (low, high) = aggs.split_at(aggs.len() / 2);
+    let lower = || -> Result<Rel, AllocError>
+        requires { IsSync R.row × IsSync C.row × AreAggsOf rel.now groups.now low.now }
+        ensures { IfOk result (λ made. made ≡ aggregates_of rel.entry.now groups.entry.now low.entry.now) }
+    { agg_columns(work, rel, groups, low) };
+    let upper = || -> Result<Rel, AllocError>
+        requires { IsSync R.row × IsSync C.row × AreAggsOf rel.now groups.now high.now }
+        ensures { IfOk result (λ made. made ≡ aggregates_of rel.entry.now groups.entry.now high.entry.now) }
+    { agg_columns(work, rel, groups, high) };
+    let (lefts, rights) = join(work.rt, lower, upper);
+    let (left, right) = both_of(lefts, rights)?;
+    left.beside(right)
+}
+
+// The same of one aggregate or none.
+fn few_columns(alloc: Global, rel: &Rel, groups: &Groups, aggs: &[Agg]) -> Result<Rel, AllocError>
+    requires aggs { AreAggsOf rel.now groups.now aggs.now }
+    requires few { length aggs.now < 2 }
+    ensures { IfOk result (λ made. made ≡ aggregates_of rel.now groups.now aggs.now) }
+{
+    let classes = groups.classes();
+    if aggs.len() == 0 {
+        return columns_at(alloc, rel, classes.firsts(), &[]);
+    }
+    agg_column(alloc, rel, classes, None, &aggs[0])
+}

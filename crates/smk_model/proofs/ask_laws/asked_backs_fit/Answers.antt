@@ -1,5 +1,0 @@
-use Rattle.smk_model.proofs.AsksFit.{asked_backs_fit as law}
-use Rattle.smk_model.proofs.ask_laws.asked_backs_fit.Goals as goal
-
-pub returns : goal.returns
-returns c = law

@@ -1,5 +1,0 @@
-use Rattle.smk_model.proofs.Asks.{chains_add_no_rows as law}
-use Rattle.smk_model.proofs.ask_laws.chains_add_no_rows.Goals as goal
-
-pub returns : goal.returns
-returns c = law

@@ -1,5 +1,0 @@
-use Rattle.smk_model.proofs.Composed.{backs_compose as law}
-use Rattle.smk_model.proofs.composed_laws.backs_compose.Goals as goal
-
-pub returns : goal.returns
-returns c = law

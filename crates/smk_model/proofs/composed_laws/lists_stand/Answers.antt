@@ -1,5 +1,0 @@
-use Rattle.smk_model.proofs.Composed.{lists_stand as law}
-use Rattle.smk_model.proofs.composed_laws.lists_stand.Goals as goal
-
-pub returns : goal.returns
-returns c = law

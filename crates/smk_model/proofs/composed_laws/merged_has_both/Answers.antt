@@ -1,5 +1,0 @@
-use Rattle.smk_model.proofs.Pairs.{merged_has_both as law}
-use Rattle.smk_model.proofs.composed_laws.merged_has_both.Goals as goal
-
-pub returns : goal.returns
-returns c = law

@@ -1,5 +1,0 @@
-use Rattle.smk_model.proofs.Floors.{bin_is_floor as law}
-use Rattle.smk_model.proofs.lineage_laws.bin_is_floor.Goals as goal
-
-pub returns : goal.returns
-returns c = law

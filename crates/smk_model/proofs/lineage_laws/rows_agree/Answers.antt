@@ -1,5 +1,0 @@
-use Rattle.smk_model.proofs.Annotated.{rows_agree as law}
-use Rattle.smk_model.proofs.lineage_laws.rows_agree.Goals as goal
-
-pub returns : goal.returns
-returns c = law

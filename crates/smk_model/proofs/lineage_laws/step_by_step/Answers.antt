@@ -1,5 +1,0 @@
-use Rattle.smk_model.proofs.Annotated.{step_by_step as law}
-use Rattle.smk_model.proofs.lineage_laws.step_by_step.Goals as goal
-
-pub returns : goal.returns
-returns c = law

@@ -1,5 +1,0 @@
-use Rattle.smk_model.proofs.Sizes.{adds_no_rows as law}
-use Rattle.smk_model.proofs.local_laws.adds_no_rows.Goals as goal
-
-pub returns : goal.returns
-returns c = law

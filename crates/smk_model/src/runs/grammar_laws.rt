@@ -1,0 +1,60 @@
+ghost use Rattle.std.specs.Prelude.{◌≡◌, List};
+ghost use Rattle.smk_base.specs.Trees.{AnyLineImage, StmtImage};
+ghost use Rattle.smk_base.specs.declared.book.tree.Line.{Line};
+ghost use Rattle.smk_model.specs.Tokens.{Token};
+ghost use Rattle.smk_model.specs.Grammar.{AreStmts, IsWholeAnyLine, IsWholeLine};
+ghost use Rattle.smk_model.specs.GrammarLaws.{FaultlessAsksKeepLimits, FaultlessHaveTrees, FaultlessKeepLimits, FaultsStay, TakenAreCompleted, TextsAreRead};
+
+/// No tokens are two books.
+#[tactic(auto, using(crate::proofs::Unique::one_book))]
+pub fn one_book()
+    ensures { (a : List Token) → (ss : List StmtImage) → (us : List StmtImage) → AreStmts a ss → AreStmts a us → ss ≡ us }
+{}
+
+/// No tokens are two lines.
+#[tactic(auto, using(crate::proofs::Unique::one_line))]
+pub fn one_line()
+    ensures { (a : List Token) → (l : Line) → (u : Line) → IsWholeLine a l → IsWholeLine a u → l ≡ u }
+{}
+
+/// No tokens are two lines of any kind.
+#[tactic(auto, using(crate::proofs::Unique::one_any_line))]
+pub fn one_any_line()
+    ensures { (a : List Token) → (l : AnyLineImage) → (u : AnyLineImage) → IsWholeAnyLine a l → IsWholeAnyLine a u → l ≡ u }
+{}
+
+/// No text of the grammar has a wrong token: a book and a line of any kind have no fault but where they pass a limit, and a line without steps has none.
+#[tactic(auto, using(crate::proofs::Texts::texts_are_read))]
+pub fn texts_are_read()
+    ensures { TextsAreRead }
+{}
+
+/// A fault stays the fault whatever follows the faulty token.
+#[tactic(auto, using(crate::proofs::Staying::faults_stay))]
+pub fn faults_stay()
+    ensures { FaultsStay }
+{}
+
+/// Tokens up to the end without a fault have a tree.
+#[tactic(auto, using(crate::proofs::Sound::faultless_have_trees))]
+pub fn faultless_have_trees()
+    ensures { FaultlessHaveTrees }
+{}
+
+/// Tokens that were taken can be completed to a text of the grammar.
+#[tactic(auto, using(crate::proofs::Completing::taken_are_completed))]
+pub fn taken_are_completed()
+    ensures { TakenAreCompleted }
+{}
+
+/// A text that spells a book and has no fault keeps the limits that typing rests on.
+#[tactic(auto, using(crate::proofs::Keeping::faultless_keep_limits))]
+pub fn faultless_keep_limits()
+    ensures { FaultlessKeepLimits }
+{}
+
+/// A text that spells an ask line and has no fault keeps the limits that typing its steps rests on.
+#[tactic(auto, using(crate::proofs::Keeping::faultless_asks_keep_limits))]
+pub fn faultless_asks_keep_limits()
+    ensures { FaultlessAsksKeepLimits }
+{}

@@ -1,0 +1,8 @@
+//! Laws of sessions: what lines are answered, and what they change.
+
+pub mod append_laws;
+pub mod ask_laws;
+pub mod conversation_laws;
+pub mod expanded_laws;
+pub mod fd_laws;
+pub mod reply_laws;

@@ -1,0 +1,25 @@
+use Rattle.std.proofs.Common.{arith, ◌≡◌, ◌∙◌, ◌<◌, [], ◌∷◌, ℕ, List, length, get_or, map, sym}
+use Rattle.std.proofs.lemmas.List.{append-nil}
+use Rattle.smk_rid.specs.Packing.{one_of}
+use Rattle.smk_rid.proofs.Codes.{at_code, one_none, one_some, keep_more}
+use Rattle.smk_rid.proofs.hold.code.keep_at.Goals as goal
+use Rattle.smk_rid.proofs.hold.code.keep_at.Goals.{then-number, else-number}
+
+pub loop-p-preserved : goal.loop-p-preserved
+loop-p-preserved g c =
+    let rid = c.number.result in
+    let p = get_or c.args.places.now c.loop-p.p-index 0 in
+    let f : ℕ → List ℕ = λ p. get_or (map one_of (map g.C.Code.number_of c.args.codes.now)) p [] in
+    let low : p < length c.args.codes.now = c.requires.within c.loop-p.p-index 0 c.loop-p-test.true in
+    let at : f p ≡ one_of rid = at_code g.C.Code.number_of c.args.codes.now p c.index-codes-p.result rid low c.index-codes-p.is c.number.ensures in
+    let more = keep_more f c.args.places.now c.loop-p.p-index c.args.kept.now.items c.loop-p.kept.items c.if-number.kept.items in
+    elim c.if-number.branch [
+      | then-number w ↦ record {
+        items = more (rid ∷ []) c.loop-p-test.true (at ∙ one_some rid w.if-number.true) c.loop-p.invariant.items (rw w.kept-is w.push_reserved.ensures.items);
+        room = rw w.kept-is (omega (arith, w.push_reserved.ensures.capacity, w.push_reserved.ensures.len, c.loop-p.invariant.room));
+      }
+      | else-number w ↦ record {
+        items = more [] c.loop-p-test.true (at ∙ one_none rid w.if-number.false) c.loop-p.invariant.items (rw w.kept-is (sym (append-nil c.loop-p.kept.items)));
+        room = rw w.kept-is (omega (arith, c.loop-p.invariant.room));
+      }
+    ]

@@ -1,0 +1,18 @@
+use Rattle.std.proofs.Common.{◌≡◌, ◌∙◌, ap, sym, get_or}
+use Rattle.std.proofs.lemmas.List.{get_or_default}
+use Rattle.smk_base.specs.CatalogImage.{catalog_image}
+use Rattle.smk_model.specs.Session.{concerns}
+use Rattle.smk_session.specs.Answers.{chosen_of}
+use Rattle.smk_session.specs.declared.brush.chosen.Choice.{Choice}
+use Rattle.smk_session.proofs.Selected.{chosen_alike}
+use Rattle.smk_session.proofs.brush.chosen.place_of.Goals as goal
+
+pub returns-then-are_alike-clause-own : goal.returns-then-are_alike-clause-own
+returns-then-are_alike-clause-own c = λ d n are.
+    let catalog = catalog_image c.args.catalog.now in
+    let brushes = c.args.brushes.now in
+    let one = get_or c.args.choices.now c.loop-i.i c.index-choices-i.result in
+    let same : get_or c.args.choices.now c.loop-i.i d ≡ one = get_or_default c.args.choices.now c.loop-i.i d c.index-choices-i.result c.loop-i-test.true in
+    c.requires.choices c.loop-i.i d c.loop-i-test.true n are
+    ∙ ap (λ (choice : Choice). chosen_of catalog brushes choice.view c.args.t n) same
+    ∙ sym (chosen_alike (concerns catalog c.args.w c.args.t) (concerns catalog one.view c.args.t) brushes n c.if-are_alike.ensures)

@@ -1,6 +1,0 @@
-use Rattle.std.proofs.Common.{arith}
-use Rattle.std.proofs.lemmas.Grind.{common_steps}
-use Rattle.smk_session.proofs.brushes.replaced.Goals as goal
-
-pub loop-old-preserved : goal.loop-old-preserved
-loop-old-preserved c = grind (arith, common_steps)

@@ -1,7 +1,0 @@
-use Rattle.std.proofs.Common.{arith}
-use Rattle.std.proofs.lemmas.Grind.{common_steps}
-use Rattle.smk_session.proofs.InForce.{none_replaced}
-use Rattle.smk_session.proofs.brushes.with_brush.Goals as goal
-
-pub returns : goal.returns
-returns c = grind (arith, common_steps, none_replaced)

@@ -1,5 +1,0 @@
-use Rattle.smk_session.proofs.Merging.{common_turned}
-use Rattle.smk_session.proofs.chosen.common.Goals as goal
-
-pub returns-else-ones-others : goal.returns-else-ones-others
-returns-else-ones-others c = rw (common_turned c.args.ones.now c.args.others.now c.requires.ones c.requires.others) c.kept_of-else-ones-others.ensures

@@ -1,0 +1,20 @@
+ghost use Rattle.std.specs.Prelude.{◌≡◌};
+ghost use Rattle.smk_session.specs.declared.answer.no_answer.Turned.TheVariants as turns;
+
+use smk_base::Refusal;
+use std::alloc::AllocError;
+
+/// Why a line has no answer: it is refused, or memory is wanting.
+#[derive(Drop)]
+pub(crate) enum Turned {
+    Refused(Refusal),
+    Exhausted,
+}
+
+impl From<AllocError> for Turned {
+    ghost from_gives = { λ _ turned. turned ≡ turns.Exhausted };
+
+    fn from(_error: AllocError) -> Turned {
+        Turned::Exhausted
+    }
+}

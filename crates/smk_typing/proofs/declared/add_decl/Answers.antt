@@ -1,6 +1,0 @@
-use Rattle.std.proofs.Common.{arith}
-use Rattle.std.proofs.lemmas.Grind.{common_steps}
-use Rattle.smk_typing.proofs.declared.add_decl.Goals as goal
-
-pub returns-clause-longer : goal.returns-clause-longer
-returns-clause-longer c = grind (arith, common_steps)

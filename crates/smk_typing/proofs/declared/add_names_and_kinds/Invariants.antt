@@ -1,6 +1,0 @@
-use Rattle.std.proofs.Common.{◌≡◌, take}
-use Rattle.smk_model.specs.Names.{names_of, kinds_of}
-use Rattle.smk_typing.proofs.declared.add_names_and_kinds.Given as goal
-
-abbrev pub invariant-loop-column : goal.invariant-loop-column
-invariant-loop-column l = (l.names ≡ names_of (take l.column-index l.columns)) × (l.kinds ≡ kinds_of (take l.column-index l.columns))

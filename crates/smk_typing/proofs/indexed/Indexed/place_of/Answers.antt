@@ -1,6 +1,0 @@
-use Rattle.std.proofs.Common.{arith}
-use Rattle.std.proofs.lemmas.Grind.{common_steps}
-use Rattle.smk_typing.proofs.indexed.Indexed.place_of.Goals as goal
-
-pub returns-clause-within : goal.returns-clause-within
-returns-clause-within g c = grind (arith, common_steps)

@@ -1,0 +1,154 @@
+ghost use Rattle.std.specs.Prelude.{◌≡◌, ◌++◌, [], map, IfOk, OnOk};
+ghost use Rattle.smk_model.specs.Names.{in_turn};
+ghost use Rattle.smk_model.specs.Typing as typing;
+ghost use Rattle.smk_model.specs.Typing.{all_linked, linked_to};
+ghost use Rattle.smk_typing.specs.Answers.{Finds};
+ghost use Rattle.smk_typing.specs.Drafts.{over, links_after};
+ghost use Rattle.smk_typing.specs.Keys.{link_key};
+
+use crate::draft::indexed::Indexed;
+use crate::draft::view_named;
+use indexmap::IndexSet;
+use smk_base::{LinkInfo, LinkInfos, Rids, TypeFault, ViewInfo, Word};
+use std::alloc::Global;
+use std::marker::Model;
+
+/// The links so far. What each of them links stands in a hashed set beside them. Contracts see the links.
+#[derive(Drop)]
+pub struct Links {
+    infos: LinkInfos,
+    keys: IndexSet<(u32, u32, u32)>,
+}
+
+impl Model for Links {
+    ghost use Rattle.std.specs.Prelude.{◌≡◌, List, map};
+    ghost use Rattle.smk_base.specs.declared.book.catalog.LinkInfo.{LinkInfo};
+    ghost use Rattle.smk_model.specs.Typing.{all_linked};
+    ghost use Rattle.smk_typing.specs.Keys.{link_key};
+
+    ghost Value = { List LinkInfo };
+
+    ghost view = { λ a. a.infos };
+
+    ghost invariant = { λ a. a.keys.keys ≡ map link_key (all_linked a.infos) };
+}
+
+impl Links {
+    /// No link. It takes no memory.
+    pub fn new(alloc: Global) -> Links
+        ensures { result ≡ [] }
+    {
+        Links {
+            infos: LinkInfos::new(alloc),
+            keys: IndexSet::new(alloc),
+        }
+    }
+
+    /// The list alone. It takes no memory.
+    pub fn into_list(self) -> LinkInfos
+        ensures { result ≡ self }
+    {
+        let Links { infos, keys: _ } = self;
+        infos
+    }
+
+    /// The links after one more of a view on a table to other views.
+    pub fn with(
+        self,
+        alloc: Global,
+        views: &Indexed<ViewInfo>,
+        view: u32,
+        table: u32,
+        words: &[Word],
+    ) -> Result<Links, TypeFault>
+        ensures { Finds result (links_after views.now self view table words.now) (λ links. links) }
+    {
+        let Links {
+            mut infos,
+            mut keys,
+        } = self;
+        match add_link(alloc, views, &mut infos, &mut keys, view, table, words) {
+            Ok(()) => Ok(Links { infos, keys }),
+            Err(fault) => {
+                drop(infos);
+                drop(keys);
+                Err(fault)
+            }
+        }
+    }
+}
+
+/// Puts a linked view last.
+fn add_to(
+    views: &Indexed<ViewInfo>,
+    links: &[LinkInfo],
+    keys: &mut IndexSet<(u32, u32, u32)>,
+    view: u32,
+    table: u32,
+    to: &mut Rids,
+    word: &Word,
+) -> Result<(), TypeFault>
+    requires { keys.old.keys ≡ map link_key (all_linked links.now ++ linked_to view table to.old) }
+    ensures after { Finds result (typing.to_after (over views.now links.now) view table to.old word.now) (λ _. to.new) }
+    ensures keys { OnOk result (keys.new.keys ≡ map link_key (all_linked links.now ++ linked_to view table to.new)) }
+{
+    let number = view_named(views, word)?;
+    if number == view {
+        return Err(TypeFault::SelfLink { at: word.at });
+    }
+    let key = (view, table, number);
+    if keys.contains(&key) {
+        return Err(TypeFault::RepeatedDeclaration { at: word.at });
+    }
+    keys.insert(key)?;
+    to.push(number)?;
+    Ok(())
+}
+
+/// Puts the linked views of a link. On an error some of them are put.
+fn add_each(
+    views: &Indexed<ViewInfo>,
+    links: &[LinkInfo],
+    keys: &mut IndexSet<(u32, u32, u32)>,
+    view: u32,
+    table: u32,
+    to: &mut Rids,
+    words: &[Word],
+) -> Result<(), TypeFault>
+    requires none { to.old ≡ [] }
+    requires keys { keys.old.keys ≡ map link_key (all_linked links.now) }
+    ensures to { Finds result (in_turn (typing.to_after (over views.now links.now) view table) [] words.now) (λ _. to.new) }
+    ensures keys { OnOk result (keys.new.keys ≡ map link_key (all_linked links.now ++ linked_to view table to.new)) }
+{
+    for word in words {
+        add_to(views, links, keys, view, table, to, word)?;
+    }
+    Ok(())
+}
+
+/// Puts a link of a view on a table to other views last.
+fn add_link(
+    alloc: Global,
+    views: &Indexed<ViewInfo>,
+    infos: &mut LinkInfos,
+    keys: &mut IndexSet<(u32, u32, u32)>,
+    view: u32,
+    table: u32,
+    words: &[Word],
+) -> Result<(), TypeFault>
+    requires { keys.old.keys ≡ map link_key (all_linked infos.old) }
+    ensures links { Finds result (links_after views.now infos.old view table words.now) (λ _. infos.new) }
+    ensures keys { OnOk result (keys.new.keys ≡ map link_key (all_linked infos.new)) }
+{
+    let mut to = Rids::new(alloc);
+    match add_each(views, infos.as_slice(), keys, view, table, &mut to, words) {
+        Ok(()) => {
+            infos.push(LinkInfo { view, table, to })?;
+            Ok(())
+        }
+        Err(fault) => {
+            drop(to);
+            Err(fault)
+        }
+    }
+}
