@@ -6,6 +6,7 @@ pub mod Widths
 pub mod Ints
 pub mod Marks
 pub mod Plans
+pub mod Aggregates
 pub mod PlanImage
 pub mod Trees
 pub mod TreeImage

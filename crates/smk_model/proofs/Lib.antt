@@ -70,6 +70,7 @@ pub mod Dependencies
 pub mod Profiles
 pub mod ProfilesFit
 pub mod Keyed
+pub mod Aggregates
 pub mod Regroups
 pub mod Grows
 pub mod RegroupsByPlace

@@ -1,13 +1,10 @@
 -- What the regrouping of two groupings makes, place by place.
-use Rattle.std.proofs.Common.{◌≡◌, ℕ, true, false, not, List, [], ◌∷◌, ◌++◌, length, map, drop, refl, ap, sym, ◌∙◌, subst, arith}
+use Rattle.std.proofs.Common.{◌≡◌, ℕ, true, false, not, List, [], ◌∷◌, ◌++◌, length, map, drop, refl, ap, sym, ◌∙◌, subst}
 use Rattle.std.specs.List.{filter, fold}
-use Rattle.std.proofs.lemmas.Int.{ints}
 use Rattle.std.proofs.lemmas.List.{map-append, append-nil, length-map, take_at, drop_at, get_or-map}
 use Rattle.std.proofs.lemmas.List.Elements.{filter-append}
 use Rattle.std.proofs.lemmas.Bool.{or_right, false≢true, not-true, false_from_ne_true}
-use Rattle.smk_base.specs.declared.value.Value.TheVariants.{Int}
 use Rattle.smk_base.specs.declared.book.plan.Agg.{Agg}
-use Rattle.smk_base.specs.declared.book.plan.Agg.TheVariants.{Count, Sum, Min, Max}
 use Rattle.smk_base.specs.Plans.{Grouping}
 use Rattle.smk_model.specs.Values.{Row}
 use Rattle.smk_model.specs.Plain.{row_eq, key_of, firsts, aggregate, grouped, step1}
@@ -17,21 +14,14 @@ use Rattle.smk_model.proofs.Places.{map_map}
 use Rattle.smk_model.proofs.Firsts.{holds, holds_here, firsts_holds, firsts_from, key_there}
 use Rattle.smk_model.proofs.Locals.{firsts_apart}
 use Rattle.smk_model.proofs.Bulk.{bulk}
-use Rattle.smk_model.specs.Growth.{over_parts, keys_in, fresh, all_keys, joint, joint_values, joint_group, regrouped}
+use Rattle.smk_model.specs.Growth.{keys_in, fresh, all_keys, joint, joint_values, joint_group, regrouped}
 use Rattle.smk_model.specs.GrowthLaws.{RegroupsByPlace}
 use Rattle.smk_model.proofs.Keyed.{new_are_fresh, two_firsts, map_places}
 use Rattle.smk_model.proofs.Regroups.{rows_in_part, once_more, of_key, key_first, firsts_of, group_rows, group_keys, both_keys, no_rows, one_group, no_group, regrouped_two}
 
 -- the aggregates of two parts that have rows
 joint_is : (agg : Agg) (x : Row) (xs : List Row) (y : Row) (ys : List Row) → joint agg (aggregate (x ∷ xs) agg) (aggregate (y ∷ ys) agg) ≡ aggregate ((x ∷ xs) ++ (y ∷ ys)) agg
-joint_is agg x xs y ys =
-    short agg ∙ once_more agg 0 (λ p. aggregate (rows_in_part p) agg ∷ []) ((x, xs) ∷ (y, ys) ∷ []) (λ p. refl) ∙ ap (λ rows. aggregate (x ∷ xs ++ rows) agg) (append-nil (y ∷ ys))
-  where
-    short : (agg : Agg) → joint agg (aggregate (x ∷ xs) agg) (aggregate (y ∷ ys) agg) ≡ aggregate (map (λ p. aggregate (rows_in_part p) agg ∷ []) ((x, xs) ∷ (y, ys) ∷ [])) (over_parts 0 agg)
-    short Count = ap Int (omega (arith, ints))
-    short (Sum c) = ap Int (omega (arith, ints))
-    short (Min c) = refl
-    short (Max c) = refl
+joint_is agg x xs y ys = once_more agg 0 (λ p. aggregate (rows_in_part p) agg ∷ []) ((x, xs) ∷ (y, ys) ∷ []) (λ p. refl) ∙ ap (λ rows. aggregate (x ∷ xs ++ rows) agg) (append-nil (y ∷ ys))
 
 all_joint : (aggs : List Agg) (x : Row) (xs : List Row) (y : Row) (ys : List Row) → joint_values aggs (map (aggregate (x ∷ xs)) aggs) (map (aggregate (y ∷ ys)) aggs) ≡ map (aggregate ((x ∷ xs) ++ (y ∷ ys))) aggs
 all_joint [] x xs y ys = refl

@@ -1,14 +1,14 @@
 -- Plans that grow with their table: which they are, and how what they give of the old rows and of the new ones is put together.
-use Rattle.std.specs.Prelude.{ℕ, ◌+◌, ◌+ℤ◌, Bool, true, false, not, List, [], ◌∷◌, ◌++◌, length, map, take, drop}
+use Rattle.std.specs.Prelude.{ℕ, ◌+◌, Bool, true, false, not, List, [], ◌∷◌, ◌++◌, length, map, take, drop}
 use Rattle.std.specs.List.{list_any, filter, fold}
+use Rattle.smk_base.specs.Aggregates.{moved_to}
 use Rattle.smk_base.specs.Places.{upto, places}
 use Rattle.smk_base.specs.declared.value.Value.{Value}
-use Rattle.smk_base.specs.declared.value.Value.TheVariants.{Int}
 use Rattle.smk_base.specs.declared.book.plan.Agg.{Agg}
-use Rattle.smk_base.specs.declared.book.plan.Agg.TheVariants.{Count, Sum, Min, Max}
+use Rattle.smk_base.specs.declared.book.plan.Agg.TheVariants.{Count, Sum}
 use Rattle.smk_base.specs.Plans.{Unary, Selection, Projection, Distinction, Grouping, Expr, Leaf, Apply, Combine}
 use Rattle.smk_model.specs.Values.{Row}
-use Rattle.smk_model.specs.Plain.{row_eq, key_of, lesser, greater, number_of}
+use Rattle.smk_model.specs.Plain.{row_eq, key_of, aggregate}
 use Rattle.smk_model.specs.Lineage.{row_at, sub}
 
 -- whether a plan is a chain of selections and projections over a scan
@@ -32,9 +32,7 @@ is_growing (Combine op left right) = false
 -- the aggregate over parts that is in column c of their groupings, taken once more: it is that over all rows, since each of these is a distributive aggregate (Gray and others, Data Cube, 1997); counts are summed
 abbrev pub over_parts : ℕ → Agg → Agg
 over_parts c Count = Sum c
-over_parts c (Sum d) = Sum c
-over_parts c (Min d) = Min c
-over_parts c (Max d) = Max c
+over_parts c agg = moved_to c agg
 
 -- the same of aggregates in the columns from c on
 abbrev pub all_over_parts : ℕ → List Agg → List Agg
@@ -59,10 +57,7 @@ all_keys old new = old ++ sub new (fresh old new)
 
 -- the aggregate of a group from that of its old rows and that of its new ones
 abbrev pub joint : Agg → Value → Value → Value
-joint Count a b = Int (number_of a +ℤ number_of b)
-joint (Sum c) a b = Int (number_of a +ℤ number_of b)
-joint (Min c) a b = lesser a b
-joint (Max c) a b = greater a b
+joint agg a b = aggregate ((a ∷ []) ∷ (b ∷ []) ∷ []) (over_parts 0 agg)
 
 -- the same of each aggregate
 abbrev pub joint_values : List Agg → Row → Row → Row

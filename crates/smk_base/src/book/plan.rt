@@ -1,4 +1,5 @@
 ghost use Rattle.std.specs.Prelude.{◌≡◌, Ok, IfOk};
+ghost use Rattle.smk_base.specs.Aggregates.{moved_to, read_by};
 ghost use Rattle.smk_base.specs.PlanImage.{binary_of, formula_of, unary_of};
 
 use crate::list::ListOf;
@@ -95,6 +96,32 @@ pub enum Plan {
 pub struct Dir {
     pub back: bool,
     pub fwd: bool,
+}
+
+impl Agg {
+    /// The column that this reads.
+    pub fn column(self) -> Option<u32>
+        ensures { result ≡ read_by self }
+    {
+        match self {
+            Agg::Count => None,
+            Agg::Sum(c) => Some(c),
+            Agg::Min(c) => Some(c),
+            Agg::Max(c) => Some(c),
+        }
+    }
+
+    /// The same over another column.
+    pub fn over(self, column: u32) -> Agg
+        ensures { result ≡ moved_to column self }
+    {
+        match self {
+            Agg::Count => Agg::Count,
+            Agg::Sum(_) => Agg::Sum(column),
+            Agg::Min(_) => Agg::Min(column),
+            Agg::Max(_) => Agg::Max(column),
+        }
+    }
 }
 
 impl Operand {
