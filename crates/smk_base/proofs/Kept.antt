@@ -70,9 +70,8 @@ all-small (suc level) numbers h fit k d p = absurd (omega arith)
 pub Fits-wider : (a b : Kind) (v : Value) → IsWider a b → Fits b v → Fits a v
 Fits-wider (kinds.Int a) (kinds.Int b) (values.Int n) wider fits = Within-wider a b n wider fits
 Fits-wider (kinds.Int a) (kinds.Int b) (values.Text t) wider fits = absurd fits
-Fits-wider (kinds.Int a) kinds.Text v wider fits = absurd wider
-Fits-wider kinds.Text (kinds.Int b) v wider fits = absurd wider
 Fits-wider kinds.Text kinds.Text v wider fits = fits
+Fits-wider _ _ v wider fits = absurd wider
 
 pub IsColumnOf-append : (column other made : ColumnImage) (n m : ℕ) → IsColumnOf n column → IsColumnOf m other → IsWider column.kind other.kind → made.kind ≡ column.kind → made.cells ≡ column.cells ++ other.cells
     → n + m ≤ 1048576 → IsColumnOf (n + m) made
@@ -121,9 +120,8 @@ within_above (suc k) a q h w = above_between (2 ^ (63 + 20 * suc k)) a q h w
 -- the number of a bin is in the range of the level
 pub Within-bin : (k : ℕ) (n w : ℤ) → IsWithin k n → pos 1 ≤ℤ w → IsWithin k (int_div_euclid n w)
 Within-bin k (pos a) (pos b) f h = within_below k a (a / b) (div-le_self a b) f
-Within-bin k (pos a) (negsuc b) f h = absurd (omega (arith, ints))
 Within-bin k (negsuc a) (pos b) f h = within_above k a (a / b) (div-le_self a b) f
-Within-bin k (negsuc a) (negsuc b) f h = absurd (omega (arith, ints))
+Within-bin k _ (negsuc b) f h = absurd (omega (arith, ints))
 
 Fits-bin : (k : Kind) (v : Value) (w : ℤ) → Fits k v → k ≢ kinds.Text → pos 1 ≤ℤ w → Fits k (bin_of w v)
 Fits-bin (kinds.Int level) (values.Int n) w fits int h = Within-bin level n w fits h

@@ -21,9 +21,8 @@ IsWithin (suc k) n = (neg_ℤ (pos (2 ^ (63 + 20 * suc k))) ≤ℤ n) × (n ≤�
 -- whether a value fits a kind
 abbrev pub Fits : Kind → Value → Type 0
 Fits (kinds.Int level) (values.Int n) = IsWithin level n
-Fits (kinds.Int level) (values.Text t) = ⊥
-Fits kinds.Text (values.Int n) = ⊥
 Fits kinds.Text (values.Text t) = Unit {0}
+Fits _ _ = ⊥
 
 -- whether a row has one value for each kind, and each fits
 abbrev pub RowFits : List Kind → List Value → Type 0
@@ -91,9 +90,8 @@ beside_rows _ _ = []
 -- whether each value that fits the right kind fits the left one
 abbrev pub IsWider : Kind → Kind → Type 0
 IsWider (kinds.Int a) (kinds.Int b) = b ≤ a
-IsWider (kinds.Int a) kinds.Text = ⊥
-IsWider kinds.Text (kinds.Int b) = ⊥
 IsWider kinds.Text kinds.Text = Unit {0}
+IsWider _ _ = ⊥
 
 -- codes that are equal exactly where the values are
 pub record AreCodesOf (of_values : List Value) (codes : List ℕ) : Type 0 where

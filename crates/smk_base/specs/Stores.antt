@@ -26,9 +26,8 @@ room_in (Wide level ints) = vec_capacity ints - vec_len ints
 room_in (Texts texts next) = texts.room
 
 abbrev pub next_in : Store → Option (List ℕ)
-next_in (Small ints) = None
-next_in (Wide level ints) = None
 next_in (Texts texts next) = next_text (text_firsts texts.texts) texts.dict_room next
+next_in _ = None
 
 abbrev pub column_of : Store → ColumnImage
 column_of store = record { kind = kind_in_store store; cells = cells_in store; room = room_in store; next = next_in store; own = true }

@@ -13,14 +13,12 @@ use Rattle.smk_base.specs.declared.value.Value.TheVariants.{Int, Text}
 abbrev pub value_eq : Value → Value → Bool
 value_eq (Int a) (Int b) = int_eq a b
 value_eq (Text a) (Text b) = pointwise nat_eq a b
-value_eq (Int a) (Text b) = false
-value_eq (Text a) (Int b) = false
+value_eq _ _ = false
 
 pub value_same : (a b : Value) → Decides (value_eq a b) (a ≡ b)
 value_same (Int a) (Int b) = (λ e. ap Int ((signed_Decides a b).0 e), λ e. (signed_Decides a b).1 (cc))
 value_same (Text a) (Text b) = (λ e. ap Text ((slice_eq-Decides unsigned_Decides a b (pointwise nat_eq a b) refl).0 e), λ e. (slice_eq-Decides unsigned_Decides a b (pointwise nat_eq a b) refl).1 (cc))
-value_same (Int a) (Text b) = (λ e. absurd (true≢false (sym e)), λ e. absurd (cc))
-value_same (Text a) (Int b) = (λ e. absurd (true≢false (sym e)), λ e. absurd (cc))
+value_same _ _ = (λ e. absurd (true≢false (sym e)), λ e. absurd (cc))
 
 -- what a value feeds a hasher: its variant, then its content
 abbrev pub value_fed : Value → fed.HashWrites

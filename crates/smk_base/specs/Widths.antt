@@ -6,9 +6,8 @@ use Rattle.smk_base.specs.declared.value.Kind.TheVariants.{Int, Text}
 -- whether both are ints or both texts; levels may differ
 abbrev pub same_sort : Kind → Kind → Bool
 same_sort (Int a) (Int b) = true
-same_sort (Int a) Text = false
-same_sort Text (Int b) = false
 same_sort Text Text = true
+same_sort _ _ = false
 
 -- both ints or both texts
 abbrev pub AreAlike : Kind → Kind → Type 0

@@ -64,8 +64,7 @@ total_within k ns all few =
 
 wider_column : (k j : Kind) → IsColumn k → IsColumn j → IsColumn (wider k j)
 wider_column (kinds.Int a) (kinds.Int b) h f = omega arith
-wider_column (kinds.Int a) kinds.Text h f = h
-wider_column kinds.Text j h f = h
+wider_column _ _ h f = h
 
 pub wider_columns : (ls rs : List Kind) → All IsColumn ls → All IsColumn rs → All IsColumn (wider_kinds ls rs)
 wider_columns [] rs h f = h

@@ -21,9 +21,8 @@ use Rattle.smk_body.specs.Rises.{AreRises, codes_of, is_text_key}
 
 -- keys that are one column are that column alone
 pub one_key : (kinds : List Kind) (keys : List ℕ) → is_text_key kinds keys ≡ true → keys ≡ get_or keys 0 0 ∷ []
-one_key kinds [] h = absurd (true≢false (sym h))
 one_key kinds (c ∷ []) h = refl
-one_key kinds (c ∷ d ∷ keys) h = absurd (true≢false (sym h))
+one_key kinds _ h = absurd (true≢false (sym h))
 
 -- a column has a code for each row
 pub codes_long : (c : ℕ) (L : List Row) (codes : List ℕ) → AreCodesOf (column_values c L) codes → length codes ≡ length L

@@ -24,18 +24,16 @@ pub left_wider : (ls rs : List Kind) → AllZip AreAlike ls rs → AllZip IsWide
 left_wider [] rs h = tt
 left_wider (k ∷ ls) [] h = absurd h
 left_wider (kinds.Int a ∷ ls) (kinds.Int b ∷ rs) h = (omega arith, left_wider ls rs h.1)
-left_wider (kinds.Int a ∷ ls) (kinds.Text ∷ rs) h = absurd h.0
-left_wider (kinds.Text ∷ ls) (kinds.Int b ∷ rs) h = absurd h.0
 left_wider (kinds.Text ∷ ls) (kinds.Text ∷ rs) h = (tt, left_wider ls rs h.1)
+left_wider _ _ h = absurd h.0
 
 pub right_wider : (ls rs : List Kind) → AllZip AreAlike ls rs → AllZip IsWider (wider_kinds ls rs) rs
 right_wider [] [] h = tt
 right_wider [] (j ∷ rs) h = absurd h
 right_wider (k ∷ ls) [] h = absurd h
 right_wider (kinds.Int a ∷ ls) (kinds.Int b ∷ rs) h = (omega arith, right_wider ls rs h.1)
-right_wider (kinds.Int a ∷ ls) (kinds.Text ∷ rs) h = absurd h.0
-right_wider (kinds.Text ∷ ls) (kinds.Int b ∷ rs) h = absurd h.0
 right_wider (kinds.Text ∷ ls) (kinds.Text ∷ rs) h = (tt, right_wider ls rs h.1)
+right_wider _ _ h = absurd h.0
 
 -- the rows at places on the left, and on the right
 sub_left : (L R : List Row) (A : List ℕ) → All (λ i. i < length L) A → sub (L ++ R) A ≡ sub L A

@@ -9,9 +9,8 @@ use Rattle.smk_model.specs.Values.{Row}
 
 -- whether these keys are one column of texts alone
 abbrev pub is_text_key : List Kind → List ℕ → Bool
-is_text_key kinds [] = false
 is_text_key kinds (c ∷ []) = is_text (kind_in kinds c)
-is_text_key kinds (c ∷ d ∷ keys) = false
+is_text_key kinds _ = false
 
 -- for each row the code of its text in a column: the place of the text among the different ones, in the order in which they come first
 abbrev pub codes_of : List Row → ℕ → List ℕ

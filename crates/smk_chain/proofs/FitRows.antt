@@ -41,9 +41,8 @@ made_fits f g (x ∷ xs) h = (All-head (λ x. Fits (f x) (g x)) x xs h, made_fit
 
 both_fit : (ks js : List Kind) (vs ws : Row) → RowFits ks vs → RowFits js ws → RowFits (ks ++ js) (vs ++ ws)
 both_fit [] js [] ws h f = f
-both_fit [] js (v ∷ vs) ws h f = absurd h
-both_fit (k ∷ ks) js [] ws h f = absurd h
 both_fit (k ∷ ks) js (v ∷ vs) ws h f = (h.0, both_fit ks js vs ws h.1 f)
+both_fit _ js _ ws h f = absurd h
 
 bin_fits : (k : Kind) (v : Value) (w : ℤ) → Fits k v → IsInt k → pos 1 ≤ℤ w → Fits k (values.Int (bin (number_of v) w))
 bin_fits (kinds.Int level) (values.Int n) w f i h = Within-bin level n w f h

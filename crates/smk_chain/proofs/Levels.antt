@@ -6,10 +6,10 @@ use Rattle.std.proofs.lemmas.List.Elements.{All-map}
 use Rattle.smk_base.specs.declared.value.Kind.{Kind}
 use Rattle.smk_base.specs.declared.value.Kind.TheVariants as kinds
 use Rattle.smk_base.specs.declared.book.plan.Agg.{Agg}
-use Rattle.smk_base.specs.declared.book.plan.Agg.TheVariants.{Count, Sum, Min, Max}
+use Rattle.smk_base.specs.declared.book.plan.Agg.TheVariants.{Count, Sum}
 use Rattle.smk_base.specs.declared.book.plan.Item.{Item}
 use Rattle.smk_base.specs.declared.book.plan.Item.TheVariants.{Col, Bin}
-use Rattle.smk_base.specs.Plans.{Selection, Projection, Distinction, Grouping, Expr, Leaf, Apply, Combine}
+use Rattle.smk_base.specs.Plans.{Selection, Projection, Grouping, Expr, Leaf, Apply}
 use Rattle.smk_base.specs.Rels.{kind_in}
 use Rattle.smk_model.specs.Kinds.{AggFits, IsSummed, kind_of_item, kind_of_agg, kinds1, summed}
 use Rattle.smk_model.specs.Tables.{IsBase}
@@ -34,9 +34,7 @@ chain_kinds (Apply (Selection formula) input) K c all = chain_kinds input K c al
 chain_kinds (Apply (Projection items) input) K c all =
     let ks = plan_kinds input (leaf_kinds input K) in
     All-map IsBase (kind_of_item ks) items (λ i d h. base_item ks (chain_kinds input K c all) (get_or items i d))
-chain_kinds (Apply (Distinction items) input) K c all = absurd (false≢true c)
-chain_kinds (Apply (Grouping keys aggs) input) K c all = absurd (false≢true c)
-chain_kinds (Combine op left right) K c all = absurd (false≢true c)
+chain_kinds _ K c all = absurd (false≢true c)
 
 summed_low : (k : Kind) → IsBase k → IsSummed k → IsSummed (summed k)
 summed_low (kinds.Int level) b s = omega (arith, b)
@@ -45,8 +43,7 @@ summed_low kinds.Text b s = absurd s
 one_over : (ks groups : List Kind) (c : ℕ) (agg : Agg) → All IsBase ks → c < length groups → kind_in groups c ≡ kind_of_agg ks agg → AggFits ks agg → AggFits groups (over_parts c agg)
 one_over ks groups c Count all low e f = let none : IsSummed (kinds.Int 0) = omega arith in (low, subst IsSummed (sym e) none)
 one_over ks groups c (Sum d) all low e f = (low, subst IsSummed (sym e) (summed_low (kind_in ks d) (base_at ks all d) f.1))
-one_over ks groups c (Min d) all low e f = low
-one_over ks groups c (Max d) all low e f = low
+one_over ks groups c _ all low e f = low
 
 -- the aggregates of groups that are put together fit the columns of these
 pub over_fits : (ks : List Kind) (keys : List ℕ) (aggs : List Agg) → All IsBase ks → All (AggFits ks) aggs → All (AggFits (kinds1 (Grouping keys aggs) ks)) (all_over_parts (length keys) aggs)

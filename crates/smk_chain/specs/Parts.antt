@@ -16,8 +16,7 @@ use Rattle.smk_compose.specs.Through.{chained, Chains, is_heavy, map_at, no_need
 -- the lists of both, the second behind the first, where there are two
 abbrev pub followed_maps : Option Lists → Option Lists → Option Lists
 followed_maps (Some a) (Some b) = Some (followed a b)
-followed_maps (Some a) None = None
-followed_maps None b = None
+followed_maps _ _ = None
 
 -- for each group of both the place of its key among the keys
 abbrev pub class_lists : ClassesImage → Lists
@@ -60,8 +59,7 @@ pub record AreSmall (a b : Lists) : Type 0 where
 -- what `followed_maps` asks
 abbrev pub Follows : Option Lists → Option Lists → Type 0
 Follows (Some a) (Some b) = AreSmall a b
-Follows (Some a) None = Unit {0}
-Follows None b = Unit {0}
+Follows _ _ = Unit {0}
 
 -- the classes of groups fit the maps of these
 pub record IsRegrouped (classes : ClassesImage) (need : Needed) (backs fwds : Option Lists) : Type 0 where

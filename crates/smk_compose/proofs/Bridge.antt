@@ -43,11 +43,8 @@ heavy_is : (b f h : Bool) (X Y : Lists) (n : ℕ) → IsTrue (b || f) → pairs_
 heavy_is true true true X Y n some x y none = rw (x, y) (elim (cases_Bool (nat_lt pair_limit n)) [ inl e ↦ rw e refl | inr e ↦ rw e refl ])
 heavy_is true false true X Y n some x y none = rw x (sym (or_false (nat_lt pair_limit n)))
 heavy_is false true true X Y n some x y none = rw y refl
-heavy_is false false true X Y n some x y none = let e : false ≡ true = some in absurd (cc)
-heavy_is true true false X Y n some x y none = rw (none refl) refl
-heavy_is true false false X Y n some x y none = rw (none refl) refl
-heavy_is false true false X Y n some x y none = rw (none refl) refl
-heavy_is false false false X Y n some x y none = let e : false ≡ true = some in absurd (cc)
+heavy_is false false _ X Y n some x y none = let e : false ≡ true = some in absurd (cc)
+heavy_is _ _ false X Y n some x y none = rw (none refl) refl
 
 crowded_is : (plan : Expr) (E tables : List (List Row)) (n : Needed) → AreWhole plan E tables → IsTrue (is_needed n) → is_crowded plan E (n.table, length (table_at tables n.table)) ≡ has_heavy (held_at plan tables n)
 crowded_is plan E tables n are some =
@@ -76,9 +73,8 @@ fault_same plan E tables need node all whole = ap (λ (o : Option NodeFault). co
 -- what is filled in
 
 or_empty_is : (d h : Bool) (X : Lists) (n size : ℕ) → (h ≡ false → X ≡ empty_lists n size) → or_empty d (wanted (d && h) X) n size ≡ wanted d X
-or_empty_is true true X n size none = refl
 or_empty_is true false X n size none = ap Some (sym (none refl))
-or_empty_is false h X n size none = refl
+or_empty_is _ _ X n size none = refl
 
 filled_is : (plan : Expr) (tables : List (List Row)) (n : Needed) → filled n.dir (length (rows_over plan tables)) (length (table_at tables n.table)) (held_at plan tables n) ≡ kept_at plan tables n
 filled_is plan tables n = mk_same refl

@@ -20,20 +20,18 @@ together_long ls rs (l ∷ lefts) [] long = absurd (omega arith)
 together_long ls rs (l ∷ lefts) (r ∷ rights) long = let e : length lefts ≡ length rights = omega arith in omega (arith, together_long ls rs lefts rights e)
 
 pub together_at : (ls rs : Side) (lefts rights : List KeptMap) (i : ℕ) (d : KeptMap) → length lefts ≡ length rights → i < length lefts → get_or (together_all ls rs lefts rights) i d ≡ together ls rs (map_at lefts i) (map_at rights i)
-together_at ls rs [] rights i d long low = absurd (omega arith)
-together_at ls rs (l ∷ lefts) [] i d long low = absurd (omega arith)
 together_at ls rs (l ∷ lefts) (r ∷ rights) zero d long low = refl
 together_at ls rs (l ∷ lefts) (r ∷ rights) (suc i) d long low = together_at ls rs lefts rights i d (omega arith) (omega arith)
+together_at ls rs _ _ i d long low = absurd (omega arith)
 
 pub together_agree : (ls rs ms ns : Side) (lefts rights : List KeptMap)
     → ((i : ℕ) → i < length lefts → i < length rights → together ls rs (map_at lefts i) (map_at rights i) ≡ together ms ns (map_at lefts i) (map_at rights i))
     → together_all ls rs lefts rights ≡ together_all ms ns lefts rights
-together_agree ls rs ms ns [] rights h = refl
-together_agree ls rs ms ns (l ∷ lefts) [] h = refl
 together_agree ls rs ms ns (l ∷ lefts) (r ∷ rights) h =
     let here : together ls rs l r ≡ together ms ns l r = h 0 (omega arith) (omega arith) in
     let rest : together_all ls rs lefts rights ≡ together_all ms ns lefts rights = together_agree ls rs ms ns lefts rights (λ i p q. h (suc i) (omega arith) (omega arith)) in
     rw (here, rest) refl
+together_agree ls rs ms ns _ _ h = refl
 
 pub joined_same : {a b x y : Option Lists} → a ≡ b → x ≡ y → joined a x ≡ joined b y
 joined_same p q = rw (p, q) refl

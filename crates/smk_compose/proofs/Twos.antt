@@ -24,11 +24,10 @@ use Rattle.smk_compose.proofs.Alone.{IsVoid, empty_void, composed_void, void_com
 
 -- the wanted lists of both sides, each where its side has the table
 joined_wants : (d p q : Bool) (X Y Z : Lists) → Z ≡ merged X Y → (q ≡ false → merged X Y ≡ X) → (p ≡ false → merged X Y ≡ Y) → joined (wanted (d && p) X) (wanted (d && q) Y) ≡ wanted (d && (p || q)) Z
-joined_wants false p q X Y Z e l r = refl
 joined_wants true true true X Y Z e l r = ap Some (sym e)
 joined_wants true true false X Y Z e l r = ap Some (sym (e ∙ l refl))
 joined_wants true false true X Y Z e l r = ap Some (sym (e ∙ r refl))
-joined_wants true false false X Y Z e l r = refl
+joined_wants _ _ _ X Y Z e l r = refl
 
 chain_first : (w : Bool) (B X : Lists) → chained (Some B) (wanted w X) ≡ wanted w (composed B X)
 chain_first true B X = refl
@@ -86,8 +85,7 @@ maps_together op a b tables (n ∷ need) = rw (together_is op a b tables n, maps
 
 joins_wants : (w v : Bool) (X Y : Lists) → length X.lists ≡ length Y.lists → X.bound ≡ Y.bound → Joins (wanted w X) (wanted v Y)
 joins_wants true true X Y long bound = (long, bound)
-joins_wants true false X Y long bound = tt
-joins_wants false v X Y long bound = tt
+joins_wants _ _ X Y long bound = tt
 
 meets_at : (op : Binary) (a b : Expr) (tables : List (List Row)) (n : Needed)
     → Meets (side_left op (rows_over a tables) (rows_over b tables)) (side_right op (rows_over a tables) (rows_over b tables)) (held_at a tables n) (held_at b tables n)

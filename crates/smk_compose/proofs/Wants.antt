@@ -1,5 +1,5 @@
 -- A step that gives its lists in the directions in which its inputs have maps does for them what all its lists would do.
-use Rattle.std.proofs.Common.{◌≡◌, ◌∙◌, ◌<◌, ◌≤◌, ℕ, suc, Bool, true, false, List, [], ◌∷◌, length, map, get_or, Option, Some, None, is_some, refl, ap, arith, inl, inr}
+use Rattle.std.proofs.Common.{◌≡◌, ◌∙◌, ◌<◌, ◌≤◌, ℕ, suc, Bool, true, false, List, [], ◌∷◌, length, map, get_or, Option, Some, is_some, refl, ap, arith, inl, inr}
 use Rattle.std.proofs.lemmas.Bool.{cases_Bool}
 use Rattle.std.proofs.lemmas.List.Folds.{list_any_at}
 use Rattle.smk_base.specs.Places.{Lists}
@@ -33,14 +33,12 @@ map_agree f g [] h = refl
 map_agree f g (x ∷ xs) h = let rest : map f xs ≡ map g xs = map_agree f g xs (λ i d l. h (suc i) d (omega arith)) in let here : f x ≡ g x = h 0 x (omega arith) in rw (rest, here) refl
 
 first_wanted : (w : Bool) (B : Lists) (b : Option Lists) → (is_some b ≡ true → w ≡ true) → chained (wanted w B) b ≡ chained (Some B) b
-first_wanted true B b h = refl
-first_wanted false B None h = refl
 first_wanted false B (Some x) h = let e : false ≡ true = h refl in absurd (cc)
+first_wanted _ B _ h = refl
 
 second_wanted : (w : Bool) (F : Lists) (f : Option Lists) → (is_some f ≡ true → w ≡ true) → chained f (wanted w F) ≡ chained f (Some F)
-second_wanted true F f h = refl
-second_wanted false F None h = refl
 second_wanted false F (Some x) h = let e : false ≡ true = h refl in absurd (cc)
+second_wanted _ F _ h = refl
 
 back_wants : (maps : List KeptMap) (i : ℕ) (d : KeptMap) → i < length maps → is_some (get_or maps i d).back ≡ true → (want_of maps).back ≡ true
 back_wants maps i d low h = list_any_at has_back maps i d low h

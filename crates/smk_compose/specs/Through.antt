@@ -30,8 +30,7 @@ no_need = record { table = 0; dir = record { back = false; fwd = false } }
 -- two maps composed, where there are two
 abbrev pub chained : Option Lists → Option Lists → Option Lists
 chained (Some a) (Some b) = Some (composed a b)
-chained (Some a) None = None
-chained None b = None
+chained _ _ = None
 
 -- the maps of two sides merged, or the one that there is
 abbrev pub joined : Option Lists → Option Lists → Option Lists
@@ -49,13 +48,11 @@ chain_of (chains.Made m) first second = Some m
 -- what `chained` and `joined` ask of their maps
 abbrev pub Chains : Option Lists → Option Lists → Type 0
 Chains (Some a) (Some b) = a.bound ≡ length b.lists
-Chains (Some a) None = Unit {0}
-Chains None b = Unit {0}
+Chains _ _ = Unit {0}
 
 abbrev pub Joins : Option Lists → Option Lists → Type 0
 Joins (Some a) (Some b) = (length a.lists ≡ length b.lists) × (a.bound ≡ b.bound)
-Joins (Some a) None = Unit {0}
-Joins None b = Unit {0}
+Joins _ _ = Unit {0}
 
 -- whether a map has more pairs than the limit
 abbrev pub is_heavy : Option Lists → Bool
@@ -78,9 +75,8 @@ abbrev pub together : Side → Side → KeptMap → KeptMap → KeptMap
 together ls rs l r = joined_maps (through ls l) (through rs r)
 
 abbrev pub together_all : Side → Side → List KeptMap → List KeptMap → List KeptMap
-together_all ls rs [] rights = []
-together_all ls rs (l ∷ lefts) [] = []
 together_all ls rs (l ∷ lefts) (r ∷ rights) = together ls rs l r ∷ together_all ls rs lefts rights
+together_all ls rs _ _ = []
 
 -- both lists of a step, on one side
 abbrev pub side1 : Unary → List Row → Side

@@ -1,6 +1,6 @@
 -- What a step keeps for its lineage.
 use Rattle.std.specs.Prelude.{List, [], ◌++◌, map, Option, Some, None}
-use Rattle.smk_base.specs.Plans.{Unary, Selection, Projection, Distinction, Grouping, Binary, Equijoin, ThetaJoin, CrossProduct, BagUnion, SetUnion}
+use Rattle.smk_base.specs.Plans.{Unary, Distinction, Grouping, Binary, Equijoin, SetUnion}
 use Rattle.smk_base.specs.PlanImage.{unary_of, binary_of}
 use Rattle.smk_base.specs.Rels.{Relation}
 use Rattle.smk_model.specs.Values.{Row}
@@ -15,25 +15,21 @@ use Rattle.smk_defer.specs.declared.kept.KeptOp.TheVariants.{One, Two}
 
 -- the distinct keys of a step with one input, by first occurrence: the images of a distinct, the keys of a group
 abbrev pub keys1 : Unary → List Row → List Row
-keys1 (Selection formula) L = []
-keys1 (Projection items) L = []
 keys1 (Distinction items) L = firsts (map (image items) L)
 keys1 (Grouping keys aggs) L = firsts (map (key_of keys) L)
+keys1 _ L = []
 
 -- the same of a step with two inputs: of an equijoin the right rows' values in its pairs, of a set union its rows
 abbrev pub keys2 : Binary → List Row → List Row → List Row
 keys2 (Equijoin pairs) L R = firsts (map (key_of (right_columns_of pairs)) R)
-keys2 (ThetaJoin formula) L R = []
-keys2 CrossProduct L R = []
-keys2 BagUnion L R = []
 keys2 SetUnion L R = firsts (L ++ R)
+keys2 _ L R = []
 
 -- whether a step fits the kinds of its inputs, of which the right one is there exactly where it has two
 abbrev pub StepFits : KeptOp → Relation → Option Relation → Type 0
 StepFits (One op) left None = Fits1 (unary_of op) left.kinds
-StepFits (One op) left (Some right) = ⊥
-StepFits (Two op) left None = ⊥
 StepFits (Two op) left (Some right) = Fits2 (binary_of op) left.kinds right.kinds
+StepFits _ left _ = ⊥
 
 -- the rows of a right input
 abbrev pub right_rows : Option Relation → List Row

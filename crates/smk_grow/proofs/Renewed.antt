@@ -106,8 +106,7 @@ moved_is catalog t v size A B same none is =
 
 both : (a b : Bool) → (a && b) ≡ true → (a ≡ true) × (b ≡ true)
 both true true h = (refl, refl)
-both true false h = absurd (false≢true h)
-both false b h = absurd (false≢true h)
+both _ _ h = absurd (false≢true h)
 
 pub chains_scan : (catalog : CatalogImage) (t v : ℕ) → chains catalog t v ≡ true → scans catalog t v ≡ true
 chains_scan catalog t v h = (both (scans catalog t v) (is_growing (view_at catalog v).plan) h).0

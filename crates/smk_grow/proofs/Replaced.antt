@@ -27,12 +27,10 @@ use Rattle.smk_grow.proofs.Renewed.{SameBut, book_over, newer_is}
 -- the last fresh value is put first
 
 pub replaced_last : {X : Type 0} (fresh : List (Option X)) (last : Option X) (olds : List X) → length fresh < length olds → replaced (fresh ++ last ∷ []) olds ≡ replaced fresh (put_at olds (length fresh) last)
-replaced_last [] last [] low = absurd (omega arith)
-replaced_last [] (Some x) (old ∷ olds) low = refl
-replaced_last [] None (old ∷ olds) low = refl
-replaced_last (one ∷ more) last [] low = absurd (omega arith)
 replaced_last (one ∷ more) (Some x) (old ∷ olds) low = ap (λ l. newer one old ∷ l) (replaced_last more (Some x) olds (omega arith))
 replaced_last (one ∷ more) None (old ∷ olds) low = ap (λ l. newer one old ∷ l) (replaced_last more None olds (omega arith))
+replaced_last _ last [] low = absurd (omega arith)
+replaced_last [] _ (old ∷ olds) low = refl
 
 long_set : {X : Type 0} (olds : List X) (i : ℕ) (x : X) → length (set olds i x) ≡ length olds
 long_set olds i x = simp length-set
@@ -87,16 +85,14 @@ long_kept depends old new shape (declared ∷ more) =
 
 shape_of_split : (O N : Workbook) (v t : ℕ) (extra : BackExtra) → is_some (split_for O v t extra) ≡ is_some (split_for N v t extra)
 shape_of_split O N v t extras.Plain = refl
-shape_of_split O N v t (extras.By column) = refl
-shape_of_split O N v t (extras.Grouped keys aggs names kinds) = refl
+shape_of_split O N v t _ = refl
 
 split_shape : (O N : Workbook) → SameShape (split_in O) (split_in N)
 split_shape O N declared = shape_of_split O N declared.view declared.table declared.extra
 
 shape_of_cubes : (O N : Workbook) (v t : ℕ) (extra : BackExtra) → is_some (cubes_for O v t extra) ≡ is_some (cubes_for N v t extra)
 shape_of_cubes O N v t extras.Plain = refl
-shape_of_cubes O N v t (extras.By column) = refl
-shape_of_cubes O N v t (extras.Grouped keys aggs names kinds) = refl
+shape_of_cubes O N v t _ = refl
 
 cubes_shape : (O N : Workbook) → SameShape (cubes_in O) (cubes_in N)
 cubes_shape O N declared = shape_of_cubes O N declared.view declared.table declared.extra
@@ -116,19 +112,17 @@ split_of map table column = record { map = map; rows = table.rows; col = column 
 
 same_split : (catalog : CatalogImage) (t v u : ℕ) (extra : BackExtra) (A B : List (List Row)) → SameBut t A B → scans catalog t v ≡ false → nat_eq u t ≡ false
     → split_for (book_over catalog A) v u extra ≡ split_for (book_over catalog B) v u extra
-same_split catalog t v u extras.Plain A B same none ne = refl
 same_split catalog t v u (extras.By column) A B same none ne =
     ap (λ (map : Lists). Some (split_of map (table_of (book_over catalog A) u) column)) (same_backs catalog t v u A B same none ne)
     ∙ ap (λ (r : Relation). Some (split_of (backs_of (book_over catalog B) v u) r column)) (same_table catalog t u A B same ne)
-same_split catalog t v u (extras.Grouped keys aggs names kinds) A B same none ne = refl
+same_split catalog t v u _ A B same none ne = refl
 
 same_cubes : (catalog : CatalogImage) (t v u : ℕ) (extra : BackExtra) (A B : List (List Row)) → SameBut t A B → scans catalog t v ≡ false → nat_eq u t ≡ false
     → cubes_for (book_over catalog A) v u extra ≡ cubes_for (book_over catalog B) v u extra
-same_cubes catalog t v u extras.Plain A B same none ne = refl
-same_cubes catalog t v u (extras.By column) A B same none ne = refl
 same_cubes catalog t v u (extras.Grouped keys aggs names kinds) A B same none ne =
     ap (λ (map : Lists). Some (cubes_of map (table_of (book_over catalog A) u) keys aggs)) (same_backs catalog t v u A B same none ne)
     ∙ ap (λ (r : Relation). Some (cubes_of (backs_of (book_over catalog B) v u) r keys aggs)) (same_table catalog t u A B same ne)
+same_cubes catalog t v u _ A B same none ne = refl
 
 either_false : (a b : Bool) → (a || b) ≡ false → (a ≡ false) × (b ≡ false)
 either_false true b h = absurd (false≢true (sym h))

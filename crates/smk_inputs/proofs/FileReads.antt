@@ -35,23 +35,17 @@ pub says_after : {A X Y : Type 0} (image : X → A) (content : Y → List ℕ) (
     → Answers (says bytes) image r → ReadsNamed held rose name (λ h. FileSays h name says) image r
 says_after image content (Some held) rose name bytes y says (Ok x) is same own a = read is (subst (λ (b : List ℕ). says b (Ok (image x))) same a)
 says_after image content (Some held) rose name bytes y says (Err (At fault)) is same own a = inl (read is (subst (λ (b : List ℕ). says b (Err fault)) same a))
-says_after image content (Some held) rose name bytes y says (Err Unwritten) is same own a = a
-says_after image content (Some held) rose name bytes y says (Err Exhausted) is same own a = tt
-says_after image content None rose name bytes y says (Ok x) is same own a = tt
 says_after image content None rose name bytes y says (Err (At fault)) is same own a = own fault a
-says_after image content None rose name bytes y says (Err Unwritten) is same own a = a
-says_after image content None rose name bytes y says (Err Exhausted) is same own a = tt
+says_after image content _ rose name bytes y says (Err Unwritten) is same own a = a
+says_after image content _ rose name bytes y says _ is same own a = tt
 
 -- the file isn't read
 pub says_stop : {A X Y : Type 0} (image : X → A) (content : Y → List ℕ) (held : Option Held) (rose : Type 0) (name : List ℕ) (says : List ℕ → Result A Fault → Type 0) (stop : Stop)
     → ReadsNamed {X = Y} held rose name (λ h answer. content_of h name ≡ answer) content (Err stop) → ReadsNamed {X = X} held rose name (λ h. FileSays h name says) image (Err stop)
 says_stop image content (Some held) rose name says (At fault) (inl is) = inl (unread is)
 says_stop image content (Some held) rose name says (At fault) (inr up) = inr up
-says_stop image content (Some held) rose name says Unwritten is = is
-says_stop image content (Some held) rose name says Exhausted is = tt
-says_stop image content None rose name says (At fault) is = is
-says_stop image content None rose name says Unwritten is = is
-says_stop image content None rose name says Exhausted is = tt
+says_stop image content _ rose name says Exhausted is = tt
+says_stop image content _ rose name says _ is = is
 
 -- the same, said in other words
 pub reads_as : {A X : Type 0} (image : X → A) (held : Option Held) (rose : Type 0) (name : List ℕ) (says other : Held → Result A Fault → Type 0) (r : Result X Stop)
@@ -60,11 +54,9 @@ reads_as image (Some held) rose name says other (Ok x) change a = change held (O
 reads_as image (Some held) rose name says other (Err (At fault)) change (inl a) = inl (change held (Err fault) a)
 reads_as image (Some held) rose name says other (Err (At fault)) change (inr up) = inr up
 reads_as image (Some held) rose name says other (Err Unwritten) change a = a
-reads_as image (Some held) rose name says other (Err Exhausted) change a = tt
-reads_as image None rose name says other (Ok x) change a = tt
 reads_as image None rose name says other (Err (At fault)) change a = a
 reads_as image None rose name says other (Err Unwritten) change a = a
-reads_as image None rose name says other (Err Exhausted) change a = tt
+reads_as image _ rose name says other _ change a = tt
 
 -- a book's text
 pub spelt : (text : List ℕ) (book : Statements) → IsBookAnswer text (Ok book) → Parses text (Ok (book_image book))
@@ -74,11 +66,8 @@ pub keeps_limits : (text : List ℕ) (book : Statements) → IsBookAnswer text (
 keeps_limits text book is = faultless_keep_limits text (book_image book) is.0 is.1
 
 pub misspelt : (text : List ℕ) (fault : BookFault) → IsBookAnswer text (Err fault) → fault ≢ book_faults.NoMemory → Parses text (Err (Book fault))
-misspelt text (book_faults.BadToken at) is other = misspells is
-misspelt text (book_faults.Unexpected at) is other = misspells is
-misspelt text (book_faults.TooMany at what) is other = misspells is
-misspelt text (book_faults.BadNumber at) is other = misspells is
 misspelt text book_faults.NoMemory is other = absurd (other refl)
+misspelt text _ is other = misspells is
 
 -- a book in which each dependency is replaced
 pub expanded_keeps : (book made : List StmtImage) → made ≡ expanded book → KeepsLimits book → KeepsLimits made
@@ -101,10 +90,8 @@ pub says_fault : (text : List ℕ) (at : ℕ) → IsAnyAnswer text (Err (line_fa
 says_fault text at is = leaves is.0 is.1.1.0 is.1.1.1
 
 pub keeps_line : (text : List ℕ) (line : AnyLine) → IsAnyAnswer text (Ok (Some line)) → KeepsLine (any_image line)
-keeps_line text (any_lines.Plain line) is = tt
-keeps_line text (any_lines.Profile view) is = tt
-keeps_line text (any_lines.Append table file) is = tt
 keeps_line text (any_lines.Ask asked) is = faultless_asks_keep_limits text (ask_image asked) is.1 is.2
+keeps_line text _ is = tt
 
 pub ruleset lines_say = (says_none, says_line, says_fault, keeps_line)
 
@@ -125,7 +112,6 @@ book_unparsed trees image bytes text Exhausted same is = tt
 
 pub book_says : {X Y : Type 0} (trees : X → List StmtImage) (image : Y → BookSaid) (bytes text : List ℕ) (book : X) (r : Result Y Stop) → text ≡ after_marks bytes → Answers (Parses text) trees (Ok book)
     → Answers (λ answer. statements_say (trees book) ≡ answer) image r → Answers (BookSays bytes) image r
-book_says trees image bytes text book (Ok typed) same is e = parsed (subst (λ (t : List ℕ). Parses t (Ok (trees book))) same is) e
-book_says trees image bytes text book (Err (At fault)) same is e = parsed (subst (λ (t : List ℕ). Parses t (Ok (trees book))) same is) e
 book_says trees image bytes text book (Err Unwritten) same is e = e
 book_says trees image bytes text book (Err Exhausted) same is e = tt
+book_says trees image bytes text book _ same is e = parsed (subst (λ (t : List ℕ). Parses t (Ok (trees book))) same is) e

@@ -1,5 +1,5 @@
 -- The tables that lines bring, line by line.
-use Rattle.std.proofs.Common.{◌≡◌, ◌∙◌, ℕ, Bool, true, false, List, [], ◌∷◌, ◌++◌, Option, Some, None, refl, sym, ap, drop, length, arith}
+use Rattle.std.proofs.Common.{◌≡◌, ◌∙◌, ℕ, Bool, true, List, [], ◌∷◌, ◌++◌, Option, Some, None, refl, sym, ap, drop, length, arith}
 use Rattle.std.specs.Prelude.{IfSome, is_some}
 use Rattle.std.specs.List.{cons_option}
 use Rattle.std.specs.Option.{option_to_list, IsSomeAnd}
@@ -20,8 +20,7 @@ use Rattle.smk_inputs.proofs.NamedTables.{brings_is, named_at}
 -- the rows that are left
 pub rows_behind : (takes : Bool) (added : List Relation) → each_rows (tables_left takes added) ≡ rows_left takes (each_rows added)
 rows_behind true [] = refl
-rows_behind true (table ∷ added) = refl
-rows_behind false added = refl
+rows_behind _ _ = refl
 
 -- the first of the tables, where kinds begin so
 begins_so : (asked : Option TableInfo) (more : List TableInfo) (added : List Relation) → each_kinds added ≡ each_table_kinds (cons_option asked more) → IfSome asked (λ info. BeginsWith info added)

@@ -9,10 +9,10 @@ use Rattle.std.proofs.lemmas.List.Folds.{find_at}
 use Rattle.std.proofs.lemmas.Option.{slice_get_past}
 use Rattle.smk_base.specs.CatalogImage.{CatalogImage, table_place}
 use Rattle.smk_base.specs.Dicts.{text_eq}
-use Rattle.smk_base.specs.Trees.{PlainLine, AskedLine, ProfiledLine, AppendedLine}
+use Rattle.smk_base.specs.Trees.{AppendedLine}
 use Rattle.smk_base.specs.declared.book.catalog.TableInfo.{TableInfo}
 use Rattle.smk_model.specs.Outcome.{filed, appended_by, appended_at}
-use Rattle.smk_model.specs.Readings.{Reading, Nothing, Asks, Unread}
+use Rattle.smk_model.specs.Readings.{Reading, Asks}
 use Rattle.smk_model.specs.ReplyTexts.{table_named}
 use Rattle.smk_model.specs.Reports.{brings_rows}
 use Rattle.smk_model.proofs.Finds.{find_placed}
@@ -56,9 +56,5 @@ appends_is catalog table file d = by (table_place catalog table) refl
     by None none = ap is_some none ∙ ap is_some (sym (appended_nowhere catalog table file none))
 
 pub brings_is : (catalog : CatalogImage) (d : TableInfo) (reading : Reading) → brings_rows catalog reading ≡ is_some (appended_at catalog reading)
-brings_is catalog d Nothing = refl
-brings_is catalog d (Unread at) = refl
-brings_is catalog d (Asks (PlainLine asked)) = refl
-brings_is catalog d (Asks (AskedLine asked)) = refl
-brings_is catalog d (Asks (ProfiledLine view)) = refl
 brings_is catalog d (Asks (AppendedLine table file)) = appends_is catalog table file d
+brings_is catalog d _ = refl

@@ -23,12 +23,9 @@ Answers says image (Err Exhausted) = ⊤
 abbrev pub ReadsNamed : {A X : Type 0} → Option Held → Type 0 → List ℕ → (Held → Result A Fault → Type 0) → (X → A) → Result X Stop → Type 0
 ReadsNamed (Some held) rose name says image (Ok x) = says held (Ok (image x))
 ReadsNamed (Some held) rose name says image (Err (At fault)) = says held (Err fault) ⊎ (rose × (fault ≡ Unread name))
-ReadsNamed (Some held) rose name says image (Err Unwritten) = ⊥
-ReadsNamed (Some held) rose name says image (Err Exhausted) = ⊤
-ReadsNamed None rose name says image (Ok x) = ⊤
 ReadsNamed None rose name says image (Err (At fault)) = UntoldCause rose fault
-ReadsNamed None rose name says image (Err Unwritten) = ⊥
-ReadsNamed None rose name says image (Err Exhausted) = ⊤
+ReadsNamed _ rose name says image (Err Unwritten) = ⊥
+ReadsNamed _ rose name says image _ = ⊤
 
 -- the file of one of these tables is unread, and those before it are loaded
 pub data IsUnreadAmong (held : Held) (tables : List TableInfo) (fault : Fault) : Type 0 where
@@ -38,34 +35,25 @@ pub data IsUnreadAmong (held : Held) (tables : List TableInfo) (fault : Fault) :
 abbrev pub Loads : {X : Type 0} → Option Held → Type 0 → List TableInfo → (X → List (List Row)) → Result X Stop → Type 0
 Loads (Some held) rose tables image (Ok x) = load_all held tables ≡ Ok (image x)
 Loads (Some held) rose tables image (Err (At fault)) = (load_all held tables ≡ Err fault) ⊎ (rose × IsUnreadAmong held tables fault)
-Loads (Some held) rose tables image (Err Unwritten) = ⊥
-Loads (Some held) rose tables image (Err Exhausted) = ⊤
-Loads None rose tables image (Ok x) = ⊤
 Loads None rose tables image (Err (At fault)) = UntoldCause rose fault
-Loads None rose tables image (Err Unwritten) = ⊥
-Loads None rose tables image (Err Exhausted) = ⊤
+Loads _ rose tables image (Err Unwritten) = ⊥
+Loads _ rose tables image _ = ⊤
 
 -- the bytes of a run's script, of which there are none where it has no script; or a fault with its cause, or memory is wanting
 abbrev pub OpensBytes : {X : Type 0} → Option Held → Type 0 → Option (List ℕ) → (X → List ℕ) → Result X Stop → Type 0
 OpensBytes (Some held) rose script bytes (Ok x) = (readings : List Reading) → AreReadingsOf (bytes x) readings → OpensScript held script (Ok readings)
 OpensBytes (Some held) rose script bytes (Err (At fault)) = OpensScript held script (Err fault) ⊎ (rose × ((name : List ℕ) × (script ≡ Some name) × (fault ≡ Unread name)))
-OpensBytes (Some held) rose script bytes (Err Unwritten) = ⊥
-OpensBytes (Some held) rose script bytes (Err Exhausted) = ⊤
-OpensBytes None rose script bytes (Ok x) = ⊤
 OpensBytes None rose script bytes (Err (At fault)) = UntoldCause rose fault
-OpensBytes None rose script bytes (Err Unwritten) = ⊥
-OpensBytes None rose script bytes (Err Exhausted) = ⊤
+OpensBytes _ rose script bytes (Err Unwritten) = ⊥
+OpensBytes _ rose script bytes _ = ⊤
 
 -- what is read under the names of a book and a script, whatever readings the script has; or a fault with its cause; or memory is wanting
 abbrev pub ReadsAll : {X : Type 0} → Option Held → Type 0 → List ℕ → Option (List ℕ) → (X → List Reading → Inputs) → (X → List ℕ) → Result X Stop → Type 0
 ReadsAll (Some held) rose book script reads bytes (Ok x) = (readings : List Reading) → AreReadingsOf (bytes x) readings → ReadsFiles held book script (Ok (reads x readings))
 ReadsAll (Some held) rose book script reads bytes (Err (At fault)) = ReadsFiles held book script (Err fault) ⊎ (rose × NamesAsked held book script fault)
-ReadsAll (Some held) rose book script reads bytes (Err Unwritten) = ⊥
-ReadsAll (Some held) rose book script reads bytes (Err Exhausted) = ⊤
-ReadsAll None rose book script reads bytes (Ok x) = ⊤
 ReadsAll None rose book script reads bytes (Err (At fault)) = UntoldCause rose fault
-ReadsAll None rose book script reads bytes (Err Unwritten) = ⊥
-ReadsAll None rose book script reads bytes (Err Exhausted) = ⊤
+ReadsAll _ rose book script reads bytes (Err Unwritten) = ⊥
+ReadsAll _ rose book script reads bytes _ = ⊤
 
 -- no view has a fault, or it is the first one; or memory is wanting
 abbrev pub Starts : {X : Type 0} → Workbook → Result X Stop → Type 0
@@ -77,6 +65,4 @@ Starts book (Err Exhausted) = ⊤
 -- a fault of a step has a line that says it
 abbrev pub IsSayable : {X : Type 0} → Result X Stop → Type 0
 IsSayable (Err (At fault)) = IsSaid fault
-IsSayable (Err Unwritten) = ⊤
-IsSayable (Err Exhausted) = ⊤
-IsSayable (Ok x) = ⊤
+IsSayable _ = ⊤

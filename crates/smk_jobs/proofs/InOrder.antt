@@ -8,16 +8,14 @@ use Rattle.smk_jobs.specs.Jobs.{FirstFault}
 -- the values of one part behind those of another
 pub zip_joined : {A B : Type 0} (R : A → B → Type 0) (xs : List A) (ys : List B) (vs : List A) (ws : List B) → AllZip R xs ys → AllZip R vs ws → AllZip R (xs ++ vs) (ys ++ ws)
 zip_joined R [] [] vs ws front back = back
-zip_joined R [] (y ∷ ys) vs ws front back = absurd front
-zip_joined R (x ∷ xs) [] vs ws front back = absurd front
 zip_joined R (x ∷ xs) (y ∷ ys) vs ws front back = (front.0, zip_joined R xs ys vs ws front.1 back)
+zip_joined R _ _ vs ws front back = absurd front
 
 -- the first fault of a part behind jobs that gave values
 pub fault_behind : {J T E : Type 0} (Gives : J → Result T E → Type 0) (xs : List J) (made : List T) (rest : List J) (e : E) → AllZip (λ job one. Gives job (Ok one)) xs made → FirstFault Gives rest e → FirstFault Gives (xs ++ rest) e
 fault_behind Gives [] [] rest e done first = first
-fault_behind Gives [] (t ∷ ts) rest e done first = absurd done
-fault_behind Gives (x ∷ xs) [] rest e done first = absurd done
 fault_behind Gives (x ∷ xs) (t ∷ ts) rest e done first = (Ok t, done.0, fault_behind Gives xs ts rest e done.1 first)
+fault_behind Gives _ _ rest e done first = absurd done
 
 -- a fault in a front part is the first of the whole
 pub fault_before : {J T E : Type 0} (Gives : J → Result T E → Type 0) (xs rest : List J) (e : E) → FirstFault Gives xs e → FirstFault Gives (xs ++ rest) e
@@ -39,27 +37,24 @@ fault_here Gives jobs n job made e low at done gives =
 -- in the form in which a list of results is told by its places
 pub zip_of : {A B : Type 0} (R : A → B → Type 0) (xs : List A) (ys : List B) → length ys ≡ length xs → ((i : ℕ) (d : A) (e : B) → i < length xs → R (get_or xs i d) (get_or ys i e)) → AllZip R xs ys
 zip_of R [] [] long each = tt
-zip_of R [] (y ∷ ys) long each = absurd (omega (arith, long))
-zip_of R (x ∷ xs) [] long each = absurd (omega (arith, long))
 zip_of R (x ∷ xs) (y ∷ ys) long each = (each 0 x y (omega arith), zip_of R xs ys (omega (arith, long)) (λ i d e low. each (suc i) d e (omega (arith, low))))
+zip_of R _ _ long each = absurd (omega (arith, long))
 
 -- results that are all values, and those values
 
 pub values_of : {J T E : Type 0} (Gives : J → Result T E → Type 0) (jobs : List J) (results : List (Result T E)) (made : List T) → AllZip Gives jobs results → AllZip (λ r one. r ≡ Ok one) results made → AllZip (λ job one. Gives job (Ok one)) jobs made
 values_of Gives [] [] made given are = are
-values_of Gives [] (r ∷ rs) made given are = absurd given
-values_of Gives (j ∷ js) [] made given are = absurd given
 values_of Gives (j ∷ js) (r ∷ rs) [] given are = absurd are
 values_of Gives (j ∷ js) (r ∷ rs) (t ∷ ts) given are = (subst (Gives j) are.0 given.0, values_of Gives js rs ts given.1 are.1)
+values_of Gives _ _ made given are = absurd given
 
 -- the first fault among results is that of their jobs
 
 pub fault_of : {J T E : Type 0} (Gives : J → Result T E → Type 0) (jobs : List J) (results : List (Result T E)) (e : E) → AllZip Gives jobs results → FirstFault {T = T} (λ r s. r ≡ s) results e → FirstFault Gives jobs e
-fault_of Gives [] [] e given first = absurd first
 fault_of Gives [] (r ∷ rs) e given first = absurd given
-fault_of Gives (j ∷ js) [] e given first = absurd first
 fault_of Gives (j ∷ js) (r ∷ rs) e given (Ok t, is, first) = (Ok t, subst (Gives j) is given.0, fault_of Gives js rs e given.1 first)
 fault_of Gives (j ∷ js) (r ∷ rs) e given (Err f, is, same) = (Err f, subst (Gives j) is given.0, same)
+fault_of Gives _ [] e given first = absurd first
 
 -- the places of a group and of the jobs after it, in the list of both
 

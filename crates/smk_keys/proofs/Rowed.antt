@@ -1,5 +1,5 @@
 -- Numbers of rows, column by column.
-use Rattle.std.proofs.Common.{◌≡◌, ℕ, zero, suc, ◌+◌, ◌-◌, ◌<◌, ◌≤◌, ℤ, pos, List, [], ◌∷◌, ◌++◌, length, map, take, drop, get_or, nat_eq, refl, ap, sym, subst, ◌∙◌, arith, All, inl, inr, replicate, length-append, Decides}
+use Rattle.std.proofs.Common.{◌≡◌, ℕ, suc, ◌+◌, ◌-◌, ◌<◌, ◌≤◌, ℤ, pos, List, [], ◌∷◌, ◌++◌, length, map, take, drop, get_or, nat_eq, refl, ap, sym, subst, ◌∙◌, arith, All, inl, inr, replicate, length-append, Decides}
 use Rattle.std.specs.Cmp.{signed_Decides}
 use Rattle.std.specs.List.{zip, slice_range}
 use Rattle.std.specs.Ordering.{int_eq}
@@ -30,9 +30,8 @@ classes-numbers keys count numbers made e are = e ∙ classing-numbers key_eq ke
 
 -- keys of no column are all the same
 empty_key : (rows : List (List Value)) (i : ℕ) → get_or (map (picked []) rows) i [] ≡ []
-empty_key [] i = refl
-empty_key (row ∷ rows) zero = refl
 empty_key (row ∷ rows) (suc i) = empty_key rows i
+empty_key _ _ = refl
 
 pub AreNumbers-zeros : (rows : List (List Value)) (n : ℕ) (of : List ℕ) (count : ℕ) → length rows ≡ n → of ≡ replicate n 0 → count ≡ 1 → AreNumbers [] (map (picked []) rows) count of
 AreNumbers-zeros rows n of count long e one =

@@ -4,7 +4,7 @@ use Rattle.std.specs.List.{filter}
 use Rattle.std.proofs.lemmas.List.{get_or-map, length-map, map-id}
 use Rattle.std.proofs.lemmas.List.Elements.{All-get_or, filter_passes}
 use Rattle.std.proofs.lemmas.Bool.{or_cases, and_parts, eqb-true, eq-eqb, false≢true}
-use Rattle.smk_base.specs.Plans.{Selection, Projection, Distinction, Grouping, Expr, Leaf, Apply, Combine}
+use Rattle.smk_base.specs.Plans.{Selection, Projection, Expr, Leaf, Apply}
 use Rattle.smk_model.specs.Values.{Row, meets}
 use Rattle.smk_model.specs.Plain.{image, eval, leaves}
 use Rattle.smk_model.specs.Lineage.{places, has, row_at, sub}
@@ -26,9 +26,7 @@ scans : (plan : Expr) → is_chain plan ≡ true → leaves plan ≡ selected_ta
 scans (Leaf table) h = refl
 scans (Apply (Selection formula) input) h = scans input h
 scans (Apply (Projection items) input) h = scans input h
-scans (Apply (Distinction items) input) h = absurd (false≢true h)
-scans (Apply (Grouping keys aggs) input) h = absurd (false≢true h)
-scans (Combine op left right) h = absurd (false≢true h)
+scans _ h = absurd (false≢true h)
 
 picks : (plan : Expr) (L : List Row) → is_chain plan ≡ true → eval plan (L ∷ []) ≡ map (made plan) (filter (passes plan) L)
 picks (Leaf table) L h = sym (map-id (filter (λ row. true) L) ∙ filter-true L)
@@ -36,9 +34,7 @@ picks (Apply (Selection formula) input) L h =
     ap (filter (meets formula)) (picks input L h) ∙ filter_map (meets formula) (made input) (filter (passes input) L)
     ∙ ap (map (made input)) (filter_filter (λ row. meets formula (made input row)) (passes input) L)
 picks (Apply (Projection items) input) L h = ap (map (image items)) (picks input L h) ∙ map_map (image items) (made input) (filter (passes input) L)
-picks (Apply (Distinction items) input) L h = absurd (false≢true h)
-picks (Apply (Grouping keys aggs) input) L h = absurd (false≢true h)
-picks (Combine op left right) L h = absurd (false≢true h)
+picks _ L h = absurd (false≢true h)
 
 pub chain_picks : ChainPicks
 chain_picks = record {
@@ -73,9 +69,7 @@ made_from (Apply (Projection items) input) tables o r h low c =
     let small : o < length X = omega (arith, low, length-map X (image items)) in
     let below = made_from input tables o r h small (sym (or_false (comes input tables (selected_table input) o r)) ∙ c) in
     record { pass = below.pass; is = get_or-map (image items) X o [] [] small ∙ ap (image items) below.is }
-made_from (Apply (Distinction items) input) tables o r h low c = absurd (false≢true h)
-made_from (Apply (Grouping keys aggs) input) tables o r h low c = absurd (false≢true h)
-made_from (Combine op left right) tables o r h low c = absurd (false≢true h)
+made_from _ tables o r h low c = absurd (false≢true h)
 
 -- and each row that passes reaches a row of the chain
 
@@ -114,6 +108,4 @@ reaches (Apply (Projection items) input) tables r h low p =
     let X = rows_in input tables in
     let below = reaches input tables r h low p in
     record { place = below.place; low = omega (arith, below.low, length-map X (image items)); there = or_false (comes input tables (selected_table input) below.place r) ∙ below.there }
-reaches (Apply (Distinction items) input) tables r h low p = absurd (false≢true h)
-reaches (Apply (Grouping keys aggs) input) tables r h low p = absurd (false≢true h)
-reaches (Combine op left right) tables r h low p = absurd (false≢true h)
+reaches _ tables r h low p = absurd (false≢true h)

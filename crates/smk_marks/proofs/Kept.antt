@@ -50,9 +50,7 @@ counts_read chain K (Max c ∷ aggs) all = absurd (false≢true all)
 
 read_one : (chain : Expr) (K : List Kind) (agg : Agg) → PlanFits chain (K ∷ []) → AggFits (plan_kinds chain (K ∷ [])) agg → Reads chain K agg
 read_one chain K Count fits f = tt
-read_one chain K (Sum c) fits f = (fits, f)
-read_one chain K (Min c) fits f = (fits, f)
-read_one chain K (Max c) fits f = (fits, f)
+read_one chain K _ fits f = (fits, f)
 
 all_read : (chain : Expr) (K : List Kind) (aggs : List Agg) → PlanFits chain (K ∷ []) → All (AggFits (plan_kinds chain (K ∷ []))) aggs → All (Reads chain K) aggs
 all_read chain K [] fits all = All-nil (Reads chain K)

@@ -13,9 +13,8 @@ use Rattle.smk_marks.specs.MarkLaws.{NeverFull}
 
 -- the steps of a growing chain
 abbrev steps : Expr → List Unary
-steps (Leaf table) = []
 steps (Apply op input) = steps input ++ op ∷ []
-steps (Combine op left right) = []
+steps _ = []
 
 same_rows : (plan : Expr) (rows : List Row) → is_growing plan ≡ true → eval plan (rows ∷ []) ≡ eval (chain (steps plan)) (rows ∷ [])
 same_rows (Leaf table) rows c = refl

@@ -4,8 +4,8 @@ use Rattle.std.specs.List.{flat_map, filter}
 use Rattle.smk_base.specs.Places.{Lists, list_at, places, upto}
 use Rattle.smk_base.specs.declared.value.Value.TheVariants.{Int}
 use Rattle.smk_base.specs.declared.book.plan.Agg.{Agg}
-use Rattle.smk_base.specs.declared.book.plan.Agg.TheVariants.{Count, Sum, Min, Max}
-use Rattle.smk_base.specs.Plans.{Selection, Projection, Distinction, Grouping, Expr, Leaf, Apply, Combine}
+use Rattle.smk_base.specs.declared.book.plan.Agg.TheVariants.{Count}
+use Rattle.smk_base.specs.Plans.{Selection, Projection, Expr, Leaf, Apply, Combine}
 use Rattle.smk_model.specs.Values.{Row, meets}
 use Rattle.smk_model.specs.Plain.{image, aggregate}
 use Rattle.smk_model.specs.Lineage.{row_at, sub}
@@ -15,20 +15,16 @@ use Rattle.smk_body.specs.Halves.{class_places}
 -- what the projections of a chain make of a row
 abbrev pub made : Expr → Row → Row
 made (Leaf table) row = row
-made (Apply (Selection formula) input) row = made input row
 made (Apply (Projection items) input) row = image items (made input row)
-made (Apply (Distinction items) input) row = made input row
-made (Apply (Grouping keys aggs) input) row = made input row
 made (Combine op left right) row = made left row
+made (Apply _ input) row = made input row
 
 -- whether a row meets every formula of a chain, each of what the chain has made of it by then
 abbrev pub passes : Expr → Row → Bool
 passes (Leaf table) row = true
 passes (Apply (Selection formula) input) row = passes input row && meets formula (made input row)
-passes (Apply (Projection items) input) row = passes input row
-passes (Apply (Distinction items) input) row = passes input row
-passes (Apply (Grouping keys aggs) input) row = passes input row
 passes (Combine op left right) row = passes left row
+passes (Apply _ input) row = passes input row
 
 -- the places in S whose list has a member
 abbrev pub kept : Lists → List ℕ → List ℕ
@@ -61,6 +57,4 @@ mark_row m = Int (pos m) ∷ []
 -- whether an aggregate reads no column
 abbrev pub is_count : Agg → Bool
 is_count Count = true
-is_count (Sum c) = false
-is_count (Min c) = false
-is_count (Max c) = false
+is_count _ = false

@@ -3,7 +3,7 @@ use Rattle.std.specs.Prelude.{◌≡◌, ◌<◌, ◌≤◌, ◌+◌, ℕ, Bool,
 use Rattle.std.specs.List.{list_all}
 use Rattle.smk_base.specs.PlanImage.{expr_of}
 use Rattle.smk_base.specs.Places.{upto}
-use Rattle.smk_base.specs.Plans.{Selection, Projection, Distinction, Grouping, Expr, Leaf, Apply, Combine}
+use Rattle.smk_base.specs.Plans.{Grouping, Expr, Apply}
 use Rattle.smk_base.specs.Rels.{Relation, kind_in}
 use Rattle.smk_base.specs.declared.book.plan.Agg.{Agg}
 use Rattle.smk_base.specs.declared.book.plan.Agg.TheVariants.{Count, Sum, Min, Max}
@@ -26,12 +26,8 @@ plan_of last = Apply (Grouping last.keys.now last.aggs.now) (expr_of last.chain.
 
 -- whether a plan is a grouping over a chain
 abbrev pub ends_in_groups : Expr → Bool
-ends_in_groups (Leaf table) = false
-ends_in_groups (Apply (Selection formula) input) = false
-ends_in_groups (Apply (Projection items) input) = false
-ends_in_groups (Apply (Distinction items) input) = false
 ends_in_groups (Apply (Grouping keys aggs) input) = is_chain input
-ends_in_groups (Combine op left right) = false
+ends_in_groups _ = false
 
 -- a plan is this grouping over this chain
 pub record EndsInGroups (plan : Expr) (last : GroupedChain) : Type 0 where

@@ -1,5 +1,5 @@
 -- The annotated meaning: its rows are the plain rows, and its sets are those of one step after the other.
-use Rattle.std.proofs.Common.{◌≡◌, ℕ, zero, suc, ◌+◌, ◌<◌, Bool, true, false, List, [], ◌∷◌, ◌++◌, length, map, refl, ap, sym, ◌∙◌, subst, arith, get_or, ◌&&◌, ◌||◌, nat_eq, nat_lt, inl, inr}
+use Rattle.std.proofs.Common.{◌≡◌, ℕ, suc, ◌+◌, ◌<◌, Bool, false, List, [], ◌∷◌, ◌++◌, length, map, refl, ap, sym, ◌∙◌, subst, arith, get_or, ◌&&◌, ◌||◌, nat_eq, nat_lt, inl, inr}
 use Rattle.std.specs.List.{list_any, flat_map, filter}
 use Rattle.std.proofs.lemmas.List.{map-append, length-map, map-id, get_or_append_left, get_or-append_right, get_or-map}
 use Rattle.std.proofs.lemmas.List.Elements.{filter_agree}
@@ -71,9 +71,8 @@ rows_agree plan E = rows_from plan E 0
 -- sets
 
 pub row_of_mark : (marked : List Marked) (i : ℕ) → (mark_at marked i).0 ≡ row_at (rows_of marked) i
-row_of_mark [] i = refl
-row_of_mark (m ∷ marked) zero = refl
 row_of_mark (m ∷ marked) (suc i) = row_of_mark marked i
+row_of_mark _ _ = refl
 
 or_both : (a b : Bool) → (a || b) ≡ ((a || false) || (b || false))
 or_both a b = rw (or_false a, or_false b) refl

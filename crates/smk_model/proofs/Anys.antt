@@ -1,5 +1,5 @@
 -- Whether any member passes: tests that agree, and tests put together.
-use Rattle.std.proofs.Common.{◌≡◌, ℕ, suc, ◌<◌, Bool, true, false, List, [], ◌∷◌, map, refl, ap, ◌∙◌, arith, ◌&&◌, ◌||◌, nat_eq}
+use Rattle.std.proofs.Common.{◌≡◌, ℕ, suc, ◌<◌, Bool, true, false, List, [], ◌∷◌, refl, ap, ◌∙◌, arith, ◌&&◌, ◌||◌, nat_eq}
 use Rattle.std.specs.List.{list_any, All}
 use Rattle.std.proofs.lemmas.Bool.{eq-eqb, or_left, or_right}
 use Rattle.smk_model.specs.Lineage.{has}
@@ -31,10 +31,7 @@ and_false false = refl
 
 and_after : (a b c : Bool) → ((a && c) || (b && c)) ≡ ((a || b) && c)
 and_after true true true = refl
-and_after true true false = refl
-and_after true false true = refl
-and_after true false false = refl
-and_after false b c = refl
+and_after _ _ _ = refl
 
 pub any_and : {X : Type 0} (f : X → Bool) (c : Bool) (A : List X) → list_any (λ x. f x && c) A ≡ (list_any f A && c)
 any_and f c [] = refl

@@ -91,12 +91,7 @@ told_fits asked (Err fault) rows stand = stand
 over_fits : (catalog : CatalogImage) (asked : AskImage) (told : Reply) → IsBackReply catalog asked told → IsAskReplyTo asked (ask_over catalog asked told)
 over_fits catalog asked (replies.Back rids rows) h = told_fits asked (typed_steps (columns_named catalog asked.table) asked.steps) rows.rows (steps_stand (columns_named catalog asked.table) asked.steps)
 over_fits catalog asked (replies.Refused refusal) h = h
-over_fits catalog asked (replies.View rel) h = absurd h
-over_fits catalog asked (replies.Grouped rel) h = absurd h
-over_fits catalog asked (replies.Fwd marks) h = absurd h
-over_fits catalog asked (replies.Brush rids linked) h = absurd h
-over_fits catalog asked replies.Cleared h = absurd h
-over_fits catalog asked (replies.ClearedOne linked) h = absurd h
+over_fits catalog asked _ h = absurd h
 
 pub asks_fit : AsksFit
 asks_fit catalog state asked checked = over_fits catalog asked (reply catalog state (back_line asked)).0 (asked_backs_fit catalog state asked checked).fits

@@ -41,16 +41,13 @@ closes (_ ∷ []) = false
 closes (x ∷ y ∷ ss) = closes (y ∷ ss)
 
 closed_behind : (l : List Symbol) (y : Symbol) (ss : List Symbol) → closes (y ∷ ss) ≡ true → closes (l ++ y ∷ ss) ≡ true
-closed_behind [] y ss h = h
-closed_behind (x ∷ []) y ss h = h
 closed_behind (x ∷ z ∷ l) y ss h = closed_behind (z ∷ l) y ss h
+closed_behind _ y ss h = h
 
 abbrev StaysClosed : Move → Type 0
 StaysClosed (Takes d l) = closes l ≡ true
 StaysClosed Skips = ⊥
-StaysClosed Wrong = Unit {0}
-StaysClosed (Past w) = Unit {0}
-StaysClosed Outside = Unit {0}
+StaysClosed _ = Unit {0}
 
 lim : (o : Bool) (what : Many) (m : Move) → StaysClosed (or_next m [] Skips) → StaysClosed (or_next (within o what m) [] Skips)
 lim true what m h = h
@@ -86,10 +83,7 @@ closed (x ∷ y ∷ ss) c t h n = by (move_of c x t) (settle (y ∷ ss) c t) (cl
 -- a token that can't be read is never taken
 abbrev NotTaken : Move → Type 0
 NotTaken (Takes d l) = ⊥
-NotTaken Skips = Unit {0}
-NotTaken Wrong = Unit {0}
-NotTaken (Past w) = Unit {0}
-NotTaken Outside = Unit {0}
+NotTaken _ = Unit {0}
 
 abbrev unread_kind : Bool → TokenKind
 unread_kind true = kinds.Bad

@@ -7,7 +7,7 @@ use Rattle.smk_base.specs.declared.fault.BookFault.{BookFault}
 use Rattle.smk_base.specs.declared.fault.BookFault.TheVariants.{TooMany, BadNumber}
 use Rattle.smk_model.specs.Tokens.{Token}
 use Rattle.smk_model.specs.Grammar.{First, plain_word, IsName, name, IsColumn, plain, string, no_more, int_type, no_default, by_itself, width, column_item, count, no_keys, no_aggs, eq, column_term, compared, no_and, no_or, scan, no_step, group_step, union_step, no_extra, fwd_stmt, no_stmt, mark, all_marks, no_then, clear_line, whole_line, ask_step, no_ask_step, plain_line, whole_any_line}
-use Rattle.smk_model.specs.Machine.{Configuration, PlanCounts, Symbol, Move, Takes, Skips, Wrong, Past, Outside, settle, go_on, through, book_symbols, line_symbols, any_symbols, no_counts, AToken, AName, AColumn, ALiteral, AWidth, AType, ADefault, AnAs, AWhat, AKeys, AnAggs, AFirst, AnItem, ALinked, MoreDecls, MoreItems, MoreKeys, MoreAggs, MorePairs, MoreLinked, ASource, ASteps, AStep, AUnited, APrim, AnAnds, AnOrs, AnOn, AnOp, ATerm, AStmts, ALineage, AnExtra, ALine, ALineName, ALineColumn, AMarks, AMark, MoreMarks, AThen, ACleared, AnEnd, AnyLine, AnAskStep, AskSteps}
+use Rattle.smk_model.specs.Machine.{Configuration, PlanCounts, Symbol, Move, Takes, Skips, Wrong, Past, Outside, settle, go_on, through, book_symbols, line_symbols, any_symbols, no_counts, AToken, AName, AColumn, ALiteral, AWidth, AType, ADefault, AnAs, AWhat, AKeys, AnAggs, AFirst, AnItem, ALinked, ASource, ASteps, AStep, AUnited, APrim, AnAnds, AnOrs, AnOn, AnOp, ATerm, AStmts, ALineage, AnExtra, ALine, ALineName, ALineColumn, AMarks, AMark, AThen, ACleared, AnEnd, AnyLine, AnAskStep, AskSteps}
 use Rattle.smk_model.specs.Machine.{fault_at}
 use Rattle.smk_model.specs.GrammarLaws.{NoEnds, TakenAreCompleted}
 use Rattle.smk_model.proofs.Moves.{IsSymbol, AreSymbols, settled, MovesAll}
@@ -46,12 +46,6 @@ closes AnAggs b = (b, (_, no_aggs))
 closes (AFirst n) b = (tok kinds.Name [] ∷ b, (_, a_column b))
 closes (AnItem n) b = (tok kinds.Name [] ∷ b, (_, column_item (a_column b) by_itself))
 closes (ALinked n) b = (tok kinds.Name [] ∷ b, (_, a_name b))
-closes (MoreDecls n) b = (b, ([], no_more))
-closes (MoreItems n) b = (b, ([], no_more))
-closes (MoreKeys n) b = (b, ([], no_more))
-closes (MoreAggs n) b = (b, ([], no_more))
-closes (MorePairs n) b = (b, ([], no_more))
-closes (MoreLinked n) b = (b, ([], no_more))
 closes (ASource d) b = let s = a_source b in (s.0, s.1)
 closes (ASteps d) b = (b, λ x. (x, no_step))
 closes (AStep d) b = (tok kinds.Group [] ∷ b, (_, _, group_step (is_tok kinds.Group [] b) no_keys no_aggs))
@@ -70,13 +64,13 @@ closes ALineName b = (tok kinds.Name [] ∷ b, (_, a_name b))
 closes ALineColumn b = (tok kinds.Name [] ∷ b, (_, a_column b))
 closes AMarks b = (tok kinds.All [] ∷ b, (_, all_marks (is_tok kinds.All [] b)))
 closes AMark b = (tok kinds.Number [] ∷ b, (0, mark (is_tok kinds.Number [] b) refl refl))
-closes MoreMarks b = (b, ([], no_more))
 closes AThen b = (b, (_, no_then))
 closes ACleared b = (b, λ z t g. (_, clear_line g))
 closes AnEnd b = (tok kinds.End [] ∷ b, (tok kinds.End [], b, is_tok kinds.End [] b))
 closes AnyLine b = (tok kinds.Clear [] ∷ b, (_, plain_line (clear_line (is_tok kinds.Clear [] b))))
 closes AnAskStep b = (tok kinds.Group [] ∷ b, (_, ask_step (group_step (is_tok kinds.Group [] b) no_keys no_aggs) tt))
 closes AskSteps b = (b, ([], no_ask_step))
+closes _ b = (b, ([], no_more))
 
 close_all : (ss : List Symbol) → (a : List Token) × (b : List Token) × AreSymbols ss a b
 close_all [] = ([], [], refl)

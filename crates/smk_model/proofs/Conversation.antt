@@ -6,7 +6,7 @@ use Rattle.clap.proofs.RemoveLemmas.{find-none}
 use Rattle.smk_base.specs.CatalogImage.{CatalogImage, table_place}
 use Rattle.smk_base.specs.Dicts.{text_eq}
 use Rattle.smk_base.specs.Marks.{after_marks}
-use Rattle.smk_base.specs.Trees.{PlainLine, AskedLine, ProfiledLine, AppendedLine}
+use Rattle.smk_base.specs.Trees.{AppendedLine}
 use Rattle.smk_base.specs.declared.book.catalog.TableInfo.{TableInfo}
 use Rattle.smk_model.specs.Values.{Row}
 use Rattle.smk_model.specs.Appends.{turn_at, append_looks_at}
@@ -14,7 +14,7 @@ use Rattle.smk_model.specs.Conversation.{HeardLine, TalkTurn, Replied, TalkState
 use Rattle.smk_model.specs.ConversationLaws.{TalksAsReported}
 use Rattle.smk_model.specs.Lines.{lines}
 use Rattle.smk_model.specs.Outcome.{Held, Inputs, ReadsFiles, inputs, a_script, read, lines_read, content_of, appended, appended_at, filed, load_all}
-use Rattle.smk_model.specs.Readings.{Reading, Nothing, Asks, Unread, AreReadings, no_line, one_line}
+use Rattle.smk_model.specs.Readings.{Reading, Asks, AreReadings, no_line, one_line}
 use Rattle.smk_model.specs.Reports.{BookSaid, followed_by, turn_answered, line_told, state_after, lines_told, answer_told, brings_rows, next_rows, rows_left, report_of, report_told}
 use Rattle.smk_model.specs.ReplyTexts.{table_named}
 use Rattle.smk_model.specs.Session.{State, first_state}
@@ -42,14 +42,10 @@ unplaced catalog state table more other (Some t) none = absurd (cc)
 -- and so does every line that brings no rows
 told_alike : (said : BookSaid) (state : State) (number : ℕ) (more other : List Row) (reading : Reading) → brings_rows said.catalog reading ≡ false
     → (line_told said state number more reading ≡ line_told said state number other reading) × (state_after said state more reading ≡ state_after said state other reading)
-told_alike said state number more other Nothing none = (refl, refl)
-told_alike said state number more other (Unread at) none = (refl, refl)
-told_alike said state number more other (Asks (PlainLine asked)) none = (refl, refl)
-told_alike said state number more other (Asks (AskedLine asked)) none = (refl, refl)
-told_alike said state number more other (Asks (ProfiledLine view)) none = (refl, refl)
 told_alike said state number more other (Asks (AppendedLine table file)) none =
     let same = unplaced said.catalog state table more other (table_place said.catalog table) none in
     (ap answer_told same, ap (λ line. line.next) same)
+told_alike said state number more other _ none = (refl, refl)
 
 -- lines that are answered come to what the walk over a script has
 pub lines_alike : (said : BookSaid) (state : State) (number : ℕ) (heard : List HeardLine)
@@ -73,16 +69,12 @@ lines_alike said state number (line ∷ heard) =
 
 -- a line brings rows where it appends to a table of the book
 same_place : (catalog : CatalogImage) (reading : Reading) → is_some (appended_at catalog reading) ≡ brings_rows catalog reading
-same_place catalog Nothing = refl
-same_place catalog (Unread at) = refl
-same_place catalog (Asks (PlainLine asked)) = refl
-same_place catalog (Asks (AskedLine asked)) = refl
-same_place catalog (Asks (ProfiledLine view)) = refl
 same_place catalog (Asks (AppendedLine table file)) = by (table_place catalog table) refl
   where
     by : (place : Option ℕ) → table_place catalog table ≡ place → is_some (option_map (filed file) (table_named catalog table)) ≡ is_some place
     by (Some t) is = ap (λ o. is_some (option_map (filed file) o)) (table_found catalog table t is)
     by None is = ap (λ o. is_some (option_map (filed file) o)) (find-none (λ (info : TableInfo). text_eq info.name table) catalog.tables is)
+same_place catalog _ = refl
 
 -- the files of lines bring their rows
 rows_loaded : (held : Held) (catalog : CatalogImage) (number : ℕ) (heard : List HeardLine) → AreHeard held catalog number heard

@@ -82,9 +82,8 @@ of_distinction items L o h =
     }
 
 one_item : {X Y : Type 0} (f : X → Y) (xs : List X) (y : Y) → map f xs ≡ y ∷ [] → (x : X) × (xs ≡ x ∷ [])
-one_item f [] y e = absurd (cc)
 one_item f (x ∷ []) y e = (x, refl)
-one_item f (x ∷ x' ∷ xs) y e = absurd (cc)
+one_item f _ y e = absurd (cc)
 
 filter_twice : (f : Row → Bool) (xs : List Row) → filter f (filter f xs) ≡ filter f xs
 filter_twice f [] = refl

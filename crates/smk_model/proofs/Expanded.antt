@@ -40,19 +40,11 @@ expanded_keeps (s ∷ ss) h = All-append KeepsStmt (in_its_place s) (expanded ss
 -- it has as many tables, and as many views as are counted
 placed_tables : (s : StmtImage) → count_by is_table (in_its_place s) ≡ cond (is_table s) 1 0
 placed_tables (TableNode name file decls) = refl
-placed_tables (ViewNode name tree) = refl
-placed_tables (BackNode at view table extra) = refl
-placed_tables (FwdNode at table view) = refl
-placed_tables (LinkNode view table to) = refl
-placed_tables (DependsNode at name table keys col) = refl
+placed_tables _ = refl
 
 placed_views : (s : StmtImage) → count_by is_view (in_its_place s) ≡ cond (is_view s) 1 0
 placed_views (TableNode name file decls) = refl
-placed_views (ViewNode name tree) = refl
-placed_views (BackNode at view table extra) = refl
-placed_views (FwdNode at table view) = refl
-placed_views (LinkNode view table to) = refl
-placed_views (DependsNode at name table keys col) = refl
+placed_views _ = refl
 
 expanded_count : (p : StmtImage → Bool) → ((s : StmtImage) → count_by p (in_its_place s) ≡ cond (p s) 1 0) → (book : List StmtImage) → count_by p (expanded book) ≡ count_by p book
 expanded_count p h [] = refl
@@ -83,12 +75,8 @@ none [] = All-nil IsNoDependency
 none (s ∷ ss) = All-append IsNoDependency (in_its_place s) (expanded ss) (placed_none s) (none ss)
 
 placed_same : (s : StmtImage) → IsNoDependency s → in_its_place s ≡ s ∷ []
-placed_same (TableNode name file decls) h = refl
-placed_same (ViewNode name tree) h = refl
-placed_same (BackNode at view table extra) h = refl
-placed_same (FwdNode at table view) h = refl
-placed_same (LinkNode view table to) h = refl
 placed_same (DependsNode at name table keys col) h = absurd h
+placed_same _ h = refl
 
 same : (book : List StmtImage) → HasNoDependency book → expanded book ≡ book
 same [] h = refl
@@ -108,12 +96,8 @@ then_done (Ok a) = refl
 then_done (Err fault) = refl
 
 placed_typed : (catalog : CatalogImage) (s : StmtImage) → in_turn stmt_after catalog (in_its_place s) ≡ stmt_after catalog s
-placed_typed catalog (TableNode name file decls) = then_done _
-placed_typed catalog (ViewNode name tree) = then_done _
-placed_typed catalog (BackNode at view table extra) = then_done _
-placed_typed catalog (FwdNode at table view) = then_done _
-placed_typed catalog (LinkNode view table to) = then_done _
 placed_typed catalog (DependsNode at name table keys col) = then_same (view_after catalog name (violations_tree at table keys col)) (λ more. then_done (back_after more at name table Plain))
+placed_typed catalog _ = then_done _
 
 typed_from : (catalog : CatalogImage) (book : List StmtImage) → in_turn stmt_after catalog (expanded book) ≡ in_turn stmt_after catalog book
 typed_from catalog [] = refl

@@ -66,14 +66,12 @@ composed_pairs [] G h = omega arith
 composed_pairs (A ∷ F) G h = omega (arith, sum_by-cons length (members_at G A) (map (members_at G) F), sum_by-cons length A F, members_few G A h, composed_pairs F G h)
 
 singles_one : (of : List ℕ) (n : ℕ) → AtMostOne (singles of n)
-singles_one [] n i = omega arith
-singles_one (x ∷ of) n zero = omega arith
 singles_one (x ∷ of) n (suc i) = singles_one of n i
+singles_one _ n _ = omega arith
 
 empty_one : (k n : ℕ) → AtMostOne (empty_lists k n)
-empty_one zero n i = omega arith
-empty_one (suc k) n zero = omega arith
 empty_one (suc k) n (suc i) = empty_one k n i
+empty_one _ n _ = omega arith
 
 merged_two : (a b : Lists) → AtMostOne a → AtMostOne b → (i : ℕ) → length (list_at (merged a b) i) ≤ 2
 merged_two a b f g i =

@@ -8,7 +8,7 @@ use Rattle.std.proofs.lemmas.Bool.{cases_Bool, cases_lt, eq-eqb, ne_eqb, eqb-tru
 use Rattle.smk_base.specs.Places.{composed, followed}
 use Rattle.smk_base.specs.declared.book.plan.Item.{Item}
 use Rattle.smk_base.specs.declared.book.plan.Agg.{Agg}
-use Rattle.smk_base.specs.Plans.{Formula, Unary, Selection, Projection, Distinction, Grouping, Expr, Leaf, Apply, Combine}
+use Rattle.smk_base.specs.Plans.{Formula, Unary, Selection, Projection, Grouping, Expr, Leaf, Apply}
 use Rattle.smk_model.specs.Values.{Row, meets}
 use Rattle.smk_model.specs.Plain.{row_eq, image, key_of, firsts, grouped, step1}
 use Rattle.smk_model.specs.Lineage.{upto, places, row_at, meeting, from1}
@@ -139,9 +139,7 @@ chained (Apply (Selection formula) input) old new grown c e =
     chained_step (Selection formula) input old new grown (selected_table input) (rowwise_selection formula (rows_in input old) (rows_in input new)) (chained input old new grown c e)
 chained (Apply (Projection items) input) old new grown c e =
     chained_step (Projection items) input old new grown (selected_table input) (rowwise_projection items (rows_in input old) (rows_in input new)) (chained input old new grown c e)
-chained (Apply (Distinction items) input) old new grown c e = absurd (false≢true c)
-chained (Apply (Grouping keys aggs) input) old new grown c e = absurd (false≢true c)
-chained (Combine op left right) old new grown c e = absurd (false≢true c)
+chained _ old new grown c e = absurd (false≢true c)
 
 -- the lists of a plan whose places are in blocks
 

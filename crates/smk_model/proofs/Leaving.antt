@@ -8,7 +8,7 @@ use Rattle.smk_base.specs.declared.book.limits.TheConstants.{TABLE_LIMIT, VIEW_L
 use Rattle.smk_base.specs.declared.rel.TheConstants.{COLUMN_LIMIT}
 use Rattle.smk_model.specs.Tokens.{Token, int_value}
 use Rattle.smk_model.specs.TokenKinds.{same_kind}
-use Rattle.smk_model.specs.Machine.{PlanCounts, Tally, Symbol, Move, Takes, Skips, Wrong, Past, Outside, settle, or_next, within, move_of, no_counts, is_mark, is_short, at_name, at_column, at_first, at_item, at_literal, at_width, at_type, at_default, at_as, at_what, at_keys, at_aggs, at_linked, at_more, at_source, at_steps, step_symbols, node_move, at_on, at_united, at_prim, at_ands, at_ors, at_op, at_term, at_stmts, at_lineage, at_extra, at_line, at_line_column, at_mark, at_marks, at_then, at_cleared, at_any_line, ask_symbols, at_ask_steps, at_end, AToken, AName, AColumn, ALiteral, AWidth, AType, ADefault, AnAs, AWhat, AKeys, AnAggs, AFirst, AnItem, ALinked, MoreDecls, MoreItems, MoreKeys, MoreAggs, MorePairs, MoreLinked, ASource, ASteps, AStep, AUnited, APrim, AnAnds, AnOrs, AnOn, AnOp, ATerm, AStmts, ALineage, AnExtra, ALine, ALineName, ALineColumn, AMarks, AMark, MoreMarks, AThen, ACleared, AnEnd, AnyLine, AnAskStep, AskSteps}
+use Rattle.smk_model.specs.Machine.{PlanCounts, Tally, Symbol, Move, Takes, Skips, Wrong, Past, Outside, settle, or_next, within, move_of, no_counts, is_mark, is_short, at_name, at_column, at_first, at_item, at_literal, at_width, at_type, at_default, at_as, at_what, at_keys, at_aggs, at_linked, at_more, at_source, at_steps, step_symbols, node_move, at_on, at_united, at_prim, at_ands, at_ors, at_op, at_term, at_stmts, at_lineage, at_extra, at_line, at_line_column, at_mark, at_marks, at_then, at_cleared, at_any_line, ask_symbols, at_ask_steps, at_end, AToken, AName, AColumn, ALiteral, AWidth, AType, ADefault, AnAs, AWhat, AKeys, AnAggs, AFirst, AnItem, ALinked, MoreDecls, MoreKeys, MoreLinked, ASource, ASteps, AStep, AUnited, APrim, AnAnds, AnOrs, AnOn, AnOp, ATerm, AStmts, ALineage, AnExtra, ALine, ALineName, ALineColumn, AMarks, AMark, MoreMarks, AThen, ACleared, AnEnd, AnyLine, AnAskStep, AskSteps}
 
 abbrev pub no_end : Symbol → Bool
 no_end (AToken kinds.End) = false
@@ -218,12 +218,6 @@ leaves AnAggs c t = a_aggs c t.kind
 leaves (AFirst n) c t = first c n [] (is_short t) t.kind refl
 leaves (AnItem n) c t = an_item c n (is_short t) t.kind
 leaves (ALinked n) c t = a_linked c n (is_short t) t.kind
-leaves (MoreDecls n) c t = more c _ t.kind refl
-leaves (MoreItems n) c t = more c _ t.kind refl
-leaves (MoreKeys n) c t = more c _ t.kind refl
-leaves (MoreAggs n) c t = more c _ t.kind refl
-leaves (MorePairs n) c t = more c _ t.kind refl
-leaves (MoreLinked n) c t = more c _ t.kind refl
 leaves (ASource d) c t = a_source c d t.kind
 leaves (ASteps d) c t = some_steps c d t.kind
 leaves (AStep d) c t = a_step c (step_symbols d t.kind) (step_ends d t.kind)
@@ -242,13 +236,13 @@ leaves ALineName c t = either (same_kind kinds.Name t.kind) (Takes c []) Wrong r
 leaves ALineColumn c t = a_line_column c t.kind
 leaves AMarks c t = some_marks c (int_value t.text) t.kind
 leaves AMark c t = a_mark c [] (int_value t.text) t.kind refl
-leaves MoreMarks c t = more c _ t.kind refl
 leaves AThen c t = a_then c t.kind
 leaves ACleared c t = a_cleared c t.kind
 leaves AnEnd c t = an_end t.kind
 leaves AnyLine c t = any_line c t.kind
 leaves AnAskStep c t = a_step c (ask_symbols t.kind) (asked_ends t.kind)
 leaves AskSteps c t = more_asked c t.kind
+leaves _ c t = more c _ t.kind refl
 
 pub and_left : (a b : Bool) → (a && b) ≡ true → a ≡ true
 and_left true b e = refl

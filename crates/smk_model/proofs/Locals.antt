@@ -7,7 +7,7 @@ use Rattle.std.proofs.lemmas.List.Folds.{list_any_at}
 use Rattle.std.proofs.lemmas.List.Quantifiers.{all_pairs_push}
 use Rattle.std.proofs.lemmas.Bool.{cases_Bool, cases_eq, cases_order, lt-ltb, le-ltb, or_right, false≢true, false_from_ne_true}
 use Rattle.smk_base.specs.Places.{IsPlaces}
-use Rattle.smk_base.specs.Plans.{Formula, Binary, Equijoin, ThetaJoin, CrossProduct, BagUnion, SetUnion}
+use Rattle.smk_base.specs.Plans.{Formula, Binary, Equijoin, ThetaJoin, CrossProduct, BagUnion}
 use Rattle.smk_model.specs.Values.{Row, meets}
 use Rattle.smk_model.specs.Plain.{row_eq, image, key_of, add_first, firsts, grouped, agree, meets_together, always, nested, is_join, joins, step1, step2}
 use Rattle.smk_model.specs.Lineage.{upto, places, row_at, matching, match_at, from1, from_left, from_right}
@@ -38,8 +38,7 @@ every_join : (P : Binary → (Row → Row → Bool) → Type 0) → ((pairs : Li
 every_join P equal theta product (Equijoin pairs) e = equal pairs
 every_join P equal theta product (ThetaJoin formula) e = theta formula
 every_join P equal theta product CrossProduct e = product
-every_join P equal theta product BagUnion e = absurd (false≢true e)
-every_join P equal theta product SetUnion e = absurd (false≢true e)
+every_join P equal theta product _ e = absurd (false≢true e)
 
 nested_lists : (test : Row → Row → Bool) (L R : List Row) (g : ℕ × ℕ → List ℕ) → map (λ o. g (match_at test L R o)) (upto (length (nested test L R))) ≡ map g (matching test L R)
 nested_lists test L R g = ap (λ n. map (λ o. g (match_at test L R o)) (upto n)) (sym (length_matching test L R)) ∙ each_at g (matching test L R) (0, 0)

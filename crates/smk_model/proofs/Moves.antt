@@ -17,7 +17,7 @@ use Rattle.smk_base.specs.declared.book.tree.Term.{Term}
 use Rattle.smk_base.specs.declared.book.tree.Marks.{Marks}
 use Rattle.smk_base.specs.declared.book.tree.Then.{Then}
 use Rattle.smk_base.specs.declared.book.tree.Line.{Line}
-use Rattle.smk_base.specs.Trees.{PredImage, AndNode, OrNode, TreeImage, StepNode, StepImage, SelectNode, ProjectNode, DistinctNode, GroupNode, JoinNode, ThetaNode, ProductNode, UnionAllNode, UnionNode, StmtImage, AskStepImage, AnyLineImage}
+use Rattle.smk_base.specs.Trees.{PredImage, AndNode, OrNode, TreeImage, StepNode, StepImage, SelectNode, ProjectNode, DistinctNode, GroupNode, StmtImage, AskStepImage, AnyLineImage}
 use Rattle.smk_base.specs.declared.book.limits.TheConstants.{TABLE_LIMIT, VIEW_LIMIT, LINEAGE_LIMIT, LINK_LIMIT, NODE_LIMIT, COMPARE_LIMIT, DEPTH_LIMIT}
 use Rattle.smk_base.specs.declared.rel.TheConstants.{COLUMN_LIMIT}
 use Rattle.smk_model.specs.Tokens.{Token, head_of, int_value}
@@ -32,7 +32,6 @@ use Rattle.smk_model.specs.Machine.{PlanCounts, Tally, Symbol, Move, Takes, Skip
 abbrev pub IsSymbol : Symbol → List Token → List Token → Type 0
 IsSymbol (AToken k) a b = (t : Token) × First k t a b
 IsSymbol AName a b = (w : Word) × IsName a b w
-IsSymbol AColumn a b = (w : Word) × IsColumn a b w
 IsSymbol ALiteral a b = (l : Lit) × IsLiteral a b l
 IsSymbol AWidth a b = (k : ℤ) × IsWidth a b k
 IsSymbol AType a b = (x : Bool) × IsType a b x
@@ -41,7 +40,6 @@ IsSymbol AnAs a b = (w : Word) → (n : Word) × IsNamed w a b n
 IsSymbol AWhat a b = (x : AggWhat) × IsWhat a b x
 IsSymbol AKeys a b = (ws : List Word) × AreKeys a b ws
 IsSymbol AnAggs a b = (xs : List AggTree) × AreAggs a b xs
-IsSymbol (AFirst k) a b = (w : Word) × IsColumn a b w
 IsSymbol (AnItem k) a b = (x : ItemTree) × IsItem a b x
 IsSymbol (ALinked k) a b = (w : Word) × IsName a b w
 IsSymbol (MoreDecls k) a b = (xs : List Decl) × AreMore IsDecl a b xs
@@ -65,7 +63,6 @@ IsSymbol ALineage a b = (z : List Token) → (t : Token) → First kinds.Lineage
 IsSymbol AnExtra a b = (x : Extra) × IsExtra a b x
 IsSymbol ALine a b = (l : Line) × IsLine a b l
 IsSymbol ALineName a b = (w : Word) × IsName a b w
-IsSymbol ALineColumn a b = (w : Word) × IsColumn a b w
 IsSymbol AMarks a b = (m : Marks) × AreMarks a b m
 IsSymbol AMark a b = (m : ℕ) × IsMark a b m
 IsSymbol MoreMarks a b = (ms : List ℕ) × AreMore IsMark a b ms
@@ -75,6 +72,7 @@ IsSymbol AnEnd a b = (t : Token) × (c : List Token) × First kinds.End t a c
 IsSymbol AnyLine a b = (l : AnyLineImage) × IsAnyLine a b l
 IsSymbol AnAskStep a b = (s : AskStepImage) × IsAskStep a b s
 IsSymbol AskSteps a b = (ss : List AskStepImage) × AreAskSteps a b ss
+IsSymbol _ a b = (w : Word) × IsColumn a b w
 
 -- one after the other
 abbrev pub AreSymbols : List Symbol → List Token → List Token → Type 0
@@ -100,9 +98,7 @@ alone x z a b e h = subst (IsSymbol x z) e h
 abbrev Moves : Move → Symbol → Token → Type 0
 Moves (Takes d l) x t = (a b : List Token) → AreSymbols l a b → IsSymbol x (t ∷ a) b
 Moves Skips x t = (t.kind ≡ kinds.End → ⊥) → (a : List Token) → IsSymbol x a a
-Moves Wrong x t = Unit {0}
-Moves (Past w) x t = Unit {0}
-Moves Outside x t = Unit {0}
+Moves _ x t = Unit {0}
 
 lim : (fits : Bool) (what : Many) (m : Move) (x : Symbol) (t : Token) → Moves m x t → Moves (within fits what m) x t
 lim true what m x t h = h
@@ -317,11 +313,7 @@ asked_symbols (SelectNode p) h = refl
 asked_symbols (ProjectNode xs) h = refl
 asked_symbols (DistinctNode xs) h = refl
 asked_symbols (GroupNode ws xs) h = refl
-asked_symbols (JoinNode x ps) h = absurd h
-asked_symbols (ThetaNode x p) h = absurd h
-asked_symbols (ProductNode x) h = absurd h
-asked_symbols (UnionAllNode x) h = absurd h
-asked_symbols (UnionNode x) h = absurd h
+asked_symbols _ h = absurd h
 
 asked_step : (k : TokenKind) (l : List Symbol) → ask_symbols k ≡ Some l → step_symbols 0 k ≡ Some l
 asked_step kinds.Where l e = e
@@ -354,9 +346,7 @@ ask_steps_moves c t _ e = λ n a. ([], no_ask_step)
 plain_moves : (m : Move) (t : Token) → Moves m ALine t → Moves m AnyLine t
 plain_moves (Takes d l) t h = λ a b s. let r = h a b s in (_, plain_line r.1)
 plain_moves Skips t h = λ n a. let r = h n a in (_, plain_line r.1)
-plain_moves Wrong t h = tt
-plain_moves (Past w) t h = tt
-plain_moves Outside t h = tt
+plain_moves _ t h = tt
 
 any_line_moves : (c : PlanCounts) (t : Token) (k : TokenKind) → t.kind ≡ k → Moves (at_any_line c k) AnyLine t
 any_line_moves c t kinds.Ask e = λ a b h. (_, asked_line (ask_line (here t a kinds.Ask e) h.1.1 h.2.1.1 h.2.2.1.1 h.2.2.2.1.1 h.2.2.2.2.1.1 h.2.2.2.2.2.1.1 h.2.2.2.2.2.2.1.1 (ends AskSteps h.2.2.2.2.2.2.0 b h.2.2.2.2.2.2.2).1))
@@ -435,9 +425,7 @@ moves AskSteps c t = ask_steps_moves c t t.kind refl
 abbrev pub MovesAll : Move → List Symbol → Token → Type 0
 MovesAll (Takes d l) ss t = (a b : List Token) → AreSymbols l a b → AreSymbols ss (t ∷ a) b
 MovesAll Skips ss t = (a : List Token) → AreSymbols ss a a
-MovesAll Wrong ss t = Unit {0}
-MovesAll (Past w) ss t = Unit {0}
-MovesAll Outside ss t = Unit {0}
+MovesAll _ ss t = Unit {0}
 
 pub settled : (ss : List Symbol) (c : PlanCounts) (t : Token) → (t.kind ≡ kinds.End → ⊥) → MovesAll (settle ss c t) ss t
 settled [] c t no_end = λ a. refl

@@ -2,7 +2,7 @@
 use Rattle.std.proofs.Common.{◌≡◌, ℕ, ◌+◌, ℤ, pos, ◌+ℤ◌, Bool, true, false, cond, List, [], ◌∷◌, ◌++◌, length, map, refl, ap, sym, ◌∙◌, subst, arith, inl, inr}
 use Rattle.std.specs.List.{filter, flat_map, fold}
 use Rattle.std.specs.declared.cmp.Ordering.{Ordering}
-use Rattle.std.specs.declared.cmp.Ordering.TheVariants.{Less, Equal, Greater}
+use Rattle.std.specs.declared.cmp.Ordering.TheVariants.{Less}
 use Rattle.std.specs.Ordering.{is_lt, is_gt, ordering_reverse}
 use Rattle.std.proofs.lemmas.Int.{ints}
 use Rattle.std.proofs.lemmas.Cmp.{upto as above_upto}
@@ -33,13 +33,11 @@ use Rattle.smk_model.proofs.Keyed.{none_pass, once_first, never_first}
 
 reversed : (o : Ordering) → is_lt (ordering_reverse o) ≡ is_gt o
 reversed Less = refl
-reversed Equal = refl
-reversed Greater = refl
+reversed _ = refl
 
 less_is : (o : Ordering) → is_lt o ≡ true → o ≡ Less
 less_is Less h = refl
-less_is Equal h = absurd (false≢true h)
-less_is Greater h = absurd (false≢true h)
+less_is _ h = absurd (false≢true h)
 
 -- less one way is greater the other way
 lt_gt : (x y : Value) → is_lt (value_cmp x y) ≡ is_gt (value_cmp y x)

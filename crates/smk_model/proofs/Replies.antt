@@ -1,7 +1,7 @@
 -- What brushes and refusals leave as it is.
 use Rattle.std.specs.Prelude.{Some, option_map, Ok, Err}
 use Rattle.std.proofs.Common.{◌≡◌, ℕ, Bool, true, false, cond, List, [], ◌∷◌, length, map, refl, ap, sym, ◌∙◌, subst, nat_eq}
-use Rattle.std.specs.List.{filter, find}
+use Rattle.std.specs.List.{find}
 use Rattle.std.proofs.lemmas.Bool.{eqb-true, false≢true}
 use Rattle.smk_base.specs.declared.list.table_rids.Pick.{Pick}
 use Rattle.smk_base.specs.declared.reply.Reply.{Reply}
@@ -83,8 +83,7 @@ staying_told state (Err refusal) = refl
 same_back : (catalog : CatalogImage) (state : State) (brushes : List BrushOn) (view : List ℕ) (marks : Marks) (table : List ℕ) (then : Then)
     → named_back catalog (under state brushes) view marks table then ≡ named_back catalog state view marks table then
 same_back catalog state brushes view marks table thens.Plain = refl
-same_back catalog state brushes view marks table (thens.Matching column value) = refl
-same_back catalog state brushes view marks table thens.Grouped = refl
+same_back catalog state brushes view marks table _ = refl
 
 pub marks_stay : MarksStay
 marks_stay = record {

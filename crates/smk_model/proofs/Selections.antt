@@ -4,7 +4,7 @@ use Rattle.std.specs.List.{list_any, filter, All}
 use Rattle.std.proofs.lemmas.List.{get_or-map, length-map}
 use Rattle.std.proofs.lemmas.List.Elements.{All-get_or}
 use Rattle.std.proofs.lemmas.Bool.{cases_Bool, false≢true, eq-eqb}
-use Rattle.smk_base.specs.Plans.{Formula, Selection, Projection, Distinction, Grouping, Expr, Leaf, Apply, Combine}
+use Rattle.smk_base.specs.Plans.{Formula, Selection, Expr, Leaf, Apply}
 use Rattle.smk_model.specs.Values.{Row, meets}
 use Rattle.smk_model.specs.Plain.{leaves, eval}
 use Rattle.smk_model.specs.Lineage.{upto, places, row_at, sub}
@@ -31,19 +31,13 @@ filter-true (x ∷ xs) = ap (λ t. x ∷ t) (filter-true xs)
 rows_are : (plan : Expr) (L : List Row) → is_selection plan ≡ true → eval plan (L ∷ []) ≡ filter (selects plan) L
 rows_are (Leaf table) L h = sym (filter-true L)
 rows_are (Apply (Selection formula) input) L h = ap (filter (meets formula)) (rows_are input L h) ∙ filter_filter (meets formula) (selects input) L
-rows_are (Apply (Projection items) input) L h = absurd (false≢true h)
-rows_are (Apply (Distinction items) input) L h = absurd (false≢true h)
-rows_are (Apply (Grouping keys aggs) input) L h = absurd (false≢true h)
-rows_are (Combine op left right) L h = absurd (false≢true h)
+rows_are _ L h = absurd (false≢true h)
 
 -- the marked rows are those of the scan that the chain selects
 marks_are : (plan : Expr) (L : List Row) → is_selection plan ≡ true → ann plan (L ∷ []) ≡ filter (λ m. selects plan m.0) (scanned 0 L)
 marks_are (Leaf table) L h = sym (filter-true (scanned 0 L))
 marks_are (Apply (Selection formula) input) L h = ap (filter (λ m. meets formula m.0)) (marks_are input L h) ∙ filter_filter (λ m. meets formula m.0) (λ m. selects input m.0) (scanned 0 L)
-marks_are (Apply (Projection items) input) L h = absurd (false≢true h)
-marks_are (Apply (Distinction items) input) L h = absurd (false≢true h)
-marks_are (Apply (Grouping keys aggs) input) L h = absurd (false≢true h)
-marks_are (Combine op left right) L h = absurd (false≢true h)
+marks_are _ L h = absurd (false≢true h)
 
 abbrev marked : List Row → ℕ → Marked
 marked L i = (row_at L i, λ leaf rid. nat_eq 0 leaf && nat_eq i rid)
@@ -56,10 +50,7 @@ marks_chosen plan L h = marks_are plan L h ∙ filter_map (λ m. selects plan m.
 pub one_leaf : (plan : Expr) → is_selection plan ≡ true → leaves plan ≡ selected_table plan ∷ []
 one_leaf (Leaf table) h = refl
 one_leaf (Apply (Selection formula) input) h = one_leaf input h
-one_leaf (Apply (Projection items) input) h = absurd (false≢true h)
-one_leaf (Apply (Distinction items) input) h = absurd (false≢true h)
-one_leaf (Apply (Grouping keys aggs) input) h = absurd (false≢true h)
-one_leaf (Combine op left right) h = absurd (false≢true h)
+one_leaf _ h = absurd (false≢true h)
 
 pub number_chosen : (plan : Expr) (L : List Row) → length (chosen plan L) ≡ length (filter (selects plan) L)
 number_chosen plan L = sym (length-map (chosen plan L) (row_at L)) ∙ ap length (at_places (selects plan) L [])

@@ -1,7 +1,7 @@
 -- What typing makes of a dependency: a view that shows it.
 use Rattle.std.specs.Prelude.{All, IfSome, nat_eq, nat_lt, ok_or, Option}
 use Rattle.std.specs.List.{list_any}
-use Rattle.std.proofs.Common.{◌≡◌, ◌<◌, ℕ, ◌+◌, Bool, true, false, List, [], ◌∷◌, ◌++◌, length, map, Some, None, Ok, Err, position, refl, ap, sym, ◌∙◌, subst, arith, get_or, append_assoc, append-nil}
+use Rattle.std.proofs.Common.{◌≡◌, ◌<◌, ℕ, ◌+◌, true, false, List, [], ◌∷◌, ◌++◌, length, map, Some, None, Ok, position, refl, ap, sym, ◌∙◌, subst, arith, get_or, append_assoc, append-nil}
 use Rattle.std.proofs.lemmas.Bool.{eq-eqb, or_left, or_right}
 use Rattle.std.proofs.lemmas.List.{length-append, length-map, get_or_append_left, get_or-map, map_push}
 use Rattle.std.proofs.lemmas.List.Folds.{list_any-append}
@@ -337,12 +337,8 @@ depends_shows old new at name table keys col e =
 
 -- and so do those of a whole book, in the end
 stmt_shows : (old new last : CatalogImage) (stmt : StmtImage) → stmt_after old stmt ≡ Ok new → Grows new last → All (Shows last) (dependency_name stmt)
-stmt_shows old new last (TableNode name file decls) e g = All-nil (Shows last)
-stmt_shows old new last (ViewNode name tree) e g = All-nil (Shows last)
-stmt_shows old new last (BackNode at view table extra) e g = All-nil (Shows last)
-stmt_shows old new last (FwdNode at table view) e g = All-nil (Shows last)
-stmt_shows old new last (LinkNode view table words) e g = All-nil (Shows last)
 stmt_shows old new last (DependsNode at name table keys col) e g = All-cons (Shows last) name.name [] (shows_on new last name.name g (depends_shows old new at name table keys col e)) (All-nil (Shows last))
+stmt_shows old new last _ e g = All-nil (Shows last)
 
 book_shows : (catalog last : CatalogImage) (book : List StmtImage) → in_turn stmt_after catalog book ≡ Ok last → Grows catalog last × All (Shows last) (dependency_names book)
 book_shows catalog last [] e = (grows_to catalog catalog last (grows_self catalog) e, All-nil (Shows last))

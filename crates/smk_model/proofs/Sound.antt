@@ -21,9 +21,7 @@ not_failed f s e = absurd (cc)
 abbrev AtEnd : Move → Type 0 → Type 0
 AtEnd (Takes d l) P = ⊥
 AtEnd Skips P = P
-AtEnd Wrong P = Unit {0}
-AtEnd (Past w) P = Unit {0}
-AtEnd Outside P = Unit {0}
+AtEnd _ P = Unit {0}
 
 abbrev the_end : Token → Token
 the_end t = record { at = t.at; kind = kinds.End; text = t.text }

@@ -21,7 +21,7 @@ use Rattle.smk_base.specs.declared.book.tree.Marks.{Marks}
 use Rattle.smk_base.specs.declared.book.tree.Then.{Then}
 use Rattle.smk_base.specs.declared.book.tree.Line.{Line}
 use Rattle.smk_base.specs.declared.book.tree.Line.TheVariants as lines
-use Rattle.smk_base.specs.Trees.{PredImage, TreeImage, StepImage, SelectNode, ProjectNode, DistinctNode, GroupNode, JoinNode, ThetaNode, ProductNode, UnionAllNode, UnionNode, StmtImage, TableNode, AskStepImage, AskImage, AnyLineImage, ProfiledLine, AppendedLine}
+use Rattle.smk_base.specs.Trees.{PredImage, TreeImage, StepImage, SelectNode, ProjectNode, DistinctNode, GroupNode, StmtImage, TableNode, AskStepImage, AskImage, AnyLineImage, ProfiledLine, AppendedLine}
 use Rattle.smk_base.specs.declared.book.limits.TheConstants.{TABLE_LIMIT, VIEW_LIMIT, LINEAGE_LIMIT, LINK_LIMIT}
 use Rattle.smk_base.specs.declared.rel.TheConstants.{COLUMN_LIMIT}
 use Rattle.smk_model.specs.Tokens.{Token, head_of, int_value}
@@ -388,11 +388,7 @@ line a l (whole_line p h) = faultless (line_text p (omega (arith, ranked h))) h
 -- a line without steps begins as a line of any kind does
 plain_at : (c : PlanCounts) (l : Line) → at_any_line c (opener l) ≡ at_line c (opener l)
 plain_at c (lines.Show view) = refl
-plain_at c (lines.Back view marks table then) = refl
-plain_at c (lines.Fwd table rows view) = refl
-plain_at c (lines.Brush view marks table) = refl
-plain_at c lines.Clear = refl
-plain_at c (lines.ClearOne view table) = refl
+plain_at c _ = refl
 
 plain : (a : List Token) (l : Line) → IsWholeLine a l → any_fault a ≡ None
 plain a l (whole_line p h) = faultless (begins_alike (λ c. ap (at_any_line c) (opening p) ∙ plain_at c l ∙ sym (ap (at_line c) (opening p))) (line_text p (omega (arith, ranked h)))) h
@@ -406,11 +402,7 @@ one_step_of (SelectNode p) h = refl
 one_step_of (ProjectNode xs) h = refl
 one_step_of (DistinctNode xs) h = refl
 one_step_of (GroupNode ws xs) h = refl
-one_step_of (JoinNode x ps) h = absurd h
-one_step_of (ThetaNode x p) h = absurd h
-one_step_of (ProductNode x) h = absurd h
-one_step_of (UnionAllNode x) h = absurd h
-one_step_of (UnionNode x) h = absurd h
+one_step_of _ h = absurd h
 
 -- a step of an ask line keeps its limits
 abbrev pub Keeps : AskStepImage → Type 0
@@ -421,11 +413,7 @@ kept_step (SelectNode p) h k = tt
 kept_step (ProjectNode xs) h k = k
 kept_step (DistinctNode xs) h k = k
 kept_step (GroupNode ws xs) h k = tt
-kept_step (JoinNode x ps) h k = absurd h
-kept_step (ThetaNode x p) h k = absurd h
-kept_step (ProductNode x) h k = absurd h
-kept_step (UnionAllNode x) h k = absurd h
-kept_step (UnionNode x) h k = absurd h
+kept_step _ h k = absurd h
 
 ask_step_text : {a b : List Token} {s : AskStepImage} → IsAskStep a b s → 6 ≤ rank_of b → Counting 0 1 (Keeps s) (AnAskStep ∷ []) a b
 ask_step_text {a} {b} (ask_step {n = m} {s = s} p i) n = told (λ r k. kept_step s i k) (subst (λ x. Counting 0 x (KeepsStep s) (AnAskStep ∷ []) a b) (one_step_of s i) (begins_alike (λ c. ap (node_move c) asked) (step_text p n 0)))

@@ -81,9 +81,7 @@ one_chain : (plan : Expr) (tables : List (List Row)) → is_chain plan ≡ true 
 one_chain (Leaf table) tables c = one_scan table tables
 one_chain (Apply (Selection formula) input) tables c = one_selection formula input tables (one_chain input tables c)
 one_chain (Apply (Projection items) input) tables c = one_projection items input tables (one_chain input tables c)
-one_chain (Apply (Distinction items) input) tables c = absurd (false≢true c)
-one_chain (Apply (Grouping keys aggs) input) tables c = absurd (false≢true c)
-one_chain (Combine op left right) tables c = absurd (false≢true c)
+one_chain _ tables c = absurd (false≢true c)
 
 one_group : (keys : List ℕ) (aggs : List Agg) (input : Expr) (tables : List (List Row)) → is_chain input ≡ true → IsOne (Apply (Grouping keys aggs) input) tables (selected_table input)
 one_group keys aggs input tables c o p r l m a b =
@@ -99,26 +97,16 @@ one_group keys aggs input tables c o p r l m a b =
     (row_is _ _ (has_passes (t o) (upto (length X)) s.0 s.1) ∙ ap (λ i. key_of keys (row_at X i)) same ∙ sym (row_is _ _ (has_passes (t p) (upto (length X)) u.0 u.1)))
 
 one_growing : (plan : Expr) (tables : List (List Row)) → is_growing plan ≡ true → IsOne plan tables (selected_table plan)
-one_growing (Leaf table) tables c = one_scan table tables
-one_growing (Apply (Selection formula) input) tables c = one_chain (Apply (Selection formula) input) tables c
-one_growing (Apply (Projection items) input) tables c = one_chain (Apply (Projection items) input) tables c
-one_growing (Apply (Distinction items) input) tables c = absurd (false≢true c)
 one_growing (Apply (Grouping keys aggs) input) tables c = one_group keys aggs input tables c
-one_growing (Combine op left right) tables c = absurd (false≢true c)
+one_growing plan tables c = one_chain plan tables c
 
 chain_grows_too : (plan : Expr) → is_chain plan ≡ true → is_growing plan ≡ true
-chain_grows_too (Leaf table) c = refl
-chain_grows_too (Apply (Selection formula) input) c = c
-chain_grows_too (Apply (Projection items) input) c = c
-chain_grows_too (Apply (Distinction items) input) c = c
 chain_grows_too (Apply (Grouping keys aggs) input) c = absurd (false≢true c)
-chain_grows_too (Combine op left right) c = c
+chain_grows_too _ c = c
 
 pub below : (op : Unary) (input : Expr) → is_growing (Apply op input) ≡ true → is_growing input ≡ true
-below (Selection formula) input c = chain_grows_too input c
-below (Projection items) input c = chain_grows_too input c
 below (Distinction items) input c = absurd (false≢true c)
-below (Grouping keys aggs) input c = chain_grows_too input c
+below _ input c = chain_grows_too input c
 
 pub few_rows : (plan : Expr) (tables : List (List Row)) → is_growing plan ≡ true → length (rows_in plan tables) ≤ length (table_at tables (selected_table plan))
 few_rows (Leaf table) tables c = omega arith

@@ -20,7 +20,7 @@ use Rattle.smk_base.specs.declared.book.tree.Marks.TheVariants as markings
 use Rattle.smk_base.specs.declared.book.tree.Then.{Then}
 use Rattle.smk_base.specs.declared.book.tree.Line.{Line}
 use Rattle.smk_base.specs.declared.book.tree.Line.TheVariants as lines
-use Rattle.smk_base.specs.Trees.{PredImage, NotNode, TreeImage, ScanNode, StepImage, SelectNode, ProjectNode, DistinctNode, GroupNode, JoinNode, ThetaNode, ProductNode, UnionAllNode, UnionNode, StmtImage, TableNode, ViewNode, BackNode, FwdNode, LinkNode, DependsNode, AskStepImage, AskImage, AnyLineImage, PlainLine, AskedLine, ProfiledLine, AppendedLine}
+use Rattle.smk_base.specs.Trees.{PredImage, NotNode, TreeImage, ScanNode, StepImage, SelectNode, ProjectNode, DistinctNode, GroupNode, JoinNode, ThetaNode, ProductNode, UnionAllNode, UnionNode, StmtImage, TableNode, ViewNode, LinkNode, DependsNode, AskStepImage, AskImage, AnyLineImage, PlainLine, AskedLine, ProfiledLine, AppendedLine}
 use Rattle.smk_model.specs.Tokens.{Token, head_of, tail_of, int_value, string_value}
 use Rattle.smk_model.specs.Grammar.{First, plain_word, quoted_word, IsName, name, IsColumn, plain, quoted, IsLiteral, number, string, IsFile, file, AreMore, no_more, one_more, AreListed, listed, IsType, int_type, text_type, IsDefault, no_default, default, IsDecl, decl, IsNamed, by_itself, by_as, IsWidth, width, IsItem, column_item, bin_item, IsWhat, count, sum, min, max, IsAgg, agg, AreKeys, no_keys, keys, AreAggs, no_aggs, aggs, IsPair, pair, IsOp, eq, ne, lt, le, gt, ge, IsTerm, column_term, literal_term, IsPrim, negated, bracketed, compared, IsConj, conj, AreAnds, no_and, one_and, IsPred, pred, AreOrs, no_or, one_or, IsPlan, plan, IsSource, scan, inner_plan, AreSteps, no_step, one_step, IsStep, where_step, project_step, distinct_step, group_step, join_step, theta_step, product_step, union_all_step, union_step, IsExtra, no_extra, by_extra, group_extra, IsStmt, table_stmt, view_stmt, back_stmt, fwd_stmt, link_stmt, depends_stmt, AreStmts, no_stmt, one_stmt, IsMark, mark, AreMarks, all_marks, listed_marks, IsThen, no_then, where_then, group_then, IsLine, show_line, back_line, fwd_line, brush_line, clear_line, clear_one_line, IsWholeLine, whole_line, IsAskStep, ask_step, AreAskSteps, no_ask_step, one_ask_step, IsAskLine, ask_line, IsAnyLine, plain_line, asked_line, profiled_line, appended_line, IsWholeAnyLine, whole_any_line}
 
@@ -289,8 +289,7 @@ step_opener (GroupNode ws xs) = kinds.Group
 step_opener (JoinNode source pairs) = kinds.Join
 step_opener (ThetaNode source test) = kinds.Theta
 step_opener (ProductNode source) = kinds.Product
-step_opener (UnionAllNode source) = kinds.Union
-step_opener (UnionNode source) = kinds.Union
+step_opener _ = kinds.Union
 
 pub step_opening : {a b : List Token} {o : ℕ} {x : StepImage} → IsStep a b o x → (head_of a).kind ≡ step_opener x
 step_opening (where_step h p) = first_kind h
@@ -354,10 +353,9 @@ one_extra e (group_extra h0 h1 h2) (group_extra k0 k1 k2) n m = let r = same_at 
 abbrev stmt_opener : StmtImage → TokenKind
 stmt_opener (TableNode w source columns) = kinds.Table
 stmt_opener (ViewNode w tree) = kinds.View
-stmt_opener (BackNode at view table extra) = kinds.Lineage
-stmt_opener (FwdNode at table view) = kinds.Lineage
 stmt_opener (LinkNode view table views) = kinds.Link
 stmt_opener (DependsNode at view table columns column) = kinds.Fd
+stmt_opener _ = kinds.Lineage
 
 stmt_opening : {a b : List Token} {x : StmtImage} → IsStmt a b x → (head_of a).kind ≡ stmt_opener x
 stmt_opening (table_stmt h h1 h2 h3 h4 h5 h6) = first_kind h
@@ -430,8 +428,7 @@ opener (lines.Show view) = kinds.Show
 opener (lines.Back view marks table then) = kinds.Back
 opener (lines.Fwd table rows view) = kinds.Fwd
 opener (lines.Brush view marks table) = kinds.Brush
-opener lines.Clear = kinds.Clear
-opener (lines.ClearOne view table) = kinds.Clear
+opener _ = kinds.Clear
 
 pub opening : {a b : List Token} {x : Line} → IsLine a b x → (head_of a).kind ≡ opener x
 opening (show_line h w) = first_kind h
@@ -503,11 +500,7 @@ opens_plain _ = true
 
 plain_opens : (l : Line) → opens_plain (opener l) ≡ true
 plain_opens (lines.Show view) = refl
-plain_opens (lines.Back view marks table then) = refl
-plain_opens (lines.Fwd table rows view) = refl
-plain_opens (lines.Brush view marks table) = refl
-plain_opens lines.Clear = refl
-plain_opens (lines.ClearOne view table) = refl
+plain_opens _ = refl
 
 not_plain : {a a' b : List Token} {l : Line} → a ≡ a' → IsLine a b l → opens_plain (head_of a').kind ≡ false → ⊥
 not_plain {l = l} e p f = let r = sym (plain_opens l) ∙ ap opens_plain (sym (opening p) ∙ ap (λ l. (head_of l).kind) e) ∙ f in absurd (cc)

@@ -31,10 +31,9 @@ append_text book table (Refused refusal) = append_refusal_text book.catalog tabl
 
 -- the views and the table that an answer has by number are there
 abbrev pub IsRefusalIn : CatalogImage → AppendRefusal → Type 0
-IsRefusalIn catalog UnknownTable = Unit {0}
-IsRefusalIn catalog TableRows = Unit {0}
 IsRefusalIn catalog (ViewRows view node) = view < length catalog.views
 IsRefusalIn catalog (ViewPairs view node to) = (view < length catalog.views) × (to < length catalog.tables)
+IsRefusalIn catalog _ = Unit {0}
 
 abbrev pub IsAppendReply : CatalogImage → AppendReply → Type 0
 IsAppendReply catalog (Added rows views) = All (λ v. v < length catalog.views) views

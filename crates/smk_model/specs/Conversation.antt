@@ -3,12 +3,12 @@ use Rattle.std.specs.Prelude.{◌≡◌, ◌⊎◌, ◌≤◌, ◌<◌, ◌+◌,
 use Rattle.std.specs.List.{filter, flat_map, scan}
 use Rattle.smk_base.specs.CatalogImage.{CatalogImage}
 use Rattle.smk_base.specs.Marks.{after_marks}
-use Rattle.smk_base.specs.Trees.{AnyLineImage, PlainLine, AskedLine, ProfiledLine, AppendedLine}
+use Rattle.smk_base.specs.Trees.{AnyLineImage, AppendedLine}
 use Rattle.smk_base.specs.declared.book.catalog.TableInfo.{TableInfo}
 use Rattle.smk_base.specs.declared.fault.Fault.{Fault}
 use Rattle.smk_model.specs.FaultTexts.{fault_text}
 use Rattle.smk_model.specs.Outcome.{Held, appended_at, file_limit, load}
-use Rattle.smk_model.specs.Readings.{Reading, Nothing, Asks, Unread, IsReading}
+use Rattle.smk_model.specs.Readings.{Reading, Asks, IsReading}
 use Rattle.smk_model.specs.Reports.{BookSaid, Report, Told, nothing_told, followed_by, brings_rows, line_told, state_after, report_told}
 use Rattle.smk_model.specs.Session.{Workbook, State, first_state}
 use Rattle.smk_model.specs.Texts.{line}
@@ -78,10 +78,7 @@ turn_told said state (TooLong bytes) = refused_told too_long_text 0
 -- the state of the session after a turn: only a line that is answered changes it
 abbrev pub session_after : BookSaid → State → TalkTurn → State
 session_after said state (Replied heard) = state_after said state heard.rows heard.reading
-session_after said state (Unbrought bytes fault) = state
-session_after said state (ReadOnly bytes) = state
-session_after said state (Forgone heard) = state
-session_after said state (TooLong bytes) = state
+session_after said state _ = state
 
 abbrev pub turn_after : BookSaid → TalkState → TalkTurn → TalkState
 turn_after said state turn = record { session = session_after said state.session turn; heard = state.heard + 1 }
@@ -126,15 +123,12 @@ text_read heard bytes = cond (nat_eq heard 0) (after_marks bytes) bytes
 
 -- whether a line asks for rows to be appended, to a table of the book or to none
 abbrev pub is_append : AnyLineImage → Bool
-is_append (PlainLine asked) = false
-is_append (AskedLine asked) = false
-is_append (ProfiledLine view) = false
 is_append (AppendedLine table file) = true
+is_append _ = false
 
 abbrev pub asks_append : Reading → Bool
-asks_append Nothing = false
 asks_append (Asks asked) = is_append asked
-asks_append (Unread at) = false
+asks_append _ = false
 
 -- the most bytes that a line may have
 abbrev pub line_limit : ℕ

@@ -43,24 +43,16 @@ expanded book = flat_map in_its_place book
 
 -- the names of a book's dependencies, in order
 abbrev pub dependency_name : StmtImage → List (List ℕ)
-dependency_name (TableNode name file decls) = []
-dependency_name (ViewNode name tree) = []
-dependency_name (BackNode at view table extra) = []
-dependency_name (FwdNode at table view) = []
-dependency_name (LinkNode view table to) = []
 dependency_name (DependsNode at name table keys col) = name.name ∷ []
+dependency_name _ = []
 
 abbrev pub dependency_names : List StmtImage → List (List ℕ)
 dependency_names book = flat_map dependency_name book
 
 -- a statement that is none of a dependency, and a book without one
 abbrev pub IsNoDependency : StmtImage → Type 0
-IsNoDependency (TableNode name file decls) = Unit {0}
-IsNoDependency (ViewNode name tree) = Unit {0}
-IsNoDependency (BackNode at view table extra) = Unit {0}
-IsNoDependency (FwdNode at table view) = Unit {0}
-IsNoDependency (LinkNode view table to) = Unit {0}
 IsNoDependency (DependsNode at name table keys col) = ⊥
+IsNoDependency _ = Unit {0}
 
 abbrev pub HasNoDependency : List StmtImage → Type 0
 HasNoDependency book = All IsNoDependency book

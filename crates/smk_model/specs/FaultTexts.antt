@@ -17,12 +17,10 @@ use Rattle.smk_model.specs.Texts.{line}
 -- whether the text of a fault of a table names a column, and a fault of this kind has a line
 abbrev pub NamesColumn : TableFault → Option (List ℕ) → Type 0
 NamesColumn table.NoHeader column = IsNone column
-NamesColumn (table.MissingColumn col) column = IsSome column
-NamesColumn (table.RepeatedColumn col) column = IsSome column
 NamesColumn (table.Ragged nth) column = IsNone column
-NamesColumn (table.BadInt nth col) column = IsSome column
 NamesColumn table.TooManyRows column = ⊥
 NamesColumn table.NoMemory column = ⊥
+NamesColumn _ column = IsSome column
 
 -- whether a fault is said by this line. Want of memory has a text of its own, too many rows of a table are said as such, and a column is named exactly where a table's fault is one of a column
 abbrev pub IsSaid : Fault → Type 0
@@ -87,8 +85,7 @@ table_words (table.MissingColumn col) column = codes "missing column " ∷ shown
 table_words (table.RepeatedColumn col) column = codes "repeated column " ∷ shown column ∷ []
 table_words (table.Ragged nth) column = codes "record " ∷ decimal nth ∷ codes " has a wrong number of fields" ∷ []
 table_words (table.BadInt nth col) column = codes "record " ∷ decimal nth ∷ codes " column " ∷ shown column ∷ codes " is no int" ∷ []
-table_words table.TooManyRows column = []
-table_words table.NoMemory column = []
+table_words _ column = []
 
 -- the line that says a fault
 abbrev pub fault_text : Fault → List ℕ

@@ -230,11 +230,7 @@ HasOneInput (SelectNode p) = Unit {0}
 HasOneInput (ProjectNode xs) = Unit {0}
 HasOneInput (DistinctNode xs) = Unit {0}
 HasOneInput (GroupNode ws xs) = Unit {0}
-HasOneInput (JoinNode x ps) = ⊥
-HasOneInput (ThetaNode x p) = ⊥
-HasOneInput (ProductNode x) = ⊥
-HasOneInput (UnionAllNode x) = ⊥
-HasOneInput (UnionNode x) = ⊥
+HasOneInput _ = ⊥
 
 -- ask_step, a step with one input
 pub data IsAskStep : List Token → List Token → AskStepImage → Type 0 where

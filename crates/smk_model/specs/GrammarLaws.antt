@@ -14,10 +14,7 @@ use Rattle.smk_model.specs.Machine.{Configuration, through, book_symbols, line_s
 abbrev pub AtMostTooMany : Option BookFault → Type 0
 AtMostTooMany None = Unit {0}
 AtMostTooMany (Some (TooMany at what)) = Unit {0}
-AtMostTooMany (Some (BadToken at)) = ⊥
-AtMostTooMany (Some (Unexpected at)) = ⊥
-AtMostTooMany (Some (BadNumber at)) = ⊥
-AtMostTooMany (Some NoMemory) = ⊥
+AtMostTooMany (Some _) = ⊥
 
 -- a text of the grammar is read: a book and a line of any kind have no fault but where they pass a limit, and a line without steps has none
 pub record TextsAreRead : Type 0 where

@@ -97,8 +97,7 @@ abbrev pub Fits2 : Binary → List Kind → List Kind → Type 0
 Fits2 (Equijoin pairs) ls rs = JoinFits ls rs pairs
 Fits2 (ThetaJoin formula) ls rs = ThetaFits ls rs formula
 Fits2 CrossProduct ls rs = FewTogether ls rs
-Fits2 BagUnion ls rs = AllZip AreAlike ls rs
-Fits2 SetUnion ls rs = AllZip AreAlike ls rs
+Fits2 _ ls rs = AllZip AreAlike ls rs
 
 -- the kind of an output column: bin keeps the level
 abbrev pub kind_of_item : List Kind → Item → Kind
@@ -119,9 +118,8 @@ kind_of_agg kinds (Max c) = kind_in kinds c
 
 -- the wider kind in each place of two lists
 abbrev pub wider_kinds : List Kind → List Kind → List Kind
-wider_kinds [] rs = []
-wider_kinds (l ∷ ls) [] = []
 wider_kinds (l ∷ ls) (r ∷ rs) = wider l r ∷ wider_kinds ls rs
+wider_kinds _ _ = []
 
 -- the kinds of a step's output
 abbrev pub kinds1 : Unary → List Kind → List Kind
@@ -131,8 +129,6 @@ kinds1 (Distinction items) kinds = map (kind_of_item kinds) items
 kinds1 (Grouping keys aggs) kinds = map (kind_in kinds) keys ++ map (kind_of_agg kinds) aggs
 
 abbrev pub kinds2 : Binary → List Kind → List Kind → List Kind
-kinds2 (Equijoin pairs) ls rs = ls ++ rs
-kinds2 (ThetaJoin formula) ls rs = ls ++ rs
-kinds2 CrossProduct ls rs = ls ++ rs
 kinds2 BagUnion ls rs = wider_kinds ls rs
 kinds2 SetUnion ls rs = wider_kinds ls rs
+kinds2 _ ls rs = ls ++ rs

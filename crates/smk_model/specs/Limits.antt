@@ -7,7 +7,7 @@ use Rattle.smk_base.specs.declared.book.tree.Lit.{Lit}
 use Rattle.smk_base.specs.declared.book.tree.Decl.{Decl}
 use Rattle.smk_base.specs.declared.book.tree.ItemTree.{ItemTree}
 use Rattle.smk_base.specs.declared.book.tree.ItemTree.TheVariants.{Col, Bin}
-use Rattle.smk_base.specs.Trees.{TreeImage, ScanNode, StepNode, StepImage, SelectNode, ProjectNode, DistinctNode, GroupNode, JoinNode, ThetaNode, ProductNode, UnionAllNode, UnionNode, StmtImage, TableNode, ViewNode, BackNode, FwdNode, LinkNode, DependsNode, AskStepImage, AskImage}
+use Rattle.smk_base.specs.Trees.{TreeImage, ScanNode, StepNode, StepImage, SelectNode, ProjectNode, DistinctNode, GroupNode, JoinNode, ThetaNode, ProductNode, UnionAllNode, UnionNode, StmtImage, TableNode, ViewNode, DependsNode, AskStepImage, AskImage}
 use Rattle.smk_base.specs.declared.book.tree.Marks.{Marks}
 use Rattle.smk_base.specs.declared.book.tree.Marks.TheVariants as markings
 use Rattle.smk_base.specs.declared.book.limits.TheConstants.{TABLE_LIMIT, VIEW_LIMIT, NODE_LIMIT}
@@ -80,27 +80,17 @@ pub record KeepsPlan (tree : TreeImage) : Type 0 where
 abbrev pub KeepsStmt : StmtImage → Type 0
 KeepsStmt (TableNode name file decls) = KeepsDecls decls
 KeepsStmt (ViewNode name tree) = KeepsPlan tree
-KeepsStmt (BackNode at view table extra) = Unit {0}
-KeepsStmt (FwdNode at table view) = Unit {0}
-KeepsStmt (LinkNode view table to) = Unit {0}
-KeepsStmt (DependsNode at name table keys col) = Unit {0}
+KeepsStmt _ = Unit {0}
 
 abbrev pub is_table : StmtImage → Bool
 is_table (TableNode name file decls) = true
-is_table (ViewNode name tree) = false
-is_table (BackNode at view table extra) = false
-is_table (FwdNode at table view) = false
-is_table (LinkNode view table to) = false
-is_table (DependsNode at name table keys col) = false
+is_table _ = false
 
 -- a dependency counts as a view: it has one
 abbrev pub is_view : StmtImage → Bool
-is_view (TableNode name file decls) = false
 is_view (ViewNode name tree) = true
-is_view (BackNode at view table extra) = false
-is_view (FwdNode at table view) = false
-is_view (LinkNode view table to) = false
 is_view (DependsNode at name table keys col) = true
+is_view _ = false
 
 -- a book of at most 16 tables and 64 views, whose statements keep their limits
 pub record KeepsLimits (book : List StmtImage) : Type 0 where
@@ -114,11 +104,7 @@ KeepsAskStep (SelectNode pred) = Unit {0}
 KeepsAskStep (ProjectNode items) = KeepsItems items
 KeepsAskStep (DistinctNode items) = KeepsItems items
 KeepsAskStep (GroupNode keys aggs) = Unit {0}
-KeepsAskStep (JoinNode source pairs) = ⊥
-KeepsAskStep (ThetaNode source pred) = ⊥
-KeepsAskStep (ProductNode source) = ⊥
-KeepsAskStep (UnionAllNode source) = ⊥
-KeepsAskStep (UnionNode source) = ⊥
+KeepsAskStep _ = ⊥
 
 -- the steps of an `ask` line: at most 64, each with one input
 pub record KeepsSteps (steps : List AskStepImage) : Type 0 where

@@ -2,7 +2,7 @@
 use Rattle.std.specs.Prelude.{◌≡◌, ℕ, ℤ, pos, ◌+◌, ◌<◌, ◌+ℤ◌, ◌*ℤ◌, ◌≤ℤ◌, ◌<ℤ◌, Bool, true, false, ◌&&◌, List, [], ◌∷◌, length, slice_index_or, nat_eq}
 use Rattle.std.specs.List.{filter, list_any, All}
 use Rattle.smk_base.specs.Places.{IsPlaces}
-use Rattle.smk_base.specs.Plans.{Unary, Selection, Projection, Distinction, Grouping, Binary, Expr, Leaf, Apply, Combine}
+use Rattle.smk_base.specs.Plans.{Unary, Selection, Binary, Expr, Leaf, Apply, Combine}
 use Rattle.smk_model.specs.Values.{Row, bin, meets}
 use Rattle.smk_model.specs.Plain.{step1, step2, width, eval_from, eval}
 use Rattle.smk_model.specs.Lineage.{places, row_at, sub, from1, from_left, from_right}
@@ -13,10 +13,7 @@ use Rattle.smk_model.specs.Annotated.{Sources, Marked, mark_at, rows_of, both, a
 abbrev pub is_selection : Expr → Bool
 is_selection (Leaf table) = true
 is_selection (Apply (Selection formula) input) = is_selection input
-is_selection (Apply (Projection items) input) = false
-is_selection (Apply (Distinction items) input) = false
-is_selection (Apply (Grouping keys aggs) input) = false
-is_selection (Combine op left right) = false
+is_selection _ = false
 
 -- the table that such a chain scans
 abbrev pub selected_table : Expr → ℕ
@@ -28,10 +25,7 @@ selected_table (Combine op left right) = selected_table left
 abbrev pub selects : Expr → Row → Bool
 selects (Leaf table) row = true
 selects (Apply (Selection formula) input) row = selects input row && meets formula row
-selects (Apply (Projection items) input) row = false
-selects (Apply (Distinction items) input) row = false
-selects (Apply (Grouping keys aggs) input) row = false
-selects (Combine op left right) row = false
+selects _ row = false
 
 -- the rids of the rows that a chain selects, ascending
 abbrev pub chosen : Expr → List Row → List ℕ

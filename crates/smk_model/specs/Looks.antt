@@ -21,8 +21,7 @@ looks_of_view book view = rows_in (whole view.plan book.tables)
 
 abbrev pub looks_of_extra : BackExtra → ℕ → ℕ
 looks_of_extra extras.Plain rows = 0
-looks_of_extra (extras.By column) rows = rows
-looks_of_extra (extras.Grouped keys aggs names kinds) rows = rows
+looks_of_extra _ rows = rows
 
 abbrev pub looks_of_back : Workbook → Back → ℕ
 looks_of_back book declared = looks_of_extra declared.extra (length (table_at book.tables declared.table))
@@ -33,14 +32,8 @@ start_looks book = sum_by (looks_of_view book) book.catalog.views + sum_by (look
 
 -- rows that are printed with their rids are one look each
 abbrev pub looks_of_rows : Reply → ℕ
-looks_of_rows (replies.View rel) = 0
 looks_of_rows (replies.Back rids rows) = length rids
-looks_of_rows (replies.Grouped rel) = 0
-looks_of_rows (replies.Fwd marks) = 0
-looks_of_rows (replies.Brush rids linked) = 0
-looks_of_rows replies.Cleared = 0
-looks_of_rows (replies.ClearedOne linked) = 0
-looks_of_rows (replies.Refused refusal) = 0
+looks_of_rows _ = 0
 
 -- each linked view is made anew from the rows selected for it, in the state that the line would leave
 abbrev pub looks_of_linked : CatalogImage → State → ℕ → ℕ → ℕ
@@ -56,9 +49,7 @@ looks_of_clear catalog state (Err refusal) = 0
 
 -- those of a line
 abbrev pub line_looks : CatalogImage → State → Line → ℕ
-line_looks catalog state (lines.Show view) = 0
 line_looks catalog state (lines.Back view marks table then) = looks_of_rows (reply catalog state (lines.Back view marks table then)).0
-line_looks catalog state (lines.Fwd table rows view) = 0
 line_looks catalog state (lines.Brush view marks table) = looks_of_brush catalog state (brush_of catalog state view marks table)
-line_looks catalog state lines.Clear = 0
 line_looks catalog state (lines.ClearOne view table) = looks_of_clear catalog state (linked_pair catalog view table)
+line_looks catalog state _ = 0

@@ -4,7 +4,7 @@ use Rattle.std.specs.Option.{ok_or}
 use Rattle.std.specs.List.{find, filter_map}
 use Rattle.std.specs.Cmp.Lexicographic.{pointwise}
 use Rattle.smk_base.specs.Marks.{after_marks}
-use Rattle.smk_base.specs.Trees.{StmtImage, AnyLineImage, PlainLine, AskedLine, ProfiledLine, AppendedLine}
+use Rattle.smk_base.specs.Trees.{StmtImage, AnyLineImage, AppendedLine}
 use Rattle.smk_base.specs.CatalogImage.{CatalogImage}
 use Rattle.smk_base.specs.declared.book.catalog.TableInfo.{TableInfo}
 use Rattle.smk_base.specs.declared.book.col_decl.ColDecl.{ColDecl}
@@ -26,7 +26,7 @@ use Rattle.smk_model.specs.Names.{Typed, ◌>>=◌}
 use Rattle.smk_model.specs.Typing.{types}
 use Rattle.smk_model.specs.Expanded.{expanded, dependency_names}
 use Rattle.smk_model.specs.Tables.{table_of, all_or_first}
-use Rattle.smk_model.specs.Readings.{Reading, Nothing, Asks, Unread as NotRead, AreReadingsOf}
+use Rattle.smk_model.specs.Readings.{Reading, Asks, AreReadingsOf}
 use Rattle.smk_model.specs.ReplyTexts.{table_named}
 use Rattle.smk_model.specs.Session.{Workbook}
 use Rattle.smk_model.specs.Opening.{ViewFault, first_view_fault, fault_named}
@@ -121,15 +121,12 @@ filed file table = record { name = table.name; file = file; cols = table.cols }
 
 -- the table that a line appends to, with the file of the line, where the book has the table
 abbrev pub appended_by : CatalogImage → AnyLineImage → Option TableInfo
-appended_by catalog (PlainLine asked) = None
-appended_by catalog (AskedLine asked) = None
-appended_by catalog (ProfiledLine view) = None
 appended_by catalog (AppendedLine table file) = option_map (filed file) (table_named catalog table)
+appended_by catalog _ = None
 
 abbrev pub appended_at : CatalogImage → Reading → Option TableInfo
-appended_at catalog Nothing = None
 appended_at catalog (Asks asked) = appended_by catalog asked
-appended_at catalog (NotRead at) = None
+appended_at catalog _ = None
 
 -- those of all lines, line by line
 abbrev pub appended : CatalogImage → List Reading → List TableInfo
@@ -228,8 +225,7 @@ NamesAsked held book script _ = ⊥
 -- the same for the files of a run; a demo reads none
 abbrev pub NamesRead : Option TextSource → Held → Fault → Type 0
 NamesRead (Some (Files book script)) held fault = NamesAsked held book script fault
-NamesRead (Some (Demo n)) held fault = ⊥
-NamesRead None held fault = ⊥
+NamesRead _ held fault = ⊥
 
 -- files that hold nothing
 abbrev pub nothing_held : Held
@@ -239,8 +235,7 @@ nothing_held name = None
 abbrev pub WhereTold : Option Held → Option TextSource → Type 0 → (Held → Type 0) → Type 0
 WhereTold (Some held) words rest is = is held
 WhereTold None (Some (Files book script)) rest is = rest
-WhereTold None (Some (Demo n)) rest is = is nothing_held
-WhereTold None None rest is = is nothing_held
+WhereTold None _ rest is = is nothing_held
 
 -- what is left of the cause of a fault where the files don't tell what they hold
 abbrev pub UntoldCause : Type 0 → Fault → Type 0

@@ -86,19 +86,16 @@ nested test L R = flat_map (λ l. map (λ r. l ++ r) (filter (test l) R)) L
 
 -- whether a step puts rows of both sides beside each other
 abbrev pub is_join : Binary → Bool
-is_join (Equijoin pairs) = true
-is_join (ThetaJoin formula) = true
-is_join CrossProduct = true
 is_join BagUnion = false
 is_join SetUnion = false
+is_join _ = true
 
 -- the test of a join's nested loop; a union puts no rows beside each other
 abbrev pub joins : Binary → Row → Row → Bool
 joins (Equijoin pairs) = agree pairs
 joins (ThetaJoin formula) = meets_together formula
 joins CrossProduct = always
-joins BagUnion = λ l r. false
-joins SetUnion = λ l r. false
+joins _ = λ l r. false
 
 -- one step over its input, or over its two inputs
 abbrev pub step1 : Unary → List Row → List Row

@@ -107,9 +107,8 @@ rows_reply catalog state t rids = replies.Back rids (rows_at_rids catalog state 
 
 -- whether a declaration is a split of a view's backward query by a column
 abbrev pub is_by : ℕ → BackExtra → Bool
-is_by c extras.Plain = false
 is_by c (extras.By column) = nat_eq column c
-is_by c (extras.Grouped keys aggs names kinds) = false
+is_by c _ = false
 
 abbrev pub is_split : ℕ → ℕ → ℕ → Back → Bool
 is_split v t c declared = is_back v t declared && is_by c declared.extra
@@ -122,9 +121,8 @@ pub record Grouped : Type 0 where
   pub kinds : List Kind
 
 abbrev pub grouping_in : BackExtra → Option Grouped
-grouping_in extras.Plain = None
-grouping_in (extras.By column) = None
 grouping_in (extras.Grouped keys aggs names kinds) = Some (record { keys = keys; aggs = aggs; names = names; kinds = kinds })
+grouping_in _ = None
 
 -- the first grouping among declarations
 abbrev pub first_grouping : List Back → Option Grouped
@@ -148,9 +146,8 @@ split_column catalog v t name =
 -- whether a value is of the sort of a kind: an int or a text
 abbrev pub is_of_sort : Kind → Value → Bool
 is_of_sort (kinds.Int level) (values.Int n) = true
-is_of_sort (kinds.Int level) (values.Text bytes) = false
-is_of_sort kinds.Text (values.Int n) = false
 is_of_sort kinds.Text (values.Text bytes) = true
+is_of_sort _ _ = false
 
 -- whether a value is of the kind of a table's column
 abbrev pub is_of_column : CatalogImage → ℕ → ℕ → Value → Bool
@@ -166,9 +163,8 @@ cube state t grouped rids = record { kinds = grouped.kinds; rows = step1 (Groupi
 
 -- whether a line marks one row alone; repeats don't matter
 abbrev pub is_one : Marks → Bool
-is_one markings.All = false
-is_one (markings.Listed []) = false
 is_one (markings.Listed (mark ∷ more)) = list_all (nat_eq mark) more
+is_one _ = false
 
 -- the answer to a declared backward query: rows with their rids, those of them with a value, or a declared grouping of them
 abbrev pub back_reply : CatalogImage → State → ℕ → ℕ → Marks → Then → Asked Reply
@@ -276,11 +272,5 @@ reply catalog state asked = or_refused state (answer_to catalog state asked)
 
 -- whether a reply is a refusal
 abbrev pub is_refused : Reply → Bool
-is_refused (replies.View rel) = false
-is_refused (replies.Back rids rows) = false
-is_refused (replies.Grouped rel) = false
-is_refused (replies.Fwd marks) = false
-is_refused (replies.Brush rids linked) = false
-is_refused replies.Cleared = false
-is_refused (replies.ClearedOne linked) = false
 is_refused (replies.Refused refusal) = true
+is_refused _ = false

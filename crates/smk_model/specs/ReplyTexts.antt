@@ -47,41 +47,31 @@ view_in lines.Clear = []
 view_in (lines.ClearOne view table) = view
 
 abbrev pub table_in : Line → List ℕ
-table_in (lines.Show view) = []
 table_in (lines.Back view marks table then) = table
 table_in (lines.Fwd table rows view) = table
 table_in (lines.Brush view marks table) = table
-table_in lines.Clear = []
 table_in (lines.ClearOne view table) = table
+table_in _ = []
 
 -- the column that a line names, in `back .. where`
 abbrev pub column_of : Then → List ℕ
-column_of thens.Plain = []
 column_of (thens.Matching column value) = column
-column_of thens.Grouped = []
+column_of _ = []
 
 abbrev pub column_in : Line → List ℕ
-column_in (lines.Show view) = []
 column_in (lines.Back view marks table then) = column_of then
-column_in (lines.Fwd table rows view) = []
-column_in (lines.Brush view marks table) = []
-column_in lines.Clear = []
-column_in (lines.ClearOne view table) = []
+column_in _ = []
 
 -- a query as a line asks it
 abbrev pub query_words : Line → List (List ℕ)
-query_words (lines.Show view) = []
 query_words (lines.Back view marks table then) = codes "back " ∷ view ∷ codes " to " ∷ table ∷ []
 query_words (lines.Fwd table rows view) = codes "fwd " ∷ table ∷ codes " to " ∷ view ∷ []
-query_words (lines.Brush view marks table) = []
-query_words lines.Clear = []
-query_words (lines.ClearOne view table) = []
+query_words _ = []
 
 -- the grouping of a view's backward query to a table, by their names
 abbrev pub grouping_between : CatalogImage → Option ℕ → Option ℕ → Option asked_for.Grouped
 grouping_between catalog (Some v) (Some t) = grouping_of catalog v t
-grouping_between catalog (Some v) None = None
-grouping_between catalog None table = None
+grouping_between catalog _ _ = None
 
 abbrev pub grouping_named : CatalogImage → List ℕ → List ℕ → Option asked_for.Grouped
 grouping_named catalog view table = grouping_between catalog (view_place catalog view) (table_place catalog table)
@@ -113,19 +103,16 @@ pub record IsLinkedIn (catalog : CatalogImage) (linked : Linked) : Type 0 where
 
 -- whether a `back` line asks for rows, and not for a grouping
 abbrev pub AsksRows : Then → Type 0
-AsksRows thens.Plain = ⊤
-AsksRows (thens.Matching column value) = ⊤
 AsksRows thens.Grouped = ⊥
+AsksRows _ = ⊤
 
 abbrev pub AsksGroups : Then → Type 0
-AsksGroups thens.Plain = ⊥
-AsksGroups (thens.Matching column value) = ⊥
 AsksGroups thens.Grouped = ⊤
+AsksGroups _ = ⊥
 
 abbrev pub AsksValue : Then → Type 0
-AsksValue thens.Plain = ⊥
 AsksValue (thens.Matching column value) = ⊤
-AsksValue thens.Grouped = ⊥
+AsksValue _ = ⊥
 
 -- whether a refusal of a change of brushes is one that its text can say: a view with too many rows is one of the catalog
 abbrev pub IsRefusalOfChange : CatalogImage → Refusal → Type 0

@@ -101,15 +101,12 @@ answer_told line = record { text = line.text; replies = 1; refused = cond line.r
 
 -- whether a line brings the rows of a file: it appends to a table of the book
 abbrev pub appends : CatalogImage → AnyLineImage → Bool
-appends catalog (PlainLine asked) = false
-appends catalog (AskedLine asked) = false
-appends catalog (ProfiledLine view) = false
 appends catalog (AppendedLine table file) = is_some (table_place catalog table)
+appends catalog _ = false
 
 abbrev pub brings_rows : CatalogImage → Reading → Bool
-brings_rows catalog Nothing = false
 brings_rows catalog (Asks asked) = appends catalog asked
-brings_rows catalog (Unread at) = false
+brings_rows catalog _ = false
 
 -- of the rows that lines bring, in the order of the lines: those of the next line that brings any, and those that are left behind a line
 abbrev pub next_rows : List (List Row) → List Row
@@ -128,9 +125,8 @@ line_told said state number more (Asks asked) = answer_told (answered said state
 line_told said state number more (Unread at) = record { text = bad_line_text number at; replies = 0; refused = 0; unread = 1; looks = 0 }
 
 abbrev pub state_after : BookSaid → State → List Row → Reading → State
-state_after said state more Nothing = state
 state_after said state more (Asks asked) = (answered said state more asked).next
-state_after said state more (Unread at) = state
+state_after said state more _ = state
 
 -- the walk over the lines from a state on, numbered from a number on, with the rows that they bring
 abbrev pub lines_told : BookSaid → State → ℕ → List (List Row) → List Reading → Told

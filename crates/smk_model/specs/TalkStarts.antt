@@ -33,8 +33,7 @@ pub data StartsTalk (words : List (List ℕ)) (held : Held) : Result Inputs Faul
 -- a fault that a read may say since it failed; a demo reads no file
 abbrev pub NamesReadFirst : Option TextSource → Held → Fault → Type 0
 NamesReadFirst (Some (Files book script)) held fault = NamesAsked held book None fault
-NamesReadFirst (Some (Demo n)) held fault = ⊥
-NamesReadFirst None held fault = ⊥
+NamesReadFirst _ held fault = ⊥
 
 -- the cause of a fault: it is what the conversation starts with, or a read failed, which the count of faults shows
 abbrev pub HasTalkCause : List (List ℕ) → Option Held → Type 0 → Fault → Type 0

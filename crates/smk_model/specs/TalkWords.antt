@@ -27,8 +27,7 @@ pub record TalkCall : Type 0 where
 
 abbrev pub called_to_talk : Bool → Option Settings → Option TextSource → Option TalkCall
 called_to_talk read_only (Some settings) (Some texts) = Some (record { settings = settings; texts = texts; read_only = read_only })
-called_to_talk read_only (Some settings) None = None
-called_to_talk read_only None texts = None
+called_to_talk read_only _ _ = None
 
 -- the texts are those of a run without a script
 abbrev pub talk_call_in : Values → Option TalkCall

@@ -65,8 +65,7 @@ workers_counted (negsuc n) = None
 
 abbrev pub settings_with : Option Mode → Option ℕ → Option Settings
 settings_with (Some mode) (Some workers) = Some (record { mode = mode; workers = workers })
-settings_with (Some mode) None = None
-settings_with None workers = None
+settings_with _ _ = None
 
 -- the settings that these values ask for, unless the mode is none of those that are known
 abbrev pub settings_in : Values → Option Settings
@@ -80,9 +79,8 @@ demo_sized (negsuc n) = None
 -- the texts that are asked for by the values of `--demo`, of the book and of the script: those of a demo or those of files, of which exactly one is given
 abbrev pub texts_named : Option (List ℕ) → Option (List ℕ) → Option (List ℕ) → Option TextSource
 texts_named None (Some book) script = Some (Files book script)
-texts_named None None script = None
 texts_named (Some number) None script = option_and_then demo_sized (int_of number)
-texts_named (Some number) (Some book) script = None
+texts_named _ _ script = None
 
 abbrev pub texts_in : Values → Option TextSource
 texts_in values = texts_named (values (codes "demo")) (values (codes "book")) (values (codes "script"))
@@ -94,8 +92,7 @@ pub record Invocation : Type 0 where
 
 abbrev pub called : Option Settings → Option TextSource → Option Invocation
 called (Some settings) (Some texts) = Some (record { settings = settings; texts = texts })
-called (Some settings) None = None
-called None texts = None
+called _ _ = None
 
 abbrev pub invocation_in : Values → Option Invocation
 invocation_in values = called (settings_in values) (texts_in values)

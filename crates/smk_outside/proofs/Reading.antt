@@ -5,7 +5,7 @@ use Rattle.std.proofs.lemmas.List.{get_or_push, length-replicate}
 use Rattle.std.proofs.Math.Seq.{take-append_seam}
 use borrow.Author.Tests.{ltb-true, lt-ltb}
 use Rattle.std.specs.Io.{StartsWith}
-use Rattle.std.specs.Io.KnownBytes.{Keeps, Consumes, IsAtEnd}
+use Rattle.std.specs.Io.KnownBytes.{Keeps, Consumes}
 use Rattle.std.specs.Io.BufRead.{take_through, drop_through, strip_last, ends_with_byte, DropsConsumable, DropsThrough}
 use Rattle.std.proofs.KnownBytes.{Consumes-trans, Appends-nil}
 use Rattle.std.proofs.BufReadLemmas.{take_through-append, drop_through-append, take_through-nil, Consumes_shown, Consumes_through, zero_unless_positive}
@@ -92,8 +92,7 @@ heard_whole limit most (Some x) c line End taken is =
 
 pub short_heard : (limit : ℕ) (line : List ℕ) (heard : Heard) → IsHeard limit line heard → IsShort limit heard
 short_heard limit line (Line text) is = subst (λ l. length l ≤ limit) (sym is.1) is.2
-short_heard limit line Long is = tt
-short_heard limit line End is = tt
+short_heard limit line _ is = tt
 
 -- a line that goes on past its front is skipped
 pub skipped : (a b c : Option (List ℕ)) (front : List ℕ) → HasNoEnd front → Consumes a b front → DropsThrough b c 10 → IfSome a (λ xs. c ≡ Some (later_lines xs))

@@ -6,7 +6,7 @@ use Rattle.std.specs.List.{concat}
 use Rattle.smk_outside.specs.declared.talk.event.Event.{Event}
 use Rattle.smk_outside.specs.declared.talk.event.Event.TheVariants.{Heard, End, Said}
 use Rattle.smk_outside.specs.declared.talk.ending.Ending.{Ending}
-use Rattle.smk_outside.specs.declared.talk.ending.Ending.TheVariants.{Ended, Unheard, Unsaid, Outlasted}
+use Rattle.smk_outside.specs.declared.talk.ending.Ending.TheVariants.{Ended, Unheard}
 use Rattle.std.specs.Io.KnownBytes as known
 use Rattle.std.proofs.KnownBytes.{Appends-trans}
 use Rattle.smk_outside.specs.Conversing.{TakesBy}
@@ -55,8 +55,7 @@ first_taken (Some a) (Some b) xs ys p (rest, is) = (rest, p ∙ ap (λ l. xs ++ 
 pub TakesBy-trans : (ending : Ending) (a b c : Told) (xs ys : List (List ℕ)) → Takes a b xs → TakesBy ending b c ys → TakesBy ending a c (xs ++ ys)
 TakesBy-trans Ended a b c xs ys p q = all_taken a.left b.left xs ys p q
 TakesBy-trans Unheard a b c xs ys p q = first_taken a.left b.left xs ys p q
-TakesBy-trans Unsaid a b c xs ys p q = Takes-trans a b c xs ys p q
-TakesBy-trans Outlasted a b c xs ys p q = Takes-trans a b c xs ys p q
+TakesBy-trans _ a b c xs ys p q = Takes-trans a b c xs ys p q
 
 none_taken : (a : Option (List (List ℕ))) → IfSome a (λ left. (rest : List (List ℕ)) × (left ≡ rest))
 none_taken None = tt

@@ -26,9 +26,8 @@ texts_of rules state turns = flat_map (λ texts. texts) (scan rules.next rules.t
 -- what comes last: all is said, and then no line comes or none can be heard, or what is to be said breaks off
 abbrev pub ComesLast : Ending → List (List ℕ) → List Event → Type 0
 ComesLast Ended saying events = events ≡ says saying ++ End ∷ []
-ComesLast Unheard saying events = events ≡ says saying
 ComesLast Unsaid saying events = AreFront saying events
-ComesLast Outlasted saying events = events ≡ says saying
+ComesLast _ saying events = events ≡ says saying
 
 -- From a state, where these texts are to be said first: they are said, a line is heard, what is to be said of it is said, and so on to the end. Each turn is one that fits the state in which its line is heard.
 abbrev pub Talks : {S T : Type 0} → Rules S T → (S → T → Type 0) → S → List (List ℕ) → Ending → List T → List Event → Type 0
@@ -41,8 +40,7 @@ Talks rules Fits state saying ending (turn ∷ turns) events =
 abbrev pub TakesBy : Ending → Told → Told → List (List ℕ) → Type 0
 TakesBy Ended before after lines = AreAll before lines
 TakesBy Unheard before after lines = IfSome before.left (λ left. (rest : List (List ℕ)) × (left ≡ lines ++ rest))
-TakesBy Unsaid before after lines = Takes before after lines
-TakesBy Outlasted before after lines = Takes before after lines
+TakesBy _ before after lines = Takes before after lines
 
 -- a stretch of a conversation, from one state and one moment to another
 pub record Stretch {S T : Type 0} (rules : Rules S T) (Fits : S → T → Type 0) (saying : List (List ℕ)) (first last : S) (before after : Told) (ending : Ending) : Type 0 where
@@ -56,9 +54,8 @@ pub record Stretch {S T : Type 0} (rules : Rules S T) (Fits : S → T → Type 0
 -- why it ends otherwise than by its last line: the object failed, or as many turns were made as can be counted
 abbrev pub Cause : Ending → Type 0 → ℕ → Type 0
 Cause Ended rose count = ⊤
-Cause Unheard rose count = rose
-Cause Unsaid rose count = rose
 Cause Outlasted rose count = count ≡ 18446744073709551615
+Cause _ rose count = rose
 
 -- a whole conversation, in which these texts are said first
 pub record Conversation {S T : Type 0} (rules : Rules S T) (Fits : S → T → Type 0) (opening : List (List ℕ)) (first last : S) (before after : Told) (rose : Type 0) (ending : Ending) : Type 0 where

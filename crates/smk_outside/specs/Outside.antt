@@ -18,9 +18,8 @@ IsFrontOf (Some files) name limit front = IsSomeAnd (files name) (λ whole. fron
 -- these bytes were appended, where the object tells what was written; it doesn't begin or stop telling
 abbrev pub Appends : Option (List ℕ) → Option (List ℕ) → List ℕ → Type 0
 Appends None None bytes = ⊤
-Appends None (Some after) bytes = ⊥
-Appends (Some before) None bytes = ⊥
 Appends (Some before) (Some after) bytes = after ≡ before ++ bytes
+Appends _ _ bytes = ⊥
 
 -- the whole begins with this part
 abbrev pub IsPrefix : List ℕ → List ℕ → Type 0

@@ -58,8 +58,7 @@ HearsBytes limit before after result = IfSome before (λ bytes. HearsFrom limit 
 -- a line that is given is within the limit
 abbrev pub IsShort : ℕ → Heard → Type 0
 IsShort limit (Line line) = length line.items ≤ limit
-IsShort limit Long = ⊤
-IsShort limit End = ⊤
+IsShort limit _ = ⊤
 
 -- what was heard, if these bytes are the line with its end
 abbrev pub IsHeard : ℕ → List ℕ → Heard → Type 0

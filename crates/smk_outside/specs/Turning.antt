@@ -1,7 +1,7 @@
 -- What one turn of a conversation comes to, for the body of a loop that makes them.
 use Rattle.std.specs.Prelude.{◌≡◌, ℕ, List, [], length, Option, Some, None}
 use Rattle.smk_outside.specs.declared.talk.ending.Ending.{Ending}
-use Rattle.smk_outside.specs.declared.talk.ending.Ending.TheVariants.{Ended, Unheard, Unsaid, Outlasted}
+use Rattle.smk_outside.specs.declared.talk.ending.Ending.TheVariants.{Unsaid, Outlasted}
 use Rattle.smk_outside.specs.Told.{Told}
 use Rattle.smk_outside.specs.Saying.{Says, SaysFront}
 use Rattle.smk_outside.specs.Conversing.{Rules, Stretch, Cause}
@@ -10,9 +10,7 @@ use Rattle.smk_outside.specs.Conversing.{Rules, Stretch, Cause}
 abbrev pub ReplyGives : Type 0 → Told → Told → List (List ℕ) → Option Ending → Type 0
 ReplyGives rose before after texts None = Says before after texts
 ReplyGives rose before after texts (Some Unsaid) = SaysFront before after texts × rose
-ReplyGives rose before after texts (Some Ended) = ⊥
-ReplyGives rose before after texts (Some Unheard) = ⊥
-ReplyGives rose before after texts (Some Outlasted) = ⊥
+ReplyGives rose before after texts (Some _) = ⊥
 
 -- a line was heard and answered, or the conversation ended with a cause
 pub record WholeTurn {S T : Type 0} (rules : Rules S T) (Fits : S → T → Type 0) (first last : S) (before after : Told) : Type 0 where

@@ -8,9 +8,6 @@ use Rattle.smk_model.specs.ReplyTexts.{IsRefusalOf}
 
 -- a view with too many rows is one of the catalog
 pub full_view : (catalog : CatalogImage) (asked : Line) (view node : ℕ) → IsRefusalOf catalog asked (RowsLimit view node) → view < length catalog.views
-full_view catalog (lines.Show name) view node h = absurd h
-full_view catalog (lines.Back name marks table then) view node h = absurd h
-full_view catalog (lines.Fwd table rows name) view node h = absurd h
 full_view catalog (lines.Brush name marks table) view node h = h
-full_view catalog lines.Clear view node h = absurd h
 full_view catalog (lines.ClearOne name table) view node h = h
+full_view catalog _ view node h = absurd h

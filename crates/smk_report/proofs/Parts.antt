@@ -27,9 +27,8 @@ joined_more parts i part h is =
 -- a row has a value for each kind
 zipped : (kinds : List Kind) (row : List Value) → AllZip Fits kinds row → length row ≡ length kinds
 zipped [] [] h = refl
-zipped [] (v ∷ vs) h = absurd h
-zipped (k ∷ ks) [] h = absurd h
 zipped (k ∷ ks) (v ∷ vs) h = rw (zipped ks vs h.1) refl
+zipped _ _ h = absurd h
 
 pub row_width : (rel : Relation) (i : ℕ) → IsRelation rel → i < length rel.rows → length (row_in rel.rows i) ≡ length rel.kinds
 row_width rel i keeps h = zipped rel.kinds (row_in rel.rows i) (All-get_or (RowFits rel.kinds) rel.rows i [] h keeps.fit)

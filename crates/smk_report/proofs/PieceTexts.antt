@@ -55,10 +55,9 @@ piece_added rows count p from to text begins ends is =
 -- all pieces up to one have the records of all rows up to there
 joined_to : {A : Type 0} (bytes : A → List ℕ) (at : ℕ → List ℕ) (k n : ℕ) (pieces : List A) → AllZip (λ p piece. at (p + 1) ≡ at p ++ bytes piece) (range_with_len k n) pieces → at (k + n) ≡ at k ++ flat_map bytes pieces
 joined_to bytes at k zero [] each = ap at (omega arith) ∙ sym (append-nil (at k))
-joined_to bytes at k zero (piece ∷ rest) each = absurd each
-joined_to bytes at k (suc n) [] each = absurd each
 joined_to bytes at k (suc n) (piece ∷ rest) each =
     ap at (omega arith) ∙ joined_to bytes at (k + 1) n rest each.1 ∙ ap (λ (x : List ℕ). x ++ flat_map bytes rest) each.0 ∙ append_assoc (at k) (bytes piece) (flat_map bytes rest)
+joined_to bytes at k _ _ each = absurd each
 
 -- all pieces have the records of all rows
 pub pieces_joined : {A : Type 0} (bytes : A → List ℕ) (rows : List Row) (count : ℕ) (pieces : List A) → 0 < count → AllZip (λ p piece. IsPiece rows count p (bytes piece)) (range_with_len 0 count) pieces

@@ -1,5 +1,5 @@
 -- What stands for lists of at most one rid.
-use Rattle.std.proofs.Common.{◌≡◌, ◌∙◌, ◌<◌, ◌+◌, ◌-◌, ℕ, zero, suc, length, List, [], ◌∷◌, ◌++◌, refl, sym, ap, map, arith, get_or, take, drop, nat_lt, Bool, cond}
+use Rattle.std.proofs.Common.{◌≡◌, ◌∙◌, ◌<◌, ◌+◌, ◌-◌, ℕ, suc, length, List, [], ◌∷◌, ◌++◌, refl, sym, ap, map, arith, get_or, take, drop, nat_lt, Bool, cond}
 use Rattle.std.specs.List.{flat_map, filter}
 use Rattle.std.proofs.Math.ListN.{replicate}
 use Rattle.std.proofs.lemmas.Bool.{ne_eqb}
@@ -51,9 +51,8 @@ upto_alone numbers rid all low =
 
 -- places of empty lists
 pub at_none : (n p : ℕ) → get_or (replicate n (let e : List ℕ = [] in e)) p [] ≡ []
-at_none zero p = refl
-at_none (suc n) zero = refl
 at_none (suc n) (suc p) = at_none n p
+at_none _ _ = refl
 
 pub put_none : (n : ℕ) (places : List ℕ) → flat_map (λ p. get_or (replicate n (let e : List ℕ = [] in e)) p []) places ≡ []
 put_none n [] = refl

@@ -12,7 +12,7 @@ use Rattle.smk_jobs.specs.Jobs.{FirstFault}
 use Rattle.smk_session.specs.Openings.{Opens, OpensAs, faults_of, views_of}
 use Rattle.smk_session.specs.Sessions.{IsStartFault, opened}
 use Rattle.smk_session.specs.declared.start.fault.StartFault.{StartFault}
-use Rattle.smk_session.specs.declared.start.fault.StartFault.TheVariants.{Rows, Pairs, NoMemory}
+use Rattle.smk_session.specs.declared.start.fault.StartFault.TheVariants.{NoMemory}
 use Rattle.smk_session.specs.declared.start.opening.Stocked.{Stocked}
 use Rattle.smk_session.proofs.Starts.{first_append, first_more}
 
@@ -26,16 +26,14 @@ opening_made book stocked (Err e) is none fault = fault
 
 pub runs_are : (book : Workbook) (stocked : List Stocked) (runs : List Run) → AllZip (λ (s : Stocked) run. Opens book s.view run) stocked runs → (runs ≡ map (opened book) (views_of stocked)) × (faults_of book stocked ≡ None)
 runs_are book [] [] all = (refl, refl)
-runs_are book [] (run ∷ runs) all = absurd all
-runs_are book (s ∷ ss) [] all = absurd all
 runs_are book (s ∷ ss) (run ∷ runs) all =
     let rest = runs_are book ss runs all.1 in
     (ap (λ r. r ∷ runs) all.0.run ∙ ap (λ l. opened book s.view ∷ l) rest.0, rw (all.0.none) rest.1)
+runs_are book _ _ all = absurd all
 
 fault_front : (e : StartFault) (first rest : Option ViewFault) → IsStartFault e first → IsStartFault e (option_or first rest)
-fault_front (Rows view node) first rest h = rw h refl
-fault_front (Pairs view node table) first rest h = rw h refl
 fault_front NoMemory first rest h = tt
+fault_front _ first rest h = rw h refl
 
 fault_is : (book : Workbook) (stocked : List Stocked) (e : StartFault) → FirstFault {T = Run} (OpensAs book) stocked e → IsStartFault e (faults_of book stocked)
 fault_is book [] e first = absurd first

@@ -188,8 +188,7 @@ cubes_fit tables views pair p m kept backs asked =
 
 both : (a b : Bool) → (a && b) ≡ true → (a ≡ true) × (b ≡ true)
 both true true h = (refl, refl)
-both true false h = absurd (false≢true h)
-both false b h = absurd (false≢true h)
+both _ _ h = absurd (false≢true h)
 
 twice : (a b : Bool) → (a || b) ≡ a → (a || (a || b)) ≡ a
 twice true b h = refl
@@ -229,8 +228,6 @@ groups_told : (tables : List Relation) (brushes : List BrushOn) (pair : Pair) (g
     → kinds1 (Grouping grouped.keys grouped.aggs) (table_kinds (info_at pair.catalog.now.tables pair.table)) ≡ grouped.kinds
     → ◌>>=◌ (one_asked marks) (λ mark. read_off (lists_of tables pair) (cubes_of_grouped (book_of tables pair) pair.view pair.table grouped) mark marks)
     ≡ provided (is_one marks) ManyMarks (◌>>=◌ (rids_of (catalog_image pair.catalog.now) (state_over tables brushes) pair.view pair.table marks) (λ rids. Ok (replies.Grouped (cube (state_over tables brushes) pair.table grouped rids))))
-groups_told tables brushes pair grouped markings.All kinds = refl
-groups_told tables brushes pair grouped (markings.Listed []) kinds = refl
 groups_told tables brushes pair grouped (markings.Listed (mark ∷ more)) kinds =
     let image : CatalogImage = catalog_image pair.catalog.now in
     let state : State = state_over tables brushes in
@@ -248,6 +245,7 @@ groups_told tables brushes pair grouped (markings.Listed (mark ∷ more)) kinds 
           ∙ sym (then_row (first_outside marks n) n (members_at m marks) (λ rids. replies.Grouped (cube state pair.table grouped rids)))
           ∙ ap (λ (a : Asked (List ℕ)). ◌>>=◌ a (λ rids. Ok (replies.Grouped (cube state pair.table grouped rids)))) (backs_asked (view_at image pair.view).plan state.tables pair.table (markings.Listed marks)))
     ]
+groups_told tables brushes pair grouped _ kinds = refl
 
 grouped_told : (tables : List Relation) (brushes : List BrushOn) (views : List Run) (pair : Pair) (marks : Marks) → IsPairOf tables views pair
     → ◌>>=◌ (cubes_asked pair) (λ kept. ◌>>=◌ (one_asked marks) (λ mark. read_off (lists_of tables pair) kept mark marks))

@@ -148,12 +148,11 @@ kept_none h xs i x all low is are none =
 pub made_at : (book : Workbook) (all : List Asked) (made : List Made) (n : ℕ) (one : Made) → AllZip (IsMade book) all made → n < length made → one ≡ get_or made n one
     → (asked : Asked) × (n < length all) × (asked ≡ get_or all n asked) × IsMade book asked one
 made_at book [] [] n one zip low is = absurd (omega (arith, low))
-made_at book [] (m ∷ ms) n one zip low is = absurd zip
-made_at book (a ∷ more) [] n one zip low is = absurd zip
 made_at book (a ∷ more) (m ∷ ms) zero one zip low is = (a, omega arith, refl, subst (IsMade book a) (sym is) zip.0)
 made_at book (a ∷ more) (m ∷ ms) (suc n) one zip low is =
     let rest = made_at book more ms n one zip.1 (omega (arith, low)) is in
     (rest.0, omega (arith, rest.1), rest.2, rest.3)
+made_at book _ _ n one zip low is = absurd zip
 
 pub kept_put : {Y : Type 0} (h : Back → Option Y) (all : List Asked) (n : ℕ) (asked : Asked) (put : Option Y) (old before after : List Y) → n < length all → asked ≡ get_or all n asked
     → before ≡ old ++ filter_map h (take n (declared_in all)) → put ≡ h asked.declared.now → after ≡ before ++ option_to_list put → after ≡ old ++ filter_map h (take (n + 1) (declared_in all))
@@ -178,13 +177,12 @@ kept_all book h all made n old after zip whole are =
 kept_step : {Y : Type 0} (p : Back → Bool) (made : Option Y) (asks takes : Bool) (declared : Back) (kept : List Y) (more : List Back) → asks ≡ is_some made → p declared ≡ takes
     → slice_get (cons_option made kept) (position_or_len p (cond asks (declared ∷ more) more)) ≡ option_or (cond takes made None) (slice_get kept (position_or_len p more))
 kept_step p None true takes declared kept more e f = absurd (cc e)
-kept_step p None false true declared kept more e f = refl
-kept_step p None false false declared kept more e f = refl
 kept_step p (Some y) false takes declared kept more e f = absurd (cc e)
 kept_step p (Some y) true true declared kept more e f = rw f refl
 kept_step p (Some y) true false declared kept more e f =
     let next : 1 + position_or_len p more ≡ suc (position_or_len p more) = omega arith in
     rw f (ap (slice_get (y ∷ kept)) next)
+kept_step p None false _ declared kept more e f = refl
 
 kept_first : {Y : Type 0} (h : Back → Option Y) (q p : Back → Bool) → ((declared : Back) → q declared ≡ is_some (h declared)) → (declarations : List Back)
     → slice_get (filter_map h declarations) (position_or_len p (filter q declarations)) ≡ first_some (λ declared. cond (p declared) (h declared) None) declarations
@@ -197,8 +195,7 @@ kept_first h q p asks (declared ∷ more) =
 
 both : (a b : Bool) → (a && b) ≡ true → (a ≡ true) × (b ≡ true)
 both true true h = (refl, refl)
-both true false h = absurd (false≢true h)
-both false b h = absurd (false≢true h)
+both _ _ h = absurd (false≢true h)
 
 and_false : (a : Bool) → (a && false) ≡ false
 and_false true = refl
@@ -206,8 +203,7 @@ and_false false = refl
 
 split_asked : (book : Workbook) (v t : ℕ) (extra : BackExtra) → asks_split extra ≡ is_some (split_for book v t extra)
 split_asked book v t extras.Plain = refl
-split_asked book v t (extras.By column) = refl
-split_asked book v t (extras.Grouped keys aggs names kinds) = refl
+split_asked book v t _ = refl
 
 same_split : (book : Workbook) (w u column v t c : ℕ) → ((nat_eq w v && nat_eq u t) && nat_eq column c) ≡ true → split_on book w u column ≡ split_on book v t c
 same_split book w u column v t c h =
@@ -217,12 +213,11 @@ same_split book w u column v t c h =
 
 split_more : (book : Workbook) (v t c w u : ℕ) (extra : BackExtra) (kept : Option SplitImage) (more : Bool) → kept ≡ cond more (Some (split_on book v t c)) None
     → option_or (cond ((nat_eq w v && nat_eq u t) && is_by c extra) (split_for book w u extra) None) kept ≡ cond (((nat_eq w v && nat_eq u t) && is_by c extra) || more) (Some (split_on book v t c)) None
-split_more book v t c w u extras.Plain kept more h = rw (and_false (nat_eq w v && nat_eq u t)) h
-split_more book v t c w u (extras.Grouped keys aggs names kinds) kept more h = rw (and_false (nat_eq w v && nat_eq u t)) h
 split_more book v t c w u (extras.By column) kept more h = elim (cases_Bool ((nat_eq w v && nat_eq u t) && nat_eq column c)) [
   | inl e ↦ rw (e) (ap (λ (split : SplitImage). Some split) (same_split book w u column v t c e))
   | inr e ↦ rw (e) h
 ]
+split_more book v t c w u _ kept more h = rw (and_false (nat_eq w v && nat_eq u t)) h
 
 split_first : (book : Workbook) (v t c : ℕ) (declarations : List Back) → first_some (λ declared. cond (is_split v t c declared) (split_in book declared) None) declarations ≡ cond (list_any (is_split v t c) declarations) (Some (split_on book v t c)) None
 split_first book v t c [] = refl
@@ -241,17 +236,15 @@ cubes_of_grouped book v t grouped = cubes_on book v t grouped.keys grouped.aggs
 
 groups_asked : (book : Workbook) (v t : ℕ) (extra : BackExtra) → asks_groups extra ≡ is_some (cubes_for book v t extra)
 groups_asked book v t extras.Plain = refl
-groups_asked book v t (extras.By column) = refl
-groups_asked book v t (extras.Grouped keys aggs names kinds) = refl
+groups_asked book v t _ = refl
 
 cubes_here : (book : Workbook) (v t w u : ℕ) (extra : BackExtra) (kept : Option (List Relation)) (more : Option Grouped) → (nat_eq w v && nat_eq u t) ≡ true → kept ≡ option_map (cubes_of_grouped book v t) more
     → option_or (cubes_for book w u extra) kept ≡ option_map (cubes_of_grouped book v t) (option_or (grouping_in extra) more)
-cubes_here book v t w u extras.Plain kept more e h = h
-cubes_here book v t w u (extras.By column) kept more e h = h
 cubes_here book v t w u (extras.Grouped keys aggs names kinds) kept more e h =
     let pair = both (nat_eq w v) (nat_eq u t) e in
     let same : cubes_on book w u keys aggs ≡ cubes_on book v t keys aggs = rw (eqb-true w v pair.0, eqb-true u t pair.1) refl in
     ap (λ (cubes : List Relation). Some cubes) same
+cubes_here book v t w u _ kept more e h = h
 
 cubes_first : (book : Workbook) (v t : ℕ) (declarations : List Back)
     → first_some (λ declared. cond (is_back v t declared) (cubes_in book declared) None) declarations ≡ option_map (cubes_of_grouped book v t) (first_grouping (filter (is_back v t) declarations))
@@ -293,11 +286,10 @@ abbrev Fits : List Kind → Grouped → Type 0
 Fits kinds grouped = GroupingFits kinds grouped.keys grouped.aggs grouped.names grouped.kinds
 
 fits_here : (kinds : List Kind) (extra : BackExtra) (more : Option Grouped) (grouped : Grouped) → ExtraFits kinds extra → (more ≡ Some grouped → Fits kinds grouped) → option_or (grouping_in extra) more ≡ Some grouped → Fits kinds grouped
-fits_here kinds extras.Plain more grouped fits rest h = rest h
-fits_here kinds (extras.By column) more grouped fits rest h = rest h
 fits_here kinds (extras.Grouped keys aggs names own) more grouped fits rest h =
     let is : record { keys = keys; aggs = aggs; names = names; kinds = own } ≡ grouped = cc in
     subst (Fits kinds) is fits
+fits_here kinds _ more grouped fits rest h = rest h
 
 pub grouping_fits : (tables : List TableInfo) (views v t : ℕ) (declarations : List Back) (grouped : Grouped) → All (BackFits tables views) declarations → first_grouping (filter (is_back v t) declarations) ≡ Some grouped
     → Fits (table_kinds (info_at tables t)) grouped

@@ -69,8 +69,7 @@ with_kept p brush brushes h = elim (cases_Bool (list_any (is_brush brush.view br
 
 both : (a b : Bool) → (a && b) ≡ true → (a ≡ true) × (b ≡ true)
 both true true h = (refl, refl)
-both true false h = absurd (false≢true h)
-both false b h = absurd (false≢true h)
+both _ _ h = absurd (false≢true h)
 
 pub unfollowed : (catalog : CatalogImage) (v t w : ℕ) (b : BrushOn) → has (linked catalog v t) w ≡ false → is_brush v t b ≡ true → follows catalog w b ≡ false
 unfollowed catalog v t w b unnamed is =

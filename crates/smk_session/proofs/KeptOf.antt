@@ -82,9 +82,7 @@ back_where false false t m n = refl
 fwd_where : (b f : Bool) (t : ℕ) (m n : Lists)
     → ok_or (option_and_then (λ (k : KeptMap). k.fwd) (cond (b || f) (Some (record { table = t; back = wanted b m; fwd = wanted f n })) None)) Undeclared ≡ cond f (Ok n) (Err Undeclared)
 fwd_where true true t m n = refl
-fwd_where true false t m n = refl
-fwd_where false true t m n = refl
-fwd_where false false t m n = refl
+fwd_where _ _ t m n = refl
 
 pub kept_back_is : (catalog : CatalogImage) (plan : Expr) (tables : List (List Row)) (v t : ℕ) → t < length catalog.tables
     → kept_back (map (kept_at plan tables) (needs catalog v)) t ≡ cond (declares_back catalog v t) (Ok (backs plan tables t)) (Err Undeclared)

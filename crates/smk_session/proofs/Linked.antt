@@ -23,8 +23,7 @@ has_linked p (link ∷ links) w = elim (cases_Bool (p link)) [
 
 both : (a b : Bool) → (a && b) ≡ true → (a ≡ true) × (b ≡ true)
 both true true h = (refl, refl)
-both true false h = absurd (false≢true h)
-both false b h = absurd (false≢true h)
+both _ _ h = absurd (false≢true h)
 
 pub or_right : (a : Bool) → (a || true) ≡ true
 or_right true = refl

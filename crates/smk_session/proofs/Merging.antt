@@ -67,9 +67,7 @@ before_end A rises k d low = elim (cases_lt k (length A - 1)) [
 
 and_turned : (a b : Bool) → (a && b) ≡ (b && a)
 and_turned true true = refl
-and_turned true false = refl
-and_turned false true = refl
-and_turned false false = refl
+and_turned _ _ = refl
 
 pub common_turned : (A B : List ℕ) → IsAscending A → IsAscending B → filter (has B) A ≡ filter (has A) B
 common_turned A B a b =

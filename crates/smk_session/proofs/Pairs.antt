@@ -10,8 +10,7 @@ use Rattle.smk_session.specs.Sessions.{same_pair}
 
 both : (a b : Bool) → (a && b) ≡ true → (a ≡ true) × (b ≡ true)
 both true true h = (refl, refl)
-both true false h = absurd (false≢true h)
-both false b h = absurd (false≢true h)
+both _ _ h = absurd (false≢true h)
 
 same_pair_laws : IsEquivalence same_pair
 same_pair_laws = record {

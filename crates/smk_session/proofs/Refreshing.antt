@@ -84,11 +84,10 @@ pub all_more : (refresh : Refresh) (done : List ℕ) (linked : List Linked) (con
     → AllZip (λ (fetched : Fetched) one. FollowsAs refresh fetched.view (Ok one)) all made
     → AreFollowed refresh (done ++ views_of all) (followed_with (linked ++ map (λ (one : Linked × Content). one.0) made) (contents ++ map (λ (one : Linked × Content). one.1) made))
 all_more refresh done linked contents [] [] are zip = rw (append-nil done, append-nil linked, append-nil contents) are
-all_more refresh done linked contents [] (one ∷ made) are zip = absurd zip
-all_more refresh done linked contents (f ∷ all) [] are zip = absurd zip
 all_more refresh done linked contents (f ∷ all) (one ∷ made) are zip =
     rw (← append_assoc done (f.view ∷ []) (views_of all), ← append_assoc linked (one.0 ∷ []) (map (λ (m : Linked × Content). m.0) made), ← append_assoc contents (one.1 ∷ []) (map (λ (m : Linked × Content). m.1) made))
     (all_more refresh (done ++ f.view ∷ []) (linked ++ one.0 ∷ []) (contents ++ one.1 ∷ []) all made (one_more refresh done f.view linked contents one are zip.0) zip.1)
+all_more refresh done linked contents _ _ are zip = absurd zip
 
 -- and the first refusal
 

@@ -14,7 +14,7 @@ use Rattle.smk_model.specs.Looks.{looks_of_view, looks_of_back, start_looks}
 use Rattle.smk_model.specs.Session.{Workbook, no_view}
 use Rattle.smk_session.specs.Sessions.{IsStartFault, workbook_image}
 use Rattle.smk_session.specs.declared.start.fault.StartFault.{StartFault}
-use Rattle.smk_session.specs.declared.start.fault.StartFault.TheVariants.{Rows, Pairs, NoMemory}
+use Rattle.smk_session.specs.declared.start.fault.StartFault.TheVariants.{NoMemory}
 
 or_or : {X : Type 0} (a b c : Option X) → option_or a (option_or b c) ≡ option_or (option_or a b) c
 or_or (Some x) b c = refl
@@ -45,9 +45,8 @@ first_is value (suc n) i b low before here = first_more value n ∙ elim (cases_
 
 -- the fault of the first view that has one is the first fault
 pub fault_first : (fault : StartFault) (value : ℕ → Option ViewFault) (n i : ℕ) → i < n → first_some value (upto i) ≡ None → IsStartFault fault (value i) → IsStartFault fault (first_some value (upto n))
-fault_first (Rows view node) value n i low before here = first_is value n i _ low before here
-fault_first (Pairs view node table) value n i low before here = first_is value n i _ low before here
 fault_first NoMemory value n i low before here = tt
+fault_first _ value n i low before here = first_is value n i _ low before here
 
 -- the looks of the views so far, and of one view more
 

@@ -1,5 +1,5 @@
 -- What the calls say that work out the parts of a backward answer.
-use Rattle.std.specs.Prelude.{◌≡◌, ◌<◌, ℕ, nat_eq, Option, List, [], ◌∷◌, length, slice_get, slice_index_or, ok_or, Ok, Err, option_map}
+use Rattle.std.specs.Prelude.{◌≡◌, ◌<◌, ℕ, nat_eq, Option, List, ◌∷◌, length, slice_get, slice_index_or, ok_or, Ok, Err, option_map}
 use Rattle.std.specs.List.{list_all}
 use Rattle.smk_base.specs.CatalogImage.{CatalogImage, catalog_image}
 use Rattle.smk_base.specs.Places.{Lists}
@@ -50,9 +50,8 @@ with_value_asked split marks value = unless_outside marks (length split.map.list
 
 -- the one mark of a line
 abbrev pub one_asked : Marks → Asked ℕ
-one_asked markings.All = Err ManyMarks
-one_asked (markings.Listed []) = Err ManyMarks
 one_asked (markings.Listed (mark ∷ more)) = provided (list_all (nat_eq mark) more) ManyMarks (Ok mark)
+one_asked _ = Err ManyMarks
 
 -- the answers by what is kept
 abbrev pub matching_by : Pair → Marks → List ℕ → Value → Asked Reply

@@ -35,14 +35,12 @@ cubes_on book v t keys aggs = cubes_of (backs_of book v t) (table_of book t) key
 
 -- the split, and the groups, that are asked for besides the rows
 abbrev pub split_for : Workbook → ℕ → ℕ → BackExtra → Option SplitImage
-split_for book v t extras.Plain = None
 split_for book v t (extras.By column) = Some (split_on book v t column)
-split_for book v t (extras.Grouped keys aggs names kinds) = None
+split_for book v t _ = None
 
 abbrev pub cubes_for : Workbook → ℕ → ℕ → BackExtra → Option (List Relation)
-cubes_for book v t extras.Plain = None
-cubes_for book v t (extras.By column) = None
 cubes_for book v t (extras.Grouped keys aggs names kinds) = Some (cubes_on book v t keys aggs)
+cubes_for book v t _ = None
 
 -- those of a declaration
 abbrev pub split_in : Workbook → Back → Option SplitImage
@@ -60,14 +58,12 @@ all_cubes book = filter_map (cubes_in book) book.catalog.backs
 
 -- whether a split is asked for, and whether groups
 abbrev pub asks_split : BackExtra → Bool
-asks_split extras.Plain = false
 asks_split (extras.By column) = true
-asks_split (extras.Grouped keys aggs names kinds) = false
+asks_split _ = false
 
 abbrev pub asks_groups : BackExtra → Bool
-asks_groups extras.Plain = false
-asks_groups (extras.By column) = false
 asks_groups (extras.Grouped keys aggs names kinds) = true
+asks_groups _ = false
 
 -- the place of the split of a view's backward query by a column among the splits of these declarations, or how many there are where there is none
 abbrev pub split_place : ℕ → ℕ → ℕ → List Back → ℕ

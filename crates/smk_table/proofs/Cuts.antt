@@ -17,45 +17,27 @@ none_some p e = absurd (cc)
 
 -- whether a record is begun in a state
 abbrev is_inside : State → Bool
-is_inside st.StartField = true
-is_inside st.InField = true
-is_inside st.InQuoted = true
-is_inside st.AfterQuote = true
-is_inside st.InEscape = true
 is_inside st.InComment = false
 is_inside st.StartRecord = false
 is_inside st.AfterCr = false
+is_inside _ = true
 
 inside_not_start : (s : State) → is_inside s ≡ true → is_start s ≡ true → ⊥
-inside_not_start st.StartField i h = true≢false (sym h)
-inside_not_start st.InField i h = true≢false (sym h)
-inside_not_start st.InQuoted i h = true≢false (sym h)
-inside_not_start st.AfterQuote i h = true≢false (sym h)
-inside_not_start st.InEscape i h = true≢false (sym h)
-inside_not_start st.InComment i h = true≢false (sym h)
 inside_not_start st.StartRecord i h = true≢false (sym i)
 inside_not_start st.AfterCr i h = true≢false (sym i)
+inside_not_start _ i h = true≢false (sym h)
 
 -- a begun record stays begun until it ends
 stays_inside : (s : State) (c : ℕ) → is_inside s ≡ true → is_end (step default_config s c).1 ≡ false → is_inside (step default_config s c).0 ≡ true
-stays_inside st.StartField c i h = grind arith
-stays_inside st.InField c i h = grind arith
-stays_inside st.InQuoted c i h = grind arith
-stays_inside st.AfterQuote c i h = grind arith
-stays_inside st.InEscape c i h = grind arith
 stays_inside st.InComment c i h = absurd (true≢false (sym i))
 stays_inside st.StartRecord c i h = absurd (true≢false (sym i))
 stays_inside st.AfterCr c i h = absurd (true≢false (sym i))
+stays_inside _ c i h = grind arith
 
 not_ended_at_end : (s : State) → is_start s ≡ true → ends_at_end s ≡ false
 not_ended_at_end st.StartRecord h = refl
 not_ended_at_end st.AfterCr h = refl
-not_ended_at_end st.StartField h = absurd (true≢false (sym h))
-not_ended_at_end st.InField h = absurd (true≢false (sym h))
-not_ended_at_end st.InQuoted h = absurd (true≢false (sym h))
-not_ended_at_end st.AfterQuote h = absurd (true≢false (sym h))
-not_ended_at_end st.InEscape h = absurd (true≢false (sym h))
-not_ended_at_end st.InComment h = absurd (true≢false (sym h))
+not_ended_at_end _ h = absurd (true≢false (sym h))
 
 -- a begun record has its end in a text behind which another may begin
 inside_ends : (s : State) (f : List (List ℕ)) (x a : List ℕ) → is_inside s ≡ true → is_start (state_after s a) ≡ true → next_record default_config s f x a ≡ None → ⊥

@@ -16,10 +16,7 @@ is_flat st.StartRecord = true
 is_flat st.AfterCr = true
 is_flat st.StartField = true
 is_flat st.InField = true
-is_flat st.InQuoted = false
-is_flat st.AfterQuote = false
-is_flat st.InEscape = false
-is_flat st.InComment = false
+is_flat _ = false
 
 stays_flat : (s : State) (c : ℕ) → is_flat s ≡ true → is_unquoted c ≡ true → is_flat (step default_config s c).0 ≡ true
 stays_flat st.StartRecord c f q = grind arith

@@ -11,13 +11,7 @@ use Rattle.smk_table.specs.CsvReader.{is_start, records_after, text_left, record
 
 ends_start : (s : State) (c : ℕ) → is_end (step default_config s c).1 ≡ true → is_start (step default_config s c).0 ≡ true
 ends_start st.StartRecord c h = grind arith
-ends_start st.StartField c h = grind arith
-ends_start st.InField c h = grind arith
-ends_start st.InQuoted c h = grind arith
-ends_start st.InEscape c h = grind arith
-ends_start st.AfterQuote c h = grind arith
-ends_start st.InComment c h = grind arith
-ends_start st.AfterCr c h = grind arith
+ends_start _ c h = grind arith
 
 pub some_is : {X : Type 0} (a b : X) → Some a ≡ Some b → a ≡ b
 some_is a b e = cc

@@ -21,11 +21,7 @@ rows_from cols places width n read = all_or_first (numbered (record_row cols pla
 abbrev pub record_of : TableFault → ℕ
 record_of (faults.Ragged n) = n
 record_of (faults.BadInt n c) = n
-record_of faults.NoHeader = ROW_LIMIT + 1
-record_of (faults.MissingColumn c) = ROW_LIMIT + 1
-record_of (faults.RepeatedColumn c) = ROW_LIMIT + 1
-record_of faults.TooManyRows = ROW_LIMIT + 1
-record_of faults.NoMemory = ROW_LIMIT + 1
+record_of _ = ROW_LIMIT + 1
 
 -- the same fault where base records come before
 abbrev pub fault_behind : ℕ → TableFault → TableFault

@@ -27,10 +27,9 @@ appends_none (Some a) = sym (append-nil a)
 pub appends_more : (a b c : Option (List ℕ)) (x y : List ℕ) → Appends a b x → Appends b c y → Appends a c (x ++ y)
 appends_more None None None x y p q = tt
 appends_more None None (Some c) x y p q = absurd q
-appends_more None (Some b) c x y p q = absurd p
-appends_more (Some a) None c x y p q = absurd p
 appends_more (Some a) (Some b) None x y p q = absurd q
 appends_more (Some a) (Some b) (Some c) x y p q = q ∙ rw p (append_assoc a x y)
+appends_more _ _ c x y p q = absurd p
 
 -- a front of the whole
 pub front_of : (a b : Option (List ℕ)) (x rest whole : List ℕ) → Appends a b x → whole ≡ x ++ rest → AppendsPart a b whole
@@ -62,10 +61,9 @@ want_here f xs i a b p = front_of a b (flat_map f (take i xs)) (flat_map f (drop
 pub fails_here : (X : Type 0) {A : Type 0} (f : A → List ℕ) (xs : List A) (i : ℕ) (x d : A) (a b c : Option (List ℕ)) (rose_here rose : Type 0) (text : List ℕ) (stop : Stop)
     → i < length xs → x ≡ get_or xs i d → text ≡ f x → (rose_here → rose) → Appends a b (flat_map f (take i xs)) → Puts {X = X} text rose_here b c (Err stop)
     → PutsPieces {X = X} (flat_map f xs) rose a c (Err stop)
-fails_here X f xs i x d a b c rose_here rose text (At fault) h is same wide p q = absurd q
 fails_here X f xs i x d a b c rose_here rose text Unwritten h is same wide p q =
     (front_more a b c (flat_map f (take i xs)) text (flat_map f (drop (i + 1) xs)) (flat_map f xs) p q.0 (whole_is f xs (i + 1) ∙ ap (λ z. z ++ flat_map f (drop (i + 1) xs)) (one_more f xs i x d h is ∙ ap (λ z. flat_map f (take i xs) ++ z) (sym same))), wide q.1)
-fails_here X f xs i x d a b c rose_here rose text Exhausted h is same wide p q = absurd q
+fails_here X f xs i x d a b c rose_here rose text _ h is same wide p q = absurd q
 
 part_more : (a b : Option (List ℕ)) (text rest whole : List ℕ) → whole ≡ text ++ rest → AppendsPart a b text → AppendsPart a b whole
 part_more a b text rest whole is p = (p.0, (p.1.0 ++ rest, is ∙ rw p.1.1 (append_assoc p.0 p.1.0 rest)), p.2)
@@ -94,9 +92,8 @@ pub none_written : (a : Option (List ℕ)) (text : List ℕ) → AppendsPart a a
 none_written a text = ([], (text, refl), appends_none a)
 
 pub put_stops : (X Y : Type 0) (a b : Option (List ℕ)) (rose : Type 0) (text whole : List ℕ) (stop : Stop) → text ≡ whole → Puts {X = X} text rose a b (Err stop) → PutsPieces {X = Y} whole rose a b (Err stop)
-put_stops X Y a b rose text whole (At fault) is p = absurd p
 put_stops X Y a b rose text whole Unwritten is p = rw (← is) p
-put_stops X Y a b rose text whole Exhausted is p = absurd p
+put_stops X Y a b rose text whole _ is p = absurd p
 
 pub put_pieces : (X : Type 0) (a b : Option (List ℕ)) (rose : Type 0) (text whole : List ℕ) (r : Result X Stop) → text ≡ whole → Puts text rose a b r → PutsPieces whole rose a b r
 put_pieces X a b rose text whole (Ok x) is p = rw (← is) p

@@ -61,8 +61,7 @@ untold_views rose _ h = absurd h
 where_told : (held : Option Held) (ws : Option TextSource) (A B : Type 0) (P Q : Held → Type 0) → (A → B) → ((h : Held) → P h → Q h) → WhereTold held ws A P → WhereTold held ws B Q
 where_told (Some held) ws A B P Q f g is = g held is
 where_told None (Some (Files book script)) A B P Q f g is = f is
-where_told None (Some (Demo n)) A B P Q f g is = g nothing_held is
-where_told None None A B P Q f g is = g nothing_held is
+where_told None _ A B P Q f g is = g nothing_held is
 
 -- the same for words that name no file
 where_demo : (held : Option Held) (ws : Option TextSource) (n : ℕ) (A : Type 0) (P : Held → Type 0) → ws ≡ Some (Demo n) → ((h : Held) → P h) → WhereTold held ws A P
@@ -156,10 +155,8 @@ report_written given book fds added rose a b r none same alike brought w c =
 
 -- what stops a text that is put is no fault
 pub sayable_pieces : {X : Type 0} (text : List ℕ) (rose : Type 0) (a b : Option (List ℕ)) (r : Result X Stop) → PutsPieces text rose a b r → IsSayable r
-sayable_pieces text rose a b (Ok x) w = tt
 sayable_pieces text rose a b (Err (At fault)) w = absurd w
-sayable_pieces text rose a b (Err Unwritten) w = tt
-sayable_pieces text rose a b (Err Exhausted) w = tt
+sayable_pieces text rose a b _ w = tt
 
 -- a report that is only measured stops for want of memory alone
 pub measured_stops : (X : Type 0) (writes : Report → List ℕ) (given : Inputs) (text : List ℕ) (rose : Type 0) (a : Option (List ℕ)) (stop : Stop) → PutsPieces {X = X} text (Rose 0 0) None None (Err stop) → Reports writes given rose a a (Err stop)
@@ -230,8 +227,7 @@ ends_faulted words held files_rose out_rose err_rose a b e f fault status w (inr
 -- a step that makes no look makes none before its fault
 pub looks_at_nothing : (stop : Stop) (n : ℕ) → LooksBehindReading {X = Counts} (Err stop) n n
 looks_at_nothing (At fault) n = λ met. refl
-looks_at_nothing Unwritten n = tt
-looks_at_nothing Exhausted n = tt
+looks_at_nothing _ n = tt
 
 -- a fault of the views is none of what is read
 views_are_later : (fault : Fault) → IsOfViews fault → IsReadingFault (status_of_fault fault) → ⊥

@@ -1,5 +1,5 @@
 -- The names that a fault of a start says.
-use Rattle.std.proofs.Common.{◌≡◌, ◌∙◌, ℕ, zero, suc, List, [], ◌∷◌, map, get_or, Option, Some, option_map, refl, ap, sym}
+use Rattle.std.proofs.Common.{◌≡◌, ◌∙◌, ℕ, suc, List, [], ◌∷◌, map, get_or, Option, Some, option_map, refl, ap, sym}
 use Rattle.smk_base.specs.CatalogImage.{catalog_image, view_image}
 use Rattle.smk_base.specs.declared.book.catalog.Catalog.{Catalog}
 use Rattle.smk_base.specs.declared.fault.Fault.TheVariants.{ViewRows, ViewPairs}
@@ -11,9 +11,8 @@ use Rattle.smk_model.proofs.Places.{map_map}
 
 -- what is made of the member at a place, or of the one that stands for none
 mapped_at : {A B : Type 0} (f : A → B) (xs : List A) (i : ℕ) (d : A) → get_or (map f xs) i (f d) ≡ f (get_or xs i d)
-mapped_at f [] i d = refl
-mapped_at f (x ∷ xs) zero d = refl
 mapped_at f (x ∷ xs) (suc i) d = mapped_at f xs i d
+mapped_at f _ _ d = refl
 
 view_name : (catalog : Catalog) (v : ℕ) → get_or (map (λ view. view.name) catalog.views) v [] ≡ (view_at (catalog_image catalog) v).name
 view_name catalog v = ap (λ names. get_or names v []) (sym (map_map (λ view. view.name) view_image catalog.views)) ∙ mapped_at (λ view. view.name) (map view_image catalog.views) v no_view

@@ -1,20 +1,20 @@
 -- How a conversation starts and ends, by what its steps come to.
-use Rattle.std.proofs.Common.{append-nil, ◌≡◌, ◌≤◌, ◌+◌, ℕ, Bool, true, false, List, [], ◌∷◌, ◌++◌, Option, Some, None, Result, Ok, Err, refl, sym, ap, ◌∙◌, subst, arith, inl, inr, length}
+use Rattle.std.proofs.Common.{append-nil, ◌≡◌, ◌≤◌, ◌+◌, ℕ, Bool, List, [], Option, Some, None, Result, Ok, Err, refl, sym, ap, ◌∙◌, subst, arith, inl, inr, length}
 use Rattle.std.specs.Prelude.{◌⊎◌, option_map, cond}
 use Rattle.smk_base.specs.CatalogImage.{CatalogImage}
 use Rattle.smk_model.specs.NodeFaults.{NodeFault, FullRows, FullPairs}
 use Rattle.smk_base.specs.declared.fault.Fault.{Fault}
 use Rattle.smk_base.specs.declared.fault.Fault.TheVariants as faults
 use Rattle.smk_base.specs.declared.demo.TheConstants.{DEMO_BOOK_NAME}
-use Rattle.smk_model.specs.Conversation.{TalkState, TalkTurn, first_talk_state, opening_block, turns_told, talk_report, FitsTalk}
+use Rattle.smk_model.specs.Conversation.{first_talk_state, opening_block, turns_told, FitsTalk}
 use Rattle.smk_model.specs.Demo.{demo_of}
 use Rattle.smk_model.specs.Looks.{start_looks}
 use Rattle.smk_model.specs.Opening.{ViewFault, first_view_fault, fault_named}
-use Rattle.smk_model.specs.Outcome.{Held, Inputs, ReadsFiles, NamesAsked, UntoldCause, WhereTold, nothing_held, text_named}
-use Rattle.smk_model.specs.TalkStarts.{ReadsTalk, unusable, usable, StartsTalk, unreadable, read, read_unless, started, HasTalkCause, IsTalkStart, BringsBy, TalkBrings}
+use Rattle.smk_model.specs.Outcome.{Held, Inputs, ReadsFiles, UntoldCause, text_named}
+use Rattle.smk_model.specs.TalkStarts.{unusable, usable, unreadable, read, read_unless, started, HasTalkCause, IsTalkStart, BringsBy, TalkBrings}
 use Rattle.smk_model.specs.TalkWords.{TalkCall, talk_call_of, talk_source}
-use Rattle.smk_model.specs.Words.{TextSource, Files, Demo, Settings}
-use Rattle.smk_outside.specs.Conversing.{Conversation, Cause}
+use Rattle.smk_model.specs.Words.{Files, Demo, Settings}
+use Rattle.smk_outside.specs.Conversing.{Cause}
 use Rattle.smk_outside.specs.Outside.{Rose}
 use Rattle.smk_outside.specs.Told.{Told, Follow, AreFirst}
 use Rattle.smk_outside.specs.Saying.{Says}
@@ -43,7 +43,7 @@ use Rattle.smk_top.specs.Talking.{talk_rules, is_down, talk_at, Talked}
 use Rattle.smk_top.specs.Endings.{SaysMemory, SaysFault}
 use Rattle.smk_top.specs.declared.status.Status.{Status}
 use Rattle.smk_top.specs.declared.status.Status.TheVariants.{Done, DoneWithRefusals}
-use Rattle.smk_top.specs.TalkEndings.{ended, outlasted, unheard, unsaid, faulted, exhausted, unheard_unsaid, fault_unsaid, memory_unsaid, TalkEnds, ConverseEnds, SaysReady, SaysTalkFault, SaysEnding, SaysTalkEnd, said_by, Converses, report_by, IsTalkRead, IsSilent, is_called, ReadsBook, StartLooks, FailsToStart, TalksOver, Silent, BeginsTalk, TalksFor, TalkWorks}
+use Rattle.smk_top.specs.TalkEndings.{ended, outlasted, unheard, unsaid, faulted, exhausted, unheard_unsaid, fault_unsaid, memory_unsaid, TalkEnds, ConverseEnds, SaysTalkFault, SaysEnding, SaysTalkEnd, said_by, Converses, report_by, IsTalkRead, IsSilent, ReadsBook, StartLooks, FailsToStart, TalksOver, Silent, BeginsTalk, TalksFor, TalkWorks}
 
 -- a fault of a view has its cause, whatever files hold
 view_cause : (rose : Type 0) (catalog : CatalogImage) (found : ViewFault) → UntoldCause rose (fault_named catalog found)
@@ -263,14 +263,7 @@ module _ (words : List (List ℕ)) (held : Option Held) (files_rose talk_rose er
 -- a fault that isn't one of the words is said as by a run
 pub said_alike : (fault : Fault) (rose : Type 0) (before after : Option (List ℕ)) (status : Status) → (fault ≡ faults.Usage → ⊥) → SaysFault fault rose before after status → SaysTalkFault fault rose before after status
 said_alike faults.Usage rose before after status other said = absurd (other refl)
-said_alike (faults.Book fault) rose before after status other said = said
-said_alike (faults.Types fault) rose before after status other said = said
-said_alike (faults.Table name column fault) rose before after status other said = said
-said_alike (faults.FileLong file) rose before after status other said = said
-said_alike (faults.TableRows name) rose before after status other said = said
-said_alike (faults.ViewRows view node) rose before after status other said = said
-said_alike (faults.ViewPairs view node name) rose before after status other said = said
-said_alike (faults.Unread file) rose before after status other said = said
+said_alike _ rose before after status other said = said
 
 -- nothing was heard or said where a conversation doesn't start
 pub silent_of : (words : List (List ℕ)) (held : Option Held) (rose talk_rose : Type 0) (before after : Told) (looks_before looks_after : ℕ) (stop : Stop) → TalkWorks words held rose talk_rose before after looks_before looks_after (Err stop) → IsSilent words held before after looks_before looks_after

@@ -3,7 +3,7 @@ use Rattle.std.specs.Prelude.{◌≡◌, ◌⊎◌, ◌≤◌, ◌+◌, ⊤, ℕ
 use Rattle.smk_model.specs.Outcome.{Held, Inputs, ReadsInputs, WhereTold, run_looks}
 use Rattle.smk_model.specs.Words.{words_of}
 use Rattle.smk_inputs.specs.declared.stop.Stop.{Stop}
-use Rattle.smk_inputs.specs.declared.stop.Stop.TheVariants.{At, Unwritten, Exhausted}
+use Rattle.smk_inputs.specs.declared.stop.Stop.TheVariants.{At}
 use Rattle.smk_top.specs.Statuses.{IsReadingFault, status_of_fault}
 
 -- these inputs are those of the run
@@ -17,6 +17,4 @@ RunLooks words held before after = (after ≡ before) ⊎ ((given : Inputs) × I
 -- where a step stops by a fault of what is read, no look was made
 abbrev pub LooksBehindReading : {X : Type 0} → Result X Stop → ℕ → ℕ → Type 0
 LooksBehindReading (Err (At fault)) before after = IsReadingFault (status_of_fault fault) → after ≡ before
-LooksBehindReading (Err Unwritten) before after = ⊤
-LooksBehindReading (Err Exhausted) before after = ⊤
-LooksBehindReading (Ok x) before after = ⊤
+LooksBehindReading _ before after = ⊤

@@ -27,11 +27,8 @@ status_of_fault faults.Usage = Usage
 status_of_fault (faults.Book fault) = BadBook
 status_of_fault (faults.Types fault) = BadBook
 status_of_fault (faults.Table table column fault) = BadTable
-status_of_fault (faults.FileLong file) = Limit
-status_of_fault (faults.TableRows table) = Limit
-status_of_fault (faults.ViewRows view node) = Limit
-status_of_fault (faults.ViewPairs view node table) = Limit
 status_of_fault (faults.Unread file) = ReadFault
+status_of_fault _ = Limit
 
 -- the words, the book, a table or a file are at fault, which is met before any row is looked at
 abbrev pub IsReadingFault : Status → Type 0

@@ -141,10 +141,9 @@ SaysTalkFault fault rose before after status = SaysReady (talk_fault_text fault)
 
 -- what is said of an ending, and its status
 abbrev pub SaysEnding : Ending → Bool → Type 0 → Option (List ℕ) → Option (List ℕ) → Status → Type 0
-SaysEnding Ended down rose before after status = Appends before after [] × (status ≡ cond down DoneWithRefusals Done)
-SaysEnding Outlasted down rose before after status = Appends before after [] × (status ≡ cond down DoneWithRefusals Done)
 SaysEnding Unheard down rose before after status = SaysReady unheard_text ReadFault rose before after status
 SaysEnding Unsaid down rose before after status = Appends before after [] × (status ≡ WriteFault)
+SaysEnding _ down rose before after status = Appends before after [] × (status ≡ cond down DoneWithRefusals Done)
 
 abbrev pub SaysTalkEnd : TalkEnd → Type 0 → Option (List ℕ) → Option (List ℕ) → Status → Type 0
 SaysTalkEnd end rose before after status = SaysEnding end.ending end.down rose before after status

@@ -7,9 +7,8 @@ use Rattle.smk_inputs.specs.declared.stop.Stop.TheVariants.{At, Unwritten, Exhau
 -- the text was appended, or a part of it where `out` failed
 abbrev pub Puts : {X : Type 0} → List ℕ → Type 0 → Option (List ℕ) → Option (List ℕ) → Result X Stop → Type 0
 Puts text rose before after (Ok x) = Appends before after text
-Puts text rose before after (Err (At fault)) = ⊥
 Puts text rose before after (Err Unwritten) = AppendsPart before after text × rose
-Puts text rose before after (Err Exhausted) = ⊥
+Puts text rose before after (Err _) = ⊥
 
 -- the same for a text in pieces, between which memory may be wanting
 abbrev pub PutsPieces : {X : Type 0} → List ℕ → Type 0 → Option (List ℕ) → Option (List ℕ) → Result X Stop → Type 0

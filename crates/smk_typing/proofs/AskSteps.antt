@@ -10,13 +10,13 @@ use Rattle.smk_base.specs.declared.book.tree.AskStep.{AskStep}
 use Rattle.smk_base.specs.declared.book.type_fault.TypeFault.{TypeFault}
 use Rattle.smk_base.specs.PlanImage.{unary_of}
 use Rattle.smk_base.specs.Plans.{Expr, Leaf, Apply, Combine}
-use Rattle.smk_base.specs.Trees.{AskStepImage, StepImage, SelectNode, ProjectNode, DistinctNode, GroupNode, JoinNode, ThetaNode, ProductNode, UnionAllNode, UnionNode}
+use Rattle.smk_base.specs.Trees.{AskStepImage, StepImage, SelectNode, ProjectNode, DistinctNode, GroupNode}
 use Rattle.smk_base.specs.TreeImage.{ask_step_image}
 use Rattle.smk_base.specs.declared.book.limits.TheConstants.{NODE_LIMIT}
 use Rattle.smk_model.specs.Asks.{AskPlan, asked_plan, chain, scan_of, step_after, typed_steps}
 use Rattle.smk_model.specs.Catalogs.{each_table_kinds}
 use Rattle.smk_model.specs.Limits.{KeepsAskStep, KeepsStep}
-use Rattle.smk_model.specs.Names.{Typed, ◌>>=◌, in_turn, kinds_of}
+use Rattle.smk_model.specs.Names.{Typed, in_turn, kinds_of}
 use Rattle.smk_model.specs.Plain.{leaves}
 use Rattle.smk_model.specs.Selection.{PlanFits, leaf_kinds, nodes, plan_kinds}
 use Rattle.smk_model.specs.TypedSteps.{TypedPlan, typed_pred, typed_items, typed_group}
@@ -39,11 +39,7 @@ keeps_any (SelectNode pred) keeps = tt
 keeps_any (ProjectNode items) keeps = keeps
 keeps_any (DistinctNode items) keeps = keeps
 keeps_any (GroupNode keys aggs) keeps = tt
-keeps_any (JoinNode source pairs) keeps = absurd keeps
-keeps_any (ThetaNode source pred) keeps = absurd keeps
-keeps_any (ProductNode source) keeps = absurd keeps
-keeps_any (UnionAllNode source) keeps = absurd keeps
-keeps_any (UnionNode source) keeps = absurd keeps
+keeps_any _ keeps = absurd keeps
 
 pub step_keeps : (steps : List AskStep) (i : ℕ) (step : AskStep) → All Keeps (map ask_step_image steps) → i < length steps → step ≡ get_or steps i step → KeepsStep (ask_step_image step).what
 step_keeps steps i step all below here =
@@ -82,11 +78,7 @@ chained_more table (DistinctNode items) at n left typed keeps held e =
 chained_more table (GroupNode keys aggs) at n left typed keeps held e =
     let made = made_of (typed_group left.columns at keys aggs) _ typed e in
     record { stands = stepped_stands (table ∷ []) (GroupNode keys aggs) at n left typed tt held.stands e; chain = ok_keeps IsOne _ typed made.2 held.chain }
-chained_more table (JoinNode source pairs) at n left typed keeps held e = absurd keeps
-chained_more table (ThetaNode source pred) at n left typed keeps held e = absurd keeps
-chained_more table (ProductNode source) at n left typed keeps held e = absurd keeps
-chained_more table (UnionAllNode source) at n left typed keeps held e = absurd keeps
-chained_more table (UnionNode source) at n left typed keeps held e = absurd keeps
+chained_more table _ at n left typed keeps held e = absurd keeps
 
 chained_turn : (table : TableInfo) (n : ℕ) (start typed : TypedPlan) (steps : List AskStepImage) → Chained table n start → All Keeps steps → in_turn step_after start steps ≡ Ok typed → Chained table (n + length steps) typed
 chained_turn table n start typed [] held all e =

@@ -85,9 +85,8 @@ declared_base false = refl
 
 declared_fits : (text : Bool) (value : Value) → AreAlike (declared_kind text) (kind_of value) → IsInRange value → Fits (declared_kind text) value
 declared_fits true (values.Text bytes) alike range = tt
-declared_fits true (values.Int n) alike range = absurd alike
 declared_fits false (values.Int n) alike range = range
-declared_fits false (values.Text bytes) alike range = absurd alike
+declared_fits _ _ alike range = absurd alike
 
 column_stands : (decl : Decl) (def : Option Lit) (col : ColDecl) → DefaultInRange def → declared_column decl def ≡ Ok col → IsBaseColumn col
 column_stands decl None col range e =
