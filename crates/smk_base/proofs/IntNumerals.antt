@@ -1,12 +1,12 @@
 -- The number that an optional sign and digits write, and the int that bytes write.
-use Rattle.std.proofs.Common.{◌≡◌, ◌∙◌, ◌<◌, ◌≤◌, ◌+◌, ◌*◌, ℕ, Bool, true, false, cond, ◌&&◌, ◌==◌, List, [], ◌∷◌, ◌++◌, length, drop, ℤ, pos, negsuc, ◌^◌, nat_lt, refl, sym, ap, arith, true≢false, Option, Some, None, IfSome, IfNone}
+use Rattle.std.proofs.Common.{◌≡◌, ◌∙◌, ◌<◌, ◌≤◌, ◌+◌, ◌*◌, ℕ, true, false, cond, ◌&&◌, ◌==◌, List, [], ◌∷◌, ◌++◌, length, drop, ℤ, pos, negsuc, ◌^◌, nat_lt, refl, sym, ap, arith, true≢false, Option, Some, None, IfSome, IfNone}
 use Rattle.std.specs.List.{list_all}
 use Rattle.std.specs.Char.{is_ascii_digit, digit_value}
 use Rattle.std.specs.Str.{all_ascii_digits}
 use Rattle.std.specs.Str.Parse.{without_leading_sign, signed_digits_value, digits_value_after}
 use Rattle.std.specs.Int.{w64}
 use Rattle.std.specs.Int.RustNames.{FitsSigned}
-use Rattle.std.proofs.lemmas.Bool.{eqb-true, ltb-true, lt-ltb}
+use Rattle.std.proofs.lemmas.Bool.{eqb-true, ltb-true, lt-ltb, and_parts}
 use Rattle.std.proofs.lemmas.Bool.Decides.{nat_tests}
 use Rattle.smk_base.specs.Ints.{after_blanks, before_blanks, is_i64, is_numeral, numeral_int, int_of, IsIntText}
 use Rattle.smk_base.proofs.Blanks.{cases_on, is_solid, before_blanks-append, before_blanks-solid, after_blanks-append, after_blanks-solid, blanks_before, blanks_behind}
@@ -49,13 +49,9 @@ fits_i64 : (z : ℤ) → FitsSigned w64 z → is_i64 z ≡ true
 fits_i64 (pos n) h = lt-ltb n (2 ^ 63) h.sfits
 fits_i64 (negsuc n) h = lt-ltb n (2 ^ 63) h.sfits
 
-both : (a b : Bool) → (a && b) ≡ true → (a ≡ true) × (b ≡ true)
-both true b h = (refl, h)
-both false b h = absurd (true≢false (sym h))
-
 -- what is_numeral tests
 digits_of : (ds : List ℕ) → is_numeral ds ≡ true → (0 < length ds) × (all_ascii_digits ds ≡ true)
-digits_of ds h = let t = both (nat_lt 0 (length ds)) (all_ascii_digits ds) h in (ltb-true 0 (length ds) t.0, t.1)
+digits_of ds h = let t = and_parts (nat_lt 0 (length ds)) (all_ascii_digits ds) h in (ltb-true 0 (length ds) t.0, t.1)
 
 -- a number is at most what it and the digits behind it write
 pub le-digits_value_after : (n : ℕ) (ds : List ℕ) → n ≤ digits_value_after 10 n ds
@@ -67,7 +63,7 @@ numeral_int-some : (text : List ℕ) (n : ℤ) → numeral_int text ≡ Some n �
 numeral_int-some text n =
     cases_on (is_numeral (without_leading_sign text) && is_i64 (signed_digits_value 10 text))
     (λ b. cond b (Some (signed_digits_value 10 text)) None ≡ Some n → (is_numeral (without_leading_sign text) ≡ true) × (n ≡ signed_digits_value 10 text) × FitsSigned w64 n)
-    (λ t e. let u = both _ _ t in let same : n ≡ signed_digits_value 10 text = cc in (u.0, same, rw same (i64_fits _ u.1)))
+    (λ t e. let u = and_parts _ _ t in let same : n ≡ signed_digits_value 10 text = cc in (u.0, same, rw same (i64_fits _ u.1)))
     (λ _ e. absurd (let bad : None ≡ Some n = e in cc))
 
 -- the int of bytes is written by them

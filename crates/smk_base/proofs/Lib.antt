@@ -1,3 +1,4 @@
+pub mod Places
 pub mod RelRows
 pub mod Blanks
 pub mod IntNumerals

@@ -17,12 +17,12 @@ use Rattle.smk_model.specs.Plain.{row_eq, key_of, firsts, aggregate, grouped, nu
 use Rattle.smk_model.specs.Lineage.{row_at, sub}
 use Rattle.smk_model.specs.Kinds.{IsSummed, summed}
 use Rattle.smk_model.specs.Classes.{classes, first_places}
-use Rattle.smk_model.proofs.Places.{map_map, map_upto, map_upto_agree, same_below, places_below}
+use Rattle.smk_base.proofs.Places.{map_map, map_upto, map_upto_agree, same_below, places_below, few_places}
 use Rattle.smk_model.proofs.Firsts.{sub_key}
 use Rattle.smk_model.proofs.Classes.{classes_are, first_below}
 use Rattle.smk_body.specs.Halves.{AreNumbered, best_place, better, class_places, class_sizes}
 use Rattle.smk_body.proofs.Fitting.{value_fits, within_more, total_within, All-head, All-rest}
-use Rattle.smk_body.proofs.Folding.{length_places-le, int_at, best_of_class}
+use Rattle.smk_body.proofs.Folding.{int_at, best_of_class}
 use Rattle.smk_body.proofs.Classing.{first_at, length_firsts}
 
 -- the sizes of classes, as a column
@@ -51,7 +51,7 @@ int_is rows c numbers i e h = ap number_of (value_is rows c numbers i e h)
 pub ints_long : (rows : List Row) (c : ℕ) (numbers : List ℤ) → map values.Int numbers ≡ column_values c rows → length numbers ≡ length rows
 ints_long rows c numbers e = sym (length-map numbers values.Int) ∙ ap length e ∙ length-map rows (λ row. value_at row c)
 
-int_fits : (level : ℕ) (v : Value) → Fits (kinds.Int level) v → IsWithin level (number_of v)
+pub int_fits : (level : ℕ) (v : Value) → Fits (kinds.Int level) v → IsWithin level (number_of v)
 int_fits level (values.Int n) f = f
 int_fits level (values.Text t) f = absurd f
 
@@ -128,7 +128,7 @@ sums_within columns rows c level of n l k all few =
     total_within level (map (λ i. number_of (value_at (row_at rows i) c)) A)
     (All-map (IsWithin level) (λ i. number_of (value_at (row_at rows i) c)) A (All-weaker (λ i. i < length rows) (λ i. IsWithin level (number_of (value_at (row_at rows i) c)))
     (λ i low. int_fits level (value_at (row_at rows i) c) (subst (λ (z : Kind). Fits z (value_at (row_at rows i) c)) k (value_fits columns (row_at rows i) c (all i [] low) l))) A (places_below (λ j. nat_eq (get_or of j 0) p) (length rows))))
-    (rw length-map (omega (arith, few, length_places-le (λ j. nat_eq (get_or of j 0) p) (length rows)))))
+    (rw length-map (omega (arith, few, few_places (λ j. nat_eq (get_or of j 0) p) (length rows)))))
 
 -- the best rows of classes
 pub best_rows : (g : Bool) (rows : List Row) (c : ℕ) (classes : ClassesImage) → AreNumbered (length rows) classes

@@ -11,7 +11,7 @@ use Rattle.smk_base.specs.declared.value.Value.{Value}
 use Rattle.smk_base.specs.declared.value.Value.TheVariants as values
 use Rattle.smk_model.specs.Values.{Row, holds, meets, value_cmp}
 use Rattle.smk_model.specs.Lineage.{row_at}
-use Rattle.smk_model.proofs.Places.{same_below}
+use Rattle.smk_base.proofs.Places.{same_below}
 use Rattle.smk_body.specs.Halves.{ints_below, meeting_below}
 use Rattle.smk_body.proofs.Aggregating.{value_is}
 use Rattle.smk_body.proofs.Pairing.{meeting_right, meeting_none}

@@ -9,7 +9,7 @@ use Rattle.smk_model.specs.Plain.{firsts, is_join, joins, step1, step2}
 use Rattle.smk_model.specs.Values.{Row, meets}
 use Rattle.smk_model.proofs.Bulk.{bulk}
 use Rattle.smk_model.proofs.Classes.{first_keys}
-use Rattle.smk_model.proofs.Places.{at_places, map_upto}
+use Rattle.smk_base.proofs.Places.{at_places, map_upto}
 
 -- those of a selection
 pub rows_met : (formula : Formula) (L : List Row) → step1 (Selection formula) L ≡ rows_at L (meeting formula L)

@@ -1,5 +1,5 @@
 -- One value for each class, place by place.
-use Rattle.std.proofs.Common.{◌≡◌, ◌≢◌, ◌∙◌, ◌<◌, ◌≤◌, ◌+◌, ℕ, zero, suc, ℤ, pos, ◌+ℤ◌, FitsSigned, Bool, true, false, cond, List, [], ◌∷◌, ◌++◌, length, map, refl, sym, ap, arith, All, get_or, set, nat_eq, inl, inr, add-one}
+use Rattle.std.proofs.Common.{◌≡◌, ◌≢◌, ◌∙◌, ◌<◌, ◌≤◌, ◌+◌, ℕ, zero, suc, ℤ, pos, ◌+ℤ◌, FitsSigned, Bool, true, false, cond, List, [], ◌∷◌, ◌++◌, length, map, refl, sym, ap, arith, All, get_or, set, nat_eq, inl, inr}
 use Rattle.std.proofs.Math.ListN.{replicate}
 use Rattle.std.specs.List.{fold}
 use Rattle.std.specs.Int.{w128}
@@ -13,17 +13,13 @@ use Rattle.smk_base.specs.Places.{upto, places, has}
 use Rattle.smk_base.specs.Rels.{IsWithin}
 use Rattle.smk_model.specs.Plain.{total, combined}
 use Rattle.smk_model.specs.Locals.{singles}
-use Rattle.smk_model.proofs.Places.{get_or_map_upto, map_upto_agree, places_below, same_below, places_false, upto_below}
+use Rattle.smk_base.proofs.Places.{get_or_map_upto, map_upto_agree, places_below, same_below, places_false, upto_below, places_more, few_places}
 use Rattle.smk_model.proofs.Directions.{length_each}
 use Rattle.smk_body.proofs.Fitting.{total_within}
 use Rattle.smk_body.proofs.Turning.{single_at}
 use Rattle.smk_keys.specs.Classes.{ClassesImage}
 use Rattle.smk_rid.specs.Maps.{size_of, sizes_of}
 use Rattle.smk_body.specs.Halves.{AreNumbered, class_places, better, improves_on, best_place, bests_of}
-
--- one more place
-pub places_more : (t : ℕ → Bool) (n : ℕ) → places t (n + 1) ≡ places t n ++ cond (t n) (n ∷ []) []
-places_more t n = rw add-one (filter-append t (upto n) (n ∷ []))
 
 -- a change at one place of a value for each number
 pub changed_one : {X : Type 0} (F G : ℕ → X) (n k : ℕ) (x : X) → k < n → x ≡ G k → ((p : ℕ) → p ≢ k → G p ≡ F p) → set (map F (upto n)) k x ≡ map G (upto n)
@@ -50,14 +46,6 @@ pub constant : {X : Type 0} (x : X) (n : ℕ) → replicate n x ≡ map (λ p. x
 constant x n = same_lists (replicate n x) (map (λ p. x) (upto n)) (length-replicate n x ∙ sym (length_each (λ p. x) n)) (λ p d h.
     let low : p < n = omega (arith, h, length-replicate n x) in
     get_or-replicate n p x d low ∙ sym (get_or_map_upto (λ p. x) n p d low))
-
--- a test passes at no more places than there are
-pub length_places-le : (t : ℕ → Bool) (n : ℕ) → length (places t n) ≤ n
-length_places-le t zero = omega arith
-length_places-le t (suc n) =
-    let e : places t (suc n) ≡ places t n ++ cond (t n) (n ∷ []) [] = filter-append t (upto n) (n ∷ []) in
-    let le = length_places-le t n in
-    rw e (elim (cases_Bool (t n)) [ inl p ↦ rw p (omega (arith, length_push (places t n) n)) | inr p ↦ rw (p, append-nil (places t n)) (omega arith) ])
 
 -- counts, from the sizes of turned lists
 
@@ -116,7 +104,7 @@ sum_step numbers of n i S a b long few all below h e ea eb =
     let old : a ≡ sum_over numbers A = ea ∙ ap (λ z. get_or z p a) e ∙ get_or_map_upto (λ p. sum_over numbers (class_places of i p)) n p a low in
     let more : b ≡ int_at numbers i = get_or_read numbers i b here eb (pos 0) in
     let new : a +ℤ b ≡ sum_over numbers (A ++ i ∷ []) = ap (λ z. z +ℤ b) old ∙ ap (λ z. sum_over numbers A +ℤ z) more ∙ sym (sum_more numbers A i) in
-    let short : length A ≤ i = length_places-le (λ j. nat_eq (get_or of j 0) p) i in
+    let short : length A ≤ i = few_places (λ j. nat_eq (get_or of j 0) p) i in
     let lows : All (λ j. j < length numbers) (A ++ i ∷ []) = All-push (λ j. j < length numbers) A i (class_low of i p (length numbers) (omega arith)) here in
     record {
       old_fits = rw old (fits_128 (sum_over numbers A) (sum_within 2 numbers A all (class_low of i p (length numbers) (omega arith)) (omega arith)));

@@ -15,7 +15,7 @@ use Rattle.smk_model.specs.Values.{Row}
 use Rattle.smk_model.specs.Plain.{aggregate, firsts, grouped, key_of}
 use Rattle.smk_model.specs.Lineage.{row_at, sub}
 use Rattle.smk_model.specs.Kinds.{AggFits}
-use Rattle.smk_model.proofs.Places.{length_upto, map_map, map_upto, upto_below}
+use Rattle.smk_base.proofs.Places.{length_upto, map_map, map_upto, upto_below}
 use Rattle.smk_model.proofs.Bulk.{bulk}
 use Rattle.smk_model.proofs.Directions.{length_each}
 use Rattle.smk_body.specs.Halves.{AreNumbered, class_places}
@@ -130,8 +130,9 @@ rows_few rel places cols low high left right e few l r =
 -- no aggregate is no column
 none_each : {X Y : Type 0} (xs : List X) (ys : List Y) → length xs ≡ length ys → map (λ (x : X). let row : Row = [] in row) xs ≡ map (λ (y : Y). let row : Row = [] in row) ys
 none_each [] [] e = refl
+none_each [] (y ∷ ys) e = absurd (omega (arith, e))
+none_each (x ∷ xs) [] e = absurd (omega (arith, e))
 none_each (x ∷ xs) (y ∷ ys) e = ap (λ (rows : List Row). (let row : Row = [] in row) ∷ rows) (none_each xs ys (omega (arith, e)))
-none_each _ _ e = absurd (omega (arith, e))
 
 pub no_aggregates : (rel : Relation) (classes : ClassesImage) (places : List ℕ) (aggs : List Agg) → places ≡ classes.firsts → aggs ≡ [] → columns_of rel places [] ≡ aggregates_of rel classes aggs
 no_aggregates rel classes places aggs e none = rw (e, none) (related refl (none_each (rows_at rel.rows classes.firsts) (upto (length classes.firsts)) (length-map classes.firsts (row_in rel.rows) ∙ sym (length_upto (length classes.firsts)))))

@@ -13,7 +13,7 @@ use Rattle.smk_model.specs.Plain.{firsts}
 use Rattle.smk_model.specs.Locals.{singles}
 use Rattle.smk_model.specs.Classes.{places_in, classes}
 use Rattle.smk_model.specs.DirectionLaws.{HasSources, HasTargets}
-use Rattle.smk_model.proofs.Places.{get_or_map_upto}
+use Rattle.smk_base.proofs.Places.{get_or_map_upto}
 use Rattle.smk_model.proofs.OneEach.{one_each}
 use Rattle.smk_model.proofs.Directions.{length_each}
 use Rattle.smk_model.proofs.Parts.{map_agree}

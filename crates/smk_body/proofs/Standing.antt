@@ -11,7 +11,7 @@ use Rattle.smk_model.specs.Plain.{image, is_join, joins, key_of, step2}
 use Rattle.smk_model.specs.Values.{Row, meets}
 use Rattle.smk_model.proofs.CuiWidom.{length_selected}
 use Rattle.smk_model.proofs.OneEach.{one_each}
-use Rattle.smk_model.proofs.Places.{places_are, places_below}
+use Rattle.smk_base.proofs.Places.{places_are, places_below}
 use Rattle.smk_model.proofs.Sizes.{adds_no_rows}
 use Rattle.smk_body.proofs.Classing.{are_numbered, length_firsts}
 use Rattle.smk_body.proofs.Pairing.{length_joined, length_lefts}

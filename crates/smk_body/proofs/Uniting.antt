@@ -1,7 +1,7 @@
 -- The rows of both sides of a union.
 use Rattle.std.proofs.Common.{◌≡◌, ◌∙◌, ◌<◌, ◌≤◌, ◌+◌, ◌-◌, ℕ, List, [], ◌∷◌, ◌++◌, length, map, take, drop, not, refl, sym, ap, subst, arith, All, get_or, inl, inr}
 use Rattle.std.specs.List.{AllZip, AllPairs, list_any}
-use Rattle.std.proofs.lemmas.List.{map-append, length-append, get_or_append_left, get_or-append_right, get_or_default, get_or-drop, length-drop, take-append-drop}
+use Rattle.std.proofs.lemmas.List.{map-append, length-append, get_or-append_right, get_or_default, get_or-drop, length-drop, take-append-drop}
 use Rattle.std.proofs.lemmas.Bool.{cases_eq}
 use Rattle.std.proofs.lemmas.List.Elements.{All-weaker, All-map, All-drop}
 use Rattle.std.proofs.lemmas.Slice.Zip.{AllZip-long}
@@ -14,8 +14,8 @@ use Rattle.smk_model.specs.Kinds.{AreAlike, wider_kinds}
 use Rattle.smk_model.specs.Plain.{row_eq}
 use Rattle.smk_model.specs.Lineage.{places, row_at, sub}
 use Rattle.smk_model.specs.Classes.{first_places}
-use Rattle.smk_model.proofs.Places.{places_are}
-use Rattle.smk_model.proofs.Bulk.{bulk}
+use Rattle.smk_base.proofs.Places.{places_are}
+use Rattle.smk_model.proofs.Bulk.{bulk, sub_left}
 use Rattle.smk_model.proofs.Classes.{classes_are}
 use Rattle.smk_rid.proofs.Sets.{set_rises}
 use Rattle.smk_body.proofs.Fitting.{All-head, All-rest}
@@ -34,11 +34,6 @@ right_wider (k ∷ ls) [] h = absurd h
 right_wider (kinds.Int a ∷ ls) (kinds.Int b ∷ rs) h = (omega arith, right_wider ls rs h.1)
 right_wider (kinds.Text ∷ ls) (kinds.Text ∷ rs) h = (tt, right_wider ls rs h.1)
 right_wider _ _ h = absurd h.0
-
--- the rows at places on the left, and on the right
-sub_left : (L R : List Row) (A : List ℕ) → All (λ i. i < length L) A → sub (L ++ R) A ≡ sub L A
-sub_left L R [] low = refl
-sub_left L R (i ∷ A) low = rw (get_or_append_left L R [] i (All-head (λ i. i < length L) i A low), sub_left L R A (All-rest (λ i. i < length L) i A low)) refl
 
 sub_right : (L R : List Row) (A : List ℕ) → All (λ i. length L ≤ i) A → sub (L ++ R) A ≡ sub R (map (λ i. i - length L) A)
 sub_right L R [] high = refl

@@ -1,6 +1,5 @@
 -- The columns of groups that are put together.
 use Rattle.std.proofs.Common.{◌≡◌, ◌∙◌, ℕ, zero, suc, ℤ, pos, ◌+◌, ◌<◌, ◌≤◌, List, [], ◌∷◌, ◌++◌, length, map, take, refl, sym, ap, subst, arith, All, get_or}
-use Rattle.std.specs.List.{AllZip}
 use Rattle.std.proofs.lemmas.List.{length-map, get_or-map, take_more}
 use Rattle.std.proofs.lemmas.List.Elements.{All-map, All-weaker}
 use Rattle.smk_base.specs.declared.value.Value.{Value}
@@ -11,12 +10,12 @@ use Rattle.smk_base.specs.declared.book.plan.Agg.{Agg}
 use Rattle.smk_base.specs.declared.book.plan.Agg.TheVariants.{Count, Sum}
 use Rattle.smk_base.specs.Places.{upto}
 use Rattle.smk_base.specs.Plans.{Grouping}
-use Rattle.smk_base.specs.Rels.{Fits, RowFits, IsWithin, IsWider, kind_in}
+use Rattle.smk_base.specs.Rels.{Fits, RowFits, IsWithin, kind_in}
 use Rattle.smk_keys.specs.Classes.{ClassesImage, classes_of}
 use Rattle.smk_model.specs.Values.{Row, value_at}
 use Rattle.smk_model.specs.Plain.{key_of, aggregate, step1, number_of, total}
 use Rattle.smk_model.specs.Lineage.{row_at, sub}
-use Rattle.smk_model.proofs.Places.{map_map, upto_below}
+use Rattle.smk_base.proofs.Places.{map_map, upto_below}
 use Rattle.smk_body.specs.Halves.{class_places}
 use Rattle.smk_body.proofs.Aggregating.{groups_are}
 use Rattle.smk_body.proofs.Fitting.{value_fits}
@@ -94,12 +93,3 @@ first_kinds K (suc k) h =
 -- the first columns are there
 pub keys_below : (keys : List ℕ) (n : ℕ) → keys ≡ upto (length keys) → length keys ≤ n → All (λ c. c < n) keys
 keys_below keys n is low = subst (All (λ c. c < n)) (sym is) (All-weaker (λ c. c < length keys) (λ c. c < n) (λ c h. omega arith) (upto (length keys)) (upto_below (length keys)))
-
--- kinds are wide enough for themselves
-wide : (k : Kind) → IsWider k k
-wide (kinds.Int level) = omega arith
-wide kinds.Text = tt
-
-pub same_wider : (K : List Kind) → AllZip IsWider K K
-same_wider [] = tt
-same_wider (k ∷ ks) = (wide k, same_wider ks)

@@ -26,13 +26,14 @@ use Rattle.smk_model.specs.Lineage.{row_at}
 use Rattle.smk_model.specs.Classes.{first_places}
 use Rattle.smk_model.specs.Composed.{table_at, rows_over}
 use Rattle.smk_model.specs.LineageLaws.{selected_table}
-use Rattle.smk_model.proofs.Places.{map_map}
+use Rattle.smk_base.proofs.Places.{map_map}
 use Rattle.smk_model.proofs.Firsts.{holds, holds_at, key_there}
 use Rattle.smk_model.proofs.Classes.{first_below}
 use Rattle.smk_model.proofs.Comes.{rows_in, rows_whole}
 use Rattle.smk_model.specs.Growth.{is_growing}
 use Rattle.smk_model.proofs.Regroups.{of_key, group_rows}
 use Rattle.smk_model.proofs.Thin.{below, few_rows}
+use Rattle.smk_body.proofs.Aggregating.{int_fits}
 
 -- values that are made each from one thing
 made_fits : {X : Type 0} (f : X → Kind) (g : X → Value) (xs : List X) → All (λ x. Fits (f x) (g x)) xs → RowFits (map f xs) (map g xs)
@@ -55,14 +56,10 @@ item_fits ks row r (Bin c w) f = bin_fits (kind_in ks c) (value_at row c) w (val
 
 -- aggregates of rows that fit
 
-int_within : (level : ℕ) (v : Value) → Fits (kinds.Int level) v → IsWithin level (number_of v)
-int_within level (values.Int n) f = f
-int_within level (values.Text t) f = absurd f
-
 sum_fits : (k : Kind) (vs : List Value) → IsSummed k → All (Fits k) vs → length vs ≤ ROW_LIMIT → Fits (summed k) (values.Int (total (map number_of vs)))
 sum_fits (kinds.Int level) vs s all few =
     let e : level + 1 ≡ suc level = omega arith in
-    rw e (total_within level (map number_of vs) (All-map (IsWithin level) number_of vs (λ i d l. int_within level (get_or vs i d) (all i d l))) (omega (arith, length-map vs number_of, few)))
+    rw e (total_within level (map number_of vs) (All-map (IsWithin level) number_of vs (λ i d l. int_fits level (get_or vs i d) (all i d l))) (omega (arith, length-map vs number_of, few)))
 sum_fits kinds.Text vs s all few = absurd s
 
 best_fits : (k : Kind) (f : Value → Value → Value) → ((a b : Value) → Fits k a → Fits k b → Fits k (f a b)) → (v : Value) (vs : List Value) → Fits k v → All (Fits k) vs → Fits k (fold f v vs)

@@ -15,7 +15,7 @@ use Rattle.smk_model.specs.Classes.{classes}
 use Rattle.smk_model.specs.LineageLaws.{selected_table}
 use Rattle.smk_model.specs.DirectionLaws.{HasTargets}
 use Rattle.smk_model.specs.Selection.{ScansFit}
-use Rattle.smk_model.proofs.Places.{map_map, map_upto, map_upto_agree}
+use Rattle.smk_base.proofs.Places.{map_map, map_upto, map_upto_agree}
 use Rattle.smk_model.proofs.Composed.{lists_stand}
 use Rattle.smk_model.proofs.Counts.{pairs_forward}
 use Rattle.smk_model.proofs.OneEach.{one_each}

@@ -19,14 +19,16 @@ more_heavy m n le h = grind (arith, le, h)
 
 -- a chain that has too many pairs has too many joined
 pub left_heavy : (a b y : Option Lists) → is_heavy (chained a b) ≡ true → is_heavy (joined (chained a b) y) ≡ true
+left_heavy None b y h = absurd (cc)
+left_heavy (Some a) None y h = absurd (cc)
 left_heavy (Some a) (Some b) None h = h
 left_heavy (Some a) (Some b) (Some y) h = more_heavy (pairs_of (composed a b).lists) (pairs_of (merged (composed a b) y).lists) (merged_has_both.left (composed a b) y (composed_sets a b)) h
-left_heavy _ _ y h = absurd (cc)
 
 pub right_heavy : (x a b : Option Lists) → Joins x (chained a b) → is_heavy (chained a b) ≡ true → is_heavy (joined x (chained a b)) ≡ true
+right_heavy x None b joins h = absurd (cc)
+right_heavy x (Some a) None joins h = absurd (cc)
 right_heavy None (Some a) (Some b) joins h = h
 right_heavy (Some x) (Some a) (Some b) joins h = more_heavy (pairs_of (composed a b).lists) (pairs_of (merged x (composed a b)).lists) (merged_has_both.right x (composed a b) (sym joins.0) (sym joins.1) (composed_sets a b)) h
-right_heavy x _ _ joins h = absurd (cc)
 
 -- the maps of a table that have too many pairs by one input have too many by both
 pub left_heavy_maps : (ls : Side) (l r : KeptMap) → has_heavy (through ls l) ≡ true → has_heavy (joined_maps (through ls l) r) ≡ true

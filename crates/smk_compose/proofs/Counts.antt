@@ -9,7 +9,7 @@ use Rattle.smk_model.specs.Values.{Row}
 use Rattle.smk_model.specs.Plain.{leaves, eval}
 use Rattle.smk_model.specs.Annotated.{pairs, relates}
 use Rattle.smk_model.specs.Composed.{table_at, rows_over, backs}
-use Rattle.smk_model.proofs.Places.{same_below}
+use Rattle.smk_base.proofs.Places.{same_below}
 use Rattle.smk_model.proofs.Comes.{rows_in, comes, IsPart, rows_part, reaches_part}
 use Rattle.smk_model.proofs.Composed.{sum_by_map, backs_by, lists_stand}
 

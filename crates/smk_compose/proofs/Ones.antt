@@ -9,7 +9,7 @@ use Rattle.smk_model.specs.Plain.{step1, leaves}
 use Rattle.smk_model.specs.Lineage.{places, from1}
 use Rattle.smk_model.specs.Locals.{back1, fwd1}
 use Rattle.smk_model.specs.Composed.{rows_over, backs, forwards}
-use Rattle.smk_model.proofs.Places.{map_map, length_upto}
+use Rattle.smk_base.proofs.Places.{map_map, length_upto}
 use Rattle.smk_model.proofs.Composed.{backs_compose, forwards_compose, lists_stand}
 use Rattle.smk_body.specs.Locals.{wanted}
 use Rattle.smk_compose.specs.KeptMaps.{held_at}

@@ -5,7 +5,7 @@ use Rattle.std.proofs.lemmas.List.Elements.{All-get_or}
 use Rattle.smk_base.specs.Places.{Lists, IsPlaces, upto, has, list_at, own_lists, members_at, composed}
 use Rattle.smk_rid.specs.Maps.{IsMap}
 use Rattle.smk_rid.proofs.Sets.{is_below}
-use Rattle.smk_model.proofs.Places.{map_map, map_upto, map_upto_agree, same_below, get_or_map_upto}
+use Rattle.smk_base.proofs.Places.{map_map, map_upto, map_upto_agree, same_below, get_or_map_upto}
 use Rattle.smk_model.proofs.Anys.{any_below, or_false}
 use Rattle.smk_compose.proofs.Wants.{map_agree, lists_same}
 

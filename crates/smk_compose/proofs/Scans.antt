@@ -18,7 +18,9 @@ use Rattle.smk_compose.proofs.Wants.{mk_same, map_agree}
 
 wanted_scan : (e d : Bool) (X Y : Lists) → (e ≡ true → X ≡ Y) → wanted (e && d) X ≡ wanted (d && (e || false)) Y
 wanted_scan true true X Y h = ap Some (h refl)
-wanted_scan _ _ X Y h = refl
+wanted_scan true false X Y h = refl
+wanted_scan false true X Y h = refl
+wanted_scan false false X Y h = refl
 
 scan_is : (table : ℕ) (tables : List (List Row)) (n : Needed) → scan_at table (length (table_at tables table)) n ≡ held_at (Leaf table) tables n
 scan_is table tables n = mk_same refl

@@ -20,9 +20,10 @@ together_long ls rs (l ∷ lefts) [] long = absurd (omega arith)
 together_long ls rs (l ∷ lefts) (r ∷ rights) long = let e : length lefts ≡ length rights = omega arith in omega (arith, together_long ls rs lefts rights e)
 
 pub together_at : (ls rs : Side) (lefts rights : List KeptMap) (i : ℕ) (d : KeptMap) → length lefts ≡ length rights → i < length lefts → get_or (together_all ls rs lefts rights) i d ≡ together ls rs (map_at lefts i) (map_at rights i)
+together_at ls rs [] rights i d long low = absurd (omega arith)
+together_at ls rs (l ∷ lefts) [] i d long low = absurd (omega arith)
 together_at ls rs (l ∷ lefts) (r ∷ rights) zero d long low = refl
 together_at ls rs (l ∷ lefts) (r ∷ rights) (suc i) d long low = together_at ls rs lefts rights i d (omega arith) (omega arith)
-together_at ls rs _ _ i d long low = absurd (omega arith)
 
 pub together_agree : (ls rs ms ns : Side) (lefts rights : List KeptMap)
     → ((i : ℕ) → i < length lefts → i < length rights → together ls rs (map_at lefts i) (map_at rights i) ≡ together ms ns (map_at lefts i) (map_at rights i))

@@ -9,7 +9,7 @@ use Rattle.smk_model.specs.Plain.{step2, leaves}
 use Rattle.smk_model.specs.Lineage.{from_left, from_right}
 use Rattle.smk_model.specs.Locals.{back_left, fwd_left, back_right, fwd_right}
 use Rattle.smk_model.specs.Composed.{table_at, rows_over, backs, forwards}
-use Rattle.smk_model.proofs.Places.{length_upto}
+use Rattle.smk_base.proofs.Places.{length_upto}
 use Rattle.smk_model.proofs.Composed.{backs_compose, forwards_compose, lists_stand}
 use Rattle.smk_body.specs.Locals.{wanted}
 use Rattle.smk_compose.specs.KeptMaps.{held_at}

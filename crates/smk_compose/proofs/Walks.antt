@@ -20,7 +20,7 @@ use Rattle.smk_compose.specs.KeptMaps.{held_at}
 use Rattle.smk_compose.specs.Through.{through, together_all, side1, side_left, side_right, Passes, Meets, map_at, has_heavy, node_fault, scan_at, IsFirst}
 use Rattle.smk_compose.specs.Walk.{AreDirected, WholeWhereNeeded, IsWalked}
 use Rattle.smk_compose.specs.declared.fault.RunFault.{RunFault}
-use Rattle.smk_compose.specs.declared.fault.RunFault.TheVariants.{NoMemory}
+use Rattle.smk_compose.specs.declared.fault.RunFault.TheVariants.{NoMemory, Rows, Pairs}
 use Rattle.smk_compose.specs.declared.kept_maps.KeptMap.{KeptMap}
 use Rattle.smk_compose.specs.declared.kept_maps.Walked.{Walked}
 use Rattle.smk_compose.proofs.Bridge.{whole_left, whole_right, rows_same, fault_same}
@@ -261,8 +261,9 @@ grouped_fault ps ks gs a b L M tables need n m k l r w all whole are number faul
 -- the first fault of an input is that of the plan, where there is none before it
 pub first_of_right : (e : RunFault) (o last : Option NodeFault) → IsFirst e o → IsFirst e (option_or o last)
 first_of_right e (Some x) last first = first
+first_of_right (Rows node) None last first = absurd (cc first)
+first_of_right (Pairs node table) None last first = absurd (cc first)
 first_of_right NoMemory None last first = tt
-first_of_right _ None last first = absurd (cc first)
 
 -- a whole plan
 

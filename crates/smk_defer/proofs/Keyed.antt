@@ -14,7 +14,7 @@ use Rattle.smk_model.specs.Values.{Row}
 use Rattle.smk_model.specs.Plain.{row_eq, key_of, add_first, firsts}
 use Rattle.smk_model.specs.Lineage.{row_at}
 use Rattle.smk_model.specs.Classes.{places_in, classes, first_places}
-use Rattle.smk_model.proofs.Places.{map_upto}
+use Rattle.smk_base.proofs.Places.{map_upto}
 use Rattle.smk_model.proofs.Firsts.{row_same, row_is, holds, holds_at, fold_append, add_firsts}
 use Rattle.smk_model.proofs.Classes.{place_in, found_below, found_at, same_place, first_below, classes_are}
 use Rattle.smk_model.proofs.Bulk.{bulk}

@@ -1,5 +1,5 @@
 -- That a step fits the kinds of its inputs has one proof at most, so what is kept tells it.
-use Rattle.std.proofs.Common.{List, ◌∷◌, Option, Some, None}
+use Rattle.std.proofs.Common.{List, ◌∷◌, Option, Some, None, []}
 use Rattle.std.proofs.Math.Dec.{T_prop}
 use Rattle.std.proofs.Math.Logic.{∥∥₁_elim}
 use Rattle.std.proofs.Props.{props}
@@ -11,8 +11,8 @@ use Rattle.smk_base.specs.declared.book.plan.Operand.TheVariants as operands
 use Rattle.smk_base.specs.declared.book.plan.Item.{Item}
 use Rattle.smk_base.specs.declared.book.plan.Item.TheVariants as items
 use Rattle.smk_base.specs.declared.book.plan.Agg.{Agg}
-use Rattle.smk_base.specs.declared.book.plan.Agg.TheVariants.{Sum}
-use Rattle.smk_base.specs.Plans.{Formula, Comparison, Conjunction, Disjunction, Negation, Unary, Selection, Grouping, Binary, Equijoin, ThetaJoin, CrossProduct}
+use Rattle.smk_base.specs.declared.book.plan.Agg.TheVariants.{Sum, Count, Min, Max}
+use Rattle.smk_base.specs.Plans.{Formula, Comparison, Conjunction, Disjunction, Negation, Unary, Selection, Grouping, Binary, Equijoin, ThetaJoin, CrossProduct, Projection, Distinction}
 use Rattle.smk_base.specs.declared.book.plan.Op1.{Op1}
 use Rattle.smk_base.specs.declared.book.plan.Op2.{Op2}
 use Rattle.smk_base.specs.PlanImage.{unary_of, binary_of}
@@ -38,8 +38,10 @@ item_prop kinds (items.Col c) = hlevel props
 item_prop kinds (items.Bin c w) = hlevel (int_prop, props)
 
 agg_prop : (kinds : List Kind) (agg : Agg) → IsProp (AggFits kinds agg)
+agg_prop kinds Count = hlevel props
 agg_prop kinds (Sum c) = hlevel (summed_prop, props)
-agg_prop kinds _ = hlevel props
+agg_prop kinds (Min c) = hlevel props
+agg_prop kinds (Max c) = hlevel props
 
 formula_prop : (kinds : List Kind) (formula : Formula) → IsProp (FormulaFits kinds formula)
 formula_prop kinds (Comparison c op (operands.Col d)) = hlevel (alike_prop, props)
@@ -49,13 +51,16 @@ formula_prop kinds (Disjunction a b) = ×_prop (formula_prop kinds a) (formula_p
 formula_prop kinds (Negation a) = formula_prop kinds a
 
 each_alike_prop : (ls rs : List Kind) → IsProp (AllZip AreAlike ls rs)
+each_alike_prop [] [] = hlevel props
+each_alike_prop [] (r ∷ rs) = hlevel props
+each_alike_prop (l ∷ ls) [] = hlevel props
 each_alike_prop (l ∷ ls) (r ∷ rs) = ×_prop (alike_prop l r) (each_alike_prop ls rs)
-each_alike_prop _ _ = hlevel props
 
 pub fits1_prop : (op : Unary) (kinds : List Kind) → IsProp (Fits1 op kinds)
 fits1_prop (Selection formula) kinds = formula_prop kinds formula
+fits1_prop (Projection items) kinds = hlevel (item_prop, props)
+fits1_prop (Distinction items) kinds = hlevel (item_prop, props)
 fits1_prop (Grouping keys aggs) kinds = hlevel (agg_prop, props)
-fits1_prop _ kinds = hlevel (item_prop, props)
 
 pub fits2_prop : (op : Binary) (ls rs : List Kind) → IsProp (Fits2 op ls rs)
 fits2_prop (Equijoin pairs) ls rs = hlevel (alike_prop, props)

@@ -8,7 +8,7 @@ use Rattle.smk_base.specs.declared.book.catalog.Catalog.{Catalog}
 use Rattle.smk_model.specs.Catalogs.{each_table_kinds}
 use Rattle.smk_model.specs.Selection.{each_kinds}
 use Rattle.smk_model.specs.Session.{Workbook}
-use Rattle.smk_model.proofs.Places.{get_or_map_upto, length_upto}
+use Rattle.smk_base.proofs.Places.{get_or_map_upto, length_upto}
 use Rattle.smk_compose.specs.declared.kept_maps.Run.{Run}
 use Rattle.smk_session.specs.Making.{AreNow, newer}
 use Rattle.smk_session.specs.Sessions.{workbook_image}

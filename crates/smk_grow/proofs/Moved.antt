@@ -10,7 +10,7 @@ use Rattle.smk_model.specs.Appends.{scans}
 use Rattle.smk_model.specs.Plain.{table_at}
 use Rattle.smk_model.specs.Selection.{each_rows}
 use Rattle.smk_model.specs.Values.{Row}
-use Rattle.smk_model.proofs.Places.{get_or_map_upto, length_upto, map_upto_agree}
+use Rattle.smk_base.proofs.Places.{get_or_map_upto, length_upto, map_upto_agree}
 use Rattle.smk_compose.specs.declared.kept_maps.Run.{Run}
 use Rattle.smk_session.specs.Sessions.{opened, opened_views, workbook_image}
 use Rattle.smk_grow.specs.Grown.{rows_of, first_tables, longer_tables}

@@ -1,6 +1,6 @@
 -- What a view is over a longer table.
-use Rattle.std.proofs.Common.{◌≡◌, ℕ, ◌≤◌, Bool, true, false, ◌&&◌, List, [], ◌∷◌, length, map, refl, ap, sym, ◌∙◌, subst, arith, nat_eq, Option, None, option_map, inl, inr}
-use Rattle.std.proofs.lemmas.Bool.{cases_Bool, eqb-true, false≢true}
+use Rattle.std.proofs.Common.{◌≡◌, ℕ, ◌≤◌, Bool, true, false, List, [], ◌∷◌, length, map, refl, ap, sym, ◌∙◌, subst, arith, nat_eq, Option, None, option_map, inl, inr}
+use Rattle.std.proofs.lemmas.Bool.{cases_Bool, eqb-true, and_parts}
 use Rattle.smk_base.specs.CatalogImage.{CatalogImage}
 use Rattle.smk_base.specs.Places.{Lists, empty_lists, has}
 use Rattle.smk_base.specs.Plans.{Expr}
@@ -20,7 +20,7 @@ use Rattle.smk_model.specs.Values.{Row}
 use Rattle.smk_model.specs.Workload.{needs}
 use Rattle.smk_model.proofs.Composed.{lists_stand}
 use Rattle.smk_model.proofs.NeverFull.{growing_never_full}
-use Rattle.smk_model.proofs.Places.{has_single}
+use Rattle.smk_base.proofs.Places.{has_single}
 use Rattle.smk_model.proofs.Thin.{growing_is_thin}
 use Rattle.smk_model.proofs.Unscanned.{unscanned_stays}
 use Rattle.smk_body.specs.Locals.{wanted}
@@ -104,15 +104,11 @@ moved_is catalog t v size A B same none is =
 
 -- a growing chain: it scans the table alone, and is never too big
 
-both : (a b : Bool) → (a && b) ≡ true → (a ≡ true) × (b ≡ true)
-both true true h = (refl, refl)
-both _ _ h = absurd (false≢true h)
-
 pub chains_scan : (catalog : CatalogImage) (t v : ℕ) → chains catalog t v ≡ true → scans catalog t v ≡ true
-chains_scan catalog t v h = (both (scans catalog t v) (is_growing (view_at catalog v).plan) h).0
+chains_scan catalog t v h = (and_parts (scans catalog t v) (is_growing (view_at catalog v).plan) h).0
 
 pub chains_grow : (catalog : CatalogImage) (t v : ℕ) → chains catalog t v ≡ true → is_growing (view_at catalog v).plan ≡ true
-chains_grow catalog t v h = (both (scans catalog t v) (is_growing (view_at catalog v).plan) h).1
+chains_grow catalog t v h = (and_parts (scans catalog t v) (is_growing (view_at catalog v).plan) h).1
 
 pub chain_table : (catalog : CatalogImage) (t v : ℕ) → chains catalog t v ≡ true → t ≡ selected_table (view_at catalog v).plan
 chain_table catalog t v h =

@@ -1,7 +1,7 @@
 -- Values with fresh ones in their places.
-use Rattle.std.proofs.Common.{◌≡◌, ℕ, ◌<◌, Bool, true, false, ◌||◌, nat_eq, List, [], ◌∷◌, ◌++◌, length, map, set, refl, ap, sym, ◌∙◌, arith, Option, Some, None, option_map, is_some}
+use Rattle.std.proofs.Common.{◌≡◌, ℕ, ◌<◌, Bool, true, false, nat_eq, List, [], ◌∷◌, ◌++◌, length, map, set, refl, ap, sym, ◌∙◌, arith, Option, Some, None, option_map, is_some}
 use Rattle.std.specs.List.{cons_option, filter_map}
-use Rattle.std.proofs.lemmas.Bool.{false≢true}
+use Rattle.std.proofs.lemmas.Bool.{false≢true, or_parts}
 use Rattle.std.proofs.lemmas.List.{length-set}
 use Rattle.smk_base.specs.Places.{Lists, upto}
 use Rattle.smk_base.specs.Rels.{Relation}
@@ -27,10 +27,12 @@ use Rattle.smk_grow.proofs.Renewed.{SameBut, book_over, newer_is}
 -- the last fresh value is put first
 
 pub replaced_last : {X : Type 0} (fresh : List (Option X)) (last : Option X) (olds : List X) → length fresh < length olds → replaced (fresh ++ last ∷ []) olds ≡ replaced fresh (put_at olds (length fresh) last)
+replaced_last [] last [] low = absurd (omega arith)
+replaced_last [] (Some x) (old ∷ olds) low = refl
+replaced_last [] None (old ∷ olds) low = refl
+replaced_last (one ∷ more) last [] low = absurd (omega arith)
 replaced_last (one ∷ more) (Some x) (old ∷ olds) low = ap (λ l. newer one old ∷ l) (replaced_last more (Some x) olds (omega arith))
 replaced_last (one ∷ more) None (old ∷ olds) low = ap (λ l. newer one old ∷ l) (replaced_last more None olds (omega arith))
-replaced_last _ last [] low = absurd (omega arith)
-replaced_last [] _ (old ∷ olds) low = refl
 
 long_set : {X : Type 0} (olds : List X) (i : ℕ) (x : X) → length (set olds i x) ≡ length olds
 long_set olds i x = simp length-set
@@ -124,21 +126,17 @@ same_cubes catalog t v u (extras.Grouped keys aggs names kinds) A B same none ne
     ∙ ap (λ (r : Relation). Some (cubes_of (backs_of (book_over catalog B) v u) r keys aggs)) (same_table catalog t u A B same ne)
 same_cubes catalog t v u _ A B same none ne = refl
 
-either_false : (a b : Bool) → (a || b) ≡ false → (a ≡ false) × (b ≡ false)
-either_false true b h = absurd (false≢true (sym h))
-either_false false b h = (refl, h)
-
 pub replaced_splits : (catalog : CatalogImage) (t : ℕ) (A B : List (List Row)) (backs : List Back) → SameBut t A B
     → replaced (filter_map (fresh_split t (book_over catalog B)) backs) (filter_map (split_in (book_over catalog A)) backs) ≡ filter_map (split_in (book_over catalog B)) backs
 replaced_splits catalog t A B backs same =
     replaced_kept (depends_on catalog t) (split_in (book_over catalog A)) (split_in (book_over catalog B)) (split_shape (book_over catalog A) (book_over catalog B))
-    (λ d out. let h = either_false (scans catalog t d.view) (nat_eq d.table t) out in same_split catalog t d.view d.table d.extra A B same h.0 h.1) backs
+    (λ d out. let h = or_parts (scans catalog t d.view) (nat_eq d.table t) out in same_split catalog t d.view d.table d.extra A B same h.0 h.1) backs
 
 pub replaced_cubes : (catalog : CatalogImage) (t : ℕ) (A B : List (List Row)) (backs : List Back) → SameBut t A B
     → replaced (filter_map (fresh_cubes t (book_over catalog B)) backs) (filter_map (cubes_in (book_over catalog A)) backs) ≡ filter_map (cubes_in (book_over catalog B)) backs
 replaced_cubes catalog t A B backs same =
     replaced_kept (depends_on catalog t) (cubes_in (book_over catalog A)) (cubes_in (book_over catalog B)) (cubes_shape (book_over catalog A) (book_over catalog B))
-    (λ d out. let h = either_false (scans catalog t d.view) (nat_eq d.table t) out in same_cubes catalog t d.view d.table d.extra A B same h.0 h.1) backs
+    (λ d out. let h = or_parts (scans catalog t d.view) (nat_eq d.table t) out in same_cubes catalog t d.view d.table d.extra A B same h.0 h.1) backs
 
 pub long_splits : (catalog : CatalogImage) (t : ℕ) (A B : List (List Row)) (backs : List Back)
     → length (filter_map (fresh_split t (book_over catalog B)) backs) ≡ length (filter_map (split_in (book_over catalog A)) backs)

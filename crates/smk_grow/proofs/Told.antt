@@ -14,7 +14,7 @@ use Rattle.smk_model.specs.Selection.{each_kinds}
 use Rattle.smk_model.specs.Typing.{info_at}
 use Rattle.smk_model.specs.Values.{Row}
 use Rattle.smk_model.proofs.Appends.{appends_fit}
-use Rattle.smk_model.proofs.Places.{places_below}
+use Rattle.smk_base.proofs.Places.{places_below}
 use Rattle.smk_compose.specs.Fetched.{table_of}
 use Rattle.smk_session.specs.Sessions.{IsSession, SessionImage, state_of, workbook_image, workbook_of}
 use Rattle.smk_session.proofs.Opened.{table_is, tables_long}

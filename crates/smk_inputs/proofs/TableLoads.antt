@@ -16,7 +16,7 @@ use Rattle.smk_inputs.specs.declared.stop.Stop.{Stop}
 use Rattle.smk_inputs.specs.declared.stop.Stop.TheVariants.{At, Unwritten, Exhausted}
 use Rattle.smk_inputs.specs.Collecting.{ReadsNamed, Loads, unread_among}
 use Rattle.smk_model.proofs.InOrder.{then_value, then_fault}
-use Rattle.smk_model.proofs.Places.{map_map}
+use Rattle.smk_base.proofs.Places.{map_map}
 use Rattle.smk_inputs.proofs.Stops.{untold_within}
 
 -- one table more

@@ -37,8 +37,9 @@ fault_here Gives jobs n job made e low at done gives =
 -- in the form in which a list of results is told by its places
 pub zip_of : {A B : Type 0} (R : A → B → Type 0) (xs : List A) (ys : List B) → length ys ≡ length xs → ((i : ℕ) (d : A) (e : B) → i < length xs → R (get_or xs i d) (get_or ys i e)) → AllZip R xs ys
 zip_of R [] [] long each = tt
+zip_of R [] (y ∷ ys) long each = absurd (omega (arith, long))
+zip_of R (x ∷ xs) [] long each = absurd (omega (arith, long))
 zip_of R (x ∷ xs) (y ∷ ys) long each = (each 0 x y (omega arith), zip_of R xs ys (omega (arith, long)) (λ i d e low. each (suc i) d e (omega (arith, low))))
-zip_of R _ _ long each = absurd (omega (arith, long))
 
 -- results that are all values, and those values
 

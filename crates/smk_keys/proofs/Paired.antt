@@ -1,10 +1,10 @@
 -- Pairs of numbers.
-use Rattle.std.proofs.Common.{◌≡◌, ℕ, ◌+◌, ◌*◌, ◌<◌, ◌≤◌, Bool, List, length, get_or, nat_eq, ◌&&◌, ap, sym, ◌∙◌, arith, Decides, All, inl, inr}
+use Rattle.std.proofs.Common.{◌≡◌, ℕ, ◌+◌, ◌*◌, ◌<◌, ◌≤◌, Bool, List, length, get_or, nat_eq, ◌&&◌, ap, sym, ◌∙◌, arith, Decides, All}
 use Rattle.std.specs.Cmp.{unsigned_Decides}
 use Rattle.std.specs.List.{zip}
-use Rattle.std.proofs.lemmas.Bool.{and_parts, and_from, cases_order}
+use Rattle.std.proofs.lemmas.Bool.{and_parts, and_from}
 use Rattle.std.proofs.lemmas.List.{get_or_default}
-use Rattle.std.proofs.lemmas.Nat.{mul-add-lt}
+use Rattle.std.proofs.lemmas.Nat.{mul-add-lt, same_from_place}
 use Rattle.std.proofs.lemmas.Slice.Zip.{length-zip, get_or-zip}
 use Rattle.smk_keys.specs.Numbers.{AreNumbers}
 
@@ -18,14 +18,6 @@ pair_same a b = (
   (λ e. and_from (nat_eq a.0 b.0) (nat_eq a.1 b.1) ((unsigned_Decides a.0 b.0).1 (ap (λ (p : ℕ × ℕ). p.0) e)) ((unsigned_Decides a.1 b.1).1 (ap (λ (p : ℕ × ℕ). p.1) e))),
 )
 
--- two places of one table are the same only in one row and one column
-place_parts : (a b c d w : ℕ) → b < w → d < w → a * w + b ≡ c * w + d → (a ≡ c) × (b ≡ d)
-place_parts a b c d w p q e = elim (cases_order a c) [
-  | inl same ↦ (let again : c * w + b ≡ c * w + d = ap (λ n. n * w + b) (sym same) ∙ e in (same, omega arith))
-  | inr (inl less) ↦ absurd (omega (arith, mul-add-lt a w b c less p))
-  | inr (inr more) ↦ absurd (omega (arith, mul-add-lt c w d a more q))
-]
-
 -- places in a table are numbers of pairs
 pub AreNumbers-places : (lefts rights : List ℕ) (height width : ℕ) (places : List ℕ) → length rights ≡ length lefts → All (λ k. k < height) lefts → All (λ k. k < width) rights
     → length places ≡ length lefts → ((k : ℕ) → k < length lefts → get_or places k 0 ≡ get_or lefts k 0 * width + get_or rights k 0) → AreNumbers (0, 0) (zip lefts rights) (height * width) places
@@ -38,7 +30,7 @@ AreNumbers-places lefts rights height width places long above beside e at =
           let inside : i < length lefts = omega arith in
           rw (get_or_default places i d 0 h, at i inside) (omega (arith, mul-add-lt (get_or lefts i 0) width (get_or rights i 0) height (above i 0 inside) (beside i 0 (omega arith))));
       same = λ i j p q f.
-          let parts = place_parts (get_or lefts i 0) (get_or rights i 0) (get_or lefts j 0) (get_or rights j 0) width (beside i 0 (omega arith)) (beside j 0 (omega arith)) (sym (at i (omega arith)) ∙ f ∙ at j (omega arith)) in
+          let parts = same_from_place (get_or lefts i 0) (get_or rights i 0) (get_or lefts j 0) (get_or rights j 0) width (beside i 0 (omega arith)) (beside j 0 (omega arith)) (sym (at i (omega arith)) ∙ f ∙ at j (omega arith)) in
           pair i (omega arith) ∙ (λ t. (parts.0 t, parts.1 t)) ∙ sym (pair j (omega arith));
       alike = λ i j p q f.
           let same = sym (pair i (omega arith)) ∙ f ∙ pair j (omega arith) in

@@ -14,7 +14,7 @@ use Rattle.smk_model.specs.Plain.{item_at}
 use Rattle.smk_model.specs.Selection.{plan_kinds}
 use Rattle.smk_model.specs.Values.{Row, value_at}
 use Rattle.smk_model.proofs.Parts.{map_agree}
-use Rattle.smk_model.proofs.Places.{map_map}
+use Rattle.smk_base.proofs.Places.{map_map}
 use Rattle.smk_body.proofs.Besides.{relation, related}
 use Rattle.smk_marks.specs.Marks.{made}
 use Rattle.smk_marks.specs.Views.{chain_values}

@@ -13,7 +13,7 @@ use Rattle.smk_model.specs.Lineage.{row_at, sub}
 use Rattle.smk_model.specs.Composed.{table_at}
 use Rattle.smk_model.specs.Classes.{places_in}
 use Rattle.smk_model.specs.LineageLaws.{selected_table}
-use Rattle.smk_model.proofs.Places.{map_map, same_below, has_passes, has_below}
+use Rattle.smk_base.proofs.Places.{map_map, same_below, has_passes, has_below}
 use Rattle.smk_model.proofs.Firsts.{holds, holds_here, holds_at, firsts_from, sub_key, place_of}
 use Rattle.smk_model.proofs.Locals.{IsApart, firsts_apart}
 use Rattle.smk_model.proofs.Classes.{place_in, first_below, found_below, found_at, key_test}

@@ -1,9 +1,9 @@
 -- Chains of selections and projections over a scan, row by row.
-use Rattle.std.proofs.Common.{◌≡◌, ℕ, suc, ◌<◌, Bool, true, List, [], ◌∷◌, length, map, refl, ap, sym, ◌∙◌, arith, get_or, ◌&&◌, nat_eq, inl, inr, Option}
+use Rattle.std.proofs.Common.{◌≡◌, ℕ, suc, ◌<◌, true, List, [], ◌∷◌, length, map, refl, ap, sym, ◌∙◌, arith, get_or, nat_eq, inl, inr, Option}
 use Rattle.std.specs.List.{filter}
 use Rattle.std.proofs.lemmas.List.{get_or-map, length-map, map-id}
 use Rattle.std.proofs.lemmas.List.Elements.{All-get_or, filter_passes}
-use Rattle.std.proofs.lemmas.Bool.{or_cases, and_parts, eqb-true, eq-eqb, false≢true}
+use Rattle.std.proofs.lemmas.Bool.{or_cases, and_parts, eqb-true, eq-eqb, false≢true, and_from}
 use Rattle.smk_base.specs.Plans.{Selection, Projection, Expr, Leaf, Apply}
 use Rattle.smk_model.specs.Values.{Row, meets}
 use Rattle.smk_model.specs.Plain.{image, eval, leaves}
@@ -11,7 +11,7 @@ use Rattle.smk_model.specs.Lineage.{places, has, row_at, sub}
 use Rattle.smk_model.specs.Composed.{table_at}
 use Rattle.smk_model.specs.LineageLaws.{selected_table}
 use Rattle.smk_model.specs.Selection.{selected, kept_rows}
-use Rattle.smk_model.proofs.Places.{filter_map, map_map, has_places}
+use Rattle.smk_base.proofs.Places.{filter_map, map_map, has_places}
 use Rattle.smk_model.proofs.Anys.{or_false}
 use Rattle.smk_model.proofs.CuiWidom.{length_selected, selected_below, selected_row}
 use Rattle.smk_model.proofs.Selections.{filter_filter, filter-true}
@@ -50,9 +50,6 @@ pub record IsMade (plan : Expr) (tables : List (List Row)) (o r : ℕ) : Type 0 
   pub pass : passes plan (row_at (table_at tables (selected_table plan)) r) ≡ true
   pub is : row_at (rows_in plan tables) o ≡ made plan (row_at (table_at tables (selected_table plan)) r)
 
-and_both : (a b : Bool) → a ≡ true → b ≡ true → (a && b) ≡ true
-and_both a b p q = rw (p, q) refl
-
 pub made_from : (plan : Expr) (tables : List (List Row)) (o r : ℕ) → is_chain plan ≡ true → o < length (rows_in plan tables) → comes plan tables (selected_table plan) o r ≡ true → IsMade plan tables o r
 made_from (Leaf table) tables o r h low c = record { pass = refl; is = ap (row_at (table_at tables table)) (eqb-true o r (and_parts (nat_eq table table) (nat_eq o r) c).1) }
 made_from (Apply (Selection formula) input) tables o r h low c =
@@ -61,7 +58,7 @@ made_from (Apply (Selection formula) input) tables o r h low c =
     let below = made_from input tables i r h (selected_below (meets formula) X o low) (sym (or_false (comes input tables (selected_table input) i r)) ∙ c) in
     let same : row_at (filter (meets formula) X) o ≡ made input (row_at (table_at tables (selected_table input)) r) = sym (selected_row (meets formula) X o low) ∙ below.is in
     record {
-      pass = and_both _ _ below.pass (ap (meets formula) (sym same) ∙ All-get_or (λ x. meets formula x ≡ true) (filter (meets formula) X) o [] low (filter_passes (meets formula) X));
+      pass = and_from _ _ below.pass (ap (meets formula) (sym same) ∙ All-get_or (λ x. meets formula x ≡ true) (filter (meets formula) X) o [] low (filter_passes (meets formula) X));
       is = same;
     }
 made_from (Apply (Projection items) input) tables o r h low c =
@@ -91,7 +88,7 @@ stands (x ∷ xs) i h = elim (or_cases (nat_eq i x) _ h) [
 ]
 
 pub reaches : (plan : Expr) (tables : List (List Row)) (r : ℕ) → is_chain plan ≡ true → r < length (table_at tables (selected_table plan)) → passes plan (row_at (table_at tables (selected_table plan)) r) ≡ true → Reaches plan tables r
-reaches (Leaf table) tables r h low p = record { place = r; low = low; there = and_both _ _ (eq-eqb table table refl) (eq-eqb r r refl) }
+reaches (Leaf table) tables r h low p = record { place = r; low = low; there = and_from _ _ (eq-eqb table table refl) (eq-eqb r r refl) }
 reaches (Apply (Selection formula) input) tables r h low p =
     let X = rows_in input tables in
     let t = λ (i : ℕ). meets formula (row_at X i) in

@@ -11,7 +11,7 @@ use Rattle.smk_base.specs.declared.value.Kind.{Kind}
 use Rattle.smk_model.specs.Values.{Row}
 use Rattle.smk_model.specs.Plain.{aggregate}
 use Rattle.smk_model.specs.Lineage.{row_at, sub, upto}
-use Rattle.smk_model.proofs.Places.{map_map, map_upto, map_upto_agree, same_below}
+use Rattle.smk_base.proofs.Places.{map_map, map_upto, map_upto_agree, same_below}
 use Rattle.smk_keys.specs.Classes.{ClassesImage, classing_of, first_items}
 use Rattle.smk_keys.proofs.Classing.{AreClasses-classing}
 use Rattle.smk_keys.proofs.Firsts.{AreClasses, first_items-classes}

@@ -11,7 +11,7 @@ use Rattle.smk_model.specs.Values.{Row, value_at}
 use Rattle.smk_model.specs.Plain.{aggregate, combined, greater, lesser, number_of, total}
 use Rattle.smk_model.specs.Lineage.{places, row_at, sub, upto}
 use Rattle.smk_model.proofs.Parts.{map_agree}
-use Rattle.smk_model.proofs.Places.{map_map, map_upto_agree, places_below}
+use Rattle.smk_base.proofs.Places.{map_map, map_upto_agree, places_below}
 use Rattle.smk_keys.specs.Classes.{ClassesImage, first_items}
 use Rattle.smk_body.specs.Halves.{class_places}
 use Rattle.smk_marks.specs.Marks.{class_values, is_count, marked_group, with_mark}

@@ -1,8 +1,8 @@
 -- The forward list of a row of the table.
-use Rattle.std.proofs.Common.{◌≡◌, ℕ, ◌<◌, Bool, true, false, cond, List, [], ◌∷◌, length, map, refl, ap, sym, ◌∙◌, subst, arith, nat_eq, inl, inr}
+use Rattle.std.proofs.Common.{◌≡◌, ℕ, ◌<◌, Bool, true, false, cond, List, [], ◌∷◌, length, map, ap, sym, ◌∙◌, subst, arith, nat_eq, inl, inr}
 use Rattle.std.specs.List.{list_any}
 use Rattle.std.proofs.lemmas.List.{get_or-map, length-map}
-use Rattle.std.proofs.lemmas.Bool.{cases_Bool, or_cases, or_left, or_right, eqb-true, eq-eqb, false≢true, false_from_ne_true}
+use Rattle.std.proofs.lemmas.Bool.{cases_Bool, or_cases, or_left, or_right, eqb-true, false≢true, false_from_ne_true}
 use Rattle.smk_base.specs.Places.{list_at}
 use Rattle.smk_base.specs.declared.book.plan.Agg.{Agg}
 use Rattle.smk_base.specs.Plans.{Grouping, Expr, Apply}
@@ -11,7 +11,7 @@ use Rattle.smk_model.specs.Plain.{row_eq, key_of, firsts, grouped}
 use Rattle.smk_model.specs.Lineage.{upto, places, has, row_at}
 use Rattle.smk_model.specs.Composed.{table_at}
 use Rattle.smk_model.specs.LineageLaws.{selected_table}
-use Rattle.smk_model.proofs.Places.{same_below, places_below, places_false, places_own, has_places, has_passes, has_below}
+use Rattle.smk_base.proofs.Places.{same_below, places_below, places_false, places_own, has_places, has_passes, has_below, some_member}
 use Rattle.smk_model.proofs.Firsts.{holds, holds_at, firsts_holds}
 use Rattle.smk_model.proofs.Locals.{firsts_apart}
 use Rattle.smk_model.proofs.Classes.{place_in, found_below, key_test}
@@ -21,13 +21,6 @@ use Rattle.smk_model.specs.Growth.{is_chain}
 use Rattle.smk_marks.specs.Marks.{made, passes}
 use Rattle.smk_marks.specs.MarkLaws.{marks_of}
 use Rattle.smk_marks.proofs.Chains.{made_from, reaches}
-
-some_member : (f : ℕ → Bool) (A : List ℕ) → list_any f A ≡ true → (i : ℕ) × (has A i ≡ true) × (f i ≡ true)
-some_member f [] h = absurd (false≢true h)
-some_member f (x ∷ xs) h = elim (or_cases (f x) (list_any f xs) h) [
-  | inl p ↦ (x, or_left (nat_eq x x) _ (eq-eqb x x refl), p)
-  | inr q ↦ (let s = some_member f xs q in (s.0, or_right (nat_eq s.0 x) _ s.1, s.2))
-]
 
 any_has : (f : ℕ → Bool) (A : List ℕ) (i : ℕ) → has A i ≡ true → f i ≡ true → list_any f A ≡ true
 any_has f [] i h p = absurd (false≢true h)

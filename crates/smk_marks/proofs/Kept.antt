@@ -20,7 +20,7 @@ use Rattle.smk_model.specs.Plain.{eval, key_of}
 use Rattle.smk_model.specs.Selection.{PlanFits, plan_kinds}
 use Rattle.smk_model.specs.Values.{Row}
 use Rattle.smk_model.proofs.Composed.{lists_stand}
-use Rattle.smk_model.proofs.Places.{map_upto_take}
+use Rattle.smk_base.proofs.Places.{map_upto_take}
 use Rattle.smk_body.proofs.Besides.{related}
 use Rattle.smk_marks.specs.Marks.{is_count, kept, made, mark_row, marked_groups, marks_at}
 use Rattle.smk_marks.specs.MarkLaws.{AreRids, input_at, marks_of}

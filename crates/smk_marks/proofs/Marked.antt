@@ -9,7 +9,7 @@ use Rattle.smk_base.specs.declared.value.Kind.{Kind}
 use Rattle.smk_base.specs.declared.value.Value.TheVariants as values
 use Rattle.smk_model.specs.Values.{Row}
 use Rattle.smk_model.specs.Lineage.{upto, row_at, sub}
-use Rattle.smk_model.proofs.Places.{map_upto_take, upto_below}
+use Rattle.smk_base.proofs.Places.{map_upto_take, upto_below}
 use Rattle.smk_marks.proofs.Classed.{map_below}
 
 -- the first columns

@@ -12,7 +12,7 @@ use Rattle.smk_model.specs.Kinds.{AggFits, kind_of_agg, summed}
 use Rattle.smk_model.specs.Plain.{aggregate, combined, greater, lesser, number_of, total}
 use Rattle.smk_model.specs.Values.{Row, value_at}
 use Rattle.smk_model.proofs.Parts.{map_agree}
-use Rattle.smk_model.proofs.Places.{map_map}
+use Rattle.smk_base.proofs.Places.{map_map}
 
 -- over its own column it is itself
 pub moved_to_own : (agg : Agg) (place : ℕ) → ((c : ℕ) → read_by agg ≡ Some c → place ≡ c) → moved_to place agg ≡ agg

@@ -12,7 +12,7 @@ use Rattle.smk_model.specs.Annotated.{Marked, no_mark, mark_at, rows_of, both, g
 use Rattle.smk_model.specs.LineageLaws.{RowsAgree, united, StepByStep}
 use Rattle.smk_base.proofs.Texts.{list_any-map}
 use Rattle.smk_model.proofs.Anys.{or_false}
-use Rattle.smk_model.proofs.Places.{filter_map, map_map, map_flat_map, flat_map_map, flat_map_agree, map_upto, at_places}
+use Rattle.smk_base.proofs.Places.{filter_map, map_map, map_flat_map, flat_map_map, flat_map_agree, map_upto, at_places}
 
 -- rows
 

@@ -31,7 +31,10 @@ and_false false = refl
 
 and_after : (a b c : Bool) → ((a && c) || (b && c)) ≡ ((a || b) && c)
 and_after true true true = refl
-and_after _ _ _ = refl
+and_after true true false = refl
+and_after true false true = refl
+and_after true false false = refl
+and_after false b c = refl
 
 pub any_and : {X : Type 0} (f : X → Bool) (c : Bool) (A : List X) → list_any (λ x. f x && c) A ≡ (list_any f A && c)
 any_and f c [] = refl

@@ -21,7 +21,7 @@ use Rattle.smk_model.specs.Workload.{needs, needed_at}
 use Rattle.smk_model.specs.Appends.{Turn, longer_book, scans, scanning, longer_fault, refusal_at, refusal_of, refused_turn, turn_unless, is_too_long, turn_at, is_append_refused}
 use Rattle.smk_model.specs.AppendTexts.{IsAppendReply}
 use Rattle.smk_model.specs.AppendLaws.{AppendsFit, RefusedAppendsStay, AppendsBeginAnew}
-use Rattle.smk_model.proofs.Places.{upto_below, places_below}
+use Rattle.smk_base.proofs.Places.{upto_below, places_below}
 
 -- what holds of the value of both of two options holds of that of the first that has one
 or_holds : {X : Type 0} (P : X → Type 0) (a b : Option X) → IfSome a P → IfSome b P → IfSome (option_or a b) P

@@ -9,7 +9,7 @@ use Rattle.smk_model.specs.Plain.{row_eq, image, key_of, aggregate, firsts, join
 use Rattle.smk_model.specs.Lineage.{upto, places, row_at, sub, matching, lefts_of, rights_of}
 use Rattle.smk_model.specs.Classes.{classes, first_places, new_places}
 use Rattle.smk_model.specs.ClassLaws.{Bulk}
-use Rattle.smk_model.proofs.Places.{at_places, map_map, map_upto, same_below}
+use Rattle.smk_base.proofs.Places.{at_places, map_map, map_upto, same_below}
 use Rattle.smk_model.proofs.Firsts.{sub_key}
 use Rattle.smk_model.proofs.Parts.{map_agree}
 use Rattle.smk_model.proofs.Locals.{locals_are}
@@ -53,7 +53,7 @@ beside_made : (g : Row → Row) (rows : List Row) → map (λ row. row ++ g row)
 beside_made g [] = refl
 beside_made g (x ∷ xs) = ap (λ (z : List Row). (x ++ g x) ∷ z) (beside_made g xs)
 
-sub_left : (L R : List Row) (A : List ℕ) → All (λ r. r < length L) A → sub (L ++ R) A ≡ sub L A
+pub sub_left : (L R : List Row) (A : List ℕ) → All (λ r. r < length L) A → sub (L ++ R) A ≡ sub L A
 sub_left L R [] low = refl
 sub_left L R (a ∷ A) low = rw (get_or_append_left L R [] a (low 0 0 (omega arith)), sub_left L R A (λ k d l. low (suc k) d (omega arith))) refl
 

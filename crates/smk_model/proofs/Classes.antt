@@ -11,7 +11,7 @@ use Rattle.smk_model.specs.Plain.{row_eq, add_first, firsts}
 use Rattle.smk_model.specs.Lineage.{upto, places, row_at, sub}
 use Rattle.smk_model.specs.Classes.{places_in, classes, first_places, new_places}
 use Rattle.smk_model.specs.ClassLaws.{AreClasses, ClassesAre}
-use Rattle.smk_model.proofs.Places.{map_map, same_below, places_below}
+use Rattle.smk_base.proofs.Places.{map_map, same_below, places_below}
 use Rattle.smk_model.proofs.Firsts.{row_same, row_is, row_itself, holds, holds_here, holds_at, firsts_holds, firsts_from, fold_append, add_known}
 use Rattle.smk_model.proofs.Locals.{IsApart, firsts_apart}
 use Rattle.smk_model.proofs.Parts.{places_add}

@@ -10,7 +10,7 @@ use Rattle.smk_model.specs.Lineage.{upto, row_at, from1, from_left, from_right}
 use Rattle.smk_model.specs.Annotated.{Marked, no_mark, mark_at, ann_from, reaches, relates}
 use Rattle.smk_model.specs.Composed.{table_at, rows_over}
 use Rattle.smk_model.specs.LineageLaws.{united}
-use Rattle.smk_model.proofs.Places.{get_or_map_upto, has_upto, has_below}
+use Rattle.smk_base.proofs.Places.{get_or_map_upto, has_upto, has_below}
 use Rattle.smk_model.proofs.Anys.{and_false, any_same, any_agree, any_and, any_or_and, any_swap}
 use Rattle.smk_model.proofs.Annotated.{step_by_step}
 use Rattle.smk_model.proofs.Ranges.{from1_below, left_below, right_below}

@@ -1,12 +1,12 @@
 -- Lists of lineage: composed, merged and inverted, node by node.
-use Rattle.std.proofs.Common.{◌≡◌, ℕ, zero, suc, ◌+◌, ◌<◌, Bool, true, false, List, [], ◌∷◌, ◌++◌, length, map, refl, ap, sym, ◌∙◌, get_or, ◌&&◌, ◌||◌, nat_eq, inl, inr}
+use Rattle.std.proofs.Common.{◌≡◌, ℕ, zero, suc, ◌+◌, ◌<◌, Bool, true, false, List, [], ◌∷◌, ◌++◌, length, map, refl, ap, sym, ◌∙◌, get_or, ◌&&◌, ◌||◌, nat_eq}
 use Rattle.std.proofs.Math.ListN.{replicate}
 use Rattle.std.specs.List.{list_any, sum_by, All}
 use Rattle.std.proofs.lemmas.List.{length-map, map-append}
 use Rattle.std.proofs.lemmas.List.Elements.{All-map}
 use Rattle.std.proofs.lemmas.List.Folds.{list_any_at}
 use Rattle.std.proofs.lemmas.List.Sums.{sum_by-cons}
-use Rattle.std.proofs.lemmas.Bool.{cases_Bool, eqb-true, eq-eqb, ne_eqb, false≢true, false_from_ne_true}
+use Rattle.std.proofs.lemmas.Bool.{eqb-true, eq-eqb, false≢true, false_from_ne_true}
 use Rattle.smk_base.specs.Plans.{Expr, Leaf, Apply, Combine}
 use Rattle.smk_model.specs.Values.{Row}
 use Rattle.smk_model.specs.Plain.{step1, step2, leaves, whole}
@@ -16,7 +16,7 @@ use Rattle.smk_model.specs.Annotated.{mark_at, ann, reaches, relates}
 use Rattle.smk_model.specs.Locals.{fwd_lists, back1, fwd1, back_left, fwd_left, back_right, fwd_right}
 use Rattle.smk_model.specs.Composed.{table_at, rows_over, backs, forwards}
 use Rattle.smk_model.specs.ComposedLaws.{BacksCompose, ForwardsCompose, ListsStand}
-use Rattle.smk_model.proofs.Places.{map_map, same_below, length_upto, get_or_map_upto, map_upto_agree, upto_below, places_below, places_false, places_own, has_places, places_are}
+use Rattle.smk_base.proofs.Places.{map_map, same_below, length_upto, get_or_map_upto, map_upto_agree, upto_below, places_below, places_false, places_own, has_places, places_are, nat_eq-sym}
 use Rattle.smk_model.proofs.Anys.{any_same, any_below, any_false, any_swap, or_false}
 use Rattle.smk_model.proofs.Ranges.{from1_below, left_below, right_below}
 use Rattle.smk_model.proofs.Comes.{rows_in, comes, rows_whole, relates_comes}
@@ -62,17 +62,11 @@ invert_by f k n =
     ap (λ c. bounded c (map (λ r. places (λ i. has (list_at (lists_by f k n) i) r) c) (upto n))) (length_lists f k n)
     ∙ lists_agree (λ r o. has (list_at (lists_by f k n) o) r) (λ r o. f o r) n k (λ r o low h. has_at f k n o r h low)
 
-turned : (i j : ℕ) → nat_eq i j ≡ nat_eq j i
-turned i j = elim (cases_Bool (nat_eq i j)) [
-  | inl p ↦ p ∙ sym (eq-eqb j i (sym (eqb-true i j p)))
-  | inr p ↦ p ∙ sym (ne_eqb j i (λ e. false≢true (sym p ∙ eq-eqb i j (sym e))))
-]
-
 -- two lists of places meet, whichever is gone over
 any_meets : (g : ℕ → Bool) (m : ℕ) (A : List ℕ) → All (λ i. i < m) A → list_any (has A) (places g m) ≡ list_any g A
 any_meets g m A all =
     any_swap (λ j. true) (λ i j. nat_eq j i) (places g m) A
-    ∙ any_same (λ i. list_any (λ j. nat_eq j i) (places g m)) (has (places g m)) A (λ i. any_same (λ j. nat_eq j i) (nat_eq i) (places g m) (λ j. turned j i))
+    ∙ any_same (λ i. list_any (λ j. nat_eq j i) (places g m)) (has (places g m)) A (λ i. any_same (λ j. nat_eq j i) (nat_eq i) (places g m) (λ j. nat_eq-sym j i))
     ∙ any_below (has (places g m)) g m A all (λ i l. has_places g m i l)
 
 -- forward: a composition of the other direction
@@ -145,7 +139,7 @@ backs_compose = record {
 
 pub forwards_compose : ForwardsCompose
 forwards_compose = record {
-  scan = λ table tables. forwards_by (Leaf table) tables table ∙ own_by (λ rid o. comes (Leaf table) tables table o rid) (length (table_at tables table)) (λ rid o. rw (eq-eqb table table refl) (turned o rid));
+  scan = λ table tables. forwards_by (Leaf table) tables table ∙ own_by (λ rid o. comes (Leaf table) tables table o rid) (length (table_at tables table)) (λ rid o. rw (eq-eqb table table refl) (nat_eq-sym o rid));
   other = λ scanned table tables e. forwards_by (Leaf scanned) tables table ∙ none_by (λ rid o. comes (Leaf scanned) tables table o rid) (length (table_at tables table)) (length (table_at tables scanned)) (λ rid o. rw e refl);
   one = λ op input tables table.
       let L = rows_in input tables in

@@ -10,7 +10,7 @@ use Rattle.smk_base.specs.Plans.{Expr}
 use Rattle.smk_model.specs.Values.{Row}
 use Rattle.smk_model.specs.Composed.{backs, forwards}
 use Rattle.smk_model.specs.DirectionLaws.{PairsForward}
-use Rattle.smk_model.proofs.Places.{map_upto, map_upto_agree}
+use Rattle.smk_base.proofs.Places.{map_upto, map_upto_agree}
 use Rattle.smk_model.proofs.Composed.{lists_by, sum_by_map, lists_stand}
 
 pub sum_zero : (n : ℕ) → sum_by (λ (r : ℕ). 0) (upto n) ≡ 0

@@ -12,9 +12,9 @@ use Rattle.smk_model.specs.Plain.{row_eq, image, key_of, aggregate, firsts, grou
 use Rattle.smk_model.specs.Lineage.{upto, places, has, row_at, sub, matching, match_at, from1, from_left, from_right}
 use Rattle.smk_model.specs.CuiWidom.{CuiWidom1, CuiWidom2}
 use Rattle.smk_model.specs.LineageLaws.{CuiWidom}
-use Rattle.smk_model.proofs.Places.{at_places, upto_below, places_below, places_are, only_passing, single, has_single, single_has, one_place, no_place}
+use Rattle.smk_base.proofs.Places.{at_places, upto_below, places_below, places_are, single, has_single, single_has, one_place, no_place}
 use Rattle.smk_model.proofs.Annotated.{nested_is}
-use Rattle.smk_model.proofs.Firsts.{row_same, holds, holds_here, holds_single, holds_place, holds_left, holds_right, holds_some, holds_at, firsts_holds, firsts_from, once, sub_key, keys_once, all_of_key}
+use Rattle.smk_model.proofs.Firsts.{only_passing, row_same, holds, holds_here, holds_single, holds_place, holds_left, holds_right, holds_some, holds_at, firsts_holds, firsts_from, once, sub_key, keys_once, all_of_key}
 
 -- selection
 
@@ -82,8 +82,9 @@ of_distinction items L o h =
     }
 
 one_item : {X Y : Type 0} (f : X → Y) (xs : List X) (y : Y) → map f xs ≡ y ∷ [] → (x : X) × (xs ≡ x ∷ [])
+one_item f [] y e = absurd (cc)
 one_item f (x ∷ []) y e = (x, refl)
-one_item f _ y e = absurd (cc)
+one_item f (x ∷ x' ∷ xs) y e = absurd (cc)
 
 filter_twice : (f : Row → Bool) (xs : List Row) → filter f (filter f xs) ≡ filter f xs
 filter_twice f [] = refl

@@ -33,12 +33,15 @@ number_few (Some z) n e = sized_few z n e
 number_few None n e = absurd (cc)
 
 named_few : (demo book script : Option (List ℕ)) (n : ℕ) → texts_named demo book script ≡ Some (Demo n) → n ≤ 200000
+named_few None (Some book) script n e = absurd (cc)
+named_few None None script n e = absurd (cc)
 named_few (Some number) None script n e = number_few (int_of number) n e
-named_few _ _ script n e = absurd (cc)
+named_few (Some number) (Some book) script n e = absurd (cc)
 
 called_few : (s : Option Settings) (t : Option TextSource) (n : ℕ) → ((k : ℕ) → t ≡ Some (Demo k) → k ≤ 200000) → option_map (λ (call : Invocation). call.texts) (called s t) ≡ Some (Demo n) → n ≤ 200000
 called_few (Some settings) (Some texts) n all e = all n e
-called_few _ _ n all e = absurd (cc)
+called_few (Some settings) None n all e = absurd (cc)
+called_few None t n all e = absurd (cc)
 
 taken_few : (kinds : Kinds) (s : Option Settings) (t : Option TextSource) (n : ℕ) → ((k : ℕ) → t ≡ Some (Demo k) → k ≤ 200000) → option_map (λ (call : Invocation). call.texts) (where_taken kinds (called s t)) ≡ Some (Demo n) → n ≤ 200000
 taken_few [] s t n all e = called_few s t n all e

@@ -10,7 +10,7 @@ use Rattle.smk_model.specs.DemoLaws.{DemosAreRows}
 use Rattle.smk_model.proofs.DemoReading.{read}
 use Rattle.smk_model.proofs.DemoTexts.{small_delay}
 use Rattle.smk_model.proofs.IntTexts.{int_of_decimal, int_of_signed}
-use Rattle.smk_model.proofs.Places.{upto_below, length_upto}
+use Rattle.smk_base.proofs.Places.{upto_below, length_upto}
 
 row_read : (i k : ℕ) → i < 200000 → k < 1048577 → record_row flight_columns (0 ∷ 1 ∷ 2 ∷ 3 ∷ 4 ∷ []) 5 k (flight i) ≡ Ok (flight_row i)
 row_read i k h few =

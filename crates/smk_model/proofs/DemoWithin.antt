@@ -26,7 +26,7 @@ use Rattle.smk_model.specs.Workload.{needs}
 use Rattle.smk_model.specs.Demo.{two_digits}
 use Rattle.smk_model.specs.DemoBook.{flight_row, flight_rows, airport_row, airport_rows, demo_catalog, demo_workbook}
 use Rattle.smk_model.specs.DemoLaws.{DemosAreWithin}
-use Rattle.smk_model.proofs.Places.{length_upto, get_or_map_upto}
+use Rattle.smk_base.proofs.Places.{length_upto, get_or_map_upto}
 use Rattle.smk_model.proofs.Sizes.{adds_no_rows}
 use Rattle.smk_model.proofs.FewPairs.{OneSource, scan_one, selection_one, projection_one, IsSmall, one_small, join_small, grouping_small, none_at, nested_few}
 

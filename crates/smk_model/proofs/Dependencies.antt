@@ -11,7 +11,7 @@ use Rattle.smk_model.specs.Values.{Row, value_at, meets}
 use Rattle.smk_model.specs.Plain.{row_eq, key_of, firsts, grouped, eval, lesser, greater, combined}
 use Rattle.smk_model.specs.Lineage.{row_at}
 use Rattle.smk_model.specs.Annotated.{Marked, no_mark, mark_at, rows_of, gathered, scanned, ann, relates, back}
-use Rattle.smk_model.proofs.Places.{filter_map, map_map, same_below, has_places}
+use Rattle.smk_base.proofs.Places.{filter_map, map_map, same_below, has_places}
 use Rattle.smk_base.proofs.Texts.{list_any-map}
 use Rattle.smk_model.proofs.Anys.{or_false, any_same}
 use Rattle.smk_model.proofs.Annotated.{rows_from}

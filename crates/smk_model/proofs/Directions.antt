@@ -6,7 +6,7 @@ use Rattle.smk_model.specs.Plain.{step1, step2}
 use Rattle.smk_model.specs.Lineage.{from1, from_left, from_right}
 use Rattle.smk_model.specs.Locals.{back_lists, fwd_lists}
 use Rattle.smk_model.specs.DirectionLaws.{Inverses}
-use Rattle.smk_model.proofs.Places.{length_upto, get_or_map_upto, map_upto_agree, same_below, has_places}
+use Rattle.smk_base.proofs.Places.{length_upto, get_or_map_upto, map_upto_agree, same_below, has_places}
 use Rattle.smk_model.proofs.CuiWidom.{cui_widom}
 use Rattle.smk_model.proofs.Composed.{bounded}
 

@@ -18,10 +18,10 @@ use Rattle.smk_model.specs.DirectionLaws.{HasSources, HasTargets}
 use Rattle.smk_model.specs.Composed.{table_at, rows_over, backs, forwards}
 use Rattle.smk_model.specs.Selection.{row_limit}
 use Rattle.smk_model.specs.NodeFaults.{pair_limit, asked_of, is_crowded, fault_at}
-use Rattle.smk_model.proofs.Places.{same_below, places_own, places_past, places_false, get_or_map_upto, length_upto}
+use Rattle.smk_base.proofs.Places.{same_below, places_own, places_past, places_false, get_or_map_upto, length_upto, nat_eq-sym}
 use Rattle.smk_model.proofs.Composed.{backs_compose, forwards_compose, lists_stand}
 use Rattle.smk_model.proofs.Counts.{pairs_forward}
-use Rattle.smk_model.proofs.OneEach.{same_test, one_each}
+use Rattle.smk_model.proofs.OneEach.{one_each}
 use Rattle.smk_model.proofs.Sizes.{adds_no_rows}
 
 -- lists of places
@@ -35,7 +35,7 @@ either_test f g (x ∷ xs) = elim (cases_Bool (f x)) [
 
 own_few : (x n : ℕ) → length (places (λ r. nat_eq r x) n) ≤ 1
 own_few x n =
-    let turned : places (λ r. nat_eq r x) n ≡ places (λ r. nat_eq x r) n = same_below (λ r. nat_eq r x) (λ r. nat_eq x r) n (λ r l. same_test r x) in
+    let turned : places (λ r. nat_eq r x) n ≡ places (λ r. nat_eq x r) n = same_below (λ r. nat_eq r x) (λ r. nat_eq x r) n (λ r l. nat_eq-sym r x) in
     elim (cases_lt x n) [ inl l ↦ omega (arith, ap length turned, ap length (places_own x n l)) | inr g ↦ omega (arith, ap length turned, ap length (places_past x n g)) ]
 
 has_few : (l : List ℕ) (n : ℕ) → length (places (has l) n) ≤ length l
@@ -66,12 +66,14 @@ composed_pairs [] G h = omega arith
 composed_pairs (A ∷ F) G h = omega (arith, sum_by-cons length (members_at G A) (map (members_at G) F), sum_by-cons length A F, members_few G A h, composed_pairs F G h)
 
 singles_one : (of : List ℕ) (n : ℕ) → AtMostOne (singles of n)
+singles_one [] n i = omega arith
+singles_one (x ∷ of) n zero = omega arith
 singles_one (x ∷ of) n (suc i) = singles_one of n i
-singles_one _ n _ = omega arith
 
 empty_one : (k n : ℕ) → AtMostOne (empty_lists k n)
+empty_one zero n i = omega arith
+empty_one (suc k) n zero = omega arith
 empty_one (suc k) n (suc i) = empty_one k n i
-empty_one _ n _ = omega arith
 
 merged_two : (a b : Lists) → AtMostOne a → AtMostOne b → (i : ℕ) → length (list_at (merged a b) i) ≤ 2
 merged_two a b f g i =

@@ -9,10 +9,10 @@ use Rattle.std.proofs.lemmas.Bool.{eqb-true, eq-eqb, cases_Bool, or_cases, or_le
 use Rattle.smk_base.specs.Values.{value_same}
 use Rattle.smk_model.specs.Values.{Row}
 use Rattle.smk_model.specs.Plain.{row_eq, add_first, firsts}
-use Rattle.smk_model.specs.Lineage.{places, has, row_at, sub}
+use Rattle.smk_model.specs.Lineage.{upto, places, has, row_at, sub}
 use Rattle.smk_base.specs.Places.{IsPlaces}
 use Rattle.smk_model.specs.CuiWidom.{Holds}
-use Rattle.smk_model.proofs.Places.{filter_map, at_places, only_passing}
+use Rattle.smk_base.proofs.Places.{filter_map, at_places, has_filter, has_upto, same_below}
 
 -- equal rows
 
@@ -145,6 +145,13 @@ place_of f L (x ∷ xs) k h = elim (or_cases (row_eq k (f (row_at L x))) _ h) [
   | inl e ↦ (x, or_left (nat_eq x x) _ (eq-eqb x x refl), sym (row_is k _ e))
   | inr r ↦ (let s = place_of f L xs k r in (s.0, or_right (nat_eq s.0 x) _ s.1, s.2))
 ]
+
+-- places that hold all that pass, and only such, are those that pass
+pub only_passing : (n : ℕ) (t : ℕ → Bool) (A : List ℕ) → IsPlaces n A → Holds A (places t n) → ((i : ℕ) → has A i ≡ true → t i ≡ true) → A ≡ places t n
+only_passing n t A is all only = sym is ∙ same_below (has A) t n (λ k l. elim (cases_Bool (t k)) [
+  | inl p ↦ all k (has_filter t (upto n) k (has_upto n k l) p) ∙ sym p
+  | inr p ↦ elim (cases_Bool (has A k)) [ inl q ↦ absurd (false≢true (sym p ∙ only k q)) | inr q ↦ q ∙ sym p ]
+])
 
 -- places that hold those of the key k, and all have one key, are those of k
 pub all_of_key : (f : Row → Row) (L : List Row) (k k' : Row) (A A' : List ℕ) → IsPlaces (length L) A' → A ≡ places (λ i. row_eq k (f (row_at L i))) (length L)

@@ -22,7 +22,8 @@ within (pos a) (pos b) h = omega (arith, ints, div-mul-le_self a b)
 within (negsuc a) (pos b) h =
     let some : 0 < b = omega (arith, ints, h) in
     neg_below (suc (a / b) * b) a (omega (arith, lt-div-mul-add {a = a} some, suc-mul (a / b) b))
-within _ (negsuc b) h = absurd (omega (arith, ints, h))
+within (pos a) (negsuc b) h = absurd (omega (arith, ints, h))
+within (negsuc a) (negsuc b) h = absurd (omega (arith, ints, h))
 
 above : (a b q : ℕ) → q * b ≤ a → negsuc a <ℤ ((negsuc q +ℤ pos 1) *ℤ pos b)
 above a b zero h = omega (arith, ints)
@@ -37,7 +38,8 @@ next (pos a) (pos b) h =
     let low : a < (a / b + 1) * b = rw more (omega (arith, lt-div-mul-add {a = a} some, suc-mul (a / b) b)) in
     omega (arith, ints, low)
 next (negsuc a) (pos b) h = above a b (a / b) (div-mul-le_self a b)
-next _ (negsuc b) h = absurd (omega (arith, ints, h))
+next (pos a) (negsuc b) h = absurd (omega (arith, ints, h))
+next (negsuc a) (negsuc b) h = absurd (omega (arith, ints, h))
 
 greatest : (v w q : ℤ) → pos 1 ≤ℤ w → (q *ℤ w) ≤ℤ v → q ≤ℤ bin v w
 greatest (pos a) (pos b) (pos c) h l =
@@ -50,7 +52,8 @@ greatest (negsuc a) (pos b) (negsuc c) h l =
     let some : 0 < b = omega (arith, ints, h) in
     let low : a / b < suc c = (div-lt_iff_lt-mul {x = a} {y = suc c} some).1 (below_neg (suc c * b) a l) in
     omega (arith, ints, low)
-greatest _ (negsuc b) q h l = absurd (omega (arith, ints, h))
+greatest (pos a) (negsuc b) q h l = absurd (omega (arith, ints, h))
+greatest (negsuc a) (negsuc b) q h l = absurd (omega (arith, ints, h))
 
 pub bin_is_floor : BinIsFloor
 bin_is_floor = record { within = within; next = next; greatest = greatest }

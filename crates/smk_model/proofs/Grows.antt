@@ -15,7 +15,7 @@ use Rattle.smk_model.specs.Lineage.{upto, places, row_at, meeting, from1}
 use Rattle.smk_model.specs.Locals.{back1, fwd1}
 use Rattle.smk_model.specs.Composed.{table_at, rows_over, backs, forwards}
 use Rattle.smk_model.specs.LineageLaws.{selected_table}
-use Rattle.smk_model.proofs.Places.{map_map, same_below, places_below, places_false}
+use Rattle.smk_base.proofs.Places.{map_map, same_below, places_below, places_false}
 use Rattle.smk_base.proofs.Texts.{list_any-map}
 use Rattle.smk_model.proofs.Anys.{any_same, any_below, any_false, or_false, and_false}
 use Rattle.smk_model.proofs.CuiWidom.{length_selected}

@@ -7,7 +7,8 @@ use Rattle.smk_model.specs.Tables.{all_or_first}
 first_then : {A E : Type 0} (r : Result A E) (rest : Result (List A) E) (all : List A) → ◌>>=◌ r (λ x. ◌>>=◌ rest (λ xs. Ok (x ∷ xs))) ≡ Ok all
     → (y : A) × (ys : List A) × (r ≡ Ok y) × (rest ≡ Ok ys) × (all ≡ y ∷ ys)
 first_then (Ok y) (Ok ys) all h = (y, ys, refl, refl, cc)
-first_then _ _ all h = cc
+first_then (Ok y) (Err e) all h = cc
+first_then (Err e) rest all h = cc
 
 -- all values up to one, and that one, or the fault in its place
 pub then_value : {A E : Type 0} (rs : List (Result A E)) (r : Result A E) (xs : List A) (x : A) → all_or_first rs ≡ Ok xs → r ≡ Ok x → all_or_first (rs ++ r ∷ []) ≡ Ok (xs ++ x ∷ [])

@@ -9,7 +9,7 @@ use Rattle.smk_model.specs.Values.{Row}
 use Rattle.smk_model.specs.Plain.{row_eq, firsts}
 use Rattle.smk_model.specs.Lineage.{upto, places, row_at, sub}
 use Rattle.smk_model.specs.Classes.{new_places}
-use Rattle.smk_model.proofs.Places.{at_places, same_below, places_own, places_false}
+use Rattle.smk_base.proofs.Places.{at_places, same_below, places_own, places_false}
 use Rattle.smk_model.proofs.Anys.{or_false}
 use Rattle.smk_model.proofs.Firsts.{row_same, row_is, holds, firsts_holds, firsts_from, add_firsts}
 use Rattle.smk_model.proofs.Locals.{IsApart, firsts_apart}

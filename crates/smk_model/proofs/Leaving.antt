@@ -9,6 +9,7 @@ use Rattle.smk_base.specs.declared.rel.TheConstants.{COLUMN_LIMIT}
 use Rattle.smk_model.specs.Tokens.{Token, int_value}
 use Rattle.smk_model.specs.TokenKinds.{same_kind}
 use Rattle.smk_model.specs.Machine.{PlanCounts, Tally, Symbol, Move, Takes, Skips, Wrong, Past, Outside, settle, or_next, within, move_of, no_counts, is_mark, is_short, at_name, at_column, at_first, at_item, at_literal, at_width, at_type, at_default, at_as, at_what, at_keys, at_aggs, at_linked, at_more, at_source, at_steps, step_symbols, node_move, at_on, at_united, at_prim, at_ands, at_ors, at_op, at_term, at_stmts, at_lineage, at_extra, at_line, at_line_column, at_mark, at_marks, at_then, at_cleared, at_any_line, ask_symbols, at_ask_steps, at_end, AToken, AName, AColumn, ALiteral, AWidth, AType, ADefault, AnAs, AWhat, AKeys, AnAggs, AFirst, AnItem, ALinked, MoreDecls, MoreKeys, MoreLinked, ASource, ASteps, AStep, AUnited, APrim, AnAnds, AnOrs, AnOn, AnOp, ATerm, AStmts, ALineage, AnExtra, ALine, ALineName, ALineColumn, AMarks, AMark, MoreMarks, AThen, ACleared, AnEnd, AnyLine, AnAskStep, AskSteps}
+use Rattle.std.proofs.lemmas.Bool.{and_from}
 
 abbrev pub no_end : Symbol → Bool
 no_end (AToken kinds.End) = false
@@ -252,13 +253,9 @@ pub and_right : (a b : Bool) → (a && b) ≡ true → b ≡ true
 and_right true b e = e
 and_right false b e = absurd (cc)
 
-both : (a b : Bool) → a ≡ true → b ≡ true → (a && b) ≡ true
-both true b e f = f
-both false b e f = absurd (cc)
-
 joined : (l ss : List Symbol) → no_ends l ≡ true → no_ends ss ≡ true → no_ends (l ++ ss) ≡ true
 joined [] ss e f = f
-joined (x ∷ l) ss e f = both (no_end x) (no_ends (l ++ ss)) (and_left (no_end x) (no_ends l) e) (joined l ss (and_right (no_end x) (no_ends l) e) f)
+joined (x ∷ l) ss e f = and_from (no_end x) (no_ends (l ++ ss)) (and_left (no_end x) (no_ends l) e) (joined l ss (and_right (no_end x) (no_ends l) e) f)
 
 pub settles : (ss : List Symbol) (c : PlanCounts) (t : Token) → no_ends ss ≡ true → leaves_none (settle ss c t) ≡ true
 settles [] c t h = refl

@@ -1,4 +1,3 @@
-pub mod Places
 pub mod Selections
 pub mod Annotated
 pub mod Floors

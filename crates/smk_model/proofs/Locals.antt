@@ -1,8 +1,8 @@
 -- The lists of one step, in the form in which a loop makes them.
-use Rattle.std.proofs.Common.{◌≡◌, ℕ, suc, ◌+◌, ◌-◌, ◌<◌, Bool, true, false, cond, List, [], ◌∷◌, ◌++◌, length, map, refl, ap, sym, ◌∙◌, subst, arith, get_or, set, take, inl, inr}
+use Rattle.std.proofs.Common.{◌≡◌, ℕ, ◌+◌, ◌-◌, ◌<◌, Bool, true, false, cond, List, [], ◌∷◌, ◌++◌, length, map, refl, ap, sym, ◌∙◌, subst, arith, get_or, set, take, inl, inr}
 use Rattle.std.specs.List.{fold, All, AllPairs}
 use Rattle.std.proofs.lemmas.List.{map-append, append-nil, length-append, length-map, get_or-map, get_or-set_same, get_or-set_other, same_lists, length-set, map_more, get_or-take, get_or_default, length-take-le}
-use Rattle.std.proofs.lemmas.List.Elements.{filter-append, All-map}
+use Rattle.std.proofs.lemmas.List.Elements.{All-map}
 use Rattle.std.proofs.lemmas.List.Folds.{list_any_at}
 use Rattle.std.proofs.lemmas.List.Quantifiers.{all_pairs_push}
 use Rattle.std.proofs.lemmas.Bool.{cases_Bool, cases_eq, cases_order, lt-ltb, le-ltb, or_right, false≢true, false_from_ne_true}
@@ -13,7 +13,7 @@ use Rattle.smk_model.specs.Plain.{row_eq, image, key_of, add_first, firsts, grou
 use Rattle.smk_model.specs.Lineage.{upto, places, row_at, matching, match_at, from1, from_left, from_right}
 use Rattle.smk_model.specs.Locals.{back_left, back_right}
 use Rattle.smk_model.specs.LocalLaws.{by_key, LocalsAre, ListsGrow}
-use Rattle.smk_model.proofs.Places.{map_map, map_upto, same_below, length_upto, get_or_upto, map_upto_agree, upto_add, places_false}
+use Rattle.smk_base.proofs.Places.{map_map, map_upto, same_below, length_upto, get_or_upto, map_upto_agree, upto_add, places_false, places_more}
 use Rattle.smk_model.proofs.Firsts.{row_same, row_is, row_itself, holds, holds_here, firsts_holds, add_known, fold_append}
 use Rattle.smk_model.proofs.CuiWidom.{length_selected, nested_rows, length_matching, cui_widom}
 
@@ -95,9 +95,6 @@ firsts_apart xs = fold_apart [] xs (λ i j d h l. absurd (omega arith))
 
 pub firsts_more : (key : Row → Row) (L : List Row) (i : ℕ) → i < length L → firsts (map key (take (i + 1) L)) ≡ add_first (firsts (map key (take i L))) (key (row_at L i))
 firsts_more key L i h = ap firsts (map_more key L i [] h) ∙ fold_append [] (map key (take i L)) (key (row_at L i) ∷ [])
-
-places_more : (t : ℕ → Bool) (i : ℕ) → places t (i + 1) ≡ places t i ++ cond (t i) (i ∷ []) []
-places_more t i = let e : i + 1 ≡ suc i = omega arith in rw e (filter-append t (upto i) (i ∷ []))
 
 map_in : (g h : Row → List ℕ) (keys : List Row) → ((k : Row) → holds keys k ≡ true → g k ≡ h k) → map g keys ≡ map h keys
 map_in g h [] e = refl

@@ -12,7 +12,7 @@ use Rattle.smk_model.specs.Lineage.{row_at, meeting, matching, lefts_of, rights_
 use Rattle.smk_model.specs.Locals.{singles, fwd_lists, back1, fwd1, back_left, fwd_left, back_right, fwd_right}
 use Rattle.smk_model.specs.Classes.{places_in, classes}
 use Rattle.smk_model.specs.DirectionLaws.{HasSources, HasTargets, OneEach}
-use Rattle.smk_model.proofs.Places.{length_upto, get_or_upto, get_or_map_upto, map_upto, map_upto_agree, map_map, same_below, has_places, places_own}
+use Rattle.smk_base.proofs.Places.{length_upto, get_or_upto, get_or_map_upto, map_upto, map_upto_agree, map_map, same_below, has_places, places_own}
 use Rattle.smk_model.proofs.Firsts.{holds, holds_at, holds_left, holds_right, firsts_holds}
 use Rattle.smk_model.proofs.Locals.{IsApart, firsts_apart, locals_are}
 use Rattle.smk_model.proofs.Composed.{bounded}
@@ -20,12 +20,6 @@ use Rattle.smk_model.proofs.Directions.{length_each, inverses}
 use Rattle.smk_model.proofs.Classes.{key_test, found_below, known_key, class_at}
 
 -- tests of one place
-
-pub same_test : (a b : ℕ) → nat_eq a b ≡ nat_eq b a
-same_test a b = elim (cases_eq a b) [
-  | inl e ↦ eq-eqb a b e ∙ sym (eq-eqb b a (sym e))
-  | inr ne ↦ ne_eqb a b ne ∙ sym (ne_eqb b a (λ e. ne (sym e)))
-]
 
 own_test : (o i : ℕ) → has (o ∷ []) i ≡ nat_eq i o
 own_test o i = elim (cases_Bool (nat_eq i o)) [ inl e ↦ rw e refl | inr e ↦ rw e refl ]

@@ -16,9 +16,10 @@ same_reading (says_nothing h) (asks n w f) = absurd (n h)
 same_reading (says_nothing h) (leaves n f p) = absurd (n h)
 same_reading (asks n w f) (says_nothing k) = absurd (n k)
 same_reading (asks n w f) (asks m v g) = ap Asks (one_any_line _ _ _ w v)
+same_reading (asks n w f) (leaves m g q) = absurd (cc)
 same_reading (leaves n f p) (says_nothing k) = absurd (n k)
+same_reading (leaves n f p) (asks m v g) = absurd (cc)
 same_reading (leaves n f p) (leaves m g q) = cc
-same_reading _ _ = absurd (cc)
 
 pub same_readings : {texts : List (List ℕ)} {a b : List Reading} → AreReadings texts a → AreReadings texts b → a ≡ b
 same_readings no_line no_line = refl
@@ -29,8 +30,9 @@ one_reading bytes a b p q = same_readings p q
 
 same_parse : {text : List ℕ} {a b : Result (List StmtImage) Fault} → Parses text a → Parses text b → a ≡ b
 same_parse (spells p h) (spells q k) = ap Ok (one_book _ _ _ p q)
+same_parse (spells p h) (misspells k) = absurd (cc)
+same_parse (misspells h) (spells q k) = absurd (cc)
 same_parse (misspells h) (misspells k) = cc
-same_parse _ _ = absurd (cc)
 
 same_book : {bytes : List ℕ} {a b : Result BookSaid Fault} → BookSays bytes a → BookSays bytes b → a ≡ b
 same_book (unparsed p) (unparsed q) = let r = same_parse p q in cc

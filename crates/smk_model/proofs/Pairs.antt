@@ -6,7 +6,7 @@ use Rattle.std.proofs.lemmas.List.Sums.{sum_by_push}
 use Rattle.std.proofs.lemmas.Bool.{cases_Bool, or_left, or_right}
 use Rattle.smk_base.specs.Places.{Lists, upto, places, has, IsPlaces, pairs_of, list_at}
 use Rattle.smk_model.specs.ComposedLaws.{MergedHasBoth}
-use Rattle.smk_model.proofs.Places.{map_upto}
+use Rattle.smk_base.proofs.Places.{map_upto}
 use Rattle.smk_model.proofs.Composed.{sum_by_map}
 
 -- a test that passes more keeps at least as many

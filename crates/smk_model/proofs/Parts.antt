@@ -8,7 +8,7 @@ use Rattle.smk_model.specs.Values.{Row, meets}
 use Rattle.smk_model.specs.Plain.{row_eq, add_first, firsts, nested}
 use Rattle.smk_model.specs.Lineage.{upto, places, row_at, partners, matching}
 use Rattle.smk_model.specs.LocalLaws.{together, part_places, part_pairs, Cut}
-use Rattle.smk_model.proofs.Places.{filter_map, map_map, map_flat_map, flat_map_map, flat_map_agree, same_below, upto_add}
+use Rattle.smk_base.proofs.Places.{filter_map, map_map, map_flat_map, flat_map_map, flat_map_agree, same_below, upto_add}
 use Rattle.smk_model.proofs.Firsts.{fold_append, add_firsts}
 
 pub filter_parts : (f : Row → Bool) (parts : List (List Row)) → flat_map (filter f) parts ≡ filter f (together parts)

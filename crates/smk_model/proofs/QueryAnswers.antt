@@ -5,7 +5,7 @@ use Rattle.smk_base.specs.Places.{has, IsPlaces}
 use Rattle.smk_model.specs.Plain.{eval}
 use Rattle.smk_model.specs.Annotated.{relates}
 use Rattle.smk_model.specs.LineageLaws.{AnswersArePlaces}
-use Rattle.smk_model.proofs.Places.{places_below, places_are}
+use Rattle.smk_base.proofs.Places.{places_below, places_are}
 
 pub all_below : (n : ℕ) (A : List ℕ) → IsPlaces n A → All (λ i. i < n) A
 all_below n A is = subst (λ (z : List ℕ). All (λ i. i < n) z) is (places_below (has A) n)

@@ -8,7 +8,7 @@ use Rattle.smk_base.specs.Plans.{Unary, Selection, Projection, Distinction, Grou
 use Rattle.smk_model.specs.Values.{Row, meets}
 use Rattle.smk_model.specs.Plain.{row_eq, image, key_of, firsts, agree, meets_together, always, nested, step1, step2}
 use Rattle.smk_model.specs.Lineage.{places, row_at, match_at, from1, from_left, from_right}
-use Rattle.smk_model.proofs.Places.{places_below}
+use Rattle.smk_base.proofs.Places.{places_below}
 use Rattle.smk_model.proofs.CuiWidom.{selected_below, matched}
 
 one_below : (n i : ℕ) → i < n → All (λ r. r < n) (i ∷ [])

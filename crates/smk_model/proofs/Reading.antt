@@ -128,9 +128,10 @@ node_opens {j = j} h f g = opens_with (omega arith) (λ u o. o) h f g
 
 -- a symbol that is nothing here
 skipped : (x : Symbol) (c : PlanCounts) (a : List Token) → move_of c x (head_of a) ≡ Skips → (ss : List Symbol) → through (x ∷ ss) c a ≡ through ss c a
+skipped x c [] e [] = refl
+skipped x c [] e (s ∷ ss) = refl
 skipped x c (t ∷ ts) e [] = ap (λ m. go_on (or_next m [] Skips) c t ts (λ d l. through l d ts)) e
 skipped x c (t ∷ ts) e (s ∷ ss) = ap (λ m. go_on (or_next m (s ∷ ss) (settle (s ∷ ss) c t)) c t ts (λ d l. through l d ts)) e
-skipped x c [] e _ = refl
 
 pub passes : {P : Type 0} {m : ℕ} {x : Symbol} {a : List Token} → ((c : PlanCounts) → move_of c x (head_of a) ≡ Skips) → Goes P m m (Unit {0}) (x ∷ []) a a
 passes {P} {m} {x} {a} h = record { goes = λ c ss. on c (record { grows = refl; few = λ b. b; fact = λ r. tt }) (skipped x c a (h c) ss); left = λ r. r }

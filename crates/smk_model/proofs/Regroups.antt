@@ -20,7 +20,7 @@ use Rattle.smk_model.specs.Plain.{row_eq, key_of, firsts, lesser, greater, combi
 use Rattle.smk_model.specs.Lineage.{upto, sub}
 use Rattle.smk_model.specs.Classes.{first_places}
 use Rattle.smk_model.specs.LocalLaws.{together}
-use Rattle.smk_model.proofs.Places.{filter_map, map_map, flat_map_map, map_upto_take}
+use Rattle.smk_base.proofs.Places.{filter_map, map_map, flat_map_map, map_upto_take}
 use Rattle.smk_model.proofs.Firsts.{holds, key_there}
 use Rattle.smk_model.proofs.Parts.{filter_parts, map_agree, cut}
 use Rattle.smk_model.proofs.Spread.{value_order}

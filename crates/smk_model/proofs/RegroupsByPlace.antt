@@ -10,7 +10,7 @@ use Rattle.smk_model.specs.Values.{Row}
 use Rattle.smk_model.specs.Plain.{row_eq, key_of, firsts, aggregate, grouped, step1}
 use Rattle.smk_model.specs.Lineage.{upto, row_at, sub}
 use Rattle.smk_model.specs.Classes.{new_places}
-use Rattle.smk_model.proofs.Places.{map_map}
+use Rattle.smk_base.proofs.Places.{map_map}
 use Rattle.smk_model.proofs.Firsts.{holds, holds_here, firsts_holds, firsts_from, key_there}
 use Rattle.smk_model.proofs.Locals.{firsts_apart}
 use Rattle.smk_model.proofs.Bulk.{bulk}

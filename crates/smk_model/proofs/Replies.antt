@@ -20,7 +20,7 @@ use Rattle.smk_model.specs.Names.{◌>>=◌}
 use Rattle.smk_model.specs.Session.{State, view_at, under}
 use Rattle.smk_model.specs.Replies.{Asked, staying, or_refused, is_refused, named_view, named_back, named_fwd, brush_of, all_linked, brushed, cleared, linked_pair}
 use Rattle.smk_model.specs.ReplyLaws.{FirstContents, RefusedStay, MarksStay}
-use Rattle.smk_model.proofs.Places.{map_upto}
+use Rattle.smk_base.proofs.Places.{map_upto}
 use Rattle.smk_model.proofs.Selections.{filter-true}
 
 -- the rows at all rids are all rows

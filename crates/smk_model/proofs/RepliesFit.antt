@@ -114,11 +114,12 @@ abbrev IsNamed : Grouped → Type 0
 IsNamed grouped = length grouped.names ≡ length grouped.kinds
 
 extra_named : (kinds : List Kind) (extra : BackExtra) → ExtraFits kinds extra → (grouped : Grouped) → grouping_in extra ≡ Some grouped → IsNamed grouped
+extra_named kinds extras.Plain fits grouped h = absurd (cc)
+extra_named kinds (extras.By column) fits grouped h = absurd (cc)
 extra_named kinds (extras.Grouped keys aggs names own) fits grouped h =
     let made : Grouped = record { keys = keys; aggs = aggs; names = names; kinds = own } in
     let same : made ≡ grouped = cc in
     subst IsNamed same fits.named
-extra_named kinds _ fits grouped h = absurd (cc)
 
 -- all declarations ask for what has a name for each kind
 abbrev HasNames : Back → Type 0

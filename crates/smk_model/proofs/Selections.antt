@@ -11,7 +11,7 @@ use Rattle.smk_model.specs.Lineage.{upto, places, row_at, sub}
 use Rattle.smk_model.specs.Annotated.{Marked, no_mark, mark_at, scanned, ann, reaches, relates, back}
 use Rattle.smk_model.specs.LineageLaws.{is_selection, selected_table, selects, chosen, SelectionLineage}
 use Rattle.smk_model.proofs.Anys.{any_same, any_below, any_false, or_false}
-use Rattle.smk_model.proofs.Places.{filter_map, at_places, same_below, places_below, places_false, places_own}
+use Rattle.smk_base.proofs.Places.{filter_map, at_places, same_below, places_below, places_false, places_own}
 
 -- a filter of a filter
 

@@ -25,24 +25,27 @@ antisymm _ _ = refl
 
 trans : (x y z : Value) → value_cmp x y ≡ Less → value_cmp y z ≡ Less → value_cmp x z ≡ Less
 trans (Int a) (Int b) (Int c) h k = int_cmp_total.trans a b c h k
+trans (Int a) (Text b) (Int c) h k = absurd (cc)
+trans (Text a) (Int b) z h k = absurd (cc)
+trans (Text a) (Text b) (Int c) h k = absurd (cc)
 trans (Text a) (Text b) (Text c) h k = nat_list_cmp_total.trans a b c h k
 trans (Int a) _ (Text c) h k = refl
-trans _ _ _ h k = absurd (cc)
 
 congr : (x y z : Value) → value_cmp x y ≡ Equal → value_cmp x z ≡ value_cmp y z
 congr (Int a) (Int b) (Int c) h = int_cmp_total.congr a b c h
-congr (Int a) (Int b) (Text c) h = refl
-congr (Text a) (Text b) (Int c) h = refl
+congr (Int a) (Text b) z h = absurd (cc)
+congr (Text a) (Int b) z h = absurd (cc)
 congr (Text a) (Text b) (Text c) h = nat_list_cmp_total.congr a b c h
-congr _ _ z h = absurd (cc)
+congr _ _ _ h = refl
 
 pub value_order : IsTotalOrder value_cmp
 value_order = record { antisymm = antisymm; trans = trans; congr = congr }
 
 exact : (x y : Value) → value_cmp x y ≡ Equal → x ≡ y
 exact (Int a) (Int b) h = ap Int (exact_signed a b h)
+exact (Int a) (Text b) h = absurd (cc)
+exact (Text a) (Int b) h = absurd (cc)
 exact (Text a) (Text b) h = ap Text (exact_bytes a b h)
-exact _ _ h = absurd (cc)
 
 itself : (x : Value) → value_cmp x x ≡ Equal
 itself x = tied_itself value_order x

@@ -1,12 +1,12 @@
 -- Each row of a table reaches at most one row of a growing chain.
 use Rattle.std.proofs.Common.{◌≡◌, ℕ, zero, suc, ◌<◌, ◌≤◌, Bool, true, false, List, [], ◌∷◌, length, map, refl, ap, sym, ◌∙◌, subst, arith, get_or, nat_eq, inl, inr}
-use Rattle.std.specs.List.{list_any, All, AllPairs}
+use Rattle.std.specs.List.{All, AllPairs}
 use Rattle.std.proofs.lemmas.List.{length-map, append-nil}
 use Rattle.std.proofs.lemmas.List.Elements.{filter-append, All-map}
 use Rattle.std.proofs.lemmas.List.Kept.{AllPairs-filter}
 use Rattle.std.proofs.lemmas.List.Sums.{sum_by-le}
-use Rattle.std.proofs.lemmas.Bool.{cases_Bool, cases_order, or_cases, or_left, or_right, and_parts, eqb-true, eq-eqb, false≢true, false_from_ne_true}
-use Rattle.smk_base.specs.Places.{Lists, has}
+use Rattle.std.proofs.lemmas.Bool.{cases_Bool, cases_order, and_parts, eqb-true, false≢true, false_from_ne_true}
+use Rattle.smk_base.specs.Places.{Lists}
 use Rattle.smk_base.specs.declared.book.plan.Agg.{Agg}
 use Rattle.smk_base.specs.declared.book.plan.Item.{Item}
 use Rattle.smk_base.specs.Plans.{Formula, Unary, Selection, Projection, Distinction, Grouping, Expr, Leaf, Apply, Combine}
@@ -15,7 +15,7 @@ use Rattle.smk_model.specs.Plain.{row_eq, image, key_of, firsts, grouped, leaves
 use Rattle.smk_model.specs.Lineage.{upto, places, row_at}
 use Rattle.smk_model.specs.Composed.{table_at, forwards}
 use Rattle.smk_model.specs.LineageLaws.{selected_table}
-use Rattle.smk_model.proofs.Places.{same_below, places_false, places_below, length_upto, get_or_upto, has_passes, has_below}
+use Rattle.smk_base.proofs.Places.{same_below, places_false, places_below, length_upto, get_or_upto, has_passes, has_below, some_member}
 use Rattle.smk_model.proofs.Anys.{or_false}
 use Rattle.smk_model.proofs.CuiWidom.{length_selected, selected_below}
 use Rattle.smk_model.proofs.Firsts.{row_is}
@@ -27,13 +27,6 @@ use Rattle.smk_model.proofs.Comes.{rows_in, comes, rows_whole}
 use Rattle.smk_model.proofs.Composed.{length_lists, forwards_by}
 use Rattle.smk_model.specs.Growth.{is_chain, is_growing}
 use Rattle.smk_model.specs.GrowthLaws.{GrowingIsThin}
-
-some_member : (f : ℕ → Bool) (A : List ℕ) → list_any f A ≡ true → (i : ℕ) × (has A i ≡ true) × (f i ≡ true)
-some_member f [] h = absurd (false≢true h)
-some_member f (x ∷ xs) h = elim (or_cases (f x) (list_any f xs) h) [
-  | inl p ↦ (x, or_left (nat_eq x x) _ (eq-eqb x x refl), p)
-  | inr q ↦ (let s = some_member f xs q in (s.0, or_right (nat_eq s.0 x) _ s.1, s.2))
-]
 
 -- places that pass are apart
 same_nth : (t : ℕ → Bool) (n i j : ℕ) → i < length (places t n) → j < length (places t n) → get_or (places t n) i 0 ≡ get_or (places t n) j 0 → i ≡ j

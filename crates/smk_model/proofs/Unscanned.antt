@@ -13,7 +13,7 @@ use Rattle.smk_model.specs.Composed.{table_at}
 use Rattle.smk_model.specs.Selection.{is_full, nodes}
 use Rattle.smk_model.specs.NodeFaults.{FullRows, FullPairs, pair_limit, Asked, asked_of, is_crowded, fault_at, first_fault_from}
 use Rattle.smk_model.specs.GrowthLaws.{AgreeAtLeaves, UnscannedStays}
-use Rattle.smk_model.proofs.Places.{same_below, places_false}
+use Rattle.smk_base.proofs.Places.{same_below, places_false}
 use Rattle.smk_model.proofs.Composed.{sum_by_agree, unscanned_relates}
 use Rattle.smk_model.proofs.Counts.{sum_zero}
 use Rattle.smk_model.proofs.NodeFaults.{either}

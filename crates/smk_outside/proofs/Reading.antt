@@ -210,7 +210,7 @@ gives_from limit (Some bytes) after said (Err NoMemory) short (rest, some) =
     (first_line bytes, ((tt, Appends-nil said), line_taken (Some bytes) after (first_line bytes) (refl, rest, some)))
 gives_from limit before after said (Err Failed) short heard = (tt, Appends-nil said)
 
-none_taken : (left : Option (List (List ℕ))) → AreFirst left left []
+pub none_taken : (left : Option (List (List ℕ))) → AreFirst left left []
 none_taken None = tt
 none_taken (Some left) = refl
 

@@ -106,10 +106,13 @@ lines_cut rest n behind h k p =
 
 -- all but a carriage return at the end
 pub ended : (xs : List ℕ) (k : ℕ) (o : Bool) → length xs ≡ suc k → nat_eq (get_or xs k 0) 13 ≡ o → take (cond o k (suc k)) xs ≡ without_cr xs
+ended [] k o h e = absurd (omega arith)
+ended (b ∷ []) zero true h e = ap (λ p. cond p [] (b ∷ [])) (sym e)
+ended (b ∷ []) zero false h e = ap (λ p. cond p [] (b ∷ [])) (sym e)
+ended (b ∷ []) (suc k) o h e = absurd (omega arith)
+ended (b ∷ c ∷ bs) zero o h e = absurd (omega arith)
 ended (b ∷ c ∷ bs) (suc k) true h e = ap (λ l. b ∷ l) (ended (c ∷ bs) k true (omega arith) e)
 ended (b ∷ c ∷ bs) (suc k) false h e = ap (λ l. b ∷ l) (ended (c ∷ bs) k false (omega arith) e)
-ended (b ∷ []) zero _ h e = ap (λ p. cond p [] (b ∷ [])) (sym e)
-ended _ _ o h e = absurd (omega arith)
 
 cuts : (script : List ℕ) (from : ℕ) (r : List ℕ) (n kept behind : ℕ) → r ≡ drop from script → from < length script → n ≡ length (take_while no_line_end r) → n ≤ length r → kept ≤ n → take kept (take n r) ≡ without_cr (take n r) → behind ≡ min (length r) (n + 1) → Cuts script from (record { start = from; end = from + kept; next = from + behind })
 cuts script from r n kept behind f h e w k t p =

@@ -13,7 +13,7 @@ use Rattle.smk_base.specs.declared.value.Kind.TheVariants as kinds
 use Rattle.smk_model.specs.Kinds.{AggFits, kind_of_agg, summed}
 use Rattle.smk_model.specs.Plain.{aggregate, combined, greater, lesser, number_of, total}
 use Rattle.smk_model.specs.Values.{Row, value_at}
-use Rattle.smk_model.proofs.Places.{map_map}
+use Rattle.smk_base.proofs.Places.{map_map}
 use Rattle.smk_body.proofs.Aggregating.{map_where}
 use Rattle.smk_body.proofs.Besides.{map_same}
 use Rattle.smk_push.specs.Inputs.{AreRead, moved_to, read_by}

@@ -17,19 +17,18 @@ use Rattle.smk_model.specs.Values.{Row}
 use Rattle.smk_model.specs.Lineage.{row_at}
 use Rattle.smk_model.proofs.Classes.{classes_are, first_below}
 use Rattle.smk_model.proofs.Bulk.{bulk}
-use Rattle.smk_model.proofs.Places.{at_places, filter_map, map_map, map_upto, map_upto_agree, places_below, same_below}
+use Rattle.smk_base.proofs.Places.{at_places, filter_map, map_map, map_upto, map_upto_agree, places_below, same_below, few_places}
 use Rattle.smk_body.specs.Halves.{AreNumbered, class_places}
 use Rattle.smk_body.proofs.Aggregating.{map_where}
 use Rattle.smk_body.proofs.Besides.{map_same, related, relation}
 use Rattle.smk_body.proofs.Classing.{are_numbered, first_at, length_firsts}
-use Rattle.smk_body.proofs.Folding.{length_places-le}
 use Rattle.smk_push.specs.Cubes.{cube_of}
 use Rattle.smk_push.proofs.Read.{rows_picked}
 use Rattle.smk_push.specs.Inputs.{AreRead, IsInput, cube_from, grouped_at, rids_of}
 
 -- a set of places below n has at most n
 pub few_places : (n : ℕ) (A : List ℕ) → IsPlaces n A → length A ≤ n
-few_places n A set = omega (arith, ap length set, length_places-le (has A) n)
+few_places n A set = omega (arith, ap length set, few_places (has A) n)
 
 -- one list more
 pub one_more : (f : List ℕ → Relation) (lists : List (List ℕ)) (m : ℕ) (groups : List Relation) (made : Relation) → m < length lists

@@ -1,5 +1,5 @@
 -- Lists of at most one rid.
-use Rattle.std.proofs.Common.{◌≡◌, ◌∙◌, ◌<◌, ◌≤◌, ℕ, zero, suc, length, List, [], ◌∷◌, ◌++◌, refl, sym, ap, subst, map, arith, get_or, set, take, drop, Option, None, Some, false, inl, inr}
+use Rattle.std.proofs.Common.{◌≡◌, ◌∙◌, ◌<◌, ◌≤◌, ℕ, zero, suc, length, List, [], ◌∷◌, ◌++◌, refl, sym, ap, map, arith, get_or, set, take, drop, Option, None, Some, inl, inr}
 use Rattle.std.proofs.lemmas.Bool.{cases_eq, eq-eqb, ne_eqb}
 use Rattle.std.specs.Option.{option_to_list, IfSome}
 use Rattle.std.specs.List.{All}
@@ -11,12 +11,8 @@ use Rattle.std.proofs.lemmas.List.Folds.{sum_by-replicate}
 use Rattle.smk_base.specs.Places.{upto, IsPlaces, pairs_of, own_lists, empty_lists}
 use Rattle.smk_rid.specs.Maps.{IsMap, IsSingle, array_lists}
 use Rattle.smk_rid.specs.Packing.{one_of}
-use Rattle.smk_rid.proofs.Sets.{none_pass, nil_is, grown, upto_below, length-upto}
 use Rattle.smk_rid.proofs.Packs.{one_is}
-
--- one place is a set of places
-pub one_place : (n i : ℕ) → i < n → IsPlaces n (i ∷ [])
-one_place n i h = subst (λ (z : List ℕ). IsPlaces n (z ++ i ∷ [])) (none_pass i) (grown (λ r. false) n i h)
+use Rattle.smk_base.proofs.Places.{no_place, upto_below, length_upto, one_place}
 
 -- lists of at most one rid have no more rids than there are lists
 pub pairs_single : (lists : List (List ℕ)) → IsSingle lists → pairs_of lists ≤ length lists
@@ -38,12 +34,12 @@ pairs_ones [] = refl
 pairs_ones (x ∷ xs) = omega (arith, sum_by-cons (length {A = ℕ}) (x ∷ []) (map (λ i. i ∷ []) xs), pairs_ones xs)
 
 pub pairs-own : (n : ℕ) → pairs_of (map (λ i. i ∷ []) (upto n)) ≡ n
-pairs-own n = pairs_ones (upto n) ∙ length-upto n
+pairs-own n = pairs_ones (upto n) ∙ length_upto n
 
 pub IsMap-own_lists : (n : ℕ) → n ≤ 1048576 → IsMap (own_lists n)
 IsMap-own_lists n h = record {
   sets = All-map (IsPlaces n) (λ i. i ∷ []) (upto n) (All-weaker (λ i. i < n) (λ i. IsPlaces n (i ∷ [])) (one_place n) (upto n) (upto_below n));
-  short = omega (arith, length-map (upto n) (λ i. i ∷ []), length-upto n);
+  short = omega (arith, length-map (upto n) (λ i. i ∷ []), length_upto n);
   few = omega (arith, pairs-own n);
 }
 
@@ -79,7 +75,7 @@ pairs-replicate n = omega (arith, sum_by-replicate (length {A = ℕ}) n [])
 
 pub IsMap-empty_lists : (n bound : ℕ) → n < 4294967296 → IsMap (empty_lists n bound)
 IsMap-empty_lists n bound h = record {
-  sets = All-replicate (IsPlaces bound) n [] (nil_is bound);
+  sets = All-replicate (IsPlaces bound) n [] (no_place bound);
   short = omega (arith, length-replicate n (let e : List ℕ = [] in e));
   few = omega (arith, pairs-replicate n);
 }
@@ -104,7 +100,7 @@ ones-set rids bound i rid below h free =
 
 -- optional rids
 option_set : (n : ℕ) (o : Option ℕ) → IfSome o (λ r. r < n) → IsPlaces n (option_to_list o)
-option_set n None h = nil_is n
+option_set n None h = no_place n
 option_set n (Some r) h = one_place n r h
 
 option_single : (o : Option ℕ) → length (option_to_list o) ≤ 1

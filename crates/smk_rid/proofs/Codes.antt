@@ -9,7 +9,7 @@ use Rattle.std.proofs.lemmas.List.Sums.{sum_by_more}
 use Rattle.std.proofs.lemmas.Grind.{flat_map-append}
 use Rattle.smk_base.specs.Places.{pairs_of, upto}
 use Rattle.smk_rid.specs.Packing.{one_of}
-use Rattle.smk_rid.proofs.Sets.{get_or-upto}
+use Rattle.smk_base.proofs.Places.{get_or_upto}
 
 -- the list that a code stands for
 pub at_code : {C : Type 0} (number : C → ℕ) (codes : List C) (p : ℕ) (code : C) (n : ℕ) → p < length codes → code ≡ get_or codes p code → n ≡ number code → get_or (map one_of (map number codes)) p [] ≡ one_of n
@@ -45,7 +45,7 @@ pairs_more number codes k code n low is e =
 -- one of the numbers below a bound
 pub upto_alone : (numbers : List ℕ) (rid : ℕ) → numbers ≡ upto (length numbers) → rid < length numbers → take (rid + 1 - rid) (drop rid numbers) ≡ rid ∷ []
 upto_alone numbers rid all low =
-    let at : get_or numbers rid 0 ≡ rid = ap (λ (z : List ℕ). get_or z rid 0) all ∙ get_or-upto (length numbers) rid 0 low in
+    let at : get_or numbers rid 0 ≡ rid = ap (λ (z : List ℕ). get_or z rid 0) all ∙ get_or_upto (length numbers) rid 0 low in
     let one : rid + 1 - rid ≡ 1 = omega arith in
     ap (λ (k : ℕ). take k (drop rid numbers)) one ∙ ap (take 1) (drop_more numbers rid 0 low) ∙ ap (λ (r : ℕ). r ∷ []) at
 

@@ -7,10 +7,11 @@ use Rattle.std.proofs.lemmas.List.Elements.{All-push, All-weaker, All-contains, 
 use Rattle.std.proofs.lemmas.List.Folds.{list_any-append}
 use Rattle.std.proofs.lemmas.List.Quantifiers.{all_pairs_push}
 use Rattle.smk_base.specs.Places.{Lists, IsPlaces, has, list_at, members_at}
-use Rattle.smk_rid.proofs.Sets.{or_false, same_below}
+use Rattle.smk_rid.proofs.Sets.{or_false}
 use Rattle.smk_rid.proofs.Rising.{has_from, member_from, rising_is}
 use Rattle.smk_rid.proofs.Joins.{has-flat_map}
 use Rattle.smk_rid.proofs.Through.{flat_below}
+use Rattle.smk_base.proofs.Places.{same_below}
 
 -- the rids so far are those that a test finds, none is above the number but where they don't rise, and the last one is one below it
 pub record IsGathered (found : ℕ → Bool) (rids : List ℕ) (above : ℕ) (rises : Bool) : Type 0 where

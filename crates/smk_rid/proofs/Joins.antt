@@ -8,8 +8,9 @@ use Rattle.std.proofs.lemmas.List.Sums.{sum_by_push, sum_by-set}
 use Rattle.std.proofs.lemmas.List.{get_or_default, length_push, length-set, length-map, same_lists}
 use Rattle.smk_base.specs.Places.{Lists, upto, places, has, IsPlaces, pairs_of, list_at, members_at, composed, merged}
 use Rattle.smk_rid.specs.Maps.{IsMap, with_list, with_rid_at, merge_at}
-use Rattle.smk_rid.proofs.Sets.{at_upto, same_below, nil_is, places_are, length-upto, or_false, alone}
+use Rattle.smk_rid.proofs.Sets.{or_false, alone}
 use Rattle.smk_rid.proofs.Rising.{set_push}
+use Rattle.smk_base.proofs.Places.{get_or_map_upto, same_below, no_place, places_are, length_upto}
 
 pub has-flat_map : (f : ℕ → List ℕ) (xs : List ℕ) (r : ℕ) → has (flat_map f xs) r ≡ list_any (λ i. has (f i) r) xs
 has-flat_map f [] r = refl
@@ -24,7 +25,7 @@ members_set m xs = places_are (λ r. list_any (λ i. has (list_at m i) r) xs) m.
 
 pub IsMap-more : (m : Lists) → IsMap m → length m.lists < 4294967295 → IsMap (with_list m [])
 IsMap-more m h room = record {
-  sets = All-push (IsPlaces m.bound) m.lists [] h.sets (nil_is m.bound);
+  sets = All-push (IsPlaces m.bound) m.lists [] h.sets (no_place m.bound);
   short = omega (arith, length_push {X = List ℕ} m.lists []);
   few = omega (arith, h.few, sum_by_push (length {A = ℕ}) m.lists []);
 }
@@ -49,7 +50,7 @@ IsMap-composed a b short few = record {
 pub IsMap-merged : (a b : Lists) → length a.lists < 4294967296 → pairs_of (merged a b).lists ≤ 16777216 → IsMap (merged a b)
 IsMap-merged a b short few = record {
   sets = All-map (IsPlaces a.bound) (merge_at a b) (upto (length a.lists)) (λ k d l. let i = get_or (upto (length a.lists)) k d in places_are (λ r. has (list_at a i) r || has (list_at b i) r) a.bound);
-  short = omega (arith, short, length-map (upto (length a.lists)) (merge_at a b), length-upto (length a.lists));
+  short = omega (arith, short, length-map (upto (length a.lists)) (merge_at a b), length_upto (length a.lists));
   few = few;
 }
 
@@ -68,7 +69,7 @@ flat_all lists =
     all_lists lists =
         let at = λ (i : ℕ). get_or lists i [] in
         let n = length lists in
-        let long : length (map at (upto n)) ≡ n = length-map (upto n) at ∙ length-upto n in
+        let long : length (map at (upto n)) ≡ n = length-map (upto n) at ∙ length_upto n in
         same_lists (map at (upto n)) lists long (λ k d low.
         let lowk : k < n = omega (arith, low, long) in
-        at_upto at n k d lowk ∙ get_or_default lists k [] d lowk)
+        get_or_map_upto at n k d lowk ∙ get_or_default lists k [] d lowk)

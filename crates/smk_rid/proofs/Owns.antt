@@ -4,17 +4,17 @@ use Rattle.std.proofs.lemmas.Bool.{cases_eq, eq-eqb, ne_eqb}
 use Rattle.std.proofs.lemmas.List.{same_lists, length-map, get_or_default}
 use Rattle.smk_base.specs.Places.{Lists, upto, own_lists}
 use Rattle.smk_rid.specs.Packing.{one_of}
-use Rattle.smk_rid.proofs.Sets.{length-upto, at_upto}
+use Rattle.smk_base.proofs.Places.{length_upto, get_or_map_upto}
 
 -- lists that each have their own place alone
 pub own_is : (lists : List (List ℕ)) → ((k : ℕ) → k < length lists → get_or lists k [] ≡ k ∷ []) → lists ≡ map (λ i. i ∷ []) (upto (length lists))
 own_is lists each =
     let n = length lists in
-    let long : length (map (λ (i : ℕ). i ∷ []) (upto n)) ≡ n = length-map (upto n) (λ (i : ℕ). i ∷ []) ∙ length-upto n in
-    same_lists lists (map (λ i. i ∷ []) (upto n)) (sym long) (λ k d low. get_or_default lists k d [] low ∙ each k low ∙ sym (at_upto (λ (i : ℕ). i ∷ []) n k d low))
+    let long : length (map (λ (i : ℕ). i ∷ []) (upto n)) ≡ n = length-map (upto n) (λ (i : ℕ). i ∷ []) ∙ length_upto n in
+    same_lists lists (map (λ i. i ∷ []) (upto n)) (sym long) (λ k d low. get_or_default lists k d [] low ∙ each k low ∙ sym (get_or_map_upto (λ (i : ℕ). i ∷ []) n k d low))
 
 pub own_at : (lists : List (List ℕ)) (i : ℕ) → i < length lists → lists ≡ map (λ k. k ∷ []) (upto (length lists)) → get_or lists i [] ≡ i ∷ []
-own_at lists i low is = ap (λ (x : List (List ℕ)). get_or x i []) is ∙ at_upto (λ (k : ℕ). k ∷ []) (length lists) i [] low
+own_at lists i low is = ap (λ (x : List (List ℕ)). get_or x i []) is ∙ get_or_map_upto (λ (k : ℕ). k ∷ []) (length lists) i [] low
 
 -- the number that stands for a list of one rid
 pub one_back : (r i : ℕ) → one_of r ≡ i ∷ [] → r ≡ i

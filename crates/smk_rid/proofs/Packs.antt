@@ -8,7 +8,8 @@ use Rattle.std.proofs.lemmas.List.Folds.{concat-append}
 use Rattle.std.proofs.lemmas.List.Sums.{sum_by_push, sum_by_more, sum_by-take-le, sum_by-cons}
 use Rattle.smk_base.specs.Places.{upto, pairs_of}
 use Rattle.smk_rid.specs.Packing.{one_of, part, cut, IsPacking}
-use Rattle.smk_rid.proofs.Sets.{length-upto, at_upto, alone}
+use Rattle.smk_rid.proofs.Sets.{alone}
+use Rattle.smk_base.proofs.Places.{length_upto, get_or_map_upto}
 
 -- the length of all lists together
 pub length-concat : (lists : List (List ℕ)) → length (concat lists) ≡ pairs_of lists
@@ -33,11 +34,11 @@ pub cut_is : (starts rids : List ℕ) (lists : List (List ℕ)) → IsPacking st
 unfolding cut
 cut_is starts rids lists h =
     let n = length starts - 1 in
-    let long : length (map (part starts rids) (upto n)) ≡ n = length-map (upto n) (part starts rids) ∙ length-upto n in
+    let long : length (map (part starts rids) (upto n)) ≡ n = length-map (upto n) (part starts rids) ∙ length_upto n in
     same_lists (map (part starts rids) (upto n)) lists (omega (arith, h.size, long)) (λ k d low.
     let lowk : k < n = omega (arith, low, long) in
     let within : k < length lists = omega (arith, lowk, h.size) in
-    at_upto (part starts rids) n k d lowk
+    get_or_map_upto (part starts rids) n k d lowk
     ∙ ap (λ xs. slice_range xs (get_or starts k 0) (get_or starts (k + 1) 0)) h.all
     ∙ part-concat lists k (get_or starts k 0) (get_or starts (k + 1) 0) within (h.offsets k (omega arith)) (h.offsets (k + 1) (omega arith))
     ∙ get_or_default lists k [] d within)

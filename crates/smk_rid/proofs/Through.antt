@@ -7,12 +7,13 @@ use Rattle.std.proofs.lemmas.List.Sums.{sum_by_push}
 use Rattle.smk_base.specs.Places.{Lists, IsPlaces, pairs_of, list_at, members_at, upto}
 use Rattle.smk_rid.specs.Maps.{IsMap}
 use Rattle.smk_rid.specs.Packing.{one_of}
-use Rattle.smk_rid.proofs.Sets.{none_pass, is_below, lifted, upto_below}
+use Rattle.smk_rid.proofs.Sets.{is_below, lifted}
 use Rattle.smk_rid.proofs.Joins.{members_one}
+use Rattle.smk_base.proofs.Places.{places_false, upto_below}
 
 -- the members of the list at no place or at one are that list
 pub members_single : (m : Lists) (xs : List ℕ) → All (IsPlaces m.bound) m.lists → All (λ p. p < length m.lists) xs → length xs ≤ 1 → flat_map (list_at m) xs ≡ members_at m xs
-members_single m [] sets below few = sym (none_pass m.bound)
+members_single m [] sets below few = sym (places_false m.bound)
 members_single m (x ∷ []) sets below few =
     append-nil (list_at m x) ∙ members_one m (x ∷ []) refl (sets x [] (below 0 0 (omega arith)))
 members_single m (x ∷ y ∷ ys) sets below few = absurd (omega arith)

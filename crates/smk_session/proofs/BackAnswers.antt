@@ -32,7 +32,7 @@ use Rattle.smk_model.specs.Values.{Row}
 use Rattle.smk_model.specs.Workload.{declares_back}
 use Rattle.smk_model.proofs.Anys.{or_false}
 use Rattle.smk_model.proofs.Composed.{lists_stand}
-use Rattle.smk_model.proofs.Places.{same_below}
+use Rattle.smk_base.proofs.Places.{same_below}
 use Rattle.smk_compose.specs.declared.kept_maps.Run.{Run}
 use Rattle.smk_push.specs.Cubes.{cube_at, cube_of}
 use Rattle.smk_skip.specs.Splits.{SplitImage}

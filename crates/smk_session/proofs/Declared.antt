@@ -2,7 +2,7 @@
 use Rattle.std.proofs.Common.{◌≡◌, ℕ, zero, suc, ◌+◌, ◌<◌, ◌≤◌, Bool, true, false, ◌&&◌, ◌||◌, cond, List, [], ◌∷◌, ◌++◌, length, take, get_or, refl, ap, sym, ◌∙◌, subst, arith, nat_eq, Option, Some, None, Ok, Err, ok_or, option_map, is_some, slice_get, All, inl, inr, append_assoc, append-nil, take_all}
 use Rattle.std.specs.List.{AllZip, cons_option, filter, filter_map, list_any, position_or_len, sum_by}
 use Rattle.std.specs.Option.{option_or, option_to_list}
-use Rattle.std.proofs.lemmas.Bool.{cases_Bool, eqb-true, false≢true}
+use Rattle.std.proofs.lemmas.Bool.{cases_Bool, eqb-true, false≢true, and_parts}
 use Rattle.std.proofs.lemmas.List.{get_or-map, length-map, map-append, take_more}
 use Rattle.std.proofs.lemmas.List.Elements.{All-head, All-tail, filter_map-append}
 use Rattle.std.proofs.lemmas.List.Sums.{sum_by_more, sum_by-take-le}
@@ -24,7 +24,7 @@ use Rattle.smk_model.specs.Replies.{Grouped, first_grouping, grouping_in, is_by,
 use Rattle.smk_model.specs.Session.{Workbook, view_at}
 use Rattle.smk_model.specs.Typing.{info_at}
 use Rattle.smk_model.specs.Workload.{is_back}
-use Rattle.smk_model.proofs.Places.{get_or_map_upto}
+use Rattle.smk_base.proofs.Places.{get_or_map_upto}
 use Rattle.smk_compose.specs.declared.kept_maps.Run.{Run}
 use Rattle.smk_skip.specs.Splits.{SplitImage}
 use Rattle.smk_session.specs.Answers.{kept_back}
@@ -35,6 +35,7 @@ use Rattle.smk_session.specs.declared.start.making.Asked.{Asked}
 use Rattle.smk_session.specs.declared.start.making.Made.{Made}
 use Rattle.smk_session.proofs.KeptOf.{kept_back_is}
 use Rattle.smk_session.proofs.Opened.{views_long}
+use Rattle.smk_model.proofs.Anys.{and_false}
 
 -- a view whose place is taken
 pub now_fresh : (fresh : List (Option Run)) (views : List Run) (v : ℕ) (run : Run) → get_or fresh v None ≡ Some run → newer (get_or fresh v None) (get_or views v run) ≡ run
@@ -177,12 +178,13 @@ kept_all book h all made n old after zip whole are =
 kept_step : {Y : Type 0} (p : Back → Bool) (made : Option Y) (asks takes : Bool) (declared : Back) (kept : List Y) (more : List Back) → asks ≡ is_some made → p declared ≡ takes
     → slice_get (cons_option made kept) (position_or_len p (cond asks (declared ∷ more) more)) ≡ option_or (cond takes made None) (slice_get kept (position_or_len p more))
 kept_step p None true takes declared kept more e f = absurd (cc e)
+kept_step p None false true declared kept more e f = refl
+kept_step p None false false declared kept more e f = refl
 kept_step p (Some y) false takes declared kept more e f = absurd (cc e)
 kept_step p (Some y) true true declared kept more e f = rw f refl
 kept_step p (Some y) true false declared kept more e f =
     let next : 1 + position_or_len p more ≡ suc (position_or_len p more) = omega arith in
     rw f (ap (slice_get (y ∷ kept)) next)
-kept_step p None false _ declared kept more e f = refl
 
 kept_first : {Y : Type 0} (h : Back → Option Y) (q p : Back → Bool) → ((declared : Back) → q declared ≡ is_some (h declared)) → (declarations : List Back)
     → slice_get (filter_map h declarations) (position_or_len p (filter q declarations)) ≡ first_some (λ declared. cond (p declared) (h declared) None) declarations
@@ -193,22 +195,14 @@ kept_first h q p asks (declared ∷ more) =
 
 -- the split by a column is found exactly where it is declared
 
-both : (a b : Bool) → (a && b) ≡ true → (a ≡ true) × (b ≡ true)
-both true true h = (refl, refl)
-both _ _ h = absurd (false≢true h)
-
-and_false : (a : Bool) → (a && false) ≡ false
-and_false true = refl
-and_false false = refl
-
 split_asked : (book : Workbook) (v t : ℕ) (extra : BackExtra) → asks_split extra ≡ is_some (split_for book v t extra)
 split_asked book v t extras.Plain = refl
 split_asked book v t _ = refl
 
 same_split : (book : Workbook) (w u column v t c : ℕ) → ((nat_eq w v && nat_eq u t) && nat_eq column c) ≡ true → split_on book w u column ≡ split_on book v t c
 same_split book w u column v t c h =
-    let pair = both (nat_eq w v && nat_eq u t) (nat_eq column c) h in
-    let names = both (nat_eq w v) (nat_eq u t) pair.0 in
+    let pair = and_parts (nat_eq w v && nat_eq u t) (nat_eq column c) h in
+    let names = and_parts (nat_eq w v) (nat_eq u t) pair.0 in
     rw (eqb-true w v names.0, eqb-true u t names.1, eqb-true column c pair.1) refl
 
 split_more : (book : Workbook) (v t c w u : ℕ) (extra : BackExtra) (kept : Option SplitImage) (more : Bool) → kept ≡ cond more (Some (split_on book v t c)) None
@@ -241,7 +235,7 @@ groups_asked book v t _ = refl
 cubes_here : (book : Workbook) (v t w u : ℕ) (extra : BackExtra) (kept : Option (List Relation)) (more : Option Grouped) → (nat_eq w v && nat_eq u t) ≡ true → kept ≡ option_map (cubes_of_grouped book v t) more
     → option_or (cubes_for book w u extra) kept ≡ option_map (cubes_of_grouped book v t) (option_or (grouping_in extra) more)
 cubes_here book v t w u (extras.Grouped keys aggs names kinds) kept more e h =
-    let pair = both (nat_eq w v) (nat_eq u t) e in
+    let pair = and_parts (nat_eq w v) (nat_eq u t) e in
     let same : cubes_on book w u keys aggs ≡ cubes_on book v t keys aggs = rw (eqb-true w v pair.0, eqb-true u t pair.1) refl in
     ap (λ (cubes : List Relation). Some cubes) same
 cubes_here book v t w u _ kept more e h = h
@@ -277,9 +271,6 @@ place_found q p (x ∷ xs) (suc i) d low at none asks is = elim (cases_Bool (q x
   ]
 ]
 
-pub both_true : (a b : Bool) → a ≡ true → b ≡ true → (a && b) ≡ true
-both_true a b h k = rw (h, k) refl
-
 -- a declared grouping fits its table
 
 abbrev Fits : List Kind → Grouped → Type 0
@@ -299,7 +290,7 @@ grouping_fits tables views v t (declared ∷ more) grouped all h =
     elim (cases_Bool (is_back v t declared)) [
       | inl e ↦
           (let here : option_or (grouping_in declared.extra) (first_grouping (filter (is_back v t) more)) ≡ Some grouped = rw e at h in
-          let same : declared.table ≡ t = eqb-true declared.table t (both (nat_eq declared.view v) (nat_eq declared.table t) e).1 in
+          let same : declared.table ≡ t = eqb-true declared.table t (and_parts (nat_eq declared.view v) (nat_eq declared.table t) e).1 in
           let fits : ExtraFits (table_kinds (info_at tables t)) declared.extra = subst (λ (k : ℕ). ExtraFits (table_kinds (info_at tables k)) declared.extra) same (All-head (BackFits tables views) declared more all).extra in
           fits_here (table_kinds (info_at tables t)) declared.extra (first_grouping (filter (is_back v t) more)) grouped fits rest here)
       | inr e ↦ (let there : first_grouping (filter (is_back v t) more) ≡ Some grouped = rw e at h in rest there)

@@ -21,7 +21,7 @@ use Rattle.smk_model.specs.Selection.{PickFits, PlanFits, each_kinds, each_rows,
 use Rattle.smk_model.specs.Session.{concerns, leaves_now, linked, rows_of_table, selected_for, view_at}
 use Rattle.smk_model.specs.Workload.{declares_fwd}
 use Rattle.smk_model.proofs.Composed.{lists_stand}
-use Rattle.smk_model.proofs.Places.{places_below}
+use Rattle.smk_base.proofs.Places.{places_below}
 use Rattle.smk_compose.specs.declared.kept_maps.Run.{Run}
 use Rattle.smk_session.specs.Answers.{AreOn, chosen_of, kept_fwd, picks_chosen, rids_or_all}
 use Rattle.smk_session.specs.Refreshed.{Names, book_at}

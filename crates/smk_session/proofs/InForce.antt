@@ -1,7 +1,7 @@
 -- What brushes change of the contents that are kept, and what they leave.
-use Rattle.std.proofs.Common.{◌≡◌, ℕ, ◌<◌, Bool, true, false, cond, ◌&&◌, List, [], ◌∷◌, ◌++◌, length, map, set, get_or, refl, ap, sym, ◌∙◌, subst, arith, nat_eq, Option, Some, None, All, inl, inr}
+use Rattle.std.proofs.Common.{◌≡◌, ℕ, ◌<◌, Bool, true, false, cond, List, [], ◌∷◌, ◌++◌, length, map, set, get_or, refl, ap, sym, ◌∙◌, subst, arith, nat_eq, Option, Some, None, All, inl, inr}
 use Rattle.std.specs.List.{filter, list_all, list_any}
-use Rattle.std.proofs.lemmas.Bool.{cases_Bool, eqb-true, eq-eqb, false≢true}
+use Rattle.std.proofs.lemmas.Bool.{cases_Bool, eqb-true, eq-eqb, false≢true, and_parts}
 use Rattle.std.proofs.lemmas.List.{length-map, length-set, get_or-set_same, get_or-set_other}
 use Rattle.std.proofs.lemmas.List.Elements.{All-nil, All-cons, All-head, All-tail}
 use Rattle.smk_base.specs.CatalogImage.{CatalogImage}
@@ -14,11 +14,12 @@ use Rattle.smk_model.specs.Plain.{eval, rows_over}
 use Rattle.smk_model.specs.Selection.{over}
 use Rattle.smk_model.specs.Replies.{content_of}
 use Rattle.smk_model.specs.Session.{State, concerns, content, is_brush, linked, picks_for, rows_of_table, view_at, with_brush, without_brush}
-use Rattle.smk_model.proofs.Places.{get_or_map_upto, length_upto, map_upto, map_upto_agree}
+use Rattle.smk_base.proofs.Places.{get_or_map_upto, length_upto, map_upto, map_upto_agree}
 use Rattle.smk_model.proofs.Replies.{first_contents}
 use Rattle.smk_session.specs.Answers.{placed}
 use Rattle.smk_session.specs.Sessions.{content_kept, follows}
 use Rattle.smk_session.specs.declared.turn.Content.{Content}
+use Rattle.smk_session.proofs.Followers.{pick_with}
 
 -- a brush more or less, and a test that no brush of its view and table passes
 
@@ -67,13 +68,9 @@ with_kept p brush brushes h = elim (cases_Bool (list_any (is_brush brush.view br
 
 -- a brush of a view and a table concerns no view that their links don't name
 
-both : (a b : Bool) → (a && b) ≡ true → (a ≡ true) × (b ≡ true)
-both true true h = (refl, refl)
-both _ _ h = absurd (false≢true h)
-
 pub unfollowed : (catalog : CatalogImage) (v t w : ℕ) (b : BrushOn) → has (linked catalog v t) w ≡ false → is_brush v t b ≡ true → follows catalog w b ≡ false
 unfollowed catalog v t w b unnamed is =
-    let p = both (nat_eq b.view v) (nat_eq b.table t) is in
+    let p = and_parts (nat_eq b.view v) (nat_eq b.table t) is in
     ap (λ i. has (linked catalog i b.table) w) (eqb-true b.view v p.0) ∙ ap (λ i. has (linked catalog v i) w) (eqb-true b.table t p.1) ∙ unnamed
 
 pub unconcerned : (catalog : CatalogImage) (v t w u : ℕ) (b : BrushOn) → has (linked catalog v t) w ≡ false → is_brush v t b ≡ true → concerns catalog w u b ≡ false
@@ -87,12 +84,9 @@ unconcerned catalog v t w u b unnamed is = elim (cases_Bool (nat_eq b.table u)) 
 abbrev under_brushes : List (List Row) → List BrushOn → State
 under_brushes tables brushes = record { tables = tables; brushes = brushes }
 
-abbrev pick_of : ℕ → List ℕ → Pick
-pick_of t rids = record { table = t; rids = rids }
-
 same_picks : (catalog : CatalogImage) (tables : List (List Row)) (bs cs : List BrushOn) (w : ℕ) → ((u : ℕ) → filter (concerns catalog w u) bs ≡ filter (concerns catalog w u) cs)
     → picks_for catalog (under_brushes tables bs) w ≡ picks_for catalog (under_brushes tables cs) w
-same_picks catalog tables bs cs w same = map_upto_agree _ _ (length tables) (λ t low. ap (λ (l : List BrushOn). pick_of t (places (λ rid. list_all (λ (brush : BrushOn). has brush.rids rid) l) (length (rows_of_table (under_brushes tables []) t)))) (same t))
+same_picks catalog tables bs cs w same = map_upto_agree _ _ (length tables) (λ t low. ap (λ (l : List BrushOn). pick_with t (places (λ rid. list_all (λ (brush : BrushOn). has brush.rids rid) l) (length (rows_of_table (under_brushes tables []) t)))) (same t))
 
 same_content : (catalog : CatalogImage) (tables : List (List Row)) (bs cs : List BrushOn) (w : ℕ) → ((u : ℕ) → filter (concerns catalog w u) bs ≡ filter (concerns catalog w u) cs)
     → content catalog (under_brushes tables bs) w ≡ content catalog (under_brushes tables cs) w

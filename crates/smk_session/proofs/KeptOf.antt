@@ -13,7 +13,7 @@ use Rattle.smk_base.specs.declared.reply.Refusal.TheVariants.{Undeclared}
 use Rattle.smk_model.specs.Values.{Row}
 use Rattle.smk_model.specs.Composed.{backs, forwards}
 use Rattle.smk_model.specs.Workload.{declares_back, declares_fwd, needed_at, needs}
-use Rattle.smk_model.proofs.Places.{filter_map, map_map}
+use Rattle.smk_base.proofs.Places.{filter_map, map_map}
 use Rattle.smk_body.specs.Locals.{wanted}
 use Rattle.smk_compose.specs.KeptMaps.{kept_at}
 use Rattle.smk_compose.specs.declared.kept_maps.KeptMap.{KeptMap}
@@ -82,7 +82,9 @@ back_where false false t m n = refl
 fwd_where : (b f : Bool) (t : ℕ) (m n : Lists)
     → ok_or (option_and_then (λ (k : KeptMap). k.fwd) (cond (b || f) (Some (record { table = t; back = wanted b m; fwd = wanted f n })) None)) Undeclared ≡ cond f (Ok n) (Err Undeclared)
 fwd_where true true t m n = refl
-fwd_where _ _ t m n = refl
+fwd_where true false t m n = refl
+fwd_where false true t m n = refl
+fwd_where false false t m n = refl
 
 pub kept_back_is : (catalog : CatalogImage) (plan : Expr) (tables : List (List Row)) (v t : ℕ) → t < length catalog.tables
     → kept_back (map (kept_at plan tables) (needs catalog v)) t ≡ cond (declares_back catalog v t) (Ok (backs plan tables t)) (Err Undeclared)

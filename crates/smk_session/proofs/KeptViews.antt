@@ -22,7 +22,7 @@ use Rattle.smk_model.specs.Selection.{PlanFits, ScansFit, each_rows, first_full,
 use Rattle.smk_model.specs.Session.{State, concerns, leaves_now, no_view, picks_for, selected_for, view_at}
 use Rattle.smk_model.specs.Values.{Row}
 use Rattle.smk_model.proofs.Composed.{lists_stand}
-use Rattle.smk_model.proofs.Places.{length_upto, map_upto, places_below}
+use Rattle.smk_base.proofs.Places.{length_upto, map_upto, places_below, few_places}
 use Rattle.smk_model.proofs.Selections.{filter-true}
 use Rattle.smk_body.proofs.Besides.{related}
 use Rattle.smk_compose.specs.declared.kept_maps.Run.{Run}
@@ -58,9 +58,6 @@ picked_now catalog state w t low =
     ap (option_map (λ (pick : Pick). pick.rids)) (find_mapped (λ (pick : Pick). nat_eq pick.table t) (pick_for catalog state w) (upto n))
     ∙ ap (λ (ts : List ℕ). option_map (λ (pick : Pick). pick.rids) (option_map (pick_for catalog state w) (find (λ i. nat_eq i t) ts))) (sym (filter-true (upto n)))
     ∙ ap (λ (o : Option ℕ). option_map (λ (pick : Pick). pick.rids) (option_map (pick_for catalog state w) o)) (found (λ i. true) n t low)
-
-few_places : (q : ℕ → Bool) (n : ℕ) → length (places q n) ≤ n
-few_places q n = subst (λ (m : ℕ). length (places q n) ≤ m) (length_upto n) (few_kept q (upto n))
 
 -- where as many places are kept as there are, all are
 all_pass : (q : ℕ → Bool) (xs : List ℕ) → length xs ≤ length (filter q xs) → filter q xs ≡ xs

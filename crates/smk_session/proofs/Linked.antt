@@ -1,7 +1,7 @@
 -- The views that links name, and what is asked of them one after the other.
 use Rattle.std.proofs.Common.{◌≡◌, ℕ, ◌+◌, ◌<◌, ◌≤◌, Bool, true, false, ◌&&◌, ◌||◌, List, [], ◌∷◌, length, take, get_or, refl, ap, sym, ◌∙◌, arith, nat_eq, All, inl, inr}
 use Rattle.std.specs.List.{filter, flat_map, list_any, sum_by}
-use Rattle.std.proofs.lemmas.Bool.{cases_Bool, eq-eqb, false≢true}
+use Rattle.std.proofs.lemmas.Bool.{cases_Bool, eq-eqb, and_parts}
 use Rattle.std.proofs.lemmas.List.Elements.{All-append, All-head, All-tail}
 use Rattle.std.proofs.lemmas.List.Folds.{list_any-append, list_any_at}
 use Rattle.std.proofs.lemmas.List.Sums.{sum_by_more, sum_by-take-le}
@@ -21,10 +21,6 @@ has_linked p (link ∷ links) w = elim (cases_Bool (p link)) [
   | inr h ↦ rw h (has_linked p links w)
 ]
 
-both : (a b : Bool) → (a && b) ≡ true → (a ≡ true) × (b ≡ true)
-both true true h = (refl, refl)
-both _ _ h = absurd (false≢true h)
-
 pub or_right : (a : Bool) → (a || true) ≡ true
 or_right true = refl
 or_right false = refl
@@ -32,7 +28,7 @@ or_right false = refl
 linked_of : (v t w : ℕ) (links : List LinkInfo) → list_any (λ (link : LinkInfo). is_link v t link && has link.to w) links ≡ true → list_any (is_linked w t) links ≡ true
 linked_of v t w [] h = h
 linked_of v t w (link ∷ links) h = elim (cases_Bool (is_link v t link && has link.to w)) [
-  | inl e ↦ (let p = both (is_link v t link) (has link.to w) e in let q = both (nat_eq link.view v) (nat_eq link.table t) p.0 in rw (p.1, q.1) refl)
+  | inl e ↦ (let p = and_parts (is_link v t link) (has link.to w) e in let q = and_parts (nat_eq link.view v) (nat_eq link.table t) p.0 in rw (p.1, q.1) refl)
   | inr e ↦ (let rest = rw e at h in rw (linked_of v t w links rest) (or_right (is_linked w t link)))
 ]
 

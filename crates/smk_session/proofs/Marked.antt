@@ -13,7 +13,7 @@ use Rattle.smk_model.specs.Annotated.{back, fwd}
 use Rattle.smk_model.specs.Composed.{backs, forwards}
 use Rattle.smk_model.specs.Replies.{Asked, first_outside, unless_row, unless_outside, marked}
 use Rattle.smk_model.proofs.Composed.{lists_stand}
-use Rattle.smk_model.proofs.Places.{upto_below}
+use Rattle.smk_base.proofs.Places.{upto_below}
 use Rattle.smk_session.specs.Answers.{members_asked, within_asked}
 
 -- no number is outside

@@ -7,7 +7,7 @@ use Rattle.std.proofs.lemmas.List.Elements.{All-weaker, filter-append}
 use Rattle.std.proofs.lemmas.List.Folds.{list_any_at, list_any_none}
 use Rattle.smk_base.specs.Picks.{IsAscending}
 use Rattle.smk_base.specs.Places.{has, IsPlaces, upto}
-use Rattle.smk_model.proofs.Places.{same_below}
+use Rattle.smk_base.proofs.Places.{same_below}
 use Rattle.smk_model.proofs.Selections.{filter_filter}
 use Rattle.smk_session.proofs.Rids.{ascending_places}
 
@@ -67,7 +67,9 @@ before_end A rises k d low = elim (cases_lt k (length A - 1)) [
 
 and_turned : (a b : Bool) → (a && b) ≡ (b && a)
 and_turned true true = refl
-and_turned _ _ = refl
+and_turned true false = refl
+and_turned false true = refl
+and_turned false false = refl
 
 pub common_turned : (A B : List ℕ) → IsAscending A → IsAscending B → filter (has B) A ≡ filter (has A) B
 common_turned A B a b =

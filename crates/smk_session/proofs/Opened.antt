@@ -22,7 +22,7 @@ use Rattle.smk_model.specs.Typing.{info_at, no_table}
 use Rattle.smk_model.specs.Replies.{Asked, known_pair, named_fwd, provided, unless_row, first_outside, written, marked, marks_fwd, rids_of, back_reply, fwd_reply}
 use Rattle.smk_model.specs.Session.{Workbook, State, view_at, no_view, rows_of_table}
 use Rattle.smk_model.specs.Workload.{declares_back, declares_fwd}
-use Rattle.smk_model.proofs.Places.{get_or_map_upto, length_upto}
+use Rattle.smk_base.proofs.Places.{get_or_map_upto, length_upto}
 use Rattle.smk_compose.specs.declared.kept_maps.Run.{Run}
 use Rattle.smk_session.specs.Answers.{members_asked, rows_told, back_by, fwd_by}
 use Rattle.smk_session.specs.Sessions.{AreOpened, workbook_image, state_over, opened}

@@ -1,23 +1,19 @@
 -- At most one brush of each pair of a view and a table is in force, and stays so.
-use Rattle.std.proofs.Common.{◌≡◌, ℕ, Bool, true, false, cond, ◌&&◌, List, [], ◌∷◌, map, refl, sym, ◌∙◌, nat_eq, inl, inr}
+use Rattle.std.proofs.Common.{◌≡◌, ℕ, Bool, false, cond, List, [], ◌∷◌, map, refl, sym, ◌∙◌, nat_eq, inl, inr}
 use Rattle.std.specs.Cmp.{IsEquivalence, nat_eq_equiv}
 use Rattle.std.specs.List.{filter, list_any, AllByRecursion, IsDistinct}
-use Rattle.std.proofs.lemmas.Bool.{cases_Bool, eqb-true, eq-eqb, false≢true}
+use Rattle.std.proofs.lemmas.Bool.{cases_Bool, eqb-true, eq-eqb, and_parts}
 use Rattle.std.proofs.lemmas.Map.Keys.{IsDistinct-cons, IsDistinct-head, IsDistinct-push, IsDistinct-tail}
 use Rattle.smk_base.specs.declared.brush.BrushOn.{BrushOn}
 use Rattle.smk_model.specs.Session.{is_brush, with_brush, without_brush}
 use Rattle.smk_session.specs.Sessions.{same_pair}
-
-both : (a b : Bool) → (a && b) ≡ true → (a ≡ true) × (b ≡ true)
-both true true h = (refl, refl)
-both _ _ h = absurd (false≢true h)
 
 same_pair_laws : IsEquivalence same_pair
 same_pair_laws = record {
   refl = λ x. rw (eq-eqb x.view x.view refl, eq-eqb x.table x.table refl) refl;
   symm = λ x y. rw (nat_eq_equiv.symm y.view x.view, nat_eq_equiv.symm y.table x.table) refl;
   congr = λ x y z is.
-      let h = both (nat_eq y.view x.view) (nat_eq y.table x.table) is in
+      let h = and_parts (nat_eq y.view x.view) (nat_eq y.table x.table) is in
       rw (sym (eqb-true y.view x.view h.0), sym (eqb-true y.table x.table h.1)) refl;
 }
 

@@ -5,14 +5,9 @@ use Rattle.std.proofs.lemmas.List.{get_or_default}
 use Rattle.std.proofs.lemmas.List.Kept.{AllPairs-filter}
 use Rattle.smk_base.specs.Places.{IsPlaces, upto, places, has}
 use Rattle.smk_base.specs.Picks.{IsAscending}
-use Rattle.smk_model.proofs.Places.{length_upto, get_or_upto}
 use Rattle.smk_rid.proofs.Rising.{rising_is}
 use Rattle.smk_model.proofs.QueryAnswers.{answers_are_places}
-
-upto_rises : (n : ℕ) → AllPairs (λ x y. x < y) (upto n)
-upto_rises n i j d h k =
-    let long = length_upto n in
-    rw (get_or_upto n i d (omega arith), get_or_upto n j d (omega arith)) h
+use Rattle.smk_rid.proofs.Sets.{upto_rises}
 
 pub places_ascend : (test : ℕ → Bool) (n : ℕ) → IsAscending (places test n)
 places_ascend test n i j h l = AllPairs-filter (λ x y. x < y) test (upto n) (upto_rises n) i j 0 h l

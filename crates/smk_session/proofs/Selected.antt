@@ -1,7 +1,7 @@
 -- The rids that brushes select of a table for a view, brush by brush, and the leaves over the picks of them.
 use Rattle.std.proofs.Common.{◌≡◌, ℕ, ◌+◌, ◌<◌, Bool, true, false, ◌&&◌, ◌||◌, cond, List, [], ◌∷◌, ◌++◌, length, map, take, get_or, refl, ap, sym, ◌∙◌, subst, arith, nat_eq, suc, Option, Some, None, option_map, All, IfSome, inl, inr, find}
 use Rattle.std.specs.List.{filter, list_all, list_any}
-use Rattle.std.proofs.lemmas.Bool.{cases_Bool, cases_lt, eqb-true, false≢true}
+use Rattle.std.proofs.lemmas.Bool.{cases_Bool, cases_lt, eqb-true}
 use Rattle.std.proofs.lemmas.List.{map-append, take_more}
 use Rattle.std.proofs.lemmas.List.Elements.{All-nil, All-cons, All-head, All-tail, filter-append}
 use Rattle.std.proofs.lemmas.List.Folds.{list_any_more}
@@ -15,13 +15,15 @@ use Rattle.smk_model.specs.Lineage.{sub}
 use Rattle.smk_model.specs.Plain.{leaves, table_at}
 use Rattle.smk_model.specs.Selection.{PickFits, kept_rows, over, picked, selected}
 use Rattle.smk_model.specs.Session.{State, concerns, leaves_now, picks_for, rows_of_table, selected_for, view_at}
-use Rattle.smk_model.proofs.Places.{places_below, same_below}
+use Rattle.smk_base.proofs.Places.{places_below, same_below}
 use Rattle.smk_model.proofs.Replies.{whole_sub}
 use Rattle.smk_model.proofs.Selections.{filter_filter, filter-true}
 use Rattle.smk_session.specs.Answers.{AreOn, chosen_of, narrowed_by, pick_for, picks_chosen, rids_or_all}
 use Rattle.smk_session.proofs.InForce.{put_last}
 use Rattle.smk_session.proofs.KeptOf.{find_mapped, found, past}
 use Rattle.smk_session.proofs.Rids.{filter_ascends, places_ascend}
+use Rattle.smk_model.proofs.Anys.{or_false}
+use Rattle.smk_model.proofs.Keyed.{none_pass}
 
 -- the rids of all brushes that pass a test
 
@@ -45,13 +47,6 @@ all_of_more test (b ∷ bs) brush rid = elim (cases_Bool (test b)) [
   | inr h ↦ rw h (all_of_more test bs brush rid)
 ]
 
-none_pass : {X : Type 0} (p : X → Bool) (xs : List X) → list_any p xs ≡ false → filter p xs ≡ []
-none_pass p [] h = refl
-none_pass p (x ∷ xs) h = elim (cases_Bool (p x)) [
-  | inl e ↦ (let there = rw e at h in absurd (false≢true (sym there)))
-  | inr e ↦ (let rest = rw e at h in rw e (none_pass p xs rest))
-]
-
 narrowed_is : (test : BrushOn → Bool) (brushes : List BrushOn) (brush : BrushOn) (n : ℕ) → test brush ≡ true → IsPlaces n brush.rids
     → narrowed_by (chosen_by test brushes n) brush.rids ≡ places (in_all test (brushes ++ brush ∷ [])) n
 narrowed_is test brushes brush n is are = elim (cases_Bool (list_any test brushes)) [
@@ -65,10 +60,6 @@ narrowed_is test brushes brush n is are = elim (cases_Bool (list_any test brushe
 or_true : (b : Bool) → (b || true) ≡ true
 or_true true = refl
 or_true false = refl
-
-or_false : (b : Bool) → (b || false) ≡ b
-or_false true = refl
-or_false false = refl
 
 -- one brush more, as a loop over brushes meets it
 

@@ -14,7 +14,7 @@ use Rattle.smk_model.specs.Catalogs.{IsCatalog}
 use Rattle.smk_model.specs.Replies.{content_of}
 use Rattle.smk_model.specs.Selection.{each_rows}
 use Rattle.smk_model.specs.Session.{State, is_brush, linked, view_at, with_brush, without_brush}
-use Rattle.smk_model.proofs.Places.{get_or_map_upto, length_upto, upto_below, has_upto}
+use Rattle.smk_base.proofs.Places.{get_or_map_upto, length_upto, upto_below, has_upto}
 use Rattle.smk_compose.specs.declared.kept_maps.Run.{Run}
 use Rattle.smk_skip.specs.Splits.{SplitImage}
 use Rattle.smk_session.specs.Answers.{content_at, placed}

@@ -1,6 +1,6 @@
 -- Filters of which every member is kept, or none, and filters of filters.
-use Rattle.std.proofs.Common.{◌≡◌, suc, Bool, true, false, List, [], ◌∷◌, ◌&&◌, ◌||◌, refl, ap, arith, inl, inr, filter}
-use Rattle.std.specs.List.{All, list_any}
+use Rattle.std.proofs.Common.{◌≡◌, suc, Bool, true, false, List, [], ◌∷◌, ◌&&◌, refl, ap, arith, inl, inr, filter}
+use Rattle.std.specs.List.{All}
 use Rattle.std.proofs.lemmas.Bool.{cases_Bool, false≢true}
 
 pub and_true : (a b : Bool) → b ≡ true → (a && b) ≡ a
@@ -37,15 +37,3 @@ filter_filter p q (x ∷ xs) = elim (cases_Bool (p x)) [
   | inl t ↦ rw t (elim (cases_Bool (q x)) [ inl u ↦ rw u (ap (λ z. x ∷ z) (filter_filter p q xs)) | inr u ↦ rw u (filter_filter p q xs) ])
   | inr t ↦ rw t (filter_filter p q xs)
 ]
-
--- some member passes both tests, of which the second is the same for all
-pub any_and : {X : Type 0} (p : X → Bool) (b : Bool) (xs : List X) → list_any (λ x. p x && b) xs ≡ (list_any p xs && b)
-any_and p b [] = refl
-any_and p b (x ∷ xs) = elim (cases_Bool (p x)) [
-  | inl t ↦ rw (t, any_and p b xs) (or_and b (list_any p xs))
-  | inr t ↦ rw t (any_and p b xs)
-]
-  where
-    or_and : (b c : Bool) → (b || (c && b)) ≡ b
-    or_and true c = refl
-    or_and false c = and_false c false refl

@@ -1,16 +1,15 @@
 -- Lists one after the other as an order of their rids, and other lists as places in it.
 use Rattle.std.proofs.Common.{◌≡◌, ◌∙◌, ◌<◌, ◌≤◌, ◌+◌, ℕ, zero, suc, Bool, true, false, cond, List, [], ◌∷◌, ◌++◌, ◌&&◌, ◌||◌, length, map, take, drop, refl, sym, ap, arith, inl, inr, filter, get_or, nat_eq, nat_lt}
 use Rattle.std.specs.List.{All, concat, list_any}
-use Rattle.std.proofs.lemmas.Bool.{cases_Bool, cases_lt, eq-eqb, eqb-true, ne_eqb, lt-ltb, le-ltb, false≢true}
+use Rattle.std.proofs.lemmas.Bool.{cases_Bool, cases_lt, eq-eqb, ne_eqb, lt-ltb, le-ltb}
 use Rattle.std.proofs.lemmas.List.{length-append, length-map, get_or-map, append-nil, map-append, append_assoc}
 use Rattle.std.proofs.lemmas.List.Elements.{filter-append}
 use Rattle.std.proofs.lemmas.List.Folds.{concat-append}
 use Rattle.std.proofs.lemmas.List.Sums.{sum_by-cons, sum_by_more_le}
 use Rattle.smk_base.specs.Places.{Lists, IsPlaces, upto, places, has, list_at, pairs_of, members_at, composed, inverted}
 use Rattle.smk_model.specs.Locals.{singles}
-use Rattle.smk_model.proofs.Places.{same_below, at_places, places_false, length_upto, get_or_map_upto, has_places, map_upto_agree}
+use Rattle.smk_base.proofs.Places.{same_below, at_places, places_false, length_upto, get_or_map_upto, has_places, map_upto_agree, few_places, nat_eq-sym}
 use Rattle.smk_model.proofs.Pairs.{filter_le}
-use Rattle.smk_body.proofs.Folding.{length_places-le}
 use Rattle.smk_rid.proofs.Sets.{is_below}
 use Rattle.smk_rid.proofs.Packs.{length-concat}
 use Rattle.smk_skip.specs.Parts.{ranks, ranked}
@@ -34,12 +33,6 @@ concat_more (x ∷ xs) (suc i) h =
     ap (λ k. concat (take k (x ∷ xs))) next
     ∙ ap (λ z. x ++ z) (concat_more xs i (omega arith))
     ∙ sym (append_assoc x (concat (take i xs)) (get_or xs i []))
-
-eq_sym : (a b : ℕ) → nat_eq a b ≡ nat_eq b a
-eq_sym a b = elim (cases_Bool (nat_eq b a)) [
-  | inl p ↦ eq-eqb a b (sym (eqb-true b a p)) ∙ sym p
-  | inr p ↦ ne_eqb a b (λ e. absurd (false≢true (sym p ∙ eq-eqb b a (sym e)))) ∙ sym p
-]
 
 -- tests that agree at each member
 pub any_agree : {X : Type 0} (f g : X → Bool) (xs : List X) → All (λ x. f x ≡ g x) xs → list_any f xs ≡ list_any g xs
@@ -65,7 +58,7 @@ places_at order n k i l h =
     let at : list_at (inverted (singles order n)) i ≡ places (λ j. has (list_at (singles order n) j) i) (length (singles order n).lists) = get_or_map_upto (λ r. places (λ j. has (list_at (singles order n) j) r) (length (singles order n).lists)) n i [] h in
     ap (λ z. has z k) at
     ∙ has_places (λ j. has (list_at (singles order n) j) i) (length (singles order n).lists) k (omega (arith, long))
-    ∙ ap (λ z. has z i) own ∙ or_none (nat_eq i (get_or order k 0)) ∙ eq_sym i (get_or order k 0)
+    ∙ ap (λ z. has z i) own ∙ or_none (nat_eq i (get_or order k 0)) ∙ nat_eq-sym i (get_or order k 0)
   where
     or_none : (b : Bool) → (b || false) ≡ b
     or_none true = refl
@@ -170,4 +163,4 @@ within_order lists i h = omega (arith, sum_by_more_le (length {A = ℕ}) lists i
 
 -- an order without repeats is no longer than its rids are many
 pub order_few : (order : List ℕ) (n : ℕ) → ((t : ℕ → Bool) → length (filter t order) ≤ length (places t n)) → length order ≤ n
-order_few order n apart = omega (arith, apart (λ i. true), ap length (filter_all (λ i. true) order (λ k d l. refl)), length_places-le (λ i. true) n)
+order_few order n apart = omega (arith, apart (λ i. true), ap length (filter_all (λ i. true) order (λ k d l. refl)), few_places (λ i. true) n)

@@ -7,7 +7,7 @@ use Rattle.std.proofs.lemmas.List.{length-append, get_or_append_left, get_or-app
 use Rattle.std.proofs.lemmas.List.Elements.{filter-append, All-map, All-append, All-nil, filter_passes}
 use Rattle.std.proofs.lemmas.List.Sorted.{IsPartitionedBy-ltb}
 use Rattle.smk_base.specs.Places.{upto, places, has}
-use Rattle.smk_model.proofs.Places.{filter_map, map_map, same_below, at_places, upto_add, upto_below}
+use Rattle.smk_base.proofs.Places.{filter_map, map_map, same_below, at_places, upto_add, upto_below}
 use Rattle.smk_model.proofs.Parts.{map_agree}
 use Rattle.smk_skip.specs.Parts.{ranks, run}
 use Rattle.smk_skip.proofs.Filters.{and_true, and_false, and_first, and_second, filter_none, filter_all, filter_filter}

@@ -1,12 +1,11 @@
 -- Output columns and a grouping over the columns that they name are those over all columns.
-use Rattle.std.proofs.Common.{◌≡◌, ◌∙◌, ◌+◌, ◌<◌, ◌≤◌, ℕ, suc, pos, Bool, true, not, List, [], ◌∷◌, ◌++◌, length, map, filter, get_or, All, Some, None, nat_lt, refl, sym, ap, subst, arith, inl, inr, nat_eq, eqb-true, eq-eqb}
+use Rattle.std.proofs.Common.{◌≡◌, ◌∙◌, ◌+◌, ◌<◌, ◌≤◌, ℕ, suc, pos, Bool, true, List, [], ◌∷◌, ◌++◌, length, map, filter, get_or, All, Some, None, nat_lt, refl, sym, ap, subst, arith, inl, inr, nat_eq, eqb-true, eq-eqb}
 use Rattle.std.specs.List.{list_any, position, position_or_len}
 use Rattle.std.proofs.lemmas.Bool.{cases_Bool, false≢true, or_left, or_right}
 use Rattle.std.proofs.lemmas.List.{get_or-map, length-map}
-use Rattle.std.proofs.lemmas.List.Filters.{length-filter_both}
 use Rattle.std.proofs.lemmas.List.Elements.{filter_agree, All-map}
 use Rattle.std.proofs.lemmas.List.Folds.{list_any_at}
-use Rattle.smk_base.specs.Places.{has, upto, places}
+use Rattle.smk_base.specs.Places.{has, places}
 use Rattle.smk_base.specs.Rels.{Relation, kind_in, value_in, row_in, rows_at, picked}
 use Rattle.smk_base.specs.declared.value.Value.TheVariants.{Int}
 use Rattle.smk_base.specs.declared.value.Kind.{Kind}
@@ -18,7 +17,7 @@ use Rattle.smk_base.specs.Plans.{Grouping}
 use Rattle.smk_model.specs.Values.{Row, value_at}
 use Rattle.smk_model.specs.Plain.{item_at, image, key_of, firsts, number_of, total, combined, lesser, greater, aggregate, grouped, row_eq, step1}
 use Rattle.smk_model.specs.Kinds.{ItemFits, AggFits, ItemsFit, GroupFits, IsInt, IsSummed, kind_of_item, kind_of_agg, summed, kinds1}
-use Rattle.smk_model.proofs.Places.{filter_map, map_map, has_places, places_below, length_upto}
+use Rattle.smk_base.proofs.Places.{filter_map, map_map, has_places, places_below, few_places}
 use Rattle.smk_model.proofs.Parts.{map_agree}
 use Rattle.smk_table.specs.Named.{is_of, reads, is_named, named, place_of, item_among, agg_among}
 
@@ -217,9 +216,6 @@ picked_at cols L places inside =
     ∙ sym (map_map (picked cols) (row_in L) places)
 
 -- the named columns have what is named
-
-pub few_places : (t : ℕ → Bool) (n : ℕ) → length (places t n) ≤ n
-few_places t n = omega (arith, length-filter_both t (λ c. not (t c)) (λ c. refl) (upto n), length_upto n)
 
 pub few_named : (items : List Item) (keys : List ℕ) (aggs : List Agg) (n : ℕ) → length (named items keys aggs n) ≤ n
 few_named items keys aggs n = few_places (is_named items keys aggs) n

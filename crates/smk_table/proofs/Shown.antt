@@ -8,7 +8,7 @@ use Rattle.smk_base.specs.declared.value.Kind.TheVariants as kinds
 use Rattle.smk_base.specs.declared.value.Value.{Value}
 use Rattle.smk_base.specs.Rels.{IsWider, row_in, rows_at}
 use Rattle.smk_base.specs.Places.{upto}
-use Rattle.smk_model.proofs.Places.{length_upto, get_or_upto}
+use Rattle.smk_base.proofs.Places.{length_upto, get_or_upto}
 
 -- rows among the first
 row_in-first : (n : ℕ) (rows : List (List Value)) (i : ℕ) → i < length (take n rows) → row_in (take n rows) i ≡ row_in rows i
@@ -30,7 +30,7 @@ rows_at-upto n rows h =
     get_or-map (row_in rows) (upto n) i 0 [] (omega (arith, length_upto n)) ∙ ap (row_in rows) (get_or_upto n i 0 low) ∙ sym (get_or-take n rows i [] low))
 
 -- the same kinds are no narrower ones
-IsWider-same : (kind : Kind) → IsWider kind kind
+pub IsWider-same : (kind : Kind) → IsWider kind kind
 IsWider-same (kinds.Int level) = omega arith
 IsWider-same kinds.Text = tt
 

@@ -7,7 +7,7 @@ use Rattle.smk_model.specs.NodeFaults.{FullRows, FullPairs}
 use Rattle.smk_model.specs.Opening.{ViewFault, fault_named}
 use Rattle.smk_model.specs.Session.{view_at, no_view}
 use Rattle.smk_model.specs.Typing.{info_at, no_table}
-use Rattle.smk_model.proofs.Places.{map_map}
+use Rattle.smk_base.proofs.Places.{map_map}
 
 -- what is made of the member at a place, or of the one that stands for none
 mapped_at : {A B : Type 0} (f : A → B) (xs : List A) (i : ℕ) (d : A) → get_or (map f xs) i (f d) ≡ f (get_or xs i d)

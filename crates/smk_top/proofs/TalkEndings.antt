@@ -1,5 +1,5 @@
 -- How a conversation starts and ends, by what its steps come to.
-use Rattle.std.proofs.Common.{append-nil, ◌≡◌, ◌≤◌, ◌+◌, ℕ, Bool, List, [], Option, Some, None, Result, Ok, Err, refl, sym, ap, ◌∙◌, subst, arith, inl, inr, length}
+use Rattle.std.proofs.Common.{append-nil, ◌≡◌, ◌≤◌, ◌+◌, ℕ, Bool, List, [], Option, Some, None, Result, Ok, Err, refl, sym, ap, ◌∙◌, subst, inl, inr, length}
 use Rattle.std.specs.Prelude.{◌⊎◌, option_map, cond}
 use Rattle.smk_base.specs.CatalogImage.{CatalogImage}
 use Rattle.smk_model.specs.NodeFaults.{NodeFault, FullRows, FullPairs}
@@ -16,7 +16,7 @@ use Rattle.smk_model.specs.TalkWords.{TalkCall, talk_call_of, talk_source}
 use Rattle.smk_model.specs.Words.{Files, Demo, Settings}
 use Rattle.smk_outside.specs.Conversing.{Cause}
 use Rattle.smk_outside.specs.Outside.{Rose}
-use Rattle.smk_outside.specs.Told.{Told, Follow, AreFirst}
+use Rattle.smk_outside.specs.Told.{Told, Follow}
 use Rattle.smk_outside.specs.Saying.{Says}
 use Rattle.smk_outside.specs.declared.talk.event.Event.{Event}
 use Rattle.smk_outside.proofs.Stretches as stretches
@@ -44,6 +44,8 @@ use Rattle.smk_top.specs.Endings.{SaysMemory, SaysFault}
 use Rattle.smk_top.specs.declared.status.Status.{Status}
 use Rattle.smk_top.specs.declared.status.Status.TheVariants.{Done, DoneWithRefusals}
 use Rattle.smk_top.specs.TalkEndings.{ended, outlasted, unheard, unsaid, faulted, exhausted, unheard_unsaid, fault_unsaid, memory_unsaid, TalkEnds, ConverseEnds, SaysTalkFault, SaysEnding, SaysTalkEnd, said_by, Converses, report_by, IsTalkRead, IsSilent, ReadsBook, StartLooks, FailsToStart, TalksOver, Silent, BeginsTalk, TalksFor, TalkWorks}
+use Rattle.smk_outside.proofs.Reading.{none_taken}
+use Rattle.smk_top.proofs.Endings.{never_rose}
 
 -- a fault of a view has its cause, whatever files hold
 view_cause : (rose : Type 0) (catalog : CatalogImage) (found : ViewFault) → UntoldCause rose (fault_named catalog found)
@@ -62,22 +64,13 @@ appends_none : (s : Option (List ℕ)) → known.Appends s s []
 appends_none None = tt
 appends_none (Some bytes) = sym (append-nil bytes)
 
-first_none : (l : Option (List (List ℕ))) → AreFirst l l []
-first_none None = tt
-first_none (Some lines) = refl
-
 pub says_nothing : (before after : Told) → after ≡ before → Says before after []
-says_nothing before after same = subst (λ t. Says before t []) (sym same) ((follow_none before.history, appends_none before.said), first_none before.left)
-
--- what came of files that couldn't be told to fail
-none_rose : Rose 0 0 → ⊥
-none_rose (inl less) = omega (arith, less)
-none_rose (inr full) = omega (arith, full)
+says_nothing before after same = subst (λ t. Says before t []) (sym same) ((follow_none before.history, appends_none before.said), none_taken before.left)
 
 demo_brings : (n : ℕ) (table : Option TableInfo) (brought : Result (List Row) Fault) → BringsBy (Some (text_named (demo_of n))) (Rose 0 0) table brought → BringsBy (Some (text_named (demo_of n))) ⊥ table brought
 demo_brings n None brought is = is
 demo_brings n (Some table) brought (inl is) = inl is
-demo_brings n (Some table) brought (inr (up, unread)) = absurd (none_rose up)
+demo_brings n (Some table) brought (inr (up, unread)) = absurd (never_rose up)
 
 -- what a conversation comes to, by the words that call for it
 module _ (words : List (List ℕ)) (call : TalkCall) (asked : talk_call_of words ≡ Some call) (held : Option Held) (rose talk_rose : Type 0) (before after : Told) (looks_before looks_after : ℕ) where
@@ -161,10 +154,10 @@ module _ (words : List (List ℕ)) (settings : Settings) (read_only : Bool) (n :
   demo_cause : (h : Option Held) (fault : Fault) → FailsToStart (Some (text_named (demo_of n))) (Rose 0 0) DEMO_BOOK_NAME.now fault → HasTalkCause words h rose fault
   demo_cause None fault (inl (inl reads)) = rw named_demo (inl (unreadable (usable asked reads)))
   demo_cause None fault (inl (inr (given, reads, stops))) = rw named_demo (inl (read (usable asked reads) stops))
-  demo_cause None fault (inr (up, unread)) = absurd (none_rose up)
+  demo_cause None fault (inr (up, unread)) = absurd (never_rose up)
   demo_cause (Some h) fault (inl (inl reads)) = inl (unreadable (usable asked reads))
   demo_cause (Some h) fault (inl (inr (given, reads, stops))) = inl (read (usable asked reads) stops)
-  demo_cause (Some h) fault (inr (up, unread)) = absurd (none_rose up)
+  demo_cause (Some h) fault (inr (up, unread)) = absurd (never_rose up)
 
   demo_silent : Silent (Some (text_named (demo_of n))) DEMO_BOOK_NAME.now before after looks_before looks_after → IsSilent words held before after looks_before looks_after
   demo_silent silent = record { silent = says_nothing before after silent.same; looks = by silent.looks }

@@ -10,8 +10,8 @@ use Rattle.smk_model.specs.Catalogs.{each_table_kinds}
 use Rattle.smk_model.specs.Conversation.{TalkState, Replied, Unbrought, ReadOnly, Forgone, TooLong, asks_append, line_limit, text_read, unbrought_text, read_only_text, forgone_text, too_long_text}
 use Rattle.smk_model.specs.Names.{◌>>=◌}
 use Rattle.smk_model.specs.Outcome.{Held, appended_at, load}
-use Rattle.smk_model.specs.Readings.{Reading, Asks, Unread, IsReading}
-use Rattle.smk_base.specs.Trees.{AppendedLine}
+use Rattle.smk_model.specs.Readings.{Reading, Asks, Unread, IsReading, Nothing}
+use Rattle.smk_base.specs.Trees.{AppendedLine, PlainLine, AskedLine, ProfiledLine}
 use Rattle.smk_base.specs.declared.fault.Fault.TheVariants as faults
 use Rattle.smk_model.specs.Reports.{BookSaid, line_told, state_after, next_rows}
 use Rattle.smk_model.specs.Selection.{each_kinds, each_rows}
@@ -32,13 +32,14 @@ rows_brought brought = each_rows (option_to_list brought)
 pub brought_rows : (held : Option Held) (rose : Type 0) (asked : Option TableInfo) (brought : Option Relation) → each_kinds (option_to_list brought) ≡ each_table_kinds (option_to_list asked)
     → Loads held rose (option_to_list asked) rows_brought (Ok brought) → BringsBy held rose asked (Ok (next_rows (each_rows (option_to_list brought))))
 brought_rows held rose None None kinds is = refl
+brought_rows held rose None (Some table) kinds is = absurd (cc)
 brought_rows None rose (Some info) brought kinds is = tt
+brought_rows (Some held) rose (Some info) None kinds is = absurd (cc)
 brought_rows (Some held) rose (Some info) (Some table) kinds is = inl (loaded (load held info) is)
   where
     loaded : (one : Result (List Row) Fault) → ◌>>=◌ one (λ rows. Ok (rows ∷ [])) ≡ Ok (table.rows ∷ []) → one ≡ Ok table.rows
     loaded (Ok rows) is = cc
     loaded (Err fault) is = absurd (cc)
-brought_rows _ rose _ _ kinds is = absurd (cc)
 
 -- a fault of a line's file
 pub unbrought_rows : (held : Option Held) (rose : Type 0) (info : TableInfo) (fault : Fault) → Loads {X = Option Relation} held rose (info ∷ []) rows_brought (Err (At fault)) → BringsBy held rose (Some info) (Err fault)
@@ -68,18 +69,14 @@ brought_begins (Some info) (Some table) kinds = record { first = table; rest = [
 pub added_begins : (asked : Option TableInfo) (brought : Option Relation) (added : List Relation) → added ≡ option_to_list brought → each_kinds (option_to_list brought) ≡ each_table_kinds (option_to_list asked) → IfSome asked (λ info. BeginsWith info added)
 added_begins asked brought added is kinds = rw is (brought_begins asked brought kinds)
 
--- not both are so
-pub not_first : (a b : Bool) → a ≡ false → (a && b) ≡ false
-not_first a b is = ap (λ x. x && b) is
-
-pub not_second : (a b : Bool) → b ≡ false → (a && b) ≡ false
-not_second true b is = is
-not_second false b is = refl
-
 -- a line that appends to a table asks for rows to be appended
 asked_of : (catalog : CatalogImage) (reading : Reading) (info : TableInfo) → appended_at catalog reading ≡ Some info → asks_append reading ≡ true
+asked_of catalog Nothing info at = absurd (cc)
+asked_of catalog (Unread place) info at = absurd (cc)
+asked_of catalog (Asks (PlainLine asked)) info at = absurd (cc)
+asked_of catalog (Asks (AskedLine asked)) info at = absurd (cc)
+asked_of catalog (Asks (ProfiledLine view)) info at = absurd (cc)
 asked_of catalog (Asks (AppendedLine table file)) info at = refl
-asked_of catalog _ info at = absurd (cc)
 
 module _ (said : BookSaid) (read_only : Bool) (held : Option Held) (rose : Type 0) (state : TalkState) (bytes : List ℕ) where
   -- a line that is answered

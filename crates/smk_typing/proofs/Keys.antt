@@ -8,7 +8,7 @@ use Rattle.smk_base.specs.declared.book.catalog.TableInfo.{TableInfo}
 use Rattle.smk_base.specs.declared.book.catalog.ViewInfo.{ViewInfo}
 use Rattle.smk_base.specs.declared.book.catalog.Back.{Back}
 use Rattle.smk_base.specs.declared.book.catalog.BackExtra.{BackExtra}
-use Rattle.smk_base.specs.declared.book.catalog.BackExtra.TheVariants.{Plain}
+use Rattle.smk_base.specs.declared.book.catalog.BackExtra.TheVariants.{Plain, By, Grouped}
 use Rattle.smk_base.specs.declared.book.catalog.Fwd.{Fwd}
 use Rattle.smk_base.specs.declared.book.catalog.LinkInfo.{LinkInfo}
 use Rattle.smk_base.specs.declared.book.tree.Word.{Word}
@@ -42,7 +42,14 @@ any_key p q f same (x ∷ xs) = rw (same x, any_key p q f same xs) refl
 
 form_same : (a b : BackExtra) → ghosts.eq (form_of a) (form_of b) ≡ same_form a b
 form_same Plain Plain = refl
-form_same _ _ = refl
+form_same Plain (By b) = refl
+form_same Plain (Grouped e f g h) = refl
+form_same (By a) Plain = refl
+form_same (By a) (By b) = refl
+form_same (By a) (Grouped e f g h) = refl
+form_same (Grouped a b c d) Plain = refl
+form_same (Grouped a b c d) (By e) = refl
+form_same (Grouped a b c d) (Grouped e f g h) = refl
 
 pub any_back : (back : Back) (form : Form) (backs : List Back) → form ≡ form_of back.extra → list_any (λ key. nat_eq back.view key.0 && nat_eq back.table key.1 && ghosts.eq form key.2) (map back_key backs) ≡ list_any (same_back back) backs
 any_back back form backs e = rw e (any_key _ (same_back back) back_key (λ each. ap (λ same. nat_eq back.view each.view && nat_eq back.table each.table && same) (form_same back.extra each.extra)) backs)

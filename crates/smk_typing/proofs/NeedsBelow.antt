@@ -7,7 +7,7 @@ use Rattle.smk_base.specs.Needs.{is_needed}
 use Rattle.smk_base.specs.declared.book.need.Needed.{Needed}
 use Rattle.smk_base.specs.CatalogImage.{CatalogImage}
 use Rattle.smk_model.specs.Workload.{needed_at}
-use Rattle.smk_model.proofs.Places.{upto_below}
+use Rattle.smk_base.proofs.Places.{upto_below}
 
 -- each of them names one of these tables
 pub needs_below : (catalog : CatalogImage) (v t : ℕ) (need : List Needed) → need ≡ filter is_needed (map (needed_at catalog v) (upto t)) → All (λ n. n.table < t) need

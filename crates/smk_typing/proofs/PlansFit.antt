@@ -48,11 +48,12 @@ pair_more lefts rights old new pair made any e =
 
 shapes_fit : (lefts rights : List Column) → length lefts ≡ length rights → list_all (λ sides. same_sort sides.0.kind sides.1.kind) (zip lefts rights) ≡ true → AllZip AreAlike (kinds_of lefts) (kinds_of rights)
 shapes_fit [] [] e all = tt
+shapes_fit [] (r ∷ rs) e all = absurd (omega (arith, e))
+shapes_fit (l ∷ ls) [] e all = absurd (omega (arith, e))
 shapes_fit (l ∷ ls) (r ∷ rs) e all =
     let both = and_parts (same_sort l.kind r.kind) _ all in
     let even : length ls ≡ length rs = omega (arith, e) in
     (alike l.kind r.kind (ap not both.0), shapes_fit ls rs even both.1)
-shapes_fit _ _ e all = absurd (omega (arith, e))
 
 wider_same : (lefts rights : List Column) → length lefts ≡ length rights → wider_kinds (kinds_of lefts) (kinds_of rights) ≡ kinds_of (map united_column (zip lefts rights))
 wider_same [] rights e = refl

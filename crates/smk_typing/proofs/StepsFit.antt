@@ -37,9 +37,9 @@ pub named_is : (columns : List Column) (word : Word) (found : ℕ × Kind) → c
 named_is columns word found e = at_place columns word (position (has_name word.name) columns) found refl e
 
 pub alike : (a b : Kind) → not (same_sort a b) ≡ false → AreAlike a b
-alike (kinds.Int a) (kinds.Int b) e = tt
-alike kinds.Text kinds.Text e = tt
-alike _ _ e = absurd (cc e)
+alike (kinds.Int a) kinds.Text e = absurd (cc e)
+alike kinds.Text (kinds.Int b) e = absurd (cc e)
+alike _ _ e = tt
 
 term_fits : (columns : List Column) (term : Term) (left : Kind) (found : Operand × Kind) → typed_term columns term ≡ Ok found → AreAlike left found.1 → OperandFits (kinds_of columns) left found.0
 term_fits columns (terms.Col word) left found e fits =

@@ -4,7 +4,7 @@ use Rattle.smk_base.specs.Plans.{Grouping}
 use Rattle.smk_base.specs.Rels.{RowFits}
 use Rattle.smk_model.specs.Plain.{step1}
 use Rattle.smk_model.specs.Kinds.{AggFits}
-use Rattle.smk_model.proofs.Places.{length_upto}
+use Rattle.smk_base.proofs.Places.{length_upto}
 use Rattle.smk_body.proofs.Besides.{relation}
 use Rattle.smk_model.specs.Growth.{all_over_parts}
 use Rattle.smk_chain.proofs.Columns.{keys_below}

@@ -3,7 +3,7 @@ use Rattle.smk_base.specs.Places.{upto}
 use Rattle.smk_base.specs.Rels.{picked}
 use Rattle.smk_model.specs.Values.{Row}
 use Rattle.smk_model.specs.Plain.{firsts}
-use Rattle.smk_model.proofs.Places.{length_upto, upto_below}
+use Rattle.smk_base.proofs.Places.{length_upto, upto_below}
 use Rattle.smk_defer.proofs.Keyed.{whole_rows, all_rows}
 use Rattle.smk_defer.proofs.keys.row_keys.Goals as goal
 

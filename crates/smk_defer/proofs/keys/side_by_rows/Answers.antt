@@ -1,6 +1,6 @@
 use Rattle.std.proofs.Common.{◌∙◌, length, ap, sym}
 use Rattle.smk_base.specs.Places.{upto}
-use Rattle.smk_model.proofs.Places.{upto_below}
+use Rattle.smk_base.proofs.Places.{upto_below}
 use Rattle.smk_defer.proofs.Keyed.{whole_rows}
 use Rattle.smk_defer.proofs.keys.side_by_rows.Goals as goal
 

@@ -4,7 +4,7 @@ use Rattle.smk_base.specs.PlanImage.{formula_of}
 use Rattle.smk_base.specs.Plans.{Selection}
 use Rattle.smk_model.specs.Values.{meets}
 use Rattle.smk_model.specs.Lineage.{row_at, meeting}
-use Rattle.smk_model.proofs.Places.{places_below, places_are}
+use Rattle.smk_base.proofs.Places.{places_below, places_are}
 use Rattle.smk_model.proofs.CuiWidom.{length_selected}
 use Rattle.smk_model.proofs.Sizes.{adds_no_rows}
 use Rattle.smk_model.proofs.OneEach.{one_each}

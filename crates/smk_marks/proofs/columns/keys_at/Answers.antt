@@ -2,7 +2,7 @@ use Rattle.std.proofs.Common.{◌∙◌, ◌<◌, ℕ, All, ap, arith, length, m
 use Rattle.std.proofs.lemmas.List.{length-map}
 use Rattle.smk_base.specs.Rels.{Relation, kind_in, picked}
 use Rattle.smk_model.specs.Lineage.{sub}
-use Rattle.smk_model.proofs.Places.{length_upto}
+use Rattle.smk_base.proofs.Places.{length_upto}
 use Rattle.smk_body.proofs.Besides.{related}
 use Rattle.smk_marks.proofs.Marked.{keys_at_marks, upto_within}
 use Rattle.smk_marks.proofs.columns.keys_at.Goals as goal

@@ -2,7 +2,7 @@ use Rattle.std.proofs.Common.{◌≡◌, ◌∙◌, ◌∷◌, [], ap, map, nat_
 use Rattle.smk_base.specs.Rels.{Relation, picked}
 use Rattle.smk_keys.specs.Classes.{ClassesImage, classes_of, classing_of}
 use Rattle.smk_keys.proofs.Placed.{classes-numbers_alone}
-use Rattle.smk_model.proofs.Places.{map_map}
+use Rattle.smk_base.proofs.Places.{map_map}
 use Rattle.smk_marks.specs.Marks.{mark_row}
 use Rattle.smk_marks.proofs.columns.mark_classes.Goals as goal
 

@@ -1,8 +1,7 @@
 use Rattle.std.proofs.Common.{◌<◌, ◌+◌, List, ℕ, All, Bool, sym, subst, arith}
 use Rattle.std.proofs.lemmas.Grind.{common_steps}
-use Rattle.smk_model.proofs.Places.{places_below}
+use Rattle.smk_base.proofs.Places.{places_below, few_places}
 use Rattle.smk_table.specs.Named.{is_used}
-use Rattle.smk_table.proofs.Narrows.{few_places}
 use Rattle.smk_table.proofs.among.used_columns.Goals as goal
 
 pub returns-clause-within : goal.returns-clause-within

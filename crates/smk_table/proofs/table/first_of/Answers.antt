@@ -1,6 +1,6 @@
 use Rattle.std.proofs.Common.{◌∙◌, ap, arith}
 use Rattle.smk_base.specs.Rels.{rows_at}
-use Rattle.smk_model.proofs.Places.{length_upto, get_or_upto}
+use Rattle.smk_base.proofs.Places.{length_upto, get_or_upto}
 use Rattle.smk_table.proofs.Shown.{rows_at-upto}
 use Rattle.smk_table.proofs.table.first_of.Goals as goal
 

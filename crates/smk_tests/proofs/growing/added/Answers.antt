@@ -1,5 +1,5 @@
-use Rattle.smk_tests.proofs.Additions.{reply_fits}
 use Rattle.smk_tests.proofs.growing.added.Goals as goal
+use Rattle.smk_top.proofs.Answered.{reply_fits}
 
 pub append_text-requires : goal.append_text-requires
 append_text-requires g c =

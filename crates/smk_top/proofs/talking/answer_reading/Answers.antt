@@ -1,19 +1,16 @@
-use Rattle.std.proofs.Common.{[], ◌∷◌, ◌≡◌, ℕ, List, Option, Bool, true, false, Ok, Err, refl, ap, subst, sym, ◌∙◌, inl, inr, arith}
-use Rattle.std.specs.Prelude.{◌&&◌, ◌||◌, nat_lt}
-use Rattle.std.specs.Option.{option_to_list}
+use Rattle.std.proofs.Common.{[], ◌≡◌, true, false, refl, sym, ◌∙◌, inl, arith}
+use Rattle.std.specs.Prelude.{◌&&◌}
 use Rattle.smk_base.specs.CatalogImage.{catalog_image}
 use Rattle.smk_model.specs.Outcome.{appended_at}
-use Rattle.smk_model.specs.Reports.{next_rows}
-use Rattle.smk_model.specs.Selection.{each_rows}
-use Rattle.smk_outside.specs.Outside.{Rose}
-use Rattle.smk_session.specs.Sessions.{SessionImage, state_of}
+use Rattle.smk_session.specs.Sessions.{state_of}
 use Rattle.smk_inputs.specs.Image.{reading_image}
 use Rattle.smk_inputs.specs.Loaded.{said_of}
 use Rattle.smk_top.specs.Talking.{talk_at}
 use Rattle.smk_model.specs.Conversation.{asks_append}
-use Rattle.smk_top.proofs.TalkLines.{brought_rows, refused, unbrought, forgone, not_first, not_second}
+use Rattle.smk_top.proofs.TalkLines.{brought_rows, refused, unbrought, forgone}
 use Rattle.smk_top.proofs.talking.answer_reading.Goals.{else-manner-via-then-manner+else-appends, else-manner-via-else-manner}
 use Rattle.smk_top.proofs.talking.answer_reading.Goals as goal
+use Rattle.std.proofs.lemmas.Bool.{and_left, and_right}
 
 pub returns-then-appends-clause-answer : goal.returns-then-appends-clause-answer
 returns-then-appends-clause-answer g c bytes short reads =
@@ -23,8 +20,8 @@ returns-then-appends-clause-answer g c bytes short reads =
 pub returns-in-Ok-clause-answer : goal.returns-in-Ok-clause-answer
 returns-in-Ok-clause-answer g c bytes short reads =
     let may : (c.args.manner.now.read_only && asks_append (reading_image c.args.reading.now)) ≡ false = elim c.else-manner.branch [
-      | else-manner-via-then-manner+else-appends w ↦ not_second c.args.manner.now.read_only (asks_append (reading_image c.args.reading.now)) (sym w.appends.ensures ∙ w.if-appends.false)
-      | else-manner-via-else-manner w ↦ not_first c.args.manner.now.read_only (asks_append (reading_image c.args.reading.now)) w.if-manner.false
+      | else-manner-via-then-manner+else-appends w ↦ and_right c.args.manner.now.read_only (asks_append (reading_image c.args.reading.now)) (sym w.appends.ensures ∙ w.if-appends.false)
+      | else-manner-via-else-manner w ↦ and_left c.args.manner.now.read_only (asks_append (reading_image c.args.reading.now)) w.if-manner.false
     ] in
     let read = rw c.catalog.ensures.book at c.in-Ok.ensures.read in
     let kinds = rw c.catalog.ensures.book at c.in-Ok.ensures.kinds in
@@ -34,8 +31,8 @@ returns-in-Ok-clause-answer g c bytes short reads =
 pub returns-in-Ok-unbrought-clause-answer : goal.returns-in-Ok-unbrought-clause-answer
 returns-in-Ok-unbrought-clause-answer g c bytes short reads =
     let may : (c.args.manner.now.read_only && asks_append (reading_image c.args.reading.now)) ≡ false = elim c.else-manner.branch [
-      | else-manner-via-then-manner+else-appends w ↦ not_second c.args.manner.now.read_only (asks_append (reading_image c.args.reading.now)) (sym w.appends.ensures ∙ w.if-appends.false)
-      | else-manner-via-else-manner w ↦ not_first c.args.manner.now.read_only (asks_append (reading_image c.args.reading.now)) w.if-manner.false
+      | else-manner-via-then-manner+else-appends w ↦ and_right c.args.manner.now.read_only (asks_append (reading_image c.args.reading.now)) (sym w.appends.ensures ∙ w.if-appends.false)
+      | else-manner-via-else-manner w ↦ and_left c.args.manner.now.read_only (asks_append (reading_image c.args.reading.now)) w.if-manner.false
     ] in
     let read = rw (c.in-Err-At.field-0-is, c.catalog.ensures.book) at c.in-Err-At.ensures.read in
     let asked = rw c.catalog.ensures.book at c.in-Err-At.ensures.asked in

@@ -5,7 +5,7 @@ use Rattle.smk_base.specs.Places.{upto}
 use Rattle.smk_base.specs.Rels.{Fits, RowFits, picked}
 use Rattle.smk_keys.specs.Classes.{classes_of, ClassesImage}
 use Rattle.smk_model.specs.Values.{Row}
-use Rattle.smk_model.proofs.Places.{upto_below}
+use Rattle.smk_base.proofs.Places.{upto_below}
 use Rattle.smk_model.proofs.Bulk.{bulk}
 use Rattle.smk_body.proofs.find.classes.row_classes.Goals as goal
 

@@ -2,7 +2,7 @@ use Rattle.std.proofs.Common.{◌≡◌, ◌∙◌, ◌<◌, ℕ, length, map, a
 use Rattle.smk_base.specs.Places.{upto}
 use Rattle.smk_model.specs.Values.{value_at}
 use Rattle.smk_model.specs.Lineage.{row_at}
-use Rattle.smk_model.proofs.Places.{map_upto}
+use Rattle.smk_base.proofs.Places.{map_upto}
 use Rattle.smk_model.proofs.Directions.{length_each}
 use Rattle.smk_body.specs.Halves.{best_place, class_places}
 use Rattle.smk_body.proofs.Folding.{best_step, best_there, bests_below, class_known, kept}

@@ -1,6 +1,6 @@
 use Rattle.std.proofs.Common.{◌≡◌, ◌∙◌, ◌<◌, ℕ, length, ap, sym, arith, pos, get_or, cond, set, Vec, Global, rules, to_z, of_z, w64}
 use Rattle.smk_base.specs.declared.value.Value.TheVariants as values
-use Rattle.smk_model.proofs.Places.{map_upto}
+use Rattle.smk_base.proofs.Places.{map_upto}
 use Rattle.smk_model.proofs.Directions.{length_each}
 use Rattle.smk_body.specs.Halves.{best_place, class_places, improves_on}
 use Rattle.smk_body.proofs.Folding.{best_step, best_there, bests_below, kept}

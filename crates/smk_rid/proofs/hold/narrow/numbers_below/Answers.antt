@@ -1,7 +1,7 @@
 use Rattle.std.proofs.Common.{arith, ◌≡◌, ◌∙◌, length, sym, ap}
 use Rattle.smk_base.specs.Places.{upto}
-use Rattle.smk_rid.proofs.Sets.{length-upto, upto_more}
 use Rattle.smk_rid.proofs.hold.narrow.numbers_below.Goals as goal
+use Rattle.smk_base.proofs.Places.{length_upto, upto_more}
 
 pub returns : goal.returns
 returns c = (
@@ -16,4 +16,4 @@ loop-i-preserved c = (
 )
 
 pub push_reserved-requires : goal.push_reserved-requires
-push_reserved-requires c = omega (arith, ap length c.loop-i.invariant.0, length-upto c.loop-i.i, c.loop-i.invariant.1, c.loop-i-test.true)
+push_reserved-requires c = omega (arith, ap length c.loop-i.invariant.0, length_upto c.loop-i.i, c.loop-i.invariant.1, c.loop-i-test.true)

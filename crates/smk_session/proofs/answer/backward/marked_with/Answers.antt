@@ -2,7 +2,7 @@ use Rattle.std.proofs.Common.{◌≡◌, ◌∙◌, ◌<◌, ℕ, List, All, len
 use Rattle.smk_base.specs.Places.{upto}
 use Rattle.smk_base.specs.declared.book.tree.Marks.{Marks}
 use Rattle.smk_base.specs.declared.book.tree.Marks.TheVariants as markings
-use Rattle.smk_model.proofs.Places.{upto_below}
+use Rattle.smk_base.proofs.Places.{upto_below}
 use Rattle.smk_session.specs.Answers.{within_asked}
 use Rattle.smk_session.proofs.Marked.{passed, listed_low}
 use Rattle.smk_session.proofs.answer.backward.marked_with.Goals as goal

@@ -1,7 +1,7 @@
 use Rattle.std.proofs.Common.{◌≡◌, ◌∙◌, pos, sym, subst, arith}
 use Rattle.std.proofs.lemmas.Grind.{common_steps}
 use Rattle.smk_base.specs.Values.{value_eq}
-use Rattle.smk_model.proofs.Places.{no_place}
+use Rattle.smk_base.proofs.Places.{no_place}
 use Rattle.std.proofs.lemmas.Result.{IfOk-weaker}
 use Rattle.smk_base.specs.declared.value.Value.TheVariants.{Int}
 use Rattle.std.specs.List.{flat_map}

@@ -1,13 +1,12 @@
 -- Lists of places: filters of the numbers below n, and lists by their elements.
-use Rattle.std.proofs.Common.{◌≡◌, ℕ, zero, suc, ◌+◌, ◌<◌, ◌≤◌, Bool, true, false, cond, List, [], ◌∷◌, ◌++◌, length, map, refl, ap, sym, ◌∙◌, arith, get_or, take, nat_eq, inl, inr, ◌⊎◌}
-use Rattle.std.specs.List.{flat_map, filter, All}
+use Rattle.std.proofs.Common.{◌≡◌, ℕ, zero, suc, ◌+◌, ◌<◌, ◌≤◌, Bool, true, false, cond, not, List, [], ◌∷◌, ◌++◌, length, map, refl, ap, sym, ◌∙◌, arith, get_or, take, nat_eq, inl, inr, ◌⊎◌}
+use Rattle.std.specs.List.{flat_map, filter, list_any, All}
 use Rattle.std.proofs.lemmas.List.{take_more, take_all, map-append, append_assoc, append-nil, get_or-map, length-append, get_or_append_left, get_or_push}
 use Rattle.std.proofs.lemmas.List.Elements.{filter-append, All-filter, All-nil, All-push, All-weaker}
-use Rattle.std.proofs.lemmas.Bool.{eqb-true, eq-eqb, ne_eqb, cases_lt, cases_Bool, or_cases, or_left, or_right, false≢true}
+use Rattle.std.proofs.lemmas.Bool.{eqb-true, eq-eqb, ne_eqb, cases_eq, cases_lt, cases_Bool, or_cases, or_left, or_right, false≢true}
+use Rattle.std.proofs.lemmas.List.Filters.{length-filter_both}
 use Rattle.std.proofs.lemmas.List.Folds.{list_any-append}
-use Rattle.smk_model.specs.Lineage.{upto, places, has}
-use Rattle.smk_base.specs.Places.{IsPlaces}
-use Rattle.smk_model.specs.CuiWidom.{Holds}
+use Rattle.smk_base.specs.Places.{upto, places, has, IsPlaces}
 
 -- filter, map and flat_map, one after the other
 
@@ -154,13 +153,6 @@ has_below n (x ∷ xs) h i q = elim (or_cases (nat_eq i x) _ q) [
 pub places_are : (t : ℕ → Bool) (n : ℕ) → IsPlaces n (places t n)
 places_are t n = same_below (has (places t n)) t n (λ i l. has_places t n i l)
 
--- places that hold all that pass, and only such, are those that pass
-pub only_passing : (n : ℕ) (t : ℕ → Bool) (A : List ℕ) → IsPlaces n A → Holds A (places t n) → ((i : ℕ) → has A i ≡ true → t i ≡ true) → A ≡ places t n
-only_passing n t A is all only = sym is ∙ same_below (has A) t n (λ k l. elim (cases_Bool (t k)) [
-  | inl p ↦ all k (has_filter t (upto n) k (has_upto n k l) p) ∙ sym p
-  | inr p ↦ elim (cases_Bool (has A k)) [ inl q ↦ absurd (false≢true (sym p ∙ only k q)) | inr q ↦ q ∙ sym p ]
-])
-
 pub single : (A : List ℕ) (i : ℕ) → length A ≤ 1 → has A i ≡ true → A ≡ i ∷ []
 single [] i l h = absurd (false≢true h)
 single (x ∷ []) i l h = elim (or_cases (nat_eq i x) false h) [ inl e ↦ ap (λ t. t ∷ []) (sym (eqb-true i x e)) | inr r ↦ absurd (false≢true r) ]
@@ -174,7 +166,7 @@ single_has i = or_left (nat_eq i i) false (eq-eqb i i refl)
 
 -- one place below n
 
-has_one : (i k : ℕ) → has (i ∷ []) k ≡ nat_eq i k
+pub has_one : (i k : ℕ) → has (i ∷ []) k ≡ nat_eq i k
 has_one i k = elim (cases_Bool (nat_eq i k)) [
   | inl p ↦ or_left (nat_eq k i) false (eq-eqb k i (sym (eqb-true i k p))) ∙ sym p
   | inr p ↦ rw (ne_eqb k i (λ e. false≢true (sym p ∙ eq-eqb i k (sym e))), p) refl
@@ -185,3 +177,29 @@ one_place n i h = same_below (has (i ∷ [])) (nat_eq i) n (λ k l. has_one i k)
 
 pub no_place : (n : ℕ) → IsPlaces n []
 no_place n = places_false n
+
+-- the places below the next number
+pub places_more : (t : ℕ → Bool) (i : ℕ) → places t (i + 1) ≡ places t i ++ cond (t i) (i ∷ []) []
+places_more t i =
+    let next : i + 1 ≡ suc i = omega arith in
+    ap (places t) next ∙ filter-append t (upto i) (i ∷ [])
+
+pub few_places : (t : ℕ → Bool) (n : ℕ) → length (places t n) ≤ n
+few_places t n = omega (arith, length-filter_both t (λ c. not (t c)) (λ c. refl) (upto n), length_upto n)
+
+-- one more number
+pub upto_more : (n : ℕ) → upto (n + 1) ≡ upto n ++ n ∷ []
+upto_more n = let e : n + 1 ≡ suc n = omega arith in rw e refl
+
+pub some_member : (f : ℕ → Bool) (A : List ℕ) → list_any f A ≡ true → (i : ℕ) × (has A i ≡ true) × (f i ≡ true)
+some_member f [] h = absurd (false≢true h)
+some_member f (x ∷ xs) h = elim (or_cases (f x) (list_any f xs) h) [
+  | inl p ↦ (x, or_left (nat_eq x x) _ (eq-eqb x x refl), p)
+  | inr q ↦ (let s = some_member f xs q in (s.0, or_right (nat_eq s.0 x) _ s.1, s.2))
+]
+
+pub nat_eq-sym : (a b : ℕ) → nat_eq a b ≡ nat_eq b a
+nat_eq-sym a b = elim (cases_eq a b) [
+  | inl e ↦ eq-eqb a b e ∙ sym (eq-eqb b a (sym e))
+  | inr ne ↦ ne_eqb a b ne ∙ sym (ne_eqb b a (λ e. ne (sym e)))
+]
