@@ -1,7 +1,8 @@
 -- Lists of places: filters of the numbers below n, and lists by their elements.
-use Rattle.std.proofs.Common.{◌≡◌, ℕ, zero, suc, ◌+◌, ◌<◌, ◌≤◌, Bool, true, false, cond, not, List, [], ◌∷◌, ◌++◌, length, map, refl, ap, sym, ◌∙◌, arith, get_or, take, nat_eq, inl, inr, ◌⊎◌}
-use Rattle.std.specs.List.{flat_map, filter, list_any, All}
-use Rattle.std.proofs.lemmas.List.{take_more, take_all, map-append, append_assoc, append-nil, get_or-map, length-append, get_or_append_left, get_or_push}
+use Rattle.std.proofs.Common.{◌≡◌, ℕ, zero, suc, ◌+◌, ◌<◌, ◌≤◌, Bool, true, false, cond, not, List, [], ◌∷◌, ◌++◌, length, map, refl, ap, sym, ◌∙◌, arith, get_or, take, nat_eq, zero-add, inl, inr, ◌⊎◌}
+use Rattle.std.specs.List.{flat_map, filter, list_any, All, range_with_len}
+use Rattle.std.proofs.lemmas.List.{take_more, take_all, map-append, append_assoc, append-nil, get_or-map, length-append, get_or_append_left, get_or_push, same_lists}
+use Rattle.std.proofs.lemmas.List.FromFn.{get_or-range_with_len, length-range_with_len}
 use Rattle.std.proofs.lemmas.List.Elements.{filter-append, All-filter, All-nil, All-push, All-weaker}
 use Rattle.std.proofs.lemmas.Bool.{eqb-true, eq-eqb, ne_eqb, cases_eq, cases_lt, cases_Bool, or_cases, or_left, or_right, false≢true}
 use Rattle.std.proofs.lemmas.List.Filters.{length-filter_both}
@@ -203,3 +204,9 @@ nat_eq-sym a b = elim (cases_eq a b) [
   | inl e ↦ eq-eqb a b e ∙ sym (eq-eqb b a (sym e))
   | inr ne ↦ ne_eqb a b ne ∙ sym (ne_eqb b a (λ e. ne (sym e)))
 ]
+
+-- the numbers below n as a range
+pub upto_range : (n : ℕ) → upto n ≡ range_with_len 0 n
+upto_range n = same_lists (upto n) (range_with_len 0 n) (length_upto n ∙ sym (length-range_with_len 0 n)) (λ i d h.
+    let low : i < n = omega (arith, h, length_upto n) in
+    get_or_upto n i d low ∙ sym (get_or-range_with_len 0 n i d low ∙ zero-add i))

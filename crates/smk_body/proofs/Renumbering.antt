@@ -15,11 +15,12 @@ use Rattle.smk_keys.proofs.Firsts.{AreClasses}
 use Rattle.smk_keys.proofs.Classing.{classing-classes}
 use Rattle.smk_keys.proofs.Placed.{AreClasses-keys}
 use Rattle.smk_keys.proofs.Rowed.{key_same}
-use Rattle.smk_body.specs.Halves.{AreNumbered}
-use Rattle.smk_body.proofs.Classing.{are_numbered, few_firsts}
-use Rattle.smk_body.specs.Cuts.{AreParts, HasKeys, cut_at}
+use Rattle.smk_found.specs.Halves.{AreNumbered}
+use Rattle.smk_found.proofs.Classing.{are_numbered, few_firsts}
+use Rattle.smk_jobs.specs.Cuts.{AreParts, cut_at}
+use Rattle.smk_body.specs.Cuts.{HasKeys}
 use Rattle.smk_body.specs.Renumbered.{StandFor, key_total, numbers_from}
-use Rattle.smk_body.proofs.Cutting.{cut_grows, cut_within}
+use Rattle.smk_jobs.proofs.Cutting.{cut_grows, cut_within}
 
 pub length_range : (rows : List Row) (n m : ℕ) → n ≤ m → m ≤ length rows → length (slice_range rows n m) ≡ m - n
 length_range rows n m h l = length-take-le (m - n) (drop n rows) (omega (arith, length-drop n rows))

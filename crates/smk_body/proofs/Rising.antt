@@ -16,7 +16,7 @@ use Rattle.smk_keys.proofs.Classing.{AreClasses-classing}
 use Rattle.smk_keys.proofs.Firsts.{AreClasses}
 use Rattle.smk_keys.proofs.Ordered.{in_order-is}
 use Rattle.smk_keys.proofs.Rowed.{AreNumbers-one, classes-numbers}
-use Rattle.smk_body.specs.Cuts.{AreParts, cut_at}
+use Rattle.smk_jobs.specs.Cuts.{AreParts, cut_at}
 use Rattle.smk_body.specs.Rises.{AreRises, codes_of, is_text_key}
 
 -- keys that are one column are that column alone

@@ -1,5 +1,5 @@
--- How the rows of an input are cut into parts, and what each part of a step finds of its rows.
-use Rattle.std.specs.Prelude.{◌≡◌, ℕ, ◌<◌, ◌+◌, ◌-◌, ◌*◌, ◌/◌, ◌↔◌, min, List, ◌++◌, length, map, slice_index_or, slice_range, sum_by}
+-- What each part of a step finds of its rows.
+use Rattle.std.specs.Prelude.{◌≡◌, ℕ, ◌<◌, ◌+◌, ◌-◌, ◌↔◌, min, List, ◌++◌, length, map, slice_range, sum_by}
 use Rattle.smk_base.specs.Places.{upto}
 use Rattle.smk_base.specs.Plans.{Formula}
 use Rattle.smk_base.specs.declared.rel.TheConstants.{ROW_LIMIT}
@@ -7,15 +7,7 @@ use Rattle.smk_keys.specs.Classes.{ClassesImage, classes_of}
 use Rattle.smk_model.specs.Values.{Row}
 use Rattle.smk_model.specs.Plain.{key_of}
 use Rattle.smk_model.specs.Lineage.{lefts_of, rights_of}
-use Rattle.smk_body.specs.Halves.{PlacePairs, meeting_below, pairs_below}
-
--- where part p of so many begins among n places: at p of so many parts of n, rounded down
-abbrev pub cut_at : ℕ → ℕ → ℕ → ℕ
-cut_at workers n p = (p * n) / workers
-
--- that these were made by n parts, in the order of their numbers: what part p has made is what f says of p
-abbrev pub AreParts : {X : Type 0} → (ℕ → X → Type 0) → ℕ → List X → Type 0
-AreParts {X} f n made = (length made ≡ n) × ((p : ℕ) (d : X) → p < n → f p (slice_index_or made p d))
+use Rattle.smk_found.specs.Halves.{PlacePairs, meeting_below, pairs_below}
 
 -- that these are the places from one up to another whose rows meet a formula: behind those below the first they are those below the second
 abbrev pub HasPlaces : Formula → List Row → ℕ → ℕ → List ℕ → Type 0

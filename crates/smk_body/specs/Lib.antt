@@ -1,10 +1,4 @@
-pub mod Locals
-pub mod Halves
 pub mod Parts
 pub mod Cuts
 pub mod Renumbered
 pub mod Rises
-pub mod Heights
-pub mod Bounds
-pub mod Findings
-pub mod Lookups

@@ -7,41 +7,19 @@ ghost use Rattle.smk_base.specs.declared.book.plan.Dir.{Dir};
 ghost use Rattle.smk_base.specs.declared.rel.TheConstants.{ROW_LIMIT};
 ghost use Rattle.smk_model.specs.Plain.{step1, step2};
 ghost use Rattle.smk_model.specs.Kinds.{Fits1, Fits2, kinds1, kinds2};
-ghost use Rattle.smk_body.specs.Findings.{finding1, finding2, left_want, local_of, turned_of, want_at_once};
-ghost use Rattle.smk_body.specs.Locals.{local1, local2, is_nothing, is_nothing2};
-ghost use Rattle.smk_body.specs.declared.keep.local.Local.{Local};
-ghost use Rattle.smk_body.specs.declared.keep.local.Want.{Want};
+ghost use Rattle.smk_found.specs.Findings.{finding1, finding2, left_want, local_of, turned_of, want_at_once};
+ghost use Rattle.smk_found.specs.Locals.{local1, local2, is_nothing, is_nothing2};
+ghost use Rattle.smk_found.specs.declared.local.Local.{Local};
+ghost use Rattle.smk_found.specs.declared.local.Want.{Want};
 
-use crate::crew::{Crew, Work};
-use crate::find::found::Made;
 use crate::find::{find1, find2};
-use crate::keep::local::{Local, Want};
 use crate::make::{rows_and_turned1, rows_and_turned2};
 use smk_base::{Dir, Op1, Op2, Rel};
+use smk_found::{Local, Made, OpFault, Want};
+use smk_jobs::{Crew, Work};
 use std::alloc::{AllocError, Global};
 use std::marker::Sync;
 use std::thread::Threads;
-use thiserror::Error;
-
-/// Why a step with two inputs has no rows.
-#[derive(Debug, Drop, Clone, Copy, Error)]
-pub enum OpFault {
-    /// It has more than 1,048,576 rows.
-    #[error("too many rows")]
-    Rows,
-    #[error("no memory")]
-    NoMemory,
-}
-
-impl From<AllocError> for OpFault {
-    ghost use Rattle.smk_body.specs.declared.body.OpFault.TheVariants.{NoMemory};
-
-    ghost from_gives = { λ e f. f ≡ NoMemory };
-
-    fn from(_e: AllocError) -> OpFault {
-        OpFault::NoMemory
-    }
-}
 
 /// How the steps of a plan are carried out: their rows, and the wanted lineage of each. A step finds what makes its rows, makes them, and the body keeps what it likes of it.
 ///

@@ -16,7 +16,7 @@ use Rattle.smk_model.specs.Values.{Row, value_at}
 use Rattle.smk_model.specs.Plain.{key_of, aggregate, step1, number_of, total}
 use Rattle.smk_model.specs.Lineage.{row_at, sub}
 use Rattle.smk_base.proofs.Places.{map_map, upto_below}
-use Rattle.smk_body.specs.Halves.{class_places}
+use Rattle.smk_found.specs.Halves.{class_places}
 use Rattle.smk_body.proofs.Aggregating.{groups_are}
 use Rattle.smk_body.proofs.Fitting.{value_fits}
 use Rattle.smk_model.specs.Growth.{over_parts, all_over_parts}

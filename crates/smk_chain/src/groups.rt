@@ -10,7 +10,7 @@ ghost use Rattle.smk_model.specs.Plain.{aggregate, key_of, step1};
 ghost use Rattle.smk_model.specs.Lineage.{sub};
 ghost use Rattle.smk_model.specs.Kinds.{AggFits, IsSummed};
 ghost use Rattle.smk_keys.specs.Classes.{classes_of};
-ghost use Rattle.smk_body.specs.Halves.{AreNumbered, class_places};
+ghost use Rattle.smk_found.specs.Halves.{AreNumbered, class_places};
 ghost use Rattle.smk_model.specs.Growth.{all_over_parts, over_parts};
 
 use smk_base::{Agg, Kind, Rel};

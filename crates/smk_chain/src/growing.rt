@@ -14,11 +14,10 @@ ghost use Rattle.smk_chain.specs.Runs.{chain_run, group_run, joint_classes, join
 use crate::chains::grouping_of;
 use crate::groups::regrouped;
 use crate::maps::maps_of_both;
-use smk_base::{Agg, Aggs, Keys, Need, Needed, Plan, Rel};
+use smk_base::{Agg, Aggs, Keys, Need, Needed, Plan, Rel, numbers_below};
 use smk_compose::{KeptMap, Run};
 use smk_keys::Classes;
 use smk_marks::scanned_table;
-use smk_rid::numbers_below;
 use smk_table::Table;
 use std::alloc::{AllocError, Global};
 

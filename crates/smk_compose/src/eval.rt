@@ -9,7 +9,8 @@ use crate::kept_maps::Run;
 use crate::leaves::Leaves;
 use crate::walk::walk;
 use smk_base::{Plan, Rel};
-use smk_body::{OpBody, Work};
+use smk_body::OpBody;
+use smk_jobs::Work;
 use std::alloc::Global;
 use std::thread::Threads;
 

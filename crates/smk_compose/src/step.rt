@@ -2,14 +2,16 @@ ghost use Rattle.std.specs.Prelude.{◌≡◌, ◌||◌, ◌<◌, ℕ, IsTrue, i
 ghost use Rattle.smk_base.specs.PlanImage.{binary_of, unary_of};
 ghost use Rattle.smk_model.specs.Plain.{step1, step2};
 ghost use Rattle.smk_model.specs.Kinds.{Fits1, Fits2, kinds1, kinds2};
-ghost use Rattle.smk_body.specs.Locals.{is_nothing, is_nothing2};
+ghost use Rattle.smk_found.specs.Locals.{is_nothing, is_nothing2};
 ghost use Rattle.smk_compose.specs.Through.{through, together_all, side1, side_left, side_right, right_of, want_of, map_at, Passes, Meets, pairs_fault, node_fault, IsFirst};
 
 use crate::fault::RunFault;
 use crate::kept_maps::{KeptMap, Kepts, Run, Walked};
 use crate::pass::{meet_all, pass_all, wants};
 use smk_base::{Op1, Op2, Rel};
-use smk_body::{OpBody, OpFault, Want, Work};
+use smk_body::OpBody;
+use smk_found::{OpFault, Want};
+use smk_jobs::Work;
 use smk_table::{Chosen, Narrowed, narrow};
 use std::thread::Threads;
 

@@ -7,7 +7,9 @@ use crate::kept::{Kept, KeptOp};
 use crate::one::lineage1;
 use crate::two::lineage2;
 use smk_base::{Dir, Op1, Op2, Rel};
-use smk_body::{Crew, Local, Made, OpBody, Want};
+use smk_body::OpBody;
+use smk_found::{Local, Made, Want};
+use smk_jobs::Crew;
 use std::alloc::{AllocError, Global};
 use std::thread::Threads;
 

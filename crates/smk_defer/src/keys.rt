@@ -9,11 +9,10 @@ ghost use Rattle.smk_keys.specs.Classes.{classes_of};
 ghost use Rattle.smk_keys.specs.Keys.{place_or_last};
 ghost use Rattle.smk_model.specs.Classes.{places_in};
 ghost use Rattle.smk_model.specs.Plain.{firsts};
-ghost use Rattle.smk_body.specs.Findings.{side_by_targets};
+ghost use Rattle.smk_found.specs.Findings.{side_by_targets};
 
-use crate::numbers::numbers;
-use smk_base::{CellRef, Dir, Rel, Row, Value};
-use smk_body::{Side, side_of_classes};
+use smk_base::{CellRef, Dir, Rel, Row, Value, numbers_below};
+use smk_found::{Side, side_of_classes};
 use smk_keys::{Classes, KeyTable};
 use std::alloc::{AllocError, Global};
 
@@ -37,8 +36,8 @@ pub(crate) fn class_keys(
 pub(crate) fn row_keys(alloc: Global, rel: &Rel) -> Result<KeyTable, AllocError>
     ensures { IfOk result (λ made. made ≡ firsts rel.now.rows) }
 {
-    let cols = numbers(alloc, rel.width())?;
-    let places = numbers(alloc, rel.len())?;
+    let cols = numbers_below(alloc, rel.width())?;
+    let places = numbers_below(alloc, rel.len())?;
     let made = keys_at(alloc, rel, cols.as_slice(), places.as_slice())?;
     Ok(made)
 }
@@ -105,7 +104,7 @@ pub(crate) fn side_by_rows(
     requires { All (λ p. p < length keys.now) (places_in keys.now rel.now.rows) }
     ensures { IfOk result (λ side. side ≡ side_by_targets want (places_in keys.now rel.now.rows) (length keys.now)) }
 {
-    let cols = numbers(alloc, rel.width())?;
+    let cols = numbers_below(alloc, rel.width())?;
     side_by_keys(alloc, rel, cols.as_slice(), keys, want)
 }
 

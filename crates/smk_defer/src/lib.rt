@@ -6,7 +6,6 @@ mod distinct;
 mod join;
 mod kept;
 mod keys;
-mod numbers;
 mod one;
 mod two;
 

@@ -2,3 +2,5 @@ pub mod Classes
 pub mod Keys
 pub mod Numbers
 pub mod Orders
+pub mod Heights
+pub mod Lookups

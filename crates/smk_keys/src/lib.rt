@@ -6,9 +6,11 @@ mod classes;
 mod columns;
 mod hashed;
 mod ints;
+mod lookup;
 mod number_pairs;
 mod numbers;
 mod table;
 
 pub use classes::Classes;
+pub use lookup::{Keyed, Lookup, close_range, int_heights};
 pub use table::KeyTable;

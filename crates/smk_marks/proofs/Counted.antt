@@ -13,7 +13,7 @@ use Rattle.smk_model.specs.Lineage.{places, row_at, sub, upto}
 use Rattle.smk_model.proofs.Parts.{map_agree}
 use Rattle.smk_base.proofs.Places.{map_map, map_upto_agree, places_below}
 use Rattle.smk_keys.specs.Classes.{ClassesImage, first_items}
-use Rattle.smk_body.specs.Halves.{class_places}
+use Rattle.smk_found.specs.Halves.{class_places}
 use Rattle.smk_marks.specs.Marks.{class_values, is_count, marked_group, with_mark}
 use Rattle.smk_marks.specs.MarkLaws.{CountsAlone}
 use Rattle.smk_marks.proofs.Classed.{map_below}

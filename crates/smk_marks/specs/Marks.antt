@@ -10,7 +10,7 @@ use Rattle.smk_model.specs.Values.{Row, meets}
 use Rattle.smk_model.specs.Plain.{image, aggregate}
 use Rattle.smk_model.specs.Lineage.{row_at, sub}
 use Rattle.smk_keys.specs.Classes.{ClassesImage, first_items}
-use Rattle.smk_body.specs.Halves.{class_places}
+use Rattle.smk_found.specs.Halves.{class_places}
 
 -- what the projections of a chain make of a row
 abbrev pub made : Expr → Row → Row

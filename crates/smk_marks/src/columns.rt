@@ -10,9 +10,8 @@ ghost use Rattle.smk_model.specs.Lineage.{row_at};
 ghost use Rattle.smk_model.specs.Selection.{PlanFits, plan_kinds};
 ghost use Rattle.smk_marks.specs.Views.{chain_values};
 
-use smk_base::{Item, Op1, Plan, Rel};
+use smk_base::{Item, Op1, Plan, Rel, numbers_below};
 use smk_keys::Classes;
-use smk_rid::numbers_below;
 use smk_table::Chosen;
 use std::alloc::{AllocError, Global};
 
@@ -30,18 +29,6 @@ pub(crate) fn mark_classes(alloc: Global, marks: &[u32], bound: u32) -> Result<C
     }
     let column = Rel::of_counts(alloc, 0, marks)?;
     Classes::of_rows(alloc, &column, &[0])
-}
-
-// The marks at these places.
-pub(crate) fn marks_in(alloc: Global, marks: &[u32], places: &[u32]) -> Result<Vec<u32>, AllocError>
-    requires { All (λ place. place < length marks.now) places.now }
-    ensures { IfOk result (λ made. made.items ≡ map (λ place. slice_index_or marks.now place 0) places.now) }
-{
-    let mut made = Vec::with_capacity(alloc, places.len())?;
-    for place in places {
-        made.push(marks[*place as usize])?;
-    }
-    Ok(made)
 }
 
 // The keys of groups at these marks: the first values of the rows there.

@@ -3,17 +3,17 @@ ghost use Rattle.smk_base.specs.PlanImage.{expr_of};
 ghost use Rattle.smk_base.specs.Places.{upto};
 ghost use Rattle.smk_base.specs.Rels.{kind_in};
 ghost use Rattle.smk_base.specs.declared.rel.TheConstants.{ROW_LIMIT};
-ghost use Rattle.smk_body.specs.Halves.{AreNumbered};
+ghost use Rattle.smk_found.specs.Halves.{AreNumbered};
 ghost use Rattle.smk_model.specs.Growth.{is_chain};
 ghost use Rattle.smk_model.specs.Kinds.{AggFits, kind_of_agg};
 ghost use Rattle.smk_model.specs.Selection.{PlanFits, plan_kinds};
 ghost use Rattle.smk_marks.specs.Marks.{class_values, made};
 ghost use Rattle.smk_marks.specs.Views.{CanGroup, Reads, chain_values, groups_of, grouped_by_marks};
 
-use crate::columns::{chain_column, keys_at, mark_classes, marks_in};
+use crate::columns::{chain_column, keys_at, mark_classes};
 use crate::reached::Reached;
 use crate::view::KeptView;
-use smk_base::{Agg, Plan, Rel};
+use smk_base::{Agg, Plan, Rel, numbers_at};
 use smk_body::count_column;
 use smk_keys::Classes;
 use smk_table::Chosen;
@@ -79,7 +79,7 @@ fn groups(
     ensures { IfOk result (λ made. made ≡ groups_of view.now marks.now rows.now) }
 {
     let classes = mark_classes(alloc, marks, view.content.len())?;
-    let first_marks = marks_in(alloc, marks, classes.firsts())?;
+    let first_marks = numbers_at(alloc, marks, classes.firsts())?;
     let firsts = first_marks.as_slice();
     let keys = view.plan.keys.as_slice();
     let mut made = keys_at(alloc, view.content, keys.len() as u32, firsts)?;

@@ -7,22 +7,6 @@ ghost use Rattle.smk_keys.specs.Classes.{classing_of};
 use smk_keys::Classes;
 use std::alloc::{AllocError, Global};
 
-/// The numbers at these places.
-pub(crate) fn numbers_at(
-    alloc: Global,
-    numbers: &[u32],
-    places: &[u32],
-) -> Result<Vec<u32>, AllocError>
-    requires { All (λ place. place < length numbers.now) places.now }
-    ensures { IfOk result (λ made. made.items ≡ map (λ place. slice_index_or numbers.now place 0) places.now) }
-{
-    let mut made = Vec::with_capacity(alloc, places.len())?;
-    for place in places {
-        made.push_reserved(numbers[*place as usize]);
-    }
-    Ok(made)
-}
-
 /// The classes of numbers, found by a table with a place for each number. What the table holds doesn't matter, since it is believed only where it names a class of the number: so one table serves for many lists of numbers, and is never cleared.
 pub(crate) fn number_classes(
     alloc: Global,

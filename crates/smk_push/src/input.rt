@@ -5,9 +5,8 @@ ghost use Rattle.smk_model.specs.Kinds.{AggFits, GroupFits};
 ghost use Rattle.smk_push.specs.Cubes.{cube_of};
 ghost use Rattle.smk_push.specs.Inputs.{AreRead, IsInput, cube_from, moved_to, read_by};
 
-use smk_base::{Agg, Aggs, Rel};
+use smk_base::{Agg, Aggs, Rel, numbers_below};
 use smk_keys::Classes;
-use smk_rid::numbers_below;
 use smk_table::Chosen;
 use std::alloc::{AllocError, Global};
 

@@ -8,7 +8,7 @@ ghost use Rattle.smk_report.specs.PieceTexts.{IsPiece, piece_at};
 
 use crate::lines::line_around;
 use crate::texts::{numbered_lines, page_for, view_text, with_header};
-use smk_base::{ListOf, ROW_LIMIT, Rel, Text};
+use smk_base::{ListOf, ROW_LIMIT, Rel, Text, numbers_below};
 use smk_jobs::each_or_first;
 use std::alloc::{AllocError, Global};
 use std::thread::Threads;
@@ -62,7 +62,7 @@ fn piece_texts<R: Threads + Sync>(
     requires few { count ≤ WORKER_LIMIT }
     ensures { IfOk result (λ made. AllZip (λ p text. IsPiece rel.now.rows count p text.items) (range_with_len 0 count) made.items) }
 {
-    let places: Vec<u32> = (0..count).collect(alloc)?;
+    let places = numbers_below(alloc, count)?;
     each_or_first(
         rt,
         alloc,

@@ -11,5 +11,4 @@ pub use fault::RidFault;
 pub use fill::RidFill;
 pub use fill::grow::RidGrow;
 pub use fill::marks::RidMarks;
-pub use hold::narrow::numbers_below;
 pub use map::{PAIR_LIMIT, RidMap};

@@ -7,8 +7,8 @@ ghost use Rattle.smk_rid.specs.Packing.{one_of};
 ghost use Rattle.smk_rid.specs.Maps.{IsMap, IsSingle, array_lists};
 
 use crate::hold::array::{NONE, RidArray};
-use crate::hold::narrow::numbers_below;
 use crate::hold::packed::Packed;
+use smk_base::numbers_below;
 use std::alloc::{AllocError, Global};
 use std::marker::Model;
 

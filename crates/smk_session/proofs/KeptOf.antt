@@ -14,7 +14,7 @@ use Rattle.smk_model.specs.Values.{Row}
 use Rattle.smk_model.specs.Composed.{backs, forwards}
 use Rattle.smk_model.specs.Workload.{declares_back, declares_fwd, needed_at, needs}
 use Rattle.smk_base.proofs.Places.{filter_map, map_map}
-use Rattle.smk_body.specs.Locals.{wanted}
+use Rattle.smk_found.specs.Locals.{wanted}
 use Rattle.smk_compose.specs.KeptMaps.{kept_at}
 use Rattle.smk_compose.specs.declared.kept_maps.KeptMap.{KeptMap}
 use Rattle.smk_session.specs.Answers.{is_of_table, kept_back, kept_fwd}

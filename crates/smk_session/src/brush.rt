@@ -33,7 +33,7 @@ use crate::lent::Lent;
 use crate::turn::{Brushes, Change, Content, Contents, Turn};
 use crate::workers::Workers;
 use smk_base::{BrushOn, Catalog, Marks, Refusal, Reply, Rids, Text};
-use smk_body::Work;
+use smk_jobs::Work;
 use smk_outside::{Gate, Steps};
 use smk_rid::RidMap;
 use std::alloc::{AllocError, Global};

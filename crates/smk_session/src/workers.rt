@@ -1,7 +1,7 @@
 ghost use Rattle.std.specs.Prelude.{◌≤◌};
 ghost use Rattle.smk_base.specs.declared.workers.TheConstants.{WORKER_LIMIT};
 
-use smk_body::Crew;
+use smk_jobs::Crew;
 use smk_outside::Gate;
 
 // Who does the work of a session: as many parts of it as workers, each of which passes the gate.

@@ -7,7 +7,7 @@ ghost use Rattle.smk_model.specs.Tables.{IsBase};
 ghost use Rattle.smk_table.specs.Showing.{first_rows};
 
 use crate::chosen::Chosen;
-use smk_base::{CellRef, Kind, ROW_LIMIT, Rel, Row};
+use smk_base::{CellRef, Kind, ROW_LIMIT, Rel, Row, numbers_below};
 use smk_outside::Steps;
 use std::alloc::{AllocError, Global};
 use std::marker::Model;
@@ -205,19 +205,8 @@ fn first_of(alloc: Global, rel: &Rel, count: u32) -> Result<Rel, AllocError>
     if count == rel.len() {
         return rel.copy(alloc);
     }
-    let places = first_places(alloc, count)?;
+    let places = numbers_below(alloc, count)?;
     rel.gather(alloc, places.as_slice())
-}
-
-// So many places from the first on.
-fn first_places(alloc: Global, count: u32) -> Result<Vec<u32>, AllocError>
-    ensures { IfOk result (λ places. places.items ≡ upto count) }
-{
-    let mut places = Vec::with_capacity(alloc, count as usize)?;
-    for place in 0..count {
-        places.push(place)?;
-    }
-    Ok(places)
 }
 
 /// Puts the values of a row behind those of an empty one.

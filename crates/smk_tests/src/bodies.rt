@@ -2,7 +2,8 @@ ghost use Rattle.std.specs.Prelude.{◌≡◌, [], ◌∷◌, IfOk};
 ghost use Rattle.smk_base.specs.declared.value.Kind.TheVariants as kinds;
 
 use smk_base::{CellRef, Dir, Item, Items, Kind, Op1, Rel, Row, Value};
-use smk_body::{Local, OpBody};
+use smk_body::OpBody;
+use smk_found::Local;
 use smk_plain::Plain;
 use std::alloc::{AllocError, Global};
 use std::test::Fail;

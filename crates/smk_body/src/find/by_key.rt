@@ -5,15 +5,15 @@ ghost use Rattle.smk_base.specs.declared.rel.TheConstants.{COLUMN_LIMIT, ROW_LIM
 ghost use Rattle.smk_base.specs.declared.workers.TheConstants.{WORKER_LIMIT};
 ghost use Rattle.smk_model.specs.Plain.{key_of};
 ghost use Rattle.smk_keys.specs.Classes.{classes_of};
-ghost use Rattle.smk_body.specs.Cuts.{AreParts, HasKeys, cut_at};
+ghost use Rattle.smk_jobs.specs.Cuts.{AreParts, cut_at};
+ghost use Rattle.smk_body.specs.Cuts.{HasKeys};
 ghost use Rattle.smk_body.specs.Renumbered.{StandFor, key_total, numbers_from};
 
-use crate::crew::{Crew, Work};
 use crate::find::by_text::{is_text_key, text_classes};
 use crate::find::classes::row_classes;
-use crate::find::groups::Groups;
-use crate::parts::{cut_place, cut_range, in_parts};
 use smk_base::Rel;
+use smk_found::Groups;
+use smk_jobs::{Crew, Work, cut_place, cut_range, in_parts};
 use smk_keys::Classes;
 use std::alloc::{AllocError, Global};
 use std::marker::Sync;

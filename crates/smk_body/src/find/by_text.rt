@@ -6,12 +6,11 @@ ghost use Rattle.smk_base.specs.declared.value.Kind.TheVariants as kinds;
 ghost use Rattle.smk_base.specs.declared.workers.TheConstants.{WORKER_LIMIT};
 ghost use Rattle.smk_keys.specs.Classes.{classes_of};
 ghost use Rattle.smk_model.specs.Plain.{key_of};
-ghost use Rattle.smk_body.specs.Cuts.{AreParts, cut_at};
+ghost use Rattle.smk_jobs.specs.Cuts.{AreParts, cut_at};
 ghost use Rattle.smk_body.specs.Rises.{AreRises, codes_of, is_text_key as is_text_key_of};
 
-use crate::crew::{Crew, Work};
-use crate::parts::{cut_range, in_parts};
 use smk_base::{Kind, Rel};
+use smk_jobs::{Crew, Work, cut_range, in_parts};
 use smk_keys::Classes;
 use std::alloc::{AllocError, Global};
 use std::marker::Sync;

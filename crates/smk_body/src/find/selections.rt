@@ -5,13 +5,13 @@ ghost use Rattle.smk_base.specs.PlanImage.{formula_of};
 ghost use Rattle.smk_base.specs.declared.workers.TheConstants.{WORKER_LIMIT};
 ghost use Rattle.smk_model.specs.Kinds.{FormulaFits};
 ghost use Rattle.smk_model.specs.Lineage.{meeting};
-ghost use Rattle.smk_body.specs.Cuts.{AreParts, HasPlaces, cut_at};
+ghost use Rattle.smk_jobs.specs.Cuts.{AreParts, cut_at};
+ghost use Rattle.smk_body.specs.Cuts.{HasPlaces};
 
-use crate::crew::{Crew, Work};
 use crate::find::passing::selected;
-use crate::find::places::Places;
-use crate::parts::{cut_range, in_parts};
 use smk_base::{Pred, Rel};
+use smk_found::Places;
+use smk_jobs::{Crew, Work, cut_range, in_parts};
 use std::alloc::{AllocError, Global};
 use std::marker::Sync;
 use std::thread::Threads;

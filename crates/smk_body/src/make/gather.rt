@@ -6,9 +6,8 @@ ghost use Rattle.smk_base.specs.Rels.{rows_at};
 ghost use Rattle.smk_base.specs.declared.rel.TheConstants.{ROW_LIMIT};
 ghost use Rattle.smk_body.specs.Parts.{ArePlacesOf, columns_of};
 
-use crate::crew::{Crew, Work};
-use crate::find::classes::all_columns;
-use smk_base::{Kind, Rel};
+use smk_base::{Kind, Rel, numbers_below};
+use smk_jobs::{Crew, Work};
 use std::alloc::{AllocError, Global};
 use std::marker::Sync;
 use std::thread::{Threads, join};
@@ -26,7 +25,7 @@ pub(crate) fn gathered<R: Threads + Sync, C: Crew + Sync>(
     requires few { length places.now ≤ ROW_LIMIT }
     ensures { IfOk result (λ made. made ≡ record { kinds = rel.now.kinds; rows = rows_at rel.now.rows places.now }) }
 {
-    let cols = all_columns(work.alloc, rel.width())?;
+    let cols = numbers_below(work.alloc, rel.width())?;
     gathered_columns(work, rel, places, cols.as_slice(), work.crew.parts())
 }
 

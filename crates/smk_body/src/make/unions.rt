@@ -3,11 +3,10 @@ ghost use Rattle.std.specs.List.{AllZip};
 ghost use Rattle.smk_model.specs.Plain.{firsts};
 ghost use Rattle.smk_model.specs.Kinds.{AreAlike, wider_kinds};
 ghost use Rattle.smk_keys.specs.Classes.{classes_of};
-ghost use Rattle.smk_body.specs.declared.body.OpFault.TheVariants.{Rows};
+ghost use Rattle.smk_found.specs.declared.fault.OpFault.TheVariants.{Rows};
 
-use crate::body::OpFault;
-use crate::find::classes::all_columns;
-use smk_base::{Kind, ROW_LIMIT, Rel};
+use smk_base::{Kind, ROW_LIMIT, Rel, numbers_below};
+use smk_found::OpFault;
 use smk_keys::Classes;
 use std::alloc::{AllocError, Global};
 
@@ -44,7 +43,7 @@ pub(crate) fn union_classes(alloc: Global, left: &Rel, right: &Rel) -> Result<Cl
     ensures many { IfErr result (λ e. e ≡ Rows → ROW_LIMIT < length (firsts (left.now.rows ++ right.now.rows))) }
 {
     let _right_rows = right.len();
-    let columns = all_columns(alloc, left.width())?;
+    let columns = numbers_below(alloc, left.width())?;
     let classes = Classes::of_both(alloc, left, columns.as_slice(), right, columns.as_slice())?;
     if classes.firsts().len() > ROW_LIMIT as usize {
         return Err(OpFault::Rows);

@@ -5,6 +5,7 @@ ghost use Rattle.smk_rid.specs.Packing.{one_of};
 
 use crate::hold::array::NONE;
 use crate::hold::code::{Code, number_at};
+use smk_base::numbers_below;
 use std::alloc::{AllocError, Global};
 use std::marker::Model;
 
@@ -80,17 +81,6 @@ fn codes_of<C: Code>(alloc: Global, rids: &[u32]) -> Result<Vec<C>, AllocError>
         codes.push_reserved(C::of(*rid));
     }
     Ok(codes)
-}
-
-/// The numbers below a bound, ascending.
-pub fn numbers_below(alloc: Global, bound: u32) -> Result<Vec<u32>, AllocError>
-    ensures { IfOk result (λ numbers. numbers.items ≡ upto bound) }
-{
-    let mut numbers = Vec::with_capacity(alloc, bound as usize)?;
-    for i in 0..bound {
-        numbers.push_reserved(i);
-    }
-    Ok(numbers)
 }
 
 // The part of the numbers that one of them is alone.

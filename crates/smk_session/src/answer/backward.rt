@@ -11,10 +11,13 @@ ghost use Rattle.smk_session.specs.Extras.{split_place, cubes_place};
 ghost use Rattle.smk_session.specs.BackAnswers.{IsPairOf, SplitsFit, CubesFit, split_asked, cubes_asked, one_asked, sort_asked, with_value_asked, matching_by, grouped_by};
 
 use crate::answer::lineage::back_map;
-use crate::answer::marks::{all_places, check_marks, marked_members};
+use crate::answer::marks::{check_marks, marked_members};
 use crate::answer::no_answer::Turned;
 use crate::lent::Lent;
-use smk_base::{Back, BackExtra, Catalog, ColDecl, Kind, Marks, Refusal, Reply, Rids, Text, Value};
+use smk_base::{
+    Back, BackExtra, Catalog, ColDecl, Kind, Marks, Refusal, Reply, Rids, Text, Value,
+    numbers_below,
+};
 use smk_compose::{Run, fetch_rids};
 use smk_outside::Steps;
 use smk_push::Cubes;
@@ -214,7 +217,7 @@ fn marked_with(
     check_marks(marks, count)?;
     match marks {
         Marks::All => {
-            let places = all_places(alloc, count)?;
+            let places = numbers_below(alloc, count)?;
             Ok(split.rows(alloc, places.as_slice(), value)?)
         }
         Marks::Listed(listed) => Ok(split.rows(alloc, listed.as_slice(), value)?),

@@ -32,17 +32,6 @@ pub(crate) fn check_marks(marks: &Marks, rows: u32) -> Result<(), Turned>
     }
 }
 
-// The places below n.
-pub(crate) fn all_places(alloc: Global, n: u32) -> Result<Vec<u32>, AllocError>
-    ensures { IfOk result (λ places. places.items ≡ upto n) }
-{
-    let mut places = Vec::with_capacity(alloc, n as usize)?;
-    for place in 0..n {
-        places.push(place)?;
-    }
-    Ok(places)
-}
-
 // The members of the lists at the marked places, ascending and without repeats.
 pub(crate) fn marked_members(alloc: Global, map: &RidMap, marks: &Marks) -> Result<Rids, Turned>
     ensures gives { Gives result (members_asked map.now marks.now) }

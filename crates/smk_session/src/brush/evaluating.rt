@@ -6,8 +6,8 @@ ghost use Rattle.smk_session.specs.Refreshed.{CanRun, IsReady, IsRun, IsMade, re
 
 use crate::workers::Workers;
 use smk_base::{Plan, Rel, Rids};
-use smk_body::Work;
 use smk_compose::{EvalFault, Leaves, eval_leaves};
+use smk_jobs::Work;
 use smk_marks::{KeptView, Reached, content_by_marks};
 use smk_outside::Gate;
 use smk_par::Pieces;

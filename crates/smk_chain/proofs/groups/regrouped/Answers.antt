@@ -9,8 +9,8 @@ use Rattle.smk_keys.specs.Classes.{ClassesImage}
 use Rattle.smk_model.specs.Plain.{aggregate, key_of}
 use Rattle.smk_model.specs.Lineage.{row_at, sub}
 use Rattle.smk_model.specs.Kinds.{AggFits}
-use Rattle.smk_body.specs.Halves.{class_places}
-use Rattle.smk_body.proofs.Classing.{rows_numbered}
+use Rattle.smk_found.specs.Halves.{class_places}
+use Rattle.smk_found.proofs.Classing.{rows_numbered}
 use Rattle.smk_body.proofs.Aggregating.{keys_at_firsts, groups_are}
 use Rattle.smk_body.proofs.Besides.{column_more, related}
 use Rattle.smk_body.proofs.Parting.{columns_at_places}

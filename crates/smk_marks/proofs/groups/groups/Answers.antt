@@ -11,14 +11,14 @@ use Rattle.smk_model.specs.Lineage.{row_at}
 use Rattle.smk_model.specs.Plain.{aggregate}
 use Rattle.smk_model.specs.Selection.{plan_kinds}
 use Rattle.smk_base.proofs.Places.{length_upto}
-use Rattle.smk_body.specs.Halves.{AreNumbered}
+use Rattle.smk_found.specs.Halves.{AreNumbered}
 use Rattle.smk_body.proofs.Besides.{column_more, relation, related}
 use Rattle.smk_marks.specs.Marks.{made, with_mark}
 use Rattle.smk_marks.proofs.Classed.{column_marked, few_marks, first_keys, first_marks_are, firsts_are, numbered}
 use Rattle.smk_marks.proofs.groups.groups.Goals as goal
 
-pub marks_in-requires : goal.marks_in-requires
-marks_in-requires c = rw (c.firsts.ensures ∙ ap (λ (z : ClassesImage). z.firsts) c.in_ok-classes.ensures) ((numbered c.args.marks.now).within)
+pub numbers_at-requires : goal.numbers_at-requires
+numbers_at-requires c = rw (c.firsts.ensures ∙ ap (λ (z : ClassesImage). z.firsts) c.in_ok-classes.ensures) ((numbered c.args.marks.now).within)
 
 pub keys_at-requires-clause-within : goal.keys_at-requires-clause-within
 keys_at-requires-clause-within c =

@@ -4,7 +4,7 @@ use Rattle.smk_base.specs.PlanImage.{expr_of}
 use Rattle.smk_base.specs.Rels.{Relation}
 use Rattle.smk_model.specs.Kinds.{kind_of_agg}
 use Rattle.smk_model.specs.Values.{value_at}
-use Rattle.smk_body.specs.Halves.{AreNumbered}
+use Rattle.smk_found.specs.Halves.{AreNumbered}
 use Rattle.smk_body.proofs.Besides.{relation}
 use Rattle.smk_marks.specs.Marks.{class_values, made}
 use Rattle.smk_marks.proofs.groups.over_column.Goals as goal

@@ -1,6 +1,6 @@
 use Rattle.std.proofs.Common.{◌≡◌, length, map, take}
 use Rattle.smk_model.specs.Plain.{key_of}
-use Rattle.smk_body.specs.Cuts.{cut_at}
+use Rattle.smk_jobs.specs.Cuts.{cut_at}
 use Rattle.smk_body.specs.Renumbered.{StandFor, key_total, numbers_from}
 use Rattle.smk_body.proofs.find.by_key.first_places.Given as goal
 

@@ -5,9 +5,9 @@ use Rattle.smk_base.specs.Rels.{AreCodesOf, column_texts, column_values}
 use Rattle.smk_base.specs.TextColumns.{text_firsts}
 use Rattle.smk_keys.specs.Classes.{ClassesImage}
 use Rattle.smk_keys.specs.Orders.{IsInOrder}
-use Rattle.smk_body.specs.Cuts.{cut_at}
+use Rattle.smk_jobs.specs.Cuts.{cut_at}
 use Rattle.smk_body.specs.Rises.{codes_of}
-use Rattle.smk_body.proofs.Cutting.{cut_end, cut_within}
+use Rattle.smk_jobs.proofs.Cutting.{cut_end, cut_within}
 use Rattle.smk_body.proofs.Rising.{long, part_rises, rise_known, rise_new, text_classes-are}
 use Rattle.smk_body.proofs.find.by_text.classes_by_rises.Goals as goal
 use Rattle.smk_body.proofs.find.by_text.classes_by_rises.Goals.{then-codes-place+in_ok-push, else-codes-place}

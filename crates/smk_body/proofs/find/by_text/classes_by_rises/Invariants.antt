@@ -1,6 +1,6 @@
 use Rattle.std.proofs.Common.{◌+◌, get_or, length}
 use Rattle.smk_keys.specs.Orders.{IsInOrder}
-use Rattle.smk_body.specs.Cuts.{cut_at}
+use Rattle.smk_jobs.specs.Cuts.{cut_at}
 use Rattle.smk_body.specs.Rises.{codes_of}
 use Rattle.smk_body.proofs.find.by_text.classes_by_rises.Given as goal
 

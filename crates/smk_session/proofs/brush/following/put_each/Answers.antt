@@ -22,7 +22,7 @@ use Rattle.smk_rid.specs.contracts.map.RidMap as map_of
 use Rattle.smk_skip.specs.contracts.split.Split as split
 use Rattle.smk_table.specs.contracts.chosen.Chosen as chosen
 use Rattle.smk_table.specs.contracts.table.Table as table
-use Rattle.smk_body.specs.contracts.crew.Work as work
+use Rattle.smk_jobs.specs.contracts.crew.Work as work
 use Rattle.smk_compose.specs.contracts.kept_maps.Run as run
 use Rattle.smk_marks.specs.contracts.reached.Reached as reached
 use Rattle.smk_push.specs.contracts.cubes.Cubes as cubes

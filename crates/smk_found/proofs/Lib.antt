@@ -1,0 +1,4 @@
+pub mod Turning
+pub mod Siding
+pub mod Pairing
+pub mod Classing

@@ -1,0 +1,4 @@
+pub mod Halves
+pub mod Bounds
+pub mod Findings
+pub mod Locals
