@@ -20,6 +20,13 @@ pub struct Links {
     keys: IndexSet<(u32, u32, u32)>,
 }
 
+// What a link goes from: a view, and a table that the view scans.
+#[derive(Clone, Copy)]
+struct Source {
+    view: u32,
+    table: u32,
+}
+
 impl Model for Links {
     ghost use Rattle.std.specs.Prelude.{◌≡◌, List, map};
     ghost use Rattle.smk_base.specs.declared.book.catalog.LinkInfo.{LinkInfo};
@@ -67,7 +74,8 @@ impl Links {
             mut infos,
             mut keys,
         } = self;
-        match add_link(alloc, views, &mut infos, &mut keys, view, table, words) {
+        let from = Source { view, table };
+        match add_link(alloc, views, &mut infos, &mut keys, from, words) {
             Ok(()) => Ok(Links { infos, keys }),
             Err(fault) => {
                 drop(infos);
@@ -83,20 +91,19 @@ fn add_to(
     views: &Indexed<ViewInfo>,
     links: &[LinkInfo],
     keys: &mut IndexSet<(u32, u32, u32)>,
-    view: u32,
-    table: u32,
+    from: Source,
     to: &mut Rids,
     word: &Word,
 ) -> Result<(), TypeFault>
-    requires { keys.old.keys ≡ map link_key (all_linked links.now ++ linked_to view table to.old) }
-    ensures after { Finds result (typing.to_after (over views.now links.now) view table to.old word.now) (λ _. to.new) }
-    ensures keys { OnOk result (keys.new.keys ≡ map link_key (all_linked links.now ++ linked_to view table to.new)) }
+    requires { keys.old.keys ≡ map link_key (all_linked links.now ++ linked_to from.view from.table to.old) }
+    ensures after { Finds result (typing.to_after (over views.now links.now) from.view from.table to.old word.now) (λ _. to.new) }
+    ensures keys { OnOk result (keys.new.keys ≡ map link_key (all_linked links.now ++ linked_to from.view from.table to.new)) }
 {
     let number = view_named(views, word)?;
-    if number == view {
+    if number == from.view {
         return Err(TypeFault::SelfLink { at: word.at });
     }
-    let key = (view, table, number);
+    let key = (from.view, from.table, number);
     if keys.contains(&key) {
         return Err(TypeFault::RepeatedDeclaration { at: word.at });
     }
@@ -110,18 +117,17 @@ fn add_each(
     views: &Indexed<ViewInfo>,
     links: &[LinkInfo],
     keys: &mut IndexSet<(u32, u32, u32)>,
-    view: u32,
-    table: u32,
+    from: Source,
     to: &mut Rids,
     words: &[Word],
 ) -> Result<(), TypeFault>
     requires none { to.old ≡ [] }
     requires keys { keys.old.keys ≡ map link_key (all_linked links.now) }
-    ensures to { Finds result (in_turn (typing.to_after (over views.now links.now) view table) [] words.now) (λ _. to.new) }
-    ensures keys { OnOk result (keys.new.keys ≡ map link_key (all_linked links.now ++ linked_to view table to.new)) }
+    ensures to { Finds result (in_turn (typing.to_after (over views.now links.now) from.view from.table) [] words.now) (λ _. to.new) }
+    ensures keys { OnOk result (keys.new.keys ≡ map link_key (all_linked links.now ++ linked_to from.view from.table to.new)) }
 {
     for word in words {
-        add_to(views, links, keys, view, table, to, word)?;
+        add_to(views, links, keys, from, to, word)?;
     }
     Ok(())
 }
@@ -132,18 +138,21 @@ fn add_link(
     views: &Indexed<ViewInfo>,
     infos: &mut LinkInfos,
     keys: &mut IndexSet<(u32, u32, u32)>,
-    view: u32,
-    table: u32,
+    from: Source,
     words: &[Word],
 ) -> Result<(), TypeFault>
     requires { keys.old.keys ≡ map link_key (all_linked infos.old) }
-    ensures links { Finds result (links_after views.now infos.old view table words.now) (λ _. infos.new) }
+    ensures links { Finds result (links_after views.now infos.old from.view from.table words.now) (λ _. infos.new) }
     ensures keys { OnOk result (keys.new.keys ≡ map link_key (all_linked infos.new)) }
 {
     let mut to = Rids::new(alloc);
-    match add_each(views, infos.as_slice(), keys, view, table, &mut to, words) {
+    match add_each(views, infos.as_slice(), keys, from, &mut to, words) {
         Ok(()) => {
-            infos.push(LinkInfo { view, table, to })?;
+            infos.push(LinkInfo {
+                view: from.view,
+                table: from.table,
+                to,
+            })?;
             Ok(())
         }
         Err(fault) => {

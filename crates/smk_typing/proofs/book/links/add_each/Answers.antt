@@ -6,14 +6,14 @@ use Rattle.smk_typing.proofs.book.links.add_each.Goals as goal
 
 pub loop-word-preserved : goal.loop-word-preserved
 loop-word-preserved c = (
-  turn_more (to_after (over c.args.views.now c.args.links.now) c.args.view c.args.table) _ _ _ _ _ _ c.loop-word.invariant.0 c.loop-word-test.true c.word-item.is c.in_ok-add_to.ensures.after,
+  turn_more (to_after (over c.args.views.now c.args.links.now) c.args.from.view c.args.from.table) _ _ _ _ _ _ c.loop-word.invariant.0 c.loop-word-test.true c.word-item.is c.in_ok-add_to.ensures.after,
   c.in_ok-add_to.ensures.keys,
 )
 
 pub returns-in_err-add_to-clause-to : goal.returns-in_err-add_to-clause-to
 returns-in_err-add_to-clause-to c =
     let p = err_from_is_err_and c.from_residual.result c.from_residual.ensures.1 in
-    rw (p.1, p.2) (turn_fails (to_after (over c.args.views.now c.args.links.now) c.args.view c.args.table) _ _ _ _ _ _ c.loop-word.invariant.0 c.loop-word-test.true c.word-item.is c.in_err-add_to.ensures.after)
+    rw (p.1, p.2) (turn_fails (to_after (over c.args.views.now c.args.links.now) c.args.from.view c.args.from.table) _ _ _ _ _ _ c.loop-word.invariant.0 c.loop-word-test.true c.word-item.is c.in_err-add_to.ensures.after)
 
 pub returns-clause-to : goal.returns-clause-to
-returns-clause-to c = turn_ends (to_after (over c.args.views.now c.args.links.now) c.args.view c.args.table) _ _ _ _ c.loop-word.invariant.0 c.loop-word-test.false
+returns-clause-to c = turn_ends (to_after (over c.args.views.now c.args.links.now) c.args.from.view c.args.from.table) _ _ _ _ c.loop-word.invariant.0 c.loop-word-test.false

@@ -6,4 +6,4 @@ use Rattle.smk_typing.specs.Turns.{Remains}
 use Rattle.smk_typing.proofs.book.links.add_each.Given as goal
 
 abbrev pub invariant-loop-word : goal.invariant-loop-word
-invariant-loop-word l = Remains (to_after (over l.views l.links) l.view l.table) [] l.words l.to l.word-index × (l.keys.keys ≡ map link_key (all_linked l.links ++ linked_to l.view l.table l.to))
+invariant-loop-word l = Remains (to_after (over l.views l.links) l.from.view l.from.table) [] l.words l.to l.word-index × (l.keys.keys ≡ map link_key (all_linked l.links ++ linked_to l.from.view l.from.table l.to))
