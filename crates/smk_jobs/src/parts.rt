@@ -53,7 +53,7 @@ pub fn in_parts<
     each_or_first(work.rt, work.alloc, u32::MAX, parts, part)
 }
 
-/// Whether the rows that the parts have counted are more than a step may have.
+/// Whether the rows that the parts have counted are more than a step may have. It takes no memory.
 pub fn are_too_many(counts: &[u32]) -> bool
     ensures many { OnTrue result (ROW_LIMIT < sum counts.now) }
     ensures few { OnFalse result (sum counts.now ≤ ROW_LIMIT) }

@@ -1,4 +1,4 @@
-//! Keys by their first occurrence: a table of keys, and the classes of rows with equal keys.
+//! Keys by their first occurrence: a table of keys, the classes of rows with equal keys, and numbers of keys that are looked up where they are asked for.
 #![tactic(auto)]
 
 mod both;
