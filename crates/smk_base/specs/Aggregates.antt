@@ -1,4 +1,4 @@
--- What aggregates have in common: the column that each reads, if any.
+-- The column that an aggregate reads, and the aggregates over other columns that stand for it.
 use Rattle.std.specs.Prelude.{ℕ, Option, Some, None}
 use Rattle.smk_base.specs.declared.book.plan.Agg.{Agg}
 use Rattle.smk_base.specs.declared.book.plan.Agg.TheVariants.{Count, Sum, Min, Max}
@@ -16,3 +16,10 @@ moved_to column Count = Count
 moved_to column (Sum c) = Sum column
 moved_to column (Min c) = Min column
 moved_to column (Max c) = Max column
+
+-- the aggregate over parts that is in a column of their groupings, taken once more: it is that over all rows, since each of these is a distributive aggregate (Gray and others, Data Cube, 1997); counts are summed
+abbrev pub over_parts : ℕ → Agg → Agg
+over_parts column Count = Sum column
+over_parts column (Sum c) = Sum column
+over_parts column (Min c) = Min column
+over_parts column (Max c) = Max column

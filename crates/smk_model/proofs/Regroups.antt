@@ -1,130 +1,25 @@
 -- A grouping of parts after each other, from the groupings of the parts.
-use Rattle.std.proofs.Common.{◌≡◌, ℕ, ◌+◌, ℤ, pos, ◌+ℤ◌, Bool, true, false, cond, List, [], ◌∷◌, ◌++◌, length, map, refl, ap, sym, ◌∙◌, subst, arith, inl, inr}
-use Rattle.std.specs.List.{filter, flat_map, fold}
-use Rattle.std.specs.declared.cmp.Ordering.{Ordering}
-use Rattle.std.specs.declared.cmp.Ordering.TheVariants.{Less}
-use Rattle.std.specs.Ordering.{is_lt, is_gt, ordering_reverse}
-use Rattle.std.proofs.lemmas.Int.{ints}
-use Rattle.std.proofs.lemmas.Cmp.{upto as above_upto}
+use Rattle.std.proofs.Common.{◌≡◌, ℕ, ◌+◌, pos, true, false, List, [], ◌∷◌, ◌++◌, length, map, refl, ap, sym, ◌∙◌, subst, arith, inl, inr}
+use Rattle.std.specs.List.{filter, flat_map}
 use Rattle.std.proofs.lemmas.List.{map-append, append-nil, append_assoc, length-append, length-map, get_or_at, length_push, take_at}
-use Rattle.std.proofs.lemmas.List.Sums.{fold-append}
 use Rattle.std.proofs.lemmas.List.Elements.{filter-append, filter_agree}
 use Rattle.std.proofs.lemmas.Bool.{cases_Bool, or_parts, false≢true}
-use Rattle.smk_base.specs.declared.value.Value.{Value}
 use Rattle.smk_base.specs.declared.value.Value.TheVariants.{Int}
 use Rattle.smk_base.specs.declared.book.plan.Agg.{Agg}
-use Rattle.smk_base.specs.declared.book.plan.Agg.TheVariants.{Count, Sum, Min, Max}
 use Rattle.smk_base.specs.Plans.{Grouping}
-use Rattle.smk_model.specs.Values.{Row, value_at, value_cmp}
-use Rattle.smk_model.specs.Plain.{row_eq, key_of, firsts, lesser, greater, combined, number_of, total, aggregate, grouped, step1}
+use Rattle.smk_model.specs.Values.{Row, value_at}
+use Rattle.smk_model.specs.Plain.{row_eq, key_of, firsts, aggregate, grouped, step1}
 use Rattle.smk_model.specs.Lineage.{upto, sub}
 use Rattle.smk_model.specs.Classes.{first_places}
 use Rattle.smk_model.specs.LocalLaws.{together}
+use Rattle.smk_model.proofs.Aggregates.{all_rows, once_more, rows_in_part}
 use Rattle.smk_base.proofs.Places.{filter_map, map_map, flat_map_map, map_upto_take}
 use Rattle.smk_model.proofs.Firsts.{holds, key_there}
 use Rattle.smk_model.proofs.Parts.{filter_parts, map_agree, cut}
-use Rattle.smk_model.proofs.Spread.{value_order}
 use Rattle.smk_model.proofs.Bulk.{bulk}
-use Rattle.smk_model.specs.Growth.{over_parts, all_over_parts, regrouping}
+use Rattle.smk_model.specs.Growth.{all_over_parts, regrouping}
 use Rattle.smk_model.specs.GrowthLaws.{GroupsRegroup}
 use Rattle.smk_model.proofs.Keyed.{none_pass, once_first, never_first}
-
--- the order of values
-
-reversed : (o : Ordering) → is_lt (ordering_reverse o) ≡ is_gt o
-reversed Less = refl
-reversed _ = refl
-
-less_is : (o : Ordering) → is_lt o ≡ true → o ≡ Less
-less_is Less h = refl
-less_is _ h = absurd (false≢true h)
-
--- less one way is greater the other way
-lt_gt : (x y : Value) → is_lt (value_cmp x y) ≡ is_gt (value_cmp y x)
-lt_gt x y = ap is_lt (value_order.antisymm x y) ∙ reversed (value_cmp y x)
-
-lt_trans : (x y z : Value) → is_lt (value_cmp x y) ≡ true → is_lt (value_cmp y z) ≡ true → is_lt (value_cmp x z) ≡ true
-lt_trans x y z p q = ap is_lt (value_order.trans x y z (less_is _ p) (less_is _ q))
-
--- taking the better of two in turn, where no less good one is better than a better one
-
-better_assoc : {X : Type 0} (t : X → X → Bool) → ((x y z : X) → t x y ≡ true → t y z ≡ true → t x z ≡ true) → ((x y z : X) → t x y ≡ false → t y z ≡ false → t x z ≡ false)
-    → (a b c : X) → cond (t c (cond (t b a) b a)) c (cond (t b a) b a) ≡ cond (t (cond (t c b) c b) a) (cond (t c b) c b) a
-better_assoc t trans neg a b c = elim (cases_Bool (t b a)) [
-  | inl p ↦ elim (cases_Bool (t c b)) [
-    | inl q ↦ rw (p, q, trans c b a q p) refl
-    | inr q ↦ rw (p, q, p) refl
-  ]
-  | inr p ↦ elim (cases_Bool (t c b)) [
-    | inl q ↦ rw (p, q) refl
-    | inr q ↦ rw (p, q, neg c b a q p, p) refl
-  ]
-]
-
-lesser_assoc : (a b c : Value) → lesser (lesser a b) c ≡ lesser a (lesser b c)
-lesser_assoc = better_assoc (λ x y. is_lt (value_cmp x y)) lt_trans (λ x y z p q. lt_gt x z ∙ above_upto value_order z y x (sym (lt_gt y z) ∙ q) (sym (lt_gt x y) ∙ p))
-
-greater_assoc : (a b c : Value) → greater (greater a b) c ≡ greater a (greater b c)
-greater_assoc = better_assoc (λ x y. is_gt (value_cmp x y)) (λ x y z p q. sym (lt_gt z x) ∙ lt_trans z y x (lt_gt z y ∙ q) (lt_gt y x ∙ p)) (above_upto value_order)
-
--- folds over parts
-
-fold_after : {X : Type 0} (f : X → X → X) → ((a b c : X) → f (f a b) c ≡ f a (f b c)) → (m b : X) (xs : List X) → fold f (f m b) xs ≡ f m (fold f b xs)
-fold_after f assoc m b [] = refl
-fold_after f assoc m b (x ∷ xs) = ap (λ z. fold f z xs) (assoc m b x) ∙ fold_after f assoc m (f b x) xs
-
--- the rows of a part that has some
-abbrev pub rows_in_part : Row × List Row → List Row
-rows_in_part part = part.0 ∷ part.1
-
-abbrev pub all_rows : List (Row × List Row) → List Row
-all_rows parts = flat_map rows_in_part parts
-
-counts : (z : ℕ) (parts : List (Row × List Row)) → fold ◌+ℤ◌ (pos z) (map (λ p. pos (length (rows_in_part p))) parts) ≡ pos (z + length (all_rows parts))
-counts z [] = ap pos (omega arith)
-counts z (p ∷ ps) = counts (z + length (rows_in_part p)) ps ∙ ap pos (omega (arith, length-append (rows_in_part p) (all_rows ps)))
-
-sums : (n : Row → ℤ) (z : ℤ) (parts : List (Row × List Row)) → fold ◌+ℤ◌ z (map (λ p. total (map n (rows_in_part p))) parts) ≡ fold ◌+ℤ◌ z (map n (all_rows parts))
-sums n z [] = refl
-sums n z (p ∷ ps) =
-    let ns = map n (rows_in_part p) in
-    let none : z +ℤ pos 0 ≡ z = omega (arith, ints) in
-    let here : fold ◌+ℤ◌ z ns ≡ z +ℤ total ns = ap (λ m. fold ◌+ℤ◌ m ns) (sym none) ∙ fold_after ◌+ℤ◌ (λ a b c. omega (arith, ints)) z (pos 0) ns in
-    sums n (z +ℤ total ns) ps
-    ∙ ap (λ m. fold ◌+ℤ◌ m (map n (all_rows ps))) (sym here)
-    ∙ sym (ap (fold ◌+ℤ◌ z) (map-append n (rows_in_part p) (all_rows ps)) ∙ fold-append ◌+ℤ◌ z ns (map n (all_rows ps)))
-
-bests_from : (f : Value → Value → Value) → ((a b c : Value) → f (f a b) c ≡ f a (f b c)) → (v : Row → Value) (a : Value) (parts : List (Row × List Row))
-    → fold f a (map (λ p. combined f (map v (rows_in_part p))) parts) ≡ fold f a (map v (all_rows parts))
-bests_from f assoc v a [] = refl
-bests_from f assoc v a (p ∷ ps) =
-    ap (λ m. fold f m (map (λ p. combined f (map v (rows_in_part p))) ps)) (sym (fold_after f assoc a (v p.0) (map v p.1)))
-    ∙ bests_from f assoc v (fold f (f a (v p.0)) (map v p.1)) ps
-    ∙ sym (ap (fold f a) (map-append v (rows_in_part p) (all_rows ps)) ∙ fold-append f a (map v (rows_in_part p)) (map v (all_rows ps)))
-
-bests : (f : Value → Value → Value) → ((a b c : Value) → f (f a b) c ≡ f a (f b c)) → (v : Row → Value) (parts : List (Row × List Row))
-    → combined f (map (λ p. combined f (map v (rows_in_part p))) parts) ≡ combined f (map v (all_rows parts))
-bests f assoc v [] = refl
-bests f assoc v (p ∷ ps) =
-    bests_from f assoc v (fold f (v p.0) (map v p.1)) ps
-    ∙ sym (ap (fold f (v p.0)) (map-append v p.1 (all_rows ps)) ∙ fold-append f (v p.0) (map v p.1) (map v (all_rows ps)))
-
--- an aggregate over the aggregates of parts
-
-pub once_more : (agg : Agg) (n : ℕ) (row : Row × List Row → Row) (parts : List (Row × List Row)) → ((p : Row × List Row) → value_at (row p) n ≡ aggregate (rows_in_part p) agg)
-    → aggregate (map row parts) (over_parts n agg) ≡ aggregate (all_rows parts) agg
-once_more Count n row parts at =
-    ap (λ ns. Int (total ns)) (map_map (λ r. number_of (value_at r n)) row parts ∙ map_agree (λ p. number_of (value_at (row p) n)) (λ p. pos (length (rows_in_part p))) (λ p. ap number_of (at p)) parts)
-    ∙ ap Int (counts 0 parts ∙ ap pos (omega arith))
-once_more (Sum c) n row parts at =
-    ap (λ ns. Int (total ns)) (map_map (λ r. number_of (value_at r n)) row parts ∙ map_agree (λ p. number_of (value_at (row p) n)) (λ p. total (map (λ r. number_of (value_at r c)) (rows_in_part p))) (λ p. ap number_of (at p)) parts)
-    ∙ ap Int (sums (λ r. number_of (value_at r c)) (pos 0) parts)
-once_more (Min c) n row parts at =
-    ap (combined lesser) (map_map (λ r. value_at r n) row parts ∙ map_agree (λ p. value_at (row p) n) (λ p. combined lesser (map (λ r. value_at r c) (rows_in_part p))) at parts)
-    ∙ bests lesser lesser_assoc (λ r. value_at r c) parts
-once_more (Max c) n row parts at =
-    ap (combined greater) (map_map (λ r. value_at r n) row parts ∙ map_agree (λ p. value_at (row p) n) (λ p. combined greater (map (λ r. value_at r c) (rows_in_part p))) at parts)
-    ∙ bests greater greater_assoc (λ r. value_at r c) parts
 
 -- all aggregates, of rows that have those of the parts behind n values
 all_once_more : (aggs : List Agg) (n : ℕ) (front : Row × List Row → Row) (parts : List (Row × List Row)) → ((p : Row × List Row) → length (front p) ≡ n)

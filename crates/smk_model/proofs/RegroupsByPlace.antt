@@ -10,6 +10,7 @@ use Rattle.smk_model.specs.Values.{Row}
 use Rattle.smk_model.specs.Plain.{row_eq, key_of, firsts, aggregate, grouped, step1}
 use Rattle.smk_model.specs.Lineage.{upto, row_at, sub}
 use Rattle.smk_model.specs.Classes.{new_places}
+use Rattle.smk_model.proofs.Aggregates.{once_more, rows_in_part}
 use Rattle.smk_base.proofs.Places.{map_map}
 use Rattle.smk_model.proofs.Firsts.{holds, holds_here, firsts_holds, firsts_from, key_there}
 use Rattle.smk_model.proofs.Locals.{firsts_apart}
@@ -17,7 +18,7 @@ use Rattle.smk_model.proofs.Bulk.{bulk}
 use Rattle.smk_model.specs.Growth.{keys_in, fresh, all_keys, joint, joint_values, joint_group, regrouped}
 use Rattle.smk_model.specs.GrowthLaws.{RegroupsByPlace}
 use Rattle.smk_model.proofs.Keyed.{new_are_fresh, two_firsts, map_places}
-use Rattle.smk_model.proofs.Regroups.{rows_in_part, once_more, of_key, key_first, firsts_of, group_rows, group_keys, both_keys, no_rows, one_group, no_group, regrouped_two}
+use Rattle.smk_model.proofs.Regroups.{of_key, key_first, firsts_of, group_rows, group_keys, both_keys, no_rows, one_group, no_group, regrouped_two}
 
 -- the aggregates of two parts that have rows
 joint_is : (agg : Agg) (x : Row) (xs : List Row) (y : Row) (ys : List Row) → joint agg (aggregate (x ∷ xs) agg) (aggregate (y ∷ ys) agg) ≡ aggregate ((x ∷ xs) ++ (y ∷ ys)) agg

@@ -1,12 +1,11 @@
 -- Plans that grow with their table: which they are, and how what they give of the old rows and of the new ones is put together.
 use Rattle.std.specs.Prelude.{ℕ, ◌+◌, Bool, true, false, not, List, [], ◌∷◌, ◌++◌, length, map, take, drop}
 use Rattle.std.specs.List.{list_any, filter, fold}
-use Rattle.smk_base.specs.Aggregates.{moved_to}
+use Rattle.smk_base.specs.Aggregates.{over_parts}
 use Rattle.smk_base.specs.Places.{upto, places}
 use Rattle.smk_base.specs.declared.value.Value.{Value}
 use Rattle.smk_base.specs.declared.book.plan.Agg.{Agg}
-use Rattle.smk_base.specs.declared.book.plan.Agg.TheVariants.{Count, Sum}
-use Rattle.smk_base.specs.Plans.{Unary, Selection, Projection, Grouping, Expr, Leaf, Apply}
+use Rattle.smk_base.specs.Plans.{Unary, Selection, Projection, Distinction, Grouping, Expr, Leaf, Apply, Combine}
 use Rattle.smk_model.specs.Values.{Row}
 use Rattle.smk_model.specs.Plain.{row_eq, key_of, aggregate}
 use Rattle.smk_model.specs.Lineage.{row_at, sub}
@@ -16,19 +15,20 @@ abbrev pub is_chain : Expr → Bool
 is_chain (Leaf table) = true
 is_chain (Apply (Selection formula) input) = is_chain input
 is_chain (Apply (Projection items) input) = is_chain input
-is_chain _ = false
+is_chain (Apply (Distinction items) input) = false
+is_chain (Apply (Grouping keys aggs) input) = false
+is_chain (Combine op left right) = false
 
 -- whether a plan is a growing chain: such a chain, with at most a grouping over it
 abbrev pub is_growing : Expr → Bool
+is_growing (Leaf table) = true
+is_growing (Apply (Selection formula) input) = is_chain input
+is_growing (Apply (Projection items) input) = is_chain input
+is_growing (Apply (Distinction items) input) = false
 is_growing (Apply (Grouping keys aggs) input) = is_chain input
-is_growing plan = is_chain plan
+is_growing (Combine op left right) = false
 
--- the aggregate over parts that is in column c of their groupings, taken once more: it is that over all rows, since each of these is a distributive aggregate (Gray and others, Data Cube, 1997); counts are summed
-abbrev pub over_parts : ℕ → Agg → Agg
-over_parts c Count = Sum c
-over_parts c agg = moved_to c agg
-
--- the same of aggregates in the columns from c on
+-- aggregates that are in the columns from c on of the groupings of parts, taken once more
 abbrev pub all_over_parts : ℕ → List Agg → List Agg
 all_over_parts c [] = []
 all_over_parts c (agg ∷ aggs) = over_parts c agg ∷ all_over_parts (c + 1) aggs

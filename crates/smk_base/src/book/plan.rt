@@ -1,5 +1,5 @@
 ghost use Rattle.std.specs.Prelude.{◌≡◌, Ok, IfOk};
-ghost use Rattle.smk_base.specs.Aggregates.{moved_to, read_by};
+ghost use Rattle.smk_base.specs.Aggregates.{moved_to, over_parts, read_by};
 ghost use Rattle.smk_base.specs.PlanImage.{binary_of, formula_of, unary_of};
 
 use crate::list::ListOf;
@@ -117,6 +117,18 @@ impl Agg {
     {
         match self {
             Agg::Count => Agg::Count,
+            Agg::Sum(_) => Agg::Sum(column),
+            Agg::Min(_) => Agg::Min(column),
+            Agg::Max(_) => Agg::Max(column),
+        }
+    }
+
+    /// The aggregate over parts that is in a column of their groupings, taken once more.
+    pub fn over_parts(self, column: u32) -> Agg
+        ensures { result ≡ over_parts column self }
+    {
+        match self {
+            Agg::Count => Agg::Sum(column),
             Agg::Sum(_) => Agg::Sum(column),
             Agg::Min(_) => Agg::Min(column),
             Agg::Max(_) => Agg::Max(column),
