@@ -4,24 +4,22 @@ use Rattle.std.proofs.lemmas.Bool.{cases_lt}
 use Rattle.std.proofs.lemmas.List.{get_or-map, get_or_append_left, get_or_default, get_or_push, append-nil, length-append, length-map, length_push, same_lists}
 use Rattle.std.proofs.lemmas.List.Elements.{All-nil, All-push}
 use Rattle.std.proofs.lemmas.Option.{none-some}
+use Rattle.smk_base.specs.Aggregates.{moved_to, read_by}
 use Rattle.smk_base.specs.Rels.{Relation, kind_in, picked, row_in, rows_at}
 use Rattle.smk_base.specs.declared.book.plan.Agg.{Agg}
-use Rattle.smk_base.specs.declared.book.plan.Agg.TheVariants.{Count, Sum, Min, Max}
+use Rattle.smk_base.specs.declared.book.plan.Agg.TheVariants.{Count}
 use Rattle.smk_base.specs.declared.value.Kind.{Kind}
 use Rattle.smk_base.specs.declared.value.Value.TheVariants.{Int}
 use Rattle.smk_base.specs.declared.value.Kind.TheVariants as kinds
-use Rattle.smk_model.specs.Kinds.{AggFits, kind_of_agg, summed}
-use Rattle.smk_model.specs.Plain.{aggregate, combined, greater, lesser, number_of, total}
+use Rattle.smk_model.specs.Kinds.{AggFits, kind_of_agg}
+use Rattle.smk_model.specs.Plain.{aggregate}
 use Rattle.smk_model.specs.Values.{Row, value_at}
+use Rattle.smk_model.proofs.Aggregates.{aggregate_of_made, kind_of_moved, moved_fits}
 use Rattle.smk_base.proofs.Places.{map_map}
 use Rattle.smk_body.proofs.Aggregating.{map_where}
-use Rattle.smk_body.proofs.Besides.{map_same}
-use Rattle.smk_push.specs.Inputs.{AreRead, moved_to, read_by}
+use Rattle.smk_push.specs.Inputs.{AreRead}
 
--- an aggregate reads at a place among columns what another reads of all columns
-abbrev Reads : List ℕ → ℕ → Agg → Type 0
-Reads cols place agg = (c : ℕ) → read_by agg ≡ Some c → (place < length cols) × (get_or cols place 0 ≡ c)
-
+-- an aggregate over a place among columns that has the column which another reads
 pub record Stands (cols : List ℕ) (agg over : Agg) : Type 0 where
   pub place : ℕ
   pub moved : over ≡ moved_to place agg
@@ -75,41 +73,12 @@ pub IsRead-column : (width : ℕ) (aggs : List Agg) (n : ℕ) (over : List Agg) 
 IsRead-column width aggs n over cols c so some low =
     one_more width aggs n over cols (c ∷ []) so (omega arith) (All-push (λ x. x < width) cols c so.within low) (λ x r. (let same : Some c ≡ Some x = sym some ∙ r in let e : c ≡ x = cc in ap (λ (z : ℕ). z ∷ []) e))
 
--- the column that an aggregate reads is there
-pub column_there : (kinds : List Kind) (agg : Agg) (c : ℕ) → AggFits kinds agg → read_by agg ≡ Some c → c < length kinds
-column_there kinds Count c fits r = absurd (none-some c r)
-column_there kinds (Sum x) c fits r = let e : x ≡ c = cc in rw (sym e) fits.0
-column_there kinds (Min x) c fits r = let e : x ≡ c = cc in rw (sym e) fits
-column_there kinds (Max x) c fits r = let e : x ≡ c = cc in rw (sym e) fits
-
 -- a value, a kind at the place of a column
 value_there : (cols : List ℕ) (p c : ℕ) (row : Row) → (p < length cols) × (get_or cols p 0 ≡ c) → value_at (picked cols row) p ≡ value_at row c
 value_there cols p c row at = get_or-map (value_at row) cols p 0 (Int (pos 0)) at.0 ∙ ap (value_at row) at.1
 
 kind_there : (cols : List ℕ) (p c : ℕ) (ks : List Kind) → (p < length cols) × (get_or cols p 0 ≡ c) → kind_in (map (kind_in ks) cols) p ≡ kind_in ks c
 kind_there cols p c ks at = get_or-map (kind_in ks) cols p 0 kinds.Text at.0 ∙ ap (kind_in ks) at.1
-
-values_there : (cols : List ℕ) (p c : ℕ) (rows : List Row) → (p < length cols) × (get_or cols p 0 ≡ c) → map (λ row. value_at row p) (map (picked cols) rows) ≡ map (λ row. value_at row c) rows
-values_there cols p c rows at = map_map (λ (row : Row). value_at row p) (picked cols) rows ∙ map_same (λ row. value_at (picked cols row) p) (λ row. value_at row c) rows (λ row. value_there cols p c row at)
-
-over_value : (cols : List ℕ) (p : ℕ) (agg : Agg) (rows : List Row) → Reads cols p agg → aggregate (map (picked cols) rows) (moved_to p agg) ≡ aggregate rows agg
-over_value cols p Count rows h = ap (λ n. Int (pos n)) (length-map rows (picked cols))
-over_value cols p (Sum c) rows h =
-    ap (λ ns. Int (total ns)) (sym (map_map number_of (λ (row : Row). value_at row p) (map (picked cols) rows)) ∙ ap (map number_of) (values_there cols p c rows (h c refl)) ∙ map_map number_of (λ (row : Row). value_at row c) rows)
-over_value cols p (Min c) rows h = ap (combined lesser) (values_there cols p c rows (h c refl))
-over_value cols p (Max c) rows h = ap (combined greater) (values_there cols p c rows (h c refl))
-
-over_kind : (cols : List ℕ) (p : ℕ) (agg : Agg) (ks : List Kind) → Reads cols p agg → kind_of_agg (map (kind_in ks) cols) (moved_to p agg) ≡ kind_of_agg ks agg
-over_kind cols p Count ks h = refl
-over_kind cols p (Sum c) ks h = ap summed (kind_there cols p c ks (h c refl))
-over_kind cols p (Min c) ks h = kind_there cols p c ks (h c refl)
-over_kind cols p (Max c) ks h = kind_there cols p c ks (h c refl)
-
-over_fits : (cols : List ℕ) (p : ℕ) (agg : Agg) (ks : List Kind) → Reads cols p agg → AggFits ks agg → AggFits (map (kind_in ks) cols) (moved_to p agg)
-over_fits cols p Count ks h fits = fits
-over_fits cols p (Sum c) ks h fits = (omega (arith, length-map cols (kind_in ks), (h c refl).0), rw (kind_there cols p c ks (h c refl)) fits.1)
-over_fits cols p (Min c) ks h fits = omega (arith, length-map cols (kind_in ks), (h c refl).0)
-over_fits cols p (Max c) ks h fits = omega (arith, length-map cols (kind_in ks), (h c refl).0)
 
 -- what is made of each of the aggregates
 each_same : {Y : Type 0} (f g : Agg → Y) (aggs over : List Agg) → length over ≡ length aggs → ((k : ℕ) → k < length aggs → f (get_or over k Count) ≡ g (get_or aggs k Count)) → map f over ≡ map g aggs
@@ -130,15 +99,16 @@ AreRead-all all rows aggs over cols n e fits so is =
       fits = λ k d h.
           let low : k < length aggs = omega (arith, h, long) in
           let s = stands k low in
-          rw (get_or_default over k d Count h, s.moved) (over_fits cols s.place (get_or aggs k Count) all.kinds s.reads (fits k Count low));
+          rw (get_or_default over k d Count h, s.moved)
+          (moved_fits (get_or aggs k Count) s.place (map (kind_in all.kinds) cols) all.kinds (λ c r. (omega (arith, length-map cols (kind_in all.kinds), (s.reads c r).0), kind_there cols s.place c all.kinds (s.reads c r))) (λ c r. fits k Count low));
       kinds = each_same (kind_of_agg (map (kind_in all.kinds) cols)) (kind_of_agg all.kinds) aggs over long (λ k h.
           let s = stands k h in
-          ap (kind_of_agg (map (kind_in all.kinds) cols)) s.moved ∙ over_kind cols s.place (get_or aggs k Count) all.kinds s.reads);
+          ap (kind_of_agg (map (kind_in all.kinds) cols)) s.moved ∙ kind_of_moved (get_or aggs k Count) s.place (map (kind_in all.kinds) cols) all.kinds (λ c r. kind_there cols s.place c all.kinds (s.reads c r)));
       long = length-map all.rows (picked cols);
       values = λ A low.
           let R = rows_at all.rows A in
           ap (λ z. map (aggregate z) over) (rows_picked cols all.rows A low)
           ∙ each_same (aggregate (map (picked cols) R)) (aggregate R) aggs over long (λ k h.
           let s = stands k h in
-          ap (aggregate (map (picked cols) R)) s.moved ∙ over_value cols s.place (get_or aggs k Count) R s.reads);
+          ap (aggregate (map (picked cols) R)) s.moved ∙ aggregate_of_made (get_or aggs k Count) s.place (picked cols) R (λ c r row. value_there cols s.place c row (s.reads c r)));
     })

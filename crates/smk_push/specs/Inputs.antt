@@ -1,27 +1,13 @@
 -- What the groupings of the rows at any rids are made from.
-use Rattle.std.specs.Prelude.{◌≡◌, ℕ, ◌+◌, ◌<◌, ◌≤◌, Option, Some, None, List, ◌++◌, length, map, All}
+use Rattle.std.specs.Prelude.{◌≡◌, ℕ, ◌+◌, ◌<◌, ◌≤◌, List, ◌++◌, length, map, All}
 use Rattle.std.specs.List.{filter}
 use Rattle.smk_base.specs.Rels.{Relation, row_in, rows_at}
 use Rattle.smk_base.specs.declared.book.plan.Agg.{Agg}
-use Rattle.smk_base.specs.declared.book.plan.Agg.TheVariants.{Count, Sum, Min, Max}
 use Rattle.smk_base.specs.declared.rel.TheConstants.{COLUMN_LIMIT}
 use Rattle.smk_keys.specs.Classes.{ClassesImage, classes_of}
 use Rattle.smk_model.specs.Kinds.{AggFits, kind_of_agg}
 use Rattle.smk_model.specs.Plain.{aggregate, firsts, row_eq}
 use Rattle.smk_model.specs.Values.{Row}
-
--- the column that an aggregate reads, and the same aggregate over another
-abbrev pub read_by : Agg → Option ℕ
-read_by Count = None
-read_by (Sum c) = Some c
-read_by (Min c) = Some c
-read_by (Max c) = Some c
-
-abbrev pub moved_to : ℕ → Agg → Agg
-moved_to column Count = Count
-moved_to column (Sum c) = Sum column
-moved_to column (Min c) = Min column
-moved_to column (Max c) = Max column
 
 -- rows of fewer columns, and aggregates over them that give what others give over the rows of a relation at any places
 pub record AreRead (all : Relation) (aggs : List Agg) (rows : Relation) (over : List Agg) : Type 0 where

@@ -3,7 +3,7 @@ ghost use Rattle.std.specs.Prelude.{◌≡◌, ◌<◌, ◌≤◌, ℕ, List, le
 ghost use Rattle.smk_base.specs.declared.rel.TheConstants.{COLUMN_LIMIT};
 ghost use Rattle.smk_model.specs.Kinds.{AggFits, GroupFits};
 ghost use Rattle.smk_push.specs.Cubes.{cube_of};
-ghost use Rattle.smk_push.specs.Inputs.{AreRead, IsInput, cube_from, moved_to, read_by};
+ghost use Rattle.smk_push.specs.Inputs.{AreRead, IsInput, cube_from};
 
 use smk_base::{Agg, Aggs, Rel, numbers_below};
 use smk_keys::Classes;
@@ -52,35 +52,11 @@ fn read_columns(alloc: Global, aggs: &[Agg], all: &Chosen) -> Result<(Aggs, Rel)
     let mut over = Aggs::new(alloc);
     let mut cols = Vec::new(alloc);
     for agg in aggs {
-        over.push(moved(*agg, cols.len() as u32))?;
-        if let Some(c) = column_of(*agg) {
+        over.push(agg.over(cols.len() as u32))?;
+        if let Some(c) = agg.column() {
             cols.push(c)?;
         }
     }
     let rows = all.columns(alloc, cols.as_slice())?;
     Ok((over, rows))
-}
-
-// The column that an aggregate reads.
-fn column_of(agg: Agg) -> Option<u32>
-    ensures { result ≡ read_by agg }
-{
-    match agg {
-        Agg::Count => None,
-        Agg::Sum(c) => Some(c),
-        Agg::Min(c) => Some(c),
-        Agg::Max(c) => Some(c),
-    }
-}
-
-// The same aggregate over another column.
-fn moved(agg: Agg, c: u32) -> Agg
-    ensures { result ≡ moved_to c agg }
-{
-    match agg {
-        Agg::Count => Agg::Count,
-        Agg::Sum(_) => Agg::Sum(c),
-        Agg::Min(_) => Agg::Min(c),
-        Agg::Max(_) => Agg::Max(c),
-    }
 }

@@ -1,10 +1,11 @@
 use Rattle.std.proofs.Common.{◌≡◌, ◌∙◌, ◌∷◌, ◌++◌, [], ℕ, Some, List, length, map, get_or, ap, sym, rules, arith}
 use Rattle.smk_base.specs.declared.book.plan.Agg.{Agg}
 use Rattle.smk_base.specs.declared.book.plan.Agg.TheVariants.{Count}
+use Rattle.smk_base.specs.Aggregates.{moved_to, read_by}
 use Rattle.smk_base.specs.Rels.{kind_in, picked}
 use Rattle.smk_body.proofs.Besides.{relation}
-use Rattle.smk_push.specs.Inputs.{moved_to, read_by}
-use Rattle.smk_push.proofs.Read.{AreRead-all, IsRead-column, IsRead-count, column_there}
+use Rattle.smk_model.proofs.Aggregates.{column_there}
+use Rattle.smk_push.proofs.Read.{AreRead-all, IsRead-column, IsRead-count}
 use Rattle.smk_push.proofs.input.read_columns.Goals as goal
 use Rattle.smk_push.proofs.input.read_columns.Goals.{in-Some+in_ok-push-2, in_default}
 
@@ -17,13 +18,13 @@ loop-agg-preserved c =
     let so = c.loop-agg.invariant in
     let agg : Agg = get_or aggs i Count in
     let fits = c.requires.fits i Count c.loop-agg-test.true in
-    let made : c.moved.result ≡ moved_to (length cols) agg = search rules in
+    let made : c.over.result ≡ moved_to (length cols) agg = search rules in
     let over : c.push.new.self ≡ c.loop-agg.over ++ moved_to (length cols) agg ∷ [] = c.in_ok-push.ensures.pushed ∙ ap (λ (z : Agg). c.loop-agg.over ++ z ∷ []) made in
-    elim c.match-column_of.branch [
+    elim c.match-column.branch [
       | in-Some+in_ok-push-2 w ↦ (
-          let some : read_by agg ≡ Some w.in-Some.c = sym c.column_of.ensures ∙ w.in-Some.is in
-          rw (over, w.cols-is, w.in_ok-push-2.ensures.items) (IsRead-column width aggs i c.loop-agg.over cols w.in-Some.c so some (column_there c.args.all.now.kinds agg w.in-Some.c fits some)))
-      | in_default w ↦ rw (over, w.cols-is) (IsRead-count width aggs i c.loop-agg.over cols so (sym c.column_of.ensures ∙ w.in_default.is))
+          let some : read_by agg ≡ Some w.in-Some.c = sym c.column.ensures ∙ w.in-Some.is in
+          rw (over, w.cols-is, w.in_ok-push-2.ensures.items) (IsRead-column width aggs i c.loop-agg.over cols w.in-Some.c so some (column_there agg c.args.all.now.kinds w.in-Some.c fits some)))
+      | in_default w ↦ rw (over, w.cols-is) (IsRead-count width aggs i c.loop-agg.over cols so (sym c.column.ensures ∙ w.in_default.is))
     ]
 
 pub returns : goal.returns
