@@ -1,23 +1,24 @@
 -- Output columns and a grouping over the columns that they name are those over all columns.
-use Rattle.std.proofs.Common.{◌≡◌, ◌∙◌, ◌+◌, ◌<◌, ◌≤◌, ℕ, suc, pos, Bool, true, List, [], ◌∷◌, ◌++◌, length, map, filter, get_or, All, Some, None, nat_lt, refl, sym, ap, subst, arith, inl, inr, nat_eq, eqb-true, eq-eqb}
+use Rattle.std.proofs.Common.{◌≡◌, ◌∙◌, ◌+◌, ◌<◌, ◌≤◌, ℕ, suc, pos, Bool, true, not, List, [], ◌∷◌, ◌++◌, length, map, filter, get_or, All, Some, None, unwrap_or, nat_lt, refl, sym, ap, subst, arith, inl, inr, nat_eq, eqb-true, eq-eqb}
 use Rattle.std.specs.List.{list_any, position, position_or_len}
 use Rattle.std.proofs.lemmas.Bool.{cases_Bool, false≢true, or_left, or_right}
 use Rattle.std.proofs.lemmas.List.{get_or-map, length-map}
+use Rattle.std.proofs.lemmas.List.Filters.{length-filter_both}
 use Rattle.std.proofs.lemmas.List.Elements.{filter_agree, All-map}
 use Rattle.std.proofs.lemmas.List.Folds.{list_any_at}
-use Rattle.smk_base.specs.Places.{has, places}
+use Rattle.smk_base.specs.Aggregates.{read_by}
+use Rattle.smk_base.specs.Places.{has, upto, places}
 use Rattle.smk_base.specs.Rels.{Relation, kind_in, value_in, row_in, rows_at, picked}
-use Rattle.smk_base.specs.declared.value.Value.TheVariants.{Int}
 use Rattle.smk_base.specs.declared.value.Kind.{Kind}
 use Rattle.smk_base.specs.declared.book.plan.Item.{Item}
 use Rattle.smk_base.specs.declared.book.plan.Item.TheVariants as items
 use Rattle.smk_base.specs.declared.book.plan.Agg.{Agg}
-use Rattle.smk_base.specs.declared.book.plan.Agg.TheVariants.{Count, Sum, Min, Max}
 use Rattle.smk_base.specs.Plans.{Grouping}
 use Rattle.smk_model.specs.Values.{Row, value_at}
-use Rattle.smk_model.specs.Plain.{item_at, image, key_of, firsts, number_of, total, combined, lesser, greater, aggregate, grouped, row_eq, step1}
-use Rattle.smk_model.specs.Kinds.{ItemFits, AggFits, ItemsFit, GroupFits, IsInt, IsSummed, kind_of_item, kind_of_agg, summed, kinds1}
-use Rattle.smk_base.proofs.Places.{filter_map, map_map, has_places, places_below, few_places}
+use Rattle.smk_model.specs.Plain.{item_at, image, key_of, firsts, aggregate, grouped, row_eq, step1}
+use Rattle.smk_model.specs.Kinds.{ItemFits, AggFits, ItemsFit, GroupFits, IsInt, kind_of_item, kind_of_agg, kinds1}
+use Rattle.smk_model.proofs.Aggregates.{aggregate_of_made, column_there, kind_of_moved, moved_fits}
+use Rattle.smk_base.proofs.Places.{filter_map, map_map, has_places, places_below, length_upto}
 use Rattle.smk_model.proofs.Parts.{map_agree}
 use Rattle.smk_table.specs.Named.{is_of, reads, is_named, named, place_of, item_among, agg_among}
 
@@ -84,10 +85,7 @@ HasItem cols (items.Col c) = has cols c ≡ true
 HasItem cols (items.Bin c w) = has cols c ≡ true
 
 abbrev pub HasAgg : List ℕ → Agg → Type 0
-HasAgg cols Count = Unit {0}
-HasAgg cols (Sum c) = has cols c ≡ true
-HasAgg cols (Min c) = has cols c ≡ true
-HasAgg cols (Max c) = has cols c ≡ true
+HasAgg cols agg = (c : ℕ) → read_by agg ≡ Some c → has cols c ≡ true
 
 -- lists of them
 
@@ -110,20 +108,8 @@ key_there : (cols keys : List ℕ) (row : Row) → All (λ c. has cols c ≡ tru
 key_there cols keys row all =
     map_map (value_in (picked cols row)) (place_of cols) keys ∙ each_agrees (λ c. has cols c ≡ true) (λ c. value_in (picked cols row) (place_of cols c)) (value_in row) keys all (value_there cols row)
 
-column_there : (cols : List ℕ) (rows : List Row) (c : ℕ) → has cols c ≡ true → map (λ row. value_at row (place_of cols c)) (map (picked cols) rows) ≡ map (λ row. value_at row c) rows
-column_there cols rows c h =
-    map_map (λ row. value_at row (place_of cols c)) (picked cols) rows ∙ map_agree (λ row. value_at (picked cols row) (place_of cols c)) (λ row. value_at row c) (λ row. value_there cols row c h) rows
-
-numbers_there : (cols : List ℕ) (rows : List Row) (c : ℕ) → has cols c ≡ true → map (λ row. number_of (value_at row (place_of cols c))) (map (picked cols) rows) ≡ map (λ row. number_of (value_at row c)) rows
-numbers_there cols rows c h =
-    map_map (λ row. number_of (value_at row (place_of cols c))) (picked cols) rows
-    ∙ map_agree (λ row. number_of (value_at (picked cols row) (place_of cols c))) (λ row. number_of (value_at row c)) (λ row. ap number_of (value_there cols row c h)) rows
-
 agg_there : (cols : List ℕ) (rows : List Row) (agg : Agg) → HasAgg cols agg → aggregate (map (picked cols) rows) (agg_among cols agg) ≡ aggregate rows agg
-agg_there cols rows Count h = ap (λ n. Int (pos n)) (length-map rows (picked cols))
-agg_there cols rows (Sum c) h = ap (λ ns. Int (total ns)) (numbers_there cols rows c h)
-agg_there cols rows (Min c) h = ap (combined lesser) (column_there cols rows c h)
-agg_there cols rows (Max c) h = ap (combined greater) (column_there cols rows c h)
+agg_there cols rows agg h = aggregate_of_made agg (place_of cols (unwrap_or (read_by agg) 0)) (picked cols) rows (λ c r row. rw r (value_there cols row c (h c r)))
 
 members_there : (cols keys : List ℕ) (rows : List Row) (key : Row) → All (λ c. has cols c ≡ true) keys
     → filter (λ row. row_eq key (key_of (map (place_of cols) keys) row)) (map (picked cols) rows) ≡ map (picked cols) (filter (λ row. row_eq key (key_of keys row)) rows)
@@ -178,10 +164,7 @@ group_rows cols keys aggs L all each =
     ∙ map_agree (grouped keys' aggs' (map (picked cols) L)) (grouped keys aggs L) (λ key. group_there cols keys aggs L key all each) (firsts (map (key_of keys) L))
 
 agg_kind : (cols : List ℕ) (kinds : List Kind) (agg : Agg) → HasAgg cols agg → kind_of_agg (map (kind_in kinds) cols) (agg_among cols agg) ≡ kind_of_agg kinds agg
-agg_kind cols kinds Count h = refl
-agg_kind cols kinds (Sum c) h = ap summed (kind_there cols kinds c h)
-agg_kind cols kinds (Min c) h = kind_there cols kinds c h
-agg_kind cols kinds (Max c) h = kind_there cols kinds c h
+agg_kind cols kinds agg h = kind_of_moved agg (place_of cols (unwrap_or (read_by agg) 0)) (map (kind_in kinds) cols) kinds (λ c r. rw r (kind_there cols kinds c (h c r)))
 
 pub group_kinds : (cols keys : List ℕ) (aggs : List Agg) (kinds : List Kind) → All (λ c. has cols c ≡ true) keys → All (HasAgg cols) aggs
     → kinds1 (Grouping (map (place_of cols) keys) (map (agg_among cols) aggs)) (map (kind_in kinds) cols) ≡ kinds1 (Grouping keys aggs) kinds
@@ -194,10 +177,7 @@ group_kinds cols keys aggs kinds all aggs_all =
     rw (first, rest) refl
 
 agg_fits : (cols : List ℕ) (kinds : List Kind) (agg : Agg) → HasAgg cols agg → AggFits kinds agg → AggFits (map (kind_in kinds) cols) (agg_among cols agg)
-agg_fits cols kinds Count h fits = tt
-agg_fits cols kinds (Sum c) h fits = (long_there cols kinds c h, subst IsSummed (sym (kind_there cols kinds c h)) fits.1)
-agg_fits cols kinds (Min c) h fits = long_there cols kinds c h
-agg_fits cols kinds (Max c) h fits = long_there cols kinds c h
+agg_fits cols kinds agg h fits = moved_fits agg (place_of cols (unwrap_or (read_by agg) 0)) (map (kind_in kinds) cols) kinds (λ c r. rw r (long_there cols kinds c (h c r), kind_there cols kinds c (h c r))) (λ c r. fits)
 
 pub group_fits : (cols keys : List ℕ) (aggs : List Agg) (kinds : List Kind) → All (λ c. has cols c ≡ true) keys → All (HasAgg cols) aggs → GroupFits kinds keys aggs
     → GroupFits (map (kind_in kinds) cols) (map (place_of cols) keys) (map (agg_among cols) aggs)
@@ -217,6 +197,9 @@ picked_at cols L places inside =
 
 -- the named columns have what is named
 
+pub few_places : (t : ℕ → Bool) (n : ℕ) → length (places t n) ≤ n
+few_places t n = omega (arith, length-filter_both t (λ c. not (t c)) (λ c. refl) (upto n), length_upto n)
+
 pub few_named : (items : List Item) (keys : List ℕ) (aggs : List Agg) (n : ℕ) → length (named items keys aggs n) ≤ n
 few_named items keys aggs n = few_places (is_named items keys aggs) n
 
@@ -231,10 +214,7 @@ item_named of kinds (items.Col c) fits h = has_passing (is_named of [] []) (leng
 item_named of kinds (items.Bin c w) fits h = has_passing (is_named of [] []) (length kinds) c fits.0 (h c (eq-eqb c c refl))
 
 pub agg_passing : (t : ℕ → Bool) (kinds : List Kind) (agg : Agg) → AggFits kinds agg → ((c : ℕ) → reads c agg ≡ true → t c ≡ true) → HasAgg (places t (length kinds)) agg
-agg_passing t kinds Count fits h = tt
-agg_passing t kinds (Sum c) fits h = has_passing t (length kinds) c fits.0 (h c (eq-eqb c c refl))
-agg_passing t kinds (Min c) fits h = has_passing t (length kinds) c fits (h c (eq-eqb c c refl))
-agg_passing t kinds (Max c) fits h = has_passing t (length kinds) c fits (h c (eq-eqb c c refl))
+agg_passing t kinds agg fits h c r = has_passing t (length kinds) c (column_there agg kinds c fits r) (h c (rw r (eq-eqb c c refl)))
 
 has_items : (of : List Item) (kinds : List Kind) → ItemsFit kinds of → All (HasItem (named of [] [] (length kinds))) of
 has_items of kinds fits k d low =

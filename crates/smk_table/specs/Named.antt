@@ -1,11 +1,11 @@
 -- The columns that a step names, and the step over these alone.
-use Rattle.std.specs.Prelude.{ℕ, ◌+◌, Bool, false, ◌||◌, nat_eq, List, [], map, position, unwrap_or}
+use Rattle.std.specs.Prelude.{ℕ, ◌+◌, Bool, false, ◌||◌, nat_eq, List, [], map, option_map, position, unwrap_or}
 use Rattle.std.specs.List.{list_any}
+use Rattle.smk_base.specs.Aggregates.{moved_to, read_by}
 use Rattle.smk_base.specs.Places.{places, has}
 use Rattle.smk_base.specs.declared.book.plan.Item.{Item}
 use Rattle.smk_base.specs.declared.book.plan.Item.TheVariants.{Col, Bin}
 use Rattle.smk_base.specs.declared.book.plan.Agg.{Agg}
-use Rattle.smk_base.specs.declared.book.plan.Agg.TheVariants.{Count, Sum, Min, Max}
 
 -- whether an output column stands on a column
 abbrev pub is_of : ℕ → Item → Bool
@@ -14,10 +14,7 @@ is_of c (Bin d w) = nat_eq c d
 
 -- whether an aggregate reads a column
 abbrev pub reads : ℕ → Agg → Bool
-reads c Count = false
-reads c (Sum d) = nat_eq c d
-reads c (Min d) = nat_eq c d
-reads c (Max d) = nat_eq c d
+reads c agg = unwrap_or (option_map (nat_eq c) (read_by agg)) false
 
 -- whether output columns, keys or aggregates name a column
 abbrev pub is_named : List Item → List ℕ → List Agg → ℕ → Bool
@@ -36,11 +33,9 @@ abbrev pub item_among : List ℕ → Item → Item
 item_among cols (Col c) = Col (place_of cols c)
 item_among cols (Bin c w) = Bin (place_of cols c) w
 
+-- an aggregate that reads no column is itself over any
 abbrev pub agg_among : List ℕ → Agg → Agg
-agg_among cols Count = Count
-agg_among cols (Sum c) = Sum (place_of cols c)
-agg_among cols (Min c) = Min (place_of cols c)
-agg_among cols (Max c) = Max (place_of cols c)
+agg_among cols agg = moved_to (place_of cols (unwrap_or (read_by agg) 0)) agg
 
 -- a pair of columns that are to be equal, over these columns of both sides alone
 abbrev pub pair_among : List ℕ → List ℕ → ℕ × ℕ → ℕ × ℕ

@@ -70,11 +70,9 @@ fn is_under(item: Item, c: u32) -> bool
 fn is_read(agg: Agg, c: u32) -> bool
     ensures { result ≡ reads c agg }
 {
-    match agg {
-        Agg::Count => false,
-        Agg::Sum(col) => c == col,
-        Agg::Min(col) => c == col,
-        Agg::Max(col) => c == col,
+    match agg.column() {
+        Some(col) => c == col,
+        None => false,
     }
 }
 
@@ -109,7 +107,8 @@ pub(crate) fn aggs_among(alloc: Global, aggs: &[Agg], cols: &[u32]) -> Result<Ag
 {
     let mut made = Aggs::new(alloc);
     for agg in aggs {
-        made.push(one_agg_among(*agg, cols))?;
+        // One that reads no column stays what it is over any.
+        made.push(agg.over(place_among(cols, agg.column().unwrap_or(0))))?;
     }
     Ok(made)
 }
@@ -124,18 +123,6 @@ fn one_item_among(item: Item, cols: &[u32]) -> Item
             col: place_among(cols, col),
             width,
         },
-    }
-}
-
-fn one_agg_among(agg: Agg, cols: &[u32]) -> Agg
-    requires { length cols.now ≤ COLUMN_LIMIT }
-    ensures { result ≡ agg_among cols.now agg }
-{
-    match agg {
-        Agg::Count => Agg::Count,
-        Agg::Sum(col) => Agg::Sum(place_among(cols, col)),
-        Agg::Min(col) => Agg::Min(place_among(cols, col)),
-        Agg::Max(col) => Agg::Max(place_among(cols, col)),
     }
 }
 
