@@ -1,15 +1,16 @@
 -- The first halves of steps: the places that make the output rows.
-use Rattle.std.specs.Prelude.{◌≡◌, ◌≢◌, ℕ, ℤ, pos, ◌<◌, ◌≤◌, nat_eq, Bool, cond, List, length, map, slice_index, slice_index_or, All}
+use Rattle.std.specs.Prelude.{◌≡◌, ◌≢◌, ℕ, ℤ, pos, ◌<◌, ◌≤◌, nat_eq, Bool, cond, List, [], ◌∷◌, length, map, slice_index, slice_index_or, All}
 use Rattle.std.specs.List.{flat_map, fold}
 use Rattle.std.specs.Ordering.{int_cmp, is_lt, is_gt}
 use Rattle.smk_base.specs.declared.rel.TheConstants.{ROW_LIMIT}
 use Rattle.smk_base.specs.Places.{upto, places}
 use Rattle.smk_base.specs.Plans.{Formula}
+use Rattle.smk_base.specs.declared.book.plan.Agg.{Agg}
 use Rattle.smk_base.specs.declared.book.plan.CmpOp.{CmpOp}
 use Rattle.smk_base.specs.declared.value.Value.{Value}
 use Rattle.smk_model.specs.Values.{Row, holds, meets, value_cmp}
-use Rattle.smk_model.specs.Plain.{lesser, greater}
-use Rattle.smk_model.specs.Lineage.{row_at, lefts_of, rights_of}
+use Rattle.smk_model.specs.Plain.{aggregate, lesser, greater}
+use Rattle.smk_model.specs.Lineage.{row_at, sub, lefts_of, rights_of}
 use Rattle.smk_keys.specs.Classes.{ClassesImage}
 
 -- the places below n whose rows meet a formula
@@ -62,6 +63,10 @@ class_places of n p = places (λ i. nat_eq (slice_index of i) p) n
 -- how many places each class has
 abbrev pub class_sizes : ClassesImage → List ℕ
 class_sizes classes = map (λ p. length (class_places classes.of (length classes.of) p)) (upto (length classes.firsts))
+
+-- an aggregate over the rows of each class, in a row of its own
+abbrev pub class_values : ClassesImage → List Row → Agg → List Row
+class_values classes rows agg = map (λ p. aggregate (sub rows (class_places classes.of (length rows) p)) agg ∷ []) (upto (length classes.firsts))
 
 -- the greater or the lesser of two values
 abbrev pub better : Bool → Value → Value → Value

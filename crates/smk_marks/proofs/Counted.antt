@@ -1,31 +1,34 @@
 -- Counts over the rows of marks, and aggregates over one column of these rows.
-use Rattle.std.proofs.Common.{◌≡◌, ℕ, true, List, [], ◌∷◌, ◌++◌, length, map, take, refl, ap, sym, ◌∙◌, get_or, nat_eq}
+use Rattle.std.proofs.Common.{◌≡◌, ℕ, true, is_none, Some, List, [], ◌∷◌, ◌++◌, length, map, take, refl, ap, sym, ◌∙◌, get_or, nat_eq}
 use Rattle.std.specs.List.{list_all}
 use Rattle.std.proofs.lemmas.List.{get_or-map, length-map}
+use Rattle.std.proofs.lemmas.List.Sums.{AllPass-from_list_all}
 use Rattle.std.proofs.lemmas.Bool.{false≢true}
+use Rattle.smk_base.specs.Aggregates.{moved_to, read_by}
 use Rattle.smk_base.specs.declared.book.plan.Agg.{Agg}
-use Rattle.smk_base.specs.declared.book.plan.Agg.TheVariants.{Count, Sum, Min, Max}
 use Rattle.smk_base.specs.declared.value.Value.{Value}
-use Rattle.smk_base.specs.declared.value.Value.TheVariants.{Int}
 use Rattle.smk_model.specs.Values.{Row, value_at}
-use Rattle.smk_model.specs.Plain.{aggregate, combined, greater, lesser, number_of, total}
+use Rattle.smk_model.specs.Plain.{aggregate}
 use Rattle.smk_model.specs.Lineage.{places, row_at, sub, upto}
+use Rattle.smk_model.proofs.Aggregates.{aggregate_moved, moved_to_own}
 use Rattle.smk_model.proofs.Parts.{map_agree}
-use Rattle.smk_base.proofs.Places.{map_map, map_upto_agree, places_below}
+use Rattle.smk_base.proofs.Places.{map_map, places_below}
 use Rattle.smk_keys.specs.Classes.{ClassesImage, first_items}
-use Rattle.smk_found.specs.Halves.{class_places}
-use Rattle.smk_marks.specs.Marks.{class_values, is_count, marked_group, with_mark}
+use Rattle.smk_found.specs.Halves.{class_places, class_values}
+use Rattle.smk_body.proofs.Aggregating.{map_where}
+use Rattle.smk_marks.specs.Marks.{reads_none, marked_group, with_mark}
 use Rattle.smk_marks.specs.MarkLaws.{CountsAlone}
 use Rattle.smk_marks.proofs.Classed.{map_below}
 
 -- counts alone
 
-same_counts : (A B : List Row) → length A ≡ length B → (aggs : List Agg) → list_all is_count aggs ≡ true → map (aggregate A) aggs ≡ map (aggregate B) aggs
-same_counts A B e [] all = refl
-same_counts A B e (Count ∷ aggs) all = rw (e, same_counts A B e aggs all) refl
-same_counts A B e (Sum c ∷ aggs) all = absurd (false≢true all)
-same_counts A B e (Min c ∷ aggs) all = absurd (false≢true all)
-same_counts A B e (Max c ∷ aggs) all = absurd (false≢true all)
+pub none_read : (agg : Agg) (c : ℕ) → reads_none agg ≡ true → read_by agg ≡ Some c → ⊥
+none_read agg c none reads = false≢true (sym (ap is_none reads) ∙ none)
+
+same_counts : (A B : List Row) → length A ≡ length B → (aggs : List Agg) → list_all reads_none aggs ≡ true → map (aggregate A) aggs ≡ map (aggregate B) aggs
+same_counts A B e aggs all =
+    map_where (aggregate A) (aggregate B) (λ agg. reads_none agg ≡ true) aggs
+    (λ agg none. ap (aggregate A) (sym (moved_to_own agg 0 (λ c r. absurd (none_read agg c none r)))) ∙ aggregate_moved agg 0 A B e (λ c r. absurd (none_read agg c none r))) (AllPass-from_list_all reads_none aggs all)
 
 as_many : (marks : List ℕ) (rows others : List Row) (m : ℕ) → length rows ≡ length others → length (with_mark marks rows m) ≡ length (with_mark marks others m)
 as_many marks rows others m e =
@@ -43,31 +46,14 @@ counts_alone k aggs content marks rows others all e =
 abbrev pub column : ℕ → Row → Row
 column c row = value_at row c ∷ []
 
--- an aggregate over rows of a column alone that gives what another gives over the rows
-abbrev pub Narrows : ℕ → Agg → Agg → Type 0
-Narrows c agg over = (rows : List Row) → aggregate (map (column c) rows) over ≡ aggregate rows agg
-
-pub sums_narrow : (c : ℕ) → Narrows c (Sum c) (Sum 0)
-sums_narrow c rows = ap (λ ns. Int (total ns)) (map_map (λ (row : Row). number_of (value_at row 0)) (column c) rows)
-
-pub mins_narrow : (c : ℕ) → Narrows c (Min c) (Min 0)
-mins_narrow c rows = ap (combined lesser) (map_map (λ (row : Row). value_at row 0) (column c) rows)
-
-pub maxs_narrow : (c : ℕ) → Narrows c (Max c) (Max 0)
-maxs_narrow c rows = ap (combined greater) (map_map (λ (row : Row). value_at row 0) (column c) rows)
-
--- over the rows of each class, of images of rows
-pub narrowed : (c : ℕ) (agg over : Agg) (made : Row → Row) (rows : List Row) (classes : ClassesImage) → Narrows c agg over
-    → class_values classes (map (λ row. value_at (made row) c ∷ []) rows) over ≡ class_values classes (map made rows) agg
-narrowed c agg over made rows classes h =
-    let inputs = map made rows in
-    let n = length inputs in
+-- over the rows of each class
+pub class_moved : (agg : Agg) (classes : ClassesImage) (read rows : List Row) → length read ≡ length rows → ((c : ℕ) → read_by agg ≡ Some c → read ≡ map (column c) rows) → class_values classes read (moved_to 0 agg) ≡ class_values classes rows agg
+class_moved agg classes read rows long same =
+    let n = length rows in
     let A = λ (p : ℕ). class_places classes.of n p in
-    ap (λ (z : List Row). class_values classes z over) (sym (map_map (column c) made rows))
-    ∙ ap (λ (m : ℕ). map (λ p. aggregate (sub (map (column c) inputs) (class_places classes.of m p)) over ∷ []) (upto (length classes.firsts))) (length-map inputs (column c))
-    ∙ map_upto_agree (λ p. aggregate (sub (map (column c) inputs) (A p)) over ∷ []) (λ p. aggregate (sub inputs (A p)) agg ∷ []) (length classes.firsts) (λ p _.
-    ap (λ (v : Value). v ∷ [])
-    (ap (λ (z : List Row). aggregate z over)
-    (map_below (row_at (map (column c) inputs)) (λ i. column c (row_at inputs i)) n (A p) (places_below (λ i. nat_eq (get_or classes.of i 0) p) n) (λ i l. get_or-map (column c) inputs i [] [] l)
-    ∙ sym (map_map (column c) (row_at inputs) (A p)))
-    ∙ h (sub inputs (A p))))
+    ap (λ (m : ℕ). map (λ p. aggregate (sub read (class_places classes.of m p)) (moved_to 0 agg) ∷ []) (upto (length classes.firsts))) long
+    ∙ map_agree (λ p. aggregate (sub read (A p)) (moved_to 0 agg) ∷ []) (λ p. aggregate (sub rows (A p)) agg ∷ [])
+    (λ p. ap (λ (v : Value). v ∷ []) (aggregate_moved agg 0 (sub read (A p)) (sub rows (A p)) (length-map (A p) (row_at read) ∙ sym (length-map (A p) (row_at rows))) (λ c r.
+    map_map (λ (row : Row). value_at row 0) (row_at read) (A p)
+    ∙ map_below (λ i. value_at (row_at read i) 0) (λ i. value_at (row_at rows i) c) n (A p) (places_below (λ i. nat_eq (get_or classes.of i 0) p) n) (λ i l. ap (λ (z : List Row). value_at (row_at z i) 0) (same c r) ∙ ap (λ (row : Row). value_at row 0) (get_or-map (column c) rows i [] [] l))
+    ∙ sym (map_map (λ (row : Row). value_at row c) (row_at rows) (A p))))) (upto (length classes.firsts))

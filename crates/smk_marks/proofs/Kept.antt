@@ -1,61 +1,43 @@
 -- What is made of what is kept of a view.
-use Rattle.std.proofs.Common.{◌≡◌, ◌≤◌, ◌<◌, ◌+◌, ℕ, Bool, true, false, cond, List, [], ◌∷◌, ◌++◌, length, map, refl, ap, sym, ◌∙◌, subst, arith, Option, Some, None, All, nat_lt}
+use Rattle.std.proofs.Common.{◌≡◌, ◌≤◌, ◌<◌, ◌+◌, ℕ, Bool, true, false, cond, List, [], ◌∷◌, ◌++◌, length, map, get_or, refl, ap, sym, ◌∙◌, subst, arith, Option, Some, None, All, nat_lt}
 use Rattle.std.specs.List.{list_all}
-use Rattle.std.proofs.lemmas.Bool.{false≢true}
 use Rattle.std.proofs.lemmas.List.{length-map, length-append, take-append-le, take_all}
-use Rattle.std.proofs.lemmas.List.Elements.{All-nil, All-cons, All-head, All-tail}
+use Rattle.std.proofs.lemmas.List.Sums.{AllPass-from_list_all}
 use Rattle.smk_base.specs.PlanImage.{expr_of}
 use Rattle.smk_base.specs.Places.{Lists, list_at, upto}
 use Rattle.smk_base.specs.Plans.{Expr}
 use Rattle.smk_base.specs.Rels.{Relation, kind_in}
 use Rattle.smk_base.specs.declared.book.plan.Agg.{Agg}
-use Rattle.smk_base.specs.declared.book.plan.Agg.TheVariants.{Count, Sum, Min, Max}
 use Rattle.smk_base.specs.declared.value.Kind.{Kind}
 use Rattle.smk_base.specs.declared.value.Kind.TheVariants as kinds
 use Rattle.smk_model.specs.Composed.{rows_over, table_at}
-use Rattle.smk_model.specs.Kinds.{AggFits, kind_of_agg}
+use Rattle.smk_model.specs.Kinds.{kind_of_agg}
 use Rattle.smk_model.specs.Lineage.{row_at, sub}
 use Rattle.smk_model.specs.LineageLaws.{selected_table}
 use Rattle.smk_model.specs.Plain.{eval, key_of}
 use Rattle.smk_model.specs.Selection.{PlanFits, plan_kinds}
 use Rattle.smk_model.specs.Values.{Row}
+use Rattle.smk_model.proofs.Aggregates.{kind_of_moved, moved_to_own}
 use Rattle.smk_model.proofs.Composed.{lists_stand}
 use Rattle.smk_base.proofs.Places.{map_upto_take}
+use Rattle.smk_body.proofs.Aggregating.{map_where}
 use Rattle.smk_body.proofs.Besides.{related}
-use Rattle.smk_marks.specs.Marks.{is_count, kept, made, mark_row, marked_groups, marks_at}
+use Rattle.smk_marks.specs.Marks.{reads_none, kept, made, mark_row, marked_groups, marks_at}
 use Rattle.smk_marks.specs.MarkLaws.{AreRids, input_at, marks_of}
 use Rattle.smk_marks.specs.KeptLaws.{IsKeptOf, IsReachedBy, KeptMarks}
 use Rattle.smk_marks.specs.Views.{CanGroup, Reads, grouped_by_marks, plan_of, rows_read}
 use Rattle.smk_marks.specs.declared.reached.Reached.{Reached}
 use Rattle.smk_marks.specs.declared.view.KeptView.{KeptView}
 use Rattle.smk_marks.proofs.ByMarks.{group_marks}
-use Rattle.smk_marks.proofs.Counted.{counts_alone}
+use Rattle.smk_marks.proofs.Counted.{counts_alone, none_read}
 use Rattle.smk_marks.proofs.Marked.{few_kept}
 
 -- counts have one kind, and read anything
 
-count_kinds : (A B : List Kind) (aggs : List Agg) → list_all is_count aggs ≡ true → map (kind_of_agg A) aggs ≡ map (kind_of_agg B) aggs
-count_kinds A B [] all = refl
-count_kinds A B (Count ∷ aggs) all = ap (λ z. kinds.Int 0 ∷ z) (count_kinds A B aggs all)
-count_kinds A B (Sum c ∷ aggs) all = absurd (false≢true all)
-count_kinds A B (Min c ∷ aggs) all = absurd (false≢true all)
-count_kinds A B (Max c ∷ aggs) all = absurd (false≢true all)
-
-counts_read : (chain : Expr) (K : List Kind) (aggs : List Agg) → list_all is_count aggs ≡ true → All (Reads chain K) aggs
-counts_read chain K [] all = All-nil (Reads chain K)
-counts_read chain K (Count ∷ aggs) all = All-cons (Reads chain K) Count aggs tt (counts_read chain K aggs all)
-counts_read chain K (Sum c ∷ aggs) all = absurd (false≢true all)
-counts_read chain K (Min c ∷ aggs) all = absurd (false≢true all)
-counts_read chain K (Max c ∷ aggs) all = absurd (false≢true all)
-
-read_one : (chain : Expr) (K : List Kind) (agg : Agg) → PlanFits chain (K ∷ []) → AggFits (plan_kinds chain (K ∷ [])) agg → Reads chain K agg
-read_one chain K Count fits f = tt
-read_one chain K _ fits f = (fits, f)
-
-all_read : (chain : Expr) (K : List Kind) (aggs : List Agg) → PlanFits chain (K ∷ []) → All (AggFits (plan_kinds chain (K ∷ []))) aggs → All (Reads chain K) aggs
-all_read chain K [] fits all = All-nil (Reads chain K)
-all_read chain K (agg ∷ aggs) fits all =
-    All-cons (Reads chain K) agg aggs (read_one chain K agg fits (All-head (AggFits (plan_kinds chain (K ∷ []))) agg aggs all)) (all_read chain K aggs fits (All-tail (AggFits (plan_kinds chain (K ∷ []))) agg aggs all))
+count_kinds : (A B : List Kind) (aggs : List Agg) → list_all reads_none aggs ≡ true → map (kind_of_agg A) aggs ≡ map (kind_of_agg B) aggs
+count_kinds A B aggs all =
+    map_where (kind_of_agg A) (kind_of_agg B) (λ agg. reads_none agg ≡ true) aggs
+    (λ agg none. ap (kind_of_agg A) (sym (moved_to_own agg 0 (λ c r. absurd (none_read agg c none r)))) ∙ kind_of_moved agg 0 A B (λ c r. absurd (none_read agg c none r))) (AllPass-from_list_all reads_none aggs all)
 
 -- the first kinds of two lists
 kinds_before : (A B : List Kind) (n : ℕ) → length A ≡ n → map (kind_in (A ++ B)) (upto n) ≡ A
@@ -106,20 +88,20 @@ module _ (view : KeptView) (table : Relation) (tables : List (List Row)) (S : Li
   read_long true = sym (length-map reached.marks mark_row)
   read_long false = marks_long ∙ sym (ap length inputs_are) ∙ length-map (sub table.rows (kept view.forward.now S)) (made chain)
 
-  read_fits : (b : Bool) → list_all is_count aggs ≡ b → All (Reads chain (read b).kinds) aggs
-  read_fits true e = counts_read chain (kinds.Int 0 ∷ []) aggs e
-  read_fits false e = all_read chain table.kinds aggs is.fits.0 is.fits.1.each
+  read_fits : (b : Bool) → list_all reads_none aggs ≡ b → All (Reads chain (read b).kinds) aggs
+  read_fits true e k d low c r = absurd (none_read (get_or aggs k d) c (AllPass-from_list_all reads_none aggs e k d low) r)
+  read_fits false e k d low c r = (is.fits.0, is.fits.1.each k d low)
 
-  read_kinds : (b : Bool) → list_all is_count aggs ≡ b → map (kind_of_agg (plan_kinds chain ((read b).kinds ∷ []))) aggs ≡ map (kind_of_agg ks) aggs
+  read_kinds : (b : Bool) → list_all reads_none aggs ≡ b → map (kind_of_agg (plan_kinds chain ((read b).kinds ∷ []))) aggs ≡ map (kind_of_agg ks) aggs
   read_kinds true e = count_kinds (plan_kinds chain ((kinds.Int 0 ∷ []) ∷ [])) ks aggs e
   read_kinds false e = refl
 
-  read_groups : (b : Bool) → list_all is_count aggs ≡ b → (content : List Row) → marked_groups (length keys) aggs content reached.marks (map (made chain) (read b).rows) ≡ marked_groups (length keys) aggs content reached.marks inputs
+  read_groups : (b : Bool) → list_all reads_none aggs ≡ b → (content : List Row) → marked_groups (length keys) aggs content reached.marks (map (made chain) (read b).rows) ≡ marked_groups (length keys) aggs content reached.marks inputs
   read_groups true e content = counts_alone (length keys) aggs content reached.marks (map (made chain) (map mark_row reached.marks)) inputs e (length-map (map mark_row reached.marks) (made chain) ∙ length-map reached.marks mark_row ∙ marks_long)
   read_groups false e content = ap (marked_groups (length keys) aggs content reached.marks) inputs_are
 
   abbrev counts : Bool
-  counts = list_all is_count aggs
+  counts = list_all reads_none aggs
 
   read_is : rows_read reached.marks reached.rows ≡ read counts
   read_is = ap (rows_read reached.marks) by.rows

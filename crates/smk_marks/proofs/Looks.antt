@@ -3,7 +3,7 @@ use Rattle.std.proofs.Common.{◌<◌, ◌≤◌, ℕ, Bool, true, false, cond, 
 use Rattle.std.specs.List.{list_all}
 use Rattle.std.proofs.lemmas.List.Elements.{All-filter}
 use Rattle.smk_base.specs.Places.{Lists, list_at}
-use Rattle.smk_marks.specs.Marks.{is_count, kept}
+use Rattle.smk_marks.specs.Marks.{reads_none, kept}
 use Rattle.smk_marks.specs.Views.{looks_of_reach}
 use Rattle.smk_marks.specs.declared.view.KeptView.{KeptView}
 use Rattle.smk_marks.proofs.Marked.{few_kept}
@@ -16,7 +16,7 @@ kept_few m S = few_kept (λ s. nat_lt 0 (length (list_at m s))) S
 
 -- so they are at most as many looks as rids
 pub looks_few : (view : KeptView) (S : List ℕ) → looks_of_reach view S ≤ length S
-looks_few view S = by (list_all is_count view.plan.aggs.now)
+looks_few view S = by (list_all reads_none view.plan.aggs.now)
   where
     by : (b : Bool) → cond b 0 (length (kept view.forward.now S)) ≤ length S
     by true = omega arith

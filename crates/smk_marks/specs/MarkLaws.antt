@@ -19,7 +19,7 @@ use Rattle.smk_model.specs.LineageLaws.{selected_table}
 use Rattle.smk_model.specs.Selection.{picked, over, first_full, row_limit}
 use Rattle.smk_keys.specs.Classes.{classes_of, classing_of}
 use Rattle.smk_keys.specs.Numbers.{AreNumbers}
-use Rattle.smk_marks.specs.Marks.{is_count, made, passes, kept, marks_at, marked_groups}
+use Rattle.smk_marks.specs.Marks.{reads_none, made, passes, kept, marks_at, marked_groups}
 
 -- a chain is one selection, and one image of each row that is left
 pub record ChainPicks : Type 0 where
@@ -67,7 +67,7 @@ NeverFull = (keys : List ℕ) (aggs : List Agg) (input : Expr) (rows : List Row)
 
 -- counts over the rows of marks are the same for any rows, as many as marks
 abbrev pub CountsAlone : Type 0
-CountsAlone = (k : ℕ) (aggs : List Agg) (content : List Row) (marks : List ℕ) (rows others : List Row) → list_all is_count aggs ≡ true → length rows ≡ length others
+CountsAlone = (k : ℕ) (aggs : List Agg) (content : List Row) (marks : List ℕ) (rows others : List Row) → list_all reads_none aggs ≡ true → length rows ≡ length others
     → marked_groups k aggs content marks rows ≡ marked_groups k aggs content marks others
 
 -- groups by marks worked by hand: number and sum by key of the rows whose int is not 2; of the rows at 1, 2 and 4 one falls out, and c comes before a

@@ -1,16 +1,15 @@
 -- Groups of selected rows by the marks that the rows reach: which rows a chain keeps, what it makes of each, and the grouping of what it makes by marks in place of keys.
-use Rattle.std.specs.Prelude.{ℕ, pos, Bool, ◌&&◌, true, false, nat_eq, nat_lt, List, [], ◌∷◌, ◌++◌, length, map, take, slice_index_or}
+use Rattle.std.specs.Prelude.{ℕ, pos, Bool, ◌&&◌, true, is_none, nat_eq, nat_lt, List, [], ◌∷◌, ◌++◌, length, map, take, slice_index_or}
 use Rattle.std.specs.List.{flat_map, filter}
-use Rattle.smk_base.specs.Places.{Lists, list_at, places, upto}
+use Rattle.smk_base.specs.Aggregates.{read_by}
+use Rattle.smk_base.specs.Places.{Lists, list_at, places}
 use Rattle.smk_base.specs.declared.value.Value.TheVariants.{Int}
 use Rattle.smk_base.specs.declared.book.plan.Agg.{Agg}
-use Rattle.smk_base.specs.declared.book.plan.Agg.TheVariants.{Count}
-use Rattle.smk_base.specs.Plans.{Selection, Projection, Expr, Leaf, Apply, Combine}
+use Rattle.smk_base.specs.Plans.{Selection, Projection, Distinction, Grouping, Expr, Leaf, Apply, Combine}
 use Rattle.smk_model.specs.Values.{Row, meets}
 use Rattle.smk_model.specs.Plain.{image, aggregate}
 use Rattle.smk_model.specs.Lineage.{row_at, sub}
-use Rattle.smk_keys.specs.Classes.{ClassesImage, first_items}
-use Rattle.smk_found.specs.Halves.{class_places}
+use Rattle.smk_keys.specs.Classes.{first_items}
 
 -- what the projections of a chain make of a row
 abbrev pub made : Expr → Row → Row
@@ -46,15 +45,10 @@ marked_group k aggs content marks rows m = take k (row_at content m) ++ map (agg
 abbrev pub marked_groups : ℕ → List Agg → List Row → List ℕ → List Row → List Row
 marked_groups k aggs content marks rows = map (marked_group k aggs content marks rows) (first_items nat_eq marks)
 
--- an aggregate over the rows of each class, in a row of its own
-abbrev pub class_values : ClassesImage → List Row → Agg → List Row
-class_values classes rows agg = map (λ p. aggregate (sub rows (class_places classes.of (length rows) p)) agg ∷ []) (upto (length classes.firsts))
-
 -- a row of a mark alone
 abbrev pub mark_row : ℕ → Row
 mark_row m = Int (pos m) ∷ []
 
 -- whether an aggregate reads no column
-abbrev pub is_count : Agg → Bool
-is_count Count = true
-is_count _ = false
+abbrev pub reads_none : Agg → Bool
+reads_none agg = is_none (read_by agg)

@@ -1,12 +1,12 @@
 -- What is kept of a view that is a grouping over a chain, and the groups that are made of what chosen rows of its table reach.
 use Rattle.std.specs.Prelude.{◌≡◌, ◌<◌, ◌≤◌, ◌+◌, ℕ, Bool, true, false, cond, List, [], ◌∷◌, ◌++◌, length, map, Option, Some, None, All}
 use Rattle.std.specs.List.{list_all}
+use Rattle.smk_base.specs.Aggregates.{read_by}
 use Rattle.smk_base.specs.PlanImage.{expr_of}
 use Rattle.smk_base.specs.Places.{upto}
 use Rattle.smk_base.specs.Plans.{Grouping, Expr, Apply}
 use Rattle.smk_base.specs.Rels.{Relation, kind_in}
 use Rattle.smk_base.specs.declared.book.plan.Agg.{Agg}
-use Rattle.smk_base.specs.declared.book.plan.Agg.TheVariants.{Count, Sum, Min, Max}
 use Rattle.smk_base.specs.declared.rel.TheConstants.{ROW_LIMIT}
 use Rattle.smk_base.specs.declared.value.Kind.{Kind}
 use Rattle.smk_base.specs.declared.value.Kind.TheVariants.{Int}
@@ -15,7 +15,7 @@ use Rattle.smk_model.specs.Kinds.{AggFits, kind_of_agg}
 use Rattle.smk_model.specs.Lineage.{sub}
 use Rattle.smk_model.specs.Selection.{PlanFits, plan_kinds}
 use Rattle.smk_model.specs.Values.{value_at}
-use Rattle.smk_marks.specs.Marks.{is_count, kept, made, mark_row, marked_groups}
+use Rattle.smk_marks.specs.Marks.{reads_none, kept, made, mark_row, marked_groups}
 use Rattle.smk_marks.specs.declared.reached.Reached.{Reached}
 use Rattle.smk_marks.specs.declared.view.GroupedChain.{GroupedChain}
 use Rattle.smk_marks.specs.declared.view.KeptView.{KeptView}
@@ -34,12 +34,9 @@ pub record EndsInGroups (plan : Expr) (last : GroupedChain) : Type 0 where
   pub plan_is : plan ≡ plan_of last
   pub chain : is_chain (expr_of last.chain.now) ≡ true
 
--- an aggregate fits what a chain makes of rows of these kinds; a count fits any rows
+-- an aggregate that reads a column fits what a chain makes of rows of these kinds; one that reads none fits any rows
 abbrev pub Reads : Expr → List Kind → Agg → Type 0
-Reads chain kinds Count = Unit {0}
-Reads chain kinds (Sum c) = PlanFits chain (kinds ∷ []) × AggFits (plan_kinds chain (kinds ∷ [])) (Sum c)
-Reads chain kinds (Min c) = PlanFits chain (kinds ∷ []) × AggFits (plan_kinds chain (kinds ∷ [])) (Min c)
-Reads chain kinds (Max c) = PlanFits chain (kinds ∷ []) × AggFits (plan_kinds chain (kinds ∷ [])) (Max c)
+Reads chain kinds agg = (c : ℕ) → read_by agg ≡ Some c → PlanFits chain (kinds ∷ []) × AggFits (plan_kinds chain (kinds ∷ [])) agg
 
 -- column c of what a chain makes of rows
 abbrev pub chain_values : Expr → Relation → ℕ → Relation
@@ -47,11 +44,11 @@ chain_values chain rows c = record { kinds = kind_in (plan_kinds chain (rows.kin
 
 -- the rows at these rids of a table that reach a mark, unless all aggregates are counts
 abbrev pub rows_reached : KeptView → Relation → List ℕ → Option Relation
-rows_reached view table S = cond (list_all is_count view.plan.aggs.now) None (Some (record { kinds = table.kinds; rows = sub table.rows (kept view.forward.now S) }))
+rows_reached view table S = cond (list_all reads_none view.plan.aggs.now) None (Some (record { kinds = table.kinds; rows = sub table.rows (kept view.forward.now S) }))
 
 -- the looks for these: one for each that reaches a mark, and none for counts alone
 abbrev pub looks_of_reach : KeptView → List ℕ → ℕ
-looks_of_reach view S = cond (list_all is_count view.plan.aggs.now) 0 (length (kept view.forward.now S))
+looks_of_reach view S = cond (list_all reads_none view.plan.aggs.now) 0 (length (kept view.forward.now S))
 
 -- the groups of marks that rows have, over what the chain makes of the rows
 abbrev pub groups_of : KeptView → List ℕ → Relation → Relation

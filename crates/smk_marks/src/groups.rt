@@ -1,43 +1,35 @@
-ghost use Rattle.std.specs.Prelude.{◌≡◌, ◌<◌, ◌≤◌, ◌+◌, [], ◌∷◌, true, All, IfOk, length, map};
+ghost use Rattle.std.specs.Prelude.{◌≡◌, ◌<◌, ◌≤◌, ◌+◌, [], ◌∷◌, true, All, IfOk, Some, length, map};
+ghost use Rattle.smk_base.specs.Aggregates.{read_by};
 ghost use Rattle.smk_base.specs.PlanImage.{expr_of};
 ghost use Rattle.smk_base.specs.Places.{upto};
 ghost use Rattle.smk_base.specs.Rels.{kind_in};
 ghost use Rattle.smk_base.specs.declared.rel.TheConstants.{ROW_LIMIT};
-ghost use Rattle.smk_found.specs.Halves.{AreNumbered};
+ghost use Rattle.smk_found.specs.Halves.{AreNumbered, class_values};
 ghost use Rattle.smk_model.specs.Growth.{is_chain};
-ghost use Rattle.smk_model.specs.Kinds.{AggFits, kind_of_agg};
-ghost use Rattle.smk_model.specs.Selection.{PlanFits, plan_kinds};
-ghost use Rattle.smk_marks.specs.Marks.{class_values, made};
+ghost use Rattle.smk_model.specs.Kinds.{kind_of_agg};
+ghost use Rattle.smk_model.specs.Selection.{plan_kinds};
+ghost use Rattle.smk_marks.specs.Marks.{made};
 ghost use Rattle.smk_marks.specs.Views.{CanGroup, Reads, chain_values, groups_of, grouped_by_marks};
 
 use crate::columns::{chain_column, keys_at, mark_classes};
 use crate::reached::Reached;
 use crate::view::KeptView;
-use smk_base::{Agg, Plan, Rel, numbers_at};
-use smk_body::count_column;
+use smk_base::{Agg, Plan, Rel};
 use smk_keys::Classes;
 use smk_table::Chosen;
 use std::alloc::{AllocError, Global};
 
-// An aggregate over column c of what a chain makes of the rows of each class.
-fn over_column(
-    alloc: Global,
-    classes: &Classes,
-    chain: &Plan,
-    rows: &Chosen,
-    c: u32,
-    agg: &Agg,
-) -> Result<Rel, AllocError>
-    requires classes { AreNumbered (length rows.now.rows) classes.now }
+// As many rows as these: of those of a column that an aggregate reads what a chain makes of it, and of no column where it reads none.
+fn column_read(alloc: Global, chain: &Plan, rows: &Chosen, agg: Agg) -> Result<Rel, AllocError>
     requires chain { is_chain (expr_of chain.now) ≡ true }
-    requires fits { PlanFits (expr_of chain.now) (rows.now.kinds ∷ []) }
-    requires column { c < length (plan_kinds (expr_of chain.now) (rows.now.kinds ∷ [])) }
-    requires over { AggFits (kind_in (plan_kinds (expr_of chain.now) (rows.now.kinds ∷ [])) c ∷ []) agg.now }
-    ensures { IfOk result (λ made. made ≡ record { kinds = kind_of_agg (kind_in (plan_kinds (expr_of chain.now) (rows.now.kinds ∷ [])) c ∷ []) agg.now ∷ []; rows = class_values classes.now (chain_values (expr_of chain.now) rows.now c).rows agg.now }) }
+    requires reads { Reads (expr_of chain.now) rows.now.kinds agg }
+    ensures long { IfOk result (λ made. length made.rows ≡ length rows.now.rows) }
+    ensures column { IfOk result (λ made. (c : ℕ) → read_by agg ≡ Some c → made ≡ chain_values (expr_of chain.now) rows.now c) }
 {
-    let column = chain_column(alloc, chain, rows, c)?;
-    let made = smk_body::agg_column(alloc, &column, classes, None, agg)?;
-    Ok(made)
+    match agg.column() {
+        Some(c) => chain_column(alloc, chain, rows, c),
+        None => rows.columns(alloc, &[]),
+    }
 }
 
 // An aggregate over what a chain makes of the rows of each class.
@@ -46,20 +38,16 @@ fn agg_column(
     classes: &Classes,
     chain: &Plan,
     rows: &Chosen,
-    agg: &Agg,
+    agg: Agg,
 ) -> Result<Rel, AllocError>
     requires classes { AreNumbered (length rows.now.rows) classes.now }
     requires chain { is_chain (expr_of chain.now) ≡ true }
-    requires reads { Reads (expr_of chain.now) rows.now.kinds agg.now }
-    ensures { IfOk result (λ column. column ≡ record { kinds = kind_of_agg (plan_kinds (expr_of chain.now) (rows.now.kinds ∷ [])) agg.now ∷ []; rows = class_values classes.now (map (made (expr_of chain.now)) rows.now.rows) agg.now }) }
+    requires reads { Reads (expr_of chain.now) rows.now.kinds agg }
+    ensures { IfOk result (λ column. column ≡ record { kinds = kind_of_agg (plan_kinds (expr_of chain.now) (rows.now.kinds ∷ [])) agg ∷ []; rows = class_values classes.now (map (made (expr_of chain.now)) rows.now.rows) agg }) }
 {
-    let _rows = rows.len();
-    match agg {
-        Agg::Count => count_column(alloc, classes, None),
-        Agg::Sum(c) => over_column(alloc, classes, chain, rows, *c, &Agg::Sum(0)),
-        Agg::Min(c) => over_column(alloc, classes, chain, rows, *c, &Agg::Min(0)),
-        Agg::Max(c) => over_column(alloc, classes, chain, rows, *c, &Agg::Max(0)),
-    }
+    let read = column_read(alloc, chain, rows, agg)?;
+    let made = smk_body::agg_column(alloc, &read, classes, None, &agg.over(0))?;
+    Ok(made)
 }
 
 // For each mark, in the order in which each comes first, the key of the content's row at the mark and the aggregates over what the chain makes of the rows that have the mark.
@@ -85,7 +73,7 @@ fn groups(
     let mut made = keys_at(alloc, view.content, keys.len() as u32, firsts)?;
     let aggs = view.plan.aggs.as_slice();
     for agg in aggs {
-        let column = agg_column(alloc, &classes, view.plan.chain, rows, agg)?;
+        let column = agg_column(alloc, &classes, view.plan.chain, rows, *agg)?;
         made = made.beside(column)?;
     }
     Ok(made)

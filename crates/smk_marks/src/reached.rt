@@ -2,7 +2,7 @@ ghost use Rattle.std.specs.Prelude.{◌≡◌, ◌<◌, ◌≤◌, ◌+◌, ◌+
 ghost use Rattle.std.specs.List.{list_all};
 ghost use Rattle.smk_base.specs.declared.rel.TheConstants.{ROW_LIMIT};
 ghost use Rattle.smk_model.specs.Lineage.{sub};
-ghost use Rattle.smk_marks.specs.Marks.{is_count, kept, marks_at};
+ghost use Rattle.smk_marks.specs.Marks.{reads_none, kept, marks_at};
 ghost use Rattle.smk_marks.specs.Views.{looks_of_reach, rows_reached};
 
 use crate::view::KeptView;
@@ -69,21 +69,16 @@ fn reach_rows<L: Ledger>(
 
 // Whether these aggregates read no column.
 fn are_counts(aggs: &[Agg]) -> bool
-    ensures { result ≡ list_all is_count aggs.now }
+    ensures { result ≡ list_all reads_none aggs.now }
 {
-    aggs.iter().all(|agg| is_count(agg))
+    aggs.iter().all(|agg| reads_none(*agg))
 }
 
 // Whether an aggregate reads no column.
-fn is_count(agg: &Agg) -> bool
-    ensures { result ≡ is_count agg.now }
+fn reads_none(agg: Agg) -> bool
+    ensures { result ≡ reads_none agg }
 {
-    match agg {
-        Agg::Count => true,
-        Agg::Sum(_) => false,
-        Agg::Min(_) => false,
-        Agg::Max(_) => false,
-    }
+    agg.column().is_none()
 }
 
 // The marks that the rids reach, those of each rid behind those of the one before.

@@ -7,11 +7,11 @@ ghost use Rattle.smk_base.specs.declared.book.plan.Agg.TheVariants.{Sum};
 ghost use Rattle.smk_base.specs.declared.rel.TheConstants.{ROW_LIMIT};
 ghost use Rattle.smk_base.specs.declared.value.Value.TheVariants as values;
 ghost use Rattle.smk_model.specs.Values.{value_at};
-ghost use Rattle.smk_model.specs.Plain.{aggregate, combined, key_of, step1};
-ghost use Rattle.smk_model.specs.Lineage.{row_at, sub};
+ghost use Rattle.smk_model.specs.Plain.{combined, key_of, step1};
+ghost use Rattle.smk_model.specs.Lineage.{row_at};
 ghost use Rattle.smk_model.specs.Kinds.{AggFits, GroupFits, IsSummed, kind_of_agg, kinds1, summed};
 ghost use Rattle.smk_keys.specs.Classes.{classes_of};
-ghost use Rattle.smk_found.specs.Halves.{AreNumbered, better, class_places, class_sizes};
+ghost use Rattle.smk_found.specs.Halves.{AreNumbered, better, class_places, class_sizes, class_values};
 
 use crate::make::aggregates::{best_places, sums};
 use crate::make::gather::columns_at;
@@ -71,7 +71,7 @@ pub fn agg_column(
     requires fits { AggFits rel.now.kinds agg.now }
     requires classes { AreNumbered (length rel.now.rows) classes.now }
     requires sizes { IfSome sizes (λ known. known.now ≡ class_sizes classes.now) }
-    ensures { IfOk result (λ made. made ≡ record { kinds = kind_of_agg rel.now.kinds agg.now ∷ []; rows = map (λ p. aggregate (sub rel.now.rows (class_places classes.now.of (length rel.now.rows) p)) agg.now ∷ []) (upto (length classes.now.firsts)) }) }
+    ensures { IfOk result (λ made. made ≡ record { kinds = kind_of_agg rel.now.kinds agg.now ∷ []; rows = class_values classes.now rel.now.rows agg.now }) }
 {
     let _rows = rel.len();
     match agg {
@@ -82,12 +82,8 @@ pub fn agg_column(
     }
 }
 
-/// The number of rows of each class, from the sizes of the classes where they are known.
-pub fn count_column(
-    alloc: Global,
-    classes: &Classes,
-    sizes: Option<&[u32]>,
-) -> Result<Rel, AllocError>
+// The number of rows of each class, from the sizes of the classes where they are known.
+fn count_column(alloc: Global, classes: &Classes, sizes: Option<&[u32]>) -> Result<Rel, AllocError>
     requires few { length classes.now.of ≤ ROW_LIMIT }
     requires classes { AreNumbered (length classes.now.of) classes.now }
     requires sizes { IfSome sizes (λ known. known.now ≡ class_sizes classes.now) }
@@ -108,7 +104,7 @@ fn sum_column(alloc: Global, rel: &Rel, c: u32, classes: &Classes) -> Result<Rel
     requires column { c < length rel.now.kinds }
     requires int { IsSummed (kind_in rel.now.kinds c) }
     requires classes { AreNumbered (length rel.now.rows) classes.now }
-    ensures { IfOk result (λ made. made ≡ record { kinds = summed (kind_in rel.now.kinds c) ∷ []; rows = map (λ p. aggregate (sub rel.now.rows (class_places classes.now.of (length rel.now.rows) p)) (Sum c) ∷ []) (upto (length classes.now.firsts)) }) }
+    ensures { IfOk result (λ made. made ≡ record { kinds = summed (kind_in rel.now.kinds c) ∷ []; rows = class_values classes.now rel.now.rows (Sum c) }) }
 {
     let _rows = rel.len();
     let count = classes.firsts().len() as u32;
