@@ -10,15 +10,14 @@ use Rattle.smk_base.specs.declared.value.Kind.TheVariants.{Int, Text}
 use Rattle.smk_base.specs.declared.book.plan.Operand.TheVariants as operands
 use Rattle.smk_base.specs.declared.book.plan.Item.{Item}
 use Rattle.smk_base.specs.declared.book.plan.Item.TheVariants as items
-use Rattle.smk_base.specs.declared.book.plan.Agg.{Agg}
-use Rattle.smk_base.specs.declared.book.plan.Agg.TheVariants.{Sum, Count, Min, Max}
-use Rattle.smk_base.specs.Plans.{Formula, Comparison, Conjunction, Disjunction, Negation, Unary, Selection, Grouping, Binary, Equijoin, ThetaJoin, CrossProduct, Projection, Distinction}
+use Rattle.smk_base.specs.Plans.{Formula, Comparison, Conjunction, Disjunction, Negation, Unary, Selection, Projection, Distinction, Grouping, Binary, Equijoin, ThetaJoin, CrossProduct, BagUnion, SetUnion}
 use Rattle.smk_base.specs.declared.book.plan.Op1.{Op1}
 use Rattle.smk_base.specs.declared.book.plan.Op2.{Op2}
 use Rattle.smk_base.specs.PlanImage.{unary_of, binary_of}
 use Rattle.smk_base.specs.Rels.{Relation}
 use Rattle.smk_model.specs.Names.{same_sort}
-use Rattle.smk_model.specs.Kinds.{AreAlike, IsInt, IsSummed, ItemFits, AggFits, FormulaFits, Fits1, Fits2}
+use Rattle.smk_model.specs.Kinds.{AreAlike, IsInt, ItemFits, FormulaFits, Fits1, Fits2}
+use Rattle.smk_model.proofs.Aggregates.{agg_prop}
 use Rattle.smk_defer.specs.declared.kept.KeptOp.TheVariants.{One, Two}
 use Rattle.smk_defer.specs.Kept.{StepFits}
 
@@ -29,19 +28,9 @@ int_prop : (kind : Kind) → IsProp (IsInt kind)
 int_prop (Int level) = hlevel props
 int_prop Text = hlevel props
 
-summed_prop : (kind : Kind) → IsProp (IsSummed kind)
-summed_prop (Int level) = hlevel props
-summed_prop Text = hlevel props
-
 item_prop : (kinds : List Kind) (item : Item) → IsProp (ItemFits kinds item)
 item_prop kinds (items.Col c) = hlevel props
 item_prop kinds (items.Bin c w) = hlevel (int_prop, props)
-
-agg_prop : (kinds : List Kind) (agg : Agg) → IsProp (AggFits kinds agg)
-agg_prop kinds Count = hlevel props
-agg_prop kinds (Sum c) = hlevel (summed_prop, props)
-agg_prop kinds (Min c) = hlevel props
-agg_prop kinds (Max c) = hlevel props
 
 formula_prop : (kinds : List Kind) (formula : Formula) → IsProp (FormulaFits kinds formula)
 formula_prop kinds (Comparison c op (operands.Col d)) = hlevel (alike_prop, props)
