@@ -2,7 +2,9 @@
 use Rattle.std.proofs.Common.{◌≡◌, ◌∙◌, ◌<◌, ◌≤◌, ℕ, ℤ, pos, suc, ◌+◌, true, false, Bool, List, [], ◌∷◌, ◌++◌, length, map, refl, sym, ap, subst, arith, All, get_or, nat_eq, filter}
 use Rattle.std.proofs.lemmas.List.{length-map, get_or-map, get_or_default, append-nil}
 use Rattle.std.proofs.lemmas.List.Elements.{All-map, All-weaker}
-use Rattle.std.proofs.lemmas.Bool.{eq-eqb, ne_eqb}
+use Rattle.std.proofs.lemmas.Bool.{cond_both, eq-eqb, ne_eqb}
+use Rattle.std.proofs.lemmas.Int.{ints}
+use Rattle.std.specs.List.{fold}
 use Rattle.smk_keys.specs.Classes.{ClassesImage}
 use Rattle.smk_base.specs.declared.value.Value.{Value}
 use Rattle.smk_base.specs.declared.value.Value.TheVariants as values
@@ -11,11 +13,12 @@ use Rattle.smk_base.specs.declared.value.Kind.TheVariants as kinds
 use Rattle.smk_base.specs.declared.book.plan.Agg.{Agg}
 use Rattle.smk_base.specs.declared.book.plan.Agg.TheVariants.{Count, Sum, Min, Max}
 use Rattle.smk_base.specs.Places.{upto, places}
+use Rattle.smk_base.specs.declared.rel.TheConstants.{ROW_LIMIT}
 use Rattle.smk_base.specs.Rels.{Fits, RowFits, IsWithin, kind_in, column_values, picked, rows_at}
 use Rattle.smk_model.specs.Values.{Row, value_at}
-use Rattle.smk_model.specs.Plain.{row_eq, key_of, firsts, aggregate, grouped, number_of, total, combined}
+use Rattle.smk_model.specs.Plain.{row_eq, key_of, firsts, aggregate, grouped, number_of, total, combined, lesser, greater}
 use Rattle.smk_model.specs.Lineage.{row_at, sub}
-use Rattle.smk_model.specs.Kinds.{IsSummed, summed}
+use Rattle.smk_model.specs.Kinds.{AggFits, IsSummed, kind_of_agg, summed}
 use Rattle.smk_model.specs.Classes.{classes, first_places}
 use Rattle.smk_base.proofs.Places.{map_map, map_upto, map_upto_agree, same_below, places_below, few_places}
 use Rattle.smk_model.proofs.Firsts.{sub_key}
@@ -159,3 +162,33 @@ least_rows rows c of n k = map_upto_agree (λ p. combined (better false) (map (�
 pub greatest_rows : (rows : List Row) (c : ℕ) (of : List ℕ) (n k : ℕ) → map (λ p. combined (better true) (map (λ i. value_at (row_at rows i) c) (class_places of n p)) ∷ []) (upto k) ≡ map (λ p. aggregate (sub rows (class_places of n p)) (Max c) ∷ []) (upto k)
 greatest_rows rows c of n k = map_upto_agree (λ p. combined (better true) (map (λ i. value_at (row_at rows i) c) (class_places of n p)) ∷ []) (λ p. aggregate (sub rows (class_places of n p)) (Max c) ∷ []) k (λ p h.
     ap (λ (vs : List Value). combined (better true) vs ∷ []) (sym (map_map (λ (row : Row). value_at row c) (row_at rows) (class_places of n p))))
+
+-- aggregates of rows that fit
+
+sum_fits : (k : Kind) (vs : List Value) → IsSummed k → All (Fits k) vs → length vs ≤ ROW_LIMIT → Fits (summed k) (values.Int (total (map number_of vs)))
+sum_fits (kinds.Int level) vs s all few =
+    let e : level + 1 ≡ suc level = omega arith in
+    rw e (total_within level (map number_of vs) (All-map (IsWithin level) number_of vs (λ i d l. int_fits level (get_or vs i d) (all i d l))) (omega (arith, length-map vs number_of, few)))
+sum_fits kinds.Text vs s all few = absurd s
+
+best_fits : (k : Kind) (f : Value → Value → Value) → ((a b : Value) → Fits k a → Fits k b → Fits k (f a b)) → (v : Value) (vs : List Value) → Fits k v → All (Fits k) vs → Fits k (fold f v vs)
+best_fits k f keeps v [] h all = h
+best_fits k f keeps v (w ∷ vs) h all = best_fits k f keeps (f v w) vs (keeps v w h (All-head (Fits k) w vs all)) (All-rest (Fits k) w vs all)
+
+column_fits : (ks : List Kind) (rows : List Row) (c : ℕ) → All (RowFits ks) rows → c < length ks → All (Fits (kind_in ks c)) (map (λ row. value_at row c) rows)
+column_fits ks rows c all l = All-map (Fits (kind_in ks c)) (λ row. value_at row c) rows (λ i d h. value_fits ks (get_or rows i d) c (all i d h) l)
+
+pub agg_fits : (ks : List Kind) (x : Row) (xs : List Row) (agg : Agg) → All (RowFits ks) (x ∷ xs) → length (x ∷ xs) ≤ ROW_LIMIT → AggFits ks agg → Fits (kind_of_agg ks agg) (aggregate (x ∷ xs) agg)
+agg_fits ks x xs Count all few f = omega (arith, ints, few)
+agg_fits ks x xs (Sum c) all few f =
+    let column = map (λ row. value_at row c) (x ∷ xs) in
+    subst (λ (ns : List ℤ). Fits (summed (kind_in ks c)) (values.Int (total ns))) (map_map number_of (λ row. value_at row c) (x ∷ xs))
+    (sum_fits (kind_in ks c) column f.1 (column_fits ks (x ∷ xs) c all f.0) (omega (arith, length-map (x ∷ xs) (λ row. value_at row c), few)))
+agg_fits ks x xs (Min c) all few f =
+    let column = column_fits ks (x ∷ xs) c all f in
+    best_fits (kind_in ks c) lesser (λ a b h i. cond_both _ b a (Fits (kind_in ks c)) (λ e. i) (λ e. h)) (value_at x c) (map (λ row. value_at row c) xs)
+    (All-head (Fits (kind_in ks c)) (value_at x c) (map (λ row. value_at row c) xs) column) (All-rest (Fits (kind_in ks c)) (value_at x c) (map (λ row. value_at row c) xs) column)
+agg_fits ks x xs (Max c) all few f =
+    let column = column_fits ks (x ∷ xs) c all f in
+    best_fits (kind_in ks c) greater (λ a b h i. cond_both _ b a (Fits (kind_in ks c)) (λ e. i) (λ e. h)) (value_at x c) (map (λ row. value_at row c) xs)
+    (All-head (Fits (kind_in ks c)) (value_at x c) (map (λ row. value_at row c) xs) column) (All-rest (Fits (kind_in ks c)) (value_at x c) (map (λ row. value_at row c) xs) column)

@@ -1,11 +1,10 @@
 -- The rows of a growing chain fit its kinds.
 use Rattle.std.proofs.Common.{◌≡◌, ℕ, suc, ◌+◌, ◌<◌, ◌≤◌, ℤ, pos, ◌≤ℤ◌, Bool, true, List, [], ◌∷◌, ◌++◌, length, map, refl, ap, sym, ◌∙◌, subst, arith, get_or}
-use Rattle.std.specs.List.{filter, fold, All}
-use Rattle.std.proofs.lemmas.Int.{ints}
+use Rattle.std.specs.List.{filter, All}
 use Rattle.std.proofs.lemmas.List.{length-map, get_or-map}
 use Rattle.std.proofs.lemmas.List.Elements.{All-map, All-filter, All-weaker}
 use Rattle.std.proofs.lemmas.Bool.{cond_both, false≢true}
-use Rattle.smk_base.specs.Rels.{RowFits, Fits, IsWithin, kind_in}
+use Rattle.smk_base.specs.Rels.{RowFits, Fits, kind_in}
 use Rattle.smk_base.specs.declared.rel.TheConstants.{ROW_LIMIT}
 use Rattle.smk_base.specs.declared.value.Kind.{Kind}
 use Rattle.smk_base.specs.declared.value.Kind.TheVariants as kinds
@@ -14,13 +13,13 @@ use Rattle.smk_base.specs.declared.value.Value.TheVariants as values
 use Rattle.smk_base.specs.declared.book.plan.Item.{Item}
 use Rattle.smk_base.specs.declared.book.plan.Item.TheVariants.{Col, Bin}
 use Rattle.smk_base.specs.declared.book.plan.Agg.{Agg}
-use Rattle.smk_base.specs.declared.book.plan.Agg.TheVariants.{Count, Sum, Min, Max}
 use Rattle.smk_base.specs.Plans.{Unary, Selection, Projection, Distinction, Grouping, Expr, Leaf, Apply, Combine}
 use Rattle.smk_base.proofs.Kept.{Within-bin}
-use Rattle.smk_body.proofs.Fitting.{value_fits, total_within, All-head, All-rest}
+use Rattle.smk_body.proofs.Aggregating.{agg_fits}
+use Rattle.smk_body.proofs.Fitting.{value_fits, All-rest, All-head}
 use Rattle.smk_model.specs.Values.{Row, value_at, bin, meets}
-use Rattle.smk_model.specs.Plain.{row_eq, item_at, image, key_of, lesser, greater, number_of, total, aggregate, grouped, step1}
-use Rattle.smk_model.specs.Kinds.{IsInt, IsSummed, ItemFits, AggFits, Fits1, kind_of_item, kind_of_agg, summed, kinds1}
+use Rattle.smk_model.specs.Plain.{row_eq, item_at, image, key_of, number_of, aggregate, grouped, step1}
+use Rattle.smk_model.specs.Kinds.{IsInt, ItemFits, AggFits, Fits1, kind_of_item, kind_of_agg, kinds1}
 use Rattle.smk_model.specs.Selection.{PlanFits, plan_kinds, leaf_kinds}
 use Rattle.smk_model.specs.Lineage.{row_at}
 use Rattle.smk_model.specs.Classes.{first_places}
@@ -53,36 +52,6 @@ bin_fits kinds.Text v w f i h = absurd i
 item_fits : (ks : List Kind) (row : Row) → RowFits ks row → (item : Item) → ItemFits ks item → Fits (kind_of_item ks item) (item_at row item)
 item_fits ks row r (Col c) f = value_fits ks row c r f
 item_fits ks row r (Bin c w) f = bin_fits (kind_in ks c) (value_at row c) w (value_fits ks row c r f.0) f.1 f.2
-
--- aggregates of rows that fit
-
-sum_fits : (k : Kind) (vs : List Value) → IsSummed k → All (Fits k) vs → length vs ≤ ROW_LIMIT → Fits (summed k) (values.Int (total (map number_of vs)))
-sum_fits (kinds.Int level) vs s all few =
-    let e : level + 1 ≡ suc level = omega arith in
-    rw e (total_within level (map number_of vs) (All-map (IsWithin level) number_of vs (λ i d l. int_fits level (get_or vs i d) (all i d l))) (omega (arith, length-map vs number_of, few)))
-sum_fits kinds.Text vs s all few = absurd s
-
-best_fits : (k : Kind) (f : Value → Value → Value) → ((a b : Value) → Fits k a → Fits k b → Fits k (f a b)) → (v : Value) (vs : List Value) → Fits k v → All (Fits k) vs → Fits k (fold f v vs)
-best_fits k f keeps v [] h all = h
-best_fits k f keeps v (w ∷ vs) h all = best_fits k f keeps (f v w) vs (keeps v w h (All-head (Fits k) w vs all)) (All-rest (Fits k) w vs all)
-
-column_fits : (ks : List Kind) (rows : List Row) (c : ℕ) → All (RowFits ks) rows → c < length ks → All (Fits (kind_in ks c)) (map (λ row. value_at row c) rows)
-column_fits ks rows c all l = All-map (Fits (kind_in ks c)) (λ row. value_at row c) rows (λ i d h. value_fits ks (get_or rows i d) c (all i d h) l)
-
-agg_fits : (ks : List Kind) (x : Row) (xs : List Row) (agg : Agg) → All (RowFits ks) (x ∷ xs) → length (x ∷ xs) ≤ ROW_LIMIT → AggFits ks agg → Fits (kind_of_agg ks agg) (aggregate (x ∷ xs) agg)
-agg_fits ks x xs Count all few f = omega (arith, ints, few)
-agg_fits ks x xs (Sum c) all few f =
-    let column = map (λ row. value_at row c) (x ∷ xs) in
-    subst (λ (ns : List ℤ). Fits (summed (kind_in ks c)) (values.Int (total ns))) (map_map number_of (λ row. value_at row c) (x ∷ xs))
-    (sum_fits (kind_in ks c) column f.1 (column_fits ks (x ∷ xs) c all f.0) (omega (arith, length-map (x ∷ xs) (λ row. value_at row c), few)))
-agg_fits ks x xs (Min c) all few f =
-    let column = column_fits ks (x ∷ xs) c all f in
-    best_fits (kind_in ks c) lesser (λ a b h i. cond_both _ b a (Fits (kind_in ks c)) (λ e. i) (λ e. h)) (value_at x c) (map (λ row. value_at row c) xs)
-    (All-head (Fits (kind_in ks c)) (value_at x c) (map (λ row. value_at row c) xs) column) (All-rest (Fits (kind_in ks c)) (value_at x c) (map (λ row. value_at row c) xs) column)
-agg_fits ks x xs (Max c) all few f =
-    let column = column_fits ks (x ∷ xs) c all f in
-    best_fits (kind_in ks c) greater (λ a b h i. cond_both _ b a (Fits (kind_in ks c)) (λ e. i) (λ e. h)) (value_at x c) (map (λ row. value_at row c) xs)
-    (All-head (Fits (kind_in ks c)) (value_at x c) (map (λ row. value_at row c) xs) column) (All-rest (Fits (kind_in ks c)) (value_at x c) (map (λ row. value_at row c) xs) column)
 
 length-filter-le : {X : Type 0} (f : X → Bool) (xs : List X) → length (filter f xs) ≤ length xs
 length-filter-le f [] = omega arith
