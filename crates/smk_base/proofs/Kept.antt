@@ -59,12 +59,25 @@ Within-wider (suc a) zero n h w =
 Within-wider (suc a) (suc b) n h w =
     between-more (2 ^ (63 + 20 * suc b)) (2 ^ (63 + 20 * suc a)) n (pow-le-pow_right {n = 2} (omega arith) {i = 63 + 20 * suc b} {j = 63 + 20 * suc a} (omega arith)) w
 
--- ints of a level that is no wider than 0 are small
-pub all-small : (level : ℕ) (numbers : List ℤ) → level ≤ 0 → All (Fits (kinds.Int level)) (map values.Int numbers) → All (λ number. FitsSigned w64 number) numbers
-all-small zero numbers h fit k d p =
+-- ints that fit are in the range of their level
+pub ints_within : (level : ℕ) (numbers : List ℤ) → All (Fits (kinds.Int level)) (map values.Int numbers) → All (IsWithin level) numbers
+ints_within level numbers fit k d p =
     let at : get_or (map values.Int numbers) k (values.Int d) ≡ values.Int (get_or numbers k d) = get_or-map values.Int numbers k d (values.Int d) p in
     let here : k < length (map values.Int numbers) = omega (arith, length-map numbers values.Int) in
     rw at at (fit k (values.Int d) here)
+
+-- no int fits a text, and no text an int
+pub no_ints : (numbers : List ℤ) → All (Fits kinds.Text) (map values.Int numbers) → map values.Int numbers ≡ []
+no_ints [] fit = refl
+no_ints (n ∷ ns) fit = absurd (fit 0 (values.Int n) (omega arith))
+
+pub no_texts : (level : ℕ) (texts : List (List ℕ)) → All (Fits (kinds.Int level)) (map values.Text texts) → map values.Text texts ≡ []
+no_texts level [] fit = refl
+no_texts level (t ∷ ts) fit = absurd (fit 0 (values.Text t) (omega arith))
+
+-- ints of a level that is no wider than 0 are small
+pub all-small : (level : ℕ) (numbers : List ℤ) → level ≤ 0 → All (Fits (kinds.Int level)) (map values.Int numbers) → All (λ number. FitsSigned w64 number) numbers
+all-small zero numbers h fit = ints_within 0 numbers fit
 all-small (suc level) numbers h fit k d p = absurd (omega arith)
 
 pub Fits-wider : (a b : Kind) (v : Value) → IsWider a b → Fits b v → Fits a v
@@ -82,13 +95,8 @@ IsColumnOf-append column other made n m a b wider kind cells few = record {
   fit = rw (kind, cells) (All-append (Fits column.kind) column.cells other.cells a.fit (All-weaker (Fits other.kind) (Fits column.kind) (λ v h. Fits-wider column.kind other.kind v wider h) other.cells b.fit));
 }
 
-pub IsColumnOf-widened : (column made : ColumnImage) (n : ℕ) → IsColumnOf n column → IsColumn made.kind → IsWider made.kind column.kind → made.cells ≡ column.cells → IsColumnOf n made
-IsColumnOf-widened column made n is low wider cells = record {
-  long = rw cells is.long;
-  few = is.few;
-  low = low;
-  fit = rw cells (All-weaker (Fits column.kind) (Fits made.kind) (λ v h. Fits-wider made.kind column.kind v wider h) column.cells is.fit);
-}
+pub IsColumnOf-with_kind : (column made : ColumnImage) (n : ℕ) → IsColumnOf n column → IsColumn made.kind → All (Fits made.kind) column.cells → made.cells ≡ column.cells → IsColumnOf n made
+IsColumnOf-with_kind column made n is low fits cells = record { long = rw cells is.long; few = is.few; low = low; fit = rw cells fits }
 
 pub IsColumnOf-ints : (level : ℕ) (numbers : List ℤ) (made : ColumnImage) → level ≤ 3 → length numbers ≤ 1048576 → All (IsWithin level) numbers → made.kind ≡ kinds.Int level → made.cells ≡ map values.Int numbers
     → IsColumnOf (length numbers) made

@@ -3,14 +3,14 @@ use Rattle.std.proofs.Common.{◌≡◌, ℕ, ℤ, ◌+◌, ◌-◌, ◌<◌, �
 use Rattle.std.specs.List.{range_with_len, AllZip}
 use Rattle.std.proofs.lemmas.Bool.{cases_lt}
 use Rattle.std.proofs.lemmas.List.{get_or-map, length-map, length-append, length_push, get_or_push, get_or_append_left, get_or-append_right, get_or-take, length-take-le, map-append, map-id, ext_get_or}
-use Rattle.std.proofs.lemmas.List.Elements.{All-append, length_all_zip}
+use Rattle.std.proofs.lemmas.List.Elements.{All-append, All-map, length_all_zip}
 use Rattle.std.proofs.lemmas.List.FromFn.{fill_by_all}
 use Rattle.std.proofs.lemmas.Simd.{map-map}
 use Rattle.smk_base.specs.declared.value.Kind.{Kind}
 use Rattle.smk_base.specs.declared.value.Kind.TheVariants as kinds
 use Rattle.smk_base.specs.declared.value.Value.{Value}
 use Rattle.smk_base.specs.declared.value.Value.TheVariants as values
-use Rattle.smk_base.specs.Rels.{Relation, RowFits, IsWider, AreCodesOf, kind_in, row_in, value_in, column_values, text_of, column_texts, bin_of, picked, rows_at, beside_rows}
+use Rattle.smk_base.specs.Rels.{Relation, Fits, RowFits, IsWider, AreCodesOf, kind_in, row_in, value_in, column_values, text_of, column_texts, bin_of, picked, rows_at, beside_rows}
 use Rattle.smk_base.specs.Dicts.{code_or_last}
 use Rattle.smk_base.specs.TextColumns.{text_in}
 use Rattle.smk_base.proofs.RelRows.{AllZip-at}
@@ -173,22 +173,21 @@ relation-one n column is =
     (λ i h. get_or-map (λ (value : Value). value ∷ []) column.cells i none [] (omega (arith, is.long))) in
     (λ j. record { kinds = column.kind ∷ []; rows = sym rows j })
 
-pub made-widened : (n : ℕ) (columns made : List ColumnImage) (ks : List Kind) → length columns ≡ length ks → AreMade n (length columns) (kind_in ks) (λ k. (column_in columns k).cells) made
+pub made-with_kinds : (n : ℕ) (columns made : List ColumnImage) (ks : List Kind) → length columns ≡ length ks → AreMade n (length columns) (kind_in ks) (λ k. (column_in columns k).cells) made
     → relation_of n made ≡ record { kinds = ks; rows = rows_of n columns }
-made-widened n columns made ks wide so =
+made-with_kinds n columns made ks wide so =
     relation_made n (length columns) (kind_in ks) (λ k. (column_in columns k).cells) made (record { kinds = ks; rows = rows_of n columns }) so
     (sym wide) (λ c h. refl) (length-rows_of n columns) (width-rows_of n columns) (λ i c p q. value_in-rows_of n columns i c p q)
 
--- columns of kinds that are wide enough
-pub kinds-wide : (columns : List ColumnImage) (ks : List Kind) → AllZip IsWider ks (kinds_of columns) → length columns ≡ length ks
-kinds-wide columns ks wider = sym (wide_kinds columns) ∙ sym (length_all_zip IsWider ks (kinds_of columns) wider)
+-- as many kinds as columns
+pub kinds-long : (columns : List ColumnImage) (ks : List Kind) → length ks ≡ length (kinds_of columns) → length columns ≡ length ks
+kinds-long columns ks long = sym (wide_kinds columns) ∙ sym long
 
-pub kinds-wider : (columns : List ColumnImage) (ks : List Kind) → AllZip IsWider ks (kinds_of columns) → (c : ℕ) → c < length columns → IsWider (kind_in ks c) (column_in columns c).kind
-kinds-wider columns ks wider c h =
-    let wide = kinds-wide columns ks wider in
-    let right = kind_in-kinds_of columns c h in
-    let here : IsWider (kind_in ks c) (kind_in (kinds_of columns) c) = AllZip-at IsWider ks (kinds_of columns) c kinds.Text kinds.Text wider (omega (arith, wide)) in
-    subst (λ k. IsWider (kind_in ks c) k) right here
+-- the values of columns whose rows fit
+pub values-fit : (n : ℕ) (columns : List ColumnImage) (ks : List Kind) → All (IsColumnOf n) columns → length columns ≡ length ks → All (RowFits ks) (rows_of n columns) → (c : ℕ) → c < length columns → All (Fits (kind_in ks c)) (column_in columns c).cells
+values-fit n columns ks each long fits c h =
+    subst (All (Fits (kind_in ks c))) (column_values-rows_of n columns c each h)
+    (All-map (Fits (kind_in ks c)) (λ row. value_in row c) (rows_of n columns) (λ i d p. AllZip-at Fits ks (get_or (rows_of n columns) i d) c kinds.Text none (fits i d p) (omega (arith, long))))
 
 -- one column of the bins of another
 pub one-bins : (n : ℕ) (columns : List ColumnImage) (c : ℕ) (w : ℤ) (column : ColumnImage) → All (IsColumnOf n) columns → c < length columns → column.kind ≡ (column_in columns c).kind → column.cells ≡ map (bin_of w) (column_in columns c).cells

@@ -21,8 +21,8 @@ pub(crate) mod value_column;
 use crate::list::Row;
 use crate::rel::dict::Dict;
 use crate::rel::each_column::{
-    append_each, begun_columns, copy_each, gather_each, make_each_ready, own_each, owned_each,
-    pick_each, push_each, share_each, truncate_each, widen_each,
+    append_each, begun_columns, copy_each, each_with_kind, gather_each, make_each_ready, own_each,
+    owned_each, pick_each, push_each, share_each, truncate_each,
 };
 use crate::rel::rel_column::RelColumn;
 use crate::rel::text_column::TextColumn;
@@ -286,15 +286,16 @@ impl Rel {
         Ok(made)
     }
 
-    /// The same rows in columns of these kinds, none of which is narrower than its column.
-    pub fn widened(self, alloc: Global, kinds: &[Kind]) -> Result<Rel, AllocError>
+    /// The same rows in columns of these kinds, which they fit.
+    pub fn with_kinds(self, alloc: Global, kinds: &[Kind]) -> Result<Rel, AllocError>
         requires low_levels { All IsColumn kinds.now }
-        requires wider { AllZip IsWider kinds.now self.kinds }
+        requires long { length kinds.now ≡ length self.kinds }
+        requires fits { All (RowFits kinds.now) self.rows }
         ensures { IfOk result (λ made. made ≡ record { kinds = kinds.now; rows = self.rows }) }
     {
         let Rel { columns, count } = self;
         Ok(Rel {
-            columns: widen_each(alloc, columns, count, kinds)?,
+            columns: each_with_kind(alloc, columns, count, kinds)?,
             count,
         })
     }

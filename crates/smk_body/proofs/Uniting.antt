@@ -17,6 +17,7 @@ use Rattle.smk_model.specs.Classes.{first_places}
 use Rattle.smk_base.proofs.Places.{places_are}
 use Rattle.smk_model.proofs.Bulk.{bulk, sub_left}
 use Rattle.smk_model.proofs.Classes.{classes_are}
+use Rattle.smk_base.proofs.Kept.{Fits-wider}
 use Rattle.smk_rid.proofs.Sets.{set_rises}
 use Rattle.smk_body.proofs.Fitting.{All-head, All-rest}
 
@@ -33,7 +34,19 @@ right_wider [] (j ∷ rs) h = absurd h
 right_wider (k ∷ ls) [] h = absurd h
 right_wider (kinds.Int a ∷ ls) (kinds.Int b ∷ rs) h = (omega arith, right_wider ls rs h.1)
 right_wider (kinds.Text ∷ ls) (kinds.Text ∷ rs) h = (tt, right_wider ls rs h.1)
-right_wider _ _ h = absurd h.0
+
+-- a row fits wider kinds
+pub row_wider : (ks js : List Kind) (row : Row) → AllZip IsWider ks js → RowFits js row → RowFits ks row
+row_wider [] [] row wider fits = fits
+row_wider [] (j ∷ js) row wider fits = absurd wider
+row_wider (k ∷ ks) [] row wider fits = absurd wider
+row_wider (k ∷ ks) (j ∷ js) [] wider fits = absurd fits
+row_wider (k ∷ ks) (j ∷ js) (v ∷ row) wider fits = (Fits-wider k j v wider.0 fits.0, row_wider ks js row wider.1 fits.1)
+
+-- the rows at places on the left, and on the right
+sub_left : (L R : List Row) (A : List ℕ) → All (λ i. i < length L) A → sub (L ++ R) A ≡ sub L A
+sub_left L R [] low = refl
+sub_left L R (i ∷ A) low = rw (get_or_append_left L R [] i (All-head (λ i. i < length L) i A low), sub_left L R A (All-rest (λ i. i < length L) i A low)) refl
 
 sub_right : (L R : List Row) (A : List ℕ) → All (λ i. length L ≤ i) A → sub (L ++ R) A ≡ sub R (map (λ i. i - length L) A)
 sub_right L R [] high = refl

@@ -1,28 +1,23 @@
 -- The columns of a growing chain are of level 0, and the sums of a last grouping of level 1, so groups can be summed once more.
-use Rattle.std.proofs.Common.{◌≡◌, ◌∙◌, ℕ, zero, suc, ◌+◌, ◌<◌, true, List, [], ◌∷◌, ◌++◌, length, map, sym, ap, subst, arith, All, get_or}
+use Rattle.std.proofs.Common.{◌≡◌, ◌∙◌, ℕ, ◌+◌, ◌<◌, true, List, [], ◌∷◌, ◌++◌, length, map, sym, ap, subst, arith, All, get_or}
 use Rattle.std.proofs.lemmas.Bool.{false≢true}
 use Rattle.std.proofs.lemmas.List.{length-map, length-append, get_or-map}
 use Rattle.std.proofs.lemmas.List.Elements.{All-map}
 use Rattle.smk_base.specs.declared.value.Kind.{Kind}
 use Rattle.smk_base.specs.declared.value.Kind.TheVariants as kinds
 use Rattle.smk_base.specs.declared.book.plan.Agg.{Agg}
-use Rattle.smk_base.specs.declared.book.plan.Agg.TheVariants.{Count, Sum}
+use Rattle.smk_base.specs.declared.book.plan.Agg.TheVariants.{Count}
 use Rattle.smk_base.specs.declared.book.plan.Item.{Item}
 use Rattle.smk_base.specs.declared.book.plan.Item.TheVariants.{Col, Bin}
 use Rattle.smk_base.specs.Plans.{Selection, Projection, Grouping, Expr, Leaf, Apply}
 use Rattle.smk_base.specs.Rels.{kind_in}
-use Rattle.smk_model.specs.Kinds.{AggFits, IsSummed, kind_of_item, kind_of_agg, kinds1, summed}
+use Rattle.smk_model.specs.Kinds.{AggFits, kind_of_item, kind_of_agg, kinds1}
 use Rattle.smk_model.specs.Tables.{IsBase}
 use Rattle.smk_model.specs.LineageLaws.{selected_table}
 use Rattle.smk_model.specs.Selection.{leaf_kinds, plan_kinds}
-use Rattle.smk_body.proofs.Fitting.{All-head, All-rest}
-use Rattle.smk_model.specs.Growth.{is_chain, over_parts, all_over_parts}
+use Rattle.smk_model.proofs.Aggregates.{base_at, parts_fit}
+use Rattle.smk_model.specs.Growth.{is_chain, all_over_parts}
 use Rattle.smk_chain.proofs.Columns.{behind, over_at, over_long}
-
-base_at : (ks : List Kind) → All IsBase ks → (c : ℕ) → IsBase (kind_in ks c)
-base_at [] all c = tt
-base_at (k ∷ ks) all zero = All-head IsBase k ks all
-base_at (k ∷ ks) all (suc c) = base_at ks (All-rest IsBase k ks all) c
 
 base_item : (ks : List Kind) → All IsBase ks → (item : Item) → IsBase (kind_of_item ks item)
 base_item ks all (Col c) = base_at ks all c
@@ -36,15 +31,6 @@ chain_kinds (Apply (Projection items) input) K c all =
     All-map IsBase (kind_of_item ks) items (λ i d h. base_item ks (chain_kinds input K c all) (get_or items i d))
 chain_kinds _ K c all = absurd (false≢true c)
 
-summed_low : (k : Kind) → IsBase k → IsSummed k → IsSummed (summed k)
-summed_low (kinds.Int level) b s = omega (arith, b)
-summed_low kinds.Text b s = absurd s
-
-one_over : (ks groups : List Kind) (c : ℕ) (agg : Agg) → All IsBase ks → c < length groups → kind_in groups c ≡ kind_of_agg ks agg → AggFits ks agg → AggFits groups (over_parts c agg)
-one_over ks groups c Count all low e f = let none : IsSummed (kinds.Int 0) = omega arith in (low, subst IsSummed (sym e) none)
-one_over ks groups c (Sum d) all low e f = (low, subst IsSummed (sym e) (summed_low (kind_in ks d) (base_at ks all d) f.1))
-one_over ks groups c _ all low e f = low
-
 -- the aggregates of groups that are put together fit the columns of these
 pub over_fits : (ks : List Kind) (keys : List ℕ) (aggs : List Agg) → All IsBase ks → All (AggFits ks) aggs → All (AggFits (kinds1 (Grouping keys aggs) ks)) (all_over_parts (length keys) aggs)
 over_fits ks keys aggs all fits i d h =
@@ -55,4 +41,4 @@ over_fits ks keys aggs all fits i d h =
     let at : kind_in (front ++ rest) (length keys + i) ≡ kind_of_agg ks (get_or aggs i Count) =
     ap (λ n. kind_in (front ++ rest) (n + i)) (sym long) ∙ behind front rest i kinds.Text ∙ get_or-map (kind_of_agg ks) aggs i Count kinds.Text low in
     let within : length keys + i < length (front ++ rest) = omega (arith, length-append front rest, long, length-map aggs (kind_of_agg ks), low) in
-    subst (AggFits (front ++ rest)) (sym (over_at (length keys) aggs i d Count low)) (one_over ks (front ++ rest) (length keys + i) (get_or aggs i Count) all within at (fits i Count low))
+    subst (AggFits (front ++ rest)) (sym (over_at (length keys) aggs i d Count low)) (parts_fit (get_or aggs i Count) (length keys + i) (front ++ rest) ks all within at (fits i Count low))

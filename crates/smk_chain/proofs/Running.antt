@@ -149,6 +149,7 @@ maps_of groups plan K tables len count need old new {other} {table} p q known h 
 
 -- what a chain that ends in a grouping asks and gives
 pub record GroupGoals (plan : Expr) (keys : List ℕ) (aggs : List Agg) (K : List (List Kind)) (tables : List (List Row)) (need : List Needed) (old new : Run) : Type 0 where
+  pub some : 0 < length keys + length aggs
   pub columns : length keys + length aggs ≡ length old.rel.kinds
   pub each : All (AggFits old.rel.kinds) (all_over_parts (length keys) aggs)
   pub fits : All (RowFits old.rel.kinds) (joint_groups (length keys) aggs (old.rel.rows ++ new.rel.rows))
@@ -159,6 +160,7 @@ goals_at : (keys : List ℕ) (aggs : List Agg) (input : Expr) (K : List (List Ki
     → All IsBase (get_or K (selected_table input) []) → All (RowFits (get_or K (selected_table input) [])) (table_at tables (selected_table input)) → AreRuns (Apply (Grouping keys aggs) input) K tables len need old new
     → GroupGoals (Apply (Grouping keys aggs) input) keys aggs K tables need old new
 goals_at keys aggs input K tables len need old new fits base rows h = record {
+  some = fits.1.some;
   columns = group_columns keys aggs input K tables len need old new h;
   each = group_each keys aggs input K tables len need old new h fits base;
   fits = group_rows_fit keys aggs input K tables len need old new h fits rows;

@@ -1,4 +1,4 @@
-ghost use Rattle.std.specs.Prelude.{◌≡◌, ◌+◌, ◌≤◌, ◌++◌, true, All, Some, None, length, IfOk};
+ghost use Rattle.std.specs.Prelude.{◌≡◌, ◌+◌, ◌<◌, ◌≤◌, ◌++◌, true, All, Some, None, length, IfOk};
 ghost use Rattle.smk_base.specs.PlanImage.{expr_of};
 ghost use Rattle.smk_base.specs.Rels.{RowFits};
 ghost use Rattle.smk_model.specs.Composed.{table_at};
@@ -14,7 +14,7 @@ ghost use Rattle.smk_chain.specs.Runs.{chain_run, group_run, joint_classes, join
 use crate::chains::grouping_of;
 use crate::groups::regrouped;
 use crate::maps::maps_of_both;
-use smk_base::{Agg, Aggs, Keys, Need, Needed, Plan, Rel, numbers_below};
+use smk_base::{Aggs, Keys, Need, Needed, Plan, Rel};
 use smk_compose::{KeptMap, Run};
 use smk_keys::Classes;
 use smk_marks::scanned_table;
@@ -92,6 +92,7 @@ fn grown_groups(
 ) -> Result<Run, AllocError>
     requires kinds { new.now.rel.kinds ≡ old.now.rel.kinds }
     requires few { length old.now.rel.rows + length new.now.rel.rows ≤ ROW_LIMIT }
+    requires some { 0 < length keys.now + length aggs.now }
     requires columns { length keys.now + length aggs.now ≡ length old.now.rel.kinds }
     requires each { All (AggFits old.now.rel.kinds) (all_over_parts (length keys.now) aggs.now) }
     requires fits { All (RowFits old.now.rel.kinds) (joint_groups (length keys.now) aggs.now (old.now.rel.rows ++ new.now.rel.rows)) }
@@ -101,12 +102,7 @@ fn grown_groups(
     // Its clauses say that the columns are few.
     let _width = old.rel.width();
     let both = rows_of_both(alloc, &old.rel, &new.rel)?;
-    let (rel, classes) = groups_of_both(
-        alloc,
-        &both,
-        keys.as_slice().len() as u32,
-        aggs.as_slice(),
-    )?;
+    let (rel, classes) = regrouped(alloc, &both, keys.as_slice().len() as u32, aggs.as_slice())?;
     drop(both);
     run_of(
         alloc,
@@ -118,26 +114,6 @@ fn grown_groups(
         old.kept.as_slice(),
         new.kept.as_slice(),
     )
-}
-
-// These groups of both, each key once, and the classes of their keys.
-fn groups_of_both(
-    alloc: Global,
-    both: &Rel,
-    keys: u32,
-    aggs: &[Agg],
-) -> Result<(Rel, Classes), AllocError>
-    requires columns { keys + length aggs.now ≡ length both.now.kinds }
-    requires each { All (AggFits both.now.kinds) (all_over_parts keys aggs.now) }
-    requires fits { All (RowFits both.now.kinds) (joint_groups keys aggs.now both.now.rows) }
-    ensures rows { IfOk result (λ made. made.0 ≡ record { kinds = both.now.kinds; rows = joint_groups keys aggs.now both.now.rows }) }
-    ensures classes { IfOk result (λ made. made.1 ≡ joint_classes keys both.now.rows) }
-{
-    let columns = numbers_below(alloc, keys)?;
-    let columns = columns.as_slice();
-    let classes = Classes::of_rows(alloc, both, columns)?;
-    let rel = regrouped(alloc, both, &classes, columns, aggs)?;
-    Ok((rel, classes))
 }
 
 // The rows of both, the new ones behind the old ones.

@@ -191,8 +191,8 @@ pub(crate) fn truncate_each(columns: &mut Vec<RelColumn>, count: u32)
     }
 }
 
-/// The same values in columns of these kinds, none of which is a narrower one.
-pub(crate) fn widen_each(
+/// The same values in columns of these kinds, which they fit.
+pub(crate) fn each_with_kind(
     alloc: Global,
     mut columns: Vec<RelColumn>,
     count: u32,
@@ -201,13 +201,13 @@ pub(crate) fn widen_each(
     requires each { All (IsColumnOf count) columns.items }
     requires low { All IsColumn kinds.now }
     requires wide { length columns.items ≡ length kinds.now }
-    requires wider { (k : ℕ) → k < length columns.items → IsWider (kind_in kinds.now k) (column_in columns.items k).kind }
+    requires fits { (k : ℕ) → k < length columns.items → All (Fits (kind_in kinds.now k)) (column_in columns.items k).cells }
     ensures { IfOk result (λ made. AreMade count (length columns.items) (kind_in kinds.now) (λ k. (column_in columns.items k).cells) made.items) }
 {
     let mut made = Vec::with_capacity(alloc, kinds.len())?;
     for c in 0..kinds.len() {
         let column = mem::replace(&mut columns[c], RelColumn::new(alloc, Kind::Text));
-        made.push_reserved(column.widened(alloc, kinds[c])?);
+        made.push_reserved(column.with_kind(alloc, kinds[c])?);
     }
     Ok(made)
 }

@@ -251,10 +251,10 @@ impl RelColumn {
         }
     }
 
-    /// The same values in a column of this kind, which is not a narrower one.
-    pub fn widened(self, alloc: Global, kind: Kind) -> Result<RelColumn, AllocError>
+    /// The same values in a column of this kind, which they fit.
+    pub fn with_kind(self, alloc: Global, kind: Kind) -> Result<RelColumn, AllocError>
         requires low { IsColumn kind }
-        requires wider { IsWider kind self.kind }
+        requires fits { All (Fits kind) self.cells }
         ensures kind { IfOk result (λ made. made.kind ≡ kind) }
         ensures cells { IfOk result (λ made. made.cells ≡ self.cells) }
         ensures keeps { IfOk result (λ made. IsColumnOf (length self.cells) made) }
@@ -263,7 +263,7 @@ impl RelColumn {
             return Ok(self);
         }
         let own = self.into_own(alloc)?;
-        Ok(RelColumn::own(own.widened(alloc, kind)?))
+        Ok(RelColumn::own(own.with_kind(alloc, kind)?))
     }
 
     /// For each number of a column of ints the number of its bin of this width.

@@ -208,17 +208,17 @@ impl ValueColumn {
         truncate_store(&mut self.store, len);
     }
 
-    /// The same values in a column of this kind, which is not a narrower one.
-    pub fn widened(self, alloc: Global, kind: Kind) -> Result<ValueColumn, AllocError>
+    /// The same values in a column of this kind, which they fit.
+    pub fn with_kind(self, alloc: Global, kind: Kind) -> Result<ValueColumn, AllocError>
         requires low { IsColumn kind }
-        requires wider { IsWider kind self.kind }
+        requires fits { All (Fits kind) self.cells }
         ensures kind { IfOk result (λ made. made.kind ≡ kind) }
         ensures cells { IfOk result (λ made. made.cells ≡ self.cells) }
         ensures keeps { IfOk result (λ made. IsColumnOf (length self.cells) made) }
     {
         let ValueColumn { store } = self;
         Ok(ValueColumn {
-            store: widened(alloc, store, kind)?,
+            store: store_with_kind(alloc, store, kind)?,
         })
     }
 
@@ -264,7 +264,7 @@ impl ValueColumn {
         let small = ValueColumn {
             store: Store::Small(ints),
         };
-        small.widened(alloc, Kind::Int { level })
+        small.with_kind(alloc, Kind::Int { level })
     }
 
     /// A copy that is equal to its original.
@@ -376,20 +376,29 @@ fn stored(alloc: Global, level: u8, numbers: Vec<i128>) -> Result<Store, AllocEr
     Ok(Store::Small(ints))
 }
 
-// The same values in a column of this kind, which is not a narrower one.
-fn widened(alloc: Global, store: Store, kind: Kind) -> Result<Store, AllocError>
-    requires { IsWider kind (kind_in_store store) }
+#[tactic(auto, using(crate::proofs::Kept::ints_within, crate::proofs::Kept::no_ints, crate::proofs::Kept::no_texts))]
+// The same values in a column of this kind, which they fit.
+fn store_with_kind(alloc: Global, store: Store, kind: Kind) -> Result<Store, AllocError>
+    requires low { IsColumn kind }
+    requires fits { All (Fits kind) (cells_in store) }
     ensures kind { IfOk result (λ made. kind_in_store made ≡ kind) }
     ensures cells { IfOk result (λ made. cells_in made ≡ cells_in store) }
 {
+    // No text fits an int, and no int a text, so there is none.
     match kind {
-        Kind::Int { level: 0 } => Ok(store),
         Kind::Int { level } => match store {
-            Store::Small(ints) => small_widened(alloc, ints.as_slice(), level),
-            Store::Wide(_, ints) => Ok(Store::Wide(level, ints)),
-            Store::Texts(_, _) => unreachable!(),
+            Store::Small(ints) => match level {
+                0 => Ok(Store::Small(ints)),
+                _ => small_widened(alloc, ints.as_slice(), level),
+            },
+            Store::Wide(_, ints) => stored(alloc, level, ints),
+            Store::Texts(_, _) => Ok(ValueColumn::new(alloc, kind).store),
         },
-        Kind::Text => Ok(store),
+        Kind::Text => match store {
+            Store::Small(_) => Ok(ValueColumn::new(alloc, kind).store),
+            Store::Wide(_, _) => Ok(ValueColumn::new(alloc, kind).store),
+            Store::Texts(texts, next) => Ok(Store::Texts(texts, next)),
+        },
     }
 }
 

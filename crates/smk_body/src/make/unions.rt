@@ -31,7 +31,7 @@ fn put_behind(alloc: Global, left: Rel, right: &Rel) -> Result<Rel, AllocError>
     let _left_rows = left.len();
     let _right_rows = right.len();
     let kinds = union_kinds(alloc, &left, right)?;
-    let wide = left.widened(alloc, kinds.as_slice())?;
+    let wide = left.with_kinds(alloc, kinds.as_slice())?;
     wide.followed_by(alloc, right)
 }
 

@@ -40,6 +40,15 @@ returns-in-None c =
     ∙ chain_run_is plan (each_kinds T) (each_rows T) c.args.len c.args.need.now c.args.old.now c.args.new.now runs (c.in-None.ensures c.requires.growing))
     c.grown_chain.ensures
 
+pub grown_groups-requires-clause-some : goal.grown_groups-requires-clause-some
+grown_groups-requires-clause-some c =
+    let plan = expr_of c.args.plan.now in
+    let T = c.args.tables.now in
+    let table = c.scanned_table-table.result in
+    let runs = runs_of plan T table c.index-tables-table.result c.args.len c.args.need.now c.args.old.now c.args.new.now c.scanned_table-table.ensures c.index-tables-table.is c.requires.growing c.requires.scans c.requires.len c.len-rows.ensures.keeps.few_rows c.requires.old c.requires.new in
+    let last = c.in-Some.ensures in
+    (group_goals plan c.in-Some.last.keys.now c.in-Some.last.aggs.now last.0 T table c.index-tables-table.result c.args.len c.args.need.now c.args.old.now c.args.new.now last.1 c.scanned_table-table.ensures c.index-tables-table.is c.requires.scans c.requires.fits c.len-rows.ensures.base c.len-rows.ensures.keeps.fit runs).some
+
 pub grown_groups-requires-clause-columns : goal.grown_groups-requires-clause-columns
 grown_groups-requires-clause-columns c =
     let plan = expr_of c.args.plan.now in

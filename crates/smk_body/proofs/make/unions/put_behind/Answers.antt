@@ -1,22 +1,26 @@
-use Rattle.std.proofs.Common.{◌∙◌, ap, arith, ◌≡◌, ◌++◌}
+use Rattle.std.proofs.Common.{◌∙◌, ap, arith, ◌≡◌, ◌++◌, length}
 use Rattle.std.proofs.lemmas.Grind.{common_steps}
 use Rattle.std.proofs.lemmas.Result.{IfOk-weaker}
-use Rattle.smk_base.specs.Rels.{Relation}
-use Rattle.smk_body.proofs.Fitting.{wider_columns}
-use Rattle.smk_body.proofs.Uniting.{left_wider, right_wider}
+use Rattle.std.proofs.lemmas.List.Elements.{All-weaker}
+use Rattle.smk_base.specs.Rels.{Relation, RowFits}
+use Rattle.smk_body.proofs.Fitting.{length-wider_kinds, wider_columns}
+use Rattle.smk_body.proofs.Uniting.{left_wider, right_wider, row_wider}
 use Rattle.smk_model.specs.Kinds.{wider_kinds}
 use Rattle.smk_body.proofs.Besides.{relation}
 use Rattle.smk_body.proofs.make.unions.put_behind.Goals as goal
 
-pub widened-requires-clause-low_levels : goal.widened-requires-clause-low_levels
-widened-requires-clause-low_levels c =
+pub with_kinds-requires-clause-low_levels : goal.with_kinds-requires-clause-low_levels
+with_kinds-requires-clause-low_levels c =
     let e = c.as_slice.ensures.value ∙ c.in_ok-kinds.ensures in
     rw e (wider_columns c.args.left.kinds c.args.right.now.kinds c.len-left_rows.ensures.keeps.low_levels c.len-right_rows.ensures.keeps.low_levels)
 
-pub widened-requires-clause-wider : goal.widened-requires-clause-wider
-widened-requires-clause-wider c =
+pub with_kinds-requires-clause-long : goal.with_kinds-requires-clause-long
+with_kinds-requires-clause-long c = ap length (c.as_slice.ensures.value ∙ c.in_ok-kinds.ensures) ∙ length-wider_kinds c.args.left.kinds c.args.right.now.kinds c.requires.alike
+
+pub with_kinds-requires-clause-fits : goal.with_kinds-requires-clause-fits
+with_kinds-requires-clause-fits c =
     let e = c.as_slice.ensures.value ∙ c.in_ok-kinds.ensures in
-    rw e (left_wider c.args.left.kinds c.args.right.now.kinds c.requires.alike)
+    rw e (All-weaker (RowFits c.args.left.kinds) (RowFits (wider_kinds c.args.left.kinds c.args.right.now.kinds)) (λ row fits. row_wider _ _ row (left_wider c.args.left.kinds c.args.right.now.kinds c.requires.alike) fits) c.args.left.rows c.len-left_rows.ensures.keeps.fit)
 
 pub followed_by-requires-clause-wider : goal.followed_by-requires-clause-wider
 followed_by-requires-clause-wider c =

@@ -24,3 +24,9 @@ invariant_of-small c =
     let within : All (IsWithin 0) c.loop-count.ints.items = rw whole (counts_within c.args.counts.now (All-from_get_or (λ n. n < 4294967296) c.args.counts.now 0 (λ k h. omega (arith, c.type_inv.counts k)))) in
     let kept = IsColumnOf-ints 0 c.loop-count.ints.items _ (omega arith) few within refl refl in
     rw kept.long kept
+
+pub with_kind-requires-clause-fits : goal.with_kind-requires-clause-fits
+with_kind-requires-clause-fits c =
+    let whole : c.loop-count.ints.items ≡ map pos c.args.counts.now = c.loop-count.invariant.made ∙ ap (map pos) (take_all c.loop-count.count-index c.args.counts.now c.loop-count-test.false) in
+    let within : All (IsWithin 0) c.loop-count.ints.items = rw whole (counts_within c.args.counts.now (All-from_get_or (λ n. n < 4294967296) c.args.counts.now 0 (λ k h. omega (arith, c.type_inv.counts k)))) in
+    ?
