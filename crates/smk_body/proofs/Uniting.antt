@@ -43,11 +43,6 @@ row_wider (k ∷ ks) [] row wider fits = absurd wider
 row_wider (k ∷ ks) (j ∷ js) [] wider fits = absurd fits
 row_wider (k ∷ ks) (j ∷ js) (v ∷ row) wider fits = (Fits-wider k j v wider.0 fits.0, row_wider ks js row wider.1 fits.1)
 
--- the rows at places on the left, and on the right
-sub_left : (L R : List Row) (A : List ℕ) → All (λ i. i < length L) A → sub (L ++ R) A ≡ sub L A
-sub_left L R [] low = refl
-sub_left L R (i ∷ A) low = rw (get_or_append_left L R [] i (All-head (λ i. i < length L) i A low), sub_left L R A (All-rest (λ i. i < length L) i A low)) refl
-
 sub_right : (L R : List Row) (A : List ℕ) → All (λ i. length L ≤ i) A → sub (L ++ R) A ≡ sub R (map (λ i. i - length L) A)
 sub_right L R [] high = refl
 sub_right L R (i ∷ A) high = rw (get_or-append_right L R (length L) i [] refl (All-head (λ i. length L ≤ i) i A high), sub_right L R A (All-rest (λ i. length L ≤ i) i A high)) refl

@@ -8,7 +8,7 @@ use Rattle.smk_base.specs.Aggregates.{over_parts}
 use Rattle.smk_base.specs.Places.{upto}
 use Rattle.smk_model.specs.Growth.{all_over_parts}
 use Rattle.smk_model.specs.Kinds.{AggFits, GroupFits}
-use Rattle.smk_model.proofs.Places.{length_upto, upto_below}
+use Rattle.smk_base.proofs.Places.{length_upto, upto_below}
 
 pub over_long : (c : ℕ) (aggs : List Agg) → length (all_over_parts c aggs) ≡ length aggs
 over_long c [] = refl

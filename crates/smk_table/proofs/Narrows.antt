@@ -18,7 +18,7 @@ use Rattle.smk_model.specs.Values.{Row, value_at}
 use Rattle.smk_model.specs.Plain.{item_at, image, key_of, firsts, aggregate, grouped, row_eq, step1}
 use Rattle.smk_model.specs.Kinds.{ItemFits, AggFits, ItemsFit, GroupFits, IsInt, kind_of_item, kind_of_agg, kinds1}
 use Rattle.smk_model.proofs.Aggregates.{aggregate_of_made, column_there, kind_of_moved, moved_fits}
-use Rattle.smk_base.proofs.Places.{filter_map, map_map, has_places, places_below, length_upto}
+use Rattle.smk_base.proofs.Places.{filter_map, map_map, has_places, places_below, length_upto, few_places}
 use Rattle.smk_model.proofs.Parts.{map_agree}
 use Rattle.smk_table.specs.Named.{is_of, reads, is_named, named, place_of, item_among, agg_among}
 
@@ -196,9 +196,6 @@ picked_at cols L places inside =
     ∙ sym (map_map (picked cols) (row_in L) places)
 
 -- the named columns have what is named
-
-pub few_places : (t : ℕ → Bool) (n : ℕ) → length (places t n) ≤ n
-few_places t n = omega (arith, length-filter_both t (λ c. not (t c)) (λ c. refl) (upto n), length_upto n)
 
 pub few_named : (items : List Item) (keys : List ℕ) (aggs : List Agg) (n : ℕ) → length (named items keys aggs n) ≤ n
 few_named items keys aggs n = few_places (is_named items keys aggs) n

@@ -7,7 +7,7 @@ use Rattle.smk_base.specs.declared.book.plan.Agg.{Agg}
 use Rattle.smk_base.specs.declared.value.Kind.{Kind}
 use Rattle.smk_model.specs.Plain.{step1}
 use Rattle.smk_model.specs.Kinds.{kind_of_agg}
-use Rattle.smk_model.proofs.Places.{length_upto}
+use Rattle.smk_base.proofs.Places.{length_upto}
 use Rattle.smk_body.proofs.Besides.{related}
 use Rattle.smk_model.specs.Growth.{all_over_parts}
 use Rattle.smk_chain.specs.Runs.{joint_groups}
