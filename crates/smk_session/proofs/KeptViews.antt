@@ -35,8 +35,8 @@ use Rattle.smk_marks.proofs.Chains.{chain_picks}
 use Rattle.smk_marks.proofs.Kept.{kept_marks}
 use Rattle.smk_marks.proofs.Marked.{few_kept}
 use Rattle.smk_marks.proofs.Small.{never_full}
-use Rattle.smk_session.specs.Answers.{AreOn, IsLent, book_of, chosen_of, pick_for}
-use Rattle.smk_session.specs.Refreshed.{IsKept, IsRefresh, Shows, book_at, looks_now, state_next}
+use Rattle.smk_session.specs.Answers.{IsLent, book_of, chosen_of, pick_for}
+use Rattle.smk_session.specs.Refreshed.{IsChosen, IsKept, IsRefresh, Shows, book_at, looks_now, state_next}
 use Rattle.smk_session.specs.declared.lent.Lent.{Lent}
 use Rattle.smk_session.specs.declared.brush.refresh.Refresh.{Refresh}
 use Rattle.smk_session.proofs.Followers.{chosen_there}
@@ -73,8 +73,14 @@ full_places q n h = all_pass q (upto n) (omega (arith, h, length_upto n))
 one_leaf : (L : List Row) → rows_in (L ∷ []) ≡ length L
 one_leaf L = omega arith
 
-module _ (refresh : Refresh) (w : ℕ) (view : KeptView) (table : Relation) (is : IsRefresh refresh) (low : w < length refresh.held.now.catalog.now.views) (kept : IsKept refresh.held.now w view)
-    (at : table ≡ get_or refresh.held.now.tables.now (selected_table (expr_of view.plan.chain.now)) table) where
+-- what is kept of a view, over its table
+pub record IsThere (refresh : Refresh) (w : ℕ) (view : KeptView) (table : Relation) : Type 0 where
+  pub is : IsRefresh refresh
+  pub low : w < length refresh.held.now.catalog.now.views
+  pub kept : IsKept refresh.held.now w view
+  pub at : table ≡ get_or refresh.held.now.tables.now (selected_table (expr_of view.plan.chain.now)) table
+
+module _ (refresh : Refresh) (w : ℕ) (view : KeptView) (table : Relation) (there : IsThere refresh w view table) where
   abbrev catalog : Catalog
   catalog = refresh.held.now.catalog.now
 
@@ -94,41 +100,41 @@ module _ (refresh : Refresh) (w : ℕ) (view : KeptView) (table : Relation) (is 
   S = selected_for (book_at refresh) (state_next refresh) w t
 
   fits : ViewFits catalog.tables (view_at (book_at refresh) w)
-  fits = is.held.opened.checked.typed.views w no_view (omega (arith, low, length-map catalog.views view_image))
+  fits = there.is.held.opened.checked.typed.views w no_view (omega (arith, there.low, length-map catalog.views view_image))
 
   pub table_low : t < length tables
   table_low =
-      let there : t < length catalog.tables = subst (λ (p : Expr). selected_table p < length catalog.tables) kept.plan.plan_is (scanned_low (length catalog.tables) plan fits.scans) in
-      omega (arith, there, tables_long catalog tables is.held.opened.kinds)
+      let known : t < length catalog.tables = subst (λ (p : Expr). selected_table p < length catalog.tables) there.kept.plan.plan_is (scanned_low (length catalog.tables) plan fits.scans) in
+      omega (arith, known, tables_long catalog tables there.is.held.opened.kinds)
 
   pub rows_are : table.rows ≡ table_at (each_rows tables) t
-  rows_are = ap (λ (r : Relation). r.rows) at ∙ sym (get_or-map (λ (r : Relation). r.rows) tables t table [] table_low)
+  rows_are = ap (λ (r : Relation). r.rows) there.at ∙ sym (get_or-map (λ (r : Relation). r.rows) tables t table [] table_low)
 
   kinds_are : leaf_kinds plan (each_table_kinds catalog.tables) ≡ table.kinds ∷ []
   kinds_are =
-      ap (λ (p : Expr). leaf_kinds p (each_table_kinds catalog.tables)) kept.plan.plan_is
-      ∙ ap (map (λ s. get_or (each_table_kinds catalog.tables) s [])) (chain_picks.scans chain kept.plan.chain)
-      ∙ ap (λ (K : List (List Kind)). get_or K t [] ∷ []) (sym is.held.opened.kinds)
-      ∙ ap (λ (k : List Kind). k ∷ []) (get_or-map (λ (r : Relation). r.kinds) tables t table [] table_low ∙ sym (ap (λ (r : Relation). r.kinds) at))
+      ap (λ (p : Expr). leaf_kinds p (each_table_kinds catalog.tables)) there.kept.plan.plan_is
+      ∙ ap (map (λ s. get_or (each_table_kinds catalog.tables) s [])) (chain_picks.scans chain there.kept.plan.chain)
+      ∙ ap (λ (K : List (List Kind)). get_or K t [] ∷ []) (sym there.is.held.opened.kinds)
+      ∙ ap (λ (k : List Kind). k ∷ []) (get_or-map (λ (r : Relation). r.kinds) tables t table [] table_low ∙ sym (ap (λ (r : Relation). r.kinds) there.at))
 
   kinds_now : (view_at (book_at refresh) w).kinds ≡ plan_kinds (plan_of view.plan) (table.kinds ∷ [])
-  kinds_now = sym fits.kinds ∙ ap (plan_kinds plan) kinds_are ∙ ap (λ (p : Expr). plan_kinds p (table.kinds ∷ [])) kept.plan.plan_is
+  kinds_now = sym fits.kinds ∙ ap (plan_kinds plan) kinds_are ∙ ap (λ (p : Expr). plan_kinds p (table.kinds ∷ [])) there.kept.plan.plan_is
 
   pub kept_of : IsKeptOf view table (each_rows tables)
   kept_of = record {
-    chain = kept.plan.chain;
-    fits = subst (λ (p : Expr). PlanFits p (table.kinds ∷ [])) kept.plan.plan_is (subst (λ (K : List (List Kind)). PlanFits plan K) kinds_are fits.fits);
+    chain = there.kept.plan.chain;
+    fits = subst (λ (p : Expr). PlanFits p (table.kinds ∷ [])) there.kept.plan.plan_is (subst (λ (K : List (List Kind)). PlanFits plan K) kinds_are fits.fits);
     rows = rows_are;
-    content = ap (λ (r : Relation). r.rows) kept.content ∙ ap (λ (p : Expr). rows_over p (each_rows tables)) kept.plan.plan_is;
-    kinds = ap (λ (r : Relation). r.kinds) kept.content ∙ kinds_now;
-    forward = kept.forward ∙ ap (λ (p : Expr). forwards p (each_rows tables) (selected_table p)) kept.plan.plan_is;
+    content = ap (λ (r : Relation). r.rows) there.kept.content ∙ ap (λ (p : Expr). rows_over p (each_rows tables)) there.kept.plan.plan_is;
+    kinds = ap (λ (r : Relation). r.kinds) there.kept.content ∙ kinds_now;
+    forward = there.kept.forward ∙ ap (λ (p : Expr). forwards p (each_rows tables) (selected_table p)) there.kept.plan.plan_is;
   }
 
   -- the rows selected for the view
   leaves_are : leaves_now (book_at refresh) (state_next refresh) w ≡ sub table.rows S ∷ []
   leaves_are =
-      ap (λ (p : Expr). over p (each_rows tables) (picks_for (book_at refresh) (state_next refresh) w)) kept.plan.plan_is
-      ∙ chain_picks.over_picked chain (each_rows tables) (picks_for (book_at refresh) (state_next refresh) w) S kept.plan.chain
+      ap (λ (p : Expr). over p (each_rows tables) (picks_for (book_at refresh) (state_next refresh) w)) there.kept.plan.plan_is
+      ∙ chain_picks.over_picked chain (each_rows tables) (picks_for (book_at refresh) (state_next refresh) w) S there.kept.plan.chain
       (picked_now (book_at refresh) (state_next refresh) w t (omega (arith, table_low, length-map tables (λ (r : Relation). r.rows))))
       ∙ ap (λ (L : List Row). sub L S ∷ []) (sym rows_are)
 
@@ -147,12 +153,12 @@ module _ (refresh : Refresh) (w : ℕ) (view : KeptView) (table : Relation) (is 
   content_is : made_of (sub table.rows S) ≡ content_of (book_at refresh) (state_next refresh) w
   content_is =
       related (sym kinds_now)
-      (sym (ap (eval plan) leaves_are ∙ ap (λ (p : Expr). eval p (sub table.rows S ∷ [])) kept.plan.plan_is))
+      (sym (ap (eval plan) leaves_are ∙ ap (λ (p : Expr). eval p (sub table.rows S ∷ [])) there.kept.plan.plan_is))
 
   never : length table.rows ≤ 1048576 → first_full plan (leaves_now (book_at refresh) (state_next refresh) w) ≡ None
   never small =
-      ap (first_full plan) leaves_are ∙ ap (λ (p : Expr). first_full p (sub table.rows S ∷ [])) kept.plan.plan_is
-      ∙ never_full view.plan.keys.now view.plan.aggs.now chain (sub table.rows S) kept.plan.chain (omega (arith, small, few_selected, length-map S (row_at table.rows)))
+      ap (first_full plan) leaves_are ∙ ap (λ (p : Expr). first_full p (sub table.rows S ∷ [])) there.kept.plan.plan_is
+      ∙ never_full view.plan.keys.now view.plan.aggs.now chain (sub table.rows S) there.kept.plan.chain (omega (arith, small, few_selected, length-map S (row_at table.rows)))
 
   -- the rids that are chosen
   pub chosen_are : (chosen : Option (List ℕ)) (rids : List ℕ) → chosen ≡ chosen_of (book_at refresh) refresh.brushes.now w t (length (table_at (each_rows tables) t)) → chosen ≡ Some rids → rids ≡ S
@@ -168,8 +174,8 @@ module _ (refresh : Refresh) (w : ℕ) (view : KeptView) (table : Relation) (is 
   rids_low = places_below _ (length (table_at (each_rows tables) t))
 
   pub lists_long : length view.forward.now.lists ≡ length table.rows
-  lists_long = ap (λ (m : Lists). length m.lists) kept.forward ∙ lists_stand.forwards_long plan (each_rows tables) (selected_table plan)
-      ∙ ap (λ (p : Expr). length (table_at (each_rows tables) (selected_table p))) kept.plan.plan_is ∙ sym (ap length rows_are)
+  lists_long = ap (λ (m : Lists). length m.lists) there.kept.forward ∙ lists_stand.forwards_long plan (each_rows tables) (selected_table plan)
+      ∙ ap (λ (p : Expr). length (table_at (each_rows tables) (selected_table p))) there.kept.plan.plan_is ∙ sym (ap length rows_are)
 
   reached_by : (reached : Reached) → length table.rows ≤ 1048576 → reached.marks ≡ marks_at view.forward.now S → reached.rows ≡ rows_reached view table S → IsReachedBy view table S reached
   reached_by reached small marks rows = record { few = chosen_few small; marks = marks; rows = rows }
@@ -198,7 +204,7 @@ module _ (refresh : Refresh) (w : ℕ) (view : KeptView) (table : Relation) (is 
   first_shown small all = record {
     content =
         related kept_of.kinds
-        (kept_of.content ∙ ap (λ (ts : List ℕ). eval (plan_of view.plan) (map (table_at (each_rows tables)) ts)) (chain_picks.scans chain kept.plan.chain)
+        (kept_of.content ∙ ap (λ (ts : List ℕ). eval (plan_of view.plan) (map (table_at (each_rows tables)) ts)) (chain_picks.scans chain there.kept.plan.chain)
         ∙ ap (λ (L : List Row). eval (plan_of view.plan) (L ∷ [])) (sym rows_are ∙ sym all))
         ∙ content_is;
     few = never small;
@@ -218,58 +224,63 @@ view_kept held w t run info view h low is named ends content same fwd =
     }
 
 -- what is chosen of the table of such a view
+pub record IsReached (refresh : Refresh) (w : ℕ) (view : KeptView) (table : Relation) (chosen : Option (List ℕ)) : Type 0 where
+  pub there : IsThere refresh w view table
+  pub small : length table.rows ≤ 1048576
+  pub chosen_is : chosen ≡ chosen_of (book_at refresh) refresh.brushes.now w (selected_table (expr_of view.plan.chain.now)) (length (table_at (each_rows refresh.held.now.tables.now) (selected_table (expr_of view.plan.chain.now))))
 
-module _ (refresh : Refresh) (w : ℕ) (view : KeptView) (is : IsRefresh refresh) (low : w < length refresh.held.now.catalog.now.views) (kept : IsKept refresh.held.now w view) (t : ℕ) (same : t ≡ selected_table (expr_of view.plan.chain.now)) where
-  abbrev held_tables : List Relation
-  held_tables = refresh.held.now.tables.now
+module _ {refresh : Refresh} {w : ℕ} {view : KeptView} (is : IsRefresh refresh) (low : w < length refresh.held.now.catalog.now.views) (kept : IsKept refresh.held.now w view)
+    (same : refresh.table ≡ selected_table (expr_of view.plan.chain.now)) where
+  abbrev s : ℕ
+  s = selected_table (expr_of view.plan.chain.now)
 
-  pub table_there : t < length held_tables
+  abbrev tables_held : List Relation
+  tables_held = refresh.held.now.tables.now
+
+  pub table_there : refresh.table < length tables_held
   table_there =
       let catalog = refresh.held.now.catalog.now in
       let fits = is.held.opened.checked.typed.views w no_view (omega (arith, low, length-map catalog.views view_image)) in
-      let there : selected_table (expr_of view.plan.chain.now) < length catalog.tables = subst (λ (p : Expr). selected_table p < length catalog.tables) kept.plan.plan_is (scanned_low (length catalog.tables) (view_at (book_at refresh) w).plan fits.scans) in
-      omega (arith, there, same, tables_long catalog held_tables is.held.opened.kinds)
+      let known : s < length catalog.tables = subst (λ (p : Expr). selected_table p < length catalog.tables) kept.plan.plan_is (scanned_low (length catalog.tables) (view_at (book_at refresh) w).plan fits.scans) in
+      omega (arith, known, same, tables_long catalog tables_held is.held.opened.kinds)
 
-  module _ (table : Relation) (at : table ≡ get_or refresh.held.now.tables.now t table) (small : length table.rows ≤ 1048576) (chosen : Option (List ℕ))
-      (made : (n : ℕ) → AreOn t n refresh.brushes.now → chosen ≡ chosen_of (book_at refresh) refresh.brushes.now w t n) where
-    abbrev s : ℕ
-    s = selected_table (expr_of view.plan.chain.now)
-
-    here : table ≡ get_or refresh.held.now.tables.now s table
-    here = at ∙ ap (λ i. get_or refresh.held.now.tables.now i table) same
-
-    chosen_is : chosen ≡ chosen_of (book_at refresh) refresh.brushes.now w s (length (table_at (each_rows refresh.held.now.tables.now) s))
+  pub reached_by_chosen : {table : Relation} {chosen : Option (List ℕ)} → IsChosen refresh w chosen → table ≡ get_or tables_held refresh.table table → length (get_or tables_held refresh.table table).rows ≤ 1048576 → IsReached refresh w view (get_or tables_held refresh.table table) chosen
+  reached_by_chosen {table} {chosen} made at small = record {
+    there = record { is = is; low = low; kept = kept; at = ap (get_or tables_held refresh.table) at ∙ ap (λ i. get_or tables_held i (get_or tables_held refresh.table table)) same };
+    small = small;
     chosen_is =
-        subst (λ (i : ℕ). chosen ≡ chosen_of (book_at refresh) refresh.brushes.now w i (length (table_at (each_rows refresh.held.now.tables.now) i))) same
-        (chosen_there refresh.held.now.catalog.now refresh.held.now.tables.now refresh.brushes.now w t chosen is.fit made)
+        subst (λ (i : ℕ). chosen ≡ chosen_of (book_at refresh) refresh.brushes.now w i (length (table_at (each_rows tables_held) i))) same
+        (chosen_there refresh.held.now.catalog.now tables_held refresh.brushes.now w refresh.table chosen is.fit made);
+  }
 
-    rids_are : (rids : List ℕ) → chosen ≡ Some rids → selected_for (book_at refresh) (state_next refresh) w s ≡ rids
-    rids_are rids some = sym (chosen_are refresh w view table is low kept here chosen rids chosen_is some)
+module _ {refresh : Refresh} {w : ℕ} {view : KeptView} {table : Relation} {chosen : Option (List ℕ)} (h : IsReached refresh w view table chosen) where
+  rids_are : (rids : List ℕ) → chosen ≡ Some rids → selected_for (book_at refresh) (state_next refresh) w (selected_table (expr_of view.plan.chain.now)) ≡ rids
+  rids_are rids some = sym (chosen_are refresh w view table h.there chosen rids h.chosen_is some)
 
-    pub rids_inside : (rids : List ℕ) → chosen ≡ Some rids → All (λ rid. rid < length table.rows) rids
-    rids_inside rids some = subst (λ (l : List ℕ). All (λ rid. rid < length table.rows) l) (rids_are rids some) (chosen_low refresh w view table is low kept here)
+  pub rids_inside : (rids : List ℕ) → chosen ≡ Some rids → All (λ rid. rid < length table.rows) rids
+  rids_inside rids some = subst (λ (l : List ℕ). All (λ rid. rid < length table.rows) l) (rids_are rids some) (chosen_low refresh w view table h.there)
 
-    pub rids_few : (rids : List ℕ) → chosen ≡ Some rids → length rids ≤ 1048576
-    rids_few rids some = subst (λ (l : List ℕ). length l ≤ 1048576) (rids_are rids some) (chosen_few refresh w view table is low kept here small)
+  pub rids_few : (rids : List ℕ) → chosen ≡ Some rids → length rids ≤ 1048576
+  rids_few rids some = subst (λ (l : List ℕ). length l ≤ 1048576) (rids_are rids some) (chosen_few refresh w view table h.there h.small)
 
-    pub fwd_long : length view.forward.now.lists ≡ length table.rows
-    fwd_long = lists_long refresh w view table is low kept here
+  pub fwd_long : length view.forward.now.lists ≡ length table.rows
+  fwd_long = lists_long refresh w view table h.there
 
-    pub rids_looks : (rids : List ℕ) → chosen ≡ Some rids → looks_now refresh w ≡ length rids
-    rids_looks rids some = looks_are refresh w view table is low kept here ∙ ap length (rids_are rids some)
+  pub rids_looks : (rids : List ℕ) → chosen ≡ Some rids → looks_now refresh w ≡ length rids
+  rids_looks rids some = looks_are refresh w view table h.there ∙ ap length (rids_are rids some)
 
-    pub rids_shown : (rids : List ℕ) (reached : Reached) → chosen ≡ Some rids → reached.marks ≡ marks_at view.forward.now rids → reached.rows ≡ rows_reached view table rids → Shows refresh w (grouped_by_marks view reached)
-    rids_shown rids reached some marks rows =
-        marks_shown refresh w view table is low kept here reached small (marks ∙ ap (marks_at view.forward.now) (sym (rids_are rids some))) (rows ∙ ap (rows_reached view table) (sym (rids_are rids some)))
+  pub rids_shown : (rids : List ℕ) (reached : Reached) → chosen ≡ Some rids → reached.marks ≡ marks_at view.forward.now rids → reached.rows ≡ rows_reached view table rids → Shows refresh w (grouped_by_marks view reached)
+  rids_shown rids reached some marks rows =
+      marks_shown refresh w view table h.there reached h.small (marks ∙ ap (marks_at view.forward.now) (sym (rids_are rids some))) (rows ∙ ap (rows_reached view table) (sym (rids_are rids some)))
 
-    pub rids_ready : (rids : List ℕ) (reached : Reached) → chosen ≡ Some rids → reached.marks ≡ marks_at view.forward.now rids → reached.rows ≡ rows_reached view table rids → CanGroup view reached
-    rids_ready rids reached some marks rows =
-        marks_ready refresh w view table is low kept here reached small (marks ∙ ap (marks_at view.forward.now) (sym (rids_are rids some))) (rows ∙ ap (rows_reached view table) (sym (rids_are rids some)))
+  pub rids_ready : (rids : List ℕ) (reached : Reached) → chosen ≡ Some rids → reached.marks ≡ marks_at view.forward.now rids → reached.rows ≡ rows_reached view table rids → CanGroup view reached
+  rids_ready rids reached some marks rows =
+      marks_ready refresh w view table h.there reached h.small (marks ∙ ap (marks_at view.forward.now) (sym (rids_are rids some))) (rows ∙ ap (rows_reached view table) (sym (rids_are rids some)))
 
-    pub whole_shown : chosen ≡ None → Shows refresh w view.content.now
-    whole_shown none =
-        let alone = none_is (list_any (concerns (book_at refresh) w s) refresh.brushes.now) (selected_for (book_at refresh) (state_next refresh) w s) (sym none ∙ chosen_is) in
-        first_shown refresh w view table is low kept here small (all_rows refresh w view table is low kept here alone)
+  pub whole_shown : chosen ≡ None → Shows refresh w view.content.now
+  whole_shown none =
+      let alone = none_is (list_any (concerns (book_at refresh) w (selected_table (expr_of view.plan.chain.now))) refresh.brushes.now) (selected_for (book_at refresh) (state_next refresh) w (selected_table (expr_of view.plan.chain.now))) (sym none ∙ h.chosen_is) in
+      first_shown refresh w view table h.there h.small (all_rows refresh w view table h.there alone)
 
-    pub full_shown : (rids : List ℕ) → chosen ≡ Some rids → length table.rows ≤ length rids → Shows refresh w view.content.now
-    full_shown rids some all = first_shown refresh w view table is low kept here small (full_rows refresh w view table is low kept here (omega (arith, all, ap length (rids_are rids some))))
+  pub full_shown : (rids : List ℕ) → chosen ≡ Some rids → length table.rows ≤ length rids → Shows refresh w view.content.now
+  full_shown rids some all = first_shown refresh w view table h.there h.small (full_rows refresh w view table h.there (omega (arith, all, ap length (rids_are rids some))))

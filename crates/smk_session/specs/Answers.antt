@@ -124,6 +124,10 @@ chosen_of catalog brushes w t n =
     (Some (places (λ rid. list_all (λ brush. has brush.rids rid) (filter (concerns catalog w t) brushes)) n))
     None
 
+-- the same brushes concern two views on a table
+abbrev pub AreAlike : CatalogImage → List BrushOn → ℕ → ℕ → ℕ → Type 0
+AreAlike catalog brushes t w other = All (λ brush. concerns catalog w t brush ≡ concerns catalog other t brush) brushes
+
 -- the rids of a choice are those that brushes select of a table for its view
 abbrev pub IsChoice : CatalogImage → List BrushOn → ℕ → Choice → Type 0
 IsChoice catalog brushes t choice = (n : ℕ) → AreOn t n brushes → choice.rids ≡ chosen_of catalog brushes choice.view t n

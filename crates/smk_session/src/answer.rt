@@ -58,23 +58,30 @@ fn show(alloc: Global, held: &Lent<'_>, view: &Text) -> Result<Reply, Turned>
     Ok(Reply::View { rel })
 }
 
+// A backward query, as its line has it.
+#[derive(Drop)]
+struct Query<'a> {
+    view: &'a Text,
+    marks: &'a Marks,
+    table: &'a Text,
+    then: &'a Then,
+}
+
 // The answer to a backward query: the rows, those of them with a value, or a declared grouping of them.
 fn back<L: Ledger>(
     alloc: Global,
     held: &Lent<'_>,
-    view: &Text,
-    marks: &Marks,
-    table: &Text,
-    then: &Then,
+    asked: &Query<'_>,
     steps: &mut Steps<L>,
 ) -> Result<Reply, Turned>
     requires { IsLent held.now }
-    ensures gives { Gives result (replies.named_back (book_of held.now) (state_lent held.now) view.now marks.now table.now then.now) }
-    ensures looks { steps.new ≤ steps.old + looks_of_asked (replies.named_back (book_of held.now) (state_lent held.now) view.now marks.now table.now then.now) }
+    ensures gives { Gives result (replies.named_back (book_of held.now) (state_lent held.now) asked.now.view.now asked.now.marks.now asked.now.table.now asked.now.then.now) }
+    ensures looks { steps.new ≤ steps.old + looks_of_asked (replies.named_back (book_of held.now) (state_lent held.now) asked.now.view.now asked.now.marks.now asked.now.table.now asked.now.then.now) }
 {
-    let (v, t) = known_pair(held.catalog, view, table)?;
+    let (v, t) = known_pair(held.catalog, asked.view, asked.table)?;
     let pair = pair_of(held, v, t);
-    match then {
+    let marks = asked.marks;
+    match asked.then {
         Then::Plain => back_rows(alloc, &pair, marks, steps),
         Then::Matching { col, value } => matching_rows(alloc, &pair, marks, col, value, steps),
         Then::Grouped => groups(alloc, &pair, marks),
@@ -135,7 +142,15 @@ pub(crate) fn answer_to<R: Threads + Sync, G: Gate + Sync, L: Ledger>(
             marks,
             table,
             then,
-        } => stays(back(work.alloc, held, view, marks, table, then, steps)?),
+        } => {
+            let asked = Query {
+                view,
+                marks,
+                table,
+                then,
+            };
+            stays(back(work.alloc, held, &asked, steps)?)
+        }
         Line::Fwd { table, rows, view } => stays(fwd(work.alloc, held, table, rows, view)?),
         Line::Brush { view, marks, table } => brush(work, held, view, marks, table, steps),
         Line::Clear => Ok(clear(work.alloc, held)?),

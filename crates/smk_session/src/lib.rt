@@ -22,3 +22,4 @@ pub use start::opening::{open_view, view_of};
 pub use start::parts::{Opened, Parts};
 pub use start::scans::view_scans;
 pub use turn::Turn;
+pub use workers::Workers;

@@ -183,6 +183,17 @@ impl Session {
         self.book.catalog()
     }
 
+    /// Who does its work, at this gate. It takes no memory.
+    pub fn crew<'g, G: Gate + Sync>(&self, gate: &'g G) -> Workers<'g, G>
+        ensures gate { result.gate.now ≡ gate.now }
+        ensures workers { result.workers ≡ self.now.workers }
+    {
+        Workers {
+            gate,
+            workers: self.workers,
+        }
+    }
+
     /// What a line is answered, and what it changes, which is nothing where it is refused. The session stays as it is. Rows of a table that are answered are one look each, those without the value that is asked for and those of a grouping none, and so are the rows that are selected for the views that follow a brush. With several workers two views or more that follow are made anew at the same time, once the rows of all are selected: the i-th of them, from 0, passes the gate with i; one alone is made in pieces, as by `start`.
     pub fn turn<R: Threads + Sync, G: Gate + Sync, L: Ledger>(
         &self,
@@ -205,14 +216,11 @@ impl Session {
             brushes: self.brushes.as_slice(),
             contents: self.contents.as_slice(),
         };
-        let workers = Workers {
-            gate,
-            workers: self.workers,
-        };
+        let crew = self.crew(gate);
         let work = Work {
             rt,
             alloc,
-            crew: &workers,
+            crew: &crew,
         };
         match answer_to(&work, &held, line, steps) {
             Ok(turn) => Ok(turn),

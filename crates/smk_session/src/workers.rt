@@ -4,11 +4,11 @@ ghost use Rattle.smk_base.specs.declared.workers.TheConstants.{WORKER_LIMIT};
 use smk_jobs::Crew;
 use smk_outside::Gate;
 
-// Who does the work of a session: as many parts of it as workers, each of which passes the gate.
+/// Who does the work of a session: as many parts of it as workers, from 1 to 64, each of which passes the gate.
 #[derive(Drop)]
-pub(crate) struct Workers<'g, G: Gate + Sync> {
-    pub(crate) gate: &'g G,
-    pub(crate) workers: u32,
+pub struct Workers<'g, G: Gate + Sync> {
+    pub gate: &'g G,
+    pub workers: u32,
     ghost some: { 1 ≤ workers },
     ghost few: { workers ≤ WORKER_LIMIT },
 }

@@ -1,12 +1,11 @@
 // The rows that brushes select for a view.
-ghost use Rattle.std.specs.Prelude.{◌≡◌, ◌≢◌, ◌<◌, ◌≤◌, ℕ, false, length, slice_index, slice_index_or, All, IfOk, IfSome, OnOk};
+ghost use Rattle.std.specs.Prelude.{◌≡◌, ◌≢◌, ◌<◌, ◌≤◌, ℕ, false, length, slice_index, slice_index_or, All, IfOk, IfNone, IfSome, OnOk};
 ghost use Rattle.std.specs.Bool.{OnTrue, OnFalse};
 ghost use Rattle.std.specs.List.{filter};
 ghost use Rattle.smk_base.specs.CatalogImage.{catalog_image};
 ghost use Rattle.smk_base.specs.Picks.{IsAscending};
 ghost use Rattle.smk_base.specs.Places.{has};
-ghost use Rattle.smk_model.specs.Session as sessions;
-ghost use Rattle.smk_session.specs.Answers.{AreOn, IsChoice, IsLent, book_of, state_at, chosen_of, narrowed_by, picks_chosen};
+ghost use Rattle.smk_session.specs.Answers.{AreAlike, AreOn, IsChoice, IsLent, book_of, state_at, chosen_of, narrowed_by, picks_chosen};
 ghost use Rattle.smk_session.specs.Sessions.{BrushFits};
 
 use crate::brush::links::concerns;
@@ -184,7 +183,8 @@ pub(crate) struct Choice {
 
 // Whether the same brushes concern two views on a table.
 fn are_alike(catalog: &Catalog, brushes: &[BrushOn], t: u32, w: u32, other: u32) -> bool
-    ensures { OnTrue result (All (λ brush. sessions.concerns (catalog_image catalog.now) w t brush ≡ sessions.concerns (catalog_image catalog.now) other t brush) brushes.now) }
+    ensures alike { OnTrue result (AreAlike (catalog_image catalog.now) brushes.now t w other) }
+    ensures other { OnFalse result (¬ AreAlike (catalog_image catalog.now) brushes.now t w other) }
 {
     brushes.iter().all(|brush| concerns(catalog, w, t, brush) == concerns(catalog, other, t, brush))
 }
@@ -200,6 +200,7 @@ fn place_of(
     requires choices { All (IsChoice (catalog_image catalog.now) brushes.now t) choices.now }
     ensures place { IfSome result (λ p. p < length choices.now) }
     ensures own { IfSome result (λ p. (d : _) (n : ℕ) → AreOn t n brushes.now → (slice_index_or choices.now p d).rids ≡ chosen_of (catalog_image catalog.now) brushes.now w t n) }
+    ensures none { IfNone result (All (λ choice. ¬ AreAlike (catalog_image catalog.now) brushes.now t w choice.view) choices.now) }
 {
     for i in 0..choices.len() {
         if are_alike(catalog, brushes, t, w, choices[i].view) {

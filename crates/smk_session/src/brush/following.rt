@@ -192,11 +192,10 @@ fn fetch_source<'a, L: Ledger>(
     }
 }
 
-// Puts last a view with what it is made from, and its marks, by the rows selected for it on the table. These are worked out once.
+// Puts last a view with what it is made from, and its marks, by the rows selected for it on the table. These are worked out once. It passes the gate with the number of those that wait before it.
 fn fetch<'a, L: Ledger>(
     alloc: Global,
     refresh: &Refresh<'a>,
-    place: u32,
     w: u32,
     choices: &mut Vec<Choice>,
     waiting: &mut Vec<Fetched<'a>>,
@@ -216,6 +215,7 @@ fn fetch<'a, L: Ledger>(
     let chosen = &choices[at].rids;
     let source = fetch_source(alloc, refresh, w, chosen, steps)?;
     let marks = marks_now(alloc, refresh, w, chosen)?;
+    let place = waiting.len().min(u32::MAX as usize) as u32;
     waiting.push(Fetched {
         place,
         view: w,
@@ -321,20 +321,10 @@ fn follow_by<R: Threads + Sync, G: Gate + Sync, L: Ledger>(
     };
     let mut choices = Vec::new(work.alloc);
     let mut waiting = Vec::new(work.alloc);
-    let mut place = 0u32;
     for w in views {
         let all = due(work.alloc, most, &mut waiting);
         put_each(work, most, refresh, all, &mut followed)?;
-        fetch(
-            work.alloc,
-            refresh,
-            place,
-            *w,
-            &mut choices,
-            &mut waiting,
-            steps,
-        )?;
-        place = place.saturating_add(1);
+        fetch(work.alloc, refresh, *w, &mut choices, &mut waiting, steps)?;
     }
     put_each(work, most, refresh, waiting, &mut followed)?;
     Ok(followed)

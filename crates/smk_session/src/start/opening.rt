@@ -3,7 +3,6 @@ ghost use Rattle.std.specs.Prelude.{◌≡◌, ◌<◌, ◌≤◌, ◌+◌, None
 ghost use Rattle.std.specs.List.{sum_by};
 ghost use Rattle.smk_base.specs.CatalogImage.{catalog_image, view_image};
 ghost use Rattle.smk_base.specs.Places.{upto};
-ghost use Rattle.smk_base.specs.declared.workers.TheConstants.{WORKER_LIMIT};
 ghost use Rattle.smk_model.specs.Catalogs.{IsCatalog, ViewFits, each_table_kinds};
 ghost use Rattle.smk_model.specs.Looks.{looks_of_view};
 ghost use Rattle.smk_model.specs.NodeFaults.{NodeFault};
@@ -135,35 +134,24 @@ pub(crate) fn open_stocked<R: Threads + Sync, G: Gate + Sync>(
 
 /// The view with this number: its first content, and exactly the lineage that is needed for it; or its first node that is too big. Each row of a leaf is at most one look, also where it is refused.
 ///
-/// Lineage is captured by the body of `mode`, all in this thread with one worker, and above that in pieces of rows that may run at the same time; piece p passes the gate with p. There are at most 64 workers.
+/// Lineage is captured by the body of `mode`, all in this thread with one worker, and above that in pieces of rows that may run at the same time; piece p passes the gate with p.
 pub fn open_view<R: Threads + Sync, G: Gate + Sync, L: Ledger>(
-    rt: &R,
-    alloc: Global,
+    work: &Work<'_, R, Workers<'_, G>>,
     mode: Mode,
-    workers: u32,
-    gate: &G,
     book: &TypedBook,
     tables: &[Table],
     v: u32,
     steps: &mut Steps<L>,
 ) -> Result<Opened, StartFault>
     requires kinds { each_kinds tables.now ≡ each_table_kinds book.now.tables }
-    requires some_workers { 1 ≤ workers }
-    requires few_workers { workers ≤ WORKER_LIMIT }
     requires view { v < length book.now.views }
     ensures run { IfOk result (λ run. run ≡ opened (workbook_image book.now tables.now) v) }
     ensures none { OnOk result (view_fault (workbook_image book.now tables.now) v ≡ None) }
     ensures fault { IfErr result (λ e. IsStartFault e (view_fault (workbook_image book.now tables.now) v)) }
     ensures looks { steps.new ≤ steps.old + looks_of_view (workbook_image book.now tables.now) (view_at (workbook_image book.now tables.now).catalog v) }
 {
-    let stocked = stock(alloc, book, tables, v, steps)?;
-    let crew = Workers { gate, workers };
-    let work = Work {
-        rt,
-        alloc,
-        crew: &crew,
-    };
-    open_stocked(&work, mode, book, tables, stocked)
+    let stocked = stock(work.alloc, book, tables, v, steps)?;
+    open_stocked(work, mode, book, tables, stocked)
 }
 
 // A view that is opened beside others passes the gate first, with its number.
