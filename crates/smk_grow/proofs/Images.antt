@@ -44,8 +44,6 @@ grown_is session t more keeps low few =
       table = omega (arith, low, length-set {A = Relation});
       within = omega (arith, long);
       few = omega (arith, long, few);
-      some_workers = keeps.some_workers;
-      few_workers = keeps.few_workers;
     }
 
 -- and cut again, it is the session

@@ -1,7 +1,6 @@
 -- What the calls say that make views, splits and groupings over a longer table.
 use Rattle.std.specs.Prelude.{◌≡◌, ◌<◌, ◌≤◌, ℕ, List, length, map}
 use Rattle.smk_base.specs.Places.{upto}
-use Rattle.smk_base.specs.declared.workers.TheConstants.{WORKER_LIMIT}
 use Rattle.std.specs.List.{filter_map}
 use Rattle.smk_model.specs.Appends.{scanning}
 use Rattle.smk_model.specs.Catalogs.{each_table_kinds}
@@ -18,20 +17,19 @@ use Rattle.smk_grow.specs.declared.renewing.Fresh.{Fresh}
 -- a checked book over tables of its kinds, one of which grows
 pub record IsRenewal (renewal : Renewal) : Type 0 where
   pub kinds : each_kinds renewal.tables.now ≡ each_table_kinds renewal.book.now.tables
-  pub some_workers : 1 ≤ renewal.workers
-  pub few_workers : renewal.workers ≤ WORKER_LIMIT
   pub table : renewal.table < length renewal.tables.now
+  pub within : renewal.len ≤ length (rows_of renewal.tables.now renewal.table)
   pub few : length (rows_of renewal.tables.now renewal.table) ≤ row_limit
 
--- the book over the tables, over those without the rows behind so many of the one, and over those with only these
+-- the book over the tables, over those with only the old rows of the one, and over those with only the rows behind them
 abbrev pub book_of : Renewal → Workbook
 book_of renewal = workbook_image renewal.book.now renewal.tables.now
 
-abbrev pub first_book : Renewal → ℕ → Workbook
-first_book renewal len = workbook_image renewal.book.now (first_tables renewal.tables.now renewal.table len)
+abbrev pub first_book : Renewal → Workbook
+first_book renewal = workbook_image renewal.book.now (first_tables renewal.tables.now renewal.table renewal.len)
 
-abbrev pub last_book : Renewal → ℕ → Workbook
-last_book renewal len = workbook_image renewal.book.now (last_tables renewal.tables.now renewal.table len)
+abbrev pub last_book : Renewal → Workbook
+last_book renewal = workbook_image renewal.book.now (last_tables renewal.tables.now renewal.table renewal.len)
 
 -- what takes the place of what is kept over the tables without the new rows, and the views that scan the table
 pub record IsFresh (t : ℕ) (book : Workbook) (fresh : Fresh) : Type 0 where
@@ -55,8 +53,6 @@ pub record IsGrown (session : SessionImage) (t len : ℕ) : Type 0 where
   pub table : t < length session.tables
   pub within : len ≤ length (rows_of session.tables t)
   pub few : length (rows_of session.tables t) ≤ row_limit
-  pub some_workers : 1 ≤ session.workers
-  pub few_workers : session.workers ≤ WORKER_LIMIT
 
 abbrev pub last_of : SessionImage → ℕ → ℕ → Workbook
 last_of session t len = workbook_image session.catalog (last_tables session.tables t len)

@@ -13,10 +13,11 @@ ghost use Rattle.smk_grow.specs.Renewed.{apart_view, looks_apart};
 
 use crate::renewal::Renewal;
 use crate::scans::view_chains;
+use smk_body::Work;
 use smk_outside::{Gate, Steps};
-use smk_session::{Opened, Parts, StartFault, open_view};
+use smk_session::{Opened, Parts, StartFault, Workers, open_view};
 use smk_table::Table;
-use std::alloc::{AllocError, Global};
+use std::alloc::AllocError;
 use std::mem::swap;
 use std::sync::ledger::Ledger;
 use std::thread::Threads;
@@ -33,9 +34,7 @@ fn wanting(fault: StartFault) -> AllocError
 
 // A view over tables, if it is a growing chain on one of them. Such a chain is never too big, so that only memory can be wanting.
 fn view_apart<R: Threads + Sync, G: Gate + Sync, L: Ledger>(
-    rt: &R,
-    alloc: Global,
-    gate: &G,
+    work: &Work<'_, R, Workers<'_, G>>,
     renewal: &Renewal<'_>,
     v: u32,
     steps: &mut Steps<L>,
@@ -46,17 +45,7 @@ fn view_apart<R: Threads + Sync, G: Gate + Sync, L: Ledger>(
     ensures looks { steps.new ≤ steps.old + looks_apart renewal.now.table (catalog_image renewal.now.book.now) (length (rows_of renewal.now.tables.now renewal.now.table)) v }
 {
     if view_chains(renewal.book, renewal.table, v) {
-        match open_view(
-            rt,
-            alloc,
-            renewal.mode,
-            renewal.workers,
-            gate,
-            renewal.book,
-            renewal.tables,
-            v,
-            steps,
-        ) {
+        match open_view(work, renewal.mode, renewal.book, renewal.tables, v, steps) {
             Ok(opened) => Ok(Some(opened)),
             Err(fault) => Err(wanting(fault)),
         }
@@ -67,9 +56,7 @@ fn view_apart<R: Threads + Sync, G: Gate + Sync, L: Ledger>(
 
 // All views over tables that are growing chains on one of them, each in the place of its view.
 fn each_apart<R: Threads + Sync, G: Gate + Sync, L: Ledger>(
-    rt: &R,
-    alloc: Global,
-    gate: &G,
+    work: &Work<'_, R, Workers<'_, G>>,
     renewal: &Renewal<'_>,
     steps: &mut Steps<L>,
 ) -> Result<Vec<Option<Opened>>, AllocError>
@@ -78,18 +65,16 @@ fn each_apart<R: Threads + Sync, G: Gate + Sync, L: Ledger>(
     ensures looks { steps.new ≤ steps.old + sum_by (looks_apart renewal.now.table (catalog_image renewal.now.book.now) (length (rows_of renewal.now.tables.now renewal.now.table))) (upto (length (book_of renewal.now).catalog.views)) }
 {
     let count = renewal.book.catalog().views.as_slice().len();
-    let mut views = Vec::with_capacity(alloc, count)?;
+    let mut views = Vec::with_capacity(work.alloc, count)?;
     for v in 0..count as u32 {
-        views.push(view_apart(rt, alloc, gate, renewal, v, steps)?)?;
+        views.push(view_apart(work, renewal, v, steps)?)?;
     }
     Ok(views)
 }
 
 // The views of a session that are growing chains on a table, over tables in which only new rows stand for it. The session and the new rows are as before.
 pub(crate) fn open_apart<R: Threads + Sync, G: Gate + Sync, L: Ledger>(
-    rt: &R,
-    alloc: Global,
-    gate: &G,
+    work: &Work<'_, R, Workers<'_, G>>,
     parts: &mut Parts,
     table: u32,
     more: &mut Table,
@@ -111,10 +96,10 @@ pub(crate) fn open_apart<R: Threads + Sync, G: Gate + Sync, L: Ledger>(
         book: &parts.book,
         tables: &*tables,
         table,
+        len: 0,
         mode: parts.mode,
-        workers: parts.workers,
     };
-    let views = each_apart(rt, alloc, gate, &renewal, steps);
+    let views = each_apart(work, &renewal, steps);
     swap(&mut tables[table as usize], more);
     views
 }

@@ -12,8 +12,9 @@ ghost use Rattle.smk_grow.specs.Told.{told_text};
 use crate::growing::grow_within;
 use crate::said::refused_text;
 use smk_base::{AppendRefusal, AppendReply, Text};
+use smk_body::Work;
 use smk_outside::{Gate, Steps};
-use smk_session::Session;
+use smk_session::{Session, Workers};
 use smk_table::Table;
 use std::alloc::{AllocError, Global};
 use std::sync::ledger::Ledger;
@@ -21,13 +22,11 @@ use std::thread::Threads;
 
 // What is appended to a table by its number, with the text of what is added where its name is given.
 fn append_at<R: Threads + Sync, G: Gate + Sync, L: Ledger>(
-    rt: &R,
-    alloc: Global,
+    work: &Work<'_, R, Workers<'_, G>>,
     session: Session,
     table: u32,
     more: Table,
     said: Option<&Text>,
-    gate: &G,
     steps: &mut Steps<L>,
 ) -> (Session, Result<(AppendReply, Vec<u8>), AllocError>)
     requires table { table < length session.catalog.tables }
@@ -40,19 +39,17 @@ fn append_at<R: Threads + Sync, G: Gate + Sync, L: Ledger>(
     ensures looks { steps.new ≤ steps.old + append_looks_at (catalog_image session.catalog) (state_of session) more.rows (Some table) }
 {
     let mut parts = session.into_parts();
-    let told = grow_within(rt, alloc, gate, &mut parts, table, more, said, steps);
+    let told = grow_within(work, &mut parts, table, more, said, steps);
     (Session::from_parts(parts), told)
 }
 
 // The same by the table's name, with the text of what is added where `said` is that name.
 fn append_by_name<R: Threads + Sync, G: Gate + Sync, L: Ledger>(
-    rt: &R,
-    alloc: Global,
+    work: &Work<'_, R, Workers<'_, G>>,
     session: Session,
     table: &Text,
     more: Table,
     said: Option<&Text>,
-    gate: &G,
     steps: &mut Steps<L>,
 ) -> (Session, Result<(AppendReply, Vec<u8>), AllocError>)
     requires kinds { (t : ℕ) → table_place (catalog_image session.catalog) table.now ≡ Some t → more.kinds ≡ table_kinds (info_at session.catalog.tables t) }
@@ -67,10 +64,10 @@ fn append_by_name<R: Threads + Sync, G: Gate + Sync, L: Ledger>(
     ensures looks { steps.new ≤ steps.old + append_looks (catalog_image session.catalog) (state_of session) table.now more.rows }
 {
     match session.catalog().table_place(table) {
-        Some(t) => append_at(rt, alloc, session, t as u32, more, said, gate, steps),
+        Some(t) => append_at(work, session, t as u32, more, said, steps),
         None => {
             let refusal = AppendRefusal::UnknownTable;
-            let told = (AppendReply::Refused(refusal), Vec::new(alloc));
+            let told = (AppendReply::Refused(refusal), Vec::new(work.alloc));
             (session, Ok(told))
         }
     }
@@ -98,7 +95,13 @@ pub fn append<R: Threads + Sync, G: Gate + Sync, L: Ledger>(
     ensures workers { result.0.workers ≡ session.workers }
     ensures looks { steps.new ≤ steps.old + append_looks (catalog_image session.catalog) (state_of session) table.now more.rows }
 {
-    let (session, told) = append_by_name(rt, alloc, session, table, more, None, gate, steps);
+    let crew = session.crew(gate);
+    let work = Work {
+        rt,
+        alloc,
+        crew: &crew,
+    };
+    let (session, told) = append_by_name(&work, session, table, more, None, steps);
     match told {
         Ok((reply, _)) => (session, Ok(reply)),
         Err(error) => (session, Err(error)),
@@ -145,8 +148,13 @@ pub fn append_told<R: Threads + Sync, G: Gate + Sync, L: Ledger>(
     ensures workers { result.0.workers ≡ session.workers }
     ensures looks { steps.new ≤ steps.old + append_looks (catalog_image session.catalog) (state_of session) table.now more.rows }
 {
-    let said = Some(table);
-    let (session, told) = append_by_name(rt, alloc, session, table, more, said, gate, steps);
+    let crew = session.crew(gate);
+    let work = Work {
+        rt,
+        alloc,
+        crew: &crew,
+    };
+    let (session, told) = append_by_name(&work, session, table, more, Some(table), steps);
     match told {
         Ok((reply, text)) => match whole_text(alloc, &session, table, &reply, text) {
             Ok(text) => (session, Ok((reply, text))),

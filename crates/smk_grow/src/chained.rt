@@ -1,7 +1,6 @@
 // A view that is a growing chain, over a table that has grown.
-ghost use Rattle.std.specs.Prelude.{◌≡◌, ◌<◌, ◌≤◌, true, length, IfOk};
+ghost use Rattle.std.specs.Prelude.{◌≡◌, ◌<◌, true, length, IfOk};
 ghost use Rattle.smk_session.specs.Sessions.{opened};
-ghost use Rattle.smk_grow.specs.Grown.{rows_of};
 ghost use Rattle.smk_grow.specs.Renewals.{IsRenewal, book_of, first_book, last_book};
 ghost use Rattle.smk_grow.specs.Renewed.{chains};
 
@@ -15,20 +14,19 @@ use std::alloc::{AllocError, Global};
 pub(crate) fn grown_view(
     alloc: Global,
     renewal: &Renewal<'_>,
-    len: u32,
     v: u32,
     old: &Opened,
     new: &Opened,
 ) -> Result<Opened, AllocError>
     requires renewal { IsRenewal renewal.now }
     requires view { v < length renewal.now.book.now.views }
-    requires len { len ≤ length (rows_of renewal.now.tables.now renewal.now.table) }
     requires chains { chains (book_of renewal.now).catalog renewal.now.table v ≡ true }
-    requires old { old.now ≡ opened (first_book renewal.now len) v }
-    requires new { new.now ≡ opened (last_book renewal.now len) v }
+    requires old { old.now ≡ opened (first_book renewal.now) v }
+    requires new { new.now ≡ opened (last_book renewal.now) v }
     ensures { IfOk result (λ run. run ≡ opened (book_of renewal.now) v) }
 {
     let need = needed(alloc, renewal.book, v)?;
     let view = view_of(renewal.book.catalog(), v);
+    let len = renewal.len;
     grown(alloc, &view.plan, &need, renewal.tables, len, old, new)
 }

@@ -6,9 +6,10 @@ ghost use Rattle.smk_session.specs.Making.{IsOpened, book_in, looks_wanted, spli
 ghost use Rattle.smk_grow.specs.Renewed.{if_depends, split_again, cubes_again};
 
 use smk_base::BackExtra;
-use smk_outside::Steps;
+use smk_body::Work;
+use smk_outside::{Gate, Steps};
 use smk_push::Cubes;
-use smk_session::{Extras, Opening, make_extras, wants};
+use smk_session::{Extras, Opening, Workers, make_extras, wants};
 use smk_skip::Split;
 use std::alloc::{AllocError, Global};
 use std::collections::VecDeque;
@@ -61,19 +62,16 @@ fn spread(alloc: Global, opening: &Opening<'_>, made: Extras) -> Result<FreshExt
 }
 
 // What takes the places of all splits and groupings, in the order of their declarations.
-pub(crate) fn fresh_extras<R: Threads + Sync, L: Ledger>(
-    rt: &R,
-    alloc: Global,
-    workers: u32,
+pub(crate) fn fresh_extras<R: Threads + Sync, G: Gate + Sync, L: Ledger>(
+    work: &Work<'_, R, Workers<'_, G>>,
     opening: &Opening<'_>,
     steps: &mut Steps<L>,
 ) -> Result<FreshExtras, AllocError>
-    requires workers { 1 ≤ workers }
-    requires opened { IsOpened opening.now }
+    requires { IsOpened opening.now }
     ensures splits { IfOk result (λ made. made.splits.items ≡ filter_map (split_again opening.now.grown (book_in opening.now)) opening.now.book.now.backs) }
     ensures cubes { IfOk result (λ made. made.cubes.items ≡ filter_map (cubes_again opening.now.grown (book_in opening.now)) opening.now.book.now.backs) }
     ensures looks { steps.new ≤ steps.old + sum_by (looks_wanted (book_in opening.now) opening.now.grown) opening.now.book.now.backs }
 {
-    let made = make_extras(rt, alloc, workers, opening, steps)?;
-    spread(alloc, opening, made)
+    let made = make_extras(work.rt, work.alloc, work.crew.workers, opening, steps)?;
+    spread(work.alloc, opening, made)
 }

@@ -17,12 +17,13 @@ ghost use Rattle.smk_grow.specs.Told.{told_text};
 use crate::apart::open_apart;
 use crate::moving::move_views;
 use crate::refusing::refused;
-use crate::renewal::Renewal;
+use crate::renewal::{Append, Renewal};
 use crate::renewing::{Fresh, renew_told};
 use crate::replacing::{forget, release, replace};
 use smk_base::{AppendRefusal, AppendReply, ROW_LIMIT, Rids, Text};
+use smk_body::Work;
 use smk_outside::{Gate, Steps};
-use smk_session::{Opened, Parts};
+use smk_session::{Opened, Parts, Workers};
 use smk_table::Table;
 use std::alloc::{AllocError, Global};
 use std::sync::ledger::Ledger;
@@ -100,61 +101,44 @@ fn commit(parts: &mut Parts, table: u32, len: u32, fresh: Fresh) -> Rids
 
 // What a session keeps, made anew over a table that has been lengthened, with the text of what is added where the table's name is given. After a refusal and an error the table is cut to so many rows, and all views are those over these.
 fn renew_parts<R: Threads + Sync, G: Gate + Sync, L: Ledger>(
-    rt: &R,
-    alloc: Global,
-    gate: &G,
+    work: &Work<'_, R, Workers<'_, G>>,
     parts: &mut Parts,
-    table: u32,
-    len: u32,
-    rows: u32,
+    append: &Append<'_>,
     apart: &[Option<Opened>],
-    said: Option<&Text>,
     steps: &mut Steps<L>,
 ) -> Result<(AppendReply, Vec<u8>), AllocError>
-    requires grown { IsGrown (parts_image parts.old) table len }
-    requires apart { apart.now ≡ map (apart_view table (last_of (parts_image parts.old) table len)) (upto (length (workbook_of (parts_image parts.old)).catalog.views)) }
-    ensures reply { IfOk result (λ told. told.0 ≡ told_unless (first_some (view_fault (workbook_of (parts_image parts.old))) (scanning (workbook_of (parts_image parts.old)).catalog table)) rows (scanning (workbook_of (parts_image parts.old)).catalog table)) }
-    ensures text { IfOk result (λ told. told.1.items ≡ told_text (option_map (λ name. name.now) said.entry) (workbook_of (parts_image parts.new)) told.0) }
-    ensures after { OnOk result (parts_image parts.new ≡ renewed_unless (first_some (view_fault (workbook_of (parts_image parts.old))) (scanning (workbook_of (parts_image parts.old)).catalog table)) table len (parts_image parts.old)) }
-    ensures kept { OnErr result (parts_image parts.new ≡ shortened table len (parts_image parts.old)) }
-    ensures looks { steps.new ≤ steps.old + sum_by (looks_again table (workbook_of (parts_image parts.old))) (upto (length (workbook_of (parts_image parts.old)).catalog.views)) + sum_by (looks_of_declared table (workbook_of (parts_image parts.old))) (workbook_of (parts_image parts.old)).catalog.backs }
+    requires grown { IsGrown (parts_image parts.old) append.now.table append.now.len }
+    requires apart { apart.now ≡ map (apart_view append.now.table (last_of (parts_image parts.old) append.now.table append.now.len)) (upto (length (workbook_of (parts_image parts.old)).catalog.views)) }
+    ensures reply { IfOk result (λ told. told.0 ≡ told_unless (first_some (view_fault (workbook_of (parts_image parts.old))) (scanning (workbook_of (parts_image parts.old)).catalog append.now.table)) append.now.rows (scanning (workbook_of (parts_image parts.old)).catalog append.now.table)) }
+    ensures text { IfOk result (λ told. told.1.items ≡ told_text (option_map (λ name. name.now) append.now.said) (workbook_of (parts_image parts.new)) told.0) }
+    ensures after { OnOk result (parts_image parts.new ≡ renewed_unless (first_some (view_fault (workbook_of (parts_image parts.old))) (scanning (workbook_of (parts_image parts.old)).catalog append.now.table)) append.now.table append.now.len (parts_image parts.old)) }
+    ensures kept { OnErr result (parts_image parts.new ≡ shortened append.now.table append.now.len (parts_image parts.old)) }
+    ensures looks { steps.new ≤ steps.old + sum_by (looks_again append.now.table (workbook_of (parts_image parts.old))) (upto (length (workbook_of (parts_image parts.old)).catalog.views)) + sum_by (looks_of_declared append.now.table (workbook_of (parts_image parts.old))) (workbook_of (parts_image parts.old)).catalog.backs }
 {
     let renewal = Renewal {
         book: &parts.book,
         tables: parts.tables.as_slice(),
-        table,
+        table: append.table,
+        len: append.len,
         mode: parts.mode,
-        workers: parts.workers,
     };
-    let made = renew_told(
-        rt,
-        alloc,
-        gate,
-        &renewal,
-        len,
-        rows,
-        parts.views.as_slice(),
-        apart,
-        said,
-        steps,
-    );
-    match made {
+    let olds = parts.views.as_slice();
+    match renew_told(work, &renewal, append, olds, apart, steps) {
         Ok((fresh, text)) => {
-            let views = commit(parts, table, len, fresh);
+            let views = commit(parts, append.table, append.len, fresh);
+            let rows = append.rows;
             Ok((AppendReply::Added { rows, views }, text))
         }
         Err(fault) => {
-            shorten_parts(alloc, parts, table, len);
-            refused(alloc, fault)
+            shorten_parts(work.alloc, parts, append.table, append.len);
+            refused(work.alloc, fault)
         }
     }
 }
 
 // Appends rows that fit to a table of a session.
 fn grow<R: Threads + Sync, G: Gate + Sync, L: Ledger>(
-    rt: &R,
-    alloc: Global,
-    gate: &G,
+    work: &Work<'_, R, Workers<'_, G>>,
     parts: &mut Parts,
     table: u32,
     more: Table,
@@ -173,27 +157,20 @@ fn grow<R: Threads + Sync, G: Gate + Sync, L: Ledger>(
 {
     let rows = more.len();
     let mut more = more;
-    let apart = open_apart(rt, alloc, gate, parts, table, &mut more, steps)?;
-    let len = lengthen_parts(alloc, parts, table, more)?;
-    renew_parts(
-        rt,
-        alloc,
-        gate,
-        parts,
+    let apart = open_apart(work, parts, table, &mut more, steps)?;
+    let len = lengthen_parts(work.alloc, parts, table, more)?;
+    let append = Append {
         table,
         len,
         rows,
-        apart.as_slice(),
         said,
-        steps,
-    )
+    };
+    renew_parts(work, parts, &append, apart.as_slice(), steps)
 }
 
 // Appends rows to a table of a session, unless they are too many together.
 pub(crate) fn grow_within<R: Threads + Sync, G: Gate + Sync, L: Ledger>(
-    rt: &R,
-    alloc: Global,
-    gate: &G,
+    work: &Work<'_, R, Workers<'_, G>>,
     parts: &mut Parts,
     table: u32,
     more: Table,
@@ -212,8 +189,8 @@ pub(crate) fn grow_within<R: Threads + Sync, G: Gate + Sync, L: Ledger>(
     let together = parts.tables[table as usize].len() as u64 + more.len() as u64;
     if together > ROW_LIMIT as u64 {
         let refusal = AppendRefusal::TableRows;
-        Ok((AppendReply::Refused(refusal), Vec::new(alloc)))
+        Ok((AppendReply::Refused(refusal), Vec::new(work.alloc)))
     } else {
-        grow(rt, alloc, gate, parts, table, more, said, steps)
+        grow(work, parts, table, more, said, steps)
     }
 }

@@ -19,9 +19,8 @@ each_apart-views-requires-clause-renewal g c κs within =
     let rows = rows_set tables t there low in
     record {
       kinds = kinds_set tables t there (ap (λ (r : Relation). r.kinds) is ∙ c.requires.more ∙ ap (λ (T : List Relation). (table_of T t).kinds) (sym of)) ∙ ap each_kinds of ∙ c.requires.keeps.opened.kinds;
-      some_workers = c.requires.keeps.some_workers;
-      few_workers = c.requires.keeps.few_workers;
       table = omega (arith, low, long_set tables t there);
+      within = omega arith;
       few = omega (arith, ap length rows, ap (λ (r : Relation). length r.rows) is, c.len-rows.ensures.keeps.few_rows);
     }
 

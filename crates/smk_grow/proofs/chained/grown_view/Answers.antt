@@ -38,13 +38,13 @@ grown-requires-clause-len c =
     let r = c.args.renewal.now in
     let view = c.view_of-view.result.now in
     let of = chain_of r.book.now c.catalog.result.now r.tables.now r.table c.args.v view c.in_ok-need.need c.catalog.ensures.value c.view_of-view.ensures.view c.view_of-view.ensures.fits c.requires.renewal.kinds c.in_ok-need.ensures.needs c.requires.renewal.table c.requires.chains in
-    subst (λ (n : ℕ). c.args.len ≤ n) (sym (chain_long r.book.now r.tables.now r.table c.args.v view c.in_ok-need.need of)) c.requires.len
+    subst (λ (n : ℕ). r.len ≤ n) (sym (chain_long r.book.now r.tables.now r.table c.args.v view c.in_ok-need.need of)) c.requires.renewal.within
 
 pub grown-requires-clause-old : goal.grown-requires-clause-old
 grown-requires-clause-old c =
     let r = c.args.renewal.now in
     let view = c.view_of-view.result.now in
-    before_is r.book.now r.tables.now r.table c.args.v c.args.len view c.in_ok-need.need c.args.old.now
+    before_is r.book.now r.tables.now r.table c.args.v r.len view c.in_ok-need.need c.args.old.now
     (chain_of r.book.now c.catalog.result.now r.tables.now r.table c.args.v view c.in_ok-need.need c.catalog.ensures.value c.view_of-view.ensures.view c.view_of-view.ensures.fits c.requires.renewal.kinds c.in_ok-need.ensures.needs c.requires.renewal.table c.requires.chains)
     c.requires.old
 
@@ -52,7 +52,7 @@ pub grown-requires-clause-new : goal.grown-requires-clause-new
 grown-requires-clause-new c =
     let r = c.args.renewal.now in
     let view = c.view_of-view.result.now in
-    behind_is r.book.now r.tables.now r.table c.args.v c.args.len view c.in_ok-need.need c.args.new.now
+    behind_is r.book.now r.tables.now r.table c.args.v r.len view c.in_ok-need.need c.args.new.now
     (chain_of r.book.now c.catalog.result.now r.tables.now r.table c.args.v view c.in_ok-need.need c.catalog.ensures.value c.view_of-view.ensures.view c.view_of-view.ensures.fits c.requires.renewal.kinds c.in_ok-need.ensures.needs c.requires.renewal.table c.requires.chains)
     c.requires.new
 

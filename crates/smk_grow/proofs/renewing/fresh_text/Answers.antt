@@ -15,4 +15,4 @@ added_now-requires-clause-scanning g c κs within =
 pub added_now-requires-clause-views : goal.added_now-requires-clause-views
 added_now-requires-clause-views g c κs within =
     let r = c.args.renewal.now in
-    now_opened r.book.now r.tables.now c.args.olds.now c.as_slice.result.now r.table (first_book r c.args.len) c.requires.renewal.kinds c.requires.olds (c.as_slice.ensures.value ∙ c.requires.fresh.views)
+    now_opened r.book.now r.tables.now c.args.olds.now c.as_slice.result.now r.table (first_book r) c.requires.renewal.kinds c.requires.olds (c.as_slice.ensures.value ∙ c.requires.fresh.views)

@@ -14,7 +14,7 @@ one_fresh-requires-clause-old g c κs within =
     let r = c.args.renewal.now in
     let count = c.as_slice-count.ensures ∙ ap (λ (k : Catalog). k.views) c.catalog.ensures.value in
     let low : c.loop-v.v < length r.book.now.views = omega (arith, c.loop-v-test.true, ap (length {A = ViewInfo}) count) in
-    let here = at_view r.book.now (kept_view r.table (first_book r c.args.len) (book_of r)) c.args.olds.now c.loop-v.v c.index-olds-v.result c.requires.olds low c.index-olds-v.is in
+    let here = at_view r.book.now (kept_view r.table (first_book r) (book_of r)) c.args.olds.now c.loop-v.v c.index-olds-v.result c.requires.olds low c.index-olds-v.is in
     cc (here, c.index-olds-v.is)
 
 pub one_fresh-requires-clause-apart : goal.one_fresh-requires-clause-apart
@@ -22,20 +22,20 @@ one_fresh-requires-clause-apart g c κs within =
     let r = c.args.renewal.now in
     let count = c.as_slice-count.ensures ∙ ap (λ (k : Catalog). k.views) c.catalog.ensures.value in
     let low : c.loop-v.v < length r.book.now.views = omega (arith, c.loop-v-test.true, ap (length {A = ViewInfo}) count) in
-    let here = at_view r.book.now (apart_view r.table (last_book r c.args.len)) c.args.apart.now c.loop-v.v c.index-apart-v.result c.requires.apart low c.index-apart-v.is in
+    let here = at_view r.book.now (apart_view r.table (last_book r)) c.args.apart.now c.loop-v.v c.index-apart-v.result c.requires.apart low c.index-apart-v.is in
     cc (here, c.index-apart-v.is)
 
 pub bounds-olds-v : goal.bounds-olds-v
 bounds-olds-v g c =
     let r = c.args.renewal.now in
     let count = c.as_slice-count.ensures ∙ ap (λ (k : Catalog). k.views) c.catalog.ensures.value in
-    omega (arith, c.loop-v-test.true, ap (length {A = ViewInfo}) count, long_views r.book.now (kept_view r.table (first_book r c.args.len) (book_of r)) c.args.olds.now c.requires.olds)
+    omega (arith, c.loop-v-test.true, ap (length {A = ViewInfo}) count, long_views r.book.now (kept_view r.table (first_book r) (book_of r)) c.args.olds.now c.requires.olds)
 
 pub bounds-apart-v : goal.bounds-apart-v
 bounds-apart-v g c =
     let r = c.args.renewal.now in
     let count = c.as_slice-count.ensures ∙ ap (λ (k : Catalog). k.views) c.catalog.ensures.value in
-    omega (arith, c.loop-v-test.true, ap (length {A = ViewInfo}) count, long_views r.book.now (apart_view r.table (last_book r c.args.len)) c.args.apart.now c.requires.apart)
+    omega (arith, c.loop-v-test.true, ap (length {A = ViewInfo}) count, long_views r.book.now (apart_view r.table (last_book r)) c.args.apart.now c.requires.apart)
 
 pub returns-in_err-one_fresh-clause-fault : goal.returns-in_err-one_fresh-clause-fault
 returns-in_err-one_fresh-clause-fault g c =
