@@ -11,8 +11,9 @@ ghost use Rattle.smk_base.specs.declared.reply.Reply.TheVariants.{Back};
 ghost use Rattle.smk_session.specs.Sessions.{state_of};
 
 use smk_base::{Group, Groups, Line, Marks, Reply, Rids, Text, Then};
+use smk_body::Work;
 use smk_outside::{Gate, Steps};
-use smk_session::Session;
+use smk_session::{Session, Workers};
 use std::alloc::{AllocError, Global};
 use std::sync::ledger::Ledger;
 use std::thread::Threads;
@@ -57,11 +58,9 @@ fn put_mark(line: &mut Line, mark: u32) -> Result<(), AllocError>
 
 // The rows that a mark of a view came from, where the `back` line for it is answered by rows. The session stays as it is.
 fn mark_group<R: Threads + Sync, G: Gate + Sync, L: Ledger>(
-    rt: &R,
-    alloc: Global,
+    work: &Work<'_, R, Workers<'_, G>>,
     session: &mut Session,
     line: &Line,
-    gate: &G,
     steps: &mut Steps<L>,
 ) -> Result<Group, AllocError>
     requires answered { IsAnsweredByRows (catalog_image session.old.catalog) (state_of session.old) line.now }
@@ -69,7 +68,7 @@ fn mark_group<R: Threads + Sync, G: Gate + Sync, L: Ledger>(
     ensures same { session.new ≡ session.old }
     ensures looks { steps.new ≤ steps.old + line_looks (catalog_image session.old.catalog) (state_of session.old) line.now }
 {
-    match session.answer(rt, alloc, line, gate, steps)? {
+    match session.answer(work.rt, work.alloc, line, work.crew.gate, steps)? {
         Reply::Back { rids, rows } => Ok(Group { rids, rows }),
         Reply::View { .. }
         | Reply::Grouped { .. }
@@ -83,13 +82,11 @@ fn mark_group<R: Threads + Sync, G: Gate + Sync, L: Ledger>(
 
 /// The rows that each mark of the view of a dependency came from, in the order of the marks, by the `back` lines for them: the line for one of them, in which each mark is put in turn. The session stays as it is.
 pub(crate) fn mark_groups<R: Threads + Sync, G: Gate + Sync, L: Ledger>(
-    rt: &R,
-    alloc: Global,
+    work: &Work<'_, R, Workers<'_, G>>,
     session: &mut Session,
     view: &Text,
     v: u32,
     line: &mut Line,
-    gate: &G,
     steps: &mut Steps<L>,
 ) -> Result<Groups, AllocError>
     requires within { v < length session.old.catalog.views }
@@ -101,10 +98,10 @@ pub(crate) fn mark_groups<R: Threads + Sync, G: Gate + Sync, L: Ledger>(
     ensures looks { steps.new ≤ steps.old + looks_of_groups (groups_of (catalog_image session.old.catalog) (state_of session.old) (shown_by (catalog_image session.old.catalog) v)) }
 {
     let count = session.first(v).len();
-    let mut groups = Groups::new(alloc);
+    let mut groups = Groups::new(work.alloc);
     for mark in 0..count {
         put_mark(line, mark)?;
-        let group = mark_group(rt, alloc, session, line, gate, steps)?;
+        let group = mark_group(work, session, line, steps)?;
         groups.push(group)?;
     }
     Ok(groups)

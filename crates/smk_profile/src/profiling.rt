@@ -11,8 +11,9 @@ ghost use Rattle.smk_session.specs.Sessions.{state_of};
 
 use crate::marks::{mark_groups, mark_line};
 use smk_base::{Catalog, Names, Plan, ProfileRefusal, ProfileReply, Text};
+use smk_body::Work;
 use smk_outside::{Gate, Steps};
-use smk_session::Session;
+use smk_session::{Session, Workers};
 use std::alloc::{AllocError, Global};
 use std::sync::ledger::Ledger;
 use std::thread::Threads;
@@ -58,12 +59,10 @@ fn table_shown(catalog: &Catalog, v: u32) -> u32
 
 // What violates the dependency that a view shows. The session stays as it is.
 fn found<R: Threads + Sync, G: Gate + Sync, L: Ledger>(
-    rt: &R,
-    alloc: Global,
+    work: &Work<'_, R, Workers<'_, G>>,
     session: &mut Session,
     view: &Text,
     v: u32,
-    gate: &G,
     steps: &mut Steps<L>,
 ) -> Result<ProfileReply, AllocError>
     requires within { v < length session.old.catalog.views }
@@ -75,8 +74,8 @@ fn found<R: Threads + Sync, G: Gate + Sync, L: Ledger>(
 {
     let table = table_shown(session.catalog(), v);
     let name = &session.catalog().tables.as_slice()[table as usize].name;
-    let mut line = mark_line(alloc, view, name, 0)?;
-    let made = mark_groups(rt, alloc, session, view, v, &mut line, gate, steps);
+    let mut line = mark_line(work.alloc, view, name, 0)?;
+    let made = mark_groups(work, session, view, v, &mut line, steps);
     drop(line);
     Ok(ProfileReply::Found {
         table,
@@ -105,7 +104,13 @@ pub fn profile<R: Threads + Sync, G: Gate + Sync, L: Ledger>(
         None => Ok(ProfileReply::Refused(ProfileRefusal::UnknownView)),
         Some(v) => {
             if is_among(line, fds) {
-                found(rt, alloc, session, line, v as u32, gate, steps)
+                let crew = session.crew(gate);
+                let work = Work {
+                    rt,
+                    alloc,
+                    crew: &crew,
+                };
+                found(&work, session, line, v as u32, steps)
             } else {
                 Ok(ProfileReply::Refused(ProfileRefusal::NotProfile))
             }
