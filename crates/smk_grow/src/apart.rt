@@ -13,7 +13,7 @@ ghost use Rattle.smk_grow.specs.Renewed.{apart_view, looks_apart};
 
 use crate::renewal::Renewal;
 use crate::scans::view_chains;
-use smk_body::Work;
+use smk_jobs::Work;
 use smk_outside::{Gate, Steps};
 use smk_session::{Opened, Parts, StartFault, Workers, open_view};
 use smk_table::Table;

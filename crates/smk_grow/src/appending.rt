@@ -12,7 +12,7 @@ ghost use Rattle.smk_grow.specs.Told.{told_text};
 use crate::growing::grow_within;
 use crate::said::refused_text;
 use smk_base::{AppendRefusal, AppendReply, Text};
-use smk_body::Work;
+use smk_jobs::Work;
 use smk_outside::{Gate, Steps};
 use smk_session::{Session, Workers};
 use smk_table::Table;

@@ -6,7 +6,7 @@ ghost use Rattle.smk_session.specs.Making.{IsOpened, book_in, looks_wanted, spli
 ghost use Rattle.smk_grow.specs.Renewed.{if_depends, split_again, cubes_again};
 
 use smk_base::BackExtra;
-use smk_body::Work;
+use smk_jobs::Work;
 use smk_outside::{Gate, Steps};
 use smk_push::Cubes;
 use smk_session::{Extras, Opening, Workers, make_extras, wants};

@@ -21,7 +21,7 @@ use crate::renewal::{Append, Renewal};
 use crate::renewing::{Fresh, renew_told};
 use crate::replacing::{forget, release, replace};
 use smk_base::{AppendRefusal, AppendReply, ROW_LIMIT, Rids, Text};
-use smk_body::Work;
+use smk_jobs::Work;
 use smk_outside::{Gate, Steps};
 use smk_session::{Opened, Parts, Workers};
 use smk_table::Table;

@@ -15,7 +15,7 @@ use crate::scans::scanning_views;
 use crate::telling::added_now;
 use crate::views::each_fresh;
 use smk_base::Rids;
-use smk_body::Work;
+use smk_jobs::Work;
 use smk_outside::{Gate, Steps};
 use smk_session::{Opened, Opening, StartFault, Workers};
 use std::alloc::AllocError;

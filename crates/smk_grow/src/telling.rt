@@ -8,7 +8,7 @@ ghost use Rattle.smk_session.specs.Making.{IsOpened, book_in};
 
 use crate::said::added_line;
 use smk_base::Text;
-use smk_body::Work;
+use smk_jobs::Work;
 use smk_outside::Gate;
 use smk_report::view_text_in_pieces;
 use smk_session::{Opening, Workers, view_now, view_of};

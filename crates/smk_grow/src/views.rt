@@ -9,7 +9,7 @@ ghost use Rattle.smk_grow.specs.Renewed.{apart_view, chains, fresh_view, kept_vi
 
 use crate::chained::grown_view;
 use crate::renewal::Renewal;
-use smk_body::Work;
+use smk_jobs::Work;
 use smk_outside::{Gate, Steps};
 use smk_session::{Opened, StartFault, Workers, open_view, view_scans};
 use std::sync::ledger::Ledger;

@@ -11,7 +11,7 @@ ghost use Rattle.smk_base.specs.declared.reply.Reply.TheVariants.{Back};
 ghost use Rattle.smk_session.specs.Sessions.{state_of};
 
 use smk_base::{Group, Groups, Line, Marks, Reply, Rids, Text, Then};
-use smk_body::Work;
+use smk_jobs::Work;
 use smk_outside::{Gate, Steps};
 use smk_session::{Session, Workers};
 use std::alloc::{AllocError, Global};

@@ -11,7 +11,7 @@ ghost use Rattle.smk_session.specs.Sessions.{state_of};
 
 use crate::marks::{mark_groups, mark_line};
 use smk_base::{Catalog, Names, Plan, ProfileRefusal, ProfileReply, Text};
-use smk_body::Work;
+use smk_jobs::Work;
 use smk_outside::{Gate, Steps};
 use smk_session::{Session, Workers};
 use std::alloc::{AllocError, Global};
