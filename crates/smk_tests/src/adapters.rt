@@ -87,7 +87,7 @@ impl<'t> Write for Narrow<'t> {
 }
 
 #[test]
-fn writes_in_pieces_up_to_a_fault(rt: HostRuntime) -> Result<(), Fail> {
+fn writes_in_pieces_up_to_a_fault_or_the_room(rt: HostRuntime) -> Result<(), Fail> {
     // the room, the byte at which the stream breaks, how many bytes are taken, and whether the put is whole
     for (room, broken, taken, whole) in [
         (9, 9, 7, true),
@@ -108,11 +108,6 @@ fn writes_in_pieces_up_to_a_fault(rt: HostRuntime) -> Result<(), Fail> {
         drop(sink);
         assert_eq!(rt; (result.is_ok(), count), (*whole, *taken));
     }
-    Ok(())
-}
-
-#[test]
-fn writes_up_to_a_failure_or_the_room(rt: HostRuntime) -> Result<(), Fail> {
     let fails = Vec::from_slice(rt.alloc(), [(1, 0), (2, 1), (3, 9)].as_slice())?;
     let mut sink = MemSink::new(rt.alloc(), fails, 8)?;
     // the piece, whether all of it is written by a call that doesn't fail, and all bytes after it

@@ -2,11 +2,12 @@
 
 ghost use Rattle.std.specs.Prelude.{◌≡◌, ◌<◌};
 
-use crate::runs::{put, ran_over};
-use crate::sessions::{line_of, started};
+use crate::opened::{Opened, open_book};
+use crate::runs::ran_over;
 use crate::shop::{BOOK, REGIONS, SALES};
 use smk_base::Line;
-use smk_outside::{MemFiles, Steps};
+use smk_outside::{Idle, Steps};
+use smk_parse::parse_line;
 use smk_report::reply_text;
 use smk_session::{Mode, Session};
 use smk_test_bodies::Meeting;
@@ -19,36 +20,6 @@ use std::thread::Threads;
 
 const SCRIPT: &[u8] = b"brush by_region 0 on sales\nbrush big 0 on sales\nclear\n";
 
-// The files of the shop.
-fn files(alloc: Global) -> Result<MemFiles, AllocError> {
-    let mut files = Vec::new(alloc);
-    put(alloc, &mut files, "book.smk", &[BOOK.as_bytes()])?;
-    put(alloc, &mut files, "sales.csv", &[SALES])?;
-    put(alloc, &mut files, "regions.csv", &[REGIONS])?;
-    put(alloc, &mut files, "script", &[SCRIPT])?;
-    Ok(MemFiles::new(files, Vec::new(alloc)))
-}
-
-// Of the views three groupings, two selections and a join are cut. Two views follow the first brush, each with one number, and one follows the second, with a grouping and a selection.
-#[test]
-fn two_pieces_of_each_step_of_a_run_meet(rt: HostRuntime) -> Result<(), Fail> {
-    let gate = Meeting::new();
-    let mut files = files(rt.alloc())?;
-    let words = ["--workers", "2", "book.smk", "script"];
-    let (status, _) = ran_over::<_, _, Brand>(
-        rt,
-        &rt,
-        rt.alloc(),
-        &words,
-        &mut files,
-        &gate,
-        Blank::new(1),
-    )?;
-    assert_eq!(rt; status, Status::Done);
-    assert_eq!(rt; gate.came(), [9, 9, 0]);
-    Ok(())
-}
-
 // Two views over a table with rows enough that they are opened at once.
 const LONG_BOOK: &str = "\
 table t from \"t.csv\" (kind text, n int)
@@ -56,9 +27,6 @@ view by_kind = scan t | group kind {rows = count, total = sum n}
 view high = scan t | where n > 2 | group kind {rows = count}
 lineage fwd t to high
 ";
-
-// Four rows of the table, which has them 16,384 times.
-const FOUR_ROWS: &[u8] = b"a,1\nb,2\na,3\nc,4\n";
 
 const LONG_REPORT: &str = "\
 view by_kind 3
@@ -74,55 +42,41 @@ fwd t to high 2
 marks 0 1
 ";
 
-// The text of the table.
-fn long_table(alloc: Global) -> Result<Vec<u8>, AllocError> {
-    let mut bytes = Vec::from_slice(alloc, b"kind,n\n")?;
-    for _ in 0..16_384u32 {
-        bytes.extend_from_slice(FOUR_ROWS)?;
-    }
-    Ok(bytes)
-}
-
-// The files of the two views.
-fn long_files(alloc: Global) -> Result<MemFiles, AllocError> {
-    let table = long_table(alloc)?;
-    let mut files = Vec::new(alloc);
-    put(alloc, &mut files, "book.smk", &[LONG_BOOK.as_bytes()])?;
-    put(alloc, &mut files, "t.csv", &[table.as_slice()])?;
-    put(alloc, &mut files, "script", &[b"fwd t 2, 65535 to high\n"])?;
-    Ok(MemFiles::new(files, Vec::new(alloc)))
-}
-
-// The report of a run of the two views with so many workers, and who came to its gate.
-fn ran_long<R: Threads + Sync>(
-    system: HostRuntime,
-    rt: &R,
-    workers: &str,
-) -> Result<(Vec<u8>, [u64; 3]), AllocError> {
-    let gate = Meeting::new();
-    let mut files = long_files(system.alloc())?;
-    let words = ["--workers", workers, "book.smk", "script"];
-    let (_, report) = ran_over::<R, Meeting, Brand>(
-        system,
-        rt,
-        system.alloc(),
-        &words,
-        &mut files,
-        &gate,
-        Blank::new(1),
-    )?;
-    Ok((report, gate.came()))
-}
-
-// Each comes once, so no step of theirs is cut. With one worker nobody comes.
+// Of the shop's views three groupings, two selections and a join are cut. Two views follow the first brush, each with one number, and one follows the second,
+// with a grouping and a selection. The two views over many rows come once each, so no step of theirs is cut, and with one worker nobody comes.
 #[test]
-fn two_views_of_a_book_meet(rt: HostRuntime) -> Result<(), Fail> {
-    let (in_turn, none) = ran_long(rt, &rt, "1")?;
-    let (at_once, came) = ran_long(rt, &rt, "2")?;
-    assert_eq!(rt; str::from_utf8(in_turn.as_slice())?, LONG_REPORT);
-    assert_eq!(rt; str::from_utf8(at_once.as_slice())?, LONG_REPORT);
-    assert_eq!(rt; none, [0, 0, 0]);
-    assert_eq!(rt; came, [1, 1, 0]);
+fn pieces_of_the_steps_of_a_run_meet_and_so_do_two_views(rt: HostRuntime) -> Result<(), Fail> {
+    let mut rows = Vec::from_slice(rt.alloc(), b"kind,n\n")?;
+    for _ in 0..16_384u32 {
+        rows.extend_from_slice(b"a,1\nb,2\na,3\nc,4\n")?;
+    }
+    let shop = [
+        ("book.smk", BOOK.as_bytes()),
+        ("sales.csv", SALES),
+        ("regions.csv", REGIONS),
+        ("script", SCRIPT),
+    ];
+    let long = [
+        ("book.smk", LONG_BOOK.as_bytes()),
+        ("t.csv", rows.as_slice()),
+        ("script", b"fwd t 2, 65535 to high\n".as_slice()),
+    ];
+    for (files, workers, said, came) in [
+        (shop.as_slice(), "2", None, [9, 9, 0]),
+        (long.as_slice(), "1", Some(LONG_REPORT), [0, 0, 0]),
+        (long.as_slice(), "2", Some(LONG_REPORT), [1, 1, 0]),
+    ]
+    .as_slice()
+    {
+        let gate = Meeting::new();
+        let words = ["--workers", *workers, "book.smk", "script"];
+        let (status, report) = ran_over(rt, &rt, &words, files, &gate)?;
+        assert_eq!(rt; status, Status::Done);
+        if let Some(said) = said {
+            assert_eq!(rt; str::from_utf8(report.as_slice())?, *said);
+        }
+        assert_eq!(rt; gate.came(), *came);
+    }
     Ok(())
 }
 
@@ -140,47 +94,34 @@ fn told<R: Threads + Sync, L: Ledger>(
     Ok((text, gate.came()))
 }
 
-// The same; after want of memory it is asked again, at a gate of its own.
-fn told_again<R: Threads + Sync, L: Ledger>(
-    rt: &R,
-    alloc: Global,
-    session: &mut Session,
-    line: &Line,
-    steps: &mut Steps<L>,
-) -> Result<(Vec<u8>, [u64; 3]), AllocError> {
-    match told(rt, alloc, session, line, steps) {
-        Ok(told) => Ok(told),
-        Err(_) => told(rt, alloc, session, line, steps),
-    }
-}
-
-// The text of the answer to a brush by a session of a book over the shop's tables, and who came to its gate. The book is given by its bytes, since a call with a text can't choose the ledger.
+// The text of the answer to a line by a session of a book over the shop's tables, and who came to its gate. After want of memory it is asked again, at a gate of
+// its own. The book is given by its bytes, since a call with a text can't choose the ledger.
 fn told_in_two<R: Threads + Sync, L: Ledger>(
     system: HostRuntime,
     rt: &R,
     alloc: Global,
     book: &[u8],
+    line: &Line,
     blank: Blank,
 ) -> Result<(Vec<u8>, [u64; 3]), Fail>
     requires name { L.name ≡ blank.name }
     requires parts { L.parts ≡ blank.parts }
     requires some { 0 < blank.parts }
 {
-    let line = line_of(alloc, b"brush by_region 0 on sales")?;
     let mut steps: Steps<L> = Steps::new(system, blank);
     let files = [SALES, REGIONS];
-    let mut session = started(
-        rt,
-        alloc,
-        str::from_utf8(book)?,
-        files.as_slice(),
-        Mode::Inject,
-        2,
-        &mut steps,
-    )?;
-    let told = told_again(rt, alloc, &mut session, &line, &mut steps);
+    let Opened { book, tables, .. } = open_book(alloc, str::from_utf8(book)?, files.as_slice())?;
+    let Ok(session) = Session::start(rt, alloc, book, tables, Mode::Inject, 2, &Idle, &mut steps)
+    else {
+        return Err(Fail::new("no session"));
+    };
+    let mut session = session;
+    let answer = match told(rt, alloc, &mut session, line, &mut steps) {
+        Ok(answer) => Ok(answer),
+        Err(_) => told(rt, alloc, &mut session, line, &mut steps),
+    };
     drop(session);
-    Ok(told?)
+    Ok(answer?)
 }
 
 const BRUSHED: &str = "\
@@ -196,23 +137,6 @@ marks
 view few 0
 row,region,n
 ";
-
-// Each view comes once, so no step of theirs is cut.
-#[test]
-fn two_views_that_follow_a_brush_meet_and_asked_again_its_reply_is_whole(
-    rt: HostRuntime,
-) -> Result<(), Fail> {
-    let (text, came) = told_in_two::<_, Brand>(
-        rt,
-        &rt,
-        rt.alloc(),
-        BOOK.as_bytes(),
-        Blank::new(1),
-    )?;
-    assert_eq!(rt; str::from_utf8(text.as_slice())?, BRUSHED);
-    assert_eq!(rt; came, [1, 1, 0]);
-    Ok(())
-}
 
 // Two groupings over chains, which follow a brush by the forward lineage that is kept of them.
 const GROUPINGS: &str = "\
@@ -240,17 +164,25 @@ row,region,n
 0,north,1
 ";
 
-// Each comes once, too.
+// Each view comes once, so no step of theirs is cut.
 #[test]
-fn two_groupings_over_chains_that_follow_a_brush_meet(rt: HostRuntime) -> Result<(), Fail> {
-    let (text, came) = told_in_two::<_, Brand>(
-        rt,
-        &rt,
-        rt.alloc(),
-        GROUPINGS.as_bytes(),
-        Blank::new(1),
-    )?;
-    assert_eq!(rt; str::from_utf8(text.as_slice())?, GROUPED);
-    assert_eq!(rt; came, [1, 1, 0]);
+fn two_views_that_follow_a_brush_meet_and_asked_again_its_reply_is_whole(
+    rt: HostRuntime,
+) -> Result<(), Fail> {
+    let Ok(Some(line)) = parse_line(rt.alloc(), b"brush by_region 0 on sales") else {
+        return Err(Fail::new("no line"));
+    };
+    for (book, said) in [(BOOK, BRUSHED), (GROUPINGS, GROUPED)].as_slice() {
+        let (text, came) = told_in_two::<_, Brand>(
+            rt,
+            &rt,
+            rt.alloc(),
+            book.as_bytes(),
+            &line,
+            Blank::new(1),
+        )?;
+        assert_eq!(rt; str::from_utf8(text.as_slice())?, *said);
+        assert_eq!(rt; came, [1, 1, 0]);
+    }
     Ok(())
 }

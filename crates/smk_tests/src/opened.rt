@@ -19,7 +19,6 @@ use smk_compose::{KeptMap, Run, RunFault, run_plan};
 use smk_expand::{Expanded, expand};
 use smk_outside::Steps;
 use smk_parse::parse_book;
-use smk_rid::RidMap;
 use smk_table::{Table, read_table};
 use smk_typing::{TypedBook, check, needed};
 use std::alloc::{AllocError, Global};
@@ -50,9 +49,9 @@ fn parsed(alloc: Global, text: &str) -> Result<Expanded, Fail>
     Ok(expand(alloc, book)?)
 }
 
-/// The table of the bytes of its file.
+// The table of the bytes of its file.
 #[tactic(auto, using(crate::proofs::Opening::kinds_declared))]
-pub(crate) fn table_of(alloc: Global, info: &TableInfo, bytes: &[u8]) -> Result<Table, Fail>
+fn table_of(alloc: Global, info: &TableInfo, bytes: &[u8]) -> Result<Table, Fail>
     requires { AreColumns info.now.cols }
     ensures { IfOk result (λ table. table.kinds ≡ table_kinds info.now) }
 {
@@ -90,12 +89,22 @@ pub(crate) fn open_book(alloc: Global, text: &str, files: &[&[u8]]) -> Result<Op
     Ok(Opened { book, tables, fds })
 }
 
-/// What a view needs, by the declared queries.
+/// What a view needs by the declared queries, of a body that captures.
 #[tactic(auto, using(crate::proofs::Opening::as_many))]
-pub(crate) fn need_of(alloc: Global, opened: &Opened, view: u32) -> Result<Need, AllocError>
-    ensures { IfOk result (λ need. NeedFits (length opened.now.tables.items) need) }
+pub(crate) fn need_of<B: OpBody>(
+    alloc: Global,
+    body: &B,
+    opened: &Opened,
+    view: u32,
+) -> Result<Need, AllocError>
+    ensures fits { IfOk result (λ need. NeedFits (length opened.now.tables.items) need) }
+    ensures captured { IfOk result (λ need. IsTrue (B.may_capture body.now || nat_eq (length need) 0)) }
 {
-    needed(alloc, &opened.book, view)
+    if body.captures() {
+        needed(alloc, &opened.book, view)
+    } else {
+        Ok(Need::new(alloc))
+    }
 }
 
 // A run of a view with a counter of looks over this ledger.
@@ -144,42 +153,20 @@ pub(crate) fn ran<R: Threads + Sync + AllocGlobal, B: OpBody + Sync>(
     counted::<R, B, Brand>(rt, system, body, opened, view, need, Blank::new(1))
 }
 
-// Writes the cells of row i, each with a space behind it.
-fn write_row(text: &mut String, rel: &Rel, i: u32) -> Result<(), Fail>
-    requires { i < length rel.now.rows }
-{
-    for c in 0..rel.width() {
-        match rel.cell(i, c) {
-            CellRef::Int(number) => write!(text, "{number} ")?,
-            CellRef::Text(bytes) => {
-                let word = str::from_utf8(bytes)?;
-                write!(text, "{word} ")?;
-            }
-        }
-    }
-    text.push('\n')?;
-    Ok(())
-}
-
-// Writes the lists of a map, where there is one.
-fn write_map(
-    alloc: Global,
-    text: &mut String,
-    way: &str,
-    map: &Option<RidMap>,
-) -> Result<(), Fail> {
-    if let Some(map) = map {
-        let lists = lists_shown(alloc, map)?;
-        writeln!(text, "{way} {lists}")?;
-    }
-    Ok(())
-}
-
-/// The cells of a relation, a row a line.
+/// The cells of a relation, each with a space behind it, a row a line.
 pub(crate) fn rows_shown(alloc: Global, rel: &Rel) -> Result<String, Fail> {
     let mut text = String::new(alloc);
     for i in 0..rel.len() {
-        write_row(&mut text, rel, i)?;
+        for c in 0..rel.width() {
+            match rel.cell(i, c) {
+                CellRef::Int(number) => write!(text, "{number} ")?,
+                CellRef::Text(bytes) => {
+                    let word = str::from_utf8(bytes)?;
+                    write!(text, "{word} ")?;
+                }
+            }
+        }
+        text.push('\n')?;
     }
     Ok(text)
 }
@@ -190,8 +177,12 @@ pub(crate) fn maps_shown(alloc: Global, kept: &[KeptMap]) -> Result<String, Fail
     for map in kept {
         let table = map.table;
         writeln!(text, "table {table}")?;
-        write_map(alloc, &mut text, "back", &map.back)?;
-        write_map(alloc, &mut text, "fwd", &map.fwd)?;
+        for (way, lists) in [("back", &map.back), ("fwd", &map.fwd)].as_slice() {
+            if let Some(lists) = lists {
+                let lists = lists_shown(alloc, lists)?;
+                writeln!(text, "{way} {lists}")?;
+            }
+        }
     }
     Ok(text)
 }

@@ -1,4 +1,4 @@
-//! A book of sales and their regions.
+//! A book of sales and their regions, with views of further steps.
 
 use crate::contents::Content;
 use crate::opened::{Opened, open_book};
@@ -26,11 +26,40 @@ link by_region on sales to by_zone, few
 link big on sales to few
 ";
 
-// One more direction of a join, and queries of a table that a view doesn't scan.
+// Further directions, queries of a table that a view doesn't scan, and one step a view, each side with its lineage both ways.
 const MORE: &str = "\
+lineage fwd sales to by_region
 lineage fwd regions to by_zone
 lineage back few to regions
 lineage fwd regions to few
+table listed from \"listed.csv\" (name text)
+table again from \"listed.csv\" (name text)
+table west from \"west.csv\" (side text)
+view joined = scan sales | join scan regions on region = name
+view elsewhere = scan sales | theta scan regions on amount > 10 and region != name
+view grid = scan regions | product scan west
+view united = scan listed | union (scan again)
+view both = scan listed | union all (scan again)
+lineage back joined to sales
+lineage fwd sales to joined
+lineage back joined to regions
+lineage fwd regions to joined
+lineage back elsewhere to sales
+lineage fwd sales to elsewhere
+lineage back elsewhere to regions
+lineage fwd regions to elsewhere
+lineage back grid to regions
+lineage fwd regions to grid
+lineage back grid to west
+lineage fwd west to grid
+lineage back united to listed
+lineage fwd listed to united
+lineage back united to again
+lineage fwd again to united
+lineage back both to listed
+lineage fwd listed to both
+lineage back both to again
+lineage fwd again to both
 ";
 
 /// Number, region and amount of each sale.
@@ -39,18 +68,22 @@ pub(crate) const SALES: &[u8] = b"id,region,amount\n1,north,10\n2,south,20\n3,no
 /// Each region once.
 pub(crate) const REGIONS: &[u8] = b"name,zone\nnorth,A\nsouth,B\neast,A\n";
 
-/// The book with more queries, over its tables.
+// The region of each sale.
+const LISTED: &[u8] = b"name\nnorth\nsouth\nnorth\neast\n";
+
+/// The book with all that is further in it, over its tables.
 pub(crate) fn shop(alloc: Global) -> Result<Opened, Fail> {
     let text = format!(in alloc; "{BOOK}{MORE}")?;
-    open_book(alloc, text.as_str(), [SALES, REGIONS].as_slice())
+    let files = [SALES, REGIONS, LISTED, LISTED, b"side\nwest\n".as_slice()];
+    open_book(alloc, text.as_str(), files.as_slice())
 }
 
-/// The contents of its views.
-pub(crate) const CONTENTS: [Content; 6] = [
+/// The contents of its views. A grouping, a selection and a join, which are views 0, 2 and 6, can be cut.
+pub(crate) const CONTENTS: [Content; 11] = [
     Content {
         view: 0,
         rows: "north 2 40 \nsouth 1 20 \neast 1 5 \n",
-        maps: "table 0\nback [0, 2] [1] [3] below 4\n",
+        maps: "table 0\nback [0, 2] [1] [3] below 4\nfwd [0] [1] [0] [2] below 3\n",
     },
     Content {
         view: 1,
@@ -77,5 +110,35 @@ table 1\nback [0, 2] [1] below 3\nfwd [0] [1] [0] below 2\n",
         view: 5,
         rows: "south 1 \neast 1 \n",
         maps: "table 0\nfwd [] [0] [] [1] below 2\ntable 1\nback [] [] below 3\nfwd [] [] [] below 2\n",
+    },
+    Content {
+        view: 6,
+        rows: "1 north 10 north A \n2 south 20 south B \n3 north 30 north A \n4 east 5 east A \n",
+        maps: "table 0\nback [0] [1] [2] [3] below 4\nfwd [0] [1] [2] [3] below 4\n\
+table 1\nback [0] [1] [0] [2] below 3\nfwd [0, 2] [1] [3] below 4\n",
+    },
+    Content {
+        view: 7,
+        rows: "2 south 20 north A \n2 south 20 east A \n3 north 30 south B \n3 north 30 east A \n",
+        maps: "table 0\nback [1] [1] [2] [2] below 4\nfwd [] [0, 1] [2, 3] [] below 4\n\
+table 1\nback [0] [2] [1] [2] below 3\nfwd [0] [2] [1, 3] below 4\n",
+    },
+    Content {
+        view: 8,
+        rows: "north A west \nsouth B west \neast A west \n",
+        maps: "table 1\nback [0] [1] [2] below 3\nfwd [0] [1] [2] below 3\n\
+table 4\nback [0] [0] [0] below 1\nfwd [0, 1, 2] below 3\n",
+    },
+    Content {
+        view: 9,
+        rows: "north \nsouth \neast \n",
+        maps: "table 2\nback [0, 2] [1] [3] below 4\nfwd [0] [1] [0] [2] below 3\n\
+table 3\nback [0, 2] [1] [3] below 4\nfwd [0] [1] [0] [2] below 3\n",
+    },
+    Content {
+        view: 10,
+        rows: "north \nsouth \nnorth \neast \nnorth \nsouth \nnorth \neast \n",
+        maps: "table 2\nback [0] [1] [2] [3] [] [] [] [] below 4\nfwd [0] [1] [2] [3] below 8\n\
+table 3\nback [] [] [] [] [0] [1] [2] [3] below 4\nfwd [4] [5] [6] [7] below 8\n",
     },
 ];

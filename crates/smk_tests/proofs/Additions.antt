@@ -1,1 +1,0 @@
--- What a session answers to appended rows.

@@ -1,0 +1,4 @@
+use Rattle.smk_tests.proofs.runs.ran_over.Given as goal
+
+abbrev pub ghosts-counted_run : goal.ghosts-counted_run
+ghosts-counted_run g a = record { name = a.blank.name; parts = a.blank.parts }
