@@ -5,7 +5,7 @@ ghost use Rattle.std.specs.Prelude.{◌≡◌, ◌<◌};
 
 use smk_outside::{ErrSink, Files, Idle, OutSink, RealFiles, Sink, Steps};
 use smk_top::Status;
-use std::alloc::{AllocError, Global};
+use std::alloc::Global;
 use std::env;
 use std::io::{self, ErrorKind};
 use std::marker::Brand;
@@ -32,49 +32,33 @@ fn counted_run<R: Threads + Sync, F: Files, O: Sink, E: Sink, L: Ledger>(
     smk_top::run(rt, alloc, words, files, out, err, &Idle, &mut steps)
 }
 
-// The words after the program's name.
-fn words_of<'w>(alloc: Global, all: &'w [String]) -> Result<Vec<&'w str>, AllocError> {
-    let mut words = Vec::new(alloc);
-    for word in all.iter().skip(1) {
-        words.push(word.as_str())?;
-    }
-    Ok(words)
-}
-
-// The program's words, with its name.
-fn all_words(system: HostRuntime) -> io::Result<Vec<String>> {
-    let mut all = Vec::new(system.alloc());
-    for word in env::args(&system)? {
-        all.push(word)?;
-    }
-    Ok(all)
+// A run over the files and streams of the system. An error where its words can't be had.
+fn ran<R: Threads + Sync>(system: HostRuntime, rt: &R) -> io::Result<Status> {
+    let alloc = system.alloc();
+    let all: Vec<String> = env::args(&system)?.skip(1).collect(alloc)?;
+    let words: Vec<&str> = all.iter().map(|word| word.as_str()).collect(alloc)?;
+    let mut files = RealFiles::new(system);
+    let mut out = OutSink::new(system.stdout());
+    let mut err = ErrSink::new(system.stderr());
+    Ok(counted_run::<_, _, _, _, Brand>(
+        system,
+        rt,
+        alloc,
+        words.as_slice(),
+        &mut files,
+        &mut out,
+        &mut err,
+        Blank::new(1),
+    ))
 }
 
 fn main(rt: HostRuntime) -> ExitCode {
-    let all = match all_words(rt) {
-        Ok(all) => all,
-        Err(e) => {
-            return match e.kind() {
-                ErrorKind::OutOfMemory => ExitCode::from(Status::NoMemory.code()),
-                _ => ExitCode::from(Status::Usage.code()),
-            };
-        }
-    };
-    let mut files = RealFiles::new(rt);
-    let mut out = OutSink::new(rt.stdout());
-    let mut err = ErrSink::new(rt.stderr());
-    let status = match words_of(rt.alloc(), all.as_slice()) {
-        Ok(words) => counted_run::<_, _, _, _, Brand>(
-            rt,
-            &rt,
-            rt.alloc(),
-            words.as_slice(),
-            &mut files,
-            &mut out,
-            &mut err,
-            Blank::new(1),
-        ),
-        Err(_) => Status::NoMemory,
+    let status = match ran(rt, &rt) {
+        Ok(status) => status,
+        Err(e) => match e.kind() {
+            ErrorKind::OutOfMemory => Status::NoMemory,
+            _ => Status::Usage,
+        },
     };
     ExitCode::from(status.code())
 }

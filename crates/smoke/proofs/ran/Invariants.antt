@@ -1,4 +1,4 @@
-use Rattle.smoke.proofs.main.Given as goal
+use Rattle.smoke.proofs.ran.Given as goal
 
 abbrev pub ghosts-counted_run : goal.ghosts-counted_run
 ghosts-counted_run g a = record { name = a.blank.name; parts = a.blank.parts }

@@ -1,4 +1,4 @@
-use Rattle.smoke_live.proofs.main.Given as goal
+use Rattle.smoke_live.proofs.held.Given as goal
 
 abbrev pub ghosts-counted_talk : goal.ghosts-counted_talk
 ghosts-counted_talk g a = record { name = a.blank.name; parts = a.blank.parts }
