@@ -32,13 +32,37 @@ fn counted_talk<R: Threads + Sync, T: Talk, L: Ledger>(
     smk_top::converse(rt, alloc, words, files, talk, err, &Idle, &mut steps)
 }
 
+// Holds a conversation with these words over these files. It tells the status, and what was written to `err`.
+fn hold_talk<R: Threads + Sync, T: Talk>(
+    system: HostRuntime,
+    rt: &R,
+    alloc: Global,
+    words: &[&str],
+    mut files: MemFiles,
+    case: &[Section<'_>],
+    talk: &mut T,
+) -> Result<(u8, Vec<u8>)> {
+    let mut err = MemSink::new(alloc, puts_of(alloc, case, Part::Err)?, SMALL_ROOM)?;
+    let status = counted_talk::<_, _, Brand>(
+        system,
+        rt,
+        alloc,
+        words,
+        &mut files,
+        talk,
+        &mut err,
+        Blank::new(1),
+    );
+    Ok((status.code(), Vec::from_slice(alloc, err.bytes())?))
+}
+
 /// A conversation with these words over these files, in which the lines of these bytes are heard. It tells what happened.
 pub fn talk_words<R: Threads + Sync>(
     system: HostRuntime,
     rt: &R,
     alloc: Global,
     words: &[&str],
-    mut files: MemFiles,
+    files: MemFiles,
     case: &[Section<'_>],
     bytes: &[u8],
 ) -> Result<(MemTalk, Ending)> {
@@ -48,23 +72,9 @@ pub fn talk_words<R: Threads + Sync>(
         hears_of(alloc, case)?,
         puts_of(alloc, case, Part::Talk)?,
     );
-    let mut err = MemSink::new(alloc, puts_of(alloc, case, Part::Err)?, SMALL_ROOM)?;
-    let status = counted_talk::<_, _, Brand>(
-        system,
-        rt,
-        alloc,
-        words,
-        &mut files,
-        &mut talk,
-        &mut err,
-        Blank::new(1),
-    );
-    let ending = Ending {
-        status: status.code(),
-        out: transcript_of(alloc, talk.events())?,
-        err: Vec::from_slice(alloc, err.bytes())?,
-    };
-    Ok((talk, ending))
+    let (status, err) = hold_talk(system, rt, alloc, words, files, case, &mut talk)?;
+    let out = transcript_of(alloc, talk.events())?;
+    Ok((talk, Ending { status, out, err }))
 }
 
 /// Such a conversation over a reader of these bytes and a writer. Its ending has what was written.
@@ -73,29 +83,15 @@ pub fn stream_words<R: Threads + Sync>(
     rt: &R,
     alloc: Global,
     words: &[&str],
-    mut files: MemFiles,
+    files: MemFiles,
     case: &[Section<'_>],
     bytes: &[u8],
 ) -> Result<Ending> {
-    let mut said = Vec::new(alloc);
-    let mut talk = StreamTalk::new(bytes, &mut said);
-    let mut err = MemSink::new(alloc, puts_of(alloc, case, Part::Err)?, SMALL_ROOM)?;
-    let status = counted_talk::<_, _, Brand>(
-        system,
-        rt,
-        alloc,
-        words,
-        &mut files,
-        &mut talk,
-        &mut err,
-        Blank::new(1),
-    );
+    let mut out = Vec::new(alloc);
+    let mut talk = StreamTalk::new(bytes, &mut out);
+    let (status, err) = hold_talk(system, rt, alloc, words, files, case, &mut talk)?;
     drop(talk);
-    Ok(Ending {
-        status: status.code(),
-        out: said,
-        err: Vec::from_slice(alloc, err.bytes())?,
-    })
+    Ok(Ending { status, out, err })
 }
 
 // The lines of bytes, as they are heard of a stream.
