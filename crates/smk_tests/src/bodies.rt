@@ -82,10 +82,10 @@ fn plans_have_their_contents_by_each_body(rt: HostRuntime) -> Result<(), Fail> {
 #[test]
 fn two_pieces_of_each_cut_step_meet(rt: HostRuntime) -> Result<(), Fail> {
     let shop = shop(rt.alloc())?;
-    for k in [0usize, 2, 6].as_slice() {
+    for cut in [&CONTENTS[0..1], &CONTENTS[2..3], &CONTENTS[6..7]].as_slice() {
         let gate = Meeting::new();
         let body = Pieces::new(Inject, &gate, 2);
-        have_contents(&rt, rt, &body, &shop, &CONTENTS[*k..*k + 1])?;
+        have_contents(&rt, rt, &body, &shop, cut)?;
         assert_eq!(rt; gate.came(), [1, 1, 0]);
     }
     let gate = Meeting::new();

@@ -36,7 +36,10 @@ fn counted_run<R: Threads + Sync, F: Files, O: Sink, E: Sink, L: Ledger>(
 fn ran<R: Threads + Sync>(system: HostRuntime, rt: &R) -> io::Result<Status> {
     let alloc = system.alloc();
     let all: Vec<String> = env::args(&system)?.skip(1).collect(alloc)?;
-    let words: Vec<&str> = all.iter().map(|word| word.as_str()).collect(alloc)?;
+    let mut words = Vec::new(alloc);
+    for word in all.iter() {
+        words.push(word.as_str())?;
+    }
     let mut files = RealFiles::new(system);
     let mut out = OutSink::new(system.stdout());
     let mut err = ErrSink::new(system.stderr());

@@ -36,7 +36,10 @@ fn counted_talk<R: Threads + Sync, F: Files, T: Talk, E: Sink, L: Ledger>(
 fn held<R: Threads + Sync>(system: HostRuntime, rt: &R) -> io::Result<Status> {
     let alloc = system.alloc();
     let all: Vec<String> = env::args(&system)?.skip(1).collect(alloc)?;
-    let words: Vec<&str> = all.iter().map(|word| word.as_str()).collect(alloc)?;
+    let mut words = Vec::new(alloc);
+    for word in all.iter() {
+        words.push(word.as_str())?;
+    }
     let mut files = RealFiles::new(system);
     let mut talk = StreamTalk::new(BufReader::new(alloc, system.stdin())?, system.stdout());
     let mut err = ErrSink::new(system.stderr());
