@@ -5,17 +5,22 @@ use Rattle.smk_base.specs.Rels.{Relation}
 use Rattle.smk_base.specs.PlanImage.{expr_of}
 use Rattle.smk_base.specs.CatalogImage.{CatalogImage, view_image}
 use Rattle.smk_base.specs.TreeImage.{book_image}
+use Rattle.smk_base.specs.declared.value.Kind.{Kind}
 use Rattle.smk_base.specs.declared.book.tree.Book.{Book}
+use Rattle.smk_base.specs.declared.book.col_decl.ColDecl.{ColDecl}
+use Rattle.smk_base.specs.declared.book.catalog.Column.{Column}
 use Rattle.smk_base.specs.declared.book.catalog.TableInfo.{TableInfo}
 use Rattle.smk_base.specs.declared.book.catalog.ViewInfo.{ViewInfo}
 use Rattle.smk_model.specs.Expanded.{expanded, dependency_names, HasNoDependency}
 use Rattle.smk_model.specs.Limits.{KeepsLimits}
 use Rattle.smk_model.specs.Profiles.{AreDependencies}
+use Rattle.smk_model.specs.Tables.{kinds_of}
 use Rattle.smk_model.specs.Typing.{types}
 use Rattle.smk_model.specs.Catalogs.{ViewFits, table_kinds, each_table_kinds}
 use Rattle.smk_model.specs.Selection.{ScansFit, PlanFits, leaf_kinds, each_kinds, nodes}
 use Rattle.smk_model.proofs.Expanded.{expanded_stands}
 use Rattle.smk_model.proofs.Keeping.{faultless_keep_limits}
+use Rattle.smk_model.proofs.Places.{map_map}
 use Rattle.smk_parse.specs.Answers.{IsBookAnswer}
 
 -- a book that was parsed, with each dependency replaced, keeps the limits and has no dependency
@@ -28,6 +33,10 @@ is_replaced book made e = subst HasNoDependency (sym e) (expanded_stands.none (b
 -- its dependencies are shown by its views
 pub is_shown : (book made : Book) (fds : List (List ℕ)) (catalog : CatalogImage) → book_image made ≡ expanded (book_image book) → fds ≡ dependency_names (book_image book) → types (book_image made) ≡ Ok catalog → AreDependencies catalog fds
 is_shown book made fds catalog e names typed = subst (AreDependencies catalog) (sym names) (expanded_stands.shown (book_image book) catalog (ap types (sym e) ∙ typed))
+
+-- the kinds of a table are those of its declared columns
+pub kinds_declared : (info : TableInfo) (kinds : List Kind) → kinds ≡ kinds_of info.cols → kinds ≡ table_kinds info
+kinds_declared info kinds is = is ∙ sym (map_map (λ (column : Column). column.kind) (λ (col : ColDecl). record { name = col.name; kind = col.kind }) info.cols)
 
 -- there are as many tables as infos
 pub as_many : (tables : List Relation) (infos : List TableInfo) → each_kinds tables ≡ each_table_kinds infos → length infos ≡ length tables
