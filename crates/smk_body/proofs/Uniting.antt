@@ -30,18 +30,16 @@ left_wider _ _ h = absurd h.0
 
 pub right_wider : (ls rs : List Kind) → AllZip AreAlike ls rs → AllZip IsWider (wider_kinds ls rs) rs
 right_wider [] [] h = tt
-right_wider [] (j ∷ rs) h = absurd h
-right_wider (k ∷ ls) [] h = absurd h
 right_wider (kinds.Int a ∷ ls) (kinds.Int b ∷ rs) h = (omega arith, right_wider ls rs h.1)
 right_wider (kinds.Text ∷ ls) (kinds.Text ∷ rs) h = (tt, right_wider ls rs h.1)
+right_wider _ _ h = absurd h
 
 -- a row fits wider kinds
 pub row_wider : (ks js : List Kind) (row : Row) → AllZip IsWider ks js → RowFits js row → RowFits ks row
 row_wider [] [] row wider fits = fits
-row_wider [] (j ∷ js) row wider fits = absurd wider
-row_wider (k ∷ ks) [] row wider fits = absurd wider
 row_wider (k ∷ ks) (j ∷ js) [] wider fits = absurd fits
 row_wider (k ∷ ks) (j ∷ js) (v ∷ row) wider fits = (Fits-wider k j v wider.0 fits.0, row_wider ks js row wider.1 fits.1)
+row_wider _ _ row wider fits = absurd wider
 
 sub_right : (L R : List Row) (A : List ℕ) → All (λ i. length L ≤ i) A → sub (L ++ R) A ≡ sub R (map (λ i. i - length L) A)
 sub_right L R [] high = refl

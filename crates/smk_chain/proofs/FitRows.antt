@@ -32,7 +32,6 @@ use Rattle.smk_model.proofs.Comes.{rows_in, rows_whole}
 use Rattle.smk_model.specs.Growth.{is_growing}
 use Rattle.smk_model.proofs.Regroups.{of_key, group_rows}
 use Rattle.smk_model.proofs.Thin.{below, few_rows}
-use Rattle.smk_body.proofs.Aggregating.{int_fits}
 
 -- values that are made each from one thing
 made_fits : {X : Type 0} (f : X → Kind) (g : X → Value) (xs : List X) → All (λ x. Fits (f x) (g x)) xs → RowFits (map f xs) (map g xs)

@@ -10,7 +10,7 @@ use Rattle.smk_base.specs.declared.value.Kind.TheVariants.{Int, Text}
 use Rattle.smk_base.specs.declared.book.plan.Operand.TheVariants as operands
 use Rattle.smk_base.specs.declared.book.plan.Item.{Item}
 use Rattle.smk_base.specs.declared.book.plan.Item.TheVariants as items
-use Rattle.smk_base.specs.Plans.{Formula, Comparison, Conjunction, Disjunction, Negation, Unary, Selection, Projection, Distinction, Grouping, Binary, Equijoin, ThetaJoin, CrossProduct, BagUnion, SetUnion}
+use Rattle.smk_base.specs.Plans.{Formula, Comparison, Conjunction, Disjunction, Negation, Unary, Selection, Projection, Distinction, Grouping, Binary, Equijoin, ThetaJoin, CrossProduct}
 use Rattle.smk_base.specs.declared.book.plan.Op1.{Op1}
 use Rattle.smk_base.specs.declared.book.plan.Op2.{Op2}
 use Rattle.smk_base.specs.PlanImage.{unary_of, binary_of}

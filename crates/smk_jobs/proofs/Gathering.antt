@@ -1,5 +1,5 @@
 -- What all parts have made, from what each has.
-use Rattle.std.proofs.Common.{◌∙◌, ◌<◌, ℕ, List, get_or, subst, arith}
+use Rattle.std.proofs.Common.{◌∙◌, ℕ, List, get_or, subst, arith}
 use Rattle.std.specs.List.{AllZip}
 use Rattle.std.proofs.lemmas.Slice.Zip.{AllZip-long}
 use Rattle.smk_base.specs.Places.{upto}

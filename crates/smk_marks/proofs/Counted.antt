@@ -1,5 +1,5 @@
 -- Counts over the rows of marks, and aggregates over one column of these rows.
-use Rattle.std.proofs.Common.{◌≡◌, ℕ, true, is_none, Some, List, [], ◌∷◌, ◌++◌, length, map, take, refl, ap, sym, ◌∙◌, get_or, nat_eq}
+use Rattle.std.proofs.Common.{◌≡◌, ℕ, true, is_none, Some, List, [], ◌∷◌, ◌++◌, length, map, take, ap, sym, ◌∙◌, get_or, nat_eq}
 use Rattle.std.specs.List.{list_all}
 use Rattle.std.proofs.lemmas.List.{get_or-map, length-map}
 use Rattle.std.proofs.lemmas.List.Sums.{AllPass-from_list_all}

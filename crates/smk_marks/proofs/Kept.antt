@@ -15,7 +15,7 @@ use Rattle.smk_model.specs.Kinds.{kind_of_agg}
 use Rattle.smk_model.specs.Lineage.{row_at, sub}
 use Rattle.smk_model.specs.LineageLaws.{selected_table}
 use Rattle.smk_model.specs.Plain.{eval, key_of}
-use Rattle.smk_model.specs.Selection.{PlanFits, plan_kinds}
+use Rattle.smk_model.specs.Selection.{plan_kinds}
 use Rattle.smk_model.specs.Values.{Row}
 use Rattle.smk_model.proofs.Aggregates.{kind_of_moved, moved_to_own}
 use Rattle.smk_model.proofs.Composed.{lists_stand}

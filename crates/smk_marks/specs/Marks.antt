@@ -5,7 +5,7 @@ use Rattle.smk_base.specs.Aggregates.{read_by}
 use Rattle.smk_base.specs.Places.{Lists, list_at, places}
 use Rattle.smk_base.specs.declared.value.Value.TheVariants.{Int}
 use Rattle.smk_base.specs.declared.book.plan.Agg.{Agg}
-use Rattle.smk_base.specs.Plans.{Selection, Projection, Distinction, Grouping, Expr, Leaf, Apply, Combine}
+use Rattle.smk_base.specs.Plans.{Selection, Projection, Expr, Leaf, Apply, Combine}
 use Rattle.smk_model.specs.Values.{Row, meets}
 use Rattle.smk_model.specs.Plain.{image, aggregate}
 use Rattle.smk_model.specs.Lineage.{row_at, sub}

@@ -1,8 +1,8 @@
 -- What is proved of each aggregate: over another column of other rows that has the values of its own, and over the aggregates of parts.
-use Rattle.std.proofs.Common.{◌≡◌, ◌∙◌, ◌<◌, ◌+◌, ◌++◌, ℕ, zero, suc, ℤ, pos, ◌+ℤ◌, Bool, true, false, cond, Some, List, [], ◌∷◌, length, map, refl, sym, ap, subst, arith, All, inl, inr}
+use Rattle.std.proofs.Common.{◌≡◌, ◌∙◌, ◌<◌, ◌+◌, ℕ, zero, suc, ℤ, pos, ◌+ℤ◌, Bool, true, false, cond, Some, List, [], ◌∷◌, length, map, refl, sym, ap, subst, arith, All, inl, inr}
 use Rattle.std.specs.List.{flat_map, fold}
 use Rattle.std.specs.declared.cmp.Ordering.{Ordering}
-use Rattle.std.specs.declared.cmp.Ordering.TheVariants.{Less, Equal, Greater}
+use Rattle.std.specs.declared.cmp.Ordering.TheVariants.{Less}
 use Rattle.std.specs.Ordering.{is_lt, is_gt, ordering_reverse}
 use Rattle.std.proofs.lemmas.Bool.{cases_Bool, false≢true}
 use Rattle.std.proofs.lemmas.Cmp.{upto as above_upto}
@@ -86,8 +86,7 @@ summed_low Text b s = absurd s
 pub parts_fit : (agg : Agg) (place : ℕ) (groups kinds : List Kind) → All IsBase kinds → place < length groups → kind_in groups place ≡ kind_of_agg kinds agg → AggFits kinds agg → AggFits groups (over_parts place agg)
 parts_fit Count place groups kinds all low is fits = let none : IsSummed (Int 0) = omega arith in (low, subst IsSummed (sym is) none)
 parts_fit (Sum c) place groups kinds all low is fits = (low, subst IsSummed (sym is) (summed_low (kind_in kinds c) (base_at kinds all c) fits.1))
-parts_fit (Min c) place groups kinds all low is fits = low
-parts_fit (Max c) place groups kinds all low is fits = low
+parts_fit _ place groups kinds all low is fits = low
 
 -- it fits in one way at most
 summed_prop : (k : Kind) → IsProp (IsSummed k)
@@ -104,13 +103,11 @@ agg_prop kinds (Max c) = hlevel props
 
 reversed : (o : Ordering) → is_lt (ordering_reverse o) ≡ is_gt o
 reversed Less = refl
-reversed Equal = refl
-reversed Greater = refl
+reversed _ = refl
 
 less_is : (o : Ordering) → is_lt o ≡ true → o ≡ Less
 less_is Less h = refl
-less_is Equal h = absurd (false≢true h)
-less_is Greater h = absurd (false≢true h)
+less_is _ h = absurd (false≢true h)
 
 -- less one way is greater the other way
 lt_gt : (x y : Value) → is_lt (value_cmp x y) ≡ is_gt (value_cmp y x)

@@ -5,7 +5,7 @@ use Rattle.smk_base.specs.Aggregates.{over_parts}
 use Rattle.smk_base.specs.Places.{upto, places}
 use Rattle.smk_base.specs.declared.value.Value.{Value}
 use Rattle.smk_base.specs.declared.book.plan.Agg.{Agg}
-use Rattle.smk_base.specs.Plans.{Unary, Selection, Projection, Distinction, Grouping, Expr, Leaf, Apply, Combine}
+use Rattle.smk_base.specs.Plans.{Unary, Selection, Projection, Grouping, Expr, Leaf, Apply}
 use Rattle.smk_model.specs.Values.{Row}
 use Rattle.smk_model.specs.Plain.{row_eq, key_of, aggregate}
 use Rattle.smk_model.specs.Lineage.{row_at, sub}
@@ -15,18 +15,12 @@ abbrev pub is_chain : Expr → Bool
 is_chain (Leaf table) = true
 is_chain (Apply (Selection formula) input) = is_chain input
 is_chain (Apply (Projection items) input) = is_chain input
-is_chain (Apply (Distinction items) input) = false
-is_chain (Apply (Grouping keys aggs) input) = false
-is_chain (Combine op left right) = false
+is_chain _ = false
 
 -- whether a plan is a growing chain: such a chain, with at most a grouping over it
 abbrev pub is_growing : Expr → Bool
-is_growing (Leaf table) = true
-is_growing (Apply (Selection formula) input) = is_chain input
-is_growing (Apply (Projection items) input) = is_chain input
-is_growing (Apply (Distinction items) input) = false
 is_growing (Apply (Grouping keys aggs) input) = is_chain input
-is_growing (Combine op left right) = false
+is_growing plan = is_chain plan
 
 -- aggregates that are in the columns from c on of the groupings of parts, taken once more
 abbrev pub all_over_parts : ℕ → List Agg → List Agg

@@ -20,7 +20,7 @@ use Rattle.smk_model.specs.Catalogs.{ViewFits, table_kinds, each_table_kinds}
 use Rattle.smk_model.specs.Selection.{ScansFit, PlanFits, leaf_kinds, each_kinds, nodes}
 use Rattle.smk_model.proofs.Expanded.{expanded_stands}
 use Rattle.smk_model.proofs.Keeping.{faultless_keep_limits}
-use Rattle.smk_model.proofs.Places.{map_map}
+use Rattle.smk_base.proofs.Places.{map_map}
 use Rattle.smk_parse.specs.Answers.{IsBookAnswer}
 
 -- a book that was parsed, with each dependency replaced, keeps the limits and has no dependency

@@ -1,13 +1,11 @@
 -- Stretches of a conversation over a book, one after the other, with what they come to.
-use Rattle.std.proofs.Common.{zero, suc, ◌≡◌, ◌≤◌, ◌<◌, ◌+◌, ℕ, Bool, true, false, List, [], ◌∷◌, ◌++◌, Option, Some, None, Result, Ok, Err, refl, sym, ap, ◌∙◌, subst, arith, inl, inr, length, length-append}
-use Rattle.std.specs.Prelude.{◌⊎◌, ◌||◌, nat_lt, ⊤}
+use Rattle.std.proofs.Common.{zero, suc, ◌≡◌, ◌≤◌, ◌+◌, ℕ, Bool, true, false, List, [], ◌∷◌, ◌++◌, Option, Some, None, Result, Ok, Err, refl, sym, ap, ◌∙◌, subst, arith, inl, inr, length, length-append}
+use Rattle.std.specs.Prelude.{◌||◌, nat_lt}
 use borrow.Author.Tests.{lt-ltb}
-use Rattle.std.specs.List.{fold}
 use Rattle.smk_base.specs.declared.book.catalog.TableInfo.{TableInfo}
 use Rattle.smk_base.specs.declared.fault.Fault.{Fault}
-use Rattle.smk_base.specs.declared.fault.Fault.TheVariants.{Usage, Book, Types, Table, FileLong, TableRows, ViewRows, ViewPairs, Unread}
-use Rattle.smk_model.specs.Conversation.{TalkTurn, Replied, Unbrought, ReadOnly, Forgone, TooLong, TalkState, line_of, session_after, turn_after, turn_told, turn_text, turns_told, FitsTalk, IsUnbrought}
-use Rattle.smk_model.specs.Outcome.{Held, UntoldCause, appended_at}
+use Rattle.smk_model.specs.Conversation.{TalkTurn, Replied, Unbrought, ReadOnly, Forgone, TooLong, TalkState, line_of, turn_after, turn_told, turns_told, FitsTalk}
+use Rattle.smk_model.specs.Outcome.{Held, appended_at}
 use Rattle.smk_model.specs.Session.{State}
 use Rattle.smk_model.specs.Reports.{BookSaid, Told, nothing_told, followed_by}
 use Rattle.smk_model.specs.TalkStarts.{BringsBy}
@@ -17,7 +15,7 @@ use Rattle.smk_outside.specs.declared.talk.event.Event.TheVariants.{Heard, End}
 use Rattle.smk_outside.specs.Hearing.{Hears}
 use Rattle.smk_outside.specs.Saying.{AreFront, Says, SaysFront}
 use Rattle.smk_outside.specs.Turning.{ReplyGives}
-use Rattle.smk_outside.specs.Conversing.{Stretch, Cause, Talks, TakesBy, last_state}
+use Rattle.smk_outside.specs.Conversing.{Cause, Talks, TakesBy, last_state}
 use Rattle.smk_outside.proofs.Telling.{Adds-trans, Takes-trans, TakesBy-trans, TakesBy-unheard}
 use Rattle.std.proofs.lemmas.List.{map-append}
 use Rattle.std.proofs.lemmas.List.Sums.{fold-append}

@@ -1,7 +1,6 @@
 -- The rules of a conversation over a book, and stretches of it with what they come to.
-use Rattle.std.specs.Prelude.{◌≡◌, ◌≤◌, ◌+◌, ⊤, ℕ, Bool, ◌||◌, nat_lt, List, [], length, Option, Some, None}
-use Rattle.smk_base.specs.CatalogImage.{CatalogImage}
-use Rattle.smk_model.specs.Conversation.{TalkTurn, TalkState, line_of, turn_after, turn_block, turn_told, turn_text, turns_told, session_after, FitsTalk, line_limit}
+use Rattle.std.specs.Prelude.{◌≡◌, ◌≤◌, ◌+◌, ℕ, Bool, ◌||◌, nat_lt, List, [], length, Option, Some, None}
+use Rattle.smk_model.specs.Conversation.{TalkTurn, TalkState, line_of, turn_after, turn_block, turn_told, turn_text, turns_told, session_after, FitsTalk}
 use Rattle.smk_model.specs.Outcome.{Held}
 use Rattle.smk_model.specs.Reports.{BookSaid, Told}
 use Rattle.smk_model.specs.Session.{State}

@@ -1,5 +1,5 @@
 -- What a rule that gave a result was made of.
-use Rattle.std.proofs.Common.{◌≡◌, ◌+◌, ◌≤◌, ℕ, suc, Bool, true, false, List, [], ◌∷◌, length, Ok, Err, refl, sym, ap, subst, arith, All}
+use Rattle.std.proofs.Common.{◌≡◌, ◌+◌, ◌≤◌, ℕ, suc, List, [], ◌∷◌, length, Ok, Err, refl, sym, ap, subst, arith, All}
 use Rattle.std.specs.Prelude.{OnOk}
 use Rattle.smk_base.specs.declared.book.catalog.Column.{Column}
 use Rattle.smk_base.specs.declared.book.type_fault.TypeFault.{TypeFault}

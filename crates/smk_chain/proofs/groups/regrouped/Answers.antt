@@ -9,7 +9,6 @@ use Rattle.smk_model.specs.Plain.{step1}
 use Rattle.smk_model.specs.Kinds.{kind_of_agg}
 use Rattle.smk_base.proofs.Places.{length_upto}
 use Rattle.smk_body.proofs.Besides.{related}
-use Rattle.smk_model.specs.Growth.{all_over_parts}
 use Rattle.smk_chain.specs.Runs.{joint_groups}
 use Rattle.smk_chain.proofs.Columns.{over_group, over_long}
 use Rattle.smk_chain.proofs.groups.regrouped.Goals as goal

@@ -1,7 +1,6 @@
 use Rattle.std.proofs.Common.{sym, subst}
 use Rattle.std.specs.List.{AllZip}
 use Rattle.smk_base.specs.Rels.{Relation, IsWider}
-use Rattle.smk_body.proofs.Parting.{same_wider}
 use Rattle.smk_chain.proofs.growing.rows_of_both.Goals as goal
 use Rattle.smk_table.proofs.Shown.{wider_same}
 

@@ -1,4 +1,4 @@
-use Rattle.std.proofs.Common.{◌<◌, Ok, ℕ, length, ap, arith, subst, ◌∙◌}
+use Rattle.std.proofs.Common.{◌<◌, Ok, ℕ, length, ap, arith, subst}
 use Rattle.std.specs.List.{AllZip}
 use Rattle.std.proofs.lemmas.Result.{IfOk-weaker}
 use Rattle.smk_base.proofs.Places.{length_upto, get_or_upto}

@@ -1,4 +1,4 @@
-use Rattle.std.proofs.Common.{◌≡◌, ◌∙◌, ◌∷◌, [], ℕ, List, Some, length, map, ap, refl, sym, subst, arith}
+use Rattle.std.proofs.Common.{◌≡◌, ◌∙◌, ◌∷◌, [], ℕ, List, Some, length, map, ap, sym, subst, arith}
 use Rattle.std.proofs.lemmas.List.{length-map}
 use Rattle.smk_base.specs.PlanImage.{expr_of}
 use Rattle.smk_base.specs.Rels.{Relation, kind_in}
@@ -7,7 +7,6 @@ use Rattle.smk_base.specs.declared.book.plan.Agg.{Agg}
 use Rattle.smk_base.specs.declared.value.Kind.{Kind}
 use Rattle.smk_model.specs.Kinds.{AggFits, kind_of_agg}
 use Rattle.smk_model.specs.Selection.{plan_kinds}
-use Rattle.smk_model.specs.Values.{Row}
 use Rattle.smk_model.proofs.Aggregates.{kind_of_moved, moved_fits}
 use Rattle.smk_base.proofs.Places.{map_map}
 use Rattle.smk_found.specs.Halves.{AreNumbered, class_values}

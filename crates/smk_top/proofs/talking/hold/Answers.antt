@@ -1,15 +1,11 @@
-use Rattle.std.proofs.Common.{[], ◌∷◌, ◌≡◌, ℕ, List, Option, Some, false, refl, ap, subst, sym, ◌∙◌, arith}
-use Rattle.smk_base.specs.declared.book.catalog.Catalog.{Catalog}
+use Rattle.std.proofs.Common.{◌≡◌, Some, false, refl}
 use Rattle.smk_model.specs.Conversation.{block_of}
-use Rattle.smk_model.specs.Outcome.{Held}
-use Rattle.smk_model.specs.Reports.{BookSaid}
 use Rattle.smk_outside.proofs.Telling.{Rose-after}
 use Rattle.smk_outside.specs.Outside.{Rose}
 use Rattle.smk_outside.specs.Turning.{ReplyGives}
 use Rattle.smk_outside.specs.declared.talk.ending.Ending.{Ending}
 use Rattle.smk_outside.specs.declared.talk.ending.Ending.TheVariants.{Ended, Unheard, Unsaid, Outlasted}
-use Rattle.smk_top.specs.Talking.{TakesTurn, EndsTurn, TurnTaken, Talked, talk_at}
-use Rattle.smk_inputs.proofs.Stops.{rose_within}
+use Rattle.smk_top.specs.Talking.{Talked, talk_at}
 use Rattle.smk_top.proofs.TalkStretches.{breaks_off, begun_talk}
 use Rattle.smk_session.specs.Sessions.{state_of}
 use Rattle.smk_inputs.specs.Loaded.{said_of}
