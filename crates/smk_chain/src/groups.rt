@@ -7,10 +7,9 @@ ghost use Rattle.smk_model.specs.Kinds.{AggFits};
 ghost use Rattle.smk_model.specs.Growth.{all_over_parts};
 ghost use Rattle.smk_chain.specs.Runs.{joint_classes, joint_groups};
 
-use smk_base::{Agg, Aggs, Kind, Rel};
+use smk_base::{Agg, Aggs, Kind, Rel, numbers_below};
 use smk_body::group_rows;
 use smk_keys::Classes;
-use smk_rid::numbers_below;
 use std::alloc::{AllocError, Global};
 
 /// One row for each key of these groups, whose first columns are the keys and whose other columns have these aggregates, and the classes of their keys.

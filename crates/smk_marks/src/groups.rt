@@ -14,7 +14,7 @@ ghost use Rattle.smk_marks.specs.Views.{CanGroup, Reads, chain_values, groups_of
 use crate::columns::{chain_column, keys_at, mark_classes};
 use crate::reached::Reached;
 use crate::view::KeptView;
-use smk_base::{Agg, Plan, Rel};
+use smk_base::{Agg, Plan, Rel, numbers_at};
 use smk_keys::Classes;
 use smk_table::Chosen;
 use std::alloc::{AllocError, Global};
