@@ -77,7 +77,7 @@ no_texts level (t ∷ ts) fit = absurd (fit 0 (values.Text t) (omega arith))
 
 -- ints of a level that is no wider than 0 are small
 pub all-small : (level : ℕ) (numbers : List ℤ) → level ≤ 0 → All (Fits (kinds.Int level)) (map values.Int numbers) → All (λ number. FitsSigned w64 number) numbers
-all-small zero numbers h fit = ints_within 0 numbers fit
+all-small zero numbers h fit k d p = ints_within 0 numbers fit k d p
 all-small (suc level) numbers h fit k d p = absurd (omega arith)
 
 pub Fits-wider : (a b : Kind) (v : Value) → IsWider a b → Fits b v → Fits a v

@@ -9,6 +9,5 @@ mod make;
 pub use body::OpBody;
 pub use find::join::{left_columns, matched, right_columns};
 pub use find::passing::selected;
-pub use make::agg_columns::{agg_column, best_column, group_rows};
-pub use make::aggregates::sums;
+pub use make::agg_columns::{agg_column, group_rows};
 pub use make::project::images;

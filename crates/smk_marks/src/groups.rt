@@ -1,8 +1,6 @@
 ghost use Rattle.std.specs.Prelude.{◌≡◌, ◌<◌, ◌≤◌, ◌+◌, [], ◌∷◌, true, All, IfOk, Some, length, map};
 ghost use Rattle.smk_base.specs.Aggregates.{read_by};
 ghost use Rattle.smk_base.specs.PlanImage.{expr_of};
-ghost use Rattle.smk_base.specs.Places.{upto};
-ghost use Rattle.smk_base.specs.Rels.{kind_in};
 ghost use Rattle.smk_base.specs.declared.rel.TheConstants.{ROW_LIMIT};
 ghost use Rattle.smk_found.specs.Halves.{AreNumbered, class_values};
 ghost use Rattle.smk_model.specs.Growth.{is_chain};

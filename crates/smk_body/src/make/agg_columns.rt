@@ -127,8 +127,8 @@ fn sum_level(rel: &Rel, c: u32) -> u8
     }
 }
 
-/// The least or the greatest value of column c in each class.
-pub fn best_column(
+// The least or the greatest value of column c in each class.
+fn best_column(
     alloc: Global,
     rel: &Rel,
     c: u32,

@@ -15,7 +15,7 @@ use smk_keys::Classes;
 use std::alloc::{AllocError, Global};
 
 /// The sum of the ints in column c over each class.
-pub fn sums(
+pub(crate) fn sums(
     alloc: Global,
     rel: &Rel,
     c: u32,

@@ -1,8 +1,10 @@
 use Rattle.std.proofs.Common.{◌≡◌, pos, map, refl, rules, arith, ◌∙◌, ◌+◌, ℕ, ap, sym, All, ◌<◌}
 use Rattle.std.proofs.lemmas.List.{take_all, length-map}
-use Rattle.std.proofs.lemmas.List.Elements.{All-from_get_or}
-use Rattle.smk_base.specs.Rels.{IsWithin}
-use Rattle.smk_base.proofs.Kept.{IsColumnOf-ints, counts_within}
+use Rattle.std.proofs.lemmas.List.Elements.{All-from_get_or, All-map, All-weaker}
+use Rattle.smk_base.specs.Rels.{Fits, IsWithin}
+use Rattle.smk_base.specs.declared.value.Kind.TheVariants as kinds
+use Rattle.smk_base.specs.declared.value.Value.TheVariants as values
+use Rattle.smk_base.proofs.Kept.{IsColumnOf-ints, Within-wider, counts_within}
 use Rattle.smk_base.proofs.Loops.{mapped_next}
 use Rattle.smk_base.proofs.rel.value_column.ValueColumn.of_counts.Goals as goal
 
@@ -29,4 +31,4 @@ pub with_kind-requires-clause-fits : goal.with_kind-requires-clause-fits
 with_kind-requires-clause-fits c =
     let whole : c.loop-count.ints.items ≡ map pos c.args.counts.now = c.loop-count.invariant.made ∙ ap (map pos) (take_all c.loop-count.count-index c.args.counts.now c.loop-count-test.false) in
     let within : All (IsWithin 0) c.loop-count.ints.items = rw whole (counts_within c.args.counts.now (All-from_get_or (λ n. n < 4294967296) c.args.counts.now 0 (λ k h. omega (arith, c.type_inv.counts k)))) in
-    ?
+    All-map (Fits (kinds.Int c.args.level)) values.Int c.loop-count.ints.items (All-weaker (IsWithin 0) (IsWithin c.args.level) (λ n w. Within-wider c.args.level 0 n (omega arith) w) c.loop-count.ints.items within)
