@@ -1,4 +1,4 @@
-ghost use Rattle.std.specs.Prelude.{◌≡◌, ◌<◌, ◌≤◌, ◌+◌, [], ◌∷◌, true, All, IfOk, Some, length, map};
+ghost use Rattle.std.specs.Prelude.{◌≡◌, ℕ, ◌<◌, ◌≤◌, ◌+◌, [], ◌∷◌, true, All, IfOk, Some, length, map};
 ghost use Rattle.smk_base.specs.Aggregates.{read_by};
 ghost use Rattle.smk_base.specs.PlanImage.{expr_of};
 ghost use Rattle.smk_base.specs.declared.rel.TheConstants.{ROW_LIMIT};
