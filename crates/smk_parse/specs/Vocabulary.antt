@@ -2,7 +2,7 @@
 pub use Rattle.std.specs.{Char.is_ascii_digit, Int.w64, List.prefix_len}
 pub use Rattle.smk_base.specs.declared.fault.BookFault.TheVariants.{BadNumber, BadToken, NoMemory, TooMany, Unexpected}
 pub use Rattle.smk_base.specs.declared.fault.Many.TheVariants.{Columns, NameBytes, Nodes}
-pub use Rattle.smk_base.specs.declared.{fault.BookFault.BookFault, fault.LineFault.LineFault, fault.Many.Many, plan.CmpOp.CmpOp, token.TokenKind.TokenKind, tree.Book.Book, tree.Extra.Extra, tree.Line.Line, tree.LineSpan.LineSpan, tree.Lit.Lit, tree.Marks.Marks, tree.Stmt.Stmt, tree.Term.Term, tree.Then.Then, tree.Word.Word}
+pub use Rattle.smk_base.specs.declared.{fault.BookFault.BookFault, fault.LineFault.LineFault, fault.Many.Many, book.plan.CmpOp.CmpOp, book.token.TokenKind.TokenKind, book.tree.Book.Book, book.tree.Extra.Extra, book.tree.Line.Line, book.tree.LineSpan.LineSpan, book.tree.Lit.Lit, book.tree.Marks.Marks, book.tree.Stmt.Stmt, book.tree.Term.Term, book.tree.Then.Then, book.tree.Word.Word}
 pub use Rattle.smk_base.specs.TreeImage.{any_image, ask_image, ask_step_image, book_image, pred_image, step_image, stmt_image, tree_image}
 pub use Rattle.smk_base.specs.Trees.{AskStepImage, BackNode, CompareNode, DependsNode, FwdNode, LinkNode, StmtImage}
 pub use Rattle.smk_model.specs.Grammar.{AreAggs, AreAnds, AreAskSteps, AreKeys, AreListed, AreMarks, AreMore, AreOrs, AreSteps, AreStmts, First, IsAgg, IsAnyLine, IsAskLine, IsAskStep, IsColumn, IsConj, IsDecl, IsDefault, IsExtra, IsFile, IsItem, IsLine, IsLiteral, IsMark, IsName, IsNamed, IsOp, IsPair, IsPlan, IsPred, IsPrim, IsSource, IsStep, IsStmt, IsTerm, IsThen, IsType, IsWhat, IsWholeAnyLine, IsWholeLine, IsWidth}

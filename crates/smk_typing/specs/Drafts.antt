@@ -6,7 +6,7 @@ use Rattle.smk_base.specs.declared.book.catalog.LinkInfo.{LinkInfo}
 use Rattle.smk_base.specs.declared.book.tree.Word.{Word}
 use Rattle.smk_base.specs.CatalogImage.{CatalogImage, ViewImage, view_image}
 use Rattle.smk_base.specs.Trees.{TreeImage}
-use Rattle.smk_model.specs.Names.{Typed, in_turn}
+use Rattle.smk_model.specs.Names.{Typed, ◌>>=◌, in_turn}
 use Rattle.smk_model.specs.Typing.{typed_plan, view_of, to_after}
 use Rattle.smk_typing.specs.declared.draft.Draft.{Draft}
 
