@@ -32,6 +32,7 @@ pub right_wider : (ls rs : List Kind) → AllZip AreAlike ls rs → AllZip IsWid
 right_wider [] [] h = tt
 right_wider (kinds.Int a ∷ ls) (kinds.Int b ∷ rs) h = (omega arith, right_wider ls rs h.1)
 right_wider (kinds.Text ∷ ls) (kinds.Text ∷ rs) h = (tt, right_wider ls rs h.1)
+right_wider (k ∷ ls) (j ∷ rs) h = absurd h.0
 right_wider _ _ h = absurd h
 
 -- a row fits wider kinds
