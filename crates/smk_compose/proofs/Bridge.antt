@@ -43,8 +43,11 @@ heavy_is : (b f h : Bool) (X Y : Lists) (n : ℕ) → IsTrue (b || f) → pairs_
 heavy_is true true true X Y n some x y none = rw (x, y) (elim (cases_Bool (nat_lt pair_limit n)) [ inl e ↦ rw e refl | inr e ↦ rw e refl ])
 heavy_is true false true X Y n some x y none = rw x (sym (or_false (nat_lt pair_limit n)))
 heavy_is false true true X Y n some x y none = rw y refl
-heavy_is false false _ X Y n some x y none = let e : false ≡ true = some in absurd (cc)
-heavy_is _ _ false X Y n some x y none = rw (none refl) refl
+heavy_is false false true X Y n some x y none = let e : false ≡ true = some in absurd (cc)
+heavy_is true true false X Y n some x y none = rw (none refl) refl
+heavy_is true false false X Y n some x y none = rw (none refl) refl
+heavy_is false true false X Y n some x y none = rw (none refl) refl
+heavy_is false false false X Y n some x y none = let e : false ≡ true = some in absurd (cc)
 
 crowded_is : (plan : Expr) (E tables : List (List Row)) (n : Needed) → AreWhole plan E tables → IsTrue (is_needed n) → is_crowded plan E (n.table, length (table_at tables n.table)) ≡ has_heavy (held_at plan tables n)
 crowded_is plan E tables n are some =

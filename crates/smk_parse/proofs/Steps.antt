@@ -2,6 +2,9 @@
 use Rattle.std.specs.Prelude.{Result, Ok, Err, Option, Some, None, is_some, cond, IsTrue, nat_lt}
 use Rattle.smk_parse.specs.Vocabulary.{TokenKind, BookFault, Many, TooMany, BadNumber, NoMemory, Token, head_of, tail_of, First, Configuration, PlanCounts, Symbol, Move, Takes, Skips, Wrong, Past, Outside, through, settle, move_of, or_next, go_on, fault_at, is_more, same_kind, AToken, Columns, NameBytes, Nodes, node_more, node_move, step_symbols, at_any_line, at_ask_steps, at_line, AStep, AnyLine, ALine, within, is_mark, at_first, at_item, at_keys, at_source, at_united, at_column, at_term, at_literal, at_mark, at_marks, AColumn, ALiteral, AnAs, AKeys, AFirst, AnItem, MoreKeys, ASource, AUnited, ATerm, AMarks, AMark, MoreMarks, AreMore, AreListed, at_more, int_value}
 use Rattle.std.proofs.Common.{◌≡◌, ◌<◌, List, [], ◌∷◌, ◌++◌, length, ap, ◌∙◌, sym, refl, append_assoc, arith, ℕ, ◌+◌, true, false, subst, ℤ, Bool}
+use Rattle.std.proofs.lemmas.{Bool.lt-ltb, Grind.length_at_push}
+use Rattle.smk_model.{proofs.Alike.same_is, specs.Grammar.one_more}
+use Rattle.smk_parse.specs.{Reads.Leads, Reads.Fails, Reads.is_memory, Reads.Comes, Reads.Reads, Reads.is_column, Texts.Advances}
 use Rattle.smk_base.specs.declared.book.limits.TheConstants.{NODE_LIMIT}
 use Rattle.smk_base.specs.declared.rel.TheConstants.{COLUMN_LIMIT}
 use Rattle.smk_base.specs.declared.book.token.TokenKind.TheVariants as kinds

@@ -5,6 +5,7 @@ use Rattle.smk_base.specs.declared.book.token.TokenKind.TheVariants as kinds
 use Rattle.smk_base.specs.declared.value.Value.TheVariants as values
 use Rattle.smk_base.specs.declared.book.tree.Line.TheVariants as lines
 use Rattle.smk_model.specs.Grammar.{name, plain, quoted, number, string, file, mark, width, by_itself, group_extra, group_step, union_all_step, union_step, int_type, text_type, no_default, default, decl, by_as, column_item, bin_item, count, sum, min, max, agg, no_keys, keys, no_aggs, aggs, pair, eq, ne, lt, le, gt, ge, column_term, literal_term, negated, bracketed, compared, conj, no_and, one_and, pred, no_or, one_or, plan, scan, inner_plan, no_step, one_step, where_step, project_step, distinct_step, group_step, join_step, theta_step, product_step, no_extra, by_extra, table_stmt, view_stmt, back_stmt, fwd_stmt, link_stmt, depends_stmt, all_marks, listed_marks, no_then, where_then, group_then, show_line, back_line, fwd_line, brush_line, clear_line, clear_one_line, whole_line, ask_line, plain_line, asked_line, profiled_line, appended_line, whole_any_line}
+use Rattle.smk_parse.specs.{Texts.Advances, Reads.is_column, Reads.column_word, Reads.AreNames, Reads.two_names, Reads.IsMarked, Reads.marked, Reads.ArePiped, Reads.piped}
 use Rattle.smk_parse.proofs.Steps.{first_here, in_order}
 
 pub name_is : (c : PlanCounts) (a b : Configuration) (w : Word) → Advances c a b → (head_of a.rest).kind ≡ kinds.Name → w ≡ column_word (head_of a.rest) → IsName a.rest b.rest w

@@ -1,9 +1,11 @@
 -- What a whole book or line is read as.
+use Rattle.std.{specs.Prelude.Some, specs.Prelude.None, specs.Prelude.Ok, specs.Prelude.Err, specs.Prelude.map, proofs.lemmas.List.map_push}
 use Rattle.smk_parse.specs.Vocabulary.{BookFault, LineFault, Stmt, NoMemory, StmtImage, stmt_image, AskStepImage, ask_step_image, First, IsAskStep, AreAskSteps, Token, head_of, tokens, HasNoToken, IsStmt, AreStmts, Configuration, Symbol, through, book_symbols, AnEnd, fault_in, no_counts}
 use Rattle.std.proofs.Common.{◌≡◌, ℕ, List, [], ◌∷◌, ◌++◌, false, ap, ◌∙◌, sym, subst, refl, append_assoc, append-nil}
 use Rattle.smk_base.specs.declared.book.token.TokenKind.TheVariants as kinds
 use Rattle.smk_base.specs.declared.book.tree.AskStep.{AskStep}
 use Rattle.smk_model.specs.Grammar.{no_stmt, one_stmt, no_ask_step, one_ask_step}
+use Rattle.smk_parse.{specs.Reads.Leads, specs.Reads.Fails, specs.Reads.is_memory, specs.Reads.ArePiped, specs.Reads.piped, specs.Answers.IsBookAnswer, specs.Answers.IsAnswer, specs.Answers.as_line_fault, proofs.Steps.Here}
 
 -- what the statements that follow make of those so far
 pub record EndsStmts (a b : List Token) (ss : List StmtImage) : Type 0 where

@@ -27,8 +27,8 @@ use Rattle.smk_push.proofs.Read.{rows_picked}
 use Rattle.smk_push.specs.Inputs.{AreRead, IsInput, cube_from, grouped_at, rids_of}
 
 -- a set of places below n has at most n
-pub few_places : (n : ℕ) (A : List ℕ) → IsPlaces n A → length A ≤ n
-few_places n A set = omega (arith, ap length set, few_places (has A) n)
+pub few_in_set : (n : ℕ) (A : List ℕ) → IsPlaces n A → length A ≤ n
+few_in_set n A set = omega (arith, ap length set, few_places (has A) n)
 
 -- one list more
 pub one_more : (f : List ℕ → Relation) (lists : List (List ℕ)) (m : ℕ) (groups : List Relation) (made : Relation) → m < length lists

@@ -1,5 +1,6 @@
 use Rattle.std.proofs.Common.{[], ◌∷◌, ◌∙◌, sym, subst, ap, refl, map}
 use Rattle.smk_base.specs.declared.book.token.TokenKind.TheVariants as kinds
+use Rattle.smk_parse.{specs.Vocabulary.AnAskStep, specs.Vocabulary.AskSteps, specs.Vocabulary.ask_step_image, specs.Vocabulary.at_ask_steps, proofs.Steps.first_here, proofs.Steps.opened, proofs.Steps.skips, proofs.Steps.no_bar, proofs.Steps.comes_self, proofs.Steps.comes_on, proofs.Steps.comes_leads, proofs.Steps.list_comes, proofs.Whole.EndsSteps, proofs.Whole.steps_begin, proofs.Whole.steps_go_on, proofs.Whole.steps_done}
 use Rattle.smk_parse.proofs.ask.ask_steps.Goals as goal
 
 pub steps-init : goal.steps-init

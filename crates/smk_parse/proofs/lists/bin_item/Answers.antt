@@ -1,7 +1,10 @@
 use Rattle.std.proofs.Common.{◌≡◌, ap, sym, subst, rules, arith}
+use Rattle.std.proofs.lemmas.{Int.ints, Grind.common_steps}
+use mir.{Val.to_z, Val.of_z, Syntax.w64}
 use Rattle.smk_base.specs.declared.book.tree.ItemTree.TheVariants as items
 use Rattle.smk_base.specs.declared.book.token.TokenKind.TheVariants as kinds
 use Rattle.smk_model.specs.Grammar.{bin_item}
+use Rattle.smk_parse.{specs.Vocabulary.IsItem, proofs.Steps.first_here}
 use Rattle.smk_parse.proofs.lists.bin_item.Goals as goal
 
 pub returns-clause-is : goal.returns-clause-is

@@ -2,6 +2,7 @@ use Rattle.std.proofs.Common.{◌+◌, ◌++◌, [], ◌∷◌, length, refl, �
 use Rattle.smk_base.specs.declared.book.token.TokenKind.TheVariants as kinds
 use Rattle.std.proofs.lemmas.Result.{err_from_is_err_and}
 use Rattle.smk_model.specs.Grammar.{AreListed, listed, no_more}
+use Rattle.smk_parse.{specs.Reads.Fails, specs.Reads.Comes, specs.Reads.Leads, proofs.Steps.comes_self, proofs.Steps.list_comes, proofs.Steps.comes_on, proofs.Steps.comes_fails, proofs.Steps.fail_first, proofs.Steps.first_here, proofs.Steps.EndsList, proofs.Steps.goes_list, proofs.Steps.more_goes, proofs.Steps.more_ends}
 use Rattle.smk_parse.proofs.lists.listed.Goals as goal
 
 pub members-init : goal.members-init

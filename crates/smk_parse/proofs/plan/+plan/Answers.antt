@@ -1,6 +1,8 @@
+use Rattle.std.{specs.Prelude.unwrap_or, proofs.lemmas.Grind.common_steps, proofs.lemmas.Result.err_from_is_err_and}
 use Rattle.std.proofs.Common.{[], ◌∷◌, ap, ◌∙◌, subst, sym, arith, rules}
 use Rattle.smk_base.specs.declared.book.token.TokenKind.TheVariants as kinds
 use Rattle.smk_model.specs.Grammar.{inner_plan, no_step, group_step, join_step, theta_step, product_step, union_all_step, union_step}
+use Rattle.smk_parse.{specs.Vocabulary.First, specs.Vocabulary.IsPred, specs.Vocabulary.pred_image, specs.Vocabulary.step_symbols, specs.Vocabulary.ASource, specs.Vocabulary.AUnited, specs.Reads.Leads, specs.Reads.Fails, proofs.Trees.plans, proofs.Steps.first_here, proofs.Steps.in_loop, proofs.Steps.started_fails, proofs.Steps.started_leads, proofs.Steps.step_reads, proofs.Steps.united_starts}
 use Rattle.smk_parse.proofs.plan.+plan.Goals as goal
 
 pub source-returns-in-Scan : goal.source-returns-in-Scan

@@ -1,5 +1,6 @@
 use Rattle.std.proofs.Common.{◌+◌, ◌-◌, ◌*◌, [], ◌∷◌, length}
 use Rattle.smk_base.specs.declared.book.limits.TheConstants.{DEPTH_LIMIT}
+use Rattle.smk_parse.{specs.Vocabulary.tree_image, specs.Vocabulary.AreSteps, specs.Vocabulary.IsPlan, specs.Vocabulary.ASource, specs.Vocabulary.ASteps, proofs.Steps.IsChain}
 use Rattle.smk_parse.proofs.plan.+plan.Given as goal
 
 abbrev pub decreases-source : goal.decreases-source

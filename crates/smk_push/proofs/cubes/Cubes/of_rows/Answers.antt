@@ -1,11 +1,11 @@
 use Rattle.std.proofs.Common.{◌≡◌, ◌∙◌, ◌<◌, ◌++◌, All, length, drop, slice_index_or, [], ap, refl, subst, arith}
 use Rattle.std.proofs.lemmas.List.{length-append, length-drop, length-take-le}
 use Rattle.smk_push.specs.Cubes.{cube_of}
-use Rattle.smk_push.proofs.Rows.{few_places, one_more}
+use Rattle.smk_push.proofs.Rows.{few_in_set, one_more}
 use Rattle.smk_push.proofs.cubes.Cubes.of_rows.Goals as goal
 
 pub group_at-requires-clause-few : goal.group_at-requires-clause-few
-group_at-requires-clause-few c = omega (arith, few_places c.args.map.now.bound c.at-rids.result.now c.at-rids.ensures.set, c.requires.bound, c.len-rows.ensures.count, c.len-rows.ensures.few)
+group_at-requires-clause-few c = omega (arith, few_in_set c.args.map.now.bound c.at-rids.result.now c.at-rids.ensures.set, c.requires.bound, c.len-rows.ensures.count, c.len-rows.ensures.few)
 
 pub loop-mark-preserved : goal.loop-mark-preserved
 loop-mark-preserved c =
