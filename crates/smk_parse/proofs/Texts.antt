@@ -2,7 +2,7 @@
 use Rattle.std.specs.Prelude.{cond, nat_eq, Bool, true, false, pos, neg_ℤ, take, drop, length, ◌==◌, take_while, not, FitsSigned}
 use Rattle.smk_parse.specs.Vocabulary.{digits_value, TokenKind, Begins, front, Between, tokens_from, put, is_more, undoubled, prefix_len, no_line_end, first_line, lines, lines_after, without_cr, w64}
 use Rattle.std.proofs.Common.{◌≡◌, ℕ, zero, suc, ◌+◌, ◌*◌, ◌-◌, ◌<◌, List, [], ◌∷◌, get_or, drop-cons, ap, ◌∙◌, sym, arith, subst, refl, ◌≤◌, ◌++◌, append_assoc, min, append-nil, length-append}
-use Rattle.std.proofs.lemmas.List.{drop-drop, length-drop, take_all, length-take, take-take}
+use Rattle.std.proofs.lemmas.List.{drop-drop, length-drop, take_all, length-take, take-take, Folds.length-prefix_len}
 use Rattle.smk_base.specs.declared.book.token.TokenKind.TheVariants.{End}
 use Rattle.smk_model.proofs.Keeping.{Fitting, front_fits}
 use Rattle.smk_parse.specs.Texts.{left_at, Stands, Cuts}
