@@ -1,9 +1,12 @@
 ghost use Rattle.std.specs.Prelude.{◌≡◌, ◌<◌, length};
 
-use crate::opened::open_book;
+use crate::opened::{open_book, rows_shown};
 use crate::shop::shop;
-use smk_base::{CellRef, Kind, Row, Value};
+use smk_base::{Agg, Aggs, CellRef, Keys, Kind, Row, Text, Value};
 use smk_outside::Steps;
+use smk_push::Cubes;
+use smk_rid::RidMap;
+use smk_skip::Split;
 use smk_table::{Table, read_table_in_pieces};
 use smk_test_bodies::Meeting;
 use std::alloc::{AllocError, Global};
@@ -47,7 +50,33 @@ fn gives<L: Ledger>(
     Ok(of_cell && of_row && of_dict && codes == [0, 1, 0])
 }
 
-// A run looks at chosen rows at once, copies none by itself and tells no code.
+// Whether a split and groupings that are built over the table of the regions give the rids of a mark and a zone, and the groups of a mark.
+fn builds<L: Ledger>(
+    system: HostRuntime,
+    alloc: Global,
+    table: &Table,
+    blank: Blank,
+) -> Result<bool, Fail>
+    requires name { L.name ≡ blank.name }
+    requires parts { L.parts ≡ blank.parts }
+    requires some { 0 < blank.parts }
+    requires rows { length table.now.rows ≡ 3 }
+    requires columns { length table.now.kinds ≡ 2 }
+{
+    let mut steps: Steps<L> = Steps::new(system, blank);
+    let of = [Some(0), Some(1), Some(0)];
+    let lists = RidMap::from_array(alloc, of.as_slice(), 2)?.invert(alloc)?;
+    let split = Split::build(alloc, &lists, table, 1, &mut steps)?;
+    let zone = Value::Text(Text::from_vec(Vec::from_slice(alloc, b"A")?));
+    let rids = split.rows(alloc, [0].as_slice(), &zone)?;
+    let keys = Keys::from_vec(Vec::from_slice(alloc, &[1])?);
+    let aggs = Aggs::from_vec(Vec::from_slice(alloc, &[Agg::Count])?);
+    let cubes = Cubes::build(alloc, &lists, table, &keys, &aggs, &mut steps)?;
+    let groups = rows_shown(alloc, cubes.groups(0))?;
+    Ok(rids.as_slice() == [0u32, 2].as_slice() && groups.as_str() == "A 2 \n")
+}
+
+// A run looks at chosen rows at once, copies none by itself and tells no code, and makes splits and groupings over rows that it has.
 #[test]
 fn a_table_gives_cells_rows_and_codes(rt: HostRuntime) -> Result<(), Fail> {
     let shop = shop(rt.alloc())?;
@@ -56,6 +85,7 @@ fn a_table_gives_cells_rows_and_codes(rt: HostRuntime) -> Result<(), Fail> {
     };
     assert_eq!(rt; (table.len(), table.width()), (3, 2));
     assert!(rt; gives::<Brand>(rt, rt.alloc(), table, Blank::new(1))?);
+    assert!(rt; builds::<Brand>(rt, rt.alloc(), table, Blank::new(1))?);
     Ok(())
 }
 
