@@ -19,7 +19,6 @@ use Rattle.smk_model.proofs.Replies.{first_contents}
 use Rattle.smk_session.specs.Answers.{placed}
 use Rattle.smk_session.specs.Sessions.{content_kept, follows}
 use Rattle.smk_session.specs.declared.turn.Content.{Content}
-use Rattle.smk_session.proofs.Followers.{pick_with}
 
 -- a brush more or less, and a test that no brush of its view and table passes
 
@@ -84,9 +83,12 @@ unconcerned catalog v t w u b unnamed is = elim (cases_Bool (nat_eq b.table u)) 
 abbrev under_brushes : List (List Row) → List BrushOn → State
 under_brushes tables brushes = record { tables = tables; brushes = brushes }
 
+abbrev pick_of : ℕ → List ℕ → Pick
+pick_of t rids = record { table = t; rids = rids }
+
 same_picks : (catalog : CatalogImage) (tables : List (List Row)) (bs cs : List BrushOn) (w : ℕ) → ((u : ℕ) → filter (concerns catalog w u) bs ≡ filter (concerns catalog w u) cs)
     → picks_for catalog (under_brushes tables bs) w ≡ picks_for catalog (under_brushes tables cs) w
-same_picks catalog tables bs cs w same = map_upto_agree _ _ (length tables) (λ t low. ap (λ (l : List BrushOn). pick_with t (places (λ rid. list_all (λ (brush : BrushOn). has brush.rids rid) l) (length (rows_of_table (under_brushes tables []) t)))) (same t))
+same_picks catalog tables bs cs w same = map_upto_agree _ _ (length tables) (λ t low. ap (λ (l : List BrushOn). pick_of t (places (λ rid. list_all (λ (brush : BrushOn). has brush.rids rid) l) (length (rows_of_table (under_brushes tables []) t)))) (same t))
 
 same_content : (catalog : CatalogImage) (tables : List (List Row)) (bs cs : List BrushOn) (w : ℕ) → ((u : ℕ) → filter (concerns catalog w u) bs ≡ filter (concerns catalog w u) cs)
     → content catalog (under_brushes tables bs) w ≡ content catalog (under_brushes tables cs) w
