@@ -25,4 +25,6 @@ loop-i-preserved c =
     subst (All unlike) (sym (take_more choices c.loop-i.i c.index-choices-i.result c.loop-i-test.true)) (All-push unlike (take c.loop-i.i choices) _ c.loop-i.invariant c.if-are_alike.ensures.other)
 
 pub returns-clause-none : goal.returns-clause-none
-returns-clause-none c = subst (All _) (take_all c.loop-i.i c.args.choices.now (omega (arith, c.loop-i-test.false))) c.loop-i.invariant
+returns-clause-none c =
+    let unlike = λ (choice : Choice). ¬ AreAlike (catalog_image c.args.catalog.now) c.args.brushes.now c.args.t c.args.w choice.view in
+    subst (All unlike) (take_all c.loop-i.i c.args.choices.now (omega (arith, c.loop-i-test.false))) c.loop-i.invariant
