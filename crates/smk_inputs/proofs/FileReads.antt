@@ -35,17 +35,23 @@ pub says_after : {A X Y : Type 0} (image : X → A) (content : Y → List ℕ) (
     → Answers (says bytes) image r → ReadsNamed held rose name (λ h. FileSays h name says) image r
 says_after image content (Some held) rose name bytes y says (Ok x) is same own a = read is (subst (λ (b : List ℕ). says b (Ok (image x))) same a)
 says_after image content (Some held) rose name bytes y says (Err (At fault)) is same own a = inl (read is (subst (λ (b : List ℕ). says b (Err fault)) same a))
+says_after image content (Some held) rose name bytes y says (Err Unwritten) is same own a = a
+says_after image content (Some held) rose name bytes y says (Err Exhausted) is same own a = tt
+says_after image content None rose name bytes y says (Ok x) is same own a = tt
 says_after image content None rose name bytes y says (Err (At fault)) is same own a = own fault a
-says_after image content _ rose name bytes y says (Err Unwritten) is same own a = a
-says_after image content _ rose name bytes y says _ is same own a = tt
+says_after image content None rose name bytes y says (Err Unwritten) is same own a = a
+says_after image content None rose name bytes y says (Err Exhausted) is same own a = tt
 
 -- the file isn't read
 pub says_stop : {A X Y : Type 0} (image : X → A) (content : Y → List ℕ) (held : Option Held) (rose : Type 0) (name : List ℕ) (says : List ℕ → Result A Fault → Type 0) (stop : Stop)
     → ReadsNamed {X = Y} held rose name (λ h answer. content_of h name ≡ answer) content (Err stop) → ReadsNamed {X = X} held rose name (λ h. FileSays h name says) image (Err stop)
 says_stop image content (Some held) rose name says (At fault) (inl is) = inl (unread is)
 says_stop image content (Some held) rose name says (At fault) (inr up) = inr up
-says_stop image content _ rose name says Exhausted is = tt
-says_stop image content _ rose name says _ is = is
+says_stop image content (Some held) rose name says Unwritten is = is
+says_stop image content (Some held) rose name says Exhausted is = tt
+says_stop image content None rose name says (At fault) is = is
+says_stop image content None rose name says Unwritten is = is
+says_stop image content None rose name says Exhausted is = tt
 
 -- the same, said in other words
 pub reads_as : {A X : Type 0} (image : X → A) (held : Option Held) (rose : Type 0) (name : List ℕ) (says other : Held → Result A Fault → Type 0) (r : Result X Stop)

@@ -42,8 +42,11 @@ pub book_stops : {X Y : Type 0} (image : X → BookSaid) (reads : Y → List Rea
     → ReadsNamed held rose book (λ h. OpensBook h book) image (Err stop) → ReadsAll {X = Y} held rose book script reads bytes (Err stop)
 book_stops image reads bytes (Some held) rose book script (At fault) (inl err) = inl (no_book err)
 book_stops image reads bytes (Some held) rose book script (At fault) (inr (up, name)) = inr (up, rw name the_book)
-book_stops image reads bytes _ rose book script Exhausted h = tt
-book_stops image reads bytes _ rose book script _ h = h
+book_stops image reads bytes (Some held) rose book script Unwritten h = h
+book_stops image reads bytes (Some held) rose book script Exhausted h = tt
+book_stops image reads bytes None rose book script (At fault) h = h
+book_stops image reads bytes None rose book script Unwritten h = h
+book_stops image reads bytes None rose book script Exhausted h = tt
 
 -- the tables
 pub tables_stop : {X Y Z : Type 0} (image : X → BookSaid) (rows : Z → List (List Row)) (reads : Y → List Reading → Inputs) (bytes : Y → List ℕ) (opened : X) (held : Option Held) (rose_before rose_here rose : Type 0) (book : List ℕ) (script : Option (List ℕ)) (stop : Stop)
@@ -52,9 +55,11 @@ pub tables_stop : {X Y Z : Type 0} (image : X → BookSaid) (rows : Z → List (
     → Loads held rose_here (image opened).catalog.tables rows (Err stop) → ReadsAll {X = Y} held rose book script reads bytes (Err stop)
 tables_stop image rows reads bytes opened (Some held) r1 r2 rose book script (At fault) wide ok (inl err) = inl (no_tables ok err)
 tables_stop image rows reads bytes opened (Some held) r1 r2 rose book script (At fault) wide ok (inr (up, unread_among before table behind are loaded name)) = inr (wide up, rw name (a_table before table behind ok are loaded))
+tables_stop image rows reads bytes opened (Some held) r1 r2 rose book script Unwritten wide ok h = h
+tables_stop image rows reads bytes opened (Some held) r1 r2 rose book script Exhausted wide ok h = tt
 tables_stop image rows reads bytes opened None r1 r2 rose book script (At fault) wide ok h = untold_within r2 rose fault wide h
-tables_stop image rows reads bytes opened _ r1 r2 rose book script Unwritten wide ok h = h
-tables_stop image rows reads bytes opened _ r1 r2 rose book script Exhausted wide ok h = tt
+tables_stop image rows reads bytes opened None r1 r2 rose book script Unwritten wide ok h = h
+tables_stop image rows reads bytes opened None r1 r2 rose book script Exhausted wide ok h = tt
 
 -- the script
 pub script_stops : {X Y Z V : Type 0} (image : X → BookSaid) (rows : Z → List (List Row)) (content : V → List ℕ) (reads : Y → List Reading → Inputs) (bytes : Y → List ℕ) (opened : X) (tables : Z)
@@ -65,9 +70,11 @@ pub script_stops : {X Y Z V : Type 0} (image : X → BookSaid) (rows : Z → Lis
     → OpensBytes {X = V} held rose_here script content (Err stop) → ReadsAll {X = Y} held rose book script reads bytes (Err stop)
 script_stops image rows content reads bytes opened tables (Some held) r1 r2 r3 rose book script (At fault) wide ok fine (inl err) = inl (no_readings ok fine err)
 script_stops image rows content reads bytes opened tables (Some held) r1 r2 r3 rose book script (At fault) wide ok fine (inr (up, (name, some, is))) = inr (wide up, rw is (the_script ok fine some))
+script_stops image rows content reads bytes opened tables (Some held) r1 r2 r3 rose book script Unwritten wide ok fine h = h
+script_stops image rows content reads bytes opened tables (Some held) r1 r2 r3 rose book script Exhausted wide ok fine h = tt
 script_stops image rows content reads bytes opened tables None r1 r2 r3 rose book script (At fault) wide ok fine h = untold_within r3 rose fault wide h
-script_stops image rows content reads bytes opened tables _ r1 r2 r3 rose book script Unwritten wide ok fine h = h
-script_stops image rows content reads bytes opened tables _ r1 r2 r3 rose book script Exhausted wide ok fine h = tt
+script_stops image rows content reads bytes opened tables None r1 r2 r3 rose book script Unwritten wide ok fine h = h
+script_stops image rows content reads bytes opened tables None r1 r2 r3 rose book script Exhausted wide ok fine h = tt
 
 -- the files of the script's lines
 pub added_stop : {X Y Z V W : Type 0} (image : X → BookSaid) (rows : Z → List (List Row)) (content : V → List ℕ) (more : W → List (List Row)) (reads : Y → List Reading → Inputs) (bytes : Y → List ℕ) (opened : X) (tables : Z) (text : V) (said : List Reading)
@@ -79,9 +86,11 @@ pub added_stop : {X Y Z V W : Type 0} (image : X → BookSaid) (rows : Z → Lis
     → Loads {X = W} held rose_here (appended (image opened).catalog said) more (Err stop) → ReadsAll {X = Y} held rose book script reads bytes (Err stop)
 added_stop image rows content more reads bytes opened tables text said (Some held) r1 r2 r3 r4 rose book script (At fault) wide ok fine read are (inl err) = inl (no_rows ok fine (read said are) err)
 added_stop image rows content more reads bytes opened tables text said (Some held) r1 r2 r3 r4 rose book script (At fault) wide ok fine read are (inr (up, unread_among before table behind cut loaded name)) = inr (wide up, rw name (of_a_line before table behind ok fine (read said are) cut loaded))
+added_stop image rows content more reads bytes opened tables text said (Some held) r1 r2 r3 r4 rose book script Unwritten wide ok fine read are h = h
+added_stop image rows content more reads bytes opened tables text said (Some held) r1 r2 r3 r4 rose book script Exhausted wide ok fine read are h = tt
 added_stop image rows content more reads bytes opened tables text said None r1 r2 r3 r4 rose book script (At fault) wide ok fine read are h = untold_within r4 rose fault wide h
-added_stop image rows content more reads bytes opened tables text said _ r1 r2 r3 r4 rose book script Unwritten wide ok fine read are h = h
-added_stop image rows content more reads bytes opened tables text said _ r1 r2 r3 r4 rose book script Exhausted wide ok fine read are h = tt
+added_stop image rows content more reads bytes opened tables text said None r1 r2 r3 r4 rose book script Unwritten wide ok fine read are h = h
+added_stop image rows content more reads bytes opened tables text said None r1 r2 r3 r4 rose book script Exhausted wide ok fine read are h = tt
 
 -- the same of files that hold the same, and of the same catalog
 pub added_of : {X : Type 0} (rows : X → List (List Row)) (rose : Type 0) (readings : List Reading) (result : Result X Stop) (now before : Option Held) (held_book book : CatalogImage)
@@ -117,9 +126,11 @@ pub rest_stops : {X Y : Type 0} (reads : X → List Reading → Inputs) (bytes :
     → (rose_here → rose) → ReadsAll held rose_here book script reads bytes (Err stop) → ReadsAll held rose book script others content (Err stop)
 rest_stops reads bytes others content (Some held) r1 r2 book script (At fault) wide (inl err) = inl err
 rest_stops reads bytes others content (Some held) r1 r2 book script (At fault) wide (inr (up, named)) = inr (wide up, named)
+rest_stops reads bytes others content (Some held) r1 r2 book script Unwritten wide is = is
+rest_stops reads bytes others content (Some held) r1 r2 book script Exhausted wide is = tt
 rest_stops reads bytes others content None r1 r2 book script (At fault) wide is = untold_within r1 r2 fault wide is
-rest_stops reads bytes others content _ r1 r2 book script Unwritten wide is = is
-rest_stops reads bytes others content _ r1 r2 book script Exhausted wide is = tt
+rest_stops reads bytes others content None r1 r2 book script Unwritten wide is = is
+rest_stops reads bytes others content None r1 r2 book script Exhausted wide is = tt
 
 -- a book that was opened, as what it says
 pub opened_as : {X : Type 0} (image : X → BookSaid) (held : Option Held) (rose other : Type 0) (book : List ℕ) (opened : X)

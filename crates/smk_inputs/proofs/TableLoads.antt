@@ -34,9 +34,11 @@ pub load_stops : {X Y Z : Type 0} (rows : X → List (List Row)) (row : Y → Li
 load_stops rows row whole (Some held) r1 r2 r3 done info behind before (At fault) wide is (inl e) =
     inl (ap all_or_first (map-append (load held) done (info ∷ behind)) ∙ then_fault (map (load held) done) (load held info) (map (load held) behind) (rows before) fault is e)
 load_stops rows row whole (Some held) r1 r2 r3 done info behind before (At fault) wide is (inr (up, named)) = inr (wide up, unread_among done info behind refl is named)
+load_stops rows row whole (Some held) r1 r2 r3 done info behind before Unwritten wide is e = e
+load_stops rows row whole (Some held) r1 r2 r3 done info behind before Exhausted wide is e = tt
 load_stops rows row whole None r1 r2 r3 done info behind before (At fault) wide is e = untold_within r2 r3 fault wide e
-load_stops rows row whole _ r1 r2 r3 done info behind before Unwritten wide is e = e
-load_stops rows row whole _ r1 r2 r3 done info behind before Exhausted wide is e = tt
+load_stops rows row whole None r1 r2 r3 done info behind before Unwritten wide is e = e
+load_stops rows row whole None r1 r2 r3 done info behind before Exhausted wide is e = tt
 
 -- the same at a place of the tables
 split_here : {X : Type 0} (xs : List X) (i : ℕ) (x d : X) → i < length xs → x ≡ get_or xs i d → xs ≡ take i xs ++ x ∷ drop (i + 1) xs

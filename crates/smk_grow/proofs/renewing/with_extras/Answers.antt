@@ -4,7 +4,7 @@ use Rattle.smk_grow.proofs.Kept.{now_opened}
 use Rattle.smk_grow.proofs.renewing.with_extras.Goals as goal
 
 pub fresh_extras-requires : goal.fresh_extras-requires
-fresh_extras-requires g c κs within =
+fresh_extras-requires g c =
     let r = c.args.renewal.now in
     now_opened r.book.now r.tables.now c.args.olds.now c.as_slice.result.now r.table (first_book r) c.requires.renewal.kinds c.requires.olds (c.as_slice.ensures.value ∙ c.requires.views)
 
