@@ -67,7 +67,7 @@ pub(crate) fn fresh_extras<R: Threads + Sync, G: Gate + Sync, L: Ledger>(
     opening: &Opening<'_>,
     steps: &mut Steps<L>,
 ) -> Result<FreshExtras, AllocError>
-    requires { IsOpened opening.now }
+    requires opened { IsOpened opening.now }
     ensures splits { IfOk result (λ made. made.splits.items ≡ filter_map (split_again opening.now.grown (book_in opening.now)) opening.now.book.now.backs) }
     ensures cubes { IfOk result (λ made. made.cubes.items ≡ filter_map (cubes_again opening.now.grown (book_in opening.now)) opening.now.book.now.backs) }
     ensures looks { steps.new ≤ steps.old + sum_by (looks_wanted (book_in opening.now) opening.now.grown) opening.now.book.now.backs }
