@@ -42,6 +42,22 @@ fwd t to high 2
 marks 0 1
 ";
 
+// The report of a run over files with so many workers, and who came to its gate.
+fn ran_with<R: Threads + Sync>(
+    system: HostRuntime,
+    rt: &R,
+    workers: &str,
+    files: &[(&str, &[u8])],
+) -> Result<(Vec<u8>, [u64; 3]), Fail> {
+    let gate = Meeting::new();
+    let words = ["--workers", workers, "book.smk", "script"];
+    let (status, report) = ran_over(system, rt, &words, files, &gate)?;
+    if status != Status::Done {
+        return Err(Fail::new("a run that is not done"));
+    }
+    Ok((report, gate.came()))
+}
+
 // Of the shop's views three groupings, two selections and a join are cut. Two views follow the first brush, each with one number, and one follows the second,
 // with a grouping and a selection. The two views over many rows come once each, so no step of theirs is cut, and with one worker nobody comes.
 #[test]
@@ -56,27 +72,19 @@ fn pieces_of_the_steps_of_a_run_meet_and_so_do_two_views(rt: HostRuntime) -> Res
         ("regions.csv", REGIONS),
         ("script", SCRIPT),
     ];
+    let (_, cut) = ran_with(rt, &rt, "2", shop.as_slice())?;
+    assert_eq!(rt; cut, [9, 9, 0]);
     let long = [
         ("book.smk", LONG_BOOK.as_bytes()),
         ("t.csv", rows.as_slice()),
         ("script", b"fwd t 2, 65535 to high\n".as_slice()),
     ];
-    for (files, workers, said, came) in [
-        (shop.as_slice(), "2", None, [9, 9, 0]),
-        (long.as_slice(), "1", Some(LONG_REPORT), [0, 0, 0]),
-        (long.as_slice(), "2", Some(LONG_REPORT), [1, 1, 0]),
-    ]
-    .as_slice()
-    {
-        let gate = Meeting::new();
-        let words = ["--workers", *workers, "book.smk", "script"];
-        let (status, report) = ran_over(rt, &rt, &words, files, &gate)?;
-        assert_eq!(rt; status, Status::Done);
-        if let Some(said) = said {
-            assert_eq!(rt; str::from_utf8(report.as_slice())?, *said);
-        }
-        assert_eq!(rt; gate.came(), *came);
-    }
+    let (in_turn, none) = ran_with(rt, &rt, "1", long.as_slice())?;
+    let (at_once, came) = ran_with(rt, &rt, "2", long.as_slice())?;
+    assert_eq!(rt; str::from_utf8(in_turn.as_slice())?, LONG_REPORT);
+    assert_eq!(rt; str::from_utf8(at_once.as_slice())?, LONG_REPORT);
+    assert_eq!(rt; none, [0, 0, 0]);
+    assert_eq!(rt; came, [1, 1, 0]);
     Ok(())
 }
 
