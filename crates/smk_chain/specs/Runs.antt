@@ -1,19 +1,22 @@
 -- The run of a plan over tables, and the parts of a table that has grown.
-use Rattle.std.specs.Prelude.{ℕ, List, ◌++◌, length, map, take, drop, slice_set, Some, None}
+use Rattle.std.specs.Prelude.{◌≡◌, ◌+◌, ◌<◌, ◌≤◌, ℕ, List, ◌++◌, length, map, take, drop, slice_set, Option, Some, None, All}
 use Rattle.smk_base.specs.Places.{upto}
 use Rattle.smk_base.specs.Plans.{Expr, Grouping}
 use Rattle.smk_base.specs.declared.book.need.Needed.{Needed}
 use Rattle.smk_base.specs.declared.book.plan.Agg.{Agg}
+use Rattle.smk_base.specs.Rels.{RowFits}
+use Rattle.smk_base.specs.declared.rel.TheConstants.{ROW_LIMIT}
 use Rattle.smk_base.specs.declared.value.Kind.{Kind}
 use Rattle.smk_keys.specs.Classes.{ClassesImage, classes_of}
 use Rattle.smk_model.specs.Values.{Row}
 use Rattle.smk_model.specs.Plain.{key_of, step1}
 use Rattle.smk_model.specs.Composed.{table_at, rows_over}
+use Rattle.smk_model.specs.Kinds.{AggFits}
 use Rattle.smk_model.specs.Selection.{leaf_kinds, plan_kinds}
 use Rattle.smk_compose.specs.declared.kept_maps.Run.{Run}
 use Rattle.smk_compose.specs.KeptMaps.{kept_at}
 use Rattle.smk_model.specs.Growth.{all_over_parts}
-use Rattle.smk_chain.specs.Parts.{joint_maps}
+use Rattle.smk_chain.specs.Parts.{joint_maps, AreMaps}
 
 -- the rows of a plan over tables with columns of these kinds, and the needed lineage
 abbrev pub run_over : Expr → List (List Kind) → List (List Row) → List Needed → Run
@@ -51,3 +54,17 @@ group_run k aggs table tables need old new = record {
   rel = record { kinds = old.rel.kinds; rows = joint_groups k aggs (old.rel.rows ++ new.rel.rows) };
   kept = joint_maps (Some (joint_classes k (old.rel.rows ++ new.rel.rows))) table (length (joint_groups k aggs (old.rel.rows ++ new.rel.rows))) tables need old.kept new.kept;
 }
+
+-- that the runs of both parts can be put together, by the classes of their groups where they have some
+pub record CanJoin (groups : Option ClassesImage) (scanned count : ℕ) (need : List Needed) (old new : Run) : Type 0 where
+  pub kinds : new.rel.kinds ≡ old.rel.kinds
+  pub few : length old.rel.rows + length new.rel.rows ≤ ROW_LIMIT
+  pub maps : AreMaps groups scanned count need old.kept new.kept
+
+-- and where they are groups with k keys and these aggregates
+pub record CanRegroup (k : ℕ) (aggs : List Agg) (scanned count : ℕ) (need : List Needed) (old new : Run) : Type 0 where
+  pub joins : CanJoin (Some (joint_classes k (old.rel.rows ++ new.rel.rows))) scanned count need old new
+  pub some : 0 < k + length aggs
+  pub columns : k + length aggs ≡ length old.rel.kinds
+  pub each : All (AggFits old.rel.kinds) (all_over_parts k aggs)
+  pub fits : All (RowFits old.rel.kinds) (joint_groups k aggs (old.rel.rows ++ new.rel.rows))

@@ -1,22 +1,19 @@
-ghost use Rattle.std.specs.Prelude.{◌≡◌, ◌+◌, ◌<◌, ◌≤◌, ◌++◌, true, All, Some, None, length, IfOk};
+ghost use Rattle.std.specs.Prelude.{◌≡◌, ◌+◌, ◌<◌, ◌≤◌, ◌++◌, true, None, length, IfOk};
 ghost use Rattle.smk_base.specs.PlanImage.{expr_of};
-ghost use Rattle.smk_base.specs.Rels.{RowFits};
 ghost use Rattle.smk_model.specs.Composed.{table_at};
-ghost use Rattle.smk_model.specs.Kinds.{AggFits};
 ghost use Rattle.smk_model.specs.LineageLaws.{selected_table};
 ghost use Rattle.smk_model.specs.Selection.{each_kinds, each_rows, leaf_kinds, PlanFits, ScansFit};
 ghost use Rattle.smk_base.specs.declared.rel.TheConstants.{ROW_LIMIT};
 ghost use Rattle.smk_compose.specs.KeptMaps.{NeedFits};
-ghost use Rattle.smk_model.specs.Growth.{all_over_parts, is_growing};
+ghost use Rattle.smk_model.specs.Growth.{is_growing};
 ghost use Rattle.smk_chain.specs.Parts.{joint_maps, AreMaps};
-ghost use Rattle.smk_chain.specs.Runs.{chain_run, group_run, joint_classes, joint_groups, run_over, tables_before, tables_behind};
+ghost use Rattle.smk_chain.specs.Runs.{chain_run, group_run, run_over, tables_before, tables_behind, CanJoin, CanRegroup};
 
-use crate::chains::grouping_of;
+use crate::chains::{Groups, grouping_of};
 use crate::groups::regrouped;
-use crate::maps::maps_of_both;
-use smk_base::{Aggs, Keys, Need, Needed, Plan, Rel};
-use smk_compose::{KeptMap, Run};
-use smk_keys::Classes;
+use crate::maps::{Both, Traced, maps_of_both};
+use smk_base::{Need, Plan, Rel};
+use smk_compose::Run;
 use smk_marks::scanned_table;
 use smk_table::Table;
 use std::alloc::{AllocError, Global};
@@ -42,77 +39,69 @@ pub fn grown(
     requires new { new.now ≡ run_over (expr_of plan.now) (each_kinds tables.now) (tables_behind (each_rows tables.now) (selected_table (expr_of plan.now)) len) need.now }
     ensures { IfOk result (λ run. run ≡ run_over (expr_of plan.now) (each_kinds tables.now) (each_rows tables.now) need.now) }
 {
-    let table = scanned_table(plan);
+    let scanned = scanned_table(plan);
     // Its clauses say that the rows are few and fit columns of level 0.
-    let _rows = tables[table as usize].len();
-    let need = need.as_slice();
+    let _rows = tables[scanned as usize].len();
+    let traced = Traced {
+        tables,
+        need: need.as_slice(),
+        scanned,
+    };
     match grouping_of(plan) {
-        Some(last) => grown_groups(alloc, last.keys, last.aggs, need, table, tables, old, new),
-        None => grown_chain(alloc, need, table, tables, old, new),
+        Some(last) => grown_groups(alloc, last, &traced, old, new),
+        None => grown_chain(alloc, &traced, old, new),
     }
 }
 
 // A chain without a grouping: the new rows stand behind the old ones.
 fn grown_chain(
     alloc: Global,
-    need: &[Needed],
-    table: u32,
-    tables: &[Table],
+    traced: &Traced<'_>,
     old: &Run,
     new: &Run,
 ) -> Result<Run, AllocError>
-    requires kinds { new.now.rel.kinds ≡ old.now.rel.kinds }
-    requires few { length old.now.rel.rows + length new.now.rel.rows ≤ ROW_LIMIT }
-    requires maps { AreMaps None table (length tables.now) need.now old.now.kept new.now.kept }
-    ensures { IfOk result (λ run. run ≡ chain_run table (each_rows tables.now) need.now old.now new.now) }
+    requires { CanJoin None traced.now.scanned (length traced.now.tables.now) traced.now.need.now old.now new.now }
+    ensures { IfOk result (λ run. run ≡ chain_run traced.now.scanned (each_rows traced.now.tables.now) traced.now.need.now old.now new.now) }
 {
     let rel = rows_of_both(alloc, &old.rel, &new.rel)?;
     run_of(
         alloc,
         rel,
-        need,
-        table,
-        tables,
-        &None,
-        old.kept.as_slice(),
-        new.kept.as_slice(),
+        traced,
+        &Both {
+            groups: &None,
+            old: old.kept.as_slice(),
+            new: new.kept.as_slice(),
+        },
     )
 }
 
 // A chain that ends in a grouping: the groups of both, each key once.
 fn grown_groups(
     alloc: Global,
-    keys: &Keys,
-    aggs: &Aggs,
-    need: &[Needed],
-    table: u32,
-    tables: &[Table],
+    last: Groups<'_>,
+    traced: &Traced<'_>,
     old: &Run,
     new: &Run,
 ) -> Result<Run, AllocError>
-    requires kinds { new.now.rel.kinds ≡ old.now.rel.kinds }
-    requires few { length old.now.rel.rows + length new.now.rel.rows ≤ ROW_LIMIT }
-    requires some { 0 < length keys.now + length aggs.now }
-    requires columns { length keys.now + length aggs.now ≡ length old.now.rel.kinds }
-    requires each { All (AggFits old.now.rel.kinds) (all_over_parts (length keys.now) aggs.now) }
-    requires fits { All (RowFits old.now.rel.kinds) (joint_groups (length keys.now) aggs.now (old.now.rel.rows ++ new.now.rel.rows)) }
-    requires maps { AreMaps (Some (joint_classes (length keys.now) (old.now.rel.rows ++ new.now.rel.rows))) table (length tables.now) need.now old.now.kept new.now.kept }
-    ensures { IfOk result (λ run. run ≡ group_run (length keys.now) aggs.now table (each_rows tables.now) need.now old.now new.now) }
+    requires { CanRegroup (length last.keys.now) last.aggs.now traced.now.scanned (length traced.now.tables.now) traced.now.need.now old.now new.now }
+    ensures { IfOk result (λ run. run ≡ group_run (length last.entry.keys.now) last.entry.aggs.now traced.now.scanned (each_rows traced.now.tables.now) traced.now.need.now old.now new.now) }
 {
     // Its clauses say that the columns are few.
     let _width = old.rel.width();
-    let both = rows_of_both(alloc, &old.rel, &new.rel)?;
-    let (rel, classes) = regrouped(alloc, &both, keys.as_slice().len() as u32, aggs.as_slice())?;
-    drop(both);
+    let rows = rows_of_both(alloc, &old.rel, &new.rel)?;
+    let keys = last.keys.as_slice().len() as u32;
+    let (rel, classes) = regrouped(alloc, &rows, keys, last.aggs.as_slice())?;
+    drop(rows);
     run_of(
         alloc,
         rel,
-        need,
-        table,
-        tables,
-        &Some(classes),
-        old.kept.as_slice(),
-        new.kept.as_slice(),
+        traced,
+        &Both {
+            groups: &Some(classes),
+            old: old.kept.as_slice(),
+            new: new.kept.as_slice(),
+        },
     )
 }
 
@@ -130,19 +119,15 @@ fn rows_of_both(alloc: Global, old: &Rel, new: &Rel) -> Result<Rel, AllocError>
 fn run_of(
     alloc: Global,
     rel: Rel,
-    need: &[Needed],
-    table: u32,
-    tables: &[Table],
-    groups: &Option<Classes>,
-    old: &[KeptMap],
-    new: &[KeptMap],
+    traced: &Traced<'_>,
+    both: &Both<'_>,
 ) -> Result<Run, AllocError>
-    requires { AreMaps groups.now table (length tables.now) need.now old.now new.now }
-    ensures { IfOk result (λ run. run ≡ record { rel = rel; kept = joint_maps groups.now table (length rel.rows) (each_rows tables.now) need.now old.now new.now }) }
+    requires { AreMaps both.now.groups.now traced.now.scanned (length traced.now.tables.now) traced.now.need.now both.now.old.now both.now.new.now }
+    ensures { IfOk result (λ run. run ≡ record { rel = rel; kept = joint_maps both.now.groups.now traced.now.scanned (length rel.rows) (each_rows traced.now.tables.now) traced.now.need.now both.now.old.now both.now.new.now }) }
 {
     let rows = rel.len();
     let rel = rel.shared(alloc)?;
-    match maps_of_both(alloc, need, table, rows, tables, groups, old, new) {
+    match maps_of_both(alloc, rows, traced, both) {
         Ok(kept) => Ok(Run { rel, kept }),
         Err(error) => {
             drop(rel);

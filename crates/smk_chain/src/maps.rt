@@ -1,12 +1,12 @@
 //! The maps of old rows and those of new ones, put together table by table.
 
-ghost use Rattle.std.specs.Prelude.{◌≡◌, ◌≤◌, [], true, false, nat_eq, length, IfOk, OnOk, Some};
+ghost use Rattle.std.specs.Prelude.{◌≡◌, ◌≤◌, ◌<◌, false, length, IfOk, Some};
 ghost use Rattle.smk_base.specs.Places.{composed, empty_lists, pairs_of};
 ghost use Rattle.smk_found.specs.Locals.{wanted};
 ghost use Rattle.smk_model.specs.Selection.{each_rows};
 ghost use Rattle.smk_compose.specs.Through.{chained, Chains, is_heavy};
 ghost use Rattle.smk_rid.specs.declared.map.TheConstants.{PAIR_LIMIT};
-ghost use Rattle.smk_chain.specs.Parts.{both_maps, by_classes, followed_maps, joint_maps, void_map, AreMaps, AreRegrouped, Follows, IsRegrouped, MapsFit};
+ghost use Rattle.smk_chain.specs.Parts.{both_maps, by_classes, followed_maps, joint_map_at, joint_maps, void_map, AreMaps, AreRegrouped, Follows, IsRegrouped, MapsFit};
 
 use smk_base::Needed;
 use smk_compose::{KeptMap, Kepts, narrow};
@@ -16,76 +16,58 @@ use smk_rid::{RidFault, RidMap};
 use smk_table::Table;
 use std::alloc::{AllocError, Global};
 
-/// The maps of the needed tables: of the one that is scanned, from those of the old rows and of the new ones, which are groups where there are classes of these; of the others, empty lists for so many rows.
+/// The tables, what lineage to them is needed, and which of them a chain scans.
+#[derive(Clone, Copy)]
+pub(crate) struct Traced<'a> {
+    pub tables: &'a [Table],
+    pub need: &'a [Needed],
+    pub scanned: u32,
+}
+
+/// The maps of the old rows and those of the new ones, and where these are groups the classes of their keys.
+#[derive(Clone, Copy)]
+pub(crate) struct Both<'a> {
+    pub groups: &'a Option<Classes>,
+    pub old: &'a [KeptMap],
+    pub new: &'a [KeptMap],
+}
+
+/// The maps of the needed tables: of the one that is scanned, those of both put together; of the others, empty lists for so many rows.
 pub(crate) fn maps_of_both(
     alloc: Global,
-    need: &[Needed],
-    scanned: u32,
     rows: u32,
-    tables: &[Table],
-    groups: &Option<Classes>,
-    old: &[KeptMap],
-    new: &[KeptMap],
+    traced: &Traced<'_>,
+    both: &Both<'_>,
 ) -> Result<Kepts, AllocError>
-    requires { AreMaps groups.now scanned (length tables.now) need.now old.now new.now }
-    ensures { IfOk result (λ made. made ≡ joint_maps groups.now scanned rows (each_rows tables.now) need.now old.now new.now) }
+    requires { AreMaps both.now.groups.now traced.now.scanned (length traced.now.tables.now) traced.now.need.now both.now.old.now both.now.new.now }
+    ensures { IfOk result (λ made. made ≡ joint_maps both.now.groups.now traced.now.scanned rows (each_rows traced.now.tables.now) traced.now.need.now both.now.old.now both.now.new.now) }
 {
     let mut made = Kepts::new(alloc);
-    match push_maps(
-        alloc, need, scanned, rows, tables, groups, old, new, &mut made,
-    ) {
-        Ok(()) => Ok(made),
-        Err(error) => {
-            drop(made);
-            Err(error)
-        }
-    }
-}
-
-// Puts these maps behind none.
-fn push_maps(
-    alloc: Global,
-    need: &[Needed],
-    scanned: u32,
-    rows: u32,
-    tables: &[Table],
-    groups: &Option<Classes>,
-    old: &[KeptMap],
-    new: &[KeptMap],
-    made: &mut Kepts,
-) -> Result<(), AllocError>
-    requires maps { AreMaps groups.now scanned (length tables.now) need.now old.now new.now }
-    requires empty { made.old ≡ [] }
-    ensures { OnOk result (made.new ≡ joint_maps groups.now scanned rows (each_rows tables.now) need.now old.now new.now) }
-{
-    for i in 0..need.len() {
-        let n = need[i];
-        let size = tables[n.table as usize].len();
-        let map = map_of_both(alloc, n, scanned, rows, size, groups, &old[i], &new[i])?;
+    for i in 0..traced.need.len() {
+        let map = map_of_both(alloc, i, rows, traced, both)?;
         made.push(map)?;
     }
-    Ok(())
+    Ok(made)
 }
 
-// The map of one needed table, which has so many rows.
+// The map of the i-th needed table.
 fn map_of_both(
     alloc: Global,
-    need: Needed,
-    scanned: u32,
+    i: usize,
     rows: u32,
-    size: u32,
-    groups: &Option<Classes>,
-    old: &KeptMap,
-    new: &KeptMap,
+    traced: &Traced<'_>,
+    both: &Both<'_>,
 ) -> Result<KeptMap, AllocError>
-    requires { nat_eq need.table scanned ≡ true → MapsFit groups.now need old.now new.now }
-    ensures scanned { nat_eq need.table scanned ≡ true → IfOk result (λ made. made ≡ both_maps groups.now need old.now new.now) }
-    ensures other { nat_eq need.table scanned ≡ false → IfOk result (λ made. made ≡ void_map rows size need) }
+    requires there { i < length traced.now.need.now }
+    requires maps { AreMaps both.now.groups.now traced.now.scanned (length traced.now.tables.now) traced.now.need.now both.now.old.now both.now.new.now }
+    ensures { IfOk result (λ made. made ≡ joint_map_at both.now.groups.now traced.now.scanned rows (each_rows traced.now.tables.now) traced.now.need.now both.now.old.now both.now.new.now i) }
 {
-    if need.table == scanned {
-        let map = scanned_map(alloc, need, groups, old, new)?;
+    let need = traced.need[i];
+    if need.table == traced.scanned {
+        let map = scanned_map(alloc, need, both.groups, &both.old[i], &both.new[i])?;
         narrowed(alloc, map)
     } else {
+        let size = traced.tables[need.table as usize].len();
         Ok(empty_map(need, rows, size))
     }
 }
