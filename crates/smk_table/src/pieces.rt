@@ -70,13 +70,12 @@ fn read_piece(
     text: &[u8],
     has_header: bool,
     cols: &ColDecls,
-    places: &[usize],
-    width: usize,
+    header: &Header,
 ) -> Result<Rel, TableFault>
     requires unmarked { IsFalse (begins_with_mark text.now) }
     requires columns { AreColumns cols.now }
-    requires places { length places.now ≡ length cols.now }
-    ensures { Gives cols.now (rows_from cols.now places.now width 1 (behind_header has_header (records default_config text.now))) result }
+    requires places { length header.now.places.items ≡ length cols.now }
+    ensures { Gives cols.now (rows_from cols.now header.now.places.items header.now.width 1 (behind_header has_header (records default_config text.now))) result }
 {
     let mut reader = reader_of(alloc, text);
     let mut row = ByteRecord::new(alloc);
@@ -84,7 +83,8 @@ fn read_piece(
     if has_header && !next_record(&mut reader, &mut row)? {
         return Ok(rel.finish(alloc)?);
     }
-    read_rows(&mut reader, &mut row, cols, places, width, &mut rel)?;
+    let places = header.places.as_slice();
+    read_rows(&mut reader, &mut row, cols, places, header.width, &mut rel)?;
     Ok(rel.finish(alloc)?)
 }
 
@@ -94,18 +94,17 @@ fn arrive_and_read<G: Gate>(
     text: &[u8],
     p: usize,
     cols: &ColDecls,
-    places: &[usize],
-    width: usize,
+    header: &Header,
     gate: &G,
 ) -> Result<Rel, TableFault>
     requires unmarked { IsFalse (begins_with_mark text.now) }
     requires few { p < WORKER_LIMIT }
     requires columns { AreColumns cols.now }
-    requires places { length places.now ≡ length cols.now }
-    ensures { Gives cols.now (rows_from cols.now places.now width 1 (behind_header (p == 0) (records default_config text.now))) result }
+    requires places { length header.now.places.items ≡ length cols.now }
+    ensures { Gives cols.now (rows_from cols.now header.now.places.items header.now.width 1 (behind_header (p == 0) (records default_config text.now))) result }
 {
     gate.arrive(p as u32);
-    read_piece(alloc, text, p == 0, cols, places, width)
+    read_piece(alloc, text, p == 0, cols, header)
 }
 
 // The rows of each piece of a text, in threads.
@@ -114,23 +113,22 @@ fn read_pieces<R: Threads + Sync, G: Gate + Sync>(
     alloc: Global,
     texts: &[&[u8]],
     cols: &ColDecls,
-    places: &[usize],
-    width: usize,
+    header: &Header,
     gate: &G,
 ) -> Result<Vec<Result<Rel, TableFault>>, AllocError>
     requires unmarked { All (λ text. IsFalse (begins_with_mark text.now)) texts.now }
     requires few { length texts.now ≤ WORKER_LIMIT }
     requires columns { AreColumns cols.now }
-    requires places { length places.now ≡ length cols.now }
+    requires places { length header.now.places.items ≡ length cols.now }
     ensures all { IfOk result (λ made. length made.items ≡ length texts.now) }
     ensures rows { IfOk result (λ made. (p : ℕ) (d : _) (e : _) → p < length texts.now
-        → Gives cols.now (rows_from cols.now places.now width 1 (behind_header (p == 0) (records default_config (slice_index_or texts.now p d).now))) (slice_index_or made.items p e)) }
+        → Gives cols.now (rows_from cols.now header.now.places.items header.now.width 1 (behind_header (p == 0) (records default_config (slice_index_or texts.now p d).now))) (slice_index_or made.items p e)) }
 {
     map_indices(
         rt,
         alloc,
         texts.len(),
-        &|p| { arrive_and_read(alloc, texts[p], p, cols, places, width, gate) },
+        &|p| { arrive_and_read(alloc, texts[p], p, cols, header, gate) },
     )
 }
 
@@ -140,18 +138,17 @@ fn rows_in_pieces<R: Threads + Sync, G: Gate + Sync>(
     alloc: Global,
     texts: &[&[u8]],
     cols: &ColDecls,
-    places: &[usize],
-    width: usize,
+    header: &Header,
     gate: &G,
 ) -> Result<Rel, TableFault>
     requires unmarked { All (λ text. IsFalse (begins_with_mark text.now)) texts.now }
     requires few { length texts.now ≤ WORKER_LIMIT }
     requires columns { AreColumns cols.now }
-    requires places { length places.now ≡ length cols.now }
-    ensures { Gives cols.now (parts_behind 0 (parts_of cols.now places.now width (map read_of texts.now))) result }
+    requires places { length header.now.places.items ≡ length cols.now }
+    ensures { Gives cols.now (parts_behind 0 (parts_of cols.now header.now.places.items header.now.width (map read_of texts.now))) result }
 {
     let none = empty_rel(alloc, cols)?.finish(alloc)?;
-    let made = read_pieces(rt, alloc, texts, cols, places, width, gate)?;
+    let made = read_pieces(rt, alloc, texts, cols, header, gate)?;
     join_parts(alloc, cols, none, made)
 }
 
@@ -170,8 +167,7 @@ fn table_in_pieces<R: Threads + Sync, G: Gate + Sync>(
     requires places { length header.now.places.items ≡ length cols.now }
     ensures { Gives cols.now (parts_behind 0 (parts_of cols.now header.now.places.items header.now.width (map read_of texts.now))) result }
 {
-    let places = header.places.as_slice();
-    match rows_in_pieces(rt, alloc, texts, cols, places, header.width, gate) {
+    match rows_in_pieces(rt, alloc, texts, cols, header, gate) {
         Ok(rel) => Ok(Table::of_rel(rel.shared(alloc)?)),
         Err(fault) => Err(fault),
     }
