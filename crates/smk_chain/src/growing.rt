@@ -54,12 +54,7 @@ pub fn grown(
 }
 
 // A chain without a grouping: the new rows stand behind the old ones.
-fn grown_chain(
-    alloc: Global,
-    traced: &Traced<'_>,
-    old: &Run,
-    new: &Run,
-) -> Result<Run, AllocError>
+fn grown_chain(alloc: Global, traced: &Traced<'_>, old: &Run, new: &Run) -> Result<Run, AllocError>
     requires { CanJoin None traced.now.scanned (length traced.now.tables.now) traced.now.need.now old.now new.now }
     ensures { IfOk result (λ run. run ≡ chain_run traced.now.scanned (each_rows traced.now.tables.now) traced.now.need.now old.now new.now) }
 {
@@ -116,12 +111,7 @@ fn rows_of_both(alloc: Global, old: &Rel, new: &Rel) -> Result<Rel, AllocError>
 }
 
 // These rows, with the maps of the needed tables, from those of the old rows and of the new ones.
-fn run_of(
-    alloc: Global,
-    rel: Rel,
-    traced: &Traced<'_>,
-    both: &Both<'_>,
-) -> Result<Run, AllocError>
+fn run_of(alloc: Global, rel: Rel, traced: &Traced<'_>, both: &Both<'_>) -> Result<Run, AllocError>
     requires { AreMaps both.now.groups.now traced.now.scanned (length traced.now.tables.now) traced.now.need.now both.now.old.now both.now.new.now }
     ensures { IfOk result (λ run. run ≡ record { rel = rel; kept = joint_maps both.now.groups.now traced.now.scanned (length rel.rows) (each_rows traced.now.tables.now) traced.now.need.now both.now.old.now both.now.new.now }) }
 {

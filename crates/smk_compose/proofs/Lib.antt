@@ -11,5 +11,5 @@ pub mod Twos
 pub mod Counts
 pub mod Scans
 pub mod Bridge
+pub mod Wide
 pub mod Walks
-pub mod Grouped

@@ -2,4 +2,3 @@ pub mod Fetched
 pub mod Walk
 pub mod KeptMaps
 pub mod Through
-pub mod Grouped

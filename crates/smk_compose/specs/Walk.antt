@@ -1,15 +1,18 @@
 -- What a walk over a plan is over, and what it has made of it.
-use Rattle.std.specs.Prelude.{◌≡◌, ℕ, ◌<◌, List, [], length, map, slice_index_or, None, IsTrue, All}
+use Rattle.std.specs.Prelude.{◌≡◌, ℕ, ◌+◌, ◌<◌, ◌≤◌, List, [], length, map, slice_index_or, None, IsTrue, All}
 use Rattle.smk_base.specs.Needs.{is_needed}
-use Rattle.smk_base.specs.Plans.{Expr}
-use Rattle.smk_base.specs.Rels.{Relation}
+use Rattle.smk_base.specs.Plans.{Expr, Unary, Selection, Projection, Distinction, Grouping, Binary, BagUnion, SetUnion}
+use Rattle.smk_base.specs.Rels.{Relation, kind_in, picked}
 use Rattle.smk_base.specs.declared.book.need.Needed.{Needed}
+use Rattle.smk_base.specs.declared.rel.TheConstants.{COLUMN_LIMIT}
+use Rattle.smk_base.specs.declared.value.Kind.{Kind}
 use Rattle.smk_model.specs.Values.{Row}
 use Rattle.smk_model.specs.Plain.{leaves, width, eval, table_at}
 use Rattle.smk_model.specs.Selection.{each_kinds, each_rows, plan_kinds}
 use Rattle.smk_model.specs.NodeFaults.{asked_of, first_fault_from}
+use Rattle.smk_table.specs.Wanted.{AreWide}
 use Rattle.smk_compose.specs.KeptMaps.{held_at}
-use Rattle.smk_compose.specs.declared.kept_maps.Walked.{Walked}
+use Rattle.smk_compose.specs.declared.kept_maps.Run.{Run}
 
 -- each is needed in some direction
 abbrev pub AreDirected : List Needed → Type 0
@@ -23,9 +26,27 @@ AreWhole plan E tables = (j : ℕ) → j < width plan → slice_index_or E j [] 
 abbrev pub WholeWhereNeeded : Expr → List (List Row) → List (List Row) → List Needed → Type 0
 WholeWhereNeeded plan E tables need = 0 < length need → AreWhole plan E tables
 
--- whether this is the plan over the first of these leaves, with the needed lineage to the tables that it scans, and none of its nodes, which are numbered from a number on, is too big
-pub record IsWalked (plan : Expr) (over : List Relation) (tables : List (List Row)) (need : List Needed) (number : ℕ) (walked : Walked) : Type 0 where
-  pub rows : walked.rel.rows ≡ eval plan (each_rows over)
-  pub kinds : walked.rel.kinds ≡ plan_kinds plan (each_kinds over)
-  pub kept : walked.kept ≡ map (held_at plan tables) need
+-- whether these are columns of the plan over the first of these leaves, with the needed lineage to the tables that it scans, and none of its nodes, which are numbered from a number on, is too big
+pub record IsWalked (plan : Expr) (cols : List ℕ) (over : List Relation) (tables : List (List Row)) (need : List Needed) (number : ℕ) (run : Run) : Type 0 where
+  pub rows : run.rel.rows ≡ map (picked cols) (eval plan (each_rows over))
+  pub kinds : run.rel.kinds ≡ map (kind_in (plan_kinds plan (each_kinds over))) cols
+  pub kept : run.kept ≡ map (held_at plan tables) need
   pub none : first_fault_from plan (each_rows over) (asked_of tables need) number ≡ None
+
+-- the number of columns that a step makes of so many
+abbrev pub width1 : Unary → ℕ → ℕ
+width1 (Selection formula) n = n
+width1 (Projection items) n = length items
+width1 (Distinction items) n = length items
+width1 (Grouping keys aggs) n = length keys + length aggs
+
+abbrev pub width2 : Binary → ℕ → ℕ → ℕ
+width2 BagUnion l r = l
+width2 SetUnion l r = l
+width2 _ l r = l + r
+
+-- whether this is the number of columns of a plan over leaves of these kinds and rows, and each of its rows has as many values
+pub record IsWidth (plan : Expr) (K : List (List Kind)) (E : List (List Row)) (w : ℕ) : Type 0 where
+  pub count : w ≡ length (plan_kinds plan K)
+  pub few : w ≤ COLUMN_LIMIT
+  pub wide : AreWide w (eval plan E)

@@ -7,7 +7,7 @@ ghost use Rattle.smk_compose.specs.declared.fault.EvalFault.TheVariants.{Rows};
 use crate::fault::{EvalFault, RunFault};
 use crate::kept_maps::Run;
 use crate::leaves::Leaves;
-use crate::walk::walk;
+use crate::walk::{Traced, walk_all};
 use smk_base::{Plan, Rel};
 use smk_body::OpBody;
 use smk_jobs::Work;
@@ -36,11 +36,12 @@ pub fn eval_leaves<R: Threads + Sync, B: OpBody + Sync>(
         alloc,
         crew: body,
     };
-    let mut rest = leaves;
-    let mut number = 0;
-    match walk(&work, plan, &[], &[], &mut rest, &mut number) {
-        Ok(walked) => {
-            let Run { rel, kept } = walked.gathered(alloc)?;
+    let traced = Traced {
+        tables: &[],
+        need: &[],
+    };
+    match walk_all(&work, plan, &traced, leaves) {
+        Ok(Run { rel, kept }) => {
             drop(kept);
             Ok(rel)
         }

@@ -1,4 +1,7 @@
-ghost use Rattle.std.specs.Prelude.{◌≡◌, ◌<◌, [], ◌∷◌, ◌++◌, length, IfOk, OnOk, OnErr};
+ghost use Rattle.std.specs.Prelude.{◌≡◌, ◌<◌, ◌≤◌, ◌+◌, ◌^◌, ℕ, [], ◌∷◌, ◌++◌, length, drop, IfOk, OnOk, OnErr};
+ghost use Rattle.smk_base.specs.Plans.{Leaf};
+ghost use Rattle.smk_model.specs.Selection.{each_rows, each_kinds};
+ghost use Rattle.smk_compose.specs.Walk.{IsWidth};
 
 use smk_base::Rel;
 use smk_table::Chosen;
@@ -64,6 +67,18 @@ impl Leaves {
     {
         match self.leaves.pop_front() {
             Some(leaf) => leaf,
+            None => unreachable!(),
+        }
+    }
+
+    /// The number of columns of the k-th one. It takes no memory.
+    pub(crate) fn width_at(&self, k: usize) -> u32
+        requires { k < length self.now }
+        ensures is { (table : ℕ) → IsWidth (Leaf table) (drop k (each_kinds self.now)) (drop k (each_rows self.now)) result }
+        ensures behind { k + 1 < 2 ^ 64 }
+    {
+        match self.leaves.get(k) {
+            Some(leaf) => leaf.width(),
             None => unreachable!(),
         }
     }

@@ -6,7 +6,6 @@ mod eval;
 mod fault;
 mod fetch;
 mod fill;
-mod grouped_join;
 mod kept_maps;
 mod leaves;
 mod pass;

@@ -10,9 +10,9 @@ ghost use Rattle.smk_compose.specs.Through.{IsFirst, filled, map_at, no_need};
 use crate::fault::RunFault;
 use crate::fetch::fetch_leaves;
 use crate::fill::fill;
-use crate::kept_maps::{Kepts, Run, Walked};
+use crate::kept_maps::{Kepts, Run};
 use crate::leaves::Leaves;
-use crate::walk::walk;
+use crate::walk::{Traced, walk_all};
 use smk_base::{Need, Needed, Picks, Plan};
 use smk_body::OpBody;
 use smk_jobs::Work;
@@ -79,17 +79,15 @@ pub fn run_leaves<R: Threads + Sync, B: OpBody + Sync>(
         alloc,
         crew: body,
     };
-    let mut rest = leaves;
-    let mut number = 0;
     let need = need.as_slice();
-    let walked = walk(&work, plan, tables, need, &mut rest, &mut number)?;
+    let walked = walk_all(&work, plan, &Traced { tables, need }, leaves)?;
     Ok(filled_run(alloc, walked, tables, need)?)
 }
 
 // What a walk has made, in columns that copies share, with an empty map for each that is needed and isn't there.
 fn filled_run(
     alloc: Global,
-    walked: Walked,
+    walked: Run,
     tables: &[Table],
     need: &[Needed],
 ) -> Result<Run, AllocError>
@@ -99,7 +97,7 @@ fn filled_run(
     ensures long { IfOk result (λ run. length run.kept ≡ length walked.kept) }
     ensures each { IfOk result (λ run. (i : ℕ) → i < length need.now → let n = slice_index_or need.now i no_need in map_at run.kept i ≡ filled n.dir (length walked.rel.rows) (length (table_at (each_rows tables.now) n.table)) (map_at walked.kept i)) }
 {
-    let Run { rel, kept } = walked.gathered(alloc)?;
+    let Run { rel, kept } = walked;
     let rows = rel.len();
     let mut maps = kept.into_vec();
     match fill(alloc, &mut maps, need, rows, tables) {

@@ -1,76 +1,47 @@
-ghost use Rattle.std.specs.Prelude.{◌≡◌, ◌||◌, ◌<◌, ℕ, IsTrue, is_some, length, map, All, IfOk, IfErr, OnOk, None};
+ghost use Rattle.std.specs.Prelude.{◌≡◌, ◌||◌, ◌<◌, ◌≤◌, ℕ, IsTrue, is_some, length, map, All, IfOk, IfErr, OnOk, None};
+ghost use Rattle.smk_base.specs.declared.rel.TheConstants.{COLUMN_LIMIT};
 ghost use Rattle.smk_base.specs.PlanImage.{binary_of, unary_of};
+ghost use Rattle.smk_base.specs.Rels.{kind_in, picked};
 ghost use Rattle.smk_model.specs.Plain.{step1, step2};
 ghost use Rattle.smk_model.specs.Kinds.{Fits1, Fits2, kinds1, kinds2};
 ghost use Rattle.smk_found.specs.Locals.{is_nothing, is_nothing2};
 ghost use Rattle.smk_compose.specs.Through.{through, together_all, side1, side_left, side_right, right_of, want_of, map_at, Passes, Meets, pairs_fault, node_fault, IsFirst};
 
 use crate::fault::RunFault;
-use crate::kept_maps::{KeptMap, Kepts, Run, Walked};
+use crate::kept_maps::{KeptMap, Run};
 use crate::pass::{meet_all, pass_all, wants};
-use smk_base::{Op1, Op2, Rel};
 use smk_body::OpBody;
 use smk_found::{OpFault, Want};
 use smk_jobs::Work;
-use smk_table::{Chosen, Narrowed, narrow};
+use smk_table::{NarrowedOne, NarrowedTwo};
 use std::thread::Threads;
 
-/// A step with one input, which is the node with this number: its rows, and the maps of its input through it. Of a leaf without maps no columns are gathered but those that the step names.
+/// A step with one input, which is the node with this number: of its rows the wanted columns, and the maps of its input through it.
 pub(crate) fn run_one<R: Threads + Sync, B: OpBody + Sync>(
     work: &Work<'_, R, B>,
-    op: &Op1,
-    below: Walked,
+    step: &NarrowedOne,
+    below: Run,
     node: u32,
-) -> Result<Walked, RunFault>
-    requires fits { Fits1 (unary_of op.now) below.rel.kinds }
+) -> Result<Run, RunFault>
+    requires fits { Fits1 (unary_of step.now.op) below.rel.kinds }
     requires captured { IsTrue (B.may_capture work.now.crew.now || is_nothing (want_of below.kept)) }
-    requires passes { All (Passes (side1 (unary_of op.now) below.rel.rows)) below.kept }
-    ensures rows { IfOk result (λ made. made.rel.rows ≡ step1 (unary_of op.now) below.rel.rows) }
-    ensures kinds { IfOk result (λ made. made.rel.kinds ≡ kinds1 (unary_of op.now) below.rel.kinds) }
-    ensures kept { IfOk result (λ made. made.kept ≡ map (through (side1 (unary_of op.now) below.rel.rows)) below.kept) }
-    ensures none { OnOk result (node_fault node (step1 (unary_of op.now) below.rel.rows) (map (through (side1 (unary_of op.now) below.rel.rows)) below.kept) ≡ None) }
-    ensures fault { IfErr result (λ e. IsFirst e (node_fault node (step1 (unary_of op.now) below.rel.rows) (map (through (side1 (unary_of op.now) below.rel.rows)) below.kept))) }
+    requires passes { All (Passes (side1 (unary_of step.now.op) below.rel.rows)) below.kept }
+    requires within { All (λ c. c < length (kinds1 (unary_of step.now.op) below.rel.kinds)) step.now.after }
+    requires few { length step.now.after ≤ COLUMN_LIMIT }
+    ensures rows { IfOk result (λ made. made.rel.rows ≡ map (picked step.now.after) (step1 (unary_of step.now.op) below.rel.rows)) }
+    ensures kinds { IfOk result (λ made. made.rel.kinds ≡ map (kind_in (kinds1 (unary_of step.now.op) below.rel.kinds)) step.now.after) }
+    ensures kept { IfOk result (λ made. made.kept ≡ map (through (side1 (unary_of step.now.op) below.rel.rows)) below.kept) }
+    ensures none { OnOk result (node_fault node (step1 (unary_of step.now.op) below.rel.rows) (map (through (side1 (unary_of step.now.op) below.rel.rows)) below.kept) ≡ None) }
+    ensures fault { IfErr result (λ e. IsFirst e (node_fault node (step1 (unary_of step.now.op) below.rel.rows) (map (through (side1 (unary_of step.now.op) below.rel.rows)) below.kept))) }
 {
-    let Walked { rel, kept, is_leaf } = below;
-    if is_leaf && kept.as_slice().is_empty() {
-        let Narrowed { op, rel } = narrow(work.alloc, op, rel)?;
-        let made = apply_one(work, &op, rel, kept, node);
-        drop(op);
-        made
-    } else {
-        let rel = rel.rel(work.alloc)?;
-        apply_one(work, op, rel, kept, node)
-    }
-}
-
-// The same over rows that are gathered.
-fn apply_one<R: Threads + Sync, B: OpBody + Sync>(
-    work: &Work<'_, R, B>,
-    op: &Op1,
-    input: Rel,
-    below: Kepts,
-    node: u32,
-) -> Result<Walked, RunFault>
-    requires fits { Fits1 (unary_of op.now) input.kinds }
-    requires captured { IsTrue (B.may_capture work.now.crew.now || is_nothing (want_of below)) }
-    requires passes { All (Passes (side1 (unary_of op.now) input.rows)) below }
-    ensures rows { IfOk result (λ made. made.rel.rows ≡ step1 (unary_of op.now) input.rows) }
-    ensures kinds { IfOk result (λ made. made.rel.kinds ≡ kinds1 (unary_of op.now) input.kinds) }
-    ensures kept { IfOk result (λ made. made.kept ≡ map (through (side1 (unary_of op.now) input.rows)) below) }
-    ensures none { OnOk result (node_fault node (step1 (unary_of op.now) input.rows) (map (through (side1 (unary_of op.now) input.rows)) below) ≡ None) }
-    ensures fault { IfErr result (λ e. IsFirst e (node_fault node (step1 (unary_of op.now) input.rows) (map (through (side1 (unary_of op.now) input.rows)) below))) }
-{
+    let Run { rel: input, kept } = below;
     let _rows = input.len();
-    let want = wants(below.as_slice());
-    match work.crew.apply1(work.rt, work.alloc, op, input, want) {
+    let want = wants(kept.as_slice());
+    match work.crew.apply1(work.rt, work.alloc, &step.op, input, want) {
         Ok((rel, pending)) => {
-            let mut maps = below.into_vec();
+            let mut maps = kept.into_vec();
             match finish_one(work, pending, &mut maps, node) {
-                Ok(()) => Ok(Walked {
-                    rel: Chosen::of_rel(rel),
-                    kept: Kepts::from_vec(maps),
-                    is_leaf: false,
-                }),
+                Ok(()) => Ok(Run::at_columns(work.alloc, rel, step.after.as_slice(), maps)?),
                 Err(fault) => {
                     drop(rel);
                     drop(maps);
@@ -79,7 +50,7 @@ fn apply_one<R: Threads + Sync, B: OpBody + Sync>(
             }
         }
         Err(_) => {
-            drop(below);
+            drop(kept);
             Err(RunFault::NoMemory)
         }
     }
@@ -106,46 +77,25 @@ fn finish_one<R: Threads + Sync, B: OpBody + Sync>(
     passed
 }
 
-/// A step with two inputs, which is the node with this number: its rows, and the maps of its inputs through it.
+/// A step with two inputs, likewise.
 pub(crate) fn run_two<R: Threads + Sync, B: OpBody + Sync>(
     work: &Work<'_, R, B>,
-    op: &Op2,
-    left: Walked,
-    right: Walked,
-    node: u32,
-) -> Result<Walked, RunFault>
-    requires fits { Fits2 (binary_of op.now) left.rel.kinds right.rel.kinds }
-    requires captured { IsTrue (B.may_capture work.now.crew.now || is_nothing2 (record { left = want_of left.kept; right = want_of right.kept })) }
-    requires long { length left.kept ≡ length right.kept }
-    requires meets { (i : ℕ) → i < length left.kept → Meets (side_left (binary_of op.now) left.rel.rows right.rel.rows) (side_right (binary_of op.now) left.rel.rows right.rel.rows) (map_at left.kept i) (map_at right.kept i) }
-    ensures rows { IfOk result (λ made. made.rel.rows ≡ step2 (binary_of op.now) left.rel.rows right.rel.rows) }
-    ensures kinds { IfOk result (λ made. made.rel.kinds ≡ kinds2 (binary_of op.now) left.rel.kinds right.rel.kinds) }
-    ensures kept { IfOk result (λ made. made.kept ≡ together_all (side_left (binary_of op.now) left.rel.rows right.rel.rows) (side_right (binary_of op.now) left.rel.rows right.rel.rows) left.kept right.kept) }
-    ensures none { OnOk result (node_fault node (step2 (binary_of op.now) left.rel.rows right.rel.rows) (together_all (side_left (binary_of op.now) left.rel.rows right.rel.rows) (side_right (binary_of op.now) left.rel.rows right.rel.rows) left.kept right.kept) ≡ None) }
-    ensures fault { IfErr result (λ e. IsFirst e (node_fault node (step2 (binary_of op.now) left.rel.rows right.rel.rows) (together_all (side_left (binary_of op.now) left.rel.rows right.rel.rows) (side_right (binary_of op.now) left.rel.rows right.rel.rows) left.kept right.kept))) }
-{
-    let l = left.gathered(work.alloc)?;
-    let r = right.gathered(work.alloc)?;
-    apply_two(work, op, l, r, node)
-}
-
-/// The same over rows that are gathered.
-pub(crate) fn apply_two<R: Threads + Sync, B: OpBody + Sync>(
-    work: &Work<'_, R, B>,
-    op: &Op2,
+    step: &NarrowedTwo,
     left: Run,
     right: Run,
     node: u32,
-) -> Result<Walked, RunFault>
-    requires fits { Fits2 (binary_of op.now) left.rel.kinds right.rel.kinds }
+) -> Result<Run, RunFault>
+    requires fits { Fits2 (binary_of step.now.op) left.rel.kinds right.rel.kinds }
     requires captured { IsTrue (B.may_capture work.now.crew.now || is_nothing2 (record { left = want_of left.kept; right = want_of right.kept })) }
     requires long { length left.kept ≡ length right.kept }
-    requires meets { (i : ℕ) → i < length left.kept → Meets (side_left (binary_of op.now) left.rel.rows right.rel.rows) (side_right (binary_of op.now) left.rel.rows right.rel.rows) (map_at left.kept i) (map_at right.kept i) }
-    ensures rows { IfOk result (λ made. made.rel.rows ≡ step2 (binary_of op.now) left.rel.rows right.rel.rows) }
-    ensures kinds { IfOk result (λ made. made.rel.kinds ≡ kinds2 (binary_of op.now) left.rel.kinds right.rel.kinds) }
-    ensures kept { IfOk result (λ made. made.kept ≡ together_all (side_left (binary_of op.now) left.rel.rows right.rel.rows) (side_right (binary_of op.now) left.rel.rows right.rel.rows) left.kept right.kept) }
-    ensures none { OnOk result (node_fault node (step2 (binary_of op.now) left.rel.rows right.rel.rows) (together_all (side_left (binary_of op.now) left.rel.rows right.rel.rows) (side_right (binary_of op.now) left.rel.rows right.rel.rows) left.kept right.kept) ≡ None) }
-    ensures fault { IfErr result (λ e. IsFirst e (node_fault node (step2 (binary_of op.now) left.rel.rows right.rel.rows) (together_all (side_left (binary_of op.now) left.rel.rows right.rel.rows) (side_right (binary_of op.now) left.rel.rows right.rel.rows) left.kept right.kept))) }
+    requires meets { (i : ℕ) → i < length left.kept → Meets (side_left (binary_of step.now.op) left.rel.rows right.rel.rows) (side_right (binary_of step.now.op) left.rel.rows right.rel.rows) (map_at left.kept i) (map_at right.kept i) }
+    requires within { All (λ c. c < length (kinds2 (binary_of step.now.op) left.rel.kinds right.rel.kinds)) step.now.after }
+    requires few { length step.now.after ≤ COLUMN_LIMIT }
+    ensures rows { IfOk result (λ made. made.rel.rows ≡ map (picked step.now.after) (step2 (binary_of step.now.op) left.rel.rows right.rel.rows)) }
+    ensures kinds { IfOk result (λ made. made.rel.kinds ≡ map (kind_in (kinds2 (binary_of step.now.op) left.rel.kinds right.rel.kinds)) step.now.after) }
+    ensures kept { IfOk result (λ made. made.kept ≡ together_all (side_left (binary_of step.now.op) left.rel.rows right.rel.rows) (side_right (binary_of step.now.op) left.rel.rows right.rel.rows) left.kept right.kept) }
+    ensures none { OnOk result (node_fault node (step2 (binary_of step.now.op) left.rel.rows right.rel.rows) (together_all (side_left (binary_of step.now.op) left.rel.rows right.rel.rows) (side_right (binary_of step.now.op) left.rel.rows right.rel.rows) left.kept right.kept) ≡ None) }
+    ensures fault { IfErr result (λ e. IsFirst e (node_fault node (step2 (binary_of step.now.op) left.rel.rows right.rel.rows) (together_all (side_left (binary_of step.now.op) left.rel.rows right.rel.rows) (side_right (binary_of step.now.op) left.rel.rows right.rel.rows) left.kept right.kept))) }
 {
     let Run {
         rel: left_rel,
@@ -161,7 +111,7 @@ pub(crate) fn apply_two<R: Threads + Sync, B: OpBody + Sync>(
     };
     match work
         .crew
-        .apply2(work.rt, work.alloc, op, left_rel, right_rel, want)
+        .apply2(work.rt, work.alloc, &step.op, left_rel, right_rel, want)
     {
         Ok((rel, pending)) => {
             let mut lefts = left_kept.into_vec();
@@ -169,11 +119,7 @@ pub(crate) fn apply_two<R: Threads + Sync, B: OpBody + Sync>(
             let met = finish_two(work, pending, &mut lefts, &mut rights, node);
             drop(rights);
             match met {
-                Ok(()) => Ok(Walked {
-                    rel: Chosen::of_rel(rel),
-                    kept: Kepts::from_vec(lefts),
-                    is_leaf: false,
-                }),
+                Ok(()) => Ok(Run::at_columns(work.alloc, rel, step.after.as_slice(), lefts)?),
                 Err(fault) => {
                     drop(rel);
                     drop(lefts);

@@ -4,6 +4,7 @@ pub mod TableRows
 pub mod Choices
 pub mod Narrows
 pub mod JoinNarrows
+pub mod StepNarrows
 pub mod Shown
 pub mod Cuts
 pub mod Lines

@@ -1,5 +1,5 @@
 -- Output columns and a grouping over the columns that they name are those over all columns.
-use Rattle.std.proofs.Common.{◌≡◌, ◌∙◌, ◌+◌, ◌<◌, ◌≤◌, ℕ, suc, Bool, true, List, [], ◌∷◌, ◌++◌, length, map, filter, get_or, All, Some, None, unwrap_or, nat_lt, refl, sym, ap, subst, arith, inl, inr, nat_eq, eqb-true, eq-eqb}
+use Rattle.std.proofs.Common.{◌≡◌, ◌∙◌, ◌+◌, ◌<◌, ℕ, suc, Bool, true, ◌||◌, List, [], ◌∷◌, ◌++◌, length, map, filter, get_or, All, Some, None, unwrap_or, nat_lt, refl, sym, ap, subst, arith, inl, inr, nat_eq, eqb-true, eq-eqb}
 use Rattle.std.specs.List.{list_any, position, position_or_len}
 use Rattle.std.proofs.lemmas.Bool.{cases_Bool, false≢true, or_left, or_right}
 use Rattle.std.proofs.lemmas.List.{get_or-map, length-map}
@@ -7,7 +7,7 @@ use Rattle.std.proofs.lemmas.List.Elements.{filter_agree, All-map}
 use Rattle.std.proofs.lemmas.List.Folds.{list_any_at}
 use Rattle.smk_base.specs.Aggregates.{read_by}
 use Rattle.smk_base.specs.Places.{has, places}
-use Rattle.smk_base.specs.Rels.{Relation, kind_in, value_in, row_in, rows_at, picked}
+use Rattle.smk_base.specs.Rels.{kind_in, value_in, picked}
 use Rattle.smk_base.specs.declared.value.Kind.{Kind}
 use Rattle.smk_base.specs.declared.book.plan.Item.{Item}
 use Rattle.smk_base.specs.declared.book.plan.Item.TheVariants as items
@@ -17,9 +17,9 @@ use Rattle.smk_model.specs.Values.{Row}
 use Rattle.smk_model.specs.Plain.{item_at, image, key_of, firsts, aggregate, grouped, row_eq, step1}
 use Rattle.smk_model.specs.Kinds.{ItemFits, AggFits, ItemsFit, GroupFits, IsInt, kind_of_item, kind_of_agg, kinds1}
 use Rattle.smk_model.proofs.Aggregates.{aggregate_of_made, column_there, kind_of_moved, moved_fits}
-use Rattle.smk_base.proofs.Places.{filter_map, map_map, has_places, places_below, few_places}
+use Rattle.smk_base.proofs.Places.{filter_map, map_map, has_places}
 use Rattle.smk_model.proofs.Parts.{map_agree}
-use Rattle.smk_table.specs.Named.{is_of, reads, is_named, named, place_of, item_among, agg_among}
+use Rattle.smk_table.specs.Named.{reads, place_of, item_among, agg_among}
 
 -- the place of a column that is there
 
@@ -79,7 +79,7 @@ long_there cols kinds c h = omega (arith, length-map cols (kind_in kinds), place
 
 -- whether the columns have what an output column and an aggregate name
 
-abbrev HasItem : List ℕ → Item → Type 0
+abbrev pub HasItem : List ℕ → Item → Type 0
 HasItem cols (items.Col c) = has cols c ≡ true
 HasItem cols (items.Bin c w) = has cols c ≡ true
 
@@ -99,15 +99,15 @@ item_there : (cols : List ℕ) (row : Row) (item : Item) → HasItem cols item �
 item_there cols row (items.Col c) h = value_there cols row c h
 item_there cols row (items.Bin c w) h = rw (value_there cols row c h) refl
 
-image_there : (cols : List ℕ) (of : List Item) (row : Row) → All (HasItem cols) of → image (map (item_among cols) of) (picked cols row) ≡ image of row
+pub image_there : (cols : List ℕ) (of : List Item) (row : Row) → All (HasItem cols) of → image (map (item_among cols) of) (picked cols row) ≡ image of row
 image_there cols of row all =
     map_map (item_at (picked cols row)) (item_among cols) of ∙ each_agrees (HasItem cols) (λ item. item_at (picked cols row) (item_among cols item)) (item_at row) of all (item_there cols row)
 
-key_there : (cols keys : List ℕ) (row : Row) → All (λ c. has cols c ≡ true) keys → key_of (map (place_of cols) keys) (picked cols row) ≡ key_of keys row
+pub key_there : (cols keys : List ℕ) (row : Row) → All (λ c. has cols c ≡ true) keys → key_of (map (place_of cols) keys) (picked cols row) ≡ key_of keys row
 key_there cols keys row all =
     map_map (value_in (picked cols row)) (place_of cols) keys ∙ each_agrees (λ c. has cols c ≡ true) (λ c. value_in (picked cols row) (place_of cols c)) (value_in row) keys all (value_there cols row)
 
-agg_there : (cols : List ℕ) (rows : List Row) (agg : Agg) → HasAgg cols agg → aggregate (map (picked cols) rows) (agg_among cols agg) ≡ aggregate rows agg
+pub agg_there : (cols : List ℕ) (rows : List Row) (agg : Agg) → HasAgg cols agg → aggregate (map (picked cols) rows) (agg_among cols agg) ≡ aggregate rows agg
 agg_there cols rows agg h = aggregate_of_made agg (place_of cols (unwrap_or (read_by agg) 0)) (picked cols) rows (λ c r row. rw r (value_there cols row c (h c r)))
 
 members_there : (cols keys : List ℕ) (rows : List Row) (key : Row) → All (λ c. has cols c ≡ true) keys
@@ -126,7 +126,7 @@ group_there cols keys aggs rows key all each =
 
 -- output columns
 
-images_there : (cols : List ℕ) (of : List Item) (L : List Row) → All (HasItem cols) of → map (image (map (item_among cols) of)) (map (picked cols) L) ≡ map (image of) L
+pub images_there : (cols : List ℕ) (of : List Item) (L : List Row) → All (HasItem cols) of → map (image (map (item_among cols) of)) (map (picked cols) L) ≡ map (image of) L
 images_there cols of L all =
     map_map (image (map (item_among cols) of)) (picked cols) L ∙ map_agree (λ row. image (map (item_among cols) of) (picked cols row)) (image of) (λ row. image_there cols of row all) L
 
@@ -134,7 +134,7 @@ item_kind : (cols : List ℕ) (kinds : List Kind) (item : Item) → HasItem cols
 item_kind cols kinds (items.Col c) h = kind_there cols kinds c h
 item_kind cols kinds (items.Bin c w) h = kind_there cols kinds c h
 
-item_kinds : (cols : List ℕ) (kinds : List Kind) (of : List Item) → All (HasItem cols) of → map (kind_of_item (map (kind_in kinds) cols)) (map (item_among cols) of) ≡ map (kind_of_item kinds) of
+pub item_kinds : (cols : List ℕ) (kinds : List Kind) (of : List Item) → All (HasItem cols) of → map (kind_of_item (map (kind_in kinds) cols)) (map (item_among cols) of) ≡ map (kind_of_item kinds) of
 item_kinds cols kinds of all =
     map_map (kind_of_item (map (kind_in kinds) cols)) (item_among cols) of ∙ each_agrees (HasItem cols) (λ item. kind_of_item (map (kind_in kinds) cols) (item_among cols item)) (kind_of_item kinds) of all (item_kind cols kinds)
 
@@ -142,7 +142,7 @@ item_fits : (cols : List ℕ) (kinds : List Kind) (item : Item) → HasItem cols
 item_fits cols kinds (items.Col c) h fits = long_there cols kinds c h
 item_fits cols kinds (items.Bin c w) h fits = (long_there cols kinds c h, subst IsInt (sym (kind_there cols kinds c h)) fits.1, fits.2)
 
-items_fit : (cols : List ℕ) (kinds : List Kind) (of : List Item) → All (HasItem cols) of → ItemsFit kinds of → ItemsFit (map (kind_in kinds) cols) (map (item_among cols) of)
+pub items_fit : (cols : List ℕ) (kinds : List Kind) (of : List Item) → All (HasItem cols) of → ItemsFit kinds of → ItemsFit (map (kind_in kinds) cols) (map (item_among cols) of)
 items_fit cols kinds of all fits = record {
   each = All-map (ItemFits (map (kind_in kinds) cols)) (item_among cols) of (each_fits (HasItem cols) (ItemFits kinds) (λ item. ItemFits (map (kind_in kinds) cols) (item_among cols item)) of all fits.each (item_fits cols kinds));
   few = omega (arith, fits.few, length-map of (item_among cols));
@@ -189,75 +189,19 @@ group_fits cols keys aggs kinds all aggs_all fits =
       few = omega (arith, fits.few, length-map keys (place_of cols), length-map aggs (agg_among cols));
     }
 
-picked_at : (cols : List ℕ) (L : List Row) (places : List ℕ) → All (λ place. place < length L) places → rows_at (map (picked cols) L) places ≡ map (picked cols) (rows_at L places)
-picked_at cols L places inside =
-    each_agrees (λ place. place < length L) (row_in (map (picked cols) L)) (λ place. picked cols (row_in L place)) places inside (λ place low. get_or-map (picked cols) L place [] [] low)
-    ∙ sym (map_map (picked cols) (row_in L) places)
-
--- the named columns have what is named
-
-pub few_named : (items : List Item) (keys : List ℕ) (aggs : List Agg) (n : ℕ) → length (named items keys aggs n) ≤ n
-few_named items keys aggs n = few_places (is_named items keys aggs) n
-
-pub named_below : (items : List Item) (keys : List ℕ) (aggs : List Agg) (n : ℕ) → All (λ c. c < n) (named items keys aggs n)
-named_below items keys aggs n = places_below (is_named items keys aggs) n
+-- the places of a test have what passes it
 
 pub has_passing : (t : ℕ → Bool) (n c : ℕ) → c < n → t c ≡ true → has (places t n) c ≡ true
 has_passing t n c low h = has_places t n c low ∙ h
 
-item_named : (of : List Item) (kinds : List Kind) (item : Item) → ItemFits kinds item → ((c : ℕ) → is_of c item ≡ true → is_named of [] [] c ≡ true) → HasItem (named of [] [] (length kinds)) item
-item_named of kinds (items.Col c) fits h = has_passing (is_named of [] []) (length kinds) c fits (h c (eq-eqb c c refl))
-item_named of kinds (items.Bin c w) fits h = has_passing (is_named of [] []) (length kinds) c fits.0 (h c (eq-eqb c c refl))
-
 pub agg_passing : (t : ℕ → Bool) (kinds : List Kind) (agg : Agg) → AggFits kinds agg → ((c : ℕ) → reads c agg ≡ true → t c ≡ true) → HasAgg (places t (length kinds)) agg
 agg_passing t kinds agg fits h c r = has_passing t (length kinds) c (column_there agg kinds c fits r) (h c (rw r (eq-eqb c c refl)))
 
-has_items : (of : List Item) (kinds : List Kind) → ItemsFit kinds of → All (HasItem (named of [] [] (length kinds))) of
-has_items of kinds fits k d low =
-    item_named of kinds (get_or of k d) (fits.each k d low) (λ c e. or_left (list_any (is_of c) of) _ (list_any_at (is_of c) of k d low e))
-
-has_keys : (keys : List ℕ) (aggs : List Agg) (kinds : List Kind) → GroupFits kinds keys aggs → All (λ c. has (named [] keys aggs (length kinds)) c ≡ true) keys
+pub has_keys : (keys : List ℕ) (aggs : List Agg) (kinds : List Kind) → GroupFits kinds keys aggs → All (λ c. has (places (λ c. has keys c || list_any (reads c) aggs) (length kinds)) c ≡ true) keys
 has_keys keys aggs kinds fits k d low =
     let c = get_or keys k d in
-    has_passing (is_named [] keys aggs) (length kinds) c (fits.keyed k d low) (or_left (has keys c) _ (list_any_at (nat_eq c) keys k d low (eq-eqb c c refl)))
+    has_passing (λ c. has keys c || list_any (reads c) aggs) (length kinds) c (fits.keyed k d low) (or_left (has keys c) _ (list_any_at (nat_eq c) keys k d low (eq-eqb c c refl)))
 
-has_aggs : (keys : List ℕ) (aggs : List Agg) (kinds : List Kind) → GroupFits kinds keys aggs → All (HasAgg (named [] keys aggs (length kinds))) aggs
+pub has_aggs : (keys : List ℕ) (aggs : List Agg) (kinds : List Kind) → GroupFits kinds keys aggs → All (HasAgg (places (λ c. has keys c || list_any (reads c) aggs) (length kinds))) aggs
 has_aggs keys aggs kinds fits k d low =
-    agg_passing (is_named [] keys aggs) kinds (get_or aggs k d) (fits.each k d low) (λ c e. or_right (has keys c) _ (list_any_at (reads c) aggs k d low e))
-
--- output columns over the named columns, and what they make
-
-pub record ItemsNarrowed (input rel : Relation) (of made : List Item) : Type 0 where
-  pub fits : ItemsFit rel.kinds made
-  pub kinds : map (kind_of_item rel.kinds) made ≡ map (kind_of_item input.kinds) of
-  pub rows : map (image made) rel.rows ≡ map (image of) input.rows
-
-pub items_narrowed : (input rel : Relation) (of made : List Item) (cols : List ℕ) (n : ℕ) → ItemsFit input.kinds of → n ≡ length input.kinds → cols ≡ named of [] [] n
-    → made ≡ map (item_among cols) of → rel ≡ record { kinds = map (kind_in input.kinds) cols; rows = map (picked cols) input.rows } → ItemsNarrowed input rel of made
-items_narrowed input rel of made cols n fits count is items_are rel_is =
-    let has : All (HasItem cols) of = rw (is, count) (has_items of input.kinds fits) in
-    rw (items_are, rel_is) (record {
-      fits = items_fit cols input.kinds of has fits;
-      kinds = item_kinds cols input.kinds of has;
-      rows = images_there cols of input.rows has;
-    })
-
--- a grouping over the named columns, and what it makes
-
-pub record GroupNarrowed (input rel : Relation) (keys keys' : List ℕ) (aggs aggs' : List Agg) : Type 0 where
-  pub fits : GroupFits rel.kinds keys' aggs'
-  pub kinds : kinds1 (Grouping keys' aggs') rel.kinds ≡ kinds1 (Grouping keys aggs) input.kinds
-  pub rows : step1 (Grouping keys' aggs') rel.rows ≡ step1 (Grouping keys aggs) input.rows
-  pub some : (places : List ℕ) → All (λ place. place < length input.rows) places → step1 (Grouping keys' aggs') (rows_at rel.rows places) ≡ step1 (Grouping keys aggs) (rows_at input.rows places)
-
-pub group_narrowed : (input rel : Relation) (keys keys' : List ℕ) (aggs aggs' : List Agg) (cols : List ℕ) (n : ℕ) → GroupFits input.kinds keys aggs → n ≡ length input.kinds → cols ≡ named [] keys aggs n
-    → keys' ≡ map (place_of cols) keys → aggs' ≡ map (agg_among cols) aggs → rel ≡ record { kinds = map (kind_in input.kinds) cols; rows = map (picked cols) input.rows } → GroupNarrowed input rel keys keys' aggs aggs'
-group_narrowed input rel keys keys' aggs aggs' cols n fits count is keys_are aggs_are rel_is =
-    let has_k : All (λ c. has cols c ≡ true) keys = rw (is, count) (has_keys keys aggs input.kinds fits) in
-    let has_a : All (HasAgg cols) aggs = rw (is, count) (has_aggs keys aggs input.kinds fits) in
-    rw (keys_are, aggs_are, rel_is) (record {
-      fits = group_fits cols keys aggs input.kinds has_k has_a fits;
-      kinds = group_kinds cols keys aggs input.kinds has_k has_a;
-      rows = group_rows cols keys aggs input.rows has_k has_a;
-      some = λ places inside. ap (step1 (Grouping (map (place_of cols) keys) (map (agg_among cols) aggs))) (picked_at cols input.rows places inside) ∙ group_rows cols keys aggs (rows_at input.rows places) has_k has_a;
-    })
+    agg_passing (λ c. has keys c || list_any (reads c) aggs) kinds (get_or aggs k d) (fits.each k d low) (λ c e. or_right (has keys c) _ (list_any_at (reads c) aggs k d low e))

@@ -2,7 +2,7 @@ pub mod CsvReader
 pub mod Growing
 pub mod Choosing
 pub mod Named
-pub mod Narrowed
+pub mod Wanted
 pub mod Showing
 pub mod Cuts
 pub mod Pieces

@@ -1,8 +1,6 @@
--- The columns that a step names, and the step over these alone.
-use Rattle.std.specs.Prelude.{ℕ, ◌+◌, Bool, false, ◌||◌, nat_eq, List, [], map, option_map, position, unwrap_or}
-use Rattle.std.specs.List.{list_any}
+-- What is named of columns, and the same over fewer columns.
+use Rattle.std.specs.Prelude.{ℕ, ◌+◌, Bool, false, ◌||◌, nat_eq, List, map, option_map, position, unwrap_or}
 use Rattle.smk_base.specs.Aggregates.{moved_to, read_by}
-use Rattle.smk_base.specs.Places.{places, has}
 use Rattle.smk_base.specs.declared.book.plan.Item.{Item}
 use Rattle.smk_base.specs.declared.book.plan.Item.TheVariants.{Col, Bin}
 use Rattle.smk_base.specs.declared.book.plan.Agg.{Agg}
@@ -15,14 +13,6 @@ is_of c (Bin d w) = nat_eq c d
 -- whether an aggregate reads a column
 abbrev pub reads : ℕ → Agg → Bool
 reads c agg = unwrap_or (option_map (nat_eq c) (read_by agg)) false
-
--- whether output columns, keys or aggregates name a column
-abbrev pub is_named : List Item → List ℕ → List Agg → ℕ → Bool
-is_named items keys aggs c = list_any (is_of c) items || (has keys c || list_any (reads c) aggs)
-
--- the columns that they name of so many, ascending
-abbrev pub named : List Item → List ℕ → List Agg → ℕ → List ℕ
-named items keys aggs n = places (is_named items keys aggs) n
 
 -- the place of a column among others, and 0 where it isn't there
 unfoldable pub place_of : List ℕ → ℕ → ℕ
@@ -48,7 +38,3 @@ behind w cols = map (λ c. w + c) cols
 -- whether a pair names a column of a join's rows, of which the left ones have w columns
 abbrev pub is_paired : ℕ → ℕ → ℕ × ℕ → Bool
 is_paired w c pair = nat_eq c pair.0 || nat_eq c (w + pair.1)
-
--- whether pairs, keys or aggregates name a column of a join's rows
-abbrev pub is_used : List (ℕ × ℕ) → List ℕ → List Agg → ℕ → ℕ → Bool
-is_used pairs keys aggs w c = list_any (is_paired w c) pairs || is_named [] keys aggs c

@@ -1,56 +1,28 @@
-//! The columns that a step names, and its output columns, keys and aggregates over these columns alone.
+//! Whether output columns, keys, aggregates, pairs or predicates read a column, and the same over fewer columns alone.
 
-ghost use Rattle.std.specs.Prelude.{◌≡◌, ◌<◌, ◌≤◌, ◌+◌, ◌++◌, length, map, nat_eq, position, All, IfOk};
+ghost use Rattle.std.specs.Prelude.{◌≡◌, ◌<◌, ◌≤◌, ◌+◌, ◌++◌, Ok, length, map, nat_eq, position, All, IfOk};
 ghost use Rattle.std.specs.List.{list_any};
-ghost use Rattle.smk_base.specs.Places.{has, places};
-ghost use Rattle.smk_base.specs.declared.rel.TheConstants.{COLUMN_LIMIT};
-ghost use Rattle.smk_table.specs.Named.{is_of, reads, is_named, named, place_of, item_among, agg_among, pair_among, behind, is_paired, is_used};
+ghost use Rattle.smk_base.specs.Places.{has};
+ghost use Rattle.smk_base.specs.PlanImage.{formula_of};
+ghost use Rattle.smk_table.specs.Named.{is_of, reads, place_of, item_among, agg_among, pair_among, behind, is_paired};
+ghost use Rattle.smk_table.specs.Wanted.{in_operand, in_formula, operand_among, formula_among};
 
-use smk_base::{Agg, Aggs, Item, Items, Keys, Pairs};
+use smk_base::{Agg, Aggs, Item, Items, Keys, Operand, Pairs, Pred};
 use std::alloc::{AllocError, Global};
 
-#[tactic(auto, using(crate::proofs::Narrows::few_named))]
-/// The columns of so many that output columns, keys or aggregates name, ascending.
-pub(crate) fn named_columns(
-    alloc: Global,
-    items: &[Item],
-    keys: &[u32],
-    aggs: &[Agg],
-    width: u32,
-) -> Result<Vec<u32>, AllocError>
-    ensures cols { IfOk result (λ cols. cols.items ≡ named items.now keys.now aggs.now width) }
-    ensures few { IfOk result (λ cols. length cols.items ≤ width) }
-    ensures within { IfOk result (λ cols. All (λ c. c < width) cols.items) }
-{
-    let mut cols = Vec::new(alloc);
-    for c in 0..width {
-        if is_column_named(items, keys, aggs, c) {
-            cols.push(c)?;
-        }
-    }
-    Ok(cols)
-}
-
-// Whether output columns, keys or aggregates name a column.
-fn is_column_named(items: &[Item], keys: &[u32], aggs: &[Agg], c: u32) -> bool
-    ensures { result ≡ is_named items.now keys.now aggs.now c }
-{
-    is_in_items(items, c) || is_in_keys(keys, c) || is_in_aggs(aggs, c)
-}
-
-fn is_in_items(items: &[Item], c: u32) -> bool
+pub(crate) fn is_in_items(items: &[Item], c: u32) -> bool
     ensures { result ≡ list_any (is_of c) items.now }
 {
     items.iter().any(|item| is_under(*item, c))
 }
 
-fn is_in_keys(keys: &[u32], c: u32) -> bool
+pub(crate) fn is_in_keys(keys: &[u32], c: u32) -> bool
     ensures { result ≡ has keys.now c }
 {
     keys.iter().any(|key| c == *key)
 }
 
-fn is_in_aggs(aggs: &[Agg], c: u32) -> bool
+pub(crate) fn is_in_aggs(aggs: &[Agg], c: u32) -> bool
     ensures { result ≡ list_any (reads c) aggs.now }
 {
     aggs.iter().any(|agg| is_read(*agg, c))
@@ -78,7 +50,7 @@ fn is_read(agg: Agg, c: u32) -> bool
 
 /// Output columns over these columns alone.
 pub(crate) fn items_among(alloc: Global, items: &[Item], cols: &[u32]) -> Result<Items, AllocError>
-    requires { length cols.now ≤ COLUMN_LIMIT }
+    requires { length cols.now ≤ 32 }
     ensures { IfOk result (λ made. made ≡ map (item_among cols.now) items.now) }
 {
     let mut made = Items::new(alloc);
@@ -90,7 +62,7 @@ pub(crate) fn items_among(alloc: Global, items: &[Item], cols: &[u32]) -> Result
 
 /// Keys over these columns alone.
 pub(crate) fn keys_among(alloc: Global, keys: &[u32], cols: &[u32]) -> Result<Keys, AllocError>
-    requires { length cols.now ≤ COLUMN_LIMIT }
+    requires { length cols.now ≤ 32 }
     ensures { IfOk result (λ made. made ≡ map (place_of cols.now) keys.now) }
 {
     let mut made = Keys::new(alloc);
@@ -102,7 +74,7 @@ pub(crate) fn keys_among(alloc: Global, keys: &[u32], cols: &[u32]) -> Result<Ke
 
 /// Aggregates over these columns alone.
 pub(crate) fn aggs_among(alloc: Global, aggs: &[Agg], cols: &[u32]) -> Result<Aggs, AllocError>
-    requires { length cols.now ≤ COLUMN_LIMIT }
+    requires { length cols.now ≤ 32 }
     ensures { IfOk result (λ made. made ≡ map (agg_among cols.now) aggs.now) }
 {
     let mut made = Aggs::new(alloc);
@@ -114,7 +86,7 @@ pub(crate) fn aggs_among(alloc: Global, aggs: &[Agg], cols: &[u32]) -> Result<Ag
 }
 
 fn one_item_among(item: Item, cols: &[u32]) -> Item
-    requires { length cols.now ≤ COLUMN_LIMIT }
+    requires { length cols.now ≤ 32 }
     ensures { result ≡ item_among cols.now item }
 {
     match item {
@@ -129,7 +101,7 @@ fn one_item_among(item: Item, cols: &[u32]) -> Item
 #[tactic(auto, using(crate::proofs::Narrows::place_found, crate::proofs::Narrows::place_missing))]
 // The place of a column among these, or 0 where it isn't there.
 fn place_among(cols: &[u32], c: u32) -> u32
-    requires { length cols.now ≤ COLUMN_LIMIT }
+    requires { length cols.now ≤ 32 }
     ensures { result ≡ place_of cols.now c }
 {
     match first_place(cols, c) {
@@ -144,38 +116,7 @@ fn first_place(cols: &[u32], c: u32) -> Option<usize>
     cols.iter().position(|col| c == *col)
 }
 
-/// Of so many columns of a join's rows from one on, the left ones of which have a width, those that pairs, keys or aggregates name, ascending and numbered from that one on.
-pub(crate) fn used_columns(
-    alloc: Global,
-    pairs: &[(u32, u32)],
-    keys: &[u32],
-    aggs: &[Agg],
-    width: u32,
-    from: u32,
-    len: u32,
-) -> Result<Vec<u32>, AllocError>
-    requires { from + len ≤ 32 }
-    ensures cols { IfOk result (λ cols. cols.items ≡ places (λ c. is_used pairs.now keys.now aggs.now width (from + c)) len) }
-    ensures few { IfOk result (λ cols. length cols.items ≤ len) }
-    ensures within { IfOk result (λ cols. All (λ c. c < len) cols.items) }
-{
-    let mut cols = Vec::new(alloc);
-    for c in 0..len {
-        if is_column_used(pairs, keys, aggs, width, from + c) {
-            cols.push(c)?;
-        }
-    }
-    Ok(cols)
-}
-
-// Whether pairs, keys or aggregates name a column of a join's rows.
-fn is_column_used(pairs: &[(u32, u32)], keys: &[u32], aggs: &[Agg], width: u32, c: u32) -> bool
-    ensures { result ≡ is_used pairs.now keys.now aggs.now width c }
-{
-    is_in_pairs(pairs, width, c) || is_column_named(&[], keys, aggs, c)
-}
-
-fn is_in_pairs(pairs: &[(u32, u32)], width: u32, c: u32) -> bool
+pub(crate) fn is_in_pairs(pairs: &[(u32, u32)], width: u32, c: u32) -> bool
     ensures { result ≡ list_any (is_paired width c) pairs.now }
 {
     pairs.iter().any(|pair| is_in_pair(*pair, width, c))
@@ -220,8 +161,8 @@ pub(crate) fn pairs_among(
     lefts: &[u32],
     rights: &[u32],
 ) -> Result<Pairs, AllocError>
-    requires left { length lefts.now ≤ COLUMN_LIMIT }
-    requires right { length rights.now ≤ COLUMN_LIMIT }
+    requires left { length lefts.now ≤ 32 }
+    requires right { length rights.now ≤ 32 }
     ensures { IfOk result (λ made. made ≡ map (pair_among lefts.now rights.now) pairs.now) }
 {
     let mut made = Pairs::new(alloc);
@@ -229,4 +170,65 @@ pub(crate) fn pairs_among(
         made.push((place_among(lefts, pair.0), place_among(rights, pair.1)))?;
     }
     Ok(made)
+}
+
+/// Whether a predicate reads a column.
+pub(crate) fn is_in_formula(pred: &Pred, c: u32) -> bool
+    ensures { result ≡ in_formula c (formula_of pred.now) }
+{
+    match pred {
+        Pred::Cmp(col, _, right) => c == *col || is_in_operand(right, c),
+        Pred::And(left, right) => is_in_formula(left, c) || is_in_formula(right, c),
+        Pred::Or(left, right) => is_in_formula(left, c) || is_in_formula(right, c),
+        Pred::Not(inner) => is_in_formula(inner, c),
+    }
+}
+
+fn is_in_operand(right: &Operand, c: u32) -> bool
+    ensures { result ≡ in_operand c right.now }
+{
+    match right {
+        Operand::Col(col) => c == *col,
+        Operand::Lit(_) => false,
+    }
+}
+
+/// A predicate over these columns alone.
+pub(crate) fn pred_among(alloc: Global, pred: &Pred, cols: &[u32]) -> Result<Pred, AllocError>
+    requires { length cols.now ≤ 32 }
+    ensures { IfOk result (λ made. formula_of made ≡ formula_among cols.now (formula_of pred.now)) }
+{
+    match pred {
+        Pred::Cmp(col, op, right) => Ok(Pred::Cmp(
+            place_among(cols, *col),
+            *op,
+            operand_among(alloc, right, cols)?,
+        )),
+        Pred::And(left, right) => Ok(Pred::And(
+            boxed(alloc, pred_among(alloc, left, cols))?,
+            boxed(alloc, pred_among(alloc, right, cols))?,
+        )),
+        Pred::Or(left, right) => Ok(Pred::Or(
+            boxed(alloc, pred_among(alloc, left, cols))?,
+            boxed(alloc, pred_among(alloc, right, cols))?,
+        )),
+        Pred::Not(inner) => Ok(Pred::Not(boxed(alloc, pred_among(alloc, inner, cols))?)),
+    }
+}
+
+// What is made in a box, if there is one.
+fn boxed(alloc: Global, made: Result<Pred, AllocError>) -> Result<Box<Pred>, AllocError>
+    ensures { IfOk result (λ held. made ≡ Ok held.value) }
+{
+    Ok(Box::new(alloc, made?)?)
+}
+
+fn operand_among(alloc: Global, right: &Operand, cols: &[u32]) -> Result<Operand, AllocError>
+    requires { length cols.now ≤ 32 }
+    ensures { IfOk result (λ made. made ≡ operand_among cols.now right.now) }
+{
+    match right {
+        Operand::Col(col) => Ok(Operand::Col(place_among(cols, *col))),
+        Operand::Lit(_) => right.copy(alloc),
+    }
 }
