@@ -6,7 +6,7 @@ use Rattle.smk_base.specs.declared.book.token.TokenKind.TheVariants as kinds
 use Rattle.smk_base.specs.declared.fault.BookFault.{BookFault}
 use Rattle.smk_base.specs.declared.fault.BookFault.TheVariants.{TooMany, BadNumber}
 use Rattle.smk_model.specs.Tokens.{Token}
-use Rattle.smk_model.specs.Grammar.{First, plain_word, IsName, name, IsColumn, plain, string, no_more, int_type, no_default, by_itself, width, column_item, count, no_keys, no_aggs, eq, column_term, compared, no_and, no_or, scan, no_step, group_step, union_step, no_extra, fwd_stmt, no_stmt, mark, all_marks, no_then, clear_line, whole_line, ask_step, no_ask_step, plain_line, whole_any_line}
+use Rattle.smk_model.specs.Grammar.{First, plain_word, IsName, name, IsColumn, plain, string, no_more, int_type, no_default, by_itself, width, column_item, alone_what, no_keys, no_aggs, eq, column_term, compared, no_and, no_or, scan, no_step, group_step, union_step, no_extra, fwd_stmt, no_stmt, mark, all_marks, no_then, clear_line, whole_line, ask_step, no_ask_step, plain_line, whole_any_line}
 use Rattle.smk_model.specs.Machine.{Configuration, PlanCounts, Symbol, Move, Takes, Skips, Wrong, Past, Outside, settle, go_on, through, book_symbols, line_symbols, any_symbols, no_counts, AToken, AName, AColumn, ALiteral, AWidth, AType, ADefault, AnAs, AWhat, AKeys, AnAggs, AFirst, AnItem, ALinked, ASource, ASteps, AStep, AUnited, APrim, AnAnds, AnOrs, AnOn, AnOp, ATerm, AStmts, ALineage, AnExtra, ALine, ALineName, ALineColumn, AMarks, AMark, AThen, ACleared, AnEnd, AnyLine, AnAskStep, AskSteps}
 use Rattle.smk_model.specs.Machine.{fault_at}
 use Rattle.smk_model.specs.GrammarLaws.{NoEnds, TakenAreCompleted}
@@ -40,7 +40,7 @@ closes AWidth b = (tok kinds.Number (49 ∷ []) ∷ b, (_, width (is_tok kinds.N
 closes AType b = (tok kinds.Int [] ∷ b, (_, int_type (is_tok kinds.Int [] b)))
 closes ADefault b = (b, (_, no_default))
 closes AnAs b = (b, λ w. (w, by_itself))
-closes AWhat b = (tok kinds.Count [] ∷ b, (_, count (is_tok kinds.Count [] b)))
+closes AWhat b = (tok kinds.Count [] ∷ b, (_, alone_what {k = kinds.Count} refl (is_tok kinds.Count [] b)))
 closes AKeys b = (b, (_, no_keys))
 closes AnAggs b = (b, (_, no_aggs))
 closes (AFirst n) b = (tok kinds.Name [] ∷ b, (_, a_column b))

@@ -22,11 +22,11 @@ use Rattle.smk_base.specs.declared.book.limits.TheConstants.{TABLE_LIMIT, VIEW_L
 use Rattle.smk_base.specs.declared.rel.TheConstants.{COLUMN_LIMIT}
 use Rattle.smk_model.specs.Tokens.{Token, head_of, int_value}
 use Rattle.smk_model.specs.TokenKinds.{same_kind}
-use Rattle.smk_model.specs.Grammar.{First, plain_word, IsName, name, IsColumn, plain, quoted, IsLiteral, number, string, IsFile, file, AreMore, no_more, one_more, listed, IsType, int_type, text_type, IsDefault, no_default, default, IsDecl, decl, IsNamed, by_itself, by_as, IsWidth, width, IsItem, column_item, bin_item, IsWhat, count, sum, min, max, IsAgg, agg, AreKeys, no_keys, keys, AreAggs, no_aggs, aggs, IsPair, pair, IsOp, eq, ne, lt, le, gt, ge, IsTerm, column_term, literal_term, IsPrim, negated, bracketed, compared, conj, AreAnds, no_and, one_and, pred, AreOrs, no_or, one_or, plan, IsSource, scan, inner_plan, AreSteps, no_step, one_step, IsStep, where_step, project_step, distinct_step, group_step, join_step, theta_step, product_step, union_all_step, union_step, IsExtra, no_extra, by_extra, group_extra, IsStmt, table_stmt, view_stmt, back_stmt, fwd_stmt, link_stmt, depends_stmt, AreStmts, one_stmt, IsMark, mark, AreMarks, all_marks, listed_marks, IsThen, no_then, where_then, group_then, IsLine, show_line, back_line, fwd_line, brush_line, clear_line, clear_one_line, HasOneInput, IsAskStep, ask_step, AreAskSteps, no_ask_step, one_ask_step, ask_line, IsAnyLine, plain_line, asked_line, profiled_line, appended_line}
+use Rattle.smk_model.specs.Grammar.{First, plain_word, IsName, name, IsColumn, plain, quoted, IsLiteral, number, string, IsFile, file, AreMore, no_more, one_more, listed, IsType, int_type, text_type, IsDefault, no_default, default, IsDecl, decl, IsNamed, by_itself, by_as, IsWidth, width, IsItem, column_item, bin_item, IsWhat, Aggregate, Alone, OfColumn, aggregate_of, alone_what, column_what, IsAgg, agg, AreKeys, no_keys, keys, AreAggs, no_aggs, aggs, IsPair, pair, IsOp, eq, ne, lt, le, gt, ge, IsTerm, column_term, literal_term, IsPrim, negated, bracketed, compared, conj, AreAnds, no_and, one_and, pred, AreOrs, no_or, one_or, plan, IsSource, scan, inner_plan, AreSteps, no_step, one_step, IsStep, where_step, project_step, distinct_step, group_step, join_step, theta_step, product_step, union_all_step, union_step, IsExtra, no_extra, by_extra, group_extra, IsStmt, table_stmt, view_stmt, back_stmt, fwd_stmt, link_stmt, depends_stmt, AreStmts, one_stmt, IsMark, mark, AreMarks, all_marks, listed_marks, IsThen, no_then, where_then, group_then, IsLine, show_line, back_line, fwd_line, brush_line, clear_line, clear_one_line, HasOneInput, IsAskStep, ask_step, AreAskSteps, no_ask_step, one_ask_step, ask_line, IsAnyLine, plain_line, asked_line, profiled_line, appended_line}
 use Rattle.smk_model.proofs.Alike.{same_is}
 use Rattle.smk_model.proofs.Leaving.{and_left, and_right}
 use Rattle.smk_model.proofs.Unique.{step_opener, step_opening}
-use Rattle.smk_model.specs.Machine.{PlanCounts, Tally, Symbol, Move, Takes, Skips, Wrong, Past, Outside, settle, or_next, within, move_of, no_counts, is_mark, is_short, at_name, at_column, at_first, at_item, at_literal, at_width, at_type, at_default, at_as, at_what, at_keys, at_aggs, at_linked, at_more, at_source, at_steps, step_symbols, node_move, at_on, at_united, at_compare, at_prim, at_ands, at_ors, at_op, at_term, at_stmts, at_lineage, at_extra, at_line, at_line_column, at_mark, at_marks, at_then, at_cleared, at_any_line, ask_symbols, at_ask_steps, at_end, at_token, AToken, AName, AColumn, ALiteral, AWidth, AType, ADefault, AnAs, AWhat, AKeys, AnAggs, AFirst, AnItem, ALinked, MoreDecls, MoreItems, MoreKeys, MoreAggs, MorePairs, MoreLinked, ASource, ASteps, AStep, AUnited, APrim, AnAnds, AnOrs, AnOn, AnOp, ATerm, AStmts, ALineage, AnExtra, ALine, ALineName, ALineColumn, AMarks, AMark, MoreMarks, AThen, ACleared, AnEnd, AnyLine, AnAskStep, AskSteps}
+use Rattle.smk_model.specs.Machine.{PlanCounts, Tally, Symbol, Move, Takes, Skips, Wrong, Past, Outside, settle, or_next, within, move_of, no_counts, is_mark, is_short, at_name, at_column, at_first, at_item, at_literal, at_width, at_type, at_default, at_as, at_aggregate, at_keys, at_aggs, at_linked, at_more, at_source, at_steps, step_symbols, node_move, at_on, at_united, at_compare, at_prim, at_ands, at_ors, at_op, at_term, at_stmts, at_lineage, at_extra, at_line, at_line_column, at_mark, at_marks, at_then, at_cleared, at_any_line, ask_symbols, at_ask_steps, at_end, at_token, AToken, AName, AColumn, ALiteral, AWidth, AType, ADefault, AnAs, AWhat, AKeys, AnAggs, AFirst, AnItem, ALinked, MoreDecls, MoreItems, MoreKeys, MoreAggs, MorePairs, MoreLinked, ASource, ASteps, AStep, AUnited, APrim, AnAnds, AnOrs, AnOn, AnOp, ATerm, AStmts, ALineage, AnExtra, ALine, ALineName, ALineColumn, AMarks, AMark, MoreMarks, AThen, ACleared, AnEnd, AnyLine, AnAskStep, AskSteps}
 
 -- the tokens from a to b are the symbol
 abbrev pub IsSymbol : Symbol → List Token → List Token → Type 0
@@ -162,12 +162,10 @@ as_moves : (c : PlanCounts) (t : Token) (k : TokenKind) → t.kind ≡ k → Mov
 as_moves c t kinds.As e = λ a b h w. let l = ends AColumn a b h in (l.0, by_as (here t a kinds.As e) l.1)
 as_moves c t _ e = λ n a w. (w, by_itself)
 
-what_moves : (c : PlanCounts) (t : Token) (k : TokenKind) → t.kind ≡ k → Moves (at_what c k) AWhat t
-what_moves c t kinds.Count e = λ a b h. alone AWhat (t ∷ a) a b h (_, count (here t a kinds.Count e))
-what_moves c t kinds.Sum e = λ a b h. let l = ends AColumn a b h in (_, sum (here t a kinds.Sum e) l.1)
-what_moves c t kinds.Min e = λ a b h. let l = ends AColumn a b h in (_, min (here t a kinds.Min e) l.1)
-what_moves c t kinds.Max e = λ a b h. let l = ends AColumn a b h in (_, max (here t a kinds.Max e) l.1)
-what_moves c t _ e = tt
+what_moves : (c : PlanCounts) (t : Token) (k : TokenKind) (x : Option Aggregate) → t.kind ≡ k → aggregate_of k ≡ x → Moves (at_aggregate c x) AWhat t
+what_moves c t k (Some (Alone x)) e is = λ a b h. alone AWhat (t ∷ a) a b h (_, alone_what is (here t a k e))
+what_moves c t k (Some (OfColumn f)) e is = λ a b h. let l = ends AColumn a b h in (_, column_what is (here t a k e) l.1)
+what_moves c t k None e is = tt
 
 keys_moves : (c : PlanCounts) (t : Token) (short : Bool) (k : TokenKind) → t.kind ≡ k → Moves (at_keys c short k) AKeys t
 keys_moves c t short kinds.Name e = firsts c 0 (MoreKeys 1 ∷ []) AKeys t (λ a b w p h. let l = ends (MoreKeys 1) a b h in (w ∷ l.0, keys (listed p l.1))) short kinds.Name e
@@ -384,7 +382,7 @@ moves AWidth c t = width_moves c t t.kind refl
 moves AType c t = type_moves c t t.kind refl
 moves ADefault c t = default_moves c t t.kind refl
 moves AnAs c t = as_moves c t t.kind refl
-moves AWhat c t = what_moves c t t.kind refl
+moves AWhat c t = what_moves c t t.kind (aggregate_of t.kind) refl refl
 moves AKeys c t = keys_moves c t (is_short t) t.kind refl
 moves AnAggs c t = aggs_moves c t t.kind refl
 moves (AFirst n) c t = firsts c n [] (AFirst n) t (λ a b w p h. alone (AFirst n) (t ∷ a) a b h (w, p)) (is_short t) t.kind refl

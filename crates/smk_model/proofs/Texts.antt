@@ -25,7 +25,7 @@ use Rattle.smk_base.specs.Trees.{PredImage, TreeImage, StepImage, SelectNode, Pr
 use Rattle.smk_base.specs.declared.book.limits.TheConstants.{TABLE_LIMIT, VIEW_LIMIT, LINEAGE_LIMIT, LINK_LIMIT}
 use Rattle.smk_base.specs.declared.rel.TheConstants.{COLUMN_LIMIT}
 use Rattle.smk_model.specs.Tokens.{Token, head_of, int_value}
-use Rattle.smk_model.specs.Grammar.{First, IsName, name, IsColumn, number, string, IsFile, file, listed, IsType, int_type, text_type, IsDefault, no_default, default, IsDecl, decl, IsNamed, by_itself, by_as, IsWidth, width, IsItem, column_item, bin_item, IsWhat, count, sum, min, max, IsAgg, agg, AreKeys, no_keys, keys, AreAggs, no_aggs, aggs, IsPair, pair, IsOp, eq, ne, lt, le, gt, ge, IsTerm, column_term, literal_term, IsPrim, negated, bracketed, compared, IsConj, conj, AreAnds, no_and, one_and, IsPred, pred, AreOrs, no_or, one_or, IsPlan, plan, IsSource, scan, inner_plan, AreSteps, no_step, one_step, IsStep, where_step, project_step, distinct_step, group_step, join_step, theta_step, product_step, union_all_step, union_step, IsExtra, no_extra, by_extra, group_extra, table_stmt, view_stmt, back_stmt, fwd_stmt, link_stmt, depends_stmt, AreStmts, no_stmt, one_stmt, IsMark, mark, AreMarks, all_marks, listed_marks, IsThen, no_then, where_then, group_then, IsLine, show_line, back_line, fwd_line, brush_line, clear_line, clear_one_line, IsWholeLine, whole_line, HasOneInput, IsAskStep, ask_step, AreAskSteps, no_ask_step, one_ask_step, IsAskLine, ask_line, plain_line, asked_line, profiled_line, appended_line, IsWholeAnyLine, whole_any_line}
+use Rattle.smk_model.specs.Grammar.{First, IsName, name, IsColumn, number, string, IsFile, file, listed, IsType, int_type, text_type, IsDefault, no_default, default, IsDecl, decl, IsNamed, by_itself, by_as, IsWidth, width, IsItem, column_item, bin_item, IsWhat, alone_what, column_what, IsAgg, agg, AreKeys, no_keys, keys, AreAggs, no_aggs, aggs, IsPair, pair, IsOp, eq, ne, lt, le, gt, ge, IsTerm, column_term, literal_term, IsPrim, negated, bracketed, compared, IsConj, conj, AreAnds, no_and, one_and, IsPred, pred, AreOrs, no_or, one_or, IsPlan, plan, IsSource, scan, inner_plan, AreSteps, no_step, one_step, IsStep, where_step, project_step, distinct_step, group_step, join_step, theta_step, product_step, union_all_step, union_step, IsExtra, no_extra, by_extra, group_extra, table_stmt, view_stmt, back_stmt, fwd_stmt, link_stmt, depends_stmt, AreStmts, no_stmt, one_stmt, IsMark, mark, AreMarks, all_marks, listed_marks, IsThen, no_then, where_then, group_then, IsLine, show_line, back_line, fwd_line, brush_line, clear_line, clear_one_line, IsWholeLine, whole_line, HasOneInput, IsAskStep, ask_step, AreAskSteps, no_ask_step, one_ask_step, IsAskLine, ask_line, plain_line, asked_line, profiled_line, appended_line, IsWholeAnyLine, whole_any_line}
 use Rattle.smk_model.specs.Machine.{PlanCounts, Tally, Symbol, Skips, Outside, through, fault_in, book_symbols, any_symbols, no_counts, book_fault, line_fault, any_fault, is_mark, is_short, at_more, at_default, at_as, at_keys, at_aggs, at_ands, at_ors, at_steps, at_extra, at_then, at_cleared, at_line, at_any_line, step_symbols, ask_symbols, node_move, at_ask_steps, at_stmts, at_end, AToken, AName, AColumn, AWidth, AType, ADefault, AnAs, AWhat, AKeys, AnAggs, AFirst, AnItem, ALinked, MoreDecls, MoreItems, MoreKeys, MoreAggs, MorePairs, MoreLinked, ASource, ASteps, AStep, AUnited, APrim, AnAnds, AnOrs, AnOn, AnOp, ATerm, AStmts, AnExtra, ALine, ALineName, ALineColumn, AMarks, AMark, MoreMarks, AThen, AnEnd, AnyLine, AnAskStep, AskSteps}
 use Rattle.smk_model.specs.Limits.{Divides, KeepsItems, KeepsTree, KeepsStep, nodes, nodes_of_step, DefaultInRange, KeepsDecls, KeepsStmt, KeepsAskStep, is_table, is_view}
 use Rattle.smk_model.specs.GrammarLaws.{AtMostTooMany, TextsAreRead}
@@ -167,10 +167,8 @@ item_text k (column_item h m) n = told (λ r e. (e, tt)) (column_opens {F = IsPl
 item_text k (bin_item h o w v x y z m) n = opens_with {F = IsPlace k} refl (λ e u. (e, width_divides x)) h (λ c. checked (nat_lt k COLUMN_LIMIT) Columns tt (λ e. known refl e)) (then_goes (token_text o refl) (then_goes (column_text w) (then_goes (token_text v refl) (then_goes (width_text x) (then_goes (token_text y refl) (then_goes (token_text z refl) (column_text m)))))))
 
 what_text : {a b : List Token} {x : AggWhat} → IsWhat a b x → Reads (AWhat ∷ []) a b
-what_text (count h) = opens h (λ c. taken c) nothing
-what_text (sum h k) = opens h (λ c. taken c) (column_text k)
-what_text (min h k) = opens h (λ c. taken c) (column_text k)
-what_text (max h k) = opens h (λ c. taken c) (column_text k)
+what_text (alone_what i h) = opens h (λ c. rw i (taken c)) nothing
+what_text (column_what i h k) = opens h (λ c. rw i (taken c)) (column_text k)
 
 decls : Lists (Unit {0}) DeclPlace IsDecl MoreDecls (λ k. AFirst k ∷ AType ∷ ADefault ∷ [])
 decls = record { comma = λ c k t. taken c; stops = λ c k t h. more_skips c _ t.kind h; each = each }

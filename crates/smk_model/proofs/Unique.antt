@@ -12,7 +12,6 @@ use Rattle.smk_base.specs.declared.book.tree.Extra.{Extra}
 use Rattle.smk_base.specs.declared.book.tree.Extra.TheVariants as extras
 use Rattle.smk_base.specs.declared.book.tree.AggTree.{AggTree}
 use Rattle.smk_base.specs.declared.book.tree.AggWhat.{AggWhat}
-use Rattle.smk_base.specs.declared.book.tree.AggWhat.TheVariants as whats
 use Rattle.smk_base.specs.declared.book.tree.Term.{Term}
 use Rattle.smk_base.specs.declared.book.tree.Term.TheVariants as terms
 use Rattle.smk_base.specs.declared.book.tree.Marks.{Marks}
@@ -22,7 +21,7 @@ use Rattle.smk_base.specs.declared.book.tree.Line.{Line}
 use Rattle.smk_base.specs.declared.book.tree.Line.TheVariants as lines
 use Rattle.smk_base.specs.Trees.{PredImage, NotNode, TreeImage, ScanNode, StepImage, SelectNode, ProjectNode, DistinctNode, GroupNode, JoinNode, ThetaNode, ProductNode, UnionAllNode, UnionNode, StmtImage, TableNode, ViewNode, LinkNode, DependsNode, AskStepImage, AskImage, AnyLineImage, PlainLine, AskedLine, ProfiledLine, AppendedLine}
 use Rattle.smk_model.specs.Tokens.{Token, head_of, tail_of, int_value, string_value}
-use Rattle.smk_model.specs.Grammar.{First, plain_word, quoted_word, IsName, name, IsColumn, plain, quoted, IsLiteral, number, string, IsFile, file, AreMore, no_more, one_more, AreListed, listed, IsType, int_type, text_type, IsDefault, no_default, default, IsDecl, decl, IsNamed, by_itself, by_as, IsWidth, width, IsItem, column_item, bin_item, IsWhat, count, sum, min, max, IsAgg, agg, AreKeys, no_keys, keys, AreAggs, no_aggs, aggs, IsPair, pair, IsOp, eq, ne, lt, le, gt, ge, IsTerm, column_term, literal_term, IsPrim, negated, bracketed, compared, IsConj, conj, AreAnds, no_and, one_and, IsPred, pred, AreOrs, no_or, one_or, IsPlan, plan, IsSource, scan, inner_plan, AreSteps, no_step, one_step, IsStep, where_step, project_step, distinct_step, group_step, join_step, theta_step, product_step, union_all_step, union_step, IsExtra, no_extra, by_extra, group_extra, IsStmt, table_stmt, view_stmt, back_stmt, fwd_stmt, link_stmt, depends_stmt, AreStmts, no_stmt, one_stmt, IsMark, mark, AreMarks, all_marks, listed_marks, IsThen, no_then, where_then, group_then, IsLine, show_line, back_line, fwd_line, brush_line, clear_line, clear_one_line, IsWholeLine, whole_line, IsAskStep, ask_step, AreAskSteps, no_ask_step, one_ask_step, IsAskLine, ask_line, IsAnyLine, plain_line, asked_line, profiled_line, appended_line, IsWholeAnyLine, whole_any_line}
+use Rattle.smk_model.specs.Grammar.{First, plain_word, quoted_word, IsName, name, IsColumn, plain, quoted, IsLiteral, number, string, IsFile, file, AreMore, no_more, one_more, AreListed, listed, IsType, int_type, text_type, IsDefault, no_default, default, IsDecl, decl, IsNamed, by_itself, by_as, IsWidth, width, IsItem, column_item, bin_item, IsWhat, Aggregate, aggregate_of, alone_what, column_what, IsAgg, agg, AreKeys, no_keys, keys, AreAggs, no_aggs, aggs, IsPair, pair, IsOp, eq, ne, lt, le, gt, ge, IsTerm, column_term, literal_term, IsPrim, negated, bracketed, compared, IsConj, conj, AreAnds, no_and, one_and, IsPred, pred, AreOrs, no_or, one_or, IsPlan, plan, IsSource, scan, inner_plan, AreSteps, no_step, one_step, IsStep, where_step, project_step, distinct_step, group_step, join_step, theta_step, product_step, union_all_step, union_step, IsExtra, no_extra, by_extra, group_extra, IsStmt, table_stmt, view_stmt, back_stmt, fwd_stmt, link_stmt, depends_stmt, AreStmts, no_stmt, one_stmt, IsMark, mark, AreMarks, all_marks, listed_marks, IsThen, no_then, where_then, group_then, IsLine, show_line, back_line, fwd_line, brush_line, clear_line, clear_one_line, IsWholeLine, whole_line, IsAskStep, ask_step, AreAskSteps, no_ask_step, one_ask_step, IsAskLine, ask_line, IsAnyLine, plain_line, asked_line, profiled_line, appended_line, IsWholeAnyLine, whole_any_line}
 
 -- how strongly a token continues what stands before it
 abbrev pub rank : TokenKind → ℕ
@@ -138,25 +137,15 @@ one_item a a' b c x y e (bin_item h h1 h2 h3 h4 h5 h6 h7) (bin_item k k1 k2 k3 k
     let r = same_at e h k in let r1 = same_at r.2 h1 k1 in let r2 = one_column r1.2 h2 k2 in let r3 = same_at r2.1 h3 k3 in
     let r4 = one_width r3.2 h4 k4 in let r5 = same_at r4.1 h5 k5 in let r6 = same_at r5.2 h6 k6 in let r7 = one_column r6.2 h7 k7 in (cc, r7.1)
 
--- the keyword that begins what an aggregate is
-abbrev what_opener : AggWhat → TokenKind
-what_opener whats.Count = kinds.Count
-what_opener (whats.Sum column) = kinds.Sum
-what_opener (whats.Min column) = kinds.Min
-what_opener (whats.Max column) = kinds.Max
-
-what_opening : {a b : List Token} {w : AggWhat} → IsWhat a b w → (head_of a).kind ≡ what_opener w
-what_opening (count h) = first_kind h
-what_opening (sum h p) = first_kind h
-what_opening (min h p) = first_kind h
-what_opening (max h p) = first_kind h
+-- the aggregate of a keyword, and the one of another keyword that is the same
+one_aggregate : {k j : TokenKind} {x y : Aggregate} → k ≡ j → aggregate_of k ≡ Some x → aggregate_of j ≡ Some y → x ≡ y
+one_aggregate same p q = let e = sym p ∙ ap aggregate_of same ∙ q in cc
 
 one_what : {a a' b c : List Token} {w v : AggWhat} → a ≡ a' → IsWhat a b w → IsWhat a' c v → (w ≡ v) × (b ≡ c)
-one_what e (count h) (count k) = (refl, (same_at e h k).2)
-one_what e (sum h p) (sum k q) = let r = same_at e h k in let s = one_column r.2 p q in (ap whats.Sum s.0, s.1)
-one_what e (min h p) (min k q) = let r = same_at e h k in let s = one_column r.2 p q in (ap whats.Min s.0, s.1)
-one_what e (max h p) (max k q) = let r = same_at e h k in let s = one_column r.2 p q in (ap whats.Max s.0, s.1)
-one_what e p q = let r = sym (what_opening p) ∙ ap (λ l. (head_of l).kind) e ∙ what_opening q in absurd (cc)
+one_what e (alone_what i h) (alone_what j k) = let r = same_at e h k in let n = one_aggregate r.0 i j in (cc, r.2)
+one_what e (alone_what i h) (column_what j k q) = let r = same_at e h k in let n = one_aggregate r.0 i j in absurd (cc)
+one_what e (column_what i h p) (alone_what j k) = let r = same_at e h k in let n = one_aggregate r.0 i j in absurd (cc)
+one_what e (column_what i h p) (column_what j k q) = let r = same_at e h k in let n = one_aggregate r.0 i j in let s = one_column r.2 p q in (cc, s.1)
 
 one_agg : One IsAgg
 one_agg a a' b c x y e (agg p h q) (agg p' k q') n m = let r = one_column e p p' in let s = same_at r.1 h k in let u = one_what s.2 q q' in (cc, u.1)

@@ -89,12 +89,22 @@ pub data IsItem : List Token → List Token → ItemTree → Type 0 where
   column_item : {a b c : List Token} {w n : Word} → IsColumn a b w → IsNamed w b c n → IsItem a c (items.Col w n)
   bin_item : {a b c d e f g h i : List Token} {t u v x y : Token} {w n : Word} {k : ℤ} → First kinds.Bin t a b → First kinds.Open u b c → IsColumn c d w → First kinds.Comma v d e → IsWidth e f k → First kinds.Close x f g → First kinds.As y g h → IsColumn h i n → IsItem a i (items.Bin w k n)
 
+-- the aggregates by their keywords: one that stands alone, or one of the column that follows
+pub data Aggregate : Type 0 where
+  Alone : AggWhat → Aggregate
+  OfColumn : (Word → AggWhat) → Aggregate
+
+abbrev pub aggregate_of : TokenKind → Option Aggregate
+aggregate_of kinds.Count = Some (Alone whats.Count)
+aggregate_of kinds.Sum = Some (OfColumn whats.Sum)
+aggregate_of kinds.Min = Some (OfColumn whats.Min)
+aggregate_of kinds.Max = Some (OfColumn whats.Max)
+aggregate_of _ = None
+
 -- agg = col "=" ( "count" | ( "sum" | "min" | "max" ) col )
 pub data IsWhat : List Token → List Token → AggWhat → Type 0 where
-  count : {a b : List Token} {t : Token} → First kinds.Count t a b → IsWhat a b whats.Count
-  sum : {a b c : List Token} {t : Token} {w : Word} → First kinds.Sum t a b → IsColumn b c w → IsWhat a c (whats.Sum w)
-  min : {a b c : List Token} {t : Token} {w : Word} → First kinds.Min t a b → IsColumn b c w → IsWhat a c (whats.Min w)
-  max : {a b c : List Token} {t : Token} {w : Word} → First kinds.Max t a b → IsColumn b c w → IsWhat a c (whats.Max w)
+  alone_what : {a b : List Token} {t : Token} {k : TokenKind} {x : AggWhat} → aggregate_of k ≡ Some (Alone x) → First k t a b → IsWhat a b x
+  column_what : {a b c : List Token} {t : Token} {k : TokenKind} {w : Word} {f : Word → AggWhat} → aggregate_of k ≡ Some (OfColumn f) → First k t a b → IsColumn b c w → IsWhat a c (f w)
 
 pub data IsAgg : List Token → List Token → AggTree → Type 0 where
   agg : {a b c d : List Token} {t : Token} {w : Word} {x : AggWhat} → IsColumn a b w → First kinds.Equal t b c → IsWhat c d x → IsAgg a d (record { name = w; what = x })

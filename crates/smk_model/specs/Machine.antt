@@ -10,6 +10,7 @@ use Rattle.smk_base.specs.declared.book.limits.TheConstants.{TABLE_LIMIT, VIEW_L
 use Rattle.smk_base.specs.declared.rel.TheConstants.{COLUMN_LIMIT}
 use Rattle.smk_model.specs.Tokens.{Token, inner, int_value}
 use Rattle.smk_model.specs.TokenKinds.{same_kind}
+use Rattle.smk_model.specs.Grammar.{Aggregate, Alone, OfColumn, aggregate_of}
 
 -- the statements so far
 pub record Tally : Type 0 where
@@ -105,12 +106,13 @@ abbrev pub at_as : PlanCounts → TokenKind → Move
 at_as c kinds.As = Takes c (AColumn ∷ [])
 at_as c _ = Skips
 
+abbrev pub at_aggregate : PlanCounts → Option Aggregate → Move
+at_aggregate c (Some (Alone x)) = Takes c []
+at_aggregate c (Some (OfColumn f)) = Takes c (AColumn ∷ [])
+at_aggregate c None = Wrong
+
 abbrev pub at_what : PlanCounts → TokenKind → Move
-at_what c kinds.Count = Takes c []
-at_what c kinds.Sum = Takes c (AColumn ∷ [])
-at_what c kinds.Min = Takes c (AColumn ∷ [])
-at_what c kinds.Max = Takes c (AColumn ∷ [])
-at_what c _ = Wrong
+at_what c k = at_aggregate c (aggregate_of k)
 
 abbrev pub at_keys : PlanCounts → Bool → TokenKind → Move
 at_keys c short kinds.Name = at_first c 0 (MoreKeys 1 ∷ []) short kinds.Name

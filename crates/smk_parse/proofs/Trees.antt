@@ -4,7 +4,8 @@ use Rattle.std.proofs.Common.{◌≡◌, ℕ, ℤ, true, List, ◌∷◌, ap, �
 use Rattle.smk_base.specs.declared.book.token.TokenKind.TheVariants as kinds
 use Rattle.smk_base.specs.declared.value.Value.TheVariants as values
 use Rattle.smk_base.specs.declared.book.tree.Line.TheVariants as lines
-use Rattle.smk_model.specs.Grammar.{name, plain, quoted, number, string, file, mark, width, by_itself, group_extra, group_step, union_all_step, union_step, int_type, text_type, no_default, default, decl, by_as, column_item, bin_item, count, sum, min, max, agg, no_keys, keys, no_aggs, aggs, pair, eq, ne, lt, le, gt, ge, column_term, literal_term, negated, bracketed, compared, conj, no_and, one_and, pred, no_or, one_or, plan, scan, inner_plan, no_step, one_step, where_step, project_step, distinct_step, group_step, join_step, theta_step, product_step, no_extra, by_extra, table_stmt, view_stmt, back_stmt, fwd_stmt, link_stmt, depends_stmt, all_marks, listed_marks, no_then, where_then, group_then, show_line, back_line, fwd_line, brush_line, clear_line, clear_one_line, whole_line, ask_line, plain_line, asked_line, profiled_line, appended_line, whole_any_line}
+use Rattle.smk_base.specs.declared.book.tree.AggWhat.TheVariants as whats
+use Rattle.smk_model.specs.Grammar.{IsWhat, name, plain, quoted, number, string, file, mark, width, by_itself, group_extra, group_step, union_all_step, union_step, int_type, text_type, no_default, default, decl, by_as, column_item, bin_item, alone_what, column_what, agg, no_keys, keys, no_aggs, aggs, pair, eq, ne, lt, le, gt, ge, column_term, literal_term, negated, bracketed, compared, conj, no_and, one_and, pred, no_or, one_or, plan, scan, inner_plan, no_step, one_step, where_step, project_step, distinct_step, group_step, join_step, theta_step, product_step, no_extra, by_extra, table_stmt, view_stmt, back_stmt, fwd_stmt, link_stmt, depends_stmt, all_marks, listed_marks, no_then, where_then, group_then, show_line, back_line, fwd_line, brush_line, clear_line, clear_one_line, whole_line, ask_line, plain_line, asked_line, profiled_line, appended_line, whole_any_line}
 use Rattle.smk_parse.specs.{Texts.Advances, Reads.is_column, Reads.column_word, Reads.AreNames, Reads.two_names, Reads.IsMarked, Reads.marked, Reads.ArePiped, Reads.piped}
 use Rattle.smk_parse.proofs.Steps.{first_here, in_order}
 
@@ -36,6 +37,19 @@ itself_is a w v e f = let n : v ≡ w = λ i. record { name = e i; at = f i } in
 
 pub compared_is : (n : PlanCounts) (a b : Configuration) (c d : List Token) (w : Word) (o : CmpOp) (x : Term) → Advances n a b → is_column (head_of a.rest).kind ≡ true → w ≡ column_word (head_of a.rest) → IsOp b.rest c o → IsTerm c d x → IsPrim a.rest d (CompareNode w o x)
 compared_is n a b c d w o x h e f k i = compared (column_is n a b w h e f) k i
+
+-- an aggregate, where its keyword is at hand
+pub count_is : {a b : List Token} {t : Token} → First kinds.Count t a b → IsWhat a b whats.Count
+count_is h = alone_what refl h
+
+pub sum_is : {a b c : List Token} {t : Token} {w : Word} → First kinds.Sum t a b → IsColumn b c w → IsWhat a c (whats.Sum w)
+sum_is h p = column_what {f = whats.Sum} refl h p
+
+pub min_is : {a b c : List Token} {t : Token} {w : Word} → First kinds.Min t a b → IsColumn b c w → IsWhat a c (whats.Min w)
+min_is h p = column_what {f = whats.Min} refl h p
+
+pub max_is : {a b c : List Token} {t : Token} {w : Word} → First kinds.Max t a b → IsColumn b c w → IsWhat a c (whats.Max w)
+max_is h p = column_what {f = whats.Max} refl h p
 
 -- where the place of the first token was kept
 pub back_is : (a b c d e : List Token) (t u : Token) (n : ℕ) (w z : Word) (x : Extra) → n ≡ t.at → First kinds.Lineage t a b → First kinds.Back u b c → AreNames kinds.To c d w z → IsExtra d e x → IsStmt a e (BackNode n w z x)
@@ -69,7 +83,7 @@ pub ruleset words = (in_order, name_is, column_is, number_is, string)
 
 pub ruleset preds = (in_order, compared_is, eq, ne, lt, le, gt, ge, column_term, literal_term, negated, bracketed, conj, no_and, one_and, pred, no_or, one_or)
 
-pub ruleset lists = (in_order, name_is, column_is, width, itself_is, int_type, text_type, no_default, default, decl, by_as, column_item, bin_item, count, sum, min, max, agg, no_keys, keys, no_aggs, aggs, pair)
+pub ruleset lists = (in_order, name_is, column_is, width, itself_is, int_type, text_type, no_default, default, decl, by_as, column_item, bin_item, count_is, sum_is, min_is, max_is, agg, no_keys, keys, no_aggs, aggs, pair)
 
 pub ruleset plans = (in_order, plan, scan, inner_plan, no_step, one_step, where_step, project_step, distinct_step, group_step, join_step, theta_step, product_step, union_all_step, union_step)
 
