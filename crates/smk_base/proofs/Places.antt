@@ -1,5 +1,5 @@
 -- Lists of places: filters of the numbers below n, and lists by their elements.
-use Rattle.std.proofs.Common.{◌≡◌, ℕ, zero, suc, ◌+◌, ◌<◌, ◌≤◌, Bool, true, false, cond, not, List, [], ◌∷◌, ◌++◌, length, map, refl, ap, sym, ◌∙◌, arith, get_or, take, nat_eq, zero-add, inl, inr, ◌⊎◌}
+use Rattle.std.proofs.Common.{◌≡◌, ◌&&◌, ℕ, zero, suc, ◌+◌, ◌<◌, ◌≤◌, Bool, true, false, cond, not, List, [], ◌∷◌, ◌++◌, length, map, refl, ap, sym, ◌∙◌, arith, get_or, take, nat_eq, zero-add, inl, inr, ◌⊎◌}
 use Rattle.std.specs.List.{flat_map, filter, list_any, All, range_with_len}
 use Rattle.std.proofs.lemmas.List.{take_more, take_all, map-append, append_assoc, append-nil, get_or-map, length-append, get_or_append_left, get_or_push, same_lists}
 use Rattle.std.proofs.lemmas.List.FromFn.{get_or-range_with_len, length-range_with_len}
@@ -18,6 +18,13 @@ map_cond g false xs ys = refl
 pub filter_map : {X Y : Type 0} (f : Y → Bool) (g : X → Y) (xs : List X) → filter f (map g xs) ≡ map g (filter (λ x. f (g x)) xs)
 filter_map f g [] = refl
 filter_map f g (x ∷ xs) = rw (filter_map f g xs) (sym (map_cond g (f (g x)) _ _))
+
+pub filter_filter : {X : Type 0} (f g : X → Bool) (xs : List X) → filter f (filter g xs) ≡ filter (λ x. g x && f x) xs
+filter_filter f g [] = refl
+filter_filter f g (x ∷ xs) = elim (cases_Bool (g x)) [
+  | inl p ↦ rw p (rw (filter_filter f g xs) refl)
+  | inr p ↦ rw p (filter_filter f g xs)
+]
 
 pub map_map : {X Y Z : Type 0} (f : Y → Z) (g : X → Y) (xs : List X) → map f (map g xs) ≡ map (λ x. f (g x)) xs
 map_map f g [] = refl

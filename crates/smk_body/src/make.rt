@@ -56,7 +56,7 @@ pub(crate) fn rows_and_turned1<R: Threads + Sync, C: Crew + Sync>(
             _ => unreachable!(),
         },
         Op1::Group(keys, aggs) => match found {
-            Found::Groups(groups) => {
+            Found::Partition(groups) => {
                 let keys = keys.as_slice();
                 grouped_and_turned(work, input, groups, keys, aggs.as_slice(), want.left.back)
             }

@@ -5,13 +5,13 @@ use smk_base::{Aggs, Keys, Op1, Plan};
 
 /// A last grouping.
 #[derive(Clone, Copy)]
-pub(crate) struct Groups<'a> {
+pub(crate) struct LastGrouping<'a> {
     pub keys: &'a Keys,
     pub aggs: &'a Aggs,
 }
 
 /// The grouping in which a plan ends. It takes no memory.
-pub(crate) fn grouping_of(plan: &Plan) -> Option<Groups<'_>>
+pub(crate) fn grouping_of(plan: &Plan) -> Option<LastGrouping<'_>>
     ensures { EndsIn (expr_of plan.now) result }
 {
     match plan {
@@ -20,7 +20,7 @@ pub(crate) fn grouping_of(plan: &Plan) -> Option<Groups<'_>>
             Op1::Select(_) => None,
             Op1::Project(_) => None,
             Op1::Distinct(_) => None,
-            Op1::Group(keys, aggs) => Some(Groups { keys, aggs }),
+            Op1::Group(keys, aggs) => Some(LastGrouping { keys, aggs }),
         },
         Plan::Two(_, _, _) => None,
     }

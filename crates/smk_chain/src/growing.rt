@@ -9,9 +9,9 @@ ghost use Rattle.smk_model.specs.Growth.{is_growing};
 ghost use Rattle.smk_chain.specs.Parts.{joint_maps, AreMaps};
 ghost use Rattle.smk_chain.specs.Runs.{chain_run, group_run, run_over, tables_before, tables_behind, CanJoin, CanRegroup};
 
-use crate::chains::{Groups, grouping_of};
+use crate::chains::{LastGrouping, grouping_of};
 use crate::groups::regrouped;
-use crate::maps::{Both, Traced, maps_of_both};
+use crate::maps::{ChainTables, OldAndNew, maps_of_both};
 use smk_base::{Need, Plan, Rel};
 use smk_compose::Run;
 use smk_marks::scanned_table;
@@ -42,7 +42,7 @@ pub fn grown(
     let scanned = scanned_table(plan);
     // Its clauses say that the rows are few and fit columns of level 0.
     let _rows = tables[scanned as usize].len();
-    let traced = Traced {
+    let traced = ChainTables {
         tables,
         need: need.as_slice(),
         scanned,
@@ -54,7 +54,12 @@ pub fn grown(
 }
 
 // A chain without a grouping: the new rows stand behind the old ones.
-fn grown_chain(alloc: Global, traced: &Traced<'_>, old: &Run, new: &Run) -> Result<Run, AllocError>
+fn grown_chain(
+    alloc: Global,
+    traced: &ChainTables<'_>,
+    old: &Run,
+    new: &Run,
+) -> Result<Run, AllocError>
     requires { CanJoin None traced.now.scanned (length traced.now.tables.now) traced.now.need.now old.now new.now }
     ensures { IfOk result (λ run. run ≡ chain_run traced.now.scanned (each_rows traced.now.tables.now) traced.now.need.now old.now new.now) }
 {
@@ -63,7 +68,7 @@ fn grown_chain(alloc: Global, traced: &Traced<'_>, old: &Run, new: &Run) -> Resu
         alloc,
         rel,
         traced,
-        &Both {
+        &OldAndNew {
             groups: &None,
             old: old.kept.as_slice(),
             new: new.kept.as_slice(),
@@ -74,8 +79,8 @@ fn grown_chain(alloc: Global, traced: &Traced<'_>, old: &Run, new: &Run) -> Resu
 // A chain that ends in a grouping: the groups of both, each key once.
 fn grown_groups(
     alloc: Global,
-    last: Groups<'_>,
-    traced: &Traced<'_>,
+    last: LastGrouping<'_>,
+    traced: &ChainTables<'_>,
     old: &Run,
     new: &Run,
 ) -> Result<Run, AllocError>
@@ -92,7 +97,7 @@ fn grown_groups(
         alloc,
         rel,
         traced,
-        &Both {
+        &OldAndNew {
             groups: &Some(classes),
             old: old.kept.as_slice(),
             new: new.kept.as_slice(),
@@ -111,7 +116,12 @@ fn rows_of_both(alloc: Global, old: &Rel, new: &Rel) -> Result<Rel, AllocError>
 }
 
 // These rows, with the maps of the needed tables, from those of the old rows and of the new ones.
-fn run_of(alloc: Global, rel: Rel, traced: &Traced<'_>, both: &Both<'_>) -> Result<Run, AllocError>
+fn run_of(
+    alloc: Global,
+    rel: Rel,
+    traced: &ChainTables<'_>,
+    both: &OldAndNew<'_>,
+) -> Result<Run, AllocError>
     requires { AreMaps both.now.groups.now traced.now.scanned (length traced.now.tables.now) traced.now.need.now both.now.old.now both.now.new.now }
     ensures { IfOk result (λ run. run ≡ record { rel = rel; kept = joint_maps both.now.groups.now traced.now.scanned (length rel.rows) (each_rows traced.now.tables.now) traced.now.need.now both.now.old.now both.now.new.now }) }
 {

@@ -18,7 +18,7 @@ use std::alloc::{AllocError, Global};
 
 /// The tables, what lineage to them is needed, and which of them a chain scans.
 #[derive(Clone, Copy)]
-pub(crate) struct Traced<'a> {
+pub(crate) struct ChainTables<'a> {
     pub tables: &'a [Table],
     pub need: &'a [Needed],
     pub scanned: u32,
@@ -26,7 +26,7 @@ pub(crate) struct Traced<'a> {
 
 /// The maps of the old rows and those of the new ones, and where these are groups the classes of their keys.
 #[derive(Clone, Copy)]
-pub(crate) struct Both<'a> {
+pub(crate) struct OldAndNew<'a> {
     pub groups: &'a Option<Classes>,
     pub old: &'a [KeptMap],
     pub new: &'a [KeptMap],
@@ -36,8 +36,8 @@ pub(crate) struct Both<'a> {
 pub(crate) fn maps_of_both(
     alloc: Global,
     rows: u32,
-    traced: &Traced<'_>,
-    both: &Both<'_>,
+    traced: &ChainTables<'_>,
+    both: &OldAndNew<'_>,
 ) -> Result<Kepts, AllocError>
     requires { AreMaps both.now.groups.now traced.now.scanned (length traced.now.tables.now) traced.now.need.now both.now.old.now both.now.new.now }
     ensures { IfOk result (λ made. made ≡ joint_maps both.now.groups.now traced.now.scanned rows (each_rows traced.now.tables.now) traced.now.need.now both.now.old.now both.now.new.now) }
@@ -55,8 +55,8 @@ fn map_of_both(
     alloc: Global,
     i: usize,
     rows: u32,
-    traced: &Traced<'_>,
-    both: &Both<'_>,
+    traced: &ChainTables<'_>,
+    both: &OldAndNew<'_>,
 ) -> Result<KeptMap, AllocError>
     requires there { i < length traced.now.need.now }
     requires maps { AreMaps both.now.groups.now traced.now.scanned (length traced.now.tables.now) traced.now.need.now both.now.old.now both.now.new.now }

@@ -6,7 +6,7 @@ use Rattle.std.proofs.lemmas.List.{length-drop, get_or-drop, get_or-map, drop-dr
 use Rattle.std.proofs.lemmas.List.Folds.{list_any_at}
 use Rattle.smk_base.specs.Places.{Lists}
 use Rattle.smk_found.specs.declared.local.Side.{Side}
-use Rattle.smk_compose.specs.Through.{chained, Chains, through, joined_maps, together, together_all, Passes, Matches, Meets, has_back, has_fwd, map_at, no_map, Serves, IsAhead}
+use Rattle.smk_compose.specs.Through.{chained, Chains, through, merged_maps, together, together_all, Passes, Matches, Meets, has_back, has_fwd, map_at, no_map, Serves, IsAhead}
 use Rattle.smk_compose.specs.declared.kept_maps.KeptMap.{KeptMap}
 use Rattle.smk_compose.proofs.Wants.{mk_same}
 use Rattle.smk_compose.proofs.Togethers.{together_at}
@@ -78,7 +78,7 @@ pub meet_here : (fl fr ls rs : Side) (xs ys lefts rights : List KeptMap) (i : �
 meet_here fl fr ls rs xs ys lefts rights i long low left right =
     let l = ahead_through fl ls xs lefts i low left in
     let r = ahead_through fr rs ys rights i (omega (arith, long, low)) right in
-    together_at fl fr xs ys i no_map long low ∙ sym (ap (λ (k : KeptMap). joined_maps k (through rs (map_at rights i))) l ∙ ap (joined_maps (through fl (map_at xs i))) r)
+    together_at fl fr xs ys i no_map long low ∙ sym (ap (λ (k : KeptMap). merged_maps k (through rs (map_at rights i))) l ∙ ap (merged_maps (through fl (map_at xs i))) r)
 
 -- what a step with two inputs asks of the next maps
 pub ahead_meets : (fl fr ls rs : Side) (xs ys lefts rights : List KeptMap) (i : ℕ) → length xs ≡ length ys → i < length xs → IsAhead fl xs ls lefts i → IsAhead fr ys rs rights i

@@ -10,7 +10,7 @@ use Rattle.smk_found.specs.Locals.{side_of, local2}
 use Rattle.smk_found.specs.declared.local.Side.{Side}
 use Rattle.smk_found.specs.declared.local.Local.{Local}
 use Rattle.smk_found.specs.declared.local.Want.{Want}
-use Rattle.smk_compose.specs.Through.{joined, Joins, together, together_all, want_of, right_of, map_at, no_map, side_left, side_right}
+use Rattle.smk_compose.specs.Through.{merged_if_both, CanMerge, together, together_all, want_of, right_of, map_at, no_map, side_left, side_right}
 use Rattle.smk_compose.specs.declared.kept_maps.KeptMap.{KeptMap}
 use Rattle.smk_compose.proofs.Wants.{mk_same, full, chained_back, chained_fwd}
 
@@ -34,15 +34,15 @@ together_agree ls rs ms ns (l ∷ lefts) (r ∷ rights) h =
     rw (here, rest) refl
 together_agree ls rs ms ns _ _ h = refl
 
-pub joined_same : {a b x y : Option Lists} → a ≡ b → x ≡ y → joined a x ≡ joined b y
-joined_same p q = rw (p, q) refl
+pub merged_same : {a b x y : Option Lists} → a ≡ b → x ≡ y → merged_if_both a x ≡ merged_if_both b y
+merged_same p q = rw (p, q) refl
 
 pub together_wanted : (B F C G : Lists) (lefts rights : List KeptMap)
     → together_all (side_of (want_of lefts) B F) (side_of (want_of rights) C G) lefts rights ≡ together_all (full B F) (full C G) lefts rights
 together_wanted B F C G lefts rights = together_agree (side_of (want_of lefts) B F) (side_of (want_of rights) C G) (full B F) (full C G) lefts rights (λ i p q.
     mk_same refl
-    (joined_same (chained_back lefts B i no_map p) (chained_back rights C i no_map q))
-    (joined_same (chained_fwd lefts F i no_map p) (chained_fwd rights G i no_map q)))
+    (merged_same (chained_back lefts B i no_map p) (chained_back rights C i no_map q))
+    (merged_same (chained_fwd lefts F i no_map p) (chained_fwd rights G i no_map q)))
 
 -- the maps of a step with two inputs
 pub two_maps : (op : Binary) (L R : List Row) (lefts rights : List KeptMap) (want : Want) (m : Local) → want.left ≡ want_of lefts → want.right ≡ want_of rights → m ≡ local2 op L R want
@@ -54,8 +54,8 @@ two_maps op L R lefts rights want m left right is =
     ∙ together_wanted (back_left op L R) (fwd_left op L R) (back_right op L R) (fwd_right op L R) lefts rights
 
 -- what a merge of wanted lists asks
-pub joins_along : {a b x y : Option Lists} → a ≡ b → x ≡ y → Joins a x → Joins b y
-joins_along {a} {b} {x} {y} p q h = subst (λ (z : Option Lists). Joins b z) q (subst (λ (z : Option Lists). Joins z x) p h)
+pub can_merge_along : {a b x y : Option Lists} → a ≡ b → x ≡ y → CanMerge a x → CanMerge b y
+can_merge_along {a} {b} {x} {y} p q h = subst (λ (z : Option Lists). CanMerge b z) q (subst (λ (z : Option Lists). CanMerge z x) p h)
 
 pub lists_same : (ls rs : Side) {us vs xs ys : List KeptMap} → us ≡ vs → xs ≡ ys → together_all ls rs us xs ≡ together_all ls rs vs ys
 lists_same ls rs p q = rw (p, q) refl

@@ -13,21 +13,21 @@ use Rattle.smk_base.proofs.Places.{length_upto}
 use Rattle.smk_model.proofs.Composed.{backs_compose, forwards_compose, lists_stand}
 use Rattle.smk_found.specs.Locals.{wanted}
 use Rattle.smk_compose.specs.KeptMaps.{held_at}
-use Rattle.smk_compose.specs.Through.{chained, joined, Joins, together, together_all, side_left, side_right, Meets, map_at, no_map, no_need}
+use Rattle.smk_compose.specs.Through.{chained, merged_if_both, CanMerge, together, together_all, side_left, side_right, Meets, map_at, no_map, no_need}
 use Rattle.smk_compose.specs.declared.kept_maps.KeptMap.{KeptMap}
 use Rattle.smk_base.specs.declared.book.need.Needed.{Needed}
 use Rattle.smk_compose.proofs.Chains.{composed_sets}
 use Rattle.smk_compose.proofs.Wants.{mk_same}
-use Rattle.smk_compose.proofs.Togethers.{joined_same, joins_along, lists_same}
+use Rattle.smk_compose.proofs.Togethers.{merged_same, can_merge_along, lists_same}
 use Rattle.smk_compose.proofs.Ones.{RowsWhereNeeded, first_fits, last_fits}
 use Rattle.smk_compose.proofs.Alone.{IsVoid, empty_void, composed_void, void_composed, merged_left, merged_right}
 
 -- the wanted lists of both sides, each where its side has the table
-joined_wants : (d p q : Bool) (X Y Z : Lists) → Z ≡ merged X Y → (q ≡ false → merged X Y ≡ X) → (p ≡ false → merged X Y ≡ Y) → joined (wanted (d && p) X) (wanted (d && q) Y) ≡ wanted (d && (p || q)) Z
-joined_wants true true true X Y Z e l r = ap Some (sym e)
-joined_wants true true false X Y Z e l r = ap Some (sym (e ∙ l refl))
-joined_wants true false true X Y Z e l r = ap Some (sym (e ∙ r refl))
-joined_wants _ _ _ X Y Z e l r = refl
+merged_wants : (d p q : Bool) (X Y Z : Lists) → Z ≡ merged X Y → (q ≡ false → merged X Y ≡ X) → (p ≡ false → merged X Y ≡ Y) → merged_if_both (wanted (d && p) X) (wanted (d && q) Y) ≡ wanted (d && (p || q)) Z
+merged_wants true true true X Y Z e l r = ap Some (sym e)
+merged_wants true true false X Y Z e l r = ap Some (sym (e ∙ l refl))
+merged_wants true false true X Y Z e l r = ap Some (sym (e ∙ r refl))
+merged_wants _ _ _ X Y Z e l r = refl
 
 chain_first : (w : Bool) (B X : Lists) → chained (Some B) (wanted w X) ≡ wanted w (composed B X)
 chain_first true B X = refl
@@ -65,13 +65,13 @@ together_is op a b tables n =
     let longU : length U.lists ≡ length (table_at tables t) = length-map (forwards a tables t).lists (members_at (fwd_left op L R)) ∙ lists_stand.forwards_long a tables t in
     let longV : length V.lists ≡ length (table_at tables t) = length-map (forwards b tables t).lists (members_at (fwd_right op L R)) ∙ lists_stand.forwards_long b tables t in
     mk_same refl
-    (joined_same (chain_first (n.dir.back && p) (back_left op L R) (backs a tables t)) (chain_first (n.dir.back && q) (back_right op L R) (backs b tables t))
-    ∙ joined_wants n.dir.back p q X Y (backs (Combine op a b) tables t) (backs_compose.two op a b tables t)
+    (merged_same (chain_first (n.dir.back && p) (back_left op L R) (backs a tables t)) (chain_first (n.dir.back && q) (back_right op L R) (backs b tables t))
+    ∙ merged_wants n.dir.back p q X Y (backs (Combine op a b) tables t) (backs_compose.two op a b tables t)
     (λ e. merged_left X Y (composed_sets (back_left op L R) (backs a tables t)) (composed_void (back_right op L R) (backs b tables t) (void_backs b tables t e)))
     (λ e. merged_right X Y (longX ∙ sym longY) refl (composed_sets (back_right op L R) (backs b tables t)) (composed_void (back_left op L R) (backs a tables t) (void_backs a tables t e)))
     ∙ ap (λ w. wanted (n.dir.back && w) (backs (Combine op a b) tables t)) either)
-    (joined_same (chain_last (n.dir.fwd && p) (forwards a tables t) (fwd_left op L R)) (chain_last (n.dir.fwd && q) (forwards b tables t) (fwd_right op L R))
-    ∙ joined_wants n.dir.fwd p q U V (forwards (Combine op a b) tables t) (forwards_compose.two op a b tables t)
+    (merged_same (chain_last (n.dir.fwd && p) (forwards a tables t) (fwd_left op L R)) (chain_last (n.dir.fwd && q) (forwards b tables t) (fwd_right op L R))
+    ∙ merged_wants n.dir.fwd p q U V (forwards (Combine op a b) tables t) (forwards_compose.two op a b tables t)
     (λ e. merged_left U V (composed_sets (forwards a tables t) (fwd_left op L R)) (void_forwards b tables t (fwd_right op L R) e))
     (λ e. merged_right U V (longU ∙ sym longV) refl (composed_sets (forwards b tables t) (fwd_right op L R)) (void_forwards a tables t (fwd_left op L R) e))
     ∙ ap (λ w. wanted (n.dir.fwd && w) (forwards (Combine op a b) tables t)) either)
@@ -83,9 +83,9 @@ maps_together op a b tables (n ∷ need) = rw (together_is op a b tables n, maps
 
 -- what the merge asks
 
-joins_wants : (w v : Bool) (X Y : Lists) → length X.lists ≡ length Y.lists → X.bound ≡ Y.bound → Joins (wanted w X) (wanted v Y)
-joins_wants true true X Y long bound = (long, bound)
-joins_wants _ _ X Y long bound = tt
+can_merge_wants : (w v : Bool) (X Y : Lists) → length X.lists ≡ length Y.lists → X.bound ≡ Y.bound → CanMerge (wanted w X) (wanted v Y)
+can_merge_wants true true X Y long bound = (long, bound)
+can_merge_wants _ _ X Y long bound = tt
 
 meets_at : (op : Binary) (a b : Expr) (tables : List (List Row)) (n : Needed)
     → Meets (side_left op (rows_over a tables) (rows_over b tables)) (side_right op (rows_over a tables) (rows_over b tables)) (held_at a tables n) (held_at b tables n)
@@ -118,8 +118,8 @@ meets_at op a b tables n =
         fwd = last_fits fwd_b (forwards b tables t) (fwd_right op L R) (sym right_size);
       };
       matches = record {
-        back = joins_along (sym (chain_first back_a (back_left op L R) (backs a tables t))) (sym (chain_first back_b (back_right op L R) (backs b tables t))) (joins_wants back_a back_b X Y (longX ∙ sym longY) refl);
-        fwd = joins_along (sym (chain_last fwd_a (forwards a tables t) (fwd_left op L R))) (sym (chain_last fwd_b (forwards b tables t) (fwd_right op L R))) (joins_wants fwd_a fwd_b U V (longU ∙ sym longV) refl);
+        back = can_merge_along (sym (chain_first back_a (back_left op L R) (backs a tables t))) (sym (chain_first back_b (back_right op L R) (backs b tables t))) (can_merge_wants back_a back_b X Y (longX ∙ sym longY) refl);
+        fwd = can_merge_along (sym (chain_last fwd_a (forwards a tables t) (fwd_left op L R))) (sym (chain_last fwd_b (forwards b tables t) (fwd_right op L R))) (can_merge_wants fwd_a fwd_b U V (longU ∙ sym longV) refl);
       };
     }
 

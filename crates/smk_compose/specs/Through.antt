@@ -33,10 +33,10 @@ chained (Some a) (Some b) = Some (composed a b)
 chained _ _ = None
 
 -- the maps of two sides merged, or the one that there is
-abbrev pub joined : Option Lists → Option Lists → Option Lists
-joined (Some a) (Some b) = Some (merged a b)
-joined (Some a) None = Some a
-joined None b = b
+abbrev pub merged_if_both : Option Lists → Option Lists → Option Lists
+merged_if_both (Some a) (Some b) = Some (merged a b)
+merged_if_both (Some a) None = Some a
+merged_if_both None b = b
 
 -- the map that two maps composed are
 abbrev pub chain_of : Composed → Option Lists → Option Lists → Option Lists
@@ -45,14 +45,14 @@ chain_of chains.First first second = first
 chain_of chains.Second first second = second
 chain_of (chains.Made m) first second = Some m
 
--- what `chained` and `joined` ask of their maps
+-- what `chained` and `merged_if_both` ask of their maps
 abbrev pub Chains : Option Lists → Option Lists → Type 0
 Chains (Some a) (Some b) = a.bound ≡ length b.lists
 Chains _ _ = Unit {0}
 
-abbrev pub Joins : Option Lists → Option Lists → Type 0
-Joins (Some a) (Some b) = (length a.lists ≡ length b.lists) × (a.bound ≡ b.bound)
-Joins _ _ = Unit {0}
+abbrev pub CanMerge : Option Lists → Option Lists → Type 0
+CanMerge (Some a) (Some b) = (length a.lists ≡ length b.lists) × (a.bound ≡ b.bound)
+CanMerge _ _ = Unit {0}
 
 -- whether a map has more pairs than the limit
 abbrev pub is_heavy : Option Lists → Bool
@@ -67,12 +67,12 @@ abbrev pub through : Side → KeptMap → KeptMap
 through side k = record { table = k.table; back = chained side.back k.back; fwd = chained k.fwd side.fwd }
 
 -- the maps of one table by both inputs
-abbrev pub joined_maps : KeptMap → KeptMap → KeptMap
-joined_maps l r = record { table = l.table; back = joined l.back r.back; fwd = joined l.fwd r.fwd }
+abbrev pub merged_maps : KeptMap → KeptMap → KeptMap
+merged_maps l r = record { table = l.table; back = merged_if_both l.back r.back; fwd = merged_if_both l.fwd r.fwd }
 
 -- the map of one table through a step with two inputs
 abbrev pub together : Side → Side → KeptMap → KeptMap → KeptMap
-together ls rs l r = joined_maps (through ls l) (through rs r)
+together ls rs l r = merged_maps (through ls l) (through rs r)
 
 abbrev pub together_all : Side → Side → List KeptMap → List KeptMap → List KeptMap
 together_all ls rs (l ∷ lefts) (r ∷ rights) = together ls rs l r ∷ together_all ls rs lefts rights
@@ -101,10 +101,10 @@ pub record Passes (side : Side) (k : KeptMap) : Type 0 where
   pub back : Chains side.back k.back
   pub fwd : Chains k.fwd side.fwd
 
--- what `joined_maps` and `together` ask
+-- what `merged_maps` and `together` ask
 pub record Matches (l r : KeptMap) : Type 0 where
-  pub back : Joins l.back r.back
-  pub fwd : Joins l.fwd r.fwd
+  pub back : CanMerge l.back r.back
+  pub fwd : CanMerge l.fwd r.fwd
 
 pub record Meets (ls rs : Side) (l r : KeptMap) : Type 0 where
   pub left : Passes ls l

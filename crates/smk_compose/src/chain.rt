@@ -2,7 +2,7 @@
 
 ghost use Rattle.std.specs.Prelude.{◌≡◌, ◌<◌, ◌≤◌, true, false, length, Some, IfOk, IfErr, OnOk, IsTrue};
 ghost use Rattle.smk_base.specs.Places.{pairs_of, composed};
-ghost use Rattle.smk_compose.specs.Through.{chained, chain_of, joined, is_heavy, Chains, Joins};
+ghost use Rattle.smk_compose.specs.Through.{chained, chain_of, merged_if_both, is_heavy, Chains, CanMerge};
 ghost use Rattle.smk_rid.specs.declared.fault.RidFault.TheVariants.{Pairs};
 ghost use Rattle.smk_rid.specs.declared.map.TheConstants.{PAIR_LIMIT};
 
@@ -124,15 +124,15 @@ fn lent(
 }
 
 /// Makes the map by the left input the one by both: the two merged, or the one that there is.
-pub(crate) fn join(
+pub(crate) fn merge_if_both(
     alloc: Global,
     left: &mut Option<RidMap>,
     right: &mut Option<RidMap>,
 ) -> Result<(), RidFault>
-    requires { Joins left.old right.old }
-    ensures made { OnOk result (left.new ≡ joined left.old right.old) }
-    ensures few { OnOk result (is_heavy (joined left.old right.old) ≡ false) }
-    ensures many { IfErr result (λ e. e ≡ Pairs → is_heavy (joined left.old right.old) ≡ true) }
+    requires { CanMerge left.old right.old }
+    ensures made { OnOk result (left.new ≡ merged_if_both left.old right.old) }
+    ensures few { OnOk result (is_heavy (merged_if_both left.old right.old) ≡ false) }
+    ensures many { IfErr result (λ e. e ≡ Pairs → is_heavy (merged_if_both left.old right.old) ≡ true) }
 {
     match (&*left, &*right) {
         (Some(a), Some(b)) => {

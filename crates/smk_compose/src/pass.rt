@@ -2,10 +2,10 @@
 
 ghost use Rattle.std.specs.Prelude.{◌≡◌, ◌+◌, ◌<◌, ℕ, true, false, length, map, drop, slice_set, All, IfOk, IfErr, OnOk, None};
 ghost use Rattle.std.specs.List.{list_any};
-ghost use Rattle.smk_compose.specs.Through.{through, together, together_all, joined_maps, has_heavy, has_back, has_fwd, want_of, map_at, Passes, Matches, Meets, Serves, pairs_fault, IsFirst};
+ghost use Rattle.smk_compose.specs.Through.{through, together, together_all, merged_maps, has_heavy, has_back, has_fwd, want_of, map_at, Passes, Matches, Meets, Serves, pairs_fault, IsFirst};
 ghost use Rattle.smk_rid.specs.declared.fault.RidFault.TheVariants.{Pairs};
 
-use crate::chain::{join, pass_back, pass_fwd};
+use crate::chain::{merge_if_both, pass_back, pass_fwd};
 use crate::fault::RunFault;
 use crate::kept_maps::KeptMap;
 use smk_base::Dir;
@@ -86,14 +86,14 @@ pub(crate) fn pass_all(
 }
 
 // The maps of one table by both inputs, merged into the left one.
-fn join_maps(alloc: Global, left: &mut KeptMap, right: &mut KeptMap) -> Result<(), RidFault>
+fn merge_maps(alloc: Global, left: &mut KeptMap, right: &mut KeptMap) -> Result<(), RidFault>
     requires { Matches left.old right.old }
-    ensures made { OnOk result (left.new ≡ joined_maps left.old right.old) }
-    ensures few { OnOk result (has_heavy (joined_maps left.old right.old) ≡ false) }
-    ensures many { IfErr result (λ e. e ≡ Pairs → has_heavy (joined_maps left.old right.old) ≡ true) }
+    ensures made { OnOk result (left.new ≡ merged_maps left.old right.old) }
+    ensures few { OnOk result (has_heavy (merged_maps left.old right.old) ≡ false) }
+    ensures many { IfErr result (λ e. e ≡ Pairs → has_heavy (merged_maps left.old right.old) ≡ true) }
 {
-    join(alloc, &mut left.back, &mut right.back)?;
-    join(alloc, &mut left.fwd, &mut right.fwd)
+    merge_if_both(alloc, &mut left.back, &mut right.back)?;
+    merge_if_both(alloc, &mut left.fwd, &mut right.fwd)
 }
 
 // The i-th of these maps through a step with two inputs, put among the left ones.
@@ -117,7 +117,7 @@ fn meet_at(
 {
     pass_at(alloc, left_side, lefts, i)?;
     pass_at(alloc, right_side, rights, i)?;
-    join_maps(alloc, &mut lefts[i], &mut rights[i])
+    merge_maps(alloc, &mut lefts[i], &mut rights[i])
 }
 
 /// The maps of both inputs through a step, which is the node with this number, put among the left ones.

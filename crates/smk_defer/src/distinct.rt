@@ -32,7 +32,7 @@ pub(crate) fn distinct1(
         (Op1::Select(_), _) => Ok(KeyTable::new(alloc)),
         (Op1::Project(_), _) => Ok(KeyTable::new(alloc)),
         (Op1::Distinct(_), _) => row_keys(alloc, &made.rel),
-        (Op1::Group(cols, _), Found::Groups(groups)) => {
+        (Op1::Group(cols, _), Found::Partition(groups)) => {
             class_keys(alloc, input, cols.as_slice(), groups.classes())
         }
         _ => unreachable!(),

@@ -18,7 +18,7 @@ pub record ArePlaces (places : PlacesImage) : Type 0 where
   pub set : IsPlaces places.inputs places.items
 
 -- the group of each of at most 1,048,576 rows
-pub record AreGroups (groups : ClassesImage) : Type 0 where
+pub record IsPartition (groups : ClassesImage) : Type 0 where
   pub few : length groups.of ≤ ROW_LIMIT
   pub numbered : AreNumbered (length groups.of) groups
 

@@ -2,7 +2,7 @@ ghost use Rattle.std.specs.Prelude.{◌≡◌};
 ghost use Rattle.smk_found.specs.Findings.{found_rows};
 
 use crate::both::Both;
-use crate::groups::Groups;
+use crate::partition::Partition;
 use crate::places::Places;
 use crate::row_pairs::RowPairs;
 use crate::stretches::{Behind, Same};
@@ -17,9 +17,9 @@ pub enum Found {
     /// The places of the input rows that stay.
     Places(Places),
     /// The group of each input row.
-    Groups(Groups),
+    Partition(Partition),
     /// The images of the input rows, and the group of each image.
-    Images(Rel, Groups),
+    Images(Rel, Partition),
     /// The pairs of places that are put beside each other.
     RowPairs(RowPairs),
     /// The right rows stand behind the left ones.
@@ -44,7 +44,7 @@ impl Found {
         match self {
             Found::Same(same) => same.rows(),
             Found::Places(places) => places.as_slice().len() as u32,
-            Found::Groups(groups) => groups.classes().firsts().len() as u32,
+            Found::Partition(groups) => groups.classes().firsts().len() as u32,
             Found::Images(_, groups) => groups.classes().firsts().len() as u32,
             Found::RowPairs(pairs) => pairs.matches().len() as u32,
             Found::Behind(behind) => behind.rows(),

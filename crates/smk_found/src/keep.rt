@@ -25,7 +25,7 @@ pub fn lineage(
     match found {
         Found::Same(same) => Ok(Local::of_one(same.side(alloc, want.left)?)),
         Found::Places(places) => Ok(Local::of_one(places.into_side(turned, want.left))),
-        Found::Groups(groups) => Ok(Local::of_one(groups.into_side(turned, want.left))),
+        Found::Partition(groups) => Ok(Local::of_one(groups.into_side(turned, want.left))),
         Found::Images(_, groups) => Ok(Local::of_one(groups.into_side(turned, want.left))),
         Found::RowPairs(pairs) => pairs.into_local(alloc, turned, want),
         Found::Behind(behind) => {
@@ -56,7 +56,7 @@ pub fn nothing(found: &Found) -> Local
     match found {
         Found::Same(_) => Local::of_one(no_side()),
         Found::Places(_) => Local::of_one(no_side()),
-        Found::Groups(_) => Local::of_one(no_side()),
+        Found::Partition(_) => Local::of_one(no_side()),
         Found::Images(_, _) => Local::of_one(no_side()),
         Found::RowPairs(_) => Local::of_both(no_side(), no_side()),
         Found::Behind(_) => Local::of_both(no_side(), no_side()),
@@ -81,7 +81,7 @@ pub(crate) fn turned(alloc: Global, found: &Found, want: Want) -> Result<Option<
     match found {
         Found::Same(_) => Ok(None),
         Found::Places(places) => places.forward(alloc, want.left.fwd),
-        Found::Groups(groups) => groups.backward(alloc, want.left.back),
+        Found::Partition(groups) => groups.backward(alloc, want.left.back),
         Found::Images(_, groups) => groups.backward(alloc, want.left.back),
         Found::RowPairs(pairs) => pairs.right_forward(alloc, want.right.fwd),
         Found::Behind(_) => Ok(None),

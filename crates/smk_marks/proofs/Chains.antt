@@ -11,10 +11,10 @@ use Rattle.smk_model.specs.Lineage.{places, has, row_at, sub}
 use Rattle.smk_model.specs.Composed.{table_at}
 use Rattle.smk_model.specs.LineageLaws.{selected_table}
 use Rattle.smk_model.specs.Selection.{selected, kept_rows}
-use Rattle.smk_base.proofs.Places.{filter_map, map_map, has_places}
+use Rattle.smk_base.proofs.Places.{filter_filter, filter_map, map_map, has_places}
 use Rattle.smk_model.proofs.Anys.{or_false}
 use Rattle.smk_model.proofs.CuiWidom.{length_selected, selected_below, selected_row}
-use Rattle.smk_model.proofs.Selections.{filter_filter, filter-true}
+use Rattle.smk_model.proofs.Selections.{filter-true}
 use Rattle.smk_model.proofs.Comes.{rows_in, comes}
 use Rattle.smk_model.specs.Growth.{is_chain}
 use Rattle.smk_marks.specs.Marks.{made, passes}

@@ -1,9 +1,9 @@
 -- The lineage of a chain of selections over a scan.
-use Rattle.std.proofs.Common.{◌≡◌, ℕ, ◌<◌, Bool, true, false, List, [], ◌∷◌, length, map, refl, ap, sym, ◌∙◌, arith, get_or, ◌&&◌, nat_eq, inl, inr}
+use Rattle.std.proofs.Common.{◌≡◌, ℕ, ◌<◌, Bool, true, false, List, [], ◌∷◌, length, map, refl, ap, sym, ◌∙◌, arith, get_or, ◌&&◌, nat_eq}
 use Rattle.std.specs.List.{list_any, filter, All}
 use Rattle.std.proofs.lemmas.List.{get_or-map, length-map}
 use Rattle.std.proofs.lemmas.List.Elements.{All-get_or}
-use Rattle.std.proofs.lemmas.Bool.{cases_Bool, false≢true, eq-eqb}
+use Rattle.std.proofs.lemmas.Bool.{false≢true, eq-eqb}
 use Rattle.smk_base.specs.Plans.{Formula, Selection, Expr, Leaf, Apply}
 use Rattle.smk_model.specs.Values.{Row, meets}
 use Rattle.smk_model.specs.Plain.{leaves, eval}
@@ -11,16 +11,7 @@ use Rattle.smk_model.specs.Lineage.{upto, places, row_at, sub}
 use Rattle.smk_model.specs.Annotated.{Marked, no_mark, mark_at, scanned, ann, reaches, relates, back}
 use Rattle.smk_model.specs.LineageLaws.{is_selection, selected_table, selects, chosen, SelectionLineage}
 use Rattle.smk_model.proofs.Anys.{any_same, any_below, any_false, or_false}
-use Rattle.smk_base.proofs.Places.{filter_map, at_places, same_below, places_below, places_false, places_own}
-
--- a filter of a filter
-
-pub filter_filter : {X : Type 0} (f g : X → Bool) (xs : List X) → filter f (filter g xs) ≡ filter (λ x. g x && f x) xs
-filter_filter f g [] = refl
-filter_filter f g (x ∷ xs) = elim (cases_Bool (g x)) [
-  | inl p ↦ rw p (rw (filter_filter f g xs) refl)
-  | inr p ↦ rw p (filter_filter f g xs)
-]
+use Rattle.smk_base.proofs.Places.{filter_filter, filter_map, at_places, same_below, places_below, places_false, places_own}
 
 pub filter-true : {X : Type 0} (xs : List X) → filter (λ x. true) xs ≡ xs
 filter-true [] = refl

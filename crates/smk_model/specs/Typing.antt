@@ -147,28 +147,28 @@ fwd_after catalog at table view = do
   new_fwd catalog at (record { table = t; view = v })
 
 -- a view, a table and a linked view, as a link has them
-pub record Linked : Type 0 where
+pub record Link : Type 0 where
   pub view : ℕ
   pub table : ℕ
   pub to : ℕ
 
-abbrev pub same_link : Linked → Linked → Bool
+abbrev pub same_link : Link → Link → Bool
 same_link a b = nat_eq a.view b.view && nat_eq a.table b.table && nat_eq a.to b.to
 
 -- the links of a view on a table to each of these
-abbrev pub linked_to : ℕ → ℕ → List ℕ → List Linked
+abbrev pub linked_to : ℕ → ℕ → List ℕ → List Link
 linked_to view table to = map (λ w. record { view = view; table = table; to = w }) to
 
 -- each of the links that a book has
-abbrev pub all_linked : List LinkInfo → List Linked
-all_linked links = flat_map (λ link. linked_to link.view link.table link.to) links
+abbrev pub all_links : List LinkInfo → List Link
+all_links links = flat_map (λ link. linked_to link.view link.table link.to) links
 
 -- one more linked view: it is declared, it is not the first view, and neither this link nor an earlier one has it
 abbrev pub to_after : CatalogImage → ℕ → ℕ → List ℕ → Word → Typed (List ℕ)
 to_after catalog v t to word = do
   w ← view_named catalog.views word
   unless (nat_eq w v) (SelfLink word.at)
-      (unless (list_any (same_link (record { view = v; table = t; to = w })) (all_linked catalog.links ++ linked_to v t to)) (RepeatedDeclaration word.at)
+      (unless (list_any (same_link (record { view = v; table = t; to = w })) (all_links catalog.links ++ linked_to v t to)) (RepeatedDeclaration word.at)
       (Ok (to ++ w ∷ [])))
 
 abbrev pub link_after : CatalogImage → Word → Word → List Word → Typed CatalogImage

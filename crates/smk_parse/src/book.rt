@@ -5,7 +5,7 @@ ghost use Rattle.smk_parse.specs.Vocabulary.{stmt_image, Token, head_of, is_more
 ghost use Rattle.smk_base.specs.declared.book.token.TokenKind.TheVariants as kinds;
 ghost use Rattle.smk_parse.specs.{Reads.AreNames, Reads.Reads, Reads.StmtReads, Answers.IsBookAnswer};
 
-use crate::lists::{Linked, aggs, keys, listed};
+use crate::lists::{LinkedView, aggs, keys, listed};
 use crate::plan::plan;
 use crate::reader::Reader;
 use crate::tokens::{column, expect, name, string_in_hand, within, wrong};
@@ -116,7 +116,7 @@ fn link_stmt(alloc: Global, reader: &mut Reader) -> Result<Stmt, BookFault>
 {
     let (view, table) = names(alloc, reader, TokenKind::On)?;
     expect(reader, TokenKind::To)?;
-    let to = listed::<Linked>(alloc, reader)?;
+    let to = listed::<LinkedView>(alloc, reader)?;
     Ok(Stmt::Link { view, table, to })
 }
 

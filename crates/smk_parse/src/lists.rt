@@ -229,9 +229,9 @@ impl Member for Word {
 }
 
 /// A linked view.
-pub struct Linked;
+pub struct LinkedView;
 
-impl Member for Linked {
+impl Member for LinkedView {
     type Tree = Word;
 
     ghost rule = { record { one = λ n. ALinked n ∷ []; more = MoreLinked; spells = IsName; goes_on = λ n c t. refl } };

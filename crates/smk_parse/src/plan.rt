@@ -77,7 +77,7 @@ fn source(alloc: Global, reader: &mut Reader, depth: u32) -> Result<Box<Tree>, B
 /// What follows the keyword of a step.
 #[tactic(auto, using(crate::proofs::Trees::plans, crate::proofs::Steps::begun))]
 #[cycle(plan)]
-fn parts(
+fn operands(
     alloc: Global,
     reader: &mut Reader,
     kind: TokenKind,
@@ -128,7 +128,7 @@ fn step(alloc: Global, reader: &mut Reader, depth: u32) -> Result<StepTree, Book
         return Err(wrong(reader));
     }
     take_node(reader)?;
-    parts(alloc, reader, kind, depth)
+    operands(alloc, reader, kind, depth)
 }
 
 /// A source with its steps.
@@ -167,6 +167,6 @@ pub fn ask_step(alloc: Global, reader: &mut Reader) -> Result<AskStep, BookFault
         return Err(wrong(reader));
     }
     take_node(reader)?;
-    let what = parts(alloc, reader, kind, 0)?;
+    let what = operands(alloc, reader, kind, 0)?;
     Ok(AskStep { at, what })
 }

@@ -7,6 +7,7 @@ mod fill;
 mod hold;
 mod map;
 
+pub use derive::intersection;
 pub use fault::RidFault;
 pub use fill::RidFill;
 pub use fill::grow::RidGrow;

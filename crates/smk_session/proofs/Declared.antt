@@ -29,10 +29,10 @@ use Rattle.smk_compose.specs.declared.kept_maps.Run.{Run}
 use Rattle.smk_skip.specs.Splits.{SplitImage}
 use Rattle.smk_session.specs.Answers.{kept_back}
 use Rattle.smk_session.specs.Extras.{backs_of, split_on, cubes_on, split_for, cubes_for, split_in, cubes_in, asks_split, asks_groups, split_place, cubes_place}
-use Rattle.smk_session.specs.Making.{AreNow, IsDeclared, IsMade, cubes_wanted, declared_in, looks_wanted, newer, split_wanted}
+use Rattle.smk_session.specs.Making.{AreNow, IsDeclared, IsMadeFor, cubes_wanted, declared_in, looks_wanted, newer, split_wanted}
 use Rattle.smk_session.specs.Sessions.{AreOpened, opened, workbook_image}
 use Rattle.smk_session.specs.declared.start.making.Asked.{Asked}
-use Rattle.smk_session.specs.declared.start.making.Made.{Made}
+use Rattle.smk_session.specs.declared.start.making.SplitOrCubes.{SplitOrCubes}
 use Rattle.smk_session.proofs.KeptOf.{kept_back_is}
 use Rattle.smk_session.proofs.Opened.{views_long}
 use Rattle.smk_model.proofs.Anys.{and_false}
@@ -146,10 +146,10 @@ kept_none h xs i x all low is are none =
 
 -- what is made of the declarations that wait, one after the other
 
-pub made_at : (book : Workbook) (all : List Asked) (made : List Made) (n : ℕ) (one : Made) → AllZip (IsMade book) all made → n < length made → one ≡ get_or made n one
-    → (asked : Asked) × (n < length all) × (asked ≡ get_or all n asked) × IsMade book asked one
+pub made_at : (book : Workbook) (all : List Asked) (made : List SplitOrCubes) (n : ℕ) (one : SplitOrCubes) → AllZip (IsMadeFor book) all made → n < length made → one ≡ get_or made n one
+    → (asked : Asked) × (n < length all) × (asked ≡ get_or all n asked) × IsMadeFor book asked one
 made_at book [] [] n one zip low is = absurd (omega (arith, low))
-made_at book (a ∷ more) (m ∷ ms) zero one zip low is = (a, omega arith, refl, subst (IsMade book a) (sym is) zip.0)
+made_at book (a ∷ more) (m ∷ ms) zero one zip low is = (a, omega arith, refl, subst (IsMadeFor book a) (sym is) zip.0)
 made_at book (a ∷ more) (m ∷ ms) (suc n) one zip low is =
     let rest = made_at book more ms n one zip.1 (omega (arith, low)) is in
     (rest.0, omega (arith, rest.1), rest.2, rest.3)
@@ -168,10 +168,10 @@ kept_put h all n asked put old before after low is are made pushed =
     ∙ ap (λ o. old ++ (filter_map h (take n declared) ++ option_to_list o)) made
     ∙ ap (λ l. old ++ l) (kept_next h declared n asked.declared.now (filter_map h (take n declared)) _ long same refl refl)
 
-pub kept_all : {Y : Type 0} (book : Workbook) (h : Back → Option Y) (all : List Asked) (made : List Made) (n : ℕ) (old after : List Y) → AllZip (IsMade book) all made → n ≡ length made
+pub kept_all : {Y : Type 0} (book : Workbook) (h : Back → Option Y) (all : List Asked) (made : List SplitOrCubes) (n : ℕ) (old after : List Y) → AllZip (IsMadeFor book) all made → n ≡ length made
     → after ≡ old ++ filter_map h (take n (declared_in all)) → after ≡ old ++ filter_map h (declared_in all)
 kept_all book h all made n old after zip whole are =
-    are ∙ ap (λ l. old ++ filter_map h l) (take_all n (declared_in all) (omega (arith, whole, AllZip-long (IsMade book) all made zip, length-map all (λ (a : Asked). a.declared.now))))
+    are ∙ ap (λ l. old ++ filter_map h l) (take_all n (declared_in all) (omega (arith, whole, AllZip-long (IsMadeFor book) all made zip, length-map all (λ (a : Asked). a.declared.now))))
 
 -- what is kept for the first declaration that passes, at its place among those that ask for it
 

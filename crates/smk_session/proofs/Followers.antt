@@ -23,7 +23,7 @@ use Rattle.smk_model.specs.Workload.{declares_fwd}
 use Rattle.smk_model.proofs.Composed.{lists_stand}
 use Rattle.smk_base.proofs.Places.{places_below}
 use Rattle.smk_compose.specs.declared.kept_maps.Run.{Run}
-use Rattle.smk_session.specs.Answers.{AreOn, chosen_of, kept_fwd, picks_chosen, rids_or_all}
+use Rattle.smk_session.specs.Answers.{AreOn, brushed_of, kept_fwd, picks_brushed, rids_or_all}
 use Rattle.smk_session.specs.Refreshed.{Names, book_at}
 use Rattle.smk_session.specs.declared.brush.refresh.Refresh.{Refresh}
 use Rattle.smk_session.specs.Sessions.{AreOpened, BrushFits, state_over}
@@ -55,7 +55,7 @@ are_on catalog tables brushes t fit k d low = λ same. subst (λ n. IsPlaces n (
 
 -- what is chosen under brushes that are on rows of their tables
 pub chosen_there : (catalog : Catalog) (tables : List Relation) (brushes : List BrushOn) (w t : ℕ) (chosen : Option (List ℕ)) → All (BrushFits catalog tables) brushes
-    → ((n : ℕ) → AreOn t n brushes → chosen ≡ chosen_of (catalog_image catalog) brushes w t n) → chosen ≡ chosen_of (catalog_image catalog) brushes w t (rows_count tables t)
+    → ((n : ℕ) → AreOn t n brushes → chosen ≡ brushed_of (catalog_image catalog) brushes w t n) → chosen ≡ brushed_of (catalog_image catalog) brushes w t (rows_count tables t)
 chosen_there catalog tables brushes w t chosen fit made = made (rows_count tables t) (are_on catalog tables brushes t fit)
 
 -- the marks that the selected rows reach
@@ -64,21 +64,21 @@ all_long : (catalog : Catalog) (tables : List Relation) (w t : ℕ) (map : Lists
 all_long catalog tables w t map are = ap (λ (m : Lists). length m.lists) are ∙ lists_stand.forwards_long (plan_of catalog w) (each_rows tables) t
 
 chosen_rids : (catalog : Catalog) (tables : List Relation) (brushes : List BrushOn) (w t : ℕ) (map : Lists) (chosen : Option (List ℕ)) → map ≡ forwards (plan_of catalog w) (each_rows tables) t
-    → chosen ≡ chosen_of (catalog_image catalog) brushes w t (rows_count tables t) → rids_or_all chosen (length map.lists) ≡ selected_for (catalog_image catalog) (state_over tables brushes) w t
+    → chosen ≡ brushed_of (catalog_image catalog) brushes w t (rows_count tables t) → rids_or_all chosen (length map.lists) ≡ selected_for (catalog_image catalog) (state_over tables brushes) w t
 chosen_rids catalog tables brushes w t map chosen are made =
     ap (λ (c : Option (List ℕ)). rids_or_all c (length map.lists)) made
-    ∙ ap (rids_or_all (chosen_of (catalog_image catalog) brushes w t (rows_count tables t))) (all_long catalog tables w t map are)
+    ∙ ap (rids_or_all (brushed_of (catalog_image catalog) brushes w t (rows_count tables t))) (all_long catalog tables w t map are)
     ∙ chosen_or_all (catalog_image catalog) (state_over tables brushes) w t
 
 pub chosen_inside : (catalog : Catalog) (tables : List Relation) (brushes : List BrushOn) (w t : ℕ) (map : Lists) (chosen : Option (List ℕ)) → map ≡ forwards (plan_of catalog w) (each_rows tables) t
-    → chosen ≡ chosen_of (catalog_image catalog) brushes w t (rows_count tables t) → All (λ rid. rid < length map.lists) (rids_or_all chosen (length map.lists))
+    → chosen ≡ brushed_of (catalog_image catalog) brushes w t (rows_count tables t) → All (λ rid. rid < length map.lists) (rids_or_all chosen (length map.lists))
 chosen_inside catalog tables brushes w t map chosen are made =
     subst (λ (l : List ℕ). All (λ rid. rid < length map.lists) l) (sym (chosen_rids catalog tables brushes w t map chosen are made))
     (subst (λ (n : ℕ). All (λ rid. rid < n) (selected_for (catalog_image catalog) (state_over tables brushes) w t)) (sym (all_long catalog tables w t map are))
     (places_below _ (rows_count tables t)))
 
 pub marks_reached : (catalog : Catalog) (tables : List Relation) (brushes : List BrushOn) (w t : ℕ) (map : Lists) (chosen : Option (List ℕ)) (marks : List ℕ) → map ≡ forwards (plan_of catalog w) (each_rows tables) t
-    → chosen ≡ chosen_of (catalog_image catalog) brushes w t (rows_count tables t) → marks ≡ members_at map (rids_or_all chosen (length map.lists))
+    → chosen ≡ brushed_of (catalog_image catalog) brushes w t (rows_count tables t) → marks ≡ members_at map (rids_or_all chosen (length map.lists))
     → marks ≡ marks_fwd (catalog_image catalog) (state_over tables brushes) w t (selected_for (catalog_image catalog) (state_over tables brushes) w t)
 marks_reached catalog tables brushes w t map chosen marks are made reached =
     reached
@@ -91,14 +91,14 @@ marks_reached catalog tables brushes w t map chosen marks are made reached =
 tables_of : (tables : List Relation) → length (each_rows tables) ≡ length tables
 tables_of tables = length-map tables (λ (r : Relation). r.rows)
 
-leaves_are : (catalog : Catalog) (tables : List Relation) (brushes : List BrushOn) (w : ℕ) (picks : List Pick) → picks ≡ picks_chosen (catalog_image catalog) (state_over tables brushes) w (length tables)
+leaves_are : (catalog : Catalog) (tables : List Relation) (brushes : List BrushOn) (w : ℕ) (picks : List Pick) → picks ≡ picks_brushed (catalog_image catalog) (state_over tables brushes) w (length tables)
     → over (plan_of catalog w) (each_rows tables) picks ≡ leaves_now (catalog_image catalog) (state_over tables brushes) w
 leaves_are catalog tables brushes w picks are =
-    ap (over (plan_of catalog w) (each_rows tables)) (are ∙ ap (picks_chosen (catalog_image catalog) (state_over tables brushes) w) (sym (tables_of tables))) ∙ same_leaves (catalog_image catalog) (state_over tables brushes) w
+    ap (over (plan_of catalog w) (each_rows tables)) (are ∙ ap (picks_brushed (catalog_image catalog) (state_over tables brushes) w) (sym (tables_of tables))) ∙ same_leaves (catalog_image catalog) (state_over tables brushes) w
 
-pub picks_known : (catalog : Catalog) (tables : List Relation) (brushes : List BrushOn) (w : ℕ) (picks : List Pick) → picks ≡ picks_chosen (catalog_image catalog) (state_over tables brushes) w (length tables) → All (PickFits (each_rows tables)) picks
+pub picks_known : (catalog : Catalog) (tables : List Relation) (brushes : List BrushOn) (w : ℕ) (picks : List Pick) → picks ≡ picks_brushed (catalog_image catalog) (state_over tables brushes) w (length tables) → All (PickFits (each_rows tables)) picks
 picks_known catalog tables brushes w picks are =
-    subst (λ (l : List Pick). All (PickFits (each_rows tables)) l) (sym (are ∙ ap (picks_chosen (catalog_image catalog) (state_over tables brushes) w) (sym (tables_of tables))))
+    subst (λ (l : List Pick). All (PickFits (each_rows tables)) l) (sym (are ∙ ap (picks_brushed (catalog_image catalog) (state_over tables brushes) w) (sym (tables_of tables))))
     (picks_fit (catalog_image catalog) (state_over tables brushes) w)
 
 -- the content of a view over them
@@ -111,7 +111,7 @@ pub leaves_fit : (catalog : Catalog) (tables leaves : List Relation) (view : Vie
 leaves_fit catalog tables leaves view kinds fits of = subst (λ (K : List (List Kind)). PlanFits (expr_of view.plan) K) (sym (leaves_kinds catalog tables leaves (expr_of view.plan) kinds of)) fits.fits
 
 pub leaves_over : (catalog : Catalog) (tables : List Relation) (brushes : List BrushOn) (w : ℕ) (picks : List Pick) (view : ViewInfo) → view_image view ≡ view_at (catalog_image catalog) w
-    → picks ≡ picks_chosen (catalog_image catalog) (state_over tables brushes) w (length tables) → over (expr_of view.plan) (each_rows tables) picks ≡ leaves_now (catalog_image catalog) (state_over tables brushes) w
+    → picks ≡ picks_brushed (catalog_image catalog) (state_over tables brushes) w (length tables) → over (expr_of view.plan) (each_rows tables) picks ≡ leaves_now (catalog_image catalog) (state_over tables brushes) w
 leaves_over catalog tables brushes w picks view is are = ap (λ (v : ViewImage). over v.plan (each_rows tables) picks) is ∙ leaves_are catalog tables brushes w picks are
 
 pub view_kinds : (catalog : Catalog) (tables leaves : List Relation) (w : ℕ) (view : ViewInfo) → each_kinds tables ≡ each_table_kinds catalog.tables → view_image view ≡ view_at (catalog_image catalog) w → ViewFits catalog.tables (view_image view)
@@ -135,17 +135,17 @@ abbrev pick_with : ℕ → List ℕ → Pick
 pick_with t rids = record { table = t; rids = rids }
 
 pub pick_more : (catalog : Catalog) (tables : List Relation) (brushes : List BrushOn) (w t : ℕ) (chosen : Option (List ℕ)) (rids : List ℕ) (picks : List Pick) → All (BrushFits catalog tables) brushes
-    → ((n : ℕ) → AreOn t n brushes → chosen ≡ chosen_of (catalog_image catalog) brushes w t n) → chosen ≡ Some rids
-    → picks ≡ picks_chosen (catalog_image catalog) (state_over tables brushes) w t → picks ++ pick_with t rids ∷ [] ≡ picks_chosen (catalog_image catalog) (state_over tables brushes) w (t + 1)
+    → ((n : ℕ) → AreOn t n brushes → chosen ≡ brushed_of (catalog_image catalog) brushes w t n) → chosen ≡ Some rids
+    → picks ≡ picks_brushed (catalog_image catalog) (state_over tables brushes) w t → picks ++ pick_with t rids ∷ [] ≡ picks_brushed (catalog_image catalog) (state_over tables brushes) w (t + 1)
 pick_more catalog tables brushes w t chosen rids picks fit made some are =
     let p = some_is (list_any (concerns (catalog_image catalog) w t) brushes) _ rids (sym (chosen_there catalog tables brushes w t chosen fit made) ∙ some) in
     ap (λ l. l ++ pick_with t rids ∷ []) are
-    ∙ ap (λ r. picks_chosen (catalog_image catalog) (state_over tables brushes) w t ++ pick_with t r ∷ []) p.1
+    ∙ ap (λ r. picks_brushed (catalog_image catalog) (state_over tables brushes) w t ++ pick_with t r ∷ []) p.1
     ∙ sym (picks_more (catalog_image catalog) (state_over tables brushes) w t p.0)
 
 pub pick_none : (catalog : Catalog) (tables : List Relation) (brushes : List BrushOn) (w t : ℕ) (chosen : Option (List ℕ)) (picks : List Pick) → All (BrushFits catalog tables) brushes
-    → ((n : ℕ) → AreOn t n brushes → chosen ≡ chosen_of (catalog_image catalog) brushes w t n) → chosen ≡ None
-    → picks ≡ picks_chosen (catalog_image catalog) (state_over tables brushes) w t → picks ≡ picks_chosen (catalog_image catalog) (state_over tables brushes) w (t + 1)
+    → ((n : ℕ) → AreOn t n brushes → chosen ≡ brushed_of (catalog_image catalog) brushes w t n) → chosen ≡ None
+    → picks ≡ picks_brushed (catalog_image catalog) (state_over tables brushes) w t → picks ≡ picks_brushed (catalog_image catalog) (state_over tables brushes) w (t + 1)
 pick_none catalog tables brushes w t chosen picks fit made none are =
     are ∙ sym (picks_same (catalog_image catalog) (state_over tables brushes) w t (none_is (list_any (concerns (catalog_image catalog) w t) brushes) _ (sym (chosen_there catalog tables brushes w t chosen fit made) ∙ none)))
 

@@ -35,8 +35,8 @@ use Rattle.smk_marks.proofs.Chains.{chain_picks}
 use Rattle.smk_marks.proofs.Kept.{kept_marks}
 use Rattle.smk_marks.proofs.Marked.{few_kept}
 use Rattle.smk_marks.proofs.Small.{never_full}
-use Rattle.smk_session.specs.Answers.{IsLent, book_of, chosen_of, pick_for}
-use Rattle.smk_session.specs.Refreshed.{IsChosen, IsKept, IsRefresh, Shows, book_at, looks_now, state_next}
+use Rattle.smk_session.specs.Answers.{IsLent, book_of, brushed_of, pick_for}
+use Rattle.smk_session.specs.Refreshed.{IsBrushed, IsKept, IsRefresh, Shows, book_at, looks_now, state_next}
 use Rattle.smk_session.specs.declared.lent.Lent.{Lent}
 use Rattle.smk_session.specs.declared.brush.refresh.Refresh.{Refresh}
 use Rattle.smk_session.proofs.Followers.{chosen_there}
@@ -161,7 +161,7 @@ module _ (refresh : Refresh) (w : ℕ) (view : KeptView) (table : Relation) (the
       ∙ never_full view.plan.keys.now view.plan.aggs.now chain (sub table.rows S) there.kept.plan.chain (omega (arith, small, few_selected, length-map S (row_at table.rows)))
 
   -- the rids that are chosen
-  pub chosen_are : (chosen : Option (List ℕ)) (rids : List ℕ) → chosen ≡ chosen_of (book_at refresh) refresh.brushes.now w t (length (table_at (each_rows tables) t)) → chosen ≡ Some rids → rids ≡ S
+  pub chosen_are : (chosen : Option (List ℕ)) (rids : List ℕ) → chosen ≡ brushed_of (book_at refresh) refresh.brushes.now w t (length (table_at (each_rows tables) t)) → chosen ≡ Some rids → rids ≡ S
   chosen_are chosen rids made some = some_is (list_any (concerns (book_at refresh) w t) refresh.brushes.now) rids S (sym some ∙ made)
 
   pub chosen_low : All (λ rid. rid < length table.rows) S
@@ -227,7 +227,7 @@ view_kept held w t run info view h low is named ends content same fwd =
 pub record IsReached (refresh : Refresh) (w : ℕ) (view : KeptView) (table : Relation) (chosen : Option (List ℕ)) : Type 0 where
   pub there : IsThere refresh w view table
   pub small : length table.rows ≤ 1048576
-  pub chosen_is : chosen ≡ chosen_of (book_at refresh) refresh.brushes.now w (selected_table (expr_of view.plan.chain.now)) (length (table_at (each_rows refresh.held.now.tables.now) (selected_table (expr_of view.plan.chain.now))))
+  pub chosen_is : chosen ≡ brushed_of (book_at refresh) refresh.brushes.now w (selected_table (expr_of view.plan.chain.now)) (length (table_at (each_rows refresh.held.now.tables.now) (selected_table (expr_of view.plan.chain.now))))
 
 module _ {refresh : Refresh} {w : ℕ} {view : KeptView} (is : IsRefresh refresh) (low : w < length refresh.held.now.catalog.now.views) (kept : IsKept refresh.held.now w view)
     (same : refresh.table ≡ selected_table (expr_of view.plan.chain.now)) where
@@ -244,12 +244,12 @@ module _ {refresh : Refresh} {w : ℕ} {view : KeptView} (is : IsRefresh refresh
       let known : s < length catalog.tables = subst (λ (p : Expr). selected_table p < length catalog.tables) kept.plan.plan_is (scanned_low (length catalog.tables) (view_at (book_at refresh) w).plan fits.scans) in
       omega (arith, known, same, tables_long catalog tables_held is.held.opened.kinds)
 
-  pub reached_by_chosen : {table : Relation} {chosen : Option (List ℕ)} → IsChosen refresh w chosen → table ≡ get_or tables_held refresh.table table → length (get_or tables_held refresh.table table).rows ≤ 1048576 → IsReached refresh w view (get_or tables_held refresh.table table) chosen
+  pub reached_by_chosen : {table : Relation} {chosen : Option (List ℕ)} → IsBrushed refresh w chosen → table ≡ get_or tables_held refresh.table table → length (get_or tables_held refresh.table table).rows ≤ 1048576 → IsReached refresh w view (get_or tables_held refresh.table table) chosen
   reached_by_chosen {table} {chosen} made at small = record {
     there = record { is = is; low = low; kept = kept; at = ap (get_or tables_held refresh.table) at ∙ ap (λ i. get_or tables_held i (get_or tables_held refresh.table table)) same };
     small = small;
     chosen_is =
-        subst (λ (i : ℕ). chosen ≡ chosen_of (book_at refresh) refresh.brushes.now w i (length (table_at (each_rows tables_held) i))) same
+        subst (λ (i : ℕ). chosen ≡ brushed_of (book_at refresh) refresh.brushes.now w i (length (table_at (each_rows tables_held) i))) same
         (chosen_there refresh.held.now.catalog.now tables_held refresh.brushes.now w refresh.table chosen is.fit made);
   }
 

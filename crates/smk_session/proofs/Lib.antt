@@ -8,7 +8,6 @@ mod KeptViews
 pub mod KeptOf
 mod Linked
 mod Marked
-mod Merging
 pub mod Opened
 mod Pairs
 mod Refreshing

@@ -18,13 +18,6 @@ rids_ascend n rids are = subst (λ (l : List ℕ). IsAscending l) are (places_as
 pub rids_low : (bound n : ℕ) (rids : List ℕ) → IsPlaces bound rids → bound ≡ n → All (λ rid. rid < n) rids
 rids_low bound n rids are same = subst (λ (k : ℕ). All (λ rid. rid < k) rids) same (answers_are_places.below bound rids are)
 
-pairs_of : (xs : List ℕ) → IsAscending xs → AllPairs (λ x y. x < y) xs
-pairs_of xs up m n d less low = rw (get_or_default xs m d 0 (omega (arith, less, low)), get_or_default xs n d 0 low) (up m n less low)
-
 -- those that pass of ascending rids are ascending
 pub filter_ascends : (test : ℕ → Bool) (rids : List ℕ) → IsAscending rids → IsAscending (filter test rids)
-filter_ascends test rids rises i j h l = AllPairs-filter (λ x y. x < y) test rids (pairs_of rids rises) i j 0 h l
-
--- ascending rids below a bound are places
-pub ascending_places : (n : ℕ) (rids : List ℕ) → IsAscending rids → All (λ r. r < n) rids → IsPlaces n rids
-ascending_places n rids rises low = rising_is n rids (pairs_of rids rises) low
+filter_ascends test rids rises i j h l = AllPairs-filter (λ x y. x < y) test rids (pairs_rise rids rises) i j 0 h l

@@ -15,10 +15,10 @@ use Rattle.smk_model.specs.Lineage.{sub}
 use Rattle.smk_model.specs.Plain.{leaves, table_at}
 use Rattle.smk_model.specs.Selection.{PickFits, kept_rows, over, picked, selected}
 use Rattle.smk_model.specs.Session.{State, concerns, leaves_now, picks_for, rows_of_table, selected_for, view_at}
-use Rattle.smk_base.proofs.Places.{places_below, same_below}
+use Rattle.smk_base.proofs.Places.{filter_filter, places_below, same_below}
 use Rattle.smk_model.proofs.Replies.{whole_sub}
-use Rattle.smk_model.proofs.Selections.{filter_filter, filter-true}
-use Rattle.smk_session.specs.Answers.{AreOn, chosen_of, narrowed_by, pick_for, picks_chosen, rids_or_all}
+use Rattle.smk_model.proofs.Selections.{filter-true}
+use Rattle.smk_session.specs.Answers.{AreOn, brushed_of, narrowed_by, pick_for, picks_brushed, rids_or_all}
 use Rattle.smk_session.proofs.InForce.{put_last}
 use Rattle.smk_session.proofs.KeptOf.{find_mapped, found, past}
 use Rattle.smk_session.proofs.Rids.{filter_ascends, places_ascend}
@@ -110,7 +110,7 @@ on_table catalog w t i n brushes brush low is are on =
 
 -- the rows selected: those chosen, or all
 
-pub chosen_or_all : (catalog : CatalogImage) (state : State) (w t : ℕ) → rids_or_all (chosen_of catalog state.brushes w t (length (rows_of_table state t))) (length (rows_of_table state t)) ≡ selected_for catalog state w t
+pub chosen_or_all : (catalog : CatalogImage) (state : State) (w t : ℕ) → rids_or_all (brushed_of catalog state.brushes w t (length (rows_of_table state t))) (length (rows_of_table state t)) ≡ selected_for catalog state w t
 chosen_or_all catalog state w t =
     let n : ℕ = length (rows_of_table state t) in
     elim (cases_Bool (list_any (concerns catalog w t) state.brushes)) [
@@ -131,23 +131,23 @@ tables_of : (catalog : CatalogImage) (state : State) (w : ℕ) (ts : List ℕ) �
 tables_of catalog state w [] = refl
 tables_of catalog state w (t ∷ ts) = ap (λ l. t ∷ l) (tables_of catalog state w ts)
 
-pub are_picks : (catalog : CatalogImage) (state : State) (w n : ℕ) → ArePicks (picks_chosen catalog state w n)
+pub are_picks : (catalog : CatalogImage) (state : State) (w n : ℕ) → ArePicks (picks_brushed catalog state w n)
 are_picks catalog state w n = record {
   by_table = subst (λ l. IsAscending l) (sym (tables_of catalog state w (places (is_picked catalog state w) n))) (places_ascend (is_picked catalog state w) n);
   by_rid = all_map (λ (pick : Pick). IsAscending pick.rids) (pick_for catalog state w) (places (is_picked catalog state w) n) (λ t. places_ascend (in_all (concerns catalog w t) state.brushes) (length (rows_of_table state t)));
 }
 
-pub picks_more : (catalog : CatalogImage) (state : State) (w n : ℕ) → is_picked catalog state w n ≡ true → picks_chosen catalog state w (n + 1) ≡ picks_chosen catalog state w n ++ pick_for catalog state w n ∷ []
+pub picks_more : (catalog : CatalogImage) (state : State) (w n : ℕ) → is_picked catalog state w n ≡ true → picks_brushed catalog state w (n + 1) ≡ picks_brushed catalog state w n ++ pick_for catalog state w n ∷ []
 picks_more catalog state w n is =
     let e : n + 1 ≡ suc n = omega arith in
     rw e (ap (map (pick_for catalog state w)) (filter-append (is_picked catalog state w) (upto n) (n ∷ []) ∙ ap (λ b. places (is_picked catalog state w) n ++ cond b (n ∷ []) []) is) ∙ map-append (pick_for catalog state w) (places (is_picked catalog state w) n) (n ∷ []))
 
-pub picks_same : (catalog : CatalogImage) (state : State) (w n : ℕ) → is_picked catalog state w n ≡ false → picks_chosen catalog state w (n + 1) ≡ picks_chosen catalog state w n
+pub picks_same : (catalog : CatalogImage) (state : State) (w n : ℕ) → is_picked catalog state w n ≡ false → picks_brushed catalog state w (n + 1) ≡ picks_brushed catalog state w n
 picks_same catalog state w n is =
     let e : n + 1 ≡ suc n = omega arith in
     rw e (ap (map (pick_for catalog state w)) (put_last (is_picked catalog state w) (upto n) n is))
 
-pub picks_fit : (catalog : CatalogImage) (state : State) (w : ℕ) → All (PickFits state.tables) (picks_chosen catalog state w (length state.tables))
+pub picks_fit : (catalog : CatalogImage) (state : State) (w : ℕ) → All (PickFits state.tables) (picks_brushed catalog state w (length state.tables))
 picks_fit catalog state w = within (length state.tables) (places (is_picked catalog state w) (length state.tables)) (places_below (is_picked catalog state w) (length state.tables)) refl
   where
     within : (n : ℕ) (ts : List ℕ) → All (λ t. t < n) ts → n ≡ length state.tables → All (PickFits state.tables) (map (pick_for catalog state w) ts)
@@ -168,7 +168,7 @@ pub whole_where : (catalog : CatalogImage) (state : State) (w t : ℕ) → is_pi
 whole_where catalog state w t alone =
     ap (λ (l : List BrushOn). sub (table_at state.tables t) (places (λ rid. list_all (λ (b : BrushOn). has b.rids rid) l) (length (table_at state.tables t)))) (none_pass (concerns catalog w t) state.brushes alone) ∙ whole_sub (table_at state.tables t)
 
-same_leaf : (catalog : CatalogImage) (state : State) (w t : ℕ) → selected state.tables (picks_chosen catalog state w (length state.tables)) t ≡ selected state.tables (picks_for catalog state w) t
+same_leaf : (catalog : CatalogImage) (state : State) (w t : ℕ) → selected state.tables (picks_brushed catalog state w (length state.tables)) t ≡ selected state.tables (picks_for catalog state w) t
 same_leaf catalog state w t =
     let n : ℕ = length state.tables in
     let all : places (λ i. true) n ≡ upto n = filter-true (upto n) in
@@ -187,9 +187,9 @@ same_leaf catalog state w t =
         there true h = refl
         there false h = sym (whole_where catalog state w t (h refl))
 
-pub same_leaves : (catalog : CatalogImage) (state : State) (w : ℕ) → over (view_at catalog w).plan state.tables (picks_chosen catalog state w (length state.tables)) ≡ leaves_now catalog state w
+pub same_leaves : (catalog : CatalogImage) (state : State) (w : ℕ) → over (view_at catalog w).plan state.tables (picks_brushed catalog state w (length state.tables)) ≡ leaves_now catalog state w
 same_leaves catalog state w = each (leaves (view_at catalog w).plan)
   where
-    each : (ts : List ℕ) → map (selected state.tables (picks_chosen catalog state w (length state.tables))) ts ≡ map (selected state.tables (picks_for catalog state w)) ts
+    each : (ts : List ℕ) → map (selected state.tables (picks_brushed catalog state w (length state.tables))) ts ≡ map (selected state.tables (picks_for catalog state w)) ts
     each [] = refl
     each (t ∷ ts) = let h = same_leaf catalog state w t in let k = each ts in cc

@@ -20,7 +20,7 @@ use Rattle.smk_model.specs.Replies.{Asked, is_refused, unless_outside, marked}
 use Rattle.smk_model.specs.Session.{State, concerns, selected_for, under}
 use Rattle.smk_compose.specs.declared.kept_maps.KeptMap.{KeptMap}
 use Rattle.smk_session.specs.Sessions.{AreExtras, AreInForce, AreOpened, content_kept, state_over}
-use Rattle.smk_session.specs.declared.brush.chosen.Choice.{Choice}
+use Rattle.smk_session.specs.declared.brush.choices.Choice.{Choice}
 use Rattle.smk_session.specs.declared.lent.Lent.{Lent}
 use Rattle.smk_session.specs.declared.turn.Change.{Change}
 use Rattle.smk_session.specs.declared.turn.Content.{Content}
@@ -118,8 +118,8 @@ abbrev pub AreOn : ℕ → ℕ → List BrushOn → Type 0
 AreOn t n brushes = All (λ brush. brush.table ≡ t → IsPlaces n brush.rids) brushes
 
 -- the rids among n that all brushes have which concern a view on a table, where there is one
-abbrev pub chosen_of : CatalogImage → List BrushOn → ℕ → ℕ → ℕ → Option (List ℕ)
-chosen_of catalog brushes w t n =
+abbrev pub brushed_of : CatalogImage → List BrushOn → ℕ → ℕ → ℕ → Option (List ℕ)
+brushed_of catalog brushes w t n =
     cond (list_any (concerns catalog w t) brushes)
     (Some (places (λ rid. list_all (λ brush. has brush.rids rid) (filter (concerns catalog w t) brushes)) n))
     None
@@ -130,7 +130,7 @@ AreAlike catalog brushes t w other = All (λ brush. concerns catalog w t brush �
 
 -- the rids of a choice are those that brushes select of a table for its view
 abbrev pub IsChoice : CatalogImage → List BrushOn → ℕ → Choice → Type 0
-IsChoice catalog brushes t choice = (n : ℕ) → AreOn t n brushes → choice.rids ≡ chosen_of catalog brushes choice.view t n
+IsChoice catalog brushes t choice = (n : ℕ) → AreOn t n brushes → choice.rids ≡ brushed_of catalog brushes choice.view t n
 
 -- those that are left of the rids chosen so far under one more brush
 abbrev pub narrowed_by : Option (List ℕ) → List ℕ → List ℕ
@@ -146,5 +146,5 @@ rids_or_all None n = upto n
 abbrev pub pick_for : CatalogImage → State → ℕ → ℕ → Pick
 pick_for catalog state w t = record { table = t; rids = selected_for catalog state w t }
 
-abbrev pub picks_chosen : CatalogImage → State → ℕ → ℕ → List Pick
-picks_chosen catalog state w n = map (pick_for catalog state w) (filter (λ t. list_any (concerns catalog w t) state.brushes) (upto n))
+abbrev pub picks_brushed : CatalogImage → State → ℕ → ℕ → List Pick
+picks_brushed catalog state w n = map (pick_for catalog state w) (filter (λ t. list_any (concerns catalog w t) state.brushes) (upto n))

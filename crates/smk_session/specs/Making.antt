@@ -16,7 +16,7 @@ use Rattle.smk_compose.specs.declared.kept_maps.Run.{Run}
 use Rattle.smk_skip.specs.Splits.{SplitImage}
 use Rattle.smk_session.specs.Sessions.{opened, workbook_image}
 use Rattle.smk_session.specs.declared.start.making.Asked.{Asked}
-use Rattle.smk_session.specs.declared.start.making.Made.{Made}
+use Rattle.smk_session.specs.declared.start.making.SplitOrCubes.{SplitOrCubes}
 use Rattle.smk_session.specs.declared.start.making.Opening.{Opening}
 
 abbrev pub book_in : Opening → Workbook
@@ -47,12 +47,12 @@ pub record IsAsked (catalog : Catalog) (tables : List Relation) (asked : Asked) 
   pub rows : asked.rows ≡ table_of (workbook_image catalog tables) asked.declared.now.table
 
 -- what it asks for besides the rows is made
-pub record IsMade (book : Workbook) (asked : Asked) (made : Made) : Type 0 where
+pub record IsMadeFor (book : Workbook) (asked : Asked) (made : SplitOrCubes) : Type 0 where
   pub split : made.split ≡ split_in book asked.declared.now
   pub cubes : made.cubes ≡ cubes_in book asked.declared.now
 
-abbrev pub MakesAs : Workbook → Asked → Result Made AllocError → Type 0
-MakesAs book asked made = IfOk made (IsMade book asked)
+abbrev pub MakesAs : Workbook → Asked → Result SplitOrCubes AllocError → Type 0
+MakesAs book asked made = IfOk made (IsMadeFor book asked)
 
 -- the declarations
 abbrev pub declared_in : List Asked → List Back

@@ -18,9 +18,9 @@ use Rattle.smk_compose.specs.declared.fault.EvalFault.TheVariants.{NoMemory, Row
 use Rattle.smk_marks.specs.Views.{CanGroup, EndsInGroups, ends_in_groups, grouped_by_marks}
 use Rattle.smk_marks.specs.declared.reached.Reached.{Reached}
 use Rattle.smk_marks.specs.declared.view.KeptView.{KeptView}
-use Rattle.smk_session.specs.Answers.{AreOn, IsChoice, IsLent, Turns, book_of, chosen_of, content_at, state_at}
+use Rattle.smk_session.specs.Answers.{AreOn, IsChoice, IsLent, Turns, book_of, brushed_of, content_at, state_at}
 use Rattle.smk_session.specs.Sessions.{BrushFits, opened, workbook_image}
-use Rattle.smk_session.specs.declared.brush.chosen.Choice.{Choice}
+use Rattle.smk_session.specs.declared.brush.choices.Choice.{Choice}
 use Rattle.smk_session.specs.declared.brush.evaluating.Fetched.{Fetched}
 use Rattle.smk_session.specs.declared.brush.evaluating.Source.{Source}
 use Rattle.smk_session.specs.declared.brush.evaluating.Source.TheVariants as sources
@@ -48,8 +48,8 @@ abbrev pub looks_now : Refresh → ℕ → ℕ
 looks_now refresh w = rows_in (leaves_now (book_at refresh) (state_next refresh) w)
 
 -- the rids of the table that the brushes select for a view: none where no brush concerns it
-abbrev pub IsChosen : Refresh → ℕ → Option (List ℕ) → Type 0
-IsChosen refresh w chosen = (n : ℕ) → AreOn refresh.table n refresh.brushes.now → chosen ≡ chosen_of (book_at refresh) refresh.brushes.now w refresh.table n
+abbrev pub IsBrushed : Refresh → ℕ → Option (List ℕ) → Type 0
+IsBrushed refresh w chosen = (n : ℕ) → AreOn refresh.table n refresh.brushes.now → chosen ≡ brushed_of (book_at refresh) refresh.brushes.now w refresh.table n
 
 -- the rids of each choice are those that the brushes select for its view
 abbrev pub AreChoices : Refresh → List Choice → Type 0

@@ -14,7 +14,7 @@ ghost use Rattle.smk_session.specs.Answers.{Gives, Turns, IsLent, Changes, book_
 ghost use Rattle.smk_session.specs.Sessions.{BrushFits};
 ghost use Rattle.smk_session.specs.declared.answer.no_answer.Turned.TheVariants as turns;
 
-mod chosen;
+mod choices;
 mod evaluating;
 mod following;
 mod in_force;

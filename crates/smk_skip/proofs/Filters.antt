@@ -1,7 +1,7 @@
--- Filters of which every member is kept, or none, and filters of filters.
-use Rattle.std.proofs.Common.{◌≡◌, suc, Bool, true, false, List, [], ◌∷◌, ◌&&◌, refl, ap, arith, inl, inr, filter}
+-- Filters of which every member is kept, or none.
+use Rattle.std.proofs.Common.{◌≡◌, suc, Bool, true, false, List, [], ◌∷◌, ◌&&◌, refl, ap, arith, filter}
 use Rattle.std.specs.List.{All}
-use Rattle.std.proofs.lemmas.Bool.{cases_Bool, false≢true}
+use Rattle.std.proofs.lemmas.Bool.{false≢true}
 
 pub and_true : (a b : Bool) → b ≡ true → (a && b) ≡ a
 and_true true b h = h
@@ -30,10 +30,3 @@ filter_all p [] h = refl
 filter_all p (x ∷ xs) h =
     let here : p x ≡ true = h 0 x (omega arith) in
     rw here (ap (λ z. x ∷ z) (filter_all p xs (λ k d l. h (suc k) d (omega arith))))
-
-pub filter_filter : {X : Type 0} (p q : X → Bool) (xs : List X) → filter q (filter p xs) ≡ filter (λ x. p x && q x) xs
-filter_filter p q [] = refl
-filter_filter p q (x ∷ xs) = elim (cases_Bool (p x)) [
-  | inl t ↦ rw t (elim (cases_Bool (q x)) [ inl u ↦ rw u (ap (λ z. x ∷ z) (filter_filter p q xs)) | inr u ↦ rw u (filter_filter p q xs) ])
-  | inr t ↦ rw t (filter_filter p q xs)
-]

@@ -12,12 +12,12 @@ use Rattle.smk_base.specs.Places.{Lists, IsPlaces, upto, places, has, list_at, p
 use Rattle.smk_base.specs.Values.{value_eq, value_same}
 use Rattle.smk_model.specs.Values.{value_at}
 use Rattle.smk_model.specs.Lineage.{row_at}
-use Rattle.smk_base.proofs.Places.{same_below, places_false, places_below, places_are, has_places, flat_map_agree}
+use Rattle.smk_base.proofs.Places.{filter_filter, same_below, places_false, places_below, places_are, has_places, flat_map_agree}
 use Rattle.smk_rid.proofs.Packs.{length-concat}
 use Rattle.smk_model.specs.Replies.{with_value}
 use Rattle.smk_skip.specs.Splits.{SplitImage, members_with}
 use Rattle.smk_skip.specs.Parts.{ranks, run, IsParted}
-use Rattle.smk_skip.proofs.Filters.{and_false, filter_none, filter_filter}
+use Rattle.smk_skip.proofs.Filters.{and_false, filter_none}
 use Rattle.smk_skip.proofs.Orders.{split_at, within_order}
 use Rattle.smk_skip.proofs.Stretches.{run_is}
 use Rattle.smk_model.proofs.Anys.{any_and}
@@ -42,7 +42,7 @@ list_of f e (x ∷ xs) (suc i) = list_of f e xs i
 
 -- the members with a value are the places that have a mark and the value
 pub members_are : (split : SplitImage) (marks : List ℕ) (v : Value) → members_with split marks v ≡ places (λ r. list_any (λ i. has (list_at split.map i) r) marks && value_eq (value_at (row_at split.rows r) split.col) v) split.map.bound
-members_are split marks v = filter_filter (λ r. list_any (λ i. has (list_at split.map i) r) marks) (λ r. value_eq (value_at (row_at split.rows r) split.col) v) (upto split.map.bound)
+members_are split marks v = filter_filter (λ r. value_eq (value_at (row_at split.rows r) split.col) v) (λ r. list_any (λ i. has (list_at split.map i) r) marks) (upto split.map.bound)
 
 pub members_set : (split : SplitImage) (marks : List ℕ) (v : Value) → IsPlaces split.map.bound (members_with split marks v)
 members_set split marks v = subst (IsPlaces split.map.bound) (sym (members_are split marks v)) (places_are (λ r. list_any (λ i. has (list_at split.map i) r) marks && value_eq (value_at (row_at split.rows r) split.col) v) split.map.bound)

@@ -8,12 +8,12 @@ use Rattle.std.proofs.lemmas.List.Folds.{concat-append}
 use Rattle.std.proofs.lemmas.List.Sums.{sum_by-cons, sum_by_more_le}
 use Rattle.smk_base.specs.Places.{Lists, IsPlaces, upto, places, has, list_at, pairs_of, members_at, composed, inverted}
 use Rattle.smk_model.specs.Locals.{singles}
-use Rattle.smk_base.proofs.Places.{same_below, at_places, places_false, length_upto, get_or_map_upto, has_places, map_upto_agree, few_places, nat_eq-sym}
+use Rattle.smk_base.proofs.Places.{filter_filter, same_below, at_places, places_false, length_upto, get_or_map_upto, has_places, map_upto_agree, few_places, nat_eq-sym}
 use Rattle.smk_model.proofs.Pairs.{filter_le}
 use Rattle.smk_rid.proofs.Sets.{is_below}
 use Rattle.smk_rid.proofs.Packs.{length-concat}
 use Rattle.smk_skip.specs.Parts.{ranks, ranked}
-use Rattle.smk_skip.proofs.Filters.{and_second, filter_all, filter_filter}
+use Rattle.smk_skip.proofs.Filters.{and_second, filter_all}
 
 -- the list at a place, behind those before it and before those after it
 pub split_at : (lists : List (List ℕ)) (i : ℕ) → i < length lists → concat lists ≡ (concat (take i lists) ++ get_or lists i []) ++ concat (drop (suc i) lists)
@@ -114,7 +114,7 @@ once_each t o n (suc C) =
     let before = concat (map F (upto C)) in
     let parts : concat (map F (upto (suc C))) ≡ before ++ F C = ap concat (map-append F (upto C) (C ∷ [])) ∙ concat-append (map F (upto C)) (F C ∷ []) ∙ ap (λ z. before ++ z) (append-nil (F C)) in
     let kept : length (filter t (concat (map F (upto (suc C))))) ≡ length (filter t before) + length (filter t (F C)) = ap (λ z. length (filter t z)) parts ∙ ap length (filter-append t before (F C)) ∙ length-append (filter t before) (filter t (F C)) in
-    let last : length (filter t (F C)) ≡ length (places (λ i. nat_eq C (o i) && t i) n) = ap length (filter_filter (λ i. nat_eq C (o i)) t (upto n)) in
+    let last : length (filter t (F C)) ≡ length (places (λ i. nat_eq C (o i) && t i) n) = ap length (filter_filter t (λ i. nat_eq C (o i)) (upto n)) in
     let both = count_both (λ i. nat_lt (o i) C && t i) (λ i. nat_eq C (o i) && t i) (λ i. nat_lt (o i) (suc C) && t i) n (λ i. split_tally (o i) C (t i)) in
     omega (arith, kept, last, both, once_each t o n C)
 

@@ -7,10 +7,10 @@ use Rattle.std.proofs.lemmas.List.{length-append, get_or_append_left, get_or-app
 use Rattle.std.proofs.lemmas.List.Elements.{filter-append, All-map, All-append, All-nil, filter_passes}
 use Rattle.std.proofs.lemmas.List.Sorted.{IsPartitionedBy-ltb}
 use Rattle.smk_base.specs.Places.{upto, places, has}
-use Rattle.smk_base.proofs.Places.{filter_map, map_map, same_below, at_places, upto_add, upto_below}
+use Rattle.smk_base.proofs.Places.{filter_filter, filter_map, map_map, same_below, at_places, upto_add, upto_below}
 use Rattle.smk_model.proofs.Parts.{map_agree}
 use Rattle.smk_skip.specs.Parts.{ranks, run}
-use Rattle.smk_skip.proofs.Filters.{and_true, and_false, and_first, and_second, filter_none, filter_all, filter_filter}
+use Rattle.smk_skip.proofs.Filters.{and_true, and_false, and_first, and_second, filter_none, filter_all}
 
 -- a stretch of an order behind other rids
 stretch_at : (before rids after : List ℕ) (i : ℕ) → i < length rids → get_or ((before ++ rids) ++ after) (length before + i) 0 ≡ get_or rids i 0
@@ -42,7 +42,7 @@ run_is order before rids after A e =
     and_true (t (s + i)) (w (s + i)) (rw (le-leb s (s + i) (omega arith)) (lt-ltb (s + i) (s + n) (omega arith)))
     ∙ ap (λ z. has A (get_or z (s + i) 0)) e ∙ ap (has A) (stretch_at before rids after i l) in
     let kept : filter w (ranks order A) ≡ map (λ i. s + i) (places (λ i. g (s + i)) n) =
-    filter_filter t w (upto (length order))
+    filter_filter w t (upto (length order))
     ∙ ap (filter g) cut
     ∙ filter-append g (upto s ++ middle) last
     ∙ ap (λ z. z ++ filter g last) (filter-append g (upto s) middle)

@@ -57,19 +57,19 @@ fn table_names(alloc: Global, tables: &[TableInfo]) -> Result<Vec<Text>, AllocEr
 
 // The names of views and tables, which the faults of a start say.
 #[derive(Drop)]
-struct Names {
+struct BookNames {
     views: Vec<Text>,
     tables: Vec<Text>,
 }
 
 // The names of a book's views and tables.
-fn names_of(alloc: Global, catalog: &Catalog) -> Result<Names, AllocError>
+fn names_of(alloc: Global, catalog: &Catalog) -> Result<BookNames, AllocError>
     ensures views { IfOk result (λ names. names.views.items ≡ map (λ view. view.name) catalog.now.views) }
     ensures tables { IfOk result (λ names. names.tables.items ≡ map (λ table. table.name) catalog.now.tables) }
 {
     let views = view_names(alloc, catalog.views.as_slice())?;
     let tables = table_names(alloc, catalog.tables.as_slice())?;
-    Ok(Names { views, tables })
+    Ok(BookNames { views, tables })
 }
 
 // The name at a place, and the empty one past the last.
@@ -83,12 +83,12 @@ fn name_at(alloc: Global, names: Vec<Text>, place: u32) -> Text
 }
 
 // What a fault of a start says.
-fn stop_of(alloc: Global, names: Names, fault: StartFault) -> Stop
+fn stop_of(alloc: Global, names: BookNames, fault: StartFault) -> Stop
     ensures starts { (book : CatalogShape) (rows : List Relation) → IsStartFault fault (first_view_fault (workbook_image book rows))
         → names.views.items ≡ map (λ view. view.name) book.views → names.tables.items ≡ map (λ table. table.name) book.tables → Starts {X = StartedShape} (workbook_image book rows) (Err result) }
     ensures said { IsSayable {X = StartedShape} (Err result) }
 {
-    let Names { views, tables } = names;
+    let BookNames { views, tables } = names;
     match fault {
         StartFault::Rows { view, node } => {
             let view = name_at(alloc, views, view);

@@ -31,7 +31,7 @@ use Rattle.smk_model.specs.Selection.{ScansFit, PlanFits, leaf_kinds, plan_kinds
 use Rattle.smk_model.specs.Expanded.{IsNoDependency}
 use Rattle.smk_model.specs.Limits.{KeepsStmt, KeepsDecls, KeepsPlan, IsInRange, DefaultInRange, is_table, is_view}
 use Rattle.smk_model.specs.TypedSteps.{TypedPlan, typed_group}
-use Rattle.smk_model.specs.Typing.{stmt_after, nothing_declared, columns_of, info_at, no_table, table_named, view_named, typed_plan, declared_kind, declared_column, decl_after, table_after, view_of, view_after, typed_extra, same_back, back_after, same_fwd, fwd_after, same_link, linked_to, all_linked, to_after, link_after}
+use Rattle.smk_model.specs.Typing.{stmt_after, nothing_declared, columns_of, info_at, no_table, table_named, view_named, typed_plan, declared_kind, declared_column, decl_after, table_after, view_of, view_after, typed_extra, same_back, back_after, same_fwd, fwd_after, same_link, linked_to, all_links, to_after, link_after}
 use Rattle.smk_model.specs.Catalogs.{table_kinds, each_table_kinds, ViewFits, ExtraFits, BackFits, FwdFits, LinkFits, IsTyped}
 use Rattle.smk_typing.specs.Rest.{one_if}
 use Rattle.smk_typing.proofs.Results.{made_of, unless_ok, ok_keeps, in_turn_keeps}
@@ -131,7 +131,7 @@ to_more : (catalog : CatalogImage) (v t : ℕ) (old new : List ℕ) (word : Word
 to_more catalog v t old new word held any e =
     let w = made_of (view_named catalog.views word) _ new e in
     let other = unless_ok (nat_eq w.0 v) (SelfLink word.at) _ new w.2 in
-    let fresh = unless_ok (list_any (same_link (record { view = v; table = t; to = w.0 })) (all_linked catalog.links ++ linked_to v t old)) (RepeatedDeclaration word.at) (Ok (old ++ w.0 ∷ [])) new other.1 in
+    let fresh = unless_ok (list_any (same_link (record { view = v; table = t; to = w.0 })) (all_links catalog.links ++ linked_to v t old)) (RepeatedDeclaration word.at) (Ok (old ++ w.0 ∷ [])) new other.1 in
     ok_keeps (All (λ u. u < length catalog.views)) _ new fresh.1 (All-push (λ u. u < length catalog.views) old w.0 held (view_is catalog.views word w.0 w.1))
 
 -- one more statement

@@ -17,7 +17,7 @@ use Rattle.smk_base.specs.CatalogImage.{view_image}
 use Rattle.smk_base.specs.declared.book.limits.TheConstants.{TABLE_LIMIT}
 use Rattle.smk_base.specs.declared.rel.TheConstants.{COLUMN_LIMIT}
 use Rattle.smk_model.specs.Names.{unless}
-use Rattle.smk_model.specs.Typing.{Linked, same_form, same_back, same_fwd, same_link, all_linked, linked_to, view_named, to_after}
+use Rattle.smk_model.specs.Typing.{Link, same_form, same_back, same_fwd, same_link, all_links, linked_to, view_named, to_after}
 use Rattle.smk_typing.specs.declared.draft.form.Form.{Form}
 use Rattle.smk_typing.specs.contracts.draft.form.FormPartialEq.TheImpl.{ghosts}
 use Rattle.smk_typing.specs.Drafts.{over}
@@ -57,17 +57,17 @@ any_back back form backs e = rw e (any_key _ (same_back back) back_key (λ each.
 pub any_fwd : (fwd : Fwd) (fwds : List Fwd) → list_any (λ key. nat_eq fwd.table key.0 && nat_eq fwd.view key.1) (map fwd_key fwds) ≡ list_any (same_fwd fwd) fwds
 any_fwd fwd fwds = any_key _ (same_fwd fwd) fwd_key (λ each. refl) fwds
 
-any_link : (view table to : ℕ) (all : List Linked) → list_any (λ key. nat_eq view key.0 && nat_eq table key.1 && nat_eq to key.2) (map link_key all) ≡ list_any (same_link (record { view = view; table = table; to = to })) all
+any_link : (view table to : ℕ) (all : List Link) → list_any (λ key. nat_eq view key.0 && nat_eq table key.1 && nat_eq to key.2) (map link_key all) ≡ list_any (same_link (record { view = view; table = table; to = to })) all
 any_link view table to all = any_key _ (same_link (record { view = view; table = table; to = to })) link_key (λ each. refl) all
 
 -- links
 
-pub all_linked-push : (links : List LinkInfo) (link : LinkInfo) → all_linked (links ++ link ∷ []) ≡ all_linked links ++ linked_to link.view link.table link.to
-all_linked-push links link =
+pub all_links-push : (links : List LinkInfo) (link : LinkInfo) → all_links (links ++ link ∷ []) ≡ all_links links ++ linked_to link.view link.table link.to
+all_links-push links link =
     flat_map-append (λ each. linked_to each.view each.table each.to) links (link ∷ [])
-    ∙ ap (λ rest. all_linked links ++ rest) (append-nil (linked_to link.view link.table link.to))
+    ∙ ap (λ rest. all_links links ++ rest) (append-nil (linked_to link.view link.table link.to))
 
-pub linked_to-push : (links : List Linked) (view table : ℕ) (to : List ℕ) (w : ℕ) → map link_key (links ++ linked_to view table (to ++ w ∷ [])) ≡ map link_key (links ++ linked_to view table to) ++ (view, table, w) ∷ []
+pub linked_to-push : (links : List Link) (view table : ℕ) (to : List ℕ) (w : ℕ) → map link_key (links ++ linked_to view table (to ++ w ∷ [])) ≡ map link_key (links ++ linked_to view table to) ++ (view, table, w) ∷ []
 linked_to-push links view table to w =
     ap (λ more. map link_key (links ++ more)) (map-append (λ each. record { view = view; table = table; to = each }) to (w ∷ []))
     ∙ ap (map link_key) (sym (append_assoc links (linked_to view table to) _))
@@ -75,7 +75,7 @@ linked_to-push links view table to w =
 
 -- what one more linked view gives, where it is declared and isn't the first view, by the keys of the links
 pub to_after_is : (views : List ViewInfo) (links : List LinkInfo) (keys : List (ℕ × ℕ × ℕ)) (view table : ℕ) (to : List ℕ) (word : Word) (w : ℕ) (repeated : Bool) → view_named (map view_image views) word ≡ Ok w → nat_eq w view ≡ false
-    → keys ≡ map link_key (all_linked links ++ linked_to view table to) → list_any (λ key. nat_eq view key.0 && nat_eq table key.1 && nat_eq w key.2) keys ≡ repeated
+    → keys ≡ map link_key (all_links links ++ linked_to view table to) → list_any (λ key. nat_eq view key.0 && nat_eq table key.1 && nat_eq w key.2) keys ≡ repeated
     → to_after (over views links) view table to word ≡ unless repeated (RepeatedDeclaration word.at) (Ok (to ++ w ∷ []))
 to_after_is views links keys view table to word w repeated found other linked test =
-    rw (found, other, sym (any_link view table w (all_linked links ++ linked_to view table to)) ∙ rw linked at test) refl
+    rw (found, other, sym (any_link view table w (all_links links ++ linked_to view table to)) ∙ rw linked at test) refl

@@ -10,13 +10,13 @@ use Rattle.smk_model.specs.Asks.{AskPlan, chain}
 use Rattle.smk_model.specs.Names.{Typed as Found, unless, has_name}
 use Rattle.smk_model.specs.TypedSteps.{TypedPlan, TypedGroup, named}
 use Rattle.smk_typing.specs.declared.plan.typed.Typed.{Typed}
-use Rattle.smk_typing.specs.declared.plan.typed.Group.{Group}
+use Rattle.smk_typing.specs.declared.plan.typed.TypedGrouping.{TypedGrouping}
 use Rattle.smk_typing.specs.declared.steps.TypedSteps.{TypedSteps}
 
 abbrev pub plan_of : Typed → TypedPlan
 plan_of typed = record { plan = expr_of typed.plan; columns = typed.columns }
 
-abbrev pub group_of : Group → TypedGroup
+abbrev pub group_of : TypedGrouping → TypedGroup
 group_of group = record { keys = group.keys; aggs = group.aggs; columns = group.columns }
 
 -- one more part of a list, and its column under a new name

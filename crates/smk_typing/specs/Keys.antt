@@ -7,7 +7,7 @@ use Rattle.smk_base.specs.declared.book.catalog.BackExtra.{BackExtra}
 use Rattle.smk_base.specs.declared.book.catalog.BackExtra.TheVariants as extras
 use Rattle.smk_base.specs.declared.book.limits.TheConstants.{TABLE_LIMIT}
 use Rattle.smk_base.specs.declared.rel.TheConstants.{COLUMN_LIMIT}
-use Rattle.smk_model.specs.Typing.{Linked}
+use Rattle.smk_model.specs.Typing.{Link}
 use Rattle.smk_typing.specs.declared.draft.form.Form.{Form}
 use Rattle.smk_typing.specs.declared.draft.form.Form.TheVariants.{Plain, By, Grouped}
 
@@ -28,5 +28,5 @@ back_key back = (back.view, back.table, form_of back.extra)
 abbrev pub fwd_key : Fwd → ℕ × ℕ
 fwd_key fwd = (fwd.table, fwd.view)
 
-abbrev pub link_key : Linked → ℕ × ℕ × ℕ
+abbrev pub link_key : Link → ℕ × ℕ × ℕ
 link_key linked = (linked.view, linked.table, linked.to)

@@ -23,7 +23,7 @@ use crate::plan::lists::{typed_group, typed_items, typed_pairs};
 use crate::plan::places::{boxed, boxes, put};
 use crate::plan::predicate::typed_pred;
 use crate::plan::sides::{join_columns, united};
-use crate::plan::typed::{Group, Typed};
+use crate::plan::typed::{Typed, TypedGrouping};
 use smk_base::{
     AggTree, Columns, ItemTree, Op1, Op2, PairTree, Plan, PredTree, StepTree, TableInfo, Tree,
     TypeFault, Word,
@@ -145,7 +145,7 @@ fn group(
     ensures plan { Finds result (steps.grouped at (plan_of left.old) words.now trees.now) (λ _. plan_of left.new) }
     ensures width { OnOk result (length left.new.columns ≤ COLUMN_LIMIT) }
 {
-    let Group {
+    let TypedGrouping {
         keys,
         aggs,
         columns,

@@ -12,7 +12,7 @@ ghost use Rattle.smk_body.specs.Renumbered.{StandFor, key_total, numbers_from};
 use crate::find::by_text::{is_text_key, text_classes};
 use crate::find::classes::row_classes;
 use smk_base::Rel;
-use smk_found::Groups;
+use smk_found::Partition;
 use smk_jobs::{Crew, Work, cut_place, cut_range, in_parts};
 use smk_keys::Classes;
 use std::alloc::{AllocError, Global};
@@ -24,14 +24,14 @@ pub(crate) fn found_groups<R: Threads + Sync, C: Crew + Sync>(
     work: &Work<'_, R, C>,
     rel: &Rel,
     keys: &[u32],
-) -> Result<Groups, AllocError>
+) -> Result<Partition, AllocError>
     requires keys { All (λ c. c < length rel.now.kinds) keys.now }
     requires few_keys { length keys.now ≤ COLUMN_LIMIT }
     ensures { IfOk result (λ groups. groups ≡ classes_of (map (key_of keys.now) rel.now.rows)) }
 {
     let _rows = rel.len();
     let classes = key_classes(work, rel, keys)?;
-    Ok(Groups::new(classes))
+    Ok(Partition::new(classes))
 }
 
 // The same as classes: alone, or in threads.

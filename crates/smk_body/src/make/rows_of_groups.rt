@@ -14,7 +14,7 @@ ghost use Rattle.smk_body.specs.Parts.{AreAggsOf, ArePlacesOf, aggregates_of, co
 use crate::make::agg_columns::{agg_column, group_rows, sized_group_rows};
 use crate::make::gather::{both_of, columns_at};
 use smk_base::{Agg, Rel};
-use smk_found::{Groups, counted, sized_lists};
+use smk_found::{Partition, counted, sized_lists};
 use smk_jobs::{Crew, LEAST_ROWS, Work};
 use smk_rid::RidMap;
 use std::alloc::{AllocError, Global};
@@ -26,7 +26,7 @@ use std::thread::{Threads, join};
 pub(crate) fn firsts_and_turned(
     alloc: Global,
     rel: &Rel,
-    groups: &Groups,
+    groups: &Partition,
     asked: bool,
 ) -> Result<(Rel, Option<RidMap>), AllocError>
     requires { groups.now ≡ classes_of rel.now.rows }
@@ -43,7 +43,7 @@ pub(crate) fn firsts_and_turned(
 pub(crate) fn grouped_and_turned<R: Threads + Sync, C: Crew + Sync>(
     work: &Work<'_, R, C>,
     rel: &Rel,
-    groups: &Groups,
+    groups: &Partition,
     keys: &[u32],
     aggs: &[Agg],
     asked: bool,
@@ -65,7 +65,7 @@ pub(crate) fn grouped_and_turned<R: Threads + Sync, C: Crew + Sync>(
 fn grouped_alone(
     alloc: Global,
     rel: &Rel,
-    groups: &Groups,
+    groups: &Partition,
     keys: &[u32],
     aggs: &[Agg],
     asked: bool,
@@ -89,7 +89,7 @@ fn grouped_alone(
 fn sized_and_turned(
     alloc: Global,
     rel: &Rel,
-    groups: &Groups,
+    groups: &Partition,
     keys: &[u32],
     aggs: &[Agg],
 ) -> Result<(Rel, Option<RidMap>), AllocError>
@@ -112,7 +112,7 @@ fn sized_and_turned(
 fn grouped_beside<R: Threads + Sync, C: Crew + Sync>(
     work: &Work<'_, R, C>,
     rel: &Rel,
-    groups: &Groups,
+    groups: &Partition,
     keys: &[u32],
     aggs: &[Agg],
     asked: bool,
@@ -138,7 +138,7 @@ fn grouped_beside<R: Threads + Sync, C: Crew + Sync>(
 fn keys_and_aggs<R: Threads + Sync, C: Crew + Sync>(
     work: &Work<'_, R, C>,
     rel: &Rel,
-    groups: &Groups,
+    groups: &Partition,
     keys: &[u32],
     aggs: &[Agg],
 ) -> Result<Rel, AllocError>
@@ -165,7 +165,7 @@ fn keys_and_aggs<R: Threads + Sync, C: Crew + Sync>(
 fn agg_columns<R: Threads + Sync, C: Crew + Sync>(
     work: &Work<'_, R, C>,
     rel: &Rel,
-    groups: &Groups,
+    groups: &Partition,
     aggs: &[Agg],
 ) -> Result<Rel, AllocError>
     requires { AreAggsOf rel.now groups.now aggs.now }
@@ -189,7 +189,12 @@ fn agg_columns<R: Threads + Sync, C: Crew + Sync>(
 }
 
 // The same of one aggregate or none.
-fn few_columns(alloc: Global, rel: &Rel, groups: &Groups, aggs: &[Agg]) -> Result<Rel, AllocError>
+fn few_columns(
+    alloc: Global,
+    rel: &Rel,
+    groups: &Partition,
+    aggs: &[Agg],
+) -> Result<Rel, AllocError>
     requires aggs { AreAggsOf rel.now groups.now aggs.now }
     requires few { length aggs.now < 2 }
     ensures { IfOk result (λ made. made ≡ aggregates_of rel.now groups.now aggs.now) }

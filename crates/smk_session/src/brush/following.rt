@@ -12,12 +12,12 @@ ghost use Rattle.smk_base.specs.declared.reply.Linked.{Linked as LinkedImage};
 ghost use Rattle.std.specs.List.{list_any, sum_by};
 ghost use Rattle.smk_compose.specs.declared.fault.EvalFault.TheVariants as faults;
 ghost use Rattle.smk_session.specs.Answers.{Turns, rids_or_all, content_at};
-ghost use Rattle.smk_session.specs.Refreshed.{AreChoices, AreFollowed, FollowsAs, IsChosen, IsFetched, IsKept, IsReady, IsRefresh, IsSource, Names, book_at, contents_at, groups_table, linked_at, looks_now, marks_next, state_next, views_of};
+ghost use Rattle.smk_session.specs.Refreshed.{AreChoices, AreFollowed, FollowsAs, IsBrushed, IsFetched, IsKept, IsReady, IsRefresh, IsSource, Names, book_at, contents_at, groups_table, linked_at, looks_now, marks_next, state_next, views_of};
 ghost use Rattle.smk_session.specs.Sessions.{follows};
 
 use crate::answer::lineage::fwd_kept;
 use crate::answer::no_answer::Turned;
-use crate::brush::chosen::{Choice, choose, picks};
+use crate::brush::choices::{Choice, choose, picks};
 use crate::brush::evaluating::{Fetched, Source, evaluate};
 use crate::brush::links::{follows_some, linked};
 use crate::brush::refresh::Refresh;
@@ -76,7 +76,7 @@ fn marks_now(
     requires refresh { IsRefresh refresh.now }
     requires view { w < length refresh.now.held.now.catalog.now.views }
     requires declared { declares_fwd (book_at refresh.now) w refresh.now.table ≡ true }
-    requires chosen { IsChosen refresh.now w chosen.now }
+    requires chosen { IsBrushed refresh.now w chosen.now }
     ensures { IfOk result (λ marks. marks ≡ marks_next refresh.now w) }
 {
     let map = declared_map(refresh, w);
@@ -128,7 +128,7 @@ fn fetch_marks<'a, L: Ledger>(
     requires view { w < length refresh.now.held.now.catalog.now.views }
     requires kept { IsKept refresh.now.held.now w view }
     requires table { refresh.now.table ≡ selected_table (expr_of view.plan.chain.now) }
-    requires chosen { IsChosen refresh.now w chosen.now }
+    requires chosen { IsBrushed refresh.now w chosen.now }
     ensures source { IfOk result (IsSource refresh.now w) }
     ensures ready { IfOk result IsReady }
     ensures looks { steps.new ≤ steps.old + looks_now refresh.now w }
@@ -181,7 +181,7 @@ fn fetch_source<'a, L: Ledger>(
     requires refresh { IsRefresh refresh.now }
     requires view { w < length refresh.now.held.now.catalog.now.views }
     requires declared { declares_fwd (book_at refresh.now) w refresh.now.table ≡ true }
-    requires chosen { IsChosen refresh.now w chosen.now }
+    requires chosen { IsBrushed refresh.now w chosen.now }
     ensures source { IfOk result (IsSource refresh.now w) }
     ensures ready { IfOk result IsReady }
     ensures looks { steps.new ≤ steps.old + looks_now refresh.now w }

@@ -45,7 +45,7 @@ struct Asked<'a> {
 
 // What a declaration asks for besides the rows.
 #[derive(Drop)]
-struct Made {
+struct SplitOrCubes {
     split: Option<Split>,
     cubes: Option<Cubes>,
 }
@@ -157,27 +157,27 @@ fn made_cubes(
 }
 
 // What a declaration asks for besides the rows.
-fn make(alloc: Global, opened: &Opening<'_>, asked: Asked<'_>) -> Result<Made, AllocError>
+fn make(alloc: Global, opened: &Opening<'_>, asked: Asked<'_>) -> Result<SplitOrCubes, AllocError>
     requires opened { IsOpened opened.now }
     requires asked { IsAsked opened.now.book.now opened.now.tables.now asked }
     ensures { MakesAs (book_in opened.now) asked.entry result }
 {
     let declared = asked.declared;
     match &declared.extra {
-        BackExtra::Plain => Ok(Made {
+        BackExtra::Plain => Ok(SplitOrCubes {
             split: None,
             cubes: None,
         }),
         BackExtra::By(col) => {
             let split = made_split(alloc, opened, &asked, *col)?;
-            Ok(Made {
+            Ok(SplitOrCubes {
                 split: Some(split),
                 cubes: None,
             })
         }
         BackExtra::Grouped { keys, aggs, .. } => {
             let cubes = made_cubes(alloc, opened, asked, keys, aggs)?;
-            Ok(Made {
+            Ok(SplitOrCubes {
                 split: None,
                 cubes: Some(cubes),
             })
@@ -186,11 +186,11 @@ fn make(alloc: Global, opened: &Opening<'_>, asked: Asked<'_>) -> Result<Made, A
 }
 
 // Puts last what a declaration asks for besides the rows.
-fn put_made(extras: &mut Extras, made: Made) -> Result<(), AllocError>
+fn put_made(extras: &mut Extras, made: SplitOrCubes) -> Result<(), AllocError>
     ensures splits { OnOk result (extras.new.splits.items ≡ extras.old.splits.items ++ option_to_list made.split) }
     ensures cubes { OnOk result (extras.new.cubes.items ≡ extras.old.cubes.items ++ option_to_list made.cubes) }
 {
-    let Made { split, cubes } = made;
+    let SplitOrCubes { split, cubes } = made;
     if let Some(split) = split {
         extras.splits.push(split)?;
     }
@@ -222,7 +222,7 @@ fn put_each<R: Threads + Sync>(
         alloc,
         most,
         all,
-        &|asked: Asked<'_>| -> Result<Made, AllocError>
+        &|asked: Asked<'_>| -> Result<SplitOrCubes, AllocError>
             requires { AreNow book.now tables.now views.now fresh.now × IsAsked book.now tables.now asked }
             ensures { MakesAs (workbook_image book.entry.now tables.entry.now) asked.entry result }
         {

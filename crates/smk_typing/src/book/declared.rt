@@ -8,7 +8,7 @@ ghost use Rattle.smk_typing.specs.Answers.{Finds};
 
 use crate::plan::columns::{column_named, is_same_sort, kind_of_value};
 use crate::plan::lists::typed_group;
-use crate::plan::typed::Group;
+use crate::plan::typed::TypedGrouping;
 use smk_base::{
     BackExtra, ColDecl, ColDecls, ColNames, Column, Decl, Extra, Kind, Kinds, TypeFault, Value,
     Word,
@@ -121,7 +121,7 @@ pub fn names_and_kinds(alloc: Global, columns: &[Column]) -> Result<(ColNames, K
 }
 
 /// What a backward declaration with a grouping asks for.
-fn grouped(alloc: Global, group: Group) -> Result<BackExtra, TypeFault>
+fn grouped(alloc: Global, group: TypedGrouping) -> Result<BackExtra, TypeFault>
     ensures { Finds result (Ok (Grouped group.keys group.aggs (names_of group.columns) (kinds_of group.columns))) (λ asked. asked) }
 {
     match names_and_kinds(alloc, group.columns.as_slice()) {

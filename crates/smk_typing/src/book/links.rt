@@ -1,7 +1,7 @@
 ghost use Rattle.std.specs.Prelude.{◌≡◌, ◌++◌, [], map, IfOk, OnOk};
 ghost use Rattle.smk_model.specs.Names.{in_turn};
 ghost use Rattle.smk_model.specs.Typing as typing;
-ghost use Rattle.smk_model.specs.Typing.{all_linked, linked_to};
+ghost use Rattle.smk_model.specs.Typing.{all_links, linked_to};
 ghost use Rattle.smk_typing.specs.Answers.{Finds};
 ghost use Rattle.smk_typing.specs.Drafts.{over, links_after};
 ghost use Rattle.smk_typing.specs.Keys.{link_key};
@@ -30,14 +30,14 @@ struct Source {
 impl Model for Links {
     ghost use Rattle.std.specs.Prelude.{◌≡◌, List, map};
     ghost use Rattle.smk_base.specs.declared.book.catalog.LinkInfo.{LinkInfo};
-    ghost use Rattle.smk_model.specs.Typing.{all_linked};
+    ghost use Rattle.smk_model.specs.Typing.{all_links};
     ghost use Rattle.smk_typing.specs.Keys.{link_key};
 
     ghost Value = { List LinkInfo };
 
     ghost view = { λ a. a.infos };
 
-    ghost invariant = { λ a. a.keys.keys ≡ map link_key (all_linked a.infos) };
+    ghost invariant = { λ a. a.keys.keys ≡ map link_key (all_links a.infos) };
 }
 
 impl Links {
@@ -95,9 +95,9 @@ fn add_to(
     to: &mut Rids,
     word: &Word,
 ) -> Result<(), TypeFault>
-    requires { keys.old.keys ≡ map link_key (all_linked links.now ++ linked_to from.view from.table to.old) }
+    requires { keys.old.keys ≡ map link_key (all_links links.now ++ linked_to from.view from.table to.old) }
     ensures after { Finds result (typing.to_after (over views.now links.now) from.view from.table to.old word.now) (λ _. to.new) }
-    ensures keys { OnOk result (keys.new.keys ≡ map link_key (all_linked links.now ++ linked_to from.view from.table to.new)) }
+    ensures keys { OnOk result (keys.new.keys ≡ map link_key (all_links links.now ++ linked_to from.view from.table to.new)) }
 {
     let number = view_named(views, word)?;
     if number == from.view {
@@ -122,9 +122,9 @@ fn add_each(
     words: &[Word],
 ) -> Result<(), TypeFault>
     requires none { to.old ≡ [] }
-    requires keys { keys.old.keys ≡ map link_key (all_linked links.now) }
+    requires keys { keys.old.keys ≡ map link_key (all_links links.now) }
     ensures to { Finds result (in_turn (typing.to_after (over views.now links.now) from.view from.table) [] words.now) (λ _. to.new) }
-    ensures keys { OnOk result (keys.new.keys ≡ map link_key (all_linked links.now ++ linked_to from.view from.table to.new)) }
+    ensures keys { OnOk result (keys.new.keys ≡ map link_key (all_links links.now ++ linked_to from.view from.table to.new)) }
 {
     for word in words {
         add_to(views, links, keys, from, to, word)?;
@@ -141,9 +141,9 @@ fn add_link(
     from: Source,
     words: &[Word],
 ) -> Result<(), TypeFault>
-    requires { keys.old.keys ≡ map link_key (all_linked infos.old) }
+    requires { keys.old.keys ≡ map link_key (all_links infos.old) }
     ensures links { Finds result (links_after views.now infos.old from.view from.table words.now) (λ _. infos.new) }
-    ensures keys { OnOk result (keys.new.keys ≡ map link_key (all_linked infos.new)) }
+    ensures keys { OnOk result (keys.new.keys ≡ map link_key (all_links infos.new)) }
 {
     let mut to = Rids::new(alloc);
     match add_each(views, infos.as_slice(), keys, from, &mut to, words) {

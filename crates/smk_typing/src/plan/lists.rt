@@ -5,7 +5,7 @@ ghost use Rattle.smk_typing.specs.Answers.{Finds};
 ghost use Rattle.smk_typing.specs.Images.{group_of, part_after};
 
 use crate::plan::columns::{column_named, has_column, is_same_sort};
-use crate::plan::typed::Group;
+use crate::plan::typed::TypedGrouping;
 use smk_base::{
     Agg, AggTree, AggWhat, Aggs, COLUMN_LIMIT, Column, Columns, Item, ItemTree, Items, Keys, Kind,
     ListOf, PairTree, Pairs, TypeFault, Word,
@@ -184,7 +184,7 @@ fn add_aggs(
 }
 
 /// Whether a grouping of this width stands as a whole, at the place of `group`.
-fn whole_group(at: u64, group: &Group) -> Result<(), TypeFault>
+fn whole_group(at: u64, group: &TypedGrouping) -> Result<(), TypeFault>
     ensures group { Finds result (steps.whole_group at group.now.keys group.now.aggs group.now.columns) (λ _. group_of group.now) }
     ensures width { OnOk result (length group.now.columns ≤ COLUMN_LIMIT) }
 {
@@ -205,7 +205,7 @@ fn fill_group(
     at: u64,
     words: &[Word],
     trees: &[AggTree],
-    group: &mut Group,
+    group: &mut TypedGrouping,
 ) -> Result<(), TypeFault>
     requires few { length columns.now ≤ COLUMN_LIMIT }
     requires none { group_of group.old ≡ record { keys = []; aggs = []; columns = [] } }
@@ -224,12 +224,12 @@ pub fn typed_group(
     at: u64,
     words: &[Word],
     trees: &[AggTree],
-) -> Result<Group, TypeFault>
+) -> Result<TypedGrouping, TypeFault>
     requires { length columns.now ≤ COLUMN_LIMIT }
     ensures group { Finds result (steps.typed_group columns.now at words.now trees.now) group_of }
     ensures width { IfOk result (λ group. length group.columns ≤ COLUMN_LIMIT) }
 {
-    let mut group = Group {
+    let mut group = TypedGrouping {
         keys: Keys::new(alloc),
         aggs: Aggs::new(alloc),
         columns: Columns::new(alloc),

@@ -9,7 +9,7 @@ pub struct Typed {
 
 /// A grouping: its keys, its aggregates, and the columns that it makes.
 #[derive(Drop)]
-pub struct Group {
+pub struct TypedGrouping {
     pub keys: Keys,
     pub aggs: Aggs,
     pub columns: Columns,

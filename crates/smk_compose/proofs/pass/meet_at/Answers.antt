@@ -17,13 +17,13 @@ returns-in_err-pass_at-2-clause-many c =
 
 pub returns-clause-made : goal.returns-clause-made
 returns-clause-made c =
-    on_ok_weaker c.join_maps.result
-    (met_at c.args.left_side.now c.args.right_side.now c.args.lefts.now c.args.rights.now c.pass_at.new.maps c.pass_at-2.new.maps c.args.i c.index-lefts-i.result c.index-rights-i.result c.join_maps.new.left
+    on_ok_weaker c.merge_maps.result
+    (met_at c.args.left_side.now c.args.right_side.now c.args.lefts.now c.args.rights.now c.pass_at.new.maps c.pass_at-2.new.maps c.args.i c.index-lefts-i.result c.index-rights-i.result c.merge_maps.new.left
     c.requires.left_place c.requires.right_place c.in_ok-pass_at.ensures.made c.in_ok-pass_at-2.ensures.made)
-    c.join_maps.ensures.made
+    c.merge_maps.ensures.made
 
 pub returns-clause-rest : goal.returns-clause-rest
 returns-clause-rest c = grind (arith, common_steps)
 
-pub join_maps-requires : goal.join_maps-requires
-join_maps-requires c = grind (arith, common_steps)
+pub merge_maps-requires : goal.merge_maps-requires
+merge_maps-requires c = grind (arith, common_steps)

@@ -12,28 +12,28 @@ pub source-returns-in_ok-expect-in-Open-clause-is : goal.source-returns-in_ok-ex
 source-returns-in_ok-expect-in-Open-clause-is t c = inner_plan (first_here kinds.Open _ c.args.reader.now c.advance.new.self c.advance.ensures (sym c.in-Open.ensures.is)) c.in_ok-inner-in-Open.ensures.is c.in_ok-expect-in-Open.ensures.is
 
 pub step-returns-clause-reads : goal.step-returns-clause-reads
-step-returns-clause-reads t c = step_reads c.args.depth c.kind-kind.result c.args.reader.now c.take_node.new.reader c.parts.new.reader c.parts.result c.kind-kind.ensures.is (sym (c.if-not-is_step.ensures.step c.args.depth)) c.in_ok-take_node.ensures.taken c.in_ok-take_node.ensures.few c.parts.ensures.reads
+step-returns-clause-reads t c = step_reads c.args.depth c.kind-kind.result c.args.reader.now c.take_node.new.reader c.operands.new.reader c.operands.result c.kind-kind.ensures.is (sym (c.if-not-is_step.ensures.step c.args.depth)) c.in_ok-take_node.ensures.taken c.in_ok-take_node.ensures.few c.operands.ensures.reads
 
-pub parts-returns-in_ok-aggs-in-Group-clause-is : goal.parts-returns-in_ok-aggs-in-Group-clause-is
-parts-returns-in_ok-aggs-in-Group-clause-is t c = λ a u h. group_step (subst (λ k. First k u a c.args.reader.now.rest) c.in-Group.is h) c.in_ok-keys-in-Group.ensures.is c.in_ok-aggs-in-Group.ensures.is
+pub operands-returns-in_ok-aggs-in-Group-clause-is : goal.operands-returns-in_ok-aggs-in-Group-clause-is
+operands-returns-in_ok-aggs-in-Group-clause-is t c = λ a u h. group_step (subst (λ k. First k u a c.args.reader.now.rest) c.in-Group.is h) c.in_ok-keys-in-Group.ensures.is c.in_ok-aggs-in-Group.ensures.is
 
-pub parts-returns-in_ok-source-in-Product-clause-is : goal.parts-returns-in_ok-source-in-Product-clause-is
-parts-returns-in_ok-source-in-Product-clause-is t c = λ a u h. product_step (subst (λ k. First k u a c.args.reader.now.rest) c.in-Product.is h) c.in_ok-source-in-Product.ensures.is
+pub operands-returns-in_ok-source-in-Product-clause-is : goal.operands-returns-in_ok-source-in-Product-clause-is
+operands-returns-in_ok-source-in-Product-clause-is t c = λ a u h. product_step (subst (λ k. First k u a c.args.reader.now.rest) c.in-Product.is h) c.in_ok-source-in-Product.ensures.is
 
-pub parts-returns-in_ok-listed-in-Join-clause-is : goal.parts-returns-in_ok-listed-in-Join-clause-is
-parts-returns-in_ok-listed-in-Join-clause-is t c = λ a u h. join_step (subst (λ k. First k u a c.args.reader.now.rest) c.in-Join.is h) c.in_ok-right-in-Join.ensures.is c.in_ok-expect-in-Join.ensures.is c.in_ok-listed-in-Join.ensures.is
+pub operands-returns-in_ok-listed-in-Join-clause-is : goal.operands-returns-in_ok-listed-in-Join-clause-is
+operands-returns-in_ok-listed-in-Join-clause-is t c = λ a u h. join_step (subst (λ k. First k u a c.args.reader.now.rest) c.in-Join.is h) c.in_ok-right-in-Join.ensures.is c.in_ok-expect-in-Join.ensures.is c.in_ok-listed-in-Join.ensures.is
 
-pub parts-returns-in_ok-pred-in-Theta-clause-is : goal.parts-returns-in_ok-pred-in-Theta-clause-is
-parts-returns-in_ok-pred-in-Theta-clause-is t c = λ a u h. theta_step (subst (λ k. First k u a c.args.reader.now.rest) c.in-Theta.is h) c.in_ok-right-in-Theta.ensures.is c.in_ok-on-in-Theta.ensures.is (subst (λ p. IsPred c.on.new.reader.rest c.pred-in-Theta.new.reader.rest (pred_image p)) (sym c.into_inner-pred.ensures) c.in_ok-pred-in-Theta.ensures.is)
+pub operands-returns-in_ok-pred-in-Theta-clause-is : goal.operands-returns-in_ok-pred-in-Theta-clause-is
+operands-returns-in_ok-pred-in-Theta-clause-is t c = λ a u h. theta_step (subst (λ k. First k u a c.args.reader.now.rest) c.in-Theta.is h) c.in_ok-right-in-Theta.ensures.is c.in_ok-on-in-Theta.ensures.is (subst (λ p. IsPred c.on.new.reader.rest c.pred-in-Theta.new.reader.rest (pred_image p)) (sym c.into_inner-pred.ensures) c.in_ok-pred-in-Theta.ensures.is)
 
-pub parts-returns-in_ok-source-in-All-clause-is : goal.parts-returns-in_ok-source-in-All-clause-is
-parts-returns-in_ok-source-in-All-clause-is t c = λ a u h. union_all_step (subst (λ k. First k u a c.args.reader.now.rest) c.in-Union.is h) (first_here kinds.All _ c.args.reader.now c.advance.new.self c.advance.ensures (sym c.in-All.ensures.is)) c.in_ok-source-in-All.ensures.is
+pub operands-returns-in_ok-source-in-All-clause-is : goal.operands-returns-in_ok-source-in-All-clause-is
+operands-returns-in_ok-source-in-All-clause-is t c = λ a u h. union_all_step (subst (λ k. First k u a c.args.reader.now.rest) c.in-Union.is h) (first_here kinds.All _ c.args.reader.now c.advance.new.self c.advance.ensures (sym c.in-All.ensures.is)) c.in_ok-source-in-All.ensures.is
 
-pub parts-returns-in_ok-source-in_default-kind : goal.parts-returns-in_ok-source-in_default-kind
-parts-returns-in_ok-source-in_default-kind t c = record { reads = λ l e. subst (λ s. Leads s c.args.reader.now c.source-in_default-kind.new.reader) (ap (λ o. unwrap_or o []) (sym (ap (step_symbols c.args.depth) c.in-Union.is) ∙ e)) (started_leads (AUnited c.args.depth) (ASource c.args.depth ∷ []) c.args.reader.now c.source-in_default-kind.new.reader c.in_ok-source-in_default-kind.ensures.reads c.kind.ensures.here (united_starts (λ x. c.in_default-kind.not-All (c.kind.ensures.is ∙ x)))); is = λ a u h. union_step (subst (λ k. First k u a c.args.reader.now.rest) c.in-Union.is h) c.in_ok-source-in_default-kind.ensures.is }
+pub operands-returns-in_ok-source-in_default-kind : goal.operands-returns-in_ok-source-in_default-kind
+operands-returns-in_ok-source-in_default-kind t c = record { reads = λ l e. subst (λ s. Leads s c.args.reader.now c.source-in_default-kind.new.reader) (ap (λ o. unwrap_or o []) (sym (ap (step_symbols c.args.depth) c.in-Union.is) ∙ e)) (started_leads (AUnited c.args.depth) (ASource c.args.depth ∷ []) c.args.reader.now c.source-in_default-kind.new.reader c.in_ok-source-in_default-kind.ensures.reads c.kind.ensures.here (united_starts (λ x. c.in_default-kind.not-All (c.kind.ensures.is ∙ x)))); is = λ a u h. union_step (subst (λ k. First k u a c.args.reader.now.rest) c.in-Union.is h) c.in_ok-source-in_default-kind.ensures.is }
 
-pub parts-returns-in_err-source-in_default-kind : goal.parts-returns-in_err-source-in_default-kind
-parts-returns-in_err-source-in_default-kind t c = let p = err_from_is_err_and c.from_residual-in_err-source-in_default-kind.result c.from_residual-in_err-source-in_default-kind.ensures.1 in rw (p.1, p.2) (record { reads = λ l e. subst (λ s. Fails s c.args.reader.now c.in_err-source-in_default-kind.field-0.0) (ap (λ o. unwrap_or o []) (sym (ap (step_symbols c.args.depth) c.in-Union.is) ∙ e)) (started_fails (AUnited c.args.depth) (ASource c.args.depth ∷ []) c.args.reader.now _ c.in_err-source-in_default-kind.ensures.reads c.kind.ensures.here (united_starts (λ x. c.in_default-kind.not-All (c.kind.ensures.is ∙ x)))); is = tt })
+pub operands-returns-in_err-source-in_default-kind : goal.operands-returns-in_err-source-in_default-kind
+operands-returns-in_err-source-in_default-kind t c = let p = err_from_is_err_and c.from_residual-in_err-source-in_default-kind.result c.from_residual-in_err-source-in_default-kind.ensures.1 in rw (p.1, p.2) (record { reads = λ l e. subst (λ s. Fails s c.args.reader.now c.in_err-source-in_default-kind.field-0.0) (ap (λ o. unwrap_or o []) (sym (ap (step_symbols c.args.depth) c.in-Union.is) ∙ e)) (started_fails (AUnited c.args.depth) (ASource c.args.depth ∷ []) c.args.reader.now _ c.in_err-source-in_default-kind.ensures.reads c.kind.ensures.here (united_starts (λ x. c.in_default-kind.not-All (c.kind.ensures.is ∙ x)))); is = tt })
 
 pub plan-returns : goal.plan-returns
 plan-returns t c = record { reads = search rules; is = c.steps.invariant.is _ _ no_step }

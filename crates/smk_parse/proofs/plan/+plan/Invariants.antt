@@ -6,8 +6,8 @@ use Rattle.smk_parse.proofs.plan.+plan.Given as goal
 abbrev pub decreases-source : goal.decreases-source
 decreases-source l = (DEPTH_LIMIT - l.depth) * 4
 
-abbrev pub decreases-parts : goal.decreases-parts
-decreases-parts l = (DEPTH_LIMIT - l.depth) * 4 + 1
+abbrev pub decreases-operands : goal.decreases-operands
+decreases-operands l = (DEPTH_LIMIT - l.depth) * 4 + 1
 
 abbrev pub decreases-step : goal.decreases-step
 decreases-step l = (DEPTH_LIMIT - l.depth) * 4 + 2

@@ -1,7 +1,7 @@
 use Rattle.std.proofs.Common.{◌≡◌, ℕ, ◌<◌, ◌≤◌, get_or, length, take}
 use Rattle.std.specs.List.{filter}
 use Rattle.smk_base.specs.Places.{has}
-use Rattle.smk_session.proofs.brush.chosen.passed_of.Given as goal
+use Rattle.smk_rid.proofs.derive.intersect.passed_of.Given as goal
 
 -- what both have so far; the others that are passed are less than the ones that come
 abbrev pub invariant-loop-rid : goal.invariant-loop-rid

@@ -2,11 +2,11 @@ use Rattle.std.proofs.Common.{◌≡◌, ◌∙◌, ◌++◌, ◌∷◌, ◌+◌
 use Rattle.std.proofs.lemmas.Grind.{common_steps}
 use Rattle.smk_base.specs.Picks.{ArePicks}
 use Rattle.smk_base.specs.declared.list.table_rids.Pick.{Pick}
-use Rattle.smk_session.specs.Answers.{picks_chosen, state_at, book_of}
+use Rattle.smk_session.specs.Answers.{picks_brushed, state_at, book_of}
 use Rattle.smk_session.proofs.Followers.{pick_more, pick_none, rids_rise}
 use Rattle.smk_session.proofs.Selected.{are_picks}
-use Rattle.smk_session.proofs.brush.chosen.picks.Goals as goal
-use Rattle.smk_session.proofs.brush.chosen.picks.Goals.{in-Some+in_ok-push, in_default}
+use Rattle.smk_session.proofs.brush.choices.picks.Goals as goal
+use Rattle.smk_session.proofs.brush.choices.picks.Goals.{in-Some+in_ok-push, in_default}
 
 pub chosen-requires : goal.chosen-requires
 chosen-requires c = rids_rise c.args.held.now.catalog.now c.args.held.now.tables.now c.args.brushes.now c.requires.fit
@@ -14,7 +14,7 @@ chosen-requires c = rids_rise c.args.held.now.catalog.now c.args.held.now.tables
 pub push-requires : goal.push-requires
 push-requires c =
     let held = c.args.held.now in
-    let next : c.loop-t.picks ++ record { table = c.loop-t.t; rids = c.in-Some.rids } ∷ [] ≡ picks_chosen (book_of held) (state_at held c.args.brushes.now) c.args.w (c.loop-t.t + 1) =
+    let next : c.loop-t.picks ++ record { table = c.loop-t.t; rids = c.in-Some.rids } ∷ [] ≡ picks_brushed (book_of held) (state_at held c.args.brushes.now) c.args.w (c.loop-t.t + 1) =
     pick_more held.catalog.now held.tables.now c.args.brushes.now c.args.w c.loop-t.t c.in_ok-rids.field-0 c.in-Some.rids c.loop-t.picks c.requires.fit c.in_ok-rids.ensures c.in-Some.is c.loop-t.invariant in
     subst (λ (picks : List Pick). ArePicks picks) (sym next) (are_picks (book_of held) (state_at held c.args.brushes.now) c.args.w (c.loop-t.t + 1))
 

@@ -2,14 +2,13 @@
 use Rattle.std.proofs.Common.{◌≡◌, ℕ, ◌+◌, ◌<◌, ◌≤◌, ◌-◌, ◌&&◌, refl, All, Bool, true, false, cond, List, [], ◌∷◌, ◌++◌, length, take, get_or, ap, sym, ◌∙◌, arith, nat_eq, inl, inr}
 use Rattle.std.specs.List.{filter}
 use Rattle.std.proofs.lemmas.Bool.{cases_lt, eq-eqb, ne_eqb}
-use Rattle.std.proofs.lemmas.List.{append-nil, get_or_default, take_more}
-use Rattle.std.proofs.lemmas.List.Elements.{All-weaker, filter-append}
+use Rattle.std.proofs.lemmas.List.{append-nil, get_or_default}
+use Rattle.std.proofs.lemmas.List.Elements.{All-weaker, filter_more}
 use Rattle.std.proofs.lemmas.List.Folds.{list_any_at, list_any_none}
 use Rattle.smk_base.specs.Picks.{IsAscending}
 use Rattle.smk_base.specs.Places.{has, IsPlaces, upto}
-use Rattle.smk_base.proofs.Places.{same_below}
-use Rattle.smk_model.proofs.Selections.{filter_filter}
-use Rattle.smk_session.proofs.Rids.{ascending_places}
+use Rattle.smk_base.proofs.Places.{filter_filter, same_below}
+use Rattle.smk_rid.proofs.Rising.{ascending_places}
 
 has_there : (others : List ℕ) (place x : ℕ) → place < length others → get_or others place 0 ≡ x → has others x ≡ true
 has_there others place x low is = list_any_at (nat_eq x) others place 0 low (eq-eqb x (get_or others place 0) (sym is))
@@ -28,9 +27,7 @@ has_none others place x rises less more = list_any_none (nat_eq x) others (λ k 
     ]
 
 one_more : (others ones : List ℕ) (i x : ℕ) (b : Bool) → i < length ones → x ≡ get_or ones i 0 → has others x ≡ b → filter (has others) (take (i + 1) ones) ≡ filter (has others) (take i ones) ++ cond b (x ∷ []) []
-one_more others ones i x b low is has_is =
-    ap (filter (has others)) (take_more ones i 0 low ∙ ap (λ y. take i ones ++ y ∷ []) (sym is)) ∙ filter-append (has others) (take i ones) (x ∷ [])
-    ∙ ap (λ c. filter (has others) (take i ones) ++ cond c (x ∷ []) []) has_is
+one_more others ones i x b low is has_is = filter_more (has others) ones i 0 low ∙ rw (← is, has_is) refl
 
 pub common_more : (others ones made : List ℕ) (i x place : ℕ) → i < length ones → x ≡ get_or ones i 0 → place < length others → get_or others place 0 ≡ x → made ≡ filter (has others) (take i ones)
     → made ++ x ∷ [] ≡ filter (has others) (take (i + 1) ones)

@@ -1,6 +1,6 @@
 ghost use Rattle.std.specs.Prelude.{◌≡◌, IfOk, length};
 ghost use Rattle.smk_base.specs.Places.{inverted};
-ghost use Rattle.smk_found.specs.Bounds.{AreGroups};
+ghost use Rattle.smk_found.specs.Bounds.{IsPartition};
 ghost use Rattle.smk_found.specs.Findings.{side_by_targets};
 ghost use Rattle.smk_found.specs.Locals.{wanted};
 ghost use Rattle.smk_model.specs.Locals.{singles};
@@ -15,34 +15,34 @@ use std::marker::Model;
 
 /// The group of each row of an input. Contracts see them as classes.
 #[derive(Drop)]
-pub struct Groups {
+pub struct Partition {
     classes: Classes,
 }
 
-impl Model for Groups {
-    ghost use Rattle.smk_found.specs.Bounds.{AreGroups};
+impl Model for Partition {
+    ghost use Rattle.smk_found.specs.Bounds.{IsPartition};
     ghost use Rattle.smk_keys.specs.Classes.{ClassesImage};
 
     ghost Value = { ClassesImage };
 
     ghost view = { λ a. a.classes };
 
-    ghost invariant = { λ a. AreGroups a.classes };
+    ghost invariant = { λ a. IsPartition a.classes };
 }
 
-impl Groups {
+impl Partition {
     /// These classes of the rows of an input. It takes no memory.
-    pub fn new(classes: Classes) -> Groups
-        requires { AreGroups classes }
+    pub fn new(classes: Classes) -> Partition
+        requires { IsPartition classes }
         ensures { result ≡ classes }
     {
-        Groups { classes }
+        Partition { classes }
     }
 
     /// The groups as classes. It takes no memory.
     pub fn classes(&self) -> &Classes
         ensures same { result.now ≡ self.now }
-        ensures keeps { AreGroups self.now }
+        ensures keeps { IsPartition self.now }
     {
         &self.classes
     }

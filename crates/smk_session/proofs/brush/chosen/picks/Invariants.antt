@@ -1,6 +1,0 @@
-use Rattle.std.proofs.Common.{◌≡◌}
-use Rattle.smk_session.specs.Answers.{book_of, picks_chosen, state_at}
-use Rattle.smk_session.proofs.brush.chosen.picks.Given as goal
-
-abbrev pub invariant-loop-t : goal.invariant-loop-t
-invariant-loop-t l = l.picks ≡ picks_chosen (book_of l.held) (state_at l.held l.brushes) l.w l.t

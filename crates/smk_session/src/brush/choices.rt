@@ -1,0 +1,124 @@
+// The rows that brushes select for a view.
+ghost use Rattle.std.specs.Prelude.{◌≡◌, ◌<◌, ℕ, length, slice_index_or, All, IfOk, IfNone, IfSome, OnOk};
+ghost use Rattle.std.specs.Bool.{OnTrue, OnFalse};
+ghost use Rattle.smk_base.specs.CatalogImage.{catalog_image};
+ghost use Rattle.smk_base.specs.Picks.{IsAscending};
+ghost use Rattle.smk_session.specs.Answers.{AreAlike, AreOn, IsChoice, IsLent, book_of, state_at, brushed_of, narrowed_by, picks_brushed};
+ghost use Rattle.smk_session.specs.Sessions.{BrushFits};
+
+use crate::brush::links::concerns;
+use crate::lent::Lent;
+use smk_base::{BrushOn, Catalog, Pick, Picks, Rids};
+use smk_rid::intersection;
+use std::alloc::{AllocError, Global};
+
+// The rids that are left of those chosen so far under one more brush.
+fn narrowed(alloc: Global, chosen: Option<Rids>, rids: &Rids) -> Result<Rids, AllocError>
+    requires chosen { IfSome chosen IsAscending }
+    requires rids { IsAscending rids.now }
+    ensures { IfOk result (λ made. made ≡ narrowed_by chosen rids.now) }
+{
+    match chosen {
+        Some(chosen) => intersection(alloc, chosen.as_slice(), rids.as_slice()),
+        None => rids.copy(alloc),
+    }
+}
+
+// The rids of a table that brushes select for a view: none where no brush concerns it.
+fn brushed(
+    alloc: Global,
+    catalog: &Catalog,
+    brushes: &[BrushOn],
+    w: u32,
+    t: u32,
+) -> Result<Option<Rids>, AllocError>
+    requires { All (λ brush. IsAscending brush.rids) brushes.now }
+    ensures { IfOk result (λ rids. (n : ℕ) → AreOn t n brushes.now → rids ≡ brushed_of (catalog_image catalog.now) brushes.now w t n) }
+{
+    let mut chosen = None;
+    for brush in brushes {
+        if concerns(catalog, w, t, brush) {
+            chosen = Some(narrowed(alloc, chosen, &brush.rids)?);
+        }
+    }
+    Ok(chosen)
+}
+
+// The rids of a table that brushes select for a view: none where no brush concerns it.
+#[derive(Drop)]
+pub(crate) struct Choice {
+    pub(crate) view: u32,
+    pub(crate) rids: Option<Rids>,
+}
+
+// Whether the same brushes concern two views on a table.
+fn are_alike(catalog: &Catalog, brushes: &[BrushOn], t: u32, w: u32, other: u32) -> bool
+    ensures alike { OnTrue result (AreAlike (catalog_image catalog.now) brushes.now t w other) }
+    ensures other { OnFalse result (¬ AreAlike (catalog_image catalog.now) brushes.now t w other) }
+{
+    brushes.iter().all(|brush| concerns(catalog, w, t, brush) == concerns(catalog, other, t, brush))
+}
+
+// Where the rids stand that brushes select for a view: as those of a view that the same brushes concern.
+fn place_of(
+    catalog: &Catalog,
+    brushes: &[BrushOn],
+    t: u32,
+    w: u32,
+    choices: &[Choice],
+) -> Option<usize>
+    requires choices { All (IsChoice (catalog_image catalog.now) brushes.now t) choices.now }
+    ensures place { IfSome result (λ p. p < length choices.now) }
+    ensures own { IfSome result (λ p. (d : _) (n : ℕ) → AreOn t n brushes.now → (slice_index_or choices.now p d).rids ≡ brushed_of (catalog_image catalog.now) brushes.now w t n) }
+    ensures none { IfNone result (All (λ choice. ¬ AreAlike (catalog_image catalog.now) brushes.now t w choice.view) choices.now) }
+{
+    for i in 0..choices.len() {
+        if are_alike(catalog, brushes, t, w, choices[i].view) {
+            return Some(i);
+        }
+    }
+    None
+}
+
+// Puts the rids last that brushes select of a table for a view, unless they stand there for a view that the same brushes concern. It tells where they stand.
+pub(crate) fn choose(
+    alloc: Global,
+    catalog: &Catalog,
+    brushes: &[BrushOn],
+    w: u32,
+    t: u32,
+    choices: &mut Vec<Choice>,
+) -> Result<usize, AllocError>
+    requires rising { All (λ brush. IsAscending brush.rids) brushes.now }
+    requires choices { All (IsChoice (catalog_image catalog.now) brushes.now t) choices.old.items }
+    ensures choices { OnOk result (All (IsChoice (catalog_image catalog.now) brushes.now t) choices.new.items) }
+    ensures place { IfOk result (λ p. p < length choices.new.items) }
+    ensures own { IfOk result (λ p. (d : _) (n : ℕ) → AreOn t n brushes.now → (slice_index_or choices.new.items p d).rids ≡ brushed_of (catalog_image catalog.now) brushes.now w t n) }
+{
+    if let Some(place) = place_of(catalog, brushes, t, w, choices.as_slice()) {
+        return Ok(place);
+    }
+    let rids = brushed(alloc, catalog, brushes, w, t)?;
+    choices.push(Choice { view: w, rids })?;
+    Ok(choices.len() - 1)
+}
+
+// What is picked of the tables for a view. A table that no brush concerns is whole, and isn't among the picks.
+pub(crate) fn picks(
+    alloc: Global,
+    held: &Lent<'_>,
+    brushes: &[BrushOn],
+    w: u32,
+) -> Result<Picks, AllocError>
+    requires held { IsLent held.now }
+    requires fit { All (BrushFits held.now.catalog.now held.now.tables.now) brushes.now }
+    ensures { IfOk result (λ picks. picks ≡ picks_brushed (book_of held.now) (state_at held.now brushes.now) w (length held.now.tables.now)) }
+{
+    let mut picks = Picks::new(alloc);
+    for t in 0..held.tables.len() as u32 {
+        if let Some(rids) = brushed(alloc, held.catalog, brushes, w, t)? {
+            picks.push(Pick { table: t, rids })?;
+        }
+    }
+    Ok(picks)
+}
