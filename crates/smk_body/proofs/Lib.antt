@@ -10,5 +10,3 @@ pub mod Parting
 pub mod Standing
 pub mod Deriving
 pub mod Probing
-pub mod Renumbering
-pub mod Rising

@@ -16,7 +16,7 @@ use Rattle.smk_model.proofs.Sizes.{adds_no_rows}
 use Rattle.smk_found.proofs.Classing.{are_numbered, length_firsts}
 use Rattle.smk_found.proofs.Pairing.{length_joined, length_lefts}
 use Rattle.smk_found.proofs.Siding.{both_sides, by_own, by_sources, by_targets, from_none, left_classes, one_side, right_classes}
-use Rattle.smk_found.specs.Bounds.{AreBoth, IsPartition, AreRowPairs, ArePlaces, BothImage, RowPairsImage, PlacesImage}
+use Rattle.smk_found.specs.Bounds.{AreBoth, AreRowPairs, ArePlaces, BothImage, RowPairsImage, PlacesImage}
 use Rattle.smk_found.specs.Findings.{finding1, finding2, left_want, local_of, pairs_found}
 use Rattle.smk_found.specs.Halves.{AreNumbered, AreWithin, PlacePairs, halves_of}
 use Rattle.smk_found.specs.Locals.{local1, local2}
@@ -53,12 +53,6 @@ places_stand formula L items n e m short = record {
   below = rw (e, m) (places_below (λ i. meets formula (row_at L i)) (length L));
   set = rw (e, m) (places_are (λ i. meets formula (row_at L i)) (length L));
 }
-
--- the groups of few rows by their keys
-pub groups_stand : (keys : List Row) (made : ClassesImage) → made ≡ classes_of keys → length keys ≤ ROW_LIMIT → IsPartition made
-groups_stand keys made e short =
-    let so : AreNumbered (length keys) made = subst (AreNumbered (length keys)) (sym e) (are_numbered keys) in
-    record { few = omega (arith, so.long, short); numbered = subst (λ n. AreNumbered n made) (sym so.long) so }
 
 -- those of the rows of both sides
 abbrev both_of : ClassesImage → ℕ → BothImage

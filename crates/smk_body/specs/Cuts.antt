@@ -1,11 +1,9 @@
 -- What each part of a step finds of its rows.
-use Rattle.std.specs.Prelude.{◌≡◌, ℕ, ◌<◌, ◌+◌, ◌-◌, ◌↔◌, min, List, ◌++◌, length, map, slice_range, sum_by}
+use Rattle.std.specs.Prelude.{◌≡◌, ℕ, ◌<◌, ◌+◌, ◌-◌, ◌↔◌, min, List, ◌++◌, length, sum_by}
 use Rattle.smk_base.specs.Places.{upto}
 use Rattle.smk_base.specs.Plans.{Formula}
 use Rattle.smk_base.specs.declared.rel.TheConstants.{ROW_LIMIT}
-use Rattle.smk_keys.specs.Classes.{ClassesImage, classes_of}
 use Rattle.smk_model.specs.Values.{Row}
-use Rattle.smk_model.specs.Plain.{key_of}
 use Rattle.smk_model.specs.Lineage.{lefts_of, rights_of}
 use Rattle.smk_found.specs.Halves.{PlacePairs, meeting_below, pairs_below}
 
@@ -17,10 +15,6 @@ HasPlaces formula L from to places = meeting_below formula L from ++ places ≡ 
 pub record HasPairs (partners_of : ℕ → List ℕ) (from to : ℕ) (made : PlacePairs) : Type 0 where
   pub lefts : lefts_of (pairs_below partners_of from) ++ made.lefts ≡ lefts_of (pairs_below partners_of to)
   pub rights : rights_of (pairs_below partners_of from) ++ made.rights ≡ rights_of (pairs_below partners_of to)
-
--- that these are the classes of the keys of the rows from one place up to another
-abbrev pub HasKeys : List ℕ → List Row → ℕ → ℕ → ClassesImage → Type 0
-HasKeys keys L from to classes = classes ≡ classes_of (map (key_of keys) (slice_range L from to))
 
 -- how many pairs have a left place from one up to another, counted no further than one past the limit
 abbrev pub count_between : (ℕ → List ℕ) → ℕ → ℕ → ℕ

@@ -1,4 +1,2 @@
 pub mod Parts
 pub mod Cuts
-pub mod Renumbered
-pub mod Rises

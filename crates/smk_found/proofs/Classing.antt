@@ -12,6 +12,8 @@ use Rattle.smk_model.proofs.Firsts.{row_same, holds_at, firsts_from}
 use Rattle.smk_model.proofs.Locals.{firsts_apart}
 use Rattle.smk_model.proofs.Sizes.{firsts_short}
 use Rattle.smk_keys.specs.Classes.{ClassesImage, classes_of}
+use Rattle.smk_base.specs.declared.rel.TheConstants.{ROW_LIMIT}
+use Rattle.smk_found.specs.Bounds.{IsPartition}
 use Rattle.smk_found.specs.Halves.{AreNumbered}
 
 pub length_of : (keys : List Row) → length (classes keys) ≡ length keys
@@ -66,3 +68,9 @@ rows_numbered keys rows made e = subst (λ (n : ℕ). AreNumbered n made) (lengt
 -- the rest of a list, as a slice has it
 pub rest_of : {X : Type 0} (xs : List X) (k : ℕ) → take (length xs - k) (drop k xs) ≡ drop k xs
 rest_of xs k = take_all (length xs - k) (drop k xs) (omega (arith, length-drop k xs))
+
+-- the groups of few rows by their keys
+pub groups_stand : (keys : List Row) (made : ClassesImage) → made ≡ classes_of keys → length keys ≤ ROW_LIMIT → IsPartition made
+groups_stand keys made e short =
+    let so : AreNumbered (length keys) made = subst (AreNumbered (length keys)) (sym e) (are_numbered keys) in
+    record { few = omega (arith, so.long, short); numbered = subst (λ n. AreNumbered n made) (sym so.long) so }

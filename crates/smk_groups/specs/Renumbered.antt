@@ -1,0 +1,29 @@
+-- Numbers of rows that are numbered part by part, before equal keys of several parts have one number.
+use Rattle.std.specs.Prelude.{◌≡◌, ℕ, ◌<◌, ◌≤◌, ◌+◌, List, [], ◌∷◌, ◌++◌, length, map, slice_index, slice_range, sum_by}
+use Rattle.smk_keys.specs.Classes.{ClassesImage, classes_of}
+use Rattle.smk_model.specs.Values.{Row}
+use Rattle.smk_model.specs.Plain.{key_of}
+use Rattle.smk_model.specs.Lineage.{row_at}
+
+-- that these are the classes of the keys of the rows from one place up to another
+abbrev pub HasKeys : List ℕ → List Row → ℕ → ℕ → ClassesImage → Type 0
+HasKeys keys L from to classes = classes ≡ classes_of (map (key_of keys) (slice_range L from to))
+
+-- numbers of the first n keys, in the order in which they come, and for each number the place where it comes first: there stands a key equal to each that has the number
+pub record StandFor (keys : List Row) (n : ℕ) (firsts of : List ℕ) : Type 0 where
+  pub long : length of ≡ n
+  pub few : length firsts ≤ n
+  pub within : (i : ℕ) → i < n → slice_index of i < length firsts
+  pub place : (k : ℕ) → k < length firsts → slice_index firsts k < n
+  pub at : (k : ℕ) → k < length firsts → slice_index of (slice_index firsts k) ≡ k
+  pub first : (k i : ℕ) → k < length firsts → i < slice_index firsts k → slice_index of i < k
+  pub same : (i : ℕ) → i < n → row_at keys (slice_index firsts (slice_index of i)) ≡ row_at keys i
+
+-- how many keys these parts have
+abbrev pub key_total : List ClassesImage → ℕ
+key_total = sum_by (λ part. length part.firsts)
+
+-- the numbers of the rows of these parts, one part behind the other: the classes of each, more by the first number and by the keys of the parts before it
+abbrev pub numbers_from : ℕ → List ClassesImage → List ℕ
+numbers_from base [] = []
+numbers_from base (part ∷ parts) = map (λ x. base + x) part.of ++ numbers_from (base + length part.firsts) parts
