@@ -13,7 +13,8 @@ use Rattle.smk_model.specs.Selection.{row_limit}
 use Rattle.smk_model.specs.Session.{State, Workbook}
 use Rattle.smk_model.specs.Values.{Row}
 use Rattle.smk_compose.specs.declared.kept_maps.Run.{Run}
-use Rattle.smk_session.specs.Sessions.{AreExtras, AreOpened, IsSession, SessionImage, content_kept, opened_views, opened, state_of, workbook_image, workbook_of}
+use Rattle.smk_start.specs.Opened.{AreExtras, AreOpened, opened_views, opened, workbook_image}
+use Rattle.smk_session.specs.Sessions.{IsSession, SessionImage, content_kept, state_of, workbook_of}
 use Rattle.smk_session.proofs.Shown.{none_in_force}
 use Rattle.smk_grow.specs.Grown.{rows_of, longer_tables}
 use Rattle.smk_grow.specs.Images.{lengthened, shortened, renewed, renewed_unless, grown_unless, next_image}

@@ -27,8 +27,8 @@ use Rattle.smk_found.specs.Locals.{wanted}
 use Rattle.smk_compose.specs.KeptMaps.{kept_at}
 use Rattle.smk_compose.specs.declared.kept_maps.KeptMap.{KeptMap}
 use Rattle.smk_compose.specs.declared.kept_maps.Run.{Run}
-use Rattle.smk_session.specs.Sessions.{opened}
-use Rattle.smk_session.specs.Making.{newer}
+use Rattle.smk_start.specs.Opened.{opened}
+use Rattle.smk_start.specs.Making.{newer}
 use Rattle.smk_grow.specs.Renewed.{chains, fresh_view, kept_view, moved_kept, moved_view}
 
 -- tables that are the same but for one

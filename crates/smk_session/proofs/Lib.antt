@@ -1,11 +1,8 @@
-mod AtOnce
 mod BackAnswers
 mod Brushed
-pub mod Declared
 mod Followers
 mod InForce
 mod KeptViews
-pub mod KeptOf
 mod Linked
 mod Marked
 pub mod Opened
@@ -14,4 +11,3 @@ mod Refreshing
 mod Rids
 mod Selected
 pub mod Shown
-pub mod Starts

@@ -20,4 +20,6 @@ rids_low bound n rids are same = subst (λ (k : ℕ). All (λ rid. rid < k) rids
 
 -- those that pass of ascending rids are ascending
 pub filter_ascends : (test : ℕ → Bool) (rids : List ℕ) → IsAscending rids → IsAscending (filter test rids)
-filter_ascends test rids rises i j h l = AllPairs-filter (λ x y. x < y) test rids (pairs_rise rids rises) i j 0 h l
+filter_ascends test rids rises i j h l =
+    let pairs : AllPairs (λ x y. x < y) rids = λ m n d less low. rw (get_or_default rids m d 0 (omega (arith, less, low)), get_or_default rids n d 0 low) (rises m n less low) in
+    AllPairs-filter (λ x y. x < y) test rids pairs i j 0 h l

@@ -1,7 +1,6 @@
 -- What a call says that works out what a line asks for, and what is asked of the lineage that is kept.
-use Rattle.std.specs.Prelude.{◌≡◌, ◌<◌, ℕ, Result, Ok, Err, MatchResult, Bool, cond, false, List, [], ◌∷◌, nat_eq, length, map, set, ok_or, Option, Some, None, All}
-use Rattle.std.specs.List.{find, filter, list_all, list_any}
-use Rattle.std.specs.Option.{option_and_then}
+use Rattle.std.specs.Prelude.{◌≡◌, ◌<◌, ℕ, Result, Ok, Err, MatchResult, Bool, cond, false, List, [], ◌∷◌, nat_eq, length, map, set, Option, Some, None, All}
+use Rattle.std.specs.List.{filter, list_all, list_any}
 use Rattle.smk_base.specs.CatalogImage.{CatalogImage, catalog_image}
 use Rattle.smk_base.specs.Places.{IsPlaces, Lists, has, members_at, places, upto}
 use Rattle.smk_base.specs.Rels.{Relation}
@@ -12,14 +11,15 @@ use Rattle.smk_base.specs.declared.book.tree.Marks.{Marks}
 use Rattle.smk_base.specs.declared.reply.Reply.{Reply}
 use Rattle.smk_base.specs.declared.reply.Reply.TheVariants as replies
 use Rattle.smk_base.specs.declared.reply.Refusal.{Refusal}
-use Rattle.smk_base.specs.declared.reply.Refusal.TheVariants.{Undeclared}
 use Rattle.smk_model.specs.Lineage.{sub}
 use Rattle.smk_model.specs.Looks.{looks_of_rows}
 use Rattle.smk_model.specs.Names.{◌>>=◌}
 use Rattle.smk_model.specs.Replies.{Asked, is_refused, unless_outside, marked}
 use Rattle.smk_model.specs.Session.{State, concerns, selected_for, under}
 use Rattle.smk_compose.specs.declared.kept_maps.KeptMap.{KeptMap}
-use Rattle.smk_session.specs.Sessions.{AreExtras, AreInForce, AreOpened, content_kept, state_over}
+use Rattle.smk_start.specs.Opened.{AreExtras, AreOpened, state_over}
+use Rattle.smk_start.specs.Kept.{kept_back, kept_fwd}
+use Rattle.smk_session.specs.Sessions.{AreInForce, content_kept}
 use Rattle.smk_session.specs.declared.brush.choices.Choice.{Choice}
 use Rattle.smk_session.specs.declared.lent.Lent.{Lent}
 use Rattle.smk_session.specs.declared.turn.Change.{Change}
@@ -42,17 +42,6 @@ within_asked marks n = unless_outside marks n (Ok tt)
 -- the members of the lists at the marked places
 abbrev pub members_asked : Lists → Marks → Asked (List ℕ)
 members_asked map marks = unless_outside marks (length map.lists) (Ok (members_at map (marked marks (length map.lists))))
-
--- what is kept of a table
-abbrev pub is_of_table : ℕ → KeptMap → Bool
-is_of_table table kept = nat_eq kept.table table
-
--- its backward and its forward lists, which are kept exactly where the query is declared
-abbrev pub kept_back : List KeptMap → ℕ → Asked Lists
-kept_back kept table = ok_or (option_and_then (λ k. k.back) (find (is_of_table table) kept)) Undeclared
-
-abbrev pub kept_fwd : List KeptMap → ℕ → Asked Lists
-kept_fwd kept table = ok_or (option_and_then (λ k. k.fwd) (find (is_of_table table) kept)) Undeclared
 
 -- the rows of a table at these rids, with their rids
 abbrev pub rows_told : Relation → List ℕ → Reply

@@ -1,8 +1,5 @@
 pub mod Answers
 pub mod BackAnswers
-pub mod Extras
-pub mod Making
-pub mod Openings
 pub mod Parts
 pub mod Refreshed
 pub mod SessionLaws

@@ -20,7 +20,7 @@ loop-brush-preserved c =
       | then-concerns+in_ok-narrowed w ↦
           let on : test brush ≡ true = sym c.concerns.ensures ∙ w.if-concerns.true in
           record {
-            ascending = rw w.chosen-is (rw w.in_ok-narrowed.ensures (narrowed_ascends c.loop-brush.choices brush.rids c.loop-brush.invariant.ascending rises));
+            ascending = rw w.chosen-is (rw w.in_ok-narrowed.ensures (narrowed_ascends c.loop-brush.chosen brush.rids c.loop-brush.invariant.ascending rises));
             chosen = λ n are.
                 rw w.chosen-is (ap Some w.in_ok-narrowed.ensures ∙ ap (λ (o : Option (List ℕ)). Some (narrowed_by o brush.rids)) (c.loop-brush.invariant.chosen n are)
                 ∙ chosen_more test brushes i n brush low c.brush-item.is on (on_table (catalog_image c.args.catalog.now) c.args.w c.args.t i n brushes brush low c.brush-item.is are on));

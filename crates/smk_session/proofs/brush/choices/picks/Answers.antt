@@ -8,8 +8,8 @@ use Rattle.smk_session.proofs.Selected.{are_picks}
 use Rattle.smk_session.proofs.brush.choices.picks.Goals as goal
 use Rattle.smk_session.proofs.brush.choices.picks.Goals.{in-Some+in_ok-push, in_default}
 
-pub chosen-requires : goal.chosen-requires
-chosen-requires c = rids_rise c.args.held.now.catalog.now c.args.held.now.tables.now c.args.brushes.now c.requires.fit
+pub brushed-requires : goal.brushed-requires
+brushed-requires c = rids_rise c.args.held.now.catalog.now c.args.held.now.tables.now c.args.brushes.now c.requires.fit
 
 pub push-requires : goal.push-requires
 push-requires c =

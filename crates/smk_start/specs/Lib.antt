@@ -1,0 +1,5 @@
+pub mod Opened
+pub mod Kept
+pub mod Extras
+pub mod Making
+pub mod Openings
