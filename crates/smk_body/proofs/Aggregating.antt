@@ -23,10 +23,10 @@ use Rattle.smk_model.specs.Classes.{classes, first_places}
 use Rattle.smk_base.proofs.Places.{map_map, map_upto, map_upto_agree, same_below, places_below, few_places}
 use Rattle.smk_model.proofs.Firsts.{sub_key}
 use Rattle.smk_model.proofs.Classes.{classes_are, first_below}
-use Rattle.smk_found.specs.Halves.{AreNumbered, best_place, better, class_places, class_sizes}
+use Rattle.smk_body.specs.Halves.{AreNumbered, best_place, better, class_places, class_sizes}
 use Rattle.smk_body.proofs.Fitting.{value_fits, within_more, total_within, All-head, All-rest}
 use Rattle.smk_body.proofs.Folding.{int_at, best_of_class}
-use Rattle.smk_found.proofs.Classing.{first_at, length_firsts}
+use Rattle.smk_body.proofs.Classing.{first_at, length_firsts}
 
 -- the sizes of classes, as a column
 pub counted_rows : (rows : List Row) (classes : ClassesImage) (n : ℕ) → length classes.of ≡ n

@@ -12,9 +12,9 @@ use Rattle.smk_base.specs.declared.value.Value.TheVariants as values
 use Rattle.smk_model.specs.Values.{Row, holds, meets, value_cmp}
 use Rattle.smk_model.specs.Lineage.{row_at}
 use Rattle.smk_base.proofs.Places.{same_below}
-use Rattle.smk_found.specs.Halves.{ints_below, meeting_below}
+use Rattle.smk_body.specs.Halves.{ints_below, meeting_below}
 use Rattle.smk_body.proofs.Aggregating.{value_is}
-use Rattle.smk_found.proofs.Pairing.{meeting_right, meeting_none}
+use Rattle.smk_body.proofs.Pairing.{meeting_right, meeting_none}
 
 -- the ints of a column that stand so to an int are those of the rows that meet the comparison
 pub ints_meet : (rows : List Row) (c : ℕ) (op : CmpOp) (n : ℤ) (ints : List ℤ) (k : ℕ) → map values.Int ints ≡ column_values c rows → k ≤ length rows

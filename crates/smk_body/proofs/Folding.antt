@@ -16,10 +16,10 @@ use Rattle.smk_model.specs.Locals.{singles}
 use Rattle.smk_base.proofs.Places.{get_or_map_upto, map_upto_agree, places_below, same_below, places_false, upto_below, places_more, few_places}
 use Rattle.smk_model.proofs.Directions.{length_each}
 use Rattle.smk_body.proofs.Fitting.{total_within}
-use Rattle.smk_found.proofs.Turning.{single_at}
+use Rattle.smk_body.proofs.Turning.{single_at}
 use Rattle.smk_keys.specs.Classes.{ClassesImage}
 use Rattle.smk_rid.specs.Maps.{size_of, sizes_of}
-use Rattle.smk_found.specs.Halves.{AreNumbered, class_places, better, improves_on, best_place, bests_of}
+use Rattle.smk_body.specs.Halves.{AreNumbered, class_places, better, improves_on, best_place, bests_of}
 
 -- a change at one place of a value for each number
 pub changed_one : {X : Type 0} (F G : ℕ → X) (n k : ℕ) (x : X) → k < n → x ≡ G k → ((p : ℕ) → p ≢ k → G p ≡ F p) → set (map F (upto n)) k x ≡ map G (upto n)

@@ -10,3 +10,9 @@ pub mod Parting
 pub mod Standing
 pub mod Deriving
 pub mod Probing
+pub mod Turning
+pub mod Siding
+pub mod Pairing
+pub mod Classing
+pub mod Renumbering
+pub mod Rising

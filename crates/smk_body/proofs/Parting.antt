@@ -18,7 +18,7 @@ use Rattle.smk_model.specs.Kinds.{AggFits}
 use Rattle.smk_base.proofs.Places.{length_upto, map_map, map_upto, upto_below}
 use Rattle.smk_model.proofs.Bulk.{bulk}
 use Rattle.smk_model.proofs.Directions.{length_each}
-use Rattle.smk_found.specs.Halves.{AreNumbered, class_places}
+use Rattle.smk_body.specs.Halves.{AreNumbered, class_places}
 use Rattle.smk_body.specs.Parts.{AreAggsOf, ArePlacesOf, aggregates_of, columns_of}
 use Rattle.smk_body.proofs.Besides.{relation, related, beside_each, map_same}
 use Rattle.smk_body.proofs.Aggregating.{groups_are, map_where}

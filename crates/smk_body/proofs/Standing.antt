@@ -13,14 +13,14 @@ use Rattle.smk_model.proofs.CuiWidom.{length_selected}
 use Rattle.smk_model.proofs.OneEach.{one_each}
 use Rattle.smk_base.proofs.Places.{places_are, places_below}
 use Rattle.smk_model.proofs.Sizes.{adds_no_rows}
-use Rattle.smk_found.proofs.Classing.{are_numbered, length_firsts}
-use Rattle.smk_found.proofs.Pairing.{length_joined, length_lefts}
-use Rattle.smk_found.proofs.Siding.{both_sides, by_own, by_sources, by_targets, from_none, left_classes, one_side, right_classes}
-use Rattle.smk_found.specs.Bounds.{AreBoth, AreRowPairs, ArePlaces, BothImage, RowPairsImage, PlacesImage}
-use Rattle.smk_found.specs.Findings.{finding1, finding2, left_want, local_of, pairs_found}
-use Rattle.smk_found.specs.Halves.{AreNumbered, AreWithin, PlacePairs, halves_of}
-use Rattle.smk_found.specs.Locals.{local1, local2}
-use Rattle.smk_found.specs.declared.local.Want.{Want}
+use Rattle.smk_body.proofs.Classing.{are_numbered, length_firsts}
+use Rattle.smk_body.proofs.Pairing.{length_joined, length_lefts}
+use Rattle.smk_body.proofs.Siding.{both_sides, by_own, by_sources, by_targets, from_none, left_classes, one_side, right_classes}
+use Rattle.smk_body.specs.Bounds.{AreBoth, AreRowPairs, ArePlaces, BothImage, RowPairsImage, PlacesImage}
+use Rattle.smk_body.specs.Findings.{finding1, finding2, left_want, local_of, pairs_found}
+use Rattle.smk_body.specs.Halves.{AreNumbered, AreWithin, PlacePairs, halves_of}
+use Rattle.smk_body.specs.Locals.{local1, local2}
+use Rattle.smk_body.specs.declared.keep.local.Want.{Want}
 
 pub lineage1 : (op : Unary) (input : Relation) (want : Dir) → local_of (finding1 op input) (left_want want) ≡ local1 op input.rows want
 lineage1 (Selection formula) input want = ap one_side (by_sources want refl refl (one_each.selection formula input.rows))

@@ -5,7 +5,7 @@ use Rattle.smk_base.specs.Plans.{Formula}
 use Rattle.smk_base.specs.declared.rel.TheConstants.{ROW_LIMIT}
 use Rattle.smk_model.specs.Values.{Row}
 use Rattle.smk_model.specs.Lineage.{lefts_of, rights_of}
-use Rattle.smk_found.specs.Halves.{PlacePairs, meeting_below, pairs_below}
+use Rattle.smk_body.specs.Halves.{PlacePairs, meeting_below, pairs_below}
 
 -- that these are the places from one up to another whose rows meet a formula: behind those below the first they are those below the second
 abbrev pub HasPlaces : Formula → List Row → ℕ → ℕ → List ℕ → Type 0

@@ -1,2 +1,8 @@
 pub mod Parts
 pub mod Cuts
+pub mod Halves
+pub mod Bounds
+pub mod Findings
+pub mod Locals
+pub mod Renumbered
+pub mod Rises

@@ -8,7 +8,7 @@ use Rattle.smk_keys.specs.Classes.{ClassesImage}
 use Rattle.smk_model.specs.Plain.{aggregate}
 use Rattle.smk_model.specs.Lineage.{sub}
 use Rattle.smk_model.specs.Kinds.{AggFits, kind_of_agg}
-use Rattle.smk_found.specs.Halves.{AreNumbered, class_places}
+use Rattle.smk_body.specs.Halves.{AreNumbered, class_places}
 
 -- at most 1,048,576 places of rows, and at most 16 columns of them
 pub record ArePlacesOf (rel : Relation) (places cols : List ℕ) : Type 0 where

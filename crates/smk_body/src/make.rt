@@ -2,7 +2,7 @@
 
 ghost use Rattle.std.specs.Prelude.{◌≡◌, IfOk};
 ghost use Rattle.smk_base.specs.PlanImage.{binary_of, unary_of};
-ghost use Rattle.smk_found.specs.Findings.{finding1, finding2, turned_of};
+ghost use Rattle.smk_body.specs.Findings.{finding1, finding2, turned_of};
 ghost use Rattle.smk_model.specs.Kinds.{Fits1, Fits2, kinds1, kinds2};
 ghost use Rattle.smk_model.specs.Plain.{step1, step2};
 
@@ -15,13 +15,14 @@ mod rows_of_pairs;
 mod rows_of_places;
 pub(crate) mod unions;
 
+use crate::find::found::Found;
+use crate::keep::local::Want;
 use crate::make::project::images;
 use crate::make::rows_of_groups::{firsts_and_turned, grouped_and_turned};
 use crate::make::rows_of_pairs::paired_and_turned;
 use crate::make::rows_of_places::placed_and_turned;
 use crate::make::unions::{all_rows, union_rows};
 use smk_base::{Op1, Op2, ROW_LIMIT, Rel};
-use smk_found::{Found, Want};
 use smk_jobs::{Crew, Work};
 use smk_rid::RidMap;
 use std::alloc::AllocError;

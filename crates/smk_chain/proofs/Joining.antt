@@ -19,9 +19,9 @@ use Rattle.smk_base.proofs.Places.{map_map, map_upto, map_upto_agree}
 use Rattle.smk_model.proofs.Composed.{lists_stand}
 use Rattle.smk_model.proofs.Counts.{pairs_forward}
 use Rattle.smk_model.proofs.OneEach.{one_each}
-use Rattle.smk_found.specs.Locals.{wanted}
-use Rattle.smk_found.specs.Halves.{AreNumbered}
-use Rattle.smk_found.proofs.Classing.{are_numbered, length_firsts}
+use Rattle.smk_body.specs.Locals.{wanted}
+use Rattle.smk_body.specs.Halves.{AreNumbered}
+use Rattle.smk_body.proofs.Classing.{are_numbered, length_firsts}
 use Rattle.smk_compose.specs.declared.kept_maps.KeptMap.{KeptMap}
 use Rattle.smk_compose.specs.KeptMaps.{kept_at}
 use Rattle.smk_compose.specs.Through.{chained, Chains, is_heavy, map_at, no_map, no_need}

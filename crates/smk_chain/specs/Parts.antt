@@ -8,7 +8,7 @@ use Rattle.smk_model.specs.Values.{Row}
 use Rattle.smk_model.specs.Composed.{table_at}
 use Rattle.smk_model.specs.Locals.{singles}
 use Rattle.smk_model.specs.NodeFaults.{pair_limit}
-use Rattle.smk_found.specs.Locals.{wanted}
+use Rattle.smk_body.specs.Locals.{wanted}
 use Rattle.smk_compose.specs.declared.kept_maps.KeptMap.{KeptMap}
 use Rattle.smk_compose.specs.KeptMaps.{NeedFits}
 use Rattle.smk_compose.specs.Through.{chained, Chains, is_heavy, map_at, no_need}

@@ -2,15 +2,15 @@
 
 ghost use Rattle.std.specs.Prelude.{◌≡◌, ◌≤◌, ◌<◌, false, length, IfOk, Some};
 ghost use Rattle.smk_base.specs.Places.{composed, empty_lists, pairs_of};
-ghost use Rattle.smk_found.specs.Locals.{wanted};
+ghost use Rattle.smk_body.specs.Locals.{wanted};
 ghost use Rattle.smk_model.specs.Selection.{each_rows};
 ghost use Rattle.smk_compose.specs.Through.{chained, Chains, is_heavy};
 ghost use Rattle.smk_rid.specs.declared.map.TheConstants.{PAIR_LIMIT};
 ghost use Rattle.smk_chain.specs.Parts.{both_maps, by_classes, followed_maps, joint_map_at, joint_maps, void_map, AreMaps, AreRegrouped, Follows, IsRegrouped, MapsFit};
 
 use smk_base::Needed;
+use smk_body::side_of_classes;
 use smk_compose::{KeptMap, Kepts, narrow};
-use smk_found::side_of_classes;
 use smk_keys::Classes;
 use smk_rid::{RidFault, RidMap};
 use smk_table::Table;

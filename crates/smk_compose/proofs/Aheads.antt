@@ -5,7 +5,7 @@ use Rattle.std.proofs.lemmas.Bool.{or_right}
 use Rattle.std.proofs.lemmas.List.{length-drop, get_or-drop, get_or-map, drop-drop, drop-set-lt}
 use Rattle.std.proofs.lemmas.List.Folds.{list_any_at}
 use Rattle.smk_base.specs.Places.{Lists}
-use Rattle.smk_found.specs.declared.local.Side.{Side}
+use Rattle.smk_body.specs.declared.keep.local.Side.{Side}
 use Rattle.smk_compose.specs.Through.{chained, Chains, through, merged_maps, together, together_all, Passes, Matches, Meets, has_back, has_fwd, map_at, no_map, Serves, IsAhead}
 use Rattle.smk_compose.specs.declared.kept_maps.KeptMap.{KeptMap}
 use Rattle.smk_compose.proofs.Wants.{mk_same}

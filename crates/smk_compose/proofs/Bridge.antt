@@ -12,7 +12,7 @@ use Rattle.smk_model.specs.Selection.{is_full}
 use Rattle.smk_model.proofs.Anys.{or_false}
 use Rattle.smk_model.proofs.Comes.{IsPart, rows_part, rows_whole}
 use Rattle.smk_model.proofs.Composed.{lists_stand}
-use Rattle.smk_found.specs.Locals.{wanted}
+use Rattle.smk_body.specs.Locals.{wanted}
 use Rattle.smk_model.specs.NodeFaults.{NodeFault, FullRows, FullPairs, Asked, asked_of, pair_limit, is_crowded, fault_at}
 use Rattle.smk_compose.specs.KeptMaps.{held_at, kept_at}
 use Rattle.smk_compose.specs.Walk.{AreDirected, AreWhole, WholeWhereNeeded}

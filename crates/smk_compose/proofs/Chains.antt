@@ -7,7 +7,7 @@ use Rattle.smk_base.specs.Places.{Lists, IsPlaces, pairs_of, members_at, compose
 use Rattle.smk_rid.proofs.Joins.{members_set}
 use Rattle.smk_model.proofs.Pairs.{merged_has_both}
 use Rattle.smk_model.specs.NodeFaults.{pair_limit}
-use Rattle.smk_found.specs.declared.local.Side.{Side}
+use Rattle.smk_body.specs.declared.keep.local.Side.{Side}
 use Rattle.smk_compose.specs.Through.{chained, merged_if_both, CanMerge, is_heavy, has_heavy, through, merged_maps, together, map_at, Matches}
 use Rattle.smk_compose.specs.declared.kept_maps.KeptMap.{KeptMap}
 

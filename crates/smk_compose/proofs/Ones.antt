@@ -11,7 +11,7 @@ use Rattle.smk_model.specs.Locals.{back1, fwd1}
 use Rattle.smk_model.specs.Composed.{rows_over, backs, forwards}
 use Rattle.smk_base.proofs.Places.{map_map, length_upto}
 use Rattle.smk_model.proofs.Composed.{backs_compose, forwards_compose, lists_stand}
-use Rattle.smk_found.specs.Locals.{wanted}
+use Rattle.smk_body.specs.Locals.{wanted}
 use Rattle.smk_compose.specs.KeptMaps.{held_at}
 use Rattle.smk_compose.specs.Through.{chained, Chains, through, side1, Passes, node_fault}
 use Rattle.smk_compose.specs.declared.kept_maps.KeptMap.{KeptMap}

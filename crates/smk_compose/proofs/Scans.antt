@@ -9,7 +9,7 @@ use Rattle.smk_base.specs.Places.{Lists, upto, pairs_of, own_lists}
 use Rattle.smk_model.specs.Values.{Row}
 use Rattle.smk_model.specs.Composed.{table_at, backs, forwards}
 use Rattle.smk_model.proofs.Composed.{backs_compose, forwards_compose}
-use Rattle.smk_found.specs.Locals.{wanted}
+use Rattle.smk_body.specs.Locals.{wanted}
 use Rattle.smk_model.specs.NodeFaults.{pair_limit}
 use Rattle.smk_compose.specs.KeptMaps.{held_at}
 use Rattle.smk_compose.specs.Through.{is_heavy, has_heavy, scan_at}

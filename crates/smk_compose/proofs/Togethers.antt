@@ -6,10 +6,10 @@ use Rattle.smk_base.specs.Plans.{Binary}
 use Rattle.smk_base.specs.Rels.{Relation}
 use Rattle.smk_model.specs.Values.{Row}
 use Rattle.smk_model.specs.Locals.{back_left, fwd_left, back_right, fwd_right}
-use Rattle.smk_found.specs.Locals.{side_of, local2}
-use Rattle.smk_found.specs.declared.local.Side.{Side}
-use Rattle.smk_found.specs.declared.local.Local.{Local}
-use Rattle.smk_found.specs.declared.local.Want.{Want}
+use Rattle.smk_body.specs.Locals.{side_of, local2}
+use Rattle.smk_body.specs.declared.keep.local.Side.{Side}
+use Rattle.smk_body.specs.declared.keep.local.Local.{Local}
+use Rattle.smk_body.specs.declared.keep.local.Want.{Want}
 use Rattle.smk_compose.specs.Through.{merged_if_both, CanMerge, together, together_all, want_of, right_of, map_at, no_map, side_left, side_right}
 use Rattle.smk_compose.specs.declared.kept_maps.KeptMap.{KeptMap}
 use Rattle.smk_compose.proofs.Wants.{mk_same, full, chained_back, chained_fwd}

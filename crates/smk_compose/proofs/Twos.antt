@@ -11,7 +11,7 @@ use Rattle.smk_model.specs.Locals.{back_left, fwd_left, back_right, fwd_right}
 use Rattle.smk_model.specs.Composed.{table_at, rows_over, backs, forwards}
 use Rattle.smk_base.proofs.Places.{length_upto}
 use Rattle.smk_model.proofs.Composed.{backs_compose, forwards_compose, lists_stand}
-use Rattle.smk_found.specs.Locals.{wanted}
+use Rattle.smk_body.specs.Locals.{wanted}
 use Rattle.smk_compose.specs.KeptMaps.{held_at}
 use Rattle.smk_compose.specs.Through.{chained, merged_if_both, CanMerge, together, together_all, side_left, side_right, Meets, map_at, no_map, no_need}
 use Rattle.smk_compose.specs.declared.kept_maps.KeptMap.{KeptMap}

@@ -19,7 +19,7 @@ use Rattle.smk_model.specs.Selection.{each_kinds, each_rows, plan_kinds, over, P
 use Rattle.smk_model.specs.NodeFaults.{NodeFault, FullRows, FullPairs, asked_of, fault_at, first_fault_from}
 use Rattle.smk_model.proofs.Bulk.{bulk}
 use Rattle.smk_model.proofs.NodeFaults.{nothing_is_asked}
-use Rattle.smk_found.specs.declared.local.Side.{Side}
+use Rattle.smk_body.specs.declared.keep.local.Side.{Side}
 use Rattle.smk_table.specs.Wanted as wanted
 use Rattle.smk_table.specs.Wanted.{AreWide, among1, after1, among2, after2, below_left, below_right}
 use Rattle.smk_table.specs.declared.wanted.NarrowedOne.{NarrowedOne}

@@ -10,9 +10,9 @@ use Rattle.smk_model.specs.Plain.{step1}
 use Rattle.smk_model.specs.Locals.{back1, fwd1}
 use Rattle.smk_model.specs.Selection.{is_full}
 use Rattle.smk_model.proofs.Sizes.{adds_no_rows}
-use Rattle.smk_found.specs.Locals.{wanted, side_of, local1}
-use Rattle.smk_found.specs.declared.local.Local.{Local}
-use Rattle.smk_found.specs.declared.local.Side.{Side}
+use Rattle.smk_body.specs.Locals.{wanted, side_of, local1}
+use Rattle.smk_body.specs.declared.keep.local.Local.{Local}
+use Rattle.smk_body.specs.declared.keep.local.Side.{Side}
 use Rattle.smk_compose.specs.Through.{chained, through, has_back, has_fwd, want_of, side1, pairs_fault, node_fault}
 use Rattle.smk_compose.specs.declared.kept_maps.KeptMap.{KeptMap}
 

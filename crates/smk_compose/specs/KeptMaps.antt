@@ -6,7 +6,7 @@ use Rattle.smk_base.specs.declared.book.need.Needed.{Needed}
 use Rattle.smk_model.specs.Values.{Row}
 use Rattle.smk_model.specs.Plain.{leaves}
 use Rattle.smk_model.specs.Composed.{backs, forwards}
-use Rattle.smk_found.specs.Locals.{wanted}
+use Rattle.smk_body.specs.Locals.{wanted}
 use Rattle.smk_compose.specs.declared.kept_maps.KeptMap.{KeptMap}
 
 -- each table that is needed is one of n tables

@@ -8,9 +8,9 @@ use Rattle.smk_base.specs.declared.book.need.Needed.{Needed}
 use Rattle.smk_model.specs.Values.{Row}
 use Rattle.smk_model.specs.Selection.{is_full}
 use Rattle.smk_model.specs.Locals.{back1, fwd1, back_left, fwd_left, back_right, fwd_right}
-use Rattle.smk_found.specs.Locals.{wanted}
-use Rattle.smk_found.specs.declared.local.Side.{Side}
-use Rattle.smk_found.specs.declared.local.Local.{Local}
+use Rattle.smk_body.specs.Locals.{wanted}
+use Rattle.smk_body.specs.declared.keep.local.Side.{Side}
+use Rattle.smk_body.specs.declared.keep.local.Local.{Local}
 use Rattle.smk_model.specs.NodeFaults.{NodeFault, FullRows, FullPairs, pair_limit}
 use Rattle.smk_compose.specs.declared.kept_maps.KeptMap.{KeptMap}
 use Rattle.smk_compose.specs.declared.chain.Composed.{Composed}

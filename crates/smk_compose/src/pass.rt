@@ -9,7 +9,7 @@ use crate::chain::{merge_if_both, pass_back, pass_fwd};
 use crate::fault::RunFault;
 use crate::kept_maps::KeptMap;
 use smk_base::Dir;
-use smk_found::Side;
+use smk_body::Side;
 use smk_rid::RidFault;
 use std::alloc::Global;
 

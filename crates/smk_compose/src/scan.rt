@@ -1,7 +1,7 @@
 ghost use Rattle.std.specs.Prelude.{◌≡◌, ◌≤◌, [], ◌∷◌, ◌++◌, map, IfOk, OnOk};
 ghost use Rattle.smk_base.specs.declared.rel.TheConstants.{ROW_LIMIT};
 ghost use Rattle.smk_base.specs.Places.{own_lists};
-ghost use Rattle.smk_found.specs.Locals.{wanted};
+ghost use Rattle.smk_body.specs.Locals.{wanted};
 ghost use Rattle.smk_compose.specs.Through.{scan_at};
 
 use crate::kept_maps::{KeptMap, Kepts};

@@ -4,14 +4,13 @@ ghost use Rattle.smk_base.specs.PlanImage.{binary_of, unary_of};
 ghost use Rattle.smk_base.specs.Rels.{kind_in, picked};
 ghost use Rattle.smk_model.specs.Plain.{step1, step2};
 ghost use Rattle.smk_model.specs.Kinds.{Fits1, Fits2, kinds1, kinds2};
-ghost use Rattle.smk_found.specs.Locals.{is_nothing, is_nothing2};
+ghost use Rattle.smk_body.specs.Locals.{is_nothing, is_nothing2};
 ghost use Rattle.smk_compose.specs.Through.{through, together_all, side1, side_left, side_right, right_of, want_of, map_at, Passes, Meets, pairs_fault, node_fault, IsFirst};
 
 use crate::fault::RunFault;
 use crate::kept_maps::{KeptMap, Run};
 use crate::pass::{meet_all, pass_all, wants};
-use smk_body::OpBody;
-use smk_found::{OpFault, Want};
+use smk_body::{OpBody, OpFault, Want};
 use smk_jobs::Work;
 use smk_table::{NarrowedOne, NarrowedTwo};
 use std::thread::Threads;

@@ -18,8 +18,8 @@ use Rattle.smk_base.proofs.Places.{map_upto}
 use Rattle.smk_model.proofs.Firsts.{row_same, row_is, holds, holds_at, fold_append, add_firsts}
 use Rattle.smk_model.proofs.Classes.{place_in, found_below, found_at, same_place, first_below, classes_are}
 use Rattle.smk_model.proofs.Bulk.{bulk}
-use Rattle.smk_found.proofs.Classing.{few_firsts}
-use Rattle.smk_found.proofs.Siding.{classes_below}
+use Rattle.smk_body.proofs.Classing.{few_firsts}
+use Rattle.smk_body.proofs.Siding.{classes_below}
 
 -- first occurrences have no other first occurrences than themselves
 pub firsts_twice : (xs : List Row) → firsts (firsts xs) ≡ firsts xs

@@ -6,10 +6,10 @@ use Rattle.smk_base.specs.Rels.{Relation}
 use Rattle.smk_model.specs.Values.{Row}
 use Rattle.smk_model.specs.Plain.{image, key_of, firsts, step1, step2}
 use Rattle.smk_model.specs.Kinds.{Fits1, Fits2}
-use Rattle.smk_found.specs.Halves.{right_columns_of}
-use Rattle.smk_found.specs.Locals.{local1, local2}
-use Rattle.smk_found.specs.declared.local.Want.{Want}
-use Rattle.smk_found.specs.declared.local.Local.{Local}
+use Rattle.smk_body.specs.Halves.{right_columns_of}
+use Rattle.smk_body.specs.Locals.{local1, local2}
+use Rattle.smk_body.specs.declared.keep.local.Want.{Want}
+use Rattle.smk_body.specs.declared.keep.local.Local.{Local}
 use Rattle.smk_defer.specs.declared.kept.KeptOp.{KeptOp}
 use Rattle.smk_defer.specs.declared.kept.KeptOp.TheVariants.{One, Two}
 

@@ -4,14 +4,13 @@ ghost use Rattle.std.specs.Prelude.{◌≡◌, ◌<◌, All, IfOk, length, map};
 ghost use Rattle.smk_base.specs.PlanImage.{binary_of, unary_of};
 ghost use Rattle.smk_model.specs.Kinds.{Fits1, Fits2};
 ghost use Rattle.smk_model.specs.Plain.{firsts, key_of, step1, step2};
-ghost use Rattle.smk_found.specs.Findings.{finding1};
-ghost use Rattle.smk_found.specs.Halves.{right_columns_of};
+ghost use Rattle.smk_body.specs.Findings.{finding1};
+ghost use Rattle.smk_body.specs.Halves.{right_columns_of};
 ghost use Rattle.smk_defer.specs.Kept.{keys1, keys2};
 
 use crate::keys::{class_keys, row_keys};
 use smk_base::{Op1, Op2, Rel};
-use smk_body::right_columns;
-use smk_found::{Found, Made};
+use smk_body::{Found, Made, right_columns};
 use smk_keys::{Classes, KeyTable};
 use std::alloc::{AllocError, Global};
 

@@ -3,7 +3,7 @@ ghost use Rattle.smk_base.specs.declared.rel.TheConstants.{ROW_LIMIT};
 ghost use Rattle.smk_defer.specs.Kept.{StepFits, step_keys, step_rows};
 
 use smk_base::{Op1, Op2, Rel};
-use smk_found::Want;
+use smk_body::Want;
 use smk_keys::KeyTable;
 
 /// A step of a plan, with one input or with two.

@@ -9,10 +9,10 @@ ghost use Rattle.smk_keys.specs.Classes.{classes_of};
 ghost use Rattle.smk_keys.specs.Keys.{place_or_last};
 ghost use Rattle.smk_model.specs.Classes.{places_in};
 ghost use Rattle.smk_model.specs.Plain.{firsts};
-ghost use Rattle.smk_found.specs.Findings.{side_by_targets};
+ghost use Rattle.smk_body.specs.Findings.{side_by_targets};
 
 use smk_base::{CellRef, Dir, Rel, Row, Value, numbers_below};
-use smk_found::{Side, side_of_classes};
+use smk_body::{Side, side_of_classes};
 use smk_keys::{Classes, KeyTable};
 use std::alloc::{AllocError, Global};
 

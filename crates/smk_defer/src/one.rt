@@ -6,13 +6,12 @@ ghost use Rattle.smk_base.specs.Plans.{Distinction, Grouping, Selection};
 ghost use Rattle.smk_base.specs.declared.book.plan.Agg.{Agg};
 ghost use Rattle.smk_model.specs.Kinds.{Fits1, FormulaFits, ItemsFit};
 ghost use Rattle.smk_model.specs.Plain.{firsts, image, key_of};
-ghost use Rattle.smk_found.specs.Locals.{local1};
+ghost use Rattle.smk_body.specs.Locals.{local1};
 ghost use Rattle.smk_defer.specs.Kept.{keys1};
 
 use crate::keys::{side_by_keys, side_by_rows};
 use smk_base::{Dir, Item, Op1, Pred, Rel};
-use smk_body::{images, selected};
-use smk_found::{Found, Local, Places, Same, Want, lineage_of, no_side};
+use smk_body::{Found, Local, Places, Same, Want, images, lineage_of, no_side, selected};
 use smk_keys::KeyTable;
 use std::alloc::{AllocError, Global};
 

@@ -18,7 +18,7 @@ use Rattle.smk_model.specs.Values.{Row}
 use Rattle.smk_model.specs.Workload.{needs}
 use Rattle.smk_chain.specs.Runs.{run_over, tables_before, tables_behind}
 use Rattle.smk_compose.specs.declared.kept_maps.Run.{Run}
-use Rattle.smk_start.specs.Opened.{opened, workbook_image}
+use Rattle.smk_session.specs.Opened.{opened, workbook_image}
 use Rattle.smk_grow.specs.Grown.{rows_of, with_rows, first_tables, last_tables}
 use Rattle.smk_grow.specs.Renewed.{chains}
 use Rattle.smk_grow.proofs.Grown.{each_rows_with, rows_is}

@@ -9,8 +9,8 @@ use Rattle.smk_model.specs.Selection.{each_rows}
 use Rattle.smk_model.specs.Session.{Workbook}
 use Rattle.smk_compose.specs.declared.kept_maps.Run.{Run}
 use Rattle.smk_skip.specs.Splits.{SplitImage}
-use Rattle.smk_start.specs.Extras.{splits_of, all_cubes}
-use Rattle.smk_start.specs.Opened.{opened_views, workbook_image}
+use Rattle.smk_session.specs.Extras.{splits_of, all_cubes}
+use Rattle.smk_session.specs.Opened.{opened_views, workbook_image}
 use Rattle.smk_session.specs.Sessions.{SessionImage, workbook_of}
 use Rattle.smk_grow.specs.Grown.{first_tables}
 use Rattle.smk_grow.specs.Images.{renewed}

@@ -11,9 +11,9 @@ use Rattle.smk_model.specs.Plain.{table_at, whole}
 use Rattle.smk_model.specs.Selection.{each_rows, row_limit, rows_in}
 use Rattle.smk_model.specs.Session.{Workbook, view_at}
 use Rattle.smk_compose.specs.declared.kept_maps.Run.{Run}
-use Rattle.smk_start.specs.Opened.{IsStartFault, opened, workbook_image}
-use Rattle.smk_start.specs.declared.fault.StartFault.{StartFault}
-use Rattle.smk_start.specs.declared.fault.StartFault.TheVariants.{Rows, Pairs, NoMemory}
+use Rattle.smk_session.specs.Opened.{IsStartFault, opened, workbook_image}
+use Rattle.smk_session.specs.declared.start.fault.StartFault.{StartFault}
+use Rattle.smk_session.specs.declared.start.fault.StartFault.TheVariants.{Rows, Pairs, NoMemory}
 use Rattle.smk_grow.specs.Grown.{rows_of, first_tables}
 use Rattle.smk_grow.specs.Renewed.{apart_view, chains, kept_view, scan_fault, looks_apart}
 use Rattle.smk_grow.proofs.Grown.{other_with, rows_is}

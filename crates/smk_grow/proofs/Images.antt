@@ -13,7 +13,7 @@ use Rattle.smk_model.specs.Selection.{row_limit}
 use Rattle.smk_model.specs.Session.{State, Workbook}
 use Rattle.smk_model.specs.Values.{Row}
 use Rattle.smk_compose.specs.declared.kept_maps.Run.{Run}
-use Rattle.smk_start.specs.Opened.{AreExtras, AreOpened, opened_views, opened, workbook_image}
+use Rattle.smk_session.specs.Opened.{AreExtras, AreOpened, opened_views, opened, workbook_image}
 use Rattle.smk_session.specs.Sessions.{IsSession, SessionImage, content_kept, state_of, workbook_of}
 use Rattle.smk_session.proofs.Shown.{none_in_force}
 use Rattle.smk_grow.specs.Grown.{rows_of, longer_tables}

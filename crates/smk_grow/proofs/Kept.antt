@@ -10,8 +10,8 @@ use Rattle.smk_model.specs.Selection.{each_kinds}
 use Rattle.smk_model.specs.Session.{Workbook}
 use Rattle.smk_base.proofs.Places.{get_or_map_upto, length_upto}
 use Rattle.smk_compose.specs.declared.kept_maps.Run.{Run}
-use Rattle.smk_start.specs.Making.{AreNow, newer}
-use Rattle.smk_start.specs.Opened.{workbook_image}
+use Rattle.smk_session.specs.Making.{AreNow, newer}
+use Rattle.smk_session.specs.Opened.{workbook_image}
 use Rattle.smk_grow.specs.Renewed.{fresh_view, kept_view, kept_views}
 use Rattle.smk_grow.proofs.Renewed.{newer_is}
 

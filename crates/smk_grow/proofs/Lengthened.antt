@@ -11,7 +11,7 @@ use Rattle.smk_model.specs.Session.{Workbook}
 use Rattle.smk_model.specs.Values.{Row}
 use Rattle.smk_compose.specs.Fetched.{table_of}
 use Rattle.smk_compose.specs.declared.kept_maps.Run.{Run}
-use Rattle.smk_start.specs.Opened.{workbook_image}
+use Rattle.smk_session.specs.Opened.{workbook_image}
 use Rattle.smk_session.specs.Sessions.{IsSession, SessionImage, state_of, workbook_of}
 use Rattle.smk_grow.specs.Grown.{rows_of, first_tables, longer_tables}
 use Rattle.smk_grow.specs.Images.{grown_unless, lengthened, renewed_unless, shortened, told_unless}

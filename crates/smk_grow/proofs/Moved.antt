@@ -12,7 +12,7 @@ use Rattle.smk_model.specs.Selection.{each_rows}
 use Rattle.smk_model.specs.Values.{Row}
 use Rattle.smk_base.proofs.Places.{get_or_map_upto, length_upto, map_upto_agree}
 use Rattle.smk_compose.specs.declared.kept_maps.Run.{Run}
-use Rattle.smk_start.specs.Opened.{opened, opened_views, workbook_image}
+use Rattle.smk_session.specs.Opened.{opened, opened_views, workbook_image}
 use Rattle.smk_grow.specs.Grown.{rows_of, first_tables, longer_tables}
 use Rattle.smk_grow.specs.Renewed.{kept_view, kept_views, moved_at, moved_view, moved_views, no_view, view_in}
 use Rattle.smk_grow.proofs.Fresh.{same_but}

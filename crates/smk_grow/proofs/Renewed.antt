@@ -23,12 +23,12 @@ use Rattle.smk_model.proofs.NeverFull.{growing_never_full}
 use Rattle.smk_base.proofs.Places.{has_single}
 use Rattle.smk_model.proofs.Thin.{growing_is_thin}
 use Rattle.smk_model.proofs.Unscanned.{unscanned_stays}
-use Rattle.smk_found.specs.Locals.{wanted}
+use Rattle.smk_body.specs.Locals.{wanted}
 use Rattle.smk_compose.specs.KeptMaps.{kept_at}
 use Rattle.smk_compose.specs.declared.kept_maps.KeptMap.{KeptMap}
 use Rattle.smk_compose.specs.declared.kept_maps.Run.{Run}
-use Rattle.smk_start.specs.Opened.{opened}
-use Rattle.smk_start.specs.Making.{newer}
+use Rattle.smk_session.specs.Opened.{opened}
+use Rattle.smk_session.specs.Making.{newer}
 use Rattle.smk_grow.specs.Renewed.{chains, fresh_view, kept_view, moved_kept, moved_view}
 
 -- tables that are the same but for one

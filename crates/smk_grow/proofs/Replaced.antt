@@ -17,9 +17,9 @@ use Rattle.smk_push.specs.Cubes.{cubes_of}
 use Rattle.smk_skip.specs.Splits.{SplitImage}
 use Rattle.smk_model.specs.Session.{Workbook, view_at}
 use Rattle.smk_model.specs.Values.{Row}
-use Rattle.smk_start.specs.Extras.{backs_of, table_of, split_in, cubes_in, split_for, cubes_for}
-use Rattle.smk_start.specs.Opened.{opened}
-use Rattle.smk_start.specs.Making.{newer}
+use Rattle.smk_session.specs.Extras.{backs_of, table_of, split_in, cubes_in, split_for, cubes_for}
+use Rattle.smk_session.specs.Opened.{opened}
+use Rattle.smk_session.specs.Making.{newer}
 use Rattle.smk_grow.specs.Renewed.{replaced, put_at, fresh_view, kept_view, fresh_split, fresh_cubes, if_depends}
 use Rattle.smk_grow.proofs.Grown.{rel_of}
 use Rattle.smk_grow.proofs.Renewed.{SameBut, book_over, newer_is}

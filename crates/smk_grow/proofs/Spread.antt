@@ -10,9 +10,9 @@ use Rattle.smk_base.specs.declared.book.plan.Agg.{Agg}
 use Rattle.smk_base.specs.declared.value.Kind.{Kind}
 use Rattle.smk_model.specs.Session.{Workbook}
 use Rattle.smk_skip.specs.Splits.{SplitImage}
-use Rattle.smk_start.specs.Extras.{cubes_for, cubes_on, split_for, split_on}
-use Rattle.smk_start.specs.Making.{cubes_wanted, is_wanted, split_wanted}
-use Rattle.smk_start.proofs.Declared.{kept_next}
+use Rattle.smk_session.specs.Extras.{cubes_for, cubes_on, split_for, split_on}
+use Rattle.smk_session.specs.Making.{cubes_wanted, is_wanted, split_wanted}
+use Rattle.smk_session.proofs.Declared.{kept_next}
 use Rattle.smk_grow.specs.Renewed.{cubes_again, if_depends, split_again}
 
 -- what is left, from one declaration on

@@ -16,9 +16,9 @@ use Rattle.smk_model.specs.Values.{Row}
 use Rattle.smk_model.proofs.Appends.{appends_fit}
 use Rattle.smk_base.proofs.Places.{places_below}
 use Rattle.smk_compose.specs.Fetched.{table_of}
-use Rattle.smk_start.specs.Opened.{workbook_image}
+use Rattle.smk_session.specs.Opened.{workbook_image}
 use Rattle.smk_session.specs.Sessions.{IsSession, SessionImage, state_of, workbook_of}
-use Rattle.smk_start.proofs.Opened.{table_is, tables_long}
+use Rattle.smk_session.proofs.OpenedViews.{table_is, tables_long}
 use Rattle.smk_grow.specs.Images.{next_image, renewed, renewed_unless, shortened}
 use Rattle.smk_grow.specs.Told.{added_told, told_text}
 use Rattle.smk_grow.proofs.Grown.{at_table}

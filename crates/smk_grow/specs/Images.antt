@@ -7,8 +7,8 @@ use Rattle.smk_base.specs.declared.reply.AppendReply.TheVariants.{Added, Refused
 use Rattle.smk_model.specs.Appends.{is_too_long, longer_fault, refusal_of}
 use Rattle.smk_model.specs.Opening.{ViewFault}
 use Rattle.smk_model.specs.Values.{Row}
-use Rattle.smk_start.specs.Extras.{splits_of, all_cubes}
-use Rattle.smk_start.specs.Opened.{opened_views, workbook_image}
+use Rattle.smk_session.specs.Extras.{splits_of, all_cubes}
+use Rattle.smk_session.specs.Opened.{opened_views, workbook_image}
 use Rattle.smk_session.specs.Sessions.{SessionImage, state_of, workbook_of}
 use Rattle.smk_grow.specs.Grown.{longer_tables, first_tables}
 use Rattle.smk_grow.specs.Renewed.{kept_views}

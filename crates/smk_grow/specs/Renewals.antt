@@ -7,7 +7,7 @@ use Rattle.smk_model.specs.Catalogs.{each_table_kinds}
 use Rattle.smk_model.specs.Selection.{each_kinds, row_limit}
 use Rattle.smk_model.specs.Session.{Workbook}
 use Rattle.smk_model.specs.Values.{Row}
-use Rattle.smk_start.specs.Opened.{AreExtras, workbook_image}
+use Rattle.smk_session.specs.Opened.{AreExtras, workbook_image}
 use Rattle.smk_session.specs.Sessions.{IsSession, SessionImage, workbook_of}
 use Rattle.smk_grow.specs.Grown.{rows_of, first_tables, last_tables}
 use Rattle.smk_grow.specs.Images.{lengthened}

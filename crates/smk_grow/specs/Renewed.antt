@@ -14,10 +14,10 @@ use Rattle.smk_model.specs.Session.{Workbook, view_at}
 use Rattle.smk_compose.specs.declared.kept_maps.KeptMap.{KeptMap}
 use Rattle.smk_compose.specs.declared.kept_maps.Run.{Run}
 use Rattle.smk_skip.specs.Splits.{SplitImage}
-use Rattle.smk_start.specs.Kept.{is_of_table}
-use Rattle.smk_start.specs.Extras.{split_in, cubes_in}
-use Rattle.smk_start.specs.Making.{is_wanted, newer}
-use Rattle.smk_start.specs.Opened.{opened}
+use Rattle.smk_session.specs.Kept.{is_of_table}
+use Rattle.smk_session.specs.Extras.{split_in, cubes_in}
+use Rattle.smk_session.specs.Making.{is_wanted, newer}
+use Rattle.smk_session.specs.Opened.{opened}
 
 -- the values, with a fresh one in the place of each for which there is one
 abbrev pub replaced : {A : Type 0} → List (Option A) → List A → List A

@@ -1,12 +1,12 @@
 // A view that is a growing chain, over a table that has grown.
 ghost use Rattle.std.specs.Prelude.{◌≡◌, ◌<◌, true, length, IfOk};
-ghost use Rattle.smk_start.specs.Opened.{opened};
+ghost use Rattle.smk_session.specs.Opened.{opened};
 ghost use Rattle.smk_grow.specs.Renewals.{IsRenewal, book_of, first_book, last_book};
 ghost use Rattle.smk_grow.specs.Renewed.{chains};
 
 use crate::renewal::Renewal;
 use smk_chain::grown;
-use smk_start::{Opened, view_of};
+use smk_session::{Opened, view_of};
 use smk_typing::needed;
 use std::alloc::{AllocError, Global};
 

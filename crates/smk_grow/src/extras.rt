@@ -2,15 +2,15 @@
 ghost use Rattle.std.specs.Prelude.{◌≡◌, ◌≤◌, ◌+◌, ◌++◌, ◌∷◌, [], List, IfOk, OnOk};
 ghost use Rattle.std.specs.List.{filter_map, sum_by};
 ghost use Rattle.std.specs.Option.{option_to_list};
-ghost use Rattle.smk_start.specs.Making.{IsOpened, book_in, looks_wanted, split_wanted, cubes_wanted};
+ghost use Rattle.smk_session.specs.Making.{IsOpened, book_in, looks_wanted, split_wanted, cubes_wanted};
 ghost use Rattle.smk_grow.specs.Renewed.{if_depends, split_again, cubes_again};
 
 use smk_base::BackExtra;
 use smk_jobs::Work;
 use smk_outside::{Gate, Steps};
 use smk_push::Cubes;
+use smk_session::{Extras, Opening, Workers, make_extras, wants};
 use smk_skip::Split;
-use smk_start::{Extras, Opening, Workers, make_extras, wants};
 use std::alloc::{AllocError, Global};
 use std::collections::VecDeque;
 use std::sync::ledger::Ledger;

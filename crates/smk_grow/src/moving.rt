@@ -6,7 +6,7 @@ ghost use Rattle.smk_grow.specs.Renewed.{moved_kept, moved_view, moved_views};
 
 use smk_compose::{KeptMap, Kepts};
 use smk_rid::RidMap;
-use smk_start::{Opened, view_scans};
+use smk_session::{Opened, view_scans};
 use smk_typing::TypedBook;
 use std::alloc::Global;
 use std::mem::replace;

@@ -1,5 +1,5 @@
 use smk_base::Text;
-use smk_start::Mode;
+use smk_session::Mode;
 use smk_table::Table;
 use smk_typing::TypedBook;
 

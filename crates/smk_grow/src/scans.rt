@@ -6,7 +6,7 @@ ghost use Rattle.smk_grow.specs.Renewed.{chains};
 
 use smk_base::Rids;
 use smk_marks::is_growing;
-use smk_start::{view_of, view_scans};
+use smk_session::{view_of, view_scans};
 use smk_typing::TypedBook;
 use std::alloc::{AllocError, Global};
 

@@ -4,14 +4,14 @@ ghost use Rattle.std.specs.List.{flat_map};
 ghost use Rattle.smk_model.specs.AppendTexts as texts;
 ghost use Rattle.smk_model.specs.Session.{view_at};
 ghost use Rattle.smk_model.specs.ViewTexts.{text_of_view};
-ghost use Rattle.smk_start.specs.Making.{IsOpened, book_in};
+ghost use Rattle.smk_session.specs.Making.{IsOpened, book_in};
 
 use crate::said::added_line;
 use smk_base::Text;
 use smk_jobs::Work;
 use smk_outside::Gate;
 use smk_report::view_text_in_pieces;
-use smk_start::{Opening, Workers, view_now, view_of};
+use smk_session::{Opening, Workers, view_now, view_of};
 use std::alloc::AllocError;
 use std::thread::Threads;
 

@@ -3,7 +3,7 @@ ghost use Rattle.std.specs.Prelude.{◌≡◌, ◌<◌, ◌≤◌, ◌+◌, fals
 ghost use Rattle.std.specs.List.{sum_by};
 ghost use Rattle.smk_base.specs.Places.{upto};
 ghost use Rattle.smk_model.specs.Opening.{first_some};
-ghost use Rattle.smk_start.specs.Opened.{IsStartFault};
+ghost use Rattle.smk_session.specs.Opened.{IsStartFault};
 ghost use Rattle.smk_grow.specs.Renewals.{IsRenewal, book_of, first_book, last_book};
 ghost use Rattle.smk_grow.specs.Renewed.{apart_view, chains, fresh_view, kept_view, kept_views, scan_fault, looks_again};
 
@@ -11,7 +11,7 @@ use crate::chained::grown_view;
 use crate::renewal::Renewal;
 use smk_jobs::Work;
 use smk_outside::{Gate, Steps};
-use smk_start::{Opened, StartFault, Workers, open_view, view_scans};
+use smk_session::{Opened, StartFault, Workers, open_view, view_scans};
 use std::sync::ledger::Ledger;
 use std::thread::Threads;
 

@@ -1,8 +1,7 @@
 ghost use Rattle.std.specs.Prelude.{true};
 
 use smk_base::{Dir, Op1, Op2, Rel};
-use smk_body::OpBody;
-use smk_found::{Local, Made, Want, lineage};
+use smk_body::{Local, Made, OpBody, Want, lineage};
 use smk_jobs::Crew;
 use std::alloc::{AllocError, Global};
 use std::thread::Threads;

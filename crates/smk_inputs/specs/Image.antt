@@ -4,8 +4,8 @@ use Rattle.smk_model.specs.Readings as readings
 use Rattle.smk_model.specs.Words.{Invocation}
 use Rattle.smk_model.specs.Words as calls
 use Rattle.smk_model.specs.TalkWords.{TalkCall}
-use Rattle.smk_start.specs.declared.mode.Mode.{Mode}
-use Rattle.smk_start.specs.declared.mode.Mode.TheVariants.{Inject, Defer}
+use Rattle.smk_session.specs.declared.start.mode.Mode.{Mode}
+use Rattle.smk_session.specs.declared.start.mode.Mode.TheVariants.{Inject, Defer}
 use Rattle.smk_inputs.specs.declared.settings.Settings.{Settings}
 use Rattle.smk_inputs.specs.declared.called.RunTexts.{RunTexts}
 use Rattle.smk_inputs.specs.declared.called.RunTexts.TheVariants.{Files, Demo}

@@ -6,7 +6,7 @@ use Rattle.smk_model.specs.Outcome as outcomes
 use Rattle.smk_model.specs.Reports.{BookSaid}
 use Rattle.smk_model.specs.Readings.{Reading}
 use Rattle.smk_model.specs.Session.{Workbook}
-use Rattle.smk_start.specs.Opened.{workbook_image}
+use Rattle.smk_session.specs.Opened.{workbook_image}
 use Rattle.smk_inputs.specs.declared.inputs.Inputs.{Inputs}
 use Rattle.smk_model.specs.Selection.{each_rows}
 use Rattle.smk_inputs.specs.declared.collecting.Rest.{Rest}

@@ -1,7 +1,7 @@
 ghost use Rattle.std.specs.Prelude.{◌≤◌};
 ghost use Rattle.smk_base.specs.declared.workers.TheConstants.{WORKER_LIMIT};
 
-use smk_start::Mode;
+use smk_session::Mode;
 
 /// What options say of how a run works. What it writes doesn't depend on it.
 #[derive(Clone, Copy)]

@@ -13,7 +13,7 @@ use clap::builder::ValueParser;
 use clap::error::ErrorKind;
 use clap::{Arg, ArgAction, ArgMatches, Command};
 use smk_base::{Text, WORKER_LIMIT, read_int};
-use smk_start::Mode;
+use smk_session::Mode;
 use std::alloc::{AllocError, Global};
 
 // The most workers that a run may have, as the number that clap reads.

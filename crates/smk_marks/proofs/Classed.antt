@@ -16,9 +16,9 @@ use Rattle.smk_keys.specs.Classes.{ClassesImage, classing_of, first_items}
 use Rattle.smk_keys.proofs.Classing.{AreClasses-classing}
 use Rattle.smk_keys.proofs.Firsts.{AreClasses, first_items-classes}
 use Rattle.smk_keys.proofs.Placed.{classes-numbers_alone}
-use Rattle.smk_found.specs.Halves.{AreNumbered, class_places, class_values}
+use Rattle.smk_body.specs.Halves.{AreNumbered, class_places, class_values}
 use Rattle.smk_body.proofs.Besides.{map_same, related, relation}
-use Rattle.smk_found.proofs.Classing.{are_numbered}
+use Rattle.smk_body.proofs.Classing.{are_numbered}
 use Rattle.smk_marks.specs.Marks.{mark_row, with_mark}
 
 pub map_below : {X : Type 0} (f g : ℕ → X) (n : ℕ) (A : List ℕ) → All (λ i. i < n) A → ((i : ℕ) → i < n → f i ≡ g i) → map f A ≡ map g A

@@ -14,7 +14,7 @@ use Rattle.smk_model.proofs.Aggregates.{aggregate_moved, moved_to_own}
 use Rattle.smk_model.proofs.Parts.{map_agree}
 use Rattle.smk_base.proofs.Places.{map_map, places_below}
 use Rattle.smk_keys.specs.Classes.{ClassesImage, first_items}
-use Rattle.smk_found.specs.Halves.{class_places, class_values}
+use Rattle.smk_body.specs.Halves.{class_places, class_values}
 use Rattle.smk_body.proofs.Aggregating.{map_where}
 use Rattle.smk_marks.specs.Marks.{reads_none, marked_group, with_mark}
 use Rattle.smk_marks.specs.MarkLaws.{CountsAlone}

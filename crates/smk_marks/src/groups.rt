@@ -2,7 +2,7 @@ ghost use Rattle.std.specs.Prelude.{◌≡◌, ℕ, ◌<◌, ◌≤◌, ◌+◌,
 ghost use Rattle.smk_base.specs.Aggregates.{read_by};
 ghost use Rattle.smk_base.specs.PlanImage.{expr_of};
 ghost use Rattle.smk_base.specs.declared.rel.TheConstants.{ROW_LIMIT};
-ghost use Rattle.smk_found.specs.Halves.{AreNumbered, class_values};
+ghost use Rattle.smk_body.specs.Halves.{AreNumbered, class_values};
 ghost use Rattle.smk_model.specs.Growth.{is_chain};
 ghost use Rattle.smk_model.specs.Kinds.{kind_of_agg};
 ghost use Rattle.smk_model.specs.Selection.{plan_kinds};

@@ -2,8 +2,7 @@ ghost use Rattle.std.specs.Prelude.{◌<◌, ◌≤◌};
 ghost use Rattle.smk_base.specs.declared.workers.TheConstants.{WORKER_LIMIT};
 
 use smk_base::{Dir, Op1, Op2, Rel};
-use smk_body::OpBody;
-use smk_found::{Local, Made, Want};
+use smk_body::{Local, Made, OpBody, Want};
 use smk_jobs::Crew;
 use smk_outside::Gate;
 use std::alloc::{AllocError, Global};

@@ -18,10 +18,10 @@ use Rattle.smk_model.specs.Lineage.{row_at}
 use Rattle.smk_model.proofs.Classes.{classes_are, first_below}
 use Rattle.smk_model.proofs.Bulk.{bulk}
 use Rattle.smk_base.proofs.Places.{at_places, filter_map, map_map, map_upto, map_upto_agree, places_below, same_below, few_places}
-use Rattle.smk_found.specs.Halves.{AreNumbered, class_places}
+use Rattle.smk_body.specs.Halves.{AreNumbered, class_places}
 use Rattle.smk_body.proofs.Aggregating.{map_where}
 use Rattle.smk_body.proofs.Besides.{map_same, related, relation}
-use Rattle.smk_found.proofs.Classing.{are_numbered, first_at, length_firsts}
+use Rattle.smk_body.proofs.Classing.{are_numbered, first_at, length_firsts}
 use Rattle.smk_push.specs.Cubes.{cube_of}
 use Rattle.smk_push.proofs.Read.{rows_picked}
 use Rattle.smk_push.specs.Inputs.{AreRead, IsInput, cube_from, grouped_at, rids_of}

@@ -3,7 +3,7 @@ ghost use Rattle.std.specs.Prelude.{◌≡◌, ◌<◌, ◌≤◌, ◌+◌, ◌+
 ghost use Rattle.smk_base.specs.Places.{upto};
 ghost use Rattle.smk_base.specs.Rels.{row_in, rows_at};
 ghost use Rattle.smk_base.specs.declared.rel.TheConstants.{COLUMN_LIMIT, ROW_LIMIT};
-ghost use Rattle.smk_found.specs.Halves.{AreNumbered, class_places};
+ghost use Rattle.smk_body.specs.Halves.{AreNumbered, class_places};
 ghost use Rattle.smk_keys.specs.Classes.{classes_of};
 ghost use Rattle.smk_model.specs.Kinds.{AggFits, kind_of_agg};
 ghost use Rattle.smk_model.specs.Plain.{aggregate};

@@ -36,17 +36,17 @@ use Rattle.smk_base.proofs.Places.{same_below}
 use Rattle.smk_compose.specs.declared.kept_maps.Run.{Run}
 use Rattle.smk_push.specs.Cubes.{cube_at, cube_of}
 use Rattle.smk_skip.specs.Splits.{SplitImage}
-use Rattle.smk_start.specs.Kept.{kept_back}
+use Rattle.smk_session.specs.Kept.{kept_back}
 use Rattle.smk_session.specs.Answers.{BacksFit, back_by, rows_told, state_lent, within_asked}
-use Rattle.smk_start.specs.Extras.{backs_of, cubes_place, split_on, split_place, table_of}
+use Rattle.smk_session.specs.Extras.{backs_of, cubes_place, split_on, split_place, table_of}
 use Rattle.smk_session.specs.BackAnswers.{CubesFit, IsPairOf, SplitsFit, cubes_asked, grouped_by, matching_by, one_asked, sort_asked, split_asked, split_kept, with_value_asked}
-use Rattle.smk_start.specs.Opened.{state_over, workbook_image}
+use Rattle.smk_session.specs.Opened.{state_over, workbook_image}
 use Rattle.smk_session.specs.declared.lent.Lent.{Lent}
 use Rattle.smk_session.specs.declared.answer.backward.Pair.{Pair}
-use Rattle.smk_start.proofs.Declared.{cubes_found, cubes_of_grouped, grouping_fits, split_found}
-use Rattle.smk_start.proofs.KeptOf.{kept_back_is}
+use Rattle.smk_session.proofs.Declared.{cubes_found, cubes_of_grouped, grouping_fits, split_found}
+use Rattle.smk_session.proofs.KeptOf.{kept_back_is}
 use Rattle.smk_session.proofs.Marked.{backs_asked, none_outside, passed, same_row}
-use Rattle.smk_start.proofs.Opened.{run_is, table_is}
+use Rattle.smk_session.proofs.OpenedViews.{run_is, table_is}
 use Rattle.smk_session.proofs.Opened.{ok_is, plain_is, provided_then, then_row}
 
 abbrev book_of : List Relation → Pair → Workbook

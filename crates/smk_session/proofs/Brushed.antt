@@ -19,19 +19,19 @@ use Rattle.smk_model.specs.Selection.{each_rows}
 use Rattle.smk_model.specs.Session.{State, linked, under, view_at, with_brush, without_brush}
 use Rattle.smk_model.specs.Workload.{declares_back, is_back, is_link}
 use Rattle.smk_compose.specs.declared.kept_maps.Run.{Run}
-use Rattle.smk_start.specs.Kept.{kept_back}
+use Rattle.smk_session.specs.Kept.{kept_back}
 use Rattle.smk_session.specs.Answers.{Changes, IsLent, Turns, book_of, content_at, placed}
 use Rattle.smk_session.specs.Refreshed.{IsRefresh}
-use Rattle.smk_start.specs.Opened.{AreOpened, state_over}
+use Rattle.smk_session.specs.Opened.{AreOpened, state_over}
 use Rattle.smk_session.specs.Sessions.{AreInForce, BrushFits}
 use Rattle.smk_session.specs.declared.lent.Lent.{Lent}
 use Rattle.smk_session.specs.declared.brush.refresh.Refresh.{Refresh}
 use Rattle.smk_session.specs.declared.turn.Content.{Content}
 use Rattle.smk_session.specs.declared.answer.no_answer.Turned.{Turned}
 use Rattle.smk_session.specs.declared.answer.no_answer.Turned.TheVariants.{Refused, Exhausted}
-use Rattle.smk_start.proofs.KeptOf.{kept_back_is}
+use Rattle.smk_session.proofs.KeptOf.{kept_back_is}
 use Rattle.smk_session.proofs.Linked.{or_right}
-use Rattle.smk_start.proofs.Opened.{run_is}
+use Rattle.smk_session.proofs.OpenedViews.{run_is}
 use Rattle.smk_session.proofs.Shown.{all_known, brush_changes, clear_changes, linked_known, none_changes}
 
 -- the backward lists of a view to a table with which it is linked are kept

@@ -23,17 +23,17 @@ use Rattle.smk_model.specs.Workload.{declares_fwd}
 use Rattle.smk_model.proofs.Composed.{lists_stand}
 use Rattle.smk_base.proofs.Places.{places_below}
 use Rattle.smk_compose.specs.declared.kept_maps.Run.{Run}
-use Rattle.smk_start.specs.Kept.{kept_fwd}
+use Rattle.smk_session.specs.Kept.{kept_fwd}
 use Rattle.smk_session.specs.Answers.{AreOn, brushed_of, picks_brushed, rids_or_all}
 use Rattle.smk_session.specs.Refreshed.{Names, book_at}
 use Rattle.smk_session.specs.declared.brush.refresh.Refresh.{Refresh}
-use Rattle.smk_start.specs.Opened.{AreOpened, state_over}
+use Rattle.smk_session.specs.Opened.{AreOpened, state_over}
 use Rattle.smk_session.specs.Sessions.{BrushFits}
 use Rattle.smk_session.proofs.Rids.{rids_ascend}
 use Rattle.smk_session.proofs.Selected.{chosen_or_all, picks_fit, picks_more, picks_same, same_leaves}
-use Rattle.smk_start.proofs.KeptOf.{kept_fwd_is}
+use Rattle.smk_session.proofs.KeptOf.{kept_fwd_is}
 use Rattle.smk_session.proofs.Linked.{has_item, linked_declares, linked_low}
-use Rattle.smk_start.proofs.Opened.{run_is}
+use Rattle.smk_session.proofs.OpenedViews.{run_is}
 
 -- the lists that are kept of a declared query
 

@@ -40,8 +40,8 @@ use Rattle.smk_session.specs.Refreshed.{IsBrushed, IsKept, IsRefresh, Shows, boo
 use Rattle.smk_session.specs.declared.lent.Lent.{Lent}
 use Rattle.smk_session.specs.declared.brush.refresh.Refresh.{Refresh}
 use Rattle.smk_session.proofs.Followers.{chosen_there}
-use Rattle.smk_start.proofs.KeptOf.{find_mapped, found}
-use Rattle.smk_start.proofs.Opened.{run_is, tables_long}
+use Rattle.smk_session.proofs.KeptOf.{find_mapped, found}
+use Rattle.smk_session.proofs.OpenedViews.{run_is, tables_long}
 use Rattle.smk_session.proofs.Selected.{whole_where}
 use Rattle.smk_session.proofs.Shown.{none_is, some_is}
 

@@ -11,3 +11,8 @@ mod Refreshing
 mod Rids
 mod Selected
 pub mod Shown
+pub mod OpenedViews
+pub mod KeptOf
+pub mod Declared
+pub mod Starts
+mod AtOnce

@@ -25,9 +25,9 @@ use Rattle.smk_model.specs.Workload.{declares_back, declares_fwd}
 use Rattle.smk_base.proofs.Places.{get_or_map_upto, length_upto}
 use Rattle.smk_compose.specs.declared.kept_maps.Run.{Run}
 use Rattle.smk_session.specs.Answers.{members_asked, rows_told, back_by, fwd_by}
-use Rattle.smk_start.specs.Opened.{AreOpened, workbook_image, state_over, opened}
-use Rattle.smk_start.proofs.Opened.{run_is, table_is}
-use Rattle.smk_start.proofs.KeptOf.{kept_back_is, kept_fwd_is}
+use Rattle.smk_session.specs.Opened.{AreOpened, workbook_image, state_over, opened}
+use Rattle.smk_session.proofs.OpenedViews.{run_is, table_is}
+use Rattle.smk_session.proofs.KeptOf.{kept_back_is, kept_fwd_is}
 use Rattle.smk_session.proofs.Marked.{backs_asked, forwards_asked}
 
 -- a backward query

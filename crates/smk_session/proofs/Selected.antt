@@ -20,7 +20,7 @@ use Rattle.smk_model.proofs.Replies.{whole_sub}
 use Rattle.smk_model.proofs.Selections.{filter-true}
 use Rattle.smk_session.specs.Answers.{AreOn, brushed_of, narrowed_by, pick_for, picks_brushed, rids_or_all}
 use Rattle.smk_session.proofs.InForce.{put_last}
-use Rattle.smk_start.proofs.KeptOf.{find_mapped, found, past}
+use Rattle.smk_session.proofs.KeptOf.{find_mapped, found, past}
 use Rattle.smk_session.proofs.Rids.{filter_ascends, places_ascend}
 use Rattle.smk_model.proofs.Anys.{or_false}
 use Rattle.smk_model.proofs.Keyed.{none_pass}

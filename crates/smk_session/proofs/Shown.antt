@@ -18,13 +18,13 @@ use Rattle.smk_base.proofs.Places.{get_or_map_upto, length_upto, upto_below, has
 use Rattle.smk_compose.specs.declared.kept_maps.Run.{Run}
 use Rattle.smk_skip.specs.Splits.{SplitImage}
 use Rattle.smk_session.specs.Answers.{content_at, placed}
-use Rattle.smk_start.specs.Opened.{AreExtras, AreOpened, state_over}
+use Rattle.smk_session.specs.Opened.{AreExtras, AreOpened, state_over}
 use Rattle.smk_session.specs.Sessions.{AreInForce, BrushFits, IsSession, content_kept, follows, same_pair}
-use Rattle.smk_start.specs.declared.mode.Mode.{Mode}
+use Rattle.smk_session.specs.declared.start.mode.Mode.{Mode}
 use Rattle.smk_session.specs.declared.turn.Content.{Content}
 use Rattle.smk_session.proofs.InForce.{brush_leaves, clear_leaves, placed_are, untouched}
 use Rattle.smk_session.proofs.Linked.{linked_low}
-use Rattle.smk_start.proofs.Opened.{run_is, views_long}
+use Rattle.smk_session.proofs.OpenedViews.{run_is, views_long}
 use Rattle.smk_session.proofs.Pairs.{none_a_pair, with_one_a_pair, without_one_a_pair}
 
 -- what is kept of a view

@@ -17,8 +17,8 @@ use Rattle.smk_model.specs.Names.{◌>>=◌}
 use Rattle.smk_model.specs.Replies.{Asked, is_refused, unless_outside, marked}
 use Rattle.smk_model.specs.Session.{State, concerns, selected_for, under}
 use Rattle.smk_compose.specs.declared.kept_maps.KeptMap.{KeptMap}
-use Rattle.smk_start.specs.Opened.{AreExtras, AreOpened, state_over}
-use Rattle.smk_start.specs.Kept.{kept_back, kept_fwd}
+use Rattle.smk_session.specs.Opened.{AreExtras, AreOpened, state_over}
+use Rattle.smk_session.specs.Kept.{kept_back, kept_fwd}
 use Rattle.smk_session.specs.Sessions.{AreInForce, content_kept}
 use Rattle.smk_session.specs.declared.brush.choices.Choice.{Choice}
 use Rattle.smk_session.specs.declared.lent.Lent.{Lent}

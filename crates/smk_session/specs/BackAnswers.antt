@@ -15,10 +15,10 @@ use Rattle.smk_model.specs.Replies.{Asked, column_place, is_of_column, marked, p
 use Rattle.smk_compose.specs.declared.kept_maps.Run.{Run}
 use Rattle.smk_push.specs.Cubes.{cube_at}
 use Rattle.smk_skip.specs.Splits.{SplitImage, members_with}
-use Rattle.smk_start.specs.Kept.{kept_back}
+use Rattle.smk_session.specs.Kept.{kept_back}
 use Rattle.smk_session.specs.Answers.{rows_told, within_asked}
-use Rattle.smk_start.specs.Extras.{split_place, cubes_place}
-use Rattle.smk_start.specs.Opened.{AreExtras, AreOpened}
+use Rattle.smk_session.specs.Extras.{split_place, cubes_place}
+use Rattle.smk_session.specs.Opened.{AreExtras, AreOpened}
 use Rattle.smk_session.specs.declared.answer.backward.Pair.{Pair}
 
 -- what a session holds of a view and a table

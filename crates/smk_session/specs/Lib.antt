@@ -5,3 +5,8 @@ pub mod Refreshed
 pub mod SessionLaws
 pub mod Sessions
 pub mod Turns
+pub mod Opened
+pub mod Kept
+pub mod Extras
+pub mod Making
+pub mod Openings

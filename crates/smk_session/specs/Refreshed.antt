@@ -19,7 +19,7 @@ use Rattle.smk_marks.specs.Views.{CanGroup, EndsInGroups, ends_in_groups, groupe
 use Rattle.smk_marks.specs.declared.reached.Reached.{Reached}
 use Rattle.smk_marks.specs.declared.view.KeptView.{KeptView}
 use Rattle.smk_session.specs.Answers.{AreOn, IsChoice, IsLent, Turns, book_of, brushed_of, content_at, state_at}
-use Rattle.smk_start.specs.Opened.{opened, workbook_image}
+use Rattle.smk_session.specs.Opened.{opened, workbook_image}
 use Rattle.smk_session.specs.Sessions.{BrushFits}
 use Rattle.smk_session.specs.declared.brush.choices.Choice.{Choice}
 use Rattle.smk_session.specs.declared.brush.evaluating.Fetched.{Fetched}

@@ -3,7 +3,7 @@ use Rattle.std.specs.Prelude.{◌≡◌, List, [], length, map, None}
 use Rattle.smk_base.specs.CatalogImage.{CatalogImage}
 use Rattle.smk_base.specs.Places.{upto}
 use Rattle.smk_base.specs.Rels.{Relation}
-use Rattle.smk_start.specs.Opened.{state_over}
+use Rattle.smk_session.specs.Opened.{state_over}
 use Rattle.smk_session.specs.Sessions.{contents_kept}
 
 -- with no brush in force, no view has a content beside its first one

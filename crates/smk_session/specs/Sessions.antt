@@ -11,8 +11,8 @@ use Rattle.smk_model.specs.Replies.{content_of}
 use Rattle.smk_model.specs.Session.{Workbook, State, is_brush, linked, rows_of_table}
 use Rattle.smk_compose.specs.declared.kept_maps.Run.{Run}
 use Rattle.smk_skip.specs.Splits.{SplitImage}
-use Rattle.smk_start.specs.Opened.{AreOpened, AreExtras, workbook_image, state_over}
-use Rattle.smk_start.specs.declared.mode.Mode.{Mode}
+use Rattle.smk_session.specs.Opened.{AreOpened, AreExtras, workbook_image, state_over}
+use Rattle.smk_session.specs.declared.start.mode.Mode.{Mode}
 
 -- its book, the tables, for each view the first content with the lineage that is kept, the splits and the groups that are made for the declarations that ask for more than rows, the brushes in force, for each view the content that is kept under them beside the first one, the mode of capture and the number of workers
 pub record SessionImage : Type 0 where

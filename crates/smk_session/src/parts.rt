@@ -1,7 +1,8 @@
+use crate::start::mode::Mode;
+use crate::start::opening::Opened;
 use smk_base::{BrushOn, Rel};
 use smk_push::Cubes;
 use smk_skip::Split;
-use smk_start::{Mode, Opened};
 use smk_table::Table;
 use smk_typing::TypedBook;
 

@@ -15,7 +15,7 @@ use Rattle.smk_model.specs.Locals.{singles}
 use Rattle.smk_model.specs.Classes.{classes, first_places}
 use Rattle.smk_base.proofs.Places.{same_below, map_map, map_upto, map_upto_agree}
 use Rattle.smk_keys.specs.Classes.{ClassesImage, classes_of}
-use Rattle.smk_found.proofs.Classing.{class_pair, are_numbered, length_of}
+use Rattle.smk_body.proofs.Classing.{class_pair, are_numbered, length_of}
 use Rattle.smk_model.specs.Replies.{with_value}
 use Rattle.smk_skip.specs.Parts.{values_in, lists_by, HasAll}
 use Rattle.smk_skip.proofs.Filters.{and_true}

@@ -8,7 +8,7 @@ ghost use Rattle.smk_skip.specs.Parts.{values_in, lists_by, HasAll};
 
 use indexmap::IndexSet;
 use smk_base::{Rel, Value};
-use smk_found::turned_lists;
+use smk_body::turned_lists;
 use smk_keys::Classes;
 use smk_rid::RidMap;
 use std::alloc::{AllocError, Global};

@@ -3,8 +3,7 @@ ghost use Rattle.smk_model.specs.Kinds.{Fits1};
 
 use crate::no_steps::NoSteps;
 use smk_base::{Dir, Op1, Op2, Rel};
-use smk_body::OpBody;
-use smk_found::{Local, Made, Want};
+use smk_body::{Local, Made, OpBody, Want};
 use smk_jobs::Crew;
 use std::alloc::{AllocError, Global};
 use std::sync::atomic::{AtomicU64, Ordering};

@@ -1,8 +1,7 @@
 ghost use Rattle.std.specs.Prelude.{false};
 
 use smk_base::{Dir, Op1, Op2, Rel};
-use smk_body::OpBody;
-use smk_found::{Local, Made, Want};
+use smk_body::{Local, Made, OpBody, Want};
 use smk_jobs::Crew;
 use std::alloc::{AllocError, Global};
 use std::thread::Threads;

@@ -8,7 +8,7 @@ ghost use Rattle.smk_model.specs.Lines.{lines};
 ghost use Rattle.smk_model.specs.Looks.{start_looks};
 ghost use Rattle.smk_model.specs.Profiles.{AreDependencies};
 ghost use Rattle.smk_model.specs.Opening.{first_view_fault};
-ghost use Rattle.smk_start.specs.Opened.{IsStartFault, workbook_image};
+ghost use Rattle.smk_session.specs.Opened.{IsStartFault, workbook_image};
 ghost use Rattle.smk_session.specs.Sessions.{workbook_of};
 ghost use Rattle.smk_inputs.specs.Added.{BringTables};
 ghost use Rattle.smk_inputs.specs.Loaded.{workbook_read, script_bytes};
@@ -18,8 +18,7 @@ ghost use Rattle.smk_top.specs.declared.starting.Started.{Started as StartedShap
 use smk_base::{Catalog, Fault, ListOf, TableInfo, Text, ViewInfo};
 use smk_inputs::{Engine, Inputs, Settings, Stop};
 use smk_outside::{Gate, Steps};
-use smk_session::Session;
-use smk_start::StartFault;
+use smk_session::{Session, StartFault};
 use smk_table::Table;
 use std::alloc::{AllocError, Global};
 use std::collections::VecDeque;

@@ -7,7 +7,7 @@ ghost use Rattle.smk_base.specs.declared.book.plan.Operand.TheVariants as operan
 ghost use Rattle.smk_base.specs.declared.book.plan.CmpOp.{CmpOp};
 ghost use Rattle.smk_model.specs.Kinds.{FormulaFits};
 ghost use Rattle.smk_model.specs.Values.{holds};
-ghost use Rattle.smk_found.specs.Halves.{ints_below, meeting_below};
+ghost use Rattle.smk_body.specs.Halves.{ints_below, meeting_below};
 
 use crate::comparisons::{compare, meets_at, says};
 use smk_base::{CellRef, CmpOp, Ints, Operand, Pred, Rel, Value};

@@ -9,8 +9,8 @@ ghost use Rattle.smk_jobs.specs.Cuts.{AreParts, cut_at};
 ghost use Rattle.smk_body.specs.Cuts.{HasPlaces};
 
 use crate::find::passing::selected;
+use crate::find::places::Places;
 use smk_base::{Pred, Rel};
-use smk_found::Places;
 use smk_jobs::{Crew, Work, cut_range, in_parts};
 use std::alloc::{AllocError, Global};
 use std::marker::Sync;

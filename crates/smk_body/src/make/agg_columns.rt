@@ -11,12 +11,12 @@ ghost use Rattle.smk_model.specs.Plain.{combined, key_of, step1};
 ghost use Rattle.smk_model.specs.Lineage.{row_at};
 ghost use Rattle.smk_model.specs.Kinds.{AggFits, GroupFits, IsSummed, kind_of_agg, kinds1, summed};
 ghost use Rattle.smk_keys.specs.Classes.{classes_of};
-ghost use Rattle.smk_found.specs.Halves.{AreNumbered, better, class_places, class_sizes, class_values};
+ghost use Rattle.smk_body.specs.Halves.{AreNumbered, better, class_places, class_sizes, class_values};
 
+use crate::keep::lists::counted;
 use crate::make::aggregates::{best_places, sums};
 use crate::make::gather::columns_at;
 use smk_base::{Agg, Kind, Rel};
-use smk_found::counted;
 use smk_keys::Classes;
 use std::alloc::{AllocError, Global};
 

@@ -5,7 +5,7 @@ ghost use Rattle.smk_model.specs.Values.{value_at};
 ghost use Rattle.smk_model.specs.Plain.{number_of, total};
 ghost use Rattle.smk_model.specs.Lineage.{row_at};
 ghost use Rattle.smk_model.specs.Kinds.{IsSummed};
-ghost use Rattle.smk_found.specs.Halves.{AreNumbered, best_place, bests_of, class_places, improves_on};
+ghost use Rattle.smk_body.specs.Halves.{AreNumbered, best_place, bests_of, class_places, improves_on};
 ghost use Rattle.smk_base.specs.declared.value.Value.TheVariants as values;
 ghost use Rattle.smk_base.specs.declared.rel.TheConstants.{ROW_LIMIT};
 

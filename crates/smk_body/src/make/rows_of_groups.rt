@@ -8,13 +8,14 @@ ghost use Rattle.smk_keys.specs.Classes.{classes_of};
 ghost use Rattle.smk_model.specs.Kinds.{GroupFits, kinds1};
 ghost use Rattle.smk_model.specs.Locals.{singles};
 ghost use Rattle.smk_model.specs.Plain.{firsts, key_of, step1};
-ghost use Rattle.smk_found.specs.Locals.{wanted};
+ghost use Rattle.smk_body.specs.Locals.{wanted};
 ghost use Rattle.smk_body.specs.Parts.{AreAggsOf, ArePlacesOf, aggregates_of, columns_of};
 
+use crate::find::partition::Partition;
+use crate::keep::lists::{counted, sized_lists};
 use crate::make::agg_columns::{agg_column, group_rows, sized_group_rows};
 use crate::make::gather::{both_of, columns_at};
 use smk_base::{Agg, Rel};
-use smk_found::{Partition, counted, sized_lists};
 use smk_jobs::{Crew, LEAST_ROWS, Work};
 use smk_rid::RidMap;
 use std::alloc::{AllocError, Global};

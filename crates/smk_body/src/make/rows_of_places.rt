@@ -6,12 +6,13 @@ ghost use Rattle.std.specs.Thread.{IsSync};
 ghost use Rattle.smk_base.specs.Places.{IsPlaces, inverted};
 ghost use Rattle.smk_base.specs.Rels.{rows_at};
 ghost use Rattle.smk_base.specs.declared.rel.TheConstants.{ROW_LIMIT};
-ghost use Rattle.smk_found.specs.Locals.{wanted};
+ghost use Rattle.smk_body.specs.Locals.{wanted};
 ghost use Rattle.smk_model.specs.Locals.{singles};
 
+use crate::find::places::Places;
+use crate::keep::lists::lists_if;
 use crate::make::gather::{both_of, gathered};
 use smk_base::Rel;
-use smk_found::{Places, lists_if};
 use smk_jobs::{Crew, Work};
 use smk_rid::RidMap;
 use std::alloc::AllocError;

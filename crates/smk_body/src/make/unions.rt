@@ -3,10 +3,10 @@ ghost use Rattle.std.specs.List.{AllZip};
 ghost use Rattle.smk_model.specs.Plain.{firsts};
 ghost use Rattle.smk_model.specs.Kinds.{AreAlike, wider_kinds};
 ghost use Rattle.smk_keys.specs.Classes.{classes_of};
-ghost use Rattle.smk_found.specs.declared.fault.OpFault.TheVariants.{Rows};
+ghost use Rattle.smk_body.specs.declared.fault.OpFault.TheVariants.{Rows};
 
+use crate::fault::OpFault;
 use smk_base::{Kind, ROW_LIMIT, Rel, numbers_below};
-use smk_found::OpFault;
 use smk_keys::Classes;
 use std::alloc::{AllocError, Global};
 

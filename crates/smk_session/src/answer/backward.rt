@@ -7,7 +7,7 @@ ghost use Rattle.smk_model.specs.Replies as replies;
 ghost use Rattle.smk_model.specs.Typing.{info_at};
 ghost use Rattle.smk_model.specs.Workload as workload;
 ghost use Rattle.smk_session.specs.Answers.{Gives, Turns, BacksFit, IsLent, back_by, looks_of_asked};
-ghost use Rattle.smk_start.specs.Extras.{split_place, cubes_place};
+ghost use Rattle.smk_session.specs.Extras.{split_place, cubes_place};
 ghost use Rattle.smk_session.specs.BackAnswers.{IsPairOf, SplitsFit, CubesFit, split_asked, cubes_asked, one_asked, sort_asked, with_value_asked, matching_by, grouped_by};
 
 use crate::answer::lineage::back_map;

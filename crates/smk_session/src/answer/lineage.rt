@@ -1,13 +1,13 @@
 // The lineage that a line asks for.
 ghost use Rattle.std.specs.Prelude.{◌≡◌, Ok, MatchResult};
 ghost use Rattle.smk_session.specs.Answers.{Turns};
-ghost use Rattle.smk_start.specs.Kept.{kept_back, kept_fwd};
+ghost use Rattle.smk_session.specs.Kept.{kept_back, kept_fwd};
 
 use crate::answer::no_answer::Turned;
+use crate::start::kept::{back_kept, fwd_kept};
 use smk_base::Refusal;
 use smk_compose::Run;
 use smk_rid::RidMap;
-use smk_start::{back_kept, fwd_kept};
 
 // The backward lineage to a table. It is kept exactly where the query is declared.
 pub(crate) fn back_map(run: &Run, table: usize) -> Result<&RidMap, Turned>

@@ -4,6 +4,7 @@ ghost use Rattle.smk_base.specs.PlanImage.{expr_of};
 ghost use Rattle.smk_marks.specs.Views.{CanGroup};
 ghost use Rattle.smk_session.specs.Refreshed.{CanRun, IsReady, IsRun, IsMade, read_by_marks};
 
+use crate::start::workers::Workers;
 use smk_base::{Plan, Rel, Rids};
 use smk_compose::{EvalFault, Leaves, eval_leaves};
 use smk_jobs::Work;
@@ -11,7 +12,6 @@ use smk_marks::{KeptView, Reached, content_by_marks};
 use smk_outside::Gate;
 use smk_par::Pieces;
 use smk_plain::Plain;
-use smk_start::Workers;
 use std::alloc::{AllocError, Global};
 use std::thread::Threads;
 

@@ -3,7 +3,7 @@ use Rattle.smk_model.specs.Values.{Row}
 use Rattle.smk_model.specs.Plain.{key_of}
 use Rattle.smk_model.specs.Classes.{places_in}
 use Rattle.smk_model.proofs.OneEach.{one_each}
-use Rattle.smk_found.proofs.Siding.{by_targets, one_side}
+use Rattle.smk_body.proofs.Siding.{by_targets, one_side}
 use Rattle.smk_defer.proofs.Keyed.{known}
 use Rattle.smk_defer.proofs.one.grouping.Goals as goal
 

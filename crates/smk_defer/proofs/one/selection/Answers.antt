@@ -8,8 +8,8 @@ use Rattle.smk_base.proofs.Places.{places_below, places_are}
 use Rattle.smk_model.proofs.CuiWidom.{length_selected}
 use Rattle.smk_model.proofs.Sizes.{adds_no_rows}
 use Rattle.smk_model.proofs.OneEach.{one_each}
-use Rattle.smk_found.specs.Halves.{meeting_below}
-use Rattle.smk_found.proofs.Siding.{by_sources, one_side}
+use Rattle.smk_body.specs.Halves.{meeting_below}
+use Rattle.smk_body.proofs.Siding.{by_sources, one_side}
 use Rattle.smk_defer.proofs.one.selection.Goals as goal
 
 pub new-requires : goal.new-requires

@@ -2,7 +2,7 @@ use Rattle.std.proofs.Common.{◌∙◌, ◌≤◌, ◌+◌, ap, length, arith}
 use Rattle.smk_base.specs.CatalogImage.{catalog_image}
 use Rattle.smk_base.specs.declared.book.catalog.Catalog.{Catalog}
 use Rattle.smk_base.specs.declared.book.catalog.ViewInfo.{ViewInfo}
-use Rattle.smk_start.proofs.Starts.{views_more}
+use Rattle.smk_session.proofs.Starts.{views_more}
 use Rattle.smk_grow.specs.Grown.{rows_of}
 use Rattle.smk_grow.specs.Renewals.{book_of}
 use Rattle.smk_grow.specs.Renewed.{apart_view, looks_apart}

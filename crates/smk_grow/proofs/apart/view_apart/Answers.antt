@@ -1,7 +1,7 @@
 use Rattle.std.proofs.Common.{◌≡◌, ◌∙◌, ◌≤◌, ◌+◌, ℕ, true, subst, sym}
 use Rattle.smk_base.specs.CatalogImage.{catalog_image}
 use Rattle.smk_model.specs.Opening.{view_fault}
-use Rattle.smk_start.specs.Opened.{workbook_image}
+use Rattle.smk_session.specs.Opened.{workbook_image}
 use Rattle.smk_grow.specs.Renewed.{chains}
 use Rattle.smk_grow.proofs.Fresh.{chain_apart_looks, chain_view_fault, no_fault}
 use Rattle.smk_grow.proofs.apart.view_apart.Goals as goal

@@ -1,6 +1,6 @@
 use Rattle.std.proofs.Common.{◌≡◌, take, drop}
 use Rattle.std.specs.List.{filter_map}
-use Rattle.smk_start.specs.Making.{book_in, cubes_wanted, split_wanted}
+use Rattle.smk_session.specs.Making.{book_in, cubes_wanted, split_wanted}
 use Rattle.smk_grow.specs.Renewed.{cubes_again, split_again}
 use Rattle.smk_grow.proofs.extras.spread.Given as goal
 

@@ -4,7 +4,7 @@ use Rattle.std.proofs.lemmas.List.{with_items_is}
 use Rattle.smk_base.specs.CatalogImage.{catalog_image}
 use Rattle.smk_base.specs.Rels.{Relation}
 use Rattle.smk_session.specs.Parts.{parts_image}
-use Rattle.smk_start.proofs.Opened.{views_long}
+use Rattle.smk_session.proofs.OpenedViews.{views_long}
 use Rattle.smk_grow.specs.Grown.{longer_tables, rows_of}
 use Rattle.smk_grow.specs.Renewed.{moved_views}
 use Rattle.smk_grow.proofs.Grown.{at_is, long_with}

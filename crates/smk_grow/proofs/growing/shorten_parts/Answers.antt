@@ -4,7 +4,7 @@ use Rattle.std.proofs.lemmas.List.{with_items_is}
 use Rattle.smk_base.specs.CatalogImage.{catalog_image}
 use Rattle.smk_base.specs.Rels.{Relation}
 use Rattle.smk_session.specs.Parts.{parts_image}
-use Rattle.smk_start.specs.Opened.{workbook_image}
+use Rattle.smk_session.specs.Opened.{workbook_image}
 use Rattle.smk_session.specs.Sessions.{workbook_of}
 use Rattle.smk_grow.specs.Grown.{first_tables}
 use Rattle.smk_grow.specs.Renewed.{kept_view, moved_views}

@@ -1,6 +1,6 @@
 use Rattle.std.proofs.Common.{◌∙◌, Option, subst, sym}
 use Rattle.smk_model.specs.Opening.{ViewFault}
-use Rattle.smk_start.specs.Opened.{IsStartFault}
+use Rattle.smk_session.specs.Opened.{IsStartFault}
 use Rattle.smk_grow.specs.Renewals.{book_of}
 use Rattle.smk_grow.proofs.Folds.{faults_scanning}
 use Rattle.smk_grow.proofs.renewing.renew.Goals as goal

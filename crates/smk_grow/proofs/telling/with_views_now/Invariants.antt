@@ -2,7 +2,7 @@ use Rattle.std.proofs.Common.{◌≡◌, ◌++◌, take}
 use Rattle.std.specs.List.{flat_map}
 use Rattle.smk_model.specs.Session.{view_at}
 use Rattle.smk_model.specs.ViewTexts.{text_of_view}
-use Rattle.smk_start.specs.Making.{book_in}
+use Rattle.smk_session.specs.Making.{book_in}
 use Rattle.smk_grow.proofs.telling.with_views_now.Given as goal
 
 abbrev pub invariant-loop-v : goal.invariant-loop-v

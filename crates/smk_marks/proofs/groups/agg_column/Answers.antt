@@ -9,7 +9,7 @@ use Rattle.smk_model.specs.Kinds.{AggFits, kind_of_agg}
 use Rattle.smk_model.specs.Selection.{plan_kinds}
 use Rattle.smk_model.proofs.Aggregates.{kind_of_moved, moved_fits}
 use Rattle.smk_base.proofs.Places.{map_map}
-use Rattle.smk_found.specs.Halves.{AreNumbered, class_values}
+use Rattle.smk_body.specs.Halves.{AreNumbered, class_values}
 use Rattle.smk_body.proofs.Besides.{related, relation}
 use Rattle.smk_marks.specs.Marks.{made}
 use Rattle.smk_marks.proofs.Counted.{class_moved, column}

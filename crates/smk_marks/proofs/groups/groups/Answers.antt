@@ -11,7 +11,7 @@ use Rattle.smk_model.specs.Lineage.{row_at}
 use Rattle.smk_model.specs.Plain.{aggregate}
 use Rattle.smk_model.specs.Selection.{plan_kinds}
 use Rattle.smk_base.proofs.Places.{length_upto}
-use Rattle.smk_found.specs.Halves.{AreNumbered}
+use Rattle.smk_body.specs.Halves.{AreNumbered}
 use Rattle.smk_body.proofs.Besides.{column_more, relation, related}
 use Rattle.smk_marks.specs.Marks.{made, with_mark}
 use Rattle.smk_marks.proofs.Classed.{column_marked, few_marks, first_keys, first_marks_are, firsts_are, numbered}

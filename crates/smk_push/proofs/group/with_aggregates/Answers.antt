@@ -7,7 +7,7 @@ use Rattle.smk_base.specs.Rels.{Relation, beside_rows, row_in, rows_at}
 use Rattle.smk_model.specs.Plain.{aggregate}
 use Rattle.smk_model.specs.Kinds.{kind_of_agg}
 use Rattle.smk_model.proofs.Directions.{length_each}
-use Rattle.smk_found.specs.Halves.{class_places}
+use Rattle.smk_body.specs.Halves.{class_places}
 use Rattle.smk_body.proofs.Besides.{column_more, related, relation}
 use Rattle.smk_push.proofs.Rows.{no_column}
 use Rattle.smk_push.proofs.group.with_aggregates.Goals as goal

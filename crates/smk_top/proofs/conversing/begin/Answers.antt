@@ -3,7 +3,7 @@ use Rattle.std.proofs.lemmas.Result.{err_from_is_err_and}
 use Rattle.smk_model.proofs.SomeOutcome.{some_reading}
 use Rattle.smk_outside.specs.Outside.{Rose}
 use Rattle.smk_base.specs.declared.brush.BrushOn.{BrushOn}
-use Rattle.smk_start.specs.Opened.{state_over}
+use Rattle.smk_session.specs.Opened.{state_over}
 use Rattle.smk_session.specs.Sessions.{state_of, workbook_of}
 use Rattle.smk_inputs.specs.Loaded.{inputs_with, script_bytes}
 use Rattle.smk_inputs.proofs.Stops.{rose_within}

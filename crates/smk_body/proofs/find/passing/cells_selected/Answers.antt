@@ -5,7 +5,7 @@ use Rattle.smk_base.specs.declared.book.plan.Operand.TheVariants.{Lit}
 use Rattle.smk_base.specs.declared.value.Value.{Value}
 use Rattle.smk_model.specs.Values.{holds, meets, value_at, value_cmp}
 use Rattle.smk_model.specs.Lineage.{row_at}
-use Rattle.smk_found.specs.Halves.{meeting_below}
+use Rattle.smk_body.specs.Halves.{meeting_below}
 use Rattle.smk_body.proofs.Comparing.{passed_next, missed_next}
 use Rattle.smk_body.proofs.find.passing.cells_selected.Goals as goal
 use Rattle.smk_body.proofs.find.passing.cells_selected.Goals.{then-says+in_ok-push, else-says}

@@ -5,7 +5,7 @@ use Rattle.smk_base.specs.Plans.{Comparison}
 use Rattle.smk_base.specs.declared.book.plan.Operand.TheVariants as operands
 use Rattle.smk_base.specs.declared.value.Value.{Value}
 use Rattle.smk_base.specs.declared.value.Value.TheVariants as values
-use Rattle.smk_found.specs.Halves.{ints_below, meeting_below}
+use Rattle.smk_body.specs.Halves.{ints_below, meeting_below}
 use Rattle.smk_body.proofs.Comparing.{ints_meet}
 use Rattle.smk_body.proofs.find.passing.compared.Goals as goal
 

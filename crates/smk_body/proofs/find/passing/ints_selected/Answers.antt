@@ -2,7 +2,7 @@ use Rattle.std.proofs.Common.{◌≡◌, ◌∙◌, ◌<◌, ◌++◌, ℕ, pos,
 use Rattle.std.proofs.lemmas.List.{length-set, length-take-le}
 use Rattle.std.specs.Int.{w128}
 use Rattle.smk_model.specs.Values.{holds}
-use Rattle.smk_found.specs.Halves.{ints_below}
+use Rattle.smk_body.specs.Halves.{ints_below}
 use Rattle.smk_body.proofs.Comparing.{passed_in_block, missed_in_block, put_block}
 use Rattle.smk_body.proofs.find.passing.ints_selected.Goals as goal
 use Rattle.smk_body.proofs.find.passing.ints_selected.Goals.{then-count-eq-BLOCK+in_ok-extend_from_slice, else-count-eq-BLOCK, then-stands, else-stands}

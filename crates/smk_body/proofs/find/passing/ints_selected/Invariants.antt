@@ -1,7 +1,7 @@
 use Rattle.std.proofs.Common.{◌≡◌, ◌≤◌, ◌++◌, length, take}
 use Rattle.std.specs.declared.cmp.Ordering.TheVariants.{Less, Equal, Greater}
 use Rattle.smk_model.specs.Values.{holds}
-use Rattle.smk_found.specs.Halves.{ints_below}
+use Rattle.smk_body.specs.Halves.{ints_below}
 use Rattle.smk_body.proofs.find.passing.ints_selected.Given as goal
 
 abbrev pub invariant-loop-i : goal.invariant-loop-i

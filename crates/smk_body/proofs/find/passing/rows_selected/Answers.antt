@@ -1,6 +1,6 @@
 use Rattle.std.proofs.Common.{◌≡◌, ◌∙◌, ap, arith, ◌++◌, ℕ, List, Vec, Global, sym}
 use Rattle.smk_base.specs.PlanImage.{formula_of}
-use Rattle.smk_found.specs.Halves.{meeting_below}
+use Rattle.smk_body.specs.Halves.{meeting_below}
 use Rattle.smk_model.specs.Values.{meets}
 use Rattle.smk_model.specs.Lineage.{row_at}
 use Rattle.smk_body.proofs.Comparing.{passed_next, missed_next}

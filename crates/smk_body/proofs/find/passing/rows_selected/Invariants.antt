@@ -1,6 +1,6 @@
 use Rattle.std.proofs.Common.{◌≡◌, ◌++◌}
 use Rattle.smk_base.specs.PlanImage.{formula_of}
-use Rattle.smk_found.specs.Halves.{meeting_below}
+use Rattle.smk_body.specs.Halves.{meeting_below}
 use Rattle.smk_body.proofs.find.passing.rows_selected.Given as goal
 
 abbrev pub invariant-loop-i : goal.invariant-loop-i

@@ -1,6 +1,6 @@
 use Rattle.std.proofs.Common.{◌≡◌, length}
 use Rattle.smk_base.specs.PlanImage.{formula_of}
-use Rattle.smk_found.specs.Halves.{meeting_below}
+use Rattle.smk_body.specs.Halves.{meeting_below}
 use Rattle.smk_jobs.specs.Cuts.{cut_at}
 use Rattle.smk_body.proofs.find.selections.one_behind_other.Given as goal
 

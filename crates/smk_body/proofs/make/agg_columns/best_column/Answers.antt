@@ -4,7 +4,7 @@ use Rattle.smk_base.specs.Rels.{Relation, picked, rows_at}
 use Rattle.smk_model.specs.Values.{value_at}
 use Rattle.smk_model.specs.Lineage.{row_at}
 use Rattle.smk_model.proofs.Directions.{length_each}
-use Rattle.smk_found.specs.Halves.{best_place, class_places}
+use Rattle.smk_body.specs.Halves.{best_place, class_places}
 use Rattle.smk_body.proofs.Aggregating.{best_rows}
 use Rattle.smk_body.proofs.Besides.{related}
 use Rattle.smk_body.proofs.make.agg_columns.best_column.Goals as goal

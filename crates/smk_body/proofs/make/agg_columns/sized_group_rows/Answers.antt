@@ -9,8 +9,8 @@ use Rattle.smk_model.specs.Plain.{aggregate, key_of}
 use Rattle.smk_model.specs.Lineage.{row_at, sub}
 use Rattle.smk_model.specs.Kinds.{kind_of_agg}
 use Rattle.smk_model.proofs.Directions.{length_each}
-use Rattle.smk_found.specs.Halves.{class_places}
-use Rattle.smk_found.proofs.Classing.{rows_numbered}
+use Rattle.smk_body.specs.Halves.{class_places}
+use Rattle.smk_body.proofs.Classing.{rows_numbered}
 use Rattle.smk_body.proofs.Aggregating.{keys_at_firsts, groups_are}
 use Rattle.smk_body.proofs.Besides.{column_more, related}
 use Rattle.smk_body.proofs.Parting.{first_places_are}

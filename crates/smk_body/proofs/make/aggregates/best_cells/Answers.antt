@@ -4,7 +4,7 @@ use Rattle.smk_model.specs.Values.{value_at}
 use Rattle.smk_model.specs.Lineage.{row_at}
 use Rattle.smk_base.proofs.Places.{map_upto}
 use Rattle.smk_model.proofs.Directions.{length_each}
-use Rattle.smk_found.specs.Halves.{best_place, class_places}
+use Rattle.smk_body.specs.Halves.{best_place, class_places}
 use Rattle.smk_body.proofs.Folding.{best_step, best_there, bests_below, class_known, kept}
 use Rattle.smk_body.proofs.make.aggregates.best_cells.Goals as goal
 use Rattle.smk_body.proofs.make.aggregates.best_cells.Goals.{then-improves, else-improves}

@@ -2,7 +2,7 @@ use Rattle.std.proofs.Common.{◌≡◌, ◌∙◌, ◌<◌, ℕ, length, ap, sy
 use Rattle.smk_base.specs.declared.value.Value.TheVariants as values
 use Rattle.smk_base.proofs.Places.{map_upto}
 use Rattle.smk_model.proofs.Directions.{length_each}
-use Rattle.smk_found.specs.Halves.{best_place, class_places, improves_on}
+use Rattle.smk_body.specs.Halves.{best_place, class_places, improves_on}
 use Rattle.smk_body.proofs.Folding.{best_step, best_there, bests_below, kept}
 use Rattle.smk_body.proofs.make.aggregates.best_small.Goals as goal
 use Rattle.smk_body.proofs.make.aggregates.best_small.Goals.{then-beats, else-beats}

@@ -2,7 +2,7 @@ use Rattle.std.proofs.Common.{◌≡◌, ◌∙◌, pos, arith, get_or, rules, t
 use Rattle.std.proofs.lemmas.List.{get_or_default}
 use Rattle.smk_body.proofs.Folding.{constant, sum_step, SumStep, sum_over}
 use Rattle.smk_model.proofs.Directions.{length_each}
-use Rattle.smk_found.specs.Halves.{class_places}
+use Rattle.smk_body.specs.Halves.{class_places}
 use Rattle.smk_body.proofs.make.aggregates.small_sums.Goals as goal
 
 pub loop-i-init : goal.loop-i-init

@@ -1,6 +1,6 @@
 use Rattle.std.proofs.Common.{◌≡◌, map}
 use Rattle.smk_base.specs.Places.{upto}
-use Rattle.smk_found.specs.Halves.{class_places}
+use Rattle.smk_body.specs.Halves.{class_places}
 use Rattle.smk_body.proofs.Folding.{sum_over}
 use Rattle.smk_body.proofs.make.aggregates.small_sums.Given as goal
 

@@ -6,7 +6,7 @@ use Rattle.smk_base.specs.Rels.{Relation, rows_at}
 use Rattle.smk_keys.specs.Classes.{ClassesImage}
 use Rattle.smk_model.specs.Classes.{first_places}
 use Rattle.smk_model.proofs.Classes.{first_keys, first_below}
-use Rattle.smk_found.proofs.Classing.{rest_of}
+use Rattle.smk_body.proofs.Classing.{rest_of}
 use Rattle.smk_body.proofs.Uniting.{sub_split, first_high, right_within}
 use Rattle.smk_model.specs.Plain.{firsts}
 use Rattle.smk_model.specs.Kinds.{wider_kinds}

@@ -1,8 +1,8 @@
 use Rattle.std.proofs.Common.{◌∙◌, ap, sym}
 use Rattle.smk_base.specs.declared.book.catalog.Back.{Back}
 use Rattle.smk_model.specs.Workload.{is_back}
-use Rattle.smk_start.specs.Extras.{asks_groups}
-use Rattle.smk_start.proofs.Declared.{place_found}
+use Rattle.smk_session.specs.Extras.{asks_groups}
+use Rattle.smk_session.proofs.Declared.{place_found}
 use Rattle.smk_session.proofs.answer.backward.cubes_place.Goals as goal
 
 pub returns-then-is_back : goal.returns-then-is_back

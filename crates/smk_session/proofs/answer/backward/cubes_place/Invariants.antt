@@ -2,7 +2,7 @@ use Rattle.std.proofs.Common.{◌≡◌, ◌≤◌, length, take}
 use Rattle.std.specs.List.{filter, position_or_len}
 use Rattle.smk_base.specs.declared.book.catalog.Back.{Back}
 use Rattle.smk_model.specs.Workload.{is_back}
-use Rattle.smk_start.specs.Extras.{asks_groups}
+use Rattle.smk_session.specs.Extras.{asks_groups}
 use Rattle.smk_session.proofs.answer.backward.cubes_place.Given as goal
 
 abbrev pub invariant-loop-declared : goal.invariant-loop-declared

@@ -2,7 +2,7 @@ use Rattle.std.proofs.Common.{ap, arith, get_or}
 use Rattle.std.proofs.lemmas.Grind.{common_steps}
 use Rattle.smk_base.specs.Rels.{Relation}
 use Rattle.smk_compose.specs.declared.kept_maps.Run.{Run}
-use Rattle.smk_start.proofs.Opened.{tables_long, views_long}
+use Rattle.smk_session.proofs.OpenedViews.{tables_long, views_long}
 use Rattle.smk_session.proofs.answer.backward.pair_of.Goals as goal
 
 pub bounds-held-v : goal.bounds-held-v

@@ -2,7 +2,7 @@ use Rattle.std.proofs.Common.{◌≡◌, ◌≤◌, length, take}
 use Rattle.std.specs.List.{filter, position_or_len}
 use Rattle.smk_base.specs.declared.book.catalog.Back.{Back}
 use Rattle.smk_model.specs.Replies.{is_split}
-use Rattle.smk_start.specs.Extras.{asks_split}
+use Rattle.smk_session.specs.Extras.{asks_split}
 use Rattle.smk_session.proofs.answer.backward.split_place.Given as goal
 
 abbrev pub invariant-loop-declared : goal.invariant-loop-declared

@@ -28,7 +28,7 @@ use Rattle.smk_marks.specs.contracts.reached.Reached as reached
 use Rattle.smk_push.specs.contracts.cubes.Cubes as cubes
 use Rattle.smk_session.specs.contracts.lent.Lent as lent
 use Rattle.smk_session.specs.contracts.brush.refresh.Refresh as refresh
-use Rattle.smk_start.specs.contracts.workers.Workers as workers
+use Rattle.smk_session.specs.contracts.start.workers.Workers as workers
 use Rattle.smk_session.specs.declared.turn.Content.{Content}
 use Rattle.smk_session.proofs.Refreshing.{all_more, refused_among}
 use Rattle.smk_session.proofs.brush.following.put_each.Goals as goal

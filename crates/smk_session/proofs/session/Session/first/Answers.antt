@@ -1,8 +1,8 @@
 use Rattle.std.proofs.Common.{◌≡◌, ◌<◌, ap, subst, arith, length}
 use Rattle.smk_compose.specs.declared.kept_maps.Run.{Run}
-use Rattle.smk_start.specs.Opened.{opened, workbook_image}
+use Rattle.smk_session.specs.Opened.{opened, workbook_image}
 use Rattle.smk_session.specs.Sessions.{SessionImage, workbook_of}
-use Rattle.smk_start.proofs.Opened.{views_long, run_is}
+use Rattle.smk_session.proofs.OpenedViews.{views_long, run_is}
 use Rattle.smk_session.proofs.session.Session.first.Goals as goal
 
 pub index-requires : goal.index-requires

@@ -1,0 +1,97 @@
+-- The lineage of a side from what the first half of a step found.
+use Rattle.std.proofs.Common.{◌≡◌, ◌∙◌, ◌<◌, ◌≤◌, ◌+◌, ◌-◌, ℕ, List, ◌++◌, length, map, take, drop, refl, sym, ap, arith, All, subst, zero-add, None, Some, []}
+use Rattle.std.proofs.Math.ListN.{replicate}
+use Rattle.std.proofs.lemmas.List.{map-append, map-id, length-map, length-replicate, get_or_default}
+use Rattle.std.proofs.lemmas.List.Elements.{All-take, All-drop}
+use Rattle.std.proofs.Math.Seq.{take-append_seam, drop-append_seam}
+use Rattle.smk_base.specs.Places.{Lists, upto, own_lists, inverted, IsPlaces}
+use Rattle.smk_base.specs.declared.book.plan.Dir.{Dir}
+use Rattle.smk_base.specs.declared.book.plan.Item.{Item}
+use Rattle.smk_rid.proofs.Rising.{rising_is}
+use Rattle.smk_model.specs.Values.{Row}
+use Rattle.smk_model.specs.Plain.{firsts}
+use Rattle.smk_model.specs.Locals.{singles}
+use Rattle.smk_model.specs.Classes.{places_in, classes}
+use Rattle.smk_model.specs.DirectionLaws.{HasSources, HasTargets}
+use Rattle.smk_base.proofs.Places.{get_or_map_upto}
+use Rattle.smk_model.proofs.OneEach.{one_each}
+use Rattle.smk_model.proofs.Directions.{length_each}
+use Rattle.smk_model.proofs.Parts.{map_agree}
+use Rattle.smk_model.proofs.Classes.{place_in, classes_are}
+use Rattle.smk_body.specs.Locals.{side_of}
+use Rattle.smk_body.specs.declared.keep.local.Side.{Side}
+use Rattle.smk_body.specs.declared.keep.local.Local.{Local}
+use Rattle.smk_body.proofs.Classing.{length_of, rest_of}
+
+-- a side whose output rows each come from one row, and one whose input rows each reach one
+pub by_sources : {of is : List ℕ} {n m : ℕ} {back fwd : Lists} (want : Dir) → of ≡ is → n ≡ m → HasSources is m back fwd → side_of want (singles of n) (inverted (singles of n)) ≡ side_of want back fwd
+by_sources want e f has = rw (e, f, has.backward, has.forward) refl
+
+pub by_targets : {of is : List ℕ} {n m : ℕ} {back fwd : Lists} (want : Dir) → of ≡ is → n ≡ m → HasTargets is m back fwd → side_of want (inverted (singles of n)) (singles of n) ≡ side_of want back fwd
+by_targets want e f has = rw (e, f, has.forward, has.backward) refl
+
+-- a side whose rows are their own
+pub by_own : {n m : ℕ} {back fwd : Lists} (want : Dir) → n ≡ m → back ≡ own_lists m → fwd ≡ own_lists m → side_of want (own_lists n) (own_lists n) ≡ side_of want back fwd
+by_own want e back fwd = rw (e, back, fwd) refl
+
+-- the lineage of a step from that of its sides
+abbrev pub one_side : Side → Local
+one_side left = record { left = left; right = None }
+
+abbrev pub two_sides : Side → Side → Local
+two_sides left right = record { left = left; right = Some right }
+
+pub both_sides : {a b c d : Side} → a ≡ c → b ≡ d → two_sides a b ≡ two_sides c d
+both_sides p q = rw (p, q) refl
+
+-- the classes of keys are below their number
+pub classes_below : (keys : List Row) → All (λ r. r < length (firsts keys)) (classes keys)
+classes_below keys = λ k d h.
+    rw (get_or_default (classes keys) k d 0 h) ((classes_are.stand keys).below k (omega (arith, h, length_of keys)))
+
+-- the classes of the rows of two sides, on the left and on the right
+pub left_classes : (L R : List Row) → take (length L) (classes (L ++ R)) ≡ places_in (firsts (L ++ R)) L
+left_classes L R =
+    let place = place_in (firsts (L ++ R)) in
+    ap (take (length L)) (map-append place L R) ∙ ap (λ n. take n (map place L ++ map place R)) (sym (length-map L place)) ∙ take-append_seam (map place L) (map place R)
+
+pub right_classes : (L R : List Row) → drop (length L) (classes (L ++ R)) ≡ places_in (firsts (L ++ R)) R
+right_classes L R =
+    let place = place_in (firsts (L ++ R)) in
+    ap (drop (length L)) (map-append place L R) ∙ ap (λ n. drop n (map place L ++ map place R)) (sym (length-map L place)) ∙ drop-append_seam (map place L) (map place R)
+
+-- the same as slices
+pub left_slice : (L R : List Row) (of : List ℕ) (n : ℕ) → of ≡ classes (L ++ R) → n ≡ length L → take n of ≡ places_in (firsts (L ++ R)) L
+left_slice L R of n e f = rw (e, f) (left_classes L R)
+
+pub right_slice : (L R : List Row) (of : List ℕ) (n : ℕ) → of ≡ classes (L ++ R) → n ≡ length L → take (length of - n) (drop n of) ≡ places_in (firsts (L ++ R)) R
+right_slice L R of n e f = rest_of of n ∙ rw (e, f) (right_classes L R)
+
+pub left_below : (L R : List Row) → All (λ r. r < length (firsts (L ++ R))) (places_in (firsts (L ++ R)) L)
+left_below L R = let below = λ (r : ℕ). r < length (firsts (L ++ R)) in subst (All below) (left_classes L R) (All-take below (length L) (classes (L ++ R)) (classes_below (L ++ R)))
+
+pub right_below : (L R : List Row) → All (λ r. r < length (firsts (L ++ R))) (places_in (firsts (L ++ R)) R)
+right_below L R = let below = λ (r : ℕ). r < length (firsts (L ++ R)) in subst (All below) (right_classes L R) (All-drop below (length L) (classes (L ++ R)) (classes_below (L ++ R)))
+
+-- a stretch of numbers from none on
+pub from_none : (n : ℕ) → map (λ i. 0 + i) (upto n) ≡ upto n
+from_none n = map_agree (λ i. 0 + i) (λ i. i) zero-add (upto n) ∙ map-id (upto n)
+
+-- a stretch of numbers is below the one behind it
+pub stretch_below : (from len n : ℕ) → from + len ≤ n → All (λ r. r < n) (map (λ i. from + i) (upto len))
+stretch_below from len n h = λ k d l.
+    let low : k < len = omega (arith, l, length_each (λ i. from + i) len) in
+    rw (get_or_map_upto (λ i. from + i) len k d low) (omega arith)
+
+-- a stretch of numbers is a set
+pub stretch_set : (from len n : ℕ) → from + len ≤ n → IsPlaces n (map (λ i. from + i) (upto len))
+stretch_set from len n h = rising_is n (map (λ i. from + i) (upto len)) (λ i j d lt low.
+    let long = length_each (λ i. from + i) len in
+    omega (arith, get_or_map_upto (λ i. from + i) len i d (omega (arith, low, long)), get_or_map_upto (λ i. from + i) len j d (omega (arith, low, long)))) (stretch_below from len n h)
+
+-- all places in order are the same both ways
+pub all_turned : (of : List ℕ) (n : ℕ) → of ≡ upto n → inverted (singles of n) ≡ singles of n
+all_turned of n e =
+    let rows : List Row = replicate n [] in
+    let none : List Item = [] in
+    rw e (subst (λ (k : ℕ). inverted (singles (upto k) k) ≡ singles (upto k) k) (length-replicate n (let row : Row = [] in row)) (sym (one_each.projected none rows).backward ∙ (one_each.projection none rows).backward))

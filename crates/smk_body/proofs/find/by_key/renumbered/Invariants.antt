@@ -1,0 +1,7 @@
+use Rattle.std.proofs.Common.{◌≡◌, map, take, get_or}
+use Rattle.smk_body.specs.Renumbered.{key_total, numbers_from}
+use Rattle.smk_body.proofs.find.by_key.renumbered.Given as goal
+
+-- the parts so far have their entries
+abbrev pub invariant-loop-part : goal.invariant-loop-part
+invariant-loop-part l = (l.of.items ≡ map (λ k. get_or l.table k 0) (numbers_from 0 (take l.part-index l.parts))) × (l.from ≡ key_total (take l.part-index l.parts))

@@ -1,0 +1,204 @@
+//! Groupings: the group of each row by its key.
+
+ghost use Rattle.std.specs.Prelude.{◌≡◌, ◌<◌, ◌≤◌, ◌+◌, ◌++◌, IfOk, OnOk, All, length, map, slice_index};
+ghost use Rattle.smk_base.specs.declared.rel.TheConstants.{COLUMN_LIMIT, ROW_LIMIT};
+ghost use Rattle.smk_base.specs.declared.workers.TheConstants.{WORKER_LIMIT};
+ghost use Rattle.smk_model.specs.Plain.{key_of};
+ghost use Rattle.smk_keys.specs.Classes.{classes_of};
+ghost use Rattle.smk_jobs.specs.Cuts.{AreParts, cut_at};
+ghost use Rattle.smk_body.specs.Renumbered.{HasKeys, StandFor, key_total, numbers_from};
+
+use crate::find::by_text::{is_text_key, text_classes};
+use crate::find::classes::row_classes;
+use crate::find::partition::Partition;
+use smk_base::Rel;
+use smk_jobs::{Crew, Work, cut_place, cut_range, in_parts};
+use smk_keys::Classes;
+use std::alloc::{AllocError, Global};
+use std::marker::Sync;
+use std::thread::Threads;
+
+/// The groups of the rows by their keys, found by the crew.
+pub fn found_groups<R: Threads + Sync, C: Crew + Sync>(
+    work: &Work<'_, R, C>,
+    rel: &Rel,
+    keys: &[u32],
+) -> Result<Partition, AllocError>
+    requires keys { All (λ c. c < length rel.now.kinds) keys.now }
+    requires few_keys { length keys.now ≤ COLUMN_LIMIT }
+    ensures { IfOk result (λ groups. groups ≡ classes_of (map (key_of keys.now) rel.now.rows)) }
+{
+    let _rows = rel.len();
+    let classes = key_classes(work, rel, keys)?;
+    Ok(Partition::new(classes))
+}
+
+// The same as classes: alone, or in threads.
+fn key_classes<R: Threads + Sync, C: Crew + Sync>(
+    work: &Work<'_, R, C>,
+    rel: &Rel,
+    keys: &[u32],
+) -> Result<Classes, AllocError>
+    requires keys { All (λ c. c < length rel.now.kinds) keys.now }
+    requires few_keys { length keys.now ≤ COLUMN_LIMIT }
+    ensures { IfOk result (λ classes. classes ≡ classes_of (map (key_of keys.now) rel.now.rows)) }
+{
+    let workers = work.crew.parts();
+    if workers == 1 {
+        work.crew.arrive(0);
+        return Classes::of_rows(work.alloc, rel, keys);
+    }
+    if is_text_key(rel, keys) {
+        return text_classes(work, rel, keys[0], workers);
+    }
+    let parts = parts_classed(work, rel, keys, workers)?;
+    all_classes(work, rel, keys, workers, parts.as_slice())
+}
+
+// The classes of the keys of each part, in threads.
+fn parts_classed<R: Threads + Sync, C: Crew + Sync>(
+    work: &Work<'_, R, C>,
+    rel: &Rel,
+    keys: &[u32],
+    workers: u32,
+) -> Result<Vec<Classes>, AllocError>
+    requires keys { All (λ c. c < length rel.now.kinds) keys.now }
+    requires few { workers ≤ WORKER_LIMIT }
+    ensures { IfOk result (λ made. AreParts (λ p. HasKeys keys.now rel.now.rows (cut_at workers (length rel.now.rows) p) (cut_at workers (length rel.now.rows) (p + 1))) workers made.items) }
+{
+    in_parts(
+        work,
+        workers,
+        &|p| part_classed(work.crew, work.alloc, rel, keys, workers, p),
+    )
+}
+
+// The classes of the keys of part p, in whatever thread.
+fn part_classed<C: Crew>(
+    crew: &C,
+    alloc: Global,
+    rel: &Rel,
+    keys: &[u32],
+    workers: u32,
+    p: u32,
+) -> Result<Classes, AllocError>
+    requires keys { All (λ c. c < length rel.now.kinds) keys.now }
+    requires few { workers ≤ WORKER_LIMIT }
+    requires part { p < workers }
+    ensures { IfOk result (HasKeys keys.now rel.now.rows (cut_at workers (length rel.now.rows) p) (cut_at workers (length rel.now.rows) (p + 1))) }
+{
+    crew.arrive(p);
+    let (from, to) = cut_range(workers, rel.len(), p);
+    Classes::of_rows_between(alloc, rel, keys, from, to)
+}
+
+// The classes of the keys of all rows, from those of the parts: a key that several parts have is one class, and the classes come in the order of the rows.
+fn all_classes<R: Threads + Sync, C: Crew + Sync>(
+    work: &Work<'_, R, C>,
+    rel: &Rel,
+    keys: &[u32],
+    workers: u32,
+    parts: &[Classes],
+) -> Result<Classes, AllocError>
+    requires keys { All (λ c. c < length rel.now.kinds) keys.now }
+    requires few_keys { length keys.now ≤ COLUMN_LIMIT }
+    requires some { 0 < workers }
+    requires few { workers ≤ WORKER_LIMIT }
+    requires parts { AreParts (λ p. HasKeys keys.now rel.now.rows (cut_at workers (length rel.now.rows) p) (cut_at workers (length rel.now.rows) (p + 1))) workers parts.now }
+    ensures { IfOk result (λ classes. classes ≡ classes_of (map (key_of keys.now) rel.now.rows)) }
+{
+    let rows = rel.len() as usize;
+    let places = first_places(work.alloc, rel, keys, workers, parts)?;
+    // Where most keys differ, the parts have little in common, and all rows are numbered at once.
+    if places.len() > rows / 2 {
+        return Classes::of_rows(work.alloc, rel, keys);
+    }
+    let picked = rel.pick_columns(work.alloc, keys)?;
+    let first_keys = picked.gather(work.alloc, places.as_slice())?;
+    let classes = row_classes(work.alloc, &first_keys)?;
+    let of = renumbered(work.alloc, parts, classes.of(), rows)?;
+    let firsts = taken_at(work.alloc, places.as_slice(), classes.firsts())?;
+    Ok(Classes::of_parts(of, firsts))
+}
+
+// The place of the first row of each key of each part, one part behind the other.
+fn first_places(
+    alloc: Global,
+    rel: &Rel,
+    keys: &[u32],
+    workers: u32,
+    parts: &[Classes],
+) -> Result<Vec<u32>, AllocError>
+    requires some { 0 < workers }
+    requires few { workers ≤ WORKER_LIMIT }
+    requires parts { AreParts (λ p. HasKeys keys.now rel.now.rows (cut_at workers (length rel.now.rows) p) (cut_at workers (length rel.now.rows) (p + 1))) workers parts.now }
+    ensures numbers { IfOk result (λ places. StandFor (map (key_of keys.now) rel.now.rows) (length rel.now.rows) places.items (numbers_from 0 parts.now)) }
+    ensures keys { IfOk result (λ places. length places.items ≡ key_total parts.now) }
+{
+    let rows = rel.len();
+    let mut places = Vec::new(alloc);
+    for p in 0..workers {
+        let from = cut_place(workers, rows, p);
+        push_moved(&mut places, from, parts[p as usize].firsts())?;
+    }
+    Ok(places)
+}
+
+// Puts numbers last, each more by another.
+fn push_moved(numbers: &mut Vec<u32>, by: u32, more: &[u32]) -> Result<(), AllocError>
+    requires { All (λ number. by + number < 4294967296) more.now }
+    ensures { OnOk result (numbers.new.items ≡ numbers.old.items ++ map (λ number. by + number) more.now) }
+{
+    for number in more {
+        numbers.push(by + *number)?;
+    }
+    Ok(())
+}
+
+// For each row of these parts the entry that a table has for its key, whose keys are numbered one part behind the other.
+fn renumbered(
+    alloc: Global,
+    parts: &[Classes],
+    table: &[u32],
+    rows: usize,
+) -> Result<Vec<u32>, AllocError>
+    requires few { key_total parts.now ≤ ROW_LIMIT }
+    requires within { All (λ number. number < length table.now) (numbers_from 0 parts.now) }
+    ensures { IfOk result (λ of. of.items ≡ map (slice_index table.now) (numbers_from 0 parts.now)) }
+{
+    let mut of = Vec::with_capacity(alloc, rows)?;
+    let mut from = 0;
+    for part in parts {
+        push_entries(&mut of, table, from, part.of())?;
+        from += part.firsts().len() as u32;
+    }
+    Ok(of)
+}
+
+// Puts the entry last that a table has for each of these classes, numbered from one number on.
+fn push_entries(
+    of: &mut Vec<u32>,
+    table: &[u32],
+    from: u32,
+    classes: &[u32],
+) -> Result<(), AllocError>
+    requires { All (λ class. from + class < length table.now) classes.now }
+    ensures { OnOk result (of.new.items ≡ of.old.items ++ map (λ class. slice_index table.now (from + class)) classes.now) }
+{
+    for class in classes {
+        of.push(table[from as usize + *class as usize])?;
+    }
+    Ok(())
+}
+
+// The numbers at these places.
+fn taken_at(alloc: Global, numbers: &[u32], places: &[u32]) -> Result<Vec<u32>, AllocError>
+    requires { All (λ place. place < length numbers.now) places.now }
+    ensures { IfOk result (λ taken. taken.items ≡ map (slice_index numbers.now) places.now) }
+{
+    let mut taken = Vec::with_capacity(alloc, places.len())?;
+    for place in places {
+        taken.push(numbers[*place as usize])?;
+    }
+    Ok(taken)
+}

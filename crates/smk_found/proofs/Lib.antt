@@ -1,4 +1,0 @@
-pub mod Turning
-pub mod Siding
-pub mod Pairing
-pub mod Classing

@@ -1,4 +1,0 @@
-pub mod Halves
-pub mod Bounds
-pub mod Findings
-pub mod Locals

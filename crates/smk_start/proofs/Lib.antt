@@ -1,5 +1,0 @@
-pub mod Opened
-pub mod KeptOf
-pub mod Declared
-pub mod Starts
-mod AtOnce

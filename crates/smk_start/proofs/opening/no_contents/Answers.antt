@@ -1,6 +1,0 @@
-use Rattle.std.proofs.Common.{arith}
-use Rattle.std.proofs.lemmas.Grind.{common_steps}
-use Rattle.smk_start.proofs.opening.no_contents.Goals as goal
-
-pub loop-view-preserved : goal.loop-view-preserved
-loop-view-preserved c = grind (arith, common_steps)

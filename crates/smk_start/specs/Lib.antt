@@ -1,5 +1,0 @@
-pub mod Opened
-pub mod Kept
-pub mod Extras
-pub mod Making
-pub mod Openings
