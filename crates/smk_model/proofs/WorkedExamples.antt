@@ -1,10 +1,10 @@
--- The whole run, by computing its tokens, its table and its report.
+-- What is worked by hand, by computing it.
 use Rattle.std.specs.Prelude.{Ok}
 use Rattle.std.proofs.Common.{◌≡◌, [], ◌∷◌, Some, refl}
 use Rattle.std.specs.Fmt.{digits}
 use Rattle.clap.specs.Walk.{walked}
 use Rattle.clap.specs.Faults.{walk_fault, defaults_fault}
-use Rattle.csv.specs.Writing.{fields_text, is_blank}
+use Rattle.csv.specs.Writing.{fields_text, is_blank, escaped}
 use Rattle.csv.specs.Reading.{records_from}
 use Rattle.csv.specs.Machine.{next_record}
 use Rattle.smk_base.specs.Ints.{int_of}
@@ -14,8 +14,8 @@ use Rattle.smk_model.specs.Tables.{table_of}
 use Rattle.smk_model.specs.Grammar.{name, plain, file, no_more, one_more, listed, int_type, text_type, no_default, decl, alone_what, column_what, agg, keys, aggs, plan, scan, no_step, one_step, group_step, no_extra, table_stmt, view_stmt, back_stmt, fwd_stmt, no_stmt, one_stmt, mark, listed_marks, no_then, back_line, fwd_line, plain_line, whole_any_line}
 use Rattle.smk_model.specs.Readings.{asks, no_line, one_line}
 use Rattle.smk_model.specs.Words.{Files, words_of}
-use Rattle.smk_model.specs.Outcome.{spells, parsed, read, OpensBook, OpensScript, lines_read, no_script, a_script, load_all, inputs, usable, reported}
-use Rattle.smk_model.specs.WorkedExamples.{readme_book_name, readme_script_name, readme_files, readme_catalog, readme_workbook, readme_readings, readme_inputs, readme_report, ReadmeHolds}
+use Rattle.smk_model.specs.Outcome.{spells, parsed, read, OpensBook, OpensScript, lines_read, no_script, a_script, load_all, inputs, usable, unusable, unreadable, reported}
+use Rattle.smk_model.specs.WorkedExamples.{readme_book_name, readme_script_name, readme_files, readme_catalog, readme_workbook, readme_readings, readme_inputs, readme_report, ReadmeHolds, WordsHold, TablesHold}
 use Rattle.smk_model.proofs.LineExamples.{stands}
 
 book_there : OpensBook readme_files readme_book_name (Ok (record { catalog = readme_catalog; fds = [] }))
@@ -49,4 +49,20 @@ pub readme : ReadmeHolds
 readme = record {
   outcome = read (usable called (inputs book_there table_there script_there refl)) reports;
   book_alone = inputs book_there table_there no_script refl;
+}
+
+pub words : WordsHold
+unfolding walked walk_fault defaults_fault int_of
+words = record {
+  book = refl;
+  demo = refl;
+  unknown_mode = λ held. unreadable (unusable refl);
+  talk = refl;
+}
+
+pub tables : TablesHold
+unfolding table_of records_from next_record int_of record_line fields_text is_blank escaped
+tables = record {
+  rows = refl;
+  line = refl;
 }

@@ -1,7 +1,10 @@
--- Worked by hand from their bytes: a whole run.
-use Rattle.std.specs.Prelude.{ℕ, nat_eq, cond, List, [], ◌∷◌, ◌++◌, Some, None, Ok, codes}
+-- Worked by hand from their bytes: a whole run, words, the table of a file, and a record.
+use Rattle.std.specs.Prelude.{◌≡◌, ℕ, pos, negsuc, true, nat_eq, cond, List, [], ◌∷◌, ◌++◌, Some, None, Ok, Err, codes}
 use Rattle.std.specs.Cmp.Lexicographic.{pointwise}
 use Rattle.smk_base.specs.declared.value.Kind.TheVariants as kinds
+use Rattle.smk_base.specs.declared.value.Value.TheVariants.{Int, Text}
+use Rattle.smk_base.specs.declared.fault.Fault.TheVariants.{Usage}
+use Rattle.smk_base.specs.declared.book.col_decl.ColDecl.{ColDecl}
 use Rattle.smk_base.specs.declared.book.catalog.BackExtra.TheVariants as extras
 use Rattle.smk_base.specs.declared.book.tree.Line.TheVariants as lines
 use Rattle.smk_base.specs.declared.book.tree.Marks.TheVariants as markings
@@ -12,6 +15,10 @@ use Rattle.smk_model.specs.Readings.{Reading, plain_reading}
 use Rattle.smk_model.specs.Session.{Workbook}
 use Rattle.smk_model.specs.SessionExamples.{int_column, text_column, view_of}
 use Rattle.smk_model.specs.Reports.{Report}
+use Rattle.smk_model.specs.Words.{Inject, Files, Demo, Settings, invocation_of}
+use Rattle.smk_model.specs.TalkWords.{talk_call_of}
+use Rattle.smk_model.specs.Tables.{table_of}
+use Rattle.smk_model.specs.Texts.{record_line}
 use Rattle.smk_model.specs.Outcome.{Held, Inputs, ReadsFiles, Outcome}
 
 -- the first example of README: three files and no other, a book, its table and a script
@@ -81,3 +88,30 @@ readme_report = record {
 pub record ReadmeHolds : Type 0 where
   pub outcome : Outcome (readme_book_name ∷ readme_script_name ∷ []) readme_files (Ok readme_report)
   pub book_alone : ReadsFiles readme_files readme_book_name None (Ok (readme_inputs []))
+
+-- how a run works that isn't told otherwise
+abbrev pub plain_settings : Settings
+plain_settings = record { mode = Inject; workers = 1 }
+
+-- what words call for; those that call for nothing are refused whatever the files hold
+pub record WordsHold : Type 0 where
+  pub book : invocation_of (codes "book.smk" ∷ []) ≡ Some (record { settings = plain_settings; texts = Files (codes "book.smk") None })
+  pub demo : invocation_of (codes "--demo" ∷ codes "5" ∷ []) ≡ Some (record { settings = plain_settings; texts = Demo 5 })
+  pub unknown_mode : (held : Held) → Outcome (codes "--mode" ∷ codes "fast" ∷ codes "book.smk" ∷ []) held (Err Usage)
+  pub talk : talk_call_of (codes "--read-only" ∷ codes "book.smk" ∷ []) ≡ Some (record { settings = plain_settings; texts = Files (codes "book.smk") None; read_only = true })
+
+-- a number with a default, a name in quotes, and a text with a default
+abbrev pub marked_columns : List ColDecl
+marked_columns =
+    record { name = codes "n"; kind = kinds.Int 0; def = Some (Int (negsuc 0)) }
+    ∷ text_column (codes "a, \"b\"")
+    ∷ record { name = codes "t"; kind = kinds.Text; def = Some (Text (codes "none")) }
+    ∷ []
+
+-- a file with a byte order mark, in which the columns stand in another order
+abbrev pub marked_bytes : List ℕ
+marked_bytes = 0xEF ∷ 0xBB ∷ 0xBF ∷ codes "\"a, \"\"b\"\"\",n,t\r\nx,+007,\r\n\"y,\r\n\"\"z\"\"\", ,w\r\n"
+
+pub record TablesHold : Type 0 where
+  pub rows : table_of marked_columns marked_bytes ≡ Ok ((Int (pos 7) ∷ Text (codes "x") ∷ Text (codes "none") ∷ []) ∷ (Int (negsuc 0) ∷ Text (codes "y,\r\n\"z\"") ∷ Text (codes "w") ∷ []) ∷ [])
+  pub line : record_line (codes "a,b" ∷ codes "say \"hi\"" ∷ codes "plain" ∷ [] ∷ []) ≡ codes "\"a,b\",\"say \"\"hi\"\"\",plain,\n"

@@ -15,7 +15,7 @@ pub use crate::plans::lineage_laws::{
 };
 pub use crate::plans::local_laws::{adds_no_rows, cut, lists_grow, locals_are};
 pub use crate::runs::example_laws::{
-    example_grows, examples_hold, readme_holds, runs_hold, sessions_hold,
+    example_grows, examples_hold, readme_holds, runs_hold, sessions_hold, tables_hold, words_hold,
 };
 pub use crate::runs::grammar_laws::{
     faultless_asks_keep_limits, faultless_have_trees, faultless_keep_limits, faults_stay,
