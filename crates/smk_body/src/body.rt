@@ -23,9 +23,11 @@ use std::alloc::{AllocError, Global};
 use std::marker::Sync;
 use std::thread::Threads;
 
-/// How the steps of a plan are carried out: their rows, and the wanted lineage of each. A step finds what makes its rows, makes them, and the body keeps what it likes of it.
+/// How the steps of a plan are carried out: their rows, and the wanted lineage of each.
 ///
-/// A caller uses `captures`, `apply1`, `apply2` and `finish`. A body says what it keeps, and how `finish` gives the lists.
+/// A caller asks `captures` whether lineage may be wanted, has each step carried out by `apply1` or `apply2`, which give its rows and what is pending of its lineage, and has that made by `finish`.
+///
+/// A step finds what makes its rows, makes them, and the body keeps what it likes of it. So a body says what it keeps (`keep1`, `keep2`), how `finish` makes the lineage of that, and which lists are made with the rows.
 pub trait OpBody: Crew {
     /// The lineage of a step, or what it is made from.
     type Pending: Drop;
@@ -48,58 +50,6 @@ pub trait OpBody: Crew {
     /// Whether lineage may be wanted of this body. It takes no memory.
     fn captures(&self) -> bool
         ensures { result ≡ may_capture self.now };
-
-    /// Whether of the wanted lists those that go against what a step found are made with its rows, before the body keeps anything. It takes no memory.
-    fn lists_at_once(&self) -> bool
-        ensures { result ≡ at_once self.now };
-
-    /// What is kept of a step with one input, and its rows as they are.
-    fn keep1(
-        &self,
-        alloc: Global,
-        op: &Op1,
-        input: Rel,
-        made: Made,
-        want: Dir,
-    ) -> Result<(Rel, Self::Pending), AllocError>
-        requires fits { Fits1 (unary_of op.now) input.kinds }
-        requires captured { IsTrue (may_capture self.now || is_nothing want) }
-        requires kinds { made.rel.kinds ≡ kinds1 (unary_of op.now) input.kinds }
-        requires rows { made.rel.rows ≡ step1 (unary_of op.now) input.rows }
-        requires found { made.found ≡ finding1 (unary_of op.now) input }
-        requires turned { made.turned ≡ turned_of made.found (want_at_once (at_once self.now) (left_want want)) }
-        ensures rel { IfOk result (λ kept. kept.0 ≡ made.rel) }
-        ensures lineage { IfOk result (λ kept. meaning self.now kept.1 ≡ local_of made.found (left_want want)) }
-        ensures left { IfOk result (λ kept. leaves1 self.now (unary_of op.now) input want kept.1) };
-
-    /// What is kept of a step with two inputs, and its rows as they are.
-    fn keep2(
-        &self,
-        alloc: Global,
-        op: &Op2,
-        left: Rel,
-        right: Rel,
-        made: Made,
-        want: Want,
-    ) -> Result<(Rel, Self::Pending), AllocError>
-        requires fits { Fits2 (binary_of op.now) left.kinds right.kinds }
-        requires captured { IsTrue (may_capture self.now || is_nothing2 want) }
-        requires kinds { made.rel.kinds ≡ kinds2 (binary_of op.now) left.kinds right.kinds }
-        requires rows { made.rel.rows ≡ step2 (binary_of op.now) left.rows right.rows }
-        requires found { made.found ≡ finding2 (binary_of op.now) left.rows right.rows }
-        requires turned { made.turned ≡ turned_of made.found (want_at_once (at_once self.now) want) }
-        ensures rel { IfOk result (λ kept. kept.0 ≡ made.rel) }
-        ensures lineage { IfOk result (λ kept. meaning self.now kept.1 ≡ local_of made.found want) }
-        ensures left { IfOk result (λ kept. leaves2 self.now (binary_of op.now) left right want kept.1) };
-
-    /// The lineage that is pending.
-    fn finish<R: Threads + Sync>(
-        &self,
-        rt: &R,
-        alloc: Global,
-        pending: Self::Pending,
-    ) -> Result<Local, AllocError>
-        ensures { IfOk result (λ local. local ≡ meaning self.now pending) };
 
     /// A step over its input: its rows, and the wanted lineage as what is pending. Lineage may be wanted only where the body captures.
     #[tactic(auto, using(crate::proofs::Standing::lineage1))]
@@ -167,6 +117,58 @@ pub trait OpBody: Crew {
         let kept = self.keep2(alloc, op, left, right, Made { rel, found, turned }, want)?;
         Ok(kept)
     }
+
+    /// The lineage that is pending.
+    fn finish<R: Threads + Sync>(
+        &self,
+        rt: &R,
+        alloc: Global,
+        pending: Self::Pending,
+    ) -> Result<Local, AllocError>
+        ensures { IfOk result (λ local. local ≡ meaning self.now pending) };
+
+    /// Whether of the wanted lists those that go against what a step found are made with its rows, before the body keeps anything. It takes no memory.
+    fn lists_at_once(&self) -> bool
+        ensures { result ≡ at_once self.now };
+
+    /// What is kept of a step with one input, and its rows as they are.
+    fn keep1(
+        &self,
+        alloc: Global,
+        op: &Op1,
+        input: Rel,
+        made: Made,
+        want: Dir,
+    ) -> Result<(Rel, Self::Pending), AllocError>
+        requires fits { Fits1 (unary_of op.now) input.kinds }
+        requires captured { IsTrue (may_capture self.now || is_nothing want) }
+        requires kinds { made.rel.kinds ≡ kinds1 (unary_of op.now) input.kinds }
+        requires rows { made.rel.rows ≡ step1 (unary_of op.now) input.rows }
+        requires found { made.found ≡ finding1 (unary_of op.now) input }
+        requires turned { made.turned ≡ turned_of made.found (want_at_once (at_once self.now) (left_want want)) }
+        ensures rel { IfOk result (λ kept. kept.0 ≡ made.rel) }
+        ensures lineage { IfOk result (λ kept. meaning self.now kept.1 ≡ local_of made.found (left_want want)) }
+        ensures left { IfOk result (λ kept. leaves1 self.now (unary_of op.now) input want kept.1) };
+
+    /// What is kept of a step with two inputs, and its rows as they are.
+    fn keep2(
+        &self,
+        alloc: Global,
+        op: &Op2,
+        left: Rel,
+        right: Rel,
+        made: Made,
+        want: Want,
+    ) -> Result<(Rel, Self::Pending), AllocError>
+        requires fits { Fits2 (binary_of op.now) left.kinds right.kinds }
+        requires captured { IsTrue (may_capture self.now || is_nothing2 want) }
+        requires kinds { made.rel.kinds ≡ kinds2 (binary_of op.now) left.kinds right.kinds }
+        requires rows { made.rel.rows ≡ step2 (binary_of op.now) left.rows right.rows }
+        requires found { made.found ≡ finding2 (binary_of op.now) left.rows right.rows }
+        requires turned { made.turned ≡ turned_of made.found (want_at_once (at_once self.now) want) }
+        ensures rel { IfOk result (λ kept. kept.0 ≡ made.rel) }
+        ensures lineage { IfOk result (λ kept. meaning self.now kept.1 ≡ local_of made.found want) }
+        ensures left { IfOk result (λ kept. leaves2 self.now (binary_of op.now) left right want kept.1) };
 }
 
 // What is wanted of the lists that are made with the rows.
