@@ -64,7 +64,7 @@ some_script : (held : Held) (s : Option (List ℕ)) → (answer : Result (List R
 some_script held None = (Ok [], no_script)
 some_script held (Some name) = let r = some_file held name ScriptSays (λ bytes. let q = some_reading bytes in (Ok q.0, lines_read q.1)) in (r.0, a_script r.1)
 
-some_files : (held : Held) (book : List ℕ) (script : Option (List ℕ)) → (answer : Result Inputs Fault) × ReadsFiles held book script answer
+pub some_files : (held : Held) (book : List ℕ) (script : Option (List ℕ)) → (answer : Result Inputs Fault) × ReadsFiles held book script answer
 some_files held book script = let r = some_file held book BookSays some_book in opened r.0 r.1
   where
     added : (said : BookSaid) (tables : List (List Row)) (readings : List Reading) → OpensBook held book (Ok said) → load_all held said.catalog.tables ≡ Ok tables → OpensScript held script (Ok readings)

@@ -1,12 +1,13 @@
--- Words and files have one start of a conversation, over the workbook of a run.
-use Rattle.std.specs.Prelude.{Option, Some, None, Result, Ok}
+-- Words and files have a start of a conversation, and one alone, over the workbook of a run.
+use Rattle.std.specs.Prelude.{Option, Some, None, Result, Ok, Err}
 use Rattle.std.proofs.Common.{◌≡◌, ℕ, List, subst, refl}
 use Rattle.smk_base.specs.declared.fault.Fault.{Fault}
-use Rattle.smk_model.specs.ConversationLaws.{OneTalkStart}
+use Rattle.smk_model.specs.ConversationLaws.{OneTalkStart, SomeTalkStart}
 use Rattle.smk_model.specs.Outcome.{Held, Inputs, ReadsFiles, inputs, source_of, book_of}
-use Rattle.smk_model.specs.TalkStarts.{ReadsTalk, unusable, usable, StartsTalk, unreadable, read}
-use Rattle.smk_model.specs.TalkWords.{TalkCall}
+use Rattle.smk_model.specs.TalkStarts.{ReadsTalk, unusable, usable, StartsTalk, unreadable, read, started}
+use Rattle.smk_model.specs.TalkWords.{TalkCall, talk_call_of}
 use Rattle.smk_model.proofs.OneOutcome.{same_opened, same_files}
+use Rattle.smk_model.proofs.SomeOutcome.{some_files}
 
 same_call : {asked : Option TalkCall} {u v : TalkCall} → asked ≡ Some u → asked ≡ Some v → v ≡ u
 same_call h k = cc
@@ -32,3 +33,17 @@ one_talk_start = record {
   one = λ words held a b p q. same_start p q;
   same = λ held book script first given p q. same_workbook p q;
 }
+
+some_read : (words : List (List ℕ)) (held : Held) → (answer : Result Inputs Fault) × ReadsTalk words held answer
+some_read words held = by (talk_call_of words) refl
+  where
+    by : (c : Option TalkCall) → talk_call_of words ≡ c → (answer : Result Inputs Fault) × ReadsTalk words held answer
+    by None e = (_, unusable e)
+    by (Some call) e = let r = some_files (source_of call.texts held) (book_of call.texts) None in (r.0, usable e r.1)
+
+pub some_talk_start : SomeTalkStart
+some_talk_start words held = let r = some_read words held in by r.0 r.1
+  where
+    by : (a : Result Inputs Fault) → ReadsTalk words held a → (answer : Result Inputs Fault) × StartsTalk words held answer
+    by (Ok given) p = (started given, read p refl)
+    by (Err fault) p = (Err fault, unreadable p)

@@ -30,3 +30,7 @@ pub record TalksAsReported : Type 0 where
 pub record OneTalkStart : Type 0 where
   pub one : (words : List (List ℕ)) (held : Held) (a b : Result Inputs Fault) → StartsTalk words held a → StartsTalk words held b → a ≡ b
   pub same : (held : Held) (book script : List ℕ) (first given : Inputs) → ReadsFiles held book None (Ok first) → ReadsFiles held book (Some script) (Ok given) → (first.book ≡ given.book) × (first.fds ≡ given.fds)
+
+-- words and files have a start of a conversation
+abbrev pub SomeTalkStart : Type 0
+SomeTalkStart = (words : List (List ℕ)) (held : Held) → (answer : Result Inputs Fault) × StartsTalk words held answer

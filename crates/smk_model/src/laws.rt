@@ -28,7 +28,9 @@ pub use crate::sessions::append_laws::{appends_begin_anew, appends_fit, refused_
 pub use crate::sessions::ask_laws::{
     asked_backs_fit, asks_fit, chains_add_no_rows, chains_are_small,
 };
-pub use crate::sessions::conversation_laws::{conversations_hold, talks_as_reported};
+pub use crate::sessions::conversation_laws::{
+    conversations_hold, one_talk_start, some_talk_start, talks_as_reported,
+};
 pub use crate::sessions::expanded_laws::expanded_stands;
 pub use crate::sessions::fd_laws::{dependencies_answered, fd_law, profiles_fit};
 pub use crate::sessions::reply_laws::{first_contents, marks_stay, refused_stay, replies_fit};

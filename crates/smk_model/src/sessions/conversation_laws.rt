@@ -1,7 +1,7 @@
 //! Laws of conversations. Each is an empty function whose contract is the law.
 
 ghost use Rattle.smk_model.specs.ConversationExamples.{ConversationsHold};
-ghost use Rattle.smk_model.specs.ConversationLaws.{TalksAsReported, OneTalkStart};
+ghost use Rattle.smk_model.specs.ConversationLaws.{TalksAsReported, OneTalkStart, SomeTalkStart};
 
 /// What a conversation says is, but for its empty lines, what a run writes.
 #[tactic(auto, using(crate::proofs::Conversation::talks_as_reported))]
@@ -13,6 +13,12 @@ pub fn talks_as_reported()
 #[tactic(auto, using(crate::proofs::TalkStarts::one_talk_start))]
 pub fn one_talk_start()
     ensures { OneTalkStart }
+{}
+
+/// Words and files have a start of a conversation.
+#[tactic(auto, using(crate::proofs::TalkStarts::some_talk_start))]
+pub fn some_talk_start()
+    ensures { SomeTalkStart }
 {}
 
 /// A conversation over a book of one table and one view, line by line.
