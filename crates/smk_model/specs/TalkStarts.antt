@@ -61,11 +61,15 @@ abbrev pub BringsBy : Option Held → Type 0 → Option TableInfo → Result (Li
 BringsBy (Some held) rose table brought = FilesBring held table brought ⊎ (rose × IsUnreadFile table brought)
 BringsBy None rose table brought = BringsUntold rose table brought
 
--- whether a line was refused since its file can't be read, though the files have it, or don't tell what they hold
+-- whether the files have a file of this name, or don't tell what they hold
+abbrev pub may_have : Option Held → List ℕ → Bool
+may_have (Some held) file = is_some (held file)
+may_have None file = true
+
+-- whether a line was refused since its file can't be read, though the files may have it
 abbrev pub is_misread : Option Held → TalkTurn → Bool
-is_misread (Some held) (Unbrought bytes (Unread file)) = is_some (held file)
-is_misread None (Unbrought bytes (Unread file)) = true
-is_misread _ _ = false
+is_misread held (Unbrought bytes (Unread file)) = may_have held file
+is_misread held _ = false
 
 abbrev pub misreads : Option Held → List TalkTurn → ℕ
 misreads held turns = length (filter (is_misread held) turns)
