@@ -61,21 +61,26 @@ pub record IsSilent (words : List (List ℕ)) (held : Option Held) (before after
 
 -- the ending of a conversation, and what is said of it on `err`
 pub data TalkEnds (words : List (List ℕ)) (held : Option Held) (files_before files_after : ℕ) (talk_rose err_rose : Type 0) (before after : Told) (looks_before looks_after : ℕ) : Status → List ℕ → Type 0 where
-  -- no line comes any more, or as many were answered as can be counted
+  -- no line comes any more
   ended : (talk : Converses words held files_before files_after talk_rose before after looks_before looks_after Ended) → TalkEnds words held files_before files_after talk_rose err_rose before after looks_before looks_after (status_of_report (report_by talk)) []
+  -- as many lines were answered as can be counted
   outlasted : (talk : Converses words held files_before files_after talk_rose before after looks_before looks_after Outlasted) → TalkEnds words held files_before files_after talk_rose err_rose before after looks_before looks_after (status_of_report (report_by talk)) []
-  -- the object failed
+  -- no line could be heard, since the object failed, and this is said
   unheard : Converses words held files_before files_after talk_rose before after looks_before looks_after Unheard → TalkEnds words held files_before files_after talk_rose err_rose before after looks_before looks_after ReadFault unheard_text
+  -- a text could not be said whole, since the object failed
   unsaid : Converses words held files_before files_after talk_rose before after looks_before looks_after Unsaid → TalkEnds words held files_before files_after talk_rose err_rose before after looks_before looks_after WriteFault []
-  -- a fault of the start is said, and no look was made where it is one of what is read; or memory was wanting for the start
+  -- a fault before the first line is said; no look was made where it is one of what is read
   faulted : (fault : Fault) → HasTalkCause words held (Rose files_before files_after) fault → IsSilent words held before after looks_before looks_after → LooksBehind fault looks_before looks_after
       → TalkEnds words held files_before files_after talk_rose err_rose before after looks_before looks_after (status_of_fault fault) (talk_fault_text fault)
+  -- memory was wanting before anything was said, and this is said
   exhausted : IsSilent words held before after looks_before looks_after → TalkEnds words held files_before files_after talk_rose err_rose before after looks_before looks_after NoMemory no_memory_text
-  -- this could not be said whole, since `err` failed
+  -- that no line could be heard could not be said whole, since `err` failed
   unheard_unsaid : (part : List ℕ) → Converses words held files_before files_after talk_rose before after looks_before looks_after Unheard → IsPrefix part unheard_text → err_rose
       → TalkEnds words held files_before files_after talk_rose err_rose before after looks_before looks_after WriteFault part
+  -- a fault before the first line could not be said whole
   fault_unsaid : (fault : Fault) (part : List ℕ) → HasTalkCause words held (Rose files_before files_after) fault → IsSilent words held before after looks_before looks_after → LooksBehind fault looks_before looks_after → IsPrefix part (talk_fault_text fault) → err_rose
       → TalkEnds words held files_before files_after talk_rose err_rose before after looks_before looks_after WriteFault part
+  -- that memory was wanting could not be said whole
   memory_unsaid : (part : List ℕ) → IsSilent words held before after looks_before looks_after → IsPrefix part no_memory_text → err_rose
       → TalkEnds words held files_before files_after talk_rose err_rose before after looks_before looks_after WriteFault part
 
