@@ -11,10 +11,19 @@ pub use crate::plans::growth_laws::{
     regroups_by_place, unscanned_stays,
 };
 pub use crate::plans::lineage_laws::{
-    answers_are_places, bin_is_floor, cui_widom, rows_agree, selection_lineage, step_by_step,
+    answers_are_places, bin_is_floor, cui_widom, places_ascend, rows_agree, selection_lineage,
+    step_by_step,
 };
 pub use crate::plans::local_laws::{adds_no_rows, cut, lists_grow, locals_are};
-pub use crate::runs::example_laws::{example_grows, examples_hold, runs_hold, sessions_hold};
+pub use crate::runs::demo_laws::{
+    demos_are_faultless, demos_are_opened, demos_are_read, demos_are_reported, demos_are_rows,
+    demos_are_short, demos_are_within,
+};
+pub use crate::runs::example_laws::{
+    appends_hold, ask_lines_hold, books_hold, demos_hold, dependencies_are_read,
+    dependencies_are_typed, example_grows, examples_hold, lines_hold, runs_hold, sessions_hold,
+    typings_hold,
+};
 pub use crate::runs::grammar_laws::{
     faultless_asks_keep_limits, faultless_have_trees, faultless_keep_limits, faults_stay,
     one_any_line, one_book, one_line, taken_are_completed, texts_are_read,
@@ -26,7 +35,9 @@ pub use crate::sessions::append_laws::{appends_begin_anew, appends_fit, refused_
 pub use crate::sessions::ask_laws::{
     asked_backs_fit, asks_fit, chains_add_no_rows, chains_are_small,
 };
-pub use crate::sessions::conversation_laws::{conversations_hold, talks_as_reported};
+pub use crate::sessions::conversation_laws::{
+    conversations_hold, one_talk_start, talks_as_reported,
+};
 pub use crate::sessions::expanded_laws::expanded_stands;
 pub use crate::sessions::fd_laws::{dependencies_answered, fd_law, profiles_fit};
 pub use crate::sessions::reply_laws::{first_contents, marks_stay, refused_stay, replies_fit};
