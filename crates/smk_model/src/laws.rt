@@ -22,7 +22,7 @@ pub use crate::runs::demo_laws::{
 pub use crate::runs::example_laws::{
     appends_hold, ask_lines_hold, books_hold, demos_hold, dependencies_are_read,
     dependencies_are_typed, example_grows, examples_hold, lines_hold, runs_hold, sessions_hold,
-    typings_hold,
+    strings_hold, typings_hold,
 };
 pub use crate::runs::grammar_laws::{
     faultless_asks_keep_limits, faultless_have_trees, faultless_keep_limits, faults_stay,
@@ -31,6 +31,7 @@ pub use crate::runs::grammar_laws::{
 pub use crate::runs::outcome_laws::{
     faultless_texts_spell, one_inputs, one_outcome, one_reading, some_outcome, some_reading,
 };
+pub use crate::runs::token_laws::strings_are_longest;
 pub use crate::sessions::append_laws::{appends_begin_anew, appends_fit, refused_appends_stay};
 pub use crate::sessions::ask_laws::{
     asked_backs_fit, asks_fit, chains_add_no_rows, chains_are_small,

@@ -10,6 +10,7 @@ ghost use Rattle.smk_model.specs.LineExamples.{LinesHold, AskLinesHold};
 ghost use Rattle.smk_model.specs.RunExamples.{RunsHold};
 ghost use Rattle.smk_model.specs.SessionExamples.{SessionsHold};
 ghost use Rattle.smk_model.specs.TypingExamples.{TypingsHold};
+ghost use Rattle.smk_model.specs.WorkedExamples.{StringsHold};
 
 /// The rows of six views over two tables, the rids that they come from, and the lists of one step.
 pub fn examples_hold()
@@ -75,4 +76,10 @@ pub fn appends_hold()
 /// The files of the demo of one flight, and the summary of a small report.
 pub fn demos_hold()
     ensures { DemosHold }
+{}
+
+/// The tokens of texts in quotes: closed, open, and open behind a pair of quotes.
+#[tactic(auto, using(crate::proofs::WorkedExamples::strings_hold))]
+pub fn strings_hold()
+    ensures { StringsHold }
 {}
