@@ -29,6 +29,7 @@ pub mod Pairs
 pub mod Sizes
 pub mod QueryAnswers
 pub mod Unique
+pub mod Strings
 pub mod Staying
 pub mod Reading
 pub mod Texts

@@ -15,7 +15,7 @@ use Rattle.smk_model.specs.Grammar.{name, plain, file, no_more, one_more, listed
 use Rattle.smk_model.specs.Readings.{asks, no_line, one_line}
 use Rattle.smk_model.specs.Words.{Files, words_of}
 use Rattle.smk_model.specs.Outcome.{spells, parsed, read, OpensBook, OpensScript, lines_read, no_script, a_script, load_all, inputs, usable, unusable, unreadable, reported}
-use Rattle.smk_model.specs.WorkedExamples.{readme_book_name, readme_script_name, readme_files, readme_catalog, readme_workbook, readme_readings, readme_inputs, readme_report, ReadmeHolds, WordsHold, TablesHold}
+use Rattle.smk_model.specs.WorkedExamples.{readme_book_name, readme_script_name, readme_files, readme_catalog, readme_workbook, readme_readings, readme_inputs, readme_report, ReadmeHolds, WordsHold, TablesHold, StringsHold}
 use Rattle.smk_model.proofs.LineExamples.{stands}
 
 book_there : OpensBook readme_files readme_book_name (Ok (record { catalog = readme_catalog; fds = [] }))
@@ -65,4 +65,14 @@ unfolding table_of records_from next_record int_of record_line fields_text is_bl
 tables = record {
   rows = refl;
   line = refl;
+}
+
+pub strings_hold : StringsHold
+strings_hold = record {
+  reopened = refl;
+  doubled = refl;
+  unclosed = refl;
+  at_line_end = refl;
+  length_reopened = refl;
+  length_unclosed = refl;
 }

@@ -53,6 +53,8 @@ pub mod TokenKinds
 pub mod Tokens
 pub mod Grammar
 pub mod GrammarLaws
+pub mod TokenLaws
+pub mod WorkedExamples
 pub mod Machine
 pub mod Lines
 pub mod Readings

@@ -2,6 +2,7 @@
 use Rattle.std.specs.Prelude.{◌≡◌, ℕ, ℤ, pos, ◌+◌, ◌<◌, ◌+ℤ◌, ◌*ℤ◌, ◌≤ℤ◌, ◌<ℤ◌, Bool, true, false, ◌&&◌, List, [], ◌∷◌, length, slice_index_or, nat_eq}
 use Rattle.std.specs.List.{filter, list_any, All}
 use Rattle.smk_base.specs.Places.{IsPlaces}
+use Rattle.smk_base.specs.Picks.{IsAscending}
 use Rattle.smk_base.specs.Plans.{Unary, Selection, Binary, Expr, Leaf, Apply, Combine}
 use Rattle.smk_model.specs.Values.{Row, bin, meets}
 use Rattle.smk_model.specs.Plain.{step1, step2, width, eval_from, eval}
@@ -85,3 +86,8 @@ pub record AnswersArePlaces : Type 0 where
   pub backward : (plan : Expr) (E : List (List Row)) (O : List ℕ) (table n : ℕ) → IsPlaces n (back plan E O table n)
   pub forward : (plan : Expr) (E : List (List Row)) (S : List ℕ) (table : ℕ) → IsPlaces (length (eval plan E)) (fwd plan E S table)
   pub below : (n : ℕ) (A : List ℕ) → IsPlaces n A → All (λ i. i < n) A
+
+-- what it is to be places below n: ascending, without repeats and in range, in both directions
+pub record PlacesAscend : Type 0 where
+  pub ascend : (n : ℕ) (A : List ℕ) → IsPlaces n A → IsAscending A × All (λ i. i < n) A
+  pub are : (n : ℕ) (A : List ℕ) → IsAscending A → All (λ i. i < n) A → IsPlaces n A

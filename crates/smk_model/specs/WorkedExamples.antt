@@ -1,5 +1,5 @@
--- Worked by hand from their bytes: a whole run, words, the table of a file, and a record.
-use Rattle.std.specs.Prelude.{◌≡◌, ℕ, pos, negsuc, true, nat_eq, cond, List, [], ◌∷◌, ◌++◌, Some, None, Ok, Err, codes}
+-- Worked by hand from their bytes: a whole run, words, the table of a file, a record, and texts in quotes.
+use Rattle.std.specs.Prelude.{◌≡◌, ℕ, pos, negsuc, true, nat_eq, cond, List, [], ◌∷◌, ◌++◌, Some, None, Ok, Err, codes, false}
 use Rattle.std.specs.Cmp.Lexicographic.{pointwise}
 use Rattle.smk_base.specs.declared.value.Kind.TheVariants as kinds
 use Rattle.smk_base.specs.declared.value.Value.TheVariants.{Int, Text}
@@ -20,6 +20,8 @@ use Rattle.smk_model.specs.TalkWords.{talk_call_of}
 use Rattle.smk_model.specs.Tables.{table_of}
 use Rattle.smk_model.specs.Texts.{record_line}
 use Rattle.smk_model.specs.Outcome.{Held, Inputs, ReadsFiles, Outcome}
+use Rattle.smk_base.specs.declared.book.token.TokenKind.TheVariants.{Str, Bad, End}
+use Rattle.smk_model.specs.Tokens.{tokens, string_len}
 
 -- the first example of README: three files and no other, a book, its table and a script
 abbrev pub readme_book_name : List ℕ
@@ -115,3 +117,12 @@ marked_bytes = 0xEF ∷ 0xBB ∷ 0xBF ∷ codes "\"a, \"\"b\"\"\",n,t\r\nx,+007,
 pub record TablesHold : Type 0 where
   pub rows : table_of marked_columns marked_bytes ≡ Ok ((Int (pos 7) ∷ Text (codes "x") ∷ Text (codes "none") ∷ []) ∷ (Int (negsuc 0) ∷ Text (codes "y,\r\n\"z\"") ∷ Text (codes "w") ∷ []) ∷ [])
   pub line : record_line (codes "a,b" ∷ codes "say \"hi\"" ∷ codes "plain" ∷ [] ∷ []) ≡ codes "\"a,b\",\"say \"\"hi\"\"\",plain,\n"
+
+-- a text that isn't closed after a pair of quotes ends at the first of the pair, and the second begins no token; one without a later quote is none
+pub record StringsHold : Type 0 where
+  pub reopened : tokens (codes "\"a\"\"b") ≡ record { at = 0; kind = Str; text = codes "\"a\"" } ∷ record { at = 3; kind = Bad; text = [] } ∷ []
+  pub doubled : tokens (codes "\"a\"\"b\"") ≡ record { at = 0; kind = Str; text = codes "\"a\"\"b\"" } ∷ record { at = 6; kind = End; text = [] } ∷ []
+  pub unclosed : tokens (codes "\"a") ≡ record { at = 0; kind = Bad; text = [] } ∷ []
+  pub at_line_end : tokens (codes "\"a\n\"") ≡ record { at = 0; kind = Bad; text = [] } ∷ []
+  pub length_reopened : string_len None false 0 (codes "a\"\"b") ≡ Some 2
+  pub length_unclosed : string_len None false 0 (codes "a") ≡ None

@@ -11,11 +11,18 @@ pub use crate::plans::growth_laws::{
     regroups_by_place, unscanned_stays,
 };
 pub use crate::plans::lineage_laws::{
-    answers_are_places, bin_is_floor, cui_widom, rows_agree, selection_lineage, step_by_step,
+    answers_are_places, bin_is_floor, cui_widom, places_ascend, rows_agree, selection_lineage,
+    step_by_step,
 };
 pub use crate::plans::local_laws::{adds_no_rows, cut, lists_grow, locals_are};
+pub use crate::runs::demo_laws::{
+    demos_are_faultless, demos_are_opened, demos_are_read, demos_are_reported, demos_are_rows,
+    demos_are_short, demos_are_within,
+};
 pub use crate::runs::example_laws::{
-    example_grows, examples_hold, readme_holds, runs_hold, sessions_hold, tables_hold, words_hold,
+    appends_hold, ask_lines_hold, books_hold, demos_hold, dependencies_are_read,
+    dependencies_are_typed, example_grows, examples_hold, lines_hold, readme_holds, runs_hold,
+    sessions_hold, strings_hold, tables_hold, typings_hold, words_hold,
 };
 pub use crate::runs::grammar_laws::{
     faultless_asks_keep_limits, faultless_have_trees, faultless_keep_limits, faults_stay,
@@ -24,6 +31,7 @@ pub use crate::runs::grammar_laws::{
 pub use crate::runs::outcome_laws::{
     faultless_texts_spell, one_inputs, one_outcome, one_reading, some_outcome, some_reading,
 };
+pub use crate::runs::token_laws::strings_are_longest;
 pub use crate::sessions::append_laws::{appends_begin_anew, appends_fit, refused_appends_stay};
 pub use crate::sessions::ask_laws::{
     asked_backs_fit, asks_fit, chains_add_no_rows, chains_are_small,

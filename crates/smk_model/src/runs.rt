@@ -4,3 +4,4 @@ pub mod demo_laws;
 pub mod example_laws;
 pub mod grammar_laws;
 pub mod outcome_laws;
+pub mod token_laws;

@@ -1,6 +1,6 @@
 //! Laws of the annotated meaning and of one-step lineage. Each is an empty function whose contract is the law.
 
-ghost use Rattle.smk_model.specs.LineageLaws.{AnswersArePlaces, BinIsFloor, CuiWidom, RowsAgree, SelectionLineage, StepByStep};
+ghost use Rattle.smk_model.specs.LineageLaws.{AnswersArePlaces, BinIsFloor, CuiWidom, PlacesAscend, RowsAgree, SelectionLineage, StepByStep};
 
 /// A row of a chain of selections over a scan comes from one row of the table: row number o from the o-th of those that meet every formula.
 pub fn selection_lineage()
@@ -30,4 +30,10 @@ pub fn cui_widom()
 /// The answers to backward and forward queries are ascending, without repeats and in range.
 pub fn answers_are_places()
     ensures { AnswersArePlaces }
+{}
+
+/// A list is one of places below n exactly if each of its numbers is less than every later one, and less than n.
+#[tactic(auto, using(crate::proofs::QueryAnswers::places_ascend))]
+pub fn places_ascend()
+    ensures { PlacesAscend }
 {}

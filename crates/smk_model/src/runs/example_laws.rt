@@ -10,7 +10,7 @@ ghost use Rattle.smk_model.specs.LineExamples.{LinesHold, AskLinesHold};
 ghost use Rattle.smk_model.specs.RunExamples.{RunsHold};
 ghost use Rattle.smk_model.specs.SessionExamples.{SessionsHold};
 ghost use Rattle.smk_model.specs.TypingExamples.{TypingsHold};
-ghost use Rattle.smk_model.specs.WorkedExamples.{ReadmeHolds, TablesHold, WordsHold};
+ghost use Rattle.smk_model.specs.WorkedExamples.{ReadmeHolds, StringsHold, TablesHold, WordsHold};
 
 /// The rows of six views over two tables, the rids that they come from, and the lists of one step.
 pub fn examples_hold()
@@ -94,4 +94,10 @@ pub fn words_hold()
 #[tactic(auto, using(crate::proofs::WorkedExamples::tables))]
 pub fn tables_hold()
     ensures { TablesHold }
+{}
+
+/// The tokens of texts in quotes: closed, open, and open behind a pair of quotes.
+#[tactic(auto, using(crate::proofs::WorkedExamples::strings_hold))]
+pub fn strings_hold()
+    ensures { StringsHold }
 {}
