@@ -77,4 +77,3 @@ pub mod Conversation
 pub mod ConversationLaws
 pub mod ConversationExamples
 pub mod TalkStarts
-pub mod WorkedExamples
