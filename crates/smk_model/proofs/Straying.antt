@@ -10,7 +10,7 @@ use Rattle.smk_base.specs.Trees.{StmtImage, AnyLineImage}
 use Rattle.smk_model.specs.Tokens.{Token, tokens}
 use Rattle.smk_model.specs.Grammar.{AreStmts, IsWholeLine, whole_line, IsWholeAnyLine, whole_any_line}
 use Rattle.smk_model.specs.Machine.{PlanCounts, Symbol, Move, Takes, Skips, Wrong, Past, Outside, through, settle, go_on, fault_at, fault_in, book_symbols, line_symbols, any_symbols, no_counts, book_fault, line_fault, any_fault}
-use Rattle.smk_model.specs.GrammarLaws.{AtMostTooMany, Stays, Leaves, IsUnexpected, UnexpectedLeaves}
+use Rattle.smk_model.specs.GrammarLaws.{AtMostTooMany, Stays, LeavesGrammar, IsUnexpected, UnexpectedLeaves}
 use Rattle.smk_model.proofs.Leaving.{no_ends, leaves_none, settles}
 use Rattle.smk_model.proofs.Moves.{AreSymbols, settled, MovesAll, with_text}
 use Rattle.smk_model.proofs.Sound.{AtEnd, kind_at_end, all_end}
@@ -87,7 +87,7 @@ wrong l d t at h e = by (settle l d t) refl (ap fault_in (sym (step l d t [] h))
     by Outside q g = absurd (cc)
 
 module _ {T : Type 0} (Spells : List Token → T → Type 0) (ss : List Symbol) (h : closes ss ≡ true) (n : no_ends ss ≡ true) (spelt : (a b : List Token) → AreSymbols ss a b → (tree : T) × Spells a tree) where
-  leaves : ((a : List Token) (tree : T) → Spells a tree → AtMostTooMany (Of ss no_counts a)) → (text : List ℕ) (at : ℕ) → Stays (Of ss no_counts) (tokens text) (Unexpected at) → Leaves Spells (Of ss no_counts) (tokens text) at
+  leaves : ((a : List Token) (tree : T) → Spells a tree → AtMostTooMany (Of ss no_counts a)) → (text : List ℕ) (at : ℕ) → Stays (Of ss no_counts) (tokens text) (Unexpected at) → LeavesGrammar Spells (Of ss no_counts) (tokens text) at
   leaves read text at s =
       let w = comes s.before ss no_counts h n (free s.before s.faulty s.behind (subst Closes s.are (tokens_close 0 0 text))) s.faultless in
       let r = wrong w.left w.counts s.faulty at w.closed (sym (w.goes (s.faulty ∷ [])) ∙ s.stays []) in
@@ -103,7 +103,7 @@ module _ {T : Type 0} (Spells : List Token → T → Type 0) (ss : List Symbol) 
         none = λ other more tree p. subst AtMostTooMany (w.goes (with_text s.faulty other ∷ more) ∙ ap fault_in (step w.left w.counts (with_text s.faulty other) more w.closed) ∙ ap (λ m. fault_in (go_on m w.counts (with_text s.faulty other) more (λ d l. through l d more))) (still_wrong w.left w.counts s.faulty other r.0) ∙ ap (λ (f : BookFault). Some f) r.1) (read (s.before ++ with_text s.faulty other ∷ more) tree p);
       }
 
-  unexpected : (ts : List Token) (at : ℕ) → Closes ts → Leaves Spells (Of ss no_counts) ts at → Of ss no_counts ts ≡ Some (Unexpected at)
+  unexpected : (ts : List Token) (at : ℕ) → Closes ts → LeavesGrammar Spells (Of ss no_counts) ts at → Of ss no_counts ts ≡ Some (Unexpected at)
   unexpected ts at closed_list s =
       let w = comes s.before ss no_counts h n (free s.before s.token s.behind (subst Closes s.are closed_list)) s.faultless in
       ap (Of ss no_counts) s.are ∙ w.goes (s.token ∷ s.behind) ∙ ap fault_in (step w.left w.counts s.token s.behind w.closed) ∙ elim (end_or_not s.token.kind) [

@@ -12,7 +12,7 @@ use Rattle.smk_model.specs.Machine.{book_fault, line_fault, any_fault, fault_at}
 
 -- The tokens leave the grammar at this place: what stands before the token there has no fault and begins a text, and no text goes on with a token of its kind.
 -- Other faults are none of this. A token that can't be read, and a number outside i64, are faulty whatever stands before them. With one thing too many texts of the grammar go on, and so they do with another number where one is out of range.
-pub record Leaves {T : Type 0} (Spells : List Token → T → Type 0) (fault_of : List Token → Option BookFault) (ts : List Token) (at : ℕ) : Type 0 where
+pub record LeavesGrammar {T : Type 0} (Spells : List Token → T → Type 0) (fault_of : List Token → Option BookFault) (ts : List Token) (at : ℕ) : Type 0 where
   pub before : List Token
   pub token : Token
   pub behind : List Token
@@ -24,8 +24,8 @@ pub record Leaves {T : Type 0} (Spells : List Token → T → Type 0) (fault_of 
 
 -- the first fault of a text is an unexpected token exactly where its tokens leave the grammar
 pub record IsUnexpected {T : Type 0} (Spells : List Token → T → Type 0) (fault_of : List Token → Option BookFault) : Type 0 where
-  pub leaves : (text : List ℕ) (at : ℕ) → fault_of (tokens text) ≡ Some (Unexpected at) → Leaves Spells fault_of (tokens text) at
-  pub unexpected : (text : List ℕ) (at : ℕ) → Leaves Spells fault_of (tokens text) at → fault_of (tokens text) ≡ Some (Unexpected at)
+  pub leaves : (text : List ℕ) (at : ℕ) → fault_of (tokens text) ≡ Some (Unexpected at) → LeavesGrammar Spells fault_of (tokens text) at
+  pub unexpected : (text : List ℕ) (at : ℕ) → LeavesGrammar Spells fault_of (tokens text) at → fault_of (tokens text) ≡ Some (Unexpected at)
 
 -- for books, for lines without steps and for lines of any kind
 pub record UnexpectedLeaves : Type 0 where
