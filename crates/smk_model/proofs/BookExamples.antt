@@ -1,7 +1,6 @@
 -- Views of a book read by hand.
-use Rattle.std.proofs.Common.{List, ◌∷◌, refl}
-use Rattle.smk_model.specs.Tokens.{Token}
-use Rattle.smk_model.specs.Grammar.{First, name, plain, number, no_more, listed, by_itself, by_as, column_item, gt, ne, column_term, literal_term, compared, conj, no_and, one_and, pred, no_or, plan, scan, inner_plan, no_step, one_step, project_step, theta_step, product_step, view_stmt, no_stmt, one_stmt}
+use Rattle.std.proofs.Common.{refl}
+use Rattle.smk_model.specs.Grammar.{name, plain, number, no_more, listed, by_itself, by_as, column_item, gt, ne, column_term, literal_term, compared, conj, no_and, one_and, pred, no_or, plan, scan, inner_plan, no_step, one_step, project_step, theta_step, product_step, view_stmt, no_stmt, one_stmt}
 use Rattle.smk_model.specs.BookExamples.{BooksHold}
 use Rattle.smk_model.proofs.LineExamples.{stands}
 

@@ -13,7 +13,7 @@ use Rattle.smk_model.proofs.Leaving.{no_end, no_ends, leaves_none, settles, and_
 use Rattle.smk_model.proofs.Sound.{not_failed, none_is_ok}
 
 -- the last token is one behind which no other is read, and no other is such
-abbrev Closes : List Token → Type 0
+abbrev pub Closes : List Token → Type 0
 Closes [] = ⊥
 Closes (t ∷ []) = is_more t.kind ≡ false
 Closes (t ∷ u ∷ ts) = (is_more t.kind ≡ true) × Closes (u ∷ ts)
@@ -27,13 +27,13 @@ put_closes (Begins kind n) at bs more h = by (is_more kind) refl (more (n - 1)) 
     by true e [] k = absurd k
     by true e (u ∷ ts) k = (e, k)
 
-tokens_close : (passed at : ℕ) (bs : List ℕ) → Closes (tokens_from passed at bs)
+pub tokens_close : (passed at : ℕ) (bs : List ℕ) → Closes (tokens_from passed at bs)
 tokens_close passed at [] = refl
 tokens_close (suc passed) at (b ∷ bs) = tokens_close passed (at + 1) bs
 tokens_close zero at (b ∷ bs) = put_closes (front (b ∷ bs)) at (b ∷ bs) (λ n. tokens_from n (at + 1) bs) (λ n. tokens_close n (at + 1) bs)
 
 -- the last symbol passes over no token but the end
-abbrev closes : List Symbol → Bool
+abbrev pub closes : List Symbol → Bool
 closes [] = false
 closes (AStmts y ∷ []) = true
 closes (AnEnd ∷ []) = true
@@ -44,7 +44,7 @@ closed_behind : (l : List Symbol) (y : Symbol) (ss : List Symbol) → closes (y 
 closed_behind (x ∷ z ∷ l) y ss h = closed_behind (z ∷ l) y ss h
 closed_behind _ y ss h = h
 
-abbrev StaysClosed : Move → Type 0
+abbrev pub StaysClosed : Move → Type 0
 StaysClosed (Takes d l) = closes l ≡ true
 StaysClosed Skips = ⊥
 StaysClosed _ = Unit {0}
@@ -66,7 +66,7 @@ the_end : (k : TokenKind) → (k ≡ kinds.End → ⊥) → StaysClosed (or_next
 the_end kinds.End n = absurd (n refl)
 the_end _ n = tt
 
-closed : (ss : List Symbol) (c : PlanCounts) (t : Token) → closes ss ≡ true → (t.kind ≡ kinds.End → ⊥) → StaysClosed (settle ss c t)
+pub closed : (ss : List Symbol) (c : PlanCounts) (t : Token) → closes ss ≡ true → (t.kind ≡ kinds.End → ⊥) → StaysClosed (settle ss c t)
 closed [] c t h n = absurd (cc)
 closed (AStmts y ∷ []) c t h n = stmts y t.kind n
 closed (AnEnd ∷ []) c t h n = the_end t.kind n
@@ -132,7 +132,7 @@ unread_fails b x ss c s t n h f e = by (settle (x ∷ ss) c (unread b t)) (none_
 same_token : (b : Bool) (t : Token) → t.kind ≡ unread_kind b → t ≡ unread b t
 same_token b t e = ap (λ k. record { at = t.at; kind = k; text = t.text }) e
 
-more_is_no_end : (k : TokenKind) → is_more k ≡ true → k ≡ kinds.End → ⊥
+pub more_is_no_end : (k : TokenKind) → is_more k ≡ true → k ≡ kinds.End → ⊥
 more_is_no_end kinds.End h e = absurd (cc)
 more_is_no_end _ h e = absurd (cc)
 

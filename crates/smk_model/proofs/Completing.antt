@@ -1,16 +1,11 @@
--- Tokens that were taken can be completed.
-use Rattle.std.specs.Prelude.{Result, Ok, Err}
-use Rattle.std.proofs.Common.{◌≡◌, ℕ, List, [], ◌∷◌, ◌++◌, ap, ◌∙◌, refl}
+-- A text of each symbol, with which tokens are completed.
+use Rattle.std.proofs.Common.{ℕ, List, [], ◌∷◌, refl}
 use Rattle.smk_base.specs.declared.book.token.TokenKind.{TokenKind}
 use Rattle.smk_base.specs.declared.book.token.TokenKind.TheVariants as kinds
-use Rattle.smk_base.specs.declared.fault.BookFault.{BookFault}
-use Rattle.smk_base.specs.declared.fault.BookFault.TheVariants.{TooMany, BadNumber}
 use Rattle.smk_model.specs.Tokens.{Token}
-use Rattle.smk_model.specs.Grammar.{First, plain_word, IsName, name, IsColumn, plain, string, no_more, int_type, no_default, by_itself, width, column_item, alone_what, no_keys, no_aggs, eq, column_term, compared, no_and, no_or, scan, no_step, group_step, union_step, no_extra, fwd_stmt, no_stmt, mark, all_marks, no_then, clear_line, whole_line, ask_step, no_ask_step, plain_line, whole_any_line}
-use Rattle.smk_model.specs.Machine.{Configuration, PlanCounts, Symbol, Move, Takes, Skips, Wrong, Past, Outside, settle, go_on, through, book_symbols, line_symbols, any_symbols, no_counts, AToken, AName, AColumn, ALiteral, AWidth, AType, ADefault, AnAs, AWhat, AKeys, AnAggs, AFirst, AnItem, ALinked, ASource, ASteps, AStep, AUnited, APrim, AnAnds, AnOrs, AnOn, AnOp, ATerm, AStmts, ALineage, AnExtra, ALine, ALineName, ALineColumn, AMarks, AMark, AThen, ACleared, AnEnd, AnyLine, AnAskStep, AskSteps}
-use Rattle.smk_model.specs.Machine.{fault_at}
-use Rattle.smk_model.specs.GrammarLaws.{NoEnds, TakenAreCompleted}
-use Rattle.smk_model.proofs.Moves.{IsSymbol, AreSymbols, settled, MovesAll}
+use Rattle.smk_model.specs.Grammar.{First, plain_word, IsName, name, IsColumn, plain, string, no_more, int_type, no_default, by_itself, width, column_item, alone_what, no_keys, no_aggs, eq, column_term, compared, no_and, no_or, scan, no_step, group_step, union_step, no_extra, fwd_stmt, no_stmt, mark, all_marks, no_then, clear_line, ask_step, no_ask_step, plain_line}
+use Rattle.smk_model.specs.Machine.{Symbol, AToken, AName, AColumn, ALiteral, AWidth, AType, ADefault, AnAs, AWhat, AKeys, AnAggs, AFirst, AnItem, ALinked, ASource, ASteps, AStep, AUnited, APrim, AnAnds, AnOrs, AnOn, AnOp, ATerm, AStmts, ALineage, AnExtra, ALine, ALineName, ALineColumn, AMarks, AMark, AThen, ACleared, AnEnd, AnyLine, AnAskStep, AskSteps}
+use Rattle.smk_model.proofs.Moves.{IsSymbol, AreSymbols}
 
 abbrev tok : TokenKind → List ℕ → Token
 tok k text = record { at = 0; kind = k; text = text }
@@ -72,39 +67,6 @@ closes AnAskStep b = (tok kinds.Group [] ∷ b, (_, ask_step (group_step (is_tok
 closes AskSteps b = (b, ([], no_ask_step))
 closes _ b = (b, ([], no_more))
 
-close_all : (ss : List Symbol) → (a : List Token) × (b : List Token) × AreSymbols ss a b
+pub close_all : (ss : List Symbol) → (a : List Token) × (b : List Token) × AreSymbols ss a b
 close_all [] = ([], [], refl)
 close_all (x ∷ ss) = let r = close_all ss in let h = closes x r.0 in (h.0, r.1, (r.0, h.1, r.2))
-
-abbrev went : Result Configuration BookFault → Result Configuration BookFault
-went r = r
-
-rest_of : Result Configuration BookFault → List Token
-rest_of (Ok s) = s.rest
-rest_of (Err e) = []
-
-not_done : (t : Token) (ts : List Token) (c : PlanCounts) (s : Configuration) → went (Ok (record { rest = t ∷ ts; counts = c })) ≡ went (Ok s) → s.rest ≡ [] → ⊥
-unfolding rest_of
-not_done t ts c s e f = let g : t ∷ ts ≡ [] = ap rest_of e ∙ f in absurd (cc)
-
-not_failed : (f : BookFault) (s : Configuration) → went (Err f) ≡ went (Ok s) → ⊥
-not_failed f s e = absurd (cc)
-
-completes : (ts : List Token) (ss : List Symbol) (c : PlanCounts) (s : Configuration) → NoEnds ts → through ss c ts ≡ Ok s → s.rest ≡ [] → (more : List Token) × (b : List Token) × AreSymbols ss (ts ++ more) b
-completes [] ss c s n e f = close_all ss
-completes (t ∷ ts) [] c s n e f = absurd (not_done t ts c s e f)
-completes (t ∷ ts) (x ∷ ss) c s n e f = by (settle (x ∷ ss) c t) (settled (x ∷ ss) c t n.0) e (λ l d g. completes ts l d s n.1 g f)
-  where
-    by : (m : Move) → MovesAll m (x ∷ ss) t → go_on m c t ts (λ d l. through l d ts) ≡ Ok s → ((l : List Symbol) (d : PlanCounts) → through l d ts ≡ Ok s → (more : List Token) × (b : List Token) × AreSymbols l (ts ++ more) b) → (more : List Token) × (b : List Token) × AreSymbols (x ∷ ss) (t ∷ (ts ++ more)) b
-    by (Takes d l) h g rec = let r = rec l d g in (r.0, r.1, h (ts ++ r.0) r.1 r.2)
-    by Skips h g rec = absurd (not_done t ts c s g f)
-    by Wrong h g rec = absurd (not_failed (fault_at t) s g)
-    by (Past w) h g rec = absurd (not_failed (TooMany t.at w) s g)
-    by Outside h g rec = absurd (not_failed (BadNumber t.at) s g)
-
-pub taken_are_completed : TakenAreCompleted
-taken_are_completed = record {
-  book = λ ts s n e f. let r = completes ts book_symbols no_counts s n e f in (r.0, r.2.1.0, r.2.1.1);
-  line = λ ts s n e f. let r = completes ts line_symbols no_counts s n e f in (r.0, r.2.1.0, whole_line r.2.1.1 r.2.2.1.2);
-  any = λ ts s n e f. let r = completes ts any_symbols no_counts s n e f in (r.0, r.2.1.0, whole_any_line r.2.1.1 r.2.2.1.2);
-}

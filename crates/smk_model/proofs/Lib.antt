@@ -44,6 +44,8 @@ pub mod Moves
 pub mod Sound
 pub mod Leaving
 pub mod Completing
+pub mod WrongKinds
+pub mod Straying
 pub mod OneOutcome
 pub mod Closing
 pub mod SomeOutcome

@@ -4,6 +4,7 @@ use Rattle.std.proofs.Common.{◌≡◌, ℕ, ◌+◌, List, [], ◌∷◌, ◌+
 use Rattle.smk_base.specs.declared.book.token.TokenKind.{TokenKind}
 use Rattle.smk_base.specs.declared.book.token.TokenKind.TheVariants as kinds
 use Rattle.smk_base.specs.declared.fault.Many.{Many}
+use Rattle.smk_base.specs.declared.fault.Many.TheVariants.{Compares, NameBytes}
 use Rattle.smk_base.specs.declared.book.plan.CmpOp.{CmpOp}
 use Rattle.smk_base.specs.declared.book.tree.Word.{Word}
 use Rattle.smk_base.specs.declared.book.tree.Lit.{Lit}
@@ -26,7 +27,7 @@ use Rattle.smk_model.specs.Grammar.{First, plain_word, IsName, name, IsColumn, p
 use Rattle.smk_model.proofs.Alike.{same_is}
 use Rattle.smk_model.proofs.Leaving.{and_left, and_right}
 use Rattle.smk_model.proofs.Unique.{step_opener, step_opening}
-use Rattle.smk_model.specs.Machine.{PlanCounts, Tally, Symbol, Move, Takes, Skips, Wrong, Past, Outside, settle, or_next, within, move_of, no_counts, is_mark, is_short, at_name, at_column, at_first, at_item, at_literal, at_width, at_type, at_default, at_as, at_aggregate, at_keys, at_aggs, at_linked, at_more, at_source, at_steps, step_symbols, node_move, at_on, at_united, at_compare, at_prim, at_ands, at_ors, at_op, at_term, at_stmts, at_lineage, at_extra, at_line, at_line_column, at_mark, at_marks, at_then, at_cleared, at_any_line, ask_symbols, at_ask_steps, at_end, at_token, AToken, AName, AColumn, ALiteral, AWidth, AType, ADefault, AnAs, AWhat, AKeys, AnAggs, AFirst, AnItem, ALinked, MoreDecls, MoreItems, MoreKeys, MoreAggs, MorePairs, MoreLinked, ASource, ASteps, AStep, AUnited, APrim, AnAnds, AnOrs, AnOn, AnOp, ATerm, AStmts, ALineage, AnExtra, ALine, ALineName, ALineColumn, AMarks, AMark, MoreMarks, AThen, ACleared, AnEnd, AnyLine, AnAskStep, AskSteps}
+use Rattle.smk_model.specs.Machine.{PlanCounts, Tally, Symbol, Move, Takes, Skips, Wrong, Past, Outside, settle, or_next, within, move_of, no_counts, is_mark, is_short, at_name, at_column, at_first, at_item, at_literal, at_width, at_type, at_default, at_as, at_aggregate, at_keys, at_aggs, at_linked, at_more, at_source, at_steps, step_symbols, node_move, at_on, at_united, at_prim, at_ands, at_ors, at_op, at_term, at_stmts, at_lineage, at_extra, at_line, at_line_column, at_mark, at_marks, at_then, at_cleared, at_any_line, ask_symbols, at_ask_steps, at_end, at_token, AToken, AName, AColumn, ALiteral, AWidth, AType, ADefault, AnAs, AWhat, AKeys, AnAggs, AFirst, AnItem, ALinked, MoreDecls, MoreItems, MoreKeys, MoreAggs, MorePairs, MoreLinked, ASource, ASteps, AStep, AUnited, APrim, AnAnds, AnOrs, AnOn, AnOp, ATerm, AStmts, ALineage, AnExtra, ALine, ALineName, ALineColumn, AMarks, AMark, MoreMarks, AThen, ACleared, AnEnd, AnyLine, AnAskStep, AskSteps}
 
 -- the tokens from a to b are the symbol
 abbrev pub IsSymbol : Symbol → List Token → List Token → Type 0
@@ -94,15 +95,37 @@ ends x a c h = subst (IsSymbol x a) h.2 h.1
 alone : (x : Symbol) (z a b : List Token) → a ≡ b → IsSymbol x z a → IsSymbol x z b
 alone x z a b e h = subst (IsSymbol x z) e h
 
--- what a move says of the token in hand and what comes after it
-abbrev Moves : Move → Symbol → Token → Type 0
-Moves (Takes d l) x t = (a b : List Token) → AreSymbols l a b → IsSymbol x (t ∷ a) b
-Moves Skips x t = (t.kind ≡ kinds.End → ⊥) → (a : List Token) → IsSymbol x a a
-Moves _ x t = Unit {0}
+-- the token with another text
+abbrev pub with_text : Token → List ℕ → Token
+with_text t text = record { at = t.at; kind = t.kind; text = text }
 
-lim : (fits : Bool) (what : Many) (m : Move) (x : Symbol) (t : Token) → Moves m x t → Moves (within fits what m) x t
-lim true what m x t h = h
-lim false what m x t h = tt
+-- what a token that is taken, or would be within the limits, says with what comes after it
+abbrev Taken : Move → Symbol → Token → Type 0
+Taken (Takes d l) x t = (a b : List Token) → AreSymbols l a b → IsSymbol x (t ∷ a) b
+Taken (Past w) x t = (l : List Symbol) × ((a b : List Token) → AreSymbols l a b → IsSymbol x (t ∷ a) b)
+Taken _ x t = ⊥
+
+-- what a move says of the token in hand and what comes after it; where it is out of range, of one with another text
+abbrev Moves : Move → Symbol → Token → Type 0
+Moves (Takes d l) x t = Taken (Takes d l) x t
+Moves (Past w) x t = Taken (Past w) x t
+Moves Skips x t = (t.kind ≡ kinds.End → ⊥) → (a : List Token) → IsSymbol x a a
+Moves Wrong x t = Unit {0}
+Moves Outside x t = (text : List ℕ) × (l : List Symbol) × ((a b : List Token) → AreSymbols l a b → IsSymbol x (with_text t text ∷ a) b)
+
+inner : (fits : Bool) (what : Many) (m : Move) (x : Symbol) (t : Token) → Taken m x t → Taken (within fits what m) x t
+inner true what m x t h = h
+inner false what (Takes d l) x t h = (l, h)
+inner false what (Past w) x t h = h
+inner false what _ x t h = absurd h
+
+lim : (fits : Bool) (what : Many) (m : Move) (x : Symbol) (t : Token) → Taken m x t → Moves (within fits what m) x t
+lim fits what m x t h = by (within fits what m) (inner fits what m x t h)
+  where
+    by : (m : Move) → Taken m x t → Moves m x t
+    by (Takes d l) h = h
+    by (Past w) h = h
+    by _ h = absurd h
 
 -- a move that begins with a column
 columns : (c : PlanCounts) (ss : List Symbol) (x : Symbol) (t : Token) → ((a b : List Token) (w : Word) → IsColumn (t ∷ a) a w → AreSymbols ss a b → IsSymbol x (t ∷ a) b) → (short : Bool) (k : TokenKind) → t.kind ≡ k → Moves (at_column c ss short k) x t
@@ -111,8 +134,8 @@ columns c ss x t f short kinds.Quoted e = lim short _ (Takes c ss) x t (λ a b h
 columns c ss x t f short _ e = tt
 
 firsts : (c : PlanCounts) (n : ℕ) (ss : List Symbol) (x : Symbol) (t : Token) → ((a b : List Token) (w : Word) → IsColumn (t ∷ a) a w → AreSymbols ss a b → IsSymbol x (t ∷ a) b) → (short : Bool) (k : TokenKind) → t.kind ≡ k → Moves (at_first c n ss short k) x t
-firsts c n ss x t f short kinds.Name e = lim (nat_lt n COLUMN_LIMIT) _ _ x t (lim short _ (Takes c ss) x t (λ a b h. f a b _ (plain (here t a kinds.Name e)) h))
-firsts c n ss x t f short kinds.Quoted e = lim (nat_lt n COLUMN_LIMIT) _ _ x t (lim short _ (Takes c ss) x t (λ a b h. f a b _ (quoted (here t a kinds.Quoted e)) h))
+firsts c n ss x t f short kinds.Name e = lim (nat_lt n COLUMN_LIMIT) _ _ x t (inner short _ (Takes c ss) x t (λ a b h. f a b _ (plain (here t a kinds.Name e)) h))
+firsts c n ss x t f short kinds.Quoted e = lim (nat_lt n COLUMN_LIMIT) _ _ x t (inner short _ (Takes c ss) x t (λ a b h. f a b _ (quoted (here t a kinds.Quoted e)) h))
 firsts c n ss x t f short _ e = tt
 
 mores : (c : PlanCounts) (ss : List Symbol) (x : Symbol) (t : Token) → ((a b : List Token) → First kinds.Comma t (t ∷ a) a → AreSymbols ss a b → IsSymbol x (t ∷ a) b) → ((a : List Token) → IsSymbol x a a) → (k : TokenKind) → t.kind ≡ k → Moves (at_more c ss k) x t
@@ -143,7 +166,7 @@ literals c t _ e = tt
 
 widths : (c : PlanCounts) (t : Token) (o : Bool) → int_le (pos 1) (int_value t.text) ≡ o → t.kind ≡ kinds.Number → Moves (cond o (Takes c []) Outside) AWidth t
 widths c t true f e = λ a b h. alone AWidth (t ∷ a) a b h (_, width (here t a kinds.Number e) f)
-widths c t false f e = tt
+widths c t false f e = (49 ∷ [], [], λ a b h. alone AWidth (with_text t (49 ∷ []) ∷ a) a b h (_, width (here (with_text t (49 ∷ [])) a kinds.Number e) refl))
 
 width_moves : (c : PlanCounts) (t : Token) (k : TokenKind) → t.kind ≡ k → Moves (at_width c (int_value t.text) k) AWidth t
 width_moves c t kinds.Number e = widths c t (int_le (pos 1) (int_value t.text)) refl e
@@ -184,7 +207,7 @@ item_moves c n t short kinds.Quoted e = firsts c n (AnAs ∷ []) (AnItem n) t (�
 item_moves c n t short _ e = tt
 
 linked_moves : (c : PlanCounts) (n : ℕ) (t : Token) (short : Bool) (k : TokenKind) → t.kind ≡ k → Moves (at_linked c n short k) (ALinked n) t
-linked_moves c n t short kinds.Name e = lim (nat_lt n LINK_LIMIT) _ _ (ALinked n) t (lim short _ (Takes c []) (ALinked n) t (λ a b h. alone (ALinked n) (t ∷ a) a b h (_, name (here t a kinds.Name e))))
+linked_moves c n t short kinds.Name e = lim (nat_lt n LINK_LIMIT) _ _ (ALinked n) t (inner short _ (Takes c []) (ALinked n) t (λ a b h. alone (ALinked n) (t ∷ a) a b h (_, name (here t a kinds.Name e))))
 linked_moves c n t short _ e = tt
 
 steps_moves : (c : PlanCounts) (d : ℕ) (t : Token) (k : TokenKind) → t.kind ≡ k → Moves (at_steps c d k) (ASteps d) t
@@ -221,15 +244,15 @@ united_moves c d t kinds.Scan e = sources c d (AUnited d) t (λ a b y p z u g. (
 united_moves c d t kinds.Open e = sources c d (AUnited d) t (λ a b y p z u g. (_, _, union_step g p)) kinds.Open e
 united_moves c d t _ e = tt
 
-compare_moves : (c : PlanCounts) (d : ℕ) (t : Token) (short : Bool) (k : TokenKind) → t.kind ≡ k → Moves (at_compare c short k) (APrim d) t
-compare_moves c d t short k e = lim (nat_lt c.compares COMPARE_LIMIT) _ (at_column (record { nodes = c.nodes; compares = c.compares + 1 }) (AnOp ∷ ATerm ∷ []) short k) (APrim d) t (columns (record { nodes = c.nodes; compares = c.compares + 1 }) (AnOp ∷ ATerm ∷ []) (APrim d) t (λ a b w p h. let x = ends ATerm h.0 b h.2 in (_, compared p h.1.1 x.1)) short k e)
+compare_moves : (c : PlanCounts) (d : ℕ) (t : Token) (short : Bool) → ((a : List Token) → (w : Word) × IsColumn (t ∷ a) a w) → Moves (within (nat_lt c.compares COMPARE_LIMIT) Compares (within short NameBytes (Takes (record { nodes = c.nodes; compares = c.compares + 1 }) (AnOp ∷ ATerm ∷ [])))) (APrim d) t
+compare_moves c d t short f = lim (nat_lt c.compares COMPARE_LIMIT) _ _ (APrim d) t (inner short _ (Takes _ (AnOp ∷ ATerm ∷ [])) (APrim d) t (λ a b h. let x = ends ATerm h.0 b h.2 in (_, compared (f a).1 h.1.1 x.1)))
 
 prim_moves : (c : PlanCounts) (d : ℕ) (t : Token) (short : Bool) (k : TokenKind) → t.kind ≡ k → Moves (at_prim c d short k) (APrim d) t
 prim_moves c d t short kinds.Not e = lim (nat_lt d DEPTH_LIMIT) _ (Takes c (APrim (d + 1) ∷ [])) (APrim d) t (λ a b h. let p = ends (APrim (d + 1)) a b h in (_, negated (here t a kinds.Not e) p.1))
 prim_moves c d t short kinds.Open e = lim (nat_lt d DEPTH_LIMIT) _ (Takes c (APrim (d + 1) ∷ AnAnds (d + 1) ∷ AnOrs (d + 1) ∷ AToken kinds.Close ∷ [])) (APrim d) t
     (λ a b h. let s = h.2.1 h.1.0 in let r = h.2.2.1 s.0 in let k = ends (AToken kinds.Close) h.2.2.0 b h.2.2.2 in (_, bracketed (here t a kinds.Open e) (pred (conj h.1.1 s.1) r.1) k.1))
-prim_moves c d t short kinds.Name e = compare_moves c d t short kinds.Name e
-prim_moves c d t short kinds.Quoted e = compare_moves c d t short kinds.Quoted e
+prim_moves c d t short kinds.Name e = compare_moves c d t short (λ a. (_, plain (here t a kinds.Name e)))
+prim_moves c d t short kinds.Quoted e = compare_moves c d t short (λ a. (_, quoted (here t a kinds.Quoted e)))
 prim_moves c d t short _ e = tt
 
 ands_moves : (c : PlanCounts) (d : ℕ) (t : Token) (k : TokenKind) → t.kind ≡ k → Moves (at_ands c d k) (AnAnds d) t
@@ -268,7 +291,7 @@ stmts_moves y t kinds.Lineage e = lim (nat_lt y.lineages LINEAGE_LIMIT) _ (Takes
     (λ a b h. let s = h.1 (t ∷ a) t (here t a kinds.Lineage e) in (_, one_stmt s.1 h.2.1.1))
 stmts_moves y t kinds.Link e = lim (nat_lt y.links LINK_LIMIT) _ (Takes no_counts (AName ∷ AToken kinds.On ∷ AName ∷ AToken kinds.To ∷ ALinked 0 ∷ MoreLinked 1 ∷ AStmts (record y { links = y.links + 1 }) ∷ [])) (AStmts y) t
     (λ a b h. (_, one_stmt (link_stmt (here t a kinds.Link e) h.1.1 h.2.1.1 h.2.2.1.1 h.2.2.2.1.1 (listed h.2.2.2.2.1.1 h.2.2.2.2.2.1.1)) h.2.2.2.2.2.2.1.1))
-stmts_moves y t kinds.Fd e = lim (nat_lt y.views VIEW_LIMIT) _ _ (AStmts y) t (lim (nat_lt y.lineages LINEAGE_LIMIT) _ (Takes no_counts (AName ∷ AToken kinds.On ∷ AName ∷ AFirst 0 ∷ MoreKeys 1 ∷ AToken kinds.To ∷ AColumn ∷ AStmts (record y { views = y.views + 1; lineages = y.lineages + 1 }) ∷ [])) (AStmts y) t
+stmts_moves y t kinds.Fd e = lim (nat_lt y.views VIEW_LIMIT) _ _ (AStmts y) t (inner (nat_lt y.lineages LINEAGE_LIMIT) _ (Takes no_counts (AName ∷ AToken kinds.On ∷ AName ∷ AFirst 0 ∷ MoreKeys 1 ∷ AToken kinds.To ∷ AColumn ∷ AStmts (record y { views = y.views + 1; lineages = y.lineages + 1 }) ∷ [])) (AStmts y) t
     (λ a b h. (_, one_stmt (depends_stmt (here t a kinds.Fd e) h.1.1 h.2.1.1 h.2.2.1.1 (listed h.2.2.2.1.1 h.2.2.2.2.1.1) h.2.2.2.2.2.1.1 h.2.2.2.2.2.2.1.1) h.2.2.2.2.2.2.2.1.1)))
 stmts_moves y t kinds.End e = λ n. absurd (n e)
 stmts_moves y t _ e = tt
@@ -344,7 +367,9 @@ ask_steps_moves c t _ e = λ n a. ([], no_ask_step)
 plain_moves : (m : Move) (t : Token) → Moves m ALine t → Moves m AnyLine t
 plain_moves (Takes d l) t h = λ a b s. let r = h a b s in (_, plain_line r.1)
 plain_moves Skips t h = λ n a. let r = h n a in (_, plain_line r.1)
-plain_moves _ t h = tt
+plain_moves (Past w) t h = (h.0, λ a b s. let r = h.1 a b s in (_, plain_line r.1))
+plain_moves Wrong t h = tt
+plain_moves Outside t h = (h.0, h.1, λ a b s. let r = h.2 a b s in (_, plain_line r.1))
 
 any_line_moves : (c : PlanCounts) (t : Token) (k : TokenKind) → t.kind ≡ k → Moves (at_any_line c k) AnyLine t
 any_line_moves c t kinds.Ask e = λ a b h. (_, asked_line (ask_line (here t a kinds.Ask e) h.1.1 h.2.1.1 h.2.2.1.1 h.2.2.2.1.1 h.2.2.2.2.1.1 h.2.2.2.2.2.1.1 h.2.2.2.2.2.2.1.1 (ends AskSteps h.2.2.2.2.2.2.0 b h.2.2.2.2.2.2.2).1))
@@ -360,17 +385,17 @@ mark_of : (v : ℤ) → is_mark v ≡ true → (m : ℕ) × (v ≡ pos m) × (na
 mark_of (pos m) e = (m, refl, and_right (int_le (pos 0) (pos m)) (int_lt (pos m) (pos (2 ^ 32))) e)
 mark_of (negsuc n) e = let f : int_le (pos 0) (negsuc n) ≡ true = and_left (int_le (pos 0) (negsuc n)) (int_lt (negsuc n) (pos (2 ^ 32))) e in absurd (cc)
 
-a_mark : (c : PlanCounts) (ss : List Symbol) (x : Symbol) (t : Token) → ((a b : List Token) (m : ℕ) → IsMark (t ∷ a) a m → AreSymbols ss a b → IsSymbol x (t ∷ a) b) → t.kind ≡ kinds.Number → (o : Bool) → is_mark (int_value t.text) ≡ o → Moves (cond o (Takes c ss) Outside) x t
-a_mark c ss x t f e true g = λ a b h. let m = mark_of (int_value t.text) g in f a b m.0 (mark (here t a kinds.Number e) m.1 m.2) h
-a_mark c ss x t f e false g = tt
+a_mark : (c : PlanCounts) (ss : List Symbol) (x : Symbol) (t : Token) → ((u : Token) (a b : List Token) (m : ℕ) → IsMark (u ∷ a) a m → AreSymbols ss a b → IsSymbol x (u ∷ a) b) → t.kind ≡ kinds.Number → (o : Bool) → is_mark (int_value t.text) ≡ o → Moves (cond o (Takes c ss) Outside) x t
+a_mark c ss x t f e true g = λ a b h. let m = mark_of (int_value t.text) g in f t a b m.0 (mark (here t a kinds.Number e) m.1 m.2) h
+a_mark c ss x t f e false g = (48 ∷ [], ss, λ a b h. f (with_text t (48 ∷ [])) a b 0 (mark (here (with_text t (48 ∷ [])) a kinds.Number e) refl refl) h)
 
-mark_moves : (c : PlanCounts) (ss : List Symbol) (x : Symbol) (t : Token) → ((a b : List Token) (m : ℕ) → IsMark (t ∷ a) a m → AreSymbols ss a b → IsSymbol x (t ∷ a) b) → (k : TokenKind) → t.kind ≡ k → Moves (at_mark c ss (int_value t.text) k) x t
+mark_moves : (c : PlanCounts) (ss : List Symbol) (x : Symbol) (t : Token) → ((u : Token) (a b : List Token) (m : ℕ) → IsMark (u ∷ a) a m → AreSymbols ss a b → IsSymbol x (u ∷ a) b) → (k : TokenKind) → t.kind ≡ k → Moves (at_mark c ss (int_value t.text) k) x t
 mark_moves c ss x t f kinds.Number e = a_mark c ss x t f e (is_mark (int_value t.text)) refl
 mark_moves c ss x t f _ e = tt
 
 marks_moves : (c : PlanCounts) (t : Token) (k : TokenKind) → t.kind ≡ k → Moves (at_marks c (int_value t.text) k) AMarks t
 marks_moves c t kinds.All e = λ a b h. alone AMarks (t ∷ a) a b h (_, all_marks (here t a kinds.All e))
-marks_moves c t kinds.Number e = mark_moves c (MoreMarks ∷ []) AMarks t (λ a b m p h. let l = ends MoreMarks a b h in (_, listed_marks (listed p l.1))) kinds.Number e
+marks_moves c t kinds.Number e = mark_moves c (MoreMarks ∷ []) AMarks t (λ u a b m p h. let l = ends MoreMarks a b h in (_, listed_marks (listed p l.1))) kinds.Number e
 marks_moves c t _ e = tt
 
 moves : (x : Symbol) (c : PlanCounts) (t : Token) → Moves (move_of c x t) x t
@@ -411,7 +436,7 @@ moves ALine c t = line_moves c t t.kind refl
 moves ALineName c t = tokens_moves c kinds.Name ALineName t (λ e a b h. alone ALineName (t ∷ a) a b h (_, name (here t a kinds.Name (sym e))))
 moves ALineColumn c t = line_columns c t t.kind refl
 moves AMarks c t = marks_moves c t t.kind refl
-moves AMark c t = mark_moves c [] AMark t (λ a b m p h. alone AMark (t ∷ a) a b h (m, p)) t.kind refl
+moves AMark c t = mark_moves c [] AMark t (λ u a b m p h. alone AMark (u ∷ a) a b h (m, p)) t.kind refl
 moves MoreMarks c t = mores c (AMark ∷ MoreMarks ∷ []) MoreMarks t (λ a b p h. (_, one_more p h.1.1 (ends MoreMarks h.0 b h.2).1)) (λ a. ([], no_more)) t.kind refl
 moves AThen c t = then_moves c t t.kind refl
 moves ACleared c t = cleared_moves c t t.kind refl
@@ -423,7 +448,9 @@ moves AskSteps c t = ask_steps_moves c t t.kind refl
 abbrev pub MovesAll : Move → List Symbol → Token → Type 0
 MovesAll (Takes d l) ss t = (a b : List Token) → AreSymbols l a b → AreSymbols ss (t ∷ a) b
 MovesAll Skips ss t = (a : List Token) → AreSymbols ss a a
-MovesAll _ ss t = Unit {0}
+MovesAll (Past w) ss t = (l : List Symbol) × ((a b : List Token) → AreSymbols l a b → AreSymbols ss (t ∷ a) b)
+MovesAll Wrong ss t = Unit {0}
+MovesAll Outside ss t = (text : List ℕ) × (l : List Symbol) × ((a b : List Token) → AreSymbols l a b → AreSymbols ss (with_text t text ∷ a) b)
 
 pub settled : (ss : List Symbol) (c : PlanCounts) (t : Token) → (t.kind ≡ kinds.End → ⊥) → MovesAll (settle ss c t) ss t
 settled [] c t no_end = λ a. refl
@@ -434,8 +461,8 @@ settled (x ∷ ss) c t no_end = by (move_of c x t) (moves x c t) (settle ss c t)
     by Skips h (Takes d l) g = λ a b q. (t ∷ a, h no_end (t ∷ a), g a b q)
     by Skips h Skips g = λ a. (a, h no_end a, g a)
     by Skips h Wrong g = tt
-    by Skips h (Past w) g = tt
-    by Skips h Outside g = tt
+    by Skips h (Past w) g = (g.0, λ a b q. (t ∷ a, h no_end (t ∷ a), g.1 a b q))
+    by Skips h Outside g = (g.0, g.1, λ a b q. (with_text t g.0 ∷ a, h no_end (with_text t g.0 ∷ a), g.2 a b q))
     by Wrong h o g = tt
-    by (Past w) h o g = tt
-    by Outside h o g = tt
+    by (Past w) h o g = (h.0 ++ ss, λ a b q. let r = split h.0 ss a b q in (r.0, h.1 a r.0 r.1, r.2))
+    by Outside h o g = (h.0, h.1 ++ ss, λ a b q. let r = split h.1 ss a b q in (r.0, h.2 a r.0 r.1, r.2))

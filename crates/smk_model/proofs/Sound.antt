@@ -18,12 +18,13 @@ pub not_failed : (f : BookFault) (s : Configuration) → Err f ≡ Ok s → ⊥
 not_failed f s e = absurd (cc)
 
 -- at the end what is left to be read is nothing, or the end is wrong
-abbrev AtEnd : Move → Type 0 → Type 0
+abbrev pub AtEnd : Move → Type 0 → Type 0
 AtEnd (Takes d l) P = ⊥
 AtEnd Skips P = P
-AtEnd _ P = Unit {0}
+AtEnd Wrong P = Unit {0}
+AtEnd _ P = ⊥
 
-abbrev the_end : Token → Token
+abbrev pub the_end : Token → Token
 the_end t = record { at = t.at; kind = kinds.End; text = t.text }
 
 token_at_end : (k : TokenKind) (c : PlanCounts) (t : Token) → no_end (AToken k) ≡ true → AtEnd (move_of c (AToken k) (the_end t)) (IsSymbol (AToken k) (the_end t ∷ []) (the_end t ∷ []))
@@ -54,10 +55,10 @@ at_end AskSteps c t h = ([], no_ask_step)
 at_end (AToken k) c t h = token_at_end k c t h
 at_end _ c t h = tt
 
-kind_at_end : (t : Token) → t.kind ≡ kinds.End → t ≡ the_end t
+pub kind_at_end : (t : Token) → t.kind ≡ kinds.End → t ≡ the_end t
 kind_at_end t e = ap (λ k. record { at = t.at; kind = k; text = t.text }) e
 
-all_end : (ss : List Symbol) (c : PlanCounts) (t : Token) → no_ends ss ≡ true → AtEnd (settle ss c (the_end t)) (AreSymbols ss (the_end t ∷ []) (the_end t ∷ []))
+pub all_end : (ss : List Symbol) (c : PlanCounts) (t : Token) → no_ends ss ≡ true → AtEnd (settle ss c (the_end t)) (AreSymbols ss (the_end t ∷ []) (the_end t ∷ []))
 all_end [] c t n = refl
 all_end (x ∷ ss) c t n = by (move_of c x (the_end t)) (at_end x c t (and_left (no_end x) (no_ends ss) n)) (settle ss c (the_end t)) (all_end ss c t (and_right (no_end x) (no_ends ss) n))
   where
@@ -66,11 +67,11 @@ all_end (x ∷ ss) c t n = by (move_of c x (the_end t)) (at_end x c t (and_left 
     by Skips h (Takes d l) g = absurd g
     by Skips h Skips g = (the_end t ∷ [], h, g)
     by Skips h Wrong g = tt
-    by Skips h (Past w) g = tt
-    by Skips h Outside g = tt
+    by Skips h (Past w) g = absurd g
+    by Skips h Outside g = absurd g
     by Wrong h o g = tt
-    by (Past w) h o g = tt
-    by Outside h o g = tt
+    by (Past w) h o g = absurd h
+    by Outside h o g = absurd h
 
 ended : (ss : List Symbol) (c : PlanCounts) (s : Configuration) (t : Token) → no_ends ss ≡ true → t ≡ the_end t → through ss c (t ∷ []) ≡ Ok s → (b : List Token) × AreSymbols ss (t ∷ []) b
 ended [] c s t n f e = (t ∷ [], refl)

@@ -33,6 +33,7 @@ here s ss c t ts f g m e h at q = record {
   behind = ts;
   are = refl;
   place = subst (IsAt t.at) q at;
+  faultless = refl;
   stays = λ us. ap (λ n. fault_in (go_on n c t us (λ d l. through l d us))) e ∙ ap fault_in (h us) ∙ ap Some q;
 }
 
@@ -48,6 +49,7 @@ stay (t ∷ ts) (s ∷ ss) c f e = by (settle (s ∷ ss) c t) refl e (λ l d g. 
       behind = r.behind;
       are = ap (λ us. t ∷ us) r.are;
       place = r.place;
+      faultless = ap (λ n. fault_in (go_on n c t r.before (λ d l. through l d r.before))) q ∙ r.faultless;
       stays = λ us. ap (λ n. fault_in (go_on n c t (r.before ++ r.faulty ∷ us) (λ d l. through l d (r.before ++ r.faulty ∷ us)))) q ∙ r.stays us;
     }
     by Skips q g rec = absurd (no_fault (record { rest = t ∷ ts; counts = c }) f g)
@@ -62,6 +64,7 @@ of ss fault_of is ts f e = let r = stay ts ss no_counts f (sym (is ts) ∙ e) in
   behind = r.behind;
   are = r.are;
   place = r.place;
+  faultless = is r.before ∙ r.faultless;
   stays = λ us. is (r.before ++ r.faulty ∷ us) ∙ r.stays us;
 }
 

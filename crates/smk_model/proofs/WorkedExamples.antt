@@ -15,7 +15,7 @@ use Rattle.smk_model.specs.Grammar.{name, plain, file, no_more, one_more, listed
 use Rattle.smk_model.specs.Readings.{asks, no_line, one_line}
 use Rattle.smk_model.specs.Words.{Files, words_of}
 use Rattle.smk_model.specs.Outcome.{spells, parsed, read, OpensBook, OpensScript, lines_read, no_script, a_script, load_all, inputs, usable, unusable, unreadable, reported}
-use Rattle.smk_model.specs.WorkedExamples.{readme_book_name, readme_script_name, readme_files, readme_catalog, readme_workbook, readme_readings, readme_inputs, readme_report, ReadmeHolds, WordsHold, TablesHold, StringsHold}
+use Rattle.smk_model.specs.WorkedExamples.{readme_book_name, readme_script_name, readme_files, readme_catalog, readme_workbook, readme_readings, readme_inputs, readme_report, ReadmeHolds, WordsHold, TablesHold, StringsHold, CountsHold}
 use Rattle.smk_model.proofs.LineExamples.{stands}
 
 book_there : OpensBook readme_files readme_book_name (Ok (record { catalog = readme_catalog; fds = [] }))
@@ -75,4 +75,28 @@ strings_hold = record {
   at_line_end = refl;
   length_reopened = refl;
   length_unclosed = refl;
+}
+
+pub counts_hold : CountsHold
+counts_hold = record {
+  tables = refl;
+  views = refl;
+  dependencies = refl;
+  lineages = refl;
+  links = refl;
+  linked = refl;
+  decls = refl;
+  items = refl;
+  keys = refl;
+  aggs = refl;
+  pairs = refl;
+  nodes = refl;
+  comparisons = refl;
+  source_levels = refl;
+  levels = refl;
+  nots = refl;
+  name_bytes = refl;
+  quoted_bytes = refl;
+  count_first = refl;
+  ask_steps = refl;
 }

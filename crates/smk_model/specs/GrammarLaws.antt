@@ -1,5 +1,5 @@
 -- What makes the grammar and the first fault believable: each law over all lists of tokens.
-use Rattle.std.specs.Prelude.{◌≡◌, ℕ, List, [], ◌∷◌, ◌++◌, Option, Some, None, Ok}
+use Rattle.std.specs.Prelude.{◌≡◌, ℕ, List, [], ◌∷◌, ◌++◌, Option, Some, None}
 use Rattle.smk_base.specs.declared.book.token.TokenKind.TheVariants.{End}
 use Rattle.smk_base.specs.declared.fault.BookFault.{BookFault}
 use Rattle.smk_base.specs.declared.fault.BookFault.TheVariants.{BadToken, Unexpected, TooMany, BadNumber, NoMemory}
@@ -8,7 +8,30 @@ use Rattle.smk_base.specs.Trees.{StmtImage, AskImage, AnyLineImage, AskedLine, P
 use Rattle.smk_model.specs.Tokens.{Token, tokens}
 use Rattle.smk_model.specs.Grammar.{AreStmts, IsWholeLine, IsWholeAnyLine}
 use Rattle.smk_model.specs.Limits.{KeepsLimits, KeepsAsk}
-use Rattle.smk_model.specs.Machine.{Configuration, through, book_symbols, line_symbols, any_symbols, no_counts, book_fault, line_fault, any_fault}
+use Rattle.smk_model.specs.Machine.{book_fault, line_fault, any_fault, fault_at}
+
+-- The tokens leave the grammar at this place: what stands before the token there has no fault and begins a text, and no text goes on with a token of its kind.
+-- Other faults are none of this. A token that can't be read, and a number outside i64, are faulty whatever stands before them. With one thing too many texts of the grammar go on, and so they do with another number where one is out of range.
+pub record LeavesGrammar {T : Type 0} (Spells : List Token → T → Type 0) (fault_of : List Token → Option BookFault) (ts : List Token) (at : ℕ) : Type 0 where
+  pub before : List Token
+  pub token : Token
+  pub behind : List Token
+  pub are : ts ≡ before ++ token ∷ behind
+  pub place : fault_at token ≡ Unexpected at
+  pub faultless : fault_of before ≡ None
+  pub begins : (more : List Token) × (tree : T) × Spells (before ++ more) tree
+  pub none : (text : List ℕ) (more : List Token) (tree : T) → Spells (before ++ record { at = token.at; kind = token.kind; text = text } ∷ more) tree → ⊥
+
+-- the first fault of a text is an unexpected token exactly where its tokens leave the grammar
+pub record IsUnexpected {T : Type 0} (Spells : List Token → T → Type 0) (fault_of : List Token → Option BookFault) : Type 0 where
+  pub leaves : (text : List ℕ) (at : ℕ) → fault_of (tokens text) ≡ Some (Unexpected at) → LeavesGrammar Spells fault_of (tokens text) at
+  pub unexpected : (text : List ℕ) (at : ℕ) → LeavesGrammar Spells fault_of (tokens text) at → fault_of (tokens text) ≡ Some (Unexpected at)
+
+-- for books, for lines without steps and for lines of any kind
+pub record UnexpectedLeaves : Type 0 where
+  pub book : IsUnexpected AreStmts book_fault
+  pub line : IsUnexpected IsWholeLine line_fault
+  pub any : IsUnexpected IsWholeAnyLine any_fault
 
 -- no fault, or that there are too many of something
 abbrev pub AtMostTooMany : Option BookFault → Type 0
@@ -33,13 +56,14 @@ IsAt place (TooMany at what) = at ≡ place
 IsAt place (BadNumber at) = at ≡ place
 IsAt place NoMemory = ⊥
 
--- the tokens have this fault at one of them, and would have it with any other tokens behind that one
+-- the tokens have this fault at one of them, none before it, and would have it with any other tokens behind that one
 pub record Stays (fault_of : List Token → Option BookFault) (ts : List Token) (f : BookFault) : Type 0 where
   pub before : List Token
   pub faulty : Token
   pub behind : List Token
   pub are : ts ≡ before ++ faulty ∷ behind
   pub place : IsAt faulty.at f
+  pub faultless : fault_of before ≡ None
   pub stays : (others : List Token) → fault_of (before ++ faulty ∷ others) ≡ Some f
 
 -- a fault stays the fault whatever follows
@@ -59,17 +83,6 @@ pub record FaultlessHaveTrees : Type 0 where
   pub book : (ts : List Token) → Finishes ts → book_fault ts ≡ None → (ss : List StmtImage) × AreStmts ts ss
   pub line : (ts : List Token) → Finishes ts → line_fault ts ≡ None → (l : Line) × IsWholeLine ts l
   pub any : (ts : List Token) → Finishes ts → any_fault ts ≡ None → (l : AnyLineImage) × IsWholeAnyLine ts l
-
--- the end isn't among the tokens
-abbrev pub NoEnds : List Token → Type 0
-NoEnds [] = Unit {0}
-NoEnds (t ∷ ts) = (t.kind ≡ End → ⊥) × NoEnds ts
-
--- tokens before the end that were all taken begin a text of the grammar
-pub record TakenAreCompleted : Type 0 where
-  pub book : (ts : List Token) (s : Configuration) → NoEnds ts → through book_symbols no_counts ts ≡ Ok s → s.rest ≡ [] → (more : List Token) × (ss : List StmtImage) × AreStmts (ts ++ more) ss
-  pub line : (ts : List Token) (s : Configuration) → NoEnds ts → through line_symbols no_counts ts ≡ Ok s → s.rest ≡ [] → (more : List Token) × (l : Line) × IsWholeLine (ts ++ more) l
-  pub any : (ts : List Token) (s : Configuration) → NoEnds ts → through any_symbols no_counts ts ≡ Ok s → s.rest ≡ [] → (more : List Token) × (l : AnyLineImage) × IsWholeAnyLine (ts ++ more) l
 
 -- a text that spells a book and has no fault keeps the limits
 abbrev pub FaultlessKeepLimits : Type 0

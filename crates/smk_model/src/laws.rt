@@ -20,13 +20,13 @@ pub use crate::runs::demo_laws::{
     demos_are_short, demos_are_within,
 };
 pub use crate::runs::example_laws::{
-    appends_hold, ask_lines_hold, books_hold, demos_hold, dependencies_are_read,
+    appends_hold, ask_lines_hold, books_hold, counts_hold, demos_hold, dependencies_are_read,
     dependencies_are_typed, example_grows, examples_hold, lines_hold, readme_holds, runs_hold,
     sessions_hold, strings_hold, tables_hold, typings_hold, words_hold,
 };
 pub use crate::runs::grammar_laws::{
     faultless_asks_keep_limits, faultless_have_trees, faultless_keep_limits, faults_stay,
-    one_any_line, one_book, one_line, taken_are_completed, texts_are_read,
+    one_any_line, one_book, one_line, texts_are_read, unexpected_leaves,
 };
 pub use crate::runs::outcome_laws::{
     faultless_texts_spell, one_inputs, one_outcome, one_reading, some_outcome, some_reading,

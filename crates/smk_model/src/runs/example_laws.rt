@@ -10,7 +10,7 @@ ghost use Rattle.smk_model.specs.LineExamples.{LinesHold, AskLinesHold};
 ghost use Rattle.smk_model.specs.RunExamples.{RunsHold};
 ghost use Rattle.smk_model.specs.SessionExamples.{SessionsHold};
 ghost use Rattle.smk_model.specs.TypingExamples.{TypingsHold};
-ghost use Rattle.smk_model.specs.WorkedExamples.{ReadmeHolds, StringsHold, TablesHold, WordsHold};
+ghost use Rattle.smk_model.specs.WorkedExamples.{CountsHold, ReadmeHolds, StringsHold, TablesHold, WordsHold};
 
 /// The rows of six views over two tables, the rids that they come from, and the lists of one step.
 pub fn examples_hold()
@@ -100,4 +100,10 @@ pub fn tables_hold()
 #[tactic(auto, using(crate::proofs::WorkedExamples::strings_hold))]
 pub fn strings_hold()
     ensures { StringsHold }
+{}
+
+/// The faults of books that have one thing too many, of each thing that is counted.
+#[tactic(auto, using(crate::proofs::WorkedExamples::counts_hold))]
+pub fn counts_hold()
+    ensures { CountsHold }
 {}

@@ -3,7 +3,7 @@ ghost use Rattle.smk_base.specs.Trees.{AnyLineImage, StmtImage};
 ghost use Rattle.smk_base.specs.declared.book.tree.Line.{Line};
 ghost use Rattle.smk_model.specs.Tokens.{Token};
 ghost use Rattle.smk_model.specs.Grammar.{AreStmts, IsWholeAnyLine, IsWholeLine};
-ghost use Rattle.smk_model.specs.GrammarLaws.{FaultlessAsksKeepLimits, FaultlessHaveTrees, FaultlessKeepLimits, FaultsStay, TakenAreCompleted, TextsAreRead};
+ghost use Rattle.smk_model.specs.GrammarLaws.{FaultlessAsksKeepLimits, FaultlessHaveTrees, FaultlessKeepLimits, FaultsStay, TextsAreRead, UnexpectedLeaves};
 
 /// No tokens are two books.
 #[tactic(auto, using(crate::proofs::Unique::one_book))]
@@ -23,13 +23,19 @@ pub fn one_any_line()
     ensures { (a : List Token) → (l : AnyLineImage) → (u : AnyLineImage) → IsWholeAnyLine a l → IsWholeAnyLine a u → l ≡ u }
 {}
 
+/// A text's first fault is `Unexpected` at a token exactly if what stands before the token has no fault and begins a text of the grammar, and what ends there with a token of its kind begins none: for books, for lines without steps and for lines of any kind.
+#[tactic(auto, using(crate::proofs::Straying::unexpected_leaves))]
+pub fn unexpected_leaves()
+    ensures { UnexpectedLeaves }
+{}
+
 /// No text of the grammar has a wrong token: a book and a line of any kind have no fault but where they pass a limit, and a line without steps has none.
 #[tactic(auto, using(crate::proofs::Texts::texts_are_read))]
 pub fn texts_are_read()
     ensures { TextsAreRead }
 {}
 
-/// A fault stays the fault whatever follows the faulty token.
+/// Before a faulty token there is no fault, and its fault stays the fault whatever follows.
 #[tactic(auto, using(crate::proofs::Staying::faults_stay))]
 pub fn faults_stay()
     ensures { FaultsStay }
@@ -39,12 +45,6 @@ pub fn faults_stay()
 #[tactic(auto, using(crate::proofs::Sound::faultless_have_trees))]
 pub fn faultless_have_trees()
     ensures { FaultlessHaveTrees }
-{}
-
-/// Tokens that were taken can be completed to a text of the grammar.
-#[tactic(auto, using(crate::proofs::Completing::taken_are_completed))]
-pub fn taken_are_completed()
-    ensures { TakenAreCompleted }
 {}
 
 /// A text that spells a book and has no fault keeps the limits that typing rests on.
