@@ -6,7 +6,7 @@ ghost use Rattle.smk_base.specs.declared.book.type_fault.TypeFault.TheVariants.{
 ghost use Rattle.smk_base.specs.declared.rel.TheConstants.{COLUMN_LIMIT};
 ghost use Rattle.smk_model.specs.Asks.{chain, steps_reply, typed_steps};
 ghost use Rattle.smk_model.specs.Limits.{KeepsSteps};
-ghost use Rattle.smk_model.specs.Names.{kinds_of};
+ghost use Rattle.smk_model.specs.Names.{column_kinds};
 ghost use Rattle.smk_model.specs.Plain.{eval, width};
 ghost use Rattle.smk_model.specs.Selection.{PlanFits, first_full, nodes, plan_kinds};
 ghost use Rattle.smk_model.specs.Typing.{column_of};
@@ -102,7 +102,7 @@ pub(crate) fn stepped<R: Threads + Sync>(
 ) -> Result<AskReply, AllocError>
     requires width { length cols.now ≤ COLUMN_LIMIT }
     requires kept { KeepsSteps (ask_image line.now).steps }
-    requires kinds { rows.kinds ≡ kinds_of (map column_of cols.now) }
+    requires kinds { rows.kinds ≡ column_kinds (map column_of cols.now) }
     ensures { IfOk result (λ told. told ≡ steps_reply (typed_steps (map column_of cols.now) (ask_image line.now).steps) rows.rows) }
 {
     match check_steps(alloc, cols, &line.steps) {

@@ -15,7 +15,7 @@ pub use find::found::{Found, Made};
 pub use find::join::{left_columns, matched, right_columns};
 pub use find::matches::{Matches, Partners};
 pub use find::partition::Partition;
-pub use find::passing::selected;
+pub use find::passing::selected_places;
 pub use find::places::Places;
 pub use find::row_pairs::RowPairs;
 pub use find::stretches::{Behind, Same};

@@ -34,7 +34,7 @@ pub(crate) fn regrouped(
     let over = over.as_slice();
     let groups = group_rows(alloc, both, &classes, columns, over)?;
     // These are aggregates over all rows, so they fit the kinds that those of the parts have.
-    let kinds = kinds_of(alloc, both)?;
+    let kinds = rel_kinds(alloc, both)?;
     let kinds = kinds.as_slice();
     let rel = groups.with_kinds(alloc, kinds)?;
     Ok((rel, classes))
@@ -53,7 +53,7 @@ fn aggs_over_parts(alloc: Global, from: u32, aggs: &[Agg]) -> Result<Aggs, Alloc
 }
 
 // The kinds of the columns.
-fn kinds_of(alloc: Global, rel: &Rel) -> Result<Vec<Kind>, AllocError>
+fn rel_kinds(alloc: Global, rel: &Rel) -> Result<Vec<Kind>, AllocError>
     ensures { IfOk result (λ kinds. kinds.items ≡ rel.now.kinds) }
 {
     let mut kinds = Vec::with_capacity(alloc, rel.width() as usize)?;

@@ -13,7 +13,7 @@ use Rattle.smk_model.proofs.Anys.{or_false}
 use Rattle.smk_model.proofs.Comes.{IsPart, rows_part, rows_whole}
 use Rattle.smk_model.proofs.Composed.{lists_stand}
 use Rattle.smk_body.specs.Locals.{wanted}
-use Rattle.smk_model.specs.NodeFaults.{NodeFault, FullRows, FullPairs, Asked, asked_of, pair_limit, is_crowded, fault_at}
+use Rattle.smk_model.specs.NodeFaults.{NodeFault, FullRows, FullPairs, AskedTable, asked_of, pair_limit, is_crowded, last_node_fault}
 use Rattle.smk_compose.specs.KeptMaps.{held_at, kept_at}
 use Rattle.smk_compose.specs.Walk.{AreDirected, AreWhole, WholeWhereNeeded}
 use Rattle.smk_compose.specs.Through.{is_heavy, has_heavy, node_fault, pairs_fault, or_empty, filled, map_at, no_map, no_need}
@@ -55,7 +55,7 @@ crowded_is plan E tables n are some =
     ∙ heavy_is n.dir.back n.dir.fwd (has (leaves plan) n.table) (backs plan tables n.table) (forwards plan tables n.table) (pairs_of (backs plan tables n.table).lists) some refl (pairs_forward.both_ways plan tables n.table) (λ e. pairs_unscanned plan tables n.table e)
 
 crowds : (plan : Expr) (E tables : List (List Row)) (need : List Needed) (node : ℕ) → AreDirected need → WholeWhereNeeded plan E tables need
-    → option_map (λ (a : Asked). FullPairs node a.0) (find (is_crowded plan E) (asked_of tables need)) ≡ pairs_fault node (map (held_at plan tables) need)
+    → option_map (λ (a : AskedTable). FullPairs node a.0) (find (is_crowded plan E) (asked_of tables need)) ≡ pairs_fault node (map (held_at plan tables) need)
 crowds plan E tables [] node all whole = refl
 crowds plan E tables (n ∷ need) node all whole =
     let are = whole (omega arith) in
@@ -70,7 +70,7 @@ pub rows_same : (plan : Expr) (E tables : List (List Row)) → AreWhole plan E t
 rows_same plan E tables are = rows_part plan (leaves plan) E tables 0 (part plan E tables are) ∙ sym (rows_whole plan tables)
 
 -- the fault of a plan's last node is that of its rows and maps
-pub fault_same : (plan : Expr) (E tables : List (List Row)) (need : List Needed) (node : ℕ) → AreDirected need → WholeWhereNeeded plan E tables need → fault_at plan E (asked_of tables need) node ≡ node_fault node (eval plan E) (map (held_at plan tables) need)
+pub fault_same : (plan : Expr) (E tables : List (List Row)) (need : List Needed) (node : ℕ) → AreDirected need → WholeWhereNeeded plan E tables need → last_node_fault plan E (asked_of tables need) node ≡ node_fault node (eval plan E) (map (held_at plan tables) need)
 fault_same plan E tables need node all whole = ap (λ (o : Option NodeFault). cond (is_full (eval plan E)) (Some (FullRows node)) o) (crowds plan E tables need node all whole)
 
 -- what is filled in

@@ -16,7 +16,7 @@ use Rattle.smk_model.specs.Values.{Row}
 use Rattle.smk_model.specs.Plain.{step1, step2, leaves, width, eval, whole, table_at}
 use Rattle.smk_model.specs.Kinds.{Fits2, kinds1, kinds2}
 use Rattle.smk_model.specs.Selection.{each_kinds, each_rows, plan_kinds, over, PlanFits, nodes, row_limit, first_full}
-use Rattle.smk_model.specs.NodeFaults.{NodeFault, FullRows, FullPairs, asked_of, fault_at, first_fault_from}
+use Rattle.smk_model.specs.NodeFaults.{NodeFault, FullRows, FullPairs, asked_of, last_node_fault, first_fault_from}
 use Rattle.smk_model.proofs.Bulk.{bulk}
 use Rattle.smk_model.proofs.NodeFaults.{nothing_is_asked}
 use Rattle.smk_body.specs.declared.keep.local.Side.{Side}
@@ -123,7 +123,7 @@ module _ {plan : Expr} {op : Unary} {input : Expr} {cols : List ℕ} {L : List R
       node_long m _ _ (map (through (side1 (unary_of step.op) below.rel.rows)) below.kept) one.narrows.long
       ∙ node_same one.counted (let e : step1 op (eval input (each_rows L)) ≡ eval (Apply op input) (each_rows L) = refl in e) one_maps
       ∙ sym (fault_same (Apply op input) (each_rows L) tables need (n + nodes input) one.directed one.whole)
-      ∙ ap (λ (o : Option NodeFault). option_or o (fault_at (Apply op input) (each_rows L) (asked_of tables need) (n + nodes input))) (sym one.walked.none)
+      ∙ ap (λ (o : Option NodeFault). option_or o (last_node_fault (Apply op input) (each_rows L) (asked_of tables need) (n + nodes input))) (sym one.walked.none)
       ∙ ap (λ (p : Expr). first_fault_from p (each_rows L) (asked_of tables need) n) (sym one.is)
 
   pub one_walked : (r : Result Run RunFault) → IfOk r (λ made. made.rel.rows ≡ map (picked step.after) (step1 (unary_of step.op) below.rel.rows)) → IfOk r (λ made. made.rel.kinds ≡ map (kind_in (kinds1 (unary_of step.op) below.rel.kinds)) step.after)
@@ -214,10 +214,10 @@ is_two {plan} {op} {a} {b} {cols} {L} {M} {tables} {need} {n} {m} {k} {w} {v} {m
 
 -- the first fault behind that of the left input, which has none
 pub fault_right : (op : Binary) (a b : Expr) (cols : List ℕ) (L M : List Relation) (tables : List (List Row)) (need : List Needed) (n m : ℕ) (l : Run) → M ≡ drop (width a) L → m ≡ n + nodes a → IsWalked a cols L tables need n l
-    → first_fault_from (Combine op a b) (each_rows L) (asked_of tables need) n ≡ option_or (first_fault_from b (each_rows M) (asked_of tables need) m) (fault_at (Combine op a b) (each_rows L) (asked_of tables need) (n + nodes a + nodes b))
+    → first_fault_from (Combine op a b) (each_rows L) (asked_of tables need) n ≡ option_or (first_fault_from b (each_rows M) (asked_of tables need) m) (last_node_fault (Combine op a b) (each_rows L) (asked_of tables need) (n + nodes a + nodes b))
 fault_right op a b cols L M tables need n m l rest counted is =
     let A = asked_of tables need in
-    let last = fault_at (Combine op a b) (each_rows L) A (n + nodes a + nodes b) in
+    let last = last_node_fault (Combine op a b) (each_rows L) A (n + nodes a + nodes b) in
     ap (λ (o : Option NodeFault). option_or o (option_or (first_fault_from b (drop (width a) (each_rows L)) A (n + nodes a)) last)) is.none
     ∙ ap (λ (F : List (List Row)). option_or (first_fault_from b F A (n + nodes a)) last) (rows_right a L M rest)
     ∙ ap (λ k. option_or (first_fault_from b (each_rows M) A k) last) (sym counted)
@@ -250,7 +250,7 @@ module _ {plan : Expr} {op : Binary} {a b : Expr} {cols : List ℕ} {L M : List 
   two_node : node_fault k (step2 (binary_of step.op) l.rel.rows r.rel.rows) (together_all (side_left (binary_of step.op) l.rel.rows r.rel.rows) (side_right (binary_of step.op) l.rel.rows r.rel.rows) l.kept r.kept)
       ≡ first_fault_from plan (each_rows L) (asked_of tables need) n
   two_node =
-      let last = fault_at (Combine op a b) (each_rows L) (asked_of tables need) (n + nodes a + nodes b) in
+      let last = last_node_fault (Combine op a b) (each_rows L) (asked_of tables need) (n + nodes a + nodes b) in
       let counted = two.counted in
       let number = two.number in
       node_long k _ _ (together_all (side_left (binary_of step.op) l.rel.rows r.rel.rows) (side_right (binary_of step.op) l.rel.rows r.rel.rows) l.kept r.kept) two.narrows.long

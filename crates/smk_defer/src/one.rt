@@ -11,7 +11,7 @@ ghost use Rattle.smk_defer.specs.Kept.{keys1};
 
 use crate::keys::{side_by_keys, side_by_rows};
 use smk_base::{Dir, Item, Op1, Pred, Rel};
-use smk_body::{Found, Local, Places, Same, Want, images, lineage_of, no_side, selected};
+use smk_body::{Found, Local, Places, Same, Want, images, lineage_of, no_side, selected_places};
 use smk_keys::KeyTable;
 use std::alloc::{AllocError, Global};
 
@@ -47,7 +47,7 @@ fn selection(alloc: Global, input: &Rel, pred: &Pred, want: Dir) -> Result<Local
     ensures { IfOk result (λ local. local ≡ local1 (Selection (formula_of pred.now)) input.now.rows want) }
 {
     let rows = input.len();
-    let items = selected(alloc, input, pred, 0, rows)?;
+    let items = selected_places(alloc, input, pred, 0, rows)?;
     let found = Found::Places(Places::new(items, rows));
     lineage_of(alloc, found, Want::of_left(want))
 }

@@ -18,7 +18,7 @@ use Rattle.smk_model.specs.Expanded.{expanded, dependency_names, HasNoDependency
 use Rattle.smk_model.specs.Profiles.{AreDependencies}
 use Rattle.smk_model.specs.Readings.{Nothing, Asks, Unread as Unread', IsReading, says_nothing, asks, leaves}
 use Rattle.smk_model.specs.Reports.{BookSaid}
-use Rattle.smk_model.specs.Outcome.{Held, content_of, Parses, spells, misspells, BookSays, unparsed, parsed, said_or_fault, statements_say, FileSays, unread, read, UntoldCause}
+use Rattle.smk_model.specs.Outcome.{Held, file_bytes, Parses, spells, misspells, BookSays, unparsed, parsed, said_or_fault, statements_say, FileSays, unread, read, UntoldCause}
 use Rattle.smk_model.specs.Limits.{KeepsLimits}
 use Rattle.smk_model.proofs.Expanded.{expanded_stands}
 use Rattle.smk_model.proofs.Keeping.{faultless_keep_limits, faultless_asks_keep_limits}
@@ -30,7 +30,7 @@ use Rattle.smk_inputs.specs.Collecting.{Answers, ReadsNamed}
 
 -- the file is read, and then its bytes say this
 pub says_after : {A X Y : Type 0} (image : X → A) (content : Y → List ℕ) (held : Option Held) (rose : Type 0) (name bytes : List ℕ) (y : Y) (says : List ℕ → Result A Fault → Type 0) (r : Result X Stop)
-    → ReadsNamed held rose name (λ h answer. content_of h name ≡ answer) content (Ok y) → bytes ≡ content y
+    → ReadsNamed held rose name (λ h answer. file_bytes h name ≡ answer) content (Ok y) → bytes ≡ content y
     → ((fault : Fault) → says bytes (Err fault) → UntoldCause rose fault)
     → Answers (says bytes) image r → ReadsNamed held rose name (λ h. FileSays h name says) image r
 says_after image content (Some held) rose name bytes y says (Ok x) is same own a = read is (subst (λ (b : List ℕ). says b (Ok (image x))) same a)
@@ -44,7 +44,7 @@ says_after image content None rose name bytes y says (Err Exhausted) is same own
 
 -- the file isn't read
 pub says_stop : {A X Y : Type 0} (image : X → A) (content : Y → List ℕ) (held : Option Held) (rose : Type 0) (name : List ℕ) (says : List ℕ → Result A Fault → Type 0) (stop : Stop)
-    → ReadsNamed {X = Y} held rose name (λ h answer. content_of h name ≡ answer) content (Err stop) → ReadsNamed {X = X} held rose name (λ h. FileSays h name says) image (Err stop)
+    → ReadsNamed {X = Y} held rose name (λ h answer. file_bytes h name ≡ answer) content (Err stop) → ReadsNamed {X = X} held rose name (λ h. FileSays h name says) image (Err stop)
 says_stop image content (Some held) rose name says (At fault) (inl is) = inl (unread is)
 says_stop image content (Some held) rose name says (At fault) (inr up) = inr up
 says_stop image content (Some held) rose name says Unwritten is = is

@@ -6,7 +6,7 @@ use Rattle.std.proofs.lemmas.Bool.Decides.{nat_tests}
 use Rattle.smk_base.specs.declared.fault.Fault.TheVariants.{FileLong, Unread}
 use Rattle.smk_outside.specs.Outside.{IsFrontOf}
 use Rattle.smk_model.specs.Names.{◌>>=◌}
-use Rattle.smk_model.specs.Outcome.{Held, kept_short, content_of}
+use Rattle.smk_model.specs.Outcome.{Held, kept_short, file_bytes}
 use Rattle.smk_inputs.specs.declared.stop.Stop.TheVariants.{At}
 use Rattle.smk_inputs.specs.Collecting.{ReadsNamed}
 
@@ -29,12 +29,12 @@ within (Some whole) name front is h =
 
 pub long_front : {X : Type 0} (image : X → List ℕ) (held : Option Held) (rose : Type 0) (name front file : List ℕ)
     → IsFrontOf held name 67108864 front → 67108864 < length front → file ≡ name
-    → ReadsNamed held rose name (λ held answer. content_of held name ≡ answer) image (Err (At (FileLong file)))
+    → ReadsNamed held rose name (λ held answer. file_bytes held name ≡ answer) image (Err (At (FileLong file)))
 long_front image (Some held) rose name front file is h same = inl (rw same (passed (held name) name front is h))
 long_front image None rose name front file is h same = tt
 
 pub whole_front : {X : Type 0} (image : X → List ℕ) (held : Option Held) (rose : Type 0) (name : List ℕ) (front : X)
     → IsFrontOf held name 67108864 (image front) → length (image front) ≤ 67108864
-    → ReadsNamed held rose name (λ held answer. content_of held name ≡ answer) image (Ok front)
+    → ReadsNamed held rose name (λ held answer. file_bytes held name ≡ answer) image (Ok front)
 whole_front image (Some held) rose name front is h = within (held name) name (image front) is h
 whole_front image None rose name front is h = tt

@@ -1,7 +1,7 @@
 -- The bytes of a script, and what its lines say.
 use Rattle.std.proofs.Common.{◌≡◌, ◌∙◌, ℕ, List, [], ◌∷◌, ◌++◌, Option, Some, None, Result, Ok, Err, refl, ap, subst, inl, inr}
 use Rattle.smk_model.specs.Readings.{Reading, IsReading, AreReadings, AreReadingsOf, no_line, one_line}
-use Rattle.smk_model.specs.Outcome.{Held, content_of, read, unread, lines_read, no_script, a_script}
+use Rattle.smk_model.specs.Outcome.{Held, file_bytes, read, unread, lines_read, no_script, a_script}
 use Rattle.smk_model.proofs.OneOutcome.{same_reading}
 use Rattle.smk_inputs.specs.declared.stop.Stop.{Stop}
 use Rattle.smk_inputs.specs.declared.stop.Stop.TheVariants.{At, Unwritten, Exhausted}
@@ -33,10 +33,10 @@ no_bytes bytes None rose script x none empty = tt
 
 -- the script's file
 pub bytes_read : {X : Type 0} (bytes : X → List ℕ) (held : Option Held) (rose : Type 0) (name : List ℕ) (script : Option (List ℕ)) (r : Result X Stop) → script ≡ Some name
-    → ReadsNamed held rose name (λ h answer. content_of h name ≡ answer) bytes r → OpensBytes held rose script bytes r
+    → ReadsNamed held rose name (λ h answer. file_bytes h name ≡ answer) bytes r → OpensBytes held rose script bytes r
 bytes_read {X} bytes held rose name script r some is = rw some (by held r is)
   where
-    by : (held : Option Held) (r : Result X Stop) → ReadsNamed held rose name (λ h answer. content_of h name ≡ answer) bytes r → OpensBytes held rose (Some name) bytes r
+    by : (held : Option Held) (r : Result X Stop) → ReadsNamed held rose name (λ h answer. file_bytes h name ≡ answer) bytes r → OpensBytes held rose (Some name) bytes r
     by (Some held) (Ok x) is = λ readings are. a_script (read is (lines_read are))
     by (Some held) (Err (At fault)) (inl is) = inl (a_script (unread is))
     by (Some held) (Err (At fault)) (inr (up, e)) = inr (up, (name, refl, e))

@@ -8,7 +8,7 @@ use Rattle.smk_base.specs.declared.book.catalog.Column.{Column}
 use Rattle.smk_base.specs.declared.fault.Fault.{Fault}
 use Rattle.smk_base.specs.declared.book.catalog.TableInfo.{TableInfo}
 use Rattle.smk_model.specs.Values.{Row}
-use Rattle.smk_model.specs.Tables.{all_or_first, kinds_of}
+use Rattle.smk_model.specs.Tables.{all_or_first, declared_kinds}
 use Rattle.smk_model.specs.Catalogs.{table_kinds, each_table_kinds}
 use Rattle.smk_model.specs.Selection.{each_rows, each_kinds}
 use Rattle.smk_model.specs.Outcome.{Held, load}
@@ -57,7 +57,7 @@ stopped_here rows row whole held r1 r2 r3 infos i info d before stop l is wide l
     subst (λ (all : List TableInfo). Loads held r3 all whole (Err stop)) (sym (split_here infos i info d l is)) (load_stops rows row whole held r1 r2 r3 (take i infos) info (drop (i + 1) infos) before stop wide loaded read)
 
 -- the kinds of tables and of their declared columns
-pub kinds_declared : (info : TableInfo) (kinds : List Kind) → kinds ≡ kinds_of info.cols → kinds ≡ table_kinds info
+pub kinds_declared : (info : TableInfo) (kinds : List Kind) → kinds ≡ declared_kinds info.cols → kinds ≡ table_kinds info
 kinds_declared info kinds is = is ∙ sym (map_map (λ (column : Column). column.kind) (λ (col : ColDecl). record { name = col.name; kind = col.kind }) info.cols)
 
 -- one more of the lists of rows, and of kinds

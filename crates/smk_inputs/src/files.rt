@@ -1,6 +1,6 @@
 // The content of files.
 ghost use Rattle.std.specs.Prelude.{◌≡◌, ◌≤◌};
-ghost use Rattle.smk_model.specs.Outcome.{content_of};
+ghost use Rattle.smk_model.specs.Outcome.{file_bytes};
 ghost use Rattle.smk_outside.specs.Outside.{Rose};
 ghost use Rattle.smk_inputs.specs.Collecting.{ReadsNamed, IsSayable};
 
@@ -15,7 +15,7 @@ const FILE_LIMIT: u64 = 67_108_864;
 /// The bytes of a file, which isn't too long.
 pub fn content<F: Files>(alloc: Global, files: &mut F, name: &Text) -> Result<Vec<u8>, Stop>
     ensures read { ReadsNamed (F.held files.old) (Rose (F.faults files.old) (F.faults files.new)) name.now
-        (λ held answer. content_of held name.now ≡ answer) (λ bytes. bytes.items) result }
+        (λ held answer. file_bytes held name.now ≡ answer) (λ bytes. bytes.items) result }
     ensures said { IsSayable result }
     ensures held { F.held files.new ≡ F.held files.old }
     ensures later { F.faults files.old ≤ F.faults files.new }

@@ -14,7 +14,7 @@ use Rattle.smk_base.specs.declared.reply.AppendRefusal.TheVariants.{TableRows}
 use Rattle.smk_model.specs.Values.{Row}
 use Rattle.smk_model.specs.Plain.{eval, width}
 use Rattle.smk_model.specs.Selection.{is_full, nodes}
-use Rattle.smk_model.specs.NodeFaults.{NodeFault, FullRows, FullPairs, Asked, asked_of, is_crowded, fault_at, first_fault_from}
+use Rattle.smk_model.specs.NodeFaults.{NodeFault, FullRows, FullPairs, AskedTable, asked_of, is_crowded, last_node_fault, first_fault_from}
 use Rattle.smk_model.specs.Opening.{ViewFault, fault_of_view, view_fault, first_some}
 use Rattle.smk_model.specs.Session.{Workbook, State, view_at, first_state}
 use Rattle.smk_model.specs.Workload.{needs, needed_at}
@@ -51,14 +51,14 @@ abbrev IsBelow : ℕ → NodeFault → Type 0
 IsBelow n (FullRows node) = Unit {0}
 IsBelow n (FullPairs node table) = table < n
 
-fault_below : (n : ℕ) (plan : Expr) (E : List (List Row)) (asked : List Asked) (node : ℕ) → All (λ a. a.0 < n) asked → IfSome (fault_at plan E asked node) (IsBelow n)
+fault_below : (n : ℕ) (plan : Expr) (E : List (List Row)) (asked : List AskedTable) (node : ℕ) → All (λ a. a.0 < n) asked → IfSome (last_node_fault plan E asked node) (IsBelow n)
 fault_below n plan E asked node h = by (is_full (eval plan E))
   where
-    by : (full : Bool) → IfSome (cond full (Some (FullRows node)) (option_map (λ (a : Asked). FullPairs node a.0) (find (is_crowded plan E) asked))) (IsBelow n)
+    by : (full : Bool) → IfSome (cond full (Some (FullRows node)) (option_map (λ (a : AskedTable). FullPairs node a.0) (find (is_crowded plan E) asked))) (IsBelow n)
     by true = tt
-    by false = mapped_holds (IsBelow n) (λ (a : Asked). FullPairs node a.0) (find (is_crowded plan E) asked) (find_holds (λ (a : Asked). a.0 < n) (is_crowded plan E) asked h)
+    by false = mapped_holds (IsBelow n) (λ (a : AskedTable). FullPairs node a.0) (find (is_crowded plan E) asked) (find_holds (λ (a : AskedTable). a.0 < n) (is_crowded plan E) asked h)
 
-first_below : (n : ℕ) (plan : Expr) (E : List (List Row)) (asked : List Asked) (node : ℕ) → All (λ a. a.0 < n) asked → IfSome (first_fault_from plan E asked node) (IsBelow n)
+first_below : (n : ℕ) (plan : Expr) (E : List (List Row)) (asked : List AskedTable) (node : ℕ) → All (λ a. a.0 < n) asked → IfSome (first_fault_from plan E asked node) (IsBelow n)
 first_below n (Leaf table) E asked node h = fault_below n (Leaf table) E asked node h
 first_below n (Apply op input) E asked node h =
     or_holds (IsBelow n) (first_fault_from input E asked node) _ (first_below n input E asked node h) (fault_below n (Apply op input) E asked (node + nodes input) h)
@@ -71,7 +71,7 @@ first_below n (Combine op left right) E asked node h =
 asked_below : (catalog : CatalogImage) (tables : List (List Row)) (v : ℕ) → All (λ a. a.0 < length catalog.tables) (asked_of tables (needs catalog v))
 asked_below catalog tables v =
     let n = length catalog.tables in
-    All-map (λ (a : Asked). a.0 < n) _ (needs catalog v)
+    All-map (λ (a : AskedTable). a.0 < n) _ (needs catalog v)
     (All-filter is_needed (λ (need : Needed). need.table < n) (map (needed_at catalog v) (upto n))
     (All-map (λ (need : Needed). need.table < n) (needed_at catalog v) (upto n) (upto_below n)))
 

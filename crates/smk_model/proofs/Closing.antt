@@ -7,7 +7,7 @@ use Rattle.smk_base.specs.declared.fault.Many.{Many}
 use Rattle.smk_base.specs.declared.fault.BookFault.TheVariants.{TooMany, BadNumber}
 use Rattle.smk_base.specs.declared.book.limits.TheConstants.{TABLE_LIMIT, VIEW_LIMIT, LINEAGE_LIMIT, LINK_LIMIT}
 use Rattle.smk_model.specs.Tokens.{Token, Front, Between, Begins, put, front, tokens_from, tokens, is_more}
-use Rattle.smk_model.specs.Machine.{Configuration, PlanCounts, Tally, Symbol, Move, Takes, Skips, Wrong, Past, Outside, through, settle, move_of, go_on, or_next, within, fault_at, fault_in, book_symbols, any_symbols, no_counts, book_fault, any_fault, at_stmts, at_end, AToken, AStmts, AnEnd}
+use Rattle.smk_model.specs.Machine.{Configuration, PlanCounts, Tally, Symbol, Move, Takes, Skips, Wrong, Past, Outside, through, settle, move_of, go_on, or_next, within, token_fault, fault_in, book_symbols, any_symbols, no_counts, book_fault, any_fault, at_stmts, at_end, AToken, AStmts, AnEnd}
 use Rattle.smk_model.specs.GrammarLaws.{Finishes}
 use Rattle.smk_model.proofs.Leaving.{no_end, no_ends, leaves_none, settles, and_left, and_right}
 use Rattle.smk_model.proofs.Sound.{not_failed, none_is_ok}
@@ -125,7 +125,7 @@ unread_fails b x ss c s t n h f e = by (settle (x ∷ ss) c (unread b t)) (none_
     by : (m : Move) → NotTaken m → StaysClosed m → go_on m c (unread b t) [] (λ d l. through l d []) ≡ Ok s → ⊥
     by (Takes d l) p q g = absurd p
     by Skips p q g = absurd q
-    by Wrong p q g = not_failed (fault_at (unread b t)) s g
+    by Wrong p q g = not_failed (token_fault (unread b t)) s g
     by (Past w) p q g = not_failed (TooMany t.at w) s g
     by Outside p q g = not_failed (BadNumber t.at) s g
 
@@ -151,7 +151,7 @@ finishes (t ∷ u ∷ ts) (x ∷ ss) c s n h k e = (more_is_no_end t.kind k.0, b
     by : (m : Move) → leaves_none m ≡ true → StaysClosed m → go_on m c t (u ∷ ts) (λ d l. through l d (u ∷ ts)) ≡ Ok s → ((l : List Symbol) (d : PlanCounts) → no_ends l ≡ true → closes l ≡ true → through l d (u ∷ ts) ≡ Ok s → Finishes (u ∷ ts)) → Finishes (u ∷ ts)
     by (Takes d l) p q g rec = rec l d p q g
     by Skips p q g rec = absurd q
-    by Wrong p q g rec = absurd (not_failed (fault_at t) s g)
+    by Wrong p q g rec = absurd (not_failed (token_fault t) s g)
     by (Past w) p q g rec = absurd (not_failed (TooMany t.at w) s g)
     by Outside p q g rec = absurd (not_failed (BadNumber t.at) s g)
 

@@ -13,7 +13,7 @@ use Rattle.smk_model.specs.Appends.{turn_at, append_looks_at}
 use Rattle.smk_model.specs.Conversation.{HeardLine, TalkTurn, Replied, TalkState, turn_after, turn_text, turn_block, block_of, opening_block, turns_told, readings_of, rows_brought, brings, FilesBring, AreHeard, texts_read}
 use Rattle.smk_model.specs.ConversationLaws.{TalksAsReported}
 use Rattle.smk_model.specs.Lines.{lines}
-use Rattle.smk_model.specs.Outcome.{Held, Inputs, ReadsFiles, inputs, a_script, read, lines_read, content_of, appended, appended_at, filed, load_all}
+use Rattle.smk_model.specs.Outcome.{Held, Inputs, ReadsFiles, inputs, a_script, read, lines_read, file_bytes, appended, appended_at, filed, load_all}
 use Rattle.smk_model.specs.Readings.{Reading, Asks, AreReadings, no_line, one_line}
 use Rattle.smk_model.specs.Reports.{BookSaid, followed_by, turn_answered, line_told, state_after, lines_told, answer_told, brings_rows, next_rows, rows_left, report_of, report_told}
 use Rattle.smk_model.specs.ReplyTexts.{table_named}
@@ -95,14 +95,14 @@ lines_said : (held : Held) (catalog : CatalogImage) (number : ℕ) (heard : List
 lines_said held catalog number [] is = no_line
 lines_said held catalog number (line ∷ heard) (reads, brought, more) = one_line reads (lines_said held catalog (number + 1) heard more)
 
-same_bytes : (a b name : List ℕ) (held : Held) → content_of held name ≡ Ok a → content_of held name ≡ Ok b → a ≡ b
+same_bytes : (a b name : List ℕ) (held : Held) → file_bytes held name ≡ Ok a → file_bytes held name ≡ Ok b → a ≡ b
 same_bytes a b name held h k = cc
 
 same_rows : (held : Held) (catalog : CatalogImage) (a b : List Reading) (x y : List (List Row)) → a ≡ b → load_all held (appended catalog a) ≡ Ok x → load_all held (appended catalog b) ≡ Ok y → y ≡ x
 same_rows held catalog a b x y e h k = let f = ap (λ l. load_all held (appended catalog l)) e in cc
 
 -- a run over the same files with a script of these lines
-run_alike : {held : Held} {book script bytes : List ℕ} {given : Inputs} (heard : List HeardLine) → ReadsFiles held book (Some script) (Ok given) → content_of held script ≡ Ok bytes
+run_alike : {held : Held} {book script bytes : List ℕ} {given : Inputs} (heard : List HeardLine) → ReadsFiles held book (Some script) (Ok given) → file_bytes held script ≡ Ok bytes
     → lines (after_marks bytes) ≡ texts_read 0 heard → AreHeard held given.book.catalog 0 heard
     → (readings_of heard ≡ given.readings) × (rows_brought given.book.catalog heard ≡ given.added)
 run_alike {held} heard (inputs {said = said} {readings = readings} b t (a_script (read {bytes = bytes} r (lines_read l))) a) content split are =

@@ -17,7 +17,7 @@ use Rattle.smk_model.specs.Annotated.{pairs}
 use Rattle.smk_model.specs.DirectionLaws.{HasSources, HasTargets}
 use Rattle.smk_model.specs.Composed.{table_at, rows_over, backs, forwards}
 use Rattle.smk_model.specs.Selection.{row_limit}
-use Rattle.smk_model.specs.NodeFaults.{pair_limit, asked_of, is_crowded, fault_at}
+use Rattle.smk_model.specs.NodeFaults.{pair_limit, asked_of, is_crowded, last_node_fault}
 use Rattle.smk_base.proofs.Places.{same_below, places_own, places_past, places_false, get_or_map_upto, length_upto, nat_eq-sym}
 use Rattle.smk_model.proofs.Composed.{backs_compose, forwards_compose, lists_stand}
 use Rattle.smk_model.proofs.Counts.{pairs_forward}
@@ -176,7 +176,7 @@ unfound tables plan small [] = refl
 unfound tables plan small (n ∷ need) =
     rw (le-ltb pair_limit (pairs plan (whole plan tables) n.table (length (table_at tables n.table))) (small.pairs n.table)) (unfound tables plan small need)
 
-pub none_at : (tables : List (List Row)) (plan : Expr) (need : List Needed) (node : ℕ) → IsSmall tables plan → fault_at plan (whole plan tables) (asked_of tables need) node ≡ None
+pub none_at : (tables : List (List Row)) (plan : Expr) (need : List Needed) (node : ℕ) → IsSmall tables plan → last_node_fault plan (whole plan tables) (asked_of tables need) node ≡ None
 none_at tables plan need node small = rw (le-ltb row_limit (length (rows_over plan tables)) small.rows, unfound tables plan small need) refl
 
 -- a join where each left row has at most one partner has at most as many rows as its left side

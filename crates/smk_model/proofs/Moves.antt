@@ -27,7 +27,7 @@ use Rattle.smk_model.specs.Grammar.{First, plain_word, IsName, name, IsColumn, p
 use Rattle.smk_model.proofs.Alike.{same_is}
 use Rattle.smk_model.proofs.Leaving.{and_left, and_right}
 use Rattle.smk_model.proofs.Unique.{step_opener, step_opening}
-use Rattle.smk_model.specs.Machine.{PlanCounts, Tally, Symbol, Move, Takes, Skips, Wrong, Past, Outside, settle, or_next, within, move_of, no_counts, is_mark, is_short, at_name, at_column, at_first, at_item, at_literal, at_width, at_type, at_default, at_as, at_aggregate, at_keys, at_aggs, at_linked, at_more, at_source, at_steps, step_symbols, node_move, at_on, at_united, at_prim, at_ands, at_ors, at_op, at_term, at_stmts, at_lineage, at_extra, at_line, at_line_column, at_mark, at_marks, at_then, at_cleared, at_any_line, ask_symbols, at_ask_steps, at_end, at_token, AToken, AName, AColumn, ALiteral, AWidth, AType, ADefault, AnAs, AWhat, AKeys, AnAggs, AFirst, AnItem, ALinked, MoreDecls, MoreItems, MoreKeys, MoreAggs, MorePairs, MoreLinked, ASource, ASteps, AStep, AUnited, APrim, AnAnds, AnOrs, AnOn, AnOp, ATerm, AStmts, ALineage, AnExtra, ALine, ALineName, ALineColumn, AMarks, AMark, MoreMarks, AThen, ACleared, AnEnd, AnyLine, AnAskStep, AskSteps}
+use Rattle.smk_model.specs.Machine.{PlanCounts, Tally, Symbol, Move, Takes, Skips, Wrong, Past, Outside, settle, or_next, within, move_of, no_counts, is_mark_number, is_short, at_name, at_column, at_first, at_item, at_literal, at_width, at_type, at_default, at_as, at_aggregate, at_keys, at_aggs, at_linked, at_more, at_source, at_steps, step_symbols, node_move, at_on, at_united, at_prim, at_ands, at_ors, at_op, at_term, at_stmts, at_lineage, at_extra, at_line, at_line_column, at_mark, at_marks, at_then, at_cleared, at_any_line, ask_symbols, at_ask_steps, at_end, at_token, AToken, AName, AColumn, ALiteral, AWidth, AType, ADefault, AnAs, AWhat, AKeys, AnAggs, AFirst, AnItem, ALinked, MoreDecls, MoreItems, MoreKeys, MoreAggs, MorePairs, MoreLinked, ASource, ASteps, AStep, AUnited, APrim, AnAnds, AnOrs, AnOn, AnOp, ATerm, AStmts, ALineage, AnExtra, ALine, ALineName, ALineColumn, AMarks, AMark, MoreMarks, AThen, ACleared, AnEnd, AnyLine, AnAskStep, AskSteps}
 
 -- the tokens from a to b are the symbol
 abbrev pub IsSymbol : Symbol → List Token → List Token → Type 0
@@ -381,16 +381,16 @@ end_moves : (t : Token) (k : TokenKind) → t.kind ≡ k → Moves (at_end k) An
 end_moves t kinds.End e = λ n. absurd (n e)
 end_moves t _ e = tt
 
-mark_of : (v : ℤ) → is_mark v ≡ true → (m : ℕ) × (v ≡ pos m) × (nat_lt m (2 ^ 32) ≡ true)
+mark_of : (v : ℤ) → is_mark_number v ≡ true → (m : ℕ) × (v ≡ pos m) × (nat_lt m (2 ^ 32) ≡ true)
 mark_of (pos m) e = (m, refl, and_right (int_le (pos 0) (pos m)) (int_lt (pos m) (pos (2 ^ 32))) e)
 mark_of (negsuc n) e = let f : int_le (pos 0) (negsuc n) ≡ true = and_left (int_le (pos 0) (negsuc n)) (int_lt (negsuc n) (pos (2 ^ 32))) e in absurd (cc)
 
-a_mark : (c : PlanCounts) (ss : List Symbol) (x : Symbol) (t : Token) → ((u : Token) (a b : List Token) (m : ℕ) → IsMark (u ∷ a) a m → AreSymbols ss a b → IsSymbol x (u ∷ a) b) → t.kind ≡ kinds.Number → (o : Bool) → is_mark (int_value t.text) ≡ o → Moves (cond o (Takes c ss) Outside) x t
+a_mark : (c : PlanCounts) (ss : List Symbol) (x : Symbol) (t : Token) → ((u : Token) (a b : List Token) (m : ℕ) → IsMark (u ∷ a) a m → AreSymbols ss a b → IsSymbol x (u ∷ a) b) → t.kind ≡ kinds.Number → (o : Bool) → is_mark_number (int_value t.text) ≡ o → Moves (cond o (Takes c ss) Outside) x t
 a_mark c ss x t f e true g = λ a b h. let m = mark_of (int_value t.text) g in f t a b m.0 (mark (here t a kinds.Number e) m.1 m.2) h
 a_mark c ss x t f e false g = (48 ∷ [], ss, λ a b h. f (with_text t (48 ∷ [])) a b 0 (mark (here (with_text t (48 ∷ [])) a kinds.Number e) refl refl) h)
 
 mark_moves : (c : PlanCounts) (ss : List Symbol) (x : Symbol) (t : Token) → ((u : Token) (a b : List Token) (m : ℕ) → IsMark (u ∷ a) a m → AreSymbols ss a b → IsSymbol x (u ∷ a) b) → (k : TokenKind) → t.kind ≡ k → Moves (at_mark c ss (int_value t.text) k) x t
-mark_moves c ss x t f kinds.Number e = a_mark c ss x t f e (is_mark (int_value t.text)) refl
+mark_moves c ss x t f kinds.Number e = a_mark c ss x t f e (is_mark_number (int_value t.text)) refl
 mark_moves c ss x t f _ e = tt
 
 marks_moves : (c : PlanCounts) (t : Token) (k : TokenKind) → t.kind ≡ k → Moves (at_marks c (int_value t.text) k) AMarks t

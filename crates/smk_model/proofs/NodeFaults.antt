@@ -9,7 +9,7 @@ use Rattle.smk_base.specs.Plans.{Expr, Leaf, Apply, Combine}
 use Rattle.smk_model.specs.Values.{Row}
 use Rattle.smk_model.specs.Plain.{width, eval}
 use Rattle.smk_model.specs.Selection.{nodes, node_rows, is_full}
-use Rattle.smk_model.specs.NodeFaults.{NodeFault, FullRows, FullPairs, Asked, is_crowded, fault_at, first_fault_from, faults_at, all_faults, first_of, FirstOfAll, NothingAsked}
+use Rattle.smk_model.specs.NodeFaults.{NodeFault, FullRows, FullPairs, AskedTable, is_crowded, last_node_fault, first_fault_from, faults_at, all_faults, first_of, FirstOfAll, NothingAsked}
 
 pub position_from-append : (t : List Row → Bool) (n : ℕ) (xs ys : List (List Row)) → position_from t n (xs ++ ys) ≡ option_or (position_from t n xs) (position_from t (n + length xs) ys)
 position_from-append t n [] ys = let e : n + 0 ≡ n = omega arith in rw e refl
@@ -63,7 +63,7 @@ first_of-append : {X : Type 0} (xs ys : List X) → first_of (xs ++ ys) ≡ opti
 first_of-append [] ys = refl
 first_of-append (x ∷ xs) ys = refl
 
-first_found : (f : Asked → Bool) (g : Asked → NodeFault) (xs : List Asked) → option_map g (find f xs) ≡ first_of (map g (filter f xs))
+first_found : (f : AskedTable → Bool) (g : AskedTable → NodeFault) (xs : List AskedTable) → option_map g (find f xs) ≡ first_of (map g (filter f xs))
 first_found f g [] = refl
 first_found f g (x ∷ xs) = elim (cases_Bool (f x)) [ inl p ↦ rw p refl | inr p ↦ rw p (first_found f g xs) ]
 
@@ -71,12 +71,12 @@ rows_then : (b : Bool) (fault : NodeFault) (xs : List NodeFault) → cond b (Som
 rows_then true fault xs = refl
 rows_then false fault xs = refl
 
-first_at : (plan : Expr) (E : List (List Row)) (asked : List Asked) (node : ℕ) → fault_at plan E asked node ≡ first_of (faults_at plan E asked node)
+first_at : (plan : Expr) (E : List (List Row)) (asked : List AskedTable) (node : ℕ) → last_node_fault plan E asked node ≡ first_of (faults_at plan E asked node)
 first_at plan E asked node =
     ap (cond (is_full (eval plan E)) (Some (FullRows node))) (first_found (is_crowded plan E) (λ a. FullPairs node a.0) asked)
     ∙ rows_then (is_full (eval plan E)) (FullRows node) (map (λ a. FullPairs node a.0) (filter (is_crowded plan E) asked))
 
-first_from : (plan : Expr) (E : List (List Row)) (asked : List Asked) (node : ℕ) → first_fault_from plan E asked node ≡ first_of (all_faults plan E asked node)
+first_from : (plan : Expr) (E : List (List Row)) (asked : List AskedTable) (node : ℕ) → first_fault_from plan E asked node ≡ first_of (all_faults plan E asked node)
 first_from (Leaf table) E asked node = first_at (Leaf table) E asked node
 first_from (Apply op input) E asked node =
     let last = faults_at (Apply op input) E asked (node + nodes input) in

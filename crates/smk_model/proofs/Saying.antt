@@ -24,7 +24,7 @@ use Rattle.smk_base.specs.Trees.{PredImage, CompareNode, AndNode, OrNode, NotNod
 use Rattle.smk_base.specs.declared.rel.TheConstants.{COLUMN_LIMIT}
 use Rattle.smk_model.specs.Names.{Typed, ◌>>=◌, unless, in_turn, has_name, column_named, same_sort, is_text}
 use Rattle.smk_model.specs.TypedSteps.{TypedPlan, TypedGroup, named, item_name, term_place, share_a_name, same_shape, united_column, typed_term, typed_pred, typed_item, item_after, typed_items, key_after, typed_sum, typed_agg, agg_after, whole_group, typed_group, pair_after, joined, united, united_plan}
-use Rattle.smk_model.specs.Typing.{table_named, typed_plan, typed_step}
+use Rattle.smk_model.specs.Typing.{table_by_word, typed_plan, typed_step}
 
 -- a result, or a fault that isn't want of memory
 abbrev pub Says : {A : Type 0} → Typed A → Type 0
@@ -105,7 +105,7 @@ united_says op at left right = next_says (united at left.columns right.columns) 
 
 mutual
   plan_says : (tables : List TableInfo) (tree : TreeImage) → Says (typed_plan tables tree)
-  plan_says tables (ScanNode word) = next_says (table_named tables word) _ (or_says _ _ (λ e. cc e)) (λ t. tt)
+  plan_says tables (ScanNode word) = next_says (table_by_word tables word) _ (or_says _ _ (λ e. cc e)) (λ t. tt)
   plan_says tables (StepNode at input what) = next_says (typed_plan tables input) _ (plan_says tables input) (λ left. step_says tables what at left)
 
   pub step_says : (tables : List TableInfo) (what : StepImage) (at : ℕ) (left : TypedPlan) → Says (typed_step tables what at left)

@@ -35,8 +35,8 @@ use Rattle.smk_model.specs.Expanded.{least_word, most_word, bounds, violations_t
 use Rattle.smk_model.specs.Names.{Typed, ◌>>=◌, unless, in_turn, same_name, has_name, column_at, column_named}
 use Rattle.smk_model.specs.Profiles.{shown_by, ShowsDependency, AreDependencies}
 use Rattle.smk_model.specs.Session.{view_at, no_view}
-use Rattle.smk_model.specs.TypedSteps.{TypedPlan, TypedGroup, named, key_after, typed_agg, agg_after, whole_group, typed_group, typed_pred, selected, grouped}
-use Rattle.smk_model.specs.Typing.{table_after, view_after, view_of, back_after, fwd_after, link_after, depends_after, stmt_after, types, table_named, view_named, typed_plan, columns_of, info_at, no_table, nothing_declared, decl_after, typed_extra, to_after}
+use Rattle.smk_model.specs.TypedSteps.{TypedPlan, TypedGroup, named, key_after, typed_agg, agg_after, whole_group, typed_group, typed_pred, selected_plan, grouped_plan}
+use Rattle.smk_model.specs.Typing.{table_after, view_after, view_of, back_after, fwd_after, link_after, depends_after, stmt_after, types, table_by_word, view_by_word, typed_plan, columns_of, info_at, no_table, nothing_declared, decl_after, typed_extra, to_after}
 use Rattle.smk_model.specs.Workload.{is_back}
 use Rattle.smk_model.proofs.Rules.{made_of, ok_same, unless_ok}
 use Rattle.smk_model.proofs.FirstPlaces.{first_behind, place_grows, named_place, at_end}
@@ -83,23 +83,23 @@ view_grows old new name tree e =
 
 back_grows : (old new : CatalogImage) (at : ℕ) (view table : Word) (extra : Extra) → back_after old at view table extra ≡ Ok new → Grows old new
 back_grows old new at view table extra e =
-    let v = made_of (view_named old.views view) _ new e in
-    let t = made_of (table_named old.tables table) _ new v.2 in
+    let v = made_of (view_by_word old.views view) _ new e in
+    let t = made_of (table_by_word old.tables table) _ new v.2 in
     let asked = made_of (typed_extra (columns_of (info_at old.tables t.0)) extra) _ new t.2 in
     let fresh = unless_ok _ _ _ new asked.2 in
     grows_to old _ new (record { tables = same_start old.tables; views = same_start old.views; backs = (_ ∷ [], refl) }) fresh.1
 
 fwd_grows : (old new : CatalogImage) (at : ℕ) (table view : Word) → fwd_after old at table view ≡ Ok new → Grows old new
 fwd_grows old new at table view e =
-    let t = made_of (table_named old.tables table) _ new e in
-    let v = made_of (view_named old.views view) _ new t.2 in
+    let t = made_of (table_by_word old.tables table) _ new e in
+    let v = made_of (view_by_word old.views view) _ new t.2 in
     let fresh = unless_ok _ _ _ new v.2 in
     grows_to old _ new (record { tables = same_start old.tables; views = same_start old.views; backs = same_start old.backs }) fresh.1
 
 link_grows : (old new : CatalogImage) (view table : Word) (words : List Word) → link_after old view table words ≡ Ok new → Grows old new
 link_grows old new view table words e =
-    let v = made_of (view_named old.views view) _ new e in
-    let t = made_of (table_named old.tables table) _ new v.2 in
+    let v = made_of (view_by_word old.views view) _ new e in
+    let t = made_of (table_by_word old.tables table) _ new v.2 in
     let to = made_of (in_turn (to_after old v.0 t.0) [] words) _ new t.2 in
     grows_to old _ new (record { tables = same_start old.tables; views = same_start old.views; backs = same_start old.backs }) to.2
 
@@ -270,13 +270,13 @@ bounded_of columns at keys col group e =
 record Planned (tables : List TableInfo) (table : Word) (typed : TypedPlan) : Type 0 where
   dependency : Dependency
   plan : typed.plan ≡ plan_of dependency
-  known : table_named tables table ≡ Ok dependency.table
+  known : table_by_word tables table ≡ Ok dependency.table
 
 planned_of : (tables : List TableInfo) (at : ℕ) (table : Word) (keys : List Word) (col : Word) (typed : TypedPlan) → typed_plan tables (violations_tree at table keys col) ≡ Ok typed → Planned tables table typed
 planned_of tables at table keys col typed e =
-    let over = made_of (typed_plan tables (StepNode at (ScanNode table) (GroupNode keys (bounds at col)))) (λ left. selected left (CompareNode (least_word at) Ne (terms.Col (most_word at)))) typed e in
-    let scanned = made_of (typed_plan tables (ScanNode table)) (λ left. grouped at left keys (bounds at col)) over.0 over.1 in
-    let t = made_of (table_named tables table) (λ t. Ok (record { plan = Leaf t; columns = columns_of (info_at tables t) })) scanned.0 scanned.1 in
+    let over = made_of (typed_plan tables (StepNode at (ScanNode table) (GroupNode keys (bounds at col)))) (λ left. selected_plan left (CompareNode (least_word at) Ne (terms.Col (most_word at)))) typed e in
+    let scanned = made_of (typed_plan tables (ScanNode table)) (λ left. grouped_plan at left keys (bounds at col)) over.0 over.1 in
+    let t = made_of (table_by_word tables table) (λ t. Ok (record { plan = Leaf t; columns = columns_of (info_at tables t) })) scanned.0 scanned.1 in
     let group = made_of (typed_group scanned.0.columns at keys (bounds at col)) _ over.0 scanned.2 in
     let formula = made_of (typed_pred over.0.columns (CompareNode (least_word at) Ne (terms.Col (most_word at)))) _ typed over.2 in
     let leaf = ok_same (record { plan = Leaf t.0; columns = columns_of (info_at tables t.0) }) scanned.0 t.2 in
@@ -304,8 +304,8 @@ depends_shows old new at name table keys col e =
     let planned = planned_of old.tables at table keys col typed.0 typed.1 in
     let mid : CatalogImage = record old { views = old.views ++ view_of name typed.0 ∷ [] } in
     let after : back_after mid at name table extras.Plain ≡ Ok new = ap (λ more. back_after more at name table extras.Plain) (ok_same mid first.0 typed.2) ∙ first.2 in
-    let v = made_of (view_named mid.views name) _ new after in
-    let t = made_of (table_named old.tables table) _ new v.2 in
+    let v = made_of (view_by_word mid.views name) _ new after in
+    let t = made_of (table_by_word old.tables table) _ new v.2 in
     let once = unless_ok _ _ _ new t.2 in
     let last = ok_same (record mid { backs = mid.backs ++ record { view = v.0; table = t.0; extra = back_extras.Plain } ∷ [] }) new once.1 in
     let placed : position (same_name name.name) (map (λ (view : ViewImage). view.name) mid.views) ≡ Some (length old.views) =

@@ -15,7 +15,7 @@ use Rattle.smk_model.specs.Lines.{lines, place_of}
 use Rattle.smk_model.specs.Readings.{Reading, Nothing, Asks, Unread, IsReading, says_nothing, asks, leaves, AreReadings, no_line, one_line}
 use Rattle.smk_model.specs.Reports.{BookSaid, Report}
 use Rattle.smk_model.specs.Words.{TextSource, words_of}
-use Rattle.smk_model.specs.Outcome.{Held, Parses, spells, misspells, BookSays, unparsed, parsed, FileSays, unread, read, ScriptSays, lines_read, OpensBook, OpensScript, no_script, a_script, Inputs, ReadsFiles, no_book, no_tables, no_readings, no_rows, inputs, source_of, book_of, script_of, ReadsInputs, unusable, usable, Outcome, unreadable, content_of, load_all, appended, statements_say, reported}
+use Rattle.smk_model.specs.Outcome.{Held, Parses, spells, misspells, BookSays, unparsed, parsed, FileSays, unread, read, ScriptSays, lines_read, OpensBook, OpensScript, no_script, a_script, Inputs, ReadsFiles, no_book, no_tables, no_readings, no_rows, inputs, source_of, book_of, script_of, ReadsInputs, unusable, usable, Outcome, unreadable, file_bytes, load_all, appended, statements_say, reported}
 use Rattle.smk_model.specs.OutcomeLaws.{FaultlessTextsSpell, SomeReading, SomeOutcome}
 use Rattle.smk_model.proofs.Sound.{faultless_have_trees}
 use Rattle.smk_model.proofs.Closing.{book_finishes, any_finishes}
@@ -54,9 +54,9 @@ some_book bytes = let r = some_parse (after_marks bytes) in by r.0 r.1
 
 -- a file says something, where all bytes do
 some_file : {A : Type 0} (held : Held) (name : List ℕ) (says : List ℕ → Result A Fault → Type 0) → ((bytes : List ℕ) → (answer : Result A Fault) × says bytes answer) → (answer : Result A Fault) × FileSays held name says answer
-some_file {A} held name says all = by (content_of held name) refl
+some_file {A} held name says all = by (file_bytes held name) refl
   where
-    by : (c : Result (List ℕ) Fault) → content_of held name ≡ c → (answer : Result A Fault) × FileSays held name says answer
+    by : (c : Result (List ℕ) Fault) → file_bytes held name ≡ c → (answer : Result A Fault) × FileSays held name says answer
     by (Ok bytes) e = let r = all bytes in (r.0, read e r.1)
     by (Err fault) e = (Err fault, unread e)
 

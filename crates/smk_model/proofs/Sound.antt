@@ -9,7 +9,7 @@ use Rattle.smk_base.specs.declared.book.tree.Line.{Line}
 use Rattle.smk_base.specs.Trees.{StmtImage, AnyLineImage}
 use Rattle.smk_model.specs.Tokens.{Token}
 use Rattle.smk_model.specs.Grammar.{AreStmts, no_stmt, no_default, by_itself, no_keys, no_aggs, no_more, no_step, no_and, no_or, no_extra, no_then, clear_line, IsWholeLine, whole_line, no_ask_step, IsWholeAnyLine, whole_any_line}
-use Rattle.smk_model.specs.Machine.{Configuration, PlanCounts, Symbol, Move, Takes, Skips, Wrong, Past, Outside, through, settle, move_of, go_on, or_next, fault_in, fault_at, book_symbols, no_counts, book_fault, line_fault, any_fault, ADefault, AnAs, AKeys, AnAggs, MoreDecls, MoreItems, MoreKeys, MoreAggs, MorePairs, MoreLinked, ASteps, AnAnds, AnOrs, AStmts, AnExtra, ALine, MoreMarks, AThen, ACleared, AnEnd, AnyLine, AskSteps, AToken}
+use Rattle.smk_model.specs.Machine.{Configuration, PlanCounts, Symbol, Move, Takes, Skips, Wrong, Past, Outside, through, settle, move_of, go_on, or_next, fault_in, token_fault, book_symbols, no_counts, book_fault, line_fault, any_fault, ADefault, AnAs, AKeys, AnAggs, MoreDecls, MoreItems, MoreKeys, MoreAggs, MorePairs, MoreLinked, ASteps, AnAnds, AnOrs, AStmts, AnExtra, ALine, MoreMarks, AThen, ACleared, AnEnd, AnyLine, AskSteps, AToken}
 use Rattle.smk_model.specs.GrammarLaws.{Finishes, FaultlessHaveTrees}
 use Rattle.smk_model.proofs.Leaving.{no_end, no_ends, leaves_none, settles, and_left, and_right}
 use Rattle.smk_model.proofs.Moves.{IsSymbol, AreSymbols, settled, MovesAll}
@@ -80,7 +80,7 @@ ended (x ∷ ss) c s t n f e = subst (λ u. (b : List Token) × AreSymbols (x �
     by : (m : Move) → AtEnd m (AreSymbols (x ∷ ss) (the_end t ∷ []) (the_end t ∷ [])) → go_on m c (the_end t) [] (λ d l. through l d []) ≡ Ok s → (b : List Token) × AreSymbols (x ∷ ss) (the_end t ∷ []) b
     by (Takes d l) h g = absurd h
     by Skips h g = (the_end t ∷ [], h)
-    by Wrong h g = absurd (not_failed (fault_at (the_end t)) s g)
+    by Wrong h g = absurd (not_failed (token_fault (the_end t)) s g)
     by (Past w) h g = absurd (not_failed (TooMany t.at w) s g)
     by Outside h g = absurd (not_failed (BadNumber t.at) s g)
 
@@ -93,7 +93,7 @@ sound (t ∷ u ∷ ts) (x ∷ ss) c s n f e = by (settle (x ∷ ss) c t) (settle
     by : (m : Move) → leaves_none m ≡ true → MovesAll m (x ∷ ss) t → go_on m c t (u ∷ ts) (λ d l. through l d (u ∷ ts)) ≡ Ok s → ((l : List Symbol) (d : PlanCounts) → no_ends l ≡ true → through l d (u ∷ ts) ≡ Ok s → (b : List Token) × AreSymbols l (u ∷ ts) b) → (b : List Token) × AreSymbols (x ∷ ss) (t ∷ u ∷ ts) b
     by (Takes d l) k h g rec = let r = rec l d k g in (r.0, h (u ∷ ts) r.0 r.1)
     by Skips k h g rec = (t ∷ u ∷ ts, h (t ∷ u ∷ ts))
-    by Wrong k h g rec = absurd (not_failed (fault_at t) s g)
+    by Wrong k h g rec = absurd (not_failed (token_fault t) s g)
     by (Past w) k h g rec = absurd (not_failed (TooMany t.at w) s g)
     by Outside k h g rec = absurd (not_failed (BadNumber t.at) s g)
 

@@ -6,7 +6,7 @@ use Rattle.smk_base.specs.declared.book.token.TokenKind.TheVariants as kinds
 use Rattle.smk_base.specs.declared.fault.BookFault.{BookFault}
 use Rattle.smk_base.specs.declared.fault.BookFault.TheVariants.{TooMany, BadNumber}
 use Rattle.smk_model.specs.Tokens.{Token}
-use Rattle.smk_model.specs.Machine.{Configuration, PlanCounts, Symbol, Move, Takes, Skips, Wrong, Past, Outside, through, settle, go_on, fault_at, fault_in, book_symbols, line_symbols, any_symbols, no_counts, book_fault, line_fault, any_fault}
+use Rattle.smk_model.specs.Machine.{Configuration, PlanCounts, Symbol, Move, Takes, Skips, Wrong, Past, Outside, through, settle, go_on, token_fault, fault_in, book_symbols, line_symbols, any_symbols, no_counts, book_fault, line_fault, any_fault}
 use Rattle.smk_model.specs.GrammarLaws.{IsAt, Stays, FaultsStay}
 
 no_fault : (s : Configuration) (f : BookFault) → fault_in (Ok s) ≡ Some f → ⊥
@@ -15,10 +15,10 @@ no_fault s f e = absurd (cc)
 the_fault : (g f : BookFault) → fault_in (Err g) ≡ Some f → g ≡ f
 the_fault g f e = cc
 
-wrong_at : (t : Token) → IsAt t.at (fault_at t)
+wrong_at : (t : Token) → IsAt t.at (token_fault t)
 wrong_at t = by t.kind
   where
-    by : (k : TokenKind) → IsAt t.at (fault_at (record { at = t.at; kind = k; text = t.text }))
+    by : (k : TokenKind) → IsAt t.at (token_fault (record { at = t.at; kind = k; text = t.text }))
     by kinds.Bad = refl
     by kinds.Huge = refl
     by _ = refl
@@ -53,7 +53,7 @@ stay (t ∷ ts) (s ∷ ss) c f e = by (settle (s ∷ ss) c t) refl e (λ l d g. 
       stays = λ us. ap (λ n. fault_in (go_on n c t (r.before ++ r.faulty ∷ us) (λ d l. through l d (r.before ++ r.faulty ∷ us)))) q ∙ r.stays us;
     }
     by Skips q g rec = absurd (no_fault (record { rest = t ∷ ts; counts = c }) f g)
-    by Wrong q g rec = here s ss c t ts f (fault_at t) Wrong q (λ us. refl) (wrong_at t) (the_fault (fault_at t) f g)
+    by Wrong q g rec = here s ss c t ts f (token_fault t) Wrong q (λ us. refl) (wrong_at t) (the_fault (token_fault t) f g)
     by (Past what) q g rec = here s ss c t ts f (TooMany t.at what) (Past what) q (λ us. refl) refl (the_fault (TooMany t.at what) f g)
     by Outside q g rec = here s ss c t ts f (BadNumber t.at) Outside q (λ us. refl) refl (the_fault (BadNumber t.at) f g)
 

@@ -9,7 +9,7 @@ use Rattle.smk_base.specs.declared.book.tree.Line.{Line}
 use Rattle.smk_base.specs.Trees.{StmtImage, AnyLineImage}
 use Rattle.smk_model.specs.Tokens.{Token, tokens}
 use Rattle.smk_model.specs.Grammar.{AreStmts, IsWholeLine, whole_line, IsWholeAnyLine, whole_any_line}
-use Rattle.smk_model.specs.Machine.{PlanCounts, Symbol, Move, Takes, Skips, Wrong, Past, Outside, through, settle, go_on, fault_at, fault_in, book_symbols, line_symbols, any_symbols, no_counts, book_fault, line_fault, any_fault}
+use Rattle.smk_model.specs.Machine.{PlanCounts, Symbol, Move, Takes, Skips, Wrong, Past, Outside, through, settle, go_on, token_fault, fault_in, book_symbols, line_symbols, any_symbols, no_counts, book_fault, line_fault, any_fault}
 use Rattle.smk_model.specs.GrammarLaws.{AtMostTooMany, Stays, LeavesGrammar, IsUnexpected, UnexpectedLeaves}
 use Rattle.smk_model.proofs.Leaving.{no_ends, leaves_none, settles}
 use Rattle.smk_model.proofs.Moves.{AreSymbols, settled, MovesAll, with_text}
@@ -76,10 +76,10 @@ end_or_not kinds.End = inl refl
 end_or_not _ = inr (λ e. absurd (cc))
 
 -- a token with this fault and no other behind it is wrong
-wrong : (l : List Symbol) (d : PlanCounts) (t : Token) (at : ℕ) → closes l ≡ true → Of l d (t ∷ []) ≡ Some (Unexpected at) → (settle l d t ≡ Wrong) × (fault_at t ≡ Unexpected at)
+wrong : (l : List Symbol) (d : PlanCounts) (t : Token) (at : ℕ) → closes l ≡ true → Of l d (t ∷ []) ≡ Some (Unexpected at) → (settle l d t ≡ Wrong) × (token_fault t ≡ Unexpected at)
 wrong l d t at h e = by (settle l d t) refl (ap fault_in (sym (step l d t [] h)) ∙ e)
   where
-    by : (m : Move) → settle l d t ≡ m → fault_in (go_on m d t [] (λ d l. through l d [])) ≡ Some (Unexpected at) → (settle l d t ≡ Wrong) × (fault_at t ≡ Unexpected at)
+    by : (m : Move) → settle l d t ≡ m → fault_in (go_on m d t [] (λ d l. through l d [])) ≡ Some (Unexpected at) → (settle l d t ≡ Wrong) × (token_fault t ≡ Unexpected at)
     by (Takes c k) q g = let n = sym (at_no_token k c) ∙ g in absurd (cc)
     by Skips q g = absurd (cc)
     by Wrong q g = (q, cc)

@@ -11,7 +11,7 @@ use Rattle.smk_model.specs.Plain.{leaves, width, eval, whole}
 use Rattle.smk_model.specs.Annotated.{relates, back, fwd, pairs}
 use Rattle.smk_model.specs.Composed.{table_at}
 use Rattle.smk_model.specs.Selection.{is_full, nodes}
-use Rattle.smk_model.specs.NodeFaults.{FullRows, FullPairs, pair_limit, Asked, asked_of, is_crowded, fault_at, first_fault_from}
+use Rattle.smk_model.specs.NodeFaults.{FullRows, FullPairs, pair_limit, AskedTable, asked_of, is_crowded, last_node_fault, first_fault_from}
 use Rattle.smk_model.specs.GrowthLaws.{AgreeAtLeaves, UnscannedStays}
 use Rattle.smk_base.proofs.Places.{same_below, places_false}
 use Rattle.smk_model.proofs.Composed.{sum_by_agree, unscanned_relates}
@@ -44,7 +44,7 @@ same_pairs plan E table m n same = elim (cases_Bool (has (leaves plan) table)) [
 
 -- faults, where the tables that are needed have other lengths, but the same at the leaves
 
-abbrev asked_by : (ℕ → ℕ) → List Needed → List Asked
+abbrev asked_by : (ℕ → ℕ) → List Needed → List AskedTable
 asked_by size need = map (λ n. (n.table, size n.table)) need
 
 abbrev AgreeOn : Expr → (ℕ → ℕ) → (ℕ → ℕ) → Type 0
@@ -61,7 +61,7 @@ same_crowd plan E f g same node (n ∷ need) =
       | inr p ↦ rw (here ∙ p, p) (same_crowd plan E f g same node need)
     ]
 
-same_at : (plan : Expr) (E : List (List Row)) (f g : ℕ → ℕ) → AgreeOn plan f g → (need : List Needed) (node : ℕ) → fault_at plan E (asked_by f need) node ≡ fault_at plan E (asked_by g need) node
+same_at : (plan : Expr) (E : List (List Row)) (f g : ℕ → ℕ) → AgreeOn plan f g → (need : List Needed) (node : ℕ) → last_node_fault plan E (asked_by f need) node ≡ last_node_fault plan E (asked_by g need) node
 same_at plan E f g same need node = ap (cond (is_full (eval plan E)) (Some (FullRows node))) (same_crowd plan E f g same node need)
 
 same_first : (plan : Expr) (E : List (List Row)) (f g : ℕ → ℕ) → AgreeOn plan f g → (need : List Needed) (node : ℕ) → first_fault_from plan E (asked_by f need) node ≡ first_fault_from plan E (asked_by g need) node

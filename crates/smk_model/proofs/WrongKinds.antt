@@ -7,7 +7,7 @@ use Rattle.smk_base.specs.declared.fault.Many.{Many}
 use Rattle.smk_base.specs.declared.book.limits.TheConstants.{LINK_LIMIT, COMPARE_LIMIT}
 use Rattle.smk_base.specs.declared.rel.TheConstants.{COLUMN_LIMIT}
 use Rattle.smk_model.specs.Tokens.{Token, int_value}
-use Rattle.smk_model.specs.Machine.{PlanCounts, Symbol, Move, Takes, Skips, Wrong, Past, Outside, settle, or_next, within, move_of, is_mark, is_short, at_name, at_column, at_first, at_item, at_width, at_keys, at_linked, at_prim, at_term, at_mark, at_marks, AName, AColumn, AWidth, AKeys, AFirst, AnItem, ALinked, APrim, ATerm, AMarks, AMark, AnAs, MoreKeys, MoreMarks}
+use Rattle.smk_model.specs.Machine.{PlanCounts, Symbol, Move, Takes, Skips, Wrong, Past, Outside, settle, or_next, within, move_of, is_mark_number, is_short, at_name, at_column, at_first, at_item, at_width, at_keys, at_linked, at_prim, at_term, at_mark, at_marks, AName, AColumn, AWidth, AKeys, AFirst, AnItem, ALinked, APrim, ATerm, AMarks, AMark, AnAs, MoreKeys, MoreMarks}
 use Rattle.smk_model.proofs.Moves.{with_text}
 
 -- a token that goes on, were it not too many or out of range; that is passed over; that is wrong
@@ -77,7 +77,7 @@ widths c v w kinds.Number = range (int_le (pos 1) v) c [] ∙ sym (range (int_le
 widths c v w _ = refl
 
 marks : (c : PlanCounts) (ss : List Symbol) (v w : ℤ) (k : TokenKind) → sort (at_mark c ss v k) ≡ sort (at_mark c ss w k)
-marks c ss v w kinds.Number = range (is_mark v) c ss ∙ sym (range (is_mark w) c ss)
+marks c ss v w kinds.Number = range (is_mark_number v) c ss ∙ sym (range (is_mark_number w) c ss)
 marks c ss v w _ = refl
 
 some_marks : (c : PlanCounts) (v w : ℤ) (k : TokenKind) → sort (at_marks c v k) ≡ sort (at_marks c w k)

@@ -13,7 +13,7 @@ use Rattle.smk_base.specs.declared.book.type_fault.TypeFault.TheVariants.{NoMemo
 use Rattle.smk_base.specs.declared.rel.TheConstants.{COLUMN_LIMIT}
 use Rattle.smk_model.specs.Asks.{back_line, columns_named}
 use Rattle.smk_model.specs.FaultTexts.{type_words}
-use Rattle.smk_model.specs.Names.{kinds_of}
+use Rattle.smk_model.specs.Names.{column_kinds}
 use Rattle.smk_model.specs.ReplyTexts.{IsRefusalOf, refusal_text, table_named}
 use Rattle.smk_model.specs.Texts.{line, ask_rows_text}
 use Rattle.smk_model.specs.Typing.{nothing_declared}
@@ -21,7 +21,7 @@ use Rattle.smk_model.specs.Typing.{nothing_declared}
 -- rows that answer the `back` line within an `ask` line: the catalog has the table, and they have the kinds of its columns, of which there are at most 16
 pub record AreBackRows (catalog : CatalogImage) (asked : AskImage) (rows : Relation) : Type 0 where
   pub known : IsSome (table_named catalog asked.table)
-  pub kinds : rows.kinds ≡ kinds_of (columns_named catalog asked.table)
+  pub kinds : rows.kinds ≡ column_kinds (columns_named catalog asked.table)
   pub few : length (columns_named catalog asked.table) ≤ COLUMN_LIMIT
 
 -- whether a reply is one to the `back` line within an `ask` line: rows of the table, or a refusal that names nothing of a catalog

@@ -17,7 +17,7 @@ use Rattle.smk_base.specs.declared.reply.AskRefusal.TheVariants as refusals
 use Rattle.smk_model.specs.Values.{Row}
 use Rattle.smk_model.specs.FaultTexts.{type_place}
 use Rattle.smk_model.specs.Looks.{line_looks}
-use Rattle.smk_model.specs.Names.{Typed, ◌>>=◌, in_turn, names_of, kinds_of}
+use Rattle.smk_model.specs.Names.{Typed, ◌>>=◌, in_turn, names_of, column_kinds}
 use Rattle.smk_model.specs.Plain.{eval}
 use Rattle.smk_model.specs.Replies.{reply}
 use Rattle.smk_model.specs.ReplyTexts.{table_named}
@@ -49,7 +49,7 @@ pub record AskPlan : Type 0 where
   pub kinds : List Kind
 
 abbrev pub asked_plan : TypedPlan → AskPlan
-asked_plan typed = record { plan = typed.plan; names = names_of typed.columns; kinds = kinds_of typed.columns }
+asked_plan typed = record { plan = typed.plan; names = names_of typed.columns; kinds = column_kinds typed.columns }
 
 -- steps over these columns, by the rules for the steps of a view over a scan, or the first fault
 abbrev pub typed_steps : List Column → List AskStepImage → Typed AskPlan

@@ -12,7 +12,7 @@ use Rattle.smk_base.specs.declared.book.limits.TheConstants.{TABLE_LIMIT, VIEW_L
 use Rattle.smk_base.specs.declared.rel.TheConstants.{COLUMN_LIMIT}
 use Rattle.smk_base.specs.Plans.{Grouping}
 use Rattle.smk_base.specs.CatalogImage.{CatalogImage, ViewImage}
-use Rattle.smk_model.specs.Names.{kinds_of}
+use Rattle.smk_model.specs.Names.{column_kinds}
 use Rattle.smk_model.specs.Kinds.{GroupFits, kinds1}
 use Rattle.smk_model.specs.Tables.{IsBaseColumn}
 use Rattle.smk_model.specs.Typing.{columns_of, info_at}
@@ -26,7 +26,7 @@ pub record IsWithinLimits (catalog : CatalogImage) : Type 0 where
 
 -- the kinds of a table's columns, and those of each table
 abbrev pub table_kinds : TableInfo → List Kind
-table_kinds table = kinds_of (columns_of table)
+table_kinds table = column_kinds (columns_of table)
 
 abbrev pub each_table_kinds : List TableInfo → List (List Kind)
 each_table_kinds tables = map table_kinds tables

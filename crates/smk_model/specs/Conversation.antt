@@ -9,7 +9,7 @@ use Rattle.smk_base.specs.declared.fault.Fault.{Fault}
 use Rattle.smk_model.specs.FaultTexts.{fault_text}
 use Rattle.smk_model.specs.Outcome.{Held, appended_at, file_limit, load}
 use Rattle.smk_model.specs.Readings.{Reading, Asks, IsReading}
-use Rattle.smk_model.specs.Reports.{BookSaid, Report, Told, nothing_told, followed_by, brings_rows, line_told, state_after, report_told}
+use Rattle.smk_model.specs.Reports.{BookSaid, Report, LinesTold, nothing_told, followed_by, brings_rows, line_told, state_after, report_told}
 use Rattle.smk_model.specs.Session.{Workbook, State, first_state}
 use Rattle.smk_model.specs.Texts.{line}
 use Rattle.smk_model.specs.Values.{Row}
@@ -60,15 +60,15 @@ abbrev pub too_long_text : List ℕ
 too_long_text = line (codes "refused line too long" ∷ [])
 
 -- what a line comes to that is refused by such a text, after at most so many looks
-abbrev pub refused_told : List ℕ → ℕ → Told
+abbrev pub refused_told : List ℕ → ℕ → LinesTold
 refused_told text looks = record { text = text; replies = 1; refused = 1; unread = 0; looks = looks }
 
 -- what a line comes to in a script, where its number is that of the lines heard
-abbrev pub heard_told : BookSaid → TalkState → HeardLine → Told
+abbrev pub heard_told : BookSaid → TalkState → HeardLine → LinesTold
 heard_told said state heard = line_told said state.session (state.heard + 1) heard.rows heard.reading
 
 -- what a turn comes to. Memory may be wanting at any of the looks that the line would have made
-abbrev pub turn_told : BookSaid → TalkState → TalkTurn → Told
+abbrev pub turn_told : BookSaid → TalkState → TalkTurn → LinesTold
 turn_told said state (Replied heard) = heard_told said state heard
 turn_told said state (Unbrought bytes fault) = refused_told (unbrought_text fault) 0
 turn_told said state (ReadOnly bytes) = refused_told read_only_text 0
@@ -84,7 +84,7 @@ abbrev pub turn_after : BookSaid → TalkState → TalkTurn → TalkState
 turn_after said state turn = record { session = session_after said state.session turn; heard = state.heard + 1 }
 
 -- what turns come to from a state on
-abbrev pub turns_told : BookSaid → TalkState → List TalkTurn → Told
+abbrev pub turns_told : BookSaid → TalkState → List TalkTurn → LinesTold
 turns_told said state [] = nothing_told
 turns_told said state (turn ∷ turns) = followed_by (turn_told said state turn) (turns_told said (turn_after said state turn) turns)
 

@@ -5,7 +5,7 @@ use Rattle.smk_base.specs.Marks.{after_marks}
 use Rattle.smk_base.specs.declared.fault.Fault.{Fault}
 use Rattle.smk_model.specs.Conversation.{HeardLine, TalkTurn, Replied, first_talk_state, turn_after, turn_block, opening_block, talk_report, talk_texts, talk_said, readings_of, rows_brought, AreHeard, texts_read}
 use Rattle.smk_model.specs.Lines.{lines}
-use Rattle.smk_model.specs.Outcome.{Held, Inputs, ReadsFiles, content_of}
+use Rattle.smk_model.specs.Outcome.{Held, Inputs, ReadsFiles, file_bytes}
 use Rattle.smk_model.specs.Reports.{report_of}
 use Rattle.smk_model.specs.Session.{Workbook}
 use Rattle.smk_model.specs.TalkStarts.{StartsTalk}
@@ -23,7 +23,7 @@ pub record TalksAsReported : Type 0 where
       → talk_report book fds (map Replied heard) ≡ report_of book fds (rows_brought book.catalog heard) (readings_of heard)
   -- and so it is that of a run over the same files with a script of just these lines
   pub run : (held : Held) (book script bytes : List ℕ) (given : Inputs) (heard : List HeardLine)
-      → ReadsFiles held book (Some script) (Ok given) → content_of held script ≡ Ok bytes → lines (after_marks bytes) ≡ texts_read 0 heard → AreHeard held given.book.catalog 0 heard
+      → ReadsFiles held book (Some script) (Ok given) → file_bytes held script ≡ Ok bytes → lines (after_marks bytes) ≡ texts_read 0 heard → AreHeard held given.book.catalog 0 heard
       → talk_report given.book given.fds (map Replied heard) ≡ report_of given.book given.fds given.added given.readings
 
 -- words and files have one start of a conversation, and it is over the workbook of a run over the same book

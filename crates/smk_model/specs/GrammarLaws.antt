@@ -8,7 +8,7 @@ use Rattle.smk_base.specs.Trees.{StmtImage, AskImage, AnyLineImage, AskedLine, P
 use Rattle.smk_model.specs.Tokens.{Token, tokens}
 use Rattle.smk_model.specs.Grammar.{AreStmts, IsWholeLine, IsWholeAnyLine}
 use Rattle.smk_model.specs.Limits.{KeepsLimits, KeepsAsk}
-use Rattle.smk_model.specs.Machine.{book_fault, line_fault, any_fault, fault_at}
+use Rattle.smk_model.specs.Machine.{book_fault, line_fault, any_fault, token_fault}
 
 -- The tokens leave the grammar at this place: what stands before the token there has no fault and begins a text, and no text goes on with a token of its kind.
 -- Other faults are none of this. A token that can't be read, and a number outside i64, are faulty whatever stands before them. With one thing too many texts of the grammar go on, and so they do with another number where one is out of range.
@@ -17,7 +17,7 @@ pub record LeavesGrammar {T : Type 0} (Spells : List Token → T → Type 0) (fa
   pub token : Token
   pub behind : List Token
   pub are : ts ≡ before ++ token ∷ behind
-  pub place : fault_at token ≡ Unexpected at
+  pub place : token_fault token ≡ Unexpected at
   pub faultless : fault_of before ≡ None
   pub begins : (more : List Token) × (tree : T) × Spells (before ++ more) tree
   pub none : (text : List ℕ) (more : List Token) (tree : T) → Spells (before ++ record { at = token.at; kind = token.kind; text = text } ∷ more) tree → ⊥

@@ -239,11 +239,11 @@ at_line_column c kinds.Name = Takes c []
 at_line_column c kinds.Quoted = Takes c []
 at_line_column c _ = Wrong
 
-abbrev pub is_mark : ℤ → Bool
-is_mark v = int_le (pos 0) v && int_lt v (pos (2 ^ 32))
+abbrev pub is_mark_number : ℤ → Bool
+is_mark_number v = int_le (pos 0) v && int_lt v (pos (2 ^ 32))
 
 abbrev pub at_mark : PlanCounts → List Symbol → ℤ → TokenKind → Move
-at_mark c ss v kinds.Number = cond (is_mark v) (Takes c ss) Outside
+at_mark c ss v kinds.Number = cond (is_mark_number v) (Takes c ss) Outside
 at_mark c ss v _ = Wrong
 
 abbrev pub at_marks : PlanCounts → ℤ → TokenKind → Move
@@ -350,8 +350,8 @@ settle [] c t = Skips
 settle (s ∷ ss) c t = or_next (move_of c s t) ss (settle ss c t)
 
 -- the fault at a wrong token: that it can't be read, that it is out of range, or else that it is unexpected
-abbrev pub fault_at : Token → BookFault
-fault_at t = wrong t.kind t.at
+abbrev pub token_fault : Token → BookFault
+token_fault t = wrong t.kind t.at
   where
     wrong : TokenKind → ℕ → BookFault
     wrong kinds.Bad at = BadToken at
@@ -361,7 +361,7 @@ fault_at t = wrong t.kind t.at
 abbrev pub go_on : Move → PlanCounts → Token → List Token → (PlanCounts → List Symbol → Result Configuration BookFault) → Result Configuration BookFault
 go_on (Takes d l) c t ts more = more d l
 go_on Skips c t ts more = Ok (record { rest = t ∷ ts; counts = c })
-go_on Wrong c t ts more = Err (fault_at t)
+go_on Wrong c t ts more = Err (token_fault t)
 go_on (Past what) c t ts more = Err (TooMany t.at what)
 go_on Outside c t ts more = Err (BadNumber t.at)
 

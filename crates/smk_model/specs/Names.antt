@@ -45,8 +45,8 @@ is_taken name names = list_any (same_name name) names
 abbrev pub names_of : List Column → List (List ℕ)
 names_of columns = map (λ column. column.name) columns
 
-abbrev pub kinds_of : List Column → List Kind
-kinds_of columns = map (λ column. column.kind) columns
+abbrev pub column_kinds : List Column → List Kind
+column_kinds columns = map (λ column. column.kind) columns
 
 -- whether a column has this name
 abbrev pub has_name : List ℕ → Column → Bool

@@ -46,8 +46,8 @@ file_limit = 67108864
 abbrev pub kept_short : List ℕ → List ℕ → Result (List ℕ) Fault
 kept_short name bytes = cond (nat_lt file_limit (length bytes)) (Err (FileLong name)) (Ok bytes)
 
-abbrev pub content_of : Held → List ℕ → Result (List ℕ) Fault
-content_of held name = ok_or (held name) (Unread name) >>= kept_short name
+abbrev pub file_bytes : Held → List ℕ → Result (List ℕ) Fault
+file_bytes held name = ok_or (held name) (Unread name) >>= kept_short name
 
 -- the statements that a text spells, or its first fault
 pub data Parses (text : List ℕ) : Result (List StmtImage) Fault → Type 0 where
@@ -69,8 +69,8 @@ pub data BookSays (bytes : List ℕ) : Result BookSaid Fault → Type 0 where
 
 -- one reading of a file after its bytes, or the fault that it has no bytes
 pub data FileSays {A : Type 0} (held : Held) (name : List ℕ) (says : List ℕ → Result A Fault → Type 0) : Result A Fault → Type 0 where
-  unread : {fault : Fault} → content_of held name ≡ Err fault → FileSays held name says (Err fault)
-  read : {bytes : List ℕ} {answer : Result A Fault} → content_of held name ≡ Ok bytes → says bytes answer → FileSays held name says answer
+  unread : {fault : Fault} → file_bytes held name ≡ Err fault → FileSays held name says (Err fault)
+  read : {bytes : List ℕ} {answer : Result A Fault} → file_bytes held name ≡ Ok bytes → says bytes answer → FileSays held name says answer
 
 abbrev pub OpensBook : Held → List ℕ → Result BookSaid Fault → Type 0
 OpensBook held name answer = FileSays held name BookSays answer
@@ -100,7 +100,7 @@ or_table_fault table (Err fault) = Err (fault_of_table table fault)
 
 -- the rows of a table, by its file
 abbrev pub load : Held → TableInfo → Result (List Row) Fault
-load held table = content_of held table.file >>= λ bytes. or_table_fault table (table_of table.cols bytes)
+load held table = file_bytes held table.file >>= λ bytes. or_table_fault table (table_of table.cols bytes)
 
 -- the rows of each table in the book's order, or the first fault
 abbrev pub load_all : Held → List TableInfo → Result (List (List Row)) Fault

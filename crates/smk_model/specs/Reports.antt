@@ -25,7 +25,7 @@ pub record BookSaid : Type 0 where
   pub fds : List (List ℕ)
 
 -- what lines come to: their texts, how many have a reply, how many of these are refusals, how many aren't in the grammar, and the most looks at base rows that they take
-pub record Told : Type 0 where
+pub record LinesTold : Type 0 where
   pub text : List ℕ
   pub replies : ℕ
   pub refused : ℕ
@@ -33,10 +33,10 @@ pub record Told : Type 0 where
   pub looks : ℕ
 
 -- lines that come to nothing, and those of one part after those of another
-abbrev pub nothing_told : Told
+abbrev pub nothing_told : LinesTold
 nothing_told = record { text = []; replies = 0; refused = 0; unread = 0; looks = 0 }
 
-abbrev pub followed_by : Told → Told → Told
+abbrev pub followed_by : LinesTold → LinesTold → LinesTold
 followed_by a b = record {
   text = a.text ++ b.text;
   replies = a.replies + b.replies;
@@ -96,7 +96,7 @@ answered said state more (ProfiledLine view) = profile_answered said state view
 answered said state more (AppendedLine table file) = append_answered said.catalog state table more
 
 -- what is told of a line that is answered
-abbrev pub answer_told : Answered → Told
+abbrev pub answer_told : Answered → LinesTold
 answer_told line = record { text = line.text; replies = 1; refused = cond line.refused 1 0; unread = 0; looks = line.looks }
 
 -- whether a line brings the rows of a file: it appends to a table of the book
@@ -119,7 +119,7 @@ rows_left true [] = []
 rows_left false added = added
 
 -- what the line with a number comes to in a state, and the state after it; a line that says nothing has no text
-abbrev pub line_told : BookSaid → State → ℕ → List Row → Reading → Told
+abbrev pub line_told : BookSaid → State → ℕ → List Row → Reading → LinesTold
 line_told said state number more Nothing = nothing_told
 line_told said state number more (Asks asked) = answer_told (answered said state more asked)
 line_told said state number more (Unread at) = record { text = bad_line_text number at; replies = 0; refused = 0; unread = 1; looks = 0 }
@@ -129,14 +129,14 @@ state_after said state more (Asks asked) = (answered said state more asked).next
 state_after said state more _ = state
 
 -- the walk over the lines from a state on, numbered from a number on, with the rows that they bring
-abbrev pub lines_told : BookSaid → State → ℕ → List (List Row) → List Reading → Told
+abbrev pub lines_told : BookSaid → State → ℕ → List (List Row) → List Reading → LinesTold
 lines_told said state number added [] = nothing_told
 lines_told said state number added (reading ∷ readings) =
     followed_by (line_told said state number (next_rows added) reading)
     (lines_told said (state_after said state (next_rows added) reading) (number + 1) (rows_left (brings_rows said.catalog reading) added) readings)
 
 -- lines are numbered from 1, and the first meets no brush and the tables as they were read; the names are those of the book's dependencies
-abbrev pub script_told : Workbook → List (List ℕ) → List (List Row) → List Reading → Told
+abbrev pub script_told : Workbook → List (List ℕ) → List (List Row) → List Reading → LinesTold
 script_told book fds added readings = lines_told (record { catalog = book.catalog; fds = fds }) (first_state book) 1 added readings
 
 -- what a run writes, and what is told of it
@@ -152,7 +152,7 @@ abbrev pub size_of_view : Workbook → ViewImage → Size
 size_of_view book view = record { name = view.name; rows = length (view_rows book view) }
 
 -- the report of what the lines come to
-abbrev pub report_told : Workbook → Told → Report
+abbrev pub report_told : Workbook → LinesTold → Report
 report_told book told = record {
   sizes = map (size_of_view book) book.catalog.views;
   replies = told.replies;

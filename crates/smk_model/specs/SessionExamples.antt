@@ -20,7 +20,7 @@ use Rattle.smk_model.specs.Examples.{tables, by_region, by_zone, big, pair, name
 use Rattle.smk_model.specs.Readings.{Asks, plain_reading}
 use Rattle.smk_model.specs.Session.{Workbook}
 use Rattle.smk_model.specs.Looks.{start_looks}
-use Rattle.smk_model.specs.Reports.{Told, script_told}
+use Rattle.smk_model.specs.Reports.{LinesTold, script_told}
 
 abbrev pub int_column : List ℕ → ColDecl
 int_column name = record { name = name; kind = kinds.Int 0; def = None }
@@ -61,10 +61,10 @@ sales_catalog = record {
 abbrev pub sales_book : Workbook
 sales_book = record { catalog = sales_catalog; tables = tables }
 
-abbrev pub told : List Line → Told
+abbrev pub told : List Line → LinesTold
 told asked = script_told sales_book [] [] (map plain_reading asked)
 
-abbrev pub ask_told : List AskImage → Told
+abbrev pub ask_told : List AskImage → LinesTold
 ask_told asked = script_told sales_book [] [] (map (λ ask. Asks (AskedLine ask)) asked)
 
 abbrev pub at : List ℕ → Marks

@@ -42,8 +42,8 @@ only_place c [] = Err (faults.MissingColumn c)
 only_place c (p ∷ []) = Ok p
 only_place c (p ∷ q ∷ more) = Err (faults.RepeatedColumn c)
 
-abbrev pub column_place : List (List ℕ) → ℕ → ColDecl → Result ℕ TableFault
-column_place header c decl = only_place c (places_of decl.name 0 header)
+abbrev pub header_place : List (List ℕ) → ℕ → ColDecl → Result ℕ TableFault
+header_place header c decl = only_place c (places_of decl.name 0 header)
 
 -- the value of a text field: a field of no bytes takes the default
 abbrev pub text_value : Option Value → List ℕ → Value
@@ -51,12 +51,12 @@ text_value def [] = unwrap_or def (values.Text [])
 text_value def (b ∷ bs) = values.Text (b ∷ bs)
 
 -- the value of an int field, if it has one: a field of spaces and tabs alone takes the default
-abbrev pub int_value : Option Value → List ℕ → Option Value
-int_value None field = option_map values.Int (int_of field)
-int_value (Some def) field = if list_all is_blank field then Some def else option_map values.Int (int_of field)
+abbrev pub int_field_value : Option Value → List ℕ → Option Value
+int_field_value None field = option_map values.Int (int_of field)
+int_field_value (Some def) field = if list_all is_blank field then Some def else option_map values.Int (int_of field)
 
 abbrev pub field_value : Kind → Option Value → List ℕ → Option Value
-field_value (kinds.Int level) def field = int_value def field
+field_value (kinds.Int level) def field = int_field_value def field
 field_value kinds.Text def field = Some (text_value def field)
 
 -- the value of declared column c in record n, whose field stands at a place
@@ -75,7 +75,7 @@ record_row cols places width n fields =
 abbrev pub table_of_records : List ColDecl → List (List (List ℕ)) → Result (List (List Value)) TableFault
 table_of_records cols [] = Err faults.NoHeader
 table_of_records cols (header ∷ rest) =
-    all_or_first (numbered (column_place header) 0 cols) >>= λ places.
+    all_or_first (numbered (header_place header) 0 cols) >>= λ places.
     all_or_first (numbered (record_row cols places (length header)) 1 rest)
 
 -- the rows of the bytes of a file, after every byte order mark at its front
@@ -83,8 +83,8 @@ unfoldable pub table_of : List ColDecl → List ℕ → Result (List (List Value
 table_of cols bytes = table_of_records cols (records default_config (after_marks bytes))
 
 -- the kinds of declared columns
-abbrev pub kinds_of : List ColDecl → List Kind
-kinds_of cols = map (λ decl. decl.kind) cols
+abbrev pub declared_kinds : List ColDecl → List Kind
+declared_kinds cols = map (λ decl. decl.kind) cols
 
 -- a kind of a base column: a text, or an int of level 0
 abbrev pub IsBase : Kind → Type 0

@@ -171,8 +171,8 @@ pub record TypedPlan : Type 0 where
   pub columns : List Column
 
 -- each step over a typed input, or over two
-abbrev pub selected : TypedPlan → PredImage → Typed TypedPlan
-selected left tree = do
+abbrev pub selected_plan : TypedPlan → PredImage → Typed TypedPlan
+selected_plan left tree = do
   formula ← typed_pred left.columns tree
   Ok (record { plan = Apply (Selection formula) left.plan; columns = left.columns })
 
@@ -186,8 +186,8 @@ distinct left trees = do
   made ← typed_items left.columns trees
   Ok (record { plan = Apply (Distinction made.0) left.plan; columns = made.1 })
 
-abbrev pub grouped : ℕ → TypedPlan → List Word → List AggTree → Typed TypedPlan
-grouped at left words trees = do
+abbrev pub grouped_plan : ℕ → TypedPlan → List Word → List AggTree → Typed TypedPlan
+grouped_plan at left words trees = do
   group ← typed_group left.columns at words trees
   Ok (record { plan = Apply (Grouping group.keys group.aggs) left.plan; columns = group.columns })
 

@@ -22,8 +22,8 @@ use Rattle.smk_base.specs.Trees.{TreeImage, ScanNode, StepNode, StepImage, Selec
 use Rattle.smk_base.specs.CatalogImage.{ViewImage, CatalogImage}
 use Rattle.smk_model.specs.Expanded.{violations_tree}
 use Rattle.smk_model.specs.Kinds.{kind_of}
-use Rattle.smk_model.specs.Names.{Typed, ◌>>=◌, unless, in_turn, same_name, place_of, is_taken, names_of, kinds_of, column_named, same_sort}
-use Rattle.smk_model.specs.TypedSteps.{TypedPlan, typed_group, selected, projected, distinct, grouped, joined_plan, theta_plan, product_plan, united_plan}
+use Rattle.smk_model.specs.Names.{Typed, ◌>>=◌, unless, in_turn, same_name, place_of, is_taken, names_of, column_kinds, column_named, same_sort}
+use Rattle.smk_model.specs.TypedSteps.{TypedPlan, typed_group, selected_plan, projected, distinct, grouped_plan, joined_plan, theta_plan, product_plan, united_plan}
 
 -- a declared column, and the columns of a table
 abbrev pub column_of : ColDecl → Column
@@ -40,24 +40,24 @@ abbrev pub info_at : List TableInfo → ℕ → TableInfo
 info_at tables t = slice_index_or tables t no_table
 
 -- the number of the table that a word names: declared before, else UnknownTable at the word
-abbrev pub table_named : List TableInfo → Word → Typed ℕ
-table_named tables word = ok_or (place_of word.name (map (λ table. table.name) tables)) (UnknownTable word.at)
+abbrev pub table_by_word : List TableInfo → Word → Typed ℕ
+table_by_word tables word = ok_or (place_of word.name (map (λ table. table.name) tables)) (UnknownTable word.at)
 
 -- the number of the view that a word names: declared before, else UnknownView at the word
-abbrev pub view_named : List ViewImage → Word → Typed ℕ
-view_named views word = ok_or (place_of word.name (map (λ view. view.name) views)) (UnknownView word.at)
+abbrev pub view_by_word : List ViewImage → Word → Typed ℕ
+view_by_word views word = ok_or (place_of word.name (map (λ view. view.name) views)) (UnknownView word.at)
 
 -- a plan over tables, and a step at its place over a typed input: the input first, then the second source, then the lists, then the step as a whole
 abbrev mutual
   pub typed_plan : List TableInfo → TreeImage → Typed TypedPlan
-  typed_plan tables (ScanNode word) = table_named tables word >>= λ t. Ok (record { plan = Leaf t; columns = columns_of (info_at tables t) })
+  typed_plan tables (ScanNode word) = table_by_word tables word >>= λ t. Ok (record { plan = Leaf t; columns = columns_of (info_at tables t) })
   typed_plan tables (StepNode at input what) = typed_plan tables input >>= λ left. typed_step tables what at left
 
   pub typed_step : List TableInfo → StepImage → ℕ → TypedPlan → Typed TypedPlan
-  typed_step tables (SelectNode pred) at left = selected left pred
+  typed_step tables (SelectNode pred) at left = selected_plan left pred
   typed_step tables (ProjectNode items) at left = projected left items
   typed_step tables (DistinctNode items) at left = distinct left items
-  typed_step tables (GroupNode keys aggs) at left = grouped at left keys aggs
+  typed_step tables (GroupNode keys aggs) at left = grouped_plan at left keys aggs
   typed_step tables (JoinNode source pairs) at left = typed_plan tables source >>= λ right. joined_plan at pairs left right
   typed_step tables (ThetaNode source pred) at left = typed_plan tables source >>= λ right. theta_plan at pred left right
   typed_step tables (ProductNode source) at left = typed_plan tables source >>= λ right. product_plan at left right
@@ -90,7 +90,7 @@ table_after catalog name file decls =
 
 -- a view under a name
 abbrev pub view_of : Word → TypedPlan → ViewImage
-view_of name typed = record { name = name.name; plan = typed.plan; names = names_of typed.columns; kinds = kinds_of typed.columns }
+view_of name typed = record { name = name.name; plan = typed.plan; names = names_of typed.columns; kinds = column_kinds typed.columns }
 
 -- one more view: its name is new among views, and its plan stands
 abbrev pub view_after : CatalogImage → Word → TreeImage → Typed CatalogImage
@@ -104,7 +104,7 @@ typed_extra columns extras.Plain = Ok back_extras.Plain
 typed_extra columns (extras.By word) = column_named columns word >>= λ found. Ok (back_extras.By found.0)
 typed_extra columns (extras.Grouped at keys aggs) = do
   group ← typed_group columns at keys aggs
-  Ok (back_extras.Grouped group.keys group.aggs (names_of group.columns) (kinds_of group.columns))
+  Ok (back_extras.Grouped group.keys group.aggs (names_of group.columns) (column_kinds group.columns))
 
 -- whether two backward declarations have the same form: plain, `by` the same column, or `group`
 abbrev pub same_form : BackExtra → BackExtra → Bool
@@ -125,8 +125,8 @@ new_back catalog at back =
 
 abbrev pub back_after : CatalogImage → ℕ → Word → Word → Extra → Typed CatalogImage
 back_after catalog at view table extra = do
-  v ← view_named catalog.views view
-  t ← table_named catalog.tables table
+  v ← view_by_word catalog.views view
+  t ← table_by_word catalog.tables table
   asked ← typed_extra (columns_of (info_at catalog.tables t)) extra
   new_back catalog at (record { view = v; table = t; extra = asked })
 
@@ -142,8 +142,8 @@ new_fwd catalog at fwd =
 
 abbrev pub fwd_after : CatalogImage → ℕ → Word → Word → Typed CatalogImage
 fwd_after catalog at table view = do
-  t ← table_named catalog.tables table
-  v ← view_named catalog.views view
+  t ← table_by_word catalog.tables table
+  v ← view_by_word catalog.views view
   new_fwd catalog at (record { table = t; view = v })
 
 -- a view, a table and a linked view, as a link has them
@@ -166,15 +166,15 @@ all_links links = flat_map (λ link. linked_to link.view link.table link.to) lin
 -- one more linked view: it is declared, it is not the first view, and neither this link nor an earlier one has it
 abbrev pub to_after : CatalogImage → ℕ → ℕ → List ℕ → Word → Typed (List ℕ)
 to_after catalog v t to word = do
-  w ← view_named catalog.views word
+  w ← view_by_word catalog.views word
   unless (nat_eq w v) (SelfLink word.at)
       (unless (list_any (same_link (record { view = v; table = t; to = w })) (all_links catalog.links ++ linked_to v t to)) (RepeatedDeclaration word.at)
       (Ok (to ++ w ∷ [])))
 
 abbrev pub link_after : CatalogImage → Word → Word → List Word → Typed CatalogImage
 link_after catalog view table words = do
-  v ← view_named catalog.views view
-  t ← table_named catalog.tables table
+  v ← view_by_word catalog.views view
+  t ← table_by_word catalog.tables table
   to ← in_turn (to_after catalog v t) [] words
   Ok (record catalog { links = catalog.links ++ record { view = v; table = t; to = to } ∷ [] })
 

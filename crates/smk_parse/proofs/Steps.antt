@@ -1,6 +1,6 @@
 -- How a symbol and the token in hand go on.
 use Rattle.std.specs.Prelude.{Result, Ok, Err, Option, Some, None, is_some, cond, IsTrue, nat_lt}
-use Rattle.smk_parse.specs.Vocabulary.{TokenKind, BookFault, Many, TooMany, BadNumber, NoMemory, Token, head_of, tail_of, First, Configuration, PlanCounts, Symbol, Move, Takes, Skips, Wrong, Past, Outside, through, settle, move_of, or_next, go_on, fault_at, is_more, same_kind, AToken, Columns, NameBytes, Nodes, node_more, node_move, step_symbols, at_any_line, at_ask_steps, at_line, AStep, AnyLine, ALine, within, is_mark, at_first, at_item, at_keys, at_source, at_united, at_column, at_term, at_literal, at_mark, at_marks, AColumn, ALiteral, AnAs, AKeys, AFirst, AnItem, MoreKeys, ASource, AUnited, ATerm, AMarks, AMark, MoreMarks, AreMore, AreListed, at_more, int_value}
+use Rattle.smk_parse.specs.Vocabulary.{TokenKind, BookFault, Many, TooMany, BadNumber, NoMemory, Token, head_of, tail_of, First, Configuration, PlanCounts, Symbol, Move, Takes, Skips, Wrong, Past, Outside, through, settle, move_of, or_next, go_on, token_fault, is_more, same_kind, AToken, Columns, NameBytes, Nodes, node_more, node_move, step_symbols, at_any_line, at_ask_steps, at_line, AStep, AnyLine, ALine, within, is_mark_number, at_first, at_item, at_keys, at_source, at_united, at_column, at_term, at_literal, at_mark, at_marks, AColumn, ALiteral, AnAs, AKeys, AFirst, AnItem, MoreKeys, ASource, AUnited, ATerm, AMarks, AMark, MoreMarks, AreMore, AreListed, at_more, int_value}
 use Rattle.std.proofs.Common.{◌≡◌, ◌<◌, List, [], ◌∷◌, ◌++◌, length, ap, ◌∙◌, sym, refl, append_assoc, arith, ℕ, ◌+◌, true, false, subst, ℤ, Bool}
 use Rattle.std.proofs.lemmas.{Bool.lt-ltb, Grind.length_at_push}
 use Rattle.smk_model.{proofs.Alike.same_is, specs.Grammar.one_more}
@@ -47,7 +47,7 @@ skipped x (s ∷ ss) c ts h e = moves x (s ∷ ss) c ts (tail_of ts) Skips h e �
 pub skips : (x : Symbol) (a : Configuration) → Here a → move_of a.counts x (head_of a.rest) ≡ Skips → Leads (x ∷ []) a a
 skips x a h e = record { goes = λ ss. skipped x ss a.counts a.rest h e; fewer = omega arith }
 
-pub wrong : (x : Symbol) (a : Configuration) (f : BookFault) → Here a → f ≡ fault_at (head_of a.rest) → move_of a.counts x (head_of a.rest) ≡ Wrong → Fails (x ∷ []) a f
+pub wrong : (x : Symbol) (a : Configuration) (f : BookFault) → Here a → f ≡ token_fault (head_of a.rest) → move_of a.counts x (head_of a.rest) ≡ Wrong → Fails (x ∷ []) a f
 wrong x a f h g e = record { stops = λ ss m. moves x ss a.counts a.rest (tail_of a.rest) Wrong h e ∙ ap Err (sym g) }
 
 pub past : (x : Symbol) (a : Configuration) (f : BookFault) (what : Many) → Here a → f ≡ TooMany (head_of a.rest).at what → move_of a.counts x (head_of a.rest) ≡ Past what → Fails (x ∷ []) a f
@@ -123,7 +123,7 @@ token_first k a b h e = first_here k a.counts a b h (sym (same_is k (head_of a.r
 pub token_more : (k j : TokenKind) → same_kind k j ≡ true → IsTrue (is_more k) → IsTrue (is_more j)
 token_more k j e h = subst (λ x. IsTrue (is_more x)) (same_is k j e) h
 
-pub token_fails : (k : TokenKind) (a : Configuration) (f : BookFault) → a.rest ≡ head_of a.rest ∷ tail_of a.rest → f ≡ fault_at (head_of a.rest) → same_kind k (head_of a.rest).kind ≡ false → Fails (AToken k ∷ []) a f
+pub token_fails : (k : TokenKind) (a : Configuration) (f : BookFault) → a.rest ≡ head_of a.rest ∷ tail_of a.rest → f ≡ token_fault (head_of a.rest) → same_kind k (head_of a.rest).kind ≡ false → Fails (AToken k ∷ []) a f
 token_fails k a f h g e = wrong (AToken k) a f h g (ap (λ o. cond o (Takes a.counts []) Wrong) e)
 
 pub ruleset expect_goes = (token_leads, token_fails, token_first, token_more)
@@ -163,7 +163,7 @@ item_move c n ss x y short k e = first_more c n (AnAs ∷ []) ss x y short k
 
 marks_move : (c : PlanCounts) (ss : List Symbol) (x y : Move) (v : ℤ) (k : TokenKind) → (k ≡ kinds.All → ⊥) → or_next (at_marks c v k) ss x ≡ or_next (at_mark c [] v k) (MoreMarks ∷ ss) y
 marks_move c ss x y v kinds.All p = absurd (p refl)
-marks_move c ss x y v kinds.Number p = by (is_mark v)
+marks_move c ss x y v kinds.Number p = by (is_mark_number v)
   where
     by : (o : Bool) → or_next (cond o (Takes c (MoreMarks ∷ [])) Outside) ss x ≡ or_next (cond o (Takes c []) Outside) (MoreMarks ∷ ss) y
     by true = refl

@@ -1,7 +1,7 @@
 #![tactic(auto, using(crate::proofs::Trees::words))]
 
 ghost use Rattle.std.specs.Prelude.{◌≡◌, ◌∷◌, [], ◌<◌, IsTrue, true, false, IfOk, IfErr, OnOk};
-ghost use Rattle.smk_parse.specs.Vocabulary.{NoMemory, TooMany, head_of, is_more, inner, string_value, First, IsLiteral, IsName, IsColumn, fault_at, is_short, AToken, ALiteral, AName, AColumn, AFirst, ALineName, ALineColumn};
+ghost use Rattle.smk_parse.specs.Vocabulary.{NoMemory, TooMany, head_of, is_more, inner, string_value, First, IsLiteral, IsName, IsColumn, token_fault, is_short, AToken, ALiteral, AName, AColumn, AFirst, ALineName, ALineColumn};
 ghost use Rattle.smk_parse.specs.{Texts.Advances, Reads.Reads, Reads.is_column, Reads.column_name, Reads.column_word};
 
 use crate::reader::Reader;
@@ -11,7 +11,7 @@ use std::alloc::Global;
 /// The fault at a token that may not stand here.
 #[tactic(auto)]
 pub fn wrong(reader: &Reader) -> BookFault
-    ensures { result ≡ fault_at (head_of reader.now.rest) }
+    ensures { result ≡ token_fault (head_of reader.now.rest) }
 {
     let at = reader.at();
     match reader.kind() {

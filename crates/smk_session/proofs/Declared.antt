@@ -31,7 +31,7 @@ use Rattle.smk_session.specs.Kept.{kept_back}
 use Rattle.smk_session.specs.Extras.{backs_of, split_on, cubes_on, split_for, cubes_for, split_in, cubes_in, asks_split, asks_groups, split_place, cubes_place}
 use Rattle.smk_session.specs.Making.{AreNow, IsDeclared, IsMadeFor, cubes_wanted, declared_in, looks_wanted, newer, split_wanted}
 use Rattle.smk_session.specs.Opened.{AreOpened, opened, workbook_image}
-use Rattle.smk_session.specs.declared.start.making.Asked.{Asked}
+use Rattle.smk_session.specs.declared.start.making.ExtraAsked.{ExtraAsked}
 use Rattle.smk_session.specs.declared.start.making.SplitOrCubes.{SplitOrCubes}
 use Rattle.smk_session.proofs.KeptOf.{kept_back_is}
 use Rattle.smk_session.proofs.OpenedViews.{views_long}
@@ -111,12 +111,12 @@ looks_within f xs all i start before after x are low is so_far here =
 
 -- what waits, once one declaration more does, or asks for nothing
 
-pub kept_waiting : {Y : Type 0} (h w : Back → Option Y) (xs : List Back) (i : ℕ) (x : Back) (front : List Y) (before after : List Asked) (asked : Asked) → i < length xs → x ≡ get_or xs i x
+pub kept_waiting : {Y : Type 0} (h w : Back → Option Y) (xs : List Back) (i : ℕ) (x : Back) (front : List Y) (before after : List ExtraAsked) (asked : ExtraAsked) → i < length xs → x ≡ get_or xs i x
     → front ++ filter_map h (declared_in before) ≡ filter_map w (take i xs) → after ≡ before ++ asked ∷ [] → asked.declared.now ≡ x → h x ≡ w x → front ++ filter_map h (declared_in after) ≡ filter_map w (take (i + 1) xs)
 kept_waiting h w xs i x front before after asked low is are pushed same wanted =
     let waiting = filter_map h (declared_in before) in
     ap (λ l. front ++ filter_map h (declared_in l)) pushed
-    ∙ ap (λ l. front ++ filter_map h l) (map-append (λ (a : Asked). a.declared.now) before (asked ∷ []))
+    ∙ ap (λ l. front ++ filter_map h l) (map-append (λ (a : ExtraAsked). a.declared.now) before (asked ∷ []))
     ∙ ap (λ l. front ++ l) (filter_map-append h (declared_in before) (asked.declared.now ∷ []))
     ∙ ap (λ l. front ++ (waiting ++ l)) (one_kept h asked.declared.now)
     ∙ sym (append_assoc front waiting (option_to_list (h asked.declared.now)))
@@ -131,12 +131,12 @@ want_kept true o h = refl
 want_kept false o h = absurd (false≢true h)
 
 -- and once those that are due are made
-pub kept_due : {Y : Type 0} (h : Back → Option Y) (front put all : List Y) (due rest waiting : List Asked) → due ++ rest ≡ waiting → put ≡ front ++ filter_map h (declared_in due) → front ++ filter_map h (declared_in waiting) ≡ all
+pub kept_due : {Y : Type 0} (h : Back → Option Y) (front put all : List Y) (due rest waiting : List ExtraAsked) → due ++ rest ≡ waiting → put ≡ front ++ filter_map h (declared_in due) → front ++ filter_map h (declared_in waiting) ≡ all
     → put ++ filter_map h (declared_in rest) ≡ all
 kept_due h front put all due rest waiting cut is are =
     ap (λ l. l ++ filter_map h (declared_in rest)) is
     ∙ append_assoc front (filter_map h (declared_in due)) (filter_map h (declared_in rest))
-    ∙ ap (λ l. front ++ l) (sym (filter_map-append h (declared_in due) (declared_in rest)) ∙ ap (filter_map h) (sym (map-append (λ (a : Asked). a.declared.now) due rest)))
+    ∙ ap (λ l. front ++ l) (sym (filter_map-append h (declared_in due) (declared_in rest)) ∙ ap (filter_map h) (sym (map-append (λ (a : ExtraAsked). a.declared.now) due rest)))
     ∙ ap (λ l. front ++ filter_map h (declared_in l)) cut
     ∙ are
 
@@ -146,8 +146,8 @@ kept_none h xs i x all low is are none =
 
 -- what is made of the declarations that wait, one after the other
 
-pub made_at : (book : Workbook) (all : List Asked) (made : List SplitOrCubes) (n : ℕ) (one : SplitOrCubes) → AllZip (IsMadeFor book) all made → n < length made → one ≡ get_or made n one
-    → (asked : Asked) × (n < length all) × (asked ≡ get_or all n asked) × IsMadeFor book asked one
+pub made_at : (book : Workbook) (all : List ExtraAsked) (made : List SplitOrCubes) (n : ℕ) (one : SplitOrCubes) → AllZip (IsMadeFor book) all made → n < length made → one ≡ get_or made n one
+    → (asked : ExtraAsked) × (n < length all) × (asked ≡ get_or all n asked) × IsMadeFor book asked one
 made_at book [] [] n one zip low is = absurd (omega (arith, low))
 made_at book (a ∷ more) (m ∷ ms) zero one zip low is = (a, omega arith, refl, subst (IsMadeFor book a) (sym is) zip.0)
 made_at book (a ∷ more) (m ∷ ms) (suc n) one zip low is =
@@ -155,23 +155,23 @@ made_at book (a ∷ more) (m ∷ ms) (suc n) one zip low is =
     (rest.0, omega (arith, rest.1), rest.2, rest.3)
 made_at book _ _ n one zip low is = absurd zip
 
-pub kept_put : {Y : Type 0} (h : Back → Option Y) (all : List Asked) (n : ℕ) (asked : Asked) (put : Option Y) (old before after : List Y) → n < length all → asked ≡ get_or all n asked
+pub kept_put : {Y : Type 0} (h : Back → Option Y) (all : List ExtraAsked) (n : ℕ) (asked : ExtraAsked) (put : Option Y) (old before after : List Y) → n < length all → asked ≡ get_or all n asked
     → before ≡ old ++ filter_map h (take n (declared_in all)) → put ≡ h asked.declared.now → after ≡ before ++ option_to_list put → after ≡ old ++ filter_map h (take (n + 1) (declared_in all))
 kept_put h all n asked put old before after low is are made pushed =
     let declared : List Back = declared_in all in
-    let long : n < length declared = omega (arith, low, length-map all (λ (a : Asked). a.declared.now)) in
+    let long : n < length declared = omega (arith, low, length-map all (λ (a : ExtraAsked). a.declared.now)) in
     let same : asked.declared.now ≡ get_or declared n asked.declared.now =
-    ap (λ (a : Asked). a.declared.now) is ∙ sym (get_or-map (λ (a : Asked). a.declared.now) all n asked asked.declared.now low) in
+    ap (λ (a : ExtraAsked). a.declared.now) is ∙ sym (get_or-map (λ (a : ExtraAsked). a.declared.now) all n asked asked.declared.now low) in
     pushed
     ∙ ap (λ l. l ++ option_to_list put) are
     ∙ append_assoc old (filter_map h (take n declared)) (option_to_list put)
     ∙ ap (λ o. old ++ (filter_map h (take n declared) ++ option_to_list o)) made
     ∙ ap (λ l. old ++ l) (kept_next h declared n asked.declared.now (filter_map h (take n declared)) _ long same refl refl)
 
-pub kept_all : {Y : Type 0} (book : Workbook) (h : Back → Option Y) (all : List Asked) (made : List SplitOrCubes) (n : ℕ) (old after : List Y) → AllZip (IsMadeFor book) all made → n ≡ length made
+pub kept_all : {Y : Type 0} (book : Workbook) (h : Back → Option Y) (all : List ExtraAsked) (made : List SplitOrCubes) (n : ℕ) (old after : List Y) → AllZip (IsMadeFor book) all made → n ≡ length made
     → after ≡ old ++ filter_map h (take n (declared_in all)) → after ≡ old ++ filter_map h (declared_in all)
 kept_all book h all made n old after zip whole are =
-    are ∙ ap (λ l. old ++ filter_map h l) (take_all n (declared_in all) (omega (arith, whole, AllZip-long (IsMadeFor book) all made zip, length-map all (λ (a : Asked). a.declared.now))))
+    are ∙ ap (λ l. old ++ filter_map h l) (take_all n (declared_in all) (omega (arith, whole, AllZip-long (IsMadeFor book) all made zip, length-map all (λ (a : ExtraAsked). a.declared.now))))
 
 -- what is kept for the first declaration that passes, at its place among those that ask for it
 

@@ -15,7 +15,7 @@ use Rattle.smk_session.specs.Extras.{table_of, split_in, cubes_in}
 use Rattle.smk_compose.specs.declared.kept_maps.Run.{Run}
 use Rattle.smk_skip.specs.Splits.{SplitImage}
 use Rattle.smk_session.specs.Opened.{opened, workbook_image}
-use Rattle.smk_session.specs.declared.start.making.Asked.{Asked}
+use Rattle.smk_session.specs.declared.start.making.ExtraAsked.{ExtraAsked}
 use Rattle.smk_session.specs.declared.start.making.SplitOrCubes.{SplitOrCubes}
 use Rattle.smk_session.specs.declared.start.making.Opening.{Opening}
 
@@ -42,21 +42,21 @@ pub record IsDeclared (catalog : Catalog) (declared : Back) : Type 0 where
   pub declares : declares_back (catalog_image catalog) declared.view declared.table ≡ true
 
 -- a declaration of the book, with the rows of its table
-pub record IsAsked (catalog : Catalog) (tables : List Relation) (asked : Asked) : Type 0 where
+pub record IsAsked (catalog : Catalog) (tables : List Relation) (asked : ExtraAsked) : Type 0 where
   pub declared : IsDeclared catalog asked.declared.now
   pub rows : asked.rows ≡ table_of (workbook_image catalog tables) asked.declared.now.table
 
 -- what it asks for besides the rows is made
-pub record IsMadeFor (book : Workbook) (asked : Asked) (made : SplitOrCubes) : Type 0 where
+pub record IsMadeFor (book : Workbook) (asked : ExtraAsked) (made : SplitOrCubes) : Type 0 where
   pub split : made.split ≡ split_in book asked.declared.now
   pub cubes : made.cubes ≡ cubes_in book asked.declared.now
 
-abbrev pub MakesAs : Workbook → Asked → Result SplitOrCubes AllocError → Type 0
+abbrev pub MakesAs : Workbook → ExtraAsked → Result SplitOrCubes AllocError → Type 0
 MakesAs book asked made = IfOk made (IsMadeFor book asked)
 
 -- the declarations
-abbrev pub declared_in : List Asked → List Back
-declared_in all = map (λ (asked : Asked). asked.declared.now) all
+abbrev pub declared_in : List ExtraAsked → List Back
+declared_in all = map (λ (asked : ExtraAsked). asked.declared.now) all
 
 -- whether what a declaration asks for besides the rows is made: always, or where it depends on the table that has grown
 abbrev pub is_wanted : CatalogImage → Option ℕ → Back → Bool

@@ -11,7 +11,7 @@ use Rattle.smk_table.specs.Cuts.{read_of}
 use Rattle.std.proofs.Common.{Bor, Result, nat_eq, ne_eqb, map, ◌==◌, All, IfOk, Bool, true, false, true≢false, nat_le, le-leb}
 use Rattle.std.proofs.lemmas.List.{get_or-map, length-map}
 use Rattle.smk_base.specs.declared.book.col_decl.ColDecl.{ColDecl}
-use Rattle.smk_model.specs.Tables.{kinds_of}
+use Rattle.smk_model.specs.Tables.{declared_kinds}
 
 abbrev pub all_behind : List (List Value) → List Part → Part
 all_behind rows parts = ◌>>=◌ (parts_behind (length rows) parts) (λ more. Ok (rows ++ more))
@@ -78,11 +78,11 @@ gives_all cols places width (t ∷ texts) made long each = record { all = long �
         rw (get_or-map (rows_from cols places width 1) (map read_of texts) p (read_of t) d here, get_or-map read_of texts p t (read_of t) inside) (rw (later, plain (read_of (get_or texts p t))) at (each (suc p) t e (omega (arith, inside))))
 
 -- each result of a part has the kinds of the columns
-pub gives_kinds : (cols : List ColDecl) (part : Part) (r : Result Relation TableFault) → Gives cols part r → IfOk r (λ rel. rel.kinds ≡ kinds_of cols)
+pub gives_kinds : (cols : List ColDecl) (part : Part) (r : Result Relation TableFault) → Gives cols part r → IfOk r (λ rel. rel.kinds ≡ declared_kinds cols)
 gives_kinds cols part (Ok rel) h = h.1
 gives_kinds cols part (Err fault) h = tt
 
-pub all_kinds : (cols : List ColDecl) (parts : List Part) (made : List (Result Relation TableFault)) → GivesAll cols parts made → All (λ r. IfOk r (λ rel. rel.kinds ≡ kinds_of cols)) made
+pub all_kinds : (cols : List ColDecl) (parts : List Part) (made : List (Result Relation TableFault)) → GivesAll cols parts made → All (λ r. IfOk r (λ rel. rel.kinds ≡ declared_kinds cols)) made
 all_kinds cols parts made all k d l = let long = all.all in gives_kinds cols _ _ (all.each k (Ok []) d (omega (arith, l, long)))
 
 -- the rows of a part behind none

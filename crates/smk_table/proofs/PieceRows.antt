@@ -11,7 +11,7 @@ use Rattle.csv.specs.Reading.{records, default_config}
 use Rattle.smk_table.specs.Cuts.{read_of}
 use Rattle.std.proofs.Common.{Bor}
 use Rattle.smk_model.specs.Names.{◌>>=◌}
-use Rattle.smk_model.specs.Tables.{all_or_first, numbered, record_row, cell_value, field_value, column_place, table_of, table_of_records}
+use Rattle.smk_model.specs.Tables.{all_or_first, numbered, record_row, cell_value, field_value, header_place, table_of, table_of_records}
 use Rattle.smk_table.specs.Pieces.{Part, behind_header, parts_of, rows_from, record_of, fault_behind, part_behind, parts_behind, HasHeader}
 
 -- the numbers go on behind the first list
@@ -193,13 +193,13 @@ flat_map-map f (x ∷ xs) = ap (λ r. f x ++ r) (flat_map-map f xs)
 -- the table of a text whose pieces have these records
 table_of_reads : (cols : List ColDecl) (bytes : List ℕ) (texts : List (Bor (List ℕ))) (header : List (List ℕ)) (read : List (List (List ℕ))) (d : Bor (List ℕ)) → 0 < length texts
     → records default_config (after_marks bytes) ≡ flat_map read_of texts → read_of (get_or texts 0 d) ≡ header ∷ read
-    → table_of cols bytes ≡ ◌>>=◌ (all_or_first (numbered (column_place header) 0 cols)) (λ places. parts_behind 0 (parts_of cols places (length header) (map read_of texts)))
+    → table_of cols bytes ≡ ◌>>=◌ (all_or_first (numbered (header_place header) 0 cols)) (λ places. parts_behind 0 (parts_of cols places (length header) (map read_of texts)))
 unfolding table_of
 table_of_reads cols bytes [] header read d l e head = absurd (omega arith)
 table_of_reads cols bytes (t ∷ texts) header read d l e head =
     let all : records default_config (after_marks bytes) ≡ header ∷ flat_map (λ p. p) (read ∷ map read_of texts)
     = e ∙ ap (λ r. r ++ flat_map read_of texts) head ∙ ap (λ r. header ∷ read ++ r) (flat_map-map read_of texts) in
-    ap (table_of_records cols) all ∙ by (all_or_first (numbered (column_place header) 0 cols))
+    ap (table_of_records cols) all ∙ by (all_or_first (numbered (header_place header) 0 cols))
   where
     by : (r : Result (List ℕ) TableFault)
         → ◌>>=◌ r (λ places. rows_from cols places (length header) 1 (flat_map (λ p. p) (read ∷ map read_of texts)))

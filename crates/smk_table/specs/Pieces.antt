@@ -5,7 +5,7 @@ use Rattle.smk_base.specs.declared.book.col_decl.ColDecl.{ColDecl}
 use Rattle.smk_base.specs.declared.fault.TableFault.{TableFault}
 use Rattle.smk_base.specs.declared.fault.TableFault.TheVariants as faults
 use Rattle.smk_model.specs.Names.{◌>>=◌}
-use Rattle.smk_model.specs.Tables.{all_or_first, numbered, column_place, record_row, kinds_of}
+use Rattle.smk_model.specs.Tables.{all_or_first, numbered, header_place, record_row, declared_kinds}
 use Rattle.smk_base.specs.Rels.{Relation}
 use Rattle.smk_base.specs.declared.rel.TheConstants.{ROW_LIMIT}
 
@@ -48,7 +48,7 @@ parts_behind base (part ∷ parts) = do
 
 -- that a part was read: its rows, or want of memory or its first fault
 abbrev pub Gives : List ColDecl → Part → Result Relation TableFault → Type 0
-Gives cols part (Ok rel) = (part ≡ Ok rel.rows) × (rel.kinds ≡ kinds_of cols)
+Gives cols part (Ok rel) = (part ≡ Ok rel.rows) × (rel.kinds ≡ declared_kinds cols)
 Gives cols part (Err fault) = (fault ≡ faults.NoMemory) ⊎ (part ≡ Err fault)
 
 -- these rows, and behind them those of a part that was read for itself
@@ -76,4 +76,4 @@ pub record HasHeader (cols : List ColDecl) (read : List (List (List ℕ))) (widt
   pub rest : List (List (List ℕ))
   pub begins : read ≡ header ∷ rest
   pub wide : length header ≡ width
-  pub placed : all_or_first (numbered (column_place header) 0 cols) ≡ places
+  pub placed : all_or_first (numbered (header_place header) 0 cols) ≡ places

@@ -8,7 +8,7 @@ ghost use Rattle.smk_base.specs.declared.value.Value.TheVariants as values;
 ghost use Rattle.smk_base.specs.Ints.{is_blank};
 ghost use Rattle.smk_base.specs.Rels.{Fits, kind_in};
 ghost use Rattle.smk_base.specs.declared.rel.TheConstants.{COLUMN_LIMIT};
-ghost use Rattle.smk_model.specs.Tables.{AreColumns, IsBaseColumn, all_or_first, numbered, column_place, cell_value, field_value, int_value, text_value, record_row, kinds_of};
+ghost use Rattle.smk_model.specs.Tables.{AreColumns, IsBaseColumn, all_or_first, numbered, header_place, cell_value, field_value, int_field_value, text_value, record_row, declared_kinds};
 ghost use Rattle.smk_table.specs.Growing.{with_cell, with_row};
 
 use csv::ByteRecord;
@@ -24,7 +24,7 @@ fn field_at(fields: &ByteRecord, place: usize) -> &[u8]
 
 /// The place of declared column c in the header.
 fn place_of(header: &ByteRecord, decl: &ColDecl, c: u32) -> Result<usize, TableFault>
-    ensures { result ≡ column_place (fields_of header.now) c decl.now }
+    ensures { result ≡ header_place (fields_of header.now) c decl.now }
 {
     let name = decl.name.as_slice();
     let mut found = None;
@@ -47,8 +47,8 @@ pub(crate) fn column_places(
 ) -> Result<Vec<usize>, TableFault>
     requires { length cols.now ≤ COLUMN_LIMIT }
     ensures count { IfOk result (λ places. length places.items ≡ length cols.now) }
-    ensures ok { IfOk result (λ places. all_or_first (numbered (column_place (fields_of header.now)) 0 cols.now) ≡ Ok places.items) }
-    ensures fault { IfErr result (λ fault. (fault ≡ NoMemory) ⊎ (all_or_first (numbered (column_place (fields_of header.now)) 0 cols.now) ≡ Err fault)) }
+    ensures ok { IfOk result (λ places. all_or_first (numbered (header_place (fields_of header.now)) 0 cols.now) ≡ Ok places.items) }
+    ensures fault { IfErr result (λ fault. (fault ≡ NoMemory) ⊎ (all_or_first (numbered (header_place (fields_of header.now)) 0 cols.now) ≡ Err fault)) }
 {
     let mut places = Vec::new(alloc);
     for (c, decl) in cols.as_slice().iter().enumerate() {
@@ -67,7 +67,7 @@ fn is_blank_field(field: &[u8]) -> bool
 /// The int of a field in an int column, if it has one.
 fn int_in(def: &Option<Value>, field: &[u8]) -> Option<i64>
     requires { IfSome def.now (λ value. Fits (kinds.Int 0) value) }
-    ensures { option_map values.Int result ≡ int_value def.now field.now }
+    ensures { option_map values.Int result ≡ int_field_value def.now field.now }
 {
     match def {
         Some(Value::Int(number)) if is_blank_field(field) => Some(*number as i64),
@@ -128,7 +128,7 @@ fn push_values(
 ) -> Result<(), TableFault>
     requires columns { AreColumns cols.now }
     requires places { length places.now ≡ length cols.now }
-    requires kinds { rel.old.kinds ≡ kinds_of cols.now }
+    requires kinds { rel.old.kinds ≡ declared_kinds cols.now }
     requires begun { rel.old.begun ≡ [] }
     requires room { length rel.old.rows < ROW_LIMIT }
     ensures kinds { rel.new.kinds ≡ rel.old.kinds }
@@ -154,7 +154,7 @@ pub(crate) fn push_record(
 ) -> Result<(), TableFault>
     requires columns { AreColumns cols.now }
     requires places { length places.now ≡ length cols.now }
-    requires kinds { rel.old.kinds ≡ kinds_of cols.now }
+    requires kinds { rel.old.kinds ≡ declared_kinds cols.now }
     requires begun { rel.old.begun ≡ [] }
     requires count { length rel.old.rows + 1 ≡ nth }
     requires few { length rel.old.rows ≤ ROW_LIMIT }

@@ -2,7 +2,7 @@
 ghost use Rattle.std.specs.Prelude.{◌≡◌, ◌≢◌, ◌⊎◌, ◌<◌, ◌≤◌, ◌++◌, List, [], length, All, IfOk, IfErr, OnOk, Ok, Err};
 ghost use Rattle.smk_base.specs.declared.rel.TheConstants.{ROW_LIMIT};
 ghost use Rattle.smk_base.specs.declared.fault.TableFault.TheVariants.{NoMemory};
-ghost use Rattle.smk_model.specs.Tables.{AreColumns, kinds_of};
+ghost use Rattle.smk_model.specs.Tables.{AreColumns, declared_kinds};
 ghost use Rattle.smk_table.specs.Pieces.{Part, part_behind, parts_behind, rows_behind, Gives, GivesAll};
 
 use smk_base::{ColDecls, ROW_LIMIT, Rel, TableFault};
@@ -35,9 +35,9 @@ fn add_part(
     part: Result<Rel, TableFault>,
 ) -> Result<Rel, TableFault>
     requires columns { AreColumns cols.now }
-    requires kinds { whole.kinds ≡ kinds_of cols.now }
-    requires part { IfOk part (λ rel. rel.kinds ≡ kinds_of cols.now) }
-    ensures kinds { IfOk result (λ rel. rel.kinds ≡ kinds_of cols.now) }
+    requires kinds { whole.kinds ≡ declared_kinds cols.now }
+    requires part { IfOk part (λ rel. rel.kinds ≡ declared_kinds cols.now) }
+    ensures kinds { IfOk result (λ rel. rel.kinds ≡ declared_kinds cols.now) }
     ensures rows { (read : Part) → Gives cols.now read part → Gives cols.now (rows_behind whole.rows read) result }
 {
     match part {
@@ -63,9 +63,9 @@ pub(crate) fn join_parts(
     parts: Vec<Result<Rel, TableFault>>,
 ) -> Result<Rel, TableFault>
     requires columns { AreColumns cols.now }
-    requires kinds { none.kinds ≡ kinds_of cols.now }
+    requires kinds { none.kinds ≡ declared_kinds cols.now }
     requires empty { none.rows ≡ [] }
-    requires parts { All (λ part. IfOk part (λ rel. rel.kinds ≡ kinds_of cols.now)) parts.items }
+    requires parts { All (λ part. IfOk part (λ rel. rel.kinds ≡ declared_kinds cols.now)) parts.items }
     ensures { (read : List Part) → GivesAll cols.now read parts.items → Gives cols.now (parts_behind 0 read) result }
 {
     let mut whole = none;

@@ -4,7 +4,7 @@ ghost use Rattle.csv.specs.Reading.{records, default_config};
 ghost use Rattle.smk_base.specs.Marks.{begins_with_mark};
 ghost use Rattle.smk_base.specs.declared.fault.TableFault.TheVariants.{NoMemory};
 ghost use Rattle.smk_base.specs.declared.workers.TheConstants.{WORKER_LIMIT};
-ghost use Rattle.smk_model.specs.Tables.{AreColumns, kinds_of, table_of};
+ghost use Rattle.smk_model.specs.Tables.{AreColumns, declared_kinds, table_of};
 ghost use Rattle.smk_table.specs.Cuts.{read_of};
 ghost use Rattle.smk_table.specs.CsvReader.{IsBetween, records_left};
 ghost use Rattle.smk_table.specs.Pieces.{Gives, HasHeader, behind_header, rows_from, parts_of, parts_behind};
@@ -187,7 +187,7 @@ pub fn read_table_in_pieces<R: Threads + Sync, G: Gate + Sync>(
     requires some { 1 ≤ workers }
     requires few { workers ≤ WORKER_LIMIT }
     ensures rows { IfOk result (λ table. table_of cols.now bytes.now ≡ Ok table.rows) }
-    ensures kinds { IfOk result (λ table. table.kinds ≡ kinds_of cols.now) }
+    ensures kinds { IfOk result (λ table. table.kinds ≡ declared_kinds cols.now) }
     ensures fault { IfErr result (λ fault. (fault ≡ NoMemory) ⊎ (table_of cols.now bytes.now ≡ Err fault)) }
 {
     let texts = pieces(alloc, without_mark(bytes), workers, least)?;

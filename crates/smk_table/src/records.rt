@@ -1,6 +1,6 @@
 ghost use Rattle.std.specs.Prelude.{◌≡◌, ◌⊎◌, ◌<◌, ◌≤◌, [], length, IfOk, IfErr, OnOk, Ok, Err};
 ghost use Rattle.smk_base.specs.declared.fault.TableFault.TheVariants.{NoMemory};
-ghost use Rattle.smk_model.specs.Tables.{AreColumns, IsBase, table_of, table_of_records, kinds_of, all_or_first, numbered, record_row};
+ghost use Rattle.smk_model.specs.Tables.{AreColumns, IsBase, table_of, table_of_records, declared_kinds, all_or_first, numbered, record_row};
 ghost use Rattle.smk_table.specs.CsvReader.{IsBetween, records_left};
 
 use crate::csv_reader::{next_record, reader_of};
@@ -14,7 +14,7 @@ use std::alloc::{AllocError, Global};
 pub fn read_table(alloc: Global, bytes: &[u8], cols: &ColDecls) -> Result<Table, TableFault>
     requires { AreColumns cols.now }
     ensures rows { IfOk result (λ table. table_of cols.now bytes.now ≡ Ok table.rows) }
-    ensures kinds { IfOk result (λ table. table.kinds ≡ kinds_of cols.now) }
+    ensures kinds { IfOk result (λ table. table.kinds ≡ declared_kinds cols.now) }
     ensures fault { IfErr result (λ fault. (fault ≡ NoMemory) ⊎ (table_of cols.now bytes.now ≡ Err fault)) }
 {
     let mut reader = reader_of(alloc, without_mark(bytes));
@@ -32,7 +32,7 @@ fn read_records(
     requires between { IsBetween reader.old }
     requires columns { AreColumns cols.now }
     ensures rows { IfOk result (λ table. table_of_records cols.now (records_left reader.old) ≡ Ok table.rows) }
-    ensures kinds { IfOk result (λ table. table.kinds ≡ kinds_of cols.now) }
+    ensures kinds { IfOk result (λ table. table.kinds ≡ declared_kinds cols.now) }
     ensures fault { IfErr result (λ fault. (fault ≡ NoMemory) ⊎ (table_of_records cols.now (records_left reader.old) ≡ Err fault)) }
 {
     if !next_record(reader, row)? {
@@ -48,7 +48,7 @@ fn read_records(
 /// No row of the kinds of the declared columns.
 pub(crate) fn empty_rel(alloc: Global, cols: &ColDecls) -> Result<RelBuilder, AllocError>
     requires { AreColumns cols.now }
-    ensures { IfOk result (λ rel. rel ≡ record { kinds = kinds_of cols.now; rows = []; begun = [] }) }
+    ensures { IfOk result (λ rel. rel ≡ record { kinds = declared_kinds cols.now; rows = []; begun = [] }) }
 {
     let mut kinds = [Kind::Text; 16];
     for (c, decl) in cols.as_slice().iter().enumerate() {
@@ -69,10 +69,10 @@ pub(crate) fn read_rows(
     requires between { IsBetween reader.old }
     requires columns { AreColumns cols.now }
     requires places { length places.now ≡ length cols.now }
-    requires kinds { rel.old.kinds ≡ kinds_of cols.now }
+    requires kinds { rel.old.kinds ≡ declared_kinds cols.now }
     requires empty { rel.old.rows ≡ [] }
     requires begun { rel.old.begun ≡ [] }
-    ensures kinds { rel.new.kinds ≡ kinds_of cols.now }
+    ensures kinds { rel.new.kinds ≡ declared_kinds cols.now }
     ensures begun { OnOk result (rel.new.begun ≡ []) }
     ensures rows { IfOk result (λ _. all_or_first (numbered (record_row cols.now places.now width) 1 (records_left reader.old)) ≡ Ok rel.new.rows) }
     ensures fault { IfErr result (λ fault. (fault ≡ NoMemory) ⊎ (all_or_first (numbered (record_row cols.now places.now width) 1 (records_left reader.old)) ≡ Err fault)) }

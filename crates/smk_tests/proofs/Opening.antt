@@ -14,7 +14,7 @@ use Rattle.smk_base.specs.declared.book.catalog.ViewInfo.{ViewInfo}
 use Rattle.smk_model.specs.Expanded.{expanded, dependency_names, HasNoDependency}
 use Rattle.smk_model.specs.Limits.{KeepsLimits}
 use Rattle.smk_model.specs.Profiles.{AreDependencies}
-use Rattle.smk_model.specs.Tables.{kinds_of}
+use Rattle.smk_model.specs.Tables.{declared_kinds}
 use Rattle.smk_model.specs.Typing.{types}
 use Rattle.smk_model.specs.Catalogs.{ViewFits, table_kinds, each_table_kinds}
 use Rattle.smk_model.specs.Selection.{ScansFit, PlanFits, leaf_kinds, each_kinds, nodes}
@@ -35,7 +35,7 @@ pub is_shown : (book made : Book) (fds : List (List ℕ)) (catalog : CatalogImag
 is_shown book made fds catalog e names typed = subst (AreDependencies catalog) (sym names) (expanded_stands.shown (book_image book) catalog (ap types (sym e) ∙ typed))
 
 -- the kinds of a table are those of its declared columns
-pub kinds_declared : (info : TableInfo) (kinds : List Kind) → kinds ≡ kinds_of info.cols → kinds ≡ table_kinds info
+pub kinds_declared : (info : TableInfo) (kinds : List Kind) → kinds ≡ declared_kinds info.cols → kinds ≡ table_kinds info
 kinds_declared info kinds is = is ∙ sym (map_map (λ (column : Column). column.kind) (λ (col : ColDecl). record { name = col.name; kind = col.kind }) info.cols)
 
 -- there are as many tables as infos

@@ -3,7 +3,7 @@ use Rattle.std.proofs.Common.{◌≡◌, ◌∙◌, ◌<◌, ◌+◌, ◌++◌, 
 use Rattle.std.specs.Prelude.{IfErr}
 use Rattle.std.specs.List.{flat_map}
 use Rattle.smk_model.specs.Readings.{Reading}
-use Rattle.smk_model.specs.Reports.{Told, report_told, lines_told, script_told, report_of}
+use Rattle.smk_model.specs.Reports.{LinesTold, report_told, lines_told, script_told, report_of}
 use Rattle.smk_model.specs.Values.{Row}
 use Rattle.smk_model.specs.ViewTexts.{views_text}
 use Rattle.smk_model.specs.Selection.{each_rows}
@@ -120,7 +120,7 @@ whole_part X a b c rose text rest (Ok x) wants p q = appends_more a b c text res
 whole_part X a b c rose text rest (Err stop) wants p q = wants_stop X a c rose (text ++ rest) stop wants (front_of a c (text ++ rest) [] (text ++ rest) (appends_more a b c text rest p q) (sym (append-nil (text ++ rest))))
 
 -- the counts of the views and of the lines are those of the report
-pub report_counts : (book : Workbook) (told : Told) (views lines : Counts) (result : Result Counts Stop) → views ≡ text_counted (views_text book) → lines ≡ counts_told told → IfOk result (λ both. both ≡ counts_together views lines)
+pub report_counts : (book : Workbook) (told : LinesTold) (views lines : Counts) (result : Result Counts Stop) → views ≡ text_counted (views_text book) → lines ≡ counts_told told → IfOk result (λ both. both ≡ counts_together views lines)
     → IfOk result (λ counts. counts ≡ counts_of (report_told book told))
 report_counts book told views lines (Ok both) e f g =
     g ∙ ap (λ k. counts_together k lines) e ∙ ap (counts_together (text_counted (views_text book))) f
@@ -137,4 +137,4 @@ begun_told session fds added said begun = ap (λ b. lines_told (said_of session.
 pub then_lines : (X : Type 0) (session : SessionImage) (fds : List (List ℕ)) (added : List (List Row)) (said : List Reading) (a b c : Option (List ℕ)) (rose_here rose : Type 0) (result : Result X Stop) → session.brushes ≡ [] → (rose_here → rose)
     → Appends a b (views_text (workbook_of session)) → PutsPieces (lines_told (said_of session.catalog fds) (state_of session) 1 added said).text rose_here b c result → PutsPieces (report_of (workbook_of session) fds added said).text rose a c result
 then_lines X session fds added said a b c rose_here rose result begun wide p q =
-    then_rest X a b c rose_here rose (views_text (workbook_of session)) (script_told (workbook_of session) fds added said).text result wide p (subst (λ (t : Told). PutsPieces t.text rose_here b c result) (begun_told session fds added said begun) q)
+    then_rest X a b c rose_here rose (views_text (workbook_of session)) (script_told (workbook_of session) fds added said).text result wide p (subst (λ (t : LinesTold). PutsPieces t.text rose_here b c result) (begun_told session fds added said begun) q)

@@ -7,7 +7,7 @@ use Rattle.smk_base.specs.declared.fault.Fault.{Fault}
 use Rattle.smk_model.specs.Conversation.{TalkTurn, Replied, Unbrought, ReadOnly, Forgone, TooLong, TalkState, line_of, turn_after, turn_told, turns_told, FitsTalk}
 use Rattle.smk_model.specs.Outcome.{Held, appended_at}
 use Rattle.smk_model.specs.Session.{State}
-use Rattle.smk_model.specs.Reports.{BookSaid, Told, nothing_told, followed_by}
+use Rattle.smk_model.specs.Reports.{BookSaid, LinesTold, nothing_told, followed_by}
 use Rattle.smk_model.specs.TalkStarts.{BringsBy}
 use Rattle.smk_model.specs.Values.{Row}
 use Rattle.smk_outside.proofs.Stretches as stretches
@@ -61,7 +61,7 @@ sides false false true false = refl
 sides false false false d = refl
 
 -- a line of turns is turned down where one of either part is
-down_either : (a b c : Told) → c.refused ≡ a.refused + b.refused → c.unread ≡ a.unread + b.unread → is_down c ≡ (is_down a || is_down b)
+down_either : (a b c : LinesTold) → c.refused ≡ a.refused + b.refused → c.unread ≡ a.unread + b.unread → is_down c ≡ (is_down a || is_down b)
 down_either a b c r u =
     ap (λ n. nat_lt 0 n || nat_lt 0 c.unread) r ∙ ap (λ n. nat_lt 0 (a.refused + b.refused) || nat_lt 0 n) u
     ∙ ap (λ t. t || nat_lt 0 (a.unread + b.unread)) (either a.refused b.refused)
@@ -69,13 +69,13 @@ down_either a b c r u =
     ∙ sides (nat_lt 0 a.refused) (nat_lt 0 b.refused) (nat_lt 0 a.unread) (nat_lt 0 b.unread)
 
 -- what one turn comes to
-one_down : (told : Told) → is_down told ≡ is_down (followed_by told nothing_told)
+one_down : (told : LinesTold) → is_down told ≡ is_down (followed_by told nothing_told)
 one_down told =
     let r : told.refused ≡ told.refused + 0 = omega arith in
     let u : told.unread ≡ told.unread + 0 = omega arith in
     ap (λ n. nat_lt 0 n || nat_lt 0 told.unread) r ∙ ap (λ n. nat_lt 0 (told.refused + 0) || nat_lt 0 n) u
 
-one_looks : (told : Told) (before after : ℕ) → after ≤ before + told.looks → after ≤ before + (followed_by told nothing_told).looks
+one_looks : (told : LinesTold) (before after : ℕ) → after ≤ before + told.looks → after ≤ before + (followed_by told nothing_told).looks
 one_looks told before after few = omega (arith, few)
 
 module _ (said : BookSaid) (read_only : Bool) (held : Option Held) where

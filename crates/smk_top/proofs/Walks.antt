@@ -4,7 +4,7 @@ use Rattle.std.proofs.lemmas.List.{length-append, drop_all}
 use Rattle.smk_base.specs.Marks.{after_marks}
 use Rattle.smk_model.specs.Lines.{lines}
 use Rattle.smk_model.specs.Readings.{Reading, IsReading, AreReadings, AreReadingsOf, no_line}
-use Rattle.smk_model.specs.Reports.{BookSaid, Told, nothing_told, followed_by, brings_rows, next_rows, rows_left, line_told, state_after, lines_told}
+use Rattle.smk_model.specs.Reports.{BookSaid, LinesTold, nothing_told, followed_by, brings_rows, next_rows, rows_left, line_told, state_after, lines_told}
 use Rattle.smk_model.specs.Session.{State}
 use Rattle.smk_model.specs.Values.{Row}
 use Rattle.smk_model.proofs.OneOutcome.{same_readings}
@@ -36,22 +36,22 @@ left_more catalog added [] reading = refl
 left_more catalog added (r ∷ before) reading = left_more catalog (rows_left (brings_rows catalog.catalog r) added) before reading
 
 -- parts follow one another
-abbrev told_by : List ℕ → ℕ → ℕ → ℕ → ℕ → Told
+abbrev told_by : List ℕ → ℕ → ℕ → ℕ → ℕ → LinesTold
 told_by t r f u l = record { text = t; replies = r; refused = f; unread = u; looks = l }
 
-told_same : (a b : Told) → a.text ≡ b.text → a.replies ≡ b.replies → a.refused ≡ b.refused → a.unread ≡ b.unread → a.looks ≡ b.looks → a ≡ b
+told_same : (a b : LinesTold) → a.text ≡ b.text → a.replies ≡ b.replies → a.refused ≡ b.refused → a.unread ≡ b.unread → a.looks ≡ b.looks → a ≡ b
 told_same a b = by a.text b.text a.replies b.replies a.refused b.refused a.unread b.unread a.looks b.looks
   where
     by : (t t' : List ℕ) (r r' f f' u u' l l' : ℕ) → t ≡ t' → r ≡ r' → f ≡ f' → u ≡ u' → l ≡ l' → told_by t r f u l ≡ told_by t' r' f' u' l'
     by t t' r r' f f' u u' l l' a b c d e = rw (a, b, c, d, e) refl
 
-followed_assoc : (a b c : Told) → followed_by (followed_by a b) c ≡ followed_by a (followed_by b c)
+followed_assoc : (a b c : LinesTold) → followed_by (followed_by a b) c ≡ followed_by a (followed_by b c)
 followed_assoc a b c = told_same _ _ (append_assoc a.text b.text c.text) (omega arith) (omega arith) (omega arith) (omega arith)
 
-followed_none : (a : Told) → followed_by a nothing_told ≡ a
+followed_none : (a : LinesTold) → followed_by a nothing_told ≡ a
 followed_none a = told_same _ _ (append-nil a.text) (omega arith) (omega arith) (omega arith) (omega arith)
 
-none_followed : (a : Told) → followed_by nothing_told a ≡ a
+none_followed : (a : LinesTold) → followed_by nothing_told a ≡ a
 none_followed a = told_same _ _ refl (omega arith) (omega arith) (omega arith) (omega arith)
 
 told_append : (catalog : BookSaid) (state : State) (added : List (List Row)) (n m : ℕ) (before behind : List Reading) → m ≡ n + length before
@@ -101,7 +101,7 @@ told_on catalog k state now added rest number said reading count e f h =
     ∙ ap (followed_by (lines_told catalog state 1 added said)) (followed_none (line_told catalog (state_through catalog state added said) (number + 1) (next_rows (left_through catalog added said)) reading))
     ∙ rw (e, f, h) refl
 
-counts_on : (a b : Told) → counts_together (counts_told a) (counts_told b) ≡ counts_told (followed_by a b)
+counts_on : (a b : LinesTold) → counts_together (counts_told a) (counts_told b) ≡ counts_told (followed_by a b)
 counts_on a b = ap (λ n. record { replies = a.replies + b.replies; refused = a.refused + b.refused; unread = a.unread + b.unread; bytes = n }) (sym (length-append a.text b.text))
 
 -- behind the next line
@@ -124,13 +124,13 @@ walk_on catalog k state now later added rest behind script line from next number
       written = rw here (appends_more a b c (lines_told catalog state 1 added walked.said).text (line_told k now (number + 1) (next_rows rest) reading).text walked.written put);
       leaves = after ∙ rw (same, walked.leaves, walked.left) (sym (through_more catalog state added walked.said reading));
       left = left ∙ rw (same, walked.left) (sym (left_more catalog added walked.said reading));
-      looked = omega (arith, looked, walked.looked, ap (λ (t : Told). t.looks) here);
+      looked = omega (arith, looked, walked.looked, ap (λ (t : LinesTold). t.looks) here);
     } in
     (on, λ counts one both e f g. g ∙ rw (e, f) (counts_on (lines_told catalog state 1 added walked.said) (line_told k now (number + 1) (next_rows rest) reading)) ∙ ap counts_told (sym here))
 
 -- the lines so far are the first of all
 all_told : (catalog : BookSaid) (state : State) (added : List (List Row)) (texts behind : List (List ℕ)) (script : List ℕ) (done said : List Reading) → lines script ≡ texts ++ behind → AreReadings texts done → AreReadings (lines script) said
-    → (rest : Told) × (lines_told catalog state 1 added said ≡ followed_by (lines_told catalog state 1 added done) rest)
+    → (rest : LinesTold) × (lines_told catalog state 1 added said ≡ followed_by (lines_told catalog state 1 added done) rest)
 all_told catalog state added texts behind script done said cut reads all =
     let more = rest_said texts behind done said reads (subst (λ (l : List (List ℕ)). AreReadings l said) cut all) in
     (lines_told catalog (state_through catalog state added done) (1 + length done) (left_through catalog added done) more.0, ap (lines_told catalog state 1 added) more.1 ∙ told_append catalog state added 1 (1 + length done) done more.0 refl)
@@ -141,7 +141,7 @@ pub walk_wants : (catalog : BookSaid) (state now : State) (added rest : List (Li
     → AppendsPart a b (lines_told catalog state 1 added said).text × (looks ≤ first + (lines_told catalog state 1 added said).looks)
 walk_wants catalog state now added rest script from number a b first looks walked said all =
     let more = all_told catalog state added walked.texts _ script walked.said said walked.cut walked.reads all in
-    (front_of a b (lines_told catalog state 1 added walked.said).text more.0.text _ walked.written (ap (λ (t : Told). t.text) more.1), omega (arith, walked.looked, ap (λ (t : Told). t.looks) more.1))
+    (front_of a b (lines_told catalog state 1 added walked.said).text more.0.text _ walked.written (ap (λ (t : LinesTold). t.text) more.1), omega (arith, walked.looked, ap (λ (t : LinesTold). t.looks) more.1))
 
 -- the writing stops in the next line
 pub walk_stops : (X Y : Type 0) (catalog k : BookSaid) (state now : State) (added rest : List (List Row)) (script line : List ℕ) (from next number : ℕ) (a b c : Option (List ℕ)) (rose_here rose : Type 0) (first looks more : ℕ) (reading : Reading) (stop : Stop)
@@ -155,8 +155,8 @@ walk_stops X Y catalog k state now added rest script line from next number a b c
     let cut : lines script ≡ (walked.texts ++ line ∷ []) ++ lines (drop next script) = walked.cut ∙ ap (λ rest. walked.texts ++ rest) cut ∙ sym (append_assoc walked.texts (line ∷ []) (lines (drop next script))) in
     let behind = all_told catalog state added (walked.texts ++ line ∷ []) _ script (walked.said ++ reading ∷ []) said cut (readings_more walked.texts walked.said line reading walked.reads is) all in
     let whole = behind.1 ∙ ap (λ t. followed_by t behind.0) here in (
-      next_stops X Y a b c rose_here rose (lines_told catalog state 1 added walked.said).text (line_told k now (number + 1) (next_rows rest) reading).text behind.0.text _ stop (ap (λ (t : Told). t.text) whole) wide walked.written put,
-      omega (arith, walked.looked, looked, ap (λ (t : Told). t.looks) whole),
+      next_stops X Y a b c rose_here rose (lines_told catalog state 1 added walked.said).text (line_told k now (number + 1) (next_rows rest) reading).text behind.0.text _ stop (ap (λ (t : LinesTold). t.text) whole) wide walked.written put,
+      omega (arith, walked.looked, looked, ap (λ (t : LinesTold). t.looks) whole),
     )
 
 -- behind the last line

@@ -1,6 +1,6 @@
 -- Counts: of two parts together, of a text that no line says, of what lines come to, and of a report.
 use Rattle.std.specs.Prelude.{ℕ, ◌+◌, List, length}
-use Rattle.smk_model.specs.Reports.{Told, Report}
+use Rattle.smk_model.specs.Reports.{LinesTold, Report}
 use Rattle.smk_top.specs.declared.counts.Counts.{Counts}
 
 abbrev pub counts_together : Counts → Counts → Counts
@@ -14,7 +14,7 @@ counts_together a b = record {
 abbrev pub text_counted : List ℕ → Counts
 text_counted text = record { replies = 0; refused = 0; unread = 0; bytes = length text }
 
-abbrev pub counts_told : Told → Counts
+abbrev pub counts_told : LinesTold → Counts
 counts_told told = record { replies = told.replies; refused = told.refused; unread = told.unread; bytes = length told.text }
 
 abbrev pub counts_of : Report → Counts

@@ -2,7 +2,7 @@
 use Rattle.std.specs.Prelude.{◌≡◌, ◌≤◌, ◌+◌, ℕ, Bool, ◌||◌, nat_lt, List, [], length, Option, Some, None}
 use Rattle.smk_model.specs.Conversation.{TalkTurn, TalkState, line_of, turn_after, turn_block, turn_told, turn_text, turns_told, session_after, FitsTalk}
 use Rattle.smk_model.specs.Outcome.{Held}
-use Rattle.smk_model.specs.Reports.{BookSaid, Told}
+use Rattle.smk_model.specs.Reports.{BookSaid, LinesTold}
 use Rattle.smk_model.specs.Session.{State}
 use Rattle.smk_model.specs.TalkStarts.{BringsBy, FailedReads, misreads}
 use Rattle.smk_outside.specs.Conversing.{Rules, Stretch, Cause}
@@ -18,7 +18,7 @@ abbrev pub talk_rules : BookSaid → Rules TalkState TalkTurn
 talk_rules said = record { line = line_of; texts = turn_block said; next = turn_after said }
 
 -- whether a line that comes to this is refused or not read
-abbrev pub is_down : Told → Bool
+abbrev pub is_down : LinesTold → Bool
 is_down told = nat_lt 0 told.refused || nat_lt 0 told.unread
 
 -- a line, by its bytes, is answered by a text, in one of the turns that may be

@@ -16,7 +16,7 @@ use Rattle.smk_base.specs.declared.book.limits.TheConstants.{NODE_LIMIT}
 use Rattle.smk_model.specs.Asks.{AskPlan, asked_plan, chain, scan_of, step_after, typed_steps}
 use Rattle.smk_model.specs.Catalogs.{each_table_kinds}
 use Rattle.smk_model.specs.Limits.{KeepsAskStep, KeepsStep}
-use Rattle.smk_model.specs.Names.{Typed, in_turn, kinds_of}
+use Rattle.smk_model.specs.Names.{Typed, in_turn, column_kinds}
 use Rattle.smk_model.specs.Plain.{leaves}
 use Rattle.smk_model.specs.Selection.{PlanFits, leaf_kinds, nodes, plan_kinds}
 use Rattle.smk_model.specs.TypedSteps.{TypedPlan, typed_pred, typed_items, typed_group}
@@ -103,8 +103,8 @@ table_with cols = record { name = []; file = []; cols = cols }
 -- typed steps fit the kinds of these columns, with one node more than there are steps
 pub record StepsFit (columns : List Column) (n : ℕ) (typed : TypedPlan) : Type 0 where
   pub chain : IsChain typed.plan
-  pub fits : PlanFits typed.plan (kinds_of columns ∷ [])
-  pub kinds : plan_kinds typed.plan (kinds_of columns ∷ []) ≡ kinds_of typed.columns
+  pub fits : PlanFits typed.plan (column_kinds columns ∷ [])
+  pub kinds : plan_kinds typed.plan (column_kinds columns ∷ []) ≡ column_kinds typed.columns
   pub size : nodes typed.plan ≡ n + 1
 
 pub steps_fit : (cols : List ColDecl) (steps : List AskStepImage) (typed : TypedPlan) → All Keeps steps → in_turn step_after (scan_of (map column_of cols)) steps ≡ Ok typed → StepsFit (map column_of cols) (length steps) typed
@@ -112,7 +112,7 @@ steps_fit cols steps typed all e =
     let table : TableInfo = table_with cols in
     let first : Chained table 1 (scan_of (map column_of cols)) = record { stands = scan_stands (table ∷ []) 0 (omega arith); chain = refl } in
     let held = chained_turn table 1 (scan_of (map column_of cols)) typed steps first all e in
-    let one : leaf_kinds typed.plan (each_table_kinds (table ∷ [])) ++ [] ≡ kinds_of (map column_of cols) ∷ [] = ap (λ ts. map (λ t. get_or (each_table_kinds (table ∷ [])) t []) ts ++ []) (chain_leaves typed.plan held.chain) in
+    let one : leaf_kinds typed.plan (each_table_kinds (table ∷ [])) ++ [] ≡ column_kinds (map column_of cols) ∷ [] = ap (λ ts. map (λ t. get_or (each_table_kinds (table ∷ [])) t []) ts ++ []) (chain_leaves typed.plan held.chain) in
     record {
       chain = held.chain;
       fits = subst (PlanFits typed.plan) one (held.stands.fits []);
@@ -130,18 +130,18 @@ steps_fail columns steps fault fails other = rw (fails other) refl
 
 -- what the parts of a chain keep
 pub record PartsFit (columns : List Column) (made : TypedSteps) : Type 0 where
-  pub fits : PlanFits (chain (map unary_of made.ops)) (kinds_of columns ∷ [])
-  pub kinds : plan_kinds (chain (map unary_of made.ops)) (kinds_of columns ∷ []) ≡ made.kinds
+  pub fits : PlanFits (chain (map unary_of made.ops)) (column_kinds columns ∷ [])
+  pub kinds : plan_kinds (chain (map unary_of made.ops)) (column_kinds columns ∷ []) ≡ made.kinds
   pub few : length made.ops ≤ NODE_LIMIT
 
 pub parts_fit : (columns : List Column) (n : ℕ) (typed : TypedPlan) (result : Result TypedSteps TypeFault) → n ≤ NODE_LIMIT → StepsFit columns n typed → Finds result (Ok (asked_plan typed)) steps_image → IfOk result (PartsFit columns)
 parts_fit columns n typed (Ok made) low fit found =
     let same : asked_plan typed ≡ steps_image made = ok_same _ _ found in
     let plan : typed.plan ≡ chain (map unary_of made.ops) = ap (λ (p : AskPlan). p.plan) same in
-    let kinds : kinds_of typed.columns ≡ made.kinds = ap (λ (p : AskPlan). p.kinds) same in
+    let kinds : column_kinds typed.columns ≡ made.kinds = ap (λ (p : AskPlan). p.kinds) same in
     record {
-      fits = subst (λ (p : Expr). PlanFits p (kinds_of columns ∷ [])) plan fit.fits;
-      kinds = ap (λ p. plan_kinds p (kinds_of columns ∷ [])) (sym plan) ∙ fit.kinds ∙ kinds;
+      fits = subst (λ (p : Expr). PlanFits p (column_kinds columns ∷ [])) plan fit.fits;
+      kinds = ap (λ p. plan_kinds p (column_kinds columns ∷ [])) (sym plan) ∙ fit.kinds ∙ kinds;
       few = omega (arith, low, fit.size, ap nodes plan, chain_nodes (map unary_of made.ops), length-map made.ops unary_of);
     }
 parts_fit columns n typed (Err fault) low fit found = tt

@@ -23,7 +23,7 @@ use Rattle.smk_base.specs.declared.book.type_fault.TypeFault.TheVariants.{Unknow
 use Rattle.smk_base.specs.Plans.{Expr, Leaf, Apply, Combine}
 use Rattle.smk_base.specs.Trees.{TreeImage, StmtImage, TableNode, ViewNode, BackNode, FwdNode, LinkNode, DependsNode}
 use Rattle.smk_base.specs.CatalogImage.{CatalogImage, ViewImage}
-use Rattle.smk_model.specs.Names.{in_turn, same_name, is_taken, column_named, kinds_of, same_sort}
+use Rattle.smk_model.specs.Names.{in_turn, same_name, is_taken, column_named, column_kinds, same_sort}
 use Rattle.smk_model.specs.Kinds.{AreAlike, kind_of}
 use Rattle.smk_model.specs.Tables.{IsBase, IsBaseColumn}
 use Rattle.smk_model.specs.Plain.{leaves}
@@ -31,7 +31,7 @@ use Rattle.smk_model.specs.Selection.{ScansFit, PlanFits, leaf_kinds, plan_kinds
 use Rattle.smk_model.specs.Expanded.{IsNoDependency}
 use Rattle.smk_model.specs.Limits.{KeepsStmt, KeepsDecls, KeepsPlan, IsInRange, DefaultInRange, is_table, is_view}
 use Rattle.smk_model.specs.TypedSteps.{TypedPlan, typed_group}
-use Rattle.smk_model.specs.Typing.{stmt_after, nothing_declared, columns_of, info_at, no_table, table_named, view_named, typed_plan, declared_kind, declared_column, decl_after, table_after, view_of, view_after, typed_extra, same_back, back_after, same_fwd, fwd_after, same_link, linked_to, all_links, to_after, link_after}
+use Rattle.smk_model.specs.Typing.{stmt_after, nothing_declared, columns_of, info_at, no_table, table_by_word, view_by_word, typed_plan, declared_kind, declared_column, decl_after, table_after, view_of, view_after, typed_extra, same_back, back_after, same_fwd, fwd_after, same_link, linked_to, all_links, to_after, link_after}
 use Rattle.smk_model.specs.Catalogs.{table_kinds, each_table_kinds, ViewFits, ExtraFits, BackFits, FwdFits, LinkFits, IsTyped}
 use Rattle.smk_typing.specs.Rest.{one_if}
 use Rattle.smk_typing.proofs.Results.{made_of, unless_ok, ok_keeps, in_turn_keeps}
@@ -101,18 +101,18 @@ decl_more old new decl held range e =
     let col = made_of (declared_column decl decl.def) _ new fresh.1 in
     ok_keeps ColumnsFit _ new col.2 (All-push IsBaseColumn old col.0 held (column_stands decl decl.def col.0 range col.1))
 
-view_is : (views : List ViewImage) (word : Word) (v : ℕ) → view_named views word ≡ Ok v → v < length views
+view_is : (views : List ViewImage) (word : Word) (v : ℕ) → view_by_word views word ≡ Ok v → v < length views
 view_is views word v e = named_within (λ (view : ViewImage). view.name) views word.name (UnknownView word.at) v e
 
-extra_stands : (columns : List Column) (extra : Extra) (asked : BackExtra) → typed_extra columns extra ≡ Ok asked → ExtraFits (kinds_of columns) asked
-extra_stands columns extras.Plain asked e = ok_keeps (ExtraFits (kinds_of columns)) _ asked e tt
+extra_stands : (columns : List Column) (extra : Extra) (asked : BackExtra) → typed_extra columns extra ≡ Ok asked → ExtraFits (column_kinds columns) asked
+extra_stands columns extras.Plain asked e = ok_keeps (ExtraFits (column_kinds columns)) _ asked e tt
 extra_stands columns (extras.By word) asked e =
     let found = made_of (column_named columns word) _ asked e in
-    ok_keeps (ExtraFits (kinds_of columns)) _ asked found.2 (named_is columns word found.0 found.1).0
+    ok_keeps (ExtraFits (column_kinds columns)) _ asked found.2 (named_is columns word found.0 found.1).0
 extra_stands columns (extras.Grouped at keys aggs) asked e =
     let group = made_of (typed_group columns at keys aggs) _ asked e in
     let stands = group_stands columns at keys aggs group.0 group.1 in
-    ok_keeps (ExtraFits (kinds_of columns)) _ asked group.2 (record { fits = stands.0; kinds_are = stands.1; named = length-map group.0.columns (λ (c : Column). c.name) ∙ sym (kinds_long group.0.columns) })
+    ok_keeps (ExtraFits (column_kinds columns)) _ asked group.2 (record { fits = stands.0; kinds_are = stands.1; named = length-map group.0.columns (λ (c : Column). c.name) ∙ sym (kinds_long group.0.columns) })
 
 -- a plan that stands, as a view
 view_stands : (tables : List TableInfo) (name : Word) (tree : TreeImage) (typed : TypedPlan) → KeepsPlan tree → typed_plan tables tree ≡ Ok typed → ViewFits tables (view_of name typed)
@@ -129,7 +129,7 @@ view_stands tables name tree typed keeps e =
 
 to_more : (catalog : CatalogImage) (v t : ℕ) (old new : List ℕ) (word : Word) → All (λ w. w < length catalog.views) old → Unit {0} → to_after catalog v t old word ≡ Ok new → All (λ w. w < length catalog.views) new
 to_more catalog v t old new word held any e =
-    let w = made_of (view_named catalog.views word) _ new e in
+    let w = made_of (view_by_word catalog.views word) _ new e in
     let other = unless_ok (nat_eq w.0 v) (SelfLink word.at) _ new w.2 in
     let fresh = unless_ok (list_any (same_link (record { view = v; table = t; to = w.0 })) (all_links catalog.links ++ linked_to v t old)) (RepeatedDeclaration word.at) (Ok (old ++ w.0 ∷ [])) new other.1 in
     ok_keeps (All (λ u. u < length catalog.views)) _ new fresh.1 (All-push (λ u. u < length catalog.views) old w.0 held (view_is catalog.views word w.0 w.1))
@@ -187,8 +187,8 @@ declares old backs fwds links typed b f l = (record { columns = typed.columns; v
 
 back_kept : (old new : CatalogImage) (at : ℕ) (view table : Word) (extra : Extra) → IsTyped old → back_after old at view table extra ≡ Ok new → Follows old 0 0 new
 back_kept old new at view table extra typed e =
-    let v = made_of (view_named old.views view) _ new e in
-    let t = made_of (table_named old.tables table) _ new v.2 in
+    let v = made_of (view_by_word old.views view) _ new e in
+    let t = made_of (table_by_word old.tables table) _ new v.2 in
     let asked = made_of (typed_extra (columns_of (info_at old.tables t.0)) extra) _ new t.2 in
     let back : Back = record { view = v.0; table = t.0; extra = asked.0 } in
     let fresh = unless_ok (list_any (same_back back) old.backs) (RepeatedDeclaration at) (Ok (record old { backs = old.backs ++ back ∷ [] })) new asked.2 in
@@ -197,8 +197,8 @@ back_kept old new at view table extra typed e =
 
 fwd_kept : (old new : CatalogImage) (at : ℕ) (table view : Word) → IsTyped old → fwd_after old at table view ≡ Ok new → Follows old 0 0 new
 fwd_kept old new at table view typed e =
-    let t = made_of (table_named old.tables table) _ new e in
-    let v = made_of (view_named old.views view) _ new t.2 in
+    let t = made_of (table_by_word old.tables table) _ new e in
+    let v = made_of (view_by_word old.views view) _ new t.2 in
     let fwd : Fwd = record { table = t.0; view = v.0 } in
     let fresh = unless_ok (list_any (same_fwd fwd) old.fwds) (RepeatedDeclaration at) (Ok (record old { fwds = old.fwds ++ fwd ∷ [] })) new v.2 in
     let fit : FwdFits (length old.tables) (length old.views) fwd = record { table = table_is old.tables table t.0 t.1; view = view_is old.views view v.0 v.1 } in
@@ -206,8 +206,8 @@ fwd_kept old new at table view typed e =
 
 link_kept : (old new : CatalogImage) (view table : Word) (words : List Word) → IsTyped old → link_after old view table words ≡ Ok new → Follows old 0 0 new
 link_kept old new view table words typed e =
-    let v = made_of (view_named old.views view) _ new e in
-    let t = made_of (table_named old.tables table) _ new v.2 in
+    let v = made_of (view_by_word old.views view) _ new e in
+    let t = made_of (table_by_word old.tables table) _ new v.2 in
     let to = made_of (in_turn (to_after old v.0 t.0) [] words) _ new t.2 in
     let link : LinkInfo = record { view = v.0; table = t.0; to = to.0 } in
     let low = in_turn_keeps (All (λ w. w < length old.views)) (λ w. Unit {0}) (to_after old v.0 t.0) (to_more old v.0 t.0) [] to.0 words (All-nil _) (λ k d p. tt) to.1 in

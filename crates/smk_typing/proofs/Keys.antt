@@ -17,7 +17,7 @@ use Rattle.smk_base.specs.CatalogImage.{view_image}
 use Rattle.smk_base.specs.declared.book.limits.TheConstants.{TABLE_LIMIT}
 use Rattle.smk_base.specs.declared.rel.TheConstants.{COLUMN_LIMIT}
 use Rattle.smk_model.specs.Names.{unless}
-use Rattle.smk_model.specs.Typing.{Link, same_form, same_back, same_fwd, same_link, all_links, linked_to, view_named, to_after}
+use Rattle.smk_model.specs.Typing.{Link, same_form, same_back, same_fwd, same_link, all_links, linked_to, view_by_word, to_after}
 use Rattle.smk_typing.specs.declared.draft.form.Form.{Form}
 use Rattle.smk_typing.specs.contracts.draft.form.FormPartialEq.TheImpl.{ghosts}
 use Rattle.smk_typing.specs.Drafts.{over}
@@ -74,7 +74,7 @@ linked_to-push links view table to w =
     ∙ map-append link_key (links ++ linked_to view table to) _
 
 -- what one more linked view gives, where it is declared and isn't the first view, by the keys of the links
-pub to_after_is : (views : List ViewInfo) (links : List LinkInfo) (keys : List (ℕ × ℕ × ℕ)) (view table : ℕ) (to : List ℕ) (word : Word) (w : ℕ) (repeated : Bool) → view_named (map view_image views) word ≡ Ok w → nat_eq w view ≡ false
+pub to_after_is : (views : List ViewInfo) (links : List LinkInfo) (keys : List (ℕ × ℕ × ℕ)) (view table : ℕ) (to : List ℕ) (word : Word) (w : ℕ) (repeated : Bool) → view_by_word (map view_image views) word ≡ Ok w → nat_eq w view ≡ false
     → keys ≡ map link_key (all_links links ++ linked_to view table to) → list_any (λ key. nat_eq view key.0 && nat_eq table key.1 && nat_eq w key.2) keys ≡ repeated
     → to_after (over views links) view table to word ≡ unless repeated (RepeatedDeclaration word.at) (Ok (to ++ w ∷ []))
 to_after_is views links keys view table to word w repeated found other linked test =

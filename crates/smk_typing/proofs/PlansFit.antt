@@ -16,14 +16,14 @@ use Rattle.smk_base.specs.Plans.{Formula, Expr, Leaf, Apply, Combine, Unary, Sel
 use Rattle.smk_base.specs.Trees.{PredImage, TreeImage, ScanNode, StepNode, StepImage, SelectNode, ProjectNode, DistinctNode, GroupNode, JoinNode, ThetaNode, ProductNode, UnionAllNode, UnionNode}
 use Rattle.smk_base.specs.Rels.{kind_in}
 use Rattle.smk_base.specs.declared.rel.TheConstants.{COLUMN_LIMIT}
-use Rattle.smk_model.specs.Names.{in_turn, column_named, kinds_of, same_sort}
+use Rattle.smk_model.specs.Names.{in_turn, column_named, column_kinds, same_sort}
 use Rattle.smk_model.specs.Kinds.{AreAlike, FormulaFits, PairFits, Fits1, Fits2, FewTogether, kinds1, kinds2, wider, wider_kinds}
 use Rattle.smk_model.specs.Plain.{leaves, width}
 use Rattle.smk_model.specs.Selection.{ScansFit, PlanFits, leaf_kinds, plan_kinds, nodes}
 use Rattle.smk_model.specs.Limits.{KeepsTree, KeepsStep}
 use Rattle.smk_model.specs.Limits as limits
 use Rattle.smk_model.specs.TypedSteps.{TypedPlan, typed_pred, typed_items, typed_group, pair_after, share_a_name, joined, same_shape, united_column, united, united_plan}
-use Rattle.smk_model.specs.Typing.{table_named, info_at, no_table, columns_of, typed_plan, typed_step}
+use Rattle.smk_model.specs.Typing.{table_by_word, info_at, no_table, columns_of, typed_plan, typed_step}
 use Rattle.smk_model.specs.Catalogs.{table_kinds, each_table_kinds}
 use Rattle.smk_typing.proofs.Results.{made_of, unless_ok, ok_keeps, in_turn_keeps}
 use Rattle.smk_typing.proofs.StepsFit.{named_is, kinds_long, alike, pred_fits}
@@ -33,7 +33,7 @@ use Rattle.smk_typing.proofs.Lookups.{named_within}
 -- joins and unions
 
 abbrev PairsFit : List Column → List Column → List (ℕ × ℕ) → Type 0
-PairsFit lefts rights pairs = All (PairFits (kinds_of lefts) (kinds_of rights)) pairs
+PairsFit lefts rights pairs = All (PairFits (column_kinds lefts) (column_kinds rights)) pairs
 
 pair_more : (lefts rights : List Column) (old new : List (ℕ × ℕ)) (pair : PairTree) → PairsFit lefts rights old → Unit {0} → pair_after lefts rights old pair ≡ Ok new → PairsFit lefts rights new
 pair_more lefts rights old new pair made any e =
@@ -43,10 +43,10 @@ pair_more lefts rights old new pair made any e =
     let l = named_is lefts pair.left left.0 left.1 in
     let r = named_is rights pair.right right.0 right.1 in
     let like : AreAlike left.0.1 right.0.1 = alike left.0.1 right.0.1 whole.0 in
-    let fits : PairFits (kinds_of lefts) (kinds_of rights) (left.0.0, right.0.0) = (l.0, r.0, subst (λ (k : Kind). AreAlike (kind_in (kinds_of lefts) left.0.0) k) (sym r.1) (subst (λ (k : Kind). AreAlike k right.0.1) (sym l.1) like)) in
-    ok_keeps (PairsFit lefts rights) _ new whole.1 (All-push (PairFits (kinds_of lefts) (kinds_of rights)) old (left.0.0, right.0.0) made fits)
+    let fits : PairFits (column_kinds lefts) (column_kinds rights) (left.0.0, right.0.0) = (l.0, r.0, subst (λ (k : Kind). AreAlike (kind_in (column_kinds lefts) left.0.0) k) (sym r.1) (subst (λ (k : Kind). AreAlike k right.0.1) (sym l.1) like)) in
+    ok_keeps (PairsFit lefts rights) _ new whole.1 (All-push (PairFits (column_kinds lefts) (column_kinds rights)) old (left.0.0, right.0.0) made fits)
 
-shapes_fit : (lefts rights : List Column) → length lefts ≡ length rights → list_all (λ sides. same_sort sides.0.kind sides.1.kind) (zip lefts rights) ≡ true → AllZip AreAlike (kinds_of lefts) (kinds_of rights)
+shapes_fit : (lefts rights : List Column) → length lefts ≡ length rights → list_all (λ sides. same_sort sides.0.kind sides.1.kind) (zip lefts rights) ≡ true → AllZip AreAlike (column_kinds lefts) (column_kinds rights)
 shapes_fit [] [] e all = tt
 shapes_fit [] (r ∷ rs) e all = absurd (omega (arith, e))
 shapes_fit (l ∷ ls) [] e all = absurd (omega (arith, e))
@@ -55,31 +55,31 @@ shapes_fit (l ∷ ls) (r ∷ rs) e all =
     let even : length ls ≡ length rs = omega (arith, e) in
     (alike l.kind r.kind (ap not both.0), shapes_fit ls rs even both.1)
 
-wider_same : (lefts rights : List Column) → length lefts ≡ length rights → wider_kinds (kinds_of lefts) (kinds_of rights) ≡ kinds_of (map united_column (zip lefts rights))
+wider_same : (lefts rights : List Column) → length lefts ≡ length rights → wider_kinds (column_kinds lefts) (column_kinds rights) ≡ column_kinds (map united_column (zip lefts rights))
 wider_same [] rights e = refl
 wider_same (l ∷ ls) [] e = absurd (omega (arith, e))
 wider_same (l ∷ ls) (r ∷ rs) e = let even : length ls ≡ length rs = omega (arith, e) in ap (λ ks. wider l.kind r.kind ∷ ks) (wider_same ls rs even)
 
 -- what two inputs make fits them, and the columns have its kinds
 abbrev Fits2Made : Binary → List Column → List Column → List Column → Type 0
-Fits2Made op lefts rights columns = Fits2 op (kinds_of lefts) (kinds_of rights) × (kinds2 op (kinds_of lefts) (kinds_of rights) ≡ kinds_of columns)
+Fits2Made op lefts rights columns = Fits2 op (column_kinds lefts) (column_kinds rights) × (kinds2 op (column_kinds lefts) (column_kinds rights) ≡ column_kinds columns)
 
-united_parts : (at : ℕ) (lefts rights columns : List Column) → united at lefts rights ≡ Ok columns → AllZip AreAlike (kinds_of lefts) (kinds_of rights) × (wider_kinds (kinds_of lefts) (kinds_of rights) ≡ kinds_of columns)
+united_parts : (at : ℕ) (lefts rights columns : List Column) → united at lefts rights ≡ Ok columns → AllZip AreAlike (column_kinds lefts) (column_kinds rights) × (wider_kinds (column_kinds lefts) (column_kinds rights) ≡ column_kinds columns)
 united_parts at lefts rights columns e =
     let whole = unless_ok (not (same_shape lefts rights)) (UnionShape at) (Ok (map united_column (zip lefts rights))) columns e in
     let both = and_parts (nat_eq (length lefts) (length rights)) _ (not-false (same_shape lefts rights) whole.0) in
     let even : length lefts ≡ length rights = grind (arith, both.0) in
     let same : map united_column (zip lefts rights) ≡ columns = cc whole.1 in
-    (shapes_fit lefts rights even both.1, wider_same lefts rights even ∙ ap kinds_of same)
+    (shapes_fit lefts rights even both.1, wider_same lefts rights even ∙ ap column_kinds same)
 
 -- the columns of both sides are few together, and have the kinds of both sides
-joined_whole : (at : ℕ) (lefts rights columns : List Column) → joined at lefts rights ≡ Ok columns → FewTogether (kinds_of lefts) (kinds_of rights) × (kinds_of lefts ++ kinds_of rights ≡ kinds_of columns)
+joined_whole : (at : ℕ) (lefts rights columns : List Column) → joined at lefts rights ≡ Ok columns → FewTogether (column_kinds lefts) (column_kinds rights) × (column_kinds lefts ++ column_kinds rights ≡ column_kinds columns)
 joined_whole at lefts rights columns e =
     let first = unless_ok (share_a_name lefts rights) (DuplicateName at) _ columns e in
     let second = unless_ok (nat_lt COLUMN_LIMIT (length lefts + length rights)) (RowTooWide at) (Ok (lefts ++ rights)) columns first.1 in
     let same : lefts ++ rights ≡ columns = cc second.1 in
     let few : length lefts + length rights ≤ COLUMN_LIMIT = grind (arith, second.0) in
-    (omega (arith, few, kinds_long lefts, kinds_long rights), sym (map-append (λ (c : Column). c.kind) lefts rights) ∙ ap kinds_of same)
+    (omega (arith, few, kinds_long lefts, kinds_long rights), sym (map-append (λ (c : Column). c.kind) lefts rights) ∙ ap column_kinds same)
 
 joined_parts : (at : ℕ) (trees : List PairTree) (pairs : List (ℕ × ℕ)) (lefts rights columns : List Column) → in_turn (pair_after lefts rights) [] trees ≡ Ok pairs → joined at lefts rights ≡ Ok columns → Fits2Made (Equijoin pairs) lefts rights columns
 joined_parts at trees pairs lefts rights columns paired e =
@@ -99,7 +99,7 @@ pub record Stands (tables : List TableInfo) (n : ℕ) (typed : TypedPlan) : Type
   pub size : nodes typed.plan ≡ n
   pub scans : ScansFit (length tables) typed.plan
   pub fits : (more : List (List Kind)) → PlanFits typed.plan (leaf_kinds typed.plan (each_table_kinds tables) ++ more)
-  pub kinds : (more : List (List Kind)) → plan_kinds typed.plan (leaf_kinds typed.plan (each_table_kinds tables) ++ more) ≡ kinds_of typed.columns
+  pub kinds : (more : List (List Kind)) → plan_kinds typed.plan (leaf_kinds typed.plan (each_table_kinds tables) ++ more) ≡ column_kinds typed.columns
 
 pub scan_stands : (tables : List TableInfo) (t : ℕ) → t < length tables → Stands tables 1 (record { plan = Leaf t; columns = columns_of (info_at tables t) })
 scan_stands tables t below = record {
@@ -109,7 +109,7 @@ scan_stands tables t below = record {
   kinds = λ more. get_or-map table_kinds tables t no_table [] below;
 }
 
-step_stands : (tables : List TableInfo) (n : ℕ) (left : TypedPlan) (op : Unary) (columns : List Column) → Stands tables n left → Fits1 op (kinds_of left.columns) × (kinds1 op (kinds_of left.columns) ≡ kinds_of columns)
+step_stands : (tables : List TableInfo) (n : ℕ) (left : TypedPlan) (op : Unary) (columns : List Column) → Stands tables n left → Fits1 op (column_kinds left.columns) × (kinds1 op (column_kinds left.columns) ≡ column_kinds columns)
     → Stands tables (n + 1) (record { plan = Apply op left.plan; columns = columns })
 step_stands tables n left op columns stands made = record {
   size = ap (λ nodes. nodes + 1) stands.size;
@@ -132,12 +132,12 @@ both_stand : (tables : List TableInfo) (n m : ℕ) (left right : TypedPlan) (op 
 both_stand tables n m left right op columns l r made =
     let K : List (List Kind) = each_table_kinds tables in
     let behind : (more : List (List Kind)) → drop (width left.plan) (leaf_kinds left.plan K ++ (leaf_kinds right.plan K ++ more)) ≡ leaf_kinds right.plan K ++ more = λ more. behind_left K left.plan (leaf_kinds right.plan K ++ more) in
-    let right_kinds : (more : List (List Kind)) → plan_kinds right.plan (drop (width left.plan) (leaf_kinds left.plan K ++ (leaf_kinds right.plan K ++ more))) ≡ kinds_of right.columns = λ more. ap (plan_kinds right.plan) (behind more) ∙ r.kinds more in
-    let left_kinds : (more : List (List Kind)) → plan_kinds left.plan (leaf_kinds left.plan K ++ (leaf_kinds right.plan K ++ more)) ≡ kinds_of left.columns = λ more. l.kinds (leaf_kinds right.plan K ++ more) in
+    let right_kinds : (more : List (List Kind)) → plan_kinds right.plan (drop (width left.plan) (leaf_kinds left.plan K ++ (leaf_kinds right.plan K ++ more))) ≡ column_kinds right.columns = λ more. ap (plan_kinds right.plan) (behind more) ∙ r.kinds more in
+    let left_kinds : (more : List (List Kind)) → plan_kinds left.plan (leaf_kinds left.plan K ++ (leaf_kinds right.plan K ++ more)) ≡ column_kinds left.columns = λ more. l.kinds (leaf_kinds right.plan K ++ more) in
     let fit : (more : List (List Kind)) → PlanFits (Combine op left.plan right.plan) (leaf_kinds left.plan K ++ (leaf_kinds right.plan K ++ more)) = λ more. (
       l.fits (leaf_kinds right.plan K ++ more),
       subst (PlanFits right.plan) (sym (behind more)) (r.fits more),
-      subst (λ (ks : List Kind). Fits2 op ks (plan_kinds right.plan (drop (width left.plan) (leaf_kinds left.plan K ++ (leaf_kinds right.plan K ++ more))))) (sym (left_kinds more)) (subst (λ (ks : List Kind). Fits2 op (kinds_of left.columns) ks) (sym (right_kinds more)) made.0),
+      subst (λ (ks : List Kind). Fits2 op ks (plan_kinds right.plan (drop (width left.plan) (leaf_kinds left.plan K ++ (leaf_kinds right.plan K ++ more))))) (sym (left_kinds more)) (subst (λ (ks : List Kind). Fits2 op (column_kinds left.columns) ks) (sym (right_kinds more)) made.0),
     ) in
     record {
       size = omega (arith, l.size, r.size);
@@ -145,11 +145,11 @@ both_stand tables n m left right op columns l r made =
       fits = λ more. subst (PlanFits (Combine op left.plan right.plan)) (sym (leaves_two K left.plan right.plan op more)) (fit more);
       kinds = λ more. ap (plan_kinds (Combine op left.plan right.plan)) (leaves_two K left.plan right.plan op more)
           ∙ ap (λ ks. kinds2 op ks (plan_kinds right.plan (drop (width left.plan) (leaf_kinds left.plan K ++ (leaf_kinds right.plan K ++ more))))) (left_kinds more)
-          ∙ ap (kinds2 op (kinds_of left.columns)) (right_kinds more) ∙ made.1;
+          ∙ ap (kinds2 op (column_kinds left.columns)) (right_kinds more) ∙ made.1;
     }
 
 -- a table that a word names is there
-pub table_is : (tables : List TableInfo) (word : Word) (t : ℕ) → table_named tables word ≡ Ok t → t < length tables
+pub table_is : (tables : List TableInfo) (word : Word) (t : ℕ) → table_by_word tables word ≡ Ok t → t < length tables
 table_is tables word t e = named_within (λ (table : TableInfo). table.name) tables word.name (UnknownTable word.at) t e
 
 united_stands : (tables : List TableInfo) (n m at : ℕ) (op : Binary) (left right typed : TypedPlan) → ((l r : List Kind) → AllZip AreAlike l r → Fits2 op l r) → ((l r : List Kind) → kinds2 op l r ≡ wider_kinds l r)
@@ -163,7 +163,7 @@ united_stands tables n m at op left right typed fits kinds l r e =
 mutual
   pub plan_stands : (tables : List TableInfo) (tree : TreeImage) (typed : TypedPlan) → KeepsTree tree → typed_plan tables tree ≡ Ok typed → Stands tables (limits.nodes tree) typed
   plan_stands tables (ScanNode word) typed keeps e =
-      let found = made_of (table_named tables word) _ typed e in
+      let found = made_of (table_by_word tables word) _ typed e in
       ok_keeps (Stands tables 1) _ typed found.2 (scan_stands tables found.0 (table_is tables word found.0 found.1))
   plan_stands tables (StepNode at input what) typed keeps e =
       let left = made_of (typed_plan tables input) _ typed e in

@@ -87,8 +87,8 @@ impl Draft {
 }
 
 /// The number of the table that a word names.
-pub fn table_named(tables: &Indexed<TableInfo>, word: &Word) -> Result<u32, TypeFault>
-    ensures table { Finds result (typing.table_named tables.now word.now) (λ t. t) }
+pub fn table_by_word(tables: &Indexed<TableInfo>, word: &Word) -> Result<u32, TypeFault>
+    ensures table { Finds result (typing.table_by_word tables.now word.now) (λ t. t) }
     ensures within { IfOk result (λ t. t < length tables.now) }
 {
     match tables.place_of(&word.name) {
@@ -99,8 +99,8 @@ pub fn table_named(tables: &Indexed<TableInfo>, word: &Word) -> Result<u32, Type
 
 /// The number of the view that a word names.
 #[tactic(auto, using(crate::proofs::Keys::view_names))]
-pub fn view_named(views: &Indexed<ViewInfo>, word: &Word) -> Result<u32, TypeFault>
-    ensures { Finds result (typing.view_named (map view_image views.now) word.now) (λ v. v) }
+pub fn view_by_word(views: &Indexed<ViewInfo>, word: &Word) -> Result<u32, TypeFault>
+    ensures { Finds result (typing.view_by_word (map view_image views.now) word.now) (λ v. v) }
 {
     match views.place_of(&word.name) {
         Some(place) => Ok(place as u32),

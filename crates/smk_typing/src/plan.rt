@@ -18,7 +18,7 @@ mod sides;
 pub(crate) mod typed;
 
 use crate::draft::indexed::Indexed;
-use crate::draft::{columns_at, table_named};
+use crate::draft::{columns_at, table_by_word};
 use crate::plan::lists::{typed_group, typed_items, typed_pairs};
 use crate::plan::places::{boxed, boxes, put};
 use crate::plan::predicate::typed_pred;
@@ -41,7 +41,7 @@ fn put_scan(
     ensures plan { Finds result (typing.typed_plan tables.now (ScanNode word.now)) (λ _. plan_of typed.new) }
     ensures width { OnOk result (length typed.new.columns ≤ COLUMN_LIMIT) }
 {
-    let number = table_named(tables, word)?;
+    let number = table_by_word(tables, word)?;
     let columns = columns_at(alloc, tables, number)?;
     put(
         typed,
@@ -105,7 +105,7 @@ fn combine(alloc: Global, op: Op2, left: &mut Typed, right: &mut Typed) -> Resul
 /// Puts `where` over a typed input.
 fn select(alloc: Global, left: &mut Typed, tree: &PredTree) -> Result<(), TypeFault>
     requires { length left.old.columns ≤ COLUMN_LIMIT }
-    ensures plan { Finds result (steps.selected (plan_of left.old) (pred_image tree.now)) (λ _. plan_of left.new) }
+    ensures plan { Finds result (steps.selected_plan (plan_of left.old) (pred_image tree.now)) (λ _. plan_of left.new) }
     ensures width { OnOk result (length left.new.columns ≤ COLUMN_LIMIT) }
 {
     let pred = typed_pred(alloc, left.columns.as_slice(), tree)?;
@@ -142,7 +142,7 @@ fn group(
     trees: &[AggTree],
 ) -> Result<(), TypeFault>
     requires { length left.old.columns ≤ COLUMN_LIMIT }
-    ensures plan { Finds result (steps.grouped at (plan_of left.old) words.now trees.now) (λ _. plan_of left.new) }
+    ensures plan { Finds result (steps.grouped_plan at (plan_of left.old) words.now trees.now) (λ _. plan_of left.new) }
     ensures width { OnOk result (length left.new.columns ≤ COLUMN_LIMIT) }
 {
     let TypedGrouping {

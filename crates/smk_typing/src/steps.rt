@@ -5,7 +5,7 @@ ghost use Rattle.smk_base.specs.declared.book.limits.TheConstants.{NODE_LIMIT};
 ghost use Rattle.smk_base.specs.declared.rel.TheConstants.{COLUMN_LIMIT};
 ghost use Rattle.smk_model.specs.Asks.{asked_plan, chain, typed_steps};
 ghost use Rattle.smk_model.specs.Limits.{KeepsAskStep, KeepsSteps};
-ghost use Rattle.smk_model.specs.Names.{in_turn, kinds_of};
+ghost use Rattle.smk_model.specs.Names.{in_turn, column_kinds};
 ghost use Rattle.smk_model.specs.Selection.{PlanFits, plan_kinds};
 ghost use Rattle.smk_model.specs.Typing.{column_of};
 ghost use Rattle.smk_typing.specs.Answers.{Finds};
@@ -40,8 +40,8 @@ pub fn check_steps(
     requires width { length cols.now ≤ COLUMN_LIMIT }
     requires kept { KeepsSteps (map ask_step_image steps.now) }
     ensures steps { Finds result (typed_steps (map column_of cols.now) (map ask_step_image steps.now)) steps_image }
-    ensures fits { IfOk result (λ typed. PlanFits (chain (map unary_of typed.ops)) (kinds_of (map column_of cols.now) ∷ [])) }
-    ensures kinds { IfOk result (λ typed. plan_kinds (chain (map unary_of typed.ops)) (kinds_of (map column_of cols.now) ∷ []) ≡ typed.kinds) }
+    ensures fits { IfOk result (λ typed. PlanFits (chain (map unary_of typed.ops)) (column_kinds (map column_of cols.now) ∷ [])) }
+    ensures kinds { IfOk result (λ typed. plan_kinds (chain (map unary_of typed.ops)) (column_kinds (map column_of cols.now) ∷ []) ≡ typed.kinds) }
     ensures named { IfOk result (λ typed. length typed.names ≡ length typed.kinds) }
     ensures few { IfOk result (λ typed. length typed.ops ≤ NODE_LIMIT) }
 {

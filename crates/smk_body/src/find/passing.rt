@@ -18,7 +18,7 @@ use std::cmp::Ordering;
 const BLOCK: usize = 256;
 
 /// The places of the rows that meet a predicate, from one place up to another: behind those below the first they are those below the second.
-pub fn selected(
+pub fn selected_places(
     alloc: Global,
     rel: &Rel,
     pred: &Pred,

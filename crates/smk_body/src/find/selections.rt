@@ -8,7 +8,7 @@ ghost use Rattle.smk_model.specs.Lineage.{meeting};
 ghost use Rattle.smk_jobs.specs.Cuts.{AreParts, cut_at};
 ghost use Rattle.smk_body.specs.Cuts.{HasPlaces};
 
-use crate::find::passing::selected;
+use crate::find::passing::selected_places;
 use crate::find::places::Places;
 use smk_base::{Pred, Rel};
 use smk_jobs::{Crew, Work, cut_range, in_parts};
@@ -41,7 +41,7 @@ fn all_selected<R: Threads + Sync, C: Crew + Sync>(
     let workers = work.crew.parts();
     if workers == 1 {
         work.crew.arrive(0);
-        return selected(work.alloc, rel, pred, 0, rel.len());
+        return selected_places(work.alloc, rel, pred, 0, rel.len());
     }
     let parts = parts_selected(work, rel, pred, workers)?;
     one_behind_other(work.alloc, rel, pred, workers, parts.as_slice())
@@ -81,7 +81,7 @@ fn part_selected<C: Crew>(
 {
     crew.arrive(p);
     let (from, to) = cut_range(workers, rel.len(), p);
-    selected(alloc, rel, pred, from, to)
+    selected_places(alloc, rel, pred, from, to)
 }
 
 // The places of all parts, from those of each.

@@ -38,7 +38,7 @@ pub struct Opening<'a> {
 
 // A declaration that asks for more than rows, with the rows of its table.
 #[derive(Drop)]
-struct Asked<'a> {
+struct ExtraAsked<'a> {
     declared: &'a Back,
     rows: Rel,
 }
@@ -100,7 +100,7 @@ fn fetch_asked<'a, L: Ledger>(
     opened: &Opening<'_>,
     declared: &'a Back,
     steps: &mut Steps<L>,
-) -> Result<Option<Asked<'a>>, AllocError>
+) -> Result<Option<ExtraAsked<'a>>, AllocError>
     requires opened { IsOpened opened.now }
     requires declared { IsDeclared opened.now.book.now declared.now }
     ensures asked { IfOk result (λ asked. IfSome asked (λ one. IsAsked opened.now.book.now opened.now.tables.now one)) }
@@ -117,7 +117,7 @@ fn fetch_asked<'a, L: Ledger>(
         BackExtra::Plain => Ok(None),
         _ => {
             let rows = declared_table(opened, declared).whole(alloc, steps)?;
-            Ok(Some(Asked { declared, rows }))
+            Ok(Some(ExtraAsked { declared, rows }))
         }
     }
 }
@@ -126,7 +126,7 @@ fn fetch_asked<'a, L: Ledger>(
 fn made_split(
     alloc: Global,
     opened: &Opening<'_>,
-    asked: &Asked<'_>,
+    asked: &ExtraAsked<'_>,
     col: u32,
 ) -> Result<Split, AllocError>
     requires opened { IsOpened opened.now }
@@ -142,7 +142,7 @@ fn made_split(
 fn made_cubes(
     alloc: Global,
     opened: &Opening<'_>,
-    asked: Asked<'_>,
+    asked: ExtraAsked<'_>,
     keys: &Keys,
     aggs: &Aggs,
 ) -> Result<Cubes, AllocError>
@@ -151,13 +151,17 @@ fn made_cubes(
     requires fits { GroupFits (table_kinds (info_at opened.now.book.now.tables asked.declared.now.table)) keys.now aggs.now }
     ensures { IfOk result (λ made. made ≡ cubes_on (book_in opened.now) asked.entry.declared.now.view asked.entry.declared.now.table keys.now aggs.now) }
 {
-    let Asked { declared, rows } = asked;
+    let ExtraAsked { declared, rows } = asked;
     let map = declared_map(opened, declared);
     Cubes::of_rows(alloc, map, &Chosen::of_rel(rows), keys, aggs)
 }
 
 // What a declaration asks for besides the rows.
-fn make(alloc: Global, opened: &Opening<'_>, asked: Asked<'_>) -> Result<SplitOrCubes, AllocError>
+fn make(
+    alloc: Global,
+    opened: &Opening<'_>,
+    asked: ExtraAsked<'_>,
+) -> Result<SplitOrCubes, AllocError>
     requires opened { IsOpened opened.now }
     requires asked { IsAsked opened.now.book.now opened.now.tables.now asked }
     ensures { MakesAs (book_in opened.now) asked.entry result }
@@ -206,7 +210,7 @@ fn put_each<R: Threads + Sync>(
     alloc: Global,
     most: u32,
     opened: &Opening<'_>,
-    all: Vec<Asked<'_>>,
+    all: Vec<ExtraAsked<'_>>,
     extras: &mut Extras,
 ) -> Result<(), AllocError>
     requires most { 1 ≤ most }
@@ -222,7 +226,7 @@ fn put_each<R: Threads + Sync>(
         alloc,
         most,
         all,
-        &|asked: Asked<'_>| -> Result<SplitOrCubes, AllocError>
+        &|asked: ExtraAsked<'_>| -> Result<SplitOrCubes, AllocError>
             requires { AreNow book.now tables.now views.now fresh.now × IsAsked book.now tables.now asked }
             ensures { MakesAs (workbook_image book.entry.now tables.entry.now) asked.entry result }
         {

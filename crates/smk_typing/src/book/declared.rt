@@ -2,7 +2,7 @@ ghost use Rattle.std.specs.Prelude.{◌≡◌, ◌+◌, ◌≤◌, [], length, O
 ghost use Rattle.std.specs.List.{list_any};
 ghost use Rattle.smk_base.specs.declared.book.catalog.BackExtra.TheVariants.{Grouped};
 ghost use Rattle.smk_base.specs.declared.rel.TheConstants.{COLUMN_LIMIT};
-ghost use Rattle.smk_model.specs.Names.{in_turn, same_name, names_of, kinds_of};
+ghost use Rattle.smk_model.specs.Names.{in_turn, same_name, names_of, column_kinds};
 ghost use Rattle.smk_model.specs.Typing as typing;
 ghost use Rattle.smk_typing.specs.Answers.{Finds};
 
@@ -94,7 +94,7 @@ fn add_names_and_kinds(
     requires unnamed { names.old ≡ [] }
     requires unsorted { kinds.old ≡ [] }
     ensures named { Finds result (Ok (names_of columns.now)) (λ _. names.new) }
-    ensures sorted { OnOk result (kinds.new ≡ kinds_of columns.now) }
+    ensures sorted { OnOk result (kinds.new ≡ column_kinds columns.now) }
 {
     for column in columns {
         let name = column.name.copy(alloc)?;
@@ -106,7 +106,7 @@ fn add_names_and_kinds(
 
 /// The names and the kinds of columns.
 pub fn names_and_kinds(alloc: Global, columns: &[Column]) -> Result<(ColNames, Kinds), TypeFault>
-    ensures { Finds result (Ok (names_of columns.now, kinds_of columns.now)) (λ made. made) }
+    ensures { Finds result (Ok (names_of columns.now, column_kinds columns.now)) (λ made. made) }
 {
     let mut names = ColNames::new(alloc);
     let mut kinds = Kinds::new(alloc);
@@ -121,8 +121,8 @@ pub fn names_and_kinds(alloc: Global, columns: &[Column]) -> Result<(ColNames, K
 }
 
 /// What a backward declaration with a grouping asks for.
-fn grouped(alloc: Global, group: TypedGrouping) -> Result<BackExtra, TypeFault>
-    ensures { Finds result (Ok (Grouped group.keys group.aggs (names_of group.columns) (kinds_of group.columns))) (λ asked. asked) }
+fn grouped_extra(alloc: Global, group: TypedGrouping) -> Result<BackExtra, TypeFault>
+    ensures { Finds result (Ok (Grouped group.keys group.aggs (names_of group.columns) (column_kinds group.columns))) (λ asked. asked) }
 {
     match names_and_kinds(alloc, group.columns.as_slice()) {
         Ok((names, kinds)) => Ok(BackExtra::Grouped {
@@ -151,7 +151,7 @@ pub fn typed_extra(alloc: Global, columns: &[Column], extra: &Extra) -> Result<B
         }
         Extra::Grouped { at, keys, aggs } => {
             let group = typed_group(alloc, columns, *at, keys.as_slice(), aggs.as_slice())?;
-            grouped(alloc, group)
+            grouped_extra(alloc, group)
         }
     }
 }

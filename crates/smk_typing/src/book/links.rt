@@ -7,7 +7,7 @@ ghost use Rattle.smk_typing.specs.Drafts.{over, links_after};
 ghost use Rattle.smk_typing.specs.Keys.{link_key};
 
 use crate::draft::indexed::Indexed;
-use crate::draft::view_named;
+use crate::draft::view_by_word;
 use indexmap::IndexSet;
 use smk_base::{LinkInfo, LinkInfos, Rids, TypeFault, ViewInfo, Word};
 use std::alloc::Global;
@@ -99,7 +99,7 @@ fn add_to(
     ensures after { Finds result (typing.to_after (over views.now links.now) from.view from.table to.old word.now) (λ _. to.new) }
     ensures keys { OnOk result (keys.new.keys ≡ map link_key (all_links links.now ++ linked_to from.view from.table to.new)) }
 {
-    let number = view_named(views, word)?;
+    let number = view_by_word(views, word)?;
     if number == from.view {
         return Err(TypeFault::SelfLink { at: word.at });
     }

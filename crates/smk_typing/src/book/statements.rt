@@ -6,7 +6,7 @@ ghost use Rattle.smk_base.specs.declared.book.limits.TheConstants.{TABLE_LIMIT, 
 ghost use Rattle.smk_base.specs.declared.rel.TheConstants.{COLUMN_LIMIT};
 ghost use Rattle.smk_model.specs.Expanded.{IsNoDependency};
 ghost use Rattle.smk_model.specs.Limits.{KeepsStmt, KeepsTree, is_table, is_view};
-ghost use Rattle.smk_model.specs.Names.{in_turn, names_of, kinds_of};
+ghost use Rattle.smk_model.specs.Names.{in_turn, names_of, column_kinds};
 ghost use Rattle.smk_model.specs.Typing as typing;
 ghost use Rattle.smk_typing.specs.Answers.{Finds};
 ghost use Rattle.smk_typing.specs.Drafts.{draft_image};
@@ -17,7 +17,7 @@ use crate::book::declared::{declared, names_and_kinds, typed_extra};
 use crate::book::links::Links;
 use crate::draft::form::Form;
 use crate::draft::indexed::Indexed;
-use crate::draft::{Draft, columns_at, table_named, view_named};
+use crate::draft::{Draft, columns_at, table_by_word, view_by_word};
 use crate::plan::places::put;
 use crate::plan::typed::Typed;
 use crate::plan::{blank, put_plan};
@@ -112,7 +112,7 @@ fn typed_view(
 
 /// A typed plan as a view under a name.
 fn named_view(alloc: Global, name: Text, typed: Typed) -> Result<ViewInfo, TypeFault>
-    ensures { Finds result (Ok (record { name = name; plan = expr_of typed.plan; names = names_of typed.columns; kinds = kinds_of typed.columns })) view_image }
+    ensures { Finds result (Ok (record { name = name; plan = expr_of typed.plan; names = names_of typed.columns; kinds = column_kinds typed.columns })) view_image }
 {
     match names_and_kinds(alloc, typed.columns.as_slice()) {
         Ok((names, kinds)) => Ok(ViewInfo {
@@ -155,8 +155,8 @@ fn back_after(
 ) -> Result<(), TypeFault>
     ensures { Finds result (typing.back_after (draft_image draft.old) at view.now table.now extra.now) (λ _. draft_image draft.new) }
 {
-    let view = view_named(&draft.views, view)?;
-    let table = table_named(&draft.tables, table)?;
+    let view = view_by_word(&draft.views, view)?;
+    let table = table_by_word(&draft.tables, table)?;
     let extra = extra_at(alloc, &draft.tables, table, extra)?;
     new_back(draft, at, Back { view, table, extra })
 }
@@ -193,8 +193,8 @@ fn new_back(draft: &mut Draft, at: u64, back: Back) -> Result<(), TypeFault>
 fn fwd_after(draft: &mut Draft, at: u64, table: &Word, view: &Word) -> Result<(), TypeFault>
     ensures { Finds result (typing.fwd_after (draft_image draft.old) at table.now view.now) (λ _. draft_image draft.new) }
 {
-    let table = table_named(&draft.tables, table)?;
-    let view = view_named(&draft.views, view)?;
+    let table = table_by_word(&draft.tables, table)?;
+    let view = view_by_word(&draft.views, view)?;
     new_fwd(draft, at, Fwd { table, view })
 }
 
@@ -220,8 +220,8 @@ fn link_after(
 ) -> Result<(), TypeFault>
     ensures { Finds result (typing.link_after (draft_image draft.old) view.now table.now words.now) (λ _. draft_image draft.new) }
 {
-    let view = view_named(&draft.views, view)?;
-    let table = table_named(&draft.tables, table)?;
+    let view = view_by_word(&draft.views, view)?;
+    let table = table_by_word(&draft.tables, table)?;
     let links = mem::replace(&mut draft.links, Links::new(alloc));
     match links.with(alloc, &draft.views, view, table, words) {
         Ok(links) => {

@@ -4,7 +4,7 @@ use Rattle.smk_base.specs.PlanImage.{binary_of, expr_of, unary_of}
 use Rattle.smk_base.specs.Plans.{Expr, Apply, Combine}
 use Rattle.smk_model.specs.Plain.{width}
 use Rattle.smk_model.specs.Selection.{each_rows, each_kinds, nodes, PlanFits}
-use Rattle.smk_model.specs.NodeFaults.{NodeFault, asked_of, fault_at, first_fault_from}
+use Rattle.smk_model.specs.NodeFaults.{NodeFault, asked_of, last_node_fault, first_fault_from}
 use Rattle.smk_compose.specs.Through.{IsFirst}
 use Rattle.smk_compose.specs.Walk.{WholeWhereNeeded}
 use Rattle.smk_compose.specs.declared.fault.RunFault.{RunFault}
@@ -90,7 +90,7 @@ returns-in_err-r-in-Two-clause-fault g t c =
     let T = each_rows c.args.traced.now.tables.now in
     let need = c.args.traced.now.need.now in
     let n = c.args.number.now in
-    let last = fault_at (Combine op a b) (each_rows L) (asked_of T need) (n + nodes a + nodes b) in
+    let last = last_node_fault (Combine op a b) (each_rows L) (asked_of T need) (n + nodes a + nodes b) in
     let same = ap (λ (p : Expr). first_fault_from p (each_rows L) (asked_of T need) n) e
     ∙ fault_right op a b c.as_slice-in-Two.result.now L c.walk-in-Two.new.leaves T need n c.walk-in-Two.new.number c.in_ok-l-in-Two.l c.in_ok-l-in-Two.ensures.rest c.in_ok-l-in-Two.ensures.counted c.in_ok-l-in-Two.ensures.made in
     let p = err_from_is_err_and c.from_residual-in_err-r-in-Two.result c.from_residual-in_err-r-in-Two.ensures.1 in

@@ -1,6 +1,6 @@
 use Rattle.std.proofs.Common.{◌≡◌, ◌≤◌, ◌+◌, ◌++◌, [], length, Ok}
 use Rattle.smk_model.specs.Names.{◌>>=◌}
-use Rattle.smk_model.specs.Tables.{all_or_first, numbered, record_row, kinds_of}
+use Rattle.smk_model.specs.Tables.{all_or_first, numbered, record_row, declared_kinds}
 use Rattle.smk_base.specs.declared.rel.TheConstants.{ROW_LIMIT}
 use Rattle.smk_table.specs.CsvReader.{IsBetween, records_left}
 use Rattle.smk_table.proofs.records.read_rows.Given as goal
@@ -8,7 +8,7 @@ use Rattle.smk_table.proofs.records.read_rows.Given as goal
 abbrev pub invariant-loop-nth : goal.invariant-loop-nth
 invariant-loop-nth l = record {
   between : IsBetween l.reader;
-  kinds : l.rel.kinds ≡ kinds_of l.cols;
+  kinds : l.rel.kinds ≡ declared_kinds l.cols;
   begun : l.rel.begun ≡ [];
   count : length l.rel.rows + 1 ≡ l.nth;
   few : length l.rel.rows ≤ ROW_LIMIT;

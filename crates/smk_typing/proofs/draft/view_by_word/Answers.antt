@@ -1,7 +1,7 @@
 use Rattle.std.proofs.Common.{arith}
 use Rattle.std.proofs.lemmas.Grind.{common_steps}
 use Rattle.smk_typing.proofs.Keys.{view_names}
-use Rattle.smk_typing.proofs.draft.view_named.Goals as goal
+use Rattle.smk_typing.proofs.draft.view_by_word.Goals as goal
 
 pub returns-in-Some : goal.returns-in-Some
 returns-in-Some c = grind (arith, common_steps, view_names)
