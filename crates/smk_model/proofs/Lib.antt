@@ -81,3 +81,4 @@ pub mod Appends
 pub mod Conversation
 pub mod ConversationExamples
 pub mod TalkStarts
+pub mod Misreads

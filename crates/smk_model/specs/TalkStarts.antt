@@ -1,12 +1,14 @@
 -- How a conversation starts, by its words and by what the files hold: over what it reads, or with its first fault.
-use Rattle.std.specs.Prelude.{◌≡◌, ◌⊎◌, ⊤, ℕ, List, [], ◌∷◌, Option, Some, None, Result, Ok, Err, codes}
+use Rattle.std.specs.Prelude.{◌≡◌, ◌⊎◌, ◌≤◌, ◌+◌, ⊤, ℕ, Bool, true, false, List, [], ◌∷◌, length, Option, Some, None, is_some, Result, Ok, Err, codes}
+use Rattle.std.specs.List.{filter}
 use Rattle.smk_base.specs.declared.book.catalog.TableInfo.{TableInfo}
 use Rattle.smk_base.specs.declared.fault.Fault.{Fault}
 use Rattle.smk_base.specs.declared.fault.Fault.TheVariants.{Usage, Unread}
+use Rattle.smk_model.specs.Conversation.{TalkTurn, Unbrought, FilesBring}
 use Rattle.smk_model.specs.Demo.{demo_of}
 use Rattle.smk_model.specs.FaultTexts.{fault_text}
 use Rattle.smk_model.specs.Opening.{ViewFault, first_view_fault, fault_named}
-use Rattle.smk_model.specs.Outcome.{Held, Inputs, ReadsFiles, NamesAsked, UntoldCause, WhereTold, book_of, source_of, text_named, load}
+use Rattle.smk_model.specs.Outcome.{Held, Inputs, ReadsFiles, NamesAsked, UntoldCause, WhereTold, book_of, source_of, text_named}
 use Rattle.smk_model.specs.TalkWords.{TalkCall, talk_call_of, talk_source}
 use Rattle.smk_model.specs.Texts.{line}
 use Rattle.smk_model.specs.Values.{Row}
@@ -43,26 +45,47 @@ HasTalkCause words held rose fault = WhereTold held (talk_source words) (UntoldC
 abbrev pub IsTalkStart : List (List ℕ) → Option Held → Inputs → Type 0
 IsTalkStart words held given = WhereTold held (talk_source words) ⊤ (λ held. StartsTalk words held (Ok given))
 
--- the file of this table couldn't be read
-abbrev pub IsUnreadFile : TableInfo → Result (List Row) Fault → Type 0
-IsUnreadFile table brought = brought ≡ Err (Unread table.file)
+-- a table is named whose file can't be read
+abbrev pub IsUnreadFile : Option TableInfo → Result (List Row) Fault → Type 0
+IsUnreadFile (Some table) brought = brought ≡ Err (Unread table.file)
+IsUnreadFile None brought = ⊥
 
--- what comes of the file of a line where the files don't tell what they hold
-abbrev pub BringsUntold : Type 0 → Result (List Row) Fault → Type 0
-BringsUntold rose (Ok rows) = ⊤
-BringsUntold rose (Err fault) = UntoldCause rose fault
+-- what comes of a line's file, if it appends one, where the files don't tell what they hold
+abbrev pub BringsUntold : Type 0 → Option TableInfo → Result (List Row) Fault → Type 0
+BringsUntold rose None brought = brought ≡ Ok []
+BringsUntold rose (Some table) (Ok rows) = ⊤
+BringsUntold rose (Some table) (Err fault) = UntoldCause rose fault
 
--- what comes of the file of a line, if it appends one: what the files hold, or it can't be read, and the count of faults shows that; a line that reads no file brings no rows
+-- what comes of a line's file, if it appends one: what the files hold; or it can't be read, and the count of faults shows that
 abbrev pub BringsBy : Option Held → Type 0 → Option TableInfo → Result (List Row) Fault → Type 0
-BringsBy held rose None brought = brought ≡ Ok []
-BringsBy None rose (Some table) brought = BringsUntold rose brought
-BringsBy (Some held) rose (Some table) brought = (load held table ≡ brought) ⊎ (rose × IsUnreadFile table brought)
+BringsBy (Some held) rose table brought = FilesBring held table brought ⊎ (rose × IsUnreadFile table brought)
+BringsBy None rose table brought = BringsUntold rose table brought
 
--- the files of lines are those that the book was found in: a demo's are its texts, which are read without a fault
-abbrev pub TalkBrings : Option TextSource → Option Held → Type 0 → Option TableInfo → Result (List Row) Fault → Type 0
-TalkBrings None held rose table brought = ⊥
-TalkBrings (Some (Files book script)) held rose table brought = BringsBy held rose table brought
-TalkBrings (Some (Demo n)) held rose table brought = BringsBy (Some (text_named (demo_of n))) ⊥ table brought
+-- whether the files have a file of this name, or don't tell what they hold
+abbrev pub may_have : Option Held → List ℕ → Bool
+may_have (Some held) file = is_some (held file)
+may_have None file = true
+
+-- whether a line was refused since its file can't be read, though the files may have it
+abbrev pub is_misread : Option Held → TalkTurn → Bool
+is_misread held (Unbrought bytes (Unread file)) = may_have held file
+is_misread held _ = false
+
+abbrev pub misreads : Option Held → List TalkTurn → ℕ
+misreads held turns = length (filter (is_misread held) turns)
+
+-- the count of faults shows so many failed reads: it has risen by so many at least, unless it stands at the last value that 64 bits can hold
+abbrev pub FailedReads : ℕ → ℕ → ℕ → Type 0
+FailedReads count before after = (before + count ≤ after) ⊎ (18446744073709551615 ≤ after)
+
+-- the files of lines are those that the book was found in; a demo's are its texts, which are read without a fault
+abbrev pub line_files : TextSource → Option Held → Option Held
+line_files (Files book script) held = held
+line_files (Demo n) held = Some (text_named (demo_of n))
+
+abbrev pub TalkBrings : TextSource → Option Held → Type 0 → Option TableInfo → Result (List Row) Fault → Type 0
+TalkBrings (Files book script) held rose table brought = BringsBy held rose table brought
+TalkBrings (Demo n) held rose table brought = BringsBy (line_files (Demo n) held) ⊥ table brought
 
 -- what is said of words that call for no conversation, and where no line can be heard
 abbrev pub talk_usage_text : List ℕ

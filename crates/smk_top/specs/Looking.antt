@@ -1,5 +1,6 @@
 -- How often a run looks at rows.
 use Rattle.std.specs.Prelude.{◌≡◌, ◌⊎◌, ◌≤◌, ◌+◌, ⊤, ℕ, List, Option, Result, Ok, Err}
+use Rattle.smk_base.specs.declared.fault.Fault.{Fault}
 use Rattle.smk_model.specs.Outcome.{Held, Inputs, ReadsInputs, WhereTold, run_looks}
 use Rattle.smk_model.specs.Words.{words_of}
 use Rattle.smk_inputs.specs.declared.stop.Stop.{Stop}
@@ -14,7 +15,11 @@ IsInputs words held inputs = WhereTold held (words_of words) ⊤ (λ held. Reads
 abbrev pub RunLooks : List (List ℕ) → Option Held → ℕ → ℕ → Type 0
 RunLooks words held before after = (after ≡ before) ⊎ ((given : Inputs) × IsInputs words held given × (after ≤ before + run_looks given))
 
+-- no look was made where this is a fault of what is read
+abbrev pub LooksBehind : Fault → ℕ → ℕ → Type 0
+LooksBehind fault before after = IsReadingFault (status_of_fault fault) → after ≡ before
+
 -- where a step stops by a fault of what is read, no look was made
 abbrev pub LooksBehindReading : {X : Type 0} → Result X Stop → ℕ → ℕ → Type 0
-LooksBehindReading (Err (At fault)) before after = IsReadingFault (status_of_fault fault) → after ≡ before
+LooksBehindReading (Err (At fault)) before after = LooksBehind fault before after
 LooksBehindReading _ before after = ⊤

@@ -37,3 +37,8 @@ IsReadingFault BadBook = ⊤
 IsReadingFault BadTable = ⊤
 IsReadingFault ReadFault = ⊤
 IsReadingFault _ = ⊥
+
+-- the same but for a file, which also a status behind the first line tells
+abbrev pub IsStartFault : Status → Type 0
+IsStartFault ReadFault = ⊥
+IsStartFault status = IsReadingFault status

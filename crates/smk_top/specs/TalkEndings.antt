@@ -7,10 +7,10 @@ use Rattle.smk_model.specs.Opening.{first_view_fault}
 use Rattle.smk_model.specs.Outcome.{Held, Inputs, ReadsFiles, NamesAsked, UntoldCause, WhereTold}
 use Rattle.smk_model.specs.Reports.{BookSaid, Report, is_turned_down}
 use Rattle.smk_model.specs.Texts.{no_memory_text}
-use Rattle.smk_model.specs.TalkStarts.{ReadsTalk, started, HasTalkCause, IsTalkStart, TalkBrings, talk_fault_text, unheard_text}
+use Rattle.smk_model.specs.TalkStarts.{ReadsTalk, started, HasTalkCause, IsTalkStart, FailedReads, line_files, misreads, TalkBrings, talk_fault_text, unheard_text}
 use Rattle.smk_model.specs.TalkWords.{TalkCall, talk_call_of, talk_source}
 use Rattle.smk_outside.specs.Conversing.{Conversation}
-use Rattle.smk_outside.specs.Outside.{IsPrefix, Appends}
+use Rattle.smk_outside.specs.Outside.{IsPrefix, Rose, Appends}
 use Rattle.smk_outside.specs.Saying.{Says}
 use Rattle.smk_outside.specs.Told.{Told}
 use Rattle.smk_outside.specs.declared.talk.ending.Ending.{Ending}
@@ -20,6 +20,7 @@ use Rattle.smk_inputs.specs.declared.called.TalkWords.{TalkWords}
 use Rattle.smk_inputs.specs.declared.stop.Stop.{Stop}
 use Rattle.smk_inputs.specs.declared.stop.Stop.TheVariants.{At, Unwritten, Exhausted}
 use Rattle.smk_top.specs.Endings.{SaysMemory}
+use Rattle.smk_top.specs.Looking.{LooksBehind}
 use Rattle.smk_top.specs.Statuses.{status_of_report, status_of_fault}
 use Rattle.smk_top.specs.Talking.{talk_rules, Talked}
 use Rattle.smk_top.specs.declared.talking.TalkEnd.{TalkEnd}
@@ -30,23 +31,24 @@ use Rattle.smk_top.specs.declared.status.Status.TheVariants.{Done, DoneWithRefus
 abbrev pub said_by : Inputs → BookSaid
 said_by given = record { catalog = given.book.catalog; fds = given.fds }
 
--- A conversation of these words over these files, by whether the counts of faults of files and of the object rose in it: what is said first is the texts of all views; each line is then heard, and answered before the next one is heard.
--- Each turn is one that fits the state that the turns before it left, also behind lines that were refused or that memory was wanting for.
+-- A conversation of these words over these files, by the counts of faults of the files before and after it, and by whether that of the object rose in it: what is said first is the texts of all views; each line is then heard, and answered before the next one is heard.
+-- Each turn is one that fits the state that the turns before it left, also behind lines that were refused or that memory was wanting for. As many lines at most are refused by reads that failed as the count of faults shows.
 -- Looks are at most those of the start and those of the lines.
-pub record Converses (words : List (List ℕ)) (held : Option Held) (files_rose talk_rose : Type 0) (before after : Told) (looks_before looks_after : ℕ) (ending : Ending) : Type 0 where
+pub record Converses (words : List (List ℕ)) (held : Option Held) (files_before files_after : ℕ) (talk_rose : Type 0) (before after : Told) (looks_before looks_after : ℕ) (ending : Ending) : Type 0 where
   pub call : TalkCall
   pub asked : talk_call_of words ≡ Some call
   pub given : Inputs
   pub starts : IsTalkStart words held given
   pub last : TalkState
-  pub talked : Conversation (talk_rules (said_by given)) (FitsTalk call.read_only given.book.catalog (TalkBrings (Some call.texts) held files_rose)) (opening_block given.book) (first_talk_state given.book) last before after talk_rose ending
+  pub talked : Conversation (talk_rules (said_by given)) (FitsTalk call.read_only given.book.catalog (TalkBrings call.texts held (Rose files_before files_after))) (opening_block given.book) (first_talk_state given.book) last before after talk_rose ending
+  pub misread : FailedReads (misreads (line_files call.texts held) talked.talk.turns) files_before files_after
   pub looks : looks_after ≤ looks_before + start_looks given.book + (turns_told (said_by given) (first_talk_state given.book) talked.talk.turns).looks
 
 -- the turns of a conversation, and its report
-abbrev pub turns_of : {words : List (List ℕ)} {held : Option Held} {files_rose talk_rose : Type 0} {before after : Told} {looks_before looks_after : ℕ} {ending : Ending} → Converses words held files_rose talk_rose before after looks_before looks_after ending → List TalkTurn
+abbrev pub turns_of : {words : List (List ℕ)} {held : Option Held} {files_before files_after : ℕ} {talk_rose : Type 0} {before after : Told} {looks_before looks_after : ℕ} {ending : Ending} → Converses words held files_before files_after talk_rose before after looks_before looks_after ending → List TalkTurn
 turns_of talk = talk.talked.talk.turns
 
-abbrev pub report_by : {words : List (List ℕ)} {held : Option Held} {files_rose talk_rose : Type 0} {before after : Told} {looks_before looks_after : ℕ} {ending : Ending} → Converses words held files_rose talk_rose before after looks_before looks_after ending → Report
+abbrev pub report_by : {words : List (List ℕ)} {held : Option Held} {files_before files_after : ℕ} {talk_rose : Type 0} {before after : Told} {looks_before looks_after : ℕ} {ending : Ending} → Converses words held files_before files_after talk_rose before after looks_before looks_after ending → Report
 report_by talk = talk_report talk.given.book talk.given.fds (turns_of talk)
 
 -- nothing was heard or said, and looks are at most those of a start over what was read
@@ -58,29 +60,29 @@ pub record IsSilent (words : List (List ℕ)) (held : Option Held) (before after
   pub looks : (looks_after ≡ looks_before) ⊎ ((given : Inputs) × IsTalkRead words held given × (looks_after ≤ looks_before + start_looks given.book))
 
 -- the ending of a conversation, and what is said of it on `err`
-pub data TalkEnds (words : List (List ℕ)) (held : Option Held) (files_rose talk_rose err_rose : Type 0) (before after : Told) (looks_before looks_after : ℕ) : Status → List ℕ → Type 0 where
+pub data TalkEnds (words : List (List ℕ)) (held : Option Held) (files_before files_after : ℕ) (talk_rose err_rose : Type 0) (before after : Told) (looks_before looks_after : ℕ) : Status → List ℕ → Type 0 where
   -- no line comes any more, or as many were answered as can be counted
-  ended : (talk : Converses words held files_rose talk_rose before after looks_before looks_after Ended) → TalkEnds words held files_rose talk_rose err_rose before after looks_before looks_after (status_of_report (report_by talk)) []
-  outlasted : (talk : Converses words held files_rose talk_rose before after looks_before looks_after Outlasted) → TalkEnds words held files_rose talk_rose err_rose before after looks_before looks_after (status_of_report (report_by talk)) []
+  ended : (talk : Converses words held files_before files_after talk_rose before after looks_before looks_after Ended) → TalkEnds words held files_before files_after talk_rose err_rose before after looks_before looks_after (status_of_report (report_by talk)) []
+  outlasted : (talk : Converses words held files_before files_after talk_rose before after looks_before looks_after Outlasted) → TalkEnds words held files_before files_after talk_rose err_rose before after looks_before looks_after (status_of_report (report_by talk)) []
   -- the object failed
-  unheard : Converses words held files_rose talk_rose before after looks_before looks_after Unheard → TalkEnds words held files_rose talk_rose err_rose before after looks_before looks_after ReadFault unheard_text
-  unsaid : Converses words held files_rose talk_rose before after looks_before looks_after Unsaid → TalkEnds words held files_rose talk_rose err_rose before after looks_before looks_after WriteFault []
-  -- a fault of the start is said, or memory was wanting for the start
-  faulted : (fault : Fault) → HasTalkCause words held files_rose fault → IsSilent words held before after looks_before looks_after
-      → TalkEnds words held files_rose talk_rose err_rose before after looks_before looks_after (status_of_fault fault) (talk_fault_text fault)
-  exhausted : IsSilent words held before after looks_before looks_after → TalkEnds words held files_rose talk_rose err_rose before after looks_before looks_after NoMemory no_memory_text
+  unheard : Converses words held files_before files_after talk_rose before after looks_before looks_after Unheard → TalkEnds words held files_before files_after talk_rose err_rose before after looks_before looks_after ReadFault unheard_text
+  unsaid : Converses words held files_before files_after talk_rose before after looks_before looks_after Unsaid → TalkEnds words held files_before files_after talk_rose err_rose before after looks_before looks_after WriteFault []
+  -- a fault of the start is said, and no look was made where it is one of what is read; or memory was wanting for the start
+  faulted : (fault : Fault) → HasTalkCause words held (Rose files_before files_after) fault → IsSilent words held before after looks_before looks_after → LooksBehind fault looks_before looks_after
+      → TalkEnds words held files_before files_after talk_rose err_rose before after looks_before looks_after (status_of_fault fault) (talk_fault_text fault)
+  exhausted : IsSilent words held before after looks_before looks_after → TalkEnds words held files_before files_after talk_rose err_rose before after looks_before looks_after NoMemory no_memory_text
   -- this could not be said whole, since `err` failed
-  unheard_unsaid : (part : List ℕ) → Converses words held files_rose talk_rose before after looks_before looks_after Unheard → IsPrefix part unheard_text → err_rose
-      → TalkEnds words held files_rose talk_rose err_rose before after looks_before looks_after WriteFault part
-  fault_unsaid : (fault : Fault) (part : List ℕ) → HasTalkCause words held files_rose fault → IsSilent words held before after looks_before looks_after → IsPrefix part (talk_fault_text fault) → err_rose
-      → TalkEnds words held files_rose talk_rose err_rose before after looks_before looks_after WriteFault part
+  unheard_unsaid : (part : List ℕ) → Converses words held files_before files_after talk_rose before after looks_before looks_after Unheard → IsPrefix part unheard_text → err_rose
+      → TalkEnds words held files_before files_after talk_rose err_rose before after looks_before looks_after WriteFault part
+  fault_unsaid : (fault : Fault) (part : List ℕ) → HasTalkCause words held (Rose files_before files_after) fault → IsSilent words held before after looks_before looks_after → LooksBehind fault looks_before looks_after → IsPrefix part (talk_fault_text fault) → err_rose
+      → TalkEnds words held files_before files_after talk_rose err_rose before after looks_before looks_after WriteFault part
   memory_unsaid : (part : List ℕ) → IsSilent words held before after looks_before looks_after → IsPrefix part no_memory_text → err_rose
-      → TalkEnds words held files_rose talk_rose err_rose before after looks_before looks_after WriteFault part
+      → TalkEnds words held files_before files_after talk_rose err_rose before after looks_before looks_after WriteFault part
 
 -- the same, by what `err` tells before and after
-abbrev pub ConverseEnds : List (List ℕ) → Option Held → Type 0 → Type 0 → Type 0 → Told → Told → ℕ → ℕ → Option (List ℕ) → Option (List ℕ) → Status → Type 0
-ConverseEnds words held files_rose talk_rose err_rose before after looks_before looks_after err_before err_after status =
-    (said : List ℕ) × Appends err_before err_after said × TalkEnds words held files_rose talk_rose err_rose before after looks_before looks_after status said
+abbrev pub ConverseEnds : List (List ℕ) → Option Held → ℕ → ℕ → Type 0 → Type 0 → Told → Told → ℕ → ℕ → Option (List ℕ) → Option (List ℕ) → Status → Type 0
+ConverseEnds words held files_before files_after talk_rose err_rose before after looks_before looks_after err_before err_after status =
+    (said : List ℕ) × Appends err_before err_after said × TalkEnds words held files_before files_after talk_rose err_rose before after looks_before looks_after status said
 
 -- the steps of a conversation's start, and what they come to
 
@@ -103,32 +105,32 @@ FailsToStart None rose book fault = UntoldCause rose fault
 FailsToStart (Some held) rose book fault = (ReadsFiles held book None (Err fault) ⊎ ((given : Inputs) × ReadsFiles held book None (Ok given) × (started given ≡ Err fault))) ⊎ (rose × NamesAsked held book None fault)
 
 -- a conversation over the book of this name
-pub record TalksOver (held : Option Held) (rose talk_rose : Type 0) (book : List ℕ) (read_only : Bool) (before after : Told) (looks_before looks_after : ℕ) (end : TalkEnd) : Type 0 where
+pub record TalksOver (held : Option Held) (files_before files_after : ℕ) (talk_rose : Type 0) (book : List ℕ) (read_only : Bool) (before after : Told) (looks_before looks_after : ℕ) (end : TalkEnd) : Type 0 where
   pub given : Inputs
   pub reads : ReadsBook held book given
   pub fine : first_view_fault given.book ≡ None
-  pub talked : Talked (said_by given) read_only held rose talk_rose (opening_block given.book) (first_talk_state given.book) before after end.ending end.down (looks_before + start_looks given.book) looks_after
+  pub talked : Talked (said_by given) read_only held files_before files_after talk_rose (opening_block given.book) (first_talk_state given.book) before after end.ending end.down (looks_before + start_looks given.book) looks_after
 
 pub record Silent (held : Option Held) (book : List ℕ) (before after : Told) (looks_before looks_after : ℕ) : Type 0 where
   pub same : after ≡ before
   pub looks : StartLooks held book looks_before looks_after
 
-abbrev pub BeginsTalk : Option Held → Type 0 → Type 0 → List ℕ → Bool → Told → Told → ℕ → ℕ → Result TalkEnd Stop → Type 0
-BeginsTalk held rose talk_rose book read_only before after looks_before looks_after (Ok end) = TalksOver held rose talk_rose book read_only before after looks_before looks_after end
-BeginsTalk held rose talk_rose book read_only before after looks_before looks_after (Err (At fault)) = FailsToStart held rose book fault × Silent held book before after looks_before looks_after
-BeginsTalk held rose talk_rose book read_only before after looks_before looks_after (Err Unwritten) = ⊥
-BeginsTalk held rose talk_rose book read_only before after looks_before looks_after (Err Exhausted) = Silent held book before after looks_before looks_after
+abbrev pub BeginsTalk : Option Held → ℕ → ℕ → Type 0 → List ℕ → Bool → Told → Told → ℕ → ℕ → Result TalkEnd Stop → Type 0
+BeginsTalk held files_before files_after talk_rose book read_only before after looks_before looks_after (Ok end) = TalksOver held files_before files_after talk_rose book read_only before after looks_before looks_after end
+BeginsTalk held files_before files_after talk_rose book read_only before after looks_before looks_after (Err (At fault)) = FailsToStart held (Rose files_before files_after) book fault × Silent held book before after looks_before looks_after
+BeginsTalk held files_before files_after talk_rose book read_only before after looks_before looks_after (Err Unwritten) = ⊥
+BeginsTalk held files_before files_after talk_rose book read_only before after looks_before looks_after (Err Exhausted) = Silent held book before after looks_before looks_after
 
 -- the same by the words
-pub record TalksFor (words : List (List ℕ)) (held : Option Held) (files_rose talk_rose : Type 0) (before after : Told) (looks_before looks_after : ℕ) (end : TalkEnd) : Type 0 where
-  pub talk : Converses words held files_rose talk_rose before after looks_before looks_after end.ending
+pub record TalksFor (words : List (List ℕ)) (held : Option Held) (files_before files_after : ℕ) (talk_rose : Type 0) (before after : Told) (looks_before looks_after : ℕ) (end : TalkEnd) : Type 0 where
+  pub talk : Converses words held files_before files_after talk_rose before after looks_before looks_after end.ending
   pub down : end.down ≡ is_turned_down (report_by talk)
 
-abbrev pub TalkWorks : List (List ℕ) → Option Held → Type 0 → Type 0 → Told → Told → ℕ → ℕ → Result TalkEnd Stop → Type 0
-TalkWorks words held files_rose talk_rose before after looks_before looks_after (Ok end) = TalksFor words held files_rose talk_rose before after looks_before looks_after end
-TalkWorks words held files_rose talk_rose before after looks_before looks_after (Err (At fault)) = HasTalkCause words held files_rose fault × IsSilent words held before after looks_before looks_after
-TalkWorks words held files_rose talk_rose before after looks_before looks_after (Err Unwritten) = ⊥
-TalkWorks words held files_rose talk_rose before after looks_before looks_after (Err Exhausted) = IsSilent words held before after looks_before looks_after
+abbrev pub TalkWorks : List (List ℕ) → Option Held → ℕ → ℕ → Type 0 → Told → Told → ℕ → ℕ → Result TalkEnd Stop → Type 0
+TalkWorks words held files_before files_after talk_rose before after looks_before looks_after (Ok end) = TalksFor words held files_before files_after talk_rose before after looks_before looks_after end
+TalkWorks words held files_before files_after talk_rose before after looks_before looks_after (Err (At fault)) = HasTalkCause words held (Rose files_before files_after) fault × IsSilent words held before after looks_before looks_after
+TalkWorks words held files_before files_after talk_rose before after looks_before looks_after (Err Unwritten) = ⊥
+TalkWorks words held files_before files_after talk_rose before after looks_before looks_after (Err Exhausted) = IsSilent words held before after looks_before looks_after
 
 -- a text is said, or a part of it where `err` failed
 abbrev pub SaysReady : List ℕ → Status → Type 0 → Option (List ℕ) → Option (List ℕ) → Status → Type 0

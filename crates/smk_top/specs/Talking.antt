@@ -4,8 +4,9 @@ use Rattle.smk_model.specs.Conversation.{TalkTurn, TalkState, line_of, turn_afte
 use Rattle.smk_model.specs.Outcome.{Held}
 use Rattle.smk_model.specs.Reports.{BookSaid, Told}
 use Rattle.smk_model.specs.Session.{State}
-use Rattle.smk_model.specs.TalkStarts.{BringsBy}
+use Rattle.smk_model.specs.TalkStarts.{BringsBy, FailedReads, misreads}
 use Rattle.smk_outside.specs.Conversing.{Rules, Stretch, Cause}
+use Rattle.smk_outside.specs.Outside.{Rose}
 use Rattle.smk_outside.specs.Told.{Told as ToldBy}
 use Rattle.smk_outside.specs.declared.talk.ending.Ending.{Ending}
 use Rattle.smk_outside.specs.declared.talk.ending.Ending.TheVariants.{Outlasted}
@@ -30,30 +31,31 @@ pub record AnswersLine (said : BookSaid) (read_only : Bool) (held : Option Held)
   pub turned : down ≡ is_down (turn_told said state turn)
   pub looks : looks_after ≤ looks_before + (turn_told said state turn).looks
 
--- a stretch of a conversation, with the looks that were made in it, and whether a line of it was turned down
-pub record TalkStretch (said : BookSaid) (read_only : Bool) (held : Option Held) (rose : Type 0) (saying : List (List ℕ)) (first last : TalkState) (before after : ToldBy) (ending : Ending) (down : Bool) (looks_before looks_after : ℕ) : Type 0 where
-  pub talk : Stretch (talk_rules said) (FitsTalk read_only said.catalog (BringsBy held rose)) saying first last before after ending
+-- a stretch of a conversation, with the looks that were made in it, and whether a line of it was turned down; as many of its lines at most were refused by reads that failed as the count of faults shows
+pub record TalkStretch (said : BookSaid) (read_only : Bool) (held : Option Held) (files_before files_after : ℕ) (saying : List (List ℕ)) (first last : TalkState) (before after : ToldBy) (ending : Ending) (down : Bool) (looks_before looks_after : ℕ) : Type 0 where
+  pub talk : Stretch (talk_rules said) (FitsTalk read_only said.catalog (BringsBy held (Rose files_before files_after))) saying first last before after ending
+  pub misread : FailedReads (misreads held talk.turns) files_before files_after
   pub turned : down ≡ is_down (turns_told said first talk.turns)
   pub looks : looks_after ≤ looks_before + (turns_told said first talk.turns).looks
 
 -- one turn more, or the end with its cause
-pub record TakesTurn (said : BookSaid) (read_only : Bool) (held : Option Held) (rose : Type 0) (first last : TalkState) (before after : ToldBy) (down : Bool) (looks_before looks_after : ℕ) : Type 0 where
-  pub stretch : TalkStretch said read_only held rose [] first last before after Outlasted down looks_before looks_after
+pub record TakesTurn (said : BookSaid) (read_only : Bool) (held : Option Held) (files_before files_after : ℕ) (first last : TalkState) (before after : ToldBy) (down : Bool) (looks_before looks_after : ℕ) : Type 0 where
+  pub stretch : TalkStretch said read_only held files_before files_after [] first last before after Outlasted down looks_before looks_after
   pub one : length stretch.talk.turns ≡ 1
 
-pub record EndsTurn (said : BookSaid) (read_only : Bool) (held : Option Held) (rose talk_rose : Type 0) (first : TalkState) (before after : ToldBy) (ending : Ending) (down : Bool) (looks_before looks_after : ℕ) : Type 0 where
+pub record EndsTurn (said : BookSaid) (read_only : Bool) (held : Option Held) (files_before files_after : ℕ) (talk_rose : Type 0) (first : TalkState) (before after : ToldBy) (ending : Ending) (down : Bool) (looks_before looks_after : ℕ) : Type 0 where
   pub last : TalkState
-  pub stretch : TalkStretch said read_only held rose [] first last before after ending down looks_before looks_after
+  pub stretch : TalkStretch said read_only held files_before files_after [] first last before after ending down looks_before looks_after
   pub cause : (count : ℕ) → Cause ending talk_rose count
 
-abbrev pub TurnTaken : BookSaid → Bool → Option Held → Type 0 → Type 0 → TalkState → TalkState → ToldBy → ToldBy → Option Ending → Bool → ℕ → ℕ → Type 0
-TurnTaken said read_only held rose talk_rose first next before after None down looks_before looks_after = TakesTurn said read_only held rose first next before after down looks_before looks_after
-TurnTaken said read_only held rose talk_rose first next before after (Some ending) down looks_before looks_after = EndsTurn said read_only held rose talk_rose first before after ending down looks_before looks_after
+abbrev pub TurnTaken : BookSaid → Bool → Option Held → ℕ → ℕ → Type 0 → TalkState → TalkState → ToldBy → ToldBy → Option Ending → Bool → ℕ → ℕ → Type 0
+TurnTaken said read_only held files_before files_after talk_rose first next before after None down looks_before looks_after = TakesTurn said read_only held files_before files_after first next before after down looks_before looks_after
+TurnTaken said read_only held files_before files_after talk_rose first next before after (Some ending) down looks_before looks_after = EndsTurn said read_only held files_before files_after talk_rose first before after ending down looks_before looks_after
 
 -- a whole conversation over a book
-pub record Talked (said : BookSaid) (read_only : Bool) (held : Option Held) (rose talk_rose : Type 0) (saying : List (List ℕ)) (first : TalkState) (before after : ToldBy) (ending : Ending) (down : Bool) (looks_before looks_after : ℕ) : Type 0 where
+pub record Talked (said : BookSaid) (read_only : Bool) (held : Option Held) (files_before files_after : ℕ) (talk_rose : Type 0) (saying : List (List ℕ)) (first : TalkState) (before after : ToldBy) (ending : Ending) (down : Bool) (looks_before looks_after : ℕ) : Type 0 where
   pub last : TalkState
-  pub stretch : TalkStretch said read_only held rose saying first last before after ending down looks_before looks_after
+  pub stretch : TalkStretch said read_only held files_before files_after saying first last before after ending down looks_before looks_after
   pub cause : Cause ending talk_rose (length stretch.talk.turns)
 
 -- the state of a conversation, behind so many lines
