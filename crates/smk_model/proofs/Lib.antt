@@ -82,3 +82,4 @@ pub mod Conversation
 pub mod ConversationExamples
 pub mod TalkStarts
 pub mod Misreads
+pub mod WorkedExamples

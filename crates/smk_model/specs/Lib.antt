@@ -75,3 +75,4 @@ pub mod Conversation
 pub mod ConversationLaws
 pub mod ConversationExamples
 pub mod TalkStarts
+pub mod WorkedExamples

@@ -14,7 +14,9 @@ pub use crate::plans::lineage_laws::{
     answers_are_places, bin_is_floor, cui_widom, rows_agree, selection_lineage, step_by_step,
 };
 pub use crate::plans::local_laws::{adds_no_rows, cut, lists_grow, locals_are};
-pub use crate::runs::example_laws::{example_grows, examples_hold, runs_hold, sessions_hold};
+pub use crate::runs::example_laws::{
+    example_grows, examples_hold, readme_holds, runs_hold, sessions_hold, tables_hold, words_hold,
+};
 pub use crate::runs::grammar_laws::{
     faultless_asks_keep_limits, faultless_have_trees, faultless_keep_limits, faults_stay,
     one_any_line, one_book, one_line, taken_are_completed, texts_are_read,

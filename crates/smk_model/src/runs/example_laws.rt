@@ -10,6 +10,7 @@ ghost use Rattle.smk_model.specs.LineExamples.{LinesHold, AskLinesHold};
 ghost use Rattle.smk_model.specs.RunExamples.{RunsHold};
 ghost use Rattle.smk_model.specs.SessionExamples.{SessionsHold};
 ghost use Rattle.smk_model.specs.TypingExamples.{TypingsHold};
+ghost use Rattle.smk_model.specs.WorkedExamples.{ReadmeHolds, TablesHold, WordsHold};
 
 /// The rows of six views over two tables, the rids that they come from, and the lists of one step.
 pub fn examples_hold()
@@ -75,4 +76,22 @@ pub fn appends_hold()
 /// The files of the demo of one flight, and the summary of a small report.
 pub fn demos_hold()
     ensures { DemosHold }
+{}
+
+/// The first example of README: words and the bytes of three files have its report as their outcome.
+#[tactic(auto, using(crate::proofs::WorkedExamples::readme))]
+pub fn readme_holds()
+    ensures { ReadmeHolds }
+{}
+
+/// What words call a run and a conversation for: a book, a demo, a mode that isn't known, a book to which nothing may be appended.
+#[tactic(auto, using(crate::proofs::WorkedExamples::words))]
+pub fn words_hold()
+    ensures { WordsHold }
+{}
+
+/// The rows of a file with a byte order mark, quotes, defaults and a sign, and a record as it is written.
+#[tactic(auto, using(crate::proofs::WorkedExamples::tables))]
+pub fn tables_hold()
+    ensures { TablesHold }
 {}

@@ -1,0 +1,68 @@
+-- What is worked by hand, by computing it.
+use Rattle.std.specs.Prelude.{Ok}
+use Rattle.std.proofs.Common.{◌≡◌, [], ◌∷◌, Some, refl}
+use Rattle.std.specs.Fmt.{digits}
+use Rattle.clap.specs.Walk.{walked}
+use Rattle.clap.specs.Faults.{walk_fault, defaults_fault}
+use Rattle.csv.specs.Writing.{fields_text, is_blank, escaped}
+use Rattle.csv.specs.Reading.{records_from}
+use Rattle.csv.specs.Machine.{next_record}
+use Rattle.smk_base.specs.Ints.{int_of}
+use Rattle.smk_base.specs.declared.book.token.TokenKind.TheVariants as kinds
+use Rattle.smk_model.specs.Texts.{record_line}
+use Rattle.smk_model.specs.Tables.{table_of}
+use Rattle.smk_model.specs.Grammar.{name, plain, file, no_more, one_more, listed, int_type, text_type, no_default, decl, alone_what, column_what, agg, keys, aggs, plan, scan, no_step, one_step, group_step, no_extra, table_stmt, view_stmt, back_stmt, fwd_stmt, no_stmt, one_stmt, mark, listed_marks, no_then, back_line, fwd_line, plain_line, whole_any_line}
+use Rattle.smk_model.specs.Readings.{asks, no_line, one_line}
+use Rattle.smk_model.specs.Words.{Files, words_of}
+use Rattle.smk_model.specs.Outcome.{spells, parsed, read, OpensBook, OpensScript, lines_read, no_script, a_script, load_all, inputs, usable, unusable, unreadable, reported}
+use Rattle.smk_model.specs.WorkedExamples.{readme_book_name, readme_script_name, readme_files, readme_catalog, readme_workbook, readme_readings, readme_inputs, readme_report, ReadmeHolds, WordsHold, TablesHold}
+use Rattle.smk_model.proofs.LineExamples.{stands}
+
+book_there : OpensBook readme_files readme_book_name (Ok (record { catalog = readme_catalog; fds = [] }))
+book_there = read refl (parsed (spells
+    (one_stmt (table_stmt stands (name stands) stands (file stands) stands (listed (decl (plain stands) (int_type stands) no_default) (one_more stands (decl (plain stands) (text_type stands) no_default) (one_more stands (decl (plain stands) (int_type stands) no_default) no_more))) stands)
+    (one_stmt (view_stmt stands (name stands) stands (plan (scan stands (name stands)) (one_step stands (group_step stands (keys (listed (plain stands) no_more)) (aggs stands (listed (agg (plain stands) stands (alone_what {k = kinds.Count} refl stands)) (one_more stands (agg (plain stands) stands (column_what {k = kinds.Sum} refl stands (plain stands))) no_more)) stands)) no_step)))
+    (one_stmt (back_stmt stands stands (name stands) stands (name stands) no_extra)
+    (one_stmt (fwd_stmt stands stands (name stands) stands (name stands))
+    (no_stmt stands)))))
+    refl) refl)
+
+script_there : OpensScript readme_files (Some readme_script_name) (Ok readme_readings)
+script_there = a_script (read refl (lines_read
+    (one_line (asks (λ e. absurd (cc)) (whole_any_line (plain_line (back_line stands (name stands) (listed_marks (listed (mark stands refl refl) no_more)) stands (name stands) no_then)) stands) refl)
+    (one_line (asks (λ e. absurd (cc)) (whole_any_line (plain_line (fwd_line stands (name stands) (listed_marks (listed (mark stands refl refl) (one_more stands (mark stands refl refl) no_more))) stands (name stands))) stands) refl)
+    no_line))))
+
+table_there : load_all readme_files readme_catalog.tables ≡ Ok readme_workbook.tables
+unfolding table_of records_from next_record int_of
+table_there = refl
+
+reports : reported (readme_inputs readme_readings) ≡ Ok readme_report
+unfolding digits record_line fields_text is_blank
+reports = refl
+
+called : words_of (readme_book_name ∷ readme_script_name ∷ []) ≡ Some (Files readme_book_name (Some readme_script_name))
+unfolding walked walk_fault defaults_fault int_of
+called = refl
+
+pub readme : ReadmeHolds
+readme = record {
+  outcome = read (usable called (inputs book_there table_there script_there refl)) reports;
+  book_alone = inputs book_there table_there no_script refl;
+}
+
+pub words : WordsHold
+unfolding walked walk_fault defaults_fault int_of
+words = record {
+  book = refl;
+  demo = refl;
+  unknown_mode = λ held. unreadable (unusable refl);
+  talk = refl;
+}
+
+pub tables : TablesHold
+unfolding table_of records_from next_record int_of record_line fields_text is_blank escaped
+tables = record {
+  rows = refl;
+  line = refl;
+}

@@ -1,0 +1,117 @@
+-- Worked by hand from their bytes: a whole run, words, the table of a file, and a record.
+use Rattle.std.specs.Prelude.{◌≡◌, ℕ, pos, negsuc, true, nat_eq, cond, List, [], ◌∷◌, ◌++◌, Some, None, Ok, Err, codes}
+use Rattle.std.specs.Cmp.Lexicographic.{pointwise}
+use Rattle.smk_base.specs.declared.value.Kind.TheVariants as kinds
+use Rattle.smk_base.specs.declared.value.Value.TheVariants.{Int, Text}
+use Rattle.smk_base.specs.declared.fault.Fault.TheVariants.{Usage}
+use Rattle.smk_base.specs.declared.book.col_decl.ColDecl.{ColDecl}
+use Rattle.smk_base.specs.declared.book.catalog.BackExtra.TheVariants as extras
+use Rattle.smk_base.specs.declared.book.tree.Line.TheVariants as lines
+use Rattle.smk_base.specs.declared.book.tree.Marks.TheVariants as markings
+use Rattle.smk_base.specs.declared.book.tree.Then.TheVariants as thens
+use Rattle.smk_base.specs.CatalogImage.{CatalogImage}
+use Rattle.smk_model.specs.Examples.{sales, by_region}
+use Rattle.smk_model.specs.Readings.{Reading, plain_reading}
+use Rattle.smk_model.specs.Session.{Workbook}
+use Rattle.smk_model.specs.SessionExamples.{int_column, text_column, view_of}
+use Rattle.smk_model.specs.Reports.{Report}
+use Rattle.smk_model.specs.Words.{Inject, Files, Demo, Settings, invocation_of}
+use Rattle.smk_model.specs.TalkWords.{talk_call_of}
+use Rattle.smk_model.specs.Tables.{table_of}
+use Rattle.smk_model.specs.Texts.{record_line}
+use Rattle.smk_model.specs.Outcome.{Held, Inputs, ReadsFiles, Outcome}
+
+-- the first example of README: three files and no other, a book, its table and a script
+abbrev pub readme_book_name : List ℕ
+readme_book_name = codes "book.smk"
+
+abbrev pub readme_script_name : List ℕ
+readme_script_name = codes "script.txt"
+
+abbrev pub readme_book_bytes : List ℕ
+readme_book_bytes =
+    codes "table sales from \"sales.csv\" (id int, region text, amount int)\n"
+    ++ codes "view by_region = scan sales | group region {n = count, total = sum amount}\n"
+    ++ codes "lineage back by_region to sales\n"
+    ++ codes "lineage fwd sales to by_region\n"
+
+abbrev pub readme_sales_bytes : List ℕ
+readme_sales_bytes = codes "id,region,amount\n1,north,10\n2,south,20\n3,north,30\n4,east,5\n"
+
+abbrev pub readme_script_bytes : List ℕ
+readme_script_bytes = codes "back by_region 0 to sales\nfwd sales 1,3 to by_region\n"
+
+abbrev pub readme_files : Held
+readme_files name =
+    cond (pointwise nat_eq name readme_book_name) (Some readme_book_bytes)
+    (cond (pointwise nat_eq name (codes "sales.csv")) (Some readme_sales_bytes)
+    (cond (pointwise nat_eq name readme_script_name) (Some readme_script_bytes)
+    None))
+
+-- what the book says, with the rows of its table
+abbrev pub readme_catalog : CatalogImage
+readme_catalog = record {
+  tables = record { name = codes "sales"; file = codes "sales.csv"; cols = int_column (codes "id") ∷ text_column (codes "region") ∷ int_column (codes "amount") ∷ [] } ∷ [];
+  views = view_of (codes "by_region") by_region (codes "region" ∷ codes "n" ∷ codes "total" ∷ []) (kinds.Text ∷ kinds.Int 0 ∷ kinds.Int 1 ∷ []) ∷ [];
+  backs = record { view = 0; table = 0; extra = extras.Plain } ∷ [];
+  fwds = record { table = 0; view = 0 } ∷ [];
+  links = [];
+}
+
+abbrev pub readme_workbook : Workbook
+readme_workbook = record { catalog = readme_catalog; tables = sales ∷ [] }
+
+-- what the lines of the script ask
+abbrev pub readme_readings : List Reading
+readme_readings =
+    plain_reading (lines.Back (codes "by_region") (markings.Listed (0 ∷ [])) (codes "sales") thens.Plain)
+    ∷ plain_reading (lines.Fwd (codes "sales") (markings.Listed (1 ∷ 3 ∷ [])) (codes "by_region"))
+    ∷ []
+
+-- what is read of the files with these readings: no dependency, and no rows beside those of the table
+abbrev pub readme_inputs : List Reading → Inputs
+readme_inputs readings = record { book = readme_workbook; fds = []; readings = readings; added = [] }
+
+abbrev pub readme_report : Report
+readme_report = record {
+  sizes = record { name = codes "by_region"; rows = 3 } ∷ [];
+  replies = 2;
+  refused = 0;
+  unread = 0;
+  text =
+      codes "view by_region 3\nrow,region,n,total\n0,north,2,40\n1,south,1,20\n2,east,1,5\n"
+      ++ codes "back by_region to sales 2\nrid,id,region,amount\n0,1,north,10\n2,3,north,30\n"
+      ++ codes "fwd sales to by_region 2\nmarks 1 2\n";
+}
+
+-- the words that name the book and the script have this report as their outcome, and the book without a script is read without a fault
+pub record ReadmeHolds : Type 0 where
+  pub outcome : Outcome (readme_book_name ∷ readme_script_name ∷ []) readme_files (Ok readme_report)
+  pub book_alone : ReadsFiles readme_files readme_book_name None (Ok (readme_inputs []))
+
+-- how a run works that isn't told otherwise
+abbrev pub plain_settings : Settings
+plain_settings = record { mode = Inject; workers = 1 }
+
+-- what words call for; those that call for nothing are refused whatever the files hold
+pub record WordsHold : Type 0 where
+  pub book : invocation_of (codes "book.smk" ∷ []) ≡ Some (record { settings = plain_settings; texts = Files (codes "book.smk") None })
+  pub demo : invocation_of (codes "--demo" ∷ codes "5" ∷ []) ≡ Some (record { settings = plain_settings; texts = Demo 5 })
+  pub unknown_mode : (held : Held) → Outcome (codes "--mode" ∷ codes "fast" ∷ codes "book.smk" ∷ []) held (Err Usage)
+  pub talk : talk_call_of (codes "--read-only" ∷ codes "book.smk" ∷ []) ≡ Some (record { settings = plain_settings; texts = Files (codes "book.smk") None; read_only = true })
+
+-- a number with a default, a name in quotes, and a text with a default
+abbrev pub marked_columns : List ColDecl
+marked_columns =
+    record { name = codes "n"; kind = kinds.Int 0; def = Some (Int (negsuc 0)) }
+    ∷ text_column (codes "a, \"b\"")
+    ∷ record { name = codes "t"; kind = kinds.Text; def = Some (Text (codes "none")) }
+    ∷ []
+
+-- a file with a byte order mark, in which the columns stand in another order
+abbrev pub marked_bytes : List ℕ
+marked_bytes = 0xEF ∷ 0xBB ∷ 0xBF ∷ codes "\"a, \"\"b\"\"\",n,t\r\nx,+007,\r\n\"y,\r\n\"\"z\"\"\", ,w\r\n"
+
+pub record TablesHold : Type 0 where
+  pub rows : table_of marked_columns marked_bytes ≡ Ok ((Int (pos 7) ∷ Text (codes "x") ∷ Text (codes "none") ∷ []) ∷ (Int (negsuc 0) ∷ Text (codes "y,\r\n\"z\"") ∷ Text (codes "w") ∷ []) ∷ [])
+  pub line : record_line (codes "a,b" ∷ codes "say \"hi\"" ∷ codes "plain" ∷ [] ∷ []) ≡ codes "\"a,b\",\"say \"\"hi\"\"\",plain,\n"
