@@ -10,3 +10,4 @@ mod Answered
 mod TalkStretches
 mod TalkLines
 mod TalkEndings
+mod TalkExamples

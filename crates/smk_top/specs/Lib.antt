@@ -8,3 +8,4 @@ pub mod Completeness
 pub mod Talking
 pub mod TalkEndings
 pub mod TalkLaws
+pub mod TalkExamples

@@ -1,4 +1,5 @@
 ghost use Rattle.smk_top.specs.Completeness.{Completeness, TalkCompleteness};
+ghost use Rattle.smk_top.specs.TalkExamples.{TalksHold};
 ghost use Rattle.smk_top.specs.TalkLaws.{LinesAreOne};
 
 /// Where a run has a report and nothing outside fails, exactly the report is appended and the status is its own, unless memory is wanting. So it is over files that tell what they hold, and of a demo over any.
@@ -17,4 +18,10 @@ pub fn talk_completeness()
 #[tactic(auto, using(crate::proofs::CutLines::lines_are_one))]
 pub fn lines_are_one()
     ensures { LinesAreOne }
+{}
+
+/// A conversation over README's first example is one that `converse` may hold, event by event; with a line heard before the one before it is answered it is none.
+#[tactic(auto, using(crate::proofs::TalkExamples::talks))]
+pub fn talks_hold()
+    ensures { TalksHold }
 {}
