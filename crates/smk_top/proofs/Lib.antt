@@ -4,8 +4,10 @@ mod StartNames
 mod Walks
 mod Endings
 mod Completes
+mod CutLines
 mod ReplyFits
 mod Answered
 mod TalkStretches
 mod TalkLines
 mod TalkEndings
+mod TalkExamples

@@ -1,13 +1,22 @@
--- What a run can't fail to do.
-use Rattle.std.specs.Prelude.{◌≡◌, ◌⊎◌, ℕ, List, [], Option, Some, None, Ok}
+-- What a run and a conversation can't fail to do.
+use Rattle.std.specs.Prelude.{◌≡◌, ◌⊎◌, ℕ, List, [], length, map, Option, Some, None, Ok}
+use Rattle.std.specs.Io.KnownBytes as known
+use Rattle.std.specs.List.{concat}
+use Rattle.smk_model.specs.Conversation.{line_of, talk_said}
 use Rattle.smk_model.specs.Reports.{Report}
-use Rattle.smk_model.specs.Outcome.{Held, Outcome, nothing_held, written_of}
+use Rattle.smk_model.specs.Outcome.{Held, Inputs, Outcome, nothing_held, written_of}
+use Rattle.smk_model.specs.TalkStarts.{StartsTalk}
+use Rattle.smk_model.specs.TalkWords.{talk_source}
+use Rattle.smk_model.specs.Texts.{no_memory_text}
 use Rattle.smk_model.specs.Words.{Demo, words_of}
 use Rattle.smk_outside.specs.Outside.{Appends, Rose}
+use Rattle.smk_outside.specs.Told.{Told, AreAll}
+use Rattle.smk_outside.specs.declared.talk.ending.Ending.{Ending}
 use Rattle.smk_top.specs.declared.status.Status.{Status}
 use Rattle.smk_top.specs.declared.status.Status.TheVariants.{NoMemory}
 use Rattle.smk_top.specs.Statuses.{status_of_report}
 use Rattle.smk_top.specs.Endings.{RunEnds}
+use Rattle.smk_top.specs.TalkEndings.{Converses, ConverseEnds, IsSilent, turns_of, report_by}
 
 -- where no count of faults rose in a run, what the run writes of this report is appended whole and nothing is said, and the status is the report's; or memory was wanting
 abbrev pub WritesWhole : List (List ℕ) → Option Held → Report → Type 0
@@ -20,3 +29,25 @@ WritesWhole words held report = (files files_after outs outs_after errs errs_aft
 pub record Completeness : Type 0 where
   pub told : (words : List (List ℕ)) (held : Held) (report : Report) → Outcome words held (Ok report) → WritesWhole words (Some held) report
   pub demo : (words : List (List ℕ)) (n : ℕ) (report : Report) → words_of words ≡ Some (Demo n) → Outcome words nothing_held (Ok report) → WritesWhole words None report
+
+-- a conversation over these inputs in which every line is heard and answered, or as many as can be counted: all of it is said, and the status is that of its report
+pub record AnswersAll (words : List (List ℕ)) (held : Option Held) (given : Inputs) (files files_after : ℕ) (rose : Type 0) (before after : Told) (looks looks_after : ℕ) (status : Status) : Type 0 where
+  pub ending : Ending
+  pub talk : Converses words held files files_after rose before after looks looks_after ending
+  pub over : talk.given ≡ given
+  pub heard : AreAll before (map line_of (turns_of talk)) ⊎ (length (turns_of talk) ≡ 18446744073709551615)
+  pub answered : known.Appends before.said after.said (concat (talk_said given.book given.fds (turns_of talk)))
+  pub ends : status ≡ status_of_report (report_by talk)
+
+-- where no count of faults rose in a conversation, all its lines were answered over these inputs, and nothing is said on `err`; or memory was wanting before anything was said
+abbrev pub TalksWhole : List (List ℕ) → Option Held → Inputs → Type 0
+TalksWhole words held given = (files files_after talks talks_after errs errs_after looks looks_after : ℕ) (before after : Told) (err_before err_after : Option (List ℕ)) (status : Status)
+    → ConverseEnds words held files files_after (Rose talks talks_after) (Rose errs errs_after) before after looks looks_after err_before err_after status
+    → (Rose files files_after → ⊥) → (Rose talks talks_after → ⊥) → (Rose errs errs_after → ⊥)
+    → (AnswersAll words held given files files_after (Rose talks talks_after) before after looks looks_after status × Appends err_before err_after [])
+    ⊎ ((status ≡ NoMemory) × IsSilent words held before after looks looks_after × Appends err_before err_after no_memory_text)
+
+-- a conversation that starts goes on to its end
+pub record TalkCompleteness : Type 0 where
+  pub told : (words : List (List ℕ)) (held : Held) (given : Inputs) → StartsTalk words held (Ok given) → TalksWhole words (Some held) given
+  pub demo : (words : List (List ℕ)) (n : ℕ) (given : Inputs) → talk_source words ≡ Some (Demo n) → StartsTalk words nothing_held (Ok given) → TalksWhole words None given

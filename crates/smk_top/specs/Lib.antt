@@ -7,3 +7,5 @@ pub mod Counting
 pub mod Completeness
 pub mod Talking
 pub mod TalkEndings
+pub mod TalkLaws
+pub mod TalkExamples
