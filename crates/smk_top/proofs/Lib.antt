@@ -4,6 +4,7 @@ mod StartNames
 mod Walks
 mod Endings
 mod Completes
+mod EndingsTold
 mod ReplyFits
 mod Answered
 mod TalkStretches

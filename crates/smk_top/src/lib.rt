@@ -16,6 +16,6 @@ mod summarizing;
 mod talking;
 
 pub use conversing::converse;
-pub use laws::completeness;
+pub use laws::{completeness, ends_as_told};
 pub use program::run;
 pub use status::Status;
