@@ -5,6 +5,7 @@ mod Walks
 mod Endings
 mod Completes
 mod CutLines
+mod EndingsTold
 mod ReplyFits
 mod Answered
 mod TalkStretches

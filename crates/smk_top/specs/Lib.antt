@@ -1,6 +1,7 @@
 pub mod Answering
 pub mod Statuses
 pub mod Endings
+pub mod EndingsTold
 pub mod Looking
 pub mod Writing
 pub mod Counting

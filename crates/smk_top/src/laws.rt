@@ -1,4 +1,5 @@
 ghost use Rattle.smk_top.specs.Completeness.{Completeness, TalkCompleteness};
+ghost use Rattle.smk_top.specs.EndingsTold.{EndsAsTold};
 ghost use Rattle.smk_top.specs.TalkExamples.{TalksHold};
 ghost use Rattle.smk_top.specs.TalkLaws.{LinesAreOne};
 
@@ -24,4 +25,10 @@ pub fn lines_are_one()
 #[tactic(auto, using(crate::proofs::TalkExamples::talks))]
 pub fn talks_hold()
     ensures { TalksHold }
+{}
+
+/// A run ends exactly as the endings say that have each cause written out: those over files that tell what they hold, and those over files that don't.
+#[tactic(auto, using(crate::proofs::EndingsTold::as_told))]
+pub fn ends_as_told()
+    ensures { EndsAsTold }
 {}

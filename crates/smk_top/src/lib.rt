@@ -16,6 +16,6 @@ mod summarizing;
 mod talking;
 
 pub use conversing::converse;
-pub use laws::{completeness, lines_are_one, talk_completeness, talks_hold};
+pub use laws::{completeness, ends_as_told, lines_are_one, talk_completeness, talks_hold};
 pub use program::run;
 pub use status::Status;
