@@ -1,4 +1,4 @@
-ghost use Rattle.std.specs.Prelude.{◌<◌, ◌≤◌};
+ghost use Rattle.std.specs.Prelude.{◌≡◌, ◌<◌, ◌≤◌};
 ghost use Rattle.smk_base.specs.declared.workers.TheConstants.{WORKER_LIMIT};
 
 use smk_base::{Dir, Op1, Op2, Rel};
@@ -6,6 +6,7 @@ use smk_body::{Local, Made, OpBody, Want};
 use smk_jobs::Crew;
 use smk_outside::Gate;
 use std::alloc::{AllocError, Global};
+use std::marker::Model;
 use std::thread::Threads;
 
 /// A body whose steps are found and made in as many parts as workers. Part p passes the gate with its number before its first row. What is kept of a step, and its lineage, are those of the inner body.
@@ -18,11 +19,21 @@ pub struct Pieces<'g, G: Gate + Sync, B: OpBody> {
     ghost few: { workers ≤ WORKER_LIMIT },
 }
 
+impl<'g, G: Gate + Sync, B: OpBody> Model for Pieces<'g, G, B> {
+    ghost use Rattle.smk_par.specs.Pieces.{PiecesImage};
+
+    ghost Value = { PiecesImage B };
+
+    ghost view = { λ a. record { inner = a.inner; workers = a.workers } };
+}
+
 impl<'g, G: Gate + Sync, B: OpBody> Pieces<'g, G, B> {
     /// A body of so many parts around another. It takes no memory.
     pub fn new(inner: B, gate: &'g G, workers: u32) -> Pieces<'g, G, B>
         requires some { 0 < workers }
         requires few { workers ≤ WORKER_LIMIT }
+        ensures inner { result.inner ≡ inner }
+        ensures workers { result.workers ≡ workers }
     {
         Pieces {
             inner,

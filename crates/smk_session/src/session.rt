@@ -8,8 +8,9 @@ ghost use Rattle.smk_model.specs.Opening.{first_view_fault};
 ghost use Rattle.smk_model.specs.Replies as replies;
 ghost use Rattle.smk_model.specs.Selection.{each_kinds};
 ghost use Rattle.smk_session.specs.Parts.{parts_image};
-ghost use Rattle.smk_session.specs.Opened.{IsStartFault, opened, workbook_image};
-ghost use Rattle.smk_session.specs.Sessions.{IsSession, state_of, workbook_of};
+ghost use Rattle.smk_session.specs.Extras.{all_cubes, splits_of};
+ghost use Rattle.smk_session.specs.Opened.{IsStartFault, opened, opened_views, workbook_image};
+ghost use Rattle.smk_session.specs.Sessions.{IsSession, contents_kept, state_of, workbook_of};
 ghost use Rattle.smk_session.specs.Turns.{IsTurnOf, state_turned};
 
 use crate::answer::answer_to;
@@ -81,6 +82,9 @@ impl Session {
         requires few_workers { workers ≤ WORKER_LIMIT }
         ensures book { IfOk result (λ session. session.catalog ≡ book) }
         ensures tables { IfOk result (λ session. session.tables ≡ tables.items) }
+        ensures views { IfOk result (λ session. session.views ≡ opened_views (workbook_image book tables.items)) }
+        ensures splits { IfOk result (λ session. session.splits ≡ splits_of (workbook_image book tables.items)) }
+        ensures cubes { IfOk result (λ session. session.cubes ≡ all_cubes (workbook_image book tables.items)) }
         ensures brushes { IfOk result (λ session. session.brushes ≡ []) }
         ensures contents { IfOk result (λ session. session.contents ≡ map (λ w. None) (upto (length session.views))) }
         ensures keeps { IfOk result IsSession }
@@ -245,6 +249,7 @@ impl Session {
         ensures views { self.new.views ≡ self.old.views }
         ensures splits { self.new.splits ≡ self.old.splits }
         ensures cubes { self.new.cubes ≡ self.old.cubes }
+        ensures contents { self.new.contents ≡ contents_kept (catalog_image self.old.catalog) (state_turned self.old turn) }
         ensures mode { self.new.mode ≡ self.old.mode }
         ensures workers { self.new.workers ≡ self.old.workers }
     {
@@ -276,6 +281,7 @@ impl Session {
         ensures views { self.new.views ≡ self.old.views }
         ensures splits { self.new.splits ≡ self.old.splits }
         ensures cubes { self.new.cubes ≡ self.old.cubes }
+        ensures contents { IfOk result (λ _. self.new.contents ≡ contents_kept (catalog_image self.old.catalog) (state_of self.new)) }
         ensures mode { self.new.mode ≡ self.old.mode }
         ensures workers { self.new.workers ≡ self.old.workers }
         ensures kept { OnErr result (self.new ≡ self.old) }

@@ -1,3 +1,4 @@
+ghost use Rattle.std.specs.Prelude.{◌≡◌};
 ghost use Rattle.smk_base.specs.PlanImage.{unary_of};
 ghost use Rattle.smk_model.specs.Kinds.{Fits1};
 
@@ -6,6 +7,7 @@ use smk_base::{Dir, Op1, Op2, Rel};
 use smk_body::{Local, Made, OpBody, Want};
 use smk_jobs::Crew;
 use std::alloc::{AllocError, Global};
+use std::marker::Model;
 use std::sync::atomic::{AtomicU64, Ordering};
 use std::thread::Threads;
 
@@ -26,9 +28,19 @@ pub struct Counted<B: OpBody> {
     finish: AtomicU64,
 }
 
+impl<B: OpBody> Model for Counted<B> {
+    ghost use Rattle.smk_test_bodies.specs.Counted.{CountedImage};
+
+    ghost Value = { CountedImage B };
+
+    ghost view = { λ a. record { inner = a.inner } };
+}
+
 impl<B: OpBody> Counted<B> {
     /// Nothing was called yet.
-    pub fn new(inner: B) -> Counted<B> {
+    pub fn new(inner: B) -> Counted<B>
+        ensures { result.inner ≡ inner }
+    {
         Counted {
             inner,
             one: AtomicU64::new(0),

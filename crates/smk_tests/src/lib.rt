@@ -9,6 +9,8 @@ mod bodies;
 #[cfg(test)]
 mod contents;
 #[cfg(test)]
+mod jobs;
+#[cfg(test)]
 mod joined;
 #[cfg(test)]
 mod meetings;
