@@ -22,6 +22,11 @@ reads_joined m n before between after (inl p) (inl q) = inl (omega (arith, p, q)
 reads_joined m n before between after (inr p) (inl q) = inr (omega (arith, p, q))
 reads_joined m n before between after p (inr q) = inr q
 
+-- reads in a part of a longer time
+pub reads_within : (n start before after end : ℕ) → start ≤ before → after ≤ end → FailedReads n before after → FailedReads n start end
+reads_within n start before after end s e (inl p) = inl (omega (arith, s, e, p))
+reads_within n start before after end s e (inr p) = inr (omega (arith, e, p))
+
 -- those of turns, one part after the other
 pub misreads_joined : (held : Option Held) (a b : List TalkTurn) (before between after : ℕ) → FailedReads (misreads held a) before between → FailedReads (misreads held b) between after → FailedReads (misreads held (a ++ b)) before after
 misreads_joined held a b before between after p q =
