@@ -225,9 +225,9 @@ ends_faulted words held files_rose out_rose err_rose a b e f fault status w (inl
 ends_faulted words held files_rose out_rose err_rose a b e f fault status w (inr says) = memory_ends words held files_rose out_rose err_rose a b e f [] status w.1 (inl refl) says
 
 -- a step that makes no look makes none before its fault
-pub looks_at_nothing : (stop : Stop) (n : ℕ) → LooksBehindReading {X = Counts} (Err stop) n n
-looks_at_nothing (At fault) n = λ met. refl
-looks_at_nothing _ n = tt
+pub looks_at_nothing : (X : Type 0) (stop : Stop) (n : ℕ) → LooksBehindReading {X = X} (Err stop) n n
+looks_at_nothing X (At fault) n = λ met. refl
+looks_at_nothing X _ n = tt
 
 -- a fault of the views is none of what is read
 views_are_later : (fault : Fault) → IsOfViews fault → IsReadingFault (status_of_fault fault) → ⊥

@@ -31,7 +31,8 @@ rows_brought brought = each_rows (option_to_list brought)
 -- the rows of a line's file, if it appends one
 pub brought_rows : (held : Option Held) (rose : Type 0) (asked : Option TableInfo) (brought : Option Relation) → each_kinds (option_to_list brought) ≡ each_table_kinds (option_to_list asked)
     → Loads held rose (option_to_list asked) rows_brought (Ok brought) → BringsBy held rose asked (Ok (next_rows (each_rows (option_to_list brought))))
-brought_rows held rose None None kinds is = refl
+brought_rows None rose None None kinds is = refl
+brought_rows (Some held) rose None None kinds is = inl refl
 brought_rows held rose None (Some table) kinds is = absurd (cc)
 brought_rows None rose (Some info) brought kinds is = tt
 brought_rows (Some held) rose (Some info) None kinds is = absurd (cc)

@@ -4,15 +4,18 @@ use Rattle.std.specs.Prelude.{◌||◌, nat_lt}
 use borrow.Author.Tests.{lt-ltb}
 use Rattle.smk_base.specs.declared.book.catalog.TableInfo.{TableInfo}
 use Rattle.smk_base.specs.declared.fault.Fault.{Fault}
-use Rattle.smk_model.specs.Conversation.{TalkTurn, Replied, Unbrought, ReadOnly, Forgone, TooLong, TalkState, line_of, turn_after, turn_told, turns_told, FitsTalk}
-use Rattle.smk_model.specs.Outcome.{Held, appended_at}
+use Rattle.smk_model.specs.Conversation.{TalkTurn, Replied, Unbrought, ReadOnly, Forgone, TooLong, TalkState, line_of, turn_after, turn_block, turn_told, turns_told, FitsTalk}
+use Rattle.smk_model.specs.Outcome.{Held, appended_at, nothing_held}
 use Rattle.smk_model.specs.Session.{State}
 use Rattle.smk_model.specs.Reports.{BookSaid, LinesTold, nothing_told, followed_by}
-use Rattle.smk_model.specs.TalkStarts.{BringsBy}
+use Rattle.smk_model.specs.TalkStarts.{BringsBy, FailedReads, misreads}
+use Rattle.smk_model.proofs.Misreads.{reads_within, misreads_joined, misread_once}
 use Rattle.smk_model.specs.Values.{Row}
 use Rattle.smk_outside.proofs.Stretches as stretches
+use Rattle.smk_outside.specs.declared.talk.event.Event.{Event}
 use Rattle.smk_outside.specs.declared.talk.event.Event.TheVariants.{Heard, End}
 use Rattle.smk_outside.specs.Hearing.{Hears}
+use Rattle.smk_outside.specs.Outside.{Rose}
 use Rattle.smk_outside.specs.Saying.{AreFront, Says, SaysFront}
 use Rattle.smk_outside.specs.Turning.{ReplyGives}
 use Rattle.smk_outside.specs.Conversing.{Cause, Talks, TakesBy, last_state}
@@ -22,7 +25,7 @@ use Rattle.std.proofs.lemmas.List.Sums.{fold-append}
 use Rattle.smk_outside.specs.Told.{Told as ToldBy, Adds, AreAll, says}
 use Rattle.smk_outside.specs.declared.talk.ending.Ending.{Ending}
 use Rattle.smk_outside.specs.declared.talk.ending.Ending.TheVariants.{Ended, Unheard, Unsaid, Outlasted}
-use Rattle.smk_inputs.proofs.Stops.{untold_within}
+use Rattle.smk_inputs.proofs.Stops.{rose_within, untold_within}
 use Rattle.smk_top.specs.Talking.{talk_rules, is_down, talk_at, AnswersLine, TalkStretch, TakesTurn, EndsTurn, TurnTaken, Talked}
 
 -- what is told of turns, one part after the other: the sums
@@ -78,15 +81,20 @@ one_down told =
 one_looks : (told : LinesTold) (before after : ℕ) → after ≤ before + told.looks → after ≤ before + (followed_by told nothing_told).looks
 one_looks told before after few = omega (arith, few)
 
-module _ (said : BookSaid) (read_only : Bool) (held : Option Held) where
-  -- what came of a file came of it in a part
-  brings_more : (rose_here rose : Type 0) → (rose_here → rose) → (h : Option Held) (table : Option TableInfo) (brought : Result (List Row) Fault) → BringsBy h rose_here table brought → BringsBy h rose table brought
-  brings_more rose_here rose wide h None brought is = is
-  brings_more rose_here rose wide None (Some table) (Ok rows) is = tt
-  brings_more rose_here rose wide None (Some table) (Err fault) is = untold_within rose_here rose fault wide is
-  brings_more rose_here rose wide (Some h) (Some table) brought (inl is) = inl is
-  brings_more rose_here rose wide (Some h) (Some table) brought (inr (up, unread)) = inr (wide up, unread)
+-- what came of a file in a part came of it in the whole
+brings_more : (rose_here rose : Type 0) → (rose_here → rose) → (held : Option Held) (table : Option TableInfo) (brought : Result (List Row) Fault) → BringsBy held rose_here table brought → BringsBy held rose table brought
+brings_more rose_here rose wide None None brought is = is
+brings_more rose_here rose wide None (Some table) (Ok rows) is = tt
+brings_more rose_here rose wide None (Some table) (Err fault) is = untold_within rose_here rose fault wide is
+brings_more rose_here rose wide (Some held) table brought (inl is) = inl is
+brings_more rose_here rose wide (Some held) table brought (inr (up, unread)) = inr (wide up, unread)
 
+-- one read at least failed where the count rose
+rose_shows : (before after : ℕ) → Rose before after → FailedReads 1 before after
+rose_shows before after (inl less) = inl (omega (arith, less))
+rose_shows before after (inr last) = inr (omega (arith, last))
+
+module _ (said : BookSaid) (read_only : Bool) (held : Option Held) where
   -- turns fit by whatever more may come of files
   pub fits_by : (Here More : Option TableInfo → Result (List Row) Fault → Type 0) → ((table : Option TableInfo) (brought : Result (List Row) Fault) → Here table brought → More table brought)
       → (state : TalkState) (turn : TalkTurn) → FitsTalk read_only said.catalog Here state turn → FitsTalk read_only said.catalog More state turn
@@ -98,32 +106,19 @@ module _ (said : BookSaid) (read_only : Bool) (held : Option Held) where
   fits_by Here More wide state (Forgone heard) (reads, inr brought) = (reads, inr (wide (appended_at said.catalog heard.reading) (Ok heard.rows) brought))
   fits_by Here More wide state (TooLong bytes) is = is
 
-  -- a stretch, as part of a longer time
-  pub stretch_within : (rose_here rose : Type 0) (saying : List (List ℕ)) (first last : TalkState) (before after : ToldBy) (ending : Ending) (down : Bool) (looks_before looks_after : ℕ) → (rose_here → rose)
-      → (part : TalkStretch said read_only held rose_here saying first last before after ending down looks_before looks_after)
-      → (whole : TalkStretch said read_only held rose saying first last before after ending down looks_before looks_after) × (whole.talk.turns ≡ part.talk.turns)
-  stretch_within rose_here rose saying first last before after ending down looks_before looks_after wide part = (
-    record {
-      talk = record {
-        turns = part.talk.turns;
-        events = part.talk.events;
-        talks = stretches.talks_refit (talk_rules said) (FitsTalk read_only said.catalog (BringsBy held rose_here)) (FitsTalk read_only said.catalog (BringsBy held rose)) (fits_by (BringsBy held rose_here) (BringsBy held rose) (brings_more rose_here rose wide held)) first saying ending part.talk.turns part.talk.events part.talk.talks;
-        state = part.talk.state;
-        adds = part.talk.adds;
-        takes = part.talk.takes;
-      };
-      turned = part.turned;
-      looks = part.looks;
-    },
-    refl,
-  )
+  -- turns of a part fit in the whole
+  within : (start before after end : ℕ) → start ≤ before → before ≤ after → after ≤ end → (saying : List (List ℕ)) (first : TalkState) (ending : Ending) (turns : List TalkTurn) (events : List Event)
+      → Talks (talk_rules said) (FitsTalk read_only said.catalog (BringsBy held (Rose before after))) first saying ending turns events
+      → Talks (talk_rules said) (FitsTalk read_only said.catalog (BringsBy held (Rose start end))) first saying ending turns events
+  within start before after end s m e saying first ending turns events talks =
+      stretches.talks_refit (talk_rules said) _ _ (fits_by (BringsBy held (Rose before after)) (BringsBy held (Rose start end)) (brings_more _ _ (rose_within start before after end s m e) held)) first saying ending turns events talks
 
   -- two stretches, one after the other
-  pub stretches_joined : (rose : Type 0) (saying : List (List ℕ)) (first mid last : TalkState) (before between after : ToldBy) (ending : Ending) (down more : Bool) (looks_before looks_between looks_after : ℕ)
-      → (p : TalkStretch said read_only held rose saying first mid before between Outlasted down looks_before looks_between)
-      → (q : TalkStretch said read_only held rose [] mid last between after ending more looks_between looks_after)
-      → (whole : TalkStretch said read_only held rose saying first last before after ending (down || more) looks_before looks_after) × (whole.talk.turns ≡ p.talk.turns ++ q.talk.turns)
-  stretches_joined rose saying first mid last before between after ending down more looks_before looks_between looks_after p q =
+  pub stretches_joined : (faults faults_between faults_after : ℕ) (saying : List (List ℕ)) (first mid last : TalkState) (before between after : ToldBy) (ending : Ending) (down more : Bool) (looks_before looks_between looks_after : ℕ) → faults ≤ faults_between → faults_between ≤ faults_after
+      → (p : TalkStretch said read_only held faults faults_between saying first mid before between Outlasted down looks_before looks_between)
+      → (q : TalkStretch said read_only held faults_between faults_after [] mid last between after ending more looks_between looks_after)
+      → (whole : TalkStretch said read_only held faults faults_after saying first last before after ending (down || more) looks_before looks_after) × (whole.talk.turns ≡ p.talk.turns ++ q.talk.turns)
+  stretches_joined faults faults_between faults_after saying first mid last before between after ending down more looks_before looks_between looks_after up later p q =
       let s = sums said first p.talk.turns q.talk.turns in
       let at = subst (λ m. is_down (turns_told said m q.talk.turns) ≡ is_down (turns_told said (last_state (talk_rules said) first p.talk.turns) q.talk.turns)) (sym p.talk.state) refl in
       let looks : looks_after ≤ looks_between + (turns_told said (last_state (talk_rules said) first p.talk.turns) q.talk.turns).looks = subst (λ m. looks_after ≤ looks_between + (turns_told said m q.talk.turns).looks) p.talk.state q.looks in (
@@ -131,28 +126,31 @@ module _ (said : BookSaid) (read_only : Bool) (held : Option Held) where
           talk = record {
             turns = p.talk.turns ++ q.talk.turns;
             events = p.talk.events ++ q.talk.events;
-            talks = stretches.talks_on (talk_rules said) (FitsTalk read_only said.catalog (BringsBy held rose)) first saying ending p.talk.turns q.talk.turns p.talk.events q.talk.events p.talk.talks
-                (subst (λ s. Talks (talk_rules said) (FitsTalk read_only said.catalog (BringsBy held rose)) s [] ending q.talk.turns q.talk.events) p.talk.state q.talk.talks);
+            talks = stretches.talks_on (talk_rules said) (FitsTalk read_only said.catalog (BringsBy held (Rose faults faults_after))) first saying ending p.talk.turns q.talk.turns p.talk.events q.talk.events
+                (within faults faults faults_between faults_after (omega arith) up later saying first Outlasted p.talk.turns p.talk.events p.talk.talks)
+                (subst (λ s. Talks (talk_rules said) (FitsTalk read_only said.catalog (BringsBy held (Rose faults faults_after))) s [] ending q.talk.turns q.talk.events) p.talk.state
+                (within faults faults_between faults_after faults_after up later (omega arith) [] mid ending q.talk.turns q.talk.events q.talk.talks));
             state = q.talk.state ∙ ap (λ s. last_state (talk_rules said) s q.talk.turns) p.talk.state ∙ sym (fold-append (turn_after said) first p.talk.turns q.talk.turns);
             adds = Adds-trans before between after p.talk.events q.talk.events p.talk.adds q.talk.adds;
             takes = subst (TakesBy ending before after) (sym (map-append line_of p.talk.turns q.talk.turns)) (TakesBy-trans ending before between after _ _ p.talk.takes q.talk.takes);
           };
+          misread = misreads_joined held p.talk.turns q.talk.turns faults faults_between faults_after p.misread q.misread;
           turned = ap (λ d. d || more) p.turned ∙ ap (λ d. is_down (turns_told said first p.talk.turns) || d) (q.turned ∙ at)
               ∙ sym (down_either (turns_told said first p.talk.turns) (turns_told said (last_state (talk_rules said) first p.talk.turns) q.talk.turns) (turns_told said first (p.talk.turns ++ q.talk.turns)) s.0 s.1);
-          looks = within _ _ _ _ _ _ p.looks looks s.2;
+          looks = few _ _ _ _ _ _ p.looks looks s.2;
         },
         refl,
       )
     where
-      within : (a b c x y z : ℕ) → b ≤ a + x → c ≤ b + y → z ≡ x + y → c ≤ a + z
-      within a b c x y z p q s = omega (arith, p, q, s)
+      few : (a b c x y z : ℕ) → b ≤ a + x → c ≤ b + y → z ≡ x + y → c ≤ a + z
+      few a b c x y z p q s = omega (arith, p, q, s)
 
   -- a line that was heard is answered
-  pub turn_taken : (rose talk_before talk_rose : Type 0) (first : TalkState) (bytes : List ℕ) (after_state : State) (text : List ℕ) (down : Bool) (looks_before looks_after : ℕ) (before between after : ToldBy) (result : Option Ending)
-      → AnswersLine said read_only held rose first bytes after_state text down looks_before looks_after
+  pub turn_taken : (faults faults_after : ℕ) (talk_before talk_rose : Type 0) (first : TalkState) (bytes : List ℕ) (after_state : State) (text : List ℕ) (down : Bool) (looks_before looks_after : ℕ) (before between after : ToldBy) (result : Option Ending) → faults ≤ faults_after
+      → AnswersLine said read_only held (Rose faults faults_after) first bytes after_state text down looks_before looks_after
       → Hears before between bytes → (talk_before → talk_rose) → ReplyGives talk_before between after (text ∷ (10 ∷ []) ∷ []) result
-      → TurnTaken said read_only held rose talk_rose first (talk_at after_state (first.heard + 1)) before after result down looks_before looks_after
-  turn_taken rose talk_before talk_rose first bytes after_state text down looks_before looks_after before between after None a heard why given = record {
+      → TurnTaken said read_only held faults faults_after talk_rose first (talk_at after_state (first.heard + 1)) before after result down looks_before looks_after
+  turn_taken faults faults_after talk_before talk_rose first bytes after_state text down looks_before looks_after before between after None later a heard why given = record {
     stretch = record {
       talk = record {
         turns = a.turn ∷ [];
@@ -162,12 +160,13 @@ module _ (said : BookSaid) (read_only : Bool) (held : Option Held) where
         adds = Adds-trans before between after _ _ (subst (Hears before between) (sym a.line) heard).0 given.0;
         takes = Takes-trans before between after _ _ (subst (Hears before between) (sym a.line) heard).1 given.1;
       };
+      misread = misread_once read_only said.catalog held (Rose faults faults_after) faults faults_after later (rose_shows faults faults_after) first a.turn a.fits;
       turned = a.turned ∙ one_down (turn_told said first a.turn);
       looks = one_looks (turn_told said first a.turn) looks_before looks_after a.looks;
     };
     one = refl;
   }
-  turn_taken rose talk_before talk_rose first bytes after_state text down looks_before looks_after before between after (Some Unsaid) a heard why ((events, front, added, taken), cause) = record {
+  turn_taken faults faults_after talk_before talk_rose first bytes after_state text down looks_before looks_after before between after (Some Unsaid) later a heard why ((events, front, added, taken), cause) = record {
     last = talk_at after_state (first.heard + 1);
     stretch = record {
       talk = record {
@@ -178,71 +177,68 @@ module _ (said : BookSaid) (read_only : Bool) (held : Option Held) where
         adds = Adds-trans before between after _ _ (subst (Hears before between) (sym a.line) heard).0 added;
         takes = Takes-trans before between after _ _ (subst (Hears before between) (sym a.line) heard).1 taken;
       };
+      misread = misread_once read_only said.catalog held (Rose faults faults_after) faults faults_after later (rose_shows faults faults_after) first a.turn a.fits;
       turned = a.turned ∙ one_down (turn_told said first a.turn);
       looks = one_looks (turn_told said first a.turn) looks_before looks_after a.looks;
     };
     cause = λ _. why cause;
   }
-  turn_taken rose talk_before talk_rose first bytes after_state text down looks_before looks_after before between after (Some Ended) a heard why given = absurd given
-  turn_taken rose talk_before talk_rose first bytes after_state text down looks_before looks_after before between after (Some Unheard) a heard why given = absurd given
-  turn_taken rose talk_before talk_rose first bytes after_state text down looks_before looks_after before between after (Some Outlasted) a heard why given = absurd given
+  turn_taken faults faults_after talk_before talk_rose first bytes after_state text down looks_before looks_after before between after (Some Ended) later a heard why given = absurd given
+  turn_taken faults faults_after talk_before talk_rose first bytes after_state text down looks_before looks_after before between after (Some Unheard) later a heard why given = absurd given
+  turn_taken faults faults_after talk_before talk_rose first bytes after_state text down looks_before looks_after before between after (Some Outlasted) later a heard why given = absurd given
 
   -- no line comes any more, or none can be heard
-  pub no_line : (rose talk_rose : Type 0) (first : TalkState) (before after : ToldBy) (looks_before looks_after : ℕ) → Adds before after (End ∷ []) → AreAll before [] → looks_after ≡ looks_before
-      → EndsTurn said read_only held rose talk_rose first before after Ended false looks_before looks_after
-  no_line rose talk_rose first before after looks_before looks_after added all none = record {
+  pub no_line : (faults : ℕ) (talk_rose : Type 0) (first : TalkState) (before after : ToldBy) (looks_before looks_after : ℕ) → Adds before after (End ∷ []) → AreAll before [] → looks_after ≡ looks_before
+      → EndsTurn said read_only held faults faults talk_rose first before after Ended false looks_before looks_after
+  no_line faults talk_rose first before after looks_before looks_after added all none = record {
     last = first;
-    stretch = record { talk = record { turns = []; events = End ∷ []; talks = refl; state = refl; adds = added; takes = all }; turned = refl; looks = omega (arith, none) };
+    stretch = record { talk = record { turns = []; events = End ∷ []; talks = refl; state = refl; adds = added; takes = all }; misread = inl (omega arith); turned = refl; looks = omega (arith, none) };
     cause = λ _. tt;
   }
 
-  pub no_hearing : (rose talk_rose : Type 0) (first : TalkState) (before after : ToldBy) (looks_before looks_after : ℕ) → Adds before after [] → talk_rose → looks_after ≡ looks_before
-      → EndsTurn said read_only held rose talk_rose first before after Unheard false looks_before looks_after
-  no_hearing rose talk_rose first before after looks_before looks_after added cause none = record {
+  pub no_hearing : (faults : ℕ) (talk_rose : Type 0) (first : TalkState) (before after : ToldBy) (looks_before looks_after : ℕ) → Adds before after [] → talk_rose → looks_after ≡ looks_before
+      → EndsTurn said read_only held faults faults talk_rose first before after Unheard false looks_before looks_after
+  no_hearing faults talk_rose first before after looks_before looks_after added cause none = record {
     last = first;
-    stretch = record { talk = record { turns = []; events = []; talks = refl; state = refl; adds = added; takes = TakesBy-unheard before after }; turned = refl; looks = omega (arith, none) };
+    stretch = record { talk = record { turns = []; events = []; talks = refl; state = refl; adds = added; takes = TakesBy-unheard before after }; misread = inl (omega arith); turned = refl; looks = omega (arith, none) };
     cause = λ _. cause;
   }
 
   -- what is said first is said, or breaks off
-  pub begins : (rose : Type 0) (saying : List (List ℕ)) (first : TalkState) (before after : ToldBy) (looks : ℕ) → Says before after saying
-      → (stretch : TalkStretch said read_only held rose saying first first before after Outlasted false looks looks) × (length stretch.talk.turns ≡ 0)
-  begins rose saying first before after looks given = (
-    record { talk = record { turns = []; events = says saying; talks = refl; state = refl; adds = given.0; takes = given.1 }; turned = refl; looks = omega arith },
+  pub begins : (faults : ℕ) (saying : List (List ℕ)) (first : TalkState) (before after : ToldBy) (looks : ℕ) → Says before after saying
+      → (stretch : TalkStretch said read_only held faults faults saying first first before after Outlasted false looks looks) × (length stretch.talk.turns ≡ 0)
+  begins faults saying first before after looks given = (
+    record { talk = record { turns = []; events = says saying; talks = refl; state = refl; adds = given.0; takes = given.1 }; misread = inl (omega arith); turned = refl; looks = omega arith },
     refl,
   )
 
-  pub breaks_off : (rose talk_rose : Type 0) (saying : List (List ℕ)) (first : TalkState) (before after : ToldBy) (looks : ℕ) → SaysFront before after saying → talk_rose
-      → Talked said read_only held rose talk_rose saying first before after Unsaid false looks looks
-  breaks_off rose talk_rose saying first before after looks (events, front, added, taken) cause = record {
+  pub breaks_off : (faults : ℕ) (talk_rose : Type 0) (saying : List (List ℕ)) (first : TalkState) (before after : ToldBy) (looks : ℕ) → SaysFront before after saying → talk_rose
+      → Talked said read_only held faults faults talk_rose saying first before after Unsaid false looks looks
+  breaks_off faults talk_rose saying first before after looks (events, front, added, taken) cause = record {
     last = first;
-    stretch = record { talk = record { turns = []; events = events; talks = front; state = refl; adds = added; takes = taken }; turned = refl; looks = omega arith };
+    stretch = record { talk = record { turns = []; events = events; talks = front; state = refl; adds = added; takes = taken }; misread = inl (omega arith); turned = refl; looks = omega arith };
     cause = cause;
   }
 
   -- one turn more
-  pub one_more : (rose_before rose_here rose : Type 0) (saying : List (List ℕ)) (first mid last : TalkState) (before between after : ToldBy) (down more : Bool) (looks_before looks_between looks_after count : ℕ) → (rose_before → rose) → (rose_here → rose)
-      → (p : TalkStretch said read_only held rose_before saying first mid before between Outlasted down looks_before looks_between) → length p.talk.turns ≡ count
-      → TakesTurn said read_only held rose_here mid last between after more looks_between looks_after
-      → (whole : TalkStretch said read_only held rose saying first last before after Outlasted (down || more) looks_before looks_after) × (length whole.talk.turns ≡ count + 1)
-  one_more rose_before rose_here rose saying first mid last before between after down more looks_before looks_between looks_after count wide wider p long turn =
-      let (q, same) = stretch_within rose_before rose saying first mid before between Outlasted down looks_before looks_between wide p in
-      let (t, alike) = stretch_within rose_here rose [] mid last between after Outlasted more looks_between looks_after wider turn.stretch in
-      let (whole, is) = stretches_joined rose saying first mid last before between after Outlasted down more looks_before looks_between looks_after q t in
-      (whole, ap length is ∙ length-append q.talk.turns t.talk.turns ∙ added _ _ _ _ (ap length same ∙ long) (ap length alike ∙ turn.one))
+  pub one_more : (faults faults_between faults_after : ℕ) (saying : List (List ℕ)) (first mid last : TalkState) (before between after : ToldBy) (down more : Bool) (looks_before looks_between looks_after count : ℕ) → faults ≤ faults_between → faults_between ≤ faults_after
+      → (p : TalkStretch said read_only held faults faults_between saying first mid before between Outlasted down looks_before looks_between) → length p.talk.turns ≡ count
+      → TakesTurn said read_only held faults_between faults_after mid last between after more looks_between looks_after
+      → (whole : TalkStretch said read_only held faults faults_after saying first last before after Outlasted (down || more) looks_before looks_after) × (length whole.talk.turns ≡ count + 1)
+  one_more faults faults_between faults_after saying first mid last before between after down more looks_before looks_between looks_after count up later p long turn =
+      let (whole, is) = stretches_joined faults faults_between faults_after saying first mid last before between after Outlasted down more looks_before looks_between looks_after up later p turn.stretch in
+      (whole, ap length is ∙ length-append p.talk.turns turn.stretch.talk.turns ∙ added _ _ _ _ long turn.one)
     where
       added : (a b c d : ℕ) → a ≡ b → c ≡ d → a + c ≡ b + d
       added a b c d p q = omega (arith, p, q)
 
   -- the last turn
-  pub last_one : (rose_before rose_here rose talk_here talk_rose : Type 0) (saying : List (List ℕ)) (first mid : TalkState) (before between after : ToldBy) (ending : Ending) (down more : Bool) (looks_before looks_between looks_after : ℕ) → (rose_before → rose) → (rose_here → rose) → (talk_here → talk_rose)
-      → TalkStretch said read_only held rose_before saying first mid before between Outlasted down looks_before looks_between
-      → EndsTurn said read_only held rose_here talk_here mid between after ending more looks_between looks_after
-      → Talked said read_only held rose talk_rose saying first before after ending (down || more) looks_before looks_after
-  last_one rose_before rose_here rose talk_here talk_rose saying first mid before between after ending down more looks_before looks_between looks_after wide wider why p turn =
-      let (q, same) = stretch_within rose_before rose saying first mid before between Outlasted down looks_before looks_between wide p in
-      let (t, alike) = stretch_within rose_here rose [] mid turn.last between after ending more looks_between looks_after wider turn.stretch in
-      let (whole, is) = stretches_joined rose saying first mid turn.last before between after ending down more looks_before looks_between looks_after q t in
+  pub last_one : (faults faults_between faults_after : ℕ) (talk_here talk_rose : Type 0) (saying : List (List ℕ)) (first mid : TalkState) (before between after : ToldBy) (ending : Ending) (down more : Bool) (looks_before looks_between looks_after : ℕ) → faults ≤ faults_between → faults_between ≤ faults_after → (talk_here → talk_rose)
+      → TalkStretch said read_only held faults faults_between saying first mid before between Outlasted down looks_before looks_between
+      → EndsTurn said read_only held faults_between faults_after talk_here mid between after ending more looks_between looks_after
+      → Talked said read_only held faults faults_after talk_rose saying first before after ending (down || more) looks_before looks_after
+  last_one faults faults_between faults_after talk_here talk_rose saying first mid before between after ending down more looks_before looks_between looks_after up later why p turn =
+      let (whole, is) = stretches_joined faults faults_between faults_after saying first mid turn.last before between after ending down more looks_before looks_between looks_after up later p turn.stretch in
       record { last = turn.last; stretch = whole; cause = caused ending (length whole.talk.turns) (turn.cause (length whole.talk.turns)) }
     where
       caused : (e : Ending) (count : ℕ) → Cause e talk_here count → Cause e talk_rose count
@@ -251,20 +247,12 @@ module _ (said : BookSaid) (read_only : Bool) (held : Option Held) where
       caused Unsaid count cause = why cause
       caused Outlasted count cause = cause
 
-  -- as many turns as can be counted
-  pub outlasts : (rose_before rose talk_rose : Type 0) (saying : List (List ℕ)) (first last : TalkState) (before after : ToldBy) (down : Bool) (looks_before looks_after : ℕ) → (rose_before → rose)
-      → (p : TalkStretch said read_only held rose_before saying first last before after Outlasted down looks_before looks_after) → length p.talk.turns ≡ 18446744073709551615
-      → Talked said read_only held rose talk_rose saying first before after Outlasted down looks_before looks_after
-  outlasts rose_before rose talk_rose saying first last before after down looks_before looks_after wide p long =
-      let (q, same) = stretch_within rose_before rose saying first last before after Outlasted down looks_before looks_after wide p in
-      record { last = last; stretch = q; cause = ap length same ∙ long }
-
   -- what is said first, and then a conversation
-  pub begun_talk : (rose talk_here talk_rose : Type 0) (saying : List (List ℕ)) (first : TalkState) (before between after : ToldBy) (ending : Ending) (down : Bool) (looks_before looks_after : ℕ) → (talk_here → talk_rose) → Says before between saying
-      → Talked said read_only held rose talk_here [] first between after ending down looks_before looks_after → Talked said read_only held rose talk_rose saying first before after ending down looks_before looks_after
-  begun_talk rose talk_here talk_rose saying first before between after ending down looks_before looks_after why given t =
-      let (opening, none) = begins rose saying first before between looks_before given in
-      let (whole, is) = stretches_joined rose saying first first t.last before between after ending false down looks_before looks_before looks_after opening t.stretch in
+  pub begun_talk : (faults faults_after : ℕ) (talk_here talk_rose : Type 0) (saying : List (List ℕ)) (first : TalkState) (before between after : ToldBy) (ending : Ending) (down : Bool) (looks_before looks_after : ℕ) → faults ≤ faults_after → (talk_here → talk_rose) → Says before between saying
+      → Talked said read_only held faults faults_after talk_here [] first between after ending down looks_before looks_after → Talked said read_only held faults faults_after talk_rose saying first before after ending down looks_before looks_after
+  begun_talk faults faults_after talk_here talk_rose saying first before between after ending down looks_before looks_after later why given t =
+      let (opening, none) = begins faults saying first before between looks_before given in
+      let (whole, is) = stretches_joined faults faults faults_after saying first first t.last before between after ending false down looks_before looks_before looks_after (omega arith) later opening t.stretch in
       record { last = t.last; stretch = whole; cause = caused ending (length whole.talk.turns) (length t.stretch.talk.turns) (ap length is ∙ length-append opening.talk.turns t.stretch.talk.turns ∙ behind _ _ none) t.cause }
     where
       behind : (a b : ℕ) → a ≡ 0 → a + b ≡ b
@@ -277,15 +265,75 @@ module _ (said : BookSaid) (read_only : Bool) (held : Option Held) where
       caused Outlasted whole count same cause = same ∙ cause
 
   -- a conversation, as part of a longer time
-  pub talked_within : (rose_here rose talk_rose : Type 0) (saying : List (List ℕ)) (first : TalkState) (before after : ToldBy) (ending : Ending) (down : Bool) (looks_first looks_before looks_after : ℕ) (more : ℕ) → (rose_here → rose) → looks_before ≤ looks_first + more
-      → Talked said read_only held rose_here talk_rose saying first before after ending down looks_before looks_after → Talked said read_only held rose talk_rose saying first before after ending down (looks_first + more) looks_after
-  talked_within rose_here rose talk_rose saying first before after ending down looks_first looks_before looks_after more wide few t =
-      let (q, same) = stretch_within rose_here rose saying first t.last before after ending down looks_before looks_after wide t.stretch in
-      record {
+  pub talked_within : (start faults faults_after : ℕ) (talk_rose : Type 0) (saying : List (List ℕ)) (first : TalkState) (before after : ToldBy) (ending : Ending) (down : Bool) (looks_first looks_before looks_after : ℕ) (more : ℕ) → start ≤ faults → faults ≤ faults_after → looks_before ≤ looks_first + more
+      → Talked said read_only held faults faults_after talk_rose saying first before after ending down looks_before looks_after → Talked said read_only held start faults_after talk_rose saying first before after ending down (looks_first + more) looks_after
+  talked_within start faults faults_after talk_rose saying first before after ending down looks_first looks_before looks_after more up later few t =
+      let talk = t.stretch.talk in record {
         last = t.last;
-        stretch = record { talk = q.talk; turned = q.turned; looks = within _ _ _ _ few q.looks };
-        cause = subst (λ turns. Cause ending talk_rose (length turns)) (sym same) t.cause;
+        stretch = record {
+          talk = record {
+            turns = talk.turns;
+            events = talk.events;
+            talks = within start faults faults_after faults_after up later (omega arith) saying first ending talk.turns talk.events talk.talks;
+            state = talk.state;
+            adds = talk.adds;
+            takes = talk.takes;
+          };
+          misread = reads_within (misreads held talk.turns) start faults faults_after faults_after up (omega arith) t.stretch.misread;
+          turned = t.stretch.turned;
+          looks = less _ _ _ _ few t.stretch.looks;
+        };
+        cause = t.cause;
       }
     where
-      within : (a b c x : ℕ) → b ≤ a → c ≤ b + x → c ≤ a + x
-      within a b c x p q = omega (arith, p, q)
+      less : (a b c x : ℕ) → b ≤ a → c ≤ b + x → c ≤ a + x
+      less a b c x p q = omega (arith, p, q)
+
+-- lines that read no file, where nothing may be appended: files that hold nothing say the same of them as any others
+module _ (said : BookSaid) (held : Option Held) where
+  brings_nothing : (h : Option Held) (rose : Type 0) (table : Option TableInfo) (rows : List Row) → BringsBy (Some nothing_held) (Rose 0 0) table (Ok rows) → BringsBy h rose table (Ok rows)
+  brings_nothing None rose None rows (inl is) = is
+  brings_nothing (Some h) rose None rows (inl is) = inl is
+  brings_nothing h rose None rows (inr (up, unread)) = absurd unread
+  brings_nothing h rose (Some table) rows (inl is) = absurd (cc)
+  brings_nothing h rose (Some table) rows (inr (up, unread)) = absurd (cc)
+
+  fits_unread : (rose : Type 0) (state : TalkState) (turn : TalkTurn) → FitsTalk true said.catalog (BringsBy (Some nothing_held) (Rose 0 0)) state turn → FitsTalk true said.catalog (BringsBy held rose) state turn
+  fits_unread rose state (Replied heard) (short, reads, allowed, brought) = (short, reads, allowed, brings_nothing held rose (appended_at said.catalog heard.reading) heard.rows brought)
+  fits_unread rose state (Unbrought bytes fault) (short, un, allowed) = absurd (cc)
+  fits_unread rose state (ReadOnly bytes) is = is
+  fits_unread rose state (Forgone heard) (reads, inl none) = (reads, inl none)
+  fits_unread rose state (Forgone heard) (reads, inr brought) = (reads, inr (brings_nothing held rose (appended_at said.catalog heard.reading) heard.rows brought))
+  fits_unread rose state (TooLong bytes) is = is
+
+  none_misread : (Brings : Option TableInfo → Result (List Row) Fault → Type 0) (state : TalkState) (saying : List (List ℕ)) (ending : Ending) (turns : List TalkTurn) (events : List Event)
+      → Talks (talk_rules said) (FitsTalk true said.catalog Brings) state saying ending turns events → misreads held turns ≡ 0
+  none_misread Brings state saying ending [] events talks = refl
+  none_misread Brings state saying ending (Unbrought bytes fault ∷ turns) events (more, fits, is, talks) = absurd (refused fits.2)
+    where
+      refused : true ≡ false → ⊥
+      refused is = absurd (cc)
+  none_misread Brings state saying ending (turn ∷ turns) events (more, fits, is, talks) = none_misread Brings (turn_after said state turn) (turn_block said state turn) ending turns more talks
+
+  pub talked_unread : (read_only : Bool) (faults : ℕ) (talk_rose : Type 0) (saying : List (List ℕ)) (first : TalkState) (before after : ToldBy) (ending : Ending) (down : Bool) (looks_before looks_after : ℕ) → read_only ≡ true
+      → Talked said read_only (Some nothing_held) 0 0 talk_rose saying first before after ending down looks_before looks_after → Talked said read_only held faults faults talk_rose saying first before after ending down looks_before looks_after
+  talked_unread true faults talk_rose saying first before after ending down looks_before looks_after only t =
+      let talk = t.stretch.talk in
+      let none = none_misread (BringsBy (Some nothing_held) (Rose 0 0)) first saying ending talk.turns talk.events talk.talks in record {
+        last = t.last;
+        stretch = record {
+          talk = record {
+            turns = talk.turns;
+            events = talk.events;
+            talks = stretches.talks_refit (talk_rules said) (FitsTalk true said.catalog (BringsBy (Some nothing_held) (Rose 0 0))) (FitsTalk true said.catalog (BringsBy held (Rose faults faults))) (fits_unread (Rose faults faults)) first saying ending talk.turns talk.events talk.talks;
+            state = talk.state;
+            adds = talk.adds;
+            takes = talk.takes;
+          };
+          misread = rw none (inl (omega arith));
+          turned = t.stretch.turned;
+          looks = t.stretch.looks;
+        };
+        cause = t.cause;
+      }
+  talked_unread false faults talk_rose saying first before after ending down looks_before looks_after only t = absurd (cc)

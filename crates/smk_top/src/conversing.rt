@@ -8,6 +8,8 @@ ghost use Rattle.smk_model.specs.Words.{Demo};
 ghost use Rattle.smk_outside.specs.Outside.{Rose};
 ghost use Rattle.smk_session.specs.Sessions.{workbook_of};
 ghost use Rattle.smk_inputs.specs.Collecting.{IsSayable};
+ghost use Rattle.smk_top.specs.Looking.{LooksBehindReading};
+ghost use Rattle.smk_top.specs.Statuses.{IsStartFault};
 ghost use Rattle.smk_top.specs.TalkEndings.{BeginsTalk, ConverseEnds, SaysReady, SaysTalkFault, SaysTalkEnd, TalkWorks, is_called};
 
 use crate::program::{say_fault, say_no_memory};
@@ -59,7 +61,8 @@ fn begin<R: Threads + Sync, F: Files, T: Talk, G: Gate + Sync, L: Ledger>(
     talk: &mut T,
     steps: &mut Steps<L>,
 ) -> Result<TalkEnd, Stop>
-    ensures begins { BeginsTalk (F.held files.old) (Rose (F.faults files.old) (F.faults files.new)) (Rose (T.faults talk.old) (T.faults talk.new)) book.now call.now.read_only (T.told talk.old) (T.told talk.new) steps.old steps.new result }
+    ensures begins { BeginsTalk (F.held files.old) (F.faults files.old) (F.faults files.new) (Rose (T.faults talk.old) (T.faults talk.new)) book.now call.now.read_only (T.told talk.old) (T.told talk.new) steps.old steps.new result }
+    ensures no_look { LooksBehindReading result steps.old steps.new }
     ensures said { IsSayable result }
     ensures held { F.held files.new ≡ F.held files.old }
     ensures later { F.faults files.old ≤ F.faults files.new }
@@ -86,7 +89,8 @@ fn talk_on<R: Threads + Sync, F: Files, T: Talk, G: Gate + Sync, L: Ledger>(
     talk: &mut T,
     steps: &mut Steps<L>,
 ) -> Result<TalkEnd, Stop>
-    ensures works { (words : List (List ℕ)) → is_called words call.now → TalkWorks words (F.held files.old) (Rose (F.faults files.old) (F.faults files.new)) (Rose (T.faults talk.old) (T.faults talk.new)) (T.told talk.old) (T.told talk.new) steps.old steps.new result }
+    ensures works { (words : List (List ℕ)) → is_called words call.now → TalkWorks words (F.held files.old) (F.faults files.old) (F.faults files.new) (Rose (T.faults talk.old) (T.faults talk.new)) (T.told talk.old) (T.told talk.new) steps.old steps.new result }
+    ensures no_look { LooksBehindReading result steps.old steps.new }
     ensures said { IsSayable result }
     ensures held { F.held files.new ≡ F.held files.old }
     ensures later { F.faults files.old ≤ F.faults files.new }
@@ -113,7 +117,8 @@ fn talk_for<R: Threads + Sync, F: Files, T: Talk, G: Gate + Sync, L: Ledger>(
     talk: &mut T,
     steps: &mut Steps<L>,
 ) -> Result<TalkEnd, Stop>
-    ensures works { TalkWorks (map (λ w. w.now) words.entry.now) (F.held files.old) (Rose (F.faults files.old) (F.faults files.new)) (Rose (T.faults talk.old) (T.faults talk.new)) (T.told talk.old) (T.told talk.new) steps.old steps.new result }
+    ensures works { TalkWorks (map (λ w. w.now) words.entry.now) (F.held files.old) (F.faults files.old) (F.faults files.new) (Rose (T.faults talk.old) (T.faults talk.new)) (T.told talk.old) (T.told talk.new) steps.old steps.new result }
+    ensures no_look { LooksBehindReading result steps.old steps.new }
     ensures said { IsSayable result }
     ensures held { F.held files.new ≡ F.held files.old }
     ensures later { F.faults files.old ≤ F.faults files.new }
@@ -187,8 +192,9 @@ pub fn converse<R: Threads + Sync, F: Files, T: Talk, E: Sink, G: Gate + Sync, L
     steps: &mut Steps<L>,
 ) -> Status
     ensures ends { ConverseEnds (map (λ w. w.now) words.entry.now) (F.held files.old)
-        (Rose (F.faults files.old) (F.faults files.new)) (Rose (T.faults talk.old) (T.faults talk.new)) (Rose (E.faults err.old) (E.faults err.new))
+        (F.faults files.old) (F.faults files.new) (Rose (T.faults talk.old) (T.faults talk.new)) (Rose (E.faults err.old) (E.faults err.new))
         (T.told talk.old) (T.told talk.new) steps.old steps.new (E.written err.old) (E.written err.new) result }
+    ensures no_look { IsStartFault result → steps.new ≡ steps.old }
     ensures held { F.held files.new ≡ F.held files.old }
     ensures files_later { F.faults files.old ≤ F.faults files.new }
     ensures talk_later { T.faults talk.old ≤ T.faults talk.new }

@@ -6,6 +6,7 @@ mod conversing;
 mod counting;
 mod counts;
 mod laws;
+mod no_files;
 mod nowhere;
 mod program;
 mod reporting;

@@ -20,6 +20,7 @@ ghost use Rattle.smk_inputs.specs.Loaded.{said_of};
 ghost use Rattle.smk_top.specs.Talking.{AnswersLine, TurnTaken, Talked, talk_at, words_bytes};
 
 use crate::answering::{LineTold, tell_line};
+use crate::no_files::NoFiles;
 use crate::stand::Stand;
 use smk_base::{AnyLine, Fault, Names, without_mark};
 use smk_inputs::{Engine, Reading, Settings, Stop, bring, reading_of};
@@ -282,7 +283,7 @@ fn take_turn<R: Threads + Sync, F: Files, T: Talk, G: Gate + Sync, L: Ledger>(
 ) -> Taken
     requires shown { AreDependencies (catalog_image stand.session.catalog) stand.fds.now }
     requires few { stand.before < 18446744073709551615 }
-    ensures taken { TurnTaken (said_of stand.entry.session.catalog stand.entry.fds.now) manner.now.read_only (F.held files.old) (Rose (F.faults files.old) (F.faults files.new)) (Rose (T.faults talk.old) (T.faults talk.new))
+    ensures taken { TurnTaken (said_of stand.entry.session.catalog stand.entry.fds.now) manner.now.read_only (F.held files.old) (F.faults files.old) (F.faults files.new) (Rose (T.faults talk.old) (T.faults talk.new))
         (talk_at (state_of stand.entry.session) stand.entry.before) (talk_at (state_of result.session) (stand.entry.before + 1)) (T.told talk.old) (T.told talk.new) result.ending result.down steps.old steps.new }
     ensures book { result.session.catalog ≡ stand.entry.session.catalog }
     ensures held { F.held files.new ≡ F.held files.old }
@@ -345,7 +346,7 @@ fn take_turns<R: Threads + Sync, F: Files, T: Talk, G: Gate + Sync, L: Ledger>(
     steps: &mut Steps<L>,
 ) -> TalkEnd
     requires shown { AreDependencies (catalog_image session.catalog) manner.now.fds.now }
-    ensures talked { Talked (said_of session.catalog manner.now.fds.now) manner.now.read_only (F.held files.old) (Rose (F.faults files.old) (F.faults files.new)) (Rose (T.faults talk.old) (T.faults talk.new))
+    ensures talked { Talked (said_of session.catalog manner.now.fds.now) manner.now.read_only (F.held files.old) (F.faults files.old) (F.faults files.new) (Rose (T.faults talk.old) (T.faults talk.new))
         [] (talk_at (state_of session) 0) (T.told talk.old) (T.told talk.new) result.ending result.down steps.old steps.new }
     ensures held { F.held files.new ≡ F.held files.old }
     ensures later { F.faults files.old ≤ F.faults files.new }
@@ -372,7 +373,7 @@ fn take_turns<R: Threads + Sync, F: Files, T: Talk, G: Gate + Sync, L: Ledger>(
     }
 }
 
-/// A conversation with a session that begins: it says its opening, and then hears lines and answers each before it hears the next. Behind each text it says an empty line.
+/// A conversation with a session that begins: it says its opening, and then hears lines and answers each before it hears the next. Behind each text it says an empty line. Where nothing may be appended, no line reads a file.
 pub fn hold<R: Threads + Sync, F: Files, T: Talk, G: Gate + Sync, L: Ledger>(
     engine: &Engine<'_, R, G>,
     manner: &Manner<'_>,
@@ -382,7 +383,7 @@ pub fn hold<R: Threads + Sync, F: Files, T: Talk, G: Gate + Sync, L: Ledger>(
     steps: &mut Steps<L>,
 ) -> TalkEnd
     requires shown { AreDependencies (catalog_image session.catalog) manner.now.fds.now }
-    ensures talked { Talked (said_of session.catalog manner.now.fds.now) manner.now.read_only (F.held files.old) (Rose (F.faults files.old) (F.faults files.new)) (Rose (T.faults talk.old) (T.faults talk.new))
+    ensures talked { Talked (said_of session.catalog manner.now.fds.now) manner.now.read_only (F.held files.old) (F.faults files.old) (F.faults files.new) (Rose (T.faults talk.old) (T.faults talk.new))
         (block_of manner.now.opening.now) (talk_at (state_of session) 0) (T.told talk.old) (T.told talk.new) result.ending result.down steps.old steps.new }
     ensures held { F.held files.new ≡ F.held files.old }
     ensures later { F.faults files.old ≤ F.faults files.new }
@@ -393,6 +394,12 @@ pub fn hold<R: Threads + Sync, F: Files, T: Talk, G: Gate + Sync, L: Ledger>(
             ending,
             down: false,
         },
-        None => take_turns(engine, manner, files, talk, session, steps),
+        None => {
+            if manner.read_only {
+                take_turns(engine, manner, &mut NoFiles, talk, session, steps)
+            } else {
+                take_turns(engine, manner, files, talk, session, steps)
+            }
+        }
     }
 }

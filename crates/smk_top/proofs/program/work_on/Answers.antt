@@ -9,6 +9,7 @@ use Rattle.smk_model.proofs.SomeOutcome.{some_reading}
 use Rattle.smk_inputs.specs.declared.called.RunTexts.{RunTexts}
 use Rattle.smk_inputs.specs.Image.{texts_image}
 use Rattle.smk_inputs.specs.Loaded.{script_bytes, inputs_with}
+use Rattle.smk_top.specs.declared.counts.Counts.{Counts}
 use Rattle.smk_top.proofs.Endings.{files_stop, files_read, demo_stops, demo_read, files_write, demo_writes, reports, reports_later, looks_at_nothing}
 use Rattle.smk_top.proofs.program.work_on.Goals as goal
 
@@ -76,7 +77,7 @@ returns-in_ok-inputs-in-Demo-clause-looks g c words is =
 pub returns-in_err-inputs-in-Files-clause-no_look : goal.returns-in_err-inputs-in-Files-clause-no_look
 returns-in_err-inputs-in-Files-clause-no_look g c =
     let p = err_from_is_err_and c.from_residual.result c.from_residual.ensures.1 in
-    rw (p.1, p.2) (looks_at_nothing c.in_err-inputs-in-Files.field-0.0 _)
+    rw (p.1, p.2) (looks_at_nothing Counts c.in_err-inputs-in-Files.field-0.0 _)
 
 pub returns-in_ok-inputs-in-Files-clause-no_look : goal.returns-in_ok-inputs-in-Files-clause-no_look
 returns-in_ok-inputs-in-Files-clause-no_look g c =
@@ -86,7 +87,7 @@ returns-in_ok-inputs-in-Files-clause-no_look g c =
 pub returns-in_err-inputs-in-Demo-clause-no_look : goal.returns-in_err-inputs-in-Demo-clause-no_look
 returns-in_err-inputs-in-Demo-clause-no_look g c =
     let p = err_from_is_err_and c.from_residual-in_err-inputs-in-Demo.result c.from_residual-in_err-inputs-in-Demo.ensures.1 in
-    rw (p.1, p.2) (looks_at_nothing c.in_err-inputs-in-Demo.field-0.0 _)
+    rw (p.1, p.2) (looks_at_nothing Counts c.in_err-inputs-in-Demo.field-0.0 _)
 
 pub returns-in_ok-inputs-in-Demo-clause-no_look : goal.returns-in_ok-inputs-in-Demo-clause-no_look
 returns-in_ok-inputs-in-Demo-clause-no_look g c =

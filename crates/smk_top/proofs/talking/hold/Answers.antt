@@ -1,4 +1,4 @@
-use Rattle.std.proofs.Common.{◌≡◌, Some, false, refl}
+use Rattle.std.proofs.Common.{◌≡◌, Some, false, refl, arith}
 use Rattle.smk_model.specs.Conversation.{block_of}
 use Rattle.smk_outside.proofs.Telling.{Rose-after}
 use Rattle.smk_outside.specs.Outside.{Rose}
@@ -6,7 +6,7 @@ use Rattle.smk_outside.specs.Turning.{ReplyGives}
 use Rattle.smk_outside.specs.declared.talk.ending.Ending.{Ending}
 use Rattle.smk_outside.specs.declared.talk.ending.Ending.TheVariants.{Ended, Unheard, Unsaid, Outlasted}
 use Rattle.smk_top.specs.Talking.{Talked, talk_at}
-use Rattle.smk_top.proofs.TalkStretches.{breaks_off, begun_talk}
+use Rattle.smk_top.proofs.TalkStretches.{breaks_off, begun_talk, talked_unread}
 use Rattle.smk_session.specs.Sessions.{state_of}
 use Rattle.smk_inputs.specs.Loaded.{said_of}
 use Rattle.smk_top.proofs.talking.hold.Goals as goal
@@ -15,15 +15,22 @@ pub returns-in-Some-clause-talked : goal.returns-in-Some-clause-talked
 returns-in-Some-clause-talked g c = broken c.in-Some.ending refl c.in-Some.ensures.gives
   where
     broken : (e : Ending) → c.in-Some.ending ≡ e → ReplyGives (Rose (g.T.Talk.faults c.args.talk.now) (g.T.Talk.faults c.say_block.new.talk)) (g.T.Talk.told c.args.talk.now) (g.T.Talk.told c.say_block.new.talk) (block_of c.args.manner.now.opening.now) (Some e)
-        → Talked (said_of c.args.session.catalog c.args.manner.now.fds.now) c.args.manner.now.read_only (g.F.Files.held c.args.files.now) (Rose (g.F.Files.faults c.args.files.now) (g.F.Files.faults c.args.files.now)) (Rose (g.T.Talk.faults c.args.talk.now) (g.T.Talk.faults c.say_block.new.talk))
+        → Talked (said_of c.args.session.catalog c.args.manner.now.fds.now) c.args.manner.now.read_only (g.F.Files.held c.args.files.now) (g.F.Files.faults c.args.files.now) (g.F.Files.faults c.args.files.now) (Rose (g.T.Talk.faults c.args.talk.now) (g.T.Talk.faults c.say_block.new.talk))
         (block_of c.args.manner.now.opening.now) (talk_at (state_of c.args.session) 0) (g.T.Talk.told c.args.talk.now) (g.T.Talk.told c.say_block.new.talk) e false c.args.steps.now c.args.steps.now
     broken Unsaid is (front, cause) = breaks_off _ _ _ _ _ _ _ _ _ _ front cause
     broken Ended is given = absurd given
     broken Unheard is given = absurd given
     broken Outlasted is given = absurd given
 
-pub returns-in-None-clause-talked : goal.returns-in-None-clause-talked
-returns-in-None-clause-talked g c =
+pub returns-then-manner-clause-talked : goal.returns-then-manner-clause-talked
+returns-then-manner-clause-talked g c =
     let said = rw c.in-None.is at c.say_block.ensures.gives in
-    begun_talk (said_of c.args.session.catalog c.args.manner.now.fds.now) c.args.manner.now.read_only (g.F.Files.held c.args.files.now) _ _ _ (block_of c.args.manner.now.opening.now) _ (g.T.Talk.told c.args.talk.now) (g.T.Talk.told c.say_block.new.talk) (g.T.Talk.told c.take_turns.new.talk) _ _ _ _
-    (Rose-after _ _ _ c.say_block.ensures.later) said c.take_turns.ensures.talked
+    begun_talk (said_of c.args.session.catalog c.args.manner.now.fds.now) c.args.manner.now.read_only (g.F.Files.held c.args.files.now) _ _ _ _ (block_of c.args.manner.now.opening.now) _ (g.T.Talk.told c.args.talk.now) (g.T.Talk.told c.say_block.new.talk) (g.T.Talk.told c.take_turns.new.talk) _ _ _ _
+    (omega arith) (Rose-after _ _ _ c.say_block.ensures.later) said
+    (talked_unread (said_of c.args.session.catalog c.args.manner.now.fds.now) (g.F.Files.held c.args.files.now) c.args.manner.now.read_only (g.F.Files.faults c.args.files.now) _ _ _ _ _ _ _ _ _ c.if-manner.true c.take_turns.ensures.talked)
+
+pub returns-else-manner-clause-talked : goal.returns-else-manner-clause-talked
+returns-else-manner-clause-talked g c =
+    let said = rw c.in-None.is at c.say_block.ensures.gives in
+    begun_talk (said_of c.args.session.catalog c.args.manner.now.fds.now) c.args.manner.now.read_only (g.F.Files.held c.args.files.now) _ _ _ _ (block_of c.args.manner.now.opening.now) _ (g.T.Talk.told c.args.talk.now) (g.T.Talk.told c.say_block.new.talk) (g.T.Talk.told c.take_turns-else-manner.new.talk) _ _ _ _
+    c.take_turns-else-manner.ensures.later (Rose-after _ _ _ c.say_block.ensures.later) said c.take_turns-else-manner.ensures.talked

@@ -1,4 +1,4 @@
-use Rattle.std.proofs.Common.{Err, [], ◌∷◌, ℕ, List, refl, ap, subst, sym, ◌∙◌}
+use Rattle.std.proofs.Common.{Err, [], ◌∷◌, ℕ, List, refl, ap, subst, sym, ◌∙◌, arith}
 use Rattle.smk_outside.proofs.Telling.{Rose-after}
 use Rattle.smk_outside.specs.Outside.{Rose}
 use Rattle.smk_outside.specs.Turning.{ReplyGives}
@@ -15,15 +15,15 @@ returns-in-Ok-Line-clause-taken g c =
     let said = said_of c.args.stand.session.catalog c.args.stand.fds.now in
     let answer = rw c.as_slice.ensures.value at c.answer_bytes-session.ensures.answer in
     let gives = rw c.as_slice-in-Ok-Line.ensures at c.say_block-ending.ensures.gives in
-    turn_taken said c.args.manner.now.read_only (g.F.Files.held c.args.files.now) _ _ _ (talk_at (state_of c.args.stand.session) c.args.stand.before) _ _ _ _ _ _
-    (g.T.Talk.told c.args.talk.now) (g.T.Talk.told c.hear.new.self) (g.T.Talk.told c.say_block-ending.new.talk) c.say_block-ending.result answer heard.0 (Rose-after _ _ _ c.hear.ensures.later) gives
+    turn_taken said c.args.manner.now.read_only (g.F.Files.held c.args.files.now) _ _ _ _ (talk_at (state_of c.args.stand.session) c.args.stand.before) _ _ _ _ _ _
+    (g.T.Talk.told c.args.talk.now) (g.T.Talk.told c.hear.new.self) (g.T.Talk.told c.say_block-ending.new.talk) c.say_block-ending.result c.answer_bytes-session.ensures.later answer heard.0 (Rose-after _ _ _ c.hear.ensures.later) gives
 
 pub returns-in-Ok-Long-clause-taken : goal.returns-in-Ok-Long-clause-taken
 returns-in-Ok-Long-clause-taken g c =
     let (line, heard, long) = rw c.in-Ok-Long.field-0-is at c.in-Ok-Long.ensures.gives in
     let said = said_of c.args.stand.session.catalog c.args.stand.fds.now in
-    rw (c.say_ready.ensures.session, c.say_ready.ensures.down) (turn_taken said c.args.manner.now.read_only (g.F.Files.held c.args.files.now) _ _ _ (talk_at (state_of c.args.stand.session) c.args.stand.before) _ _ _ _ _ _
-    (g.T.Talk.told c.args.talk.now) (g.T.Talk.told c.hear.new.self) (g.T.Talk.told c.say_ready.new.talk) c.say_ready.result.ending
+    rw (c.say_ready.ensures.session, c.say_ready.ensures.down) (turn_taken said c.args.manner.now.read_only (g.F.Files.held c.args.files.now) _ _ _ _ (talk_at (state_of c.args.stand.session) c.args.stand.before) _ _ _ _ _ _
+    (g.T.Talk.told c.args.talk.now) (g.T.Talk.told c.hear.new.self) (g.T.Talk.told c.say_ready.new.talk) c.say_ready.result.ending (omega arith)
     (too_long said c.args.manner.now.read_only (g.F.Files.held c.args.files.now) _ (talk_at (state_of c.args.stand.session) c.args.stand.before) line (state_of c.args.stand.session) _ _ _ _ long refl refl refl refl)
     heard (Rose-after _ _ _ c.hear.ensures.later) c.say_ready.ensures.gives)
 
@@ -37,8 +37,8 @@ pub returns-in-Err-NoMemory-clause-taken : goal.returns-in-Err-NoMemory-clause-t
 returns-in-Err-NoMemory-clause-taken g c =
     let (line, heard) = rw c.in-Err-NoMemory.field-0-is at c.in-Err-NoMemory.ensures.gives in
     let said = said_of c.args.stand.session.catalog c.args.stand.fds.now in
-    rw (c.say_ready-in-Err-NoMemory.ensures.session, c.say_ready-in-Err-NoMemory.ensures.down) (turn_taken said c.args.manner.now.read_only (g.F.Files.held c.args.files.now) _ _ _ (talk_at (state_of c.args.stand.session) c.args.stand.before) _ _ _ _ _ _
-    (g.T.Talk.told c.args.talk.now) (g.T.Talk.told c.hear.new.self) (g.T.Talk.told c.say_ready-in-Err-NoMemory.new.talk) c.say_ready-in-Err-NoMemory.result.ending
+    rw (c.say_ready-in-Err-NoMemory.ensures.session, c.say_ready-in-Err-NoMemory.ensures.down) (turn_taken said c.args.manner.now.read_only (g.F.Files.held c.args.files.now) _ _ _ _ (talk_at (state_of c.args.stand.session) c.args.stand.before) _ _ _ _ _ _
+    (g.T.Talk.told c.args.talk.now) (g.T.Talk.told c.hear.new.self) (g.T.Talk.told c.say_ready-in-Err-NoMemory.new.talk) c.say_ready-in-Err-NoMemory.result.ending (omega arith)
     (forgone_before said c.args.manner.now.read_only (g.F.Files.held c.args.files.now) _ (talk_at (state_of c.args.stand.session) c.args.stand.before) line (state_of c.args.stand.session) _ _ _ _ refl refl refl refl)
     heard (Rose-after _ _ _ c.hear.ensures.later) c.say_ready-in-Err-NoMemory.ensures.gives)
 

@@ -1,17 +1,15 @@
 use Rattle.std.proofs.Common.{[], refl, ◌∙◌, arith}
 use Rattle.smk_outside.proofs.Telling.{Rose-after}
-use Rattle.smk_outside.specs.Outside.{Rose}
 use Rattle.smk_top.specs.Talking.{talk_at}
 use Rattle.smk_top.proofs.TalkEndings.{says_nothing}
-use Rattle.smk_inputs.proofs.Stops.{rose_within}
-use Rattle.smk_top.proofs.TalkStretches.{begins, one_more, last_one, outlasts}
+use Rattle.smk_top.proofs.TalkStretches.{begins, one_more, last_one}
 use Rattle.smk_session.specs.Sessions.{state_of}
 use Rattle.smk_inputs.specs.Loaded.{said_of}
 use Rattle.smk_top.proofs.talking.take_turns.Goals as goal
 
 pub loop-heard-init : goal.loop-heard-init
 loop-heard-init g c =
-    let (stretch, none) = begins (said_of c.args.session.catalog c.args.manner.now.fds.now) c.args.manner.now.read_only (g.F.Files.held c.args.files.now) (Rose (g.F.Files.faults c.args.files.now) (g.F.Files.faults c.args.files.now))
+    let (stretch, none) = begins (said_of c.args.session.catalog c.args.manner.now.fds.now) c.args.manner.now.read_only (g.F.Files.held c.args.files.now) (g.F.Files.faults c.args.files.now)
     [] (talk_at (state_of c.args.session) 0) (g.T.Talk.told c.args.talk.now) (g.T.Talk.told c.args.talk.now) c.args.steps.now (says_nothing (g.T.Talk.told c.args.talk.now) (g.T.Talk.told c.args.talk.now) refl) in
     record { stretch = stretch; count = none; book = refl; held = refl; later = omega arith; talk_later = omega arith }
 
@@ -24,8 +22,7 @@ loop-heard-preserved g c =
     let turn = rw (inv.book, inv.held, c.in_default.is) at c.take_turn-taken.ensures.taken in
     let more = one_more (said_of c.args.session.catalog c.args.manner.now.fds.now) c.args.manner.now.read_only (g.F.Files.held c.args.files.now) _ _ _ [] _ _ _
     (g.T.Talk.told c.args.talk.now) (g.T.Talk.told c.loop-heard.talk) (g.T.Talk.told c.take_turn-taken.new.talk) _ _ _ _ _ _
-    (λ up. rose_within (g.F.Files.faults c.args.files.now) (g.F.Files.faults c.args.files.now) (g.F.Files.faults c.loop-heard.files) (g.F.Files.faults c.take_turn-taken.new.files) (omega arith) inv.later c.take_turn-taken.ensures.later up)
-    (λ up. rose_within (g.F.Files.faults c.args.files.now) (g.F.Files.faults c.loop-heard.files) (g.F.Files.faults c.take_turn-taken.new.files) (g.F.Files.faults c.take_turn-taken.new.files) inv.later c.take_turn-taken.ensures.later (omega arith) up)
+    inv.later c.take_turn-taken.ensures.later
     inv.stretch inv.count turn in
     rw c.either-down.ensures (record {
       stretch = more.0;
@@ -43,11 +40,10 @@ returns-in-Some-clause-talked g c =
     rw c.either-down.ensures
     (last_one (said_of c.args.session.catalog c.args.manner.now.fds.now) c.args.manner.now.read_only (g.F.Files.held c.args.files.now) _ _ _ _ _ [] _ _
     (g.T.Talk.told c.args.talk.now) (g.T.Talk.told c.loop-heard.talk) (g.T.Talk.told c.take_turn-taken.new.talk) _ _ _ _ _ _
-    (λ up. rose_within (g.F.Files.faults c.args.files.now) (g.F.Files.faults c.args.files.now) (g.F.Files.faults c.loop-heard.files) (g.F.Files.faults c.take_turn-taken.new.files) (omega arith) inv.later c.take_turn-taken.ensures.later up)
-    (λ up. rose_within (g.F.Files.faults c.args.files.now) (g.F.Files.faults c.loop-heard.files) (g.F.Files.faults c.take_turn-taken.new.files) (g.F.Files.faults c.take_turn-taken.new.files) inv.later c.take_turn-taken.ensures.later (omega arith) up)
+    inv.later c.take_turn-taken.ensures.later
     (Rose-after _ _ _ inv.talk_later) inv.stretch turn)
 
 pub returns-clause-talked : goal.returns-clause-talked
 returns-clause-talked g c =
     let inv = c.loop-heard.invariant in
-    outlasts (said_of c.args.session.catalog c.args.manner.now.fds.now) c.args.manner.now.read_only (g.F.Files.held c.args.files.now) _ _ _ [] _ _ (g.T.Talk.told c.args.talk.now) (g.T.Talk.told c.loop-heard.talk) _ _ _ (λ up. up) inv.stretch (omega (arith, inv.count))
+    record { last = talk_at (state_of c.loop-heard.session) c.loop-heard.heard; stretch = inv.stretch; cause = omega (arith, inv.count) }
