@@ -71,6 +71,7 @@ abbrev pub is_misread : Option Held → TalkTurn → Bool
 is_misread held (Unbrought bytes (Unread file)) = may_have held file
 is_misread held _ = false
 
+-- how many of these turns are such
 abbrev pub misreads : Option Held → List TalkTurn → ℕ
 misreads held turns = length (filter (is_misread held) turns)
 
