@@ -38,7 +38,7 @@ IsReadingFault BadTable = ⊤
 IsReadingFault ReadFault = ⊤
 IsReadingFault _ = ⊥
 
--- the same but for a file, which also a status behind the first line tells
+-- the same but for a file, whose status is also that of a line that can't be heard
 abbrev pub IsStartFault : Status → Type 0
 IsStartFault ReadFault = ⊥
 IsStartFault status = IsReadingFault status

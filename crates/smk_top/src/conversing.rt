@@ -174,7 +174,7 @@ fn say_end<E: Sink>(end: TalkEnd, err: &mut E) -> Status
 }
 
 /// A conversation with Smoke. Its `words` are those after the program's name: a book's file name, or `--demo` with a number of flights; `--mode`
-/// and `--workers` as of a run; and `--read-only`, by which nothing may be appended.
+/// and `--workers` as of a run; and `--read-only`, by which nothing may be appended, and no line's file is read.
 ///
 /// It reads the book and the book's tables from `files`, evaluates the views, and says their texts to `talk`. Then it hears a line from there, says
 /// what a run's report has for that line, and hears the next one, up to the end of the lines. Behind each text it says an empty line. A line that
