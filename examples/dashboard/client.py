@@ -6,6 +6,7 @@
 
 It is an example, and not part of what is proved.
 """
+import contextlib
 import csv
 import io
 import subprocess
@@ -30,9 +31,9 @@ class Part:
     kind: str  # the first word of its first line; each mark of a reply to `fd` is a part of the kind "mark"
     names: list  # the views and tables that its first line names
     count: int  # the number at the end of its first line; 0 if there is none
-    columns: list = field(default_factory=list)  # of a view, and of the replies to `back`, `ask` and `fd`
-    records: list = field(default_factory=list)  # each a list: its place or rid, an int, and then texts
-    numbers: list = field(default_factory=list)  # the marks or rids; of a part "mark", the mark
+    columns: list = field(default_factory=list)  # of a view, and of the replies to `back`, `ask`, `fd` and `.selected`
+    records: list = field(default_factory=list)  # each a list: its place or rid, an int, and then texts; with `.part`, those of the part
+    numbers: list = field(default_factory=list)  # the marks or rids, without `.brief`; of a part "mark", the mark
 
 
 class Smoke:
@@ -69,7 +70,7 @@ class Smoke:
         return self.process.wait()
 
     def ask(self, line):
-        """Sends a line, and gives the parts of its text, none for a line without a question."""
+        """Sends a line, and gives the parts of its text, none for a line without a question. It reads the texts of all lines but .schema and .help."""
         if "\n" in line:
             raise ValueError("a line has no line feed in it")
         try:
@@ -77,7 +78,7 @@ class Smoke:
             self.lines.flush()
         except OSError:
             raise Ended("the program has ended") from None
-        return self._text()
+        return self._text(line)
 
     def _line(self):
         line = self.texts.readline()
@@ -85,28 +86,33 @@ class Smoke:
             raise Ended("the program has ended")
         return line[:-1]
 
-    def _text(self):
-        """Reads a text by the counts in it, since a field in quotes can have an empty line."""
+    def _text(self, line=""):
+        """Reads a text by the counts in it, since a field in quotes can have an empty line. The line says what of it is printed."""
+        first, *words = line.split() or [""]
+        shown = slice(None)
+        if first == ".part":
+            with contextlib.suppress(TypeError, ValueError):  # where these are no numbers, the line isn't read
+                shown = slice(*map(int, words[:2]))
         parts = []
         while head := self._line():
             if head.startswith(("refused ", "line ")):
                 self._line()
                 raise Refused(head)
-            parts.append(self._part(head, parts))
+            parts.append(self._part(head, parts, shown, first == ".brief"))
         return parts
 
-    def _part(self, head, before):
+    def _part(self, head, before, shown, brief):
         kind, *words = head.split(" ")
         count = int(words.pop()) if words and words[-1].isdigit() else 0
         part = Part(kind, [word for word in words if word not in ("to", "on")], count)
-        if kind in ("view", "back", "group", "ask", "fd"):
+        if kind in ("view", "back", "group", "ask", "selected") or kind == "fd" and not brief:
             part.columns = self._record()
-        if kind in ("brush", "linked", "fwd"):
+        if kind in ("brush", "linked", "fwd") and not brief:
             part.numbers = [int(number) for number in self._line().split(" ")[1:]]
         if kind == "mark":
             part.names, part.numbers, part.columns = [], [int(words[0])], before[-1].columns
-        if kind in ("view", "back", "group", "ask", "mark"):
-            records = [self._record() for _ in range(count)]
+        if kind in ("view", "back", "group", "ask", "selected") or kind == "mark" and not brief:
+            records = [self._record() for _ in range(count)[shown]]
             part.records = [[int(place), *texts] for place, *texts in records]
         return part
 

@@ -11,7 +11,6 @@ const CHARTS = {
 const ROW = 24;       // the height of a bar's row
 const LABEL = 88;     // the width of its label
 const NUMBER = 116;   // the width of its number
-const SHOWN = 100;    // how many rides the table has at most
 
 const $ = selector => document.querySelector(selector);
 const written = number => number.toLocaleString("en");
@@ -171,12 +170,11 @@ function point(chart, mark, label) {
 
 async function ridesOf({chart, mark, label}) {
   const answer = await ask("/rides", {chart, marks: [mark]});
-  const rides = answer.rides.length;
   const of = charts[chart].said.filtered ? ` of ${written(answer.whole)}` : "";
-  const cut = rides > SHOWN ? `, the first ${SHOWN} below` : "";
-  $("#behind").textContent = `Rides behind ${label}: ${written(rides)}${of}${cut}`;
+  const cut = answer.now > answer.rides.length ? `, the first ${answer.rides.length} below` : "";
+  $("#behind").textContent = `Rides behind ${label}: ${written(answer.now)}${of}${cut}`;
   $("#rides thead").replaceChildren(row("th", answer.columns));
-  $("#rides tbody").replaceChildren(...answer.rides.slice(0, SHOWN).map(ride => row("td", ride)));
+  $("#rides tbody").replaceChildren(...answer.rides.map(ride => row("td", ride)));
 }
 
 function row(kind, texts) {

@@ -17,6 +17,7 @@ from client import Ended, Refused, Smoke
 HERE = pathlib.Path(__file__).resolve().parent
 BUILT = HERE.parent.parent / "crates/smoke_live/out/smoke_live"
 CHARTS = ("by_day", "by_hour", "by_length", "by_rider", "by_district")
+SHOWN = 100  # how many rides the page's table has at most
 FILES = {"/": ("page.html", "text/html"), "/page.css": ("page.css", "text/css"), "/page.js": ("page.js", "text/javascript")}
 HEADERS = {"Cache-Control": "no-store", "Content-Security-Policy": "default-src 'self'; img-src data:; frame-ancestors 'none'"}
 
@@ -32,7 +33,7 @@ class Dashboard:
         self.smoke = smoke
         self.whole = {part.names[0]: part.records for part in smoke.views if part.names[0] in CHARTS}
         self.now = dict(self.whole)
-        self.brushes = {}  # of each chart with a brush, its marks and the rids that it selects
+        self.brushes = {}  # of each chart with a brush, its marks
         self.lock = threading.Lock()
 
     def answer(self, path, asked):
@@ -43,11 +44,11 @@ class Dashboard:
                 return self.rides(*self.checked(asked))
             if path == "/brush":
                 chart, marks = self.checked(asked)
-                parts = self.smoke.ask(f"brush {chart} {', '.join(map(str, marks))} on rides")
-                self.brushes[chart] = marks, set(parts[0].numbers)
+                parts = self.smoke.ask(f".brief brush {chart} {', '.join(map(str, marks))} on rides")
+                self.brushes[chart] = marks
             elif path == "/clear" and asked:
                 chart, _ = self.checked({**asked, "marks": [0]})
-                parts = self.smoke.ask(f"clear {chart} on rides")
+                parts = self.smoke.ask(f".brief clear {chart} on rides")
                 self.brushes.pop(chart, None)
             elif path == "/clear":
                 self.smoke.ask("clear")
@@ -66,22 +67,17 @@ class Dashboard:
             raise Wrong(400, "there is no such bar")
         return chart, sorted(set(marks))
 
-    def selected(self, chart=None):
-        """The rids of the rides that the brushes of all charts select, but of this one; None if there are no brushes."""
-        brushes = [rids for name, (_, rids) in self.brushes.items() if name != chart]
-        return set.intersection(*brushes) if brushes else None
-
     def charts(self):
-        charts = [{"name": name, "whole": self.whole[name], "now": self.now[name], "filtered": self.selected(name) is not None,
-                   "brushed": self.brushes.get(name, [[]])[0]} for name in CHARTS]
-        return {"charts": charts, "selected": len(self.selected() or []) if self.brushes else None}
+        charts = [{"name": name, "whole": self.whole[name], "now": self.now[name], "filtered": any(other != name for other in self.brushes),
+                   "brushed": self.brushes.get(name, [])} for name in CHARTS]
+        return {"charts": charts, "selected": self.smoke.ask(".part 0 0 .selected rides")[0].count}
 
     def rides(self, chart, marks):
-        """The rides behind bars. `back` ignores brushes, so this keeps those that the brushes of other charts select."""
-        back = self.smoke.ask(f"back {chart} {', '.join(map(str, marks))} to rides")[0]
-        selected = self.selected(chart)
-        return {"columns": back.columns, "whole": back.count,
-                "rides": [ride for ride in back.records if selected is None or ride[0] in selected]}
+        """The first rides behind bars under the brushes in force, and how many there are, with these brushes and without."""
+        back = f"back {chart} {', '.join(map(str, marks))} to rides"
+        now, = self.smoke.ask(f".part 0 {SHOWN} .now {back}")
+        whole, = self.smoke.ask(f".part 0 0 {back}")
+        return {"columns": now.columns, "whole": whole.count, "now": now.count, "rides": now.records}
 
 
 class Handler(http.server.BaseHTTPRequestHandler):

@@ -7,11 +7,11 @@ ghost use Rattle.smk_model.specs.Limits.{KeepsSteps};
 ghost use Rattle.smk_model.specs.Replies as replies;
 ghost use Rattle.smk_session.specs.Sessions.{state_of};
 
-use crate::stepping::stepped;
 use smk_base::{AskLine, AskRefusal, AskReply, Catalog, Line, Marks, Reply, Then};
 use smk_outside::{Gate, Steps};
 use smk_report::table_named;
 use smk_session::Session;
+use smk_steps::stepped;
 use std::alloc::{AllocError, Global};
 use std::sync::ledger::Ledger;
 use std::thread::Threads;
@@ -76,7 +76,7 @@ fn told_over<R: Threads + Sync>(
         Reply::Back { rids, rows } => {
             drop(rids);
             match table_named(catalog, &line.table) {
-                Some(table) => stepped(rt, alloc, &table.cols, line, rows),
+                Some(table) => stepped(rt, alloc, &table.cols, &line.steps, rows),
                 None => unreachable!(),
             }
         }

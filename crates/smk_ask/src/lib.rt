@@ -2,9 +2,7 @@
 #![tactic(auto)]
 
 mod asking;
-mod chained;
 mod said;
-mod stepping;
 
 pub use asking::ask;
 pub use said::ask_text;

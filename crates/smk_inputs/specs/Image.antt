@@ -31,7 +31,7 @@ invocation_image words = record { settings = settings_image words.settings; text
 
 -- what a conversation is called for
 abbrev pub talk_image : TalkWords → TalkCall
-talk_image words = record { settings = settings_image words.settings; texts = texts_image words.texts; read_only = words.read_only }
+talk_image words = record { settings = settings_image words.settings; texts = texts_image words.texts; read_only = words.read_only; brief = words.brief }
 
 -- what a line says
 abbrev pub reading_image : Reading → readings.Reading

@@ -28,10 +28,11 @@ pub struct RunWords {
     pub texts: RunTexts,
 }
 
-/// What a conversation is called for: how it works, where its texts come from, which is without a script, and whether nothing may be appended.
+/// What a conversation is called for: how it works, where its texts come from, which is without a script, whether nothing may be appended, and whether the schema is said first in place of all views.
 #[derive(Drop)]
 pub struct TalkWords {
     pub settings: Settings,
     pub texts: RunTexts,
     pub read_only: bool,
+    pub brief: bool,
 }

@@ -82,6 +82,16 @@ fn read_only_arg<'a>(alloc: Global) -> Arg<'a>
         .action(ArgAction::SetTrue)
 }
 
+// The option `--brief`.
+fn brief_arg<'a>(alloc: Global) -> Arg<'a>
+    ensures rule { rule_of result ≡ talks.brief_rule }
+    ensures local { result.global ≡ false }
+{
+    Arg::new(alloc, "brief")
+        .long("brief")
+        .action(ArgAction::SetTrue)
+}
+
 // The command of a conversation: its options, and then its place.
 fn talk_command<'a>(alloc: Global) -> Result<Command<'a>, AllocError>
     ensures { IfOk result (λ command. app_of command ≡ talks.talk_app) }
@@ -91,7 +101,8 @@ fn talk_command<'a>(alloc: Global) -> Result<Command<'a>, AllocError>
     let with_workers = with_mode.arg(workers_arg(alloc))?;
     let with_demo = with_workers.arg(demo_arg(alloc))?;
     let with_read_only = with_demo.arg(read_only_arg(alloc))?;
-    let with_book = with_read_only.arg(place_arg(alloc, "book"))?;
+    let with_brief = with_read_only.arg(brief_arg(alloc))?;
+    let with_book = with_brief.arg(place_arg(alloc, "book"))?;
     Ok(with_book)
 }
 
@@ -239,6 +250,7 @@ fn called_to_talk(alloc: Global, matches: &ArgMatches<'_>) -> Result<Option<Talk
         return Ok(None);
     };
     let read_only = matches.get_str("read-only") == Some("true");
+    let brief = matches.get_str("brief") == Some("true");
     match texts_named(
         alloc,
         matches.get_str("demo"),
@@ -249,6 +261,7 @@ fn called_to_talk(alloc: Global, matches: &ArgMatches<'_>) -> Result<Option<Talk
             settings,
             texts,
             read_only,
+            brief,
         })),
         None => Ok(None),
     }

@@ -155,7 +155,7 @@ finishes (t ∷ u ∷ ts) (x ∷ ss) c s n h k e = (more_is_no_end t.kind k.0, b
     by (Past w) p q g rec = absurd (not_failed (TooMany t.at w) s g)
     by Outside p q g rec = absurd (not_failed (BadNumber t.at) s g)
 
-faultless_finish : (ss : List Symbol) → no_ends ss ≡ true → closes ss ≡ true → (text : List ℕ) → fault_in (through ss no_counts (tokens text)) ≡ None → Finishes (tokens text)
+pub faultless_finish : (ss : List Symbol) → no_ends ss ≡ true → closes ss ≡ true → (text : List ℕ) → fault_in (through ss no_counts (tokens text)) ≡ None → Finishes (tokens text)
 faultless_finish ss n h text e = let k = none_is_ok (through ss no_counts (tokens text)) e in finishes (tokens text) ss no_counts k.0 n h (tokens_close 0 0 text) k.1
 
 pub book_finishes : (text : List ℕ) → book_fault (tokens text) ≡ None → Finishes (tokens text)

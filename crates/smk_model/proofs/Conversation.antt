@@ -2,6 +2,7 @@
 use Rattle.std.specs.Prelude.{cond, Option, Some, None, option_map, Ok, is_some}
 use Rattle.std.specs.List.{concat, filter, cons_option, scan, flat_map}
 use Rattle.std.proofs.Common.{◌≡◌, ◌+◌, ℕ, Bool, true, false, List, [], ◌∷◌, ◌++◌, map, refl, sym, ap, ◌∙◌, subst}
+use Rattle.std.proofs.lemmas.Bool.{false≢true}
 use Rattle.clap.proofs.RemoveLemmas.{find-none}
 use Rattle.smk_base.specs.CatalogImage.{CatalogImage, table_place}
 use Rattle.smk_base.specs.Dicts.{text_eq}
@@ -10,10 +11,11 @@ use Rattle.smk_base.specs.Trees.{AppendedLine}
 use Rattle.smk_base.specs.declared.book.catalog.TableInfo.{TableInfo}
 use Rattle.smk_model.specs.Values.{Row}
 use Rattle.smk_model.specs.Appends.{turn_at, append_looks_at}
-use Rattle.smk_model.specs.Conversation.{HeardLine, TalkTurn, Replied, TalkState, turn_after, turn_text, turn_block, block_of, opening_block, turns_told, readings_of, rows_brought, brings, FilesBring, AreHeard, texts_read}
+use Rattle.smk_model.specs.Conversation.{HeardLine, TalkTurn, Replied, Owned, Unbrought, ReadOnly, Forgone, OwnForgone, TooLong, TalkState, line_of, is_own_turn, text_read, FitsTalk, turn_after, turn_text, turn_block, block_of, opening_block, turns_told, readings_of, rows_brought, brings, FilesBring, AreHeard, texts_read}
 use Rattle.smk_model.specs.ConversationLaws.{TalksAsReported}
 use Rattle.smk_model.specs.Lines.{lines}
 use Rattle.smk_model.specs.Outcome.{Held, Inputs, ReadsFiles, inputs, a_script, read, lines_read, file_bytes, appended, appended_at, filed, load_all}
+use Rattle.smk_model.specs.OwnLines.{is_own}
 use Rattle.smk_model.specs.Readings.{Reading, Asks, AreReadings, no_line, one_line}
 use Rattle.smk_model.specs.Reports.{BookSaid, followed_by, turn_answered, line_told, state_after, lines_told, answer_told, brings_rows, next_rows, rows_left, report_of, report_told}
 use Rattle.smk_model.specs.ReplyTexts.{table_named}
@@ -80,7 +82,7 @@ same_place catalog _ = refl
 rows_loaded : (held : Held) (catalog : CatalogImage) (number : ℕ) (heard : List HeardLine) → AreHeard held catalog number heard
     → load_all held (appended catalog (readings_of heard)) ≡ Ok (rows_brought catalog heard)
 rows_loaded held catalog number [] is = refl
-rows_loaded held catalog number (line ∷ heard) (reads, brought, more) =
+rows_loaded held catalog number (line ∷ heard) (plain, reads, brought, more) =
     by (appended_at catalog line.reading) (brings_rows catalog line.reading) (same_place catalog line.reading) brought (rows_loaded held catalog (number + 1) heard more)
   where
     by : (o : Option TableInfo) (b : Bool) → is_some o ≡ b → FilesBring held o (Ok line.rows) → load_all held (appended catalog (readings_of heard)) ≡ Ok (rows_brought catalog heard)
@@ -93,7 +95,7 @@ rows_loaded held catalog number (line ∷ heard) (reads, brought, more) =
 -- and they say what their texts say
 lines_said : (held : Held) (catalog : CatalogImage) (number : ℕ) (heard : List HeardLine) → AreHeard held catalog number heard → AreReadings (texts_read number heard) (readings_of heard)
 lines_said held catalog number [] is = no_line
-lines_said held catalog number (line ∷ heard) (reads, brought, more) = one_line reads (lines_said held catalog (number + 1) heard more)
+lines_said held catalog number (line ∷ heard) (plain, reads, brought, more) = one_line reads (lines_said held catalog (number + 1) heard more)
 
 same_bytes : (a b name : List ℕ) (held : Held) → file_bytes held name ≡ Ok a → file_bytes held name ≡ Ok b → a ≡ b
 same_bytes a b name held h k = cc
@@ -111,11 +113,23 @@ run_alike {held} heard (inputs {said = said} {readings = readings} b t (a_script
     let one = same_readings l mine in
     (sym one, same_rows held said.catalog _ _ _ _ one a (rows_loaded held said.catalog 0 heard are))
 
+-- a turn that fits is that of an own line only where its line is one
+no_own_turn : (read_only : Bool) (catalog : CatalogImage) (held : Held) (state : TalkState) (turn : TalkTurn)
+    → FitsTalk read_only catalog (FilesBring held) state turn → is_own (text_read state.heard (line_of turn)) ≡ false → is_own_turn turn ≡ false
+no_own_turn read_only catalog held state (Owned heard) (short, own, reads) none = absurd (false≢true (sym none ∙ own))
+no_own_turn read_only catalog held state (OwnForgone heard) (own, reads) none = absurd (false≢true (sym none ∙ own))
+no_own_turn read_only catalog held state (Replied heard) fits none = refl
+no_own_turn read_only catalog held state (Unbrought bytes fault) fits none = refl
+no_own_turn read_only catalog held state (ReadOnly bytes) fits none = refl
+no_own_turn read_only catalog held state (Forgone heard) fits none = refl
+no_own_turn read_only catalog held state (TooLong bytes) fits none = refl
+
 pub talks_as_reported : TalksAsReported
 talks_as_reported = record {
   said = λ book fds turns. ap (λ l. views_text book ++ l) (texts_told (record { catalog = book.catalog; fds = fds }) (record { session = first_state book; heard = 0 }) turns);
   blocks = λ book fds turns. ap (λ l. opening_block book ++ l) (blocks_said (record { catalog = book.catalog; fds = fds }) (record { session = first_state book; heard = 0 }) turns);
   told = λ book fds heard. ap (report_told book) (lines_alike (record { catalog = book.catalog; fds = fds }) (first_state book) 0 heard);
+  scripts = no_own_turn;
   run = λ held book script bytes given heard reads content split are.
       let same = run_alike heard reads content split are in
       ap (report_told given.book) (lines_alike (record { catalog = given.book.catalog; fds = given.fds }) (first_state given.book) 0 heard)

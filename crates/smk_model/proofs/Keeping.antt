@@ -2,24 +2,25 @@
 use Rattle.std.specs.Prelude.{Err, Option, Some, None, FitsSigned, pos, neg_ℤ, cond, All, ◌==◌, ◌&&◌, nat_lt, nat_le, ◌-◌, ◌^◌, length, take, drop, take_while}
 use Rattle.std.specs.Int.{w64}
 use Rattle.std.specs.Char.{is_ascii_digit}
-use Rattle.std.proofs.Common.{◌≡◌, ℕ, zero, suc, ◌+◌, ◌≤◌, List, [], ◌∷◌, Bool, true, false, ap, ◌∙◌, sym, subst, refl, arith}
+use Rattle.std.proofs.Common.{◌≡◌, ℕ, zero, suc, ◌+◌, ◌≤◌, List, [], ◌∷◌, ◌++◌, Bool, true, false, ap, ◌∙◌, sym, subst, refl, arith}
 use Rattle.std.specs.List.{list_all}
 use Rattle.std.proofs.lemmas.Bool.{ltb-true, leb-true}
 use Rattle.smk_base.specs.declared.book.token.TokenKind.{TokenKind}
 use Rattle.smk_base.specs.declared.book.token.TokenKind.TheVariants as kinds
 use Rattle.smk_base.specs.declared.fault.BookFault.{BookFault}
 use Rattle.smk_base.specs.declared.fault.BookFault.TheVariants.{TooMany}
-use Rattle.smk_base.specs.Trees.{StmtImage, AskImage}
+use Rattle.smk_base.specs.Trees.{StmtImage, AskStepImage, AskImage}
 use Rattle.smk_model.specs.Tokens.{Token, Keyword, keywords, kind_in, word_kind, is_gap, is_letter, is_word_byte, no_line_end, is_quoted_byte, number_kind, digits_value, int_value, string_len, Front, Between, Begins, string_front, quoted_front, or_equal, unequal_front, minus_front, number_front, word_front, symbol_front, front, is_more, put, tokens_from, tokens}
 use Rattle.smk_base.specs.declared.book.tree.Marks.{Marks}
 use Rattle.smk_base.specs.declared.book.limits.TheConstants.{NODE_LIMIT}
 use Rattle.smk_base.proofs.Blanks.{cases_on}
 use Rattle.smk_model.specs.Grammar.{AreMarks, all_marks, listed_marks, listed, IsAskLine, ask_line, asked_line, whole_any_line}
-use Rattle.smk_model.specs.Limits.{KeepsLimits, HasMarks, KeepsAsk}
-use Rattle.smk_model.specs.Machine.{fault_in, book_symbols, any_symbols, no_counts}
+use Rattle.smk_model.specs.Limits.{KeepsLimits, HasMarks, KeepsSteps, KeepsAsk}
+use Rattle.smk_model.specs.Machine.{Symbol, through, fault_in, book_symbols, any_symbols, no_counts}
+use Rattle.smk_model.specs.OwnLines.{AreSelected, selected, selected_symbols, selected_fault}
 use Rattle.smk_model.specs.GrammarLaws.{FaultlessKeepLimits, FaultlessAsksKeepLimits}
 use Rattle.smk_model.proofs.Reading.{Ranged, Adds, Gets, on, over}
-use Rattle.smk_model.proofs.Texts.{Held, Keeps, stmts_text, no_tally, whole_ask_text}
+use Rattle.smk_model.proofs.Texts.{Held, Keeps, stmts_text, no_tally, whole_ask_text, whole_selected_text}
 
 -- kinds but that of numbers
 not_number : TokenKind → Bool
@@ -154,12 +155,19 @@ marked (listed_marks (listed p l)) = λ e. absurd (cc)
 asks_some : {a b : List Token} {asked : AskImage} → IsAskLine a b asked → HasMarks asked.marks × (asked.steps ≡ [] → ⊥)
 asks_some (ask_line i j v m k w x s ss) = (marked m, λ e. absurd (cc))
 
-pub faultless_asks_keep_limits : FaultlessAsksKeepLimits
-faultless_asks_keep_limits text asked (whole_any_line {b = b} (asked_line p) h) none = by ((whole_ask_text p h).goes no_counts [])
+-- steps that are read to the end without a fault
+steps_kept : (text : List ℕ) (l : List Symbol) (e : List Token) (steps : List AskStepImage) → fault_in (through (l ++ []) no_counts (tokens text)) ≡ None
+    → Gets (Unit {0}) (Adds 0 (length steps) (Ranged (tokens text) → All Keeps steps) no_counts) l [] no_counts (tokens text) e → KeepsSteps steps
+steps_kept text l e steps none (on d q f) = record { few = few q.grows q.few; each = q.fact (tokens_from_ranged 0 0 text) }
   where
     few : {n m : ℕ} → m + 0 ≡ 0 + n → (0 ≤ NODE_LIMIT → m ≤ NODE_LIMIT) → n ≤ NODE_LIMIT
     few e f = let g = f (omega arith) in omega (arith, e, g)
+steps_kept text l e steps none (over o at what f) = absurd (not_none (TooMany at what) (ap fault_in (sym f) ∙ none))
 
-    by : Gets (Unit {0}) (Adds 0 (length asked.steps) (Ranged (tokens text) → All Keeps asked.steps) no_counts) any_symbols [] no_counts (tokens text) b → KeepsAsk asked
-    by (on d q f) = let r = asks_some p in record { marked = r.0; some = r.1; steps = record { few = few q.grows q.few; each = q.fact (tokens_from_ranged 0 0 text) } }
-    by (over o at what f) = absurd (not_none (TooMany at what) (ap fault_in (sym f) ∙ none))
+pub faultless_asks_keep_limits : FaultlessAsksKeepLimits
+faultless_asks_keep_limits text asked (whole_any_line {b = b} (asked_line p) h) none =
+    let r = asks_some p in
+    record { marked = r.0; some = r.1; steps = steps_kept text any_symbols b asked.steps none ((whole_ask_text p h).goes no_counts []) }
+
+pub selected_keep_limits : (text table : List ℕ) (steps : List AskStepImage) → AreSelected (tokens text) table steps → selected_fault (tokens text) ≡ None → KeepsSteps steps
+selected_keep_limits text _ _ (selected {c = c} {ss = ss} n p h) none = steps_kept text selected_symbols c ss none ((whole_selected_text n p h).goes no_counts [])

@@ -81,6 +81,10 @@ pub mod Unscanned
 pub mod NeverFull
 pub mod AppendExamples
 pub mod Appends
+pub mod OwnReadings
+pub mod OwnLines
+pub mod OwnExamples
+pub mod OwnSessions
 pub mod Conversation
 pub mod ConversationExamples
 pub mod TalkStarts

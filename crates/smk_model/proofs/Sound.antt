@@ -84,7 +84,7 @@ ended (x ∷ ss) c s t n f e = subst (λ u. (b : List Token) × AreSymbols (x �
     by (Past w) h g = absurd (not_failed (TooMany t.at w) s g)
     by Outside h g = absurd (not_failed (BadNumber t.at) s g)
 
-sound : (ts : List Token) (ss : List Symbol) (c : PlanCounts) (s : Configuration) → no_ends ss ≡ true → Finishes ts → through ss c ts ≡ Ok s → (b : List Token) × AreSymbols ss ts b
+pub sound : (ts : List Token) (ss : List Symbol) (c : PlanCounts) (s : Configuration) → no_ends ss ≡ true → Finishes ts → through ss c ts ≡ Ok s → (b : List Token) × AreSymbols ss ts b
 sound [] ss c s n f e = absurd f
 sound (t ∷ []) ss c s n f e = ended ss c s t n (kind_at_end t f) e
 sound (t ∷ u ∷ ts) [] c s n f e = (t ∷ u ∷ ts, refl)

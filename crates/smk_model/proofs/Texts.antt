@@ -27,6 +27,7 @@ use Rattle.smk_base.specs.declared.rel.TheConstants.{COLUMN_LIMIT}
 use Rattle.smk_model.specs.Tokens.{Token, head_of, int_value}
 use Rattle.smk_model.specs.Grammar.{First, IsName, name, IsColumn, number, string, IsFile, file, listed, IsType, int_type, text_type, IsDefault, no_default, default, IsDecl, decl, IsNamed, by_itself, by_as, IsWidth, width, IsItem, column_item, bin_item, IsWhat, alone_what, column_what, IsAgg, agg, AreKeys, no_keys, keys, AreAggs, no_aggs, aggs, IsPair, pair, IsOp, eq, ne, lt, le, gt, ge, IsTerm, column_term, literal_term, IsPrim, negated, bracketed, compared, IsConj, conj, AreAnds, no_and, one_and, IsPred, pred, AreOrs, no_or, one_or, IsPlan, plan, IsSource, scan, inner_plan, AreSteps, no_step, one_step, IsStep, where_step, project_step, distinct_step, group_step, join_step, theta_step, product_step, union_all_step, union_step, IsExtra, no_extra, by_extra, group_extra, table_stmt, view_stmt, back_stmt, fwd_stmt, link_stmt, depends_stmt, AreStmts, no_stmt, one_stmt, IsMark, mark, AreMarks, all_marks, listed_marks, IsThen, no_then, where_then, group_then, IsLine, show_line, back_line, fwd_line, brush_line, clear_line, clear_one_line, IsWholeLine, whole_line, HasOneInput, IsAskStep, ask_step, AreAskSteps, no_ask_step, one_ask_step, IsAskLine, ask_line, plain_line, asked_line, profiled_line, appended_line, IsWholeAnyLine, whole_any_line}
 use Rattle.smk_model.specs.Machine.{PlanCounts, Tally, Symbol, Skips, Outside, through, fault_in, book_symbols, any_symbols, no_counts, book_fault, line_fault, any_fault, is_mark_number, is_short, at_more, at_default, at_as, at_keys, at_aggs, at_ands, at_ors, at_steps, at_extra, at_then, at_cleared, at_line, at_any_line, step_symbols, ask_symbols, node_move, at_ask_steps, at_stmts, at_end, AToken, AName, AColumn, AWidth, AType, ADefault, AnAs, AWhat, AKeys, AnAggs, AFirst, AnItem, ALinked, MoreDecls, MoreItems, MoreKeys, MoreAggs, MorePairs, MoreLinked, ASource, ASteps, AStep, AUnited, APrim, AnAnds, AnOrs, AnOn, AnOp, ATerm, AStmts, AnExtra, ALine, ALineName, ALineColumn, AMarks, AMark, MoreMarks, AThen, AnEnd, AnyLine, AnAskStep, AskSteps}
+use Rattle.smk_model.specs.OwnLines.{selected_symbols}
 use Rattle.smk_model.specs.Limits.{Divides, KeepsItems, KeepsTree, KeepsStep, nodes, nodes_of_step, DefaultInRange, KeepsDecls, KeepsStmt, KeepsAskStep, is_table, is_view}
 use Rattle.smk_model.specs.GrammarLaws.{AtMostTooMany, TextsAreRead}
 use Rattle.smk_model.proofs.Unique.{rank, rank_of, ranked, aggs_rank, ors_rank, steps_rank, stmts_rank, ask_steps_rank, step_opening, opener, opening}
@@ -431,6 +432,10 @@ ask_text (ask_line h i v m j w k p l) n = opens h (λ c. taken c) (then_goes (to
 
 pub whole_ask_text : {a b c : List Token} {t : Token} {l : AskImage} → IsAskLine a b l → First kinds.End t b c → Counting 0 (length l.steps) (All Keeps l.steps) any_symbols a b
 whole_ask_text p h = ahead (ask_text p (omega (arith, ranked h))) (passes (λ c. ap at_end (end_here h)))
+
+-- a table, and steps over its rows, up to the end
+pub whole_selected_text : {a b c d : List Token} {t : Token} {w : Word} {ss : List AskStepImage} → IsName a b w → AreAskSteps b c ss → First kinds.End t c d → Counting 0 (length ss) (All Keeps ss) selected_symbols a c
+whole_selected_text n p h = then_goes (line_name n) (ahead (ask_steps_text p (omega (arith, ranked h))) (passes (λ c. ap at_end (end_here h))))
 
 profiled : (a : List Token) (view : List ℕ) → IsWholeAnyLine a (ProfiledLine view) → any_fault a ≡ None
 profiled a _ (whole_any_line (profiled_line h w) k) = faultless (opens h (λ c. taken c) (line_name w)) k

@@ -56,7 +56,7 @@ same_at {k} {j} {t} {u} {a} {a'} {b} {c} e h i =
 first_kind : {k : TokenKind} {t : Token} {a b : List Token} → First k t a b → (head_of a).kind ≡ k
 first_kind h = ap (λ l. (head_of l).kind) h.is_first ∙ h.is_kind
 
-one_name : {a a' b c : List Token} {w v : Word} → a ≡ a' → IsName a b w → IsName a' c v → (w ≡ v) × (b ≡ c)
+pub one_name : {a a' b c : List Token} {w v : Word} → a ≡ a' → IsName a b w → IsName a' c v → (w ≡ v) × (b ≡ c)
 one_name e (name h) (name k) = let r = same_at e h k in (ap plain_word r.1, r.2)
 
 one_column : {a a' b c : List Token} {w v : Word} → a ≡ a' → IsColumn a b w → IsColumn a' c v → (w ≡ v) × (b ≡ c)
@@ -451,7 +451,7 @@ pub ask_steps_rank : {a b : List Token} {ss : List AskStepImage} → AreAskSteps
 ask_steps_rank no_ask_step h = omega (arith, h)
 ask_steps_rank (one_ask_step k p i) h = omega (arith, ranked k)
 
-ask_steps_at : {a a' b c : List Token} {ss us : List AskStepImage} → a ≡ a' → AreAskSteps a b ss → AreAskSteps a' c us → 7 ≤ rank_of b → 7 ≤ rank_of c → (ss ≡ us) × (b ≡ c)
+pub ask_steps_at : {a a' b c : List Token} {ss us : List AskStepImage} → a ≡ a' → AreAskSteps a b ss → AreAskSteps a' c us → 7 ≤ rank_of b → 7 ≤ rank_of c → (ss ≡ us) × (b ≡ c)
 ask_steps_at e no_ask_step no_ask_step n m = (refl, e)
 ask_steps_at e no_ask_step (one_ask_step k q l) n m = absurd (omega (arith, same_rank e, ranked k, n))
 ask_steps_at e (one_ask_step h p i) no_ask_step n m = absurd (omega (arith, same_rank e, ranked h, m))

@@ -58,6 +58,7 @@ words = record {
   demo = refl;
   unknown_mode = λ held. unreadable (unusable refl);
   talk = refl;
+  brief_talk = refl;
 }
 
 pub tables : TablesHold

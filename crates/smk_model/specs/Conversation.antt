@@ -8,6 +8,9 @@ use Rattle.smk_base.specs.declared.book.catalog.TableInfo.{TableInfo}
 use Rattle.smk_base.specs.declared.fault.Fault.{Fault}
 use Rattle.smk_model.specs.FaultTexts.{fault_text}
 use Rattle.smk_model.specs.Outcome.{Held, appended_at, file_limit, load}
+use Rattle.smk_model.specs.OwnAnswers.{own_told, own_after}
+use Rattle.smk_model.specs.OwnLines.{OwnReading, IsOwnReading, is_own}
+use Rattle.smk_model.specs.OwnTexts.{schema_text}
 use Rattle.smk_model.specs.Readings.{Reading, Asks, IsReading}
 use Rattle.smk_model.specs.Reports.{BookSaid, Report, LinesTold, nothing_told, followed_by, brings_rows, line_told, state_after, report_told}
 use Rattle.smk_model.specs.Session.{Workbook, State, first_state}
@@ -21,20 +24,29 @@ pub record HeardLine : Type 0 where
   pub reading : Reading
   pub rows : List Row
 
--- a turn: a line that is answered as that of a script; an `append` to a table of the book whose file has a fault; an `append` where nothing may be appended; a line that memory was wanting for, as it would have been answered; and one that is too long
+-- a line that is heard as the conversation's own: its bytes, and what it says
+pub record HeardOwn : Type 0 where
+  pub bytes : List ℕ
+  pub own : OwnReading
+
+-- a turn: a line that is answered as that of a script; an own line; an `append` to a table of the book whose file has a fault; an `append` where nothing may be appended; a line of a script, or an own one, that memory was wanting for, as it would have been answered; and one that is too long
 pub data TalkTurn : Type 0 where
   Replied : HeardLine → TalkTurn
+  Owned : HeardOwn → TalkTurn
   Unbrought : List ℕ → Fault → TalkTurn
   ReadOnly : List ℕ → TalkTurn
   Forgone : HeardLine → TalkTurn
+  OwnForgone : HeardOwn → TalkTurn
   TooLong : List ℕ → TalkTurn
 
 -- the line that was heard
 abbrev pub line_of : TalkTurn → List ℕ
 line_of (Replied heard) = heard.bytes
+line_of (Owned heard) = heard.bytes
 line_of (Unbrought bytes fault) = bytes
 line_of (ReadOnly bytes) = bytes
 line_of (Forgone heard) = heard.bytes
+line_of (OwnForgone heard) = heard.bytes
 line_of (TooLong bytes) = bytes
 
 -- where a conversation stands: the state of the session, and how many lines were heard
@@ -67,17 +79,24 @@ refused_told text looks = record { text = text; replies = 1; refused = 1; unread
 abbrev pub heard_told : BookSaid → TalkState → HeardLine → LinesTold
 heard_told said state heard = line_told said state.session (state.heard + 1) heard.rows heard.reading
 
+-- what an own line comes to, with the same number
+abbrev pub heard_own_told : BookSaid → TalkState → HeardOwn → LinesTold
+heard_own_told said state heard = own_told said state.session (state.heard + 1) heard.own
+
 -- what a turn comes to. Memory may be wanting at any of the looks that the line would have made
 abbrev pub turn_told : BookSaid → TalkState → TalkTurn → LinesTold
 turn_told said state (Replied heard) = heard_told said state heard
+turn_told said state (Owned heard) = heard_own_told said state heard
 turn_told said state (Unbrought bytes fault) = refused_told (unbrought_text fault) 0
 turn_told said state (ReadOnly bytes) = refused_told read_only_text 0
 turn_told said state (Forgone heard) = refused_told forgone_text (heard_told said state heard).looks
+turn_told said state (OwnForgone heard) = refused_told forgone_text (heard_own_told said state heard).looks
 turn_told said state (TooLong bytes) = refused_told too_long_text 0
 
 -- the state of the session after a turn: only a line that is answered changes it
 abbrev pub session_after : BookSaid → State → TalkTurn → State
 session_after said state (Replied heard) = state_after said state heard.rows heard.reading
+session_after said state (Owned heard) = own_after said state heard.own
 session_after said state _ = state
 
 abbrev pub turn_after : BookSaid → TalkState → TalkTurn → TalkState
@@ -103,6 +122,10 @@ turn_texts said state turns = scan (turn_after said) (turn_text said) state turn
 abbrev pub talk_texts : Workbook → List (List ℕ) → List TalkTurn → List (List ℕ)
 talk_texts book fds turns = views_text book ∷ turn_texts (record { catalog = book.catalog; fds = fds }) (first_talk_state book) turns
 
+-- the text that is said first: what there is where that is asked for, and else that of all views
+abbrev pub opening_text : Bool → Workbook → List (List ℕ) → List ℕ
+opening_text brief book fds = cond brief (schema_text (record { catalog = book.catalog; fds = fds }) (first_state book)) (views_text book)
+
 -- a block: a text is said, and then an empty line
 abbrev pub block_of : List ℕ → List (List ℕ)
 block_of text = text ∷ (10 ∷ []) ∷ []
@@ -116,6 +139,12 @@ opening_block book = block_of (views_text book)
 
 abbrev pub talk_said : Workbook → List (List ℕ) → List TalkTurn → List (List ℕ)
 talk_said book fds turns = flat_map block_of (talk_texts book fds turns)
+
+-- whether a turn is that of an own line
+abbrev pub is_own_turn : TalkTurn → Bool
+is_own_turn (Owned heard) = true
+is_own_turn (OwnForgone heard) = true
+is_own_turn _ = false
 
 -- the bytes of a line as they are read, behind so many lines: every byte order mark before the first line is no part of it
 abbrev pub text_read : ℕ → List ℕ → List ℕ
@@ -153,16 +182,21 @@ pub record IsAppend (text : List ℕ) : Type 0 where
   pub reads : IsReading text reading
   pub appends : asks_append reading ≡ true
 
--- a turn that may be one in a state, by whether nothing may be appended and by what comes of files: a line of the grammar is answered as what it says. Any line may be one that memory was wanting for, before its rows were there or behind that
+-- a turn that may be one in a state, by whether nothing may be appended and by what comes of files: a line is answered as what it says, as an own line exactly where it begins with a dot. Any line may be one that memory was wanting for, before its rows were there or behind that
 abbrev pub FitsTalk : Bool → CatalogImage → (Option TableInfo → Result (List Row) Fault → Type 0) → TalkState → TalkTurn → Type 0
 FitsTalk read_only catalog Brings state (Replied heard) =
-    (length heard.bytes ≤ line_limit) × IsReading (text_read state.heard heard.bytes) heard.reading
+    (length heard.bytes ≤ line_limit) × (is_own (text_read state.heard heard.bytes) ≡ false) × IsReading (text_read state.heard heard.bytes) heard.reading
     × ((read_only && asks_append heard.reading) ≡ false) × Brings (appended_at catalog heard.reading) (Ok heard.rows)
+FitsTalk read_only catalog Brings state (Owned heard) =
+    (length heard.bytes ≤ line_limit) × (is_own (text_read state.heard heard.bytes) ≡ true) × IsOwnReading (text_read state.heard heard.bytes) heard.own
 FitsTalk read_only catalog Brings state (Unbrought bytes fault) =
     (length bytes ≤ line_limit) × IsUnbrought catalog Brings (text_read state.heard bytes) fault × (read_only ≡ false)
 FitsTalk read_only catalog Brings state (ReadOnly bytes) = (length bytes ≤ line_limit) × IsAppend (text_read state.heard bytes) × (read_only ≡ true)
 FitsTalk read_only catalog Brings state (Forgone heard) =
-    IsReading (text_read state.heard heard.bytes) heard.reading × ((heard.rows ≡ []) ⊎ Brings (appended_at catalog heard.reading) (Ok heard.rows))
+    (is_own (text_read state.heard heard.bytes) ≡ false) × IsReading (text_read state.heard heard.bytes) heard.reading
+    × ((heard.rows ≡ []) ⊎ Brings (appended_at catalog heard.reading) (Ok heard.rows))
+FitsTalk read_only catalog Brings state (OwnForgone heard) =
+    (is_own (text_read state.heard heard.bytes) ≡ true) × IsOwnReading (text_read state.heard heard.bytes) heard.own
 FitsTalk read_only catalog Brings state (TooLong bytes) = line_limit < length bytes
 
 -- what lines say, and the rows that they bring, line by line
@@ -175,11 +209,11 @@ brings catalog heard = brings_rows catalog heard.reading
 abbrev pub rows_brought : CatalogImage → List HeardLine → List (List Row)
 rows_brought catalog lines = map (λ heard. heard.rows) (filter (brings catalog) lines)
 
--- lines behind so many others that say what their texts say, and bring what the files hold
+-- lines behind so many others, none an own line, that say what their texts say, and bring what the files hold
 abbrev pub AreHeard : Held → CatalogImage → ℕ → List HeardLine → Type 0
 AreHeard held catalog number [] = ⊤
 AreHeard held catalog number (heard ∷ lines) =
-    IsReading (text_read number heard.bytes) heard.reading × FilesBring held (appended_at catalog heard.reading) (Ok heard.rows) × AreHeard held catalog (number + 1) lines
+    (is_own (text_read number heard.bytes) ≡ false) × IsReading (text_read number heard.bytes) heard.reading × FilesBring held (appended_at catalog heard.reading) (Ok heard.rows) × AreHeard held catalog (number + 1) lines
 
 -- the texts of lines as they are read, behind so many others
 abbrev pub texts_read : ℕ → List HeardLine → List (List ℕ)

@@ -1,16 +1,18 @@
 -- What a conversation says is what a run writes.
-use Rattle.std.specs.Prelude.{◌≡◌, ◌++◌, ℕ, List, Some, None, Result, Ok, map}
+use Rattle.std.specs.Prelude.{◌≡◌, ◌++◌, ℕ, Bool, false, List, Some, None, Result, Ok, map}
 use Rattle.std.specs.List.{concat, flat_map, scan}
 use Rattle.smk_base.specs.Marks.{after_marks}
 use Rattle.smk_base.specs.declared.fault.Fault.{Fault}
-use Rattle.smk_model.specs.Conversation.{HeardLine, TalkTurn, Replied, first_talk_state, turn_after, turn_block, opening_block, talk_report, talk_texts, talk_said, readings_of, rows_brought, AreHeard, texts_read}
+use Rattle.smk_base.specs.CatalogImage.{CatalogImage}
+use Rattle.smk_model.specs.Conversation.{HeardLine, TalkTurn, TalkState, Replied, first_talk_state, line_of, is_own_turn, text_read, FilesBring, FitsTalk, turn_after, turn_block, opening_block, talk_report, talk_texts, talk_said, readings_of, rows_brought, AreHeard, texts_read}
 use Rattle.smk_model.specs.Lines.{lines}
 use Rattle.smk_model.specs.Outcome.{Held, Inputs, ReadsFiles, file_bytes}
+use Rattle.smk_model.specs.OwnLines.{is_own}
 use Rattle.smk_model.specs.Reports.{report_of}
 use Rattle.smk_model.specs.Session.{Workbook}
 use Rattle.smk_model.specs.TalkStarts.{StartsTalk}
 
--- what is said, put together and block by block, and what a run of the same lines has in its report
+-- what is said, put together and block by block, and what a run of the same lines has in its report; a script has no own lines
 pub record TalksAsReported : Type 0 where
   -- what is said, but for the empty lines, is the text of the conversation's report
   pub said : (book : Workbook) (fds : List (List ℕ)) (turns : List TalkTurn) → concat (talk_texts book fds turns) ≡ (talk_report book fds turns).text
@@ -21,6 +23,9 @@ pub record TalksAsReported : Type 0 where
   -- where each line is answered as that of a script, this is the report of a run over the same book and lines, whose `append` lines bring the same rows
   pub told : (book : Workbook) (fds : List (List ℕ)) (heard : List HeardLine)
       → talk_report book fds (map Replied heard) ≡ report_of book fds (rows_brought book.catalog heard) (readings_of heard)
+  -- a line that doesn't begin with a dot is answered so, or refused, and never as an own line
+  pub scripts : (read_only : Bool) (catalog : CatalogImage) (held : Held) (state : TalkState) (turn : TalkTurn)
+      → FitsTalk read_only catalog (FilesBring held) state turn → is_own (text_read state.heard (line_of turn)) ≡ false → is_own_turn turn ≡ false
   -- and so it is that of a run over the same files with a script of just these lines
   pub run : (held : Held) (book script bytes : List ℕ) (given : Inputs) (heard : List HeardLine)
       → ReadsFiles held book (Some script) (Ok given) → file_bytes held script ≡ Ok bytes → lines (after_marks bytes) ≡ texts_read 0 heard → AreHeard held given.book.catalog 0 heard

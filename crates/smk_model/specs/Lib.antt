@@ -73,6 +73,13 @@ pub mod GrowthLaws
 pub mod GrowthExamples
 pub mod AppendExamples
 pub mod AppendLaws
+pub mod OwnLines
+pub mod OwnTexts
+pub mod Help
+pub mod OwnAnswers
+pub mod OwnLineLaws
+pub mod OwnExamples
+pub mod OwnSessions
 pub mod Conversation
 pub mod ConversationLaws
 pub mod ConversationExamples

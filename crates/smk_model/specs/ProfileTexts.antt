@@ -11,10 +11,13 @@ use Rattle.smk_model.specs.Lineage.{upto}
 use Rattle.smk_model.specs.Texts.{line, record_line, row_lines}
 use Rattle.smk_model.specs.Typing.{info_at}
 
--- rows with one key: a line with their mark and how many they are, then each row with its rid
+-- the mark of rows with one key, and how many they are
+abbrev pub mark_heading : ℕ → Group → List ℕ
+mark_heading mark group = line (codes "mark " ∷ decimal mark ∷ codes " " ∷ decimal (length group.rows.rows) ∷ [])
+
+-- rows with one key: the line of their mark, then each row with its rid
 abbrev pub mark_text : ℕ → Group → List ℕ
-mark_text mark group =
-    line (codes "mark " ∷ decimal mark ∷ codes " " ∷ decimal (length group.rows.rows) ∷ []) ++ row_lines (λ i. slice_index_or group.rids i 0) group.rows.rows
+mark_text mark group = mark_heading mark group ++ row_lines (λ i. slice_index_or group.rids i 0) group.rows.rows
 
 -- a group of no rows
 abbrev pub no_group : Group
@@ -24,10 +27,14 @@ no_group = record { rids = []; rows = record { kinds = []; rows = [] } }
 abbrev pub mark_texts_to : List Group → ℕ → List ℕ
 mark_texts_to groups n = flat_map (λ mark. mark_text mark (slice_index_or groups mark no_group)) (upto n)
 
+-- how many keys violate a dependency
+abbrev pub found_line : List ℕ → ℕ → List ℕ
+found_line view count = line (codes "fd " ∷ view ∷ codes " " ∷ decimal count ∷ [])
+
 -- what violates a dependency: how many keys, the names of the columns of the table, then key by key
 abbrev pub found_text : List ℕ → List (List ℕ) → List Group → List ℕ
 found_text view columns groups =
-    line (codes "fd " ∷ view ∷ codes " " ∷ decimal (length groups) ∷ []) ++ record_line (codes "rid" ∷ columns) ++ mark_texts_to groups (length groups)
+    found_line view (length groups) ++ record_line (codes "rid" ∷ columns) ++ mark_texts_to groups (length groups)
 
 -- why an `fd` line is refused
 abbrev pub profile_refusal_text : List ℕ → ProfileRefusal → List ℕ

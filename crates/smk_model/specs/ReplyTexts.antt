@@ -179,12 +179,20 @@ rids_text catalog view table rids rows = back_text view table (names_of_table (t
 abbrev pub groups_text : CatalogImage → List ℕ → List ℕ → List Row → List ℕ
 groups_text catalog view table rows = group_text view table (names_of_grouping (grouping_named catalog view table)) rows
 
+-- the text of the content of a linked view
+abbrev pub linked_rows_text : CatalogImage → Linked → List ℕ
+linked_rows_text catalog linked = view_text (view_at catalog linked.view).name (view_at catalog linked.view).names linked.rel.rows
+
 -- the text of a linked view: its marks, and its content
 abbrev pub linked_text : CatalogImage → Linked → List ℕ
 linked_text catalog linked =
     line (codes "linked " ∷ (view_at catalog linked.view).name ∷ codes " " ∷ decimal (length linked.marks) ∷ [])
     ++ numbers_line (codes "marks") linked.marks
-    ++ view_text (view_at catalog linked.view).name (view_at catalog linked.view).names linked.rel.rows
+    ++ linked_rows_text catalog linked
+
+-- the end of a brush; the linked views follow
+abbrev pub cleared_line : List ℕ → List ℕ → List ℕ
+cleared_line view table = line (codes "cleared " ∷ view ∷ codes " on " ∷ table ∷ [])
 
 -- the text of a reply to a line
 abbrev pub reply_text : CatalogImage → Line → Reply → List ℕ
@@ -194,5 +202,5 @@ reply_text catalog asked (Grouped rel) = groups_text catalog (view_in asked) (ta
 reply_text catalog asked (Fwd marks) = fwd_text (table_in asked) (view_in asked) marks
 reply_text catalog asked (Brush rids linked) = brush_text (view_in asked) (table_in asked) rids ++ flat_map (linked_text catalog) linked
 reply_text catalog asked Cleared = line (codes "cleared" ∷ [])
-reply_text catalog asked (ClearedOne linked) = line (codes "cleared " ∷ view_in asked ∷ codes " on " ∷ table_in asked ∷ []) ++ flat_map (linked_text catalog) linked
+reply_text catalog asked (ClearedOne linked) = cleared_line (view_in asked) (table_in asked) ++ flat_map (linked_text catalog) linked
 reply_text catalog asked (Refused refusal) = refusal_text catalog asked refusal

@@ -89,7 +89,7 @@ TalkBrings (Demo n) held rose table brought = BringsBy (line_files (Demo n) held
 
 -- what is said of words that call for no conversation, and where no line can be heard
 abbrev pub talk_usage_text : List ℕ
-talk_usage_text = line (codes "usage: smoke_live [--mode inject|defer] [--workers 1..64] [--read-only] (BOOK | --demo N)" ∷ [])
+talk_usage_text = line (codes "usage: smoke_live [--mode inject|defer] [--workers 1..64] [--read-only] [--brief] (BOOK | --demo N)" ∷ [])
 
 abbrev pub unheard_text : List ℕ
 unheard_text = line (codes "smoke_live: cannot read standard input" ∷ [])

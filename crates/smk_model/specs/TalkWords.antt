@@ -10,28 +10,33 @@ use Rattle.smk_model.specs.Words.{Settings, TextSource, Values, mode_rule, worke
 abbrev pub read_only_rule : Rule
 read_only_rule = record (new_rule (codes "read-only")) { long = Some (codes "read-only"); action = Some SetTrue }
 
+-- the option `--brief`, which has none either
+abbrev pub brief_rule : Rule
+brief_rule = record (new_rule (codes "brief")) { long = Some (codes "brief"); action = Some SetTrue }
+
 -- the command: its options, and then the place of the book
 abbrev pub talk_app : App
-talk_app = with_rule (with_rule (with_rule (with_rule (with_rule (on_top (λ s. record s { no_binary_name = true }) (new_app (codes "smoke_live"))) mode_rule) workers_rule) demo_rule) read_only_rule) (new_rule (codes "book"))
+talk_app = with_rule (with_rule (with_rule (with_rule (with_rule (with_rule (on_top (λ s. record s { no_binary_name = true }) (new_app (codes "smoke_live"))) mode_rule) workers_rule) demo_rule) read_only_rule) brief_rule) (new_rule (codes "book"))
 
 -- whether an option is set
 abbrev pub is_set : Option (List ℕ) → Bool
 is_set (Some text) = bytes_eq text (codes "true")
 is_set None = false
 
--- what a conversation is called for: how it works, where its texts come from, and whether nothing may be appended
+-- what a conversation is called for: how it works, where its texts come from, whether nothing may be appended, and whether the schema is said first in place of all views
 pub record TalkCall : Type 0 where
   pub settings : Settings
   pub texts : TextSource
   pub read_only : Bool
+  pub brief : Bool
 
-abbrev pub called_to_talk : Bool → Option Settings → Option TextSource → Option TalkCall
-called_to_talk read_only (Some settings) (Some texts) = Some (record { settings = settings; texts = texts; read_only = read_only })
-called_to_talk read_only _ _ = None
+abbrev pub called_to_talk : Bool → Bool → Option Settings → Option TextSource → Option TalkCall
+called_to_talk read_only brief (Some settings) (Some texts) = Some (record { settings = settings; texts = texts; read_only = read_only; brief = brief })
+called_to_talk read_only brief _ _ = None
 
 -- the texts are those of a run without a script
 abbrev pub talk_call_in : Values → Option TalkCall
-talk_call_in values = called_to_talk (is_set (values (codes "read-only"))) (settings_in values) (texts_named (values (codes "demo")) (values (codes "book")) None)
+talk_call_in values = called_to_talk (is_set (values (codes "read-only"))) (is_set (values (codes "brief"))) (settings_in values) (texts_named (values (codes "demo")) (values (codes "book")) None)
 
 -- what the words call a conversation for: none exactly where clap doesn't take them, and so too where the mode isn't known, or where both of a book and a demo are given or none of them
 abbrev pub talk_call_of : List (List ℕ) → Option TalkCall

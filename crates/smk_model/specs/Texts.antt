@@ -28,15 +28,27 @@ row_lines_to number rows n = flat_map (λ i. record_line (decimal (number i) ∷
 abbrev pub row_lines : (ℕ → ℕ) → List Row → List ℕ
 row_lines number rows = row_lines_to number rows (length rows)
 
+-- rows under a heading: its words and how many rows there are in all, the names of the columns, and the records of these rows with their numbers
+abbrev pub rows_text : List (List ℕ) → ℕ → List (List ℕ) → (ℕ → ℕ) → List Row → List ℕ
+rows_text words count columns number rows = line (words ++ decimal count ∷ []) ++ record_line columns ++ row_lines number rows
+
+-- what stands before the number of rows of a view, of a backward answer and of an answer to steps over one
+abbrev pub view_words : List ℕ → List (List ℕ)
+view_words name = codes "view " ∷ name ∷ codes " " ∷ []
+
+abbrev pub back_words : List ℕ → List ℕ → List (List ℕ)
+back_words view table = codes "back " ∷ view ∷ codes " to " ∷ table ∷ codes " " ∷ []
+
+abbrev pub ask_words : List ℕ → List ℕ → List (List ℕ)
+ask_words view table = codes "ask " ∷ view ∷ codes " to " ∷ table ∷ codes " " ∷ []
+
 -- a view: its name and number of rows, the names of its columns, its rows with their places
 abbrev pub view_text : List ℕ → List (List ℕ) → List Row → List ℕ
-view_text name columns rows =
-    line (codes "view " ∷ name ∷ codes " " ∷ decimal (length rows) ∷ []) ++ record_line (codes "row" ∷ columns) ++ row_lines (λ i. i) rows
+view_text name columns rows = rows_text (view_words name) (length rows) (codes "row" ∷ columns) (λ i. i) rows
 
 -- a backward answer: the rows of the table with their rids
 abbrev pub back_text : List ℕ → List ℕ → List (List ℕ) → List ℕ → List Row → List ℕ
-back_text view table columns rids rows =
-    line (codes "back " ∷ view ∷ codes " to " ∷ table ∷ codes " " ∷ decimal (length rows) ∷ []) ++ record_line (codes "rid" ∷ columns) ++ row_lines (λ i. slice_index_or rids i 0) rows
+back_text view table columns rids rows = rows_text (back_words view table) (length rows) (codes "rid" ∷ columns) (λ i. slice_index_or rids i 0) rows
 
 -- a declared grouping of a backward answer: the names of its columns, its rows with their places
 abbrev pub group_text : List ℕ → List ℕ → List (List ℕ) → List Row → List ℕ
@@ -45,8 +57,7 @@ group_text view table columns rows =
 
 -- an answer to steps over a backward answer: the names of its columns, its rows with their places
 abbrev pub ask_rows_text : List ℕ → List ℕ → List (List ℕ) → List Row → List ℕ
-ask_rows_text view table columns rows =
-    line (codes "ask " ∷ view ∷ codes " to " ∷ table ∷ codes " " ∷ decimal (length rows) ∷ []) ++ record_line (codes "row" ∷ columns) ++ row_lines (λ i. i) rows
+ask_rows_text view table columns rows = rows_text (ask_words view table) (length rows) (codes "row" ∷ columns) (λ i. i) rows
 
 -- a word, and each number after a space
 abbrev pub numbers_line : List ℕ → List ℕ → List ℕ
@@ -57,10 +68,13 @@ abbrev pub fwd_text : List ℕ → List ℕ → List ℕ → List ℕ
 fwd_text table view marks =
     line (codes "fwd " ∷ table ∷ codes " to " ∷ view ∷ codes " " ∷ decimal (length marks) ∷ []) ++ numbers_line (codes "marks") marks
 
+-- how many rids a brush selects
+abbrev pub brush_heading : List ℕ → List ℕ → ℕ → List ℕ
+brush_heading view table count = line (codes "brush " ∷ view ∷ codes " on " ∷ table ∷ codes " " ∷ decimal count ∷ [])
+
 -- the rids that a brush selects; the linked views follow
 abbrev pub brush_text : List ℕ → List ℕ → List ℕ → List ℕ
-brush_text view table rids =
-    line (codes "brush " ∷ view ∷ codes " on " ∷ table ∷ codes " " ∷ decimal (length rids) ∷ []) ++ numbers_line (codes "rids") rids
+brush_text view table rids = brush_heading view table (length rids) ++ numbers_line (codes "rids") rids
 
 -- a number on a line that is not below the number of rows
 abbrev pub no_row_text : ℕ → ℕ → List ℕ

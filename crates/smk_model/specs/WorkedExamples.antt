@@ -106,7 +106,8 @@ pub record WordsHold : Type 0 where
   pub book : invocation_of (codes "book.smk" ∷ []) ≡ Some (record { settings = plain_settings; texts = Files (codes "book.smk") None })
   pub demo : invocation_of (codes "--demo" ∷ codes "5" ∷ []) ≡ Some (record { settings = plain_settings; texts = Demo 5 })
   pub unknown_mode : (held : Held) → Outcome (codes "--mode" ∷ codes "fast" ∷ codes "book.smk" ∷ []) held (Err Usage)
-  pub talk : talk_call_of (codes "--read-only" ∷ codes "book.smk" ∷ []) ≡ Some (record { settings = plain_settings; texts = Files (codes "book.smk") None; read_only = true })
+  pub talk : talk_call_of (codes "--read-only" ∷ codes "book.smk" ∷ []) ≡ Some (record { settings = plain_settings; texts = Files (codes "book.smk") None; read_only = true; brief = false })
+  pub brief_talk : talk_call_of (codes "--demo" ∷ codes "5" ∷ codes "--brief" ∷ []) ≡ Some (record { settings = plain_settings; texts = Demo 5; read_only = false; brief = true })
 
 -- a number with a default, a name in quotes, and a text with a default
 abbrev pub marked_columns : List ColDecl

@@ -41,4 +41,8 @@ pub use crate::sessions::conversation_laws::{
 };
 pub use crate::sessions::expanded_laws::expanded_stands;
 pub use crate::sessions::fd_laws::{dependencies_answered, fd_law, profiles_fit};
+pub use crate::sessions::own_laws::{
+    all_are_selected, now_is_plain, own_lines_are_read, own_lines_hold, own_lines_stay,
+    own_sessions_hold, whole_part_is_plain,
+};
 pub use crate::sessions::reply_laws::{first_contents, marks_stay, refused_stay, replies_fit};

@@ -5,4 +5,5 @@ pub mod ask_laws;
 pub mod conversation_laws;
 pub mod expanded_laws;
 pub mod fd_laws;
+pub mod own_laws;
 pub mod reply_laws;

@@ -1,11 +1,12 @@
 -- The trees of what was read. The cases of the grammar that show all their parts stand in the list as they are.
-use Rattle.smk_parse.specs.Vocabulary.{TokenKind, Word, Lit, CmpOp, Term, Extra, Marks, Then, CompareNode, BackNode, FwdNode, LinkNode, DependsNode, Token, head_of, int_value, string_value, First, IsName, IsColumn, IsLiteral, IsFile, IsNamed, IsExtra, IsOp, IsTerm, IsPrim, IsThen, IsLine, IsStmt, IsAskLine, AskStepImage, AreListed, Configuration, PlanCounts}
+use Rattle.smk_parse.specs.Vocabulary.{TokenKind, Word, Lit, CmpOp, Term, Extra, Marks, Then, CompareNode, BackNode, FwdNode, LinkNode, DependsNode, Token, head_of, int_value, string_value, First, IsName, IsColumn, IsLiteral, IsFile, IsNamed, IsExtra, IsOp, IsTerm, IsPrim, IsThen, IsLine, IsStmt, IsAskLine, AreAskSteps, AskStepImage, AreListed, Configuration, PlanCounts}
 use Rattle.std.proofs.Common.{◌≡◌, ℕ, ℤ, true, List, ◌∷◌, ap, ◌∙◌, sym, subst, refl}
 use Rattle.smk_base.specs.declared.book.token.TokenKind.TheVariants as kinds
 use Rattle.smk_base.specs.declared.value.Value.TheVariants as values
 use Rattle.smk_base.specs.declared.book.tree.Line.TheVariants as lines
 use Rattle.smk_base.specs.declared.book.tree.AggWhat.TheVariants as whats
-use Rattle.smk_model.specs.Grammar.{IsWhat, name, plain, quoted, number, string, file, mark, width, by_itself, group_extra, group_step, union_all_step, union_step, int_type, text_type, no_default, default, decl, by_as, column_item, bin_item, alone_what, column_what, agg, no_keys, keys, no_aggs, aggs, pair, eq, ne, lt, le, gt, ge, column_term, literal_term, negated, bracketed, compared, conj, no_and, one_and, pred, no_or, one_or, plan, scan, inner_plan, no_step, one_step, where_step, project_step, distinct_step, group_step, join_step, theta_step, product_step, no_extra, by_extra, table_stmt, view_stmt, back_stmt, fwd_stmt, link_stmt, depends_stmt, all_marks, listed_marks, no_then, where_then, group_then, show_line, back_line, fwd_line, brush_line, clear_line, clear_one_line, whole_line, ask_line, plain_line, asked_line, profiled_line, appended_line, whole_any_line}
+use Rattle.smk_model.specs.Grammar.{IsWhat, name, plain, quoted, number, string, file, mark, width, by_itself, group_extra, group_step, union_all_step, union_step, int_type, text_type, no_default, default, decl, by_as, column_item, bin_item, alone_what, column_what, agg, no_keys, keys, no_aggs, aggs, pair, eq, ne, lt, le, gt, ge, column_term, literal_term, negated, bracketed, compared, conj, no_and, one_and, pred, no_or, one_or, plan, scan, inner_plan, no_step, one_step, where_step, project_step, distinct_step, group_step, join_step, theta_step, product_step, no_extra, by_extra, table_stmt, view_stmt, back_stmt, fwd_stmt, link_stmt, depends_stmt, all_marks, listed_marks, no_then, where_then, group_then, show_line, back_line, fwd_line, brush_line, clear_line, clear_one_line, whole_line, ask_line, one_ask_step, plain_line, asked_line, profiled_line, appended_line, whole_any_line}
+use Rattle.smk_model.specs.OwnLines.{selected}
 use Rattle.smk_parse.specs.{Texts.Advances, Reads.is_column, Reads.column_word, Reads.AreNames, Reads.two_names, Reads.IsMarked, Reads.marked, Reads.ArePiped, Reads.piped}
 use Rattle.smk_parse.proofs.Steps.{first_here, in_order}
 
@@ -78,6 +79,10 @@ brush_line_is h (marked k i j l) = brush_line h k i j l
 pub ask_line_is : {a b c d e f : List Token} {t u v : Token} {w z : Word} {m : Marks} {ss : List AskStepImage} → First kinds.Ask t a b → First kinds.Back u b c → IsMarked kinds.To c d w m z → First kinds.Bar v d e → ArePiped e f ss → IsAskLine a f (record { view = w.name; marks = m; table = z.name; steps = ss })
 ask_line_is h k (marked i j l n) o (piped p q) = ask_line h k i j l n o p q
 
+-- steps with bars between, behind a bar
+pub barred_is : {a b c : List Token} {t : Token} {ss : List AskStepImage} → First kinds.Bar t a b → ArePiped b c ss → AreAskSteps a c ss
+barred_is h (piped p q) = one_ask_step h p q
+
 -- what one who reads the trees of each file knows
 pub ruleset words = (in_order, name_is, column_is, number_is, string)
 
@@ -91,4 +96,4 @@ pub ruleset stmts = (in_order, file_is, group_extra, no_extra, by_extra, table_s
 
 pub ruleset line_trees = (in_order, name_is, column_is, mark, marked, all_marks, listed_marks, no_then, where_then, group_then, show_line, back_line_is, fwd_line_is, brush_line_is, clear_line, clear_one_line, whole_line)
 
-pub ruleset ask_trees = (in_order, file_is, ask_line_is, plain_line, asked_line, profiled_line, appended_line, whole_any_line)
+pub ruleset ask_trees = (in_order, file_is, ask_line_is, selected, plain_line, asked_line, profiled_line, appended_line, whole_any_line)

@@ -1,11 +1,11 @@
 -- What a whole book or line is read as.
 use Rattle.std.{specs.Prelude.Some, specs.Prelude.None, specs.Prelude.Ok, specs.Prelude.Err, specs.Prelude.map, proofs.lemmas.List.map_push}
-use Rattle.smk_parse.specs.Vocabulary.{BookFault, LineFault, Stmt, NoMemory, StmtImage, stmt_image, AskStepImage, ask_step_image, First, IsAskStep, AreAskSteps, Token, head_of, tokens, HasNoToken, IsStmt, AreStmts, Configuration, Symbol, through, book_symbols, AnEnd, fault_in, no_counts}
+use Rattle.smk_parse.specs.Vocabulary.{BookFault, LineFault, Stmt, NoMemory, StmtImage, stmt_image, AskStepImage, ask_step_image, First, IsAskStep, AreAskSteps, Token, head_of, tokens, HasNoToken, IsStmt, AreStmts, Configuration, Symbol, through, book_symbols, selected_symbols, AnEnd, fault_in, no_counts}
 use Rattle.std.proofs.Common.{◌≡◌, ℕ, List, [], ◌∷◌, ◌++◌, false, ap, ◌∙◌, sym, subst, refl, append_assoc, append-nil}
 use Rattle.smk_base.specs.declared.book.token.TokenKind.TheVariants as kinds
 use Rattle.smk_base.specs.declared.book.tree.AskStep.{AskStep}
 use Rattle.smk_model.specs.Grammar.{no_stmt, one_stmt, no_ask_step, one_ask_step}
-use Rattle.smk_parse.{specs.Reads.Leads, specs.Reads.Fails, specs.Reads.is_memory, specs.Reads.ArePiped, specs.Reads.piped, specs.Answers.IsBookAnswer, specs.Answers.IsAnswer, specs.Answers.as_line_fault, proofs.Steps.Here}
+use Rattle.smk_parse.{specs.Reads.Leads, specs.Reads.Fails, specs.Reads.is_memory, specs.Reads.ArePiped, specs.Reads.piped, specs.Answers.IsBookAnswer, specs.Answers.IsAnswer, specs.Answers.IsSelectedAnswer, specs.Answers.as_line_fault, proofs.Steps.Here}
 
 -- what the statements that follow make of those so far
 pub record EndsStmts (a b : List Token) (ss : List StmtImage) : Type 0 where
@@ -49,6 +49,14 @@ whole_unread Spells x a text f r e n h g = subst (λ r. IsAnswer Spells (fault_i
     by : (f : BookFault) → (is_memory f ≡ false → through (x ∷ AnEnd ∷ []) no_counts (tokens text) ≡ Err f) → IsAnswer Spells (fault_in (through (x ∷ AnEnd ∷ []) no_counts (tokens text))) text (Err (as_line_fault f))
     by NoMemory k = some_token a text e n
     by f k = (some_token a text e n, (f, (ap fault_in (k refl), refl)))
+
+-- a table and steps that their symbols don't lead through
+pub selected_unread : (a : Configuration) (text : List ℕ) (f : BookFault) (r : LineFault) → a ≡ record { rest = tokens text; counts = no_counts } → Fails selected_symbols a f → r ≡ as_line_fault f → IsSelectedAnswer text (Err r)
+selected_unread a text f r e h g = subst (λ r. IsSelectedAnswer text (Err r)) (sym g) (by f (faulty selected_symbols a text f e h))
+  where
+    by : (f : BookFault) → (is_memory f ≡ false → through selected_symbols no_counts (tokens text) ≡ Err f) → IsSelectedAnswer text (Err (as_line_fault f))
+    by NoMemory k = tt
+    by f k = (f, (ap fault_in (k refl), refl))
 
 -- what the steps that follow make of those so far
 pub record EndsSteps (a b : List Token) (ss : List AskStepImage) : Type 0 where

@@ -1,7 +1,8 @@
 -- What the parsers answer.
-use Rattle.std.specs.Prelude.{◌≡◌, ℕ, List, Option, Some, None, Result, Ok, Err}
-use Rattle.smk_parse.specs.Vocabulary.{BookFault, Book, LineFault, Line, BadToken, Unexpected, TooMany, BadNumber, NoMemory, book_image, any_image, tokens, HasNoToken, line_fault, any_fault, book_fault, place_of, IsWholeLine, IsWholeAnyLine, AreStmts}
+use Rattle.std.specs.Prelude.{◌≡◌, ℕ, List, map, Option, Some, None, Result, Ok, Err}
+use Rattle.smk_parse.specs.Vocabulary.{BookFault, Book, LineFault, Line, BadToken, Unexpected, TooMany, BadNumber, NoMemory, book_image, any_image, ask_step_image, tokens, HasNoToken, line_fault, any_fault, book_fault, place_of, IsWholeLine, IsWholeAnyLine, AreStmts, AreSelected, selected_fault}
 use Rattle.smk_base.specs.declared.book.tree.AnyLine.{AnyLine}
+use Rattle.smk_base.specs.declared.book.tree.AskStep.{AskStep}
 use Rattle.smk_base.specs.declared.fault.LineFault.TheVariants as line_faults
 
 -- a line's fault by that of its reader: it isn't a line, or memory ran out
@@ -32,3 +33,9 @@ IsBookAnswer text (Err (BadToken at)) = book_fault (tokens text) ≡ Some (BadTo
 IsBookAnswer text (Err (Unexpected at)) = book_fault (tokens text) ≡ Some (Unexpected at)
 IsBookAnswer text (Err (TooMany at what)) = book_fault (tokens text) ≡ Some (TooMany at what)
 IsBookAnswer text (Err (BadNumber at)) = book_fault (tokens text) ≡ Some (BadNumber at)
+
+-- a table and the steps over its rows, which the text spells without a fault, or the place of its first fault; or memory ran out
+abbrev pub IsSelectedAnswer : List ℕ → Result (List ℕ × List AskStep) LineFault → Type 0
+IsSelectedAnswer text (Ok read) = AreSelected (tokens text) read.0 (map ask_step_image read.1) × (selected_fault (tokens text) ≡ None)
+IsSelectedAnswer text (Err (line_faults.NotALine at)) = (f : BookFault) × ((selected_fault (tokens text) ≡ Some f) × (place_of f ≡ at))
+IsSelectedAnswer text (Err line_faults.NoMemory) = Unit {0}

@@ -1,16 +1,16 @@
 #![tactic(auto, using(crate::proofs::Trees::ask_trees))]
 
 ghost use Rattle.std.specs.Prelude.{◌≡◌, ◌∷◌, [], List, map, IfOk};
-ghost use Rattle.smk_parse.specs.Vocabulary.{Token, First, ask_image, ask_step_image, any_image, IsAskLine, IsAnyLine, IsWholeAnyLine, AToken, ALineName, AMarks, AnAskStep, AskSteps, any_symbols};
+ghost use Rattle.smk_parse.specs.Vocabulary.{Token, First, ask_image, ask_step_image, any_image, AreAskSteps, AreSelected, IsAskLine, IsAnyLine, IsWholeAnyLine, AToken, ALineName, AMarks, AnAskStep, AskSteps, any_symbols, selected_symbols};
 ghost use Rattle.smk_model.specs.Machine as machine;
 ghost use Rattle.smk_base.specs.declared.book.token.TokenKind.TheVariants as kinds;
-ghost use Rattle.smk_parse.specs.{Reads.ArePiped, Reads.Reads, Answers.IsAnyAnswer};
+ghost use Rattle.smk_parse.specs.{Reads.ArePiped, Reads.Reads, Answers.IsAnyAnswer, Answers.IsSelectedAnswer};
 
 use crate::line::{as_line_fault, end, line, marked};
 use crate::plan::ask_step;
 use crate::reader::Reader;
 use crate::tokens::{expect, line_name, string_in_hand};
-use smk_base::{AnyLine, AskLine, AskSteps, BookFault, LineFault, TokenKind};
+use smk_base::{AnyLine, AskLine, AskSteps, BookFault, LineFault, Text, TokenKind};
 use std::alloc::Global;
 
 /// One or more steps of an `ask` line with bars between.
@@ -28,6 +28,31 @@ fn ask_steps(alloc: Global, reader: &mut Reader) -> Result<AskSteps, BookFault>
             _ => return Ok(steps),
         }
     }
+}
+
+/// Steps of an `ask` line, each behind a bar; there may be none.
+fn piped_steps(alloc: Global, reader: &mut Reader) -> Result<AskSteps, BookFault>
+    ensures reads { Reads (AskSteps ∷ []) reader.old reader.new result }
+    ensures is { IfOk result (λ steps. AreAskSteps reader.old.rest reader.new.rest (map ask_step_image steps)) }
+{
+    match reader.kind() {
+        TokenKind::Bar => {
+            reader.advance();
+            ask_steps(alloc, reader)
+        }
+        _ => Ok(AskSteps::new(alloc)),
+    }
+}
+
+/// A table and steps over its rows, up to the end.
+fn whole_selected(alloc: Global, reader: &mut Reader) -> Result<(Text, AskSteps), BookFault>
+    ensures reads { Reads selected_symbols reader.old reader.new result }
+    ensures is { IfOk result (λ read. AreSelected reader.old.rest read.0 (map ask_step_image read.1)) }
+{
+    let table = line_name(alloc, reader)?.name;
+    let steps = piped_steps(alloc, reader)?;
+    end(reader)?;
+    Ok((table, steps))
 }
 
 /// An `ask` line behind its keyword.
@@ -103,5 +128,16 @@ pub fn parse_any(alloc: Global, line: &[u8]) -> Result<Option<AnyLine>, LineFaul
             Ok(line) => Ok(Some(line)),
             Err(fault) => Err(as_line_fault(fault)),
         },
+    }
+}
+
+/// A table and the steps over its rows that a text spells, or the place of its first fault where it doesn't.
+pub fn parse_selected(alloc: Global, text: &[u8]) -> Result<(Text, AskSteps), LineFault>
+    ensures { IsSelectedAnswer text.now result }
+{
+    let mut reader = Reader::new(text);
+    match whole_selected(alloc, &mut reader) {
+        Ok(read) => Ok(read),
+        Err(fault) => Err(as_line_fault(fault)),
     }
 }

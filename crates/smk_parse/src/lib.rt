@@ -12,7 +12,7 @@ mod reader;
 mod script;
 mod tokens;
 
-pub use ask::parse_any;
+pub use ask::{parse_any, parse_selected};
 pub use book::parse_book;
 pub use line::parse_line;
 pub use script::line_at;

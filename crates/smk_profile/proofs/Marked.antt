@@ -58,10 +58,10 @@ wanted_long catalog state v = length-map (violations_of state (shown_by catalog 
 pub wanted_number : (catalog : CatalogImage) (state : State) (view : List ℕ) (v : ℕ) → view_place catalog view ≡ Some v → ShowsDependency catalog v → length (wanted catalog state v) ≡ length (first_content catalog state v)
 wanted_number catalog state view v placed shows = wanted_long catalog state v ∙ sym (dependencies_answered catalog state view v placed shows).number
 
-wanted_at : (catalog : CatalogImage) (state : State) (v mark : ℕ) → mark < length (wanted catalog state v) → get_or (wanted catalog state v) mark (group_at catalog state v mark) ≡ group_at catalog state v mark
+pub wanted_at : (catalog : CatalogImage) (state : State) (v mark : ℕ) → mark < length (wanted catalog state v) → get_or (wanted catalog state v) mark (group_at catalog state v mark) ≡ group_at catalog state v mark
 wanted_at catalog state v mark low = get_or-map (group_of catalog state (shown_by catalog v).table) (violations_of state (shown_by catalog v)) mark no_violation _ (omega (arith, low, wanted_long catalog state v))
 
-reply_is : (catalog : CatalogImage) (state : State) (view : List ℕ) (v mark : ℕ) → view_place catalog view ≡ Some v → ShowsDependency catalog v → mark < length (wanted catalog state v)
+pub reply_is : (catalog : CatalogImage) (state : State) (view : List ℕ) (v mark : ℕ) → view_place catalog view ≡ Some v → ShowsDependency catalog v → mark < length (wanted catalog state v)
     → reply catalog state (line_of catalog view v mark) ≡ (Back (group_at catalog state v mark).rids (group_at catalog state v mark).rows, state)
 reply_is catalog state view v mark placed shows low = (dependencies_answered catalog state view v placed shows).back mark (omega (arith, low, wanted_long catalog state v))
 

@@ -1,5 +1,6 @@
 // The rows that the marks of the view of a dependency came from.
-ghost use Rattle.std.specs.Prelude.{◌≡◌, ◌≤◌, ◌<◌, ◌+◌, length, Some, IfOk, OnOk};
+ghost use Rattle.std.specs.Prelude.{◌≡◌, ◌≤◌, ◌<◌, ◌+◌, [], ◌∷◌, length, Some, IfOk, OnOk};
+ghost use Rattle.smk_base.specs.declared.book.tree.Marks.TheVariants as markings;
 ghost use Rattle.smk_base.specs.CatalogImage.{catalog_image, view_place};
 ghost use Rattle.smk_model.specs.Looks.{line_looks};
 ghost use Rattle.smk_model.specs.Profiles as profiles;
@@ -18,6 +19,15 @@ use std::alloc::{AllocError, Global};
 use std::sync::ledger::Ledger;
 use std::thread::Threads;
 
+// One mark alone.
+pub(crate) fn one_mark(alloc: Global, mark: u32) -> Result<Marks, AllocError>
+    ensures { IfOk result (λ marks. marks ≡ markings.Listed (mark ∷ [])) }
+{
+    let mut marks = Rids::new(alloc);
+    marks.push(mark)?;
+    Ok(Marks::Listed(marks))
+}
+
 // The `back` line for a mark of a view.
 pub(crate) fn mark_line(
     alloc: Global,
@@ -27,13 +37,12 @@ pub(crate) fn mark_line(
 ) -> Result<Line, AllocError>
     ensures { IfOk result (λ line. line ≡ profiles.mark_line view.now table.now mark) }
 {
-    let mut marks = Rids::new(alloc);
-    marks.push(mark)?;
+    let marks = one_mark(alloc, mark)?;
     let view = view.copy(alloc)?;
     let table = table.copy(alloc)?;
     Ok(Line::Back {
         view,
-        marks: Marks::Listed(marks),
+        marks,
         table,
         then: Then::Plain,
     })

@@ -19,7 +19,7 @@ use std::sync::ledger::Ledger;
 use std::thread::Threads;
 
 // Whether a name is one of these.
-fn is_among(name: &Text, names: &Names) -> bool
+pub(crate) fn is_among(name: &Text, names: &Names) -> bool
     ensures { result ≡ is_taken name.now names.now }
 {
     for other in names.as_slice() {
@@ -48,7 +48,7 @@ fn scanned(plan: &Plan) -> u32
 }
 
 // The table of the dependency that a view shows.
-fn table_shown(catalog: &Catalog, v: u32) -> u32
+pub(crate) fn table_shown(catalog: &Catalog, v: u32) -> u32
     requires within { v < length catalog.now.views }
     requires shows { ShowsDependency (catalog_image catalog.now) v }
     ensures table { result ≡ (shown_by (catalog_image catalog.now) v).table }

@@ -10,7 +10,7 @@ use smk_report::{add_line_around, line_around, line_of, with_numbered_rows, with
 use std::alloc::{AllocError, Global};
 
 // Writes the line of a mark behind a text: the mark, and how many rows it has. After an error the text is of no use.
-fn add_mark(text: &mut Vec<u8>, mark: u64, rows: u32) -> Result<(), AllocError>
+pub(crate) fn add_mark(text: &mut Vec<u8>, mark: u64, rows: u64) -> Result<(), AllocError>
     ensures { OnOk result (text.new.items ≡ text.old.items ++ line (codes "mark " ∷ decimal mark ∷ codes " " ∷ decimal rows ∷ [])) }
 {
     let mut count = Buffer::new();
@@ -28,7 +28,7 @@ fn with_mark(alloc: Global, front: Vec<u8>, mark: u64, group: &Group) -> Result<
     ensures { IfOk result (λ text. text.items ≡ front.items ++ texts.mark_text mark group.now) }
 {
     let mut text = front;
-    add_mark(&mut text, mark, group.rows.len())?;
+    add_mark(&mut text, mark, group.rows.len() as u64)?;
     with_numbered_rows(alloc, text, group.rids.as_slice(), &group.rows)
 }
 
@@ -64,6 +64,20 @@ fn found_text(
     with_marks(alloc, headed, groups)
 }
 
+/// The line of an `fd` line that is refused.
+pub(crate) fn refused_text(
+    alloc: Global,
+    view: &Text,
+    refusal: ProfileRefusal,
+) -> Result<Vec<u8>, AllocError>
+    ensures { IfOk result (λ text. text.items ≡ texts.profile_refusal_text view.now refusal) }
+{
+    match refusal {
+        ProfileRefusal::UnknownView => line_of(alloc, &[b"refused unknown view ", view.as_slice()]),
+        ProfileRefusal::NotProfile => line_of(alloc, &[b"refused no dependency ", view.as_slice()]),
+    }
+}
+
 /// The text of an answer to an `fd` line.
 pub fn profile_text(
     alloc: Global,
@@ -79,11 +93,6 @@ pub fn profile_text(
             let columns = &cat.tables.as_slice()[*table as usize].cols;
             found_text(alloc, line, columns, marks.as_slice())
         }
-        ProfileReply::Refused(ProfileRefusal::UnknownView) => {
-            line_of(alloc, &[b"refused unknown view ", line.as_slice()])
-        }
-        ProfileReply::Refused(ProfileRefusal::NotProfile) => {
-            line_of(alloc, &[b"refused no dependency ", line.as_slice()])
-        }
+        ProfileReply::Refused(refusal) => refused_text(alloc, line, *refusal),
     }
 }

@@ -1,3 +1,4 @@
+pub mod Briefs
 pub mod FullViews
 mod Numbers
 pub mod PageTexts

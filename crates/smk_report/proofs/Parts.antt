@@ -1,10 +1,9 @@
 -- Lists as the loops over a line's parts and a row's columns go on.
-use Rattle.std.proofs.Common.{◌≡◌, ◌∙◌, ◌<◌, ◌+◌, ◌++◌, ◌∷◌, [], ℕ, List, length, map, take, drop, get_or, refl, sym, ap, subst, Bor, arith, append-nil, add-one, zero-add, decimal}
+use Rattle.std.proofs.Common.{◌≡◌, ◌∙◌, ◌<◌, ◌≤◌, ◌+◌, ◌++◌, ◌∷◌, [], ℕ, zero, suc, List, length, map, take, get_or, refl, sym, ap, ap₂, subst, Bor, arith, append-nil, add-one, decimal}
 use Rattle.std.specs.List.{flat_map, AllZip}
-use Rattle.std.proofs.lemmas.List.{take_more, take_all, map-append}
+use Rattle.std.proofs.lemmas.List.{take_more, take_all, map-append, flat_map_more, get_or-take, length-take-le}
 use Rattle.std.proofs.lemmas.List.Elements.{All-get_or}
 use Rattle.std.proofs.lemmas.List.Concat.{flat_map-append}
-use Rattle.smk_base.specs.declared.book.col_decl.ColDecl.{ColDecl}
 use Rattle.smk_base.specs.declared.value.Value.{Value}
 use Rattle.smk_base.specs.declared.value.Kind.{Kind}
 use Rattle.smk_base.specs.Rels.{Relation, IsRelation, RowFits, Fits, row_in, value_in}
@@ -14,7 +13,7 @@ use Rattle.smk_report.specs.Pages.{Adds}
 use Rattle.smk_report.specs.declared.page.Page.{Page}
 use Rattle.smk_report.proofs.PageTexts.{adds_then}
 use Rattle.smk_model.specs.Lineage.{upto}
-use Rattle.smk_model.specs.Texts.{value_text, record_line, row_lines_to}
+use Rattle.smk_model.specs.Texts.{value_text, record_line, row_lines, row_lines_to}
 
 -- one more part
 pub joined_more : (parts : List (Bor (List ℕ))) (i : ℕ) (part : Bor (List ℕ)) → i < length parts → part ≡ get_or parts i part
@@ -40,31 +39,42 @@ values_more row c h = rw (take_more row c (values.Int (Rattle.std.specs.Prelude.
 pub values_all : (row : List Value) (n : ℕ) → length row ≡ n → map value_text (take n row) ≡ map value_text row
 values_all row n h = ap (map value_text) (take_all n row (omega arith))
 
--- one more declared column
-pub declared_more : (columns : List ColDecl) (i : ℕ) (column : ColDecl) → i < length columns → column ≡ get_or columns i column
-    → map (λ (c : ColDecl). c.name) (take (i + 1) columns) ≡ map (λ (c : ColDecl). c.name) (take i columns) ++ column.name ∷ []
-declared_more columns i column h is =
-    let name : ColDecl → List ℕ = λ c. c.name in
-    rw (take_more columns i column h) (rw (← is) (map-append name (take i columns) (column ∷ [])))
-
-pub declared_all : (columns : List ColDecl) (n : ℕ) → length columns ≡ n → map (λ (c : ColDecl). c.name) (take n columns) ≡ map (λ (c : ColDecl). c.name) columns
-declared_all columns n h = ap (map (λ (c : ColDecl). c.name)) (take_all n columns (omega arith))
+-- one more item, and what is made of it
+pub mapped_more : {X Y : Type 0} (f : X → Y) (xs : List X) (i : ℕ) (x : X) → i < length xs → x ≡ get_or xs i x → map f (take (i + 1) xs) ≡ map f (take i xs) ++ f x ∷ []
+mapped_more f xs i x h is = rw (take_more xs i x h) (rw (← is) (map-append f (take i xs) (x ∷ [])))
 
 -- one more row
 pub lines_more : (number : ℕ → ℕ) (rows : List Row) (i : ℕ)
     → row_lines_to number rows (i + 1) ≡ row_lines_to number rows i ++ record_line (decimal (number i) ∷ map value_text (row_in rows i))
 lines_more number rows i =
     let f : ℕ → List ℕ = λ i. record_line (decimal (number i) ∷ map value_text (row_in rows i)) in
-    rw add-one (flat_map-append f (upto i) (i ∷ []) ∙ ap (λ x. flat_map f (upto i) ++ x) (append-nil (f i)))
+    rw add-one (sym (flat_map_more f [] (upto i) i))
+
+-- a text, and what is made of one more number behind what is made of those below
+pub text_more : (before text after : List ℕ) (f : ℕ → List ℕ) (n : ℕ) (bytes : List ℕ) → text ≡ before ++ flat_map f (upto n) → after ≡ text ++ bytes → bytes ≡ f n → after ≡ before ++ flat_map f (upto (n + 1))
+text_more before text after f n bytes is more one = more ∙ ap₂ (λ (x y : List ℕ). x ++ y) is one ∙ flat_map_more f before (upto n) n ∙ ap (λ (ns : List ℕ). before ++ flat_map f ns) (rw add-one refl)
+
+-- what is made of one more item, put behind what is made of those before it
+pub adds_pushed : {X : Type 0} (old mid new : Page) (f : X → List ℕ) (xs ys : List X) (x : X) → ys ≡ xs ++ x ∷ [] → Adds old mid (flat_map f xs) → Adds mid new (f x) → Adds old new (flat_map f ys)
+adds_pushed old mid new f xs ys x e before last = subst (λ (bytes : List ℕ). Adds old new bytes) (flat_map_more f [] xs x ∙ ap (flat_map f) (sym e)) (adds_then old mid new (flat_map f xs) (f x) before last)
 
 -- one more record behind those of i rows
 pub lines_added : (old mid new : Page) (number : ℕ → ℕ) (rows : List Row) (i n : ℕ) (row : Row) → number i ≡ n → row_in rows i ≡ row
     → Adds old mid (row_lines_to number rows i) → Adds mid new (record_line (decimal n ∷ map value_text row))
     → Adds old new (row_lines_to number rows (i + 1))
 lines_added old mid new number rows i n row is at before last =
-    let whole : row_lines_to number rows (i + 1) ≡ row_lines_to number rows i ++ record_line (decimal n ∷ map value_text row) = rw (← is, ← at) (lines_more number rows i) in
-    subst (λ (x : List ℕ). Adds old new x) (sym whole) (adds_then old mid new (row_lines_to number rows i) (record_line (decimal n ∷ map value_text row)) before last)
+    adds_pushed old mid new (λ (i : ℕ). record_line (decimal (number i) ∷ map value_text (row_in rows i))) (upto i) (upto (i + 1)) i (rw add-one refl) before (rw (is, at) last)
 
--- rows that are numbered from the first place on are numbered by their places
-pub lines_from_first : (rows : List Row) (n : ℕ) → row_lines_to (λ (k : ℕ). 0 + k) (drop 0 rows) n ≡ row_lines_to (λ (k : ℕ). k) rows n
-lines_from_first rows n = ap (λ (number : ℕ → ℕ). row_lines_to number rows n) (λ i k. zero-add k i)
+-- the records of rows that stand at the front
+first_lines : (number : ℕ → ℕ) (rows : List Row) (n m : ℕ) → m ≤ n → row_lines_to number (take n rows) m ≡ row_lines_to number rows m
+first_lines number rows n zero h = refl
+first_lines number rows n (suc m) h =
+    let one : suc m ≡ m + 1 = omega arith in
+    let same : row_in (take n rows) m ≡ row_in rows m = get_or-take n rows m [] (omega (arith, h)) in
+    ap (row_lines_to number (take n rows)) one ∙ lines_more number (take n rows) m
+    ∙ ap₂ (λ (xs : List ℕ) (row : Row). xs ++ record_line (decimal (number m) ∷ map value_text row)) (first_lines number rows n m (omega (arith, h))) same
+    ∙ sym (lines_more number rows m) ∙ ap (row_lines_to number rows) (sym one)
+
+-- the records of a part are those of so many rows
+pub part_lines : (number : ℕ → ℕ) (rows : List Row) (n : ℕ) → n ≤ length rows → row_lines number (take n rows) ≡ row_lines_to number rows n
+part_lines number rows n h = ap (row_lines_to number (take n rows)) (length-take-le n rows h) ∙ first_lines number rows n n (omega arith)

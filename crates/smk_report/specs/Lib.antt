@@ -1,2 +1,3 @@
 pub mod Pages
 pub mod PieceTexts
+pub mod Schemas

@@ -22,8 +22,8 @@ pub fn add_parts(text: &mut Vec<u8>, parts: &[&[u8]]) -> Result<(), AllocError>
     Ok(())
 }
 
-// Writes a line behind a text: its parts, one after the other, and a line feed. After an error the text is of no use.
-fn add_line(text: &mut Vec<u8>, parts: &[&[u8]]) -> Result<(), AllocError>
+/// Writes a line behind a text: its parts, one after the other, and a line feed. After an error the text is of no use.
+pub fn add_line(text: &mut Vec<u8>, parts: &[&[u8]]) -> Result<(), AllocError>
     ensures { OnOk result (text.new.items ≡ text.old.items ++ texts.line (map (λ part. part.now) parts.now)) }
 {
     add_parts(text, parts)?;

@@ -4,17 +4,21 @@ ghost use Rattle.smk_base.specs.CatalogImage.{catalog_image};
 ghost use Rattle.smk_base.specs.TreeImage.{ask_image};
 ghost use Rattle.smk_base.specs.declared.reply.Refusal.TheVariants as refusals;
 ghost use Rattle.smk_model.specs.Asks.{back_line};
+ghost use Rattle.smk_model.specs.AskTexts as asks;
+ghost use Rattle.smk_model.specs.AskTexts.{IsAskRefusalOf};
+ghost use Rattle.smk_model.specs.FaultTexts.{type_words};
 ghost use Rattle.smk_model.specs.ReplyTexts as texts;
 ghost use Rattle.smk_model.specs.Session.{view_at};
 ghost use Rattle.smk_model.specs.ShownNames.{shown as shown_name};
 ghost use Rattle.smk_model.specs.Texts.{line};
 ghost use Rattle.smk_model.specs.Typing.{nothing_declared};
 
+use crate::faults::type_words as fault_words;
 use crate::lines::{line_around, line_of, pair_text};
 use crate::lookup::view_at;
 use crate::names::shown;
 use crate::texts::no_row_text;
-use smk_base::{AskLine, Catalog, Line, Refusal, Then};
+use smk_base::{AskLine, AskRefusal, Catalog, Line, Refusal, Then, TypeFault};
 use std::alloc::{AllocError, Global};
 
 // The view that a line names.
@@ -174,8 +178,8 @@ pub fn refusal_text(
     }
 }
 
-/// The line of an `ask` line whose `back` line is refused. It names nothing of a catalog.
-pub fn back_refusal_text(
+// The line of an `ask` line whose `back` line is refused. It names nothing of a catalog.
+fn back_refusal_text(
     alloc: Global,
     asked: &AskLine,
     refusal: Refusal,
@@ -196,5 +200,28 @@ pub fn back_refusal_text(
         | Refusal::NotLinked
         | Refusal::RowsLimit { .. }
         | Refusal::ManyMarks => unreachable!(),
+    }
+}
+
+/// The line of steps that don't stand.
+pub fn steps_refusal_text(alloc: Global, at: u64, fault: TypeFault) -> Result<Vec<u8>, AllocError>
+    ensures { IfOk result (λ text. text.items ≡ line (codes "refused steps: " ∷ type_words fault ∷ codes " at byte " ∷ decimal at ∷ [])) }
+{
+    let (words, _) = fault_words(fault);
+    line_around(alloc, &[b"refused steps: ", words, b" at byte "], at, &[])
+}
+
+/// The line of an `ask` line that is refused: as its `back` line is, or for a fault of its steps.
+pub fn ask_refusal_text(
+    alloc: Global,
+    asked: &AskLine,
+    refusal: AskRefusal,
+) -> Result<Vec<u8>, AllocError>
+    requires { IsAskRefusalOf (ask_image asked.now) refusal }
+    ensures { IfOk result (λ text. text.items ≡ asks.ask_refusal_text (ask_image asked.now) refusal) }
+{
+    match refusal {
+        AskRefusal::Back(refusal) => back_refusal_text(alloc, asked, refusal),
+        AskRefusal::Steps { at, fault } => steps_refusal_text(alloc, at, fault),
     }
 }

@@ -1,12 +1,14 @@
-ghost use Rattle.std.specs.Prelude.{◌≡◌, ◌++◌, ◌∷◌, [], codes, All, IfOk};
+ghost use Rattle.std.specs.Prelude.{◌≡◌, ◌++◌, All, IfOk};
 ghost use Rattle.std.specs.List.{flat_map};
 ghost use Rattle.smk_base.specs.CatalogImage.{catalog_image};
 ghost use Rattle.smk_model.specs.ReplyTexts as texts;
-ghost use Rattle.smk_model.specs.Texts.{line, brush_text};
+ghost use Rattle.smk_base.specs.declared.reply.Reply.{Reply as ReplyShape};
+ghost use Rattle.smk_model.specs.OwnTexts as own;
+ghost use Rattle.smk_model.specs.Texts.{brush_heading, brush_text};
 
 use crate::answers::{brush_text, fwd_text, group_text};
-use crate::lines::line_of;
-use crate::linked::with_linked;
+use crate::lines::{line_around, line_of};
+use crate::linked::{with_contents, with_linked};
 use crate::lookup::{grouping_named, table_named, view_named};
 use crate::refusals::refusal_text;
 use crate::texts::{rids_text, view_text};
@@ -89,13 +91,72 @@ fn cleared_text(
     linked: &[Linked],
 ) -> Result<Vec<u8>, AllocError>
     requires { All (texts.IsLinkedIn (catalog_image catalog.now)) linked.now }
-    ensures { IfOk result (λ text. text.items ≡ line (codes "cleared " ∷ view.now ∷ codes " on " ∷ table.now ∷ []) ++ flat_map (texts.linked_text (catalog_image catalog.now)) linked.now) }
+    ensures { IfOk result (λ text. text.items ≡ texts.cleared_line view.now table.now ++ flat_map (texts.linked_text (catalog_image catalog.now)) linked.now) }
 {
-    let front = line_of(
+    let front = cleared_line(alloc, view, table)?;
+    with_linked(alloc, catalog, front, linked)
+}
+
+// The first line of the end of a brush.
+fn cleared_line(alloc: Global, view: &Text, table: &Text) -> Result<Vec<u8>, AllocError>
+    ensures { IfOk result (λ text. text.items ≡ texts.cleared_line view.now table.now) }
+{
+    line_of(
         alloc,
         &[b"cleared ", view.as_slice(), b" on ", table.as_slice()],
-    )?;
-    with_linked(alloc, catalog, front, linked)
+    )
+}
+
+// The first line of a brush that selects so many rids.
+fn brush_heading(
+    alloc: Global,
+    view: &Text,
+    table: &Text,
+    count: u32,
+) -> Result<Vec<u8>, AllocError>
+    ensures { IfOk result (λ text. text.items ≡ brush_heading view.now table.now count) }
+{
+    line_around(
+        alloc,
+        &[b"brush ", view.as_slice(), b" on ", table.as_slice(), b" "],
+        count as u64,
+        &[],
+    )
+}
+
+/// The text of a reply to a line that changes brushes, without rids and marks: its first line, where a brush selects so many rids, and the contents of the linked views. The lists of the reply aren't read.
+pub fn brief_text(
+    alloc: Global,
+    cat: &Catalog,
+    line: &Line,
+    reply: &Reply,
+    count: u32,
+) -> Result<Vec<u8>, AllocError>
+    requires { texts.IsReplyTo (catalog_image cat.now) line.now reply.now }
+    ensures { IfOk result (λ text. (told : ReplyShape) → own.unlisted told ≡ own.unlisted reply.now → own.brushed_rids told ≡ count → text.items ≡ own.brief_text (catalog_image cat.now) line.now told) }
+{
+    match reply {
+        Reply::Brush { linked, .. } => match line {
+            Line::Brush { view, table, .. } => {
+                let front = brush_heading(alloc, view, table, count)?;
+                with_contents(alloc, cat, front, linked.as_slice())
+            }
+            _ => unreachable!(),
+        },
+        Reply::ClearedOne { linked } => match line {
+            Line::ClearOne { view, table } => {
+                let front = cleared_line(alloc, view, table)?;
+                with_contents(alloc, cat, front, linked.as_slice())
+            }
+            _ => unreachable!(),
+        },
+        Reply::View { .. }
+        | Reply::Back { .. }
+        | Reply::Grouped { .. }
+        | Reply::Fwd { .. }
+        | Reply::Cleared
+        | Reply::Refused(_) => reply_text(alloc, cat, line, reply),
+    }
 }
 
 /// The text of a reply to a line of a script.

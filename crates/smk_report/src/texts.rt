@@ -1,4 +1,4 @@
-ghost use Rattle.std.specs.Prelude.{◌≡◌, ◌<◌, ◌≤◌, ◌+◌, ◌++◌, ◌∷◌, [], length, map, drop, codes, decimal, IfOk, OnOk, slice_index_or};
+ghost use Rattle.std.specs.Prelude.{◌≡◌, ◌<◌, ◌≤◌, ◌+◌, ◌++◌, ◌∷◌, [], length, map, take, drop, codes, decimal, IfOk, OnOk, slice_index_or};
 ghost use Rattle.smk_base.specs.Rels.{row_in, IsRelation};
 ghost use Rattle.smk_base.specs.declared.rel.TheConstants.{COLUMN_LIMIT, ROW_LIMIT};
 ghost use Rattle.smk_model.specs.Texts as texts;
@@ -49,14 +49,6 @@ pub fn numbered_lines(page: &mut Page, rel: &Rel, from: u32, count: u32) -> Resu
     Ok(())
 }
 
-// Writes the record of the names of the columns, and those of all rows with their places.
-fn numbered_rows(page: &mut Page, columns: &ListOf<Text>, rel: &Rel) -> Result<(), AllocError>
-    ensures { OnOk result (Adds page.old page.new (texts.record_line (codes "row" ∷ columns.now) ++ texts.row_lines (λ i. i) rel.now.rows)) }
-{
-    header(page, b"row", columns)?;
-    numbered_lines(page, rel, 0, rel.len())
-}
-
 /// A page that begins with a text and has room for the records of so many rows of so many values, so that a long text rarely moves while it grows.
 pub fn page_for(front: Vec<u8>, width: u32, rows: u32) -> Result<Page, AllocError>
     requires few_columns { width ≤ COLUMN_LIMIT }
@@ -88,8 +80,25 @@ pub fn with_rows(
     requires { length columns.now ≡ length rel.now.kinds }
     ensures { IfOk result (λ text. text.items ≡ front.items ++ texts.record_line (codes "row" ∷ columns.now) ++ texts.row_lines (λ i. i) rel.now.rows) }
 {
-    let mut page = page_for(front, rel.width(), rel.len())?;
-    numbered_rows(&mut page, columns, rel)?;
+    with_numbered_part(alloc, front, columns, rel, 0, rel.len())
+}
+
+/// A text with the records of the names of columns and of so many rows from a place on, with their places, behind it.
+pub fn with_numbered_part(
+    alloc: Global,
+    front: Vec<u8>,
+    columns: &ListOf<Text>,
+    rel: &Rel,
+    from: u32,
+    count: u32,
+) -> Result<Vec<u8>, AllocError>
+    requires names { length columns.now ≡ length rel.now.kinds }
+    requires in_range { from + count ≤ length rel.now.rows }
+    ensures { IfOk result (λ text. text.items ≡ front.items ++ texts.record_line (codes "row" ∷ columns.now) ++ texts.row_lines (λ k. from + k) (take count (drop from rel.now.rows))) }
+{
+    let mut page = page_for(front, rel.width(), count)?;
+    header(&mut page, b"row", columns)?;
+    numbered_lines(&mut page, rel, from, count)?;
     page.finish()
 }
 

@@ -1,5 +1,5 @@
 -- The parts of a backward answer, by what is kept of a view and a table.
-use Rattle.std.proofs.Common.{◌≡◌, ℕ, ◌<◌, Bool, true, false, ◌&&◌, ◌||◌, cond, List, [], ◌∷◌, length, refl, ap, sym, ◌∙◌, nat_eq, Ok, Err, Option, Some, None, option_map, ok_or, slice_get, All, inl, inr}
+use Rattle.std.proofs.Common.{◌≡◌, ℕ, ◌<◌, Bool, true, false, ◌&&◌, ◌||◌, cond, List, [], ◌∷◌, length, refl, ap, sym, ◌∙◌, subst, nat_eq, Ok, Err, Option, Some, None, option_map, ok_or, slice_get, All, inl, inr}
 use Rattle.std.specs.List.{list_all, list_any}
 use Rattle.std.proofs.lemmas.Bool.{cases_Bool, eqb-true, false≢true}
 use Rattle.std.proofs.lemmas.List.{get_or-map, length-map}
@@ -17,6 +17,7 @@ use Rattle.smk_base.specs.declared.book.tree.Marks.{Marks}
 use Rattle.smk_base.specs.declared.book.tree.Marks.TheVariants as markings
 use Rattle.smk_base.specs.declared.book.tree.Then.{Then}
 use Rattle.smk_base.specs.declared.book.tree.Then.TheVariants as thens
+use Rattle.smk_base.specs.declared.book.tree.Line.TheVariants as lines
 use Rattle.smk_base.specs.declared.value.Kind.{Kind}
 use Rattle.smk_base.specs.declared.value.Value.{Value}
 use Rattle.smk_model.specs.Catalogs.{table_kinds}
@@ -25,7 +26,8 @@ use Rattle.smk_model.specs.Kinds.{kinds1}
 use Rattle.smk_model.specs.Lineage.{sub}
 use Rattle.smk_model.specs.Names.{◌>>=◌}
 use Rattle.smk_model.specs.Plain.{step1}
-use Rattle.smk_model.specs.Replies.{Asked, Grouped, back_reply, column_place, cube, first_outside, grouping_of, is_of_column, is_one, is_split, known_pair, marked, named_back, provided, rids_of, rows_reply, unless_row, with_value, written}
+use Rattle.smk_model.specs.Replies.{Asked, Grouped, back_reply, column_place, cube, first_outside, grouping_of, is_of_column, is_one, is_split, known_pair, marked, named_back, or_refused, provided, reply, rids_of, rows_reply, staying, unless_row, with_value, written}
+use Rattle.smk_model.specs.ReplyTexts.{AsksRows}
 use Rattle.smk_model.specs.Session.{State, Workbook, rows_of_table, view_at}
 use Rattle.smk_model.specs.Typing.{info_at}
 use Rattle.smk_model.specs.Values.{Row}
@@ -37,17 +39,20 @@ use Rattle.smk_compose.specs.declared.kept_maps.Run.{Run}
 use Rattle.smk_push.specs.Cubes.{cube_at, cube_of}
 use Rattle.smk_skip.specs.Splits.{SplitImage}
 use Rattle.smk_session.specs.Kept.{kept_back}
-use Rattle.smk_session.specs.Answers.{BacksFit, back_by, rows_told, state_lent, within_asked}
+use Rattle.smk_session.specs.Answers.{BacksFit, Turns, members_asked, rows_told, state_lent, within_asked}
 use Rattle.smk_session.specs.Extras.{backs_of, cubes_place, split_on, split_place, table_of}
-use Rattle.smk_session.specs.BackAnswers.{CubesFit, IsPairOf, SplitsFit, cubes_asked, grouped_by, matching_by, one_asked, sort_asked, split_asked, split_kept, with_value_asked}
+use Rattle.smk_session.specs.BackAnswers.{CubesFit, IsPairNamed, IsPairOf, SplitsFit, cubes_asked, grouped_by, one_asked, rids_by, rows_by, sort_asked, split_asked, split_kept, with_value_asked}
+use Rattle.smk_session.specs.Behind.{BehindFits, IsBehind, IsRefusedAs}
 use Rattle.smk_session.specs.Opened.{state_over, workbook_image}
 use Rattle.smk_session.specs.declared.lent.Lent.{Lent}
 use Rattle.smk_session.specs.declared.answer.backward.Pair.{Pair}
+use Rattle.smk_session.specs.declared.answer.no_answer.Turned.{Turned}
 use Rattle.smk_session.proofs.Declared.{cubes_found, cubes_of_grouped, grouping_fits, split_found}
 use Rattle.smk_session.proofs.KeptOf.{kept_back_is}
+use Rattle.smk_session.proofs.Rids.{rids_ascend, rids_low}
 use Rattle.smk_session.proofs.Marked.{backs_asked, none_outside, passed, same_row}
 use Rattle.smk_session.proofs.OpenedViews.{run_is, table_is}
-use Rattle.smk_session.proofs.Opened.{ok_is, plain_is, provided_then, then_row}
+use Rattle.smk_session.proofs.Opened.{ok_is, provided_then, then_row}
 
 abbrev book_of : List Relation → Pair → Workbook
 book_of tables pair = workbook_image pair.catalog.now tables
@@ -125,8 +130,8 @@ sort_then : {B : Type 0} (b : Bool) (next : Asked B) → ◌>>=◌ (provided b V
 sort_then true next = refl
 sort_then false next = refl
 
-abbrev rows_by : Pair → Marks → Value → ℕ × SplitImage → Asked Reply
-rows_by pair marks value split =
+abbrev split_rows : Pair → Marks → Value → ℕ × SplitImage → Asked Reply
+split_rows pair marks value split =
     ◌>>=◌ (sort_asked (catalog_image pair.catalog.now) pair.table split.0 value) (λ same.
     ◌>>=◌ (with_value_asked split.1 marks value) (λ rids. Ok (rows_told pair.rows.now rids)))
 
@@ -140,12 +145,12 @@ split_then {B} (Some c) split_at declared kept next told found same = ap (λ o. 
     by false = refl
 
 matching_told : (tables : List Relation) (brushes : List BrushOn) (views : List Run) (pair : Pair) (marks : Marks) (name : List ℕ) (value : Value) → IsPairOf tables views pair
-    → ◌>>=◌ (split_asked pair name) (rows_by pair marks value) ≡ back_reply (catalog_image pair.catalog.now) (state_over tables brushes) pair.view pair.table marks (thens.Matching name value)
+    → ◌>>=◌ (split_asked pair name) (split_rows pair marks value) ≡ back_reply (catalog_image pair.catalog.now) (state_over tables brushes) pair.view pair.table marks (thens.Matching name value)
 matching_told tables brushes views pair marks name value p =
     let image : CatalogImage = catalog_image pair.catalog.now in
     let state : State = state_over tables brushes in
     split_then (column_place image pair.table name) (split_kept pair) (λ c. list_any (is_split pair.view pair.table c) pair.catalog.now.backs)
-    (by_column (book_of tables pair) pair.view pair.table) (rows_by pair marks value)
+    (by_column (book_of tables pair) pair.view pair.table) (split_rows pair marks value)
     (λ c. provided (is_of_column image pair.table c value) ValueKind (◌>>=◌ (rids_of image state pair.view pair.table marks) (λ rids. Ok (rows_reply image state pair.table (with_value (rows_of_table state pair.table) c value rids)))))
     (λ c. split_is tables views pair c p)
     (λ c.
@@ -163,11 +168,32 @@ declared_then tables views pair next told p is =
     ∙ provided_then (declares_back (catalog_image pair.catalog.now) pair.view pair.table) (lists_of tables pair) next
     ∙ ap (provided (declares_back (catalog_image pair.catalog.now) pair.view pair.table) Undeclared) is
 
-pub matching_is : (tables : List Relation) (brushes : List BrushOn) (views : List Run) (pair : Pair) (marks : Marks) (name : List ℕ) (value : Value) → IsPairOf tables views pair
-    → matching_by pair marks name value ≡ asked_of pair (state_over tables brushes) marks (thens.Matching name value)
-matching_is tables brushes views pair marks name value p =
-    declared_then tables views pair (λ m. ◌>>=◌ (split_asked pair name) (rows_by pair marks value)) (back_reply (catalog_image pair.catalog.now) (state_over tables brushes) pair.view pair.table marks (thens.Matching name value)) p
+-- the rows, by their rids
+assoc : {A B C : Type 0} (asked : Asked A) (next : A → Asked B) (more : B → Asked C) → ◌>>=◌ (◌>>=◌ asked next) more ≡ ◌>>=◌ asked (λ a. ◌>>=◌ (next a) more)
+assoc (Ok a) next more = refl
+assoc (Err refusal) next more = refl
+
+pub rows_are_asked : (tables : List Relation) (brushes : List BrushOn) (views : List Run) (pair : Pair) (marks : Marks) (then : Then) → AsksRows then → IsPairOf tables views pair → rows_by pair marks then ≡ asked_of pair (state_over tables brushes) marks then
+rows_are_asked tables brushes views pair marks thens.Plain asks p =
+    let image : CatalogImage = catalog_image pair.catalog.now in
+    let state : State = state_over tables brushes in
+    assoc (kept_back pair.run.now.kept pair.table) (λ map. members_asked map marks) (λ rids. Ok (rows_told pair.rows.now rids))
+    ∙ declared_then tables views pair (λ map. ◌>>=◌ (members_asked map marks) (λ rids. Ok (rows_told pair.rows.now rids))) (back_reply image state pair.view pair.table marks thens.Plain) p
+    (ap (λ (a : Asked (List ℕ)). ◌>>=◌ a (λ rids. Ok (rows_told pair.rows.now rids))) (backs_asked (view_at image pair.view).plan state.tables pair.table marks)
+    ∙ ap (λ (r : Relation). ◌>>=◌ (rids_of image state pair.view pair.table marks) (λ rids. Ok (rows_told r rids))) (rows_are tables views pair p))
+rows_are_asked tables brushes views pair marks (thens.Matching name value) asks p =
+    by (kept_back pair.run.now.kept pair.table) (split_asked pair name)
+    ∙ declared_then tables views pair (λ m. ◌>>=◌ (split_asked pair name) (split_rows pair marks value)) (back_reply (catalog_image pair.catalog.now) (state_over tables brushes) pair.view pair.table marks (thens.Matching name value)) p
     (matching_told tables brushes views pair marks name value p)
+  where
+    sort : ℕ × SplitImage → Asked (Unit {0})
+    sort split = sort_asked (catalog_image pair.catalog.now) pair.table split.0 value
+
+    by : (kept : Asked Lists) (split : Asked (ℕ × SplitImage)) → ◌>>=◌ (◌>>=◌ kept (λ map. ◌>>=◌ split (λ found. ◌>>=◌ (sort found) (λ same. with_value_asked found.1 marks value)))) (λ rids. Ok (rows_told pair.rows.now rids)) ≡ ◌>>=◌ kept (λ map. ◌>>=◌ split (split_rows pair marks value))
+    by (Ok map) (Ok found) = assoc (sort found) (λ same. with_value_asked found.1 marks value) (λ rids. Ok (rows_told pair.rows.now rids))
+    by (Ok map) (Err refusal) = refl
+    by (Err refusal) split = refl
+rows_are_asked tables brushes views pair marks thens.Grouped asks p = absurd asks
 
 -- the groups of a mark
 
@@ -272,25 +298,47 @@ grouped_is tables brushes views pair marks p =
     declared_then tables views pair (λ m. ◌>>=◌ (cubes_asked pair) (λ kept. ◌>>=◌ (one_asked marks) (λ mark. read_off m kept mark marks)))
     (back_reply (catalog_image pair.catalog.now) (state_over tables brushes) pair.view pair.table marks thens.Grouped) p (grouped_told tables brushes views pair marks p)
 
--- the rows
-pub back_is : (tables : List Relation) (brushes : List BrushOn) (views : List Run) (pair : Pair) (marks : Marks) → IsPairOf tables views pair
-    → back_by pair.run.now.kept pair.table pair.rows.now marks ≡ asked_of pair (state_over tables brushes) marks thens.Plain
-back_is tables brushes views pair marks p = plain_is pair.catalog.now tables brushes views pair.view pair.table pair.run.now pair.rows.now marks p.opened p.view p.table p.run_is p.rows_are
-
 -- the answer to a line that names a view and a table
 pub named_is : (catalog : CatalogImage) (state : State) (view table : List ℕ) (v t : ℕ) (marks : Marks) (then : Then) → known_pair catalog view table ≡ Ok (v, t)
     → provided (declares_back catalog v t) Undeclared (back_reply catalog state v t marks then) ≡ named_back catalog state view marks table then
 named_is catalog state view table v t marks then named =
     ap (λ (a : Asked (ℕ × ℕ)). ◌>>=◌ a (λ p. provided (declares_back catalog p.0 p.1) Undeclared (back_reply catalog state p.0 p.1 marks then))) (sym named)
 
-pub answered_is : (held : Lent) (pair : Pair) (view table : List ℕ) (v t : ℕ) (marks : Marks) (then exact : Then) (by : Asked Reply) → known_pair (catalog_image held.catalog.now) view table ≡ Ok (v, t)
-    → pair.view ≡ v → pair.table ≡ t → pair.catalog.now ≡ held.catalog.now → then ≡ exact → by ≡ asked_of pair (state_lent held) marks exact
+pub answered_is : (held : Lent) (pair : Pair) (view table : List ℕ) (marks : Marks) (then exact : Then) (by : Asked Reply) → IsPairNamed held view table pair → then ≡ exact → by ≡ asked_of pair (state_lent held) marks exact
     → by ≡ named_back (catalog_image held.catalog.now) (state_lent held) view marks table then
-answered_is held pair view table v t marks then exact by named view_is table_is catalog_is then_is is =
-    let asked : Catalog → ℕ → ℕ → Then → Asked Reply = λ catalog w u extra. provided (declares_back (catalog_image catalog) w u) Undeclared (back_reply (catalog_image catalog) (state_lent held) w u marks extra) in
-    is
-    ∙ ap (λ catalog. asked catalog pair.view pair.table exact) catalog_is
-    ∙ ap (λ w. asked held.catalog.now w pair.table exact) view_is
-    ∙ ap (λ u. asked held.catalog.now v u exact) table_is
-    ∙ ap (asked held.catalog.now v t) (sym then_is)
-    ∙ named_is (catalog_image held.catalog.now) (state_lent held) view table v t marks then named
+answered_is held pair view table marks then exact by p then_is is =
+    let asked : Catalog → Then → Asked Reply = λ catalog extra. provided (declares_back (catalog_image catalog) pair.view pair.table) Undeclared (back_reply (catalog_image catalog) (state_lent held) pair.view pair.table marks extra) in
+    is ∙ ap (λ catalog. asked catalog exact) p.catalog ∙ ap (asked held.catalog.now) (sym then_is) ∙ named_is (catalog_image held.catalog.now) (state_lent held) view table pair.view pair.table marks then p.named
+
+-- what is asked for of a line of rows, by their rids
+
+pub rows_named : (held : Lent) (pair : Pair) (view table : List ℕ) (marks : Marks) (then : Then) → AsksRows then → IsPairNamed held view table pair → rows_by pair marks then ≡ named_back (catalog_image held.catalog.now) (state_lent held) view marks table then
+rows_named held pair view table marks then asks p = answered_is held pair view table marks then then (rows_by pair marks then) p refl (rows_are_asked held.tables.now held.brushes.now held.views.now pair marks then asks p.fits)
+
+replied : (held : Lent) (pair : Pair) (view table : List ℕ) (marks : Marks) (then : Then) (found : Asked (List ℕ)) → AsksRows then → IsPairNamed held view table pair → rids_by pair marks then ≡ found
+    → (reply (catalog_image held.catalog.now) (state_lent held) (lines.Back view marks table then)).0 ≡ (or_refused (state_lent held) (staying (state_lent held) (◌>>=◌ found (λ rids. Ok (rows_told pair.rows.now rids))))).0
+replied held pair view table marks then found asks p is =
+    ap (λ (a : Asked Reply). (or_refused (state_lent held) (staying (state_lent held) a)).0)
+    (sym (rows_named held pair view table marks then asks p) ∙ ap (λ (a : Asked (List ℕ)). ◌>>=◌ a (λ rids. Ok (rows_told pair.rows.now rids))) is)
+
+pub rids_found : (held : Lent) (pair : Pair) (view table : List ℕ) (marks : Marks) (then : Then) (rids : List ℕ) → AsksRows then → IsPairNamed held view table pair → rids_by pair marks then ≡ Ok rids
+    → IsBehind (catalog_image held.catalog.now) (state_lent held) (lines.Back view marks table then) (record { view = pair.view; table = pair.table; rids = rids })
+rids_found held pair view table marks then rids asks p is = record {
+  pair = p.named;
+  reply = replied held pair view table marks then (Ok rids) asks p is
+      ∙ ap (λ (r : Relation). rows_told r rids) (rows_are held.tables.now held.views.now pair p.fits)
+      ∙ ap (λ (catalog : Catalog). rows_reply (catalog_image catalog) (state_lent held) pair.table rids) p.catalog;
+}
+
+pub rids_refused : (held : Lent) (pair : Pair) (view table : List ℕ) (marks : Marks) (then : Then) (turned : Turned) → AsksRows then → IsPairNamed held view table pair → Turns turned (rids_by pair marks then)
+    → IsRefusedAs (catalog_image held.catalog.now) (state_lent held) (lines.Back view marks table then) turned
+rids_refused held pair view table marks then turned asks p turns = λ refusal e. replied held pair view table marks then (Err refusal) asks p (turns refusal e)
+
+pub rids_fit : (held : Lent) (pair : Pair) (view table : List ℕ) (rids : List ℕ) → IsPairNamed held view table pair → IsPlaces (length pair.rows.now.rows) rids → BehindFits held.catalog.now held.tables.now (record { view = pair.view; table = pair.table; rids = rids })
+rids_fit held pair view table rids p set =
+    let same = ap (λ (r : Relation). length r.rows) (rows_are held.tables.now held.views.now pair p.fits) in
+    record {
+      view = subst (λ (catalog : Catalog). pair.view < length catalog.views) p.catalog p.fits.view;
+      table = subst (λ (catalog : Catalog). pair.table < length catalog.tables) p.catalog p.fits.table;
+      rids = record { ascending = rids_ascend (length pair.rows.now.rows) rids set; inside = rids_low (length pair.rows.now.rows) _ rids set same };
+    }

@@ -1,10 +1,10 @@
 -- What is asked of a view that follows brushes, by what is kept of it.
-use Rattle.std.proofs.Common.{◌≡◌, ℕ, ◌+◌, ◌<◌, Bool, true, false, cond, List, [], ◌∷◌, ◌++◌, length, map, get_or, refl, ap, sym, ◌∙◌, subst, arith, Option, Some, None, All, Ok, Err}
+use Rattle.std.proofs.Common.{◌≡◌, ℕ, ◌+◌, ◌<◌, Bool, true, false, cond, List, [], ◌∷◌, ◌++◌, length, map, get_or, refl, ap, sym, ◌∙◌, subst, arith, Option, Some, None, All, IfSome, Ok, Err}
 use Rattle.std.specs.List.{list_any}
 use Rattle.std.proofs.lemmas.List.{length-map}
 use Rattle.smk_base.specs.CatalogImage.{ViewImage, catalog_image, view_image}
 use Rattle.smk_base.specs.Picks.{IsAscending}
-use Rattle.smk_base.specs.Places.{IsPlaces, Lists, has, members_at}
+use Rattle.smk_base.specs.Places.{IsPlaces, Lists, has, members_at, places}
 use Rattle.smk_base.specs.PlanImage.{expr_of}
 use Rattle.smk_base.specs.Plans.{Expr}
 use Rattle.smk_base.specs.Rels.{Relation}
@@ -24,13 +24,14 @@ use Rattle.smk_model.proofs.Composed.{lists_stand}
 use Rattle.smk_base.proofs.Places.{places_below}
 use Rattle.smk_compose.specs.declared.kept_maps.Run.{Run}
 use Rattle.smk_session.specs.Kept.{kept_fwd}
-use Rattle.smk_session.specs.Answers.{AreOn, brushed_of, picks_brushed, rids_or_all}
+use Rattle.smk_session.specs.Answers.{AreOn, brushed_of, chosen_by, counts, picks_brushed, rids_or_all}
+use Rattle.smk_session.specs.Behind.{RidsFit}
 use Rattle.smk_session.specs.Refreshed.{Names, book_at}
 use Rattle.smk_session.specs.declared.brush.refresh.Refresh.{Refresh}
 use Rattle.smk_session.specs.Opened.{AreOpened, state_over}
 use Rattle.smk_session.specs.Sessions.{BrushFits}
 use Rattle.smk_session.proofs.Rids.{rids_ascend}
-use Rattle.smk_session.proofs.Selected.{chosen_or_all, picks_fit, picks_more, picks_same, same_leaves}
+use Rattle.smk_session.proofs.Selected.{chosen_fit, chosen_or_all, in_all, picks_fit, picks_more, picks_same, same_leaves}
 use Rattle.smk_session.proofs.KeptOf.{kept_fwd_is}
 use Rattle.smk_session.proofs.Linked.{has_item, linked_declares, linked_low}
 use Rattle.smk_session.proofs.OpenedViews.{run_is}
@@ -55,6 +56,16 @@ rows_count tables t = length (rows_of_table (state_over tables []) t)
 are_on : (catalog : Catalog) (tables : List Relation) (brushes : List BrushOn) (t : ℕ) → All (BrushFits catalog tables) brushes → AreOn t (rows_count tables t) brushes
 are_on catalog tables brushes t fit k d low = λ same. subst (λ n. IsPlaces n (get_or brushes k d).rids) (ap (rows_count tables) same) (fit k d low).rids
 
+-- what is chosen of a table for a view, or for none: its rids, or all
+pub selected_is : (catalog : Catalog) (tables : List Relation) (brushes : List BrushOn) (view : Option ℕ) (t : ℕ) (chosen : Option (List ℕ)) → All (BrushFits catalog tables) brushes
+    → ((n : ℕ) → AreOn t n brushes → chosen ≡ chosen_by (counts (catalog_image catalog) view t) brushes n)
+    → (rids_or_all chosen (rows_count tables t) ≡ places (in_all (counts (catalog_image catalog) view t) brushes) (rows_count tables t)) × IfSome chosen (RidsFit (rows_count tables t))
+selected_is catalog tables brushes view t chosen fit made =
+    let test = counts (catalog_image catalog) view t in
+    let n = rows_count tables t in
+    let is = made n (are_on catalog tables brushes t fit) in
+    (ap (λ (c : Option (List ℕ)). rids_or_all c n) is ∙ chosen_or_all test brushes n, subst (λ (c : Option (List ℕ)). IfSome c (RidsFit n)) (sym is) (chosen_fit test brushes n))
+
 -- what is chosen under brushes that are on rows of their tables
 pub chosen_there : (catalog : Catalog) (tables : List Relation) (brushes : List BrushOn) (w t : ℕ) (chosen : Option (List ℕ)) → All (BrushFits catalog tables) brushes
     → ((n : ℕ) → AreOn t n brushes → chosen ≡ brushed_of (catalog_image catalog) brushes w t n) → chosen ≡ brushed_of (catalog_image catalog) brushes w t (rows_count tables t)
@@ -70,7 +81,7 @@ chosen_rids : (catalog : Catalog) (tables : List Relation) (brushes : List Brush
 chosen_rids catalog tables brushes w t map chosen are made =
     ap (λ (c : Option (List ℕ)). rids_or_all c (length map.lists)) made
     ∙ ap (rids_or_all (brushed_of (catalog_image catalog) brushes w t (rows_count tables t))) (all_long catalog tables w t map are)
-    ∙ chosen_or_all (catalog_image catalog) (state_over tables brushes) w t
+    ∙ chosen_or_all (concerns (catalog_image catalog) w t) brushes (rows_count tables t)
 
 pub chosen_inside : (catalog : Catalog) (tables : List Relation) (brushes : List BrushOn) (w t : ℕ) (map : Lists) (chosen : Option (List ℕ)) → map ≡ forwards (plan_of catalog w) (each_rows tables) t
     → chosen ≡ brushed_of (catalog_image catalog) brushes w t (rows_count tables t) → All (λ rid. rid < length map.lists) (rids_or_all chosen (length map.lists))

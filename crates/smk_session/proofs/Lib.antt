@@ -16,3 +16,4 @@ pub mod KeptOf
 pub mod Declared
 pub mod Starts
 mod AtOnce
+mod Told

@@ -1,53 +1,31 @@
 -- What the kept parts of a session answer.
-use Rattle.std.proofs.Common.{◌≡◌, ℕ, ◌<◌, Bool, true, false, cond, List, [], length, get_or, refl, ap, sym, ◌∙◌, subst, arith, Ok, Err, Option, Some, None}
-use Rattle.std.proofs.lemmas.List.{get_or-map, length-map}
-use Rattle.smk_base.specs.CatalogImage.{CatalogImage, ViewImage, view_image, catalog_image}
-use Rattle.smk_base.specs.Places.{Lists, upto}
+use Rattle.std.proofs.Common.{◌≡◌, ℕ, ◌<◌, Bool, true, false, cond, List, length, get_or, refl, ap, sym, ◌∙◌, Ok, Err, Option, Some, None}
+use Rattle.smk_base.specs.CatalogImage.{CatalogImage, catalog_image}
+use Rattle.smk_base.specs.Places.{Lists}
 use Rattle.smk_base.specs.Plans.{Expr}
 use Rattle.smk_base.specs.Rels.{Relation}
 use Rattle.smk_base.specs.declared.brush.BrushOn.{BrushOn}
 use Rattle.smk_base.specs.declared.book.catalog.Catalog.{Catalog}
-use Rattle.smk_base.specs.declared.book.catalog.ViewInfo.{ViewInfo}
 use Rattle.smk_base.specs.declared.reply.Reply.TheVariants as replies
 use Rattle.smk_base.specs.declared.reply.Refusal.TheVariants.{Undeclared}
 use Rattle.smk_base.specs.declared.book.tree.Marks.{Marks}
-use Rattle.smk_base.specs.declared.book.tree.Then.TheVariants as thens
-use Rattle.smk_base.specs.declared.value.Kind.{Kind}
-use Rattle.smk_model.specs.Values.{Row}
 use Rattle.smk_model.specs.Names.{◌>>=◌}
-use Rattle.smk_model.specs.Composed.{backs, forwards}
-use Rattle.smk_model.specs.Catalogs.{IsCatalog, ViewFits, table_kinds, each_table_kinds}
-use Rattle.smk_model.specs.Selection.{each_kinds}
-use Rattle.smk_model.specs.Typing.{info_at, no_table}
-use Rattle.smk_model.specs.Replies.{Asked, known_pair, named_fwd, provided, unless_row, first_outside, written, marked, marks_fwd, rids_of, back_reply, fwd_reply}
-use Rattle.smk_model.specs.Session.{Workbook, State, view_at, no_view, rows_of_table}
-use Rattle.smk_model.specs.Workload.{declares_back, declares_fwd}
-use Rattle.smk_base.proofs.Places.{get_or_map_upto, length_upto}
+use Rattle.smk_model.specs.Composed.{forwards}
+use Rattle.smk_model.specs.Replies.{Asked, known_pair, named_fwd, provided, unless_row, first_outside, written, marked, marks_fwd, fwd_reply}
+use Rattle.smk_model.specs.Session.{State, view_at, rows_of_table}
+use Rattle.smk_model.specs.Workload.{declares_fwd}
 use Rattle.smk_compose.specs.declared.kept_maps.Run.{Run}
-use Rattle.smk_session.specs.Answers.{members_asked, rows_told, back_by, fwd_by}
-use Rattle.smk_session.specs.Opened.{AreOpened, workbook_image, state_over, opened}
-use Rattle.smk_session.proofs.OpenedViews.{run_is, table_is}
-use Rattle.smk_session.proofs.KeptOf.{kept_back_is, kept_fwd_is}
-use Rattle.smk_session.proofs.Marked.{backs_asked, forwards_asked}
+use Rattle.smk_session.specs.Answers.{members_asked, fwd_by}
+use Rattle.smk_session.specs.Opened.{AreOpened, state_over}
+use Rattle.smk_session.proofs.OpenedViews.{run_is}
+use Rattle.smk_session.proofs.KeptOf.{kept_fwd_is}
+use Rattle.smk_session.proofs.Marked.{forwards_asked}
 
 -- a backward query
 
 pub provided_then : {A B : Type 0} (b : Bool) (a : A) (next : A → Asked B) → ◌>>=◌ (cond b (Ok a) (Err Undeclared)) next ≡ provided b Undeclared (next a)
 provided_then true a next = refl
 provided_then false a next = refl
-
-pub plain_is : (catalog : Catalog) (tables : List Relation) (brushes : List BrushOn) (views : List Run) (v t : ℕ) (run : Run) (table : Relation) (marks : Marks)
-    → AreOpened catalog tables views → v < length catalog.views → t < length catalog.tables → run ≡ get_or views v run → table ≡ get_or tables t table
-    → back_by run.kept t table marks ≡ provided (declares_back (catalog_image catalog) v t) Undeclared (back_reply (catalog_image catalog) (state_over tables brushes) v t marks thens.Plain)
-plain_is catalog tables brushes views v t run table marks o low_v low_t is_v is_t =
-    let image : CatalogImage = catalog_image catalog in
-    let state : State = state_over tables brushes in
-    let plan : Expr = (view_at image v).plan in
-    ap (λ (r : Run). back_by r.kept t table marks) (run_is catalog tables views v run o low_v is_v)
-    ∙ ap (λ (l : Asked Lists). ◌>>=◌ l (λ map. ◌>>=◌ (members_asked map marks) (λ rids. Ok (rows_told table rids)))) (kept_back_is image plan state.tables v t low_t)
-    ∙ provided_then (declares_back image v t) (backs plan state.tables t) (λ map. ◌>>=◌ (members_asked map marks) (λ rids. Ok (rows_told table rids)))
-    ∙ ap (λ (l : Asked (List ℕ)). provided (declares_back image v t) Undeclared (◌>>=◌ l (λ rids. Ok (rows_told table rids)))) (backs_asked plan state.tables t marks)
-    ∙ ap (λ (r : Relation). provided (declares_back image v t) Undeclared (◌>>=◌ (rids_of image state v t marks) (λ rids. Ok (rows_told r rids)))) (table_is catalog tables brushes t table o.kinds low_t is_t)
 
 pub ok_is : (b : Bool) (m n : Lists) → cond b (Ok m) (Err Undeclared) ≡ Ok n → n ≡ m
 ok_is true m n h = cc

@@ -8,7 +8,6 @@ use Rattle.smk_base.specs.Rels.{Relation}
 use Rattle.smk_base.specs.declared.reply.Linked.{Linked}
 use Rattle.smk_base.specs.declared.value.Kind.{Kind}
 use Rattle.smk_model.specs.Plain.{eval}
-use Rattle.smk_model.specs.Replies.{Asked, linked_now}
 use Rattle.smk_model.specs.Selection.{each_kinds, each_rows, first_full, plan_kinds}
 use Rattle.smk_model.specs.Session.{leaves_now, view_at}
 use Rattle.smk_model.specs.Tables.{all_or_first}
@@ -18,7 +17,7 @@ use Rattle.smk_jobs.specs.Jobs.{FirstFault}
 use Rattle.smk_compose.specs.declared.fault.EvalFault.{EvalFault}
 use Rattle.smk_compose.specs.declared.fault.EvalFault.TheVariants.{Rows}
 use Rattle.smk_session.specs.Answers.{Turns, content_at}
-use Rattle.smk_session.specs.Refreshed.{AreFollowed, Follows, FollowsAs, HasLeaves, IsContent, IsMade, IsOf, IsRun, IsSource, Shows, book_at, contents_at, linked_at, read_by_marks, state_next, views_of}
+use Rattle.smk_session.specs.Refreshed.{AreFollowed, Follows, FollowsAs, HasLeaves, IsContent, IsMade, IsOf, IsRun, IsSource, Shows, book_at, contents_at, linked_at, linked_told, read_by_marks, state_next, views_of}
 use Rattle.smk_session.specs.declared.brush.evaluating.Fetched.{Fetched}
 use Rattle.smk_session.specs.declared.brush.evaluating.Source.{Source}
 use Rattle.smk_session.specs.declared.brush.evaluating.Source.TheVariants as sources
@@ -67,16 +66,13 @@ source_made refresh w (sources.Marks view reached) made is of = shown_made refre
 
 -- several views, one after the other
 
-abbrev now_at : Refresh → ℕ → Asked Linked
-now_at refresh w = linked_now (book_at refresh) (state_next refresh) refresh.table w
-
 abbrev followed_with : List Linked → List Content → Followed
 followed_with linked contents = record { linked = linked; contents = contents }
 
 one_more : (refresh : Refresh) (done : List ℕ) (w : ℕ) (linked : List Linked) (contents : List Content) (one : Linked × Content) → AreFollowed refresh done (followed_with linked contents) → Follows refresh w one
     → AreFollowed refresh (done ++ w ∷ []) (followed_with (linked ++ one.0 ∷ []) (contents ++ one.1 ∷ []))
 one_more refresh done w linked contents one are is = record {
-  linked = ap all_or_first (map-append (now_at refresh) done (w ∷ [])) ∙ then_value (map (now_at refresh) done) (now_at refresh w) linked one.0 are.linked is.linked;
+  linked = ap all_or_first (map-append (linked_told refresh) done (w ∷ [])) ∙ then_value (map (linked_told refresh) done) (linked_told refresh w) linked one.0 are.linked is.linked;
   contents = ap (λ l. l ++ one.1 ∷ []) are.contents ∙ ap (λ c. contents_at refresh done ++ c ∷ []) is.content ∙ sym (map-append (content_at (book_at refresh) (state_next refresh)) done (w ∷ []));
 }
 
@@ -98,8 +94,8 @@ refused_among refresh done rest linked contents (f ∷ all) e are (inl (Ok one, 
     subst (λ (l : List ℕ). Turns e (linked_at refresh l)) (append_assoc done (f.view ∷ []) (views_of all ++ rest))
     (refused_among refresh (done ++ f.view ∷ []) rest (linked ++ one.0 ∷ []) (contents ++ one.1 ∷ []) all e (one_more refresh done f.view linked contents one are follows) (inl first))
 refused_among refresh done rest linked contents (f ∷ all) e are (inl (Err fault, turns, same)) = λ refusal is.
-    ap all_or_first (map-append (now_at refresh) done (f.view ∷ (views_of all ++ rest)))
-    ∙ then_fault (map (now_at refresh) done) (now_at refresh f.view) (map (now_at refresh) (views_of all ++ rest)) linked refusal are.linked (turns refusal (same ∙ is))
+    ap all_or_first (map-append (linked_told refresh) done (f.view ∷ (views_of all ++ rest)))
+    ∙ then_fault (map (linked_told refresh) done) (linked_told refresh f.view) (map (linked_told refresh) (views_of all ++ rest)) linked refusal are.linked (turns refusal (same ∙ is))
 refused_among refresh done rest linked contents all e are (inr none) = λ refusal is. absurd (cc (sym none ∙ is))
 
 -- those that wait, once those that are due are made

@@ -5,7 +5,6 @@ use Rattle.std.proofs.lemmas.List.{get_or_default}
 use Rattle.std.proofs.lemmas.List.Kept.{AllPairs-filter}
 use Rattle.smk_base.specs.Places.{IsPlaces, upto, places, has}
 use Rattle.smk_base.specs.Picks.{IsAscending}
-use Rattle.smk_rid.proofs.Rising.{rising_is}
 use Rattle.smk_model.proofs.QueryAnswers.{answers_are_places}
 use Rattle.smk_rid.proofs.Sets.{upto_rises}
 

@@ -18,7 +18,8 @@ use Rattle.smk_model.specs.Session.{State, concerns, leaves_now, picks_for, rows
 use Rattle.smk_base.proofs.Places.{filter_filter, places_below, same_below}
 use Rattle.smk_model.proofs.Replies.{whole_sub}
 use Rattle.smk_model.proofs.Selections.{filter-true}
-use Rattle.smk_session.specs.Answers.{AreOn, brushed_of, narrowed_by, pick_for, picks_brushed, rids_or_all}
+use Rattle.smk_session.specs.Answers.{AreOn, chosen_by, counts, narrowed_by, pick_for, picks_brushed, rids_or_all}
+use Rattle.smk_session.specs.Behind.{RidsFit}
 use Rattle.smk_session.proofs.InForce.{put_last}
 use Rattle.smk_session.proofs.KeptOf.{find_mapped, found, past}
 use Rattle.smk_session.proofs.Rids.{filter_ascends, places_ascend}
@@ -27,11 +28,8 @@ use Rattle.smk_model.proofs.Keyed.{none_pass}
 
 -- the rids of all brushes that pass a test
 
-abbrev in_all : (BrushOn → Bool) → List BrushOn → ℕ → Bool
+abbrev pub in_all : (BrushOn → Bool) → List BrushOn → ℕ → Bool
 in_all test brushes rid = list_all (λ (brush : BrushOn). has brush.rids rid) (filter test brushes)
-
-abbrev pub chosen_by : (BrushOn → Bool) → List BrushOn → ℕ → Option (List ℕ)
-chosen_by test brushes n = cond (list_any test brushes) (Some (places (in_all test brushes) n)) None
 
 all_of_more : (test : BrushOn → Bool) (brushes : List BrushOn) (brush : BrushOn) (rid : ℕ) → in_all test (brushes ++ brush ∷ []) rid ≡ (in_all test brushes rid && cond (test brush) (has brush.rids rid) true)
 all_of_more test [] brush rid = elim (cases_Bool (test brush)) [
@@ -102,21 +100,29 @@ first_of : (a b : Bool) → (a && b) ≡ true → a ≡ true
 first_of true b h = refl
 first_of false b h = h
 
--- a brush that concerns a view on a table is on rids of it
-pub on_table : (catalog : CatalogImage) (w t i n : ℕ) (brushes : List BrushOn) (brush : BrushOn) → i < length brushes → brush ≡ get_or brushes i brush → AreOn t n brushes → concerns catalog w t brush ≡ true → IsPlaces n brush.rids
-on_table catalog w t i n brushes brush low is are on =
+-- a brush that counts on a table is on rids of it
+on_it : (catalog : CatalogImage) (view : Option ℕ) (t : ℕ) (brush : BrushOn) → counts catalog view t brush ≡ true → nat_eq brush.table t ≡ true
+on_it catalog (Some w) t brush on = first_of (nat_eq brush.table t) _ on
+on_it catalog None t brush on = on
+
+pub on_table : (catalog : CatalogImage) (view : Option ℕ) (t i n : ℕ) (brushes : List BrushOn) (brush : BrushOn) → i < length brushes → brush ≡ get_or brushes i brush → AreOn t n brushes → counts catalog view t brush ≡ true → IsPlaces n brush.rids
+on_table catalog view t i n brushes brush low is are on =
     let here : brush.table ≡ t → IsPlaces n brush.rids = subst (λ (b : BrushOn). b.table ≡ t → IsPlaces n b.rids) (sym is) (are i brush low) in
-    here (eqb-true brush.table t (first_of (nat_eq brush.table t) _ on))
+    here (eqb-true brush.table t (on_it catalog view t brush on))
 
 -- the rows selected: those chosen, or all
 
-pub chosen_or_all : (catalog : CatalogImage) (state : State) (w t : ℕ) → rids_or_all (brushed_of catalog state.brushes w t (length (rows_of_table state t))) (length (rows_of_table state t)) ≡ selected_for catalog state w t
-chosen_or_all catalog state w t =
-    let n : ℕ = length (rows_of_table state t) in
-    elim (cases_Bool (list_any (concerns catalog w t) state.brushes)) [
-      | inl h ↦ rw h refl
-      | inr h ↦ rw h (sym (filter-true (upto n)) ∙ ap (λ (l : List BrushOn). places (λ rid. list_all (λ (b : BrushOn). has b.rids rid) l) n) (sym (none_pass (concerns catalog w t) state.brushes h)))
-    ]
+pub chosen_or_all : (test : BrushOn → Bool) (brushes : List BrushOn) (n : ℕ) → rids_or_all (chosen_by test brushes n) n ≡ places (in_all test brushes) n
+chosen_or_all test brushes n = elim (cases_Bool (list_any test brushes)) [
+  | inl h ↦ rw h refl
+  | inr h ↦ rw h (sym (filter-true (upto n)) ∙ ap (λ (l : List BrushOn). places (λ rid. list_all (λ (b : BrushOn). has b.rids rid) l) n) (sym (none_pass test brushes h)))
+]
+
+pub chosen_fit : (test : BrushOn → Bool) (brushes : List BrushOn) (n : ℕ) → IfSome (chosen_by test brushes n) (RidsFit n)
+chosen_fit test brushes n = elim (cases_Bool (list_any test brushes)) [
+  | inl h ↦ rw h (record { ascending = places_ascend (in_all test brushes) n; inside = places_below (in_all test brushes) n })
+  | inr h ↦ rw h tt
+]
 
 -- the picks
 

@@ -15,7 +15,7 @@ use Rattle.smk_model.specs.Lineage.{sub}
 use Rattle.smk_model.specs.Looks.{looks_of_rows}
 use Rattle.smk_model.specs.Names.{◌>>=◌}
 use Rattle.smk_model.specs.Replies.{Asked, is_refused, unless_outside, marked}
-use Rattle.smk_model.specs.Session.{State, concerns, selected_for, under}
+use Rattle.smk_model.specs.Session.{State, concerns, rows_of_table, selected_for, under}
 use Rattle.smk_compose.specs.declared.kept_maps.KeptMap.{KeptMap}
 use Rattle.smk_session.specs.Opened.{AreExtras, AreOpened, state_over}
 use Rattle.smk_session.specs.Kept.{kept_back, kept_fwd}
@@ -48,9 +48,6 @@ abbrev pub rows_told : Relation → List ℕ → Reply
 rows_told table rids = replies.Back rids (record { kinds = table.kinds; rows = sub table.rows rids })
 
 -- the answers by what is kept
-abbrev pub back_by : List KeptMap → ℕ → Relation → Marks → Asked Reply
-back_by kept t table marks = kept_back kept t >>= λ map. members_asked map marks >>= λ rids. Ok (rows_told table rids)
-
 abbrev pub fwd_by : List KeptMap → ℕ → Marks → Asked Reply
 fwd_by kept t rows = kept_fwd kept t >>= λ map. members_asked map rows >>= λ marks. Ok (replies.Fwd marks)
 
@@ -106,12 +103,22 @@ Changes held reply change = ChangesOver held.catalog.now held.tables.now held.co
 abbrev pub AreOn : ℕ → ℕ → List BrushOn → Type 0
 AreOn t n brushes = All (λ brush. brush.table ≡ t → IsPlaces n brush.rids) brushes
 
--- the rids among n that all brushes have which concern a view on a table, where there is one
+-- the rids among n that all brushes have which pass a test, where there is one
+abbrev pub chosen_by : (BrushOn → Bool) → List BrushOn → ℕ → Option (List ℕ)
+chosen_by test brushes n = cond (list_any test brushes) (Some (places (λ rid. list_all (λ brush. has brush.rids rid) (filter test brushes)) n)) None
+
+-- whether a brush counts on a table: for a view those that concern it, and for none all
+abbrev pub counts : CatalogImage → Option ℕ → ℕ → BrushOn → Bool
+counts catalog (Some w) t brush = concerns catalog w t brush
+counts catalog None t brush = nat_eq brush.table t
+
+-- the rids of a table that the brushes select which count
+abbrev pub selected_by : CatalogImage → State → Option ℕ → ℕ → List ℕ
+selected_by catalog state view t = places (λ rid. list_all (λ brush. has brush.rids rid) (filter (counts catalog view t) state.brushes)) (length (rows_of_table state t))
+
+-- the rids among n that brushes select for a view on a table, where one concerns it
 abbrev pub brushed_of : CatalogImage → List BrushOn → ℕ → ℕ → ℕ → Option (List ℕ)
-brushed_of catalog brushes w t n =
-    cond (list_any (concerns catalog w t) brushes)
-    (Some (places (λ rid. list_all (λ brush. has brush.rids rid) (filter (concerns catalog w t) brushes)) n))
-    None
+brushed_of catalog brushes w t n = chosen_by (concerns catalog w t) brushes n
 
 -- the same brushes concern two views on a table
 abbrev pub AreAlike : CatalogImage → List BrushOn → ℕ → ℕ → ℕ → Type 0

@@ -9,17 +9,20 @@ use Rattle.smk_base.specs.declared.reply.Reply.TheVariants as replies
 use Rattle.smk_base.specs.declared.reply.Refusal.TheVariants.{ManyMarks, NoGroup, NoSplit, ValueKind}
 use Rattle.smk_base.specs.declared.book.tree.Marks.{Marks}
 use Rattle.smk_base.specs.declared.book.tree.Marks.TheVariants as markings
+use Rattle.smk_base.specs.declared.book.tree.Then.{Then}
+use Rattle.smk_base.specs.declared.book.tree.Then.TheVariants as thens
 use Rattle.smk_base.specs.declared.value.Value.{Value}
 use Rattle.smk_model.specs.Names.{◌>>=◌}
-use Rattle.smk_model.specs.Replies.{Asked, column_place, is_of_column, marked, provided, unless_outside}
+use Rattle.smk_model.specs.Replies.{Asked, column_place, is_of_column, known_pair, marked, provided, unless_outside}
 use Rattle.smk_compose.specs.declared.kept_maps.Run.{Run}
 use Rattle.smk_push.specs.Cubes.{cube_at}
 use Rattle.smk_skip.specs.Splits.{SplitImage, members_with}
 use Rattle.smk_session.specs.Kept.{kept_back}
-use Rattle.smk_session.specs.Answers.{rows_told, within_asked}
+use Rattle.smk_session.specs.Answers.{book_of, members_asked, rows_told, within_asked}
 use Rattle.smk_session.specs.Extras.{split_place, cubes_place}
 use Rattle.smk_session.specs.Opened.{AreExtras, AreOpened}
 use Rattle.smk_session.specs.declared.answer.backward.Pair.{Pair}
+use Rattle.smk_session.specs.declared.lent.Lent.{Lent}
 
 -- what a session holds of a view and a table
 pub record IsPairOf (tables : List Relation) (views : List Run) (pair : Pair) : Type 0 where
@@ -29,6 +32,12 @@ pub record IsPairOf (tables : List Relation) (views : List Run) (pair : Pair) : 
   pub table : pair.table < length pair.catalog.now.tables
   pub run_is : pair.run.now ≡ slice_index_or views pair.view pair.run.now
   pub rows_are : pair.rows.now ≡ slice_index_or tables pair.table pair.rows.now
+
+-- it is that of the view and the table of these names
+pub record IsPairNamed (held : Lent) (view table : List ℕ) (pair : Pair) : Type 0 where
+  pub named : known_pair (book_of held) view table ≡ Ok (pair.view, pair.table)
+  pub catalog : pair.catalog.now ≡ held.catalog.now
+  pub fits : IsPairOf held.tables.now held.views.now pair
 
 -- a column with the split that is kept by it: the splits stand in the order of their declarations
 abbrev pub split_kept : Pair → ℕ → Option (ℕ × SplitImage)
@@ -55,13 +64,16 @@ one_asked (markings.Listed (mark ∷ more)) = provided (list_all (nat_eq mark) m
 one_asked _ = Err ManyMarks
 
 -- the answers by what is kept
-abbrev pub matching_by : Pair → Marks → List ℕ → Value → Asked Reply
-matching_by pair marks name value =
+abbrev pub rids_by : Pair → Marks → Then → Asked (List ℕ)
+rids_by pair marks (thens.Matching name value) =
     kept_back pair.run.now.kept pair.table >>= λ map.
     split_asked pair name >>= λ found.
     sort_asked (catalog_image pair.catalog.now) pair.table found.0 value >>= λ same.
-    with_value_asked found.1 marks value >>= λ rids.
-    Ok (rows_told pair.rows.now rids)
+    with_value_asked found.1 marks value
+rids_by pair marks _ = kept_back pair.run.now.kept pair.table >>= λ map. members_asked map marks
+
+abbrev pub rows_by : Pair → Marks → Then → Asked Reply
+rows_by pair marks then = rids_by pair marks then >>= λ rids. Ok (rows_told pair.rows.now rids)
 
 abbrev pub grouped_by : Pair → Marks → Asked Reply
 grouped_by pair marks =

@@ -10,3 +10,5 @@ pub mod Kept
 pub mod Extras
 pub mod Making
 pub mod Openings
+pub mod Told
+pub mod Behind

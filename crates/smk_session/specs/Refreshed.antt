@@ -1,5 +1,5 @@
 -- What the calls say that make views anew under other brushes.
-use Rattle.std.specs.Prelude.{◌≡◌, ◌<◌, ◌^◌, ℕ, Bool, ◌&&◌, nat_eq, List, Option, Result, Ok, MatchResult, true, Some, None, All, IfSome, length, map}
+use Rattle.std.specs.Prelude.{◌≡◌, ◌<◌, ◌^◌, ℕ, Bool, ◌&&◌, nat_eq, cond, List, [], Option, Result, Ok, MatchResult, true, Some, None, All, IfSome, length, map}
 use Rattle.smk_base.specs.CatalogImage.{CatalogImage}
 use Rattle.smk_base.specs.PlanImage.{expr_of}
 use Rattle.smk_base.specs.Plans.{Expr}
@@ -8,9 +8,9 @@ use Rattle.smk_base.specs.declared.reply.Linked.{Linked}
 use Rattle.smk_model.specs.Composed.{forwards}
 use Rattle.smk_model.specs.LineageLaws.{selected_table}
 use Rattle.smk_model.specs.Plain.{eval, width}
-use Rattle.smk_model.specs.Replies.{Asked, content_of, linked_now, marks_fwd}
+use Rattle.smk_model.specs.Replies.{Asked, content_of, marks_fwd, unless_full}
 use Rattle.smk_model.specs.Selection.{PlanFits, each_kinds, each_rows, first_full, nodes, plan_kinds, rows_in}
-use Rattle.smk_model.specs.Session.{State, leaves_now, selected_for, view_at}
+use Rattle.smk_model.specs.Session.{State, leaves_now, linked, selected_for, view_at}
 use Rattle.smk_model.specs.Tables.{all_or_first}
 use Rattle.smk_model.specs.Workload.{declares_fwd}
 use Rattle.smk_compose.specs.declared.fault.EvalFault.{EvalFault}
@@ -60,6 +60,16 @@ AreChoices refresh choices = All (IsChoice (book_at refresh) refresh.brushes.now
 abbrev pub marks_next : Refresh → ℕ → List ℕ
 marks_next refresh w = marks_fwd (book_at refresh) (state_next refresh) w refresh.table (selected_for (book_at refresh) (state_next refresh) w refresh.table)
 
+-- its marks where they are wanted, and else none
+abbrev pub marks_told : Refresh → ℕ → List ℕ
+marks_told refresh w = cond refresh.marked (marks_next refresh w) []
+
+-- a linked view with these marks
+abbrev pub linked_told : Refresh → ℕ → Asked Linked
+linked_told refresh w =
+    unless_full (first_full (view_at (book_at refresh) w).plan (leaves_now (book_at refresh) (state_next refresh) w))
+    (record { view = w; marks = marks_told refresh w; rel = content_of (book_at refresh) (state_next refresh) w })
+
 -- these views are there, and their forward query is declared
 pub record IsNamed (refresh : Refresh) (w : ℕ) : Type 0 where
   pub view : w < length refresh.held.now.catalog.now.views
@@ -70,7 +80,11 @@ Names refresh views = All (IsNamed refresh) views
 
 -- these views, or the first refusal among them, and what is kept of them
 abbrev pub linked_at : Refresh → List ℕ → Asked (List Linked)
-linked_at refresh views = all_or_first (map (linked_now (book_at refresh) (state_next refresh) refresh.table) views)
+linked_at refresh views = all_or_first (map (linked_told refresh) views)
+
+-- all the views that the links of a view on the table name
+abbrev pub all_told : Refresh → ℕ → Asked (List Linked)
+all_told refresh v = linked_at refresh (linked (book_at refresh) v refresh.table)
 
 abbrev pub contents_at : Refresh → List ℕ → List Content
 contents_at refresh views = map (content_at (book_at refresh) (state_next refresh)) views
@@ -85,11 +99,11 @@ IsContent refresh w made = MatchResult made (Shows refresh w) (λ e. (node : ℕ
 
 -- a view made anew, with what is kept of it, or the refusal of its first node that has too many rows
 pub record Follows (refresh : Refresh) (w : ℕ) (made : Linked × Content) : Type 0 where
-  pub linked : linked_now (book_at refresh) (state_next refresh) refresh.table w ≡ Ok made.0
+  pub linked : linked_told refresh w ≡ Ok made.0
   pub content : made.1 ≡ content_at (book_at refresh) (state_next refresh) w
 
 abbrev pub FollowsAs : Refresh → ℕ → Result (Linked × Content) Turned → Type 0
-FollowsAs refresh w made = MatchResult made (Follows refresh w) (λ turned. Turns turned (linked_now (book_at refresh) (state_next refresh) refresh.table w))
+FollowsAs refresh w made = MatchResult made (Follows refresh w) (λ turned. Turns turned (linked_told refresh w))
 
 -- these views are made anew
 pub record AreFollowed (refresh : Refresh) (views : List ℕ) (followed : Followed) : Type 0 where
@@ -155,7 +169,7 @@ IsSource refresh w (sources.Marks view reached) = Shows refresh w (read_by_marks
 pub record IsFetched (refresh : Refresh) (fetched : Fetched) : Type 0 where
   pub source : IsSource refresh fetched.view fetched.source
   pub ready : IsReady fetched.source
-  pub marks : fetched.marks ≡ marks_next refresh fetched.view
+  pub marks : fetched.marks ≡ marks_told refresh fetched.view
 
 -- the views for which all is fetched
 abbrev pub views_of : List Fetched → List ℕ

@@ -1,5 +1,5 @@
 // Lines that change which brushes are in force.
-ghost use Rattle.std.specs.Prelude.{◌≡◌, ◌<◌, ◌≤◌, ◌+◌, Ok, [], true, length, IfOk, IfErr, IfSome, MatchResult};
+ghost use Rattle.std.specs.Prelude.{◌≡◌, ◌<◌, ◌≤◌, ◌+◌, Ok, [], true, cond, length, IfOk, IfErr, IfSome, MatchResult};
 ghost use Rattle.std.specs.List.{list_any};
 ghost use Rattle.smk_base.specs.CatalogImage.{catalog_image};
 ghost use Rattle.smk_base.specs.Places.{IsPlaces};
@@ -10,11 +10,12 @@ ghost use Rattle.smk_base.specs.declared.reply.Reply.TheVariants as shapes;
 ghost use Rattle.smk_model.specs.Replies as replies;
 ghost use Rattle.smk_model.specs.Session as sessions;
 ghost use Rattle.smk_model.specs.Workload as workload;
+ghost use Rattle.smk_session.specs.Told.{Tells};
 ghost use Rattle.smk_session.specs.Answers.{Gives, Turns, IsLent, Changes, book_of, state_lent, next_of};
 ghost use Rattle.smk_session.specs.Sessions.{BrushFits};
 ghost use Rattle.smk_session.specs.declared.answer.no_answer.Turned.TheVariants as turns;
 
-mod choices;
+pub(crate) mod choices;
 mod evaluating;
 mod following;
 mod in_force;
@@ -98,29 +99,53 @@ fn brush_of(
     Ok(BrushOn { view, table, rids })
 }
 
-// A brush: it comes into force, in place of that of its view and table.
+// How many rids a brush has.
+fn count_of(held: &Lent<'_>, brush: &BrushOn) -> u32
+    requires held { IsLent held.now }
+    requires fits { BrushFits held.now.catalog.now held.now.tables.now brush.now }
+    ensures { result ≡ length brush.now.rids }
+{
+    let _rows = held.tables[brush.table as usize].len();
+    brush.rids.as_slice().len() as u32
+}
+
+// Its rids where they are wanted, and else none.
+fn rids_told(alloc: Global, brush: &BrushOn, listed: bool) -> Result<Rids, AllocError>
+    ensures { IfOk result (λ rids. rids ≡ cond listed brush.now.rids []) }
+{
+    if listed {
+        brush.rids.copy(alloc)
+    } else {
+        Ok(Rids::new(alloc))
+    }
+}
+
+// A brush: it comes into force, in place of that of its view and table. Its reply has the lists of rids and of marks where they are wanted.
 pub(crate) fn brush<R: Threads + Sync, G: Gate + Sync, L: Ledger>(
     work: &Work<'_, R, Workers<'_, G>>,
     held: &Lent<'_>,
     view: &Text,
     marks: &Marks,
     table: &Text,
+    listed: bool,
     steps: &mut Steps<L>,
 ) -> Result<Turn, Turned>
     requires { IsLent held.now }
-    ensures told { IfOk result (λ turn. replies.named_brush (book_of held.now) (state_lent held.now) view.now marks.now table.now ≡ Ok (turn.reply, next_of (state_lent held.now) turn.change)) }
+    ensures told { IfOk result (λ turn. Tells listed turn (next_of (state_lent held.now) turn.change) (replies.named_brush (book_of held.now) (state_lent held.now) view.now marks.now table.now)) }
     ensures turned { IfErr result (λ turned. Turns turned (replies.named_brush (book_of held.now) (state_lent held.now) view.now marks.now table.now)) }
     ensures changes { IfOk result (λ turn. IfSome turn.change (Changes held.now turn.reply)) }
     ensures looks { steps.new ≤ steps.old + looks_of_brush (book_of held.now) (state_lent held.now) (replies.brush_of (book_of held.now) (state_lent held.now) view.now marks.now table.now) }
 {
     let brush = brush_of(work.alloc, held, view, marks, table)?;
-    let rids = brush.rids.copy(work.alloc)?;
+    let count = count_of(held, &brush);
+    let rids = rids_told(work.alloc, &brush, listed)?;
     let (v, t) = (brush.view, brush.table);
     let brushes = with_brush(work.alloc, held.brushes, brush)?;
     let refresh = Refresh {
         held,
         brushes: brushes.as_slice(),
         table: t,
+        marked: listed,
     };
     let followed = follow(work, &refresh, v, steps)?;
     Ok(Turn {
@@ -128,6 +153,7 @@ pub(crate) fn brush<R: Threads + Sync, G: Gate + Sync, L: Ledger>(
             rids,
             linked: followed.linked,
         },
+        count,
         change: Some(Change {
             brushes,
             contents: followed.contents,
@@ -141,10 +167,11 @@ pub(crate) fn clear_one<R: Threads + Sync, G: Gate + Sync, L: Ledger>(
     held: &Lent<'_>,
     view: &Text,
     table: &Text,
+    listed: bool,
     steps: &mut Steps<L>,
 ) -> Result<Turn, Turned>
     requires { IsLent held.now }
-    ensures told { IfOk result (λ turn. replies.named_clear (book_of held.now) (state_lent held.now) view.now table.now ≡ Ok (turn.reply, next_of (state_lent held.now) turn.change)) }
+    ensures told { IfOk result (λ turn. Tells listed turn (next_of (state_lent held.now) turn.change) (replies.named_clear (book_of held.now) (state_lent held.now) view.now table.now)) }
     ensures turned { IfErr result (λ turned. Turns turned (replies.named_clear (book_of held.now) (state_lent held.now) view.now table.now)) }
     ensures changes { IfOk result (λ turn. IfSome turn.change (Changes held.now turn.reply)) }
     ensures looks { steps.new ≤ steps.old + looks_of_clear (book_of held.now) (state_lent held.now) (replies.linked_pair (book_of held.now) view.now table.now) }
@@ -155,12 +182,14 @@ pub(crate) fn clear_one<R: Threads + Sync, G: Gate + Sync, L: Ledger>(
         held,
         brushes: brushes.as_slice(),
         table: t,
+        marked: listed,
     };
     let followed = follow(work, &refresh, v, steps)?;
     Ok(Turn {
         reply: Reply::ClearedOne {
             linked: followed.linked,
         },
+        count: 0,
         change: Some(Change {
             brushes,
             contents: followed.contents,
@@ -172,6 +201,7 @@ pub(crate) fn clear_one<R: Threads + Sync, G: Gate + Sync, L: Ledger>(
 pub(crate) fn clear(alloc: Global, held: &Lent<'_>) -> Result<Turn, AllocError>
     requires { IsLent held.now }
     ensures told { IfOk result (λ turn. (turn.reply ≡ shapes.Cleared) × (next_of (state_lent held.now) turn.change ≡ sessions.under (state_lent held.now) [])) }
+    ensures count { IfOk result (λ turn. turn.count ≡ 0) }
     ensures changes { IfOk result (λ turn. IfSome turn.change (Changes held.now turn.reply)) }
 {
     let mut contents = Contents::new(alloc);
@@ -181,6 +211,7 @@ pub(crate) fn clear(alloc: Global, held: &Lent<'_>) -> Result<Turn, AllocError>
     let brushes = Brushes::new(alloc);
     Ok(Turn {
         reply: Reply::Cleared,
+        count: 0,
         change: Some(Change { brushes, contents }),
     })
 }

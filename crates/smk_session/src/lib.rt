@@ -11,6 +11,8 @@ mod start;
 mod turn;
 
 pub use answer::has_refused;
+pub use answer::no_answer::Turned;
+pub use answer::rows_behind::RowsBehind;
 pub use laws::nothing_kept;
 pub use parts::Parts;
 pub use session::Session;

@@ -1,4 +1,4 @@
-ghost use Rattle.std.specs.Prelude.{◌≡◌, ◌≤◌, ◌<◌, ◌+◌, [], true, length, map, slice_index_or, None, IfOk, IfErr, OnOk, OnErr};
+ghost use Rattle.std.specs.Prelude.{◌≡◌, ◌≤◌, ◌<◌, ◌+◌, [], true, false, length, map, slice_index_or, None, IfOk, IfErr, IfSome, OnOk, OnErr};
 ghost use Rattle.smk_base.specs.CatalogImage.{catalog_image};
 ghost use Rattle.smk_base.specs.Places.{upto};
 ghost use Rattle.smk_base.specs.declared.workers.TheConstants.{WORKER_LIMIT};
@@ -7,14 +7,24 @@ ghost use Rattle.smk_model.specs.Looks.{start_looks, line_looks};
 ghost use Rattle.smk_model.specs.Opening.{first_view_fault};
 ghost use Rattle.smk_model.specs.Replies as replies;
 ghost use Rattle.smk_model.specs.Selection.{each_kinds};
+ghost use Rattle.smk_base.specs.declared.book.tree.Line.TheVariants as lines;
+ghost use Rattle.smk_model.specs.OwnAnswers.{selected_on};
+ghost use Rattle.smk_model.specs.ReplyTexts.{AsksRows};
+ghost use Rattle.smk_model.specs.Session as sessions;
+ghost use Rattle.smk_model.specs.Session.{rows_of_table};
+ghost use Rattle.smk_session.specs.Answers.{IsLent, book_of, rids_or_all, state_lent};
+ghost use Rattle.smk_session.specs.Behind.{BehindFits, FindsBehind, RidsFit};
+ghost use Rattle.smk_session.specs.Told.{IsTold};
 ghost use Rattle.smk_session.specs.Parts.{parts_image};
 ghost use Rattle.smk_session.specs.Extras.{all_cubes, splits_of};
 ghost use Rattle.smk_session.specs.Opened.{IsStartFault, opened, opened_views, workbook_image};
 ghost use Rattle.smk_session.specs.Sessions.{IsSession, contents_kept, state_of, workbook_of};
 ghost use Rattle.smk_session.specs.Turns.{IsTurnOf, state_turned};
 
-use crate::answer::answer_to;
 use crate::answer::no_answer::Turned;
+use crate::answer::rows_behind::RowsBehind;
+use crate::answer::{Query, answer_to, rids_behind};
+use crate::brush::choices::selected;
 use crate::lent::Lent;
 use crate::parts::Parts;
 use crate::start::begin;
@@ -22,8 +32,8 @@ use crate::start::fault::StartFault;
 use crate::start::mode::Mode;
 use crate::start::workers::Workers;
 use crate::turn::{Brushes, Turn, place};
-use smk_base::{Catalog, Line, Rel, Reply};
-use smk_compose::Run;
+use smk_base::{Catalog, Line, Marks, Rel, Reply, Rids, Text, Then};
+use smk_compose::{Run, fetch_rids};
 use smk_jobs::Work;
 use smk_outside::{Gate, Steps};
 use smk_push::Cubes;
@@ -199,6 +209,94 @@ impl Session {
         }
     }
 
+    // What a line reads of it.
+    fn lent(&self) -> Lent<'_>
+        ensures held { IsLent result }
+        ensures catalog { book_of result ≡ catalog_image self.now.catalog }
+        ensures state { state_lent result ≡ state_of self.now }
+        ensures tables { result.tables.now ≡ self.now.tables }
+        ensures contents { result.contents.now ≡ self.now.contents }
+    {
+        Lent {
+            catalog: self.book.catalog(),
+            tables: self.tables.as_slice(),
+            views: self.views.as_slice(),
+            splits: self.splits.as_slice(),
+            cubes: self.cubes.as_slice(),
+            brushes: self.brushes.as_slice(),
+            contents: self.contents.as_slice(),
+        }
+    }
+
+    /// The number of rows of the table with this number. It takes no memory and makes no look.
+    pub fn table_len(&self, table: u32) -> u32
+        requires { table < length self.now.catalog.tables }
+        ensures { result ≡ length (rows_of_table (state_of self.now) table) }
+    {
+        self.tables[table as usize].len()
+    }
+
+    /// The rids of the rows that a `back` line asks for, all that its marks came from or those with a value, with its view and its table; or its refusal. It makes no look.
+    pub fn rows_behind(
+        &self,
+        alloc: Global,
+        view: &Text,
+        marks: &Marks,
+        table: &Text,
+        then: &Then,
+    ) -> Result<RowsBehind, Turned>
+        requires { AsksRows then.now }
+        ensures found { FindsBehind (catalog_image self.now.catalog) (state_of self.now) (lines.Back view.now marks.now table.now then.now) result }
+        ensures fits { IfOk result (BehindFits self.now.catalog self.now.tables) }
+    {
+        let asked = Query {
+            view,
+            marks,
+            table,
+            then,
+        };
+        rids_behind(alloc, &self.lent(), &asked)
+    }
+
+    /// The rids of a table that are selected now for a view, ascending: those that every brush has which concerns it. There are none where no brush does, which selects all. It makes no look.
+    pub fn selected_for(
+        &self,
+        alloc: Global,
+        view: u32,
+        table: u32,
+    ) -> Result<Option<Rids>, AllocError>
+        requires { table < length self.now.catalog.tables }
+        ensures selected { IfOk result (λ rids. rids_or_all rids (length (rows_of_table (state_of self.now) table)) ≡ sessions.selected_for (catalog_image self.now.catalog) (state_of self.now) view table) }
+        ensures fit { IfOk result (λ rids. IfSome rids (RidsFit (length (rows_of_table (state_of self.now) table)))) }
+    {
+        selected(alloc, &self.lent(), Some(view), table)
+    }
+
+    /// The rids of a table that every brush on it has, ascending. There are none where no brush is on it, which selects all. It makes no look.
+    pub fn selected_on(&self, alloc: Global, table: u32) -> Result<Option<Rids>, AllocError>
+        requires { table < length self.now.catalog.tables }
+        ensures selected { IfOk result (λ rids. rids_or_all rids (length (rows_of_table (state_of self.now) table)) ≡ selected_on (state_of self.now) table) }
+        ensures fit { IfOk result (λ rids. IfSome rids (RidsFit (length (rows_of_table (state_of self.now) table)))) }
+    {
+        selected(alloc, &self.lent(), None, table)
+    }
+
+    /// The rows of a table at these rids, one look each.
+    pub fn rows_at<L: Ledger>(
+        &self,
+        alloc: Global,
+        table: u32,
+        rids: &[u32],
+        steps: &mut Steps<L>,
+    ) -> Result<Rel, AllocError>
+        requires table { table < length self.now.catalog.tables }
+        requires rids { RidsFit (length (rows_of_table (state_of self.now) table)) rids.now }
+        ensures rows { IfOk result (λ rel. rel ≡ replies.rows_at_rids (catalog_image self.now.catalog) (state_of self.now) table rids.now) }
+        ensures looks { steps.new ≤ steps.old + length rids.now }
+    {
+        fetch_rids(alloc, &self.tables[table as usize], rids, steps)
+    }
+
     /// What a line is answered, and what it changes, which is nothing where it is refused. The session stays as it is. Rows of a table that are answered are one look each, those without the value that is asked for and those of a grouping none, and so are the rows that are selected for the views that follow a brush. With several workers two views or more that follow are made anew at the same time, once the rows of all are selected: the i-th of them, from 0, passes the gate with i; one alone is made in pieces, as by `start`.
     pub fn turn<R: Threads + Sync, G: Gate + Sync, L: Ledger>(
         &self,
@@ -212,25 +310,53 @@ impl Session {
         ensures fits { IfOk result (IsTurnOf self.now) }
         ensures looks { steps.new ≤ steps.old + line_looks (catalog_image self.now.catalog) (state_of self.now) line.now }
     {
-        let held = Lent {
-            catalog: self.book.catalog(),
-            tables: self.tables.as_slice(),
-            views: self.views.as_slice(),
-            splits: self.splits.as_slice(),
-            cubes: self.cubes.as_slice(),
-            brushes: self.brushes.as_slice(),
-            contents: self.contents.as_slice(),
-        };
+        self.turn_told(rt, alloc, line, true, gate, steps)
+    }
+
+    /// The same as `turn`, but that the reply to a brush has no rids, and that to a brush or to the end of one no marks of the linked views. None of these lists is made for the reply.
+    pub fn turn_briefly<R: Threads + Sync, G: Gate + Sync, L: Ledger>(
+        &self,
+        rt: &R,
+        alloc: Global,
+        line: &Line,
+        gate: &G,
+        steps: &mut Steps<L>,
+    ) -> Result<Turn, AllocError>
+        ensures told { IfOk result (λ turn. IsTold false turn (replies.reply (catalog_image self.now.catalog) (state_of self.now) line.now).0) }
+        ensures next { IfOk result (λ turn. state_turned self.now turn ≡ (replies.reply (catalog_image self.now.catalog) (state_of self.now) line.now).1) }
+        ensures fits { IfOk result (IsTurnOf self.now) }
+        ensures looks { steps.new ≤ steps.old + line_looks (catalog_image self.now.catalog) (state_of self.now) line.now }
+    {
+        self.turn_told(rt, alloc, line, false, gate, steps)
+    }
+
+    // What a line is answered, with the lists of the reply to a brush or without them, and what it changes.
+    fn turn_told<R: Threads + Sync, G: Gate + Sync, L: Ledger>(
+        &self,
+        rt: &R,
+        alloc: Global,
+        line: &Line,
+        listed: bool,
+        gate: &G,
+        steps: &mut Steps<L>,
+    ) -> Result<Turn, AllocError>
+        ensures told { IfOk result (λ turn. IsTold listed turn (replies.reply (catalog_image self.now.catalog) (state_of self.now) line.now).0) }
+        ensures next { IfOk result (λ turn. state_turned self.now turn ≡ (replies.reply (catalog_image self.now.catalog) (state_of self.now) line.now).1) }
+        ensures fits { IfOk result (IsTurnOf self.now) }
+        ensures looks { steps.new ≤ steps.old + line_looks (catalog_image self.now.catalog) (state_of self.now) line.now }
+    {
         let crew = self.crew(gate);
         let work = Work {
             rt,
             alloc,
             crew: &crew,
         };
-        match answer_to(&work, &held, line, steps) {
+        let held = self.lent();
+        match answer_to(&work, &held, line, listed, steps) {
             Ok(turn) => Ok(turn),
             Err(Turned::Refused(refusal)) => Ok(Turn {
                 reply: Reply::Refused(refusal),
+                count: 0,
                 change: None,
             }),
             Err(Turned::Exhausted) => Err(AllocError),
@@ -253,7 +379,7 @@ impl Session {
         ensures mode { self.new.mode ≡ self.old.mode }
         ensures workers { self.new.workers ≡ self.old.workers }
     {
-        let Turn { reply, change } = turn;
+        let Turn { reply, change, .. } = turn;
         match change {
             None => reply,
             Some(change) => {

@@ -3,11 +3,13 @@ ghost use Rattle.smk_session.specs.Answers.{placed};
 
 use smk_base::{BrushOn, ListOf, Rel, Reply};
 
-/// What a line is answered, and what it changes: what takes the place of the brushes and of contents, where the line changes them.
+/// What a line is answered, how many rids the brush selects that it makes, if it makes one, and what it changes: what takes the place of the brushes and of contents, where the line changes them.
 #[derive(Drop)]
 pub struct Turn {
     /// The reply to the line.
     pub reply: Reply,
+    /// The number of the rids of the brush, also where the reply is without them.
+    pub count: u32,
     pub(crate) change: Option<Change>,
 }
 

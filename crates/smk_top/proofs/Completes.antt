@@ -1,10 +1,10 @@
 -- A run has one outcome and a conversation one start, so that where there is no fault no other ending is left but want of memory.
-use Rattle.std.specs.Prelude.{Result, ⊤, length, map}
+use Rattle.std.specs.Prelude.{Result, ⊤, drop, length, map}
 use Rattle.std.specs.Io.KnownBytes as known
-use Rattle.std.specs.List.{concat}
-use Rattle.std.proofs.Common.{◌≡◌, ◌⊎◌, ℕ, List, [], Option, Some, None, Ok, Err, refl, ap, ◌∙◌, subst, inl, inr}
+use Rattle.std.specs.List.{concat, flat_map}
+use Rattle.std.proofs.Common.{◌≡◌, ◌⊎◌, ℕ, List, [], ◌∷◌, ◌++◌, Option, Some, None, Ok, Err, refl, ap, ◌∙◌, subst, inl, inr}
 use Rattle.smk_base.specs.declared.fault.Fault.{Fault}
-use Rattle.smk_model.specs.Conversation.{line_of, talk_said}
+use Rattle.smk_model.specs.Conversation.{line_of, block_of, first_talk_state, opening_text, turn_texts}
 use Rattle.smk_model.specs.Reports.{Report}
 use Rattle.smk_model.specs.Outcome.{Held, Inputs, Outcome, NamesRead, UntoldCause, WhereTold, nothing_held, written_of}
 use Rattle.smk_model.specs.TalkStarts.{StartsTalk, NamesReadFirst}
@@ -24,7 +24,7 @@ use Rattle.smk_top.specs.declared.status.Status.TheVariants.{NoMemory}
 use Rattle.smk_top.specs.Statuses.{status_of_report}
 use Rattle.smk_top.specs.Completeness.{Completeness, WritesWhole, AnswersAll, TalksWhole, TalkCompleteness}
 use Rattle.smk_top.specs.Endings.{Ends, reported, faulted, unwritten, exhausted, fault_unsaid, memory_unsaid}
-use Rattle.smk_top.specs.TalkEndings.{Converses, TalkEnds, IsSilent, turns_of, report_by}
+use Rattle.smk_top.specs.TalkEndings.{Converses, TalkEnds, IsSilent, said_by, turns_of, report_by}
 use Rattle.smk_top.specs.TalkEndings as ends
 
 -- what is so of these texts by what the files hold: one answer, and no fault beside it unless a count rose
@@ -90,13 +90,13 @@ module _ (words : List (List ℕ)) (held : Option Held) (given : Inputs) (alone 
   answered end whole talk heard =
       let over : talk.given ≡ given = alone.same talk.given talk.starts in
       let t = talk.talked.talk in
-      let all = said_whole _ _ _ _ end t.turns t.events whole t.talks ∙ ap concat (talks_as_reported.blocks talk.given.book talk.given.fds t.turns) in
+      let all = said_whole _ _ _ _ end t.turns t.events whole t.talks ∙ ap (λ l. concat (block_of (opening_text talk.call.brief talk.given.book talk.given.fds) ++ l)) (ap (drop 2) (talks_as_reported.blocks talk.given.book talk.given.fds t.turns)) in
       record {
         ending = end;
         talk = talk;
         over = over;
         heard = heard;
-        answered = subst (λ (g : Inputs). known.Appends before.said after.said (concat (talk_said g.book g.fds t.turns))) over (subst (known.Appends before.said after.said) all t.adds.1);
+        answered = subst (λ (g : Inputs). known.Appends before.said after.said (concat (flat_map block_of (opening_text talk.call.brief g.book g.fds ∷ turn_texts (said_by g) (first_talk_state g.book) t.turns)))) over (subst (known.Appends before.said after.said) all t.adds.1);
         ends = refl;
       }
 

@@ -6,7 +6,7 @@ use Rattle.smk_model.specs.NodeFaults.{NodeFault, FullRows, FullPairs}
 use Rattle.smk_base.specs.declared.fault.Fault.{Fault}
 use Rattle.smk_base.specs.declared.fault.Fault.TheVariants.{Usage}
 use Rattle.smk_base.specs.declared.demo.TheConstants.{DEMO_BOOK_NAME}
-use Rattle.smk_model.specs.Conversation.{first_talk_state, opening_block, turns_told, FitsTalk}
+use Rattle.smk_model.specs.Conversation.{first_talk_state, block_of, opening_text, turns_told, FitsTalk}
 use Rattle.smk_model.specs.Demo.{demo_of}
 use Rattle.smk_model.specs.Looks.{start_looks}
 use Rattle.smk_model.specs.Opening.{ViewFault, first_view_fault, fault_named, named_fault}
@@ -26,9 +26,7 @@ use Rattle.smk_base.specs.declared.book.catalog.TableInfo.{TableInfo}
 use Rattle.smk_model.specs.Readings.{Reading}
 use Rattle.smk_model.specs.Values.{Row}
 use Rattle.smk_inputs.specs.Collecting.{ReadsAll, Starts}
-use Rattle.smk_model.specs.Conversation.{block_of}
 use Rattle.smk_model.specs.Session.{Workbook, State, first_state, view_at}
-use Rattle.smk_model.specs.ViewTexts.{views_text}
 use Rattle.smk_top.proofs.TalkStretches.{fits_by, talked_within}
 use Rattle.smk_outside.specs.declared.talk.ending.Ending.{Ending}
 use Rattle.smk_outside.specs.declared.talk.ending.Ending.TheVariants.{Ended, Unheard, Unsaid, Outlasted}
@@ -84,12 +82,12 @@ module _ (words : List (List ℕ)) (call : TalkCall) (asked : talk_call_of words
       → ((table : Option TableInfo) (brought : Result (List Row) Fault) → BringsBy (line_files call.texts held) (Rose here here_after) table brought → TalkBrings call.texts held (Rose faults faults_after) table brought)
       → ((n : ℕ) → FailedReads n here here_after → FailedReads n faults faults_after)
       → IsTalkStart words held given
-      → Talked (said_by given) call.read_only (line_files call.texts held) here here_after talk_rose (opening_block given.book) (first_talk_state given.book) before after end.ending end.down (looks_before + start_looks given.book) looks_after
+      → Talked (said_by given) call.read_only (line_files call.texts held) here here_after talk_rose (block_of (opening_text call.brief given.book given.fds)) (first_talk_state given.book) before after end.ending end.down (looks_before + start_looks given.book) looks_after
       → TalksFor words held faults faults_after talk_rose before after looks_before looks_after end
   talks_by here here_after given end wide shown starts t =
       let (talk, same) = stretches.refit (talk_rules (said_by given)) (FitsTalk call.read_only given.book.catalog (BringsBy (line_files call.texts held) (Rose here here_after))) (FitsTalk call.read_only given.book.catalog (TalkBrings call.texts held (Rose faults faults_after)))
       (fits_by (said_by given) call.read_only held (BringsBy (line_files call.texts held) (Rose here here_after)) (TalkBrings call.texts held (Rose faults faults_after)) wide)
-      (opening_block given.book) (first_talk_state given.book) t.last before after end.ending t.stretch.talk in
+      (block_of (opening_text call.brief given.book given.fds)) (first_talk_state given.book) t.last before after end.ending t.stretch.talk in
       record {
         talk = record {
           call = call;
@@ -105,15 +103,15 @@ module _ (words : List (List ℕ)) (call : TalkCall) (asked : talk_call_of words
       }
 
 -- what the words ask for, by its texts
-abbrev called_with : TalkWords → RunTexts → TalkCall
-called_with call texts = record { settings = settings_image call.settings; texts = texts_image texts; read_only = call.read_only }
+abbrev pub called_with : TalkWords → RunTexts → TalkCall
+called_with call texts = record { settings = settings_image call.settings; texts = texts_image texts; read_only = call.read_only; brief = call.brief }
 
 pub asked_by : (words : List (List ℕ)) (call : TalkWords) (texts : RunTexts) → call.texts ≡ texts → talk_call_of words ≡ Some (talk_image call)
-    → talk_call_of words ≡ Some (record { settings = settings_image call.settings; texts = texts_image texts; read_only = call.read_only })
+    → talk_call_of words ≡ Some (called_with call texts)
 asked_by words call texts is called = called ∙ ap (λ t. Some (called_with call t)) is
 
 -- files that the words name
-module _ (words : List (List ℕ)) (settings : Settings) (read_only : Bool) (book : List ℕ) (script : Option (List ℕ)) (asked : talk_call_of words ≡ Some (record { settings = settings; texts = Files book script; read_only = read_only }))
+module _ (words : List (List ℕ)) (settings : Settings) (read_only brief : Bool) (book : List ℕ) (script : Option (List ℕ)) (asked : talk_call_of words ≡ Some (record { settings = settings; texts = Files book script; read_only = read_only; brief = brief }))
     (held : Option Held) (faults faults_after : ℕ) (talk_rose : Type 0) (before after : Told) (looks_before looks_after : ℕ) where
   named : talk_source words ≡ Some (Files book script)
   named = ap (option_map (λ (call : TalkCall). call.texts)) asked
@@ -139,14 +137,14 @@ module _ (words : List (List ℕ)) (settings : Settings) (read_only : Bool) (boo
       by (inl none) = inl none
       by (inr (given, reads, few)) = inr (given, file_read held given reads, few)
 
-  pub files_talk : (result : Result TalkEnd Stop) → BeginsTalk held faults faults_after talk_rose book read_only before after looks_before looks_after result → TalkWorks words held faults faults_after talk_rose before after looks_before looks_after result
+  pub files_talk : (result : Result TalkEnd Stop) → BeginsTalk held faults faults_after talk_rose book read_only brief before after looks_before looks_after result → TalkWorks words held faults faults_after talk_rose before after looks_before looks_after result
   files_talk (Ok end) t = talks_by words _ asked held faults faults_after talk_rose before after looks_before looks_after faults faults_after t.given end (λ table brought is. is) (λ n is. is) (file_start held t.given t.reads t.fine) t.talked
   files_talk (Err (At fault)) (fails, silent) = (file_cause held fault fails, file_silent silent)
   files_talk (Err Unwritten) is = is
   files_talk (Err Exhausted) silent = file_silent silent
 
 -- the texts of a demo
-module _ (words : List (List ℕ)) (settings : Settings) (read_only : Bool) (n : ℕ) (asked : talk_call_of words ≡ Some (record { settings = settings; texts = Demo n; read_only = read_only }))
+module _ (words : List (List ℕ)) (settings : Settings) (read_only brief : Bool) (n : ℕ) (asked : talk_call_of words ≡ Some (record { settings = settings; texts = Demo n; read_only = read_only; brief = brief }))
     (held : Option Held) (faults faults_after : ℕ) (later : faults ≤ faults_after) (talk_rose : Type 0) (before after : Told) (looks_before looks_after : ℕ) where
   named_demo : talk_source words ≡ Some (Demo n)
   named_demo = ap (option_map (λ (call : TalkCall). call.texts)) asked
@@ -174,7 +172,7 @@ module _ (words : List (List ℕ)) (settings : Settings) (read_only : Bool) (n :
       by (inl none) = inl none
       by (inr (given, reads, few)) = inr (given, demo_read held given reads, few)
 
-  pub demo_talks : (result : Result TalkEnd Stop) → BeginsTalk (Some (text_named (demo_of n))) 0 0 talk_rose DEMO_BOOK_NAME.now read_only before after looks_before looks_after result → TalkWorks words held faults faults_after talk_rose before after looks_before looks_after result
+  pub demo_talks : (result : Result TalkEnd Stop) → BeginsTalk (Some (text_named (demo_of n))) 0 0 talk_rose DEMO_BOOK_NAME.now read_only brief before after looks_before looks_after result → TalkWorks words held faults faults_after talk_rose before after looks_before looks_after result
   demo_talks (Ok end) t = talks_by words _ asked held faults faults_after talk_rose before after looks_before looks_after 0 0 t.given end (demo_brings n) (λ n shown. none_failed n faults faults_after later shown) (demo_start held t.given t.reads t.fine) t.talked
   demo_talks (Err (At fault)) (fails, silent) = (demo_cause held fault fails, demo_silent silent)
   demo_talks (Err Unwritten) is = is
@@ -195,8 +193,8 @@ pub exhausted_first : (words : List (List ℕ)) (held : Option Held) (before aft
 exhausted_first words held before after looks_before looks_after same none = record { silent = says_nothing before after same; looks = inl none }
 
 -- the start of a conversation
-module _ {X : Type 0} (reads : X → List Reading → Inputs) (bytes : X → List ℕ) (faults faults_after : ℕ) (talk_rose : Type 0) (book : List ℕ) (read_only : Bool) (before after : Told) where
-  pub reading_stops : (held : Option Held) (looks_before looks_after : ℕ) (stop : Stop) → ReadsAll {X = X} held (Rose faults faults_after) book None reads bytes (Err stop) → after ≡ before → looks_after ≡ looks_before → BeginsTalk held faults faults_after talk_rose book read_only before after looks_before looks_after (Err stop)
+module _ {X : Type 0} (reads : X → List Reading → Inputs) (bytes : X → List ℕ) (faults faults_after : ℕ) (talk_rose : Type 0) (book : List ℕ) (read_only brief : Bool) (before after : Told) where
+  pub reading_stops : (held : Option Held) (looks_before looks_after : ℕ) (stop : Stop) → ReadsAll {X = X} held (Rose faults faults_after) book None reads bytes (Err stop) → after ≡ before → looks_after ≡ looks_before → BeginsTalk held faults faults_after talk_rose book read_only brief before after looks_before looks_after (Err stop)
   reading_stops None looks_before looks_after (At fault) fails same none = (fails, record { same = same; looks = inl none })
   reading_stops (Some held) looks_before looks_after (At fault) (inl fails) same none = (inl (inl fails), record { same = same; looks = inl none })
   reading_stops (Some held) looks_before looks_after (At fault) (inr (up, unread)) same none = (inr (up, unread), record { same = same; looks = inl none })
@@ -212,7 +210,7 @@ module _ {X : Type 0} (reads : X → List Reading → Inputs) (bytes : X → Lis
 
   pub starting_stops : (Y : Type 0) (held : Option Held) (x : X) (looks_before looks_after : ℕ) (stop : Stop) → ReadsBook held book (reads x (some_reading (bytes x)).0)
       → Starts {X = Y} (reads x (some_reading (bytes x)).0).book (Err stop) → after ≡ before → looks_after ≤ looks_before + start_looks (reads x (some_reading (bytes x)).0).book
-      → BeginsTalk held faults faults_after talk_rose book read_only before after looks_before looks_after (Err stop)
+      → BeginsTalk held faults faults_after talk_rose book read_only brief before after looks_before looks_after (Err stop)
   starting_stops Y held x looks_before looks_after (At fault) there starts same few = (by held there (fault_of (first_view_fault given.book) starts), record { same = same; looks = inr (given, there, few) })
     where
       given : Inputs
@@ -308,20 +306,20 @@ end_is_no_start Ended down rose err_before err_after status (appended, is) met =
 end_is_no_start Outlasted down rose err_before err_after status (appended, is) met = report_is_no_start down (subst IsStartFault is met)
 
 -- a conversation with a session that begins is one over what was read
-pub talks_over : (held now : Option Held) (start faults faults_after : ℕ) (talk_rose : Type 0) (book : List ℕ) (read_only : Bool) (before after : Told) (looks_before looks_between looks_after : ℕ) (end : TalkEnd) (given : Inputs) (over : Workbook) (state : State) (fds : List (List ℕ)) (opening : List ℕ)
-    → now ≡ held → start ≤ faults → faults ≤ faults_after → ReadsBook held book given → first_view_fault given.book ≡ None → over ≡ given.book → fds ≡ given.fds → state ≡ first_state over → opening ≡ views_text over
+pub talks_over : (held now : Option Held) (start faults faults_after : ℕ) (talk_rose : Type 0) (book : List ℕ) (read_only brief : Bool) (before after : Told) (looks_before looks_between looks_after : ℕ) (end : TalkEnd) (given : Inputs) (over : Workbook) (state : State) (fds : List (List ℕ)) (opening : List ℕ)
+    → now ≡ held → start ≤ faults → faults ≤ faults_after → ReadsBook held book given → first_view_fault given.book ≡ None → over ≡ given.book → fds ≡ given.fds → state ≡ first_state over → opening ≡ opening_text brief over fds
     → looks_between ≤ looks_before + start_looks given.book
     → Talked (record { catalog = over.catalog; fds = fds }) read_only now faults faults_after talk_rose (block_of opening) (talk_at state 0) before after end.ending end.down looks_between looks_after
-    → TalksOver held start faults_after talk_rose book read_only before after looks_before looks_after end
-talks_over held now start faults faults_after talk_rose book read_only before after looks_before looks_between looks_after end given over state fds opening same up later there fine is named begins says few t =
+    → TalksOver held start faults_after talk_rose book read_only brief before after looks_before looks_after end
+talks_over held now start faults faults_after talk_rose book read_only brief before after looks_before looks_between looks_after end given over state fds opening same up later there fine is named begins says few t =
     let t1 = subst (λ (s : State). Talked (record { catalog = over.catalog; fds = fds }) read_only now faults faults_after talk_rose (block_of opening) (talk_at s 0) before after end.ending end.down looks_between looks_after) begins t in
     let t2 = subst (λ (o : List ℕ). Talked (record { catalog = over.catalog; fds = fds }) read_only now faults faults_after talk_rose (block_of o) (talk_at (first_state over) 0) before after end.ending end.down looks_between looks_after) says t1 in
-    let t3 = subst (λ (b : Workbook). Talked (record { catalog = b.catalog; fds = fds }) read_only now faults faults_after talk_rose (block_of (views_text b)) (talk_at (first_state b) 0) before after end.ending end.down looks_between looks_after) is t2 in
-    let t4 = subst (λ (l : List (List ℕ)). Talked (record { catalog = given.book.catalog; fds = l }) read_only now faults faults_after talk_rose (block_of (views_text given.book)) (talk_at (first_state given.book) 0) before after end.ending end.down looks_between looks_after) named t3 in
-    let t5 = subst (λ (h : Option Held). Talked (said_by given) read_only h faults faults_after talk_rose (opening_block given.book) (first_talk_state given.book) before after end.ending end.down looks_between looks_after) same t4 in
+    let t3 = subst (λ (b : Workbook). Talked (record { catalog = b.catalog; fds = fds }) read_only now faults faults_after talk_rose (block_of (opening_text brief b fds)) (talk_at (first_state b) 0) before after end.ending end.down looks_between looks_after) is t2 in
+    let t4 = subst (λ (l : List (List ℕ)). Talked (record { catalog = given.book.catalog; fds = l }) read_only now faults faults_after talk_rose (block_of (opening_text brief given.book l)) (talk_at (first_state given.book) 0) before after end.ending end.down looks_between looks_after) named t3 in
+    let t5 = subst (λ (h : Option Held). Talked (said_by given) read_only h faults faults_after talk_rose (block_of (opening_text brief given.book given.fds)) (first_talk_state given.book) before after end.ending end.down looks_between looks_after) same t4 in
     record {
       given = given;
       reads = there;
       fine = fine;
-      talked = talked_within (said_by given) read_only held start faults faults_after talk_rose (opening_block given.book) (first_talk_state given.book) before after end.ending end.down looks_before looks_between looks_after (start_looks given.book) up later few t5;
+      talked = talked_within (said_by given) read_only held start faults faults_after talk_rose (block_of (opening_text brief given.book given.fds)) (first_talk_state given.book) before after end.ending end.down looks_before looks_between looks_after (start_looks given.book) up later few t5;
     }

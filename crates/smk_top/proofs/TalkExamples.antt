@@ -37,7 +37,7 @@ use Rattle.smk_top.specs.TalkExamples.{line_shown, line_appended, line_left, vie
 
 -- the words
 abbrev call : TalkCall
-call = record { settings = plain_settings; texts = Files readme_book_name None; read_only = false }
+call = record { settings = plain_settings; texts = Files readme_book_name None; read_only = false; brief = false }
 
 asked : talk_call_of (readme_book_name ∷ []) ≡ Some call
 unfolding walked walk_fault defaults_fault int_of
@@ -72,14 +72,14 @@ abbrev left_said : List Event
 left_said = Said (codes "line 4 not read at byte 8\n") ∷ Said (codes "\n") ∷ End ∷ []
 
 shown_fits : Fits first (Replied shown)
-shown_fits = (omega arith, asks (λ e. absurd (cc)) (whole_any_line (plain_line (show_line stands (name stands))) stands) refl, refl, inl refl)
+shown_fits = (omega arith, refl, asks (λ e. absurd (cc)) (whole_any_line (plain_line (show_line stands (name stands))) stands) refl, refl, inl refl)
 
 appended_fits : (state : TalkState) → state.heard ≡ 1 → Fits state (Replied appended)
 unfolding table_of records_from next_record int_of
-appended_fits state at = rw at (omega arith, asks (λ e. absurd (cc)) (whole_any_line (appended_line stands (name stands) (file stands)) stands) refl, refl, inl refl)
+appended_fits state at = rw at (omega arith, refl, asks (λ e. absurd (cc)) (whole_any_line (appended_line stands (name stands) (file stands)) stands) refl, refl, inl refl)
 
 left_fits : (state : TalkState) → state.heard ≡ 3 → Fits state (Replied left)
-left_fits state at = rw at (omega arith, leaves (λ e. absurd (cc)) refl refl, refl, inl refl)
+left_fits state at = rw at (omega arith, refl, leaves (λ e. absurd (cc)) refl refl, refl, inl refl)
 
 abbrev refused_said : List Event
 refused_said = Said (codes "refused line too long\n") ∷ Said (codes "\n") ∷ Heard line_left ∷ left_said

@@ -1,15 +1,17 @@
 -- What a line of a conversation is answered, as one of the turns that may be.
 use Rattle.std.proofs.Common.{◌≡◌, ◌≤◌, ◌<◌, ◌+◌, ℕ, Bool, true, false, List, [], ◌∷◌, ◌++◌, Option, Some, None, Result, Ok, Err, refl, sym, ap, ◌∙◌, arith, inl, inr, length}
-use Rattle.std.specs.Prelude.{◌⊎◌, ◌&&◌, IfSome, is_some}
+use Rattle.std.specs.Prelude.{◌⊎◌, ◌&&◌, ◌||◌, cond, nat_lt, IfSome, is_some}
 use Rattle.std.specs.Option.{option_to_list}
 use Rattle.smk_base.specs.CatalogImage.{CatalogImage}
 use Rattle.smk_base.specs.Rels.{Relation}
 use Rattle.smk_base.specs.declared.book.catalog.TableInfo.{TableInfo}
 use Rattle.smk_base.specs.declared.fault.Fault.{Fault}
 use Rattle.smk_model.specs.Catalogs.{each_table_kinds}
-use Rattle.smk_model.specs.Conversation.{TalkState, Replied, Unbrought, ReadOnly, Forgone, TooLong, asks_append, line_limit, text_read, unbrought_text, read_only_text, forgone_text, too_long_text}
+use Rattle.smk_model.specs.Conversation.{TalkState, Replied, Owned, Unbrought, ReadOnly, Forgone, OwnForgone, TooLong, asks_append, line_limit, text_read, unbrought_text, read_only_text, forgone_text, too_long_text}
 use Rattle.smk_model.specs.Names.{◌>>=◌}
 use Rattle.smk_model.specs.Outcome.{Held, appended_at, load}
+use Rattle.smk_model.specs.OwnAnswers.{own_told, own_after}
+use Rattle.smk_model.specs.OwnLines.{OwnReading, IsOwnReading, is_own}
 use Rattle.smk_model.specs.Readings.{Reading, Asks, Unread, IsReading, Nothing}
 use Rattle.smk_base.specs.Trees.{AppendedLine, PlainLine, AskedLine, ProfiledLine}
 use Rattle.smk_base.specs.declared.fault.Fault.TheVariants as faults
@@ -18,6 +20,7 @@ use Rattle.smk_model.specs.Selection.{each_kinds, each_rows}
 use Rattle.smk_model.specs.Session.{State}
 use Rattle.smk_model.specs.TalkStarts.{BringsBy}
 use Rattle.smk_model.specs.Values.{Row}
+use Rattle.smk_model.proofs.OwnReadings.{own_lines_are_read}
 use Rattle.smk_model.proofs.SomeOutcome.{some_line}
 use Rattle.smk_inputs.specs.Added.{BeginsWith}
 use Rattle.smk_inputs.specs.Collecting.{Loads, unread_among}
@@ -79,17 +82,22 @@ asked_of catalog (Asks (AskedLine asked)) info at = absurd (cc)
 asked_of catalog (Asks (ProfiledLine view)) info at = absurd (cc)
 asked_of catalog (Asks (AppendedLine table file)) info at = refl
 
+-- a line that is answered is turned down where it is refused
+pub refused_down : (b : Bool) → b ≡ (nat_lt 0 (cond b 1 0) || nat_lt 0 0)
+refused_down true = refl
+refused_down false = refl
+
 module _ (said : BookSaid) (read_only : Bool) (held : Option Held) (rose : Type 0) (state : TalkState) (bytes : List ℕ) where
   -- a line that is answered
   pub replied : (reading : Reading) (rows : List Row) (after : State) (text : List ℕ) (down : Bool) (looks_before looks_after : ℕ)
-      → length bytes ≤ line_limit → IsReading (text_read state.heard bytes) reading → (read_only && asks_append reading) ≡ false → BringsBy held rose (appended_at said.catalog reading) (Ok rows)
+      → length bytes ≤ line_limit → is_own (text_read state.heard bytes) ≡ false → IsReading (text_read state.heard bytes) reading → (read_only && asks_append reading) ≡ false → BringsBy held rose (appended_at said.catalog reading) (Ok rows)
       → after ≡ state_after said state.session rows reading → text ≡ (line_told said state.session (state.heard + 1) rows reading).text → down ≡ is_down (line_told said state.session (state.heard + 1) rows reading)
       → looks_after ≤ looks_before + (line_told said state.session (state.heard + 1) rows reading).looks
       → AnswersLine said read_only held rose state bytes after text down looks_before looks_after
-  replied reading rows after text down looks_before looks_after short reads may brought is told turned looks = record {
+  replied reading rows after text down looks_before looks_after short plain reads may brought is told turned looks = record {
     turn = Replied (record { bytes = bytes; reading = reading; rows = rows });
     line = refl;
-    fits = (short, reads, may, brought);
+    fits = (short, plain, reads, may, brought);
     session = is;
     is = told;
     turned = turned;
@@ -98,26 +106,58 @@ module _ (said : BookSaid) (read_only : Bool) (held : Option Held) (rose : Type 
 
   -- a line that memory was wanting for
   pub forgone : (reading : Reading) (rows : List Row) (after : State) (text : List ℕ) (down : Bool) (looks_before looks_after : ℕ)
-      → IsReading (text_read state.heard bytes) reading → ((rows ≡ []) ⊎ BringsBy held rose (appended_at said.catalog reading) (Ok rows))
+      → is_own (text_read state.heard bytes) ≡ false → IsReading (text_read state.heard bytes) reading → ((rows ≡ []) ⊎ BringsBy held rose (appended_at said.catalog reading) (Ok rows))
       → after ≡ state.session → text ≡ forgone_text → down ≡ true → looks_after ≤ looks_before + (line_told said state.session (state.heard + 1) rows reading).looks
       → AnswersLine said read_only held rose state bytes after text down looks_before looks_after
-  forgone reading rows after text down looks_before looks_after reads brought is told turned looks = record {
+  forgone reading rows after text down looks_before looks_after plain reads brought is told turned looks = record {
     turn = Forgone (record { bytes = bytes; reading = reading; rows = rows });
     line = refl;
-    fits = (reads, brought);
+    fits = (plain, reads, brought);
     session = is;
     is = told;
     turned = turned;
     looks = looks;
   }
 
-  -- the same before any look was made, whatever the line says
+  -- an own line that is answered, and one that memory was wanting for
+  pub owned : (own : OwnReading) (after : State) (text : List ℕ) (down : Bool) (looks_before looks_after : ℕ)
+      → length bytes ≤ line_limit → is_own (text_read state.heard bytes) ≡ true → IsOwnReading (text_read state.heard bytes) own
+      → after ≡ own_after said state.session own → text ≡ (own_told said state.session (state.heard + 1) own).text → down ≡ is_down (own_told said state.session (state.heard + 1) own)
+      → looks_after ≤ looks_before + (own_told said state.session (state.heard + 1) own).looks
+      → AnswersLine said read_only held rose state bytes after text down looks_before looks_after
+  owned own after text down looks_before looks_after short dotted reads is told turned looks = record {
+    turn = Owned (record { bytes = bytes; own = own });
+    line = refl;
+    fits = (short, dotted, reads);
+    session = is;
+    is = told;
+    turned = turned;
+    looks = looks;
+  }
+
+  pub own_forgone : (own : OwnReading) (after : State) (text : List ℕ) (down : Bool) (looks_before looks_after : ℕ)
+      → is_own (text_read state.heard bytes) ≡ true → IsOwnReading (text_read state.heard bytes) own
+      → after ≡ state.session → text ≡ forgone_text → down ≡ true → looks_after ≤ looks_before + (own_told said state.session (state.heard + 1) own).looks
+      → AnswersLine said read_only held rose state bytes after text down looks_before looks_after
+  own_forgone own after text down looks_before looks_after dotted reads is told turned looks = record {
+    turn = OwnForgone (record { bytes = bytes; own = own });
+    line = refl;
+    fits = (dotted, reads);
+    session = is;
+    is = told;
+    turned = turned;
+    looks = looks;
+  }
+
+  -- a line that memory was wanting for before any look was made, whatever it says
   pub forgone_before : (after : State) (text : List ℕ) (down : Bool) (looks_before looks_after : ℕ)
       → after ≡ state.session → text ≡ forgone_text → down ≡ true → looks_after ≡ looks_before
       → AnswersLine said read_only held rose state bytes after text down looks_before looks_after
-  forgone_before after text down looks_before looks_after is told turned looks =
-      let line = some_line (text_read state.heard bytes) in
-      forgone line.0 [] after text down looks_before looks_after line.1 (inl refl) is told turned (omega (arith, looks))
+  forgone_before after text down looks_before looks_after is told turned looks = by (is_own (text_read state.heard bytes)) refl
+    where
+      by : (own : Bool) → is_own (text_read state.heard bytes) ≡ own → AnswersLine said read_only held rose state bytes after text down looks_before looks_after
+      by false plain = let line = some_line (text_read state.heard bytes) in forgone line.0 [] after text down looks_before looks_after plain line.1 (inl refl) is told turned (omega (arith, looks))
+      by true dotted = let line = own_lines_are_read.some (text_read state.heard bytes) in own_forgone line.0 after text down looks_before looks_after dotted line.1 is told turned (omega (arith, looks))
 
   -- a line whose file has a fault
   pub unbrought : (reading : Reading) (fault : Fault) (after : State) (text : List ℕ) (down : Bool) (looks_before looks_after : ℕ)

@@ -4,7 +4,7 @@ use Rattle.std.specs.Prelude.{◌||◌, nat_lt}
 use borrow.Author.Tests.{lt-ltb}
 use Rattle.smk_base.specs.declared.book.catalog.TableInfo.{TableInfo}
 use Rattle.smk_base.specs.declared.fault.Fault.{Fault}
-use Rattle.smk_model.specs.Conversation.{TalkTurn, Replied, Unbrought, ReadOnly, Forgone, TooLong, TalkState, line_of, turn_after, turn_block, turn_told, turns_told, FitsTalk}
+use Rattle.smk_model.specs.Conversation.{TalkTurn, Replied, Owned, Unbrought, ReadOnly, Forgone, OwnForgone, TooLong, TalkState, line_of, turn_after, turn_block, turn_told, turns_told, FitsTalk}
 use Rattle.smk_model.specs.Outcome.{Held, appended_at, nothing_held}
 use Rattle.smk_model.specs.Session.{State}
 use Rattle.smk_model.specs.Reports.{BookSaid, LinesTold, nothing_told, followed_by}
@@ -98,12 +98,14 @@ module _ (said : BookSaid) (read_only : Bool) (held : Option Held) where
   -- turns fit by whatever more may come of files
   pub fits_by : (Here More : Option TableInfo → Result (List Row) Fault → Type 0) → ((table : Option TableInfo) (brought : Result (List Row) Fault) → Here table brought → More table brought)
       → (state : TalkState) (turn : TalkTurn) → FitsTalk read_only said.catalog Here state turn → FitsTalk read_only said.catalog More state turn
-  fits_by Here More wide state (Replied heard) (short, reads, allowed, brought) = (short, reads, allowed, wide (appended_at said.catalog heard.reading) (Ok heard.rows) brought)
+  fits_by Here More wide state (Replied heard) (short, plain, reads, allowed, brought) = (short, plain, reads, allowed, wide (appended_at said.catalog heard.reading) (Ok heard.rows) brought)
+  fits_by Here More wide state (Owned heard) is = is
   fits_by Here More wide state (Unbrought bytes fault) (short, un, allowed) =
       (short, record { reading = un.reading; table = un.table; reads = un.reads; appends = un.appends; brings = wide (Some un.table) (Err fault) un.brings }, allowed)
   fits_by Here More wide state (ReadOnly bytes) is = is
-  fits_by Here More wide state (Forgone heard) (reads, inl none) = (reads, inl none)
-  fits_by Here More wide state (Forgone heard) (reads, inr brought) = (reads, inr (wide (appended_at said.catalog heard.reading) (Ok heard.rows) brought))
+  fits_by Here More wide state (Forgone heard) (plain, reads, inl none) = (plain, reads, inl none)
+  fits_by Here More wide state (Forgone heard) (plain, reads, inr brought) = (plain, reads, inr (wide (appended_at said.catalog heard.reading) (Ok heard.rows) brought))
+  fits_by Here More wide state (OwnForgone heard) is = is
   fits_by Here More wide state (TooLong bytes) is = is
 
   -- turns of a part fit in the whole
@@ -299,11 +301,13 @@ module _ (said : BookSaid) (held : Option Held) where
   brings_nothing h rose (Some table) rows (inr (up, unread)) = absurd (cc)
 
   fits_unread : (rose : Type 0) (state : TalkState) (turn : TalkTurn) → FitsTalk true said.catalog (BringsBy (Some nothing_held) (Rose 0 0)) state turn → FitsTalk true said.catalog (BringsBy held rose) state turn
-  fits_unread rose state (Replied heard) (short, reads, allowed, brought) = (short, reads, allowed, brings_nothing held rose (appended_at said.catalog heard.reading) heard.rows brought)
+  fits_unread rose state (Replied heard) (short, plain, reads, allowed, brought) = (short, plain, reads, allowed, brings_nothing held rose (appended_at said.catalog heard.reading) heard.rows brought)
+  fits_unread rose state (Owned heard) is = is
   fits_unread rose state (Unbrought bytes fault) (short, un, allowed) = absurd (cc)
   fits_unread rose state (ReadOnly bytes) is = is
-  fits_unread rose state (Forgone heard) (reads, inl none) = (reads, inl none)
-  fits_unread rose state (Forgone heard) (reads, inr brought) = (reads, inr (brings_nothing held rose (appended_at said.catalog heard.reading) heard.rows brought))
+  fits_unread rose state (Forgone heard) (plain, reads, inl none) = (plain, reads, inl none)
+  fits_unread rose state (Forgone heard) (plain, reads, inr brought) = (plain, reads, inr (brings_nothing held rose (appended_at said.catalog heard.reading) heard.rows brought))
+  fits_unread rose state (OwnForgone heard) is = is
   fits_unread rose state (TooLong bytes) is = is
 
   none_misread : (Brings : Option TableInfo → Result (List Row) Fault → Type 0) (state : TalkState) (saying : List (List ℕ)) (ending : Ending) (turns : List TalkTurn) (events : List Event)

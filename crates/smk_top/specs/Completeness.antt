@@ -1,8 +1,8 @@
 -- What a run and a conversation can't fail to do.
-use Rattle.std.specs.Prelude.{◌≡◌, ◌⊎◌, ℕ, List, [], length, map, Option, Some, None, Ok}
+use Rattle.std.specs.Prelude.{◌≡◌, ◌⊎◌, ℕ, List, [], ◌∷◌, length, map, Option, Some, None, Ok}
 use Rattle.std.specs.Io.KnownBytes as known
-use Rattle.std.specs.List.{concat}
-use Rattle.smk_model.specs.Conversation.{line_of, talk_said}
+use Rattle.std.specs.List.{concat, flat_map}
+use Rattle.smk_model.specs.Conversation.{line_of, block_of, first_talk_state, opening_text, turn_texts}
 use Rattle.smk_model.specs.Reports.{Report}
 use Rattle.smk_model.specs.Outcome.{Held, Inputs, Outcome, nothing_held, written_of}
 use Rattle.smk_model.specs.TalkStarts.{StartsTalk}
@@ -16,7 +16,7 @@ use Rattle.smk_top.specs.declared.status.Status.{Status}
 use Rattle.smk_top.specs.declared.status.Status.TheVariants.{NoMemory}
 use Rattle.smk_top.specs.Statuses.{status_of_report}
 use Rattle.smk_top.specs.Endings.{RunEnds}
-use Rattle.smk_top.specs.TalkEndings.{Converses, ConverseEnds, IsSilent, turns_of, report_by}
+use Rattle.smk_top.specs.TalkEndings.{Converses, ConverseEnds, IsSilent, said_by, turns_of, report_by}
 
 -- where no count of faults rose in a run, what the run writes of this report is appended whole and nothing is said, and the status is the report's; or memory was wanting
 abbrev pub WritesWhole : List (List ℕ) → Option Held → Report → Type 0
@@ -30,13 +30,13 @@ pub record Completeness : Type 0 where
   pub told : (words : List (List ℕ)) (held : Held) (report : Report) → Outcome words held (Ok report) → WritesWhole words (Some held) report
   pub demo : (words : List (List ℕ)) (n : ℕ) (report : Report) → words_of words ≡ Some (Demo n) → Outcome words nothing_held (Ok report) → WritesWhole words None report
 
--- a conversation over these inputs in which every line is heard and answered, or as many as can be counted: all of it is said, and the status is that of its report
+-- a conversation over these inputs in which every line is heard and answered, or as many as can be counted: its opening and the text of each turn are said, and the status is that of its report
 pub record AnswersAll (words : List (List ℕ)) (held : Option Held) (given : Inputs) (files files_after : ℕ) (rose : Type 0) (before after : Told) (looks looks_after : ℕ) (status : Status) : Type 0 where
   pub ending : Ending
   pub talk : Converses words held files files_after rose before after looks looks_after ending
   pub over : talk.given ≡ given
   pub heard : AreAll before (map line_of (turns_of talk)) ⊎ (length (turns_of talk) ≡ 18446744073709551615)
-  pub answered : known.Appends before.said after.said (concat (talk_said given.book given.fds (turns_of talk)))
+  pub answered : known.Appends before.said after.said (concat (flat_map block_of (opening_text talk.call.brief given.book given.fds ∷ turn_texts (said_by given) (first_talk_state given.book) (turns_of talk))))
   pub ends : status ≡ status_of_report (report_by talk)
 
 -- where no count of faults rose in a conversation, all its lines were answered over these inputs, and nothing is said on `err`; or memory was wanting before anything was said

@@ -1,7 +1,7 @@
 -- How a conversation may end: its status, what was heard and said, and what it has appended to `err`.
 use Rattle.std.specs.Prelude.{◌≡◌, ◌⊎◌, ◌≤◌, ◌+◌, ⊤, ℕ, Bool, cond, List, [], Option, Some, None, Result, Ok, Err}
 use Rattle.smk_base.specs.declared.fault.Fault.{Fault}
-use Rattle.smk_model.specs.Conversation.{TalkTurn, TalkState, FitsTalk, first_talk_state, opening_block, talk_report, turns_told}
+use Rattle.smk_model.specs.Conversation.{TalkTurn, TalkState, FitsTalk, first_talk_state, block_of, opening_text, talk_report, turns_told}
 use Rattle.smk_model.specs.Looks.{start_looks}
 use Rattle.smk_model.specs.Opening.{first_view_fault}
 use Rattle.smk_model.specs.Outcome.{Held, Inputs, ReadsFiles, NamesAsked, UntoldCause, WhereTold}
@@ -31,7 +31,7 @@ use Rattle.smk_top.specs.declared.status.Status.TheVariants.{Done, DoneWithRefus
 abbrev pub said_by : Inputs → BookSaid
 said_by given = record { catalog = given.book.catalog; fds = given.fds }
 
--- A conversation of these words over these files, by the counts of faults of the files before and after it, and by whether that of the object rose in it: what is said first is the texts of all views; each line is then heard, and answered before the next one is heard.
+-- A conversation of these words over these files, by the counts of faults of the files before and after it, and by whether that of the object rose in it: what is said first is the texts of all views, or the schema where it is asked for; each line is then heard, and answered before the next one is heard.
 -- Each turn is one that fits the state that the turns before it left, also behind lines that were refused or that memory was wanting for. As many lines at most are refused by reads that failed as the count of faults shows.
 -- Looks are at most those of the start and those of the lines.
 pub record Converses (words : List (List ℕ)) (held : Option Held) (files_before files_after : ℕ) (talk_rose : Type 0) (before after : Told) (looks_before looks_after : ℕ) (ending : Ending) : Type 0 where
@@ -40,7 +40,7 @@ pub record Converses (words : List (List ℕ)) (held : Option Held) (files_befor
   pub given : Inputs
   pub starts : IsTalkStart words held given
   pub last : TalkState
-  pub talked : Conversation (talk_rules (said_by given)) (FitsTalk call.read_only given.book.catalog (TalkBrings call.texts held (Rose files_before files_after))) (opening_block given.book) (first_talk_state given.book) last before after talk_rose ending
+  pub talked : Conversation (talk_rules (said_by given)) (FitsTalk call.read_only given.book.catalog (TalkBrings call.texts held (Rose files_before files_after))) (block_of (opening_text call.brief given.book given.fds)) (first_talk_state given.book) last before after talk_rose ending
   pub misread : FailedReads (misreads (line_files call.texts held) talked.talk.turns) files_before files_after
   pub looks : looks_after ≤ looks_before + start_looks given.book + (turns_told (said_by given) (first_talk_state given.book) talked.talk.turns).looks
 
@@ -110,21 +110,21 @@ FailsToStart None rose book fault = UntoldCause rose fault
 FailsToStart (Some held) rose book fault = (ReadsFiles held book None (Err fault) ⊎ ((given : Inputs) × ReadsFiles held book None (Ok given) × (started given ≡ Err fault))) ⊎ (rose × NamesAsked held book None fault)
 
 -- a conversation over the book of this name
-pub record TalksOver (held : Option Held) (files_before files_after : ℕ) (talk_rose : Type 0) (book : List ℕ) (read_only : Bool) (before after : Told) (looks_before looks_after : ℕ) (end : TalkEnd) : Type 0 where
+pub record TalksOver (held : Option Held) (files_before files_after : ℕ) (talk_rose : Type 0) (book : List ℕ) (read_only brief : Bool) (before after : Told) (looks_before looks_after : ℕ) (end : TalkEnd) : Type 0 where
   pub given : Inputs
   pub reads : ReadsBook held book given
   pub fine : first_view_fault given.book ≡ None
-  pub talked : Talked (said_by given) read_only held files_before files_after talk_rose (opening_block given.book) (first_talk_state given.book) before after end.ending end.down (looks_before + start_looks given.book) looks_after
+  pub talked : Talked (said_by given) read_only held files_before files_after talk_rose (block_of (opening_text brief given.book given.fds)) (first_talk_state given.book) before after end.ending end.down (looks_before + start_looks given.book) looks_after
 
 pub record Silent (held : Option Held) (book : List ℕ) (before after : Told) (looks_before looks_after : ℕ) : Type 0 where
   pub same : after ≡ before
   pub looks : StartLooks held book looks_before looks_after
 
-abbrev pub BeginsTalk : Option Held → ℕ → ℕ → Type 0 → List ℕ → Bool → Told → Told → ℕ → ℕ → Result TalkEnd Stop → Type 0
-BeginsTalk held files_before files_after talk_rose book read_only before after looks_before looks_after (Ok end) = TalksOver held files_before files_after talk_rose book read_only before after looks_before looks_after end
-BeginsTalk held files_before files_after talk_rose book read_only before after looks_before looks_after (Err (At fault)) = FailsToStart held (Rose files_before files_after) book fault × Silent held book before after looks_before looks_after
-BeginsTalk held files_before files_after talk_rose book read_only before after looks_before looks_after (Err Unwritten) = ⊥
-BeginsTalk held files_before files_after talk_rose book read_only before after looks_before looks_after (Err Exhausted) = Silent held book before after looks_before looks_after
+abbrev pub BeginsTalk : Option Held → ℕ → ℕ → Type 0 → List ℕ → Bool → Bool → Told → Told → ℕ → ℕ → Result TalkEnd Stop → Type 0
+BeginsTalk held files_before files_after talk_rose book read_only brief before after looks_before looks_after (Ok end) = TalksOver held files_before files_after talk_rose book read_only brief before after looks_before looks_after end
+BeginsTalk held files_before files_after talk_rose book read_only brief before after looks_before looks_after (Err (At fault)) = FailsToStart held (Rose files_before files_after) book fault × Silent held book before after looks_before looks_after
+BeginsTalk held files_before files_after talk_rose book read_only brief before after looks_before looks_after (Err Unwritten) = ⊥
+BeginsTalk held files_before files_after talk_rose book read_only brief before after looks_before looks_after (Err Exhausted) = Silent held book before after looks_before looks_after
 
 -- the same by the words
 pub record TalksFor (words : List (List ℕ)) (held : Option Held) (files_before files_after : ℕ) (talk_rose : Type 0) (before after : Told) (looks_before looks_after : ℕ) (end : TalkEnd) : Type 0 where

@@ -280,8 +280,8 @@ fn counted(told: Answered) -> LineTold
     LineTold { text, counts }
 }
 
-// The text and the counts of a line with this number that isn't in the grammar.
-fn unread_line(alloc: Global, number: u64, at: u64) -> Result<LineTold, AllocError>
+/// The text and the counts of a line with this number that isn't in the grammar.
+pub fn unread_line(alloc: Global, number: u64, at: u64) -> Result<LineTold, AllocError>
     ensures text { IfOk result (λ told. told.text.items ≡ line_texts.bad_line_text number at) }
     ensures counts { IfOk result (λ told. told.counts ≡ record { replies = 0; refused = 0; unread = 1; bytes = length (line_texts.bad_line_text number at) }) }
 {

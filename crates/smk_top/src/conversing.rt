@@ -1,6 +1,7 @@
 // A conversation, from its words to its end.
-ghost use Rattle.std.specs.Prelude.{◌≡◌, ◌≤◌, ℕ, List, Some, map, IfOk};
+ghost use Rattle.std.specs.Prelude.{◌≡◌, ◌≤◌, ℕ, List, [], Some, map, IfOk};
 ghost use Rattle.smk_inputs.specs.Image.{texts_image};
+ghost use Rattle.smk_model.specs.Conversation.{opening_text as opening_said};
 ghost use Rattle.smk_model.specs.FaultTexts.{IsSaid};
 ghost use Rattle.smk_model.specs.TalkWords.{talk_source};
 ghost use Rattle.smk_model.specs.ViewTexts as view_texts;
@@ -17,12 +18,13 @@ use crate::reporting::text_of_view;
 use crate::starting::{Started, start};
 use crate::status::Status;
 use crate::talking::{Manner, TalkEnd, hold};
-use smk_base::{DEMO_BOOK_NAME, Fault, Text};
+use smk_base::{DEMO_BOOK_NAME, Fault, Names, Text};
 use smk_demo::demo;
 use smk_inputs::{
     DemoTexts, Engine, RunTexts, Settings, Stop, TalkWords, read_all, read_talk_words, text_of,
 };
 use smk_outside::{Ending, Files, Gate, Sink, Steps, Talk};
+use smk_own::schema;
 use smk_session::Session;
 use std::alloc::{AllocError, Global};
 use std::sync::ledger::Ledger;
@@ -30,7 +32,7 @@ use std::thread::Threads;
 
 // What is said of words that call for no conversation.
 const USAGE: &[u8] =
-    b"usage: smoke_live [--mode inject|defer] [--workers 1..64] [--read-only] (BOOK | --demo N)\n";
+    b"usage: smoke_live [--mode inject|defer] [--workers 1..64] [--read-only] [--brief] (BOOK | --demo N)\n";
 
 // What is said where no line can be heard.
 const UNHEARD: &[u8] = b"smoke_live: cannot read standard input\n";
@@ -52,6 +54,24 @@ fn views_text<R: Threads + Sync>(
     Ok(text)
 }
 
+// What is said first: the texts of all views, or the schema.
+fn opening_text<R: Threads + Sync>(
+    rt: &R,
+    alloc: Global,
+    call: &TalkWords,
+    session: &Session,
+    fds: &Names,
+) -> Result<Vec<u8>, AllocError>
+    requires { session.now.brushes ≡ [] }
+    ensures { IfOk result (λ text. text.items ≡ opening_said call.now.brief (workbook_of session.now) fds.now) }
+{
+    if call.brief {
+        schema(alloc, session, fds)
+    } else {
+        views_text(rt, alloc, call.settings, session)
+    }
+}
+
 // A conversation over the book of a file, by how it is called for.
 fn begin<R: Threads + Sync, F: Files, T: Talk, G: Gate + Sync, L: Ledger>(
     engine: &Engine<'_, R, G>,
@@ -61,7 +81,7 @@ fn begin<R: Threads + Sync, F: Files, T: Talk, G: Gate + Sync, L: Ledger>(
     talk: &mut T,
     steps: &mut Steps<L>,
 ) -> Result<TalkEnd, Stop>
-    ensures begins { BeginsTalk (F.held files.old) (F.faults files.old) (F.faults files.new) (Rose (T.faults talk.old) (T.faults talk.new)) book.now call.now.read_only (T.told talk.old) (T.told talk.new) steps.old steps.new result }
+    ensures begins { BeginsTalk (F.held files.old) (F.faults files.old) (F.faults files.new) (Rose (T.faults talk.old) (T.faults talk.new)) book.now call.now.read_only call.now.brief (T.told talk.old) (T.told talk.new) steps.old steps.new result }
     ensures no_look { LooksBehindReading result steps.old steps.new }
     ensures said { IsSayable result }
     ensures held { F.held files.new ≡ F.held files.old }
@@ -71,7 +91,7 @@ fn begin<R: Threads + Sync, F: Files, T: Talk, G: Gate + Sync, L: Ledger>(
     let settings = call.settings;
     let inputs = read_all(engine, settings, files, book, None)?;
     let Started { session, fds, .. } = start(engine, inputs, settings, steps)?;
-    let opening = views_text(engine.rt, engine.alloc, settings, &session)?;
+    let opening = opening_text(engine.rt, engine.alloc, call, &session, &fds)?;
     let manner = Manner {
         opening: opening.as_slice(),
         fds: &fds,
@@ -174,13 +194,15 @@ fn say_end<E: Sink>(end: TalkEnd, err: &mut E) -> Status
 }
 
 /// A conversation with Smoke. Its `words` are those after the program's name: a book's file name, or `--demo` with a number of flights; `--mode`
-/// and `--workers` as of a run; and `--read-only`, by which nothing may be appended, and no line's file is read.
+/// and `--workers` as of a run; `--read-only`, by which nothing may be appended, and no line's file is read; and `--brief`, by which the schema is
+/// said first in place of the views.
 ///
-/// It reads the book and the book's tables from `files`, evaluates the views, and says their texts to `talk`. Then it hears a line from there, says
-/// what a run's report has for that line, and hears the next one, up to the end of the lines. Behind each text it says an empty line. A line that
-/// appends has its file read as it is heard. No line ends the conversation: where its file has a fault, where nothing may be appended, where
-/// memory was wanting or where the line is too long, it is refused, and the session is as it was. Where there is a fault before the first line,
-/// nothing is said to `talk`, and one line is written to `err`. How it may end is `ConverseEnds`.
+/// It reads the book and the book's tables from `files`, evaluates the views, and says their texts, or the schema, to `talk`. Then it hears a line
+/// from there, says what a run's report has for that line, or what it comes to where it is one of the conversation's own, and hears the next one,
+/// up to the end of the lines. Behind each text it says an empty line. A line that appends has its file read as it is heard. No line ends the
+/// conversation: where its file has a fault, where nothing may be appended, where memory was wanting or where the line is too long, it is refused,
+/// and the session is as it was. Where there is a fault before the first line, nothing is said to `talk`, and one line is written to `err`. How it
+/// may end is `ConverseEnds`.
 pub fn converse<R: Threads + Sync, F: Files, T: Talk, E: Sink, G: Gate + Sync, L: Ledger>(
     rt: &R,
     alloc: Global,

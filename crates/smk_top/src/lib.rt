@@ -8,6 +8,7 @@ mod counts;
 mod laws;
 mod no_files;
 mod nowhere;
+mod owning;
 mod program;
 mod reporting;
 mod stand;

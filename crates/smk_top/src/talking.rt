@@ -6,6 +6,7 @@ ghost use Rattle.smk_model.specs.Catalogs.{each_table_kinds};
 ghost use Rattle.smk_model.specs.Conversation.{asks_append, block_of, line_limit, text_read, unbrought_text};
 ghost use Rattle.smk_model.specs.FaultTexts.{IsSaid};
 ghost use Rattle.smk_model.specs.Outcome.{Held, appended_at};
+ghost use Rattle.smk_model.specs.OwnLines as owns;
 ghost use Rattle.smk_model.specs.Profiles.{AreDependencies};
 ghost use Rattle.smk_model.specs.Readings.{IsReading};
 ghost use Rattle.smk_model.specs.Reports.{next_rows};
@@ -14,17 +15,21 @@ ghost use Rattle.smk_model.specs.TalkStarts.{BringsBy};
 ghost use Rattle.smk_outside.specs.Outside.{Rose};
 ghost use Rattle.smk_outside.specs.Turning.{ReplyGives};
 ghost use Rattle.smk_session.specs.Sessions.{state_of};
+ghost use Rattle.smk_own.specs.Image.{own_reading_image};
+ghost use Rattle.smk_own.specs.Keeping.{KeepsOwnReading};
 ghost use Rattle.smk_inputs.specs.LineLimits.{KeepsReading};
 ghost use Rattle.smk_inputs.specs.Image.{reading_image};
 ghost use Rattle.smk_inputs.specs.Loaded.{said_of};
 ghost use Rattle.smk_top.specs.Talking.{AnswersLine, TurnTaken, Talked, talk_at, words_bytes};
 
-use crate::answering::{LineTold, tell_line};
+use crate::answering::{LineTold, tell_line, unread_line};
 use crate::no_files::NoFiles;
+use crate::owning::tell_own;
 use crate::stand::Stand;
 use smk_base::{AnyLine, Fault, Names, without_mark};
 use smk_inputs::{Engine, Reading, Settings, Stop, bring, reading_of};
 use smk_outside::{Ending, Files, Gate, Heard, Steps, Talk, TalkFault};
+use smk_own::{OwnAnswer, OwnReading, is_own, read_own};
 use smk_report::fault_text;
 use smk_session::Session;
 use smk_table::Table;
@@ -141,7 +146,7 @@ fn answer_brought<R: Threads + Sync, G: Gate + Sync, L: Ledger>(
     requires few { stand.before < 18446744073709551615 }
     requires kept { KeepsReading (reading_image reading.now) }
     requires kinds { each_kinds (option_to_list brought) ≡ each_table_kinds (option_to_list (appended_at (catalog_image stand.session.catalog) (reading_image reading.now))) }
-    ensures answer { (held : Option Held) (read_only : Bool) (faults faults_after : ℕ) (bytes : List ℕ) → length bytes ≤ line_limit → IsReading (text_read stand.entry.before bytes) (reading_image reading.now)
+    ensures answer { (held : Option Held) (read_only : Bool) (faults faults_after : ℕ) (bytes : List ℕ) → length bytes ≤ line_limit → owns.is_own (text_read stand.entry.before bytes) ≡ false → IsReading (text_read stand.entry.before bytes) (reading_image reading.now)
         → (read_only && asks_append (reading_image reading.now)) ≡ false → BringsBy held (Rose faults faults_after) (appended_at (catalog_image stand.entry.session.catalog) (reading_image reading.now)) (Ok (next_rows (each_rows (option_to_list brought))))
         → AnswersLine (said_of stand.entry.session.catalog stand.entry.fds.now) read_only held (Rose faults faults_after) (talk_at (state_of stand.entry.session) stand.entry.before) bytes (state_of result.0) (words_bytes result.1.words) result.1.down steps.old steps.new }
     ensures book { result.0.catalog ≡ stand.entry.session.catalog }
@@ -175,7 +180,7 @@ fn answer_reading<R: Threads + Sync, F: Files, G: Gate + Sync, L: Ledger>(
     requires shown { AreDependencies (catalog_image stand.session.catalog) stand.fds.now }
     requires few { stand.before < 18446744073709551615 }
     requires kept { KeepsReading (reading_image reading.now) }
-    ensures answer { (bytes : List ℕ) → length bytes ≤ line_limit → IsReading (text_read stand.entry.before bytes) (reading_image reading.now)
+    ensures answer { (bytes : List ℕ) → length bytes ≤ line_limit → owns.is_own (text_read stand.entry.before bytes) ≡ false → IsReading (text_read stand.entry.before bytes) (reading_image reading.now)
         → AnswersLine (said_of stand.entry.session.catalog stand.entry.fds.now) manner.now.read_only (F.held files.old) (Rose (F.faults files.old) (F.faults files.new)) (talk_at (state_of stand.entry.session) stand.entry.before) bytes (state_of result.0) (words_bytes result.1.words) result.1.down steps.old steps.new }
     ensures book { result.0.catalog ≡ stand.entry.session.catalog }
     ensures held { F.held files.new ≡ F.held files.old }
@@ -211,6 +216,47 @@ fn text_heard(heard: u64, bytes: &[u8]) -> &[u8]
     }
 }
 
+// What is said of an own line that says this, and the session after it.
+fn answer_own<R: Threads + Sync, G: Gate + Sync, L: Ledger>(
+    engine: &Engine<'_, R, G>,
+    stand: Stand<'_>,
+    reading: &OwnReading,
+    steps: &mut Steps<L>,
+) -> (Session, Said)
+    requires shown { AreDependencies (catalog_image stand.session.catalog) stand.fds.now }
+    requires few { stand.before < 18446744073709551615 }
+    requires kept { KeepsOwnReading (own_reading_image reading.now) }
+    ensures answer { (held : Option Held) (read_only : Bool) (faults faults_after : ℕ) (bytes : List ℕ) → length bytes ≤ line_limit → owns.is_own (text_read stand.entry.before bytes) ≡ true → owns.IsOwnReading (text_read stand.entry.before bytes) (own_reading_image reading.now)
+        → AnswersLine (said_of stand.entry.session.catalog stand.entry.fds.now) read_only held (Rose faults faults_after) (talk_at (state_of stand.entry.session) stand.entry.before) bytes (state_of result.0) (words_bytes result.1.words) result.1.down steps.old steps.new }
+    ensures book { result.0.catalog ≡ stand.entry.session.catalog }
+{
+    match reading {
+        OwnReading::Owns(own) => {
+            let (session, told) = tell_own(engine, stand, own, steps);
+            match told {
+                Ok(OwnAnswer { text, refused }) => {
+                    let said = Said {
+                        words: Words::Made(text),
+                        down: refused,
+                    };
+                    (session, said)
+                }
+                Err(_) => (session, refusal(FORGONE)),
+            }
+        }
+        OwnReading::Misses(at) => match unread_line(engine.alloc, stand.before + 1, *at) {
+            Ok(told) => {
+                let said = Said {
+                    words: Words::Made(told.text),
+                    down: true,
+                };
+                (stand.session, said)
+            }
+            Err(_) => (stand.session, refusal(FORGONE)),
+        },
+    }
+}
+
 // What is said of a line with these bytes, behind so many lines, and the session after it.
 fn answer_bytes<R: Threads + Sync, F: Files, G: Gate + Sync, L: Ledger>(
     engine: &Engine<'_, R, G>,
@@ -228,7 +274,14 @@ fn answer_bytes<R: Threads + Sync, F: Files, G: Gate + Sync, L: Ledger>(
     ensures held { F.held files.new ≡ F.held files.old }
     ensures later { F.faults files.old ≤ F.faults files.new }
 {
-    match reading_of(engine.alloc, text_heard(stand.before, bytes)) {
+    let text = text_heard(stand.before, bytes);
+    if is_own(text) {
+        return match read_own(engine.alloc, text) {
+            Ok(reading) => answer_own(engine, stand, &reading, steps),
+            Err(_) => (stand.session, refusal(FORGONE)),
+        };
+    }
+    match reading_of(engine.alloc, text) {
         Ok(reading) => answer_reading(engine, manner, files, stand, &reading, steps),
         Err(_) => (stand.session, refusal(FORGONE)),
     }

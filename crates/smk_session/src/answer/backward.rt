@@ -3,19 +3,23 @@ ghost use Rattle.std.specs.Prelude.{◌≡◌, ◌<◌, ◌≤◌, ◌+◌, Ok, 
 ghost use Rattle.std.specs.List.{list_all};
 ghost use Rattle.smk_base.specs.CatalogImage.{catalog_image};
 ghost use Rattle.smk_base.specs.Places.{IsPlaces};
+ghost use Rattle.smk_base.specs.declared.book.tree.Then.TheVariants as thens;
 ghost use Rattle.smk_model.specs.Replies as replies;
+ghost use Rattle.smk_model.specs.ReplyTexts.{AsksRows};
 ghost use Rattle.smk_model.specs.Typing.{info_at};
 ghost use Rattle.smk_model.specs.Workload as workload;
-ghost use Rattle.smk_session.specs.Answers.{Gives, Turns, BacksFit, IsLent, back_by, looks_of_asked};
+ghost use Rattle.smk_session.specs.Answers.{Gives, Turns, BacksFit, IsLent, book_of, looks_of_asked};
 ghost use Rattle.smk_session.specs.Extras.{split_place, cubes_place};
-ghost use Rattle.smk_session.specs.BackAnswers.{IsPairOf, SplitsFit, CubesFit, split_asked, cubes_asked, one_asked, sort_asked, with_value_asked, matching_by, grouped_by};
+ghost use Rattle.smk_session.specs.BackAnswers.{IsPairNamed, SplitsFit, CubesFit, split_asked, cubes_asked, one_asked, sort_asked, with_value_asked, rids_by, rows_by, grouped_by};
+ghost use Rattle.smk_session.specs.Told.{HasNoLists};
 
 use crate::answer::lineage::back_map;
 use crate::answer::marks::{check_marks, marked_members};
+use crate::answer::names::known_pair;
 use crate::answer::no_answer::Turned;
 use crate::lent::Lent;
 use smk_base::{
-    Back, BackExtra, Catalog, ColDecl, Kind, Marks, Refusal, Reply, Rids, Text, Value,
+    Back, BackExtra, Catalog, ColDecl, Kind, Marks, Refusal, Reply, Rids, Text, Then, Value,
     numbers_below,
 };
 use smk_compose::{Run, fetch_rids};
@@ -38,17 +42,13 @@ pub(crate) struct Pair<'a> {
     pub(crate) cubes: &'a [Cubes],
 }
 
-// What is held of a view and a table.
-pub(crate) fn pair_of<'a>(held: &'a Lent<'_>, v: usize, t: usize) -> Pair<'a>
-    requires held { IsLent held.now }
-    requires view { v < length held.now.catalog.now.views }
-    requires table { t < length held.now.catalog.now.tables }
-    ensures view { result.view ≡ v }
-    ensures table { result.table ≡ t }
-    ensures catalog { result.catalog.now ≡ held.now.catalog.now }
-    ensures held { IsPairOf held.now.tables.now held.now.views.now result }
+// What is held of the view and the table of these names.
+pub(crate) fn pair_of<'a>(held: &'a Lent<'_>, view: &Text, table: &Text) -> Result<Pair<'a>, Turned>
+    requires { IsLent held.now }
+    ensures { MatchResult result (IsPairNamed held.now view.now table.now) (λ turned. Turns turned (replies.known_pair (book_of held.now) view.now table.now)) }
 {
-    Pair {
+    let (v, t) = known_pair(held.catalog, view, table)?;
+    Ok(Pair {
         view: v,
         table: t,
         catalog: held.catalog,
@@ -56,24 +56,7 @@ pub(crate) fn pair_of<'a>(held: &'a Lent<'_>, v: usize, t: usize) -> Pair<'a>
         rows: &held.tables[t],
         splits: held.splits,
         cubes: held.cubes,
-    }
-}
-
-// The rows of a table that the marked rows of a view came from, by the kept lineage. Only these rows are looked at.
-pub(crate) fn back_rows<L: Ledger>(
-    alloc: Global,
-    pair: &Pair<'_>,
-    marks: &Marks,
-    steps: &mut Steps<L>,
-) -> Result<Reply, Turned>
-    requires { BacksFit pair.now.run.now.kept pair.now.table (length pair.now.rows.now.rows) }
-    ensures gives { Gives result (back_by pair.now.run.now.kept pair.now.table pair.now.rows.now marks.now) }
-    ensures looks { steps.new ≤ steps.old + looks_of_asked (back_by pair.now.run.now.kept pair.now.table pair.now.rows.now marks.now) }
-{
-    let map = back_map(pair.run, pair.table)?;
-    let rids = marked_members(alloc, map, marks)?;
-    let rows = fetch_rids(alloc, pair.rows, rids.as_slice(), steps)?;
-    Ok(Reply::Back { rids, rows })
+    })
 }
 
 // The columns of a table.
@@ -224,25 +207,64 @@ fn marked_with(
     }
 }
 
-// The rows of a table that the marked rows of a view came from and that have a value in the column of this name. No others are looked at.
-pub(crate) fn matching_rows<L: Ledger>(
+// The rids of a table that the marked rows of a view came from and whose row has a value in the column of this name.
+fn matching_rids(
     alloc: Global,
     pair: &Pair<'_>,
     marks: &Marks,
     name: &Text,
     value: &Value,
-    steps: &mut Steps<L>,
-) -> Result<Reply, Turned>
+) -> Result<Rids, Turned>
     requires table { pair.now.table < length pair.now.catalog.now.tables }
     requires backs { BacksFit pair.now.run.now.kept pair.now.table (length pair.now.rows.now.rows) }
     requires splits { SplitsFit pair.now }
-    ensures gives { Gives result (matching_by pair.now marks.now name.now value.now) }
-    ensures looks { steps.new ≤ steps.old + looks_of_asked (matching_by pair.now marks.now name.now value.now) }
+    ensures gives { Gives result (rids_by pair.now marks.now (thens.Matching name.now value.now)) }
+    ensures set { IfOk result (IsPlaces (length pair.now.rows.now.rows)) }
 {
     let map = back_map(pair.run, pair.table)?;
     let (column, split) = split_named(pair, name)?;
     check_sort(pair.catalog, pair.table, column, value)?;
-    let rids = marked_with(alloc, split, map.len(), marks, value)?;
+    marked_with(alloc, split, map.len(), marks, value)
+}
+
+// The rids of a table that the marked rows of a view came from, by the kept lineage, or those of them whose row has a value. No row is looked at.
+pub(crate) fn rids_of(
+    alloc: Global,
+    pair: &Pair<'_>,
+    marks: &Marks,
+    then: &Then,
+) -> Result<Rids, Turned>
+    requires rows { AsksRows then.now }
+    requires table { pair.now.table < length pair.now.catalog.now.tables }
+    requires backs { BacksFit pair.now.run.now.kept pair.now.table (length pair.now.rows.now.rows) }
+    requires splits { SplitsFit pair.now }
+    ensures gives { Gives result (rids_by pair.now marks.now then.now) }
+    ensures set { IfOk result (IsPlaces (length pair.now.rows.now.rows)) }
+{
+    match then {
+        Then::Plain => marked_members(alloc, back_map(pair.run, pair.table)?, marks),
+        Then::Matching { col, value } => matching_rids(alloc, pair, marks, col, value),
+        Then::Grouped => unreachable!(),
+    }
+}
+
+// These rows, with their rids. No others are looked at.
+pub(crate) fn rows_of<L: Ledger>(
+    alloc: Global,
+    pair: &Pair<'_>,
+    marks: &Marks,
+    then: &Then,
+    steps: &mut Steps<L>,
+) -> Result<Reply, Turned>
+    requires rows { AsksRows then.now }
+    requires table { pair.now.table < length pair.now.catalog.now.tables }
+    requires backs { BacksFit pair.now.run.now.kept pair.now.table (length pair.now.rows.now.rows) }
+    requires splits { SplitsFit pair.now }
+    ensures gives { Gives result (rows_by pair.now marks.now then.now) }
+    ensures lists { IfOk result HasNoLists }
+    ensures looks { steps.new ≤ steps.old + looks_of_asked (rows_by pair.now marks.now then.now) }
+{
+    let rids = rids_of(alloc, pair, marks, then)?;
     let rows = fetch_rids(alloc, pair.rows, rids.as_slice(), steps)?;
     Ok(Reply::Back { rids, rows })
 }
@@ -271,7 +293,8 @@ fn one_mark(marks: &Marks) -> Result<u32, Turned>
 // The groups of the rows of a table that the one marked row of a view came from. They are read off.
 pub(crate) fn groups(alloc: Global, pair: &Pair<'_>, marks: &Marks) -> Result<Reply, Turned>
     requires { CubesFit pair.now }
-    ensures { Gives result (grouped_by pair.now marks.now) }
+    ensures gives { Gives result (grouped_by pair.now marks.now) }
+    ensures lists { IfOk result HasNoLists }
 {
     let map = back_map(pair.run, pair.table)?;
     let kept = cubes_declared(pair)?;

@@ -6,8 +6,10 @@ use std::alloc::AllocError;
 
 /// Why a line has no answer: it is refused, or memory is wanting.
 #[derive(Drop)]
-pub(crate) enum Turned {
+pub enum Turned {
+    /// The line is refused.
     Refused(Refusal),
+    /// Memory is wanting.
     Exhausted,
 }
 

@@ -3,7 +3,10 @@ ghost use Rattle.std.specs.Prelude.{◌≡◌, ◌<◌, ℕ, length, slice_index
 ghost use Rattle.std.specs.Bool.{OnTrue, OnFalse};
 ghost use Rattle.smk_base.specs.CatalogImage.{catalog_image};
 ghost use Rattle.smk_base.specs.Picks.{IsAscending};
-ghost use Rattle.smk_session.specs.Answers.{AreAlike, AreOn, IsChoice, IsLent, book_of, state_at, brushed_of, narrowed_by, picks_brushed};
+ghost use Rattle.smk_session.specs.Answers.{AreAlike, AreOn, IsChoice, IsLent, book_of, state_at, brushed_of, chosen_by, narrowed_by, picks_brushed, rids_or_all, selected_by, state_lent};
+ghost use Rattle.smk_session.specs.Behind.{RidsFit};
+ghost use Rattle.smk_model.specs.Session.{rows_of_table};
+ghost use Rattle.smk_session.specs.Answers as answers;
 ghost use Rattle.smk_session.specs.Sessions.{BrushFits};
 
 use crate::brush::links::concerns;
@@ -24,24 +27,48 @@ fn narrowed(alloc: Global, chosen: Option<Rids>, rids: &Rids) -> Result<Rids, Al
     }
 }
 
-// The rids of a table that brushes select for a view: none where no brush concerns it.
-fn brushed(
+// Whether a brush counts on a table: for a view those that concern it, and for none all.
+fn counts(catalog: &Catalog, view: Option<u32>, t: u32, brush: &BrushOn) -> bool
+    ensures { result ≡ answers.counts (catalog_image catalog.now) view t brush.now }
+{
+    match view {
+        Some(w) => concerns(catalog, w, t, brush),
+        None => brush.table == t,
+    }
+}
+
+// The rids of a table that the brushes select which count for a view, or for none: none where no brush does.
+pub(crate) fn brushed(
     alloc: Global,
     catalog: &Catalog,
     brushes: &[BrushOn],
-    w: u32,
+    view: Option<u32>,
     t: u32,
 ) -> Result<Option<Rids>, AllocError>
     requires { All (λ brush. IsAscending brush.rids) brushes.now }
-    ensures { IfOk result (λ rids. (n : ℕ) → AreOn t n brushes.now → rids ≡ brushed_of (catalog_image catalog.now) brushes.now w t n) }
+    ensures { IfOk result (λ rids. (n : ℕ) → AreOn t n brushes.now → rids ≡ chosen_by (answers.counts (catalog_image catalog.now) view t) brushes.now n) }
 {
     let mut chosen = None;
     for brush in brushes {
-        if concerns(catalog, w, t, brush) {
+        if counts(catalog, view, t, brush) {
             chosen = Some(narrowed(alloc, chosen, &brush.rids)?);
         }
     }
     Ok(chosen)
+}
+
+// The same of the brushes in force.
+pub(crate) fn selected(
+    alloc: Global,
+    held: &Lent<'_>,
+    view: Option<u32>,
+    t: u32,
+) -> Result<Option<Rids>, AllocError>
+    requires { IsLent held.now }
+    ensures selected { IfOk result (λ rids. rids_or_all rids (length (rows_of_table (state_lent held.now) t)) ≡ selected_by (book_of held.now) (state_lent held.now) view t) }
+    ensures fit { IfOk result (λ rids. IfSome rids (RidsFit (length (rows_of_table (state_lent held.now) t)))) }
+{
+    brushed(alloc, held.catalog, held.brushes, view, t)
 }
 
 // The rids of a table that brushes select for a view: none where no brush concerns it.
@@ -98,7 +125,7 @@ pub(crate) fn choose(
     if let Some(place) = place_of(catalog, brushes, t, w, choices.as_slice()) {
         return Ok(place);
     }
-    let rids = brushed(alloc, catalog, brushes, w, t)?;
+    let rids = brushed(alloc, catalog, brushes, Some(w), t)?;
     choices.push(Choice { view: w, rids })?;
     Ok(choices.len() - 1)
 }
@@ -116,7 +143,7 @@ pub(crate) fn picks(
 {
     let mut picks = Picks::new(alloc);
     for t in 0..held.tables.len() as u32 {
-        if let Some(rids) = brushed(alloc, held.catalog, brushes, w, t)? {
+        if let Some(rids) = brushed(alloc, held.catalog, brushes, Some(w), t)? {
             picks.push(Pick { table: t, rids })?;
         }
     }

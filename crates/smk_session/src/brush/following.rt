@@ -12,7 +12,7 @@ ghost use Rattle.smk_base.specs.declared.reply.Linked.{Linked as LinkedImage};
 ghost use Rattle.std.specs.List.{list_any, sum_by};
 ghost use Rattle.smk_compose.specs.declared.fault.EvalFault.TheVariants as faults;
 ghost use Rattle.smk_session.specs.Answers.{Turns, rids_or_all, content_at};
-ghost use Rattle.smk_session.specs.Refreshed.{AreChoices, AreFollowed, FollowsAs, IsBrushed, IsFetched, IsKept, IsReady, IsRefresh, IsSource, Names, book_at, contents_at, groups_table, linked_at, looks_now, marks_next, state_next, views_of};
+ghost use Rattle.smk_session.specs.Refreshed.{all_told, AreChoices, AreFollowed, FollowsAs, IsBrushed, IsFetched, IsKept, IsReady, IsRefresh, IsSource, Names, book_at, contents_at, groups_table, linked_at, looks_now, marks_next, marks_told, state_next, views_of};
 ghost use Rattle.smk_session.specs.Sessions.{follows};
 
 use crate::answer::no_answer::Turned;
@@ -81,6 +81,26 @@ fn marks_now(
 {
     let map = declared_map(refresh, w);
     reached(alloc, map, chosen)
+}
+
+// The same where marks are wanted, and else none.
+fn marks_wanted(
+    alloc: Global,
+    refresh: &Refresh<'_>,
+    w: u32,
+    chosen: &Option<Rids>,
+) -> Result<Rids, AllocError>
+    requires refresh { IsRefresh refresh.now }
+    requires view { w < length refresh.now.held.now.catalog.now.views }
+    requires declared { declares_fwd (book_at refresh.now) w refresh.now.table ≡ true }
+    requires chosen { IsBrushed refresh.now w chosen.now }
+    ensures { IfOk result (λ marks. marks ≡ marks_told refresh.now w) }
+{
+    if refresh.marked {
+        marks_now(alloc, refresh, w, chosen)
+    } else {
+        Ok(Rids::new(alloc))
+    }
 }
 
 // The refusal of a view with too many rows at a node.
@@ -214,7 +234,7 @@ fn fetch<'a, L: Ledger>(
     let at = choose(alloc, catalog, refresh.brushes, w, refresh.table, choices)?;
     let chosen = &choices[at].rids;
     let source = fetch_source(alloc, refresh, w, chosen, steps)?;
-    let marks = marks_now(alloc, refresh, w, chosen)?;
+    let marks = marks_wanted(alloc, refresh, w, chosen)?;
     let place = waiting.len().min(u32::MAX as usize) as u32;
     waiting.push(Fetched {
         place,
@@ -338,7 +358,7 @@ pub(crate) fn follow<R: Threads + Sync, G: Gate + Sync, L: Ledger>(
     steps: &mut Steps<L>,
 ) -> Result<Followed, Turned>
     requires refresh { IsRefresh refresh.now }
-    ensures linked { MatchResult result (λ followed. replies.all_linked (book_at refresh.now) (state_next refresh.now) v refresh.now.table ≡ Ok followed.linked) (λ turned. Turns turned (replies.all_linked (book_at refresh.now) (state_next refresh.now) v refresh.now.table)) }
+    ensures linked { MatchResult result (λ followed. all_told refresh.now v ≡ Ok followed.linked) (λ turned. Turns turned (all_told refresh.now v)) }
     ensures contents { IfOk result (λ followed. followed.contents ≡ contents_at refresh.now (sessions.linked (book_at refresh.now) v refresh.now.table)) }
     ensures looks { steps.new ≤ steps.old + looks_of_linked (book_at refresh.now) (state_next refresh.now) v refresh.now.table }
 {

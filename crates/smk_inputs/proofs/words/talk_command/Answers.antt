@@ -10,4 +10,5 @@ returns c =
     let workers = c.in_ok-with_workers.ensures.shape c.workers_arg.ensures.local ∙ ap₂ with_rule mode c.workers_arg.ensures.rule in
     let demo = c.in_ok-with_demo.ensures.shape c.demo_arg.ensures.local ∙ ap₂ with_rule workers c.demo_arg.ensures.rule in
     let read_only = c.in_ok-with_read_only.ensures.shape c.read_only_arg.ensures.local ∙ ap₂ with_rule demo c.read_only_arg.ensures.rule in
-    c.in_ok-with_book.ensures.shape c.place_arg.ensures.local ∙ ap₂ with_rule read_only c.place_arg.ensures.rule
+    let brief = c.in_ok-with_brief.ensures.shape c.brief_arg.ensures.local ∙ ap₂ with_rule read_only c.brief_arg.ensures.rule in
+    c.in_ok-with_book.ensures.shape c.place_arg.ensures.local ∙ ap₂ with_rule brief c.place_arg.ensures.rule

@@ -2,7 +2,7 @@ use Rattle.std.proofs.Common.{◌∙◌, ℕ, List, ◌++◌, ◌∷◌, [], map
 use Rattle.std.proofs.lemmas.Result.{on_ok_weaker}
 use Rattle.smk_base.specs.declared.book.col_decl.ColDecl.{ColDecl}
 use Rattle.smk_report.proofs.PageTexts.{says_same}
-use Rattle.smk_report.proofs.Parts.{declared_more}
+use Rattle.smk_report.proofs.Parts.{mapped_more}
 use Rattle.smk_report.proofs.texts.table_header.Goals as goal
 
 pub loop-column-init : goal.loop-column-init
@@ -13,7 +13,7 @@ loop-column-preserved c text says =
     let columns = c.as_slice-column-items.result.now in
     let i = c.loop-column.column-index in
     let names : List (List ℕ) = map (λ (column : ColDecl). column.name) (take i columns) in
-    let more = declared_more columns i c.column-item.result c.loop-column-test.true c.column-item.is in
+    let more = mapped_more (λ (column : ColDecl). column.name) columns i c.column-item.result c.loop-column-test.true c.column-item.is in
     says_same _ text _ _ (ap (λ (x : List ℕ). codes "rid" ∷ (names ++ x ∷ [])) c.as_slice.ensures ∙ ap (λ (fields : List (List ℕ)). codes "rid" ∷ fields) (sym more))
     (c.in_ok-field-2.ensures text (codes "rid" ∷ names) (c.loop-column.invariant text says))
 

@@ -1,12 +1,15 @@
-use Rattle.std.proofs.Common.{◌≡◌, ◌≤◌, ◌+◌, ◌∙◌, List, All, Ok, map, subst, sym}
+use Rattle.std.proofs.Common.{◌≡◌, ◌≤◌, ◌+◌, ◌∙◌, List, All, Ok, ap, map, refl, subst, sym}
 use Rattle.std.proofs.lemmas.Result.{err_from_is_err_and}
 use Rattle.smk_base.specs.declared.brush.BrushOn.{BrushOn}
+use Rattle.smk_base.specs.declared.reply.Reply.TheVariants as replies
 use Rattle.smk_model.specs.Looks.{looks_of_linked}
 use Rattle.smk_model.specs.Replies.{all_linked, brush_of}
 use Rattle.smk_model.specs.Session.{linked}
 use Rattle.smk_session.specs.Answers.{Turns, book_of, content_at, state_at, state_lent}
 use Rattle.smk_session.specs.Sessions.{BrushFits}
+use Rattle.smk_session.specs.declared.brush.refresh.Refresh.{Refresh}
 use Rattle.smk_session.proofs.Brushed.{refreshes, brush_told, brush_turned, brush_looks, brush_change}
+use Rattle.smk_session.proofs.Told.{brush_listed, told_turned, told_views}
 use Rattle.smk_session.proofs.Shown.{with_fits}
 use Rattle.smk_session.proofs.brush.brush.Goals as goal
 
@@ -19,8 +22,19 @@ follow-requires-clause-refresh g c κs within =
 
 pub returns-clause-told : goal.returns-clause-told
 returns-clause-told g c =
-    brush_told (book_of c.args.held.now) (state_lent c.args.held.now) c.args.view.now c.args.marks.now c.args.table.now c.in_ok-brush.brush c.in_ok-brushes.brushes c.in_ok-rids.rids c.in_ok-followed.followed.linked c.in_ok-brush.ensures.gives c.in_ok-brushes.ensures c.in_ok-rids.ensures
-    (subst (λ (l : List BrushOn). all_linked (book_of c.args.held.now) (state_at c.args.held.now l) c.in_ok-brush.brush.view c.in_ok-brush.brush.table ≡ Ok c.in_ok-followed.followed.linked) c.as_slice.ensures c.in_ok-followed.ensures.linked)
+    let held = c.args.held.now in
+    let brush = c.in_ok-brush.brush in
+    let refresh : Refresh = record { held = c.args.held; brushes = c.as_slice.result; table = brush.table; marked = c.args.listed } in
+    let told = told_views refresh brush.view c.in_ok-followed.followed.linked c.in_ok-followed.ensures.linked in
+    record {
+      whole = replies.Brush brush.rids told.0;
+      asked_for = brush_told (book_of held) (state_lent held) c.args.view.now c.args.marks.now c.args.table.now brush c.in_ok-brushes.brushes brush.rids told.0 c.in_ok-brush.ensures.gives c.in_ok-brushes.ensures refl
+          (subst (λ (l : List BrushOn). all_linked (book_of held) (state_at held l) brush.view brush.table ≡ Ok told.0) c.as_slice.ensures told.1);
+      told = record {
+        reply = ap (replies.Brush c.in_ok-rids.rids) told.2 ∙ brush_listed c.args.listed brush.rids told.0 c.in_ok-rids.rids c.in_ok-rids.ensures;
+        count = c.count_of-count.ensures;
+      };
+    }
 
 pub returns-clause-changes : goal.returns-clause-changes
 returns-clause-changes g c =
@@ -35,9 +49,11 @@ returns-clause-looks g c =
 pub returns-in_err-followed-clause-turned : goal.returns-in_err-followed-clause-turned
 returns-in_err-followed-clause-turned g c =
     let p = err_from_is_err_and c.from_residual-in_err-followed.result c.from_residual-in_err-followed.ensures.1 in
+    let refresh : Refresh = record { held = c.args.held; brushes = c.as_slice.result; table = c.in_ok-brush.brush.table; marked = c.args.listed } in
     rw (p.1, p.2)
     (brush_turned (book_of c.args.held.now) (state_lent c.args.held.now) c.args.view.now c.args.marks.now c.args.table.now c.in_ok-brush.brush c.in_ok-brushes.brushes c.in_err-followed.field-0.0 c.in_ok-brush.ensures.gives c.in_ok-brushes.ensures
-    (subst (λ (l : List BrushOn). Turns c.in_err-followed.field-0.0 (all_linked (book_of c.args.held.now) (state_at c.args.held.now l) c.in_ok-brush.brush.view c.in_ok-brush.brush.table)) c.as_slice.ensures c.in_err-followed.ensures.linked))
+    (subst (λ (l : List BrushOn). Turns c.in_err-followed.field-0.0 (all_linked (book_of c.args.held.now) (state_at c.args.held.now l) c.in_ok-brush.brush.view c.in_ok-brush.brush.table)) c.as_slice.ensures
+    (told_turned refresh c.in_ok-brush.brush.view c.in_err-followed.field-0.0 c.in_err-followed.ensures.linked)))
 
 pub returns-in_err-followed-clause-looks : goal.returns-in_err-followed-clause-looks
 returns-in_err-followed-clause-looks g c =

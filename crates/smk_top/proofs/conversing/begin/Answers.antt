@@ -15,27 +15,27 @@ use Rattle.smk_top.proofs.conversing.begin.Goals as goal
 pub returns-in_err-inputs-clause-begins : goal.returns-in_err-inputs-clause-begins
 returns-in_err-inputs-clause-begins g c =
     let p = err_from_is_err_and c.from_residual.result c.from_residual.ensures.1 in
-    rw (p.1, p.2) (reading_stops inputs_with script_bytes (g.F.Files.faults c.args.files.now) (g.F.Files.faults c.read_all.new.files) (Rose (g.T.Talk.faults c.args.talk.now) (g.T.Talk.faults c.args.talk.now)) c.args.book.now c.args.call.now.read_only (g.T.Talk.told c.args.talk.now) (g.T.Talk.told c.args.talk.now) (g.F.Files.held c.args.files.now) _ _ c.in_err-inputs.field-0.0 c.in_err-inputs.ensures.read refl refl)
+    rw (p.1, p.2) (reading_stops inputs_with script_bytes (g.F.Files.faults c.args.files.now) (g.F.Files.faults c.read_all.new.files) (Rose (g.T.Talk.faults c.args.talk.now) (g.T.Talk.faults c.args.talk.now)) c.args.book.now c.args.call.now.read_only c.args.call.now.brief (g.T.Talk.told c.args.talk.now) (g.T.Talk.told c.args.talk.now) (g.F.Files.held c.args.files.now) _ _ c.in_err-inputs.field-0.0 c.in_err-inputs.ensures.read refl refl)
 
 pub returns-in_err-session-clause-begins : goal.returns-in_err-session-clause-begins
 returns-in_err-session-clause-begins g c =
     let p = err_from_is_err_and c.from_residual-in_err-session.result c.from_residual-in_err-session.ensures.1 in
-    let read = book_read inputs_with script_bytes (g.F.Files.faults c.args.files.now) (g.F.Files.faults c.read_all.new.files) (Rose 0 0) c.args.book.now c.args.call.now.read_only (g.T.Talk.told c.args.talk.now) (g.T.Talk.told c.args.talk.now) (g.F.Files.held c.args.files.now) c.in_ok-inputs.inputs c.in_ok-inputs.ensures.read in
-    rw (p.1, p.2) (starting_stops inputs_with script_bytes (g.F.Files.faults c.args.files.now) (g.F.Files.faults c.read_all.new.files) (Rose (g.T.Talk.faults c.args.talk.now) (g.T.Talk.faults c.args.talk.now)) c.args.book.now c.args.call.now.read_only (g.T.Talk.told c.args.talk.now) (g.T.Talk.told c.args.talk.now) Started (g.F.Files.held c.args.files.now) c.in_ok-inputs.inputs _ _ c.in_err-session.field-0.0 read
+    let read = book_read inputs_with script_bytes (g.F.Files.faults c.args.files.now) (g.F.Files.faults c.read_all.new.files) (Rose 0 0) c.args.book.now c.args.call.now.read_only c.args.call.now.brief (g.T.Talk.told c.args.talk.now) (g.T.Talk.told c.args.talk.now) (g.F.Files.held c.args.files.now) c.in_ok-inputs.inputs c.in_ok-inputs.ensures.read in
+    rw (p.1, p.2) (starting_stops inputs_with script_bytes (g.F.Files.faults c.args.files.now) (g.F.Files.faults c.read_all.new.files) (Rose (g.T.Talk.faults c.args.talk.now) (g.T.Talk.faults c.args.talk.now)) c.args.book.now c.args.call.now.read_only c.args.call.now.brief (g.T.Talk.told c.args.talk.now) (g.T.Talk.told c.args.talk.now) Started (g.F.Files.held c.args.files.now) c.in_ok-inputs.inputs _ _ c.in_err-session.field-0.0 read
     c.in_err-session.ensures.starts refl c.in_err-session.ensures.looks)
 
 pub returns-in_err-opening-clause-begins : goal.returns-in_err-opening-clause-begins
 returns-in_err-opening-clause-begins g c =
     let p = err_from_is_err_and c.from_residual-in_err-opening.result c.from_residual-in_err-opening.ensures.1 in
-    let read = book_read inputs_with script_bytes (g.F.Files.faults c.args.files.now) (g.F.Files.faults c.read_all.new.files) (Rose 0 0) c.args.book.now c.args.call.now.read_only (g.T.Talk.told c.args.talk.now) (g.T.Talk.told c.args.talk.now) (g.F.Files.held c.args.files.now) c.in_ok-inputs.inputs c.in_ok-inputs.ensures.read in
+    let read = book_read inputs_with script_bytes (g.F.Files.faults c.args.files.now) (g.F.Files.faults c.read_all.new.files) (Rose 0 0) c.args.book.now c.args.call.now.read_only c.args.call.now.brief (g.T.Talk.told c.args.talk.now) (g.T.Talk.told c.args.talk.now) (g.F.Files.held c.args.files.now) c.in_ok-inputs.inputs c.in_ok-inputs.ensures.read in
     rw (p.1, p.2) (record { same = refl; looks = inr (inputs_with c.in_ok-inputs.inputs (some_reading (script_bytes c.in_ok-inputs.inputs)).0, read, c.in_ok-session.ensures.looks) })
 
 pub returns-clause-begins : goal.returns-clause-begins
 returns-clause-begins g c =
-    let read = book_read inputs_with script_bytes (g.F.Files.faults c.args.files.now) (g.F.Files.faults c.read_all.new.files) (Rose 0 0) c.args.book.now c.args.call.now.read_only (g.T.Talk.told c.args.talk.now) (g.T.Talk.told c.args.talk.now) (g.F.Files.held c.args.files.now) c.in_ok-inputs.inputs c.in_ok-inputs.ensures.read in
+    let read = book_read inputs_with script_bytes (g.F.Files.faults c.args.files.now) (g.F.Files.faults c.read_all.new.files) (Rose 0 0) c.args.book.now c.args.call.now.read_only c.args.call.now.brief (g.T.Talk.told c.args.talk.now) (g.T.Talk.told c.args.talk.now) (g.F.Files.held c.args.files.now) c.in_ok-inputs.inputs c.in_ok-inputs.ensures.read in
     let session = c.in_ok-session.field-0.session in
     talks_over (g.F.Files.held c.args.files.now) (g.F.Files.held c.read_all.new.files) (g.F.Files.faults c.args.files.now) (g.F.Files.faults c.read_all.new.files) (g.F.Files.faults c.hold.new.files)
-    (Rose (g.T.Talk.faults c.args.talk.now) (g.T.Talk.faults c.hold.new.talk)) c.args.book.now c.args.call.now.read_only (g.T.Talk.told c.args.talk.now) (g.T.Talk.told c.hold.new.talk) c.args.steps.now c.start.new.steps c.hold.new.steps c.hold.result
+    (Rose (g.T.Talk.faults c.args.talk.now) (g.T.Talk.faults c.hold.new.talk)) c.args.book.now c.args.call.now.read_only c.args.call.now.brief (g.T.Talk.told c.args.talk.now) (g.T.Talk.told c.hold.new.talk) c.args.steps.now c.start.new.steps c.hold.new.steps c.hold.result
     (inputs_with c.in_ok-inputs.inputs (some_reading (script_bytes c.in_ok-inputs.inputs)).0) (workbook_of session) (state_of session) c.in_ok-session.field-0.fds c.as_slice.result.now
     c.in_ok-inputs.ensures.held c.in_ok-inputs.ensures.later c.hold.ensures.later
     read c.in_ok-session.ensures.starts c.in_ok-session.ensures.book c.in_ok-session.ensures.fds

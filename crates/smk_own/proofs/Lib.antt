@@ -1,0 +1,5 @@
+pub mod OwnReads
+pub mod Parts
+pub mod Selects
+pub mod Tallies
+pub mod Unlisted

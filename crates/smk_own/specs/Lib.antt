@@ -1,0 +1,4 @@
+pub mod Image
+pub mod Keeping
+pub mod Answering
+pub mod Leads

@@ -1,0 +1,6 @@
+/// What an own line comes to: its text, and whether it is refused.
+#[derive(Drop)]
+pub struct OwnAnswer {
+    pub text: Vec<u8>,
+    pub refused: bool,
+}
