@@ -1,10 +1,13 @@
 -- Maps in which each place has itself alone.
-use Rattle.std.proofs.Common.{◌≡◌, ◌∙◌, ◌<◌, ℕ, List, [], ◌∷◌, length, map, get_or, refl, sym, ap, inl, inr}
-use Rattle.std.proofs.lemmas.Bool.{cases_eq, eq-eqb, ne_eqb}
+use Rattle.std.proofs.Common.{◌≡◌, ◌∙◌, ◌<◌, ◌+◌, ◌&&◌, ◌↔◌, ℕ, zero, suc, Bool, List, [], ◌∷◌, length, map, get_or, eqb, refl, sym, ap, arith, inl, inr}
+use Rattle.std.specs.Prelude.{IsTrue}
+use Rattle.std.proofs.Math.ListN.{replicate}
+use Rattle.std.proofs.lemmas.Bool.{and_parts, cases_eq, eq-eqb, eqb-true, ne_eqb}
 use Rattle.std.proofs.lemmas.List.{same_lists, length-map, get_or_default}
 use Rattle.smk_base.specs.Places.{Lists, upto, own_lists}
 use Rattle.smk_rid.specs.Packing.{one_of}
 use Rattle.smk_base.proofs.Places.{length_upto, get_or_map_upto}
+use Rattle.smk_rid.proofs.Codes.{one_some}
 
 -- lists that each have their own place alone
 pub own_is : (lists : List (List ℕ)) → ((k : ℕ) → k < length lists → get_or lists k [] ≡ k ∷ []) → lists ≡ map (λ i. i ∷ []) (upto (length lists))
@@ -22,6 +25,20 @@ one_back r i is = elim (cases_eq r 4294967295) [
   | inl none ↦ (let e : [] ≡ i ∷ [] = rw (eq-eqb r 4294967295 none) at is in absurd (cc))
   | inr some ↦ (let e : r ∷ [] ≡ i ∷ [] = rw (ne_eqb r 4294967295 some) at is in cc)
 ]
+
+-- one more number of its own place
+pub own_more : (lists : List (List ℕ)) (i n : ℕ) (own : Bool) → one_of n ≡ get_or lists i [] → i < 4294967295 → (IsTrue own → (k : ℕ) → k < i → get_or lists k [] ≡ k ∷ []) → IsTrue (own && eqb n i) → (k : ℕ) → k < i + 1 → get_or lists k [] ≡ k ∷ []
+own_more lists i n own at low each t k under =
+    let both = and_parts own (eqb n i) t in
+    elim (cases_eq k i) [
+      | inl e ↦ rw e (sym at ∙ ap one_of (eqb-true n i both.1) ∙ one_some i (λ f. absurd (omega (arith, low, f))))
+      | inr ne ↦ each both.0 k (omega (arith, under, ne))
+    ]
+
+-- empty lists have their own places where there are none
+pub own_none : (n : ℕ) → let lists : List (List ℕ) = replicate n [] in IsTrue (eqb n 0) ↔ (lists ≡ map (λ i. i ∷ []) (upto (length lists)))
+own_none zero = (λ _. refl, λ _. refl)
+own_none (suc n) = (λ t. absurd (omega (arith, eqb-true (suc n) 0 t)), λ own. let e : [] ≡ 0 ∷ [] = own_at ([] ∷ replicate n []) 0 (omega arith) own in absurd (cc))
 
 -- a map of such lists, bounded by their number
 pub own_map : (m : Lists) → m.bound ≡ length m.lists → m.lists ≡ map (λ i. i ∷ []) (upto (length m.lists)) → m ≡ own_lists (length m.lists)

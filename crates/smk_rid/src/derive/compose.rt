@@ -1,6 +1,6 @@
-ghost use Rattle.std.specs.Prelude.{◌≡◌, ◌<◌, ◌≤◌, ◌+◌, ◌∷◌, ◌++◌, ℕ, [], length, slice_index_or, vec_capacity, IfOk, IfErr, IsTrue, OnOk};
-ghost use Rattle.std.specs.List.{All, AllPairs, flat_map, list_any};
-ghost use Rattle.smk_base.specs.Places.{IsPlaces, composed, has, list_at, members_at, pairs_of, upto};
+ghost use Rattle.std.specs.Prelude.{◌≡◌, ◌<◌, ◌≤◌, ◌+◌, ◌∷◌, ◌++◌, [], length, slice_index_or, IfOk, IfErr, OnOk};
+ghost use Rattle.std.specs.List.{All, flat_map};
+ghost use Rattle.smk_base.specs.Places.{IsPlaces, composed, list_at, members_at, pairs_of, upto};
 ghost use Rattle.smk_rid.specs.Maps.{IsMap, IsSingle};
 ghost use Rattle.smk_rid.specs.Packing.{one_of};
 ghost use Rattle.smk_rid.specs.declared.fault.RidFault.TheVariants.{Pairs};
@@ -212,33 +212,11 @@ fn gather_numbers(
 {
     rids.clear();
     rids.reserve(places.len())?;
-    let rises = put_rids(rids, lists, places);
+    let rises = lists.put_rising(rids, places);
     if !rises {
         make_set(alloc, rids, bound)?;
     }
     Ok(())
-}
-
-// Puts the rids of the lists at these places into an empty Vec, but none that stands last there already. It tells whether they rise.
-fn put_rids(rids: &mut Vec<u32>, lists: &RidArray, places: &[u32]) -> bool
-    requires none { rids.old.items ≡ [] }
-    requires within { All (λ p. p < length lists.now) places.now }
-    requires room { length places.now ≤ vec_capacity rids.old }
-    ensures same { (r : ℕ) → has rids.new.items r ≡ list_any (λ p. has (slice_index_or lists.now p []) r) places.now }
-    ensures rising { IsTrue result → AllPairs (λ x y. x < y) rids.new.items }
-{
-    // One more than the rid that stands last, or 0.
-    let mut above = 0;
-    let mut rises = true;
-    for p in places {
-        let rid = lists.number(*p as usize);
-        if rid != NONE && rid + 1 != above {
-            rises = goes_on(rises, above, rid);
-            above = rid + 1;
-            rids.push_reserved(rid);
-        }
-    }
-    rises
 }
 
 // The rids of lists of at most one rid, ascending without repeats.
@@ -255,11 +233,4 @@ fn set_of_numbers(alloc: Global, lists: &RidArray, bound: u32) -> Result<Vec<u32
     }
     make_set(alloc, &mut rids, bound)?;
     Ok(rids)
-}
-
-// Whether rids rise with one more: they did so far, and it is no less than this.
-fn goes_on(rises: bool, above: u32, rid: u32) -> bool
-    ensures { IsTrue result → IsTrue rises × (above ≤ rid) }
-{
-    rises && above <= rid
 }

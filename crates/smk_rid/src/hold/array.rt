@@ -1,12 +1,14 @@
-ghost use Rattle.std.specs.Prelude.{◌≡◌, ◌<◌, ◌≤◌, ◌+◌, ◌++◌, ℕ, [], length, map, nat_lt, take, slice_index_or, IfOk, OnOk, vec_capacity, vec_len};
-ghost use Rattle.std.specs.List.{All, filter, flat_map};
+ghost use Rattle.std.specs.Prelude.{◌≡◌, ◌<◌, ◌≤◌, ◌↔◌, ◌+◌, ◌∷◌, ◌++◌, ℕ, [], length, map, nat_lt, take, slice_index_or, IfOk, IsTrue, OnOk, vec_capacity, vec_len};
+ghost use Rattle.std.specs.List.{All, AllPairs, filter, flat_map, list_any};
 ghost use Rattle.std.proofs.Math.ListN.{replicate};
-ghost use Rattle.smk_base.specs.Places.{pairs_of};
+ghost use Rattle.smk_base.specs.Places.{has, pairs_of, upto};
 ghost use Rattle.smk_rid.specs.Forms.{lists_in};
 ghost use Rattle.smk_rid.specs.Maps.{IsSingle};
 ghost use Rattle.smk_rid.specs.Packing.{one_of};
 
-use crate::hold::code::{count_before, keep_at, number_at, put_at, put_numbers};
+use crate::hold::code::{
+    are_own, count_before, keep_at, number_at, put_at, put_numbers, put_rising,
+};
 use crate::hold::narrow::Narrow;
 use crate::map::PAIR_LIMIT;
 use std::alloc::{AllocError, Global};
@@ -122,6 +124,19 @@ impl RidArray {
         }
     }
 
+    /// Whether each list has its own place alone.
+    pub fn has_own(&self) -> bool
+        requires { length self.now < 4294967296 }
+        ensures { IsTrue result ↔ (self.now ≡ map (λ i. i ∷ []) (upto (length self.now))) }
+    {
+        match &self.form {
+            Form::Empty(len) => *len == 0,
+            Form::Bytes(lists) => are_own(lists.codes()),
+            Form::Halves(lists) => are_own(lists.codes()),
+            Form::Words(rids) => are_own(rids.as_slice()),
+        }
+    }
+
     /// Puts the numbers that stand for the lists last.
     pub fn put_numbers(&self, numbers: &mut Vec<u32>) -> Result<(), AllocError>
         ensures numbers { OnOk result (map one_of numbers.new.items ≡ map one_of numbers.old.items ++ self.now) }
@@ -149,6 +164,22 @@ impl RidArray {
             Form::Bytes(lists) => put_at(lists.codes(), rids, places),
             Form::Halves(lists) => put_at(lists.codes(), rids, places),
             Form::Words(numbers) => put_at(numbers.as_slice(), rids, places),
+        }
+    }
+
+    /// Puts the rids of the lists at these places into an empty Vec, but none that stands last there already. It tells whether they rise.
+    pub fn put_rising(&self, rids: &mut Vec<u32>, places: &[u32]) -> bool
+        requires none { rids.old.items ≡ [] }
+        requires within { All (λ p. p < length self.now) places.now }
+        requires room { length places.now ≤ vec_capacity rids.old }
+        ensures same { (r : ℕ) → has rids.new.items r ≡ list_any (λ p. has (slice_index_or self.now p []) r) places.now }
+        ensures rising { IsTrue result → AllPairs (λ x y. x < y) rids.new.items }
+    {
+        match &self.form {
+            Form::Empty(_) => true,
+            Form::Bytes(lists) => put_rising(lists.codes(), rids, places),
+            Form::Halves(lists) => put_rising(lists.codes(), rids, places),
+            Form::Words(numbers) => put_rising(numbers.as_slice(), rids, places),
         }
     }
 

@@ -1,6 +1,6 @@
-ghost use Rattle.std.specs.Prelude.{◌≡◌, ◌<◌, ◌≤◌, ◌+◌, ◌++◌, ℕ, [], if◌then◌else◌, ◌==◌, length, map, nat_lt, slice_index_or, take, vec_capacity, vec_len, OnOk};
-ghost use Rattle.std.specs.List.{All, filter, flat_map};
-ghost use Rattle.smk_base.specs.Places.{pairs_of};
+ghost use Rattle.std.specs.Prelude.{◌≡◌, ◌<◌, ◌≤◌, ◌↔◌, ◌+◌, ◌∷◌, ◌++◌, ℕ, [], if◌then◌else◌, ◌==◌, length, map, nat_lt, slice_index_or, take, vec_capacity, vec_len, IsTrue, OnOk};
+ghost use Rattle.std.specs.List.{All, AllPairs, filter, flat_map, list_any};
+ghost use Rattle.smk_base.specs.Places.{has, pairs_of, upto};
 ghost use Rattle.smk_rid.specs.Packing.{one_of};
 
 use crate::hold::array::NONE;
@@ -128,6 +128,40 @@ pub fn put_at<C: Code>(codes: &[C], rids: &mut Vec<u32>, places: &[u32])
             rids.push_reserved(rid);
         }
     }
+}
+
+/// Puts the rids of the codes at these places into an empty Vec, but none that stands last there already. It tells whether they rise.
+pub fn put_rising<C: Code>(codes: &[C], rids: &mut Vec<u32>, places: &[u32]) -> bool
+    requires none { rids.old.items ≡ [] }
+    requires within { All (λ p. p < length codes.now) places.now }
+    requires room { length places.now ≤ vec_capacity rids.old }
+    ensures same { (r : ℕ) → has rids.new.items r ≡ list_any (λ p. has (slice_index_or (map one_of (map C.number_of codes.now)) p []) r) places.now }
+    ensures rising { IsTrue result → AllPairs (λ x y. x < y) rids.new.items }
+{
+    // One more than the rid that stands last, or 0.
+    let mut above = 0;
+    let mut rises = true;
+    for p in places {
+        let rid = number_at(codes, *p as usize);
+        if rid != NONE && rid + 1 != above {
+            rises &= above <= rid;
+            above = rid + 1;
+            rids.push_reserved(rid);
+        }
+    }
+    rises
+}
+
+/// Whether each code stands for its own place. Each is looked at, since a loop that may end early takes them one at a time.
+pub fn are_own<C: Code>(codes: &[C]) -> bool
+    requires { length codes.now < 4294967296 }
+    ensures { let lists = map one_of (map C.number_of codes.now) in IsTrue result ↔ (lists ≡ map (λ i. i ∷ []) (upto (length lists))) }
+{
+    let mut own = true;
+    for i in 0..codes.len() {
+        own &= number_at(codes, i) == i as u32;
+    }
+    own
 }
 
 /// Puts those of these places last whose codes stand for a rid. There is room for them.

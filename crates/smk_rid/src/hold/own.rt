@@ -1,7 +1,6 @@
-ghost use Rattle.std.specs.Prelude.{◌≡◌, ◌<◌, ◌↔◌, [], ◌∷◌, length, map, IsTrue};
-ghost use Rattle.smk_base.specs.Places.{own_lists, upto};
+ghost use Rattle.std.specs.Prelude.{◌≡◌, ◌↔◌, length, IsTrue};
+ghost use Rattle.smk_base.specs.Places.{own_lists};
 
-use crate::hold::array::RidArray;
 use crate::map::RidMap;
 
 impl RidMap {
@@ -13,21 +12,8 @@ impl RidMap {
             return false;
         }
         match self.array() {
-            Some(lists) => has_own(lists),
+            Some(lists) => lists.has_own(),
             None => false,
         }
     }
-}
-
-// Whether each list of an array has its own place alone.
-fn has_own(lists: &RidArray) -> bool
-    requires { length lists.now < 4294967296 }
-    ensures { IsTrue result ↔ (lists.now ≡ map (λ i. i ∷ []) (upto (length lists.now))) }
-{
-    for i in 0..lists.len() {
-        if lists.number(i) as usize != i {
-            return false;
-        }
-    }
-    true
 }
