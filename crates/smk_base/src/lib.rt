@@ -10,6 +10,7 @@ mod numbers;
 mod read;
 mod rel;
 mod reply;
+mod seeded;
 mod size;
 mod value;
 mod workers;
@@ -56,6 +57,7 @@ pub use reply::{
     AppendRefusal, AppendReply, AskRefusal, AskReply, Group, Groups, Linked, Linkeds,
     ProfileRefusal, ProfileReply, Refusal, Reply,
 };
+pub use seeded::Seeded;
 pub use size::{Size, Sizes};
 pub use value::{CellRef, Kind, Value};
 pub use workers::WORKER_LIMIT;

@@ -42,6 +42,8 @@ pub const COLUMN_LIMIT: u32 = 16;
 pub struct Rel {
     columns: Vec<RelColumn>,
     count: u32,
+    // The seed of the hashes by which values and keys of these rows are found: that of the rows of which they were made, or 0.
+    seed: u64,
 }
 
 impl Model for Rel {
@@ -63,17 +65,27 @@ impl Rel {
         ensures { IfOk result (λ rel. rel ≡ record { kinds = kinds.now; rows = [] }) }
     {
         Ok(Rel {
-            columns: owned_each(alloc, begun_columns(alloc, kinds)?, 0)?,
+            columns: owned_each(alloc, begun_columns(alloc, kinds, 0)?, 0)?,
             count: 0,
+            seed: 0,
         })
     }
 
     /// The rows that lie in these columns.
-    pub(crate) fn of_columns(columns: Vec<RelColumn>, count: u32) -> Rel
+    pub(crate) fn of_columns(columns: Vec<RelColumn>, count: u32, seed: u64) -> Rel
         requires { AreColumns count columns.items }
         ensures { result ≡ relation_of count columns.items }
     {
-        Rel { columns, count }
+        Rel {
+            columns,
+            count,
+            seed,
+        }
+    }
+
+    /// The seed of the hashes by which values and keys of these rows are found. It takes no memory.
+    pub fn seed(&self) -> u64 {
+        self.seed
     }
 
     /// The number of rows. It takes no memory.
@@ -213,6 +225,7 @@ impl Rel {
         Ok(Rel {
             columns: copy_each(alloc, self.columns.as_slice(), self.count)?,
             count: self.count,
+            seed: self.seed,
         })
     }
 
@@ -225,6 +238,7 @@ impl Rel {
         Ok(Rel {
             columns: gather_each(alloc, self.columns.as_slice(), self.count, places)?,
             count: places.len() as u32,
+            seed: self.seed,
         })
     }
 
@@ -237,6 +251,7 @@ impl Rel {
         Ok(Rel {
             columns: pick_each(alloc, self.columns.as_slice(), self.count, cols)?,
             count: self.count,
+            seed: self.seed,
         })
     }
 
@@ -293,10 +308,15 @@ impl Rel {
         requires fits { All (RowFits kinds.now) self.rows }
         ensures { IfOk result (λ made. made ≡ record { kinds = kinds.now; rows = self.rows }) }
     {
-        let Rel { columns, count } = self;
+        let Rel {
+            columns,
+            count,
+            seed,
+        } = self;
         Ok(Rel {
             columns: each_with_kind(alloc, columns, count, kinds)?,
             count,
+            seed,
         })
     }
 
@@ -306,14 +326,23 @@ impl Rel {
         requires few { length self.kinds + length right.kinds ≤ COLUMN_LIMIT }
         ensures { IfOk result (λ made. made ≡ record { kinds = self.kinds ++ right.kinds; rows = beside_rows self.rows right.rows }) }
     {
-        let Rel { mut columns, count } = self;
+        let Rel {
+            mut columns,
+            count,
+            seed,
+        } = self;
         let Rel {
             columns: mut more,
+            seed: other,
             ..
         } = right;
         columns.reserve_exact(more.len())?;
         columns.append(&mut more)?;
-        Ok(Rel { columns, count })
+        Ok(Rel {
+            columns,
+            count,
+            seed: seed.max(other),
+        })
     }
 
     /// One column of the kind of column c: for each row the number of the bin of this width that has its number there, which is the quotient rounded down.
@@ -324,7 +353,7 @@ impl Rel {
         ensures { IfOk result (λ made. made ≡ record { kinds = kind_in self.now.kinds c ∷ []; rows = map (λ row. bin_of width (value_in row c) ∷ []) self.now.rows }) }
     {
         let column = self.columns[c as usize].bins(alloc, width)?;
-        of_column(alloc, column, self.count)
+        of_column(alloc, column, self.count, self.seed)
     }
 
     /// One column of ints of this level.
@@ -336,7 +365,7 @@ impl Rel {
     {
         let count = numbers.len() as u32;
         let column = ValueColumn::of_ints(alloc, level, numbers)?;
-        of_column(alloc, RelColumn::own(column), count)
+        of_column(alloc, RelColumn::own(column), count, 0)
     }
 
     /// One column of ints of this level: these counts.
@@ -346,7 +375,7 @@ impl Rel {
         ensures { IfOk result (λ made. made ≡ record { kinds = kinds.Int level ∷ []; rows = map (λ n. values.Int (pos n) ∷ []) counts.now }) }
     {
         let column = ValueColumn::of_counts(alloc, level, counts)?;
-        of_column(alloc, RelColumn::own(column), counts.len() as u32)
+        of_column(alloc, RelColumn::own(column), counts.len() as u32, 0)
     }
 }
 
@@ -362,12 +391,13 @@ fn cells_of(alloc: Global, row: &[Value]) -> Result<Vec<CellRef<'_>>, AllocError
 }
 
 // One column with so many rows.
-fn of_column(alloc: Global, column: RelColumn, count: u32) -> Result<Rel, AllocError>
+fn of_column(alloc: Global, column: RelColumn, count: u32, seed: u64) -> Result<Rel, AllocError>
     requires { IsColumnOf count column }
     ensures { IfOk result (λ made. made ≡ record { kinds = column.kind ∷ []; rows = map (λ value. value ∷ []) column.cells }) }
 {
     Ok(Rel {
         columns: vec![in alloc; column]?,
         count,
+        seed,
     })
 }

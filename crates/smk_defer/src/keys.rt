@@ -49,7 +49,7 @@ fn keys_at(alloc: Global, rel: &Rel, cols: &[u32], places: &[u32]) -> Result<Key
     requires few { length places.now ≤ ROW_LIMIT }
     ensures { IfOk result (λ made. made ≡ firsts (map (picked cols.now) (rows_at rel.now.rows places.now))) }
 {
-    let mut made = KeyTable::new(alloc);
+    let mut made = KeyTable::seeded(alloc, rel.seed());
     for k in 0..places.len() {
         made.find_or_add(key_at(alloc, rel, places[k], cols)?)?;
     }

@@ -61,6 +61,7 @@ fn fault_of_table(alloc: Global, info: &TableInfo, fault: TableFault) -> Result<
 fn table_of<R: Threads + Sync, G: Gate + Sync>(
     engine: &Engine<'_, R, G>,
     settings: Settings,
+    seed: u64,
     info: &TableInfo,
     bytes: &[u8],
 ) -> Result<Table, Stop>
@@ -73,6 +74,7 @@ fn table_of<R: Threads + Sync, G: Gate + Sync>(
     match read_table_in_pieces(
         engine.rt,
         engine.alloc,
+        seed,
         bytes,
         &info.cols,
         workers,
@@ -102,7 +104,7 @@ pub fn load<R: Threads + Sync, F: Files, G: Gate + Sync>(
     ensures later { F.faults files.old ≤ F.faults files.new }
 {
     let bytes = content(engine.alloc, files, file)?;
-    table_of(engine, settings, info, bytes.as_slice())
+    table_of(engine, settings, files.seed(), info, bytes.as_slice())
 }
 
 /// The tables of a book, in its order.

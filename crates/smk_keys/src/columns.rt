@@ -27,7 +27,7 @@ pub(crate) fn row_numbers(
     let mut made = first_numbers(alloc, rel, cols, from, to)?;
     for k in 1..cols.len() {
         let more = column_numbers(alloc, rel, cols[k], from, to)?;
-        made = pair_numbers(alloc, made, more)?;
+        made = pair_numbers(alloc, rel.seed(), made, more)?;
     }
     Ok(made)
 }
@@ -72,6 +72,6 @@ fn column_numbers(
             of: Vec::from_slice(alloc, &rel.codes(c)[from as usize..to as usize])?,
             count: rel.dict(c).len(),
         }),
-        Kind::Int { .. } => int_numbers(alloc, rel.ints(c), from, to),
+        Kind::Int { .. } => int_numbers(alloc, rel.seed(), rel.ints(c), from, to),
     }
 }

@@ -5,19 +5,21 @@ ghost use Rattle.smk_keys.specs.Numbers.{AreNumbers};
 
 use crate::numbers::Numbers;
 use indexmap::IndexSet;
+use smk_base::Seeded;
 use std::alloc::{AllocError, Global};
 use std::hash::Hash;
 
-/// Numbers of items in the order in which they come.
+/// Numbers of items in the order in which they come, found by the hashes of a seed.
 pub(crate) fn hashed_numbers<T: Copy + Eq + Hash + Drop>(
     alloc: Global,
+    seed: u64,
     items: &[T],
 ) -> Result<Numbers, AllocError>
     requires few { length items.now ≤ 2 * ROW_LIMIT }
     requires same { (a b : T) → Decides (T.eq a b) (a ≡ b) }
     ensures { IfOk result (λ made. (none : T) → AreNumbers none items.now made.count made.of.items) }
 {
-    let mut seen = IndexSet::with_capacity(alloc, items.len())?;
+    let mut seen = IndexSet::with_capacity_and_hasher(alloc, items.len(), Seeded::new(seed))?;
     let made = numbers_in(alloc, items, &mut seen);
     drop(seen);
     made
@@ -27,7 +29,7 @@ pub(crate) fn hashed_numbers<T: Copy + Eq + Hash + Drop>(
 fn numbers_in<T: Copy + Eq + Hash + Drop>(
     alloc: Global,
     items: &[T],
-    seen: &mut IndexSet<T>,
+    seen: &mut IndexSet<T, Seeded>,
 ) -> Result<Numbers, AllocError>
     requires few { length items.now ≤ 2 * ROW_LIMIT }
     requires none { seen.old.keys ≡ [] }

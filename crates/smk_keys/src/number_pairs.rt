@@ -6,11 +6,13 @@ ghost use Rattle.smk_keys.specs.Numbers.{AreNumbers};
 
 use crate::numbers::{Numbers, table_limit};
 use indexmap::IndexSet;
+use smk_base::Seeded;
 use std::alloc::{AllocError, Global};
 
-/// Numbers of the pairs that lie at the same places: the right ones where the left are all the same, else as in a table with a row for each left number where that has few places, and else in the order in which they come.
+/// Numbers of the pairs that lie at the same places: the right ones where the left are all the same, else as in a table with a row for each left number where that has few places, and else in the order in which they come, found by the hashes of a seed.
 pub(crate) fn pair_numbers(
     alloc: Global,
+    seed: u64,
     left: Numbers,
     right: Numbers,
 ) -> Result<Numbers, AllocError>
@@ -32,7 +34,7 @@ pub(crate) fn pair_numbers(
             count: places as u32,
         });
     }
-    hashed_pairs(alloc, left.of.as_slice(), right.of.as_slice())
+    hashed_pairs(alloc, seed, left.of.as_slice(), right.of.as_slice())
 }
 
 // The places of pairs in a table with this width.
@@ -55,12 +57,17 @@ fn table_places(
 }
 
 // Numbers of pairs in the order in which they come.
-fn hashed_pairs(alloc: Global, lefts: &[u32], rights: &[u32]) -> Result<Numbers, AllocError>
+fn hashed_pairs(
+    alloc: Global,
+    seed: u64,
+    lefts: &[u32],
+    rights: &[u32],
+) -> Result<Numbers, AllocError>
     requires few { length lefts.now ≤ 2 * ROW_LIMIT }
     requires long { length rights.now ≡ length lefts.now }
     ensures { IfOk result (λ made. AreNumbers (0, 0) (zip lefts.now rights.now) made.count made.of.items) }
 {
-    let mut seen = IndexSet::with_capacity(alloc, lefts.len())?;
+    let mut seen = IndexSet::with_capacity_and_hasher(alloc, lefts.len(), Seeded::new(seed))?;
     let made = pairs_in(alloc, lefts, rights, &mut seen);
     drop(seen);
     made
@@ -71,7 +78,7 @@ fn pairs_in(
     alloc: Global,
     lefts: &[u32],
     rights: &[u32],
-    seen: &mut IndexSet<(u32, u32)>,
+    seen: &mut IndexSet<(u32, u32), Seeded>,
 ) -> Result<Numbers, AllocError>
     requires few { length lefts.now ≤ 2 * ROW_LIMIT }
     requires long { length rights.now ≡ length lefts.now }

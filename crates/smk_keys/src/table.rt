@@ -3,14 +3,14 @@ ghost use Rattle.smk_base.specs.declared.rel.TheConstants.{ROW_LIMIT};
 ghost use Rattle.smk_keys.specs.Keys.{AreKeys, place_of, place_or_last, with_key};
 
 use indexmap::IndexSet;
-use smk_base::{ListOf, Row, Value};
+use smk_base::{ListOf, Row, Seeded, Value};
 use std::alloc::{AllocError, Global};
 use std::marker::Model;
 
 /// Distinct keys, each at the place of its first occurrence. Contracts see the list of them.
 #[derive(Drop)]
 pub struct KeyTable {
-    keys: IndexSet<ListOf<Value>>,
+    keys: IndexSet<ListOf<Value>, Seeded>,
 }
 
 impl Model for KeyTable {
@@ -31,8 +31,15 @@ impl KeyTable {
     pub fn new(alloc: Global) -> KeyTable
         ensures { result ≡ [] }
     {
+        KeyTable::seeded(alloc, 0)
+    }
+
+    /// No key, of which more are found by the hashes of a seed. It takes no memory.
+    pub fn seeded(alloc: Global, seed: u64) -> KeyTable
+        ensures { result ≡ [] }
+    {
         KeyTable {
-            keys: IndexSet::new(alloc),
+            keys: IndexSet::with_hasher(alloc, Seeded::new(seed)),
         }
     }
 

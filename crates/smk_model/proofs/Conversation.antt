@@ -1,7 +1,7 @@
 -- What a conversation says is what a run writes.
 use Rattle.std.specs.Prelude.{cond, Option, Some, None, option_map, Ok, is_some}
 use Rattle.std.specs.List.{concat, filter, cons_option, scan, flat_map}
-use Rattle.std.proofs.Common.{◌≡◌, ◌+◌, ℕ, Bool, true, false, List, [], ◌∷◌, ◌++◌, map, refl, sym, ap, ◌∙◌, subst}
+use Rattle.std.proofs.Common.{◌≡◌, ◌+◌, ℕ, Bool, true, false, List, [], ◌∷◌, ◌++◌, map, refl, sym, ap, ◌∙◌, subst, append_assoc, append-nil}
 use Rattle.std.proofs.lemmas.Bool.{false≢true}
 use Rattle.clap.proofs.RemoveLemmas.{find-none}
 use Rattle.smk_base.specs.CatalogImage.{CatalogImage, table_place}
@@ -11,7 +11,7 @@ use Rattle.smk_base.specs.Trees.{AppendedLine}
 use Rattle.smk_base.specs.declared.book.catalog.TableInfo.{TableInfo}
 use Rattle.smk_model.specs.Values.{Row}
 use Rattle.smk_model.specs.Appends.{turn_at, append_looks_at}
-use Rattle.smk_model.specs.Conversation.{HeardLine, TalkTurn, Replied, Owned, Unbrought, ReadOnly, Forgone, OwnForgone, TooLong, TalkState, line_of, is_own_turn, text_read, FitsTalk, turn_after, turn_text, turn_block, block_of, opening_block, turns_told, readings_of, rows_brought, brings, FilesBring, AreHeard, texts_read}
+use Rattle.smk_model.specs.Conversation.{HeardLine, TalkTurn, Replied, Owned, Unbrought, ReadOnly, Forgone, OwnForgone, TooLong, TalkState, line_of, is_own_turn, text_read, FitsTalk, turn_after, turn_text, turn_block, block_of, opening_text, opening_block, turns_told, readings_of, rows_brought, brings, FilesBring, AreHeard, texts_read}
 use Rattle.smk_model.specs.ConversationLaws.{TalksAsReported}
 use Rattle.smk_model.specs.Lines.{lines}
 use Rattle.smk_model.specs.Outcome.{Held, Inputs, ReadsFiles, inputs, a_script, read, lines_read, file_bytes, appended, appended_at, filed, load_all}
@@ -19,8 +19,8 @@ use Rattle.smk_model.specs.OwnLines.{is_own}
 use Rattle.smk_model.specs.Readings.{Reading, Asks, AreReadings, no_line, one_line}
 use Rattle.smk_model.specs.Reports.{BookSaid, followed_by, turn_answered, line_told, state_after, lines_told, answer_told, brings_rows, next_rows, rows_left, report_of, report_told}
 use Rattle.smk_model.specs.ReplyTexts.{table_named}
-use Rattle.smk_model.specs.Session.{State, first_state}
-use Rattle.smk_model.specs.ViewTexts.{views_text}
+use Rattle.smk_model.specs.Session.{Workbook, State, first_state}
+use Rattle.smk_model.specs.ViewTexts.{text_of_view, views_text}
 use Rattle.smk_model.proofs.OneOutcome.{same_readings}
 use Rattle.smk_model.proofs.RepliesFit.{table_found}
 
@@ -34,6 +34,15 @@ blocks_said : (said : BookSaid) (state : TalkState) (turns : List TalkTurn)
     → flat_map (λ texts. texts) (scan (turn_after said) (turn_block said) state turns) ≡ flat_map block_of (scan (turn_after said) (turn_text said) state turns)
 blocks_said said state [] = refl
 blocks_said said state (turn ∷ turns) = ap (λ l. turn_block said state turn ++ l) (blocks_said said (turn_after said state turn) turns)
+
+-- texts put together, and a last one behind them
+texts_joined : {A : Type 0} (text : A → List ℕ) (xs : List A) (last : List ℕ) → concat (map text xs ++ last ∷ []) ≡ flat_map text xs ++ last
+texts_joined text [] last = append-nil last
+texts_joined text (x ∷ xs) last = ap (λ l. text x ++ l) (texts_joined text xs last) ∙ sym (append_assoc (text x) (flat_map text xs) last)
+
+opened_as : (brief : Bool) (book : Workbook) (fds : List (List ℕ)) → concat (opening_block brief book fds) ≡ opening_text brief book fds ++ 10 ∷ []
+opened_as true book fds = refl
+opened_as false book fds = texts_joined (text_of_view book) book.catalog.views (10 ∷ [])
 
 -- an `append` to no table of the book comes to the same whatever rows it is given
 unplaced : (catalog : CatalogImage) (state : State) (table : List ℕ) (more other : List Row) (place : Option ℕ) → is_some place ≡ false
@@ -127,7 +136,8 @@ no_own_turn read_only catalog held state (TooLong bytes) fits none = refl
 pub talks_as_reported : TalksAsReported
 talks_as_reported = record {
   said = λ book fds turns. ap (λ l. views_text book ++ l) (texts_told (record { catalog = book.catalog; fds = fds }) (record { session = first_state book; heard = 0 }) turns);
-  blocks = λ book fds turns. ap (λ l. opening_block book ++ l) (blocks_said (record { catalog = book.catalog; fds = fds }) (record { session = first_state book; heard = 0 }) turns);
+  opening = opened_as;
+  blocks = λ brief book fds turns. ap (λ l. opening_block brief book fds ++ l) (blocks_said (record { catalog = book.catalog; fds = fds }) (record { session = first_state book; heard = 0 }) turns);
   told = λ book fds heard. ap (report_told book) (lines_alike (record { catalog = book.catalog; fds = fds }) (first_state book) 0 heard);
   scripts = no_own_turn;
   run = λ held book script bytes given heard reads content split are.

@@ -16,7 +16,7 @@ use Rattle.smk_model.specs.Reports.{BookSaid, Report, LinesTold, nothing_told, f
 use Rattle.smk_model.specs.Session.{Workbook, State, first_state}
 use Rattle.smk_model.specs.Texts.{line}
 use Rattle.smk_model.specs.Values.{Row}
-use Rattle.smk_model.specs.ViewTexts.{views_text}
+use Rattle.smk_model.specs.ViewTexts.{view_texts, views_text}
 
 -- a line that is answered as the line of a script: its bytes, what it says, and the rows of the file that it appends; it brings none where it appends to no table of the book
 pub record HeardLine : Type 0 where
@@ -122,23 +122,27 @@ turn_texts said state turns = scan (turn_after said) (turn_text said) state turn
 abbrev pub talk_texts : Workbook → List (List ℕ) → List TalkTurn → List (List ℕ)
 talk_texts book fds turns = views_text book ∷ turn_texts (record { catalog = book.catalog; fds = fds }) (first_talk_state book) turns
 
--- the text that is said first: what there is where that is asked for, and else that of all views
+-- what is said first, as one text: what there is where that is asked for, and else the texts of all views
 abbrev pub opening_text : Bool → Workbook → List (List ℕ) → List ℕ
 opening_text brief book fds = cond brief (schema_text (record { catalog = book.catalog; fds = fds }) (first_state book)) (views_text book)
+
+-- the texts that are said first, each by itself: that of what there is, or that of each view in the book's order
+abbrev pub opening_texts : Bool → Workbook → List (List ℕ) → List (List ℕ)
+opening_texts brief book fds = cond brief (schema_text (record { catalog = book.catalog; fds = fds }) (first_state book) ∷ []) (view_texts book)
 
 -- a block: a text is said, and then an empty line
 abbrev pub block_of : List ℕ → List (List ℕ)
 block_of text = text ∷ (10 ∷ []) ∷ []
 
--- what is said of a turn, what is said first, and all that is said
+-- what is said of a turn; what is said first, and then an empty line; and all that is said
 abbrev pub turn_block : BookSaid → TalkState → TalkTurn → List (List ℕ)
 turn_block said state turn = block_of (turn_text said state turn)
 
-abbrev pub opening_block : Workbook → List (List ℕ)
-opening_block book = block_of (views_text book)
+abbrev pub opening_block : Bool → Workbook → List (List ℕ) → List (List ℕ)
+opening_block brief book fds = opening_texts brief book fds ++ (10 ∷ []) ∷ []
 
-abbrev pub talk_said : Workbook → List (List ℕ) → List TalkTurn → List (List ℕ)
-talk_said book fds turns = flat_map block_of (talk_texts book fds turns)
+abbrev pub talk_said : Bool → Workbook → List (List ℕ) → List TalkTurn → List (List ℕ)
+talk_said brief book fds turns = opening_block brief book fds ++ flat_map block_of (turn_texts (record { catalog = book.catalog; fds = fds }) (first_talk_state book) turns)
 
 -- whether a turn is that of an own line
 abbrev pub is_own_turn : TalkTurn → Bool

@@ -1,5 +1,5 @@
 -- A conversation worked by hand: a line that isn't one, appended rows, a file with a fault, a line that is too long and one that memory was wanting for, and an answer.
-use Rattle.std.specs.Prelude.{◌≡◌, ℕ, true, List, [], ◌∷◌, Some, codes}
+use Rattle.std.specs.Prelude.{◌≡◌, ℕ, true, false, List, [], ◌∷◌, Some, codes}
 use Rattle.std.specs.List.{concat}
 use Rattle.smk_base.specs.declared.book.catalog.BackExtra.TheVariants as extras
 use Rattle.smk_base.specs.declared.fault.Fault.TheVariants.{Table, TableRows, FileLong, Unread as unread_fault}
@@ -46,7 +46,7 @@ small_talk_texts =
 
 pub record ConversationsHold : Type 0 where
   pub texts : talk_texts (keyed_book extras.Plain) [] small_talk ≡ small_talk_texts
-  pub said : concat (talk_said (keyed_book extras.Plain) [] (heard_as Nothing ∷ ReadOnly [] ∷ [])) ≡ codes "view g 2\nrow,k,n,s\n0,a,1,1\n1,b,1,2\n\n\nrefused read only\n\n"
+  pub said : concat (talk_said false (keyed_book extras.Plain) [] (heard_as Nothing ∷ ReadOnly [] ∷ [])) ≡ codes "view g 2\nrow,k,n,s\n0,a,1,1\n1,b,1,2\n\n\nrefused read only\n\n"
   pub replies : (talk_report (keyed_book extras.Plain) [] small_talk).replies ≡ 5
   pub refused : (talk_report (keyed_book extras.Plain) [] small_talk).refused ≡ 3
   pub unread : (talk_report (keyed_book extras.Plain) [] small_talk).unread ≡ 1

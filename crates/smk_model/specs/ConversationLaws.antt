@@ -1,10 +1,10 @@
 -- What a conversation says is what a run writes.
-use Rattle.std.specs.Prelude.{◌≡◌, ◌++◌, ℕ, Bool, false, List, Some, None, Result, Ok, map}
+use Rattle.std.specs.Prelude.{◌≡◌, ◌++◌, ◌∷◌, [], ℕ, Bool, false, List, Some, None, Result, Ok, map}
 use Rattle.std.specs.List.{concat, flat_map, scan}
 use Rattle.smk_base.specs.Marks.{after_marks}
 use Rattle.smk_base.specs.declared.fault.Fault.{Fault}
 use Rattle.smk_base.specs.CatalogImage.{CatalogImage}
-use Rattle.smk_model.specs.Conversation.{HeardLine, TalkTurn, TalkState, Replied, first_talk_state, line_of, is_own_turn, text_read, FilesBring, FitsTalk, turn_after, turn_block, opening_block, talk_report, talk_texts, talk_said, readings_of, rows_brought, AreHeard, texts_read}
+use Rattle.smk_model.specs.Conversation.{HeardLine, TalkTurn, TalkState, Replied, first_talk_state, line_of, is_own_turn, text_read, FilesBring, FitsTalk, turn_after, turn_block, opening_text, opening_block, talk_report, talk_texts, talk_said, readings_of, rows_brought, AreHeard, texts_read}
 use Rattle.smk_model.specs.Lines.{lines}
 use Rattle.smk_model.specs.Outcome.{Held, Inputs, ReadsFiles, file_bytes}
 use Rattle.smk_model.specs.OwnLines.{is_own}
@@ -16,10 +16,12 @@ use Rattle.smk_model.specs.TalkStarts.{StartsTalk}
 pub record TalksAsReported : Type 0 where
   -- what is said, but for the empty lines, is the text of the conversation's report
   pub said : (book : Workbook) (fds : List (List ℕ)) (turns : List TalkTurn) → concat (talk_texts book fds turns) ≡ (talk_report book fds turns).text
+  -- what is said first, put together, is one text and an empty line
+  pub opening : (brief : Bool) (book : Workbook) (fds : List (List ℕ)) → concat (opening_block brief book fds) ≡ opening_text brief book fds ++ 10 ∷ []
   -- what is said first, and then of the turns, in blocks, is all that is said
-  pub blocks : (book : Workbook) (fds : List (List ℕ)) (turns : List TalkTurn)
-      → opening_block book ++ flat_map (λ texts. texts) (scan (turn_after (record { catalog = book.catalog; fds = fds })) (turn_block (record { catalog = book.catalog; fds = fds })) (first_talk_state book) turns)
-      ≡ talk_said book fds turns
+  pub blocks : (brief : Bool) (book : Workbook) (fds : List (List ℕ)) (turns : List TalkTurn)
+      → opening_block brief book fds ++ flat_map (λ texts. texts) (scan (turn_after (record { catalog = book.catalog; fds = fds })) (turn_block (record { catalog = book.catalog; fds = fds })) (first_talk_state book) turns)
+      ≡ talk_said brief book fds turns
   -- where each line is answered as that of a script, this is the report of a run over the same book and lines, whose `append` lines bring the same rows
   pub told : (book : Workbook) (fds : List (List ℕ)) (heard : List HeardLine)
       → talk_report book fds (map Replied heard) ≡ report_of book fds (rows_brought book.catalog heard) (readings_of heard)

@@ -1,5 +1,5 @@
 -- The texts of views as they are first evaluated.
-use Rattle.std.specs.Prelude.{ℕ, List}
+use Rattle.std.specs.Prelude.{ℕ, List, map}
 use Rattle.std.specs.List.{flat_map}
 use Rattle.smk_base.specs.CatalogImage.{ViewImage}
 use Rattle.smk_model.specs.Values.{Row}
@@ -14,6 +14,9 @@ view_rows book view = rows_over view.plan book.tables
 abbrev pub text_of_view : Workbook → ViewImage → List ℕ
 text_of_view book view = view_text view.name view.names (view_rows book view)
 
--- the texts of all views, in the book's order
+-- the texts of all views, in the book's order, and these put together
+abbrev pub view_texts : Workbook → List (List ℕ)
+view_texts book = map (text_of_view book) book.catalog.views
+
 abbrev pub views_text : Workbook → List ℕ
 views_text book = flat_map (text_of_view book) book.catalog.views

@@ -15,6 +15,17 @@ pub trait Files {
     /// How many calls have failed by a fault of the outside.
     ghost faults: { Self → ℕ };
 
+    /// The seed of the hashes by which what the files hold is found. No answer depends on it.
+    fn seed(&self) -> u64 {
+        0
+    }
+
+    /// From now on only regular files are read, where the object knows others: a name of another is as one that can't be read.
+    fn only_regular(&mut self)
+        ensures held { held self.new ≡ held self.old }
+        ensures faults { faults self.new ≡ faults self.old }
+    {}
+
     /// The first `limit + 1` bytes of the file of this name, or all of them where it has fewer.
     /// It fails only by a fault that it counts, or for a name that the object tells not to hold.
     fn read(&mut self, alloc: Global, name: &[u8], limit: u64) -> Result<Vec<u8>, FilesFault>

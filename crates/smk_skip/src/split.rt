@@ -6,7 +6,7 @@ use crate::order::places_in;
 use crate::runs::joined_runs;
 use crate::values::{parted, place_of};
 use indexmap::IndexSet;
-use smk_base::{Rel, Rids, Value};
+use smk_base::{Rel, Rids, Seeded, Value};
 use smk_outside::Steps;
 use smk_rid::RidMap;
 use smk_table::Table;
@@ -23,7 +23,7 @@ pub struct Split {
     map: Snapshot<RidMap>,
     rel: Snapshot<Rel>,
     col: u32,
-    values: IndexSet<Value>,
+    values: IndexSet<Value, Seeded>,
     by_value: RidMap,
     places: RidMap,
 }

@@ -7,7 +7,7 @@ ghost use Rattle.smk_base.specs.declared.value.Value.TheVariants.{Int};
 ghost use Rattle.smk_skip.specs.Parts.{values_in, lists_by, HasAll};
 
 use indexmap::IndexSet;
-use smk_base::{Rel, Value};
+use smk_base::{Rel, Seeded, Value};
 use smk_body::turned_lists;
 use smk_keys::Classes;
 use smk_rid::RidMap;
@@ -18,7 +18,7 @@ pub(crate) fn parted(
     alloc: Global,
     rel: &Rel,
     col: u32,
-) -> Result<(IndexSet<Value>, RidMap), AllocError>
+) -> Result<(IndexSet<Value, Seeded>, RidMap), AllocError>
     requires { col < length rel.now.kinds }
     ensures whole { IfOk result (λ made. HasAll rel.now.rows col made.0.keys) }
     ensures lists { IfOk result (λ made. made.1.lists ≡ lists_by rel.now.rows col made.0.keys) }
@@ -39,13 +39,17 @@ fn values_at(
     rel: &Rel,
     col: u32,
     rids: &[u32],
-) -> Result<IndexSet<Value>, AllocError>
+) -> Result<IndexSet<Value, Seeded>, AllocError>
     requires column { col < length rel.now.kinds }
     requires within { All (λ rid. rid < length rel.now.rows) rids.now }
     requires apart { (i j : ℕ) → i < j → j < length rids.now → value_eq (slice_index_or (values_in rel.now.rows col rids.now) j (Int (pos 0))) (slice_index_or (values_in rel.now.rows col rids.now) i (Int (pos 0))) ≡ false }
     ensures { IfOk result (λ made. made.keys ≡ values_in rel.now.rows col rids.now) }
 {
-    let mut values = IndexSet::with_capacity(alloc, rids.len())?;
+    let mut values = IndexSet::with_capacity_and_hasher(
+        alloc,
+        rids.len(),
+        Seeded::new(rel.seed()),
+    )?;
     for rid in rids {
         let value = rel.cell(*rid, col).to_value(alloc)?;
         values.insert_full(value)?;
@@ -54,7 +58,7 @@ fn values_at(
 }
 
 /// The place of a value among the values, none where it isn't there.
-pub(crate) fn place_of(values: &IndexSet<Value>, v: &Value) -> Option<usize>
+pub(crate) fn place_of(values: &IndexSet<Value, Seeded>, v: &Value) -> Option<usize>
     ensures { result ≡ position (value_eq v.now) values.now.keys }
 {
     values.get_index_of(v)

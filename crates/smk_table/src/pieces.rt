@@ -13,7 +13,7 @@ use crate::csv_reader::{next_record, reader_of};
 use crate::cutting::pieces;
 use crate::fields::column_places;
 use crate::joining::join_parts;
-use crate::records::{empty_rel, read_rows, read_table};
+use crate::records::{empty_rel, read_rows, read_seeded};
 use crate::table::Table;
 use csv::{ByteRecord, Reader};
 use smk_base::{ColDecls, Rel, TableFault, without_mark};
@@ -21,16 +21,18 @@ use smk_outside::Gate;
 use std::alloc::{AllocError, Global};
 use std::thread::{Threads, map_indices};
 
-// What a header says: at which places the declared columns stand, and how many fields it has.
+// What a header says: at which places the declared columns stand, and how many fields it has. With it goes the seed of the hashes by which values are found.
 #[derive(Drop)]
 struct Header {
     places: Vec<usize>,
     width: usize,
+    seed: u64,
 }
 
 // The header of the records that are left, where there is one.
 fn header_left(
     alloc: Global,
+    seed: u64,
     reader: &mut Reader<&[u8]>,
     row: &mut ByteRecord,
     cols: &ColDecls,
@@ -46,13 +48,22 @@ fn header_left(
     }
     let width = row.len();
     match column_places(alloc, row, cols) {
-        Ok(places) => Ok(Some(Header { places, width })),
+        Ok(places) => Ok(Some(Header {
+            places,
+            width,
+            seed,
+        })),
         Err(fault) => Err(fault),
     }
 }
 
 // The header of a text, where it has a record.
-fn header_of(alloc: Global, text: &[u8], cols: &ColDecls) -> Result<Option<Header>, TableFault>
+fn header_of(
+    alloc: Global,
+    seed: u64,
+    text: &[u8],
+    cols: &ColDecls,
+) -> Result<Option<Header>, TableFault>
     requires unmarked { IsFalse (begins_with_mark text.now) }
     requires columns { AreColumns cols.now }
     ensures count { IfOk result (λ found. IfSome found (λ header. length header.places.items ≡ length cols.now)) }
@@ -61,7 +72,7 @@ fn header_of(alloc: Global, text: &[u8], cols: &ColDecls) -> Result<Option<Heade
 {
     let mut reader = reader_of(alloc, text);
     let mut row = ByteRecord::new(alloc);
-    header_left(alloc, &mut reader, &mut row, cols)
+    header_left(alloc, seed, &mut reader, &mut row, cols)
 }
 
 // The rows of the records of a piece of a text, each with its number in the piece, behind the header where the piece has it.
@@ -79,7 +90,7 @@ fn read_piece(
 {
     let mut reader = reader_of(alloc, text);
     let mut row = ByteRecord::new(alloc);
-    let mut rel = empty_rel(alloc, cols)?;
+    let mut rel = empty_rel(alloc, header.seed, cols)?;
     if has_header && !next_record(&mut reader, &mut row)? {
         return Ok(rel.finish(alloc)?);
     }
@@ -147,7 +158,7 @@ fn rows_in_pieces<R: Threads + Sync, G: Gate + Sync>(
     requires places { length header.now.places.items ≡ length cols.now }
     ensures { Gives cols.now (parts_behind 0 (parts_of cols.now header.now.places.items header.now.width (map read_of texts.now))) result }
 {
-    let none = empty_rel(alloc, cols)?.finish(alloc)?;
+    let none = empty_rel(alloc, header.seed, cols)?.finish(alloc)?;
     let made = read_pieces(rt, alloc, texts, cols, header, gate)?;
     join_parts(alloc, cols, none, made)
 }
@@ -173,10 +184,11 @@ fn table_in_pieces<R: Threads + Sync, G: Gate + Sync>(
     }
 }
 
-/// Reads the bytes of a CSV file as `read_table` does, with the same answer. The bytes are cut into at most `workers` pieces of at least `least` bytes each, which are read in threads. Before the first quote each line feed ends a record, so they are cut there; what is behind stays in one piece. Where there are two pieces or more each passes the gate.
+/// Reads the bytes of a CSV file as `read_table` does, with the same answer. The bytes are cut into at most `workers` pieces of at least `least` bytes each, which are read in threads. The values are found by the hashes of the seed. Before the first quote each line feed ends a record, so they are cut there; what is behind stays in one piece. Where there are two pieces or more each passes the gate.
 pub fn read_table_in_pieces<R: Threads + Sync, G: Gate + Sync>(
     rt: &R,
     alloc: Global,
+    seed: u64,
     bytes: &[u8],
     cols: &ColDecls,
     workers: u32,
@@ -192,11 +204,11 @@ pub fn read_table_in_pieces<R: Threads + Sync, G: Gate + Sync>(
 {
     let texts = pieces(alloc, without_mark(bytes), workers, least)?;
     if texts.len() < 2 {
-        return read_table(alloc, bytes, cols);
+        return read_seeded(alloc, seed, bytes, cols);
     }
-    match header_of(alloc, texts[0], cols) {
+    match header_of(alloc, seed, texts[0], cols) {
         Ok(Some(header)) => table_in_pieces(rt, alloc, texts.as_slice(), cols, &header, gate),
-        Ok(None) => read_table(alloc, bytes, cols),
+        Ok(None) => read_seeded(alloc, seed, bytes, cols),
         Err(fault) => Err(fault),
     }
 }

@@ -17,14 +17,30 @@ pub fn read_table(alloc: Global, bytes: &[u8], cols: &ColDecls) -> Result<Table,
     ensures kinds { IfOk result (λ table. table.kinds ≡ declared_kinds cols.now) }
     ensures fault { IfErr result (λ fault. (fault ≡ NoMemory) ⊎ (table_of cols.now bytes.now ≡ Err fault)) }
 {
+    read_seeded(alloc, 0, bytes, cols)
+}
+
+/// The same, where the values are found by the hashes of a seed.
+pub(crate) fn read_seeded(
+    alloc: Global,
+    seed: u64,
+    bytes: &[u8],
+    cols: &ColDecls,
+) -> Result<Table, TableFault>
+    requires { AreColumns cols.now }
+    ensures rows { IfOk result (λ table. table_of cols.now bytes.now ≡ Ok table.rows) }
+    ensures kinds { IfOk result (λ table. table.kinds ≡ declared_kinds cols.now) }
+    ensures fault { IfErr result (λ fault. (fault ≡ NoMemory) ⊎ (table_of cols.now bytes.now ≡ Err fault)) }
+{
     let mut reader = reader_of(alloc, without_mark(bytes));
     let mut row = ByteRecord::new(alloc);
-    read_records(alloc, &mut reader, &mut row, cols)
+    read_records(alloc, seed, &mut reader, &mut row, cols)
 }
 
 /// The table of all the records that are left, of which the first is the header.
 fn read_records(
     alloc: Global,
+    seed: u64,
     reader: &mut Reader<&[u8]>,
     row: &mut ByteRecord,
     cols: &ColDecls,
@@ -40,13 +56,13 @@ fn read_records(
     }
     let places = column_places(alloc, row, cols)?;
     let width = row.len();
-    let mut rel = empty_rel(alloc, cols)?;
+    let mut rel = empty_rel(alloc, seed, cols)?;
     read_rows(reader, row, cols, places.as_slice(), width, &mut rel)?;
     Ok(Table::of_rel(rel.finish(alloc)?.shared(alloc)?))
 }
 
-/// No row of the kinds of the declared columns.
-pub(crate) fn empty_rel(alloc: Global, cols: &ColDecls) -> Result<RelBuilder, AllocError>
+/// No row of the kinds of the declared columns, whose values are found by the hashes of a seed.
+pub(crate) fn empty_rel(alloc: Global, seed: u64, cols: &ColDecls) -> Result<RelBuilder, AllocError>
     requires { AreColumns cols.now }
     ensures { IfOk result (λ rel. rel ≡ record { kinds = declared_kinds cols.now; rows = []; begun = [] }) }
 {
@@ -54,7 +70,7 @@ pub(crate) fn empty_rel(alloc: Global, cols: &ColDecls) -> Result<RelBuilder, Al
     for (c, decl) in cols.as_slice().iter().enumerate() {
         kinds[c] = decl.kind;
     }
-    RelBuilder::new(alloc, &kinds[..cols.as_slice().len()])
+    RelBuilder::new(alloc, &kinds[..cols.as_slice().len()], seed)
 }
 
 /// Puts the rows of all the records that are left behind no row.

@@ -22,12 +22,16 @@ fn reads_files_of_the_system(rt: HostRuntime) -> Result<(), Fail> {
     fs::write(&rt, name.as_str(), long.as_slice())?;
     let mut files = RealFiles::new(rt);
     let whole = files.read(alloc, name.as_bytes(), 200_000);
+    let device = files.read(alloc, b"/dev/null", 5);
+    files.only_regular();
     let front = files.read(alloc, name.as_bytes(), 2);
     fs::remove_file(&rt, name.as_str())?;
     assert!(rt; matches!(&whole, Ok(bytes) if bytes.as_slice() == long.as_slice()));
     assert!(rt; matches!(&front, Ok(bytes) if bytes.as_slice() == b"\x00\x01\x02".as_slice()));
+    assert!(rt; device.is_ok());
     for name in [
         name.as_bytes(),
+        b"/dev/null".as_slice(),
         folder.as_bytes(),
         b"".as_slice(),
         b"\xff".as_slice(),

@@ -147,7 +147,7 @@ fn two_pieces_of_a_table_meet(rt: HostRuntime) -> Result<(), Fail> {
     let text = b"id,name\n1,a\n2,b\n3,\"c\n\"\n4,d\n".as_slice();
     for (least, came) in [(1u32, [1u64, 1, 0]), (11, [1, 1, 0]), (12, [0, 0, 0])].as_slice() {
         let gate = Meeting::new();
-        let read = read_table_in_pieces(&rt, rt.alloc(), text, &info.cols, 2, *least, &gate);
+        let read = read_table_in_pieces(&rt, rt.alloc(), 0, text, &info.cols, 2, *least, &gate);
         assert!(rt; read.is_ok());
         assert_eq!(rt; gate.came(), *came);
     }

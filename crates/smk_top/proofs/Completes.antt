@@ -1,10 +1,10 @@
 -- A run has one outcome and a conversation one start, so that where there is no fault no other ending is left but want of memory.
-use Rattle.std.specs.Prelude.{Result, ⊤, drop, length, map}
+use Rattle.std.specs.Prelude.{Result, ⊤, length, map}
 use Rattle.std.specs.Io.KnownBytes as known
-use Rattle.std.specs.List.{concat, flat_map}
-use Rattle.std.proofs.Common.{◌≡◌, ◌⊎◌, ℕ, List, [], ◌∷◌, ◌++◌, Option, Some, None, Ok, Err, refl, ap, ◌∙◌, subst, inl, inr}
+use Rattle.std.specs.List.{concat}
+use Rattle.std.proofs.Common.{◌≡◌, ◌⊎◌, ℕ, List, [], Option, Some, None, Ok, Err, refl, ap, ◌∙◌, subst, inl, inr}
 use Rattle.smk_base.specs.declared.fault.Fault.{Fault}
-use Rattle.smk_model.specs.Conversation.{line_of, block_of, first_talk_state, opening_text, turn_texts}
+use Rattle.smk_model.specs.Conversation.{line_of, talk_said}
 use Rattle.smk_model.specs.Reports.{Report}
 use Rattle.smk_model.specs.Outcome.{Held, Inputs, Outcome, NamesRead, UntoldCause, WhereTold, nothing_held, written_of}
 use Rattle.smk_model.specs.TalkStarts.{StartsTalk, NamesReadFirst}
@@ -24,7 +24,7 @@ use Rattle.smk_top.specs.declared.status.Status.TheVariants.{NoMemory}
 use Rattle.smk_top.specs.Statuses.{status_of_report}
 use Rattle.smk_top.specs.Completeness.{Completeness, WritesWhole, AnswersAll, TalksWhole, TalkCompleteness}
 use Rattle.smk_top.specs.Endings.{Ends, reported, faulted, unwritten, exhausted, fault_unsaid, memory_unsaid}
-use Rattle.smk_top.specs.TalkEndings.{Converses, TalkEnds, IsSilent, said_by, turns_of, report_by}
+use Rattle.smk_top.specs.TalkEndings.{Converses, TalkEnds, IsUnopened, turns_of, report_by}
 use Rattle.smk_top.specs.TalkEndings as ends
 
 -- what is so of these texts by what the files hold: one answer, and no fault beside it unless a count rose
@@ -90,33 +90,35 @@ module _ (words : List (List ℕ)) (held : Option Held) (given : Inputs) (alone 
   answered end whole talk heard =
       let over : talk.given ≡ given = alone.same talk.given talk.starts in
       let t = talk.talked.talk in
-      let all = said_whole _ _ _ _ end t.turns t.events whole t.talks ∙ ap (λ l. concat (block_of (opening_text talk.call.brief talk.given.book talk.given.fds) ++ l)) (ap (drop 2) (talks_as_reported.blocks talk.given.book talk.given.fds t.turns)) in
+      let all = said_whole _ _ _ _ end t.turns t.events whole t.talks ∙ ap concat (talks_as_reported.blocks talk.call.brief talk.given.book talk.given.fds t.turns) in
       record {
         ending = end;
         talk = talk;
         over = over;
         heard = heard;
-        answered = subst (λ (g : Inputs). known.Appends before.said after.said (concat (flat_map block_of (opening_text talk.call.brief g.book g.fds ∷ turn_texts (said_by g) (first_talk_state g.book) t.turns)))) over (subst (known.Appends before.said after.said) all t.adds.1);
+        answered = subst (λ (g : Inputs). known.Appends before.said after.said (concat (talk_said talk.call.brief g.book g.fds t.turns))) over (subst (known.Appends before.said after.said) all t.adds.1);
         ends = refl;
       }
 
   talk_ending : (status : Status) (said : List ℕ) → TalkEnds words held files files_after rose err before after looks looks_after status said → (Rose files files_after → ⊥) → (rose → ⊥) → (err → ⊥)
-      → (AnswersAll words held given files files_after rose before after looks looks_after status × (said ≡ [])) ⊎ ((status ≡ NoMemory) × IsSilent words held before after looks looks_after × (said ≡ no_memory_text))
+      → (AnswersAll words held given files files_after rose before after looks looks_after status × (said ≡ [])) ⊎ ((status ≡ NoMemory) × IsUnopened words held before after looks looks_after × (said ≡ no_memory_text))
   talk_ending _ _ (ends.ended talk) f t e = inl (answered Ended (λ h. absurd (cc)) talk (inl talk.talked.talk.takes), refl)
   talk_ending _ _ (ends.outlasted talk) f t e = inl (answered Outlasted (λ h. absurd (cc)) talk (inr talk.talked.cause), refl)
   talk_ending _ _ (ends.unheard talk) f t e = absurd (t talk.talked.cause)
   talk_ending _ _ (ends.unsaid talk) f t e = absurd (t talk.talked.cause)
   talk_ending _ _ (ends.faulted fault cause silent behind) f t e = absurd (alone.faultless _ fault cause f)
-  talk_ending _ _ (ends.exhausted silent) f t e = inr (refl, silent, refl)
+  talk_ending _ _ (ends.exhausted silent) f t e = inr (refl, inl silent, refl)
+  talk_ending _ _ (ends.cut_short cut) f t e = inr (refl, inr cut, refl)
   talk_ending _ _ (ends.unheard_unsaid part talk front up) f t e = absurd (e up)
   talk_ending _ _ (ends.fault_unsaid fault part cause silent behind front up) f t e = absurd (e up)
   talk_ending _ _ (ends.memory_unsaid part silent front up) f t e = absurd (e up)
+  talk_ending _ _ (ends.cut_unsaid part cut front up) f t e = absurd (e up)
 
 talks_whole : (words : List (List ℕ)) (held : Option Held) (given : Inputs) → IsAlone (talk_source words) (StartsTalk words) (NamesReadFirst (talk_source words)) held given → TalksWhole words held given
 talks_whole words held given alone f f' t t' e e' l l' before after eb ea status (said, err_is, ends) files talk err =
     elim (talk_ending words held given alone f f' _ _ before after l l' status said ends files talk err) [
       | inl (all, nothing) ↦ inl (all, rw (← nothing) err_is)
-      | inr (is, silent, text) ↦ inr (is, silent, rw (← text) err_is)
+      | inr (is, unopened, text) ↦ inr (is, unopened, rw (← text) err_is)
     ]
 
 pub talk_completes : TalkCompleteness

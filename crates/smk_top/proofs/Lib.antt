@@ -8,6 +8,7 @@ mod CutLines
 mod EndingsTold
 mod ReplyFits
 mod Answered
+mod Openings
 mod TalkStretches
 mod TalkLines
 mod TalkEndings

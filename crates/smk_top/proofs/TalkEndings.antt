@@ -6,7 +6,7 @@ use Rattle.smk_model.specs.NodeFaults.{NodeFault, FullRows, FullPairs}
 use Rattle.smk_base.specs.declared.fault.Fault.{Fault}
 use Rattle.smk_base.specs.declared.fault.Fault.TheVariants.{Usage}
 use Rattle.smk_base.specs.declared.demo.TheConstants.{DEMO_BOOK_NAME}
-use Rattle.smk_model.specs.Conversation.{first_talk_state, block_of, opening_text, turns_told, FitsTalk}
+use Rattle.smk_model.specs.Conversation.{first_talk_state, opening_block, turns_told, FitsTalk}
 use Rattle.smk_model.specs.Demo.{demo_of}
 use Rattle.smk_model.specs.Looks.{start_looks}
 use Rattle.smk_model.specs.Opening.{ViewFault, first_view_fault, fault_named, named_fault}
@@ -41,7 +41,7 @@ use Rattle.smk_top.specs.Talking.{talk_rules, is_down, talk_at, Talked}
 use Rattle.smk_top.specs.Endings.{SaysMemory, SaysFault}
 use Rattle.smk_top.specs.declared.status.Status.{Status}
 use Rattle.smk_top.specs.declared.status.Status.TheVariants.{Done, DoneWithRefusals, ReadFault}
-use Rattle.smk_top.specs.TalkEndings.{ended, outlasted, unheard, unsaid, faulted, exhausted, unheard_unsaid, fault_unsaid, memory_unsaid, TalkEnds, ConverseEnds, SaysTalkFault, SaysEnding, SaysTalkEnd, said_by, Converses, report_by, IsTalkRead, IsSilent, ReadsBook, StartLooks, FailsToStart, TalksOver, Silent, BeginsTalk, TalksFor, TalkWorks}
+use Rattle.smk_top.specs.TalkEndings.{ended, outlasted, unheard, unsaid, faulted, exhausted, cut_short, unheard_unsaid, fault_unsaid, memory_unsaid, cut_unsaid, TalkEnds, ConverseEnds, SaysTalkFault, SaysEnding, SaysTalkEnd, said_by, Converses, report_by, IsTalkRead, IsSilent, IsUnopened, ReadsBook, StartLooks, FailsToStart, TalksOver, Silent, BeginsTalk, TalksFor, TalkWorks}
 use Rattle.smk_outside.proofs.Reading.{none_taken}
 use Rattle.smk_top.proofs.Endings.{never_rose, no_memory_is_no_fault}
 use Rattle.smk_top.specs.Looking.{LooksBehind, LooksBehindReading}
@@ -82,12 +82,12 @@ module _ (words : List (List ℕ)) (call : TalkCall) (asked : talk_call_of words
       → ((table : Option TableInfo) (brought : Result (List Row) Fault) → BringsBy (line_files call.texts held) (Rose here here_after) table brought → TalkBrings call.texts held (Rose faults faults_after) table brought)
       → ((n : ℕ) → FailedReads n here here_after → FailedReads n faults faults_after)
       → IsTalkStart words held given
-      → Talked (said_by given) call.read_only (line_files call.texts held) here here_after talk_rose (block_of (opening_text call.brief given.book given.fds)) (first_talk_state given.book) before after end.ending end.down (looks_before + start_looks given.book) looks_after
+      → Talked (said_by given) call.read_only (line_files call.texts held) here here_after talk_rose (opening_block call.brief given.book given.fds) (first_talk_state given.book) before after end.ending end.down (looks_before + start_looks given.book) looks_after
       → TalksFor words held faults faults_after talk_rose before after looks_before looks_after end
   talks_by here here_after given end wide shown starts t =
       let (talk, same) = stretches.refit (talk_rules (said_by given)) (FitsTalk call.read_only given.book.catalog (BringsBy (line_files call.texts held) (Rose here here_after))) (FitsTalk call.read_only given.book.catalog (TalkBrings call.texts held (Rose faults faults_after)))
       (fits_by (said_by given) call.read_only held (BringsBy (line_files call.texts held) (Rose here here_after)) (TalkBrings call.texts held (Rose faults faults_after)) wide)
-      (block_of (opening_text call.brief given.book given.fds)) (first_talk_state given.book) t.last before after end.ending t.stretch.talk in
+      (opening_block call.brief given.book given.fds) (first_talk_state given.book) t.last before after end.ending t.stretch.talk in
       record {
         talk = record {
           call = call;
@@ -141,7 +141,8 @@ module _ (words : List (List ℕ)) (settings : Settings) (read_only brief : Bool
   files_talk (Ok end) t = talks_by words _ asked held faults faults_after talk_rose before after looks_before looks_after faults faults_after t.given end (λ table brought is. is) (λ n is. is) (file_start held t.given t.reads t.fine) t.talked
   files_talk (Err (At fault)) (fails, silent) = (file_cause held fault fails, file_silent silent)
   files_talk (Err Unwritten) is = is
-  files_talk (Err Exhausted) silent = file_silent silent
+  files_talk (Err Exhausted) (inl silent) = inl (file_silent silent)
+  files_talk (Err Exhausted) (inr f) = inr (record { call = _; asked = asked; given = f.given; starts = file_start held f.given f.reads f.fine; few = f.few; looks = f.looks })
 
 -- the texts of a demo
 module _ (words : List (List ℕ)) (settings : Settings) (read_only brief : Bool) (n : ℕ) (asked : talk_call_of words ≡ Some (record { settings = settings; texts = Demo n; read_only = read_only; brief = brief }))
@@ -176,7 +177,8 @@ module _ (words : List (List ℕ)) (settings : Settings) (read_only brief : Bool
   demo_talks (Ok end) t = talks_by words _ asked held faults faults_after talk_rose before after looks_before looks_after 0 0 t.given end (demo_brings n) (λ n shown. none_failed n faults faults_after later shown) (demo_start held t.given t.reads t.fine) t.talked
   demo_talks (Err (At fault)) (fails, silent) = (demo_cause held fault fails, demo_silent silent)
   demo_talks (Err Unwritten) is = is
-  demo_talks (Err Exhausted) silent = demo_silent silent
+  demo_talks (Err Exhausted) (inl silent) = inl (demo_silent silent)
+  demo_talks (Err Exhausted) (inr f) = inr (record { call = _; asked = asked; given = f.given; starts = demo_start held f.given f.reads f.fine; few = f.few; looks = f.looks })
 
 -- words that call for nothing
 pub unusable_words : (words : List (List ℕ)) (held : Option Held) (faults faults_after : ℕ) (talk_rose : Type 0) (before after : Told) (looks_before looks_after : ℕ) → talk_call_of words ≡ None → after ≡ before → looks_after ≡ looks_before
@@ -200,8 +202,8 @@ module _ {X : Type 0} (reads : X → List Reading → Inputs) (bytes : X → Lis
   reading_stops (Some held) looks_before looks_after (At fault) (inr (up, unread)) same none = (inr (up, unread), record { same = same; looks = inl none })
   reading_stops None looks_before looks_after Unwritten fails same none = fails
   reading_stops (Some held) looks_before looks_after Unwritten fails same none = fails
-  reading_stops None looks_before looks_after Exhausted fails same none = record { same = same; looks = inl none }
-  reading_stops (Some held) looks_before looks_after Exhausted fails same none = record { same = same; looks = inl none }
+  reading_stops None looks_before looks_after Exhausted fails same none = inl (record { same = same; looks = inl none })
+  reading_stops (Some held) looks_before looks_after Exhausted fails same none = inl (record { same = same; looks = inl none })
 
   -- what is read of a book, by some readings of no script
   pub book_read : (held : Option Held) (x : X) → ReadsAll {X = X} held (Rose faults faults_after) book None reads bytes (Ok x) → ReadsBook held book (reads x (some_reading (bytes x)).0)
@@ -228,7 +230,7 @@ module _ {X : Type 0} (reads : X → List Reading → Inputs) (bytes : X → Lis
       by None there stops = untold (first_view_fault given.book) stops
       by (Some h) there stops = inl (inr (given, there, stops))
   starting_stops Y held x looks_before looks_after Unwritten there starts same few = starts
-  starting_stops Y held x looks_before looks_after Exhausted there starts same few = record { same = same; looks = inr (reads x (some_reading (bytes x)).0, there, few) }
+  starting_stops Y held x looks_before looks_after Exhausted there starts same few = inl (record { same = same; looks = inr (reads x (some_reading (bytes x)).0, there, few) })
 
 -- how it ends, by what is said of it on `err`
 module _ (words : List (List ℕ)) (held : Option Held) (faults faults_after : ℕ) (talk_rose err_rose : Type 0) (before after : Told) (looks_before looks_after : ℕ) (err_before err_after : Option (List ℕ)) (status : Status) where
@@ -244,27 +246,29 @@ module _ (words : List (List ℕ)) (held : Option Held) (faults faults_after : �
       → ConverseEnds words held faults faults_after talk_rose err_rose before after looks_before looks_after err_before err_after status
   ends_said end t said = reported end.ending end.down t.talk t.down said
 
-  pub memory_said : IsSilent words held before after looks_before looks_after → SaysMemory err_rose err_before err_after status
+  pub memory_said : IsUnopened words held before after looks_before looks_after → SaysMemory err_rose err_before err_after status
       → ConverseEnds words held faults faults_after talk_rose err_rose before after looks_before looks_after err_before err_after status
-  memory_said silent (said, appended, inl (is, whole)) = (said, appended, rw is (rw whole (exhausted silent)))
-  memory_said silent (said, appended, inr (is, part, rose)) = (said, appended, rw is (memory_unsaid said silent part rose))
+  memory_said (inl silent) (said, appended, inl (is, whole)) = (said, appended, rw is (rw whole (exhausted silent)))
+  memory_said (inl silent) (said, appended, inr (is, part, rose)) = (said, appended, rw is (memory_unsaid said silent part rose))
+  memory_said (inr cut) (said, appended, inl (is, whole)) = (said, appended, rw is (rw whole (cut_short cut)))
+  memory_said (inr cut) (said, appended, inr (is, part, rose)) = (said, appended, rw is (cut_unsaid said cut part rose))
 
   pub fault_said : (fault : Fault) → HasTalkCause words held (Rose faults faults_after) fault → IsSilent words held before after looks_before looks_after → LooksBehind fault looks_before looks_after → SaysTalkFault fault err_rose err_before err_after status
       → ConverseEnds words held faults faults_after talk_rose err_rose before after looks_before looks_after err_before err_after status
   fault_said fault cause silent behind (inl (said, appended, inl (is, whole))) = (said, appended, rw is (rw whole (faulted fault cause silent behind)))
   fault_said fault cause silent behind (inl (said, appended, inr (is, part, rose))) = (said, appended, rw is (fault_unsaid fault said cause silent behind part rose))
-  fault_said fault cause silent behind (inr wanting) = memory_said silent wanting
+  fault_said fault cause silent behind (inr wanting) = memory_said (inl silent) wanting
 
 -- a fault that isn't one of the words is said as by a run
 pub said_alike : (fault : Fault) (rose : Type 0) (before after : Option (List ℕ)) (status : Status) → (fault ≡ Usage → ⊥) → SaysFault fault rose before after status → SaysTalkFault fault rose before after status
 said_alike Usage rose before after status other said = absurd (other refl)
 said_alike _ rose before after status other said = said
 
--- nothing was heard or said where a conversation doesn't start
-pub silent_of : (words : List (List ℕ)) (held : Option Held) (faults faults_after : ℕ) (talk_rose : Type 0) (before after : Told) (looks_before looks_after : ℕ) (stop : Stop) → TalkWorks words held faults faults_after talk_rose before after looks_before looks_after (Err stop) → IsSilent words held before after looks_before looks_after
-silent_of words held faults faults_after talk_rose before after looks_before looks_after (At fault) works = works.1
-silent_of words held faults faults_after talk_rose before after looks_before looks_after Unwritten works = absurd works
-silent_of words held faults faults_after talk_rose before after looks_before looks_after Exhausted works = works
+-- nothing was heard where a conversation doesn't start or memory was wanting, and no more said than the first few texts
+pub unopened : (words : List (List ℕ)) (held : Option Held) (faults faults_after : ℕ) (talk_rose : Type 0) (before after : Told) (looks_before looks_after : ℕ) (stop : Stop) → TalkWorks words held faults faults_after talk_rose before after looks_before looks_after (Err stop) → IsUnopened words held before after looks_before looks_after
+unopened words held faults faults_after talk_rose before after looks_before looks_after (At fault) works = inl works.1
+unopened words held faults faults_after talk_rose before after looks_before looks_after Unwritten works = absurd works
+unopened words held faults faults_after talk_rose before after looks_before looks_after Exhausted works = works
 
 -- a fault of a view is none of what is read
 pub starts_later : (X Y : Type 0) (book : Workbook) (before after : ℕ) (stop : Stop) → Starts {X = X} book (Err stop) → LooksBehindReading {X = Y} (Err stop) before after
@@ -306,20 +310,19 @@ end_is_no_start Ended down rose err_before err_after status (appended, is) met =
 end_is_no_start Outlasted down rose err_before err_after status (appended, is) met = report_is_no_start down (subst IsStartFault is met)
 
 -- a conversation with a session that begins is one over what was read
-pub talks_over : (held now : Option Held) (start faults faults_after : ℕ) (talk_rose : Type 0) (book : List ℕ) (read_only brief : Bool) (before after : Told) (looks_before looks_between looks_after : ℕ) (end : TalkEnd) (given : Inputs) (over : Workbook) (state : State) (fds : List (List ℕ)) (opening : List ℕ)
-    → now ≡ held → start ≤ faults → faults ≤ faults_after → ReadsBook held book given → first_view_fault given.book ≡ None → over ≡ given.book → fds ≡ given.fds → state ≡ first_state over → opening ≡ opening_text brief over fds
+pub talks_over : (held now : Option Held) (start faults faults_after : ℕ) (talk_rose : Type 0) (book : List ℕ) (read_only brief : Bool) (before after : Told) (looks_before looks_between looks_after : ℕ) (end : TalkEnd) (given : Inputs) (over : Workbook) (state : State) (fds : List (List ℕ))
+    → now ≡ held → start ≤ faults → faults ≤ faults_after → ReadsBook held book given → first_view_fault given.book ≡ None → over ≡ given.book → fds ≡ given.fds → state ≡ first_state over
     → looks_between ≤ looks_before + start_looks given.book
-    → Talked (record { catalog = over.catalog; fds = fds }) read_only now faults faults_after talk_rose (block_of opening) (talk_at state 0) before after end.ending end.down looks_between looks_after
+    → Talked (record { catalog = over.catalog; fds = fds }) read_only now faults faults_after talk_rose (opening_block brief over fds) (talk_at state 0) before after end.ending end.down looks_between looks_after
     → TalksOver held start faults_after talk_rose book read_only brief before after looks_before looks_after end
-talks_over held now start faults faults_after talk_rose book read_only brief before after looks_before looks_between looks_after end given over state fds opening same up later there fine is named begins says few t =
-    let t1 = subst (λ (s : State). Talked (record { catalog = over.catalog; fds = fds }) read_only now faults faults_after talk_rose (block_of opening) (talk_at s 0) before after end.ending end.down looks_between looks_after) begins t in
-    let t2 = subst (λ (o : List ℕ). Talked (record { catalog = over.catalog; fds = fds }) read_only now faults faults_after talk_rose (block_of o) (talk_at (first_state over) 0) before after end.ending end.down looks_between looks_after) says t1 in
-    let t3 = subst (λ (b : Workbook). Talked (record { catalog = b.catalog; fds = fds }) read_only now faults faults_after talk_rose (block_of (opening_text brief b fds)) (talk_at (first_state b) 0) before after end.ending end.down looks_between looks_after) is t2 in
-    let t4 = subst (λ (l : List (List ℕ)). Talked (record { catalog = given.book.catalog; fds = l }) read_only now faults faults_after talk_rose (block_of (opening_text brief given.book l)) (talk_at (first_state given.book) 0) before after end.ending end.down looks_between looks_after) named t3 in
-    let t5 = subst (λ (h : Option Held). Talked (said_by given) read_only h faults faults_after talk_rose (block_of (opening_text brief given.book given.fds)) (first_talk_state given.book) before after end.ending end.down looks_between looks_after) same t4 in
+talks_over held now start faults faults_after talk_rose book read_only brief before after looks_before looks_between looks_after end given over state fds same up later there fine is named begins few t =
+    let t1 = subst (λ (s : State). Talked (record { catalog = over.catalog; fds = fds }) read_only now faults faults_after talk_rose (opening_block brief over fds) (talk_at s 0) before after end.ending end.down looks_between looks_after) begins t in
+    let t2 = subst (λ (b : Workbook). Talked (record { catalog = b.catalog; fds = fds }) read_only now faults faults_after talk_rose (opening_block brief b fds) (talk_at (first_state b) 0) before after end.ending end.down looks_between looks_after) is t1 in
+    let t3 = subst (λ (l : List (List ℕ)). Talked (record { catalog = given.book.catalog; fds = l }) read_only now faults faults_after talk_rose (opening_block brief given.book l) (talk_at (first_state given.book) 0) before after end.ending end.down looks_between looks_after) named t2 in
+    let t4 = subst (λ (h : Option Held). Talked (said_by given) read_only h faults faults_after talk_rose (opening_block brief given.book given.fds) (first_talk_state given.book) before after end.ending end.down looks_between looks_after) same t3 in
     record {
       given = given;
       reads = there;
       fine = fine;
-      talked = talked_within (said_by given) read_only held start faults faults_after talk_rose (block_of (opening_text brief given.book given.fds)) (first_talk_state given.book) before after end.ending end.down looks_before looks_between looks_after (start_looks given.book) up later few t5;
+      talked = talked_within (said_by given) read_only held start faults faults_after talk_rose (opening_block brief given.book given.fds) (first_talk_state given.book) before after end.ending end.down looks_before looks_between looks_after (start_looks given.book) up later few t4;
     }

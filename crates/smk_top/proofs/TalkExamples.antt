@@ -1,7 +1,7 @@
 -- The worked conversation, turn by turn, and why no line is heard ahead.
-use Rattle.std.specs.Prelude.{codes}
+use Rattle.std.specs.Prelude.{codes, take}
 use Rattle.std.specs.Fmt.{digits}
-use Rattle.std.proofs.Common.{◌≡◌, ◌<◌, ℕ, false, List, [], ◌∷◌, Some, None, Ok, refl, sym, subst, inl, arith, length}
+use Rattle.std.proofs.Common.{◌≡◌, ◌<◌, ℕ, false, List, [], ◌∷◌, ◌++◌, Some, None, Ok, refl, sym, ap, ◌∙◌, subst, inl, arith, length}
 use Rattle.clap.specs.Walk.{walked}
 use Rattle.clap.specs.Faults.{walk_fault, defaults_fault}
 use Rattle.csv.specs.Writing.{fields_text, is_blank}
@@ -12,7 +12,7 @@ use Rattle.smk_base.specs.Trees.{AppendedLine}
 use Rattle.smk_base.specs.declared.book.tree.Line.TheVariants as lines
 use Rattle.smk_model.specs.Texts.{record_line}
 use Rattle.smk_model.specs.Tables.{table_of}
-use Rattle.smk_model.specs.Conversation.{line_limit, HeardLine, TalkTurn, Replied, TooLong, TalkState, turn_after, turn_block, FitsTalk, first_talk_state, opening_block}
+use Rattle.smk_model.specs.Conversation.{line_limit, line_of, HeardLine, TalkTurn, Replied, TooLong, TalkState, turn_after, turn_block, FitsTalk, first_talk_state, opening_block, opening_texts}
 use Rattle.smk_model.specs.Examples.{sales}
 use Rattle.smk_model.specs.Grammar.{name, file, show_line, plain_line, appended_line, whole_any_line}
 use Rattle.smk_model.specs.Readings.{Asks, Unread, asks, leaves, plain_reading}
@@ -25,13 +25,14 @@ use Rattle.smk_model.proofs.LineExamples.{stands}
 use Rattle.smk_model.proofs.WorkedExamples.{readme}
 use Rattle.smk_outside.specs.Conversing.{Talks, Rules, last_state}
 use Rattle.smk_outside.specs.Outside.{Rose}
+use Rattle.smk_outside.specs.Told.{says}
 use Rattle.smk_outside.specs.declared.talk.event.Event.{Event}
 use Rattle.smk_outside.specs.declared.talk.event.Event.TheVariants.{Heard, End, Said}
 use Rattle.smk_outside.specs.declared.talk.ending.Ending.{Ending}
 use Rattle.smk_outside.specs.declared.talk.ending.Ending.TheVariants.{Ended, Unheard, Unsaid, Outlasted}
 use Rattle.smk_top.specs.declared.status.Status.{Status}
 use Rattle.smk_top.specs.Talking.{talk_rules}
-use Rattle.smk_top.specs.TalkEndings.{Converses, TalkEnds, IsSilent, said_by}
+use Rattle.smk_top.specs.TalkEndings.{Converses, TalkEnds, IsSilent, IsCutShort, said_by}
 use Rattle.smk_top.specs.TalkEndings as ends
 use Rattle.smk_top.specs.TalkExamples.{line_shown, line_appended, line_left, view_said, answers_said, answered_first, heard_ahead, told_first, told_last, TalksHold}
 
@@ -84,7 +85,7 @@ left_fits state at = rw at (omega arith, refl, leaves (λ e. absurd (cc)) refl r
 abbrev refused_said : List Event
 refused_said = Said (codes "refused line too long\n") ∷ Said (codes "\n") ∷ Heard line_left ∷ left_said
 
-in_order : (long : List ℕ) → line_limit < length long → Talks rules Fits first (opening_block readme_workbook) Ended (turns long) (answered_first long)
+in_order : (long : List ℕ) → line_limit < length long → Talks rules Fits first (opening_block false readme_workbook (readme_inputs []).fds) Ended (turns long) (answered_first long)
 unfolding digits record_line fields_text is_blank
 in_order long over = (
   view_said (Heard line_appended ∷ answers_said long),
@@ -123,25 +124,40 @@ said_first said Fits state text line texts more Unsaid [] (part ∷ parts, is, f
 said_first said Fits state text line texts more Outlasted [] is = absurd (cc)
 said_first said Fits state text line texts more ending (turn ∷ turns) (next, fits, is, talks) = absurd (cc)
 
-heard_twice : (said : BookSaid) (Fits : TalkState → TalkTurn → Type 0) (state : TalkState) (a b x y line next : List ℕ) (more events : List Event) (ending : Ending) (turns : List TalkTurn)
-    → events ≡ Said x ∷ Said y ∷ Heard line ∷ Heard next ∷ more → Talks (talk_rules said) Fits state (a ∷ b ∷ []) ending turns events → ⊥
-heard_twice said Fits state a b x y line next more events Ended [] twice is = absurd (cc)
-heard_twice said Fits state a b x y line next more events Unheard [] twice is = absurd (cc)
-heard_twice said Fits state a b x y line next more events Unsaid [] twice ([], is, front) = absurd (cc)
-heard_twice said Fits state a b x y line next more events Unsaid [] twice (p ∷ [], is, front) = absurd (cc)
-heard_twice said Fits state a b x y line next more events Unsaid [] twice (p ∷ q ∷ [], is, front) = absurd (cc)
-heard_twice said Fits state a b x y line next more events Unsaid [] twice (p ∷ q ∷ r ∷ parts, is, front) = absurd (cc)
-heard_twice said Fits state a b x y line next more events Outlasted [] twice is = absurd (cc)
-heard_twice said Fits state a b x y line next more events ending (turn ∷ turns) twice (later, fits, is, talks) =
-    let same : later ≡ Heard next ∷ more = cc in
+-- what is behind the first line that is heard
+abbrev behind : List Event → List Event
+behind [] = []
+behind (Heard line ∷ events) = events
+behind (Said bytes ∷ events) = behind events
+behind (End ∷ events) = behind events
+
+behind_said : (texts : List (List ℕ)) (events : List Event) → behind (says texts ++ events) ≡ behind events
+behind_said [] events = refl
+behind_said (text ∷ texts) events = behind_said texts events
+
+only_said : (texts : List (List ℕ)) → behind (says texts) ≡ []
+only_said [] = refl
+only_said (text ∷ texts) = only_said texts
+
+heard_twice : (said : BookSaid) (Fits : TalkState → TalkTurn → Type 0) (state : TalkState) (saying : List (List ℕ)) (next : List ℕ) (more events : List Event) (ending : Ending) (turns : List TalkTurn)
+    → behind events ≡ Heard next ∷ more → Talks (talk_rules said) Fits state saying ending turns events → ⊥
+heard_twice said Fits state saying next more events Ended [] twice is = let none = ap behind is ∙ behind_said saying (End ∷ []) in absurd (cc)
+heard_twice said Fits state saying next more events Unheard [] twice is = let none = ap behind is ∙ only_said saying in absurd (cc)
+heard_twice said Fits state saying next more events Unsaid [] twice (parts, is, front) = let none = ap behind is ∙ only_said parts in absurd (cc)
+heard_twice said Fits state saying next more events Outlasted [] twice is = let none = ap behind is ∙ only_said saying in absurd (cc)
+heard_twice said Fits state saying next more events ending (turn ∷ turns) twice (later, fits, is, talks) =
+    let same = sym (ap behind is ∙ behind_said saying (Heard (line_of turn) ∷ later)) ∙ twice in
     said_first said Fits _ _ next _ more ending turns (subst (λ (l : List Event). Talks (talk_rules said) Fits (turn_after said state turn) (turn_block said state turn) ending turns l) same talks)
 
 module _ (long : List ℕ) (files files_after : ℕ) (rose err : Type 0) (looks looks_after : ℕ) where
   not_ahead : (ending : Ending) → Converses (readme_book_name ∷ []) (Some readme_files) files files_after rose (told_first long) (told_last (heard_ahead long)) looks looks_after ending → ⊥
-  not_ahead ending c = let t = c.talked.talk in heard_twice _ _ _ _ _ _ _ _ _ _ t.events ending t.turns (sym t.adds.0) t.talks
+  not_ahead ending c = let t = c.talked.talk in heard_twice _ _ _ _ _ _ t.events ending t.turns (ap behind (sym t.adds.0)) t.talks
 
   not_silent : IsSilent (readme_book_name ∷ []) (Some readme_files) (told_first long) (told_last (heard_ahead long)) looks looks_after → ⊥
   not_silent silent = let none = silent.silent.0.0 in absurd (cc)
+
+  not_cut : IsCutShort (readme_book_name ∷ []) (Some readme_files) (told_first long) (told_last (heard_ahead long)) looks looks_after → ⊥
+  not_cut cut = let none = ap behind cut.few.2.0.0 ∙ only_said (take cut.few.0 (opening_texts cut.call.brief cut.given.book cut.given.fds)) in absurd (cc)
 
   no_ending : (status : Status) (said : List ℕ) → TalkEnds (readme_book_name ∷ []) (Some readme_files) files files_after rose err (told_first long) (told_last (heard_ahead long)) looks looks_after status said → ⊥
   no_ending _ _ (ends.ended talk) = not_ahead Ended talk
@@ -150,9 +166,11 @@ module _ (long : List ℕ) (files files_after : ℕ) (rose err : Type 0) (looks 
   no_ending _ _ (ends.unsaid talk) = not_ahead Unsaid talk
   no_ending _ _ (ends.faulted fault cause silent behind) = not_silent silent
   no_ending _ _ (ends.exhausted silent) = not_silent silent
+  no_ending _ _ (ends.cut_short cut) = not_cut cut
   no_ending _ _ (ends.unheard_unsaid part talk front up) = not_ahead Unheard talk
   no_ending _ _ (ends.fault_unsaid fault part cause silent behind front up) = not_silent silent
   no_ending _ _ (ends.memory_unsaid part silent front up) = not_silent silent
+  no_ending _ _ (ends.cut_unsaid part cut front up) = not_cut cut
 
 pub talks : TalksHold
 unfolding converses

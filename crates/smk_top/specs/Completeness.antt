@@ -1,8 +1,8 @@
 -- What a run and a conversation can't fail to do.
-use Rattle.std.specs.Prelude.{◌≡◌, ◌⊎◌, ℕ, List, [], ◌∷◌, length, map, Option, Some, None, Ok}
+use Rattle.std.specs.Prelude.{◌≡◌, ◌⊎◌, ℕ, List, [], length, map, Option, Some, None, Ok}
 use Rattle.std.specs.Io.KnownBytes as known
-use Rattle.std.specs.List.{concat, flat_map}
-use Rattle.smk_model.specs.Conversation.{line_of, block_of, first_talk_state, opening_text, turn_texts}
+use Rattle.std.specs.List.{concat}
+use Rattle.smk_model.specs.Conversation.{line_of, talk_said}
 use Rattle.smk_model.specs.Reports.{Report}
 use Rattle.smk_model.specs.Outcome.{Held, Inputs, Outcome, nothing_held, written_of}
 use Rattle.smk_model.specs.TalkStarts.{StartsTalk}
@@ -16,7 +16,7 @@ use Rattle.smk_top.specs.declared.status.Status.{Status}
 use Rattle.smk_top.specs.declared.status.Status.TheVariants.{NoMemory}
 use Rattle.smk_top.specs.Statuses.{status_of_report}
 use Rattle.smk_top.specs.Endings.{RunEnds}
-use Rattle.smk_top.specs.TalkEndings.{Converses, ConverseEnds, IsSilent, said_by, turns_of, report_by}
+use Rattle.smk_top.specs.TalkEndings.{Converses, ConverseEnds, IsUnopened, turns_of, report_by}
 
 -- where no count of faults rose in a run, what the run writes of this report is appended whole and nothing is said, and the status is the report's; or memory was wanting
 abbrev pub WritesWhole : List (List ℕ) → Option Held → Report → Type 0
@@ -36,16 +36,16 @@ pub record AnswersAll (words : List (List ℕ)) (held : Option Held) (given : In
   pub talk : Converses words held files files_after rose before after looks looks_after ending
   pub over : talk.given ≡ given
   pub heard : AreAll before (map line_of (turns_of talk)) ⊎ (length (turns_of talk) ≡ 18446744073709551615)
-  pub answered : known.Appends before.said after.said (concat (flat_map block_of (opening_text talk.call.brief given.book given.fds ∷ turn_texts (said_by given) (first_talk_state given.book) (turns_of talk))))
+  pub answered : known.Appends before.said after.said (concat (talk_said talk.call.brief given.book given.fds (turns_of talk)))
   pub ends : status ≡ status_of_report (report_by talk)
 
--- where no count of faults rose in a conversation, all its lines were answered over these inputs, and nothing is said on `err`; or memory was wanting before anything was said
+-- where no count of faults rose in a conversation, all its lines were answered over these inputs, and nothing is said on `err`; or memory was wanting before anything was said, or behind the first few texts of the opening
 abbrev pub TalksWhole : List (List ℕ) → Option Held → Inputs → Type 0
 TalksWhole words held given = (files files_after talks talks_after errs errs_after looks looks_after : ℕ) (before after : Told) (err_before err_after : Option (List ℕ)) (status : Status)
     → ConverseEnds words held files files_after (Rose talks talks_after) (Rose errs errs_after) before after looks looks_after err_before err_after status
     → (Rose files files_after → ⊥) → (Rose talks talks_after → ⊥) → (Rose errs errs_after → ⊥)
     → (AnswersAll words held given files files_after (Rose talks talks_after) before after looks looks_after status × Appends err_before err_after [])
-    ⊎ ((status ≡ NoMemory) × IsSilent words held before after looks looks_after × Appends err_before err_after no_memory_text)
+    ⊎ ((status ≡ NoMemory) × IsUnopened words held before after looks looks_after × Appends err_before err_after no_memory_text)
 
 -- a conversation that starts goes on to its end
 pub record TalkCompleteness : Type 0 where

@@ -1,7 +1,7 @@
 -- How a conversation may end: its status, what was heard and said, and what it has appended to `err`.
 use Rattle.std.specs.Prelude.{◌≡◌, ◌⊎◌, ◌≤◌, ◌+◌, ⊤, ℕ, Bool, cond, List, [], Option, Some, None, Result, Ok, Err}
 use Rattle.smk_base.specs.declared.fault.Fault.{Fault}
-use Rattle.smk_model.specs.Conversation.{TalkTurn, TalkState, FitsTalk, first_talk_state, block_of, opening_text, talk_report, turns_told}
+use Rattle.smk_model.specs.Conversation.{TalkTurn, TalkState, FitsTalk, first_talk_state, opening_block, opening_texts, talk_report, turns_told}
 use Rattle.smk_model.specs.Looks.{start_looks}
 use Rattle.smk_model.specs.Opening.{first_view_fault}
 use Rattle.smk_model.specs.Outcome.{Held, Inputs, ReadsFiles, NamesAsked, UntoldCause, WhereTold}
@@ -22,7 +22,7 @@ use Rattle.smk_inputs.specs.declared.stop.Stop.TheVariants.{At, Unwritten, Exhau
 use Rattle.smk_top.specs.Endings.{SaysMemory}
 use Rattle.smk_top.specs.Looking.{LooksBehind}
 use Rattle.smk_top.specs.Statuses.{status_of_report, status_of_fault}
-use Rattle.smk_top.specs.Talking.{talk_rules, Talked}
+use Rattle.smk_top.specs.Talking.{talk_rules, SaysFew, Talked}
 use Rattle.smk_top.specs.declared.talking.TalkEnd.{TalkEnd}
 use Rattle.smk_top.specs.declared.status.Status.{Status}
 use Rattle.smk_top.specs.declared.status.Status.TheVariants.{Done, DoneWithRefusals, ReadFault, WriteFault, NoMemory}
@@ -31,7 +31,7 @@ use Rattle.smk_top.specs.declared.status.Status.TheVariants.{Done, DoneWithRefus
 abbrev pub said_by : Inputs → BookSaid
 said_by given = record { catalog = given.book.catalog; fds = given.fds }
 
--- A conversation of these words over these files, by the counts of faults of the files before and after it, and by whether that of the object rose in it: what is said first is the texts of all views, or the schema where it is asked for; each line is then heard, and answered before the next one is heard.
+-- A conversation of these words over these files, by the counts of faults of the files before and after it, and by whether that of the object rose in it: what is said first is the text of each view, or the schema where it is asked for, and then an empty line; each line is then heard, and answered before the next one is heard.
 -- Each turn is one that fits the state that the turns before it left, also behind lines that were refused or that memory was wanting for. As many lines at most are refused by reads that failed as the count of faults shows.
 -- Looks are at most those of the start and those of the lines.
 pub record Converses (words : List (List ℕ)) (held : Option Held) (files_before files_after : ℕ) (talk_rose : Type 0) (before after : Told) (looks_before looks_after : ℕ) (ending : Ending) : Type 0 where
@@ -40,7 +40,7 @@ pub record Converses (words : List (List ℕ)) (held : Option Held) (files_befor
   pub given : Inputs
   pub starts : IsTalkStart words held given
   pub last : TalkState
-  pub talked : Conversation (talk_rules (said_by given)) (FitsTalk call.read_only given.book.catalog (TalkBrings call.texts held (Rose files_before files_after))) (block_of (opening_text call.brief given.book given.fds)) (first_talk_state given.book) last before after talk_rose ending
+  pub talked : Conversation (talk_rules (said_by given)) (FitsTalk call.read_only given.book.catalog (TalkBrings call.texts held (Rose files_before files_after))) (opening_block call.brief given.book given.fds) (first_talk_state given.book) last before after talk_rose ending
   pub misread : FailedReads (misreads (line_files call.texts held) talked.talk.turns) files_before files_after
   pub looks : looks_after ≤ looks_before + start_looks given.book + (turns_told (said_by given) (first_talk_state given.book) talked.talk.turns).looks
 
@@ -59,6 +59,19 @@ pub record IsSilent (words : List (List ℕ)) (held : Option Held) (before after
   pub silent : Says before after []
   pub looks : (looks_after ≡ looks_before) ⊎ ((given : Inputs) × IsTalkRead words held given × (looks_after ≤ looks_before + start_looks given.book))
 
+-- a conversation starts, and the first few of the texts of its opening were said, each of them whole; no line was heard, and looks are at most those of the start
+pub record IsCutShort (words : List (List ℕ)) (held : Option Held) (before after : Told) (looks_before looks_after : ℕ) : Type 0 where
+  pub call : TalkCall
+  pub asked : talk_call_of words ≡ Some call
+  pub given : Inputs
+  pub starts : IsTalkStart words held given
+  pub few : SaysFew (opening_texts call.brief given.book given.fds) before after
+  pub looks : looks_after ≤ looks_before + start_looks given.book
+
+-- what was said before the first line, where memory was wanting there: nothing, or the first few texts
+abbrev pub IsUnopened : List (List ℕ) → Option Held → Told → Told → ℕ → ℕ → Type 0
+IsUnopened words held before after looks_before looks_after = IsSilent words held before after looks_before looks_after ⊎ IsCutShort words held before after looks_before looks_after
+
 -- the ending of a conversation, and what is said of it on `err`
 pub data TalkEnds (words : List (List ℕ)) (held : Option Held) (files_before files_after : ℕ) (talk_rose err_rose : Type 0) (before after : Told) (looks_before looks_after : ℕ) : Status → List ℕ → Type 0 where
   -- no line comes any more
@@ -74,6 +87,8 @@ pub data TalkEnds (words : List (List ℕ)) (held : Option Held) (files_before f
       → TalkEnds words held files_before files_after talk_rose err_rose before after looks_before looks_after (status_of_fault fault) (talk_fault_text fault)
   -- memory was wanting before anything was said, and this is said
   exhausted : IsSilent words held before after looks_before looks_after → TalkEnds words held files_before files_after talk_rose err_rose before after looks_before looks_after NoMemory no_memory_text
+  -- memory was wanting for the next text of the opening, and this is said likewise
+  cut_short : IsCutShort words held before after looks_before looks_after → TalkEnds words held files_before files_after talk_rose err_rose before after looks_before looks_after NoMemory no_memory_text
   -- that no line could be heard could not be said whole, since `err` failed
   unheard_unsaid : (part : List ℕ) → Converses words held files_before files_after talk_rose before after looks_before looks_after Unheard → IsPrefix part unheard_text → err_rose
       → TalkEnds words held files_before files_after talk_rose err_rose before after looks_before looks_after WriteFault part
@@ -82,6 +97,8 @@ pub data TalkEnds (words : List (List ℕ)) (held : Option Held) (files_before f
       → TalkEnds words held files_before files_after talk_rose err_rose before after looks_before looks_after WriteFault part
   -- that memory was wanting could not be said whole
   memory_unsaid : (part : List ℕ) → IsSilent words held before after looks_before looks_after → IsPrefix part no_memory_text → err_rose
+      → TalkEnds words held files_before files_after talk_rose err_rose before after looks_before looks_after WriteFault part
+  cut_unsaid : (part : List ℕ) → IsCutShort words held before after looks_before looks_after → IsPrefix part no_memory_text → err_rose
       → TalkEnds words held files_before files_after talk_rose err_rose before after looks_before looks_after WriteFault part
 
 -- the same, by what `err` tells before and after
@@ -114,17 +131,25 @@ pub record TalksOver (held : Option Held) (files_before files_after : ℕ) (talk
   pub given : Inputs
   pub reads : ReadsBook held book given
   pub fine : first_view_fault given.book ≡ None
-  pub talked : Talked (said_by given) read_only held files_before files_after talk_rose (block_of (opening_text brief given.book given.fds)) (first_talk_state given.book) before after end.ending end.down (looks_before + start_looks given.book) looks_after
+  pub talked : Talked (said_by given) read_only held files_before files_after talk_rose (opening_block brief given.book given.fds) (first_talk_state given.book) before after end.ending end.down (looks_before + start_looks given.book) looks_after
 
 pub record Silent (held : Option Held) (book : List ℕ) (before after : Told) (looks_before looks_after : ℕ) : Type 0 where
   pub same : after ≡ before
   pub looks : StartLooks held book looks_before looks_after
 
+-- the first few texts of its opening
+pub record FewOver (held : Option Held) (book : List ℕ) (brief : Bool) (before after : Told) (looks_before looks_after : ℕ) : Type 0 where
+  pub given : Inputs
+  pub reads : ReadsBook held book given
+  pub fine : first_view_fault given.book ≡ None
+  pub few : SaysFew (opening_texts brief given.book given.fds) before after
+  pub looks : looks_after ≤ looks_before + start_looks given.book
+
 abbrev pub BeginsTalk : Option Held → ℕ → ℕ → Type 0 → List ℕ → Bool → Bool → Told → Told → ℕ → ℕ → Result TalkEnd Stop → Type 0
 BeginsTalk held files_before files_after talk_rose book read_only brief before after looks_before looks_after (Ok end) = TalksOver held files_before files_after talk_rose book read_only brief before after looks_before looks_after end
 BeginsTalk held files_before files_after talk_rose book read_only brief before after looks_before looks_after (Err (At fault)) = FailsToStart held (Rose files_before files_after) book fault × Silent held book before after looks_before looks_after
 BeginsTalk held files_before files_after talk_rose book read_only brief before after looks_before looks_after (Err Unwritten) = ⊥
-BeginsTalk held files_before files_after talk_rose book read_only brief before after looks_before looks_after (Err Exhausted) = Silent held book before after looks_before looks_after
+BeginsTalk held files_before files_after talk_rose book read_only brief before after looks_before looks_after (Err Exhausted) = Silent held book before after looks_before looks_after ⊎ FewOver held book brief before after looks_before looks_after
 
 -- the same by the words
 pub record TalksFor (words : List (List ℕ)) (held : Option Held) (files_before files_after : ℕ) (talk_rose : Type 0) (before after : Told) (looks_before looks_after : ℕ) (end : TalkEnd) : Type 0 where
@@ -135,7 +160,7 @@ abbrev pub TalkWorks : List (List ℕ) → Option Held → ℕ → ℕ → Type 
 TalkWorks words held files_before files_after talk_rose before after looks_before looks_after (Ok end) = TalksFor words held files_before files_after talk_rose before after looks_before looks_after end
 TalkWorks words held files_before files_after talk_rose before after looks_before looks_after (Err (At fault)) = HasTalkCause words held (Rose files_before files_after) fault × IsSilent words held before after looks_before looks_after
 TalkWorks words held files_before files_after talk_rose before after looks_before looks_after (Err Unwritten) = ⊥
-TalkWorks words held files_before files_after talk_rose before after looks_before looks_after (Err Exhausted) = IsSilent words held before after looks_before looks_after
+TalkWorks words held files_before files_after talk_rose before after looks_before looks_after (Err Exhausted) = IsUnopened words held before after looks_before looks_after
 
 -- a text is said, or a part of it where `err` failed
 abbrev pub SaysReady : List ℕ → Status → Type 0 → Option (List ℕ) → Option (List ℕ) → Status → Type 0

@@ -1,5 +1,5 @@
 -- The rules of a conversation over a book, and stretches of it with what they come to.
-use Rattle.std.specs.Prelude.{◌≡◌, ◌≤◌, ◌+◌, ℕ, Bool, ◌||◌, nat_lt, List, [], length, Option, Some, None}
+use Rattle.std.specs.Prelude.{◌≡◌, ◌≤◌, ◌<◌, ◌+◌, ℕ, Bool, ◌||◌, nat_lt, List, [], length, take, Option, Some, None}
 use Rattle.smk_model.specs.Conversation.{TalkTurn, TalkState, line_of, turn_after, turn_block, turn_told, turn_text, turns_told, session_after, FitsTalk}
 use Rattle.smk_model.specs.Outcome.{Held}
 use Rattle.smk_model.specs.Reports.{BookSaid, LinesTold}
@@ -7,6 +7,7 @@ use Rattle.smk_model.specs.Session.{State}
 use Rattle.smk_model.specs.TalkStarts.{BringsBy, FailedReads, misreads}
 use Rattle.smk_outside.specs.Conversing.{Rules, Stretch, Cause}
 use Rattle.smk_outside.specs.Outside.{Rose}
+use Rattle.smk_outside.specs.Saying.{Says}
 use Rattle.smk_outside.specs.Told.{Told as ToldBy}
 use Rattle.smk_outside.specs.declared.talk.ending.Ending.{Ending}
 use Rattle.smk_outside.specs.declared.talk.ending.Ending.TheVariants.{Outlasted}
@@ -20,6 +21,10 @@ talk_rules said = record { line = line_of; texts = turn_block said; next = turn_
 -- whether a line that comes to this is refused or not read
 abbrev pub is_down : LinesTold → Bool
 is_down told = nat_lt 0 told.refused || nat_lt 0 told.unread
+
+-- the first few of these texts were said, or none, each of them whole, and not all
+abbrev pub SaysFew : List (List ℕ) → ToldBy → ToldBy → Type 0
+SaysFew texts before after = (count : ℕ) × (count < length texts) × Says before after (take count texts)
 
 -- a line, by its bytes, is answered by a text, in one of the turns that may be
 pub record AnswersLine (said : BookSaid) (read_only : Bool) (held : Option Held) (rose : Type 0) (state : TalkState) (bytes : List ℕ) (after : State) (text : List ℕ) (down : Bool) (looks_before looks_after : ℕ) : Type 0 where

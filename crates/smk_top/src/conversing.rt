@@ -1,32 +1,26 @@
 // A conversation, from its words to its end.
-ghost use Rattle.std.specs.Prelude.{◌≡◌, ◌≤◌, ℕ, List, [], Some, map, IfOk};
+ghost use Rattle.std.specs.Prelude.{◌≡◌, ◌≤◌, ℕ, List, Some, map};
 ghost use Rattle.smk_inputs.specs.Image.{texts_image};
-ghost use Rattle.smk_model.specs.Conversation.{opening_text as opening_said};
 ghost use Rattle.smk_model.specs.FaultTexts.{IsSaid};
 ghost use Rattle.smk_model.specs.TalkWords.{talk_source};
-ghost use Rattle.smk_model.specs.ViewTexts as view_texts;
 ghost use Rattle.smk_model.specs.Words.{Demo};
 ghost use Rattle.smk_outside.specs.Outside.{Rose};
-ghost use Rattle.smk_session.specs.Sessions.{workbook_of};
 ghost use Rattle.smk_inputs.specs.Collecting.{IsSayable};
 ghost use Rattle.smk_top.specs.Looking.{LooksBehindReading};
 ghost use Rattle.smk_top.specs.Statuses.{IsStartFault};
 ghost use Rattle.smk_top.specs.TalkEndings.{BeginsTalk, ConverseEnds, SaysReady, SaysTalkFault, SaysTalkEnd, TalkWorks, is_called};
 
 use crate::program::{say_fault, say_no_memory};
-use crate::reporting::text_of_view;
 use crate::starting::{Started, start};
 use crate::status::Status;
 use crate::talking::{Manner, TalkEnd, hold};
-use smk_base::{DEMO_BOOK_NAME, Fault, Names, Text};
+use smk_base::{DEMO_BOOK_NAME, Fault, Text};
 use smk_demo::demo;
 use smk_inputs::{
-    DemoTexts, Engine, RunTexts, Settings, Stop, TalkWords, read_all, read_talk_words, text_of,
+    DemoTexts, Engine, RunTexts, Stop, TalkWords, read_all, read_talk_words, text_of,
 };
 use smk_outside::{Ending, Files, Gate, Sink, Steps, Talk};
-use smk_own::schema;
-use smk_session::Session;
-use std::alloc::{AllocError, Global};
+use std::alloc::Global;
 use std::sync::ledger::Ledger;
 use std::thread::Threads;
 
@@ -36,41 +30,6 @@ const USAGE: &[u8] =
 
 // What is said where no line can be heard.
 const UNHEARD: &[u8] = b"smoke_live: cannot read standard input\n";
-
-// The texts of all views, in the book's order, as one text.
-fn views_text<R: Threads + Sync>(
-    rt: &R,
-    alloc: Global,
-    settings: Settings,
-    session: &Session,
-) -> Result<Vec<u8>, AllocError>
-    ensures { IfOk result (λ text. text.items ≡ view_texts.views_text (workbook_of session.now)) }
-{
-    let mut text = Vec::new(alloc);
-    for number in 0..session.catalog().views.as_slice().len() as u32 {
-        let view = text_of_view(rt, alloc, settings, session, number)?;
-        text.extend_from_slice(view.as_slice())?;
-    }
-    Ok(text)
-}
-
-// What is said first: the texts of all views, or the schema.
-fn opening_text<R: Threads + Sync>(
-    rt: &R,
-    alloc: Global,
-    call: &TalkWords,
-    session: &Session,
-    fds: &Names,
-) -> Result<Vec<u8>, AllocError>
-    requires { session.now.brushes ≡ [] }
-    ensures { IfOk result (λ text. text.items ≡ opening_said call.now.brief (workbook_of session.now) fds.now) }
-{
-    if call.brief {
-        schema(alloc, session, fds)
-    } else {
-        views_text(rt, alloc, call.settings, session)
-    }
-}
 
 // A conversation over the book of a file, by how it is called for.
 fn begin<R: Threads + Sync, F: Files, T: Talk, G: Gate + Sync, L: Ledger>(
@@ -90,15 +49,15 @@ fn begin<R: Threads + Sync, F: Files, T: Talk, G: Gate + Sync, L: Ledger>(
 {
     let settings = call.settings;
     let inputs = read_all(engine, settings, files, book, None)?;
+    files.only_regular();
     let Started { session, fds, .. } = start(engine, inputs, settings, steps)?;
-    let opening = opening_text(engine.rt, engine.alloc, call, &session, &fds)?;
     let manner = Manner {
-        opening: opening.as_slice(),
         fds: &fds,
         settings,
         read_only: call.read_only,
+        brief: call.brief,
     };
-    Ok(hold(engine, &manner, files, talk, session, steps))
+    Ok(hold(engine, &manner, files, talk, session, steps)?)
 }
 
 // The conversation that is called for.
@@ -197,12 +156,13 @@ fn say_end<E: Sink>(end: TalkEnd, err: &mut E) -> Status
 /// and `--workers` as of a run; `--read-only`, by which nothing may be appended, and no line's file is read; and `--brief`, by which the schema is
 /// said first in place of the views.
 ///
-/// It reads the book and the book's tables from `files`, evaluates the views, and says their texts, or the schema, to `talk`. Then it hears a line
-/// from there, says what a run's report has for that line, or what it comes to where it is one of the conversation's own, and hears the next one,
-/// up to the end of the lines. Behind each text it says an empty line. A line that appends has its file read as it is heard. No line ends the
-/// conversation: where its file has a fault, where nothing may be appended, where memory was wanting or where the line is too long, it is refused,
-/// and the session is as it was. Where there is a fault before the first line, nothing is said to `talk`, and one line is written to `err`. How it
-/// may end is `ConverseEnds`.
+/// It reads the book and the book's tables from `files`, evaluates the views, and says the text of each, or the schema, to `talk`, and then an empty
+/// line. Then it hears a line from there, says what a run's report has for that line, or what it comes to where it is one of the conversation's
+/// own, says an empty line, and hears the next one, up to the end of the lines. A line that appends has its file read as it is heard. No line ends
+/// the conversation: where its file has a fault, where nothing may be appended, where memory was wanting or where the line is too long, it is
+/// refused, and the session is as it was. Where there is a fault before the first line, nothing is said to `talk`, and one line is written to
+/// `err`; where memory is wanting before it, so is one, and the texts of some views may have been said, each of them whole. How it may end is
+/// `ConverseEnds`.
 pub fn converse<R: Threads + Sync, F: Files, T: Talk, E: Sink, G: Gate + Sync, L: Ledger>(
     rt: &R,
     alloc: Global,

@@ -1,9 +1,9 @@
 // A conversation over a session, line by line.
-ghost use Rattle.std.specs.Prelude.{◌≡◌, ◌≤◌, ◌<◌, ◌+◌, ◌&&◌, ◌||◌, ℕ, Bool, true, false, List, [], ◌∷◌, Option, Ok, length, IfOk};
+ghost use Rattle.std.specs.Prelude.{◌≡◌, ◌≤◌, ◌<◌, ◌+◌, ◌&&◌, ◌||◌, ℕ, Bool, true, false, List, [], ◌∷◌, Option, Ok, length, IfOk, OnErr};
 ghost use Rattle.std.specs.Option.{option_to_list};
 ghost use Rattle.smk_base.specs.CatalogImage.{catalog_image};
 ghost use Rattle.smk_model.specs.Catalogs.{each_table_kinds};
-ghost use Rattle.smk_model.specs.Conversation.{asks_append, block_of, line_limit, text_read, unbrought_text};
+ghost use Rattle.smk_model.specs.Conversation.{asks_append, line_limit, opening_block, opening_texts, text_read, unbrought_text};
 ghost use Rattle.smk_model.specs.FaultTexts.{IsSaid};
 ghost use Rattle.smk_model.specs.Outcome.{Held, appended_at};
 ghost use Rattle.smk_model.specs.OwnLines as owns;
@@ -14,22 +14,23 @@ ghost use Rattle.smk_model.specs.Selection.{each_kinds, each_rows};
 ghost use Rattle.smk_model.specs.TalkStarts.{BringsBy};
 ghost use Rattle.smk_outside.specs.Outside.{Rose};
 ghost use Rattle.smk_outside.specs.Turning.{ReplyGives};
-ghost use Rattle.smk_session.specs.Sessions.{state_of};
+ghost use Rattle.smk_session.specs.Sessions.{state_of, workbook_of};
 ghost use Rattle.smk_own.specs.Image.{own_reading_image};
 ghost use Rattle.smk_own.specs.Keeping.{KeepsOwnReading};
 ghost use Rattle.smk_inputs.specs.LineLimits.{KeepsReading};
 ghost use Rattle.smk_inputs.specs.Image.{reading_image};
 ghost use Rattle.smk_inputs.specs.Loaded.{said_of};
-ghost use Rattle.smk_top.specs.Talking.{AnswersLine, TurnTaken, Talked, talk_at, words_bytes};
+ghost use Rattle.smk_top.specs.Talking.{AnswersLine, SaysFew, TurnTaken, Talked, talk_at, words_bytes};
 
 use crate::answering::{LineTold, tell_line, unread_line};
 use crate::no_files::NoFiles;
 use crate::owning::tell_own;
+use crate::reporting::text_of_view;
 use crate::stand::Stand;
 use smk_base::{AnyLine, Fault, Names, without_mark};
 use smk_inputs::{Engine, Reading, Settings, Stop, bring, reading_of};
 use smk_outside::{Ending, Files, Gate, Heard, Steps, Talk, TalkFault};
-use smk_own::{OwnAnswer, OwnReading, is_own, read_own};
+use smk_own::{OwnAnswer, OwnReading, is_own, read_own, schema};
 use smk_report::fault_text;
 use smk_session::Session;
 use smk_table::Table;
@@ -48,13 +49,13 @@ const FORGONE: &[u8] = b"refused no memory\n";
 
 const TOO_LONG: &[u8] = b"refused line too long\n";
 
-/// How a conversation is held: its opening, which is said first, the names of its book's dependencies, how the session works, and whether nothing may be appended.
+/// How a conversation is held: the names of its book's dependencies, how the session works, whether nothing may be appended, and whether the schema is said first in place of the views.
 #[derive(Drop)]
 pub struct Manner<'a> {
-    pub opening: &'a [u8],
     pub fds: &'a Names,
     pub settings: Settings,
     pub read_only: bool,
+    pub brief: bool,
 }
 
 // What is said of a line: a text that was made for it, or one that stands ready.
@@ -426,7 +427,36 @@ fn take_turns<R: Threads + Sync, F: Files, T: Talk, G: Gate + Sync, L: Ledger>(
     }
 }
 
-/// A conversation with a session that begins: it says its opening, and then hears lines and answers each before it hears the next. Behind each text it says an empty line. Where nothing may be appended, no line reads a file.
+// Says the texts that come first, each of which is let go before the next is made, and then an empty line. It tells whether the conversation ends by this.
+fn say_opening<R: Threads + Sync, T: Talk, G: Gate + Sync>(
+    engine: &Engine<'_, R, G>,
+    manner: &Manner<'_>,
+    talk: &mut T,
+    session: &Session,
+) -> Result<Option<Ending>, AllocError>
+    requires begun { session.now.brushes ≡ [] }
+    ensures gives { IfOk result (λ ending. ReplyGives (Rose (T.faults talk.old) (T.faults talk.new)) (T.told talk.old) (T.told talk.new) (opening_block manner.now.brief (workbook_of session.now) manner.now.fds.now) ending) }
+    ensures few { OnErr result (SaysFew (opening_texts manner.now.brief (workbook_of session.now) manner.now.fds.now) (T.told talk.old) (T.told talk.new)) }
+    ensures later { T.faults talk.old ≤ T.faults talk.new }
+{
+    if manner.brief {
+        let text = schema(engine.alloc, session, manner.fds)?;
+        return Ok(say_block(talk, text.as_slice()));
+    }
+    for number in 0..session.catalog().views.as_slice().len() as u32 {
+        let text = text_of_view(engine.rt, engine.alloc, manner.settings, session, number)?;
+        match talk.say(text.as_slice()) {
+            Ok(()) => {}
+            Err(_) => return Ok(Some(Ending::Unsaid)),
+        }
+    }
+    Ok(match talk.say(b"\n") {
+        Ok(()) => None,
+        Err(_) => Some(Ending::Unsaid),
+    })
+}
+
+/// A conversation with a session that begins: it says its opening, and then hears lines and answers each before it hears the next. Behind each text it says an empty line, and in the opening one behind all its texts. Where nothing may be appended, no line reads a file. It errs only in the opening.
 pub fn hold<R: Threads + Sync, F: Files, T: Talk, G: Gate + Sync, L: Ledger>(
     engine: &Engine<'_, R, G>,
     manner: &Manner<'_>,
@@ -434,15 +464,18 @@ pub fn hold<R: Threads + Sync, F: Files, T: Talk, G: Gate + Sync, L: Ledger>(
     talk: &mut T,
     session: Session,
     steps: &mut Steps<L>,
-) -> TalkEnd
+) -> Result<TalkEnd, AllocError>
     requires shown { AreDependencies (catalog_image session.catalog) manner.now.fds.now }
-    ensures talked { Talked (said_of session.catalog manner.now.fds.now) manner.now.read_only (F.held files.old) (F.faults files.old) (F.faults files.new) (Rose (T.faults talk.old) (T.faults talk.new))
-        (block_of manner.now.opening.now) (talk_at (state_of session) 0) (T.told talk.old) (T.told talk.new) result.ending result.down steps.old steps.new }
+    requires begun { session.brushes ≡ [] }
+    ensures talked { IfOk result (λ end. Talked (said_of session.catalog manner.now.fds.now) manner.now.read_only (F.held files.old) (F.faults files.old) (F.faults files.new) (Rose (T.faults talk.old) (T.faults talk.new))
+        (opening_block manner.now.brief (workbook_of session) manner.now.fds.now) (talk_at (state_of session) 0) (T.told talk.old) (T.told talk.new) end.ending end.down steps.old steps.new) }
+    ensures few { OnErr result (SaysFew (opening_texts manner.now.brief (workbook_of session) manner.now.fds.now) (T.told talk.old) (T.told talk.new) × (steps.new ≡ steps.old)) }
     ensures held { F.held files.new ≡ F.held files.old }
     ensures later { F.faults files.old ≤ F.faults files.new }
     ensures talk_later { T.faults talk.old ≤ T.faults talk.new }
 {
-    match say_block(talk, manner.opening) {
+    let opened = say_opening(engine, manner, talk, &session)?;
+    Ok(match opened {
         Some(ending) => TalkEnd {
             ending,
             down: false,
@@ -454,5 +487,5 @@ pub fn hold<R: Threads + Sync, F: Files, T: Talk, G: Gate + Sync, L: Ledger>(
                 take_turns(engine, manner, files, talk, session, steps)
             }
         }
-    }
+    })
 }

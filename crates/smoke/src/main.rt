@@ -11,7 +11,10 @@ use std::io::{self, ErrorKind};
 use std::marker::Brand;
 use std::process::ExitCode;
 use std::sync::ledger::{Blank, Ledger};
-use std::thread::Threads;
+use std::thread::{Builder, Threads};
+
+// How many bytes of stack a run has, four times what the deepest plans and predicates took. They are reserved before anything is read.
+const STACK: usize = 1_048_576;
 
 // A run with a counter of looks over this ledger.
 fn counted_run<R: Threads + Sync, F: Files, O: Sink, E: Sink, L: Ledger>(
@@ -56,12 +59,15 @@ fn ran<R: Threads + Sync>(system: HostRuntime, rt: &R) -> io::Result<Status> {
 }
 
 fn main(rt: HostRuntime) -> ExitCode {
-    let status = match ran(rt, &rt) {
-        Ok(status) => status,
+    let work = move || match ran(rt, &rt) {
+        Ok(status) => status.code(),
         Err(e) => match e.kind() {
-            ErrorKind::OutOfMemory => Status::NoMemory,
-            _ => Status::Usage,
+            ErrorKind::OutOfMemory => Status::NoMemory.code(),
+            _ => Status::Usage.code(),
         },
     };
-    ExitCode::from(status.code())
+    match Builder::new().stack_size(STACK).spawn(&rt, work) {
+        Ok(thread) => ExitCode::from(thread.join(&rt)),
+        Err(_) => ExitCode::from(Status::NoMemory.code()),
+    }
 }

@@ -22,6 +22,8 @@ pub(crate) enum Held {
 #[derive(Drop)]
 pub struct Dict {
     held: Held,
+    // The seed of the hashes by which many texts are found.
+    seed: u64,
 }
 
 impl Model for Dict {
@@ -36,13 +38,19 @@ impl Model for Dict {
 }
 
 impl Dict {
-    /// No text. It takes no memory.
-    pub fn new(alloc: Global) -> Dict
+    /// No text, of which many are found by the hashes of a seed. It takes no memory.
+    pub fn new(alloc: Global, seed: u64) -> Dict
         ensures { result.texts ≡ [] }
     {
         Dict {
             held: Held::Few(Vec::new(alloc)),
+            seed,
         }
+    }
+
+    /// The seed. It takes no memory.
+    pub fn seed(&self) -> u64 {
+        self.seed
     }
 
     /// How many texts there are. It takes no memory.
@@ -93,7 +101,7 @@ impl Dict {
         match &mut self.held {
             Held::Few(list) if list.len() < FEW => list.reserve(1),
             Held::Few(list) => {
-                let mut hashed = hashed_from(list.as_slice(), *list.allocator())?;
+                let mut hashed = hashed_from(list.as_slice(), *list.allocator(), self.seed)?;
                 hashed.reserve()?;
                 self.held = Held::Many(hashed);
                 Ok(())
@@ -119,7 +127,7 @@ impl Dict {
                     Ok(list.len() as u32 - 1)
                 }
                 None => {
-                    let mut hashed = hashed_from(list.as_slice(), *list.allocator())?;
+                    let mut hashed = hashed_from(list.as_slice(), *list.allocator(), self.seed)?;
                     let code = hashed.add(text)?;
                     self.held = Held::Many(hashed);
                     Ok(code)
@@ -155,9 +163,11 @@ impl Dict {
         match &self.held {
             Held::Few(list) => Ok(Dict {
                 held: Held::Few(list.clone()?),
+                seed: self.seed,
             }),
             Held::Many(hashed) => Ok(Dict {
                 held: Held::Many(Box::new(alloc, hashed.copy(alloc)?)?),
+                seed: self.seed,
             }),
         }
     }
@@ -193,10 +203,10 @@ fn place_of(list: &[Vec<u8>], text: &[u8]) -> Option<u32>
 }
 
 // Copies of the texts of a list, in a table of hashes.
-fn hashed_from(list: &[Vec<u8>], alloc: Global) -> Result<Box<Hashed>, AllocError>
+fn hashed_from(list: &[Vec<u8>], alloc: Global, seed: u64) -> Result<Box<Hashed>, AllocError>
     requires different { AreTexts (texts_of list.now) }
     requires few { length list.now ≤ ROW_LIMIT }
     ensures { IfOk result (λ hashed. hashed.value.texts ≡ texts_of list.now) }
 {
-    Ok(Box::new(alloc, Hashed::of_texts(alloc, list)?)?)
+    Ok(Box::new(alloc, Hashed::of_texts(alloc, seed, list)?)?)
 }

@@ -12,14 +12,18 @@ use crate::value::{CellRef, Kind};
 use std::alloc::{AllocError, Global};
 use std::mem;
 
-/// Columns of these kinds with no row, which may grow.
-pub(crate) fn begun_columns(alloc: Global, kinds: &[Kind]) -> Result<Vec<ValueColumn>, AllocError>
+/// Columns of these kinds with no row, which may grow, and whose texts are found by the hashes of a seed.
+pub(crate) fn begun_columns(
+    alloc: Global,
+    kinds: &[Kind],
+    seed: u64,
+) -> Result<Vec<ValueColumn>, AllocError>
     requires { All IsColumn kinds.now }
     ensures { IfOk result (λ made. AreMade 0 (length kinds.now) (kind_in kinds.now) (λ k. []) made.items) }
 {
     let mut made = Vec::with_capacity(alloc, kinds.len())?;
     for kind in kinds {
-        made.push_reserved(ValueColumn::new(alloc, *kind));
+        made.push_reserved(ValueColumn::seeded(alloc, *kind, seed));
     }
     Ok(made)
 }

@@ -1,10 +1,17 @@
 ghost use Rattle.std.specs.Prelude.{◌≡◌, ◌<◌, ◌≤◌, ◌+◌, ◌*◌, [], length, take, Some, IfOk, IfSome, OnOk, OnErr, IsOk, slice_index_or};
-ghost use Rattle.smk_base.specs.Dicts.{AreTexts, IsDict, code_in, code_or_last, texts_of, with_text};
+ghost use Rattle.std.proofs.Common.{ap};
+ghost use Rattle.std.specs.Cmp.Lexicographic.{bytes_decides, nat_list_eq_equiv};
+ghost use Rattle.std.specs.Cmp.{on_equiv, partial_equiv_from_equiv};
+ghost use Rattle.std.specs.Hash as fed;
+ghost use Rattle.smk_base.specs.Dicts.{AreTexts, IsDict, code_in, code_or_last, text_eq, texts_of, with_text};
 ghost use Rattle.smk_base.specs.declared.rel.TheConstants.{ROW_LIMIT};
 
 use crate::list::Text;
-use indexmap::IndexSet;
+use crate::seeded::Seeded;
+use indexmap::{Equivalent, IndexSet};
+use smallvec::SmallVec;
 use std::alloc::{AllocError, Global};
+use std::hash::{Hash, Hasher};
 use std::marker::Model;
 
 // How many seats a dictionary has for texts that are found without their hash, once it has seats.
@@ -13,10 +20,58 @@ const SEATS: usize = 1024;
 // How many texts are found by their hash before seats are worth their memory.
 const FOUND_WITHOUT_SEATS: u32 = 64;
 
+// How many bytes a text has at most that lies beside the others, and not by itself.
+const SHORT: usize = 16;
+
+// A text as it is kept: a short one takes no memory of its own.
+type Kept = SmallVec<u8, SHORT>;
+
+// A text that is looked for.
+#[derive(Clone, Copy)]
+struct Sought<'a> {
+    text: &'a [u8],
+}
+
+impl PartialEq for Sought<'_> {
+    ghost eq = { λ a b. text_eq a.text.now b.text.now };
+
+    ghost laws = { partial_equiv_from_equiv (on_equiv (λ v. v.text.now) nat_list_eq_equiv) };
+
+    fn eq(&self, other: &Self) -> bool {
+        self.text == other.text
+    }
+}
+
+impl Eq for Sought<'_> {
+    ghost laws = { on_equiv (λ v. v.text.now) nat_list_eq_equiv };
+}
+
+impl Hash for Sought<'_> {
+    ghost hash_input = { λ v. fed.slice fed.u8 v.text.now };
+
+    ghost respects_eq = { λ v w same. ap (fed.slice fed.u8) ((bytes_decides v.text.now w.text.now).0 same) };
+
+    fn hash<H: Hasher>(&self, state: &mut H) {
+        self.text.hash(state);
+    }
+}
+
+impl Equivalent<Kept> for Sought<'_> {
+    ghost equivalent = { λ q k. text_eq q.text.now k.items };
+
+    ghost respects_hash = { λ q k same. ap (fed.slice fed.u8) ((bytes_decides q.text.now k.items).0 same) };
+
+    ghost respects_eq = { λ q x y. nat_list_eq_equiv.congr q.text.now x.items y.items };
+
+    fn equivalent(&self, key: &Kept) -> bool {
+        self.text == key.as_slice()
+    }
+}
+
 /// Different texts that are found by their hashes, each with its place as its code. Contracts see the list of them, and how many more fit without memory.
 #[derive(Drop)]
 pub(crate) struct Hashed {
-    texts: IndexSet<Vec<u8>>,
+    texts: IndexSet<Kept, Seeded>,
     // A code at the seat of its text, or any other number: who reads one compares the text.
     seats: Vec<u32>,
     // How many texts were found by their hash before there were seats.
@@ -25,34 +80,34 @@ pub(crate) struct Hashed {
 
 impl Model for Hashed {
     ghost use Rattle.indexmap.specs.IndexSet.{spare};
-    ghost use Rattle.smk_base.specs.Dicts.{DictImage, IsDict, texts_of};
+    ghost use Rattle.smk_base.specs.Dicts.{DictImage, IsDict, kept_texts};
 
     ghost Value = { DictImage };
 
-    ghost view = { λ a. record { texts = texts_of a.texts.keys; room = spare a.texts } };
+    ghost view = { λ a. record { texts = kept_texts a.texts.keys; room = spare a.texts } };
 
-    ghost invariant = { λ a. IsDict (record { texts = texts_of a.texts.keys; room = spare a.texts }) };
+    ghost invariant = { λ a. IsDict (record { texts = kept_texts a.texts.keys; room = spare a.texts }) };
 }
 
 impl Hashed {
-    /// No text. It takes no memory.
-    pub fn new(alloc: Global) -> Hashed
+    /// No text, of which more are found by the hashes of a seed. It takes no memory.
+    pub fn new(alloc: Global, seed: u64) -> Hashed
         ensures { result.texts ≡ [] }
     {
         Hashed {
-            texts: IndexSet::new(alloc),
+            texts: IndexSet::with_hasher(alloc, Seeded::new(seed)),
             seats: Vec::new(alloc),
             found: 0,
         }
     }
 
     /// These texts.
-    pub fn of_texts(alloc: Global, texts: &[Vec<u8>]) -> Result<Hashed, AllocError>
+    pub fn of_texts(alloc: Global, seed: u64, texts: &[Vec<u8>]) -> Result<Hashed, AllocError>
         requires different { AreTexts (texts_of texts.now) }
         requires few { length texts.now ≤ ROW_LIMIT }
         ensures { IfOk result (λ made. made.texts ≡ texts_of texts.now) }
     {
-        let mut made = Hashed::new(alloc);
+        let mut made = Hashed::new(alloc, seed);
         for text in texts {
             made.add_bytes(text.as_slice())?;
         }
@@ -90,7 +145,7 @@ impl Hashed {
     fn searched(&self, text: &[u8]) -> Option<u32>
         ensures { result ≡ code_in self.now.texts text.now }
     {
-        match self.texts.get_index_of(text) {
+        match self.texts.get_index_of(Sought { text }) {
             Some(place) => Some(place as u32),
             None => None,
         }
@@ -125,7 +180,24 @@ impl Hashed {
         ensures succeeds { 0 < self.old.room → IsOk result }
         ensures keeps { IsDict self.new }
     {
-        let (code, _) = self.texts.insert_full(text.into_vec())?;
+        if text.as_slice().len() > SHORT {
+            return self.put(Kept::from(text.into_vec()));
+        }
+        let alloc = *self.texts.allocator();
+        let kept = Kept::from_slice(alloc, text.as_slice())?;
+        self.put(kept)
+    }
+
+    // The same, of a text as it is kept.
+    fn put(&mut self, text: Kept) -> Result<u32, AllocError>
+        requires { length self.old.texts < ROW_LIMIT }
+        ensures code { IfOk result (λ code. code ≡ code_or_last self.old.texts text.items) }
+        ensures texts { OnOk result (self.new.texts ≡ with_text self.old.texts text.items) }
+        ensures kept { OnErr result (self.new.texts ≡ self.old.texts) }
+        ensures succeeds { 0 < self.old.room → IsOk result }
+        ensures keeps { IsDict self.new }
+    {
+        let (code, _) = self.texts.insert_full(text)?;
         Ok(code as u32)
     }
 
@@ -137,27 +209,33 @@ impl Hashed {
         ensures kept { OnErr result (self.new.texts ≡ self.old.texts) }
         ensures keeps { IsDict self.new }
     {
-        match self.found(text) {
-            Some(code) => Ok(code),
-            None => {
-                let alloc = *self.texts.allocator();
-                self.add(Text::from_vec(Vec::from_slice(alloc, text)?))
-            }
+        let known = self.len();
+        if let Some(code) = self.seated(text) {
+            return Ok(code);
         }
+        let code = self.add_unseated(text)?;
+        if code < known {
+            put_seat(&mut self.seats, &mut self.found, text, code);
+        }
+        Ok(code)
     }
 
-    // The code of a text, whose seat is noted.
-    fn found(&mut self, text: &[u8]) -> Option<u32>
-        ensures code { result ≡ code_in self.old.texts text.now }
-        ensures same { self.new.texts ≡ self.old.texts }
+    // The same, by the hash of the text: a short one is hashed once, and a long one that is known takes no memory.
+    fn add_unseated(&mut self, text: &[u8]) -> Result<u32, AllocError>
+        requires { length self.old.texts < ROW_LIMIT }
+        ensures code { IfOk result (λ code. code ≡ code_or_last self.old.texts text.now) }
+        ensures texts { OnOk result (self.new.texts ≡ with_text self.old.texts text.now) }
+        ensures kept { OnErr result (self.new.texts ≡ self.old.texts) }
         ensures keeps { IsDict self.new }
     {
-        if let Some(code) = self.seated(text) {
-            return Some(code);
+        if text.len() > SHORT {
+            if let Some(code) = self.searched(text) {
+                return Ok(code);
+            }
         }
-        let code = self.searched(text)?;
-        put_seat(&mut self.seats, &mut self.found, text, code);
-        Some(code)
+        let alloc = *self.texts.allocator();
+        let kept = Kept::from_slice(alloc, text)?;
+        self.put(kept)
     }
 
     /// A copy with the same texts.

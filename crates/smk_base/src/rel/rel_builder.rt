@@ -17,6 +17,7 @@ pub struct RelBuilder {
     count: u32,
     // How many columns have a value of the row that was begun.
     at: usize,
+    seed: u64,
 }
 
 impl Model for RelBuilder {
@@ -30,16 +31,17 @@ impl Model for RelBuilder {
 }
 
 impl RelBuilder {
-    /// No row of these kinds.
-    pub fn new(alloc: Global, kinds: &[Kind]) -> Result<RelBuilder, AllocError>
+    /// No row of these kinds, whose values are found by the hashes of a seed.
+    pub fn new(alloc: Global, kinds: &[Kind], seed: u64) -> Result<RelBuilder, AllocError>
         requires few_columns { length kinds.now ≤ COLUMN_LIMIT }
         requires low_levels { All IsColumn kinds.now }
         ensures { IfOk result (λ builder. builder ≡ record { kinds = kinds.now; rows = []; begun = [] }) }
     {
         Ok(RelBuilder {
-            columns: begun_columns(alloc, kinds)?,
+            columns: begun_columns(alloc, kinds, seed)?,
             count: 0,
             at: 0,
+            seed,
         })
     }
 
@@ -84,7 +86,12 @@ impl RelBuilder {
         requires { self.begun ≡ [] }
         ensures { IfOk result (λ rel. rel ≡ record { kinds = self.kinds; rows = self.rows }) }
     {
-        let RelBuilder { columns, count, .. } = self;
-        Ok(Rel::of_columns(owned_each(alloc, columns, count)?, count))
+        let RelBuilder {
+            columns,
+            count,
+            seed,
+            ..
+        } = self;
+        Ok(Rel::of_columns(owned_each(alloc, columns, count)?, count, seed))
     }
 }

@@ -42,13 +42,13 @@ impl Model for TextColumn {
 }
 
 impl TextColumn {
-    /// No row. It takes no memory.
-    pub fn new(alloc: Global) -> TextColumn
+    /// No row, of whose texts many are found by the hashes of a seed. It takes no memory.
+    pub fn new(alloc: Global, seed: u64) -> TextColumn
         ensures { result.texts ≡ [] }
     {
         TextColumn {
             codes: Vec::new(alloc),
-            dict: Dict::new(alloc),
+            dict: Dict::new(alloc, seed),
         }
     }
 
@@ -202,7 +202,7 @@ impl TextColumn {
     {
         let mut made = TextColumn {
             codes: Vec::with_capacity(alloc, places.len())?,
-            dict: Dict::new(alloc),
+            dict: Dict::new(alloc, self.dict.seed()),
         };
         if places.len() < self.dict.len() as usize / TEXTS_PER_PLACE {
             made.push_few_rows(self, places)?;

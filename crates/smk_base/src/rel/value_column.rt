@@ -60,10 +60,20 @@ impl ValueColumn {
         ensures cells { result.cells ≡ [] }
         ensures keeps { IsColumnOf 0 result }
     {
+        ValueColumn::seeded(alloc, kind, 0)
+    }
+
+    /// The same, where many texts are found by the hashes of a seed.
+    pub fn seeded(alloc: Global, kind: Kind, seed: u64) -> ValueColumn
+        requires { IsColumn kind }
+        ensures kind { result.kind ≡ kind }
+        ensures cells { result.cells ≡ [] }
+        ensures keeps { IsColumnOf 0 result }
+    {
         let store = match kind {
             Kind::Int { level: 0 } => Store::Small(Vec::new(alloc)),
             Kind::Int { level } => Store::Wide(level, Vec::new(alloc)),
-            Kind::Text => Store::Texts(TextColumn::new(alloc), Next::Nothing),
+            Kind::Text => Store::Texts(TextColumn::new(alloc, seed), Next::Nothing),
         };
         ValueColumn { store }
     }

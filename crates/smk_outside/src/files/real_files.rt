@@ -7,6 +7,7 @@ use std::alloc::Global;
 use std::fs::OpenFile;
 use std::io::{ErrorKind, Read};
 use std::marker::Model;
+use std::random::RandomSource;
 use std::{fs, io, rt};
 
 /// The files of the system. It tells nothing of them. Contracts see its count of faults.
@@ -14,6 +15,9 @@ use std::{fs, io, rt};
 pub struct RealFiles<R> {
     system: R,
     faults: u64,
+    seed: u64,
+    // Whether only regular files are read.
+    only_regular: bool,
 }
 
 impl<R> Model for RealFiles<R> {
@@ -24,12 +28,27 @@ impl<R> Model for RealFiles<R> {
     ghost view = { λ s. s.faults };
 }
 
-impl<R: rt::Files> RealFiles<R> {
-    /// The files that a runtime reaches, of which none has failed yet.
+impl<R: rt::Files + RandomSource> RealFiles<R> {
+    /// The files that a runtime reaches, of which none has failed yet. Their seed is drawn from the system.
     pub fn new(system: R) -> RealFiles<R>
         ensures { result ≡ 0 }
     {
-        RealFiles { system, faults: 0 }
+        let seed = drawn_seed(&system);
+        RealFiles {
+            system,
+            faults: 0,
+            seed,
+            only_regular: false,
+        }
+    }
+}
+
+// A number that nobody knows beforehand, or 0 where the system has none to give.
+fn drawn_seed<R: RandomSource>(system: &R) -> u64 {
+    let mut bytes = [0; 8];
+    match system.fill_bytes(&mut bytes) {
+        Ok(()) => u64::from_le_bytes(bytes),
+        Err(_) => 0,
     }
 }
 
@@ -38,8 +57,18 @@ impl<R: rt::Files> Files for RealFiles<R> {
 
     ghost faults = { λ s. s };
 
-    /// The count rises exactly where it is `Failed`, also for a file that is missing and for a name that isn't UTF-8.
-    /// At its last value it stays.
+    /// A number that nobody knows beforehand, or 0 where the system had none to give.
+    fn seed(&self) -> u64 {
+        self.seed
+    }
+
+    /// From now on a read is `Failed` for what isn't a regular file: a device, a pipe or a folder. It isn't opened, so no read waits for it.
+    fn only_regular(&mut self) {
+        self.only_regular = true;
+    }
+
+    /// The count rises exactly where it is `Failed`, also for a file that is missing, for a name that isn't UTF-8, and after `only_regular` for
+    /// what isn't a regular file. At its last value it stays.
     fn read(&mut self, alloc: Global, name: &[u8], limit: u64) -> Result<Vec<u8>, FilesFault>
         ensures short { IfOk result (λ front. length front.items ≤ limit + 1) }
         ensures later { self.old ≤ self.new }
@@ -48,7 +77,7 @@ impl<R: rt::Files> Files for RealFiles<R> {
         ensures counted { IsErrOf result FilesFault.Failed → self.new ≡ next_count self.old }
         ensures no_memory { IsErrOf result FilesFault.NoMemory → self.new ≡ self.old }
     {
-        let result = read_file(alloc, &self.system, name, limit);
+        let result = read_file(alloc, &self.system, name, limit, self.only_regular);
         if let Err(FilesFault::Failed) = result {
             self.faults = self.faults.saturating_add(1);
         }
@@ -62,12 +91,16 @@ fn read_file<R: rt::Files>(
     system: &R,
     name: &[u8],
     limit: u64,
+    only_regular: bool,
 ) -> Result<Vec<u8>, FilesFault>
     ensures { IfOk result (λ front. length front.items ≤ limit + 1) }
 {
     let Ok(path) = str::from_utf8(name) else {
         return Err(FilesFault::Failed);
     };
+    if only_regular {
+        check_regular(system, path)?;
+    }
     let most = limit.saturating_add(1) as usize;
     let mut file = match fs::open(system, path) {
         Ok(file) => file,
@@ -79,6 +112,16 @@ fn read_file<R: rt::Files>(
     };
     match read_front(alloc, &mut file, most, size) {
         Ok(front) => Ok(front),
+        Err(e) => Err(fault_of(&e)),
+    }
+}
+
+// Refuses what isn't a regular file, by its name, since opening a pipe may wait. What takes the name after this call is opened
+// whatever it is.
+fn check_regular<R: rt::Files>(system: &R, path: &str) -> Result<(), FilesFault> {
+    match fs::metadata(system, path) {
+        Ok(metadata) if metadata.is_file() => Ok(()),
+        Ok(_) => Err(FilesFault::Failed),
         Err(e) => Err(fault_of(&e)),
     }
 }

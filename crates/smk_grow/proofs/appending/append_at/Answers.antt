@@ -15,6 +15,11 @@ grow_within-told-requires-clause-kinds g c κs within =
     c.requires.kinds ∙ sym (kinds_at session.catalog session.tables c.args.table keeps.opened.kinds c.requires.table)
     ∙ ap (λ (i : SessionImage). (table_of i.tables c.args.table).kinds) (sym c.into_parts-parts.ensures.parts)
 
+pub grow_within-told-requires-clause-table : goal.grow_within-told-requires-clause-table
+grow_within-told-requires-clause-table g c κs within =
+    let below = table_below c.args.session c.args.table c.into_parts-parts.ensures.keeps c.requires.table in
+    subst (λ (i : SessionImage). c.args.table < length i.tables) (sym c.into_parts-parts.ensures.parts) below
+
 pub from_parts-requires : goal.from_parts-requires
 from_parts-requires g c =
     let session = c.args.session in

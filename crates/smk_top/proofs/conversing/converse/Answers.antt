@@ -1,7 +1,7 @@
 use Rattle.std.proofs.Common.{map, Bor, [], ◌∷◌, ◌≡◌, ℕ, List, Option, Some, None, Result, Ok, Err, refl, ap, subst, sym, ◌∙◌, inl, inr, arith}
 use Rattle.std.proofs.lemmas.Result.{err_from_is_err_and}
 use Rattle.smk_outside.specs.Outside.{Rose}
-use Rattle.smk_top.proofs.TalkEndings.{ends_said, fault_said, memory_said, silent_of, end_is_no_start, memory_is_no_start, fault_behind}
+use Rattle.smk_top.proofs.TalkEndings.{ends_said, fault_said, memory_said, unopened, end_is_no_start, memory_is_no_start, fault_behind}
 use Rattle.smk_top.proofs.conversing.converse.Goals as goal
 
 pub returns-in-Ok-clause-ends : goal.returns-in-Ok-clause-ends
@@ -25,7 +25,7 @@ pub returns-in-Err : goal.returns-in-Err
 returns-in-Err g c = record {
   ends =
       memory_said _ (g.F.Files.held c.args.files.now) _ _ _ _ (g.T.Talk.told c.args.talk.now) (g.T.Talk.told c.talk_for.new.talk) _ _ (g.E.Sink.written c.args.err.now) (g.E.Sink.written c.say_no_memory.new.err) c.say_no_memory.result
-      (silent_of (map (λ (w : Bor (List ℕ)). w.now) c.args.words.now) (g.F.Files.held c.args.files.now) (g.F.Files.faults c.args.files.now) (g.F.Files.faults c.talk_for.new.files) (Rose (g.T.Talk.faults c.args.talk.now) (g.T.Talk.faults c.talk_for.new.talk)) (g.T.Talk.told c.args.talk.now) (g.T.Talk.told c.talk_for.new.talk) _ _ c.in-Err.field-0 c.in-Err.ensures.works) c.say_no_memory.ensures.said;
+      (unopened (map (λ (w : Bor (List ℕ)). w.now) c.args.words.now) (g.F.Files.held c.args.files.now) (g.F.Files.faults c.args.files.now) (g.F.Files.faults c.talk_for.new.files) (Rose (g.T.Talk.faults c.args.talk.now) (g.T.Talk.faults c.talk_for.new.talk)) (g.T.Talk.told c.args.talk.now) (g.T.Talk.told c.talk_for.new.talk) _ _ c.in-Err.field-0 c.in-Err.ensures.works) c.say_no_memory.ensures.said;
   no_look = λ met. absurd (memory_is_no_start _ _ _ c.say_no_memory.result c.say_no_memory.ensures.said met);
   held = c.in-Err.ensures.held;
   files_later = c.in-Err.ensures.later;

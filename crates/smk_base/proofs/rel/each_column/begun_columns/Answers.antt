@@ -6,9 +6,9 @@ use Rattle.smk_base.proofs.rel.each_column.begun_columns.Goals as goal
 
 pub loop-kind-preserved : goal.loop-kind-preserved
 loop-kind-preserved c =
-    let kind = c.new.ensures.kind ∙ get_or_default c.args.kinds.now c.loop-kind.kind-index (kinds.Int 0) kinds.Text c.loop-kind-test.true in
+    let kind = c.seeded.ensures.kind ∙ get_or_default c.args.kinds.now c.loop-kind.kind-index (kinds.Int 0) kinds.Text c.loop-kind-test.true in
     record {
-      made = rw c.push_reserved.ensures.items (AreMade_push _ c.loop-kind.kind-index _ _ _ c.new.result kind c.new.ensures.cells c.new.ensures.keeps c.loop-kind.invariant.made);
+      made = rw c.push_reserved.ensures.items (AreMade_push _ c.loop-kind.kind-index _ _ _ c.seeded.result kind c.seeded.ensures.cells c.seeded.ensures.keeps c.loop-kind.invariant.made);
       len = c.push_reserved.ensures.len ∙ ap (λ (n : ℕ). n + 1) c.loop-kind.invariant.len;
       room = rw c.push_reserved.ensures.capacity c.loop-kind.invariant.room;
     }

@@ -5,6 +5,6 @@ use Rattle.smk_base.proofs.rel.hashed.Hashed.new.Goals as goal
 
 pub invariant_of-result : goal.invariant_of-result
 invariant_of-result c = record {
-  different = distinct-map text_eq (λ v. v.items) _ c.new.ensures.unique;
+  different = distinct-map text_eq (λ v. v.items) _ c.with_hasher.ensures.unique;
   few = search rules;
 }

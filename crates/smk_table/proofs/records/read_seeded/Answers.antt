@@ -1,6 +1,6 @@
 use Rattle.smk_table.specs.CsvReader.{records_left}
 use Rattle.smk_table.proofs.TableRows.{table_of-left}
-use Rattle.smk_table.proofs.records.read_table.Goals as goal
+use Rattle.smk_table.proofs.records.read_seeded.Goals as goal
 
 pub returns-clause-rows : goal.returns-clause-rows
 returns-clause-rows c =
