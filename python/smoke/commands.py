@@ -4,6 +4,7 @@ import csv
 import os
 import sys
 
+from smoke.address import without_password
 from smoke.faults import SmokeError, harmless
 from smoke.language import Unwritable
 from smoke.page.command import add_words as command_of_page
@@ -14,7 +15,7 @@ def check(words):
     status = 0
     for name in words.book:
         found = checking.faults_of(name, words.folder)
-        print("\n\n".join(harmless(str(fault)) for fault in found) if found else f"{name}: no faults")
+        print("\n\n".join(harmless(without_password(str(fault))) for fault in found) if found else f"{name}: no faults")
         status = 1 if found else status
     return status
 
@@ -87,6 +88,24 @@ def ask(words):
     return 1 if any(answer.startswith((b"refused ", b"line ")) for answer in answers) else 0
 
 
+def sql(words):
+    from smoke import sql as writing
+    from smoke.check import read
+    from smoke.load import book_of
+    book = book_of(words.book, read(words.book), schema=words.schema, texts="bytea" if words.bytes else "text")
+    print(writing.script(book), end="")
+    return 0
+
+
+def load(words):
+    from smoke import load as loading
+    counts = loading.load(words.book, words.address, words.folder, words.schema, words.replace, "bytea" if words.bytes else None, loading.Progress(),
+                          there=words.there)
+    for table, count in counts.items():
+        print(f"{table}: {count:,} rows")
+    return 0
+
+
 def saved(path, write):
     """Writes a file, or standard output for -."""
     if path != "-":
@@ -98,8 +117,13 @@ def saved(path, write):
     return 0
 
 
+class Parser(argparse.ArgumentParser):
+    def error(self, message):
+        super().error(without_password(message))
+
+
 def parser():
-    words = argparse.ArgumentParser(prog="python3 -m smoke", description="Around Smoke: a book from a CSV file, a file made ready, a book checked.")
+    words = Parser(prog="python3 -m smoke", description="Around Smoke: a book from a CSV file, a file made ready, a book checked.")
     commands = words.add_subparsers(required=True, metavar="COMMAND")
     command = commands.add_parser("check", help="say what is wrong with a book and its tables' files, all in one go")
     command.add_argument("book", nargs="+", metavar="BOOK")
@@ -141,6 +165,19 @@ def parser():
     command.add_argument("--append", action="store_true", help="allow append lines")
     command.add_argument("--folder", help="from which files are looked up; without it, the book's")
     command.set_defaults(work=ask)
+    command = commands.add_parser("sql", help="print a book as SQL for PostgreSQL")
+    command.add_argument("book", metavar="BOOK")
+    command.set_defaults(work=sql)
+    loading = commands.add_parser("load", help="load a book's tables into a database, and make its views there")
+    loading.add_argument("book", metavar="BOOK")
+    loading.add_argument("address", metavar="postgresql://..")
+    loading.add_argument("--folder", help="from which the files are looked up; without it, the book's")
+    loading.add_argument("--replace", action="store_true", help="drop the schema first, if it is there, with all that is in it")
+    loading.add_argument("--there", action="store_true", help="the schema and its tables are there, without rows: those of a cluster, say")
+    loading.set_defaults(work=load)
+    for command in (command, loading):
+        command.add_argument("--schema", default="smoke", metavar="NAME", help="the schema of the database, smoke without it")
+        command.add_argument("--bytes", action="store_true", help="texts as bytea, which holds any bytes, also such as are no UTF-8")
     command_of_page(commands)
     return words
 
@@ -155,16 +192,16 @@ def main(given):
         sys.stdout.flush()
         return status
     except SmokeError as fault:
-        print(harmless(str(fault)), file=sys.stderr)
+        print(harmless(without_password(str(fault))), file=sys.stderr)
         return 2 if isinstance(fault, Wrong) else 1
     except (Unwritable, ValueError) as fault:
-        print(harmless(str(fault)), file=sys.stderr)
+        print(harmless(without_password(str(fault))), file=sys.stderr)
     except BrokenPipeError:
         os.dup2(os.open(os.devnull, os.O_WRONLY), sys.stdout.fileno())
     except KeyboardInterrupt:
         return 130
     except OSError as fault:
-        print(f"{fault.filename or 'smoke'}: {fault.strerror or fault}", file=sys.stderr)
+        print(without_password(f"{fault.filename or 'smoke'}: {fault.strerror or fault}"), file=sys.stderr)
     except MemoryError:
         print("out of memory", file=sys.stderr)
     return 1

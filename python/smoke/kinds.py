@@ -57,6 +57,9 @@ class Catalog:
     def declares_back(self, view, table):
         return any((view, table) == back[:2] for back in self.backs) or bool(self.linked(view, table))
 
+    def declares_forward(self, table, view):
+        return (table, view) in self.forwards or any(on == table and view in names for _, on, names in self.links)
+
 
 def nodes_of(plan):
     """The nodes of a plan, scans and steps, each at the place of its number."""

@@ -163,7 +163,7 @@ class Source:
             if any(row):
                 yield line, row
         if row is not None:
-            raise TableError(self.table, self.path, "a quote is not closed", line=line, field=row[-1][:60],
+            raise TableError(self.table, self.path, "a quote is not closed", line=line, field=row[-1].partition(END)[0][:60],
                              hint="It takes the rest of the file into its field. Close it, or take --plain-quotes if quotes mean nothing in this file.")
 
 

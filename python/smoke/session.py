@@ -14,6 +14,7 @@ from dataclasses import dataclass, field
 from typing import SupportsIndex
 
 from smoke import hints, language, lines, program, refusals, schema, starts, texts
+from smoke.address import is_address
 from smoke.check import read
 from smoke.faults import BookError, FileError, Refused, SmokeError
 from smoke.frame import Frame
@@ -70,14 +71,20 @@ class Appended:
     views: dict
 
 
-def connect(book, folder=None, mode="inject", workers=1, read_only=False, program=None, timeout=None):
+def connect(place=None, folder=None, mode="inject", workers=1, read_only=False, program=None, timeout=None, book=None, schema="smoke"):
     """Starts smoke_live over a book, and gives a Session, a context manager.
 
-    `book` is the path of a book or a books.Book. Files are looked up from `folder`: without one, from the book's. `program` is the path of
+    `place` is the path of a book or a books.Book. Files are looked up from `folder`: without one, from the book's. `program` is the path of
     smoke_live, `timeout` the seconds that each answer may take. Raises BookError, TableError, LimitError, FileError, or Ended with the
     program's text where it ended otherwise.
+
+    Or `place` is the address of a database, postgresql://.., in whose `schema` a book is loaded: `book`, or without it whichever is there.
+    Then the answers are those of the database. Raises address.DatabaseError.
     """
-    return Session(book, folder, mode, workers, read_only, program, timeout)
+    if is_address(place):
+        from smoke.database import DatabaseSession
+        return DatabaseSession(place, book, folder, schema, timeout, read_only)
+    return Session(book if place is None else place, folder, mode, workers, read_only, program, timeout)
 
 
 class Session:

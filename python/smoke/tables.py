@@ -41,15 +41,15 @@ def unmarked(lines):
     return itertools.chain([next(lines, "").lstrip("\ufeff")], lines)
 
 
-def records(file):
+def records(file, before=0):
     """Each record of an open file, the header first: the line on which it begins, from 1, and its fields, a list of str. Empty lines are
-    none."""
-    rows = recording.reader(unmarked(iter(file)))
-    behind = 0
+    none. Or those of lines with so many lines before them."""
+    rows = recording.reader(iter(file) if before else unmarked(iter(file)))
+    behind = before
     for row in rows:
         if row:
             yield behind + 1, row
-        behind = rows.line_num
+        behind = before + rows.line_num
 
 
 def looked_up(file, folder):

@@ -202,3 +202,41 @@ class Maker:
     def book(self):
         count = self.chance.choice((2, 4, 6, 10, 16))
         return "".join(self.statement() + self.chance.choice(("\n", "\n", "  # c\n", "\r\n")) for _ in range(count)).encode()
+
+
+class Linked(Maker):
+    """Makes a book of groupings, most of them over rows of one table each, that are linked with each other."""
+
+    def chain(self, columns):
+        step = ""
+        while not step.startswith(("where", "project")):
+            step, made = self.step(columns, 0, alone=True)
+        return f" | {step}", made
+
+    def plan(self, depth=0):
+        if depth:
+            return super().plan(depth)
+        text, columns = "scan t0", self.tables["t0"]
+        for _ in range(self.chance.choice((0, 1, 1, 2))):
+            step, columns = self.chain(columns)
+            text += step
+        if self.chance.random() < 0.3:
+            source, right = self.source(1)
+            left = self.name(columns)
+            text += f" | join {source} on {left} = {self.name(right, self.kind(columns, left))}"
+            columns = columns + right
+        step, columns = self.group(columns) if self.chance.random() < 0.8 else self.step(columns, 0)
+        text += f" | {step}"
+        if self.chance.random() < 0.3:
+            step, columns = self.chain(columns)
+            text += step
+        return text, columns
+
+    def book(self):
+        statements = [self.table() for _ in range(self.chance.choice((1, 2)))]
+        for _ in range(self.chance.choice((3, 4, 5))):
+            name = f"v{len(self.views)}"
+            text, self.views[name] = self.plan()
+            statements += [f"view {name} = {text}", f"lineage back {name} to t0"]
+        statements += [f"link {view} on t0 to {', '.join(other for other in self.views if other != view)}" for view in self.views]
+        return "".join(f"{statement}\n" for statement in statements).encode()

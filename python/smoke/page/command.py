@@ -15,6 +15,7 @@ from smoke.page.engine import Engine
 from smoke.page.server import Server
 from smoke.session import connect
 
+TIMEOUT = 60  # seconds that a database may take for a statement
 READY = 8 << 20  # bytes of a file up to which it is made ready where it can be read as it is, too
 BIKES = program.TOP / "examples/bikes/book.smk"
 
@@ -27,6 +28,8 @@ def add_words(commands):
     command.add_argument("--host", action="append", default=[], metavar="NAME", help="another name of this machine, as behind a tunnel")
     command.add_argument("--keep", nargs="?", const="-", metavar="BOOK.smk", help="print the book that is found for a CSV file, or write it")
     command.add_argument("--folder", help="from which the tables' files are looked up; without it, the book's")
+    command.add_argument("--on", metavar="postgresql://..", help="ask a database in which the book is loaded; its answers aren't proved")
+    command.add_argument("--schema", default="smoke", metavar="NAME", help="the schema of that database, smoke without it")
     command.set_defaults(work=page)
 
 
@@ -42,12 +45,17 @@ def page(words):
     engine, made = None, tempfile.TemporaryDirectory(prefix="smoke-")
     try:
         server.loading = "building the program"
-        path = built()
+        path = None if words.on else built()
         file = pathlib.Path(words.file or BIKES).absolute()
         server.loading = f"reading {file.name}"
         book, folder = book_of(words, made.name)
-        engine = Engine(lambda: connect(book, folder, workers=min(4, os.cpu_count() or 1), read_only=True, program=path))
-        server.answers = Answers(engine, file.parent.name if file.name == "book.smk" else file.name)
+        title = file.parent.name if file.name == "book.smk" else file.name
+        if words.on:
+            engine = Engine(lambda: connect(words.on, folder, read_only=True, timeout=TIMEOUT, book=book, schema=words.schema))
+            title += ", answered by a database, not proved"
+        else:
+            engine = Engine(lambda: connect(book, folder, workers=min(4, os.cpu_count() or 1), read_only=True, program=path))
+        server.answers = Answers(engine, title)
         threading.Event().wait()
     except KeyboardInterrupt:
         return 0
