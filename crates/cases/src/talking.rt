@@ -165,17 +165,21 @@ pub fn said_in(alloc: Global, events: &[Event]) -> Result<Vec<u8>, AllocError> {
     Ok(bytes)
 }
 
-/// The texts that were said in a conversation, without the empty line behind each. None where something else happened than that a text and an empty line are said,
-/// and then a line or the end is heard, and so on.
+/// The texts that were said in a conversation, without the empty lines. None where something else happened than that texts and an empty line are said, and then a
+/// line or the end is heard, and so on.
 pub fn texts_in(alloc: Global, events: &[Event]) -> Result<Option<Vec<u8>>, AllocError> {
     let mut texts = Vec::new(alloc);
-    for turn in events.chunks(3) {
-        match turn {
-            [
-                Event::Said(text),
-                Event::Said(empty),
-                Event::Heard(_) | Event::End,
-            ] if empty.as_slice() == b"\n".as_slice() => texts.extend_from_slice(text.as_slice())?,
+    let mut ended = false;
+    for event in events {
+        match event {
+            Event::Said(text) if !ended => {
+                if text.as_slice() == b"\n".as_slice() {
+                    ended = true;
+                } else {
+                    texts.extend_from_slice(text.as_slice())?;
+                }
+            }
+            Event::Heard(_) | Event::End if ended => ended = false,
             _ => return Ok(None),
         }
     }
