@@ -1,1 +1,3 @@
+mod BareRecords
+mod DemoTexts
 pub mod Records

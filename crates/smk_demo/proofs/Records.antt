@@ -6,7 +6,7 @@ use Rattle.std.proofs.lemmas.Fmt.{decimal_digit}
 use Rattle.smk_base.specs.Places.{upto}
 use Rattle.smk_model.specs.Texts.{record_line}
 use Rattle.smk_model.specs.Demo.{flight, airport, table_text}
-use Rattle.smk_model.proofs.DemoTexts.{flight_line, airport_line, table_more}
+use Rattle.smk_demo.proofs.DemoTexts.{flight_line, airport_line, table_more}
 
 -- a record behind a text, as its parts come
 pub flight_parts : (text : List ℕ) (i : ℕ) → i < 200000

@@ -15,7 +15,7 @@ use Rattle.smk_base.specs.declared.book.tree.Marks.{Marks}
 use Rattle.smk_base.specs.declared.book.limits.TheConstants.{NODE_LIMIT}
 use Rattle.smk_base.proofs.Blanks.{cases_on}
 use Rattle.smk_model.specs.Grammar.{AreMarks, all_marks, listed_marks, listed, IsAskLine, ask_line, asked_line, whole_any_line}
-use Rattle.smk_model.specs.Limits.{KeepsLimits, HasMarks, KeepsSteps, KeepsAsk}
+use Rattle.smk_model.specs.Limits.{KeepsLimits, HasMarks, KeepsSteps}
 use Rattle.smk_model.specs.Machine.{Symbol, through, fault_in, book_symbols, any_symbols, no_counts}
 use Rattle.smk_model.specs.OwnLines.{AreSelected, selected, selected_symbols, selected_fault}
 use Rattle.smk_model.specs.GrammarLaws.{FaultlessKeepLimits, FaultlessAsksKeepLimits}

@@ -1,21 +1,17 @@
 -- The places and the rows of one key.
-use Rattle.std.proofs.Common.{◌≡◌, ℕ, zero, suc, ◌<◌, Bool, not, take, arith, true, false, List, [], ◌∷◌, ◌++◌, length, map, refl, ap, sym, ◌∙◌, nat_eq, inl, inr}
+use Rattle.std.proofs.Common.{◌≡◌, ℕ, Bool, arith, true, false, List, [], ◌∷◌, length, map, refl, ap, sym, ◌∙◌, nat_eq, inl, inr}
 use Rattle.std.specs.List.{list_any, filter}
-use Rattle.std.proofs.lemmas.List.{get_or-map, length-map, map-append, get_or-take, length-take}
-use Rattle.std.proofs.lemmas.List.Elements.{filter-append}
-use Rattle.std.proofs.lemmas.List.Folds.{list_any_at, list_any-append}
+use Rattle.std.proofs.lemmas.List.{get_or-map, length-map}
+use Rattle.std.proofs.lemmas.List.Folds.{list_any_at}
 use Rattle.std.proofs.lemmas.Bool.{cases_Bool, or_parts, false≢true, false_from_ne_true}
 use Rattle.smk_model.specs.Values.{Row}
 use Rattle.smk_model.specs.Plain.{row_eq, firsts}
-use Rattle.smk_model.specs.Lineage.{upto, places, row_at, sub}
-use Rattle.smk_model.specs.Classes.{new_places}
+use Rattle.smk_model.specs.Lineage.{places, row_at}
 use Rattle.smk_base.proofs.Places.{at_places, same_below, places_own, places_false}
 use Rattle.smk_model.proofs.Anys.{or_false}
-use Rattle.smk_model.proofs.Firsts.{row_same, row_is, holds, firsts_holds, firsts_from, add_firsts}
+use Rattle.smk_model.proofs.Firsts.{row_same, row_is, holds, firsts_holds, firsts_from}
 use Rattle.smk_model.proofs.Locals.{IsApart, firsts_apart}
-use Rattle.smk_model.proofs.Classes.{place_in, found_below, found_at, key_test, first_keys}
-use Rattle.smk_model.proofs.Bulk.{bulk}
-use Rattle.smk_model.specs.Growth.{fresh, all_keys}
+use Rattle.smk_model.proofs.Classes.{place_in, found_below, found_at, key_test}
 
 -- the places of a key among keys
 abbrev pub at_key : Row → List Row → List ℕ
@@ -71,36 +67,6 @@ key_again F keys k =
       | inr h ↦ ap (list_any G) (no_key k found (not_first k keys h)) ∙ ap (list_any F) (sym (no_key k keys h))
     ]
 
--- new keys behind old ones
-
 pub place_none : (k : Row) (keys : List Row) → holds keys k ≡ false → place_in keys k ≡ length keys
 place_none k [] h = refl
 place_none k (x ∷ xs) h = let each = or_parts (row_eq k x) (holds xs k) h in rw each.0 (omega (arith, place_none k xs each.1))
-
--- none of keys that are apart is among those before it
-not_before : (keys : List Row) (j : ℕ) → IsApart keys → j < length keys → holds (take j keys) (row_at keys j) ≡ false
-not_before keys j apart l = false_from_ne_true (holds (take j keys) (row_at keys j)) (λ q.
-    let k = row_at keys j in
-    let p = place_in (take j keys) k in
-    let low : p < j = omega (arith, found_below (take j keys) k q, length-take j keys) in
-    apart p j [] low l (sym (get_or-take j keys p [] low) ∙ found_at (take j keys) k q))
-
-pub new_are_fresh : (old new : List Row) → IsApart new → new_places old new ≡ fresh old new
-new_are_fresh old new apart = same_below (λ j. not (holds (old ++ take j new) (row_at new j))) (λ j. not (holds old (row_at new j))) (length new) (λ j l.
-    ap not (list_any-append (row_eq (row_at new j)) old (take j new) ∙ rw (not_before new j apart l) (or_false (holds old (row_at new j)))))
-
-pub two_firsts : (old new : List Row) → firsts (firsts old ++ firsts new) ≡ all_keys (firsts old) (firsts new)
-two_firsts old new =
-    bulk.union_parts (firsts old) (firsts new)
-    ∙ rw (first_keys (firsts old), new_are_fresh (firsts old) (firsts new) (firsts_apart new)) (ap (λ z. z ++ sub (firsts new) (fresh (firsts old) (firsts new))) (add_firsts [] [] old))
-
--- functions that agree on the places that pass
-pub map_places : {X : Type 0} (f g : ℕ → X) (t : ℕ → Bool) (n : ℕ) → ((j : ℕ) → j < n → t j ≡ true → f j ≡ g j) → map f (places t n) ≡ map g (places t n)
-map_places f g t zero h = refl
-map_places f g t (suc n) h =
-    let last : map f (filter t (n ∷ [])) ≡ map g (filter t (n ∷ [])) = elim (cases_Bool (t n)) [
-      | inl p ↦ rw p (ap (λ z. z ∷ []) (h n (omega arith) p))
-      | inr p ↦ rw p refl
-    ] in
-    let split = filter-append t (upto n) (n ∷ []) in
-    ap (map f) split ∙ map-append f (places t n) (filter t (n ∷ [])) ∙ rw (map_places f g t n (λ j l p. h j (omega arith) p), last) (sym (ap (map g) split ∙ map-append g (places t n) (filter t (n ∷ []))))

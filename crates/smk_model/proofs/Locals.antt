@@ -1,20 +1,20 @@
 -- The lists of one step, in the form in which a loop makes them.
-use Rattle.std.proofs.Common.{◌≡◌, ℕ, ◌+◌, ◌-◌, ◌<◌, Bool, true, false, cond, List, [], ◌∷◌, ◌++◌, length, map, refl, ap, sym, ◌∙◌, subst, arith, get_or, set, take, inl, inr}
+use Rattle.std.proofs.Common.{◌≡◌, ℕ, ◌+◌, ◌-◌, ◌<◌, Bool, true, List, [], ◌∷◌, ◌++◌, length, map, refl, ap, sym, ◌∙◌, subst, arith, get_or, inl, inr}
 use Rattle.std.specs.List.{fold, All, AllPairs}
-use Rattle.std.proofs.lemmas.List.{map-append, append-nil, length-append, length-map, get_or-map, get_or-set_same, get_or-set_other, same_lists, length-set, map_more, get_or-take, get_or_default, length-take-le}
+use Rattle.std.proofs.lemmas.List.{map-append, length-append, length-map}
 use Rattle.std.proofs.lemmas.List.Elements.{All-map}
 use Rattle.std.proofs.lemmas.List.Folds.{list_any_at}
 use Rattle.std.proofs.lemmas.List.Quantifiers.{all_pairs_push}
-use Rattle.std.proofs.lemmas.Bool.{cases_Bool, cases_eq, cases_order, lt-ltb, le-ltb, or_right, false≢true, false_from_ne_true}
+use Rattle.std.proofs.lemmas.Bool.{cases_Bool, lt-ltb, le-ltb, false≢true}
 use Rattle.smk_base.specs.Places.{IsPlaces}
 use Rattle.smk_base.specs.Plans.{Formula, Binary, Equijoin, ThetaJoin, CrossProduct, BagUnion}
 use Rattle.smk_model.specs.Values.{Row, meets}
 use Rattle.smk_model.specs.Plain.{row_eq, image, key_of, add_first, firsts, grouped, agree, meets_together, always, nested, is_join, joins, step1, step2}
 use Rattle.smk_model.specs.Lineage.{upto, places, row_at, matching, match_at, from1, from_left, from_right}
 use Rattle.smk_model.specs.Locals.{back_left, back_right}
-use Rattle.smk_model.specs.LocalLaws.{by_key, LocalsAre, ListsGrow}
-use Rattle.smk_base.proofs.Places.{map_map, map_upto, same_below, length_upto, get_or_upto, map_upto_agree, upto_add, places_false, places_more}
-use Rattle.smk_model.proofs.Firsts.{row_same, row_is, row_itself, holds, holds_here, firsts_holds, add_known, fold_append}
+use Rattle.smk_model.specs.LocalLaws.{LocalsAre}
+use Rattle.smk_base.proofs.Places.{map_map, map_upto, length_upto, get_or_upto, map_upto_agree, upto_add}
+use Rattle.smk_model.proofs.Firsts.{row_same, holds}
 use Rattle.smk_model.proofs.CuiWidom.{length_selected, nested_rows, length_matching, cui_widom}
 
 -- lists
@@ -92,72 +92,3 @@ fold_apart keys (x ∷ xs) h = fold_apart (add_first keys x) xs (add_apart keys 
 -- no two first occurrences are equal
 pub firsts_apart : (xs : List Row) → IsApart (firsts xs)
 firsts_apart xs = fold_apart [] xs (λ i j d h l. absurd (omega arith))
-
-pub firsts_more : (key : Row → Row) (L : List Row) (i : ℕ) → i < length L → firsts (map key (take (i + 1) L)) ≡ add_first (firsts (map key (take i L))) (key (row_at L i))
-firsts_more key L i h = ap firsts (map_more key L i [] h) ∙ fold_append [] (map key (take i L)) (key (row_at L i) ∷ [])
-
-map_in : (g h : Row → List ℕ) (keys : List Row) → ((k : Row) → holds keys k ≡ true → g k ≡ h k) → map g keys ≡ map h keys
-map_in g h [] e = refl
-map_in g h (x ∷ xs) e = rw (e x (holds_here x xs), map_in g h xs (λ k q. e k (or_right (row_eq k x) _ q))) refl
-
-known_step : (key : Row → Row) (L keys : List Row) (i p : ℕ) → p < length keys → IsApart keys → row_at keys p ≡ key (row_at L i)
-    → set (by_key key L i keys) p (get_or (by_key key L i keys) p [] ++ i ∷ []) ≡ by_key key L (i + 1) keys
-known_step key L keys i p low apart at =
-    let t = λ (k : Row) (j : ℕ). row_eq k (key (row_at L j)) in
-    let old = by_key key L i keys in
-    let size : length old ≡ length keys = length-map keys (λ k. places (t k) i) in
-    let size2 : length (by_key key L (i + 1) keys) ≡ length keys = length-map keys (λ k. places (t k) (i + 1)) in
-    let size3 = length-set old p (get_or old p [] ++ i ∷ []) in
-    same_lists _ _ (omega arith) (λ k d h.
-    let in_keys : k < length keys = omega arith in
-    let was : get_or old k d ≡ places (t (row_at keys k)) i = get_or-map (λ k. places (t k) i) keys k [] d in_keys in
-    let wants : get_or (by_key key L (i + 1) keys) k d ≡ places (t (row_at keys k)) i ++ cond (t (row_at keys k) i) (i ∷ []) [] = get_or-map (λ k. places (t k) (i + 1)) keys k [] d in_keys ∙ places_more (t (row_at keys k)) i in
-    elim (cases_eq k p) [
-      | inl e ↦ (let hit : t (row_at keys k) i ≡ true = (row_same (row_at keys k) (key (row_at L i))).1 (ap (row_at keys) e ∙ at) in
-          let was2 : get_or old p [] ≡ places (t (row_at keys k)) i = get_or_default old p [] d (omega arith) ∙ ap (λ z. get_or old z d) (sym e) ∙ was in
-          let now : get_or (set old p (get_or old p [] ++ i ∷ [])) k d ≡ get_or old p [] ++ i ∷ [] = ap (λ z. get_or (set old p (get_or old p [] ++ i ∷ [])) z d) e ∙ get_or-set_same old p (get_or old p [] ++ i ∷ []) d (omega arith) in
-          now ∙ ap (λ z. z ++ i ∷ []) was2 ∙ sym (wants ∙ rw hit refl))
-      | inr ne ↦ (let miss : t (row_at keys k) i ≡ false = false_from_ne_true (t (row_at keys k) i) (λ q.
-          let same : row_at keys k ≡ row_at keys p = row_is _ _ q ∙ sym at in
-          elim (cases_order k p) [
-            | inl e ↦ ne e
-            | inr o ↦ elim o [ inl l ↦ apart k p [] l low same | inr g ↦ apart p k [] g in_keys (sym same) ]
-          ]) in
-          get_or-set_other old p k (get_or old p [] ++ i ∷ []) d ne ∙ was ∙ sym (wants ∙ rw miss (append-nil (places (t (row_at keys k)) i))))
-    ])
-
-new_step : (key : Row → Row) (L : List Row) (i : ℕ) → i < length L → holds (firsts (map key (take i L))) (key (row_at L i)) ≡ false
-    → by_key key L i (firsts (map key (take i L))) ++ (i ∷ []) ∷ [] ≡ by_key key L (i + 1) (firsts (map key (take i L)) ++ key (row_at L i) ∷ [])
-new_step key L i h none =
-    let x = key (row_at L i) in
-    let keys = firsts (map key (take i L)) in
-    let t = λ (k : Row) (j : ℕ). row_eq k (key (row_at L j)) in
-    let old_same : by_key key L i keys ≡ by_key key L (i + 1) keys = map_in (λ k. places (t k) i) (λ k. places (t k) (i + 1)) keys (λ k q.
-    let miss : t k i ≡ false = false_from_ne_true (t k i) (λ e. false≢true (sym none ∙ subst (λ (z : Row). holds keys z ≡ true) (row_is k x e) q)) in
-    sym (places_more (t k) i ∙ rw miss (append-nil (places (t k) i)))) in
-    let before : places (t x) i ≡ [] = same_below (t x) (λ j. false) i (λ j l. false_from_ne_true (t x j) (λ e.
-    let here : j < length (take i L) = omega (arith, length-take-le i L (omega arith)) in
-    let is : get_or (map key (take i L)) j [] ≡ key (row_at L j) = get_or-map key (take i L) j [] [] here ∙ ap key (get_or-take i L j [] l) in
-    let there : holds (map key (take i L)) (key (row_at L j)) ≡ true = list_any_at (row_eq (key (row_at L j))) (map key (take i L)) j [] (omega (arith, length-map (take i L) key, here)) ((row_same (key (row_at L j)) _).1 (sym is)) in
-    false≢true (sym none ∙ subst (λ (z : Row). holds keys z ≡ true) (sym (row_is x (key (row_at L j)) e)) (firsts_holds (map key (take i L)) (key (row_at L j)) there)))) ∙ places_false i in
-    let last : places (t x) (i + 1) ≡ i ∷ [] = places_more (t x) i ∙ rw (before, row_itself x) refl in
-    ap (λ z. z ++ (i ∷ []) ∷ []) old_same ∙ ap (λ z. by_key key L (i + 1) keys ++ z ∷ []) (sym last) ∙ sym (map-append (λ k. places (t k) (i + 1)) keys (x ∷ []))
-
-known_keys : (key : Row → Row) (L : List Row) (i p : ℕ) → i < length L → p < length (firsts (map key (take i L))) → row_at (firsts (map key (take i L))) p ≡ key (row_at L i)
-    → firsts (map key (take (i + 1) L)) ≡ firsts (map key (take i L))
-known_keys key L i p h low at =
-    let keys = firsts (map key (take i L)) in
-    firsts_more key L i h ∙ add_known keys (key (row_at L i)) (list_any_at (row_eq (key (row_at L i))) keys p [] low ((row_same (key (row_at L i)) (row_at keys p)).1 (sym at)))
-
-new_keys : (key : Row → Row) (L : List Row) (i : ℕ) → i < length L → holds (firsts (map key (take i L))) (key (row_at L i)) ≡ false
-    → firsts (map key (take (i + 1) L)) ≡ firsts (map key (take i L)) ++ key (row_at L i) ∷ []
-new_keys key L i h none = firsts_more key L i h ∙ rw none refl
-
-pub lists_grow : ListsGrow
-lists_grow = record {
-  known = λ key L i p h low at.
-      known_step key L (firsts (map key (take i L))) i p low (firsts_apart (map key (take i L))) at ∙ ap (by_key key L (i + 1)) (sym (known_keys key L i p h low at));
-  new = λ key L i h none. new_step key L i h none ∙ ap (by_key key L (i + 1)) (sym (new_keys key L i h none));
-  known_keys = known_keys;
-  new_keys = new_keys;
-}

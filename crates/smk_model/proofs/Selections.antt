@@ -4,10 +4,10 @@ use Rattle.std.specs.List.{list_any, filter, All}
 use Rattle.std.proofs.lemmas.List.{get_or-map, length-map}
 use Rattle.std.proofs.lemmas.List.Elements.{All-get_or}
 use Rattle.std.proofs.lemmas.Bool.{false≢true, eq-eqb}
-use Rattle.smk_base.specs.Plans.{Formula, Selection, Expr, Leaf, Apply}
+use Rattle.smk_base.specs.Plans.{Selection, Expr, Leaf, Apply}
 use Rattle.smk_model.specs.Values.{Row, meets}
 use Rattle.smk_model.specs.Plain.{leaves, eval}
-use Rattle.smk_model.specs.Lineage.{upto, places, row_at, sub}
+use Rattle.smk_model.specs.Lineage.{upto, places, row_at}
 use Rattle.smk_model.specs.Annotated.{Marked, no_mark, mark_at, scanned, ann, reaches, relates, back}
 use Rattle.smk_model.specs.LineageLaws.{is_selection, selected_table, selects, chosen, SelectionLineage}
 use Rattle.smk_model.proofs.Anys.{any_same, any_below, any_false, or_false}
@@ -87,13 +87,3 @@ selections = record {
 }
 
 -- the same of one selection, as a search finds it
-
-pub back_selection : (formula : Formula) (table : ℕ) (L : List Row) (o : ℕ) → o < length (filter (meets formula) L)
-    → back (Apply (Selection formula) (Leaf table)) (L ∷ []) (o ∷ []) table (length L) ≡ get_or (places (λ i. meets formula (row_at L i)) (length L)) o 0 ∷ []
-back_selection formula table L o low = selections.one (Apply (Selection formula) (Leaf table)) L o refl low
-
-pub filter_is_sub : (formula : Formula) (L : List Row) → filter (meets formula) L ≡ sub L (places (λ i. meets formula (row_at L i)) (length L))
-filter_is_sub formula L = sym (at_places (meets formula) L [])
-
-pub length_chosen : (formula : Formula) (L : List Row) → length (places (λ i. meets formula (row_at L i)) (length L)) ≡ length (filter (meets formula) L)
-length_chosen formula L = number_chosen (Apply (Selection formula) (Leaf 0)) L

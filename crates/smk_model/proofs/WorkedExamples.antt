@@ -1,6 +1,6 @@
 -- What is worked by hand, by computing it.
 use Rattle.std.specs.Prelude.{Ok}
-use Rattle.std.proofs.Common.{◌≡◌, [], ◌∷◌, Some, refl}
+use Rattle.std.proofs.Common.{List, ◌≡◌, [], ◌∷◌, Some, refl}
 use Rattle.std.specs.Fmt.{digits}
 use Rattle.clap.specs.Walk.{walked}
 use Rattle.clap.specs.Faults.{walk_fault, defaults_fault}
@@ -11,12 +11,27 @@ use Rattle.smk_base.specs.Ints.{int_of}
 use Rattle.smk_base.specs.declared.book.token.TokenKind.TheVariants as kinds
 use Rattle.smk_model.specs.Texts.{record_line}
 use Rattle.smk_model.specs.Tables.{table_of}
-use Rattle.smk_model.specs.Grammar.{name, plain, file, no_more, one_more, listed, int_type, text_type, no_default, decl, alone_what, column_what, agg, keys, aggs, plan, scan, no_step, one_step, group_step, no_extra, table_stmt, view_stmt, back_stmt, fwd_stmt, no_stmt, one_stmt, mark, listed_marks, no_then, back_line, fwd_line, plain_line, whole_any_line}
+use Rattle.smk_model.specs.Tokens.{Token}
+use Rattle.smk_model.specs.Grammar.{First, name, plain, file, no_more, one_more, listed, int_type, text_type, no_default, decl, alone_what, column_what, agg, keys, aggs, plan, scan, no_step, one_step, group_step, no_extra, table_stmt, view_stmt, back_stmt, fwd_stmt, no_stmt, one_stmt, mark, listed_marks, no_then, back_line, fwd_line, plain_line, whole_any_line}
 use Rattle.smk_model.specs.Readings.{asks, no_line, one_line}
 use Rattle.smk_model.specs.Words.{Files, words_of}
 use Rattle.smk_model.specs.Outcome.{spells, parsed, read, OpensBook, OpensScript, lines_read, no_script, a_script, load_all, inputs, usable, unusable, unreadable, reported}
-use Rattle.smk_model.specs.WorkedExamples.{readme_book_name, readme_script_name, readme_files, readme_catalog, readme_workbook, readme_readings, readme_inputs, readme_report, ReadmeHolds, WordsHold, TablesHold, StringsHold, CountsHold}
-use Rattle.smk_model.proofs.LineExamples.{stands}
+use Rattle.smk_model.specs.WorkedExamples.{readme_book_name, readme_script_name, readme_files, readme_catalog, readme_workbook, readme_readings, readme_inputs, readme_report, ReadmeHolds, WordsHold, TablesHold, StringsHold, PlanHolds}
+
+pub stands : {t : Token} {b : List Token} → First t.kind t (t ∷ b) b
+stands = record { is_kind = refl; is_first = refl }
+
+pub plan_holds : PlanHolds
+plan_holds = record {
+  rows = refl;
+  sales_behind = refl;
+  regions_behind = refl;
+  zones_of_sales = refl;
+  zones_of_regions = refl;
+  behind_both = refl;
+  of_two = refl;
+  pairs_are = refl;
+}
 
 book_there : OpensBook readme_files readme_book_name (Ok (record { catalog = readme_catalog; fds = [] }))
 book_there = read refl (parsed (spells
@@ -76,28 +91,4 @@ strings_hold = record {
   at_line_end = refl;
   length_reopened = refl;
   length_unclosed = refl;
-}
-
-pub counts_hold : CountsHold
-counts_hold = record {
-  tables = refl;
-  views = refl;
-  dependencies = refl;
-  lineages = refl;
-  links = refl;
-  linked = refl;
-  decls = refl;
-  items = refl;
-  keys = refl;
-  aggs = refl;
-  pairs = refl;
-  nodes = refl;
-  comparisons = refl;
-  source_levels = refl;
-  levels = refl;
-  nots = refl;
-  name_bytes = refl;
-  quoted_bytes = refl;
-  count_first = refl;
-  ask_steps = refl;
 }

@@ -10,12 +10,11 @@ use Rattle.smk_model.specs.Plain.{step1, leaves, whole}
 use Rattle.smk_model.specs.Annotated.{pairs}
 use Rattle.smk_model.specs.Locals.{back1, fwd1}
 use Rattle.smk_model.specs.Composed.{table_at, rows_over, backs, forwards}
-use Rattle.smk_model.specs.Classes.{new_places}
 use Rattle.smk_model.specs.Selection.{row_limit}
 use Rattle.smk_model.specs.NodeFaults.{asked_of, first_fault}
 use Rattle.smk_model.specs.LineageLaws.{selected_table}
 use Rattle.smk_model.specs.LocalLaws.{together}
-use Rattle.smk_model.specs.Growth.{is_chain, is_growing, regrouping, keys_in, fresh, all_keys, regrouped}
+use Rattle.smk_model.specs.Growth.{is_chain, is_growing, regrouping}
 
 -- a grouping of parts after each other is the regrouping of the groupings of the parts
 pub record GroupsRegroup : Type 0 where
@@ -49,16 +48,6 @@ pub record GroupGrows : Type 0 where
   pub forwards : (keys : List ℕ) (aggs : List Agg) (input : Expr) (old new grown : List (List Row)) → is_chain input ≡ true → HasGrown (selected_table input) old new grown
       → forwards (Apply (Grouping keys aggs) input) grown (selected_table input)
       ≡ composed (followed (forwards (Apply (Grouping keys aggs) input) old (selected_table input)) (forwards (Apply (Grouping keys aggs) input) new (selected_table input))) (fwd1 (regrouping keys aggs) (both_rows (Apply (Grouping keys aggs) input) old new))
-
--- what the regrouping of two groupings makes, place by place
-pub record RegroupsByPlace : Type 0 where
-  pub rows : (keys : List ℕ) (aggs : List Agg) (L M : List Row) → step1 (Grouping keys aggs) (L ++ M) ≡ regrouped (length keys) aggs (step1 (Grouping keys aggs) L) (step1 (Grouping keys aggs) M)
-  -- the keys keep their places, and new ones come last
-  pub keys : (keys : List ℕ) (aggs : List Agg) (L M : List Row)
-      → keys_in (length keys) (step1 (Grouping keys aggs) (L ++ M)) ≡ all_keys (keys_in (length keys) (step1 (Grouping keys aggs) L)) (keys_in (length keys) (step1 (Grouping keys aggs) M))
-  -- as classes of the keys of both have them
-  pub fresh_places : (keys : List ℕ) (aggs : List Agg) (L M : List Row)
-      → new_places (keys_in (length keys) (step1 (Grouping keys aggs) L)) (keys_in (length keys) (step1 (Grouping keys aggs) M)) ≡ fresh (keys_in (length keys) (step1 (Grouping keys aggs) L)) (keys_in (length keys) (step1 (Grouping keys aggs) M))
 
 -- a growing chain has no more rows and no more pairs than its table has rows, and each of these reaches at most one row
 pub record GrowingIsThin : Type 0 where

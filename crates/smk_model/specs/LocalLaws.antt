@@ -1,6 +1,6 @@
 -- Laws of the lists of one step: each list in the form in which a loop makes it, and what a cut of the input into parts leaves as it is.
-use Rattle.std.specs.Prelude.{◌≡◌, ℕ, ◌+◌, ◌<◌, ◌≤◌, Bool, true, false, List, [], ◌∷◌, ◌++◌, length, map, slice_index_or, slice_set, take}
-use Rattle.std.specs.List.{list_any, flat_map, All}
+use Rattle.std.specs.Prelude.{◌≡◌, ℕ, ◌+◌, ◌≤◌, Bool, true, List, [], ◌∷◌, ◌++◌, length, map}
+use Rattle.std.specs.List.{flat_map, All}
 use Rattle.smk_base.specs.Places.{IsPlaces}
 use Rattle.smk_base.specs.declared.book.plan.Item.{Item}
 use Rattle.smk_base.specs.declared.book.plan.Agg.{Agg}
@@ -31,17 +31,6 @@ pub record LocalsAre : Type 0 where
   pub places_one : (op : Unary) (L : List Row) → All (IsPlaces (length L)) (back1 op L).lists
   pub places_left : (op : Binary) (L R : List Row) → All (IsPlaces (length L)) (back_left op L R).lists
   pub places_right : (op : Binary) (L R : List Row) → All (IsPlaces (length R)) (back_right op L R).lists
-
--- the lists by key, as one more row is read: its place goes last into the list of its key, which is known, or is a new list
-pub record ListsGrow : Type 0 where
-  pub known : (key : Row → Row) (L : List Row) (i p : ℕ) → i < length L → p < length (firsts (map key (take i L))) → row_at (firsts (map key (take i L))) p ≡ key (row_at L i)
-      → slice_set (by_key key L i (firsts (map key (take i L)))) p (slice_index_or (by_key key L i (firsts (map key (take i L)))) p [] ++ i ∷ []) ≡ by_key key L (i + 1) (firsts (map key (take (i + 1) L)))
-  pub new : (key : Row → Row) (L : List Row) (i : ℕ) → i < length L → list_any (row_eq (key (row_at L i))) (firsts (map key (take i L))) ≡ false
-      → by_key key L i (firsts (map key (take i L))) ++ (i ∷ []) ∷ [] ≡ by_key key L (i + 1) (firsts (map key (take (i + 1) L)))
-  pub known_keys : (key : Row → Row) (L : List Row) (i p : ℕ) → i < length L → p < length (firsts (map key (take i L))) → row_at (firsts (map key (take i L))) p ≡ key (row_at L i)
-      → firsts (map key (take (i + 1) L)) ≡ firsts (map key (take i L))
-  pub new_keys : (key : Row → Row) (L : List Row) (i : ℕ) → i < length L → list_any (row_eq (key (row_at L i))) (firsts (map key (take i L))) ≡ false
-      → firsts (map key (take (i + 1) L)) ≡ firsts (map key (take i L)) ++ key (row_at L i) ∷ []
 
 -- the parts after each other
 abbrev pub together : List (List Row) → List Row

@@ -1,7 +1,9 @@
--- Worked by hand from their bytes: a whole run, words, the table of a file, a record, texts in quotes, and books with one thing too many.
+-- Worked by hand: a plan with its lineage, a whole run from bytes, words, the table of a file, a record, and texts in quotes.
 use Rattle.std.specs.Prelude.{◌≡◌, ℕ, pos, negsuc, true, nat_eq, cond, List, [], ◌∷◌, ◌++◌, Some, None, Ok, Err, codes, false}
 use Rattle.std.specs.Cmp.Lexicographic.{pointwise}
+use Rattle.smk_base.specs.declared.value.Kind.{Kind}
 use Rattle.smk_base.specs.declared.value.Kind.TheVariants as kinds
+use Rattle.smk_base.specs.declared.value.Value.{Value}
 use Rattle.smk_base.specs.declared.value.Value.TheVariants.{Int, Text}
 use Rattle.smk_base.specs.declared.fault.Fault.TheVariants.{Usage}
 use Rattle.smk_base.specs.declared.book.col_decl.ColDecl.{ColDecl}
@@ -9,25 +11,76 @@ use Rattle.smk_base.specs.declared.book.catalog.BackExtra.TheVariants as extras
 use Rattle.smk_base.specs.declared.book.tree.Line.TheVariants as lines
 use Rattle.smk_base.specs.declared.book.tree.Marks.TheVariants as markings
 use Rattle.smk_base.specs.declared.book.tree.Then.TheVariants as thens
-use Rattle.smk_base.specs.CatalogImage.{CatalogImage}
-use Rattle.smk_model.specs.Examples.{sales, by_region}
+use Rattle.smk_base.specs.declared.book.plan.Agg.TheVariants.{Count, Sum}
+use Rattle.smk_base.specs.CatalogImage.{CatalogImage, ViewImage}
+use Rattle.smk_base.specs.Plans.{Grouping, Equijoin, Expr, Apply, Combine, Leaf}
+use Rattle.smk_model.specs.Values.{Row}
+use Rattle.smk_model.specs.Plain.{whole}
+use Rattle.smk_model.specs.Annotated.{back, fwd, pairs}
+use Rattle.smk_model.specs.Composed.{rows_over, backs, forwards}
 use Rattle.smk_model.specs.Readings.{Reading, plain_reading}
 use Rattle.smk_model.specs.Session.{Workbook}
-use Rattle.smk_model.specs.SessionExamples.{int_column, text_column, view_of}
 use Rattle.smk_model.specs.Reports.{Report}
 use Rattle.smk_model.specs.Words.{Inject, Files, Demo, Settings, invocation_of}
 use Rattle.smk_model.specs.TalkWords.{talk_call_of}
 use Rattle.smk_model.specs.Tables.{table_of}
 use Rattle.smk_model.specs.Texts.{record_line}
 use Rattle.smk_model.specs.Outcome.{Held, Inputs, ReadsFiles, Outcome}
-use Rattle.std.specs.List.{flat_map}
-use Rattle.smk_base.specs.Places.{upto}
 use Rattle.smk_base.specs.declared.book.token.TokenKind.TheVariants.{Str, Bad, End}
-use Rattle.smk_base.specs.declared.fault.Many.TheVariants.{Tables, Views, Lineages, Links, Columns, Nodes, Compares, Depth, NameBytes}
-use Rattle.smk_base.specs.declared.fault.BookFault.TheVariants.{TooMany}
 use Rattle.smk_model.specs.Tokens.{tokens, string_len}
-use Rattle.smk_model.specs.BookExamples.{Breaks}
-use Rattle.smk_model.specs.LineExamples.{LeavesAnyAt}
+
+abbrev pub int : ℕ → Value
+int n = Int (pos n)
+
+abbrev pub north : Value
+north = Text (codes "north")
+
+abbrev pub south : Value
+south = Text (codes "south")
+
+abbrev pub east : Value
+east = Text (codes "east")
+
+-- id, region and amount of each sale
+abbrev pub sales : List Row
+sales = (int 1 ∷ north ∷ int 10 ∷ []) ∷ (int 2 ∷ south ∷ int 20 ∷ []) ∷ (int 3 ∷ north ∷ int 30 ∷ []) ∷ (int 4 ∷ east ∷ int 5 ∷ []) ∷ []
+
+-- name and zone of each region
+abbrev pub regions : List Row
+regions = (north ∷ Text (codes "A") ∷ []) ∷ (south ∷ Text (codes "B") ∷ []) ∷ (east ∷ Text (codes "A") ∷ []) ∷ []
+
+abbrev pub tables : List (List Row)
+tables = sales ∷ regions ∷ []
+
+-- number and total by region
+abbrev pub by_region : Expr
+by_region = Apply (Grouping (1 ∷ []) (Count ∷ Sum 2 ∷ [])) (Leaf 0)
+
+-- the total by zone
+abbrev pub by_zone : Expr
+by_zone = Apply (Grouping (4 ∷ []) (Sum 2 ∷ [])) (Combine (Equijoin ((1, 0) ∷ [])) (Leaf 0) (Leaf 1))
+
+-- the rows of a grouping over a join, and where they come from
+pub record PlanHolds : Type 0 where
+  pub rows : rows_over by_zone tables ≡ (Text (codes "A") ∷ int 45 ∷ []) ∷ (Text (codes "B") ∷ int 20 ∷ []) ∷ []
+  -- the sales and the regions behind each zone, and the zones that each of them is in
+  pub sales_behind : (backs by_zone tables 0).lists ≡ (0 ∷ 2 ∷ 3 ∷ []) ∷ (1 ∷ []) ∷ []
+  pub regions_behind : (backs by_zone tables 1).lists ≡ (0 ∷ 2 ∷ []) ∷ (1 ∷ []) ∷ []
+  pub zones_of_sales : (forwards by_zone tables 0).lists ≡ (0 ∷ []) ∷ (1 ∷ []) ∷ (0 ∷ []) ∷ (0 ∷ []) ∷ []
+  pub zones_of_regions : (forwards by_zone tables 1).lists ≡ (0 ∷ []) ∷ (1 ∷ []) ∷ (0 ∷ []) ∷ []
+  -- the regions behind both zones, in any order, and the zone of two sales
+  pub behind_both : back by_zone (whole by_zone tables) (1 ∷ 0 ∷ []) 1 3 ≡ 0 ∷ 1 ∷ 2 ∷ []
+  pub of_two : fwd by_zone (whole by_zone tables) (3 ∷ 0 ∷ []) 0 ≡ 0 ∷ []
+  pub pairs_are : pairs by_zone (whole by_zone tables) 0 4 ≡ 4
+
+abbrev pub int_column : List ℕ → ColDecl
+int_column name = record { name = name; kind = kinds.Int 0; def = None }
+
+abbrev pub text_column : List ℕ → ColDecl
+text_column name = record { name = name; kind = kinds.Text; def = None }
+
+abbrev pub view_of : List ℕ → Expr → List (List ℕ) → List Kind → ViewImage
+view_of name plan columns own = record { name = name; plan = plan; names = columns; kinds = own }
 
 -- the first example of README: three files and no other, a book, its table and a script
 abbrev pub readme_book_name : List ℕ
@@ -133,30 +186,3 @@ pub record StringsHold : Type 0 where
   pub at_line_end : tokens (codes "\"a\n\"") ≡ record { at = 0; kind = Bad; text = [] } ∷ []
   pub length_reopened : string_len None false 0 (codes "a\"\"b") ≡ Some 2
   pub length_unclosed : string_len None false 0 (codes "a") ≡ None
-
--- a text so many times
-abbrev pub times : ℕ → List ℕ → List ℕ
-times n text = flat_map (λ i. text) (upto n)
-
--- the fault is at the first that is one too many: the 17th table, the 65th view, link, view of a link or node, the 257th lineage, the 17th column of a list, the 129th comparison, the 33rd level, and a name of 65 bytes
-pub record CountsHold : Type 0 where
-  pub tables : Breaks (times 17 (codes "table t from \"\" (a int) ")) (TooMany 384 Tables)
-  pub views : Breaks (times 65 (codes "view v = scan t ")) (TooMany 1024 Views)
-  pub dependencies : Breaks (times 65 (codes "fd v on t a to b ")) (TooMany 1088 Views)
-  pub lineages : Breaks (times 257 (codes "lineage fwd t to v ")) (TooMany 4864 Lineages)
-  pub links : Breaks (times 65 (codes "link v on t to v ")) (TooMany 1088 Links)
-  pub linked : Breaks (codes "link v on t to v" ++ times 64 (codes ", v")) (TooMany 207 Links)
-  pub decls : Breaks (codes "table t from \"\" (a int" ++ times 16 (codes ", a int")) (TooMany 129 Columns)
-  pub items : Breaks (codes "view v = scan t | project a" ++ times 16 (codes ", a")) (TooMany 74 Columns)
-  pub keys : Breaks (codes "view v = scan t | group a" ++ times 16 (codes ", a")) (TooMany 72 Columns)
-  pub aggs : Breaks (codes "view v = scan t | group {a = count" ++ times 16 (codes ", a = count")) (TooMany 201 Columns)
-  pub pairs : Breaks (codes "view v = scan t | join scan t on a = a" ++ times 16 (codes ", a = a")) (TooMany 145 Columns)
-  pub nodes : Breaks (codes "view v = scan t" ++ times 64 (codes " | group")) (TooMany 522 Nodes)
-  pub comparisons : Breaks (codes "view v = scan t | where a = 1" ++ times 128 (codes " or a = 1")) (TooMany 1176 Compares)
-  pub source_levels : Breaks (codes "view v = " ++ times 33 (codes "(")) (TooMany 41 Depth)
-  pub levels : Breaks (codes "view v = scan t | where " ++ times 33 (codes "(")) (TooMany 56 Depth)
-  pub nots : Breaks (codes "view v = scan t | where " ++ times 33 (codes "not ")) (TooMany 152 Depth)
-  pub name_bytes : Breaks (codes "view " ++ times 65 (codes "a")) (TooMany 5 NameBytes)
-  pub quoted_bytes : Breaks (codes "view v = scan t | project `" ++ times 65 (codes "a") ++ codes "`") (TooMany 26 NameBytes)
-  pub count_first : Breaks (codes "view v = scan t | project a" ++ times 15 (codes ", a") ++ codes ", " ++ times 65 (codes "b")) (TooMany 74 Columns)
-  pub ask_steps : LeavesAnyAt (codes "ask back v all to t" ++ times 65 (codes " | group")) (TooMany 534 Nodes)

@@ -7,22 +7,15 @@ pub use crate::plans::composed_laws::{
 pub use crate::plans::direction_laws::{inverses, one_each, pairs_forward};
 pub use crate::plans::fault_laws::{first_of_all, nothing_asked};
 pub use crate::plans::growth_laws::{
-    chain_grows, group_grows, groups_regroup, growing_is_thin, growing_never_full,
-    regroups_by_place, unscanned_stays,
+    chain_grows, group_grows, groups_regroup, growing_is_thin, growing_never_full, unscanned_stays,
 };
 pub use crate::plans::lineage_laws::{
     answers_are_places, bin_is_floor, cui_widom, places_ascend, rows_agree, selection_lineage,
     step_by_step,
 };
-pub use crate::plans::local_laws::{adds_no_rows, cut, lists_grow, locals_are};
-pub use crate::runs::demo_laws::{
-    demos_are_faultless, demos_are_opened, demos_are_read, demos_are_reported, demos_are_rows,
-    demos_are_short, demos_are_within,
-};
+pub use crate::plans::local_laws::{adds_no_rows, cut, locals_are};
 pub use crate::runs::example_laws::{
-    appends_hold, ask_lines_hold, books_hold, counts_hold, demos_hold, dependencies_are_read,
-    dependencies_are_typed, example_grows, examples_hold, lines_hold, readme_holds, runs_hold,
-    sessions_hold, strings_hold, tables_hold, typings_hold, words_hold,
+    plan_holds, readme_holds, strings_hold, tables_hold, words_hold,
 };
 pub use crate::runs::grammar_laws::{
     faultless_asks_keep_limits, faultless_have_trees, faultless_keep_limits, faults_stay,
@@ -36,13 +29,10 @@ pub use crate::sessions::append_laws::{appends_begin_anew, appends_fit, refused_
 pub use crate::sessions::ask_laws::{
     asked_backs_fit, asks_fit, chains_add_no_rows, chains_are_small,
 };
-pub use crate::sessions::conversation_laws::{
-    conversations_hold, one_talk_start, some_talk_start, talks_as_reported,
-};
+pub use crate::sessions::conversation_laws::{one_talk_start, some_talk_start, talks_as_reported};
 pub use crate::sessions::expanded_laws::expanded_stands;
 pub use crate::sessions::fd_laws::{dependencies_answered, fd_law, profiles_fit};
 pub use crate::sessions::own_laws::{
-    all_are_selected, now_is_plain, own_lines_are_read, own_lines_hold, own_lines_stay,
-    own_sessions_hold, whole_part_is_plain,
+    all_are_selected, now_is_plain, own_lines_are_read, own_lines_stay, whole_part_is_plain,
 };
 pub use crate::sessions::reply_laws::{first_contents, marks_stay, refused_stay, replies_fit};

@@ -1,6 +1,5 @@
 //! Laws of runs: what is read, what comes of it, and small runs worked by hand.
 
-pub mod demo_laws;
 pub mod example_laws;
 pub mod grammar_laws;
 pub mod outcome_laws;

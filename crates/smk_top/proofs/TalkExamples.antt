@@ -13,16 +13,14 @@ use Rattle.smk_base.specs.declared.book.tree.Line.TheVariants as lines
 use Rattle.smk_model.specs.Texts.{record_line}
 use Rattle.smk_model.specs.Tables.{table_of}
 use Rattle.smk_model.specs.Conversation.{line_limit, line_of, HeardLine, TalkTurn, Replied, TooLong, TalkState, turn_after, turn_block, FitsTalk, first_talk_state, opening_block, opening_texts}
-use Rattle.smk_model.specs.Examples.{sales}
+use Rattle.smk_model.specs.WorkedExamples.{sales, readme_book_name, readme_files, readme_catalog, readme_workbook, readme_inputs, plain_settings}
 use Rattle.smk_model.specs.Grammar.{name, file, show_line, plain_line, appended_line, whole_any_line}
 use Rattle.smk_model.specs.Readings.{Asks, Unread, asks, leaves, plain_reading}
 use Rattle.smk_model.specs.Reports.{BookSaid}
 use Rattle.smk_model.specs.TalkStarts.{usable, read, started, TalkBrings}
 use Rattle.smk_model.specs.TalkWords.{TalkCall, talk_call_of}
 use Rattle.smk_model.specs.Words.{Files}
-use Rattle.smk_model.specs.WorkedExamples.{readme_book_name, readme_files, readme_catalog, readme_workbook, readme_inputs, plain_settings}
-use Rattle.smk_model.proofs.LineExamples.{stands}
-use Rattle.smk_model.proofs.WorkedExamples.{readme}
+use Rattle.smk_model.proofs.WorkedExamples.{stands, readme}
 use Rattle.smk_outside.specs.Conversing.{Talks, Rules, last_state}
 use Rattle.smk_outside.specs.Outside.{Rose}
 use Rattle.smk_outside.specs.Told.{says}

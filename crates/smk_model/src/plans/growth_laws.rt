@@ -1,6 +1,6 @@
 //! Laws of tables that grow. Each is an empty function whose contract is the law.
 
-ghost use Rattle.smk_model.specs.GrowthLaws.{ChainGrows, GroupGrows, GroupsRegroup, GrowingIsThin, GrowingNeverFull, RegroupsByPlace, UnscannedStays};
+ghost use Rattle.smk_model.specs.GrowthLaws.{ChainGrows, GroupGrows, GroupsRegroup, GrowingIsThin, GrowingNeverFull, UnscannedStays};
 
 /// A grouping of rows in parts is the regrouping of the groupings of the parts.
 #[tactic(auto, using(crate::proofs::Regroups::groups_regroup))]
@@ -18,12 +18,6 @@ pub fn chain_grows()
 #[tactic(auto, using(crate::proofs::Grows::group_grows))]
 pub fn group_grows()
     ensures { GroupGrows }
-{}
-
-/// The regrouping of two groupings has the old groups at their places, and behind them those whose key is new.
-#[tactic(auto, using(crate::proofs::RegroupsByPlace::regroups_by_place))]
-pub fn regroups_by_place()
-    ensures { RegroupsByPlace }
 {}
 
 /// A growing chain has no more rows and no more pairs than its table has rows, and each of these reaches at most one row.

@@ -1,15 +1,10 @@
 //! Laws of the lists of one step. Each is an empty function whose contract is the law.
 
-ghost use Rattle.smk_model.specs.LocalLaws.{AddsNoRows, Cut, ListsGrow, LocalsAre};
+ghost use Rattle.smk_model.specs.LocalLaws.{AddsNoRows, Cut, LocalsAre};
 
 /// The lists of each step, in the form in which a loop makes them: one place a row that passes, the places of each key, the places that the nested loop of a join matches.
 pub fn locals_are()
     ensures { LocalsAre }
-{}
-
-/// The lists by key grow by one place as one more row is read.
-pub fn lists_grow()
-    ensures { ListsGrow }
 {}
 
 /// What a selection, a join and a grouping give of a list, they give of its consecutive parts, put after each other.

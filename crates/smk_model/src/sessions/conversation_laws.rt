@@ -1,6 +1,5 @@
 //! Laws of conversations. Each is an empty function whose contract is the law.
 
-ghost use Rattle.smk_model.specs.ConversationExamples.{ConversationsHold};
 ghost use Rattle.smk_model.specs.ConversationLaws.{TalksAsReported, OneTalkStart, SomeTalkStart};
 
 /// What a conversation says is, but for its empty lines, what a run writes.
@@ -19,10 +18,4 @@ pub fn one_talk_start()
 #[tactic(auto, using(crate::proofs::TalkStarts::some_talk_start))]
 pub fn some_talk_start()
     ensures { SomeTalkStart }
-{}
-
-/// A conversation over a book of one table and one view, line by line.
-#[tactic(auto, using(crate::proofs::ConversationExamples::conversations))]
-pub fn conversations_hold()
-    ensures { ConversationsHold }
 {}

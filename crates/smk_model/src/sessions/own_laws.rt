@@ -1,8 +1,6 @@
 //! Laws of a conversation's own lines. Each is an empty function whose contract is the law.
 
-ghost use Rattle.smk_model.specs.OwnExamples.{OwnLinesHold};
 ghost use Rattle.smk_model.specs.OwnLineLaws.{AllAreSelected, NowIsPlain, OwnLinesAreRead, OwnLinesStay, WholePartIsPlain};
-ghost use Rattle.smk_model.specs.OwnSessions.{OwnSessionsHold};
 
 /// Each text has one own reading, and a text that begins with a dot is no line of a script.
 #[tactic(auto, using(crate::proofs::OwnReadings::own_lines_are_read))]
@@ -32,16 +30,4 @@ pub fn all_are_selected()
 #[tactic(auto, using(crate::proofs::OwnLines::whole_part_is_plain))]
 pub fn whole_part_is_plain()
     ensures { WholePartIsPlain }
-{}
-
-/// Own lines over a book of one table and one view.
-#[tactic(auto, using(crate::proofs::OwnExamples::own_lines_hold))]
-pub fn own_lines_hold()
-    ensures { OwnLinesHold }
-{}
-
-/// Own lines over a book of two tables and six views: how they are read, and what they come to under no, one and two brushes.
-#[tactic(auto, using(crate::proofs::OwnSessions::own_sessions))]
-pub fn own_sessions_hold()
-    ensures { OwnSessionsHold }
 {}
