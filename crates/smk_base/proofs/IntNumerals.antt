@@ -1,5 +1,5 @@
 -- The number that an optional sign and digits write, and the int that bytes write.
-use Rattle.std.proofs.Common.{◌≡◌, ◌∙◌, ◌<◌, ◌≤◌, ◌+◌, ◌*◌, ℕ, true, cond, ◌&&◌, ◌==◌, List, [], ◌∷◌, ◌++◌, length, drop, ℤ, pos, negsuc, ◌^◌, nat_lt, refl, sym, ap, arith, true≢false, Option, Some, None, IfSome, IfNone}
+use Rattle.std.proofs.Common.{◌≡◌, ◌∙◌, ◌<◌, ◌≤◌, ◌+◌, ◌*◌, ℕ, true, cond, ◌&&◌, ◌==◌, List, [], ◌∷◌, ◌++◌, length, drop, ℤ, pos, negsuc, ◌^◌, nat_lt, refl, sym, ap, arith, append-nil, true≢false, Option, Some, None, IfSome, IfNone}
 use Rattle.std.specs.List.{list_all}
 use Rattle.std.specs.Char.{is_ascii_digit, digit_value}
 use Rattle.std.specs.Str.{all_ascii_digits}
@@ -107,6 +107,22 @@ numeral_int-written text n digits value small =
 pub int_of-IsIntText : (bytes : List ℕ) (n : ℤ) → IsIntText bytes n → int_of bytes ≡ Some n
 unfolding int_of
 int_of-IsIntText bytes n t = ap numeral_int (trimmed bytes n t) ∙ numeral_int-written t.numeral n t.digits t.value t.small
+
+-- a sign and digits with no blank around them are that int
+pub int_of-numeral : (text : List ℕ) (n : ℤ) → numeral_int text ≡ Some n → int_of text ≡ Some n
+int_of-numeral text n e =
+    let facts = numeral_int-some text n e in
+    int_of-IsIntText text n (record {
+      before = [];
+      numeral = text;
+      after = [];
+      parts = sym (append-nil text);
+      blank_before = refl;
+      digits = facts.0;
+      blank_after = refl;
+      value = facts.1;
+      small = facts.2;
+    })
 
 -- the clauses of what reads an int
 pub some_says : (bytes : List ℕ) (o : Option ℤ) → o ≡ int_of bytes → IfSome o (λ n. IsIntText bytes n)

@@ -1,3 +1,4 @@
+pub mod Bins
 pub mod Places
 pub mod RelRows
 pub mod Blanks
@@ -5,6 +6,7 @@ pub mod IntNumerals
 pub mod Texts
 pub mod Codes
 pub mod Recoding
+pub mod Appended
 pub mod Kept
 pub mod Made
 pub mod Pushed

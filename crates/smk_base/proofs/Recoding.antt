@@ -6,7 +6,7 @@ use Rattle.std.specs.Prelude.{fold}
 use Rattle.std.specs.List.{list_any, slice_get}
 use Rattle.std.proofs.lemmas.Bool.{cases_Bool, cases_eq, cases_lt}
 use Rattle.std.proofs.lemmas.List.{get_or-map, map_push, length_push, length-map, get_or-set_same, get_or-set_other, length-set, get_or-replicate, length-replicate, ext_get_or, take_more, take-map, take-append-drop, length-take, length-take-le, get_or-take, get_or_push}
-use Rattle.std.proofs.lemmas.List.Sums.{fold-append}
+use Rattle.std.proofs.lemmas.List.Sums.{fold-append, fold_push}
 use Rattle.std.proofs.lemmas.List.Elements.{All-push, All-from_get_or}
 use Rattle.std.proofs.lemmas.List.Quantifiers.{position-Some}
 use Rattle.std.proofs.lemmas.Option.{slice_get-get_or}
@@ -14,10 +14,6 @@ use Rattle.indexmap.proofs.MapLemmas.{distinct-take}
 use Rattle.smk_base.specs.Dicts.{text_eq, code_in, code_or_last, with_text, AreTexts}
 use Rattle.smk_base.proofs.Codes.{added, kept, with_text-there, with_text-behind, with_text-among, code-at, text_same}
 use Rattle.smk_base.specs.TextColumns.{text_in, text_firsts, texts_at, AreCodes, AreRecoded}
-
-fold_push : {A B : Type 0} (f : B → A → B) (b : B) (xs : List A) (x : A) → fold f b (xs ++ x ∷ []) ≡ f (fold f b xs) x
-fold_push f b [] x = refl
-fold_push f b (y ∷ ys) x = fold_push f (f b y) ys x
 
 pub text_firsts_push : (texts : List (List ℕ)) (t : List ℕ) → text_firsts (texts ++ t ∷ []) ≡ with_text (text_firsts texts) t
 text_firsts_push texts t = fold_push with_text [] texts t
@@ -34,7 +30,7 @@ length_with_text-most dict t = elim (cases_Bool (list_any (text_eq t) dict)) [
   | inr e ↦ rw e (omega (arith, length_push dict t))
 ]
 
-few_firsts_from : (found texts : List (List ℕ)) → length (fold with_text found texts) ≤ length found + length texts
+pub few_firsts_from : (found texts : List (List ℕ)) → length (fold with_text found texts) ≤ length found + length texts
 few_firsts_from found [] = omega arith
 few_firsts_from found (t ∷ ts) = omega (arith, few_firsts_from (with_text found t) ts, length_with_text-most found t)
 
@@ -143,13 +139,14 @@ codes-are dict codes is =
     (λ i h. code-is dict codes i 0 is h ∙ sym (get_or-map (code_or_last (text_firsts texts)) texts i [] 0 (omega (arith, long))))
 
 -- the code of a text that is there has it
+pub text-code : (texts : List (List ℕ)) (t : List ℕ) (code : ℕ) → code_in texts t ≡ Some code → (code < length texts) × (text_in texts code ≡ t)
+text-code texts t code e = let f = position-Some (text_eq t) texts code [] e in (f.0, sym ((text_same _ _).0 f.1))
+
 pub slice_get-code : (texts : List (List ℕ)) (t : List ℕ) (code : ℕ) → code_in texts t ≡ Some code → slice_get texts code ≡ Some t
-slice_get-code texts t code e =
-    let f = position-Some (text_eq t) texts code [] e in
-    slice_get-get_or texts code [] f.0 ∙ ap Some (sym ((text_same _ _).0 f.1))
+slice_get-code texts t code e = let f = text-code texts t code e in slice_get-get_or texts code [] f.0 ∙ ap Some f.1
 
 -- the texts that were found stay first
-firsts_stay : (found texts : List (List ℕ)) (k : ℕ) → k < length found → get_or (fold with_text found texts) k [] ≡ get_or found k []
+pub firsts_stay : (found texts : List (List ℕ)) (k : ℕ) → k < length found → get_or (fold with_text found texts) k [] ≡ get_or found k []
 firsts_stay found [] k h = refl
 firsts_stay found (t ∷ ts) k h = firsts_stay (with_text found t) ts k (omega (arith, length_with_text found t)) ∙ kept found t k h
 

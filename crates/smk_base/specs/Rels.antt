@@ -1,5 +1,5 @@
 -- What a Rel means: kinds of columns and rows of values that fit them.
-use Rattle.std.specs.Prelude.{◌≡◌, ℕ, zero, suc, ◌+◌, ◌*◌, ◌^◌, ◌<◌, ◌≤◌, ℤ, pos, neg_ℤ, ◌≤ℤ◌, FitsSigned, List, [], ◌∷◌, ◌++◌, length, map, slice_index, slice_index_or, All}
+use Rattle.std.specs.Prelude.{◌≡◌, ℕ, zero, suc, ◌+◌, ◌*◌, ◌^◌, ◌<◌, ◌≤◌, ℤ, pos, neg_ℤ, ◌≤ℤ◌, ◌+ℤ◌, FitsSigned, List, [], ◌∷◌, ◌++◌, length, map, slice_index, slice_index_or, All}
 use Rattle.std.specs.List.{AllZip}
 use Rattle.std.specs.Int.{w64, int_div_euclid}
 use Rattle.smk_base.specs.declared.value.Kind.{Kind}
@@ -73,6 +73,10 @@ number_of (values.Text t) = pos 0
 -- the number of the bin of this width that has a value
 abbrev pub bin_of : ℤ → Value → Value
 bin_of width value = values.Int (int_div_euclid (number_of value) width)
+
+-- the bins of this width that have the numbers from the least on
+abbrev pub AreBinsFrom : ℤ → ℤ → List ℤ → Type 0
+AreBinsFrom least width bins = (k : ℕ) → k < length bins → slice_index_or bins k (pos 0) ≡ int_div_euclid (least +ℤ pos k) width
 
 -- the rows at these places
 abbrev pub rows_at : List (List Value) → List ℕ → List (List Value)

@@ -1,6 +1,6 @@
 -- Columns of texts.
-use Rattle.std.specs.Prelude.{◌≡◌, ℕ, ◌<◌, ◌≤◌, List, [], length, map, slice_index, slice_index_or, All}
-use Rattle.smk_base.specs.Dicts.{text_eq}
+use Rattle.std.specs.Prelude.{◌≡◌, ℕ, ◌<◌, ◌≤◌, List, [], length, map, fold, slice_index, slice_index_or, All}
+use Rattle.smk_base.specs.Dicts.{text_eq, with_text}
 use Rattle.smk_base.specs.Firsts.{first_items}
 use Rattle.smk_base.specs.declared.rel.TheConstants.{ROW_LIMIT}
 use Rattle.smk_base.specs.declared.rel.text_column.TheConstants.{NO_CODE}
@@ -34,3 +34,9 @@ pub record AreRecoded (old new : List (List ℕ)) (table : List ℕ) : Type 0 wh
   pub long : length table ≡ length old
   pub within : (k : ℕ) → k < length old → slice_index table k < NO_CODE → slice_index table k < length new
   pub same : (k : ℕ) → k < length old → slice_index table k < NO_CODE → text_in new (slice_index table k) ≡ text_in old k
+
+-- codes of texts that were added to a dictionary one after the other
+pub record AreAdded (dict added now : List (List ℕ)) (codes : List ℕ) : Type 0 where
+  pub texts : now ≡ fold with_text dict added
+  pub within : All (λ code. code < length now) codes
+  pub back : texts_at now codes ≡ added

@@ -13,10 +13,23 @@ pub fn read_int(bytes: &[u8]) -> Option<i64>
     ensures some { IfSome result (λ n. IsIntText bytes.now n) }
     ensures none { IfNone result ((n : ℤ) → ¬ (IsIntText bytes.now n)) }
 {
+    match read_numeral(bytes) {
+        Some(number) => Some(number),
+        None => read_among_blanks(bytes),
+    }
+}
+
+// The int of bytes that begin or end by blanks, or write none. Few do, so this stays out of the way of the others.
+#[cold]
+#[inline(never)]
+fn read_among_blanks(bytes: &[u8]) -> Option<i64>
+    ensures { result ≡ int_of bytes.now }
+{
     read_numeral(without_blanks_behind(without_blanks_before(bytes)))
 }
 
 // The number that an optional sign and digits write, if it is in the range of i64.
+#[inline(always)]
 fn read_numeral(numeral: &[u8]) -> Option<i64>
     ensures { result ≡ numeral_int numeral.now }
 {
@@ -42,6 +55,7 @@ fn without_sign(numeral: &[u8]) -> &[u8]
 }
 
 // The number that the digits write. None where there is no digit or another byte, and where the number is past the range of i64.
+#[inline(always)]
 fn read_digits(digits: &[u8]) -> Option<u64>
     ensures some { IfSome result (λ n. IsTrue (is_numeral digits.now) × (n ≡ digits_value 10 digits.now)) }
     ensures none { IfNone result (IsTrue (is_numeral digits.now) → 2 ^ 63 < digits_value 10 digits.now) }
@@ -63,6 +77,7 @@ fn read_digits(digits: &[u8]) -> Option<u64>
 }
 
 // The number of this sign and size, if it is in the range of i64.
+#[inline(always)]
 fn with_sign(is_negative: bool, size: u64) -> Option<i64>
     ensures { result ≡ (let n = if is_negative then neg_ℤ (pos size) else pos size in if is_i64 n then Some n else None) }
 {

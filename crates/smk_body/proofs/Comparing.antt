@@ -1,43 +1,108 @@
--- The places of a selection that are found in a column of ints.
-use Rattle.std.proofs.Common.{◌≡◌, ◌∙◌, ◌<◌, ◌≤◌, ◌+◌, ℕ, ℤ, pos, true, false, Bool, List, [], ◌∷◌, ◌++◌, length, map, take, slice_set, ap, sym, arith, get_or}
-use Rattle.std.proofs.lemmas.List.{append_assoc, append-nil, take_all, take_more_set, take-set}
+-- The places that a selection keeps.
+use Rattle.std.proofs.Common.{◌≡◌, ◌∙◌, ◌+◌, ◌<◌, ℕ, ℤ, pos, Bool, List, [], ◌∷◌, ◌++◌, true, false, All, length, map, take, drop, filter, slice_set, get_or, ap, sym, refl, subst, arith, cond, ◌≤◌, ◌-◌, zero, suc}
+use Rattle.std.proofs.lemmas.List.{append_assoc, append-nil, get_or_default, get_or-map, length-map, length-set, map_push, take-set-le, take_more, drop-set-lt, drop_more}
+use Rattle.std.proofs.lemmas.List.Elements.{All-filter, All-from_get_or, All-get_or, All-head, All-tail, filter-append}
+use Rattle.std.proofs.lemmas.List.FromFn.{get_or-range_with_len, length-range_with_len}
+use Rattle.std.specs.List.{range_with_len}
+use Rattle.std.proofs.lemmas.List.Filters.{FiltersInPlace, FiltersInPlace-more_set, FiltersInPlace-more_no}
 use Rattle.std.specs.Ordering.{int_cmp}
-use Rattle.smk_base.specs.Places.{places}
+use Rattle.smk_base.specs.Places.{places, upto}
+use Rattle.smk_base.proofs.Places.{upto_more}
 use Rattle.smk_base.specs.Plans.{Comparison}
-use Rattle.smk_base.specs.Rels.{column_values}
+use Rattle.smk_base.specs.Widths.{AreAlike}
+use Rattle.smk_base.specs.Rels.{Fits, RowFits, column_texts, column_values, kind_in, text_of}
+use Rattle.smk_base.specs.TextColumns.{text_in}
 use Rattle.smk_base.specs.declared.book.plan.CmpOp.{CmpOp}
-use Rattle.smk_base.specs.declared.book.plan.Operand.TheVariants as operands
+use Rattle.smk_base.specs.declared.book.plan.Operand.TheVariants.{Lit}
+use Rattle.smk_base.specs.declared.value.Kind.{Kind}
+use Rattle.smk_base.specs.declared.value.Kind.TheVariants as kinds
 use Rattle.smk_base.specs.declared.value.Value.{Value}
 use Rattle.smk_base.specs.declared.value.Value.TheVariants as values
-use Rattle.smk_model.specs.Values.{Row, holds, meets, value_cmp}
+use Rattle.smk_model.specs.Values.{Row, holds, meets, value_at, value_cmp}
 use Rattle.smk_model.specs.Lineage.{row_at}
-use Rattle.smk_base.proofs.Places.{same_below}
-use Rattle.smk_body.specs.Halves.{ints_below, meeting_below}
 use Rattle.smk_body.proofs.Aggregating.{value_is}
-use Rattle.smk_body.proofs.Pairing.{meeting_right, meeting_none}
+use Rattle.smk_body.proofs.Fitting.{value_fits}
+
+-- what is read next is still that of the list that was given, and so is the rest
+module _ (xs ys : List ℕ) (i : ℕ) (low : i < length ys) (lower : i < length xs) (rest : drop i ys ≡ drop i xs) where
+  both : get_or ys i 0 ∷ drop (i + 1) ys ≡ get_or xs i 0 ∷ drop (i + 1) xs
+  both = sym (drop_more ys i 0 low) ∙ rest ∙ drop_more xs i 0 lower
+
+  pub next_same : get_or ys i 0 ≡ get_or xs i 0
+  next_same = ap (λ z. get_or z 0 0) both
+
+  pub rest_same : drop (i + 1) ys ≡ drop (i + 1) xs
+  rest_same = ap (drop 1) both
+
+module _ (f : ℕ → Bool) (xs ys : List ℕ) (k i : ℕ) (h : FiltersInPlace f xs ys k i) (low : i < length ys) where
+  read : get_or ys i 0 ≡ get_or ys i (get_or ys i 0)
+  read = get_or_default ys i 0 (get_or ys i 0) low
+
+  pub front_kept : f (get_or ys i 0) ≡ true → take (k + 1) (slice_set ys k (get_or ys i 0)) ≡ filter f (take (i + 1) xs)
+  front_kept passes = (FiltersInPlace-more_set h low passes read).front
+
+  pub front_left : f (get_or ys i 0) ≡ false → take k (slice_set ys k (get_or ys i 0)) ≡ filter f (take (i + 1) xs)
+  front_left fails = take-set-le k ys k (get_or ys i 0) (omega arith) ∙ (FiltersInPlace-more_no h low fails read).front
+
+-- two tests that tell the same of each place below n keep the same of such places
+pub kept_alike : (f g : ℕ → Bool) (n : ℕ) → ((i : ℕ) → i < n → f i ≡ g i) → (A : List ℕ) → All (λ i. i < n) A → filter f A ≡ filter g A
+kept_alike f g n same [] below = refl
+kept_alike f g n same (a ∷ A) below =
+    let one = same a (All-head (λ i. i < n) a A below) in
+    let rest = kept_alike f g n same A (All-tail (λ i. i < n) a A below) in
+    λ t. cond (one t) (a ∷ rest t) (rest t)
 
 -- the ints of a column that stand so to an int are those of the rows that meet the comparison
-pub ints_meet : (rows : List Row) (c : ℕ) (op : CmpOp) (n : ℤ) (ints : List ℤ) (k : ℕ) → map values.Int ints ≡ column_values c rows → k ≤ length rows
-    → ints_below op n ints k ≡ meeting_below (Comparison c op (operands.Lit (values.Int n))) rows k
-ints_meet rows c op n ints k same few =
-    same_below (λ i. holds op (int_cmp (get_or ints i (pos 0)) n)) (λ i. meets (Comparison c op (operands.Lit (values.Int n))) (row_at rows i)) k
-    (λ i h. ap (λ (v : Value). holds op (value_cmp v (values.Int n))) (value_is rows c ints i same (omega arith)))
+pub ints_kept : (rows : List Row) (c : ℕ) (op : CmpOp) (n : ℤ) (ints : List ℤ) (A : List ℕ) → map values.Int ints ≡ column_values c rows → All (λ i. i < length rows) A
+    → filter (λ i. holds op (int_cmp (get_or ints i (pos 0)) n)) A ≡ filter (λ i. meets (Comparison c op (Lit (values.Int n))) (row_at rows i)) A
+ints_kept rows c op n ints A same below =
+    kept_alike (λ i. holds op (int_cmp (get_or ints i (pos 0)) n)) (λ i. meets (Comparison c op (Lit (values.Int n))) (row_at rows i)) (length rows)
+    (λ i low. ap (λ (v : Value). holds op (value_cmp v (values.Int n))) (value_is rows c ints i same low)) A below
 
--- one more place that passes, behind those that stand there, and one that doesn't
-pub passed_next : (f : ℕ → Bool) (before now : List ℕ) (i : ℕ) → f i ≡ true → before ++ now ≡ places f i → before ++ (now ++ i ∷ []) ≡ places f (i + 1)
-passed_next f before now i passes is = sym (append_assoc before now (i ∷ [])) ∙ meeting_right f i (before ++ now) [] passes is
+text_is : (v : Value) → Fits kinds.Text v → values.Text (text_of v) ≡ v
+text_is (values.Int n) fits = absurd fits
+text_is (values.Text t) fits = refl
 
-pub missed_next : (f : ℕ → Bool) (before now : List ℕ) (i : ℕ) → f i ≡ false → before ++ now ≡ places f i → before ++ now ≡ places f (i + 1)
-missed_next f before now i fails is = is ∙ meeting_none f i fails
+-- and so are the codes of texts that stand so to a value
+module _ (kinds_of : List Kind) (rows : List Row) (c : ℕ) (op : CmpOp) (v : Value) (texts : List (List ℕ)) (codes : List ℕ)
+    (fits : All (RowFits kinds_of) rows) (low : c < length kinds_of) (is : kind_in kinds_of c ≡ kinds.Text)
+    (within : All (λ code. code < length texts) codes) (same : map (text_in texts) codes ≡ column_texts c rows) where
+  abbrev stands : List ℕ → Bool
+  stands text = holds op (value_cmp (values.Text text) v)
 
--- the same of the first places of a block behind others: the place is put behind them, and counts where it passes
-pub passed_in_block : (f : ℕ → Bool) (before now block : List ℕ) (k i : ℕ) → f i ≡ true → k < length block → before ++ (now ++ take k block) ≡ places f i → before ++ (now ++ take (k + 1) (slice_set block k i)) ≡ places f (i + 1)
-passed_in_block f before now block k i passes low is =
-    ap (λ z. before ++ (now ++ z)) (take_more_set block k i low) ∙ ap (λ z. before ++ z) (sym (append_assoc now (take k block) (i ∷ []))) ∙ passed_next f before (now ++ take k block) i passes is
+  pub codes_long : length codes ≡ length rows
+  codes_long = sym (length-map codes (text_in texts)) ∙ ap length same ∙ length-map rows (λ row. text_of (value_at row c))
 
-pub missed_in_block : (f : ℕ → Bool) (before now block : List ℕ) (k i : ℕ) → f i ≡ false → before ++ (now ++ take k block) ≡ places f i → before ++ (now ++ take k (slice_set block k i)) ≡ places f (i + 1)
-missed_in_block f before now block k i fails is = ap (λ z. before ++ (now ++ z)) (take-set block k i) ∙ missed_next f before (now ++ take k block) i fails is
+  text_at : (i : ℕ) → i < length rows → get_or texts (get_or codes i 0) [] ≡ text_of (value_at (row_at rows i) c)
+  text_at i below =
+      sym (get_or-map (text_in texts) codes i 0 [] (omega (arith, codes_long))) ∙ ap (λ z. get_or z i []) same ∙ get_or-map (λ (row : Row). text_of (value_at row c)) rows i [] [] below
 
--- a full block put behind the others
-pub put_block : (before now block all : List ℕ) (k : ℕ) → length block ≤ k → before ++ (now ++ take k block) ≡ all → before ++ ((now ++ block) ++ take 0 block) ≡ all
-put_block before now block all k full is = ap (λ z. before ++ z) (append-nil (now ++ block)) ∙ ap (λ z. before ++ (now ++ z)) (sym (take_all k block full)) ∙ is
+  code_tells : (i : ℕ) → i < length rows → get_or (map stands texts) (get_or codes i 0) false ≡ meets (Comparison c op (Lit v)) (row_at rows i)
+  code_tells i below =
+      let fit = subst (λ (k : Kind). Fits k (value_at (row_at rows i) c)) is (value_fits kinds_of (row_at rows i) c (All-get_or (RowFits kinds_of) rows i [] below fits) low) in
+      get_or-map stands texts (get_or codes i 0) [] false (All-get_or (λ code. code < length texts) codes i 0 (omega (arith, codes_long)) within)
+      ∙ ap stands (text_at i below) ∙ ap (λ (x : Value). holds op (value_cmp x v)) (text_is (value_at (row_at rows i) c) fit)
+
+  pub codes_kept : (A : List ℕ) → All (λ i. i < length rows) A → filter (λ i. get_or (map stands texts) (get_or codes i 0) false) A ≡ filter (λ i. meets (Comparison c op (Lit v)) (row_at rows i)) A
+  codes_kept A below = kept_alike (λ i. get_or (map stands texts) (get_or codes i 0) false) (λ i. meets (Comparison c op (Lit v)) (row_at rows i)) (length rows) code_tells A below
+
+pub kind_is : (k : Kind) → AreAlike k kinds.Text → k ≡ kinds.Text
+kind_is (kinds.Int level) alike = absurd alike
+kind_is kinds.Text alike = refl
+
+-- what is kept of places below a bound is below it
+pub kept_within : (f : ℕ → Bool) (n : ℕ) (A B : List ℕ) → B ≡ filter f A → All (λ i. i < n) A → All (λ i. i < n) B
+kept_within f n A B is below = subst (All (λ i. i < n)) (sym is) (All-filter f (λ i. i < n) A below)
+
+upto_on : (k m : ℕ) → upto m ++ range_with_len m k ≡ upto (m + k)
+upto_on zero m = let e : m ≡ m + 0 = omega arith in append-nil (upto m) ∙ ap upto e
+upto_on (suc k) m = let e : (m + 1) + k ≡ m + suc k = omega arith in sym (append_assoc (upto m) (m ∷ []) (range_with_len (m + 1) k)) ∙ ap (λ z. z ++ range_with_len (m + 1) k) (sym (upto_more m)) ∙ upto_on k (m + 1) ∙ ap upto e
+
+-- what is kept of the places from one up to another stands behind what is kept of those below the first
+pub kept_behind : (f : ℕ → Bool) (m n : ℕ) (A : List ℕ) → m ≤ n → A ≡ filter f (range_with_len m (n - m)) → places f m ++ A ≡ places f n
+kept_behind f m n A le is = let e : m + (n - m) ≡ n = omega arith in ap (λ z. places f m ++ z) is ∙ sym (filter-append f (upto m) (range_with_len m (n - m))) ∙ ap (filter f) (upto_on (n - m) m ∙ ap upto e)
+
+pub range_within : (m n k : ℕ) → n ≤ k → All (λ i. i < k) (range_with_len m (n - m))
+range_within m n k le = All-from_get_or (λ i. i < k) (range_with_len m (n - m)) 0 (λ i low.
+    let below : i < n - m = omega (arith, low, length-range_with_len m (n - m)) in
+    omega (arith, get_or-range_with_len m (n - m) i 0 below, below))

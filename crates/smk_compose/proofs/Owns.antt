@@ -1,12 +1,17 @@
 -- Maps composed with an identity.
-use Rattle.std.proofs.Common.{◌≡◌, ◌∙◌, ℕ, List, [], ◌∷◌, length, map, get_or, nat_eq, refl, sym, ap, subst, All}
+use Rattle.std.proofs.Common.{◌≡◌, ◌∙◌, ℕ, Bool, true, false, cond, List, [], ◌∷◌, length, map, get_or, nat_eq, nat_lt, Option, Some, None, IfSome, refl, sym, ap, subst, All, arith, inl, inr}
+use Rattle.std.proofs.lemmas.Bool.{cases_Bool}
 use Rattle.std.specs.List.{list_any}
 use Rattle.std.proofs.lemmas.List.Elements.{All-get_or}
-use Rattle.smk_base.specs.Places.{Lists, IsPlaces, upto, has, list_at, own_lists, members_at, composed}
+use Rattle.std.proofs.lemmas.List.{length-map}
+use Rattle.smk_base.specs.Places.{Lists, IsPlaces, upto, has, list_at, own_lists, pairs_of, members_at, composed}
 use Rattle.smk_rid.specs.Maps.{IsMap}
 use Rattle.smk_rid.proofs.Sets.{is_below}
-use Rattle.smk_base.proofs.Places.{map_map, map_upto, map_upto_agree, same_below, get_or_map_upto}
+use Rattle.smk_base.proofs.Places.{length_upto, map_map, map_upto, map_upto_agree, same_below, get_or_map_upto}
 use Rattle.smk_model.proofs.Anys.{any_below, or_false}
+use Rattle.smk_body.specs.Locals.{wanted}
+use Rattle.smk_model.specs.NodeFaults.{pair_limit}
+use Rattle.smk_compose.specs.Through.{chained, is_heavy, Chains}
 use Rattle.smk_compose.proofs.Wants.{map_agree, lists_same}
 
 -- the places that a set reaches through an identity are the set
@@ -39,3 +44,28 @@ own_composed a b is own bound =
     same_below (λ r. list_any (λ k. has (list_at b k) r) (i ∷ [])) (has (list_at b i)) b.bound (λ r l. or_false (has (list_at b i) r))
     ∙ All-get_or (IsPlaces b.bound) b.lists i [] low is.sets)
     ∙ map_upto b.lists []) refl
+
+own_long : (n : ℕ) → length (own_lists n).lists ≡ n
+own_long n = length-map (upto n) (λ (i : ℕ). i ∷ []) ∙ length_upto n
+
+-- what is composed with a scan's own lists, where they are wanted, from either side
+
+pub own_back : (w : Bool) (S : Option Lists) (n : ℕ) → IfSome S IsMap → Chains S (wanted w (own_lists n)) → chained S (wanted w (own_lists n)) ≡ cond w S None
+own_back false None n is c = refl
+own_back false (Some a) n is c = refl
+own_back true None n is c = refl
+own_back true (Some a) n is c = ap Some (composed_own a (own_lists n) is (sym (ap own_lists (own_long n))) c)
+
+pub own_fwd : (w : Bool) (S : Option Lists) (n : ℕ) → IfSome S IsMap → Chains (wanted w (own_lists n)) S → chained (wanted w (own_lists n)) S ≡ cond w S None
+own_fwd false None n is c = refl
+own_fwd false (Some b) n is c = refl
+own_fwd true None n is c = refl
+own_fwd true (Some b) n is c = ap Some (own_composed (own_lists n) b is (sym (ap own_lists (own_long n))) c)
+
+pub own_light : (w : Bool) (S : Option Lists) → IfSome S IsMap → is_heavy (cond w S None) ≡ false
+own_light false S is = refl
+own_light true None is = refl
+own_light true (Some a) is = elim (cases_Bool (nat_lt pair_limit (pairs_of a.lists))) [
+  | inl h ↦ absurd (grind (arith, h, is.few))
+  | inr h ↦ h
+]

@@ -31,7 +31,7 @@ use Rattle.smk_compose.specs.Walk.{AreDirected, WholeWhereNeeded, IsWalked, IsWi
 use Rattle.smk_compose.specs.declared.fault.RunFault.{RunFault}
 use Rattle.smk_compose.specs.declared.fault.RunFault.TheVariants.{NoMemory, Rows, Pairs}
 use Rattle.smk_compose.specs.declared.kept_maps.KeptMap.{KeptMap}
-use Rattle.smk_compose.specs.declared.kept_maps.Run.{Run}
+use Rattle.smk_compose.specs.declared.passing.Walked.{Walked}
 use Rattle.smk_compose.proofs.Bridge.{whole_left, whole_right, rows_same, fault_same}
 use Rattle.smk_compose.proofs.Finds.{pairs_none}
 use Rattle.smk_compose.proofs.Lists.{rows_behind, kinds_behind}
@@ -56,7 +56,7 @@ leaf_none table E tables need node leaf all whole rows few held =
     ∙ few_fault node (eval (Leaf table) E) (map (held_at (Leaf table) tables) need) (subst (λ (l : List Row). length l ≤ 1048576) rows few)
     ∙ pairs_none node (map (held_at (Leaf table) tables) need) (subst (λ (l : List KeptMap). find has_heavy l ≡ None) held (light_scan table (length leaf) need few))
 
-pub leaf_walked : (plan : Expr) (cols : List ℕ) (table : ℕ) (L rest : List Relation) (tables : List (List Row)) (need : List Needed) (node : ℕ) (leaf : Relation) (made : Run) → plan ≡ Leaf table
+pub leaf_walked : (plan : Expr) (cols : List ℕ) (table : ℕ) (L rest : List Relation) (tables : List (List Row)) (need : List Needed) (node : ℕ) (leaf : Relation) (made : Walked) → plan ≡ Leaf table
     → AreDirected need → WholeWhereNeeded plan (each_rows L) tables need → L ≡ leaf ∷ rest → made.rel ≡ record { kinds = map (kind_in leaf.kinds) cols; rows = map (picked cols) leaf.rows } → length leaf.rows ≤ 1048576 → made.kept ≡ map (scan_at table (length leaf.rows)) need
     → IsWalked plan cols L tables need node made
 leaf_walked plan cols table L rest tables need node leaf made e all whole is rel few kept =
@@ -78,7 +78,7 @@ node_long node R S maps long = ap (λ n. cond (nat_lt row_limit n) (Some (FullRo
 -- a step with one input
 
 -- a step over the columns that it reads, and what is walked of its input
-pub record IsOne (plan : Expr) (op : Unary) (input : Expr) (cols : List ℕ) (L : List Relation) (tables : List (List Row)) (need : List Needed) (n m : ℕ) (step : NarrowedOne) (below : Run) : Type 0 where
+pub record IsOne (plan : Expr) (op : Unary) (input : Expr) (cols : List ℕ) (L : List Relation) (tables : List (List Row)) (need : List Needed) (n m : ℕ) (step : NarrowedOne) (below : Walked) : Type 0 where
   pub is : plan ≡ Apply op input
   pub directed : AreDirected need
   pub whole : WholeWhereNeeded input (each_rows L) tables need
@@ -86,7 +86,7 @@ pub record IsOne (plan : Expr) (op : Unary) (input : Expr) (cols : List ℕ) (L 
   pub counted : m ≡ n + nodes input
   pub narrows : Narrows1 op (unary_of step.op) (plan_kinds input (each_kinds L)) below.rel.kinds (eval input (each_rows L)) below.rel.rows step.after cols
 
-pub is_one : {plan : Expr} {op : Unary} {input : Expr} {cols : List ℕ} {L : List Relation} {tables : List (List Row)} {need : List Needed} {n m w : ℕ} {step : NarrowedOne} {read : List ℕ} {below : Run} → plan ≡ Apply op input
+pub is_one : {plan : Expr} {op : Unary} {input : Expr} {cols : List ℕ} {L : List Relation} {tables : List (List Row)} {need : List Needed} {n m w : ℕ} {step : NarrowedOne} {read : List ℕ} {below : Walked} → plan ≡ Apply op input
     → AreDirected need → WholeWhereNeeded plan (each_rows L) tables need → PlanFits plan (each_kinds L) → All (λ c. c < length (plan_kinds plan (each_kinds L))) cols → IsWidth input (each_kinds L) (each_rows L) w
     → unary_of step.op ≡ among1 op step.read → step.read ≡ wanted.below op cols w → step.after ≡ after1 op step.read cols → read ≡ step.read → IsWalked input read L tables need n below → m ≡ n + nodes input
     → IsOne plan op input cols L tables need n m step below
@@ -105,7 +105,7 @@ is_one {plan} {op} {input} {cols} {L} {tables} {need} {n} {m} {w} {step} {read} 
       narrows = rw (walked.kinds, walked.rows, made, after, those) (one_narrows op ks (eval input (each_rows L)) cols fit.1 low);
     }
 
-module _ {plan : Expr} {op : Unary} {input : Expr} {cols : List ℕ} {L : List Relation} {tables : List (List Row)} {need : List Needed} {n m : ℕ} {step : NarrowedOne} {below : Run} (one : IsOne plan op input cols L tables need n m step below) where
+module _ {plan : Expr} {op : Unary} {input : Expr} {cols : List ℕ} {L : List Relation} {tables : List (List Row)} {need : List Needed} {n m : ℕ} {step : NarrowedOne} {below : Walked} (one : IsOne plan op input cols L tables need n m step below) where
   one_rows : RowsWhereNeeded input tables need (eval input (each_rows L))
   one_rows some = rows_same input (each_rows L) tables (one.whole some)
 
@@ -126,7 +126,7 @@ module _ {plan : Expr} {op : Unary} {input : Expr} {cols : List ℕ} {L : List R
       ∙ ap (λ (o : Option NodeFault). option_or o (last_node_fault (Apply op input) (each_rows L) (asked_of tables need) (n + nodes input))) (sym one.walked.none)
       ∙ ap (λ (p : Expr). first_fault_from p (each_rows L) (asked_of tables need) n) (sym one.is)
 
-  pub one_walked : (r : Result Run RunFault) → IfOk r (λ made. made.rel.rows ≡ map (picked step.after) (step1 (unary_of step.op) below.rel.rows)) → IfOk r (λ made. made.rel.kinds ≡ map (kind_in (kinds1 (unary_of step.op) below.rel.kinds)) step.after)
+  pub one_walked : (r : Result Walked RunFault) → IfOk r (λ made. made.rel.rows ≡ map (picked step.after) (step1 (unary_of step.op) below.rel.rows)) → IfOk r (λ made. made.rel.kinds ≡ map (kind_in (kinds1 (unary_of step.op) below.rel.kinds)) step.after)
       → IfOk r (λ made. made.kept ≡ map (through (side1 (unary_of step.op) below.rel.rows)) below.kept)
       → OnOk r (node_fault m (step1 (unary_of step.op) below.rel.rows) (map (through (side1 (unary_of step.op) below.rel.rows)) below.kept) ≡ None)
       → IfOk r (IsWalked plan cols L tables need n)
@@ -138,7 +138,7 @@ module _ {plan : Expr} {op : Unary} {input : Expr} {cols : List ℕ} {L : List R
     none = sym one_node ∙ none;
   }
 
-  pub one_fault : (r : Result Run RunFault) → IfErr r (λ e. IsFirst e (node_fault m (step1 (unary_of step.op) below.rel.rows) (map (through (side1 (unary_of step.op) below.rel.rows)) below.kept)))
+  pub one_fault : (r : Result Walked RunFault) → IfErr r (λ e. IsFirst e (node_fault m (step1 (unary_of step.op) below.rel.rows) (map (through (side1 (unary_of step.op) below.rel.rows)) below.kept)))
       → IfErr r (λ e. IsFirst e (first_fault_from plan (each_rows L) (asked_of tables need) n))
   one_fault r fault = subst (λ (f : Option NodeFault). IfErr r (λ e. IsFirst e f)) one_node fault
 
@@ -168,7 +168,7 @@ combine_same op e f = rw (e, f) refl
 -- a step with two inputs, of which the right one is over the leaves behind those of the left one
 
 -- a step over the columns that it reads, and what is walked of its inputs
-pub record IsTwo (plan : Expr) (op : Binary) (a b : Expr) (cols : List ℕ) (L M : List Relation) (tables : List (List Row)) (need : List Needed) (n m k : ℕ) (step : NarrowedTwo) (l r : Run) : Type 0 where
+pub record IsTwo (plan : Expr) (op : Binary) (a b : Expr) (cols : List ℕ) (L M : List Relation) (tables : List (List Row)) (need : List Needed) (n m k : ℕ) (step : NarrowedTwo) (l r : Walked) : Type 0 where
   pub is : plan ≡ Combine op a b
   pub directed : AreDirected need
   pub whole : WholeWhereNeeded (Combine op a b) (each_rows L) tables need
@@ -179,7 +179,7 @@ pub record IsTwo (plan : Expr) (op : Binary) (a b : Expr) (cols : List ℕ) (L M
   pub right : IsWalked b step.right M tables need m r
   pub narrows : Narrows2 op (binary_of step.op) (plan_kinds a (each_kinds L)) (plan_kinds b (each_kinds M)) l.rel.kinds r.rel.kinds (eval a (each_rows L)) (eval b (each_rows M)) l.rel.rows r.rel.rows step.after cols
 
-pub is_two : {plan : Expr} {op : Binary} {a b : Expr} {cols : List ℕ} {L M : List Relation} {tables : List (List Row)} {need : List Needed} {n m k w v middle : ℕ} {step : NarrowedTwo} {lefts rights : List ℕ} {l r : Run} → plan ≡ Combine op a b
+pub is_two : {plan : Expr} {op : Binary} {a b : Expr} {cols : List ℕ} {L M : List Relation} {tables : List (List Row)} {need : List Needed} {n m k w v middle : ℕ} {step : NarrowedTwo} {lefts rights : List ℕ} {l r : Walked} → plan ≡ Combine op a b
     → AreDirected need → WholeWhereNeeded plan (each_rows L) tables need → PlanFits plan (each_kinds L) → All (λ c. c < length (plan_kinds plan (each_kinds L))) cols
     → IsWidth a (each_kinds L) (each_rows L) w → middle ≡ width a → IsWidth b (drop middle (each_kinds L)) (drop middle (each_rows L)) v
     → binary_of step.op ≡ among2 op w step.left step.right → step.left ≡ below_left op cols w → step.right ≡ below_right op cols w v → step.after ≡ after2 op w step.left step.right cols
@@ -213,7 +213,7 @@ is_two {plan} {op} {a} {b} {cols} {L} {M} {tables} {need} {n} {m} {k} {w} {v} {m
     }
 
 -- the first fault behind that of the left input, which has none
-pub fault_right : (op : Binary) (a b : Expr) (cols : List ℕ) (L M : List Relation) (tables : List (List Row)) (need : List Needed) (n m : ℕ) (l : Run) → M ≡ drop (width a) L → m ≡ n + nodes a → IsWalked a cols L tables need n l
+pub fault_right : (op : Binary) (a b : Expr) (cols : List ℕ) (L M : List Relation) (tables : List (List Row)) (need : List Needed) (n m : ℕ) (l : Walked) → M ≡ drop (width a) L → m ≡ n + nodes a → IsWalked a cols L tables need n l
     → first_fault_from (Combine op a b) (each_rows L) (asked_of tables need) n ≡ option_or (first_fault_from b (each_rows M) (asked_of tables need) m) (last_node_fault (Combine op a b) (each_rows L) (asked_of tables need) (n + nodes a + nodes b))
 fault_right op a b cols L M tables need n m l rest counted is =
     let A = asked_of tables need in
@@ -222,7 +222,7 @@ fault_right op a b cols L M tables need n m l rest counted is =
     ∙ ap (λ (F : List (List Row)). option_or (first_fault_from b F A (n + nodes a)) last) (rows_right a L M rest)
     ∙ ap (λ k. option_or (first_fault_from b (each_rows M) A k) last) (sym counted)
 
-module _ {plan : Expr} {op : Binary} {a b : Expr} {cols : List ℕ} {L M : List Relation} {tables : List (List Row)} {need : List Needed} {n m k : ℕ} {step : NarrowedTwo} {l r : Run} (two : IsTwo plan op a b cols L M tables need n m k step l r) where
+module _ {plan : Expr} {op : Binary} {a b : Expr} {cols : List ℕ} {L M : List Relation} {tables : List (List Row)} {need : List Needed} {n m k : ℕ} {step : NarrowedTwo} {l r : Walked} (two : IsTwo plan op a b cols L M tables need n m k step l r) where
   left_rows : RowsWhereNeeded a tables need (eval a (each_rows L))
   left_rows some = rows_same a (each_rows L) tables (whole_left op a b (each_rows L) tables (two.whole some))
 
@@ -260,7 +260,7 @@ module _ {plan : Expr} {op : Binary} {a b : Expr} {cols : List ℕ} {L M : List 
       ∙ sym (fault_right op a b step.left L M tables need n m l two.rest two.counted two.left)
       ∙ ap (λ (p : Expr). first_fault_from p (each_rows L) (asked_of tables need) n) (sym two.is)
 
-  pub two_walked : (w : Result Run RunFault) → IfOk w (λ made. made.rel.rows ≡ map (picked step.after) (step2 (binary_of step.op) l.rel.rows r.rel.rows))
+  pub two_walked : (w : Result Walked RunFault) → IfOk w (λ made. made.rel.rows ≡ map (picked step.after) (step2 (binary_of step.op) l.rel.rows r.rel.rows))
       → IfOk w (λ made. made.rel.kinds ≡ map (kind_in (kinds2 (binary_of step.op) l.rel.kinds r.rel.kinds)) step.after)
       → IfOk w (λ made. made.kept ≡ together_all (side_left (binary_of step.op) l.rel.rows r.rel.rows) (side_right (binary_of step.op) l.rel.rows r.rel.rows) l.kept r.kept)
       → OnOk w (node_fault k (step2 (binary_of step.op) l.rel.rows r.rel.rows) (together_all (side_left (binary_of step.op) l.rel.rows r.rel.rows) (side_right (binary_of step.op) l.rel.rows r.rel.rows) l.kept r.kept) ≡ None)
@@ -274,7 +274,7 @@ module _ {plan : Expr} {op : Binary} {a b : Expr} {cols : List ℕ} {L M : List 
     none = sym two_node ∙ none;
   }
 
-  pub two_fault : (w : Result Run RunFault)
+  pub two_fault : (w : Result Walked RunFault)
       → IfErr w (λ e. IsFirst e (node_fault k (step2 (binary_of step.op) l.rel.rows r.rel.rows) (together_all (side_left (binary_of step.op) l.rel.rows r.rel.rows) (side_right (binary_of step.op) l.rel.rows r.rel.rows) l.kept r.kept)))
       → IfErr w (λ e. IsFirst e (first_fault_from plan (each_rows L) (asked_of tables need) n))
   two_fault w fault = subst (λ (f : Option NodeFault). IfErr w (λ e. IsFirst e f)) two_node fault
@@ -291,12 +291,12 @@ first_of_right NoMemory None last first = tt
 pub all_within : (w n : ℕ) (cols : List ℕ) → cols ≡ upto w → w ≡ n → All (λ c. c < n) cols
 all_within w n cols all count = subst (λ (c : List ℕ). All (λ i. i < n) c) (sym (all ∙ ap upto count)) (upto_below n)
 
-pub all_rows : (plan : Expr) (cols : List ℕ) (L : List Relation) (tables : List (List Row)) (need : List Needed) (w : ℕ) (r : Result Run RunFault) → cols ≡ upto w → IsWidth plan (each_kinds L) (each_rows L) w → IfOk r (IsWalked plan cols L tables need 0)
+pub all_rows : (plan : Expr) (cols : List ℕ) (L : List Relation) (tables : List (List Row)) (need : List Needed) (w : ℕ) (r : Result Walked RunFault) → cols ≡ upto w → IsWidth plan (each_kinds L) (each_rows L) w → IfOk r (IsWalked plan cols L tables need 0)
     → IfOk r (λ run. run.rel.rows ≡ eval plan (each_rows L))
 all_rows plan cols L tables need w (Err e) all wide is = tt
 all_rows plan cols L tables need w (Ok run) all wide is = is.rows ∙ ap (λ (c : List ℕ). map (picked c) (eval plan (each_rows L))) all ∙ bulk.whole w (eval plan (each_rows L)) wide.wide
 
-pub all_kinds : (plan : Expr) (cols : List ℕ) (L : List Relation) (tables : List (List Row)) (need : List Needed) (w : ℕ) (r : Result Run RunFault) → cols ≡ upto w → IsWidth plan (each_kinds L) (each_rows L) w → IfOk r (IsWalked plan cols L tables need 0)
+pub all_kinds : (plan : Expr) (cols : List ℕ) (L : List Relation) (tables : List (List Row)) (need : List Needed) (w : ℕ) (r : Result Walked RunFault) → cols ≡ upto w → IsWidth plan (each_kinds L) (each_rows L) w → IfOk r (IsWalked plan cols L tables need 0)
     → IfOk r (λ run. run.rel.kinds ≡ plan_kinds plan (each_kinds L))
 all_kinds plan cols L tables need w (Err e) all wide is = tt
 all_kinds plan cols L tables need w (Ok run) all wide is =

@@ -2,3 +2,4 @@ pub mod Fetched
 pub mod Walk
 pub mod KeptMaps
 pub mod Through
+pub mod Passing

@@ -12,7 +12,7 @@ use Rattle.smk_model.specs.Selection.{each_kinds, each_rows, plan_kinds}
 use Rattle.smk_model.specs.NodeFaults.{asked_of, first_fault_from}
 use Rattle.smk_table.specs.Wanted.{AreWide}
 use Rattle.smk_compose.specs.KeptMaps.{held_at}
-use Rattle.smk_compose.specs.declared.kept_maps.Run.{Run}
+use Rattle.smk_compose.specs.declared.passing.Walked.{Walked}
 
 -- each is needed in some direction
 abbrev pub AreDirected : List Needed → Type 0
@@ -27,7 +27,7 @@ abbrev pub WholeWhereNeeded : Expr → List (List Row) → List (List Row) → L
 WholeWhereNeeded plan E tables need = 0 < length need → AreWhole plan E tables
 
 -- whether these are columns of the plan over the first of these leaves, with the needed lineage to the tables that it scans, and none of its nodes, which are numbered from a number on, is too big
-pub record IsWalked (plan : Expr) (cols : List ℕ) (over : List Relation) (tables : List (List Row)) (need : List Needed) (number : ℕ) (run : Run) : Type 0 where
+pub record IsWalked (plan : Expr) (cols : List ℕ) (over : List Relation) (tables : List (List Row)) (need : List Needed) (number : ℕ) (run : Walked) : Type 0 where
   pub rows : run.rel.rows ≡ map (picked cols) (eval plan (each_rows over))
   pub kinds : run.rel.kinds ≡ map (kind_in (plan_kinds plan (each_kinds over))) cols
   pub kept : run.kept ≡ map (held_at plan tables) need

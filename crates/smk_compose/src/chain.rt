@@ -1,7 +1,8 @@
 //! One map of a table through a step: composed with the step's own list, and merged with that of the other input.
 
-ghost use Rattle.std.specs.Prelude.{◌≡◌, ◌<◌, ◌≤◌, true, false, length, Some, IfOk, IfErr, OnOk, IsTrue};
+ghost use Rattle.std.specs.Prelude.{◌≡◌, ◌<◌, ◌≤◌, true, false, cond, length, Some, None, IfOk, IfErr, IfSome, OnOk, IsTrue};
 ghost use Rattle.smk_base.specs.Places.{pairs_of, composed};
+ghost use Rattle.smk_rid.specs.Maps.{IsMap};
 ghost use Rattle.smk_compose.specs.Through.{chained, chain_of, merged_if_both, is_heavy, Chains, CanMerge};
 ghost use Rattle.smk_rid.specs.declared.fault.RidFault.TheVariants.{Pairs};
 ghost use Rattle.smk_rid.specs.declared.map.TheConstants.{PAIR_LIMIT};
@@ -102,6 +103,28 @@ pub(crate) fn put(map: &mut Option<RidMap>, made: Option<RidMap>)
     ensures { map.new ≡ made }
 {
     *map = made;
+}
+
+/// The step's own list, where the map of a scan is wanted: each row has itself alone, so composed they are that list.
+pub(crate) fn lent_if(
+    alloc: Global,
+    is_wanted: bool,
+    step: &mut Option<RidMap>,
+    serves_later: bool,
+) -> Result<Option<RidMap>, RidFault>
+    ensures given { IfOk result (λ given. given ≡ cond is_wanted step.old None) }
+    ensures maps { IfSome step.old IsMap }
+    ensures memory { IfErr result (λ e. e ≡ Pairs → ⊥) }
+    ensures kept { IsTrue serves_later → step.new ≡ step.old }
+{
+    if let Some(lists) = step {
+        let _pairs = lists.pairs();
+    }
+    if is_wanted {
+        lent(alloc, step, serves_later)
+    } else {
+        Ok(None)
+    }
 }
 
 // A map, or a copy where it serves once more.

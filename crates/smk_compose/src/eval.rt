@@ -5,8 +5,8 @@ ghost use Rattle.smk_model.specs.Selection.{each_rows, each_kinds, plan_kinds, P
 ghost use Rattle.smk_compose.specs.declared.fault.EvalFault.TheVariants.{Rows};
 
 use crate::fault::{EvalFault, RunFault};
-use crate::kept_maps::Run;
 use crate::leaves::Leaves;
+use crate::passing::Walked;
 use crate::walk::{Traced, walk_all};
 use smk_base::{Plan, Rel};
 use smk_body::OpBody;
@@ -41,7 +41,7 @@ pub fn eval_leaves<R: Threads + Sync, B: OpBody + Sync>(
         need: &[],
     };
     match walk_all(&work, plan, &traced, leaves) {
-        Ok(Run { rel, kept }) => {
+        Ok(Walked { rel, kept }) => {
             drop(kept);
             Ok(rel)
         }

@@ -1,4 +1,4 @@
-ghost use Rattle.std.specs.Prelude.{◌≡◌, ◌<◌, ℕ, length, slice_index_or, OnOk};
+ghost use Rattle.std.specs.Prelude.{◌≡◌, ◌<◌, ℕ, length, slice_index_or, IfOk, OnOk};
 ghost use Rattle.smk_model.specs.Selection.{each_rows};
 ghost use Rattle.smk_model.specs.Composed.{table_at};
 ghost use Rattle.smk_compose.specs.KeptMaps.{NeedFits};
@@ -6,30 +6,34 @@ ghost use Rattle.smk_compose.specs.Through.{filled, or_empty, map_at, no_need};
 
 use crate::chain::put;
 use crate::kept_maps::KeptMap;
+use crate::passing::Passing;
 use smk_base::{Dir, Needed};
 use smk_rid::RidMap;
 use smk_table::Table;
 use std::alloc::{AllocError, Global};
 
-/// Puts an empty map for each that is needed and isn't there. Those that are there are narrowed.
+/// The maps as lists, with an empty one for each that is needed and isn't there. Those that are there are narrowed.
 pub(crate) fn fill(
     alloc: Global,
-    maps: &mut [KeptMap],
+    maps: &mut [Passing],
     need: &[Needed],
     rows: u32,
     tables: &[Table],
-) -> Result<(), AllocError>
+) -> Result<Vec<KeptMap>, AllocError>
     requires long { length maps.old ≡ length need.now }
     requires known { NeedFits (length tables.now) need.now }
-    ensures long { OnOk result (length maps.new ≡ length maps.old) }
-    ensures each { OnOk result ((i : ℕ) → i < length need.now → let n = slice_index_or need.now i no_need in map_at maps.new i ≡ filled n.dir rows (length (table_at (each_rows tables.now) n.table)) (map_at maps.old i)) }
+    ensures long { IfOk result (λ made. length made.items ≡ length maps.old) }
+    ensures each { IfOk result (λ made. (i : ℕ) → i < length need.now → let n = slice_index_or need.now i no_need in map_at made.items i ≡ filled n.dir rows (length (table_at (each_rows tables.now) n.table)) (map_at maps.old i)) }
 {
+    let mut made = Vec::with_capacity(alloc, need.len())?;
     for i in 0..need.len() {
         let n = need[i];
         let size = tables[n.table as usize].len();
-        fill_one(alloc, &mut maps[i], n.dir, rows, size)?;
+        let mut lists = maps[i].take(alloc)?;
+        fill_one(alloc, &mut lists, n.dir, rows, size)?;
+        made.push(lists)?;
     }
-    Ok(())
+    Ok(made)
 }
 
 // Puts an empty map where one is needed and isn't there.

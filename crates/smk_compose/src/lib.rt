@@ -9,9 +9,9 @@ mod fill;
 mod kept_maps;
 mod leaves;
 mod pass;
+mod passing;
 mod rows;
 mod run;
-mod scan;
 mod step;
 mod walk;
 

@@ -5,16 +5,17 @@ ghost use Rattle.std.specs.List.{list_any};
 ghost use Rattle.smk_compose.specs.Through.{through, together, together_all, merged_maps, has_heavy, has_back, has_fwd, want_of, map_at, Passes, Matches, Meets, Serves, pairs_fault, IsFirst};
 ghost use Rattle.smk_rid.specs.declared.fault.RidFault.TheVariants.{Pairs};
 
-use crate::chain::{merge_if_both, pass_back, pass_fwd};
+use crate::chain::{lent_if, merge_if_both, pass_back, pass_fwd};
 use crate::fault::RunFault;
 use crate::kept_maps::KeptMap;
+use crate::passing::{Form, Passing};
 use smk_base::Dir;
 use smk_body::Side;
 use smk_rid::RidFault;
 use std::alloc::Global;
 
 /// The directions in which there is a map.
-pub(crate) fn wants(maps: &[KeptMap]) -> Dir
+pub(crate) fn wants(maps: &[Passing]) -> Dir
     ensures { result ≡ want_of maps.now }
 {
     Dir {
@@ -23,20 +24,21 @@ pub(crate) fn wants(maps: &[KeptMap]) -> Dir
     }
 }
 
-fn has_backs(maps: &[KeptMap]) -> bool
+fn has_backs(maps: &[Passing]) -> bool
     ensures { result ≡ list_any has_back maps.now }
 {
-    maps.iter().any(|k| k.back.is_some())
+    maps.iter().any(|k| k.dir().back)
 }
 
-fn has_fwds(maps: &[KeptMap]) -> bool
+fn has_fwds(maps: &[Passing]) -> bool
     ensures { result ≡ list_any has_fwd maps.now }
 {
-    maps.iter().any(|k| k.fwd.is_some())
+    maps.iter().any(|k| k.dir().fwd)
 }
 
 // The map of one table through a step. The lists of the step stay in the directions in which they serve a later table.
-fn pass(alloc: Global, side: &mut Side, map: &mut KeptMap, later: Dir) -> Result<(), RidFault>
+#[tactic(auto, using(crate::proofs::Owns::own_back, crate::proofs::Owns::own_fwd, crate::proofs::Owns::own_light))]
+fn pass(alloc: Global, side: &mut Side, map: &mut Passing, later: Dir) -> Result<(), RidFault>
     requires { Passes side.old map.old }
     ensures made { OnOk result (map.new ≡ through side.old map.old) }
     ensures few { OnOk result (has_heavy (through side.old map.old) ≡ false) }
@@ -44,12 +46,24 @@ fn pass(alloc: Global, side: &mut Side, map: &mut KeptMap, later: Dir) -> Result
     ensures back { later.back ≡ true → side.new.back ≡ side.old.back }
     ensures fwd { later.fwd ≡ true → side.new.fwd ≡ side.old.fwd }
 {
-    pass_back(alloc, &mut side.back, &mut map.back, later.back)?;
-    pass_fwd(alloc, &mut map.fwd, &mut side.fwd, later.fwd)
+    match &mut map.form {
+        Form::Own { table, dir, .. } => {
+            let table = *table;
+            let dir = *dir;
+            let back = lent_if(alloc, dir.back, &mut side.back, later.back)?;
+            let fwd = lent_if(alloc, dir.fwd, &mut side.fwd, later.fwd)?;
+            map.form = Form::Lists(KeptMap { table, back, fwd });
+            Ok(())
+        }
+        Form::Lists(maps) => {
+            pass_back(alloc, &mut side.back, &mut maps.back, later.back)?;
+            pass_fwd(alloc, &mut maps.fwd, &mut side.fwd, later.fwd)
+        }
+    }
 }
 
 // The i-th of these maps through a step.
-fn pass_at(alloc: Global, side: &mut Side, maps: &mut [KeptMap], i: usize) -> Result<(), RidFault>
+fn pass_at(alloc: Global, side: &mut Side, maps: &mut [Passing], i: usize) -> Result<(), RidFault>
     requires place { i < length maps.old }
     requires passes { Passes side.old (map_at maps.old i) }
     ensures made { OnOk result (maps.new ≡ slice_set maps.old i (through side.old (map_at maps.old i))) }
@@ -66,7 +80,7 @@ fn pass_at(alloc: Global, side: &mut Side, maps: &mut [KeptMap], i: usize) -> Re
 pub(crate) fn pass_all(
     alloc: Global,
     side: &mut Side,
-    maps: &mut [KeptMap],
+    maps: &mut [Passing],
     node: u32,
 ) -> Result<(), RunFault>
     requires { All (Passes side.old) maps.old }
@@ -75,7 +89,7 @@ pub(crate) fn pass_all(
     ensures fault { IfErr result (λ e. IsFirst e (pairs_fault node (map (through side.old) maps.old))) }
 {
     for i in 0..maps.len() {
-        let table = maps[i].table;
+        let table = maps[i].table();
         match pass_at(alloc, side, maps, i) {
             Ok(()) => {}
             Err(RidFault::Pairs) => return Err(RunFault::Pairs { node, table }),
@@ -86,14 +100,18 @@ pub(crate) fn pass_all(
 }
 
 // The maps of one table by both inputs, merged into the left one.
-fn merge_maps(alloc: Global, left: &mut KeptMap, right: &mut KeptMap) -> Result<(), RidFault>
+fn merge_maps(alloc: Global, left: &mut Passing, right: &mut Passing) -> Result<(), RidFault>
     requires { Matches left.old right.old }
     ensures made { OnOk result (left.new ≡ merged_maps left.old right.old) }
     ensures few { OnOk result (has_heavy (merged_maps left.old right.old) ≡ false) }
     ensures many { IfErr result (λ e. e ≡ Pairs → has_heavy (merged_maps left.old right.old) ≡ true) }
 {
-    merge_if_both(alloc, &mut left.back, &mut right.back)?;
-    merge_if_both(alloc, &mut left.fwd, &mut right.fwd)
+    let mut made = left.take(alloc)?;
+    let mut other = right.take(alloc)?;
+    merge_if_both(alloc, &mut made.back, &mut other.back)?;
+    merge_if_both(alloc, &mut made.fwd, &mut other.fwd)?;
+    left.form = Form::Lists(made);
+    Ok(())
 }
 
 // The i-th of these maps through a step with two inputs, put among the left ones.
@@ -101,8 +119,8 @@ fn meet_at(
     alloc: Global,
     left_side: &mut Side,
     right_side: &mut Side,
-    lefts: &mut [KeptMap],
-    rights: &mut [KeptMap],
+    lefts: &mut [Passing],
+    rights: &mut [Passing],
     i: usize,
 ) -> Result<(), RidFault>
     requires left_place { i < length lefts.old }
@@ -125,8 +143,8 @@ pub(crate) fn meet_all(
     alloc: Global,
     left_side: &mut Side,
     right_side: &mut Side,
-    lefts: &mut [KeptMap],
-    rights: &mut [KeptMap],
+    lefts: &mut [Passing],
+    rights: &mut [Passing],
     node: u32,
 ) -> Result<(), RunFault>
     requires long { length lefts.old ≡ length rights.old }
@@ -136,7 +154,7 @@ pub(crate) fn meet_all(
     ensures fault { IfErr result (λ e. IsFirst e (pairs_fault node (together_all left_side.old right_side.old lefts.old rights.old))) }
 {
     for i in 0..lefts.len() {
-        let table = lefts[i].table;
+        let table = lefts[i].table();
         match meet_at(alloc, left_side, right_side, lefts, rights, i) {
             Ok(()) => {}
             Err(RidFault::Pairs) => return Err(RunFault::Pairs { node, table }),

@@ -12,6 +12,7 @@ use crate::fetch::fetch_leaves;
 use crate::fill::fill;
 use crate::kept_maps::{Kepts, Run};
 use crate::leaves::Leaves;
+use crate::passing::Walked;
 use crate::walk::{Traced, walk_all};
 use smk_base::{Need, Needed, Picks, Plan};
 use smk_body::OpBody;
@@ -87,7 +88,7 @@ pub fn run_leaves<R: Threads + Sync, B: OpBody + Sync>(
 // What a walk has made, in columns that copies share, with an empty map for each that is needed and isn't there.
 fn filled_run(
     alloc: Global,
-    walked: Run,
+    walked: Walked,
     tables: &[Table],
     need: &[Needed],
 ) -> Result<Run, AllocError>
@@ -97,24 +98,13 @@ fn filled_run(
     ensures long { IfOk result (λ run. length run.kept ≡ length walked.kept) }
     ensures each { IfOk result (λ run. (i : ℕ) → i < length need.now → let n = slice_index_or need.now i no_need in map_at run.kept i ≡ filled n.dir (length walked.rel.rows) (length (table_at (each_rows tables.now) n.table)) (map_at walked.kept i)) }
 {
-    let Run { rel, kept } = walked;
+    let Walked { rel, kept } = walked;
     let rows = rel.len();
     let mut maps = kept.into_vec();
-    match fill(alloc, &mut maps, need, rows, tables) {
-        Ok(()) => match rel.shared(alloc) {
-            Ok(rel) => Ok(Run {
-                rel,
-                kept: Kepts::from_vec(maps),
-            }),
-            Err(error) => {
-                drop(maps);
-                Err(error)
-            }
-        },
-        Err(error) => {
-            drop(rel);
-            drop(maps);
-            Err(error)
-        }
-    }
+    let kept = fill(alloc, &mut maps, need, rows, tables)?;
+    let rel = rel.shared(alloc)?;
+    Ok(Run {
+        rel,
+        kept: Kepts::from_vec(kept),
+    })
 }

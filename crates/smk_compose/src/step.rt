@@ -8,8 +8,8 @@ ghost use Rattle.smk_body.specs.Locals.{is_nothing, is_nothing2};
 ghost use Rattle.smk_compose.specs.Through.{through, together_all, side1, side_left, side_right, right_of, want_of, map_at, Passes, Meets, pairs_fault, node_fault, IsFirst};
 
 use crate::fault::RunFault;
-use crate::kept_maps::{KeptMap, Run};
 use crate::pass::{meet_all, pass_all, wants};
+use crate::passing::{Passing, Walked};
 use smk_body::{OpBody, OpFault, Want};
 use smk_jobs::Work;
 use smk_table::{NarrowedOne, NarrowedTwo};
@@ -19,9 +19,9 @@ use std::thread::Threads;
 pub(crate) fn run_one<R: Threads + Sync, B: OpBody + Sync>(
     work: &Work<'_, R, B>,
     step: &NarrowedOne,
-    below: Run,
+    below: Walked,
     node: u32,
-) -> Result<Run, RunFault>
+) -> Result<Walked, RunFault>
     requires fits { Fits1 (unary_of step.now.op) below.rel.kinds }
     requires captured { IsTrue (B.may_capture work.now.crew.now || is_nothing (want_of below.kept)) }
     requires passes { All (Passes (side1 (unary_of step.now.op) below.rel.rows)) below.kept }
@@ -33,14 +33,14 @@ pub(crate) fn run_one<R: Threads + Sync, B: OpBody + Sync>(
     ensures none { OnOk result (node_fault node (step1 (unary_of step.now.op) below.rel.rows) (map (through (side1 (unary_of step.now.op) below.rel.rows)) below.kept) ≡ None) }
     ensures fault { IfErr result (λ e. IsFirst e (node_fault node (step1 (unary_of step.now.op) below.rel.rows) (map (through (side1 (unary_of step.now.op) below.rel.rows)) below.kept))) }
 {
-    let Run { rel: input, kept } = below;
+    let Walked { rel: input, kept } = below;
     let _rows = input.len();
     let want = wants(kept.as_slice());
     match work.crew.apply1(work.rt, work.alloc, &step.op, input, want) {
         Ok((rel, pending)) => {
             let mut maps = kept.into_vec();
             match finish_one(work, pending, &mut maps, node) {
-                Ok(()) => Ok(Run::at_columns(work.alloc, rel, step.after.as_slice(), maps)?),
+                Ok(()) => Ok(Walked::at_columns(work.alloc, rel, step.after.as_slice(), maps)?),
                 Err(fault) => {
                     drop(rel);
                     drop(maps);
@@ -59,7 +59,7 @@ pub(crate) fn run_one<R: Threads + Sync, B: OpBody + Sync>(
 fn finish_one<R: Threads + Sync, B: OpBody + Sync>(
     work: &Work<'_, R, B>,
     pending: B::Pending,
-    maps: &mut [KeptMap],
+    maps: &mut [Passing],
     node: u32,
 ) -> Result<(), RunFault>
     requires { All (Passes (B.meaning work.now.crew.now pending).left) maps.old }
@@ -80,10 +80,10 @@ fn finish_one<R: Threads + Sync, B: OpBody + Sync>(
 pub(crate) fn run_two<R: Threads + Sync, B: OpBody + Sync>(
     work: &Work<'_, R, B>,
     step: &NarrowedTwo,
-    left: Run,
-    right: Run,
+    left: Walked,
+    right: Walked,
     node: u32,
-) -> Result<Run, RunFault>
+) -> Result<Walked, RunFault>
     requires fits { Fits2 (binary_of step.now.op) left.rel.kinds right.rel.kinds }
     requires captured { IsTrue (B.may_capture work.now.crew.now || is_nothing2 (record { left = want_of left.kept; right = want_of right.kept })) }
     requires long { length left.kept ≡ length right.kept }
@@ -96,11 +96,11 @@ pub(crate) fn run_two<R: Threads + Sync, B: OpBody + Sync>(
     ensures none { OnOk result (node_fault node (step2 (binary_of step.now.op) left.rel.rows right.rel.rows) (together_all (side_left (binary_of step.now.op) left.rel.rows right.rel.rows) (side_right (binary_of step.now.op) left.rel.rows right.rel.rows) left.kept right.kept) ≡ None) }
     ensures fault { IfErr result (λ e. IsFirst e (node_fault node (step2 (binary_of step.now.op) left.rel.rows right.rel.rows) (together_all (side_left (binary_of step.now.op) left.rel.rows right.rel.rows) (side_right (binary_of step.now.op) left.rel.rows right.rel.rows) left.kept right.kept))) }
 {
-    let Run {
+    let Walked {
         rel: left_rel,
         kept: left_kept,
     } = left;
-    let Run {
+    let Walked {
         rel: right_rel,
         kept: right_kept,
     } = right;
@@ -118,7 +118,7 @@ pub(crate) fn run_two<R: Threads + Sync, B: OpBody + Sync>(
             let met = finish_two(work, pending, &mut lefts, &mut rights, node);
             drop(rights);
             match met {
-                Ok(()) => Ok(Run::at_columns(work.alloc, rel, step.after.as_slice(), lefts)?),
+                Ok(()) => Ok(Walked::at_columns(work.alloc, rel, step.after.as_slice(), lefts)?),
                 Err(fault) => {
                     drop(rel);
                     drop(lefts);
@@ -141,8 +141,8 @@ pub(crate) fn run_two<R: Threads + Sync, B: OpBody + Sync>(
 fn finish_two<R: Threads + Sync, B: OpBody + Sync>(
     work: &Work<'_, R, B>,
     pending: B::Pending,
-    lefts: &mut [KeptMap],
-    rights: &mut [KeptMap],
+    lefts: &mut [Passing],
+    rights: &mut [Passing],
     node: u32,
 ) -> Result<(), RunFault>
     requires sides { IsTrue (is_some (B.meaning work.now.crew.now pending).right) }

@@ -10,9 +10,8 @@ ghost use Rattle.smk_compose.specs.Through.{IsFirst, scan_at};
 ghost use Rattle.smk_compose.specs.Walk.{AreDirected, WholeWhereNeeded, IsWalked, IsWidth, width1, width2};
 
 use crate::fault::RunFault;
-use crate::kept_maps::Run;
 use crate::leaves::Leaves;
-use crate::scan::scan_maps;
+use crate::passing::{Walked, scan_maps};
 use crate::step::{run_one, run_two};
 use smk_base::{Needed, Op1, Op2, Plan, numbers_below};
 use smk_body::OpBody;
@@ -34,7 +33,7 @@ pub(crate) fn walk_all<R: Threads + Sync, B: OpBody + Sync>(
     plan: &Plan,
     traced: &Traced<'_>,
     leaves: Leaves,
-) -> Result<Run, RunFault>
+) -> Result<Walked, RunFault>
     requires enough { width (expr_of plan.now) ≤ length leaves }
     requires few_nodes { nodes (expr_of plan.now) < 2 ^ 32 }
     requires fits { PlanFits (expr_of plan.now) (each_kinds leaves) }
@@ -62,7 +61,7 @@ fn walk<R: Threads + Sync, B: OpBody + Sync>(
     traced: &Traced<'_>,
     leaves: &mut Leaves,
     number: &mut u32,
-) -> Result<Run, RunFault>
+) -> Result<Walked, RunFault>
     requires enough { width (expr_of plan.now) ≤ length leaves.old }
     requires few_nodes { number.old + nodes (expr_of plan.now) < 2 ^ 32 }
     requires fits { PlanFits (expr_of plan.now) (each_kinds leaves.old) }
@@ -159,7 +158,7 @@ fn walk_leaf(
     leaf: Chosen,
     cols: &[u32],
     need: &[Needed],
-) -> Result<Run, AllocError>
+) -> Result<Walked, AllocError>
     requires within { All (λ c. c < length leaf.kinds) cols.now }
     requires few { length cols.now ≤ COLUMN_LIMIT }
     ensures rel { IfOk result (λ run. run.rel ≡ record { kinds = map (kind_in leaf.kinds) cols.now; rows = map (picked cols.now) leaf.rows }) }
@@ -168,11 +167,6 @@ fn walk_leaf(
 {
     let leaf = leaf.shared(alloc)?;
     let rel = leaf.columns(alloc, cols)?;
-    match scan_maps(alloc, table, leaf.len(), need) {
-        Ok(kept) => Ok(Run { rel, kept }),
-        Err(error) => {
-            drop(rel);
-            Err(error)
-        }
-    }
+    let kept = scan_maps(alloc, table, leaf.len(), need)?;
+    Ok(Walked { rel, kept })
 }

@@ -4,7 +4,7 @@ use Rattle.std.specs.Cmp.{signed_Decides}
 use Rattle.std.specs.List.{zip, slice_range}
 use Rattle.std.specs.Ordering.{int_eq}
 use Rattle.std.proofs.lemmas.Bool.{cases_lt}
-use Rattle.std.proofs.lemmas.List.{get_or_append_left, get_or-append_right, get_or_default, get_or-map, get_or-replicate, get_or-take, get_or-drop, length-drop, length-take-le, take-map, drop-map, take_all, length-map, length-replicate, map-append, map_push, same_from_push, same_lists}
+use Rattle.std.proofs.lemmas.List.{get_or_append_left, get_or-append_right, get_or_default, get_or-map, get_or-replicate, get_or-take, get_or-drop, length-drop, length-take-le, take-map, drop-map, take_all, take_more, length-map, length-replicate, map-append, map_push, same_from_push, same_lists}
 use Rattle.std.proofs.lemmas.Slice.Eq.{slice_eq-Decides}
 use Rattle.std.proofs.lemmas.Slice.Zip.{length-zip, get_or-zip}
 use Rattle.smk_base.specs.declared.value.Kind.{Kind}
@@ -206,6 +206,14 @@ AreNumbers-texts lks rks ls rs c d count of fit fits h k e f are =
 -- how many items there are from one place up to another
 pub length-range : {X : Type 0} (items : List X) (from to : ℕ) → from ≤ to → to ≤ length items → length (slice_range items from to) ≡ to - from
 length-range items from to order within = length-take-le (to - from) (drop from items) (omega (arith, length-drop from items))
+
+-- those from one place up to another, and one more
+pub range-more : {X : Type 0} (items : List X) (from i : ℕ) (d : X) → from ≤ i → i < length items → slice_range items from i ++ get_or items i d ∷ [] ≡ slice_range items from (i + 1)
+range-more items from i d order within =
+    let e : (i + 1) - from ≡ (i - from) + 1 = omega arith in
+    let at : from + (i - from) ≡ i = omega arith in
+    ap (λ x. slice_range items from i ++ x ∷ []) (sym (get_or-drop from items (i - from) d ∙ ap (λ k. get_or items k d) at)) ∙ sym (take_more (drop from items) (i - from) d (omega (arith, length-drop from items)))
+    ∙ ap (λ k. take k (drop from items)) (sym e)
 
 -- those from the first place up to the end are all
 pub whole-range : {X : Type 0} (items : List X) (n : ℕ) → n ≡ length items → slice_range items 0 n ≡ items

@@ -1,6 +1,7 @@
 -- Lists as the loops over a line's parts and a row's columns go on.
 use Rattle.std.proofs.Common.{◌≡◌, ◌∙◌, ◌<◌, ◌≤◌, ◌+◌, ◌++◌, ◌∷◌, [], ℕ, zero, suc, List, length, map, take, get_or, refl, sym, ap, ap₂, subst, Bor, arith, append-nil, add-one, decimal}
 use Rattle.std.specs.List.{flat_map, AllZip}
+use Rattle.std.proofs.Math.Path.{fun_ext}
 use Rattle.std.proofs.lemmas.List.{take_more, take_all, map-append, flat_map_more, get_or-take, length-take-le}
 use Rattle.std.proofs.lemmas.List.Elements.{All-get_or}
 use Rattle.std.proofs.lemmas.List.Concat.{flat_map-append}
@@ -78,3 +79,9 @@ first_lines number rows n (suc m) h =
 -- the records of a part are those of so many rows
 pub part_lines : (number : ℕ → ℕ) (rows : List Row) (n : ℕ) → n ≤ length rows → row_lines number (take n rows) ≡ row_lines_to number rows n
 part_lines number rows n h = ap (row_lines_to number (take n rows)) (length-take-le n rows h) ∙ first_lines number rows n n (omega arith)
+
+-- the records of all rows are those of so many from the first place on
+pub whole_lines : (number : ℕ → ℕ) (rows : List Row) (n : ℕ) → n ≡ length rows → row_lines_to (λ (k : ℕ). number (0 + k)) rows n ≡ row_lines number rows
+whole_lines number rows n all =
+    let from : (λ (k : ℕ). number (0 + k)) ≡ number = fun_ext (λ k. let zero_first : 0 + k ≡ k = omega arith in ap number zero_first) in
+    ap (λ (f : ℕ → ℕ). row_lines_to f rows n) from ∙ ap (row_lines_to number rows) all

@@ -1,13 +1,16 @@
 -- Pieces of the records of rows.
-use Rattle.std.specs.Prelude.{◌≡◌, ℕ, ◌+◌, ◌*◌, ◌/◌, List, ◌++◌, length, min}
+use Rattle.std.specs.Prelude.{◌≡◌, ℕ, ◌+◌, List, ◌++◌, Option, None, Some, length, slice_index_or}
+use Rattle.std.specs.Borrow.{Bor}
+use Rattle.smk_jobs.specs.Cuts.{cut_at}
 use Rattle.smk_model.specs.Values.{Row}
 use Rattle.smk_model.specs.Texts.{row_lines_to}
 
--- where piece p of so many begins among n rows, which are shared out from the first piece on
-abbrev pub piece_at : ℕ → ℕ → ℕ → ℕ
-piece_at count n p = min (p * (n / count + 1)) n
+-- the number of the record of row i: the rid at its place where rids are given, and else the place
+abbrev pub number_in : Option (Bor (List ℕ)) → ℕ → ℕ
+number_in None i = i
+number_in (Some rids) i = slice_index_or rids.now i 0
 
--- the text has the records of the rows of piece p, with their places: behind those before the piece it makes those before the next
-abbrev pub IsPiece : List Row → ℕ → ℕ → List ℕ → Type 0
-IsPiece rows count p text =
-    row_lines_to (λ i. i) rows (piece_at count (length rows) (p + 1)) ≡ row_lines_to (λ i. i) rows (piece_at count (length rows) p) ++ text
+-- the text has the records of the rows of piece p of so many: behind those before the piece it makes those before the next
+abbrev pub IsPiece : (ℕ → ℕ) → List Row → ℕ → ℕ → List ℕ → Type 0
+IsPiece number rows count p text =
+    row_lines_to number rows (cut_at count (length rows) (p + 1)) ≡ row_lines_to number rows (cut_at count (length rows) p) ++ text

@@ -18,7 +18,7 @@ pub use faults::{fault_text, type_words};
 pub use lines::{add_line_around, line_around, line_of, pair_text};
 pub use lookup::{table_named, view_at, view_named};
 pub use names::shown;
-pub use pieces::view_text_in_pieces;
+pub use pieces::{reply_text_in_pieces, view_text_in_pieces};
 pub use refusals::{
     ask_refusal_text, full_view_text, refusal_text, steps_refusal_text, unknown_table_text,
 };

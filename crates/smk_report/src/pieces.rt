@@ -1,19 +1,24 @@
-// The text of a view with many rows, which is written in pieces, in threads.
-ghost use Rattle.std.specs.Prelude.{◌≡◌, ◌<◌, ◌≤◌, ◌++◌, length, IfOk, OnOk};
+// The texts of many rows, which are written in pieces, in threads.
+ghost use Rattle.std.specs.Prelude.{◌≡◌, ◌<◌, ◌≤◌, ◌++◌, length, map, IfOk, IfSome, OnOk};
 ghost use Rattle.std.specs.List.{AllZip, flat_map, range_with_len};
-ghost use Rattle.smk_base.specs.declared.rel.TheConstants.{ROW_LIMIT};
+ghost use Rattle.smk_base.specs.CatalogImage.{catalog_image};
 ghost use Rattle.smk_base.specs.declared.workers.TheConstants.{WORKER_LIMIT};
+ghost use Rattle.smk_model.specs.ReplyTexts as replies;
 ghost use Rattle.smk_model.specs.Texts as texts;
-ghost use Rattle.smk_report.specs.PieceTexts.{IsPiece, piece_at};
+ghost use Rattle.smk_report.specs.PieceTexts.{IsPiece, number_in};
 
-use crate::lines::line_around;
-use crate::texts::{numbered_lines, page_for, view_text, with_header};
-use smk_base::{ListOf, ROW_LIMIT, Rel, Text, numbers_below};
-use smk_jobs::each_or_first;
+use crate::lookup::{table_named, view_named};
+use crate::replies::reply_text;
+use crate::texts::{
+    back_line, numbered_lines, page_for, rids_text, view_line, view_text, with_header,
+    with_table_header,
+};
+use smk_base::{Catalog, ColDecls, Line, ListOf, Rel, Reply, Rids, Text, numbers_below};
+use smk_jobs::{cut_range, each_or_first};
 use std::alloc::{AllocError, Global};
 use std::thread::Threads;
 
-// How many rows a piece has at least, so that a view of some thousand rows starts no thread.
+// How many rows a piece has at least, so that a text of some thousand rows starts no thread.
 const PIECE_ROWS: u32 = 16_384;
 
 // How many pieces so many rows are written in: at most one for each worker.
@@ -25,29 +30,22 @@ fn piece_count(workers: u32, rows: u32) -> u32
     workers.min(rows / PIECE_ROWS).max(1)
 }
 
-// Where piece p of so many begins among n rows. The last ends where one more would begin.
-#[tactic(auto, using(crate::proofs::PieceTexts::product_small))]
-fn piece_place(count: u32, n: u32, p: u32) -> u32
-    requires some { 0 < count }
-    requires few { count ≤ WORKER_LIMIT }
-    requires rows { n ≤ ROW_LIMIT }
-    requires piece { p ≤ count }
-    ensures { result ≡ piece_at count n p }
-{
-    (p * (n / count + 1)).min(n)
-}
-
-// The records of the rows of piece p of so many, with their places.
-#[tactic(auto, using(crate::proofs::PieceTexts::piece_grows, crate::proofs::PieceTexts::piece_within))]
-fn piece_text(alloc: Global, rel: &Rel, count: u32, p: u32) -> Result<Vec<u8>, AllocError>
+// The records of the rows of piece p of so many, with the rids at their places where rids are given, and else with their places.
+fn piece_text(
+    alloc: Global,
+    rids: Option<&[u32]>,
+    rel: &Rel,
+    count: u32,
+    p: u32,
+) -> Result<Vec<u8>, AllocError>
+    requires rids { IfSome rids (λ given. length given.now ≡ length rel.now.rows) }
     requires few { count ≤ WORKER_LIMIT }
     requires piece { p < count }
-    ensures { IfOk result (λ text. IsPiece rel.now.rows count p text.items) }
+    ensures { IfOk result (λ text. IsPiece (number_in rids.entry) rel.now.rows count p text.items) }
 {
-    let from = piece_place(count, rel.len(), p);
-    let to = piece_place(count, rel.len(), p + 1);
+    let (from, to) = cut_range(count, rel.len(), p);
     let mut page = page_for(Vec::new(alloc), rel.width(), to - from)?;
-    numbered_lines(&mut page, rel, from, to - from)?;
+    numbered_lines(&mut page, rids, rel, from, to - from)?;
     page.finish()
 }
 
@@ -55,12 +53,14 @@ fn piece_text(alloc: Global, rel: &Rel, count: u32, p: u32) -> Result<Vec<u8>, A
 fn piece_texts<R: Threads + Sync>(
     rt: &R,
     alloc: Global,
+    rids: Option<&[u32]>,
     rel: &Rel,
     count: u32,
 ) -> Result<Vec<Vec<u8>>, AllocError>
+    requires rids { IfSome rids (λ given. length given.now ≡ length rel.now.rows) }
     requires some { 1 ≤ count }
     requires few { count ≤ WORKER_LIMIT }
-    ensures { IfOk result (λ made. AllZip (λ p text. IsPiece rel.now.rows count p text.items) (range_with_len 0 count) made.items) }
+    ensures { IfOk result (λ made. AllZip (λ p text. IsPiece (number_in rids.entry) rel.now.rows count p text.items) (range_with_len 0 count) made.items) }
 {
     let places = numbers_below(alloc, count)?;
     each_or_first(
@@ -69,9 +69,9 @@ fn piece_texts<R: Threads + Sync>(
         count,
         places,
         &|p: u32| -> Result<Vec<u8>, AllocError>
-            requires { (count ≤ WORKER_LIMIT) × (p < count) }
-            ensures { IfOk result (λ text. IsPiece rel.entry.now.rows count p text.items) }
-        { piece_text(alloc, rel, count, p) },
+            requires { IfSome rids (λ given. length given.now ≡ length rel.now.rows) × (count ≤ WORKER_LIMIT) × (p < count) }
+            ensures { IfOk result (λ text. IsPiece (number_in rids.entry) rel.entry.now.rows count p text.items) }
+        { piece_text(alloc, rids, rel, count, p) },
     )
 }
 
@@ -84,9 +84,9 @@ fn total_len(texts: &[Vec<u8>]) -> usize {
     total
 }
 
-// Writes texts behind a text, one after the other. After an error the text is of no use.
-fn add_texts(text: &mut Vec<u8>, pieces: &[Vec<u8>]) -> Result<(), AllocError>
-    ensures { OnOk result (text.new.items ≡ text.old.items ++ flat_map (λ piece. piece.items) pieces.now) }
+// Writes texts behind a text, one after the other, and lets go of each. After an error the text is of no use.
+fn add_texts(text: &mut Vec<u8>, pieces: Vec<Vec<u8>>) -> Result<(), AllocError>
+    ensures { OnOk result (text.new.items ≡ text.old.items ++ flat_map (λ piece. piece.items) pieces.items) }
 {
     for piece in pieces {
         text.extend_from_slice(piece.as_slice())?;
@@ -94,44 +94,24 @@ fn add_texts(text: &mut Vec<u8>, pieces: &[Vec<u8>]) -> Result<(), AllocError>
     Ok(())
 }
 
-// Writes the records of all rows with their places, in so many pieces. After an error the text is of no use.
-fn add_lines<R: Threads + Sync>(
-    rt: &R,
-    alloc: Global,
-    text: &mut Vec<u8>,
-    rel: &Rel,
-    count: u32,
-) -> Result<(), AllocError>
-    requires some { 1 ≤ count }
-    requires few { count ≤ WORKER_LIMIT }
-    ensures { OnOk result (text.new.items ≡ text.old.items ++ texts.row_lines (λ i. i) rel.now.rows) }
-{
-    let pieces = piece_texts(rt, alloc, rel, count)?;
-    text.reserve(total_len(pieces.as_slice()))?;
-    add_texts(text, pieces.as_slice())
-}
-
-// The text of a view that is written in so many pieces.
-fn joined_text<R: Threads + Sync>(
+// A text with the records of all rows behind it, written in so many pieces, with the rids at their places where rids are given, and else with their places.
+fn with_pieces<R: Threads + Sync>(
     rt: &R,
     alloc: Global,
     count: u32,
-    name: &Text,
-    columns: &ListOf<Text>,
+    front: Vec<u8>,
+    rids: Option<&[u32]>,
     rel: &Rel,
 ) -> Result<Vec<u8>, AllocError>
+    requires rids { IfSome rids (λ given. length given.now ≡ length rel.now.rows) }
     requires some { 1 ≤ count }
     requires few { count ≤ WORKER_LIMIT }
-    ensures { IfOk result (λ text. text.items ≡ texts.view_text name.now columns.now rel.now.rows) }
+    ensures { IfOk result (λ text. text.items ≡ front.items ++ texts.row_lines (number_in rids.entry) rel.now.rows) }
 {
-    let front = line_around(
-        alloc,
-        &[b"view ", name.as_slice(), b" "],
-        rel.len() as u64,
-        &[],
-    )?;
-    let mut text = with_header(front, columns)?;
-    add_lines(rt, alloc, &mut text, rel, count)?;
+    let pieces = piece_texts(rt, alloc, rids, rel, count)?;
+    let mut text = front;
+    text.reserve(total_len(pieces.as_slice()))?;
+    add_texts(&mut text, pieces)?;
     Ok(text)
 }
 
@@ -153,5 +133,63 @@ pub fn view_text_in_pieces<R: Threads + Sync>(
     if count == 1 {
         return view_text(alloc, name, columns, rel);
     }
-    joined_text(rt, alloc, count, name, columns, rel)
+    let front = view_line(alloc, name, rel.len())?;
+    let headed = with_header(front, columns)?;
+    with_pieces(rt, alloc, count, headed, None, rel)
+}
+
+// The text of a backward answer as `rids_text` has it, written as that of a view is.
+fn rids_text_in_pieces<R: Threads + Sync>(
+    rt: &R,
+    alloc: Global,
+    workers: u32,
+    view: &Text,
+    table: &Text,
+    columns: &ColDecls,
+    rids: &Rids,
+    rel: &Rel,
+) -> Result<Vec<u8>, AllocError>
+    requires some_workers { 1 ≤ workers }
+    requires few_workers { workers ≤ WORKER_LIMIT }
+    requires rids { length rids.now ≡ length rel.now.rows }
+    ensures { IfOk result (λ text. text.items ≡ texts.back_text view.now table.now (map (λ column. column.name) columns.now) rids.now rel.now.rows) }
+{
+    let count = piece_count(workers, rel.len());
+    if count == 1 {
+        return rids_text(alloc, view, table, columns, rids, rel);
+    }
+    let front = back_line(alloc, view, table, rel.len())?;
+    let headed = with_table_header(alloc, front, columns)?;
+    with_pieces(rt, alloc, count, headed, Some(rids.as_slice()), rel)
+}
+
+/// The text of a reply to a line of a script as `reply_text` has it. The records of many rows are written in threads, as `view_text_in_pieces` writes those of a view.
+pub fn reply_text_in_pieces<R: Threads + Sync>(
+    rt: &R,
+    alloc: Global,
+    workers: u32,
+    cat: &Catalog,
+    line: &Line,
+    reply: &Reply,
+) -> Result<Vec<u8>, AllocError>
+    requires some_workers { 1 ≤ workers }
+    requires few_workers { workers ≤ WORKER_LIMIT }
+    requires reply { replies.IsReplyTo (catalog_image cat.now) line.now reply.now }
+    ensures { IfOk result (λ text. text.items ≡ replies.reply_text (catalog_image cat.now) line.now reply.now) }
+{
+    match (line, reply) {
+        (Line::Show { view }, Reply::View { rel }) => match view_named(cat, view) {
+            Some(info) => view_text_in_pieces(rt, alloc, workers, view, &info.names, rel),
+            None => unreachable!(),
+        },
+        (Line::Back { view, table, .. }, Reply::Back { rids, rows }) => {
+            match table_named(cat, table) {
+                Some(info) => {
+                    rids_text_in_pieces(rt, alloc, workers, view, table, &info.cols, rids, rows)
+                }
+                None => unreachable!(),
+            }
+        }
+        _ => reply_text(alloc, cat, line, reply),
+    }
 }

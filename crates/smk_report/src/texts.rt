@@ -1,8 +1,9 @@
-ghost use Rattle.std.specs.Prelude.{◌≡◌, ◌<◌, ◌≤◌, ◌+◌, ◌++◌, ◌∷◌, [], length, map, take, drop, codes, decimal, IfOk, OnOk, slice_index_or};
+ghost use Rattle.std.specs.Prelude.{◌≡◌, ◌<◌, ◌≤◌, ◌+◌, ◌++◌, ◌∷◌, [], length, map, take, drop, codes, decimal, IfOk, IfSome, OnOk, slice_index_or};
 ghost use Rattle.smk_base.specs.Rels.{row_in, IsRelation};
 ghost use Rattle.smk_base.specs.declared.rel.TheConstants.{COLUMN_LIMIT, ROW_LIMIT};
 ghost use Rattle.smk_model.specs.Texts as texts;
 ghost use Rattle.smk_report.specs.Pages.{Adds, Says};
+ghost use Rattle.smk_report.specs.PieceTexts.{number_in};
 
 use crate::lines::line_around;
 use crate::page::Page;
@@ -37,14 +38,32 @@ fn row(page: &mut Page, number: u32, rel: &Rel, i: u32) -> Result<(), AllocError
     page.end()
 }
 
-/// Writes the records of so many rows from a place on, with their places.
-pub fn numbered_lines(page: &mut Page, rel: &Rel, from: u32, count: u32) -> Result<(), AllocError>
+// The number of the record of row i: the rid at its place where rids are given, and else the place.
+fn number_of(rids: Option<&[u32]>, i: u32) -> u32
+    requires { IfSome rids (λ rids. i < length rids.now) }
+    ensures { result ≡ number_in rids.entry i }
+{
+    match rids {
+        Some(rids) => rids[i as usize],
+        None => i,
+    }
+}
+
+/// Writes the records of so many rows from a place on, with the rids at their places where rids are given, and else with their places.
+pub fn numbered_lines(
+    page: &mut Page,
+    rids: Option<&[u32]>,
+    rel: &Rel,
+    from: u32,
+    count: u32,
+) -> Result<(), AllocError>
     requires in_range { from + count ≤ length rel.now.rows }
     requires keeps { IsRelation rel.now }
-    ensures { OnOk result (Adds page.old page.new (texts.row_lines_to (λ k. from + k) (drop from rel.now.rows) count)) }
+    requires rids { IfSome rids (λ given. length given.now ≡ length rel.now.rows) }
+    ensures { OnOk result (Adds page.old page.new (texts.row_lines_to (λ k. number_in rids.entry (from + k)) (drop from rel.now.rows) count)) }
 {
     for k in 0..count {
-        row(page, from + k, rel, from + k)?;
+        row(page, number_of(rids, from + k), rel, from + k)?;
     }
     Ok(())
 }
@@ -98,8 +117,15 @@ pub fn with_numbered_part(
 {
     let mut page = page_for(front, rel.width(), count)?;
     header(&mut page, b"row", columns)?;
-    numbered_lines(&mut page, rel, from, count)?;
+    numbered_lines(&mut page, None, rel, from, count)?;
     page.finish()
+}
+
+/// The first line of the text of a view with so many rows.
+pub fn view_line(alloc: Global, name: &Text, rows: u32) -> Result<Vec<u8>, AllocError>
+    ensures { IfOk result (λ text. text.items ≡ texts.line (texts.view_words name.now ++ decimal rows ∷ [])) }
+{
+    line_around(alloc, &[b"view ", name.as_slice(), b" "], rows as u64, &[])
 }
 
 /// The text of a view: its name and number of rows, the names of its columns, and its rows with their places.
@@ -112,12 +138,7 @@ pub fn view_text(
     requires { length columns.now ≡ length rel.now.kinds }
     ensures { IfOk result (λ text. text.items ≡ texts.view_text name.now columns.now rel.now.rows) }
 {
-    let front = line_around(
-        alloc,
-        &[b"view ", name.as_slice(), b" "],
-        rel.len() as u64,
-        &[],
-    )?;
+    let front = view_line(alloc, name, rel.len())?;
     with_rows(alloc, front, columns, rel)
 }
 
@@ -130,31 +151,6 @@ fn table_header(page: &mut Page, columns: &ColDecls) -> Result<(), AllocError>
         page.field(column.name.as_slice())?;
     }
     page.end()
-}
-
-// Writes the records of all rows with these numbers.
-fn placed_lines(page: &mut Page, rids: &[u32], rel: &Rel) -> Result<(), AllocError>
-    requires { length rids.now ≡ length rel.now.rows }
-    ensures { OnOk result (Adds page.old page.new (texts.row_lines (λ i. slice_index_or rids.now i 0) rel.now.rows)) }
-{
-    for i in 0..rel.len() {
-        row(page, rids[i as usize], rel, i)?;
-    }
-    Ok(())
-}
-
-// Writes the record of the names of the columns that a table declares, and those of all rows with these numbers.
-fn placed_rows(
-    page: &mut Page,
-    columns: &ColDecls,
-    rids: &[u32],
-    rel: &Rel,
-) -> Result<(), AllocError>
-    requires { length rids.now ≡ length rel.now.rows }
-    ensures { OnOk result (Adds page.old page.new (texts.record_line (codes "rid" ∷ map (λ column. column.name) columns.now) ++ texts.row_lines (λ i. slice_index_or rids.now i 0) rel.now.rows)) }
-{
-    table_header(page, columns)?;
-    placed_lines(page, rids, rel)
 }
 
 /// A text with the record of the names of the columns that a table declares behind it.
@@ -181,7 +177,7 @@ pub fn with_numbered_rows(
     ensures { IfOk result (λ text. text.items ≡ front.items ++ texts.row_lines (λ i. slice_index_or rids.now i 0) rel.now.rows) }
 {
     let mut page = page_for(front, rel.width(), rel.len())?;
-    placed_lines(&mut page, rids, rel)?;
+    numbered_lines(&mut page, Some(rids), rel, 0, rel.len())?;
     page.finish()
 }
 
@@ -197,8 +193,21 @@ pub fn with_placed_rows(
     ensures { IfOk result (λ text. text.items ≡ front.items ++ texts.record_line (codes "rid" ∷ map (λ column. column.name) columns.now) ++ texts.row_lines (λ i. slice_index_or rids.now i 0) rel.now.rows) }
 {
     let mut page = page_for(front, rel.width(), rel.len())?;
-    placed_rows(&mut page, columns, rids, rel)?;
+    table_header(&mut page, columns)?;
+    numbered_lines(&mut page, Some(rids), rel, 0, rel.len())?;
     page.finish()
+}
+
+/// The first line of the text of a backward answer of so many rows.
+pub fn back_line(alloc: Global, view: &Text, table: &Text, rows: u32) -> Result<Vec<u8>, AllocError>
+    ensures { IfOk result (λ text. text.items ≡ texts.line (texts.back_words view.now table.now ++ decimal rows ∷ [])) }
+{
+    line_around(
+        alloc,
+        &[b"back ", view.as_slice(), b" to ", table.as_slice(), b" "],
+        rows as u64,
+        &[],
+    )
 }
 
 /// The text of a backward answer, with the columns that the table declares.
@@ -213,12 +222,7 @@ pub fn rids_text(
     requires { length rids.now ≡ length rel.now.rows }
     ensures { IfOk result (λ text. text.items ≡ texts.back_text view.now table.now (map (λ column. column.name) columns.now) rids.now rel.now.rows) }
 {
-    let front = line_around(
-        alloc,
-        &[b"back ", view.as_slice(), b" to ", table.as_slice(), b" "],
-        rel.len() as u64,
-        &[],
-    )?;
+    let front = back_line(alloc, view, table, rel.len())?;
     with_placed_rows(alloc, front, columns, rids.as_slice(), rel)
 }
 

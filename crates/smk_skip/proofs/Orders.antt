@@ -1,16 +1,18 @@
 -- Lists one after the other as an order of their rids, and other lists as places in it.
-use Rattle.std.proofs.Common.{◌≡◌, ◌∙◌, ◌<◌, ◌≤◌, ◌+◌, ℕ, zero, suc, Bool, true, false, cond, List, [], ◌∷◌, ◌++◌, ◌&&◌, ◌||◌, length, map, take, drop, refl, sym, ap, arith, inl, inr, filter, get_or, nat_eq, nat_lt}
+use Rattle.std.proofs.Common.{◌≡◌, ◌∙◌, ◌<◌, ◌≤◌, ◌+◌, ℕ, zero, suc, Bool, true, false, cond, List, [], ◌∷◌, ◌++◌, ◌&&◌, length, map, take, drop, refl, sym, ap, arith, inl, inr, filter, get_or, nat_eq, nat_lt}
 use Rattle.std.specs.List.{All, concat, list_any}
 use Rattle.std.proofs.lemmas.Bool.{cases_Bool, cases_lt, eq-eqb, ne_eqb, lt-ltb, le-ltb}
 use Rattle.std.proofs.lemmas.List.{length-append, length-map, get_or-map, append-nil, map-append, append_assoc}
-use Rattle.std.proofs.lemmas.List.Elements.{filter-append}
+use Rattle.std.proofs.lemmas.List.Elements.{All-map, All-push, filter-append}
 use Rattle.std.proofs.lemmas.List.Folds.{concat-append}
 use Rattle.std.proofs.lemmas.List.Sums.{sum_by-cons, sum_by_more_le}
 use Rattle.smk_base.specs.Places.{Lists, IsPlaces, upto, places, has, list_at, pairs_of, members_at, composed, inverted}
 use Rattle.smk_model.specs.Locals.{singles}
-use Rattle.smk_base.proofs.Places.{filter_filter, same_below, at_places, places_false, length_upto, get_or_map_upto, has_places, map_upto_agree, few_places, nat_eq-sym}
+use Rattle.smk_base.proofs.Places.{filter_filter, same_below, at_places, places_false, places_are, map_map, map_upto, map_upto_agree, few_places}
+use Rattle.smk_model.proofs.Anys.{or_false}
+use Rattle.smk_model.proofs.Composed.{lists_by, bounded, lists_agree, compose_by, invert_by}
+use Rattle.smk_model.proofs.Counts.{pairs_forward}
 use Rattle.smk_model.proofs.Pairs.{filter_le}
-use Rattle.smk_rid.proofs.Sets.{is_below}
 use Rattle.smk_rid.proofs.Packs.{length-concat}
 use Rattle.smk_skip.specs.Parts.{ranks, ranked}
 use Rattle.smk_skip.proofs.Filters.{and_second, filter_all}
@@ -34,53 +36,27 @@ concat_more (x ∷ xs) (suc i) h =
     ∙ ap (λ z. x ++ z) (concat_more xs i (omega arith))
     ∙ sym (append_assoc x (concat (take i xs)) (get_or xs i []))
 
--- tests that agree at each member
-pub any_agree : {X : Type 0} (f g : X → Bool) (xs : List X) → All (λ x. f x ≡ g x) xs → list_any f xs ≡ list_any g xs
-any_agree f g [] h = refl
-any_agree f g (x ∷ xs) h =
-    let here : f x ≡ g x = h 0 x (omega arith) in
-    let rest : list_any f xs ≡ list_any g xs = any_agree f g xs (λ k d l. h (suc k) d (omega arith)) in
-    rw (here, rest) refl
+-- for each place in an order the lists of a map that have its rid
+owners_by : (order : List ℕ) (m : Lists) → All (λ r. r < m.bound) order → composed (singles order m.bound) (inverted m) ≡ lists_by (λ k g. list_any (λ r. has (list_at m g) r) (get_or order k 0 ∷ [])) (length order) (length m.lists)
+owners_by order m low =
+    let own : map (λ r. r ∷ []) order ≡ map (λ k. get_or order k 0 ∷ []) (upto (length order)) = ap (map (λ r. r ∷ [])) (sym (map_upto order 0)) ∙ map_map (λ r. r ∷ []) (λ k. get_or order k 0) (upto (length order)) in
+    ap (λ (lists : List (List ℕ)). composed (bounded m.bound lists) (inverted m)) own
+    ∙ compose_by (λ r g. has (list_at m g) r) (λ k. get_or order k 0 ∷ []) (length order) m.bound (length m.lists) (λ k l. All-push (λ r. r < m.bound) [] (get_or order k 0) (λ j d none. absurd (omega (arith, none))) (low k 0 l))
 
--- functions that agree at each member
-pub map_agree : {X Y : Type 0} (f g : X → Y) (xs : List X) → All (λ x. f x ≡ g x) xs → map f xs ≡ map g xs
-map_agree f g [] h = refl
-map_agree f g (x ∷ xs) h =
-    let here : f x ≡ g x = h 0 x (omega arith) in
-    let rest : map f xs ≡ map g xs = map_agree f g xs (λ k d l. h (suc k) d (omega arith)) in
-    rw (here, rest) refl
+-- and inverted they are the places of each list's rids
+pub owners_turned : (order : List ℕ) (m : Lists) → All (λ r. r < m.bound) order → inverted (composed (singles order m.bound) (inverted m)) ≡ ranked order m
+owners_turned order m low =
+    let n = length m.lists in
+    ap inverted (owners_by order m low)
+    ∙ invert_by (λ k g. list_any (λ r. has (list_at m g) r) (get_or order k 0 ∷ [])) (length order) n
+    ∙ lists_agree (λ g k. list_any (λ r. has (list_at m g) r) (get_or order k 0 ∷ [])) (λ g k. has (list_at m g) (get_or order k 0)) n (length order) (λ g k _ _. or_false (has (list_at m g) (get_or order k 0)))
+    ∙ ap (bounded (length order)) (sym (map_map (ranks order) (list_at m) (upto n)) ∙ ap (map (ranks order)) (map_upto m.lists []))
 
--- for each rid below n the places where an order has it
-places_at : (order : List ℕ) (n k i : ℕ) → k < length order → i < n → has (list_at (inverted (singles order n)) i) k ≡ nat_eq (get_or order k 0) i
-places_at order n k i l h =
-    let long : length (singles order n).lists ≡ length order = length-map order (λ r. r ∷ []) in
-    let own : list_at (singles order n) k ≡ get_or order k 0 ∷ [] = get_or-map (λ r. r ∷ []) order k 0 [] l in
-    let at : list_at (inverted (singles order n)) i ≡ places (λ j. has (list_at (singles order n) j) i) (length (singles order n).lists) = get_or_map_upto (λ r. places (λ j. has (list_at (singles order n) j) r) (length (singles order n).lists)) n i [] h in
-    ap (λ z. has z k) at
-    ∙ has_places (λ j. has (list_at (singles order n) j) i) (length (singles order n).lists) k (omega (arith, long))
-    ∙ ap (λ z. has z i) own ∙ or_none (nat_eq i (get_or order k 0)) ∙ nat_eq-sym i (get_or order k 0)
-  where
-    or_none : (b : Bool) → (b || false) ≡ b
-    or_none true = refl
-    or_none false = refl
-
-members_are : (order A : List ℕ) (n : ℕ) → All (λ r. r < n) A → members_at (inverted (singles order n)) A ≡ ranks order A
-members_are order A n low =
-    let long : length (singles order n).lists ≡ length order = length-map order (λ r. r ∷ []) in
-    ap (places (λ k. list_any (λ i. has (list_at (inverted (singles order n)) i) k) A)) long
-    ∙ same_below (λ k. list_any (λ i. has (list_at (inverted (singles order n)) i) k) A) (λ k. has A (get_or order k 0)) (length order) (λ k l.
-    any_agree (λ i. has (list_at (inverted (singles order n)) i) k) (nat_eq (get_or order k 0)) A (λ j d s. places_at order n k (get_or A j d) l (low j d s)))
-
--- a map composed with the places of an order
-pub composed_is : (order : List ℕ) (n : ℕ) (m : Lists) → All (IsPlaces m.bound) m.lists → m.bound ≡ n → composed m (inverted (singles order n)) ≡ ranked order m
-composed_is order n m sets e =
-    let each : map (members_at (inverted (singles order n))) m.lists ≡ map (ranks order) m.lists =
-    map_agree (members_at (inverted (singles order n))) (ranks order) m.lists (λ k d l. members_are order (get_or m.lists k d) n (low k d l)) in
-    let long : length (singles order n).lists ≡ length order = length-map order (λ r. r ∷ []) in
-    rw (each, long) refl
-  where
-    low : (k : ℕ) (d : List ℕ) → k < length m.lists → All (λ r. r < n) (get_or m.lists k d)
-    low k d l = let is = is_below m.bound (get_or m.lists k d) (sets k d l) in rw e at is
+-- as many of them
+pub owners_few : (order : List ℕ) (m : Lists) → All (λ r. r < m.bound) order → pairs_of (composed (singles order m.bound) (inverted m)).lists ≡ pairs_of (ranked order m).lists
+owners_few order m low =
+    let made : Lists = composed (singles order m.bound) (inverted m) in
+    sym (pairs_forward.inverting made (All-map (IsPlaces made.bound) (members_at (inverted m)) (singles order m.bound).lists (λ i d l. places_are (λ r. list_any (λ i. has (list_at (inverted m) i) r) (get_or (singles order m.bound).lists i d)) made.bound))) ∙ ap (λ (z : Lists). pairs_of z.lists) (owners_turned order m low)
 
 -- one where a test passes
 abbrev tally : Bool → ℕ
@@ -125,11 +101,7 @@ turned_is of C =
     ap (λ n. map (λ r. places (λ i. has (list_at (singles of C) i) r) n) (upto C)) long
     ∙ map_upto_agree (λ r. places (λ i. has (list_at (singles of C) i) r) (length of)) (λ r. places (λ i. nat_eq r (get_or of i 0)) (length of)) C (λ r low.
     same_below (λ i. has (list_at (singles of C) i) r) (λ i. nat_eq r (get_or of i 0)) (length of) (λ i l.
-    ap (λ z. has z r) (get_or-map (λ r. r ∷ []) of i 0 [] l) ∙ or_none (nat_eq r (get_or of i 0))))
-  where
-    or_none : (b : Bool) → (b || false) ≡ b
-    or_none true = refl
-    or_none false = refl
+    ap (λ z. has z r) (get_or-map (λ r. r ∷ []) of i 0 [] l) ∙ or_false (nat_eq r (get_or of i 0))))
 
 -- no place is there twice
 pub once : (of : List ℕ) (C : ℕ) (t : ℕ → Bool) → length (filter t (concat (inverted (singles of C)).lists)) ≤ length (places t (length of))
@@ -152,10 +124,6 @@ pairs_less f (x ∷ xs) h =
 
 pub ranked_few : (order : List ℕ) (m : Lists) → ((t : ℕ → Bool) → length (filter t order) ≤ length (places t m.bound)) → All (IsPlaces m.bound) m.lists → pairs_of (ranked order m).lists ≤ pairs_of m.lists
 ranked_few order m apart sets = pairs_less (ranks order) m.lists (λ k d l. ranks_few order (get_or m.lists k d) m.bound apart (sets k d l))
-
--- one list for each rid
-pub turned_long : (order : List ℕ) (n : ℕ) → length (inverted (singles order n)).lists ≡ n
-turned_long order n = length-map (upto n) (λ r. places (λ i. has (list_at (singles order n) i) r) (length (singles order n).lists)) ∙ length_upto n
 
 -- a list lies within the order
 pub within_order : (lists : List (List ℕ)) (i : ℕ) → i < length lists → pairs_of (take i lists) + length (get_or lists i []) ≤ length (concat lists)

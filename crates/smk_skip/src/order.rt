@@ -16,11 +16,11 @@ pub(crate) fn places_in(alloc: Global, map: &RidMap, lists: &RidMap) -> Result<R
     requires pairs { pairs_of (ranked (concat lists.now.lists) map.now).lists ≤ PAIR_LIMIT }
     ensures { IfOk result (λ made. made ≡ ranked (concat lists.now.lists) map.now) }
 {
-    let _sets = map.pairs();
     let order = in_order(alloc, lists)?;
-    let places = RidMap::of_rids(order, lists.bound()).invert(alloc)?;
-    match map.compose(alloc, &places) {
-        Ok(made) => Ok(made),
+    // By the lists of each rid, in the order: so each list has its places in order, and none is sorted.
+    let marks = map.invert(alloc)?;
+    match RidMap::of_rids(order, lists.bound()).compose(alloc, &marks) {
+        Ok(made) => made.invert(alloc),
         Err(RidFault::NoMemory) => Err(AllocError),
         Err(RidFault::Pairs) => unreachable!(),
     }

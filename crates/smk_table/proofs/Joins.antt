@@ -1,14 +1,14 @@
 -- Parts put behind one another, one at a time.
-use Rattle.std.proofs.Common.{◌≡◌, ◌∙◌, ◌<◌, ◌≤◌, ◌+◌, ℕ, zero, suc, List, [], ◌∷◌, ◌++◌, length, drop, get_or, Ok, Err, refl, sym, ap, arith, append_assoc, length-append}
+use Rattle.std.proofs.Common.{◌≡◌, ◌∙◌, ◌<◌, ◌+◌, ℕ, zero, suc, List, [], ◌∷◌, ◌++◌, length, drop, get_or, Ok, Err, refl, sym, ap, arith, append_assoc, length-append}
 use Rattle.smk_base.specs.Rels.{Relation}
 use Rattle.smk_base.specs.declared.value.Value.{Value}
-use Rattle.std.specs.Prelude.{◌⊎◌, IfErr, if◌then◌else◌}
+use Rattle.std.specs.Prelude.{◌⊎◌, IfErr}
 use Rattle.smk_base.specs.declared.fault.TableFault.{TableFault}
-use Rattle.smk_base.specs.declared.fault.TableFault.TheVariants.{NoMemory, TooManyRows}
+use Rattle.smk_base.specs.declared.fault.TableFault.TheVariants.{NoMemory}
 use Rattle.smk_model.specs.Names.{◌>>=◌}
-use Rattle.smk_table.specs.Pieces.{Part, part_behind, parts_behind, rows_behind, rows_from, behind_header, parts_of, Gives, GivesAll}
+use Rattle.smk_table.specs.Pieces.{Part, part_behind, parts_behind, rows_from, behind_header, parts_of, Gives, GivesAll}
 use Rattle.smk_table.specs.Cuts.{read_of}
-use Rattle.std.proofs.Common.{Bor, Result, nat_eq, ne_eqb, map, ◌==◌, All, IfOk, Bool, true, false, true≢false, nat_le, le-leb}
+use Rattle.std.proofs.Common.{Bor, Result, nat_eq, ne_eqb, map, ◌==◌, All, IfOk, false}
 use Rattle.std.proofs.lemmas.List.{get_or-map, length-map}
 use Rattle.smk_base.specs.declared.book.col_decl.ColDecl.{ColDecl}
 use Rattle.smk_model.specs.Tables.{declared_kinds}
@@ -21,33 +21,21 @@ next_of [] p d l = absurd (omega arith)
 next_of (x ∷ parts) zero d l = refl
 next_of (x ∷ parts) (suc p) d l = let e : suc p + 1 ≡ suc (p + 1) = omega arith in rw e (next_of parts p d (omega arith))
 
-one_part : (rows made : List (List Value)) (part : Part) (parts : List Part) → rows_behind rows part ≡ Ok made → all_behind rows (part ∷ parts) ≡ all_behind made parts
-one_part rows made part parts h = by (part_behind (length rows) part) h
+one_part : (rows some : List (List Value)) (part : Part) (parts : List Part) → part_behind (length rows) part ≡ Ok some → all_behind rows (part ∷ parts) ≡ all_behind (rows ++ some) parts
+one_part rows some part parts h = rw (h, length-append rows some) (on (parts_behind (length rows + length some) parts))
   where
-    by : (r : Part) → ◌>>=◌ r (λ more. Ok (rows ++ more)) ≡ Ok made
-        → ◌>>=◌ (◌>>=◌ r (λ some. ◌>>=◌ (parts_behind (length rows + length some) parts) (λ more. Ok (some ++ more)))) (λ more. Ok (rows ++ more)) ≡ all_behind made parts
-    by (Err fault) e = absurd (cc)
-    by (Ok some) e =
-        let same : rows ++ some ≡ made = cc in
-        rw (← same, length-append rows some) (on (parts_behind (length rows + length some) parts))
-      where
-        on : (q : Part) → ◌>>=◌ (◌>>=◌ q (λ more. Ok (some ++ more))) (λ more. Ok (rows ++ more)) ≡ ◌>>=◌ q (λ more. Ok ((rows ++ some) ++ more))
-        on (Err fault) = refl
-        on (Ok more) = ap (λ l. Ok l) (sym (append_assoc rows some more))
+    on : (q : Part) → ◌>>=◌ (◌>>=◌ q (λ more. Ok (some ++ more))) (λ more. Ok (rows ++ more)) ≡ ◌>>=◌ q (λ more. Ok ((rows ++ some) ++ more))
+    on (Err fault) = refl
+    on (Ok more) = ap (λ l. Ok l) (sym (append_assoc rows some more))
 
-one_fault : (rows : List (List Value)) (fault : TableFault) (part : Part) (parts : List Part) → rows_behind rows part ≡ Err fault → all_behind rows (part ∷ parts) ≡ Err fault
-one_fault rows fault part parts h = by (part_behind (length rows) part) h
-  where
-    by : (r : Part) → ◌>>=◌ {B = List (List Value)} r (λ more. Ok (rows ++ more)) ≡ Err fault
-        → ◌>>=◌ (◌>>=◌ r (λ some. ◌>>=◌ (parts_behind (length rows + length some) parts) (λ more. Ok (some ++ more)))) (λ more. Ok (rows ++ more)) ≡ Err fault
-    by (Err f) e = ap (λ (r : Part). r) e
-    by (Ok some) e = absurd (cc)
+one_fault : (rows : List (List Value)) (fault : TableFault) (part : Part) (parts : List Part) → part_behind (length rows) part ≡ Err fault → all_behind rows (part ∷ parts) ≡ Err fault
+one_fault rows fault part parts h = rw h refl
 
-pub join_step : (read : List Part) (p : ℕ) (rows made : List (List Value)) → p < length read → parts_behind 0 read ≡ all_behind rows (drop p read) → rows_behind rows (get_or read p (Ok [])) ≡ Ok made
-    → parts_behind 0 read ≡ all_behind made (drop (p + 1) read)
-join_step read p rows made l h e = h ∙ ap (all_behind rows) (next_of read p (Ok []) l) ∙ one_part rows made (get_or read p (Ok [])) (drop (p + 1) read) e
+pub join_step : (read : List Part) (p : ℕ) (rows some : List (List Value)) → p < length read → parts_behind 0 read ≡ all_behind rows (drop p read) → part_behind (length rows) (get_or read p (Ok [])) ≡ Ok some
+    → parts_behind 0 read ≡ all_behind (rows ++ some) (drop (p + 1) read)
+join_step read p rows some l h e = h ∙ ap (all_behind rows) (next_of read p (Ok []) l) ∙ one_part rows some (get_or read p (Ok [])) (drop (p + 1) read) e
 
-pub join_fault : (read : List Part) (p : ℕ) (rows : List (List Value)) (fault : TableFault) → p < length read → parts_behind 0 read ≡ all_behind rows (drop p read) → rows_behind rows (get_or read p (Ok [])) ≡ Err fault
+pub join_fault : (read : List Part) (p : ℕ) (rows : List (List Value)) (fault : TableFault) → p < length read → parts_behind 0 read ≡ all_behind rows (drop p read) → part_behind (length rows) (get_or read p (Ok [])) ≡ Err fault
     → parts_behind 0 read ≡ Err fault
 join_fault read p rows fault l h e = h ∙ ap (all_behind rows) (next_of read p (Ok []) l) ∙ one_fault rows fault (get_or read p (Ok [])) (drop (p + 1) read) e
 
@@ -84,15 +72,6 @@ gives_kinds cols part (Err fault) h = tt
 
 pub all_kinds : (cols : List ColDecl) (parts : List Part) (made : List (Result Relation TableFault)) → GivesAll cols parts made → All (λ r. IfOk r (λ rel. rel.kinds ≡ declared_kinds cols)) made
 all_kinds cols parts made all k d l = let long = all.all in gives_kinds cols _ _ (all.each k (Ok []) d (omega (arith, l, long)))
-
--- the rows of a part behind none
-pub none_behind : (rows : List (List Value)) (part : Part) (more : List (List Value)) → length rows ≡ 0 → length more ≤ 1048576 → part ≡ Ok more → rows_behind rows part ≡ Ok more
-none_behind [] part more l few e = rw e (by (nat_le (0 + length more) 1048576) (le-leb (0 + length more) 1048576 (omega (arith, few))))
-  where
-    by : (b : Bool) → b ≡ true → ◌>>=◌ (if b then Ok more else Err TooManyRows) (λ rest. Ok rest) ≡ Ok more
-    by true q = refl
-    by false q = absurd (true≢false (sym q))
-none_behind (x ∷ rows) part more l few e = absurd (omega (arith, l))
 
 -- what a table or a fault says of the parts that it was read from
 pub gives_rows : (cols : List ColDecl) (part : Part) (r : Result Relation TableFault) → Gives cols part r → IfOk r (λ rel. part ≡ Ok rel.rows)

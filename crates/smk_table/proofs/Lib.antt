@@ -11,3 +11,4 @@ pub mod Lines
 pub mod PieceSteps
 pub mod PieceRows
 pub mod Joins
+pub mod Parts

@@ -6,3 +6,4 @@ pub mod Wanted
 pub mod Showing
 pub mod Cuts
 pub mod Pieces
+pub mod Joined

@@ -51,10 +51,6 @@ abbrev pub Gives : List ColDecl → Part → Result Relation TableFault → Type
 Gives cols part (Ok rel) = (part ≡ Ok rel.rows) × (rel.kinds ≡ declared_kinds cols)
 Gives cols part (Err fault) = (fault ≡ faults.NoMemory) ⊎ (part ≡ Err fault)
 
--- these rows, and behind them those of a part that was read for itself
-abbrev pub rows_behind : List (List Value) → Part → Part
-rows_behind rows part = part_behind (length rows) part >>= λ more. Ok (rows ++ more)
-
 -- that each part was read
 pub record GivesAll (cols : List ColDecl) (parts : List Part) (made : List (Result Relation TableFault)) : Type 0 where
   pub all : length made ≡ length parts

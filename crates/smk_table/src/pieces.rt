@@ -153,14 +153,14 @@ fn rows_in_pieces<R: Threads + Sync, G: Gate + Sync>(
     gate: &G,
 ) -> Result<Rel, TableFault>
     requires unmarked { All (λ text. IsFalse (begins_with_mark text.now)) texts.now }
+    requires some { 0 < length texts.now }
     requires few { length texts.now ≤ WORKER_LIMIT }
     requires columns { AreColumns cols.now }
     requires places { length header.now.places.items ≡ length cols.now }
     ensures { Gives cols.now (parts_behind 0 (parts_of cols.now header.now.places.items header.now.width (map read_of texts.now))) result }
 {
-    let none = empty_rel(alloc, header.seed, cols)?.finish(alloc)?;
     let made = read_pieces(rt, alloc, texts, cols, header, gate)?;
-    join_parts(alloc, cols, none, made)
+    join_parts(rt, alloc, cols, made)
 }
 
 // The table of the pieces of a text, of which the first has this header.
@@ -173,6 +173,7 @@ fn table_in_pieces<R: Threads + Sync, G: Gate + Sync>(
     gate: &G,
 ) -> Result<Table, TableFault>
     requires unmarked { All (λ text. IsFalse (begins_with_mark text.now)) texts.now }
+    requires some { 0 < length texts.now }
     requires few { length texts.now ≤ WORKER_LIMIT }
     requires columns { AreColumns cols.now }
     requires places { length header.now.places.items ≡ length cols.now }

@@ -34,7 +34,7 @@ use smk_grow::{append_text, append_told};
 use smk_inputs::{Engine, Reading};
 use smk_outside::{Gate, Steps};
 use smk_profile::{profile, profile_text};
-use smk_report::{bad_line_text, reply_text};
+use smk_report::{bad_line_text, reply_text_in_pieces};
 use smk_session::{Session, has_refused};
 use smk_table::Table;
 use std::alloc::{AllocError, Global};
@@ -63,7 +63,15 @@ fn answer_plain<R: Threads + Sync, G: Gate + Sync, L: Ledger>(
     ensures looks { steps.new ≤ steps.old + (reports.plain_answered (catalog_image session.old.catalog) (state_of session.old) line.now).looks }
 {
     let turn = session.turn(engine.rt, engine.alloc, line, engine.gate, steps)?;
-    let text = reply_text(engine.alloc, session.catalog(), line, &turn.reply)?;
+    let workers = session.crew(engine.gate).workers;
+    let text = reply_text_in_pieces(
+        engine.rt,
+        engine.alloc,
+        workers,
+        session.catalog(),
+        line,
+        &turn.reply,
+    )?;
     // Nothing wants memory any more.
     let reply = session.take(turn);
     let refused = has_refused(&reply);

@@ -4,7 +4,7 @@ ghost use Rattle.smk_base.specs.declared.rel.dict.TheConstants.{FEW};
 ghost use Rattle.smk_base.specs.declared.rel.TheConstants.{ROW_LIMIT};
 
 use crate::list::Text;
-use crate::rel::hashed::Hashed;
+use crate::rel::hashed::{Hashed, are_same};
 use std::alloc::{AllocError, Global};
 use std::marker::Model;
 
@@ -90,6 +90,17 @@ impl Dict {
         match &self.held {
             Held::Few(list) => place_of(list.as_slice(), text),
             Held::Many(hashed) => hashed.code_of_bytes(text),
+        }
+    }
+
+    /// The code of a text that is found without its hash, if it is. It takes no memory.
+    #[inline(always)]
+    pub(crate) fn code_without_hash(&self, text: &[u8]) -> Option<u32>
+        ensures { IfSome result (λ code. code_in self.now.texts text.now ≡ Some code) }
+    {
+        match &self.held {
+            Held::Few(list) => place_of(list.as_slice(), text),
+            Held::Many(hashed) => hashed.seated(text),
         }
     }
 
@@ -188,7 +199,8 @@ fn place_among(list: &[Vec<u8>], text: &[u8]) -> Option<usize>
     ensures place { result ≡ position (λ known. text_eq text.now known.items) list.now }
     ensures within { IfSome result (λ place. place < length list.now) }
 {
-    list.iter().position(|known| text == known.as_slice())
+    list.iter()
+        .position(|known| are_same(text, known.as_slice()))
 }
 
 // The code of a text of a list.

@@ -151,12 +151,13 @@ impl Hashed {
         }
     }
 
-    // The code at the seat of a text, if it is the text's.
-    fn seated(&self, text: &[u8]) -> Option<u32>
+    /// The code at the seat of a text, if it is the text's. It takes no memory.
+    #[inline(always)]
+    pub fn seated(&self, text: &[u8]) -> Option<u32>
         ensures { IfSome result (λ code. code_in self.now.texts text.now ≡ Some code) }
     {
         let code = *self.seats.get(seat_of(text))?;
-        if code < self.len() && self.text(code) == text {
+        if code < self.len() && are_same(self.text(code), text) {
             Some(code)
         } else {
             None
@@ -259,7 +260,35 @@ impl Hashed {
     }
 }
 
+/// Whether texts are the same. Short ones are compared byte by byte, for which a call costs more.
+#[inline(always)]
+pub(crate) fn are_same(a: &[u8], b: &[u8]) -> bool
+    ensures { result ≡ text_eq a.now b.now }
+{
+    if a.len() != b.len() {
+        return false;
+    }
+    if a.len() > 8 {
+        return are_same_long(a, b);
+    }
+    for i in 0..a.len() {
+        if a[i] != b[i] {
+            return false;
+        }
+    }
+    true
+}
+
+// The same of long ones.
+#[inline(never)]
+fn are_same_long(a: &[u8], b: &[u8]) -> bool
+    ensures { result ≡ text_eq a.now b.now }
+{
+    a == b
+}
+
 // The seat of a text, by its last bytes, in which short texts differ most.
+#[inline(always)]
 fn seat_of(text: &[u8]) -> usize
     ensures { result < SEATS }
 {

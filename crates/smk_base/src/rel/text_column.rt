@@ -1,7 +1,7 @@
 ghost use Rattle.std.specs.Prelude.{◌≡◌, ℕ, ◌<◌, ◌≤◌, ◌+◌, [], ◌∷◌, ◌++◌, length, map, take, All, Some, IfOk, IfSome, IsSome, OnOk, OnErr, IsOk};
 ghost use Rattle.smk_base.specs.Dicts.{code_or_last};
 ghost use Rattle.smk_base.specs.NextTexts.{next_text};
-ghost use Rattle.smk_base.specs.TextColumns.{text_firsts, text_in, AreRecoded};
+ghost use Rattle.smk_base.specs.TextColumns.{text_firsts, text_in, AreAdded, AreRecoded};
 
 use crate::list::Text;
 use crate::rel::ROW_LIMIT;
@@ -151,6 +151,19 @@ impl TextColumn {
         ensures pushed { OnOk result (self.new.texts ≡ self.old.texts ++ text.now ∷ []) }
         ensures kept { OnErr result (self.new.texts ≡ self.old.texts) }
     {
+        match self.dict.code_without_hash(text) {
+            Some(code) => self.push_code(code),
+            None => self.push_hashed(text),
+        }
+    }
+
+    // The same of a text that is found by its hash, or is new.
+    #[inline(never)]
+    fn push_hashed(&mut self, text: &[u8]) -> Result<(), AllocError>
+        requires { length self.old.texts < ROW_LIMIT }
+        ensures pushed { OnOk result (self.new.texts ≡ self.old.texts ++ text.now ∷ []) }
+        ensures kept { OnErr result (self.new.texts ≡ self.old.texts) }
+    {
         self.codes.reserve(1)?;
         let code = self.dict.add_bytes(text)?;
         self.codes.push_reserved(code);
@@ -249,24 +262,10 @@ impl TextColumn {
         ensures appended { OnOk result (self.new.texts ≡ self.old.texts ++ other.now.texts) }
         ensures kept { OnErr result (self.new.texts ≡ self.old.texts) }
     {
-        let len = self.len();
-        let appended = self.append_some(alloc, other);
-        if appended.is_err() {
-            self.truncate(len);
-        }
-        appended
-    }
-
-    // Puts the texts of another column last. After an error the column may have some of them.
-    fn append_some(&mut self, alloc: Global, other: &TextColumn) -> Result<(), AllocError>
-        requires { length self.old.texts + length other.now.texts ≤ ROW_LIMIT }
-        ensures appended { OnOk result (self.new.texts ≡ self.old.texts ++ other.now.texts) }
-        ensures kept { OnErr result (take (length self.old.texts) self.new.texts ≡ self.old.texts) }
-    {
         self.codes.reserve(other.codes.len())?;
-        let mut recoded = vec![in alloc; NO_CODE; other.dict.len() as usize]?;
+        let recoded = recoded_whole(alloc, &mut self.dict, &other.dict)?;
         for code in &other.codes {
-            self.push_from(alloc, &other.dict, *code, recoded.as_mut_slice())?;
+            self.codes.push_reserved(recoded[*code as usize]);
         }
         Ok(())
     }
@@ -305,4 +304,31 @@ impl TextColumn {
             dict: self.dict.copy(alloc)?,
         })
     }
+}
+
+// The codes of the texts of another dictionary in this one, where those go last that aren't there. After an error its texts are as before.
+fn recoded_whole(alloc: Global, dict: &mut Dict, other: &Dict) -> Result<Vec<u32>, AllocError>
+    requires { length dict.old.texts + length other.now.texts ≤ ROW_LIMIT }
+    ensures added { IfOk result (λ made. AreAdded dict.old.texts other.now.texts dict.new.texts made.items) }
+    ensures kept { OnErr result (dict.new.texts ≡ dict.old.texts) }
+{
+    let len = dict.len();
+    let recoded = recoded_some(alloc, dict, other);
+    if recoded.is_err() {
+        dict.truncate(len);
+    }
+    recoded
+}
+
+// The same. After an error some texts may have gone last.
+fn recoded_some(alloc: Global, dict: &mut Dict, other: &Dict) -> Result<Vec<u32>, AllocError>
+    requires { length dict.old.texts + length other.now.texts ≤ ROW_LIMIT }
+    ensures added { IfOk result (λ made. AreAdded dict.old.texts other.now.texts dict.new.texts made.items) }
+    ensures kept { OnErr result (take (length dict.old.texts) dict.new.texts ≡ dict.old.texts) }
+{
+    let mut recoded = Vec::with_capacity(alloc, other.len() as usize)?;
+    for code in 0..other.len() {
+        recoded.push_reserved(dict.add_bytes(other.text(code))?);
+    }
+    Ok(recoded)
 }

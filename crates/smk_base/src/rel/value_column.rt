@@ -4,7 +4,7 @@ ghost use Rattle.smk_base.specs.Cells.{value_of_cell};
 ghost use Rattle.smk_base.specs.IntColumns.{numbers_of};
 ghost use Rattle.smk_base.specs.NextTexts.{next_text};
 ghost use Rattle.smk_base.specs.TextColumns.{text_firsts};
-ghost use Rattle.smk_base.specs.Rels.{IsColumn, IsWider, IsWithin, Fits, value_in, text_of, number_of, bin_of};
+ghost use Rattle.smk_base.specs.Rels.{AreBinsFrom, IsColumn, IsWider, IsWithin, Fits, value_in, text_of, number_of, bin_of};
 ghost use Rattle.smk_base.specs.declared.value.Kind.TheVariants as kinds;
 ghost use Rattle.smk_base.specs.declared.value.Value.TheVariants as values;
 ghost use Rattle.smk_base.specs.Columns.{IsColumnOf, IsReady};
@@ -16,6 +16,9 @@ use crate::value::{CellRef, Kind};
 use std::alloc::{AllocError, Global};
 use std::marker::Model;
 use std::mem;
+
+// So many ints there are for each number between their bounds where bins are read off a table.
+const INTS_PER_BIN: u64 = 8;
 
 // The values of a column as they lie in memory.
 #[derive(Drop)]
@@ -444,11 +447,49 @@ fn small_bins(alloc: Global, ints: &[i64], width: i64) -> Result<Vec<i64>, Alloc
     requires { pos 1 ≤ℤ width }
     ensures { IfOk result (λ made. made.items ≡ map (λ n. int_div_euclid n width) ints.now) }
 {
+    let (least, bins) = bins_from(alloc, ints, width)?;
     let mut made = Vec::with_capacity(alloc, ints.len())?;
     for number in ints {
-        made.push_reserved(number.div_euclid(width));
+        made.push_reserved(bin_among(bins.as_slice(), least, *number, width));
     }
     Ok(made)
+}
+
+// The bin of an int: that of its place, where the bins of the least int and of those behind it have one.
+#[inline(always)]
+fn bin_among(bins: &[i64], least: i64, number: i64, width: i64) -> i64
+    requires width { pos 1 ≤ℤ width }
+    requires bins { AreBinsFrom least width bins.now }
+    ensures { result ≡ int_div_euclid number width }
+{
+    if least <= number {
+        if let Some(bin) = bins.get(number.abs_diff(least) as usize) {
+            return *bin;
+        }
+    }
+    number.div_euclid(width)
+}
+
+// The least of ints, and the bins of the numbers from it up to the greatest where there are far fewer of these than ints, so that dividing each number once is less work. Which numbers these are is a matter of time alone.
+fn bins_from(alloc: Global, ints: &[i64], width: i64) -> Result<(i64, Vec<i64>), AllocError>
+    requires { pos 1 ≤ℤ width }
+    ensures { IfOk result (λ made. AreBinsFrom made.0 width made.1.items) }
+{
+    let mut least = i64::MAX;
+    let mut greatest = i64::MIN;
+    for n in ints {
+        least = least.min(*n);
+        greatest = greatest.max(*n);
+    }
+    let mut bins = Vec::new(alloc);
+    if least <= greatest && greatest.abs_diff(least) < ints.len() as u64 / INTS_PER_BIN {
+        let count = greatest.abs_diff(least) as usize + 1;
+        bins.reserve_exact(count)?;
+        for k in 0..count {
+            bins.push((least + k as i64).div_euclid(width))?;
+        }
+    }
+    Ok((least, bins))
 }
 
 // The bin of each int.

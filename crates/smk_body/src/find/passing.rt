@@ -1,21 +1,21 @@
-ghost use Rattle.std.specs.Prelude.{◌≡◌, ◌<◌, ◌≤◌, ◌++◌, IfOk, length};
+ghost use Rattle.std.specs.Prelude.{◌≡◌, ℕ, pos, ◌<◌, ◌≤◌, ◌++◌, Bool, false, IfOk, OnOk, All, filter, length, map, slice_index, slice_index_or};
 ghost use Rattle.std.specs.Ordering.{int_cmp};
 ghost use Rattle.std.specs.declared.cmp.Ordering.TheVariants.{Less, Equal, Greater};
+ghost use Rattle.smk_base.specs.Cells.{value_of_cell};
 ghost use Rattle.smk_base.specs.PlanImage.{formula_of};
 ghost use Rattle.smk_base.specs.Plans.{Comparison};
 ghost use Rattle.smk_base.specs.declared.book.plan.Operand.TheVariants as operands;
 ghost use Rattle.smk_base.specs.declared.book.plan.CmpOp.{CmpOp};
+ghost use Rattle.smk_base.specs.declared.value.Value.TheVariants as values;
 ghost use Rattle.smk_model.specs.Kinds.{FormulaFits};
-ghost use Rattle.smk_model.specs.Values.{holds};
-ghost use Rattle.smk_body.specs.Halves.{ints_below, meeting_below};
+ghost use Rattle.smk_model.specs.Lineage.{row_at};
+ghost use Rattle.smk_model.specs.Values.{holds, meets, value_cmp};
+ghost use Rattle.smk_body.specs.Halves.{meeting_below};
 
 use crate::comparisons::{compare, meets_at, says};
-use smk_base::{CellRef, CmpOp, Ints, Operand, Pred, Rel, Value};
+use smk_base::{CellRef, CmpOp, Dict, Ints, Operand, Pred, Rel};
 use std::alloc::{AllocError, Global};
 use std::cmp::Ordering;
-
-// So many places are put last together.
-const BLOCK: usize = 256;
 
 /// The places of the rows that meet a predicate, from one place up to another: behind those below the first they are those below the second.
 pub fn selected_places(
@@ -30,115 +30,132 @@ pub fn selected_places(
     requires within { to ≤ length rel.now.rows }
     ensures { IfOk result (λ v. meeting_below (formula_of pred.now) rel.now.rows from ++ v.items ≡ meeting_below (formula_of pred.now) rel.now.rows to) }
 {
-    if let Pred::Cmp(c, op, operand) = pred {
-        if let Operand::Lit(value) = operand {
-            return compared(alloc, rel, *c, *op, value, from, to);
-        }
-    }
-    rows_selected(alloc, rel, pred, from, to)
+    let mut places: Vec<u32> = (from..to).collect(alloc)?;
+    keep_meeting(alloc, rel, pred, &mut places)?;
+    places.shrink_to_fit();
+    Ok(places)
 }
 
-// The same of any predicate, row by row.
-fn rows_selected(
+// Keeps the places whose rows meet a predicate. The second part of a conjunction is read at the places alone that the first keeps.
+fn keep_meeting(
     alloc: Global,
     rel: &Rel,
     pred: &Pred,
-    from: u32,
-    to: u32,
-) -> Result<Vec<u32>, AllocError>
+    places: &mut Vec<u32>,
+) -> Result<(), AllocError>
     requires fits { FormulaFits rel.now.kinds (formula_of pred.now) }
-    requires order { from ≤ to }
-    requires within { to ≤ length rel.now.rows }
-    ensures { IfOk result (λ v. meeting_below (formula_of pred.now) rel.now.rows from ++ v.items ≡ meeting_below (formula_of pred.now) rel.now.rows to) }
+    requires within { All (λ i. i < length rel.now.rows) places.old.items }
+    ensures kept { OnOk result (places.new.items ≡ filter (λ i. meets (formula_of pred.now) (row_at rel.now.rows i)) places.old.items) }
+    ensures below { OnOk result (All (λ i. i < length rel.now.rows) places.new.items) }
 {
-    let mut places = Vec::new(alloc);
-    for i in from..to {
-        if meets_at(rel, i, pred) {
-            places.push(i)?;
+    match pred {
+        Pred::And(a, b) => {
+            keep_meeting(alloc, rel, a, places)?;
+            keep_meeting(alloc, rel, b, places)
+        }
+        Pred::Cmp(c, op, Operand::Lit(value)) => {
+            keep_standing(alloc, rel, *c, *op, value.as_cell(), places)
+        }
+        _ => {
+            keep_where(places, &|i: u32| -> bool { meets_at(rel, i, pred) });
+            Ok(())
         }
     }
-    Ok(places)
 }
 
-// The same of a column that is compared with a value, so that the predicate is read once.
-fn compared(
+// The same of a column that is compared with a value, so that the comparison is read once. Texts are compared once each, where the column has no more of them than there are places.
+fn keep_standing(
     alloc: Global,
     rel: &Rel,
     c: u32,
     op: CmpOp,
-    value: &Value,
-    from: u32,
-    to: u32,
-) -> Result<Vec<u32>, AllocError>
-    requires fits { FormulaFits rel.now.kinds (Comparison c op (operands.Lit value.now)) }
-    requires order { from ≤ to }
-    requires within { to ≤ length rel.now.rows }
-    ensures { IfOk result (λ v. meeting_below (Comparison c op (operands.Lit value.now)) rel.now.rows from ++ v.items ≡ meeting_below (Comparison c op (operands.Lit value.now)) rel.now.rows to) }
+    value: CellRef,
+    places: &mut Vec<u32>,
+) -> Result<(), AllocError>
+    requires fits { FormulaFits rel.now.kinds (Comparison c op (operands.Lit (value_of_cell value))) }
+    requires within { All (λ i. i < length rel.now.rows) places.old.items }
+    ensures { OnOk result (places.new.items ≡ filter (λ i. meets (Comparison c op (operands.Lit (value_of_cell value.entry))) (row_at rel.now.rows i)) places.old.items) }
 {
-    match value.as_cell() {
-        CellRef::Int(n) => match rel.ints(c) {
-            Ints::Small(items) => ints_selected(alloc, items, op, n, from, to),
-            Ints::Wide(_) => cells_selected(alloc, rel, c, op, value, from, to),
-        },
-        CellRef::Text(_) => cells_selected(alloc, rel, c, op, value, from, to),
-    }
-}
-
-// The same, cell by cell.
-fn cells_selected(
-    alloc: Global,
-    rel: &Rel,
-    c: u32,
-    op: CmpOp,
-    value: &Value,
-    from: u32,
-    to: u32,
-) -> Result<Vec<u32>, AllocError>
-    requires column { c < length rel.now.kinds }
-    requires order { from ≤ to }
-    requires within { to ≤ length rel.now.rows }
-    ensures { IfOk result (λ v. meeting_below (Comparison c op (operands.Lit value.now)) rel.now.rows from ++ v.items ≡ meeting_below (Comparison c op (operands.Lit value.now)) rel.now.rows to) }
-{
-    let mut places = Vec::new(alloc);
-    for i in from..to {
-        if says(op, compare(rel.cell(i, c), value.as_cell())) {
-            places.push(i)?;
+    match value {
+        CellRef::Int(n) => {
+            if let Ints::Small(items) = rel.ints(c) {
+                keep_ints(items, op, n, places);
+                return Ok(());
+            }
+        }
+        CellRef::Text(_) => {
+            let _rows = rel.len();
+            if rel.dict(c).len() as usize <= places.len() {
+                let standing = texts_standing(alloc, rel.dict(c), op, value)?;
+                keep_codes(rel.codes(c), standing.as_slice(), places);
+                return Ok(());
+            }
         }
     }
-    Ok(places)
+    keep_where(
+        places,
+        &|i: u32| -> bool { says(op, compare(rel.cell(i, c), value)) },
+    );
+    Ok(())
 }
 
-// The places of the small ints, from one place up to another, that stand so to an int. Each place is written into a block, where the next one overwrites it unless its int stands so, so that no branch hangs on the ints; full blocks are put behind the places found.
-fn ints_selected(
-    alloc: Global,
-    items: &[i64],
-    op: CmpOp,
-    n: i128,
-    from: u32,
-    to: u32,
-) -> Result<Vec<u32>, AllocError>
-    requires order { from ≤ to }
-    requires within { to ≤ length items.now }
-    ensures { IfOk result (λ v. ints_below op n items.now from ++ v.items ≡ ints_below op n items.now to) }
+// Keeps the places of the small ints that stand so to an int.
+fn keep_ints(items: &[i64], op: CmpOp, n: i128, places: &mut Vec<u32>)
+    requires { All (λ i. i < length items.now) places.old.items }
+    ensures { places.new.items ≡ filter (λ i. holds op (int_cmp (slice_index_or items.now i (pos 0)) n)) places.old.items }
 {
     let less = says(op, Ordering::Less);
     let equal = says(op, Ordering::Equal);
     let greater = says(op, Ordering::Greater);
-    let mut places = Vec::new(alloc);
-    let mut block = vec![in alloc; 0u32; BLOCK]?;
+    keep_where(
+        places,
+        &|i: u32| -> bool { stands(less, equal, greater, i128::from(items[i as usize]), n) },
+    );
+}
+
+// Keeps the places of the codes of texts that are told to stand so.
+fn keep_codes(codes: &[u32], standing: &[bool], places: &mut Vec<u32>)
+    requires codes { All (λ code. code < length standing.now) codes.now }
+    requires places { All (λ i. i < length codes.now) places.old.items }
+    ensures { places.new.items ≡ filter (λ i. slice_index_or standing.now (slice_index codes.now i) false) places.old.items }
+{
+    keep_where(
+        places,
+        &|i: u32| -> bool { standing[codes[i as usize] as usize] },
+    );
+}
+
+// Whether each text of a column stands so to a value.
+fn texts_standing(
+    alloc: Global,
+    dict: &Dict,
+    op: CmpOp,
+    value: CellRef,
+) -> Result<Vec<bool>, AllocError>
+    ensures { IfOk result (λ told. told.items ≡ map (λ text. holds op (value_cmp (values.Text text) (value_of_cell value.entry))) dict.now.texts) }
+{
+    let mut standing = Vec::new(alloc);
+    for code in 0..dict.len() {
+        standing.push(says(op, compare(CellRef::Text(dict.text(code)), value)))?;
+    }
+    Ok(standing)
+}
+
+// Keeps the places that a test lets through. Each is written to the front, where the next one overwrites it unless it is let through, so that no branch hangs on the test.
+fn keep_where<F: Fn(u32) -> bool>(places: &mut Vec<u32>, test: &F)
+    requires { All (F.pre test.now) places.old.items }
+    ensures { (f : ℕ → Bool) → All (λ i. (told : Bool) → F.post test.now i told → told ≡ f i) places.old.items → places.new.items ≡ filter f places.old.items }
+{
+    let items = places.as_mut_slice();
     let mut count = 0;
-    for i in from..to {
-        if count == BLOCK {
-            places.extend_from_slice(block.as_slice())?;
-            count = 0;
-        }
-        block[count] = i;
-        if stands(less, equal, greater, i128::from(items[i as usize]), n) {
+    for k in 0..items.len() {
+        let i = items[k];
+        items[count] = i;
+        if test(i) {
             count += 1;
         }
     }
-    places.extend_from_slice(&block[..count])?;
-    Ok(places)
+    places.truncate(count);
 }
 
 // What a comparison says of two ints, from what it says of each order: in two choices of a value, where a match on the order would be a branch.

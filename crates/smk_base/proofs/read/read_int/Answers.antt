@@ -1,14 +1,19 @@
-use Rattle.std.proofs.Common.{◌∙◌, ap}
-use Rattle.smk_base.specs.Ints.{int_of, numeral_int, before_blanks}
-use Rattle.smk_base.proofs.IntNumerals.{some_says, none_says}
+use Rattle.std.proofs.Common.{◌≡◌, ◌∙◌, sym, ap, Some, to_z, of_z, w64}
+use Rattle.std.proofs.Math.Facts.{to_z-of_z}
+use Rattle.smk_base.proofs.IntNumerals.{int_of-numeral, IsIntText-int_of, some_says, none_says}
 use Rattle.smk_base.proofs.read.read_int.Goals as goal
 
-pub returns-clause-value : goal.returns-clause-value
-unfolding int_of
-returns-clause-value c = c.read_numeral.ensures ∙ ap numeral_int (c.without_blanks_behind.ensures ∙ ap before_blanks c.without_blanks_before.ensures)
+pub returns-in-Some-clause-value : goal.returns-in-Some-clause-value
+returns-in-Some-clause-value c =
+    let is = int_of-numeral c.args.bytes.now c.in-Some.number (sym c.read_numeral.ensures ∙ c.in-Some.is) in
+    let same : to_z w64 (of_z w64 c.in-Some.number) ≡ c.in-Some.number = to_z-of_z (IsIntText-int_of c.args.bytes.now c.in-Some.number is).small in
+    ap Some same ∙ sym is
 
-pub returns-clause-some : goal.returns-clause-some
-returns-clause-some c = some_says _ _ (returns-clause-value c)
+pub returns-in-Some-clause-some : goal.returns-in-Some-clause-some
+returns-in-Some-clause-some c = some_says _ _ (returns-in-Some-clause-value c)
 
-pub returns-clause-none : goal.returns-clause-none
-returns-clause-none c = none_says _ _ (returns-clause-value c)
+pub returns-in-None-clause-some : goal.returns-in-None-clause-some
+returns-in-None-clause-some c = some_says _ _ c.read_among_blanks.ensures
+
+pub returns-in-None-clause-none : goal.returns-in-None-clause-none
+returns-in-None-clause-none c = none_says _ _ c.read_among_blanks.ensures

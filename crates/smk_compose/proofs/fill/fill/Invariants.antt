@@ -6,7 +6,8 @@ use Rattle.smk_compose.proofs.fill.fill.Given as goal
 
 abbrev pub invariant-loop-i : goal.invariant-loop-i
 invariant-loop-i l = record {
+  count : length l.made.items ≡ l.i;
   long : length l.maps ≡ length l.fn.maps;
-  done : (j : ℕ) → j < l.i → map_at l.maps j ≡ filled (slice_index_or l.need j no_need).dir l.rows (length (table_at (each_rows l.tables) (slice_index_or l.need j no_need).table)) (map_at l.fn.maps j);
+  done : (j : ℕ) → j < l.i → map_at l.made.items j ≡ filled (slice_index_or l.need j no_need).dir l.rows (length (table_at (each_rows l.tables) (slice_index_or l.need j no_need).table)) (map_at l.fn.maps j);
   rest : (j : ℕ) → l.i ≤ j → map_at l.maps j ≡ map_at l.fn.maps j;
 }

@@ -1,4 +1,4 @@
-use Rattle.std.proofs.Common.{◌≡◌, ◌∙◌, ◌<◌, ◌+◌, length, drop, slice_set, slice_index_or, sym, ap, arith}
+use Rattle.std.proofs.Common.{◌≡◌, ◌∙◌, ◌<◌, ◌+◌, length, drop, slice_set, sym, ap, arith}
 use Rattle.std.proofs.lemmas.List.{length-set, get_or_default}
 use Rattle.smk_compose.specs.Through.{together, together_all, has_heavy, map_at, no_map}
 use Rattle.smk_compose.specs.declared.kept_maps.KeptMap.{KeptMap}
@@ -24,9 +24,9 @@ returns-in-Err-Pairs-clause-fault c =
     let low : i < length xs = omega (arith, inv.left.long) in
     let at = meet_here c.args.left_side.now c.args.right_side.now c.loop-i.left_side c.loop-i.right_side xs ys c.loop-i.lefts c.loop-i.rights i c.requires.long low inv.left inv.right in
     let k = c.index-lefts-i.result in
-    heavy_here c.args.node (slice_index_or c.loop-i.lefts i k).table whole i (omega (arith, together_long c.args.left_side.now c.args.right_side.now xs ys c.requires.long)) inv.none
+    heavy_here c.args.node c.table-table.result whole i (omega (arith, together_long c.args.left_side.now c.args.right_side.now xs ys c.requires.long)) inv.none
     (ap has_heavy at ∙ c.in-Err-Pairs.ensures.many c.in-Err-Pairs.field-0-is)
-    (ap (λ (x : KeptMap). x.table) at ∙ ap (λ (x : KeptMap). x.table) (get_or_default c.loop-i.lefts i no_map k (omega arith)))
+    (ap (λ (x : KeptMap). x.table) at ∙ ap (λ (x : KeptMap). x.table) (get_or_default c.loop-i.lefts i no_map k (omega arith)) ∙ sym c.table-table.ensures)
 
 pub loop-i-preserved : goal.loop-i-preserved
 loop-i-preserved c =

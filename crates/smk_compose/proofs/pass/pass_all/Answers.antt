@@ -1,4 +1,4 @@
-use Rattle.std.proofs.Common.{◌≡◌, ◌∙◌, ◌<◌, ◌+◌, length, map, drop, slice_set, slice_index_or, sym, ap, arith}
+use Rattle.std.proofs.Common.{◌≡◌, ◌∙◌, ◌<◌, ◌+◌, length, map, drop, slice_set, sym, ap, arith}
 use Rattle.std.proofs.lemmas.List.{length-map, length-set, get_or_default}
 use Rattle.std.proofs.lemmas.Grind.{common_steps}
 use Rattle.smk_compose.specs.Through.{through, has_heavy, map_at, no_map}
@@ -20,9 +20,9 @@ returns-in-Err-Pairs-clause-fault c =
     let low : i < length c.args.maps.now = omega (arith, c.loop-i.invariant.ahead.long) in
     let at = pass_here c.args.side.now c.loop-i.side c.args.maps.now maps i low c.loop-i.invariant.ahead in
     let k = c.index-maps-i.result in
-    heavy_here c.args.node (slice_index_or maps i k).table (map f c.args.maps.now) i (omega (arith, length-map c.args.maps.now f)) c.loop-i.invariant.none
+    heavy_here c.args.node c.table-table.result (map f c.args.maps.now) i (omega (arith, length-map c.args.maps.now f)) c.loop-i.invariant.none
     (ap has_heavy at ∙ c.in-Err-Pairs.ensures.many c.in-Err-Pairs.field-0-is)
-    (ap (λ (x : KeptMap). x.table) at ∙ ap (λ (x : KeptMap). x.table) (get_or_default maps i no_map k (omega arith)))
+    (ap (λ (x : KeptMap). x.table) at ∙ ap (λ (x : KeptMap). x.table) (get_or_default maps i no_map k (omega arith)) ∙ sym c.table-table.ensures)
 
 pub loop-i-preserved : goal.loop-i-preserved
 loop-i-preserved c =

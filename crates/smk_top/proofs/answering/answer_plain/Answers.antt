@@ -7,8 +7,8 @@ use Rattle.smk_session.specs.Sessions.{state_of}
 use Rattle.smk_top.proofs.ReplyFits.{told_fits, told_text}
 use Rattle.smk_top.proofs.answering.answer_plain.Goals as goal
 
-pub reply_text-requires : goal.reply_text-requires
-reply_text-requires g c =
+pub reply_text_in_pieces-requires-clause-reply : goal.reply_text_in_pieces-requires-clause-reply
+reply_text_in_pieces-requires-clause-reply g c = λ _ _.
     rw c.catalog.ensures.book
     (told_fits (catalog_image c.args.session.now.catalog) (state_of c.args.session.now) _ c.args.line.now c.in_ok-turn.turn.reply c.catalog.ensures.checked c.in_ok-turn.ensures.reply)
 

@@ -1,17 +1,10 @@
-use Rattle.std.proofs.Common.{arith}
-use Rattle.std.proofs.lemmas.List.{length-map}
-use Rattle.smk_base.proofs.Recoding.{dict_short, AreCodes-add, texts_at_add}
+use Rattle.smk_base.proofs.Recoding.{text-code}
 use Rattle.smk_base.proofs.rel.text_column.TextColumn.push_bytes.Goals as goal
 
-pub add_bytes-requires : goal.add_bytes-requires
-add_bytes-requires c =
-    let room = rw (← c.self.view_is, length-map) at c.requires in
-    omega (arith, dict_short _ _ c.self.invariant, room)
+pub push_code-requires-clause-code : goal.push_code-requires-clause-code
+push_code-requires-clause-code c = rw (← c.self.view_is, ← c.self.invariant.firsts) (text-code _ _ _ c.in-Some.ensures).0
 
-pub invariant_of-self-2 : goal.invariant_of-self-2
-invariant_of-self-2 c =
-    let room = rw (← c.self.view_is, length-map) at c.requires in
-    rw (c.in_ok-code.ensures.texts, c.push_reserved.ensures.items, c.reserve.ensures.items, c.in_ok-code.ensures.code) (AreCodes-add _ _ c.args.text.now c.self.invariant room)
-
-pub returns-clause-pushed : goal.returns-clause-pushed
-returns-clause-pushed c = rw (c.in_ok-code.ensures.texts, c.push_reserved.ensures.items, c.reserve.ensures.items, c.in_ok-code.ensures.code, ← c.self.view_is) (texts_at_add _ _ c.args.text.now c.self.invariant.within)
+pub returns-in-Some-clause-pushed : goal.returns-in-Some-clause-pushed
+returns-in-Some-clause-pushed c =
+    let same = (text-code c.self.inside.dict.texts c.args.text.now c.in-Some.code c.in-Some.ensures).1 in
+    rw (← c.self.view_is) (rw (← c.self.view_is, ← c.self.invariant.firsts, same) at c.push_code.ensures.pushed)
