@@ -8,7 +8,7 @@ use Rattle.smk_model.specs.Words.{TextSource}
 use Rattle.smk_model.specs.Reports.{BookSaid}
 use Rattle.smk_model.specs.Outcome.{Held, Parses, spells, misspells, BookSays, unparsed, parsed, FileSays, unread, read, ScriptSays, lines_read, OpensBook, OpensScript, no_script, a_script, Inputs, ReadsFiles, no_book, no_tables, no_readings, no_rows, inputs, source_of, book_of, script_of, ReadsInputs, unusable, usable, unreadable}
 use Rattle.smk_model.specs.OutcomeLaws.{OneReading, OneInputs, OneOutcome}
-use Rattle.smk_model.proofs.Unique.{one_book, one_any_line}
+use Rattle.smk_model.proofs.OneTree.{one_book, one_any_line}
 
 pub same_reading : {text : List ℕ} {a b : Reading} → IsReading text a → IsReading text b → a ≡ b
 same_reading (says_nothing h) (says_nothing k) = refl

@@ -10,17 +10,19 @@ use Rattle.smk_base.specs.declared.book.token.TokenKind.TheVariants as kinds
 use Rattle.smk_base.specs.declared.fault.BookFault.{BookFault}
 use Rattle.smk_base.specs.declared.fault.BookFault.TheVariants.{BadToken}
 use Rattle.smk_model.specs.Lines.{place_of}
-use Rattle.smk_model.specs.Machine.{through, no_counts, any_fault}
+use Rattle.smk_model.specs.Rules.{ASelected}
+use Rattle.smk_model.specs.TokenReadings.{any_fault}
 use Rattle.smk_model.specs.OwnLineLaws.{OwnLinesAreRead}
-use Rattle.smk_model.specs.OwnLines.{RowsPart, OwnLine, Selected, Lead, WholeLine, BeforeTable, BeforeLine, lead_of, in_place, begins_with_dot, is_own, first_dot, AreSelected, selected, selected_symbols, selected_fault, OwnReading, Owns, Misses, before_line, IsOwnReading, without_lead, alone, not_alone, of_table, of_no_table, of_line}
+use Rattle.smk_model.specs.OwnLines.{RowsPart, OwnLine, Selected, Lead, WholeLine, BeforeTable, BeforeLine, lead_of, in_place, begins_with_dot, is_own, first_dot, OwnReading, Owns, Misses, before_line, IsOwnReading, without_lead, alone, not_alone, of_table, of_no_table, of_line}
+use Rattle.smk_model.specs.Spelled.{AreSelected}
+use Rattle.smk_model.specs.TokenReadings.{selected_fault}
 use Rattle.smk_model.specs.Readings.{Reading, Unread, IsReading, says_nothing, asks, leaves}
 use Rattle.smk_model.specs.Tokens.{Token, is_gap, tokens, tokens_from, head_of, HasNoToken}
-use Rattle.smk_model.proofs.Closing.{faultless_finish}
-use Rattle.smk_model.proofs.Keeping.{selected_keep_limits}
+use Rattle.smk_model.proofs.Shapes.{faultless_finish, has_tree}
+use Rattle.smk_model.proofs.LimitsKept.{selected_keep_limits}
 use Rattle.smk_model.proofs.OneOutcome.{same_reading}
 use Rattle.smk_model.proofs.SomeOutcome.{some_line}
-use Rattle.smk_model.proofs.Sound.{none_is_ok, sound}
-use Rattle.smk_model.proofs.Unique.{one_name, ask_steps_at, ranked}
+use Rattle.smk_model.proofs.OneTree.{one_tree}
 
 -- a token that can't be read, and nothing else
 abbrev bad_at : ℕ → List Token
@@ -75,12 +77,6 @@ says {text} (of_table {part = part} {table = table} {steps = steps} e s n) = sub
 says {text} (of_no_table {fault = fault} e f) = subst (λ l. Says text l (Misses (place_of fault))) (sym e) (inl (fault, f, refl))
 says {text} (of_line {becomes = becomes} {reading = reading} e r) = subst (λ l. Says text l (before_line text becomes reading)) (sym e) (reading, r, refl)
 
-same_selected : {ts : List Token} {table other : List ℕ} {steps others : List AskStepImage} → AreSelected ts table steps → AreSelected ts other others → (table ≡ other) × (steps ≡ others)
-same_selected (selected n p h) (selected m q k) =
-    let r = one_name refl n m in
-    let s = ask_steps_at r.1 p q (omega (arith, ranked h)) (omega (arith, ranked k)) in
-    (ap (λ w. w.name) r.0, s.0)
-
 same_said : (text : List ℕ) (lead : Option (Lead × List ℕ)) (a b : OwnReading) → Says text lead a → Says text lead b → a ≡ b
 same_said text None a b p q = p ∙ sym q
 same_said text (Some (WholeLine line, rest)) a b (inl (h, p)) (inl (k, q)) = p ∙ sym q
@@ -90,7 +86,7 @@ same_said text (Some (WholeLine line, rest)) a b (inr (h, p)) (inr (k, q)) = p �
 same_said text (Some (BeforeTable part, rest)) a b (inl (f, h, p)) (inl (g, k, q)) = let same : f ≡ g = cc in p ∙ ap (λ fault. Misses (place_of fault)) same ∙ sym q
 same_said text (Some (BeforeTable part, rest)) a b (inl (f, h, p)) (inr (u, us, s, k, q)) = absurd (cc)
 same_said text (Some (BeforeTable part, rest)) a b (inr (t, ts, r, h, p)) (inl (g, k, q)) = absurd (cc)
-same_said text (Some (BeforeTable part, rest)) a b (inr (t, ts, r, h, p)) (inr (u, us, s, k, q)) = let same = same_selected r s in cc
+same_said text (Some (BeforeTable part, rest)) a b (inr (t, ts, r, h, p)) (inr (u, us, s, k, q)) = p ∙ ap (λ (said : List ℕ × List AskStepImage). Owns (Selected part said.0 said.1)) (one_tree ASelected _ (t, ts) (u, us) refl r s) ∙ sym q
 same_said text (Some (BeforeLine becomes, rest)) a b (x, r, p) (y, s, q) = p ∙ ap (before_line text becomes) (same_reading r s) ∙ sym q
 
 one_own : (text : List ℕ) (a b : OwnReading) → IsOwnReading text a → IsOwnReading text b → a ≡ b
@@ -98,10 +94,7 @@ one_own text a b p q = same_said text (lead_of text) a b (says p) (says q)
 
 -- a faultless list of tokens names a table, and steps over its rows
 some_selected : (text : List ℕ) → selected_fault (tokens text) ≡ None → (table : List ℕ) × (steps : List AskStepImage) × AreSelected (tokens text) table steps
-some_selected text e =
-    let k = none_is_ok (through selected_symbols no_counts (tokens text)) e in
-    let r = sound (tokens text) selected_symbols no_counts k.0 refl (faultless_finish selected_symbols refl refl text e) k.1 in
-    (r.1.1.0.name, r.1.2.1.0, selected r.1.1.1 r.1.2.1.1 r.1.2.2.1.2)
+some_selected text e = let r = has_tree ASelected refl refl (tokens text) (faultless_finish ASelected refl refl text e) e in (r.0.0, r.0.1, r.1)
 
 some_own : (text : List ℕ) → (own : OwnReading) × IsOwnReading text own
 some_own text = by (lead_of text) refl

@@ -10,18 +10,18 @@ use Rattle.smk_base.specs.declared.fault.Fault.TheVariants.{Book}
 use Rattle.smk_base.specs.declared.fault.BookFault.{BookFault}
 use Rattle.smk_model.specs.Values.{Row}
 use Rattle.smk_model.specs.Tokens.{tokens, head_of}
-use Rattle.smk_model.specs.Machine.{book_fault, any_fault}
+use Rattle.smk_model.specs.TokenReadings.{no_tally, book_fault, any_fault}
 use Rattle.smk_model.specs.Lines.{lines, place_of}
 use Rattle.smk_model.specs.Readings.{Reading, Nothing, Asks, Unread, IsReading, says_nothing, asks, leaves, AreReadings, no_line, one_line}
 use Rattle.smk_model.specs.Reports.{BookSaid, Report}
 use Rattle.smk_model.specs.Words.{TextSource, words_of}
 use Rattle.smk_model.specs.Outcome.{Held, Parses, spells, misspells, BookSays, unparsed, parsed, FileSays, unread, read, ScriptSays, lines_read, OpensBook, OpensScript, no_script, a_script, Inputs, ReadsFiles, no_book, no_tables, no_readings, no_rows, inputs, source_of, book_of, script_of, ReadsInputs, unusable, usable, Outcome, unreadable, file_bytes, load_all, appended, statements_say, reported}
 use Rattle.smk_model.specs.OutcomeLaws.{FaultlessTextsSpell, SomeReading, SomeOutcome}
-use Rattle.smk_model.proofs.Sound.{faultless_have_trees}
-use Rattle.smk_model.proofs.Closing.{book_finishes, any_finishes}
+use Rattle.smk_model.specs.Rules.{AStmts, AWholeAnyLine}
+use Rattle.smk_model.proofs.Shapes.{faultless_finish, faultless_have_trees}
 
 pub faultless_texts_spell : FaultlessTextsSpell
-faultless_texts_spell text e = faultless_have_trees.book (tokens text) (book_finishes text e) e
+faultless_texts_spell text e = faultless_have_trees.book (tokens text) (faultless_finish (AStmts no_tally) refl refl text e) e
 
 pub some_line : (text : List ℕ) → (reading : Reading) × IsReading text reading
 some_line text = by (head_of (tokens text)).kind refl (any_fault (tokens text)) refl
@@ -29,7 +29,7 @@ some_line text = by (head_of (tokens text)).kind refl (any_fault (tokens text)) 
     by : (k : TokenKind) → (head_of (tokens text)).kind ≡ k → (f : Option BookFault) → any_fault (tokens text) ≡ f → (reading : Reading) × IsReading text reading
     by kinds.End q f e = (Nothing, says_nothing q)
     by _ q (Some f) e = (Unread (place_of f), leaves (λ h. absurd (cc)) e refl)
-    by _ q None e = let r = faultless_have_trees.any (tokens text) (any_finishes text e) e in (Asks r.0, asks (λ h. absurd (cc)) r.1 e)
+    by _ q None e = let r = faultless_have_trees.any (tokens text) (faultless_finish AWholeAnyLine refl refl text e) e in (Asks r.0, asks (λ h. absurd (cc)) r.1 e)
 
 some_lines : (texts : List (List ℕ)) → (readings : List Reading) × AreReadings texts readings
 some_lines [] = ([], no_line)

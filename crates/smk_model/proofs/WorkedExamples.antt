@@ -1,6 +1,6 @@
 -- What is worked by hand, by computing it.
 use Rattle.std.specs.Prelude.{Ok}
-use Rattle.std.proofs.Common.{List, ◌≡◌, [], ◌∷◌, Some, refl}
+use Rattle.std.proofs.Common.{◌≡◌, [], ◌∷◌, Some, refl}
 use Rattle.std.specs.Fmt.{digits}
 use Rattle.clap.specs.Walk.{walked}
 use Rattle.clap.specs.Faults.{walk_fault, defaults_fault}
@@ -8,18 +8,13 @@ use Rattle.csv.specs.Writing.{fields_text, is_blank, escaped}
 use Rattle.csv.specs.Reading.{records_from}
 use Rattle.csv.specs.Machine.{next_record}
 use Rattle.smk_base.specs.Ints.{int_of}
-use Rattle.smk_base.specs.declared.book.token.TokenKind.TheVariants as kinds
 use Rattle.smk_model.specs.Texts.{record_line}
 use Rattle.smk_model.specs.Tables.{table_of}
-use Rattle.smk_model.specs.Tokens.{Token}
-use Rattle.smk_model.specs.Grammar.{First, name, plain, file, no_more, one_more, listed, int_type, text_type, no_default, decl, alone_what, column_what, agg, keys, aggs, plan, scan, no_step, one_step, group_step, no_extra, table_stmt, view_stmt, back_stmt, fwd_stmt, no_stmt, one_stmt, mark, listed_marks, no_then, back_line, fwd_line, plain_line, whole_any_line}
+use Rattle.smk_model.proofs.Spelling.{computed}
 use Rattle.smk_model.specs.Readings.{asks, no_line, one_line}
 use Rattle.smk_model.specs.Words.{Files, words_of}
 use Rattle.smk_model.specs.Outcome.{spells, parsed, read, OpensBook, OpensScript, lines_read, no_script, a_script, load_all, inputs, usable, unusable, unreadable, reported}
 use Rattle.smk_model.specs.WorkedExamples.{readme_book_name, readme_script_name, readme_files, readme_catalog, readme_workbook, readme_readings, readme_inputs, readme_report, ReadmeHolds, WordsHold, TablesHold, StringsHold, PlanHolds}
-
-pub stands : {t : Token} {b : List Token} → First t.kind t (t ∷ b) b
-stands = record { is_kind = refl; is_first = refl }
 
 pub plan_holds : PlanHolds
 plan_holds = record {
@@ -34,18 +29,12 @@ plan_holds = record {
 }
 
 book_there : OpensBook readme_files readme_book_name (Ok (record { catalog = readme_catalog; fds = [] }))
-book_there = read refl (parsed (spells
-    (one_stmt (table_stmt stands (name stands) stands (file stands) stands (listed (decl (plain stands) (int_type stands) no_default) (one_more stands (decl (plain stands) (text_type stands) no_default) (one_more stands (decl (plain stands) (int_type stands) no_default) no_more))) stands)
-    (one_stmt (view_stmt stands (name stands) stands (plan (scan stands (name stands)) (one_step stands (group_step stands (keys (listed (plain stands) no_more)) (aggs stands (listed (agg (plain stands) stands (alone_what {k = kinds.Count} refl stands)) (one_more stands (agg (plain stands) stands (column_what {k = kinds.Sum} refl stands (plain stands))) no_more)) stands)) no_step)))
-    (one_stmt (back_stmt stands stands (name stands) stands (name stands) no_extra)
-    (one_stmt (fwd_stmt stands stands (name stands) stands (name stands))
-    (no_stmt stands)))))
-    refl) refl)
+book_there = read refl (parsed (spells (computed refl) refl) refl)
 
 script_there : OpensScript readme_files (Some readme_script_name) (Ok readme_readings)
 script_there = a_script (read refl (lines_read
-    (one_line (asks (λ e. absurd (cc)) (whole_any_line (plain_line (back_line stands (name stands) (listed_marks (listed (mark stands refl refl) no_more)) stands (name stands) no_then)) stands) refl)
-    (one_line (asks (λ e. absurd (cc)) (whole_any_line (plain_line (fwd_line stands (name stands) (listed_marks (listed (mark stands refl refl) (one_more stands (mark stands refl refl) no_more))) stands (name stands))) stands) refl)
+    (one_line (asks (λ e. absurd (cc)) (computed refl) refl)
+    (one_line (asks (λ e. absurd (cc)) (computed refl) refl)
     no_line))))
 
 table_there : load_all readme_files readme_catalog.tables ≡ Ok readme_workbook.tables

@@ -39,10 +39,6 @@ keys_in k groups = map (key_of (upto k)) groups
 abbrev pub fresh : List Row → List Row → List ℕ
 fresh old new = places (λ j. not (list_any (row_eq (row_at new j)) old)) (length new)
 
--- the old keys, and behind them the new ones that are no old one
-abbrev pub all_keys : List Row → List Row → List Row
-all_keys old new = old ++ sub new (fresh old new)
-
 -- the aggregate of a group from that of its old rows and that of its new ones
 abbrev pub joint : Agg → Value → Value → Value
 joint agg a b = aggregate ((a ∷ []) ∷ (b ∷ []) ∷ []) (over_parts 0 agg)

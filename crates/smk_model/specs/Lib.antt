@@ -41,11 +41,9 @@ pub mod DirectionLaws
 pub mod ClassLaws
 pub mod TokenKinds
 pub mod Tokens
-pub mod Grammar
 pub mod GrammarLaws
 pub mod TokenLaws
 pub mod WorkedExamples
-pub mod Machine
 pub mod Lines
 pub mod Readings
 pub mod ShownNames
@@ -69,3 +67,7 @@ pub mod OwnLineLaws
 pub mod Conversation
 pub mod ConversationLaws
 pub mod TalkStarts
+pub mod Rules
+pub mod LanguageTable
+pub mod TokenReadings
+pub mod Spelled

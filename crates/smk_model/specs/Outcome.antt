@@ -20,8 +20,8 @@ use Rattle.smk_base.specs.declared.fault.TableFault.TheVariants as table_faults
 use Rattle.smk_model.specs.Words.{TextSource, Files, Demo, words_of}
 use Rattle.smk_model.specs.Values.{Row}
 use Rattle.smk_model.specs.Tokens.{tokens}
-use Rattle.smk_model.specs.Grammar.{AreStmts}
-use Rattle.smk_model.specs.Machine.{book_fault}
+use Rattle.smk_model.specs.Spelled.{AreStmts}
+use Rattle.smk_model.specs.TokenReadings.{book_fault}
 use Rattle.smk_model.specs.Names.{Typed, ◌>>=◌}
 use Rattle.smk_model.specs.Typing.{types}
 use Rattle.smk_model.specs.Expanded.{expanded, dependency_names}

@@ -3,8 +3,8 @@ use Rattle.std.specs.Prelude.{◌≡◌, ℕ, List, None, Result}
 use Rattle.smk_base.specs.Trees.{StmtImage}
 use Rattle.smk_base.specs.declared.fault.Fault.{Fault}
 use Rattle.smk_model.specs.Tokens.{tokens}
-use Rattle.smk_model.specs.Grammar.{AreStmts}
-use Rattle.smk_model.specs.Machine.{book_fault}
+use Rattle.smk_model.specs.Spelled.{AreStmts}
+use Rattle.smk_model.specs.TokenReadings.{book_fault}
 use Rattle.smk_model.specs.Readings.{Reading, AreReadingsOf}
 use Rattle.smk_model.specs.Reports.{Report}
 use Rattle.smk_model.specs.Outcome.{Held, Inputs, ReadsInputs, Outcome}

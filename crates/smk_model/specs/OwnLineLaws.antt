@@ -14,7 +14,9 @@ use Rattle.smk_model.specs.Asks.{back_line, ask_over}
 use Rattle.smk_model.specs.Catalogs.{table_kinds}
 use Rattle.smk_model.specs.Limits.{KeepsSteps}
 use Rattle.smk_model.specs.OwnAnswers.{narrowed_reply, own_answered, selected_ask, selected_reply}
-use Rattle.smk_model.specs.OwnLines.{RowsPart, OwnLine, Selected, Narrowed, NarrowedAsk, Brief, BriefProfile, OwnReading, IsOwnReading, AreSelected, selected_fault, has_rows, has_rows_behind, is_own, first_dot}
+use Rattle.smk_model.specs.OwnLines.{RowsPart, OwnLine, Selected, Narrowed, NarrowedAsk, Brief, BriefProfile, OwnReading, IsOwnReading, has_rows, has_rows_behind, is_own, first_dot}
+use Rattle.smk_model.specs.Spelled.{AreSelected}
+use Rattle.smk_model.specs.TokenReadings.{selected_fault}
 use Rattle.smk_model.specs.Readings.{Reading, Unread, IsReading}
 use Rattle.smk_model.specs.Replies.{known_pair, reply}
 use Rattle.smk_model.specs.ReplyTexts.{view_in, table_in}

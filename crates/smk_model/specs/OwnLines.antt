@@ -3,15 +3,13 @@ use Rattle.std.specs.Prelude.{◌≡◌, ◌^◌, ◌-◌, ◌==◌, ℕ, ℤ, p
 use Rattle.std.specs.Str.{bytes_eq}
 use Rattle.smk_base.specs.Ints.{int_of}
 use Rattle.smk_base.specs.Trees.{AskStepImage, AskImage, AnyLineImage, PlainLine, AskedLine, ProfiledLine}
-use Rattle.smk_base.specs.declared.book.token.TokenKind.TheVariants as kinds
-use Rattle.smk_base.specs.declared.book.tree.Word.{Word}
 use Rattle.smk_base.specs.declared.book.tree.Line.{Line}
 use Rattle.smk_base.specs.declared.book.tree.Line.TheVariants as lines
 use Rattle.smk_base.specs.declared.book.tree.Then.TheVariants as thens
 use Rattle.smk_base.specs.declared.fault.BookFault.{BookFault}
-use Rattle.smk_model.specs.Tokens.{Token, tokens, is_gap, HasNoToken}
-use Rattle.smk_model.specs.Grammar.{First, IsName, AreAskSteps}
-use Rattle.smk_model.specs.Machine.{Symbol, ALineName, AskSteps, AnEnd, through, no_counts, fault_in}
+use Rattle.smk_model.specs.Tokens.{tokens, is_gap, HasNoToken}
+use Rattle.smk_model.specs.Spelled.{AreSelected}
+use Rattle.smk_model.specs.TokenReadings.{selected_fault}
 use Rattle.smk_model.specs.Lines.{place_of}
 use Rattle.smk_model.specs.Readings.{Reading, Nothing, Asks, Unread, IsReading}
 
@@ -131,16 +129,6 @@ lead_of text =
 -- the bytes at the end of a line, with blanks in place of those before them, so that each place is one of the line
 abbrev pub in_place : List ℕ → List ℕ → List ℕ
 in_place text rest = map (λ b. 32) (take (length text - length rest) text) ++ rest
-
--- NAME ( "|" ask_step )*, up to the end: a table, and steps over its rows; and the first fault of its tokens
-pub data AreSelected : List Token → List ℕ → List AskStepImage → Type 0 where
-  selected : {a b c d : List Token} {t : Token} {w : Word} {ss : List AskStepImage} → IsName a b w → AreAskSteps b c ss → First kinds.End t c d → AreSelected a w.name ss
-
-abbrev pub selected_symbols : List Symbol
-selected_symbols = ALineName ∷ AskSteps ∷ AnEnd ∷ []
-
-abbrev pub selected_fault : List Token → Option BookFault
-selected_fault ts = fault_in (through selected_symbols no_counts ts)
 
 -- an own line, or the place where it isn't read
 pub data OwnReading : Type 0 where

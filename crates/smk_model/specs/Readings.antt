@@ -5,8 +5,8 @@ use Rattle.smk_base.specs.Trees.{AnyLineImage, PlainLine}
 use Rattle.smk_base.specs.declared.book.tree.Line.{Line}
 use Rattle.smk_base.specs.Marks.{after_marks}
 use Rattle.smk_model.specs.Tokens.{tokens, HasNoToken}
-use Rattle.smk_model.specs.Grammar.{IsWholeAnyLine}
-use Rattle.smk_model.specs.Machine.{any_fault}
+use Rattle.smk_model.specs.Spelled.{IsWholeAnyLine}
+use Rattle.smk_model.specs.TokenReadings.{any_fault}
 use Rattle.smk_model.specs.Lines.{lines, place_of}
 
 -- nothing, a line of the grammar, or the place at which a line leaves the grammar

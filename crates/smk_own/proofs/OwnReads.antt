@@ -14,7 +14,7 @@ use Rattle.smk_model.specs.Limits.{KeepsAsk}
 use Rattle.smk_model.specs.OwnLines.{RowsPart, OwnLine, Narrowed, NarrowedAsk, Brief, BriefProfile, Lead, WholeLine, BeforeTable, BeforeLine, has_rows, has_rows_behind, moves_brushes, if_may, narrowed, brief, past_blanks, first_word, past_word, bound_of, narrowing, parting, lead_of, in_place, or_first_dot, OwnReading, Owns, Misses, Selected, IsOwnReading, without_lead, alone, not_alone, of_table, of_no_table, of_line}
 use Rattle.smk_model.specs.Readings.{Nothing, Asks, Unread, IsReading, says_nothing, asks, leaves}
 use Rattle.smk_model.specs.Tokens.{is_gap}
-use Rattle.smk_model.proofs.Keeping.{faultless_asks_keep_limits, selected_keep_limits}
+use Rattle.smk_model.proofs.LimitsKept.{faultless_asks_keep_limits, selected_keep_limits}
 use Rattle.smk_parse.specs.Answers.{IsAnyAnswer, IsSelectedAnswer}
 use Rattle.smk_own.specs.Keeping.{KeepsOwn, KeepsOwnReading}
 

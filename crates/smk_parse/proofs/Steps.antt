@@ -1,254 +1,308 @@
--- How a symbol and the token in hand go on.
-use Rattle.std.specs.Prelude.{Result, Ok, Err, Option, Some, None, is_some, cond, IsTrue, nat_lt}
-use Rattle.smk_parse.specs.Vocabulary.{TokenKind, BookFault, Many, TooMany, BadNumber, NoMemory, Token, head_of, tail_of, First, Configuration, PlanCounts, Symbol, Move, Takes, Skips, Wrong, Past, Outside, through, settle, move_of, or_next, go_on, token_fault, is_more, same_kind, AToken, Columns, NameBytes, Nodes, node_more, node_move, step_symbols, at_any_line, at_ask_steps, at_line, AStep, AnyLine, ALine, within, is_mark_number, at_first, at_item, at_keys, at_source, at_united, at_column, at_term, at_literal, at_mark, at_marks, AColumn, ALiteral, AnAs, AKeys, AFirst, AnItem, MoreKeys, ASource, AUnited, ATerm, AMarks, AMark, MoreMarks, AreMore, AreListed, at_more, int_value}
-use Rattle.std.proofs.Common.{◌≡◌, ◌<◌, List, [], ◌∷◌, ◌++◌, length, ap, ◌∙◌, sym, refl, append_assoc, arith, ℕ, ◌+◌, true, false, subst, ℤ, Bool}
-use Rattle.std.proofs.lemmas.{Bool.lt-ltb, Grind.length_at_push}
-use Rattle.smk_model.{proofs.Alike.same_is, specs.Grammar.one_more}
-use Rattle.smk_parse.specs.{Reads.Leads, Reads.Fails, Reads.is_memory, Reads.Comes, Reads.Reads, Reads.is_column, Texts.Advances}
-use Rattle.smk_base.specs.declared.book.limits.TheConstants.{NODE_LIMIT}
-use Rattle.smk_base.specs.declared.rel.TheConstants.{COLUMN_LIMIT}
+-- How a symbol goes on at the token in hand, and what begins with another symbol.
+use Rattle.std.specs.Prelude.{Result, Ok, Err, Option, Some, None, true, false, is_some, map}
+use Rattle.std.proofs.Common.{◌≡◌, ◌<◌, ◌+◌, ℕ, List, [], ◌∷◌, ◌++◌, length, ap, ◌∙◌, sym, subst, refl, arith, append_assoc, append-nil}
+use Rattle.std.proofs.lemmas.Bool.{lt-ltb}
+use Rattle.std.proofs.lemmas.List.{map_push, length_push}
+use Rattle.smk_base.specs.declared.book.token.TokenKind.{TokenKind}
 use Rattle.smk_base.specs.declared.book.token.TokenKind.TheVariants as kinds
-
--- there is a token in hand
-abbrev pub Here : Configuration → Type 0
-Here a = a.rest ≡ head_of a.rest ∷ tail_of a.rest
-
--- the token in hand stands first
-pub first_here : (k : TokenKind) (c : PlanCounts) (a b : Configuration) → Advances c a b → (head_of a.rest).kind ≡ k → First k (head_of a.rest) a.rest b.rest
-first_here k c a b h e = record { is_kind = e; is_first = h.first }
-
-shrinks : (c : PlanCounts) (a b : Configuration) → Advances c a b → length b.rest < length a.rest
-shrinks c a b h = let e = ap length h.first in omega (arith, e)
+use Rattle.smk_base.specs.declared.book.tree.AskStep.{AskStep}
+use Rattle.smk_base.specs.declared.book.tree.ItemTree.{ItemTree}
+use Rattle.smk_base.specs.declared.book.tree.ItemTree.TheVariants as items
+use Rattle.smk_base.specs.declared.book.tree.Marks.TheVariants as markings
+use Rattle.smk_base.specs.declared.fault.Many.TheVariants.{Nodes}
+use Rattle.smk_base.specs.declared.book.limits.TheConstants.{NODE_LIMIT}
+use Rattle.smk_base.specs.Trees.{StmtImage, StepImage, AskStepImage, TreeImage, UnionNode, AnyLineImage, PlainLine}
+use Rattle.smk_model.specs.Rules.{Mark, Tally, AUnited, behind}
+use Rattle.smk_model.specs.LanguageTable.{rule_of, if_name, if_column, ends, item_rule, listed_rule, marks_rule, source_rule, united_rule, line_rule, any_rule, stmt_rule, stmts_rule, counted, step_rule, one_input, with_place}
+use Rattle.smk_model.specs.TokenReadings.{Count, Fine, within, limits, member_in_range, marks_in_range, first_count, item_count, source_count, node_count, stmt_count, short, Move, Skips, checked, opened, move_of, goes_on}
+use Rattle.smk_model.proofs.InTurn.{Here, then, goes, reading, runs_gives, runs_reads, runs_behind, begins_with, opened_onward, only, fewer, fewer_run}
+use Rattle.smk_parse.specs.declared.book.Tally as code
+use Rattle.smk_parse.specs.Vocabulary.{BookFault, Token, Word, Marks, Line, head_of, tail_of, ask_step_image, Configuration, PlanCounts, Symbol, Tree, Rule, Gives, Reads, onward, sign, Member, Declaration, OutputItem, KeyColumn, Aggregation, ColumnPair, AName, ALineName, AColumn, AType, ADefault, AnAs, AWhat, AFirst, ANames, AMarked, AMarks, AKeys, APrim, AnAnds, AnOrs, AConj, APred, ASource, ASteps, APlan, One, More, Listed, AnAskStep, AskSteps, APiped, ASelected, AStmts, AStep, no_counts, node_more, ALine, AWholeLine, AnyLine, AWholeAnyLine, Reading, reads, runs, joint}
+use Rattle.smk_parse.specs.{Texts.Advances, Reads.MemberRule, Reads.of, Reads.reads_one, Reads.reads_more, Reads.reads_list, Reads.before, Reads.is_column, Reads.ran, Reads.value_of, Reads.Answers, Reads.StmtReads, Reads.tally_of}
 
 -- a token is taken, and none comes back
-pub smaller : (l : List Symbol) (c : PlanCounts) (a b d : Configuration) → Advances c a b → Leads l b d → length d.rest < length a.rest
-smaller l c a b d h k = omega (arith, shrinks c a b h, k.fewer)
+pub smaller : (symbol : Symbol) (c : PlanCounts) (a b d : Configuration) (x : Tree symbol) → Advances c a b → reads symbol b ≡ Ok (x, d) → length d.rest < length a.rest
+smaller symbol c a b d x h e = let n = ap length h.first in let l = fewer symbol b d x e in omega (arith, n, l)
 
--- where a move leads, with these symbols behind
-abbrev after : Move → List Symbol → PlanCounts → Token → List Token → Result Configuration BookFault
-after m ss c t ts = go_on (or_next m ss (settle ss c t)) c t ts (λ d l. through l d ts)
+pub behind_smaller : (symbol : Symbol) (c : PlanCounts) (a b d : Configuration) (x : Tree symbol) → reads symbol a ≡ Ok (x, b) → Advances c b d → length d.rest < length a.rest
+behind_smaller symbol c a b d x e h = let n = ap length h.first in let l = fewer symbol a b x e in omega (arith, n, l)
 
-moves : (x : Symbol) (ss : List Symbol) (c : PlanCounts) (ts us : List Token) (m : Move) → ts ≡ head_of ts ∷ us → move_of c x (head_of ts) ≡ m → through (x ∷ ss) c ts ≡ after m ss c (head_of ts) us
-moves x ss c ts us m h e = ap (through (x ∷ ss) c) h ∙ ap (λ m. after m ss c (head_of ts) us) e
+pub advanced : (c : PlanCounts) (a b : Configuration) → Advances c a b → b ≡ record { rest = tail_of a.rest; counts = c }
+advanced c a b h = λ i. record { rest = sym (ap tail_of h.first) i; counts = h.counted i }
 
--- the symbols n are those of l and then those of m
-parts : (l m n ss : List Symbol) (c : PlanCounts) (ts : List Token) → n ≡ l ++ m → through (n ++ ss) c ts ≡ through (l ++ (m ++ ss)) c ts
-parts l m n ss c ts e = ap (λ r. through (r ++ ss) c ts) e ∙ ap (λ r. through r c ts) (append_assoc l m ss)
+-- what begins with another symbol, whatever token is in hand
+pub conj_begins : (d : ℕ) (a : Configuration) → reads (AConj d) a ≡ then (reads (APrim d) a) (λ p b. runs (Reads (AnAnds d p) Gives) b)
+conj_begins d a = begins_with (AConj d) (APrim d) (λ p. Reads (AnAnds d p) Gives) a (opened_onward (head_of a.rest) true (limits (APrim d) a.counts (head_of a.rest)) _ _ _)
 
--- a symbol that a token opens, with what is left of it
-pub opened : (x : Symbol) (l : List Symbol) (c : PlanCounts) (a b : Configuration) → Advances c a b → move_of a.counts x (head_of a.rest) ≡ Takes c l → Comes (x ∷ []) l a b
-opened x l c a b h e = record { comes = λ ss. moves x ss a.counts a.rest b.rest (Takes c l) h.first e ∙ ap (λ d. through (l ++ ss) d b.rest) (sym h.counted); fewer = omega (arith, shrinks c a b h) }
+pub pred_begins : (d : ℕ) (a : Configuration) → reads (APred d) a ≡ then (reads (AConj d) a) (λ p b. runs (Reads (AnOrs d p) Gives) b)
+pred_begins d a = begins_with (APred d) (AConj d) (λ p. Reads (AnOrs d p) Gives) a (opened_onward (head_of a.rest) true (limits (AConj d) a.counts (head_of a.rest)) _ _ _)
 
--- a symbol that is nothing here
-skipped : (x : Symbol) (ss : List Symbol) (c : PlanCounts) (ts : List Token) → ts ≡ head_of ts ∷ tail_of ts → move_of c x (head_of ts) ≡ Skips → through (x ∷ ss) c ts ≡ through ss c ts
-skipped x [] c ts h e = moves x [] c ts (tail_of ts) Skips h e ∙ ap (λ l. Ok (record { rest = l; counts = c })) (sym h)
-skipped x (s ∷ ss) c ts h e = moves x (s ∷ ss) c ts (tail_of ts) Skips h e ∙ ap (through (s ∷ ss) c) (sym h)
+pub plan_begins : (d : ℕ) (a : Configuration) → reads (APlan d) a ≡ then (reads (ASource d) a) (λ x b. runs (Reads (ASteps d x) Gives) b)
+plan_begins d a = begins_with (APlan d) (ASource d) (λ x. Reads (ASteps d x) Gives) a (opened_onward (head_of a.rest) true (limits (ASource d) a.counts (head_of a.rest)) _ _ _)
 
-pub skips : (x : Symbol) (a : Configuration) → Here a → move_of a.counts x (head_of a.rest) ≡ Skips → Leads (x ∷ []) a a
-skips x a h e = record { goes = λ ss. skipped x ss a.counts a.rest h e; fewer = omega arith }
+pub piped_begins : (a : Configuration) → reads APiped a ≡ then (reads AnAskStep a) (λ s b. runs (Reads AskSteps (λ ss. Gives (s ∷ ss))) b)
+piped_begins a = begins_with APiped AnAskStep (λ s. Reads AskSteps (λ ss. Gives (s ∷ ss))) a (opened_onward (head_of a.rest) true (limits AnAskStep a.counts (head_of a.rest)) _ _ _)
 
-pub wrong : (x : Symbol) (a : Configuration) (f : BookFault) → Here a → f ≡ token_fault (head_of a.rest) → move_of a.counts x (head_of a.rest) ≡ Wrong → Fails (x ∷ []) a f
-wrong x a f h g e = record { stops = λ ss m. moves x ss a.counts a.rest (tail_of a.rest) Wrong h e ∙ ap Err (sym g) }
+pub line_begins : (a : Configuration) → reads AWholeLine a ≡ then (reads ALine a) (λ l b. runs (ends l) b)
+line_begins a = begins_with AWholeLine ALine ends a (opened_onward (head_of a.rest) true (limits ALine a.counts (head_of a.rest)) _ _ _)
 
-pub past : (x : Symbol) (a : Configuration) (f : BookFault) (what : Many) → Here a → f ≡ TooMany (head_of a.rest).at what → move_of a.counts x (head_of a.rest) ≡ Past what → Fails (x ∷ []) a f
-past x a f what h g e = record { stops = λ ss m. moves x ss a.counts a.rest (tail_of a.rest) (Past what) h e ∙ ap Err (sym g) }
+pub any_begins : (a : Configuration) → reads AWholeAnyLine a ≡ then (reads AnyLine a) (λ l b. runs (ends l) b)
+any_begins a = begins_with AWholeAnyLine AnyLine ends a (opened_onward (head_of a.rest) true (limits AnyLine a.counts (head_of a.rest)) _ _ _)
 
-pub outside : (x : Symbol) (a : Configuration) (f : BookFault) → Here a → f ≡ BadNumber (head_of a.rest).at → move_of a.counts x (head_of a.rest) ≡ Outside → Fails (x ∷ []) a f
-outside x a f h g e = record { stops = λ ss m. moves x ss a.counts a.rest (tail_of a.rest) Outside h e ∙ ap Err (sym g) }
+-- a name or a column, and what is read behind it
+name_onward : {A : Type 0} (rest : Word → Rule A) (kind : TokenKind) → if_name rest kind ≡ onward (if_name Gives kind) rest
+name_onward rest kinds.Name = refl
+name_onward rest _ = refl
 
-pub no_memory : (ls : List Symbol) (a : Configuration) (f : BookFault) → f ≡ NoMemory → Fails ls a f
-no_memory ls a f e = record { stops = λ ss m. let g = sym (ap is_memory e) ∙ m in absurd (cc) }
+column_onward : {A : Type 0} (rest : Word → Rule A) (kind : TokenKind) → if_column rest kind ≡ onward (if_column Gives kind) rest
+column_onward rest kinds.Name = refl
+column_onward rest kinds.Quoted = refl
+column_onward rest _ = refl
 
--- one after the other: the symbols n are those of l and then those of m
-pub lead_on : (l m n : List Symbol) (a b c : Configuration) → Leads l a b → n ≡ l ++ m → Leads m b c → Leads n a c
-lead_on l m n a b c h e k = record { goes = λ ss. parts l m n ss a.counts a.rest e ∙ h.goes (m ++ ss) ∙ k.goes ss; fewer = omega (arith, h.fewer, k.fewer) }
+name_move : {A : Type 0} (count : Count) (rest : Word → Rule A) (t : Token) (next : Word → Move A) → opened t true count None (if_name rest t.kind) ≡ goes_on (opened t true count None (if_name Gives t.kind)) rest next
+name_move count rest t next = ap (opened t true count None) (name_onward rest t.kind) ∙ opened_onward t true count (if_name Gives t.kind) rest next
 
-pub fail_on : (l m n : List Symbol) (a b : Configuration) (f : BookFault) → Leads l a b → n ≡ l ++ m → Fails m b f → Fails n a f
-fail_on l m n a b f h e k = record { stops = λ ss i. parts l m n ss a.counts a.rest e ∙ h.goes (m ++ ss) ∙ k.stops ss i }
+column_move : {A : Type 0} (count : Count) (rest : Word → Rule A) (t : Token) (kind : TokenKind) (next : Word → Move A) → opened t true count None (if_column rest kind) ≡ goes_on (opened t true count None (if_column Gives kind)) rest next
+column_move count rest t kind next = ap (opened t true count None) (column_onward rest kind) ∙ opened_onward t true count (if_column Gives kind) rest next
 
-pub fail_first : (l m n : List Symbol) (a : Configuration) (f : BookFault) → Fails l a f → n ≡ l ++ m → Fails n a f
-fail_first l m n a f h e = record { stops = λ ss i. parts l m n ss a.counts a.rest e ∙ h.stops (m ++ ss) i }
+pub names_begin : (between : TokenKind) (a : Configuration) → reads (ANames between) a ≡ then (reads AName a) (λ w b. runs (sign (joint between) (Reads AName (λ z. Gives (w, z)))) b)
+names_begin between a = begins_with (ANames between) AName (λ w. sign (joint between) (Reads AName (λ z. Gives (w, z)))) a (name_move (short a.counts (head_of a.rest)) _ (head_of a.rest) _)
 
-pub open_only : (x : Symbol) (a b : Configuration) → Comes (x ∷ []) [] a b → Leads (x ∷ []) a b
-open_only x a b h = record { goes = h.comes; fewer = h.fewer }
+pub marked_begins : (between : TokenKind) (a : Configuration) → reads (AMarked between) a ≡ then (reads ALineName a) (λ w b. runs (Reads AMarks (λ m. sign (joint between) (Reads ALineName (λ z. Gives (w, m, z))))) b)
+marked_begins between a = begins_with (AMarked between) ALineName (λ w. Reads AMarks (λ m. sign (joint between) (Reads ALineName (λ z. Gives (w, m, z))))) a (name_move (Fine a.counts) _ (head_of a.rest) _)
 
-pub comes_leads : (ls ms : List Symbol) (a b c : Configuration) → Comes ls ms a b → Leads ms b c → Leads ls a c
-comes_leads ls ms a b c h k = record { goes = λ ss. h.comes ss ∙ k.goes ss; fewer = omega (arith, h.fewer, k.fewer) }
+pub selected_begins : (a : Configuration) → reads ASelected a ≡ then (reads ALineName a) (λ w b. runs (Reads AskSteps (λ ss. ends (w.name, ss))) b)
+selected_begins a = begins_with ASelected ALineName (λ w. Reads AskSteps (λ ss. ends (w.name, ss))) a (name_move (Fine a.counts) _ (head_of a.rest) _)
 
-pub comes_fails : (ls ms : List Symbol) (a b : Configuration) (f : BookFault) → Comes ls ms a b → Fails ms b f → Fails ls a f
-comes_fails ls ms a b f h k = record { stops = λ ss i. h.comes ss ∙ k.stops ss i }
+pub decl_begins : (k : ℕ) (a : Configuration) → reads (One Declaration k) a ≡ then (reads (AFirst k) a) (λ w b. runs (Reads AType (λ x. Reads ADefault (λ o. Gives (record { name = w; text = x; def = o })))) b)
+decl_begins k a = begins_with (One Declaration k) (AFirst k) (λ w. Reads AType (λ x. Reads ADefault (λ o. Gives (record { name = w; text = x; def = o })))) a (column_move (first_count k a.counts (head_of a.rest)) _ (head_of a.rest) _ _)
 
-pub comes_self : (ls : List Symbol) (a : Configuration) → Comes ls ls a a
-comes_self ls a = record { comes = λ ss. refl; fewer = omega arith }
+pub key_begins : (k : ℕ) (a : Configuration) → reads (One KeyColumn k) a ≡ then (reads (AFirst k) a) (λ w b. runs (Gives w) b)
+key_begins k a = begins_with (One KeyColumn k) (AFirst k) Gives a (column_move (first_count k a.counts (head_of a.rest)) _ (head_of a.rest) _ _)
 
-pub comes_on : (ls ms ns : List Symbol) (a b c : Configuration) → Comes ls ms a b → Comes ms ns b c → Comes ls ns a c
-comes_on ls ms ns a b c h k = record { comes = λ ss. h.comes ss ∙ k.comes ss; fewer = omega (arith, h.fewer, k.fewer) }
+pub agg_begins : (k : ℕ) (a : Configuration) → reads (One Aggregation k) a ≡ then (reads (AFirst k) a) (λ w b. runs (sign kinds.Equal (Reads AWhat (λ x. Gives (record { name = w; what = x })))) b)
+agg_begins k a = begins_with (One Aggregation k) (AFirst k) (λ w. sign kinds.Equal (Reads AWhat (λ x. Gives (record { name = w; what = x })))) a (column_move (first_count k a.counts (head_of a.rest)) _ (head_of a.rest) _ _)
 
--- a list begins with the symbols l, and m is left
-pub list_comes : (l m n : List Symbol) (a b : Configuration) → Leads l a b → n ≡ l ++ m → Comes n m a b
-list_comes l m n a b h e = record { comes = λ ss. parts l m n ss a.counts a.rest e ∙ h.goes (m ++ ss); fewer = h.fewer }
+pub pair_begins : (k : ℕ) (a : Configuration) → reads (One ColumnPair k) a ≡ then (reads (AFirst k) a) (λ w b. runs (sign kinds.Equal (Reads AColumn (λ v. Gives (record { left = w; right = v })))) b)
+pair_begins k a = begins_with (One ColumnPair k) (AFirst k) (λ w. sign kinds.Equal (Reads AColumn (λ v. Gives (record { left = w; right = v })))) a (column_move (first_count k a.counts (head_of a.rest)) _ (head_of a.rest) _ _)
 
--- the symbols l behind a token, and one more is left
-pub open_comes : (l m : List Symbol) (x y : Symbol) (a b c : Configuration) → Comes (x ∷ []) m a b → m ≡ l ++ y ∷ [] → Leads l b c → Comes (x ∷ []) (y ∷ []) a c
-open_comes l m x y a b c o e k = record { comes = λ ss. o.comes ss ∙ parts l (y ∷ []) m ss b.counts b.rest e ∙ k.goes (y ∷ ss); fewer = omega (arith, o.fewer, k.fewer) }
+-- an output column that is no bin
+item_move : (k : ℕ) (c : PlanCounts) (t : Token) (kind : TokenKind) (next : Word → Move ItemTree) → (kind ≡ kinds.Bin → ⊥) → opened t true (item_count k c t kind) None (item_rule kind) ≡ goes_on (opened t true (first_count k c t) None (if_column Gives kind)) (λ w. Reads (AnAs w) (λ v. Gives (items.Col w v))) next
+item_move k c t kinds.Bin next n = absurd (n refl)
+item_move k c t kind next n = column_move (first_count k c t) (λ w. Reads (AnAs w) (λ v. Gives (items.Col w v))) t kind next
 
--- one more in a loop
-pub more_comes : (ls l m : List Symbol) (x y : Symbol) (a b c d : Configuration) → Comes ls (x ∷ []) a b → Comes (x ∷ []) m b c → m ≡ l ++ y ∷ [] → Leads l c d → Comes ls (y ∷ []) a d
-more_comes ls l m x y a b c d h o e k = comes_on ls (x ∷ []) (y ∷ []) a b d h (open_comes l m x y b c d o e k)
+pub item_begins : (k : ℕ) (a : Configuration) → ((head_of a.rest).kind ≡ kinds.Bin → ⊥) → reads (One OutputItem k) a ≡ then (reads (AFirst k) a) (λ w b. runs (Reads (AnAs w) (λ v. Gives (items.Col w v))) b)
+item_begins k a n = begins_with (One OutputItem k) (AFirst k) (λ w. Reads (AnAs w) (λ v. Gives (items.Col w v))) a (item_move k a.counts (head_of a.rest) (head_of a.rest).kind _ n)
 
--- a symbol that does here what another does, with more behind it
-pub begins : (x y : Symbol) (more : List Symbol) (a : Configuration) → Here a → ((ss : List Symbol) → settle (x ∷ ss) a.counts (head_of a.rest) ≡ settle (y ∷ (more ++ ss)) a.counts (head_of a.rest)) → Comes (x ∷ []) (y ∷ more) a a
-begins x y more a h e = record {
-  comes = λ ss. ap (through (x ∷ ss) a.counts) h ∙ ap (λ m. go_on m a.counts (head_of a.rest) (tail_of a.rest) (λ d l. through l d (tail_of a.rest))) (e ss) ∙ sym (ap (through (y ∷ (more ++ ss)) a.counts) h);
-  fewer = omega arith;
-}
+-- marks in a list, and the other side of a union
+marks_move : (t : Token) (kind : TokenKind) (c : PlanCounts) (next : List ℕ → Move Marks) → (kind ≡ kinds.All → ⊥) → opened t (marks_in_range t kind) (Fine c) None (marks_rule kind) ≡ goes_on (opened t (member_in_range Mark t) (Fine c) None (listed_rule Mark kind)) (λ ms. Gives (markings.Listed ms)) next
+marks_move t kinds.All c next n = absurd (n refl)
+marks_move t kinds.Number c next n = opened_onward t (member_in_range Mark t) (Fine c) (listed_rule Mark kinds.Number) (λ ms. Gives (markings.Listed ms)) next
+marks_move t _ c next n = refl
 
--- the parts from a up to b make this tree, and more of them make it a whole
-pub record IsChain {T : Type 0} (ls : List Symbol) (x : Symbol) (AreMore : List Token → List Token → T → T → Type 0) (IsWhole : List Token → List Token → T → Type 0) (a b : Configuration) (tree : T) : Type 0 where
-  pub reads : Comes ls (x ∷ []) a b
-  pub is : (c : List Token) (whole : T) → AreMore b.rest c tree whole → IsWhole a.rest c whole
+pub marks_begin : (a : Configuration) → ((head_of a.rest).kind ≡ kinds.All → ⊥) → reads AMarks a ≡ then (reads (Listed Mark) a) (λ ms b. Ok (markings.Listed ms, b))
+marks_begin a n = begins_with AMarks (Listed Mark) (λ ms. Gives (markings.Listed ms)) a (marks_move (head_of a.rest) (head_of a.rest).kind a.counts _ n) ∙ ap (then (reads (Listed Mark) a)) (λ i ms b. runs_gives (markings.Listed ms) b i)
 
--- what one who reads symbol after symbol knows
-pub ruleset in_order = (opened, open_only, comes_leads, comes_fails, skips, wrong, past, outside, lead_on, fail_on, fail_first, no_memory, first_here)
+united_move : (d : ℕ) (c : PlanCounts) (t : Token) (kind : TokenKind) (next : TreeImage → Move StepImage) → (kind ≡ kinds.All → ⊥) → opened t true (source_count d c kind) None (united_rule d kind) ≡ goes_on (opened t true (source_count d c kind) None (source_rule d kind)) (λ x. Gives (UnionNode x)) next
+united_move d c t kinds.All next n = absurd (n refl)
+united_move d c t kind next n = opened_onward t true (source_count d c kind) (source_rule d kind) (λ x. Gives (UnionNode x)) next
 
-pub ruleset in_loop = (comes_self, comes_on, list_comes, open_comes, more_comes, smaller)
+pub united_begins : (d : ℕ) (a : Configuration) → ((head_of a.rest).kind ≡ kinds.All → ⊥) → ran (step_rule d kinds.Union) a ≡ then (reads (ASource d) a) (λ x b. Ok (UnionNode x, b))
+united_begins d a n = only (AUnited d) a ∙ begins_with (AUnited d) (ASource d) (λ x. Gives (UnionNode x)) a (united_move d a.counts (head_of a.rest) (head_of a.rest).kind _ n) ∙ ap (then (reads (ASource d) a)) (λ i x b. runs_gives (UnionNode x) b i)
 
--- a token of the wanted kind is taken
-pub token_leads : (k : TokenKind) (a b : Configuration) → Advances a.counts a b → same_kind k (head_of a.rest).kind ≡ true → Leads (AToken k ∷ []) a b
-token_leads k a b h e = open_only (AToken k) a b (opened (AToken k) [] a.counts a b h (ap (λ o. cond o (Takes a.counts []) Wrong) e))
+-- a line without steps
+plain_move : (c : PlanCounts) (t : Token) (kind : TokenKind) (next : Line → Move AnyLineImage) → (kind ≡ kinds.Ask → ⊥) → (kind ≡ kinds.Fd → ⊥) → (kind ≡ kinds.Append → ⊥) → opened t true (Fine c) None (any_rule kind) ≡ goes_on (opened t true (Fine c) None (line_rule kind)) (λ l. Gives (PlainLine l)) next
+plain_move c t kinds.Ask next e f g = absurd (e refl)
+plain_move c t kinds.Fd next e f g = absurd (f refl)
+plain_move c t kinds.Append next e f g = absurd (g refl)
+plain_move c t kind next e f g = opened_onward t true (Fine c) (line_rule kind) (λ l. Gives (PlainLine l)) next
 
-pub token_first : (k : TokenKind) (a b : Configuration) → Advances a.counts a b → same_kind k (head_of a.rest).kind ≡ true → First k (head_of a.rest) a.rest b.rest
-token_first k a b h e = first_here k a.counts a b h (sym (same_is k (head_of a.rest).kind e))
+pub plain_begins : (a : Configuration) → ((head_of a.rest).kind ≡ kinds.Ask → ⊥) → ((head_of a.rest).kind ≡ kinds.Fd → ⊥) → ((head_of a.rest).kind ≡ kinds.Append → ⊥) → reads AnyLine a ≡ then (reads ALine a) (λ l b. Ok (PlainLine l, b))
+plain_begins a e f g = begins_with AnyLine ALine (λ l. Gives (PlainLine l)) a (plain_move a.counts (head_of a.rest) (head_of a.rest).kind _ e f g) ∙ ap (then (reads ALine a)) (λ i l b. runs_gives (PlainLine l) b i)
 
-pub token_more : (k j : TokenKind) → same_kind k j ≡ true → IsTrue (is_more k) → IsTrue (is_more j)
-token_more k j e h = subst (λ x. IsTrue (is_more x)) (same_is k j e) h
+-- the keys of a grouping, where a column is in hand
+keys_move : (c : PlanCounts) (t : Token) (kind : TokenKind) → is_column kind ≡ true → opened t true (first_count 0 c t) (Some []) (listed_rule KeyColumn kind) ≡ opened t true (first_count 0 c t) None (listed_rule KeyColumn kind)
+keys_move c t kinds.Name e = refl
+keys_move c t kinds.Quoted e = refl
+keys_move c t _ e = absurd (cc)
 
-pub token_fails : (k : TokenKind) (a : Configuration) (f : BookFault) → a.rest ≡ head_of a.rest ∷ tail_of a.rest → f ≡ token_fault (head_of a.rest) → same_kind k (head_of a.rest).kind ≡ false → Fails (AToken k ∷ []) a f
-token_fails k a f h g e = wrong (AToken k) a f h g (ap (λ o. cond o (Takes a.counts []) Wrong) e)
+pub keys_begin : (a : Configuration) → Here a → is_column (head_of a.rest).kind ≡ true → reads AKeys a ≡ reads (Listed KeyColumn) a
+keys_begin a here e = reading AKeys a here ∙ ap (goes a) (keys_move a.counts (head_of a.rest) (head_of a.rest).kind e) ∙ sym (reading (Listed KeyColumn) a here)
 
-pub ruleset expect_goes = (token_leads, token_fails, token_first, token_more)
+keys_none : (c : PlanCounts) (t : Token) (kind : TokenKind) → is_column kind ≡ false → opened t true (first_count 0 c t) (Some []) (listed_rule KeyColumn kind) ≡ Skips []
+keys_none c t kinds.Name e = absurd (cc)
+keys_none c t kinds.Quoted e = absurd (cc)
+keys_none c t _ e = refl
 
--- at a token of this kind the symbol is these
-pub data Starts : Symbol → List Symbol → TokenKind → Type 0 where
-  keys_start : {k : TokenKind} → is_column k ≡ true → Starts AKeys (AFirst 0 ∷ MoreKeys 1 ∷ []) k
-  item_starts : {n : ℕ} {k : TokenKind} → (k ≡ kinds.Bin → ⊥) → Starts (AnItem n) (AFirst n ∷ AnAs ∷ []) k
-  column_starts : {k : TokenKind} → is_column k ≡ true → Starts ATerm (AColumn ∷ []) k
-  literal_starts : {k : TokenKind} → is_column k ≡ false → Starts ATerm (ALiteral ∷ []) k
-  marks_start : {k : TokenKind} → (k ≡ kinds.All → ⊥) → Starts AMarks (AMark ∷ MoreMarks ∷ []) k
-  united_starts : {d : ℕ} {k : TokenKind} → (k ≡ kinds.All → ⊥) → Starts (AUnited d) (ASource d ∷ []) k
-  plain_starts : {k : TokenKind} → (k ≡ kinds.Ask → ⊥) → (k ≡ kinds.Fd → ⊥) → (k ≡ kinds.Append → ⊥) → Starts AnyLine (ALine ∷ []) k
+pub no_keys : (a : Configuration) → Here a → is_column (head_of a.rest).kind ≡ false → reads AKeys a ≡ Ok ([], a)
+no_keys a here e = reading AKeys a here ∙ ap (goes a) (keys_none a.counts (head_of a.rest) (head_of a.rest).kind e)
 
--- a column that begins a member, with what is left of the member
-first_more : (c : PlanCounts) (n : ℕ) (more ss : List Symbol) (x y : Move) (short : Bool) (k : TokenKind) → or_next (at_first c n more short k) ss x ≡ or_next (at_first c n [] short k) (more ++ ss) y
-first_more c n more ss x y short k = by k
+-- what follows a first of several
+prepended : {T : Type 0} (x : T) (r : Reading (List T)) → then r (λ xs c. runs (Gives (x ∷ xs)) c) ≡ before (x ∷ []) r
+prepended x (Ok p) = runs_gives (x ∷ p.0) p.1
+prepended x (Err f) = refl
+
+pub before_push : {T : Type 0} (xs : List T) (x : T) (r : Reading (List T)) → before (xs ++ x ∷ []) r ≡ before xs (before (x ∷ []) r)
+before_push xs x (Ok p) = ap (λ ys. Ok (ys, p.1)) (append_assoc xs (x ∷ []) p.0)
+before_push xs x (Err f) = refl
+
+pub before_none : {T : Type 0} (r : Reading (List T)) → before [] r ≡ r
+before_none (Ok p) = refl
+before_none (Err f) = refl
+
+-- the members of a list from a place on, where one is in hand
+abbrev pub reads_rest : {T : Type 0} → MemberRule T → ℕ → Configuration → Reading (List T)
+reads_rest rule k a = then (reads_one rule k a) (λ x b. before (x ∷ []) (reads_more rule (k + 1) b))
+
+rest_of : (member : Member) (k : ℕ) (a : Configuration) → then (reads (One member k) a) (λ x b. runs (Reads (More member (k + 1)) (λ xs. Gives (x ∷ xs))) b) ≡ reads_rest (of member) k a
+rest_of member k a = ap (then (reads (One member k) a)) (λ i x b. (runs_reads (More member (k + 1)) (λ xs. Gives (x ∷ xs)) b ∙ prepended x (reads (More member (k + 1)) b)) i)
+
+pub list_begins : {T : Type 0} (rule : MemberRule T) (a : Configuration) → reads_list rule a ≡ before [] (reads_rest rule 0 a)
+list_begins (of member) a = begins_with (Listed member) (One member 0) (λ x. Reads (More member 1) (λ xs. Gives (x ∷ xs))) a (opened_onward _ _ _ _ _ _) ∙ rest_of member 0 a ∙ sym (before_none (reads_rest (of member) 0 a))
+
+more_goes : (member : Member) (k : ℕ) (b d : Configuration) → Here b → (head_of b.rest).kind ≡ kinds.Comma → Advances b.counts b d → reads (More member k) b ≡ reads_rest (of member) k d
+more_goes member k b d here is moved =
+    reading (More member k) b here
+    ∙ ap (λ kind. goes b (opened (head_of b.rest) true (Fine b.counts) (Some []) (rule_of (More member k) kind))) is
+    ∙ ap (runs (Reads (One member k) (λ x. Reads (More member (k + 1)) (λ xs. Gives (x ∷ xs))))) (sym (advanced b.counts b d moved))
+    ∙ runs_reads (One member k) (λ x. Reads (More member (k + 1)) (λ xs. Gives (x ∷ xs))) d
+    ∙ rest_of member k d
+
+more_none : (member : Member) (k : ℕ) (c : PlanCounts) (t : Token) (kind : TokenKind) → (kind ≡ kinds.Comma → ⊥) → opened t true (Fine c) (Some []) (rule_of (More member k) kind) ≡ Skips []
+more_none member k c t kinds.Comma n = absurd (n refl)
+more_none member k c t _ n = refl
+
+-- a member behind those so far, with a comma behind it, without one, and one that isn't read
+pub list_goes : {T : Type 0} (rule : MemberRule T) (r : Reading (List T)) (xs ys : List T) (x : T) (a b d : Configuration) → r ≡ before xs (reads_rest rule (length xs) a) → reads_one rule (length xs) a ≡ Ok (x, b) → Here b → (head_of b.rest).kind ≡ kinds.Comma → Advances b.counts b d → ys ≡ xs ++ x ∷ [] → r ≡ before ys (reads_rest rule (length ys) d)
+list_goes (of member) r xs ys x a b d h e here is moved p =
+    let n : length xs + 1 ≡ length ys = sym (length_push xs x) ∙ sym (ap length p) in
+    h ∙ ap (λ q. before xs (then q (λ x b. before (x ∷ []) (reads (More member (length xs + 1)) b)))) e
+    ∙ ap (λ q. before xs (before (x ∷ []) q)) (more_goes member (length xs + 1) b d here is moved)
+    ∙ sym (before_push xs x (reads_rest (of member) (length xs + 1) d))
+    ∙ ap (λ k. before (xs ++ x ∷ []) (reads_rest (of member) k d)) n ∙ ap (λ l. before l (reads_rest (of member) (length ys) d)) (sym p)
+
+pub list_ends : {T : Type 0} (rule : MemberRule T) (r : Reading (List T)) (xs ys : List T) (x : T) (a b : Configuration) → r ≡ before xs (reads_rest rule (length xs) a) → reads_one rule (length xs) a ≡ Ok (x, b) → Here b → ((head_of b.rest).kind ≡ kinds.Comma → ⊥) → ys ≡ xs ++ x ∷ [] → r ≡ Ok (ys, b)
+list_ends (of member) r xs ys x a b h e here n p =
+    h ∙ ap (λ q. before xs (then q (λ x b. before (x ∷ []) (reads (More member (length xs + 1)) b)))) e
+    ∙ ap (λ q. before xs (before (x ∷ []) q)) (reading (More member (length xs + 1)) b here ∙ ap (goes b) (more_none member (length xs + 1) b.counts (head_of b.rest) (head_of b.rest).kind n)) ∙ ap (λ l. Ok (l, b)) (sym p)
+
+pub list_fails : {T : Type 0} (rule : MemberRule T) (r : Reading (List T)) (xs : List T) (k : ℕ) (a : Configuration) (f : BookFault) → r ≡ before xs (reads_rest rule k a) → reads_one rule k a ≡ Err f → r ≡ Err f
+list_fails rule r xs k a f h e = h ∙ ap (λ q. before xs (then q (λ x b. before (x ∷ []) (reads_more rule (k + 1) b)))) e
+
+pub list_smaller : {T : Type 0} (rule : MemberRule T) (k : ℕ) (c : PlanCounts) (a b d : Configuration) (x : T) → reads_one rule k a ≡ Ok (x, b) → Advances c b d → length d.rest < length a.rest
+list_smaller (of member) k c a b d x e h = behind_smaller (One member k) c a b d x e h
+
+-- what is read one by one, and kept as images
+pub pushed : {X T : Type 0} (image : X → T) (r q p : Reading (List T)) (xs ys : List X) (x : X) → r ≡ before (map image xs) q → q ≡ before (image x ∷ []) p → ys ≡ xs ++ x ∷ [] → r ≡ before (map image ys) p
+pushed image r q p xs ys x h k e = h ∙ ap (before (map image xs)) k ∙ sym (before_push (map image xs) (image x) p) ∙ ap (λ l. before l p) (sym (ap (map image) e ∙ map_push image xs x))
+
+-- steps with bars between, from one in hand on
+step_then : (a b : Configuration) (s : AskStepImage) → reads AnAskStep a ≡ Ok (s, b) → reads APiped a ≡ before (s ∷ []) (reads AskSteps b)
+step_then a b s e = piped_begins a ∙ ap (λ r. then r (λ s b. runs (Reads AskSteps (λ ss. Gives (s ∷ ss))) b)) e ∙ runs_reads AskSteps (λ ss. Gives (s ∷ ss)) b ∙ prepended s (reads AskSteps b)
+
+bar_goes : (b d : Configuration) → Here b → (head_of b.rest).kind ≡ kinds.Bar → Advances b.counts b d → reads AskSteps b ≡ reads APiped d
+bar_goes b d here is moved = reading AskSteps b here ∙ ap (λ kind. goes b (opened (head_of b.rest) true (Fine b.counts) (Some []) (rule_of AskSteps kind))) is ∙ ap (runs (Reads APiped Gives)) (sym (advanced b.counts b d moved)) ∙ only APiped d
+
+bar_none : (c : PlanCounts) (t : Token) (kind : TokenKind) → (kind ≡ kinds.Bar → ⊥) → opened t true (Fine c) (Some []) (rule_of AskSteps kind) ≡ Skips []
+bar_none c t kinds.Bar n = absurd (n refl)
+bar_none c t _ n = refl
+
+no_bar : (b : Configuration) → Here b → ((head_of b.rest).kind ≡ kinds.Bar → ⊥) → reads AskSteps b ≡ Ok ([], b)
+no_bar b here n = reading AskSteps b here ∙ ap (goes b) (bar_none b.counts (head_of b.rest) (head_of b.rest).kind n)
+
+pub piped_goes : (a b d : Configuration) (s : AskStepImage) → reads AnAskStep a ≡ Ok (s, b) → Here b → (head_of b.rest).kind ≡ kinds.Bar → Advances b.counts b d → reads APiped a ≡ before (s ∷ []) (reads APiped d)
+piped_goes a b d s e here is moved = step_then a b s e ∙ ap (before (s ∷ [])) (bar_goes b d here is moved)
+
+pub piped_ends : (r : Reading (List AskStepImage)) (a b : Configuration) (xs ys : List AskStep) (x : AskStep) → r ≡ before (map ask_step_image xs) (reads APiped a) → reads AnAskStep a ≡ Ok (ask_step_image x, b) → Here b → ((head_of b.rest).kind ≡ kinds.Bar → ⊥) → ys ≡ xs ++ x ∷ [] → r ≡ Ok (map ask_step_image ys, b)
+piped_ends r a b xs ys x h e here n p =
+    pushed ask_step_image r (reads APiped a) (Ok ([], b)) xs ys x h (step_then a b (ask_step_image x) e ∙ ap (before (ask_step_image x ∷ [])) (no_bar b here n)) p ∙ ap (λ l. Ok (l, b)) (append-nil (map ask_step_image ys))
+
+-- a statement, and the statements behind it
+with_rest : (y : Tally) (s : StmtImage) (a : Configuration) → runs (Reads (AStmts y) (λ ss. Gives (s ∷ ss))) a ≡ before (s ∷ []) (reads (AStmts y) a)
+with_rest y s a = runs_reads (AStmts y) (λ ss. Gives (s ∷ ss)) a ∙ prepended s (reads (AStmts y) a)
+
+stmts_onward : (y : Tally) (kind : TokenKind) (rule : Token → Rule StmtImage) → stmt_rule kind ≡ Some rule → stmts_rule y kind ≡ Some (λ t. behind (rule t) (λ s. Reads (AStmts (counted kind y)) (λ ss. Gives (s ∷ ss))))
+stmts_onward y kinds.End rule e = absurd (cc)
+stmts_onward y kind rule e = ap (λ o. onward o (λ s. Reads (AStmts (counted kind y)) (λ ss. Gives (s ∷ ss)))) e
+
+pub stmt_reads : (y : Tally) (rule : Token → Rule StmtImage) (a b : Configuration) → stmt_rule (head_of a.rest).kind ≡ Some rule → stmt_count y (head_of a.rest).kind ≡ Fine no_counts → Here a → Advances no_counts a b
+    → reads (AStmts y) a ≡ then (runs (rule (head_of a.rest)) b) (λ s c. before (s ∷ []) (reads (AStmts (counted (head_of a.rest).kind y)) c))
+stmt_reads y rule a b is fine here moved =
+    let t = head_of a.rest in
+    let next : StmtImage → Rule (List StmtImage) = λ s. Reads (AStmts (counted t.kind y)) (λ ss. Gives (s ∷ ss)) in
+    reading (AStmts y) a here
+    ∙ ap (goes a) (ap (opened t true (stmt_count y t.kind) None) (stmts_onward y t.kind rule is) ∙ ap (checked (behind (rule t) next) true t) fine)
+    ∙ ap (λ (d : Configuration). runs (behind (rule t) next) d) (sym (advanced no_counts a b moved))
+    ∙ runs_behind (rule t) next b
+    ∙ ap (then (runs (rule t) b)) (λ i s c. with_rest (counted t.kind y) s c i)
+
+-- a statement behind its keyword, and the end
+pub stmt_answers : {X : Type 0} (image : X → StmtImage) (t u : code.Tally) (kind : TokenKind) (rule : Token → Rule StmtImage) (a b e : Configuration) (r : Result X BookFault) → (head_of a.rest).kind ≡ kind → stmt_rule kind ≡ Some rule → stmt_count (tally_of t) kind ≡ Fine no_counts → Here a → Advances no_counts a b → tally_of u ≡ counted kind (tally_of t) → Answers (runs (rule (head_of a.rest)) b) image e r → StmtReads image t u a e r
+stmt_answers {X} image t u kind rule a b e r k is fine here moved tallied = by r
   where
-    few : (o p : Bool) → or_next (within o Columns (within p NameBytes (Takes c more))) ss x ≡ or_next (within o Columns (within p NameBytes (Takes c []))) (more ++ ss) y
-    few true true = refl
-    few true false = refl
-    few false p = refl
+    reads_so : reads (AStmts (tally_of t)) a ≡ then (runs (rule (head_of a.rest)) b) (λ s c. before (s ∷ []) (reads (AStmts (tally_of u)) c))
+    reads_so = stmt_reads (tally_of t) rule a b (ap stmt_rule k ∙ is) (ap (stmt_count (tally_of t)) k ∙ fine) here moved ∙ ap (λ (y : Tally). then (runs (rule (head_of a.rest)) b) (λ s c. before (s ∷ []) (reads (AStmts y) c))) (ap (λ k. counted k (tally_of t)) k ∙ sym tallied)
 
-    by : (k : TokenKind) → or_next (at_first c n more short k) ss x ≡ or_next (at_first c n [] short k) (more ++ ss) y
-    by kinds.Name = few (nat_lt n COLUMN_LIMIT) short
-    by kinds.Quoted = few (nat_lt n COLUMN_LIMIT) short
-    by _ = refl
+    by : (r : Result X BookFault) → Answers (runs (rule (head_of a.rest)) b) image e r → StmtReads image t u a e r
+    by (Ok x) h = let n = ap length moved.first in let l = fewer_run (rule (head_of a.rest)) b e (image x) h in (reads_so ∙ ap (λ q. then q (λ s c. before (s ∷ []) (reads (AStmts (tally_of u)) c))) h, omega (arith, n, l))
+    by (Err f) h = λ m. reads_so ∙ ap (λ q. then q (λ s c. before (s ∷ []) (reads (AStmts (tally_of u)) c))) (h m)
 
-keys_move : (c : PlanCounts) (ss : List Symbol) (x y : Move) (short : Bool) (k : TokenKind) → is_column k ≡ true → or_next (at_keys c short k) ss x ≡ or_next (at_first c 0 [] short k) (MoreKeys 1 ∷ ss) y
-keys_move c ss x y short kinds.Name e = first_more c 0 (MoreKeys 1 ∷ []) ss x y short kinds.Name
-keys_move c ss x y short kinds.Quoted e = first_more c 0 (MoreKeys 1 ∷ []) ss x y short kinds.Quoted
-keys_move c ss x y short _ e = absurd (cc)
+pub stmts_done : (y : Tally) (xs : List StmtImage) (a : Configuration) (r : Reading (List StmtImage)) → r ≡ before xs (reads (AStmts y) a) → Here a → (head_of a.rest).kind ≡ kinds.End → value_of r ≡ Ok xs
+stmts_done y xs a r h here is =
+    ap value_of (h ∙ ap (before xs) (reading (AStmts y) a here ∙ ap (λ kind. goes a (opened (head_of a.rest) true (stmt_count y kind) None (stmts_rule y kind))) is ∙ runs_gives [] (record { rest = tail_of a.rest; counts = no_counts }))) ∙ ap (λ l. Ok l) (append-nil xs)
 
-item_move : (c : PlanCounts) (n : ℕ) (ss : List Symbol) (x y : Move) (short : Bool) (k : TokenKind) → (k ≡ kinds.Bin → ⊥) → or_next (at_item c n short k) ss x ≡ or_next (at_first c n [] short k) (AnAs ∷ ss) y
-item_move c n ss x y short kinds.Bin e = absurd (e refl)
-item_move c n ss x y short k e = first_more c n (AnAs ∷ []) ss x y short k
+-- a line behind its keyword
+pub any_answers : {X : Type 0} (image : X → AnyLineImage) (rule : Token → Rule AnyLineImage) (a b e : Configuration) (r : Result X BookFault) → any_rule (head_of a.rest).kind ≡ Some rule → Here a → Advances a.counts a b → Answers (runs (rule (head_of a.rest)) b) image e r → Answers (reads AnyLine a) image e r
+any_answers image rule a b e r is here moved =
+    let t = head_of a.rest in
+    subst (λ q. Answers q image e r) (sym (reading AnyLine a here ∙ ap (goes a) (ap (opened t true (Fine a.counts) None) is) ∙ ap (λ (d : Configuration). runs (rule t) d) (sym (advanced a.counts a b moved))))
 
-marks_move : (c : PlanCounts) (ss : List Symbol) (x y : Move) (v : ℤ) (k : TokenKind) → (k ≡ kinds.All → ⊥) → or_next (at_marks c v k) ss x ≡ or_next (at_mark c [] v k) (MoreMarks ∷ ss) y
-marks_move c ss x y v kinds.All p = absurd (p refl)
-marks_move c ss x y v kinds.Number p = by (is_mark_number v)
-  where
-    by : (o : Bool) → or_next (cond o (Takes c (MoreMarks ∷ [])) Outside) ss x ≡ or_next (cond o (Takes c []) Outside) (MoreMarks ∷ ss) y
-    by true = refl
-    by false = refl
-marks_move c ss x y v _ p = refl
+-- a step behind its keyword
+placed_reads : (symbol : Symbol) (make : ℕ → StepImage → Tree symbol) (rule : Rule StepImage) (a b : Configuration) → move_of limits symbol a.counts (head_of a.rest) ≡ opened (head_of a.rest) true (node_count a.counts) None (with_place make (Some rule)) → a.counts.nodes < NODE_LIMIT → Here a → Advances (node_more a.counts) a b → reads symbol a ≡ then (runs rule b) (λ s c. Ok (make (head_of a.rest).at s, c))
+placed_reads symbol make rule a b is few here moved =
+    let t = head_of a.rest in
+    reading symbol a here
+    ∙ ap (goes a) (is ∙ ap (checked (behind rule (λ s. Gives (make t.at s))) true t) (ap (λ o. within o Nodes (Fine (node_more a.counts))) (lt-ltb a.counts.nodes NODE_LIMIT few)))
+    ∙ ap (runs (behind rule (λ s. Gives (make t.at s)))) (sym (advanced (node_more a.counts) a b moved))
+    ∙ runs_behind rule (λ s. Gives (make t.at s)) b
+    ∙ ap (then (runs rule b)) (λ i s c. runs_gives (make t.at s) c i)
 
-united_move : (c : PlanCounts) (d : ℕ) (k : TokenKind) → (k ≡ kinds.All → ⊥) → at_united c d k ≡ at_source c d k
-united_move c d kinds.All e = absurd (e refl)
-united_move c d _ e = refl
+there_is : {A : Type 0} (o : Option A) → is_some o ≡ true → (x : A) × (o ≡ Some x)
+there_is (Some x) e = (x, refl)
+there_is None e = absurd (cc)
 
-plain_move : (c : PlanCounts) (k : TokenKind) → (k ≡ kinds.Ask → ⊥) → (k ≡ kinds.Fd → ⊥) → (k ≡ kinds.Append → ⊥) → at_any_line c k ≡ at_line c k
-plain_move c kinds.Ask e f g = absurd (e refl)
-plain_move c kinds.Fd e f g = absurd (f refl)
-plain_move c kinds.Append e f g = absurd (g refl)
-plain_move c _ e f g = refl
+asked_step : (kind : TokenKind) → is_some (one_input kind) ≡ true → one_input kind ≡ step_rule 0 kind
+asked_step kinds.Where e = refl
+asked_step kinds.Project e = refl
+asked_step kinds.Distinct e = refl
+asked_step kinds.Group e = refl
+asked_step _ e = absurd (cc)
 
-column_move : (c : PlanCounts) (short : Bool) (k : TokenKind) → is_column k ≡ true → at_term c short k ≡ at_column c [] short k
-column_move c short kinds.Name e = refl
-column_move c short kinds.Quoted e = refl
-column_move c short _ e = absurd (cc)
+abbrev step_of : ℕ → StepImage → ℕ × StepImage
+step_of at s = (at, s)
 
-literal_move : (c : PlanCounts) (short : Bool) (k : TokenKind) → is_column k ≡ false → at_term c short k ≡ at_literal c k
-literal_move c short kinds.Name e = absurd (cc)
-literal_move c short kinds.Quoted e = absurd (cc)
-literal_move c short _ e = refl
+abbrev pub asked_of : ℕ → StepImage → AskStepImage
+asked_of at s = record { at = at; what = s }
 
-starts_come : (x : Symbol) (ls : List Symbol) (a : Configuration) → Here a → Starts x ls (head_of a.rest).kind → Comes (x ∷ []) ls a a
-starts_come _ _ a h (keys_start e) = begins AKeys (AFirst 0) (MoreKeys 1 ∷ []) a h (λ ss. keys_move a.counts ss _ _ _ _ e)
-starts_come _ _ a h (item_starts {n = n} p) = begins (AnItem n) (AFirst n) (AnAs ∷ []) a h (λ ss. item_move a.counts n ss _ _ _ _ p)
-starts_come _ _ a h (column_starts e) = begins ATerm AColumn [] a h (λ ss. ap (λ m. or_next m ss (settle ss a.counts (head_of a.rest))) (column_move a.counts _ _ e))
-starts_come _ _ a h (literal_starts e) = begins ATerm ALiteral [] a h (λ ss. ap (λ m. or_next m ss (settle ss a.counts (head_of a.rest))) (literal_move a.counts _ _ e))
-starts_come _ _ a h (marks_start p) = begins AMarks AMark (MoreMarks ∷ []) a h (λ ss. marks_move a.counts ss (settle ss a.counts (head_of a.rest)) (settle (MoreMarks ∷ ss) a.counts (head_of a.rest)) (int_value (head_of a.rest).text) _ p)
-starts_come _ _ a h (united_starts {d = d} p) = begins (AUnited d) (ASource d) [] a h (λ ss. ap (λ m. or_next m ss (settle ss a.counts (head_of a.rest))) (united_move a.counts d _ p))
-starts_come _ _ a h (plain_starts p q r) = begins AnyLine ALine [] a h (λ ss. ap (λ m. or_next m ss (settle ss a.counts (head_of a.rest))) (plain_move a.counts _ p q r))
+pub step_reads : (d : ℕ) (kind : TokenKind) (a b : Configuration) → kind ≡ (head_of a.rest).kind → is_some (step_rule d kind) ≡ true → a.counts.nodes < NODE_LIMIT → Here a → Advances (node_more a.counts) a b → reads (AStep d) a ≡ then (ran (step_rule d kind) b) (λ s c. Ok (((head_of a.rest).at, s), c))
+step_reads d kind a b k some few here moved =
+    let p = there_is (step_rule d kind) some in
+    placed_reads (AStep d) step_of p.0 a b (ap (λ o. opened (head_of a.rest) true (node_count a.counts) None (with_place step_of o)) (ap (step_rule d) (sym k) ∙ p.1)) few here moved
+    ∙ ap (λ o. then (ran o b) (λ s c. Ok (((head_of a.rest).at, s), c))) (sym p.1)
 
-pub started_leads : (x : Symbol) (ls : List Symbol) (a b : Configuration) → Leads ls a b → Here a → Starts x ls (head_of a.rest).kind → Leads (x ∷ []) a b
-started_leads x ls a b k h e = comes_leads _ _ a a b (starts_come x ls a h e) k
+pub asked_reads : (kind : TokenKind) (a b : Configuration) → kind ≡ (head_of a.rest).kind → is_some (one_input kind) ≡ true → a.counts.nodes < NODE_LIMIT → Here a → Advances (node_more a.counts) a b → reads AnAskStep a ≡ then (ran (step_rule 0 kind) b) (λ s c. Ok (asked_of (head_of a.rest).at s, c))
+asked_reads kind a b k some few here moved =
+    let p = there_is (one_input kind) some in
+    placed_reads AnAskStep asked_of p.0 a b (ap (λ o. opened (head_of a.rest) true (node_count a.counts) None (with_place asked_of o)) (ap one_input (sym k) ∙ p.1)) few here moved
+    ∙ ap (λ o. then (ran o b) (λ s c. Ok (asked_of (head_of a.rest).at s, c))) (sym p.1 ∙ asked_step kind some)
 
-pub started_fails : (x : Symbol) (ls : List Symbol) (a : Configuration) (f : BookFault) → Fails ls a f → Here a → Starts x ls (head_of a.rest).kind → Fails (x ∷ []) a f
-started_fails x ls a f k h e = comes_fails _ _ a a f (starts_come x ls a h e) k
+-- an answer that is made of another
+pub answered : {X A B : Type 0} (image : X → A) (make : A → B) (e : Configuration) (r : Result X BookFault) (q : Reading B) (p : Reading A) → q ≡ then p (λ s c. Ok (make s, c)) → Answers p image e r → Answers q (λ x. make (image x)) e r
+answered image make e (Ok x) q p h k = h ∙ ap (λ p. then p (λ s c. Ok (make s, c))) k
+answered image make e (Err f) q p h k = λ m. h ∙ ap (λ p. then p (λ s c. Ok (make s, c))) (k m)
 
-comes_reads : {X : Type 0} (ls ms : List Symbol) (a b c : Configuration) (r : Result X BookFault) → Comes ls ms a b → Reads ms b c r → Reads ls a c r
-comes_reads ls ms a b c (Ok v) h k = comes_leads ls ms a b c h k
-comes_reads ls ms a b c (Err f) h k = comes_fails ls ms a b f h k
+pub ruleset in_order = (reading, runs_gives, runs_reads, runs_behind, advanced, names_begin, marked_begins, line_begins, any_begins, selected_begins)
 
-pub started_reads : {X : Type 0} (x : Symbol) (ls : List Symbol) (a b : Configuration) (r : Result X BookFault) → Reads ls a b r → Here a → Starts x ls (head_of a.rest).kind → Reads (x ∷ []) a b r
-started_reads x ls a b r k h e = comes_reads _ ls a a b r (starts_come x ls a h e) k
+pub ruleset members = (decl_begins, key_begins, agg_begins, pair_begins, item_begins, keys_begin, no_keys)
 
--- a step goes on with what follows its keyword
-pub step_reads : {X : Type 0} (d : ℕ) (k : TokenKind) (a b c : Configuration) (r : Result X BookFault) → k ≡ (head_of a.rest).kind → is_some (step_symbols d k) ≡ true → Advances (node_more a.counts) a b → a.counts.nodes < NODE_LIMIT → ((l : List Symbol) → step_symbols d k ≡ Some l → Reads l b c r) → Reads (AStep d ∷ []) a c r
-step_reads d k a b c r e s h n g = by (step_symbols d k) refl s
-  where
-    by : (o : Option (List Symbol)) → step_symbols d k ≡ o → is_some o ≡ true → Reads (AStep d ∷ []) a c r
-    by None q s = absurd (cc)
-    by (Some l) q s = comes_reads _ l a b c r (opened (AStep d) l (node_more a.counts) a b h (ap (λ k. node_move a.counts (step_symbols d k)) (sym e) ∙ ap (node_move a.counts) q ∙ ap (λ p. within p Nodes (Takes (node_more a.counts) l)) (lt-ltb a.counts.nodes NODE_LIMIT n))) (g l q)
-
-pub ruleset begun = (started_leads, started_fails, keys_start, item_starts, column_starts, literal_starts, marks_start, united_starts, plain_starts)
-
--- with a member and those that follow it behind it, the list from a up to b is these members
-pub record EndsList {T : Type 0} (IsX : List Token → List Token → T → Type 0) (a b : List Token) (xs : List T) : Type 0 where
-  pub ends : (c d : List Token) (x : T) (zs : List T) → IsX b c x → AreMore IsX c d zs → AreListed IsX a d (xs ++ x ∷ zs)
-
-pub goes_list : {T : Type 0} (IsX : List Token → List Token → T → Type 0) (o a b c : List Token) (t : Token) (xs : List T) (x : T) → EndsList IsX o a xs → IsX a b x → First kinds.Comma t b c → EndsList IsX o c (xs ++ x ∷ [])
-goes_list IsX o a b c t xs x h k f = record { ends = λ d e z zs p m. subst (AreListed IsX o e) (sym (append_assoc xs (x ∷ []) (z ∷ zs))) (h.ends b e x (z ∷ zs) k (one_more f p m)) }
-
-no_comma : (c : PlanCounts) (ss : List Symbol) (k : TokenKind) → (k ≡ kinds.Comma → ⊥) → at_more c ss k ≡ Skips
-no_comma c ss kinds.Comma p = absurd (p refl)
-no_comma c ss _ p = refl
-
-pub no_bar : (c : PlanCounts) (k : TokenKind) → (k ≡ kinds.Bar → ⊥) → at_ask_steps c k ≡ Skips
-no_bar c kinds.Bar p = absurd (p refl)
-no_bar c _ p = refl
-
--- behind a member stands a comma with one more, or nothing
-abbrev pub GoesOn : Symbol → List Symbol → Type 0
-GoesOn x l = (c : PlanCounts) (t : Token) → move_of c x t ≡ at_more c l t.kind
-
-pub more_opens : (x : Symbol) (l : List Symbol) (a b : Configuration) → GoesOn x l → Advances a.counts a b → (head_of a.rest).kind ≡ kinds.Comma → Comes (x ∷ []) l a b
-more_opens x l a b g h e = opened x l a.counts a b h (g a.counts (head_of a.rest) ∙ ap (at_more a.counts l) e)
-
-pub more_ends : (ls : List Symbol) (x : Symbol) (l : List Symbol) (a b : Configuration) → GoesOn x l → Comes ls (x ∷ []) a b → b.rest ≡ head_of b.rest ∷ tail_of b.rest → ((head_of b.rest).kind ≡ kinds.Comma → ⊥) → Leads ls a b
-more_ends ls x l a b g h k p = comes_leads _ _ a b b h (skips x b k (g b.counts (head_of b.rest) ∙ no_comma b.counts l (head_of b.rest).kind p))
-
--- a member behind those so far, and a comma
-pub more_goes : {T : Type 0} (one : ℕ → List Symbol) (more : ℕ → Symbol) (ls : List Symbol) (xs ys : List T) (x : T) (a b c d : Configuration) → GoesOn (more (length xs + 1)) (one (length xs + 1) ++ more (length xs + 1 + 1) ∷ []) → ys ≡ xs ++ x ∷ [] → Comes ls (one (length xs) ++ more (length xs + 1) ∷ []) a b → Leads (one (length xs)) b c → Advances c.counts c d → (head_of c.rest).kind ≡ kinds.Comma → Comes ls (one (length ys) ++ more (length ys + 1) ∷ []) a d
-more_goes one more ls xs ys x a b c d g f h r k i =
-    let n : length xs + 1 ≡ length ys = sym (length_at_push xs x).1 ∙ sym (ap length f) in
-    subst (λ m. Comes ls (one m ++ more (m + 1) ∷ []) a d) n (comes_on ls _ _ a c d (comes_on ls _ _ a b c h (list_comes (one (length xs)) (more (length xs + 1) ∷ []) _ b c r refl)) (more_opens (more (length xs + 1)) _ c d g k i))
+pub ruleset in_loop = (in_order, only, conj_begins, pred_begins, plan_begins, piped_begins, smaller)

@@ -4,7 +4,7 @@ use Rattle.smk_parse.specs.Vocabulary.{digits_value, TokenKind, Begins, front, B
 use Rattle.std.proofs.Common.{◌≡◌, ℕ, zero, suc, ◌+◌, ◌*◌, ◌-◌, ◌<◌, List, [], ◌∷◌, get_or, drop-cons, ap, ◌∙◌, sym, arith, subst, refl, ◌≤◌, ◌++◌, append_assoc, min, append-nil, length-append}
 use Rattle.std.proofs.lemmas.List.{drop-drop, length-drop, take_all, length-take, take-take, Folds.length-prefix_len}
 use Rattle.smk_base.specs.declared.book.token.TokenKind.TheVariants.{End}
-use Rattle.smk_model.proofs.Keeping.{Fitting, front_fits}
+use Rattle.smk_model.proofs.NumberRanges.{Fitting, front_fits}
 use Rattle.smk_parse.specs.Texts.{left_at, Stands, Cuts}
 
 -- a number beyond the top stays beyond it

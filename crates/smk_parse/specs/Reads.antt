@@ -1,41 +1,72 @@
--- What a reader of some symbols answers.
-use Rattle.std.specs.Prelude.{◌≡◌, ℕ, ◌+◌, ◌≤◌, Bool, true, false, List, [], ◌∷◌, ◌++◌, length, Result, Ok, Err}
-use Rattle.smk_parse.specs.Vocabulary.{BookFault, NoMemory, TokenKind, Word, Marks, Token, inner, First, IsName, AreMarks, IsAskStep, AreAskSteps, AskStepImage, Configuration, PlanCounts, Symbol, AStmts, move_of, at_more, through}
+-- What a reader of a symbol answers.
+use Rattle.std.specs.Prelude.{◌≡◌, ◌<◌, ℕ, Bool, true, false, List, [], ◌∷◌, ◌++◌, length, Option, Some, None, Result, Ok, Err}
+use Rattle.smk_parse.specs.Vocabulary.{BookFault, NoMemory, TokenKind, Word, Token, token_fault, head_of, inner, Configuration, Member, MemberTree, Symbol, Tree, Rule, One, More, Listed, AStmts, StmtImage, Reading, reads, runs}
 use Rattle.smk_base.specs.declared.book.token.TokenKind.TheVariants as kinds
-use Rattle.smk_model.specs.Machine as machine
+use Rattle.smk_model.specs.Rules as rules
 use Rattle.smk_parse.specs.declared.book.Tally.{Tally}
-
--- these symbols in the first state are those symbols in the second, whatever follows, and no token comes back
-pub record Comes (ls ms : List Symbol) (a b : Configuration) : Type 0 where
-  pub comes : (ss : List Symbol) → through (ls ++ ss) a.counts a.rest ≡ through (ms ++ ss) b.counts b.rest
-  pub fewer : length b.rest ≤ length a.rest
-
--- these symbols lead from the first state to the second, whatever follows, and no token comes back
-pub record Leads (ls : List Symbol) (a b : Configuration) : Type 0 where
-  pub goes : (ss : List Symbol) → through (ls ++ ss) a.counts a.rest ≡ through ss b.counts b.rest
-  pub fewer : length b.rest ≤ length a.rest
 
 -- whether memory ran out
 abbrev pub is_memory : BookFault → Bool
 is_memory NoMemory = true
 is_memory _ = false
 
--- these symbols have this fault, whatever follows; or memory ran out
-pub record Fails (ls : List Symbol) (a : Configuration) (f : BookFault) : Type 0 where
-  pub stops : (ss : List Symbol) → is_memory f ≡ false → through (ls ++ ss) a.counts a.rest ≡ Err f
+-- what was read, with the state behind it, or its fault; or memory ran out
+abbrev pub Answers : {A X : Type 0} → Reading A → (X → A) → Configuration → Result X BookFault → Type 0
+Answers reading image b (Ok x) = reading ≡ Ok (image x, b)
+Answers reading image b (Err f) = is_memory f ≡ false → reading ≡ Err f
 
--- these symbols lead to the second state, or they fail
-abbrev pub Reads : {X : Type 0} → List Symbol → Configuration → Configuration → Result X BookFault → Type 0
-Reads ls a b (Ok x) = Leads ls a b
-Reads ls a b (Err f) = Fails ls a f
+-- a symbol, and a rule
+abbrev pub IsRead : {X : Type 0} → (symbol : Symbol) → (X → Tree symbol) → Configuration → Configuration → Result X BookFault → Type 0
+IsRead symbol image a b answer = Answers (reads symbol a) image b answer
 
--- the statements counted, and what a reader of a statement answers
-abbrev pub tally_of : Tally → machine.Tally
+abbrev pub IsRun : {A X : Type 0} → Rule A → (X → A) → Configuration → Configuration → Result X BookFault → Type 0
+IsRun rule image a b answer = Answers (runs rule a) image b answer
+
+-- a rule, where there is one, and else a wrong token
+abbrev pub ran : {A : Type 0} → Option (Rule A) → Configuration → Reading A
+ran (Some rule) a = runs rule a
+ran None a = Err (token_fault (head_of a.rest))
+
+-- a symbol, by a reader who gives nothing
+abbrev pub IsPassed : (symbol : Symbol) → Tree symbol → Configuration → Configuration → Result (Unit {0}) BookFault → Type 0
+IsPassed symbol x a b answer = Answers (reads symbol a) (λ u. x) b answer
+
+-- what was read, wherever it ends
+abbrev pub value_of : {A : Type 0} → Reading A → Result A BookFault
+value_of (Ok p) = Ok p.0
+value_of (Err f) = Err f
+
+-- a symbol that is read up to the end
+abbrev pub IsWhole : {X : Type 0} → (symbol : Symbol) → (X → Tree symbol) → Configuration → Result X BookFault → Type 0
+IsWhole symbol image a (Ok x) = value_of (reads symbol a) ≡ Ok (image x)
+IsWhole symbol image a (Err f) = is_memory f ≡ false → value_of (reads symbol a) ≡ Err f
+
+-- the statements counted
+abbrev pub tally_of : Tally → rules.Tally
 tally_of t = record { tables = t.tables; views = t.views; lineages = t.lineages; links = t.links }
 
-abbrev pub StmtReads : {X : Type 0} → Tally → Tally → Configuration → Configuration → Result X BookFault → Type 0
-StmtReads t u a b (Ok x) = Comes (AStmts (tally_of t) ∷ []) (AStmts (tally_of u) ∷ []) a b
-StmtReads t u a b (Err f) = Fails (AStmts (tally_of t) ∷ []) a f
+-- these before those that are read
+abbrev pub before : {A : Type 0} → List A → Reading (List A) → Reading (List A)
+before xs (Ok p) = Ok (xs ++ p.0, p.1)
+before xs (Err f) = Err f
+
+-- a statement, with the statements behind it, which are shorter
+abbrev pub StmtReads : {X : Type 0} → (X → StmtImage) → Tally → Tally → Configuration → Configuration → Result X BookFault → Type 0
+StmtReads image t u a b (Ok x) = (reads (AStmts (tally_of t)) a ≡ before (image x ∷ []) (reads (AStmts (tally_of u)) b)) × (length b.rest < length a.rest)
+StmtReads image t u a b (Err f) = is_memory f ≡ false → reads (AStmts (tally_of t)) a ≡ Err f
+
+-- a member of a list and the list that it stands in, by their symbols
+pub data MemberRule : Type 0 → Type 1 where
+  of : (member : Member) → MemberRule (MemberTree member)
+
+abbrev pub reads_one : {T : Type 0} → MemberRule T → ℕ → Configuration → Reading T
+reads_one (of member) k a = reads (One member k) a
+
+abbrev pub reads_more : {T : Type 0} → MemberRule T → ℕ → Configuration → Reading (List T)
+reads_more (of member) k a = reads (More member k) a
+
+abbrev pub reads_list : {T : Type 0} → MemberRule T → Configuration → Reading (List T)
+reads_list (of member) a = reads (Listed member) a
 
 -- whether a token of this kind is a column
 abbrev pub is_column : TokenKind → Bool
@@ -54,22 +85,3 @@ column_name t = by t.kind t.text
 -- the word of a column
 abbrev pub column_word : Token → Word
 column_word t = record { name = column_name t; at = t.at }
-
--- two names with a keyword between them
-pub data AreNames (kind : TokenKind) : List Token → List Token → Word → Word → Type 0 where
-  two_names : {a b c d : List Token} {t : Token} {w z : Word} → IsName a b w → First kind t b c → IsName c d z → AreNames kind a d w z
-
--- the names of a line with marks and a keyword between them
-pub data IsMarked (kind : TokenKind) : List Token → List Token → Word → Marks → Word → Type 0 where
-  marked : {a b c d e : List Token} {t : Token} {w z : Word} {m : Marks} → IsName a b w → AreMarks b c m → First kind t c d → IsName d e z → IsMarked kind a e w m z
-
--- steps of an ask line with bars between
-pub data ArePiped : List Token → List Token → List AskStepImage → Type 0 where
-  piped : {a b c : List Token} {s : AskStepImage} {ss : List AskStepImage} → IsAskStep a b s → AreAskSteps b c ss → ArePiped a c (s ∷ ss)
-
--- the symbols of a member, of which so many stand before; the symbol behind so many members, a comma with one more or nothing; and what spells the tree of a member
-pub record MemberRule (T : Type 0) : Type 1 where
-  pub one : ℕ → List Symbol
-  pub more : ℕ → Symbol
-  pub spells : List Token → List Token → T → Type 0
-  pub goes_on : (n : ℕ) (c : PlanCounts) (t : Token) → move_of c (more n) t ≡ at_more c (one n ++ more (n + 1) ∷ []) t.kind

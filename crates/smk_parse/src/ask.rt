@@ -1,10 +1,9 @@
-#![tactic(auto, using(crate::proofs::Trees::ask_trees))]
+#![tactic(auto, using(crate::proofs::Steps::in_order))]
 
-ghost use Rattle.std.specs.Prelude.{◌≡◌, ◌∷◌, [], List, map, IfOk};
-ghost use Rattle.smk_parse.specs.Vocabulary.{Token, First, ask_image, ask_step_image, any_image, AreAskSteps, AreSelected, IsAskLine, IsAnyLine, IsWholeAnyLine, AToken, ALineName, AMarks, AnAskStep, AskSteps, any_symbols, selected_symbols};
-ghost use Rattle.smk_model.specs.Machine as machine;
-ghost use Rattle.smk_base.specs.declared.book.token.TokenKind.TheVariants as kinds;
-ghost use Rattle.smk_parse.specs.{Reads.ArePiped, Reads.Reads, Answers.IsAnyAnswer, Answers.IsSelectedAnswer};
+ghost use Rattle.std.specs.Prelude.{map};
+ghost use Rattle.smk_parse.specs.Vocabulary.{ask_step_image, any_image, ask_rule, append_rule, APiped, AskSteps, ASelected, AWholeAnyLine};
+ghost use Rattle.smk_model.specs.Rules as rules;
+ghost use Rattle.smk_parse.specs.{Reads.IsRead, Reads.IsRun, Reads.IsWhole, Answers.IsAnyAnswer, Answers.IsSelectedAnswer};
 
 use crate::line::{as_line_fault, end, line, marked};
 use crate::plan::ask_step;
@@ -14,10 +13,9 @@ use smk_base::{AnyLine, AskLine, AskSteps, BookFault, LineFault, Text, TokenKind
 use std::alloc::Global;
 
 /// One or more steps of an `ask` line with bars between.
-#[tactic(auto, using(crate::proofs::Trees::ask_trees, crate::proofs::Steps::in_loop))]
+#[tactic(auto, using(crate::proofs::Steps::in_loop))]
 fn ask_steps(alloc: Global, reader: &mut Reader) -> Result<AskSteps, BookFault>
-    ensures reads { Reads (AnAskStep ∷ AskSteps ∷ []) reader.old reader.new result }
-    ensures is { IfOk result (λ steps. ArePiped reader.old.rest reader.new.rest (map ask_step_image steps)) }
+    ensures { IsRead APiped (λ steps. map ask_step_image steps) reader.old reader.new result }
 {
     let mut steps = AskSteps::new(alloc);
     'steps: loop {
@@ -32,8 +30,7 @@ fn ask_steps(alloc: Global, reader: &mut Reader) -> Result<AskSteps, BookFault>
 
 /// Steps of an `ask` line, each behind a bar; there may be none.
 fn piped_steps(alloc: Global, reader: &mut Reader) -> Result<AskSteps, BookFault>
-    ensures reads { Reads (AskSteps ∷ []) reader.old reader.new result }
-    ensures is { IfOk result (λ steps. AreAskSteps reader.old.rest reader.new.rest (map ask_step_image steps)) }
+    ensures { IsRead AskSteps (λ steps. map ask_step_image steps) reader.old reader.new result }
 {
     match reader.kind() {
         TokenKind::Bar => {
@@ -46,8 +43,7 @@ fn piped_steps(alloc: Global, reader: &mut Reader) -> Result<AskSteps, BookFault
 
 /// A table and steps over its rows, up to the end.
 fn whole_selected(alloc: Global, reader: &mut Reader) -> Result<(Text, AskSteps), BookFault>
-    ensures reads { Reads selected_symbols reader.old reader.new result }
-    ensures is { IfOk result (λ read. AreSelected reader.old.rest read.0 (map ask_step_image read.1)) }
+    ensures { IsWhole ASelected (λ read. (read.0, map ask_step_image read.1)) reader.old result }
 {
     let table = line_name(alloc, reader)?.name;
     let steps = piped_steps(alloc, reader)?;
@@ -56,26 +52,24 @@ fn whole_selected(alloc: Global, reader: &mut Reader) -> Result<(Text, AskSteps)
 }
 
 /// An `ask` line behind its keyword.
-fn ask_line(alloc: Global, reader: &mut Reader) -> Result<AskLine, BookFault>
-    ensures reads { Reads (AToken kinds.Back ∷ ALineName ∷ AMarks ∷ AToken kinds.To ∷ ALineName ∷ AToken kinds.Bar ∷ AnAskStep ∷ AskSteps ∷ []) reader.old reader.new result }
-    ensures is { IfOk result (λ asked. (a : List Token) → (t : Token) → First kinds.Ask t a reader.old.rest → IsAskLine a reader.new.rest (ask_image asked)) }
+fn ask_line(alloc: Global, reader: &mut Reader) -> Result<AnyLine, BookFault>
+    ensures { IsRun ask_rule any_image reader.old reader.new result }
 {
     expect(reader, TokenKind::Back)?;
     let (view, marks, table) = marked(alloc, reader, TokenKind::To)?;
     expect(reader, TokenKind::Bar)?;
     let steps = ask_steps(alloc, reader)?;
-    Ok(AskLine {
+    Ok(AnyLine::Ask(AskLine {
         view: view.name,
         marks,
         table: table.name,
         steps,
-    })
+    }))
 }
 
 /// An `append` line behind its keyword.
 fn append_line(alloc: Global, reader: &mut Reader) -> Result<AnyLine, BookFault>
-    ensures reads { Reads (ALineName ∷ AToken kinds.Str ∷ []) reader.old reader.new result }
-    ensures is { IfOk result (λ line. (a : List Token) → (t : Token) → First kinds.Append t a reader.old.rest → IsAnyLine a reader.new.rest (any_image line)) }
+    ensures { IsRun append_rule any_image reader.old reader.new result }
 {
     let table = line_name(alloc, reader)?.name;
     let file = string_in_hand(alloc, reader)?;
@@ -84,15 +78,13 @@ fn append_line(alloc: Global, reader: &mut Reader) -> Result<AnyLine, BookFault>
 }
 
 /// A line of any kind.
-#[tactic(auto, using(crate::proofs::Trees::ask_trees, crate::proofs::Steps::begun))]
 fn any_line(alloc: Global, reader: &mut Reader) -> Result<AnyLine, BookFault>
-    ensures reads { Reads (machine.AnyLine ∷ []) reader.old reader.new result }
-    ensures is { IfOk result (λ line. IsAnyLine reader.old.rest reader.new.rest (any_image line)) }
+    ensures { IsRead rules.AnyLine any_image reader.old reader.new result }
 {
     match reader.kind() {
         TokenKind::Ask => {
             reader.advance();
-            Ok(AnyLine::Ask(ask_line(alloc, reader)?))
+            ask_line(alloc, reader)
         }
         TokenKind::Fd => {
             reader.advance();
@@ -101,7 +93,7 @@ fn any_line(alloc: Global, reader: &mut Reader) -> Result<AnyLine, BookFault>
         }
         TokenKind::Append => {
             reader.advance();
-            Ok(append_line(alloc, reader)?)
+            append_line(alloc, reader)
         }
         _ => Ok(AnyLine::Plain(line(alloc, reader)?)),
     }
@@ -109,8 +101,7 @@ fn any_line(alloc: Global, reader: &mut Reader) -> Result<AnyLine, BookFault>
 
 /// A line of any kind up to its end.
 fn whole_any_line(alloc: Global, reader: &mut Reader) -> Result<AnyLine, BookFault>
-    ensures reads { Reads any_symbols reader.old reader.new result }
-    ensures is { IfOk result (λ line. IsWholeAnyLine reader.old.rest (any_image line)) }
+    ensures { IsWhole AWholeAnyLine any_image reader.old result }
 {
     let line = any_line(alloc, reader)?;
     end(reader)?;

@@ -1,9 +1,9 @@
-#![tactic(auto, using(crate::proofs::Trees::stmts))]
+#![tactic(auto, using(crate::proofs::Steps::in_order))]
 
-ghost use Rattle.std.specs.Prelude.{◌≡◌, ◌∷◌, ◌<◌, [], List, length, map, IsTrue, IfOk, OnOk};
-ghost use Rattle.smk_parse.specs.Vocabulary.{stmt_image, Token, head_of, is_more, First, IsExtra, IsStmt, AreStmts, AToken, AName, AColumn, AFirst, AType, ADefault, MoreDecls, MoreKeys, ASource, ASteps, ALineage, AnExtra, ALinked, MoreLinked, book_symbols};
+ghost use Rattle.std.specs.Prelude.{◌≡◌, map};
+ghost use Rattle.smk_parse.specs.Vocabulary.{stmt_image, head_of, joint, table_rule, view_rule, link_rule, depends_rule, ANames, ALineage, AnExtra, AStmts, no_tally};
 ghost use Rattle.smk_base.specs.declared.book.token.TokenKind.TheVariants as kinds;
-ghost use Rattle.smk_parse.specs.{Reads.AreNames, Reads.Reads, Reads.StmtReads, Answers.IsBookAnswer};
+ghost use Rattle.smk_parse.specs.{Reads.IsRead, Reads.IsRun, Reads.IsWhole, Reads.StmtReads, Answers.IsBookAnswer};
 
 use crate::lists::{LinkedView, aggs, keys, listed};
 use crate::plan::plan;
@@ -26,8 +26,7 @@ pub struct Tally {
 
 /// A table statement behind its keyword.
 fn table_stmt(alloc: Global, reader: &mut Reader) -> Result<Stmt, BookFault>
-    ensures reads { Reads (AName ∷ AToken kinds.From ∷ AToken kinds.Str ∷ AToken kinds.Open ∷ AFirst 0 ∷ AType ∷ ADefault ∷ MoreDecls 1 ∷ AToken kinds.Close ∷ []) reader.old reader.new result }
-    ensures is { IfOk result (λ stmt. (a : List Token) → (t : Token) → First kinds.Table t a reader.old.rest → IsStmt a reader.new.rest (stmt_image stmt)) }
+    ensures { IsRun table_rule stmt_image reader.old reader.new result }
 {
     let name = name(alloc, reader)?;
     expect(reader, TokenKind::From)?;
@@ -41,8 +40,7 @@ fn table_stmt(alloc: Global, reader: &mut Reader) -> Result<Stmt, BookFault>
 
 /// A view statement behind its keyword.
 fn view_stmt(alloc: Global, reader: &mut Reader) -> Result<Stmt, BookFault>
-    ensures reads { Reads (AName ∷ AToken kinds.Equal ∷ ASource 0 ∷ ASteps 0 ∷ []) reader.old reader.new result }
-    ensures is { IfOk result (λ stmt. (a : List Token) → (t : Token) → First kinds.View t a reader.old.rest → IsStmt a reader.new.rest (stmt_image stmt)) }
+    ensures { IsRun view_rule stmt_image reader.old reader.new result }
 {
     let name = name(alloc, reader)?;
     expect(reader, TokenKind::Equal)?;
@@ -52,8 +50,7 @@ fn view_stmt(alloc: Global, reader: &mut Reader) -> Result<Stmt, BookFault>
 
 /// What a backward declaration asks for besides the rows.
 fn extra(alloc: Global, reader: &mut Reader) -> Result<Extra, BookFault>
-    ensures reads { Reads (AnExtra ∷ []) reader.old reader.new result }
-    ensures is { IfOk result (λ extra. IsExtra reader.old.rest reader.new.rest extra) }
+    ensures { IsRead AnExtra (λ extra. extra) reader.old reader.new result }
 {
     let at = reader.at();
     match reader.kind() {
@@ -73,9 +70,8 @@ fn extra(alloc: Global, reader: &mut Reader) -> Result<Extra, BookFault>
 
 /// A name, and behind this keyword another name.
 fn names(alloc: Global, reader: &mut Reader, between: TokenKind) -> Result<(Word, Word), BookFault>
-    requires { IsTrue (is_more between) }
-    ensures reads { Reads (AName ∷ AToken between ∷ AName ∷ []) reader.old reader.new result }
-    ensures is { IfOk result (λ m. AreNames between reader.old.rest reader.new.rest m.0 m.1) }
+    requires { joint between ≡ between }
+    ensures { IsRead (ANames between) (λ names. names) reader.old reader.new result }
 {
     let first = name(alloc, reader)?;
     expect(reader, between)?;
@@ -85,8 +81,7 @@ fn names(alloc: Global, reader: &mut Reader, between: TokenKind) -> Result<(Word
 
 /// A lineage declaration behind `lineage`, which stands at this place.
 fn lineage_stmt(alloc: Global, reader: &mut Reader, at: u64) -> Result<Stmt, BookFault>
-    ensures reads { Reads (ALineage ∷ []) reader.old reader.new result }
-    ensures is { IfOk result (λ stmt. (a : List Token) → (t : Token) → First kinds.Lineage t a reader.old.rest → at ≡ t.at → IsStmt a reader.new.rest (stmt_image stmt)) }
+    ensures { IsRead (ALineage at) stmt_image reader.old reader.new result }
 {
     match reader.kind() {
         TokenKind::Back => {
@@ -111,8 +106,7 @@ fn lineage_stmt(alloc: Global, reader: &mut Reader, at: u64) -> Result<Stmt, Boo
 
 /// A link statement behind its keyword.
 fn link_stmt(alloc: Global, reader: &mut Reader) -> Result<Stmt, BookFault>
-    ensures reads { Reads (AName ∷ AToken kinds.On ∷ AName ∷ AToken kinds.To ∷ ALinked 0 ∷ MoreLinked 1 ∷ []) reader.old reader.new result }
-    ensures is { IfOk result (λ stmt. (a : List Token) → (t : Token) → First kinds.Link t a reader.old.rest → IsStmt a reader.new.rest (stmt_image stmt)) }
+    ensures { IsRun link_rule stmt_image reader.old reader.new result }
 {
     let (view, table) = names(alloc, reader, TokenKind::On)?;
     expect(reader, TokenKind::To)?;
@@ -122,8 +116,7 @@ fn link_stmt(alloc: Global, reader: &mut Reader) -> Result<Stmt, BookFault>
 
 /// A dependency behind `fd`, which stands at this place.
 fn depends_stmt(alloc: Global, reader: &mut Reader, at: u64) -> Result<Stmt, BookFault>
-    ensures reads { Reads (AName ∷ AToken kinds.On ∷ AName ∷ AFirst 0 ∷ MoreKeys 1 ∷ AToken kinds.To ∷ AColumn ∷ []) reader.old reader.new result }
-    ensures is { IfOk result (λ stmt. (a : List Token) → (t : Token) → First kinds.Fd t a reader.old.rest → at ≡ t.at → IsStmt a reader.new.rest (stmt_image stmt)) }
+    ensures { IsRun (depends_rule at) stmt_image reader.old reader.new result }
 {
     let (name, table) = names(alloc, reader, TokenKind::On)?;
     let keys = listed::<Word>(alloc, reader)?;
@@ -139,12 +132,10 @@ fn depends_stmt(alloc: Global, reader: &mut Reader, at: u64) -> Result<Stmt, Boo
 }
 
 /// A statement, which is counted.
-#[tactic(auto, using(crate::proofs::Trees::stmts, crate::proofs::Steps::in_loop))]
+#[tactic(auto, using(crate::proofs::Steps::in_loop))]
 fn stmt(alloc: Global, reader: &mut Reader, tally: &mut Tally) -> Result<Stmt, BookFault>
     requires { (head_of reader.old.rest).kind ≡ kinds.End → ⊥ }
-    ensures reads { StmtReads tally.old tally.new reader.old reader.new result }
-    ensures is { IfOk result (λ stmt. IsStmt reader.old.rest reader.new.rest (stmt_image stmt)) }
-    ensures shrinks { OnOk result (length reader.new.rest < length reader.old.rest) }
+    ensures { StmtReads stmt_image tally.old tally.new reader.old reader.new result }
 {
     let at = reader.at();
     match reader.kind() {
@@ -185,10 +176,9 @@ fn stmt(alloc: Global, reader: &mut Reader, tally: &mut Tally) -> Result<Stmt, B
 }
 
 /// The statements up to the end.
-#[tactic(auto, using(crate::proofs::Whole::stmts_trees, crate::proofs::Steps::in_loop, crate::proofs::Steps::in_order))]
+#[tactic(auto, using(crate::proofs::Steps::before_none, crate::proofs::Steps::in_loop))]
 fn stmts(alloc: Global, reader: &mut Reader) -> Result<Stmts, BookFault>
-    ensures reads { Reads book_symbols reader.old reader.new result }
-    ensures is { IfOk result (λ stmts. AreStmts reader.old.rest (map stmt_image stmts)) }
+    ensures { IsWhole (AStmts no_tally) (λ stmts. map stmt_image stmts) reader.old result }
 {
     let mut stmts = Stmts::new(alloc);
     let mut tally = Tally::default();
@@ -201,7 +191,7 @@ fn stmts(alloc: Global, reader: &mut Reader) -> Result<Stmts, BookFault>
 }
 
 /// The tree of a book, or the first fault of its text.
-#[tactic(auto, using(crate::proofs::Whole::faultless, crate::proofs::Whole::book_unread))]
+#[tactic(auto, using(crate::proofs::Whole::book_unread))]
 pub fn parse_book(alloc: Global, text: &[u8]) -> Result<Book, BookFault>
     ensures { IsBookAnswer text.now result }
 {

@@ -1,9 +1,10 @@
-#![tactic(auto, using(crate::proofs::Trees::line_trees))]
+#![tactic(auto, using(crate::proofs::Steps::in_order))]
 
-ghost use Rattle.std.specs.Prelude.{◌≡◌, ◌∷◌, [], List, refl, IsTrue, IfOk, OnOk};
-ghost use Rattle.smk_parse.specs.Vocabulary.{Token, head_of, tail_of, is_more, First, IsMark, AreMarks, IsThen, IsLine, IsWholeLine, AToken, ALine, ALineName, AMark, MoreMarks, AMarks, AThen, ACleared, AnEnd, line_symbols};
+ghost use Rattle.std.specs.Prelude.{◌≡◌};
+ghost use Rattle.smk_parse.specs.Vocabulary.{head_of, tail_of, joint, AToken, AMarks, AThen, ACleared, AMarked, ALine, AWholeLine, reads};
+ghost use Rattle.smk_model.specs.Rules as rules;
 ghost use Rattle.smk_base.specs.declared.book.token.TokenKind.TheVariants as kinds;
-ghost use Rattle.smk_parse.specs.{Reads.IsMarked, Reads.Reads, Answers.IsLineAnswer, Answers.as_line_fault};
+ghost use Rattle.smk_parse.specs.{Reads.of, Reads.Answers, Reads.IsRead, Reads.IsWhole, Answers.IsLineAnswer, Answers.as_line_fault};
 
 use crate::lists::{Member, listed};
 use crate::reader::Reader;
@@ -17,7 +18,7 @@ struct Mark;
 impl Member for Mark {
     type Tree = u32;
 
-    ghost rule = { record { one = λ n. AMark ∷ []; more = λ n. MoreMarks; spells = IsMark; goes_on = λ n c t. refl } };
+    ghost rule = { of rules.Mark };
 
     fn read(_alloc: Global, reader: &mut Reader, _before: usize) -> Result<u32, BookFault> {
         match reader.kind() {
@@ -34,10 +35,9 @@ impl Member for Mark {
 }
 
 /// The marks of a line.
-#[tactic(auto, using(crate::proofs::Trees::line_trees, crate::proofs::Steps::begun))]
+#[tactic(auto, using(crate::proofs::Steps::in_order, crate::proofs::Steps::marks_begin))]
 fn marks(alloc: Global, reader: &mut Reader) -> Result<Marks, BookFault>
-    ensures reads { Reads (AMarks ∷ []) reader.old reader.new result }
-    ensures is { IfOk result (λ marks. AreMarks reader.old.rest reader.new.rest marks) }
+    ensures { IsRead AMarks (λ marks. marks) reader.old reader.new result }
 {
     match reader.kind() {
         TokenKind::All => Ok(reader.took(Marks::All)),
@@ -47,8 +47,7 @@ fn marks(alloc: Global, reader: &mut Reader) -> Result<Marks, BookFault>
 
 /// What a `back` line asks for besides the rows.
 fn then(alloc: Global, reader: &mut Reader) -> Result<Then, BookFault>
-    ensures reads { Reads (AThen ∷ []) reader.old reader.new result }
-    ensures is { IfOk result (λ then. IsThen reader.old.rest reader.new.rest then) }
+    ensures { IsRead AThen (λ then. then) reader.old reader.new result }
 {
     match reader.kind() {
         TokenKind::Where => {
@@ -68,8 +67,7 @@ fn then(alloc: Global, reader: &mut Reader) -> Result<Then, BookFault>
 
 /// What a `clear` line clears: every brush, or the one of a view on a table.
 fn cleared(alloc: Global, reader: &mut Reader) -> Result<Line, BookFault>
-    ensures reads { Reads (ACleared ∷ []) reader.old reader.new result }
-    ensures is { IfOk result (λ line. (a : List Token) → (t : Token) → First kinds.Clear t a reader.old.rest → IsLine a reader.new.rest line) }
+    ensures { IsRead ACleared (λ line. line) reader.old reader.new result }
 {
     match reader.kind() {
         TokenKind::Name => {
@@ -91,9 +89,8 @@ pub fn marked(
     reader: &mut Reader,
     between: TokenKind,
 ) -> Result<(Word, Marks, Word), BookFault>
-    requires { IsTrue (is_more between) }
-    ensures reads { Reads (ALineName ∷ AMarks ∷ AToken between ∷ ALineName ∷ []) reader.old reader.new result }
-    ensures is { IfOk result (λ m. IsMarked between reader.old.rest reader.new.rest m.0 m.1 m.2) }
+    requires { joint between ≡ between }
+    ensures { IsRead (AMarked between) (λ marked. marked) reader.old reader.new result }
 {
     let from = line_name(alloc, reader)?;
     let marks = marks(alloc, reader)?;
@@ -104,8 +101,7 @@ pub fn marked(
 
 /// A line without steps.
 pub fn line(alloc: Global, reader: &mut Reader) -> Result<Line, BookFault>
-    ensures reads { Reads (ALine ∷ []) reader.old reader.new result }
-    ensures is { IfOk result (λ line. IsLine reader.old.rest reader.new.rest line) }
+    ensures { IsRead ALine (λ line. line) reader.old reader.new result }
 {
     match reader.kind() {
         TokenKind::Show => {
@@ -152,8 +148,7 @@ pub fn line(alloc: Global, reader: &mut Reader) -> Result<Line, BookFault>
 
 /// That the text ends here.
 pub fn end(reader: &Reader) -> Result<(), BookFault>
-    ensures reads { Reads (AnEnd ∷ []) reader.now reader.now result }
-    ensures is { OnOk result (First kinds.End (head_of reader.now.rest) reader.now.rest (tail_of reader.now.rest)) }
+    ensures { Answers (reads (AToken kinds.End) reader.now) (λ u. head_of reader.now.rest) (record { rest = tail_of reader.now.rest; counts = reader.now.counts }) result }
 {
     match reader.kind() {
         TokenKind::End => Ok(()),
@@ -163,8 +158,7 @@ pub fn end(reader: &Reader) -> Result<(), BookFault>
 
 /// A line up to its end.
 fn whole_line(alloc: Global, reader: &mut Reader) -> Result<Line, BookFault>
-    ensures reads { Reads line_symbols reader.old reader.new result }
-    ensures is { IfOk result (λ line. IsWholeLine reader.old.rest line) }
+    ensures { IsWhole AWholeLine (λ line. line) reader.old result }
 {
     let line = line(alloc, reader)?;
     end(reader)?;

@@ -1,9 +1,9 @@
-#![tactic(auto, using(crate::proofs::Trees::lists))]
+#![tactic(auto, using(crate::proofs::Steps::in_order, crate::proofs::Steps::members))]
 
-ghost use Rattle.std.specs.Prelude.{◌≡◌, ◌∷◌, ◌++◌, ◌<◌, ◌≤◌, [], pos, ◌≤ℤ◌, refl, IfOk};
-ghost use Rattle.smk_parse.specs.Vocabulary.{head_of, AreListed, IsName, IsColumn, IsType, IsDefault, IsDecl, IsNamed, IsWidth, IsItem, IsWhat, IsAgg, IsPair, AreKeys, AreAggs, AToken, AColumn, AFirst, AType, ADefault, AnAs, AWidth, AnItem, AWhat, AKeys, AnAggs, ALinked, MoreDecls, MoreItems, MoreKeys, MoreAggs, MorePairs, MoreLinked};
+ghost use Rattle.std.specs.Prelude.{◌≡◌, ◌<◌, ◌≤◌, pos, ◌≤ℤ◌, IfOk};
+ghost use Rattle.smk_parse.specs.Vocabulary.{head_of, Declaration, OutputItem, KeyColumn, Aggregation, ColumnPair, LinkedView, AType, ADefault, AnAs, AWidth, AWhat, AKeys, AnAggs, One};
 ghost use Rattle.smk_base.specs.declared.book.token.TokenKind.TheVariants as kinds;
-ghost use Rattle.smk_parse.specs.Reads.{MemberRule, Reads};
+ghost use Rattle.smk_parse.specs.Reads.{MemberRule, of, Answers, IsRead, reads_one, reads_list};
 
 use crate::reader::Reader;
 use crate::tokens::{
@@ -24,15 +24,12 @@ pub trait Member {
 
     /// A member, of which so many stand before.
     fn read(alloc: Global, reader: &mut Reader, before: usize) -> Result<Self::Tree, BookFault>
-        ensures reads { Reads (rule.one before) reader.old reader.new result }
-        ensures is { IfOk result (λ tree. rule.spells reader.old.rest reader.new.rest tree) };
+        ensures { Answers (reads_one rule before reader.old) (λ tree. tree) reader.new result };
 }
 
 /// One or more members with commas between.
-#[tactic(auto, using(crate::proofs::Steps::in_order, crate::proofs::Steps::in_loop))]
 pub fn listed<M: Member>(alloc: Global, reader: &mut Reader) -> Result<ListOf<M::Tree>, BookFault>
-    ensures reads { Reads (M.rule.one 0 ++ M.rule.more 1 ∷ []) reader.old reader.new result }
-    ensures is { IfOk result (λ list. AreListed M.rule.spells reader.old.rest reader.new.rest list) }
+    ensures { Answers (reads_list M.rule reader.old) (λ list. list) reader.new result }
 {
     let mut list = ListOf::new(alloc);
     'members: loop {
@@ -48,8 +45,7 @@ pub fn listed<M: Member>(alloc: Global, reader: &mut Reader) -> Result<ListOf<M:
 
 /// Whether a declared column is a text.
 fn is_text(reader: &mut Reader) -> Result<bool, BookFault>
-    ensures reads { Reads (AType ∷ []) reader.old reader.new result }
-    ensures is { IfOk result (λ text. IsType reader.old.rest reader.new.rest text) }
+    ensures { IsRead AType (λ text. text) reader.old reader.new result }
 {
     match reader.kind() {
         TokenKind::Int => Ok(reader.took(false)),
@@ -60,8 +56,7 @@ fn is_text(reader: &mut Reader) -> Result<bool, BookFault>
 
 /// The default of a declared column.
 fn default(alloc: Global, reader: &mut Reader) -> Result<Option<Lit>, BookFault>
-    ensures reads { Reads (ADefault ∷ []) reader.old reader.new result }
-    ensures is { IfOk result (λ lit. IsDefault reader.old.rest reader.new.rest lit) }
+    ensures { IsRead ADefault (λ lit. lit) reader.old reader.new result }
 {
     match reader.kind() {
         TokenKind::Default => {
@@ -76,7 +71,7 @@ fn default(alloc: Global, reader: &mut Reader) -> Result<Option<Lit>, BookFault>
 impl Member for Decl {
     type Tree = Decl;
 
-    ghost rule = { record { one = λ n. AFirst n ∷ AType ∷ ADefault ∷ []; more = MoreDecls; spells = IsDecl; goes_on = λ n c t. refl } };
+    ghost rule = { of Declaration };
 
     fn read(alloc: Global, reader: &mut Reader, before: usize) -> Result<Decl, BookFault> {
         let name = first_column(alloc, reader, before)?;
@@ -88,8 +83,7 @@ impl Member for Decl {
 
 /// The output name of a column: its own, unless `as` gives another.
 fn named(alloc: Global, reader: &mut Reader, col: &Word) -> Result<Word, BookFault>
-    ensures reads { Reads (AnAs ∷ []) reader.old reader.new result }
-    ensures is { IfOk result (λ name. IsNamed col.now reader.old.rest reader.new.rest name) }
+    ensures { IsRead (AnAs col.now) (λ name. name) reader.old reader.new result }
 {
     match reader.kind() {
         TokenKind::As => {
@@ -105,8 +99,7 @@ fn named(alloc: Global, reader: &mut Reader, col: &Word) -> Result<Word, BookFau
 
 /// The second part of `bin`.
 fn width(reader: &mut Reader) -> Result<i64, BookFault>
-    ensures reads { Reads (AWidth ∷ []) reader.old reader.new result }
-    ensures is { IfOk result (λ width. IsWidth reader.old.rest reader.new.rest width) }
+    ensures reads { IsRead AWidth (λ width. width) reader.old reader.new result }
     ensures low { IfOk result (λ width. pos 1 ≤ℤ width) }
     ensures high { IfOk result (λ width. width ≤ℤ pos 9223372036854775807) }
 {
@@ -125,8 +118,7 @@ fn width(reader: &mut Reader) -> Result<i64, BookFault>
 /// An output column of bins.
 fn bin_item(alloc: Global, reader: &mut Reader, before: usize) -> Result<ItemTree, BookFault>
     requires { (head_of reader.old.rest).kind ≡ kinds.Bin }
-    ensures reads { Reads (AnItem before ∷ []) reader.old reader.new result }
-    ensures is { IfOk result (λ item. IsItem reader.old.rest reader.new.rest item) }
+    ensures { IsRead (One OutputItem before) (λ item. item) reader.old reader.new result }
 {
     within(reader, before < COLUMN_LIMIT as usize, Many::Columns)?;
     let _kind = reader.kind();
@@ -143,8 +135,8 @@ fn bin_item(alloc: Global, reader: &mut Reader, before: usize) -> Result<ItemTre
 
 /// An output column that is a column of the input.
 fn column_item(alloc: Global, reader: &mut Reader, before: usize) -> Result<ItemTree, BookFault>
-    ensures reads { Reads (AFirst before ∷ AnAs ∷ []) reader.old reader.new result }
-    ensures is { IfOk result (λ item. IsItem reader.old.rest reader.new.rest item) }
+    requires { (head_of reader.old.rest).kind ≡ kinds.Bin → ⊥ }
+    ensures { IsRead (One OutputItem before) (λ item. item) reader.old reader.new result }
 {
     let col = first_column(alloc, reader, before)?;
     let name = named(alloc, reader, &col)?;
@@ -155,9 +147,8 @@ fn column_item(alloc: Global, reader: &mut Reader, before: usize) -> Result<Item
 impl Member for ItemTree {
     type Tree = ItemTree;
 
-    ghost rule = { record { one = λ n. AnItem n ∷ []; more = MoreItems; spells = IsItem; goes_on = λ n c t. refl } };
+    ghost rule = { of OutputItem };
 
-    #[tactic(auto, using(crate::proofs::Trees::lists, crate::proofs::Steps::begun))]
     fn read(alloc: Global, reader: &mut Reader, before: usize) -> Result<ItemTree, BookFault> {
         match reader.kind() {
             TokenKind::Bin => bin_item(alloc, reader, before),
@@ -168,8 +159,7 @@ impl Member for ItemTree {
 
 /// What an aggregate computes.
 fn what(alloc: Global, reader: &mut Reader) -> Result<AggWhat, BookFault>
-    ensures reads { Reads (AWhat ∷ []) reader.old reader.new result }
-    ensures is { IfOk result (λ what. IsWhat reader.old.rest reader.new.rest what) }
+    ensures { IsRead AWhat (λ what. what) reader.old reader.new result }
 {
     match reader.kind() {
         TokenKind::Count => Ok(reader.took(AggWhat::Count)),
@@ -193,7 +183,7 @@ fn what(alloc: Global, reader: &mut Reader) -> Result<AggWhat, BookFault>
 impl Member for AggTree {
     type Tree = AggTree;
 
-    ghost rule = { record { one = λ n. AFirst n ∷ AToken kinds.Equal ∷ AWhat ∷ []; more = MoreAggs; spells = IsAgg; goes_on = λ n c t. refl } };
+    ghost rule = { of Aggregation };
 
     fn read(alloc: Global, reader: &mut Reader, before: usize) -> Result<AggTree, BookFault> {
         let name = first_column(alloc, reader, before)?;
@@ -207,7 +197,7 @@ impl Member for AggTree {
 impl Member for PairTree {
     type Tree = PairTree;
 
-    ghost rule = { record { one = λ n. AFirst n ∷ AToken kinds.Equal ∷ AColumn ∷ []; more = MorePairs; spells = IsPair; goes_on = λ n c t. refl } };
+    ghost rule = { of ColumnPair };
 
     fn read(alloc: Global, reader: &mut Reader, before: usize) -> Result<PairTree, BookFault> {
         let left = first_column(alloc, reader, before)?;
@@ -221,7 +211,7 @@ impl Member for PairTree {
 impl Member for Word {
     type Tree = Word;
 
-    ghost rule = { record { one = λ n. AFirst n ∷ []; more = MoreKeys; spells = IsColumn; goes_on = λ n c t. refl } };
+    ghost rule = { of KeyColumn };
 
     fn read(alloc: Global, reader: &mut Reader, before: usize) -> Result<Word, BookFault> {
         first_column(alloc, reader, before)
@@ -234,7 +224,7 @@ pub struct LinkedView;
 impl Member for LinkedView {
     type Tree = Word;
 
-    ghost rule = { record { one = λ n. ALinked n ∷ []; more = MoreLinked; spells = IsName; goes_on = λ n c t. refl } };
+    ghost rule = { of LinkedView };
 
     fn read(alloc: Global, reader: &mut Reader, before: usize) -> Result<Word, BookFault> {
         match reader.kind() {
@@ -249,10 +239,8 @@ impl Member for LinkedView {
 }
 
 /// The keys of a grouping.
-#[tactic(auto, using(crate::proofs::Trees::lists, crate::proofs::Steps::begun))]
 pub fn keys(alloc: Global, reader: &mut Reader) -> Result<Words, BookFault>
-    ensures reads { Reads (AKeys ∷ []) reader.old reader.new result }
-    ensures is { IfOk result (λ list. AreKeys reader.old.rest reader.new.rest list) }
+    ensures { IsRead AKeys (λ list. list) reader.old reader.new result }
 {
     if !is_column(reader.kind()) {
         return Ok(Words::new(alloc));
@@ -262,8 +250,7 @@ pub fn keys(alloc: Global, reader: &mut Reader) -> Result<Words, BookFault>
 
 /// The aggregates of a grouping.
 pub fn aggs(alloc: Global, reader: &mut Reader) -> Result<AggTrees, BookFault>
-    ensures reads { Reads (AnAggs ∷ []) reader.old reader.new result }
-    ensures is { IfOk result (λ list. AreAggs reader.old.rest reader.new.rest list) }
+    ensures { IsRead AnAggs (λ list. list) reader.old reader.new result }
 {
     match reader.kind() {
         TokenKind::OpenBrace => {

@@ -1,10 +1,10 @@
-#![tactic(auto, using(crate::proofs::Trees::plans))]
+#![tactic(auto, using(crate::proofs::Steps::in_order))]
 
-ghost use Rattle.std.specs.Prelude.{◌≡◌, ◌∷◌, ◌+◌, ◌<◌, ◌≤◌, [], ℕ, List, Some, is_some, true, IsTrue, IfOk, IfErr, OnOk};
-ghost use Rattle.smk_parse.specs.Vocabulary.{TooMany, Nodes, tree_image, step_image, ask_step_image, head_of, tail_of, is_more, Symbol, Token, First, step_symbols, ask_symbols, IsSource, IsPlan, IsStep, IsAskStep, node_more, ASource, ASteps, AStep, AnAskStep};
+ghost use Rattle.std.specs.Prelude.{◌≡◌, ◌∷◌, ◌+◌, ◌<◌, ◌≤◌, ℕ, is_some, true, IsTrue, IfErr, OnOk};
+ghost use Rattle.smk_parse.specs.Vocabulary.{TooMany, Nodes, tree_image, step_image, ask_step_image, head_of, tail_of, is_more, step_rule, one_input, node_more, ASource, APlan, AStep, AnAskStep};
 ghost use Rattle.smk_base.specs.declared.book.limits.TheConstants.{NODE_LIMIT};
 ghost use Rattle.smk_base.specs.declared.book.token.TokenKind.TheVariants as kinds;
-ghost use Rattle.smk_parse.specs.{Texts.Advances, Reads.Reads};
+ghost use Rattle.smk_parse.specs.{Texts.Advances, Reads.Answers, Reads.IsRead, Reads.ran};
 
 use crate::lists::{aggs, keys, listed};
 use crate::pred::{on, pred};
@@ -35,7 +35,7 @@ fn take_node(reader: &mut Reader) -> Result<(), BookFault>
 
 /// Whether a token of this kind begins a step.
 fn is_step(kind: TokenKind) -> bool
-    ensures step { (depth : ℕ) → result ≡ is_some (step_symbols depth kind) }
+    ensures step { (depth : ℕ) → result ≡ is_some (step_rule depth kind) }
     ensures more { result ≡ true → IsTrue (is_more kind) }
 {
     matches!(
@@ -47,8 +47,7 @@ fn is_step(kind: TokenKind) -> bool
 /// A table behind its keyword.
 fn scan(alloc: Global, reader: &mut Reader) -> Result<Box<Tree>, BookFault>
     requires { (head_of reader.old.rest).kind ≡ kinds.Scan }
-    ensures reads { (depth : ℕ) → Reads (ASource depth ∷ []) reader.old reader.new result }
-    ensures is { IfOk result (λ tree. IsSource reader.old.rest reader.new.rest (tree_image tree.value)) }
+    ensures { (depth : ℕ) → IsRead (ASource depth) (λ tree. tree_image tree.value) reader.old reader.new result }
 {
     take_node(reader)?;
     let table = name(alloc, reader)?;
@@ -58,8 +57,7 @@ fn scan(alloc: Global, reader: &mut Reader) -> Result<Box<Tree>, BookFault>
 /// A table, or a plan in parentheses.
 #[cycle(plan)]
 fn source(alloc: Global, reader: &mut Reader, depth: u32) -> Result<Box<Tree>, BookFault>
-    ensures reads { Reads (ASource depth ∷ []) reader.old reader.new result }
-    ensures is { IfOk result (λ tree. IsSource reader.old.rest reader.new.rest (tree_image tree.value)) }
+    ensures { IsRead (ASource depth) (λ tree. tree_image tree.value) reader.old reader.new result }
 {
     match reader.kind() {
         TokenKind::Scan => scan(alloc, reader),
@@ -75,7 +73,6 @@ fn source(alloc: Global, reader: &mut Reader, depth: u32) -> Result<Box<Tree>, B
 }
 
 /// What follows the keyword of a step.
-#[tactic(auto, using(crate::proofs::Trees::plans, crate::proofs::Steps::begun))]
 #[cycle(plan)]
 fn operands(
     alloc: Global,
@@ -83,8 +80,7 @@ fn operands(
     kind: TokenKind,
     depth: u32,
 ) -> Result<StepTree, BookFault>
-    ensures reads { (l : List Symbol) → step_symbols depth kind ≡ Some l → Reads l reader.old reader.new result }
-    ensures is { IfOk result (λ step. (a : List Token) → (t : Token) → First kind t a reader.old.rest → IsStep a reader.new.rest t.at (step_image step)) }
+    ensures { Answers (ran (step_rule depth kind) reader.old) step_image reader.new result }
 {
     match kind {
         Where => Ok(StepTree::Select(Box::into_inner(pred(alloc, reader, depth)?))),
@@ -120,8 +116,7 @@ fn operands(
 /// A step.
 #[cycle(plan)]
 fn step(alloc: Global, reader: &mut Reader, depth: u32) -> Result<StepTree, BookFault>
-    ensures reads { Reads (AStep depth ∷ []) reader.old reader.new result }
-    ensures is { IfOk result (λ step. IsStep reader.old.rest reader.new.rest (head_of reader.old.rest).at (step_image step)) }
+    ensures { IsRead (AStep depth) (λ step. ((head_of reader.old.rest).at, step_image step)) reader.old reader.new result }
 {
     let kind = reader.kind();
     if !is_step(kind) {
@@ -132,11 +127,10 @@ fn step(alloc: Global, reader: &mut Reader, depth: u32) -> Result<StepTree, Book
 }
 
 /// A source with its steps.
-#[tactic(auto, using(crate::proofs::Trees::plans, crate::proofs::Steps::in_loop))]
+#[tactic(auto, using(crate::proofs::Steps::in_loop))]
 #[cycle(plan)]
 pub fn plan(alloc: Global, reader: &mut Reader, depth: u32) -> Result<Box<Tree>, BookFault>
-    ensures reads { Reads (ASource depth ∷ ASteps depth ∷ []) reader.old reader.new result }
-    ensures is { IfOk result (λ tree. IsPlan reader.old.rest reader.new.rest (tree_image tree.value)) }
+    ensures { IsRead (APlan depth) (λ tree. tree_image tree.value) reader.old reader.new result }
 {
     let mut input = source(alloc, reader, depth)?;
     'steps: while let TokenKind::Bar = reader.kind() {
@@ -150,16 +144,16 @@ pub fn plan(alloc: Global, reader: &mut Reader, depth: u32) -> Result<Box<Tree>,
 
 /// Whether a token of this kind begins a step with one input.
 fn has_one_input(kind: TokenKind) -> bool
-    ensures one { result ≡ is_some (ask_symbols kind) }
+    ensures one { result ≡ is_some (one_input kind) }
     ensures more { result ≡ true → IsTrue (is_more kind) }
 {
     matches!(kind, Where | Project | Distinct | Group)
 }
 
 /// A step of an `ask` line.
+#[tactic(auto, using(crate::proofs::Steps::in_order, crate::proofs::Steps::asked_reads))]
 pub fn ask_step(alloc: Global, reader: &mut Reader) -> Result<AskStep, BookFault>
-    ensures reads { Reads (AnAskStep ∷ []) reader.old reader.new result }
-    ensures is { IfOk result (λ step. IsAskStep reader.old.rest reader.new.rest (ask_step_image step)) }
+    ensures { IsRead AnAskStep ask_step_image reader.old reader.new result }
 {
     let at = reader.at();
     let kind = reader.kind();

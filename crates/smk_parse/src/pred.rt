@@ -1,9 +1,9 @@
-#![tactic(auto, using(crate::proofs::Trees::preds))]
+#![tactic(auto, using(crate::proofs::Steps::in_order))]
 
-ghost use Rattle.std.specs.Prelude.{◌≡◌, ◌∷◌, ◌+◌, ◌<◌, [], ℕ, IfOk, OnOk};
-ghost use Rattle.smk_parse.specs.Vocabulary.{pred_image, head_of, First, IsOp, IsTerm, IsPrim, IsConj, IsPred, AnOn, AnOp, ATerm, APrim, AnAnds, AnOrs};
+ghost use Rattle.std.specs.Prelude.{◌≡◌, ◌+◌, ◌<◌, ℕ};
+ghost use Rattle.smk_parse.specs.Vocabulary.{pred_image, head_of, AnOn, AnOp, ATerm, APrim, AConj, APred};
 ghost use Rattle.smk_base.specs.declared.book.token.TokenKind.TheVariants as kinds;
-ghost use Rattle.smk_parse.specs.Reads.{Reads};
+ghost use Rattle.smk_parse.specs.Reads.{IsRead, IsPassed};
 
 use crate::reader::Reader;
 use crate::tokens::{column, column_in_hand, expect, is_column, is_short, literal, within, wrong};
@@ -12,8 +12,7 @@ use std::alloc::Global;
 
 /// The `on` before a predicate, whose comparisons are counted from none.
 pub fn on(reader: &mut Reader) -> Result<(), BookFault>
-    ensures reads { Reads (AnOn ∷ []) reader.old reader.new result }
-    ensures is { OnOk result (First kinds.On (head_of reader.old.rest) reader.old.rest reader.new.rest) }
+    ensures { IsPassed AnOn (head_of reader.old.rest) reader.old reader.new result }
 {
     match reader.kind() {
         TokenKind::On => {
@@ -27,8 +26,7 @@ pub fn on(reader: &mut Reader) -> Result<(), BookFault>
 
 /// A comparison's operator.
 fn op(reader: &mut Reader) -> Result<CmpOp, BookFault>
-    ensures reads { Reads (AnOp ∷ []) reader.old reader.new result }
-    ensures is { IfOk result (λ op. IsOp reader.old.rest reader.new.rest op) }
+    ensures { IsRead AnOp (λ op. op) reader.old reader.new result }
 {
     match reader.kind() {
         TokenKind::Equal => Ok(reader.took(CmpOp::Eq)),
@@ -42,10 +40,8 @@ fn op(reader: &mut Reader) -> Result<CmpOp, BookFault>
 }
 
 /// The right side of a comparison.
-#[tactic(auto, using(crate::proofs::Trees::preds, crate::proofs::Steps::begun))]
 fn term(alloc: Global, reader: &mut Reader) -> Result<Term, BookFault>
-    ensures reads { Reads (ATerm ∷ []) reader.old reader.new result }
-    ensures is { IfOk result (λ term. IsTerm reader.old.rest reader.new.rest term) }
+    ensures { IsRead ATerm (λ term. term) reader.old reader.new result }
 {
     if is_column(reader.kind()) {
         Ok(Term::Col(column(alloc, reader)?))
@@ -58,8 +54,7 @@ fn term(alloc: Global, reader: &mut Reader) -> Result<Term, BookFault>
 fn compare(alloc: Global, reader: &mut Reader) -> Result<Box<PredTree>, BookFault>
     requires negates { (head_of reader.old.rest).kind ≡ kinds.Not → ⊥ }
     requires opens { (head_of reader.old.rest).kind ≡ kinds.Open → ⊥ }
-    ensures reads { (depth : ℕ) → Reads (APrim depth ∷ []) reader.old reader.new result }
-    ensures is { IfOk result (λ pred. IsPrim reader.old.rest reader.new.rest (pred_image pred.value)) }
+    ensures { (depth : ℕ) → IsRead (APrim depth) (λ pred. pred_image pred.value) reader.old reader.new result }
 {
     if !is_column(reader.kind()) {
         return Err(wrong(reader));
@@ -77,8 +72,7 @@ fn compare(alloc: Global, reader: &mut Reader) -> Result<Box<PredTree>, BookFaul
 /// A predicate without `and` and `or` of its own.
 #[cycle(pred)]
 fn prim(alloc: Global, reader: &mut Reader, depth: u32) -> Result<Box<PredTree>, BookFault>
-    ensures reads { Reads (APrim depth ∷ []) reader.old reader.new result }
-    ensures is { IfOk result (λ pred. IsPrim reader.old.rest reader.new.rest (pred_image pred.value)) }
+    ensures { IsRead (APrim depth) (λ pred. pred_image pred.value) reader.old reader.new result }
 {
     match reader.kind() {
         TokenKind::Not => {
@@ -99,11 +93,10 @@ fn prim(alloc: Global, reader: &mut Reader, depth: u32) -> Result<Box<PredTree>,
 }
 
 /// Predicates joined by `and`.
-#[tactic(auto, using(crate::proofs::Trees::preds, crate::proofs::Steps::in_loop))]
+#[tactic(auto, using(crate::proofs::Steps::in_loop))]
 #[cycle(pred)]
 fn conj(alloc: Global, reader: &mut Reader, depth: u32) -> Result<Box<PredTree>, BookFault>
-    ensures reads { Reads (APrim depth ∷ AnAnds depth ∷ []) reader.old reader.new result }
-    ensures is { IfOk result (λ pred. IsConj reader.old.rest reader.new.rest (pred_image pred.value)) }
+    ensures { IsRead (AConj depth) (λ pred. pred_image pred.value) reader.old reader.new result }
 {
     let mut left = prim(alloc, reader, depth)?;
     'ands: while let TokenKind::And = reader.kind() {
@@ -115,11 +108,10 @@ fn conj(alloc: Global, reader: &mut Reader, depth: u32) -> Result<Box<PredTree>,
 }
 
 /// Predicates joined by `or`.
-#[tactic(auto, using(crate::proofs::Trees::preds, crate::proofs::Steps::in_loop))]
+#[tactic(auto, using(crate::proofs::Steps::in_loop))]
 #[cycle(pred)]
 pub fn pred(alloc: Global, reader: &mut Reader, depth: u32) -> Result<Box<PredTree>, BookFault>
-    ensures reads { Reads (APrim depth ∷ AnAnds depth ∷ AnOrs depth ∷ []) reader.old reader.new result }
-    ensures is { IfOk result (λ pred. IsPred reader.old.rest reader.new.rest (pred_image pred.value)) }
+    ensures { IsRead (APred depth) (λ pred. pred_image pred.value) reader.old reader.new result }
 {
     let mut left = conj(alloc, reader, depth)?;
     'ors: while let TokenKind::Or = reader.kind() {

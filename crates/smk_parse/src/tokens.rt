@@ -1,8 +1,8 @@
-#![tactic(auto, using(crate::proofs::Trees::words))]
+#![tactic(auto, using(crate::proofs::Steps::in_order))]
 
-ghost use Rattle.std.specs.Prelude.{◌≡◌, ◌∷◌, [], ◌<◌, IsTrue, true, false, IfOk, IfErr, OnOk};
-ghost use Rattle.smk_parse.specs.Vocabulary.{NoMemory, TooMany, head_of, is_more, inner, string_value, First, IsLiteral, IsName, IsColumn, token_fault, is_short, AToken, ALiteral, AName, AColumn, AFirst, ALineName, ALineColumn};
-ghost use Rattle.smk_parse.specs.{Texts.Advances, Reads.Reads, Reads.is_column, Reads.column_name, Reads.column_word};
+ghost use Rattle.std.specs.Prelude.{◌≡◌, ◌<◌, IsTrue, true, false, IfOk, IfErr, OnOk};
+ghost use Rattle.smk_parse.specs.Vocabulary.{NoMemory, TooMany, head_of, is_more, inner, string_value, token_fault, is_short, AToken, ALiteral, AName, AColumn, AFirst, ALineName, ALineColumn};
+ghost use Rattle.smk_parse.specs.{Texts.Advances, Reads.IsRead, Reads.IsPassed, Reads.is_column, Reads.column_name, Reads.column_word};
 
 use crate::reader::Reader;
 use smk_base::{BookFault, COLUMN_LIMIT, Lit, Many, NAME_LIMIT, Text, TokenKind, Value, Word};
@@ -36,11 +36,9 @@ pub fn within(reader: &Reader, few: bool, what: Many) -> Result<(), BookFault>
 }
 
 /// A token of this kind.
-#[tactic(auto, using(crate::proofs::Steps::expect_goes, crate::proofs::Steps::in_order))]
 pub fn expect(reader: &mut Reader, kind: TokenKind) -> Result<(), BookFault>
     requires { IsTrue (is_more kind) }
-    ensures reads { Reads (AToken kind ∷ []) reader.old reader.new result }
-    ensures is { OnOk result (First kind (head_of reader.old.rest) reader.old.rest reader.new.rest) }
+    ensures { IsPassed (AToken kind) (head_of reader.old.rest) reader.old reader.new result }
 {
     if kind == reader.kind() {
         reader.advance();
@@ -82,8 +80,7 @@ pub fn string_in_hand(alloc: Global, reader: &Reader) -> Result<Text, BookFault>
 
 /// A literal.
 pub fn literal(alloc: Global, reader: &mut Reader) -> Result<Lit, BookFault>
-    ensures reads { Reads (ALiteral ∷ []) reader.old reader.new result }
-    ensures is { IfOk result (λ lit. IsLiteral reader.old.rest reader.new.rest lit) }
+    ensures { IsRead ALiteral (λ lit. lit) reader.old reader.new result }
 {
     let at = reader.at();
     match reader.kind() {
@@ -149,8 +146,7 @@ pub fn take_column(alloc: Global, reader: &mut Reader) -> Result<Word, BookFault
 
 /// A name of at most 64 bytes.
 pub fn name(alloc: Global, reader: &mut Reader) -> Result<Word, BookFault>
-    ensures reads { Reads (AName ∷ []) reader.old reader.new result }
-    ensures is { IfOk result (λ word. IsName reader.old.rest reader.new.rest word) }
+    ensures { IsRead AName (λ word. word) reader.old reader.new result }
 {
     match reader.kind() {
         TokenKind::Name => {
@@ -163,8 +159,7 @@ pub fn name(alloc: Global, reader: &mut Reader) -> Result<Word, BookFault>
 
 /// A name of any length.
 pub fn line_name(alloc: Global, reader: &mut Reader) -> Result<Word, BookFault>
-    ensures reads { Reads (ALineName ∷ []) reader.old reader.new result }
-    ensures is { IfOk result (λ word. IsName reader.old.rest reader.new.rest word) }
+    ensures { IsRead ALineName (λ word. word) reader.old reader.new result }
 {
     match reader.kind() {
         TokenKind::Name => take_column(alloc, reader),
@@ -174,8 +169,7 @@ pub fn line_name(alloc: Global, reader: &mut Reader) -> Result<Word, BookFault>
 
 /// A column of at most 64 bytes.
 pub fn column(alloc: Global, reader: &mut Reader) -> Result<Word, BookFault>
-    ensures reads { Reads (AColumn ∷ []) reader.old reader.new result }
-    ensures is { IfOk result (λ word. IsColumn reader.old.rest reader.new.rest word) }
+    ensures { IsRead AColumn (λ word. word) reader.old reader.new result }
 {
     if !is_column(reader.kind()) {
         return Err(wrong(reader));
@@ -186,8 +180,7 @@ pub fn column(alloc: Global, reader: &mut Reader) -> Result<Word, BookFault>
 
 /// The column that begins a member of a list, of which so many stand before.
 pub fn first_column(alloc: Global, reader: &mut Reader, before: usize) -> Result<Word, BookFault>
-    ensures reads { Reads (AFirst before ∷ []) reader.old reader.new result }
-    ensures is { IfOk result (λ word. IsColumn reader.old.rest reader.new.rest word) }
+    ensures { IsRead (AFirst before) (λ word. word) reader.old reader.new result }
 {
     if !is_column(reader.kind()) {
         return Err(wrong(reader));
@@ -199,8 +192,7 @@ pub fn first_column(alloc: Global, reader: &mut Reader, before: usize) -> Result
 
 /// A column of any length.
 pub fn line_column(alloc: Global, reader: &mut Reader) -> Result<Word, BookFault>
-    ensures reads { Reads (ALineColumn ∷ []) reader.old reader.new result }
-    ensures is { IfOk result (λ word. IsColumn reader.old.rest reader.new.rest word) }
+    ensures { IsRead ALineColumn (λ word. word) reader.old reader.new result }
 {
     if !is_column(reader.kind()) {
         return Err(wrong(reader));

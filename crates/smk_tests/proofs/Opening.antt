@@ -19,7 +19,7 @@ use Rattle.smk_model.specs.Typing.{types}
 use Rattle.smk_model.specs.Catalogs.{ViewFits, table_kinds, each_table_kinds}
 use Rattle.smk_model.specs.Selection.{ScansFit, PlanFits, leaf_kinds, each_kinds, nodes}
 use Rattle.smk_model.proofs.Expanded.{expanded_stands}
-use Rattle.smk_model.proofs.Keeping.{faultless_keep_limits}
+use Rattle.smk_model.proofs.LimitsKept.{faultless_keep_limits}
 use Rattle.smk_base.proofs.Places.{map_map}
 use Rattle.smk_parse.specs.Answers.{IsBookAnswer}
 

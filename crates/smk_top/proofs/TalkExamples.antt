@@ -14,13 +14,13 @@ use Rattle.smk_model.specs.Texts.{record_line}
 use Rattle.smk_model.specs.Tables.{table_of}
 use Rattle.smk_model.specs.Conversation.{line_limit, line_of, HeardLine, TalkTurn, Replied, TooLong, TalkState, turn_after, turn_block, FitsTalk, first_talk_state, opening_block, opening_texts}
 use Rattle.smk_model.specs.WorkedExamples.{sales, readme_book_name, readme_files, readme_catalog, readme_workbook, readme_inputs, plain_settings}
-use Rattle.smk_model.specs.Grammar.{name, file, show_line, plain_line, appended_line, whole_any_line}
 use Rattle.smk_model.specs.Readings.{Asks, Unread, asks, leaves, plain_reading}
 use Rattle.smk_model.specs.Reports.{BookSaid}
 use Rattle.smk_model.specs.TalkStarts.{usable, read, started, TalkBrings}
 use Rattle.smk_model.specs.TalkWords.{TalkCall, talk_call_of}
 use Rattle.smk_model.specs.Words.{Files}
-use Rattle.smk_model.proofs.WorkedExamples.{stands, readme}
+use Rattle.smk_model.proofs.Spelling.{computed}
+use Rattle.smk_model.proofs.WorkedExamples.{readme}
 use Rattle.smk_outside.specs.Conversing.{Talks, Rules, last_state}
 use Rattle.smk_outside.specs.Outside.{Rose}
 use Rattle.smk_outside.specs.Told.{says}
@@ -71,11 +71,11 @@ abbrev left_said : List Event
 left_said = Said (codes "line 4 not read at byte 8\n") ∷ Said (codes "\n") ∷ End ∷ []
 
 shown_fits : Fits first (Replied shown)
-shown_fits = (omega arith, refl, asks (λ e. absurd (cc)) (whole_any_line (plain_line (show_line stands (name stands))) stands) refl, refl, inl refl)
+shown_fits = (omega arith, refl, asks (λ e. absurd (cc)) (computed refl) refl, refl, inl refl)
 
 appended_fits : (state : TalkState) → state.heard ≡ 1 → Fits state (Replied appended)
 unfolding table_of records_from next_record int_of
-appended_fits state at = rw at (omega arith, refl, asks (λ e. absurd (cc)) (whole_any_line (appended_line stands (name stands) (file stands)) stands) refl, refl, inl refl)
+appended_fits state at = rw at (omega arith, refl, asks (λ e. absurd (cc)) (computed refl) refl, refl, inl refl)
 
 left_fits : (state : TalkState) → state.heard ≡ 3 → Fits state (Replied left)
 left_fits state at = rw at (omega arith, refl, leaves (λ e. absurd (cc)) refl refl, refl, inl refl)

@@ -1,12 +1,9 @@
-use Rattle.std.proofs.Common.{[], ◌∷◌, length, map}
-use Rattle.smk_parse.{specs.Vocabulary.AnAskStep, specs.Vocabulary.AskSteps, specs.Vocabulary.ask_step_image, specs.Reads.Comes, proofs.Whole.EndsSteps}
+use Rattle.std.proofs.Common.{◌≡◌, length, map}
+use Rattle.smk_parse.specs.{Vocabulary.APiped, Vocabulary.ask_step_image, Vocabulary.reads, Reads.before}
 use Rattle.smk_parse.proofs.ask.ask_steps.Given as goal
 
 abbrev pub invariant-steps : goal.invariant-steps
-invariant-steps l = record {
-  reads : Comes (AnAskStep ∷ AskSteps ∷ []) (AnAskStep ∷ AskSteps ∷ []) l.fn.reader l.reader;
-  is : EndsSteps l.fn.reader.rest l.reader.rest (map ask_step_image l.steps);
-}
+invariant-steps l = reads APiped l.fn.reader ≡ before (map ask_step_image l.steps) (reads APiped l.reader)
 
 abbrev pub decreases-steps : goal.decreases-steps
 decreases-steps l = length l.reader.rest

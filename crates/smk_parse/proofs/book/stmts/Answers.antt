@@ -1,9 +1,10 @@
 use Rattle.std.proofs.{Common.arith, Common.sym, lemmas.Grind.common_steps}
-use Rattle.smk_parse.proofs.{Whole.stmts_done, Whole.stmts_trees, Steps.in_loop, Steps.in_order}
+use Rattle.std.proofs.lemmas.List.{map_push}
+use Rattle.smk_parse.proofs.Steps.{before_push, stmts_done}
 use Rattle.smk_parse.proofs.book.stmts.Goals as goal
 
 pub stmts-preserved : goal.stmts-preserved
-stmts-preserved c = grind (arith, common_steps, stmts_trees, in_loop, in_order)
+stmts-preserved c = grind (arith, common_steps, map_push, before_push)
 
-pub returns-in-End-clause-is : goal.returns-in-End-clause-is
-returns-in-End-clause-is c = stmts_done c.args.reader.now.rest c.stmts.reader _ c.stmts.invariant.is c.kind.ensures.here (sym c.in-End.ensures.is)
+pub returns-in-End : goal.returns-in-End
+returns-in-End c = stmts_done _ _ c.stmts.reader _ c.stmts.invariant c.kind.ensures.here (sym c.in-End.ensures.is)

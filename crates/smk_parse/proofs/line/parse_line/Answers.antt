@@ -1,9 +1,9 @@
 use Rattle.std.proofs.Common.{◌∙◌}
-use Rattle.smk_parse.{specs.Vocabulary.tokens, specs.Vocabulary.ALine, specs.Vocabulary.IsWholeLine, proofs.Whole.whole_read, proofs.Whole.whole_unread}
+use Rattle.smk_parse.{specs.Vocabulary.tokens, specs.Vocabulary.AWholeLine, specs.Vocabulary.IsWholeLine, proofs.Whole.whole_read, proofs.Whole.whole_unread}
 use Rattle.smk_parse.proofs.line.parse_line.Goals as goal
 
 pub returns-in-Ok : goal.returns-in-Ok
-returns-in-Ok c = whole_read IsWholeLine ALine c.new-reader.result c.whole_line.new.reader c.args.line.now c.in-Ok.line c.new-reader.ensures (λ e. c.in_default.not-End (c.kind.ensures.is ∙ e)) c.in-Ok.ensures.reads c.in-Ok.ensures.is
+returns-in-Ok c = whole_read AWholeLine (λ line. line) c.new-reader.result c.args.line.now c.in-Ok.line c.new-reader.ensures (λ e. c.in_default.not-End (c.kind.ensures.is ∙ e)) c.in-Ok.ensures
 
 pub returns-in-Err : goal.returns-in-Err
-returns-in-Err c = whole_unread (IsWholeLine (tokens c.args.line.now)) ALine c.new-reader.result c.args.line.now c.in-Err.fault c.as_line_fault.result c.new-reader.ensures (λ e. c.in_default.not-End (c.kind.ensures.is ∙ e)) c.in-Err.ensures.reads c.as_line_fault.ensures
+returns-in-Err c = whole_unread AWholeLine (IsWholeLine (tokens c.args.line.now)) c.new-reader.result c.args.line.now c.in-Err.fault c.as_line_fault.result c.new-reader.ensures (λ e. c.in_default.not-End (c.kind.ensures.is ∙ e)) c.in-Err.ensures c.as_line_fault.ensures

@@ -1,6 +1,6 @@
-use Rattle.std.proofs.Common.{◌+◌, ◌-◌, ◌*◌, [], ◌∷◌, length}
+use Rattle.std.proofs.Common.{◌≡◌, ◌+◌, ◌-◌, ◌*◌, length}
 use Rattle.smk_base.specs.declared.book.limits.TheConstants.{DEPTH_LIMIT}
-use Rattle.smk_parse.{specs.Vocabulary.tree_image, specs.Vocabulary.AreSteps, specs.Vocabulary.IsPlan, specs.Vocabulary.ASource, specs.Vocabulary.ASteps, proofs.Steps.IsChain}
+use Rattle.smk_parse.specs.Vocabulary.{tree_image, APlan, ASteps, reads}
 use Rattle.smk_parse.proofs.plan.+plan.Given as goal
 
 abbrev pub decreases-source : goal.decreases-source
@@ -16,7 +16,7 @@ abbrev pub decreases-plan : goal.decreases-plan
 decreases-plan l = (DEPTH_LIMIT - l.depth) * 4 + 3
 
 abbrev pub invariant-plan-steps : goal.invariant-plan-steps
-invariant-plan-steps l = IsChain (ASource l.depth ∷ ASteps l.depth ∷ []) (ASteps l.depth) AreSteps IsPlan l.fn.reader l.reader (tree_image l.input.value)
+invariant-plan-steps l = reads (APlan l.depth) l.fn.reader ≡ reads (ASteps l.depth (tree_image l.input.value)) l.reader
 
 abbrev pub decreases-plan-steps : goal.decreases-plan-steps
 decreases-plan-steps l = length l.reader.rest

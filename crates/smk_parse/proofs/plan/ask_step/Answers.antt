@@ -1,10 +1,11 @@
-use Rattle.std.proofs.Common.{sym, subst}
-use Rattle.smk_model.proofs.Moves.{asked_is}
-use Rattle.smk_parse.{specs.Vocabulary.head_of, specs.Vocabulary.step_image, specs.Vocabulary.IsAskStep, proofs.Steps.first_here}
+use Rattle.std.specs.Prelude.{Ok}
+use Rattle.std.proofs.Common.{◌∙◌, ap, sym}
+use Rattle.std.proofs.lemmas.Result.{err_from_is_err_and}
+use Rattle.smk_model.proofs.InTurn.{then}
+use Rattle.smk_parse.{specs.Vocabulary.head_of, proofs.Steps.asked_reads, proofs.Steps.asked_of}
 use Rattle.smk_parse.proofs.plan.ask_step.Goals as goal
 
-pub returns-clause-is : goal.returns-clause-is
-returns-clause-is c =
-    let kind = sym c.kind-kind.ensures.is in
-    let step = c.in_ok-what.ensures.is c.args.reader.now.rest (head_of c.args.reader.now.rest) (first_here c.kind-kind.result _ c.args.reader.now c.take_node.new.reader c.in_ok-take_node.ensures.taken kind) in
-    subst (λ n. IsAskStep c.args.reader.now.rest c.operands.new.reader.rest (record { at = n; what = step_image c.in_ok-what.what })) (sym c.at-at.ensures) (asked_is step kind (sym c.if-not-has_one_input.ensures.one))
+pub returns-in_err-what : goal.returns-in_err-what
+returns-in_err-what c =
+    let p = err_from_is_err_and c.from_residual-in_err-what.result c.from_residual-in_err-what.ensures.1 in
+    rw (p.1, p.2) (λ m. asked_reads c.kind-kind.result c.args.reader.now c.take_node.new.reader c.kind-kind.ensures.is (sym c.if-not-has_one_input.ensures.one) c.in_ok-take_node.ensures.few c.kind-kind.ensures.here c.in_ok-take_node.ensures.taken ∙ ap (λ q. then q (λ s b. Ok (asked_of (head_of c.args.reader.now.rest).at s, b))) (c.in_err-what.ensures m))

@@ -1,0 +1,5 @@
+use Rattle.smk_model.proofs.LimitsKept.{faultless_asks_keep_limits as law}
+use Rattle.smk_model.proofs.runs.grammar_laws.faultless_asks_keep_limits.Goals as goal
+
+pub returns : goal.returns
+returns c = law
