@@ -1,8 +1,7 @@
 -- Rows column by column.
-use Rattle.std.proofs.Common.{◌≡◌, ◌∙◌, ◌<◌, ◌+◌, ℕ, ℤ, List, [], ◌∷◌, ◌++◌, length, map, take, refl, sym, ap, get_or, append_assoc}
+use Rattle.std.proofs.Common.{◌≡◌, ◌∙◌, ◌<◌, ◌+◌, ℕ, List, [], ◌∷◌, ◌++◌, length, map, take, refl, sym, ap, get_or, append_assoc}
 use Rattle.std.proofs.lemmas.List.{map_more}
 use Rattle.smk_base.specs.declared.value.Value.{Value}
-use Rattle.smk_base.specs.declared.value.Value.TheVariants as values
 use Rattle.smk_base.specs.declared.value.Kind.TheVariants as kinds
 use Rattle.smk_base.specs.declared.value.Kind.{Kind}
 use Rattle.smk_base.specs.Rels.{Relation, beside_rows}
@@ -30,7 +29,3 @@ column_more F G ys k d xs h =
 -- relations of equal kinds and rows
 pub related : {ks js : List Kind} {xs ys : List Row} → ks ≡ js → xs ≡ ys → relation ks xs ≡ relation js ys
 related p q = rw (p, q) refl
-
--- a column of equal ints
-pub ints_of : (level : ℕ) {ns ms : List ℤ} → ns ≡ ms → relation (kinds.Int level ∷ []) (map (λ (z : ℤ). values.Int z ∷ []) ns) ≡ relation (kinds.Int level ∷ []) (map (λ (z : ℤ). values.Int z ∷ []) ms)
-ints_of level p = rw p refl

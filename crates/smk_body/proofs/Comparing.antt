@@ -1,11 +1,13 @@
 -- The places that a selection keeps.
 use Rattle.std.proofs.Common.{◌≡◌, ◌∙◌, ◌+◌, ◌<◌, ℕ, ℤ, pos, Bool, List, [], ◌∷◌, ◌++◌, true, false, All, length, map, take, drop, filter, slice_set, get_or, ap, sym, refl, subst, arith, cond, ◌≤◌, ◌-◌, zero, suc}
-use Rattle.std.proofs.lemmas.List.{append_assoc, append-nil, get_or_default, get_or-map, length-map, length-set, map_push, take-set-le, take_more, drop-set-lt, drop_more}
+use Rattle.std.proofs.lemmas.List.{append_assoc, append-nil, get_or_append_left, get_or-append_right, get_or_default, get_or-map, length-map, take-set-le, drop_more}
 use Rattle.std.proofs.lemmas.List.Elements.{All-filter, All-from_get_or, All-get_or, All-head, All-tail, filter-append}
 use Rattle.std.proofs.lemmas.List.FromFn.{get_or-range_with_len, length-range_with_len}
 use Rattle.std.specs.List.{range_with_len}
 use Rattle.std.proofs.lemmas.List.Filters.{FiltersInPlace, FiltersInPlace-more_set, FiltersInPlace-more_no}
-use Rattle.std.specs.Ordering.{int_cmp}
+use Rattle.std.specs.Ordering.{int_cmp, ordering_reverse}
+use Rattle.std.specs.declared.cmp.Ordering.{Ordering}
+use Rattle.std.specs.declared.cmp.Ordering.TheVariants.{Less, Equal, Greater}
 use Rattle.smk_base.specs.Places.{places, upto}
 use Rattle.smk_base.proofs.Places.{upto_more}
 use Rattle.smk_base.specs.Plans.{Comparison}
@@ -13,11 +15,12 @@ use Rattle.smk_base.specs.Widths.{AreAlike}
 use Rattle.smk_base.specs.Rels.{Fits, RowFits, column_texts, column_values, kind_in, text_of}
 use Rattle.smk_base.specs.TextColumns.{text_in}
 use Rattle.smk_base.specs.declared.book.plan.CmpOp.{CmpOp}
-use Rattle.smk_base.specs.declared.book.plan.Operand.TheVariants.{Lit}
+use Rattle.smk_base.specs.declared.book.plan.Operand.TheVariants.{Col, Lit}
 use Rattle.smk_base.specs.declared.value.Kind.{Kind}
 use Rattle.smk_base.specs.declared.value.Kind.TheVariants as kinds
 use Rattle.smk_base.specs.declared.value.Value.{Value}
 use Rattle.smk_base.specs.declared.value.Value.TheVariants as values
+use Rattle.smk_model.proofs.Spread.{value_order}
 use Rattle.smk_model.specs.Values.{Row, holds, meets, value_at, value_cmp}
 use Rattle.smk_model.specs.Lineage.{row_at}
 use Rattle.smk_body.proofs.Aggregating.{value_is}
@@ -106,3 +109,27 @@ pub range_within : (m n k : ℕ) → n ≤ k → All (λ i. i < k) (range_with_l
 range_within m n k le = All-from_get_or (λ i. i < k) (range_with_len m (n - m)) 0 (λ i low.
     let below : i < n - m = omega (arith, low, length-range_with_len m (n - m)) in
     omega (arith, get_or-range_with_len m (n - m) i 0 below, below))
+
+-- what a comparison says of two values the other says of the second and the first
+pub turned_says : (op t : CmpOp) → holds t Greater ≡ holds op Less → holds t Equal ≡ holds op Equal → holds t Less ≡ holds op Greater → (o : Ordering) → holds t (ordering_reverse o) ≡ holds op o
+turned_says op t less equal greater Less = less
+turned_says op t less equal greater Equal = equal
+turned_says op t less equal greater Greater = greater
+
+-- a comparison of a column of a left row with one of a right row is one of the right column with the left value
+module _ (L R : Row) (w c d : ℕ) (op : CmpOp) (v : Value) (long : length L ≡ w) where
+  left_of : (k : ℕ) → k < w → value_at (L ++ R) k ≡ value_at L k
+  left_of k low = get_or_append_left L R (values.Int (pos 0)) k (omega (arith, long))
+
+  right_of : (k : ℕ) → w ≤ k → value_at (L ++ R) k ≡ value_at R (k - w)
+  right_of k high = get_or-append_right L R w k (values.Int (pos 0)) long high
+
+  pub turned_across : (t : CmpOp) → ((o : Ordering) → holds t (ordering_reverse o) ≡ holds op o) → c < w → w ≤ d → v ≡ value_at L c
+      → meets (Comparison c op (Col d)) (L ++ R) ≡ meets (Comparison (d - w) t (Lit v)) R
+  turned_across t says low high is =
+      let l = value_at L c in
+      let r = value_at R (d - w) in
+      (λ j. holds op (value_cmp (left_of c low j) (right_of d high j))) ∙ sym (says (value_cmp l r)) ∙ ap (holds t) (sym (value_order.antisymm r l)) ∙ ap (λ (x : Value). holds t (value_cmp r x)) (sym is)
+
+  pub across : d < w → w ≤ c → v ≡ value_at L d → meets (Comparison c op (Col d)) (L ++ R) ≡ meets (Comparison (c - w) op (Lit v)) R
+  across low high is = λ j. holds op (value_cmp (right_of c high j) ((left_of d low ∙ sym is) j))

@@ -21,7 +21,7 @@ use Rattle.smk_model.proofs.Classes.{place_in, classes_are}
 use Rattle.smk_body.specs.Locals.{side_of}
 use Rattle.smk_body.specs.declared.keep.local.Side.{Side}
 use Rattle.smk_body.specs.declared.keep.local.Local.{Local}
-use Rattle.smk_body.proofs.Classing.{length_of, rest_of}
+use Rattle.smk_body.proofs.Classing.{length_of}
 
 -- a side whose output rows each come from one row, and one whose input rows each reach one
 pub by_sources : {of is : List ℕ} {n m : ℕ} {back fwd : Lists} (want : Dir) → of ≡ is → n ≡ m → HasSources is m back fwd → side_of want (singles of n) (inverted (singles of n)) ≡ side_of want back fwd
@@ -59,13 +59,6 @@ pub right_classes : (L R : List Row) → drop (length L) (classes (L ++ R)) ≡ 
 right_classes L R =
     let place = place_in (firsts (L ++ R)) in
     ap (drop (length L)) (map-append place L R) ∙ ap (λ n. drop n (map place L ++ map place R)) (sym (length-map L place)) ∙ drop-append_seam (map place L) (map place R)
-
--- the same as slices
-pub left_slice : (L R : List Row) (of : List ℕ) (n : ℕ) → of ≡ classes (L ++ R) → n ≡ length L → take n of ≡ places_in (firsts (L ++ R)) L
-left_slice L R of n e f = rw (e, f) (left_classes L R)
-
-pub right_slice : (L R : List Row) (of : List ℕ) (n : ℕ) → of ≡ classes (L ++ R) → n ≡ length L → take (length of - n) (drop n of) ≡ places_in (firsts (L ++ R)) R
-right_slice L R of n e f = rest_of of n ∙ rw (e, f) (right_classes L R)
 
 pub left_below : (L R : List Row) → All (λ r. r < length (firsts (L ++ R))) (places_in (firsts (L ++ R)) L)
 left_below L R = let below = λ (r : ℕ). r < length (firsts (L ++ R)) in subst (All below) (left_classes L R) (All-take below (length L) (classes (L ++ R)) (classes_below (L ++ R)))

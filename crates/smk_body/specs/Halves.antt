@@ -1,14 +1,13 @@
 -- The first halves of steps: the places that make the output rows.
-use Rattle.std.specs.Prelude.{◌≡◌, ◌≢◌, ℕ, ℤ, pos, ◌<◌, ◌≤◌, nat_eq, Bool, cond, List, [], ◌∷◌, length, map, slice_index, slice_index_or, All}
+use Rattle.std.specs.Prelude.{◌≡◌, ◌≢◌, ℕ, ◌<◌, ◌≤◌, nat_eq, Bool, cond, List, [], ◌∷◌, length, map, slice_index, slice_index_or, All}
 use Rattle.std.specs.List.{flat_map, fold}
-use Rattle.std.specs.Ordering.{int_cmp, is_lt, is_gt}
+use Rattle.std.specs.Ordering.{is_lt, is_gt}
 use Rattle.smk_base.specs.declared.rel.TheConstants.{ROW_LIMIT}
 use Rattle.smk_base.specs.Places.{upto, places}
 use Rattle.smk_base.specs.Plans.{Formula}
 use Rattle.smk_base.specs.declared.book.plan.Agg.{Agg}
-use Rattle.smk_base.specs.declared.book.plan.CmpOp.{CmpOp}
 use Rattle.smk_base.specs.declared.value.Value.{Value}
-use Rattle.smk_model.specs.Values.{Row, holds, meets, value_cmp}
+use Rattle.smk_model.specs.Values.{Row, meets, value_cmp}
 use Rattle.smk_model.specs.Plain.{aggregate, lesser, greater}
 use Rattle.smk_model.specs.Lineage.{row_at, sub, lefts_of, rights_of}
 use Rattle.smk_keys.specs.Classes.{ClassesImage}
@@ -16,10 +15,6 @@ use Rattle.smk_keys.specs.Classes.{ClassesImage}
 -- the places below n whose rows meet a formula
 abbrev pub meeting_below : Formula → List Row → ℕ → List ℕ
 meeting_below formula L n = places (λ i. meets formula (row_at L i)) n
-
--- the places below n of ints that stand so to an int
-abbrev pub ints_below : CmpOp → ℤ → List ℤ → ℕ → List ℕ
-ints_below op n ints = places (λ i. holds op (int_cmp (slice_index_or ints i (pos 0)) n))
 
 -- each left place below n with each of its partners on the right, in order
 abbrev pub pairs_below : (ℕ → List ℕ) → ℕ → List (ℕ × ℕ)

@@ -9,4 +9,3 @@ pub mod Rowed
 pub mod Tabled
 pub mod Worded
 pub mod Ordered
-pub mod Searching

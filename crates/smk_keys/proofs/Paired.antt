@@ -1,22 +1,10 @@
 -- Pairs of numbers.
-use Rattle.std.proofs.Common.{◌≡◌, ℕ, ◌+◌, ◌*◌, ◌<◌, ◌≤◌, Bool, List, length, get_or, nat_eq, ◌&&◌, ap, sym, ◌∙◌, arith, Decides, All}
-use Rattle.std.specs.Cmp.{unsigned_Decides}
+use Rattle.std.proofs.Common.{◌≡◌, ℕ, ◌+◌, ◌*◌, ◌<◌, ◌≤◌, List, length, get_or, ap, sym, ◌∙◌, arith, All}
 use Rattle.std.specs.List.{zip}
-use Rattle.std.proofs.lemmas.Bool.{and_parts, and_from}
 use Rattle.std.proofs.lemmas.List.{get_or_default}
 use Rattle.std.proofs.lemmas.Nat.{mul-add-lt, same_from_place}
 use Rattle.std.proofs.lemmas.Slice.Zip.{length-zip, get_or-zip}
 use Rattle.smk_keys.specs.Numbers.{AreNumbers}
-
--- equality of pairs
-abbrev pub pair_eq : ℕ × ℕ → ℕ × ℕ → Bool
-pair_eq a b = nat_eq a.0 b.0 && nat_eq a.1 b.1
-
-pub pair_same : (a b : ℕ × ℕ) → Decides (pair_eq a b) (a ≡ b)
-pair_same a b = (
-  (λ e. let p = and_parts (nat_eq a.0 b.0) (nat_eq a.1 b.1) e in λ j. ((unsigned_Decides a.0 b.0).0 p.0 j, (unsigned_Decides a.1 b.1).0 p.1 j)),
-  (λ e. and_from (nat_eq a.0 b.0) (nat_eq a.1 b.1) ((unsigned_Decides a.0 b.0).1 (ap (λ (p : ℕ × ℕ). p.0) e)) ((unsigned_Decides a.1 b.1).1 (ap (λ (p : ℕ × ℕ). p.1) e))),
-)
 
 -- places in a table are numbers of pairs
 pub AreNumbers-places : (lefts rights : List ℕ) (height width : ℕ) (places : List ℕ) → length rights ≡ length lefts → All (λ k. k < height) lefts → All (λ k. k < width) rights

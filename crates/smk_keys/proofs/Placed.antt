@@ -19,19 +19,6 @@ AreClasses-keys keys = AreClasses-classing key_eq key_same [] keys
 pub keys-firsts : (keys : List (List Value)) → map (row_in keys) (classes_of keys).firsts ≡ first_items key_eq keys
 keys-firsts keys = first_items-classes key_eq key_same [] keys (classes_of keys).of (classes_of keys).firsts (AreClasses-keys keys)
 
--- there are as many classes as different keys
-pub length-firsts : (keys : List (List Value)) → length (classes_of keys).firsts ≡ length (first_items key_eq keys)
-length-firsts keys = sym (length-map (classes_of keys).firsts (row_in keys)) ∙ ap length (keys-firsts keys)
-
--- the class of each key is its place among the keys at their first occurrences
-pub class-place : (keys : List (List Value)) (i : ℕ) → i < length keys → row_in (first_items key_eq keys) (get_or (classes_of keys).of i 0) ≡ row_in keys i
-class-place keys i h =
-    let are = AreClasses-keys keys in
-    let made = classes_of keys in
-    let class = get_or made.of i 0 in
-    let inside : class < length made.firsts = are.within i h in
-    sym (ap (λ (list : List (List Value)). row_in list class) (keys-firsts keys)) ∙ get_or-map (row_in keys) made.firsts class 0 [] inside ∙ are.same (get_or made.firsts class 0) i (are.place class inside) h (are.at class inside)
-
 -- numbers have the classes of the keys that are each one of them alone
 pub classes-numbers_alone : (numbers : List ℕ) → classing_of nat_eq numbers ≡ classes_of (map (λ number. Int (pos number) ∷ []) numbers)
 classes-numbers_alone numbers =

@@ -1,8 +1,6 @@
 -- Numbers of rows, column by column.
 use Rattle.std.proofs.Common.{◌≡◌, ℕ, suc, ◌+◌, ◌-◌, ◌<◌, ◌≤◌, ℤ, pos, List, [], ◌∷◌, ◌++◌, length, map, take, drop, get_or, nat_eq, refl, ap, sym, subst, ◌∙◌, arith, All, inl, inr, replicate, length-append, Decides}
-use Rattle.std.specs.Cmp.{signed_Decides}
 use Rattle.std.specs.List.{zip, slice_range}
-use Rattle.std.specs.Ordering.{int_eq}
 use Rattle.std.proofs.lemmas.Bool.{cases_lt}
 use Rattle.std.proofs.lemmas.List.{get_or_append_left, get_or-append_right, get_or_default, get_or-map, get_or-replicate, get_or-take, get_or-drop, length-drop, length-take-le, take-map, drop-map, take_all, take_more, length-map, length-replicate, map-append, map_push, same_from_push, same_lists}
 use Rattle.std.proofs.lemmas.Slice.Eq.{slice_eq-Decides}
@@ -18,8 +16,7 @@ use Rattle.smk_base.proofs.RelRows.{Fits-value_in}
 use Rattle.smk_keys.specs.Classes.{ClassesImage, classing_of, classes_of}
 use Rattle.smk_keys.specs.Keys.{key_eq}
 use Rattle.smk_keys.specs.Numbers.{AreNumbers}
-use Rattle.smk_keys.proofs.Classing.{AreClasses-classing, classing-numbers}
-use Rattle.smk_keys.proofs.Firsts.{AreNumbers-classes}
+use Rattle.smk_keys.proofs.Classing.{classing-numbers}
 
 pub key_same : (a b : List Value) → Decides (key_eq a b) (a ≡ b)
 key_same a b = slice_eq-Decides value_same a b (key_eq a b) refl
@@ -98,18 +95,6 @@ AreNumbers-ones keys of_values count of e key are = record {
   alike = λ i j p q f. are.alike i j (omega arith) (omega arith) (same_from_push [] [] (get_or of_values i (values.Int (pos 0))) (get_or of_values j (values.Int (pos 0))) (sym (key i p) ∙ f ∙ key j q)).1;
 }
 
-pub take_one : (cols : List ℕ) → (length cols ≡ 0 → ⊥) → take 1 cols ≡ get_or cols 0 0 ∷ []
-take_one [] h = absurd (h refl)
-take_one (c ∷ cols) h = refl
-
--- one column is the first one
-pub only_one : (cols : List ℕ) → length cols ≡ 1 → cols ≡ get_or cols 0 0 ∷ []
-only_one cols one = sym (take_all 1 cols (omega arith)) ∙ take_one cols (λ e. absurd (omega arith))
-
-pub take_none : (cols : List ℕ) → length cols ≡ 0 → take 1 cols ≡ []
-take_none [] h = refl
-take_none (c ∷ cols) h = absurd (omega arith)
-
 pub AreNumbers-one : (rows : List (List Value)) (c count : ℕ) (of : List ℕ) → AreNumbers (values.Int (pos 0)) (column_values c rows) count of → AreNumbers [] (map (picked (c ∷ [])) rows) count of
 AreNumbers-one rows c count of are =
     let keys = length-map rows (picked (c ∷ [])) in
@@ -148,15 +133,6 @@ AreNumbers-both_more ls rs cols others c d a b count lefts rights of =
     let longer : length (map (picked (cols ++ c ∷ [])) ls ++ map (picked (others ++ d ∷ [])) rs) ≡ length ls + length rs = both_long ls rs (picked (cols ++ c ∷ [])) (picked (others ++ d ∷ [])) in
     let of_values : length (column_values c ls ++ column_values d rs) ≡ length ls + length rs = both_long ls rs (λ (row : List Value). value_in row c) (λ (row : List Value). value_in row d) in
     AreNumbers-pairs _ _ (column_values c ls ++ column_values d rs) a b count lefts rights of (omega arith) (omega arith) (λ i h. both_longer_key ls rs cols others c d i (omega arith))
-
-pub AreNumbers-both_one : (ls rs : List (List Value)) (c d count : ℕ) (of : List ℕ) → AreNumbers (values.Int (pos 0)) (column_values c ls ++ column_values d rs) count of
-    → AreNumbers [] (map (picked (c ∷ [])) ls ++ map (picked (d ∷ [])) rs) count of
-AreNumbers-both_one ls rs c d count of are =
-    let keys : length (map (picked (c ∷ [])) ls ++ map (picked (d ∷ [])) rs) ≡ length ls + length rs = both_long ls rs (picked (c ∷ [])) (picked (d ∷ [])) in
-    let of_values : length (column_values c ls ++ column_values d rs) ≡ length ls + length rs = both_long ls rs (λ (row : List Value). value_in row c) (λ (row : List Value). value_in row d) in
-    AreNumbers-ones _ (column_values c ls ++ column_values d rs) count of (keys ∙ sym of_values)
-    (λ i h. both_longer_key ls rs [] [] c d i (omega arith)
-    ∙ ap (λ (front : List Value). front ++ get_or (column_values c ls ++ column_values d rs) i (values.Int (pos 0)) ∷ []) (ap (λ (list : List (List Value)). get_or list i []) (sym (map-append (picked []) ls rs)) ∙ empty_key (ls ++ rs) i)) are
 
 -- numbers of what values have are numbers of the values
 pub AreNumbers-map : {A : Type 0} (f : A → Value) (inner : (a b : A) → f a ≡ f b → a ≡ b) (none : A) (items : List A) (count : ℕ) (of : List ℕ) → AreNumbers none items count of → AreNumbers (values.Int (pos 0)) (map f items) count of
@@ -251,12 +227,3 @@ pub AreNumbers-codes_range : (c : ℕ) (rows : List (List Value)) (codes : List 
 AreNumbers-codes_range c rows codes from to count are below order within =
     let long : length (column_values c rows) ≡ length rows = length-map rows (λ (row : List Value). value_in row c) in
     rw (column-range c rows from to) (AreNumbers-range (values.Int (pos 0)) (column_values c rows) count codes from to (record { long = are.long; below = below; same = are.same; alike = are.alike }) order (omega arith))
-
--- the classes of the ints of a column are those of the keys of this one column
-pub classes-ints : (c : ℕ) (rows : List (List Value)) (ns : List ℤ) (from to : ℕ) (made : ClassesImage) → map values.Int ns ≡ column_values c rows → made ≡ classing_of int_eq (slice_range ns from to) → made ≡ classes_of (map (picked (c ∷ [])) (slice_range rows from to))
-classes-ints c rows ns from to made e is =
-    let items = slice_range ns from to in
-    let these = classing_of int_eq items in
-    let are = AreNumbers-classes (pos 0) items these.of these.firsts (AreClasses-classing int_eq signed_Decides (pos 0) items) in
-    classes-numbers (map (picked (c ∷ [])) (slice_range rows from to)) _ these.of made (is ∙ sym (classing-numbers int_eq signed_Decides (pos 0) items _ these.of are))
-    (AreNumbers-one (slice_range rows from to) c _ these.of (AreNumbers-ints_range c rows ns from to _ these.of e are))

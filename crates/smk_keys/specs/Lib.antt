@@ -2,5 +2,3 @@ pub mod Classes
 pub mod Keys
 pub mod Numbers
 pub mod Orders
-pub mod Heights
-pub mod Lookups

@@ -1,5 +1,5 @@
 //! Numbers of the rows of one relation.
-ghost use Rattle.std.specs.Prelude.{◌≡◌, ◌<◌, ◌≤◌, [], length, map, take, pos, slice_range, All, IfOk};
+ghost use Rattle.std.specs.Prelude.{◌<◌, ◌≤◌, [], length, map, pos, slice_range, All, IfOk};
 ghost use Rattle.smk_base.specs.Rels.{column_values, picked};
 ghost use Rattle.smk_base.specs.declared.value.Value.TheVariants.{Int};
 ghost use Rattle.smk_keys.specs.Numbers.{AreNumbers};
@@ -24,32 +24,11 @@ pub(crate) fn row_numbers(
     ensures { IfOk result (λ made. AreNumbers [] (map (picked cols.now) (slice_range rel.now.rows from to)) made.count made.of.items) }
 {
     let _rows = rel.len();
-    let mut made = first_numbers(alloc, rel, cols, from, to)?;
-    for k in 1..cols.len() {
+    let mut made = zeros(alloc, to - from)?;
+    for k in 0..cols.len() {
         let more = column_numbers(alloc, rel, cols[k], from, to)?;
         made = pair_numbers(alloc, rel.seed(), made, more)?;
     }
-    Ok(made)
-}
-
-// Numbers of the values in the first of these columns; of no column all rows have the same.
-fn first_numbers(
-    alloc: Global,
-    rel: &Rel,
-    cols: &[u32],
-    from: u32,
-    to: u32,
-) -> Result<Numbers, AllocError>
-    requires columns { All (λ c. c < length rel.now.kinds) cols.now }
-    requires order { from ≤ to }
-    requires within { to ≤ length rel.now.rows }
-    ensures { IfOk result (λ made. AreNumbers [] (map (picked (take 1 cols.now)) (slice_range rel.now.rows from to)) made.count made.of.items) }
-{
-    if cols.is_empty() {
-        let made = zeros(alloc, to - from)?;
-        return Ok(made);
-    }
-    let made = column_numbers(alloc, rel, cols[0], from, to)?;
     Ok(made)
 }
 

@@ -1,4 +1,4 @@
-//! Keys by their first occurrence: a table of keys, the classes of rows with equal keys, and numbers of keys that are looked up where they are asked for.
+//! Keys by their first occurrence: a table of keys, and the classes of rows with equal keys.
 #![tactic(auto)]
 
 mod both;
@@ -6,11 +6,9 @@ mod classes;
 mod columns;
 mod hashed;
 mod ints;
-mod lookup;
 mod number_pairs;
 mod numbers;
 mod table;
 
 pub use classes::Classes;
-pub use lookup::{Keyed, Lookup, close_range, int_heights};
 pub use table::KeyTable;

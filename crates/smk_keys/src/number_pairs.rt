@@ -1,12 +1,11 @@
 //! Numbers of pairs of numbers.
-ghost use Rattle.std.specs.Prelude.{◌≡◌, ◌≤◌, ◌<◌, ◌+◌, ◌*◌, ◌^◌, ℕ, [], length, All, IfOk, slice_index};
+ghost use Rattle.std.specs.Prelude.{◌≡◌, ◌≤◌, ◌<◌, ◌+◌, ◌*◌, ◌^◌, ℕ, length, All, IfOk, slice_index};
 ghost use Rattle.std.specs.List.{zip};
 ghost use Rattle.smk_base.specs.declared.rel.TheConstants.{ROW_LIMIT};
 ghost use Rattle.smk_keys.specs.Numbers.{AreNumbers};
 
+use crate::hashed::hashed_numbers;
 use crate::numbers::{Numbers, table_limit};
-use indexmap::IndexSet;
-use smk_base::Seeded;
 use std::alloc::{AllocError, Global};
 
 /// Numbers of the pairs that lie at the same places: the right ones where the left are all the same, else as in a table with a row for each left number where that has few places, and else in the order in which they come, found by the hashes of a seed.
@@ -34,7 +33,13 @@ pub(crate) fn pair_numbers(
             count: places as u32,
         });
     }
-    hashed_pairs(alloc, seed, left.of.as_slice(), right.of.as_slice())
+    let pairs: Vec<(u32, u32)> = left
+        .of
+        .iter()
+        .zip(right.of.iter())
+        .map(|(a, b)| (*a, *b))
+        .collect(alloc)?;
+    hashed_numbers(alloc, seed, pairs.as_slice())
 }
 
 // The places of pairs in a table with this width.
@@ -54,42 +59,4 @@ fn table_places(
         places.push_reserved(lefts[i] * width + rights[i]);
     }
     Ok(places)
-}
-
-// Numbers of pairs in the order in which they come.
-fn hashed_pairs(
-    alloc: Global,
-    seed: u64,
-    lefts: &[u32],
-    rights: &[u32],
-) -> Result<Numbers, AllocError>
-    requires few { length lefts.now ≤ 2 * ROW_LIMIT }
-    requires long { length rights.now ≡ length lefts.now }
-    ensures { IfOk result (λ made. AreNumbers (0, 0) (zip lefts.now rights.now) made.count made.of.items) }
-{
-    let mut seen = IndexSet::with_capacity_and_hasher(alloc, lefts.len(), Seeded::new(seed))?;
-    let made = pairs_in(alloc, lefts, rights, &mut seen);
-    drop(seen);
-    made
-}
-
-// Puts pairs into a set without any, and gives their numbers.
-fn pairs_in(
-    alloc: Global,
-    lefts: &[u32],
-    rights: &[u32],
-    seen: &mut IndexSet<(u32, u32), Seeded>,
-) -> Result<Numbers, AllocError>
-    requires few { length lefts.now ≤ 2 * ROW_LIMIT }
-    requires long { length rights.now ≡ length lefts.now }
-    requires none { seen.old.keys ≡ [] }
-    ensures { IfOk result (λ made. AreNumbers (0, 0) (zip lefts.now rights.now) made.count made.of.items) }
-{
-    let mut of = Vec::with_capacity(alloc, lefts.len())?;
-    for i in 0..lefts.len() {
-        let (number, _) = seen.insert_full((lefts[i], rights[i]))?;
-        of.push_reserved(number as u32);
-    }
-    let count = seen.len() as u32;
-    Ok(Numbers { of, count })
 }

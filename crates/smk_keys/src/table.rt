@@ -43,7 +43,7 @@ impl KeyTable {
         }
     }
 
-    /// How many keys there are. It takes no memory.
+    /// How many keys there are.
     pub fn len(&self) -> u32
         ensures count { result ≡ length self.now }
         ensures distinct { AreKeys self.now }
@@ -51,7 +51,7 @@ impl KeyTable {
         self.keys.len() as u32
     }
 
-    /// The key at a place. It takes no memory.
+    /// The key at a place.
     pub fn key(&self, i: u32) -> &Row
         requires { i < length self.now }
         ensures { result.now ≡ slice_index_or self.now i [] }
@@ -62,7 +62,7 @@ impl KeyTable {
         }
     }
 
-    /// The place of a key, None exactly where it isn't there. It takes no memory.
+    /// The place of a key, None exactly where it isn't there.
     pub fn find(&self, key: &Row) -> Option<u32>
         ensures { result ≡ place_of self.now key.now }
     {

@@ -80,9 +80,6 @@ IsMap-empty_lists n bound h = record {
   few = omega (arith, pairs-replicate n);
 }
 
-pub single-empty : (n : ℕ) → IsSingle (replicate n [])
-single-empty n = All-replicate (λ l. length l ≤ 1) n [] (omega arith)
-
 -- numbers stand for lists of at most one rid
 one_single : (r : ℕ) → length (one_of r) ≤ 1
 one_single r = elim (cases_eq r 4294967295) [

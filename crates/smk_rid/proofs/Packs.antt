@@ -83,6 +83,13 @@ packing_put starts rids lists list end h e few =
       few = omega (arith, length-append rids list);
     }
 
+pub packed_put : (s r : List ℕ) (lists : List (List ℕ)) (list starts rids : List ℕ) (end : ℕ) → IsPacking s r lists → starts ≡ s ++ end ∷ [] → rids ≡ r ++ list → end ≡ length rids → pairs_of lists + length list ≤ 16777216 → IsPacking starts rids (cut starts rids) × (cut starts rids ≡ lists ++ list ∷ [])
+packed_put s r lists list starts rids end h last all at few =
+    let long : end ≡ length r + length list = omega (arith, at, ap length all, length-append r list) in
+    let made = packing_put s r lists list end h long (omega (arith, long, few, ap length h.all, length-concat lists)) in
+    let is : cut starts rids ≡ lists ++ list ∷ [] = rw (last, all) (cut_is (s ++ end ∷ []) (r ++ list) (lists ++ list ∷ []) made) in
+    (rw (is, last, all) made, is)
+
 -- whether no step of the offsets is greater than 1 tells whether each list has at most one rid
 pub single_from_steps : (starts rids : List ℕ) (lists : List (List ℕ)) → IsPacking starts rids lists → ((k : ℕ) → k < length lists → get_or starts (k + 1) 0 ≤ get_or starts k 0 + 1) → All (λ l. length l ≤ 1) lists
 single_from_steps starts rids lists h steps k d low =

@@ -53,7 +53,7 @@ impl RidMap {
         Ok(RidMap::of_array(RidArray::of(rids), len, len))
     }
 
-    /// So many empty lists. It takes no memory.
+    /// So many empty lists.
     pub fn of_none(len: u32, bound: u32) -> RidMap
         ensures { result ≡ empty_lists len bound }
     {
@@ -87,7 +87,7 @@ impl RidMap {
         Ok(RidMap::of_array(RidArray::of(rids), bound, pairs))
     }
 
-    /// One list for each of these rids, of it alone, in their memory. It takes no memory.
+    /// One list for each of these rids, of it alone, in their memory.
     pub fn of_rids(rids: Vec<u32>, bound: u32) -> RidMap
         requires few { length rids.items ≤ ROW_LIMIT }
         requires below { All (λ rid. rid < bound) rids.items }
@@ -97,7 +97,7 @@ impl RidMap {
         RidMap::of_array(RidArray::of(rids), bound, pairs)
     }
 
-    /// How many lists there are. It takes no memory.
+    /// How many lists there are.
     pub fn len(&self) -> u32
         ensures { result ≡ length self.now.lists }
     {
@@ -107,14 +107,14 @@ impl RidMap {
         }
     }
 
-    /// What each rid is below. It takes no memory.
+    /// What each rid is below.
     pub fn bound(&self) -> u32
         ensures { result ≡ self.now.bound }
     {
         self.bound
     }
 
-    /// How many rids all lists have together. It takes no memory.
+    /// How many rids all lists have together.
     pub fn pairs(&self) -> u32
         ensures counted { result ≡ pairs_of self.now.lists }
         ensures few { result ≤ PAIR_LIMIT }
@@ -160,7 +160,7 @@ impl RidMap {
         })
     }
 
-    /// The rids of a list. It takes no memory.
+    /// The rids of a list.
     pub fn at(&self, i: u32) -> &[u32]
         requires { i < length self.now.lists }
         ensures rids { result.now ≡ slice_index_or self.now.lists i [] }
@@ -198,7 +198,7 @@ impl RidMap {
         Ok(kept)
     }
 
-    /// How many rids the lists before i have. It takes no memory. It is read off, but for an array with empty lists, where the rids before i are counted.
+    /// How many rids the lists before i have. It is read off, but for an array with empty lists, where the rids before i are counted.
     pub fn start(&self, i: u32) -> u32
         requires { i ≤ length self.now.lists }
         ensures { result ≡ pairs_of (take i self.now.lists) }
@@ -215,7 +215,7 @@ impl RidMap {
         }
     }
 
-    /// All lists one after the other, unless none has two rids or more. It takes no memory.
+    /// All lists one after the other, unless none has two rids or more.
     pub fn packed(&self) -> Option<&[u32]>
         ensures none { IsTrue (is_none result) ↔ IsSingle self.now.lists }
         ensures all { IfSome result (λ rids. rids.now ≡ concat self.now.lists) }

@@ -9,10 +9,11 @@ ghost use Rattle.smk_base.specs.declared.book.plan.CmpOp.{CmpOp};
 ghost use Rattle.smk_base.specs.declared.value.Value.TheVariants as values;
 ghost use Rattle.smk_model.specs.Kinds.{FormulaFits};
 ghost use Rattle.smk_model.specs.Lineage.{row_at};
+ghost use Rattle.smk_model.specs.Plain.{meets_together};
 ghost use Rattle.smk_model.specs.Values.{holds, meets, value_cmp};
 ghost use Rattle.smk_body.specs.Halves.{meeting_below};
 
-use crate::comparisons::{compare, meets_at, says};
+use crate::comparisons::{cell_of_both, compare, meets_at, meets_together_at, says, turned};
 use smk_base::{CellRef, CmpOp, Dict, Ints, Operand, Pred, Rel};
 use std::alloc::{AllocError, Global};
 use std::cmp::Ordering;
@@ -61,6 +62,75 @@ fn keep_meeting(
             Ok(())
         }
     }
+}
+
+/// Keeps the places whose rows, behind a left row, meet a predicate: a comparison of columns of both sides is one with the left value.
+pub(crate) fn keep_beside(
+    alloc: Global,
+    left: &Rel,
+    i: u32,
+    rel: &Rel,
+    pred: &Pred,
+    places: &mut Vec<u32>,
+) -> Result<(), AllocError>
+    requires row { i < length left.now.rows }
+    requires fits { FormulaFits (left.now.kinds ++ rel.now.kinds) (formula_of pred.now) }
+    requires within { All (λ j. j < length rel.now.rows) places.old.items }
+    ensures kept { OnOk result (places.new.items ≡ filter (λ j. meets_together (formula_of pred.now) (row_at left.now.rows i) (row_at rel.now.rows j)) places.old.items) }
+    ensures below { OnOk result (All (λ j. j < length rel.now.rows) places.new.items) }
+{
+    match pred {
+        Pred::And(a, b) => {
+            keep_beside(alloc, left, i, rel, a, places)?;
+            keep_beside(alloc, left, i, rel, b, places)
+        }
+        Pred::Cmp(c, op, Operand::Col(d)) => keep_across(alloc, left, i, rel, *c, *op, *d, places),
+        _ => {
+            keep_where(
+                places,
+                &|j: u32| -> bool { meets_together_at(left, i, rel, j, pred) },
+            );
+            Ok(())
+        }
+    }
+}
+
+// The same of two columns that are compared.
+fn keep_across(
+    alloc: Global,
+    left: &Rel,
+    i: u32,
+    rel: &Rel,
+    c: u32,
+    op: CmpOp,
+    d: u32,
+    places: &mut Vec<u32>,
+) -> Result<(), AllocError>
+    requires row { i < length left.now.rows }
+    requires fits { FormulaFits (left.now.kinds ++ rel.now.kinds) (Comparison c op (operands.Col d)) }
+    requires within { All (λ j. j < length rel.now.rows) places.old.items }
+    ensures { OnOk result (places.new.items ≡ filter (λ j. meets_together (Comparison c op (operands.Col d)) (row_at left.now.rows i) (row_at rel.now.rows j)) places.old.items) }
+{
+    let width = left.width();
+    if c < width && width <= d {
+        return keep_standing(alloc, rel, d - width, turned(op), left.cell(i, c), places);
+    }
+    if d < width && width <= c {
+        return keep_standing(alloc, rel, c - width, op, left.cell(i, d), places);
+    }
+    keep_where(
+        places,
+        &|j: u32| -> bool {
+            says(
+                op,
+                compare(
+                    cell_of_both(left, i, rel, j, c),
+                    cell_of_both(left, i, rel, j, d),
+                ),
+            )
+        },
+    );
+    Ok(())
 }
 
 // The same of a column that is compared with a value, so that the comparison is read once. Texts are compared once each, where the column has no more of them than there are places.

@@ -87,7 +87,7 @@ fn number_through(lists: &RidArray, place: u32) -> u32
     }
 }
 
-// The same by lists of any length, which are packed one after the other.
+// For each list of a map the rids of the lists of another at its places, packed one after the other.
 fn composed_lists(alloc: Global, first: &RidMap, second: &RidMap) -> Result<RidMap, RidFault>
     requires { first.now.bound ≤ length second.now.lists }
     ensures made { IfOk result (λ made. made ≡ composed first.now second.now) }
@@ -177,7 +177,7 @@ fn gather(
     }
 }
 
-// The same of lists of any length. One list is taken as it is.
+// The rids at these places of lists of any length, ascending without repeats, in place of what the Vec has. One list is taken as it is.
 fn gather_lists(
     alloc: Global,
     rids: &mut Vec<u32>,

@@ -29,7 +29,7 @@ impl Model for RidGrow {
 }
 
 impl RidGrow {
-    /// No list. It takes no memory.
+    /// No list.
     pub fn new(alloc: Global, bound: u32) -> RidGrow
         ensures { result ≡ record { lists = []; bound = bound } }
     {

@@ -43,7 +43,7 @@ impl RidMarks {
         })
     }
 
-    /// Whether a list has no rid yet. It takes no memory.
+    /// Whether a list has no rid yet.
     pub fn is_free(&self, i: u32) -> bool
         requires { i < length self.now.lists }
         ensures { IsTrue result ↔ (list_at self.now i ≡ []) }
@@ -51,7 +51,7 @@ impl RidMarks {
         self.rids[i as usize] == NONE
     }
 
-    /// Sets the rid of a list that has none yet. It takes no memory.
+    /// Sets the rid of a list that has none yet.
     pub fn set(&mut self, i: u32, rid: u32)
         requires place { i < length self.old.lists }
         requires below { rid < self.old.bound }
@@ -62,7 +62,7 @@ impl RidMarks {
         self.pairs += 1;
     }
 
-    /// The lists as they are. It takes no memory.
+    /// The lists as they are.
     pub fn done(self) -> RidMap
         ensures { result ≡ self }
     {

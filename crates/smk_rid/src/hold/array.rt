@@ -251,8 +251,6 @@ fn put_none(len: usize, numbers: &mut Vec<u32>) -> Result<(), AllocError>
     ensures room { vec_capacity numbers.old ≤ vec_capacity numbers.new }
 {
     numbers.reserve(len)?;
-    for _ in 0..len {
-        numbers.push_reserved(NONE);
-    }
+    numbers.resize(numbers.len() + len, NONE)?;
     Ok(())
 }

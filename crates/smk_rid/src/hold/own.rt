@@ -4,7 +4,7 @@ ghost use Rattle.smk_base.specs.Places.{own_lists};
 use crate::map::RidMap;
 
 impl RidMap {
-    /// Whether each place has itself alone, so that what it is composed with stays. It takes no memory.
+    /// Whether each place has itself alone, so that what it is composed with stays.
     pub fn is_identity(&self) -> bool
         ensures { IsTrue result ↔ (self.now ≡ own_lists (length self.now.lists)) }
     {

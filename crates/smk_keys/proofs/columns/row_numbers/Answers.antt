@@ -1,9 +1,12 @@
-use Rattle.std.proofs.Common.{get_or, take, arith}
+use Rattle.std.proofs.Common.{◌-◌, get_or, take, arith}
 use Rattle.std.specs.List.{slice_range}
 use Rattle.std.proofs.lemmas.List.{take_more}
 use Rattle.std.proofs.lemmas.Grind.{common_steps}
-use Rattle.smk_keys.proofs.Rowed.{AreNumbers-more}
+use Rattle.smk_keys.proofs.Rowed.{AreNumbers-more, AreNumbers-zeros, length-range}
 use Rattle.smk_keys.proofs.columns.row_numbers.Goals as goal
+
+pub loop-k-init : goal.loop-k-init
+loop-k-init c = AreNumbers-zeros (slice_range c.args.rel.now.rows c.args.from c.args.to) (c.args.to - c.args.from) _ _ (length-range c.args.rel.now.rows c.args.from c.args.to c.requires.order c.requires.within) c.in_ok-made.ensures.of c.in_ok-made.ensures.count
 
 pub loop-k-preserved : goal.loop-k-preserved
 loop-k-preserved c =

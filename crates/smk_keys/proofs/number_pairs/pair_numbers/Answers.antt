@@ -1,4 +1,9 @@
-use Rattle.std.proofs.Common.{arith}
+use Rattle.std.proofs.Common.{◌≡◌, ◌∙◌, ℕ, List, arith, rules, subst}
+use Rattle.std.specs.List.{zip}
+use Rattle.std.proofs.lemmas.Iterator.{YieldsList-from_map, YieldsList-from_slice, YieldsList-from_zip, items_from_collect}
+use Rattle.std.proofs.lemmas.List.{map-id}
+use Rattle.std.proofs.lemmas.Result.{IfOk-at_ok, IfOk-weaker}
+use Rattle.smk_keys.specs.Numbers.{AreNumbers}
 use Rattle.std.proofs.lemmas.Grind.{common_steps}
 use Rattle.smk_keys.proofs.Paired.{AreNumbers-places, AreNumbers-right}
 use Rattle.smk_keys.proofs.number_pairs.pair_numbers.Goals as goal
@@ -13,3 +18,10 @@ returns-then-left-le1 c = AreNumbers-right c.args.left.of.items c.args.right.of.
 
 pub table_places-requires-clause-fits : goal.table_places-requires-clause-fits
 table_places-requires-clause-fits c = grind (arith, common_steps)
+
+pub returns : goal.returns
+returns c =
+    let all = zip c.args.left.of.items c.args.right.of.items in
+    let made = IfOk-at_ok _ c.in_ok-pairs.was (items_from_collect _ c.collect.ensures.ran (YieldsList-from_map _ (λ (p : ℕ × ℕ). p) (YieldsList-from_zip (YieldsList-from_slice c.args.left.of.items cc) (YieldsList-from_slice c.args.right.of.items cc)) c.map.ensures.closure (λ x r q k. search rules))) in
+    let same : c.as_slice-2.result.now ≡ all = c.as_slice-2.ensures.value ∙ made ∙ map-id all in
+    IfOk-weaker c.hashed_numbers.result _ _ (λ made are. subst (λ (z : List (ℕ × ℕ)). AreNumbers (0, 0) z made.count made.of.items) same (are (0, 0))) c.hashed_numbers.ensures

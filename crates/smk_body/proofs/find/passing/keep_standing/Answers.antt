@@ -1,4 +1,4 @@
-use Rattle.std.proofs.Common.{◌≡◌, ◌∙◌, ◌<◌, ℕ, ℤ, pos, Bool, List, false, length, map, filter, get_or, ap, sym, subst, rules, to_z, of_z}
+use Rattle.std.proofs.Common.{◌≡◌, ◌∙◌, ℕ, ℤ, pos, Bool, List, false, map, filter, get_or, ap, subst, rules, to_z, of_z}
 use Rattle.std.specs.Int.{w128}
 use Rattle.std.specs.Ordering.{int_cmp}
 use Rattle.smk_base.specs.Cells.{value_of_cell}
