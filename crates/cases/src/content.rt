@@ -71,8 +71,13 @@ fn add_numbered(
 // A piece so many times, in which `@` stands for the number of the time, from 0.
 fn repeated(alloc: Global, piece: &[u8], times: u64) -> Result<Vec<u8>, AllocError> {
     let mut bytes = Vec::new(alloc);
+    let is_numbered = piece.contains(&b'@');
     for number in 0..times {
-        add_numbered(alloc, &mut bytes, piece, number)?;
+        if is_numbered {
+            add_numbered(alloc, &mut bytes, piece, number)?;
+        } else {
+            bytes.extend_from_slice(piece)?;
+        }
     }
     Ok(bytes)
 }

@@ -21,7 +21,7 @@ use Rattle.smk_model.specs.Reports.{BookSaid}
 use Rattle.smk_model.specs.Outcome.{Held, file_bytes, Parses, spells, misspells, BookSays, unparsed, parsed, said_or_fault, statements_say, FileSays, unread, read, UntoldCause}
 use Rattle.smk_model.specs.Limits.{KeepsLimits}
 use Rattle.smk_model.proofs.Expanded.{expanded_stands}
-use Rattle.smk_model.proofs.Keeping.{faultless_keep_limits, faultless_asks_keep_limits}
+use Rattle.smk_model.proofs.LimitsKept.{faultless_keep_limits, faultless_asks_keep_limits}
 use Rattle.smk_parse.specs.Answers.{IsBookAnswer, IsAnyAnswer}
 use Rattle.smk_inputs.specs.LineLimits.{KeepsLine}
 use Rattle.smk_inputs.specs.declared.stop.Stop.{Stop}
@@ -52,17 +52,6 @@ says_stop image content (Some held) rose name says Exhausted is = tt
 says_stop image content None rose name says (At fault) is = is
 says_stop image content None rose name says Unwritten is = is
 says_stop image content None rose name says Exhausted is = tt
-
--- the same, said in other words
-pub reads_as : {A X : Type 0} (image : X → A) (held : Option Held) (rose : Type 0) (name : List ℕ) (says other : Held → Result A Fault → Type 0) (r : Result X Stop)
-    → ((h : Held) (answer : Result A Fault) → says h answer → other h answer) → ReadsNamed held rose name says image r → ReadsNamed held rose name other image r
-reads_as image (Some held) rose name says other (Ok x) change a = change held (Ok (image x)) a
-reads_as image (Some held) rose name says other (Err (At fault)) change (inl a) = inl (change held (Err fault) a)
-reads_as image (Some held) rose name says other (Err (At fault)) change (inr up) = inr up
-reads_as image (Some held) rose name says other (Err Unwritten) change a = a
-reads_as image None rose name says other (Err (At fault)) change a = a
-reads_as image None rose name says other (Err Unwritten) change a = a
-reads_as image _ rose name says other _ change a = tt
 
 -- a book's text
 pub spelt : (text : List ℕ) (book : Statements) → IsBookAnswer text (Ok book) → Parses text (Ok (book_image book))

@@ -16,7 +16,6 @@ use Rattle.smk_base.specs.declared.book.tree.Line.{Line}
 use Rattle.smk_base.specs.declared.book.tree.Line.TheVariants as lines
 use Rattle.smk_base.specs.declared.book.tree.Marks.{Marks}
 use Rattle.smk_base.specs.declared.book.tree.Then.{Then}
-use Rattle.smk_base.specs.declared.book.tree.Then.TheVariants as thens
 use Rattle.smk_base.specs.declared.reply.Refusal.{Refusal}
 use Rattle.smk_base.specs.declared.reply.Reply.TheVariants as replies
 use Rattle.smk_base.specs.Rels.{Relation}
@@ -29,7 +28,7 @@ use Rattle.smk_model.specs.OwnAnswers.{among_selected, narrowed_answered, narrow
 use Rattle.smk_model.specs.OwnLines.{RowsPart}
 use Rattle.smk_model.specs.OwnTexts.{part_of, narrowed_text, numbered_text, placed_text}
 use Rattle.smk_model.specs.Replies.{Asked, is_refused, known_pair, rows_reply, rows_at_rids, reply}
-use Rattle.smk_model.specs.ReplyTexts.{view_in, table_in, table_named, names_of_table, IsContent, IsRefusalOf, IsReplyTo}
+use Rattle.smk_model.specs.ReplyTexts.{table_named, names_of_table, IsContent, IsRefusalOf, IsReplyTo}
 use Rattle.smk_model.specs.Session.{State, rows_of_table}
 use Rattle.smk_model.specs.Texts.{back_words, rows_text, row_lines, line, record_line}
 use Rattle.smk_model.specs.Typing.{columns_of, info_at}
@@ -175,12 +174,6 @@ narrowed_is catalog state true asked found is = ap (λ p. among_selected catalog
 among_refused : (catalog : CatalogImage) (state : State) (pair : Asked (ℕ × ℕ)) (refusal : Refusal) → among_selected catalog state pair (replies.Refused refusal) ≡ replies.Refused refusal
 among_refused catalog state (Ok p) refusal = refl
 among_refused catalog state (Err other) refusal = refl
-
-pub narrowed_refusal : (catalog : CatalogImage) (state : State) (now : Bool) (asked : Line) (refusal : Refusal) → (reply catalog state asked).0 ≡ replies.Refused refusal
-    → narrowed_reply catalog state now asked ≡ replies.Refused refusal
-narrowed_refusal catalog state false asked refusal is = is
-narrowed_refusal catalog state true asked refusal is =
-    ap (among_selected catalog state (known_pair catalog (view_in asked) (table_in asked))) is ∙ among_refused catalog state (known_pair catalog (view_in asked) (table_in asked)) refusal
 
 -- the table that a pair of names has
 pub pair_table : (catalog : CatalogImage) (view table : List ℕ) (p : ℕ × ℕ) → known_pair catalog view table ≡ Ok p → table_named catalog table ≡ Some (info_at catalog.tables p.1)

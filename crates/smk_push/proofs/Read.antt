@@ -2,7 +2,7 @@
 use Rattle.std.proofs.Common.{◌≡◌, ◌∙◌, ◌<◌, ◌≤◌, ◌+◌, ◌++◌, ◌∷◌, [], ℕ, pos, Some, None, List, All, length, map, get_or, refl, sym, ap, subst, arith, inl, inr}
 use Rattle.std.proofs.lemmas.Bool.{cases_lt}
 use Rattle.std.proofs.lemmas.List.{get_or-map, get_or_append_left, get_or_default, get_or_push, append-nil, length-append, length-map, length_push, same_lists}
-use Rattle.std.proofs.lemmas.List.Elements.{All-nil, All-push}
+use Rattle.std.proofs.lemmas.List.Elements.{All-push}
 use Rattle.std.proofs.lemmas.Option.{none-some}
 use Rattle.smk_base.specs.Aggregates.{moved_to, read_by}
 use Rattle.smk_base.specs.Rels.{Relation, kind_in, picked, row_in, rows_at}
@@ -31,9 +31,6 @@ pub record IsRead (width : ℕ) (aggs : List Agg) (n : ℕ) (over : List Agg) (c
   pub few : length cols ≤ n
   pub within : All (λ c. c < width) cols
   pub each : (k : ℕ) → k < n → Stands cols (get_or aggs k Count) (get_or over k Count)
-
-pub IsRead-none : (width : ℕ) (aggs : List Agg) → IsRead width aggs 0 [] []
-IsRead-none width aggs = record { long = refl; few = omega arith; within = All-nil (λ c. c < width); each = λ k h. absurd (omega arith) }
 
 -- one aggregate more, with the column that it reads
 one_more : (width : ℕ) (aggs : List Agg) (n : ℕ) (over : List Agg) (cols more : List ℕ) → IsRead width aggs n over cols → length more ≤ 1 → All (λ c. c < width) (cols ++ more)

@@ -49,10 +49,6 @@ whole_is f xs i = sym (ap (flat_map f) (take-append-drop i xs)) ∙ flat_map-app
 pub one_more : {A : Type 0} (f : A → List ℕ) (xs : List A) (i : ℕ) (x d : A) → i < length xs → x ≡ get_or xs i d → flat_map f (take (i + 1) xs) ≡ flat_map f (take i xs) ++ f x
 one_more f xs i x d h is = rw (take_more xs i d h) (rw is (flat_map-append f (take i xs) (get_or xs i d ∷ []) ∙ ap (λ z. flat_map f (take i xs) ++ z) (append-nil (f (get_or xs i d)))))
 
-pub appends_next : {A : Type 0} (f : A → List ℕ) (xs : List A) (i : ℕ) (x d : A) (a b c : Option (List ℕ)) (text : List ℕ) → i < length xs → x ≡ get_or xs i d → text ≡ f x
-    → Appends a b (flat_map f (take i xs)) → Appends b c text → Appends a c (flat_map f (take (i + 1) xs))
-appends_next f xs i x d a b c text h is same p q = rw (one_more f xs i x d h is) (rw (← same) (appends_more a b c (flat_map f (take i xs)) text p q))
-
 -- stopped before the i-th member
 pub want_here : {A : Type 0} (f : A → List ℕ) (xs : List A) (i : ℕ) (a b : Option (List ℕ)) → Appends a b (flat_map f (take i xs)) → AppendsPart a b (flat_map f xs)
 want_here f xs i a b p = front_of a b (flat_map f (take i xs)) (flat_map f (drop i xs)) (flat_map f xs) p (whole_is f xs i)
@@ -95,23 +91,9 @@ pub put_stops : (X Y : Type 0) (a b : Option (List ℕ)) (rose : Type 0) (text w
 put_stops X Y a b rose text whole Unwritten is p = rw (← is) p
 put_stops X Y a b rose text whole _ is p = absurd p
 
-pub put_pieces : (X : Type 0) (a b : Option (List ℕ)) (rose : Type 0) (text whole : List ℕ) (r : Result X Stop) → text ≡ whole → Puts text rose a b r → PutsPieces whole rose a b r
-put_pieces X a b rose text whole (Ok x) is p = rw (← is) p
-put_pieces X a b rose text whole (Err stop) is p = put_stops X X a b rose text whole stop is p
-
--- what holds of all answers holds where there is one
-pub if_told : {X E : Type 0} (P : Type 0) (r : Result X E) → P → IfOk r (λ x. P)
-if_told P (Ok x) p = p
-if_told P (Err e) p = tt
-
 -- memory is wanting
 pub wants_stop : (X : Type 0) (a b : Option (List ℕ)) (rose : Type 0) (text : List ℕ) (stop : Stop) → stop ≡ Exhausted → AppendsPart a b text → PutsPieces {X = X} text rose a b (Err stop)
 wants_stop X a b rose text stop is part = rw is part
-
--- the counts with a text more
-pub counted_more : (counts more : Counts) (text next : List ℕ) (whole : List ℕ) → counts ≡ text_counted whole → more ≡ counts_together counts (text_counted text) → next ≡ whole ++ text → more ≡ text_counted next
-counted_more counts more text next whole counted is same =
-    is ∙ ap (λ k. counts_together k (text_counted text)) counted ∙ ap (λ n. record { replies = 0; refused = 0; unread = 0; bytes = n }) (sym (ap length same ∙ length-append whole text))
 
 -- both parts are written, and then memory may be wanting
 pub whole_part : (X : Type 0) (a b c : Option (List ℕ)) (rose : Type 0) (text rest : List ℕ) (result : Result X Stop) → IfErr result (λ stop. stop ≡ Exhausted)

@@ -1,5 +1,5 @@
 -- How a run ends, from what its work comes to and what is said.
-use Rattle.std.proofs.Common.{◌≡◌, ◌∙◌, [], ℕ, List, map, Option, Some, None, option_map, Result, Ok, Err, IfOk, refl, ap, sym, subst, inl, inr, arith}
+use Rattle.std.proofs.Common.{◌≡◌, ◌∙◌, [], ℕ, List, map, Option, Some, None, Result, Ok, Err, IfOk, refl, ap, sym, subst, inl, inr, arith}
 use Rattle.std.specs.Prelude.{◌⊎◌, ⊤, Bool, true, false, cond}
 use Rattle.smk_base.specs.CatalogImage.{CatalogImage}
 use Rattle.smk_base.specs.declared.demo.TheConstants.{DEMO_BOOK_NAME, DEMO_SCRIPT_NAME}
@@ -9,7 +9,7 @@ use Rattle.smk_base.specs.declared.size.Size.{Size}
 use Rattle.smk_outside.specs.Outside.{IsPrefix, Appends, AppendsPart, Rose}
 use Rattle.smk_model.specs.Demo.{demo_of, summary, summary_of}
 use Rattle.smk_model.specs.NodeFaults.{NodeFault, FullRows, FullPairs}
-use Rattle.smk_model.specs.Opening.{ViewFault, first_view_fault, named_fault, fault_named}
+use Rattle.smk_model.specs.Opening.{ViewFault, first_view_fault, named_fault}
 use Rattle.smk_model.specs.Reports.{Report, is_turned_down, report_of, size_of_view}
 use Rattle.smk_model.specs.Readings.{Reading, AreReadingsOf}
 use Rattle.smk_model.specs.Session.{Workbook, view_at}
@@ -18,7 +18,7 @@ use Rattle.smk_model.specs.Words.{TextSource, Files, Demo, words_of}
 use Rattle.smk_model.specs.Outcome.{Held, Inputs, text_named, unless_view_fault, reported as report_or_fault, ReadsInputs, unusable, usable, Outcome, unreadable, read, written_for, written_of, NamesRead, nothing_held, WhereTold, UntoldCause, IsReport, HasCause}
 use Rattle.smk_inputs.specs.declared.stop.Stop.{Stop}
 use Rattle.smk_inputs.specs.declared.stop.Stop.TheVariants.{At, Unwritten, Exhausted}
-use Rattle.smk_inputs.specs.Collecting.{ReadsAll, Starts, IsSayable}
+use Rattle.smk_inputs.specs.Collecting.{ReadsAll, IsSayable}
 use Rattle.smk_top.specs.declared.counts.Counts.{Counts}
 use Rattle.smk_top.specs.declared.status.Status.{Status}
 use Rattle.smk_top.specs.declared.status.Status.TheVariants.{Done, DoneWithRefusals, WriteFault}
@@ -122,19 +122,6 @@ pub demo_read : {X : Type 0} (words : List (List ℕ)) (n : ℕ) (held : Option 
     → words_of words ≡ Some (Demo n) → ReadsAll (Some (text_named (demo_of n))) (Rose 0 0) DEMO_BOOK_NAME.now (Some DEMO_SCRIPT_NAME.now) reads bytes (Ok x) → AreReadingsOf (bytes x) readings
     → IsInputs words held (reads x readings)
 demo_read words n held reads bytes x readings is h are = where_demo held (words_of words) n ⊤ _ is (λ held. usable is (h readings are))
-
--- a fault of the start is that of the report
-pub not_started : (X : Type 0) (writes : Report → List ℕ) (given : Inputs) (book : Workbook) (rose : Type 0) (a : Option (List ℕ)) (stop : Stop) → book ≡ given.book → Starts {X = X} book (Err stop) → Reports writes given rose a a (Err stop)
-not_started X writes given book rose a stop same starts = by stop (first_view_fault given.book) refl (subst (λ (k : Workbook). Starts {X = X} k (Err stop)) same starts)
-  where
-    by : (stop : Stop) (found : Option ViewFault) → first_view_fault given.book ≡ found → Starts {X = X} given.book (Err stop) → Reports writes given rose a a (Err stop)
-    by (At fault) None e h = absurd (cc)
-    by (At fault) (Some found) e h = (ap (unless_view_fault given) e ∙ ap (λ f. Err f) (some_is e h), appends_none a)
-      where
-        some_is : first_view_fault given.book ≡ Some found → option_map (fault_named given.book.catalog) (first_view_fault given.book) ≡ Some fault → fault_named given.book.catalog found ≡ fault
-        some_is e h = cc
-    by Unwritten found e h = absurd h
-    by Exhausted found e h = inl (appends_none a)
 
 -- no view has a fault, so that there is a report
 found_report : (given : Inputs) → first_view_fault given.book ≡ None → report_or_fault given ≡ Ok (report_of given.book given.fds given.added given.readings)

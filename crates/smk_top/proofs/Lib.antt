@@ -1,5 +1,4 @@
 mod Appending
-mod ViewParts
 mod StartNames
 mod Walks
 mod Endings
@@ -7,7 +6,6 @@ mod Completes
 mod CutLines
 mod EndingsTold
 mod ReplyFits
-mod Answered
 mod Openings
 mod TalkStretches
 mod TalkLines

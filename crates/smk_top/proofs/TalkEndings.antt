@@ -1,5 +1,5 @@
 -- How a conversation starts and ends, by what its steps come to.
-use Rattle.std.proofs.Common.{append-nil, ◌≡◌, ◌≤◌, ◌+◌, ℕ, Bool, true, false, List, [], Option, Some, None, Result, Ok, Err, refl, sym, ap, ◌∙◌, subst, inl, inr, length, arith}
+use Rattle.std.proofs.Common.{append-nil, ◌≡◌, ◌≤◌, ◌+◌, ℕ, Bool, true, false, List, [], Option, Some, None, Result, Ok, Err, sym, ap, ◌∙◌, subst, inl, inr, length, arith}
 use Rattle.std.specs.Prelude.{◌⊎◌, option_map, cond}
 use Rattle.smk_base.specs.CatalogImage.{CatalogImage}
 use Rattle.smk_model.specs.NodeFaults.{NodeFault, FullRows, FullPairs}
@@ -38,7 +38,7 @@ use Rattle.smk_inputs.specs.declared.stop.Stop.{Stop}
 use Rattle.smk_inputs.specs.declared.stop.Stop.TheVariants.{At, Unwritten, Exhausted}
 use Rattle.smk_top.specs.declared.talking.TalkEnd.{TalkEnd}
 use Rattle.smk_top.specs.Talking.{talk_rules, is_down, talk_at, Talked}
-use Rattle.smk_top.specs.Endings.{SaysMemory, SaysFault}
+use Rattle.smk_top.specs.Endings.{SaysMemory}
 use Rattle.smk_top.specs.declared.status.Status.{Status}
 use Rattle.smk_top.specs.declared.status.Status.TheVariants.{Done, DoneWithRefusals, ReadFault}
 use Rattle.smk_top.specs.TalkEndings.{ended, outlasted, unheard, unsaid, faulted, exhausted, cut_short, unheard_unsaid, fault_unsaid, memory_unsaid, cut_unsaid, TalkEnds, ConverseEnds, SaysTalkFault, SaysEnding, SaysTalkEnd, said_by, Converses, report_by, IsTalkRead, IsSilent, IsUnopened, ReadsBook, StartLooks, FailsToStart, TalksOver, Silent, BeginsTalk, TalksFor, TalkWorks}
@@ -190,10 +190,6 @@ unusable_words words held faults faults_after talk_rose before after looks_befor
     by None nowhere = rw nowhere (inl (unreadable (unusable none)))
     by (Some h) nowhere = inl (unreadable (unusable none))
 
--- nothing was heard or said, and memory was wanting
-pub exhausted_first : (words : List (List ℕ)) (held : Option Held) (before after : Told) (looks_before looks_after : ℕ) → after ≡ before → looks_after ≡ looks_before → IsSilent words held before after looks_before looks_after
-exhausted_first words held before after looks_before looks_after same none = record { silent = says_nothing before after same; looks = inl none }
-
 -- the start of a conversation
 module _ {X : Type 0} (reads : X → List Reading → Inputs) (bytes : X → List ℕ) (faults faults_after : ℕ) (talk_rose : Type 0) (book : List ℕ) (read_only brief : Bool) (before after : Told) where
   pub reading_stops : (held : Option Held) (looks_before looks_after : ℕ) (stop : Stop) → ReadsAll {X = X} held (Rose faults faults_after) book None reads bytes (Err stop) → after ≡ before → looks_after ≡ looks_before → BeginsTalk held faults faults_after talk_rose book read_only brief before after looks_before looks_after (Err stop)
@@ -258,11 +254,6 @@ module _ (words : List (List ℕ)) (held : Option Held) (faults faults_after : �
   fault_said fault cause silent behind (inl (said, appended, inl (is, whole))) = (said, appended, rw is (rw whole (faulted fault cause silent behind)))
   fault_said fault cause silent behind (inl (said, appended, inr (is, part, rose))) = (said, appended, rw is (fault_unsaid fault said cause silent behind part rose))
   fault_said fault cause silent behind (inr wanting) = memory_said (inl silent) wanting
-
--- a fault that isn't one of the words is said as by a run
-pub said_alike : (fault : Fault) (rose : Type 0) (before after : Option (List ℕ)) (status : Status) → (fault ≡ Usage → ⊥) → SaysFault fault rose before after status → SaysTalkFault fault rose before after status
-said_alike Usage rose before after status other said = absurd (other refl)
-said_alike _ rose before after status other said = said
 
 -- nothing was heard where a conversation doesn't start or memory was wanting, and no more said than the first few texts
 pub unopened : (words : List (List ℕ)) (held : Option Held) (faults faults_after : ℕ) (talk_rose : Type 0) (before after : Told) (looks_before looks_after : ℕ) (stop : Stop) → TalkWorks words held faults faults_after talk_rose before after looks_before looks_after (Err stop) → IsUnopened words held before after looks_before looks_after

@@ -1,6 +1,6 @@
 -- What a line of a conversation is answered, as one of the turns that may be.
 use Rattle.std.proofs.Common.{◌≡◌, ◌≤◌, ◌<◌, ◌+◌, ℕ, Bool, true, false, List, [], ◌∷◌, ◌++◌, Option, Some, None, Result, Ok, Err, refl, sym, ap, ◌∙◌, arith, inl, inr, length}
-use Rattle.std.specs.Prelude.{◌⊎◌, ◌&&◌, ◌||◌, cond, nat_lt, IfSome, is_some}
+use Rattle.std.specs.Prelude.{◌⊎◌, ◌&&◌, ◌||◌, cond, nat_lt, is_some}
 use Rattle.std.specs.Option.{option_to_list}
 use Rattle.smk_base.specs.CatalogImage.{CatalogImage}
 use Rattle.smk_base.specs.Rels.{Relation}
@@ -22,7 +22,6 @@ use Rattle.smk_model.specs.TalkStarts.{BringsBy}
 use Rattle.smk_model.specs.Values.{Row}
 use Rattle.smk_model.proofs.OwnReadings.{own_lines_are_read}
 use Rattle.smk_model.proofs.SomeOutcome.{some_line}
-use Rattle.smk_inputs.specs.Added.{BeginsWith}
 use Rattle.smk_inputs.specs.Collecting.{Loads, unread_among}
 use Rattle.smk_inputs.specs.declared.stop.Stop.TheVariants.{At}
 use Rattle.smk_top.specs.Talking.{is_down, AnswersLine}
@@ -62,16 +61,6 @@ unbrought_rows (Some held) rose info fault (inr (up, unread_among before table b
         longer : (before : List TableInfo) → info ∷ [] ≡ other ∷ (before ++ table ∷ behind) → ⊥
         longer [] is = cc
         longer (next ∷ before) is = cc
-
--- a table that was brought is one of the kinds that are asked for
-pub brought_begins : (asked : Option TableInfo) (brought : Option Relation) → each_kinds (option_to_list brought) ≡ each_table_kinds (option_to_list asked) → IfSome asked (λ info. BeginsWith info (option_to_list brought))
-brought_begins None brought kinds = tt
-brought_begins (Some info) None kinds = absurd (cc)
-brought_begins (Some info) (Some table) kinds = record { first = table; rest = []; is = refl; kinds = cc }
-
--- the same where the tables stand in a list
-pub added_begins : (asked : Option TableInfo) (brought : Option Relation) (added : List Relation) → added ≡ option_to_list brought → each_kinds (option_to_list brought) ≡ each_table_kinds (option_to_list asked) → IfSome asked (λ info. BeginsWith info added)
-added_begins asked brought added is kinds = rw is (brought_begins asked brought kinds)
 
 -- a line that appends to a table asks for rows to be appended
 asked_of : (catalog : CatalogImage) (reading : Reading) (info : TableInfo) → appended_at catalog reading ≡ Some info → asks_append reading ≡ true

@@ -1,5 +1,4 @@
-use Rattle.std.proofs.Common.{map, Bor, [], ◌∷◌, ◌≡◌, ℕ, List, Option, Some, None, Result, Ok, Err, refl, ap, subst, sym, ◌∙◌, inl, inr, arith}
-use Rattle.std.proofs.lemmas.Result.{err_from_is_err_and}
+use Rattle.std.proofs.Common.{map, Bor, ℕ, List}
 use Rattle.smk_outside.specs.Outside.{Rose}
 use Rattle.smk_top.proofs.TalkEndings.{ends_said, fault_said, memory_said, unopened, end_is_no_start, memory_is_no_start, fault_behind}
 use Rattle.smk_top.proofs.conversing.converse.Goals as goal

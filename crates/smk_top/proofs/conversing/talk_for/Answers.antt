@@ -1,5 +1,4 @@
-use Rattle.std.proofs.Common.{map, Bor, [], ◌∷◌, ◌≡◌, ℕ, List, Option, Some, None, Result, Ok, Err, refl, ap, subst, sym, ◌∙◌, inl, inr, arith}
-use Rattle.std.proofs.lemmas.Result.{err_from_is_err_and}
+use Rattle.std.proofs.Common.{map, Bor, ℕ, List, refl, sym}
 use Rattle.smk_outside.specs.Outside.{Rose}
 use Rattle.smk_top.proofs.TalkEndings.{unusable_words}
 use Rattle.smk_top.proofs.conversing.talk_for.Goals as goal

@@ -1,5 +1,4 @@
-use Rattle.std.proofs.Common.{[], ◌∷◌, ◌≡◌, ℕ, List, Option, Some, None, Result, Ok, Err, refl, ap, subst, sym, ◌∙◌, inl, inr, arith}
-use Rattle.std.proofs.lemmas.Result.{err_from_is_err_and}
+use Rattle.std.proofs.Common.{arith}
 use Rattle.smk_outside.specs.Outside.{Rose}
 use Rattle.smk_inputs.specs.Image.{settings_image}
 use Rattle.smk_top.proofs.TalkEndings.{asked_by, files_talk, demo_talks}
