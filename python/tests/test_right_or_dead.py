@@ -115,6 +115,7 @@ class RightOrDead(unittest.TestCase):
         session = smoke.connect(BIKES)
         session._talk.timeout = 0.5
         os.kill(session._talk.process.pid, signal.SIGSTOP)
+        os.waitid(os.P_PID, session._talk.process.pid, os.WSTOPPED | os.WNOWAIT)
         start = time.monotonic()
         with self.assertRaises(Ended) as caught:
             session.show("by_day")
