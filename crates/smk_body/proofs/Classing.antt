@@ -13,7 +13,7 @@ use Rattle.smk_model.proofs.Locals.{firsts_apart}
 use Rattle.smk_model.proofs.Sizes.{firsts_short}
 use Rattle.smk_keys.specs.Classes.{ClassesImage, classes_of}
 use Rattle.smk_base.specs.declared.rel.TheConstants.{ROW_LIMIT}
-use Rattle.smk_body.specs.Bounds.{IsPartition}
+use Rattle.smk_body.specs.Bounds.{AreBelow, IsPartition}
 use Rattle.smk_body.specs.Halves.{AreNumbered}
 
 pub length_of : (keys : List Row) → length (classes keys) ≡ length keys
@@ -74,3 +74,6 @@ pub groups_stand : (keys : List Row) (made : ClassesImage) → made ≡ classes_
 groups_stand keys made e short =
     let so : AreNumbered (length keys) made = subst (AreNumbered (length keys)) (sym e) (are_numbered keys) in
     record { few = omega (arith, so.long, short); numbered = subst (λ n. AreNumbered n made) (sym so.long) so }
+
+pub groups_below : {groups : ClassesImage} → IsPartition groups → AreBelow (length groups.firsts) groups.of
+groups_below is = record { few = is.few; below = is.numbered.below }

@@ -1,5 +1,5 @@
 -- The lineage of a side from what the first half of a step found.
-use Rattle.std.proofs.Common.{◌≡◌, ◌∙◌, ◌<◌, ◌≤◌, ◌+◌, ◌-◌, ℕ, List, ◌++◌, length, map, take, drop, refl, sym, ap, arith, All, subst, zero-add, None, Some, []}
+use Rattle.std.proofs.Common.{◌≡◌, ◌∙◌, ◌<◌, ◌≤◌, ◌+◌, ◌-◌, ℕ, List, ◌++◌, length, map, take, drop, refl, sym, ap, arith, All, subst, zero-add, Option, None, Some, []}
 use Rattle.std.proofs.Math.ListN.{replicate}
 use Rattle.std.proofs.lemmas.List.{map-append, map-id, length-map, length-replicate, get_or_default}
 use Rattle.std.proofs.lemmas.List.Elements.{All-take, All-drop}
@@ -12,27 +12,28 @@ use Rattle.smk_model.specs.Values.{Row}
 use Rattle.smk_model.specs.Plain.{firsts}
 use Rattle.smk_model.specs.Locals.{singles}
 use Rattle.smk_model.specs.Classes.{places_in, classes}
-use Rattle.smk_model.specs.DirectionLaws.{HasSources, HasTargets}
+use Rattle.smk_model.specs.Ways.{Way, Targets, IsOf, back_of, fwd_of}
 use Rattle.smk_base.proofs.Places.{get_or_map_upto}
 use Rattle.smk_model.proofs.OneEach.{one_each}
 use Rattle.smk_model.proofs.Directions.{length_each}
 use Rattle.smk_model.proofs.Parts.{map_agree}
 use Rattle.smk_model.proofs.Classes.{place_in, classes_are}
-use Rattle.smk_body.specs.Locals.{side_of}
+use Rattle.smk_body.specs.Locals.{side_of, wanted}
 use Rattle.smk_body.specs.declared.keep.local.Side.{Side}
 use Rattle.smk_body.specs.declared.keep.local.Local.{Local}
-use Rattle.smk_body.proofs.Classing.{length_of}
+use Rattle.smk_body.proofs.Classing.{length_of, rest_of}
 
--- a side whose output rows each come from one row, and one whose input rows each reach one
-pub by_sources : {of is : List ℕ} {n m : ℕ} {back fwd : Lists} (want : Dir) → of ≡ is → n ≡ m → HasSources is m back fwd → side_of want (singles of n) (inverted (singles of n)) ≡ side_of want back fwd
-by_sources want e f has = rw (e, f, has.backward, has.forward) refl
+-- a side by its way
+pub by_way : {w v : Way} {back fwd : Lists} (want : Dir) → w ≡ v → IsOf v back fwd → side_of want (back_of w) (fwd_of w) ≡ side_of want back fwd
+by_way want e is = rw (e, is.backward, is.forward) refl
 
-pub by_targets : {of is : List ℕ} {n m : ℕ} {back fwd : Lists} (want : Dir) → of ≡ is → n ≡ m → HasTargets is m back fwd → side_of want (inverted (singles of n)) (singles of n) ≡ side_of want back fwd
-by_targets want e f has = rw (e, f, has.forward, has.backward) refl
+-- the lists of a side whose rows each reach one row
+abbrev side : Option Lists → Option Lists → Side
+side back fwd = record { back = back; fwd = fwd }
 
--- a side whose rows are their own
-pub by_own : {n m : ℕ} {back fwd : Lists} (want : Dir) → n ≡ m → back ≡ own_lists m → fwd ≡ own_lists m → side_of want (own_lists n) (own_lists n) ≡ side_of want back fwd
-by_own want e back fwd = rw (e, back, fwd) refl
+pub by_targets : (want : Dir) (way : Way) (of slice : List ℕ) (n : ℕ) (back fwd : Option Lists) → way ≡ Targets of n → slice ≡ of → back ≡ wanted want.back (inverted (singles slice n)) → fwd ≡ wanted want.fwd (singles of n)
+    → side back fwd ≡ side_of want (back_of way) (fwd_of way)
+by_targets want way of slice n back fwd e f b t = rw (e, b, t, f) refl
 
 -- the lineage of a step from that of its sides
 abbrev pub one_side : Side → Local
@@ -60,6 +61,13 @@ right_classes L R =
     let place = place_in (firsts (L ++ R)) in
     ap (drop (length L)) (map-append place L R) ∙ ap (λ n. drop n (map place L ++ map place R)) (sym (length-map L place)) ∙ drop-append_seam (map place L) (map place R)
 
+-- the same as slices
+pub left_slice : (L R : List Row) (of : List ℕ) (n : ℕ) → of ≡ classes (L ++ R) → n ≡ length L → take n of ≡ places_in (firsts (L ++ R)) L
+left_slice L R of n e f = rw (e, f) (left_classes L R)
+
+pub right_slice : (L R : List Row) (of : List ℕ) (n : ℕ) → of ≡ classes (L ++ R) → n ≡ length L → take (length of - n) (drop n of) ≡ places_in (firsts (L ++ R)) R
+right_slice L R of n e f = rest_of of n ∙ rw (e, f) (right_classes L R)
+
 pub left_below : (L R : List Row) → All (λ r. r < length (firsts (L ++ R))) (places_in (firsts (L ++ R)) L)
 left_below L R = let below = λ (r : ℕ). r < length (firsts (L ++ R)) in subst (All below) (left_classes L R) (All-take below (length L) (classes (L ++ R)) (classes_below (L ++ R)))
 
@@ -83,8 +91,8 @@ stretch_set from len n h = rising_is n (map (λ i. from + i) (upto len)) (λ i j
     omega (arith, get_or_map_upto (λ i. from + i) len i d (omega (arith, low, long)), get_or_map_upto (λ i. from + i) len j d (omega (arith, low, long)))) (stretch_below from len n h)
 
 -- all places in order are the same both ways
-pub all_turned : (of : List ℕ) (n : ℕ) → of ≡ upto n → inverted (singles of n) ≡ singles of n
+pub all_turned : (of : List ℕ) (n : ℕ) → of ≡ upto n → inverted (singles of n) ≡ own_lists n
 all_turned of n e =
     let rows : List Row = replicate n [] in
     let none : List Item = [] in
-    rw e (subst (λ (k : ℕ). inverted (singles (upto k) k) ≡ singles (upto k) k) (length-replicate n (let row : Row = [] in row)) (sym (one_each.projected none rows).backward ∙ (one_each.projection none rows).backward))
+    rw e (subst (λ (k : ℕ). inverted (singles (upto k) k) ≡ own_lists k) (length-replicate n (let row : Row = [] in row)) (sym (one_each.projected none rows).backward ∙ (one_each.projection none rows).backward))

@@ -1,53 +1,40 @@
--- What places, groups and pairs of places are, and the bounds that each of them keeps.
-use Rattle.std.specs.Prelude.{ℕ, ◌<◌, ◌≤◌, List, All, length, drop}
+-- The way that is held, and the bounds that it keeps.
+use Rattle.std.specs.Prelude.{◌≡◌, ℕ, ◌<◌, ◌≤◌, ◌+◌, List, All, length, map, Option, IfSome}
 use Rattle.smk_base.specs.declared.rel.TheConstants.{ROW_LIMIT}
-use Rattle.smk_base.specs.Places.{IsPlaces}
+use Rattle.smk_base.specs.Places.{Lists, inverted, upto}
+use Rattle.smk_model.specs.Locals.{singles}
+use Rattle.smk_model.specs.Ways.{Way, Own, Sources, Targets}
 use Rattle.smk_keys.specs.Classes.{ClassesImage}
-use Rattle.smk_body.specs.Halves.{AreNumbered, AreWithin, PlacePairs}
+use Rattle.smk_body.specs.Halves.{AreNumbered}
+use Rattle.smk_body.specs.declared.keep.way.Held.{Held}
+use Rattle.smk_body.specs.declared.keep.way.Held.TheVariants as held
 
--- places of an input of so many rows
-pub record PlacesImage : Type 0 where
-  pub items : List ℕ
-  pub inputs : ℕ
+-- so many numbers from one on
+abbrev pub stretch : ℕ → ℕ → List ℕ
+stretch from len = map (λ i. from + i) (upto len)
 
--- at most 1,048,576 places below that number, a set in order
-pub record ArePlaces (places : PlacesImage) : Type 0 where
-  pub short : places.inputs ≤ ROW_LIMIT
-  pub few : length places.items ≤ ROW_LIMIT
-  pub below : All (λ i. i < places.inputs) places.items
-  pub set : IsPlaces places.inputs places.items
+abbrev pub way_of : Held → Way
+way_of (held.Own n) = Own n
+way_of (held.Sources of inputs fwd) = Sources of.items inputs
+way_of (held.Targets of outputs back) = Targets of.items outputs
+way_of (held.Stretch from len outputs) = Targets (stretch from len) outputs
+
+-- at most 1,048,576 numbers below a bound
+pub record AreBelow (bound : ℕ) (of : List ℕ) : Type 0 where
+  pub few : length of ≤ ROW_LIMIT
+  pub below : All (λ r. r < bound) of
 
 -- the group of each of at most 1,048,576 rows
 pub record IsPartition (groups : ClassesImage) : Type 0 where
   pub few : length groups.of ≤ ROW_LIMIT
   pub numbered : AreNumbered (length groups.of) groups
 
--- the group of each left row and then of each right row, of which so many are left ones
-pub record BothImage : Type 0 where
-  pub groups : ClassesImage
-  pub left_rows : ℕ
+-- that these are the lists that go against such numbers, where they are made
+abbrev pub AreTurned : ℕ → List ℕ → Option Lists → Type 0
+AreTurned bound of made = IfSome made (λ lists. lists ≡ inverted (singles of bound))
 
--- at most 1,048,576 rows on each side, and as many groups at most
-pub record AreBoth (both : BothImage) : Type 0 where
-  pub few : length both.groups.firsts ≤ ROW_LIMIT
-  pub split : both.left_rows ≤ length both.groups.of
-  pub short_left : both.left_rows ≤ ROW_LIMIT
-  pub short_right : length (drop both.left_rows both.groups.of) ≤ ROW_LIMIT
-  pub below : All (λ p. p < length both.groups.firsts) both.groups.of
-
--- pairs of a place of a left input and one of a right input, of so many rows
-pub record RowPairsImage : Type 0 where
-  pub pairs : PlacePairs
-  pub left_rows : ℕ
-  pub right_rows : ℕ
-
--- at most 1,048,576 pairs of places below these numbers, which are no greater
-pub record AreRowPairs (it : RowPairsImage) : Type 0 where
-  pub within : AreWithin it.left_rows it.right_rows it.pairs
-  pub short_left : it.left_rows ≤ ROW_LIMIT
-  pub short_right : it.right_rows ≤ ROW_LIMIT
-
--- so many left rows and right rows behind them
-pub record RowsImage : Type 0 where
-  pub left : ℕ
-  pub right : ℕ
+abbrev pub IsHeld : Held → Type 0
+IsHeld (held.Own n) = n ≤ ROW_LIMIT
+IsHeld (held.Sources of inputs fwd) = AreBelow inputs of.items × AreTurned inputs of.items fwd
+IsHeld (held.Targets of outputs back) = AreBelow outputs of.items × AreTurned outputs of.items back
+IsHeld (held.Stretch from len outputs) = (from + len ≤ outputs) × (outputs ≤ ROW_LIMIT)

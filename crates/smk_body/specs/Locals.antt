@@ -36,3 +36,7 @@ is_nothing want = not want.back && not want.fwd
 -- whether nothing is wanted on either side
 abbrev pub is_nothing2 : Want → Bool
 is_nothing2 want = is_nothing want.left && is_nothing want.right
+
+-- what is wanted of a step with one input: on its right side nothing
+abbrev pub left_want : Dir → Want
+left_want want = record { left = want; right = record { back = false; fwd = false } }

@@ -7,16 +7,14 @@ ghost use Rattle.smk_base.specs.declared.book.plan.Dir.{Dir};
 ghost use Rattle.smk_base.specs.declared.rel.TheConstants.{ROW_LIMIT};
 ghost use Rattle.smk_model.specs.Plain.{step1, step2};
 ghost use Rattle.smk_model.specs.Kinds.{Fits1, Fits2, kinds1, kinds2};
-ghost use Rattle.smk_body.specs.Findings.{finding1, finding2, left_want, local_of, turned_of, want_at_once};
 ghost use Rattle.smk_body.specs.Locals.{local1, local2, is_nothing, is_nothing2};
+ghost use Rattle.smk_body.specs.Made.{IsMade1, IsMade2};
 ghost use Rattle.smk_body.specs.declared.keep.local.Local.{Local};
 ghost use Rattle.smk_body.specs.declared.keep.local.Want.{Want};
 
 use crate::fault::OpFault;
-use crate::find::found::Made;
-use crate::find::{find1, find2};
 use crate::keep::local::{Local, Want};
-use crate::make::{rows_and_turned1, rows_and_turned2};
+use crate::step::{Made1, Made2, make1, make2};
 use smk_base::{Dir, Op1, Op2, Rel};
 use smk_jobs::{Crew, Work};
 use std::alloc::{AllocError, Global};
@@ -27,7 +25,7 @@ use std::thread::Threads;
 ///
 /// A caller asks `captures` whether lineage may be wanted, has each step carried out by `apply1` or `apply2`, which give its rows and what is pending of its lineage, and has that made by `finish`.
 ///
-/// A step finds what makes its rows, makes them, and the body keeps what it likes of it. So a body says what it keeps (`keep1`, `keep2`), how `finish` makes the lineage of that, and which lists are made with the rows.
+/// A step finds what makes its rows, makes them, and the body keeps what it likes of it. So a body says what it keeps (`keep1`, `keep2`), how `finish` makes the lineage of that, and whether lists are made with the rows.
 pub trait OpBody: Crew {
     /// The lineage of a step, or what it is made from.
     type Pending: Drop;
@@ -37,9 +35,6 @@ pub trait OpBody: Crew {
 
     // Whether lineage may be wanted.
     ghost may_capture: { Self → Bool };
-
-    // Whether the lists that go against what a step found are made with its rows.
-    ghost at_once: { Self → Bool };
 
     // What a body promises of what it keeps of a step with one input, beyond its meaning. One that says nothing promises nothing.
     ghost leaves1: { Self → Unary → Relation → Dir → Self.Pending → Type 0 } = { λ _ _ _ _ _. Unit {0} };
@@ -52,7 +47,6 @@ pub trait OpBody: Crew {
         ensures { result ≡ may_capture self.now };
 
     /// A step over its input: its rows, and the wanted lineage as what is pending. Lineage may be wanted only where the body captures.
-    #[tactic(auto, using(crate::proofs::Standing::lineage1))]
     final fn apply1<R: Threads + Sync>(
         &self,
         rt: &R,
@@ -76,14 +70,16 @@ pub trait OpBody: Crew {
             alloc,
             crew: self,
         };
-        let found = find1(&work, op, &input)?;
-        let asked = asked_of(self.lists_at_once(), Want::of_left(want));
-        let (rel, turned) = rows_and_turned1(&work, op, &input, &found, asked)?;
-        self.keep1(alloc, op, input, Made { rel, found, turned }, want)
+        let at_once = self.lists_at_once();
+        let asked = Dir {
+            back: at_once && want.back,
+            fwd: at_once && want.fwd,
+        };
+        let made = make1(&work, op, &input, asked)?;
+        self.keep1(alloc, op, input, made, want)
     }
 
     /// A step over its two inputs, likewise. It is refused for `Rows` exactly where it has more than 1,048,576 rows.
-    #[tactic(auto, using(crate::proofs::Standing::lineage2))]
     final fn apply2<R: Threads + Sync>(
         &self,
         rt: &R,
@@ -111,10 +107,9 @@ pub trait OpBody: Crew {
             alloc,
             crew: self,
         };
-        let found = find2(&work, op, &left, &right)?;
-        let asked = asked_of(self.lists_at_once(), want);
-        let (rel, turned) = rows_and_turned2(&work, op, &left, &right, &found, asked)?;
-        let kept = self.keep2(alloc, op, left, right, Made { rel, found, turned }, want)?;
+        let asked = self.lists_at_once() && want.right.fwd;
+        let made = make2(&work, op, &left, &right, asked)?;
+        let kept = self.keep2(alloc, op, left, right, made, want)?;
         Ok(kept)
     }
 
@@ -127,9 +122,8 @@ pub trait OpBody: Crew {
     ) -> Result<Local, AllocError>
         ensures { IfOk result (λ local. local ≡ meaning self.now pending) };
 
-    /// Whether of the wanted lists those that go against what a step found are made with its rows, before the body keeps anything. It takes no memory.
-    fn lists_at_once(&self) -> bool
-        ensures { result ≡ at_once self.now };
+    /// Whether of the wanted lists those that go against the way of a side are made with the rows, before the body keeps anything. That is a matter of speed alone. It takes no memory.
+    fn lists_at_once(&self) -> bool;
 
     /// What is kept of a step with one input, and its rows as they are.
     fn keep1(
@@ -137,17 +131,14 @@ pub trait OpBody: Crew {
         alloc: Global,
         op: &Op1,
         input: Rel,
-        made: Made,
+        made: Made1,
         want: Dir,
     ) -> Result<(Rel, Self::Pending), AllocError>
         requires fits { Fits1 (unary_of op.now) input.kinds }
         requires captured { IsTrue (may_capture self.now || is_nothing want) }
-        requires kinds { made.rel.kinds ≡ kinds1 (unary_of op.now) input.kinds }
-        requires rows { made.rel.rows ≡ step1 (unary_of op.now) input.rows }
-        requires found { made.found ≡ finding1 (unary_of op.now) input }
-        requires turned { made.turned ≡ turned_of made.found (want_at_once (at_once self.now) (left_want want)) }
+        requires made { IsMade1 (unary_of op.now) input made }
         ensures rel { IfOk result (λ kept. kept.0 ≡ made.rel) }
-        ensures lineage { IfOk result (λ kept. meaning self.now kept.1 ≡ local_of made.found (left_want want)) }
+        ensures lineage { IfOk result (λ kept. meaning self.now kept.1 ≡ local1 (unary_of op.now) input.rows want) }
         ensures left { IfOk result (λ kept. leaves1 self.now (unary_of op.now) input want kept.1) };
 
     /// What is kept of a step with two inputs, and its rows as they are.
@@ -157,23 +148,13 @@ pub trait OpBody: Crew {
         op: &Op2,
         left: Rel,
         right: Rel,
-        made: Made,
+        made: Made2,
         want: Want,
     ) -> Result<(Rel, Self::Pending), AllocError>
         requires fits { Fits2 (binary_of op.now) left.kinds right.kinds }
         requires captured { IsTrue (may_capture self.now || is_nothing2 want) }
-        requires kinds { made.rel.kinds ≡ kinds2 (binary_of op.now) left.kinds right.kinds }
-        requires rows { made.rel.rows ≡ step2 (binary_of op.now) left.rows right.rows }
-        requires found { made.found ≡ finding2 (binary_of op.now) left.rows right.rows }
-        requires turned { made.turned ≡ turned_of made.found (want_at_once (at_once self.now) want) }
+        requires made { IsMade2 (binary_of op.now) left right made }
         ensures rel { IfOk result (λ kept. kept.0 ≡ made.rel) }
-        ensures lineage { IfOk result (λ kept. meaning self.now kept.1 ≡ local_of made.found want) }
+        ensures lineage { IfOk result (λ kept. meaning self.now kept.1 ≡ local2 (binary_of op.now) left.rows right.rows want) }
         ensures left { IfOk result (λ kept. leaves2 self.now (binary_of op.now) left right want kept.1) };
-}
-
-// What is wanted of the lists that are made with the rows.
-fn asked_of(at_once: bool, want: Want) -> Want
-    ensures { result ≡ want_at_once at_once want }
-{
-    if at_once { want } else { Want::none() }
 }

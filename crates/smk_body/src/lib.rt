@@ -1,4 +1,4 @@
-//! Steps: what one finds of its inputs, the groups of rows among it, its plain rows and the wanted lineage; and what every body of the operators does for one.
+//! Steps: the plain rows of each, how those of its sides and these belong together, and the wanted lineage; and what every body of the operators does for one.
 #![tactic(auto)]
 
 mod body;
@@ -7,20 +7,17 @@ mod fault;
 mod find;
 mod keep;
 mod make;
+mod step;
 
 pub use body::OpBody;
 pub use fault::OpFault;
-pub use find::both::Both;
-pub use find::found::{Found, Made};
 pub use find::join::{left_columns, matched, right_columns};
 pub use find::matches::{Matches, Partners};
-pub use find::partition::Partition;
 pub use find::passing::selected_places;
-pub use find::places::Places;
-pub use find::row_pairs::RowPairs;
-pub use find::stretches::{Behind, Same};
-pub use keep::lists::{are_all, counted, lists_if, side_of_classes, sized_lists, turned_lists};
+pub use keep::lists::{marked_lists_if, turned_lists};
 pub use keep::local::{Local, Side, Want};
-pub use keep::{lineage, lineage_of, no_side, nothing};
+pub use keep::way::Way;
+pub use keep::{lineage1, lineage2, no_side};
 pub use make::agg_columns::{agg_column, group_rows};
 pub use make::project::images;
+pub use step::{Made1, Made2};

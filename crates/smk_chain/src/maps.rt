@@ -9,7 +9,7 @@ ghost use Rattle.smk_rid.specs.declared.map.TheConstants.{PAIR_LIMIT};
 ghost use Rattle.smk_chain.specs.Parts.{both_maps, by_classes, followed_maps, joint_map_at, joint_maps, void_map, AreMaps, AreRegrouped, Follows, IsRegrouped, MapsFit};
 
 use smk_base::Needed;
-use smk_body::side_of_classes;
+use smk_body::Way;
 use smk_compose::{KeptMap, Kepts, narrow};
 use smk_keys::Classes;
 use smk_rid::{RidFault, RidMap};
@@ -180,7 +180,8 @@ fn regrouped_map(
     ensures { IfOk result (λ made. made ≡ by_classes (Some classes.now) need back.now fwd.now) }
 {
     let outputs = classes.firsts().len() as u32;
-    let side = side_of_classes(alloc, classes.of(), outputs, need.dir)?;
+    let of = Vec::from_slice(alloc, classes.of())?;
+    let side = Way::targets(of, outputs, None).into_side(alloc, need.dir)?;
     let back = composed_if(alloc, &side.back, back)?;
     let fwd = composed_if(alloc, fwd, &side.fwd)?;
     Ok(KeptMap {

@@ -1,29 +1,40 @@
 -- Keys of rows, and their places among first occurrences.
 use Rattle.std.proofs.Common.{◌≡◌, ◌∙◌, ◌<◌, ◌≤◌, ◌+◌, ℕ, true, None, Some, List, [], ◌∷◌, ◌++◌, not, length, map, refl, sym, ap, subst, arith, All, get_or, nat_eq, inl, inr}
-use Rattle.std.proofs.lemmas.List.{get_or-map, length-map, same_lists}
+use Rattle.std.proofs.lemmas.List.{get_or-map, length-append, length-map, same_lists}
 use Rattle.std.proofs.lemmas.List.Elements.{All-map, All-weaker}
 use Rattle.std.proofs.lemmas.List.Sums.{passes_at_first, prefix_len-le-length}
 use Rattle.std.proofs.lemmas.Map.Made.{AllPairs-from_IsDistinct}
 use Rattle.std.proofs.lemmas.Slice.Zip.{AllZip-long}
 use Rattle.std.proofs.lemmas.Bool.{cases_Bool, cases_lt, eq-eqb, lt-ltb, ne_eqb, false≢true}
 use Rattle.smk_base.specs.Places.{upto}
+use Rattle.smk_base.specs.Plans.{Grouping}
+use Rattle.smk_base.specs.declared.book.plan.Agg.{Agg}
 use Rattle.smk_base.specs.declared.value.Kind.{Kind}
-use Rattle.smk_base.specs.Rels.{Fits, RowFits, picked, rows_at}
+use Rattle.smk_base.specs.Rels.{Fits, RowFits, kind_in, picked, rows_at}
 use Rattle.smk_keys.specs.Keys.{AreKeys, place_of, with_key}
 use Rattle.smk_model.specs.Values.{Row}
-use Rattle.smk_model.specs.Plain.{row_eq, key_of, add_first, firsts}
+use Rattle.smk_model.specs.Kinds.{kind_of_agg, kinds1}
+use Rattle.smk_model.specs.Plain.{row_eq, key_of, add_first, firsts, step1}
 use Rattle.smk_model.specs.Lineage.{row_at}
 use Rattle.smk_model.specs.Classes.{places_in, classes, first_places}
 use Rattle.smk_base.proofs.Places.{map_upto}
 use Rattle.smk_model.proofs.Firsts.{row_same, row_is, holds, holds_at, fold_append, add_firsts}
 use Rattle.smk_model.proofs.Classes.{place_in, found_below, found_at, same_place, first_below, classes_are}
 use Rattle.smk_model.proofs.Bulk.{bulk}
+use Rattle.smk_model.proofs.Regroups.{group_keys}
 use Rattle.smk_body.proofs.Classing.{few_firsts}
-use Rattle.smk_body.proofs.Siding.{classes_below}
+use Rattle.smk_body.proofs.Siding.{classes_below, left_below, right_below}
 
 -- first occurrences have no other first occurrences than themselves
 pub firsts_twice : (xs : List Row) → firsts (firsts xs) ≡ firsts xs
 firsts_twice xs = add_firsts [] [] xs
+
+-- the keys of a grouping stand first in its rows
+pub group_first : (keys : List ℕ) (aggs : List Agg) (L rows : List Row) → rows ≡ step1 (Grouping keys aggs) L → firsts (map (picked (upto (length keys))) rows) ≡ firsts (map (key_of keys) L)
+group_first keys aggs L rows e = ap (λ (z : List Row). firsts (map (picked (upto (length keys))) z)) e ∙ ap firsts (group_keys keys aggs L) ∙ firsts_twice (map (key_of keys) L)
+
+pub keys_within : (keys : List ℕ) (aggs : List Agg) (kinds made : List Kind) → made ≡ kinds1 (Grouping keys aggs) kinds → length keys ≤ length made
+keys_within keys aggs kinds made e = omega (arith, ap length e, length-append (map (kind_in kinds) keys) (map (kind_of_agg kinds) aggs), length-map keys (kind_in kinds))
 
 -- a table of first occurrences with one more key
 pub with_more : (xs : List Row) (x : Row) → with_key (firsts xs) x ≡ firsts (xs ++ x ∷ [])
@@ -54,6 +65,13 @@ all_rows rows places e = ap (rows_at rows) e ∙ map_upto rows []
 -- all keys are among their first occurrences
 pub known : (keys all : List Row) → keys ≡ firsts all → All (λ p. p < length keys) (places_in keys all)
 known keys all e = rw e (classes_below all)
+
+-- those of both sides of a union, on the left and on the right
+pub known_left : (keys L R : List Row) → keys ≡ firsts (L ++ R) → All (λ p. p < length keys) (places_in keys L)
+known_left keys L R e = rw e (left_below L R)
+
+pub known_right : (keys L R : List Row) → keys ≡ firsts (L ++ R) → All (λ p. p < length keys) (places_in keys R)
+known_right keys L R e = rw e (right_below L R)
 
 -- a place among keys is at most their number, which it is for a key that isn't there
 pub place_within : (keys : List Row) (key : Row) → place_in keys key < length keys + 1

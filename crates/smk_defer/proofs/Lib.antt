@@ -1,4 +1,3 @@
 pub mod Keyed
 pub mod Partnered
 pub mod Single
-pub mod Standing

@@ -5,7 +5,7 @@ use Rattle.smk_base.specs.PlanImage.{unary_of, binary_of}
 use Rattle.smk_base.specs.Rels.{Relation}
 use Rattle.smk_base.specs.declared.book.plan.Dir.{Dir}
 use Rattle.smk_model.specs.Plain.{step1, step2}
-use Rattle.smk_body.specs.Findings.{left_want}
+use Rattle.smk_body.specs.Locals.{left_want}
 use Rattle.smk_body.specs.declared.keep.local.Want.{Want}
 use Rattle.smk_defer.specs.declared.kept.Kept.{Kept}
 use Rattle.smk_defer.specs.declared.kept.KeptOp.{KeptOp}

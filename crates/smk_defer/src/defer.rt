@@ -7,7 +7,7 @@ use crate::kept::{Kept, KeptOp};
 use crate::one::lineage1;
 use crate::two::lineage2;
 use smk_base::{Dir, Op1, Op2, Rel};
-use smk_body::{Local, Made, OpBody, Want};
+use smk_body::{Local, Made1, Made2, OpBody, Want};
 use smk_jobs::Crew;
 use std::alloc::{AllocError, Global};
 use std::thread::Threads;
@@ -25,8 +25,6 @@ impl OpBody for Defer {
 
     ghost may_capture = { λ body. true };
 
-    ghost at_once = { λ body. false };
-
     ghost leaves1 = { λ body op input want kept. Leaves1 op input want kept };
 
     ghost leaves2 = { λ body op left right want kept. Leaves2 op left right want kept };
@@ -39,16 +37,15 @@ impl OpBody for Defer {
         false
     }
 
-    #[tactic(auto, using(crate::proofs::Standing::lineage1))]
     fn keep1(
         &self,
         alloc: Global,
         op: &Op1,
         input: Rel,
-        made: Made,
+        made: Made1,
         want: Dir,
     ) -> Result<(Rel, Kept), AllocError> {
-        let keys = distinct1(alloc, op, &input, &made)?;
+        let keys = distinct1(alloc, op, &input, &made.rel)?;
         let kept = Kept {
             op: KeptOp::One(op.copy(alloc)?),
             keys,
@@ -60,14 +57,13 @@ impl OpBody for Defer {
         Ok((made.rel, kept))
     }
 
-    #[tactic(auto, using(crate::proofs::Standing::lineage2))]
     fn keep2(
         &self,
         alloc: Global,
         op: &Op2,
         left: Rel,
         right: Rel,
-        made: Made,
+        made: Made2,
         want: Want,
     ) -> Result<(Rel, Kept), AllocError> {
         let keys = distinct2(alloc, op, &left, &right, &made.rel)?;

@@ -1,40 +1,36 @@
-//! The distinct keys of each step by first occurrence, from its rows and what it found.
+//! The distinct keys of each step by first occurrence, from its rows.
 
 ghost use Rattle.std.specs.Prelude.{◌≡◌, ◌<◌, All, IfOk, length, map};
 ghost use Rattle.smk_base.specs.PlanImage.{binary_of, unary_of};
-ghost use Rattle.smk_model.specs.Kinds.{Fits1, Fits2};
+ghost use Rattle.smk_model.specs.Kinds.{Fits1, Fits2, kinds1};
 ghost use Rattle.smk_model.specs.Plain.{firsts, key_of, step1, step2};
-ghost use Rattle.smk_body.specs.Findings.{finding1};
 ghost use Rattle.smk_body.specs.Halves.{right_columns_of};
 ghost use Rattle.smk_defer.specs.Kept.{keys1, keys2};
 
-use crate::keys::{class_keys, row_keys};
+use crate::keys::{class_keys, first_keys, row_keys};
 use smk_base::{Op1, Op2, Rel};
-use smk_body::{Found, Made, right_columns};
+use smk_body::right_columns;
 use smk_keys::{Classes, KeyTable};
 use std::alloc::{AllocError, Global};
 
-/// The keys of a step with one input.
-#[tactic(auto, using(crate::proofs::Keyed::firsts_twice))]
+/// The keys of a step with one input: those of a grouping stand first in its rows.
+#[tactic(auto, using(crate::proofs::Keyed::firsts_twice, crate::proofs::Keyed::group_first, crate::proofs::Keyed::keys_within))]
 pub(crate) fn distinct1(
     alloc: Global,
     op: &Op1,
     input: &Rel,
-    made: &Made,
+    rel: &Rel,
 ) -> Result<KeyTable, AllocError>
     requires fits { Fits1 (unary_of op.now) input.now.kinds }
-    requires rows { made.now.rel.rows ≡ step1 (unary_of op.now) input.now.rows }
-    requires found { made.now.found ≡ finding1 (unary_of op.now) input.now }
+    requires kinds { rel.now.kinds ≡ kinds1 (unary_of op.now) input.now.kinds }
+    requires rows { rel.now.rows ≡ step1 (unary_of op.now) input.now.rows }
     ensures { IfOk result (λ keys. keys ≡ keys1 (unary_of op.now) input.now.rows) }
 {
-    match (op, &made.found) {
-        (Op1::Select(_), _) => Ok(KeyTable::new(alloc)),
-        (Op1::Project(_), _) => Ok(KeyTable::new(alloc)),
-        (Op1::Distinct(_), _) => row_keys(alloc, &made.rel),
-        (Op1::Group(cols, _), Found::Partition(groups)) => {
-            class_keys(alloc, input, cols.as_slice(), groups.classes())
-        }
-        _ => unreachable!(),
+    match op {
+        Op1::Select(_) => Ok(KeyTable::new(alloc)),
+        Op1::Project(_) => Ok(KeyTable::new(alloc)),
+        Op1::Distinct(_) => row_keys(alloc, rel),
+        Op1::Group(cols, _) => first_keys(alloc, rel, cols.as_slice().len() as u32),
     }
 }
 

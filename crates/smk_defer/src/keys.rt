@@ -3,16 +3,17 @@
 ghost use Rattle.std.specs.Prelude.{◌≡◌, ◌<◌, ◌≤◌, All, IfOk, length, map};
 ghost use Rattle.std.specs.Bool.{OnTrue};
 ghost use Rattle.smk_base.specs.Cells.{value_of_cell};
+ghost use Rattle.smk_base.specs.Places.{upto};
 ghost use Rattle.smk_base.specs.Rels.{picked, row_in, rows_at};
 ghost use Rattle.smk_base.specs.declared.rel.TheConstants.{ROW_LIMIT};
 ghost use Rattle.smk_keys.specs.Classes.{classes_of};
 ghost use Rattle.smk_keys.specs.Keys.{place_or_last};
 ghost use Rattle.smk_model.specs.Classes.{places_in};
 ghost use Rattle.smk_model.specs.Plain.{firsts};
-ghost use Rattle.smk_body.specs.Findings.{side_by_targets};
+ghost use Rattle.smk_model.specs.Ways.{Targets};
 
-use smk_base::{CellRef, Dir, Rel, Row, Value, numbers_below};
-use smk_body::{Side, side_of_classes};
+use smk_base::{CellRef, Rel, Row, Value, numbers_below};
+use smk_body::Way;
 use smk_keys::{Classes, KeyTable};
 use std::alloc::{AllocError, Global};
 
@@ -36,7 +37,15 @@ pub(crate) fn class_keys(
 pub(crate) fn row_keys(alloc: Global, rel: &Rel) -> Result<KeyTable, AllocError>
     ensures { IfOk result (λ made. made ≡ firsts rel.now.rows) }
 {
-    let cols = numbers_below(alloc, rel.width())?;
+    first_keys(alloc, rel, rel.width())
+}
+
+/// The same of so many columns of the rows, the first ones.
+pub(crate) fn first_keys(alloc: Global, rel: &Rel, count: u32) -> Result<KeyTable, AllocError>
+    requires { count ≤ length rel.now.kinds }
+    ensures { IfOk result (λ made. made ≡ firsts (map (picked (upto count)) rel.now.rows)) }
+{
+    let cols = numbers_below(alloc, count)?;
     let places = numbers_below(alloc, rel.len())?;
     let made = keys_at(alloc, rel, cols.as_slice(), places.as_slice())?;
     Ok(made)
@@ -78,34 +87,28 @@ pub(crate) fn key_places(
     Ok(made)
 }
 
-/// The wanted lists of the side of these rows, where each reaches the row of its key among these keys, in their order.
-pub(crate) fn side_by_keys(
+/// The way in which each of these rows reaches the row of its key among these keys, in their order.
+pub(crate) fn key_way(
     alloc: Global,
     rel: &Rel,
     cols: &[u32],
     keys: &KeyTable,
-    want: Dir,
-) -> Result<Side, AllocError>
+) -> Result<Way, AllocError>
     requires columns { All (λ c. c < length rel.now.kinds) cols.now }
     requires known { All (λ p. p < length keys.now) (places_in keys.now (map (picked cols.now) rel.now.rows)) }
-    ensures { IfOk result (λ side. side ≡ side_by_targets want (places_in keys.now (map (picked cols.now) rel.now.rows)) (length keys.now)) }
+    ensures { IfOk result (λ it. it ≡ Targets (places_in keys.now (map (picked cols.now) rel.now.rows)) (length keys.now)) }
 {
     let places = key_places(alloc, rel, cols, keys)?;
-    side_of_classes(alloc, places.as_slice(), keys.len(), want)
+    Ok(Way::targets(places, keys.len(), None))
 }
 
 /// The same, where the rows are the keys.
-pub(crate) fn side_by_rows(
-    alloc: Global,
-    rel: &Rel,
-    keys: &KeyTable,
-    want: Dir,
-) -> Result<Side, AllocError>
+pub(crate) fn row_way(alloc: Global, rel: &Rel, keys: &KeyTable) -> Result<Way, AllocError>
     requires { All (λ p. p < length keys.now) (places_in keys.now rel.now.rows) }
-    ensures { IfOk result (λ side. side ≡ side_by_targets want (places_in keys.now rel.now.rows) (length keys.now)) }
+    ensures { IfOk result (λ it. it ≡ Targets (places_in keys.now rel.now.rows) (length keys.now)) }
 {
     let cols = numbers_below(alloc, rel.width())?;
-    side_by_keys(alloc, rel, cols.as_slice(), keys, want)
+    key_way(alloc, rel, cols.as_slice(), keys)
 }
 
 // For each of these places the place of its row's key among the keys, and their number where it isn't there.

@@ -1,7 +1,7 @@
 ghost use Rattle.std.specs.Prelude.{true};
 
 use smk_base::{Dir, Op1, Op2, Rel};
-use smk_body::{Local, Made, OpBody, Want, lineage};
+use smk_body::{Local, Made1, Made2, OpBody, Want, lineage1, lineage2};
 use smk_jobs::Crew;
 use std::alloc::{AllocError, Global};
 use std::thread::Threads;
@@ -19,8 +19,6 @@ impl OpBody for Inject {
 
     ghost may_capture = { λ body. true };
 
-    ghost at_once = { λ body. true };
-
     fn captures(&self) -> bool {
         true
     }
@@ -34,10 +32,10 @@ impl OpBody for Inject {
         alloc: Global,
         _op: &Op1,
         _input: Rel,
-        made: Made,
+        made: Made1,
         want: Dir,
     ) -> Result<(Rel, Local), AllocError> {
-        let local = lineage(alloc, made.found, made.turned, Want::of_left(want))?;
+        let local = lineage1(alloc, made.way, want)?;
         Ok((made.rel, local))
     }
 
@@ -47,10 +45,10 @@ impl OpBody for Inject {
         _op: &Op2,
         _left: Rel,
         _right: Rel,
-        made: Made,
+        made: Made2,
         want: Want,
     ) -> Result<(Rel, Local), AllocError> {
-        let local = lineage(alloc, made.found, made.turned, want)?;
+        let local = lineage2(alloc, made.left, made.right, want)?;
         Ok((made.rel, local))
     }
 

@@ -14,6 +14,7 @@ pub mod Locals
 pub mod Directions
 pub mod Classes
 pub mod OneEach
+pub mod Ways
 pub mod Bulk
 pub mod Counts
 pub mod NodeFaults

@@ -11,6 +11,7 @@ pub mod Lineage
 pub mod Kinds
 pub mod Locals
 pub mod Classes
+pub mod Ways
 pub mod Annotated
 pub mod Texts
 pub mod Session

@@ -13,7 +13,7 @@ pub use crate::plans::lineage_laws::{
     answers_are_places, bin_is_floor, cui_widom, places_ascend, rows_agree, selection_lineage,
     step_by_step,
 };
-pub use crate::plans::local_laws::{adds_no_rows, cut, locals_are};
+pub use crate::plans::local_laws::{adds_no_rows, cut, lineage_of_ways, locals_are};
 pub use crate::runs::example_laws::{
     plan_holds, readme_holds, strings_hold, tables_hold, words_hold,
 };

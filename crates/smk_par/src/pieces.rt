@@ -2,7 +2,7 @@ ghost use Rattle.std.specs.Prelude.{◌≡◌, ◌<◌, ◌≤◌};
 ghost use Rattle.smk_base.specs.declared.workers.TheConstants.{WORKER_LIMIT};
 
 use smk_base::{Dir, Op1, Op2, Rel};
-use smk_body::{Local, Made, OpBody, Want};
+use smk_body::{Local, Made1, Made2, OpBody, Want};
 use smk_jobs::Crew;
 use smk_outside::Gate;
 use std::alloc::{AllocError, Global};
@@ -60,8 +60,6 @@ impl<'g, G: Gate + Sync, B: OpBody> OpBody for Pieces<'g, G, B> {
 
     ghost may_capture = { λ it. B.may_capture it.inner };
 
-    ghost at_once = { λ it. B.at_once it.inner };
-
     ghost leaves1 = { λ it op input want pending. B.leaves1 it.inner op input want pending };
 
     ghost leaves2 = { λ it op left right want pending. B.leaves2 it.inner op left right want pending };
@@ -79,7 +77,7 @@ impl<'g, G: Gate + Sync, B: OpBody> OpBody for Pieces<'g, G, B> {
         alloc: Global,
         op: &Op1,
         input: Rel,
-        made: Made,
+        made: Made1,
         want: Dir,
     ) -> Result<(Rel, B::Pending), AllocError> {
         self.inner.keep1(alloc, op, input, made, want)
@@ -91,7 +89,7 @@ impl<'g, G: Gate + Sync, B: OpBody> OpBody for Pieces<'g, G, B> {
         op: &Op2,
         left: Rel,
         right: Rel,
-        made: Made,
+        made: Made2,
         want: Want,
     ) -> Result<(Rel, B::Pending), AllocError> {
         self.inner.keep2(alloc, op, left, right, made, want)

@@ -1,7 +1,7 @@
 ghost use Rattle.std.specs.Prelude.{false};
 
 use smk_base::{Dir, Op1, Op2, Rel};
-use smk_body::{Local, Made, OpBody, Want, nothing};
+use smk_body::{Local, Made1, Made2, OpBody, Want, no_side};
 use smk_jobs::Crew;
 use std::alloc::{AllocError, Global};
 use std::thread::Threads;
@@ -19,8 +19,6 @@ impl OpBody for Plain {
 
     ghost may_capture = { λ body. false };
 
-    ghost at_once = { λ body. false };
-
     fn captures(&self) -> bool {
         false
     }
@@ -34,11 +32,10 @@ impl OpBody for Plain {
         _alloc: Global,
         _op: &Op1,
         _input: Rel,
-        made: Made,
+        made: Made1,
         _want: Dir,
     ) -> Result<(Rel, Local), AllocError> {
-        let local = nothing(&made.found);
-        Ok((made.rel, local))
+        Ok((made.rel, Local::of_one(no_side())))
     }
 
     fn keep2(
@@ -47,11 +44,10 @@ impl OpBody for Plain {
         _op: &Op2,
         _left: Rel,
         _right: Rel,
-        made: Made,
+        made: Made2,
         _want: Want,
     ) -> Result<(Rel, Local), AllocError> {
-        let local = nothing(&made.found);
-        Ok((made.rel, local))
+        Ok((made.rel, Local::of_both(no_side(), no_side())))
     }
 
     fn finish<R: Threads + Sync>(

@@ -4,7 +4,7 @@ ghost use Rattle.smk_model.specs.Kinds.{Fits1};
 
 use crate::no_steps::NoSteps;
 use smk_base::{Dir, Op1, Op2, Rel};
-use smk_body::{Local, Made, OpBody, Want};
+use smk_body::{Local, Made1, Made2, OpBody, Want};
 use smk_jobs::Crew;
 use std::alloc::{AllocError, Global};
 use std::marker::Model;
@@ -76,8 +76,6 @@ impl<B: OpBody> OpBody for Counted<B> {
 
     ghost may_capture = { λ it. B.may_capture it.inner };
 
-    ghost at_once = { λ it. B.at_once it.inner };
-
     ghost leaves1 = { λ it op input want pending. B.leaves1 it.inner op input want pending };
 
     ghost leaves2 = { λ it op left right want pending. B.leaves2 it.inner op left right want pending };
@@ -95,7 +93,7 @@ impl<B: OpBody> OpBody for Counted<B> {
         alloc: Global,
         op: &Op1,
         input: Rel,
-        made: Made,
+        made: Made1,
         want: Dir,
     ) -> Result<(Rel, B::Pending), AllocError> {
         self.one.fetch_add(1, Ordering::SeqCst);
@@ -108,7 +106,7 @@ impl<B: OpBody> OpBody for Counted<B> {
         op: &Op2,
         left: Rel,
         right: Rel,
-        made: Made,
+        made: Made2,
         want: Want,
     ) -> Result<(Rel, B::Pending), AllocError> {
         self.two.fetch_add(1, Ordering::SeqCst);

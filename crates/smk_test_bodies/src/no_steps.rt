@@ -1,7 +1,7 @@
 ghost use Rattle.std.specs.Prelude.{false};
 
 use smk_base::{Dir, Op1, Op2, Rel};
-use smk_body::{Local, Made, OpBody, Want};
+use smk_body::{Local, Made1, Made2, OpBody, Want};
 use smk_jobs::Crew;
 use std::alloc::{AllocError, Global};
 use std::thread::Threads;
@@ -18,8 +18,6 @@ impl OpBody for NoSteps {
     ghost meaning = { λ body local. local };
 
     ghost may_capture = { λ body. false };
-
-    ghost at_once = { λ body. false };
 
     ghost leaves1 = { λ body op input want pending. ⊥ };
 
@@ -38,7 +36,7 @@ impl OpBody for NoSteps {
         _alloc: Global,
         _op: &Op1,
         _input: Rel,
-        _made: Made,
+        _made: Made1,
         _want: Dir,
     ) -> Result<(Rel, Local), AllocError> {
         Err(AllocError)
@@ -50,7 +48,7 @@ impl OpBody for NoSteps {
         _op: &Op2,
         _left: Rel,
         _right: Rel,
-        _made: Made,
+        _made: Made2,
         _want: Want,
     ) -> Result<(Rel, Local), AllocError> {
         Err(AllocError)

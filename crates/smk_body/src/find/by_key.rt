@@ -10,7 +10,6 @@ ghost use Rattle.smk_body.specs.Renumbered.{HasKeys, StandFor, key_total, number
 
 use crate::find::by_text::{is_text_key, text_classes};
 use crate::find::classes::row_classes;
-use crate::find::partition::Partition;
 use smk_base::Rel;
 use smk_jobs::{Crew, Work, cut_place, cut_range, in_parts};
 use smk_keys::Classes;
@@ -18,23 +17,8 @@ use std::alloc::{AllocError, Global};
 use std::marker::Sync;
 use std::thread::Threads;
 
-/// The groups of the rows by their keys, found by the crew.
+/// The groups of the rows by their keys, found by the crew: alone, or in threads.
 pub fn found_groups<R: Threads + Sync, C: Crew + Sync>(
-    work: &Work<'_, R, C>,
-    rel: &Rel,
-    keys: &[u32],
-) -> Result<Partition, AllocError>
-    requires keys { All (λ c. c < length rel.now.kinds) keys.now }
-    requires few_keys { length keys.now ≤ COLUMN_LIMIT }
-    ensures { IfOk result (λ groups. groups ≡ classes_of (map (key_of keys.now) rel.now.rows)) }
-{
-    let _rows = rel.len();
-    let classes = key_classes(work, rel, keys)?;
-    Ok(Partition::new(classes))
-}
-
-// The same as classes: alone, or in threads.
-fn key_classes<R: Threads + Sync, C: Crew + Sync>(
     work: &Work<'_, R, C>,
     rel: &Rel,
     keys: &[u32],

@@ -9,28 +9,14 @@ ghost use Rattle.smk_jobs.specs.Cuts.{AreParts, cut_at};
 ghost use Rattle.smk_body.specs.Cuts.{HasPlaces};
 
 use crate::find::passing::selected_places;
-use crate::find::places::Places;
 use smk_base::{Pred, Rel};
 use smk_jobs::{Crew, Work, cut_range, in_parts};
 use std::alloc::{AllocError, Global};
 use std::marker::Sync;
 use std::thread::Threads;
 
-/// The places of the rows that meet a predicate, found by the crew.
+/// The places of the rows that meet a predicate, found by the crew: alone, or in threads.
 pub(crate) fn found_places<R: Threads + Sync, C: Crew + Sync>(
-    work: &Work<'_, R, C>,
-    rel: &Rel,
-    pred: &Pred,
-) -> Result<Places, AllocError>
-    requires { FormulaFits rel.now.kinds (formula_of pred.now) }
-    ensures { IfOk result (λ places. places ≡ record { items = meeting (formula_of pred.now) rel.now.rows; inputs = length rel.now.rows }) }
-{
-    let items = all_selected(work, rel, pred)?;
-    Ok(Places::new(items, rel.len()))
-}
-
-// The same as a vector: alone, or in threads.
-fn all_selected<R: Threads + Sync, C: Crew + Sync>(
     work: &Work<'_, R, C>,
     rel: &Rel,
     pred: &Pred,

@@ -1,4 +1,4 @@
-//! The rows of a grouping and of a distinct, from the groups of their rows, and beside them the places of each group.
+//! The rows of a grouping, from the groups of its rows, and beside them the places of each group.
 
 ghost use Rattle.std.specs.Prelude.{◌≡◌, ◌<◌, IfOk, Some, length, map};
 ghost use Rattle.std.specs.Thread.{IsSync};
@@ -7,55 +7,39 @@ ghost use Rattle.smk_base.specs.Plans.{Grouping};
 ghost use Rattle.smk_keys.specs.Classes.{classes_of};
 ghost use Rattle.smk_model.specs.Kinds.{GroupFits, kinds1};
 ghost use Rattle.smk_model.specs.Locals.{singles};
-ghost use Rattle.smk_model.specs.Plain.{firsts, key_of, step1};
+ghost use Rattle.smk_model.specs.Plain.{key_of, step1};
+ghost use Rattle.smk_body.specs.Bounds.{IsPartition};
 ghost use Rattle.smk_body.specs.Locals.{wanted};
 ghost use Rattle.smk_body.specs.Parts.{AreAggsOf, ArePlacesOf, aggregates_of, columns_of};
 
-use crate::find::partition::Partition;
-use crate::keep::lists::{counted, sized_lists};
+use crate::keep::lists::{counted, sized_lists, turned_lists_if};
 use crate::make::agg_columns::{agg_column, group_rows, sized_group_rows};
 use crate::make::gather::{both_of, columns_at};
 use smk_base::{Agg, Rel};
 use smk_jobs::{Crew, LEAST_ROWS, Work};
+use smk_keys::Classes;
 use smk_rid::RidMap;
 use std::alloc::{AllocError, Global};
 use std::marker::Sync;
 use std::thread::{Threads, join};
 
-/// The first row of each group, and the places of the group where they are wanted.
-#[tactic(auto, using(crate::proofs::Deriving::rows_first))]
-pub(crate) fn firsts_and_turned(
-    alloc: Global,
-    rel: &Rel,
-    groups: &Partition,
-    asked: bool,
-) -> Result<(Rel, Option<RidMap>), AllocError>
-    requires { groups.now ≡ classes_of rel.now.rows }
-    ensures kinds { IfOk result (λ made. made.0.kinds ≡ rel.now.kinds) }
-    ensures rows { IfOk result (λ made. made.0.rows ≡ firsts rel.now.rows) }
-    ensures turned { IfOk result (λ made. made.1 ≡ wanted asked (inverted (singles groups.now.of (length groups.now.firsts)))) }
-{
-    let rows = rel.gather(alloc, groups.classes().firsts())?;
-    let lists = groups.backward(alloc, asked)?;
-    Ok((rows, lists))
-}
-
 /// The rows of a grouping, and the places of each group where they are wanted. One aggregate or none over few groups isn't worth a thread.
 pub(crate) fn grouped_and_turned<R: Threads + Sync, C: Crew + Sync>(
     work: &Work<'_, R, C>,
     rel: &Rel,
-    groups: &Partition,
+    groups: &Classes,
     keys: &[u32],
     aggs: &[Agg],
     asked: bool,
 ) -> Result<(Rel, Option<RidMap>), AllocError>
     requires fits { GroupFits rel.now.kinds keys.now aggs.now }
     requires groups { groups.now ≡ classes_of (map (key_of keys.now) rel.now.rows) }
+    requires stand { IsPartition groups.now }
     ensures kinds { IfOk result (λ made. made.0.kinds ≡ kinds1 (Grouping keys.now aggs.now) rel.now.kinds) }
     ensures rows { IfOk result (λ made. made.0.rows ≡ step1 (Grouping keys.now aggs.now) rel.now.rows) }
     ensures turned { IfOk result (λ made. made.1 ≡ wanted asked (inverted (singles groups.now.of (length groups.now.firsts)))) }
 {
-    let few = aggs.len() < 2 && groups.classes().firsts().len() < LEAST_ROWS;
+    let few = aggs.len() < 2 && groups.firsts().len() < LEAST_ROWS;
     if few || work.is_alone(rel.len() as usize) {
         return grouped_alone(work.alloc, rel, groups, keys, aggs, asked);
     }
@@ -66,23 +50,24 @@ pub(crate) fn grouped_and_turned<R: Threads + Sync, C: Crew + Sync>(
 fn grouped_alone(
     alloc: Global,
     rel: &Rel,
-    groups: &Partition,
+    groups: &Classes,
     keys: &[u32],
     aggs: &[Agg],
     asked: bool,
 ) -> Result<(Rel, Option<RidMap>), AllocError>
     requires fits { GroupFits rel.now.kinds keys.now aggs.now }
     requires groups { groups.now ≡ classes_of (map (key_of keys.now) rel.now.rows) }
+    requires stand { IsPartition groups.now }
     ensures kinds { IfOk result (λ made. made.0.kinds ≡ kinds1 (Grouping keys.now aggs.now) rel.now.kinds) }
     ensures rows { IfOk result (λ made. made.0.rows ≡ step1 (Grouping keys.now aggs.now) rel.now.rows) }
     ensures turned { IfOk result (λ made. made.1 ≡ wanted asked (inverted (singles groups.now.of (length groups.now.firsts)))) }
 {
     // Where each group has one row the lists are marks, and no size is counted.
-    if asked && groups.classes().firsts().len() < rel.len() as usize {
+    if asked && groups.firsts().len() < rel.len() as usize {
         return sized_and_turned(alloc, rel, groups, keys, aggs);
     }
-    let rows = group_rows(alloc, rel, groups.classes(), keys, aggs)?;
-    let lists = groups.backward(alloc, asked)?;
+    let rows = group_rows(alloc, rel, groups, keys, aggs)?;
+    let lists = turned_lists_if(alloc, asked, groups.of(), groups.firsts().len() as u32)?;
     Ok((rows, lists))
 }
 
@@ -90,21 +75,21 @@ fn grouped_alone(
 fn sized_and_turned(
     alloc: Global,
     rel: &Rel,
-    groups: &Partition,
+    groups: &Classes,
     keys: &[u32],
     aggs: &[Agg],
 ) -> Result<(Rel, Option<RidMap>), AllocError>
     requires fits { GroupFits rel.now.kinds keys.now aggs.now }
     requires groups { groups.now ≡ classes_of (map (key_of keys.now) rel.now.rows) }
+    requires stand { IsPartition groups.now }
     ensures kinds { IfOk result (λ made. made.0.kinds ≡ kinds1 (Grouping keys.now aggs.now) rel.now.kinds) }
     ensures rows { IfOk result (λ made. made.0.rows ≡ step1 (Grouping keys.now aggs.now) rel.now.rows) }
     ensures turned { IfOk result (λ made. made.1 ≡ Some (inverted (singles groups.now.of (length groups.now.firsts)))) }
 {
-    let classes = groups.classes();
-    let of = classes.of();
-    let count = classes.firsts().len() as u32;
+    let of = groups.of();
+    let count = groups.firsts().len() as u32;
     let sizes = counted(alloc, of, count)?;
-    let rows = sized_group_rows(alloc, rel, classes, Some(sizes.as_slice()), keys, aggs)?;
+    let rows = sized_group_rows(alloc, rel, groups, Some(sizes.as_slice()), keys, aggs)?;
     let lists = sized_lists(alloc, of, sizes.as_slice())?;
     Ok((rows, Some(lists)))
 }
@@ -113,22 +98,24 @@ fn sized_and_turned(
 fn grouped_beside<R: Threads + Sync, C: Crew + Sync>(
     work: &Work<'_, R, C>,
     rel: &Rel,
-    groups: &Partition,
+    groups: &Classes,
     keys: &[u32],
     aggs: &[Agg],
     asked: bool,
 ) -> Result<(Rel, Option<RidMap>), AllocError>
     requires fits { GroupFits rel.now.kinds keys.now aggs.now }
     requires groups { groups.now ≡ classes_of (map (key_of keys.now) rel.now.rows) }
+    requires stand { IsPartition groups.now }
     ensures kinds { IfOk result (λ both. both.0.kinds ≡ kinds1 (Grouping keys.now aggs.now) rel.now.kinds) }
     ensures rows { IfOk result (λ both. both.0.rows ≡ step1 (Grouping keys.now aggs.now) rel.now.rows) }
     ensures turned { IfOk result (λ both. both.1 ≡ wanted asked (inverted (singles groups.now.of (length groups.now.firsts)))) }
 {
     let turn = || -> Result<Option<RidMap>, AllocError>
+        requires { IsPartition groups.now }
         ensures { IfOk result (λ made. made ≡ wanted asked (inverted (singles groups.entry.now.of (length groups.entry.now.firsts)))) }
-    { groups.backward(work.alloc, asked) };
+    { turned_lists_if(work.alloc, asked, groups.of(), groups.firsts().len() as u32) };
     let make = || -> Result<Rel, AllocError>
-        requires { IsSync R.row × IsSync C.row × GroupFits rel.now.kinds keys.now aggs.now × (groups.now ≡ classes_of (map (key_of keys.now) rel.now.rows)) }
+        requires { IsSync R.row × IsSync C.row × GroupFits rel.now.kinds keys.now aggs.now × (groups.now ≡ classes_of (map (key_of keys.now) rel.now.rows)) × IsPartition groups.now }
         ensures { IfOk result (λ made. (made.kinds ≡ kinds1 (Grouping keys.entry.now aggs.entry.now) rel.entry.now.kinds) × (made.rows ≡ step1 (Grouping keys.entry.now aggs.entry.now) rel.entry.now.rows)) }
     { keys_and_aggs(work, rel, groups, keys, aggs) };
     let (lists, rows) = join(work.rt, turn, make);
@@ -139,15 +126,16 @@ fn grouped_beside<R: Threads + Sync, C: Crew + Sync>(
 fn keys_and_aggs<R: Threads + Sync, C: Crew + Sync>(
     work: &Work<'_, R, C>,
     rel: &Rel,
-    groups: &Partition,
+    groups: &Classes,
     keys: &[u32],
     aggs: &[Agg],
 ) -> Result<Rel, AllocError>
     requires fits { GroupFits rel.now.kinds keys.now aggs.now }
     requires groups { groups.now ≡ classes_of (map (key_of keys.now) rel.now.rows) }
+    requires stand { IsPartition groups.now }
     ensures { IfOk result (λ made. (made.kinds ≡ kinds1 (Grouping keys.now aggs.now) rel.now.kinds) × (made.rows ≡ step1 (Grouping keys.now aggs.now) rel.now.rows)) }
 {
-    let firsts = groups.classes().firsts();
+    let firsts = groups.firsts();
     let first = || -> Result<Rel, AllocError>
         requires { ArePlacesOf rel.now firsts.now keys.now }
         ensures { IfOk result (λ made. made ≡ columns_of rel.entry.now firsts.entry.now keys.entry.now) }
@@ -166,7 +154,7 @@ fn keys_and_aggs<R: Threads + Sync, C: Crew + Sync>(
 fn agg_columns<R: Threads + Sync, C: Crew + Sync>(
     work: &Work<'_, R, C>,
     rel: &Rel,
-    groups: &Partition,
+    groups: &Classes,
     aggs: &[Agg],
 ) -> Result<Rel, AllocError>
     requires { AreAggsOf rel.now groups.now aggs.now }
@@ -190,19 +178,14 @@ fn agg_columns<R: Threads + Sync, C: Crew + Sync>(
 }
 
 // The same of one aggregate or none.
-fn few_columns(
-    alloc: Global,
-    rel: &Rel,
-    groups: &Partition,
-    aggs: &[Agg],
-) -> Result<Rel, AllocError>
+fn few_columns(alloc: Global, rel: &Rel, groups: &Classes, aggs: &[Agg]) -> Result<Rel, AllocError>
     requires aggs { AreAggsOf rel.now groups.now aggs.now }
     requires few { length aggs.now < 2 }
     ensures { IfOk result (λ made. made ≡ aggregates_of rel.now groups.now aggs.now) }
 {
-    let classes = groups.classes();
+    let _rows = rel.len();
     if aggs.len() == 0 {
-        return columns_at(alloc, rel, classes.firsts(), &[]);
+        return columns_at(alloc, rel, groups.firsts(), &[]);
     }
-    agg_column(alloc, rel, classes, None, &aggs[0])
+    agg_column(alloc, rel, groups, None, &aggs[0])
 }

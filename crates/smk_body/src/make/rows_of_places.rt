@@ -6,11 +6,11 @@ ghost use Rattle.std.specs.Thread.{IsSync};
 ghost use Rattle.smk_base.specs.Places.{IsPlaces, inverted};
 ghost use Rattle.smk_base.specs.Rels.{rows_at};
 ghost use Rattle.smk_base.specs.declared.rel.TheConstants.{ROW_LIMIT};
+ghost use Rattle.smk_body.specs.Bounds.{AreBelow};
 ghost use Rattle.smk_body.specs.Locals.{wanted};
 ghost use Rattle.smk_model.specs.Locals.{singles};
 
-use crate::find::places::Places;
-use crate::keep::lists::lists_if;
+use crate::keep::lists::{lists_if, marked_lists_if};
 use crate::make::gather::{both_of, gathered};
 use smk_base::Rel;
 use smk_jobs::{Crew, Work};
@@ -19,24 +19,24 @@ use std::alloc::AllocError;
 use std::marker::Sync;
 use std::thread::{Threads, join};
 
-/// The rows at these places, and the forward lists of these where they are wanted.
+/// The rows at these places, which are a set, and the forward lists of these where they are wanted.
 pub(crate) fn placed_and_turned<R: Threads + Sync, C: Crew + Sync>(
     work: &Work<'_, R, C>,
     rel: &Rel,
-    places: &Places,
+    places: &[u32],
     asked: bool,
 ) -> Result<(Rel, Option<RidMap>), AllocError>
-    requires { places.now.inputs ≡ length rel.now.rows }
-    ensures rows { IfOk result (λ made. made.0 ≡ record { kinds = rel.now.kinds; rows = rows_at rel.now.rows places.now.items }) }
-    ensures turned { IfOk result (λ made. made.1 ≡ wanted asked (inverted (singles places.now.items places.now.inputs))) }
+    requires below { AreBelow (length rel.now.rows) places.now }
+    requires set { IsPlaces (length rel.now.rows) places.now }
+    ensures rows { IfOk result (λ made. made.0 ≡ record { kinds = rel.now.kinds; rows = rows_at rel.now.rows places.now }) }
+    ensures turned { IfOk result (λ made. made.1 ≡ wanted asked (inverted (singles places.now (length rel.now.rows)))) }
 {
-    let items = places.as_slice();
-    if work.is_alone(items.len()) {
-        let rows = rel.gather(work.alloc, items)?;
-        let lists = places.forward(work.alloc, asked)?;
+    if work.is_alone(places.len()) {
+        let rows = rel.gather(work.alloc, places)?;
+        let lists = marked_lists_if(work.alloc, asked, places, rel.len())?;
         return Ok((rows, lists));
     }
-    gathered_and_turned(work, rel, items, true, asked)
+    gathered_and_turned(work, rel, places, true, asked)
 }
 
 /// The rows at these places, and the turned lists of the places where they are wanted, at the same time. It is told where no place comes twice.

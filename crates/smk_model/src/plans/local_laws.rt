@@ -1,10 +1,17 @@
 //! Laws of the lists of one step. Each is an empty function whose contract is the law.
 
 ghost use Rattle.smk_model.specs.LocalLaws.{AddsNoRows, Cut, LocalsAre};
+ghost use Rattle.smk_model.specs.Ways.{LineageOfWays};
 
 /// The lists of each step, in the form in which a loop makes them: one place a row that passes, the places of each key, the places that the nested loop of a join matches.
 pub fn locals_are()
     ensures { LocalsAre }
+{}
+
+/// The lineage of each side of each step is that of the way in which its rows and those of the step belong together: each is its own, each output row comes from one input row, or each input row reaches one output row.
+#[tactic(auto, using(crate::proofs::Ways::lineage_of_ways))]
+pub fn lineage_of_ways()
+    ensures { LineageOfWays }
 {}
 
 /// What a selection, a join and a grouping give of a list, they give of its consecutive parts, put after each other.

@@ -1,24 +1,11 @@
-use Rattle.std.proofs.Common.{◌∙◌, List, length, map, ap, arith}
+use Rattle.std.proofs.Common.{◌≡◌, IfOk, List, ap, subst}
 use Rattle.smk_base.specs.Places.{upto}
-use Rattle.smk_base.specs.Rels.{picked}
 use Rattle.smk_model.specs.Values.{Row}
 use Rattle.smk_model.specs.Plain.{firsts}
-use Rattle.smk_base.proofs.Places.{length_upto, upto_below}
-use Rattle.smk_defer.proofs.Keyed.{whole_rows, all_rows}
+use Rattle.smk_defer.proofs.Keyed.{whole_rows}
 use Rattle.smk_defer.proofs.keys.row_keys.Goals as goal
-
-pub keys_at-requires-clause-columns : goal.keys_at-requires-clause-columns
-keys_at-requires-clause-columns c = rw (c.as_slice.ensures.value, c.in_ok-cols.ensures, c.width.ensures.count) (upto_below (length c.args.rel.now.kinds))
-
-pub keys_at-requires-clause-within : goal.keys_at-requires-clause-within
-keys_at-requires-clause-within c = rw (c.as_slice-2.ensures.value, c.in_ok-places.ensures, c.len.ensures.count) (upto_below (length c.args.rel.now.rows))
-
-pub keys_at-requires-clause-few : goal.keys_at-requires-clause-few
-keys_at-requires-clause-few c = omega (arith, ap length (c.as_slice-2.ensures.value ∙ c.in_ok-places.ensures), length_upto c.len.result, c.len.ensures.count, c.len.ensures.keeps.few_rows)
 
 pub returns : goal.returns
 returns c =
     let rel = c.args.rel.now in
-    c.in_ok-made.ensures
-    ∙ ap (λ (z : List Row). firsts (map (picked c.as_slice.result.now) z)) (all_rows rel.rows c.as_slice-2.result.now (c.as_slice-2.ensures.value ∙ c.in_ok-places.ensures ∙ ap upto c.len.ensures.count))
-    ∙ ap firsts (whole_rows rel.kinds rel.rows c.as_slice.result.now c.len.ensures.keeps.fit (c.as_slice.ensures.value ∙ c.in_ok-cols.ensures ∙ ap upto c.width.ensures.count))
+    subst (λ (rows : List Row). IfOk c.first_keys.result (λ made. made ≡ firsts rows)) (whole_rows rel.kinds rel.rows _ c.width.ensures.keeps.fit (ap upto c.width.ensures.count)) c.first_keys.ensures
