@@ -1,9 +1,7 @@
 ghost use Rattle.std.specs.Prelude.{◌≡◌, ◌≤◌, ◌+◌, IfOk};
-ghost use Rattle.smk_base.specs.CatalogImage.{catalog_image};
-ghost use Rattle.smk_base.specs.TreeImage.{ask_image};
+ghost use Rattle.smk_base.specs.{CatalogImage.catalog_image, TreeImage.ask_image};
 ghost use Rattle.smk_model.specs.Asks as asks;
-ghost use Rattle.smk_model.specs.AskTexts.{IsAskReplyTo, IsBackReply};
-ghost use Rattle.smk_model.specs.Limits.{KeepsSteps};
+ghost use Rattle.smk_model.specs.{AskTexts.{IsAskReplyTo, IsBackReply}, Limits.KeepsSteps};
 ghost use Rattle.smk_model.specs.Replies as replies;
 ghost use Rattle.smk_session.specs.Sessions.{state_of};
 

@@ -1,16 +1,8 @@
 -- A dictionary with the texts of another, and the codes that these have there.
-use Rattle.std.proofs.Common.{◌≡◌, ℕ, ◌+◌, ◌<◌, ◌≤◌, true, List, [], ◌∷◌, ◌++◌, length, map, take, get_or, refl, ap, sym, ◌∙◌, arith, inl, inr, All}
-use Rattle.std.specs.Prelude.{fold}
-use Rattle.std.specs.List.{list_any}
-use Rattle.std.proofs.lemmas.Bool.{cases_Bool, or_cases, false≢true}
-use Rattle.std.proofs.lemmas.List.{get_or-map, length-map, length-append, map-append, append_assoc, append-nil, get_or_append_left, take_more, take_at}
-use Rattle.std.proofs.lemmas.List.Elements.{All-push, All-head, All-tail, All-append, All-map}
-use Rattle.std.proofs.lemmas.List.Folds.{list_any_at}
-use Rattle.std.proofs.lemmas.List.Sums.{fold-append, fold_push}
-use Rattle.smk_base.specs.Dicts.{text_eq, code_or_last, with_text}
-use Rattle.smk_base.specs.TextColumns.{text_in, text_firsts, texts_at, AreAdded, AreCodes}
-use Rattle.smk_base.proofs.Codes.{added, text_same}
-use Rattle.smk_base.proofs.Recoding.{length_with_text, firsts_stay, texts_at_add}
+use Rattle.std.proofs.{Common.{◌≡◌, ℕ, ◌+◌, ◌<◌, ◌≤◌, true, List, [], ◌∷◌, ◌++◌, length, map, take, get_or, refl, ap, sym, ◌∙◌, arith, inl, inr, All}, lemmas.Bool.{cases_Bool, or_cases, false≢true}, lemmas.List.{get_or-map, length-map, length-append, map-append, append_assoc, append-nil, get_or_append_left, take_more, take_at}, lemmas.List.Elements.{All-push, All-head, All-tail, All-append, All-map}, lemmas.List.Folds.list_any_at, lemmas.List.Sums.{fold-append, fold_push}}
+use Rattle.std.specs.{Prelude.fold, List.list_any}
+use Rattle.smk_base.specs.{Dicts.{text_eq, code_or_last, with_text}, TextColumns.{text_in, text_firsts, texts_at, AreAdded, AreCodes}}
+use Rattle.smk_base.proofs.{Codes.{added, text_same}, Recoding.{length_with_text, firsts_stay, texts_at_add}}
 
 -- the texts that were there, and the new ones behind them
 pub more_texts : (found texts : List (List ℕ)) → (more : List (List ℕ)) × (fold with_text found texts ≡ found ++ more)

@@ -1,11 +1,6 @@
 -- One more at the end of an ascending list.
-use Rattle.std.proofs.Common.{◌≡◌, ◌∙◌, ◌<◌, ◌-◌, ℕ, List, [], ◌∷◌, ◌++◌, IsTrue, length, map, get_or, refl, sym, ap, subst, arith, inl, inr, All}
-use Rattle.std.proofs.lemmas.Bool.{cases_lt}
-use Rattle.std.proofs.lemmas.List.{length-append, length-map, map-append, get_or-map, get_or_append_left, get_or-append_right}
-use Rattle.std.proofs.lemmas.List.Elements.{All-push}
-use Rattle.smk_base.specs.Picks.{IsAscending}
-use Rattle.smk_base.specs.Needs.{IsNeed, is_needed}
-use Rattle.smk_base.specs.declared.book.need.Needed.{Needed}
+use Rattle.std.proofs.{Common.{◌≡◌, ◌∙◌, ◌<◌, ◌-◌, ℕ, List, [], ◌∷◌, ◌++◌, IsTrue, length, map, get_or, refl, sym, ap, subst, arith, inl, inr, All}, lemmas.Bool.cases_lt, lemmas.List.{length-append, length-map, map-append, get_or-map, get_or_append_left, get_or-append_right}, lemmas.List.Elements.All-push}
+use Rattle.smk_base.specs.{Picks.IsAscending, Needs.{IsNeed, is_needed}, declared.book.need.Needed.Needed}
 
 ascending_more : (A : List ℕ) (x : ℕ) → IsAscending A → ((i : ℕ) → i < length A → get_or A i 0 < x) → IsAscending (A ++ x ∷ [])
 ascending_more A x rises above i j before low =

@@ -1,12 +1,9 @@
 -- Bins of the numbers from a least one on.
 use Rattle.std.proofs.Common.{◌≡◌, ℕ, ℤ, pos, ◌+ℤ◌, ◌-ℤ◌, List, [], ◌∷◌, ◌++◌, length, ◌∙◌, arith, inl, inr}
-use Rattle.std.specs.Prelude.{◌≤ℤ◌}
-use Rattle.std.specs.Int.{int_div_euclid}
+use Rattle.std.specs.{Prelude.◌≤ℤ◌, Int.int_div_euclid}
 use lib.IntN.{nat_abs}
 use lib.Signed.{yes_non_neg, pos-nat_abs}
-use Rattle.std.proofs.lemmas.Bool.{cases_lt}
-use Rattle.std.proofs.lemmas.Int.{ints}
-use Rattle.std.proofs.lemmas.List.{get_or_append_left, get_or_push, length_push}
+use Rattle.std.proofs.{lemmas.Bool.cases_lt, lemmas.Int.ints, lemmas.List.{get_or_append_left, get_or_push, length_push}}
 use Rattle.smk_base.specs.Rels.{AreBinsFrom}
 
 -- a number is the least and how far it is above it

@@ -1,22 +1,9 @@
 -- Rows that grow value by value.
-use Rattle.std.proofs.Common.{◌≡◌, ◌≢◌, ℕ, ◌+◌, ◌<◌, ◌≤◌, List, [], ◌∷◌, ◌++◌, length, set, get_or, refl, ap, sym, ◌∙◌, arith, All, inl, inr, pos, None, true}
-use Rattle.std.proofs.lemmas.Bool.{cases_eq, cases_lt}
-use Rattle.std.proofs.lemmas.List.{length-map, length-set, length_push, get_or-set_same, get_or-set_other, get_or_push, get_or_append_left, get_or_read}
-use Rattle.std.proofs.lemmas.List.Elements.{All-from_get_or}
-use Rattle.std.proofs.lemmas.List.FromFn.{length-map-range_with_len, get_or-map-range_with_len, fill_by_all}
-use Rattle.smk_base.specs.declared.value.Kind.{Kind}
+use Rattle.std.proofs.{Common.{◌≡◌, ◌≢◌, ℕ, ◌+◌, ◌<◌, ◌≤◌, List, [], ◌∷◌, ◌++◌, length, set, get_or, refl, ap, sym, ◌∙◌, arith, All, inl, inr, pos, None, true}, lemmas.Bool.{cases_eq, cases_lt}, lemmas.List.{length-map, length-set, length_push, get_or-set_same, get_or-set_other, get_or_push, get_or_append_left, get_or_read}, lemmas.List.Elements.All-from_get_or, lemmas.List.FromFn.{length-map-range_with_len, get_or-map-range_with_len, fill_by_all}}
+use Rattle.smk_base.specs.{declared.value.Kind.Kind, declared.value.Value.Value, Rels.{kind_in, value_in}, Images.ColumnImage, Columns.IsColumnOf, Relations.{column_in, kinds_of, row_at, rows_of, relation_of, AreMade}, Builders.{RowsBegun, begun_in, rows_begun, AreBegun}}
 use Rattle.smk_base.specs.declared.value.Kind.TheVariants as kinds
-use Rattle.smk_base.specs.declared.value.Value.{Value}
 use Rattle.smk_base.specs.declared.value.Value.TheVariants as values
-use Rattle.smk_base.specs.Rels.{kind_in, value_in}
-use Rattle.smk_base.specs.Images.{ColumnImage}
-use Rattle.smk_base.specs.Columns.{IsColumnOf}
-use Rattle.smk_base.specs.Relations.{column_in, kinds_of, row_at, rows_of, relation_of, AreMade}
-use Rattle.smk_base.specs.Builders.{RowsBegun, begun_in, rows_begun, AreBegun}
-use Rattle.smk_base.proofs.Kept.{IsColumnOf-same}
-use Rattle.smk_base.proofs.Pushed.{kind_in-kinds_of}
-use Rattle.smk_base.proofs.Rows.{length-rows_of, row_in-rows_of, value_in-row_at, kinds_is, row_is}
-use Rattle.smk_base.proofs.Relating.{made-new}
+use Rattle.smk_base.proofs.{Kept.IsColumnOf-same, Pushed.kind_in-kinds_of, Rows.{length-rows_of, row_in-rows_of, value_in-row_at, kinds_is, row_is}, Relating.made-new}
 
 abbrev none : Value
 none = values.Int (pos 0)

@@ -1,14 +1,6 @@
 -- The codes of texts in a list of different texts.
-use Rattle.std.proofs.Common.{◌≡◌, ℕ, suc, ◌+◌, ◌<◌, ◌≤◌, ◌++◌, ap, Bool, true, false, List, [], ◌∷◌, length, take, get_or, refl, sym, ◌∙◌, arith, true≢false, Decides, inl, inr, Some, None}
-use Rattle.std.proofs.lemmas.List.Quantifiers.{position-Some}
-use Rattle.std.proofs.lemmas.Option.{none-some}
-use Rattle.std.specs.Cmp.{unsigned_Decides}
-use Rattle.std.specs.List.{list_any, position_or_len}
-use Rattle.std.proofs.lemmas.Bool.{cases_order, cases_Bool, lt-ltb}
-use Rattle.std.proofs.lemmas.List.{get_or-take, length-take-le, get_or_push, length_push, get_or_default, get_or_append_left, take_more}
-use Rattle.std.proofs.lemmas.List.Folds.{list_any_at, list_any_none}
-use Rattle.std.proofs.lemmas.Map.Keys.{apart_from_distinct}
-use Rattle.std.proofs.lemmas.Slice.Eq.{slice_eq-Decides}
+use Rattle.std.proofs.{Common.{◌≡◌, ℕ, suc, ◌+◌, ◌<◌, ◌≤◌, ◌++◌, ap, Bool, true, false, List, [], ◌∷◌, length, take, get_or, refl, sym, ◌∙◌, arith, true≢false, Decides, inl, inr, Some, None}, lemmas.List.Quantifiers.position-Some, lemmas.Option.none-some, lemmas.Bool.{cases_order, cases_Bool, lt-ltb}, lemmas.List.{get_or-take, length-take-le, get_or_push, length_push, get_or_default, get_or_append_left, take_more}, lemmas.List.Folds.{list_any_at, list_any_none}, lemmas.Map.Keys.apart_from_distinct, lemmas.Slice.Eq.slice_eq-Decides}
+use Rattle.std.specs.{Cmp.unsigned_Decides, List.{list_any, position_or_len}}
 use Rattle.smk_base.specs.Dicts.{text_eq, code_in, code_or_last, with_text, AreTexts}
 
 pub text_same : (a b : List ℕ) → Decides (text_eq a b) (a ≡ b)

@@ -1,13 +1,6 @@
 -- The number that an optional sign and digits write, and the int that bytes write.
-use Rattle.std.proofs.Common.{◌≡◌, ◌∙◌, ◌<◌, ◌≤◌, ◌+◌, ◌*◌, ℕ, true, cond, ◌&&◌, ◌==◌, List, [], ◌∷◌, ◌++◌, length, drop, ℤ, pos, negsuc, ◌^◌, nat_lt, refl, sym, ap, arith, append-nil, true≢false, Option, Some, None, IfSome, IfNone}
-use Rattle.std.specs.List.{list_all}
-use Rattle.std.specs.Char.{is_ascii_digit, digit_value}
-use Rattle.std.specs.Str.{all_ascii_digits}
-use Rattle.std.specs.Str.Parse.{without_leading_sign, signed_digits_value, digits_value_after}
-use Rattle.std.specs.Int.{w64}
-use Rattle.std.specs.Int.RustNames.{FitsSigned}
-use Rattle.std.proofs.lemmas.Bool.{eqb-true, ltb-true, lt-ltb, and_parts}
-use Rattle.std.proofs.lemmas.Bool.Decides.{nat_tests}
+use Rattle.std.proofs.{Common.{◌≡◌, ◌∙◌, ◌<◌, ◌≤◌, ◌+◌, ◌*◌, ℕ, true, cond, ◌&&◌, ◌==◌, List, [], ◌∷◌, ◌++◌, length, drop, ℤ, pos, negsuc, ◌^◌, nat_lt, refl, sym, ap, arith, append-nil, true≢false, Option, Some, None, IfSome, IfNone}, lemmas.Bool.{eqb-true, ltb-true, lt-ltb, and_parts}, lemmas.Bool.Decides.nat_tests}
+use Rattle.std.specs.{List.list_all, Char.{is_ascii_digit, digit_value}, Str.all_ascii_digits, Str.Parse.{without_leading_sign, signed_digits_value, digits_value_after}, Int.w64, Int.RustNames.FitsSigned}
 use Rattle.smk_base.specs.Ints.{after_blanks, before_blanks, is_i64, is_numeral, numeral_int, int_of, IsIntText}
 use Rattle.smk_base.proofs.Blanks.{cases_on, is_solid, before_blanks-append, before_blanks-solid, after_blanks-append, after_blanks-solid, blanks_before, blanks_behind}
 

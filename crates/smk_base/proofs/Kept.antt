@@ -1,17 +1,9 @@
 -- What the bulk calls keep of a column.
-use Rattle.std.proofs.Common.{◌≡◌, ◌≢◌, ℕ, zero, suc, ◌+◌, ◌*◌, ◌^◌, ◌/◌, ◌<◌, ◌≤◌, ℤ, pos, negsuc, neg_ℤ, ◌≤ℤ◌, List, [], ◌∷◌, ◌++◌, length, map, get_or, refl, ◌∙◌, arith, All, FitsSigned}
-use Rattle.std.proofs.lemmas.Int.{ints}
-use Rattle.std.proofs.Math.Nat.{div-le_self, pow-le-pow_right}
+use Rattle.std.proofs.{Common.{◌≡◌, ◌≢◌, ℕ, zero, suc, ◌+◌, ◌*◌, ◌^◌, ◌/◌, ◌<◌, ◌≤◌, ℤ, pos, negsuc, neg_ℤ, ◌≤ℤ◌, List, [], ◌∷◌, ◌++◌, length, map, get_or, refl, ◌∙◌, arith, All, FitsSigned}, lemmas.Int.ints, Math.Nat.{div-le_self, pow-le-pow_right}, lemmas.List.{get_or-map, length-map, length-append, length_push}, lemmas.List.Elements.{All-append, All-map, All-push, All-weaker, All-tail}}
 use Rattle.std.specs.Int.{w64, int_div_euclid}
-use Rattle.std.proofs.lemmas.List.{get_or-map, length-map, length-append, length_push}
-use Rattle.std.proofs.lemmas.List.Elements.{All-append, All-map, All-push, All-weaker, All-tail}
-use Rattle.smk_base.specs.declared.value.Kind.{Kind}
+use Rattle.smk_base.specs.{declared.value.Kind.Kind, declared.value.Value.Value, Rels.{IsWithin, IsWider, IsColumn, Fits, value_in, bin_of}, Images.ColumnImage, Columns.IsColumnOf}
 use Rattle.smk_base.specs.declared.value.Kind.TheVariants as kinds
-use Rattle.smk_base.specs.declared.value.Value.{Value}
 use Rattle.smk_base.specs.declared.value.Value.TheVariants as values
-use Rattle.smk_base.specs.Rels.{IsWithin, IsWider, IsColumn, Fits, value_in, bin_of}
-use Rattle.smk_base.specs.Images.{ColumnImage}
-use Rattle.smk_base.specs.Columns.{IsColumnOf}
 
 -- a column with the same values
 pub IsColumnOf-same : (n : ℕ) (column now : ColumnImage) → now.kind ≡ column.kind → now.cells ≡ column.cells → IsColumnOf n column → IsColumnOf n now

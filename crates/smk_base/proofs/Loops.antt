@@ -1,6 +1,5 @@
 -- Lists that loops make item by item.
-use Rattle.std.proofs.Common.{◌≡◌, ◌∙◌, ◌<◌, ◌+◌, ◌++◌, ◌∷◌, [], ℕ, List, length, map, take, get_or, ap, sym}
-use Rattle.std.proofs.lemmas.List.{append_assoc, take_more, map_more, map_push}
+use Rattle.std.proofs.{Common.{◌≡◌, ◌∙◌, ◌<◌, ◌+◌, ◌++◌, ◌∷◌, [], ℕ, List, length, map, take, get_or, ap, sym}, lemmas.List.{append_assoc, take_more, map_more, map_push}}
 
 -- one more item behind what stood there before
 pub taken_next : {X : Type 0} (before xs now : List X) (i : ℕ) (x d : X) → i < length xs → x ≡ get_or xs i d → now ≡ before ++ take i xs → now ++ x ∷ [] ≡ before ++ take (i + 1) xs

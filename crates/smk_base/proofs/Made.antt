@@ -1,13 +1,6 @@
 -- Columns made one after the other.
-use Rattle.std.proofs.Common.{◌≡◌, ◌≢◌, ℕ, ◌+◌, ◌<◌, ◌∙◌, List, [], ◌∷◌, ◌++◌, length, get_or, set, refl, arith, inl, inr}
-use Rattle.std.proofs.lemmas.Bool.{cases_eq, cases_lt}
-use Rattle.std.proofs.lemmas.List.{length_push, length-set, get_or_push, get_or_append_left, get_or_read, get_or-set_same, get_or-set_other}
-use Rattle.std.proofs.lemmas.List.Elements.{All-push, All-nil, All-set}
-use Rattle.smk_base.specs.declared.value.Kind.{Kind}
-use Rattle.smk_base.specs.declared.value.Value.{Value}
-use Rattle.smk_base.specs.Images.{ColumnImage}
-use Rattle.smk_base.specs.Columns.{IsColumnOf}
-use Rattle.smk_base.specs.Relations.{column_in, AreMade}
+use Rattle.std.proofs.{Common.{◌≡◌, ◌≢◌, ℕ, ◌+◌, ◌<◌, ◌∙◌, List, [], ◌∷◌, ◌++◌, length, get_or, set, refl, arith, inl, inr}, lemmas.Bool.{cases_eq, cases_lt}, lemmas.List.{length_push, length-set, get_or_push, get_or_append_left, get_or_read, get_or-set_same, get_or-set_other}, lemmas.List.Elements.{All-push, All-nil, All-set}}
+use Rattle.smk_base.specs.{declared.value.Kind.Kind, declared.value.Value.Value, Images.ColumnImage, Columns.IsColumnOf, Relations.{column_in, AreMade}}
 use Rattle.smk_base.proofs.Kept.{IsColumnOf-same}
 
 pub AreMade_none : (count : ℕ) (kind : ℕ → Kind) (cells : ℕ → List Value) → AreMade count 0 kind cells []

@@ -1,12 +1,6 @@
 -- Lists of places: filters of the numbers below n, and lists by their elements.
-use Rattle.std.proofs.Common.{◌≡◌, ◌&&◌, ℕ, zero, suc, ◌+◌, ◌<◌, ◌≤◌, Bool, true, false, cond, not, List, [], ◌∷◌, ◌++◌, length, map, refl, ap, sym, ◌∙◌, arith, get_or, take, nat_eq, zero-add, inl, inr, ◌⊎◌}
+use Rattle.std.proofs.{Common.{◌≡◌, ◌&&◌, ℕ, zero, suc, ◌+◌, ◌<◌, ◌≤◌, Bool, true, false, cond, not, List, [], ◌∷◌, ◌++◌, length, map, refl, ap, sym, ◌∙◌, arith, get_or, take, nat_eq, zero-add, inl, inr, ◌⊎◌}, lemmas.List.{take_more, take_all, map-append, append_assoc, append-nil, get_or-map, length-append, get_or_append_left, get_or_push, same_lists}, lemmas.List.FromFn.{get_or-range_with_len, length-range_with_len}, lemmas.List.Elements.{filter-append, All-filter, All-nil, All-push, All-weaker}, lemmas.Bool.{eqb-true, eq-eqb, ne_eqb, cases_eq, cases_lt, cases_Bool, or_cases, or_left, or_right, false≢true}, lemmas.List.Filters.length-filter_both, lemmas.List.Folds.list_any-append}
 use Rattle.std.specs.List.{flat_map, filter, list_any, All, range_with_len}
-use Rattle.std.proofs.lemmas.List.{take_more, take_all, map-append, append_assoc, append-nil, get_or-map, length-append, get_or_append_left, get_or_push, same_lists}
-use Rattle.std.proofs.lemmas.List.FromFn.{get_or-range_with_len, length-range_with_len}
-use Rattle.std.proofs.lemmas.List.Elements.{filter-append, All-filter, All-nil, All-push, All-weaker}
-use Rattle.std.proofs.lemmas.Bool.{eqb-true, eq-eqb, ne_eqb, cases_eq, cases_lt, cases_Bool, or_cases, or_left, or_right, false≢true}
-use Rattle.std.proofs.lemmas.List.Filters.{length-filter_both}
-use Rattle.std.proofs.lemmas.List.Folds.{list_any-append}
 use Rattle.smk_base.specs.Places.{upto, places, has, IsPlaces}
 
 -- filter, map and flat_map, one after the other

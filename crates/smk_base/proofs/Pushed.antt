@@ -1,20 +1,9 @@
 -- Columns changed one after the other, as by a row that is put into them value by value.
-use Rattle.std.proofs.Common.{◌≡◌, ◌≢◌, ℕ, ◌+◌, ◌<◌, ◌≤◌, List, ◌++◌, length, map, set, refl, sym, subst, ◌∙◌, arith, inl, inr, pos, take, ap, true, All}
-use Rattle.std.proofs.lemmas.Bool.{cases_eq, cases_order}
-use Rattle.std.proofs.lemmas.List.{get_or-map, length-map, length-append, take_all, take-append-le, get_or-set_same, get_or-set_other, length-set}
-use Rattle.std.proofs.lemmas.List.Elements.{All-from_get_or}
-use Rattle.std.proofs.lemmas.Slice.Zip.{AllZip-long}
-use Rattle.smk_base.specs.declared.value.CellRef.{CellRef}
-use Rattle.smk_base.specs.declared.value.Kind.{Kind}
+use Rattle.std.proofs.{Common.{◌≡◌, ◌≢◌, ℕ, ◌+◌, ◌<◌, ◌≤◌, List, ◌++◌, length, map, set, refl, sym, subst, ◌∙◌, arith, inl, inr, pos, take, ap, true, All}, lemmas.Bool.{cases_eq, cases_order}, lemmas.List.{get_or-map, length-map, length-append, take_all, take-append-le, get_or-set_same, get_or-set_other, length-set}, lemmas.List.Elements.All-from_get_or, lemmas.Slice.Zip.AllZip-long}
+use Rattle.smk_base.specs.{declared.value.CellRef.CellRef, declared.value.Kind.Kind, declared.value.Value.Value, Cells.{value_of_cell, cell_in}, Rels.{Fits, RowFits, kind_in, value_in}, Images.ColumnImage, Columns.IsColumnOf, Relations.{column_in, kinds_of, AreMade, AreLonger}}
 use Rattle.smk_base.specs.declared.value.Kind.TheVariants as kinds
-use Rattle.smk_base.specs.declared.value.Value.{Value}
 use Rattle.smk_base.specs.declared.value.Value.TheVariants as values
-use Rattle.smk_base.specs.Cells.{value_of_cell, cell_in}
-use Rattle.smk_base.specs.Rels.{Fits, RowFits, kind_in, value_in}
 use Rattle.smk_base.proofs.RelRows.{AllZip-at}
-use Rattle.smk_base.specs.Images.{ColumnImage}
-use Rattle.smk_base.specs.Columns.{IsColumnOf}
-use Rattle.smk_base.specs.Relations.{column_in, kinds_of, AreMade, AreLonger}
 
 pub wide_row : (columns : List ColumnImage) (row : List Value) → RowFits (kinds_of columns) row → length row ≡ length columns
 wide_row columns row fits = AllZip-long Fits (kinds_of columns) row fits ∙ length-map columns (λ column. column.kind)

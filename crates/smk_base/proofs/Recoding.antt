@@ -1,19 +1,9 @@
 -- Dictionaries of first occurrences.
-use Rattle.std.proofs.Common.{◌≡◌, ℕ, suc, ◌+◌, ◌<◌, ◌≤◌, false, List, [], ◌∷◌, ◌++◌, length, map, get_or, refl, Some, ap, sym, subst, ◌∙◌, arith, inl, inr, All, set, replicate, take, drop, max}
-use Rattle.std.specs.Cmp.{decided}
-use Rattle.std.proofs.lemmas.Map.Keys.{IsDistinct-push, IsDistinct-from_apart}
-use Rattle.std.specs.Prelude.{fold}
-use Rattle.std.specs.List.{list_any, slice_get}
-use Rattle.std.proofs.lemmas.Bool.{cases_Bool, cases_eq, cases_lt}
-use Rattle.std.proofs.lemmas.List.{get_or-map, map_push, length_push, length-map, get_or-set_same, get_or-set_other, length-set, get_or-replicate, length-replicate, ext_get_or, take_more, take-map, take-append-drop, length-take, length-take-le, get_or-take, get_or_push}
-use Rattle.std.proofs.lemmas.List.Sums.{fold-append, fold_push}
-use Rattle.std.proofs.lemmas.List.Elements.{All-push, All-from_get_or}
-use Rattle.std.proofs.lemmas.List.Quantifiers.{position-Some}
-use Rattle.std.proofs.lemmas.Option.{slice_get-get_or}
+use Rattle.std.proofs.{Common.{◌≡◌, ℕ, suc, ◌+◌, ◌<◌, ◌≤◌, false, List, [], ◌∷◌, ◌++◌, length, map, get_or, refl, Some, ap, sym, subst, ◌∙◌, arith, inl, inr, All, set, replicate, take, drop, max}, lemmas.Map.Keys.{IsDistinct-push, IsDistinct-from_apart}, lemmas.Bool.{cases_Bool, cases_eq, cases_lt}, lemmas.List.{get_or-map, map_push, length_push, length-map, get_or-set_same, get_or-set_other, length-set, get_or-replicate, length-replicate, ext_get_or, take_more, take-map, take-append-drop, length-take, length-take-le, get_or-take, get_or_push}, lemmas.List.Sums.{fold-append, fold_push}, lemmas.List.Elements.{All-push, All-from_get_or}, lemmas.List.Quantifiers.position-Some, lemmas.Option.slice_get-get_or}
+use Rattle.std.specs.{Cmp.decided, Prelude.fold, List.{list_any, slice_get}}
 use Rattle.indexmap.proofs.MapLemmas.{distinct-take}
-use Rattle.smk_base.specs.Dicts.{text_eq, code_in, code_or_last, with_text, AreTexts}
+use Rattle.smk_base.specs.{Dicts.{text_eq, code_in, code_or_last, with_text, AreTexts}, TextColumns.{text_in, text_firsts, texts_at, AreCodes, AreRecoded}}
 use Rattle.smk_base.proofs.Codes.{added, kept, with_text-there, with_text-behind, with_text-among, code-at, text_same}
-use Rattle.smk_base.specs.TextColumns.{text_in, text_firsts, texts_at, AreCodes, AreRecoded}
 
 pub text_firsts_push : (texts : List (List ℕ)) (t : List ℕ) → text_firsts (texts ++ t ∷ []) ≡ with_text (text_firsts texts) t
 text_firsts_push texts t = fold_push with_text [] texts t

@@ -1,9 +1,7 @@
 -- Rows that fit.
 use Rattle.std.proofs.Common.{◌<◌, ℕ, zero, suc, List, [], ◌∷◌, length, get_or, arith, All}
 use Rattle.std.specs.List.{AllZip}
-use Rattle.smk_base.specs.declared.value.Value.{Value}
-use Rattle.smk_base.specs.declared.value.Kind.{Kind}
-use Rattle.smk_base.specs.Rels.{Fits, RowFits, kind_in, row_in, value_in}
+use Rattle.smk_base.specs.{declared.value.Value.Value, declared.value.Kind.Kind, Rels.{Fits, RowFits, kind_in, row_in, value_in}}
 
 pub AllZip-at : {A B : Type 0} (R : A → B → Type 0) (xs : List A) (ys : List B) (i : ℕ) (d : A) (e : B) → AllZip R xs ys → i < length xs → R (get_or xs i d) (get_or ys i e)
 AllZip-at R [] ys i d e all p = absurd (omega arith)

@@ -1,24 +1,10 @@
 -- The relations that the bulk calls make.
-use Rattle.std.proofs.Common.{◌≡◌, ℕ, ℤ, ◌+◌, ◌-◌, ◌<◌, ◌≤◌, List, [], ◌∷◌, ◌++◌, length, map, get_or, refl, ap, sym, subst, ◌∙◌, arith, All, inl, inr, pos, take, None, true}
+use Rattle.std.proofs.{Common.{◌≡◌, ℕ, ℤ, ◌+◌, ◌-◌, ◌<◌, ◌≤◌, List, [], ◌∷◌, ◌++◌, length, map, get_or, refl, ap, sym, subst, ◌∙◌, arith, All, inl, inr, pos, take, None, true}, lemmas.Bool.cases_lt, lemmas.List.{get_or-map, length-map, length-append, length_push, get_or_push, get_or_append_left, get_or-append_right, get_or-take, length-take-le, map-append, map-id, ext_get_or}, lemmas.List.Elements.{All-append, All-map, length_all_zip}, lemmas.List.FromFn.fill_by_all, lemmas.Simd.map-map}
 use Rattle.std.specs.List.{range_with_len, AllZip}
-use Rattle.std.proofs.lemmas.Bool.{cases_lt}
-use Rattle.std.proofs.lemmas.List.{get_or-map, length-map, length-append, length_push, get_or_push, get_or_append_left, get_or-append_right, get_or-take, length-take-le, map-append, map-id, ext_get_or}
-use Rattle.std.proofs.lemmas.List.Elements.{All-append, All-map, length_all_zip}
-use Rattle.std.proofs.lemmas.List.FromFn.{fill_by_all}
-use Rattle.std.proofs.lemmas.Simd.{map-map}
-use Rattle.smk_base.specs.declared.value.Kind.{Kind}
+use Rattle.smk_base.specs.{declared.value.Kind.Kind, declared.value.Value.Value, Rels.{Relation, Fits, RowFits, IsWider, AreCodesOf, kind_in, row_in, value_in, column_values, text_of, column_texts, bin_of, picked, rows_at, beside_rows}, Dicts.code_or_last, TextColumns.text_in, Images.ColumnImage, Columns.IsColumnOf, Relations.{column_in, kinds_of, row_at, rows_of, relation_of, AreColumns, AreMade}}
 use Rattle.smk_base.specs.declared.value.Kind.TheVariants as kinds
-use Rattle.smk_base.specs.declared.value.Value.{Value}
 use Rattle.smk_base.specs.declared.value.Value.TheVariants as values
-use Rattle.smk_base.specs.Rels.{Relation, Fits, RowFits, IsWider, AreCodesOf, kind_in, row_in, value_in, column_values, text_of, column_texts, bin_of, picked, rows_at, beside_rows}
-use Rattle.smk_base.specs.Dicts.{code_or_last}
-use Rattle.smk_base.specs.TextColumns.{text_in}
-use Rattle.smk_base.proofs.RelRows.{AllZip-at}
-use Rattle.smk_base.specs.Images.{ColumnImage}
-use Rattle.smk_base.specs.Columns.{IsColumnOf}
-use Rattle.smk_base.specs.Relations.{column_in, kinds_of, row_at, rows_of, relation_of, AreColumns, AreMade}
-use Rattle.smk_base.proofs.Pushed.{kind_in-kinds_of, wide_row}
-use Rattle.smk_base.proofs.Rows.{length-rows_of, row_in-rows_of, value_in-rows_of, relation_made}
+use Rattle.smk_base.proofs.{RelRows.AllZip-at, Pushed.{kind_in-kinds_of, wide_row}, Rows.{length-rows_of, row_in-rows_of, value_in-rows_of, relation_made}}
 
 abbrev none : Value
 none = values.Int (pos 0)

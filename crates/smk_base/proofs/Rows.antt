@@ -1,16 +1,8 @@
 -- Rows of columns.
-use Rattle.std.proofs.Common.{◌≡◌, ℕ, ◌<◌, ◌≤◌, List, [], ◌∷◌, length, ap, sym, ◌∙◌, arith, All, pos}
-use Rattle.std.proofs.lemmas.List.{get_or-map, length-map, ext_get_or}
-use Rattle.std.proofs.lemmas.List.Elements.{All-map, All-head, All-tail}
-use Rattle.std.proofs.lemmas.List.FromFn.{length-map-range_with_len, get_or-map-range_with_len, fill_by_all}
-use Rattle.smk_base.specs.declared.value.Kind.{Kind}
+use Rattle.std.proofs.{Common.{◌≡◌, ℕ, ◌<◌, ◌≤◌, List, [], ◌∷◌, length, ap, sym, ◌∙◌, arith, All, pos}, lemmas.List.{get_or-map, length-map, ext_get_or}, lemmas.List.Elements.{All-map, All-head, All-tail}, lemmas.List.FromFn.{length-map-range_with_len, get_or-map-range_with_len, fill_by_all}}
+use Rattle.smk_base.specs.{declared.value.Kind.Kind, declared.value.Value.Value, Rels.{Relation, IsRelation, IsColumn, RowFits, kind_in, row_in, value_in}, Images.ColumnImage, Columns.IsColumnOf, Relations.{column_in, kinds_of, row_at, rows_of, relation_of, AreColumns, AreMade}}
 use Rattle.smk_base.specs.declared.value.Kind.TheVariants as kinds
-use Rattle.smk_base.specs.declared.value.Value.{Value}
 use Rattle.smk_base.specs.declared.value.Value.TheVariants as values
-use Rattle.smk_base.specs.Rels.{Relation, IsRelation, IsColumn, RowFits, kind_in, row_in, value_in}
-use Rattle.smk_base.specs.Images.{ColumnImage}
-use Rattle.smk_base.specs.Columns.{IsColumnOf}
-use Rattle.smk_base.specs.Relations.{column_in, kinds_of, row_at, rows_of, relation_of, AreColumns, AreMade}
 use Rattle.smk_base.proofs.Pushed.{kind_in-kinds_of}
 
 pub length-rows_of : (n : ℕ) (columns : List ColumnImage) → length (rows_of n columns) ≡ n

@@ -1,8 +1,6 @@
 -- The first place at which a test passes, looked for item by item.
-use Rattle.std.proofs.Common.{◌≡◌, ◌∙◌, ℕ, ◌+◌, ◌<◌, ◌≤◌, Bool, true, false, not, List, length, drop, get_or, position, Some, None, refl, ap, arith}
+use Rattle.std.proofs.{Common.{◌≡◌, ◌∙◌, ℕ, ◌+◌, ◌<◌, ◌≤◌, Bool, true, false, not, List, length, drop, get_or, position, Some, None, refl, ap, arith}, lemmas.Bool.{lt-ltb, le-ltb}, lemmas.List.Sums.{prefix_len-drop_yes, prefix_len-drop_no}}
 use Rattle.std.specs.List.{position_or_len}
-use Rattle.std.proofs.lemmas.Bool.{lt-ltb, le-ltb}
-use Rattle.std.proofs.lemmas.List.Sums.{prefix_len-drop_yes, prefix_len-drop_no}
 
 -- the test fails here, and is looked at behind
 pub place_next : {X : Type 0} (p : X → Bool) (xs : List X) (i : ℕ) (d : X) → i < length xs → p (get_or xs i d) ≡ false → position_or_len p xs ≡ i + position_or_len p (drop i xs)

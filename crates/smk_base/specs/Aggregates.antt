@@ -1,7 +1,6 @@
 -- The column that an aggregate reads, and the aggregates over other columns that stand for it.
 use Rattle.std.specs.Prelude.{ℕ, Option, Some, None}
-use Rattle.smk_base.specs.declared.book.plan.Agg.{Agg}
-use Rattle.smk_base.specs.declared.book.plan.Agg.TheVariants.{Count, Sum, Min, Max}
+use Rattle.smk_base.specs.{declared.book.plan.Agg.Agg, declared.book.plan.Agg.TheVariants.{Count, Sum, Min, Max}}
 
 -- the column that an aggregate reads
 abbrev pub read_by : Agg → Option ℕ

@@ -1,13 +1,6 @@
 -- Rows that grow value by value.
-use Rattle.std.specs.Prelude.{ℕ, ◌+◌, ◌<◌, ◌≤◌, List, length, map}
-use Rattle.std.specs.List.{range_with_len}
-use Rattle.smk_base.specs.declared.value.Kind.{Kind}
-use Rattle.smk_base.specs.declared.value.Value.{Value}
-use Rattle.smk_base.specs.Rels.{value_in}
-use Rattle.smk_base.specs.Images.{ColumnImage}
-use Rattle.smk_base.specs.Columns.{IsColumnOf}
-use Rattle.smk_base.specs.Relations.{column_in, kinds_of, rows_of}
-use Rattle.smk_base.specs.declared.rel.TheConstants.{COLUMN_LIMIT, ROW_LIMIT}
+use Rattle.std.specs.{Prelude.{ℕ, ◌+◌, ◌<◌, ◌≤◌, List, length, map}, List.range_with_len}
+use Rattle.smk_base.specs.{declared.value.Kind.Kind, declared.value.Value.Value, Rels.value_in, Images.ColumnImage, Columns.IsColumnOf, Relations.{column_in, kinds_of, rows_of}, declared.rel.TheConstants.{COLUMN_LIMIT, ROW_LIMIT}}
 
 -- the kinds, the whole rows, and the first values of the row that was begun
 pub record RowsBegun : Type 0 where

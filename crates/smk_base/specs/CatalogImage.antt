@@ -1,15 +1,6 @@
 -- A checked book as the definitions see it: plans without where they lie in memory.
 use Rattle.std.specs.Prelude.{ℕ, List, map, Option, position}
-use Rattle.smk_base.specs.declared.value.Kind.{Kind}
-use Rattle.smk_base.specs.declared.book.catalog.Catalog.{Catalog}
-use Rattle.smk_base.specs.declared.book.catalog.TableInfo.{TableInfo}
-use Rattle.smk_base.specs.declared.book.catalog.ViewInfo.{ViewInfo}
-use Rattle.smk_base.specs.declared.book.catalog.Back.{Back}
-use Rattle.smk_base.specs.declared.book.catalog.Fwd.{Fwd}
-use Rattle.smk_base.specs.declared.book.catalog.LinkInfo.{LinkInfo}
-use Rattle.smk_base.specs.Dicts.{text_eq}
-use Rattle.smk_base.specs.Plans.{Expr}
-use Rattle.smk_base.specs.PlanImage.{expr_of}
+use Rattle.smk_base.specs.{declared.value.Kind.Kind, declared.book.catalog.Catalog.Catalog, declared.book.catalog.TableInfo.TableInfo, declared.book.catalog.ViewInfo.ViewInfo, declared.book.catalog.Back.Back, declared.book.catalog.Fwd.Fwd, declared.book.catalog.LinkInfo.LinkInfo, Dicts.text_eq, Plans.Expr, PlanImage.expr_of}
 
 -- a view
 pub record ViewImage : Type 0 where

@@ -1,8 +1,7 @@
 -- Cells against values.
 use Rattle.std.specs.Prelude.{ℕ, List, pos, slice_index_or}
-use Rattle.smk_base.specs.declared.value.Value.{Value}
+use Rattle.smk_base.specs.{declared.value.Value.Value, declared.value.CellRef.CellRef}
 use Rattle.smk_base.specs.declared.value.Value.TheVariants as values
-use Rattle.smk_base.specs.declared.value.CellRef.{CellRef}
 use Rattle.smk_base.specs.declared.value.CellRef.TheVariants as cells
 
 -- the int or the text of a cell

@@ -1,10 +1,7 @@
 -- Columns of values.
 use Rattle.std.specs.Prelude.{◌≡◌, ℕ, ◌<◌, ◌≤◌, Some, length, All}
 use Rattle.smk_base.specs.declared.value.Kind.TheVariants as kinds
-use Rattle.smk_base.specs.declared.value.Value.{Value}
-use Rattle.smk_base.specs.Rels.{IsColumn, Fits, text_of}
-use Rattle.smk_base.specs.Images.{ColumnImage}
-use Rattle.smk_base.specs.declared.rel.TheConstants.{ROW_LIMIT}
+use Rattle.smk_base.specs.{declared.value.Value.Value, Rels.{IsColumn, Fits, text_of}, Images.ColumnImage, declared.rel.TheConstants.ROW_LIMIT}
 
 -- values of the column's kind for this many rows
 pub record IsColumnOf (count : ℕ) (column : ColumnImage) : Type 0 where

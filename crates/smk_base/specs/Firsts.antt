@@ -1,6 +1,5 @@
 -- The members of a list, each at its first occurrence, where some members count as equal.
-use Rattle.std.specs.Prelude.{Bool, List, [], ◌∷◌, ◌++◌, fold, if◌then◌else◌}
-use Rattle.std.specs.List.{list_any}
+use Rattle.std.specs.{Prelude.{Bool, List, [], ◌∷◌, ◌++◌, fold, if◌then◌else◌}, List.list_any}
 
 -- with this member: as they are where an equal one is there, else with it last
 abbrev pub with_item : {X : Type 0} → (X → X → Bool) → List X → X → List X

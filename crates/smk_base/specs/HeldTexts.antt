@@ -1,9 +1,6 @@
 -- Where the texts of a dictionary lie.
 use Rattle.std.specs.Prelude.{◌-◌, min, vec_len, vec_capacity}
-use Rattle.smk_base.specs.Dicts.{DictImage, texts_of}
-use Rattle.smk_base.specs.declared.rel.dict.Held.{Held}
-use Rattle.smk_base.specs.declared.rel.dict.Held.TheVariants.{Few, Many}
-use Rattle.smk_base.specs.declared.rel.dict.TheConstants.{FEW}
+use Rattle.smk_base.specs.{Dicts.{DictImage, texts_of}, declared.rel.dict.Held.Held, declared.rel.dict.Held.TheVariants.{Few, Many}, declared.rel.dict.TheConstants.FEW}
 
 -- the texts, and how many more fit without memory: a list takes a few
 abbrev pub dict_held : Held → DictImage

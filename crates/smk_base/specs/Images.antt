@@ -1,7 +1,6 @@
 -- What contracts see of a column.
 use Rattle.std.specs.Prelude.{ℕ, Bool, List, Option}
-use Rattle.smk_base.specs.declared.value.Kind.{Kind}
-use Rattle.smk_base.specs.declared.value.Value.{Value}
+use Rattle.smk_base.specs.{declared.value.Kind.Kind, declared.value.Value.Value}
 
 -- the kind and the values of a column, how many more fit without memory, the text that does, and whether no copy shares the values
 pub record ColumnImage : Type 0 where

@@ -1,7 +1,6 @@
 -- The numbers of a column of ints.
 use Rattle.std.specs.Prelude.{ℤ, List}
-use Rattle.smk_base.specs.declared.rel.value_column.Ints.{Ints}
-use Rattle.smk_base.specs.declared.rel.value_column.Ints.TheVariants.{Small, Wide}
+use Rattle.smk_base.specs.{declared.rel.value_column.Ints.Ints, declared.rel.value_column.Ints.TheVariants.{Small, Wide}}
 
 -- the numbers, whatever their width in memory
 abbrev pub numbers_of : Ints → List ℤ

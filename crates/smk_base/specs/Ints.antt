@@ -1,9 +1,5 @@
 -- The int that a field's bytes write.
-use Rattle.std.specs.Prelude.{◌≡◌, ℕ, ◌^◌, ◌==◌, ◌||◌, ◌&&◌, Bool, nat_lt, ℤ, pos, negsuc, FitsSigned, List, [], ◌∷◌, ◌++◌, length, Option, Some, None, if◌then◌else◌, IsTrue}
-use Rattle.std.specs.List.{list_all}
-use Rattle.std.specs.Str.{all_ascii_digits}
-use Rattle.std.specs.Str.Parse.{without_leading_sign, signed_digits_value}
-use Rattle.std.specs.Int.{w64}
+use Rattle.std.specs.{Prelude.{◌≡◌, ℕ, ◌^◌, ◌==◌, ◌||◌, ◌&&◌, Bool, nat_lt, ℤ, pos, negsuc, FitsSigned, List, [], ◌∷◌, ◌++◌, length, Option, Some, None, if◌then◌else◌, IsTrue}, List.list_all, Str.all_ascii_digits, Str.Parse.{without_leading_sign, signed_digits_value}, Int.w64}
 
 -- a space or a tab
 abbrev pub is_blank : ℕ → Bool

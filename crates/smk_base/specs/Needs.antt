@@ -1,8 +1,6 @@
 -- The tables whose lineage is needed.
 use Rattle.std.specs.Prelude.{◌||◌, Bool, IsTrue, List, map, All}
-use Rattle.smk_base.specs.Picks.{IsAscending}
-use Rattle.smk_base.specs.declared.book.need.Needed.{Needed}
-use Rattle.smk_base.specs.declared.book.plan.Dir.{Dir}
+use Rattle.smk_base.specs.{Picks.IsAscending, declared.book.need.Needed.Needed, declared.book.plan.Dir.Dir}
 
 -- whether some direction is asked for
 abbrev pub some_direction : Dir → Bool

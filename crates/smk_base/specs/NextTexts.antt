@@ -1,7 +1,6 @@
 -- The text that a column of texts takes next.
 use Rattle.std.specs.Prelude.{ℕ, List, Option, Some, None, slice_get, nat_lt, if◌then◌else◌}
-use Rattle.smk_base.specs.declared.rel.text_column.Next.{Next}
-use Rattle.smk_base.specs.declared.rel.text_column.Next.TheVariants.{Nothing, Known, New}
+use Rattle.smk_base.specs.{declared.rel.text_column.Next.Next, declared.rel.text_column.Next.TheVariants.{Nothing, Known, New}}
 
 -- the text that can be put last, in a column with this dictionary and room for so many new texts in it
 abbrev pub next_text : List (List ℕ) → ℕ → Next → Option (List ℕ)

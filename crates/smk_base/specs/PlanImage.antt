@@ -1,13 +1,5 @@
 -- Predicates, steps and plans as the definitions see them.
-use Rattle.smk_base.specs.Plans.{Formula, Comparison, Conjunction, Disjunction, Negation, Unary, Selection, Projection, Distinction, Grouping, Binary, Equijoin, ThetaJoin, CrossProduct, BagUnion, SetUnion, Expr, Leaf, Apply, Combine}
-use Rattle.smk_base.specs.declared.book.plan.Pred.{Pred, And', Or', Not'}
-use Rattle.smk_base.specs.declared.book.plan.Pred.TheVariants.{Cmp}
-use Rattle.smk_base.specs.declared.book.plan.Op1.{Op1}
-use Rattle.smk_base.specs.declared.book.plan.Op1.TheVariants.{Select, Project, Distinct, Group}
-use Rattle.smk_base.specs.declared.book.plan.Op2.{Op2}
-use Rattle.smk_base.specs.declared.book.plan.Op2.TheVariants.{Join, Theta, Product, UnionAll, Union}
-use Rattle.smk_base.specs.declared.book.plan.Plan.{Plan, One', Two'}
-use Rattle.smk_base.specs.declared.book.plan.Plan.TheVariants.{Scan}
+use Rattle.smk_base.specs.{Plans.{Formula, Comparison, Conjunction, Disjunction, Negation, Unary, Selection, Projection, Distinction, Grouping, Binary, Equijoin, ThetaJoin, CrossProduct, BagUnion, SetUnion, Expr, Leaf, Apply, Combine}, declared.book.plan.Pred.{Pred, And', Or', Not'}, declared.book.plan.Pred.TheVariants.Cmp, declared.book.plan.Op1.Op1, declared.book.plan.Op1.TheVariants.{Select, Project, Distinct, Group}, declared.book.plan.Op2.Op2, declared.book.plan.Op2.TheVariants.{Join, Theta, Product, UnionAll, Union}, declared.book.plan.Plan.{Plan, One', Two'}, declared.book.plan.Plan.TheVariants.Scan}
 
 -- each without where it lies in memory
 abbrev pub formula_of : Pred → Formula

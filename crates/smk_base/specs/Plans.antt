@@ -1,9 +1,6 @@
 -- Predicates, steps and plans without where they lie in memory: the data that the definitions of meaning are over.
 use Rattle.std.specs.Prelude.{ℕ, List}
-use Rattle.smk_base.specs.declared.book.plan.CmpOp.{CmpOp}
-use Rattle.smk_base.specs.declared.book.plan.Operand.{Operand}
-use Rattle.smk_base.specs.declared.book.plan.Item.{Item}
-use Rattle.smk_base.specs.declared.book.plan.Agg.{Agg}
+use Rattle.smk_base.specs.{declared.book.plan.CmpOp.CmpOp, declared.book.plan.Operand.Operand, declared.book.plan.Item.Item, declared.book.plan.Agg.Agg}
 
 -- a test of a row, as a formula over comparisons
 pub data Formula : Type 0 where

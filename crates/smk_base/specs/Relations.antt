@@ -1,13 +1,7 @@
 -- Relations as columns beside each other.
-use Rattle.std.specs.Prelude.{◌≡◌, ℕ, ◌<◌, ◌≤◌, true, List, [], length, map, take, None, slice_index_or, All}
-use Rattle.std.specs.List.{range_with_len}
-use Rattle.smk_base.specs.declared.value.Kind.{Kind}
+use Rattle.std.specs.{Prelude.{◌≡◌, ℕ, ◌<◌, ◌≤◌, true, List, [], length, map, take, None, slice_index_or, All}, List.range_with_len}
+use Rattle.smk_base.specs.{declared.value.Kind.Kind, declared.value.Value.Value, Rels.{Relation, value_in}, Images.ColumnImage, Columns.IsColumnOf, declared.rel.TheConstants.{COLUMN_LIMIT, ROW_LIMIT}}
 use Rattle.smk_base.specs.declared.value.Kind.TheVariants as kinds
-use Rattle.smk_base.specs.declared.value.Value.{Value}
-use Rattle.smk_base.specs.Rels.{Relation, value_in}
-use Rattle.smk_base.specs.Images.{ColumnImage}
-use Rattle.smk_base.specs.Columns.{IsColumnOf}
-use Rattle.smk_base.specs.declared.rel.TheConstants.{COLUMN_LIMIT, ROW_LIMIT}
 
 -- column c
 abbrev pub column_in : List ColumnImage → ℕ → ColumnImage

@@ -1,12 +1,8 @@
 -- What a Rel means: kinds of columns and rows of values that fit them.
-use Rattle.std.specs.Prelude.{◌≡◌, ℕ, zero, suc, ◌+◌, ◌*◌, ◌^◌, ◌<◌, ◌≤◌, ℤ, pos, neg_ℤ, ◌≤ℤ◌, ◌+ℤ◌, FitsSigned, List, [], ◌∷◌, ◌++◌, length, map, slice_index, slice_index_or, All}
-use Rattle.std.specs.List.{AllZip}
-use Rattle.std.specs.Int.{w64, int_div_euclid}
-use Rattle.smk_base.specs.declared.value.Kind.{Kind}
+use Rattle.std.specs.{Prelude.{◌≡◌, ℕ, zero, suc, ◌+◌, ◌*◌, ◌^◌, ◌<◌, ◌≤◌, ℤ, pos, neg_ℤ, ◌≤ℤ◌, ◌+ℤ◌, FitsSigned, List, [], ◌∷◌, ◌++◌, length, map, slice_index, slice_index_or, All}, List.AllZip, Int.{w64, int_div_euclid}}
+use Rattle.smk_base.specs.{declared.value.Kind.Kind, declared.value.Value.Value, declared.rel.TheConstants.{COLUMN_LIMIT, ROW_LIMIT}}
 use Rattle.smk_base.specs.declared.value.Kind.TheVariants as kinds
-use Rattle.smk_base.specs.declared.value.Value.{Value}
 use Rattle.smk_base.specs.declared.value.Value.TheVariants as values
-use Rattle.smk_base.specs.declared.rel.TheConstants.{COLUMN_LIMIT, ROW_LIMIT}
 
 -- kinds and rows
 pub record Relation : Type 0 where

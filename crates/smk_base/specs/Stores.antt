@@ -1,14 +1,8 @@
 -- A column as it lies in memory.
 use Rattle.std.specs.Prelude.{ℕ, ◌-◌, true, List, map, Option, None, vec_len, vec_capacity}
-use Rattle.smk_base.specs.declared.value.Kind.{Kind}
+use Rattle.smk_base.specs.{declared.value.Kind.Kind, declared.value.Value.Value, declared.rel.value_column.Store.Store, declared.rel.value_column.Store.TheVariants.{Small, Wide, Texts}, Images.ColumnImage, NextTexts.next_text, TextColumns.text_firsts}
 use Rattle.smk_base.specs.declared.value.Kind.TheVariants as kinds
-use Rattle.smk_base.specs.declared.value.Value.{Value}
 use Rattle.smk_base.specs.declared.value.Value.TheVariants as values
-use Rattle.smk_base.specs.declared.rel.value_column.Store.{Store}
-use Rattle.smk_base.specs.declared.rel.value_column.Store.TheVariants.{Small, Wide, Texts}
-use Rattle.smk_base.specs.Images.{ColumnImage}
-use Rattle.smk_base.specs.NextTexts.{next_text}
-use Rattle.smk_base.specs.TextColumns.{text_firsts}
 
 abbrev pub kind_in_store : Store → Kind
 kind_in_store (Small ints) = kinds.Int 0

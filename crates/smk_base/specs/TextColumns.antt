@@ -1,9 +1,6 @@
 -- Columns of texts.
 use Rattle.std.specs.Prelude.{◌≡◌, ℕ, ◌<◌, ◌≤◌, List, [], length, map, fold, slice_index, slice_index_or, All}
-use Rattle.smk_base.specs.Dicts.{text_eq, with_text}
-use Rattle.smk_base.specs.Firsts.{first_items}
-use Rattle.smk_base.specs.declared.rel.TheConstants.{ROW_LIMIT}
-use Rattle.smk_base.specs.declared.rel.text_column.TheConstants.{NO_CODE}
+use Rattle.smk_base.specs.{Dicts.{text_eq, with_text}, Firsts.first_items, declared.rel.TheConstants.ROW_LIMIT, declared.rel.text_column.TheConstants.NO_CODE}
 
 -- the texts of a column, how many more fit without memory, and how many of them may be new
 pub record TextImage : Type 0 where

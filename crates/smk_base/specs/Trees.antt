@@ -1,15 +1,6 @@
 -- Books and lines as they are written, without where they lie in memory: the data that the definitions of the grammar and of the typing are over. Parts that hold no box stand as they are declared.
 use Rattle.std.specs.Prelude.{ℕ, List}
-use Rattle.smk_base.specs.declared.book.plan.CmpOp.{CmpOp}
-use Rattle.smk_base.specs.declared.book.tree.Word.{Word}
-use Rattle.smk_base.specs.declared.book.tree.Decl.{Decl}
-use Rattle.smk_base.specs.declared.book.tree.Extra.{Extra}
-use Rattle.smk_base.specs.declared.book.tree.ItemTree.{ItemTree}
-use Rattle.smk_base.specs.declared.book.tree.AggTree.{AggTree}
-use Rattle.smk_base.specs.declared.book.tree.PairTree.{PairTree}
-use Rattle.smk_base.specs.declared.book.tree.Term.{Term}
-use Rattle.smk_base.specs.declared.book.tree.Marks.{Marks}
-use Rattle.smk_base.specs.declared.book.tree.Line.{Line}
+use Rattle.smk_base.specs.{declared.book.plan.CmpOp.CmpOp, declared.book.tree.Word.Word, declared.book.tree.Decl.Decl, declared.book.tree.Extra.Extra, declared.book.tree.ItemTree.ItemTree, declared.book.tree.AggTree.AggTree, declared.book.tree.PairTree.PairTree, declared.book.tree.Term.Term, declared.book.tree.Marks.Marks, declared.book.tree.Line.Line}
 
 -- a predicate
 pub data PredImage : Type 0 where

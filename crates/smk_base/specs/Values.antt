@@ -1,13 +1,8 @@
 -- When two values are the same, and what a value feeds a hasher.
-use Rattle.std.specs.Prelude.{◌≡◌, Bool, false, nat_eq, ◌++◌, Decides}
-use Rattle.std.specs.Ordering.{int_eq}
-use Rattle.std.specs.Cmp.{unsigned_Decides, signed_Decides}
-use Rattle.std.specs.Cmp.Lexicographic.{pointwise}
+use Rattle.std.specs.{Prelude.{◌≡◌, Bool, false, nat_eq, ◌++◌, Decides}, Ordering.int_eq, Cmp.{unsigned_Decides, signed_Decides}, Cmp.Lexicographic.pointwise}
 use Rattle.std.specs.Hash as fed
-use Rattle.std.proofs.Common.{refl, ap, sym, true≢false}
-use Rattle.std.proofs.lemmas.Slice.Eq.{slice_eq-Decides}
-use Rattle.smk_base.specs.declared.value.Value.{Value}
-use Rattle.smk_base.specs.declared.value.Value.TheVariants.{Int, Text}
+use Rattle.std.proofs.{Common.{refl, ap, sym, true≢false}, lemmas.Slice.Eq.slice_eq-Decides}
+use Rattle.smk_base.specs.{declared.value.Value.Value, declared.value.Value.TheVariants.{Int, Text}}
 
 -- whether two values are the same int or the same text
 abbrev pub value_eq : Value → Value → Bool

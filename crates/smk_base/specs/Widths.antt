@@ -1,7 +1,6 @@
 -- Two kinds beside each other: whether they are alike, and the kind that holds the values of both.
 use Rattle.std.specs.Prelude.{T, max, Bool, true, false}
-use Rattle.smk_base.specs.declared.value.Kind.{Kind}
-use Rattle.smk_base.specs.declared.value.Kind.TheVariants.{Int, Text}
+use Rattle.smk_base.specs.{declared.value.Kind.Kind, declared.value.Kind.TheVariants.{Int, Text}}
 
 -- whether both are ints or both texts; levels may differ
 abbrev pub same_sort : Kind → Kind → Bool

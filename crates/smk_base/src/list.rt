@@ -98,8 +98,7 @@ impl<T: Copied> ListOf<T> {
 }
 
 impl<T: PartialEq> PartialEq for ListOf<T> {
-    ghost use Rattle.std.specs.Cmp.Lexicographic.{pointwise};
-    ghost use Rattle.std.specs.Cmp.Rules.{comparing};
+    ghost use Rattle.std.specs.{Cmp.Lexicographic.pointwise, Cmp.Rules.comparing};
     ghost use Rattle.std.proofs.Common.{rules};
 
     ghost eq = { pointwise T.eq };

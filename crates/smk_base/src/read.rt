@@ -1,8 +1,6 @@
 //! What files are read by: the ints of fields, and the byte order marks at a file's front.
-ghost use Rattle.std.specs.Prelude.{◌≡◌, ◌<◌, ◌^◌, Some, None, IfSome, IfNone, IsTrue, IsFalse, ℤ, pos, neg_ℤ, if◌then◌else◌};
-ghost use Rattle.std.specs.Str.Parse.{digits_value, starts_with_minus, without_leading_sign};
-ghost use Rattle.smk_base.specs.Ints.{after_blanks, before_blanks, int_of, is_blank, is_i64, is_numeral, numeral_int, IsIntText};
-ghost use Rattle.smk_base.specs.Marks.{after_marks, begins_with_mark};
+ghost use Rattle.std.specs.{Prelude.{◌≡◌, ◌<◌, ◌^◌, Some, None, IfSome, IfNone, IsTrue, IsFalse, ℤ, pos, neg_ℤ, if◌then◌else◌}, Str.Parse.{digits_value, starts_with_minus, without_leading_sign}};
+ghost use Rattle.smk_base.specs.{Ints.{after_blanks, before_blanks, int_of, is_blank, is_i64, is_numeral, numeral_int, IsIntText}, Marks.{after_marks, begins_with_mark}};
 
 // A number from here on takes no further digit in the range of i64.
 const LEAST_FULL: u64 = 1_000_000_000_000_000_000;

@@ -1,12 +1,5 @@
-ghost use Rattle.std.specs.Prelude.{◌≡◌, ◌≢◌, ◌+◌, ◌<◌, ◌≤◌, ◌≤ℤ◌, [], ◌∷◌, ◌++◌, length, map, take, pos, All, IfOk, OnOk, OnErr, vec_len};
-ghost use Rattle.std.specs.List.{AllZip};
-ghost use Rattle.smk_base.specs.Cells.{value_of_cell};
-ghost use Rattle.smk_base.specs.Columns.{IsColumnOf};
-ghost use Rattle.smk_base.specs.Dicts.{code_or_last};
-ghost use Rattle.smk_base.specs.IntColumns.{numbers_of};
-ghost use Rattle.smk_base.specs.Relations.{AreColumns, relation_of};
-ghost use Rattle.smk_base.specs.Rels.{IsRelation, RowFits, Fits, IsColumn, IsWithin, IsWider, AreCodesOf, kind_in, row_in, value_in, column_values, text_of, column_texts, bin_of, rows_at, picked, beside_rows};
-ghost use Rattle.smk_base.specs.TextColumns.{text_firsts, text_in};
+ghost use Rattle.std.specs.{Prelude.{◌≡◌, ◌≢◌, ◌+◌, ◌<◌, ◌≤◌, ◌≤ℤ◌, [], ◌∷◌, ◌++◌, length, map, take, pos, All, IfOk, OnOk, OnErr, vec_len}, List.AllZip};
+ghost use Rattle.smk_base.specs.{Cells.value_of_cell, Columns.IsColumnOf, Dicts.code_or_last, IntColumns.numbers_of, Relations.{AreColumns, relation_of}, Rels.{IsRelation, RowFits, Fits, IsColumn, IsWithin, IsWider, AreCodesOf, kind_in, row_in, value_in, column_values, text_of, column_texts, bin_of, rows_at, picked, beside_rows}, TextColumns.{text_firsts, text_in}};
 ghost use Rattle.smk_base.specs.declared.value.Kind.TheVariants as kinds;
 ghost use Rattle.smk_base.specs.declared.value.Value.TheVariants as values;
 
@@ -47,8 +40,7 @@ pub struct Rel {
 }
 
 impl Model for Rel {
-    ghost use Rattle.smk_base.specs.Rels.{Relation};
-    ghost use Rattle.smk_base.specs.Relations.{relation_of, AreColumns};
+    ghost use Rattle.smk_base.specs.{Rels.Relation, Relations.{relation_of, AreColumns}};
 
     ghost Value = { Relation };
 

@@ -1,32 +1,15 @@
 -- The rows of a grouping, class by class.
-use Rattle.std.proofs.Common.{◌≡◌, ◌∙◌, ◌<◌, ◌≤◌, ℕ, ℤ, pos, suc, ◌+◌, true, false, Bool, List, [], ◌∷◌, ◌++◌, length, map, refl, sym, ap, subst, arith, All, get_or, nat_eq, filter}
-use Rattle.std.proofs.lemmas.List.{length-map, get_or-map, get_or_default, append-nil}
-use Rattle.std.proofs.lemmas.List.Elements.{All-map, All-weaker}
-use Rattle.std.proofs.lemmas.Bool.{cond_both, eq-eqb, ne_eqb}
-use Rattle.std.proofs.lemmas.Int.{ints}
+use Rattle.std.proofs.{Common.{◌≡◌, ◌∙◌, ◌<◌, ◌≤◌, ℕ, ℤ, pos, suc, ◌+◌, true, false, Bool, List, [], ◌∷◌, ◌++◌, length, map, refl, sym, ap, subst, arith, All, get_or, nat_eq, filter}, lemmas.List.{length-map, get_or-map, get_or_default, append-nil}, lemmas.List.Elements.{All-map, All-weaker}, lemmas.Bool.{cond_both, eq-eqb, ne_eqb}, lemmas.Int.ints}
 use Rattle.std.specs.List.{fold}
 use Rattle.smk_keys.specs.Classes.{ClassesImage}
-use Rattle.smk_base.specs.declared.value.Value.{Value}
+use Rattle.smk_base.specs.{declared.value.Value.Value, declared.value.Kind.Kind, declared.book.plan.Agg.Agg, declared.book.plan.Agg.TheVariants.{Count, Sum, Min, Max}, Places.{upto, places}, declared.rel.TheConstants.ROW_LIMIT, Rels.{Fits, RowFits, IsWithin, kind_in, column_values, picked, rows_at}}
 use Rattle.smk_base.specs.declared.value.Value.TheVariants as values
-use Rattle.smk_base.specs.declared.value.Kind.{Kind}
 use Rattle.smk_base.specs.declared.value.Kind.TheVariants as kinds
-use Rattle.smk_base.specs.declared.book.plan.Agg.{Agg}
-use Rattle.smk_base.specs.declared.book.plan.Agg.TheVariants.{Count, Sum, Min, Max}
-use Rattle.smk_base.specs.Places.{upto, places}
-use Rattle.smk_base.specs.declared.rel.TheConstants.{ROW_LIMIT}
-use Rattle.smk_base.specs.Rels.{Fits, RowFits, IsWithin, kind_in, column_values, picked, rows_at}
-use Rattle.smk_model.specs.Values.{Row, value_at}
-use Rattle.smk_model.specs.Plain.{row_eq, key_of, firsts, aggregate, grouped, number_of, total, combined, lesser, greater}
-use Rattle.smk_model.specs.Lineage.{row_at, sub}
-use Rattle.smk_model.specs.Kinds.{AggFits, IsSummed, kind_of_agg, summed}
-use Rattle.smk_model.specs.Classes.{classes, first_places}
+use Rattle.smk_model.specs.{Values.{Row, value_at}, Plain.{row_eq, key_of, firsts, aggregate, grouped, number_of, total, combined, lesser, greater}, Lineage.{row_at, sub}, Kinds.{AggFits, IsSummed, kind_of_agg, summed}, Classes.{classes, first_places}}
 use Rattle.smk_base.proofs.Places.{map_map, map_upto, map_upto_agree, same_below, places_below, few_places}
-use Rattle.smk_model.proofs.Firsts.{sub_key}
-use Rattle.smk_model.proofs.Classes.{classes_are, first_below}
+use Rattle.smk_model.proofs.{Firsts.sub_key, Classes.{classes_are, first_below}}
 use Rattle.smk_body.specs.Halves.{AreNumbered, best_place, better, class_places, class_sizes}
-use Rattle.smk_body.proofs.Fitting.{value_fits, within_more, total_within, All-head, All-rest}
-use Rattle.smk_body.proofs.Folding.{int_at, best_of_class}
-use Rattle.smk_body.proofs.Classing.{first_at, length_firsts}
+use Rattle.smk_body.proofs.{Fitting.{value_fits, within_more, total_within, All-head, All-rest}, Folding.{int_at, best_of_class}, Classing.{first_at, length_firsts}}
 
 -- the sizes of classes, as a column
 pub counted_rows : (rows : List Row) (classes : ClassesImage) (n : ℕ) → length classes.of ≡ n

@@ -1,10 +1,7 @@
 -- Rows column by column.
-use Rattle.std.proofs.Common.{◌≡◌, ◌∙◌, ◌<◌, ◌+◌, ℕ, List, [], ◌∷◌, ◌++◌, length, map, take, refl, sym, ap, get_or, append_assoc}
-use Rattle.std.proofs.lemmas.List.{map_more}
-use Rattle.smk_base.specs.declared.value.Value.{Value}
+use Rattle.std.proofs.{Common.{◌≡◌, ◌∙◌, ◌<◌, ◌+◌, ℕ, List, [], ◌∷◌, ◌++◌, length, map, take, refl, sym, ap, get_or, append_assoc}, lemmas.List.map_more}
+use Rattle.smk_base.specs.{declared.value.Value.Value, declared.value.Kind.Kind, Rels.{Relation, beside_rows}}
 use Rattle.smk_base.specs.declared.value.Kind.TheVariants as kinds
-use Rattle.smk_base.specs.declared.value.Kind.{Kind}
-use Rattle.smk_base.specs.Rels.{Relation, beside_rows}
 use Rattle.smk_model.specs.Values.{Row}
 
 abbrev pub relation : List Kind → List Row → Relation

@@ -1,20 +1,10 @@
 -- The numbers of the classes of rows.
-use Rattle.std.proofs.Common.{◌≡◌, ◌∙◌, ◌<◌, ◌≤◌, ℕ, true, List, [], length, sym, ap, arith, get_or, map, nat_eq, subst, take, drop, ◌-◌}
-use Rattle.std.proofs.lemmas.List.{get_or-map, length-map, length-drop, get_or_default, take_all}
-use Rattle.std.proofs.lemmas.List.Sums.{fails_before_first}
-use Rattle.std.proofs.lemmas.Bool.{false≢true}
-use Rattle.smk_model.specs.Values.{Row}
-use Rattle.smk_model.specs.Plain.{row_eq, key_of, firsts}
-use Rattle.smk_model.specs.Lineage.{row_at}
-use Rattle.smk_model.specs.Classes.{classes, first_places}
-use Rattle.smk_model.proofs.Classes.{place_in, found_at, same_place, key_test, known_key, class_at, first_below, classes_are}
-use Rattle.smk_model.proofs.Firsts.{row_same, holds_at, firsts_from}
-use Rattle.smk_model.proofs.Locals.{firsts_apart}
-use Rattle.smk_model.proofs.Sizes.{firsts_short}
+use Rattle.std.proofs.{Common.{◌≡◌, ◌∙◌, ◌<◌, ◌≤◌, ℕ, true, List, [], length, sym, ap, arith, get_or, map, nat_eq, subst, take, drop, ◌-◌}, lemmas.List.{get_or-map, length-map, length-drop, get_or_default, take_all}, lemmas.List.Sums.fails_before_first, lemmas.Bool.false≢true}
+use Rattle.smk_model.specs.{Values.Row, Plain.{row_eq, key_of, firsts}, Lineage.row_at, Classes.{classes, first_places}}
+use Rattle.smk_model.proofs.{Classes.{place_in, found_at, same_place, key_test, known_key, class_at, first_below, classes_are}, Firsts.{row_same, holds_at, firsts_from}, Locals.firsts_apart, Sizes.firsts_short}
 use Rattle.smk_keys.specs.Classes.{ClassesImage, classes_of}
 use Rattle.smk_base.specs.declared.rel.TheConstants.{ROW_LIMIT}
-use Rattle.smk_body.specs.Bounds.{AreBelow, IsPartition}
-use Rattle.smk_body.specs.Halves.{AreNumbered}
+use Rattle.smk_body.specs.{Bounds.{AreBelow, IsPartition}, Halves.AreNumbered}
 
 pub length_of : (keys : List Row) → length (classes keys) ≡ length keys
 length_of keys = length-map keys (place_in (firsts keys))

@@ -1,30 +1,13 @@
 -- The places that a selection keeps.
-use Rattle.std.proofs.Common.{◌≡◌, ◌∙◌, ◌+◌, ◌<◌, ℕ, ℤ, pos, Bool, List, [], ◌∷◌, ◌++◌, true, false, All, length, map, take, drop, filter, slice_set, get_or, ap, sym, refl, subst, arith, cond, ◌≤◌, ◌-◌, zero, suc}
-use Rattle.std.proofs.lemmas.List.{append_assoc, append-nil, get_or_append_left, get_or-append_right, get_or_default, get_or-map, length-map, take-set-le, drop_more}
-use Rattle.std.proofs.lemmas.List.Elements.{All-filter, All-from_get_or, All-get_or, All-head, All-tail, filter-append}
-use Rattle.std.proofs.lemmas.List.FromFn.{get_or-range_with_len, length-range_with_len}
-use Rattle.std.specs.List.{range_with_len}
-use Rattle.std.proofs.lemmas.List.Filters.{FiltersInPlace, FiltersInPlace-more_set, FiltersInPlace-more_no}
-use Rattle.std.specs.Ordering.{int_cmp, ordering_reverse}
-use Rattle.std.specs.declared.cmp.Ordering.{Ordering}
-use Rattle.std.specs.declared.cmp.Ordering.TheVariants.{Less, Equal, Greater}
-use Rattle.smk_base.specs.Places.{places, upto}
+use Rattle.std.proofs.{Common.{◌≡◌, ◌∙◌, ◌+◌, ◌<◌, ℕ, ℤ, pos, Bool, List, [], ◌∷◌, ◌++◌, true, false, All, length, map, take, drop, filter, slice_set, get_or, ap, sym, refl, subst, arith, cond, ◌≤◌, ◌-◌, zero, suc}, lemmas.List.{append_assoc, append-nil, get_or_append_left, get_or-append_right, get_or_default, get_or-map, length-map, take-set-le, drop_more}, lemmas.List.Elements.{All-filter, All-from_get_or, All-get_or, All-head, All-tail, filter-append}, lemmas.List.FromFn.{get_or-range_with_len, length-range_with_len}, lemmas.List.Filters.{FiltersInPlace, FiltersInPlace-more_set, FiltersInPlace-more_no}}
+use Rattle.std.specs.{List.range_with_len, Ordering.{int_cmp, ordering_reverse}, declared.cmp.Ordering.Ordering, declared.cmp.Ordering.TheVariants.{Less, Equal, Greater}}
+use Rattle.smk_base.specs.{Places.{places, upto}, Plans.Comparison, Widths.AreAlike, Rels.{Fits, RowFits, column_texts, column_values, kind_in, text_of}, TextColumns.text_in, declared.book.plan.CmpOp.CmpOp, declared.book.plan.Operand.TheVariants.{Col, Lit}, declared.value.Kind.Kind, declared.value.Value.Value}
 use Rattle.smk_base.proofs.Places.{upto_more}
-use Rattle.smk_base.specs.Plans.{Comparison}
-use Rattle.smk_base.specs.Widths.{AreAlike}
-use Rattle.smk_base.specs.Rels.{Fits, RowFits, column_texts, column_values, kind_in, text_of}
-use Rattle.smk_base.specs.TextColumns.{text_in}
-use Rattle.smk_base.specs.declared.book.plan.CmpOp.{CmpOp}
-use Rattle.smk_base.specs.declared.book.plan.Operand.TheVariants.{Col, Lit}
-use Rattle.smk_base.specs.declared.value.Kind.{Kind}
 use Rattle.smk_base.specs.declared.value.Kind.TheVariants as kinds
-use Rattle.smk_base.specs.declared.value.Value.{Value}
 use Rattle.smk_base.specs.declared.value.Value.TheVariants as values
 use Rattle.smk_model.proofs.Spread.{value_order}
-use Rattle.smk_model.specs.Values.{Row, holds, meets, value_at, value_cmp}
-use Rattle.smk_model.specs.Lineage.{row_at}
-use Rattle.smk_body.proofs.Aggregating.{value_is}
-use Rattle.smk_body.proofs.Fitting.{value_fits}
+use Rattle.smk_model.specs.{Values.{Row, holds, meets, value_at, value_cmp}, Lineage.row_at}
+use Rattle.smk_body.proofs.{Aggregating.value_is, Fitting.value_fits}
 
 -- what is read next is still that of the list that was given, and so is the rest
 module _ (xs ys : List ℕ) (i : ℕ) (low : i < length ys) (lower : i < length xs) (rest : drop i ys ≡ drop i xs) where

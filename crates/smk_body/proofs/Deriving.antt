@@ -1,14 +1,9 @@
 -- The rows of a step, from what it found.
 use Rattle.std.proofs.Common.{◌≡◌, true, List, [], length, sym}
-use Rattle.smk_base.specs.Places.{upto}
-use Rattle.smk_base.specs.Plans.{Formula, Selection, Binary}
-use Rattle.smk_base.specs.Rels.{beside_rows, rows_at}
+use Rattle.smk_base.specs.{Places.upto, Plans.{Formula, Selection, Binary}, Rels.{beside_rows, rows_at}}
 use Rattle.smk_keys.specs.Classes.{classes_of}
-use Rattle.smk_model.specs.Lineage.{lefts_of, matching, meeting, rights_of}
-use Rattle.smk_model.specs.Plain.{firsts, is_join, joins, step1, step2}
-use Rattle.smk_model.specs.Values.{Row, meets}
-use Rattle.smk_model.proofs.Bulk.{bulk}
-use Rattle.smk_model.proofs.Classes.{first_keys}
+use Rattle.smk_model.specs.{Lineage.{lefts_of, matching, meeting, rights_of}, Plain.{firsts, is_join, joins, step1, step2}, Values.{Row, meets}}
+use Rattle.smk_model.proofs.{Bulk.bulk, Classes.first_keys}
 use Rattle.smk_base.proofs.Places.{at_places, map_upto}
 
 -- those of a selection

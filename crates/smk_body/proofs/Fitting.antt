@@ -1,18 +1,11 @@
 -- The rows of a step fit the kinds of its output.
-use Rattle.std.proofs.Common.{◌≡◌, ◌∙◌, ◌<◌, ◌≤◌, ◌+◌, ◌*◌, ◌^◌, ℕ, zero, suc, ℤ, pos, neg_ℤ, ◌+ℤ◌, ◌≤ℤ◌, List, [], ◌∷◌, length, refl, ap, arith, All, get_or}
-use Rattle.std.proofs.lemmas.Int.{ints}
-use Rattle.std.proofs.Math.Nat.{pow-le-pow_right, mul-le-mul_left}
-use Rattle.std.proofs.lemmas.Nat.{pow-add}
+use Rattle.std.proofs.{Common.{◌≡◌, ◌∙◌, ◌<◌, ◌≤◌, ◌+◌, ◌*◌, ◌^◌, ℕ, zero, suc, ℤ, pos, neg_ℤ, ◌+ℤ◌, ◌≤ℤ◌, List, [], ◌∷◌, length, refl, ap, arith, All, get_or}, lemmas.Int.ints, Math.Nat.{pow-le-pow_right, mul-le-mul_left}, lemmas.Nat.pow-add, lemmas.List.Elements.All-cons}
 use Rattle.std.specs.List.{AllZip, fold}
-use Rattle.std.proofs.lemmas.List.Elements.{All-cons}
 use Rattle.smk_base.specs.declared.value.Value.TheVariants as values
-use Rattle.smk_base.specs.declared.value.Kind.{Kind}
+use Rattle.smk_base.specs.{declared.value.Kind.Kind, Rels.{IsWithin, Fits, RowFits, IsColumn, kind_in}}
 use Rattle.smk_base.specs.declared.value.Kind.TheVariants as kinds
-use Rattle.smk_base.specs.Rels.{IsWithin, Fits, RowFits, IsColumn, kind_in}
 use Rattle.smk_base.proofs.RelRows.{AllZip-at}
-use Rattle.smk_model.specs.Values.{Row, value_at}
-use Rattle.smk_model.specs.Plain.{total}
-use Rattle.smk_model.specs.Kinds.{AreAlike, wider, wider_kinds}
+use Rattle.smk_model.specs.{Values.{Row, value_at}, Plain.total, Kinds.{AreAlike, wider, wider_kinds}}
 
 -- at most m in size
 abbrev pub Between : ℕ → ℤ → Type 0

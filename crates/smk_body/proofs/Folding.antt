@@ -1,22 +1,11 @@
 -- One value for each class, place by place.
-use Rattle.std.proofs.Common.{◌≡◌, ◌≢◌, ◌∙◌, ◌<◌, ◌≤◌, ◌+◌, ℕ, zero, suc, ℤ, pos, ◌+ℤ◌, FitsSigned, Bool, true, false, cond, List, [], ◌∷◌, ◌++◌, length, map, refl, sym, ap, arith, All, get_or, set, nat_eq, inl, inr}
-use Rattle.std.proofs.Math.ListN.{replicate}
-use Rattle.std.specs.List.{fold}
-use Rattle.std.specs.Int.{w128}
-use Rattle.std.proofs.lemmas.Int.{ints}
-use Rattle.std.proofs.lemmas.List.{get_or-set_same, get_or-set_other, length-set, length-map, append-nil, same_lists, length_push, map-append, get_or-replicate, length-replicate, get_or_read, set-get_or}
-use Rattle.std.proofs.lemmas.List.Elements.{filter-append, All-map, All-weaker, All-push}
-use Rattle.std.proofs.lemmas.List.Sums.{fold-append}
-use Rattle.std.proofs.lemmas.Bool.{cases_Bool, cases_eq, eq-eqb, ne_eqb}
-use Rattle.smk_base.specs.declared.value.Value.{Value}
-use Rattle.smk_base.specs.Places.{upto, places, has}
-use Rattle.smk_base.specs.Rels.{IsWithin}
-use Rattle.smk_model.specs.Plain.{total, combined}
-use Rattle.smk_model.specs.Locals.{singles}
+use Rattle.std.proofs.{Common.{◌≡◌, ◌≢◌, ◌∙◌, ◌<◌, ◌≤◌, ◌+◌, ℕ, zero, suc, ℤ, pos, ◌+ℤ◌, FitsSigned, Bool, true, false, cond, List, [], ◌∷◌, ◌++◌, length, map, refl, sym, ap, arith, All, get_or, set, nat_eq, inl, inr}, Math.ListN.replicate, lemmas.Int.ints, lemmas.List.{get_or-set_same, get_or-set_other, length-set, length-map, append-nil, same_lists, length_push, map-append, get_or-replicate, length-replicate, get_or_read, set-get_or}, lemmas.List.Elements.{filter-append, All-map, All-weaker, All-push}, lemmas.List.Sums.fold-append, lemmas.Bool.{cases_Bool, cases_eq, eq-eqb, ne_eqb}}
+use Rattle.std.specs.{List.fold, Int.w128}
+use Rattle.smk_base.specs.{declared.value.Value.Value, Places.{upto, places, has}, Rels.IsWithin}
+use Rattle.smk_model.specs.{Plain.{total, combined}, Locals.singles}
 use Rattle.smk_base.proofs.Places.{get_or_map_upto, map_upto_agree, places_below, same_below, places_false, upto_below, places_more, few_places}
 use Rattle.smk_model.proofs.Directions.{length_each}
-use Rattle.smk_body.proofs.Fitting.{total_within}
-use Rattle.smk_body.proofs.Turning.{single_at}
+use Rattle.smk_body.proofs.{Fitting.total_within, Turning.single_at}
 use Rattle.smk_keys.specs.Classes.{ClassesImage}
 use Rattle.smk_rid.specs.Maps.{size_of, sizes_of}
 use Rattle.smk_body.specs.Halves.{AreNumbered, class_places, better, improves_on, best_place, bests_of}

@@ -1,27 +1,13 @@
 -- Columns and aggregates that are made in halves.
-use Rattle.std.proofs.Common.{◌≡◌, ◌∙◌, ◌<◌, ◌≤◌, ◌+◌, ℕ, List, [], ◌∷◌, ◌++◌, length, map, take, drop, refl, sym, ap, arith, All, get_or}
+use Rattle.std.proofs.{Common.{◌≡◌, ◌∙◌, ◌<◌, ◌≤◌, ◌+◌, ℕ, List, [], ◌∷◌, ◌++◌, length, map, take, drop, refl, sym, ap, arith, All, get_or}, lemmas.List.{map-append, length-map, length-append, get_or-map}, lemmas.List.Elements.{All-map, All-take, All-drop, All-weaker}, lemmas.Slice.Zip.AllZip-long}
 use Rattle.std.specs.List.{AllZip}
-use Rattle.std.proofs.lemmas.List.{map-append, length-map, length-append, get_or-map}
-use Rattle.std.proofs.lemmas.List.Elements.{All-map, All-take, All-drop, All-weaker}
-use Rattle.std.proofs.lemmas.Slice.Zip.{AllZip-long}
-use Rattle.smk_base.specs.declared.book.plan.Agg.{Agg}
-use Rattle.smk_base.specs.declared.value.Kind.TheVariants.{Int, Text}
-use Rattle.smk_base.specs.declared.value.Kind.{Kind}
-use Rattle.smk_base.specs.declared.value.Value.{Value}
-use Rattle.smk_base.specs.Places.{upto}
-use Rattle.smk_base.specs.Rels.{IsWider, Relation, Fits, RowFits, beside_rows, picked, row_in, rows_at}
+use Rattle.smk_base.specs.{declared.book.plan.Agg.Agg, declared.value.Kind.TheVariants.{Int, Text}, declared.value.Kind.Kind, declared.value.Value.Value, Places.upto, Rels.{IsWider, Relation, Fits, RowFits, beside_rows, picked, row_in, rows_at}}
 use Rattle.smk_keys.specs.Classes.{ClassesImage, classes_of}
-use Rattle.smk_model.specs.Values.{Row}
-use Rattle.smk_model.specs.Plain.{aggregate, firsts, grouped, key_of}
-use Rattle.smk_model.specs.Lineage.{row_at, sub}
-use Rattle.smk_model.specs.Kinds.{AggFits}
+use Rattle.smk_model.specs.{Values.Row, Plain.{aggregate, firsts, grouped, key_of}, Lineage.{row_at, sub}, Kinds.AggFits}
 use Rattle.smk_base.proofs.Places.{length_upto, map_map, map_upto, upto_below}
-use Rattle.smk_model.proofs.Bulk.{bulk}
-use Rattle.smk_model.proofs.Directions.{length_each}
-use Rattle.smk_body.specs.Halves.{AreNumbered, class_places}
-use Rattle.smk_body.specs.Parts.{AreAggsOf, ArePlacesOf, aggregates_of, columns_of}
-use Rattle.smk_body.proofs.Besides.{relation, related, beside_each, map_same}
-use Rattle.smk_body.proofs.Aggregating.{groups_are, map_where}
+use Rattle.smk_model.proofs.{Bulk.bulk, Directions.length_each}
+use Rattle.smk_body.specs.{Halves.{AreNumbered, class_places}, Parts.{AreAggsOf, ArePlacesOf, aggregates_of, columns_of}}
+use Rattle.smk_body.proofs.{Besides.{relation, related, beside_each, map_same}, Aggregating.{groups_are, map_where}}
 
 -- no kind is narrower than itself
 pub same_wider : (ks : List Kind) → AllZip IsWider ks ks

@@ -1,24 +1,13 @@
 -- Numbers of rows that are numbered part by part.
-use Rattle.std.proofs.Common.{◌≡◌, ◌∙◌, ◌<◌, ◌≤◌, ◌+◌, ◌-◌, ℕ, List, [], ◌∷◌, ◌++◌, length, map, get_or, take, drop, ap, ap₂, sym, refl, arith, inl, inr, length-append, All, subst}
+use Rattle.std.proofs.{Common.{◌≡◌, ◌∙◌, ◌<◌, ◌≤◌, ◌+◌, ◌-◌, ℕ, List, [], ◌∷◌, ◌++◌, length, map, get_or, take, drop, ap, ap₂, sym, refl, arith, inl, inr, length-append, All, subst}, lemmas.Bool.cases_lt, lemmas.Simd.map-map, lemmas.List.{get_or_append_left, get_or-append_right, get_or-append-add, get_or-map, get_or-take, get_or-drop, get_or_default, length-map, length-drop, take-map, drop-map, length-take-le, take_more, take-append-drop, append-nil, append_assoc, map-append}, lemmas.List.Sums.{sum_by-cons, sum_by_push}}
 use Rattle.std.specs.Prelude.{slice_range}
-use Rattle.std.proofs.lemmas.Bool.{cases_lt}
-use Rattle.std.proofs.lemmas.Simd.{map-map}
-use Rattle.std.proofs.lemmas.List.{get_or_append_left, get_or-append_right, get_or-append-add, get_or-map, get_or-take, get_or-drop, get_or_default, length-map, length-drop, take-map, drop-map, length-take-le, take_more, take-append-drop, append-nil, append_assoc, map-append}
-use Rattle.std.proofs.lemmas.List.Sums.{sum_by-cons, sum_by_push}
 use Rattle.smk_base.specs.Rels.{Relation, row_in, rows_at}
-use Rattle.smk_model.specs.Values.{Row}
-use Rattle.smk_model.specs.Plain.{key_of}
-use Rattle.smk_model.specs.Lineage.{row_at}
-use Rattle.smk_keys.specs.Classes.{ClassesImage, classes_of}
-use Rattle.smk_keys.specs.Keys.{key_eq}
-use Rattle.smk_keys.proofs.Firsts.{AreClasses}
-use Rattle.smk_keys.proofs.Classing.{classing-classes}
-use Rattle.smk_keys.proofs.Placed.{AreClasses-keys}
-use Rattle.smk_keys.proofs.Rowed.{key_same}
-use Rattle.smk_body.specs.Halves.{AreNumbered}
+use Rattle.smk_model.specs.{Values.Row, Plain.key_of, Lineage.row_at}
+use Rattle.smk_keys.specs.{Classes.{ClassesImage, classes_of}, Keys.key_eq}
+use Rattle.smk_keys.proofs.{Firsts.AreClasses, Classing.classing-classes, Placed.AreClasses-keys, Rowed.key_same}
+use Rattle.smk_body.specs.{Halves.AreNumbered, Renumbered.{HasKeys, StandFor, key_total, numbers_from}}
 use Rattle.smk_body.proofs.Classing.{are_numbered, few_firsts}
 use Rattle.smk_jobs.specs.Cuts.{AreParts, cut_at}
-use Rattle.smk_body.specs.Renumbered.{HasKeys, StandFor, key_total, numbers_from}
 use Rattle.smk_jobs.proofs.Cutting.{cut_grows, cut_within}
 
 pub length_range : (rows : List Row) (n m : ℕ) → n ≤ m → m ≤ length rows → length (slice_range rows n m) ≡ m - n

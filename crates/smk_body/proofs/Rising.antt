@@ -1,21 +1,11 @@
 -- The classes of a column of texts from the places where its codes rise.
-use Rattle.std.proofs.Common.{◌≡◌, ◌∙◌, ℕ, ◌<◌, ◌≤◌, ◌+◌, ◌-◌, List, [], ◌∷◌, ◌++◌, length, map, get_or, refl, sym, ap, subst, arith, true, true≢false, inl, inr}
+use Rattle.std.proofs.{Common.{◌≡◌, ◌∙◌, ℕ, ◌<◌, ◌≤◌, ◌+◌, ◌-◌, List, [], ◌∷◌, ◌++◌, length, map, get_or, refl, sym, ap, subst, arith, true, true≢false, inl, inr}, lemmas.Bool.cases_lt, lemmas.List.{get_or_append_left, get_or_default, get_or_past, get_or_push, length_push, length-map}}
 use Rattle.std.specs.List.{All}
-use Rattle.std.proofs.lemmas.Bool.{cases_lt}
-use Rattle.std.proofs.lemmas.List.{get_or_append_left, get_or_default, get_or_past, get_or_push, length_push, length-map}
-use Rattle.smk_base.specs.Dicts.{code_or_last, text_eq}
-use Rattle.smk_base.specs.Rels.{AreCodesOf, column_texts, column_values, picked, text_of, value_in}
-use Rattle.smk_base.specs.TextColumns.{text_firsts}
-use Rattle.smk_base.specs.declared.value.Kind.{Kind}
+use Rattle.smk_base.specs.{Dicts.{code_or_last, text_eq}, Rels.{AreCodesOf, column_texts, column_values, picked, text_of, value_in}, TextColumns.text_firsts, declared.value.Kind.Kind}
 use Rattle.smk_base.proofs.Codes.{text_same}
-use Rattle.smk_model.specs.Values.{Row}
-use Rattle.smk_model.specs.Plain.{key_of}
-use Rattle.smk_keys.specs.Classes.{ClassesImage, classes_of, classing_of}
-use Rattle.smk_keys.specs.Orders.{IsInOrder}
-use Rattle.smk_keys.proofs.Classing.{AreClasses-classing}
-use Rattle.smk_keys.proofs.Firsts.{AreClasses}
-use Rattle.smk_keys.proofs.Ordered.{in_order-is}
-use Rattle.smk_keys.proofs.Rowed.{AreNumbers-one, classes-numbers}
+use Rattle.smk_model.specs.{Values.Row, Plain.key_of}
+use Rattle.smk_keys.specs.{Classes.{ClassesImage, classes_of, classing_of}, Orders.IsInOrder}
+use Rattle.smk_keys.proofs.{Classing.AreClasses-classing, Firsts.AreClasses, Ordered.in_order-is, Rowed.{AreNumbers-one, classes-numbers}}
 use Rattle.smk_jobs.specs.Cuts.{AreParts, cut_at}
 use Rattle.smk_body.specs.Rises.{AreRises, codes_of, is_text_key}
 

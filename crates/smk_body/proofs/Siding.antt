@@ -1,26 +1,11 @@
 -- The lineage of a side from what the first half of a step found.
-use Rattle.std.proofs.Common.{◌≡◌, ◌∙◌, ◌<◌, ◌≤◌, ◌+◌, ◌-◌, ℕ, List, ◌++◌, length, map, take, drop, refl, sym, ap, arith, All, subst, zero-add, Option, None, Some, []}
-use Rattle.std.proofs.Math.ListN.{replicate}
-use Rattle.std.proofs.lemmas.List.{map-append, map-id, length-map, length-replicate, get_or_default}
-use Rattle.std.proofs.lemmas.List.Elements.{All-take, All-drop}
-use Rattle.std.proofs.Math.Seq.{take-append_seam, drop-append_seam}
-use Rattle.smk_base.specs.Places.{Lists, upto, own_lists, inverted, IsPlaces}
-use Rattle.smk_base.specs.declared.book.plan.Dir.{Dir}
-use Rattle.smk_base.specs.declared.book.plan.Item.{Item}
+use Rattle.std.proofs.{Common.{◌≡◌, ◌∙◌, ◌<◌, ◌≤◌, ◌+◌, ◌-◌, ℕ, List, ◌++◌, length, map, take, drop, refl, sym, ap, arith, All, subst, zero-add, Option, None, Some, []}, Math.ListN.replicate, lemmas.List.{map-append, map-id, length-map, length-replicate, get_or_default}, lemmas.List.Elements.{All-take, All-drop}, Math.Seq.{take-append_seam, drop-append_seam}}
+use Rattle.smk_base.specs.{Places.{Lists, upto, own_lists, inverted, IsPlaces}, declared.book.plan.Dir.Dir, declared.book.plan.Item.Item}
 use Rattle.smk_rid.proofs.Rising.{rising_is}
-use Rattle.smk_model.specs.Values.{Row}
-use Rattle.smk_model.specs.Plain.{firsts}
-use Rattle.smk_model.specs.Locals.{singles}
-use Rattle.smk_model.specs.Classes.{places_in, classes}
-use Rattle.smk_model.specs.Ways.{Way, Targets, IsOf, back_of, fwd_of}
+use Rattle.smk_model.specs.{Values.Row, Plain.firsts, Locals.singles, Classes.{places_in, classes}, Ways.{Way, Targets, IsOf, back_of, fwd_of}}
 use Rattle.smk_base.proofs.Places.{get_or_map_upto}
-use Rattle.smk_model.proofs.OneEach.{one_each}
-use Rattle.smk_model.proofs.Directions.{length_each}
-use Rattle.smk_model.proofs.Parts.{map_agree}
-use Rattle.smk_model.proofs.Classes.{place_in, classes_are}
-use Rattle.smk_body.specs.Locals.{side_of, wanted}
-use Rattle.smk_body.specs.declared.keep.local.Side.{Side}
-use Rattle.smk_body.specs.declared.keep.local.Local.{Local}
+use Rattle.smk_model.proofs.{OneEach.one_each, Directions.length_each, Parts.map_agree, Classes.{place_in, classes_are}}
+use Rattle.smk_body.specs.{Locals.{side_of, wanted}, declared.keep.local.Side.Side, declared.keep.local.Local.Local}
 use Rattle.smk_body.proofs.Classing.{length_of, rest_of}
 
 -- a side by its way

@@ -1,27 +1,12 @@
 -- What a step finds keeps the bounds of its way, and the lineage of the step is a fact of that.
-use Rattle.std.proofs.Common.{◌≡◌, ◌∙◌, ◌<◌, ◌≤◌, ℕ, true, List, ◌++◌, length, take, drop, ap, arith, subst, sym}
-use Rattle.std.proofs.lemmas.List.{length-append, length-drop, length-take-le}
-use Rattle.std.proofs.lemmas.List.Elements.{All-take, All-drop}
-use Rattle.smk_base.specs.Plans.{Formula, Unary, Selection, Binary}
-use Rattle.smk_base.specs.declared.book.plan.Dir.{Dir}
-use Rattle.smk_base.specs.declared.rel.TheConstants.{ROW_LIMIT}
+use Rattle.std.proofs.{Common.{◌≡◌, ◌∙◌, ◌<◌, ◌≤◌, ℕ, true, List, ◌++◌, length, take, drop, ap, arith, subst, sym}, lemmas.List.{length-append, length-drop, length-take-le}, lemmas.List.Elements.{All-take, All-drop}}
+use Rattle.smk_base.specs.{Plans.{Formula, Unary, Selection, Binary}, declared.book.plan.Dir.Dir, declared.rel.TheConstants.ROW_LIMIT}
 use Rattle.smk_keys.specs.Classes.{ClassesImage, classes_of}
-use Rattle.smk_model.specs.Lineage.{matching, meeting, row_at}
-use Rattle.smk_model.specs.Plain.{is_join, joins, step2}
-use Rattle.smk_model.specs.Values.{Row, meets}
-use Rattle.smk_model.specs.Classes.{classes}
-use Rattle.smk_model.specs.Ways.{Way, Targets, back_of, fwd_of, reaches, way, left_way, right_way}
-use Rattle.smk_model.proofs.CuiWidom.{length_selected}
-use Rattle.smk_model.proofs.Ways.{lineage_of_ways}
+use Rattle.smk_model.specs.{Lineage.{matching, meeting, row_at}, Plain.{is_join, joins, step2}, Values.{Row, meets}, Classes.classes, Ways.{Way, Targets, back_of, fwd_of, reaches, way, left_way, right_way}}
+use Rattle.smk_model.proofs.{CuiWidom.length_selected, Ways.lineage_of_ways, Sizes.adds_no_rows}
 use Rattle.smk_base.proofs.Places.{places_below}
-use Rattle.smk_model.proofs.Sizes.{adds_no_rows}
-use Rattle.smk_body.proofs.Classing.{are_numbered, length_firsts}
-use Rattle.smk_body.proofs.Pairing.{length_joined, length_lefts}
-use Rattle.smk_body.proofs.Siding.{both_sides, by_way, one_side, two_sides}
-use Rattle.smk_body.specs.Bounds.{AreBelow}
-use Rattle.smk_body.specs.Halves.{AreNumbered, PlacePairs, halves_of}
-use Rattle.smk_body.specs.Locals.{local1, local2, side_of}
-use Rattle.smk_body.specs.declared.keep.local.Want.{Want}
+use Rattle.smk_body.proofs.{Classing.{are_numbered, length_firsts}, Pairing.{length_joined, length_lefts}, Siding.{both_sides, by_way, one_side, two_sides}}
+use Rattle.smk_body.specs.{Bounds.AreBelow, Halves.{AreNumbered, PlacePairs, halves_of}, Locals.{local1, local2, side_of}, declared.keep.local.Want.Want}
 
 pub lineage1 : (op : Unary) (L : List Row) (w : Way) (want : Dir) → w ≡ way op L → one_side (side_of want (back_of w) (fwd_of w)) ≡ local1 op L want
 lineage1 op L w want e = ap one_side (by_way want e (lineage_of_ways.one op L))

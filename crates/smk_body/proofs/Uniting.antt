@@ -1,23 +1,11 @@
 -- The rows of both sides of a union.
-use Rattle.std.proofs.Common.{◌≡◌, ◌∙◌, ◌<◌, ◌≤◌, ◌+◌, ◌-◌, ℕ, List, [], ◌∷◌, ◌++◌, length, map, take, drop, not, refl, sym, ap, subst, arith, All, get_or, inl, inr}
+use Rattle.std.proofs.{Common.{◌≡◌, ◌∙◌, ◌<◌, ◌≤◌, ◌+◌, ◌-◌, ℕ, List, [], ◌∷◌, ◌++◌, length, map, take, drop, not, refl, sym, ap, subst, arith, All, get_or, inl, inr}, lemmas.List.{map-append, length-append, get_or-append_right, get_or_default, get_or-drop, length-drop, take-append-drop}, lemmas.Bool.cases_eq, lemmas.List.Elements.{All-weaker, All-map, All-drop}, lemmas.Slice.Zip.AllZip-long}
 use Rattle.std.specs.List.{AllZip, AllPairs, list_any}
-use Rattle.std.proofs.lemmas.List.{map-append, length-append, get_or-append_right, get_or_default, get_or-drop, length-drop, take-append-drop}
-use Rattle.std.proofs.lemmas.Bool.{cases_eq}
-use Rattle.std.proofs.lemmas.List.Elements.{All-weaker, All-map, All-drop}
-use Rattle.std.proofs.lemmas.Slice.Zip.{AllZip-long}
-use Rattle.smk_base.specs.Places.{upto}
-use Rattle.smk_base.specs.declared.value.Kind.{Kind}
+use Rattle.smk_base.specs.{Places.upto, declared.value.Kind.Kind, Rels.{IsWider, Fits, RowFits, picked}}
 use Rattle.smk_base.specs.declared.value.Kind.TheVariants as kinds
-use Rattle.smk_base.specs.Rels.{IsWider, Fits, RowFits, picked}
-use Rattle.smk_model.specs.Values.{Row}
-use Rattle.smk_model.specs.Kinds.{AreAlike, wider_kinds}
-use Rattle.smk_model.specs.Plain.{row_eq}
-use Rattle.smk_model.specs.Lineage.{places, row_at, sub}
-use Rattle.smk_model.specs.Classes.{first_places}
-use Rattle.smk_base.proofs.Places.{places_are}
-use Rattle.smk_model.proofs.Bulk.{bulk, sub_left}
-use Rattle.smk_model.proofs.Classes.{classes_are}
-use Rattle.smk_base.proofs.Kept.{Fits-wider}
+use Rattle.smk_model.specs.{Values.Row, Kinds.{AreAlike, wider_kinds}, Plain.row_eq, Lineage.{places, row_at, sub}, Classes.first_places}
+use Rattle.smk_base.proofs.{Places.places_are, Kept.Fits-wider}
+use Rattle.smk_model.proofs.{Bulk.{bulk, sub_left}, Classes.classes_are}
 use Rattle.smk_rid.proofs.Sets.{set_rises}
 use Rattle.smk_body.proofs.Fitting.{All-head, All-rest}
 

@@ -1,12 +1,9 @@
 -- The way that is held, and the bounds that it keeps.
 use Rattle.std.specs.Prelude.{◌≡◌, ℕ, ◌<◌, ◌≤◌, ◌+◌, List, All, length, map, Option, IfSome}
-use Rattle.smk_base.specs.declared.rel.TheConstants.{ROW_LIMIT}
-use Rattle.smk_base.specs.Places.{Lists, inverted, upto}
-use Rattle.smk_model.specs.Locals.{singles}
-use Rattle.smk_model.specs.Ways.{Way, Own, Sources, Targets}
+use Rattle.smk_base.specs.{declared.rel.TheConstants.ROW_LIMIT, Places.{Lists, inverted, upto}}
+use Rattle.smk_model.specs.{Locals.singles, Ways.{Way, Own, Sources, Targets}}
 use Rattle.smk_keys.specs.Classes.{ClassesImage}
-use Rattle.smk_body.specs.Halves.{AreNumbered}
-use Rattle.smk_body.specs.declared.keep.way.Held.{Held}
+use Rattle.smk_body.specs.{Halves.AreNumbered, declared.keep.way.Held.Held}
 use Rattle.smk_body.specs.declared.keep.way.Held.TheVariants as held
 
 -- so many numbers from one on

@@ -1,10 +1,7 @@
 -- What each part of a step finds of its rows.
 use Rattle.std.specs.Prelude.{◌≡◌, ℕ, ◌<◌, ◌+◌, ◌-◌, ◌↔◌, min, List, ◌++◌, length, sum_by}
-use Rattle.smk_base.specs.Places.{upto}
-use Rattle.smk_base.specs.Plans.{Formula}
-use Rattle.smk_base.specs.declared.rel.TheConstants.{ROW_LIMIT}
-use Rattle.smk_model.specs.Values.{Row}
-use Rattle.smk_model.specs.Lineage.{lefts_of, rights_of}
+use Rattle.smk_base.specs.{Places.upto, Plans.Formula, declared.rel.TheConstants.ROW_LIMIT}
+use Rattle.smk_model.specs.{Values.Row, Lineage.{lefts_of, rights_of}}
 use Rattle.smk_body.specs.Halves.{PlacePairs, meeting_below, pairs_below}
 
 -- that these are the places from one up to another whose rows meet a formula: behind those below the first they are those below the second

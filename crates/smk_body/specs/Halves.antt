@@ -1,15 +1,7 @@
 -- The first halves of steps: the places that make the output rows.
-use Rattle.std.specs.Prelude.{◌≡◌, ◌≢◌, ℕ, ◌<◌, ◌≤◌, nat_eq, Bool, cond, List, [], ◌∷◌, length, map, slice_index, slice_index_or, All}
-use Rattle.std.specs.List.{flat_map, fold}
-use Rattle.std.specs.Ordering.{is_lt, is_gt}
-use Rattle.smk_base.specs.declared.rel.TheConstants.{ROW_LIMIT}
-use Rattle.smk_base.specs.Places.{upto, places}
-use Rattle.smk_base.specs.Plans.{Formula}
-use Rattle.smk_base.specs.declared.book.plan.Agg.{Agg}
-use Rattle.smk_base.specs.declared.value.Value.{Value}
-use Rattle.smk_model.specs.Values.{Row, meets, value_cmp}
-use Rattle.smk_model.specs.Plain.{aggregate, lesser, greater}
-use Rattle.smk_model.specs.Lineage.{row_at, sub, lefts_of, rights_of}
+use Rattle.std.specs.{Prelude.{◌≡◌, ◌≢◌, ℕ, ◌<◌, ◌≤◌, nat_eq, Bool, cond, List, [], ◌∷◌, length, map, slice_index, slice_index_or, All}, List.{flat_map, fold}, Ordering.{is_lt, is_gt}}
+use Rattle.smk_base.specs.{declared.rel.TheConstants.ROW_LIMIT, Places.{upto, places}, Plans.Formula, declared.book.plan.Agg.Agg, declared.value.Value.Value}
+use Rattle.smk_model.specs.{Values.{Row, meets, value_cmp}, Plain.{aggregate, lesser, greater}, Lineage.{row_at, sub, lefts_of, rights_of}}
 use Rattle.smk_keys.specs.Classes.{ClassesImage}
 
 -- the places below n whose rows meet a formula

@@ -1,13 +1,8 @@
 -- The lineage of one step on exactly the wanted sides, in exactly the wanted directions.
 use Rattle.std.specs.Prelude.{Bool, true, false, not, ◌&&◌, List, Option, Some, None}
-use Rattle.smk_base.specs.Places.{Lists}
-use Rattle.smk_base.specs.Plans.{Unary, Binary}
-use Rattle.smk_base.specs.declared.book.plan.Dir.{Dir}
-use Rattle.smk_model.specs.Values.{Row}
-use Rattle.smk_model.specs.Locals.{back1, fwd1, back_left, fwd_left, back_right, fwd_right}
-use Rattle.smk_body.specs.declared.keep.local.Side.{Side}
-use Rattle.smk_body.specs.declared.keep.local.Local.{Local}
-use Rattle.smk_body.specs.declared.keep.local.Want.{Want}
+use Rattle.smk_base.specs.{Places.Lists, Plans.{Unary, Binary}, declared.book.plan.Dir.Dir}
+use Rattle.smk_model.specs.{Values.Row, Locals.{back1, fwd1, back_left, fwd_left, back_right, fwd_right}}
+use Rattle.smk_body.specs.{declared.keep.local.Side.Side, declared.keep.local.Local.Local, declared.keep.local.Want.Want}
 
 -- lists where they are wanted
 abbrev pub wanted : Bool → Lists → Option Lists

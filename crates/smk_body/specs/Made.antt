@@ -1,12 +1,8 @@
 -- What a step has made of its inputs: its rows, and how the rows of each side and these belong together.
 use Rattle.std.specs.Prelude.{◌≡◌}
-use Rattle.smk_base.specs.Plans.{Unary, Binary}
-use Rattle.smk_base.specs.Rels.{Relation}
-use Rattle.smk_model.specs.Kinds.{kinds1, kinds2}
-use Rattle.smk_model.specs.Plain.{step1, step2}
-use Rattle.smk_model.specs.Ways.{way, left_way, right_way}
-use Rattle.smk_body.specs.declared.step.Made1.{Made1}
-use Rattle.smk_body.specs.declared.step.Made2.{Made2}
+use Rattle.smk_base.specs.{Plans.{Unary, Binary}, Rels.Relation}
+use Rattle.smk_model.specs.{Kinds.{kinds1, kinds2}, Plain.{step1, step2}, Ways.{way, left_way, right_way}}
+use Rattle.smk_body.specs.{declared.step.Made1.Made1, declared.step.Made2.Made2}
 
 pub record IsMade1 (op : Unary) (input : Relation) (made : Made1) : Type 0 where
   pub kinds : made.rel.kinds ≡ kinds1 op input.kinds

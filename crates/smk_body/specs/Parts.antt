@@ -1,13 +1,8 @@
 -- Columns of rows, and aggregates of classes, of which each may be made beside the others.
 use Rattle.std.specs.Prelude.{ℕ, ◌<◌, ◌≤◌, List, length, map, All}
-use Rattle.smk_base.specs.declared.rel.TheConstants.{COLUMN_LIMIT, ROW_LIMIT}
-use Rattle.smk_base.specs.declared.book.plan.Agg.{Agg}
-use Rattle.smk_base.specs.Places.{upto}
-use Rattle.smk_base.specs.Rels.{Relation, kind_in, picked, rows_at}
+use Rattle.smk_base.specs.{declared.rel.TheConstants.{COLUMN_LIMIT, ROW_LIMIT}, declared.book.plan.Agg.Agg, Places.upto, Rels.{Relation, kind_in, picked, rows_at}}
 use Rattle.smk_keys.specs.Classes.{ClassesImage}
-use Rattle.smk_model.specs.Plain.{aggregate}
-use Rattle.smk_model.specs.Lineage.{sub}
-use Rattle.smk_model.specs.Kinds.{AggFits, kind_of_agg}
+use Rattle.smk_model.specs.{Plain.aggregate, Lineage.sub, Kinds.{AggFits, kind_of_agg}}
 use Rattle.smk_body.specs.Halves.{AreNumbered, class_places}
 
 -- at most 1,048,576 places of rows, and at most 16 columns of them

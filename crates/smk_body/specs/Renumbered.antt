@@ -1,9 +1,7 @@
 -- Numbers of rows that are numbered part by part, before equal keys of several parts have one number.
 use Rattle.std.specs.Prelude.{◌≡◌, ℕ, ◌<◌, ◌≤◌, ◌+◌, List, [], ◌∷◌, ◌++◌, length, map, slice_index, slice_range, sum_by}
 use Rattle.smk_keys.specs.Classes.{ClassesImage, classes_of}
-use Rattle.smk_model.specs.Values.{Row}
-use Rattle.smk_model.specs.Plain.{key_of}
-use Rattle.smk_model.specs.Lineage.{row_at}
+use Rattle.smk_model.specs.{Values.Row, Plain.key_of, Lineage.row_at}
 
 -- that these are the classes of the keys of the rows from one place up to another
 abbrev pub HasKeys : List ℕ → List Row → ℕ → ℕ → ClassesImage → Type 0

@@ -1,11 +1,7 @@
 -- Groupings by one column of texts: their parts find where a text may come first.
 use Rattle.std.specs.Prelude.{◌≡◌, ℕ, ◌<◌, ◌≤◌, ◌+◌, Bool, false, List, [], ◌∷◌, length, map, slice_index, slice_index_or}
-use Rattle.smk_base.specs.Dicts.{code_or_last}
-use Rattle.smk_base.specs.Rels.{column_texts, kind_in}
-use Rattle.smk_base.specs.TextColumns.{text_firsts}
-use Rattle.smk_base.specs.declared.value.Kind.{Kind}
-use Rattle.smk_model.specs.Names.{is_text}
-use Rattle.smk_model.specs.Values.{Row}
+use Rattle.smk_base.specs.{Dicts.code_or_last, Rels.{column_texts, kind_in}, TextColumns.text_firsts, declared.value.Kind.Kind}
+use Rattle.smk_model.specs.{Names.is_text, Values.Row}
 
 -- whether these keys are one column of texts alone
 abbrev pub is_text_key : List Kind → List ℕ → Bool

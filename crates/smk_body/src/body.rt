@@ -1,16 +1,7 @@
-ghost use Rattle.std.specs.Thread.{IsSync};
-ghost use Rattle.std.specs.Prelude.{◌≡◌, ◌<◌, ◌≤◌, ◌||◌, Bool, length, IfOk, IfErr, OnOk, IsTrue};
-ghost use Rattle.smk_base.specs.PlanImage.{binary_of, unary_of};
-ghost use Rattle.smk_base.specs.Plans.{Binary, Unary};
-ghost use Rattle.smk_base.specs.Rels.{Relation};
-ghost use Rattle.smk_base.specs.declared.book.plan.Dir.{Dir};
-ghost use Rattle.smk_base.specs.declared.rel.TheConstants.{ROW_LIMIT};
-ghost use Rattle.smk_model.specs.Plain.{step1, step2};
-ghost use Rattle.smk_model.specs.Kinds.{Fits1, Fits2, kinds1, kinds2};
-ghost use Rattle.smk_body.specs.Locals.{local1, local2, is_nothing, is_nothing2};
-ghost use Rattle.smk_body.specs.Made.{IsMade1, IsMade2};
-ghost use Rattle.smk_body.specs.declared.keep.local.Local.{Local};
-ghost use Rattle.smk_body.specs.declared.keep.local.Want.{Want};
+ghost use Rattle.std.specs.{Thread.IsSync, Prelude.{◌≡◌, ◌<◌, ◌≤◌, ◌||◌, Bool, length, IfOk, IfErr, OnOk, IsTrue}};
+ghost use Rattle.smk_base.specs.{PlanImage.{binary_of, unary_of}, Plans.{Binary, Unary}, Rels.Relation, declared.book.plan.Dir.Dir, declared.rel.TheConstants.ROW_LIMIT};
+ghost use Rattle.smk_model.specs.{Plain.{step1, step2}, Kinds.{Fits1, Fits2, kinds1, kinds2}};
+ghost use Rattle.smk_body.specs.{Locals.{local1, local2, is_nothing, is_nothing2}, Made.{IsMade1, IsMade2}, declared.keep.local.Local.Local, declared.keep.local.Want.Want};
 
 use crate::fault::OpFault;
 use crate::keep::local::{Local, Want};

@@ -1,9 +1,7 @@
 //! The lineage of a step, from the ways in which its rows and those of its sides belong together.
 
 ghost use Rattle.std.specs.Prelude.{◌≡◌, IfOk, IsTrue, List};
-ghost use Rattle.smk_base.specs.Places.{Lists};
-ghost use Rattle.smk_base.specs.Plans.{Binary, Unary};
-ghost use Rattle.smk_base.specs.declared.book.plan.Dir.{Dir};
+ghost use Rattle.smk_base.specs.{Places.Lists, Plans.{Binary, Unary}, declared.book.plan.Dir.Dir};
 ghost use Rattle.smk_model.specs.Values.{Row};
 ghost use Rattle.smk_model.specs.Ways as ways;
 ghost use Rattle.smk_body.specs.Locals.{is_nothing, local1, local2, side_of};

@@ -1,13 +1,7 @@
 -- The columns of groups that are put together.
-use Rattle.std.proofs.Common.{◌≡◌, ◌∙◌, ℕ, zero, suc, ◌+◌, ◌<◌, ◌≤◌, List, [], ◌∷◌, ◌++◌, length, refl, ap, arith, All, get_or}
-use Rattle.std.proofs.lemmas.List.Elements.{All-weaker}
-use Rattle.smk_base.specs.declared.value.Kind.{Kind}
-use Rattle.smk_base.specs.declared.book.plan.Agg.{Agg}
-use Rattle.smk_base.specs.declared.rel.TheConstants.{COLUMN_LIMIT}
-use Rattle.smk_base.specs.Aggregates.{over_parts}
-use Rattle.smk_base.specs.Places.{upto}
-use Rattle.smk_model.specs.Growth.{all_over_parts}
-use Rattle.smk_model.specs.Kinds.{AggFits, GroupFits}
+use Rattle.std.proofs.{Common.{◌≡◌, ◌∙◌, ℕ, zero, suc, ◌+◌, ◌<◌, ◌≤◌, List, [], ◌∷◌, ◌++◌, length, refl, ap, arith, All, get_or}, lemmas.List.Elements.All-weaker}
+use Rattle.smk_base.specs.{declared.value.Kind.Kind, declared.book.plan.Agg.Agg, declared.rel.TheConstants.COLUMN_LIMIT, Aggregates.over_parts, Places.upto}
+use Rattle.smk_model.specs.{Growth.all_over_parts, Kinds.{AggFits, GroupFits}}
 use Rattle.smk_base.proofs.Places.{length_upto, upto_below}
 
 pub over_long : (c : ℕ) (aggs : List Agg) → length (all_over_parts c aggs) ≡ length aggs

@@ -1,37 +1,13 @@
 -- The rows of a growing chain fit its kinds.
-use Rattle.std.proofs.Common.{◌≡◌, ℕ, suc, ◌+◌, ◌<◌, ◌≤◌, ℤ, pos, ◌≤ℤ◌, Bool, true, List, [], ◌∷◌, ◌++◌, length, map, refl, ap, sym, ◌∙◌, subst, arith, get_or}
+use Rattle.std.proofs.{Common.{◌≡◌, ℕ, suc, ◌+◌, ◌<◌, ◌≤◌, ℤ, pos, ◌≤ℤ◌, Bool, true, List, [], ◌∷◌, ◌++◌, length, map, refl, ap, sym, ◌∙◌, subst, arith, get_or}, lemmas.List.{length-map, get_or-map}, lemmas.List.Elements.{All-map, All-filter, All-weaker}, lemmas.Bool.{cond_both, false≢true}}
 use Rattle.std.specs.List.{filter, All}
-use Rattle.std.proofs.lemmas.List.{length-map, get_or-map}
-use Rattle.std.proofs.lemmas.List.Elements.{All-map, All-filter, All-weaker}
-use Rattle.std.proofs.lemmas.Bool.{cond_both, false≢true}
-use Rattle.smk_base.specs.Rels.{RowFits, Fits, kind_in}
-use Rattle.smk_base.specs.declared.rel.TheConstants.{ROW_LIMIT}
-use Rattle.smk_base.specs.declared.value.Kind.{Kind}
+use Rattle.smk_base.specs.{Rels.{RowFits, Fits, kind_in}, declared.rel.TheConstants.ROW_LIMIT, declared.value.Kind.Kind, declared.value.Value.Value, declared.book.plan.Item.Item, declared.book.plan.Item.TheVariants.{Col, Bin}, declared.book.plan.Agg.Agg, Plans.{Unary, Selection, Projection, Distinction, Grouping, Expr, Leaf, Apply, Combine}}
 use Rattle.smk_base.specs.declared.value.Kind.TheVariants as kinds
-use Rattle.smk_base.specs.declared.value.Value.{Value}
 use Rattle.smk_base.specs.declared.value.Value.TheVariants as values
-use Rattle.smk_base.specs.declared.book.plan.Item.{Item}
-use Rattle.smk_base.specs.declared.book.plan.Item.TheVariants.{Col, Bin}
-use Rattle.smk_base.specs.declared.book.plan.Agg.{Agg}
-use Rattle.smk_base.specs.Plans.{Unary, Selection, Projection, Distinction, Grouping, Expr, Leaf, Apply, Combine}
-use Rattle.smk_base.proofs.Kept.{Within-bin}
-use Rattle.smk_body.proofs.Aggregating.{agg_fits}
-use Rattle.smk_body.proofs.Fitting.{value_fits, All-rest, All-head}
-use Rattle.smk_model.specs.Values.{Row, value_at, bin, meets}
-use Rattle.smk_model.specs.Plain.{row_eq, item_at, image, key_of, number_of, aggregate, grouped, step1}
-use Rattle.smk_model.specs.Kinds.{IsInt, ItemFits, AggFits, Fits1, kind_of_item, kind_of_agg, kinds1}
-use Rattle.smk_model.specs.Selection.{PlanFits, plan_kinds, leaf_kinds}
-use Rattle.smk_model.specs.Lineage.{row_at}
-use Rattle.smk_model.specs.Classes.{first_places}
-use Rattle.smk_model.specs.Composed.{table_at, rows_over}
-use Rattle.smk_model.specs.LineageLaws.{selected_table}
-use Rattle.smk_base.proofs.Places.{map_map}
-use Rattle.smk_model.proofs.Firsts.{holds, holds_at, key_there}
-use Rattle.smk_model.proofs.Classes.{first_below}
-use Rattle.smk_model.proofs.Comes.{rows_in, rows_whole}
-use Rattle.smk_model.specs.Growth.{is_growing}
-use Rattle.smk_model.proofs.Regroups.{of_key, group_rows}
-use Rattle.smk_model.proofs.Thin.{below, few_rows}
+use Rattle.smk_base.proofs.{Kept.Within-bin, Places.map_map}
+use Rattle.smk_body.proofs.{Aggregating.agg_fits, Fitting.{value_fits, All-rest, All-head}}
+use Rattle.smk_model.specs.{Values.{Row, value_at, bin, meets}, Plain.{row_eq, item_at, image, key_of, number_of, aggregate, grouped, step1}, Kinds.{IsInt, ItemFits, AggFits, Fits1, kind_of_item, kind_of_agg, kinds1}, Selection.{PlanFits, plan_kinds, leaf_kinds}, Lineage.row_at, Classes.first_places, Composed.{table_at, rows_over}, LineageLaws.selected_table, Growth.is_growing}
+use Rattle.smk_model.proofs.{Firsts.{holds, holds_at, key_there}, Classes.first_below, Comes.{rows_in, rows_whole}, Regroups.{of_key, group_rows}, Thin.{below, few_rows}}
 
 -- values that are made each from one thing
 made_fits : {X : Type 0} (f : X → Kind) (g : X → Value) (xs : List X) → All (λ x. Fits (f x) (g x)) xs → RowFits (map f xs) (map g xs)

@@ -1,36 +1,14 @@
 -- What a growing chain gives of the parts of its table, put together, is what it gives of the table.
-use Rattle.std.proofs.Common.{◌≡◌, ◌∙◌, ℕ, ◌+◌, ◌<◌, ◌≤◌, Bool, true, false, cond, List, [], ◌∷◌, ◌++◌, length, map, take, drop, refl, sym, ap, subst, arith, get_or, nat_eq, Option, Some, None, inl, inr}
-use Rattle.std.proofs.lemmas.Bool.{cases_Bool, eqb-true, le-ltb}
-use Rattle.std.proofs.lemmas.List.{length-map, length-append, get_or-map, get_or-set_same, take-append-drop}
-use Rattle.smk_base.specs.Places.{Lists, upto, pairs_of, has, inverted, composed, followed}
-use Rattle.smk_base.specs.declared.book.plan.Agg.{Agg}
-use Rattle.smk_base.specs.declared.book.need.Needed.{Needed}
-use Rattle.smk_base.specs.Plans.{Grouping, Expr, Leaf, Apply, Combine}
+use Rattle.std.proofs.{Common.{◌≡◌, ◌∙◌, ℕ, ◌+◌, ◌<◌, ◌≤◌, Bool, true, false, cond, List, [], ◌∷◌, ◌++◌, length, map, take, drop, refl, sym, ap, subst, arith, get_or, nat_eq, Option, Some, None, inl, inr}, lemmas.Bool.{cases_Bool, eqb-true, le-ltb}, lemmas.List.{length-map, length-append, get_or-map, get_or-set_same, take-append-drop}}
+use Rattle.smk_base.specs.{Places.{Lists, upto, pairs_of, has, inverted, composed, followed}, declared.book.plan.Agg.Agg, declared.book.need.Needed.Needed, Plans.{Grouping, Expr, Leaf, Apply, Combine}}
 use Rattle.smk_keys.specs.Classes.{ClassesImage}
-use Rattle.smk_model.specs.Values.{Row}
-use Rattle.smk_model.specs.Plain.{key_of, firsts, leaves, step1}
-use Rattle.smk_model.specs.Composed.{table_at, rows_over, backs, forwards}
-use Rattle.smk_model.specs.Locals.{singles, back1, fwd1}
-use Rattle.smk_model.specs.Classes.{classes}
-use Rattle.smk_model.specs.LineageLaws.{selected_table}
-use Rattle.smk_model.specs.DirectionLaws.{HasTargets}
-use Rattle.smk_model.specs.Selection.{ScansFit}
+use Rattle.smk_model.specs.{Values.Row, Plain.{key_of, firsts, leaves, step1}, Composed.{table_at, rows_over, backs, forwards}, Locals.{singles, back1, fwd1}, Classes.classes, LineageLaws.selected_table, DirectionLaws.HasTargets, Selection.ScansFit, Growth.{is_chain, is_growing, regrouping, all_over_parts}, GrowthLaws.{HasGrown, both_rows}}
 use Rattle.smk_base.proofs.Places.{map_map, map_upto, map_upto_agree}
-use Rattle.smk_model.proofs.Composed.{lists_stand}
-use Rattle.smk_model.proofs.Counts.{pairs_forward}
-use Rattle.smk_model.proofs.OneEach.{one_each}
-use Rattle.smk_body.specs.Locals.{wanted}
-use Rattle.smk_body.specs.Halves.{AreNumbered}
+use Rattle.smk_model.proofs.{Composed.lists_stand, Counts.pairs_forward, OneEach.one_each, Grows.{chain_grows, group_grows}, Thin.growing_is_thin}
+use Rattle.smk_body.specs.{Locals.wanted, Halves.AreNumbered}
 use Rattle.smk_body.proofs.Classing.{are_numbered, length_firsts}
-use Rattle.smk_compose.specs.declared.kept_maps.KeptMap.{KeptMap}
-use Rattle.smk_compose.specs.KeptMaps.{kept_at}
-use Rattle.smk_compose.specs.Through.{chained, Chains, is_heavy, map_at, no_map, no_need}
-use Rattle.smk_model.specs.Growth.{is_chain, is_growing, regrouping, all_over_parts}
-use Rattle.smk_model.specs.GrowthLaws.{HasGrown, both_rows}
-use Rattle.smk_chain.specs.Parts.{followed_maps, class_lists, both_maps, void_map, joint_map_at, joint_maps, AreSmall, Follows, AreRegrouped, MapsFit}
-use Rattle.smk_chain.specs.Runs.{tables_before, tables_behind, joint_classes}
-use Rattle.smk_model.proofs.Grows.{chain_grows, group_grows}
-use Rattle.smk_model.proofs.Thin.{growing_is_thin}
+use Rattle.smk_compose.specs.{declared.kept_maps.KeptMap.KeptMap, KeptMaps.kept_at, Through.{chained, Chains, is_heavy, map_at, no_map, no_need}}
+use Rattle.smk_chain.specs.{Parts.{followed_maps, class_lists, both_maps, void_map, joint_map_at, joint_maps, AreSmall, Follows, AreRegrouped, MapsFit}, Runs.{tables_before, tables_behind, joint_classes}}
 
 -- a growing chain and the first rows of its table
 pub record IsPart (plan : Expr) (tables : List (List Row)) (len : ℕ) : Type 0 where

@@ -1,22 +1,9 @@
 -- The columns of a growing chain are of level 0, and the sums of a last grouping of level 1, so groups can be summed once more.
-use Rattle.std.proofs.Common.{◌≡◌, ◌∙◌, ℕ, ◌+◌, ◌<◌, true, List, [], ◌++◌, length, map, sym, ap, subst, arith, All, get_or}
-use Rattle.std.proofs.lemmas.Bool.{false≢true}
-use Rattle.std.proofs.lemmas.List.{length-map, length-append, get_or-map}
-use Rattle.std.proofs.lemmas.List.Elements.{All-map}
-use Rattle.smk_base.specs.declared.value.Kind.{Kind}
+use Rattle.std.proofs.{Common.{◌≡◌, ◌∙◌, ℕ, ◌+◌, ◌<◌, true, List, [], ◌++◌, length, map, sym, ap, subst, arith, All, get_or}, lemmas.Bool.false≢true, lemmas.List.{length-map, length-append, get_or-map}, lemmas.List.Elements.All-map}
+use Rattle.smk_base.specs.{declared.value.Kind.Kind, declared.book.plan.Agg.Agg, declared.book.plan.Agg.TheVariants.Count, declared.book.plan.Item.Item, declared.book.plan.Item.TheVariants.{Col, Bin}, Plans.{Selection, Projection, Grouping, Expr, Leaf, Apply}, Rels.kind_in}
 use Rattle.smk_base.specs.declared.value.Kind.TheVariants as kinds
-use Rattle.smk_base.specs.declared.book.plan.Agg.{Agg}
-use Rattle.smk_base.specs.declared.book.plan.Agg.TheVariants.{Count}
-use Rattle.smk_base.specs.declared.book.plan.Item.{Item}
-use Rattle.smk_base.specs.declared.book.plan.Item.TheVariants.{Col, Bin}
-use Rattle.smk_base.specs.Plans.{Selection, Projection, Grouping, Expr, Leaf, Apply}
-use Rattle.smk_base.specs.Rels.{kind_in}
-use Rattle.smk_model.specs.Kinds.{AggFits, kind_of_item, kind_of_agg, kinds1}
-use Rattle.smk_model.specs.Tables.{IsBase}
-use Rattle.smk_model.specs.LineageLaws.{selected_table}
-use Rattle.smk_model.specs.Selection.{leaf_kinds, plan_kinds}
+use Rattle.smk_model.specs.{Kinds.{AggFits, kind_of_item, kind_of_agg, kinds1}, Tables.IsBase, LineageLaws.selected_table, Selection.{leaf_kinds, plan_kinds}, Growth.{is_chain, all_over_parts}}
 use Rattle.smk_model.proofs.Aggregates.{base_at, parts_fit}
-use Rattle.smk_model.specs.Growth.{is_chain, all_over_parts}
 use Rattle.smk_chain.proofs.Columns.{behind, over_at, over_long}
 
 base_item : (ks : List Kind) → All IsBase ks → (item : Item) → IsBase (kind_of_item ks item)

@@ -1,29 +1,11 @@
 -- The runs of a growing chain over the parts of its table, put together, are its run over the table.
-use Rattle.std.proofs.Common.{◌≡◌, ◌∙◌, ℕ, ◌+◌, ◌<◌, ◌≤◌, true, List, [], ◌++◌, length, map, refl, sym, ap, subst, arith, All, get_or, nat_eq, Option, Some, None}
-use Rattle.std.proofs.lemmas.List.{length-map, length-append, get_or-map}
-use Rattle.smk_base.specs.declared.value.Kind.{Kind}
-use Rattle.smk_base.specs.declared.book.plan.Agg.{Agg}
-use Rattle.smk_base.specs.declared.book.need.Needed.{Needed}
-use Rattle.smk_base.specs.declared.rel.TheConstants.{ROW_LIMIT}
-use Rattle.smk_base.specs.Plans.{Grouping, Expr, Apply}
-use Rattle.smk_base.specs.Rels.{Relation, RowFits, kind_in}
+use Rattle.std.proofs.{Common.{◌≡◌, ◌∙◌, ℕ, ◌+◌, ◌<◌, ◌≤◌, true, List, [], ◌++◌, length, map, refl, sym, ap, subst, arith, All, get_or, nat_eq, Option, Some, None}, lemmas.List.{length-map, length-append, get_or-map}}
+use Rattle.smk_base.specs.{declared.value.Kind.Kind, declared.book.plan.Agg.Agg, declared.book.need.Needed.Needed, declared.rel.TheConstants.ROW_LIMIT, Plans.{Grouping, Expr, Apply}, Rels.{Relation, RowFits, kind_in}}
 use Rattle.smk_keys.specs.Classes.{ClassesImage}
-use Rattle.smk_model.specs.Values.{Row}
-use Rattle.smk_model.specs.Composed.{table_at, rows_over}
-use Rattle.smk_model.specs.Kinds.{AggFits, kind_of_agg}
-use Rattle.smk_model.specs.LineageLaws.{selected_table}
-use Rattle.smk_model.specs.Selection.{each_kinds, each_rows, PlanFits, ScansFit, leaf_kinds, plan_kinds}
-use Rattle.smk_model.specs.Tables.{IsBase}
-use Rattle.smk_compose.specs.declared.kept_maps.KeptMap.{KeptMap}
-use Rattle.smk_compose.specs.declared.kept_maps.Run.{Run}
-use Rattle.smk_compose.specs.KeptMaps.{NeedFits, kept_at}
-use Rattle.smk_compose.specs.Through.{map_at, no_need}
-use Rattle.smk_model.specs.Growth.{is_chain, is_growing, all_over_parts}
-use Rattle.smk_chain.specs.Parts.{AreMaps, MapsFit}
-use Rattle.smk_chain.specs.Runs.{run_over, tables_before, tables_behind, chain_run, group_run, joint_groups, joint_classes, CanJoin, CanRegroup}
-use Rattle.smk_chain.proofs.FitRows.{growing_fits}
-use Rattle.smk_chain.proofs.Joining.{IsPart, scans_below, rows_few, chain_fits, chain_map, chain_rows, group_fits, group_map, group_rows, fits_at, all_maps}
-use Rattle.smk_chain.proofs.Levels.{chain_kinds, over_fits}
+use Rattle.smk_model.specs.{Values.Row, Composed.{table_at, rows_over}, Kinds.{AggFits, kind_of_agg}, LineageLaws.selected_table, Selection.{each_kinds, each_rows, PlanFits, ScansFit, leaf_kinds, plan_kinds}, Tables.IsBase, Growth.{is_chain, is_growing, all_over_parts}}
+use Rattle.smk_compose.specs.{declared.kept_maps.KeptMap.KeptMap, declared.kept_maps.Run.Run, KeptMaps.{NeedFits, kept_at}, Through.{map_at, no_need}}
+use Rattle.smk_chain.specs.{Parts.{AreMaps, MapsFit}, Runs.{run_over, tables_before, tables_behind, chain_run, group_run, joint_groups, joint_classes, CanJoin, CanRegroup}}
+use Rattle.smk_chain.proofs.{FitRows.growing_fits, Joining.{IsPart, scans_below, rows_few, chain_fits, chain_map, chain_rows, group_fits, group_map, group_rows, fits_at, all_maps}, Levels.{chain_kinds, over_fits}}
 
 -- a table that is there
 pub rows_there : (T : List Relation) (t : ℕ) (rel : Relation) → t < length T → rel ≡ get_or T t rel → rel.rows ≡ table_at (each_rows T) t

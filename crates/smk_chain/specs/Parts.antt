@@ -1,17 +1,10 @@
 -- The maps of old rows and those of new ones, put together.
 use Rattle.std.specs.Prelude.{◌≡◌, ℕ, ◌+◌, ◌<◌, ◌≤◌, cond, true, false, nat_eq, List, length, map, slice_index_or, Option, Some, None, All}
-use Rattle.smk_base.specs.Places.{Lists, upto, pairs_of, inverted, empty_lists, followed}
-use Rattle.smk_base.specs.declared.book.need.Needed.{Needed}
-use Rattle.smk_base.specs.declared.rel.TheConstants.{ROW_LIMIT}
+use Rattle.smk_base.specs.{Places.{Lists, upto, pairs_of, inverted, empty_lists, followed}, declared.book.need.Needed.Needed, declared.rel.TheConstants.ROW_LIMIT}
 use Rattle.smk_keys.specs.Classes.{ClassesImage}
-use Rattle.smk_model.specs.Values.{Row}
-use Rattle.smk_model.specs.Composed.{table_at}
-use Rattle.smk_model.specs.Locals.{singles}
-use Rattle.smk_model.specs.NodeFaults.{pair_limit}
+use Rattle.smk_model.specs.{Values.Row, Composed.table_at, Locals.singles, NodeFaults.pair_limit}
 use Rattle.smk_body.specs.Locals.{wanted}
-use Rattle.smk_compose.specs.declared.kept_maps.KeptMap.{KeptMap}
-use Rattle.smk_compose.specs.KeptMaps.{NeedFits}
-use Rattle.smk_compose.specs.Through.{chained, Chains, is_heavy, map_at, no_need}
+use Rattle.smk_compose.specs.{declared.kept_maps.KeptMap.KeptMap, KeptMaps.NeedFits, Through.{chained, Chains, is_heavy, map_at, no_need}}
 
 -- the lists of both, the second behind the first, where there are two
 abbrev pub followed_maps : Option Lists → Option Lists → Option Lists

@@ -1,21 +1,9 @@
 -- The run of a plan over tables, and the parts of a table that has grown.
 use Rattle.std.specs.Prelude.{◌≡◌, ◌+◌, ◌<◌, ◌≤◌, ℕ, List, ◌++◌, length, map, take, drop, slice_set, Option, Some, None, All}
-use Rattle.smk_base.specs.Places.{upto}
-use Rattle.smk_base.specs.Plans.{Expr, Grouping}
-use Rattle.smk_base.specs.declared.book.need.Needed.{Needed}
-use Rattle.smk_base.specs.declared.book.plan.Agg.{Agg}
-use Rattle.smk_base.specs.Rels.{RowFits}
-use Rattle.smk_base.specs.declared.rel.TheConstants.{ROW_LIMIT}
-use Rattle.smk_base.specs.declared.value.Kind.{Kind}
+use Rattle.smk_base.specs.{Places.upto, Plans.{Expr, Grouping}, declared.book.need.Needed.Needed, declared.book.plan.Agg.Agg, Rels.RowFits, declared.rel.TheConstants.ROW_LIMIT, declared.value.Kind.Kind}
 use Rattle.smk_keys.specs.Classes.{ClassesImage, classes_of}
-use Rattle.smk_model.specs.Values.{Row}
-use Rattle.smk_model.specs.Plain.{key_of, step1}
-use Rattle.smk_model.specs.Composed.{table_at, rows_over}
-use Rattle.smk_model.specs.Kinds.{AggFits}
-use Rattle.smk_model.specs.Selection.{leaf_kinds, plan_kinds}
-use Rattle.smk_compose.specs.declared.kept_maps.Run.{Run}
-use Rattle.smk_compose.specs.KeptMaps.{kept_at}
-use Rattle.smk_model.specs.Growth.{all_over_parts}
+use Rattle.smk_model.specs.{Values.Row, Plain.{key_of, step1}, Composed.{table_at, rows_over}, Kinds.AggFits, Selection.{leaf_kinds, plan_kinds}, Growth.all_over_parts}
+use Rattle.smk_compose.specs.{declared.kept_maps.Run.Run, KeptMaps.kept_at}
 use Rattle.smk_chain.specs.Parts.{joint_maps, AreMaps}
 
 -- the rows of a plan over tables with columns of these kinds, and the needed lineage

@@ -1,10 +1,8 @@
 //! The groups of two parts after each other, put together: each key once, by first occurrence, with its aggregates over both.
 
 ghost use Rattle.std.specs.Prelude.{◌≡◌, ◌+◌, ◌<◌, ◌≤◌, All, IfOk, length};
-ghost use Rattle.smk_base.specs.Rels.{RowFits};
-ghost use Rattle.smk_base.specs.declared.rel.TheConstants.{COLUMN_LIMIT};
-ghost use Rattle.smk_model.specs.Kinds.{AggFits};
-ghost use Rattle.smk_model.specs.Growth.{all_over_parts};
+ghost use Rattle.smk_base.specs.{Rels.RowFits, declared.rel.TheConstants.COLUMN_LIMIT};
+ghost use Rattle.smk_model.specs.{Kinds.AggFits, Growth.all_over_parts};
 ghost use Rattle.smk_chain.specs.Runs.{joint_classes, joint_groups};
 
 use smk_base::{Agg, Aggs, Kind, Rel, numbers_below};

@@ -1,13 +1,8 @@
 ghost use Rattle.std.specs.Prelude.{◌≡◌, ◌+◌, ◌<◌, ◌≤◌, ◌++◌, true, None, length, IfOk};
-ghost use Rattle.smk_base.specs.PlanImage.{expr_of};
-ghost use Rattle.smk_model.specs.Composed.{table_at};
-ghost use Rattle.smk_model.specs.LineageLaws.{selected_table};
-ghost use Rattle.smk_model.specs.Selection.{each_kinds, each_rows, leaf_kinds, PlanFits, ScansFit};
-ghost use Rattle.smk_base.specs.declared.rel.TheConstants.{ROW_LIMIT};
+ghost use Rattle.smk_base.specs.{PlanImage.expr_of, declared.rel.TheConstants.ROW_LIMIT};
+ghost use Rattle.smk_model.specs.{Composed.table_at, LineageLaws.selected_table, Selection.{each_kinds, each_rows, leaf_kinds, PlanFits, ScansFit}, Growth.is_growing};
 ghost use Rattle.smk_compose.specs.KeptMaps.{NeedFits};
-ghost use Rattle.smk_model.specs.Growth.{is_growing};
-ghost use Rattle.smk_chain.specs.Parts.{joint_maps, AreMaps};
-ghost use Rattle.smk_chain.specs.Runs.{chain_run, group_run, run_over, tables_before, tables_behind, CanJoin, CanRegroup};
+ghost use Rattle.smk_chain.specs.{Parts.{joint_maps, AreMaps}, Runs.{chain_run, group_run, run_over, tables_before, tables_behind, CanJoin, CanRegroup}};
 
 use crate::chains::{LastGrouping, grouping_of};
 use crate::groups::regrouped;

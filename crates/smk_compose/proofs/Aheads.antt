@@ -1,15 +1,10 @@
 -- The maps of an input that a step has still to pass, while its lists are handed on.
-use Rattle.std.proofs.Common.{◌≡◌, ◌∙◌, ◌<◌, ◌+◌, ℕ, Bool, true, List, [], ◌∷◌, length, map, drop, get_or, Option, Some, None, is_some, refl, sym, ap, subst, arith, slice_set}
+use Rattle.std.proofs.{Common.{◌≡◌, ◌∙◌, ◌<◌, ◌+◌, ℕ, Bool, true, List, [], ◌∷◌, length, map, drop, get_or, Option, Some, None, is_some, refl, sym, ap, subst, arith, slice_set}, lemmas.Bool.or_right, lemmas.List.{length-drop, get_or-drop, get_or-map, drop-drop, drop-set-lt}, lemmas.List.Folds.list_any_at}
 use Rattle.std.specs.List.{list_any}
-use Rattle.std.proofs.lemmas.Bool.{or_right}
-use Rattle.std.proofs.lemmas.List.{length-drop, get_or-drop, get_or-map, drop-drop, drop-set-lt}
-use Rattle.std.proofs.lemmas.List.Folds.{list_any_at}
 use Rattle.smk_base.specs.Places.{Lists}
 use Rattle.smk_body.specs.declared.keep.local.Side.{Side}
-use Rattle.smk_compose.specs.Through.{chained, Chains, through, merged_maps, together, together_all, Passes, Matches, Meets, has_back, has_fwd, map_at, no_map, Serves, IsAhead}
-use Rattle.smk_compose.specs.declared.kept_maps.KeptMap.{KeptMap}
-use Rattle.smk_compose.proofs.Wants.{mk_same}
-use Rattle.smk_compose.proofs.Togethers.{together_at}
+use Rattle.smk_compose.specs.{Through.{chained, Chains, through, merged_maps, together, together_all, Passes, Matches, Meets, has_back, has_fwd, map_at, no_map, Serves, IsAhead}, declared.kept_maps.KeptMap.KeptMap}
+use Rattle.smk_compose.proofs.{Wants.mk_same, Togethers.together_at}
 
 -- one map
 

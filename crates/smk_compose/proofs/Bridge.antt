@@ -1,28 +1,12 @@
 -- The maps of a plan and the definitions over the lists of its leaves.
-use Rattle.std.proofs.Common.{◌≡◌, ◌∙◌, ◌+◌, ◌<◌, ℕ, suc, Bool, true, false, cond, ◌&&◌, ◌||◌, IsTrue, List, [], ◌∷◌, length, map, drop, get_or, Option, Some, option_map, nat_lt, refl, sym, ap, arith, inl, inr}
+use Rattle.std.proofs.{Common.{◌≡◌, ◌∙◌, ◌+◌, ◌<◌, ℕ, suc, Bool, true, false, cond, ◌&&◌, ◌||◌, IsTrue, List, [], ◌∷◌, length, map, drop, get_or, Option, Some, option_map, nat_lt, refl, sym, ap, arith, inl, inr}, lemmas.Bool.cases_Bool, lemmas.List.{length-append, length-map, get_or-map, get_or_append_left, get_or-append-add, get_or-drop, same_lists, get_or_default}}
 use Rattle.std.specs.List.{find}
-use Rattle.std.proofs.lemmas.Bool.{cases_Bool}
-use Rattle.std.proofs.lemmas.List.{length-append, length-map, get_or-map, get_or_append_left, get_or-append-add, get_or-drop, same_lists, get_or_default}
-use Rattle.smk_base.specs.Places.{Lists, has, pairs_of, empty_lists}
-use Rattle.smk_base.specs.Plans.{Binary, Expr, Combine}
-use Rattle.smk_model.specs.Values.{Row}
-use Rattle.smk_model.specs.Plain.{leaves, width, eval}
-use Rattle.smk_model.specs.Composed.{table_at, rows_over, backs, forwards}
-use Rattle.smk_model.specs.Selection.{is_full}
-use Rattle.smk_model.proofs.Anys.{or_false}
-use Rattle.smk_model.proofs.Comes.{IsPart, rows_part, rows_whole}
-use Rattle.smk_model.proofs.Composed.{lists_stand}
+use Rattle.smk_base.specs.{Places.{Lists, has, pairs_of, empty_lists}, Plans.{Binary, Expr, Combine}, declared.book.need.Needed.Needed, Needs.is_needed}
+use Rattle.smk_model.specs.{Values.Row, Plain.{leaves, width, eval}, Composed.{table_at, rows_over, backs, forwards}, Selection.is_full, NodeFaults.{NodeFault, FullRows, FullPairs, AskedTable, asked_of, pair_limit, is_crowded, last_node_fault}}
+use Rattle.smk_model.proofs.{Anys.or_false, Comes.{IsPart, rows_part, rows_whole}, Composed.lists_stand, Counts.pairs_forward}
 use Rattle.smk_body.specs.Locals.{wanted}
-use Rattle.smk_model.specs.NodeFaults.{NodeFault, FullRows, FullPairs, AskedTable, asked_of, pair_limit, is_crowded, last_node_fault}
-use Rattle.smk_compose.specs.KeptMaps.{held_at, kept_at}
-use Rattle.smk_compose.specs.Walk.{AreDirected, AreWhole, WholeWhereNeeded}
-use Rattle.smk_compose.specs.Through.{is_heavy, has_heavy, node_fault, pairs_fault, or_empty, filled, map_at, no_map, no_need}
-use Rattle.smk_compose.specs.declared.kept_maps.KeptMap.{KeptMap}
-use Rattle.smk_base.specs.declared.book.need.Needed.{Needed}
-use Rattle.smk_compose.proofs.Wants.{mk_same}
-use Rattle.smk_compose.proofs.Counts.{pairs_part, pairs_unscanned}
-use Rattle.smk_model.proofs.Counts.{pairs_forward}
-use Rattle.smk_base.specs.Needs.{is_needed}
+use Rattle.smk_compose.specs.{KeptMaps.{held_at, kept_at}, Walk.{AreDirected, AreWhole, WholeWhereNeeded}, Through.{is_heavy, has_heavy, node_fault, pairs_fault, or_empty, filled, map_at, no_map, no_need}, declared.kept_maps.KeptMap.KeptMap}
+use Rattle.smk_compose.proofs.{Wants.mk_same, Counts.{pairs_part, pairs_unscanned}}
 
 -- faults
 

@@ -1,15 +1,11 @@
 -- Maps that are composed and merged.
-use Rattle.std.proofs.Common.{◌≡◌, ◌∙◌, ◌<◌, ◌≤◌, ℕ, true, List, length, get_or, get_or-set_same, slice_set, Option, Some, None, sym, ap, arith, nat_lt, All, inl, inr}
-use Rattle.std.proofs.lemmas.Bool.{or_cases, or_left, or_right}
-use Rattle.std.proofs.lemmas.List.{set-set}
-use Rattle.std.proofs.lemmas.List.Elements.{All-map}
+use Rattle.std.proofs.{Common.{◌≡◌, ◌∙◌, ◌<◌, ◌≤◌, ℕ, true, List, length, get_or, get_or-set_same, slice_set, Option, Some, None, sym, ap, arith, nat_lt, All, inl, inr}, lemmas.Bool.{or_cases, or_left, or_right}, lemmas.List.set-set, lemmas.List.Elements.All-map}
 use Rattle.smk_base.specs.Places.{Lists, IsPlaces, pairs_of, members_at, composed, merged}
 use Rattle.smk_rid.proofs.Joins.{members_set}
 use Rattle.smk_model.proofs.Pairs.{merged_has_both}
 use Rattle.smk_model.specs.NodeFaults.{pair_limit}
 use Rattle.smk_body.specs.declared.keep.local.Side.{Side}
-use Rattle.smk_compose.specs.Through.{chained, merged_if_both, CanMerge, is_heavy, has_heavy, through, merged_maps, together, map_at, Matches}
-use Rattle.smk_compose.specs.declared.kept_maps.KeptMap.{KeptMap}
+use Rattle.smk_compose.specs.{Through.{chained, merged_if_both, CanMerge, is_heavy, has_heavy, through, merged_maps, together, map_at, Matches}, declared.kept_maps.KeptMap.KeptMap}
 
 pub composed_sets : (a b : Lists) → All (IsPlaces b.bound) (composed a b).lists
 composed_sets a b = All-map (IsPlaces b.bound) (members_at b) a.lists (λ k d l. members_set b (get_or a.lists k d))

@@ -1,17 +1,10 @@
 -- The number of pairs of a plan whose leaves have whole tables.
-use Rattle.std.proofs.Common.{◌≡◌, ◌∙◌, ◌<◌, ℕ, zero, suc, false, List, [], length, refl, sym, ap, arith}
+use Rattle.std.proofs.{Common.{◌≡◌, ◌∙◌, ◌<◌, ℕ, zero, suc, false, List, [], length, refl, sym, ap, arith}, lemmas.List.Sums.sum_by_push, lemmas.List.Folds.sum_by-replicate}
 use Rattle.std.specs.List.{sum_by}
-use Rattle.std.proofs.lemmas.List.Sums.{sum_by_push}
-use Rattle.std.proofs.lemmas.List.Folds.{sum_by-replicate}
-use Rattle.smk_base.specs.Places.{Lists, upto, places, pairs_of, has}
-use Rattle.smk_base.specs.Plans.{Expr}
-use Rattle.smk_model.specs.Values.{Row}
-use Rattle.smk_model.specs.Plain.{leaves, eval}
-use Rattle.smk_model.specs.Annotated.{pairs, relates}
-use Rattle.smk_model.specs.Composed.{table_at, rows_over, backs}
+use Rattle.smk_base.specs.{Places.{Lists, upto, places, pairs_of, has}, Plans.Expr}
+use Rattle.smk_model.specs.{Values.Row, Plain.{leaves, eval}, Annotated.{pairs, relates}, Composed.{table_at, rows_over, backs}}
 use Rattle.smk_base.proofs.Places.{same_below}
-use Rattle.smk_model.proofs.Comes.{rows_in, comes, IsPart, rows_part, reaches_part}
-use Rattle.smk_model.proofs.Composed.{sum_by_map, backs_by, lists_stand}
+use Rattle.smk_model.proofs.{Comes.{rows_in, comes, IsPart, rows_part, reaches_part}, Composed.{sum_by_map, backs_by, lists_stand}}
 
 sum_agree : (f g : ℕ → ℕ) (k : ℕ) → ((o : ℕ) → o < k → f o ≡ g o) → sum_by f (upto k) ≡ sum_by g (upto k)
 sum_agree f g zero h = refl

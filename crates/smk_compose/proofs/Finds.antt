@@ -1,11 +1,8 @@
 -- A loop over maps that stops at the first with too many pairs.
-use Rattle.std.proofs.Common.{◌≡◌, ◌∙◌, ◌<◌, ◌≤◌, ℕ, zero, suc, ◌+◌, Bool, true, false, List, [], ◌∷◌, ◌++◌, length, take, get_or, Some, None, refl, sym, ap, subst, arith, inl, inr, slice_set}
+use Rattle.std.proofs.{Common.{◌≡◌, ◌∙◌, ◌<◌, ◌≤◌, ℕ, zero, suc, ◌+◌, Bool, true, false, List, [], ◌∷◌, ◌++◌, length, take, get_or, Some, None, refl, sym, ap, subst, arith, inl, inr, slice_set}, lemmas.Bool.cases_Bool, lemmas.List.{take_more, take_more_set, take_all}}
 use Rattle.std.specs.List.{find}
-use Rattle.std.proofs.lemmas.Bool.{cases_Bool}
-use Rattle.std.proofs.lemmas.List.{take_more, take_more_set, take_all}
 use Rattle.smk_model.specs.NodeFaults.{FullPairs}
-use Rattle.smk_compose.specs.Through.{has_heavy, map_at, no_map, pairs_fault}
-use Rattle.smk_compose.specs.declared.kept_maps.KeptMap.{KeptMap}
+use Rattle.smk_compose.specs.{Through.{has_heavy, map_at, no_map, pairs_fault}, declared.kept_maps.KeptMap.KeptMap}
 
 find_here : {X : Type 0} (t : X → Bool) (xs : List X) (i : ℕ) (d : X) → find t (take i xs) ≡ None → i < length xs → t (get_or xs i d) ≡ true → find t xs ≡ Some (get_or xs i d)
 find_here t [] i d none low is = absurd (omega arith)

@@ -1,16 +1,8 @@
 -- Lists of Rels and of rids.
-use Rattle.std.proofs.Common.{◌≡◌, ◌∙◌, ◌+◌, ◌<◌, ◌≤◌, ℕ, zero, suc, List, [], ◌∷◌, ◌++◌, length, map, drop, get_or, All, Bool, true, Some, None, refl, sym, ap, subst, arith, inl, inr, nat_eq}
+use Rattle.std.proofs.{Common.{◌≡◌, ◌∙◌, ◌+◌, ◌<◌, ◌≤◌, ℕ, zero, suc, List, [], ◌∷◌, ◌++◌, length, map, drop, get_or, All, Bool, true, Some, None, refl, sym, ap, subst, arith, inl, inr, nat_eq}, Math.ListN.get_or-map, lemmas.Bool.cases_Bool, lemmas.List.{map-append, drop-map, length-map, get_or_default}, lemmas.List.Sums.sum_by-append}
 use Rattle.std.specs.List.{find}
-use Rattle.std.proofs.Math.ListN.{get_or-map}
-use Rattle.std.proofs.lemmas.Bool.{cases_Bool}
-use Rattle.std.proofs.lemmas.List.{map-append, drop-map, length-map, get_or_default}
-use Rattle.std.proofs.lemmas.List.Sums.{sum_by-append}
-use Rattle.smk_base.specs.Rels.{Relation}
-use Rattle.smk_base.specs.Picks.{IsAscending}
-use Rattle.smk_base.specs.declared.list.table_rids.Pick.{Pick}
-use Rattle.smk_model.specs.Values.{Row}
-use Rattle.smk_model.specs.Lineage.{sub}
-use Rattle.smk_model.specs.Selection.{each_rows, each_kinds, rows_in, picked, kept_rows, selected, PickFits}
+use Rattle.smk_base.specs.{Rels.Relation, Picks.IsAscending, declared.list.table_rids.Pick.Pick}
+use Rattle.smk_model.specs.{Values.Row, Lineage.sub, Selection.{each_rows, each_kinds, rows_in, picked, kept_rows, selected, PickFits}}
 use Rattle.smk_compose.specs.Fetched.{table_of, leaf_over}
 
 pub map_two : (f : ℕ → Relation) (a b : List ℕ) → map f (a ++ b) ≡ map f a ++ map f b

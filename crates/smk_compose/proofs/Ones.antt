@@ -1,21 +1,11 @@
 -- The maps of a plan whose last step has one input, from those of its input.
-use Rattle.std.proofs.Common.{◌≡◌, ◌∙◌, ◌<◌, ℕ, Bool, true, false, ◌&&◌, List, [], ◌∷◌, length, map, get_or, Some, refl, sym, ap, subst, arith, All}
-use Rattle.std.proofs.lemmas.List.{length-map}
-use Rattle.std.proofs.lemmas.List.Elements.{All-map}
-use Rattle.smk_base.specs.Places.{Lists, has, upto, composed}
-use Rattle.smk_base.specs.Plans.{Unary, Expr, Apply}
-use Rattle.smk_model.specs.Values.{Row}
-use Rattle.smk_model.specs.Plain.{step1, leaves}
-use Rattle.smk_model.specs.Lineage.{places, from1}
-use Rattle.smk_model.specs.Locals.{back1, fwd1}
-use Rattle.smk_model.specs.Composed.{rows_over, backs, forwards}
+use Rattle.std.proofs.{Common.{◌≡◌, ◌∙◌, ◌<◌, ℕ, Bool, true, false, ◌&&◌, List, [], ◌∷◌, length, map, get_or, Some, refl, sym, ap, subst, arith, All}, lemmas.List.length-map, lemmas.List.Elements.All-map}
+use Rattle.smk_base.specs.{Places.{Lists, has, upto, composed}, Plans.{Unary, Expr, Apply}, declared.book.need.Needed.Needed}
+use Rattle.smk_model.specs.{Values.Row, Plain.{step1, leaves}, Lineage.{places, from1}, Locals.{back1, fwd1}, Composed.{rows_over, backs, forwards}}
 use Rattle.smk_base.proofs.Places.{map_map, length_upto}
 use Rattle.smk_model.proofs.Composed.{backs_compose, forwards_compose, lists_stand}
 use Rattle.smk_body.specs.Locals.{wanted}
-use Rattle.smk_compose.specs.KeptMaps.{held_at}
-use Rattle.smk_compose.specs.Through.{chained, Chains, through, side1, Passes, node_fault}
-use Rattle.smk_compose.specs.declared.kept_maps.KeptMap.{KeptMap}
-use Rattle.smk_base.specs.declared.book.need.Needed.{Needed}
+use Rattle.smk_compose.specs.{KeptMaps.held_at, Through.{chained, Chains, through, side1, Passes, node_fault}, declared.kept_maps.KeptMap.KeptMap}
 use Rattle.smk_compose.proofs.Wants.{mk_same, map_agree}
 
 -- one map

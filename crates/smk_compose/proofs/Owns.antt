@@ -1,9 +1,6 @@
 -- Maps composed with an identity.
-use Rattle.std.proofs.Common.{◌≡◌, ◌∙◌, ℕ, Bool, true, false, cond, List, [], ◌∷◌, length, map, get_or, nat_eq, nat_lt, Option, Some, None, IfSome, refl, sym, ap, subst, All, arith, inl, inr}
-use Rattle.std.proofs.lemmas.Bool.{cases_Bool}
+use Rattle.std.proofs.{Common.{◌≡◌, ◌∙◌, ℕ, Bool, true, false, cond, List, [], ◌∷◌, length, map, get_or, nat_eq, nat_lt, Option, Some, None, IfSome, refl, sym, ap, subst, All, arith, inl, inr}, lemmas.Bool.cases_Bool, lemmas.List.Elements.All-get_or, lemmas.List.length-map}
 use Rattle.std.specs.List.{list_any}
-use Rattle.std.proofs.lemmas.List.Elements.{All-get_or}
-use Rattle.std.proofs.lemmas.List.{length-map}
 use Rattle.smk_base.specs.Places.{Lists, IsPlaces, upto, has, list_at, own_lists, pairs_of, members_at, composed}
 use Rattle.smk_rid.specs.Maps.{IsMap}
 use Rattle.smk_rid.proofs.Sets.{is_below}

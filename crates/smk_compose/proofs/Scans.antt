@@ -1,19 +1,11 @@
 -- The maps of a scan.
-use Rattle.std.proofs.Common.{◌≡◌, ◌∙◌, ◌<◌, ◌≤◌, ℕ, zero, suc, Bool, true, false, ◌&&◌, ◌||◌, List, [], ◌∷◌, length, map, get_or, Some, None, nat_eq, nat_lt, eqb-true, refl, sym, ap, arith, inl, inr}
+use Rattle.std.proofs.{Common.{◌≡◌, ◌∙◌, ◌<◌, ◌≤◌, ℕ, zero, suc, Bool, true, false, ◌&&◌, ◌||◌, List, [], ◌∷◌, length, map, get_or, Some, None, nat_eq, nat_lt, eqb-true, refl, sym, ap, arith, inl, inr}, lemmas.Bool.cases_Bool, lemmas.List.map-append, lemmas.List.Sums.sum_by_push}
 use Rattle.std.specs.List.{find}
-use Rattle.std.proofs.lemmas.Bool.{cases_Bool}
-use Rattle.std.proofs.lemmas.List.{map-append}
-use Rattle.std.proofs.lemmas.List.Sums.{sum_by_push}
-use Rattle.smk_base.specs.Plans.{Leaf}
-use Rattle.smk_base.specs.Places.{Lists, upto, pairs_of, own_lists}
-use Rattle.smk_model.specs.Values.{Row}
-use Rattle.smk_model.specs.Composed.{table_at, backs, forwards}
+use Rattle.smk_base.specs.{Plans.Leaf, Places.{Lists, upto, pairs_of, own_lists}, declared.book.need.Needed.Needed}
+use Rattle.smk_model.specs.{Values.Row, Composed.{table_at, backs, forwards}, NodeFaults.pair_limit}
 use Rattle.smk_model.proofs.Composed.{backs_compose, forwards_compose}
 use Rattle.smk_body.specs.Locals.{wanted}
-use Rattle.smk_model.specs.NodeFaults.{pair_limit}
-use Rattle.smk_compose.specs.KeptMaps.{held_at}
-use Rattle.smk_compose.specs.Through.{is_heavy, has_heavy, scan_at}
-use Rattle.smk_base.specs.declared.book.need.Needed.{Needed}
+use Rattle.smk_compose.specs.{KeptMaps.held_at, Through.{is_heavy, has_heavy, scan_at}}
 use Rattle.smk_compose.proofs.Wants.{mk_same, map_agree}
 
 wanted_scan : (e d : Bool) (X Y : Lists) → (e ≡ true → X ≡ Y) → wanted (e && d) X ≡ wanted (d && (e || false)) Y

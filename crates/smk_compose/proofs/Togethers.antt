@@ -1,17 +1,9 @@
 -- The maps of both inputs of a step, one after the other.
 use Rattle.std.proofs.Common.{◌≡◌, ◌∙◌, ◌<◌, ℕ, zero, suc, List, [], ◌∷◌, length, get_or, Option, refl, ap, subst, arith}
-use Rattle.smk_base.specs.Places.{Lists}
-use Rattle.smk_base.specs.declared.book.plan.Dir.{Dir}
-use Rattle.smk_base.specs.Plans.{Binary}
-use Rattle.smk_base.specs.Rels.{Relation}
-use Rattle.smk_model.specs.Values.{Row}
-use Rattle.smk_model.specs.Locals.{back_left, fwd_left, back_right, fwd_right}
-use Rattle.smk_body.specs.Locals.{side_of, local2}
-use Rattle.smk_body.specs.declared.keep.local.Side.{Side}
-use Rattle.smk_body.specs.declared.keep.local.Local.{Local}
-use Rattle.smk_body.specs.declared.keep.local.Want.{Want}
-use Rattle.smk_compose.specs.Through.{merged_if_both, CanMerge, together, together_all, want_of, right_of, map_at, no_map, side_left, side_right}
-use Rattle.smk_compose.specs.declared.kept_maps.KeptMap.{KeptMap}
+use Rattle.smk_base.specs.{Places.Lists, declared.book.plan.Dir.Dir, Plans.Binary, Rels.Relation}
+use Rattle.smk_model.specs.{Values.Row, Locals.{back_left, fwd_left, back_right, fwd_right}}
+use Rattle.smk_body.specs.{Locals.{side_of, local2}, declared.keep.local.Side.Side, declared.keep.local.Local.Local, declared.keep.local.Want.Want}
+use Rattle.smk_compose.specs.{Through.{merged_if_both, CanMerge, together, together_all, want_of, right_of, map_at, no_map, side_left, side_right}, declared.kept_maps.KeptMap.KeptMap}
 use Rattle.smk_compose.proofs.Wants.{mk_same, full, chained_back, chained_fwd}
 
 pub together_long : (ls rs : Side) (lefts rights : List KeptMap) → length lefts ≡ length rights → length (together_all ls rs lefts rights) ≡ length lefts

@@ -1,26 +1,12 @@
 -- The maps of a plan whose last step has two inputs, from those of its inputs.
-use Rattle.std.proofs.Common.{◌≡◌, ◌∙◌, ◌<◌, ℕ, Bool, true, false, ◌&&◌, ◌||◌, List, [], ◌∷◌, ◌++◌, length, map, get_or, Some, nat_eq, refl, sym, ap, subst, arith}
-use Rattle.std.proofs.lemmas.List.{length-map, get_or-map}
-use Rattle.std.proofs.lemmas.List.Folds.{list_any-append}
-use Rattle.smk_base.specs.Places.{Lists, has, upto, places, members_at, composed, merged}
-use Rattle.smk_base.specs.Plans.{Binary, Expr, Combine}
-use Rattle.smk_model.specs.Values.{Row}
-use Rattle.smk_model.specs.Plain.{step2, leaves}
-use Rattle.smk_model.specs.Lineage.{from_left, from_right}
-use Rattle.smk_model.specs.Locals.{back_left, fwd_left, back_right, fwd_right}
-use Rattle.smk_model.specs.Composed.{table_at, rows_over, backs, forwards}
+use Rattle.std.proofs.{Common.{◌≡◌, ◌∙◌, ◌<◌, ℕ, Bool, true, false, ◌&&◌, ◌||◌, List, [], ◌∷◌, ◌++◌, length, map, get_or, Some, nat_eq, refl, sym, ap, subst, arith}, lemmas.List.{length-map, get_or-map}, lemmas.List.Folds.list_any-append}
+use Rattle.smk_base.specs.{Places.{Lists, has, upto, places, members_at, composed, merged}, Plans.{Binary, Expr, Combine}, declared.book.need.Needed.Needed}
+use Rattle.smk_model.specs.{Values.Row, Plain.{step2, leaves}, Lineage.{from_left, from_right}, Locals.{back_left, fwd_left, back_right, fwd_right}, Composed.{table_at, rows_over, backs, forwards}}
 use Rattle.smk_base.proofs.Places.{length_upto}
 use Rattle.smk_model.proofs.Composed.{backs_compose, forwards_compose, lists_stand}
 use Rattle.smk_body.specs.Locals.{wanted}
-use Rattle.smk_compose.specs.KeptMaps.{held_at}
-use Rattle.smk_compose.specs.Through.{chained, merged_if_both, CanMerge, together, together_all, side_left, side_right, Meets, map_at, no_map, no_need}
-use Rattle.smk_compose.specs.declared.kept_maps.KeptMap.{KeptMap}
-use Rattle.smk_base.specs.declared.book.need.Needed.{Needed}
-use Rattle.smk_compose.proofs.Chains.{composed_sets}
-use Rattle.smk_compose.proofs.Wants.{mk_same}
-use Rattle.smk_compose.proofs.Togethers.{merged_same, can_merge_along, lists_same}
-use Rattle.smk_compose.proofs.Ones.{RowsWhereNeeded, first_fits, last_fits}
-use Rattle.smk_compose.proofs.Alone.{IsVoid, empty_void, composed_void, void_composed, merged_left, merged_right}
+use Rattle.smk_compose.specs.{KeptMaps.held_at, Through.{chained, merged_if_both, CanMerge, together, together_all, side_left, side_right, Meets, map_at, no_map, no_need}, declared.kept_maps.KeptMap.KeptMap}
+use Rattle.smk_compose.proofs.{Chains.composed_sets, Wants.mk_same, Togethers.{merged_same, can_merge_along, lists_same}, Ones.{RowsWhereNeeded, first_fits, last_fits}, Alone.{IsVoid, empty_void, composed_void, void_composed, merged_left, merged_right}}
 
 -- the wanted lists of both sides, each where its side has the table
 merged_wants : (d p q : Bool) (X Y Z : Lists) → Z ≡ merged X Y → (q ≡ false → merged X Y ≡ X) → (p ≡ false → merged X Y ≡ Y) → merged_if_both (wanted (d && p) X) (wanted (d && q) Y) ≡ wanted (d && (p || q)) Z

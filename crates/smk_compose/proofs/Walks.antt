@@ -1,45 +1,17 @@
 -- What a walk has made of a plan, from what it has made of its inputs.
-use Rattle.std.proofs.Common.{◌≡◌, ◌∙◌, ◌+◌, ◌<◌, ◌≤◌, ℕ, cond, nat_lt, List, [], ◌∷◌, length, map, drop, get_or, Option, Some, None, option_map, refl, sym, ap, ap₂, subst, arith, All, IfOk, IfErr, OnOk, Result, Ok, Err}
-use Rattle.std.specs.List.{find}
-use Rattle.std.specs.Option.{option_or}
-use Rattle.std.proofs.lemmas.List.{length-map, get_or-map}
-use Rattle.smk_base.specs.PlanImage.{binary_of, unary_of}
-use Rattle.smk_base.specs.Places.{Lists, upto}
-use Rattle.smk_base.specs.Plans.{Unary, Binary, Expr, Leaf, Apply, Combine}
-use Rattle.smk_base.specs.Rels.{Relation, kind_in, picked}
-use Rattle.smk_base.specs.declared.book.need.Needed.{Needed}
-use Rattle.smk_base.specs.declared.list.table_rids.Pick.{Pick}
-use Rattle.smk_base.specs.declared.value.Kind.{Kind}
+use Rattle.std.proofs.{Common.{◌≡◌, ◌∙◌, ◌+◌, ◌<◌, ◌≤◌, ℕ, cond, nat_lt, List, [], ◌∷◌, length, map, drop, get_or, Option, Some, None, option_map, refl, sym, ap, ap₂, subst, arith, All, IfOk, IfErr, OnOk, Result, Ok, Err}, lemmas.List.{length-map, get_or-map}}
+use Rattle.std.specs.{List.find, Option.option_or}
+use Rattle.smk_base.specs.{PlanImage.{binary_of, unary_of}, Places.{Lists, upto}, Plans.{Unary, Binary, Expr, Leaf, Apply, Combine}, Rels.{Relation, kind_in, picked}, declared.book.need.Needed.Needed, declared.list.table_rids.Pick.Pick, declared.value.Kind.Kind}
 use Rattle.smk_base.specs.declared.value.Kind.TheVariants as kinds
 use Rattle.smk_base.proofs.Places.{map_upto, upto_below}
-use Rattle.smk_model.specs.Values.{Row}
-use Rattle.smk_model.specs.Plain.{step1, step2, leaves, width, eval, whole, table_at}
-use Rattle.smk_model.specs.Kinds.{Fits2, kinds1, kinds2}
-use Rattle.smk_model.specs.Selection.{each_kinds, each_rows, plan_kinds, over, PlanFits, nodes, row_limit, first_full}
-use Rattle.smk_model.specs.NodeFaults.{NodeFault, FullRows, FullPairs, asked_of, last_node_fault, first_fault_from}
-use Rattle.smk_model.proofs.Bulk.{bulk}
-use Rattle.smk_model.proofs.NodeFaults.{nothing_is_asked}
+use Rattle.smk_model.specs.{Values.Row, Plain.{step1, step2, leaves, width, eval, whole, table_at}, Kinds.{Fits2, kinds1, kinds2}, Selection.{each_kinds, each_rows, plan_kinds, over, PlanFits, nodes, row_limit, first_full}, NodeFaults.{NodeFault, FullRows, FullPairs, asked_of, last_node_fault, first_fault_from}}
+use Rattle.smk_model.proofs.{Bulk.bulk, NodeFaults.nothing_is_asked}
 use Rattle.smk_body.specs.declared.keep.local.Side.{Side}
 use Rattle.smk_table.specs.Wanted as wanted
-use Rattle.smk_table.specs.Wanted.{AreWide, among1, after1, among2, after2, below_left, below_right}
-use Rattle.smk_table.specs.declared.wanted.NarrowedOne.{NarrowedOne}
-use Rattle.smk_table.specs.declared.wanted.NarrowedTwo.{NarrowedTwo}
+use Rattle.smk_table.specs.{Wanted.{AreWide, among1, after1, among2, after2, below_left, below_right}, declared.wanted.NarrowedOne.NarrowedOne, declared.wanted.NarrowedTwo.NarrowedTwo}
 use Rattle.smk_table.proofs.StepNarrows.{Narrows1, Narrows2, one_narrows, two_narrows}
-use Rattle.smk_compose.specs.KeptMaps.{held_at}
-use Rattle.smk_compose.specs.Through.{through, together_all, side1, side_left, side_right, Passes, Meets, map_at, has_heavy, pairs_fault, node_fault, scan_at, IsFirst}
-use Rattle.smk_compose.specs.Walk.{AreDirected, WholeWhereNeeded, IsWalked, IsWidth}
-use Rattle.smk_compose.specs.declared.fault.RunFault.{RunFault}
-use Rattle.smk_compose.specs.declared.fault.RunFault.TheVariants.{NoMemory, Rows, Pairs}
-use Rattle.smk_compose.specs.declared.kept_maps.KeptMap.{KeptMap}
-use Rattle.smk_compose.specs.declared.passing.Walked.{Walked}
-use Rattle.smk_compose.proofs.Bridge.{whole_left, whole_right, rows_same, fault_same}
-use Rattle.smk_compose.proofs.Finds.{pairs_none}
-use Rattle.smk_compose.proofs.Lists.{rows_behind, kinds_behind}
-use Rattle.smk_compose.proofs.Ones.{RowsWhereNeeded, node_same, one_held, one_all_pass}
-use Rattle.smk_compose.proofs.Scans.{scan_held, light_scan}
-use Rattle.smk_compose.proofs.Twos.{two_held, two_all_meet}
-use Rattle.smk_compose.proofs.Wants.{few_fault}
-use Rattle.smk_compose.proofs.Wide.{eval_two}
+use Rattle.smk_compose.specs.{KeptMaps.held_at, Through.{through, together_all, side1, side_left, side_right, Passes, Meets, map_at, has_heavy, pairs_fault, node_fault, scan_at, IsFirst}, Walk.{AreDirected, WholeWhereNeeded, IsWalked, IsWidth}, declared.fault.RunFault.RunFault, declared.fault.RunFault.TheVariants.{NoMemory, Rows, Pairs}, declared.kept_maps.KeptMap.KeptMap, declared.passing.Walked.Walked}
+use Rattle.smk_compose.proofs.{Bridge.{whole_left, whole_right, rows_same, fault_same}, Finds.pairs_none, Lists.{rows_behind, kinds_behind}, Ones.{RowsWhereNeeded, node_same, one_held, one_all_pass}, Scans.{scan_held, light_scan}, Twos.{two_held, two_all_meet}, Wants.few_fault, Wide.eval_two}
 
 -- a leaf
 

@@ -1,20 +1,10 @@
 -- A step that gives its lists in the directions in which its inputs have maps does for them what all its lists would do.
-use Rattle.std.proofs.Common.{◌≡◌, ◌∙◌, ◌<◌, ◌≤◌, ℕ, suc, Bool, true, false, List, [], ◌∷◌, length, map, get_or, Option, Some, is_some, refl, ap, arith, inl, inr}
-use Rattle.std.proofs.lemmas.Bool.{cases_Bool}
-use Rattle.std.proofs.lemmas.List.Folds.{list_any_at}
-use Rattle.smk_base.specs.Places.{Lists}
-use Rattle.smk_base.specs.declared.book.plan.Dir.{Dir}
-use Rattle.smk_base.specs.Plans.{Unary}
-use Rattle.smk_model.specs.Values.{Row}
-use Rattle.smk_model.specs.Plain.{step1}
-use Rattle.smk_model.specs.Locals.{back1, fwd1}
-use Rattle.smk_model.specs.Selection.{is_full}
+use Rattle.std.proofs.{Common.{◌≡◌, ◌∙◌, ◌<◌, ◌≤◌, ℕ, suc, Bool, true, false, List, [], ◌∷◌, length, map, get_or, Option, Some, is_some, refl, ap, arith, inl, inr}, lemmas.Bool.cases_Bool, lemmas.List.Folds.list_any_at}
+use Rattle.smk_base.specs.{Places.Lists, declared.book.plan.Dir.Dir, Plans.Unary}
+use Rattle.smk_model.specs.{Values.Row, Plain.step1, Locals.{back1, fwd1}, Selection.is_full}
 use Rattle.smk_model.proofs.Sizes.{adds_no_rows}
-use Rattle.smk_body.specs.Locals.{wanted, side_of, local1}
-use Rattle.smk_body.specs.declared.keep.local.Local.{Local}
-use Rattle.smk_body.specs.declared.keep.local.Side.{Side}
-use Rattle.smk_compose.specs.Through.{chained, through, has_back, has_fwd, want_of, side1, pairs_fault, node_fault}
-use Rattle.smk_compose.specs.declared.kept_maps.KeptMap.{KeptMap}
+use Rattle.smk_body.specs.{Locals.{wanted, side_of, local1}, declared.keep.local.Local.Local, declared.keep.local.Side.Side}
+use Rattle.smk_compose.specs.{Through.{chained, through, has_back, has_fwd, want_of, side1, pairs_fault, node_fault}, declared.kept_maps.KeptMap.KeptMap}
 
 abbrev pub mk : ℕ → Option Lists → Option Lists → KeptMap
 mk table back fwd = record { table = table; back = back; fwd = fwd }

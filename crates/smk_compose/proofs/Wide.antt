@@ -1,23 +1,10 @@
 -- The number of columns of a plan: each of its rows has as many values, where the rows of its leaves do.
-use Rattle.std.proofs.Common.{◌≡◌, ◌∙◌, ◌+◌, ◌<◌, ◌≤◌, ℕ, suc, Bool, List, [], ◌∷◌, ◌++◌, length, map, drop, filter, get_or, All, refl, sym, ap, ap₂, subst, arith}
+use Rattle.std.proofs.{Common.{◌≡◌, ◌∙◌, ◌+◌, ◌<◌, ◌≤◌, ℕ, suc, Bool, List, [], ◌∷◌, ◌++◌, length, map, drop, filter, get_or, All, refl, sym, ap, ap₂, subst, arith}, lemmas.List.{get_or-drop, get_or-map, length-map, length-append}, lemmas.List.Elements.{All-map, All-filter, All-append}, lemmas.Slice.Zip.AllZip-long}
 use Rattle.std.specs.List.{flat_map, AllZip}
-use Rattle.std.proofs.lemmas.List.{get_or-drop, get_or-map, length-map, length-append}
-use Rattle.std.proofs.lemmas.List.Elements.{All-map, All-filter, All-append}
-use Rattle.std.proofs.lemmas.Slice.Zip.{AllZip-long}
-use Rattle.smk_base.specs.Plans.{Unary, Selection, Projection, Distinction, Grouping, Binary, Equijoin, ThetaJoin, CrossProduct, BagUnion, SetUnion, Expr, Leaf, Apply, Combine}
-use Rattle.smk_base.specs.Rels.{Relation, IsRelation, Fits, kind_in, value_in, row_in, rows_at}
-use Rattle.smk_base.specs.declared.rel.TheConstants.{COLUMN_LIMIT}
-use Rattle.smk_base.specs.declared.value.Kind.{Kind}
-use Rattle.smk_base.specs.declared.book.plan.Item.{Item}
-use Rattle.smk_model.specs.Values.{Row, meets}
-use Rattle.smk_model.specs.Plain.{agree, meets_together, always, nested, item_at, image, key_of, aggregate, grouped, row_eq, step1, step2, leaves, width, eval}
-use Rattle.smk_model.specs.Kinds.{AreAlike, Fits1, Fits2, kind_of_item, kind_of_agg, wider_kinds, kinds1, kinds2}
-use Rattle.smk_model.specs.Classes.{first_places}
+use Rattle.smk_base.specs.{Plans.{Unary, Selection, Projection, Distinction, Grouping, Binary, Equijoin, ThetaJoin, CrossProduct, BagUnion, SetUnion, Expr, Leaf, Apply, Combine}, Rels.{Relation, IsRelation, Fits, kind_in, value_in, row_in, rows_at}, declared.rel.TheConstants.COLUMN_LIMIT, declared.value.Kind.Kind, declared.book.plan.Item.Item}
+use Rattle.smk_model.specs.{Values.{Row, meets}, Plain.{agree, meets_together, always, nested, item_at, image, key_of, aggregate, grouped, row_eq, step1, step2, leaves, width, eval}, Kinds.{AreAlike, Fits1, Fits2, kind_of_item, kind_of_agg, wider_kinds, kinds1, kinds2}, Classes.first_places, Selection.{each_kinds, each_rows, plan_kinds, PlanFits}}
 use Rattle.smk_base.proofs.Places.{map_map}
-use Rattle.smk_model.proofs.Classes.{first_below}
-use Rattle.smk_model.specs.Selection.{each_kinds, each_rows, plan_kinds, PlanFits}
-use Rattle.smk_model.proofs.Bulk.{bulk}
-use Rattle.smk_model.proofs.Leaves.{IsSame, eval_same}
+use Rattle.smk_model.proofs.{Classes.first_below, Bulk.bulk, Leaves.{IsSame, eval_same}}
 use Rattle.smk_table.specs.Wanted.{AreWide}
 use Rattle.smk_compose.specs.Walk.{IsWidth, width1, width2}
 

@@ -1,7 +1,6 @@
 -- The Rel of a leaf.
 use Rattle.std.specs.Prelude.{ℕ, List, [], slice_index_or}
-use Rattle.smk_base.specs.Rels.{Relation}
-use Rattle.smk_base.specs.declared.list.table_rids.Pick.{Pick}
+use Rattle.smk_base.specs.{Rels.Relation, declared.list.table_rids.Pick.Pick}
 use Rattle.smk_model.specs.Selection.{picked, kept_rows}
 
 abbrev pub table_of : List Relation → ℕ → Relation

@@ -1,11 +1,7 @@
 -- The maps that a plan keeps of the tables that are needed.
 use Rattle.std.specs.Prelude.{ℕ, ◌<◌, ◌&&◌, List, All}
-use Rattle.smk_base.specs.Places.{has}
-use Rattle.smk_base.specs.Plans.{Expr}
-use Rattle.smk_base.specs.declared.book.need.Needed.{Needed}
-use Rattle.smk_model.specs.Values.{Row}
-use Rattle.smk_model.specs.Plain.{leaves}
-use Rattle.smk_model.specs.Composed.{backs, forwards}
+use Rattle.smk_base.specs.{Places.has, Plans.Expr, declared.book.need.Needed.Needed}
+use Rattle.smk_model.specs.{Values.Row, Plain.leaves, Composed.{backs, forwards}}
 use Rattle.smk_body.specs.Locals.{wanted}
 use Rattle.smk_compose.specs.declared.kept_maps.KeptMap.{KeptMap}
 

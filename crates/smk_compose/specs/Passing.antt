@@ -1,11 +1,8 @@
 -- The forms in which the maps of a table pass through a plan.
-use Rattle.std.specs.Prelude.{ℕ, ◌≤◌}
-use Rattle.smk_base.specs.Places.{own_lists}
-use Rattle.smk_base.specs.declared.rel.TheConstants.{ROW_LIMIT}
+use Rattle.std.specs.Prelude.{◌≤◌}
+use Rattle.smk_base.specs.{Places.own_lists, declared.rel.TheConstants.ROW_LIMIT}
 use Rattle.smk_body.specs.Locals.{wanted}
-use Rattle.smk_compose.specs.declared.kept_maps.KeptMap.{KeptMap}
-use Rattle.smk_compose.specs.declared.passing.Form.{Form}
-use Rattle.smk_compose.specs.declared.passing.Form.TheVariants.{Own, Lists}
+use Rattle.smk_compose.specs.{declared.kept_maps.KeptMap.KeptMap, declared.passing.Form.Form, declared.passing.Form.TheVariants.{Own, Lists}}
 
 -- the maps, in whichever form
 abbrev pub maps_in : Form → KeptMap

@@ -1,22 +1,10 @@
 -- What a step makes of the maps of its inputs.
-use Rattle.std.specs.Prelude.{◌≡◌, ℕ, Bool, true, false, cond, ◌&&◌, ◌||◌, nat_eq, nat_lt, List, [], ◌∷◌, drop, length, slice_index_or, Option, Some, None, is_some, option_map}
-use Rattle.std.specs.List.{find, list_any}
-use Rattle.smk_base.specs.Places.{Lists, pairs_of, own_lists, empty_lists, composed, merged}
-use Rattle.smk_base.specs.Plans.{Unary, Binary}
-use Rattle.smk_base.specs.declared.book.plan.Dir.{Dir}
-use Rattle.smk_base.specs.declared.book.need.Needed.{Needed}
-use Rattle.smk_model.specs.Values.{Row}
-use Rattle.smk_model.specs.Selection.{is_full}
-use Rattle.smk_model.specs.Locals.{back1, fwd1, back_left, fwd_left, back_right, fwd_right}
-use Rattle.smk_body.specs.Locals.{wanted}
-use Rattle.smk_body.specs.declared.keep.local.Side.{Side}
-use Rattle.smk_body.specs.declared.keep.local.Local.{Local}
-use Rattle.smk_model.specs.NodeFaults.{NodeFault, FullRows, FullPairs, pair_limit}
-use Rattle.smk_compose.specs.declared.kept_maps.KeptMap.{KeptMap}
-use Rattle.smk_compose.specs.declared.chain.Composed.{Composed}
+use Rattle.std.specs.{Prelude.{◌≡◌, ℕ, Bool, true, false, cond, ◌&&◌, ◌||◌, nat_eq, nat_lt, List, [], ◌∷◌, drop, length, slice_index_or, Option, Some, None, is_some, option_map}, List.{find, list_any}}
+use Rattle.smk_base.specs.{Places.{Lists, pairs_of, own_lists, empty_lists, composed, merged}, Plans.{Unary, Binary}, declared.book.plan.Dir.Dir, declared.book.need.Needed.Needed}
+use Rattle.smk_model.specs.{Values.Row, Selection.is_full, Locals.{back1, fwd1, back_left, fwd_left, back_right, fwd_right}, NodeFaults.{NodeFault, FullRows, FullPairs, pair_limit}}
+use Rattle.smk_body.specs.{Locals.wanted, declared.keep.local.Side.Side, declared.keep.local.Local.Local}
+use Rattle.smk_compose.specs.{declared.kept_maps.KeptMap.KeptMap, declared.chain.Composed.Composed, declared.fault.RunFault.RunFault, declared.fault.RunFault.TheVariants.{Rows, Pairs, NoMemory}}
 use Rattle.smk_compose.specs.declared.chain.Composed.TheVariants as chains
-use Rattle.smk_compose.specs.declared.fault.RunFault.{RunFault}
-use Rattle.smk_compose.specs.declared.fault.RunFault.TheVariants.{Rows, Pairs, NoMemory}
 
 abbrev pub no_map : KeptMap
 no_map = record { table = 0; back = None; fwd = None }

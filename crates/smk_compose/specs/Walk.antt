@@ -1,18 +1,9 @@
 -- What a walk over a plan is over, and what it has made of it.
 use Rattle.std.specs.Prelude.{◌≡◌, ℕ, ◌+◌, ◌<◌, ◌≤◌, List, [], length, map, slice_index_or, None, IsTrue, All}
-use Rattle.smk_base.specs.Needs.{is_needed}
-use Rattle.smk_base.specs.Plans.{Expr, Unary, Selection, Projection, Distinction, Grouping, Binary, BagUnion, SetUnion}
-use Rattle.smk_base.specs.Rels.{Relation, kind_in, picked}
-use Rattle.smk_base.specs.declared.book.need.Needed.{Needed}
-use Rattle.smk_base.specs.declared.rel.TheConstants.{COLUMN_LIMIT}
-use Rattle.smk_base.specs.declared.value.Kind.{Kind}
-use Rattle.smk_model.specs.Values.{Row}
-use Rattle.smk_model.specs.Plain.{leaves, width, eval, table_at}
-use Rattle.smk_model.specs.Selection.{each_kinds, each_rows, plan_kinds}
-use Rattle.smk_model.specs.NodeFaults.{asked_of, first_fault_from}
+use Rattle.smk_base.specs.{Needs.is_needed, Plans.{Expr, Unary, Selection, Projection, Distinction, Grouping, Binary, BagUnion, SetUnion}, Rels.{Relation, kind_in, picked}, declared.book.need.Needed.Needed, declared.rel.TheConstants.COLUMN_LIMIT, declared.value.Kind.Kind}
+use Rattle.smk_model.specs.{Values.Row, Plain.{leaves, width, eval, table_at}, Selection.{each_kinds, each_rows, plan_kinds}, NodeFaults.{asked_of, first_fault_from}}
 use Rattle.smk_table.specs.Wanted.{AreWide}
-use Rattle.smk_compose.specs.KeptMaps.{held_at}
-use Rattle.smk_compose.specs.declared.passing.Walked.{Walked}
+use Rattle.smk_compose.specs.{KeptMaps.held_at, declared.passing.Walked.Walked}
 
 -- each is needed in some direction
 abbrev pub AreDirected : List Needed → Type 0

@@ -2,10 +2,8 @@
 
 ghost use Rattle.std.specs.Prelude.{◌≡◌, ◌<◌, ◌≤◌, true, false, cond, length, Some, None, IfOk, IfErr, IfSome, OnOk, IsTrue};
 ghost use Rattle.smk_base.specs.Places.{pairs_of, composed};
-ghost use Rattle.smk_rid.specs.Maps.{IsMap};
+ghost use Rattle.smk_rid.specs.{Maps.IsMap, declared.fault.RidFault.TheVariants.Pairs, declared.map.TheConstants.PAIR_LIMIT};
 ghost use Rattle.smk_compose.specs.Through.{chained, chain_of, merged_if_both, is_heavy, Chains, CanMerge};
-ghost use Rattle.smk_rid.specs.declared.fault.RidFault.TheVariants.{Pairs};
-ghost use Rattle.smk_rid.specs.declared.map.TheConstants.{PAIR_LIMIT};
 
 use smk_rid::{RidFault, RidMap};
 use std::alloc::Global;

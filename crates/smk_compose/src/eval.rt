@@ -1,7 +1,6 @@
 ghost use Rattle.std.specs.Prelude.{◌≡◌, ◌<◌, ◌^◌, ℕ, length, Some, None, IfOk, IfErr, OnOk};
 ghost use Rattle.smk_base.specs.PlanImage.{expr_of};
-ghost use Rattle.smk_model.specs.Plain.{width, eval};
-ghost use Rattle.smk_model.specs.Selection.{each_rows, each_kinds, plan_kinds, PlanFits, nodes, first_full};
+ghost use Rattle.smk_model.specs.{Plain.{width, eval}, Selection.{each_rows, each_kinds, plan_kinds, PlanFits, nodes, first_full}};
 ghost use Rattle.smk_compose.specs.declared.fault.EvalFault.TheVariants.{Rows};
 
 use crate::fault::{EvalFault, RunFault};

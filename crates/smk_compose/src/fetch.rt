@@ -1,9 +1,6 @@
-ghost use Rattle.std.specs.Prelude.{◌≡◌, ◌+◌, ◌<◌, ◌≤◌, ◌++◌, length, map, All, IfOk, OnOk, nat_eq};
-ghost use Rattle.std.specs.Option.{option_copied};
-ghost use Rattle.std.specs.List.{find};
+ghost use Rattle.std.specs.{Prelude.{◌≡◌, ◌+◌, ◌<◌, ◌≤◌, ◌++◌, length, map, All, IfOk, OnOk, nat_eq}, Option.option_copied, List.find};
 ghost use Rattle.smk_base.specs.PlanImage.{expr_of};
-ghost use Rattle.smk_model.specs.Plain.{leaves as leaf_tables, width};
-ghost use Rattle.smk_model.specs.Selection.{each_rows, each_kinds, selected, over, leaf_kinds, rows_in, PickFits, ScansFit};
+ghost use Rattle.smk_model.specs.{Plain.{leaves as leaf_tables, width}, Selection.{each_rows, each_kinds, selected, over, leaf_kinds, rows_in, PickFits, ScansFit}};
 ghost use Rattle.smk_compose.specs.Fetched.{leaf_over};
 
 use crate::leaves::Leaves;

@@ -1,8 +1,6 @@
 ghost use Rattle.std.specs.Prelude.{◌≡◌, ◌<◌, ℕ, length, slice_index_or, IfOk, OnOk};
-ghost use Rattle.smk_model.specs.Selection.{each_rows};
-ghost use Rattle.smk_model.specs.Composed.{table_at};
-ghost use Rattle.smk_compose.specs.KeptMaps.{NeedFits};
-ghost use Rattle.smk_compose.specs.Through.{filled, or_empty, map_at, no_need};
+ghost use Rattle.smk_model.specs.{Selection.each_rows, Composed.table_at};
+ghost use Rattle.smk_compose.specs.{KeptMaps.NeedFits, Through.{filled, or_empty, map_at, no_need}};
 
 use crate::chain::put;
 use crate::kept_maps::KeptMap;

@@ -1,7 +1,6 @@
 //! The maps of the inputs of a step through the step, table by table.
 
-ghost use Rattle.std.specs.Prelude.{◌≡◌, ◌+◌, ◌<◌, ℕ, true, false, length, map, drop, slice_set, All, IfOk, IfErr, OnOk, None};
-ghost use Rattle.std.specs.List.{list_any};
+ghost use Rattle.std.specs.{Prelude.{◌≡◌, ◌+◌, ◌<◌, ℕ, true, false, length, map, drop, slice_set, All, IfOk, IfErr, OnOk, None}, List.list_any};
 ghost use Rattle.smk_compose.specs.Through.{through, together, together_all, merged_maps, has_heavy, has_back, has_fwd, want_of, map_at, Passes, Matches, Meets, Serves, pairs_fault, IsFirst};
 ghost use Rattle.smk_rid.specs.declared.fault.RidFault.TheVariants.{Pairs};
 

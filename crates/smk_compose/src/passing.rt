@@ -1,7 +1,5 @@
 ghost use Rattle.std.specs.Prelude.{◌≡◌, ◌<◌, ◌≤◌, length, map, All, IfOk, is_some};
-ghost use Rattle.smk_base.specs.Rels.{kind_in, picked};
-ghost use Rattle.smk_base.specs.declared.rel.TheConstants.{COLUMN_LIMIT, ROW_LIMIT};
-ghost use Rattle.smk_base.specs.Places.{own_lists};
+ghost use Rattle.smk_base.specs.{Rels.{kind_in, picked}, declared.rel.TheConstants.{COLUMN_LIMIT, ROW_LIMIT}, Places.own_lists};
 ghost use Rattle.smk_body.specs.Locals.{wanted};
 ghost use Rattle.smk_compose.specs.Through.{scan_at};
 
@@ -26,8 +24,7 @@ pub(crate) enum Form {
 }
 
 impl Model for Passing {
-    ghost use Rattle.smk_compose.specs.declared.kept_maps.KeptMap.{KeptMap};
-    ghost use Rattle.smk_compose.specs.Passing.{maps_in, IsShort};
+    ghost use Rattle.smk_compose.specs.{declared.kept_maps.KeptMap.KeptMap, Passing.{maps_in, IsShort}};
 
     ghost Value = { KeptMap };
 

@@ -1,11 +1,7 @@
 ghost use Rattle.std.specs.Prelude.{◌≡◌, ◌||◌, ◌+◌, ◌<◌, ◌≤◌, ◌^◌, ℕ, IsTrue, nat_eq, length, map, slice_index_or, IfOk, IfErr, OnOk, None};
 ghost use Rattle.smk_base.specs.PlanImage.{expr_of};
-ghost use Rattle.smk_model.specs.Plain.{whole};
-ghost use Rattle.smk_model.specs.Composed.{rows_over, table_at};
-ghost use Rattle.smk_model.specs.Selection.{each_rows, each_kinds, leaf_kinds, plan_kinds, rows_in, PlanFits, ScansFit, nodes};
-ghost use Rattle.smk_model.specs.NodeFaults.{first_fault, asked_of};
-ghost use Rattle.smk_compose.specs.KeptMaps.{NeedFits, kept_at};
-ghost use Rattle.smk_compose.specs.Through.{IsFirst, filled, map_at, no_need};
+ghost use Rattle.smk_model.specs.{Plain.whole, Composed.{rows_over, table_at}, Selection.{each_rows, each_kinds, leaf_kinds, plan_kinds, rows_in, PlanFits, ScansFit, nodes}, NodeFaults.{first_fault, asked_of}};
+ghost use Rattle.smk_compose.specs.{KeptMaps.{NeedFits, kept_at}, Through.{IsFirst, filled, map_at, no_need}};
 
 use crate::fault::RunFault;
 use crate::fetch::fetch_leaves;

@@ -1,9 +1,6 @@
 ghost use Rattle.std.specs.Prelude.{◌≡◌, ◌||◌, ◌<◌, ◌≤◌, ℕ, IsTrue, is_some, length, map, All, IfOk, IfErr, OnOk, None};
-ghost use Rattle.smk_base.specs.declared.rel.TheConstants.{COLUMN_LIMIT};
-ghost use Rattle.smk_base.specs.PlanImage.{binary_of, unary_of};
-ghost use Rattle.smk_base.specs.Rels.{kind_in, picked};
-ghost use Rattle.smk_model.specs.Plain.{step1, step2};
-ghost use Rattle.smk_model.specs.Kinds.{Fits1, Fits2, kinds1, kinds2};
+ghost use Rattle.smk_base.specs.{declared.rel.TheConstants.COLUMN_LIMIT, PlanImage.{binary_of, unary_of}, Rels.{kind_in, picked}};
+ghost use Rattle.smk_model.specs.{Plain.{step1, step2}, Kinds.{Fits1, Fits2, kinds1, kinds2}};
 ghost use Rattle.smk_body.specs.Locals.{is_nothing, is_nothing2};
 ghost use Rattle.smk_compose.specs.Through.{through, together_all, side1, side_left, side_right, right_of, want_of, map_at, Passes, Meets, pairs_fault, node_fault, IsFirst};
 

@@ -1,13 +1,7 @@
 ghost use Rattle.std.specs.Prelude.{◌≡◌, ◌||◌, ◌+◌, ◌<◌, ◌≤◌, ◌^◌, IsTrue, nat_eq, length, map, drop, All, None, IfOk, IfErr, OnOk};
-ghost use Rattle.smk_base.specs.declared.rel.TheConstants.{COLUMN_LIMIT, ROW_LIMIT};
-ghost use Rattle.smk_base.specs.PlanImage.{binary_of, expr_of, unary_of};
-ghost use Rattle.smk_base.specs.Rels.{kind_in, picked};
-ghost use Rattle.smk_model.specs.Plain.{width, eval};
-ghost use Rattle.smk_model.specs.Selection.{each_rows, each_kinds, plan_kinds, PlanFits, nodes};
-ghost use Rattle.smk_model.specs.NodeFaults.{first_fault_from, asked_of};
-ghost use Rattle.smk_compose.specs.KeptMaps.{held_at};
-ghost use Rattle.smk_compose.specs.Through.{IsFirst, scan_at};
-ghost use Rattle.smk_compose.specs.Walk.{AreDirected, WholeWhereNeeded, IsWalked, IsWidth, width1, width2};
+ghost use Rattle.smk_base.specs.{declared.rel.TheConstants.{COLUMN_LIMIT, ROW_LIMIT}, PlanImage.{binary_of, expr_of, unary_of}, Rels.{kind_in, picked}};
+ghost use Rattle.smk_model.specs.{Plain.{width, eval}, Selection.{each_rows, each_kinds, plan_kinds, PlanFits, nodes}, NodeFaults.{first_fault_from, asked_of}};
+ghost use Rattle.smk_compose.specs.{KeptMaps.held_at, Through.{IsFirst, scan_at}, Walk.{AreDirected, WholeWhereNeeded, IsWalked, IsWidth, width1, width2}};
 
 use crate::fault::RunFault;
 use crate::leaves::Leaves;

@@ -1,29 +1,11 @@
 -- Keys of rows, and their places among first occurrences.
-use Rattle.std.proofs.Common.{◌≡◌, ◌∙◌, ◌<◌, ◌≤◌, ◌+◌, ℕ, true, None, Some, List, [], ◌∷◌, ◌++◌, not, length, map, refl, sym, ap, subst, arith, All, get_or, nat_eq, inl, inr}
-use Rattle.std.proofs.lemmas.List.{get_or-map, length-append, length-map, same_lists}
-use Rattle.std.proofs.lemmas.List.Elements.{All-map, All-weaker}
-use Rattle.std.proofs.lemmas.List.Sums.{passes_at_first, prefix_len-le-length}
-use Rattle.std.proofs.lemmas.Map.Made.{AllPairs-from_IsDistinct}
-use Rattle.std.proofs.lemmas.Slice.Zip.{AllZip-long}
-use Rattle.std.proofs.lemmas.Bool.{cases_Bool, cases_lt, eq-eqb, lt-ltb, ne_eqb, false≢true}
-use Rattle.smk_base.specs.Places.{upto}
-use Rattle.smk_base.specs.Plans.{Grouping}
-use Rattle.smk_base.specs.declared.book.plan.Agg.{Agg}
-use Rattle.smk_base.specs.declared.value.Kind.{Kind}
-use Rattle.smk_base.specs.Rels.{Fits, RowFits, kind_in, picked, rows_at}
+use Rattle.std.proofs.{Common.{◌≡◌, ◌∙◌, ◌<◌, ◌≤◌, ◌+◌, ℕ, true, None, Some, List, [], ◌∷◌, ◌++◌, not, length, map, refl, sym, ap, subst, arith, All, get_or, nat_eq, inl, inr}, lemmas.List.{get_or-map, length-append, length-map, same_lists}, lemmas.List.Elements.{All-map, All-weaker}, lemmas.List.Sums.{passes_at_first, prefix_len-le-length}, lemmas.Map.Made.AllPairs-from_IsDistinct, lemmas.Slice.Zip.AllZip-long, lemmas.Bool.{cases_Bool, cases_lt, eq-eqb, lt-ltb, ne_eqb, false≢true}}
+use Rattle.smk_base.specs.{Places.upto, Plans.Grouping, declared.book.plan.Agg.Agg, declared.value.Kind.Kind, Rels.{Fits, RowFits, kind_in, picked, rows_at}}
 use Rattle.smk_keys.specs.Keys.{AreKeys, place_of, with_key}
-use Rattle.smk_model.specs.Values.{Row}
-use Rattle.smk_model.specs.Kinds.{kind_of_agg, kinds1}
-use Rattle.smk_model.specs.Plain.{row_eq, key_of, add_first, firsts, step1}
-use Rattle.smk_model.specs.Lineage.{row_at}
-use Rattle.smk_model.specs.Classes.{places_in, classes, first_places}
+use Rattle.smk_model.specs.{Values.Row, Kinds.{kind_of_agg, kinds1}, Plain.{row_eq, key_of, add_first, firsts, step1}, Lineage.row_at, Classes.{places_in, classes, first_places}}
 use Rattle.smk_base.proofs.Places.{map_upto}
-use Rattle.smk_model.proofs.Firsts.{row_same, row_is, holds, holds_at, fold_append, add_firsts}
-use Rattle.smk_model.proofs.Classes.{place_in, found_below, found_at, same_place, first_below, classes_are}
-use Rattle.smk_model.proofs.Bulk.{bulk}
-use Rattle.smk_model.proofs.Regroups.{group_keys}
-use Rattle.smk_body.proofs.Classing.{few_firsts}
-use Rattle.smk_body.proofs.Siding.{classes_below, left_below, right_below}
+use Rattle.smk_model.proofs.{Firsts.{row_same, row_is, holds, holds_at, fold_append, add_firsts}, Classes.{place_in, found_below, found_at, same_place, first_below, classes_are}, Bulk.bulk, Regroups.group_keys}
+use Rattle.smk_body.proofs.{Classing.few_firsts, Siding.{classes_below, left_below, right_below}}
 
 -- first occurrences have no other first occurrences than themselves
 pub firsts_twice : (xs : List Row) → firsts (firsts xs) ≡ firsts xs

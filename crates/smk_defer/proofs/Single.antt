@@ -1,25 +1,12 @@
 -- That a step fits the kinds of its inputs has one proof at most, so what is kept tells it.
-use Rattle.std.proofs.Common.{List, ◌∷◌, Option, Some, None, []}
-use Rattle.std.proofs.Math.Dec.{T_prop}
-use Rattle.std.proofs.Math.Logic.{∥∥₁_elim}
-use Rattle.std.proofs.Props.{props}
-use Rattle.std.specs.Coded.{×_prop}
-use Rattle.std.specs.List.{AllZip}
-use Rattle.smk_base.specs.declared.value.Kind.{Kind}
-use Rattle.smk_base.specs.declared.value.Kind.TheVariants.{Int, Text}
+use Rattle.std.proofs.{Common.{List, ◌∷◌, Option, Some, None, []}, Math.Dec.T_prop, Math.Logic.∥∥₁_elim, Props.props}
+use Rattle.std.specs.{Coded.×_prop, List.AllZip}
+use Rattle.smk_base.specs.{declared.value.Kind.Kind, declared.value.Kind.TheVariants.{Int, Text}, declared.book.plan.Item.Item, Plans.{Formula, Comparison, Conjunction, Disjunction, Negation, Unary, Selection, Projection, Distinction, Grouping, Binary, Equijoin, ThetaJoin, CrossProduct}, declared.book.plan.Op1.Op1, declared.book.plan.Op2.Op2, PlanImage.{unary_of, binary_of}, Rels.Relation}
 use Rattle.smk_base.specs.declared.book.plan.Operand.TheVariants as operands
-use Rattle.smk_base.specs.declared.book.plan.Item.{Item}
 use Rattle.smk_base.specs.declared.book.plan.Item.TheVariants as items
-use Rattle.smk_base.specs.Plans.{Formula, Comparison, Conjunction, Disjunction, Negation, Unary, Selection, Projection, Distinction, Grouping, Binary, Equijoin, ThetaJoin, CrossProduct}
-use Rattle.smk_base.specs.declared.book.plan.Op1.{Op1}
-use Rattle.smk_base.specs.declared.book.plan.Op2.{Op2}
-use Rattle.smk_base.specs.PlanImage.{unary_of, binary_of}
-use Rattle.smk_base.specs.Rels.{Relation}
-use Rattle.smk_model.specs.Names.{same_sort}
-use Rattle.smk_model.specs.Kinds.{AreAlike, IsInt, ItemFits, FormulaFits, Fits1, Fits2}
+use Rattle.smk_model.specs.{Names.same_sort, Kinds.{AreAlike, IsInt, ItemFits, FormulaFits, Fits1, Fits2}}
 use Rattle.smk_model.proofs.Aggregates.{agg_prop}
-use Rattle.smk_defer.specs.declared.kept.KeptOp.TheVariants.{One, Two}
-use Rattle.smk_defer.specs.Kept.{StepFits}
+use Rattle.smk_defer.specs.{declared.kept.KeptOp.TheVariants.{One, Two}, Kept.StepFits}
 
 alike_prop : (left right : Kind) → IsProp (AreAlike left right)
 alike_prop left right = T_prop (same_sort left right)

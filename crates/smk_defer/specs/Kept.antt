@@ -1,17 +1,9 @@
 -- What a step keeps for its lineage.
 use Rattle.std.specs.Prelude.{List, [], ◌++◌, map, Option, Some, None}
-use Rattle.smk_base.specs.Plans.{Unary, Distinction, Grouping, Binary, Equijoin, SetUnion}
-use Rattle.smk_base.specs.PlanImage.{unary_of, binary_of}
-use Rattle.smk_base.specs.Rels.{Relation}
-use Rattle.smk_model.specs.Values.{Row}
-use Rattle.smk_model.specs.Plain.{image, key_of, firsts, step1, step2}
-use Rattle.smk_model.specs.Kinds.{Fits1, Fits2}
-use Rattle.smk_body.specs.Halves.{right_columns_of}
-use Rattle.smk_body.specs.Locals.{local1, local2}
-use Rattle.smk_body.specs.declared.keep.local.Want.{Want}
-use Rattle.smk_body.specs.declared.keep.local.Local.{Local}
-use Rattle.smk_defer.specs.declared.kept.KeptOp.{KeptOp}
-use Rattle.smk_defer.specs.declared.kept.KeptOp.TheVariants.{One, Two}
+use Rattle.smk_base.specs.{Plans.{Unary, Distinction, Grouping, Binary, Equijoin, SetUnion}, PlanImage.{unary_of, binary_of}, Rels.Relation}
+use Rattle.smk_model.specs.{Values.Row, Plain.{image, key_of, firsts, step1, step2}, Kinds.{Fits1, Fits2}}
+use Rattle.smk_body.specs.{Halves.right_columns_of, Locals.{local1, local2}, declared.keep.local.Want.Want, declared.keep.local.Local.Local}
+use Rattle.smk_defer.specs.{declared.kept.KeptOp.KeptOp, declared.kept.KeptOp.TheVariants.{One, Two}}
 
 -- the distinct keys of a step with one input, by first occurrence: the images of a distinct, the keys of a group
 abbrev pub keys1 : Unary → List Row → List Row

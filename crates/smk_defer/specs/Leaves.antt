@@ -1,16 +1,9 @@
 -- What the body that defers leaves pending: the step of the call, its inputs and what is wanted, its keys and the number of its rows.
 use Rattle.std.specs.Prelude.{◌≡◌, length, Some, None}
-use Rattle.smk_base.specs.Plans.{Unary, Binary}
-use Rattle.smk_base.specs.PlanImage.{unary_of, binary_of}
-use Rattle.smk_base.specs.Rels.{Relation}
-use Rattle.smk_base.specs.declared.book.plan.Dir.{Dir}
+use Rattle.smk_base.specs.{Plans.{Unary, Binary}, PlanImage.{unary_of, binary_of}, Rels.Relation, declared.book.plan.Dir.Dir}
 use Rattle.smk_model.specs.Plain.{step1, step2}
-use Rattle.smk_body.specs.Locals.{left_want}
-use Rattle.smk_body.specs.declared.keep.local.Want.{Want}
-use Rattle.smk_defer.specs.declared.kept.Kept.{Kept}
-use Rattle.smk_defer.specs.declared.kept.KeptOp.{KeptOp}
-use Rattle.smk_defer.specs.declared.kept.KeptOp.TheVariants.{One, Two}
-use Rattle.smk_defer.specs.Kept.{keys1, keys2}
+use Rattle.smk_body.specs.{Locals.left_want, declared.keep.local.Want.Want}
+use Rattle.smk_defer.specs.{declared.kept.Kept.Kept, declared.kept.KeptOp.KeptOp, declared.kept.KeptOp.TheVariants.{One, Two}, Kept.{keys1, keys2}}
 
 -- that a kept step is this one, with one input or with two
 abbrev pub IsOne : Unary → KeptOp → Type 0

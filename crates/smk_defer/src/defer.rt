@@ -1,6 +1,5 @@
 ghost use Rattle.std.specs.Prelude.{true, false};
-ghost use Rattle.smk_defer.specs.Kept.{step_local};
-ghost use Rattle.smk_defer.specs.Leaves.{Leaves1, Leaves2};
+ghost use Rattle.smk_defer.specs.{Kept.step_local, Leaves.{Leaves1, Leaves2}};
 
 use crate::distinct::{distinct1, distinct2};
 use crate::kept::{Kept, KeptOp};

@@ -2,8 +2,7 @@
 
 ghost use Rattle.std.specs.Prelude.{◌≡◌, ◌<◌, All, IfOk, length, map};
 ghost use Rattle.smk_base.specs.PlanImage.{binary_of, unary_of};
-ghost use Rattle.smk_model.specs.Kinds.{Fits1, Fits2, kinds1};
-ghost use Rattle.smk_model.specs.Plain.{firsts, key_of, step1, step2};
+ghost use Rattle.smk_model.specs.{Kinds.{Fits1, Fits2, kinds1}, Plain.{firsts, key_of, step1, step2}};
 ghost use Rattle.smk_body.specs.Halves.{right_columns_of};
 ghost use Rattle.smk_defer.specs.Kept.{keys1, keys2};
 

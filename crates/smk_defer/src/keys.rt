@@ -1,16 +1,9 @@
 //! Keys of rows: a table of them, and the place of each row's key in a table.
 
-ghost use Rattle.std.specs.Prelude.{◌≡◌, ◌<◌, ◌≤◌, All, IfOk, length, map};
-ghost use Rattle.std.specs.Bool.{OnTrue};
-ghost use Rattle.smk_base.specs.Cells.{value_of_cell};
-ghost use Rattle.smk_base.specs.Places.{upto};
-ghost use Rattle.smk_base.specs.Rels.{picked, row_in, rows_at};
-ghost use Rattle.smk_base.specs.declared.rel.TheConstants.{ROW_LIMIT};
-ghost use Rattle.smk_keys.specs.Classes.{classes_of};
-ghost use Rattle.smk_keys.specs.Keys.{place_or_last};
-ghost use Rattle.smk_model.specs.Classes.{places_in};
-ghost use Rattle.smk_model.specs.Plain.{firsts};
-ghost use Rattle.smk_model.specs.Ways.{Targets};
+ghost use Rattle.std.specs.{Prelude.{◌≡◌, ◌<◌, ◌≤◌, All, IfOk, length, map}, Bool.OnTrue};
+ghost use Rattle.smk_base.specs.{Cells.value_of_cell, Places.upto, Rels.{picked, row_in, rows_at}, declared.rel.TheConstants.ROW_LIMIT};
+ghost use Rattle.smk_keys.specs.{Classes.classes_of, Keys.place_or_last};
+ghost use Rattle.smk_model.specs.{Classes.places_in, Plain.firsts, Ways.Targets};
 
 use smk_base::{CellRef, Rel, Row, Value, numbers_below};
 use smk_body::Way;

@@ -1,10 +1,8 @@
 //! The lineage of a step with one input, from what was kept of it.
 
 ghost use Rattle.std.specs.Prelude.{◌≡◌, IfOk};
-ghost use Rattle.smk_base.specs.PlanImage.{formula_of, unary_of};
-ghost use Rattle.smk_base.specs.Plans.{Selection};
-ghost use Rattle.smk_model.specs.Kinds.{Fits1, FormulaFits};
-ghost use Rattle.smk_model.specs.Ways.{way};
+ghost use Rattle.smk_base.specs.{PlanImage.{formula_of, unary_of}, Plans.Selection};
+ghost use Rattle.smk_model.specs.{Kinds.{Fits1, FormulaFits}, Ways.way};
 ghost use Rattle.smk_body.specs.Locals.{local1};
 ghost use Rattle.smk_defer.specs.Kept.{keys1};
 

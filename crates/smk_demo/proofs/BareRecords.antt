@@ -1,10 +1,6 @@
 -- Records whose fields are written as they are: the fields with commas between them, and a line feed.
-use Rattle.std.proofs.Common.{◌≡◌, ◌∙◌, ◌<◌, ◌+◌, ◌%◌, ◌^◌, ◌++◌, ◌∷◌, [], ℕ, suc, ℤ, pos, negsuc, false, List, refl, ap, arith, append_assoc, decimal}
-use Rattle.std.specs.List.{list_any}
-use Rattle.std.specs.Fmt.{signed_decimal}
-use Rattle.std.proofs.lemmas.Bool.Decides.{nat_tests}
-use Rattle.std.proofs.lemmas.List.Folds.{list_any-append}
-use Rattle.std.proofs.lemmas.Fmt.{decimal_by_steps}
+use Rattle.std.proofs.{Common.{◌≡◌, ◌∙◌, ◌<◌, ◌+◌, ◌%◌, ◌^◌, ◌++◌, ◌∷◌, [], ℕ, suc, ℤ, pos, negsuc, false, List, refl, ap, arith, append_assoc, decimal}, lemmas.Bool.Decides.nat_tests, lemmas.List.Folds.list_any-append, lemmas.Fmt.decimal_by_steps}
+use Rattle.std.specs.{List.list_any, Fmt.signed_decimal}
 use lib.Signed.{mag}
 use Rattle.csv.specs.Writing.{default_writer, needs_byte, fields_text, is_blank}
 use Rattle.smk_model.specs.Texts.{record_line}

@@ -1,15 +1,10 @@
 -- The records of the demo as they are written.
-use Rattle.std.proofs.Common.{◌≡◌, ◌∙◌, ap, append-nil, map, suc, ◌<◌, ◌*◌, ◌/◌, ◌%◌, ◌^◌, ◌++◌, ◌∷◌, [], ℕ, ℤ, pos, negsuc, List, refl, arith, codes, decimal}
-use Rattle.std.specs.Prelude.{◌-ℤ◌}
-use Rattle.std.specs.Fmt.{signed_decimal}
-use Rattle.std.proofs.lemmas.List.{map-append}
-use Rattle.std.proofs.lemmas.List.Concat.{flat_map-append}
-use Rattle.std.proofs.lemmas.Int.{ints}
+use Rattle.std.proofs.{Common.{◌≡◌, ◌∙◌, ap, append-nil, map, suc, ◌<◌, ◌*◌, ◌/◌, ◌%◌, ◌^◌, ◌++◌, ◌∷◌, [], ℕ, ℤ, pos, negsuc, List, refl, arith, codes, decimal}, lemmas.List.map-append, lemmas.List.Concat.flat_map-append, lemmas.Int.ints}
+use Rattle.std.specs.{Prelude.◌-ℤ◌, Fmt.signed_decimal}
 use lib.Signed.{mag}
 use Rattle.csv.specs.Writing.{fields_text, is_blank}
 use Rattle.smk_base.specs.Places.{upto}
-use Rattle.smk_model.specs.Texts.{record_line}
-use Rattle.smk_model.specs.Demo.{flight, airport, flight_header, airport_header, two_digits, table_text}
+use Rattle.smk_model.specs.{Texts.record_line, Demo.{flight, airport, flight_header, airport_header, two_digits, table_text}}
 use Rattle.smk_demo.proofs.BareRecords.{IsBare, AreBare, after_commas, bare_append, bare_decimal, bare_signed, bare_line}
 
 -- a delay is small

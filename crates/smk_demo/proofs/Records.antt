@@ -1,11 +1,8 @@
 -- The records of the tables, as they are written part by part.
-use Rattle.std.proofs.Common.{◌≡◌, ◌<◌, ◌+◌, ◌*◌, ◌/◌, ◌%◌, ◌++◌, ◌∷◌, [], ℕ, List, pos, refl, sym, arith, append_assoc, add-one, map, decimal}
-use Rattle.std.specs.Prelude.{◌-ℤ◌}
-use Rattle.std.specs.Fmt.{signed_decimal}
-use Rattle.std.proofs.lemmas.Fmt.{decimal_digit}
+use Rattle.std.proofs.{Common.{◌≡◌, ◌<◌, ◌+◌, ◌*◌, ◌/◌, ◌%◌, ◌++◌, ◌∷◌, [], ℕ, List, pos, refl, sym, arith, append_assoc, add-one, map, decimal}, lemmas.Fmt.decimal_digit}
+use Rattle.std.specs.{Prelude.◌-ℤ◌, Fmt.signed_decimal}
 use Rattle.smk_base.specs.Places.{upto}
-use Rattle.smk_model.specs.Texts.{record_line}
-use Rattle.smk_model.specs.Demo.{flight, airport, table_text}
+use Rattle.smk_model.specs.{Texts.record_line, Demo.{flight, airport, table_text}}
 use Rattle.smk_demo.proofs.DemoTexts.{flight_line, airport_line, table_more}
 
 -- a record behind a text, as its parts come

@@ -1,11 +1,7 @@
 -- Statements that are put behind others.
 use Rattle.std.specs.List.{flat_map}
-use Rattle.std.proofs.Common.{◌≡◌, ◌∙◌, List, [], ◌∷◌, ◌++◌, map, ap, sym, append_assoc, append-nil}
-use Rattle.std.proofs.lemmas.List.{map_push}
-use Rattle.std.proofs.lemmas.List.Concat.{flat_map-append}
-use Rattle.smk_base.specs.Trees.{StmtImage}
-use Rattle.smk_base.specs.TreeImage.{stmt_image}
-use Rattle.smk_base.specs.declared.book.tree.Stmt.{Stmt}
+use Rattle.std.proofs.{Common.{◌≡◌, ◌∙◌, List, [], ◌∷◌, ◌++◌, map, ap, sym, append_assoc, append-nil}, lemmas.List.map_push, lemmas.List.Concat.flat_map-append}
+use Rattle.smk_base.specs.{Trees.StmtImage, TreeImage.stmt_image, declared.book.tree.Stmt.Stmt}
 
 -- two statements, one after the other
 pub two_put : (a b c : List Stmt) (x y : Stmt) (p q : StmtImage) → b ≡ a ++ x ∷ [] → c ≡ b ++ y ∷ [] → stmt_image x ≡ p → stmt_image y ≡ q → map stmt_image c ≡ map stmt_image a ++ p ∷ q ∷ []

@@ -1,7 +1,6 @@
 // A book with the views that show its dependencies.
-ghost use Rattle.std.specs.Prelude.{◌≡◌, ◌++◌, ◌∷◌, [], map, codes, IfOk, OnOk};
-ghost use Rattle.smk_base.specs.TreeImage.{book_image, stmt_image, tree_image, step_image};
-ghost use Rattle.smk_base.specs.Trees.{StepNode, ScanNode, GroupNode, ViewNode, BackNode, DependsNode};
+ghost use Rattle.std.specs.Prelude.{◌≡◌, ◌++◌, ◌∷◌, [], map, IfOk, OnOk};
+ghost use Rattle.smk_base.specs.{TreeImage.{book_image, stmt_image, tree_image, step_image}, Trees.{StepNode, BackNode, DependsNode}};
 ghost use Rattle.smk_base.specs.declared.book.tree.Extra.TheVariants as extras;
 ghost use Rattle.smk_model.specs.Expanded as books;
 

@@ -1,28 +1,12 @@
 -- A view that is a growing chain, as the run of its plan.
 use Rattle.std.proofs.Common.{◌≡◌, ℕ, ◌<◌, true, List, [], length, take, drop, set, ap, sym, ◌∙◌, subst}
-use Rattle.smk_base.specs.CatalogImage.{ViewImage, catalog_image, view_image}
-use Rattle.smk_base.specs.PlanImage.{expr_of}
-use Rattle.smk_base.specs.Plans.{Expr}
-use Rattle.smk_base.specs.Rels.{Relation}
-use Rattle.smk_base.specs.declared.book.catalog.Catalog.{Catalog}
-use Rattle.smk_base.specs.declared.book.catalog.ViewInfo.{ViewInfo}
-use Rattle.smk_base.specs.declared.book.need.Needed.{Needed}
-use Rattle.smk_base.specs.declared.value.Kind.{Kind}
-use Rattle.smk_model.specs.Catalogs.{ViewFits, each_table_kinds}
-use Rattle.smk_model.specs.Growth.{is_growing}
-use Rattle.smk_model.specs.LineageLaws.{selected_table}
-use Rattle.smk_model.specs.Plain.{table_at}
-use Rattle.smk_model.specs.Selection.{PlanFits, each_kinds, each_rows, leaf_kinds, plan_kinds}
-use Rattle.smk_model.specs.Session.{view_at}
-use Rattle.smk_model.specs.Values.{Row}
-use Rattle.smk_model.specs.Workload.{needs}
+use Rattle.smk_base.specs.{CatalogImage.{ViewImage, catalog_image, view_image}, PlanImage.expr_of, Plans.Expr, Rels.Relation, declared.book.catalog.Catalog.Catalog, declared.book.catalog.ViewInfo.ViewInfo, declared.book.need.Needed.Needed, declared.value.Kind.Kind}
+use Rattle.smk_model.specs.{Catalogs.{ViewFits, each_table_kinds}, Growth.is_growing, LineageLaws.selected_table, Plain.table_at, Selection.{PlanFits, each_kinds, each_rows, leaf_kinds, plan_kinds}, Session.view_at, Values.Row, Workload.needs}
 use Rattle.smk_chain.specs.Runs.{run_over, tables_before, tables_behind}
 use Rattle.smk_compose.specs.declared.kept_maps.Run.{Run}
 use Rattle.smk_session.specs.Opened.{opened, workbook_image}
-use Rattle.smk_grow.specs.Grown.{rows_of, with_rows, first_tables, last_tables}
-use Rattle.smk_grow.specs.Renewed.{chains}
-use Rattle.smk_grow.proofs.Grown.{each_rows_with, rows_is}
-use Rattle.smk_grow.proofs.Renewed.{book_over, chain_table, chains_grow}
+use Rattle.smk_grow.specs.{Grown.{rows_of, with_rows, first_tables, last_tables}, Renewed.chains}
+use Rattle.smk_grow.proofs.{Grown.{each_rows_with, rows_is}, Renewed.{book_over, chain_table, chains_grow}}
 
 -- what a view of a checked book is, and the table that it scans
 

@@ -1,24 +1,13 @@
 -- What a session keeps once fresh values are in the places of what they replace.
 use Rattle.std.proofs.Common.{◌≡◌, ℕ, ◌≤◌, List, [], length, map, refl, ap, sym, ◌∙◌, arith, Option, None}
 use Rattle.std.specs.List.{filter_map}
-use Rattle.smk_base.specs.CatalogImage.{catalog_image}
-use Rattle.smk_base.specs.Places.{upto}
-use Rattle.smk_base.specs.Rels.{Relation}
-use Rattle.smk_base.specs.declared.brush.BrushOn.{BrushOn}
-use Rattle.smk_model.specs.Selection.{each_rows}
-use Rattle.smk_model.specs.Session.{Workbook}
+use Rattle.smk_base.specs.{CatalogImage.catalog_image, Places.upto, Rels.Relation, declared.brush.BrushOn.BrushOn}
+use Rattle.smk_model.specs.{Selection.each_rows, Session.Workbook}
 use Rattle.smk_compose.specs.declared.kept_maps.Run.{Run}
 use Rattle.smk_skip.specs.Splits.{SplitImage}
-use Rattle.smk_session.specs.Extras.{splits_of, all_cubes}
-use Rattle.smk_session.specs.Opened.{opened_views, workbook_image}
-use Rattle.smk_session.specs.Sessions.{SessionImage, workbook_of}
-use Rattle.smk_grow.specs.Grown.{first_tables}
-use Rattle.smk_grow.specs.Images.{renewed}
-use Rattle.smk_grow.specs.Renewals.{IsFresh, IsGrown}
-use Rattle.smk_grow.specs.Renewed.{fresh_cubes, fresh_split, fresh_view, replaced}
-use Rattle.smk_grow.specs.declared.renewing.Fresh.{Fresh}
-use Rattle.smk_grow.proofs.Fresh.{same_but}
-use Rattle.smk_grow.proofs.Replaced.{long_cubes, long_splits, replaced_cubes, replaced_splits, replaced_views}
+use Rattle.smk_session.specs.{Extras.{splits_of, all_cubes}, Opened.{opened_views, workbook_image}, Sessions.{SessionImage, workbook_of}}
+use Rattle.smk_grow.specs.{Grown.first_tables, Images.renewed, Renewals.{IsFresh, IsGrown}, Renewed.{fresh_cubes, fresh_split, fresh_view, replaced}, declared.renewing.Fresh.Fresh}
+use Rattle.smk_grow.proofs.{Fresh.same_but, Replaced.{long_cubes, long_splits, replaced_cubes, replaced_splits, replaced_views}}
 
 abbrev before : SessionImage → ℕ → ℕ → Workbook
 before session t len = workbook_image session.catalog (first_tables session.tables t len)

@@ -1,18 +1,8 @@
 -- Faults and looks of the views that scan a table, as those of all views.
-use Rattle.std.proofs.Common.{◌≡◌, ℕ, zero, suc, zero-add, ◌+◌, ◌≤◌, subst, Bool, true, false, ◌&&◌, cond, List, [], ◌∷◌, length, refl, ap, sym, ◌∙◌, arith, Option, None, inl, inr}
-use Rattle.std.specs.List.{filter, sum_by}
-use Rattle.std.specs.Option.{option_or}
-use Rattle.std.proofs.lemmas.Bool.{cases_lt}
-use Rattle.std.proofs.lemmas.List.Sums.{sum_by-cons, sum_by_push}
-use Rattle.smk_base.specs.Places.{upto}
-use Rattle.smk_model.specs.Appends.{depends_on, scans, scanning}
-use Rattle.smk_model.specs.Looks.{looks_of_back}
-use Rattle.smk_base.specs.declared.book.catalog.Back.{Back}
-use Rattle.smk_model.specs.Growth.{is_growing}
-use Rattle.smk_model.specs.Opening.{first_some, view_fault}
-use Rattle.smk_model.specs.Plain.{whole}
-use Rattle.smk_model.specs.Selection.{rows_in}
-use Rattle.smk_model.specs.Session.{Workbook, view_at}
+use Rattle.std.proofs.{Common.{◌≡◌, ℕ, zero, suc, zero-add, ◌+◌, ◌≤◌, subst, Bool, true, false, ◌&&◌, cond, List, [], ◌∷◌, length, refl, ap, sym, ◌∙◌, arith, Option, None, inl, inr}, lemmas.Bool.cases_lt, lemmas.List.Sums.{sum_by-cons, sum_by_push}}
+use Rattle.std.specs.{List.{filter, sum_by}, Option.option_or}
+use Rattle.smk_base.specs.{Places.upto, declared.book.catalog.Back.Back}
+use Rattle.smk_model.specs.{Appends.{depends_on, scans, scanning}, Looks.looks_of_back, Growth.is_growing, Opening.{first_some, view_fault}, Plain.whole, Selection.rows_in, Session.{Workbook, view_at}}
 use Rattle.smk_grow.specs.Renewed.{scan_fault, looks_apart, looks_again, looks_of_declared}
 
 first_cond : {A B : Type 0} (value : A → Option B) (x : A) (xs : List A) (b : Bool) → first_some value (cond b (x ∷ xs) xs) ≡ option_or (cond b (value x) None) (first_some value xs)

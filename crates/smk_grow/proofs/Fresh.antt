@@ -1,23 +1,11 @@
 -- What takes the place of a view, by what the view is.
-use Rattle.std.proofs.Common.{◌≡◌, ℕ, ◌<◌, ◌≤◌, true, List, length, refl, ap, sym, ◌∙◌, arith, Option, Some, None, inl, inr}
-use Rattle.std.proofs.lemmas.Bool.{cases_Bool}
-use Rattle.smk_base.specs.CatalogImage.{catalog_image}
-use Rattle.smk_base.specs.Rels.{Relation}
-use Rattle.smk_base.specs.declared.book.catalog.Catalog.{Catalog}
-use Rattle.smk_model.specs.Appends.{scans}
-use Rattle.smk_model.specs.NodeFaults.{FullRows, FullPairs}
-use Rattle.smk_model.specs.Opening.{ViewFault, view_fault}
-use Rattle.smk_model.specs.Plain.{table_at, whole}
-use Rattle.smk_model.specs.Selection.{each_rows, row_limit, rows_in}
-use Rattle.smk_model.specs.Session.{Workbook, view_at}
+use Rattle.std.proofs.{Common.{◌≡◌, ℕ, ◌<◌, ◌≤◌, true, List, length, refl, ap, sym, ◌∙◌, arith, Option, Some, None, inl, inr}, lemmas.Bool.cases_Bool}
+use Rattle.smk_base.specs.{CatalogImage.catalog_image, Rels.Relation, declared.book.catalog.Catalog.Catalog}
+use Rattle.smk_model.specs.{Appends.scans, NodeFaults.{FullRows, FullPairs}, Opening.{ViewFault, view_fault}, Plain.{table_at, whole}, Selection.{each_rows, row_limit, rows_in}, Session.{Workbook, view_at}}
 use Rattle.smk_compose.specs.declared.kept_maps.Run.{Run}
-use Rattle.smk_session.specs.Opened.{IsStartFault, opened, workbook_image}
-use Rattle.smk_session.specs.declared.start.fault.StartFault.{StartFault}
-use Rattle.smk_session.specs.declared.start.fault.StartFault.TheVariants.{Rows, Pairs, NoMemory}
-use Rattle.smk_grow.specs.Grown.{rows_of, first_tables}
-use Rattle.smk_grow.specs.Renewed.{apart_view, chains, kept_view, scan_fault, looks_apart}
-use Rattle.smk_grow.proofs.Grown.{other_with, rows_is}
-use Rattle.smk_grow.proofs.Renewed.{SameBut, chain_looks, chain_never_full, chains_scan}
+use Rattle.smk_session.specs.{Opened.{IsStartFault, opened, workbook_image}, declared.start.fault.StartFault.StartFault, declared.start.fault.StartFault.TheVariants.{Rows, Pairs, NoMemory}}
+use Rattle.smk_grow.specs.{Grown.{rows_of, first_tables}, Renewed.{apart_view, chains, kept_view, scan_fault, looks_apart}}
+use Rattle.smk_grow.proofs.{Grown.{other_with, rows_is}, Renewed.{SameBut, chain_looks, chain_never_full, chains_scan}}
 
 -- the first rows of a table leave the others as they are
 pub same_but : (tables : List Relation) (t len : ℕ) → SameBut t (each_rows (first_tables tables t len)) (each_rows tables)

@@ -1,14 +1,7 @@
 -- Tables of which one has other rows.
-use Rattle.std.proofs.Common.{◌≡◌, ◌≢◌, ℕ, zero, suc, ◌<◌, false, List, [], ◌∷◌, ◌++◌, length, get_or, take, drop, set, refl, ap, sym, ◌∙◌, arith, nat_eq}
-use Rattle.std.proofs.lemmas.Bool.{eq-eqb, false≢true}
-use Rattle.std.proofs.lemmas.List.{get_or-map, get_or-set_same, get_or-set_other, length-map, length-set, map-set, set-set, set-get_or}
-use Rattle.std.proofs.Math.Seq.{map-set_same}
-use Rattle.smk_base.specs.Rels.{Relation}
-use Rattle.smk_base.specs.declared.value.Kind.{Kind}
-use Rattle.smk_model.specs.Values.{Row}
-use Rattle.smk_model.specs.Appends.{longer}
-use Rattle.smk_model.specs.Plain.{table_at}
-use Rattle.smk_model.specs.Selection.{each_kinds, each_rows}
+use Rattle.std.proofs.{Common.{◌≡◌, ◌≢◌, ℕ, zero, suc, ◌<◌, false, List, [], ◌∷◌, ◌++◌, length, get_or, take, drop, set, refl, ap, sym, ◌∙◌, arith, nat_eq}, lemmas.Bool.{eq-eqb, false≢true}, lemmas.List.{get_or-map, get_or-set_same, get_or-set_other, length-map, length-set, map-set, set-set, set-get_or}, Math.Seq.map-set_same}
+use Rattle.smk_base.specs.{Rels.Relation, declared.value.Kind.Kind}
+use Rattle.smk_model.specs.{Values.Row, Appends.longer, Plain.table_at, Selection.{each_kinds, each_rows}}
 use Rattle.smk_compose.specs.Fetched.{table_of}
 use Rattle.smk_grow.specs.Grown.{rows_of, with_rows, longer_tables, first_tables, last_tables}
 

@@ -1,27 +1,13 @@
 -- A session before and after a line that appends rows.
-use Rattle.std.proofs.Common.{◌≡◌, ℕ, ◌+◌, ◌<◌, ◌≤◌, Bool, true, false, cond, List, [], ◌++◌, length, refl, ap, sym, ◌∙◌, subst, arith, Option, Some, None, inl, inr}
+use Rattle.std.proofs.{Common.{◌≡◌, ℕ, ◌+◌, ◌<◌, ◌≤◌, Bool, true, false, cond, List, [], ◌++◌, length, refl, ap, sym, ◌∙◌, subst, arith, Option, Some, None, inl, inr}, lemmas.Bool.cases_Bool, lemmas.List.{length-append, length-map, length-set}}
 use Rattle.std.specs.List.{filter, sum_by}
-use Rattle.std.proofs.lemmas.Bool.{cases_Bool}
-use Rattle.std.proofs.lemmas.List.{length-append, length-map, length-set}
-use Rattle.smk_base.specs.CatalogImage.{CatalogImage, catalog_image}
-use Rattle.smk_base.specs.Places.{upto}
-use Rattle.smk_base.specs.Rels.{Relation}
-use Rattle.smk_model.specs.Appends.{depends_on, is_too_long, longer_book, longer_fault, looks_of_longer, scanning, turn_at, turn_unless, looks_of_scan}
-use Rattle.smk_model.specs.Looks.{looks_of_back}
-use Rattle.smk_model.specs.Opening.{ViewFault, first_some, view_fault}
-use Rattle.smk_model.specs.Selection.{row_limit}
-use Rattle.smk_model.specs.Session.{State, Workbook}
-use Rattle.smk_model.specs.Values.{Row}
+use Rattle.smk_base.specs.{CatalogImage.{CatalogImage, catalog_image}, Places.upto, Rels.Relation}
+use Rattle.smk_model.specs.{Appends.{depends_on, is_too_long, longer_book, longer_fault, looks_of_longer, scanning, turn_at, turn_unless, looks_of_scan}, Looks.looks_of_back, Opening.{ViewFault, first_some, view_fault}, Selection.row_limit, Session.{State, Workbook}, Values.Row}
 use Rattle.smk_compose.specs.declared.kept_maps.Run.{Run}
-use Rattle.smk_session.specs.Opened.{AreExtras, AreOpened, opened_views, opened, workbook_image}
-use Rattle.smk_session.specs.Sessions.{IsSession, SessionImage, content_kept, state_of, workbook_of}
+use Rattle.smk_session.specs.{Opened.{AreExtras, AreOpened, opened_views, opened, workbook_image}, Sessions.{IsSession, SessionImage, content_kept, state_of, workbook_of}}
 use Rattle.smk_session.proofs.Shown.{none_in_force}
-use Rattle.smk_grow.specs.Grown.{rows_of, longer_tables}
-use Rattle.smk_grow.specs.Images.{lengthened, shortened, renewed, renewed_unless, grown_unless, next_image}
-use Rattle.smk_grow.specs.Renewals.{IsGrown}
-use Rattle.smk_grow.specs.Renewed.{kept_views, looks_apart, looks_again, looks_of_declared}
-use Rattle.smk_grow.proofs.Folds.{looks_depending, looks_scanning}
-use Rattle.smk_grow.proofs.Grown.{each_kinds_with, first_of_longer, longer_is, table_with}
+use Rattle.smk_grow.specs.{Grown.{rows_of, longer_tables}, Images.{lengthened, shortened, renewed, renewed_unless, grown_unless, next_image}, Renewals.IsGrown, Renewed.{kept_views, looks_apart, looks_again, looks_of_declared}}
+use Rattle.smk_grow.proofs.{Folds.{looks_depending, looks_scanning}, Grown.{each_kinds_with, first_of_longer, longer_is, table_with}}
 
 -- the longer tables are those of the longer book
 

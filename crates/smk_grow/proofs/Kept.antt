@@ -1,17 +1,10 @@
 -- The views as they are now.
-use Rattle.std.proofs.Common.{◌≡◌, ℕ, ◌<◌, List, length, map, get_or, ap, ◌∙◌, arith, Option, None}
-use Rattle.std.proofs.lemmas.List.{length-map}
-use Rattle.smk_base.specs.CatalogImage.{catalog_image, view_image}
-use Rattle.smk_base.specs.Places.{upto}
-use Rattle.smk_base.specs.Rels.{Relation}
-use Rattle.smk_base.specs.declared.book.catalog.Catalog.{Catalog}
-use Rattle.smk_model.specs.Catalogs.{each_table_kinds}
-use Rattle.smk_model.specs.Selection.{each_kinds}
-use Rattle.smk_model.specs.Session.{Workbook}
+use Rattle.std.proofs.{Common.{◌≡◌, ℕ, ◌<◌, List, length, map, get_or, ap, ◌∙◌, arith, Option, None}, lemmas.List.length-map}
+use Rattle.smk_base.specs.{CatalogImage.{catalog_image, view_image}, Places.upto, Rels.Relation, declared.book.catalog.Catalog.Catalog}
+use Rattle.smk_model.specs.{Catalogs.each_table_kinds, Selection.each_kinds, Session.Workbook}
 use Rattle.smk_base.proofs.Places.{get_or_map_upto, length_upto}
 use Rattle.smk_compose.specs.declared.kept_maps.Run.{Run}
-use Rattle.smk_session.specs.Making.{AreNow, newer}
-use Rattle.smk_session.specs.Opened.{workbook_image}
+use Rattle.smk_session.specs.{Making.{AreNow, newer}, Opened.workbook_image}
 use Rattle.smk_grow.specs.Renewed.{fresh_view, kept_view, kept_views}
 use Rattle.smk_grow.proofs.Renewed.{newer_is}
 

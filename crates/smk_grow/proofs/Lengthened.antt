@@ -1,25 +1,12 @@
 -- A session with a longer table, of which nothing is made anew yet.
 use Rattle.std.proofs.Common.{◌≡◌, ℕ, ◌+◌, ◌<◌, ◌≤◌, List, length, map, set, ap, sym, ◌∙◌, subst, arith, Option, Result, Ok, Err, IfOk, OnOk, OnErr}
 use Rattle.std.specs.List.{sum_by}
-use Rattle.smk_base.specs.CatalogImage.{catalog_image}
-use Rattle.smk_base.specs.Places.{upto}
-use Rattle.smk_base.specs.Rels.{Relation}
-use Rattle.smk_model.specs.Appends.{longer_fault, looks_of_longer, scanning}
-use Rattle.smk_model.specs.Opening.{ViewFault, first_some, view_fault}
-use Rattle.smk_model.specs.Selection.{row_limit}
-use Rattle.smk_model.specs.Session.{Workbook}
-use Rattle.smk_model.specs.Values.{Row}
-use Rattle.smk_compose.specs.Fetched.{table_of}
-use Rattle.smk_compose.specs.declared.kept_maps.Run.{Run}
-use Rattle.smk_session.specs.Opened.{workbook_image}
-use Rattle.smk_session.specs.Sessions.{IsSession, SessionImage, state_of, workbook_of}
-use Rattle.smk_grow.specs.Grown.{rows_of, first_tables, longer_tables}
-use Rattle.smk_grow.specs.Images.{grown_unless, lengthened, renewed_unless, shortened, told_unless}
-use Rattle.smk_grow.specs.Renewals.{IsGrown, IsLengthened, last_of}
-use Rattle.smk_grow.specs.Renewed.{apart_view, looks_again, looks_apart, looks_of_declared, moved_views}
-use Rattle.smk_grow.proofs.Grown.{last_of_longer}
-use Rattle.smk_grow.proofs.Images.{fault_is, grown_is, looks_are, placed, renewed_is, shortened_longer}
-use Rattle.smk_grow.proofs.Moved.{moved_back, moved_longer}
+use Rattle.smk_base.specs.{CatalogImage.catalog_image, Places.upto, Rels.Relation}
+use Rattle.smk_model.specs.{Appends.{longer_fault, looks_of_longer, scanning}, Opening.{ViewFault, first_some, view_fault}, Selection.row_limit, Session.Workbook, Values.Row}
+use Rattle.smk_compose.specs.{Fetched.table_of, declared.kept_maps.Run.Run}
+use Rattle.smk_session.specs.{Opened.workbook_image, Sessions.{IsSession, SessionImage, state_of, workbook_of}}
+use Rattle.smk_grow.specs.{Grown.{rows_of, first_tables, longer_tables}, Images.{grown_unless, lengthened, renewed_unless, shortened, told_unless}, Renewals.{IsGrown, IsLengthened, last_of}, Renewed.{apart_view, looks_again, looks_apart, looks_of_declared, moved_views}}
+use Rattle.smk_grow.proofs.{Grown.last_of_longer, Images.{fault_is, grown_is, looks_are, placed, renewed_is, shortened_longer}, Moved.{moved_back, moved_longer}}
 
 -- more rows behind those of a table, with the views moved that don't scan it, and back
 

@@ -1,23 +1,12 @@
 -- The views that don't scan a table, moved to more rows of it, and back.
-use Rattle.std.proofs.Common.{◌≡◌, ℕ, zero, suc, ◌+◌, ◌<◌, ◌≤◌, cond, List, [], ◌∷◌, ◌++◌, length, get_or, map, set, take, drop, refl, ap, sym, ◌∙◌, arith, inl, inr}
-use Rattle.std.proofs.lemmas.Bool.{cases_Bool}
-use Rattle.std.proofs.lemmas.List.{ext_get_or, length-map, length-take-le}
-use Rattle.smk_base.specs.CatalogImage.{CatalogImage, catalog_image}
-use Rattle.smk_base.specs.Places.{upto}
-use Rattle.smk_base.specs.Rels.{Relation}
-use Rattle.smk_base.specs.declared.book.catalog.Catalog.{Catalog}
-use Rattle.smk_model.specs.Appends.{scans}
-use Rattle.smk_model.specs.Plain.{table_at}
-use Rattle.smk_model.specs.Selection.{each_rows}
-use Rattle.smk_model.specs.Values.{Row}
+use Rattle.std.proofs.{Common.{◌≡◌, ℕ, zero, suc, ◌+◌, ◌<◌, ◌≤◌, cond, List, [], ◌∷◌, ◌++◌, length, get_or, map, set, take, drop, refl, ap, sym, ◌∙◌, arith, inl, inr}, lemmas.Bool.cases_Bool, lemmas.List.{ext_get_or, length-map, length-take-le}}
+use Rattle.smk_base.specs.{CatalogImage.{CatalogImage, catalog_image}, Places.upto, Rels.Relation, declared.book.catalog.Catalog.Catalog}
+use Rattle.smk_model.specs.{Appends.scans, Plain.table_at, Selection.each_rows, Values.Row}
 use Rattle.smk_base.proofs.Places.{get_or_map_upto, length_upto, map_upto_agree}
 use Rattle.smk_compose.specs.declared.kept_maps.Run.{Run}
 use Rattle.smk_session.specs.Opened.{opened, opened_views, workbook_image}
-use Rattle.smk_grow.specs.Grown.{rows_of, first_tables, longer_tables}
-use Rattle.smk_grow.specs.Renewed.{kept_view, kept_views, moved_at, moved_view, moved_views, no_view, view_in}
-use Rattle.smk_grow.proofs.Fresh.{same_but}
-use Rattle.smk_grow.proofs.Grown.{at_with, long_with, other_with, rows_is}
-use Rattle.smk_grow.proofs.Renewed.{SameBut, book_over, moved_is}
+use Rattle.smk_grow.specs.{Grown.{rows_of, first_tables, longer_tables}, Renewed.{kept_view, kept_views, moved_at, moved_view, moved_views, no_view, view_in}}
+use Rattle.smk_grow.proofs.{Fresh.same_but, Grown.{at_with, long_with, other_with, rows_is}, Renewed.{SameBut, book_over, moved_is}}
 
 -- one value more of which each is mapped in its place
 

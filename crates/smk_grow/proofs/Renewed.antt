@@ -1,34 +1,12 @@
 -- What a view is over a longer table.
-use Rattle.std.proofs.Common.{◌≡◌, ℕ, ◌≤◌, Bool, true, false, List, [], ◌∷◌, length, map, refl, ap, sym, ◌∙◌, subst, arith, nat_eq, Option, None, option_map, inl, inr}
-use Rattle.std.proofs.lemmas.Bool.{cases_Bool, eqb-true, and_parts}
-use Rattle.smk_base.specs.CatalogImage.{CatalogImage}
-use Rattle.smk_base.specs.Places.{Lists, empty_lists, has}
-use Rattle.smk_base.specs.Plans.{Expr}
-use Rattle.smk_base.specs.Rels.{Relation}
-use Rattle.smk_base.specs.declared.book.need.Needed.{Needed}
-use Rattle.smk_model.specs.Appends.{scans}
-use Rattle.smk_model.specs.Composed.{backs, forwards, rows_over}
-use Rattle.smk_model.specs.Growth.{is_growing}
-use Rattle.smk_model.specs.GrowthLaws.{AgreeAtLeaves}
-use Rattle.smk_model.specs.LineageLaws.{selected_table}
-use Rattle.smk_model.specs.NodeFaults.{NodeFault}
-use Rattle.smk_model.specs.Opening.{view_fault, fault_of_view}
-use Rattle.smk_model.specs.Plain.{leaves, table_at, whole}
-use Rattle.smk_model.specs.Selection.{rows_in, row_limit}
-use Rattle.smk_model.specs.Session.{Workbook, view_at}
-use Rattle.smk_model.specs.Values.{Row}
-use Rattle.smk_model.specs.Workload.{needs}
-use Rattle.smk_model.proofs.Composed.{lists_stand}
-use Rattle.smk_model.proofs.NeverFull.{growing_never_full}
+use Rattle.std.proofs.{Common.{◌≡◌, ℕ, ◌≤◌, Bool, true, false, List, [], ◌∷◌, length, map, refl, ap, sym, ◌∙◌, subst, arith, nat_eq, Option, None, option_map, inl, inr}, lemmas.Bool.{cases_Bool, eqb-true, and_parts}}
+use Rattle.smk_base.specs.{CatalogImage.CatalogImage, Places.{Lists, empty_lists, has}, Plans.Expr, Rels.Relation, declared.book.need.Needed.Needed}
+use Rattle.smk_model.specs.{Appends.scans, Composed.{backs, forwards, rows_over}, Growth.is_growing, GrowthLaws.AgreeAtLeaves, LineageLaws.selected_table, NodeFaults.NodeFault, Opening.{view_fault, fault_of_view}, Plain.{leaves, table_at, whole}, Selection.{rows_in, row_limit}, Session.{Workbook, view_at}, Values.Row, Workload.needs}
+use Rattle.smk_model.proofs.{Composed.lists_stand, NeverFull.growing_never_full, Thin.growing_is_thin, Unscanned.unscanned_stays}
 use Rattle.smk_base.proofs.Places.{has_single}
-use Rattle.smk_model.proofs.Thin.{growing_is_thin}
-use Rattle.smk_model.proofs.Unscanned.{unscanned_stays}
 use Rattle.smk_body.specs.Locals.{wanted}
-use Rattle.smk_compose.specs.KeptMaps.{kept_at}
-use Rattle.smk_compose.specs.declared.kept_maps.KeptMap.{KeptMap}
-use Rattle.smk_compose.specs.declared.kept_maps.Run.{Run}
-use Rattle.smk_session.specs.Opened.{opened}
-use Rattle.smk_session.specs.Making.{newer}
+use Rattle.smk_compose.specs.{KeptMaps.kept_at, declared.kept_maps.KeptMap.KeptMap, declared.kept_maps.Run.Run}
+use Rattle.smk_session.specs.{Opened.opened, Making.newer}
 use Rattle.smk_grow.specs.Renewed.{chains, fresh_view, kept_view, moved_kept, moved_view}
 
 -- tables that are the same but for one

@@ -1,28 +1,15 @@
 -- Values with fresh ones in their places.
-use Rattle.std.proofs.Common.{◌≡◌, ℕ, ◌<◌, Bool, true, false, nat_eq, List, [], ◌∷◌, ◌++◌, length, map, set, refl, ap, sym, ◌∙◌, arith, Option, Some, None, option_map, is_some}
+use Rattle.std.proofs.{Common.{◌≡◌, ℕ, ◌<◌, Bool, true, false, nat_eq, List, [], ◌∷◌, ◌++◌, length, map, set, refl, ap, sym, ◌∙◌, arith, Option, Some, None, option_map, is_some}, lemmas.Bool.{false≢true, or_parts}, lemmas.List.length-set}
 use Rattle.std.specs.List.{cons_option, filter_map}
-use Rattle.std.proofs.lemmas.Bool.{false≢true, or_parts}
-use Rattle.std.proofs.lemmas.List.{length-set}
-use Rattle.smk_base.specs.Places.{Lists, upto}
-use Rattle.smk_base.specs.Rels.{Relation}
-use Rattle.smk_base.specs.declared.book.catalog.Back.{Back}
-use Rattle.smk_base.specs.declared.book.catalog.BackExtra.{BackExtra}
+use Rattle.smk_base.specs.{Places.{Lists, upto}, Rels.Relation, declared.book.catalog.Back.Back, declared.book.catalog.BackExtra.BackExtra, CatalogImage.CatalogImage}
 use Rattle.smk_base.specs.declared.book.catalog.BackExtra.TheVariants as extras
-use Rattle.smk_base.specs.CatalogImage.{CatalogImage}
-use Rattle.smk_model.specs.Appends.{depends_on, scans}
-use Rattle.smk_model.specs.Catalogs.{table_kinds}
-use Rattle.smk_model.specs.Typing.{info_at}
+use Rattle.smk_model.specs.{Appends.{depends_on, scans}, Catalogs.table_kinds, Typing.info_at, Session.{Workbook, view_at}, Values.Row}
 use Rattle.smk_model.proofs.Unscanned.{unscanned_stays}
 use Rattle.smk_push.specs.Cubes.{cubes_of}
 use Rattle.smk_skip.specs.Splits.{SplitImage}
-use Rattle.smk_model.specs.Session.{Workbook, view_at}
-use Rattle.smk_model.specs.Values.{Row}
-use Rattle.smk_session.specs.Extras.{backs_of, table_of, split_in, cubes_in, split_for, cubes_for}
-use Rattle.smk_session.specs.Opened.{opened}
-use Rattle.smk_session.specs.Making.{newer}
+use Rattle.smk_session.specs.{Extras.{backs_of, table_of, split_in, cubes_in, split_for, cubes_for}, Opened.opened, Making.newer}
 use Rattle.smk_grow.specs.Renewed.{replaced, put_at, fresh_view, kept_view, fresh_split, fresh_cubes, if_depends}
-use Rattle.smk_grow.proofs.Grown.{rel_of}
-use Rattle.smk_grow.proofs.Renewed.{SameBut, book_over, newer_is}
+use Rattle.smk_grow.proofs.{Grown.rel_of, Renewed.{SameBut, book_over, newer_is}}
 
 -- the last fresh value is put first
 

@@ -1,17 +1,11 @@
 -- What was made for some declarations, each at the place of its declaration.
 use Rattle.std.proofs.Common.{◌≡◌, ◌∙◌, ℕ, suc, ◌+◌, ◌<◌, Bool, true, false, cond, List, [], ◌∷◌, ◌++◌, length, take, drop, get_or, refl, ap, sym, arith, drop-cons, append-nil, Option, Some, None, option_map}
-use Rattle.std.specs.List.{cons_option, filter_map}
-use Rattle.std.specs.Option.{option_to_list}
-use Rattle.smk_base.specs.Rels.{Relation}
-use Rattle.smk_base.specs.declared.book.catalog.Back.{Back}
-use Rattle.smk_base.specs.declared.book.catalog.BackExtra.{BackExtra}
+use Rattle.std.specs.{List.{cons_option, filter_map}, Option.option_to_list}
+use Rattle.smk_base.specs.{Rels.Relation, declared.book.catalog.Back.Back, declared.book.catalog.BackExtra.BackExtra, declared.book.plan.Agg.Agg, declared.value.Kind.Kind}
 use Rattle.smk_base.specs.declared.book.catalog.BackExtra.TheVariants as extras
-use Rattle.smk_base.specs.declared.book.plan.Agg.{Agg}
-use Rattle.smk_base.specs.declared.value.Kind.{Kind}
 use Rattle.smk_model.specs.Session.{Workbook}
 use Rattle.smk_skip.specs.Splits.{SplitImage}
-use Rattle.smk_session.specs.Extras.{cubes_for, cubes_on, split_for, split_on}
-use Rattle.smk_session.specs.Making.{cubes_wanted, is_wanted, split_wanted}
+use Rattle.smk_session.specs.{Extras.{cubes_for, cubes_on, split_for, split_on}, Making.{cubes_wanted, is_wanted, split_wanted}}
 use Rattle.smk_session.proofs.Declared.{kept_next}
 use Rattle.smk_grow.specs.Renewed.{cubes_again, if_depends, split_again}
 

@@ -1,28 +1,14 @@
 -- What holds after a line, by its answer.
-use Rattle.std.proofs.Common.{◌≡◌, ℕ, ◌<◌, true, List, [], length, ap, sym, ◌∙◌, subst, arith, Option, Some, None, is_some, Result, Ok, Err, All, OnOk, OnErr}
-use Rattle.std.proofs.lemmas.Bool.{false≢true}
-use Rattle.smk_base.specs.CatalogImage.{CatalogImage, catalog_image}
-use Rattle.smk_base.specs.Rels.{Relation}
-use Rattle.smk_base.specs.declared.book.catalog.Catalog.{Catalog}
-use Rattle.smk_base.specs.declared.reply.AppendReply.{AppendReply}
-use Rattle.smk_base.specs.declared.reply.AppendReply.TheVariants.{Added}
-use Rattle.smk_model.specs.Appends.{append_turn, scanning, scans, turn_at}
-use Rattle.smk_model.specs.AppendTexts.{IsAppendReply}
-use Rattle.smk_model.specs.Catalogs.{each_table_kinds, table_kinds}
-use Rattle.smk_model.specs.Opening.{ViewFault}
-use Rattle.smk_model.specs.Selection.{each_kinds}
-use Rattle.smk_model.specs.Typing.{info_at}
-use Rattle.smk_model.specs.Values.{Row}
+use Rattle.std.proofs.{Common.{◌≡◌, ℕ, ◌<◌, true, List, [], length, ap, sym, ◌∙◌, subst, arith, Option, Some, None, is_some, Result, Ok, Err, All, OnOk, OnErr}, lemmas.Bool.false≢true}
+use Rattle.smk_base.specs.{CatalogImage.{CatalogImage, catalog_image}, Rels.Relation, declared.book.catalog.Catalog.Catalog, declared.reply.AppendReply.AppendReply, declared.reply.AppendReply.TheVariants.Added}
+use Rattle.smk_model.specs.{Appends.{append_turn, scanning, scans, turn_at}, AppendTexts.IsAppendReply, Catalogs.{each_table_kinds, table_kinds}, Opening.ViewFault, Selection.each_kinds, Typing.info_at, Values.Row}
 use Rattle.smk_model.proofs.Appends.{appends_fit}
 use Rattle.smk_base.proofs.Places.{places_below}
 use Rattle.smk_compose.specs.Fetched.{table_of}
-use Rattle.smk_session.specs.Opened.{workbook_image}
-use Rattle.smk_session.specs.Sessions.{IsSession, SessionImage, state_of, workbook_of}
+use Rattle.smk_session.specs.{Opened.workbook_image, Sessions.{IsSession, SessionImage, state_of, workbook_of}}
 use Rattle.smk_session.proofs.OpenedViews.{table_is, tables_long}
-use Rattle.smk_grow.specs.Images.{next_image, renewed, renewed_unless, shortened}
-use Rattle.smk_grow.specs.Told.{added_told, told_text}
-use Rattle.smk_grow.proofs.Grown.{at_table}
-use Rattle.smk_grow.proofs.Images.{next_keeps, next_state}
+use Rattle.smk_grow.specs.{Images.{next_image, renewed, renewed_unless, shortened}, Told.{added_told, told_text}}
+use Rattle.smk_grow.proofs.{Grown.at_table, Images.{next_keeps, next_state}}
 
 -- a view that is too big leaves the table as it was
 

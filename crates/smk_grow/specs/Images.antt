@@ -1,17 +1,9 @@
 -- What a session is after a line that appends rows.
 use Rattle.std.specs.Prelude.{ℕ, cond, List, [], length, map, Option, Some, None}
-use Rattle.smk_base.specs.CatalogImage.{catalog_image}
-use Rattle.smk_base.specs.Places.{upto}
-use Rattle.smk_base.specs.declared.reply.AppendReply.{AppendReply}
-use Rattle.smk_base.specs.declared.reply.AppendReply.TheVariants.{Added, Refused}
-use Rattle.smk_model.specs.Appends.{is_too_long, longer_fault, refusal_of}
-use Rattle.smk_model.specs.Opening.{ViewFault}
-use Rattle.smk_model.specs.Values.{Row}
-use Rattle.smk_session.specs.Extras.{splits_of, all_cubes}
-use Rattle.smk_session.specs.Opened.{opened_views, workbook_image}
-use Rattle.smk_session.specs.Sessions.{SessionImage, state_of, workbook_of}
-use Rattle.smk_grow.specs.Grown.{longer_tables, first_tables}
-use Rattle.smk_grow.specs.Renewed.{kept_views}
+use Rattle.smk_base.specs.{CatalogImage.catalog_image, Places.upto, declared.reply.AppendReply.AppendReply, declared.reply.AppendReply.TheVariants.{Added, Refused}}
+use Rattle.smk_model.specs.{Appends.{is_too_long, longer_fault, refusal_of}, Opening.ViewFault, Values.Row}
+use Rattle.smk_session.specs.{Extras.{splits_of, all_cubes}, Opened.{opened_views, workbook_image}, Sessions.{SessionImage, state_of, workbook_of}}
+use Rattle.smk_grow.specs.{Grown.{longer_tables, first_tables}, Renewed.kept_views}
 
 -- with more rows behind those of a table: the views that scan it are still those before, the others over the longer table
 abbrev pub lengthened : ℕ → List Row → SessionImage → SessionImage

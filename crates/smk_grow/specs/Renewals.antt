@@ -1,19 +1,9 @@
 -- What the calls say that make views, splits and groupings over a longer table.
-use Rattle.std.specs.Prelude.{◌≡◌, ◌<◌, ◌≤◌, ℕ, List, length, map}
+use Rattle.std.specs.{Prelude.{◌≡◌, ◌<◌, ◌≤◌, ℕ, List, length, map}, List.filter_map}
 use Rattle.smk_base.specs.Places.{upto}
-use Rattle.std.specs.List.{filter_map}
-use Rattle.smk_model.specs.Appends.{scanning}
-use Rattle.smk_model.specs.Catalogs.{each_table_kinds}
-use Rattle.smk_model.specs.Selection.{each_kinds, row_limit}
-use Rattle.smk_model.specs.Session.{Workbook}
-use Rattle.smk_model.specs.Values.{Row}
-use Rattle.smk_session.specs.Opened.{AreExtras, workbook_image}
-use Rattle.smk_session.specs.Sessions.{IsSession, SessionImage, workbook_of}
-use Rattle.smk_grow.specs.Grown.{rows_of, first_tables, last_tables}
-use Rattle.smk_grow.specs.Images.{lengthened}
-use Rattle.smk_grow.specs.Renewed.{fresh_view, fresh_split, fresh_cubes, kept_views}
-use Rattle.smk_grow.specs.declared.renewal.Renewal.{Renewal}
-use Rattle.smk_grow.specs.declared.renewing.Fresh.{Fresh}
+use Rattle.smk_model.specs.{Appends.scanning, Catalogs.each_table_kinds, Selection.{each_kinds, row_limit}, Session.Workbook, Values.Row}
+use Rattle.smk_session.specs.{Opened.{AreExtras, workbook_image}, Sessions.{IsSession, SessionImage, workbook_of}}
+use Rattle.smk_grow.specs.{Grown.{rows_of, first_tables, last_tables}, Images.lengthened, Renewed.{fresh_view, fresh_split, fresh_cubes, kept_views}, declared.renewal.Renewal.Renewal, declared.renewing.Fresh.Fresh}
 
 -- a checked book over tables of its kinds, one of which grows
 pub record IsRenewal (renewal : Renewal) : Type 0 where

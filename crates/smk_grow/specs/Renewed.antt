@@ -1,23 +1,10 @@
 -- What takes the place of what a session keeps when a table has grown.
 use Rattle.std.specs.Prelude.{ℕ, Bool, cond, ◌&&◌, List, [], ◌∷◌, length, get_or, map, set, Option, Some, None, option_map}
-use Rattle.smk_base.specs.CatalogImage.{CatalogImage}
-use Rattle.smk_base.specs.Places.{empty_lists, upto}
-use Rattle.smk_base.specs.Rels.{Relation}
-use Rattle.smk_base.specs.declared.book.catalog.Back.{Back}
-use Rattle.smk_model.specs.Appends.{depends_on, scans}
-use Rattle.smk_model.specs.Growth.{is_growing}
-use Rattle.smk_model.specs.Looks.{looks_of_back}
-use Rattle.smk_model.specs.Opening.{ViewFault, view_fault}
-use Rattle.smk_model.specs.Plain.{whole}
-use Rattle.smk_model.specs.Selection.{rows_in}
-use Rattle.smk_model.specs.Session.{Workbook, view_at}
-use Rattle.smk_compose.specs.declared.kept_maps.KeptMap.{KeptMap}
-use Rattle.smk_compose.specs.declared.kept_maps.Run.{Run}
+use Rattle.smk_base.specs.{CatalogImage.CatalogImage, Places.{empty_lists, upto}, Rels.Relation, declared.book.catalog.Back.Back}
+use Rattle.smk_model.specs.{Appends.{depends_on, scans}, Growth.is_growing, Looks.looks_of_back, Opening.{ViewFault, view_fault}, Plain.whole, Selection.rows_in, Session.{Workbook, view_at}}
+use Rattle.smk_compose.specs.{declared.kept_maps.KeptMap.KeptMap, declared.kept_maps.Run.Run}
 use Rattle.smk_skip.specs.Splits.{SplitImage}
-use Rattle.smk_session.specs.Kept.{is_of_table}
-use Rattle.smk_session.specs.Extras.{split_in, cubes_in}
-use Rattle.smk_session.specs.Making.{is_wanted, newer}
-use Rattle.smk_session.specs.Opened.{opened}
+use Rattle.smk_session.specs.{Kept.is_of_table, Extras.{split_in, cubes_in}, Making.{is_wanted, newer}, Opened.opened}
 
 -- the values, with a fresh one in the place of each for which there is one
 abbrev pub replaced : {A : Type 0} → List (Option A) → List A → List A

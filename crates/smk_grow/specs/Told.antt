@@ -1,9 +1,7 @@
 -- The text of an answer to an `append` line, as it is made before anything is changed.
 use Rattle.std.specs.Prelude.{ℕ, List, [], Option, Some, None}
-use Rattle.smk_base.specs.declared.reply.AppendReply.{AppendReply}
-use Rattle.smk_base.specs.declared.reply.AppendReply.TheVariants.{Added, Refused}
-use Rattle.smk_model.specs.AppendTexts.{added_text}
-use Rattle.smk_model.specs.Session.{Workbook}
+use Rattle.smk_base.specs.{declared.reply.AppendReply.AppendReply, declared.reply.AppendReply.TheVariants.{Added, Refused}}
+use Rattle.smk_model.specs.{AppendTexts.added_text, Session.Workbook}
 
 -- the text of what is added, where the table's name is given
 abbrev pub added_told : Option (List ℕ) → Workbook → ℕ → List ℕ → List ℕ

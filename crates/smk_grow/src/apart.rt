@@ -1,16 +1,10 @@
 // The views that are growing chains, over the new rows alone.
-ghost use Rattle.std.specs.Prelude.{◌≡◌, ◌<◌, ◌≤◌, ◌+◌, length, map, set, IfOk};
-ghost use Rattle.std.specs.List.{sum_by};
-ghost use Rattle.smk_base.specs.CatalogImage.{catalog_image};
-ghost use Rattle.smk_base.specs.Places.{upto};
-ghost use Rattle.smk_session.specs.Parts.{parts_image};
-ghost use Rattle.smk_session.specs.Opened.{workbook_image};
-ghost use Rattle.smk_session.specs.Sessions.{IsSession, workbook_of};
+ghost use Rattle.std.specs.{Prelude.{◌≡◌, ◌<◌, ◌≤◌, ◌+◌, length, map, set, IfOk}, List.sum_by};
+ghost use Rattle.smk_base.specs.{CatalogImage.catalog_image, Places.upto};
+ghost use Rattle.smk_session.specs.{Parts.parts_image, Opened.workbook_image, Sessions.{IsSession, workbook_of}};
 ghost use Rattle.smk_session.specs.declared.start.fault.StartFault.TheVariants as faults;
 ghost use Rattle.smk_compose.specs.Fetched.{table_of};
-ghost use Rattle.smk_grow.specs.Grown.{rows_of};
-ghost use Rattle.smk_grow.specs.Renewals.{IsRenewal, book_of};
-ghost use Rattle.smk_grow.specs.Renewed.{apart_view, looks_apart};
+ghost use Rattle.smk_grow.specs.{Grown.rows_of, Renewals.{IsRenewal, book_of}, Renewed.{apart_view, looks_apart}};
 
 use crate::renewal::Renewal;
 use crate::scans::view_chains;

@@ -2,12 +2,9 @@
 ghost use Rattle.std.specs.Prelude.{◌≡◌, ◌<◌, ◌≤◌, ◌+◌, ℕ, true, length, Some, option_map, IfOk, OnOk, OnErr};
 ghost use Rattle.smk_base.specs.CatalogImage.{catalog_image, table_place};
 ghost use Rattle.smk_model.specs.AppendTexts as texts;
-ghost use Rattle.smk_model.specs.Appends.{append_turn, append_looks, append_looks_at, is_append_refused, turn_at};
-ghost use Rattle.smk_model.specs.Catalogs.{table_kinds};
-ghost use Rattle.smk_model.specs.Typing.{info_at};
+ghost use Rattle.smk_model.specs.{Appends.{append_turn, append_looks, append_looks_at, is_append_refused, turn_at}, Catalogs.table_kinds, Typing.info_at};
 ghost use Rattle.smk_session.specs.Sessions.{state_of, workbook_of};
-ghost use Rattle.smk_grow.specs.Images.{next_image};
-ghost use Rattle.smk_grow.specs.Told.{told_text};
+ghost use Rattle.smk_grow.specs.{Images.next_image, Told.told_text};
 
 use crate::growing::grow_within;
 use crate::said::refused_text;

@@ -1,8 +1,7 @@
 // A view that is a growing chain, over a table that has grown.
 ghost use Rattle.std.specs.Prelude.{◌≡◌, ◌<◌, true, length, IfOk};
 ghost use Rattle.smk_session.specs.Opened.{opened};
-ghost use Rattle.smk_grow.specs.Renewals.{IsRenewal, book_of, first_book, last_book};
-ghost use Rattle.smk_grow.specs.Renewed.{chains};
+ghost use Rattle.smk_grow.specs.{Renewals.{IsRenewal, book_of, first_book, last_book}, Renewed.chains};
 
 use crate::renewal::Renewal;
 use smk_chain::grown;

@@ -1,7 +1,5 @@
 // What declarations ask for besides the rows, over a table that has grown.
-ghost use Rattle.std.specs.Prelude.{◌≡◌, ◌≤◌, ◌+◌, ◌++◌, ◌∷◌, [], List, IfOk, OnOk};
-ghost use Rattle.std.specs.List.{filter_map, sum_by};
-ghost use Rattle.std.specs.Option.{option_to_list};
+ghost use Rattle.std.specs.{Prelude.{◌≡◌, ◌≤◌, ◌+◌, ◌++◌, ◌∷◌, [], List, IfOk, OnOk}, List.{filter_map, sum_by}, Option.option_to_list};
 ghost use Rattle.smk_session.specs.Making.{IsOpened, book_in, looks_wanted, split_wanted, cubes_wanted};
 ghost use Rattle.smk_grow.specs.Renewed.{if_depends, split_again, cubes_again};
 

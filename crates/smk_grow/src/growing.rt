@@ -1,18 +1,10 @@
 // Rows behind those of a table, and what is kept made anew.
-ghost use Rattle.std.specs.Prelude.{◌≡◌, ◌<◌, ◌≤◌, ◌+◌, Some, length, map, option_map, IfOk, OnOk, OnErr};
-ghost use Rattle.std.specs.List.{sum_by};
-ghost use Rattle.smk_base.specs.CatalogImage.{catalog_image};
-ghost use Rattle.smk_base.specs.Places.{upto};
-ghost use Rattle.smk_model.specs.Appends.{append_looks_at, looks_of_longer, longer_fault, scanning, turn_at};
-ghost use Rattle.smk_model.specs.Opening.{first_some, view_fault};
+ghost use Rattle.std.specs.{Prelude.{◌≡◌, ◌<◌, ◌≤◌, ◌+◌, Some, length, map, option_map, IfOk, OnOk, OnErr}, List.sum_by};
+ghost use Rattle.smk_base.specs.{CatalogImage.catalog_image, Places.upto};
+ghost use Rattle.smk_model.specs.{Appends.{append_looks_at, looks_of_longer, longer_fault, scanning, turn_at}, Opening.{first_some, view_fault}};
 ghost use Rattle.smk_compose.specs.Fetched.{table_of};
-ghost use Rattle.smk_session.specs.Parts.{parts_image};
-ghost use Rattle.smk_session.specs.Sessions.{IsSession, state_of, workbook_of};
-ghost use Rattle.smk_grow.specs.Grown.{longer_tables, first_tables, rows_of};
-ghost use Rattle.smk_grow.specs.Images.{grown_unless, next_image, renewed, renewed_unless, shortened, told_unless};
-ghost use Rattle.smk_grow.specs.Renewals.{IsGrown, IsFresh, IsLengthened, last_of};
-ghost use Rattle.smk_grow.specs.Renewed.{apart_view, looks_again, looks_of_declared};
-ghost use Rattle.smk_grow.specs.Told.{told_text};
+ghost use Rattle.smk_session.specs.{Parts.parts_image, Sessions.{IsSession, state_of, workbook_of}};
+ghost use Rattle.smk_grow.specs.{Grown.{longer_tables, first_tables, rows_of}, Images.{grown_unless, next_image, renewed, renewed_unless, shortened, told_unless}, Renewals.{IsGrown, IsFresh, IsLengthened, last_of}, Renewed.{apart_view, looks_again, looks_of_declared}, Told.told_text};
 
 use crate::apart::open_apart;
 use crate::moving::move_views;

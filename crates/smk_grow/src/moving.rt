@@ -1,7 +1,6 @@
 // The lineage to a table of the views that don't scan it, over more rows of it or fewer: it stays empty. None of it takes memory.
 ghost use Rattle.std.specs.Prelude.{◌≡◌, length, map, option_map};
-ghost use Rattle.smk_base.specs.CatalogImage.{catalog_image};
-ghost use Rattle.smk_base.specs.Places.{empty_lists};
+ghost use Rattle.smk_base.specs.{CatalogImage.catalog_image, Places.empty_lists};
 ghost use Rattle.smk_grow.specs.Renewed.{moved_kept, moved_view, moved_views};
 
 use smk_compose::{KeptMap, Kepts};

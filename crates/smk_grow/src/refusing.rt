@@ -1,10 +1,8 @@
 // A view that is too big over the longer table, as the line's refusal says it.
 ghost use Rattle.std.specs.Prelude.{◌≡◌, ℕ, true, is_some, List, Option, IfOk, OnOk};
-ghost use Rattle.smk_model.specs.Opening.{ViewFault};
+ghost use Rattle.smk_model.specs.{Opening.ViewFault, Session.Workbook};
 ghost use Rattle.smk_session.specs.Opened.{IsStartFault};
-ghost use Rattle.smk_model.specs.Session.{Workbook};
-ghost use Rattle.smk_grow.specs.Images.{told_unless};
-ghost use Rattle.smk_grow.specs.Told.{told_text};
+ghost use Rattle.smk_grow.specs.{Images.told_unless, Told.told_text};
 
 use smk_base::{AppendRefusal, AppendReply};
 use smk_session::StartFault;

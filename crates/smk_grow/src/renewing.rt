@@ -1,13 +1,9 @@
 // All that takes the place of what a session keeps when a table has grown.
-ghost use Rattle.std.specs.Prelude.{◌≡◌, ◌≤◌, ◌+◌, length, map, None, option_map, IfOk, IfErr, OnOk};
-ghost use Rattle.std.specs.List.{sum_by};
+ghost use Rattle.std.specs.{Prelude.{◌≡◌, ◌≤◌, ◌+◌, length, map, None, option_map, IfOk, IfErr, OnOk}, List.sum_by};
 ghost use Rattle.smk_base.specs.Places.{upto};
-ghost use Rattle.smk_model.specs.Appends.{scanning};
-ghost use Rattle.smk_model.specs.Opening.{first_some, view_fault};
+ghost use Rattle.smk_model.specs.{Appends.scanning, Opening.{first_some, view_fault}};
 ghost use Rattle.smk_session.specs.Opened.{IsStartFault};
-ghost use Rattle.smk_grow.specs.Renewals.{IsRenewal, IsFresh, book_of, first_book, last_book};
-ghost use Rattle.smk_grow.specs.Renewed.{apart_view, fresh_view, kept_views, looks_again, looks_of_declared};
-ghost use Rattle.smk_grow.specs.Told.{added_told};
+ghost use Rattle.smk_grow.specs.{Renewals.{IsRenewal, IsFresh, book_of, first_book, last_book}, Renewed.{apart_view, fresh_view, kept_views, looks_again, looks_of_declared}, Told.added_told};
 
 use crate::extras::{FreshExtras, fresh_extras};
 use crate::renewal::{Append, Renewal};

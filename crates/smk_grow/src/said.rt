@@ -1,12 +1,8 @@
 // The texts of answers to `append` lines.
-ghost use Rattle.std.specs.Prelude.{◌≡◌, ◌<◌, ◌++◌, ◌∷◌, [], length, codes, decimal, All, IfOk};
-ghost use Rattle.std.specs.List.{flat_map};
+ghost use Rattle.std.specs.{Prelude.{◌≡◌, ◌<◌, ◌++◌, ◌∷◌, [], length, codes, decimal, All, IfOk}, List.flat_map};
 ghost use Rattle.smk_base.specs.CatalogImage.{catalog_image};
 ghost use Rattle.smk_model.specs.AppendTexts as texts;
-ghost use Rattle.smk_model.specs.Session.{view_at};
-ghost use Rattle.smk_model.specs.Texts.{line};
-ghost use Rattle.smk_model.specs.Typing.{info_at};
-ghost use Rattle.smk_model.specs.ViewTexts.{text_of_view};
+ghost use Rattle.smk_model.specs.{Session.view_at, Texts.line, Typing.info_at, ViewTexts.text_of_view};
 ghost use Rattle.smk_session.specs.Sessions.{workbook_of};
 
 use smk_base::{AppendRefusal, AppendReply, Catalog, Text};

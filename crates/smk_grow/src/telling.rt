@@ -1,9 +1,7 @@
 // The text of what is added, from what takes the places of the views, before it does.
-ghost use Rattle.std.specs.Prelude.{◌≡◌, ◌<◌, ◌++◌, length, All, IfOk};
-ghost use Rattle.std.specs.List.{flat_map};
+ghost use Rattle.std.specs.{Prelude.{◌≡◌, ◌<◌, ◌++◌, length, All, IfOk}, List.flat_map};
 ghost use Rattle.smk_model.specs.AppendTexts as texts;
-ghost use Rattle.smk_model.specs.Session.{view_at};
-ghost use Rattle.smk_model.specs.ViewTexts.{text_of_view};
+ghost use Rattle.smk_model.specs.{Session.view_at, ViewTexts.text_of_view};
 ghost use Rattle.smk_session.specs.Making.{IsOpened, book_in};
 
 use crate::said::added_line;

@@ -1,11 +1,9 @@
 // Views over a table that has grown.
-ghost use Rattle.std.specs.Prelude.{◌≡◌, ◌<◌, ◌≤◌, ◌+◌, false, length, map, None, IfOk, IfErr, OnOk};
-ghost use Rattle.std.specs.List.{sum_by};
+ghost use Rattle.std.specs.{Prelude.{◌≡◌, ◌<◌, ◌≤◌, ◌+◌, false, length, map, None, IfOk, IfErr, OnOk}, List.sum_by};
 ghost use Rattle.smk_base.specs.Places.{upto};
 ghost use Rattle.smk_model.specs.Opening.{first_some};
 ghost use Rattle.smk_session.specs.Opened.{IsStartFault};
-ghost use Rattle.smk_grow.specs.Renewals.{IsRenewal, book_of, first_book, last_book};
-ghost use Rattle.smk_grow.specs.Renewed.{apart_view, chains, fresh_view, kept_view, kept_views, scan_fault, looks_again};
+ghost use Rattle.smk_grow.specs.{Renewals.{IsRenewal, book_of, first_book, last_book}, Renewed.{apart_view, chains, fresh_view, kept_view, kept_views, scan_fault, looks_again}};
 
 use crate::chained::grown_view;
 use crate::renewal::Renewal;

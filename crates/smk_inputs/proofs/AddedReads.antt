@@ -1,27 +1,11 @@
 -- The files that the lines of a script append, one after the other.
-use Rattle.std.proofs.Common.{◌≡◌, ◌∙◌, ℕ, List, [], ◌∷◌, ◌++◌, length, drop, map, Option, Some, None, Result, Ok, Err, refl, sym, ap, subst, append_assoc, append-nil, inl, inr, arith}
-use Rattle.std.specs.List.{cons_option}
-use Rattle.std.specs.Option.{option_to_list}
-use Rattle.std.proofs.lemmas.List.{map-append, drop_all}
-use Rattle.std.proofs.lemmas.List.Elements.{filter_map-append}
-use Rattle.smk_base.specs.CatalogImage.{CatalogImage}
-use Rattle.smk_base.specs.Rels.{Relation}
-use Rattle.smk_base.specs.declared.book.catalog.TableInfo.{TableInfo}
-use Rattle.smk_model.specs.Catalogs.{table_kinds, each_table_kinds}
-use Rattle.smk_model.specs.Lines.{lines}
-use Rattle.smk_model.specs.Names.{◌>>=◌}
-use Rattle.smk_model.specs.Outcome.{Held, load, appended, appended_at}
-use Rattle.smk_model.specs.Readings.{Reading, IsReading, AreReadings, no_line}
-use Rattle.smk_model.specs.Selection.{each_kinds, each_rows}
-use Rattle.smk_model.specs.Tables.{all_or_first}
-use Rattle.smk_model.specs.Values.{Row}
+use Rattle.std.proofs.{Common.{◌≡◌, ◌∙◌, ℕ, List, [], ◌∷◌, ◌++◌, length, drop, map, Option, Some, None, Result, Ok, Err, refl, sym, ap, subst, append_assoc, append-nil, inl, inr, arith}, lemmas.List.{map-append, drop_all}, lemmas.List.Elements.filter_map-append}
+use Rattle.std.specs.{List.cons_option, Option.option_to_list}
+use Rattle.smk_base.specs.{CatalogImage.CatalogImage, Rels.Relation, declared.book.catalog.TableInfo.TableInfo}
+use Rattle.smk_model.specs.{Catalogs.{table_kinds, each_table_kinds}, Lines.lines, Names.◌>>=◌, Outcome.{Held, load, appended, appended_at}, Readings.{Reading, IsReading, AreReadings, no_line}, Selection.{each_kinds, each_rows}, Tables.all_or_first, Values.Row}
 use Rattle.smk_model.proofs.OneOutcome.{same_readings}
-use Rattle.smk_inputs.specs.declared.stop.Stop.{Stop}
-use Rattle.smk_inputs.specs.declared.stop.Stop.TheVariants.{At, Unwritten, Exhausted}
-use Rattle.smk_inputs.specs.Collecting.{ReadsNamed, Loads, unread_among}
-use Rattle.smk_inputs.proofs.ScriptReads.{readings_more, rest_said}
-use Rattle.smk_inputs.proofs.Stops.{untold_within}
-use Rattle.smk_inputs.proofs.TableLoads.{load_more, load_stops}
+use Rattle.smk_inputs.specs.{declared.stop.Stop.Stop, declared.stop.Stop.TheVariants.{At, Unwritten, Exhausted}, Collecting.{ReadsNamed, Loads, unread_among}}
+use Rattle.smk_inputs.proofs.{ScriptReads.{readings_more, rest_said}, Stops.untold_within, TableLoads.{load_more, load_stops}}
 
 -- all the values of two lists, or the first fault of the second
 begun_with : {A E : Type 0} (x : A) (rest : Result (List A) E) (all : List A) → ◌>>=◌ rest (λ xs. Ok (x ∷ xs)) ≡ Ok all → (ys : List A) × (rest ≡ Ok ys) × (all ≡ x ∷ ys)

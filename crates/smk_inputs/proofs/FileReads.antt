@@ -1,32 +1,13 @@
 -- What is read of a file follows from its content.
 use Rattle.std.proofs.Common.{◌≡◌, ◌≢◌, ◌∙◌, ℕ, List, Option, Some, None, Result, Ok, Err, refl, sym, ap, inl, inr, subst}
-use Rattle.smk_base.specs.CatalogImage.{CatalogImage}
-use Rattle.smk_base.specs.Marks.{after_marks}
-use Rattle.smk_base.specs.declared.fault.Fault.{Fault}
-use Rattle.smk_base.specs.declared.fault.Fault.TheVariants.{Book, Types}
-use Rattle.smk_base.specs.declared.fault.BookFault.{BookFault}
+use Rattle.smk_base.specs.{CatalogImage.CatalogImage, Marks.after_marks, declared.fault.Fault.Fault, declared.fault.Fault.TheVariants.{Book, Types}, declared.fault.BookFault.BookFault, declared.book.tree.Book.Book as Statements, Trees.StmtImage, TreeImage.{book_image, ask_image, any_image}, declared.book.tree.AnyLine.AnyLine}
 use Rattle.smk_base.specs.declared.fault.BookFault.TheVariants as book_faults
-use Rattle.smk_base.specs.declared.book.tree.Book.{Book as Statements}
-use Rattle.smk_base.specs.Trees.{StmtImage}
-use Rattle.smk_base.specs.TreeImage.{book_image, ask_image, any_image}
 use Rattle.smk_base.specs.declared.fault.LineFault.TheVariants as line_faults
-use Rattle.smk_base.specs.declared.book.tree.AnyLine.{AnyLine}
 use Rattle.smk_base.specs.declared.book.tree.AnyLine.TheVariants as any_lines
-use Rattle.smk_model.specs.Names.{Typed}
-use Rattle.smk_model.specs.Typing.{types}
-use Rattle.smk_model.specs.Expanded.{expanded, dependency_names, HasNoDependency}
-use Rattle.smk_model.specs.Profiles.{AreDependencies}
-use Rattle.smk_model.specs.Readings.{Nothing, Asks, Unread as Unread', IsReading, says_nothing, asks, leaves}
-use Rattle.smk_model.specs.Reports.{BookSaid}
-use Rattle.smk_model.specs.Outcome.{Held, file_bytes, Parses, spells, misspells, BookSays, unparsed, parsed, said_or_fault, statements_say, FileSays, unread, read, UntoldCause}
-use Rattle.smk_model.specs.Limits.{KeepsLimits}
-use Rattle.smk_model.proofs.Expanded.{expanded_stands}
-use Rattle.smk_model.proofs.LimitsKept.{faultless_keep_limits, faultless_asks_keep_limits}
+use Rattle.smk_model.specs.{Names.Typed, Typing.types, Expanded.{expanded, dependency_names, HasNoDependency}, Profiles.AreDependencies, Readings.{Nothing, Asks, Unread as Unread', IsReading, says_nothing, asks, leaves}, Reports.BookSaid, Outcome.{Held, file_bytes, Parses, spells, misspells, BookSays, unparsed, parsed, said_or_fault, statements_say, FileSays, unread, read, UntoldCause}, Limits.KeepsLimits}
+use Rattle.smk_model.proofs.{Expanded.expanded_stands, LimitsKept.{faultless_keep_limits, faultless_asks_keep_limits}}
 use Rattle.smk_parse.specs.Answers.{IsBookAnswer, IsAnyAnswer}
-use Rattle.smk_inputs.specs.LineLimits.{KeepsLine}
-use Rattle.smk_inputs.specs.declared.stop.Stop.{Stop}
-use Rattle.smk_inputs.specs.declared.stop.Stop.TheVariants.{At, Unwritten, Exhausted}
-use Rattle.smk_inputs.specs.Collecting.{Answers, ReadsNamed}
+use Rattle.smk_inputs.specs.{LineLimits.KeepsLine, declared.stop.Stop.Stop, declared.stop.Stop.TheVariants.{At, Unwritten, Exhausted}, Collecting.{Answers, ReadsNamed}}
 
 -- the file is read, and then its bytes say this
 pub says_after : {A X Y : Type 0} (image : X → A) (content : Y → List ℕ) (held : Option Held) (rose : Type 0) (name bytes : List ℕ) (y : Y) (says : List ℕ → Result A Fault → Type 0) (r : Result X Stop)

@@ -1,14 +1,10 @@
 -- What the front of a file says of the whole.
-use Rattle.std.proofs.Common.{◌≡◌, ◌∙◌, ◌<◌, ◌≤◌, ℕ, List, length, take, Option, Some, None, Ok, Err, ap, arith, inl}
+use Rattle.std.proofs.{Common.{◌≡◌, ◌∙◌, ◌<◌, ◌≤◌, ℕ, List, length, take, Option, Some, None, Ok, Err, ap, arith, inl}, lemmas.List.{take_all, length-take}, lemmas.Bool.Decides.nat_tests}
 use Rattle.std.specs.Option.{IsSomeAnd, ok_or}
-use Rattle.std.proofs.lemmas.List.{take_all, length-take}
-use Rattle.std.proofs.lemmas.Bool.Decides.{nat_tests}
 use Rattle.smk_base.specs.declared.fault.Fault.TheVariants.{FileLong, Unread}
 use Rattle.smk_outside.specs.Outside.{IsFrontOf}
-use Rattle.smk_model.specs.Names.{◌>>=◌}
-use Rattle.smk_model.specs.Outcome.{Held, kept_short, file_bytes}
-use Rattle.smk_inputs.specs.declared.stop.Stop.TheVariants.{At}
-use Rattle.smk_inputs.specs.Collecting.{ReadsNamed}
+use Rattle.smk_model.specs.{Names.◌>>=◌, Outcome.{Held, kept_short, file_bytes}}
+use Rattle.smk_inputs.specs.{declared.stop.Stop.TheVariants.At, Collecting.ReadsNamed}
 
 -- a front that passes the limit
 passed : (found : Option (List ℕ)) (name front : List ℕ) → IsSomeAnd found (λ whole. front ≡ take 67108865 whole) → 67108864 < length front

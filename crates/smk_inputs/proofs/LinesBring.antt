@@ -1,18 +1,8 @@
 -- The tables that lines bring, line by line.
 use Rattle.std.proofs.Common.{◌≡◌, ◌∙◌, ℕ, Bool, true, List, [], ◌∷◌, ◌++◌, Option, Some, None, refl, sym, ap, drop, length, arith}
-use Rattle.std.specs.Prelude.{IfSome, is_some}
-use Rattle.std.specs.List.{cons_option}
-use Rattle.std.specs.Option.{option_to_list, IsSomeAnd}
-use Rattle.smk_base.specs.CatalogImage.{CatalogImage, table_place}
-use Rattle.smk_base.specs.Rels.{Relation}
-use Rattle.smk_base.specs.declared.book.catalog.TableInfo.{TableInfo}
-use Rattle.smk_model.specs.Catalogs.{table_kinds, each_table_kinds}
-use Rattle.smk_model.specs.Outcome.{appended, appended_at}
-use Rattle.smk_model.specs.Readings.{Reading, IsReading, AreReadings, one_line}
-use Rattle.smk_model.specs.ReplyTexts.{table_named}
-use Rattle.smk_model.specs.Reports.{brings_rows, next_rows, rows_left}
-use Rattle.smk_model.specs.Selection.{each_kinds, each_rows}
-use Rattle.smk_model.specs.Typing.{info_at, no_table}
+use Rattle.std.specs.{Prelude.{IfSome, is_some}, List.cons_option, Option.{option_to_list, IsSomeAnd}}
+use Rattle.smk_base.specs.{CatalogImage.{CatalogImage, table_place}, Rels.Relation, declared.book.catalog.TableInfo.TableInfo}
+use Rattle.smk_model.specs.{Catalogs.{table_kinds, each_table_kinds}, Outcome.{appended, appended_at}, Readings.{Reading, IsReading, AreReadings, one_line}, ReplyTexts.table_named, Reports.{brings_rows, next_rows, rows_left}, Selection.{each_kinds, each_rows}, Typing.{info_at, no_table}}
 use Rattle.smk_model.proofs.OneOutcome.{same_reading}
 use Rattle.smk_inputs.specs.Added.{BringTables, BeginsWith, tables_left}
 use Rattle.smk_inputs.proofs.NamedTables.{brings_is, named_at}

@@ -1,20 +1,8 @@
 -- A table by its name: its place, and the table.
-use Rattle.std.proofs.Common.{◌≡◌, ◌∙◌, ◌<◌, ◌≤◌, ℕ, Bool, List, length, get_or, Option, Some, None, true, position, nat_lt, refl, sym, ap, arith}
-use Rattle.std.specs.Prelude.{◌⊎◌, is_some, option_map, cond}
-use Rattle.std.specs.List.{find, position_or_len}
-use Rattle.std.proofs.Common.{inl, inr}
-use Rattle.std.proofs.lemmas.Bool.{cases_lt}
-use Rattle.std.proofs.lemmas.Bool.Decides.{nat_tests}
-use Rattle.std.proofs.lemmas.List.Folds.{find_at}
-use Rattle.std.proofs.lemmas.Option.{slice_get_past}
-use Rattle.smk_base.specs.CatalogImage.{CatalogImage, table_place}
-use Rattle.smk_base.specs.Dicts.{text_eq}
-use Rattle.smk_base.specs.Trees.{AppendedLine}
-use Rattle.smk_base.specs.declared.book.catalog.TableInfo.{TableInfo}
-use Rattle.smk_model.specs.Outcome.{filed, appended_by, appended_at}
-use Rattle.smk_model.specs.Readings.{Reading, Asks}
-use Rattle.smk_model.specs.ReplyTexts.{table_named}
-use Rattle.smk_model.specs.Reports.{brings_rows}
+use Rattle.std.proofs.{Common.{◌≡◌, ◌∙◌, ◌<◌, ◌≤◌, ℕ, Bool, List, length, get_or, Option, Some, None, true, position, nat_lt, refl, sym, ap, arith, inl, inr}, lemmas.Bool.cases_lt, lemmas.Bool.Decides.nat_tests, lemmas.List.Folds.find_at, lemmas.Option.slice_get_past}
+use Rattle.std.specs.{Prelude.{◌⊎◌, is_some, option_map, cond}, List.{find, position_or_len}}
+use Rattle.smk_base.specs.{CatalogImage.{CatalogImage, table_place}, Dicts.text_eq, Trees.AppendedLine, declared.book.catalog.TableInfo.TableInfo}
+use Rattle.smk_model.specs.{Outcome.{filed, appended_by, appended_at}, Readings.{Reading, Asks}, ReplyTexts.table_named, Reports.brings_rows}
 use Rattle.smk_model.proofs.Finds.{find_placed}
 
 -- no place, no member

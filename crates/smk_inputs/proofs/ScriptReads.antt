@@ -1,11 +1,8 @@
 -- The bytes of a script, and what its lines say.
 use Rattle.std.proofs.Common.{◌≡◌, ◌∙◌, ℕ, List, [], ◌∷◌, ◌++◌, Option, Some, None, Result, Ok, Err, refl, ap, subst, inl, inr}
-use Rattle.smk_model.specs.Readings.{Reading, IsReading, AreReadings, AreReadingsOf, no_line, one_line}
-use Rattle.smk_model.specs.Outcome.{Held, file_bytes, read, unread, lines_read, no_script, a_script}
+use Rattle.smk_model.specs.{Readings.{Reading, IsReading, AreReadings, AreReadingsOf, no_line, one_line}, Outcome.{Held, file_bytes, read, unread, lines_read, no_script, a_script}}
 use Rattle.smk_model.proofs.OneOutcome.{same_reading}
-use Rattle.smk_inputs.specs.declared.stop.Stop.{Stop}
-use Rattle.smk_inputs.specs.declared.stop.Stop.TheVariants.{At, Unwritten, Exhausted}
-use Rattle.smk_inputs.specs.Collecting.{ReadsNamed, OpensBytes}
+use Rattle.smk_inputs.specs.{declared.stop.Stop.Stop, declared.stop.Stop.TheVariants.{At, Unwritten, Exhausted}, Collecting.{ReadsNamed, OpensBytes}}
 
 -- one line more
 pub readings_more : (texts : List (List ℕ)) (readings : List Reading) (text : List ℕ) (reading : Reading) → AreReadings texts readings → IsReading text reading → AreReadings (texts ++ text ∷ []) (readings ++ reading ∷ [])

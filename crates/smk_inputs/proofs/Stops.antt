@@ -1,21 +1,10 @@
 -- Why a run stops where a file is read.
-use Rattle.std.proofs.Common.{◌≡◌, ◌<◌, ◌≤◌, ℕ, List, Option, Some, None, Result, Ok, Err, sym, ap, subst, arith, inl, inr}
+use Rattle.std.proofs.{Common.{◌≡◌, ◌<◌, ◌≤◌, ℕ, List, Option, Some, None, Result, Ok, Err, sym, ap, subst, arith, inl, inr}, lemmas.Bool.cases_lt}
 use Rattle.std.specs.Prelude.{◌⊎◌, option_map}
-use Rattle.std.proofs.lemmas.Bool.{cases_lt}
-use Rattle.smk_base.specs.CatalogImage.{CatalogImage}
-use Rattle.smk_base.specs.declared.fault.Fault.{Fault}
-use Rattle.smk_base.specs.declared.fault.Fault.TheVariants.{Usage, Unread}
+use Rattle.smk_base.specs.{CatalogImage.CatalogImage, declared.fault.Fault.Fault, declared.fault.Fault.TheVariants.{Usage, Unread}}
 use Rattle.smk_outside.specs.Outside.{Rose}
-use Rattle.smk_model.specs.Values.{Row}
-use Rattle.smk_model.specs.Readings.{Reading, AreReadingsOf}
-use Rattle.smk_model.specs.Words.{Invocation, invocation_of, words_of}
-use Rattle.smk_model.specs.Reports.{BookSaid}
-use Rattle.smk_model.specs.Outcome.{Held, Inputs, OpensBook, ReadsFiles, no_book, no_tables, no_readings, no_rows, inputs, the_book, a_table, the_script, of_a_line, appended, UntoldCause}
-use Rattle.smk_inputs.specs.declared.called.RunWords.{RunWords}
-use Rattle.smk_inputs.specs.declared.stop.Stop.{Stop}
-use Rattle.smk_inputs.specs.declared.stop.Stop.TheVariants.{At, Unwritten, Exhausted}
-use Rattle.smk_inputs.specs.Image.{invocation_image, texts_image}
-use Rattle.smk_inputs.specs.Collecting.{ReadsNamed, Loads, unread_among, OpensBytes, ReadsAll}
+use Rattle.smk_model.specs.{Values.Row, Readings.{Reading, AreReadingsOf}, Words.{Invocation, invocation_of, words_of}, Reports.BookSaid, Outcome.{Held, Inputs, OpensBook, ReadsFiles, no_book, no_tables, no_readings, no_rows, inputs, the_book, a_table, the_script, of_a_line, appended, UntoldCause}}
+use Rattle.smk_inputs.specs.{declared.called.RunWords.RunWords, declared.stop.Stop.Stop, declared.stop.Stop.TheVariants.{At, Unwritten, Exhausted}, Image.{invocation_image, texts_image}, Collecting.{ReadsNamed, Loads, unread_among, OpensBytes, ReadsAll}}
 
 -- a count that rose in a part rose in the whole
 pub rose_within : (start before after end : ℕ) → start ≤ before → before ≤ after → after ≤ end → Rose before after → Rose start end

@@ -1,20 +1,8 @@
 -- The tables of a book, one file after the other.
-use Rattle.std.proofs.Common.{◌≡◌, ◌∙◌, ◌+◌, ◌<◌, ℕ, List, [], ◌∷◌, ◌++◌, length, take, drop, get_or, map, Option, Some, None, Result, Ok, Err, refl, inl, inr, ap, sym, subst, append_assoc, take-append-drop}
-use Rattle.std.proofs.lemmas.List.{map-append, take_more}
-use Rattle.smk_base.specs.Rels.{Relation}
-use Rattle.smk_base.specs.declared.value.Kind.{Kind}
-use Rattle.smk_base.specs.declared.book.col_decl.ColDecl.{ColDecl}
-use Rattle.smk_base.specs.declared.book.catalog.Column.{Column}
-use Rattle.smk_base.specs.declared.fault.Fault.{Fault}
-use Rattle.smk_base.specs.declared.book.catalog.TableInfo.{TableInfo}
-use Rattle.smk_model.specs.Values.{Row}
-use Rattle.smk_model.specs.Tables.{all_or_first, declared_kinds}
-use Rattle.smk_model.specs.Catalogs.{table_kinds, each_table_kinds}
-use Rattle.smk_model.specs.Selection.{each_rows, each_kinds}
-use Rattle.smk_model.specs.Outcome.{Held, load}
-use Rattle.smk_inputs.specs.declared.stop.Stop.{Stop}
-use Rattle.smk_inputs.specs.declared.stop.Stop.TheVariants.{At, Unwritten, Exhausted}
-use Rattle.smk_inputs.specs.Collecting.{ReadsNamed, Loads, unread_among}
+use Rattle.std.proofs.{Common.{◌≡◌, ◌∙◌, ◌+◌, ◌<◌, ℕ, List, [], ◌∷◌, ◌++◌, length, take, drop, get_or, map, Option, Some, None, Result, Ok, Err, refl, inl, inr, ap, sym, subst, append_assoc, take-append-drop}, lemmas.List.{map-append, take_more}}
+use Rattle.smk_base.specs.{Rels.Relation, declared.value.Kind.Kind, declared.book.col_decl.ColDecl.ColDecl, declared.book.catalog.Column.Column, declared.fault.Fault.Fault, declared.book.catalog.TableInfo.TableInfo}
+use Rattle.smk_model.specs.{Values.Row, Tables.{all_or_first, declared_kinds}, Catalogs.{table_kinds, each_table_kinds}, Selection.{each_rows, each_kinds}, Outcome.{Held, load}}
+use Rattle.smk_inputs.specs.{declared.stop.Stop.Stop, declared.stop.Stop.TheVariants.{At, Unwritten, Exhausted}, Collecting.{ReadsNamed, Loads, unread_among}}
 use Rattle.smk_model.proofs.InOrder.{then_value, then_fault}
 use Rattle.smk_base.proofs.Places.{map_map}
 use Rattle.smk_inputs.proofs.Stops.{untold_within}

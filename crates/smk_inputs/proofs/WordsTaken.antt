@@ -1,9 +1,6 @@
 -- Clap's matches are those of the words, and so is what is said by them.
-use Rattle.std.proofs.Common.{◌≡◌, ◌≢◌, ◌∙◌, ℕ, List, [], ◌∷◌, Option, Some, None, true, ap, refl, subst}
-use Rattle.std.proofs.lemmas.Bool.{and_parts}
-use Rattle.clap.specs.Kinds.{Kinds}
-use Rattle.clap.specs.Words.{App, HasMatchesOf, found_of, first_of, fault_of, is_simple, is_simple_and_free}
-use Rattle.clap.specs.declared.parser.matches.ArgMatches.{ArgMatches}
+use Rattle.std.proofs.{Common.{◌≡◌, ◌≢◌, ◌∙◌, ℕ, List, [], ◌∷◌, Option, Some, None, true, ap, refl, subst}, lemmas.Bool.and_parts}
+use Rattle.clap.specs.{Kinds.Kinds, Words.{App, HasMatchesOf, found_of, first_of, fault_of, is_simple, is_simple_and_free}, declared.parser.matches.ArgMatches.ArgMatches}
 use Rattle.clap.proofs.WalkLemmas.{first_value-rows}
 use Rattle.smk_model.specs.Words.{Values, value_given_to, where_taken}
 use Rattle.smk_inputs.specs.WordsTaken.{MatchesOf, values_of}

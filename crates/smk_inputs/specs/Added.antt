@@ -1,12 +1,7 @@
 -- The tables of the files that the lines of a script append.
 use Rattle.std.specs.Prelude.{◌≡◌, ℕ, Bool, true, false, List, ◌∷◌, drop}
-use Rattle.smk_base.specs.CatalogImage.{CatalogImage}
-use Rattle.smk_base.specs.Rels.{Relation}
-use Rattle.smk_base.specs.declared.book.catalog.TableInfo.{TableInfo}
-use Rattle.smk_model.specs.Catalogs.{table_kinds, each_table_kinds}
-use Rattle.smk_model.specs.Outcome.{appended}
-use Rattle.smk_model.specs.Readings.{Reading, AreReadings}
-use Rattle.smk_model.specs.Selection.{each_kinds}
+use Rattle.smk_base.specs.{CatalogImage.CatalogImage, Rels.Relation, declared.book.catalog.TableInfo.TableInfo}
+use Rattle.smk_model.specs.{Catalogs.{table_kinds, each_table_kinds}, Outcome.appended, Readings.{Reading, AreReadings}, Selection.each_kinds}
 
 -- there is one table for each line that appends to a table of the book, line by line, with the kinds of that table
 pub record BringTables (catalog : CatalogImage) (texts : List (List ℕ)) (added : List Relation) : Type 0 where

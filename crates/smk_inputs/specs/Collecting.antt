@@ -1,16 +1,8 @@
 -- What the steps of a run say before anything is written.
 use Rattle.std.specs.Prelude.{◌≡◌, ◌⊎◌, ⊤, ℕ, List, ◌∷◌, ◌++◌, Option, Some, None, option_map, Result, Ok, Err}
-use Rattle.smk_base.specs.declared.fault.Fault.{Fault}
-use Rattle.smk_base.specs.declared.fault.Fault.TheVariants.{Unread}
-use Rattle.smk_base.specs.declared.book.catalog.TableInfo.{TableInfo}
-use Rattle.smk_model.specs.Values.{Row}
-use Rattle.smk_model.specs.FaultTexts.{IsSaid}
-use Rattle.smk_model.specs.Readings.{Reading, AreReadingsOf}
-use Rattle.smk_model.specs.Session.{Workbook}
-use Rattle.smk_model.specs.Opening.{first_view_fault, fault_named}
-use Rattle.smk_model.specs.Outcome.{Held, Inputs, OpensScript, ReadsFiles, NamesAsked, load_all, UntoldCause}
-use Rattle.smk_inputs.specs.declared.stop.Stop.{Stop}
-use Rattle.smk_inputs.specs.declared.stop.Stop.TheVariants.{At, Unwritten, Exhausted}
+use Rattle.smk_base.specs.{declared.fault.Fault.Fault, declared.fault.Fault.TheVariants.Unread, declared.book.catalog.TableInfo.TableInfo}
+use Rattle.smk_model.specs.{Values.Row, FaultTexts.IsSaid, Readings.{Reading, AreReadingsOf}, Session.Workbook, Opening.{first_view_fault, fault_named}, Outcome.{Held, Inputs, OpensScript, ReadsFiles, NamesAsked, load_all, UntoldCause}}
+use Rattle.smk_inputs.specs.{declared.stop.Stop.Stop, declared.stop.Stop.TheVariants.{At, Unwritten, Exhausted}}
 
 -- the answer of a step, seen so, is one that the definition has, or memory is wanting
 abbrev pub Answers : {A X : Type 0} → (Result A Fault → Type 0) → (X → A) → Result X Stop → Type 0

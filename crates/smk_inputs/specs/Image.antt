@@ -1,18 +1,10 @@
 -- Words and lines as the definitions see them.
 use Rattle.smk_base.specs.TreeImage.{any_image}
 use Rattle.smk_model.specs.Readings as readings
-use Rattle.smk_model.specs.Words.{Invocation}
+use Rattle.smk_model.specs.{Words.Invocation, TalkWords.TalkCall}
 use Rattle.smk_model.specs.Words as calls
-use Rattle.smk_model.specs.TalkWords.{TalkCall}
-use Rattle.smk_session.specs.declared.start.mode.Mode.{Mode}
-use Rattle.smk_session.specs.declared.start.mode.Mode.TheVariants.{Inject, Defer}
-use Rattle.smk_inputs.specs.declared.settings.Settings.{Settings}
-use Rattle.smk_inputs.specs.declared.called.RunTexts.{RunTexts}
-use Rattle.smk_inputs.specs.declared.called.RunTexts.TheVariants.{Files, Demo}
-use Rattle.smk_inputs.specs.declared.called.RunWords.{RunWords}
-use Rattle.smk_inputs.specs.declared.called.TalkWords.{TalkWords}
-use Rattle.smk_inputs.specs.declared.script.Reading.{Reading}
-use Rattle.smk_inputs.specs.declared.script.Reading.TheVariants.{Nothing, Asks, Unread}
+use Rattle.smk_session.specs.{declared.start.mode.Mode.Mode, declared.start.mode.Mode.TheVariants.{Inject, Defer}}
+use Rattle.smk_inputs.specs.{declared.settings.Settings.Settings, declared.called.RunTexts.RunTexts, declared.called.RunTexts.TheVariants.{Files, Demo}, declared.called.RunWords.RunWords, declared.called.TalkWords.TalkWords, declared.script.Reading.Reading, declared.script.Reading.TheVariants.{Nothing, Asks, Unread}}
 
 abbrev pub mode_image : Mode → calls.Mode
 mode_image Inject = calls.Inject

@@ -1,7 +1,6 @@
 -- The limits that the lines of a script keep.
 use Rattle.smk_base.specs.Trees.{AnyLineImage, AskedLine}
-use Rattle.smk_model.specs.Limits.{KeepsAsk}
-use Rattle.smk_model.specs.Readings.{Reading, Asks}
+use Rattle.smk_model.specs.{Limits.KeepsAsk, Readings.{Reading, Asks}}
 
 -- a line of the grammar keeps the limits of its kind
 abbrev pub KeepsLine : AnyLineImage → Type 0

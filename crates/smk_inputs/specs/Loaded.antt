@@ -1,16 +1,10 @@
 -- What a run reads, as the definitions see it.
 use Rattle.std.specs.Prelude.{ℕ, List}
-use Rattle.smk_base.specs.CatalogImage.{catalog_image}
-use Rattle.smk_base.specs.declared.book.catalog.Catalog.{Catalog}
+use Rattle.smk_base.specs.{CatalogImage.catalog_image, declared.book.catalog.Catalog.Catalog}
 use Rattle.smk_model.specs.Outcome as outcomes
-use Rattle.smk_model.specs.Reports.{BookSaid}
-use Rattle.smk_model.specs.Readings.{Reading}
-use Rattle.smk_model.specs.Session.{Workbook}
+use Rattle.smk_model.specs.{Reports.BookSaid, Readings.Reading, Session.Workbook, Selection.each_rows}
 use Rattle.smk_session.specs.Opened.{workbook_image}
-use Rattle.smk_inputs.specs.declared.inputs.Inputs.{Inputs}
-use Rattle.smk_model.specs.Selection.{each_rows}
-use Rattle.smk_inputs.specs.declared.collecting.Rest.{Rest}
-use Rattle.smk_inputs.specs.declared.opening.OpenedBook.{OpenedBook}
+use Rattle.smk_inputs.specs.{declared.inputs.Inputs.Inputs, declared.collecting.Rest.Rest, declared.opening.OpenedBook.OpenedBook}
 
 -- what a checked book says with the names of its dependencies, and so a book that was opened
 abbrev pub said_of : Catalog → List (List ℕ) → BookSaid

@@ -1,7 +1,6 @@
 -- What clap's matches say of the words.
 use Rattle.std.specs.Prelude.{◌≡◌, ◌≢◌, ℕ, List, [], Option, Some, None}
-use Rattle.clap.specs.Words.{App, fault_of, first_value, found_of}
-use Rattle.clap.specs.declared.parser.matches.ArgMatches.{ArgMatches}
+use Rattle.clap.specs.{Words.{App, fault_of, first_value, found_of}, declared.parser.matches.ArgMatches.ArgMatches}
 use Rattle.smk_model.specs.Words.{Values, value_given_to}
 
 -- the values that matches have

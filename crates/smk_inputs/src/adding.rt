@@ -1,20 +1,10 @@
 // The tables of the files that the lines of a script append.
-ghost use Rattle.std.specs.Prelude.{◌≡◌, ◌≤◌, ◌++◌, true, is_some, List, All, IfOk, IfErr, OnOk, OnErr};
-ghost use Rattle.std.specs.Option.{option_to_list};
-ghost use Rattle.smk_base.specs.CatalogImage.{catalog_image};
-ghost use Rattle.smk_base.specs.Trees.{AppendedLine};
-ghost use Rattle.smk_model.specs.Catalogs.{each_table_kinds};
-ghost use Rattle.smk_model.specs.Lines.{lines};
-ghost use Rattle.smk_model.specs.Outcome.{appended, appended_at, appended_by};
+ghost use Rattle.std.specs.{Prelude.{◌≡◌, ◌≤◌, ◌++◌, true, is_some, List, All, IfOk, IfErr, OnOk, OnErr}, Option.option_to_list};
+ghost use Rattle.smk_base.specs.{CatalogImage.catalog_image, Trees.AppendedLine};
+ghost use Rattle.smk_model.specs.{Catalogs.each_table_kinds, Lines.lines, Outcome.{appended, appended_at, appended_by}, Readings.AreReadings, Selection.{each_kinds, each_rows}, Tables.AreColumns};
 ghost use Rattle.smk_model.specs.Readings as readings;
-ghost use Rattle.smk_model.specs.Readings.{AreReadings};
-ghost use Rattle.smk_model.specs.Selection.{each_kinds, each_rows};
-ghost use Rattle.smk_model.specs.Tables.{AreColumns};
 ghost use Rattle.smk_outside.specs.Outside.{Rose};
-ghost use Rattle.smk_inputs.specs.Added.{BringTables};
-ghost use Rattle.smk_inputs.specs.Image.{reading_image};
-ghost use Rattle.smk_inputs.specs.Collecting.{Loads, IsSayable};
-ghost use Rattle.smk_inputs.specs.declared.stop.Stop.TheVariants.{Exhausted as exhausted};
+ghost use Rattle.smk_inputs.specs.{Added.BringTables, Image.reading_image, Collecting.{Loads, IsSayable}, declared.stop.Stop.TheVariants.Exhausted as exhausted};
 
 use crate::engine::Engine;
 use crate::loading::load;

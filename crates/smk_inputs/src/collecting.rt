@@ -1,21 +1,9 @@
 // Reads in order: the book, its tables, the script, the files that its lines append.
-ghost use Rattle.std.specs.Prelude.{◌≡◌, ◌≤◌, ℕ, List, Some, Ok, All, IfOk};
-ghost use Rattle.std.specs.Option.{option_copied};
-ghost use Rattle.smk_base.specs.CatalogImage.{catalog_image};
-ghost use Rattle.smk_base.specs.Marks.{after_marks};
-ghost use Rattle.smk_base.specs.declared.demo.TheConstants.{DEMO_BOOK_NAME, DEMO_SCRIPT_NAME};
-ghost use Rattle.smk_model.specs.Catalogs.{each_table_kinds};
-ghost use Rattle.smk_model.specs.Demo.{demo_of};
-ghost use Rattle.smk_model.specs.Lines.{lines};
-ghost use Rattle.smk_model.specs.Profiles.{AreDependencies};
-ghost use Rattle.smk_model.specs.Outcome.{OpensBook, text_named};
-ghost use Rattle.smk_model.specs.Reports.{BookSaid};
-ghost use Rattle.smk_model.specs.Selection.{each_kinds, each_rows};
-ghost use Rattle.smk_model.specs.Tables.{AreColumns};
+ghost use Rattle.std.specs.{Prelude.{◌≡◌, ◌≤◌, ℕ, List, Some, Ok, All, IfOk}, Option.option_copied};
+ghost use Rattle.smk_base.specs.{CatalogImage.catalog_image, Marks.after_marks, declared.demo.TheConstants.{DEMO_BOOK_NAME, DEMO_SCRIPT_NAME}};
+ghost use Rattle.smk_model.specs.{Catalogs.each_table_kinds, Demo.demo_of, Lines.lines, Profiles.AreDependencies, Outcome.{OpensBook, text_named}, Reports.BookSaid, Selection.each_kinds, Tables.AreColumns};
 ghost use Rattle.smk_outside.specs.Outside.{Rose};
-ghost use Rattle.smk_inputs.specs.Added.{BringTables};
-ghost use Rattle.smk_inputs.specs.Loaded.{script_bytes, inputs_with, with_rest};
-ghost use Rattle.smk_inputs.specs.Collecting.{ReadsNamed, ReadsAll, IsSayable};
+ghost use Rattle.smk_inputs.specs.{Added.BringTables, Loaded.{script_bytes, inputs_with, with_rest}, Collecting.{ReadsNamed, ReadsAll, IsSayable}};
 
 use crate::adding::read_added;
 use crate::called::Flights;

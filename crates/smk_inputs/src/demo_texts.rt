@@ -1,6 +1,5 @@
 // The texts of a demo in the place of files.
-ghost use Rattle.std.specs.Prelude.{◌≡◌, ◌+◌, Some, take};
-ghost use Rattle.std.specs.Option.{option_copied};
+ghost use Rattle.std.specs.{Prelude.{◌≡◌, ◌+◌, Some, take}, Option.option_copied};
 ghost use Rattle.smk_model.specs.Outcome.{file_named, text_named};
 
 use smk_base::{DEMO_BOOK_NAME, DEMO_SCRIPT_NAME, Demo, DemoFile, FilesFault};

@@ -1,6 +1,5 @@
 ghost use Rattle.std.specs.Prelude.{◌≡◌};
-ghost use Rattle.smk_model.specs.Catalogs.{each_table_kinds};
-ghost use Rattle.smk_model.specs.Selection.{each_kinds};
+ghost use Rattle.smk_model.specs.{Catalogs.each_table_kinds, Selection.each_kinds};
 
 use smk_base::Names;
 use smk_table::Table;

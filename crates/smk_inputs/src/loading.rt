@@ -1,10 +1,7 @@
 // The tables of a book, from their files.
 ghost use Rattle.std.specs.Prelude.{◌≡◌, ◌≢◌, ◌≤◌, All, IfOk};
 ghost use Rattle.smk_model.specs.Tables as csv_tables;
-ghost use Rattle.smk_model.specs.Tables.{AreColumns};
-ghost use Rattle.smk_model.specs.Catalogs.{table_kinds, each_table_kinds};
-ghost use Rattle.smk_model.specs.Selection.{each_rows, each_kinds};
-ghost use Rattle.smk_model.specs.FaultTexts.{IsSaid};
+ghost use Rattle.smk_model.specs.{Tables.AreColumns, Catalogs.{table_kinds, each_table_kinds}, Selection.{each_rows, each_kinds}, FaultTexts.IsSaid};
 ghost use Rattle.smk_model.specs.Outcome as outcomes;
 ghost use Rattle.smk_base.specs.declared.fault.TableFault.TheVariants as table_faults;
 ghost use Rattle.smk_outside.specs.Outside.{Rose};

@@ -1,14 +1,10 @@
 // A book, from its file to its catalog and the names of its dependencies.
 ghost use Rattle.std.specs.Prelude.{◌≡◌, ◌≤◌, IfOk};
-ghost use Rattle.smk_base.specs.CatalogImage.{catalog_image};
-ghost use Rattle.smk_base.specs.TreeImage.{book_image};
-ghost use Rattle.smk_base.specs.Marks.{after_marks};
-ghost use Rattle.smk_model.specs.Limits.{KeepsLimits};
+ghost use Rattle.smk_base.specs.{CatalogImage.catalog_image, TreeImage.book_image};
+ghost use Rattle.smk_model.specs.{Limits.KeepsLimits, Profiles.AreDependencies};
 ghost use Rattle.smk_model.specs.Outcome as outcomes;
-ghost use Rattle.smk_model.specs.Profiles.{AreDependencies};
 ghost use Rattle.smk_outside.specs.Outside.{Rose};
-ghost use Rattle.smk_inputs.specs.Loaded.{book_said};
-ghost use Rattle.smk_inputs.specs.Collecting.{Answers, ReadsNamed, IsSayable};
+ghost use Rattle.smk_inputs.specs.{Loaded.book_said, Collecting.{Answers, ReadsNamed, IsSayable}};
 
 use crate::files::content;
 use crate::stop::Stop;

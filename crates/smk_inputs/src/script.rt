@@ -1,11 +1,8 @@
 // A script, from its file to what its lines say.
-ghost use Rattle.std.specs.Prelude.{◌≡◌, ◌≤◌, IfOk};
-ghost use Rattle.std.specs.Option.{option_copied};
+ghost use Rattle.std.specs.{Prelude.{◌≡◌, ◌≤◌, IfOk}, Option.option_copied};
 ghost use Rattle.smk_model.specs.Readings.{IsReading};
 ghost use Rattle.smk_outside.specs.Outside.{Rose};
-ghost use Rattle.smk_inputs.specs.LineLimits.{KeepsReading};
-ghost use Rattle.smk_inputs.specs.Image.{reading_image};
-ghost use Rattle.smk_inputs.specs.Collecting.{OpensBytes, IsSayable};
+ghost use Rattle.smk_inputs.specs.{LineLimits.KeepsReading, Image.reading_image, Collecting.{OpensBytes, IsSayable}};
 
 use crate::files::content;
 use crate::stop::Stop;

@@ -1,11 +1,9 @@
 // The words of a run and of a conversation, as clap takes them.
-ghost use Rattle.std.specs.Prelude.{◌≡◌, ◌≤◌, IfOk, IfSome, true, false, map};
-ghost use Rattle.std.specs.Option.{option_map};
+ghost use Rattle.std.specs.{Prelude.{◌≡◌, ◌≤◌, IfOk, IfSome, true, false, map}, Option.option_map};
 ghost use Rattle.clap.specs.Words.{app_of, is_simple_and_free, rule_of, new_rule};
 ghost use Rattle.smk_model.specs.TalkWords as talks;
 ghost use Rattle.smk_model.specs.Words as calls;
-ghost use Rattle.smk_inputs.specs.Image.{invocation_image, mode_image, settings_image, talk_image, texts_image};
-ghost use Rattle.smk_inputs.specs.WordsTaken.{MatchesOf, values_of};
+ghost use Rattle.smk_inputs.specs.{Image.{invocation_image, mode_image, settings_image, talk_image, texts_image}, WordsTaken.{MatchesOf, values_of}};
 
 use crate::called::{Flights, RunTexts, RunWords, TalkWords};
 use crate::settings::Settings;

@@ -1,7 +1,5 @@
 -- Where parts begin.
-use Rattle.std.proofs.Common.{◌≡◌, ◌∙◌, ◌<◌, ◌≤◌, ◌+◌, ◌*◌, ◌/◌, ℕ, ap, arith}
-use Rattle.std.proofs.Math.Nat.{zero-div, div-mul-le_self, div-le_of_le-mul, mul_comm, mul-le-mul, mul-le-mul_right, add-mul}
-use Rattle.std.proofs.lemmas.Nat.{le-div, div-mul-add}
+use Rattle.std.proofs.{Common.{◌≡◌, ◌∙◌, ◌<◌, ◌≤◌, ◌+◌, ◌*◌, ◌/◌, ℕ, ap, arith}, Math.Nat.{zero-div, div-mul-le_self, div-le_of_le-mul, mul_comm, mul-le-mul, mul-le-mul_right, add-mul}, lemmas.Nat.{le-div, div-mul-add}}
 use Rattle.smk_jobs.specs.Cuts.{cut_at}
 
 -- the first begins at the first place

@@ -1,10 +1,8 @@
 -- What all parts have made, from what each has.
-use Rattle.std.proofs.Common.{◌∙◌, ℕ, List, get_or, subst, arith}
+use Rattle.std.proofs.{Common.{◌∙◌, ℕ, List, get_or, subst, arith}, lemmas.Slice.Zip.AllZip-long}
 use Rattle.std.specs.List.{AllZip}
-use Rattle.std.proofs.lemmas.Slice.Zip.{AllZip-long}
 use Rattle.smk_base.specs.Places.{upto}
-use Rattle.smk_base.proofs.RelRows.{AllZip-at}
-use Rattle.smk_base.proofs.Places.{length_upto, get_or_upto}
+use Rattle.smk_base.proofs.{RelRows.AllZip-at, Places.{length_upto, get_or_upto}}
 use Rattle.smk_jobs.specs.Cuts.{AreParts}
 
 -- in the form in which parts are told by their numbers

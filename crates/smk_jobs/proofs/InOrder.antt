@@ -1,8 +1,6 @@
 -- Results of jobs, in order.
-use Rattle.std.proofs.Common.{◌≡◌, ◌∙◌, ℕ, suc, ◌+◌, ◌<◌, List, [], ◌∷◌, ◌++◌, Result, Ok, Err, length, take, drop, get_or, ap, sym, refl, subst, arith, drop-cons, take-append-drop, append-nil, length-append, IfOk, IfErr, ◌⊎◌, inl, inr, All}
+use Rattle.std.proofs.{Common.{◌≡◌, ◌∙◌, ℕ, suc, ◌+◌, ◌<◌, List, [], ◌∷◌, ◌++◌, Result, Ok, Err, length, take, drop, get_or, ap, sym, refl, subst, arith, drop-cons, take-append-drop, append-nil, length-append, IfOk, IfErr, ◌⊎◌, inl, inr, All}, lemmas.List.{take_more, append_assoc, get_or_append_left, get_or-append-add}, lemmas.Slice.Zip.all_zipped_more}
 use Rattle.std.specs.List.{AllZip}
-use Rattle.std.proofs.lemmas.List.{take_more, append_assoc, get_or_append_left, get_or-append-add}
-use Rattle.std.proofs.lemmas.Slice.Zip.{all_zipped_more}
 use Rattle.smk_jobs.specs.Jobs.{FirstFault}
 
 -- the values of one part behind those of another

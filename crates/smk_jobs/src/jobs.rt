@@ -1,6 +1,5 @@
 // One call for each job of a list, some of them at once.
-ghost use Rattle.std.specs.Prelude.{◌≡◌, ◌<◌, ◌≤◌, ◌++◌, ◌∷◌, [], ◌⊎◌, Ok, All, IfOk, IfErr, OnOk, alloc_error, List, length};
-ghost use Rattle.std.specs.List.{AllZip};
+ghost use Rattle.std.specs.{Prelude.{◌≡◌, ◌<◌, ◌≤◌, ◌++◌, ◌∷◌, [], ◌⊎◌, Ok, All, IfOk, IfErr, OnOk, alloc_error, List, length}, List.AllZip};
 ghost use Rattle.smk_jobs.specs.Jobs.{FirstFault};
 
 use std::alloc::{AllocError, Global};

@@ -1,9 +1,7 @@
 //! The parts of a step: stretches of the rows of its input.
 
-ghost use Rattle.std.specs.Prelude.{◌≡◌, ◌<◌, ◌≤◌, ◌+◌, ℕ, Ok, IfOk, sum};
-ghost use Rattle.std.specs.Bool.{OnTrue, OnFalse};
-ghost use Rattle.smk_base.specs.declared.rel.TheConstants.{ROW_LIMIT};
-ghost use Rattle.smk_base.specs.declared.workers.TheConstants.{WORKER_LIMIT};
+ghost use Rattle.std.specs.{Prelude.{◌≡◌, ◌<◌, ◌≤◌, ◌+◌, ℕ, Ok, IfOk, sum}, Bool.{OnTrue, OnFalse}};
+ghost use Rattle.smk_base.specs.{declared.rel.TheConstants.ROW_LIMIT, declared.workers.TheConstants.WORKER_LIMIT};
 ghost use Rattle.smk_jobs.specs.Cuts.{AreParts, cut_at};
 
 use crate::crew::{Crew, Work};

@@ -1,15 +1,8 @@
 -- Classes against the definition in list words.
-use Rattle.std.proofs.Common.{◌≡◌, ℕ, zero, suc, ◌<◌, Bool, false, List, [], length, map, get_or, nat_eq, refl, ap, sym, subst, ◌∙◌, arith, Decides, inl, inr, add-one}
-use Rattle.std.specs.Cmp.{unsigned_Decides}
-use Rattle.std.specs.List.{position_or_len}
-use Rattle.std.proofs.lemmas.Bool.{cases_Bool}
-use Rattle.std.proofs.lemmas.Grind.{same_number_lists}
-use Rattle.std.proofs.lemmas.List.{get_or-map, length-map}
-use Rattle.std.proofs.lemmas.List.Sums.{position_or_len_is}
-use Rattle.smk_keys.specs.Classes.{ClassesImage, first_items, classing_of}
-use Rattle.smk_keys.specs.Numbers.{AreNumbers}
-use Rattle.smk_keys.proofs.Firsts.{AreClasses, AreClasses-alike, first_items-classes}
-use Rattle.smk_keys.proofs.Numbered.{IsNumbered, IsNumbered-none, IsNumbered-more, AreClasses-numbered}
+use Rattle.std.proofs.{Common.{◌≡◌, ℕ, zero, suc, ◌<◌, Bool, false, List, [], length, map, get_or, nat_eq, refl, ap, sym, subst, ◌∙◌, arith, Decides, inl, inr, add-one}, lemmas.Bool.cases_Bool, lemmas.Grind.same_number_lists, lemmas.List.{get_or-map, length-map}, lemmas.List.Sums.position_or_len_is}
+use Rattle.std.specs.{Cmp.unsigned_Decides, List.position_or_len}
+use Rattle.smk_keys.specs.{Classes.{ClassesImage, first_items, classing_of}, Numbers.AreNumbers}
+use Rattle.smk_keys.proofs.{Firsts.{AreClasses, AreClasses-alike, first_items-classes}, Numbered.{IsNumbered, IsNumbered-none, IsNumbered-more, AreClasses-numbered}}
 
 module _ {X : Type 0} (eq : X → X → Bool) (decides : (x y : X) → Decides (eq x y) (x ≡ y)) (none : X) (items : List X) where
   differ : (x y : X) → (x ≡ y → ⊥) → eq x y ≡ false

@@ -1,10 +1,6 @@
 -- Items that have the places of their equals among those that came.
-use Rattle.std.proofs.Common.{◌≡◌, ℕ, ◌+◌, ◌<◌, ◌≤◌, Bool, true, false, List, [], ◌∷◌, ◌++◌, length, get_or, if◌then◌else◌, refl, ap, sym, ◌∙◌, arith, true≢false, Decides, inl, inr}
-use Rattle.std.specs.Cmp.{decided}
-use Rattle.std.specs.List.{list_any, position_or_len, IsDistinct}
-use Rattle.std.proofs.lemmas.Bool.{cases_order, cases_Bool, cases_lt}
-use Rattle.std.proofs.lemmas.List.{get_or_push, get_or_append_left, get_or_default, length_push}
-use Rattle.std.proofs.lemmas.Map.Keys.{apart_from_distinct, IsDistinct-push, IsDistinct-from_apart}
+use Rattle.std.proofs.{Common.{◌≡◌, ℕ, ◌+◌, ◌<◌, ◌≤◌, Bool, true, false, List, [], ◌∷◌, ◌++◌, length, get_or, if◌then◌else◌, refl, ap, sym, ◌∙◌, arith, true≢false, Decides, inl, inr}, lemmas.Bool.{cases_order, cases_Bool, cases_lt}, lemmas.List.{get_or_push, get_or_append_left, get_or_default, length_push}, lemmas.Map.Keys.{apart_from_distinct, IsDistinct-push, IsDistinct-from_apart}}
+use Rattle.std.specs.{Cmp.decided, List.{list_any, position_or_len, IsDistinct}}
 use Rattle.smk_base.proofs.Codes.{found_at, none_at}
 use Rattle.smk_keys.specs.Numbers.{AreNumbers}
 

@@ -1,10 +1,6 @@
 -- Classes against the items at their first occurrences.
-use Rattle.std.proofs.Common.{◌≡◌, ℕ, zero, suc, ◌+◌, ◌<◌, ◌≤◌, Bool, true, false, List, [], ◌∷◌, ◌++◌, length, map, take, get_or, refl, ap, sym, subst, ◌∙◌, arith, Decides, inl, inr, add-one}
+use Rattle.std.proofs.{Common.{◌≡◌, ℕ, zero, suc, ◌+◌, ◌<◌, ◌≤◌, Bool, true, false, List, [], ◌∷◌, ◌++◌, length, map, take, get_or, refl, ap, sym, subst, ◌∙◌, arith, Decides, inl, inr, add-one}, lemmas.Bool.{cases_order, cases_Bool, cases_lt}, lemmas.List.{get_or-map, get_or-take, length-take-le, length-map, take_more, take_all, map_more, get_or_default}, lemmas.List.Folds.{list_any_at, list_any_none}, lemmas.List.Sums.fold_push}
 use Rattle.std.specs.List.{list_any}
-use Rattle.std.proofs.lemmas.Bool.{cases_order, cases_Bool, cases_lt}
-use Rattle.std.proofs.lemmas.List.{get_or-map, get_or-take, length-take-le, length-map, take_more, take_all, map_more, get_or_default}
-use Rattle.std.proofs.lemmas.List.Folds.{list_any_at, list_any_none}
-use Rattle.std.proofs.lemmas.List.Sums.{fold_push}
 use Rattle.smk_base.specs.Firsts.{first_items, with_item}
 use Rattle.smk_keys.specs.Numbers.{AreNumbers}
 

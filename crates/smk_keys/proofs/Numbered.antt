@@ -1,11 +1,8 @@
 -- Items numbered by first occurrence, one after the other.
-use Rattle.std.proofs.Common.{◌≡◌, ℕ, ◌+◌, ◌<◌, Bool, List, [], ◌∷◌, ◌++◌, length, get_or, if◌then◌else◌, refl, ◌∙◌, arith, Decides, inl, inr}
+use Rattle.std.proofs.{Common.{◌≡◌, ℕ, ◌+◌, ◌<◌, Bool, List, [], ◌∷◌, ◌++◌, length, get_or, if◌then◌else◌, refl, ◌∙◌, arith, Decides, inl, inr}, lemmas.Bool.{cases_Bool, cases_lt}, lemmas.List.{get_or_push, get_or_append_left, length_push}}
 use Rattle.std.specs.List.{list_any, position_or_len}
-use Rattle.std.proofs.lemmas.Bool.{cases_Bool, cases_lt}
-use Rattle.std.proofs.lemmas.List.{get_or_push, get_or_append_left, length_push}
 use Rattle.smk_base.proofs.Codes.{none_at}
-use Rattle.smk_keys.proofs.Coded.{IsCoded, IsCoded-none, IsCoded-more, AreNumbers-coded}
-use Rattle.smk_keys.proofs.Firsts.{AreClasses}
+use Rattle.smk_keys.proofs.{Coded.{IsCoded, IsCoded-none, IsCoded-more, AreNumbers-coded}, Firsts.AreClasses}
 
 -- the first n items have the places of their equals in keys, and firsts has the first place of each key
 pub record IsNumbered {X : Type 0} (eq : X → X → Bool) (none : X) (items : List X) (n : ℕ) (of firsts : List ℕ) (keys : List X) : Type 0 where

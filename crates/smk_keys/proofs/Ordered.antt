@@ -1,10 +1,7 @@
 -- Numbers that come in order are their own classes.
-use Rattle.std.proofs.Common.{◌≡◌, ℕ, ◌+◌, ◌<◌, List, [], ◌∷◌, ◌++◌, length, get_or, nat_eq, refl, arith, inl, inr}
+use Rattle.std.proofs.{Common.{◌≡◌, ℕ, ◌+◌, ◌<◌, List, [], ◌∷◌, ◌++◌, length, get_or, nat_eq, refl, arith, inl, inr}, lemmas.Bool.cases_lt, lemmas.List.{get_or_push, get_or_append_left, length_push}}
 use Rattle.std.specs.Cmp.{unsigned_Decides}
-use Rattle.std.proofs.lemmas.Bool.{cases_lt}
-use Rattle.std.proofs.lemmas.List.{get_or_push, get_or_append_left, length_push}
-use Rattle.smk_keys.specs.Classes.{ClassesImage, classing_of}
-use Rattle.smk_keys.specs.Orders.{IsInOrder}
+use Rattle.smk_keys.specs.{Classes.{ClassesImage, classing_of}, Orders.IsInOrder}
 use Rattle.smk_keys.proofs.Classing.{classing-classes}
 
 -- all numbers in order are their own classes

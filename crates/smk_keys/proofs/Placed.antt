@@ -1,15 +1,9 @@
 -- What callers take from the classes of keys.
-use Rattle.std.proofs.Common.{◌≡◌, ℕ, ◌<◌, pos, List, [], ◌∷◌, length, map, get_or, nat_eq, refl, ap, sym, ◌∙◌}
+use Rattle.std.proofs.{Common.{◌≡◌, ℕ, ◌<◌, pos, List, [], ◌∷◌, length, map, get_or, nat_eq, refl, ap, sym, ◌∙◌}, lemmas.List.{get_or-map, length-map}}
 use Rattle.std.specs.Cmp.{unsigned_Decides}
-use Rattle.std.proofs.lemmas.List.{get_or-map, length-map}
-use Rattle.smk_base.specs.declared.value.Value.{Value}
-use Rattle.smk_base.specs.declared.value.Value.TheVariants.{Int}
-use Rattle.smk_base.specs.Rels.{row_in}
-use Rattle.smk_keys.specs.Classes.{first_items, classing_of, classes_of}
-use Rattle.smk_keys.specs.Keys.{key_eq}
-use Rattle.smk_keys.proofs.Firsts.{AreClasses, AreClasses-alike, first_items-classes}
-use Rattle.smk_keys.proofs.Classing.{AreClasses-classing, classing-classes}
-use Rattle.smk_keys.proofs.Rowed.{key_same}
+use Rattle.smk_base.specs.{declared.value.Value.Value, declared.value.Value.TheVariants.Int, Rels.row_in}
+use Rattle.smk_keys.specs.{Classes.{first_items, classing_of, classes_of}, Keys.key_eq}
+use Rattle.smk_keys.proofs.{Firsts.{AreClasses, AreClasses-alike, first_items-classes}, Classing.{AreClasses-classing, classing-classes}, Rowed.key_same}
 
 -- equal keys have one class and no others, counted in the order in which they come, and each class has the place where it comes first
 pub AreClasses-keys : (keys : List (List Value)) → AreClasses [] keys (classes_of keys).of (classes_of keys).firsts

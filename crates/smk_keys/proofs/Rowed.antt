@@ -1,21 +1,11 @@
 -- Numbers of rows, column by column.
-use Rattle.std.proofs.Common.{◌≡◌, ℕ, suc, ◌+◌, ◌-◌, ◌<◌, ◌≤◌, ℤ, pos, List, [], ◌∷◌, ◌++◌, length, map, take, drop, get_or, nat_eq, refl, ap, sym, subst, ◌∙◌, arith, All, inl, inr, replicate, length-append, Decides}
+use Rattle.std.proofs.{Common.{◌≡◌, ℕ, suc, ◌+◌, ◌-◌, ◌<◌, ◌≤◌, ℤ, pos, List, [], ◌∷◌, ◌++◌, length, map, take, drop, get_or, nat_eq, refl, ap, sym, subst, ◌∙◌, arith, All, inl, inr, replicate, length-append, Decides}, lemmas.Bool.cases_lt, lemmas.List.{get_or_append_left, get_or-append_right, get_or_default, get_or-map, get_or-replicate, get_or-take, get_or-drop, length-drop, length-take-le, take-map, drop-map, take_all, take_more, length-map, length-replicate, map-append, map_push, same_from_push, same_lists}, lemmas.Slice.Eq.slice_eq-Decides, lemmas.Slice.Zip.{length-zip, get_or-zip}}
 use Rattle.std.specs.List.{zip, slice_range}
-use Rattle.std.proofs.lemmas.Bool.{cases_lt}
-use Rattle.std.proofs.lemmas.List.{get_or_append_left, get_or-append_right, get_or_default, get_or-map, get_or-replicate, get_or-take, get_or-drop, length-drop, length-take-le, take-map, drop-map, take_all, take_more, length-map, length-replicate, map-append, map_push, same_from_push, same_lists}
-use Rattle.std.proofs.lemmas.Slice.Eq.{slice_eq-Decides}
-use Rattle.std.proofs.lemmas.Slice.Zip.{length-zip, get_or-zip}
-use Rattle.smk_base.specs.declared.value.Kind.{Kind}
+use Rattle.smk_base.specs.{declared.value.Kind.Kind, declared.value.Value.Value, Rels.{AreCodesOf, Fits, RowFits, kind_in, row_in, value_in, picked, column_values, column_texts, text_of}, Values.value_same, Widths.AreAlike}
 use Rattle.smk_base.specs.declared.value.Kind.TheVariants as kinds
-use Rattle.smk_base.specs.declared.value.Value.{Value}
 use Rattle.smk_base.specs.declared.value.Value.TheVariants as values
-use Rattle.smk_base.specs.Rels.{AreCodesOf, Fits, RowFits, kind_in, row_in, value_in, picked, column_values, column_texts, text_of}
-use Rattle.smk_base.specs.Values.{value_same}
-use Rattle.smk_base.specs.Widths.{AreAlike}
 use Rattle.smk_base.proofs.RelRows.{Fits-value_in}
-use Rattle.smk_keys.specs.Classes.{ClassesImage, classing_of, classes_of}
-use Rattle.smk_keys.specs.Keys.{key_eq}
-use Rattle.smk_keys.specs.Numbers.{AreNumbers}
+use Rattle.smk_keys.specs.{Classes.{ClassesImage, classing_of, classes_of}, Keys.key_eq, Numbers.AreNumbers}
 use Rattle.smk_keys.proofs.Classing.{classing-numbers}
 
 pub key_same : (a b : List Value) → Decides (key_eq a b) (a ≡ b)

@@ -1,11 +1,7 @@
 -- Keys in classes of equal ones.
-use Rattle.std.specs.Prelude.{ℕ, ◌<◌, Bool, List, length, map}
-use Rattle.std.specs.List.{position_or_len}
-use Rattle.smk_base.specs.declared.value.Value.{Value}
-use Rattle.smk_base.specs.declared.value.Kind.{Kind}
+use Rattle.std.specs.{Prelude.{ℕ, ◌<◌, Bool, List, length, map}, List.position_or_len}
+use Rattle.smk_base.specs.{declared.value.Value.Value, declared.value.Kind.Kind, Rels.kind_in, Widths.AreAlike}
 pub use Rattle.smk_base.specs.Firsts.{first_items}
-use Rattle.smk_base.specs.Rels.{kind_in}
-use Rattle.smk_base.specs.Widths.{AreAlike}
 use Rattle.smk_keys.specs.Keys.{key_eq}
 
 -- the class of each item, and for each class the place of its first item

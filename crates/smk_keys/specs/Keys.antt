@@ -1,9 +1,6 @@
 -- Distinct keys in the order in which they came.
-use Rattle.std.specs.Prelude.{ℕ, Bool, List, [], ◌∷◌, ◌++◌, Option, position, if◌then◌else◌}
-use Rattle.std.specs.Cmp.Lexicographic.{pointwise}
-use Rattle.std.specs.List.{list_any, position_or_len, IsDistinct}
-use Rattle.smk_base.specs.declared.value.Value.{Value}
-use Rattle.smk_base.specs.Values.{value_eq}
+use Rattle.std.specs.{Prelude.{ℕ, Bool, List, [], ◌∷◌, ◌++◌, Option, position, if◌then◌else◌}, Cmp.Lexicographic.pointwise, List.{list_any, position_or_len, IsDistinct}}
+use Rattle.smk_base.specs.{declared.value.Value.Value, Values.value_eq}
 
 -- whether two keys are equal, value by value
 abbrev pub key_eq : List Value → List Value → Bool

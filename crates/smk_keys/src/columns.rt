@@ -1,7 +1,6 @@
 //! Numbers of the rows of one relation.
 ghost use Rattle.std.specs.Prelude.{◌<◌, ◌≤◌, [], length, map, pos, slice_range, All, IfOk};
-ghost use Rattle.smk_base.specs.Rels.{column_values, picked};
-ghost use Rattle.smk_base.specs.declared.value.Value.TheVariants.{Int};
+ghost use Rattle.smk_base.specs.{Rels.{column_values, picked}, declared.value.Value.TheVariants.Int};
 ghost use Rattle.smk_keys.specs.Numbers.{AreNumbers};
 
 use crate::ints::int_numbers;

@@ -15,8 +15,7 @@ pub struct KeyTable {
 
 impl Model for KeyTable {
     ghost use Rattle.std.specs.Prelude.{List, length, ◌≤◌, ◌*◌};
-    ghost use Rattle.smk_base.specs.declared.rel.TheConstants.{ROW_LIMIT};
-    ghost use Rattle.smk_base.specs.declared.value.Value.{Value as Cell};
+    ghost use Rattle.smk_base.specs.{declared.rel.TheConstants.ROW_LIMIT, declared.value.Value.Value as Cell};
     ghost use Rattle.smk_keys.specs.Keys.{AreKeys};
 
     ghost Value = { List (List Cell) };

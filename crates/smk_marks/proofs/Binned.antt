@@ -1,23 +1,13 @@
 -- A column of bins of what a chain makes of rows.
-use Rattle.std.proofs.Common.{◌≡◌, ℕ, ◌<◌, ℤ, pos, List, [], ◌∷◌, length, map, ap, sym, ◌∙◌, get_or, arith}
-use Rattle.std.proofs.lemmas.List.{get_or-map, length-map}
-use Rattle.smk_base.specs.Plans.{Expr, Apply, Projection}
-use Rattle.smk_base.specs.Rels.{Relation, bin_of, kind_in, value_in}
-use Rattle.smk_base.specs.declared.book.plan.Item.{Item}
-use Rattle.smk_base.specs.declared.book.plan.Item.TheVariants.{Bin, Col}
-use Rattle.smk_base.specs.declared.value.Kind.{Kind}
+use Rattle.std.proofs.{Common.{◌≡◌, ℕ, ◌<◌, ℤ, pos, List, [], ◌∷◌, length, map, ap, sym, ◌∙◌, get_or, arith}, lemmas.List.{get_or-map, length-map}}
+use Rattle.smk_base.specs.{Plans.{Expr, Apply, Projection}, Rels.{Relation, bin_of, kind_in, value_in}, declared.book.plan.Item.Item, declared.book.plan.Item.TheVariants.{Bin, Col}, declared.value.Kind.Kind, declared.value.Value.Value}
 use Rattle.smk_base.specs.declared.value.Kind.TheVariants as kinds
-use Rattle.smk_base.specs.declared.value.Value.{Value}
 use Rattle.smk_base.specs.declared.value.Value.TheVariants as values
-use Rattle.smk_model.specs.Kinds.{kind_of_item}
-use Rattle.smk_model.specs.Plain.{item_at}
-use Rattle.smk_model.specs.Selection.{plan_kinds}
-use Rattle.smk_model.specs.Values.{Row, value_at}
+use Rattle.smk_model.specs.{Kinds.kind_of_item, Plain.item_at, Selection.plan_kinds, Values.{Row, value_at}}
 use Rattle.smk_model.proofs.Parts.{map_agree}
 use Rattle.smk_base.proofs.Places.{map_map}
 use Rattle.smk_body.proofs.Besides.{relation, related}
-use Rattle.smk_marks.specs.Marks.{made}
-use Rattle.smk_marks.specs.Views.{chain_values}
+use Rattle.smk_marks.specs.{Marks.made, Views.chain_values}
 
 -- the kind and the values of a column of a projection that is a bin
 

@@ -1,35 +1,14 @@
 -- Groups by marks.
-use Rattle.std.proofs.Common.{◌≡◌, ℕ, suc, ◌<◌, Bool, true, false, cond, List, [], ◌∷◌, ◌++◌, length, map, take, refl, ap, sym, ◌∙◌, subst, arith, get_or, nat_eq, nat_lt, inl, inr}
+use Rattle.std.proofs.{Common.{◌≡◌, ℕ, suc, ◌<◌, Bool, true, false, cond, List, [], ◌∷◌, ◌++◌, length, map, take, refl, ap, sym, ◌∙◌, subst, arith, get_or, nat_eq, nat_lt, inl, inr}, lemmas.List.{get_or-map, length-map, take-append-le, take_all, get_or_default}, lemmas.List.Elements.{All-filter, All-map}, lemmas.Bool.{cases_Bool, or_right}}
 use Rattle.std.specs.List.{filter, All}
-use Rattle.std.proofs.lemmas.List.{get_or-map, length-map, take-append-le, take_all, get_or_default}
-use Rattle.std.proofs.lemmas.List.Elements.{All-filter, All-map}
-use Rattle.std.proofs.lemmas.Bool.{cases_Bool, or_right}
-use Rattle.smk_base.specs.Places.{Lists, list_at}
-use Rattle.smk_base.specs.declared.book.plan.Agg.{Agg}
-use Rattle.smk_base.specs.Plans.{Grouping, Expr, Apply}
-use Rattle.smk_model.specs.Values.{Row}
-use Rattle.smk_model.specs.Plain.{row_eq, key_of, aggregate, firsts, grouped, rows_over}
-use Rattle.smk_model.specs.Lineage.{row_at, sub}
-use Rattle.smk_model.specs.Composed.{table_at}
-use Rattle.smk_model.specs.Classes.{places_in}
-use Rattle.smk_model.specs.LineageLaws.{selected_table}
+use Rattle.smk_base.specs.{Places.{Lists, list_at}, declared.book.plan.Agg.Agg, Plans.{Grouping, Expr, Apply}}
+use Rattle.smk_model.specs.{Values.Row, Plain.{row_eq, key_of, aggregate, firsts, grouped, rows_over}, Lineage.{row_at, sub}, Composed.table_at, Classes.places_in, LineageLaws.selected_table, Growth.is_chain}
 use Rattle.smk_base.proofs.Places.{map_map, same_below, has_passes, has_below}
-use Rattle.smk_model.proofs.Firsts.{holds, holds_here, holds_at, firsts_from, sub_key, place_of}
-use Rattle.smk_model.proofs.Locals.{IsApart, firsts_apart}
-use Rattle.smk_model.proofs.Classes.{place_in, first_below, found_below, found_at, key_test}
-use Rattle.smk_model.proofs.Comes.{rows_in, rows_whole}
-use Rattle.smk_keys.specs.Classes.{ClassesImage, first_items, classing_of, classes_of}
-use Rattle.smk_keys.specs.Keys.{key_eq}
-use Rattle.smk_keys.specs.Numbers.{AreNumbers}
-use Rattle.smk_keys.proofs.Classing.{classing-numbers}
-use Rattle.smk_keys.proofs.Placed.{keys-firsts}
-use Rattle.smk_keys.proofs.Rowed.{key_same}
-use Rattle.smk_model.specs.Growth.{is_chain}
-use Rattle.smk_marks.specs.Marks.{made, passes, kept, marks_at, with_mark, marked_group, marked_groups}
-use Rattle.smk_marks.specs.MarkLaws.{marks_of, input_at, AreRids, GroupMarks}
-use Rattle.smk_marks.proofs.Chains.{chain_picks}
-use Rattle.smk_marks.proofs.Classed.{firsts_are, map_below}
-use Rattle.smk_marks.proofs.Forward.{key_known, list_is}
+use Rattle.smk_model.proofs.{Firsts.{holds, holds_here, holds_at, firsts_from, sub_key, place_of}, Locals.{IsApart, firsts_apart}, Classes.{place_in, first_below, found_below, found_at, key_test}, Comes.{rows_in, rows_whole}}
+use Rattle.smk_keys.specs.{Classes.{ClassesImage, first_items, classing_of, classes_of}, Keys.key_eq, Numbers.AreNumbers}
+use Rattle.smk_keys.proofs.{Classing.classing-numbers, Placed.keys-firsts, Rowed.key_same}
+use Rattle.smk_marks.specs.{Marks.{made, passes, kept, marks_at, with_mark, marked_group, marked_groups}, MarkLaws.{marks_of, input_at, AreRids, GroupMarks}}
+use Rattle.smk_marks.proofs.{Chains.chain_picks, Classed.{firsts_are, map_below}, Forward.{key_known, list_is}}
 
 -- functions that agree on the members
 pub map_held : {X : Type 0} (f g : Row → X) (xs : List Row) → ((k : Row) → holds xs k ≡ true → f k ≡ g k) → map f xs ≡ map g xs

@@ -1,24 +1,11 @@
 -- Chains of selections and projections over a scan, row by row.
-use Rattle.std.proofs.Common.{◌≡◌, ℕ, suc, ◌<◌, true, List, [], ◌∷◌, length, map, refl, ap, sym, ◌∙◌, arith, get_or, nat_eq, inl, inr, Option}
+use Rattle.std.proofs.{Common.{◌≡◌, ℕ, suc, ◌<◌, true, List, [], ◌∷◌, length, map, refl, ap, sym, ◌∙◌, arith, get_or, nat_eq, inl, inr, Option}, lemmas.List.{get_or-map, length-map, map-id}, lemmas.List.Elements.{All-get_or, filter_passes}, lemmas.Bool.{or_cases, and_parts, eqb-true, eq-eqb, false≢true, and_from}}
 use Rattle.std.specs.List.{filter}
-use Rattle.std.proofs.lemmas.List.{get_or-map, length-map, map-id}
-use Rattle.std.proofs.lemmas.List.Elements.{All-get_or, filter_passes}
-use Rattle.std.proofs.lemmas.Bool.{or_cases, and_parts, eqb-true, eq-eqb, false≢true, and_from}
 use Rattle.smk_base.specs.Plans.{Selection, Projection, Expr, Leaf, Apply}
-use Rattle.smk_model.specs.Values.{Row, meets}
-use Rattle.smk_model.specs.Plain.{image, eval, leaves}
-use Rattle.smk_model.specs.Lineage.{places, has, row_at, sub}
-use Rattle.smk_model.specs.Composed.{table_at}
-use Rattle.smk_model.specs.LineageLaws.{selected_table}
-use Rattle.smk_model.specs.Selection.{selected, kept_rows}
+use Rattle.smk_model.specs.{Values.{Row, meets}, Plain.{image, eval, leaves}, Lineage.{places, has, row_at, sub}, Composed.table_at, LineageLaws.selected_table, Selection.{selected, kept_rows}, Growth.is_chain}
 use Rattle.smk_base.proofs.Places.{filter_filter, filter_map, map_map, has_places}
-use Rattle.smk_model.proofs.Anys.{or_false}
-use Rattle.smk_model.proofs.CuiWidom.{length_selected, selected_below, selected_row}
-use Rattle.smk_model.proofs.Selections.{filter-true}
-use Rattle.smk_model.proofs.Comes.{rows_in, comes}
-use Rattle.smk_model.specs.Growth.{is_chain}
-use Rattle.smk_marks.specs.Marks.{made, passes}
-use Rattle.smk_marks.specs.MarkLaws.{ChainPicks}
+use Rattle.smk_model.proofs.{Anys.or_false, CuiWidom.{length_selected, selected_below, selected_row}, Selections.filter-true, Comes.{rows_in, comes}}
+use Rattle.smk_marks.specs.{Marks.{made, passes}, MarkLaws.ChainPicks}
 
 -- the rows of a chain
 

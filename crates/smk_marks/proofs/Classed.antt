@@ -1,24 +1,13 @@
 -- The classes of marks, and what is made class by class.
-use Rattle.std.proofs.Common.{◌≡◌, ℕ, suc, ◌<◌, ◌≤◌, List, [], ◌∷◌, ◌++◌, length, map, take, refl, ap, sym, ◌∙◌, subst, arith, get_or, nat_eq, inl, inr}
-use Rattle.std.specs.Cmp.{unsigned_Decides}
-use Rattle.std.specs.List.{All}
-use Rattle.std.proofs.lemmas.List.{append-nil, length-map}
-use Rattle.std.proofs.lemmas.List.Elements.{All-map}
-use Rattle.std.proofs.lemmas.Bool.{cases_Bool, eqb-true, eq-eqb, false≢true, false_from_ne_true}
-use Rattle.smk_base.specs.Rels.{Relation, kind_in}
-use Rattle.smk_base.specs.declared.book.plan.Agg.{Agg}
-use Rattle.smk_base.specs.declared.value.Kind.{Kind}
-use Rattle.smk_model.specs.Values.{Row}
-use Rattle.smk_model.specs.Plain.{aggregate}
-use Rattle.smk_model.specs.Lineage.{row_at, sub, upto}
+use Rattle.std.proofs.{Common.{◌≡◌, ℕ, suc, ◌<◌, ◌≤◌, List, [], ◌∷◌, ◌++◌, length, map, take, refl, ap, sym, ◌∙◌, subst, arith, get_or, nat_eq, inl, inr}, lemmas.List.{append-nil, length-map}, lemmas.List.Elements.All-map, lemmas.Bool.{cases_Bool, eqb-true, eq-eqb, false≢true, false_from_ne_true}}
+use Rattle.std.specs.{Cmp.unsigned_Decides, List.All}
+use Rattle.smk_base.specs.{Rels.{Relation, kind_in}, declared.book.plan.Agg.Agg, declared.value.Kind.Kind}
+use Rattle.smk_model.specs.{Values.Row, Plain.aggregate, Lineage.{row_at, sub, upto}}
 use Rattle.smk_base.proofs.Places.{map_map, map_upto, map_upto_agree, same_below}
 use Rattle.smk_keys.specs.Classes.{ClassesImage, classing_of, first_items}
-use Rattle.smk_keys.proofs.Classing.{AreClasses-classing}
-use Rattle.smk_keys.proofs.Firsts.{AreClasses, first_items-classes}
-use Rattle.smk_keys.proofs.Placed.{classes-numbers_alone}
+use Rattle.smk_keys.proofs.{Classing.AreClasses-classing, Firsts.{AreClasses, first_items-classes}, Placed.classes-numbers_alone}
 use Rattle.smk_body.specs.Halves.{AreNumbered, class_places, class_values}
-use Rattle.smk_body.proofs.Besides.{map_same, related, relation}
-use Rattle.smk_body.proofs.Classing.{are_numbered}
+use Rattle.smk_body.proofs.{Besides.{map_same, related, relation}, Classing.are_numbered}
 use Rattle.smk_marks.specs.Marks.{mark_row, with_mark}
 
 pub map_below : {X : Type 0} (f g : ℕ → X) (n : ℕ) (A : List ℕ) → All (λ i. i < n) A → ((i : ℕ) → i < n → f i ≡ g i) → map f A ≡ map g A

@@ -1,23 +1,14 @@
 -- Counts over the rows of marks, and aggregates over one column of these rows.
-use Rattle.std.proofs.Common.{◌≡◌, ℕ, true, is_none, Some, List, [], ◌∷◌, ◌++◌, length, map, take, ap, sym, ◌∙◌, get_or, nat_eq}
+use Rattle.std.proofs.{Common.{◌≡◌, ℕ, true, is_none, Some, List, [], ◌∷◌, ◌++◌, length, map, take, ap, sym, ◌∙◌, get_or, nat_eq}, lemmas.List.{get_or-map, length-map}, lemmas.List.Sums.AllPass-from_list_all, lemmas.Bool.false≢true}
 use Rattle.std.specs.List.{list_all}
-use Rattle.std.proofs.lemmas.List.{get_or-map, length-map}
-use Rattle.std.proofs.lemmas.List.Sums.{AllPass-from_list_all}
-use Rattle.std.proofs.lemmas.Bool.{false≢true}
-use Rattle.smk_base.specs.Aggregates.{moved_to, read_by}
-use Rattle.smk_base.specs.declared.book.plan.Agg.{Agg}
-use Rattle.smk_base.specs.declared.value.Value.{Value}
-use Rattle.smk_model.specs.Values.{Row, value_at}
-use Rattle.smk_model.specs.Plain.{aggregate}
-use Rattle.smk_model.specs.Lineage.{places, row_at, sub, upto}
-use Rattle.smk_model.proofs.Aggregates.{aggregate_moved, moved_to_own}
-use Rattle.smk_model.proofs.Parts.{map_agree}
+use Rattle.smk_base.specs.{Aggregates.{moved_to, read_by}, declared.book.plan.Agg.Agg, declared.value.Value.Value}
+use Rattle.smk_model.specs.{Values.{Row, value_at}, Plain.aggregate, Lineage.{places, row_at, sub, upto}}
+use Rattle.smk_model.proofs.{Aggregates.{aggregate_moved, moved_to_own}, Parts.map_agree}
 use Rattle.smk_base.proofs.Places.{map_map, places_below}
 use Rattle.smk_keys.specs.Classes.{ClassesImage, first_items}
 use Rattle.smk_body.specs.Halves.{class_places, class_values}
 use Rattle.smk_body.proofs.Aggregating.{map_where}
-use Rattle.smk_marks.specs.Marks.{reads_none, marked_group, with_mark}
-use Rattle.smk_marks.specs.MarkLaws.{CountsAlone}
+use Rattle.smk_marks.specs.{Marks.{reads_none, marked_group, with_mark}, MarkLaws.CountsAlone}
 use Rattle.smk_marks.proofs.Classed.{map_below}
 
 -- counts alone

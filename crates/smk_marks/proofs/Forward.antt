@@ -1,25 +1,11 @@
 -- The forward list of a row of the table.
-use Rattle.std.proofs.Common.{◌≡◌, ℕ, ◌<◌, Bool, true, false, cond, List, [], ◌∷◌, length, map, ap, sym, ◌∙◌, subst, arith, nat_eq, inl, inr}
+use Rattle.std.proofs.{Common.{◌≡◌, ℕ, ◌<◌, Bool, true, false, cond, List, [], ◌∷◌, length, map, ap, sym, ◌∙◌, subst, arith, nat_eq, inl, inr}, lemmas.List.{get_or-map, length-map}, lemmas.Bool.{cases_Bool, or_cases, or_left, or_right, eqb-true, false≢true, false_from_ne_true}}
 use Rattle.std.specs.List.{list_any}
-use Rattle.std.proofs.lemmas.List.{get_or-map, length-map}
-use Rattle.std.proofs.lemmas.Bool.{cases_Bool, or_cases, or_left, or_right, eqb-true, false≢true, false_from_ne_true}
-use Rattle.smk_base.specs.Places.{list_at}
-use Rattle.smk_base.specs.declared.book.plan.Agg.{Agg}
-use Rattle.smk_base.specs.Plans.{Grouping, Expr, Apply}
-use Rattle.smk_model.specs.Values.{Row}
-use Rattle.smk_model.specs.Plain.{row_eq, key_of, firsts, grouped}
-use Rattle.smk_model.specs.Lineage.{upto, places, has, row_at}
-use Rattle.smk_model.specs.Composed.{table_at}
-use Rattle.smk_model.specs.LineageLaws.{selected_table}
+use Rattle.smk_base.specs.{Places.list_at, declared.book.plan.Agg.Agg, Plans.{Grouping, Expr, Apply}}
+use Rattle.smk_model.specs.{Values.Row, Plain.{row_eq, key_of, firsts, grouped}, Lineage.{upto, places, has, row_at}, Composed.table_at, LineageLaws.selected_table, Growth.is_chain}
 use Rattle.smk_base.proofs.Places.{same_below, places_below, places_false, places_own, has_places, has_passes, has_below, some_member}
-use Rattle.smk_model.proofs.Firsts.{holds, holds_at, firsts_holds}
-use Rattle.smk_model.proofs.Locals.{firsts_apart}
-use Rattle.smk_model.proofs.Classes.{place_in, found_below, key_test}
-use Rattle.smk_model.proofs.Comes.{rows_in, comes}
-use Rattle.smk_model.proofs.Composed.{forwards_by, list_at_by}
-use Rattle.smk_model.specs.Growth.{is_chain}
-use Rattle.smk_marks.specs.Marks.{made, passes}
-use Rattle.smk_marks.specs.MarkLaws.{marks_of}
+use Rattle.smk_model.proofs.{Firsts.{holds, holds_at, firsts_holds}, Locals.firsts_apart, Classes.{place_in, found_below, key_test}, Comes.{rows_in, comes}, Composed.{forwards_by, list_at_by}}
+use Rattle.smk_marks.specs.{Marks.{made, passes}, MarkLaws.marks_of}
 use Rattle.smk_marks.proofs.Chains.{made_from, reaches}
 
 any_has : (f : ℕ → Bool) (A : List ℕ) (i : ℕ) → has A i ≡ true → f i ≡ true → list_any f A ≡ true

@@ -1,36 +1,14 @@
 -- What is made of what is kept of a view.
-use Rattle.std.proofs.Common.{◌≡◌, ◌≤◌, ◌<◌, ◌+◌, ℕ, Bool, true, false, cond, List, [], ◌∷◌, ◌++◌, length, map, get_or, refl, ap, sym, ◌∙◌, subst, arith, Option, Some, None, All, nat_lt}
+use Rattle.std.proofs.{Common.{◌≡◌, ◌≤◌, ◌<◌, ◌+◌, ℕ, Bool, true, false, cond, List, [], ◌∷◌, ◌++◌, length, map, get_or, refl, ap, sym, ◌∙◌, subst, arith, Option, Some, None, All, nat_lt}, lemmas.List.{length-map, length-append, take-append-le, take_all}, lemmas.List.Sums.AllPass-from_list_all}
 use Rattle.std.specs.List.{list_all}
-use Rattle.std.proofs.lemmas.List.{length-map, length-append, take-append-le, take_all}
-use Rattle.std.proofs.lemmas.List.Sums.{AllPass-from_list_all}
-use Rattle.smk_base.specs.PlanImage.{expr_of}
-use Rattle.smk_base.specs.Places.{Lists, list_at, upto}
-use Rattle.smk_base.specs.Plans.{Expr}
-use Rattle.smk_base.specs.Rels.{Relation, kind_in}
-use Rattle.smk_base.specs.declared.book.plan.Agg.{Agg}
-use Rattle.smk_base.specs.declared.value.Kind.{Kind}
+use Rattle.smk_base.specs.{PlanImage.expr_of, Places.{Lists, list_at, upto}, Plans.Expr, Rels.{Relation, kind_in}, declared.book.plan.Agg.Agg, declared.value.Kind.Kind}
 use Rattle.smk_base.specs.declared.value.Kind.TheVariants as kinds
-use Rattle.smk_model.specs.Composed.{rows_over, table_at}
-use Rattle.smk_model.specs.Kinds.{kind_of_agg}
-use Rattle.smk_model.specs.Lineage.{row_at, sub}
-use Rattle.smk_model.specs.LineageLaws.{selected_table}
-use Rattle.smk_model.specs.Plain.{eval, key_of}
-use Rattle.smk_model.specs.Selection.{plan_kinds}
-use Rattle.smk_model.specs.Values.{Row}
-use Rattle.smk_model.proofs.Aggregates.{kind_of_moved, moved_to_own}
-use Rattle.smk_model.proofs.Composed.{lists_stand}
+use Rattle.smk_model.specs.{Composed.{rows_over, table_at}, Kinds.kind_of_agg, Lineage.{row_at, sub}, LineageLaws.selected_table, Plain.{eval, key_of}, Selection.plan_kinds, Values.Row}
+use Rattle.smk_model.proofs.{Aggregates.{kind_of_moved, moved_to_own}, Composed.lists_stand}
 use Rattle.smk_base.proofs.Places.{map_upto_take}
-use Rattle.smk_body.proofs.Aggregating.{map_where}
-use Rattle.smk_body.proofs.Besides.{related}
-use Rattle.smk_marks.specs.Marks.{reads_none, kept, made, mark_row, marked_groups, marks_at}
-use Rattle.smk_marks.specs.MarkLaws.{AreRids, input_at, marks_of}
-use Rattle.smk_marks.specs.KeptLaws.{IsKeptOf, IsReachedBy, KeptMarks}
-use Rattle.smk_marks.specs.Views.{CanGroup, Reads, grouped_by_marks, plan_of, rows_read}
-use Rattle.smk_marks.specs.declared.reached.Reached.{Reached}
-use Rattle.smk_marks.specs.declared.view.KeptView.{KeptView}
-use Rattle.smk_marks.proofs.ByMarks.{group_marks}
-use Rattle.smk_marks.proofs.Counted.{counts_alone, none_read}
-use Rattle.smk_marks.proofs.Marked.{few_kept}
+use Rattle.smk_body.proofs.{Aggregating.map_where, Besides.related}
+use Rattle.smk_marks.specs.{Marks.{reads_none, kept, made, mark_row, marked_groups, marks_at}, MarkLaws.{AreRids, input_at, marks_of}, KeptLaws.{IsKeptOf, IsReachedBy, KeptMarks}, Views.{CanGroup, Reads, grouped_by_marks, plan_of, rows_read}, declared.reached.Reached.Reached, declared.view.KeptView.KeptView}
+use Rattle.smk_marks.proofs.{ByMarks.group_marks, Counted.{counts_alone, none_read}, Marked.few_kept}
 
 -- counts have one kind, and read anything
 

@@ -1,11 +1,8 @@
 -- The rids that reach a mark.
-use Rattle.std.proofs.Common.{◌<◌, ◌≤◌, ℕ, Bool, true, false, cond, List, length, nat_lt, All, arith}
+use Rattle.std.proofs.{Common.{◌<◌, ◌≤◌, ℕ, Bool, true, false, cond, List, length, nat_lt, All, arith}, lemmas.List.Elements.All-filter}
 use Rattle.std.specs.List.{list_all}
-use Rattle.std.proofs.lemmas.List.Elements.{All-filter}
 use Rattle.smk_base.specs.Places.{Lists, list_at}
-use Rattle.smk_marks.specs.Marks.{reads_none, kept}
-use Rattle.smk_marks.specs.Views.{looks_of_reach}
-use Rattle.smk_marks.specs.declared.view.KeptView.{KeptView}
+use Rattle.smk_marks.specs.{Marks.{reads_none, kept}, Views.looks_of_reach, declared.view.KeptView.KeptView}
 use Rattle.smk_marks.proofs.Marked.{few_kept}
 
 pub kept_inside : (m : Lists) (n : ℕ) (S : List ℕ) → All (λ s. s < n) S → All (λ s. s < n) (kept m S)

@@ -1,14 +1,9 @@
 -- What the calls that group by marks have and give.
-use Rattle.std.proofs.Common.{◌≡◌, ℕ, ◌<◌, ◌≤◌, pos, Bool, List, [], ◌∷◌, length, map, take, ◌∙◌, arith, inl, inr}
+use Rattle.std.proofs.{Common.{◌≡◌, ℕ, ◌<◌, ◌≤◌, pos, Bool, List, [], ◌∷◌, length, map, take, ◌∙◌, arith, inl, inr}, lemmas.List.get_or-map, lemmas.Slice.Zip.AllZip-long, lemmas.Bool.cases_Bool}
 use Rattle.std.specs.List.{filter, All}
-use Rattle.std.proofs.lemmas.List.{get_or-map}
-use Rattle.std.proofs.lemmas.Slice.Zip.{AllZip-long}
-use Rattle.std.proofs.lemmas.Bool.{cases_Bool}
-use Rattle.smk_base.specs.Rels.{Fits, RowFits, picked}
-use Rattle.smk_base.specs.declared.value.Kind.{Kind}
+use Rattle.smk_base.specs.{Rels.{Fits, RowFits, picked}, declared.value.Kind.Kind}
 use Rattle.smk_base.specs.declared.value.Value.TheVariants as values
-use Rattle.smk_model.specs.Values.{Row}
-use Rattle.smk_model.specs.Lineage.{upto, row_at, sub}
+use Rattle.smk_model.specs.{Values.Row, Lineage.{upto, row_at, sub}}
 use Rattle.smk_base.proofs.Places.{map_upto_take, upto_below}
 use Rattle.smk_marks.proofs.Classed.{map_below}
 

@@ -1,14 +1,8 @@
 -- No node of a grouping over a chain has more rows than the chain's table.
-use Rattle.std.proofs.Common.{◌≡◌, true, List, [], ◌∷◌, ◌++◌, position, refl, ap, sym, ◌∙◌}
-use Rattle.std.proofs.lemmas.Bool.{false≢true}
+use Rattle.std.proofs.{Common.{◌≡◌, true, List, [], ◌∷◌, ◌++◌, position, refl, ap, sym, ◌∙◌}, lemmas.Bool.false≢true}
 use Rattle.smk_base.specs.Plans.{Unary, Grouping, Expr, Leaf, Apply, Combine}
-use Rattle.smk_model.specs.Values.{Row}
-use Rattle.smk_model.specs.Plain.{eval, step1}
-use Rattle.smk_model.specs.Asks.{chain}
-use Rattle.smk_model.specs.Growth.{is_growing}
-use Rattle.smk_model.specs.Selection.{is_full, node_rows}
-use Rattle.smk_model.proofs.Asks.{chain_more, chains_are_small}
-use Rattle.smk_model.proofs.Thin.{below}
+use Rattle.smk_model.specs.{Values.Row, Plain.{eval, step1}, Asks.chain, Growth.is_growing, Selection.{is_full, node_rows}}
+use Rattle.smk_model.proofs.{Asks.{chain_more, chains_are_small}, Thin.below}
 use Rattle.smk_marks.specs.MarkLaws.{NeverFull}
 
 -- the steps of a growing chain

@@ -1,20 +1,8 @@
 -- What is made of what is kept of a view, and what the view's plan gives.
 use Rattle.std.specs.Prelude.{◌≡◌, ◌≤◌, ℕ, true, List, [], ◌∷◌, length}
-use Rattle.smk_base.specs.PlanImage.{expr_of}
-use Rattle.smk_base.specs.Rels.{Relation}
-use Rattle.smk_base.specs.declared.rel.TheConstants.{ROW_LIMIT}
-use Rattle.smk_model.specs.Composed.{rows_over, table_at}
-use Rattle.smk_model.specs.Lineage.{sub}
-use Rattle.smk_model.specs.LineageLaws.{selected_table}
-use Rattle.smk_model.specs.Plain.{eval}
-use Rattle.smk_model.specs.Selection.{PlanFits, plan_kinds}
-use Rattle.smk_model.specs.Values.{Row}
-use Rattle.smk_model.specs.Growth.{is_chain}
-use Rattle.smk_marks.specs.MarkLaws.{AreRids, marks_of}
-use Rattle.smk_marks.specs.Marks.{marks_at}
-use Rattle.smk_marks.specs.Views.{CanGroup, grouped_by_marks, plan_of, rows_reached}
-use Rattle.smk_marks.specs.declared.reached.Reached.{Reached}
-use Rattle.smk_marks.specs.declared.view.KeptView.{KeptView}
+use Rattle.smk_base.specs.{PlanImage.expr_of, Rels.Relation, declared.rel.TheConstants.ROW_LIMIT}
+use Rattle.smk_model.specs.{Composed.{rows_over, table_at}, Lineage.sub, LineageLaws.selected_table, Plain.eval, Selection.{PlanFits, plan_kinds}, Values.Row, Growth.is_chain}
+use Rattle.smk_marks.specs.{MarkLaws.{AreRids, marks_of}, Marks.marks_at, Views.{CanGroup, grouped_by_marks, plan_of, rows_reached}, declared.reached.Reached.Reached, declared.view.KeptView.KeptView}
 
 -- what is kept of a view is what it gives of these tables, the chain's one among them
 pub record IsKeptOf (view : KeptView) (table : Relation) (tables : List (List Row)) : Type 0 where

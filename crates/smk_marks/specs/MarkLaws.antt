@@ -1,24 +1,8 @@
 -- Laws of groups by marks: of a grouping over a chain, the forward lists of its first content say which rows of its table pass and which of them have equal keys.
-use Rattle.std.specs.Prelude.{◌≡◌, ℕ, pos, ◌<◌, nat_eq, true, List, [], ◌∷◌, ◌≤◌, length, map, All, None, Some}
-use Rattle.std.specs.List.{filter, list_all}
-use Rattle.smk_base.specs.Places.{Lists}
-use Rattle.smk_base.specs.declared.book.plan.Agg.{Agg}
-use Rattle.smk_base.specs.declared.list.table_rids.Pick.{Pick}
-use Rattle.smk_base.specs.declared.book.plan.Agg.TheVariants.{Count, Sum}
-use Rattle.smk_base.specs.declared.book.plan.CmpOp.TheVariants.{Ne}
-use Rattle.smk_base.specs.declared.book.plan.Operand.TheVariants.{Lit}
-use Rattle.smk_base.specs.declared.value.Value.{Value}
-use Rattle.smk_base.specs.declared.value.Value.TheVariants.{Int, Text}
-use Rattle.smk_base.specs.Plans.{Comparison, Selection, Grouping, Expr, Leaf, Apply}
-use Rattle.smk_model.specs.Values.{Row}
-use Rattle.smk_model.specs.Growth.{is_chain}
-use Rattle.smk_model.specs.Plain.{key_of, eval, leaves}
-use Rattle.smk_model.specs.Lineage.{row_at, sub}
-use Rattle.smk_model.specs.Composed.{table_at, rows_over, forwards}
-use Rattle.smk_model.specs.LineageLaws.{selected_table}
-use Rattle.smk_model.specs.Selection.{picked, over, first_full, row_limit}
-use Rattle.smk_keys.specs.Classes.{classes_of, classing_of}
-use Rattle.smk_keys.specs.Numbers.{AreNumbers}
+use Rattle.std.specs.{Prelude.{◌≡◌, ℕ, pos, ◌<◌, nat_eq, true, List, [], ◌∷◌, ◌≤◌, length, map, All, None, Some}, List.{filter, list_all}}
+use Rattle.smk_base.specs.{Places.Lists, declared.book.plan.Agg.Agg, declared.list.table_rids.Pick.Pick, declared.book.plan.Agg.TheVariants.{Count, Sum}, declared.book.plan.CmpOp.TheVariants.Ne, declared.book.plan.Operand.TheVariants.Lit, declared.value.Value.Value, declared.value.Value.TheVariants.{Int, Text}, Plans.{Comparison, Selection, Grouping, Expr, Leaf, Apply}}
+use Rattle.smk_model.specs.{Values.Row, Growth.is_chain, Plain.{key_of, eval, leaves}, Lineage.{row_at, sub}, Composed.{table_at, rows_over, forwards}, LineageLaws.selected_table, Selection.{picked, over, first_full, row_limit}}
+use Rattle.smk_keys.specs.{Classes.{classes_of, classing_of}, Numbers.AreNumbers}
 use Rattle.smk_marks.specs.Marks.{reads_none, made, passes, kept, marks_at, marked_groups}
 
 -- a chain is one selection, and one image of each row that is left

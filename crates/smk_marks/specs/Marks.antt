@@ -1,14 +1,7 @@
 -- Groups of selected rows by the marks that the rows reach: which rows a chain keeps, what it makes of each, and the grouping of what it makes by marks in place of keys.
-use Rattle.std.specs.Prelude.{ℕ, pos, Bool, ◌&&◌, true, is_none, nat_eq, nat_lt, List, [], ◌∷◌, ◌++◌, length, map, take, slice_index_or}
-use Rattle.std.specs.List.{flat_map, filter}
-use Rattle.smk_base.specs.Aggregates.{read_by}
-use Rattle.smk_base.specs.Places.{Lists, list_at, places}
-use Rattle.smk_base.specs.declared.value.Value.TheVariants.{Int}
-use Rattle.smk_base.specs.declared.book.plan.Agg.{Agg}
-use Rattle.smk_base.specs.Plans.{Selection, Projection, Expr, Leaf, Apply, Combine}
-use Rattle.smk_model.specs.Values.{Row, meets}
-use Rattle.smk_model.specs.Plain.{image, aggregate}
-use Rattle.smk_model.specs.Lineage.{row_at, sub}
+use Rattle.std.specs.{Prelude.{ℕ, pos, Bool, ◌&&◌, true, is_none, nat_eq, nat_lt, List, [], ◌∷◌, ◌++◌, length, map, take, slice_index_or}, List.{flat_map, filter}}
+use Rattle.smk_base.specs.{Aggregates.read_by, Places.{Lists, list_at, places}, declared.value.Value.TheVariants.Int, declared.book.plan.Agg.Agg, Plans.{Selection, Projection, Expr, Leaf, Apply, Combine}}
+use Rattle.smk_model.specs.{Values.{Row, meets}, Plain.{image, aggregate}, Lineage.{row_at, sub}}
 use Rattle.smk_keys.specs.Classes.{first_items}
 
 -- what the projections of a chain make of a row

@@ -1,24 +1,8 @@
 -- What is kept of a view that is a grouping over a chain, and the groups that are made of what chosen rows of its table reach.
-use Rattle.std.specs.Prelude.{◌≡◌, ◌<◌, ◌≤◌, ◌+◌, ℕ, Bool, true, false, cond, List, [], ◌∷◌, ◌++◌, length, map, Option, Some, None, All}
-use Rattle.std.specs.List.{list_all}
-use Rattle.smk_base.specs.Aggregates.{read_by}
-use Rattle.smk_base.specs.PlanImage.{expr_of}
-use Rattle.smk_base.specs.Places.{upto}
-use Rattle.smk_base.specs.Plans.{Grouping, Expr, Apply}
-use Rattle.smk_base.specs.Rels.{Relation, kind_in}
-use Rattle.smk_base.specs.declared.book.plan.Agg.{Agg}
-use Rattle.smk_base.specs.declared.rel.TheConstants.{ROW_LIMIT}
-use Rattle.smk_base.specs.declared.value.Kind.{Kind}
-use Rattle.smk_base.specs.declared.value.Kind.TheVariants.{Int}
-use Rattle.smk_model.specs.Growth.{is_chain}
-use Rattle.smk_model.specs.Kinds.{AggFits, kind_of_agg}
-use Rattle.smk_model.specs.Lineage.{sub}
-use Rattle.smk_model.specs.Selection.{PlanFits, plan_kinds}
-use Rattle.smk_model.specs.Values.{value_at}
-use Rattle.smk_marks.specs.Marks.{reads_none, kept, made, mark_row, marked_groups}
-use Rattle.smk_marks.specs.declared.reached.Reached.{Reached}
-use Rattle.smk_marks.specs.declared.view.GroupedChain.{GroupedChain}
-use Rattle.smk_marks.specs.declared.view.KeptView.{KeptView}
+use Rattle.std.specs.{Prelude.{◌≡◌, ◌<◌, ◌≤◌, ◌+◌, ℕ, Bool, true, false, cond, List, [], ◌∷◌, ◌++◌, length, map, Option, Some, None, All}, List.list_all}
+use Rattle.smk_base.specs.{Aggregates.read_by, PlanImage.expr_of, Places.upto, Plans.{Grouping, Expr, Apply}, Rels.{Relation, kind_in}, declared.book.plan.Agg.Agg, declared.rel.TheConstants.ROW_LIMIT, declared.value.Kind.Kind, declared.value.Kind.TheVariants.Int}
+use Rattle.smk_model.specs.{Growth.is_chain, Kinds.{AggFits, kind_of_agg}, Lineage.sub, Selection.{PlanFits, plan_kinds}, Values.value_at}
+use Rattle.smk_marks.specs.{Marks.{reads_none, kept, made, mark_row, marked_groups}, declared.reached.Reached.Reached, declared.view.GroupedChain.GroupedChain, declared.view.KeptView.KeptView}
 
 -- a grouping over a chain, as a plan
 abbrev pub plan_of : GroupedChain → Expr

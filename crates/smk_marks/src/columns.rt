@@ -1,13 +1,8 @@
 ghost use Rattle.std.specs.Prelude.{◌≡◌, ◌≢◌, ◌<◌, ◌≤◌, ◌≤ℤ◌, [], ◌∷◌, pos, true, All, IfOk, length, map, nat_eq, take, slice_index_or};
-ghost use Rattle.smk_base.specs.PlanImage.{expr_of};
-ghost use Rattle.smk_base.specs.Places.{upto};
-ghost use Rattle.smk_base.specs.Rels.{bin_of, kind_in, value_in};
-ghost use Rattle.smk_base.specs.declared.rel.TheConstants.{ROW_LIMIT};
+ghost use Rattle.smk_base.specs.{PlanImage.expr_of, Places.upto, Rels.{bin_of, kind_in, value_in}, declared.rel.TheConstants.ROW_LIMIT};
 ghost use Rattle.smk_base.specs.declared.value.Kind.TheVariants as kinds;
 ghost use Rattle.smk_keys.specs.Classes.{classing_of};
-ghost use Rattle.smk_model.specs.Growth.{is_chain};
-ghost use Rattle.smk_model.specs.Lineage.{row_at};
-ghost use Rattle.smk_model.specs.Selection.{PlanFits, plan_kinds};
+ghost use Rattle.smk_model.specs.{Growth.is_chain, Lineage.row_at, Selection.{PlanFits, plan_kinds}};
 ghost use Rattle.smk_marks.specs.Views.{chain_values};
 
 use smk_base::{Item, Op1, Plan, Rel, numbers_below};

@@ -1,13 +1,8 @@
 ghost use Rattle.std.specs.Prelude.{◌≡◌, ℕ, ◌<◌, ◌≤◌, ◌+◌, [], ◌∷◌, true, All, IfOk, Some, length, map};
-ghost use Rattle.smk_base.specs.Aggregates.{read_by};
-ghost use Rattle.smk_base.specs.PlanImage.{expr_of};
-ghost use Rattle.smk_base.specs.declared.rel.TheConstants.{ROW_LIMIT};
+ghost use Rattle.smk_base.specs.{Aggregates.read_by, PlanImage.expr_of, declared.rel.TheConstants.ROW_LIMIT};
 ghost use Rattle.smk_body.specs.Halves.{AreNumbered, class_values};
-ghost use Rattle.smk_model.specs.Growth.{is_chain};
-ghost use Rattle.smk_model.specs.Kinds.{kind_of_agg};
-ghost use Rattle.smk_model.specs.Selection.{plan_kinds};
-ghost use Rattle.smk_marks.specs.Marks.{made};
-ghost use Rattle.smk_marks.specs.Views.{CanGroup, Reads, chain_values, groups_of, grouped_by_marks};
+ghost use Rattle.smk_model.specs.{Growth.is_chain, Kinds.kind_of_agg, Selection.plan_kinds};
+ghost use Rattle.smk_marks.specs.{Marks.made, Views.{CanGroup, Reads, chain_values, groups_of, grouped_by_marks}};
 
 use crate::columns::{chain_column, keys_at, mark_classes};
 use crate::reached::Reached;

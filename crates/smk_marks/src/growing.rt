@@ -1,7 +1,6 @@
 ghost use Rattle.std.specs.Prelude.{◌≡◌};
 ghost use Rattle.smk_base.specs.PlanImage.{expr_of};
-ghost use Rattle.smk_model.specs.LineageLaws.{selected_table};
-ghost use Rattle.smk_model.specs.Growth.{is_chain, is_growing};
+ghost use Rattle.smk_model.specs.{LineageLaws.selected_table, Growth.{is_chain, is_growing}};
 
 use smk_base::{Op1, Plan};
 

@@ -1,5 +1,4 @@
-ghost use Rattle.smk_marks.specs.KeptLaws.{KeptMarks};
-ghost use Rattle.smk_marks.specs.MarkLaws.{ChainPicks, CountsAlone, ExampleMarks, GroupMarks, NeverFull};
+ghost use Rattle.smk_marks.specs.{KeptLaws.KeptMarks, MarkLaws.{ChainPicks, CountsAlone, ExampleMarks, GroupMarks, NeverFull}};
 
 /// A chain of selections and projections over a scan is one selection, and one image of each row that is left.
 #[tactic(auto, using(crate::proofs::Chains::chain_picks))]

@@ -1,9 +1,7 @@
-ghost use Rattle.std.specs.Prelude.{◌≡◌, ◌<◌, ◌≤◌, ◌+◌, ◌++◌, All, IfOk, OnOk, Some, length};
-ghost use Rattle.std.specs.List.{list_all};
+ghost use Rattle.std.specs.{Prelude.{◌≡◌, ◌<◌, ◌≤◌, ◌+◌, ◌++◌, All, IfOk, OnOk, Some, length}, List.list_all};
 ghost use Rattle.smk_base.specs.declared.rel.TheConstants.{ROW_LIMIT};
 ghost use Rattle.smk_model.specs.Lineage.{sub};
-ghost use Rattle.smk_marks.specs.Marks.{reads_none, kept, marks_at};
-ghost use Rattle.smk_marks.specs.Views.{looks_of_reach, rows_reached};
+ghost use Rattle.smk_marks.specs.{Marks.{reads_none, kept, marks_at}, Views.{looks_of_reach, rows_reached}};
 
 use crate::view::KeptView;
 use smk_base::{Agg, Rids};

@@ -1,31 +1,11 @@
 -- What is proved of each aggregate: over another column of other rows that has the values of its own, and over the aggregates of parts.
-use Rattle.std.proofs.Common.{◌≡◌, ◌∙◌, ◌<◌, ◌+◌, ℕ, zero, suc, ℤ, pos, ◌+ℤ◌, Bool, true, false, cond, Some, List, [], ◌∷◌, length, map, refl, sym, ap, subst, arith, All, inl, inr}
-use Rattle.std.specs.List.{flat_map, fold}
-use Rattle.std.specs.declared.cmp.Ordering.{Ordering}
-use Rattle.std.specs.declared.cmp.Ordering.TheVariants.{Less}
-use Rattle.std.specs.Ordering.{is_lt, is_gt, ordering_reverse}
-use Rattle.std.proofs.lemmas.Bool.{cases_Bool, false≢true}
-use Rattle.std.proofs.lemmas.Cmp.{upto as above_upto}
-use Rattle.std.proofs.lemmas.Int.{ints}
-use Rattle.std.proofs.lemmas.List.Sums.{fold-append}
-use Rattle.std.proofs.lemmas.List.{length-append, length-map, map-append}
-use Rattle.std.proofs.lemmas.Option.{none-some}
-use Rattle.std.proofs.Props.{props}
-use Rattle.smk_base.specs.Aggregates.{moved_to, over_parts, read_by}
-use Rattle.smk_base.specs.Rels.{kind_in}
-use Rattle.smk_base.specs.declared.book.plan.Agg.{Agg}
-use Rattle.smk_base.specs.declared.book.plan.Agg.TheVariants.{Count, Sum, Min, Max}
-use Rattle.smk_base.specs.declared.value.Kind.{Kind}
-use Rattle.smk_base.specs.declared.value.Kind.TheVariants.{Int, Text}
-use Rattle.smk_base.specs.declared.value.Value.{Value}
+use Rattle.std.proofs.{Common.{◌≡◌, ◌∙◌, ◌<◌, ◌+◌, ℕ, zero, suc, ℤ, pos, ◌+ℤ◌, Bool, true, false, cond, Some, List, [], ◌∷◌, length, map, refl, sym, ap, subst, arith, All, inl, inr}, lemmas.Bool.{cases_Bool, false≢true}, lemmas.Cmp.upto as above_upto, lemmas.Int.ints, lemmas.List.Sums.fold-append, lemmas.List.{length-append, length-map, map-append}, lemmas.Option.none-some, Props.props}
+use Rattle.std.specs.{List.{flat_map, fold}, declared.cmp.Ordering.Ordering, declared.cmp.Ordering.TheVariants.Less, Ordering.{is_lt, is_gt, ordering_reverse}}
+use Rattle.smk_base.specs.{Aggregates.{moved_to, over_parts, read_by}, Rels.kind_in, declared.book.plan.Agg.Agg, declared.book.plan.Agg.TheVariants.{Count, Sum, Min, Max}, declared.value.Kind.Kind, declared.value.Kind.TheVariants.{Int, Text}, declared.value.Value.Value}
 use Rattle.smk_base.specs.declared.value.Value.TheVariants as values
-use Rattle.smk_model.specs.Kinds.{AggFits, IsSummed, kind_of_agg, summed}
-use Rattle.smk_model.specs.Plain.{aggregate, combined, greater, lesser, number_of, total}
-use Rattle.smk_model.specs.Tables.{IsBase}
-use Rattle.smk_model.specs.Values.{Row, value_at, value_cmp}
-use Rattle.smk_model.proofs.Parts.{map_agree}
+use Rattle.smk_model.specs.{Kinds.{AggFits, IsSummed, kind_of_agg, summed}, Plain.{aggregate, combined, greater, lesser, number_of, total}, Tables.IsBase, Values.{Row, value_at, value_cmp}}
+use Rattle.smk_model.proofs.{Parts.map_agree, Spread.value_order}
 use Rattle.smk_base.proofs.Places.{map_map}
-use Rattle.smk_model.proofs.Spread.{value_order}
 
 -- over its own column it is itself
 pub moved_to_own : (agg : Agg) (place : ℕ) → ((c : ℕ) → read_by agg ≡ Some c → place ≡ c) → moved_to place agg ≡ agg

@@ -1,18 +1,10 @@
 -- The annotated meaning: its rows are the plain rows, and its sets are those of one step after the other.
-use Rattle.std.proofs.Common.{◌≡◌, ℕ, suc, ◌+◌, ◌<◌, Bool, false, List, [], ◌∷◌, ◌++◌, length, map, refl, ap, sym, ◌∙◌, subst, arith, get_or, ◌&&◌, ◌||◌, nat_eq, nat_lt, inl, inr}
+use Rattle.std.proofs.{Common.{◌≡◌, ℕ, suc, ◌+◌, ◌<◌, Bool, false, List, [], ◌∷◌, ◌++◌, length, map, refl, ap, sym, ◌∙◌, subst, arith, get_or, ◌&&◌, ◌||◌, nat_eq, nat_lt, inl, inr}, lemmas.List.{map-append, length-map, map-id, get_or_append_left, get_or-append_right, get_or-map}, lemmas.List.Elements.filter_agree, lemmas.Bool.{cases_Bool, ltb-true, ltb-false}}
 use Rattle.std.specs.List.{list_any, flat_map, filter}
-use Rattle.std.proofs.lemmas.List.{map-append, length-map, map-id, get_or_append_left, get_or-append_right, get_or-map}
-use Rattle.std.proofs.lemmas.List.Elements.{filter_agree}
-use Rattle.std.proofs.lemmas.Bool.{cases_Bool, ltb-true, ltb-false}
 use Rattle.smk_base.specs.Plans.{Formula, Unary, Selection, Projection, Distinction, Grouping, Binary, Equijoin, ThetaJoin, CrossProduct, BagUnion, SetUnion, Expr, Leaf, Apply, Combine}
-use Rattle.smk_model.specs.Values.{Row, meets}
-use Rattle.smk_model.specs.Plain.{row_eq, image, key_of, firsts, grouped, agree, meets_together, always, nested, step1, step2, width, eval_from}
-use Rattle.smk_model.specs.Lineage.{upto, places, row_at, matching, match_at, from1, from_left, from_right}
-use Rattle.smk_model.specs.Annotated.{Marked, no_mark, mark_at, rows_of, both, gathered, nested_marks, ann1, ann2, ann_from}
-use Rattle.smk_model.specs.LineageLaws.{RowsAgree, united, StepByStep}
-use Rattle.smk_base.proofs.Texts.{list_any-map}
+use Rattle.smk_model.specs.{Values.{Row, meets}, Plain.{row_eq, image, key_of, firsts, grouped, agree, meets_together, always, nested, step1, step2, width, eval_from}, Lineage.{upto, places, row_at, matching, match_at, from1, from_left, from_right}, Annotated.{Marked, no_mark, mark_at, rows_of, both, gathered, nested_marks, ann1, ann2, ann_from}, LineageLaws.{RowsAgree, united, StepByStep}}
+use Rattle.smk_base.proofs.{Texts.list_any-map, Places.{filter_map, map_map, map_flat_map, flat_map_map, flat_map_agree, map_upto, at_places}}
 use Rattle.smk_model.proofs.Anys.{or_false}
-use Rattle.smk_base.proofs.Places.{filter_map, map_map, map_flat_map, flat_map_map, flat_map_agree, map_upto, at_places}
 
 -- rows
 

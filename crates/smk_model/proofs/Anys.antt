@@ -1,7 +1,6 @@
 -- Whether any member passes: tests that agree, and tests put together.
-use Rattle.std.proofs.Common.{◌≡◌, ℕ, suc, ◌<◌, Bool, true, false, List, [], ◌∷◌, refl, ap, ◌∙◌, arith, ◌&&◌, ◌||◌, nat_eq}
+use Rattle.std.proofs.{Common.{◌≡◌, ℕ, suc, ◌<◌, Bool, true, false, List, [], ◌∷◌, refl, ap, ◌∙◌, arith, ◌&&◌, ◌||◌, nat_eq}, lemmas.Bool.{eq-eqb, or_left, or_right}}
 use Rattle.std.specs.List.{list_any, All}
-use Rattle.std.proofs.lemmas.Bool.{eq-eqb, or_left, or_right}
 use Rattle.smk_model.specs.Lineage.{has}
 
 pub any_same : {X : Type 0} (f g : X → Bool) (A : List X) → ((x : X) → f x ≡ g x) → list_any f A ≡ list_any g A

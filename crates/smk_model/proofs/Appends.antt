@@ -1,26 +1,8 @@
 -- Answers to `append` lines: what they name stands in the catalog, and what they leave.
-use Rattle.std.specs.Prelude.{cond, Option, Some, None, option_map, IfSome}
-use Rattle.std.specs.Option.{option_or}
-use Rattle.std.specs.List.{All, find}
-use Rattle.std.proofs.Common.{◌≡◌, ◌<◌, ◌+◌, ℕ, Bool, true, false, List, [], ◌∷◌, length, map, drop, refl}
-use Rattle.std.proofs.lemmas.List.Elements.{All-map, All-filter, All-head, All-tail}
-use Rattle.smk_base.specs.CatalogImage.{CatalogImage, table_place}
-use Rattle.smk_base.specs.Needs.{is_needed}
-use Rattle.smk_base.specs.Places.{upto}
-use Rattle.smk_base.specs.Plans.{Expr, Leaf, Apply, Combine}
-use Rattle.smk_base.specs.declared.book.need.Needed.{Needed}
-use Rattle.smk_base.specs.declared.reply.AppendRefusal.{AppendRefusal}
-use Rattle.smk_base.specs.declared.reply.AppendRefusal.TheVariants.{TableRows}
-use Rattle.smk_model.specs.Values.{Row}
-use Rattle.smk_model.specs.Plain.{eval, width}
-use Rattle.smk_model.specs.Selection.{is_full, nodes}
-use Rattle.smk_model.specs.NodeFaults.{NodeFault, FullRows, FullPairs, AskedTable, asked_of, is_crowded, last_node_fault, first_fault_from}
-use Rattle.smk_model.specs.Opening.{ViewFault, fault_of_view, view_fault, first_some}
-use Rattle.smk_model.specs.Session.{Workbook, State, view_at, first_state}
-use Rattle.smk_model.specs.Workload.{needs, needed_at}
-use Rattle.smk_model.specs.Appends.{Turn, longer_book, scans, scanning, longer_fault, refusal_at, refusal_of, refused_turn, turn_unless, is_too_long, turn_at, is_append_refused}
-use Rattle.smk_model.specs.AppendTexts.{IsAppendReply}
-use Rattle.smk_model.specs.AppendLaws.{AppendsFit, RefusedAppendsStay, AppendsBeginAnew}
+use Rattle.std.specs.{Prelude.{cond, Option, Some, None, option_map, IfSome}, Option.option_or, List.{All, find}}
+use Rattle.std.proofs.{Common.{◌≡◌, ◌<◌, ◌+◌, ℕ, Bool, true, false, List, [], ◌∷◌, length, map, drop, refl}, lemmas.List.Elements.{All-map, All-filter, All-head, All-tail}}
+use Rattle.smk_base.specs.{CatalogImage.{CatalogImage, table_place}, Needs.is_needed, Places.upto, Plans.{Expr, Leaf, Apply, Combine}, declared.book.need.Needed.Needed, declared.reply.AppendRefusal.AppendRefusal, declared.reply.AppendRefusal.TheVariants.TableRows}
+use Rattle.smk_model.specs.{Values.Row, Plain.{eval, width}, Selection.{is_full, nodes}, NodeFaults.{NodeFault, FullRows, FullPairs, AskedTable, asked_of, is_crowded, last_node_fault, first_fault_from}, Opening.{ViewFault, fault_of_view, view_fault, first_some}, Session.{Workbook, State, view_at, first_state}, Workload.{needs, needed_at}, Appends.{Turn, longer_book, scans, scanning, longer_fault, refusal_at, refusal_of, refused_turn, turn_unless, is_too_long, turn_at, is_append_refused}, AppendTexts.IsAppendReply, AppendLaws.{AppendsFit, RefusedAppendsStay, AppendsBeginAnew}}
 use Rattle.smk_base.proofs.Places.{upto_below, places_below}
 
 -- what holds of the value of both of two options holds of that of the first that has one

@@ -1,15 +1,8 @@
 -- Chains of steps with one input over one list of rows.
-use Rattle.std.proofs.Common.{◌≡◌, ◌+◌, ◌≤◌, ℕ, true, List, [], ◌∷◌, ◌++◌, length, get_or, Option, Some, None, position, refl, arith, All}
+use Rattle.std.proofs.{Common.{◌≡◌, ◌+◌, ◌≤◌, ℕ, true, List, [], ◌∷◌, ◌++◌, length, get_or, Option, Some, None, position, refl, arith, All}, lemmas.Bool.Decides.nat_tests, lemmas.List.Elements.{All-push, All-nil}, lemmas.List.Quantifiers.position-Some}
 use Rattle.std.specs.Prelude.{nat_lt}
-use Rattle.std.proofs.lemmas.Bool.Decides.{nat_tests}
-use Rattle.std.proofs.lemmas.List.Elements.{All-push, All-nil}
-use Rattle.std.proofs.lemmas.List.Quantifiers.{position-Some}
 use Rattle.smk_base.specs.Plans.{Unary, Expr, Leaf, Apply}
-use Rattle.smk_model.specs.Values.{Row}
-use Rattle.smk_model.specs.Plain.{eval, width}
-use Rattle.smk_model.specs.Asks.{chain, chain_onto}
-use Rattle.smk_model.specs.AskLaws.{ChainsAddNoRows, ChainsAreSmall}
-use Rattle.smk_model.specs.Selection.{is_full, node_rows, nodes, row_limit}
+use Rattle.smk_model.specs.{Values.Row, Plain.{eval, width}, Asks.{chain, chain_onto}, AskLaws.{ChainsAddNoRows, ChainsAreSmall}, Selection.{is_full, node_rows, nodes, row_limit}}
 use Rattle.smk_model.proofs.Sizes.{adds_no_rows}
 
 -- lists of at most n rows

@@ -1,33 +1,11 @@
 -- An answer to an `ask` line is one to its line.
 use Rattle.std.specs.Prelude.{◌≡◌, ◌<◌, ◌≤◌, ℕ, List, [], length, Some, Ok, Err}
-use Rattle.std.proofs.Common.{◌∙◌, refl, sym, subst, arith}
-use Rattle.std.proofs.lemmas.List.{length-map}
-use Rattle.std.proofs.lemmas.List.Quantifiers.{position-Some}
-use Rattle.smk_base.specs.CatalogImage.{CatalogImage, table_place}
-use Rattle.smk_base.specs.Trees.{AskImage, AskStepImage}
-use Rattle.smk_base.specs.declared.book.catalog.Column.{Column}
-use Rattle.smk_base.specs.declared.book.catalog.TableInfo.{TableInfo}
-use Rattle.smk_base.specs.declared.reply.Refusal.{Refusal}
-use Rattle.smk_base.specs.declared.reply.Refusal.TheVariants.{Undeclared}
-use Rattle.smk_base.specs.declared.reply.Reply.{Reply}
+use Rattle.std.proofs.{Common.{◌∙◌, refl, sym, subst, arith}, lemmas.List.length-map, lemmas.List.Quantifiers.position-Some}
+use Rattle.smk_base.specs.{CatalogImage.{CatalogImage, table_place}, Trees.{AskImage, AskStepImage}, declared.book.catalog.Column.Column, declared.book.catalog.TableInfo.TableInfo, declared.reply.Refusal.Refusal, declared.reply.Refusal.TheVariants.Undeclared, declared.reply.Reply.Reply, declared.rel.TheConstants.COLUMN_LIMIT}
 use Rattle.smk_base.specs.declared.reply.Reply.TheVariants as replies
 use Rattle.smk_base.specs.declared.book.tree.Then.TheVariants as thens
-use Rattle.smk_base.specs.declared.rel.TheConstants.{COLUMN_LIMIT}
-use Rattle.smk_model.specs.Values.{Row}
-use Rattle.smk_model.specs.Asks.{AskPlan, ask_over, asked_plan, back_line, columns_named, scan_of, step_after, steps_reply, typed_steps}
-use Rattle.smk_model.specs.AskLaws.{AskedBacksFit, AsksFit}
-use Rattle.smk_model.specs.AskTexts.{AreBackRows, IsAskReplyTo, IsBackReply}
-use Rattle.smk_model.specs.Catalogs.{IsCatalog}
-use Rattle.smk_model.specs.Names.{Typed, ◌>>=◌, in_turn, same_name}
-use Rattle.smk_model.specs.Replies.{Asked, named_back, or_refused, reply, rids_of, rows_at_rids, staying, known_pair}
-use Rattle.smk_model.specs.ReplyTexts.{IsRefusalOf}
-use Rattle.smk_model.specs.Session.{State}
-use Rattle.smk_model.specs.TypedSteps.{TypedPlan}
-use Rattle.smk_model.specs.Typing.{column_of, info_at, no_table, nothing_declared}
-use Rattle.smk_model.specs.Workload.{declares_back}
-use Rattle.smk_model.proofs.Replies.{reply_to, staying_told}
-use Rattle.smk_model.proofs.RepliesFit.{Fares, IsPair, next_fares, outside_fares, pair_fares, provided_fares, table_found}
-use Rattle.smk_model.proofs.Saying.{Says, step_says, turn_says}
+use Rattle.smk_model.specs.{Values.Row, Asks.{AskPlan, ask_over, asked_plan, back_line, columns_named, scan_of, step_after, steps_reply, typed_steps}, AskLaws.{AskedBacksFit, AsksFit}, AskTexts.{AreBackRows, IsAskReplyTo, IsBackReply}, Catalogs.IsCatalog, Names.{Typed, ◌>>=◌, in_turn, same_name}, Replies.{Asked, named_back, or_refused, reply, rids_of, rows_at_rids, staying, known_pair}, ReplyTexts.IsRefusalOf, Session.State, TypedSteps.TypedPlan, Typing.{column_of, info_at, no_table, nothing_declared}, Workload.declares_back}
+use Rattle.smk_model.proofs.{Replies.{reply_to, staying_told}, RepliesFit.{Fares, IsPair, next_fares, outside_fares, pair_fares, provided_fares, table_found}, Saying.{Says, step_says, turn_says}}
 
 -- the rows at rids of a table that stands where its name is placed
 rows_stand : (catalog : CatalogImage) (state : State) (asked : AskImage) (t : ℕ) (rids : List ℕ) → IsCatalog catalog → table_place catalog asked.table ≡ Some t → AreBackRows catalog asked (rows_at_rids catalog state t rids)

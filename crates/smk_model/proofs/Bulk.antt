@@ -1,19 +1,10 @@
 -- Steps from rows that are gathered in bulk.
-use Rattle.std.proofs.Common.{◌≡◌, ◌∙◌, ◌<◌, ◌+◌, ℕ, suc, nat_eq, get_or, List, [], ◌∷◌, ◌++◌, length, map, refl, sym, ap, subst, arith, pos, All}
+use Rattle.std.proofs.{Common.{◌≡◌, ◌∙◌, ◌<◌, ◌+◌, ℕ, suc, nat_eq, get_or, List, [], ◌∷◌, ◌++◌, length, map, refl, sym, ap, subst, arith, pos, All}, lemmas.List.{get_or-map, length-map, map-append, get_or_append_left, get_or-append-add}}
 use Rattle.std.specs.List.{filter}
-use Rattle.std.proofs.lemmas.List.{get_or-map, length-map, map-append, get_or_append_left, get_or-append-add}
-use Rattle.smk_base.specs.Rels.{beside_rows}
-use Rattle.smk_base.specs.declared.value.Value.TheVariants.{Int}
-use Rattle.smk_model.specs.Values.{Row, meets}
-use Rattle.smk_model.specs.Plain.{row_eq, image, key_of, aggregate, firsts, joins}
-use Rattle.smk_model.specs.Lineage.{upto, places, row_at, sub, matching, lefts_of, rights_of}
-use Rattle.smk_model.specs.Classes.{classes, first_places, new_places}
-use Rattle.smk_model.specs.ClassLaws.{Bulk}
+use Rattle.smk_base.specs.{Rels.beside_rows, declared.value.Value.TheVariants.Int}
+use Rattle.smk_model.specs.{Values.{Row, meets}, Plain.{row_eq, image, key_of, aggregate, firsts, joins}, Lineage.{upto, places, row_at, sub, matching, lefts_of, rights_of}, Classes.{classes, first_places, new_places}, ClassLaws.Bulk}
 use Rattle.smk_base.proofs.Places.{at_places, map_map, map_upto, same_below}
-use Rattle.smk_model.proofs.Firsts.{sub_key}
-use Rattle.smk_model.proofs.Parts.{map_agree}
-use Rattle.smk_model.proofs.Locals.{locals_are}
-use Rattle.smk_model.proofs.Classes.{members, first_keys, first_of_two, first_below}
+use Rattle.smk_model.proofs.{Firsts.sub_key, Parts.map_agree, Locals.locals_are, Classes.{members, first_keys, first_of_two, first_below}}
 
 beside_each : (L R : List Row) (P : List (ℕ × ℕ)) → map (λ (p : ℕ × ℕ). row_at L p.0 ++ row_at R p.1) P ≡ beside_rows (sub L (lefts_of P)) (sub R (rights_of P))
 beside_each L R [] = refl

@@ -1,20 +1,9 @@
 -- Classes of keys by first occurrence.
-use Rattle.std.proofs.Common.{◌≡◌, ◌∙◌, ◌<◌, ◌≤◌, ◌+◌, ℕ, suc, zero, Bool, true, false, cond, not, List, [], ◌∷◌, ◌++◌, length, map, take, refl, sym, ap, subst, arith, get_or, nat_eq, inl, inr}
+use Rattle.std.proofs.{Common.{◌≡◌, ◌∙◌, ◌<◌, ◌≤◌, ◌+◌, ℕ, suc, zero, Bool, true, false, cond, not, List, [], ◌∷◌, ◌++◌, length, map, take, refl, sym, ap, subst, arith, get_or, nat_eq, inl, inr}, lemmas.List.{length-map, get_or-map, same_lists, map-append, append-nil, take_all, take_more, length-take-le, get_or_append_left, get_or_default, get_or-append-add, length-append, take-append-le}, Math.Seq.take-append-add, lemmas.List.Sums.passes_at_first, lemmas.List.Elements.filter-append, lemmas.Bool.{cases_Bool, cases_eq, cases_order, or_right, eq-eqb, ne_eqb, false≢true, false_from_ne_true}}
 use Rattle.std.specs.List.{list_any, position_or_len, All}
-use Rattle.std.proofs.lemmas.List.{length-map, get_or-map, same_lists, map-append, append-nil, take_all, take_more, length-take-le, get_or_append_left, get_or_default, get_or-append-add, length-append, take-append-le}
-use Rattle.std.proofs.Math.Seq.{take-append-add}
-use Rattle.std.proofs.lemmas.List.Sums.{passes_at_first}
-use Rattle.std.proofs.lemmas.List.Elements.{filter-append}
-use Rattle.std.proofs.lemmas.Bool.{cases_Bool, cases_eq, cases_order, or_right, eq-eqb, ne_eqb, false≢true, false_from_ne_true}
-use Rattle.smk_model.specs.Values.{Row}
-use Rattle.smk_model.specs.Plain.{row_eq, add_first, firsts}
-use Rattle.smk_model.specs.Lineage.{upto, places, row_at, sub}
-use Rattle.smk_model.specs.Classes.{places_in, classes, first_places, new_places}
-use Rattle.smk_model.specs.ClassLaws.{AreClasses, ClassesAre}
+use Rattle.smk_model.specs.{Values.Row, Plain.{row_eq, add_first, firsts}, Lineage.{upto, places, row_at, sub}, Classes.{places_in, classes, first_places, new_places}, ClassLaws.{AreClasses, ClassesAre}}
 use Rattle.smk_base.proofs.Places.{map_map, same_below, places_below}
-use Rattle.smk_model.proofs.Firsts.{row_same, row_is, row_itself, holds, holds_here, holds_at, firsts_holds, firsts_from, fold_append, add_known}
-use Rattle.smk_model.proofs.Locals.{IsApart, firsts_apart}
-use Rattle.smk_model.proofs.Parts.{places_add}
+use Rattle.smk_model.proofs.{Firsts.{row_same, row_is, row_itself, holds, holds_here, holds_at, firsts_holds, firsts_from, fold_append, add_known}, Locals.{IsApart, firsts_apart}, Parts.places_add}
 
 -- the place of a row among rows that have it
 

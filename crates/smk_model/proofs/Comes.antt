@@ -1,19 +1,10 @@
 -- Lineage over whole tables by the plan's cases, without the numbers of leaves, and that it is the annotated meaning.
-use Rattle.std.proofs.Common.{◌≡◌, ℕ, ◌+◌, ◌<◌, Bool, List, [], ◌++◌, length, refl, ap, sym, ◌∙◌, arith, get_or, ◌&&◌, ◌||◌, nat_eq, inl, inr}
+use Rattle.std.proofs.{Common.{◌≡◌, ℕ, ◌+◌, ◌<◌, Bool, List, [], ◌++◌, length, refl, ap, sym, ◌∙◌, arith, get_or, ◌&&◌, ◌||◌, nat_eq, inl, inr}, lemmas.List.{length-append, get_or_append_left, get_or-append-add, get_or-map}, lemmas.Bool.{cases_Bool, eqb-true}}
 use Rattle.std.specs.List.{list_any}
-use Rattle.std.proofs.lemmas.List.{length-append, get_or_append_left, get_or-append-add, get_or-map}
-use Rattle.std.proofs.lemmas.Bool.{cases_Bool, eqb-true}
 use Rattle.smk_base.specs.Plans.{Binary, Expr, Leaf, Apply, Combine}
-use Rattle.smk_model.specs.Values.{Row}
-use Rattle.smk_model.specs.Plain.{step1, step2, leaves, width, eval_from, whole}
-use Rattle.smk_model.specs.Lineage.{upto, row_at, from1, from_left, from_right}
-use Rattle.smk_model.specs.Annotated.{Marked, no_mark, mark_at, ann_from, reaches, relates}
-use Rattle.smk_model.specs.Composed.{table_at, rows_over}
-use Rattle.smk_model.specs.LineageLaws.{united}
+use Rattle.smk_model.specs.{Values.Row, Plain.{step1, step2, leaves, width, eval_from, whole}, Lineage.{upto, row_at, from1, from_left, from_right}, Annotated.{Marked, no_mark, mark_at, ann_from, reaches, relates}, Composed.{table_at, rows_over}, LineageLaws.united}
 use Rattle.smk_base.proofs.Places.{get_or_map_upto, has_upto, has_below}
-use Rattle.smk_model.proofs.Anys.{and_false, any_same, any_agree, any_and, any_or_and, any_swap}
-use Rattle.smk_model.proofs.Annotated.{step_by_step}
-use Rattle.smk_model.proofs.Ranges.{from1_below, left_below, right_below}
+use Rattle.smk_model.proofs.{Anys.{and_false, any_same, any_agree, any_and, any_or_and, any_swap}, Annotated.step_by_step, Ranges.{from1_below, left_below, right_below}}
 
 -- the rows over whole tables
 abbrev pub rows_in : Expr → List (List Row) → List Row

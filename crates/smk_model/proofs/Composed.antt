@@ -1,25 +1,10 @@
 -- Lists of lineage: composed, merged and inverted, node by node.
-use Rattle.std.proofs.Common.{◌≡◌, ℕ, zero, suc, ◌+◌, ◌<◌, Bool, true, false, List, [], ◌∷◌, ◌++◌, length, map, refl, ap, sym, ◌∙◌, get_or, ◌&&◌, ◌||◌, nat_eq}
-use Rattle.std.proofs.Math.ListN.{replicate}
+use Rattle.std.proofs.{Common.{◌≡◌, ℕ, zero, suc, ◌+◌, ◌<◌, Bool, true, false, List, [], ◌∷◌, ◌++◌, length, map, refl, ap, sym, ◌∙◌, get_or, ◌&&◌, ◌||◌, nat_eq}, Math.ListN.replicate, lemmas.List.{length-map, map-append}, lemmas.List.Elements.All-map, lemmas.List.Folds.list_any_at, lemmas.List.Sums.sum_by-cons, lemmas.Bool.{eqb-true, eq-eqb, false≢true, false_from_ne_true}}
 use Rattle.std.specs.List.{list_any, sum_by, All}
-use Rattle.std.proofs.lemmas.List.{length-map, map-append}
-use Rattle.std.proofs.lemmas.List.Elements.{All-map}
-use Rattle.std.proofs.lemmas.List.Folds.{list_any_at}
-use Rattle.std.proofs.lemmas.List.Sums.{sum_by-cons}
-use Rattle.std.proofs.lemmas.Bool.{eqb-true, eq-eqb, false≢true, false_from_ne_true}
-use Rattle.smk_base.specs.Plans.{Expr, Leaf, Apply, Combine}
-use Rattle.smk_model.specs.Values.{Row}
-use Rattle.smk_model.specs.Plain.{step1, step2, leaves, whole}
-use Rattle.smk_model.specs.Lineage.{upto, places, has, from1, from_left, from_right}
-use Rattle.smk_base.specs.Places.{Lists, IsPlaces, list_at, own_lists, empty_lists, members_at, composed, merged, inverted}
-use Rattle.smk_model.specs.Annotated.{mark_at, ann, reaches, relates}
-use Rattle.smk_model.specs.Locals.{fwd_lists, back1, fwd1, back_left, fwd_left, back_right, fwd_right}
-use Rattle.smk_model.specs.Composed.{table_at, rows_over, backs, forwards}
-use Rattle.smk_model.specs.ComposedLaws.{BacksCompose, ForwardsCompose, ListsStand}
+use Rattle.smk_base.specs.{Plans.{Expr, Leaf, Apply, Combine}, Places.{Lists, IsPlaces, list_at, own_lists, empty_lists, members_at, composed, merged, inverted}}
+use Rattle.smk_model.specs.{Values.Row, Plain.{step1, step2, leaves, whole}, Lineage.{upto, places, has, from1, from_left, from_right}, Annotated.{mark_at, ann, reaches, relates}, Locals.{fwd_lists, back1, fwd1, back_left, fwd_left, back_right, fwd_right}, Composed.{table_at, rows_over, backs, forwards}, ComposedLaws.{BacksCompose, ForwardsCompose, ListsStand}}
 use Rattle.smk_base.proofs.Places.{map_map, same_below, length_upto, get_or_map_upto, map_upto_agree, upto_below, places_below, places_false, places_own, has_places, places_are, nat_eq-sym}
-use Rattle.smk_model.proofs.Anys.{any_same, any_below, any_false, any_swap, or_false}
-use Rattle.smk_model.proofs.Ranges.{from1_below, left_below, right_below}
-use Rattle.smk_model.proofs.Comes.{rows_in, comes, rows_whole, relates_comes}
+use Rattle.smk_model.proofs.{Anys.{any_same, any_below, any_false, any_swap, or_false}, Ranges.{from1_below, left_below, right_below}, Comes.{rows_in, comes, rows_whole, relates_comes}}
 
 -- lists of places by a test of two numbers
 

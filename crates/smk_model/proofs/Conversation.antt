@@ -1,28 +1,10 @@
 -- What a conversation says is what a run writes.
-use Rattle.std.specs.Prelude.{cond, Option, Some, None, option_map, Ok, is_some}
-use Rattle.std.specs.List.{concat, filter, cons_option, scan, flat_map}
-use Rattle.std.proofs.Common.{◌≡◌, ◌+◌, ℕ, Bool, true, false, List, [], ◌∷◌, ◌++◌, map, refl, sym, ap, ◌∙◌, subst, append_assoc, append-nil}
-use Rattle.std.proofs.lemmas.Bool.{false≢true}
+use Rattle.std.specs.{Prelude.{cond, Option, Some, None, option_map, Ok, is_some}, List.{concat, filter, cons_option, scan, flat_map}}
+use Rattle.std.proofs.{Common.{◌≡◌, ◌+◌, ℕ, Bool, true, false, List, [], ◌∷◌, ◌++◌, map, refl, sym, ap, ◌∙◌, subst, append_assoc, append-nil}, lemmas.Bool.false≢true}
 use Rattle.clap.proofs.RemoveLemmas.{find-none}
-use Rattle.smk_base.specs.CatalogImage.{CatalogImage, table_place}
-use Rattle.smk_base.specs.Dicts.{text_eq}
-use Rattle.smk_base.specs.Marks.{after_marks}
-use Rattle.smk_base.specs.Trees.{AppendedLine}
-use Rattle.smk_base.specs.declared.book.catalog.TableInfo.{TableInfo}
-use Rattle.smk_model.specs.Values.{Row}
-use Rattle.smk_model.specs.Appends.{turn_at, append_looks_at}
-use Rattle.smk_model.specs.Conversation.{HeardLine, TalkTurn, Replied, Owned, Unbrought, ReadOnly, Forgone, OwnForgone, TooLong, TalkState, line_of, is_own_turn, text_read, FitsTalk, turn_after, turn_text, turn_block, block_of, opening_text, opening_block, turns_told, readings_of, rows_brought, brings, FilesBring, AreHeard, texts_read}
-use Rattle.smk_model.specs.ConversationLaws.{TalksAsReported}
-use Rattle.smk_model.specs.Lines.{lines}
-use Rattle.smk_model.specs.Outcome.{Held, Inputs, ReadsFiles, inputs, a_script, read, lines_read, file_bytes, appended, appended_at, filed, load_all}
-use Rattle.smk_model.specs.OwnLines.{is_own}
-use Rattle.smk_model.specs.Readings.{Reading, Asks, AreReadings, no_line, one_line}
-use Rattle.smk_model.specs.Reports.{BookSaid, followed_by, turn_answered, line_told, state_after, lines_told, answer_told, brings_rows, next_rows, rows_left, report_of, report_told}
-use Rattle.smk_model.specs.ReplyTexts.{table_named}
-use Rattle.smk_model.specs.Session.{Workbook, State, first_state}
-use Rattle.smk_model.specs.ViewTexts.{text_of_view, views_text}
-use Rattle.smk_model.proofs.OneOutcome.{same_readings}
-use Rattle.smk_model.proofs.RepliesFit.{table_found}
+use Rattle.smk_base.specs.{CatalogImage.{CatalogImage, table_place}, Dicts.text_eq, Marks.after_marks, Trees.AppendedLine, declared.book.catalog.TableInfo.TableInfo}
+use Rattle.smk_model.specs.{Values.Row, Appends.{turn_at, append_looks_at}, Conversation.{HeardLine, TalkTurn, Replied, Owned, Unbrought, ReadOnly, Forgone, OwnForgone, TooLong, TalkState, line_of, is_own_turn, text_read, FitsTalk, turn_after, turn_text, turn_block, block_of, opening_text, opening_block, turns_told, readings_of, rows_brought, brings, FilesBring, AreHeard, texts_read}, ConversationLaws.TalksAsReported, Lines.lines, Outcome.{Held, Inputs, ReadsFiles, inputs, a_script, read, lines_read, file_bytes, appended, appended_at, filed, load_all}, OwnLines.is_own, Readings.{Reading, Asks, AreReadings, no_line, one_line}, Reports.{BookSaid, followed_by, turn_answered, line_told, state_after, lines_told, answer_told, brings_rows, next_rows, rows_left, report_of, report_told}, ReplyTexts.table_named, Session.{Workbook, State, first_state}, ViewTexts.{text_of_view, views_text}}
+use Rattle.smk_model.proofs.{OneOutcome.same_readings, RepliesFit.table_found}
 
 -- the texts of turns, put together
 pub texts_told : (said : BookSaid) (state : TalkState) (turns : List TalkTurn) → concat (scan (turn_after said) (turn_text said) state turns) ≡ (turns_told said state turns).text

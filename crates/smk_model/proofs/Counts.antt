@@ -1,15 +1,8 @@
 -- The number of members of lists, by rows and by columns.
-use Rattle.std.proofs.Common.{◌≡◌, ◌∙◌, ◌+◌, ℕ, zero, suc, Bool, List, [], ◌∷◌, length, map, refl, sym, ap, arith, inl, inr}
+use Rattle.std.proofs.{Common.{◌≡◌, ◌∙◌, ◌+◌, ℕ, zero, suc, Bool, List, [], ◌∷◌, length, map, refl, sym, ap, arith, inl, inr}, lemmas.Bool.cases_Bool, lemmas.List.length-append, lemmas.List.Elements.{filter-append, All-get_or}, lemmas.List.Sums.sum_by_push}
 use Rattle.std.specs.List.{sum_by, filter, All}
-use Rattle.std.proofs.lemmas.Bool.{cases_Bool}
-use Rattle.std.proofs.lemmas.List.{length-append}
-use Rattle.std.proofs.lemmas.List.Elements.{filter-append, All-get_or}
-use Rattle.std.proofs.lemmas.List.Sums.{sum_by_push}
-use Rattle.smk_base.specs.Places.{Lists, upto, places, has, IsPlaces, pairs_of, list_at, inverted}
-use Rattle.smk_base.specs.Plans.{Expr}
-use Rattle.smk_model.specs.Values.{Row}
-use Rattle.smk_model.specs.Composed.{backs, forwards}
-use Rattle.smk_model.specs.DirectionLaws.{PairsForward}
+use Rattle.smk_base.specs.{Places.{Lists, upto, places, has, IsPlaces, pairs_of, list_at, inverted}, Plans.Expr}
+use Rattle.smk_model.specs.{Values.Row, Composed.{backs, forwards}, DirectionLaws.PairsForward}
 use Rattle.smk_base.proofs.Places.{map_upto, map_upto_agree}
 use Rattle.smk_model.proofs.Composed.{lists_by, sum_by_map, lists_stand}
 

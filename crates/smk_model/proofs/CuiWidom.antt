@@ -1,20 +1,10 @@
 -- The places of one step meet the conditions of Cui and Widom.
-use Rattle.std.proofs.Common.{◌≡◌, ◌≢◌, ℕ, suc, ◌+◌, ◌-◌, ◌<◌, ◌≤◌, Bool, true, List, [], ◌∷◌, ◌++◌, length, map, refl, ap, sym, ◌∙◌, subst, arith, get_or, nat_eq, nat_lt, inl, inr}
+use Rattle.std.proofs.{Common.{◌≡◌, ◌≢◌, ℕ, suc, ◌+◌, ◌-◌, ◌<◌, ◌≤◌, Bool, true, List, [], ◌∷◌, ◌++◌, length, map, refl, ap, sym, ◌∙◌, subst, arith, get_or, nat_eq, nat_lt, inl, inr}, lemmas.List.{get_or-map, length-append, length-map, append-nil, get_or_append_left, get_or-append_right, nil_from_length}, lemmas.List.Elements.{filter-append, All-get_or, filter_passes, All-nil, All-append, All-map}, lemmas.Bool.{eq-eqb, cases_Bool, or_left, or_right, false≢true, ltb-true, ltb-false}}
 use Rattle.std.specs.List.{flat_map, filter, All}
-use Rattle.std.proofs.lemmas.List.{get_or-map, length-append, length-map, append-nil, get_or_append_left, get_or-append_right, nil_from_length}
-use Rattle.std.proofs.lemmas.List.Elements.{filter-append, All-get_or, filter_passes, All-nil, All-append, All-map}
-use Rattle.std.proofs.lemmas.Bool.{eq-eqb, cases_Bool, or_left, or_right, false≢true, ltb-true, ltb-false}
-use Rattle.smk_base.specs.declared.book.plan.Item.{Item}
-use Rattle.smk_base.specs.declared.book.plan.Agg.{Agg}
-use Rattle.smk_base.specs.Plans.{Formula, Unary, Selection, Projection, Distinction, Grouping, Binary, Equijoin, ThetaJoin, CrossProduct, BagUnion, SetUnion}
-use Rattle.smk_model.specs.Values.{Row, meets}
-use Rattle.smk_model.specs.Plain.{row_eq, image, key_of, aggregate, firsts, grouped, agree, meets_together, always, nested, step1, step2}
-use Rattle.smk_model.specs.Lineage.{upto, places, has, row_at, sub, matching, match_at, from1, from_left, from_right}
-use Rattle.smk_model.specs.CuiWidom.{CuiWidom1, CuiWidom2}
-use Rattle.smk_model.specs.LineageLaws.{CuiWidom}
+use Rattle.smk_base.specs.{declared.book.plan.Item.Item, declared.book.plan.Agg.Agg, Plans.{Formula, Unary, Selection, Projection, Distinction, Grouping, Binary, Equijoin, ThetaJoin, CrossProduct, BagUnion, SetUnion}}
+use Rattle.smk_model.specs.{Values.{Row, meets}, Plain.{row_eq, image, key_of, aggregate, firsts, grouped, agree, meets_together, always, nested, step1, step2}, Lineage.{upto, places, has, row_at, sub, matching, match_at, from1, from_left, from_right}, CuiWidom.{CuiWidom1, CuiWidom2}, LineageLaws.CuiWidom}
 use Rattle.smk_base.proofs.Places.{at_places, upto_below, places_below, places_are, single, has_single, single_has, one_place, no_place}
-use Rattle.smk_model.proofs.Annotated.{nested_is}
-use Rattle.smk_model.proofs.Firsts.{only_passing, row_same, holds, holds_here, holds_single, holds_place, holds_left, holds_right, holds_some, holds_at, firsts_holds, firsts_from, once, sub_key, keys_once, all_of_key}
+use Rattle.smk_model.proofs.{Annotated.nested_is, Firsts.{only_passing, row_same, holds, holds_here, holds_single, holds_place, holds_left, holds_right, holds_some, holds_at, firsts_holds, firsts_from, once, sub_key, keys_once, all_of_key}}
 
 -- selection
 

@@ -1,24 +1,10 @@
 -- The view of a dependency shows what violates it.
-use Rattle.std.proofs.Common.{◌≡◌, ℕ, ◌+◌, ◌<◌, Bool, true, List, [], ◌∷◌, ◌++◌, length, map, refl, ap, sym, ◌∙◌, ◌&&◌, nat_eq, get_or, arith, inl, inr}
+use Rattle.std.proofs.{Common.{◌≡◌, ℕ, ◌+◌, ◌<◌, Bool, true, List, [], ◌∷◌, ◌++◌, length, map, refl, ap, sym, ◌∙◌, ◌&&◌, nat_eq, get_or, arith, inl, inr}, lemmas.List.{length-map, get_or-map, get_or-append-add}, lemmas.Bool.{cases_Bool, or_right, eq-eqb, false≢true}, lemmas.Cmp.nat_eq_equiv}
 use Rattle.std.specs.List.{list_any, filter}
-use Rattle.std.proofs.lemmas.List.{length-map, get_or-map, get_or-append-add}
-use Rattle.std.proofs.lemmas.Bool.{cases_Bool, or_right, eq-eqb, false≢true}
-use Rattle.std.proofs.lemmas.Cmp.{nat_eq_equiv}
-use Rattle.smk_base.specs.Places.{places, upto}
-use Rattle.smk_base.specs.Plans.{Leaf}
-use Rattle.smk_base.specs.declared.value.Value.{Value}
-use Rattle.smk_model.specs.Values.{Row, value_at, meets}
-use Rattle.smk_model.specs.Plain.{row_eq, key_of, firsts, grouped, eval, lesser, greater, combined}
-use Rattle.smk_model.specs.Lineage.{row_at}
-use Rattle.smk_model.specs.Annotated.{Marked, no_mark, mark_at, rows_of, gathered, scanned, ann, relates, back}
-use Rattle.smk_base.proofs.Places.{filter_map, map_map, same_below, has_places}
-use Rattle.smk_base.proofs.Texts.{list_any-map}
-use Rattle.smk_model.proofs.Anys.{or_false, any_same}
-use Rattle.smk_model.proofs.Annotated.{rows_from}
-use Rattle.smk_model.proofs.Firsts.{holds, holds_here, row_is, firsts_from}
-use Rattle.smk_model.proofs.Spread.{extremes_apart}
-use Rattle.smk_model.specs.Dependencies.{Violation, rids_with, values_with, differ, violated, violations, violation_at, violation_row, no_violation, extremes, extremes_differ, dependency_plan}
-use Rattle.smk_model.specs.DependencyLaws.{DependenciesShown}
+use Rattle.smk_base.specs.{Places.{places, upto}, Plans.Leaf, declared.value.Value.Value}
+use Rattle.smk_model.specs.{Values.{Row, value_at, meets}, Plain.{row_eq, key_of, firsts, grouped, eval, lesser, greater, combined}, Lineage.row_at, Annotated.{Marked, no_mark, mark_at, rows_of, gathered, scanned, ann, relates, back}, Dependencies.{Violation, rids_with, values_with, differ, violated, violations, violation_at, violation_row, no_violation, extremes, extremes_differ, dependency_plan}, DependencyLaws.DependenciesShown}
+use Rattle.smk_base.proofs.{Places.{filter_map, map_map, same_below, has_places}, Texts.list_any-map}
+use Rattle.smk_model.proofs.{Anys.{or_false, any_same}, Annotated.rows_from, Firsts.{holds, holds_here, row_is, firsts_from}, Spread.extremes_apart}
 
 -- tests that agree on the members keep the same ones
 filter_members : (f g : Row → Bool) (xs : List Row) → ((x : Row) → holds xs x ≡ true → f x ≡ g x) → filter f xs ≡ filter g xs

@@ -1,14 +1,9 @@
 -- Lists in one direction from those in the other.
-use Rattle.std.proofs.Common.{◌≡◌, ◌∙◌, ◌<◌, ℕ, List, [], length, map, refl, sym, ap, get_or}
-use Rattle.std.proofs.lemmas.List.{length-map}
+use Rattle.std.proofs.{Common.{◌≡◌, ◌∙◌, ◌<◌, ℕ, List, [], length, map, refl, sym, ap, get_or}, lemmas.List.length-map}
 use Rattle.smk_base.specs.Places.{IsPlaces, upto, places, has, inverted}
-use Rattle.smk_model.specs.Plain.{step1, step2}
-use Rattle.smk_model.specs.Lineage.{from1, from_left, from_right}
-use Rattle.smk_model.specs.Locals.{back_lists, fwd_lists}
-use Rattle.smk_model.specs.DirectionLaws.{Inverses}
+use Rattle.smk_model.specs.{Plain.{step1, step2}, Lineage.{from1, from_left, from_right}, Locals.{back_lists, fwd_lists}, DirectionLaws.Inverses}
 use Rattle.smk_base.proofs.Places.{length_upto, get_or_map_upto, map_upto_agree, same_below, has_places}
-use Rattle.smk_model.proofs.CuiWidom.{cui_widom}
-use Rattle.smk_model.proofs.Composed.{bounded}
+use Rattle.smk_model.proofs.{CuiWidom.cui_widom, Composed.bounded}
 
 pub length_each : {X : Type 0} (f : ℕ → X) (n : ℕ) → length (map f (upto n)) ≡ n
 length_each f n = length-map (upto n) f ∙ length_upto n

@@ -1,18 +1,9 @@
 -- The book with each dependency replaced.
 use Rattle.std.specs.Prelude.{All, count_by, cond, Ok, Err}
-use Rattle.std.proofs.Common.{◌≡◌, suc, Bool, List, [], ◌∷◌, ◌++◌, ap, ◌∙◌, refl, arith, sym}
-use Rattle.std.proofs.lemmas.List.Sums.{sum_by-cons, sum_by-append}
-use Rattle.std.proofs.lemmas.List.Elements.{All-nil, All-cons, All-append}
-use Rattle.smk_base.specs.Trees.{StmtImage, TableNode, ViewNode, BackNode, FwdNode, LinkNode, DependsNode}
-use Rattle.smk_base.specs.declared.book.tree.Extra.TheVariants.{Plain}
-use Rattle.smk_base.specs.CatalogImage.{CatalogImage}
-use Rattle.smk_model.specs.Expanded.{violations_tree, in_its_place, expanded, IsNoDependency, HasNoDependency}
-use Rattle.smk_model.specs.ExpandedLaws.{ExpandedStands}
-use Rattle.smk_model.specs.Limits.{KeepsLimits, KeepsStmt, is_table, is_view}
-use Rattle.smk_model.specs.Names.{Typed, in_turn, ◌>>=◌}
-use Rattle.smk_model.proofs.Rules.{then_same}
-use Rattle.smk_model.proofs.Shown.{dependencies_shown}
-use Rattle.smk_model.specs.Typing.{stmt_after, view_after, back_after, nothing_declared}
+use Rattle.std.proofs.{Common.{◌≡◌, suc, Bool, List, [], ◌∷◌, ◌++◌, ap, ◌∙◌, refl, arith, sym}, lemmas.List.Sums.{sum_by-cons, sum_by-append}, lemmas.List.Elements.{All-nil, All-cons, All-append}}
+use Rattle.smk_base.specs.{Trees.{StmtImage, TableNode, ViewNode, BackNode, FwdNode, LinkNode, DependsNode}, declared.book.tree.Extra.TheVariants.Plain, CatalogImage.CatalogImage}
+use Rattle.smk_model.specs.{Expanded.{violations_tree, in_its_place, expanded, IsNoDependency, HasNoDependency}, ExpandedLaws.ExpandedStands, Limits.{KeepsLimits, KeepsStmt, is_table, is_view}, Names.{Typed, in_turn, ◌>>=◌}, Typing.{stmt_after, view_after, back_after, nothing_declared}}
+use Rattle.smk_model.proofs.{Rules.then_same, Shown.dependencies_shown}
 
 -- the first of a list that holds throughout, and the rest
 first_holds : {X : Type 0} (P : X → Type 0) (x : X) (xs : List X) → All P (x ∷ xs) → P x

@@ -1,15 +1,8 @@
 -- Plans that have few rows and pairs, and so no fault.
-use Rattle.std.proofs.Common.{◌≡◌, ◌≤◌, ℕ, List, [], ◌∷◌, length, None, refl}
+use Rattle.std.proofs.{Common.{◌≡◌, ◌≤◌, ℕ, List, [], ◌∷◌, length, None, refl}, lemmas.Bool.le-ltb}
 use Rattle.std.specs.List.{find}
-use Rattle.std.proofs.lemmas.Bool.{le-ltb}
-use Rattle.smk_base.specs.declared.book.need.Needed.{Needed}
-use Rattle.smk_base.specs.Plans.{Expr}
-use Rattle.smk_model.specs.Values.{Row}
-use Rattle.smk_model.specs.Plain.{whole}
-use Rattle.smk_model.specs.Annotated.{pairs}
-use Rattle.smk_model.specs.Composed.{table_at, rows_over}
-use Rattle.smk_model.specs.Selection.{row_limit}
-use Rattle.smk_model.specs.NodeFaults.{pair_limit, asked_of, is_crowded, last_node_fault}
+use Rattle.smk_base.specs.{declared.book.need.Needed.Needed, Plans.Expr}
+use Rattle.smk_model.specs.{Values.Row, Plain.whole, Annotated.pairs, Composed.{table_at, rows_over}, Selection.row_limit, NodeFaults.{pair_limit, asked_of, is_crowded, last_node_fault}}
 
 -- plans that have few rows and pairs
 

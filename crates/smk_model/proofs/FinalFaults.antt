@@ -1,14 +1,9 @@
 -- A fault stays the fault whatever follows.
 use Rattle.std.specs.Prelude.{Option, Some, None}
 use Rattle.std.proofs.Common.{◌≡◌, Bool, true, false, List, [], ◌∷◌, ◌++◌, ap, ◌∙◌, subst, refl}
-use Rattle.smk_base.specs.declared.book.token.TokenKind.{TokenKind}
+use Rattle.smk_base.specs.{declared.book.token.TokenKind.TokenKind, declared.fault.BookFault.BookFault}
 use Rattle.smk_base.specs.declared.book.token.TokenKind.TheVariants as kinds
-use Rattle.smk_base.specs.declared.fault.BookFault.{BookFault}
-use Rattle.smk_model.specs.Tokens.{Token}
-use Rattle.smk_model.specs.Rules.{PlanCounts, no_counts, AStmts, AWholeLine, AWholeAnyLine, Tree, Rule, Gives, Reads, Opening}
-use Rattle.smk_model.specs.LanguageTable.{rule_of, if_nothing}
-use Rattle.smk_model.specs.TokenReadings.{in_range, limits, Count, Fine, Above, Move, Takes, Skips, Faults, token_fault, opened, move_of, goes_on, settle, after, through, fault_in, no_tally}
-use Rattle.smk_model.specs.GrammarLaws.{IsAt, Stays, FaultsStay}
+use Rattle.smk_model.specs.{Tokens.Token, Rules.{PlanCounts, no_counts, AStmts, AWholeLine, AWholeAnyLine, Tree, Rule, Gives, Reads, Opening}, LanguageTable.{rule_of, if_nothing}, TokenReadings.{in_range, limits, Count, Fine, Above, Move, Takes, Skips, Faults, token_fault, opened, move_of, goes_on, settle, after, through, fault_in, no_tally}, GrammarLaws.{IsAt, Stays, FaultsStay}}
 
 wrong_at : (t : Token) → IsAt t.at (token_fault t)
 wrong_at t = by t.kind

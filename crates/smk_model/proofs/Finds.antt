@@ -1,9 +1,6 @@
 -- The first member that passes a test stands at the first place that does.
-use Rattle.std.proofs.Common.{◌≡◌, ℕ, ◌<◌, Bool, List, length, ap, ◌∙◌, get_or, Some, position, nat_lt}
+use Rattle.std.proofs.{Common.{◌≡◌, ℕ, ◌<◌, Bool, List, length, ap, ◌∙◌, get_or, Some, position, nat_lt}, lemmas.Option.{cond_some, slice_get-get_or}, lemmas.List.Folds.find_at, lemmas.List.Quantifiers.position-Some}
 use Rattle.std.specs.List.{find, position_or_len, slice_get}
-use Rattle.std.proofs.lemmas.Option.{cond_some, slice_get-get_or}
-use Rattle.std.proofs.lemmas.List.Folds.{find_at}
-use Rattle.std.proofs.lemmas.List.Quantifiers.{position-Some}
 
 pub find_placed : {X : Type 0} (p : X → Bool) (xs : List X) (i : ℕ) (d : X) → position p xs ≡ Some i → find p xs ≡ Some (get_or xs i d)
 find_placed p xs i d h =

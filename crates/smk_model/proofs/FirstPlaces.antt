@@ -1,11 +1,6 @@
 -- The first place of a list at which a test holds.
-use Rattle.std.proofs.Common.{◌≡◌, ℕ, ◌<◌, Bool, true, false, List, [], ◌∷◌, ◌++◌, length, map, Some, position, refl, ap, sym, ◌∙◌, arith, get_or, inl, inr}
+use Rattle.std.proofs.{Common.{◌≡◌, ℕ, ◌<◌, Bool, true, false, List, [], ◌∷◌, ◌++◌, length, map, Some, position, refl, ap, sym, ◌∙◌, arith, get_or, inl, inr}, lemmas.Bool.{cases_Bool, lt-ltb, true≢false}, lemmas.List.{get_or_append_left, length-append, length-map, get_or-map}, lemmas.List.Folds.list_any_at, lemmas.List.Sums.position_or_len_is, lemmas.List.Quantifiers.position-Some}
 use Rattle.std.specs.List.{list_any}
-use Rattle.std.proofs.lemmas.Bool.{cases_Bool, lt-ltb, true≢false}
-use Rattle.std.proofs.lemmas.List.{get_or_append_left, length-append, length-map, get_or-map}
-use Rattle.std.proofs.lemmas.List.Folds.{list_any_at}
-use Rattle.std.proofs.lemmas.List.Sums.{position_or_len_is}
-use Rattle.std.proofs.lemmas.List.Quantifiers.{position-Some}
 use Rattle.smk_base.specs.Dicts.{text_eq}
 use Rattle.smk_base.proofs.Codes.{text_same, text_apart}
 

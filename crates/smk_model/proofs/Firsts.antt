@@ -1,17 +1,8 @@
 -- Equal rows, membership among rows, and first occurrences.
-use Rattle.std.proofs.Common.{◌≡◌, ◌≢◌, ℕ, ◌<◌, Bool, true, false, List, [], ◌∷◌, ◌++◌, length, map, refl, ap, sym, ◌∙◌, subst, nat_eq, inl, inr, ◌⊎◌}
-use Rattle.std.specs.List.{list_any, filter, fold}
-use Rattle.std.specs.Bool.{Decides}
-use Rattle.std.proofs.lemmas.Slice.Eq.{slice_eq-Decides}
-use Rattle.std.proofs.lemmas.List.{map-id}
-use Rattle.std.proofs.lemmas.List.Folds.{list_any-append, list_any_at}
-use Rattle.std.proofs.lemmas.Bool.{eqb-true, eq-eqb, cases_Bool, or_cases, or_left, or_right, false≢true}
-use Rattle.smk_base.specs.Values.{value_same}
-use Rattle.smk_model.specs.Values.{Row}
-use Rattle.smk_model.specs.Plain.{row_eq, add_first, firsts}
-use Rattle.smk_model.specs.Lineage.{upto, places, has, row_at, sub}
-use Rattle.smk_base.specs.Places.{IsPlaces}
-use Rattle.smk_model.specs.CuiWidom.{Holds}
+use Rattle.std.proofs.{Common.{◌≡◌, ◌≢◌, ℕ, ◌<◌, Bool, true, false, List, [], ◌∷◌, ◌++◌, length, map, refl, ap, sym, ◌∙◌, subst, nat_eq, inl, inr, ◌⊎◌}, lemmas.Slice.Eq.slice_eq-Decides, lemmas.List.map-id, lemmas.List.Folds.{list_any-append, list_any_at}, lemmas.Bool.{eqb-true, eq-eqb, cases_Bool, or_cases, or_left, or_right, false≢true}}
+use Rattle.std.specs.{List.{list_any, filter, fold}, Bool.Decides}
+use Rattle.smk_base.specs.{Values.value_same, Places.IsPlaces}
+use Rattle.smk_model.specs.{Values.Row, Plain.{row_eq, add_first, firsts}, Lineage.{upto, places, has, row_at, sub}, CuiWidom.Holds}
 use Rattle.smk_base.proofs.Places.{filter_map, at_places, has_filter, has_upto, same_below}
 
 -- equal rows

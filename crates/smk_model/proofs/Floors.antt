@@ -1,9 +1,6 @@
 -- The floor of a quotient.
-use Rattle.std.proofs.Common.{◌≡◌, ℕ, zero, suc, ◌+◌, ◌*◌, ◌/◌, ◌<◌, ◌≤◌, ℤ, pos, negsuc, ◌+ℤ◌, ◌*ℤ◌, ◌≤ℤ◌, ◌<ℤ◌, neg_ℤ, arith}
-use Rattle.std.proofs.Math.Nat.{div-mul-le_self, lt-div-mul-add, suc-mul, le-div_iff_mul-le, div-lt_iff_lt-mul}
-use Rattle.std.proofs.lemmas.Int.{ints}
-use Rattle.smk_model.specs.Values.{bin}
-use Rattle.smk_model.specs.LineageLaws.{BinIsFloor}
+use Rattle.std.proofs.{Common.{◌≡◌, ℕ, zero, suc, ◌+◌, ◌*◌, ◌/◌, ◌<◌, ◌≤◌, ℤ, pos, negsuc, ◌+ℤ◌, ◌*ℤ◌, ◌≤ℤ◌, ◌<ℤ◌, neg_ℤ, arith}, Math.Nat.{div-mul-le_self, lt-div-mul-add, suc-mul, le-div_iff_mul-le, div-lt_iff_lt-mul}, lemmas.Int.ints}
+use Rattle.smk_model.specs.{Values.bin, LineageLaws.BinIsFloor}
 
 neg_below : (m a : ℕ) → suc a ≤ m → neg_ℤ (pos m) ≤ℤ negsuc a
 neg_below zero a h = absurd (omega arith)

@@ -1,33 +1,10 @@
 -- The lists of a growing chain over old rows and over new ones.
-use Rattle.std.proofs.Common.{◌≡◌, ℕ, ◌+◌, ◌-◌, ◌<◌, Bool, true, false, cond, List, [], ◌∷◌, ◌++◌, length, map, refl, ap, sym, ◌∙◌, subst, arith, get_or, ◌&&◌, ◌||◌, nat_eq, nat_lt, inl, inr}
+use Rattle.std.proofs.{Common.{◌≡◌, ℕ, ◌+◌, ◌-◌, ◌<◌, Bool, true, false, cond, List, [], ◌∷◌, ◌++◌, length, map, refl, ap, sym, ◌∙◌, subst, arith, get_or, ◌&&◌, ◌||◌, nat_eq, nat_lt, inl, inr}, lemmas.List.{map-append, append-nil, length-append, length-map, get_or_append_left, get_or-append-add, get_or-map}, lemmas.List.Elements.filter-append, lemmas.List.Folds.list_any-append, lemmas.Bool.{cases_Bool, cases_lt, eq-eqb, ne_eqb, eqb-true, lt-ltb, le-ltb, false≢true}}
 use Rattle.std.specs.List.{list_any, filter, All}
-use Rattle.std.proofs.lemmas.List.{map-append, append-nil, length-append, length-map, get_or_append_left, get_or-append-add, get_or-map}
-use Rattle.std.proofs.lemmas.List.Elements.{filter-append}
-use Rattle.std.proofs.lemmas.List.Folds.{list_any-append}
-use Rattle.std.proofs.lemmas.Bool.{cases_Bool, cases_lt, eq-eqb, ne_eqb, eqb-true, lt-ltb, le-ltb, false≢true}
-use Rattle.smk_base.specs.Places.{composed, followed}
-use Rattle.smk_base.specs.declared.book.plan.Item.{Item}
-use Rattle.smk_base.specs.declared.book.plan.Agg.{Agg}
-use Rattle.smk_base.specs.Plans.{Formula, Unary, Selection, Projection, Grouping, Expr, Leaf, Apply}
-use Rattle.smk_model.specs.Values.{Row, meets}
-use Rattle.smk_model.specs.Plain.{row_eq, image, key_of, firsts, grouped, step1}
-use Rattle.smk_model.specs.Lineage.{upto, places, row_at, meeting, from1}
-use Rattle.smk_model.specs.Locals.{back1, fwd1}
-use Rattle.smk_model.specs.Composed.{table_at, rows_over, backs, forwards}
-use Rattle.smk_model.specs.LineageLaws.{selected_table}
-use Rattle.smk_base.proofs.Places.{map_map, same_below, places_below, places_false}
-use Rattle.smk_base.proofs.Texts.{list_any-map}
-use Rattle.smk_model.proofs.Anys.{any_same, any_below, any_false, or_false, and_false}
-use Rattle.smk_model.proofs.CuiWidom.{length_selected}
-use Rattle.smk_model.proofs.Ranges.{from1_below}
-use Rattle.smk_model.proofs.Locals.{at_each}
-use Rattle.smk_model.proofs.Parts.{places_add}
-use Rattle.smk_model.proofs.Comes.{rows_in, comes, rows_whole}
-use Rattle.smk_model.proofs.Composed.{lists_by, bounded, lists_agree, compose_by, forward_by, backs_by, forwards_by}
-use Rattle.smk_model.specs.Growth.{is_chain, regrouping}
-use Rattle.smk_model.specs.GrowthLaws.{HasGrown, ChainGrows, GroupGrows, both_rows}
-use Rattle.smk_model.proofs.Keyed.{at_key, by_keys, key_again}
-use Rattle.smk_model.proofs.Regroups.{both_keys, groups_regroup, regrouped_two}
+use Rattle.smk_base.specs.{Places.{composed, followed}, declared.book.plan.Item.Item, declared.book.plan.Agg.Agg, Plans.{Formula, Unary, Selection, Projection, Grouping, Expr, Leaf, Apply}}
+use Rattle.smk_model.specs.{Values.{Row, meets}, Plain.{row_eq, image, key_of, firsts, grouped, step1}, Lineage.{upto, places, row_at, meeting, from1}, Locals.{back1, fwd1}, Composed.{table_at, rows_over, backs, forwards}, LineageLaws.selected_table, Growth.{is_chain, regrouping}, GrowthLaws.{HasGrown, ChainGrows, GroupGrows, both_rows}}
+use Rattle.smk_base.proofs.{Places.{map_map, same_below, places_below, places_false}, Texts.list_any-map}
+use Rattle.smk_model.proofs.{Anys.{any_same, any_below, any_false, or_false, and_false}, CuiWidom.length_selected, Ranges.from1_below, Locals.at_each, Parts.places_add, Comes.{rows_in, comes, rows_whole}, Composed.{lists_by, bounded, lists_agree, compose_by, forward_by, backs_by, forwards_by}, Keyed.{at_key, by_keys, key_again}, Regroups.{both_keys, groups_regroup, regrouped_two}}
 
 -- whether a test of two numbers is one below k and n, another one behind k and n, and holds nowhere else
 pub record AreBlocks (f g h : ℕ → ℕ → Bool) (k n k' n' : ℕ) : Type 0 where

@@ -1,7 +1,6 @@
 -- Values one after the other, up to the first fault.
 use Rattle.std.proofs.Common.{◌≡◌, ◌∙◌, List, [], ◌∷◌, ◌++◌, refl, sym, ap, Result, Ok, Err}
-use Rattle.smk_model.specs.Names.{◌>>=◌}
-use Rattle.smk_model.specs.Tables.{all_or_first}
+use Rattle.smk_model.specs.{Names.◌>>=◌, Tables.all_or_first}
 
 -- the values of which there are all
 first_then : {A E : Type 0} (r : Result A E) (rest : Result (List A) E) (all : List A) → ◌>>=◌ r (λ x. ◌>>=◌ rest (λ xs. Ok (x ∷ xs))) ≡ Ok all

@@ -1,9 +1,7 @@
 -- What is read one after the other: how a symbol goes on at the token in hand, and a rule behind another.
 use Rattle.std.specs.Prelude.{Ok, Err, Some, None}
 use Rattle.std.proofs.Common.{◌≡◌, ◌≤◌, List, [], ◌∷◌, length, Bool, true, false, ap, ◌∙◌, sym, refl, arith}
-use Rattle.smk_model.specs.Tokens.{Token, head_of, tail_of}
-use Rattle.smk_model.specs.Rules.{PlanCounts, Configuration, Symbol, Tree, Rule, Gives, Reads, behind, Opening, onward}
-use Rattle.smk_model.specs.TokenReadings.{Count, Fine, Above, Counting, Move, Takes, Skips, Faults, opened, move_of, goes_on, settle, limits, Outcome, Ended, Open, Failed, after, through, Reading, read_off, reads, runs}
+use Rattle.smk_model.specs.{Tokens.{Token, head_of, tail_of}, Rules.{PlanCounts, Configuration, Symbol, Tree, Rule, Gives, Reads, behind, Opening, onward}, TokenReadings.{Count, Fine, Above, Counting, Move, Takes, Skips, Faults, opened, move_of, goes_on, settle, limits, Outcome, Ended, Open, Failed, after, through, Reading, read_off, reads, runs}}
 
 behind_behind : {A B C : Type 0} (rule : Rule A) (f : A → Rule B) (g : B → Rule C) → behind (behind rule f) g ≡ behind rule (λ x. behind (f x) g)
 behind_behind (Gives x) f g = refl

@@ -1,17 +1,9 @@
 -- The places and the rows of one key.
-use Rattle.std.proofs.Common.{◌≡◌, ℕ, Bool, arith, true, false, List, [], ◌∷◌, length, map, refl, ap, sym, ◌∙◌, nat_eq, inl, inr}
+use Rattle.std.proofs.{Common.{◌≡◌, ℕ, Bool, arith, true, false, List, [], ◌∷◌, length, map, refl, ap, sym, ◌∙◌, nat_eq, inl, inr}, lemmas.List.{get_or-map, length-map}, lemmas.List.Folds.list_any_at, lemmas.Bool.{cases_Bool, or_parts, false≢true, false_from_ne_true}}
 use Rattle.std.specs.List.{list_any, filter}
-use Rattle.std.proofs.lemmas.List.{get_or-map, length-map}
-use Rattle.std.proofs.lemmas.List.Folds.{list_any_at}
-use Rattle.std.proofs.lemmas.Bool.{cases_Bool, or_parts, false≢true, false_from_ne_true}
-use Rattle.smk_model.specs.Values.{Row}
-use Rattle.smk_model.specs.Plain.{row_eq, firsts}
-use Rattle.smk_model.specs.Lineage.{places, row_at}
+use Rattle.smk_model.specs.{Values.Row, Plain.{row_eq, firsts}, Lineage.{places, row_at}}
 use Rattle.smk_base.proofs.Places.{at_places, same_below, places_own, places_false}
-use Rattle.smk_model.proofs.Anys.{or_false}
-use Rattle.smk_model.proofs.Firsts.{row_same, row_is, holds, firsts_holds, firsts_from}
-use Rattle.smk_model.proofs.Locals.{IsApart, firsts_apart}
-use Rattle.smk_model.proofs.Classes.{place_in, found_below, found_at, key_test}
+use Rattle.smk_model.proofs.{Anys.or_false, Firsts.{row_same, row_is, holds, firsts_holds, firsts_from}, Locals.{IsApart, firsts_apart}, Classes.{place_in, found_below, found_at, key_test}}
 
 -- the places of a key among keys
 abbrev pub at_key : Row → List Row → List ℕ

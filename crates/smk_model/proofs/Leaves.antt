@@ -1,10 +1,7 @@
 -- The lists of a plan's leaves, and those of its inputs.
-use Rattle.std.proofs.Common.{◌≡◌, ℕ, ◌+◌, ◌<◌, List, [], ◌++◌, length, refl, ap, sym, ◌∙◌, arith, get_or, take, drop}
-use Rattle.std.proofs.lemmas.List.{length-append, get_or_append_left, get_or-append-add, get_or-take, get_or-drop}
+use Rattle.std.proofs.{Common.{◌≡◌, ℕ, ◌+◌, ◌<◌, List, [], ◌++◌, length, refl, ap, sym, ◌∙◌, arith, get_or, take, drop}, lemmas.List.{length-append, get_or_append_left, get_or-append-add, get_or-take, get_or-drop}}
 use Rattle.smk_base.specs.Plans.{Binary, Expr, Leaf, Apply, Combine}
-use Rattle.smk_model.specs.Values.{Row}
-use Rattle.smk_model.specs.Plain.{step1, step2, leaves, width, eval_from, eval}
-use Rattle.smk_model.specs.ComposedLaws.{LeavesSplit}
+use Rattle.smk_model.specs.{Values.Row, Plain.{step1, step2, leaves, width, eval_from, eval}, ComposedLaws.LeavesSplit}
 
 -- two lists give a plan's leaves the same lists, from the k-th and from the m-th on
 abbrev pub IsSame : Expr → List (List Row) → ℕ → List (List Row) → ℕ → Type 0

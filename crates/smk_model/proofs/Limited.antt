@@ -1,15 +1,10 @@
 -- What is read without a fault keeps its limits, whatever its rules.
 use Rattle.std.proofs.Common.{◌≡◌, ℕ, true, List, [], ◌∷◌, refl, ap, ◌∙◌, subst}
-use Rattle.std.specs.Prelude.{Some, None, FitsSigned}
-use Rattle.std.specs.Int.{w64}
+use Rattle.std.specs.{Prelude.{Some, None, FitsSigned}, Int.w64}
 use Rattle.smk_base.specs.declared.book.token.TokenKind.{TokenKind}
 use Rattle.smk_base.specs.declared.book.token.TokenKind.TheVariants as kinds
-use Rattle.smk_model.specs.Tokens.{Token, int_value}
-use Rattle.smk_model.specs.Rules.{PlanCounts, Configuration, Symbol, Tree, Rule, Gives, Reads, behind, Opening, onward}
-use Rattle.smk_model.specs.LanguageTable.{rule_of, if_nothing}
-use Rattle.smk_model.specs.TokenReadings.{in_range, Fine, limits, Move, Takes, Skips, Faults, move_of, goes_on, settle, Ended, after, through}
-use Rattle.smk_model.proofs.InTurn.{same_end}
-use Rattle.smk_model.proofs.Spelling.{takes, skips}
+use Rattle.smk_model.specs.{Tokens.{Token, int_value}, Rules.{PlanCounts, Configuration, Symbol, Tree, Rule, Gives, Reads, behind, Opening, onward}, LanguageTable.{rule_of, if_nothing}, TokenReadings.{in_range, Fine, limits, Move, Takes, Skips, Faults, move_of, goes_on, settle, Ended, after, through}}
+use Rattle.smk_model.proofs.{InTurn.same_end, Spelling.{takes, skips}}
 
 -- where a token is a number, it is in the range of i64
 abbrev pub InRange : Token → Type 0

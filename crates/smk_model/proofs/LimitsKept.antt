@@ -1,28 +1,10 @@
 -- A book and an ask line of the grammar without a fault keep their limits.
-use Rattle.std.proofs.Common.{T, ◌≡◌, ℕ, ◌+◌, ◌≤◌, ◌<◌, Bool, true, false, List, [], ◌∷◌, length, refl, ap, sym, ◌∙◌, subst, arith}
+use Rattle.std.proofs.{Common.{T, ◌≡◌, ℕ, ◌+◌, ◌≤◌, ◌<◌, Bool, true, false, List, [], ◌∷◌, length, refl, ap, sym, ◌∙◌, subst, arith}, lemmas.List.Elements.{All-nil, All-cons}, lemmas.List.Sums.sum_by-cons}
 use Rattle.std.specs.Prelude.{pos, ◌≤ℤ◌, Some, None, cond, nat_lt, All, IsTrue, count_by}
-use Rattle.std.proofs.lemmas.List.Elements.{All-nil, All-cons}
-use Rattle.std.proofs.lemmas.List.Sums.{sum_by-cons}
-use Rattle.smk_base.specs.declared.fault.Many.{Many}
-use Rattle.smk_base.specs.declared.fault.Many.TheVariants.{Compares, Depth, Views}
-use Rattle.smk_base.specs.declared.book.token.TokenKind.{TokenKind}
+use Rattle.smk_base.specs.{declared.fault.Many.Many, declared.fault.Many.TheVariants.{Compares, Depth, Views}, declared.book.token.TokenKind.TokenKind, declared.book.limits.TheConstants.{NODE_LIMIT, TABLE_LIMIT, VIEW_LIMIT, COMPARE_LIMIT, DEPTH_LIMIT}, declared.rel.TheConstants.COLUMN_LIMIT, declared.book.tree.Decl.Decl, declared.book.tree.ItemTree.ItemTree, Trees.{TreeImage, UnionNode, StmtImage, AskStepImage, AnyLineImage, AskedLine}}
 use Rattle.smk_base.specs.declared.book.token.TokenKind.TheVariants as kinds
-use Rattle.smk_base.specs.declared.book.limits.TheConstants.{NODE_LIMIT, TABLE_LIMIT, VIEW_LIMIT, COMPARE_LIMIT, DEPTH_LIMIT}
-use Rattle.smk_base.specs.declared.rel.TheConstants.{COLUMN_LIMIT}
-use Rattle.smk_base.specs.declared.book.tree.Decl.{Decl}
-use Rattle.smk_base.specs.declared.book.tree.ItemTree.{ItemTree}
-use Rattle.smk_base.specs.Trees.{TreeImage, UnionNode, StmtImage, AskStepImage, AnyLineImage, AskedLine}
-use Rattle.smk_model.specs.Tokens.{Token, tokens}
-use Rattle.smk_model.specs.Limits.{Divides, KeepsItems, KeepsTree, KeepsStep, nodes, nodes_of_step, DefaultInRange, IsInRange, KeepsDecls, KeepsStmt, KeepsAskStep, KeepsSteps, HasMarks, KeepsAsk, is_table, is_view}
-use Rattle.smk_model.specs.Rules.{Tally, PlanCounts, no_counts, Member, Declaration, OutputItem, MemberTree, Symbol, AMarked, ATerm, APrim, AConj, APred, ALiteral, AWidth, ADefault, One, More, Listed, ASource, APlan, AStep, AUnited, ASteps, AStmts, ALineage, AMarks, AnyLine, AWholeAnyLine, AnAskStep, AskSteps, APiped, ASelected, Tree, Rule, Gives, Reads, Opening}
-use Rattle.smk_model.specs.LanguageTable.{rule_of, if_nothing, member_rule, source_rule, asked_rule}
-use Rattle.smk_model.specs.TokenReadings.{Count, Fine, within, short, first_count, item_count, member_count, term_count, prim_count, node_count, limits, Outcome, Ended, through, fault_in, fault_of, no_tally, selected_fault}
-use Rattle.smk_model.specs.Spelled.{Says, AreSelected}
-use Rattle.smk_model.specs.GrammarLaws.{FaultlessKeepLimits, FaultlessAsksKeepLimits}
-use Rattle.smk_model.proofs.Opens.{follows, is_quiet, Throughout, opens_at}
-use Rattle.smk_model.proofs.OneTree.{GoesTo, goes, stops, Any, any_inherits, complete}
-use Rattle.smk_model.proofs.NumberRanges.{tokens_ranged}
-use Rattle.smk_model.proofs.Limited.{in_hand, Good, Keeps, onward_keeps, kept}
+use Rattle.smk_model.specs.{Tokens.{Token, tokens}, Limits.{Divides, KeepsItems, KeepsTree, KeepsStep, nodes, nodes_of_step, DefaultInRange, IsInRange, KeepsDecls, KeepsStmt, KeepsAskStep, KeepsSteps, HasMarks, KeepsAsk, is_table, is_view}, Rules.{Tally, PlanCounts, no_counts, Member, Declaration, OutputItem, MemberTree, Symbol, AMarked, ATerm, APrim, AConj, APred, ALiteral, AWidth, ADefault, One, More, Listed, ASource, APlan, AStep, AUnited, ASteps, AStmts, ALineage, AMarks, AnyLine, AWholeAnyLine, AnAskStep, AskSteps, APiped, ASelected, Tree, Rule, Gives, Reads, Opening}, LanguageTable.{rule_of, if_nothing, member_rule, source_rule, asked_rule}, TokenReadings.{Count, Fine, within, short, first_count, item_count, member_count, term_count, prim_count, node_count, limits, Outcome, Ended, through, fault_in, fault_of, no_tally, selected_fault}, Spelled.{Says, AreSelected}, GrammarLaws.{FaultlessKeepLimits, FaultlessAsksKeepLimits}}
+use Rattle.smk_model.proofs.{Opens.{follows, is_quiet, Throughout, opens_at}, OneTree.{GoesTo, goes, stops, Any, any_inherits, complete}, NumberRanges.tokens_ranged, Limited.{in_hand, Good, Keeps, onward_keeps, kept}}
 
 -- the nodes grow by so many, or as from m to n, and stay within the limit
 abbrev SameNodes : PlanCounts → PlanCounts → Type 0

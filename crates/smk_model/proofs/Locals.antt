@@ -1,21 +1,10 @@
 -- The lists of one step, in the form in which a loop makes them.
-use Rattle.std.proofs.Common.{◌≡◌, ℕ, ◌+◌, ◌-◌, ◌<◌, Bool, true, List, [], ◌∷◌, ◌++◌, length, map, refl, ap, sym, ◌∙◌, subst, arith, get_or, inl, inr}
+use Rattle.std.proofs.{Common.{◌≡◌, ℕ, ◌+◌, ◌-◌, ◌<◌, Bool, true, List, [], ◌∷◌, ◌++◌, length, map, refl, ap, sym, ◌∙◌, subst, arith, get_or, inl, inr}, lemmas.List.{map-append, length-append, length-map}, lemmas.List.Elements.All-map, lemmas.List.Folds.list_any_at, lemmas.List.Quantifiers.all_pairs_push, lemmas.Bool.{cases_Bool, lt-ltb, le-ltb, false≢true}}
 use Rattle.std.specs.List.{fold, All, AllPairs}
-use Rattle.std.proofs.lemmas.List.{map-append, length-append, length-map}
-use Rattle.std.proofs.lemmas.List.Elements.{All-map}
-use Rattle.std.proofs.lemmas.List.Folds.{list_any_at}
-use Rattle.std.proofs.lemmas.List.Quantifiers.{all_pairs_push}
-use Rattle.std.proofs.lemmas.Bool.{cases_Bool, lt-ltb, le-ltb, false≢true}
-use Rattle.smk_base.specs.Places.{IsPlaces}
-use Rattle.smk_base.specs.Plans.{Formula, Binary, Equijoin, ThetaJoin, CrossProduct, BagUnion}
-use Rattle.smk_model.specs.Values.{Row, meets}
-use Rattle.smk_model.specs.Plain.{row_eq, image, key_of, add_first, firsts, grouped, agree, meets_together, always, nested, is_join, joins, step1, step2}
-use Rattle.smk_model.specs.Lineage.{upto, places, row_at, matching, match_at, from1, from_left, from_right}
-use Rattle.smk_model.specs.Locals.{back_left, back_right}
-use Rattle.smk_model.specs.LocalLaws.{LocalsAre}
+use Rattle.smk_base.specs.{Places.IsPlaces, Plans.{Formula, Binary, Equijoin, ThetaJoin, CrossProduct, BagUnion}}
+use Rattle.smk_model.specs.{Values.{Row, meets}, Plain.{row_eq, image, key_of, add_first, firsts, grouped, agree, meets_together, always, nested, is_join, joins, step1, step2}, Lineage.{upto, places, row_at, matching, match_at, from1, from_left, from_right}, Locals.{back_left, back_right}, LocalLaws.LocalsAre}
 use Rattle.smk_base.proofs.Places.{map_map, map_upto, length_upto, get_or_upto, map_upto_agree, upto_add}
-use Rattle.smk_model.proofs.Firsts.{row_same, holds}
-use Rattle.smk_model.proofs.CuiWidom.{length_selected, nested_rows, length_matching, cui_widom}
+use Rattle.smk_model.proofs.{Firsts.{row_same, holds}, CuiWidom.{length_selected, nested_rows, length_matching, cui_widom}}
 
 -- lists
 

@@ -1,20 +1,8 @@
 -- Lines that were refused by reads that failed, in counts.
-use Rattle.std.proofs.Common.{◌≡◌, ◌≤◌, ◌+◌, ℕ, Bool, true, false, List, [], ◌∷◌, ◌++◌, Option, Some, None, Result, Ok, Err, refl, ap, ◌∙◌, sym, subst, arith, inl, inr, length, length-append}
-use Rattle.std.proofs.lemmas.List.Elements.{filter-append}
-use Rattle.std.specs.List.{filter}
-use Rattle.std.specs.Option.{ok_or}
-use Rattle.std.specs.Prelude.{cond, nat_lt}
-use Rattle.smk_base.specs.CatalogImage.{CatalogImage}
-use Rattle.smk_base.specs.declared.book.catalog.TableInfo.{TableInfo}
-use Rattle.smk_base.specs.declared.fault.Fault.TheVariants.{FileLong, Unread}
-use Rattle.smk_base.specs.declared.fault.TableFault.{TableFault}
-use Rattle.smk_base.specs.declared.fault.TableFault.TheVariants.{TooManyRows}
-use Rattle.smk_model.specs.Conversation.{TalkTurn, Unbrought, TalkState, FitsTalk}
-use Rattle.smk_model.specs.Names.{◌>>=◌}
-use Rattle.smk_model.specs.Outcome.{Held, load, kept_short, file_limit, fault_of_table, or_table_fault}
-use Rattle.smk_model.specs.Tables.{table_of}
-use Rattle.smk_model.specs.TalkStarts.{BringsBy, FailedReads, is_misread, misreads}
-use Rattle.smk_model.specs.Values.{Row}
+use Rattle.std.proofs.{Common.{◌≡◌, ◌≤◌, ◌+◌, ℕ, Bool, true, false, List, [], ◌∷◌, ◌++◌, Option, Some, None, Result, Ok, Err, refl, ap, ◌∙◌, sym, subst, arith, inl, inr, length, length-append}, lemmas.List.Elements.filter-append}
+use Rattle.std.specs.{List.filter, Option.ok_or, Prelude.{cond, nat_lt}}
+use Rattle.smk_base.specs.{CatalogImage.CatalogImage, declared.book.catalog.TableInfo.TableInfo, declared.fault.Fault.TheVariants.{FileLong, Unread}, declared.fault.TableFault.TableFault, declared.fault.TableFault.TheVariants.TooManyRows}
+use Rattle.smk_model.specs.{Conversation.{TalkTurn, Unbrought, TalkState, FitsTalk}, Names.◌>>=◌, Outcome.{Held, load, kept_short, file_limit, fault_of_table, or_table_fault}, Tables.table_of, TalkStarts.{BringsBy, FailedReads, is_misread, misreads}, Values.Row}
 
 -- reads in one time and in the next
 pub reads_joined : (m n before between after : ℕ) → FailedReads m before between → FailedReads n between after → FailedReads (m + n) before after

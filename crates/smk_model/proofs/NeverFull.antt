@@ -1,22 +1,8 @@
 -- No node of a growing chain has too many rows or pairs.
-use Rattle.std.proofs.Common.{◌≡◌, ℕ, ◌+◌, ◌≤◌, true, List, length, None, ap, sym, ◌∙◌, subst, arith, nat_eq, inl, inr}
-use Rattle.std.proofs.lemmas.Bool.{cases_Bool, eqb-true, false≢true}
-use Rattle.smk_base.specs.Places.{has}
-use Rattle.smk_base.specs.declared.book.need.Needed.{Needed}
-use Rattle.smk_base.specs.Plans.{Expr, Leaf, Apply, Combine}
-use Rattle.smk_model.specs.Values.{Row}
-use Rattle.smk_model.specs.Plain.{leaves, whole, table_at}
-use Rattle.smk_model.specs.Annotated.{pairs}
-use Rattle.smk_model.specs.Selection.{nodes, row_limit}
-use Rattle.smk_model.specs.NodeFaults.{asked_of, first_fault_from}
-use Rattle.smk_model.specs.LineageLaws.{selected_table}
-use Rattle.smk_model.specs.Growth.{is_growing}
-use Rattle.smk_model.specs.GrowthLaws.{GrowingNeverFull}
-use Rattle.smk_model.proofs.Anys.{or_false}
-use Rattle.smk_model.proofs.NodeFaults.{either}
-use Rattle.smk_model.proofs.FewPairs.{IsSmall, none_at}
-use Rattle.smk_model.proofs.Thin.{growing_is_thin}
-use Rattle.smk_model.proofs.Unscanned.{no_pairs}
+use Rattle.std.proofs.{Common.{◌≡◌, ℕ, ◌+◌, ◌≤◌, true, List, length, None, ap, sym, ◌∙◌, subst, arith, nat_eq, inl, inr}, lemmas.Bool.{cases_Bool, eqb-true, false≢true}}
+use Rattle.smk_base.specs.{Places.has, declared.book.need.Needed.Needed, Plans.{Expr, Leaf, Apply, Combine}}
+use Rattle.smk_model.specs.{Values.Row, Plain.{leaves, whole, table_at}, Annotated.pairs, Selection.{nodes, row_limit}, NodeFaults.{asked_of, first_fault_from}, LineageLaws.selected_table, Growth.is_growing, GrowthLaws.GrowingNeverFull}
+use Rattle.smk_model.proofs.{Anys.or_false, NodeFaults.either, FewPairs.{IsSmall, none_at}, Thin.growing_is_thin, Unscanned.no_pairs}
 
 growing_small : (plan : Expr) (tables : List (List Row)) → is_growing plan ≡ true → length (table_at tables (selected_table plan)) ≤ row_limit → IsSmall tables plan
 growing_small plan tables c few = record {

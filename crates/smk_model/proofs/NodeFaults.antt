@@ -1,15 +1,8 @@
 -- The first fault of a plan's nodes: the first of all, and what it is where no table is asked for.
-use Rattle.std.proofs.Common.{◌≡◌, ◌∙◌, ◌+◌, ℕ, suc, Bool, true, false, cond, List, [], ◌∷◌, ◌++◌, length, map, drop, Option, Some, None, option_map, refl, sym, ap, arith, inl, inr}
-use Rattle.std.specs.List.{position_from, find, filter}
-use Rattle.std.specs.Option.{option_or}
-use Rattle.std.proofs.lemmas.Bool.{cases_Bool}
-use Rattle.std.proofs.lemmas.List.{length-append}
-use Rattle.std.proofs.lemmas.Iterator.Adapters.{position_from-zero}
+use Rattle.std.proofs.{Common.{◌≡◌, ◌∙◌, ◌+◌, ℕ, suc, Bool, true, false, cond, List, [], ◌∷◌, ◌++◌, length, map, drop, Option, Some, None, option_map, refl, sym, ap, arith, inl, inr}, lemmas.Bool.cases_Bool, lemmas.List.length-append, lemmas.Iterator.Adapters.position_from-zero}
+use Rattle.std.specs.{List.{position_from, find, filter}, Option.option_or}
 use Rattle.smk_base.specs.Plans.{Expr, Leaf, Apply, Combine}
-use Rattle.smk_model.specs.Values.{Row}
-use Rattle.smk_model.specs.Plain.{width, eval}
-use Rattle.smk_model.specs.Selection.{nodes, node_rows, is_full}
-use Rattle.smk_model.specs.NodeFaults.{NodeFault, FullRows, FullPairs, AskedTable, is_crowded, last_node_fault, first_fault_from, faults_at, all_faults, first_of, FirstOfAll, NothingAsked}
+use Rattle.smk_model.specs.{Values.Row, Plain.{width, eval}, Selection.{nodes, node_rows, is_full}, NodeFaults.{NodeFault, FullRows, FullPairs, AskedTable, is_crowded, last_node_fault, first_fault_from, faults_at, all_faults, first_of, FirstOfAll, NothingAsked}}
 
 pub position_from-append : (t : List Row → Bool) (n : ℕ) (xs ys : List (List Row)) → position_from t n (xs ++ ys) ≡ option_or (position_from t n xs) (position_from t (n + length xs) ys)
 position_from-append t n [] ys = let e : n + 0 ≡ n = omega arith in rw e refl

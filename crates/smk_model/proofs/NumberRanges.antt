@@ -1,10 +1,6 @@
 -- Each number among the tokens of a text is in the range of i64.
-use Rattle.std.specs.Prelude.{Option, Some, None, FitsSigned, pos, neg_ℤ, cond, ◌==◌, ◌&&◌, nat_lt, nat_le, ◌-◌, ◌^◌, length, take, drop, take_while}
-use Rattle.std.specs.Int.{w64}
-use Rattle.std.specs.Char.{is_ascii_digit}
-use Rattle.std.proofs.Common.{◌≡◌, ℕ, zero, suc, ◌+◌, ◌≤◌, List, [], ◌∷◌, Bool, true, false, ap, ◌∙◌, sym, subst, refl, arith}
-use Rattle.std.specs.List.{list_all}
-use Rattle.std.proofs.lemmas.Bool.{ltb-true, leb-true}
+use Rattle.std.specs.{Prelude.{Option, Some, None, FitsSigned, pos, neg_ℤ, cond, ◌==◌, ◌&&◌, nat_lt, nat_le, ◌-◌, ◌^◌, length, take, drop, take_while}, Int.w64, Char.is_ascii_digit, List.list_all}
+use Rattle.std.proofs.{Common.{◌≡◌, ℕ, zero, suc, ◌+◌, ◌≤◌, List, [], ◌∷◌, Bool, true, false, ap, ◌∙◌, sym, subst, refl, arith}, lemmas.Bool.{ltb-true, leb-true}}
 use Rattle.smk_base.specs.declared.book.token.TokenKind.{TokenKind}
 use Rattle.smk_base.specs.declared.book.token.TokenKind.TheVariants as kinds
 use Rattle.smk_base.proofs.Blanks.{cases_on}

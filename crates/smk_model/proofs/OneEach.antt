@@ -1,23 +1,9 @@
 -- Steps whose rows each have one place in the other direction.
-use Rattle.std.proofs.Common.{◌≡◌, ◌∙◌, ◌<◌, ◌+◌, ◌-◌, ℕ, true, cond, List, [], ◌∷◌, ◌++◌, length, map, refl, sym, ap, arith, All, get_or, nat_eq, nat_lt, inl, inr}
-use Rattle.std.proofs.lemmas.List.{length-map, length-append, get_or_default, get_or-map}
-use Rattle.std.proofs.lemmas.Bool.{cases_eq, cases_lt, cases_Bool, eq-eqb, ne_eqb, lt-ltb, le-ltb}
-use Rattle.smk_base.specs.Places.{Lists, upto, places, has, own_lists, inverted}
-use Rattle.smk_base.specs.declared.book.plan.Item.{Item}
-use Rattle.smk_base.specs.declared.book.plan.Agg.{Agg}
-use Rattle.smk_base.specs.Plans.{Formula, Selection, Projection, Distinction, Grouping, Binary, BagUnion, SetUnion}
-use Rattle.smk_model.specs.Values.{Row}
-use Rattle.smk_model.specs.Plain.{row_eq, image, key_of, firsts, grouped, is_join, joins}
-use Rattle.smk_model.specs.Lineage.{row_at, meeting, matching, lefts_of, rights_of, from_left, from_right}
-use Rattle.smk_model.specs.Locals.{singles, fwd_lists, back1, fwd1, back_left, fwd_left, back_right, fwd_right}
-use Rattle.smk_model.specs.Classes.{places_in, classes}
-use Rattle.smk_model.specs.DirectionLaws.{HasSources, HasTargets, OneEach}
+use Rattle.std.proofs.{Common.{◌≡◌, ◌∙◌, ◌<◌, ◌+◌, ◌-◌, ℕ, true, cond, List, [], ◌∷◌, ◌++◌, length, map, refl, sym, ap, arith, All, get_or, nat_eq, nat_lt, inl, inr}, lemmas.List.{length-map, length-append, get_or_default, get_or-map}, lemmas.Bool.{cases_eq, cases_lt, cases_Bool, eq-eqb, ne_eqb, lt-ltb, le-ltb}}
+use Rattle.smk_base.specs.{Places.{Lists, upto, places, has, own_lists, inverted}, declared.book.plan.Item.Item, declared.book.plan.Agg.Agg, Plans.{Formula, Selection, Projection, Distinction, Grouping, Binary, BagUnion, SetUnion}}
+use Rattle.smk_model.specs.{Values.Row, Plain.{row_eq, image, key_of, firsts, grouped, is_join, joins}, Lineage.{row_at, meeting, matching, lefts_of, rights_of, from_left, from_right}, Locals.{singles, fwd_lists, back1, fwd1, back_left, fwd_left, back_right, fwd_right}, Classes.{places_in, classes}, DirectionLaws.{HasSources, HasTargets, OneEach}}
 use Rattle.smk_base.proofs.Places.{length_upto, get_or_upto, get_or_map_upto, map_upto, map_upto_agree, map_map, same_below, has_places, places_own}
-use Rattle.smk_model.proofs.Firsts.{holds, holds_at, holds_left, holds_right, firsts_holds}
-use Rattle.smk_model.proofs.Locals.{IsApart, firsts_apart, locals_are}
-use Rattle.smk_model.proofs.Composed.{bounded}
-use Rattle.smk_model.proofs.Directions.{length_each, inverses}
-use Rattle.smk_model.proofs.Classes.{key_test, found_below, known_key, class_at}
+use Rattle.smk_model.proofs.{Firsts.{holds, holds_at, holds_left, holds_right, firsts_holds}, Locals.{IsApart, firsts_apart, locals_are}, Composed.bounded, Directions.{length_each, inverses}, Classes.{key_test, found_below, known_key, class_at}}
 
 -- tests of one place
 

@@ -1,13 +1,8 @@
 -- A run has one outcome, and a script one list of readings.
 use Rattle.std.specs.Prelude.{Option, Some, Result, Ok}
 use Rattle.std.proofs.Common.{◌≡◌, ℕ, List, ap, subst, refl}
-use Rattle.smk_base.specs.Trees.{StmtImage}
-use Rattle.smk_base.specs.declared.fault.Fault.{Fault}
-use Rattle.smk_model.specs.Readings.{Reading, Asks, IsReading, says_nothing, asks, leaves, AreReadings, no_line, one_line}
-use Rattle.smk_model.specs.Words.{TextSource}
-use Rattle.smk_model.specs.Reports.{BookSaid}
-use Rattle.smk_model.specs.Outcome.{Held, Parses, spells, misspells, BookSays, unparsed, parsed, FileSays, unread, read, ScriptSays, lines_read, OpensBook, OpensScript, no_script, a_script, Inputs, ReadsFiles, no_book, no_tables, no_readings, no_rows, inputs, source_of, book_of, script_of, ReadsInputs, unusable, usable, unreadable}
-use Rattle.smk_model.specs.OutcomeLaws.{OneReading, OneInputs, OneOutcome}
+use Rattle.smk_base.specs.{Trees.StmtImage, declared.fault.Fault.Fault}
+use Rattle.smk_model.specs.{Readings.{Reading, Asks, IsReading, says_nothing, asks, leaves, AreReadings, no_line, one_line}, Words.TextSource, Reports.BookSaid, Outcome.{Held, Parses, spells, misspells, BookSays, unparsed, parsed, FileSays, unread, read, ScriptSays, lines_read, OpensBook, OpensScript, no_script, a_script, Inputs, ReadsFiles, no_book, no_tables, no_readings, no_rows, inputs, source_of, book_of, script_of, ReadsInputs, unusable, usable, unreadable}, OutcomeLaws.{OneReading, OneInputs, OneOutcome}}
 use Rattle.smk_model.proofs.OneTree.{one_book, one_any_line}
 
 pub same_reading : {text : List ℕ} {a b : Reading} → IsReading text a → IsReading text b → a ≡ b

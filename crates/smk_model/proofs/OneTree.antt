@@ -1,20 +1,9 @@
 -- What tokens spell is what is read of them, but where a limit is passed; so no tokens spell two trees.
-use Rattle.std.proofs.Common.{◌≡◌, ℕ, ◌≤◌, ◌<◌, Bool, true, false, List, [], ◌∷◌, refl, ap, sym, ◌∙◌, subst, arith}
+use Rattle.std.proofs.{Common.{◌≡◌, ℕ, ◌≤◌, ◌<◌, Bool, true, false, List, [], ◌∷◌, refl, ap, sym, ◌∙◌, subst, arith}, lemmas.Bool.{leb-true, ltb-true}, Math.Nat.{le-max_left, le-max_right}}
 use Rattle.std.specs.Prelude.{Some, None, cond, max, IsTrue, nat_lt, is_some, not, ◌||◌}
-use Rattle.std.proofs.lemmas.Bool.{leb-true, ltb-true}
-use Rattle.std.proofs.Math.Nat.{le-max_left, le-max_right}
-use Rattle.smk_base.specs.declared.fault.BookFault.{BookFault}
-use Rattle.smk_base.specs.declared.fault.BookFault.TheVariants.{TooMany}
-use Rattle.smk_base.specs.declared.fault.Many.{Many}
-use Rattle.smk_base.specs.declared.book.tree.Line.{Line}
-use Rattle.smk_base.specs.Trees.{StmtImage, AnyLineImage}
-use Rattle.smk_model.specs.Tokens.{Token}
-use Rattle.smk_model.specs.Rules.{PlanCounts, no_counts, Symbol, ADefault, AStmts, AWholeLine, AWholeAnyLine, Tree, Rule, Gives, Reads, behind, Opening}
-use Rattle.smk_model.specs.LanguageTable.{rule_of, if_nothing}
-use Rattle.smk_model.specs.TokenReadings.{in_range, Count, Fine, Above, Counting, Move, Takes, Skips, Faults, checked, or_nothing, opened, move_of, goes_on, settle, Outcome, Ended, Failed, after, through, no_tally}
-use Rattle.smk_model.specs.Spelled.{Spells, begun, nothing, Follows, given, read, Says, AreStmts, IsWholeLine, IsWholeAnyLine}
-use Rattle.smk_model.proofs.InTurn.{again}
-use Rattle.smk_model.proofs.Opens.{rank, rank_of, least, follows, Fits, Throughout, opens_at}
+use Rattle.smk_base.specs.{declared.fault.BookFault.BookFault, declared.fault.BookFault.TheVariants.TooMany, declared.fault.Many.Many, declared.book.tree.Line.Line, Trees.{StmtImage, AnyLineImage}}
+use Rattle.smk_model.specs.{Tokens.Token, Rules.{PlanCounts, no_counts, Symbol, ADefault, AStmts, AWholeLine, AWholeAnyLine, Tree, Rule, Gives, Reads, behind, Opening}, LanguageTable.{rule_of, if_nothing}, TokenReadings.{in_range, Count, Fine, Above, Counting, Move, Takes, Skips, Faults, checked, or_nothing, opened, move_of, goes_on, settle, Outcome, Ended, Failed, after, through, no_tally}, Spelled.{Spells, begun, nothing, Follows, given, read, Says, AreStmts, IsWholeLine, IsWholeAnyLine}}
+use Rattle.smk_model.proofs.{InTurn.again, Opens.{rank, rank_of, least, follows, Fits, Throughout, opens_at}}
 
 starts : {symbol : Symbol} {rule : Rule (Tree symbol)} {a c : List Token} {tree : Tree symbol} → Follows symbol rule a c tree → (last first : ℕ) → Fits last first rule → last ≤ rank_of c → first ≤ rank_of a
 starts given last first fits s = let l : first ≤ last = leb-true first last fits in omega arith

@@ -4,10 +4,7 @@ use Rattle.std.specs.Prelude.{Some, None, cond, max, IsTrue, nat_le, nat_lt, is_
 use Rattle.smk_model.proofs.Alike.{same_is}
 use Rattle.smk_base.specs.declared.book.token.TokenKind.{TokenKind}
 use Rattle.smk_base.specs.declared.book.token.TokenKind.TheVariants as kinds
-use Rattle.smk_model.specs.Tokens.{Token}
-use Rattle.smk_model.specs.TokenKinds.{same_kind}
-use Rattle.smk_model.specs.Rules.{Member, Mark, Symbol, AToken, ANames, AMarked, ALineName, ALineColumn, ALiteral, AType, ADefault, AWhat, AKeys, AnAggs, AnOn, AnOp, AnAs, One, More, Listed, ASource, APlan, AStep, AUnited, AConj, APred, ASteps, AnAnds, AnOrs, AStmts, ALineage, AnExtra, AMarks, AThen, ACleared, ALine, AWholeLine, AnyLine, AWholeAnyLine, AnAskStep, AskSteps, APiped, ASelected, Tree, Rule, Gives, Reads, Opening}
-use Rattle.smk_model.specs.LanguageTable.{if_nothing, rule_of, if_sign}
+use Rattle.smk_model.specs.{Tokens.Token, TokenKinds.same_kind, Rules.{Member, Mark, Symbol, AToken, ANames, AMarked, ALineName, ALineColumn, ALiteral, AType, ADefault, AWhat, AKeys, AnAggs, AnOn, AnOp, AnAs, One, More, Listed, ASource, APlan, AStep, AUnited, AConj, APred, ASteps, AnAnds, AnOrs, AStmts, ALineage, AnExtra, AMarks, AThen, ACleared, ALine, AWholeLine, AnyLine, AWholeAnyLine, AnAskStep, AskSteps, APiped, ASelected, Tree, Rule, Gives, Reads, Opening}, LanguageTable.{if_nothing, rule_of, if_sign}}
 
 -- the tokens that may begin a symbol which may be nothing, by how late they come
 abbrev pub rank : TokenKind → ℕ

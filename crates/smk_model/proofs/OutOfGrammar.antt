@@ -1,23 +1,10 @@
 -- The first fault is an unexpected token exactly where the tokens leave the grammar.
 use Rattle.std.specs.Prelude.{Option, Some, None, IsTrue}
 use Rattle.std.proofs.Common.{◌≡◌, ℕ, Bool, List, [], ◌∷◌, ◌++◌, true, false, ap, ◌∙◌, sym, subst, refl, inl, inr, ◌⊎◌}
-use Rattle.smk_base.specs.declared.book.token.TokenKind.{TokenKind}
+use Rattle.smk_base.specs.{declared.book.token.TokenKind.TokenKind, declared.fault.BookFault.BookFault, declared.fault.BookFault.TheVariants.Unexpected}
 use Rattle.smk_base.specs.declared.book.token.TokenKind.TheVariants as kinds
-use Rattle.smk_base.specs.declared.fault.BookFault.{BookFault}
-use Rattle.smk_base.specs.declared.fault.BookFault.TheVariants.{Unexpected}
-use Rattle.smk_model.specs.Tokens.{Token, tokens}
-use Rattle.smk_model.specs.Rules.{PlanCounts, no_counts, Member, Mark, Symbol, AWidth, AMarks, One, Listed, AStmts, AWholeLine, AWholeAnyLine, Tree, Rule, Gives, Reads, behind, Opening}
-use Rattle.smk_model.specs.LanguageTable.{rule_of, if_nothing}
-use Rattle.smk_model.specs.TokenReadings.{in_range, member_in_range, marks_in_range, limits, Count, Fine, Above, Move, Takes, Skips, Faults, token_fault, checked, or_nothing, opened, goes_on, settle, after, through, fault_in, fault_of, no_tally}
-use Rattle.smk_model.specs.Spelled.{nothing, Follows, read, Says}
-use Rattle.smk_model.specs.GrammarLaws.{AtMostTooMany, Stays, LeavesGrammar, UnexpectedLeaves}
-use Rattle.smk_model.proofs.Opens.{readable, to_end, Shaped}
-use Rattle.smk_model.proofs.InTurn.{again}
-use Rattle.smk_model.proofs.Spelling.{alone, beginning, settled_taken}
-use Rattle.smk_model.proofs.Shapes.{Closes, tokens_close, StaysShaped, stays_shaped, more_is_no_end, not_end, whole}
-use Rattle.smk_model.proofs.ShortTexts.{close}
-use Rattle.smk_model.proofs.FinalFaults.{faults_stay}
-use Rattle.smk_model.proofs.TextsRead.{texts_are_read}
+use Rattle.smk_model.specs.{Tokens.{Token, tokens}, Rules.{PlanCounts, no_counts, Mark, Symbol, AMarks, One, Listed, AStmts, AWholeLine, AWholeAnyLine, Tree, Rule, Gives, Reads, behind, Opening}, LanguageTable.{rule_of, if_nothing}, TokenReadings.{in_range, marks_in_range, limits, Count, Fine, Above, Move, Takes, Skips, Faults, token_fault, checked, or_nothing, opened, goes_on, settle, after, through, fault_in, fault_of, no_tally}, Spelled.{nothing, Follows, read, Says}, GrammarLaws.{AtMostTooMany, Stays, LeavesGrammar, UnexpectedLeaves}}
+use Rattle.smk_model.proofs.{Opens.{readable, to_end, Shaped}, InTurn.again, Spelling.{alone, beginning, settled_taken}, Shapes.{Closes, tokens_close, StaysShaped, stays_shaped, more_is_no_end, not_end, whole}, ShortTexts.close, FinalFaults.faults_stay, TextsRead.texts_are_read}
 
 abbrev Of : {A : Type 0} → Rule A → PlanCounts → List Token → Option BookFault
 Of rule c ts = fault_in (through limits rule c ts)
@@ -63,17 +50,8 @@ comes {symbol} (t ∷ ts) (Reads inner rest) c s f e = by (settle limits (Reads 
 
 -- a text with which each symbol may begin
 ranged : (symbol : Symbol) (t : Token) → in_range symbol (with_text t (49 ∷ [])) ≡ true
-ranged AWidth t = refl
-ranged (One m k) t = member_ranged m
-  where
-    member_ranged : (m : Member) → member_in_range m (with_text t (49 ∷ [])) ≡ true
-    member_ranged Mark = refl
-    member_ranged _ = refl
-ranged (Listed m) t = member_ranged m
-  where
-    member_ranged : (m : Member) → member_in_range m (with_text t (49 ∷ [])) ≡ true
-    member_ranged Mark = refl
-    member_ranged _ = refl
+ranged (One Mark k) t = refl
+ranged (Listed Mark) t = refl
 ranged AMarks t = marks_ranged t.kind
   where
     marks_ranged : (k : TokenKind) → marks_in_range (with_text t (49 ∷ [])) k ≡ true

@@ -1,45 +1,14 @@
 -- What own lines leave as it is, and where they come to what a line of a script does.
-use Rattle.std.specs.Prelude.{◌&&◌, nat_eq, slice_index_or, Option, Some, None, ok_or, Ok, Err, codes}
-use Rattle.std.specs.List.{filter, list_any, list_all}
-use Rattle.std.proofs.Common.{◌≡◌, ◌≤◌, ◌+◌, ℕ, Bool, true, false, List, [], ◌∷◌, length, ap, sym, ◌∙◌, refl, arith}
-use Rattle.std.proofs.Math.Path.{fun_ext}
-use Rattle.std.proofs.lemmas.List.{take_all, length-map}
-use Rattle.smk_base.specs.CatalogImage.{CatalogImage, table_place}
-use Rattle.smk_base.specs.Places.{upto, places, has}
-use Rattle.smk_base.specs.Trees.{AskStepImage, AskImage, PlainLine, AskedLine}
-use Rattle.smk_base.specs.declared.brush.BrushOn.{BrushOn}
-use Rattle.smk_base.specs.declared.book.tree.Line.{Line}
+use Rattle.std.specs.{Prelude.{◌&&◌, nat_eq, slice_index_or, Option, Some, None, ok_or, Ok, Err, codes}, List.{filter, list_any, list_all}}
+use Rattle.std.proofs.{Common.{◌≡◌, ◌≤◌, ◌+◌, ℕ, Bool, true, false, List, [], ◌∷◌, length, ap, sym, ◌∙◌, refl, arith}, Math.Path.fun_ext, lemmas.List.{take_all, length-map}}
+use Rattle.smk_base.specs.{CatalogImage.{CatalogImage, table_place}, Places.{upto, places, has}, Trees.{AskStepImage, AskImage, PlainLine, AskedLine}, declared.brush.BrushOn.BrushOn, declared.book.tree.Line.Line, declared.reply.AskReply.AskReply, declared.reply.Refusal.Refusal, declared.reply.Refusal.TheVariants.{Undeclared, UnknownTable}, declared.reply.Reply.Reply}
 use Rattle.smk_base.specs.declared.book.tree.Line.TheVariants as lines
 use Rattle.smk_base.specs.declared.book.tree.Then.TheVariants as thens
-use Rattle.smk_base.specs.declared.reply.AskReply.{AskReply}
 use Rattle.smk_base.specs.declared.reply.AskReply.TheVariants as answers
-use Rattle.smk_base.specs.declared.reply.Refusal.{Refusal}
-use Rattle.smk_base.specs.declared.reply.Refusal.TheVariants.{Undeclared, UnknownTable}
-use Rattle.smk_base.specs.declared.reply.Reply.{Reply}
 use Rattle.smk_base.specs.declared.reply.Reply.TheVariants as replies
-use Rattle.smk_model.specs.Annotated.{relates}
-use Rattle.smk_model.specs.Asks.{AskPlan, typed_steps, columns_named, back_line, ask_over, steps_reply, is_ask_refused}
-use Rattle.smk_model.specs.AskTexts.{ask_text}
-use Rattle.smk_model.specs.Catalogs.{table_kinds}
-use Rattle.smk_model.specs.Lineage.{row_at}
-use Rattle.smk_model.specs.Looks.{looks_of_rows, line_looks}
-use Rattle.smk_model.specs.Names.{Typed, ◌>>=◌}
-use Rattle.smk_model.specs.OwnAnswers.{among_selected, narrowed_reply, reply_part, selected_on, selected_ask, selected_reply, reply_or_refusal, rows_answered, steps_answered, own_answered}
-use Rattle.smk_model.specs.OwnLineLaws.{OwnLinesStay, NowIsPlain, AllAreSelected, WholePartIsPlain, IsUnbrushed, is_brief, reply_rows, ask_rows, selected_rows, part_to}
-use Rattle.smk_model.specs.OwnLines.{RowsPart, OwnLine, Selected, Narrowed, NarrowedAsk, Brief, has_rows, has_rows_behind}
-use Rattle.smk_model.specs.OwnTexts.{part_of, part_from, view_columns, table_columns, numbered_text, placed_text, narrowed_text, stepped_text, selected_words, selected_text}
-use Rattle.smk_model.specs.Plain.{whole}
-use Rattle.smk_model.specs.Replies.{Asked, provided, unless_row, first_outside, written, marked, known_view, known_pair, content_of, rids_back, rids_of, rows_reply, rows_at_rids, split_column, is_of_column, with_value, back_reply, named_view, named_back, staying, or_refused, reply, is_refused}
-use Rattle.smk_model.specs.ReplyTexts.{view_in, table_in, reply_text}
-use Rattle.smk_model.specs.Reports.{BookSaid, Answered, answered}
-use Rattle.smk_model.specs.Session.{State, concerns, view_at, rows_of_table, first_content, selected_for}
-use Rattle.smk_model.specs.Texts.{rows_text, view_words, back_words, ask_words}
-use Rattle.smk_model.specs.Typing.{info_at}
-use Rattle.smk_model.specs.Values.{Row}
-use Rattle.smk_model.specs.Workload.{declares_back}
+use Rattle.smk_model.specs.{Annotated.relates, Asks.{AskPlan, typed_steps, columns_named, back_line, ask_over, steps_reply, is_ask_refused}, AskTexts.ask_text, Catalogs.table_kinds, Lineage.row_at, Looks.{looks_of_rows, line_looks}, Names.{Typed, ◌>>=◌}, OwnAnswers.{among_selected, narrowed_reply, reply_part, selected_on, selected_ask, selected_reply, reply_or_refusal, rows_answered, steps_answered, own_answered}, OwnLineLaws.{OwnLinesStay, NowIsPlain, AllAreSelected, WholePartIsPlain, IsUnbrushed, is_brief, reply_rows, ask_rows, selected_rows, part_to}, OwnLines.{RowsPart, OwnLine, Selected, Narrowed, NarrowedAsk, Brief, has_rows, has_rows_behind}, OwnTexts.{part_of, part_from, view_columns, table_columns, numbered_text, placed_text, narrowed_text, stepped_text, selected_words, selected_text}, Plain.whole, Replies.{Asked, provided, unless_row, first_outside, written, marked, known_view, known_pair, content_of, rids_back, rids_of, rows_reply, rows_at_rids, split_column, is_of_column, with_value, back_reply, named_view, named_back, staying, or_refused, reply, is_refused}, ReplyTexts.{view_in, table_in, reply_text}, Reports.{BookSaid, Answered, answered}, Session.{State, concerns, view_at, rows_of_table, first_content, selected_for}, Texts.{rows_text, view_words, back_words, ask_words}, Typing.info_at, Values.Row, Workload.declares_back}
 use Rattle.smk_base.proofs.Places.{filter_filter, same_below, has_upto, map_upto}
-use Rattle.smk_model.proofs.Keyed.{none_pass}
-use Rattle.smk_model.proofs.Selections.{filter-true}
+use Rattle.smk_model.proofs.{Keyed.none_pass, Selections.filter-true}
 
 -- the state, and refusals
 

@@ -1,28 +1,10 @@
 -- Each text has one own reading, and one that begins with a dot is no line of a script.
-use Rattle.std.specs.Prelude.{◌⊎◌, drop, ◌==◌, Option, Some, None}
-use Rattle.std.specs.List.{prefix_len}
-use Rattle.std.proofs.Common.{◌≡◌, ◌+◌, ℕ, suc, true, List, [], ◌∷◌, ap, sym, ◌∙◌, subst, refl, arith, inl, inr}
-use Rattle.std.proofs.lemmas.Bool.{cases_Bool, eqb-true}
-use Rattle.std.proofs.lemmas.List.Folds.{length-prefix_len}
-use Rattle.smk_base.specs.Trees.{AskStepImage}
-use Rattle.smk_base.specs.declared.book.token.TokenKind.{TokenKind}
+use Rattle.std.specs.{Prelude.{◌⊎◌, drop, ◌==◌, Option, Some, None}, List.prefix_len}
+use Rattle.std.proofs.{Common.{◌≡◌, ◌+◌, ℕ, suc, true, List, [], ◌∷◌, ap, sym, ◌∙◌, subst, refl, arith, inl, inr}, lemmas.Bool.{cases_Bool, eqb-true}, lemmas.List.Folds.length-prefix_len}
+use Rattle.smk_base.specs.{Trees.AskStepImage, declared.book.token.TokenKind.TokenKind, declared.fault.BookFault.BookFault, declared.fault.BookFault.TheVariants.BadToken}
 use Rattle.smk_base.specs.declared.book.token.TokenKind.TheVariants as kinds
-use Rattle.smk_base.specs.declared.fault.BookFault.{BookFault}
-use Rattle.smk_base.specs.declared.fault.BookFault.TheVariants.{BadToken}
-use Rattle.smk_model.specs.Lines.{place_of}
-use Rattle.smk_model.specs.Rules.{ASelected}
-use Rattle.smk_model.specs.TokenReadings.{any_fault}
-use Rattle.smk_model.specs.OwnLineLaws.{OwnLinesAreRead}
-use Rattle.smk_model.specs.OwnLines.{RowsPart, OwnLine, Selected, Lead, WholeLine, BeforeTable, BeforeLine, lead_of, in_place, begins_with_dot, is_own, first_dot, OwnReading, Owns, Misses, before_line, IsOwnReading, without_lead, alone, not_alone, of_table, of_no_table, of_line}
-use Rattle.smk_model.specs.Spelled.{AreSelected}
-use Rattle.smk_model.specs.TokenReadings.{selected_fault}
-use Rattle.smk_model.specs.Readings.{Reading, Unread, IsReading, says_nothing, asks, leaves}
-use Rattle.smk_model.specs.Tokens.{Token, is_gap, tokens, tokens_from, head_of, HasNoToken}
-use Rattle.smk_model.proofs.Shapes.{faultless_finish, has_tree}
-use Rattle.smk_model.proofs.LimitsKept.{selected_keep_limits}
-use Rattle.smk_model.proofs.OneOutcome.{same_reading}
-use Rattle.smk_model.proofs.SomeOutcome.{some_line}
-use Rattle.smk_model.proofs.OneTree.{one_tree}
+use Rattle.smk_model.specs.{Lines.place_of, Rules.ASelected, TokenReadings.{any_fault, selected_fault}, OwnLineLaws.OwnLinesAreRead, OwnLines.{RowsPart, OwnLine, Selected, Lead, WholeLine, BeforeTable, BeforeLine, lead_of, in_place, begins_with_dot, is_own, first_dot, OwnReading, Owns, Misses, before_line, IsOwnReading, without_lead, alone, not_alone, of_table, of_no_table, of_line}, Spelled.AreSelected, Readings.{Reading, Unread, IsReading, says_nothing, asks, leaves}, Tokens.{Token, is_gap, tokens, tokens_from, head_of, HasNoToken}}
+use Rattle.smk_model.proofs.{Shapes.{faultless_finish, has_tree}, LimitsKept.selected_keep_limits, OneOutcome.same_reading, SomeOutcome.some_line, OneTree.one_tree}
 
 -- a token that can't be read, and nothing else
 abbrev bad_at : ℕ → List Token

@@ -1,9 +1,6 @@
 -- The number of members of merged lists.
-use Rattle.std.proofs.Common.{◌≡◌, ℕ, zero, suc, ◌<◌, ◌≤◌, Bool, true, List, [], ◌∷◌, length, map, refl, ap, sym, ◌∙◌, subst, arith, ◌||◌, inl, inr}
+use Rattle.std.proofs.{Common.{◌≡◌, ℕ, zero, suc, ◌<◌, ◌≤◌, Bool, true, List, [], ◌∷◌, length, map, refl, ap, sym, ◌∙◌, subst, arith, ◌||◌, inl, inr}, lemmas.List.Elements.All-get_or, lemmas.List.Sums.sum_by_push, lemmas.Bool.{cases_Bool, or_left, or_right}}
 use Rattle.std.specs.List.{sum_by, filter, All}
-use Rattle.std.proofs.lemmas.List.Elements.{All-get_or}
-use Rattle.std.proofs.lemmas.List.Sums.{sum_by_push}
-use Rattle.std.proofs.lemmas.Bool.{cases_Bool, or_left, or_right}
 use Rattle.smk_base.specs.Places.{Lists, upto, places, has, IsPlaces, pairs_of, list_at}
 use Rattle.smk_model.specs.ComposedLaws.{MergedHasBoth}
 use Rattle.smk_base.proofs.Places.{map_upto}

@@ -1,13 +1,7 @@
 -- A list cut into consecutive parts.
-use Rattle.std.proofs.Common.{◌≡◌, ℕ, zero, suc, ◌+◌, ◌<◌, Bool, List, [], ◌∷◌, ◌++◌, length, map, refl, ap, sym, ◌∙◌, arith}
+use Rattle.std.proofs.{Common.{◌≡◌, ℕ, zero, suc, ◌+◌, ◌<◌, Bool, List, [], ◌∷◌, ◌++◌, length, map, refl, ap, sym, ◌∙◌, arith}, lemmas.List.{map-append, map-id, length-append, get_or_append_left, get_or-append-add}, lemmas.List.Elements.filter-append, lemmas.List.Concat.flat_map-append}
 use Rattle.std.specs.List.{flat_map, filter, fold}
-use Rattle.std.proofs.lemmas.List.{map-append, map-id, length-append, get_or_append_left, get_or-append-add}
-use Rattle.std.proofs.lemmas.List.Elements.{filter-append}
-use Rattle.std.proofs.lemmas.List.Concat.{flat_map-append}
-use Rattle.smk_model.specs.Values.{Row, meets}
-use Rattle.smk_model.specs.Plain.{row_eq, add_first, firsts, nested}
-use Rattle.smk_model.specs.Lineage.{upto, places, row_at, partners, matching}
-use Rattle.smk_model.specs.LocalLaws.{together, part_places, part_pairs, Cut}
+use Rattle.smk_model.specs.{Values.{Row, meets}, Plain.{row_eq, add_first, firsts, nested}, Lineage.{upto, places, row_at, partners, matching}, LocalLaws.{together, part_places, part_pairs, Cut}}
 use Rattle.smk_base.proofs.Places.{filter_map, map_map, map_flat_map, flat_map_map, flat_map_agree, same_below, upto_add}
 use Rattle.smk_model.proofs.Firsts.{fold_append, add_firsts}
 

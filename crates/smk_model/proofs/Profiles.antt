@@ -1,15 +1,8 @@
 -- The `back` lines of the marks of the view of a dependency are answered by the rows of the violations.
 use Rattle.std.specs.Prelude.{None, nat_le}
-use Rattle.std.proofs.Common.{◌≡◌, ℕ, ◌<◌, false, [], ◌∷◌, length, refl, ap, ◌∙◌, arith}
-use Rattle.std.proofs.lemmas.List.{length-map}
+use Rattle.std.proofs.{Common.{◌≡◌, ℕ, ◌<◌, false, [], ◌∷◌, length, refl, ap, ◌∙◌, arith}, lemmas.List.length-map}
 use Rattle.smk_base.specs.CatalogImage.{CatalogImage}
-use Rattle.smk_model.specs.Plain.{eval, whole}
-use Rattle.smk_model.specs.Annotated.{back}
-use Rattle.smk_model.specs.Dependencies.{violation_at, violation_row}
-use Rattle.smk_model.specs.Profiles.{ShowsDependency, shown_by, violations_of}
-use Rattle.smk_model.specs.ProfileLaws.{DependenciesAnswered}
-use Rattle.smk_model.specs.Replies.{rids_back, first_outside}
-use Rattle.smk_model.specs.Session.{State, rows_of_table, first_content}
+use Rattle.smk_model.specs.{Plain.{eval, whole}, Annotated.back, Dependencies.{violation_at, violation_row}, Profiles.{ShowsDependency, shown_by, violations_of}, ProfileLaws.DependenciesAnswered, Replies.{rids_back, first_outside}, Session.{State, rows_of_table, first_content}}
 use Rattle.smk_model.proofs.Dependencies.{dependencies_shown}
 
 -- the rows of the view, and where one of them comes from

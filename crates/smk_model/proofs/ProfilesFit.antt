@@ -1,24 +1,8 @@
 -- Every answer to an `fd` line is one over the catalog.
-use Rattle.std.specs.Prelude.{nat_eq, Option, Some, None, IfSome, All}
-use Rattle.std.proofs.Common.{◌≡◌, ℕ, suc, true, List, [], ◌∷◌, map, refl, sym, subst, arith, inl, inr}
-use Rattle.std.specs.Cmp.{unsigned_Decides}
-use Rattle.std.specs.Cmp.Lexicographic.{pointwise}
-use Rattle.std.proofs.lemmas.Bool.{cases_Bool, or_cases, false≢true}
-use Rattle.std.proofs.lemmas.List.{length-map}
-use Rattle.std.proofs.lemmas.List.Elements.{All-nil, All-cons}
-use Rattle.std.proofs.lemmas.List.Quantifiers.{position-Some}
-use Rattle.std.proofs.lemmas.Slice.Eq.{slice_eq-Decides}
-use Rattle.smk_base.specs.CatalogImage.{CatalogImage, view_place}
-use Rattle.smk_base.specs.declared.book.catalog.TableInfo.{TableInfo}
-use Rattle.smk_base.specs.Dicts.{text_eq}
-use Rattle.smk_model.specs.Dependencies.{Violation}
-use Rattle.smk_model.specs.Names.{is_taken}
-use Rattle.smk_model.specs.Profiles.{AreDependencies, ShowsDependency, shown_by, group_of, groups_of, profile_at, violations_of}
-use Rattle.smk_model.specs.ProfileLaws.{ProfilesFit}
-use Rattle.smk_model.specs.ProfileTexts.{AreFound, IsPlaced, IsProfileReply}
-use Rattle.smk_model.specs.Lineage.{row_at}
-use Rattle.smk_model.specs.Session.{State, rows_of_table}
-use Rattle.smk_model.specs.Typing.{info_at, no_table}
+use Rattle.std.specs.{Prelude.{nat_eq, Option, Some, None, IfSome, All}, Cmp.unsigned_Decides, Cmp.Lexicographic.pointwise}
+use Rattle.std.proofs.{Common.{◌≡◌, ℕ, suc, true, List, [], ◌∷◌, map, refl, sym, subst, arith, inl, inr}, lemmas.Bool.{cases_Bool, or_cases, false≢true}, lemmas.List.length-map, lemmas.List.Elements.{All-nil, All-cons}, lemmas.List.Quantifiers.position-Some, lemmas.Slice.Eq.slice_eq-Decides}
+use Rattle.smk_base.specs.{CatalogImage.{CatalogImage, view_place}, declared.book.catalog.TableInfo.TableInfo, Dicts.text_eq}
+use Rattle.smk_model.specs.{Dependencies.Violation, Names.is_taken, Profiles.{AreDependencies, ShowsDependency, shown_by, group_of, groups_of, profile_at, violations_of}, ProfileLaws.ProfilesFit, ProfileTexts.{AreFound, IsPlaced, IsProfileReply}, Lineage.row_at, Session.{State, rows_of_table}, Typing.{info_at, no_table}}
 
 same_is : (a b : List ℕ) → pointwise nat_eq a b ≡ true → a ≡ b
 same_is a b h = (slice_eq-Decides unsigned_Decides a b (pointwise nat_eq a b) refl).0 h

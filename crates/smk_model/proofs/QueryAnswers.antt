@@ -1,15 +1,8 @@
 -- The answers to queries are places, and places are ascending numbers below a bound.
-use Rattle.std.proofs.Common.{◌≡◌, ◌∙◌, ℕ, zero, suc, ◌+◌, ◌<◌, ◌≤◌, ◌||◌, Bool, true, false, List, [], ◌∷◌, length, get_or, nat_eq, ap, sym, subst, refl, arith, inl, inr}
+use Rattle.std.proofs.{Common.{◌≡◌, ◌∙◌, ℕ, zero, suc, ◌+◌, ◌<◌, ◌≤◌, ◌||◌, Bool, true, false, List, [], ◌∷◌, length, get_or, nat_eq, ap, sym, subst, refl, arith, inl, inr}, lemmas.Bool.{cases_eq, eq-eqb, ne_eqb, or_left}, lemmas.List.Folds.list_any_none, lemmas.List.Kept.AllPairs-filter, lemmas.List.get_or_default}
 use Rattle.std.specs.List.{list_any, All, filter, range_with_len}
-use Rattle.std.proofs.lemmas.Bool.{cases_eq, eq-eqb, ne_eqb, or_left}
-use Rattle.std.proofs.lemmas.List.Folds.{list_any_none}
-use Rattle.std.proofs.lemmas.List.Kept.{AllPairs-filter}
-use Rattle.std.proofs.lemmas.List.{get_or_default}
-use Rattle.smk_base.specs.Picks.{IsAscending}
-use Rattle.smk_base.specs.Places.{upto, has, IsPlaces}
-use Rattle.smk_model.specs.Plain.{eval}
-use Rattle.smk_model.specs.Annotated.{relates}
-use Rattle.smk_model.specs.LineageLaws.{AnswersArePlaces, PlacesAscend}
+use Rattle.smk_base.specs.{Picks.IsAscending, Places.{upto, has, IsPlaces}}
+use Rattle.smk_model.specs.{Plain.eval, Annotated.relates, LineageLaws.{AnswersArePlaces, PlacesAscend}}
 use Rattle.smk_base.proofs.Places.{places_below, places_are, length_upto, get_or_upto, upto_range}
 
 pub all_below : (n : ℕ) (A : List ℕ) → IsPlaces n A → All (λ i. i < n) A

@@ -1,13 +1,8 @@
 -- The places that an output row comes from are in range.
-use Rattle.std.proofs.Common.{◌≡◌, ℕ, ◌-◌, ◌<◌, Bool, List, [], ◌∷◌, ◌++◌, length, map, arith, get_or, nat_lt, inl, inr}
+use Rattle.std.proofs.{Common.{◌≡◌, ℕ, ◌-◌, ◌<◌, Bool, List, [], ◌∷◌, ◌++◌, length, map, arith, get_or, nat_lt, inl, inr}, lemmas.List.{length-append, length-map}, lemmas.List.Elements.All-nil, lemmas.Bool.{cases_Bool, ltb-true, ltb-false}}
 use Rattle.std.specs.List.{All}
-use Rattle.std.proofs.lemmas.List.{length-append, length-map}
-use Rattle.std.proofs.lemmas.List.Elements.{All-nil}
-use Rattle.std.proofs.lemmas.Bool.{cases_Bool, ltb-true, ltb-false}
 use Rattle.smk_base.specs.Plans.{Unary, Selection, Projection, Distinction, Grouping, Binary, Equijoin, ThetaJoin, CrossProduct, BagUnion, SetUnion}
-use Rattle.smk_model.specs.Values.{Row, meets}
-use Rattle.smk_model.specs.Plain.{row_eq, image, key_of, firsts, agree, meets_together, always, nested, step1, step2}
-use Rattle.smk_model.specs.Lineage.{places, row_at, match_at, from1, from_left, from_right}
+use Rattle.smk_model.specs.{Values.{Row, meets}, Plain.{row_eq, image, key_of, firsts, agree, meets_together, always, nested, step1, step2}, Lineage.{places, row_at, match_at, from1, from_left, from_right}}
 use Rattle.smk_base.proofs.Places.{places_below}
 use Rattle.smk_model.proofs.CuiWidom.{selected_below, matched}
 

@@ -1,25 +1,10 @@
 -- A grouping of parts after each other, from the groupings of the parts.
-use Rattle.std.proofs.Common.{◌≡◌, ℕ, ◌+◌, pos, true, false, List, [], ◌∷◌, ◌++◌, length, map, refl, ap, sym, ◌∙◌, subst, arith, inl, inr}
+use Rattle.std.proofs.{Common.{◌≡◌, ℕ, ◌+◌, pos, true, false, List, [], ◌∷◌, ◌++◌, length, map, refl, ap, sym, ◌∙◌, subst, arith, inl, inr}, lemmas.List.{map-append, append-nil, append_assoc, length-append, length-map, get_or_at, length_push, take_at}, lemmas.List.Elements.{filter-append, filter_agree}, lemmas.Bool.{cases_Bool, or_parts, false≢true}}
 use Rattle.std.specs.List.{filter, flat_map}
-use Rattle.std.proofs.lemmas.List.{map-append, append-nil, append_assoc, length-append, length-map, get_or_at, length_push, take_at}
-use Rattle.std.proofs.lemmas.List.Elements.{filter-append, filter_agree}
-use Rattle.std.proofs.lemmas.Bool.{cases_Bool, or_parts, false≢true}
-use Rattle.smk_base.specs.declared.value.Value.TheVariants.{Int}
-use Rattle.smk_base.specs.declared.book.plan.Agg.{Agg}
-use Rattle.smk_base.specs.Plans.{Grouping}
-use Rattle.smk_model.specs.Values.{Row, value_at}
-use Rattle.smk_model.specs.Plain.{row_eq, key_of, firsts, aggregate, grouped, step1}
-use Rattle.smk_model.specs.Lineage.{upto, sub}
-use Rattle.smk_model.specs.Classes.{first_places}
-use Rattle.smk_model.specs.LocalLaws.{together}
-use Rattle.smk_model.proofs.Aggregates.{all_rows, once_more, rows_in_part}
+use Rattle.smk_base.specs.{declared.value.Value.TheVariants.Int, declared.book.plan.Agg.Agg, Plans.Grouping}
+use Rattle.smk_model.specs.{Values.{Row, value_at}, Plain.{row_eq, key_of, firsts, aggregate, grouped, step1}, Lineage.{upto, sub}, Classes.first_places, LocalLaws.together, Growth.{all_over_parts, regrouping}, GrowthLaws.GroupsRegroup}
+use Rattle.smk_model.proofs.{Aggregates.{all_rows, once_more, rows_in_part}, Firsts.{holds, key_there}, Parts.{filter_parts, map_agree, cut}, Bulk.bulk, Keyed.{none_pass, once_first, never_first}}
 use Rattle.smk_base.proofs.Places.{filter_map, map_map, flat_map_map, map_upto_take}
-use Rattle.smk_model.proofs.Firsts.{holds, key_there}
-use Rattle.smk_model.proofs.Parts.{filter_parts, map_agree, cut}
-use Rattle.smk_model.proofs.Bulk.{bulk}
-use Rattle.smk_model.specs.Growth.{all_over_parts, regrouping}
-use Rattle.smk_model.specs.GrowthLaws.{GroupsRegroup}
-use Rattle.smk_model.proofs.Keyed.{none_pass, once_first, never_first}
 
 -- all aggregates, of rows that have those of the parts behind n values
 all_once_more : (aggs : List Agg) (n : ℕ) (front : Row × List Row → Row) (parts : List (Row × List Row)) → ((p : Row × List Row) → length (front p) ≡ n)

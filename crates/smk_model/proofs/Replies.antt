@@ -1,25 +1,11 @@
 -- What brushes and refusals leave as it is.
-use Rattle.std.specs.Prelude.{Some, option_map, Ok, Err}
-use Rattle.std.proofs.Common.{◌≡◌, ℕ, Bool, true, false, cond, List, [], ◌∷◌, length, map, refl, ap, sym, ◌∙◌, subst, nat_eq}
-use Rattle.std.specs.List.{find}
-use Rattle.std.proofs.lemmas.Bool.{eqb-true, false≢true}
-use Rattle.smk_base.specs.declared.list.table_rids.Pick.{Pick}
-use Rattle.smk_base.specs.declared.reply.Reply.{Reply}
+use Rattle.std.specs.{Prelude.{Some, option_map, Ok, Err}, List.find}
+use Rattle.std.proofs.{Common.{◌≡◌, ℕ, Bool, true, false, cond, List, [], ◌∷◌, length, map, refl, ap, sym, ◌∙◌, subst, nat_eq}, lemmas.Bool.{eqb-true, false≢true}}
+use Rattle.smk_base.specs.{declared.list.table_rids.Pick.Pick, declared.reply.Reply.Reply, declared.brush.BrushOn.BrushOn, declared.book.tree.Marks.Marks, declared.book.tree.Then.Then, CatalogImage.CatalogImage}
 use Rattle.smk_base.specs.declared.reply.Reply.TheVariants as replies
 use Rattle.smk_base.specs.declared.book.tree.Line.TheVariants as lines
-use Rattle.smk_base.specs.declared.brush.BrushOn.{BrushOn}
-use Rattle.smk_base.specs.declared.book.tree.Marks.{Marks}
-use Rattle.smk_base.specs.declared.book.tree.Then.{Then}
 use Rattle.smk_base.specs.declared.book.tree.Then.TheVariants as thens
-use Rattle.smk_base.specs.CatalogImage.{CatalogImage}
-use Rattle.smk_model.specs.Values.{Row}
-use Rattle.smk_model.specs.Lineage.{upto, places, sub}
-use Rattle.smk_model.specs.Plain.{table_at, eval, leaves}
-use Rattle.smk_model.specs.Selection.{picked, kept_rows, selected}
-use Rattle.smk_model.specs.Names.{◌>>=◌}
-use Rattle.smk_model.specs.Session.{State, view_at, under}
-use Rattle.smk_model.specs.Replies.{Asked, staying, or_refused, is_refused, named_view, named_back, named_fwd, brush_of, all_linked, brushed, cleared, linked_pair}
-use Rattle.smk_model.specs.ReplyLaws.{FirstContents, RefusedStay, MarksStay}
+use Rattle.smk_model.specs.{Values.Row, Lineage.{upto, places, sub}, Plain.{table_at, eval, leaves}, Selection.{picked, kept_rows, selected}, Names.◌>>=◌, Session.{State, view_at, under}, Replies.{Asked, staying, or_refused, is_refused, named_view, named_back, named_fwd, brush_of, all_linked, brushed, cleared, linked_pair}, ReplyLaws.{FirstContents, RefusedStay, MarksStay}}
 use Rattle.smk_base.proofs.Places.{map_upto}
 use Rattle.smk_model.proofs.Selections.{filter-true}
 

@@ -1,39 +1,11 @@
 -- A reply is one to its line: what its text looks up stands in the catalog.
-use Rattle.std.specs.Prelude.{Option, Some, None, option_map, ok_or, Result, Ok, Err}
-use Rattle.std.proofs.Common.{◌≡◌, ◌<◌, ℕ, Bool, true, false, List, [], ◌∷◌, length, map, refl, sym, ◌∙◌, subst}
-use Rattle.std.specs.Option.{option_or}
-use Rattle.std.specs.Prelude.{slice_index_or}
-use Rattle.std.specs.List.{All, filter, list_any, flat_map}
-use Rattle.std.proofs.lemmas.List.{length-map}
-use Rattle.std.proofs.lemmas.List.Elements.{All-filter, All-nil, All-head, All-tail, All-cons, All-append}
-use Rattle.std.proofs.lemmas.List.Quantifiers.{position-Some}
-use Rattle.smk_base.specs.CatalogImage.{CatalogImage, ViewImage, view_place, table_place}
-use Rattle.smk_base.specs.declared.book.catalog.Back.{Back}
-use Rattle.smk_base.specs.declared.book.catalog.BackExtra.{BackExtra}
+use Rattle.std.specs.{Prelude.{Option, Some, None, option_map, ok_or, Result, Ok, Err, slice_index_or}, Option.option_or, List.{All, filter, list_any, flat_map}}
+use Rattle.std.proofs.{Common.{◌≡◌, ◌<◌, ℕ, Bool, true, false, List, [], ◌∷◌, length, map, refl, sym, ◌∙◌, subst}, lemmas.List.length-map, lemmas.List.Elements.{All-filter, All-nil, All-head, All-tail, All-cons, All-append}, lemmas.List.Quantifiers.position-Some}
+use Rattle.smk_base.specs.{CatalogImage.{CatalogImage, ViewImage, view_place, table_place}, declared.book.catalog.Back.Back, declared.book.catalog.BackExtra.BackExtra, declared.book.catalog.LinkInfo.LinkInfo, declared.book.catalog.TableInfo.TableInfo, declared.book.tree.Line.Line, declared.book.tree.Marks.Marks, declared.book.tree.Then.Then, declared.reply.Linked.Linked, declared.reply.Refusal.Refusal, declared.reply.Refusal.TheVariants.{UnknownView, UnknownTable, Undeclared, NoRow, NoSplit, ValueKind, NoGroup, NotLinked, ManyMarks}, declared.reply.Reply.Reply, declared.value.Kind.Kind}
 use Rattle.smk_base.specs.declared.book.catalog.BackExtra.TheVariants as extras
-use Rattle.smk_base.specs.declared.book.catalog.LinkInfo.{LinkInfo}
-use Rattle.smk_base.specs.declared.book.catalog.TableInfo.{TableInfo}
-use Rattle.smk_base.specs.declared.book.tree.Line.{Line}
 use Rattle.smk_base.specs.declared.book.tree.Line.TheVariants as lines
-use Rattle.smk_base.specs.declared.book.tree.Marks.{Marks}
-use Rattle.smk_base.specs.declared.book.tree.Then.{Then}
 use Rattle.smk_base.specs.declared.book.tree.Then.TheVariants as thens
-use Rattle.smk_base.specs.declared.reply.Linked.{Linked}
-use Rattle.smk_base.specs.declared.reply.Refusal.{Refusal}
-use Rattle.smk_base.specs.declared.reply.Refusal.TheVariants.{UnknownView, UnknownTable, Undeclared, NoRow, NoSplit, ValueKind, NoGroup, NotLinked, ManyMarks}
-use Rattle.smk_base.specs.declared.reply.Reply.{Reply}
-use Rattle.smk_base.specs.declared.value.Kind.{Kind}
-use Rattle.smk_model.specs.Lineage.{row_at}
-use Rattle.smk_model.specs.Names.{◌>>=◌, same_name}
-use Rattle.smk_model.specs.Catalogs.{IsCatalog, ExtraFits, table_kinds}
-use Rattle.smk_model.specs.Tables.{all_or_first}
-use Rattle.smk_model.specs.Typing.{column_of, columns_of, no_table, info_at}
-use Rattle.smk_model.specs.Workload.{is_back, is_link, declares_back, declares_fwd}
-use Rattle.smk_model.specs.Selection.{first_full}
-use Rattle.smk_model.specs.ReplyTexts.{IsReplyTo, IsRefusalOf, IsRefusalOfChange, IsLinkedIn, AreRowsOf, AreGroupsOf, IsContent, view_named, table_named, names_of_table, grouping_named}
-use Rattle.smk_model.specs.Session.{State, view_at, no_view, rows_of_table, linked, selected_for, leaves_now}
-use Rattle.smk_model.specs.Replies.{Asked, Grouped, provided, unless_row, unless_outside, written, first_outside, known_view, known_pair, content_of, rows_at_rids, rids_of, split_column, column_place, is_split, is_of_column, with_value, cube, is_one, grouping_in, first_grouping, grouping_of, back_reply, named_back, fwd_reply, named_fwd, marks_fwd, linked_pair, brush_of, unless_full, linked_now, all_linked, brushed, cleared, named_view, or_refused, answer_to}
-use Rattle.smk_model.specs.ReplyLaws.{RepliesFit}
+use Rattle.smk_model.specs.{Lineage.row_at, Names.{◌>>=◌, same_name}, Catalogs.{IsCatalog, ExtraFits, table_kinds}, Tables.all_or_first, Typing.{column_of, columns_of, no_table, info_at}, Workload.{is_back, is_link, declares_back, declares_fwd}, Selection.first_full, ReplyTexts.{IsReplyTo, IsRefusalOf, IsRefusalOfChange, IsLinkedIn, AreRowsOf, AreGroupsOf, IsContent, view_named, table_named, names_of_table, grouping_named}, Session.{State, view_at, no_view, rows_of_table, linked, selected_for, leaves_now}, Replies.{Asked, Grouped, provided, unless_row, unless_outside, written, first_outside, known_view, known_pair, content_of, rows_at_rids, rids_of, split_column, column_place, is_split, is_of_column, with_value, cube, is_one, grouping_in, first_grouping, grouping_of, back_reply, named_back, fwd_reply, named_fwd, marks_fwd, linked_pair, brush_of, unless_full, linked_now, all_linked, brushed, cleared, named_view, or_refused, answer_to}, ReplyLaws.RepliesFit}
 use Rattle.smk_model.proofs.Finds.{find_placed}
 
 -- what is asked for is good, or the refusal is one that the line can have

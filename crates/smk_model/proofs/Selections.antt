@@ -1,15 +1,8 @@
 -- The lineage of a chain of selections over a scan.
-use Rattle.std.proofs.Common.{◌≡◌, ℕ, ◌<◌, true, false, List, [], ◌∷◌, length, map, refl, ap, sym, ◌∙◌, arith, get_or, ◌&&◌, nat_eq}
+use Rattle.std.proofs.{Common.{◌≡◌, ℕ, ◌<◌, true, false, List, [], ◌∷◌, length, map, refl, ap, sym, ◌∙◌, arith, get_or, ◌&&◌, nat_eq}, lemmas.List.{get_or-map, length-map}, lemmas.List.Elements.All-get_or, lemmas.Bool.{false≢true, eq-eqb}}
 use Rattle.std.specs.List.{list_any, filter, All}
-use Rattle.std.proofs.lemmas.List.{get_or-map, length-map}
-use Rattle.std.proofs.lemmas.List.Elements.{All-get_or}
-use Rattle.std.proofs.lemmas.Bool.{false≢true, eq-eqb}
 use Rattle.smk_base.specs.Plans.{Selection, Expr, Leaf, Apply}
-use Rattle.smk_model.specs.Values.{Row, meets}
-use Rattle.smk_model.specs.Plain.{leaves, eval}
-use Rattle.smk_model.specs.Lineage.{upto, places, row_at}
-use Rattle.smk_model.specs.Annotated.{Marked, no_mark, mark_at, scanned, ann, reaches, relates, back}
-use Rattle.smk_model.specs.LineageLaws.{is_selection, selected_table, selects, chosen, SelectionLineage}
+use Rattle.smk_model.specs.{Values.{Row, meets}, Plain.{leaves, eval}, Lineage.{upto, places, row_at}, Annotated.{Marked, no_mark, mark_at, scanned, ann, reaches, relates, back}, LineageLaws.{is_selection, selected_table, selects, chosen, SelectionLineage}}
 use Rattle.smk_model.proofs.Anys.{any_same, any_below, any_false, or_false}
 use Rattle.smk_base.proofs.Places.{filter_filter, filter_map, at_places, same_below, places_below, places_false, places_own}
 

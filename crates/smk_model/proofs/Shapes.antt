@@ -3,14 +3,8 @@ use Rattle.std.specs.Prelude.{Some, None, ◌-◌, if◌then◌else◌, take, Is
 use Rattle.std.proofs.Common.{◌≡◌, ℕ, zero, suc, ◌+◌, Bool, true, false, List, [], ◌∷◌, ap, subst, refl}
 use Rattle.smk_base.specs.declared.book.token.TokenKind.{TokenKind}
 use Rattle.smk_base.specs.declared.book.token.TokenKind.TheVariants as kinds
-use Rattle.smk_model.specs.Tokens.{Token, Front, Between, Begins, put, front, tokens_from, tokens, is_more}
-use Rattle.smk_model.specs.Rules.{PlanCounts, Configuration, no_counts, Symbol, AToken, AStmts, AWholeLine, AWholeAnyLine, ASelected, Tree, Rule, Gives, Reads, behind}
-use Rattle.smk_model.specs.LanguageTable.{if_nothing}
-use Rattle.smk_model.specs.TokenReadings.{Counting, limits, Move, Takes, Skips, Faults, move_of, goes_on, settle, Ended, after, through, fault_in, fault_of, no_tally}
-use Rattle.smk_model.specs.Spelled.{Says}
-use Rattle.smk_model.specs.GrammarLaws.{Finishes, FaultlessHaveTrees}
-use Rattle.smk_model.proofs.Opens.{is_known, is_end, readable, to_end, Shaped, opens_at}
-use Rattle.smk_model.proofs.Spelling.{takes, skips, says}
+use Rattle.smk_model.specs.{Tokens.{Token, Front, Between, Begins, put, front, tokens_from, tokens, is_more}, Rules.{PlanCounts, Configuration, no_counts, Symbol, AStmts, AWholeLine, AWholeAnyLine, ASelected, Tree, Rule, Gives, Reads, behind}, LanguageTable.if_nothing, TokenReadings.{Counting, limits, Move, Takes, Skips, Faults, move_of, goes_on, settle, Ended, after, through, fault_in, fault_of, no_tally}, Spelled.Says, GrammarLaws.{Finishes, FaultlessHaveTrees}}
+use Rattle.smk_model.proofs.{Opens.{is_known, is_end, readable, to_end, Shaped, opens_at}, Spelling.{takes, skips, says}}
 
 -- the last token is one behind which no other is read, and no other is such
 abbrev pub Closes : List Token → Type 0
@@ -34,12 +28,8 @@ tokens_close zero at (b ∷ bs) = put_closes (front (b ∷ bs)) at (b ∷ bs) (�
 
 -- what is read up to the end is never nothing
 not_nothing : (symbol : Symbol) (tree : Tree symbol) → if_nothing symbol ≡ Some tree → to_end symbol ≡ false
-not_nothing (AToken kind) tree e = absurd (cc)
-not_nothing (AStmts y) tree e = absurd (cc)
-not_nothing AWholeLine tree e = absurd (cc)
-not_nothing AWholeAnyLine tree e = absurd (cc)
-not_nothing ASelected tree e = absurd (cc)
-not_nothing _ tree e = refl
+not_nothing ASelected tree e = cc
+not_nothing _ tree e = cc
 
 or_true : (o : Bool) → IsTrue (not o || true)
 or_true true = refl
@@ -72,8 +62,6 @@ stays_shaped {A} counting (Reads symbol rest) c t s = by (move_of counting symbo
 
 kind_unknown : (k : TokenKind) → is_more k ≡ false → IsTrue (is_known k) → k ≡ kinds.End
 kind_unknown kinds.End e h = refl
-kind_unknown kinds.Bad e h = absurd (cc)
-kind_unknown kinds.Huge e h = absurd (cc)
 kind_unknown _ e h = absurd (cc)
 
 pub more_is_no_end : (k : TokenKind) → is_more k ≡ true → k ≡ kinds.End → ⊥

@@ -1,14 +1,10 @@
 -- A text of each symbol, with which tokens are completed.
-use Rattle.std.specs.Prelude.{Some, None, cond}
-use Rattle.std.proofs.Common.{◌≡◌, ℕ, Bool, true, List, [], ◌∷◌, refl, ap}
+use Rattle.std.specs.Prelude.{Option, Some, None, cond, option_map, option_and_then, is_some}
+use Rattle.std.proofs.Common.{◌≡◌, ℕ, zero, suc, Bool, true, List, [], ◌∷◌, refl, ap}
 use Rattle.smk_base.specs.declared.book.token.TokenKind.{TokenKind}
 use Rattle.smk_base.specs.declared.book.token.TokenKind.TheVariants as kinds
-use Rattle.smk_model.specs.Tokens.{Token}
+use Rattle.smk_model.specs.{Tokens.Token, Rules.{Mark, Symbol, AToken, ALiteral, AWidth, AType, AWhat, AnOn, AnOp, One, Listed, ASource, APlan, AStep, AUnited, AStmts, ALineage, AMarks, ALine, AWholeLine, AnyLine, AWholeAnyLine, AnAskStep, APiped, Tree, Rule, Gives, Reads, Opening}, LanguageTable.{rule_of, if_nothing}, TokenReadings.in_range, Spelled.{Spells, begun, nothing, Follows, given, read}}
 use Rattle.smk_model.proofs.Alike.{same_self}
-use Rattle.smk_model.specs.Rules.{Member, Declaration, OutputItem, KeyColumn, Aggregation, ColumnPair, LinkedView, Mark, Symbol, AToken, ANames, AMarked, AName, ALineName, AColumn, ALineColumn, ALiteral, AWidth, AType, ADefault, AWhat, AKeys, AnAggs, AnOn, AnOp, ATerm, AFirst, AnAs, One, More, Listed, ASource, APlan, AStep, AUnited, APrim, AConj, APred, ASteps, AnAnds, AnOrs, AStmts, ALineage, AnExtra, AMarks, AThen, ACleared, ALine, AWholeLine, AnyLine, AWholeAnyLine, AnAskStep, AskSteps, APiped, ASelected, Tree, Rule, Gives, Reads}
-use Rattle.smk_model.specs.LanguageTable.{rule_of, if_nothing, joint}
-use Rattle.smk_model.specs.TokenReadings.{in_range}
-use Rattle.smk_model.specs.Spelled.{Spells, begun, nothing, Follows, given, read}
 
 abbrev pub tok : TokenKind → Token
 tok k = record { at = 0; kind = k; text = 49 ∷ [] }
@@ -29,111 +25,75 @@ then : {symbol inner : Symbol} {rest : Tree inner → Rule (Tree symbol)} (s : S
 then s r = record { tree = r.tree; text = λ b. let k = r.text b in let h = s.text k.0 in (h.0, read h.1 k.1) }
 
 -- by the token that begins it, and by nothing
-by : (symbol : Symbol) (k : TokenKind) (rule : Token → Rule (Tree symbol)) → rule_of symbol k ≡ Some rule → in_range symbol (tok k) ≡ true → ShortRule symbol (rule (tok k)) → Short symbol
-by symbol k rule is ranged r = record { tree = r.tree; text = λ b. let h = r.text b in (tok k ∷ h.0, begun is ranged h.1) }
+begun_by : (symbol : Symbol) (k : TokenKind) (rule : Token → Rule (Tree symbol)) → rule_of symbol k ≡ Some rule → in_range symbol (tok k) ≡ true → ShortRule symbol (rule (tok k)) → Short symbol
+begun_by symbol k rule is ranged r = record { tree = r.tree; text = λ b. let h = r.text b in (tok k ∷ h.0, begun is ranged h.1) }
 
-empty : (symbol : Symbol) (tree : Tree symbol) → if_nothing symbol ≡ Some tree → Short symbol
-empty symbol tree is = record { tree = tree; text = λ b. (b, nothing is) }
+nothing_is : (symbol : Symbol) (tree : Tree symbol) → if_nothing symbol ≡ Some tree → Short symbol
+nothing_is symbol tree is = record { tree = tree; text = λ b. (b, nothing is) }
 
 is_sign : (k : TokenKind) → rule_of (AToken k) k ≡ Some Gives
 is_sign k = ap (λ (o : Bool). cond o (Some Gives) None) (same_self k)
 
-name : Short AName
-name = by AName kinds.Name _ refl refl (gives _)
-
-line_name : Short ALineName
-line_name = by ALineName kinds.Name _ refl refl (gives _)
-
-column : Short AColumn
-column = by AColumn kinds.Name _ refl refl (gives _)
-
-op : Short AnOp
-op = by AnOp kinds.Equal _ refl refl (gives _)
-
-term : Short ATerm
-term = by ATerm kinds.Name _ refl refl (gives _)
-
-int_type : Short AType
-int_type = by AType kinds.Int _ refl refl (gives _)
-
-what : Short AWhat
-what = by AWhat kinds.Count _ refl refl (gives _)
-
 a_sign : (k : TokenKind) → Short (AToken k)
 a_sign k = record { tree = tok k; text = λ b. (tok k ∷ b, begun (is_sign k) refl given) }
 
-names : Short (ANames kinds.To)
-names = by (ANames kinds.To) kinds.Name _ refl refl (then (a_sign kinds.To) (then name (gives _)))
+-- the kind of a token that begins a text of a symbol which isn't nothing
+abbrev begins_by : Symbol → TokenKind
+begins_by ALiteral = kinds.Str
+begins_by AWidth = kinds.Number
+begins_by (One Mark k) = kinds.Number
+begins_by (Listed Mark) = kinds.Number
+begins_by AType = kinds.Int
+begins_by AWhat = kinds.Count
+begins_by AnOn = kinds.On
+begins_by AnOp = kinds.Equal
+begins_by (ASource d) = kinds.Scan
+begins_by (APlan d) = kinds.Scan
+begins_by (AUnited d) = kinds.Scan
+begins_by (AStep d) = kinds.Group
+begins_by AnAskStep = kinds.Group
+begins_by APiped = kinds.Group
+begins_by (AStmts y) = kinds.End
+begins_by (ALineage at) = kinds.Fwd
+begins_by AMarks = kinds.All
+begins_by ALine = kinds.Clear
+begins_by AWholeLine = kinds.Clear
+begins_by AnyLine = kinds.Clear
+begins_by AWholeAnyLine = kinds.Clear
+begins_by _ = kinds.Name
 
-marks : Short AMarks
-marks = by AMarks kinds.All _ refl refl (gives _)
+-- a text of a symbol, by those of rules
+short_by : (symbol : Symbol) → ((rule : Rule (Tree symbol)) → Option (ShortRule symbol rule)) → Option (Short symbol)
+short_by symbol close = by (if_nothing symbol) refl (rule_of symbol (begins_by symbol)) refl (in_range symbol (tok (begins_by symbol))) refl
+  where
+    by : (empty : Option (Tree symbol)) → if_nothing symbol ≡ empty → (o : Opening (Tree symbol)) → rule_of symbol (begins_by symbol) ≡ o → (r : Bool) → in_range symbol (tok (begins_by symbol)) ≡ r → Option (Short symbol)
+    by (Some tree) is o e r f = Some (nothing_is symbol tree is)
+    by None is (Some rule) e true f = option_map (begun_by symbol (begins_by symbol) rule e f) (close (rule (tok (begins_by symbol))))
+    by None is o e r f = None
 
-member : (m : Member) (k : ℕ) → Short (One m k)
-member Declaration k = by (One Declaration k) kinds.Name _ refl refl (then int_type (then (empty ADefault _ refl) (gives _)))
-member OutputItem k = by (One OutputItem k) kinds.Name _ refl refl (then (empty (AnAs _) _ refl) (gives _))
-member KeyColumn k = by (One KeyColumn k) kinds.Name _ refl refl (gives _)
-member Aggregation k = by (One Aggregation k) kinds.Name _ refl refl (then (a_sign kinds.Equal) (then what (gives _)))
-member ColumnPair k = by (One ColumnPair k) kinds.Name _ refl refl (then (a_sign kinds.Equal) (then column (gives _)))
-member LinkedView k = by (One LinkedView k) kinds.Name _ refl refl (gives _)
-member Mark k = by (One Mark k) kinds.Number _ refl refl (gives _)
+close_by : ((symbol : Symbol) → Option (Short symbol)) → {symbol : Symbol} (rule : Rule (Tree symbol)) → Option (ShortRule symbol rule)
+close_by short (Gives x) = Some (gives x)
+close_by short (Reads inner rest) = option_and_then (λ (s : Short inner). option_map (then s) (close_by short (rest s.tree))) (short inner)
 
-list : (m : Member) → Short (Listed m)
-list Declaration = by (Listed Declaration) kinds.Name _ refl refl (then int_type (then (empty ADefault _ refl) (then (empty (More Declaration 1) _ refl) (gives _))))
-list OutputItem = by (Listed OutputItem) kinds.Name _ refl refl (then (empty (AnAs _) _ refl) (then (empty (More OutputItem 1) _ refl) (gives _)))
-list KeyColumn = by (Listed KeyColumn) kinds.Name _ refl refl (then (empty (More KeyColumn 1) _ refl) (gives _))
-list Aggregation = by (Listed Aggregation) kinds.Name _ refl refl (then (a_sign kinds.Equal) (then what (then (empty (More Aggregation 1) _ refl) (gives _))))
-list ColumnPair = by (Listed ColumnPair) kinds.Name _ refl refl (then (a_sign kinds.Equal) (then column (then (empty (More ColumnPair 1) _ refl) (gives _))))
-list LinkedView = by (Listed LinkedView) kinds.Name _ refl refl (then (empty (More LinkedView 1) _ refl) (gives _))
-list Mark = by (Listed Mark) kinds.Number _ refl refl (then (empty (More Mark 1) _ refl) (gives _))
+-- those that come of this, where so many symbols stand in one another
+short_in : ℕ → (symbol : Symbol) → Option (Short symbol)
+short_in n (AToken k) = Some (a_sign k)
+short_in zero symbol = None
+short_in (suc n) symbol = short_by symbol (λ rule. close_by (λ inner. short_in n inner) rule)
 
--- a shortest text of each symbol
+-- each symbol has one
+enough : (symbol : Symbol) → is_some (short_in 6 symbol) ≡ true
+unfolding short_in short_by close_by
+enough (One Mark k) = refl
+enough (Listed Mark) = refl
+enough _ = refl
+
 short : (symbol : Symbol) → Short symbol
-short (AToken k) = a_sign k
-short AName = name
-short (ANames between) = by (ANames between) kinds.Name _ refl refl (then (a_sign (joint between)) (then name (gives _)))
-short (AMarked between) = by (AMarked between) kinds.Name _ refl refl (then marks (then (a_sign (joint between)) (then line_name (gives _))))
-short ALineName = line_name
-short AColumn = column
-short ALineColumn = by ALineColumn kinds.Name _ refl refl (gives _)
-short ALiteral = by ALiteral kinds.Str _ refl refl (gives _)
-short AWidth = by AWidth kinds.Number _ refl refl (gives _)
-short AType = int_type
-short ADefault = empty ADefault _ refl
-short AWhat = what
-short AKeys = empty AKeys _ refl
-short AnAggs = empty AnAggs _ refl
-short AnOn = by AnOn kinds.On _ refl refl (gives _)
-short AnOp = op
-short ATerm = term
-short (AFirst k) = by (AFirst k) kinds.Name _ refl refl (gives _)
-short (AnAs word) = empty (AnAs word) _ refl
-short (One m k) = member m k
-short (More m k) = empty (More m k) _ refl
-short (Listed m) = list m
-short (ASource d) = by (ASource d) kinds.Scan _ refl refl (then name (gives _))
-short (APlan d) = by (APlan d) kinds.Scan _ refl refl (then name (then (empty (ASteps d _) _ refl) (gives _)))
-short (AStep d) = by (AStep d) kinds.Group _ refl refl (then (empty AKeys _ refl) (then (empty AnAggs _ refl) (gives _)))
-short (AUnited d) = by (AUnited d) kinds.Scan _ refl refl (then name (gives _))
-short (APrim d) = by (APrim d) kinds.Name _ refl refl (then op (then term (gives _)))
-short (AConj d) = by (AConj d) kinds.Name _ refl refl (then op (then term (then (empty (AnAnds d _) _ refl) (gives _))))
-short (APred d) = by (APred d) kinds.Name _ refl refl (then op (then term (then (empty (AnAnds d _) _ refl) (then (empty (AnOrs d _) _ refl) (gives _)))))
-short (ASteps d x) = empty (ASteps d x) _ refl
-short (AnAnds d p) = empty (AnAnds d p) _ refl
-short (AnOrs d p) = empty (AnOrs d p) _ refl
-short (AStmts y) = by (AStmts y) kinds.End _ refl refl (gives _)
-short (ALineage at) = by (ALineage at) kinds.Fwd _ refl refl (then names (gives _))
-short AnExtra = empty AnExtra _ refl
-short AMarks = marks
-short AThen = empty AThen _ refl
-short ACleared = empty ACleared _ refl
-short ALine = by ALine kinds.Clear _ refl refl (then (empty ACleared _ refl) (gives _))
-short AWholeLine = by AWholeLine kinds.Clear _ refl refl (then (empty ACleared _ refl) (then (a_sign kinds.End) (gives _)))
-short AnyLine = by AnyLine kinds.Clear _ refl refl (then (empty ACleared _ refl) (gives _))
-short AWholeAnyLine = by AWholeAnyLine kinds.Clear _ refl refl (then (empty ACleared _ refl) (then (a_sign kinds.End) (gives _)))
-short AnAskStep = by AnAskStep kinds.Group _ refl refl (then (empty AKeys _ refl) (then (empty AnAggs _ refl) (gives _)))
-short AskSteps = empty AskSteps _ refl
-short APiped = by APiped kinds.Group _ refl refl (then (empty AKeys _ refl) (then (empty AnAggs _ refl) (then (empty AskSteps _ refl) (gives _))))
-short ASelected = by ASelected kinds.Name _ refl refl (then (empty AskSteps _ refl) (then (a_sign kinds.End) (gives _)))
+short symbol = by (short_in 6 symbol) (enough symbol)
+  where
+    by : (o : Option (Short symbol)) → is_some o ≡ true → Short symbol
+    by (Some s) e = s
+    by None e = absurd (cc)
 
 -- a text of each rule
 pub close : {symbol : Symbol} (rule : Rule (Tree symbol)) → ShortRule symbol rule

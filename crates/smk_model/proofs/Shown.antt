@@ -1,45 +1,15 @@
 -- What typing makes of a dependency: a view that shows it.
-use Rattle.std.specs.Prelude.{All, IfSome, nat_eq, nat_lt, ok_or, Option}
-use Rattle.std.specs.List.{list_any}
-use Rattle.std.proofs.Common.{◌≡◌, ◌<◌, ℕ, ◌+◌, true, false, List, [], ◌∷◌, ◌++◌, length, map, Some, None, Ok, position, refl, ap, sym, ◌∙◌, subst, arith, get_or, append_assoc, append-nil}
-use Rattle.std.proofs.lemmas.Bool.{eq-eqb, or_left, or_right}
-use Rattle.std.proofs.lemmas.List.{length-append, length-map, get_or_append_left, get_or-map, map_push}
-use Rattle.std.proofs.lemmas.List.Folds.{list_any-append}
-use Rattle.std.proofs.lemmas.List.Quantifiers.{position-Some}
-use Rattle.std.proofs.lemmas.List.Elements.{All-nil, All-cons, All-append}
+use Rattle.std.specs.{Prelude.{All, IfSome, nat_eq, nat_lt, ok_or, Option}, List.list_any}
+use Rattle.std.proofs.{Common.{◌≡◌, ◌<◌, ℕ, ◌+◌, true, false, List, [], ◌∷◌, ◌++◌, length, map, Some, None, Ok, position, refl, ap, sym, ◌∙◌, subst, arith, get_or, append_assoc, append-nil}, lemmas.Bool.{eq-eqb, or_left, or_right}, lemmas.List.{length-append, length-map, get_or_append_left, get_or-map, map_push}, lemmas.List.Folds.list_any-append, lemmas.List.Quantifiers.position-Some, lemmas.List.Elements.{All-nil, All-cons, All-append}}
 use Rattle.smk_base.proofs.Codes.{text_same}
-use Rattle.smk_base.specs.CatalogImage.{CatalogImage, ViewImage, view_place, table_place}
-use Rattle.smk_base.specs.Plans.{Formula, Comparison, Selection, Grouping, Leaf, Apply}
-use Rattle.smk_base.specs.Trees.{StmtImage, TreeImage, TableNode, ViewNode, BackNode, FwdNode, LinkNode, DependsNode, GroupNode, ScanNode, StepNode, CompareNode}
-use Rattle.smk_base.specs.declared.book.catalog.Back.{Back}
+use Rattle.smk_base.specs.{CatalogImage.{CatalogImage, ViewImage, view_place, table_place}, Plans.{Formula, Comparison, Selection, Grouping, Leaf, Apply}, Trees.{StmtImage, TreeImage, TableNode, ViewNode, BackNode, FwdNode, LinkNode, DependsNode, GroupNode, ScanNode, StepNode, CompareNode}, declared.book.catalog.Back.Back, declared.book.catalog.Column.Column, declared.book.catalog.TableInfo.TableInfo, declared.book.plan.Agg.Agg, declared.book.plan.CmpOp.TheVariants.Ne, declared.book.plan.Operand.TheVariants.Col, declared.book.tree.AggWhat.AggWhat, declared.book.tree.Decl.Decl, declared.book.tree.Extra.Extra, declared.book.tree.Word.Word, declared.book.type_fault.TypeFault.TypeFault, declared.book.type_fault.TypeFault.TheVariants.{DuplicateName, EmptyList, RowTooWide}, declared.value.Kind.Kind, declared.rel.TheConstants.COLUMN_LIMIT}
 use Rattle.smk_base.specs.declared.book.catalog.BackExtra.TheVariants as back_extras
-use Rattle.smk_base.specs.declared.book.catalog.Column.{Column}
-use Rattle.smk_base.specs.declared.book.catalog.TableInfo.{TableInfo}
-use Rattle.smk_base.specs.declared.book.plan.Agg.{Agg}
 use Rattle.smk_base.specs.declared.book.plan.Agg.TheVariants as aggs
-use Rattle.smk_base.specs.declared.book.plan.CmpOp.TheVariants.{Ne}
-use Rattle.smk_base.specs.declared.book.plan.Operand.TheVariants.{Col}
-use Rattle.smk_base.specs.declared.book.tree.AggWhat.{AggWhat}
 use Rattle.smk_base.specs.declared.book.tree.AggWhat.TheVariants as agg_trees
-use Rattle.smk_base.specs.declared.book.tree.Decl.{Decl}
-use Rattle.smk_base.specs.declared.book.tree.Extra.{Extra}
 use Rattle.smk_base.specs.declared.book.tree.Extra.TheVariants as extras
 use Rattle.smk_base.specs.declared.book.tree.Term.TheVariants as terms
-use Rattle.smk_base.specs.declared.book.tree.Word.{Word}
-use Rattle.smk_base.specs.declared.book.type_fault.TypeFault.{TypeFault}
-use Rattle.smk_base.specs.declared.book.type_fault.TypeFault.TheVariants.{DuplicateName, EmptyList, RowTooWide}
-use Rattle.smk_base.specs.declared.value.Kind.{Kind}
-use Rattle.smk_base.specs.declared.rel.TheConstants.{COLUMN_LIMIT}
-use Rattle.smk_model.specs.Dependencies.{Dependency, dependency_of, plan_of, extremes, extremes_differ}
-use Rattle.smk_model.specs.Expanded.{least_word, most_word, bounds, violations_tree, dependency_name, dependency_names}
-use Rattle.smk_model.specs.Names.{Typed, ◌>>=◌, unless, in_turn, same_name, has_name, column_at, column_named}
-use Rattle.smk_model.specs.Profiles.{shown_by, ShowsDependency, AreDependencies}
-use Rattle.smk_model.specs.Session.{view_at, no_view}
-use Rattle.smk_model.specs.TypedSteps.{TypedPlan, TypedGroup, named, key_after, typed_agg, agg_after, whole_group, typed_group, typed_pred, selected_plan, grouped_plan}
-use Rattle.smk_model.specs.Typing.{table_after, view_after, view_of, back_after, fwd_after, link_after, depends_after, stmt_after, types, table_by_word, view_by_word, typed_plan, columns_of, info_at, no_table, nothing_declared, decl_after, typed_extra, to_after}
-use Rattle.smk_model.specs.Workload.{is_back}
-use Rattle.smk_model.proofs.Rules.{made_of, ok_same, unless_ok}
-use Rattle.smk_model.proofs.FirstPlaces.{first_behind, place_grows, named_place, at_end}
+use Rattle.smk_model.specs.{Dependencies.{Dependency, dependency_of, plan_of, extremes, extremes_differ}, Expanded.{least_word, most_word, bounds, violations_tree, dependency_name, dependency_names}, Names.{Typed, ◌>>=◌, unless, in_turn, same_name, has_name, column_at, column_named}, Profiles.{shown_by, ShowsDependency, AreDependencies}, Session.{view_at, no_view}, TypedSteps.{TypedPlan, TypedGroup, named, key_after, typed_agg, agg_after, whole_group, typed_group, typed_pred, selected_plan, grouped_plan}, Typing.{table_after, view_after, view_of, back_after, fwd_after, link_after, depends_after, stmt_after, types, table_by_word, view_by_word, typed_plan, columns_of, info_at, no_table, nothing_declared, decl_after, typed_extra, to_after}, Workload.is_back}
+use Rattle.smk_model.proofs.{Rules.{made_of, ok_same, unless_ok}, FirstPlaces.{first_behind, place_grows, named_place, at_end}}
 
 place_of_ok : (place : Option ℕ) (fault : TypeFault) (n : ℕ) → (let found : Typed ℕ = ok_or place fault in found) ≡ Ok n → place ≡ Some n
 place_of_ok None fault n e = absurd (cc e)

@@ -1,12 +1,8 @@
 -- The number of rows of a step with one input.
-use Rattle.std.proofs.Common.{◌+◌, ◌≤◌, Bool, List, [], ◌∷◌, length, map, arith, inl, inr}
+use Rattle.std.proofs.{Common.{◌+◌, ◌≤◌, Bool, List, [], ◌∷◌, length, map, arith, inl, inr}, lemmas.List.{length-append, length-map}, lemmas.Bool.cases_Bool}
 use Rattle.std.specs.List.{filter, fold}
-use Rattle.std.proofs.lemmas.List.{length-append, length-map}
-use Rattle.std.proofs.lemmas.Bool.{cases_Bool}
 use Rattle.smk_base.specs.Plans.{Selection, Projection, Distinction, Grouping}
-use Rattle.smk_model.specs.Values.{Row, meets}
-use Rattle.smk_model.specs.Plain.{image, key_of, add_first, firsts, grouped}
-use Rattle.smk_model.specs.LocalLaws.{AddsNoRows}
+use Rattle.smk_model.specs.{Values.{Row, meets}, Plain.{image, key_of, add_first, firsts, grouped}, LocalLaws.AddsNoRows}
 use Rattle.smk_model.proofs.Firsts.{holds}
 
 filter_short : (f : Row → Bool) (L : List Row) → length (filter f L) ≤ length L

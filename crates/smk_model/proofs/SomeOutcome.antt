@@ -1,23 +1,9 @@
 -- Every run has an outcome, and every script a list of readings.
 use Rattle.std.specs.Prelude.{Option, Some, None, Result, Ok, Err}
 use Rattle.std.proofs.Common.{◌≡◌, ℕ, List, [], ◌∷◌, refl}
-use Rattle.smk_base.specs.Marks.{after_marks}
-use Rattle.smk_base.specs.Trees.{StmtImage}
-use Rattle.smk_base.specs.declared.book.token.TokenKind.{TokenKind}
+use Rattle.smk_base.specs.{Marks.after_marks, Trees.StmtImage, declared.book.token.TokenKind.TokenKind, declared.fault.Fault.Fault, declared.fault.Fault.TheVariants.Book, declared.fault.BookFault.BookFault}
 use Rattle.smk_base.specs.declared.book.token.TokenKind.TheVariants as kinds
-use Rattle.smk_base.specs.declared.fault.Fault.{Fault}
-use Rattle.smk_base.specs.declared.fault.Fault.TheVariants.{Book}
-use Rattle.smk_base.specs.declared.fault.BookFault.{BookFault}
-use Rattle.smk_model.specs.Values.{Row}
-use Rattle.smk_model.specs.Tokens.{tokens, head_of}
-use Rattle.smk_model.specs.TokenReadings.{no_tally, book_fault, any_fault}
-use Rattle.smk_model.specs.Lines.{lines, place_of}
-use Rattle.smk_model.specs.Readings.{Reading, Nothing, Asks, Unread, IsReading, says_nothing, asks, leaves, AreReadings, no_line, one_line}
-use Rattle.smk_model.specs.Reports.{BookSaid, Report}
-use Rattle.smk_model.specs.Words.{TextSource, words_of}
-use Rattle.smk_model.specs.Outcome.{Held, Parses, spells, misspells, BookSays, unparsed, parsed, FileSays, unread, read, ScriptSays, lines_read, OpensBook, OpensScript, no_script, a_script, Inputs, ReadsFiles, no_book, no_tables, no_readings, no_rows, inputs, source_of, book_of, script_of, ReadsInputs, unusable, usable, Outcome, unreadable, file_bytes, load_all, appended, statements_say, reported}
-use Rattle.smk_model.specs.OutcomeLaws.{FaultlessTextsSpell, SomeReading, SomeOutcome}
-use Rattle.smk_model.specs.Rules.{AStmts, AWholeAnyLine}
+use Rattle.smk_model.specs.{Values.Row, Tokens.{tokens, head_of}, TokenReadings.{no_tally, book_fault, any_fault}, Lines.{lines, place_of}, Readings.{Reading, Nothing, Asks, Unread, IsReading, says_nothing, asks, leaves, AreReadings, no_line, one_line}, Reports.{BookSaid, Report}, Words.{TextSource, words_of}, Outcome.{Held, Parses, spells, misspells, BookSays, unparsed, parsed, FileSays, unread, read, ScriptSays, lines_read, OpensBook, OpensScript, no_script, a_script, Inputs, ReadsFiles, no_book, no_tables, no_readings, no_rows, inputs, source_of, book_of, script_of, ReadsInputs, unusable, usable, Outcome, unreadable, file_bytes, load_all, appended, statements_say, reported}, OutcomeLaws.{FaultlessTextsSpell, SomeReading, SomeOutcome}, Rules.{AStmts, AWholeAnyLine}}
 use Rattle.smk_model.proofs.Shapes.{faultless_finish, faultless_have_trees}
 
 pub faultless_texts_spell : FaultlessTextsSpell

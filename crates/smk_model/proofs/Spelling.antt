@@ -1,12 +1,8 @@
 -- What is read of tokens is spelled by them.
 use Rattle.std.proofs.Common.{◌≡◌, Bool, true, false, List, [], ◌∷◌, refl, ap, sym, ◌∙◌, subst}
 use Rattle.std.specs.Prelude.{Option, Some, None}
-use Rattle.smk_model.specs.Tokens.{Token}
-use Rattle.smk_model.specs.Rules.{PlanCounts, Configuration, no_counts, Symbol, Tree, Rule, Gives, Reads, behind, Opening}
-use Rattle.smk_model.specs.LanguageTable.{rule_of, if_nothing}
-use Rattle.smk_model.specs.TokenReadings.{in_range, limits, Count, Fine, Above, Counting, Move, Takes, Skips, Faults, checked, or_nothing, opened, move_of, goes_on, settle, Outcome, Ended, Open, Failed, after, through}
+use Rattle.smk_model.specs.{Tokens.Token, Rules.{PlanCounts, Configuration, no_counts, Symbol, Tree, Rule, Gives, Reads, behind, Opening}, LanguageTable.{rule_of, if_nothing}, TokenReadings.{in_range, limits, Count, Fine, Above, Counting, Move, Takes, Skips, Faults, checked, or_nothing, opened, move_of, goes_on, settle, Outcome, Ended, Open, Failed, after, through}, Spelled.{Spells, begun, nothing, Follows, given, read, Says}}
 use Rattle.smk_model.proofs.InTurn.{same_end}
-use Rattle.smk_model.specs.Spelled.{Spells, begun, nothing, Follows, given, read, Says}
 
 -- a token that is taken begins the symbol, within its limit
 pub record Begins (counting : Counting) (symbol : Symbol) (c d : PlanCounts) (t : Token) (made : Rule (Tree symbol)) : Type 0 where

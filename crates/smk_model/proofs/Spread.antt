@@ -1,20 +1,9 @@
 -- The least and the greatest of some values are different exactly where two of the values are.
-use Rattle.std.proofs.Common.{◌≡◌, ◌≢◌, Bool, true, false, not, List, [], ◌∷◌, refl, ap, sym, ◌∙◌, ◌||◌, inl, inr, ◌⊎◌, true≢false}
-use Rattle.std.specs.List.{list_any, fold}
-use Rattle.std.specs.declared.cmp.Ordering.{Ordering}
-use Rattle.std.specs.declared.cmp.Ordering.TheVariants.{Less, Equal, Greater}
-use Rattle.std.specs.Ordering.{is_lt, is_gt, is_ne, ordering_reverse}
-use Rattle.std.specs.Cmp.{IsTotalOrder}
-use Rattle.std.proofs.lemmas.Cmp.{int_cmp_total, nat_list_cmp_total, upto, tied_itself}
-use Rattle.std.proofs.lemmas.Map.Lookups.{exact_signed, exact_bytes}
-use Rattle.std.proofs.lemmas.Bool.{cases_Bool}
-use Rattle.smk_base.specs.Values.{value_eq, value_same}
-use Rattle.smk_base.specs.declared.value.Value.{Value}
-use Rattle.smk_base.specs.declared.value.Value.TheVariants.{Int, Text}
-use Rattle.smk_model.specs.Values.{value_cmp}
-use Rattle.smk_model.specs.Plain.{lesser, greater, combined}
+use Rattle.std.proofs.{Common.{◌≡◌, ◌≢◌, Bool, true, false, not, List, [], ◌∷◌, refl, ap, sym, ◌∙◌, ◌||◌, inl, inr, ◌⊎◌, true≢false}, lemmas.Cmp.{int_cmp_total, nat_list_cmp_total, upto, tied_itself}, lemmas.Map.Lookups.{exact_signed, exact_bytes}, lemmas.Bool.cases_Bool}
+use Rattle.std.specs.{List.{list_any, fold}, declared.cmp.Ordering.Ordering, declared.cmp.Ordering.TheVariants.{Less, Equal, Greater}, Ordering.{is_lt, is_gt, is_ne, ordering_reverse}, Cmp.IsTotalOrder}
+use Rattle.smk_base.specs.{Values.{value_eq, value_same}, declared.value.Value.Value, declared.value.Value.TheVariants.{Int, Text}}
+use Rattle.smk_model.specs.{Values.value_cmp, Plain.{lesser, greater, combined}, Dependencies.differ}
 use Rattle.smk_model.proofs.Anys.{or_false}
-use Rattle.smk_model.specs.Dependencies.{differ}
 
 -- the order of values is total, and ties equal values alone
 

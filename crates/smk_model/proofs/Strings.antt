@@ -1,9 +1,7 @@
 -- A text in quotes is the longest.
 use Rattle.std.specs.Prelude.{◌==◌, if◌then◌else◌}
-use Rattle.std.proofs.Common.{◌≡◌, ◌∙◌, ℕ, suc, ◌+◌, ◌≤◌, false, List, [], ◌∷◌, Option, Some, None, ap, sym, subst, refl, arith, inl, inr}
-use Rattle.std.proofs.lemmas.Bool.{cases_eq, eq-eqb, ne_eqb}
-use Rattle.smk_model.specs.Tokens.{string_len}
-use Rattle.smk_model.specs.TokenLaws.{ClosesString, closing, one_byte, a_pair, IsLongest, StringsAreLongest}
+use Rattle.std.proofs.{Common.{◌≡◌, ◌∙◌, ℕ, suc, ◌+◌, ◌≤◌, false, List, [], ◌∷◌, Option, Some, None, ap, sym, subst, refl, arith, inl, inr}, lemmas.Bool.{cases_eq, eq-eqb, ne_eqb}}
+use Rattle.smk_model.specs.{Tokens.string_len, TokenLaws.{ClosesString, closing, one_byte, a_pair, IsLongest, StringsAreLongest}}
 
 -- how far the text goes with n bytes passed before: as far as the greatest length that closes it, or as far as is kept where none does
 data Reaches (kept : Option ℕ) (n : ℕ) (bs : List ℕ) (r : Option ℕ) : Type 0 where

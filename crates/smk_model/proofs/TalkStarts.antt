@@ -2,12 +2,8 @@
 use Rattle.std.specs.Prelude.{Option, Some, None, Result, Ok, Err}
 use Rattle.std.proofs.Common.{◌≡◌, ℕ, List, subst, refl}
 use Rattle.smk_base.specs.declared.fault.Fault.{Fault}
-use Rattle.smk_model.specs.ConversationLaws.{OneTalkStart, SomeTalkStart}
-use Rattle.smk_model.specs.Outcome.{Held, Inputs, ReadsFiles, inputs, source_of, book_of}
-use Rattle.smk_model.specs.TalkStarts.{ReadsTalk, unusable, usable, StartsTalk, unreadable, read, started}
-use Rattle.smk_model.specs.TalkWords.{TalkCall, talk_call_of}
-use Rattle.smk_model.proofs.OneOutcome.{same_opened, same_files}
-use Rattle.smk_model.proofs.SomeOutcome.{some_files}
+use Rattle.smk_model.specs.{ConversationLaws.{OneTalkStart, SomeTalkStart}, Outcome.{Held, Inputs, ReadsFiles, inputs, source_of, book_of}, TalkStarts.{ReadsTalk, unusable, usable, StartsTalk, unreadable, read, started}, TalkWords.{TalkCall, talk_call_of}}
+use Rattle.smk_model.proofs.{OneOutcome.{same_opened, same_files}, SomeOutcome.some_files}
 
 same_call : {asked : Option TalkCall} {u v : TalkCall} → asked ≡ Some u → asked ≡ Some v → v ≡ u
 same_call h k = cc

@@ -1,19 +1,10 @@
 -- A text of the grammar is read, but where it passes a limit; and a line without steps passes none.
 use Rattle.std.specs.Prelude.{Some, None, IsTrue}
 use Rattle.std.proofs.Common.{rules, true, ◌≡◌, List, ap, ◌∙◌, sym, subst, refl, arith, inl, inr, ◌⊎◌}
-use Rattle.smk_base.specs.declared.book.token.TokenKind.{TokenKind}
+use Rattle.smk_base.specs.{declared.book.token.TokenKind.TokenKind, declared.fault.Many.Many, declared.book.tree.Line.Line, Trees.{AnyLineImage, PlainLine, AskedLine, ProfiledLine, AppendedLine}}
 use Rattle.smk_base.specs.declared.book.token.TokenKind.TheVariants as kinds
-use Rattle.smk_base.specs.declared.fault.Many.{Many}
-use Rattle.smk_base.specs.declared.book.tree.Line.{Line}
-use Rattle.smk_base.specs.Trees.{AnyLineImage, PlainLine, AskedLine, ProfiledLine, AppendedLine}
-use Rattle.smk_model.specs.Tokens.{Token}
-use Rattle.smk_model.specs.Rules.{Mark, PlanCounts, no_counts, Symbol, AToken, AMarked, One, More, AStmts, AWholeLine, AWholeAnyLine, Tree, Rule, Gives, Reads, behind, Opening, onward}
-use Rattle.smk_model.specs.LanguageTable.{rule_of}
-use Rattle.smk_model.specs.TokenReadings.{Fine, Above, limits, Takes, opened, Outcome, Ended, fault_in, fault_of, no_tally, any_fault}
-use Rattle.smk_model.specs.Spelled.{Spells, begun, nothing, Follows, given, read, Says, IsWholeLine, IsWholeAnyLine}
-use Rattle.smk_model.specs.GrammarLaws.{AtMostTooMany, TextsAreRead}
-use Rattle.smk_model.proofs.Opens.{follows, is_free, Throughout, IfRule, opens_at}
-use Rattle.smk_model.proofs.OneTree.{GoesTo, goes, stops, Inherits, Any, any_inherits, over_token, followed, complete}
+use Rattle.smk_model.specs.{Tokens.Token, Rules.{Mark, PlanCounts, no_counts, Symbol, One, More, AStmts, AWholeLine, AWholeAnyLine, Tree, Rule, Gives, Reads, behind, Opening, onward}, LanguageTable.rule_of, TokenReadings.{Fine, Above, limits, Takes, opened, Outcome, Ended, fault_in, fault_of, no_tally, any_fault}, Spelled.{Spells, begun, nothing, Follows, given, read, Says, IsWholeLine, IsWholeAnyLine}, GrammarLaws.{AtMostTooMany, TextsAreRead}}
+use Rattle.smk_model.proofs.{Opens.{follows, is_free, Throughout, IfRule, opens_at}, OneTree.{GoesTo, goes, stops, Inherits, Any, any_inherits, over_token, followed, complete}}
 
 at_most : {A : Type 0} {x : A} {b : List Token} {o : Outcome A} → GoesTo limits Any (λ e. Ended x (record { rest = b; counts = e })) o → AtMostTooMany (fault_in o)
 at_most (goes d) = tt
@@ -30,12 +21,8 @@ free_inherits : Inherits Free
 free_inherits symbol t rule is p = (opens_at symbol t.kind t rule is).free p
 
 free_fine : (symbol : Symbol) (c : PlanCounts) (t : Token) (what : Many) → Free symbol → limits symbol c t ≡ Above what → ⊥
-free_fine (AToken k) c t what f e = absurd (cc)
 free_fine (One Mark k) c t what f e = absurd (cc)
-free_fine (One _ k) c t what f e = absurd (cc)
-free_fine (AMarked between) c t what f e = absurd (cc)
 free_fine (More Mark k) c t what f e = absurd (cc)
-free_fine (More _ k) c t what f e = absurd (cc)
 free_fine _ c t what f e = absurd (cc)
 
 none_passed : {A : Type 0} {x : A} {b : List Token} {o : Outcome A} → GoesTo limits Free (λ e. Ended x (record { rest = b; counts = e })) o → fault_in o ≡ None
@@ -81,12 +68,8 @@ carried make given = given
 carried make (read s h) = read s (carried make h)
 
 plain_begins : (k : TokenKind) → rule_of AWholeLine k ≡ None ⊎ (rule_of AWholeAnyLine k ≡ onward (rule_of AWholeLine k) (λ l. Gives (PlainLine l)))
-plain_begins kinds.Show = inr refl
-plain_begins kinds.Back = inr refl
-plain_begins kinds.Fwd = inr refl
-plain_begins kinds.Brush = inr refl
-plain_begins kinds.Clear = inr refl
-plain_begins _ = inl refl
+plain_begins kinds.Bad = inl refl
+plain_begins _ = search (inl, inr)
 
 plain_says : {a b : List Token} {l : Line} → Spells AWholeLine a b l → Spells AWholeAnyLine a b (PlainLine l)
 plain_says (begun {t} {rule = rule} is ranged f) = elim (plain_begins t.kind) [

@@ -1,32 +1,10 @@
 -- Each row of a table reaches at most one row of a growing chain.
-use Rattle.std.proofs.Common.{◌≡◌, ℕ, zero, suc, ◌<◌, ◌≤◌, Bool, true, false, List, [], ◌∷◌, length, map, refl, ap, sym, ◌∙◌, subst, arith, get_or, nat_eq, inl, inr}
+use Rattle.std.proofs.{Common.{◌≡◌, ℕ, zero, suc, ◌<◌, ◌≤◌, Bool, true, false, List, [], ◌∷◌, length, map, refl, ap, sym, ◌∙◌, subst, arith, get_or, nat_eq, inl, inr}, lemmas.List.{length-map, append-nil}, lemmas.List.Elements.{filter-append, All-map}, lemmas.List.Kept.AllPairs-filter, lemmas.List.Sums.sum_by-le, lemmas.Bool.{cases_Bool, cases_order, and_parts, eqb-true, false≢true, false_from_ne_true}}
 use Rattle.std.specs.List.{All, AllPairs}
-use Rattle.std.proofs.lemmas.List.{length-map, append-nil}
-use Rattle.std.proofs.lemmas.List.Elements.{filter-append, All-map}
-use Rattle.std.proofs.lemmas.List.Kept.{AllPairs-filter}
-use Rattle.std.proofs.lemmas.List.Sums.{sum_by-le}
-use Rattle.std.proofs.lemmas.Bool.{cases_Bool, cases_order, and_parts, eqb-true, false≢true, false_from_ne_true}
-use Rattle.smk_base.specs.Places.{Lists}
-use Rattle.smk_base.specs.declared.book.plan.Agg.{Agg}
-use Rattle.smk_base.specs.declared.book.plan.Item.{Item}
-use Rattle.smk_base.specs.Plans.{Formula, Unary, Selection, Projection, Distinction, Grouping, Expr, Leaf, Apply, Combine}
-use Rattle.smk_model.specs.Values.{Row, meets}
-use Rattle.smk_model.specs.Plain.{row_eq, image, key_of, firsts, grouped, leaves}
-use Rattle.smk_model.specs.Lineage.{upto, places, row_at}
-use Rattle.smk_model.specs.Composed.{table_at, forwards}
-use Rattle.smk_model.specs.LineageLaws.{selected_table}
+use Rattle.smk_base.specs.{Places.Lists, declared.book.plan.Agg.Agg, declared.book.plan.Item.Item, Plans.{Formula, Unary, Selection, Projection, Distinction, Grouping, Expr, Leaf, Apply, Combine}}
+use Rattle.smk_model.specs.{Values.{Row, meets}, Plain.{row_eq, image, key_of, firsts, grouped, leaves}, Lineage.{upto, places, row_at}, Composed.{table_at, forwards}, LineageLaws.selected_table, Growth.{is_chain, is_growing}, GrowthLaws.GrowingIsThin}
 use Rattle.smk_base.proofs.Places.{same_below, places_false, places_below, length_upto, get_or_upto, has_passes, has_below, some_member}
-use Rattle.smk_model.proofs.Anys.{or_false}
-use Rattle.smk_model.proofs.CuiWidom.{length_selected, selected_below}
-use Rattle.smk_model.proofs.Firsts.{row_is}
-use Rattle.smk_model.proofs.Locals.{firsts_apart}
-use Rattle.smk_model.proofs.Classes.{same_place}
-use Rattle.smk_model.proofs.Sizes.{adds_no_rows}
-use Rattle.smk_model.proofs.Counts.{pairs_forward}
-use Rattle.smk_model.proofs.Comes.{rows_in, comes, rows_whole}
-use Rattle.smk_model.proofs.Composed.{length_lists, forwards_by}
-use Rattle.smk_model.specs.Growth.{is_chain, is_growing}
-use Rattle.smk_model.specs.GrowthLaws.{GrowingIsThin}
+use Rattle.smk_model.proofs.{Anys.or_false, CuiWidom.{length_selected, selected_below}, Firsts.row_is, Locals.firsts_apart, Classes.same_place, Sizes.adds_no_rows, Counts.pairs_forward, Comes.{rows_in, comes, rows_whole}, Composed.{length_lists, forwards_by}}
 
 -- places that pass are apart
 same_nth : (t : ℕ → Bool) (n i j : ℕ) → i < length (places t n) → j < length (places t n) → get_or (places t n) i 0 ≡ get_or (places t n) j 0 → i ≡ j

@@ -1,22 +1,10 @@
 -- A plan over tables and over others that are the same at its leaves.
-use Rattle.std.proofs.Common.{◌≡◌, ℕ, ◌+◌, true, false, cond, List, [], ◌∷◌, length, map, drop, refl, ap, sym, ◌∙◌, subst, nat_eq, nat_lt, Some, option_map, inl, inr}
+use Rattle.std.proofs.{Common.{◌≡◌, ℕ, ◌+◌, true, false, cond, List, [], ◌∷◌, length, map, drop, refl, ap, sym, ◌∙◌, subst, nat_eq, nat_lt, Some, option_map, inl, inr}, lemmas.List.Folds.list_any-append, lemmas.Bool.{cases_Bool, or_left, or_right, eq-eqb, eqb-true, false≢true, false_from_ne_true}}
 use Rattle.std.specs.List.{find}
-use Rattle.std.proofs.lemmas.List.Folds.{list_any-append}
-use Rattle.std.proofs.lemmas.Bool.{cases_Bool, or_left, or_right, eq-eqb, eqb-true, false≢true, false_from_ne_true}
-use Rattle.smk_base.specs.Places.{Lists, upto, places, has}
-use Rattle.smk_base.specs.declared.book.need.Needed.{Needed}
-use Rattle.smk_base.specs.Plans.{Expr, Leaf, Apply, Combine}
-use Rattle.smk_model.specs.Values.{Row}
-use Rattle.smk_model.specs.Plain.{leaves, width, eval, whole}
-use Rattle.smk_model.specs.Annotated.{relates, back, fwd, pairs}
-use Rattle.smk_model.specs.Composed.{table_at}
-use Rattle.smk_model.specs.Selection.{is_full, nodes}
-use Rattle.smk_model.specs.NodeFaults.{FullRows, FullPairs, pair_limit, AskedTable, asked_of, is_crowded, last_node_fault, first_fault_from}
-use Rattle.smk_model.specs.GrowthLaws.{AgreeAtLeaves, UnscannedStays}
+use Rattle.smk_base.specs.{Places.{Lists, upto, places, has}, declared.book.need.Needed.Needed, Plans.{Expr, Leaf, Apply, Combine}}
+use Rattle.smk_model.specs.{Values.Row, Plain.{leaves, width, eval, whole}, Annotated.{relates, back, fwd, pairs}, Composed.table_at, Selection.{is_full, nodes}, NodeFaults.{FullRows, FullPairs, pair_limit, AskedTable, asked_of, is_crowded, last_node_fault, first_fault_from}, GrowthLaws.{AgreeAtLeaves, UnscannedStays}}
 use Rattle.smk_base.proofs.Places.{same_below, places_false}
-use Rattle.smk_model.proofs.Composed.{sum_by_agree, unscanned_relates}
-use Rattle.smk_model.proofs.Counts.{sum_zero}
-use Rattle.smk_model.proofs.NodeFaults.{either}
+use Rattle.smk_model.proofs.{Composed.{sum_by_agree, unscanned_relates}, Counts.sum_zero, NodeFaults.either}
 
 same_tables : (A B : List (List Row)) (scans : List ℕ) → ((t : ℕ) → has scans t ≡ true → table_at A t ≡ table_at B t) → map (table_at A) scans ≡ map (table_at B) scans
 same_tables A B [] same = refl

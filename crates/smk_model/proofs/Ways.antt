@@ -1,11 +1,7 @@
 -- The lineage of each side of each step, from one law.
-use Rattle.std.proofs.Common.{◌≡◌, ℕ, List, refl}
-use Rattle.smk_base.specs.Places.{Lists}
-use Rattle.smk_base.specs.Plans.{Unary, Selection, Projection, Distinction, Grouping, Binary, Equijoin, BagUnion, SetUnion}
-use Rattle.smk_model.specs.Values.{Row}
-use Rattle.smk_model.specs.Locals.{back1, fwd1, back_left, fwd_left, back_right, fwd_right}
-use Rattle.smk_model.specs.DirectionLaws.{HasSources, HasTargets}
-use Rattle.smk_model.specs.Ways.{Sources, Targets, way, left_way, right_way, IsOf, LineageOfWays}
+use Rattle.std.proofs.Common.{ℕ, List, refl}
+use Rattle.smk_base.specs.{Places.Lists, Plans.{Unary, Selection, Projection, Distinction, Grouping, Binary, Equijoin, BagUnion, SetUnion}}
+use Rattle.smk_model.specs.{Values.Row, Locals.{back1, fwd1, back_left, fwd_left, back_right, fwd_right}, DirectionLaws.{HasSources, HasTargets}, Ways.{Sources, Targets, way, left_way, right_way, IsOf, LineageOfWays}}
 use Rattle.smk_model.proofs.OneEach.{one_each}
 
 sources : {of : List ℕ} {n : ℕ} {back fwd : Lists} → HasSources of n back fwd → IsOf (Sources of n) back fwd

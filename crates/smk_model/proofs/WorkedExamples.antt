@@ -1,20 +1,11 @@
 -- What is worked by hand, by computing it.
-use Rattle.std.specs.Prelude.{Ok}
+use Rattle.std.specs.{Prelude.Ok, Fmt.digits}
 use Rattle.std.proofs.Common.{◌≡◌, [], ◌∷◌, Some, refl}
-use Rattle.std.specs.Fmt.{digits}
-use Rattle.clap.specs.Walk.{walked}
-use Rattle.clap.specs.Faults.{walk_fault, defaults_fault}
-use Rattle.csv.specs.Writing.{fields_text, is_blank, escaped}
-use Rattle.csv.specs.Reading.{records_from}
-use Rattle.csv.specs.Machine.{next_record}
+use Rattle.clap.specs.{Walk.walked, Faults.{walk_fault, defaults_fault}}
+use Rattle.csv.specs.{Writing.{fields_text, is_blank, escaped}, Reading.records_from, Machine.next_record}
 use Rattle.smk_base.specs.Ints.{int_of}
-use Rattle.smk_model.specs.Texts.{record_line}
-use Rattle.smk_model.specs.Tables.{table_of}
+use Rattle.smk_model.specs.{Texts.record_line, Tables.table_of, Readings.{asks, no_line, one_line}, Words.{Files, words_of}, Outcome.{spells, parsed, read, OpensBook, OpensScript, lines_read, no_script, a_script, load_all, inputs, usable, unusable, unreadable, reported}, WorkedExamples.{readme_book_name, readme_script_name, readme_files, readme_catalog, readme_workbook, readme_readings, readme_inputs, readme_report, ReadmeHolds, WordsHold, TablesHold, StringsHold, PlanHolds}}
 use Rattle.smk_model.proofs.Spelling.{computed}
-use Rattle.smk_model.specs.Readings.{asks, no_line, one_line}
-use Rattle.smk_model.specs.Words.{Files, words_of}
-use Rattle.smk_model.specs.Outcome.{spells, parsed, read, OpensBook, OpensScript, lines_read, no_script, a_script, load_all, inputs, usable, unusable, unreadable, reported}
-use Rattle.smk_model.specs.WorkedExamples.{readme_book_name, readme_script_name, readme_files, readme_catalog, readme_workbook, readme_readings, readme_inputs, readme_report, ReadmeHolds, WordsHold, TablesHold, StringsHold, PlanHolds}
 
 pub plan_holds : PlanHolds
 plan_holds = record {

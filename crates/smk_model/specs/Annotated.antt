@@ -1,10 +1,7 @@
 -- Annotated meaning: each row with the set of pairs (leaf, rid) that it came from; and the backward and forward meaning read off it.
-use Rattle.std.specs.Prelude.{ℕ, ◌+◌, Bool, false, ◌&&◌, ◌||◌, List, [], ◌++◌, length, map, slice_index_or, nat_eq}
-use Rattle.std.specs.List.{list_any, flat_map, filter, sum_by}
+use Rattle.std.specs.{Prelude.{ℕ, ◌+◌, Bool, false, ◌&&◌, ◌||◌, List, [], ◌++◌, length, map, slice_index_or, nat_eq}, List.{list_any, flat_map, filter, sum_by}}
 use Rattle.smk_base.specs.Plans.{Unary, Selection, Projection, Distinction, Grouping, Binary, Equijoin, ThetaJoin, CrossProduct, BagUnion, SetUnion, Expr, Leaf, Apply, Combine}
-use Rattle.smk_model.specs.Values.{Row, meets}
-use Rattle.smk_model.specs.Plain.{row_eq, image, key_of, firsts, grouped, agree, meets_together, always, leaves, width, eval}
-use Rattle.smk_model.specs.Lineage.{upto, places, row_at}
+use Rattle.smk_model.specs.{Values.{Row, meets}, Plain.{row_eq, image, key_of, firsts, grouped, agree, meets_together, always, leaves, width, eval}, Lineage.{upto, places, row_at}}
 
 -- a set of pairs (leaf, rid), by its test
 abbrev pub Sources : Type 0

@@ -1,10 +1,7 @@
 -- Laws of answers to `append` lines.
 use Rattle.std.specs.Prelude.{◌≡◌, ℕ, true, false, List, Some}
 use Rattle.smk_base.specs.CatalogImage.{CatalogImage, table_place}
-use Rattle.smk_model.specs.Values.{Row}
-use Rattle.smk_model.specs.Session.{State, first_state}
-use Rattle.smk_model.specs.Appends.{append_turn, is_append_refused, longer_book}
-use Rattle.smk_model.specs.AppendTexts.{IsAppendReply}
+use Rattle.smk_model.specs.{Values.Row, Session.{State, first_state}, Appends.{append_turn, is_append_refused, longer_book}, AppendTexts.IsAppendReply}
 
 -- every answer to an `append` line is one over the catalog: its text can be written
 abbrev pub AppendsFit : Type 0

@@ -1,15 +1,7 @@
 -- The texts of answers to `append` lines.
-use Rattle.std.specs.Prelude.{◌<◌, ℕ, List, [], ◌∷◌, ◌++◌, length, All, codes, decimal}
-use Rattle.std.specs.List.{flat_map}
-use Rattle.smk_base.specs.CatalogImage.{CatalogImage}
-use Rattle.smk_base.specs.declared.reply.AppendReply.{AppendReply}
-use Rattle.smk_base.specs.declared.reply.AppendReply.TheVariants.{Added, Refused}
-use Rattle.smk_base.specs.declared.reply.AppendRefusal.{AppendRefusal}
-use Rattle.smk_base.specs.declared.reply.AppendRefusal.TheVariants.{UnknownTable, TableRows, ViewRows, ViewPairs}
-use Rattle.smk_model.specs.Session.{Workbook, view_at}
-use Rattle.smk_model.specs.Texts.{line}
-use Rattle.smk_model.specs.Typing.{info_at}
-use Rattle.smk_model.specs.ViewTexts.{text_of_view}
+use Rattle.std.specs.{Prelude.{◌<◌, ℕ, List, [], ◌∷◌, ◌++◌, length, All, codes, decimal}, List.flat_map}
+use Rattle.smk_base.specs.{CatalogImage.CatalogImage, declared.reply.AppendReply.AppendReply, declared.reply.AppendReply.TheVariants.{Added, Refused}, declared.reply.AppendRefusal.AppendRefusal, declared.reply.AppendRefusal.TheVariants.{UnknownTable, TableRows, ViewRows, ViewPairs}}
+use Rattle.smk_model.specs.{Session.{Workbook, view_at}, Texts.line, Typing.info_at, ViewTexts.text_of_view}
 
 -- how many rows were appended, and the texts of these views over the longer table
 abbrev pub added_text : Workbook → List ℕ → ℕ → List ℕ → List ℕ

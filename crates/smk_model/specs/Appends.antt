@@ -1,21 +1,7 @@
 -- What an `append` line comes to: the rows of a file behind those of a table, and every view over the longer table; or why the line is refused.
-use Rattle.std.specs.Prelude.{ℕ, ◌+◌, Bool, true, false, ◌||◌, cond, nat_eq, nat_lt, set, List, [], ◌++◌, length, Option, Some, None}
-use Rattle.std.specs.List.{filter, sum_by}
-use Rattle.smk_base.specs.CatalogImage.{CatalogImage, table_place}
-use Rattle.smk_base.specs.Places.{places, has}
-use Rattle.smk_base.specs.declared.book.catalog.Back.{Back}
-use Rattle.smk_base.specs.declared.reply.AppendReply.{AppendReply}
-use Rattle.smk_base.specs.declared.reply.AppendReply.TheVariants.{Added, Refused}
-use Rattle.smk_base.specs.declared.reply.AppendRefusal.{AppendRefusal}
-use Rattle.smk_base.specs.declared.reply.AppendRefusal.TheVariants.{UnknownTable, TableRows, ViewRows, ViewPairs}
-use Rattle.smk_model.specs.Values.{Row}
-use Rattle.smk_model.specs.Plain.{leaves, whole, table_at}
-use Rattle.smk_model.specs.Growth.{is_growing}
-use Rattle.smk_model.specs.Looks.{looks_of_back}
-use Rattle.smk_model.specs.NodeFaults.{NodeFault, FullRows, FullPairs}
-use Rattle.smk_model.specs.Opening.{ViewFault, view_fault, first_some}
-use Rattle.smk_model.specs.Selection.{row_limit, rows_in}
-use Rattle.smk_model.specs.Session.{Workbook, State, view_at}
+use Rattle.std.specs.{Prelude.{ℕ, ◌+◌, Bool, true, false, ◌||◌, cond, nat_eq, nat_lt, set, List, [], ◌++◌, length, Option, Some, None}, List.{filter, sum_by}}
+use Rattle.smk_base.specs.{CatalogImage.{CatalogImage, table_place}, Places.{places, has}, declared.book.catalog.Back.Back, declared.reply.AppendReply.AppendReply, declared.reply.AppendReply.TheVariants.{Added, Refused}, declared.reply.AppendRefusal.AppendRefusal, declared.reply.AppendRefusal.TheVariants.{UnknownTable, TableRows, ViewRows, ViewPairs}}
+use Rattle.smk_model.specs.{Values.Row, Plain.{leaves, whole, table_at}, Growth.is_growing, Looks.looks_of_back, NodeFaults.{NodeFault, FullRows, FullPairs}, Opening.{ViewFault, view_fault, first_some}, Selection.{row_limit, rows_in}, Session.{Workbook, State, view_at}}
 
 -- the rows of every table, with more behind those of one
 abbrev pub longer : List (List Row) → ℕ → List Row → List (List Row)

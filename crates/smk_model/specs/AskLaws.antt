@@ -1,15 +1,7 @@
 -- Laws of steps over a backward answer.
 use Rattle.std.specs.Prelude.{◌≡◌, ◌≤◌, List, [], ◌∷◌, length, None, All}
-use Rattle.smk_base.specs.CatalogImage.{CatalogImage}
-use Rattle.smk_base.specs.Plans.{Unary}
-use Rattle.smk_base.specs.Trees.{AskImage}
-use Rattle.smk_model.specs.Values.{Row}
-use Rattle.smk_model.specs.Asks.{ask_reply, back_line, chain}
-use Rattle.smk_model.specs.AskTexts.{IsAskReplyTo, IsBackReply}
-use Rattle.smk_model.specs.Catalogs.{IsCatalog}
-use Rattle.smk_model.specs.Replies.{reply}
-use Rattle.smk_model.specs.Selection.{first_full, node_rows, row_limit}
-use Rattle.smk_model.specs.Session.{State}
+use Rattle.smk_base.specs.{CatalogImage.CatalogImage, Plans.Unary, Trees.AskImage}
+use Rattle.smk_model.specs.{Values.Row, Asks.{ask_reply, back_line, chain}, AskTexts.{IsAskReplyTo, IsBackReply}, Catalogs.IsCatalog, Replies.reply, Selection.{first_full, node_rows, row_limit}, Session.State}
 
 -- no step of a chain adds rows
 abbrev pub ChainsAddNoRows : Type 0

@@ -1,22 +1,9 @@
 -- The texts of answers to `ask` lines.
 use Rattle.std.specs.Prelude.{◌≡◌, ◌≢◌, ◌≤◌, ℕ, IsSome, List, [], ◌∷◌, length, codes, decimal}
-use Rattle.smk_base.specs.CatalogImage.{CatalogImage}
-use Rattle.smk_base.specs.Rels.{Relation}
-use Rattle.smk_base.specs.Trees.{AskImage}
-use Rattle.smk_base.specs.declared.reply.Reply.{Reply}
+use Rattle.smk_base.specs.{CatalogImage.CatalogImage, Rels.Relation, Trees.AskImage, declared.reply.Reply.Reply, declared.reply.AskReply.AskReply, declared.reply.AskRefusal.AskRefusal, declared.reply.AskRefusal.TheVariants.{Back, Steps}, declared.book.type_fault.TypeFault.TheVariants.NoMemory, declared.rel.TheConstants.COLUMN_LIMIT}
 use Rattle.smk_base.specs.declared.reply.Reply.TheVariants as replies
-use Rattle.smk_base.specs.declared.reply.AskReply.{AskReply}
 use Rattle.smk_base.specs.declared.reply.AskReply.TheVariants as answers
-use Rattle.smk_base.specs.declared.reply.AskRefusal.{AskRefusal}
-use Rattle.smk_base.specs.declared.reply.AskRefusal.TheVariants.{Back, Steps}
-use Rattle.smk_base.specs.declared.book.type_fault.TypeFault.TheVariants.{NoMemory}
-use Rattle.smk_base.specs.declared.rel.TheConstants.{COLUMN_LIMIT}
-use Rattle.smk_model.specs.Asks.{back_line, columns_named}
-use Rattle.smk_model.specs.FaultTexts.{type_words}
-use Rattle.smk_model.specs.Names.{column_kinds}
-use Rattle.smk_model.specs.ReplyTexts.{IsRefusalOf, refusal_text, table_named}
-use Rattle.smk_model.specs.Texts.{line, ask_rows_text}
-use Rattle.smk_model.specs.Typing.{nothing_declared}
+use Rattle.smk_model.specs.{Asks.{back_line, columns_named}, FaultTexts.type_words, Names.column_kinds, ReplyTexts.{IsRefusalOf, refusal_text, table_named}, Texts.{line, ask_rows_text}, Typing.nothing_declared}
 
 -- rows that answer the `back` line within an `ask` line: the catalog has the table, and they have the kinds of its columns, of which there are at most 16
 pub record AreBackRows (catalog : CatalogImage) (asked : AskImage) (rows : Relation) : Type 0 where

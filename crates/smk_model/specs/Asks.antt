@@ -1,29 +1,12 @@
 -- What an `ask` line comes to: steps over the rows that the marks of a view came from.
 use Rattle.std.specs.Prelude.{ℕ, Bool, true, false, List, [], ◌∷◌, Option, Some, None, Ok, Err}
-use Rattle.smk_base.specs.CatalogImage.{CatalogImage}
-use Rattle.smk_base.specs.Plans.{Unary, Expr, Leaf, Apply}
-use Rattle.smk_base.specs.Trees.{AskStepImage, AskImage}
-use Rattle.smk_base.specs.declared.value.Kind.{Kind}
-use Rattle.smk_base.specs.declared.book.catalog.Column.{Column}
-use Rattle.smk_base.specs.declared.book.catalog.TableInfo.{TableInfo}
-use Rattle.smk_base.specs.declared.book.tree.Line.{Line}
+use Rattle.smk_base.specs.{CatalogImage.CatalogImage, Plans.{Unary, Expr, Leaf, Apply}, Trees.{AskStepImage, AskImage}, declared.value.Kind.Kind, declared.book.catalog.Column.Column, declared.book.catalog.TableInfo.TableInfo, declared.book.tree.Line.Line, declared.reply.Reply.Reply, declared.reply.AskReply.AskReply}
 use Rattle.smk_base.specs.declared.book.tree.Line.TheVariants as lines
 use Rattle.smk_base.specs.declared.book.tree.Then.TheVariants as thens
-use Rattle.smk_base.specs.declared.reply.Reply.{Reply}
 use Rattle.smk_base.specs.declared.reply.Reply.TheVariants as replies
-use Rattle.smk_base.specs.declared.reply.AskReply.{AskReply}
 use Rattle.smk_base.specs.declared.reply.AskReply.TheVariants as answers
 use Rattle.smk_base.specs.declared.reply.AskRefusal.TheVariants as refusals
-use Rattle.smk_model.specs.Values.{Row}
-use Rattle.smk_model.specs.FaultTexts.{type_place}
-use Rattle.smk_model.specs.Looks.{line_looks}
-use Rattle.smk_model.specs.Names.{Typed, ◌>>=◌, in_turn, names_of, column_kinds}
-use Rattle.smk_model.specs.Plain.{eval}
-use Rattle.smk_model.specs.Replies.{reply}
-use Rattle.smk_model.specs.ReplyTexts.{table_named}
-use Rattle.smk_model.specs.Session.{State}
-use Rattle.smk_model.specs.TypedSteps.{TypedPlan}
-use Rattle.smk_model.specs.Typing.{columns_of, typed_step}
+use Rattle.smk_model.specs.{Values.Row, FaultTexts.type_place, Looks.line_looks, Names.{Typed, ◌>>=◌, in_turn, names_of, column_kinds}, Plain.eval, Replies.reply, ReplyTexts.table_named, Session.State, TypedSteps.TypedPlan, Typing.{columns_of, typed_step}}
 
 -- a plan with steps over it, one after the other
 abbrev pub chain_onto : Expr → List Unary → Expr

@@ -1,22 +1,7 @@
 -- What every checked book keeps.
 use Rattle.std.specs.Prelude.{◌≡◌, ◌≤◌, ◌<◌, ℕ, List, map, length, All}
-use Rattle.smk_base.specs.declared.value.Kind.{Kind}
-use Rattle.smk_base.specs.declared.book.catalog.TableInfo.{TableInfo}
-use Rattle.smk_base.specs.declared.book.catalog.Back.{Back}
-use Rattle.smk_base.specs.declared.book.catalog.BackExtra.{BackExtra}
-use Rattle.smk_base.specs.declared.book.catalog.BackExtra.TheVariants.{Plain, By, Grouped}
-use Rattle.smk_base.specs.declared.book.catalog.Fwd.{Fwd}
-use Rattle.smk_base.specs.declared.book.catalog.LinkInfo.{LinkInfo}
-use Rattle.smk_base.specs.declared.book.plan.Agg.{Agg}
-use Rattle.smk_base.specs.declared.book.limits.TheConstants.{TABLE_LIMIT, VIEW_LIMIT, NODE_LIMIT}
-use Rattle.smk_base.specs.declared.rel.TheConstants.{COLUMN_LIMIT}
-use Rattle.smk_base.specs.Plans.{Grouping}
-use Rattle.smk_base.specs.CatalogImage.{CatalogImage, ViewImage}
-use Rattle.smk_model.specs.Names.{column_kinds}
-use Rattle.smk_model.specs.Kinds.{GroupFits, kinds1}
-use Rattle.smk_model.specs.Tables.{IsBaseColumn}
-use Rattle.smk_model.specs.Typing.{columns_of, info_at}
-use Rattle.smk_model.specs.Selection.{ScansFit, PlanFits, leaf_kinds, plan_kinds, nodes}
+use Rattle.smk_base.specs.{declared.value.Kind.Kind, declared.book.catalog.TableInfo.TableInfo, declared.book.catalog.Back.Back, declared.book.catalog.BackExtra.BackExtra, declared.book.catalog.BackExtra.TheVariants.{Plain, By, Grouped}, declared.book.catalog.Fwd.Fwd, declared.book.catalog.LinkInfo.LinkInfo, declared.book.plan.Agg.Agg, declared.book.limits.TheConstants.{TABLE_LIMIT, VIEW_LIMIT, NODE_LIMIT}, declared.rel.TheConstants.COLUMN_LIMIT, Plans.Grouping, CatalogImage.{CatalogImage, ViewImage}}
+use Rattle.smk_model.specs.{Names.column_kinds, Kinds.{GroupFits, kinds1}, Tables.IsBaseColumn, Typing.{columns_of, info_at}, Selection.{ScansFit, PlanFits, leaf_kinds, plan_kinds, nodes}}
 
 -- the limits of tables, views and declared columns
 pub record IsWithinLimits (catalog : CatalogImage) : Type 0 where

@@ -1,14 +1,7 @@
 -- Laws of classes of keys, and what rows that are gathered in bulk give of a step.
-use Rattle.std.specs.Prelude.{◌≡◌, ℕ, ◌+◌, ◌<◌, true, not, List, ◌++◌, length, map, take, slice_index_or, nat_eq}
-use Rattle.std.specs.List.{list_any, filter, All}
-use Rattle.smk_base.specs.Plans.{Formula, Selection, Distinction, Grouping, Binary, SetUnion}
-use Rattle.smk_base.specs.Rels.{beside_rows}
-use Rattle.smk_base.specs.declared.book.plan.Item.{Item}
-use Rattle.smk_base.specs.declared.book.plan.Agg.{Agg}
-use Rattle.smk_model.specs.Values.{Row}
-use Rattle.smk_model.specs.Plain.{row_eq, image, key_of, aggregate, firsts, is_join, joins, step1, step2}
-use Rattle.smk_model.specs.Lineage.{upto, places, row_at, sub, meeting, matching, lefts_of, rights_of}
-use Rattle.smk_model.specs.Classes.{classes, first_places, new_places}
+use Rattle.std.specs.{Prelude.{◌≡◌, ℕ, ◌+◌, ◌<◌, true, not, List, ◌++◌, length, map, take, slice_index_or, nat_eq}, List.{list_any, filter, All}}
+use Rattle.smk_base.specs.{Plans.{Formula, Selection, Distinction, Grouping, Binary, SetUnion}, Rels.beside_rows, declared.book.plan.Item.Item, declared.book.plan.Agg.Agg}
+use Rattle.smk_model.specs.{Values.Row, Plain.{row_eq, image, key_of, aggregate, firsts, is_join, joins, step1, step2}, Lineage.{upto, places, row_at, sub, meeting, matching, lefts_of, rights_of}, Classes.{classes, first_places, new_places}}
 
 -- a number for each key, the place of an equal key among the first occurrences
 pub record AreClasses (keys : List Row) (of : List ℕ) : Type 0 where

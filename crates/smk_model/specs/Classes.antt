@@ -1,9 +1,6 @@
 -- Keys in classes of equal ones, which are numbered by first occurrence.
-use Rattle.std.specs.Prelude.{ℕ, not, List, ◌++◌, length, map, take}
-use Rattle.std.specs.List.{list_any, position_or_len}
-use Rattle.smk_model.specs.Values.{Row}
-use Rattle.smk_model.specs.Plain.{row_eq, firsts}
-use Rattle.smk_model.specs.Lineage.{places, row_at}
+use Rattle.std.specs.{Prelude.{ℕ, not, List, ◌++◌, length, map, take}, List.{list_any, position_or_len}}
+use Rattle.smk_model.specs.{Values.Row, Plain.{row_eq, firsts}, Lineage.{places, row_at}}
 
 -- for each of these rows its first place among those
 abbrev pub places_in : List Row → List Row → List ℕ

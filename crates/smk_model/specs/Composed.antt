@@ -1,11 +1,8 @@
 -- Lineage of a whole plan over whole tables, as lists of rids and as lists of places.
 use Rattle.std.specs.Prelude.{ℕ, List, [], ◌∷◌, length, map}
-use Rattle.smk_base.specs.Places.{Lists, upto}
-use Rattle.smk_base.specs.Plans.{Expr}
-use Rattle.smk_model.specs.Values.{Row}
+use Rattle.smk_base.specs.{Places.{Lists, upto}, Plans.Expr}
+use Rattle.smk_model.specs.{Values.Row, Plain.whole, Annotated.{back, fwd}}
 pub use Rattle.smk_model.specs.Plain.{table_at, rows_over}
-use Rattle.smk_model.specs.Plain.{whole}
-use Rattle.smk_model.specs.Annotated.{back, fwd}
 
 -- what stands for the backward lineage of a plan to a table: for each row the rids that it came from
 abbrev pub backs : Expr → List (List Row) → ℕ → Lists

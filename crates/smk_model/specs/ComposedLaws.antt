@@ -1,13 +1,7 @@
 -- Laws of composed lineage, each a statement over all arguments.
-use Rattle.std.specs.Prelude.{◌≡◌, ℕ, ◌<◌, ◌≤◌, false, List, [], ◌∷◌, ◌++◌, length, take, drop, nat_eq}
-use Rattle.std.specs.List.{All}
-use Rattle.smk_base.specs.Places.{Lists, has, IsPlaces, pairs_of, list_at, own_lists, empty_lists, members_at, composed, merged, inverted}
-use Rattle.smk_base.specs.Plans.{Unary, Binary, Expr, Leaf, Apply, Combine}
-use Rattle.smk_model.specs.Values.{Row}
-use Rattle.smk_model.specs.Plain.{step1, step2, leaves, width, eval, whole}
-use Rattle.smk_model.specs.Locals.{back1, fwd1, back_left, fwd_left, back_right, fwd_right}
-use Rattle.smk_model.specs.Annotated.{back, fwd, pairs}
-use Rattle.smk_model.specs.Composed.{table_at, rows_over, backs, forwards}
+use Rattle.std.specs.{Prelude.{◌≡◌, ℕ, ◌<◌, ◌≤◌, false, List, [], ◌∷◌, ◌++◌, length, take, drop, nat_eq}, List.All}
+use Rattle.smk_base.specs.{Places.{Lists, has, IsPlaces, pairs_of, list_at, own_lists, empty_lists, members_at, composed, merged, inverted}, Plans.{Unary, Binary, Expr, Leaf, Apply, Combine}}
+use Rattle.smk_model.specs.{Values.Row, Plain.{step1, step2, leaves, width, eval, whole}, Locals.{back1, fwd1, back_left, fwd_left, back_right, fwd_right}, Annotated.{back, fwd, pairs}, Composed.{table_at, rows_over, backs, forwards}}
 
 -- the rows over whole tables and the backward lists, node by node
 pub record BacksCompose : Type 0 where

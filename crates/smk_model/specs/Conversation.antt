@@ -1,22 +1,7 @@
 -- A conversation over a book: what is said of each line that is heard, and where the line leaves the session.
-use Rattle.std.specs.Prelude.{◌≡◌, ◌⊎◌, ◌≤◌, ◌<◌, ◌+◌, ⊤, ℕ, Bool, true, false, ◌&&◌, cond, nat_eq, List, [], ◌∷◌, ◌++◌, length, drop, map, Option, Some, None, Result, Ok, Err, codes}
-use Rattle.std.specs.List.{filter, flat_map, scan}
-use Rattle.smk_base.specs.CatalogImage.{CatalogImage}
-use Rattle.smk_base.specs.Marks.{after_marks}
-use Rattle.smk_base.specs.Trees.{AnyLineImage, AppendedLine}
-use Rattle.smk_base.specs.declared.book.catalog.TableInfo.{TableInfo}
-use Rattle.smk_base.specs.declared.fault.Fault.{Fault}
-use Rattle.smk_model.specs.FaultTexts.{fault_text}
-use Rattle.smk_model.specs.Outcome.{Held, appended_at, file_limit, load}
-use Rattle.smk_model.specs.OwnAnswers.{own_told, own_after}
-use Rattle.smk_model.specs.OwnLines.{OwnReading, IsOwnReading, is_own}
-use Rattle.smk_model.specs.OwnTexts.{schema_text}
-use Rattle.smk_model.specs.Readings.{Reading, Asks, IsReading}
-use Rattle.smk_model.specs.Reports.{BookSaid, Report, LinesTold, nothing_told, followed_by, brings_rows, line_told, state_after, report_told}
-use Rattle.smk_model.specs.Session.{Workbook, State, first_state}
-use Rattle.smk_model.specs.Texts.{line}
-use Rattle.smk_model.specs.Values.{Row}
-use Rattle.smk_model.specs.ViewTexts.{view_texts, views_text}
+use Rattle.std.specs.{Prelude.{◌≡◌, ◌⊎◌, ◌≤◌, ◌<◌, ◌+◌, ⊤, ℕ, Bool, true, false, ◌&&◌, cond, nat_eq, List, [], ◌∷◌, ◌++◌, length, drop, map, Option, Some, None, Result, Ok, Err, codes}, List.{filter, flat_map, scan}}
+use Rattle.smk_base.specs.{CatalogImage.CatalogImage, Marks.after_marks, Trees.{AnyLineImage, AppendedLine}, declared.book.catalog.TableInfo.TableInfo, declared.fault.Fault.Fault}
+use Rattle.smk_model.specs.{FaultTexts.fault_text, Outcome.{Held, appended_at, file_limit, load}, OwnAnswers.{own_told, own_after}, OwnLines.{OwnReading, IsOwnReading, is_own}, OwnTexts.schema_text, Readings.{Reading, Asks, IsReading}, Reports.{BookSaid, Report, LinesTold, nothing_told, followed_by, brings_rows, line_told, state_after, report_told}, Session.{Workbook, State, first_state}, Texts.line, Values.Row, ViewTexts.{view_texts, views_text}}
 
 -- a line that is answered as the line of a script: its bytes, what it says, and the rows of the file that it appends; it brings none where it appends to no table of the book
 pub record HeardLine : Type 0 where

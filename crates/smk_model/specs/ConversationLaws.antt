@@ -1,16 +1,7 @@
 -- What a conversation says is what a run writes.
-use Rattle.std.specs.Prelude.{◌≡◌, ◌++◌, ◌∷◌, [], ℕ, Bool, false, List, Some, None, Result, Ok, map}
-use Rattle.std.specs.List.{concat, flat_map, scan}
-use Rattle.smk_base.specs.Marks.{after_marks}
-use Rattle.smk_base.specs.declared.fault.Fault.{Fault}
-use Rattle.smk_base.specs.CatalogImage.{CatalogImage}
-use Rattle.smk_model.specs.Conversation.{HeardLine, TalkTurn, TalkState, Replied, first_talk_state, line_of, is_own_turn, text_read, FilesBring, FitsTalk, turn_after, turn_block, opening_text, opening_block, talk_report, talk_texts, talk_said, readings_of, rows_brought, AreHeard, texts_read}
-use Rattle.smk_model.specs.Lines.{lines}
-use Rattle.smk_model.specs.Outcome.{Held, Inputs, ReadsFiles, file_bytes}
-use Rattle.smk_model.specs.OwnLines.{is_own}
-use Rattle.smk_model.specs.Reports.{report_of}
-use Rattle.smk_model.specs.Session.{Workbook}
-use Rattle.smk_model.specs.TalkStarts.{StartsTalk}
+use Rattle.std.specs.{Prelude.{◌≡◌, ◌++◌, ◌∷◌, [], ℕ, Bool, false, List, Some, None, Result, Ok, map}, List.{concat, flat_map, scan}}
+use Rattle.smk_base.specs.{Marks.after_marks, declared.fault.Fault.Fault, CatalogImage.CatalogImage}
+use Rattle.smk_model.specs.{Conversation.{HeardLine, TalkTurn, TalkState, Replied, first_talk_state, line_of, is_own_turn, text_read, FilesBring, FitsTalk, turn_after, turn_block, opening_text, opening_block, talk_report, talk_texts, talk_said, readings_of, rows_brought, AreHeard, texts_read}, Lines.lines, Outcome.{Held, Inputs, ReadsFiles, file_bytes}, OwnLines.is_own, Reports.report_of, Session.Workbook, TalkStarts.StartsTalk}
 
 -- what is said, put together and block by block, and what a run of the same lines has in its report; a script has no own lines
 pub record TalksAsReported : Type 0 where

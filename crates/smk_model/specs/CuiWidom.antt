@@ -1,8 +1,7 @@
 -- The conditions of Cui and Widom on the places that an output row of a step comes from, once for a step with one input and once for two. A step is any function of its inputs' rows.
 use Rattle.std.specs.Prelude.{◌≡◌, ◌≢◌, ℕ, true, List, [], ◌∷◌, length}
 use Rattle.smk_base.specs.Places.{IsPlaces}
-use Rattle.smk_model.specs.Values.{Row}
-use Rattle.smk_model.specs.Lineage.{has, row_at, sub}
+use Rattle.smk_model.specs.{Values.Row, Lineage.{has, row_at, sub}}
 
 -- the first list has every place of the second
 abbrev pub Holds : List ℕ → List ℕ → Type 0

@@ -1,14 +1,7 @@
 -- The demo: the book, the files and the script that stand for a number, and the summary of their report.
-use Rattle.std.specs.Prelude.{ℕ, ◌*◌, ◌/◌, ◌%◌, pos, ◌-ℤ◌, List, [], ◌∷◌, ◌++◌, length, map, codes, decimal}
-use Rattle.std.specs.List.{flat_map}
-use Rattle.std.specs.Fmt.{signed_decimal}
-use Rattle.smk_base.specs.Places.{upto}
-use Rattle.smk_base.specs.declared.demo.Demo.{Demo}
-use Rattle.smk_base.specs.declared.demo.DemoFile.{DemoFile}
-use Rattle.smk_base.specs.declared.size.Size.{Size}
-use Rattle.smk_base.specs.declared.demo.TheConstants.{DEMO_BOOK, DEMO_SCRIPT}
-use Rattle.smk_model.specs.Texts.{line, record_line}
-use Rattle.smk_model.specs.Reports.{Report}
+use Rattle.std.specs.{Prelude.{ℕ, ◌*◌, ◌/◌, ◌%◌, pos, ◌-ℤ◌, List, [], ◌∷◌, ◌++◌, length, map, codes, decimal}, List.flat_map, Fmt.signed_decimal}
+use Rattle.smk_base.specs.{Places.upto, declared.demo.Demo.Demo, declared.demo.DemoFile.DemoFile, declared.size.Size.Size, declared.demo.TheConstants.{DEMO_BOOK, DEMO_SCRIPT}}
+use Rattle.smk_model.specs.{Texts.{line, record_line}, Reports.Report}
 
 -- the text of a table: its records, one after the other
 abbrev pub table_text : List (List (List ℕ)) → List ℕ

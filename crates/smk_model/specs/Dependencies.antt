@@ -1,17 +1,7 @@
 -- Functional dependencies: the keys of a table whose rows break one, and the plan of the view that shows them.
-use Rattle.std.specs.Prelude.{ℕ, ◌+◌, Bool, not, List, [], ◌∷◌, ◌++◌, length, map, slice_index_or}
-use Rattle.std.specs.List.{list_any, filter}
-use Rattle.smk_base.specs.Places.{places}
-use Rattle.smk_base.specs.Plans.{Formula, Comparison, Selection, Grouping, Expr, Leaf, Apply}
-use Rattle.smk_base.specs.Values.{value_eq}
-use Rattle.smk_base.specs.declared.book.plan.Agg.{Agg}
-use Rattle.smk_base.specs.declared.book.plan.Agg.TheVariants.{Min, Max}
-use Rattle.smk_base.specs.declared.book.plan.CmpOp.TheVariants.{Ne}
-use Rattle.smk_base.specs.declared.book.plan.Operand.TheVariants.{Col}
-use Rattle.smk_base.specs.declared.value.Value.{Value}
-use Rattle.smk_model.specs.Values.{Row, value_at}
-use Rattle.smk_model.specs.Plain.{row_eq, key_of, firsts, aggregate}
-use Rattle.smk_model.specs.Lineage.{row_at}
+use Rattle.std.specs.{Prelude.{ℕ, ◌+◌, Bool, not, List, [], ◌∷◌, ◌++◌, length, map, slice_index_or}, List.{list_any, filter}}
+use Rattle.smk_base.specs.{Places.places, Plans.{Formula, Comparison, Selection, Grouping, Expr, Leaf, Apply}, Values.value_eq, declared.book.plan.Agg.Agg, declared.book.plan.Agg.TheVariants.{Min, Max}, declared.book.plan.CmpOp.TheVariants.Ne, declared.book.plan.Operand.TheVariants.Col, declared.value.Value.Value}
+use Rattle.smk_model.specs.{Values.{Row, value_at}, Plain.{row_eq, key_of, firsts, aggregate}, Lineage.row_at}
 
 -- a key whose rows differ, and the rids of all rows with that key, ascending
 pub record Violation : Type 0 where

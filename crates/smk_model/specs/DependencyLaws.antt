@@ -1,9 +1,6 @@
 -- Laws of functional dependencies.
 use Rattle.std.specs.Prelude.{◌≡◌, ℕ, ◌<◌, List, [], ◌∷◌, length, map}
-use Rattle.smk_model.specs.Values.{Row}
-use Rattle.smk_model.specs.Plain.{eval}
-use Rattle.smk_model.specs.Annotated.{back}
-use Rattle.smk_model.specs.Dependencies.{violations, violation_at, violation_row, dependency_plan}
+use Rattle.smk_model.specs.{Values.Row, Plain.eval, Annotated.back, Dependencies.{violations, violation_at, violation_row, dependency_plan}}
 
 -- the view of a dependency over some rows
 pub record ShowsViolations (table : ℕ) (rows : List Row) (keys : List ℕ) (c : ℕ) : Type 0 where

@@ -1,17 +1,7 @@
 -- Laws of the two directions of lineage: of one step and of a plan, each direction is the other inverted, with as many members; and which steps have one place for each row.
-use Rattle.std.specs.Prelude.{◌≡◌, ℕ, ◌+◌, ◌<◌, true, List, ◌++◌, length, map}
-use Rattle.std.specs.List.{All}
-use Rattle.smk_base.specs.Places.{Lists, IsPlaces, pairs_of, inverted}
-use Rattle.smk_base.specs.declared.book.plan.Item.{Item}
-use Rattle.smk_base.specs.declared.book.plan.Agg.{Agg}
-use Rattle.smk_base.specs.Plans.{Formula, Unary, Selection, Projection, Distinction, Grouping, Binary, BagUnion, SetUnion, Expr}
-use Rattle.smk_model.specs.Values.{Row}
-use Rattle.smk_model.specs.Plain.{image, key_of, firsts, is_join, joins, whole}
-use Rattle.smk_model.specs.Lineage.{upto, meeting, matching, lefts_of, rights_of}
-use Rattle.smk_model.specs.Locals.{singles, back_lists, fwd_lists, back1, fwd1, back_left, fwd_left, back_right, fwd_right}
-use Rattle.smk_model.specs.Classes.{places_in, classes}
-use Rattle.smk_model.specs.Annotated.{pairs}
-use Rattle.smk_model.specs.Composed.{table_at, backs, forwards}
+use Rattle.std.specs.{Prelude.{◌≡◌, ℕ, ◌+◌, ◌<◌, true, List, ◌++◌, length, map}, List.All}
+use Rattle.smk_base.specs.{Places.{Lists, IsPlaces, pairs_of, inverted}, declared.book.plan.Item.Item, declared.book.plan.Agg.Agg, Plans.{Formula, Unary, Selection, Projection, Distinction, Grouping, Binary, BagUnion, SetUnion, Expr}}
+use Rattle.smk_model.specs.{Values.Row, Plain.{image, key_of, firsts, is_join, joins, whole}, Lineage.{upto, meeting, matching, lefts_of, rights_of}, Locals.{singles, back_lists, fwd_lists, back1, fwd1, back_left, fwd_left, back_right, fwd_right}, Classes.{places_in, classes}, Annotated.pairs, Composed.{table_at, backs, forwards}}
 
 -- each direction is the other inverted
 pub record Inverses : Type 0 where

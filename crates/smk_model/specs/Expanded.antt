@@ -1,13 +1,8 @@
 -- The book that is typed and answered: the statements that stand in the place of each dependency.
-use Rattle.std.specs.Prelude.{ℕ, List, [], ◌∷◌, All, codes}
-use Rattle.std.specs.List.{flat_map}
-use Rattle.smk_base.specs.declared.book.plan.CmpOp.TheVariants.{Ne}
-use Rattle.smk_base.specs.declared.book.tree.Word.{Word}
-use Rattle.smk_base.specs.declared.book.tree.AggTree.{AggTree}
-use Rattle.smk_base.specs.declared.book.tree.AggWhat.TheVariants.{Min, Max}
+use Rattle.std.specs.{Prelude.{ℕ, List, [], ◌∷◌, All, codes}, List.flat_map}
+use Rattle.smk_base.specs.{declared.book.plan.CmpOp.TheVariants.Ne, declared.book.tree.Word.Word, declared.book.tree.AggTree.AggTree, declared.book.tree.AggWhat.TheVariants.{Min, Max}, Trees.{TreeImage, ScanNode, StepNode, StepImage, SelectNode, GroupNode, CompareNode, StmtImage, TableNode, ViewNode, BackNode, FwdNode, LinkNode, DependsNode}}
 use Rattle.smk_base.specs.declared.book.tree.Extra.TheVariants as extras
 use Rattle.smk_base.specs.declared.book.tree.Term.TheVariants as terms
-use Rattle.smk_base.specs.Trees.{TreeImage, ScanNode, StepNode, StepImage, SelectNode, GroupNode, CompareNode, StmtImage, TableNode, ViewNode, BackNode, FwdNode, LinkNode, DependsNode}
 
 -- the least and the most value of the column for a key, named at the place of the statement
 abbrev pub least_word : ℕ → Word

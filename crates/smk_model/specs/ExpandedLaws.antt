@@ -1,11 +1,7 @@
 -- What the book with each dependency replaced keeps.
 use Rattle.std.specs.Prelude.{◌≡◌, List, Ok}
-use Rattle.smk_base.specs.CatalogImage.{CatalogImage}
-use Rattle.smk_base.specs.Trees.{StmtImage}
-use Rattle.smk_model.specs.Expanded.{expanded, dependency_names, HasNoDependency}
-use Rattle.smk_model.specs.Limits.{KeepsLimits}
-use Rattle.smk_model.specs.Profiles.{AreDependencies}
-use Rattle.smk_model.specs.Typing.{types}
+use Rattle.smk_base.specs.{CatalogImage.CatalogImage, Trees.StmtImage}
+use Rattle.smk_model.specs.{Expanded.{expanded, dependency_names, HasNoDependency}, Limits.KeepsLimits, Profiles.AreDependencies, Typing.types}
 
 -- it keeps the limits that the book keeps, and has no dependency; a book without one is as it was; it is typed as the book is, and then the views of the dependencies show them
 pub record ExpandedStands : Type 0 where

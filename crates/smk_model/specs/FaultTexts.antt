@@ -1,18 +1,11 @@
 -- The line that says a fault.
 use Rattle.std.specs.Prelude.{◌≢◌, ⊤, ℕ, List, [], ◌∷◌, ◌++◌, Option, IsSome, IsNone, unwrap_or, codes, decimal}
-use Rattle.smk_base.specs.declared.fault.Fault.{Fault}
-use Rattle.smk_base.specs.declared.fault.Fault.TheVariants.{Usage, Book, Types, Table, FileLong, TableRows, ViewRows, ViewPairs, Unread}
-use Rattle.smk_base.specs.declared.fault.BookFault.{BookFault}
+use Rattle.smk_base.specs.{declared.fault.Fault.Fault, declared.fault.Fault.TheVariants.{Usage, Book, Types, Table, FileLong, TableRows, ViewRows, ViewPairs, Unread}, declared.fault.BookFault.BookFault, declared.fault.Many.Many, declared.fault.TableFault.TableFault, declared.book.type_fault.TypeFault.TypeFault}
 use Rattle.smk_base.specs.declared.fault.BookFault.TheVariants as book
-use Rattle.smk_base.specs.declared.fault.Many.{Many}
 use Rattle.smk_base.specs.declared.fault.Many.TheVariants as many
-use Rattle.smk_base.specs.declared.fault.TableFault.{TableFault}
 use Rattle.smk_base.specs.declared.fault.TableFault.TheVariants as table
-use Rattle.smk_base.specs.declared.book.type_fault.TypeFault.{TypeFault}
 use Rattle.smk_base.specs.declared.book.type_fault.TypeFault.TheVariants as types
-use Rattle.smk_model.specs.Lines.{place_of}
-use Rattle.smk_model.specs.ShownNames.{shown}
-use Rattle.smk_model.specs.Texts.{line}
+use Rattle.smk_model.specs.{Lines.place_of, ShownNames.shown, Texts.line}
 
 -- whether the text of a fault of a table names a column, and a fault of this kind has a line
 abbrev pub NamesColumn : TableFault → Option (List ℕ) → Type 0

@@ -1,14 +1,7 @@
 -- What makes the grammar and the first fault believable: each law over all lists of tokens.
 use Rattle.std.specs.Prelude.{◌≡◌, ℕ, List, [], ◌∷◌, ◌++◌, Option, Some, None}
-use Rattle.smk_base.specs.declared.book.token.TokenKind.TheVariants.{End}
-use Rattle.smk_base.specs.declared.fault.BookFault.{BookFault}
-use Rattle.smk_base.specs.declared.fault.BookFault.TheVariants.{BadToken, Unexpected, TooMany, BadNumber, NoMemory}
-use Rattle.smk_base.specs.declared.book.tree.Line.{Line}
-use Rattle.smk_base.specs.Trees.{StmtImage, AskImage, AnyLineImage, AskedLine, ProfiledLine, AppendedLine}
-use Rattle.smk_model.specs.Tokens.{Token, tokens}
-use Rattle.smk_model.specs.Spelled.{AreStmts, IsWholeLine, IsWholeAnyLine}
-use Rattle.smk_model.specs.Limits.{KeepsLimits, KeepsAsk}
-use Rattle.smk_model.specs.TokenReadings.{book_fault, line_fault, any_fault, token_fault}
+use Rattle.smk_base.specs.{declared.book.token.TokenKind.TheVariants.End, declared.fault.BookFault.BookFault, declared.fault.BookFault.TheVariants.{BadToken, Unexpected, TooMany, BadNumber, NoMemory}, declared.book.tree.Line.Line, Trees.{StmtImage, AskImage, AnyLineImage, AskedLine, ProfiledLine, AppendedLine}}
+use Rattle.smk_model.specs.{Tokens.{Token, tokens}, Spelled.{AreStmts, IsWholeLine, IsWholeAnyLine}, Limits.{KeepsLimits, KeepsAsk}, TokenReadings.{book_fault, line_fault, any_fault, token_fault}}
 
 -- The tokens leave the grammar at this place: what stands before the token there has no fault and begins a text, and no text goes on with a token of its kind.
 -- Other faults are none of this. A token that can't be read, and a number outside i64, are faulty whatever stands before them. With one thing too many texts of the grammar go on, and so they do with another number where one is out of range.

@@ -1,14 +1,7 @@
 -- Plans that grow with their table: which they are, and how what they give of the old rows and of the new ones is put together.
-use Rattle.std.specs.Prelude.{ℕ, ◌+◌, Bool, true, false, not, List, [], ◌∷◌, ◌++◌, length, map, take, drop}
-use Rattle.std.specs.List.{list_any, filter, fold}
-use Rattle.smk_base.specs.Aggregates.{over_parts}
-use Rattle.smk_base.specs.Places.{upto, places}
-use Rattle.smk_base.specs.declared.value.Value.{Value}
-use Rattle.smk_base.specs.declared.book.plan.Agg.{Agg}
-use Rattle.smk_base.specs.Plans.{Unary, Selection, Projection, Grouping, Expr, Leaf, Apply}
-use Rattle.smk_model.specs.Values.{Row}
-use Rattle.smk_model.specs.Plain.{row_eq, key_of, aggregate}
-use Rattle.smk_model.specs.Lineage.{row_at, sub}
+use Rattle.std.specs.{Prelude.{ℕ, ◌+◌, Bool, true, false, not, List, [], ◌∷◌, ◌++◌, length, map, take, drop}, List.{list_any, filter, fold}}
+use Rattle.smk_base.specs.{Aggregates.over_parts, Places.{upto, places}, declared.value.Value.Value, declared.book.plan.Agg.Agg, Plans.{Unary, Selection, Projection, Grouping, Expr, Leaf, Apply}}
+use Rattle.smk_model.specs.{Values.Row, Plain.{row_eq, key_of, aggregate}, Lineage.{row_at, sub}}
 
 -- whether a plan is a chain of selections and projections over a scan
 abbrev pub is_chain : Expr → Bool

@@ -1,20 +1,7 @@
 -- Laws of tables that grow. Of a growing chain the old rows and lists and those of the new rows alone, put together, are those of all rows; a plan that doesn't scan the table stays as it is.
-use Rattle.std.specs.Prelude.{◌≡◌, ℕ, ◌≤◌, true, false, List, [], ◌∷◌, ◌++◌, length, nat_eq, None}
-use Rattle.std.specs.List.{flat_map, All}
-use Rattle.smk_base.specs.Places.{has, composed, followed}
-use Rattle.smk_base.specs.declared.book.need.Needed.{Needed}
-use Rattle.smk_base.specs.declared.book.plan.Agg.{Agg}
-use Rattle.smk_base.specs.Plans.{Unary, Grouping, Expr, Apply}
-use Rattle.smk_model.specs.Values.{Row}
-use Rattle.smk_model.specs.Plain.{step1, leaves, whole}
-use Rattle.smk_model.specs.Annotated.{pairs}
-use Rattle.smk_model.specs.Locals.{back1, fwd1}
-use Rattle.smk_model.specs.Composed.{table_at, rows_over, backs, forwards}
-use Rattle.smk_model.specs.Selection.{row_limit}
-use Rattle.smk_model.specs.NodeFaults.{asked_of, first_fault}
-use Rattle.smk_model.specs.LineageLaws.{selected_table}
-use Rattle.smk_model.specs.LocalLaws.{together}
-use Rattle.smk_model.specs.Growth.{is_chain, is_growing, regrouping}
+use Rattle.std.specs.{Prelude.{◌≡◌, ℕ, ◌≤◌, true, false, List, [], ◌∷◌, ◌++◌, length, nat_eq, None}, List.{flat_map, All}}
+use Rattle.smk_base.specs.{Places.{has, composed, followed}, declared.book.need.Needed.Needed, declared.book.plan.Agg.Agg, Plans.{Unary, Grouping, Expr, Apply}}
+use Rattle.smk_model.specs.{Values.Row, Plain.{step1, leaves, whole}, Annotated.pairs, Locals.{back1, fwd1}, Composed.{table_at, rows_over, backs, forwards}, Selection.row_limit, NodeFaults.{asked_of, first_fault}, LineageLaws.selected_table, LocalLaws.together, Growth.{is_chain, is_growing, regrouping}}
 
 -- a grouping of parts after each other is the regrouping of the groupings of the parts
 pub record GroupsRegroup : Type 0 where

@@ -1,6 +1,5 @@
 -- What may be said in a conversation.
-use Rattle.std.specs.Prelude.{ℕ, List, [], ◌∷◌, codes}
-use Rattle.std.specs.List.{concat}
+use Rattle.std.specs.{Prelude.{ℕ, List, [], ◌∷◌, codes}, List.concat}
 use Rattle.smk_model.specs.Texts.{line}
 
 -- each form of line, and an example of it behind a sign at which a comment begins

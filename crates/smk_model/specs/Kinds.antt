@@ -1,19 +1,9 @@
 -- When a step fits the kinds of its inputs, and the kinds of its output. Columns are numbers here, so the rules on their names have no part in it.
-use Rattle.std.specs.Prelude.{ℕ, ◌+◌, ◌<◌, ◌≤◌, pos, ◌≤ℤ◌, List, [], ◌∷◌, ◌++◌, length, map, All}
-use Rattle.std.specs.List.{AllZip}
-use Rattle.smk_base.specs.declared.value.Value.{Value}
+use Rattle.std.specs.{Prelude.{ℕ, ◌+◌, ◌<◌, ◌≤◌, pos, ◌≤ℤ◌, List, [], ◌∷◌, ◌++◌, length, map, All}, List.AllZip}
+use Rattle.smk_base.specs.{declared.value.Value.Value, declared.value.Kind.Kind, declared.value.Kind.TheVariants.{Int, Text}, declared.book.plan.Operand.Operand, declared.book.plan.Item.Item, declared.book.plan.Agg.Agg, declared.book.plan.Agg.TheVariants.{Count, Sum, Min, Max}, declared.rel.TheConstants.COLUMN_LIMIT, Plans.{Formula, Comparison, Conjunction, Disjunction, Negation, Unary, Selection, Projection, Distinction, Grouping, Binary, Equijoin, ThetaJoin, CrossProduct, BagUnion, SetUnion}, Rels.kind_in}
 use Rattle.smk_base.specs.declared.value.Value.TheVariants as values
-use Rattle.smk_base.specs.declared.value.Kind.{Kind}
-use Rattle.smk_base.specs.declared.value.Kind.TheVariants.{Int, Text}
-use Rattle.smk_base.specs.declared.book.plan.Operand.{Operand}
 use Rattle.smk_base.specs.declared.book.plan.Operand.TheVariants as operands
-use Rattle.smk_base.specs.declared.book.plan.Item.{Item}
 use Rattle.smk_base.specs.declared.book.plan.Item.TheVariants as items
-use Rattle.smk_base.specs.declared.book.plan.Agg.{Agg}
-use Rattle.smk_base.specs.declared.book.plan.Agg.TheVariants.{Count, Sum, Min, Max}
-use Rattle.smk_base.specs.declared.rel.TheConstants.{COLUMN_LIMIT}
-use Rattle.smk_base.specs.Plans.{Formula, Comparison, Conjunction, Disjunction, Negation, Unary, Selection, Projection, Distinction, Grouping, Binary, Equijoin, ThetaJoin, CrossProduct, BagUnion, SetUnion}
-use Rattle.smk_base.specs.Rels.{kind_in}
 pub use Rattle.smk_base.specs.Widths.{AreAlike, wider}
 
 -- the kind of a literal

@@ -1,31 +1,17 @@
 -- The grammar as a table: for each symbol and the kind of the token that begins it, what is read behind that token and the tree that comes of it; and what a symbol gives that is nothing. Each rule stands above its lines.
 use Rattle.std.specs.Prelude.{ℕ, ℤ, pos, negsuc, ◌+◌, Bool, true, false, cond, List, [], ◌∷◌, Option, Some, None}
-use Rattle.smk_base.specs.declared.book.token.TokenKind.{TokenKind}
+use Rattle.smk_base.specs.{declared.book.token.TokenKind.TokenKind, declared.book.plan.CmpOp.CmpOp, declared.book.tree.Word.Word, declared.book.tree.Lit.Lit, declared.book.tree.AggTree.AggTree, declared.book.tree.AggWhat.AggWhat, declared.book.tree.Extra.Extra, declared.book.tree.ItemTree.ItemTree, declared.book.tree.Term.Term, declared.book.tree.Marks.Marks, declared.book.tree.Then.Then, declared.book.tree.Line.Line, Trees.{PredImage, CompareNode, AndNode, OrNode, NotNode, TreeImage, ScanNode, StepNode, StepImage, SelectNode, ProjectNode, DistinctNode, GroupNode, JoinNode, ThetaNode, ProductNode, UnionAllNode, UnionNode, StmtImage, AskStepImage, TableNode, ViewNode, BackNode, FwdNode, LinkNode, DependsNode, AnyLineImage, PlainLine, AskedLine, ProfiledLine, AppendedLine}}
 use Rattle.smk_base.specs.declared.book.token.TokenKind.TheVariants as kinds
 use Rattle.smk_base.specs.declared.value.Value.TheVariants as values
-use Rattle.smk_base.specs.declared.book.plan.CmpOp.{CmpOp}
 use Rattle.smk_base.specs.declared.book.plan.CmpOp.TheVariants as ops
-use Rattle.smk_base.specs.declared.book.tree.Word.{Word}
-use Rattle.smk_base.specs.declared.book.tree.Lit.{Lit}
-use Rattle.smk_base.specs.declared.book.tree.AggTree.{AggTree}
-use Rattle.smk_base.specs.declared.book.tree.AggWhat.{AggWhat}
-use Rattle.smk_base.specs.declared.book.tree.Extra.{Extra}
 use Rattle.smk_base.specs.declared.book.tree.Extra.TheVariants as extras
-use Rattle.smk_base.specs.declared.book.tree.ItemTree.{ItemTree}
 use Rattle.smk_base.specs.declared.book.tree.ItemTree.TheVariants as items
 use Rattle.smk_base.specs.declared.book.tree.AggWhat.TheVariants as whats
-use Rattle.smk_base.specs.declared.book.tree.Term.{Term}
 use Rattle.smk_base.specs.declared.book.tree.Term.TheVariants as terms
-use Rattle.smk_base.specs.declared.book.tree.Marks.{Marks}
 use Rattle.smk_base.specs.declared.book.tree.Marks.TheVariants as markings
-use Rattle.smk_base.specs.declared.book.tree.Then.{Then}
 use Rattle.smk_base.specs.declared.book.tree.Then.TheVariants as thens
-use Rattle.smk_base.specs.declared.book.tree.Line.{Line}
 use Rattle.smk_base.specs.declared.book.tree.Line.TheVariants as lines
-use Rattle.smk_base.specs.Trees.{PredImage, CompareNode, AndNode, OrNode, NotNode, TreeImage, ScanNode, StepNode, StepImage, SelectNode, ProjectNode, DistinctNode, GroupNode, JoinNode, ThetaNode, ProductNode, UnionAllNode, UnionNode, StmtImage, AskStepImage, TableNode, ViewNode, BackNode, FwdNode, LinkNode, DependsNode, AnyLineImage, PlainLine, AskedLine, ProfiledLine, AppendedLine}
-use Rattle.smk_model.specs.Tokens.{Token, inner, int_value, string_value}
-use Rattle.smk_model.specs.TokenKinds.{same_kind}
-use Rattle.smk_model.specs.Rules.{Tally, Member, Declaration, OutputItem, KeyColumn, Aggregation, ColumnPair, LinkedView, Mark, MemberTree, Symbol, AToken, ANames, AMarked, AName, ALineName, AColumn, ALineColumn, ALiteral, AWidth, AType, ADefault, AWhat, AKeys, AnAggs, AnOn, AnOp, ATerm, AFirst, AnAs, One, More, Listed, ASource, APlan, AStep, AUnited, APrim, AConj, APred, ASteps, AnAnds, AnOrs, AStmts, ALineage, AnExtra, AMarks, AThen, ACleared, ALine, AWholeLine, AnyLine, AWholeAnyLine, AnAskStep, AskSteps, APiped, ASelected, Tree, Rule, Gives, Reads, behind, Opening, onward}
+use Rattle.smk_model.specs.{Tokens.{Token, inner, int_value, string_value}, TokenKinds.same_kind, Rules.{Tally, Member, Declaration, OutputItem, KeyColumn, Aggregation, ColumnPair, LinkedView, Mark, MemberTree, Symbol, AToken, ANames, AMarked, AName, ALineName, AColumn, ALineColumn, ALiteral, AWidth, AType, ADefault, AWhat, AKeys, AnAggs, AnOn, AnOp, ATerm, AFirst, AnAs, One, More, Listed, ASource, APlan, AStep, AUnited, APrim, AConj, APred, ASteps, AnAnds, AnOrs, AStmts, ALineage, AnExtra, AMarks, AThen, ACleared, ALine, AWholeLine, AnyLine, AWholeAnyLine, AnAskStep, AskSteps, APiped, ASelected, Tree, Rule, Gives, Reads, behind, Opening, onward}}
 
 -- the words of a name, and of a column in backquotes
 abbrev pub plain_word : Token → Word

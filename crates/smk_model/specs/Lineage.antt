@@ -1,11 +1,8 @@
 -- One-step lineage: the places of the inputs that an output row comes from. Every list of places is a filter of places by a test.
-use Rattle.std.specs.Prelude.{ℕ, ◌-◌, Bool, cond, List, [], ◌∷◌, ◌++◌, length, map, slice_index_or, nat_lt}
-use Rattle.std.specs.List.{flat_map}
+use Rattle.std.specs.{Prelude.{ℕ, ◌-◌, Bool, cond, List, [], ◌∷◌, ◌++◌, length, map, slice_index_or, nat_lt}, List.flat_map}
 pub use Rattle.smk_base.specs.Places.{upto, places, has}
-use Rattle.smk_base.specs.Rels.{row_in, rows_at}
-use Rattle.smk_base.specs.Plans.{Formula, Unary, Selection, Projection, Distinction, Grouping, Binary, Equijoin, ThetaJoin, CrossProduct, BagUnion, SetUnion}
-use Rattle.smk_model.specs.Values.{Row, meets}
-use Rattle.smk_model.specs.Plain.{row_eq, image, key_of, firsts, agree, meets_together, always}
+use Rattle.smk_base.specs.{Rels.{row_in, rows_at}, Plans.{Formula, Unary, Selection, Projection, Distinction, Grouping, Binary, Equijoin, ThetaJoin, CrossProduct, BagUnion, SetUnion}}
+use Rattle.smk_model.specs.{Values.{Row, meets}, Plain.{row_eq, image, key_of, firsts, agree, meets_together, always}}
 
 -- row i
 abbrev pub row_at : List Row → ℕ → Row

@@ -1,14 +1,7 @@
 -- Laws of the annotated meaning and of one-step lineage, each a statement over all arguments.
-use Rattle.std.specs.Prelude.{◌≡◌, ℕ, ℤ, pos, ◌+◌, ◌<◌, ◌+ℤ◌, ◌*ℤ◌, ◌≤ℤ◌, ◌<ℤ◌, Bool, true, false, ◌&&◌, List, [], ◌∷◌, length, slice_index_or, nat_eq}
-use Rattle.std.specs.List.{filter, list_any, All}
-use Rattle.smk_base.specs.Places.{IsPlaces}
-use Rattle.smk_base.specs.Picks.{IsAscending}
-use Rattle.smk_base.specs.Plans.{Unary, Selection, Binary, Expr, Leaf, Apply, Combine}
-use Rattle.smk_model.specs.Values.{Row, bin, meets}
-use Rattle.smk_model.specs.Plain.{step1, step2, width, eval_from, eval}
-use Rattle.smk_model.specs.Lineage.{places, row_at, sub, from1, from_left, from_right}
-use Rattle.smk_model.specs.CuiWidom.{CuiWidom1, CuiWidom2}
-use Rattle.smk_model.specs.Annotated.{Sources, Marked, mark_at, rows_of, both, ann_from, ann, back, fwd}
+use Rattle.std.specs.{Prelude.{◌≡◌, ℕ, ℤ, pos, ◌+◌, ◌<◌, ◌+ℤ◌, ◌*ℤ◌, ◌≤ℤ◌, ◌<ℤ◌, Bool, true, false, ◌&&◌, List, [], ◌∷◌, length, slice_index_or, nat_eq}, List.{filter, list_any, All}}
+use Rattle.smk_base.specs.{Places.IsPlaces, Picks.IsAscending, Plans.{Unary, Selection, Binary, Expr, Leaf, Apply, Combine}}
+use Rattle.smk_model.specs.{Values.{Row, bin, meets}, Plain.{step1, step2, width, eval_from, eval}, Lineage.{places, row_at, sub, from1, from_left, from_right}, CuiWidom.{CuiWidom1, CuiWidom2}, Annotated.{Sources, Marked, mark_at, rows_of, both, ann_from, ann, back, fwd}}
 
 -- whether a plan is a chain of selections over a scan
 abbrev pub is_selection : Expr → Bool

@@ -1,7 +1,6 @@
 -- The lines of a script.
 use Rattle.std.specs.Prelude.{ℕ, List, [], ◌∷◌, ◌++◌, take_while, ◌==◌, if◌then◌else◌}
-use Rattle.smk_base.specs.declared.fault.BookFault.{BookFault}
-use Rattle.smk_base.specs.declared.fault.BookFault.TheVariants.{BadToken, Unexpected, TooMany, BadNumber, NoMemory}
+use Rattle.smk_base.specs.{declared.fault.BookFault.BookFault, declared.fault.BookFault.TheVariants.{BadToken, Unexpected, TooMany, BadNumber, NoMemory}}
 use Rattle.smk_model.specs.Tokens.{no_line_end}
 
 -- the bytes without a carriage return as their last

@@ -1,14 +1,7 @@
 -- Laws of the lists of one step: each list in the form in which a loop makes it, and what a cut of the input into parts leaves as it is.
-use Rattle.std.specs.Prelude.{◌≡◌, ℕ, ◌+◌, ◌≤◌, Bool, true, List, [], ◌∷◌, ◌++◌, length, map}
-use Rattle.std.specs.List.{flat_map, All}
-use Rattle.smk_base.specs.Places.{IsPlaces}
-use Rattle.smk_base.specs.declared.book.plan.Item.{Item}
-use Rattle.smk_base.specs.declared.book.plan.Agg.{Agg}
-use Rattle.smk_base.specs.Plans.{Formula, Unary, Selection, Projection, Distinction, Grouping, Binary, BagUnion, SetUnion}
-use Rattle.smk_model.specs.Values.{Row}
-use Rattle.smk_model.specs.Plain.{row_eq, image, key_of, firsts, nested, is_join, joins, step1, step2}
-use Rattle.smk_model.specs.Lineage.{upto, places, row_at, meeting, matching}
-use Rattle.smk_model.specs.Locals.{back1, back_left, back_right}
+use Rattle.std.specs.{Prelude.{◌≡◌, ℕ, ◌+◌, ◌≤◌, Bool, true, List, [], ◌∷◌, ◌++◌, length, map}, List.{flat_map, All}}
+use Rattle.smk_base.specs.{Places.IsPlaces, declared.book.plan.Item.Item, declared.book.plan.Agg.Agg, Plans.{Formula, Unary, Selection, Projection, Distinction, Grouping, Binary, BagUnion, SetUnion}}
+use Rattle.smk_model.specs.{Values.Row, Plain.{row_eq, image, key_of, firsts, nested, is_join, joins, step1, step2}, Lineage.{upto, places, row_at, meeting, matching}, Locals.{back1, back_left, back_right}}
 
 -- for each key the places, among the first i rows, of the rows that have it
 abbrev pub by_key : (Row → Row) → List Row → ℕ → List Row → List (List ℕ)

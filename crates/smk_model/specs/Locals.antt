@@ -1,10 +1,7 @@
 -- The lists of one-step lineage: which input places each output row comes from, and which output places each input row reaches.
 use Rattle.std.specs.Prelude.{ℕ, List, [], ◌∷◌, length, map}
-use Rattle.smk_base.specs.Places.{Lists, upto, places, has}
-use Rattle.smk_base.specs.Plans.{Unary, Binary}
-use Rattle.smk_model.specs.Values.{Row}
-use Rattle.smk_model.specs.Plain.{step1, step2}
-use Rattle.smk_model.specs.Lineage.{from1, from_left, from_right}
+use Rattle.smk_base.specs.{Places.{Lists, upto, places, has}, Plans.{Unary, Binary}}
+use Rattle.smk_model.specs.{Values.Row, Plain.{step1, step2}, Lineage.{from1, from_left, from_right}}
 
 -- one list for each of these places, of it alone
 abbrev pub singles : List ℕ → ℕ → Lists

@@ -1,19 +1,10 @@
 -- How often a run looks at base rows: at most once a row of each leaf of each view, once a row of the table of each declared split and grouping, and for each line what it prints or makes anew.
-use Rattle.std.specs.Prelude.{ℕ, ◌+◌, length, Ok, Err}
-use Rattle.std.specs.List.{sum_by}
-use Rattle.smk_base.specs.CatalogImage.{CatalogImage, ViewImage}
-use Rattle.smk_base.specs.declared.brush.BrushOn.{BrushOn}
-use Rattle.smk_base.specs.declared.book.catalog.Back.{Back}
-use Rattle.smk_base.specs.declared.book.catalog.BackExtra.{BackExtra}
+use Rattle.std.specs.{Prelude.{ℕ, ◌+◌, length, Ok, Err}, List.sum_by}
+use Rattle.smk_base.specs.{CatalogImage.{CatalogImage, ViewImage}, declared.brush.BrushOn.BrushOn, declared.book.catalog.Back.Back, declared.book.catalog.BackExtra.BackExtra, declared.reply.Reply.Reply, declared.book.tree.Line.Line}
 use Rattle.smk_base.specs.declared.book.catalog.BackExtra.TheVariants as extras
-use Rattle.smk_base.specs.declared.reply.Reply.{Reply}
 use Rattle.smk_base.specs.declared.reply.Reply.TheVariants as replies
-use Rattle.smk_base.specs.declared.book.tree.Line.{Line}
 use Rattle.smk_base.specs.declared.book.tree.Line.TheVariants as lines
-use Rattle.smk_model.specs.Plain.{whole, table_at}
-use Rattle.smk_model.specs.Selection.{rows_in}
-use Rattle.smk_model.specs.Session.{Workbook, State, linked, leaves_now}
-use Rattle.smk_model.specs.Replies.{Asked, reply, linked_pair, brush_of, brushed, cleared}
+use Rattle.smk_model.specs.{Plain.{whole, table_at}, Selection.rows_in, Session.{Workbook, State, linked, leaves_now}, Replies.{Asked, reply, linked_pair, brush_of, brushed, cleared}}
 
 -- those for the first content of a view, and for a declaration that keeps more than rows
 abbrev pub looks_of_view : Workbook → ViewImage → ℕ

@@ -1,14 +1,8 @@
 -- Rules that give a result or the first fault, and how a name is looked up.
-use Rattle.std.specs.Prelude.{ℕ, Bool, true, false, nat_eq, cond, List, [], ◌∷◌, map, slice_index_or, Option, option_map, position, ok_or, Result, Ok, Err}
-use Rattle.std.specs.List.{list_any}
-use Rattle.std.specs.Cmp.Lexicographic.{pointwise}
-use Rattle.smk_base.specs.declared.value.Kind.{Kind}
+use Rattle.std.specs.{Prelude.{ℕ, Bool, true, false, nat_eq, cond, List, [], ◌∷◌, map, slice_index_or, Option, option_map, position, ok_or, Result, Ok, Err}, List.list_any, Cmp.Lexicographic.pointwise}
+use Rattle.smk_base.specs.{declared.value.Kind.Kind, declared.book.tree.Word.Word, declared.book.catalog.Column.Column, declared.book.type_fault.TypeFault.TypeFault, declared.book.type_fault.TypeFault.TheVariants.UnknownColumn}
 use Rattle.smk_base.specs.declared.value.Kind.TheVariants as kinds
 pub use Rattle.smk_base.specs.Widths.{same_sort}
-use Rattle.smk_base.specs.declared.book.tree.Word.{Word}
-use Rattle.smk_base.specs.declared.book.catalog.Column.{Column}
-use Rattle.smk_base.specs.declared.book.type_fault.TypeFault.{TypeFault}
-use Rattle.smk_base.specs.declared.book.type_fault.TypeFault.TheVariants.{UnknownColumn}
 
 -- what a rule of typing gives: a result, or the fault with its place
 abbrev pub Typed : Type 0 → Type 0

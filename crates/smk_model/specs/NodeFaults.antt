@@ -1,13 +1,7 @@
 -- The first fault of a plan's nodes: too many rows, or too many pairs with a table that is asked for.
-use Rattle.std.specs.Prelude.{◌≡◌, ℕ, ◌+◌, Bool, cond, nat_lt, List, [], ◌∷◌, ◌++◌, length, map, drop, Option, Some, None, option_map}
-use Rattle.std.specs.List.{find, filter}
-use Rattle.std.specs.Option.{option_or}
-use Rattle.smk_base.specs.Plans.{Expr, Leaf, Apply, Combine}
-use Rattle.smk_base.specs.declared.book.need.Needed.{Needed}
-use Rattle.smk_model.specs.Values.{Row}
-use Rattle.smk_model.specs.Plain.{width, eval, table_at}
-use Rattle.smk_model.specs.Annotated.{pairs}
-use Rattle.smk_model.specs.Selection.{nodes, is_full, first_full}
+use Rattle.std.specs.{Prelude.{◌≡◌, ℕ, ◌+◌, Bool, cond, nat_lt, List, [], ◌∷◌, ◌++◌, length, map, drop, Option, Some, None, option_map}, List.{find, filter}, Option.option_or}
+use Rattle.smk_base.specs.{Plans.{Expr, Leaf, Apply, Combine}, declared.book.need.Needed.Needed}
+use Rattle.smk_model.specs.{Values.Row, Plain.{width, eval, table_at}, Annotated.pairs, Selection.{nodes, is_full, first_full}}
 
 -- a node by its number, and there a table
 pub data NodeFault : Type 0 where

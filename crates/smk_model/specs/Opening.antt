@@ -1,15 +1,7 @@
 -- What a session begins with: the first content of each view and the lineage that is needed for it; or the first view with a node that is too big.
-use Rattle.std.specs.Prelude.{ℕ, List, [], ◌∷◌, length, Option, None, option_map}
-use Rattle.std.specs.Option.{option_or}
-use Rattle.smk_base.specs.Places.{upto}
-use Rattle.smk_base.specs.CatalogImage.{CatalogImage}
-use Rattle.smk_base.specs.declared.fault.Fault.{Fault}
-use Rattle.smk_base.specs.declared.fault.Fault.TheVariants.{ViewRows, ViewPairs}
-use Rattle.smk_model.specs.Plain.{whole}
-use Rattle.smk_model.specs.Typing.{info_at}
-use Rattle.smk_model.specs.NodeFaults.{NodeFault, FullRows, FullPairs, first_fault, asked_of}
-use Rattle.smk_model.specs.Workload.{needs}
-use Rattle.smk_model.specs.Session.{Workbook, view_at}
+use Rattle.std.specs.{Prelude.{ℕ, List, [], ◌∷◌, length, Option, None, option_map}, Option.option_or}
+use Rattle.smk_base.specs.{Places.upto, CatalogImage.CatalogImage, declared.fault.Fault.Fault, declared.fault.Fault.TheVariants.{ViewRows, ViewPairs}}
+use Rattle.smk_model.specs.{Plain.whole, Typing.info_at, NodeFaults.{NodeFault, FullRows, FullPairs, first_fault, asked_of}, Workload.needs, Session.{Workbook, view_at}}
 
 -- a view, by its number, and the fault of one of its nodes
 pub record ViewFault : Type 0 where

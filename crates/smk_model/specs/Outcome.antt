@@ -1,38 +1,8 @@
 -- The outcome of a run, by its words and by what the files hold: its report, or its first fault.
-use Rattle.std.specs.Prelude.{◌≡◌, ◌⊎◌, ⊤, ℕ, ◌+◌, cond, nat_lt, nat_eq, List, [], ◌∷◌, ◌++◌, length, map, slice_index_or, Option, Some, None, option_map, Result, Ok, Err}
-use Rattle.std.specs.Option.{ok_or}
-use Rattle.std.specs.List.{find, filter_map}
-use Rattle.std.specs.Cmp.Lexicographic.{pointwise}
-use Rattle.smk_base.specs.Marks.{after_marks}
-use Rattle.smk_base.specs.Trees.{StmtImage, AnyLineImage, AppendedLine}
-use Rattle.smk_base.specs.CatalogImage.{CatalogImage}
-use Rattle.smk_base.specs.declared.book.catalog.TableInfo.{TableInfo}
-use Rattle.smk_base.specs.declared.book.col_decl.ColDecl.{ColDecl}
-use Rattle.smk_base.specs.declared.demo.Demo.{Demo as DemoTexts}
-use Rattle.smk_base.specs.declared.demo.DemoFile.{DemoFile}
-use Rattle.smk_base.specs.declared.demo.TheConstants.{DEMO_BOOK_NAME, DEMO_SCRIPT_NAME}
-use Rattle.smk_base.specs.declared.value.Kind.TheVariants.{Text}
-use Rattle.smk_base.specs.declared.fault.Fault.{Fault}
-use Rattle.smk_base.specs.declared.fault.Fault.TheVariants.{Usage, Book, Types, Table, FileLong, TableRows, Unread}
-use Rattle.smk_base.specs.declared.fault.BookFault.{BookFault}
-use Rattle.smk_base.specs.declared.fault.TableFault.{TableFault}
+use Rattle.std.specs.{Prelude.{◌≡◌, ◌⊎◌, ⊤, ℕ, ◌+◌, cond, nat_lt, nat_eq, List, [], ◌∷◌, ◌++◌, length, map, slice_index_or, Option, Some, None, option_map, Result, Ok, Err}, Option.ok_or, List.{find, filter_map}, Cmp.Lexicographic.pointwise}
+use Rattle.smk_base.specs.{Marks.after_marks, Trees.{StmtImage, AnyLineImage, AppendedLine}, CatalogImage.CatalogImage, declared.book.catalog.TableInfo.TableInfo, declared.book.col_decl.ColDecl.ColDecl, declared.demo.Demo.Demo as DemoTexts, declared.demo.DemoFile.DemoFile, declared.demo.TheConstants.{DEMO_BOOK_NAME, DEMO_SCRIPT_NAME}, declared.value.Kind.TheVariants.Text, declared.fault.Fault.Fault, declared.fault.Fault.TheVariants.{Usage, Book, Types, Table, FileLong, TableRows, Unread}, declared.fault.BookFault.BookFault, declared.fault.TableFault.TableFault}
 use Rattle.smk_base.specs.declared.fault.TableFault.TheVariants as table_faults
-use Rattle.smk_model.specs.Words.{TextSource, Files, Demo, words_of}
-use Rattle.smk_model.specs.Values.{Row}
-use Rattle.smk_model.specs.Tokens.{tokens}
-use Rattle.smk_model.specs.Spelled.{AreStmts}
-use Rattle.smk_model.specs.TokenReadings.{book_fault}
-use Rattle.smk_model.specs.Names.{Typed, ◌>>=◌}
-use Rattle.smk_model.specs.Typing.{types}
-use Rattle.smk_model.specs.Expanded.{expanded, dependency_names}
-use Rattle.smk_model.specs.Tables.{table_of, all_or_first}
-use Rattle.smk_model.specs.Readings.{Reading, Asks, AreReadingsOf}
-use Rattle.smk_model.specs.ReplyTexts.{table_named}
-use Rattle.smk_model.specs.Session.{Workbook}
-use Rattle.smk_model.specs.Opening.{ViewFault, first_view_fault, fault_named}
-use Rattle.smk_model.specs.Looks.{start_looks}
-use Rattle.smk_model.specs.Reports.{BookSaid, Report, report_of, script_told}
-use Rattle.smk_model.specs.Demo.{demo_of, summary_of}
+use Rattle.smk_model.specs.{Words.{TextSource, Files, Demo, words_of}, Values.Row, Tokens.tokens, Spelled.AreStmts, TokenReadings.book_fault, Names.{Typed, ◌>>=◌}, Typing.types, Expanded.{expanded, dependency_names}, Tables.{table_of, all_or_first}, Readings.{Reading, Asks, AreReadingsOf}, ReplyTexts.table_named, Session.Workbook, Opening.{ViewFault, first_view_fault, fault_named}, Looks.start_looks, Reports.{BookSaid, Report, report_of, script_told}, Demo.{demo_of, summary_of}}
 
 -- what the files hold: the bytes under a name, or none
 abbrev pub Held : Type 0

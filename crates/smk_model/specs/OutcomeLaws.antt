@@ -1,13 +1,7 @@
 -- A run has exactly one outcome, and a script exactly one list of readings; a text without a fault spells a book.
 use Rattle.std.specs.Prelude.{◌≡◌, ℕ, List, None, Result}
-use Rattle.smk_base.specs.Trees.{StmtImage}
-use Rattle.smk_base.specs.declared.fault.Fault.{Fault}
-use Rattle.smk_model.specs.Tokens.{tokens}
-use Rattle.smk_model.specs.Spelled.{AreStmts}
-use Rattle.smk_model.specs.TokenReadings.{book_fault}
-use Rattle.smk_model.specs.Readings.{Reading, AreReadingsOf}
-use Rattle.smk_model.specs.Reports.{Report}
-use Rattle.smk_model.specs.Outcome.{Held, Inputs, ReadsInputs, Outcome}
+use Rattle.smk_base.specs.{Trees.StmtImage, declared.fault.Fault.Fault}
+use Rattle.smk_model.specs.{Tokens.tokens, Spelled.AreStmts, TokenReadings.book_fault, Readings.{Reading, AreReadingsOf}, Reports.Report, Outcome.{Held, Inputs, ReadsInputs, Outcome}}
 
 -- a script's bytes have one list of readings
 abbrev pub OneReading : Type 0

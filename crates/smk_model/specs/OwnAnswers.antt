@@ -1,28 +1,9 @@
 -- What a conversation's own lines come to: the replies to a script's lines, over the rows that brushes select, in other texts.
-use Rattle.std.specs.Prelude.{ℕ, Bool, true, false, nat_eq, List, [], ◌∷◌, length, Option, ok_or, Ok, Err}
-use Rattle.std.specs.List.{filter, list_all}
-use Rattle.smk_base.specs.CatalogImage.{CatalogImage, table_place}
-use Rattle.smk_base.specs.Places.{places, has}
-use Rattle.smk_base.specs.Trees.{AskStepImage, AskImage}
-use Rattle.smk_base.specs.declared.book.tree.Line.{Line}
+use Rattle.std.specs.{Prelude.{ℕ, Bool, true, false, nat_eq, List, [], ◌∷◌, length, Option, ok_or, Ok, Err}, List.{filter, list_all}}
+use Rattle.smk_base.specs.{CatalogImage.{CatalogImage, table_place}, Places.{places, has}, Trees.{AskStepImage, AskImage}, declared.book.tree.Line.Line, declared.reply.AskReply.AskReply, declared.reply.Refusal.TheVariants.UnknownTable, declared.reply.Reply.Reply}
 use Rattle.smk_base.specs.declared.book.tree.Marks.TheVariants as markings
-use Rattle.smk_base.specs.declared.reply.AskReply.{AskReply}
-use Rattle.smk_base.specs.declared.reply.Refusal.TheVariants.{UnknownTable}
-use Rattle.smk_base.specs.declared.reply.Reply.{Reply}
 use Rattle.smk_base.specs.declared.reply.Reply.TheVariants as replies
-use Rattle.smk_model.specs.Asks.{back_line, ask_over, is_ask_refused}
-use Rattle.smk_model.specs.Help.{help_text}
-use Rattle.smk_model.specs.Looks.{looks_of_rows}
-use Rattle.smk_model.specs.Names.{◌>>=◌}
-use Rattle.smk_model.specs.OwnLines.{RowsPart, OwnLine, Schema, Help, Selected, Narrowed, NarrowedAsk, Brief, BriefProfile, OwnReading, Owns, Misses}
-use Rattle.smk_model.specs.OwnTexts.{part_of, narrowed_text, stepped_text, selected_words, selected_text, brief_text, brief_profile_text, schema_text}
-use Rattle.smk_model.specs.Profiles.{profile_reply}
-use Rattle.smk_model.specs.Readings.{Unread}
-use Rattle.smk_model.specs.Replies.{Asked, known_pair, rows_reply, reply, is_refused}
-use Rattle.smk_model.specs.ReplyTexts.{view_in, table_in}
-use Rattle.smk_model.specs.Reports.{BookSaid, LinesTold, Answered, plain_answered, profile_answered, answer_told, line_told}
-use Rattle.smk_model.specs.Session.{State, rows_of_table, selected_for}
-use Rattle.smk_model.specs.Texts.{ask_words}
+use Rattle.smk_model.specs.{Asks.{back_line, ask_over, is_ask_refused}, Help.help_text, Looks.looks_of_rows, Names.◌>>=◌, OwnLines.{RowsPart, OwnLine, Schema, Help, Selected, Narrowed, NarrowedAsk, Brief, BriefProfile, OwnReading, Owns, Misses}, OwnTexts.{part_of, narrowed_text, stepped_text, selected_words, selected_text, brief_text, brief_profile_text, schema_text}, Profiles.profile_reply, Readings.Unread, Replies.{Asked, known_pair, rows_reply, reply, is_refused}, ReplyTexts.{view_in, table_in}, Reports.{BookSaid, LinesTold, Answered, plain_answered, profile_answered, answer_told, line_told}, Session.{State, rows_of_table, selected_for}, Texts.ask_words}
 
 -- of rows with their rids those that are selected now for a view on a table; any other reply is as it was
 abbrev pub among_selected : CatalogImage → State → Asked (ℕ × ℕ) → Reply → Reply

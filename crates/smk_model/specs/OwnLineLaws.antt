@@ -1,29 +1,9 @@
 -- What a conversation's own lines leave as it is, and where they come to what a line of a script does.
-use Rattle.std.specs.Prelude.{◌≡◌, ◌≤◌, ℕ, Bool, true, false, nat_eq, List, [], ◌∷◌, length, Option, Some, None, Ok}
-use Rattle.std.specs.List.{list_any}
-use Rattle.smk_base.specs.CatalogImage.{CatalogImage, table_place}
-use Rattle.smk_base.specs.Places.{upto}
-use Rattle.smk_base.specs.Trees.{AskStepImage, AskImage, PlainLine, AskedLine, ProfiledLine}
-use Rattle.smk_base.specs.declared.brush.BrushOn.{BrushOn}
-use Rattle.smk_base.specs.declared.book.tree.Line.{Line}
-use Rattle.smk_base.specs.declared.reply.AskReply.{AskReply}
+use Rattle.std.specs.{Prelude.{◌≡◌, ◌≤◌, ℕ, Bool, true, false, nat_eq, List, [], ◌∷◌, length, Option, Some, None, Ok}, List.list_any}
+use Rattle.smk_base.specs.{CatalogImage.{CatalogImage, table_place}, Places.upto, Trees.{AskStepImage, AskImage, PlainLine, AskedLine, ProfiledLine}, declared.brush.BrushOn.BrushOn, declared.book.tree.Line.Line, declared.reply.AskReply.AskReply, declared.reply.Reply.Reply}
 use Rattle.smk_base.specs.declared.reply.AskReply.TheVariants as answers
-use Rattle.smk_base.specs.declared.reply.Reply.{Reply}
 use Rattle.smk_base.specs.declared.reply.Reply.TheVariants as replies
-use Rattle.smk_model.specs.Asks.{back_line, ask_over}
-use Rattle.smk_model.specs.Catalogs.{table_kinds}
-use Rattle.smk_model.specs.Limits.{KeepsSteps}
-use Rattle.smk_model.specs.OwnAnswers.{narrowed_reply, own_answered, selected_ask, selected_reply}
-use Rattle.smk_model.specs.OwnLines.{RowsPart, OwnLine, Selected, Narrowed, NarrowedAsk, Brief, BriefProfile, OwnReading, IsOwnReading, has_rows, has_rows_behind, is_own, first_dot}
-use Rattle.smk_model.specs.Spelled.{AreSelected}
-use Rattle.smk_model.specs.TokenReadings.{selected_fault}
-use Rattle.smk_model.specs.Readings.{Reading, Unread, IsReading}
-use Rattle.smk_model.specs.Replies.{known_pair, reply}
-use Rattle.smk_model.specs.ReplyTexts.{view_in, table_in}
-use Rattle.smk_model.specs.Reports.{BookSaid, answered}
-use Rattle.smk_model.specs.Session.{State, concerns, rows_of_table}
-use Rattle.smk_model.specs.Tokens.{tokens}
-use Rattle.smk_model.specs.Typing.{info_at}
+use Rattle.smk_model.specs.{Asks.{back_line, ask_over}, Catalogs.table_kinds, Limits.KeepsSteps, OwnAnswers.{narrowed_reply, own_answered, selected_ask, selected_reply}, OwnLines.{RowsPart, OwnLine, Selected, Narrowed, NarrowedAsk, Brief, BriefProfile, OwnReading, IsOwnReading, has_rows, has_rows_behind, is_own, first_dot}, Spelled.AreSelected, TokenReadings.selected_fault, Readings.{Reading, Unread, IsReading}, Replies.{known_pair, reply}, ReplyTexts.{view_in, table_in}, Reports.{BookSaid, answered}, Session.{State, concerns, rows_of_table}, Tokens.tokens, Typing.info_at}
 
 -- each text has one own reading; one that begins with a dot is no line of a script, which isn't read at the dot; and the steps of one without a fault keep their limits
 pub record OwnLinesAreRead : Type 0 where

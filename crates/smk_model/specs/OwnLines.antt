@@ -1,17 +1,9 @@
 -- A conversation's own lines, which begin with a dot: what they may say, and how a line is read.
-use Rattle.std.specs.Prelude.{◌≡◌, ◌^◌, ◌-◌, ◌==◌, ℕ, ℤ, pos, Bool, true, false, not, cond, nat_lt, if◌then◌else◌, List, [], ◌∷◌, ◌++◌, length, map, take, drop, take_while, Option, Some, None, codes}
-use Rattle.std.specs.Str.{bytes_eq}
-use Rattle.smk_base.specs.Ints.{int_of}
-use Rattle.smk_base.specs.Trees.{AskStepImage, AskImage, AnyLineImage, PlainLine, AskedLine, ProfiledLine}
-use Rattle.smk_base.specs.declared.book.tree.Line.{Line}
+use Rattle.std.specs.{Prelude.{◌≡◌, ◌^◌, ◌-◌, ◌==◌, ℕ, ℤ, pos, Bool, true, false, not, cond, nat_lt, if◌then◌else◌, List, [], ◌∷◌, ◌++◌, length, map, take, drop, take_while, Option, Some, None, codes}, Str.bytes_eq}
+use Rattle.smk_base.specs.{Ints.int_of, Trees.{AskStepImage, AskImage, AnyLineImage, PlainLine, AskedLine, ProfiledLine}, declared.book.tree.Line.Line, declared.fault.BookFault.BookFault}
 use Rattle.smk_base.specs.declared.book.tree.Line.TheVariants as lines
 use Rattle.smk_base.specs.declared.book.tree.Then.TheVariants as thens
-use Rattle.smk_base.specs.declared.fault.BookFault.{BookFault}
-use Rattle.smk_model.specs.Tokens.{tokens, is_gap, HasNoToken}
-use Rattle.smk_model.specs.Spelled.{AreSelected}
-use Rattle.smk_model.specs.TokenReadings.{selected_fault}
-use Rattle.smk_model.specs.Lines.{place_of}
-use Rattle.smk_model.specs.Readings.{Reading, Nothing, Asks, Unread, IsReading}
+use Rattle.smk_model.specs.{Tokens.{tokens, is_gap, HasNoToken}, Spelled.AreSelected, TokenReadings.selected_fault, Lines.place_of, Readings.{Reading, Nothing, Asks, Unread, IsReading}}
 
 -- which rows of an answer are printed: those numbered from one number on and below another
 pub record RowsPart : Type 0 where

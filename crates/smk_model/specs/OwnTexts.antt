@@ -1,37 +1,12 @@
 -- The texts of answers to own lines: parts of rows, answers without their lists, and what there is.
-use Rattle.std.specs.Prelude.{ℕ, ◌+◌, List, [], ◌∷◌, ◌++◌, length, map, take, drop, slice_index_or, Option, Some, None, codes, decimal}
-use Rattle.std.specs.List.{flat_map}
-use Rattle.smk_base.specs.CatalogImage.{CatalogImage}
-use Rattle.smk_base.specs.Places.{upto}
-use Rattle.smk_base.specs.Trees.{AskImage}
-use Rattle.smk_base.specs.declared.book.catalog.Back.{Back}
-use Rattle.smk_base.specs.declared.book.catalog.BackExtra.{BackExtra}
+use Rattle.std.specs.{Prelude.{ℕ, ◌+◌, List, [], ◌∷◌, ◌++◌, length, map, take, drop, slice_index_or, Option, Some, None, codes, decimal}, List.flat_map}
+use Rattle.smk_base.specs.{CatalogImage.CatalogImage, Places.upto, Trees.AskImage, declared.book.catalog.Back.Back, declared.book.catalog.BackExtra.BackExtra, declared.book.catalog.Column.Column, declared.book.catalog.Fwd.Fwd, declared.book.catalog.LinkInfo.LinkInfo, declared.book.catalog.TableInfo.TableInfo, declared.book.tree.Line.Line, declared.reply.AskReply.AskReply, declared.reply.Linked.Linked, declared.reply.ProfileReply.ProfileReply, declared.reply.Reply.Reply, declared.value.Kind.Kind}
 use Rattle.smk_base.specs.declared.book.catalog.BackExtra.TheVariants as extras
-use Rattle.smk_base.specs.declared.book.catalog.Column.{Column}
-use Rattle.smk_base.specs.declared.book.catalog.Fwd.{Fwd}
-use Rattle.smk_base.specs.declared.book.catalog.LinkInfo.{LinkInfo}
-use Rattle.smk_base.specs.declared.book.catalog.TableInfo.{TableInfo}
-use Rattle.smk_base.specs.declared.book.tree.Line.{Line}
-use Rattle.smk_base.specs.declared.reply.AskReply.{AskReply}
 use Rattle.smk_base.specs.declared.reply.AskReply.TheVariants as answers
-use Rattle.smk_base.specs.declared.reply.Linked.{Linked}
-use Rattle.smk_base.specs.declared.reply.ProfileReply.{ProfileReply}
 use Rattle.smk_base.specs.declared.reply.ProfileReply.TheVariants as found
-use Rattle.smk_base.specs.declared.reply.Reply.{Reply}
 use Rattle.smk_base.specs.declared.reply.Reply.TheVariants as replies
-use Rattle.smk_base.specs.declared.value.Kind.{Kind}
 use Rattle.smk_base.specs.declared.value.Kind.TheVariants as sorts
-use Rattle.smk_model.specs.AskTexts.{ask_text}
-use Rattle.smk_model.specs.Names.{column_at}
-use Rattle.smk_model.specs.OwnLines.{RowsPart}
-use Rattle.smk_model.specs.ProfileTexts.{no_group, found_line, mark_heading, profile_refusal_text}
-use Rattle.smk_model.specs.Reports.{BookSaid}
-use Rattle.smk_model.specs.ReplyTexts.{view_in, table_in, view_named, table_named, names_of_view, names_of_table, linked_rows_text, cleared_line, reply_text}
-use Rattle.smk_model.specs.Session.{State, view_at, rows_of_table, first_content}
-use Rattle.smk_model.specs.ShownNames.{shown}
-use Rattle.smk_model.specs.Texts.{line, record_line, rows_text, view_words, back_words, brush_heading}
-use Rattle.smk_model.specs.Typing.{info_at, columns_of}
-use Rattle.smk_model.specs.Values.{Row}
+use Rattle.smk_model.specs.{AskTexts.ask_text, Names.column_at, OwnLines.RowsPart, ProfileTexts.{no_group, found_line, mark_heading, profile_refusal_text}, Reports.BookSaid, ReplyTexts.{view_in, table_in, view_named, table_named, names_of_view, names_of_table, linked_rows_text, cleared_line, reply_text}, Session.{State, view_at, rows_of_table, first_content}, ShownNames.shown, Texts.{line, record_line, rows_text, view_words, back_words, brush_heading}, Typing.{info_at, columns_of}, Values.Row}
 
 -- the members that a part has, and the number of its first one
 abbrev pub part_of : {A : Type 0} → Option RowsPart → List A → List A

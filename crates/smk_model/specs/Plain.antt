@@ -1,19 +1,7 @@
 -- Plain meaning: relational algebra over lists of rows.
-use Rattle.std.specs.Prelude.{ℕ, ℤ, pos, ◌+◌, ◌+ℤ◌, Bool, cond, ◌&&◌, true, false, List, [], ◌∷◌, ◌++◌, length, map, slice_index_or}
-use Rattle.std.specs.List.{flat_map, filter, fold}
-use Rattle.std.specs.Cmp.Lexicographic.{pointwise}
-use Rattle.std.specs.Ordering.{is_lt, is_gt}
-use Rattle.smk_base.specs.declared.value.Value.{Value}
-use Rattle.smk_base.specs.declared.value.Value.TheVariants.{Int}
-use Rattle.smk_base.specs.declared.book.plan.Item.{Item}
-use Rattle.smk_base.specs.declared.book.plan.Item.TheVariants.{Col, Bin}
-use Rattle.smk_base.specs.declared.book.plan.Agg.{Agg}
-use Rattle.smk_base.specs.declared.book.plan.Agg.TheVariants.{Count, Sum, Min, Max}
-use Rattle.smk_base.specs.Plans.{Formula, Unary, Selection, Projection, Distinction, Grouping, Binary, Equijoin, ThetaJoin, CrossProduct, BagUnion, SetUnion, Expr, Leaf, Apply, Combine}
-use Rattle.smk_base.specs.Values.{value_eq}
-use Rattle.smk_base.specs.Firsts.{with_item, first_items}
+use Rattle.std.specs.{Prelude.{ℕ, ℤ, pos, ◌+◌, ◌+ℤ◌, Bool, cond, ◌&&◌, true, false, List, [], ◌∷◌, ◌++◌, length, map, slice_index_or}, List.{flat_map, filter, fold}, Cmp.Lexicographic.pointwise, Ordering.{is_lt, is_gt}}
+use Rattle.smk_base.specs.{declared.value.Value.Value, declared.value.Value.TheVariants.Int, declared.book.plan.Item.Item, declared.book.plan.Item.TheVariants.{Col, Bin}, declared.book.plan.Agg.Agg, declared.book.plan.Agg.TheVariants.{Count, Sum, Min, Max}, Plans.{Formula, Unary, Selection, Projection, Distinction, Grouping, Binary, Equijoin, ThetaJoin, CrossProduct, BagUnion, SetUnion, Expr, Leaf, Apply, Combine}, Values.value_eq, Firsts.{with_item, first_items}, Rels.picked}
 pub use Rattle.smk_base.specs.Rels.{number_of}
-use Rattle.smk_base.specs.Rels.{picked}
 use Rattle.smk_model.specs.Values.{Row, value_at, value_cmp, bin, meets}
 
 -- whether two rows are equal

@@ -1,13 +1,7 @@
 -- Laws of answers to `fd` lines.
 use Rattle.std.specs.Prelude.{◌≡◌, ℕ, ◌<◌, List, length, Some}
-use Rattle.smk_base.specs.CatalogImage.{CatalogImage, view_place}
-use Rattle.smk_base.specs.declared.reply.Reply.TheVariants.{Back}
-use Rattle.smk_model.specs.Dependencies.{violation_at}
-use Rattle.smk_model.specs.Profiles.{AreDependencies, ShowsDependency, shown_by, violations_of, group_of, mark_line, profile_reply}
-use Rattle.smk_model.specs.ProfileTexts.{IsProfileReply}
-use Rattle.smk_model.specs.Replies.{reply}
-use Rattle.smk_model.specs.Session.{State, first_content}
-use Rattle.smk_model.specs.Typing.{info_at}
+use Rattle.smk_base.specs.{CatalogImage.{CatalogImage, view_place}, declared.reply.Reply.TheVariants.Back}
+use Rattle.smk_model.specs.{Dependencies.violation_at, Profiles.{AreDependencies, ShowsDependency, shown_by, violations_of, group_of, mark_line, profile_reply}, ProfileTexts.IsProfileReply, Replies.reply, Session.{State, first_content}, Typing.info_at}
 
 -- the view of a dependency has a mark for each violation, and the `back` line of the mark is answered by the rows of the violation
 pub record MarksAreViolations (catalog : CatalogImage) (state : State) (view : List ℕ) (v : ℕ) : Type 0 where

@@ -1,15 +1,7 @@
 -- The texts of answers to `fd` lines.
-use Rattle.std.specs.Prelude.{◌≡◌, ◌<◌, ℕ, List, [], ◌∷◌, ◌++◌, length, map, slice_index_or, All, codes, decimal}
-use Rattle.std.specs.List.{flat_map}
-use Rattle.smk_base.specs.CatalogImage.{CatalogImage}
-use Rattle.smk_base.specs.declared.reply.Group.{Group}
-use Rattle.smk_base.specs.declared.reply.ProfileReply.{ProfileReply}
-use Rattle.smk_base.specs.declared.reply.ProfileReply.TheVariants.{Found, Refused}
-use Rattle.smk_base.specs.declared.reply.ProfileRefusal.{ProfileRefusal}
-use Rattle.smk_base.specs.declared.reply.ProfileRefusal.TheVariants.{UnknownView, NotProfile}
-use Rattle.smk_model.specs.Lineage.{upto}
-use Rattle.smk_model.specs.Texts.{line, record_line, row_lines}
-use Rattle.smk_model.specs.Typing.{info_at}
+use Rattle.std.specs.{Prelude.{◌≡◌, ◌<◌, ℕ, List, [], ◌∷◌, ◌++◌, length, map, slice_index_or, All, codes, decimal}, List.flat_map}
+use Rattle.smk_base.specs.{CatalogImage.CatalogImage, declared.reply.Group.Group, declared.reply.ProfileReply.ProfileReply, declared.reply.ProfileReply.TheVariants.{Found, Refused}, declared.reply.ProfileRefusal.ProfileRefusal, declared.reply.ProfileRefusal.TheVariants.{UnknownView, NotProfile}}
+use Rattle.smk_model.specs.{Lineage.upto, Texts.{line, record_line, row_lines}, Typing.info_at}
 
 -- the mark of rows with one key, and how many they are
 abbrev pub mark_heading : ℕ → Group → List ℕ

@@ -1,21 +1,10 @@
 -- What an `fd` line comes to: for each key that violates a dependency the rows with that key.
-use Rattle.std.specs.Prelude.{◌≡◌, ℕ, Bool, true, false, cond, List, [], ◌∷◌, length, map, Option, Some, None, IfSome, All}
-use Rattle.std.specs.List.{sum_by}
-use Rattle.smk_base.specs.CatalogImage.{CatalogImage, view_place, table_place}
-use Rattle.smk_base.specs.declared.reply.Group.{Group}
-use Rattle.smk_base.specs.declared.reply.ProfileReply.{ProfileReply}
-use Rattle.smk_base.specs.declared.reply.ProfileReply.TheVariants.{Found, Refused}
-use Rattle.smk_base.specs.declared.reply.ProfileRefusal.TheVariants.{UnknownView, NotProfile}
-use Rattle.smk_base.specs.declared.book.tree.Line.{Line}
+use Rattle.std.specs.{Prelude.{◌≡◌, ℕ, Bool, true, false, cond, List, [], ◌∷◌, length, map, Option, Some, None, IfSome, All}, List.sum_by}
+use Rattle.smk_base.specs.{CatalogImage.{CatalogImage, view_place, table_place}, declared.reply.Group.Group, declared.reply.ProfileReply.ProfileReply, declared.reply.ProfileReply.TheVariants.{Found, Refused}, declared.reply.ProfileRefusal.TheVariants.{UnknownView, NotProfile}, declared.book.tree.Line.Line}
 use Rattle.smk_base.specs.declared.book.tree.Line.TheVariants as lines
 use Rattle.smk_base.specs.declared.book.tree.Marks.TheVariants as markings
 use Rattle.smk_base.specs.declared.book.tree.Then.TheVariants as thens
-use Rattle.smk_model.specs.Dependencies.{Dependency, Violation, violations, dependency_of, plan_of}
-use Rattle.smk_model.specs.Names.{is_taken}
-use Rattle.smk_model.specs.Replies.{rows_at_rids}
-use Rattle.smk_model.specs.Session.{State, view_at, rows_of_table}
-use Rattle.smk_model.specs.Typing.{info_at}
-use Rattle.smk_model.specs.Workload.{declares_back}
+use Rattle.smk_model.specs.{Dependencies.{Dependency, Violation, violations, dependency_of, plan_of}, Names.is_taken, Replies.rows_at_rids, Session.{State, view_at, rows_of_table}, Typing.info_at, Workload.declares_back}
 
 -- the dependency that a view shows
 abbrev pub shown_by : CatalogImage → ℕ → Dependency

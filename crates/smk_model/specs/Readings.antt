@@ -1,13 +1,7 @@
 -- What the lines of a script say.
 use Rattle.std.specs.Prelude.{◌≡◌, ℕ, List, [], ◌∷◌, Some, None}
-use Rattle.smk_base.specs.declared.fault.BookFault.{BookFault}
-use Rattle.smk_base.specs.Trees.{AnyLineImage, PlainLine}
-use Rattle.smk_base.specs.declared.book.tree.Line.{Line}
-use Rattle.smk_base.specs.Marks.{after_marks}
-use Rattle.smk_model.specs.Tokens.{tokens, HasNoToken}
-use Rattle.smk_model.specs.Spelled.{IsWholeAnyLine}
-use Rattle.smk_model.specs.TokenReadings.{any_fault}
-use Rattle.smk_model.specs.Lines.{lines, place_of}
+use Rattle.smk_base.specs.{declared.fault.BookFault.BookFault, Trees.{AnyLineImage, PlainLine}, declared.book.tree.Line.Line, Marks.after_marks}
+use Rattle.smk_model.specs.{Tokens.{tokens, HasNoToken}, Spelled.IsWholeAnyLine, TokenReadings.any_fault, Lines.{lines, place_of}}
 
 -- nothing, a line of the grammar, or the place at which a line leaves the grammar
 pub data Reading : Type 0 where

@@ -1,43 +1,14 @@
 -- What a session answers to a line: one walk, from a state and a line to the reply and the next state.
-use Rattle.std.specs.Prelude.{ℕ, Bool, true, false, cond, ◌&&◌, nat_eq, nat_le, List, [], ◌∷◌, length, map, position, Option, Some, None, ok_or, option_map, Result, Ok, Err}
-use Rattle.std.specs.List.{find, filter, list_any, list_all}
-use Rattle.std.specs.Option.{option_or}
-use Rattle.smk_base.specs.Places.{upto}
-use Rattle.smk_base.specs.Plans.{Grouping}
-use Rattle.smk_base.specs.Rels.{Relation}
-use Rattle.smk_base.specs.Values.{value_eq}
-use Rattle.smk_base.specs.CatalogImage.{CatalogImage, view_place, table_place}
-use Rattle.smk_base.specs.declared.brush.BrushOn.{BrushOn}
-use Rattle.smk_base.specs.declared.book.catalog.Back.{Back}
-use Rattle.smk_base.specs.declared.book.catalog.BackExtra.{BackExtra}
+use Rattle.std.specs.{Prelude.{ℕ, Bool, true, false, cond, ◌&&◌, nat_eq, nat_le, List, [], ◌∷◌, length, map, position, Option, Some, None, ok_or, option_map, Result, Ok, Err}, List.{find, filter, list_any, list_all}, Option.option_or}
+use Rattle.smk_base.specs.{Places.upto, Plans.Grouping, Rels.Relation, Values.value_eq, CatalogImage.{CatalogImage, view_place, table_place}, declared.brush.BrushOn.BrushOn, declared.book.catalog.Back.Back, declared.book.catalog.BackExtra.BackExtra, declared.book.plan.Agg.Agg, declared.book.tree.Line.Line, declared.book.tree.Marks.Marks, declared.book.tree.Then.Then, declared.reply.Linked.Linked, declared.reply.Reply.Reply, declared.reply.Refusal.Refusal, declared.reply.Refusal.TheVariants.{UnknownView, UnknownTable, Undeclared, NoRow, NoSplit, ValueKind, NoGroup, NotLinked, RowsLimit, ManyMarks}, declared.value.Kind.Kind, declared.value.Value.Value}
 use Rattle.smk_base.specs.declared.book.catalog.BackExtra.TheVariants as extras
-use Rattle.smk_base.specs.declared.book.plan.Agg.{Agg}
-use Rattle.smk_base.specs.declared.book.tree.Line.{Line}
 use Rattle.smk_base.specs.declared.book.tree.Line.TheVariants as lines
-use Rattle.smk_base.specs.declared.book.tree.Marks.{Marks}
 use Rattle.smk_base.specs.declared.book.tree.Marks.TheVariants as markings
-use Rattle.smk_base.specs.declared.book.tree.Then.{Then}
 use Rattle.smk_base.specs.declared.book.tree.Then.TheVariants as thens
-use Rattle.smk_base.specs.declared.reply.Linked.{Linked}
-use Rattle.smk_base.specs.declared.reply.Reply.{Reply}
 use Rattle.smk_base.specs.declared.reply.Reply.TheVariants as replies
-use Rattle.smk_base.specs.declared.reply.Refusal.{Refusal}
-use Rattle.smk_base.specs.declared.reply.Refusal.TheVariants.{UnknownView, UnknownTable, Undeclared, NoRow, NoSplit, ValueKind, NoGroup, NotLinked, RowsLimit, ManyMarks}
-use Rattle.smk_base.specs.declared.value.Kind.{Kind}
 use Rattle.smk_base.specs.declared.value.Kind.TheVariants as kinds
-use Rattle.smk_base.specs.declared.value.Value.{Value}
 use Rattle.smk_base.specs.declared.value.Value.TheVariants as values
-use Rattle.smk_model.specs.Values.{Row, value_at}
-use Rattle.smk_model.specs.Names.{◌>>=◌, same_name, column_at}
-use Rattle.smk_model.specs.Plain.{step1, whole}
-use Rattle.smk_model.specs.Lineage.{sub, row_at}
-use Rattle.smk_model.specs.Annotated.{back, fwd}
-use Rattle.smk_model.specs.Selection.{first_full}
-use Rattle.smk_model.specs.Tables.{all_or_first}
-use Rattle.smk_model.specs.Typing.{info_at, columns_of}
-use Rattle.smk_model.specs.Catalogs.{table_kinds}
-use Rattle.smk_model.specs.Workload.{is_back, is_link, declares_back, declares_fwd}
-use Rattle.smk_model.specs.Session.{State, view_at, rows_of_table, first_content, linked, selected_for, leaves_now, content, with_brush, without_brush, under}
+use Rattle.smk_model.specs.{Values.{Row, value_at}, Names.{◌>>=◌, same_name, column_at}, Plain.{step1, whole}, Lineage.{sub, row_at}, Annotated.{back, fwd}, Selection.first_full, Tables.all_or_first, Typing.{info_at, columns_of}, Catalogs.table_kinds, Workload.{is_back, is_link, declares_back, declares_fwd}, Session.{State, view_at, rows_of_table, first_content, linked, selected_for, leaves_now, content, with_brush, without_brush, under}}
 
 -- what is asked for, or why the line is refused
 abbrev pub Asked : Type 0 → Type 0

@@ -1,15 +1,8 @@
 -- Laws of what a session answers.
 use Rattle.std.specs.Prelude.{◌≡◌, ℕ, true, List}
-use Rattle.smk_base.specs.CatalogImage.{CatalogImage}
-use Rattle.smk_base.specs.declared.brush.BrushOn.{BrushOn}
-use Rattle.smk_base.specs.declared.book.tree.Line.{Line}
+use Rattle.smk_base.specs.{CatalogImage.CatalogImage, declared.brush.BrushOn.BrushOn, declared.book.tree.Line.Line, declared.book.tree.Marks.Marks, declared.book.tree.Then.Then}
 use Rattle.smk_base.specs.declared.book.tree.Line.TheVariants as lines
-use Rattle.smk_base.specs.declared.book.tree.Marks.{Marks}
-use Rattle.smk_base.specs.declared.book.tree.Then.{Then}
-use Rattle.smk_model.specs.Catalogs.{IsCatalog}
-use Rattle.smk_model.specs.ReplyTexts.{IsReplyTo}
-use Rattle.smk_model.specs.Session.{State, Workbook, first_state, first_content, content, under}
-use Rattle.smk_model.specs.Replies.{reply, is_refused}
+use Rattle.smk_model.specs.{Catalogs.IsCatalog, ReplyTexts.IsReplyTo, Session.{State, Workbook, first_state, first_content, content, under}, Replies.{reply, is_refused}}
 
 -- where no brush is in force, the content of a view is its first content
 abbrev pub FirstContents : Type 0

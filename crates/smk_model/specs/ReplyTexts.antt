@@ -1,25 +1,11 @@
 -- The texts of replies to the lines of a script.
-use Rattle.std.specs.Prelude.{◌≡◌, ◌<◌, ⊤, ℕ, List, [], ◌∷◌, ◌++◌, length, map, find, nat_eq, Option, Some, None, IsSome, All, codes, decimal}
-use Rattle.std.specs.List.{flat_map}
-use Rattle.std.specs.Cmp.Lexicographic.{pointwise}
-use Rattle.smk_base.specs.Rels.{Relation}
-use Rattle.smk_base.specs.CatalogImage.{CatalogImage, ViewImage, view_place, table_place}
-use Rattle.smk_base.specs.declared.book.catalog.TableInfo.{TableInfo}
-use Rattle.smk_base.specs.declared.book.tree.Line.{Line}
+use Rattle.std.specs.{Prelude.{◌≡◌, ◌<◌, ⊤, ℕ, List, [], ◌∷◌, ◌++◌, length, map, find, nat_eq, Option, Some, None, IsSome, All, codes, decimal}, List.flat_map, Cmp.Lexicographic.pointwise}
+use Rattle.smk_base.specs.{Rels.Relation, CatalogImage.{CatalogImage, ViewImage, view_place, table_place}, declared.book.catalog.TableInfo.TableInfo, declared.book.tree.Line.Line, declared.book.tree.Then.Then, declared.reply.Linked.Linked, declared.reply.Reply.Reply, declared.reply.Reply.TheVariants.{View, Back, Grouped, Fwd, Brush, Cleared, ClearedOne, Refused}, declared.reply.Refusal.Refusal}
 use Rattle.smk_base.specs.declared.book.tree.Line.TheVariants as lines
-use Rattle.smk_base.specs.declared.book.tree.Then.{Then}
 use Rattle.smk_base.specs.declared.book.tree.Then.TheVariants as thens
-use Rattle.smk_base.specs.declared.reply.Linked.{Linked}
-use Rattle.smk_base.specs.declared.reply.Reply.{Reply}
-use Rattle.smk_base.specs.declared.reply.Reply.TheVariants.{View, Back, Grouped, Fwd, Brush, Cleared, ClearedOne, Refused}
-use Rattle.smk_base.specs.declared.reply.Refusal.{Refusal}
 use Rattle.smk_base.specs.declared.reply.Refusal.TheVariants as refusals
-use Rattle.smk_model.specs.Values.{Row}
-use Rattle.smk_model.specs.ShownNames.{shown}
-use Rattle.smk_model.specs.Session.{view_at}
+use Rattle.smk_model.specs.{Values.Row, ShownNames.shown, Session.view_at, Replies.grouping_of, Texts.{line, numbers_line, view_text, back_text, group_text, fwd_text, brush_text, no_row_text}}
 use Rattle.smk_model.specs.Replies as asked_for
-use Rattle.smk_model.specs.Replies.{grouping_of}
-use Rattle.smk_model.specs.Texts.{line, numbers_line, view_text, back_text, group_text, fwd_text, brush_text, no_row_text}
 
 -- the view of this name, and the table
 abbrev pub view_named : CatalogImage → List ℕ → Option ViewImage

@@ -1,23 +1,7 @@
 -- The report of a run: the texts of the views in the book's order, then those of the lines, one after the other.
 use Rattle.std.specs.Prelude.{ℕ, ◌+◌, Bool, true, false, ◌||◌, cond, nat_lt, List, [], ◌∷◌, ◌++◌, length, map, is_some}
-use Rattle.smk_base.specs.CatalogImage.{CatalogImage, ViewImage, table_place}
-use Rattle.smk_base.specs.declared.book.tree.Line.{Line}
-use Rattle.smk_base.specs.Trees.{AskImage, AnyLineImage, PlainLine, AskedLine, ProfiledLine, AppendedLine}
-use Rattle.smk_base.specs.declared.size.Size.{Size}
-use Rattle.smk_model.specs.Values.{Row}
-use Rattle.smk_model.specs.Texts.{bad_line_text}
-use Rattle.smk_model.specs.ViewTexts.{view_rows, views_text}
-use Rattle.smk_model.specs.ReplyTexts.{reply_text}
-use Rattle.smk_model.specs.Readings.{Reading, Nothing, Asks, Unread}
-use Rattle.smk_model.specs.Session.{Workbook, State, first_state}
-use Rattle.smk_model.specs.Replies.{reply, is_refused}
-use Rattle.smk_model.specs.Looks.{line_looks}
-use Rattle.smk_model.specs.Asks.{ask_reply, ask_looks, is_ask_refused}
-use Rattle.smk_model.specs.AskTexts.{ask_text}
-use Rattle.smk_model.specs.Profiles.{profile_reply, profile_looks, is_profile_refused}
-use Rattle.smk_model.specs.ProfileTexts.{profile_text}
-use Rattle.smk_model.specs.Appends.{Turn, append_turn, append_looks, is_append_refused}
-use Rattle.smk_model.specs.AppendTexts.{append_text}
+use Rattle.smk_base.specs.{CatalogImage.{CatalogImage, ViewImage, table_place}, declared.book.tree.Line.Line, Trees.{AskImage, AnyLineImage, PlainLine, AskedLine, ProfiledLine, AppendedLine}, declared.size.Size.Size}
+use Rattle.smk_model.specs.{Values.Row, Texts.bad_line_text, ViewTexts.{view_rows, views_text}, ReplyTexts.reply_text, Readings.{Reading, Nothing, Asks, Unread}, Session.{Workbook, State, first_state}, Replies.{reply, is_refused}, Looks.line_looks, Asks.{ask_reply, ask_looks, is_ask_refused}, AskTexts.ask_text, Profiles.{profile_reply, profile_looks, is_profile_refused}, ProfileTexts.profile_text, Appends.{Turn, append_turn, append_looks, is_append_refused}, AppendTexts.append_text}
 
 -- what a book says: its catalog, and the names of its dependencies in order, which are those of the views that show them
 pub record BookSaid : Type 0 where

@@ -1,20 +1,6 @@
 -- What a text is read as: what is still to be read, and what each of it gives.
 use Rattle.std.specs.Prelude.{ℕ, ℤ, List, Option, Some, None, Bool}
-use Rattle.smk_base.specs.declared.book.token.TokenKind.{TokenKind}
-use Rattle.smk_base.specs.declared.book.plan.CmpOp.{CmpOp}
-use Rattle.smk_base.specs.declared.book.tree.Word.{Word}
-use Rattle.smk_base.specs.declared.book.tree.Lit.{Lit}
-use Rattle.smk_base.specs.declared.book.tree.Decl.{Decl}
-use Rattle.smk_base.specs.declared.book.tree.Extra.{Extra}
-use Rattle.smk_base.specs.declared.book.tree.ItemTree.{ItemTree}
-use Rattle.smk_base.specs.declared.book.tree.AggTree.{AggTree}
-use Rattle.smk_base.specs.declared.book.tree.AggWhat.{AggWhat}
-use Rattle.smk_base.specs.declared.book.tree.PairTree.{PairTree}
-use Rattle.smk_base.specs.declared.book.tree.Term.{Term}
-use Rattle.smk_base.specs.declared.book.tree.Marks.{Marks}
-use Rattle.smk_base.specs.declared.book.tree.Then.{Then}
-use Rattle.smk_base.specs.declared.book.tree.Line.{Line}
-use Rattle.smk_base.specs.Trees.{PredImage, TreeImage, StepImage, StmtImage, AskStepImage, AnyLineImage}
+use Rattle.smk_base.specs.{declared.book.token.TokenKind.TokenKind, declared.book.plan.CmpOp.CmpOp, declared.book.tree.Word.Word, declared.book.tree.Lit.Lit, declared.book.tree.Decl.Decl, declared.book.tree.Extra.Extra, declared.book.tree.ItemTree.ItemTree, declared.book.tree.AggTree.AggTree, declared.book.tree.AggWhat.AggWhat, declared.book.tree.PairTree.PairTree, declared.book.tree.Term.Term, declared.book.tree.Marks.Marks, declared.book.tree.Then.Then, declared.book.tree.Line.Line, Trees.{PredImage, TreeImage, StepImage, StmtImage, AskStepImage, AnyLineImage}}
 use Rattle.smk_model.specs.Tokens.{Token}
 
 -- the statements so far

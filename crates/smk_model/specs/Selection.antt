@@ -1,14 +1,7 @@
 -- Plans over a selection of their tables' rows, the kinds of a plan, and the first of its nodes with too many rows.
-use Rattle.std.specs.Prelude.{ℕ, ◌+◌, ◌<◌, Bool, nat_eq, nat_lt, List, [], ◌∷◌, ◌++◌, length, map, drop, slice_index_or, Option, Some, None, option_map, position, All}
-use Rattle.std.specs.List.{find, sum_by}
-use Rattle.smk_base.specs.declared.value.Kind.{Kind}
-use Rattle.smk_base.specs.declared.list.table_rids.Pick.{Pick}
-use Rattle.smk_base.specs.Rels.{Relation}
-use Rattle.smk_base.specs.Plans.{Expr, Leaf, Apply, Combine}
-use Rattle.smk_model.specs.Values.{Row}
-use Rattle.smk_model.specs.Plain.{leaves, width, eval, table_at}
-use Rattle.smk_model.specs.Lineage.{sub}
-use Rattle.smk_model.specs.Kinds.{Fits1, Fits2, kinds1, kinds2}
+use Rattle.std.specs.{Prelude.{ℕ, ◌+◌, ◌<◌, Bool, nat_eq, nat_lt, List, [], ◌∷◌, ◌++◌, length, map, drop, slice_index_or, Option, Some, None, option_map, position, All}, List.{find, sum_by}}
+use Rattle.smk_base.specs.{declared.value.Kind.Kind, declared.list.table_rids.Pick.Pick, Rels.Relation, Plans.{Expr, Leaf, Apply, Combine}}
+use Rattle.smk_model.specs.{Values.Row, Plain.{leaves, width, eval, table_at}, Lineage.sub, Kinds.{Fits1, Fits2, kinds1, kinds2}}
 
 -- the rows of each of these
 abbrev pub each_rows : List Relation → List (List Row)

@@ -1,15 +1,7 @@
 -- What a session stands at: the rows of the tables and the brushes in force, and what each view shows there.
-use Rattle.std.specs.Prelude.{ℕ, Bool, not, cond, ◌&&◌, nat_eq, List, [], ◌∷◌, ◌++◌, length, map, slice_index_or}
-use Rattle.std.specs.List.{list_all, list_any, filter, flat_map}
-use Rattle.smk_base.specs.Places.{places, has, upto}
-use Rattle.smk_base.specs.Plans.{Leaf}
-use Rattle.smk_base.specs.CatalogImage.{CatalogImage, ViewImage}
-use Rattle.smk_base.specs.declared.brush.BrushOn.{BrushOn}
-use Rattle.smk_base.specs.declared.list.table_rids.Pick.{Pick}
-use Rattle.smk_model.specs.Values.{Row}
-use Rattle.smk_model.specs.Plain.{table_at, rows_over, eval}
-use Rattle.smk_model.specs.Selection.{over}
-use Rattle.smk_model.specs.Workload.{is_link}
+use Rattle.std.specs.{Prelude.{ℕ, Bool, not, cond, ◌&&◌, nat_eq, List, [], ◌∷◌, ◌++◌, length, map, slice_index_or}, List.{list_all, list_any, filter, flat_map}}
+use Rattle.smk_base.specs.{Places.{places, has, upto}, Plans.Leaf, CatalogImage.{CatalogImage, ViewImage}, declared.brush.BrushOn.BrushOn, declared.list.table_rids.Pick.Pick}
+use Rattle.smk_model.specs.{Values.Row, Plain.{table_at, rows_over, eval}, Selection.over, Workload.is_link}
 
 -- a checked book, and the rows of its tables
 pub record Workbook : Type 0 where

@@ -1,7 +1,5 @@
 -- Names as a book writes them.
-use Rattle.std.specs.Prelude.{ℕ, Bool, false, not, ◌&&◌, nat_eq, List, [], ◌∷◌, ◌++◌, if◌then◌else◌}
-use Rattle.std.specs.List.{list_any, list_all}
-use Rattle.std.specs.Cmp.Lexicographic.{pointwise}
+use Rattle.std.specs.{Prelude.{ℕ, Bool, false, not, ◌&&◌, nat_eq, List, [], ◌∷◌, ◌++◌, if◌then◌else◌}, List.{list_any, list_all}, Cmp.Lexicographic.pointwise}
 use Rattle.smk_model.specs.Tokens.{is_letter, is_word_byte, keywords}
 
 -- a letter or an underscore, and then letters, digits and underscores

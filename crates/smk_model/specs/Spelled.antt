@@ -1,11 +1,7 @@
 -- Which tokens spell which tree, by the rules.
 use Rattle.std.specs.Prelude.{◌≡◌, ℕ, true, List, ◌∷◌, Some}
-use Rattle.smk_base.specs.declared.book.tree.Line.{Line}
-use Rattle.smk_base.specs.Trees.{StmtImage, AskStepImage, AnyLineImage}
-use Rattle.smk_model.specs.Tokens.{Token}
-use Rattle.smk_model.specs.Rules.{Symbol, AStmts, AWholeLine, AWholeAnyLine, ASelected, Tree, Rule, Gives, Reads}
-use Rattle.smk_model.specs.LanguageTable.{rule_of, if_nothing}
-use Rattle.smk_model.specs.TokenReadings.{in_range, no_tally}
+use Rattle.smk_base.specs.{declared.book.tree.Line.Line, Trees.{StmtImage, AskStepImage, AnyLineImage}}
+use Rattle.smk_model.specs.{Tokens.Token, Rules.{Symbol, AStmts, AWholeLine, AWholeAnyLine, ASelected, Tree, Rule, Gives, Reads}, LanguageTable.{rule_of, if_nothing}, TokenReadings.{in_range, no_tally}}
 
 mutual
   -- the tokens from the first list up to the second spell the tree of the symbol: the first of them begins it, and those behind that follow the rule; or the symbol is nothing

@@ -1,21 +1,10 @@
 -- The table of the bytes of a file: the records that csv reads, the header, then each record in order, or the first fault.
-use Rattle.std.specs.Prelude.{◌≡◌, ℕ, ◌+◌, ◌≤◌, ◌==◌, List, [], ◌∷◌, length, map, slice_index_or, All, Option, Some, None, unwrap_or, IfSome, Result, Ok, Err, if◌then◌else◌}
-use Rattle.std.specs.List.{list_all}
-use Rattle.std.specs.Option.{ok_or, option_map}
-use Rattle.std.specs.Cmp.Lexicographic.{pointwise}
-use Rattle.std.specs.Prelude.{nat_eq}
+use Rattle.std.specs.{Prelude.{◌≡◌, ℕ, ◌+◌, ◌≤◌, ◌==◌, List, [], ◌∷◌, length, map, slice_index_or, All, Option, Some, None, unwrap_or, IfSome, Result, Ok, Err, if◌then◌else◌, nat_eq}, List.list_all, Option.{ok_or, option_map}, Cmp.Lexicographic.pointwise}
 use Rattle.csv.specs.Reading.{records, default_config}
-use Rattle.smk_base.specs.declared.value.Kind.{Kind}
+use Rattle.smk_base.specs.{declared.value.Kind.Kind, declared.value.Value.Value, declared.book.col_decl.ColDecl.ColDecl, declared.fault.TableFault.TableFault, declared.rel.TheConstants.COLUMN_LIMIT, Rels.Fits, Ints.{is_blank, int_of}, Marks.after_marks}
 use Rattle.smk_base.specs.declared.value.Kind.TheVariants as kinds
-use Rattle.smk_base.specs.declared.value.Value.{Value}
 use Rattle.smk_base.specs.declared.value.Value.TheVariants as values
-use Rattle.smk_base.specs.declared.book.col_decl.ColDecl.{ColDecl}
-use Rattle.smk_base.specs.declared.fault.TableFault.{TableFault}
 use Rattle.smk_base.specs.declared.fault.TableFault.TheVariants as faults
-use Rattle.smk_base.specs.declared.rel.TheConstants.{COLUMN_LIMIT}
-use Rattle.smk_base.specs.Rels.{Fits}
-use Rattle.smk_base.specs.Ints.{is_blank, int_of}
-use Rattle.smk_base.specs.Marks.{after_marks}
 use Rattle.smk_model.specs.Names.{◌>>=◌}
 
 -- a function of each member and its number, from n on

@@ -1,18 +1,7 @@
 -- How a conversation starts, by its words and by what the files hold: over what it reads, or with its first fault.
-use Rattle.std.specs.Prelude.{◌≡◌, ◌⊎◌, ◌≤◌, ◌+◌, ⊤, ℕ, Bool, true, false, List, [], ◌∷◌, length, Option, Some, None, is_some, Result, Ok, Err, codes}
-use Rattle.std.specs.List.{filter}
-use Rattle.smk_base.specs.declared.book.catalog.TableInfo.{TableInfo}
-use Rattle.smk_base.specs.declared.fault.Fault.{Fault}
-use Rattle.smk_base.specs.declared.fault.Fault.TheVariants.{Usage, Unread}
-use Rattle.smk_model.specs.Conversation.{TalkTurn, Unbrought, FilesBring}
-use Rattle.smk_model.specs.Demo.{demo_of}
-use Rattle.smk_model.specs.FaultTexts.{fault_text}
-use Rattle.smk_model.specs.Opening.{ViewFault, first_view_fault, fault_named}
-use Rattle.smk_model.specs.Outcome.{Held, Inputs, ReadsFiles, NamesAsked, UntoldCause, WhereTold, book_of, source_of, text_named}
-use Rattle.smk_model.specs.TalkWords.{TalkCall, talk_call_of, talk_source}
-use Rattle.smk_model.specs.Texts.{line}
-use Rattle.smk_model.specs.Values.{Row}
-use Rattle.smk_model.specs.Words.{TextSource, Files, Demo}
+use Rattle.std.specs.{Prelude.{◌≡◌, ◌⊎◌, ◌≤◌, ◌+◌, ⊤, ℕ, Bool, true, false, List, [], ◌∷◌, length, Option, Some, None, is_some, Result, Ok, Err, codes}, List.filter}
+use Rattle.smk_base.specs.{declared.book.catalog.TableInfo.TableInfo, declared.fault.Fault.Fault, declared.fault.Fault.TheVariants.{Usage, Unread}}
+use Rattle.smk_model.specs.{Conversation.{TalkTurn, Unbrought, FilesBring}, Demo.demo_of, FaultTexts.fault_text, Opening.{ViewFault, first_view_fault, fault_named}, Outcome.{Held, Inputs, ReadsFiles, NamesAsked, UntoldCause, WhereTold, book_of, source_of, text_named}, TalkWords.{TalkCall, talk_call_of, talk_source}, Texts.line, Values.Row, Words.{TextSource, Files, Demo}}
 
 -- what is read before the first line, or its first fault: the book and its tables, as by a run without a script
 pub data ReadsTalk (words : List (List ℕ)) (held : Held) : Result Inputs Fault → Type 0 where

@@ -1,9 +1,6 @@
 -- The words of a conversation: what clap takes, by its own rule for this command, and what it is asked for.
-use Rattle.std.specs.Prelude.{ℕ, Bool, true, false, List, Option, Some, None, option_map, codes}
-use Rattle.std.specs.Str.{bytes_eq}
-use Rattle.clap.specs.Words.{App, Rule, new_app, new_rule, with_rule, fault_of}
-use Rattle.clap.specs.Simple.{on_top}
-use Rattle.clap.specs.declared.builder.action.ArgAction.TheVariants.{SetTrue}
+use Rattle.std.specs.{Prelude.{ℕ, Bool, true, false, List, Option, Some, None, option_map, codes}, Str.bytes_eq}
+use Rattle.clap.specs.{Words.{App, Rule, new_app, new_rule, with_rule, fault_of}, Simple.on_top, declared.builder.action.ArgAction.TheVariants.SetTrue}
 use Rattle.smk_model.specs.Words.{Settings, TextSource, Values, mode_rule, workers_rule, demo_rule, settings_in, texts_named, value_given_to, where_taken}
 
 -- the option `--read-only`, which has no value of its own

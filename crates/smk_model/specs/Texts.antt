@@ -1,12 +1,8 @@
 -- The texts that a run writes.
-use Rattle.std.specs.Prelude.{ℕ, List, [], ◌∷◌, ◌++◌, length, map, slice_index_or, codes, decimal}
-use Rattle.std.specs.List.{flat_map}
-use Rattle.std.specs.Fmt.{signed_decimal}
+use Rattle.std.specs.{Prelude.{ℕ, List, [], ◌∷◌, ◌++◌, length, map, slice_index_or, codes, decimal}, List.flat_map, Fmt.signed_decimal}
 use Rattle.csv.specs.Writing.{default_writer, row_text}
-use Rattle.smk_base.specs.declared.value.Value.{Value}
-use Rattle.smk_base.specs.declared.value.Value.TheVariants.{Int, Text}
-use Rattle.smk_model.specs.Values.{Row}
-use Rattle.smk_model.specs.Lineage.{upto, row_at}
+use Rattle.smk_base.specs.{declared.value.Value.Value, declared.value.Value.TheVariants.{Int, Text}}
+use Rattle.smk_model.specs.{Values.Row, Lineage.{upto, row_at}}
 
 -- a line: its parts, one after the other, and a line feed
 abbrev pub line : List (List ℕ) → List ℕ

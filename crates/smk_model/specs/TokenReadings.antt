@@ -1,16 +1,8 @@
 -- What a list of tokens is read as, token by token, up to the end or to the first fault, which may be a limit.
 use Rattle.std.specs.Prelude.{ℕ, ◌+◌, ◌^◌, ◌&&◌, ℤ, pos, Bool, true, false, cond, List, [], ◌∷◌, Option, Some, None, Result, Ok, Err, nat_lt, nat_le, int_le, int_lt, length}
-use Rattle.smk_base.specs.declared.book.token.TokenKind.{TokenKind}
+use Rattle.smk_base.specs.{declared.book.token.TokenKind.TokenKind, declared.fault.Many.Many, declared.fault.Many.TheVariants.{Tables, Views, Lineages, Links, Columns, Nodes, Compares, Depth, NameBytes}, declared.fault.BookFault.BookFault, declared.fault.BookFault.TheVariants.{BadToken, Unexpected, TooMany, BadNumber, NoMemory}, declared.book.limits.TheConstants.{TABLE_LIMIT, VIEW_LIMIT, LINEAGE_LIMIT, LINK_LIMIT, NODE_LIMIT, COMPARE_LIMIT, DEPTH_LIMIT, NAME_LIMIT}, declared.rel.TheConstants.COLUMN_LIMIT}
 use Rattle.smk_base.specs.declared.book.token.TokenKind.TheVariants as kinds
-use Rattle.smk_base.specs.declared.fault.Many.{Many}
-use Rattle.smk_base.specs.declared.fault.Many.TheVariants.{Tables, Views, Lineages, Links, Columns, Nodes, Compares, Depth, NameBytes}
-use Rattle.smk_base.specs.declared.fault.BookFault.{BookFault}
-use Rattle.smk_base.specs.declared.fault.BookFault.TheVariants.{BadToken, Unexpected, TooMany, BadNumber, NoMemory}
-use Rattle.smk_base.specs.declared.book.limits.TheConstants.{TABLE_LIMIT, VIEW_LIMIT, LINEAGE_LIMIT, LINK_LIMIT, NODE_LIMIT, COMPARE_LIMIT, DEPTH_LIMIT, NAME_LIMIT}
-use Rattle.smk_base.specs.declared.rel.TheConstants.{COLUMN_LIMIT}
-use Rattle.smk_model.specs.Tokens.{Token, inner, int_value}
-use Rattle.smk_model.specs.Rules.{Tally, PlanCounts, Configuration, no_counts, Member, LinkedView, Mark, OutputItem, Symbol, ANames, AName, AColumn, AWidth, AKeys, AnOn, ATerm, AFirst, One, Listed, ASource, APlan, AStep, AUnited, APrim, AConj, APred, AStmts, AMarks, AWholeLine, AWholeAnyLine, AnAskStep, APiped, ASelected, Tree, Rule, Gives, Reads, behind, Opening}
-use Rattle.smk_model.specs.LanguageTable.{rule_of, if_nothing}
+use Rattle.smk_model.specs.{Tokens.{Token, inner, int_value}, Rules.{Tally, PlanCounts, Configuration, no_counts, Member, LinkedView, Mark, OutputItem, Symbol, ANames, AName, AColumn, AWidth, AKeys, AnOn, ATerm, AFirst, One, Listed, ASource, APlan, AStep, AUnited, APrim, AConj, APred, AStmts, AMarks, AWholeLine, AWholeAnyLine, AnAskStep, APiped, ASelected, Tree, Rule, Gives, Reads, behind, Opening}, LanguageTable.{rule_of, if_nothing}}
 
 -- a name of at most 64 bytes by its value
 abbrev pub is_short : Token → Bool

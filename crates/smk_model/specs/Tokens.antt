@@ -1,10 +1,6 @@
 -- Tokens of books and of script lines: at each place the longest.
-use Rattle.std.specs.Prelude.{◌≡◌, ℕ, zero, suc, ◌+◌, ◌-◌, ◌*◌, ◌^◌, ◌==◌, ◌||◌, ◌&&◌, Bool, true, false, List, [], ◌∷◌, drop, length, map, take, take_while, Option, Some, None, nat_eq, nat_lt, nat_le, if◌then◌else◌, not, ℤ, pos, neg_ℤ}
-use Rattle.std.specs.Char.{is_ascii_digit, is_ascii_alphabetic}
-use Rattle.std.specs.Cmp.Lexicographic.{pointwise}
-use Rattle.smk_base.specs.declared.book.token.TokenKind.{TokenKind}
-use Rattle.smk_base.specs.declared.book.token.TheConstants.{KEYWORDS}
-use Rattle.smk_base.specs.declared.book.token.TokenKind.TheVariants.{Name, Quoted, Number, Str, Comma, Open, Close, OpenBrace, CloseBrace, Bar, Equal, NotEqual, Less, LessEqual, Greater, GreaterEqual, End, Bad, Huge}
+use Rattle.std.specs.{Prelude.{◌≡◌, ℕ, zero, suc, ◌+◌, ◌-◌, ◌*◌, ◌^◌, ◌==◌, ◌||◌, ◌&&◌, Bool, true, false, List, [], ◌∷◌, drop, length, map, take, take_while, Option, Some, None, nat_eq, nat_lt, nat_le, if◌then◌else◌, not, ℤ, pos, neg_ℤ}, Char.{is_ascii_digit, is_ascii_alphabetic}, Cmp.Lexicographic.pointwise}
+use Rattle.smk_base.specs.{declared.book.token.TokenKind.TokenKind, declared.book.token.TheConstants.KEYWORDS, declared.book.token.TokenKind.TheVariants.{Name, Quoted, Number, Str, Comma, Open, Close, OpenBrace, CloseBrace, Bar, Equal, NotEqual, Less, LessEqual, Greater, GreaterEqual, End, Bad, Huge}}
 
 -- a token of a text: its place, its kind and its bytes
 pub record Token : Type 0 where

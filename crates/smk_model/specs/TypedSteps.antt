@@ -1,30 +1,14 @@
 -- When a step of a plan stands over the columns that come to it, what it means there, and the columns that it hands on.
-use Rattle.std.specs.Prelude.{ℕ, ◌+◌, Bool, not, ◌&&◌, nat_eq, nat_lt, List, [], ◌∷◌, ◌++◌, length, map, Ok, Err}
-use Rattle.std.specs.List.{list_any, list_all, zip}
-use Rattle.smk_base.specs.declared.value.Kind.{Kind}
+use Rattle.std.specs.{Prelude.{ℕ, ◌+◌, Bool, not, ◌&&◌, nat_eq, nat_lt, List, [], ◌∷◌, ◌++◌, length, map, Ok, Err}, List.{list_any, list_all, zip}}
+use Rattle.smk_base.specs.{declared.value.Kind.Kind, declared.book.tree.Word.Word, declared.book.tree.Term.Term, declared.book.tree.ItemTree.ItemTree, declared.book.tree.AggTree.AggTree, declared.book.tree.AggWhat.AggWhat, declared.book.tree.PairTree.PairTree, declared.book.plan.Operand.Operand, declared.book.plan.Item.Item, declared.book.plan.Agg.Agg, declared.book.catalog.Column.Column, declared.book.type_fault.TypeFault.TheVariants.{KindMismatch, DuplicateName, SumTooDeep, UnionShape, EmptyList, RowTooWide}, declared.rel.TheConstants.COLUMN_LIMIT, Plans.{Formula, Comparison, Conjunction, Disjunction, Negation, Selection, Projection, Distinction, Grouping, Binary, Equijoin, ThetaJoin, CrossProduct, Expr, Apply, Combine}, Trees.{PredImage, CompareNode, AndNode, OrNode, NotNode}}
 use Rattle.smk_base.specs.declared.value.Kind.TheVariants as kinds
-use Rattle.smk_base.specs.declared.book.tree.Word.{Word}
-use Rattle.smk_base.specs.declared.book.tree.Term.{Term}
 use Rattle.smk_base.specs.declared.book.tree.Term.TheVariants as terms
-use Rattle.smk_base.specs.declared.book.tree.ItemTree.{ItemTree}
 use Rattle.smk_base.specs.declared.book.tree.ItemTree.TheVariants as item_trees
-use Rattle.smk_base.specs.declared.book.tree.AggTree.{AggTree}
-use Rattle.smk_base.specs.declared.book.tree.AggWhat.{AggWhat}
 use Rattle.smk_base.specs.declared.book.tree.AggWhat.TheVariants as agg_trees
-use Rattle.smk_base.specs.declared.book.tree.PairTree.{PairTree}
-use Rattle.smk_base.specs.declared.book.plan.Operand.{Operand}
 use Rattle.smk_base.specs.declared.book.plan.Operand.TheVariants as operands
-use Rattle.smk_base.specs.declared.book.plan.Item.{Item}
 use Rattle.smk_base.specs.declared.book.plan.Item.TheVariants as items
-use Rattle.smk_base.specs.declared.book.plan.Agg.{Agg}
 use Rattle.smk_base.specs.declared.book.plan.Agg.TheVariants as aggs
-use Rattle.smk_base.specs.declared.book.catalog.Column.{Column}
-use Rattle.smk_base.specs.declared.book.type_fault.TypeFault.TheVariants.{KindMismatch, DuplicateName, SumTooDeep, UnionShape, EmptyList, RowTooWide}
-use Rattle.smk_base.specs.declared.rel.TheConstants.{COLUMN_LIMIT}
-use Rattle.smk_base.specs.Plans.{Formula, Comparison, Conjunction, Disjunction, Negation, Selection, Projection, Distinction, Grouping, Binary, Equijoin, ThetaJoin, CrossProduct, Expr, Apply, Combine}
-use Rattle.smk_base.specs.Trees.{PredImage, CompareNode, AndNode, OrNode, NotNode}
-use Rattle.smk_model.specs.Kinds.{kind_of, wider}
-use Rattle.smk_model.specs.Names.{Typed, ◌>>=◌, unless, in_turn, has_name, column_named, same_sort, is_text}
+use Rattle.smk_model.specs.{Kinds.{kind_of, wider}, Names.{Typed, ◌>>=◌, unless, in_turn, has_name, column_named, same_sort, is_text}}
 
 -- a column under a name
 abbrev pub named : Word → Kind → Column

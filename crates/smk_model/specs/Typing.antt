@@ -1,29 +1,10 @@
 -- Typing: a book's statements in order give its catalog, or the first fault with its place.
-use Rattle.std.specs.Prelude.{ℕ, Bool, false, true, not, ◌&&◌, nat_eq, List, [], ◌∷◌, ◌++◌, map, slice_index_or, Option, Some, None, ok_or, Ok}
-use Rattle.std.specs.List.{list_any, flat_map}
-use Rattle.smk_base.specs.declared.value.Kind.{Kind}
+use Rattle.std.specs.{Prelude.{ℕ, Bool, false, true, not, ◌&&◌, nat_eq, List, [], ◌∷◌, ◌++◌, map, slice_index_or, Option, Some, None, ok_or, Ok}, List.{list_any, flat_map}}
+use Rattle.smk_base.specs.{declared.value.Kind.Kind, declared.book.tree.Word.Word, declared.book.tree.Lit.Lit, declared.book.tree.Decl.Decl, declared.book.tree.Extra.Extra, declared.book.col_decl.ColDecl.ColDecl, declared.book.catalog.Column.Column, declared.book.catalog.TableInfo.TableInfo, declared.book.catalog.Back.Back, declared.book.catalog.BackExtra.BackExtra, declared.book.catalog.Fwd.Fwd, declared.book.catalog.LinkInfo.LinkInfo, declared.book.type_fault.TypeFault.TheVariants.{UnknownTable, UnknownView, DuplicateName, KindMismatch, SelfLink, RepeatedDeclaration}, Plans.{BagUnion, SetUnion, Leaf}, Trees.{TreeImage, ScanNode, StepNode, StepImage, SelectNode, ProjectNode, DistinctNode, GroupNode, JoinNode, ThetaNode, ProductNode, UnionAllNode, UnionNode, StmtImage, TableNode, ViewNode, BackNode, FwdNode, LinkNode, DependsNode}, CatalogImage.{ViewImage, CatalogImage}}
 use Rattle.smk_base.specs.declared.value.Kind.TheVariants as kinds
-use Rattle.smk_base.specs.declared.book.tree.Word.{Word}
-use Rattle.smk_base.specs.declared.book.tree.Lit.{Lit}
-use Rattle.smk_base.specs.declared.book.tree.Decl.{Decl}
-use Rattle.smk_base.specs.declared.book.tree.Extra.{Extra}
 use Rattle.smk_base.specs.declared.book.tree.Extra.TheVariants as extras
-use Rattle.smk_base.specs.declared.book.col_decl.ColDecl.{ColDecl}
-use Rattle.smk_base.specs.declared.book.catalog.Column.{Column}
-use Rattle.smk_base.specs.declared.book.catalog.TableInfo.{TableInfo}
-use Rattle.smk_base.specs.declared.book.catalog.Back.{Back}
-use Rattle.smk_base.specs.declared.book.catalog.BackExtra.{BackExtra}
 use Rattle.smk_base.specs.declared.book.catalog.BackExtra.TheVariants as back_extras
-use Rattle.smk_base.specs.declared.book.catalog.Fwd.{Fwd}
-use Rattle.smk_base.specs.declared.book.catalog.LinkInfo.{LinkInfo}
-use Rattle.smk_base.specs.declared.book.type_fault.TypeFault.TheVariants.{UnknownTable, UnknownView, DuplicateName, KindMismatch, SelfLink, RepeatedDeclaration}
-use Rattle.smk_base.specs.Plans.{BagUnion, SetUnion, Leaf}
-use Rattle.smk_base.specs.Trees.{TreeImage, ScanNode, StepNode, StepImage, SelectNode, ProjectNode, DistinctNode, GroupNode, JoinNode, ThetaNode, ProductNode, UnionAllNode, UnionNode, StmtImage, TableNode, ViewNode, BackNode, FwdNode, LinkNode, DependsNode}
-use Rattle.smk_base.specs.CatalogImage.{ViewImage, CatalogImage}
-use Rattle.smk_model.specs.Expanded.{violations_tree}
-use Rattle.smk_model.specs.Kinds.{kind_of}
-use Rattle.smk_model.specs.Names.{Typed, ◌>>=◌, unless, in_turn, same_name, place_of, is_taken, names_of, column_kinds, column_named, same_sort}
-use Rattle.smk_model.specs.TypedSteps.{TypedPlan, typed_group, selected_plan, projected, distinct, grouped_plan, joined_plan, theta_plan, product_plan, united_plan}
+use Rattle.smk_model.specs.{Expanded.violations_tree, Kinds.kind_of, Names.{Typed, ◌>>=◌, unless, in_turn, same_name, place_of, is_taken, names_of, column_kinds, column_named, same_sort}, TypedSteps.{TypedPlan, typed_group, selected_plan, projected, distinct, grouped_plan, joined_plan, theta_plan, product_plan, united_plan}}
 
 -- a declared column, and the columns of a table
 abbrev pub column_of : ColDecl → Column

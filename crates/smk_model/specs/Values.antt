@@ -1,18 +1,6 @@
 -- Value order, the floor of a quotient, and what a predicate says of a row.
-use Rattle.std.specs.Prelude.{ℕ, ℤ, Bool, not, ◌&&◌, ◌||◌, List}
-use Rattle.std.specs.declared.cmp.Ordering.{Ordering}
-use Rattle.std.specs.declared.cmp.Ordering.TheVariants.{Less, Greater}
-use Rattle.std.specs.Ordering.{int_cmp, nat_cmp, is_eq, is_ne, is_lt, is_le, is_gt, is_ge}
-use Rattle.std.specs.Cmp.Lexicographic.{slice_cmp}
-use Rattle.std.specs.Int.{int_div_euclid}
-use Rattle.smk_base.specs.declared.value.Value.{Value}
-use Rattle.smk_base.specs.declared.value.Value.TheVariants.{Int, Text}
-use Rattle.smk_base.specs.declared.book.plan.CmpOp.{CmpOp}
-use Rattle.smk_base.specs.declared.book.plan.CmpOp.TheVariants.{Eq, Ne, Lt, Le, Gt, Ge}
-use Rattle.smk_base.specs.declared.book.plan.Operand.{Operand}
-use Rattle.smk_base.specs.declared.book.plan.Operand.TheVariants.{Col, Lit}
-use Rattle.smk_base.specs.Rels.{value_in}
-use Rattle.smk_base.specs.Plans.{Formula, Comparison, Conjunction, Disjunction, Negation}
+use Rattle.std.specs.{Prelude.{ℕ, ℤ, Bool, not, ◌&&◌, ◌||◌, List}, declared.cmp.Ordering.Ordering, declared.cmp.Ordering.TheVariants.{Less, Greater}, Ordering.{int_cmp, nat_cmp, is_eq, is_ne, is_lt, is_le, is_gt, is_ge}, Cmp.Lexicographic.slice_cmp, Int.int_div_euclid}
+use Rattle.smk_base.specs.{declared.value.Value.Value, declared.value.Value.TheVariants.{Int, Text}, declared.book.plan.CmpOp.CmpOp, declared.book.plan.CmpOp.TheVariants.{Eq, Ne, Lt, Le, Gt, Ge}, declared.book.plan.Operand.Operand, declared.book.plan.Operand.TheVariants.{Col, Lit}, Rels.value_in, Plans.{Formula, Comparison, Conjunction, Disjunction, Negation}}
 
 -- the values of a row, by column
 abbrev pub Row : Type 0

@@ -1,11 +1,7 @@
 -- The texts of views as they are first evaluated.
-use Rattle.std.specs.Prelude.{ℕ, List, map}
-use Rattle.std.specs.List.{flat_map}
+use Rattle.std.specs.{Prelude.{ℕ, List, map}, List.flat_map}
 use Rattle.smk_base.specs.CatalogImage.{ViewImage}
-use Rattle.smk_model.specs.Values.{Row}
-use Rattle.smk_model.specs.Plain.{rows_over}
-use Rattle.smk_model.specs.Session.{Workbook}
-use Rattle.smk_model.specs.Texts.{view_text}
+use Rattle.smk_model.specs.{Values.Row, Plain.rows_over, Session.Workbook, Texts.view_text}
 
 -- the rows of a view as it is first evaluated, and their text
 abbrev pub view_rows : Workbook → ViewImage → List Row

@@ -1,12 +1,7 @@
 -- How the rows of a side and those of a step belong together: each is its own, each output row comes from one input row, or each input row reaches one output row.
 use Rattle.std.specs.Prelude.{◌≡◌, ℕ, ◌+◌, List, ◌++◌, length, map}
-use Rattle.smk_base.specs.Places.{Lists, inverted, own_lists, upto}
-use Rattle.smk_base.specs.Plans.{Unary, Selection, Projection, Distinction, Grouping, Binary, BagUnion, SetUnion}
-use Rattle.smk_model.specs.Values.{Row}
-use Rattle.smk_model.specs.Plain.{image, key_of, firsts, joins}
-use Rattle.smk_model.specs.Lineage.{meeting, matching, lefts_of, rights_of}
-use Rattle.smk_model.specs.Locals.{singles, back1, fwd1, back_left, fwd_left, back_right, fwd_right}
-use Rattle.smk_model.specs.Classes.{places_in, classes}
+use Rattle.smk_base.specs.{Places.{Lists, inverted, own_lists, upto}, Plans.{Unary, Selection, Projection, Distinction, Grouping, Binary, BagUnion, SetUnion}}
+use Rattle.smk_model.specs.{Values.Row, Plain.{image, key_of, firsts, joins}, Lineage.{meeting, matching, lefts_of, rights_of}, Locals.{singles, back1, fwd1, back_left, fwd_left, back_right, fwd_right}, Classes.{places_in, classes}}
 
 -- of so many rows each its own, the source of each output row among so many, or the target of each input row among so many
 pub data Way : Type 0 where

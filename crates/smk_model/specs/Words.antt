@@ -1,12 +1,8 @@
 -- The words of a run: what clap takes, by its own rule for this command, and what it is asked for.
-use Rattle.std.specs.Prelude.{ℕ, ◌+◌, ℤ, pos, negsuc, true, ◌&&◌, nat_lt, cond, List, [], ◌∷◌, Option, Some, None, option_map, option_and_then, codes}
-use Rattle.std.specs.Str.{bytes_eq}
-use Rattle.clap.specs.Words.{App, Rule, new_app, new_rule, with_rule, matches_of, first_of, fault_of}
-use Rattle.clap.specs.Simple.{on_top}
-use Rattle.clap.specs.Kinds.{Kinds}
+use Rattle.std.specs.{Prelude.{ℕ, ◌+◌, ℤ, pos, negsuc, true, ◌&&◌, nat_lt, cond, List, [], ◌∷◌, Option, Some, None, option_map, option_and_then, codes}, Str.bytes_eq}
+use Rattle.clap.specs.{Words.{App, Rule, new_app, new_rule, with_rule, matches_of, first_of, fault_of}, Simple.on_top, Kinds.Kinds}
 use Rattle.clap.specs.declared.builder.value_parser.ValueParser.TheVariants as parsers
-use Rattle.smk_base.specs.Ints.{int_of}
-use Rattle.smk_base.specs.declared.workers.TheConstants.{WORKER_LIMIT}
+use Rattle.smk_base.specs.{Ints.int_of, declared.workers.TheConstants.WORKER_LIMIT}
 
 -- when a step's lineage is made: while the step runs, or from what it kept
 pub data Mode : Type 0 where

@@ -1,33 +1,12 @@
 -- Worked by hand: a plan with its lineage, a whole run from bytes, words, the table of a file, a record, and texts in quotes.
-use Rattle.std.specs.Prelude.{◌≡◌, ℕ, pos, negsuc, true, nat_eq, cond, List, [], ◌∷◌, ◌++◌, Some, None, Ok, Err, codes, false}
-use Rattle.std.specs.Cmp.Lexicographic.{pointwise}
-use Rattle.smk_base.specs.declared.value.Kind.{Kind}
+use Rattle.std.specs.{Prelude.{◌≡◌, ℕ, pos, negsuc, true, nat_eq, cond, List, [], ◌∷◌, ◌++◌, Some, None, Ok, Err, codes, false}, Cmp.Lexicographic.pointwise}
+use Rattle.smk_base.specs.{declared.value.Kind.Kind, declared.value.Value.Value, declared.value.Value.TheVariants.{Int, Text}, declared.fault.Fault.TheVariants.Usage, declared.book.col_decl.ColDecl.ColDecl, declared.book.plan.Agg.TheVariants.{Count, Sum}, CatalogImage.{CatalogImage, ViewImage}, Plans.{Grouping, Equijoin, Expr, Apply, Combine, Leaf}, declared.book.token.TokenKind.TheVariants.{Str, Bad, End}}
 use Rattle.smk_base.specs.declared.value.Kind.TheVariants as kinds
-use Rattle.smk_base.specs.declared.value.Value.{Value}
-use Rattle.smk_base.specs.declared.value.Value.TheVariants.{Int, Text}
-use Rattle.smk_base.specs.declared.fault.Fault.TheVariants.{Usage}
-use Rattle.smk_base.specs.declared.book.col_decl.ColDecl.{ColDecl}
 use Rattle.smk_base.specs.declared.book.catalog.BackExtra.TheVariants as extras
 use Rattle.smk_base.specs.declared.book.tree.Line.TheVariants as lines
 use Rattle.smk_base.specs.declared.book.tree.Marks.TheVariants as markings
 use Rattle.smk_base.specs.declared.book.tree.Then.TheVariants as thens
-use Rattle.smk_base.specs.declared.book.plan.Agg.TheVariants.{Count, Sum}
-use Rattle.smk_base.specs.CatalogImage.{CatalogImage, ViewImage}
-use Rattle.smk_base.specs.Plans.{Grouping, Equijoin, Expr, Apply, Combine, Leaf}
-use Rattle.smk_model.specs.Values.{Row}
-use Rattle.smk_model.specs.Plain.{whole}
-use Rattle.smk_model.specs.Annotated.{back, fwd, pairs}
-use Rattle.smk_model.specs.Composed.{rows_over, backs, forwards}
-use Rattle.smk_model.specs.Readings.{Reading, plain_reading}
-use Rattle.smk_model.specs.Session.{Workbook}
-use Rattle.smk_model.specs.Reports.{Report}
-use Rattle.smk_model.specs.Words.{Inject, Files, Demo, Settings, invocation_of}
-use Rattle.smk_model.specs.TalkWords.{talk_call_of}
-use Rattle.smk_model.specs.Tables.{table_of}
-use Rattle.smk_model.specs.Texts.{record_line}
-use Rattle.smk_model.specs.Outcome.{Held, Inputs, ReadsFiles, Outcome}
-use Rattle.smk_base.specs.declared.book.token.TokenKind.TheVariants.{Str, Bad, End}
-use Rattle.smk_model.specs.Tokens.{tokens, string_len}
+use Rattle.smk_model.specs.{Values.Row, Plain.whole, Annotated.{back, fwd, pairs}, Composed.{rows_over, backs, forwards}, Readings.{Reading, plain_reading}, Session.Workbook, Reports.Report, Words.{Inject, Files, Demo, Settings, invocation_of}, TalkWords.talk_call_of, Tables.table_of, Texts.record_line, Outcome.{Held, Inputs, ReadsFiles, Outcome}, Tokens.{tokens, string_len}}
 
 abbrev pub int : ℕ → Value
 int n = Int (pos n)

@@ -1,13 +1,6 @@
 -- The declared workload: which lineage queries a book declares, and which lineage each view needs for them.
-use Rattle.std.specs.Prelude.{ℕ, Bool, ◌&&◌, ◌||◌, nat_eq, List, length, map}
-use Rattle.std.specs.List.{list_any, filter}
-use Rattle.smk_base.specs.Places.{upto, has}
-use Rattle.smk_base.specs.Needs.{is_needed}
-use Rattle.smk_base.specs.CatalogImage.{CatalogImage}
-use Rattle.smk_base.specs.declared.book.catalog.Back.{Back}
-use Rattle.smk_base.specs.declared.book.catalog.Fwd.{Fwd}
-use Rattle.smk_base.specs.declared.book.catalog.LinkInfo.{LinkInfo}
-use Rattle.smk_base.specs.declared.book.need.Needed.{Needed}
+use Rattle.std.specs.{Prelude.{ℕ, Bool, ◌&&◌, ◌||◌, nat_eq, List, length, map}, List.{list_any, filter}}
+use Rattle.smk_base.specs.{Places.{upto, has}, Needs.is_needed, CatalogImage.CatalogImage, declared.book.catalog.Back.Back, declared.book.catalog.Fwd.Fwd, declared.book.catalog.LinkInfo.LinkInfo, declared.book.need.Needed.Needed}
 
 -- the backward query of a view to a table is declared by a backward declaration in any form, and by a link of the view on the table
 abbrev pub is_back : ℕ → ℕ → Back → Bool

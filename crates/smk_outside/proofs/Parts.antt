@@ -1,6 +1,5 @@
 -- Parts of lists of bytes that are written one after the other.
-use Rattle.std.proofs.Common.{◌≡◌, ◌-◌, ℕ, List, ◌++◌, Option, Some, None, length, take, drop, sym, ap, ◌∙◌, append_assoc, take-append-drop}
-use Rattle.std.proofs.lemmas.List.{take_rest}
+use Rattle.std.proofs.{Common.{◌≡◌, ◌-◌, ℕ, List, ◌++◌, Option, Some, None, length, take, drop, sym, ap, ◌∙◌, append_assoc, take-append-drop}, lemmas.List.take_rest}
 use Rattle.std.specs.Io.KnownBytes as known
 use Rattle.smk_outside.specs.Outside.{AppendsPart}
 

@@ -1,26 +1,10 @@
 -- The first line of the bytes of a reader, piece by piece.
-use Rattle.std.proofs.Common.{◌≡◌, ◌≢◌, ◌≤◌, ◌<◌, ◌+◌, ◌-◌, ◌⊎◌, inl, inr, ℕ, Bool, true, false, eqb, cond, nat_lt, ◌&&◌, List, [], ◌∷◌, ◌++◌, All, Option, None, Some, IfSome, Result, Ok, Err, length, take, get_or, replicate, IfOk, refl, sym, ap, subst, ◌∙◌, arith, append_assoc, append-nil, length-append, length-take-le, get_or-take, eq-eqb, eqb-true}
-use Rattle.std.proofs.lemmas.List.Elements.{All-nil, All-more, All-append, All-push}
-use Rattle.std.proofs.lemmas.List.{get_or_push, length-replicate}
-use Rattle.std.proofs.Math.Seq.{take-append_seam}
+use Rattle.std.proofs.{Common.{◌≡◌, ◌≢◌, ◌≤◌, ◌<◌, ◌+◌, ◌-◌, ◌⊎◌, inl, inr, ℕ, Bool, true, false, eqb, cond, nat_lt, ◌&&◌, List, [], ◌∷◌, ◌++◌, All, Option, None, Some, IfSome, Result, Ok, Err, length, take, get_or, replicate, IfOk, refl, sym, ap, subst, ◌∙◌, arith, append_assoc, append-nil, length-append, length-take-le, get_or-take, eq-eqb, eqb-true}, lemmas.List.Elements.{All-nil, All-more, All-append, All-push}, lemmas.List.{get_or_push, length-replicate}, Math.Seq.take-append_seam}
 use borrow.Author.Tests.{ltb-true, lt-ltb}
-use Rattle.std.specs.Io.{StartsWith}
-use Rattle.std.specs.Io.KnownBytes.{Keeps, Consumes}
-use Rattle.std.specs.Io.BufRead.{take_through, drop_through, strip_last, ends_with_byte, DropsConsumable, DropsThrough}
-use Rattle.std.proofs.KnownBytes.{Consumes-trans, Appends-nil}
-use Rattle.std.proofs.BufReadLemmas.{take_through-append, drop_through-append, take_through-nil, Consumes_shown, Consumes_through, zero_unless_positive}
-use Rattle.std.proofs.Transfers.{StopsAt-take}
-use Rattle.smk_outside.specs.declared.talk.heard.Heard.{Heard}
-use Rattle.smk_outside.specs.declared.talk.heard.Heard.TheVariants.{Line, Long, End}
-use Rattle.smk_outside.specs.declared.talk.heard.TalkFault.{TalkFault}
-use Rattle.smk_outside.specs.declared.talk.heard.TalkFault.TheVariants.{Failed, NoMemory}
+use Rattle.std.specs.{Io.StartsWith, Io.KnownBytes.{Keeps, Consumes}, Io.BufRead.{take_through, drop_through, strip_last, ends_with_byte, DropsConsumable, DropsThrough}, Option.option_map}
+use Rattle.std.proofs.{KnownBytes.{Consumes-trans, Appends-nil}, BufReadLemmas.{take_through-append, drop_through-append, take_through-nil, Consumes_shown, Consumes_through, zero_unless_positive}, Transfers.StopsAt-take}
+use Rattle.smk_outside.specs.{declared.talk.heard.Heard.Heard, declared.talk.heard.Heard.TheVariants.{Line, Long, End}, declared.talk.heard.TalkFault.TalkFault, declared.talk.heard.TalkFault.TheVariants.{Failed, NoMemory}, Told.{Told, AreFirst, says}, Saying.SaysFront, Hearing.Gives, StreamSink.AppendsKnownPart, StreamTalk.{without_end, first_line, later_lines, lines_after, lines_of, IsShort, HearsBytes, IsHeard, TakesFront, AreTaken, SomeTaken}}
 use Rattle.std.specs.Io.KnownBytes as known
-use Rattle.std.specs.Option.{option_map}
-use Rattle.smk_outside.specs.Told.{Told, AreFirst, says}
-use Rattle.smk_outside.specs.Saying.{SaysFront}
-use Rattle.smk_outside.specs.Hearing.{Gives}
-use Rattle.smk_outside.specs.StreamSink.{AppendsKnownPart}
-use Rattle.smk_outside.specs.StreamTalk.{without_end, first_line, later_lines, lines_after, lines_of, IsShort, HearsBytes, IsHeard, TakesFront, AreTaken, SomeTaken}
 
 -- no byte is an LF
 abbrev pub HasNoEnd : List ℕ → Type 0

@@ -1,15 +1,8 @@
 -- What a conversation says, put together.
-use Rattle.std.proofs.Common.{◌≡◌, ℕ, List, [], ◌∷◌, ◌++◌, refl, sym, ap, ◌∙◌, subst, append_assoc, append-nil}
-use Rattle.std.proofs.lemmas.List.Folds.{concat-append}
+use Rattle.std.proofs.{Common.{◌≡◌, ℕ, List, [], ◌∷◌, ◌++◌, refl, sym, ap, ◌∙◌, subst, append_assoc, append-nil}, lemmas.List.Folds.concat-append}
 use Rattle.std.specs.List.{concat}
 use Rattle.std.specs.Io.KnownBytes as known
-use Rattle.smk_outside.specs.declared.talk.event.Event.{Event}
-use Rattle.smk_outside.specs.declared.talk.event.Event.TheVariants.{Heard, End}
-use Rattle.smk_outside.specs.declared.talk.ending.Ending.{Ending}
-use Rattle.smk_outside.specs.declared.talk.ending.Ending.TheVariants.{Ended, Unheard, Unsaid, Outlasted}
-use Rattle.smk_outside.specs.Outside.{IsPrefix}
-use Rattle.smk_outside.specs.Told.{Told, said_in, says}
-use Rattle.smk_outside.specs.Conversing.{Rules, texts_of, Talks, Conversation, AnyFits, SaysAll}
+use Rattle.smk_outside.specs.{declared.talk.event.Event.Event, declared.talk.event.Event.TheVariants.{Heard, End}, declared.talk.ending.Ending.Ending, declared.talk.ending.Ending.TheVariants.{Ended, Unheard, Unsaid, Outlasted}, Outside.IsPrefix, Told.{Told, said_in, says}, Conversing.{Rules, texts_of, Talks, Conversation, AnyFits, SaysAll}}
 
 pub said_in-says : (texts : List (List ℕ)) (events : List Event) → said_in (says texts ++ events) ≡ concat texts ++ said_in events
 said_in-says [] events = refl

@@ -1,16 +1,6 @@
 -- Stretches of a conversation, one after the other.
-use Rattle.std.proofs.Common.{◌≡◌, ◌+◌, ℕ, List, [], ◌∷◌, ◌++◌, Option, Some, None, refl, sym, ap, ◌∙◌, subst, arith, append_assoc, append-nil, length, length-append}
-use Rattle.std.proofs.lemmas.List.{map-append}
-use Rattle.std.proofs.lemmas.List.Sums.{fold-append}
-use Rattle.smk_outside.specs.declared.talk.event.Event.{Event}
-use Rattle.smk_outside.specs.declared.talk.event.Event.TheVariants.{Heard}
-use Rattle.smk_outside.specs.declared.talk.ending.Ending.{Ending}
-use Rattle.smk_outside.specs.declared.talk.ending.Ending.TheVariants.{Ended, Unheard, Unsaid, Outlasted}
-use Rattle.smk_outside.specs.Told.{Told, Adds, says}
-use Rattle.smk_outside.specs.Hearing.{Hears}
-use Rattle.smk_outside.specs.Saying.{Says, AreFront, SaysFront}
-use Rattle.smk_outside.specs.Conversing.{Rules, last_state, Talks, TakesBy, Stretch, Cause, Conversation}
-use Rattle.smk_outside.specs.Turning.{ReplyGives, WholeTurn, LastTurn, TurnGives}
+use Rattle.std.proofs.{Common.{◌≡◌, ◌+◌, ℕ, List, [], ◌∷◌, ◌++◌, Option, Some, None, refl, sym, ap, ◌∙◌, subst, arith, append_assoc, append-nil, length, length-append}, lemmas.List.map-append, lemmas.List.Sums.fold-append}
+use Rattle.smk_outside.specs.{declared.talk.event.Event.Event, declared.talk.event.Event.TheVariants.Heard, declared.talk.ending.Ending.Ending, declared.talk.ending.Ending.TheVariants.{Ended, Unheard, Unsaid, Outlasted}, Told.{Told, Adds, says}, Hearing.Hears, Saying.{Says, AreFront, SaysFront}, Conversing.{Rules, last_state, Talks, TakesBy, Stretch, Cause, Conversation}, Turning.{ReplyGives, WholeTurn, LastTurn, TurnGives}}
 use Rattle.smk_outside.proofs.Telling.{Adds-trans, Takes-trans, TakesBy-trans, TakesBy-unheard, front_after}
 
 module _ {S T : Type 0} (rules : Rules S T) (Fits : S → T → Type 0) where

@@ -1,18 +1,8 @@
 -- What is told over two calls, one after the other.
-use Rattle.std.proofs.Common.{◌≡◌, ◌≤◌, inl, inr, ℕ, List, [], ◌∷◌, ◌++◌, Option, Some, None, IfSome, refl, sym, ap, subst, ◌∙◌, arith, append_assoc, append-nil, take, drop, take-append-drop}
-use Rattle.std.proofs.lemmas.List.{map-append}
-use Rattle.std.proofs.lemmas.List.Folds.{concat-append}
+use Rattle.std.proofs.{Common.{◌≡◌, ◌≤◌, inl, inr, ℕ, List, [], ◌∷◌, ◌++◌, Option, Some, None, IfSome, refl, sym, ap, subst, ◌∙◌, arith, append_assoc, append-nil, take, drop, take-append-drop}, lemmas.List.map-append, lemmas.List.Folds.concat-append, KnownBytes.Appends-trans}
 use Rattle.std.specs.List.{concat}
-use Rattle.smk_outside.specs.declared.talk.event.Event.{Event}
-use Rattle.smk_outside.specs.declared.talk.event.Event.TheVariants.{Heard, End, Said}
-use Rattle.smk_outside.specs.declared.talk.ending.Ending.{Ending}
-use Rattle.smk_outside.specs.declared.talk.ending.Ending.TheVariants.{Ended, Unheard}
+use Rattle.smk_outside.specs.{declared.talk.event.Event.Event, declared.talk.event.Event.TheVariants.{Heard, End, Said}, declared.talk.ending.Ending.Ending, declared.talk.ending.Ending.TheVariants.{Ended, Unheard}, Conversing.TakesBy, Outside.{IsPrefix, Rose}, Told.{Told, said_in, Follow, Adds, AreFirst, Takes, says}, Saying.{Says, AreFront, SaysFront}}
 use Rattle.std.specs.Io.KnownBytes as known
-use Rattle.std.proofs.KnownBytes.{Appends-trans}
-use Rattle.smk_outside.specs.Conversing.{TakesBy}
-use Rattle.smk_outside.specs.Outside.{IsPrefix, Rose}
-use Rattle.smk_outside.specs.Told.{Told, said_in, Follow, Adds, AreFirst, Takes, says}
-use Rattle.smk_outside.specs.Saying.{Says, AreFront, SaysFront}
 
 pub said_in-append : (es fs : List Event) → said_in (es ++ fs) ≡ said_in es ++ said_in fs
 said_in-append [] fs = refl

@@ -1,14 +1,7 @@
 -- A conversation: something is said, a line is heard and answered, then the next, up to an end.
-use Rattle.std.specs.Prelude.{◌≡◌, ℕ, ⊤, List, [], ◌∷◌, ◌++◌, length, map, IfSome}
-use Rattle.std.specs.List.{concat, flat_map, fold, scan}
+use Rattle.std.specs.{Prelude.{◌≡◌, ℕ, ⊤, List, [], ◌∷◌, ◌++◌, length, map, IfSome}, List.{concat, flat_map, fold, scan}}
 use Rattle.std.specs.Io.KnownBytes as known
-use Rattle.smk_outside.specs.declared.talk.event.Event.{Event}
-use Rattle.smk_outside.specs.declared.talk.event.Event.TheVariants.{Heard, End}
-use Rattle.smk_outside.specs.declared.talk.ending.Ending.{Ending}
-use Rattle.smk_outside.specs.declared.talk.ending.Ending.TheVariants.{Ended, Unheard, Unsaid, Outlasted}
-use Rattle.smk_outside.specs.Outside.{IsPrefix, Rose}
-use Rattle.smk_outside.specs.Told.{Told, said_in, Adds, Takes, AreAll, says}
-use Rattle.smk_outside.specs.Saying.{AreFront}
+use Rattle.smk_outside.specs.{declared.talk.event.Event.Event, declared.talk.event.Event.TheVariants.{Heard, End}, declared.talk.ending.Ending.Ending, declared.talk.ending.Ending.TheVariants.{Ended, Unheard, Unsaid, Outlasted}, Outside.{IsPrefix, Rose}, Told.{Told, said_in, Adds, Takes, AreAll, says}, Saying.AreFront}
 
 -- what a conversation goes by, over states and turns: the line that was heard in a turn, the texts that are said of it in a state, one after the other, and the state after it
 pub record Rules (S T : Type 0) : Type 0 where

@@ -1,12 +1,7 @@
 -- What a call of `hear` comes to.
-use Rattle.std.specs.Prelude.{ℕ, ◌<◌, ◌≤◌, List, [], ◌∷◌, length}
-use Rattle.std.specs.Prelude.{Result, Ok, Err}
+use Rattle.std.specs.Prelude.{ℕ, ◌<◌, ◌≤◌, List, [], ◌∷◌, length, Result, Ok, Err}
 use Rattle.smk_outside.specs.declared.talk.event.Event.TheVariants as events
-use Rattle.smk_outside.specs.declared.talk.heard.Heard.{Heard}
-use Rattle.smk_outside.specs.declared.talk.heard.Heard.TheVariants.{Line, Long, End}
-use Rattle.smk_outside.specs.declared.talk.heard.TalkFault.{TalkFault}
-use Rattle.smk_outside.specs.declared.talk.heard.TalkFault.TheVariants.{Failed, NoMemory}
-use Rattle.smk_outside.specs.Told.{Told, Adds, Takes, AreAll}
+use Rattle.smk_outside.specs.{declared.talk.heard.Heard.Heard, declared.talk.heard.Heard.TheVariants.{Line, Long, End}, declared.talk.heard.TalkFault.TalkFault, declared.talk.heard.TalkFault.TheVariants.{Failed, NoMemory}, Told.{Told, Adds, Takes, AreAll}}
 
 -- this line came, and was taken
 abbrev pub Hears : Told → Told → List ℕ → Type 0

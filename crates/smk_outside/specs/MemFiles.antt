@@ -1,8 +1,5 @@
 -- Files in memory, as contracts see them.
-use Rattle.std.specs.Prelude.{ℕ, nat_eq, Bool, ◌&&◌, is_some, List, Option, Some, if◌then◌else◌}
-use Rattle.std.specs.List.{find, list_any}
-use Rattle.std.specs.Option.{option_map}
-use Rattle.std.specs.Cmp.Lexicographic.{pointwise}
+use Rattle.std.specs.{Prelude.{ℕ, nat_eq, Bool, ◌&&◌, is_some, List, Option, Some, if◌then◌else◌}, List.{find, list_any}, Option.option_map, Cmp.Lexicographic.pointwise}
 use Rattle.smk_outside.specs.Outside.{next_count}
 
 -- names with their bytes, the numbers of the calls that are to fail, and how many calls were made and how many failed by a fault

@@ -1,7 +1,5 @@
 -- A sink in memory, as contracts see it.
-use Rattle.std.specs.Prelude.{ℕ, ◌-◌, min, nat_eq, nat_le, Bool, ◌&&◌, is_none, List, ◌++◌, length, take, Option, unwrap_or, if◌then◌else◌}
-use Rattle.std.specs.List.{find}
-use Rattle.std.specs.Option.{option_map}
+use Rattle.std.specs.{Prelude.{ℕ, ◌-◌, min, nat_eq, nat_le, Bool, ◌&&◌, is_none, List, ◌++◌, length, take, Option, unwrap_or, if◌then◌else◌}, List.find, Option.option_map}
 use Rattle.smk_outside.specs.Outside.{next_count}
 
 -- the bytes so far, the numbers of the calls that are to fail with the count of bytes that they take, how many bytes fit in all,

@@ -1,9 +1,6 @@
 -- An object in memory, as contracts see it.
-use Rattle.std.specs.Prelude.{ℕ, List, Some, None, Bool, is_some, nat_eq}
-use Rattle.std.specs.List.{list_any, find}
-use Rattle.std.specs.Option.{option_map}
-use Rattle.smk_outside.specs.declared.talk.event.Event.{Event}
-use Rattle.smk_outside.specs.Told.{Told}
+use Rattle.std.specs.{Prelude.{ℕ, List, Some, None, Bool, is_some, nat_eq}, List.{list_any, find}, Option.option_map}
+use Rattle.smk_outside.specs.{declared.talk.event.Event.Event, Told.Told}
 
 -- the lines still to come and what has happened, the numbers of the calls that are to fail, a failing `say` with the count of bytes that it says, how many calls of each kind were made, and how many failed
 pub record StoredTalk : Type 0 where

@@ -1,9 +1,6 @@
 -- What is said when something is to be said.
-use Rattle.std.specs.Prelude.{◌≡◌, ℕ, List, []}
-use Rattle.std.specs.List.{concat}
-use Rattle.smk_outside.specs.declared.talk.event.Event.{Event}
-use Rattle.smk_outside.specs.Outside.{IsPrefix}
-use Rattle.smk_outside.specs.Told.{Told, Adds, Takes, says}
+use Rattle.std.specs.{Prelude.{◌≡◌, ℕ, List, []}, List.concat}
+use Rattle.smk_outside.specs.{declared.talk.event.Event.Event, Outside.IsPrefix, Told.{Told, Adds, Takes, says}}
 
 -- these texts were said
 abbrev pub Says : Told → Told → List (List ℕ) → Type 0

@@ -1,14 +1,7 @@
 -- An object over a reader and a writer, as contracts see it.
-use Rattle.std.specs.Prelude.{◌≡◌, ◌≢◌, ℕ, ◌<◌, ◌≤◌, ⊤, Bool, true, false, List, [], ◌∷◌, ◌++◌, length, All, Option, Some, None, Result, Ok, Err, OnSome, IfSome, ◌==◌, if◌then◌else◌}
-use Rattle.std.specs.Option.{option_map}
-use Rattle.std.specs.Io.{StopsAt, IsEmptyOrEndsWith}
-use Rattle.std.specs.Io.BufRead.{take_through, drop_through, strip_last}
+use Rattle.std.specs.{Prelude.{◌≡◌, ◌≢◌, ℕ, ◌<◌, ◌≤◌, ⊤, Bool, true, false, List, [], ◌∷◌, ◌++◌, length, All, Option, Some, None, Result, Ok, Err, OnSome, IfSome, ◌==◌, if◌then◌else◌}, Option.option_map, Io.{StopsAt, IsEmptyOrEndsWith}, Io.BufRead.{take_through, drop_through, strip_last}}
 use Rattle.std.specs.Io.KnownBytes as known
-use Rattle.smk_outside.specs.declared.talk.heard.Heard.{Heard}
-use Rattle.smk_outside.specs.declared.talk.heard.Heard.TheVariants.{Line, Long, End}
-use Rattle.smk_outside.specs.declared.talk.heard.TalkFault.{TalkFault}
-use Rattle.smk_outside.specs.declared.talk.heard.TalkFault.TheVariants.{Failed, NoMemory}
-use Rattle.smk_outside.specs.Told.{Told}
+use Rattle.smk_outside.specs.{declared.talk.heard.Heard.Heard, declared.talk.heard.Heard.TheVariants.{Line, Long, End}, declared.talk.heard.TalkFault.TalkFault, declared.talk.heard.TalkFault.TheVariants.{Failed, NoMemory}, Told.Told}
 
 -- the reader, the writer, and how many calls have failed
 pub record CountedStreams (R W : Type 0) : Type 0 where

@@ -1,8 +1,7 @@
 -- What an object with two ends tells of itself, and what may be added to it.
 use Rattle.std.specs.Prelude.{◌≡◌, ℕ, ⊤, List, [], ◌∷◌, ◌++◌, map, Option, Some, None, IfSome}
 use Rattle.std.specs.Io.KnownBytes as known
-use Rattle.smk_outside.specs.declared.talk.event.Event.{Event}
-use Rattle.smk_outside.specs.declared.talk.event.Event.TheVariants.{Heard, End, Said}
+use Rattle.smk_outside.specs.{declared.talk.event.Event.Event, declared.talk.event.Event.TheVariants.{Heard, End, Said}}
 
 -- what has happened so far, which lines are still to come, and all that was said so far, each where the object tells it
 pub record Told : Type 0 where

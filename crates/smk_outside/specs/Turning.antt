@@ -1,10 +1,6 @@
 -- What one turn of a conversation comes to, for the body of a loop that makes them.
 use Rattle.std.specs.Prelude.{◌≡◌, ℕ, List, [], length, Option, Some, None}
-use Rattle.smk_outside.specs.declared.talk.ending.Ending.{Ending}
-use Rattle.smk_outside.specs.declared.talk.ending.Ending.TheVariants.{Unsaid, Outlasted}
-use Rattle.smk_outside.specs.Told.{Told}
-use Rattle.smk_outside.specs.Saying.{Says, SaysFront}
-use Rattle.smk_outside.specs.Conversing.{Rules, Stretch, Cause}
+use Rattle.smk_outside.specs.{declared.talk.ending.Ending.Ending, declared.talk.ending.Ending.TheVariants.{Unsaid, Outlasted}, Told.Told, Saying.{Says, SaysFront}, Conversing.{Rules, Stretch, Cause}}
 
 -- texts were said, or the object failed
 abbrev pub ReplyGives : Type 0 → Told → Told → List (List ℕ) → Option Ending → Type 0

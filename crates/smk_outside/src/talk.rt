@@ -1,8 +1,5 @@
 ghost use Rattle.std.specs.Prelude.{◌≤◌, ℕ, [], ◌∷◌, IsErrOf, OnOk, OnErr};
-ghost use Rattle.smk_outside.specs.Hearing.{Gives};
-ghost use Rattle.smk_outside.specs.Saying.{Says, SaysFront};
-ghost use Rattle.smk_outside.specs.Outside.{Rose};
-ghost use Rattle.smk_outside.specs.Told.{Told};
+ghost use Rattle.smk_outside.specs.{Hearing.Gives, Saying.{Says, SaysFront}, Outside.Rose, Told.Told};
 
 pub(crate) mod ending;
 pub(crate) mod event;

@@ -1,19 +1,9 @@
 -- An own line says what the parsers read behind its words, and it keeps its limits.
-use Rattle.std.specs.Prelude.{if◌then◌else◌, ◌++◌, ◌-◌, map, take, take_while, replicate, Option, Some, None, Result, Ok, Err, IfOk}
-use Rattle.std.specs.Str.{bytes_eq}
-use Rattle.std.proofs.Common.{◌≡◌, ◌≤◌, ℕ, Bool, true, false, cond, List, length, codes, ap, subst, refl, arith}
-use Rattle.std.proofs.lemmas.List.{length-drop, length-take}
-use Rattle.std.proofs.lemmas.Simd.{splat_is_map}
-use Rattle.smk_base.specs.Trees.{AnyLineImage, PlainLine, AskedLine, ProfiledLine, AppendedLine}
-use Rattle.smk_base.specs.TreeImage.{any_image, ask_step_image}
-use Rattle.smk_base.specs.declared.book.tree.AskStep.{AskStep}
-use Rattle.smk_base.specs.declared.book.tree.AnyLine.{AnyLine}
-use Rattle.smk_base.specs.declared.fault.LineFault.{LineFault}
+use Rattle.std.specs.{Prelude.{if◌then◌else◌, ◌++◌, ◌-◌, map, take, take_while, replicate, Option, Some, None, Result, Ok, Err, IfOk}, Str.bytes_eq}
+use Rattle.std.proofs.{Common.{◌≡◌, ◌≤◌, ℕ, Bool, true, false, cond, List, length, codes, ap, subst, refl, arith}, lemmas.List.{length-drop, length-take}, lemmas.Simd.splat_is_map}
+use Rattle.smk_base.specs.{Trees.{AnyLineImage, PlainLine, AskedLine, ProfiledLine, AppendedLine}, TreeImage.{any_image, ask_step_image}, declared.book.tree.AskStep.AskStep, declared.book.tree.AnyLine.AnyLine, declared.fault.LineFault.LineFault}
 use Rattle.smk_base.specs.declared.fault.LineFault.TheVariants as line_faults
-use Rattle.smk_model.specs.Limits.{KeepsAsk}
-use Rattle.smk_model.specs.OwnLines.{RowsPart, OwnLine, Narrowed, NarrowedAsk, Brief, BriefProfile, Lead, WholeLine, BeforeTable, BeforeLine, has_rows, has_rows_behind, moves_brushes, if_may, narrowed, brief, past_blanks, first_word, past_word, bound_of, narrowing, parting, lead_of, in_place, or_first_dot, OwnReading, Owns, Misses, Selected, IsOwnReading, without_lead, alone, not_alone, of_table, of_no_table, of_line}
-use Rattle.smk_model.specs.Readings.{Nothing, Asks, Unread, IsReading, says_nothing, asks, leaves}
-use Rattle.smk_model.specs.Tokens.{is_gap}
+use Rattle.smk_model.specs.{Limits.KeepsAsk, OwnLines.{RowsPart, OwnLine, Narrowed, NarrowedAsk, Brief, BriefProfile, Lead, WholeLine, BeforeTable, BeforeLine, has_rows, has_rows_behind, moves_brushes, if_may, narrowed, brief, past_blanks, first_word, past_word, bound_of, narrowing, parting, lead_of, in_place, or_first_dot, OwnReading, Owns, Misses, Selected, IsOwnReading, without_lead, alone, not_alone, of_table, of_no_table, of_line}, Readings.{Nothing, Asks, Unread, IsReading, says_nothing, asks, leaves}, Tokens.is_gap}
 use Rattle.smk_model.proofs.LimitsKept.{faultless_asks_keep_limits, selected_keep_limits}
 use Rattle.smk_parse.specs.Answers.{IsAnyAnswer, IsSelectedAnswer}
 use Rattle.smk_own.specs.Keeping.{KeepsOwn, KeepsOwnReading}

@@ -1,50 +1,15 @@
 -- Parts of rows, and what a line comes to over the rows that its marks came from.
-use Rattle.std.specs.Prelude.{◌<◌, ◌-◌, min, map, take, drop, slice_index_or, cond, Option, Some, None, Result, Ok, Err, IfOk, codes, decimal}
-use Rattle.std.specs.List.{filter, AllPairs}
-use Rattle.std.proofs.Common.{◌≡◌, ◌≤◌, ◌+◌, ℕ, Bool, true, false, List, [], ◌∷◌, ◌++◌, length, ap, sym, ◌∙◌, subst, refl, arith, inl, inr}
-use Rattle.std.proofs.lemmas.Bool.{cases_lt}
-use Rattle.std.proofs.lemmas.List.{take_all, take_min, take-map, drop-map, drop-take, drop_all, drop_min, length-drop, length-take, length-map, get_or-take, get_or-drop, get_or_default}
-use Rattle.std.proofs.lemmas.List.Elements.{All-take, All-drop, All-filter}
-use Rattle.std.proofs.lemmas.List.Kept.{AllPairs-filter}
-use Rattle.smk_base.specs.CatalogImage.{CatalogImage}
-use Rattle.smk_base.specs.Picks.{IsAscending}
-use Rattle.smk_base.specs.Places.{upto, has}
-use Rattle.smk_base.specs.Trees.{AskImage}
-use Rattle.smk_base.specs.declared.book.catalog.Column.{Column}
-use Rattle.smk_base.specs.declared.book.catalog.TableInfo.{TableInfo}
-use Rattle.smk_base.specs.declared.book.tree.Line.{Line}
+use Rattle.std.specs.{Prelude.{◌<◌, ◌-◌, min, map, take, drop, slice_index_or, cond, Option, Some, None, Result, Ok, Err, IfOk, codes, decimal}, List.{filter, AllPairs}}
+use Rattle.std.proofs.{Common.{◌≡◌, ◌≤◌, ◌+◌, ℕ, Bool, true, false, List, [], ◌∷◌, ◌++◌, length, ap, sym, ◌∙◌, subst, refl, arith, inl, inr}, lemmas.Bool.cases_lt, lemmas.List.{take_all, take_min, take-map, drop-map, drop-take, drop_all, drop_min, length-drop, length-take, length-map, get_or-take, get_or-drop, get_or_default}, lemmas.List.Elements.{All-take, All-drop, All-filter}, lemmas.List.Kept.AllPairs-filter}
+use Rattle.smk_base.specs.{CatalogImage.CatalogImage, Picks.IsAscending, Places.{upto, has}, Trees.AskImage, declared.book.catalog.Column.Column, declared.book.catalog.TableInfo.TableInfo, declared.book.tree.Line.Line, declared.book.tree.Marks.Marks, declared.book.tree.Then.Then, declared.reply.Refusal.Refusal, Rels.Relation}
 use Rattle.smk_base.specs.declared.book.tree.Line.TheVariants as lines
-use Rattle.smk_base.specs.declared.book.tree.Marks.{Marks}
-use Rattle.smk_base.specs.declared.book.tree.Then.{Then}
-use Rattle.smk_base.specs.declared.reply.Refusal.{Refusal}
 use Rattle.smk_base.specs.declared.reply.Reply.TheVariants as replies
-use Rattle.smk_base.specs.Rels.{Relation}
-use Rattle.smk_model.specs.Catalogs.{IsCatalog}
-use Rattle.smk_model.specs.AskTexts.{IsAskReplyTo}
-use Rattle.smk_model.specs.Asks.{AskPlan, ask_over, back_line, columns_found, columns_named, steps_reply, typed_steps}
-use Rattle.smk_model.specs.Lineage.{row_at, sub}
-use Rattle.smk_model.specs.Names.{Typed}
-use Rattle.smk_model.specs.OwnAnswers.{among_selected, narrowed_answered, narrowed_reply}
-use Rattle.smk_model.specs.OwnLines.{RowsPart}
-use Rattle.smk_model.specs.OwnTexts.{part_of, narrowed_text, numbered_text, placed_text}
-use Rattle.smk_model.specs.Replies.{Asked, is_refused, known_pair, rows_reply, rows_at_rids, reply}
-use Rattle.smk_model.specs.ReplyTexts.{table_named, names_of_table, IsContent, IsRefusalOf, IsReplyTo}
-use Rattle.smk_model.specs.Session.{State, rows_of_table}
-use Rattle.smk_model.specs.Texts.{back_words, rows_text, row_lines, line, record_line}
-use Rattle.smk_model.specs.Typing.{columns_of, info_at}
-use Rattle.smk_model.specs.Values.{Row}
-use Rattle.smk_model.proofs.AsksFit.{asks_fit}
-use Rattle.smk_model.proofs.RepliesFit.{Fares, IsPair, pair_fares, replies_fit, table_found}
-use Rattle.smk_model.proofs.Selections.{filter-true}
-use Rattle.smk_model.proofs.Pairs.{filter_le}
+use Rattle.smk_model.specs.{Catalogs.IsCatalog, AskTexts.IsAskReplyTo, Asks.{AskPlan, ask_over, back_line, columns_found, columns_named, steps_reply, typed_steps}, Lineage.{row_at, sub}, Names.Typed, OwnAnswers.{among_selected, narrowed_answered, narrowed_reply}, OwnLines.RowsPart, OwnTexts.{part_of, narrowed_text, numbered_text, placed_text}, Replies.{Asked, is_refused, known_pair, rows_reply, rows_at_rids, reply}, ReplyTexts.{table_named, names_of_table, IsContent, IsRefusalOf, IsReplyTo}, Session.{State, rows_of_table}, Texts.{back_words, rows_text, row_lines, line, record_line}, Typing.{columns_of, info_at}, Values.Row}
+use Rattle.smk_model.proofs.{AsksFit.asks_fit, RepliesFit.{Fares, IsPair, pair_fares, replies_fit, table_found}, Selections.filter-true, Pairs.filter_le}
 use Rattle.smk_base.proofs.Places.{length_upto, get_or_upto}
-use Rattle.smk_rid.proofs.Intersecting.{common_turned}
-use Rattle.smk_rid.proofs.Rising.{ascending_places}
-use Rattle.smk_session.specs.Behind.{IsBehind, RidsFit}
-use Rattle.smk_session.specs.declared.answer.rows_behind.RowsBehind.{RowsBehind}
-use Rattle.smk_own.specs.Answering.{IsOwnAnswer, rids_told}
-use Rattle.smk_own.specs.Image.{span_of}
-use Rattle.smk_own.specs.declared.answer.OwnAnswer.{OwnAnswer}
+use Rattle.smk_rid.proofs.{Intersecting.common_turned, Rising.ascending_places}
+use Rattle.smk_session.specs.{Behind.{IsBehind, RidsFit}, declared.answer.rows_behind.RowsBehind.RowsBehind}
+use Rattle.smk_own.specs.{Answering.{IsOwnAnswer, rids_told}, Image.span_of, declared.answer.OwnAnswer.OwnAnswer}
 use Rattle.smk_own.proofs.Tallies.{stretch}
 
 -- parts

@@ -1,27 +1,11 @@
 -- The rows of a table that all brushes select, and what steps make of them.
 use Rattle.std.specs.Prelude.{◌≢◌, Option, Some, ok_or, Ok, length, map}
 use Rattle.std.proofs.Common.{◌≡◌, ℕ, List, [], ◌∷◌, false, refl, ap, sym, ◌∙◌}
-use Rattle.smk_base.specs.CatalogImage.{CatalogImage, table_place}
-use Rattle.smk_base.specs.Trees.{AskStepImage}
-use Rattle.smk_base.specs.declared.book.catalog.Column.{Column}
-use Rattle.smk_base.specs.declared.book.catalog.TableInfo.{TableInfo}
-use Rattle.smk_base.specs.declared.reply.AskReply.{AskReply}
-use Rattle.smk_base.specs.declared.reply.Refusal.TheVariants.{UnknownTable}
+use Rattle.smk_base.specs.{CatalogImage.{CatalogImage, table_place}, Trees.AskStepImage, declared.book.catalog.Column.Column, declared.book.catalog.TableInfo.TableInfo, declared.reply.AskReply.AskReply, declared.reply.Refusal.TheVariants.UnknownTable, Rels.Relation}
 use Rattle.smk_base.specs.declared.reply.Reply.TheVariants as replies
-use Rattle.smk_base.specs.Rels.{Relation}
-use Rattle.smk_model.specs.Asks.{ask_over, back_line, columns_found, is_ask_refused, steps_reply, typed_steps}
-use Rattle.smk_model.specs.Looks.{looks_of_rows}
-use Rattle.smk_model.specs.Names.{◌>>=◌}
-use Rattle.smk_model.specs.OwnAnswers.{reply_or_refusal, selected_answered, selected_ask, selected_on, selected_reply}
-use Rattle.smk_model.specs.OwnLines.{RowsPart}
-use Rattle.smk_model.specs.OwnTexts.{placed_text, selected_text, selected_words, stepped_text}
-use Rattle.smk_model.specs.Replies.{is_refused, rows_reply, rows_at_rids}
-use Rattle.smk_model.specs.ReplyTexts.{names_of_table}
-use Rattle.smk_model.specs.Session.{State}
-use Rattle.smk_model.specs.Typing.{columns_of, info_at}
+use Rattle.smk_model.specs.{Asks.{ask_over, back_line, columns_found, is_ask_refused, steps_reply, typed_steps}, Looks.looks_of_rows, Names.◌>>=◌, OwnAnswers.{reply_or_refusal, selected_answered, selected_ask, selected_on, selected_reply}, OwnLines.RowsPart, OwnTexts.{placed_text, selected_text, selected_words, stepped_text}, Replies.{is_refused, rows_reply, rows_at_rids}, ReplyTexts.names_of_table, Session.State, Typing.{columns_of, info_at}}
 use Rattle.smk_model.proofs.RepliesFit.{table_found}
-use Rattle.smk_own.specs.Answering.{IsOwnAnswer}
-use Rattle.smk_own.specs.declared.answer.OwnAnswer.{OwnAnswer}
+use Rattle.smk_own.specs.{Answering.IsOwnAnswer, declared.answer.OwnAnswer.OwnAnswer}
 
 selected_is : (catalog : CatalogImage) (state : State) (name : List ℕ) (t : ℕ) → table_place catalog name ≡ Some t → selected_reply catalog state name ≡ rows_reply catalog state t (selected_on state t)
 selected_is catalog state name t is = ap (λ place. reply_or_refusal (ok_or place UnknownTable >>= λ u. Ok (rows_reply catalog state u (selected_on state u)))) is

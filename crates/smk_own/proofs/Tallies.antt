@@ -1,13 +1,8 @@
 -- How many rows tables and views have, one number each.
-use Rattle.std.specs.Prelude.{◌-◌, length, map, take, drop, slice_index_or}
-use Rattle.std.specs.List.{flat_map}
-use Rattle.std.proofs.Common.{◌≡◌, ℕ, List, ◌++◌, ◌+◌, ap, sym, ◌∙◌, ◌≤◌, arith}
-use Rattle.std.proofs.lemmas.List.{take-map, drop_at, take_at, length-map}
-use Rattle.smk_base.specs.CatalogImage.{CatalogImage}
-use Rattle.smk_base.specs.Places.{upto}
-use Rattle.smk_model.specs.OwnTexts.{declarations_text, schema_line, schema_text, table_info_text, table_schema}
-use Rattle.smk_model.specs.Session.{State, first_content, rows_of_table, view_at}
-use Rattle.smk_model.specs.Typing.{info_at}
+use Rattle.std.specs.{Prelude.{◌-◌, length, map, take, drop, slice_index_or}, List.flat_map}
+use Rattle.std.proofs.{Common.{◌≡◌, ℕ, List, ◌++◌, ◌+◌, ap, sym, ◌∙◌, ◌≤◌, arith}, lemmas.List.{take-map, drop_at, take_at, length-map}}
+use Rattle.smk_base.specs.{CatalogImage.CatalogImage, Places.upto}
+use Rattle.smk_model.specs.{OwnTexts.{declarations_text, schema_line, schema_text, table_info_text, table_schema}, Session.{State, first_content, rows_of_table, view_at}, Typing.info_at}
 use Rattle.smk_report.specs.Schemas.{schema_over, view_over, views_over}
 use Rattle.smk_base.proofs.Places.{flat_map_map, get_or_map_upto, length_upto, map_upto_agree, upto_add}
 

@@ -1,16 +1,10 @@
 -- A reply without its lists is one to the same line.
 use Rattle.std.specs.Prelude.{All, map}
-use Rattle.std.proofs.Common.{◌≡◌, List, [], ◌∷◌, refl, ap}
-use Rattle.std.proofs.lemmas.List.Elements.{All-nil, All-cons, All-head, All-tail}
-use Rattle.smk_base.specs.CatalogImage.{CatalogImage}
-use Rattle.smk_base.specs.declared.book.tree.Line.{Line}
+use Rattle.std.proofs.{Common.{◌≡◌, List, [], ◌∷◌, refl, ap}, lemmas.List.Elements.{All-nil, All-cons, All-head, All-tail}}
+use Rattle.smk_base.specs.{CatalogImage.CatalogImage, declared.book.tree.Line.Line, declared.reply.Linked.Linked, declared.reply.Reply.Reply}
 use Rattle.smk_base.specs.declared.book.tree.Line.TheVariants as lines
-use Rattle.smk_base.specs.declared.reply.Linked.{Linked}
-use Rattle.smk_base.specs.declared.reply.Reply.{Reply}
 use Rattle.smk_base.specs.declared.reply.Reply.TheVariants as replies
-use Rattle.smk_model.specs.OwnTexts.{unlisted, without_marks}
-use Rattle.smk_model.specs.Replies.{is_refused}
-use Rattle.smk_model.specs.ReplyTexts.{IsLinkedIn, IsReplyTo}
+use Rattle.smk_model.specs.{OwnTexts.{unlisted, without_marks}, Replies.is_refused, ReplyTexts.{IsLinkedIn, IsReplyTo}}
 
 all_without : (catalog : CatalogImage) (linked : List Linked) → All (IsLinkedIn catalog) linked → All (IsLinkedIn catalog) (map without_marks linked)
 all_without catalog [] h = All-nil (IsLinkedIn catalog)

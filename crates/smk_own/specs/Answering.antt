@@ -1,10 +1,7 @@
 -- What a call says that answers an own line.
-use Rattle.std.specs.Prelude.{◌≡◌, Bool, cond, ℕ, List}
-use Rattle.std.specs.List.{filter}
-use Rattle.smk_base.specs.CatalogImage.{CatalogImage}
-use Rattle.smk_base.specs.Places.{has}
-use Rattle.smk_model.specs.Reports.{Answered}
-use Rattle.smk_model.specs.Session.{State, selected_for}
+use Rattle.std.specs.{Prelude.{◌≡◌, Bool, cond, ℕ, List}, List.filter}
+use Rattle.smk_base.specs.{CatalogImage.CatalogImage, Places.has}
+use Rattle.smk_model.specs.{Reports.Answered, Session.{State, selected_for}}
 use Rattle.smk_session.specs.declared.answer.rows_behind.RowsBehind.{RowsBehind}
 use Rattle.smk_own.specs.declared.answer.OwnAnswer.{OwnAnswer}
 

@@ -2,11 +2,7 @@
 use Rattle.std.specs.Prelude.{ℕ, ◌-◌, min, map, Option, Some, None, option_map}
 use Rattle.smk_base.specs.TreeImage.{ask_image, ask_step_image}
 use Rattle.smk_model.specs.OwnLines as owns
-use Rattle.smk_own.specs.declared.own_line.Part.{Part}
-use Rattle.smk_own.specs.declared.own_line.OwnLine.{OwnLine}
-use Rattle.smk_own.specs.declared.own_line.OwnLine.TheVariants.{Schema, Help, Selected, Narrowed, NarrowedAsk, Brief, BriefProfile}
-use Rattle.smk_own.specs.declared.own_line.OwnReading.{OwnReading}
-use Rattle.smk_own.specs.declared.own_line.OwnReading.TheVariants.{Owns, Misses}
+use Rattle.smk_own.specs.{declared.own_line.Part.Part, declared.own_line.OwnLine.OwnLine, declared.own_line.OwnLine.TheVariants.{Schema, Help, Selected, Narrowed, NarrowedAsk, Brief, BriefProfile}, declared.own_line.OwnReading.OwnReading, declared.own_line.OwnReading.TheVariants.{Owns, Misses}}
 
 abbrev pub part_image : Option Part → Option owns.RowsPart
 part_image part = option_map (λ p. record { from = p.from; below = p.below }) part

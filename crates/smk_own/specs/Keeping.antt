@@ -1,7 +1,6 @@
 -- The limits and the forms that own lines keep.
 use Rattle.std.specs.Prelude.{◌≡◌, cond, true}
-use Rattle.smk_model.specs.Limits.{KeepsAsk, KeepsSteps}
-use Rattle.smk_model.specs.OwnLines.{OwnLine, Selected, Narrowed, NarrowedAsk, Brief, OwnReading, Owns, has_rows, has_rows_behind, moves_brushes}
+use Rattle.smk_model.specs.{Limits.{KeepsAsk, KeepsSteps}, OwnLines.{OwnLine, Selected, Narrowed, NarrowedAsk, Brief, OwnReading, Owns, has_rows, has_rows_behind, moves_brushes}}
 
 -- steps keep their limits, and a line of a script is of a form that may stand behind its words
 abbrev pub KeepsOwn : OwnLine → Type 0

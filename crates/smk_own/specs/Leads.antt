@@ -2,11 +2,7 @@
 use Rattle.std.specs.Prelude.{Option}
 use Rattle.smk_base.specs.Trees.{AnyLineImage}
 use Rattle.smk_model.specs.OwnLines as owns
-use Rattle.smk_own.specs.Image.{part_image}
-use Rattle.smk_own.specs.declared.reading.Lead.{Lead}
-use Rattle.smk_own.specs.declared.reading.Lead.TheVariants.{Schema, Help, Selected, Before}
-use Rattle.smk_own.specs.declared.reading.Words.{Words}
-use Rattle.smk_own.specs.declared.reading.Words.TheVariants.{Narrowed, Brief}
+use Rattle.smk_own.specs.{Image.part_image, declared.reading.Lead.Lead, declared.reading.Lead.TheVariants.{Schema, Help, Selected, Before}, declared.reading.Words.Words, declared.reading.Words.TheVariants.{Narrowed, Brief}}
 
 -- the own line that a line of a script becomes behind such words
 abbrev pub line_behind : Words → AnyLineImage → Option owns.OwnLine

@@ -1,8 +1,7 @@
 // Lines that change brushes, answered without rids and marks.
 ghost use Rattle.std.specs.Prelude.{◌≡◌, ◌≤◌, ◌+◌, true, IfOk, OnErr};
 ghost use Rattle.smk_base.specs.CatalogImage.{catalog_image};
-ghost use Rattle.smk_model.specs.OwnAnswers.{brief_answered};
-ghost use Rattle.smk_model.specs.OwnLines.{moves_brushes};
+ghost use Rattle.smk_model.specs.{OwnAnswers.brief_answered, OwnLines.moves_brushes};
 ghost use Rattle.smk_session.specs.Sessions.{state_of};
 ghost use Rattle.smk_own.specs.Answering.{IsOwnAnswer};
 

@@ -1,24 +1,12 @@
 // Lines of a script over the rows that are selected now, and lines of whose rows a part is printed.
 ghost use Rattle.std.specs.Prelude.{◌≡◌, ◌≤◌, ◌<◌, ◌+◌, ◌∷◌, codes, false, true, cond, length, map, slice_index_or, IfOk};
-ghost use Rattle.smk_base.specs.CatalogImage.{catalog_image};
-ghost use Rattle.smk_base.specs.TreeImage.{ask_image};
+ghost use Rattle.smk_base.specs.{CatalogImage.catalog_image, TreeImage.ask_image};
 ghost use Rattle.smk_base.specs.declared.book.tree.Line.TheVariants as lines;
-ghost use Rattle.smk_model.specs.Asks.{ask_over, back_line, is_ask_refused};
-ghost use Rattle.smk_model.specs.AskTexts.{IsAskReplyTo};
-ghost use Rattle.smk_model.specs.Limits.{KeepsAsk};
-ghost use Rattle.smk_model.specs.Looks.{looks_of_rows};
-ghost use Rattle.smk_model.specs.OwnAnswers.{narrowed_answered, narrowed_ask_answered, narrowed_reply};
+ghost use Rattle.smk_model.specs.{Asks.{ask_over, back_line, is_ask_refused}, AskTexts.IsAskReplyTo, Limits.KeepsAsk, Looks.looks_of_rows, OwnAnswers.{narrowed_answered, narrowed_ask_answered, narrowed_reply}, Replies.rows_at_rids, ReplyTexts.names_of_table, Session.rows_of_table, Texts.{ask_words, back_words, rows_text}, Typing.info_at};
 ghost use Rattle.smk_model.specs.OwnLines as owns;
 ghost use Rattle.smk_model.specs.OwnTexts as texts;
-ghost use Rattle.smk_model.specs.Replies.{rows_at_rids};
-ghost use Rattle.smk_model.specs.ReplyTexts.{names_of_table};
-ghost use Rattle.smk_model.specs.Session.{rows_of_table};
-ghost use Rattle.smk_model.specs.Texts.{ask_words, back_words, rows_text};
-ghost use Rattle.smk_model.specs.Typing.{info_at};
-ghost use Rattle.smk_session.specs.Behind.{BehindFits, IsBehind, RidsFit};
-ghost use Rattle.smk_session.specs.Sessions.{state_of};
-ghost use Rattle.smk_own.specs.Answering.{IsOwnAnswer, rids_told};
-ghost use Rattle.smk_own.specs.Image.{part_image};
+ghost use Rattle.smk_session.specs.{Behind.{BehindFits, IsBehind, RidsFit}, Sessions.state_of};
+ghost use Rattle.smk_own.specs.{Answering.{IsOwnAnswer, rids_told}, Image.part_image};
 
 use crate::answer::OwnAnswer;
 use crate::own_line::Part;

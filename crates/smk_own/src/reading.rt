@@ -3,9 +3,7 @@ ghost use Rattle.std.specs.Prelude.{◌≡◌, ◌≤◌, cond, Some, None, leng
 ghost use Rattle.smk_base.specs.TreeImage.{any_image};
 ghost use Rattle.smk_model.specs.OwnLines as owns;
 ghost use Rattle.smk_model.specs.Tokens as tokens;
-ghost use Rattle.smk_own.specs.Image.{own_image, own_reading_image, part_image};
-ghost use Rattle.smk_own.specs.Keeping.{KeepsOwnReading};
-ghost use Rattle.smk_own.specs.Leads.{lead_image, line_behind};
+ghost use Rattle.smk_own.specs.{Image.{own_image, own_reading_image, part_image}, Keeping.KeepsOwnReading, Leads.{lead_image, line_behind}};
 
 use crate::own_line::{OwnLine, OwnReading, Part};
 use smk_base::{AnyLine, Line, LineFault, Then, read_int};

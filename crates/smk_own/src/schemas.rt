@@ -1,9 +1,7 @@
 // What there is.
 ghost use Rattle.std.specs.Prelude.{◌≡◌, length, map, IfOk};
-ghost use Rattle.smk_base.specs.CatalogImage.{catalog_image};
-ghost use Rattle.smk_base.specs.Places.{upto};
-ghost use Rattle.smk_model.specs.OwnTexts.{schema_text as schema_said};
-ghost use Rattle.smk_model.specs.Session.{first_content, rows_of_table};
+ghost use Rattle.smk_base.specs.{CatalogImage.catalog_image, Places.upto};
+ghost use Rattle.smk_model.specs.{OwnTexts.schema_text as schema_said, Session.{first_content, rows_of_table}};
 ghost use Rattle.smk_session.specs.Sessions.{state_of};
 
 use smk_base::Names;

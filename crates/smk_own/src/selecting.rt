@@ -1,19 +1,10 @@
 // The rows of a table that all brushes select.
 ghost use Rattle.std.specs.Prelude.{◌≡◌, ◌≢◌, ◌≤◌, ◌+◌, ◌<◌, ◌^◌, [], length, map, Some, IfOk};
-ghost use Rattle.smk_base.specs.CatalogImage.{catalog_image, table_place};
-ghost use Rattle.smk_base.specs.Places.{upto};
-ghost use Rattle.smk_base.specs.TreeImage.{ask_step_image};
-ghost use Rattle.smk_model.specs.Limits.{KeepsSteps};
-ghost use Rattle.smk_model.specs.OwnAnswers.{selected_answered, selected_on};
+ghost use Rattle.smk_base.specs.{CatalogImage.{catalog_image, table_place}, Places.upto, TreeImage.ask_step_image};
+ghost use Rattle.smk_model.specs.{Limits.KeepsSteps, OwnAnswers.{selected_answered, selected_on}, Replies.rows_at_rids, ReplyTexts.names_of_table, Session.rows_of_table, Typing.info_at};
 ghost use Rattle.smk_model.specs.OwnTexts as texts;
-ghost use Rattle.smk_model.specs.Replies.{rows_at_rids};
-ghost use Rattle.smk_model.specs.ReplyTexts.{names_of_table};
-ghost use Rattle.smk_model.specs.Session.{rows_of_table};
-ghost use Rattle.smk_model.specs.Typing.{info_at};
-ghost use Rattle.smk_session.specs.Behind.{RidsFit};
-ghost use Rattle.smk_session.specs.Sessions.{state_of};
-ghost use Rattle.smk_own.specs.Answering.{IsOwnAnswer};
-ghost use Rattle.smk_own.specs.Image.{part_image};
+ghost use Rattle.smk_session.specs.{Behind.RidsFit, Sessions.state_of};
+ghost use Rattle.smk_own.specs.{Answering.IsOwnAnswer, Image.part_image};
 
 use crate::answer::OwnAnswer;
 use crate::narrowing::{numbered_text, placed_text, printed_text};

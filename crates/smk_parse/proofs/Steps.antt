@@ -1,24 +1,14 @@
 -- How a symbol goes on at the token in hand, and what begins with another symbol.
-use Rattle.std.specs.Prelude.{Result, Ok, Err, Option, Some, None, true, false, is_some, map}
-use Rattle.std.proofs.Common.{◌≡◌, ◌<◌, ◌+◌, ℕ, List, [], ◌∷◌, ◌++◌, length, ap, ◌∙◌, sym, subst, refl, arith, append_assoc, append-nil}
-use Rattle.std.proofs.lemmas.Bool.{lt-ltb}
-use Rattle.std.proofs.lemmas.List.{map_push, length_push}
-use Rattle.smk_base.specs.declared.book.token.TokenKind.{TokenKind}
+use Rattle.std.specs.Prelude.{Result, Ok, Err, Option, Some, None, true, false, is_some}
+use Rattle.std.proofs.{Common.{◌≡◌, ◌<◌, ◌+◌, ℕ, List, [], ◌∷◌, ◌++◌, length, ap, ◌∙◌, sym, subst, refl, arith, append_assoc, append-nil}, lemmas.Bool.lt-ltb, lemmas.List.{map_push, length_push}}
+use Rattle.smk_base.specs.{declared.book.token.TokenKind.TokenKind, declared.book.tree.ItemTree.ItemTree, declared.fault.Many.TheVariants.Nodes, declared.book.limits.TheConstants.NODE_LIMIT, Trees.{StmtImage, StepImage, AskStepImage, TreeImage, UnionNode, AnyLineImage, PlainLine}}
 use Rattle.smk_base.specs.declared.book.token.TokenKind.TheVariants as kinds
-use Rattle.smk_base.specs.declared.book.tree.AskStep.{AskStep}
-use Rattle.smk_base.specs.declared.book.tree.ItemTree.{ItemTree}
 use Rattle.smk_base.specs.declared.book.tree.ItemTree.TheVariants as items
 use Rattle.smk_base.specs.declared.book.tree.Marks.TheVariants as markings
-use Rattle.smk_base.specs.declared.fault.Many.TheVariants.{Nodes}
-use Rattle.smk_base.specs.declared.book.limits.TheConstants.{NODE_LIMIT}
-use Rattle.smk_base.specs.Trees.{StmtImage, StepImage, AskStepImage, TreeImage, UnionNode, AnyLineImage, PlainLine}
-use Rattle.smk_model.specs.Rules.{Mark, Tally, AUnited, behind}
-use Rattle.smk_model.specs.LanguageTable.{rule_of, if_name, if_column, ends, item_rule, listed_rule, marks_rule, source_rule, united_rule, line_rule, any_rule, stmt_rule, stmts_rule, counted, step_rule, one_input, with_place}
-use Rattle.smk_model.specs.TokenReadings.{Count, Fine, within, limits, member_in_range, marks_in_range, first_count, item_count, source_count, node_count, stmt_count, short, Move, Skips, checked, opened, move_of, goes_on}
+use Rattle.smk_model.specs.{Rules.{Mark, Tally, AUnited, behind}, LanguageTable.{rule_of, if_name, if_column, ends, item_rule, listed_rule, marks_rule, source_rule, united_rule, line_rule, any_rule, stmt_rule, stmts_rule, counted, step_rule, one_input, with_place}, TokenReadings.{Count, Fine, within, limits, member_in_range, marks_in_range, first_count, item_count, source_count, node_count, stmt_count, short, Move, Skips, checked, opened, move_of, goes_on}}
 use Rattle.smk_model.proofs.InTurn.{Here, then, goes, reading, runs_gives, runs_reads, runs_behind, begins_with, opened_onward, only, fewer, fewer_run}
 use Rattle.smk_parse.specs.declared.book.Tally as code
-use Rattle.smk_parse.specs.Vocabulary.{BookFault, Token, Word, Marks, Line, head_of, tail_of, ask_step_image, Configuration, PlanCounts, Symbol, Tree, Rule, Gives, Reads, onward, sign, Member, Declaration, OutputItem, KeyColumn, Aggregation, ColumnPair, AName, ALineName, AColumn, AType, ADefault, AnAs, AWhat, AFirst, ANames, AMarked, AMarks, AKeys, APrim, AnAnds, AnOrs, AConj, APred, ASource, ASteps, APlan, One, More, Listed, AnAskStep, AskSteps, APiped, ASelected, AStmts, AStep, no_counts, node_more, ALine, AWholeLine, AnyLine, AWholeAnyLine, Reading, reads, runs, joint}
-use Rattle.smk_parse.specs.{Texts.Advances, Reads.MemberRule, Reads.of, Reads.reads_one, Reads.reads_more, Reads.reads_list, Reads.before, Reads.is_column, Reads.ran, Reads.value_of, Reads.Answers, Reads.StmtReads, Reads.tally_of}
+use Rattle.smk_parse.specs.{Vocabulary.{BookFault, Token, Word, Marks, Line, head_of, tail_of, Configuration, PlanCounts, Symbol, Tree, Rule, Gives, Reads, onward, sign, Member, Declaration, OutputItem, KeyColumn, Aggregation, ColumnPair, AName, ALineName, AColumn, AType, ADefault, AnAs, AWhat, AFirst, ANames, AMarked, AMarks, AKeys, APrim, AnAnds, AnOrs, AConj, APred, ASource, ASteps, APlan, One, More, Listed, AnAskStep, AskSteps, APiped, ASelected, AStmts, AStep, no_counts, node_more, ALine, AWholeLine, AnyLine, AWholeAnyLine, Reading, reads, runs, joint}, Texts.Advances, Reads.{MemberRule, of, reads_one, reads_more, reads_list, before, is_column, ran, Answers, StmtReads, tally_of}}
 
 -- a token is taken, and none comes back
 pub smaller : (symbol : Symbol) (c : PlanCounts) (a b d : Configuration) (x : Tree symbol) → Advances c a b → reads symbol b ≡ Ok (x, d) → length d.rest < length a.rest
@@ -100,15 +90,15 @@ marks_move t kinds.All c next n = absurd (n refl)
 marks_move t kinds.Number c next n = opened_onward t (member_in_range Mark t) (Fine c) (listed_rule Mark kinds.Number) (λ ms. Gives (markings.Listed ms)) next
 marks_move t _ c next n = refl
 
-pub marks_begin : (a : Configuration) → ((head_of a.rest).kind ≡ kinds.All → ⊥) → reads AMarks a ≡ then (reads (Listed Mark) a) (λ ms b. Ok (markings.Listed ms, b))
-marks_begin a n = begins_with AMarks (Listed Mark) (λ ms. Gives (markings.Listed ms)) a (marks_move (head_of a.rest) (head_of a.rest).kind a.counts _ n) ∙ ap (then (reads (Listed Mark) a)) (λ i ms b. runs_gives (markings.Listed ms) b i)
+pub marks_begin : (a : Configuration) → ((head_of a.rest).kind ≡ kinds.All → ⊥) → reads AMarks a ≡ then (reads (Listed Mark) a) (λ ms b. runs (Gives (markings.Listed ms)) b)
+marks_begin a n = begins_with AMarks (Listed Mark) (λ ms. Gives (markings.Listed ms)) a (marks_move (head_of a.rest) (head_of a.rest).kind a.counts _ n)
 
 united_move : (d : ℕ) (c : PlanCounts) (t : Token) (kind : TokenKind) (next : TreeImage → Move StepImage) → (kind ≡ kinds.All → ⊥) → opened t true (source_count d c kind) None (united_rule d kind) ≡ goes_on (opened t true (source_count d c kind) None (source_rule d kind)) (λ x. Gives (UnionNode x)) next
 united_move d c t kinds.All next n = absurd (n refl)
 united_move d c t kind next n = opened_onward t true (source_count d c kind) (source_rule d kind) (λ x. Gives (UnionNode x)) next
 
-pub united_begins : (d : ℕ) (a : Configuration) → ((head_of a.rest).kind ≡ kinds.All → ⊥) → ran (step_rule d kinds.Union) a ≡ then (reads (ASource d) a) (λ x b. Ok (UnionNode x, b))
-united_begins d a n = only (AUnited d) a ∙ begins_with (AUnited d) (ASource d) (λ x. Gives (UnionNode x)) a (united_move d a.counts (head_of a.rest) (head_of a.rest).kind _ n) ∙ ap (then (reads (ASource d) a)) (λ i x b. runs_gives (UnionNode x) b i)
+pub united_begins : (d : ℕ) (a : Configuration) → ((head_of a.rest).kind ≡ kinds.All → ⊥) → reads (AUnited d) a ≡ then (reads (ASource d) a) (λ x b. runs (Gives (UnionNode x)) b)
+united_begins d a n = begins_with (AUnited d) (ASource d) (λ x. Gives (UnionNode x)) a (united_move d a.counts (head_of a.rest) (head_of a.rest).kind _ n)
 
 -- a line without steps
 plain_move : (c : PlanCounts) (t : Token) (kind : TokenKind) (next : Line → Move AnyLineImage) → (kind ≡ kinds.Ask → ⊥) → (kind ≡ kinds.Fd → ⊥) → (kind ≡ kinds.Append → ⊥) → opened t true (Fine c) None (any_rule kind) ≡ goes_on (opened t true (Fine c) None (line_rule kind)) (λ l. Gives (PlainLine l)) next
@@ -117,8 +107,8 @@ plain_move c t kinds.Fd next e f g = absurd (f refl)
 plain_move c t kinds.Append next e f g = absurd (g refl)
 plain_move c t kind next e f g = opened_onward t true (Fine c) (line_rule kind) (λ l. Gives (PlainLine l)) next
 
-pub plain_begins : (a : Configuration) → ((head_of a.rest).kind ≡ kinds.Ask → ⊥) → ((head_of a.rest).kind ≡ kinds.Fd → ⊥) → ((head_of a.rest).kind ≡ kinds.Append → ⊥) → reads AnyLine a ≡ then (reads ALine a) (λ l b. Ok (PlainLine l, b))
-plain_begins a e f g = begins_with AnyLine ALine (λ l. Gives (PlainLine l)) a (plain_move a.counts (head_of a.rest) (head_of a.rest).kind _ e f g) ∙ ap (then (reads ALine a)) (λ i l b. runs_gives (PlainLine l) b i)
+pub plain_begins : (a : Configuration) → ((head_of a.rest).kind ≡ kinds.Ask → ⊥) → ((head_of a.rest).kind ≡ kinds.Fd → ⊥) → ((head_of a.rest).kind ≡ kinds.Append → ⊥) → reads AnyLine a ≡ then (reads ALine a) (λ l b. runs (Gives (PlainLine l)) b)
+plain_begins a e f g = begins_with AnyLine ALine (λ l. Gives (PlainLine l)) a (plain_move a.counts (head_of a.rest) (head_of a.rest).kind _ e f g)
 
 -- the keys of a grouping, where a column is in hand
 keys_move : (c : PlanCounts) (t : Token) (kind : TokenKind) → is_column kind ≡ true → opened t true (first_count 0 c t) (Some []) (listed_rule KeyColumn kind) ≡ opened t true (first_count 0 c t) None (listed_rule KeyColumn kind)
@@ -138,7 +128,7 @@ pub no_keys : (a : Configuration) → Here a → is_column (head_of a.rest).kind
 no_keys a here e = reading AKeys a here ∙ ap (goes a) (keys_none a.counts (head_of a.rest) (head_of a.rest).kind e)
 
 -- what follows a first of several
-prepended : {T : Type 0} (x : T) (r : Reading (List T)) → then r (λ xs c. runs (Gives (x ∷ xs)) c) ≡ before (x ∷ []) r
+pub prepended : {T : Type 0} (x : T) (r : Reading (List T)) → then r (λ xs c. runs (Gives (x ∷ xs)) c) ≡ before (x ∷ []) r
 prepended x (Ok p) = runs_gives (x ∷ p.0) p.1
 prepended x (Err f) = refl
 
@@ -192,31 +182,6 @@ list_fails rule r xs k a f h e = h ∙ ap (λ q. before xs (then q (λ x b. befo
 pub list_smaller : {T : Type 0} (rule : MemberRule T) (k : ℕ) (c : PlanCounts) (a b d : Configuration) (x : T) → reads_one rule k a ≡ Ok (x, b) → Advances c b d → length d.rest < length a.rest
 list_smaller (of member) k c a b d x e h = behind_smaller (One member k) c a b d x e h
 
--- what is read one by one, and kept as images
-pub pushed : {X T : Type 0} (image : X → T) (r q p : Reading (List T)) (xs ys : List X) (x : X) → r ≡ before (map image xs) q → q ≡ before (image x ∷ []) p → ys ≡ xs ++ x ∷ [] → r ≡ before (map image ys) p
-pushed image r q p xs ys x h k e = h ∙ ap (before (map image xs)) k ∙ sym (before_push (map image xs) (image x) p) ∙ ap (λ l. before l p) (sym (ap (map image) e ∙ map_push image xs x))
-
--- steps with bars between, from one in hand on
-step_then : (a b : Configuration) (s : AskStepImage) → reads AnAskStep a ≡ Ok (s, b) → reads APiped a ≡ before (s ∷ []) (reads AskSteps b)
-step_then a b s e = piped_begins a ∙ ap (λ r. then r (λ s b. runs (Reads AskSteps (λ ss. Gives (s ∷ ss))) b)) e ∙ runs_reads AskSteps (λ ss. Gives (s ∷ ss)) b ∙ prepended s (reads AskSteps b)
-
-bar_goes : (b d : Configuration) → Here b → (head_of b.rest).kind ≡ kinds.Bar → Advances b.counts b d → reads AskSteps b ≡ reads APiped d
-bar_goes b d here is moved = reading AskSteps b here ∙ ap (λ kind. goes b (opened (head_of b.rest) true (Fine b.counts) (Some []) (rule_of AskSteps kind))) is ∙ ap (runs (Reads APiped Gives)) (sym (advanced b.counts b d moved)) ∙ only APiped d
-
-bar_none : (c : PlanCounts) (t : Token) (kind : TokenKind) → (kind ≡ kinds.Bar → ⊥) → opened t true (Fine c) (Some []) (rule_of AskSteps kind) ≡ Skips []
-bar_none c t kinds.Bar n = absurd (n refl)
-bar_none c t _ n = refl
-
-no_bar : (b : Configuration) → Here b → ((head_of b.rest).kind ≡ kinds.Bar → ⊥) → reads AskSteps b ≡ Ok ([], b)
-no_bar b here n = reading AskSteps b here ∙ ap (goes b) (bar_none b.counts (head_of b.rest) (head_of b.rest).kind n)
-
-pub piped_goes : (a b d : Configuration) (s : AskStepImage) → reads AnAskStep a ≡ Ok (s, b) → Here b → (head_of b.rest).kind ≡ kinds.Bar → Advances b.counts b d → reads APiped a ≡ before (s ∷ []) (reads APiped d)
-piped_goes a b d s e here is moved = step_then a b s e ∙ ap (before (s ∷ [])) (bar_goes b d here is moved)
-
-pub piped_ends : (r : Reading (List AskStepImage)) (a b : Configuration) (xs ys : List AskStep) (x : AskStep) → r ≡ before (map ask_step_image xs) (reads APiped a) → reads AnAskStep a ≡ Ok (ask_step_image x, b) → Here b → ((head_of b.rest).kind ≡ kinds.Bar → ⊥) → ys ≡ xs ++ x ∷ [] → r ≡ Ok (map ask_step_image ys, b)
-piped_ends r a b xs ys x h e here n p =
-    pushed ask_step_image r (reads APiped a) (Ok ([], b)) xs ys x h (step_then a b (ask_step_image x) e ∙ ap (before (ask_step_image x ∷ [])) (no_bar b here n)) p ∙ ap (λ l. Ok (l, b)) (append-nil (map ask_step_image ys))
-
 -- a statement, and the statements behind it
 with_rest : (y : Tally) (s : StmtImage) (a : Configuration) → runs (Reads (AStmts y) (λ ss. Gives (s ∷ ss))) a ≡ before (s ∷ []) (reads (AStmts y) a)
 with_rest y s a = runs_reads (AStmts y) (λ ss. Gives (s ∷ ss)) a ∙ prepended s (reads (AStmts y) a)
@@ -236,7 +201,7 @@ stmt_reads y rule a b is fine here moved =
     ∙ runs_behind (rule t) next b
     ∙ ap (then (runs (rule t) b)) (λ i s c. with_rest (counted t.kind y) s c i)
 
--- a statement behind its keyword, and the end
+-- a statement behind its keyword
 pub stmt_answers : {X : Type 0} (image : X → StmtImage) (t u : code.Tally) (kind : TokenKind) (rule : Token → Rule StmtImage) (a b e : Configuration) (r : Result X BookFault) → (head_of a.rest).kind ≡ kind → stmt_rule kind ≡ Some rule → stmt_count (tally_of t) kind ≡ Fine no_counts → Here a → Advances no_counts a b → tally_of u ≡ counted kind (tally_of t) → Answers (runs (rule (head_of a.rest)) b) image e r → StmtReads image t u a e r
 stmt_answers {X} image t u kind rule a b e r k is fine here moved tallied = by r
   where
@@ -246,10 +211,6 @@ stmt_answers {X} image t u kind rule a b e r k is fine here moved tallied = by r
     by : (r : Result X BookFault) → Answers (runs (rule (head_of a.rest)) b) image e r → StmtReads image t u a e r
     by (Ok x) h = let n = ap length moved.first in let l = fewer_run (rule (head_of a.rest)) b e (image x) h in (reads_so ∙ ap (λ q. then q (λ s c. before (s ∷ []) (reads (AStmts (tally_of u)) c))) h, omega (arith, n, l))
     by (Err f) h = λ m. reads_so ∙ ap (λ q. then q (λ s c. before (s ∷ []) (reads (AStmts (tally_of u)) c))) (h m)
-
-pub stmts_done : (y : Tally) (xs : List StmtImage) (a : Configuration) (r : Reading (List StmtImage)) → r ≡ before xs (reads (AStmts y) a) → Here a → (head_of a.rest).kind ≡ kinds.End → value_of r ≡ Ok xs
-stmts_done y xs a r h here is =
-    ap value_of (h ∙ ap (before xs) (reading (AStmts y) a here ∙ ap (λ kind. goes a (opened (head_of a.rest) true (stmt_count y kind) None (stmts_rule y kind))) is ∙ runs_gives [] (record { rest = tail_of a.rest; counts = no_counts }))) ∙ ap (λ l. Ok l) (append-nil xs)
 
 -- a line behind its keyword
 pub any_answers : {X : Type 0} (image : X → AnyLineImage) (rule : Token → Rule AnyLineImage) (a b e : Configuration) (r : Result X BookFault) → any_rule (head_of a.rest).kind ≡ Some rule → Here a → Advances a.counts a b → Answers (runs (rule (head_of a.rest)) b) image e r → Answers (reads AnyLine a) image e r
@@ -306,3 +267,7 @@ pub ruleset in_order = (reading, runs_gives, runs_reads, runs_behind, advanced, 
 pub ruleset members = (decl_begins, key_begins, agg_begins, pair_begins, item_begins, keys_begin, no_keys)
 
 pub ruleset in_loop = (in_order, only, conj_begins, pred_begins, plan_begins, piped_begins, smaller)
+
+pub ruleset in_pipe = (in_loop, prepended, before_push, before_none, map_push, append-nil)
+
+pub ruleset in_step = (in_order, only, united_begins)

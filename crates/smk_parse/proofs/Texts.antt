@@ -1,11 +1,9 @@
 -- Bytes, and what stands at their front.
 use Rattle.std.specs.Prelude.{cond, nat_eq, Bool, true, false, pos, neg_ℤ, take, drop, length, ◌==◌, take_while, not, FitsSigned}
-use Rattle.smk_parse.specs.Vocabulary.{digits_value, TokenKind, Begins, front, Between, tokens_from, put, is_more, undoubled, prefix_len, no_line_end, first_line, lines, lines_after, without_cr, w64}
-use Rattle.std.proofs.Common.{◌≡◌, ℕ, zero, suc, ◌+◌, ◌*◌, ◌-◌, ◌<◌, List, [], ◌∷◌, get_or, drop-cons, ap, ◌∙◌, sym, arith, subst, refl, ◌≤◌, ◌++◌, append_assoc, min, append-nil, length-append}
-use Rattle.std.proofs.lemmas.List.{drop-drop, length-drop, take_all, length-take, take-take, Folds.length-prefix_len}
+use Rattle.smk_parse.specs.{Vocabulary.{digits_value, TokenKind, Begins, front, Between, tokens_from, put, is_more, undoubled, prefix_len, no_line_end, first_line, lines, lines_after, without_cr, w64}, Texts.{left_at, Stands, Cuts}}
+use Rattle.std.proofs.{Common.{◌≡◌, ℕ, zero, suc, ◌+◌, ◌*◌, ◌-◌, ◌<◌, List, [], ◌∷◌, get_or, drop-cons, ap, ◌∙◌, sym, arith, subst, refl, ◌≤◌, ◌++◌, append_assoc, min, append-nil, length-append}, lemmas.List.{drop-drop, length-drop, take_all, length-take, take-take, Folds.length-prefix_len}}
 use Rattle.smk_base.specs.declared.book.token.TokenKind.TheVariants.{End}
 use Rattle.smk_model.proofs.NumberRanges.{Fitting, front_fits}
-use Rattle.smk_parse.specs.Texts.{left_at, Stands, Cuts}
 
 -- a number beyond the top stays beyond it
 pub capped : (n top : ℕ) (ds : List ℕ) → min (digits_value (min n top) ds) top ≡ min (digits_value n ds) top

@@ -2,11 +2,9 @@
 use Rattle.std.specs.Prelude.{Result, Ok, Err, Some, None}
 use Rattle.std.proofs.Common.{◌≡◌, ℕ, List, false, ap, ◌∙◌, sym, refl, subst}
 use Rattle.smk_base.specs.declared.book.token.TokenKind.TheVariants as kinds
-use Rattle.smk_model.specs.TokenReadings.{limits, no_tally, reads, Outcome, Ended, Open, Failed, through, read_off, fault_in, fault_of}
-use Rattle.smk_model.specs.Spelled.{Says}
+use Rattle.smk_model.specs.{TokenReadings.{limits, no_tally, reads, Outcome, Ended, Open, Failed, through, read_off, fault_in, fault_of}, Spelled.Says}
 use Rattle.smk_model.proofs.Spelling.{says}
-use Rattle.smk_parse.specs.Vocabulary.{BookFault, NoMemory, LineFault, Token, Symbol, AStmts, ASelected, Tree, Gives, Reads, Configuration, no_counts, tokens, head_of, HasNoToken}
-use Rattle.smk_parse.specs.{Reads.value_of, Reads.is_memory, Answers.IsAnswer, Answers.IsSelectedAnswer, Answers.IsBookAnswer, Answers.as_line_fault}
+use Rattle.smk_parse.specs.{Vocabulary.{BookFault, NoMemory, LineFault, Token, Symbol, AStmts, ASelected, Tree, Gives, Reads, Configuration, no_counts, tokens, head_of, HasNoToken}, Reads.{value_of, is_memory}, Answers.{IsAnswer, IsSelectedAnswer, IsBookAnswer, as_line_fault}}
 
 abbrev pub start : List ℕ → Configuration
 start text = record { rest = tokens text; counts = no_counts }

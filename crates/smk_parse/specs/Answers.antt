@@ -1,8 +1,7 @@
 -- What the parsers answer.
 use Rattle.std.specs.Prelude.{◌≡◌, ℕ, List, map, Option, Some, None, Result, Ok, Err}
 use Rattle.smk_parse.specs.Vocabulary.{BookFault, Book, LineFault, Line, BadToken, Unexpected, TooMany, BadNumber, NoMemory, book_image, any_image, ask_step_image, tokens, HasNoToken, line_fault, any_fault, book_fault, place_of, IsWholeLine, IsWholeAnyLine, AreStmts, AreSelected, selected_fault}
-use Rattle.smk_base.specs.declared.book.tree.AnyLine.{AnyLine}
-use Rattle.smk_base.specs.declared.book.tree.AskStep.{AskStep}
+use Rattle.smk_base.specs.{declared.book.tree.AnyLine.AnyLine, declared.book.tree.AskStep.AskStep}
 use Rattle.smk_base.specs.declared.fault.LineFault.TheVariants as line_faults
 
 -- a line's fault by that of its reader: it isn't a line, or memory ran out

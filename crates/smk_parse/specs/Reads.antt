@@ -1,9 +1,8 @@
 -- What a reader of a symbol answers.
 use Rattle.std.specs.Prelude.{◌≡◌, ◌<◌, ℕ, Bool, true, false, List, [], ◌∷◌, ◌++◌, length, Option, Some, None, Result, Ok, Err}
-use Rattle.smk_parse.specs.Vocabulary.{BookFault, NoMemory, TokenKind, Word, Token, token_fault, head_of, inner, Configuration, Member, MemberTree, Symbol, Tree, Rule, One, More, Listed, AStmts, StmtImage, Reading, reads, runs}
+use Rattle.smk_parse.specs.{Vocabulary.{BookFault, NoMemory, TokenKind, Word, Token, token_fault, head_of, inner, Configuration, Member, MemberTree, Symbol, Tree, Rule, One, More, Listed, AStmts, StmtImage, Reading, reads, runs}, declared.book.Tally.Tally}
 use Rattle.smk_base.specs.declared.book.token.TokenKind.TheVariants as kinds
 use Rattle.smk_model.specs.Rules as rules
-use Rattle.smk_parse.specs.declared.book.Tally.{Tally}
 
 -- whether memory ran out
 abbrev pub is_memory : BookFault → Bool

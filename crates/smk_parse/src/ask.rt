@@ -1,9 +1,8 @@
 #![tactic(auto, using(crate::proofs::Steps::in_order))]
 
 ghost use Rattle.std.specs.Prelude.{map};
-ghost use Rattle.smk_parse.specs.Vocabulary.{ask_step_image, any_image, ask_rule, append_rule, APiped, AskSteps, ASelected, AWholeAnyLine};
+ghost use Rattle.smk_parse.specs.{Vocabulary.{ask_step_image, any_image, ask_rule, append_rule, APiped, AskSteps, ASelected, AWholeAnyLine}, Reads.{IsRead, IsRun, IsWhole}, Answers.{IsAnyAnswer, IsSelectedAnswer}};
 ghost use Rattle.smk_model.specs.Rules as rules;
-ghost use Rattle.smk_parse.specs.{Reads.IsRead, Reads.IsRun, Reads.IsWhole, Answers.IsAnyAnswer, Answers.IsSelectedAnswer};
 
 use crate::line::{as_line_fault, end, line, marked};
 use crate::plan::ask_step;
@@ -13,7 +12,7 @@ use smk_base::{AnyLine, AskLine, AskSteps, BookFault, LineFault, Text, TokenKind
 use std::alloc::Global;
 
 /// One or more steps of an `ask` line with bars between.
-#[tactic(auto, using(crate::proofs::Steps::in_loop))]
+#[tactic(auto, using(crate::proofs::Steps::in_pipe))]
 fn ask_steps(alloc: Global, reader: &mut Reader) -> Result<AskSteps, BookFault>
     ensures { IsRead APiped (λ steps. map ask_step_image steps) reader.old reader.new result }
 {
@@ -78,6 +77,7 @@ fn append_line(alloc: Global, reader: &mut Reader) -> Result<AnyLine, BookFault>
 }
 
 /// A line of any kind.
+#[tactic(auto, using(crate::proofs::Steps::in_order, crate::proofs::Steps::plain_begins))]
 fn any_line(alloc: Global, reader: &mut Reader) -> Result<AnyLine, BookFault>
     ensures { IsRead rules.AnyLine any_image reader.old reader.new result }
 {

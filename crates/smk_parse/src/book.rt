@@ -1,9 +1,8 @@
 #![tactic(auto, using(crate::proofs::Steps::in_order))]
 
 ghost use Rattle.std.specs.Prelude.{◌≡◌, map};
-ghost use Rattle.smk_parse.specs.Vocabulary.{stmt_image, head_of, joint, table_rule, view_rule, link_rule, depends_rule, ANames, ALineage, AnExtra, AStmts, no_tally};
+ghost use Rattle.smk_parse.specs.{Vocabulary.{stmt_image, head_of, joint, table_rule, view_rule, link_rule, depends_rule, ANames, ALineage, AnExtra, AStmts, no_tally}, Reads.{IsRead, IsRun, IsWhole, StmtReads}, Answers.IsBookAnswer};
 ghost use Rattle.smk_base.specs.declared.book.token.TokenKind.TheVariants as kinds;
-ghost use Rattle.smk_parse.specs.{Reads.IsRead, Reads.IsRun, Reads.IsWhole, Reads.StmtReads, Answers.IsBookAnswer};
 
 use crate::lists::{LinkedView, aggs, keys, listed};
 use crate::plan::plan;
@@ -176,7 +175,7 @@ fn stmt(alloc: Global, reader: &mut Reader, tally: &mut Tally) -> Result<Stmt, B
 }
 
 /// The statements up to the end.
-#[tactic(auto, using(crate::proofs::Steps::before_none, crate::proofs::Steps::in_loop))]
+#[tactic(auto, using(crate::proofs::Steps::in_pipe))]
 fn stmts(alloc: Global, reader: &mut Reader) -> Result<Stmts, BookFault>
     ensures { IsWhole (AStmts no_tally) (λ stmts. map stmt_image stmts) reader.old result }
 {

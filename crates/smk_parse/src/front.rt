@@ -1,7 +1,6 @@
 ghost use Rattle.std.specs.Prelude.{◌≡◌, ◌+◌, ◌<◌, ◌≤◌, length, map, take_while, FitsSigned, IfSome, true, false, drop, None, min};
-ghost use Rattle.smk_parse.specs.Vocabulary.{is_ascii_digit, minus_front, is_word_byte, is_quoted_byte, no_line_end, kind_in, string_len, front, quoted_front, or_equal, unequal_front, digits_value, number_kind, int_value, w64};
+ghost use Rattle.smk_parse.specs.{Vocabulary.{is_ascii_digit, minus_front, is_word_byte, is_quoted_byte, no_line_end, kind_in, string_len, front, quoted_front, or_equal, unequal_front, digits_value, number_kind, int_value, w64}, Texts.{front_of, Within}};
 ghost use Rattle.smk_base.specs.declared.book.token.TokenKind.TheVariants.{Name};
-ghost use Rattle.smk_parse.specs.Texts.{front_of, Within};
 
 use smk_base::{KEYWORDS, TokenKind};
 

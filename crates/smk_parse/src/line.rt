@@ -1,10 +1,9 @@
 #![tactic(auto, using(crate::proofs::Steps::in_order))]
 
 ghost use Rattle.std.specs.Prelude.{◌≡◌};
-ghost use Rattle.smk_parse.specs.Vocabulary.{head_of, tail_of, joint, AToken, AMarks, AThen, ACleared, AMarked, ALine, AWholeLine, reads};
+ghost use Rattle.smk_parse.specs.{Vocabulary.{head_of, tail_of, joint, AToken, AMarks, AThen, ACleared, AMarked, ALine, AWholeLine, reads}, Reads.{of, Answers, IsRead, IsWhole}, Answers.{IsLineAnswer, as_line_fault}};
 ghost use Rattle.smk_model.specs.Rules as rules;
 ghost use Rattle.smk_base.specs.declared.book.token.TokenKind.TheVariants as kinds;
-ghost use Rattle.smk_parse.specs.{Reads.of, Reads.Answers, Reads.IsRead, Reads.IsWhole, Answers.IsLineAnswer, Answers.as_line_fault};
 
 use crate::lists::{Member, listed};
 use crate::reader::Reader;

@@ -1,9 +1,8 @@
 #![tactic(auto, using(crate::proofs::Steps::in_order, crate::proofs::Steps::members))]
 
 ghost use Rattle.std.specs.Prelude.{◌≡◌, ◌<◌, ◌≤◌, pos, ◌≤ℤ◌, IfOk};
-ghost use Rattle.smk_parse.specs.Vocabulary.{head_of, Declaration, OutputItem, KeyColumn, Aggregation, ColumnPair, LinkedView, AType, ADefault, AnAs, AWidth, AWhat, AKeys, AnAggs, One};
+ghost use Rattle.smk_parse.specs.{Vocabulary.{head_of, Declaration, OutputItem, KeyColumn, Aggregation, ColumnPair, LinkedView, AType, ADefault, AnAs, AWidth, AWhat, AKeys, AnAggs, One}, Reads.{MemberRule, of, Answers, IsRead, reads_one, reads_list}};
 ghost use Rattle.smk_base.specs.declared.book.token.TokenKind.TheVariants as kinds;
-ghost use Rattle.smk_parse.specs.Reads.{MemberRule, of, Answers, IsRead, reads_one, reads_list};
 
 use crate::reader::Reader;
 use crate::tokens::{

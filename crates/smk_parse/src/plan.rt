@@ -1,10 +1,9 @@
 #![tactic(auto, using(crate::proofs::Steps::in_order))]
 
 ghost use Rattle.std.specs.Prelude.{◌≡◌, ◌∷◌, ◌+◌, ◌<◌, ◌≤◌, ℕ, is_some, true, IsTrue, IfErr, OnOk};
-ghost use Rattle.smk_parse.specs.Vocabulary.{TooMany, Nodes, tree_image, step_image, ask_step_image, head_of, tail_of, is_more, step_rule, one_input, node_more, ASource, APlan, AStep, AnAskStep};
+ghost use Rattle.smk_parse.specs.{Vocabulary.{TooMany, Nodes, tree_image, step_image, ask_step_image, head_of, tail_of, is_more, step_rule, one_input, node_more, ASource, APlan, AStep, AnAskStep}, Texts.Advances, Reads.{Answers, IsRead, ran}};
 ghost use Rattle.smk_base.specs.declared.book.limits.TheConstants.{NODE_LIMIT};
 ghost use Rattle.smk_base.specs.declared.book.token.TokenKind.TheVariants as kinds;
-ghost use Rattle.smk_parse.specs.{Texts.Advances, Reads.Answers, Reads.IsRead, Reads.ran};
 
 use crate::lists::{aggs, keys, listed};
 use crate::pred::{on, pred};
@@ -73,6 +72,7 @@ fn source(alloc: Global, reader: &mut Reader, depth: u32) -> Result<Box<Tree>, B
 }
 
 /// What follows the keyword of a step.
+#[tactic(auto, using(crate::proofs::Steps::in_step))]
 #[cycle(plan)]
 fn operands(
     alloc: Global,

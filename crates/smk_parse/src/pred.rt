@@ -1,9 +1,8 @@
 #![tactic(auto, using(crate::proofs::Steps::in_order))]
 
 ghost use Rattle.std.specs.Prelude.{◌≡◌, ◌+◌, ◌<◌, ℕ};
-ghost use Rattle.smk_parse.specs.Vocabulary.{pred_image, head_of, AnOn, AnOp, ATerm, APrim, AConj, APred};
+ghost use Rattle.smk_parse.specs.{Vocabulary.{pred_image, head_of, AnOn, AnOp, ATerm, APrim, AConj, APred}, Reads.{IsRead, IsPassed}};
 ghost use Rattle.smk_base.specs.declared.book.token.TokenKind.TheVariants as kinds;
-ghost use Rattle.smk_parse.specs.Reads.{IsRead, IsPassed};
 
 use crate::reader::Reader;
 use crate::tokens::{column, column_in_hand, expect, is_column, is_short, literal, within, wrong};

@@ -1,7 +1,6 @@
 ghost use Rattle.std.specs.Prelude.{◌≡◌, ◌≤◌, ◌∷◌, length, drop, FitsSigned, IsTrue};
-ghost use Rattle.smk_parse.specs.Vocabulary.{tokens, tokens_from, head_of, tail_of, is_more, int_value, Configuration, no_counts, w64};
+ghost use Rattle.smk_parse.specs.{Vocabulary.{tokens, tokens_from, head_of, tail_of, is_more, int_value, Configuration, no_counts, w64}, Texts.{left_at, Stands, Advances}};
 ghost use Rattle.smk_base.specs.declared.book.token.TokenKind.TheVariants.{Number};
-ghost use Rattle.smk_parse.specs.Texts.{left_at, Stands, Advances};
 
 use crate::front::{Front, front_at, int_of};
 use smk_base::TokenKind;
@@ -20,8 +19,7 @@ pub struct Reader<'t> {
 
 impl<'t> Model for Reader<'t> {
     ghost use Rattle.std.specs.Prelude.{drop};
-    ghost use Rattle.smk_parse.specs.Vocabulary.{Configuration};
-    ghost use Rattle.smk_parse.specs.Texts.{left_at, Stands};
+    ghost use Rattle.smk_parse.specs.{Vocabulary.Configuration, Texts.{left_at, Stands}};
 
     ghost Value = { Configuration };
 

@@ -1,6 +1,5 @@
 ghost use Rattle.std.specs.Prelude.{◌≡◌, ◌≤◌, length, take, IfSome, IfNone};
-ghost use Rattle.smk_parse.specs.Vocabulary.{without_cr};
-ghost use Rattle.smk_parse.specs.Texts.{Cuts};
+ghost use Rattle.smk_parse.specs.{Vocabulary.without_cr, Texts.Cuts};
 
 use crate::front::line_len;
 use smk_base::LineSpan;

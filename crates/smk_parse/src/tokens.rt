@@ -1,8 +1,7 @@
 #![tactic(auto, using(crate::proofs::Steps::in_order))]
 
 ghost use Rattle.std.specs.Prelude.{◌≡◌, ◌<◌, IsTrue, true, false, IfOk, IfErr, OnOk};
-ghost use Rattle.smk_parse.specs.Vocabulary.{NoMemory, TooMany, head_of, is_more, inner, string_value, token_fault, is_short, AToken, ALiteral, AName, AColumn, AFirst, ALineName, ALineColumn};
-ghost use Rattle.smk_parse.specs.{Texts.Advances, Reads.IsRead, Reads.IsPassed, Reads.is_column, Reads.column_name, Reads.column_word};
+ghost use Rattle.smk_parse.specs.{Vocabulary.{NoMemory, TooMany, head_of, is_more, inner, string_value, token_fault, is_short, AToken, ALiteral, AName, AColumn, AFirst, ALineName, ALineColumn}, Texts.Advances, Reads.{IsRead, IsPassed, is_column, column_name, column_word}};
 
 use crate::reader::Reader;
 use smk_base::{BookFault, COLUMN_LIMIT, Lit, Many, NAME_LIMIT, Text, TokenKind, Value, Word};

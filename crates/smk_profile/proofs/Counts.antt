@@ -1,16 +1,8 @@
 -- How many rows each mark of the view of a dependency came from.
 use Rattle.std.specs.Prelude.{Some}
-use Rattle.std.proofs.Common.{◌≡◌, ◌∙◌, ℕ, ◌+◌, ◌<◌, List, [], ◌∷◌, ◌++◌, length, map, take, get_or, ap, ap₂, sym, arith, decimal, codes}
-use Rattle.std.proofs.lemmas.List.{length-map, get_or-map, take_more}
-use Rattle.smk_base.specs.CatalogImage.{CatalogImage, view_place}
-use Rattle.smk_base.specs.Rels.{Relation}
-use Rattle.smk_base.specs.declared.reply.Reply.{Reply}
-use Rattle.smk_base.specs.declared.reply.Reply.TheVariants.{Back}
-use Rattle.smk_model.specs.Lineage.{row_at}
-use Rattle.smk_model.specs.Profiles.{ShowsDependency, shown_by}
-use Rattle.smk_model.specs.Replies.{reply}
-use Rattle.smk_model.specs.Session.{State, rows_of_table}
-use Rattle.smk_model.specs.Texts.{line}
+use Rattle.std.proofs.{Common.{◌≡◌, ◌∙◌, ℕ, ◌+◌, ◌<◌, List, [], ◌∷◌, ◌++◌, length, map, take, get_or, ap, ap₂, sym, arith, decimal, codes}, lemmas.List.{length-map, get_or-map, take_more}}
+use Rattle.smk_base.specs.{CatalogImage.{CatalogImage, view_place}, Rels.Relation, declared.reply.Reply.Reply, declared.reply.Reply.TheVariants.Back}
+use Rattle.smk_model.specs.{Lineage.row_at, Profiles.{ShowsDependency, shown_by}, Replies.reply, Session.{State, rows_of_table}, Texts.line}
 use Rattle.smk_profile.specs.Briefs.{size_of}
 use Rattle.smk_profile.proofs.Marked.{group_at, line_of, reply_is, wanted, wanted_at}
 

@@ -1,10 +1,8 @@
 -- The texts of the marks, one after the other.
-use Rattle.std.proofs.Common.{◌≡◌, ◌∙◌, ℕ, zero, suc, ◌+◌, ◌<◌, List, [], ◌∷◌, ◌++◌, length, refl, ap, sym, arith, get_or, add-one, append-nil}
+use Rattle.std.proofs.{Common.{◌≡◌, ◌∙◌, ℕ, zero, suc, ◌+◌, ◌<◌, List, [], ◌∷◌, ◌++◌, length, refl, ap, sym, arith, get_or, add-one, append-nil}, lemmas.List.Concat.flat_map-append}
 use Rattle.std.specs.List.{flat_map}
-use Rattle.std.proofs.lemmas.List.Concat.{flat_map-append}
 use Rattle.smk_base.specs.declared.reply.Group.{Group}
-use Rattle.smk_model.specs.Lineage.{upto}
-use Rattle.smk_model.specs.ProfileTexts.{mark_text, mark_texts_to, no_group}
+use Rattle.smk_model.specs.{Lineage.upto, ProfileTexts.{mark_text, mark_texts_to, no_group}}
 
 any_default : (xs : List Group) (i : ℕ) (a b : Group) → i < length xs → get_or xs i a ≡ get_or xs i b
 any_default [] i a b low = absurd (omega (arith, low))

@@ -1,20 +1,8 @@
 -- The groups of the marks, one after the other, and the looks that they take.
 use Rattle.std.specs.Prelude.{Some}
-use Rattle.std.proofs.Common.{◌≡◌, ℕ, ◌+◌, ◌<◌, ◌≤◌, List, [], ◌∷◌, ◌++◌, length, take, refl, ap, sym, ◌∙◌, subst, arith, get_or}
-use Rattle.std.proofs.lemmas.List.{take_more, take_all, length-map, get_or-map}
-use Rattle.std.proofs.lemmas.List.Sums.{sum_by_more, sum_by_more_le, sum_by-take-le}
-use Rattle.smk_base.specs.CatalogImage.{CatalogImage, catalog_image, view_place}
-use Rattle.smk_base.specs.Rels.{Relation}
-use Rattle.smk_base.specs.declared.reply.Group.{Group}
-use Rattle.smk_base.specs.declared.reply.Reply.{Reply}
-use Rattle.smk_base.specs.declared.reply.Reply.TheVariants.{Back}
-use Rattle.smk_base.specs.declared.book.tree.Line.{Line}
-use Rattle.smk_model.specs.Dependencies.{violation_at, no_violation}
-use Rattle.smk_model.specs.Looks.{line_looks}
-use Rattle.smk_model.specs.Profiles.{ShowsDependency, group_of, groups_of, looks_of_groups, mark_line, shown_by, violations_of}
-use Rattle.smk_model.specs.Replies.{reply}
-use Rattle.smk_model.specs.Session.{State, first_content}
-use Rattle.smk_model.specs.Typing.{info_at}
+use Rattle.std.proofs.{Common.{◌≡◌, ℕ, ◌+◌, ◌<◌, ◌≤◌, List, [], ◌∷◌, ◌++◌, length, take, refl, ap, sym, ◌∙◌, subst, arith, get_or}, lemmas.List.{take_more, take_all, length-map, get_or-map}, lemmas.List.Sums.{sum_by_more, sum_by_more_le, sum_by-take-le}}
+use Rattle.smk_base.specs.{CatalogImage.{CatalogImage, catalog_image, view_place}, Rels.Relation, declared.reply.Group.Group, declared.reply.Reply.Reply, declared.reply.Reply.TheVariants.Back, declared.book.tree.Line.Line}
+use Rattle.smk_model.specs.{Dependencies.{violation_at, no_violation}, Looks.line_looks, Profiles.{ShowsDependency, group_of, groups_of, looks_of_groups, mark_line, shown_by, violations_of}, Replies.reply, Session.{State, first_content}, Typing.info_at}
 use Rattle.smk_model.proofs.Profiles.{dependencies_answered}
 use Rattle.smk_session.specs.Sessions.{SessionImage, state_of}
 use Rattle.smk_profile.specs.Marked.{HasMarks, IsAnsweredByRows, IsMarkLine, with_mark}

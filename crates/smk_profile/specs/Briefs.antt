@@ -1,14 +1,9 @@
 -- What an answer to an `fd` line has without its rows.
-use Rattle.std.specs.Prelude.{ℕ, List, [], ◌∷◌, ◌++◌, length, map, slice_index_or, codes, decimal}
-use Rattle.std.specs.List.{flat_map}
-use Rattle.smk_base.specs.declared.reply.Group.{Group}
-use Rattle.smk_base.specs.declared.reply.ProfileReply.{ProfileReply}
+use Rattle.std.specs.{Prelude.{ℕ, List, [], ◌∷◌, ◌++◌, length, map, slice_index_or, codes, decimal}, List.flat_map}
+use Rattle.smk_base.specs.{declared.reply.Group.Group, declared.reply.ProfileReply.ProfileReply}
 use Rattle.smk_base.specs.declared.reply.ProfileReply.TheVariants as whole
-use Rattle.smk_model.specs.Lineage.{upto}
-use Rattle.smk_model.specs.ProfileTexts.{found_line}
-use Rattle.smk_model.specs.Texts.{line}
-use Rattle.smk_profile.specs.declared.brief.BriefProfile.{BriefProfile}
-use Rattle.smk_profile.specs.declared.brief.BriefProfile.TheVariants.{Found, Refused}
+use Rattle.smk_model.specs.{Lineage.upto, ProfileTexts.found_line, Texts.line}
+use Rattle.smk_profile.specs.{declared.brief.BriefProfile.BriefProfile, declared.brief.BriefProfile.TheVariants.{Found, Refused}}
 
 -- how many rows each group has, or the refusal
 abbrev pub size_of : Group → ℕ

@@ -1,14 +1,9 @@
 -- What the lines for the marks of a view are answered.
 use Rattle.std.specs.Prelude.{◌≡◌, ℕ, List, [], ◌∷◌}
-use Rattle.smk_base.specs.CatalogImage.{CatalogImage}
-use Rattle.smk_base.specs.declared.reply.Reply.{Reply}
-use Rattle.smk_base.specs.declared.reply.Reply.TheVariants.{Back}
-use Rattle.smk_base.specs.declared.book.tree.Line.{Line}
+use Rattle.smk_base.specs.{CatalogImage.CatalogImage, declared.reply.Reply.Reply, declared.reply.Reply.TheVariants.Back, declared.book.tree.Line.Line}
 use Rattle.smk_base.specs.declared.book.tree.Line.TheVariants as lines
 use Rattle.smk_base.specs.declared.book.tree.Marks.TheVariants as markings
-use Rattle.smk_model.specs.Profiles.{mark_line}
-use Rattle.smk_model.specs.Replies.{reply}
-use Rattle.smk_model.specs.Session.{State}
+use Rattle.smk_model.specs.{Profiles.mark_line, Replies.reply, Session.State}
 
 -- whether a reply is rows with their rids
 abbrev pub AreRows : Reply → Type 0

@@ -1,14 +1,9 @@
 // What violates a dependency, by numbers alone.
 ghost use Rattle.std.specs.Prelude.{◌≡◌, ◌<◌, List, ℕ, length, map, Some, IfOk};
-ghost use Rattle.smk_base.specs.CatalogImage.{catalog_image, view_place};
-ghost use Rattle.smk_base.specs.Rels.{Relation};
-ghost use Rattle.smk_base.specs.declared.reply.Reply.TheVariants.{Back};
-ghost use Rattle.smk_model.specs.OwnTexts.{brief_profile_text as brief_said};
+ghost use Rattle.smk_base.specs.{CatalogImage.{catalog_image, view_place}, Rels.Relation, declared.reply.Reply.TheVariants.Back};
+ghost use Rattle.smk_model.specs.{OwnTexts.brief_profile_text as brief_said, Profiles.{AreDependencies, ShowsDependency, groups_of, shown_by}, Replies.reply};
 ghost use Rattle.smk_model.specs.Profiles as profiles;
-ghost use Rattle.smk_model.specs.Profiles.{AreDependencies, ShowsDependency, groups_of, shown_by};
-ghost use Rattle.smk_model.specs.Replies.{reply};
-ghost use Rattle.smk_profile.specs.Briefs.{group_sizes, size_of, sizes_text};
-ghost use Rattle.smk_profile.specs.Marked.{IsAnsweredByRows};
+ghost use Rattle.smk_profile.specs.{Briefs.{group_sizes, size_of, sizes_text}, Marked.IsAnsweredByRows};
 ghost use Rattle.smk_session.specs.Sessions.{state_of};
 
 use crate::marks::one_mark;

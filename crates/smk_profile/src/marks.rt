@@ -1,14 +1,10 @@
 // The rows that the marks of the view of a dependency came from.
 ghost use Rattle.std.specs.Prelude.{◌≡◌, ◌≤◌, ◌<◌, ◌+◌, [], ◌∷◌, length, Some, IfOk, OnOk};
 ghost use Rattle.smk_base.specs.declared.book.tree.Marks.TheVariants as markings;
-ghost use Rattle.smk_base.specs.CatalogImage.{catalog_image, view_place};
-ghost use Rattle.smk_model.specs.Looks.{line_looks};
+ghost use Rattle.smk_base.specs.{CatalogImage.{catalog_image, view_place}, declared.reply.Reply.TheVariants.Back};
+ghost use Rattle.smk_model.specs.{Looks.line_looks, Profiles.{ShowsDependency, groups_of, looks_of_groups, shown_by}, Replies.reply, Typing.info_at};
 ghost use Rattle.smk_model.specs.Profiles as profiles;
-ghost use Rattle.smk_model.specs.Profiles.{ShowsDependency, groups_of, looks_of_groups, shown_by};
-ghost use Rattle.smk_model.specs.Replies.{reply};
-ghost use Rattle.smk_model.specs.Typing.{info_at};
 ghost use Rattle.smk_profile.specs.Marked.{HasMarks, IsAnsweredByRows, IsMarkLine, with_mark};
-ghost use Rattle.smk_base.specs.declared.reply.Reply.TheVariants.{Back};
 ghost use Rattle.smk_session.specs.Sessions.{state_of};
 
 use smk_base::{Group, Groups, Line, Marks, Reply, Rids, Text, Then};

@@ -1,12 +1,8 @@
 // The answer to an `fd` line.
 ghost use Rattle.std.specs.Prelude.{◌≡◌, ◌≤◌, ◌<◌, ◌+◌, length, Some, IfOk};
-ghost use Rattle.smk_base.specs.CatalogImage.{catalog_image, view_place};
-ghost use Rattle.smk_base.specs.declared.reply.ProfileReply.TheVariants.{Found};
-ghost use Rattle.smk_base.specs.PlanImage.{expr_of};
-ghost use Rattle.smk_model.specs.Dependencies.{dependency_of, plan_of};
-ghost use Rattle.smk_model.specs.Names.{is_taken};
+ghost use Rattle.smk_base.specs.{CatalogImage.{catalog_image, view_place}, declared.reply.ProfileReply.TheVariants.Found, PlanImage.expr_of};
+ghost use Rattle.smk_model.specs.{Dependencies.{dependency_of, plan_of}, Names.is_taken, Profiles.{AreDependencies, ShowsDependency, groups_of, looks_of_groups, shown_by}};
 ghost use Rattle.smk_model.specs.Profiles as profiles;
-ghost use Rattle.smk_model.specs.Profiles.{AreDependencies, ShowsDependency, groups_of, looks_of_groups, shown_by};
 ghost use Rattle.smk_session.specs.Sessions.{state_of};
 
 use crate::marks::{mark_groups, mark_line};

@@ -1,14 +1,9 @@
 -- Numbers whose classes are found by a table that may hold anything.
-use Rattle.std.proofs.Common.{◌≡◌, ℕ, ◌+◌, ◌<◌, ◌≤◌, All, true, List, [], ◌∷◌, ◌++◌, length, map, get_or, set, nat_eq, refl, ap, sym, ◌∙◌, arith, inl, inr, true≢false}
-use Rattle.std.specs.Cmp.{unsigned_Decides}
-use Rattle.std.specs.List.{list_any, position_or_len}
-use Rattle.std.proofs.lemmas.Bool.{cases_Bool, cases_lt}
-use Rattle.std.proofs.lemmas.List.{get_or-map, get_or_default, get_or-set_same, get_or-set_other, get_or_append_left, get_or_push, length-map, length-set, length_push, map_push}
-use Rattle.std.proofs.lemmas.List.Folds.{list_any_at}
+use Rattle.std.proofs.{Common.{◌≡◌, ℕ, ◌+◌, ◌<◌, ◌≤◌, All, true, List, [], ◌∷◌, ◌++◌, length, map, get_or, set, nat_eq, refl, ap, sym, ◌∙◌, arith, inl, inr, true≢false}, lemmas.Bool.{cases_Bool, cases_lt}, lemmas.List.{get_or-map, get_or_default, get_or-set_same, get_or-set_other, get_or_append_left, get_or_push, length-map, length-set, length_push, map_push}, lemmas.List.Folds.list_any_at}
+use Rattle.std.specs.{Cmp.unsigned_Decides, List.{list_any, position_or_len}}
 use Rattle.smk_base.proofs.Codes.{found_at, none_at}
 use Rattle.smk_keys.specs.Classes.{ClassesImage, classing_of}
-use Rattle.smk_keys.proofs.Classing.{classing-classes}
-use Rattle.smk_keys.proofs.Numbered.{IsNumbered, IsNumbered-none, IsNumbered-more, AreClasses-numbered}
+use Rattle.smk_keys.proofs.{Classing.classing-classes, Numbered.{IsNumbered, IsNumbered-none, IsNumbered-more, AreClasses-numbered}}
 
 -- the first n numbers have their classes, and at the number of each class a table has the class
 pub record IsFound (items : List ℕ) (count n : ℕ) (of firsts table : List ℕ) : Type 0 where

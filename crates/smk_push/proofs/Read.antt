@@ -1,19 +1,8 @@
 -- Aggregates over no columns but those that they read.
-use Rattle.std.proofs.Common.{◌≡◌, ◌∙◌, ◌<◌, ◌≤◌, ◌+◌, ◌++◌, ◌∷◌, [], ℕ, pos, Some, None, List, All, length, map, get_or, refl, sym, ap, subst, arith, inl, inr}
-use Rattle.std.proofs.lemmas.Bool.{cases_lt}
-use Rattle.std.proofs.lemmas.List.{get_or-map, get_or_append_left, get_or_default, get_or_push, append-nil, length-append, length-map, length_push, same_lists}
-use Rattle.std.proofs.lemmas.List.Elements.{All-push}
-use Rattle.std.proofs.lemmas.Option.{none-some}
-use Rattle.smk_base.specs.Aggregates.{moved_to, read_by}
-use Rattle.smk_base.specs.Rels.{Relation, kind_in, picked, row_in, rows_at}
-use Rattle.smk_base.specs.declared.book.plan.Agg.{Agg}
-use Rattle.smk_base.specs.declared.book.plan.Agg.TheVariants.{Count}
-use Rattle.smk_base.specs.declared.value.Kind.{Kind}
-use Rattle.smk_base.specs.declared.value.Value.TheVariants.{Int}
+use Rattle.std.proofs.{Common.{◌≡◌, ◌∙◌, ◌<◌, ◌≤◌, ◌+◌, ◌++◌, ◌∷◌, [], ℕ, pos, Some, None, List, All, length, map, get_or, refl, sym, ap, subst, arith, inl, inr}, lemmas.Bool.cases_lt, lemmas.List.{get_or-map, get_or_append_left, get_or_default, get_or_push, append-nil, length-append, length-map, length_push, same_lists}, lemmas.List.Elements.All-push, lemmas.Option.none-some}
+use Rattle.smk_base.specs.{Aggregates.{moved_to, read_by}, Rels.{Relation, kind_in, picked, row_in, rows_at}, declared.book.plan.Agg.Agg, declared.book.plan.Agg.TheVariants.Count, declared.value.Kind.Kind, declared.value.Value.TheVariants.Int}
 use Rattle.smk_base.specs.declared.value.Kind.TheVariants as kinds
-use Rattle.smk_model.specs.Kinds.{AggFits, kind_of_agg}
-use Rattle.smk_model.specs.Plain.{aggregate}
-use Rattle.smk_model.specs.Values.{Row, value_at}
+use Rattle.smk_model.specs.{Kinds.{AggFits, kind_of_agg}, Plain.aggregate, Values.{Row, value_at}}
 use Rattle.smk_model.proofs.Aggregates.{aggregate_of_made, kind_of_moved, moved_fits}
 use Rattle.smk_base.proofs.Places.{map_map}
 use Rattle.smk_body.proofs.Aggregating.{map_where}

@@ -1,30 +1,16 @@
 -- Groupings of the rows at places, list by list, from their keys and the columns that aggregates read.
-use Rattle.std.proofs.Common.{◌≡◌, ◌∙◌, ◌<◌, ◌≤◌, ◌+◌, ◌++◌, ◌∷◌, [], ℕ, suc, Bool, List, All, length, map, take, get_or, slice_index_or, nat_eq, refl, sym, ap, subst, arith}
+use Rattle.std.proofs.{Common.{◌≡◌, ◌∙◌, ◌<◌, ◌≤◌, ◌+◌, ◌++◌, ◌∷◌, [], ℕ, suc, Bool, List, All, length, map, take, get_or, slice_index_or, nat_eq, refl, sym, ap, subst, arith}, lemmas.List.{append-nil, get_or-map, length-map, map-append, take_more}, lemmas.List.Elements.{All-map, All-filter}}
 use Rattle.std.specs.List.{filter}
-use Rattle.std.proofs.lemmas.List.{append-nil, get_or-map, length-map, map-append, take_more}
-use Rattle.std.proofs.lemmas.List.Elements.{All-map, All-filter}
-use Rattle.smk_base.specs.Places.{IsPlaces, has, upto, places}
-use Rattle.smk_base.specs.Rels.{Relation, kind_in, picked, row_in, rows_at, value_in}
-use Rattle.smk_base.specs.declared.book.plan.Agg.{Agg}
-use Rattle.smk_keys.specs.Classes.{ClassesImage, classes_of, classing_of}
-use Rattle.smk_keys.specs.Numbers.{AreNumbers}
-use Rattle.smk_keys.proofs.Firsts.{AreNumbers-classes}
-use Rattle.smk_keys.proofs.Placed.{AreClasses-keys}
-use Rattle.smk_keys.proofs.Rowed.{classes-numbers}
-use Rattle.smk_model.specs.Kinds.{kind_of_agg}
-use Rattle.smk_model.specs.Plain.{aggregate, firsts, grouped, key_of, row_eq}
-use Rattle.smk_model.specs.Values.{Row}
-use Rattle.smk_model.specs.Lineage.{row_at}
-use Rattle.smk_model.proofs.Classes.{classes_are, first_below}
-use Rattle.smk_model.proofs.Bulk.{bulk}
+use Rattle.smk_base.specs.{Places.{IsPlaces, has, upto, places}, Rels.{Relation, kind_in, picked, row_in, rows_at, value_in}, declared.book.plan.Agg.Agg}
+use Rattle.smk_keys.specs.{Classes.{ClassesImage, classes_of, classing_of}, Numbers.AreNumbers}
+use Rattle.smk_keys.proofs.{Firsts.AreNumbers-classes, Placed.AreClasses-keys, Rowed.classes-numbers}
+use Rattle.smk_model.specs.{Kinds.kind_of_agg, Plain.{aggregate, firsts, grouped, key_of, row_eq}, Values.Row, Lineage.row_at}
+use Rattle.smk_model.proofs.{Classes.{classes_are, first_below}, Bulk.bulk}
 use Rattle.smk_base.proofs.Places.{at_places, filter_map, map_map, map_upto, map_upto_agree, places_below, same_below, few_places}
 use Rattle.smk_body.specs.Halves.{AreNumbered, class_places}
-use Rattle.smk_body.proofs.Aggregating.{map_where}
-use Rattle.smk_body.proofs.Besides.{map_same, related, relation}
-use Rattle.smk_body.proofs.Classing.{are_numbered, first_at, length_firsts}
-use Rattle.smk_push.specs.Cubes.{cube_of}
+use Rattle.smk_body.proofs.{Aggregating.map_where, Besides.{map_same, related, relation}, Classing.{are_numbered, first_at, length_firsts}}
+use Rattle.smk_push.specs.{Cubes.cube_of, Inputs.{AreRead, IsInput, cube_from, grouped_at, rids_of}}
 use Rattle.smk_push.proofs.Read.{rows_picked}
-use Rattle.smk_push.specs.Inputs.{AreRead, IsInput, cube_from, grouped_at, rids_of}
 
 -- a set of places below n has at most n
 pub few_in_set : (n : ℕ) (A : List ℕ) → IsPlaces n A → length A ≤ n

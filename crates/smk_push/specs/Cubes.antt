@@ -1,12 +1,7 @@
 -- A grouping of the rows of a table, at each list of a map.
 use Rattle.std.specs.Prelude.{ℕ, List, [], map, slice_index_or}
-use Rattle.smk_base.specs.Places.{Lists}
-use Rattle.smk_base.specs.Plans.{Grouping}
-use Rattle.smk_base.specs.Rels.{Relation}
-use Rattle.smk_base.specs.declared.book.plan.Agg.{Agg}
-use Rattle.smk_model.specs.Kinds.{kinds1}
-use Rattle.smk_model.specs.Lineage.{sub}
-use Rattle.smk_model.specs.Plain.{step1}
+use Rattle.smk_base.specs.{Places.Lists, Plans.Grouping, Rels.Relation, declared.book.plan.Agg.Agg}
+use Rattle.smk_model.specs.{Kinds.kinds1, Lineage.sub, Plain.step1}
 
 -- the grouping of the rows of a table at some rids
 abbrev pub cube_of : Relation → List ℕ → List Agg → List ℕ → Relation

@@ -1,13 +1,8 @@
 -- What the groupings of the rows at any rids are made from.
-use Rattle.std.specs.Prelude.{◌≡◌, ℕ, ◌+◌, ◌<◌, ◌≤◌, List, ◌++◌, length, map, All}
-use Rattle.std.specs.List.{filter}
-use Rattle.smk_base.specs.Rels.{Relation, row_in, rows_at}
-use Rattle.smk_base.specs.declared.book.plan.Agg.{Agg}
-use Rattle.smk_base.specs.declared.rel.TheConstants.{COLUMN_LIMIT}
+use Rattle.std.specs.{Prelude.{◌≡◌, ℕ, ◌+◌, ◌<◌, ◌≤◌, List, ◌++◌, length, map, All}, List.filter}
+use Rattle.smk_base.specs.{Rels.{Relation, row_in, rows_at}, declared.book.plan.Agg.Agg, declared.rel.TheConstants.COLUMN_LIMIT}
 use Rattle.smk_keys.specs.Classes.{ClassesImage, classes_of}
-use Rattle.smk_model.specs.Kinds.{AggFits, kind_of_agg}
-use Rattle.smk_model.specs.Plain.{aggregate, firsts, row_eq}
-use Rattle.smk_model.specs.Values.{Row}
+use Rattle.smk_model.specs.{Kinds.{AggFits, kind_of_agg}, Plain.{aggregate, firsts, row_eq}, Values.Row}
 
 -- rows of fewer columns, and aggregates over them that give what others give over the rows of a relation at any places
 pub record AreRead (all : Relation) (aggs : List Agg) (rows : Relation) (over : List Agg) : Type 0 where

@@ -1,6 +1,5 @@
 //! The classes of some of the rows whose classes are known.
-ghost use Rattle.std.specs.Prelude.{◌≡◌, ◌<◌, ◌≤◌, true, length, map, nat_eq, All, IfOk, slice_index, slice_index_or};
-ghost use Rattle.std.specs.Bool.{OnTrue};
+ghost use Rattle.std.specs.{Prelude.{◌≡◌, ◌<◌, ◌≤◌, true, length, map, nat_eq, All, IfOk, slice_index, slice_index_or}, Bool.OnTrue};
 ghost use Rattle.smk_base.specs.declared.rel.TheConstants.{ROW_LIMIT};
 ghost use Rattle.smk_keys.specs.Classes.{classing_of};
 

@@ -1,12 +1,9 @@
 //! One grouping: the groups of some rows.
 ghost use Rattle.std.specs.Prelude.{◌≡◌, ◌<◌, ◌≤◌, ◌+◌, ◌++◌, length, map, All, IfOk};
-ghost use Rattle.smk_base.specs.Places.{upto};
-ghost use Rattle.smk_base.specs.Rels.{row_in, rows_at};
-ghost use Rattle.smk_base.specs.declared.rel.TheConstants.{COLUMN_LIMIT, ROW_LIMIT};
+ghost use Rattle.smk_base.specs.{Places.upto, Rels.{row_in, rows_at}, declared.rel.TheConstants.{COLUMN_LIMIT, ROW_LIMIT}};
 ghost use Rattle.smk_body.specs.Halves.{AreNumbered, class_places};
 ghost use Rattle.smk_keys.specs.Classes.{classes_of};
-ghost use Rattle.smk_model.specs.Kinds.{AggFits, kind_of_agg};
-ghost use Rattle.smk_model.specs.Plain.{aggregate};
+ghost use Rattle.smk_model.specs.{Kinds.{AggFits, kind_of_agg}, Plain.aggregate};
 ghost use Rattle.smk_push.specs.Inputs.{IsInput, cube_from};
 
 use crate::classes::number_classes;

@@ -2,8 +2,7 @@
 ghost use Rattle.std.specs.Prelude.{◌≡◌, ◌<◌, ◌≤◌, ℕ, List, length, All, IfOk};
 ghost use Rattle.smk_base.specs.declared.rel.TheConstants.{COLUMN_LIMIT};
 ghost use Rattle.smk_model.specs.Kinds.{AggFits, GroupFits};
-ghost use Rattle.smk_push.specs.Cubes.{cube_of};
-ghost use Rattle.smk_push.specs.Inputs.{AreRead, IsInput, cube_from};
+ghost use Rattle.smk_push.specs.{Cubes.cube_of, Inputs.{AreRead, IsInput, cube_from}};
 
 use smk_base::{Agg, Aggs, Rel, numbers_below};
 use smk_keys::Classes;

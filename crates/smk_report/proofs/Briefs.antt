@@ -1,15 +1,9 @@
 -- The text of a reply without its lists of rids and marks is that of any reply with the same contents and as many rids.
-use Rattle.std.proofs.Common.{◌≡◌, ◌∙◌, ℕ, List, ◌++◌, map, refl, ap, sym}
+use Rattle.std.proofs.{Common.{◌≡◌, ◌∙◌, ℕ, List, ◌++◌, map, refl, ap, sym}, lemmas.List.Folds.flat_map-map}
 use Rattle.std.specs.List.{flat_map}
-use Rattle.std.proofs.lemmas.List.Folds.{flat_map-map}
-use Rattle.smk_base.specs.CatalogImage.{CatalogImage}
-use Rattle.smk_base.specs.declared.book.tree.Line.{Line}
-use Rattle.smk_base.specs.declared.reply.Linked.{Linked}
-use Rattle.smk_base.specs.declared.reply.Reply.{Reply}
+use Rattle.smk_base.specs.{CatalogImage.CatalogImage, declared.book.tree.Line.Line, declared.reply.Linked.Linked, declared.reply.Reply.Reply}
 use Rattle.smk_base.specs.declared.reply.Reply.TheVariants as replies
-use Rattle.smk_model.specs.OwnTexts.{brief_text, brushed_rids, unlisted, without_marks}
-use Rattle.smk_model.specs.ReplyTexts.{cleared_line, linked_rows_text, reply_text, table_in, view_in}
-use Rattle.smk_model.specs.Texts.{brush_heading}
+use Rattle.smk_model.specs.{OwnTexts.{brief_text, brushed_rids, unlisted, without_marks}, ReplyTexts.{cleared_line, linked_rows_text, reply_text, table_in, view_in}, Texts.brush_heading}
 
 -- the text of a reply, where it selects so many rids
 abbrev pub brief_of : CatalogImage → Line → ℕ → Reply → List ℕ

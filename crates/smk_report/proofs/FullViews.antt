@@ -1,9 +1,7 @@
 -- What a refusal that a line can have keeps.
 use Rattle.std.proofs.Common.{◌<◌, ℕ, length}
-use Rattle.smk_base.specs.CatalogImage.{CatalogImage}
-use Rattle.smk_base.specs.declared.book.tree.Line.{Line}
+use Rattle.smk_base.specs.{CatalogImage.CatalogImage, declared.book.tree.Line.Line, declared.reply.Refusal.TheVariants.RowsLimit}
 use Rattle.smk_base.specs.declared.book.tree.Line.TheVariants as lines
-use Rattle.smk_base.specs.declared.reply.Refusal.TheVariants.{RowsLimit}
 use Rattle.smk_model.specs.ReplyTexts.{IsRefusalOf}
 
 -- a view with too many rows is one of the catalog

@@ -1,9 +1,7 @@
 -- Lists of numbers, each written behind a space.
-use Rattle.std.proofs.Common.{◌≡◌, ◌∙◌, ◌≤◌, ◌+◌, ◌-◌, ◌++◌, ◌∷◌, [], ℕ, List, take, drop, length, codes, decimal, refl, ap, ap₂, sym, arith, append_assoc, take-add}
+use Rattle.std.proofs.{Common.{◌≡◌, ◌∙◌, ◌≤◌, ◌+◌, ◌-◌, ◌++◌, ◌∷◌, [], ℕ, List, take, drop, length, codes, decimal, refl, ap, ap₂, sym, arith, append_assoc, take-add}, lemmas.List.{take_all, take_rest}, lemmas.List.Concat.flat_map-append}
 use Rattle.std.specs.List.{flat_map}
 use Rattle.smk_model.specs.Texts.{line}
-use Rattle.std.proofs.lemmas.List.{take_all, take_rest}
-use Rattle.std.proofs.lemmas.List.Concat.{flat_map-append}
 
 abbrev pub spaced : List ℕ → List ℕ
 spaced = flat_map (λ n. codes " " ++ decimal n)

@@ -1,15 +1,11 @@
 -- How a page goes on, field by field and record by record.
-use Rattle.std.proofs.Common.{◌≡◌, ◌≢◌, ◌∙◌, ◌<◌, ◌+◌, ◌-◌, ◌^◌, ◌==◌, ◌++◌, ◌∷◌, [], ℕ, zero, suc, List, true, false, length, take, get_or, min, refl, sym, ap, subst, arith, append-nil, append_assoc, length-append}
-use Rattle.std.specs.Prelude.{if◌then◌else◌, ◌||◌, not, Result, Ok, Err, OnOk, is_ok}
-use Rattle.std.proofs.lemmas.Bool.{ne_eqb}
-use Rattle.std.proofs.lemmas.List.{take_more}
+use Rattle.std.proofs.{Common.{◌≡◌, ◌≢◌, ◌∙◌, ◌<◌, ◌+◌, ◌-◌, ◌^◌, ◌==◌, ◌++◌, ◌∷◌, [], ℕ, zero, suc, List, true, false, length, take, get_or, min, refl, sym, ap, subst, arith, append-nil, append_assoc, length-append}, lemmas.Bool.ne_eqb, lemmas.List.take_more}
+use Rattle.std.specs.{Prelude.{if◌then◌else◌, ◌||◌, not, Result, Ok, Err, OnOk, is_ok}, List.list_any}
 use Rattle.csv.specs.Writing.{default_writer, escaped, field_text, fields_text, fields_written, has_written, is_blank, needs_byte, next_sep, row_body, row_text, tail_text, writer_setup}
-use Rattle.std.specs.List.{list_any}
 use Rattle.csv.specs.declared.writer.QuoteStyle.TheVariants as style
 use Rattle.csv.proofs.WriteFacts.{blank-more, row-more}
 use Rattle.smk_model.specs.Texts.{record_line}
-use Rattle.smk_report.specs.Pages.{Adds, Says, page_writer, written_by}
-use Rattle.smk_report.specs.declared.page.Page.{Page}
+use Rattle.smk_report.specs.{Pages.{Adds, Says, page_writer, written_by}, declared.page.Page.Page}
 
 -- a record is written the same where records may have any length
 same_escaped : (field : List ℕ) → escaped page_writer field ≡ escaped default_writer field

@@ -1,20 +1,11 @@
 -- Lists as the loops over a line's parts and a row's columns go on.
-use Rattle.std.proofs.Common.{◌≡◌, ◌∙◌, ◌<◌, ◌≤◌, ◌+◌, ◌++◌, ◌∷◌, [], ℕ, zero, suc, List, length, map, take, get_or, refl, sym, ap, ap₂, subst, Bor, arith, append-nil, add-one, decimal}
+use Rattle.std.proofs.{Common.{◌≡◌, ◌∙◌, ◌<◌, ◌≤◌, ◌+◌, ◌++◌, ◌∷◌, [], ℕ, zero, suc, List, length, map, take, get_or, refl, sym, ap, ap₂, subst, Bor, arith, append-nil, add-one, decimal}, Math.Path.fun_ext, lemmas.List.{take_more, take_all, map-append, flat_map_more, get_or-take, length-take-le}, lemmas.List.Elements.All-get_or, lemmas.List.Concat.flat_map-append}
 use Rattle.std.specs.List.{flat_map, AllZip}
-use Rattle.std.proofs.Math.Path.{fun_ext}
-use Rattle.std.proofs.lemmas.List.{take_more, take_all, map-append, flat_map_more, get_or-take, length-take-le}
-use Rattle.std.proofs.lemmas.List.Elements.{All-get_or}
-use Rattle.std.proofs.lemmas.List.Concat.{flat_map-append}
-use Rattle.smk_base.specs.declared.value.Value.{Value}
-use Rattle.smk_base.specs.declared.value.Kind.{Kind}
-use Rattle.smk_base.specs.Rels.{Relation, IsRelation, RowFits, Fits, row_in, value_in}
+use Rattle.smk_base.specs.{declared.value.Value.Value, declared.value.Kind.Kind, Rels.{Relation, IsRelation, RowFits, Fits, row_in, value_in}}
 use Rattle.smk_base.specs.declared.value.Value.TheVariants as values
-use Rattle.smk_model.specs.Values.{Row}
-use Rattle.smk_report.specs.Pages.{Adds}
-use Rattle.smk_report.specs.declared.page.Page.{Page}
+use Rattle.smk_model.specs.{Values.Row, Lineage.upto, Texts.{value_text, record_line, row_lines, row_lines_to}}
+use Rattle.smk_report.specs.{Pages.Adds, declared.page.Page.Page}
 use Rattle.smk_report.proofs.PageTexts.{adds_then}
-use Rattle.smk_model.specs.Lineage.{upto}
-use Rattle.smk_model.specs.Texts.{value_text, record_line, row_lines, row_lines_to}
 
 -- one more part
 pub joined_more : (parts : List (Bor (List ℕ))) (i : ℕ) (part : Bor (List ℕ)) → i < length parts → part ≡ get_or parts i part

@@ -1,12 +1,10 @@
 -- Pieces of the records of rows, put behind one another.
-use Rattle.std.proofs.Common.{◌≡◌, ◌∙◌, ◌<◌, ◌≤◌, ◌+◌, ◌-◌, ◌++◌, ◌∷◌, [], ℕ, zero, suc, List, length, map, drop, sym, ap, arith, append-nil, append_assoc, decimal}
+use Rattle.std.proofs.{Common.{◌≡◌, ◌∙◌, ◌<◌, ◌≤◌, ◌+◌, ◌-◌, ◌++◌, ◌∷◌, [], ℕ, zero, suc, List, length, map, drop, sym, ap, arith, append-nil, append_assoc, decimal}, lemmas.List.get_or-drop}
 use Rattle.std.specs.List.{AllZip, flat_map, range_with_len}
-use Rattle.std.proofs.lemmas.List.{get_or-drop}
 use Rattle.smk_base.specs.Rels.{row_in}
 use Rattle.smk_jobs.specs.Cuts.{cut_at}
 use Rattle.smk_jobs.proofs.Cutting.{cut_first, cut_last}
-use Rattle.smk_model.specs.Values.{Row}
-use Rattle.smk_model.specs.Texts.{record_line, value_text, row_lines_to}
+use Rattle.smk_model.specs.{Values.Row, Texts.{record_line, value_text, row_lines_to}}
 use Rattle.smk_report.specs.PieceTexts.{IsPiece}
 use Rattle.smk_report.proofs.Parts.{lines_more}
 

@@ -1,9 +1,6 @@
 -- A page: a text, and behind it the record that is being written.
-use Rattle.std.specs.Prelude.{◌≡◌, ◌==◌, ◌||◌, ◌&&◌, ◌-◌, ◌^◌, ℕ, true, not, min, List, [], ◌∷◌, ◌++◌, length, Vec}
-use Rattle.std.specs.declared.alloc.Global.{Global}
-use Rattle.csv.specs.Writing.{default_writer, fields_written, has_written, is_blank, row_body, writer_pending, with_flexible, writer_setup, writer_under}
-use Rattle.csv.specs.declared.writer.Writer.{Writer}
-use Rattle.csv.specs.declared.writer.WriterBuilder.{WriterBuilder}
+use Rattle.std.specs.{Prelude.{◌≡◌, ◌==◌, ◌||◌, ◌&&◌, ◌-◌, ◌^◌, ℕ, true, not, min, List, [], ◌∷◌, ◌++◌, length, Vec}, declared.alloc.Global.Global}
+use Rattle.csv.specs.{Writing.{default_writer, fields_written, has_written, is_blank, row_body, writer_pending, with_flexible, writer_setup, writer_under}, declared.writer.Writer.Writer, declared.writer.WriterBuilder.WriterBuilder}
 use Rattle.smk_report.specs.declared.page.Page.{Page}
 
 -- how a page's writer writes: as csv's writer does with its defaults, and records of any length

@@ -1,9 +1,7 @@
 -- Pieces of the records of rows.
-use Rattle.std.specs.Prelude.{◌≡◌, ℕ, ◌+◌, List, ◌++◌, Option, None, Some, length, slice_index_or}
-use Rattle.std.specs.Borrow.{Bor}
+use Rattle.std.specs.{Prelude.{◌≡◌, ℕ, ◌+◌, List, ◌++◌, Option, None, Some, length, slice_index_or}, Borrow.Bor}
 use Rattle.smk_jobs.specs.Cuts.{cut_at}
-use Rattle.smk_model.specs.Values.{Row}
-use Rattle.smk_model.specs.Texts.{row_lines_to}
+use Rattle.smk_model.specs.{Values.Row, Texts.row_lines_to}
 
 -- the number of the record of row i: the rid at its place where rids are given, and else the place
 abbrev pub number_in : Option (Bor (List ℕ)) → ℕ → ℕ

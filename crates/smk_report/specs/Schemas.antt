@@ -1,11 +1,7 @@
 -- What there is, by how many rows tables and views have.
-use Rattle.std.specs.Prelude.{ℕ, List, ◌++◌, length, slice_index_or}
-use Rattle.std.specs.List.{flat_map}
-use Rattle.smk_base.specs.CatalogImage.{CatalogImage, ViewImage}
-use Rattle.smk_base.specs.Places.{upto}
-use Rattle.smk_model.specs.OwnTexts.{table_info_text, view_info_text, declarations_text, schema_line}
-use Rattle.smk_model.specs.Session.{view_at}
-use Rattle.smk_model.specs.Typing.{info_at}
+use Rattle.std.specs.{Prelude.{ℕ, List, ◌++◌, length, slice_index_or}, List.flat_map}
+use Rattle.smk_base.specs.{CatalogImage.{CatalogImage, ViewImage}, Places.upto}
+use Rattle.smk_model.specs.{OwnTexts.{table_info_text, view_info_text, declarations_text, schema_line}, Session.view_at, Typing.info_at}
 
 -- the texts with these numbers of rows in the places of tables and of views
 abbrev pub tables_over : CatalogImage → List ℕ → List ℕ

@@ -3,8 +3,7 @@ ghost use Rattle.smk_base.specs.declared.fault.Fault.TheVariants as faults;
 ghost use Rattle.smk_base.specs.declared.fault.BookFault.TheVariants as book;
 ghost use Rattle.smk_base.specs.declared.fault.TableFault.TheVariants as table_faults;
 ghost use Rattle.smk_model.specs.FaultTexts as texts;
-ghost use Rattle.smk_model.specs.ShownNames.{shown as shown_name};
-ghost use Rattle.smk_model.specs.Texts.{line};
+ghost use Rattle.smk_model.specs.{ShownNames.shown as shown_name, Texts.line};
 
 use crate::lines::{line_around, line_of, pair_text};
 use crate::names::shown;

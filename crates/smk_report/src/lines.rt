@@ -1,5 +1,4 @@
-ghost use Rattle.std.specs.Prelude.{◌≡◌, ◌≤◌, ◌+◌, ◌*◌, ◌++◌, ◌∷◌, [], length, map, drop, decimal, codes, IfOk, OnOk};
-ghost use Rattle.std.specs.List.{flat_map};
+ghost use Rattle.std.specs.{Prelude.{◌≡◌, ◌≤◌, ◌+◌, ◌*◌, ◌++◌, ◌∷◌, [], length, map, drop, decimal, codes, IfOk, OnOk}, List.flat_map};
 ghost use Rattle.smk_model.specs.Texts as texts;
 
 use itoa::{Buffer, write_digits};

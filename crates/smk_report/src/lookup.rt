@@ -1,11 +1,9 @@
 // What a line names, as the catalog has it.
-ghost use Rattle.std.specs.Prelude.{◌≡◌, ◌<◌, None, length, cond, option_map};
-ghost use Rattle.std.specs.Option.{option_copied};
+ghost use Rattle.std.specs.{Prelude.{◌≡◌, ◌<◌, None, length, cond, option_map}, Option.option_copied};
 ghost use Rattle.smk_base.specs.CatalogImage.{catalog_image, view_image};
-ghost use Rattle.smk_model.specs.Replies.{grouping_in, grouping_of};
+ghost use Rattle.smk_model.specs.{Replies.{grouping_in, grouping_of}, Workload.is_back};
 ghost use Rattle.smk_model.specs.ReplyTexts as texts;
 ghost use Rattle.smk_model.specs.Session as session;
-ghost use Rattle.smk_model.specs.Workload.{is_back};
 
 use smk_base::{Back, BackExtra, Catalog, ColNames, TableInfo, Text, ViewInfo};
 

@@ -1,6 +1,4 @@
-ghost use Rattle.std.specs.Prelude.{◌≡◌, nat_eq, IfOk};
-ghost use Rattle.std.specs.List.{list_any, list_all};
-ghost use Rattle.std.specs.Cmp.Lexicographic.{pointwise};
+ghost use Rattle.std.specs.{Prelude.{◌≡◌, nat_eq, IfOk}, List.{list_any, list_all}, Cmp.Lexicographic.pointwise};
 ghost use Rattle.smk_model.specs.ShownNames as names;
 ghost use Rattle.smk_model.specs.Tokens.{is_letter, is_word_byte};
 

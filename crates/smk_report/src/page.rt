@@ -22,8 +22,7 @@ pub struct Page {
 }
 
 impl Page {
-    ghost use Rattle.std.specs.Prelude.{◌≡◌, ◌++◌, [], ℕ, List, decimal, IfOk, OnOk};
-    ghost use Rattle.std.specs.Fmt.{signed_decimal};
+    ghost use Rattle.std.specs.{Prelude.{◌≡◌, ◌++◌, [], ℕ, List, decimal, IfOk, OnOk}, Fmt.signed_decimal};
     ghost use Rattle.smk_base.specs.Cells.{value_of_cell};
     ghost use Rattle.smk_model.specs.Texts.{record_line, value_text};
     ghost use Rattle.smk_report.specs.Pages.{Says, AddsField};

@@ -1,8 +1,6 @@
 // The texts of many rows, which are written in pieces, in threads.
-ghost use Rattle.std.specs.Prelude.{◌≡◌, ◌<◌, ◌≤◌, ◌++◌, length, map, IfOk, IfSome, OnOk};
-ghost use Rattle.std.specs.List.{AllZip, flat_map, range_with_len};
-ghost use Rattle.smk_base.specs.CatalogImage.{catalog_image};
-ghost use Rattle.smk_base.specs.declared.workers.TheConstants.{WORKER_LIMIT};
+ghost use Rattle.std.specs.{Prelude.{◌≡◌, ◌<◌, ◌≤◌, ◌++◌, length, map, IfOk, IfSome, OnOk}, List.{AllZip, flat_map, range_with_len}};
+ghost use Rattle.smk_base.specs.{CatalogImage.catalog_image, declared.workers.TheConstants.WORKER_LIMIT};
 ghost use Rattle.smk_model.specs.ReplyTexts as replies;
 ghost use Rattle.smk_model.specs.Texts as texts;
 ghost use Rattle.smk_report.specs.PieceTexts.{IsPiece, number_in};

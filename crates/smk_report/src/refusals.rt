@@ -1,17 +1,10 @@
 // Why a line is refused.
 ghost use Rattle.std.specs.Prelude.{◌≡◌, ◌<◌, ◌∷◌, [], length, codes, decimal, IfOk};
-ghost use Rattle.smk_base.specs.CatalogImage.{catalog_image};
-ghost use Rattle.smk_base.specs.TreeImage.{ask_image};
+ghost use Rattle.smk_base.specs.{CatalogImage.catalog_image, TreeImage.ask_image};
 ghost use Rattle.smk_base.specs.declared.reply.Refusal.TheVariants as refusals;
-ghost use Rattle.smk_model.specs.Asks.{back_line};
+ghost use Rattle.smk_model.specs.{Asks.back_line, AskTexts.IsAskRefusalOf, FaultTexts.type_words, Session.view_at, ShownNames.shown as shown_name, Texts.line, Typing.nothing_declared};
 ghost use Rattle.smk_model.specs.AskTexts as asks;
-ghost use Rattle.smk_model.specs.AskTexts.{IsAskRefusalOf};
-ghost use Rattle.smk_model.specs.FaultTexts.{type_words};
 ghost use Rattle.smk_model.specs.ReplyTexts as texts;
-ghost use Rattle.smk_model.specs.Session.{view_at};
-ghost use Rattle.smk_model.specs.ShownNames.{shown as shown_name};
-ghost use Rattle.smk_model.specs.Texts.{line};
-ghost use Rattle.smk_model.specs.Typing.{nothing_declared};
 
 use crate::faults::type_words as fault_words;
 use crate::lines::{line_around, line_of, pair_text};

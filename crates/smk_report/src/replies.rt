@@ -1,8 +1,6 @@
-ghost use Rattle.std.specs.Prelude.{◌≡◌, ◌++◌, All, IfOk};
-ghost use Rattle.std.specs.List.{flat_map};
-ghost use Rattle.smk_base.specs.CatalogImage.{catalog_image};
+ghost use Rattle.std.specs.{Prelude.{◌≡◌, ◌++◌, All, IfOk}, List.flat_map};
+ghost use Rattle.smk_base.specs.{CatalogImage.catalog_image, declared.reply.Reply.Reply as ReplyShape};
 ghost use Rattle.smk_model.specs.ReplyTexts as texts;
-ghost use Rattle.smk_base.specs.declared.reply.Reply.{Reply as ReplyShape};
 ghost use Rattle.smk_model.specs.OwnTexts as own;
 ghost use Rattle.smk_model.specs.Texts.{brush_heading, brush_text};
 

@@ -1,12 +1,9 @@
 // The text of what there is: tables and views with their rows and columns, and the declarations of a book.
-ghost use Rattle.std.specs.Prelude.{◌≡◌, ◌<◌, ◌++◌, ◌∷◌, [], All, length, map, codes, IfOk, OnOk};
-ghost use Rattle.std.specs.List.{flat_map};
+ghost use Rattle.std.specs.{Prelude.{◌≡◌, ◌<◌, ◌++◌, ◌∷◌, [], All, length, map, codes, IfOk, OnOk}, List.flat_map};
 ghost use Rattle.smk_base.specs.CatalogImage.{catalog_image};
-ghost use Rattle.smk_model.specs.Catalogs.{BackFits, FwdFits, LinkFits, IsCatalog};
+ghost use Rattle.smk_model.specs.{Catalogs.{BackFits, FwdFits, LinkFits, IsCatalog}, Session.view_at as session_view_at, Typing.column_of};
 ghost use Rattle.smk_model.specs.OwnTexts as texts;
-ghost use Rattle.smk_model.specs.Session.{view_at as session_view_at};
 ghost use Rattle.smk_model.specs.Texts as lines;
-ghost use Rattle.smk_model.specs.Typing.{column_of};
 ghost use Rattle.smk_report.specs.Pages.{Adds, Says};
 ghost use Rattle.smk_report.specs.Schemas as schemas;
 

@@ -1,9 +1,7 @@
 ghost use Rattle.std.specs.Prelude.{◌≡◌, ◌<◌, ◌≤◌, ◌+◌, ◌++◌, ◌∷◌, [], length, map, take, drop, codes, decimal, IfOk, IfSome, OnOk, slice_index_or};
-ghost use Rattle.smk_base.specs.Rels.{row_in, IsRelation};
-ghost use Rattle.smk_base.specs.declared.rel.TheConstants.{COLUMN_LIMIT, ROW_LIMIT};
+ghost use Rattle.smk_base.specs.{Rels.{row_in, IsRelation}, declared.rel.TheConstants.{COLUMN_LIMIT, ROW_LIMIT}};
 ghost use Rattle.smk_model.specs.Texts as texts;
-ghost use Rattle.smk_report.specs.Pages.{Adds, Says};
-ghost use Rattle.smk_report.specs.PieceTexts.{number_in};
+ghost use Rattle.smk_report.specs.{Pages.{Adds, Says}, PieceTexts.number_in};
 
 use crate::lines::line_around;
 use crate::page::Page;

@@ -1,16 +1,8 @@
 -- Lists of at most one rid.
-use Rattle.std.proofs.Common.{◌≡◌, ◌∙◌, ◌<◌, ◌≤◌, ℕ, zero, suc, length, List, [], ◌∷◌, ◌++◌, refl, sym, ap, map, arith, get_or, set, take, drop, Option, None, Some, inl, inr}
-use Rattle.std.proofs.lemmas.Bool.{cases_eq, eq-eqb, ne_eqb}
-use Rattle.std.specs.Option.{option_to_list, IfSome}
-use Rattle.std.specs.List.{All}
-use Rattle.std.proofs.Math.ListN.{replicate}
-use Rattle.std.proofs.lemmas.List.{length-map, map-append, length-take-le, length-drop, length-replicate, same_lists, get_or-map, map-set}
-use Rattle.std.proofs.lemmas.List.Elements.{All-map, All-weaker, All-take, All-drop, All-replicate}
-use Rattle.std.proofs.lemmas.List.Sums.{sum_by-le, sum_by-take-drop, sum_by-cons}
-use Rattle.std.proofs.lemmas.List.Folds.{sum_by-replicate}
+use Rattle.std.proofs.{Common.{◌≡◌, ◌∙◌, ◌<◌, ◌≤◌, ℕ, zero, suc, length, List, [], ◌∷◌, ◌++◌, refl, sym, ap, map, arith, get_or, set, take, drop, Option, None, Some, inl, inr}, lemmas.Bool.{cases_eq, eq-eqb, ne_eqb}, Math.ListN.replicate, lemmas.List.{length-map, map-append, length-take-le, length-drop, length-replicate, same_lists, get_or-map, map-set}, lemmas.List.Elements.{All-map, All-weaker, All-take, All-drop, All-replicate}, lemmas.List.Sums.{sum_by-le, sum_by-take-drop, sum_by-cons}, lemmas.List.Folds.sum_by-replicate}
+use Rattle.std.specs.{Option.{option_to_list, IfSome}, List.All}
 use Rattle.smk_base.specs.Places.{upto, IsPlaces, pairs_of, own_lists, empty_lists}
-use Rattle.smk_rid.specs.Maps.{IsMap, IsSingle, array_lists}
-use Rattle.smk_rid.specs.Packing.{one_of}
+use Rattle.smk_rid.specs.{Maps.{IsMap, IsSingle, array_lists}, Packing.one_of}
 use Rattle.smk_rid.proofs.Packs.{one_is}
 use Rattle.smk_base.proofs.Places.{no_place, upto_below, length_upto, one_place}
 

@@ -1,12 +1,6 @@
 -- What stands for lists of at most one rid.
-use Rattle.std.proofs.Common.{◌≡◌, ◌∙◌, ◌<◌, ◌+◌, ◌-◌, ℕ, suc, length, List, [], ◌∷◌, ◌++◌, refl, sym, ap, map, arith, get_or, take, drop, nat_lt, Bool, cond}
+use Rattle.std.proofs.{Common.{◌≡◌, ◌∙◌, ◌<◌, ◌+◌, ◌-◌, ℕ, suc, length, List, [], ◌∷◌, ◌++◌, refl, sym, ap, map, arith, get_or, take, drop, nat_lt, Bool, cond}, Math.ListN.replicate, lemmas.Bool.ne_eqb, lemmas.List.{length-map, get_or-map, take_more, drop_more, append-nil, append_assoc}, lemmas.List.Elements.filter_more, lemmas.List.Sums.sum_by_more, lemmas.Grind.flat_map-append}
 use Rattle.std.specs.List.{flat_map, filter}
-use Rattle.std.proofs.Math.ListN.{replicate}
-use Rattle.std.proofs.lemmas.Bool.{ne_eqb}
-use Rattle.std.proofs.lemmas.List.{length-map, get_or-map, take_more, drop_more, append-nil, append_assoc}
-use Rattle.std.proofs.lemmas.List.Elements.{filter_more}
-use Rattle.std.proofs.lemmas.List.Sums.{sum_by_more}
-use Rattle.std.proofs.lemmas.Grind.{flat_map-append}
 use Rattle.smk_base.specs.Places.{pairs_of, upto}
 use Rattle.smk_rid.specs.Packing.{one_of}
 use Rattle.smk_base.proofs.Places.{get_or_upto}

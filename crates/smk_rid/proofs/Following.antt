@@ -1,13 +1,9 @@
 -- Lists behind lists.
-use Rattle.std.proofs.Common.{◌≡◌, ◌<◌, ◌≤◌, ◌+◌, ℕ, length, List, [], ◌∷◌, refl, map, arith}
+use Rattle.std.proofs.{Common.{◌≡◌, ◌<◌, ◌≤◌, ◌+◌, ℕ, length, List, [], ◌∷◌, refl, map, arith}, lemmas.List.{length-map, length-append, get_or-map}, lemmas.List.Elements.{All-map, All-append, All-weaker}, lemmas.List.Sums.{sum_by-append, sum_by-cons}}
 use Rattle.std.specs.List.{All}
-use Rattle.std.proofs.lemmas.List.{length-map, length-append, get_or-map}
-use Rattle.std.proofs.lemmas.List.Elements.{All-map, All-append, All-weaker}
-use Rattle.std.proofs.lemmas.List.Sums.{sum_by-append, sum_by-cons}
 use Rattle.smk_base.specs.Places.{Lists, IsPlaces, pairs_of, followed}
 use Rattle.smk_rid.specs.Maps.{IsMap, IsSingle}
-use Rattle.smk_rid.proofs.Sets.{is_below, lifted, set_rises}
-use Rattle.smk_rid.proofs.Rising.{rising_is}
+use Rattle.smk_rid.proofs.{Sets.{is_below, lifted, set_rises}, Rising.rising_is}
 
 -- a set whose places are moved
 moved_set : (by n : ℕ) (A : List ℕ) → IsPlaces n A → IsPlaces (by + n) (map (λ i. by + i) A)

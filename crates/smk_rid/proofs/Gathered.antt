@@ -1,12 +1,8 @@
 -- Numbers put one behind the other, none where it stands last already.
-use Rattle.std.proofs.Common.{◌≡◌, ◌∙◌, ◌<◌, ◌-◌, ℕ, Bool, true, length, List, sym, get_or}
-use Rattle.std.specs.Prelude.{IsTrue}
-use Rattle.std.specs.List.{All, AllPairs, flat_map, list_any}
-use Rattle.std.proofs.lemmas.List.Elements.{All-contains, Contains-get_or}
+use Rattle.std.proofs.{Common.{◌≡◌, ◌∙◌, ◌<◌, ◌-◌, ℕ, Bool, true, length, List, sym, get_or}, lemmas.List.Elements.{All-contains, Contains-get_or}}
+use Rattle.std.specs.{Prelude.IsTrue, List.{All, AllPairs, flat_map, list_any}}
 use Rattle.smk_base.specs.Places.{Lists, IsPlaces, has, list_at, members_at}
-use Rattle.smk_rid.proofs.Rising.{has_from, member_from, rising_is}
-use Rattle.smk_rid.proofs.Joins.{has-flat_map}
-use Rattle.smk_rid.proofs.Through.{flat_below}
+use Rattle.smk_rid.proofs.{Rising.{has_from, member_from, rising_is}, Joins.has-flat_map, Through.flat_below}
 use Rattle.smk_base.proofs.Places.{same_below}
 
 -- the rids so far are those that a test finds, none is above the number but where they don't rise, and the last one is one below it

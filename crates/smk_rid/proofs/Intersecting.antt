@@ -1,12 +1,7 @@
 -- What two ascending lists have in common, in one pass over both.
-use Rattle.std.proofs.Common.{◌≡◌, ℕ, ◌+◌, ◌<◌, ◌≤◌, ◌-◌, ◌&&◌, refl, All, Bool, true, false, cond, List, [], ◌∷◌, ◌++◌, length, take, get_or, ap, sym, ◌∙◌, arith, nat_eq, inl, inr}
+use Rattle.std.proofs.{Common.{◌≡◌, ℕ, ◌+◌, ◌<◌, ◌≤◌, ◌-◌, ◌&&◌, refl, All, Bool, true, false, cond, List, [], ◌∷◌, ◌++◌, length, take, get_or, ap, sym, ◌∙◌, arith, nat_eq, inl, inr}, lemmas.Bool.{cases_lt, eq-eqb, ne_eqb}, lemmas.List.{append-nil, get_or_default}, lemmas.List.Elements.{All-weaker, filter_more}, lemmas.List.Folds.{list_any_at, list_any_none}}
 use Rattle.std.specs.List.{filter}
-use Rattle.std.proofs.lemmas.Bool.{cases_lt, eq-eqb, ne_eqb}
-use Rattle.std.proofs.lemmas.List.{append-nil, get_or_default}
-use Rattle.std.proofs.lemmas.List.Elements.{All-weaker, filter_more}
-use Rattle.std.proofs.lemmas.List.Folds.{list_any_at, list_any_none}
-use Rattle.smk_base.specs.Picks.{IsAscending}
-use Rattle.smk_base.specs.Places.{has, IsPlaces, upto}
+use Rattle.smk_base.specs.{Picks.IsAscending, Places.{has, IsPlaces, upto}}
 use Rattle.smk_base.proofs.Places.{filter_filter, same_below}
 use Rattle.smk_rid.proofs.Rising.{ascending_places}
 

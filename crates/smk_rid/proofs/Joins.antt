@@ -1,15 +1,9 @@
 -- Lists put together.
-use Rattle.std.proofs.Common.{◌≡◌, ◌∙◌, ◌<◌, ◌≤◌, ◌+◌, ℕ, length, List, [], ◌∷◌, ◌++◌, refl, sym, ap, arith, map, get_or, set, ◌||◌, nat_eq}
+use Rattle.std.proofs.{Common.{◌≡◌, ◌∙◌, ◌<◌, ◌≤◌, ◌+◌, ℕ, length, List, [], ◌∷◌, ◌++◌, refl, sym, ap, arith, map, get_or, set, ◌||◌, nat_eq}, lemmas.List.Elements.{All-map, All-push, All-set}, lemmas.List.Concat.concat_is, lemmas.List.Folds.{flat_map-map, list_any-append}, lemmas.List.Sums.{sum_by_push, sum_by-set}, lemmas.List.{get_or_default, length_push, length-set, length-map, same_lists}}
 use Rattle.std.specs.List.{All, concat, list_any, flat_map}
-use Rattle.std.proofs.lemmas.List.Elements.{All-map, All-push, All-set}
-use Rattle.std.proofs.lemmas.List.Concat.{concat_is}
-use Rattle.std.proofs.lemmas.List.Folds.{flat_map-map, list_any-append}
-use Rattle.std.proofs.lemmas.List.Sums.{sum_by_push, sum_by-set}
-use Rattle.std.proofs.lemmas.List.{get_or_default, length_push, length-set, length-map, same_lists}
 use Rattle.smk_base.specs.Places.{Lists, upto, places, has, IsPlaces, pairs_of, list_at, members_at, composed, merged}
 use Rattle.smk_rid.specs.Maps.{IsMap, with_list, with_rid_at, merge_at}
-use Rattle.smk_rid.proofs.Sets.{or_false, alone}
-use Rattle.smk_rid.proofs.Rising.{set_push}
+use Rattle.smk_rid.proofs.{Sets.{or_false, alone}, Rising.set_push}
 use Rattle.smk_base.proofs.Places.{get_or_map_upto, same_below, no_place, places_are, length_upto}
 
 pub has-flat_map : (f : ℕ → List ℕ) (xs : List ℕ) (r : ℕ) → has (flat_map f xs) r ≡ list_any (λ i. has (f i) r) xs

@@ -1,9 +1,6 @@
 -- Maps in which each place has itself alone.
-use Rattle.std.proofs.Common.{◌≡◌, ◌∙◌, ◌<◌, ◌+◌, ◌&&◌, ◌↔◌, ℕ, zero, suc, Bool, List, [], ◌∷◌, length, map, get_or, eqb, refl, sym, ap, arith, inl, inr}
+use Rattle.std.proofs.{Common.{◌≡◌, ◌∙◌, ◌<◌, ◌+◌, ◌&&◌, ◌↔◌, ℕ, zero, suc, Bool, List, [], ◌∷◌, length, map, get_or, eqb, refl, sym, ap, arith, inl, inr}, Math.ListN.replicate, lemmas.Bool.{and_parts, cases_eq, eq-eqb, eqb-true, ne_eqb}, lemmas.List.{same_lists, length-map, get_or_default}}
 use Rattle.std.specs.Prelude.{IsTrue}
-use Rattle.std.proofs.Math.ListN.{replicate}
-use Rattle.std.proofs.lemmas.Bool.{and_parts, cases_eq, eq-eqb, eqb-true, ne_eqb}
-use Rattle.std.proofs.lemmas.List.{same_lists, length-map, get_or_default}
 use Rattle.smk_base.specs.Places.{Lists, upto, own_lists}
 use Rattle.smk_rid.specs.Packing.{one_of}
 use Rattle.smk_base.proofs.Places.{length_upto, get_or_map_upto}

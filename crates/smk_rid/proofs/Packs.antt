@@ -1,11 +1,6 @@
 -- Lists that lie one after the other.
-use Rattle.std.proofs.Common.{◌≡◌, ◌∙◌, ◌<◌, ◌≤◌, ◌+◌, ◌-◌, ℕ, length, List, [], ◌∷◌, ◌++◌, refl, sym, ap, map, arith, get_or, take, drop, inl, inr, cond, ltb}
-use Rattle.std.specs.List.{concat, slice_range}
-use Rattle.std.proofs.lemmas.List.{length-append, take_at, drop_at, same_lists, length-map, take_all, take-append-le, get_or_append_left, get_or_push, get_or_default, length_push, append-nil, take-append-drop, drop_more, get_or-take, nil_from_length, get_or-drop, length-take-le, get_or-map}
-use Rattle.std.proofs.lemmas.Bool.{cases_lt, ne_eqb, lt-ltb, le-ltb}
-use Rattle.std.specs.List.{All}
-use Rattle.std.proofs.lemmas.List.Folds.{concat-append}
-use Rattle.std.proofs.lemmas.List.Sums.{sum_by_push, sum_by_more, sum_by-take-le, sum_by-cons}
+use Rattle.std.proofs.{Common.{◌≡◌, ◌∙◌, ◌<◌, ◌≤◌, ◌+◌, ◌-◌, ℕ, length, List, [], ◌∷◌, ◌++◌, refl, sym, ap, map, arith, get_or, take, drop, inl, inr, cond, ltb}, lemmas.List.{length-append, take_at, drop_at, same_lists, length-map, take_all, take-append-le, get_or_append_left, get_or_push, get_or_default, length_push, append-nil, take-append-drop, drop_more, get_or-take, nil_from_length, get_or-drop, length-take-le, get_or-map}, lemmas.Bool.{cases_lt, ne_eqb, lt-ltb, le-ltb}, lemmas.List.Folds.concat-append, lemmas.List.Sums.{sum_by_push, sum_by_more, sum_by-take-le, sum_by-cons}}
+use Rattle.std.specs.List.{concat, slice_range, All}
 use Rattle.smk_base.specs.Places.{upto, pairs_of}
 use Rattle.smk_rid.specs.Packing.{one_of, part, cut, IsPacking}
 use Rattle.smk_rid.proofs.Sets.{alone}

@@ -1,14 +1,9 @@
 -- Lists of at most one place, looked up in other lists.
-use Rattle.std.proofs.Common.{◌≡◌, ◌∙◌, ◌<◌, ◌≤◌, ◌+◌, ℕ, suc, length, List, [], ◌∷◌, ◌++◌, refl, sym, map, arith}
+use Rattle.std.proofs.{Common.{◌≡◌, ◌∙◌, ◌<◌, ◌≤◌, ◌+◌, ℕ, suc, length, List, [], ◌∷◌, ◌++◌, refl, sym, map, arith}, lemmas.List.{append-nil, map-append}, lemmas.List.Elements.{All-append, All-nil, All-weaker}, lemmas.List.Sums.sum_by_push}
 use Rattle.std.specs.List.{All, flat_map}
-use Rattle.std.proofs.lemmas.List.{append-nil, map-append}
-use Rattle.std.proofs.lemmas.List.Elements.{All-append, All-nil, All-weaker}
-use Rattle.std.proofs.lemmas.List.Sums.{sum_by_push}
 use Rattle.smk_base.specs.Places.{Lists, IsPlaces, pairs_of, list_at, members_at, upto}
-use Rattle.smk_rid.specs.Maps.{IsMap}
-use Rattle.smk_rid.specs.Packing.{one_of}
-use Rattle.smk_rid.proofs.Sets.{is_below, lifted}
-use Rattle.smk_rid.proofs.Joins.{members_one}
+use Rattle.smk_rid.specs.{Maps.IsMap, Packing.one_of}
+use Rattle.smk_rid.proofs.{Sets.{is_below, lifted}, Joins.members_one}
 use Rattle.smk_base.proofs.Places.{places_false, upto_below}
 
 -- the members of the list at no place or at one are that list

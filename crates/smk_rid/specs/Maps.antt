@@ -1,7 +1,5 @@
 -- What the type of a rid map keeps of its lists, and the lists that its calls make.
-use Rattle.std.specs.Prelude.{ℕ, ◌<◌, ◌≤◌, ◌||◌, Bool, if◌then◌else◌, List, [], ◌∷◌, ◌++◌, length, map, slice_index_or, slice_set, Option}
-use Rattle.std.specs.List.{All, sum_by}
-use Rattle.std.specs.Option.{option_to_list}
+use Rattle.std.specs.{Prelude.{ℕ, ◌<◌, ◌≤◌, ◌||◌, Bool, if◌then◌else◌, List, [], ◌∷◌, ◌++◌, length, map, slice_index_or, slice_set, Option}, List.{All, sum_by}, Option.option_to_list}
 use Rattle.smk_base.specs.Places.{Lists, IsPlaces, pairs_of, places, has, upto, list_at}
 use Rattle.smk_rid.specs.declared.map.TheConstants.{PAIR_LIMIT}
 

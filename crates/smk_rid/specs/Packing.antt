@@ -1,9 +1,7 @@
 -- How lists lie in arrays of numbers.
-use Rattle.std.specs.Prelude.{◌≡◌, ◌==◌, ℕ, ◌≤◌, ◌+◌, ◌-◌, List, [], ◌∷◌, length, map, take, slice_index, slice_range, if◌then◌else◌}
-use Rattle.std.specs.List.{concat}
+use Rattle.std.specs.{Prelude.{◌≡◌, ◌==◌, ℕ, ◌≤◌, ◌+◌, ◌-◌, List, [], ◌∷◌, length, map, take, slice_index, slice_range, if◌then◌else◌}, List.concat}
 use Rattle.smk_base.specs.Places.{upto, pairs_of}
-use Rattle.smk_rid.specs.declared.hold.array.TheConstants.{NONE}
-use Rattle.smk_rid.specs.declared.map.TheConstants.{PAIR_LIMIT}
+use Rattle.smk_rid.specs.{declared.hold.array.TheConstants.NONE, declared.map.TheConstants.PAIR_LIMIT}
 
 -- what one number of a rid array stands for: the list of that rid alone, or an empty list
 abbrev pub one_of : ℕ → List ℕ

@@ -1,9 +1,7 @@
 -- The two forms in which a rid map holds its lists.
 use Rattle.std.specs.Prelude.{◌≡◌, ℕ, List}
 use Rattle.smk_base.specs.Places.{pairs_of}
-use Rattle.smk_rid.specs.Maps.{IsMap, IsSingle}
-use Rattle.smk_rid.specs.declared.map.Storage.{Storage}
-use Rattle.smk_rid.specs.declared.map.Storage.TheVariants.{Array, Index}
+use Rattle.smk_rid.specs.{Maps.{IsMap, IsSingle}, declared.map.Storage.Storage, declared.map.Storage.TheVariants.{Array, Index}}
 
 -- the lists, in whichever form
 abbrev pub lists_of : Storage → List (List ℕ)

@@ -1,9 +1,5 @@
-ghost use Rattle.std.specs.Prelude.{◌≡◌, ◌<◌, ◌≤◌, ◌↔◌, [], ◌∷◌, ◌++◌, length, map, nat_lt, take, slice_index_or, IfOk, IfSome, IsTrue, OnOk, is_none, is_some, Option};
-ghost use Rattle.std.specs.List.{All, concat, filter, flat_map};
-ghost use Rattle.std.specs.Option.{option_to_list};
-ghost use Rattle.smk_base.specs.Places.{IsPlaces, pairs_of, own_lists, empty_lists, list_at};
-ghost use Rattle.smk_base.specs.declared.rel.TheConstants.{ROW_LIMIT};
-ghost use Rattle.smk_rid.specs.Packing.{one_of};
+ghost use Rattle.std.specs.{Prelude.{◌≡◌, ◌<◌, ◌≤◌, ◌↔◌, [], ◌∷◌, ◌++◌, length, map, nat_lt, take, slice_index_or, IfOk, IfSome, IsTrue, OnOk, is_none, is_some, Option}, List.{All, concat, filter, flat_map}, Option.option_to_list};
+ghost use Rattle.smk_base.specs.{Places.{IsPlaces, pairs_of, own_lists, empty_lists, list_at}, declared.rel.TheConstants.ROW_LIMIT};
 ghost use Rattle.smk_rid.specs.Maps.{IsMap, IsSingle, array_lists};
 
 use crate::hold::array::{NONE, RidArray};
@@ -33,8 +29,7 @@ enum Storage {
 impl Model for RidMap {
     ghost use Rattle.std.specs.Prelude.{◌≡◌};
     ghost use Rattle.smk_base.specs.Places.{Lists, pairs_of};
-    ghost use Rattle.smk_rid.specs.Maps.{IsMap};
-    ghost use Rattle.smk_rid.specs.Storage.{lists_of, IsStored};
+    ghost use Rattle.smk_rid.specs.{Maps.IsMap, Storage.{lists_of, IsStored}};
 
     ghost Value = { Lists };
 

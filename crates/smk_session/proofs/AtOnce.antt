@@ -1,19 +1,11 @@
 -- What views are opened as, so many at once, and the first fault among them.
-use Rattle.std.proofs.Common.{◌≡◌, ◌∙◌, ℕ, suc, zero, ◌+◌, ◌≤◌, List, [], ◌∷◌, ◌++◌, Result, Ok, Err, IfOk, IfErr, OnOk, map, ap, sym, refl, subst, arith, Option, None, inl, inr, ◌⊎◌}
-use Rattle.std.specs.List.{AllZip}
-use Rattle.std.specs.Option.{option_or}
-use Rattle.std.proofs.lemmas.Bool.{cases_lt}
-use Rattle.std.proofs.lemmas.List.{append_assoc, map-append}
+use Rattle.std.proofs.{Common.{◌≡◌, ◌∙◌, ℕ, suc, zero, ◌+◌, ◌≤◌, List, [], ◌∷◌, ◌++◌, Result, Ok, Err, IfOk, IfErr, OnOk, map, ap, sym, refl, subst, arith, Option, None, inl, inr, ◌⊎◌}, lemmas.Bool.cases_lt, lemmas.List.{append_assoc, map-append}}
+use Rattle.std.specs.{List.AllZip, Option.option_or}
 use Rattle.smk_base.specs.Places.{upto}
-use Rattle.smk_model.specs.Opening.{ViewFault, view_fault, first_some}
-use Rattle.smk_model.specs.Session.{Workbook}
+use Rattle.smk_model.specs.{Opening.{ViewFault, view_fault, first_some}, Session.Workbook}
 use Rattle.smk_compose.specs.declared.kept_maps.Run.{Run}
 use Rattle.smk_jobs.specs.Jobs.{FirstFault}
-use Rattle.smk_session.specs.Openings.{Opens, OpensAs, faults_of, views_of}
-use Rattle.smk_session.specs.Opened.{IsStartFault, opened}
-use Rattle.smk_session.specs.declared.start.fault.StartFault.{StartFault}
-use Rattle.smk_session.specs.declared.start.fault.StartFault.TheVariants.{NoMemory}
-use Rattle.smk_session.specs.declared.start.opening.Stocked.{Stocked}
+use Rattle.smk_session.specs.{Openings.{Opens, OpensAs, faults_of, views_of}, Opened.{IsStartFault, opened}, declared.start.fault.StartFault.StartFault, declared.start.fault.StartFault.TheVariants.NoMemory, declared.start.opening.Stocked.Stocked}
 use Rattle.smk_session.proofs.Starts.{first_append, first_more}
 
 -- what a view is opened as, by the clauses on one result

@@ -1,58 +1,19 @@
 -- The parts of a backward answer, by what is kept of a view and a table.
-use Rattle.std.proofs.Common.{◌≡◌, ℕ, ◌<◌, Bool, true, false, ◌&&◌, ◌||◌, cond, List, [], ◌∷◌, length, refl, ap, sym, ◌∙◌, subst, nat_eq, Ok, Err, Option, Some, None, option_map, ok_or, slice_get, All, inl, inr}
+use Rattle.std.proofs.{Common.{◌≡◌, ℕ, ◌<◌, Bool, true, false, ◌&&◌, ◌||◌, cond, List, [], ◌∷◌, length, refl, ap, sym, ◌∙◌, subst, nat_eq, Ok, Err, Option, Some, None, option_map, ok_or, slice_get, All, inl, inr}, lemmas.Bool.{cases_Bool, eqb-true, false≢true}, lemmas.List.{get_or-map, length-map}, lemmas.List.Elements.All-head}
 use Rattle.std.specs.List.{list_all, list_any}
-use Rattle.std.proofs.lemmas.Bool.{cases_Bool, eqb-true, false≢true}
-use Rattle.std.proofs.lemmas.List.{get_or-map, length-map}
-use Rattle.std.proofs.lemmas.List.Elements.{All-head}
-use Rattle.smk_base.specs.CatalogImage.{CatalogImage, catalog_image}
-use Rattle.smk_base.specs.Places.{IsPlaces, Lists, has, list_at, members_at}
-use Rattle.smk_base.specs.Plans.{Grouping}
-use Rattle.smk_base.specs.Rels.{Relation}
-use Rattle.smk_base.specs.declared.brush.BrushOn.{BrushOn}
-use Rattle.smk_base.specs.declared.book.catalog.Catalog.{Catalog}
-use Rattle.smk_base.specs.declared.reply.Refusal.TheVariants.{ManyMarks, NoGroup, NoSplit, Undeclared, ValueKind}
-use Rattle.smk_base.specs.declared.reply.Reply.{Reply}
+use Rattle.smk_base.specs.{CatalogImage.{CatalogImage, catalog_image}, Places.{IsPlaces, Lists, has, list_at, members_at}, Plans.Grouping, Rels.Relation, declared.brush.BrushOn.BrushOn, declared.book.catalog.Catalog.Catalog, declared.reply.Refusal.TheVariants.{ManyMarks, NoGroup, NoSplit, Undeclared, ValueKind}, declared.reply.Reply.Reply, declared.book.tree.Marks.Marks, declared.book.tree.Then.Then, declared.value.Kind.Kind, declared.value.Value.Value}
 use Rattle.smk_base.specs.declared.reply.Reply.TheVariants as replies
-use Rattle.smk_base.specs.declared.book.tree.Marks.{Marks}
 use Rattle.smk_base.specs.declared.book.tree.Marks.TheVariants as markings
-use Rattle.smk_base.specs.declared.book.tree.Then.{Then}
 use Rattle.smk_base.specs.declared.book.tree.Then.TheVariants as thens
 use Rattle.smk_base.specs.declared.book.tree.Line.TheVariants as lines
-use Rattle.smk_base.specs.declared.value.Kind.{Kind}
-use Rattle.smk_base.specs.declared.value.Value.{Value}
-use Rattle.smk_model.specs.Catalogs.{table_kinds}
-use Rattle.smk_model.specs.Composed.{backs}
-use Rattle.smk_model.specs.Kinds.{kinds1}
-use Rattle.smk_model.specs.Lineage.{sub}
-use Rattle.smk_model.specs.Names.{◌>>=◌}
-use Rattle.smk_model.specs.Plain.{step1}
-use Rattle.smk_model.specs.Replies.{Asked, Grouped, back_reply, column_place, cube, first_outside, grouping_of, is_of_column, is_one, is_split, known_pair, marked, named_back, or_refused, provided, reply, rids_of, rows_reply, staying, unless_row, with_value, written}
-use Rattle.smk_model.specs.ReplyTexts.{AsksRows}
-use Rattle.smk_model.specs.Session.{State, Workbook, rows_of_table, view_at}
-use Rattle.smk_model.specs.Typing.{info_at}
-use Rattle.smk_model.specs.Values.{Row}
-use Rattle.smk_model.specs.Workload.{declares_back}
-use Rattle.smk_model.proofs.Anys.{or_false}
-use Rattle.smk_model.proofs.Composed.{lists_stand}
+use Rattle.smk_model.specs.{Catalogs.table_kinds, Composed.backs, Kinds.kinds1, Lineage.sub, Names.◌>>=◌, Plain.step1, Replies.{Asked, Grouped, back_reply, column_place, cube, first_outside, grouping_of, is_of_column, is_one, is_split, known_pair, marked, named_back, or_refused, provided, reply, rids_of, rows_reply, staying, unless_row, with_value, written}, ReplyTexts.AsksRows, Session.{State, Workbook, rows_of_table, view_at}, Typing.info_at, Values.Row, Workload.declares_back}
+use Rattle.smk_model.proofs.{Anys.or_false, Composed.lists_stand}
 use Rattle.smk_base.proofs.Places.{same_below}
 use Rattle.smk_compose.specs.declared.kept_maps.Run.{Run}
 use Rattle.smk_push.specs.Cubes.{cube_at, cube_of}
 use Rattle.smk_skip.specs.Splits.{SplitImage}
-use Rattle.smk_session.specs.Kept.{kept_back}
-use Rattle.smk_session.specs.Answers.{BacksFit, Turns, members_asked, rows_told, state_lent, within_asked}
-use Rattle.smk_session.specs.Extras.{backs_of, cubes_place, split_on, split_place, table_of}
-use Rattle.smk_session.specs.BackAnswers.{CubesFit, IsPairNamed, IsPairOf, SplitsFit, cubes_asked, grouped_by, one_asked, rids_by, rows_by, sort_asked, split_asked, split_kept, with_value_asked}
-use Rattle.smk_session.specs.Behind.{BehindFits, IsBehind, IsRefusedAs}
-use Rattle.smk_session.specs.Opened.{state_over, workbook_image}
-use Rattle.smk_session.specs.declared.lent.Lent.{Lent}
-use Rattle.smk_session.specs.declared.answer.backward.Pair.{Pair}
-use Rattle.smk_session.specs.declared.answer.no_answer.Turned.{Turned}
-use Rattle.smk_session.proofs.Declared.{cubes_found, cubes_of_grouped, grouping_fits, split_found}
-use Rattle.smk_session.proofs.KeptOf.{kept_back_is}
-use Rattle.smk_session.proofs.Rids.{rids_ascend, rids_low}
-use Rattle.smk_session.proofs.Marked.{backs_asked, none_outside, passed, same_row}
-use Rattle.smk_session.proofs.OpenedViews.{run_is, table_is}
-use Rattle.smk_session.proofs.Opened.{ok_is, provided_then, then_row}
+use Rattle.smk_session.specs.{Kept.kept_back, Answers.{BacksFit, Turns, members_asked, rows_told, state_lent, within_asked}, Extras.{backs_of, cubes_place, split_on, split_place, table_of}, BackAnswers.{CubesFit, IsPairNamed, IsPairOf, SplitsFit, cubes_asked, grouped_by, one_asked, rids_by, rows_by, sort_asked, split_asked, split_kept, with_value_asked}, Behind.{BehindFits, IsBehind, IsRefusedAs}, Opened.{state_over, workbook_image}, declared.lent.Lent.Lent, declared.answer.backward.Pair.Pair, declared.answer.no_answer.Turned.Turned}
+use Rattle.smk_session.proofs.{Declared.{cubes_found, cubes_of_grouped, grouping_fits, split_found}, KeptOf.kept_back_is, Rids.{rids_ascend, rids_low}, Marked.{backs_asked, none_outside, passed, same_row}, OpenedViews.{run_is, table_is}, Opened.{ok_is, provided_then, then_row}}
 
 abbrev book_of : List Relation → Pair → Workbook
 book_of tables pair = workbook_image pair.catalog.now tables

@@ -1,38 +1,12 @@
 -- The brush that a line makes, and what is answered to lines that change the brushes in force.
 use Rattle.std.proofs.Common.{◌≡◌, ℕ, ◌+◌, ◌<◌, ◌≤◌, Bool, true, cond, List, [], length, map, get_or, refl, ap, sym, ◌∙◌, subst, Result, Ok, Err, MatchResult, All}
 use Rattle.std.specs.List.{list_any}
-use Rattle.smk_base.specs.CatalogImage.{CatalogImage, catalog_image}
-use Rattle.smk_base.specs.Places.{Lists, upto}
-use Rattle.smk_base.specs.Plans.{Expr}
-use Rattle.smk_base.specs.Rels.{Relation}
-use Rattle.smk_base.specs.declared.brush.BrushOn.{BrushOn}
-use Rattle.smk_base.specs.declared.book.catalog.Catalog.{Catalog}
-use Rattle.smk_base.specs.declared.reply.Linked.{Linked}
-use Rattle.smk_base.specs.declared.reply.Refusal.TheVariants.{Undeclared}
+use Rattle.smk_base.specs.{CatalogImage.{CatalogImage, catalog_image}, Places.{Lists, upto}, Plans.Expr, Rels.Relation, declared.brush.BrushOn.BrushOn, declared.book.catalog.Catalog.Catalog, declared.reply.Linked.Linked, declared.reply.Refusal.TheVariants.Undeclared, declared.book.tree.Marks.Marks}
 use Rattle.smk_base.specs.declared.reply.Reply.TheVariants as replies
-use Rattle.smk_base.specs.declared.book.tree.Marks.{Marks}
-use Rattle.smk_model.specs.Composed.{backs}
-use Rattle.smk_model.specs.Looks.{looks_of_brush, looks_of_clear, looks_of_linked}
-use Rattle.smk_model.specs.Names.{◌>>=◌}
-use Rattle.smk_model.specs.Replies.{Asked, all_linked, brush_of, brushed, cleared, linked_pair, named_brush, named_clear}
-use Rattle.smk_model.specs.Selection.{each_rows}
-use Rattle.smk_model.specs.Session.{State, linked, under, view_at, with_brush, without_brush}
-use Rattle.smk_model.specs.Workload.{declares_back, is_back, is_link}
+use Rattle.smk_model.specs.{Composed.backs, Looks.{looks_of_brush, looks_of_clear, looks_of_linked}, Names.◌>>=◌, Replies.{Asked, all_linked, brush_of, brushed, cleared, linked_pair, named_brush, named_clear}, Selection.each_rows, Session.{State, linked, under, view_at, with_brush, without_brush}, Workload.{declares_back, is_back, is_link}}
 use Rattle.smk_compose.specs.declared.kept_maps.Run.{Run}
-use Rattle.smk_session.specs.Kept.{kept_back}
-use Rattle.smk_session.specs.Answers.{Changes, IsLent, Turns, book_of, content_at, placed}
-use Rattle.smk_session.specs.Refreshed.{IsRefresh}
-use Rattle.smk_session.specs.Opened.{AreOpened, state_over}
-use Rattle.smk_session.specs.Sessions.{AreInForce, BrushFits}
-use Rattle.smk_session.specs.declared.lent.Lent.{Lent}
-use Rattle.smk_session.specs.declared.brush.refresh.Refresh.{Refresh}
-use Rattle.smk_session.specs.declared.turn.Content.{Content}
-use Rattle.smk_session.specs.declared.answer.no_answer.Turned.{Turned}
-use Rattle.smk_session.specs.declared.answer.no_answer.Turned.TheVariants.{Refused, Exhausted}
-use Rattle.smk_session.proofs.KeptOf.{kept_back_is}
-use Rattle.smk_session.proofs.Linked.{or_right}
-use Rattle.smk_session.proofs.OpenedViews.{run_is}
-use Rattle.smk_session.proofs.Shown.{all_known, brush_changes, clear_changes, linked_known, none_changes}
+use Rattle.smk_session.specs.{Kept.kept_back, Answers.{Changes, IsLent, Turns, book_of, content_at, placed}, Refreshed.IsRefresh, Opened.{AreOpened, state_over}, Sessions.{AreInForce, BrushFits}, declared.lent.Lent.Lent, declared.brush.refresh.Refresh.Refresh, declared.turn.Content.Content, declared.answer.no_answer.Turned.Turned, declared.answer.no_answer.Turned.TheVariants.{Refused, Exhausted}}
+use Rattle.smk_session.proofs.{KeptOf.kept_back_is, Linked.or_right, OpenedViews.run_is, Shown.{all_known, brush_changes, clear_changes, linked_known, none_changes}}
 
 -- the backward lists of a view to a table with which it is linked are kept
 

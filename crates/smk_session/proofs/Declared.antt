@@ -1,40 +1,14 @@
 -- What is kept for the declarations, one after the other, and where it is found.
-use Rattle.std.proofs.Common.{◌≡◌, ℕ, zero, suc, ◌+◌, ◌<◌, ◌≤◌, Bool, true, false, ◌&&◌, ◌||◌, cond, List, [], ◌∷◌, ◌++◌, length, take, get_or, refl, ap, sym, ◌∙◌, subst, arith, nat_eq, Option, Some, None, Ok, Err, ok_or, option_map, is_some, slice_get, All, inl, inr, append_assoc, append-nil, take_all}
-use Rattle.std.specs.List.{AllZip, cons_option, filter, filter_map, list_any, position_or_len, sum_by}
-use Rattle.std.specs.Option.{option_or, option_to_list}
-use Rattle.std.proofs.lemmas.Bool.{cases_Bool, eqb-true, false≢true, and_parts}
-use Rattle.std.proofs.lemmas.List.{get_or-map, length-map, map-append, take_more}
-use Rattle.std.proofs.lemmas.List.Elements.{All-head, All-tail, filter_map-append}
-use Rattle.std.proofs.lemmas.List.Sums.{sum_by_more, sum_by-take-le}
-use Rattle.std.proofs.lemmas.Slice.Zip.{AllZip-long}
-use Rattle.smk_base.specs.CatalogImage.{catalog_image, view_image}
-use Rattle.smk_base.specs.Places.{Lists}
-use Rattle.smk_base.specs.Rels.{Relation}
-use Rattle.smk_base.specs.declared.book.catalog.Back.{Back}
-use Rattle.smk_base.specs.declared.book.catalog.BackExtra.{BackExtra}
+use Rattle.std.proofs.{Common.{◌≡◌, ℕ, zero, suc, ◌+◌, ◌<◌, ◌≤◌, Bool, true, false, ◌&&◌, ◌||◌, cond, List, [], ◌∷◌, ◌++◌, length, take, get_or, refl, ap, sym, ◌∙◌, subst, arith, nat_eq, Option, Some, None, Ok, Err, ok_or, option_map, is_some, slice_get, All, inl, inr, append_assoc, append-nil, take_all}, lemmas.Bool.{cases_Bool, eqb-true, false≢true, and_parts}, lemmas.List.{get_or-map, length-map, map-append, take_more}, lemmas.List.Elements.{All-head, All-tail, filter_map-append}, lemmas.List.Sums.{sum_by_more, sum_by-take-le}, lemmas.Slice.Zip.AllZip-long}
+use Rattle.std.specs.{List.{AllZip, cons_option, filter, filter_map, list_any, position_or_len, sum_by}, Option.{option_or, option_to_list}}
+use Rattle.smk_base.specs.{CatalogImage.{catalog_image, view_image}, Places.Lists, Rels.Relation, declared.book.catalog.Back.Back, declared.book.catalog.BackExtra.BackExtra, declared.book.catalog.Catalog.Catalog, declared.book.catalog.TableInfo.TableInfo, declared.reply.Refusal.TheVariants.Undeclared, declared.value.Kind.Kind}
 use Rattle.smk_base.specs.declared.book.catalog.BackExtra.TheVariants as extras
-use Rattle.smk_base.specs.declared.book.catalog.Catalog.{Catalog}
-use Rattle.smk_base.specs.declared.book.catalog.TableInfo.{TableInfo}
-use Rattle.smk_base.specs.declared.reply.Refusal.TheVariants.{Undeclared}
-use Rattle.smk_base.specs.declared.value.Kind.{Kind}
-use Rattle.smk_model.specs.Catalogs.{BackFits, ExtraFits, GroupingFits, table_kinds}
-use Rattle.smk_model.specs.Looks.{looks_of_back}
-use Rattle.smk_model.specs.Opening.{first_some}
-use Rattle.smk_model.specs.Replies.{Grouped, first_grouping, grouping_in, is_by, is_split}
-use Rattle.smk_model.specs.Session.{Workbook, view_at}
-use Rattle.smk_model.specs.Typing.{info_at}
-use Rattle.smk_model.specs.Workload.{is_back}
+use Rattle.smk_model.specs.{Catalogs.{BackFits, ExtraFits, GroupingFits, table_kinds}, Looks.looks_of_back, Opening.first_some, Replies.{Grouped, first_grouping, grouping_in, is_by, is_split}, Session.{Workbook, view_at}, Typing.info_at, Workload.is_back}
 use Rattle.smk_base.proofs.Places.{get_or_map_upto}
 use Rattle.smk_compose.specs.declared.kept_maps.Run.{Run}
 use Rattle.smk_skip.specs.Splits.{SplitImage}
-use Rattle.smk_session.specs.Kept.{kept_back}
-use Rattle.smk_session.specs.Extras.{backs_of, split_on, cubes_on, split_for, cubes_for, split_in, cubes_in, asks_split, asks_groups, split_place, cubes_place}
-use Rattle.smk_session.specs.Making.{AreNow, IsDeclared, IsMadeFor, cubes_wanted, declared_in, looks_wanted, newer, split_wanted}
-use Rattle.smk_session.specs.Opened.{AreOpened, opened, workbook_image}
-use Rattle.smk_session.specs.declared.start.making.ExtraAsked.{ExtraAsked}
-use Rattle.smk_session.specs.declared.start.making.SplitOrCubes.{SplitOrCubes}
-use Rattle.smk_session.proofs.KeptOf.{kept_back_is}
-use Rattle.smk_session.proofs.OpenedViews.{views_long}
+use Rattle.smk_session.specs.{Kept.kept_back, Extras.{backs_of, split_on, cubes_on, split_for, cubes_for, split_in, cubes_in, asks_split, asks_groups, split_place, cubes_place}, Making.{AreNow, IsDeclared, IsMadeFor, cubes_wanted, declared_in, looks_wanted, newer, split_wanted}, Opened.{AreOpened, opened, workbook_image}, declared.start.making.ExtraAsked.ExtraAsked, declared.start.making.SplitOrCubes.SplitOrCubes}
+use Rattle.smk_session.proofs.{KeptOf.kept_back_is, OpenedViews.views_long}
 use Rattle.smk_model.proofs.Anys.{and_false}
 
 -- a view whose place is taken

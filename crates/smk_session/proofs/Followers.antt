@@ -1,40 +1,13 @@
 -- What is asked of a view that follows brushes, by what is kept of it.
-use Rattle.std.proofs.Common.{◌≡◌, ℕ, ◌+◌, ◌<◌, Bool, true, false, cond, List, [], ◌∷◌, ◌++◌, length, map, get_or, refl, ap, sym, ◌∙◌, subst, arith, Option, Some, None, All, IfSome, Ok, Err}
+use Rattle.std.proofs.{Common.{◌≡◌, ℕ, ◌+◌, ◌<◌, Bool, true, false, cond, List, [], ◌∷◌, ◌++◌, length, map, get_or, refl, ap, sym, ◌∙◌, subst, arith, Option, Some, None, All, IfSome, Ok, Err}, lemmas.List.length-map}
 use Rattle.std.specs.List.{list_any}
-use Rattle.std.proofs.lemmas.List.{length-map}
-use Rattle.smk_base.specs.CatalogImage.{ViewImage, catalog_image, view_image}
-use Rattle.smk_base.specs.Picks.{IsAscending}
-use Rattle.smk_base.specs.Places.{IsPlaces, Lists, has, members_at, places}
-use Rattle.smk_base.specs.PlanImage.{expr_of}
-use Rattle.smk_base.specs.Plans.{Expr}
-use Rattle.smk_base.specs.Rels.{Relation}
-use Rattle.smk_base.specs.declared.brush.BrushOn.{BrushOn}
-use Rattle.smk_base.specs.declared.book.catalog.Catalog.{Catalog}
-use Rattle.smk_base.specs.declared.book.catalog.ViewInfo.{ViewInfo}
-use Rattle.smk_base.specs.declared.list.table_rids.Pick.{Pick}
-use Rattle.smk_base.specs.declared.reply.Refusal.TheVariants.{Undeclared}
-use Rattle.smk_base.specs.declared.value.Kind.{Kind}
-use Rattle.smk_model.specs.Composed.{forwards}
-use Rattle.smk_model.specs.Catalogs.{IsCatalog, ViewFits, each_table_kinds}
-use Rattle.smk_model.specs.Replies.{marks_fwd}
-use Rattle.smk_model.specs.Selection.{PickFits, PlanFits, each_kinds, each_rows, leaf_kinds, over, plan_kinds}
-use Rattle.smk_model.specs.Session.{concerns, leaves_now, linked, rows_of_table, selected_for, view_at}
-use Rattle.smk_model.specs.Workload.{declares_fwd}
+use Rattle.smk_base.specs.{CatalogImage.{ViewImage, catalog_image, view_image}, Picks.IsAscending, Places.{IsPlaces, Lists, has, members_at, places}, PlanImage.expr_of, Plans.Expr, Rels.Relation, declared.brush.BrushOn.BrushOn, declared.book.catalog.Catalog.Catalog, declared.book.catalog.ViewInfo.ViewInfo, declared.list.table_rids.Pick.Pick, declared.reply.Refusal.TheVariants.Undeclared, declared.value.Kind.Kind}
+use Rattle.smk_model.specs.{Composed.forwards, Catalogs.{IsCatalog, ViewFits, each_table_kinds}, Replies.marks_fwd, Selection.{PickFits, PlanFits, each_kinds, each_rows, leaf_kinds, over, plan_kinds}, Session.{concerns, leaves_now, linked, rows_of_table, selected_for, view_at}, Workload.declares_fwd}
 use Rattle.smk_model.proofs.Composed.{lists_stand}
 use Rattle.smk_base.proofs.Places.{places_below}
 use Rattle.smk_compose.specs.declared.kept_maps.Run.{Run}
-use Rattle.smk_session.specs.Kept.{kept_fwd}
-use Rattle.smk_session.specs.Answers.{AreOn, brushed_of, chosen_by, counts, picks_brushed, rids_or_all}
-use Rattle.smk_session.specs.Behind.{RidsFit}
-use Rattle.smk_session.specs.Refreshed.{Names, book_at}
-use Rattle.smk_session.specs.declared.brush.refresh.Refresh.{Refresh}
-use Rattle.smk_session.specs.Opened.{AreOpened, state_over}
-use Rattle.smk_session.specs.Sessions.{BrushFits}
-use Rattle.smk_session.proofs.Rids.{rids_ascend}
-use Rattle.smk_session.proofs.Selected.{chosen_fit, chosen_or_all, in_all, picks_fit, picks_more, picks_same, same_leaves}
-use Rattle.smk_session.proofs.KeptOf.{kept_fwd_is}
-use Rattle.smk_session.proofs.Linked.{has_item, linked_declares, linked_low}
-use Rattle.smk_session.proofs.OpenedViews.{run_is}
+use Rattle.smk_session.specs.{Kept.kept_fwd, Answers.{AreOn, brushed_of, chosen_by, counts, picks_brushed, rids_or_all}, Behind.RidsFit, Refreshed.{Names, book_at}, declared.brush.refresh.Refresh.Refresh, Opened.{AreOpened, state_over}, Sessions.BrushFits}
+use Rattle.smk_session.proofs.{Rids.rids_ascend, Selected.{chosen_fit, chosen_or_all, in_all, picks_fit, picks_more, picks_same, same_leaves}, KeptOf.kept_fwd_is, Linked.{has_item, linked_declares, linked_low}, OpenedViews.run_is}
 
 -- the lists that are kept of a declared query
 

@@ -1,24 +1,11 @@
 -- What brushes change of the contents that are kept, and what they leave.
-use Rattle.std.proofs.Common.{◌≡◌, ℕ, ◌<◌, Bool, true, false, cond, List, [], ◌∷◌, ◌++◌, length, map, set, get_or, refl, ap, sym, ◌∙◌, subst, arith, nat_eq, Option, Some, None, All, inl, inr}
+use Rattle.std.proofs.{Common.{◌≡◌, ℕ, ◌<◌, Bool, true, false, cond, List, [], ◌∷◌, ◌++◌, length, map, set, get_or, refl, ap, sym, ◌∙◌, subst, arith, nat_eq, Option, Some, None, All, inl, inr}, lemmas.Bool.{cases_Bool, eqb-true, eq-eqb, false≢true, and_parts}, lemmas.List.{length-map, length-set, get_or-set_same, get_or-set_other}, lemmas.List.Elements.{All-nil, All-cons, All-head, All-tail}}
 use Rattle.std.specs.List.{filter, list_all, list_any}
-use Rattle.std.proofs.lemmas.Bool.{cases_Bool, eqb-true, eq-eqb, false≢true, and_parts}
-use Rattle.std.proofs.lemmas.List.{length-map, length-set, get_or-set_same, get_or-set_other}
-use Rattle.std.proofs.lemmas.List.Elements.{All-nil, All-cons, All-head, All-tail}
-use Rattle.smk_base.specs.CatalogImage.{CatalogImage}
-use Rattle.smk_base.specs.Places.{has, places, upto}
-use Rattle.smk_base.specs.Rels.{Relation}
-use Rattle.smk_base.specs.declared.brush.BrushOn.{BrushOn}
-use Rattle.smk_base.specs.declared.list.table_rids.Pick.{Pick}
-use Rattle.smk_model.specs.Values.{Row}
-use Rattle.smk_model.specs.Plain.{eval, rows_over}
-use Rattle.smk_model.specs.Selection.{over}
-use Rattle.smk_model.specs.Replies.{content_of}
-use Rattle.smk_model.specs.Session.{State, concerns, content, is_brush, linked, picks_for, rows_of_table, view_at, with_brush, without_brush}
+use Rattle.smk_base.specs.{CatalogImage.CatalogImage, Places.{has, places, upto}, Rels.Relation, declared.brush.BrushOn.BrushOn, declared.list.table_rids.Pick.Pick}
+use Rattle.smk_model.specs.{Values.Row, Plain.{eval, rows_over}, Selection.over, Replies.content_of, Session.{State, concerns, content, is_brush, linked, picks_for, rows_of_table, view_at, with_brush, without_brush}}
 use Rattle.smk_base.proofs.Places.{get_or_map_upto, length_upto, map_upto, map_upto_agree}
 use Rattle.smk_model.proofs.Replies.{first_contents}
-use Rattle.smk_session.specs.Answers.{placed}
-use Rattle.smk_session.specs.Sessions.{content_kept, follows}
-use Rattle.smk_session.specs.declared.turn.Content.{Content}
+use Rattle.smk_session.specs.{Answers.placed, Sessions.{content_kept, follows}, declared.turn.Content.Content}
 
 -- a brush more or less, and a test that no brush of its view and table passes
 

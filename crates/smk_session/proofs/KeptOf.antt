@@ -1,22 +1,11 @@
 -- What is kept of a view: the lists to a table, exactly where the query is declared.
-use Rattle.std.proofs.Common.{◌≡◌, ℕ, zero, suc, ◌<◌, ◌≤◌, Bool, true, false, ◌&&◌, ◌||◌, cond, List, [], ◌∷◌, map, refl, ap, ◌∙◌, arith, nat_eq, Option, Some, None, option_map, ok_or, Ok, Err, inl, inr, find, length}
-use Rattle.std.specs.List.{filter}
-use Rattle.std.specs.Option.{option_or, option_and_then}
-use Rattle.std.proofs.lemmas.Bool.{cases_lt, cases_Bool, eq-eqb, ne_eqb}
-use Rattle.std.proofs.lemmas.List.Elements.{filter-append}
-use Rattle.std.proofs.lemmas.List.Folds.{find-append}
-use Rattle.smk_base.specs.CatalogImage.{CatalogImage}
-use Rattle.smk_base.specs.Places.{Lists, upto, places}
-use Rattle.smk_base.specs.Plans.{Expr}
-use Rattle.smk_base.specs.Needs.{is_needed}
-use Rattle.smk_base.specs.declared.reply.Refusal.TheVariants.{Undeclared}
-use Rattle.smk_model.specs.Values.{Row}
-use Rattle.smk_model.specs.Composed.{backs, forwards}
-use Rattle.smk_model.specs.Workload.{declares_back, declares_fwd, needed_at, needs}
+use Rattle.std.proofs.{Common.{◌≡◌, ℕ, zero, suc, ◌<◌, ◌≤◌, Bool, true, false, ◌&&◌, ◌||◌, cond, List, [], ◌∷◌, map, refl, ap, ◌∙◌, arith, nat_eq, Option, Some, None, option_map, ok_or, Ok, Err, inl, inr, find, length}, lemmas.Bool.{cases_lt, cases_Bool, eq-eqb, ne_eqb}, lemmas.List.Elements.filter-append, lemmas.List.Folds.find-append}
+use Rattle.std.specs.{List.filter, Option.{option_or, option_and_then}}
+use Rattle.smk_base.specs.{CatalogImage.CatalogImage, Places.{Lists, upto, places}, Plans.Expr, Needs.is_needed, declared.reply.Refusal.TheVariants.Undeclared}
+use Rattle.smk_model.specs.{Values.Row, Composed.{backs, forwards}, Workload.{declares_back, declares_fwd, needed_at, needs}}
 use Rattle.smk_base.proofs.Places.{filter_map, map_map}
 use Rattle.smk_body.specs.Locals.{wanted}
-use Rattle.smk_compose.specs.KeptMaps.{kept_at}
-use Rattle.smk_compose.specs.declared.kept_maps.KeptMap.{KeptMap}
+use Rattle.smk_compose.specs.{KeptMaps.kept_at, declared.kept_maps.KeptMap.KeptMap}
 use Rattle.smk_session.specs.Kept.{is_of_table, kept_back, kept_fwd}
 
 -- the place t among the places that pass

@@ -1,49 +1,16 @@
 -- What is made of a view from what is kept of it shows its content.
-use Rattle.std.proofs.Common.{◌≡◌, ℕ, ◌<◌, ◌≤◌, Bool, true, false, inl, inr, List, [], ◌∷◌, length, map, get_or, refl, ap, sym, ◌∙◌, subst, arith, nat_eq, Option, Some, None, option_map, All, find}
+use Rattle.std.proofs.{Common.{◌≡◌, ℕ, ◌<◌, ◌≤◌, Bool, true, false, inl, inr, List, [], ◌∷◌, length, map, get_or, refl, ap, sym, ◌∙◌, subst, arith, nat_eq, Option, Some, None, option_map, All, find}, lemmas.Bool.cases_Bool, lemmas.List.{get_or-map, length-map}}
 use Rattle.std.specs.List.{filter, list_any}
-use Rattle.std.proofs.lemmas.Bool.{cases_Bool}
-use Rattle.std.proofs.lemmas.List.{get_or-map, length-map}
-use Rattle.smk_base.specs.CatalogImage.{CatalogImage, ViewImage, view_image}
-use Rattle.smk_base.specs.Places.{Lists, places, upto}
-use Rattle.smk_base.specs.PlanImage.{expr_of}
-use Rattle.smk_base.specs.Plans.{Expr, Leaf, Apply, Combine}
-use Rattle.smk_base.specs.Rels.{Relation}
-use Rattle.smk_base.specs.declared.book.catalog.Catalog.{Catalog}
-use Rattle.smk_base.specs.declared.book.catalog.ViewInfo.{ViewInfo}
-use Rattle.smk_base.specs.declared.list.table_rids.Pick.{Pick}
-use Rattle.smk_base.specs.declared.value.Kind.{Kind}
-use Rattle.smk_model.specs.Catalogs.{ViewFits, each_table_kinds}
-use Rattle.smk_model.specs.Composed.{forwards}
-use Rattle.smk_model.specs.Lineage.{row_at, sub}
-use Rattle.smk_model.specs.LineageLaws.{selected_table}
-use Rattle.smk_model.specs.Plain.{eval, rows_over, table_at}
-use Rattle.smk_model.specs.Replies.{content_of}
-use Rattle.smk_model.specs.Selection.{PlanFits, ScansFit, each_rows, first_full, leaf_kinds, over, picked, plan_kinds, rows_in}
-use Rattle.smk_model.specs.Session.{State, concerns, leaves_now, no_view, picks_for, selected_for, view_at}
-use Rattle.smk_model.specs.Values.{Row}
-use Rattle.smk_model.proofs.Composed.{lists_stand}
+use Rattle.smk_base.specs.{CatalogImage.{CatalogImage, ViewImage, view_image}, Places.{Lists, places, upto}, PlanImage.expr_of, Plans.{Expr, Leaf, Apply, Combine}, Rels.Relation, declared.book.catalog.Catalog.Catalog, declared.book.catalog.ViewInfo.ViewInfo, declared.list.table_rids.Pick.Pick, declared.value.Kind.Kind}
+use Rattle.smk_model.specs.{Catalogs.{ViewFits, each_table_kinds}, Composed.forwards, Lineage.{row_at, sub}, LineageLaws.selected_table, Plain.{eval, rows_over, table_at}, Replies.content_of, Selection.{PlanFits, ScansFit, each_rows, first_full, leaf_kinds, over, picked, plan_kinds, rows_in}, Session.{State, concerns, leaves_now, no_view, picks_for, selected_for, view_at}, Values.Row}
+use Rattle.smk_model.proofs.{Composed.lists_stand, Selections.filter-true}
 use Rattle.smk_base.proofs.Places.{length_upto, map_upto, places_below, few_places}
-use Rattle.smk_model.proofs.Selections.{filter-true}
 use Rattle.smk_body.proofs.Besides.{related}
 use Rattle.smk_compose.specs.declared.kept_maps.Run.{Run}
-use Rattle.smk_marks.specs.KeptLaws.{IsKeptOf, IsReachedBy}
-use Rattle.smk_marks.specs.Marks.{marks_at}
-use Rattle.smk_marks.specs.Views.{CanGroup, EndsInGroups, grouped_by_marks, plan_of, rows_reached}
-use Rattle.smk_marks.specs.declared.reached.Reached.{Reached}
-use Rattle.smk_marks.specs.declared.view.KeptView.{KeptView}
-use Rattle.smk_marks.proofs.Chains.{chain_picks}
-use Rattle.smk_marks.proofs.Kept.{kept_marks}
-use Rattle.smk_marks.proofs.Marked.{few_kept}
-use Rattle.smk_marks.proofs.Small.{never_full}
-use Rattle.smk_session.specs.Answers.{IsLent, book_of, brushed_of, pick_for}
-use Rattle.smk_session.specs.Refreshed.{IsBrushed, IsKept, IsRefresh, Shows, book_at, looks_now, state_next}
-use Rattle.smk_session.specs.declared.lent.Lent.{Lent}
-use Rattle.smk_session.specs.declared.brush.refresh.Refresh.{Refresh}
-use Rattle.smk_session.proofs.Followers.{chosen_there}
-use Rattle.smk_session.proofs.KeptOf.{find_mapped, found}
-use Rattle.smk_session.proofs.OpenedViews.{run_is, tables_long}
-use Rattle.smk_session.proofs.Selected.{whole_where}
-use Rattle.smk_session.proofs.Shown.{none_is, some_is}
+use Rattle.smk_marks.specs.{KeptLaws.{IsKeptOf, IsReachedBy}, Marks.marks_at, Views.{CanGroup, EndsInGroups, grouped_by_marks, plan_of, rows_reached}, declared.reached.Reached.Reached, declared.view.KeptView.KeptView}
+use Rattle.smk_marks.proofs.{Chains.chain_picks, Kept.kept_marks, Marked.few_kept, Small.never_full}
+use Rattle.smk_session.specs.{Answers.{IsLent, book_of, brushed_of, pick_for}, Refreshed.{IsBrushed, IsKept, IsRefresh, Shows, book_at, looks_now, state_next}, declared.lent.Lent.Lent, declared.brush.refresh.Refresh.Refresh}
+use Rattle.smk_session.proofs.{Followers.chosen_there, KeptOf.{find_mapped, found}, OpenedViews.{run_is, tables_long}, Selected.whole_where, Shown.{none_is, some_is}}
 
 -- the table of a plan that scans tables that are there
 pub scanned_low : (n : ℕ) (plan : Expr) → ScansFit n plan → selected_table plan < n

@@ -1,16 +1,8 @@
 -- The views that links name, and what is asked of them one after the other.
-use Rattle.std.proofs.Common.{◌≡◌, ℕ, ◌+◌, ◌<◌, ◌≤◌, Bool, true, false, ◌&&◌, ◌||◌, List, [], ◌∷◌, length, take, get_or, refl, ap, sym, ◌∙◌, arith, nat_eq, All, inl, inr}
+use Rattle.std.proofs.{Common.{◌≡◌, ℕ, ◌+◌, ◌<◌, ◌≤◌, Bool, true, false, ◌&&◌, ◌||◌, List, [], ◌∷◌, length, take, get_or, refl, ap, sym, ◌∙◌, arith, nat_eq, All, inl, inr}, lemmas.Bool.{cases_Bool, eq-eqb, and_parts}, lemmas.List.Elements.{All-append, All-head, All-tail}, lemmas.List.Folds.{list_any-append, list_any_at}, lemmas.List.Sums.{sum_by_more, sum_by-take-le}}
 use Rattle.std.specs.List.{filter, flat_map, list_any, sum_by}
-use Rattle.std.proofs.lemmas.Bool.{cases_Bool, eq-eqb, and_parts}
-use Rattle.std.proofs.lemmas.List.Elements.{All-append, All-head, All-tail}
-use Rattle.std.proofs.lemmas.List.Folds.{list_any-append, list_any_at}
-use Rattle.std.proofs.lemmas.List.Sums.{sum_by_more, sum_by-take-le}
-use Rattle.smk_base.specs.CatalogImage.{CatalogImage}
-use Rattle.smk_base.specs.Places.{has}
-use Rattle.smk_base.specs.declared.book.catalog.LinkInfo.{LinkInfo}
-use Rattle.smk_model.specs.Catalogs.{LinkFits}
-use Rattle.smk_model.specs.Session.{linked}
-use Rattle.smk_model.specs.Workload.{declares_fwd, is_fwd, is_link, is_linked}
+use Rattle.smk_base.specs.{CatalogImage.CatalogImage, Places.has, declared.book.catalog.LinkInfo.LinkInfo}
+use Rattle.smk_model.specs.{Catalogs.LinkFits, Session.linked, Workload.{declares_fwd, is_fwd, is_link, is_linked}}
 
 -- a view is among those that links name where a link names it
 

@@ -1,17 +1,9 @@
 -- What is asked of the lists of a view, for marks that are rows.
-use Rattle.std.proofs.Common.{◌≡◌, ℕ, ◌<◌, List, [], ◌∷◌, length, refl, ap, ◌∙◌, nat_le, Option, Some, None, Ok, inl, inr}
+use Rattle.std.proofs.{Common.{◌≡◌, ℕ, ◌<◌, List, [], ◌∷◌, length, refl, ap, ◌∙◌, nat_le, Option, Some, None, Ok, inl, inr}, lemmas.Bool.{cases_Bool, leb-false}, lemmas.List.Elements.{All-nil, All-cons}}
 use Rattle.std.specs.List.{All}
-use Rattle.std.proofs.lemmas.Bool.{cases_Bool, leb-false}
-use Rattle.std.proofs.lemmas.List.Elements.{All-nil, All-cons}
-use Rattle.smk_base.specs.Places.{members_at}
-use Rattle.smk_base.specs.Plans.{Expr}
-use Rattle.smk_base.specs.declared.book.tree.Marks.{Marks}
+use Rattle.smk_base.specs.{Places.members_at, Plans.Expr, declared.book.tree.Marks.Marks}
 use Rattle.smk_base.specs.declared.book.tree.Marks.TheVariants as markings
-use Rattle.smk_model.specs.Values.{Row}
-use Rattle.smk_model.specs.Plain.{table_at, rows_over, whole}
-use Rattle.smk_model.specs.Annotated.{back, fwd}
-use Rattle.smk_model.specs.Composed.{backs, forwards}
-use Rattle.smk_model.specs.Replies.{Asked, first_outside, unless_row, unless_outside, marked}
+use Rattle.smk_model.specs.{Values.Row, Plain.{table_at, rows_over, whole}, Annotated.{back, fwd}, Composed.{backs, forwards}, Replies.{Asked, first_outside, unless_row, unless_outside, marked}}
 use Rattle.smk_model.proofs.Composed.{lists_stand}
 use Rattle.smk_base.proofs.Places.{upto_below}
 use Rattle.smk_session.specs.Answers.{members_asked, within_asked}

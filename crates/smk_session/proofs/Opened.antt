@@ -1,25 +1,11 @@
 -- What the kept parts of a session answer.
 use Rattle.std.proofs.Common.{◌≡◌, ℕ, ◌<◌, Bool, true, false, cond, List, length, get_or, refl, ap, sym, ◌∙◌, Ok, Err, Option, Some, None}
-use Rattle.smk_base.specs.CatalogImage.{CatalogImage, catalog_image}
-use Rattle.smk_base.specs.Places.{Lists}
-use Rattle.smk_base.specs.Plans.{Expr}
-use Rattle.smk_base.specs.Rels.{Relation}
-use Rattle.smk_base.specs.declared.brush.BrushOn.{BrushOn}
-use Rattle.smk_base.specs.declared.book.catalog.Catalog.{Catalog}
+use Rattle.smk_base.specs.{CatalogImage.{CatalogImage, catalog_image}, Places.Lists, Plans.Expr, Rels.Relation, declared.brush.BrushOn.BrushOn, declared.book.catalog.Catalog.Catalog, declared.reply.Refusal.TheVariants.Undeclared, declared.book.tree.Marks.Marks}
 use Rattle.smk_base.specs.declared.reply.Reply.TheVariants as replies
-use Rattle.smk_base.specs.declared.reply.Refusal.TheVariants.{Undeclared}
-use Rattle.smk_base.specs.declared.book.tree.Marks.{Marks}
-use Rattle.smk_model.specs.Names.{◌>>=◌}
-use Rattle.smk_model.specs.Composed.{forwards}
-use Rattle.smk_model.specs.Replies.{Asked, known_pair, named_fwd, provided, unless_row, first_outside, written, marked, marks_fwd, fwd_reply}
-use Rattle.smk_model.specs.Session.{State, view_at, rows_of_table}
-use Rattle.smk_model.specs.Workload.{declares_fwd}
+use Rattle.smk_model.specs.{Names.◌>>=◌, Composed.forwards, Replies.{Asked, known_pair, named_fwd, provided, unless_row, first_outside, written, marked, marks_fwd, fwd_reply}, Session.{State, view_at, rows_of_table}, Workload.declares_fwd}
 use Rattle.smk_compose.specs.declared.kept_maps.Run.{Run}
-use Rattle.smk_session.specs.Answers.{members_asked, fwd_by}
-use Rattle.smk_session.specs.Opened.{AreOpened, state_over}
-use Rattle.smk_session.proofs.OpenedViews.{run_is}
-use Rattle.smk_session.proofs.KeptOf.{kept_fwd_is}
-use Rattle.smk_session.proofs.Marked.{forwards_asked}
+use Rattle.smk_session.specs.{Answers.{members_asked, fwd_by}, Opened.{AreOpened, state_over}}
+use Rattle.smk_session.proofs.{OpenedViews.run_is, KeptOf.kept_fwd_is, Marked.forwards_asked}
 
 -- a backward query
 

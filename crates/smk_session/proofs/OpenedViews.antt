@@ -1,18 +1,7 @@
 -- The tables and views of a book as they are opened.
-use Rattle.std.proofs.Common.{◌≡◌, ℕ, ◌<◌, List, [], length, get_or, ap, sym, ◌∙◌, subst, arith}
-use Rattle.std.proofs.lemmas.List.{get_or-map, length-map}
-use Rattle.smk_base.specs.CatalogImage.{ViewImage, view_image, catalog_image}
-use Rattle.smk_base.specs.Places.{upto}
-use Rattle.smk_base.specs.Rels.{Relation}
-use Rattle.smk_base.specs.declared.brush.BrushOn.{BrushOn}
-use Rattle.smk_base.specs.declared.book.catalog.Catalog.{Catalog}
-use Rattle.smk_base.specs.declared.book.catalog.ViewInfo.{ViewInfo}
-use Rattle.smk_base.specs.declared.value.Kind.{Kind}
-use Rattle.smk_model.specs.Values.{Row}
-use Rattle.smk_model.specs.Catalogs.{IsCatalog, ViewFits, table_kinds, each_table_kinds}
-use Rattle.smk_model.specs.Selection.{each_kinds}
-use Rattle.smk_model.specs.Typing.{info_at, no_table}
-use Rattle.smk_model.specs.Session.{Workbook, view_at, no_view, rows_of_table}
+use Rattle.std.proofs.{Common.{◌≡◌, ℕ, ◌<◌, List, [], length, get_or, ap, sym, ◌∙◌, subst, arith}, lemmas.List.{get_or-map, length-map}}
+use Rattle.smk_base.specs.{CatalogImage.{ViewImage, view_image, catalog_image}, Places.upto, Rels.Relation, declared.brush.BrushOn.BrushOn, declared.book.catalog.Catalog.Catalog, declared.book.catalog.ViewInfo.ViewInfo, declared.value.Kind.Kind}
+use Rattle.smk_model.specs.{Values.Row, Catalogs.{IsCatalog, ViewFits, table_kinds, each_table_kinds}, Selection.each_kinds, Typing.{info_at, no_table}, Session.{Workbook, view_at, no_view, rows_of_table}}
 use Rattle.smk_base.proofs.Places.{get_or_map_upto, length_upto}
 use Rattle.smk_compose.specs.declared.kept_maps.Run.{Run}
 use Rattle.smk_session.specs.Opened.{AreOpened, workbook_image, state_over, opened}

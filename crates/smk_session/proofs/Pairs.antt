@@ -1,9 +1,6 @@
 -- At most one brush of each pair of a view and a table is in force, and stays so.
-use Rattle.std.proofs.Common.{◌≡◌, ℕ, Bool, false, cond, List, [], ◌∷◌, map, refl, sym, ◌∙◌, nat_eq, inl, inr}
-use Rattle.std.specs.Cmp.{IsEquivalence, nat_eq_equiv}
-use Rattle.std.specs.List.{filter, list_any, AllByRecursion, IsDistinct}
-use Rattle.std.proofs.lemmas.Bool.{cases_Bool, eqb-true, eq-eqb, and_parts}
-use Rattle.std.proofs.lemmas.Map.Keys.{IsDistinct-cons, IsDistinct-head, IsDistinct-push, IsDistinct-tail}
+use Rattle.std.proofs.{Common.{◌≡◌, ℕ, Bool, false, cond, List, [], ◌∷◌, map, refl, sym, ◌∙◌, nat_eq, inl, inr}, lemmas.Bool.{cases_Bool, eqb-true, eq-eqb, and_parts}, lemmas.Map.Keys.{IsDistinct-cons, IsDistinct-head, IsDistinct-push, IsDistinct-tail}}
+use Rattle.std.specs.{Cmp.{IsEquivalence, nat_eq_equiv}, List.{filter, list_any, AllByRecursion, IsDistinct}}
 use Rattle.smk_base.specs.declared.brush.BrushOn.{BrushOn}
 use Rattle.smk_model.specs.Session.{is_brush, with_brush, without_brush}
 use Rattle.smk_session.specs.Sessions.{same_pair}

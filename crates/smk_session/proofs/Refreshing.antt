@@ -1,31 +1,13 @@
 -- What views are evaluated to that are made anew, and what is asked of them one after the other.
-use Rattle.std.proofs.Common.{◌≡◌, ◌∙◌, ◌<◌, ◌+◌, ℕ, List, [], ◌∷◌, ◌++◌, Result, Ok, Err, IfOk, IfErr, OnOk, length, take, drop, get_or, map, ap, sym, subst, Some, None, ◌⊎◌, inl, inr, append-nil}
+use Rattle.std.proofs.{Common.{◌≡◌, ◌∙◌, ◌<◌, ◌+◌, ℕ, List, [], ◌∷◌, ◌++◌, Result, Ok, Err, IfOk, IfErr, OnOk, length, take, drop, get_or, map, ap, sym, subst, Some, None, ◌⊎◌, inl, inr, append-nil}, lemmas.List.{append_assoc, map-append, take-append-drop, take_more}}
 use Rattle.std.specs.List.{AllZip}
-use Rattle.std.proofs.lemmas.List.{append_assoc, map-append, take-append-drop, take_more}
-use Rattle.smk_base.specs.PlanImage.{expr_of}
-use Rattle.smk_base.specs.Plans.{Expr}
-use Rattle.smk_base.specs.Rels.{Relation}
-use Rattle.smk_base.specs.declared.reply.Linked.{Linked}
-use Rattle.smk_base.specs.declared.value.Kind.{Kind}
-use Rattle.smk_model.specs.Plain.{eval}
-use Rattle.smk_model.specs.Selection.{each_kinds, each_rows, first_full, plan_kinds}
-use Rattle.smk_model.specs.Session.{leaves_now, view_at}
-use Rattle.smk_model.specs.Tables.{all_or_first}
-use Rattle.smk_model.specs.Values.{Row}
+use Rattle.smk_base.specs.{PlanImage.expr_of, Plans.Expr, Rels.Relation, declared.reply.Linked.Linked, declared.value.Kind.Kind}
+use Rattle.smk_model.specs.{Plain.eval, Selection.{each_kinds, each_rows, first_full, plan_kinds}, Session.{leaves_now, view_at}, Tables.all_or_first, Values.Row}
 use Rattle.smk_model.proofs.InOrder.{then_fault, then_value}
 use Rattle.smk_jobs.specs.Jobs.{FirstFault}
-use Rattle.smk_compose.specs.declared.fault.EvalFault.{EvalFault}
-use Rattle.smk_compose.specs.declared.fault.EvalFault.TheVariants.{Rows}
-use Rattle.smk_session.specs.Answers.{Turns, content_at}
-use Rattle.smk_session.specs.Refreshed.{AreFollowed, Follows, FollowsAs, HasLeaves, IsContent, IsMade, IsOf, IsRun, IsSource, Shows, book_at, contents_at, linked_at, linked_told, read_by_marks, state_next, views_of}
-use Rattle.smk_session.specs.declared.brush.evaluating.Fetched.{Fetched}
-use Rattle.smk_session.specs.declared.brush.evaluating.Source.{Source}
+use Rattle.smk_compose.specs.{declared.fault.EvalFault.EvalFault, declared.fault.EvalFault.TheVariants.Rows}
+use Rattle.smk_session.specs.{Answers.{Turns, content_at}, Refreshed.{AreFollowed, Follows, FollowsAs, HasLeaves, IsContent, IsMade, IsOf, IsRun, IsSource, Shows, book_at, contents_at, linked_at, linked_told, read_by_marks, state_next, views_of}, declared.brush.evaluating.Fetched.Fetched, declared.brush.evaluating.Source.Source, declared.brush.following.Followed.Followed, declared.brush.refresh.Refresh.Refresh, declared.turn.Content.Content, declared.answer.no_answer.Turned.Turned, declared.answer.no_answer.Turned.TheVariants.Exhausted}
 use Rattle.smk_session.specs.declared.brush.evaluating.Source.TheVariants as sources
-use Rattle.smk_session.specs.declared.brush.following.Followed.{Followed}
-use Rattle.smk_session.specs.declared.brush.refresh.Refresh.{Refresh}
-use Rattle.smk_session.specs.declared.turn.Content.{Content}
-use Rattle.smk_session.specs.declared.answer.no_answer.Turned.{Turned}
-use Rattle.smk_session.specs.declared.answer.no_answer.Turned.TheVariants.{Exhausted}
 
 -- what a plan is evaluated to, by the clauses on one result
 

@@ -1,10 +1,7 @@
 -- Rids that are places are ascending, and those of rows that are there.
-use Rattle.std.proofs.Common.{◌≡◌, ℕ, ◌<◌, Bool, List, subst, arith, All}
+use Rattle.std.proofs.{Common.{◌≡◌, ℕ, ◌<◌, Bool, List, subst, arith, All}, lemmas.List.get_or_default, lemmas.List.Kept.AllPairs-filter}
 use Rattle.std.specs.List.{AllPairs, filter}
-use Rattle.std.proofs.lemmas.List.{get_or_default}
-use Rattle.std.proofs.lemmas.List.Kept.{AllPairs-filter}
-use Rattle.smk_base.specs.Places.{IsPlaces, upto, places, has}
-use Rattle.smk_base.specs.Picks.{IsAscending}
+use Rattle.smk_base.specs.{Places.{IsPlaces, upto, places, has}, Picks.IsAscending}
 use Rattle.smk_model.proofs.QueryAnswers.{answers_are_places}
 use Rattle.smk_rid.proofs.Sets.{upto_rises}
 

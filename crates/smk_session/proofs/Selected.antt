@@ -1,30 +1,12 @@
 -- The rids that brushes select of a table for a view, brush by brush, and the leaves over the picks of them.
-use Rattle.std.proofs.Common.{◌≡◌, ℕ, ◌+◌, ◌<◌, Bool, true, false, ◌&&◌, ◌||◌, cond, List, [], ◌∷◌, ◌++◌, length, map, take, get_or, refl, ap, sym, ◌∙◌, subst, arith, nat_eq, suc, Option, Some, None, option_map, All, IfSome, inl, inr, find}
+use Rattle.std.proofs.{Common.{◌≡◌, ℕ, ◌+◌, ◌<◌, Bool, true, false, ◌&&◌, ◌||◌, cond, List, [], ◌∷◌, ◌++◌, length, map, take, get_or, refl, ap, sym, ◌∙◌, subst, arith, nat_eq, suc, Option, Some, None, option_map, All, IfSome, inl, inr, find}, lemmas.Bool.{cases_Bool, cases_lt, eqb-true}, lemmas.List.{map-append, take_more}, lemmas.List.Elements.{All-nil, All-cons, All-head, All-tail, filter-append}, lemmas.List.Folds.list_any_more}
 use Rattle.std.specs.List.{filter, list_all, list_any}
-use Rattle.std.proofs.lemmas.Bool.{cases_Bool, cases_lt, eqb-true}
-use Rattle.std.proofs.lemmas.List.{map-append, take_more}
-use Rattle.std.proofs.lemmas.List.Elements.{All-nil, All-cons, All-head, All-tail, filter-append}
-use Rattle.std.proofs.lemmas.List.Folds.{list_any_more}
-use Rattle.smk_base.specs.CatalogImage.{CatalogImage}
-use Rattle.smk_base.specs.Picks.{ArePicks, IsAscending}
-use Rattle.smk_base.specs.Places.{IsPlaces, has, places, upto}
-use Rattle.smk_base.specs.declared.brush.BrushOn.{BrushOn}
-use Rattle.smk_base.specs.declared.list.table_rids.Pick.{Pick}
-use Rattle.smk_model.specs.Values.{Row}
-use Rattle.smk_model.specs.Lineage.{sub}
-use Rattle.smk_model.specs.Plain.{leaves, table_at}
-use Rattle.smk_model.specs.Selection.{PickFits, kept_rows, over, picked, selected}
-use Rattle.smk_model.specs.Session.{State, concerns, leaves_now, picks_for, rows_of_table, selected_for, view_at}
+use Rattle.smk_base.specs.{CatalogImage.CatalogImage, Picks.{ArePicks, IsAscending}, Places.{IsPlaces, has, places, upto}, declared.brush.BrushOn.BrushOn, declared.list.table_rids.Pick.Pick}
+use Rattle.smk_model.specs.{Values.Row, Lineage.sub, Plain.{leaves, table_at}, Selection.{PickFits, kept_rows, over, picked, selected}, Session.{State, concerns, leaves_now, picks_for, rows_of_table, selected_for, view_at}}
 use Rattle.smk_base.proofs.Places.{filter_filter, places_below, same_below}
-use Rattle.smk_model.proofs.Replies.{whole_sub}
-use Rattle.smk_model.proofs.Selections.{filter-true}
-use Rattle.smk_session.specs.Answers.{AreOn, chosen_by, counts, narrowed_by, pick_for, picks_brushed, rids_or_all}
-use Rattle.smk_session.specs.Behind.{RidsFit}
-use Rattle.smk_session.proofs.InForce.{put_last}
-use Rattle.smk_session.proofs.KeptOf.{find_mapped, found, past}
-use Rattle.smk_session.proofs.Rids.{filter_ascends, places_ascend}
-use Rattle.smk_model.proofs.Anys.{or_false}
-use Rattle.smk_model.proofs.Keyed.{none_pass}
+use Rattle.smk_model.proofs.{Replies.whole_sub, Selections.filter-true, Anys.or_false, Keyed.none_pass}
+use Rattle.smk_session.specs.{Answers.{AreOn, chosen_by, counts, narrowed_by, pick_for, picks_brushed, rids_or_all}, Behind.RidsFit}
+use Rattle.smk_session.proofs.{InForce.put_last, KeptOf.{find_mapped, found, past}, Rids.{filter_ascends, places_ascend}}
 
 -- the rids of all brushes that pass a test
 

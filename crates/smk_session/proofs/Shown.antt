@@ -1,31 +1,13 @@
 -- What a view shows under brushes, and what a change of the brushes leaves in force.
-use Rattle.std.proofs.Common.{◌≡◌, ℕ, ◌<◌, ◌≤◌, Bool, true, false, cond, List, [], ◌∷◌, ◌++◌, length, map, get_or, refl, ap, sym, ◌∙◌, subst, arith, Option, Some, None, All}
+use Rattle.std.proofs.{Common.{◌≡◌, ℕ, ◌<◌, ◌≤◌, Bool, true, false, cond, List, [], ◌∷◌, ◌++◌, length, map, get_or, refl, ap, sym, ◌∙◌, subst, arith, Option, Some, None, All}, lemmas.Bool.false≢true, lemmas.List.length-map, lemmas.List.Elements.{All-nil, All-cons, All-append, All-head, All-tail}}
 use Rattle.std.specs.List.{filter, list_any, IsDistinct}
-use Rattle.std.proofs.lemmas.Bool.{false≢true}
-use Rattle.std.proofs.lemmas.List.{length-map}
-use Rattle.std.proofs.lemmas.List.Elements.{All-nil, All-cons, All-append, All-head, All-tail}
-use Rattle.smk_base.specs.CatalogImage.{CatalogImage, view_image, catalog_image}
-use Rattle.smk_base.specs.Places.{has, upto}
-use Rattle.smk_base.specs.Rels.{Relation}
-use Rattle.smk_base.specs.declared.brush.BrushOn.{BrushOn}
-use Rattle.smk_base.specs.declared.book.catalog.Catalog.{Catalog}
-use Rattle.smk_model.specs.Values.{Row}
-use Rattle.smk_model.specs.Catalogs.{IsCatalog}
-use Rattle.smk_model.specs.Replies.{content_of}
-use Rattle.smk_model.specs.Selection.{each_rows}
-use Rattle.smk_model.specs.Session.{State, is_brush, linked, view_at, with_brush, without_brush}
+use Rattle.smk_base.specs.{CatalogImage.{CatalogImage, view_image, catalog_image}, Places.{has, upto}, Rels.Relation, declared.brush.BrushOn.BrushOn, declared.book.catalog.Catalog.Catalog}
+use Rattle.smk_model.specs.{Values.Row, Catalogs.IsCatalog, Replies.content_of, Selection.each_rows, Session.{State, is_brush, linked, view_at, with_brush, without_brush}}
 use Rattle.smk_base.proofs.Places.{get_or_map_upto, length_upto, upto_below, has_upto}
 use Rattle.smk_compose.specs.declared.kept_maps.Run.{Run}
 use Rattle.smk_skip.specs.Splits.{SplitImage}
-use Rattle.smk_session.specs.Answers.{content_at, placed}
-use Rattle.smk_session.specs.Opened.{AreExtras, AreOpened, state_over}
-use Rattle.smk_session.specs.Sessions.{AreInForce, BrushFits, IsSession, content_kept, follows, same_pair}
-use Rattle.smk_session.specs.declared.start.mode.Mode.{Mode}
-use Rattle.smk_session.specs.declared.turn.Content.{Content}
-use Rattle.smk_session.proofs.InForce.{brush_leaves, clear_leaves, placed_are, untouched}
-use Rattle.smk_session.proofs.Linked.{linked_low}
-use Rattle.smk_session.proofs.OpenedViews.{run_is, views_long}
-use Rattle.smk_session.proofs.Pairs.{none_a_pair, with_one_a_pair, without_one_a_pair}
+use Rattle.smk_session.specs.{Answers.{content_at, placed}, Opened.{AreExtras, AreOpened, state_over}, Sessions.{AreInForce, BrushFits, IsSession, content_kept, follows, same_pair}, declared.start.mode.Mode.Mode, declared.turn.Content.Content}
+use Rattle.smk_session.proofs.{InForce.{brush_leaves, clear_leaves, placed_are, untouched}, Linked.linked_low, OpenedViews.{run_is, views_long}, Pairs.{none_a_pair, with_one_a_pair, without_one_a_pair}}
 
 -- what is kept of a view
 

@@ -1,20 +1,9 @@
 -- The first value that some of the first numbers have.
-use Rattle.std.proofs.Common.{◌≡◌, ℕ, zero, suc, ◌+◌, ◌<◌, ◌≤◌, List, [], ◌∷◌, ◌++◌, length, map, take, get_or, refl, ap, sym, ◌∙◌, arith, Option, Some, None, inl, inr}
-use Rattle.std.specs.List.{sum_by}
-use Rattle.std.specs.Option.{option_or}
-use Rattle.std.proofs.lemmas.Bool.{cases_lt}
-use Rattle.std.proofs.lemmas.List.{map-append}
-use Rattle.std.proofs.lemmas.List.Sums.{sum_by_more, sum_by-take-le}
-use Rattle.smk_base.specs.CatalogImage.{ViewImage}
-use Rattle.smk_base.specs.Places.{upto}
-use Rattle.smk_base.specs.Rels.{Relation}
-use Rattle.smk_base.specs.declared.book.catalog.Catalog.{Catalog}
-use Rattle.smk_model.specs.Opening.{ViewFault, first_some}
-use Rattle.smk_model.specs.Looks.{looks_of_view, looks_of_back, start_looks}
-use Rattle.smk_model.specs.Session.{Workbook, no_view}
-use Rattle.smk_session.specs.Opened.{IsStartFault, workbook_image}
-use Rattle.smk_session.specs.declared.start.fault.StartFault.{StartFault}
-use Rattle.smk_session.specs.declared.start.fault.StartFault.TheVariants.{NoMemory}
+use Rattle.std.proofs.{Common.{◌≡◌, ℕ, zero, suc, ◌+◌, ◌<◌, ◌≤◌, List, [], ◌∷◌, ◌++◌, length, map, take, get_or, refl, ap, sym, ◌∙◌, arith, Option, Some, None, inl, inr}, lemmas.Bool.cases_lt, lemmas.List.map-append, lemmas.List.Sums.{sum_by_more, sum_by-take-le}}
+use Rattle.std.specs.{List.sum_by, Option.option_or}
+use Rattle.smk_base.specs.{CatalogImage.ViewImage, Places.upto, Rels.Relation, declared.book.catalog.Catalog.Catalog}
+use Rattle.smk_model.specs.{Opening.{ViewFault, first_some}, Looks.{looks_of_view, looks_of_back, start_looks}, Session.{Workbook, no_view}}
+use Rattle.smk_session.specs.{Opened.{IsStartFault, workbook_image}, declared.start.fault.StartFault.StartFault, declared.start.fault.StartFault.TheVariants.NoMemory}
 
 or_or : {X : Type 0} (a b c : Option X) → option_or a (option_or b c) ≡ option_or (option_or a b) c
 or_or (Some x) b c = refl

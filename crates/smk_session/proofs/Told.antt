@@ -1,19 +1,9 @@
 -- What is told of a brush and of the end of one, with lists or without them.
-use Rattle.std.proofs.Common.{◌≡◌, ◌∙◌, ℕ, Bool, true, false, cond, List, [], ◌∷◌, map, refl, ap, sym, Result, Ok, Err, Option, Some, None}
-use Rattle.std.proofs.lemmas.List.{map-id}
-use Rattle.smk_base.specs.Rels.{Relation}
-use Rattle.smk_base.specs.declared.reply.Linked.{Linked}
+use Rattle.std.proofs.{Common.{◌≡◌, ◌∙◌, ℕ, Bool, true, false, cond, List, [], ◌∷◌, map, refl, ap, sym, Result, Ok, Err, Option, Some, None}, lemmas.List.map-id}
+use Rattle.smk_base.specs.{Rels.Relation, declared.reply.Linked.Linked}
 use Rattle.smk_base.specs.declared.reply.Reply.TheVariants as replies
-use Rattle.smk_model.specs.Names.{◌>>=◌}
-use Rattle.smk_model.specs.OwnTexts.{unlisted, without_marks}
-use Rattle.smk_model.specs.Replies.{Asked, all_linked, content_of, linked_now, unless_full}
-use Rattle.smk_model.specs.Selection.{first_full}
-use Rattle.smk_model.specs.Session.{leaves_now, linked, view_at}
-use Rattle.smk_model.specs.Tables.{all_or_first}
-use Rattle.smk_session.specs.Answers.{Turns}
-use Rattle.smk_session.specs.Refreshed.{all_told, book_at, linked_told, marks_next, state_next}
-use Rattle.smk_session.specs.declared.answer.no_answer.Turned.{Turned}
-use Rattle.smk_session.specs.declared.brush.refresh.Refresh.{Refresh}
+use Rattle.smk_model.specs.{Names.◌>>=◌, OwnTexts.{unlisted, without_marks}, Replies.{Asked, all_linked, content_of, linked_now, unless_full}, Selection.first_full, Session.{leaves_now, linked, view_at}, Tables.all_or_first}
+use Rattle.smk_session.specs.{Answers.Turns, Refreshed.{all_told, book_at, linked_told, marks_next, state_next}, declared.answer.no_answer.Turned.Turned, declared.brush.refresh.Refresh.Refresh}
 
 -- results that are mapped, one after the other
 

@@ -1,31 +1,10 @@
 -- What a call says that works out what a line asks for, and what is asked of the lineage that is kept.
-use Rattle.std.specs.Prelude.{◌≡◌, ◌<◌, ℕ, Result, Ok, Err, MatchResult, Bool, cond, false, List, [], ◌∷◌, nat_eq, length, map, set, Option, Some, None, All}
-use Rattle.std.specs.List.{filter, list_all, list_any}
-use Rattle.smk_base.specs.CatalogImage.{CatalogImage, catalog_image}
-use Rattle.smk_base.specs.Places.{IsPlaces, Lists, has, members_at, places, upto}
-use Rattle.smk_base.specs.Rels.{Relation}
-use Rattle.smk_base.specs.declared.brush.BrushOn.{BrushOn}
-use Rattle.smk_base.specs.declared.book.catalog.Catalog.{Catalog}
-use Rattle.smk_base.specs.declared.list.table_rids.Pick.{Pick}
-use Rattle.smk_base.specs.declared.book.tree.Marks.{Marks}
-use Rattle.smk_base.specs.declared.reply.Reply.{Reply}
+use Rattle.std.specs.{Prelude.{◌≡◌, ◌<◌, ℕ, Result, Ok, Err, MatchResult, Bool, cond, false, List, [], ◌∷◌, nat_eq, length, map, set, Option, Some, None, All}, List.{filter, list_all, list_any}}
+use Rattle.smk_base.specs.{CatalogImage.{CatalogImage, catalog_image}, Places.{IsPlaces, Lists, has, members_at, places, upto}, Rels.Relation, declared.brush.BrushOn.BrushOn, declared.book.catalog.Catalog.Catalog, declared.list.table_rids.Pick.Pick, declared.book.tree.Marks.Marks, declared.reply.Reply.Reply, declared.reply.Refusal.Refusal}
 use Rattle.smk_base.specs.declared.reply.Reply.TheVariants as replies
-use Rattle.smk_base.specs.declared.reply.Refusal.{Refusal}
-use Rattle.smk_model.specs.Lineage.{sub}
-use Rattle.smk_model.specs.Looks.{looks_of_rows}
-use Rattle.smk_model.specs.Names.{◌>>=◌}
-use Rattle.smk_model.specs.Replies.{Asked, is_refused, unless_outside, marked}
-use Rattle.smk_model.specs.Session.{State, concerns, rows_of_table, selected_for, under}
+use Rattle.smk_model.specs.{Lineage.sub, Looks.looks_of_rows, Names.◌>>=◌, Replies.{Asked, is_refused, unless_outside, marked}, Session.{State, concerns, rows_of_table, selected_for, under}}
 use Rattle.smk_compose.specs.declared.kept_maps.KeptMap.{KeptMap}
-use Rattle.smk_session.specs.Opened.{AreExtras, AreOpened, state_over}
-use Rattle.smk_session.specs.Kept.{kept_back, kept_fwd}
-use Rattle.smk_session.specs.Sessions.{AreInForce, content_kept}
-use Rattle.smk_session.specs.declared.brush.choices.Choice.{Choice}
-use Rattle.smk_session.specs.declared.lent.Lent.{Lent}
-use Rattle.smk_session.specs.declared.turn.Change.{Change}
-use Rattle.smk_session.specs.declared.turn.Content.{Content}
-use Rattle.smk_session.specs.declared.answer.no_answer.Turned.{Turned}
-use Rattle.smk_session.specs.declared.answer.no_answer.Turned.TheVariants.{Refused}
+use Rattle.smk_session.specs.{Opened.{AreExtras, AreOpened, state_over}, Kept.{kept_back, kept_fwd}, Sessions.{AreInForce, content_kept}, declared.brush.choices.Choice.Choice, declared.lent.Lent.Lent, declared.turn.Change.Change, declared.turn.Content.Content, declared.answer.no_answer.Turned.Turned, declared.answer.no_answer.Turned.TheVariants.Refused}
 
 -- the refusal is that of what is asked for, unless memory is wanting
 abbrev pub Turns : {A : Type 0} → Turned → Asked A → Type 0

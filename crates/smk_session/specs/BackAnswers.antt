@@ -1,28 +1,14 @@
 -- What the calls say that work out the parts of a backward answer.
-use Rattle.std.specs.Prelude.{◌≡◌, ◌<◌, ℕ, nat_eq, Option, List, ◌∷◌, length, slice_get, slice_index_or, ok_or, Ok, Err, option_map}
-use Rattle.std.specs.List.{list_all}
-use Rattle.smk_base.specs.CatalogImage.{CatalogImage, catalog_image}
-use Rattle.smk_base.specs.Places.{Lists}
-use Rattle.smk_base.specs.Rels.{Relation}
-use Rattle.smk_base.specs.declared.reply.Reply.{Reply}
+use Rattle.std.specs.{Prelude.{◌≡◌, ◌<◌, ℕ, nat_eq, Option, List, ◌∷◌, length, slice_get, slice_index_or, ok_or, Ok, Err, option_map}, List.list_all}
+use Rattle.smk_base.specs.{CatalogImage.{CatalogImage, catalog_image}, Places.Lists, Rels.Relation, declared.reply.Reply.Reply, declared.reply.Refusal.TheVariants.{ManyMarks, NoGroup, NoSplit, ValueKind}, declared.book.tree.Marks.Marks, declared.book.tree.Then.Then, declared.value.Value.Value}
 use Rattle.smk_base.specs.declared.reply.Reply.TheVariants as replies
-use Rattle.smk_base.specs.declared.reply.Refusal.TheVariants.{ManyMarks, NoGroup, NoSplit, ValueKind}
-use Rattle.smk_base.specs.declared.book.tree.Marks.{Marks}
 use Rattle.smk_base.specs.declared.book.tree.Marks.TheVariants as markings
-use Rattle.smk_base.specs.declared.book.tree.Then.{Then}
 use Rattle.smk_base.specs.declared.book.tree.Then.TheVariants as thens
-use Rattle.smk_base.specs.declared.value.Value.{Value}
-use Rattle.smk_model.specs.Names.{◌>>=◌}
-use Rattle.smk_model.specs.Replies.{Asked, column_place, is_of_column, known_pair, marked, provided, unless_outside}
+use Rattle.smk_model.specs.{Names.◌>>=◌, Replies.{Asked, column_place, is_of_column, known_pair, marked, provided, unless_outside}}
 use Rattle.smk_compose.specs.declared.kept_maps.Run.{Run}
 use Rattle.smk_push.specs.Cubes.{cube_at}
 use Rattle.smk_skip.specs.Splits.{SplitImage, members_with}
-use Rattle.smk_session.specs.Kept.{kept_back}
-use Rattle.smk_session.specs.Answers.{book_of, members_asked, rows_told, within_asked}
-use Rattle.smk_session.specs.Extras.{split_place, cubes_place}
-use Rattle.smk_session.specs.Opened.{AreExtras, AreOpened}
-use Rattle.smk_session.specs.declared.answer.backward.Pair.{Pair}
-use Rattle.smk_session.specs.declared.lent.Lent.{Lent}
+use Rattle.smk_session.specs.{Kept.kept_back, Answers.{book_of, members_asked, rows_told, within_asked}, Extras.{split_place, cubes_place}, Opened.{AreExtras, AreOpened}, declared.answer.backward.Pair.Pair, declared.lent.Lent.Lent}
 
 -- what a session holds of a view and a table
 pub record IsPairOf (tables : List Relation) (views : List Run) (pair : Pair) : Type 0 where

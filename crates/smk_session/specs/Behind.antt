@@ -1,19 +1,9 @@
 -- What a call says that works out which rows a `back` line asks for, without looking at them.
 use Rattle.std.specs.Prelude.{◌≡◌, ◌<◌, ℕ, List, [], Result, Ok, length, All, MatchResult}
-use Rattle.smk_base.specs.CatalogImage.{CatalogImage}
-use Rattle.smk_base.specs.Picks.{IsAscending}
-use Rattle.smk_base.specs.Rels.{Relation}
-use Rattle.smk_base.specs.declared.book.catalog.Catalog.{Catalog}
-use Rattle.smk_base.specs.declared.book.tree.Line.{Line}
-use Rattle.smk_base.specs.declared.reply.Refusal.{Refusal}
+use Rattle.smk_base.specs.{CatalogImage.CatalogImage, Picks.IsAscending, Rels.Relation, declared.book.catalog.Catalog.Catalog, declared.book.tree.Line.Line, declared.reply.Refusal.Refusal}
 use Rattle.smk_base.specs.declared.reply.Reply.TheVariants as replies
-use Rattle.smk_model.specs.Replies.{known_pair, reply, rows_reply}
-use Rattle.smk_model.specs.ReplyTexts.{view_in, table_in}
-use Rattle.smk_model.specs.Session.{State, rows_of_table}
-use Rattle.smk_session.specs.Opened.{state_over}
-use Rattle.smk_session.specs.declared.answer.no_answer.Turned.{Turned}
-use Rattle.smk_session.specs.declared.answer.no_answer.Turned.TheVariants.{Refused}
-use Rattle.smk_session.specs.declared.answer.rows_behind.RowsBehind.{RowsBehind}
+use Rattle.smk_model.specs.{Replies.{known_pair, reply, rows_reply}, ReplyTexts.{view_in, table_in}, Session.{State, rows_of_table}}
+use Rattle.smk_session.specs.{Opened.state_over, declared.answer.no_answer.Turned.Turned, declared.answer.no_answer.Turned.TheVariants.Refused, declared.answer.rows_behind.RowsBehind.RowsBehind}
 
 -- the reply to a line is the rows with these rids, of the table that it names
 pub record IsBehind (catalog : CatalogImage) (state : State) (asked : Line) (found : RowsBehind) : Type 0 where

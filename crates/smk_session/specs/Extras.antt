@@ -1,19 +1,8 @@
 -- What is kept for the backward declarations that ask for more than rows: a split for each column, and the groups of each grouping.
-use Rattle.std.specs.Prelude.{ℕ, Bool, true, false, List, Option, Some, None}
-use Rattle.std.specs.List.{filter, filter_map, position_or_len}
-use Rattle.smk_base.specs.Places.{Lists}
-use Rattle.smk_base.specs.Rels.{Relation}
-use Rattle.smk_base.specs.declared.book.catalog.Back.{Back}
-use Rattle.smk_base.specs.declared.book.catalog.BackExtra.{BackExtra}
+use Rattle.std.specs.{Prelude.{ℕ, Bool, true, false, List, Option, Some, None}, List.{filter, filter_map, position_or_len}}
+use Rattle.smk_base.specs.{Places.Lists, Rels.Relation, declared.book.catalog.Back.Back, declared.book.catalog.BackExtra.BackExtra, declared.book.plan.Agg.Agg}
 use Rattle.smk_base.specs.declared.book.catalog.BackExtra.TheVariants as extras
-use Rattle.smk_base.specs.declared.book.plan.Agg.{Agg}
-use Rattle.smk_model.specs.Catalogs.{table_kinds}
-use Rattle.smk_model.specs.Composed.{backs}
-use Rattle.smk_model.specs.Plain.{table_at}
-use Rattle.smk_model.specs.Replies.{is_split}
-use Rattle.smk_model.specs.Session.{Workbook, view_at}
-use Rattle.smk_model.specs.Typing.{info_at}
-use Rattle.smk_model.specs.Workload.{is_back}
+use Rattle.smk_model.specs.{Catalogs.table_kinds, Composed.backs, Plain.table_at, Replies.is_split, Session.{Workbook, view_at}, Typing.info_at, Workload.is_back}
 use Rattle.smk_push.specs.Cubes.{cubes_of}
 use Rattle.smk_skip.specs.Splits.{SplitImage}
 

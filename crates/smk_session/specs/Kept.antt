@@ -1,9 +1,6 @@
 -- The lineage that is kept of a view.
-use Rattle.std.specs.Prelude.{ℕ, Bool, List, nat_eq, ok_or}
-use Rattle.std.specs.List.{find}
-use Rattle.std.specs.Option.{option_and_then}
-use Rattle.smk_base.specs.Places.{Lists}
-use Rattle.smk_base.specs.declared.reply.Refusal.TheVariants.{Undeclared}
+use Rattle.std.specs.{Prelude.{ℕ, Bool, List, nat_eq, ok_or}, List.find, Option.option_and_then}
+use Rattle.smk_base.specs.{Places.Lists, declared.reply.Refusal.TheVariants.Undeclared}
 use Rattle.smk_model.specs.Replies.{Asked}
 use Rattle.smk_compose.specs.declared.kept_maps.KeptMap.{KeptMap}
 

@@ -1,23 +1,10 @@
 -- What the calls say that make what declarations ask for besides the rows.
-use Rattle.std.specs.Prelude.{◌≡◌, ◌<◌, ℕ, Bool, true, cond, List, Option, Some, None, Result, IfOk, get_or, length, map}
-use Rattle.std.specs.declared.alloc.AllocError.{AllocError}
-use Rattle.smk_base.specs.CatalogImage.{CatalogImage, catalog_image}
-use Rattle.smk_base.specs.Rels.{Relation}
-use Rattle.smk_base.specs.declared.book.catalog.Back.{Back}
-use Rattle.smk_base.specs.declared.book.catalog.Catalog.{Catalog}
-use Rattle.smk_model.specs.Appends.{depends_on}
-use Rattle.smk_model.specs.Catalogs.{BackFits, each_table_kinds}
-use Rattle.smk_model.specs.Looks.{looks_of_back}
-use Rattle.smk_model.specs.Selection.{each_kinds}
-use Rattle.smk_model.specs.Session.{Workbook}
-use Rattle.smk_model.specs.Workload.{declares_back}
-use Rattle.smk_session.specs.Extras.{table_of, split_in, cubes_in}
+use Rattle.std.specs.{Prelude.{◌≡◌, ◌<◌, ℕ, Bool, true, cond, List, Option, Some, None, Result, IfOk, get_or, length, map}, declared.alloc.AllocError.AllocError}
+use Rattle.smk_base.specs.{CatalogImage.{CatalogImage, catalog_image}, Rels.Relation, declared.book.catalog.Back.Back, declared.book.catalog.Catalog.Catalog}
+use Rattle.smk_model.specs.{Appends.depends_on, Catalogs.{BackFits, each_table_kinds}, Looks.looks_of_back, Selection.each_kinds, Session.Workbook, Workload.declares_back}
+use Rattle.smk_session.specs.{Extras.{table_of, split_in, cubes_in}, Opened.{opened, workbook_image}, declared.start.making.ExtraAsked.ExtraAsked, declared.start.making.SplitOrCubes.SplitOrCubes, declared.start.making.Opening.Opening}
 use Rattle.smk_compose.specs.declared.kept_maps.Run.{Run}
 use Rattle.smk_skip.specs.Splits.{SplitImage}
-use Rattle.smk_session.specs.Opened.{opened, workbook_image}
-use Rattle.smk_session.specs.declared.start.making.ExtraAsked.{ExtraAsked}
-use Rattle.smk_session.specs.declared.start.making.SplitOrCubes.{SplitOrCubes}
-use Rattle.smk_session.specs.declared.start.making.Opening.{Opening}
 
 abbrev pub book_in : Opening → Workbook
 book_in opening = workbook_image opening.book.now opening.tables.now

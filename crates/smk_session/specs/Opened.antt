@@ -1,23 +1,10 @@
 -- What is made of a book over its tables before a line is answered.
 use Rattle.std.specs.Prelude.{◌≡◌, ℕ, List, length, map, Option, Some}
-use Rattle.smk_base.specs.CatalogImage.{catalog_image}
-use Rattle.smk_base.specs.Places.{upto}
-use Rattle.smk_base.specs.Rels.{Relation}
-use Rattle.smk_base.specs.declared.brush.BrushOn.{BrushOn}
-use Rattle.smk_base.specs.declared.book.catalog.Catalog.{Catalog}
-use Rattle.smk_model.specs.Catalogs.{IsCatalog, each_table_kinds}
-use Rattle.smk_model.specs.NodeFaults.{NodeFault, FullRows, FullPairs}
-use Rattle.smk_model.specs.Opening.{ViewFault}
-use Rattle.smk_model.specs.Plain.{rows_over}
-use Rattle.smk_model.specs.Selection.{each_kinds, each_rows}
-use Rattle.smk_model.specs.Session.{Workbook, State, view_at}
-use Rattle.smk_model.specs.Workload.{needs}
-use Rattle.smk_compose.specs.KeptMaps.{kept_at}
-use Rattle.smk_compose.specs.declared.kept_maps.Run.{Run}
+use Rattle.smk_base.specs.{CatalogImage.catalog_image, Places.upto, Rels.Relation, declared.brush.BrushOn.BrushOn, declared.book.catalog.Catalog.Catalog}
+use Rattle.smk_model.specs.{Catalogs.{IsCatalog, each_table_kinds}, NodeFaults.{NodeFault, FullRows, FullPairs}, Opening.ViewFault, Plain.rows_over, Selection.{each_kinds, each_rows}, Session.{Workbook, State, view_at}, Workload.needs}
+use Rattle.smk_compose.specs.{KeptMaps.kept_at, declared.kept_maps.Run.Run}
 use Rattle.smk_skip.specs.Splits.{SplitImage}
-use Rattle.smk_session.specs.Extras.{splits_of, all_cubes}
-use Rattle.smk_session.specs.declared.start.fault.StartFault.{StartFault}
-use Rattle.smk_session.specs.declared.start.fault.StartFault.TheVariants.{Rows, Pairs, NoMemory}
+use Rattle.smk_session.specs.{Extras.{splits_of, all_cubes}, declared.start.fault.StartFault.StartFault, declared.start.fault.StartFault.TheVariants.{Rows, Pairs, NoMemory}}
 
 -- a checked book with its tables
 abbrev pub workbook_image : Catalog → List Relation → Workbook

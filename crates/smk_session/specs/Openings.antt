@@ -1,17 +1,9 @@
 -- What the calls say that open views.
 use Rattle.std.specs.Prelude.{◌≡◌, ◌<◌, ℕ, List, Option, Result, MatchResult, None, length, map}
-use Rattle.smk_base.specs.CatalogImage.{catalog_image}
-use Rattle.smk_base.specs.Rels.{Relation}
-use Rattle.smk_base.specs.declared.book.catalog.Catalog.{Catalog}
-use Rattle.smk_model.specs.Catalogs.{each_table_kinds}
-use Rattle.smk_model.specs.Opening.{ViewFault, first_some, view_fault}
-use Rattle.smk_model.specs.Plain.{whole}
-use Rattle.smk_model.specs.Selection.{each_kinds, each_rows, leaf_kinds}
-use Rattle.smk_model.specs.Session.{Workbook, view_at}
+use Rattle.smk_base.specs.{CatalogImage.catalog_image, Rels.Relation, declared.book.catalog.Catalog.Catalog}
+use Rattle.smk_model.specs.{Catalogs.each_table_kinds, Opening.{ViewFault, first_some, view_fault}, Plain.whole, Selection.{each_kinds, each_rows, leaf_kinds}, Session.{Workbook, view_at}}
 use Rattle.smk_compose.specs.declared.kept_maps.Run.{Run}
-use Rattle.smk_session.specs.Opened.{IsStartFault, opened}
-use Rattle.smk_session.specs.declared.start.fault.StartFault.{StartFault}
-use Rattle.smk_session.specs.declared.start.opening.Stocked.{Stocked}
+use Rattle.smk_session.specs.{Opened.{IsStartFault, opened}, declared.start.fault.StartFault.StartFault, declared.start.opening.Stocked.Stocked}
 
 -- a view of a book can be opened over the rows that are fetched: they are those of its leaves, each the whole table
 pub record CanOpen (catalog : Catalog) (tables : List Relation) (stocked : Stocked) : Type 0 where

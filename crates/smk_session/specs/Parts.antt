@@ -1,6 +1,5 @@
 -- The parts of a session, as the session that has exactly these.
-use Rattle.smk_session.specs.Sessions.{SessionImage}
-use Rattle.smk_session.specs.declared.parts.Parts.{Parts}
+use Rattle.smk_session.specs.{Sessions.SessionImage, declared.parts.Parts.Parts}
 
 -- each vector as its list
 abbrev pub parts_image : Parts → SessionImage

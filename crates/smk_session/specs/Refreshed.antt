@@ -1,35 +1,11 @@
 -- What the calls say that make views anew under other brushes.
 use Rattle.std.specs.Prelude.{◌≡◌, ◌<◌, ◌^◌, ℕ, Bool, ◌&&◌, nat_eq, cond, List, [], Option, Result, Ok, MatchResult, true, Some, None, All, IfSome, length, map}
-use Rattle.smk_base.specs.CatalogImage.{CatalogImage}
-use Rattle.smk_base.specs.PlanImage.{expr_of}
-use Rattle.smk_base.specs.Plans.{Expr}
-use Rattle.smk_base.specs.Rels.{Relation}
-use Rattle.smk_base.specs.declared.reply.Linked.{Linked}
-use Rattle.smk_model.specs.Composed.{forwards}
-use Rattle.smk_model.specs.LineageLaws.{selected_table}
-use Rattle.smk_model.specs.Plain.{eval, width}
-use Rattle.smk_model.specs.Replies.{Asked, content_of, marks_fwd, unless_full}
-use Rattle.smk_model.specs.Selection.{PlanFits, each_kinds, each_rows, first_full, nodes, plan_kinds, rows_in}
-use Rattle.smk_model.specs.Session.{State, leaves_now, linked, selected_for, view_at}
-use Rattle.smk_model.specs.Tables.{all_or_first}
-use Rattle.smk_model.specs.Workload.{declares_fwd}
-use Rattle.smk_compose.specs.declared.fault.EvalFault.{EvalFault}
-use Rattle.smk_compose.specs.declared.fault.EvalFault.TheVariants.{NoMemory, Rows}
-use Rattle.smk_marks.specs.Views.{CanGroup, EndsInGroups, ends_in_groups, grouped_by_marks}
-use Rattle.smk_marks.specs.declared.reached.Reached.{Reached}
-use Rattle.smk_marks.specs.declared.view.KeptView.{KeptView}
-use Rattle.smk_session.specs.Answers.{AreOn, IsChoice, IsLent, Turns, book_of, brushed_of, content_at, state_at}
-use Rattle.smk_session.specs.Opened.{opened, workbook_image}
-use Rattle.smk_session.specs.Sessions.{BrushFits}
-use Rattle.smk_session.specs.declared.brush.choices.Choice.{Choice}
-use Rattle.smk_session.specs.declared.brush.evaluating.Fetched.{Fetched}
-use Rattle.smk_session.specs.declared.brush.evaluating.Source.{Source}
+use Rattle.smk_base.specs.{CatalogImage.CatalogImage, PlanImage.expr_of, Plans.Expr, Rels.Relation, declared.reply.Linked.Linked}
+use Rattle.smk_model.specs.{Composed.forwards, LineageLaws.selected_table, Plain.{eval, width}, Replies.{Asked, content_of, marks_fwd, unless_full}, Selection.{PlanFits, each_kinds, each_rows, first_full, nodes, plan_kinds, rows_in}, Session.{State, leaves_now, linked, selected_for, view_at}, Tables.all_or_first, Workload.declares_fwd}
+use Rattle.smk_compose.specs.{declared.fault.EvalFault.EvalFault, declared.fault.EvalFault.TheVariants.{NoMemory, Rows}}
+use Rattle.smk_marks.specs.{Views.{CanGroup, EndsInGroups, ends_in_groups, grouped_by_marks}, declared.reached.Reached.Reached, declared.view.KeptView.KeptView}
+use Rattle.smk_session.specs.{Answers.{AreOn, IsChoice, IsLent, Turns, book_of, brushed_of, content_at, state_at}, Opened.{opened, workbook_image}, Sessions.BrushFits, declared.brush.choices.Choice.Choice, declared.brush.evaluating.Fetched.Fetched, declared.brush.evaluating.Source.Source, declared.brush.following.Followed.Followed, declared.lent.Lent.Lent, declared.brush.refresh.Refresh.Refresh, declared.turn.Content.Content, declared.answer.no_answer.Turned.Turned}
 use Rattle.smk_session.specs.declared.brush.evaluating.Source.TheVariants as sources
-use Rattle.smk_session.specs.declared.brush.following.Followed.{Followed}
-use Rattle.smk_session.specs.declared.lent.Lent.{Lent}
-use Rattle.smk_session.specs.declared.brush.refresh.Refresh.{Refresh}
-use Rattle.smk_session.specs.declared.turn.Content.{Content}
-use Rattle.smk_session.specs.declared.answer.no_answer.Turned.{Turned}
 
 -- the brushes that come into force fit, and the table is there
 pub record IsRefresh (refresh : Refresh) : Type 0 where

@@ -1,10 +1,7 @@
 -- Laws of what a session keeps.
 use Rattle.std.specs.Prelude.{◌≡◌, List, [], length, map, None}
-use Rattle.smk_base.specs.CatalogImage.{CatalogImage}
-use Rattle.smk_base.specs.Places.{upto}
-use Rattle.smk_base.specs.Rels.{Relation}
-use Rattle.smk_session.specs.Opened.{state_over}
-use Rattle.smk_session.specs.Sessions.{contents_kept}
+use Rattle.smk_base.specs.{CatalogImage.CatalogImage, Places.upto, Rels.Relation}
+use Rattle.smk_session.specs.{Opened.state_over, Sessions.contents_kept}
 
 -- with no brush in force, no view has a content beside its first one
 abbrev pub NothingKept : Type 0

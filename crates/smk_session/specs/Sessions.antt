@@ -1,18 +1,10 @@
 -- What callers see of a session, and what every session keeps.
-use Rattle.std.specs.Prelude.{◌≡◌, ◌<◌, ◌≤◌, ℕ, Bool, cond, List, [], length, map, Option, Some, None, All}
-use Rattle.std.specs.List.{list_any, IsDistinct}
-use Rattle.smk_base.specs.CatalogImage.{CatalogImage, catalog_image}
-use Rattle.smk_base.specs.Places.{IsPlaces, has, upto}
-use Rattle.smk_base.specs.Rels.{Relation}
-use Rattle.smk_base.specs.declared.brush.BrushOn.{BrushOn}
-use Rattle.smk_base.specs.declared.book.catalog.Catalog.{Catalog}
-use Rattle.smk_base.specs.declared.workers.TheConstants.{WORKER_LIMIT}
-use Rattle.smk_model.specs.Replies.{content_of}
-use Rattle.smk_model.specs.Session.{Workbook, State, is_brush, linked, rows_of_table}
+use Rattle.std.specs.{Prelude.{◌≡◌, ◌<◌, ◌≤◌, ℕ, Bool, cond, List, [], length, map, Option, Some, None, All}, List.{list_any, IsDistinct}}
+use Rattle.smk_base.specs.{CatalogImage.{CatalogImage, catalog_image}, Places.{IsPlaces, has, upto}, Rels.Relation, declared.brush.BrushOn.BrushOn, declared.book.catalog.Catalog.Catalog, declared.workers.TheConstants.WORKER_LIMIT}
+use Rattle.smk_model.specs.{Replies.content_of, Session.{Workbook, State, is_brush, linked, rows_of_table}}
 use Rattle.smk_compose.specs.declared.kept_maps.Run.{Run}
 use Rattle.smk_skip.specs.Splits.{SplitImage}
-use Rattle.smk_session.specs.Opened.{AreOpened, AreExtras, workbook_image, state_over}
-use Rattle.smk_session.specs.declared.start.mode.Mode.{Mode}
+use Rattle.smk_session.specs.{Opened.{AreOpened, AreExtras, workbook_image, state_over}, declared.start.mode.Mode.Mode}
 
 -- its book, the tables, for each view the first content with the lineage that is kept, the splits and the groups that are made for the declarations that ask for more than rows, the brushes in force, for each view the content that is kept under them beside the first one, the mode of capture and the number of workers
 pub record SessionImage : Type 0 where

@@ -1,9 +1,7 @@
 -- What is told of a turn: its reply, with its lists or without them, and the next state.
 use Rattle.std.specs.Prelude.{◌≡◌, Bool, cond, Ok}
 use Rattle.smk_base.specs.declared.reply.Reply.{Reply}
-use Rattle.smk_model.specs.OwnTexts.{brushed_rids, unlisted}
-use Rattle.smk_model.specs.Replies.{Asked}
-use Rattle.smk_model.specs.Session.{State}
+use Rattle.smk_model.specs.{OwnTexts.{brushed_rids, unlisted}, Replies.Asked, Session.State}
 use Rattle.smk_session.specs.declared.turn.Turn.{Turn}
 
 -- the reply of a turn is this one, or the same without its lists, and the turn has the number of the rids

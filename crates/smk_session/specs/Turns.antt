@@ -1,9 +1,7 @@
 -- What a line is answered, and what it changes of a session.
 use Rattle.std.specs.Prelude.{IfSome}
 use Rattle.smk_model.specs.Session.{State}
-use Rattle.smk_session.specs.Answers.{ChangesOver, next_of}
-use Rattle.smk_session.specs.Sessions.{SessionImage, state_of}
-use Rattle.smk_session.specs.declared.turn.Turn.{Turn}
+use Rattle.smk_session.specs.{Answers.{ChangesOver, next_of}, Sessions.{SessionImage, state_of}, declared.turn.Turn.Turn}
 
 -- what changes comes with a reply that is no refusal, and leaves what every session keeps
 abbrev pub IsTurnOf : SessionImage → Turn → Type 0

@@ -1,11 +1,8 @@
 ghost use Rattle.std.specs.Prelude.{◌≡◌, ◌<◌, ◌≤◌, ◌+◌, Ok, None, IfOk, IfErr, IfSome, length};
-ghost use Rattle.smk_model.specs.Looks.{line_looks};
+ghost use Rattle.smk_model.specs.{Looks.line_looks, ReplyTexts.AsksRows};
 ghost use Rattle.smk_model.specs.Replies as replies;
 ghost use Rattle.smk_base.specs.declared.book.tree.Line.TheVariants as lines;
-ghost use Rattle.smk_model.specs.ReplyTexts.{AsksRows};
-ghost use Rattle.smk_session.specs.Behind.{BehindFits, FindsBehind};
-ghost use Rattle.smk_session.specs.Told.{HasNoLists, Tells};
-ghost use Rattle.smk_session.specs.Answers.{Gives, Turns, IsLent, Changes, book_of, state_lent, next_of, fwd_by, looks_of_asked};
+ghost use Rattle.smk_session.specs.{Behind.{BehindFits, FindsBehind}, Told.{HasNoLists, Tells}, Answers.{Gives, Turns, IsLent, Changes, book_of, state_lent, next_of, fwd_by, looks_of_asked}};
 
 mod backward;
 pub(crate) mod lineage;

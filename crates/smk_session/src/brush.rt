@@ -1,18 +1,12 @@
 // Lines that change which brushes are in force.
-ghost use Rattle.std.specs.Prelude.{◌≡◌, ◌<◌, ◌≤◌, ◌+◌, Ok, [], true, cond, length, IfOk, IfErr, IfSome, MatchResult};
-ghost use Rattle.std.specs.List.{list_any};
-ghost use Rattle.smk_base.specs.CatalogImage.{catalog_image};
-ghost use Rattle.smk_base.specs.Places.{IsPlaces};
-ghost use Rattle.smk_model.specs.Catalogs.{IsCatalog};
-ghost use Rattle.smk_model.specs.Composed.{backs};
-ghost use Rattle.smk_model.specs.Looks.{looks_of_brush, looks_of_clear};
+ghost use Rattle.std.specs.{Prelude.{◌≡◌, ◌<◌, ◌≤◌, ◌+◌, Ok, [], true, cond, length, IfOk, IfErr, IfSome, MatchResult}, List.list_any};
+ghost use Rattle.smk_base.specs.{CatalogImage.catalog_image, Places.IsPlaces};
+ghost use Rattle.smk_model.specs.{Catalogs.IsCatalog, Composed.backs, Looks.{looks_of_brush, looks_of_clear}};
 ghost use Rattle.smk_base.specs.declared.reply.Reply.TheVariants as shapes;
 ghost use Rattle.smk_model.specs.Replies as replies;
 ghost use Rattle.smk_model.specs.Session as sessions;
 ghost use Rattle.smk_model.specs.Workload as workload;
-ghost use Rattle.smk_session.specs.Told.{Tells};
-ghost use Rattle.smk_session.specs.Answers.{Gives, Turns, IsLent, Changes, book_of, state_lent, next_of};
-ghost use Rattle.smk_session.specs.Sessions.{BrushFits};
+ghost use Rattle.smk_session.specs.{Told.Tells, Answers.{Gives, Turns, IsLent, Changes, book_of, state_lent, next_of}, Sessions.BrushFits};
 ghost use Rattle.smk_session.specs.declared.answer.no_answer.Turned.TheVariants as turns;
 
 pub(crate) mod choices;

@@ -1,25 +1,10 @@
 ghost use Rattle.std.specs.Prelude.{◌≡◌, ◌≤◌, ◌<◌, ◌+◌, [], true, false, length, map, slice_index_or, None, IfOk, IfErr, IfSome, OnOk, OnErr};
-ghost use Rattle.smk_base.specs.CatalogImage.{catalog_image};
-ghost use Rattle.smk_base.specs.Places.{upto};
-ghost use Rattle.smk_base.specs.declared.workers.TheConstants.{WORKER_LIMIT};
-ghost use Rattle.smk_model.specs.Catalogs.{IsCatalog, each_table_kinds};
-ghost use Rattle.smk_model.specs.Looks.{start_looks, line_looks};
-ghost use Rattle.smk_model.specs.Opening.{first_view_fault};
+ghost use Rattle.smk_base.specs.{CatalogImage.catalog_image, Places.upto, declared.workers.TheConstants.WORKER_LIMIT};
+ghost use Rattle.smk_model.specs.{Catalogs.{IsCatalog, each_table_kinds}, Looks.{start_looks, line_looks}, Opening.first_view_fault, Selection.each_kinds, OwnAnswers.selected_on, ReplyTexts.AsksRows, Session.rows_of_table};
 ghost use Rattle.smk_model.specs.Replies as replies;
-ghost use Rattle.smk_model.specs.Selection.{each_kinds};
 ghost use Rattle.smk_base.specs.declared.book.tree.Line.TheVariants as lines;
-ghost use Rattle.smk_model.specs.OwnAnswers.{selected_on};
-ghost use Rattle.smk_model.specs.ReplyTexts.{AsksRows};
 ghost use Rattle.smk_model.specs.Session as sessions;
-ghost use Rattle.smk_model.specs.Session.{rows_of_table};
-ghost use Rattle.smk_session.specs.Answers.{IsLent, book_of, rids_or_all, state_lent};
-ghost use Rattle.smk_session.specs.Behind.{BehindFits, FindsBehind, RidsFit};
-ghost use Rattle.smk_session.specs.Told.{IsTold};
-ghost use Rattle.smk_session.specs.Parts.{parts_image};
-ghost use Rattle.smk_session.specs.Extras.{all_cubes, splits_of};
-ghost use Rattle.smk_session.specs.Opened.{IsStartFault, opened, opened_views, workbook_image};
-ghost use Rattle.smk_session.specs.Sessions.{IsSession, contents_kept, state_of, workbook_of};
-ghost use Rattle.smk_session.specs.Turns.{IsTurnOf, state_turned};
+ghost use Rattle.smk_session.specs.{Answers.{IsLent, book_of, rids_or_all, state_lent}, Behind.{BehindFits, FindsBehind, RidsFit}, Told.IsTold, Parts.parts_image, Extras.{all_cubes, splits_of}, Opened.{IsStartFault, opened, opened_views, workbook_image}, Sessions.{IsSession, contents_kept, state_of, workbook_of}, Turns.{IsTurnOf, state_turned}};
 
 use crate::answer::no_answer::Turned;
 use crate::answer::rows_behind::RowsBehind;

@@ -1,13 +1,8 @@
 // What a session begins with, over a book and its tables.
-ghost use Rattle.std.specs.Prelude.{◌≡◌, ◌≤◌, ◌+◌, None, length, map, IfOk, IfErr, OnOk};
-ghost use Rattle.std.specs.List.{sum_by};
+ghost use Rattle.std.specs.{Prelude.{◌≡◌, ◌≤◌, ◌+◌, None, length, map, IfOk, IfErr, OnOk}, List.sum_by};
 ghost use Rattle.smk_base.specs.Places.{upto};
-ghost use Rattle.smk_model.specs.Catalogs.{each_table_kinds};
-ghost use Rattle.smk_model.specs.Looks.{looks_of_back, start_looks};
-ghost use Rattle.smk_model.specs.Opening.{first_view_fault};
-ghost use Rattle.smk_model.specs.Selection.{each_kinds};
-ghost use Rattle.smk_session.specs.Making.{IsOpened, book_in};
-ghost use Rattle.smk_session.specs.Opened.{AreExtras, AreOpened, IsStartFault, workbook_image};
+ghost use Rattle.smk_model.specs.{Catalogs.each_table_kinds, Looks.{looks_of_back, start_looks}, Opening.first_view_fault, Selection.each_kinds};
+ghost use Rattle.smk_session.specs.{Making.{IsOpened, book_in}, Opened.{AreExtras, AreOpened, IsStartFault, workbook_image}};
 
 mod abreast;
 pub(crate) mod extras;

@@ -1,7 +1,6 @@
 -- Filters of which every member is kept, or none.
-use Rattle.std.proofs.Common.{◌≡◌, suc, Bool, true, false, List, [], ◌∷◌, ◌&&◌, refl, ap, arith, filter}
+use Rattle.std.proofs.{Common.{◌≡◌, suc, Bool, true, false, List, [], ◌∷◌, ◌&&◌, refl, ap, arith, filter}, lemmas.Bool.false≢true}
 use Rattle.std.specs.List.{All}
-use Rattle.std.proofs.lemmas.Bool.{false≢true}
 
 pub and_true : (a b : Bool) → b ≡ true → (a && b) ≡ a
 and_true true b h = h

@@ -1,27 +1,13 @@
 -- What a split gives for some marks and a value.
-use Rattle.std.proofs.Common.{◌≡◌, ◌∙◌, ◌<◌, ◌≤◌, ◌+◌, ℕ, zero, suc, pos, Bool, false, List, [], ◌∷◌, ◌&&◌, length, map, take, drop, refl, sym, ap, arith, inl, inr, filter, get_or, nat_eq, subst, position, Some, None}
+use Rattle.std.proofs.{Common.{◌≡◌, ◌∙◌, ◌<◌, ◌≤◌, ◌+◌, ℕ, zero, suc, pos, Bool, false, List, [], ◌∷◌, ◌&&◌, length, map, take, drop, refl, sym, ap, arith, inl, inr, filter, get_or, nat_eq, subst, position, Some, None}, lemmas.Bool.{cases_Bool, cases_lt, lt-ltb, eqb-true, false≢true}, lemmas.List.{length-map, get_or-map, get_or_default}, lemmas.List.Folds.list_any_none, lemmas.List.Sums.fails_before_first, lemmas.List.Quantifiers.position-Some}
 use Rattle.std.specs.List.{concat, flat_map, list_any, position_or_len}
-use Rattle.std.proofs.lemmas.Bool.{cases_Bool, cases_lt, lt-ltb, eqb-true, false≢true}
-use Rattle.std.proofs.lemmas.List.{length-map, get_or-map, get_or_default}
-use Rattle.std.proofs.lemmas.List.Folds.{list_any_none}
-use Rattle.std.proofs.lemmas.List.Sums.{fails_before_first}
-use Rattle.std.proofs.lemmas.List.Quantifiers.{position-Some}
-use Rattle.smk_base.specs.declared.value.Value.{Value}
-use Rattle.smk_base.specs.declared.value.Value.TheVariants.{Int}
-use Rattle.smk_base.specs.Places.{Lists, IsPlaces, upto, places, has, list_at, pairs_of}
-use Rattle.smk_base.specs.Values.{value_eq, value_same}
-use Rattle.smk_model.specs.Values.{value_at}
-use Rattle.smk_model.specs.Lineage.{row_at}
+use Rattle.smk_base.specs.{declared.value.Value.Value, declared.value.Value.TheVariants.Int, Places.{Lists, IsPlaces, upto, places, has, list_at, pairs_of}, Values.{value_eq, value_same}}
+use Rattle.smk_model.specs.{Values.value_at, Lineage.row_at, Replies.with_value}
 use Rattle.smk_base.proofs.Places.{filter_filter, same_below, places_false, places_below, places_are, has_places, flat_map_agree}
-use Rattle.smk_rid.proofs.Packs.{length-concat}
-use Rattle.smk_model.specs.Replies.{with_value}
-use Rattle.smk_skip.specs.Splits.{SplitImage, members_with}
-use Rattle.smk_skip.specs.Parts.{ranks, run, IsParted}
-use Rattle.smk_skip.proofs.Filters.{and_false, filter_none}
-use Rattle.smk_skip.proofs.Orders.{split_at, within_order}
-use Rattle.smk_skip.proofs.Stretches.{run_is}
+use Rattle.smk_rid.proofs.{Packs.length-concat, Joins.has-flat_map}
+use Rattle.smk_skip.specs.{Splits.{SplitImage, members_with}, Parts.{ranks, run, IsParted}}
+use Rattle.smk_skip.proofs.{Filters.{and_false, filter_none}, Orders.{split_at, within_order}, Stretches.run_is}
 use Rattle.smk_model.proofs.Anys.{any_and}
-use Rattle.smk_rid.proofs.Joins.{has-flat_map}
 
 -- what a filter has
 has_kept : (t : ℕ → Bool) (xs : List ℕ) (r : ℕ) → has (filter t xs) r ≡ (t r && has xs r)

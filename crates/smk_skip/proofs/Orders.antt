@@ -1,18 +1,10 @@
 -- Lists one after the other as an order of their rids, and other lists as places in it.
-use Rattle.std.proofs.Common.{◌≡◌, ◌∙◌, ◌<◌, ◌≤◌, ◌+◌, ℕ, zero, suc, Bool, true, false, cond, List, [], ◌∷◌, ◌++◌, ◌&&◌, length, map, take, drop, refl, sym, ap, arith, inl, inr, filter, get_or, nat_eq, nat_lt}
+use Rattle.std.proofs.{Common.{◌≡◌, ◌∙◌, ◌<◌, ◌≤◌, ◌+◌, ℕ, zero, suc, Bool, true, false, cond, List, [], ◌∷◌, ◌++◌, ◌&&◌, length, map, take, drop, refl, sym, ap, arith, inl, inr, filter, get_or, nat_eq, nat_lt}, lemmas.Bool.{cases_Bool, cases_lt, eq-eqb, ne_eqb, lt-ltb, le-ltb}, lemmas.List.{length-append, length-map, get_or-map, append-nil, map-append, append_assoc}, lemmas.List.Elements.{All-map, All-push, filter-append}, lemmas.List.Folds.concat-append, lemmas.List.Sums.{sum_by-cons, sum_by_more_le}}
 use Rattle.std.specs.List.{All, concat, list_any}
-use Rattle.std.proofs.lemmas.Bool.{cases_Bool, cases_lt, eq-eqb, ne_eqb, lt-ltb, le-ltb}
-use Rattle.std.proofs.lemmas.List.{length-append, length-map, get_or-map, append-nil, map-append, append_assoc}
-use Rattle.std.proofs.lemmas.List.Elements.{All-map, All-push, filter-append}
-use Rattle.std.proofs.lemmas.List.Folds.{concat-append}
-use Rattle.std.proofs.lemmas.List.Sums.{sum_by-cons, sum_by_more_le}
 use Rattle.smk_base.specs.Places.{Lists, IsPlaces, upto, places, has, list_at, pairs_of, members_at, composed, inverted}
 use Rattle.smk_model.specs.Locals.{singles}
 use Rattle.smk_base.proofs.Places.{filter_filter, same_below, at_places, places_false, places_are, map_map, map_upto, map_upto_agree, few_places}
-use Rattle.smk_model.proofs.Anys.{or_false}
-use Rattle.smk_model.proofs.Composed.{lists_by, bounded, lists_agree, compose_by, invert_by}
-use Rattle.smk_model.proofs.Counts.{pairs_forward}
-use Rattle.smk_model.proofs.Pairs.{filter_le}
+use Rattle.smk_model.proofs.{Anys.or_false, Composed.{lists_by, bounded, lists_agree, compose_by, invert_by}, Counts.pairs_forward, Pairs.filter_le}
 use Rattle.smk_rid.proofs.Packs.{length-concat}
 use Rattle.smk_skip.specs.Parts.{ranks, ranked}
 use Rattle.smk_skip.proofs.Filters.{and_second, filter_all}

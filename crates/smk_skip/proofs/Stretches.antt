@@ -1,11 +1,6 @@
 -- The rids of a stretch of an order that a list of places reaches.
-use Rattle.std.proofs.Common.{◌≡◌, ◌∙◌, ◌<◌, ◌≤◌, ◌+◌, ◌-◌, ℕ, true, false, List, [], ◌∷◌, ◌++◌, ◌&&◌, length, map, take, drop, refl, sym, ap, arith, inl, inr, filter, get_or, nat_le, nat_lt, ltb}
-use Rattle.std.specs.List.{All, AllPairs, flat_map, slice_range}
-use Rattle.std.specs.List.Sorted.{IsNonDecreasingBy, IsPartitionedBy, IsPartitionPoint}
-use Rattle.std.proofs.lemmas.Bool.{cases_lt, le-leb, lt-leb, lt-ltb, le-ltb, ltb-true, ltb-false, leb-true}
-use Rattle.std.proofs.lemmas.List.{length-append, get_or_append_left, get_or-append-add, append-nil, take-append-drop, length-take-le, length-drop, get_or-take, get_or-drop}
-use Rattle.std.proofs.lemmas.List.Elements.{filter-append, All-map, All-append, All-nil, filter_passes}
-use Rattle.std.proofs.lemmas.List.Sorted.{IsPartitionedBy-ltb}
+use Rattle.std.proofs.{Common.{◌≡◌, ◌∙◌, ◌<◌, ◌≤◌, ◌+◌, ◌-◌, ℕ, true, false, List, [], ◌∷◌, ◌++◌, ◌&&◌, length, map, take, drop, refl, sym, ap, arith, inl, inr, filter, get_or, nat_le, nat_lt, ltb}, lemmas.Bool.{cases_lt, le-leb, lt-leb, lt-ltb, le-ltb, ltb-true, ltb-false, leb-true}, lemmas.List.{length-append, get_or_append_left, get_or-append-add, append-nil, take-append-drop, length-take-le, length-drop, get_or-take, get_or-drop}, lemmas.List.Elements.{filter-append, All-map, All-append, All-nil, filter_passes}, lemmas.List.Sorted.IsPartitionedBy-ltb}
+use Rattle.std.specs.{List.{All, AllPairs, flat_map, slice_range}, List.Sorted.{IsNonDecreasingBy, IsPartitionedBy, IsPartitionPoint}}
 use Rattle.smk_base.specs.Places.{upto, places, has}
 use Rattle.smk_base.proofs.Places.{filter_filter, filter_map, map_map, same_below, at_places, upto_add, upto_below}
 use Rattle.smk_model.proofs.Parts.{map_agree}

@@ -1,25 +1,13 @@
 -- Classes of the values of a column.
-use Rattle.std.proofs.Common.{◌≡◌, ◌∙◌, ◌<◌, ◌≤◌, ℕ, pos, true, false, List, [], ◌∷◌, length, map, take, refl, sym, ap, arith, get_or, nat_eq, subst}
+use Rattle.std.proofs.{Common.{◌≡◌, ◌∙◌, ◌<◌, ◌≤◌, ℕ, pos, true, false, List, [], ◌∷◌, length, map, take, refl, sym, ap, arith, get_or, nat_eq, subst}, lemmas.Bool.{eq-eqb, ne_eqb}, lemmas.List.{length-map, get_or-map, get_or_default, get_or-take, length-take-le, take-map}, lemmas.List.Folds.{list_any_at, list_any_none}}
 use Rattle.std.specs.List.{All, list_any}
-use Rattle.std.proofs.lemmas.Bool.{eq-eqb, ne_eqb}
-use Rattle.std.proofs.lemmas.List.{length-map, get_or-map, get_or_default, get_or-take, length-take-le, take-map}
-use Rattle.std.proofs.lemmas.List.Folds.{list_any_at, list_any_none}
-use Rattle.smk_base.specs.declared.value.Value.{Value}
-use Rattle.smk_base.specs.declared.value.Value.TheVariants.{Int}
-use Rattle.smk_base.specs.Places.{upto, places, inverted}
-use Rattle.smk_base.specs.Rels.{picked}
-use Rattle.smk_base.specs.Values.{value_eq}
-use Rattle.smk_model.specs.Values.{Row, value_at}
-use Rattle.smk_model.specs.Lineage.{row_at}
-use Rattle.smk_model.specs.Locals.{singles}
-use Rattle.smk_model.specs.Classes.{classes, first_places}
+use Rattle.smk_base.specs.{declared.value.Value.Value, declared.value.Value.TheVariants.Int, Places.{upto, places, inverted}, Rels.picked, Values.value_eq}
+use Rattle.smk_model.specs.{Values.{Row, value_at}, Lineage.row_at, Locals.singles, Classes.{classes, first_places}, Replies.with_value}
 use Rattle.smk_base.proofs.Places.{same_below, map_map, map_upto, map_upto_agree}
 use Rattle.smk_keys.specs.Classes.{ClassesImage, classes_of}
 use Rattle.smk_body.proofs.Classing.{class_pair, are_numbered, length_of}
-use Rattle.smk_model.specs.Replies.{with_value}
 use Rattle.smk_skip.specs.Parts.{values_in, lists_by, HasAll}
-use Rattle.smk_skip.proofs.Filters.{and_true}
-use Rattle.smk_skip.proofs.Orders.{turned_is}
+use Rattle.smk_skip.proofs.{Filters.and_true, Orders.turned_is}
 
 -- the values of a column as keys
 abbrev pub keys_in : List Row → ℕ → List Row

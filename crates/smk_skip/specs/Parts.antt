@@ -1,13 +1,7 @@
 -- What the type of a split keeps: the rids of a table in the order of their values, and each list of the map as places in that order.
-use Rattle.std.specs.Prelude.{◌≡◌, ℕ, ◌+◌, ◌-◌, ◌<◌, ◌≤◌, ◌&&◌, true, nat_le, nat_lt, List, length, map, slice_index}
-use Rattle.std.specs.List.{filter, list_any, concat}
-use Rattle.smk_base.specs.Places.{Lists, upto, places, has}
-use Rattle.smk_base.specs.Values.{value_eq}
-use Rattle.smk_base.specs.declared.rel.TheConstants.{ROW_LIMIT}
-use Rattle.smk_base.specs.declared.value.Value.{Value}
-use Rattle.smk_model.specs.Values.{Row, value_at}
-use Rattle.smk_model.specs.Lineage.{row_at}
-use Rattle.smk_model.specs.Replies.{with_value}
+use Rattle.std.specs.{Prelude.{◌≡◌, ℕ, ◌+◌, ◌-◌, ◌<◌, ◌≤◌, ◌&&◌, true, nat_le, nat_lt, List, length, map, slice_index}, List.{filter, list_any, concat}}
+use Rattle.smk_base.specs.{Places.{Lists, upto, places, has}, Values.value_eq, declared.rel.TheConstants.ROW_LIMIT, declared.value.Value.Value}
+use Rattle.smk_model.specs.{Values.{Row, value_at}, Lineage.row_at, Replies.with_value}
 use Rattle.smk_skip.specs.Splits.{SplitImage}
 
 -- the values of a column at these rows

@@ -1,9 +1,7 @@
 -- The lists of a map, split by the values that their rids have in a column of a table.
 use Rattle.std.specs.Prelude.{ℕ, List}
-use Rattle.smk_base.specs.Places.{Lists, members_at}
-use Rattle.smk_base.specs.declared.value.Value.{Value}
-use Rattle.smk_model.specs.Values.{Row}
-use Rattle.smk_model.specs.Replies.{with_value}
+use Rattle.smk_base.specs.{Places.{Lists, members_at}, declared.value.Value.Value}
+use Rattle.smk_model.specs.{Values.Row, Replies.with_value}
 
 -- a map to the rows of a table, and the column that it is split by
 pub record SplitImage : Type 0 where

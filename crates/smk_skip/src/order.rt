@@ -1,8 +1,6 @@
 //! The order of a split: the rids of lists one after the other, and other lists as places among them.
-ghost use Rattle.std.specs.Prelude.{◌≡◌, ◌≤◌, ◌<◌, length, All, IfOk};
-ghost use Rattle.std.specs.List.{concat};
-ghost use Rattle.smk_base.specs.Places.{pairs_of, composed};
-ghost use Rattle.smk_base.specs.declared.rel.TheConstants.{ROW_LIMIT};
+ghost use Rattle.std.specs.{Prelude.{◌≡◌, ◌≤◌, ◌<◌, length, All, IfOk}, List.concat};
+ghost use Rattle.smk_base.specs.{Places.pairs_of, declared.rel.TheConstants.ROW_LIMIT};
 ghost use Rattle.smk_rid.specs.declared.map.TheConstants.{PAIR_LIMIT};
 ghost use Rattle.smk_skip.specs.Parts.{ranked};
 

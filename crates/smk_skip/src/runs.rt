@@ -1,9 +1,6 @@
 //! What a split answers: the rids of a stretch of its order that some lists of places reach.
-ghost use Rattle.std.specs.Prelude.{◌≡◌, ◌+◌, ◌<◌, ◌≤◌, ◌&&◌, ◌++◌, nat_le, nat_lt, length, All, IfOk, OnOk};
-ghost use Rattle.std.specs.List.{filter, flat_map, AllPairs};
-ghost use Rattle.std.specs.List.Sorted.{IsPartitionPoint};
-ghost use Rattle.smk_base.specs.Places.{places, has, list_at};
-ghost use Rattle.smk_base.specs.declared.rel.TheConstants.{ROW_LIMIT};
+ghost use Rattle.std.specs.{Prelude.{◌≡◌, ◌+◌, ◌<◌, ◌≤◌, ◌&&◌, ◌++◌, nat_le, nat_lt, length, All, IfOk, OnOk}, List.{filter, flat_map, AllPairs}, List.Sorted.IsPartitionPoint};
+ghost use Rattle.smk_base.specs.{Places.{places, has, list_at}, declared.rel.TheConstants.ROW_LIMIT};
 ghost use Rattle.smk_skip.specs.Parts.{run};
 
 use smk_base::Rids;

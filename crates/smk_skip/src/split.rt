@@ -29,8 +29,7 @@ pub struct Split {
 }
 
 impl Model for Split {
-    ghost use Rattle.smk_skip.specs.Splits.{SplitImage};
-    ghost use Rattle.smk_skip.specs.Parts.{IsParted};
+    ghost use Rattle.smk_skip.specs.{Splits.SplitImage, Parts.IsParted};
 
     ghost Value = { SplitImage };
 

@@ -1,9 +1,6 @@
 //! The values of a split: the distinct ones of a column, and the rids with each of them.
-ghost use Rattle.std.specs.Prelude.{◌≡◌, ◌<◌, ◌≤◌, ℕ, Bool, false, length, All, IfOk, slice_index_or, pos, position};
-ghost use Rattle.std.specs.List.{concat, filter};
-ghost use Rattle.smk_base.specs.Places.{places};
-ghost use Rattle.smk_base.specs.Values.{value_eq};
-ghost use Rattle.smk_base.specs.declared.value.Value.TheVariants.{Int};
+ghost use Rattle.std.specs.{Prelude.{◌≡◌, ◌<◌, ◌≤◌, ℕ, Bool, false, length, All, IfOk, slice_index_or, pos, position}, List.{concat, filter}};
+ghost use Rattle.smk_base.specs.{Places.places, Values.value_eq, declared.value.Value.TheVariants.Int};
 ghost use Rattle.smk_skip.specs.Parts.{values_in, lists_by, HasAll};
 
 use indexmap::IndexSet;

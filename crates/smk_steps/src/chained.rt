@@ -1,7 +1,6 @@
 // Steps with one input as a plan.
 ghost use Rattle.std.specs.Prelude.{◌≡◌, map, IfOk, OnOk};
-ghost use Rattle.smk_base.specs.PlanImage.{expr_of, unary_of};
-ghost use Rattle.smk_base.specs.Plans.{Apply, Leaf};
+ghost use Rattle.smk_base.specs.{PlanImage.{expr_of, unary_of}, Plans.{Apply, Leaf}};
 ghost use Rattle.smk_model.specs.Asks.{chain};
 
 use smk_base::{Op1, Plan};

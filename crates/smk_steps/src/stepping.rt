@@ -1,15 +1,7 @@
 // What steps make of rows.
 ghost use Rattle.std.specs.Prelude.{◌≡◌, ◌≤◌, ◌<◌, ◌^◌, [], ◌∷◌, map, length, None, Ok, Err, IfOk, OnOk, ◌≢◌};
-ghost use Rattle.smk_base.specs.PlanImage.{expr_of, unary_of};
-ghost use Rattle.smk_base.specs.TreeImage.{ask_step_image};
-ghost use Rattle.smk_base.specs.declared.book.type_fault.TypeFault.TheVariants.{NoMemory};
-ghost use Rattle.smk_base.specs.declared.rel.TheConstants.{COLUMN_LIMIT};
-ghost use Rattle.smk_model.specs.Asks.{chain, steps_reply, typed_steps};
-ghost use Rattle.smk_model.specs.Limits.{KeepsSteps};
-ghost use Rattle.smk_model.specs.Names.{column_kinds};
-ghost use Rattle.smk_model.specs.Plain.{eval, width};
-ghost use Rattle.smk_model.specs.Selection.{PlanFits, first_full, nodes, plan_kinds};
-ghost use Rattle.smk_model.specs.Typing.{column_of};
+ghost use Rattle.smk_base.specs.{PlanImage.{expr_of, unary_of}, TreeImage.ask_step_image, declared.book.type_fault.TypeFault.TheVariants.NoMemory, declared.rel.TheConstants.COLUMN_LIMIT};
+ghost use Rattle.smk_model.specs.{Asks.{chain, steps_reply, typed_steps}, Limits.KeepsSteps, Names.column_kinds, Plain.{eval, width}, Selection.{PlanFits, first_full, nodes, plan_kinds}, Typing.column_of};
 ghost use Rattle.smk_typing.specs.Images.{steps_image};
 
 use crate::chained::plan_of;

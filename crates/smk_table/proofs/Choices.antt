@@ -1,10 +1,6 @@
 -- Rows at places, and their columns.
-use Rattle.std.proofs.Common.{◌≡◌, ◌∙◌, ◌<◌, ◌≤◌, ℕ, suc, List, [], ◌∷◌, length, map, All, Option, None, Some, refl, ap, subst, sym, arith}
-use Rattle.std.proofs.lemmas.List.{get_or-map, length-map}
-use Rattle.std.proofs.lemmas.List.Elements.{All-cons, All-nil}
-use Rattle.smk_base.specs.declared.value.Kind.{Kind}
-use Rattle.smk_base.specs.declared.value.Value.{Value}
-use Rattle.smk_base.specs.Rels.{IsRelation, Relation, RowFits, kind_in, picked, row_in, rows_at}
+use Rattle.std.proofs.{Common.{◌≡◌, ◌∙◌, ◌<◌, ◌≤◌, ℕ, suc, List, [], ◌∷◌, length, map, All, Option, None, Some, refl, ap, subst, sym, arith}, lemmas.List.{get_or-map, length-map}, lemmas.List.Elements.{All-cons, All-nil}}
+use Rattle.smk_base.specs.{declared.value.Kind.Kind, declared.value.Value.Value, Rels.{IsRelation, Relation, RowFits, kind_in, picked, row_in, rows_at}}
 use Rattle.smk_table.specs.Choosing.{chosen_of, AreInside}
 
 pub rows_at_long : (rows : List (List Value)) (rids : List ℕ) → length (rows_at rows rids) ≡ length rids

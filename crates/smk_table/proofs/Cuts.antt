@@ -1,15 +1,11 @@
 -- A text that is cut where a record may begin is read in its parts.
-use Rattle.std.proofs.Common.{◌≡◌, ◌∙◌, ◌<◌, ◌≤◌, ◌-◌, ℕ, zero, suc, Bool, true, false, List, [], ◌∷◌, ◌++◌, length, Option, Some, None, refl, sym, ap, subst, arith, true≢false, add-one, inl, inr, ap₂}
+use Rattle.std.proofs.{Common.{◌≡◌, ◌∙◌, ◌<◌, ◌≤◌, ◌-◌, ℕ, zero, suc, Bool, true, false, List, [], ◌∷◌, ◌++◌, length, Option, Some, None, refl, sym, ap, subst, arith, true≢false, add-one, inl, inr, ap₂}, lemmas.Bool.cases_Bool}
 use Rattle.std.specs.Prelude.{◌⊎◌}
-use Rattle.std.proofs.lemmas.Bool.{cases_Bool}
-use Rattle.csv.specs.Machine.{Read, next_record, step, is_end, ends_at_end, ends_with, fields_after, field_after}
+use Rattle.csv.specs.{Machine.{Read, next_record, step, is_end, ends_at_end, ends_with, fields_after, field_after}, Reading.{default_config, records, records_from}, declared.parser.State.State}
 use Rattle.csv.specs.declared.parser.Terminator.TheVariants as term
-use Rattle.csv.specs.Reading.{default_config, records, records_from}
-use Rattle.csv.specs.declared.parser.State.{State}
 use Rattle.csv.specs.declared.parser.State.TheVariants as st
 use Rattle.csv.specs.declared.parser.Action.TheVariants as act
-use Rattle.smk_table.specs.Cuts.{state_after, IsWhole}
-use Rattle.smk_table.specs.CsvReader.{is_start, records_after}
+use Rattle.smk_table.specs.{Cuts.{state_after, IsWhole}, CsvReader.{is_start, records_after}}
 use Rattle.smk_table.proofs.RecordsAfter.{goes, some_is, not_empty, records_after-none, records_after-some}
 
 none_some : {X : Type 0} {Y : Type 0} (p : X) → ◌≡◌ {A = Option X} None (Some p) → Y

@@ -1,17 +1,9 @@
 -- Parts put behind one another, one at a time.
-use Rattle.std.proofs.Common.{◌≡◌, ◌∙◌, ◌<◌, ◌+◌, ℕ, zero, suc, List, [], ◌∷◌, ◌++◌, length, drop, get_or, Ok, Err, refl, sym, ap, arith, append_assoc, length-append}
-use Rattle.smk_base.specs.Rels.{Relation}
-use Rattle.smk_base.specs.declared.value.Value.{Value}
+use Rattle.std.proofs.{Common.{◌≡◌, ◌∙◌, ◌<◌, ◌+◌, ℕ, zero, suc, List, [], ◌∷◌, ◌++◌, length, drop, get_or, Ok, Err, refl, sym, ap, arith, append_assoc, length-append, Bor, Result, nat_eq, ne_eqb, map, ◌==◌, All, IfOk, false}, lemmas.List.{get_or-map, length-map}}
+use Rattle.smk_base.specs.{Rels.Relation, declared.value.Value.Value, declared.fault.TableFault.TableFault, declared.fault.TableFault.TheVariants.NoMemory, declared.book.col_decl.ColDecl.ColDecl}
 use Rattle.std.specs.Prelude.{◌⊎◌, IfErr}
-use Rattle.smk_base.specs.declared.fault.TableFault.{TableFault}
-use Rattle.smk_base.specs.declared.fault.TableFault.TheVariants.{NoMemory}
-use Rattle.smk_model.specs.Names.{◌>>=◌}
-use Rattle.smk_table.specs.Pieces.{Part, part_behind, parts_behind, rows_from, behind_header, parts_of, Gives, GivesAll}
-use Rattle.smk_table.specs.Cuts.{read_of}
-use Rattle.std.proofs.Common.{Bor, Result, nat_eq, ne_eqb, map, ◌==◌, All, IfOk, false}
-use Rattle.std.proofs.lemmas.List.{get_or-map, length-map}
-use Rattle.smk_base.specs.declared.book.col_decl.ColDecl.{ColDecl}
-use Rattle.smk_model.specs.Tables.{declared_kinds}
+use Rattle.smk_model.specs.{Names.◌>>=◌, Tables.declared_kinds}
+use Rattle.smk_table.specs.{Pieces.{Part, part_behind, parts_behind, rows_from, behind_header, parts_of, Gives, GivesAll}, Cuts.read_of}
 
 abbrev pub all_behind : List (List Value) → List Part → Part
 all_behind rows parts = ◌>>=◌ (parts_behind (length rows) parts) (λ more. Ok (rows ++ more))

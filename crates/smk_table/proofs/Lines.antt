@@ -1,13 +1,9 @@
 -- A text without a quote that ends a line is whole.
-use Rattle.std.proofs.Common.{◌≡◌, ◌∙◌, ◌-◌, ℕ, suc, Bool, true, false, List, [], ◌∷◌, ◌++◌, length, take, drop, get_or, refl, sym, ap, arith, true≢false, take-append-drop}
+use Rattle.std.proofs.{Common.{◌≡◌, ◌∙◌, ◌-◌, ℕ, suc, Bool, true, false, List, [], ◌∷◌, ◌++◌, length, take, drop, get_or, refl, sym, ap, arith, true≢false, take-append-drop}, lemmas.Bool.and_parts}
 use Rattle.std.specs.List.{list_all}
-use Rattle.std.proofs.lemmas.Bool.{and_parts}
-use Rattle.csv.specs.Machine.{step}
-use Rattle.csv.specs.Reading.{default_config, records}
-use Rattle.csv.specs.declared.parser.State.{State}
+use Rattle.csv.specs.{Machine.step, Reading.{default_config, records}, declared.parser.State.State}
 use Rattle.csv.specs.declared.parser.State.TheVariants as st
-use Rattle.smk_table.specs.Cuts.{state_after, is_unquoted, IsWhole, AreLines}
-use Rattle.smk_table.specs.CsvReader.{is_start}
+use Rattle.smk_table.specs.{Cuts.{state_after, is_unquoted, IsWhole, AreLines}, CsvReader.is_start}
 use Rattle.smk_table.proofs.Cuts.{cuts_records}
 
 -- a state of a text without quotes

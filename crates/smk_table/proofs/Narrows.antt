@@ -1,24 +1,11 @@
 -- Output columns and a grouping over the columns that they name are those over all columns.
-use Rattle.std.proofs.Common.{◌≡◌, ◌∙◌, ◌+◌, ◌<◌, ℕ, suc, Bool, true, ◌||◌, List, [], ◌∷◌, ◌++◌, length, map, filter, get_or, All, Some, None, unwrap_or, nat_lt, refl, sym, ap, subst, arith, inl, inr, nat_eq, eqb-true, eq-eqb}
+use Rattle.std.proofs.{Common.{◌≡◌, ◌∙◌, ◌+◌, ◌<◌, ℕ, suc, Bool, true, ◌||◌, List, [], ◌∷◌, ◌++◌, length, map, filter, get_or, All, Some, None, unwrap_or, nat_lt, refl, sym, ap, subst, arith, inl, inr, nat_eq, eqb-true, eq-eqb}, lemmas.Bool.{cases_Bool, false≢true, or_left, or_right}, lemmas.List.{get_or-map, length-map}, lemmas.List.Elements.{filter_agree, All-map}, lemmas.List.Folds.list_any_at}
 use Rattle.std.specs.List.{list_any, position, position_or_len}
-use Rattle.std.proofs.lemmas.Bool.{cases_Bool, false≢true, or_left, or_right}
-use Rattle.std.proofs.lemmas.List.{get_or-map, length-map}
-use Rattle.std.proofs.lemmas.List.Elements.{filter_agree, All-map}
-use Rattle.std.proofs.lemmas.List.Folds.{list_any_at}
-use Rattle.smk_base.specs.Aggregates.{read_by}
-use Rattle.smk_base.specs.Places.{has, places}
-use Rattle.smk_base.specs.Rels.{kind_in, value_in, picked}
-use Rattle.smk_base.specs.declared.value.Kind.{Kind}
-use Rattle.smk_base.specs.declared.book.plan.Item.{Item}
+use Rattle.smk_base.specs.{Aggregates.read_by, Places.{has, places}, Rels.{kind_in, value_in, picked}, declared.value.Kind.Kind, declared.book.plan.Item.Item, declared.book.plan.Agg.Agg, Plans.Grouping}
 use Rattle.smk_base.specs.declared.book.plan.Item.TheVariants as items
-use Rattle.smk_base.specs.declared.book.plan.Agg.{Agg}
-use Rattle.smk_base.specs.Plans.{Grouping}
-use Rattle.smk_model.specs.Values.{Row}
-use Rattle.smk_model.specs.Plain.{item_at, image, key_of, firsts, aggregate, grouped, row_eq, step1}
-use Rattle.smk_model.specs.Kinds.{ItemFits, AggFits, ItemsFit, GroupFits, IsInt, kind_of_item, kind_of_agg, kinds1}
-use Rattle.smk_model.proofs.Aggregates.{aggregate_of_made, column_there, kind_of_moved, moved_fits}
+use Rattle.smk_model.specs.{Values.Row, Plain.{item_at, image, key_of, firsts, aggregate, grouped, row_eq, step1}, Kinds.{ItemFits, AggFits, ItemsFit, GroupFits, IsInt, kind_of_item, kind_of_agg, kinds1}}
+use Rattle.smk_model.proofs.{Aggregates.{aggregate_of_made, column_there, kind_of_moved, moved_fits}, Parts.map_agree}
 use Rattle.smk_base.proofs.Places.{filter_map, map_map, has_places}
-use Rattle.smk_model.proofs.Parts.{map_agree}
 use Rattle.smk_table.specs.Named.{reads, place_of, item_among, agg_among}
 
 -- the place of a column that is there

@@ -1,16 +1,9 @@
 -- Columns of parts that lie one behind the other.
-use Rattle.std.proofs.Common.{◌≡◌, ◌∙◌, ℕ, ◌+◌, ◌<◌, ◌≤◌, List, [], ◌∷◌, ◌++◌, length, map, take, drop, get_or, refl, ap, sym, subst, arith, All, Ok, IfOk, Result, pos}
+use Rattle.std.proofs.{Common.{◌≡◌, ◌∙◌, ℕ, ◌+◌, ◌<◌, ◌≤◌, List, [], ◌∷◌, ◌++◌, length, map, take, drop, get_or, refl, ap, sym, subst, arith, All, Ok, IfOk, Result, pos}, lemmas.List.{get_or-map, length-map, length-append, map-append, append-nil, take_more, take-append-drop}, lemmas.List.Concat.flat_map-append, lemmas.List.Elements.{All-nil, All-append, All-map, All-head, All-tail}, lemmas.Slice.Zip.AllZip-long}
 use Rattle.std.specs.List.{flat_map}
-use Rattle.std.proofs.lemmas.List.{get_or-map, length-map, length-append, map-append, append-nil, take_more, take-append-drop}
-use Rattle.std.proofs.lemmas.List.Concat.{flat_map-append}
-use Rattle.std.proofs.lemmas.List.Elements.{All-nil, All-append, All-map, All-head, All-tail}
-use Rattle.std.proofs.lemmas.Slice.Zip.{AllZip-long}
-use Rattle.smk_base.specs.declared.value.Kind.{Kind}
+use Rattle.smk_base.specs.{declared.value.Kind.Kind, declared.value.Value.Value, Places.upto, Rels.{Relation, IsRelation, Fits, kind_in, value_in, picked, beside_rows}}
 use Rattle.smk_base.specs.declared.value.Kind.TheVariants as kinds
-use Rattle.smk_base.specs.declared.value.Value.{Value}
 use Rattle.smk_base.specs.declared.value.Value.TheVariants as values
-use Rattle.smk_base.specs.Places.{upto}
-use Rattle.smk_base.specs.Rels.{Relation, IsRelation, Fits, kind_in, value_in, picked, beside_rows}
 use Rattle.smk_base.proofs.Places.{map_flat_map, flat_map_map, map_upto, length_upto, upto_more}
 use Rattle.smk_table.specs.Joined.{AreParts, columns_of, end_to_end}
 

@@ -1,18 +1,11 @@
 -- Rows that are read in pieces.
-use Rattle.std.proofs.Common.{◌≡◌, ◌∙◌, ◌<◌, ◌≤◌, ◌+◌, ◌==◌, ℕ, suc, Bool, true, false, List, [], ◌∷◌, ◌++◌, length, map, Result, Ok, Err, refl, sym, ap, arith, nat_eq, nat_le, le-leb, ne_eqb, get_or, Option, Some, None, inl, inr, add-zero}
+use Rattle.std.proofs.{Common.{◌≡◌, ◌∙◌, ◌<◌, ◌≤◌, ◌+◌, ◌==◌, ℕ, suc, Bool, true, false, List, [], ◌∷◌, ◌++◌, length, map, Result, Ok, Err, refl, sym, ap, arith, nat_eq, nat_le, le-leb, ne_eqb, get_or, Option, Some, None, inl, inr, add-zero, Bor}, lemmas.Bool.{lt-leb, cases_lt}}
 use Rattle.std.specs.Prelude.{if◌then◌else◌, flat_map}
-use Rattle.std.proofs.lemmas.Bool.{lt-leb, cases_lt}
-use Rattle.smk_base.specs.declared.value.Value.{Value}
-use Rattle.smk_base.specs.declared.book.col_decl.ColDecl.{ColDecl}
-use Rattle.smk_base.specs.declared.fault.TableFault.{TableFault}
+use Rattle.smk_base.specs.{declared.value.Value.Value, declared.book.col_decl.ColDecl.ColDecl, declared.fault.TableFault.TableFault, Marks.after_marks}
 use Rattle.smk_base.specs.declared.fault.TableFault.TheVariants as faults
-use Rattle.smk_base.specs.Marks.{after_marks}
 use Rattle.csv.specs.Reading.{records, default_config}
-use Rattle.smk_table.specs.Cuts.{read_of}
-use Rattle.std.proofs.Common.{Bor}
-use Rattle.smk_model.specs.Names.{◌>>=◌}
-use Rattle.smk_model.specs.Tables.{all_or_first, numbered, record_row, cell_value, field_value, header_place, table_of, table_of_records}
-use Rattle.smk_table.specs.Pieces.{Part, behind_header, parts_of, rows_from, record_of, fault_behind, part_behind, parts_behind, HasHeader}
+use Rattle.smk_table.specs.{Cuts.read_of, Pieces.{Part, behind_header, parts_of, rows_from, record_of, fault_behind, part_behind, parts_behind, HasHeader}}
+use Rattle.smk_model.specs.{Names.◌>>=◌, Tables.{all_or_first, numbered, record_row, cell_value, field_value, header_place, table_of, table_of_records}}
 
 -- the numbers go on behind the first list
 numbered-append : {A B : Type 0} (f : ℕ → A → B) (n : ℕ) (xs ys : List A) → numbered f n (xs ++ ys) ≡ numbered f n xs ++ numbered f (n + length xs) ys

@@ -1,6 +1,5 @@
 -- One more piece of a text.
-use Rattle.std.proofs.Common.{◌≡◌, ◌∙◌, ◌++◌, ◌∷◌, [], suc, List, ℕ, Bor, append_assoc, append-nil, sym, ap, flat_map, take, drop, false, refl, zero}
-use Rattle.std.proofs.lemmas.Grind.{flat_map-append}
+use Rattle.std.proofs.{Common.{◌≡◌, ◌∙◌, ◌++◌, ◌∷◌, [], suc, List, ℕ, Bor, append_assoc, append-nil, sym, ap, flat_map, take, drop, false, refl, zero}, lemmas.Grind.flat_map-append}
 use Rattle.csv.specs.Reading.{records, default_config}
 use Rattle.smk_base.specs.Marks.{begins_with_mark}
 use Rattle.smk_table.specs.Cuts.{AreLines, read_of}

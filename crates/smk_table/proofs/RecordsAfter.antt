@@ -1,11 +1,8 @@
 -- The records of a text, one after the other: each takes at least a byte and leaves the reader where another may begin.
 use Rattle.std.proofs.Common.{Bor, ◌≡◌, ◌∙◌, ◌<◌, ◌≤◌, ◌-◌, ◌+◌, ℕ, zero, suc, Bool, true, false, List, [], ◌∷◌, length, Option, Some, None, IsSome, is_some, refl, sym, ap, subst, arith, true≢false, inl, add-one}
 use Rattle.std.specs.Bool.{OnTrue, OnFalse}
-use Rattle.csv.specs.Machine.{Read, next_record, step, is_end, ends_at_end, fields_after, field_after}
-use Rattle.csv.specs.Reading.{ReadRecord, ReadsNext, NextIs, default_config, records_from, records_next, strip_bom}
-use Rattle.csv.specs.declared.parser.State.{State}
+use Rattle.csv.specs.{Machine.{Read, next_record, step, is_end, ends_at_end, fields_after, field_after}, Reading.{ReadRecord, ReadsNext, NextIs, default_config, records_from, records_next, strip_bom}, declared.parser.State.State, declared.reader.Reader.Reader}
 use Rattle.csv.specs.declared.parser.State.TheVariants as st
-use Rattle.csv.specs.declared.reader.Reader.{Reader}
 use Rattle.smk_base.specs.Marks.{begins_with_mark}
 use Rattle.smk_table.specs.CsvReader.{is_start, records_after, text_left, records_left, IsBetween}
 

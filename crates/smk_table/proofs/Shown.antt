@@ -1,13 +1,8 @@
 -- The first rows of a relation.
-use Rattle.std.proofs.Common.{◌≡◌, ◌∙◌, ℕ, ◌<◌, ◌≤◌, List, [], ◌∷◌, length, take, refl, sym, ap, arith, All}
+use Rattle.std.proofs.{Common.{◌≡◌, ◌∙◌, ℕ, ◌<◌, ◌≤◌, List, [], ◌∷◌, length, take, refl, sym, ap, arith, All}, lemmas.List.{length-take, length-take-le, length-map, get_or-map, ext_get_or, get_or-take}, lemmas.List.Elements.All-tail}
 use Rattle.std.specs.List.{AllZip}
-use Rattle.std.proofs.lemmas.List.{length-take, length-take-le, length-map, get_or-map, ext_get_or, get_or-take}
-use Rattle.std.proofs.lemmas.List.Elements.{All-tail}
-use Rattle.smk_base.specs.declared.value.Kind.{Kind}
+use Rattle.smk_base.specs.{declared.value.Kind.Kind, declared.value.Value.Value, Rels.{IsWider, row_in, rows_at}, Places.upto}
 use Rattle.smk_base.specs.declared.value.Kind.TheVariants as kinds
-use Rattle.smk_base.specs.declared.value.Value.{Value}
-use Rattle.smk_base.specs.Rels.{IsWider, row_in, rows_at}
-use Rattle.smk_base.specs.Places.{upto}
 use Rattle.smk_base.proofs.Places.{length_upto, get_or_upto}
 
 -- rows among the first

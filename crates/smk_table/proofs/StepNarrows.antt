@@ -1,31 +1,15 @@
 -- A step over the columns that it reads makes the wanted columns, by the same places.
-use Rattle.std.proofs.Common.{◌≡◌, ◌∙◌, ◌+◌, ◌<◌, ℕ, suc, Bool, true, List, [], ◌∷◌, ◌++◌, length, map, filter, get_or, not, All, ◌&&◌, ◌||◌, refl, sym, ap, ap₂, subst, arith, nat_eq, eq-eqb}
+use Rattle.std.proofs.{Common.{◌≡◌, ◌∙◌, ◌+◌, ◌<◌, ℕ, suc, Bool, true, List, [], ◌∷◌, ◌++◌, length, map, filter, get_or, not, All, ◌&&◌, ◌||◌, refl, sym, ap, ap₂, subst, arith, nat_eq, eq-eqb}, lemmas.Bool.{or_left, or_right}, lemmas.List.{get_or-map, length-map, length-append}, lemmas.List.Elements.{filter_agree, All-map}, lemmas.List.Folds.list_any_at}
 use Rattle.std.specs.List.{list_any}
-use Rattle.std.proofs.lemmas.Bool.{or_left, or_right}
-use Rattle.std.proofs.lemmas.List.{get_or-map, length-map, length-append}
-use Rattle.std.proofs.lemmas.List.Elements.{filter_agree, All-map}
-use Rattle.std.proofs.lemmas.List.Folds.{list_any_at}
-use Rattle.smk_base.specs.Places.{Lists, has, upto, places}
-use Rattle.smk_base.specs.Plans.{Formula, Comparison, Conjunction, Disjunction, Negation, Unary, Selection, Projection, Distinction, Grouping, Binary, Equijoin, ThetaJoin, CrossProduct, BagUnion, SetUnion}
-use Rattle.smk_base.specs.Rels.{kind_in, picked}
-use Rattle.smk_base.specs.declared.value.Kind.{Kind}
+use Rattle.smk_base.specs.{Places.{Lists, has, upto, places}, Plans.{Formula, Comparison, Conjunction, Disjunction, Negation, Unary, Selection, Projection, Distinction, Grouping, Binary, Equijoin, ThetaJoin, CrossProduct, BagUnion, SetUnion}, Rels.{kind_in, picked}, declared.value.Kind.Kind, declared.book.plan.Item.Item, declared.book.plan.Operand.Operand}
 use Rattle.smk_base.specs.declared.value.Kind.TheVariants as kinds
-use Rattle.smk_base.specs.declared.book.plan.Item.{Item}
 use Rattle.smk_base.specs.declared.book.plan.Item.TheVariants as items
-use Rattle.smk_base.specs.declared.book.plan.Operand.{Operand}
 use Rattle.smk_base.specs.declared.book.plan.Operand.TheVariants as operands
-use Rattle.smk_model.specs.Values.{Row, meets, operand_at, value_cmp, holds}
-use Rattle.smk_model.specs.Plain.{agree, meets_together, always, nested, image, key_of, firsts, step1, step2}
-use Rattle.smk_model.specs.Kinds.{AreAlike, ItemFits, ItemsFit, OperandFits, FormulaFits, PairFits, JoinFits, Fits1, Fits2, FewTogether, kinds1, kinds2}
-use Rattle.smk_model.specs.Lineage.{row_at, meeting, matching, from1}
-use Rattle.smk_model.specs.Locals.{back_lists, fwd_lists, back1, fwd1, back_left, fwd_left, back_right, fwd_right}
+use Rattle.smk_model.specs.{Values.{Row, meets, operand_at, value_cmp, holds}, Plain.{agree, meets_together, always, nested, image, key_of, firsts, step1, step2}, Kinds.{AreAlike, ItemFits, ItemsFit, OperandFits, FormulaFits, PairFits, JoinFits, Fits1, Fits2, FewTogether, kinds1, kinds2}, Lineage.{row_at, meeting, matching, from1}, Locals.{back_lists, fwd_lists, back1, fwd1, back_left, fwd_left, back_right, fwd_right}}
 use Rattle.smk_base.proofs.Places.{filter_map, map_map, same_below, places_below, few_places, map_upto}
-use Rattle.smk_model.proofs.Parts.{places_add}
-use Rattle.smk_model.proofs.Bulk.{bulk}
-use Rattle.smk_table.specs.Named.{is_of, place_of, item_among, pair_among, behind, is_paired}
-use Rattle.smk_table.specs.Wanted.{AreWide, in_operand, in_formula, operand_among, formula_among, is_read, below, among1, after1, is_met, below_left, below_right, among2, after2}
-use Rattle.smk_table.proofs.Narrows.{HasItem, each_agrees, each_fits, value_there, kind_there, long_there, images_there, item_kinds, items_fit, keys_there, group_rows, group_kinds, group_fits, has_passing, has_keys, has_aggs}
-use Rattle.smk_table.proofs.JoinNarrows.{SameTest, read_behind, nested_there, matching_there, same_back, same_fwd, by_keys, keyed_from}
+use Rattle.smk_model.proofs.{Parts.places_add, Bulk.bulk}
+use Rattle.smk_table.specs.{Named.{is_of, place_of, item_among, pair_among, behind, is_paired}, Wanted.{AreWide, in_operand, in_formula, operand_among, formula_among, is_read, below, among1, after1, is_met, below_left, below_right, among2, after2}}
+use Rattle.smk_table.proofs.{Narrows.{HasItem, each_agrees, each_fits, value_there, kind_there, long_there, images_there, item_kinds, items_fit, keys_there, group_rows, group_kinds, group_fits, has_passing, has_keys, has_aggs}, JoinNarrows.{SameTest, read_behind, nested_there, matching_there, same_back, same_fwd, by_keys, keyed_from}}
 
 -- columns among others
 

@@ -1,7 +1,6 @@
 -- Chosen rows of a table.
 use Rattle.std.specs.Prelude.{ℕ, ◌<◌, ◌≤◌, List, length, Option, Some, None, All}
-use Rattle.smk_base.specs.Rels.{Relation, rows_at}
-use Rattle.smk_base.specs.declared.rel.TheConstants.{ROW_LIMIT}
+use Rattle.smk_base.specs.{Rels.{Relation, rows_at}, declared.rel.TheConstants.ROW_LIMIT}
 
 -- the rows at these rids, or all
 abbrev pub chosen_of : Relation → Option (List ℕ) → Relation

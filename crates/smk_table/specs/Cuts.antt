@@ -1,10 +1,7 @@
 -- Where a text of records may be cut: the machine of the reader is between two records there.
-use Rattle.std.specs.Prelude.{◌≡◌, ℕ, ◌-◌, ◌==◌, Bool, true, not, List, [], ◌∷◌, length, slice_index_or}
-use Rattle.std.specs.List.{list_all}
+use Rattle.std.specs.{Prelude.{◌≡◌, ℕ, ◌-◌, ◌==◌, Bool, true, not, List, [], ◌∷◌, length, slice_index_or}, List.list_all}
 use Rattle.std.proofs.Common.{Bor}
-use Rattle.csv.specs.Machine.{step, line_feed}
-use Rattle.csv.specs.Reading.{default_config, records}
-use Rattle.csv.specs.declared.parser.State.{State}
+use Rattle.csv.specs.{Machine.{step, line_feed}, Reading.{default_config, records}, declared.parser.State.State}
 use Rattle.csv.specs.declared.parser.State.TheVariants as st
 use Rattle.smk_table.specs.CsvReader.{is_start}
 

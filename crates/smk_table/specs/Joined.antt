@@ -1,8 +1,6 @@
 -- Relations put together of parts.
-use Rattle.std.specs.Prelude.{◌≡◌, ℕ, ◌<◌, ◌≤◌, List, [], length, map, slice_index_or, All}
-use Rattle.std.specs.List.{flat_map}
-use Rattle.smk_base.specs.declared.rel.TheConstants.{ROW_LIMIT}
-use Rattle.smk_base.specs.Rels.{Relation, kind_in, picked}
+use Rattle.std.specs.{Prelude.{◌≡◌, ℕ, ◌<◌, ◌≤◌, List, [], length, map, slice_index_or, All}, List.flat_map}
+use Rattle.smk_base.specs.{declared.rel.TheConstants.ROW_LIMIT, Rels.{Relation, kind_in, picked}}
 
 -- these columns of a relation, in this order
 abbrev pub columns_of : List ℕ → Relation → Relation

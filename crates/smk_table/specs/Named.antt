@@ -1,9 +1,6 @@
 -- What is named of columns, and the same over fewer columns.
 use Rattle.std.specs.Prelude.{ℕ, ◌+◌, Bool, false, ◌||◌, nat_eq, List, map, option_map, position, unwrap_or}
-use Rattle.smk_base.specs.Aggregates.{moved_to, read_by}
-use Rattle.smk_base.specs.declared.book.plan.Item.{Item}
-use Rattle.smk_base.specs.declared.book.plan.Item.TheVariants.{Col, Bin}
-use Rattle.smk_base.specs.declared.book.plan.Agg.{Agg}
+use Rattle.smk_base.specs.{Aggregates.{moved_to, read_by}, declared.book.plan.Item.Item, declared.book.plan.Item.TheVariants.{Col, Bin}, declared.book.plan.Agg.Agg}
 
 -- whether an output column stands on a column
 abbrev pub is_of : ℕ → Item → Bool

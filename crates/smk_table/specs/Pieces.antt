@@ -1,13 +1,8 @@
 -- The rows of records that are read in pieces, each with record numbers of its own.
 use Rattle.std.specs.Prelude.{◌≡◌, ◌⊎◌, ◌<◌, slice_index_or, Bool, true, map, ℕ, ◌+◌, List, [], ◌∷◌, ◌++◌, length, Result, Ok, Err, if◌then◌else◌, nat_le}
-use Rattle.smk_base.specs.declared.value.Value.{Value}
-use Rattle.smk_base.specs.declared.book.col_decl.ColDecl.{ColDecl}
-use Rattle.smk_base.specs.declared.fault.TableFault.{TableFault}
+use Rattle.smk_base.specs.{declared.value.Value.Value, declared.book.col_decl.ColDecl.ColDecl, declared.fault.TableFault.TableFault, Rels.Relation, declared.rel.TheConstants.ROW_LIMIT}
 use Rattle.smk_base.specs.declared.fault.TableFault.TheVariants as faults
-use Rattle.smk_model.specs.Names.{◌>>=◌}
-use Rattle.smk_model.specs.Tables.{all_or_first, numbered, header_place, record_row, declared_kinds}
-use Rattle.smk_base.specs.Rels.{Relation}
-use Rattle.smk_base.specs.declared.rel.TheConstants.{ROW_LIMIT}
+use Rattle.smk_model.specs.{Names.◌>>=◌, Tables.{all_or_first, numbered, header_place, record_row, declared_kinds}}
 
 -- the rows of a part of a table, or its first fault
 abbrev pub Part : Type 0

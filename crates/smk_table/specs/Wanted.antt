@@ -1,9 +1,6 @@
 -- The columns that a plan reads where some of its columns are wanted, and its steps over these alone.
-use Rattle.std.specs.Prelude.{◌≡◌, ℕ, ◌+◌, Bool, true, false, ◌||◌, nat_eq, List, ◌++◌, length, map, All}
-use Rattle.std.specs.List.{list_any}
-use Rattle.smk_base.specs.Places.{has, places}
-use Rattle.smk_base.specs.Plans.{Formula, Comparison, Conjunction, Disjunction, Negation, Unary, Selection, Projection, Distinction, Grouping, Binary, Equijoin, ThetaJoin, CrossProduct, BagUnion, SetUnion}
-use Rattle.smk_base.specs.declared.book.plan.Operand.{Operand}
+use Rattle.std.specs.{Prelude.{◌≡◌, ℕ, ◌+◌, Bool, true, false, ◌||◌, nat_eq, List, ◌++◌, length, map, All}, List.list_any}
+use Rattle.smk_base.specs.{Places.{has, places}, Plans.{Formula, Comparison, Conjunction, Disjunction, Negation, Unary, Selection, Projection, Distinction, Grouping, Binary, Equijoin, ThetaJoin, CrossProduct, BagUnion, SetUnion}, declared.book.plan.Operand.Operand}
 use Rattle.smk_base.specs.declared.book.plan.Operand.TheVariants as operands
 use Rattle.smk_model.specs.Values.{Row}
 use Rattle.smk_table.specs.Named.{is_of, reads, place_of, item_among, agg_among, pair_among, behind, is_paired}

@@ -1,11 +1,8 @@
 //! Whether output columns, keys, aggregates, pairs or predicates read a column, and the same over fewer columns alone.
 
-ghost use Rattle.std.specs.Prelude.{◌≡◌, ◌<◌, ◌≤◌, ◌+◌, ◌++◌, Ok, length, map, nat_eq, position, All, IfOk};
-ghost use Rattle.std.specs.List.{list_any};
-ghost use Rattle.smk_base.specs.Places.{has};
-ghost use Rattle.smk_base.specs.PlanImage.{formula_of};
-ghost use Rattle.smk_table.specs.Named.{is_of, reads, place_of, item_among, agg_among, pair_among, behind, is_paired};
-ghost use Rattle.smk_table.specs.Wanted.{in_operand, in_formula, operand_among, formula_among};
+ghost use Rattle.std.specs.{Prelude.{◌≡◌, ◌<◌, ◌≤◌, ◌+◌, ◌++◌, Ok, length, map, nat_eq, position, All, IfOk}, List.list_any};
+ghost use Rattle.smk_base.specs.{Places.has, PlanImage.formula_of};
+ghost use Rattle.smk_table.specs.{Named.{is_of, reads, place_of, item_among, agg_among, pair_among, behind, is_paired}, Wanted.{in_operand, in_formula, operand_among, formula_among}};
 
 use smk_base::{Agg, Aggs, Item, Items, Keys, Operand, Pairs, Pred};
 use std::alloc::{AllocError, Global};

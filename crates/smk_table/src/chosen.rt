@@ -1,6 +1,5 @@
 ghost use Rattle.std.specs.Prelude.{◌≡◌, ◌<◌, ◌≤◌, length, map, All, IfOk};
-ghost use Rattle.smk_base.specs.Rels.{IsRelation, kind_in, picked, rows_at};
-ghost use Rattle.smk_base.specs.declared.rel.TheConstants.{COLUMN_LIMIT, ROW_LIMIT};
+ghost use Rattle.smk_base.specs.{Rels.{IsRelation, kind_in, picked, rows_at}, declared.rel.TheConstants.{COLUMN_LIMIT, ROW_LIMIT}};
 
 use smk_base::{Rel, Rids};
 use std::alloc::{AllocError, Global};

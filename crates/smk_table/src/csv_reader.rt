@@ -1,9 +1,6 @@
-ghost use Rattle.std.specs.Prelude.{◌≡◌, [], ◌∷◌, IfOk, IfErr, IsFalse};
-ghost use Rattle.std.specs.Bool.{OnTrue, OnFalse};
-ghost use Rattle.csv.specs.Reading.{records, default_config};
-ghost use Rattle.csv.specs.Records.{fields_of};
-ghost use Rattle.smk_base.specs.Marks.{begins_with_mark};
-ghost use Rattle.smk_base.specs.declared.fault.TableFault.TheVariants.{NoMemory};
+ghost use Rattle.std.specs.{Prelude.{◌≡◌, [], ◌∷◌, IfOk, IfErr, IsFalse}, Bool.{OnTrue, OnFalse}};
+ghost use Rattle.csv.specs.{Reading.{records, default_config}, Records.fields_of};
+ghost use Rattle.smk_base.specs.{Marks.begins_with_mark, declared.fault.TableFault.TheVariants.NoMemory};
 ghost use Rattle.smk_table.specs.CsvReader.{IsBetween, records_left};
 
 use csv::{ByteRecord, Reader, ReaderBuilder};

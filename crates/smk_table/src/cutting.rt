@@ -1,7 +1,5 @@
 // Where the text of a table may be cut, so that each piece can be read by itself.
-ghost use Rattle.std.specs.Prelude.{◌≡◌, ◌<◌, ◌≤◌, All, take, drop, length, flat_map, IfOk, IfSome, IsFalse};
-ghost use Rattle.std.specs.Bool.{OnTrue};
-ghost use Rattle.std.specs.List.{list_all};
+ghost use Rattle.std.specs.{Prelude.{◌≡◌, ◌<◌, ◌≤◌, All, take, drop, length, flat_map, IfOk, IfSome, IsFalse}, Bool.OnTrue, List.list_all};
 ghost use Rattle.csv.specs.Reading.{records, default_config};
 ghost use Rattle.smk_base.specs.Marks.{begins_with_mark};
 ghost use Rattle.smk_table.specs.Cuts.{AreLines, is_unquoted, read_of};

@@ -1,13 +1,8 @@
-ghost use Rattle.std.specs.Prelude.{◌≡◌, ◌≢◌, ◌⊎◌, ◌<◌, ◌≤◌, ◌+◌, [], length, IfOk, IfErr, IfSome, OnOk, Ok, Err, slice_index_or};
-ghost use Rattle.std.specs.List.{list_all};
-ghost use Rattle.std.specs.Option.{ok_or, option_map};
+ghost use Rattle.std.specs.{Prelude.{◌≡◌, ◌≢◌, ◌⊎◌, ◌<◌, ◌≤◌, ◌+◌, [], length, IfOk, IfErr, IfSome, OnOk, Ok, Err, slice_index_or}, List.list_all, Option.{ok_or, option_map}};
 ghost use Rattle.csv.specs.Records.{fields_of};
-ghost use Rattle.smk_base.specs.declared.fault.TableFault.TheVariants.{NoMemory, BadInt};
+ghost use Rattle.smk_base.specs.{declared.fault.TableFault.TheVariants.{NoMemory, BadInt}, Ints.is_blank, Rels.{Fits, kind_in}, declared.rel.TheConstants.COLUMN_LIMIT};
 ghost use Rattle.smk_base.specs.declared.value.Kind.TheVariants as kinds;
 ghost use Rattle.smk_base.specs.declared.value.Value.TheVariants as values;
-ghost use Rattle.smk_base.specs.Ints.{is_blank};
-ghost use Rattle.smk_base.specs.Rels.{Fits, kind_in};
-ghost use Rattle.smk_base.specs.declared.rel.TheConstants.{COLUMN_LIMIT};
 ghost use Rattle.smk_model.specs.Tables.{AreColumns, IsBaseColumn, all_or_first, numbered, header_place, cell_value, field_value, int_field_value, text_value, record_row, declared_kinds};
 ghost use Rattle.smk_table.specs.Growing.{with_cell, with_row};
 

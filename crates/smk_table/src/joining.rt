@@ -1,12 +1,8 @@
 // The rows of pieces of a text, put behind one another.
 ghost use Rattle.std.specs.Prelude.{◌≡◌, ◌≢◌, ◌<◌, ◌≤◌, ◌+◌, ◌∷◌, ◌++◌, ℕ, List, [], length, map, slice_index_or, All, IfOk, Ok, Err};
-ghost use Rattle.smk_base.specs.declared.book.col_decl.ColDecl.{ColDecl};
-ghost use Rattle.smk_base.specs.declared.rel.TheConstants.{COLUMN_LIMIT, ROW_LIMIT};
-ghost use Rattle.smk_base.specs.declared.fault.TableFault.TheVariants.{NoMemory};
-ghost use Rattle.smk_base.specs.Rels.{IsRelation};
+ghost use Rattle.smk_base.specs.{declared.book.col_decl.ColDecl.ColDecl, declared.rel.TheConstants.{COLUMN_LIMIT, ROW_LIMIT}, declared.fault.TableFault.TheVariants.NoMemory, Rels.IsRelation};
 ghost use Rattle.smk_model.specs.Tables.{declared_kinds};
-ghost use Rattle.smk_table.specs.Joined.{AreParts, columns_of, end_to_end};
-ghost use Rattle.smk_table.specs.Pieces.{Part, part_behind, parts_behind, Gives, GivesAll};
+ghost use Rattle.smk_table.specs.{Joined.{AreParts, columns_of, end_to_end}, Pieces.{Part, part_behind, parts_behind, Gives, GivesAll}};
 
 use smk_base::{ColDecls, ROW_LIMIT, Rel, TableFault};
 use std::alloc::{AllocError, Global};

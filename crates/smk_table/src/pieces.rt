@@ -1,13 +1,9 @@
 // Tables read in pieces, in threads.
 ghost use Rattle.std.specs.Prelude.{◌≡◌, ◌⊎◌, ◌<◌, ◌≤◌, length, map, slice_index_or, IfOk, IfErr, IfSome, IsFalse, Ok, Err, All, ℕ, ◌==◌};
 ghost use Rattle.csv.specs.Reading.{records, default_config};
-ghost use Rattle.smk_base.specs.Marks.{begins_with_mark};
-ghost use Rattle.smk_base.specs.declared.fault.TableFault.TheVariants.{NoMemory};
-ghost use Rattle.smk_base.specs.declared.workers.TheConstants.{WORKER_LIMIT};
+ghost use Rattle.smk_base.specs.{Marks.begins_with_mark, declared.fault.TableFault.TheVariants.NoMemory, declared.workers.TheConstants.WORKER_LIMIT};
 ghost use Rattle.smk_model.specs.Tables.{AreColumns, declared_kinds, table_of};
-ghost use Rattle.smk_table.specs.Cuts.{read_of};
-ghost use Rattle.smk_table.specs.CsvReader.{IsBetween, records_left};
-ghost use Rattle.smk_table.specs.Pieces.{Gives, HasHeader, behind_header, rows_from, parts_of, parts_behind};
+ghost use Rattle.smk_table.specs.{Cuts.read_of, CsvReader.{IsBetween, records_left}, Pieces.{Gives, HasHeader, behind_header, rows_from, parts_of, parts_behind}};
 
 use crate::csv_reader::{next_record, reader_of};
 use crate::cutting::pieces;

@@ -1,6 +1,6 @@
 ghost use Rattle.std.specs.Prelude.{◌≡◌, ◌⊎◌, ◌<◌, ◌≤◌, [], length, IfOk, IfErr, OnOk, Ok, Err};
 ghost use Rattle.smk_base.specs.declared.fault.TableFault.TheVariants.{NoMemory};
-ghost use Rattle.smk_model.specs.Tables.{AreColumns, IsBase, table_of, table_of_records, declared_kinds, all_or_first, numbered, record_row};
+ghost use Rattle.smk_model.specs.Tables.{AreColumns, table_of, table_of_records, declared_kinds, all_or_first, numbered, record_row};
 ghost use Rattle.smk_table.specs.CsvReader.{IsBetween, records_left};
 
 use crate::csv_reader::{next_record, reader_of};

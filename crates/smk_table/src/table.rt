@@ -1,8 +1,5 @@
 ghost use Rattle.std.specs.Prelude.{◌≡◌, ◌+◌, ◌<◌, ◌≤◌, [], ◌++◌, length, take, All, IfOk, OnOk, OnErr};
-ghost use Rattle.smk_base.specs.Cells.{value_of_cell};
-ghost use Rattle.smk_base.specs.Places.{upto};
-ghost use Rattle.smk_base.specs.Rels.{IsRelation, Fits, kind_in, row_in, rows_at, value_in};
-ghost use Rattle.smk_base.specs.declared.rel.TheConstants.{COLUMN_LIMIT};
+ghost use Rattle.smk_base.specs.{Cells.value_of_cell, Rels.{IsRelation, Fits, kind_in, row_in, rows_at, value_in}, declared.rel.TheConstants.COLUMN_LIMIT};
 ghost use Rattle.smk_model.specs.Tables.{IsBase};
 ghost use Rattle.smk_table.specs.Showing.{first_rows};
 

@@ -1,9 +1,7 @@
 //! What a step reads of its inputs where some of its columns are wanted, and the step over these columns alone.
 
 ghost use Rattle.std.specs.Prelude.{◌≡◌, ◌<◌, ◌≤◌, ◌+◌, length, All, IfOk};
-ghost use Rattle.smk_base.specs.PlanImage.{binary_of, unary_of};
-ghost use Rattle.smk_base.specs.Places.{places};
-ghost use Rattle.smk_base.specs.declared.rel.TheConstants.{COLUMN_LIMIT};
+ghost use Rattle.smk_base.specs.{PlanImage.{binary_of, unary_of}, Places.places, declared.rel.TheConstants.COLUMN_LIMIT};
 ghost use Rattle.smk_table.specs.Wanted as wanted;
 
 use crate::among::{

@@ -1,25 +1,8 @@
 -- What a checked book gives for its tables and views.
-use Rattle.std.proofs.Common.{◌≡◌, ◌∙◌, ◌<◌, ◌^◌, ℕ, List, length, map, get_or, All, Ok, sym, ap, subst, arith}
-use Rattle.std.proofs.lemmas.List.{get_or-map, length-map}
-use Rattle.smk_base.specs.Rels.{Relation}
-use Rattle.smk_base.specs.PlanImage.{expr_of}
-use Rattle.smk_base.specs.CatalogImage.{CatalogImage, view_image}
-use Rattle.smk_base.specs.TreeImage.{book_image}
-use Rattle.smk_base.specs.declared.value.Kind.{Kind}
-use Rattle.smk_base.specs.declared.book.tree.Book.{Book}
-use Rattle.smk_base.specs.declared.book.col_decl.ColDecl.{ColDecl}
-use Rattle.smk_base.specs.declared.book.catalog.Column.{Column}
-use Rattle.smk_base.specs.declared.book.catalog.TableInfo.{TableInfo}
-use Rattle.smk_base.specs.declared.book.catalog.ViewInfo.{ViewInfo}
-use Rattle.smk_model.specs.Expanded.{expanded, dependency_names, HasNoDependency}
-use Rattle.smk_model.specs.Limits.{KeepsLimits}
-use Rattle.smk_model.specs.Profiles.{AreDependencies}
-use Rattle.smk_model.specs.Tables.{declared_kinds}
-use Rattle.smk_model.specs.Typing.{types}
-use Rattle.smk_model.specs.Catalogs.{ViewFits, table_kinds, each_table_kinds}
-use Rattle.smk_model.specs.Selection.{ScansFit, PlanFits, leaf_kinds, each_kinds, nodes}
-use Rattle.smk_model.proofs.Expanded.{expanded_stands}
-use Rattle.smk_model.proofs.LimitsKept.{faultless_keep_limits}
+use Rattle.std.proofs.{Common.{◌≡◌, ◌∙◌, ◌<◌, ◌^◌, ℕ, List, length, map, get_or, All, Ok, sym, ap, subst, arith}, lemmas.List.{get_or-map, length-map}}
+use Rattle.smk_base.specs.{Rels.Relation, PlanImage.expr_of, CatalogImage.{CatalogImage, view_image}, TreeImage.book_image, declared.value.Kind.Kind, declared.book.tree.Book.Book, declared.book.col_decl.ColDecl.ColDecl, declared.book.catalog.Column.Column, declared.book.catalog.TableInfo.TableInfo, declared.book.catalog.ViewInfo.ViewInfo}
+use Rattle.smk_model.specs.{Expanded.{expanded, dependency_names, HasNoDependency}, Limits.KeepsLimits, Profiles.AreDependencies, Tables.declared_kinds, Typing.types, Catalogs.{ViewFits, table_kinds, each_table_kinds}, Selection.{ScansFit, PlanFits, leaf_kinds, each_kinds, nodes}}
+use Rattle.smk_model.proofs.{Expanded.expanded_stands, LimitsKept.faultless_keep_limits}
 use Rattle.smk_base.proofs.Places.{map_map}
 use Rattle.smk_parse.specs.Answers.{IsBookAnswer}
 

@@ -1,15 +1,8 @@
 //! Books with their tables, from texts, and the lineage of their views as a text.
 
 ghost use Rattle.std.specs.Prelude.{◌≡◌, ◌||◌, ◌<◌, IsTrue, nat_eq, length, All, Ok, IfOk};
-ghost use Rattle.smk_base.specs.CatalogImage.{CatalogImage, catalog_image};
-ghost use Rattle.smk_base.specs.TreeImage.{book_image};
-ghost use Rattle.smk_model.specs.Expanded.{HasNoDependency};
-ghost use Rattle.smk_model.specs.Limits.{KeepsLimits};
-ghost use Rattle.smk_model.specs.Profiles.{AreDependencies};
-ghost use Rattle.smk_model.specs.Tables.{AreColumns};
-ghost use Rattle.smk_model.specs.Typing.{types};
-ghost use Rattle.smk_model.specs.Catalogs.{table_kinds, each_table_kinds};
-ghost use Rattle.smk_model.specs.Selection.{each_kinds};
+ghost use Rattle.smk_base.specs.{CatalogImage.{CatalogImage, catalog_image}, TreeImage.book_image};
+ghost use Rattle.smk_model.specs.{Expanded.HasNoDependency, Limits.KeepsLimits, Profiles.AreDependencies, Tables.AreColumns, Typing.types, Catalogs.{table_kinds, each_table_kinds}, Selection.each_kinds};
 ghost use Rattle.smk_compose.specs.KeptMaps.{NeedFits};
 
 use crate::rids::lists_shown;

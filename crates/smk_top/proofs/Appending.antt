@@ -1,23 +1,11 @@
 -- What was written, one text after the other.
-use Rattle.std.proofs.Common.{◌≡◌, ◌∙◌, ◌<◌, ◌+◌, ◌++◌, ◌∷◌, [], ℕ, List, length, take, drop, get_or, Option, Some, None, Result, Ok, Err, IfOk, refl, sym, ap, subst, append_assoc, append-nil, take-append-drop, arith}
-use Rattle.std.specs.Prelude.{IfErr}
-use Rattle.std.specs.List.{flat_map}
-use Rattle.smk_model.specs.Readings.{Reading}
-use Rattle.smk_model.specs.Reports.{LinesTold, report_told, lines_told, script_told, report_of}
-use Rattle.smk_model.specs.Values.{Row}
-use Rattle.smk_model.specs.ViewTexts.{views_text}
-use Rattle.smk_model.specs.Selection.{each_rows}
-use Rattle.smk_model.specs.Session.{Workbook}
+use Rattle.std.proofs.{Common.{◌≡◌, ◌∙◌, ◌<◌, ◌+◌, ◌++◌, ◌∷◌, [], ℕ, List, length, take, drop, get_or, Option, Some, None, Result, Ok, Err, IfOk, refl, sym, ap, subst, append_assoc, append-nil, take-append-drop, arith}, lemmas.List.{take_more, length-append}, lemmas.List.Concat.flat_map-append}
+use Rattle.std.specs.{Prelude.IfErr, List.flat_map}
+use Rattle.smk_model.specs.{Readings.Reading, Reports.{LinesTold, report_told, lines_told, script_told, report_of}, Values.Row, ViewTexts.views_text, Selection.each_rows, Session.Workbook}
 use Rattle.smk_session.specs.Sessions.{SessionImage, state_of, workbook_of}
-use Rattle.std.proofs.lemmas.List.{take_more, length-append}
-use Rattle.std.proofs.lemmas.List.Concat.{flat_map-append}
 use Rattle.smk_outside.specs.Outside.{Appends, AppendsPart}
-use Rattle.smk_inputs.specs.declared.stop.Stop.{Stop}
-use Rattle.smk_inputs.specs.declared.stop.Stop.TheVariants.{At, Unwritten, Exhausted}
-use Rattle.smk_inputs.specs.Loaded.{said_of}
-use Rattle.smk_top.specs.declared.counts.Counts.{Counts}
-use Rattle.smk_top.specs.Counting.{counts_together, counts_told, counts_of, text_counted}
-use Rattle.smk_top.specs.Writing.{Puts, PutsPieces}
+use Rattle.smk_inputs.specs.{declared.stop.Stop.Stop, declared.stop.Stop.TheVariants.{At, Unwritten, Exhausted}, Loaded.said_of}
+use Rattle.smk_top.specs.{declared.counts.Counts.Counts, Counting.{counts_together, counts_told, counts_of, text_counted}, Writing.{Puts, PutsPieces}}
 
 -- nothing, and one after the other
 pub appends_none : (a : Option (List ℕ)) → Appends a a []

@@ -1,30 +1,13 @@
 -- A run has one outcome and a conversation one start, so that where there is no fault no other ending is left but want of memory.
-use Rattle.std.specs.Prelude.{Result, ⊤, length, map}
+use Rattle.std.specs.{Prelude.{Result, ⊤, length, map}, List.concat}
 use Rattle.std.specs.Io.KnownBytes as known
-use Rattle.std.specs.List.{concat}
 use Rattle.std.proofs.Common.{◌≡◌, ◌⊎◌, ℕ, List, [], Option, Some, None, Ok, Err, refl, ap, ◌∙◌, subst, inl, inr}
 use Rattle.smk_base.specs.declared.fault.Fault.{Fault}
-use Rattle.smk_model.specs.Conversation.{line_of, talk_said}
-use Rattle.smk_model.specs.Reports.{Report}
-use Rattle.smk_model.specs.Outcome.{Held, Inputs, Outcome, NamesRead, UntoldCause, WhereTold, nothing_held, written_of}
-use Rattle.smk_model.specs.TalkStarts.{StartsTalk, NamesReadFirst}
-use Rattle.smk_model.specs.TalkWords.{talk_source}
-use Rattle.smk_model.specs.Texts.{no_memory_text}
-use Rattle.smk_model.specs.Words.{TextSource, Demo, words_of}
-use Rattle.smk_model.proofs.Conversation.{talks_as_reported}
-use Rattle.smk_model.proofs.OneOutcome.{one_outcome}
-use Rattle.smk_model.proofs.TalkStarts.{one_talk_start}
-use Rattle.smk_outside.specs.Outside.{Rose}
-use Rattle.smk_outside.specs.Told.{Told, AreAll}
-use Rattle.smk_outside.specs.declared.talk.ending.Ending.{Ending}
-use Rattle.smk_outside.specs.declared.talk.ending.Ending.TheVariants.{Ended, Outlasted, Unsaid}
+use Rattle.smk_model.specs.{Conversation.{line_of, talk_said}, Reports.Report, Outcome.{Held, Inputs, Outcome, NamesRead, UntoldCause, WhereTold, nothing_held, written_of}, TalkStarts.{StartsTalk, NamesReadFirst}, TalkWords.talk_source, Texts.no_memory_text, Words.{TextSource, Demo, words_of}}
+use Rattle.smk_model.proofs.{Conversation.talks_as_reported, OneOutcome.one_outcome, TalkStarts.one_talk_start}
+use Rattle.smk_outside.specs.{Outside.Rose, Told.{Told, AreAll}, declared.talk.ending.Ending.Ending, declared.talk.ending.Ending.TheVariants.{Ended, Outlasted, Unsaid}}
 use Rattle.smk_outside.proofs.Said.{said_whole}
-use Rattle.smk_top.specs.declared.status.Status.{Status}
-use Rattle.smk_top.specs.declared.status.Status.TheVariants.{NoMemory}
-use Rattle.smk_top.specs.Statuses.{status_of_report}
-use Rattle.smk_top.specs.Completeness.{Completeness, WritesWhole, AnswersAll, TalksWhole, TalkCompleteness}
-use Rattle.smk_top.specs.Endings.{Ends, reported, faulted, unwritten, exhausted, fault_unsaid, memory_unsaid}
-use Rattle.smk_top.specs.TalkEndings.{Converses, TalkEnds, IsUnopened, turns_of, report_by}
+use Rattle.smk_top.specs.{declared.status.Status.Status, declared.status.Status.TheVariants.NoMemory, Statuses.status_of_report, Completeness.{Completeness, WritesWhole, AnswersAll, TalksWhole, TalkCompleteness}, Endings.{Ends, reported, faulted, unwritten, exhausted, fault_unsaid, memory_unsaid}, TalkEndings.{Converses, TalkEnds, IsUnopened, turns_of, report_by}}
 use Rattle.smk_top.specs.TalkEndings as ends
 
 -- what is so of these texts by what the files hold: one answer, and no fault beside it unless a count rose

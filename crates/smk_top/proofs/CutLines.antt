@@ -1,6 +1,5 @@
 -- What is cut off the end of a line is one thing where it is heard and in a script, and so are the lines.
-use Rattle.std.proofs.Common.{◌≡◌, ◌&&◌, ◌-◌, ℕ, List, [], ◌∷◌, ◌++◌, length, take, get_or, nat_lt, Bool, true, false, cond, eqb, eqb-true, eq-eqb, refl, sym, ap, ◌∙◌, arith}
-use Rattle.std.proofs.Math.Seq.{take-length}
+use Rattle.std.proofs.{Common.{◌≡◌, ◌&&◌, ◌-◌, ℕ, List, [], ◌∷◌, ◌++◌, length, take, get_or, nat_lt, Bool, true, false, cond, eqb, eqb-true, eq-eqb, refl, sym, ap, ◌∙◌, arith}, Math.Seq.take-length}
 use borrow.Author.Tests.{lt-ltb}
 use Rattle.std.specs.Io.BufRead.{strip_last}
 use Rattle.smk_model.specs.Lines.{without_cr, lines_after as script_after, lines}

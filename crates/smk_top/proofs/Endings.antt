@@ -1,32 +1,11 @@
 -- How a run ends, from what its work comes to and what is said.
 use Rattle.std.proofs.Common.{◌≡◌, ◌∙◌, [], ℕ, List, map, Option, Some, None, Result, Ok, Err, IfOk, refl, ap, sym, subst, inl, inr, arith}
 use Rattle.std.specs.Prelude.{◌⊎◌, ⊤, Bool, true, false, cond}
-use Rattle.smk_base.specs.CatalogImage.{CatalogImage}
-use Rattle.smk_base.specs.declared.demo.TheConstants.{DEMO_BOOK_NAME, DEMO_SCRIPT_NAME}
-use Rattle.smk_base.specs.declared.fault.Fault.{Fault}
-use Rattle.smk_base.specs.declared.fault.Fault.TheVariants.{Usage, ViewRows, ViewPairs}
-use Rattle.smk_base.specs.declared.size.Size.{Size}
+use Rattle.smk_base.specs.{CatalogImage.CatalogImage, declared.demo.TheConstants.{DEMO_BOOK_NAME, DEMO_SCRIPT_NAME}, declared.fault.Fault.Fault, declared.fault.Fault.TheVariants.{Usage, ViewRows, ViewPairs}, declared.size.Size.Size}
 use Rattle.smk_outside.specs.Outside.{IsPrefix, Appends, AppendsPart, Rose}
-use Rattle.smk_model.specs.Demo.{demo_of, summary, summary_of}
-use Rattle.smk_model.specs.NodeFaults.{NodeFault, FullRows, FullPairs}
-use Rattle.smk_model.specs.Opening.{ViewFault, first_view_fault, named_fault}
-use Rattle.smk_model.specs.Reports.{Report, is_turned_down, report_of, size_of_view}
-use Rattle.smk_model.specs.Readings.{Reading, AreReadingsOf}
-use Rattle.smk_model.specs.Session.{Workbook, view_at}
-use Rattle.smk_model.specs.Values.{Row}
-use Rattle.smk_model.specs.Words.{TextSource, Files, Demo, words_of}
-use Rattle.smk_model.specs.Outcome.{Held, Inputs, text_named, unless_view_fault, reported as report_or_fault, ReadsInputs, unusable, usable, Outcome, unreadable, read, written_for, written_of, NamesRead, nothing_held, WhereTold, UntoldCause, IsReport, HasCause}
-use Rattle.smk_inputs.specs.declared.stop.Stop.{Stop}
-use Rattle.smk_inputs.specs.declared.stop.Stop.TheVariants.{At, Unwritten, Exhausted}
-use Rattle.smk_inputs.specs.Collecting.{ReadsAll, IsSayable}
-use Rattle.smk_top.specs.declared.counts.Counts.{Counts}
-use Rattle.smk_top.specs.declared.status.Status.{Status}
-use Rattle.smk_top.specs.declared.status.Status.TheVariants.{Done, DoneWithRefusals, WriteFault}
-use Rattle.smk_top.specs.Statuses.{IsReadingFault, status_of_fault, status_of_report}
-use Rattle.smk_top.specs.Looking.{IsInputs, LooksBehindReading}
-use Rattle.smk_top.specs.Counting.{counts_of}
-use Rattle.smk_top.specs.Writing.{PutsPieces}
-use Rattle.smk_top.specs.Endings.{IsBegun, reported, faulted, unwritten, exhausted, fault_unsaid, memory_unsaid, RunEnds, Works, Reports, SaysMemory, SaysFault}
+use Rattle.smk_model.specs.{Demo.{demo_of, summary, summary_of}, NodeFaults.{NodeFault, FullRows, FullPairs}, Opening.{ViewFault, first_view_fault, named_fault}, Reports.{Report, is_turned_down, report_of, size_of_view}, Readings.{Reading, AreReadingsOf}, Session.{Workbook, view_at}, Values.Row, Words.{TextSource, Files, Demo, words_of}, Outcome.{Held, Inputs, text_named, unless_view_fault, reported as report_or_fault, ReadsInputs, unusable, usable, Outcome, unreadable, read, written_for, written_of, NamesRead, nothing_held, WhereTold, UntoldCause, IsReport, HasCause}}
+use Rattle.smk_inputs.specs.{declared.stop.Stop.Stop, declared.stop.Stop.TheVariants.{At, Unwritten, Exhausted}, Collecting.{ReadsAll, IsSayable}}
+use Rattle.smk_top.specs.{declared.counts.Counts.Counts, declared.status.Status.Status, declared.status.Status.TheVariants.{Done, DoneWithRefusals, WriteFault}, Statuses.{IsReadingFault, status_of_fault, status_of_report}, Looking.{IsInputs, LooksBehindReading}, Counting.counts_of, Writing.PutsPieces, Endings.{IsBegun, reported, faulted, unwritten, exhausted, fault_unsaid, memory_unsaid, RunEnds, Works, Reports, SaysMemory, SaysFault}}
 use Rattle.smk_top.proofs.Appending.{appends_none}
 
 -- a fault of the views is that of a node

@@ -1,19 +1,10 @@
 -- A run ends exactly in the endings that have each cause written out.
 use Rattle.std.proofs.Common.{◌≡◌, ◌⊎◌, ℕ, List, [], Option, Some, None, Ok, Err, refl, ap, sym, subst, inl, inr, append-nil}
 use Rattle.std.specs.Prelude.{◌↔◌}
-use Rattle.smk_base.specs.declared.fault.Fault.{Fault}
-use Rattle.smk_base.specs.declared.fault.Fault.TheVariants.{Unread}
-use Rattle.smk_model.specs.FaultTexts.{fault_text}
-use Rattle.smk_model.specs.Texts.{no_memory_text}
-use Rattle.smk_model.specs.Reports.{Report}
-use Rattle.smk_model.specs.Outcome.{Held, Outcome, HasCause, IsReport, NamesRead, UntoldCause, WhereTold, nothing_held, written_for}
-use Rattle.smk_model.specs.Words.{TextSource, Files, words_of}
-use Rattle.smk_top.specs.declared.status.Status.{Status}
-use Rattle.smk_top.specs.declared.status.Status.TheVariants.{NoMemory}
-use Rattle.smk_top.specs.Statuses.{status_of_report, status_of_fault}
+use Rattle.smk_base.specs.{declared.fault.Fault.Fault, declared.fault.Fault.TheVariants.Unread}
+use Rattle.smk_model.specs.{FaultTexts.fault_text, Texts.no_memory_text, Reports.Report, Outcome.{Held, Outcome, HasCause, IsReport, NamesRead, UntoldCause, WhereTold, nothing_held, written_for}, Words.{TextSource, Files, words_of}}
+use Rattle.smk_top.specs.{declared.status.Status.Status, declared.status.Status.TheVariants.NoMemory, Statuses.{status_of_report, status_of_fault}, Endings.Ends, EndingsTold.{SaysLine, EndsTold, reported, unwritten, faulted, unread, exhausted, exhausted_behind, EndsUntold, EndsExactly, EndsAsTold}}
 use Rattle.smk_top.specs.Endings as ends
-use Rattle.smk_top.specs.Endings.{Ends}
-use Rattle.smk_top.specs.EndingsTold.{SaysLine, EndsTold, reported, unwritten, faulted, unread, exhausted, exhausted_behind, EndsUntold, EndsExactly, EndsAsTold}
 
 -- what is so of the run is what is so over files that hold this
 abbrev IsOver : List (List ℕ) → Option Held → Held → Type 0 → Type 0

@@ -1,8 +1,6 @@
 -- What is said first, text by text.
-use Rattle.std.proofs.Common.{◌≡◌, ◌≤◌, ◌<◌, ◌+◌, ℕ, List, [], ◌∷◌, ◌++◌, map, take, drop, get_or, length, sym, ap, ◌∙◌, subst, append_assoc}
-use Rattle.std.proofs.lemmas.List.{get_or-map, length-map, take_all, take_more, take-append-drop}
-use Rattle.smk_outside.specs.Saying.{Says, SaysFront}
-use Rattle.smk_outside.specs.Told.{Told}
+use Rattle.std.proofs.{Common.{◌≡◌, ◌≤◌, ◌<◌, ◌+◌, ℕ, List, [], ◌∷◌, ◌++◌, map, take, drop, get_or, length, sym, ap, ◌∙◌, subst, append_assoc}, lemmas.List.{get_or-map, length-map, take_all, take_more, take-append-drop}}
+use Rattle.smk_outside.specs.{Saying.{Says, SaysFront}, Told.Told}
 use Rattle.smk_outside.proofs.Telling.{Says-trans, SaysFront-after, SaysFront-more}
 
 -- all texts are said

@@ -1,14 +1,7 @@
 -- A reply that is told with the next state is one to its line, and its text is that of the line.
 use Rattle.std.proofs.Common.{◌≡◌, ◌∙◌, ap, sym, subst}
-use Rattle.smk_base.specs.CatalogImage.{CatalogImage, catalog_image}
-use Rattle.smk_base.specs.declared.book.catalog.Catalog.{Catalog}
-use Rattle.smk_base.specs.declared.book.tree.Line.{Line}
-use Rattle.smk_base.specs.declared.reply.Reply.{Reply}
-use Rattle.smk_model.specs.Catalogs.{IsCatalog}
-use Rattle.smk_model.specs.ReplyTexts.{IsReplyTo, reply_text}
-use Rattle.smk_model.specs.Reports.{plain_answered}
-use Rattle.smk_model.specs.Session.{State}
-use Rattle.smk_model.specs.Replies.{reply}
+use Rattle.smk_base.specs.{CatalogImage.{CatalogImage, catalog_image}, declared.book.catalog.Catalog.Catalog, declared.book.tree.Line.Line, declared.reply.Reply.Reply}
+use Rattle.smk_model.specs.{Catalogs.IsCatalog, ReplyTexts.{IsReplyTo, reply_text}, Reports.plain_answered, Session.State, Replies.reply}
 use Rattle.smk_model.proofs.RepliesFit.{replies_fit}
 
 pub told_fits : (catalog : CatalogImage) (state after : State) (asked : Line) (told : Reply) → IsCatalog catalog → ◌≡◌ {A = Reply × State} (told, after) (reply catalog state asked) → IsReplyTo catalog asked told

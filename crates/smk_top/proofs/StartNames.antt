@@ -1,12 +1,7 @@
 -- The names that a fault of a start says.
 use Rattle.std.proofs.Common.{◌≡◌, ◌∙◌, ℕ, suc, List, [], ◌∷◌, map, get_or, Option, Some, option_map, refl, ap, sym}
-use Rattle.smk_base.specs.CatalogImage.{catalog_image, view_image}
-use Rattle.smk_base.specs.declared.book.catalog.Catalog.{Catalog}
-use Rattle.smk_base.specs.declared.fault.Fault.TheVariants.{ViewRows, ViewPairs}
-use Rattle.smk_model.specs.NodeFaults.{FullRows, FullPairs}
-use Rattle.smk_model.specs.Opening.{ViewFault, fault_named}
-use Rattle.smk_model.specs.Session.{view_at, no_view}
-use Rattle.smk_model.specs.Typing.{info_at, no_table}
+use Rattle.smk_base.specs.{CatalogImage.{catalog_image, view_image}, declared.book.catalog.Catalog.Catalog, declared.fault.Fault.TheVariants.{ViewRows, ViewPairs}}
+use Rattle.smk_model.specs.{NodeFaults.{FullRows, FullPairs}, Opening.{ViewFault, fault_named}, Session.{view_at, no_view}, Typing.{info_at, no_table}}
 use Rattle.smk_base.proofs.Places.{map_map}
 
 -- what is made of the member at a place, or of the one that stands for none

@@ -1,51 +1,16 @@
 -- How a conversation starts and ends, by what its steps come to.
 use Rattle.std.proofs.Common.{append-nil, ◌≡◌, ◌≤◌, ◌+◌, ℕ, Bool, true, false, List, [], Option, Some, None, Result, Ok, Err, sym, ap, ◌∙◌, subst, inl, inr, length, arith}
 use Rattle.std.specs.Prelude.{◌⊎◌, option_map, cond}
-use Rattle.smk_base.specs.CatalogImage.{CatalogImage}
-use Rattle.smk_model.specs.NodeFaults.{NodeFault, FullRows, FullPairs}
-use Rattle.smk_base.specs.declared.fault.Fault.{Fault}
-use Rattle.smk_base.specs.declared.fault.Fault.TheVariants.{Usage}
-use Rattle.smk_base.specs.declared.demo.TheConstants.{DEMO_BOOK_NAME}
-use Rattle.smk_model.specs.Conversation.{first_talk_state, opening_block, turns_told, FitsTalk}
-use Rattle.smk_model.specs.Demo.{demo_of}
-use Rattle.smk_model.specs.Looks.{start_looks}
-use Rattle.smk_model.specs.Opening.{ViewFault, first_view_fault, fault_named, named_fault}
-use Rattle.smk_model.specs.Outcome.{Held, Inputs, ReadsFiles, UntoldCause, text_named}
-use Rattle.smk_model.specs.TalkStarts.{unusable, usable, unreadable, read, read_unless, started, HasTalkCause, IsTalkStart, BringsBy, FailedReads, misreads, line_files, TalkBrings}
-use Rattle.smk_model.specs.TalkWords.{TalkCall, talk_call_of, talk_source}
-use Rattle.smk_model.specs.Words.{Files, Demo, Settings}
-use Rattle.smk_outside.specs.Conversing.{Cause}
-use Rattle.smk_outside.specs.Outside.{Rose}
-use Rattle.smk_outside.specs.Told.{Told, Follow}
-use Rattle.smk_outside.specs.Saying.{Says}
-use Rattle.smk_outside.specs.declared.talk.event.Event.{Event}
+use Rattle.smk_base.specs.{CatalogImage.CatalogImage, declared.fault.Fault.Fault, declared.fault.Fault.TheVariants.Usage, declared.demo.TheConstants.DEMO_BOOK_NAME, declared.book.catalog.TableInfo.TableInfo}
+use Rattle.smk_model.specs.{NodeFaults.{NodeFault, FullRows, FullPairs}, Conversation.{first_talk_state, opening_block, turns_told, FitsTalk}, Demo.demo_of, Looks.start_looks, Opening.{ViewFault, first_view_fault, fault_named, named_fault}, Outcome.{Held, Inputs, ReadsFiles, UntoldCause, text_named}, TalkStarts.{unusable, usable, unreadable, read, read_unless, started, HasTalkCause, IsTalkStart, BringsBy, FailedReads, misreads, line_files, TalkBrings}, TalkWords.{TalkCall, talk_call_of, talk_source}, Words.{Files, Demo, Settings}, Readings.Reading, Values.Row, Session.{Workbook, State, first_state, view_at}, Reports.is_turned_down}
+use Rattle.smk_outside.specs.{Conversing.Cause, Outside.Rose, Told.{Told, Follow}, Saying.Says, declared.talk.event.Event.Event, declared.talk.ending.Ending.Ending, declared.talk.ending.Ending.TheVariants.{Ended, Unheard, Unsaid, Outlasted}}
 use Rattle.smk_outside.proofs.Stretches as stretches
 use Rattle.std.specs.Io.KnownBytes as known
 use Rattle.smk_model.proofs.SomeOutcome.{some_reading}
-use Rattle.smk_base.specs.declared.book.catalog.TableInfo.{TableInfo}
-use Rattle.smk_model.specs.Readings.{Reading}
-use Rattle.smk_model.specs.Values.{Row}
-use Rattle.smk_inputs.specs.Collecting.{ReadsAll, Starts}
-use Rattle.smk_model.specs.Session.{Workbook, State, first_state, view_at}
-use Rattle.smk_top.proofs.TalkStretches.{fits_by, talked_within}
-use Rattle.smk_outside.specs.declared.talk.ending.Ending.{Ending}
-use Rattle.smk_outside.specs.declared.talk.ending.Ending.TheVariants.{Ended, Unheard, Unsaid, Outlasted}
-use Rattle.smk_model.specs.Reports.{is_turned_down}
-use Rattle.smk_inputs.specs.Image.{settings_image, talk_image, texts_image}
-use Rattle.smk_inputs.specs.declared.called.RunTexts.{RunTexts}
-use Rattle.smk_inputs.specs.declared.called.TalkWords.{TalkWords}
-use Rattle.smk_inputs.specs.declared.stop.Stop.{Stop}
-use Rattle.smk_inputs.specs.declared.stop.Stop.TheVariants.{At, Unwritten, Exhausted}
-use Rattle.smk_top.specs.declared.talking.TalkEnd.{TalkEnd}
-use Rattle.smk_top.specs.Talking.{talk_rules, is_down, talk_at, Talked}
-use Rattle.smk_top.specs.Endings.{SaysMemory}
-use Rattle.smk_top.specs.declared.status.Status.{Status}
-use Rattle.smk_top.specs.declared.status.Status.TheVariants.{Done, DoneWithRefusals, ReadFault}
-use Rattle.smk_top.specs.TalkEndings.{ended, outlasted, unheard, unsaid, faulted, exhausted, cut_short, unheard_unsaid, fault_unsaid, memory_unsaid, cut_unsaid, TalkEnds, ConverseEnds, SaysTalkFault, SaysEnding, SaysTalkEnd, said_by, Converses, report_by, IsTalkRead, IsSilent, IsUnopened, ReadsBook, StartLooks, FailsToStart, TalksOver, Silent, BeginsTalk, TalksFor, TalkWorks}
+use Rattle.smk_inputs.specs.{Collecting.{ReadsAll, Starts}, Image.{settings_image, talk_image, texts_image}, declared.called.RunTexts.RunTexts, declared.called.TalkWords.TalkWords, declared.stop.Stop.Stop, declared.stop.Stop.TheVariants.{At, Unwritten, Exhausted}}
+use Rattle.smk_top.proofs.{TalkStretches.{fits_by, talked_within}, Endings.{never_rose, no_memory_is_no_fault}}
+use Rattle.smk_top.specs.{declared.talking.TalkEnd.TalkEnd, Talking.{talk_rules, is_down, talk_at, Talked}, Endings.SaysMemory, declared.status.Status.Status, declared.status.Status.TheVariants.{Done, DoneWithRefusals, ReadFault}, TalkEndings.{ended, outlasted, unheard, unsaid, faulted, exhausted, cut_short, unheard_unsaid, fault_unsaid, memory_unsaid, cut_unsaid, TalkEnds, ConverseEnds, SaysTalkFault, SaysEnding, SaysTalkEnd, said_by, Converses, report_by, IsTalkRead, IsSilent, IsUnopened, ReadsBook, StartLooks, FailsToStart, TalksOver, Silent, BeginsTalk, TalksFor, TalkWorks}, Looking.{LooksBehind, LooksBehindReading}, Statuses.{IsReadingFault, IsStartFault, status_of_fault}}
 use Rattle.smk_outside.proofs.Reading.{none_taken}
-use Rattle.smk_top.proofs.Endings.{never_rose, no_memory_is_no_fault}
-use Rattle.smk_top.specs.Looking.{LooksBehind, LooksBehindReading}
-use Rattle.smk_top.specs.Statuses.{IsReadingFault, IsStartFault, status_of_fault}
 
 -- a fault of a view has its cause, whatever files hold
 view_cause : (rose : Type 0) (catalog : CatalogImage) (found : ViewFault) → UntoldCause rose (fault_named catalog found)

@@ -1,38 +1,15 @@
 -- The worked conversation, turn by turn, and why no line is heard ahead.
-use Rattle.std.specs.Prelude.{codes, take}
-use Rattle.std.specs.Fmt.{digits}
+use Rattle.std.specs.{Prelude.{codes, take}, Fmt.digits}
 use Rattle.std.proofs.Common.{◌≡◌, ◌<◌, ℕ, false, List, [], ◌∷◌, ◌++◌, Some, None, Ok, refl, sym, ap, ◌∙◌, subst, inl, arith, length}
-use Rattle.clap.specs.Walk.{walked}
-use Rattle.clap.specs.Faults.{walk_fault, defaults_fault}
-use Rattle.csv.specs.Writing.{fields_text, is_blank}
-use Rattle.csv.specs.Reading.{records_from}
-use Rattle.csv.specs.Machine.{next_record}
-use Rattle.smk_base.specs.Ints.{int_of}
-use Rattle.smk_base.specs.Trees.{AppendedLine}
+use Rattle.clap.specs.{Walk.walked, Faults.{walk_fault, defaults_fault}}
+use Rattle.csv.specs.{Writing.{fields_text, is_blank}, Reading.records_from, Machine.next_record}
+use Rattle.smk_base.specs.{Ints.int_of, Trees.AppendedLine}
 use Rattle.smk_base.specs.declared.book.tree.Line.TheVariants as lines
-use Rattle.smk_model.specs.Texts.{record_line}
-use Rattle.smk_model.specs.Tables.{table_of}
-use Rattle.smk_model.specs.Conversation.{line_limit, line_of, HeardLine, TalkTurn, Replied, TooLong, TalkState, turn_after, turn_block, FitsTalk, first_talk_state, opening_block, opening_texts}
-use Rattle.smk_model.specs.WorkedExamples.{sales, readme_book_name, readme_files, readme_catalog, readme_workbook, readme_inputs, plain_settings}
-use Rattle.smk_model.specs.Readings.{Asks, Unread, asks, leaves, plain_reading}
-use Rattle.smk_model.specs.Reports.{BookSaid}
-use Rattle.smk_model.specs.TalkStarts.{usable, read, started, TalkBrings}
-use Rattle.smk_model.specs.TalkWords.{TalkCall, talk_call_of}
-use Rattle.smk_model.specs.Words.{Files}
-use Rattle.smk_model.proofs.Spelling.{computed}
-use Rattle.smk_model.proofs.WorkedExamples.{readme}
-use Rattle.smk_outside.specs.Conversing.{Talks, Rules, last_state}
-use Rattle.smk_outside.specs.Outside.{Rose}
-use Rattle.smk_outside.specs.Told.{says}
-use Rattle.smk_outside.specs.declared.talk.event.Event.{Event}
-use Rattle.smk_outside.specs.declared.talk.event.Event.TheVariants.{Heard, End, Said}
-use Rattle.smk_outside.specs.declared.talk.ending.Ending.{Ending}
-use Rattle.smk_outside.specs.declared.talk.ending.Ending.TheVariants.{Ended, Unheard, Unsaid, Outlasted}
-use Rattle.smk_top.specs.declared.status.Status.{Status}
-use Rattle.smk_top.specs.Talking.{talk_rules}
-use Rattle.smk_top.specs.TalkEndings.{Converses, TalkEnds, IsSilent, IsCutShort, said_by}
+use Rattle.smk_model.specs.{Texts.record_line, Tables.table_of, Conversation.{line_limit, line_of, HeardLine, TalkTurn, Replied, TooLong, TalkState, turn_after, turn_block, FitsTalk, first_talk_state, opening_block, opening_texts}, WorkedExamples.{sales, readme_book_name, readme_files, readme_catalog, readme_workbook, readme_inputs, plain_settings}, Readings.{Asks, Unread, asks, leaves, plain_reading}, Reports.BookSaid, TalkStarts.{usable, read, started, TalkBrings}, TalkWords.{TalkCall, talk_call_of}, Words.Files}
+use Rattle.smk_model.proofs.{Spelling.computed, WorkedExamples.readme}
+use Rattle.smk_outside.specs.{Conversing.{Talks, Rules, last_state}, Outside.Rose, Told.says, declared.talk.event.Event.Event, declared.talk.event.Event.TheVariants.{Heard, End, Said}, declared.talk.ending.Ending.Ending, declared.talk.ending.Ending.TheVariants.{Ended, Unheard, Unsaid, Outlasted}}
+use Rattle.smk_top.specs.{declared.status.Status.Status, Talking.talk_rules, TalkEndings.{Converses, TalkEnds, IsSilent, IsCutShort, said_by}, TalkExamples.{line_shown, line_appended, line_left, view_said, answers_said, answered_first, heard_ahead, told_first, told_last, TalksHold}}
 use Rattle.smk_top.specs.TalkEndings as ends
-use Rattle.smk_top.specs.TalkExamples.{line_shown, line_appended, line_left, view_said, answers_said, answered_first, heard_ahead, told_first, told_last, TalksHold}
 
 -- the words
 abbrev call : TalkCall

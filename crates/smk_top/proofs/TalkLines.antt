@@ -1,29 +1,11 @@
 -- What a line of a conversation is answered, as one of the turns that may be.
 use Rattle.std.proofs.Common.{◌≡◌, ◌≤◌, ◌<◌, ◌+◌, ℕ, Bool, true, false, List, [], ◌∷◌, ◌++◌, Option, Some, None, Result, Ok, Err, refl, sym, ap, ◌∙◌, arith, inl, inr, length}
-use Rattle.std.specs.Prelude.{◌⊎◌, ◌&&◌, ◌||◌, cond, nat_lt, is_some}
-use Rattle.std.specs.Option.{option_to_list}
-use Rattle.smk_base.specs.CatalogImage.{CatalogImage}
-use Rattle.smk_base.specs.Rels.{Relation}
-use Rattle.smk_base.specs.declared.book.catalog.TableInfo.{TableInfo}
-use Rattle.smk_base.specs.declared.fault.Fault.{Fault}
-use Rattle.smk_model.specs.Catalogs.{each_table_kinds}
-use Rattle.smk_model.specs.Conversation.{TalkState, Replied, Owned, Unbrought, ReadOnly, Forgone, OwnForgone, TooLong, asks_append, line_limit, text_read, unbrought_text, read_only_text, forgone_text, too_long_text}
-use Rattle.smk_model.specs.Names.{◌>>=◌}
-use Rattle.smk_model.specs.Outcome.{Held, appended_at, load}
-use Rattle.smk_model.specs.OwnAnswers.{own_told, own_after}
-use Rattle.smk_model.specs.OwnLines.{OwnReading, IsOwnReading, is_own}
-use Rattle.smk_model.specs.Readings.{Reading, Asks, Unread, IsReading, Nothing}
-use Rattle.smk_base.specs.Trees.{AppendedLine, PlainLine, AskedLine, ProfiledLine}
+use Rattle.std.specs.{Prelude.{◌⊎◌, ◌&&◌, ◌||◌, cond, nat_lt, is_some}, Option.option_to_list}
+use Rattle.smk_base.specs.{CatalogImage.CatalogImage, Rels.Relation, declared.book.catalog.TableInfo.TableInfo, declared.fault.Fault.Fault, Trees.{AppendedLine, PlainLine, AskedLine, ProfiledLine}}
+use Rattle.smk_model.specs.{Catalogs.each_table_kinds, Conversation.{TalkState, Replied, Owned, Unbrought, ReadOnly, Forgone, OwnForgone, TooLong, asks_append, line_limit, text_read, unbrought_text, read_only_text, forgone_text, too_long_text}, Names.◌>>=◌, Outcome.{Held, appended_at, load}, OwnAnswers.{own_told, own_after}, OwnLines.{OwnReading, IsOwnReading, is_own}, Readings.{Reading, Asks, Unread, IsReading, Nothing}, Reports.{BookSaid, line_told, state_after, next_rows}, Selection.{each_kinds, each_rows}, Session.State, TalkStarts.BringsBy, Values.Row}
 use Rattle.smk_base.specs.declared.fault.Fault.TheVariants as faults
-use Rattle.smk_model.specs.Reports.{BookSaid, line_told, state_after, next_rows}
-use Rattle.smk_model.specs.Selection.{each_kinds, each_rows}
-use Rattle.smk_model.specs.Session.{State}
-use Rattle.smk_model.specs.TalkStarts.{BringsBy}
-use Rattle.smk_model.specs.Values.{Row}
-use Rattle.smk_model.proofs.OwnReadings.{own_lines_are_read}
-use Rattle.smk_model.proofs.SomeOutcome.{some_line}
-use Rattle.smk_inputs.specs.Collecting.{Loads, unread_among}
-use Rattle.smk_inputs.specs.declared.stop.Stop.TheVariants.{At}
+use Rattle.smk_model.proofs.{OwnReadings.own_lines_are_read, SomeOutcome.some_line}
+use Rattle.smk_inputs.specs.{Collecting.{Loads, unread_among}, declared.stop.Stop.TheVariants.At}
 use Rattle.smk_top.specs.Talking.{is_down, AnswersLine}
 
 -- the rows of the table that a line brings, if it brings one

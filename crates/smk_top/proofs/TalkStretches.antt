@@ -2,29 +2,13 @@
 use Rattle.std.proofs.Common.{zero, suc, ◌≡◌, ◌≤◌, ◌+◌, ℕ, Bool, true, false, List, [], ◌∷◌, ◌++◌, Option, Some, None, Result, Ok, Err, refl, sym, ap, ◌∙◌, subst, arith, inl, inr, length, length-append}
 use Rattle.std.specs.Prelude.{◌||◌, nat_lt}
 use borrow.Author.Tests.{lt-ltb}
-use Rattle.smk_base.specs.declared.book.catalog.TableInfo.{TableInfo}
-use Rattle.smk_base.specs.declared.fault.Fault.{Fault}
-use Rattle.smk_model.specs.Conversation.{TalkTurn, Replied, Owned, Unbrought, ReadOnly, Forgone, OwnForgone, TooLong, TalkState, line_of, turn_after, turn_block, turn_told, turns_told, FitsTalk}
-use Rattle.smk_model.specs.Outcome.{Held, appended_at, nothing_held}
-use Rattle.smk_model.specs.Session.{State}
-use Rattle.smk_model.specs.Reports.{BookSaid, LinesTold, nothing_told, followed_by}
-use Rattle.smk_model.specs.TalkStarts.{BringsBy, FailedReads, misreads}
+use Rattle.smk_base.specs.{declared.book.catalog.TableInfo.TableInfo, declared.fault.Fault.Fault}
+use Rattle.smk_model.specs.{Conversation.{TalkTurn, Replied, Owned, Unbrought, ReadOnly, Forgone, OwnForgone, TooLong, TalkState, line_of, turn_after, turn_block, turn_told, turns_told, FitsTalk}, Outcome.{Held, appended_at, nothing_held}, Session.State, Reports.{BookSaid, LinesTold, nothing_told, followed_by}, TalkStarts.{BringsBy, FailedReads, misreads}, Values.Row}
 use Rattle.smk_model.proofs.Misreads.{reads_within, misreads_joined, misread_once}
-use Rattle.smk_model.specs.Values.{Row}
 use Rattle.smk_outside.proofs.Stretches as stretches
-use Rattle.smk_outside.specs.declared.talk.event.Event.{Event}
-use Rattle.smk_outside.specs.declared.talk.event.Event.TheVariants.{Heard, End}
-use Rattle.smk_outside.specs.Hearing.{Hears}
-use Rattle.smk_outside.specs.Outside.{Rose}
-use Rattle.smk_outside.specs.Saying.{AreFront, Says, SaysFront}
-use Rattle.smk_outside.specs.Turning.{ReplyGives}
-use Rattle.smk_outside.specs.Conversing.{Cause, Talks, TakesBy, last_state}
+use Rattle.smk_outside.specs.{declared.talk.event.Event.Event, declared.talk.event.Event.TheVariants.{Heard, End}, Hearing.Hears, Outside.Rose, Saying.{AreFront, Says, SaysFront}, Turning.ReplyGives, Conversing.{Cause, Talks, TakesBy, last_state}, Told.{Told as ToldBy, Adds, AreAll, says}, declared.talk.ending.Ending.Ending, declared.talk.ending.Ending.TheVariants.{Ended, Unheard, Unsaid, Outlasted}}
 use Rattle.smk_outside.proofs.Telling.{Adds-trans, Takes-trans, TakesBy-trans, TakesBy-unheard}
-use Rattle.std.proofs.lemmas.List.{map-append}
-use Rattle.std.proofs.lemmas.List.Sums.{fold-append}
-use Rattle.smk_outside.specs.Told.{Told as ToldBy, Adds, AreAll, says}
-use Rattle.smk_outside.specs.declared.talk.ending.Ending.{Ending}
-use Rattle.smk_outside.specs.declared.talk.ending.Ending.TheVariants.{Ended, Unheard, Unsaid, Outlasted}
+use Rattle.std.proofs.{lemmas.List.map-append, lemmas.List.Sums.fold-append}
 use Rattle.smk_inputs.proofs.Stops.{rose_within, untold_within}
 use Rattle.smk_top.specs.Talking.{talk_rules, is_down, talk_at, AnswersLine, TalkStretch, TakesTurn, EndsTurn, TurnTaken, Talked}
 

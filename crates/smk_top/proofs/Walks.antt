@@ -1,18 +1,11 @@
 -- The walk over the lines of a script, one part after the other.
-use Rattle.std.proofs.Common.{◌≡◌, ◌∙◌, ◌≤◌, ◌+◌, ◌++◌, ◌∷◌, [], ℕ, List, length, drop, Option, Err, refl, sym, ap, subst, append_assoc, append-nil, arith}
-use Rattle.std.proofs.lemmas.List.{length-append, drop_all}
+use Rattle.std.proofs.{Common.{◌≡◌, ◌∙◌, ◌≤◌, ◌+◌, ◌++◌, ◌∷◌, [], ℕ, List, length, drop, Option, Err, refl, sym, ap, subst, append_assoc, append-nil, arith}, lemmas.List.{length-append, drop_all}}
 use Rattle.smk_base.specs.Marks.{after_marks}
-use Rattle.smk_model.specs.Lines.{lines}
-use Rattle.smk_model.specs.Readings.{Reading, IsReading, AreReadings, AreReadingsOf, no_line}
-use Rattle.smk_model.specs.Reports.{BookSaid, LinesTold, nothing_told, followed_by, brings_rows, next_rows, rows_left, line_told, state_after, lines_told}
-use Rattle.smk_model.specs.Session.{State}
-use Rattle.smk_model.specs.Values.{Row}
+use Rattle.smk_model.specs.{Lines.lines, Readings.{Reading, IsReading, AreReadings, AreReadingsOf, no_line}, Reports.{BookSaid, LinesTold, nothing_told, followed_by, brings_rows, next_rows, rows_left, line_told, state_after, lines_told}, Session.State, Values.Row}
 use Rattle.smk_model.proofs.OneOutcome.{same_readings}
 use Rattle.smk_outside.specs.Outside.{Appends, AppendsPart}
 use Rattle.smk_inputs.specs.declared.stop.Stop.{Stop}
-use Rattle.smk_top.specs.declared.counts.Counts.{Counts}
-use Rattle.smk_top.specs.Counting.{counts_together, counts_told}
-use Rattle.smk_top.specs.Writing.{PutsPieces}
+use Rattle.smk_top.specs.{declared.counts.Counts.Counts, Counting.{counts_together, counts_told}, Writing.PutsPieces}
 use Rattle.smk_inputs.proofs.ScriptReads.{readings_more, rest_said}
 use Rattle.smk_top.proofs.Appending.{appends_none, appends_more, front_of, next_stops}
 

@@ -1,22 +1,9 @@
 -- What a run and a conversation can't fail to do.
-use Rattle.std.specs.Prelude.{◌≡◌, ◌⊎◌, ℕ, List, [], length, map, Option, Some, None, Ok}
+use Rattle.std.specs.{Prelude.{◌≡◌, ◌⊎◌, ℕ, List, [], length, map, Option, Some, None, Ok}, List.concat}
 use Rattle.std.specs.Io.KnownBytes as known
-use Rattle.std.specs.List.{concat}
-use Rattle.smk_model.specs.Conversation.{line_of, talk_said}
-use Rattle.smk_model.specs.Reports.{Report}
-use Rattle.smk_model.specs.Outcome.{Held, Inputs, Outcome, nothing_held, written_of}
-use Rattle.smk_model.specs.TalkStarts.{StartsTalk}
-use Rattle.smk_model.specs.TalkWords.{talk_source}
-use Rattle.smk_model.specs.Texts.{no_memory_text}
-use Rattle.smk_model.specs.Words.{Demo, words_of}
-use Rattle.smk_outside.specs.Outside.{Appends, Rose}
-use Rattle.smk_outside.specs.Told.{Told, AreAll}
-use Rattle.smk_outside.specs.declared.talk.ending.Ending.{Ending}
-use Rattle.smk_top.specs.declared.status.Status.{Status}
-use Rattle.smk_top.specs.declared.status.Status.TheVariants.{NoMemory}
-use Rattle.smk_top.specs.Statuses.{status_of_report}
-use Rattle.smk_top.specs.Endings.{RunEnds}
-use Rattle.smk_top.specs.TalkEndings.{Converses, ConverseEnds, IsUnopened, turns_of, report_by}
+use Rattle.smk_model.specs.{Conversation.{line_of, talk_said}, Reports.Report, Outcome.{Held, Inputs, Outcome, nothing_held, written_of}, TalkStarts.StartsTalk, TalkWords.talk_source, Texts.no_memory_text, Words.{Demo, words_of}}
+use Rattle.smk_outside.specs.{Outside.{Appends, Rose}, Told.{Told, AreAll}, declared.talk.ending.Ending.Ending}
+use Rattle.smk_top.specs.{declared.status.Status.Status, declared.status.Status.TheVariants.NoMemory, Statuses.status_of_report, Endings.RunEnds, TalkEndings.{Converses, ConverseEnds, IsUnopened, turns_of, report_by}}
 
 -- where no count of faults rose in a run, what the run writes of this report is appended whole and nothing is said, and the status is the report's; or memory was wanting
 abbrev pub WritesWhole : List (List ℕ) → Option Held → Report → Type 0

@@ -1,18 +1,10 @@
 -- How a run may end: its status, what it has appended to `out`, and what to `err`.
 use Rattle.std.specs.Prelude.{◌≡◌, ◌⊎◌, ℕ, List, [], Option, Result, Ok, Err}
 use Rattle.smk_base.specs.declared.fault.Fault.{Fault}
-use Rattle.smk_model.specs.FaultTexts.{fault_text}
-use Rattle.smk_model.specs.Texts.{no_memory_text}
-use Rattle.smk_model.specs.Reports.{Report}
-use Rattle.smk_model.specs.Outcome.{Held, Inputs, IsReport, HasCause, written_of, reported as report_or_fault}
+use Rattle.smk_model.specs.{FaultTexts.fault_text, Texts.no_memory_text, Reports.Report, Outcome.{Held, Inputs, IsReport, HasCause, written_of, reported as report_or_fault}}
 use Rattle.smk_outside.specs.Outside.{IsPrefix, Appends, AppendsPart}
-use Rattle.smk_inputs.specs.declared.stop.Stop.{Stop}
-use Rattle.smk_inputs.specs.declared.stop.Stop.TheVariants.{At, Unwritten, Exhausted}
-use Rattle.smk_top.specs.declared.counts.Counts.{Counts}
-use Rattle.smk_top.specs.declared.status.Status.{Status}
-use Rattle.smk_top.specs.declared.status.Status.TheVariants.{WriteFault, NoMemory}
-use Rattle.smk_top.specs.Statuses.{status_of_report, status_of_fault}
-use Rattle.smk_top.specs.Counting.{counts_of}
+use Rattle.smk_inputs.specs.{declared.stop.Stop.Stop, declared.stop.Stop.TheVariants.{At, Unwritten, Exhausted}}
+use Rattle.smk_top.specs.{declared.counts.Counts.Counts, declared.status.Status.Status, declared.status.Status.TheVariants.{WriteFault, NoMemory}, Statuses.{status_of_report, status_of_fault}, Counting.counts_of}
 
 -- nothing, or the front of what the run writes of a report
 abbrev pub IsBegun : List (List ℕ) → Option Held → List ℕ → Type 0

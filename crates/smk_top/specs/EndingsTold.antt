@@ -1,17 +1,9 @@
 -- How a run may end over files that tell what they hold, and over files that don't, side by side, with each cause written out.
 use Rattle.std.specs.Prelude.{◌≡◌, ◌⊎◌, ◌↔◌, ℕ, List, [], Option, Some, None, Ok, Err}
-use Rattle.smk_base.specs.declared.fault.Fault.{Fault}
-use Rattle.smk_base.specs.declared.fault.Fault.TheVariants.{Unread}
-use Rattle.smk_model.specs.FaultTexts.{fault_text}
-use Rattle.smk_model.specs.Texts.{no_memory_text}
-use Rattle.smk_model.specs.Reports.{Report}
-use Rattle.smk_model.specs.Outcome.{Held, Outcome, IsAskedFor, UntoldCause, nothing_held, written_of}
-use Rattle.smk_model.specs.Words.{Files, words_of}
+use Rattle.smk_base.specs.{declared.fault.Fault.Fault, declared.fault.Fault.TheVariants.Unread}
+use Rattle.smk_model.specs.{FaultTexts.fault_text, Texts.no_memory_text, Reports.Report, Outcome.{Held, Outcome, IsAskedFor, UntoldCause, nothing_held, written_of}, Words.{Files, words_of}}
 use Rattle.smk_outside.specs.Outside.{IsPrefix, Appends, Rose}
-use Rattle.smk_top.specs.declared.status.Status.{Status}
-use Rattle.smk_top.specs.declared.status.Status.TheVariants.{ReadFault, WriteFault, NoMemory}
-use Rattle.smk_top.specs.Statuses.{status_of_report, status_of_fault}
-use Rattle.smk_top.specs.Endings.{RunEnds}
+use Rattle.smk_top.specs.{declared.status.Status.Status, declared.status.Status.TheVariants.{ReadFault, WriteFault, NoMemory}, Statuses.{status_of_report, status_of_fault}, Endings.RunEnds}
 
 -- a line is said whole, and the status is its own; or `err` failed behind a part of it
 abbrev pub SaysLine : Type 0 → Status → List ℕ → Status → List ℕ → Type 0

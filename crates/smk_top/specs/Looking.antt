@@ -1,10 +1,8 @@
 -- How often a run looks at rows.
 use Rattle.std.specs.Prelude.{◌≡◌, ◌⊎◌, ◌≤◌, ◌+◌, ⊤, ℕ, List, Option, Result, Ok, Err}
 use Rattle.smk_base.specs.declared.fault.Fault.{Fault}
-use Rattle.smk_model.specs.Outcome.{Held, Inputs, ReadsInputs, WhereTold, run_looks}
-use Rattle.smk_model.specs.Words.{words_of}
-use Rattle.smk_inputs.specs.declared.stop.Stop.{Stop}
-use Rattle.smk_inputs.specs.declared.stop.Stop.TheVariants.{At}
+use Rattle.smk_model.specs.{Outcome.{Held, Inputs, ReadsInputs, WhereTold, run_looks}, Words.words_of}
+use Rattle.smk_inputs.specs.{declared.stop.Stop.Stop, declared.stop.Stop.TheVariants.At}
 use Rattle.smk_top.specs.Statuses.{IsReadingFault, status_of_fault}
 
 -- these inputs are those of the run

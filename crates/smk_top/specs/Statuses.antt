@@ -3,8 +3,7 @@ use Rattle.std.specs.Prelude.{⊤, ℕ, cond}
 use Rattle.smk_base.specs.declared.fault.Fault.{Fault}
 use Rattle.smk_base.specs.declared.fault.Fault.TheVariants as faults
 use Rattle.smk_model.specs.Reports.{Report, is_turned_down}
-use Rattle.smk_top.specs.declared.status.Status.{Status}
-use Rattle.smk_top.specs.declared.status.Status.TheVariants.{Done, DoneWithRefusals, Usage, BadBook, BadTable, Limit, ReadFault, WriteFault, NoMemory}
+use Rattle.smk_top.specs.{declared.status.Status.Status, declared.status.Status.TheVariants.{Done, DoneWithRefusals, Usage, BadBook, BadTable, Limit, ReadFault, WriteFault, NoMemory}}
 
 abbrev pub code_of : Status → ℕ
 code_of Done = 0

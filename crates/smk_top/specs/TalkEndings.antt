@@ -1,31 +1,10 @@
 -- How a conversation may end: its status, what was heard and said, and what it has appended to `err`.
 use Rattle.std.specs.Prelude.{◌≡◌, ◌⊎◌, ◌≤◌, ◌+◌, ⊤, ℕ, Bool, cond, List, [], Option, Some, None, Result, Ok, Err}
 use Rattle.smk_base.specs.declared.fault.Fault.{Fault}
-use Rattle.smk_model.specs.Conversation.{TalkTurn, TalkState, FitsTalk, first_talk_state, opening_block, opening_texts, talk_report, turns_told}
-use Rattle.smk_model.specs.Looks.{start_looks}
-use Rattle.smk_model.specs.Opening.{first_view_fault}
-use Rattle.smk_model.specs.Outcome.{Held, Inputs, ReadsFiles, NamesAsked, UntoldCause, WhereTold}
-use Rattle.smk_model.specs.Reports.{BookSaid, Report, is_turned_down}
-use Rattle.smk_model.specs.Texts.{no_memory_text}
-use Rattle.smk_model.specs.TalkStarts.{ReadsTalk, started, HasTalkCause, IsTalkStart, FailedReads, line_files, misreads, TalkBrings, talk_fault_text, unheard_text}
-use Rattle.smk_model.specs.TalkWords.{TalkCall, talk_call_of, talk_source}
-use Rattle.smk_outside.specs.Conversing.{Conversation}
-use Rattle.smk_outside.specs.Outside.{IsPrefix, Rose, Appends}
-use Rattle.smk_outside.specs.Saying.{Says}
-use Rattle.smk_outside.specs.Told.{Told}
-use Rattle.smk_outside.specs.declared.talk.ending.Ending.{Ending}
-use Rattle.smk_outside.specs.declared.talk.ending.Ending.TheVariants.{Ended, Unheard, Unsaid, Outlasted}
-use Rattle.smk_inputs.specs.Image.{talk_image}
-use Rattle.smk_inputs.specs.declared.called.TalkWords.{TalkWords}
-use Rattle.smk_inputs.specs.declared.stop.Stop.{Stop}
-use Rattle.smk_inputs.specs.declared.stop.Stop.TheVariants.{At, Unwritten, Exhausted}
-use Rattle.smk_top.specs.Endings.{SaysMemory}
-use Rattle.smk_top.specs.Looking.{LooksBehind}
-use Rattle.smk_top.specs.Statuses.{status_of_report, status_of_fault}
-use Rattle.smk_top.specs.Talking.{talk_rules, SaysFew, Talked}
-use Rattle.smk_top.specs.declared.talking.TalkEnd.{TalkEnd}
-use Rattle.smk_top.specs.declared.status.Status.{Status}
-use Rattle.smk_top.specs.declared.status.Status.TheVariants.{Done, DoneWithRefusals, ReadFault, WriteFault, NoMemory}
+use Rattle.smk_model.specs.{Conversation.{TalkTurn, TalkState, FitsTalk, first_talk_state, opening_block, opening_texts, talk_report, turns_told}, Looks.start_looks, Opening.first_view_fault, Outcome.{Held, Inputs, ReadsFiles, NamesAsked, UntoldCause, WhereTold}, Reports.{BookSaid, Report, is_turned_down}, Texts.no_memory_text, TalkStarts.{ReadsTalk, started, HasTalkCause, IsTalkStart, FailedReads, line_files, misreads, TalkBrings, talk_fault_text, unheard_text}, TalkWords.{TalkCall, talk_call_of, talk_source}}
+use Rattle.smk_outside.specs.{Conversing.Conversation, Outside.{IsPrefix, Rose, Appends}, Saying.Says, Told.Told, declared.talk.ending.Ending.Ending, declared.talk.ending.Ending.TheVariants.{Ended, Unheard, Unsaid, Outlasted}}
+use Rattle.smk_inputs.specs.{Image.talk_image, declared.called.TalkWords.TalkWords, declared.stop.Stop.Stop, declared.stop.Stop.TheVariants.{At, Unwritten, Exhausted}}
+use Rattle.smk_top.specs.{Endings.SaysMemory, Looking.LooksBehind, Statuses.{status_of_report, status_of_fault}, Talking.{talk_rules, SaysFew, Talked}, declared.talking.TalkEnd.TalkEnd, declared.status.Status.Status, declared.status.Status.TheVariants.{Done, DoneWithRefusals, ReadFault, WriteFault, NoMemory}}
 
 -- the book that a conversation is held over, with the names of its dependencies
 abbrev pub said_by : Inputs → BookSaid

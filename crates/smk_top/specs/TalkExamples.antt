@@ -1,14 +1,8 @@
 -- A conversation over README's first example, worked by hand: what is heard and said in it, one after the other.
 use Rattle.std.specs.Prelude.{◌<◌, ℕ, List, [], ◌∷◌, length, Option, Some, codes}
-use Rattle.smk_model.specs.Conversation.{line_limit}
-use Rattle.smk_model.specs.WorkedExamples.{readme_book_name, readme_files}
-use Rattle.smk_outside.specs.Outside.{Rose}
-use Rattle.smk_outside.specs.Told.{Told, said_in}
-use Rattle.smk_outside.specs.declared.talk.event.Event.{Event}
-use Rattle.smk_outside.specs.declared.talk.event.Event.TheVariants.{Heard, End, Said}
-use Rattle.smk_top.specs.declared.status.Status.{Status}
-use Rattle.smk_top.specs.declared.status.Status.TheVariants.{DoneWithRefusals}
-use Rattle.smk_top.specs.TalkEndings.{ConverseEnds}
+use Rattle.smk_model.specs.{Conversation.line_limit, WorkedExamples.{readme_book_name, readme_files}}
+use Rattle.smk_outside.specs.{Outside.Rose, Told.{Told, said_in}, declared.talk.event.Event.Event, declared.talk.event.Event.TheVariants.{Heard, End, Said}}
+use Rattle.smk_top.specs.{declared.status.Status.Status, declared.status.Status.TheVariants.DoneWithRefusals, TalkEndings.ConverseEnds}
 
 -- the lines: one that shows a view, one that appends the file of the table once more, one that may be too long, and one that leaves the grammar
 abbrev pub line_shown : List ℕ

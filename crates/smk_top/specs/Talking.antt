@@ -1,18 +1,8 @@
 -- The rules of a conversation over a book, and stretches of it with what they come to.
 use Rattle.std.specs.Prelude.{◌≡◌, ◌≤◌, ◌<◌, ◌+◌, ℕ, Bool, ◌||◌, nat_lt, List, [], length, take, Option, Some, None}
-use Rattle.smk_model.specs.Conversation.{TalkTurn, TalkState, line_of, turn_after, turn_block, turn_told, turn_text, turns_told, session_after, FitsTalk}
-use Rattle.smk_model.specs.Outcome.{Held}
-use Rattle.smk_model.specs.Reports.{BookSaid, LinesTold}
-use Rattle.smk_model.specs.Session.{State}
-use Rattle.smk_model.specs.TalkStarts.{BringsBy, FailedReads, misreads}
-use Rattle.smk_outside.specs.Conversing.{Rules, Stretch, Cause}
-use Rattle.smk_outside.specs.Outside.{Rose}
-use Rattle.smk_outside.specs.Saying.{Says}
-use Rattle.smk_outside.specs.Told.{Told as ToldBy}
-use Rattle.smk_outside.specs.declared.talk.ending.Ending.{Ending}
-use Rattle.smk_outside.specs.declared.talk.ending.Ending.TheVariants.{Outlasted}
-use Rattle.smk_top.specs.declared.talking.Words.{Words}
-use Rattle.smk_top.specs.declared.talking.Words.TheVariants.{Made, Ready}
+use Rattle.smk_model.specs.{Conversation.{TalkTurn, TalkState, line_of, turn_after, turn_block, turn_told, turn_text, turns_told, session_after, FitsTalk}, Outcome.Held, Reports.{BookSaid, LinesTold}, Session.State, TalkStarts.{BringsBy, FailedReads, misreads}}
+use Rattle.smk_outside.specs.{Conversing.{Rules, Stretch, Cause}, Outside.Rose, Saying.Says, Told.Told as ToldBy, declared.talk.ending.Ending.Ending, declared.talk.ending.Ending.TheVariants.Outlasted}
+use Rattle.smk_top.specs.{declared.talking.Words.Words, declared.talking.Words.TheVariants.{Made, Ready}}
 
 -- what is said of each turn over a book, and the state after it
 abbrev pub talk_rules : BookSaid → Rules TalkState TalkTurn

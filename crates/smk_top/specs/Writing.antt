@@ -1,8 +1,7 @@
 -- What the steps of reporting say of what was written.
 use Rattle.std.specs.Prelude.{ℕ, List, Option, Result, Ok, Err}
 use Rattle.smk_outside.specs.Outside.{Appends, AppendsPart}
-use Rattle.smk_inputs.specs.declared.stop.Stop.{Stop}
-use Rattle.smk_inputs.specs.declared.stop.Stop.TheVariants.{At, Unwritten, Exhausted}
+use Rattle.smk_inputs.specs.{declared.stop.Stop.Stop, declared.stop.Stop.TheVariants.{At, Unwritten, Exhausted}}
 
 -- the text was appended, or a part of it where `out` failed
 abbrev pub Puts : {X : Type 0} → List ℕ → Type 0 → Option (List ℕ) → Option (List ℕ) → Result X Stop → Type 0

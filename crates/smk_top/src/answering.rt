@@ -1,27 +1,14 @@
 // What the lines of a script come to. Each kind of line has one function here, and `answer_line` is the one place that knows which kinds there are.
 ghost use Rattle.std.specs.Prelude.{◌≡◌, ◌≤◌, ◌<◌, ◌+◌, ℕ, List, Some, None, cond, is_some, length, IfSome, IfOk, OnOk, OnErr};
-ghost use Rattle.smk_base.specs.CatalogImage.{catalog_image, table_place};
-ghost use Rattle.smk_base.specs.TreeImage.{any_image, ask_image};
+ghost use Rattle.smk_base.specs.{CatalogImage.{catalog_image, table_place}, TreeImage.{any_image, ask_image}};
 ghost use Rattle.smk_model.specs.Appends as appends;
-ghost use Rattle.smk_model.specs.Asks.{is_ask_refused};
-ghost use Rattle.smk_model.specs.Catalogs.{table_kinds};
-ghost use Rattle.smk_model.specs.Limits.{KeepsAsk};
-ghost use Rattle.smk_model.specs.Outcome.{appended_at, appended_by};
+ghost use Rattle.smk_model.specs.{Asks.is_ask_refused, Catalogs.table_kinds, Limits.KeepsAsk, Outcome.{appended_at, appended_by}, Profiles.AreDependencies, ReplyTexts.table_named, Selection.each_rows, Typing.info_at, Values.Row};
 ghost use Rattle.smk_model.specs.Profiles as profiles;
-ghost use Rattle.smk_model.specs.Profiles.{AreDependencies};
-ghost use Rattle.smk_model.specs.ReplyTexts.{table_named};
 ghost use Rattle.smk_model.specs.Reports as reports;
-ghost use Rattle.smk_model.specs.Selection.{each_rows};
 ghost use Rattle.smk_model.specs.Texts as line_texts;
-ghost use Rattle.smk_model.specs.Typing.{info_at};
-ghost use Rattle.smk_model.specs.Values.{Row};
 ghost use Rattle.smk_session.specs.Sessions.{state_of};
-ghost use Rattle.smk_inputs.specs.Added.{BeginsWith, tables_left};
-ghost use Rattle.smk_inputs.specs.Image.{reading_image};
-ghost use Rattle.smk_inputs.specs.LineLimits.{KeepsLine, KeepsReading};
-ghost use Rattle.smk_inputs.specs.Loaded.{said_of};
-ghost use Rattle.smk_top.specs.Answering.{IsAnswered};
-ghost use Rattle.smk_top.specs.Counting.{counts_told};
+ghost use Rattle.smk_inputs.specs.{Added.{BeginsWith, tables_left}, Image.reading_image, LineLimits.{KeepsLine, KeepsReading}, Loaded.said_of};
+ghost use Rattle.smk_top.specs.{Answering.IsAnswered, Counting.counts_told};
 
 use crate::counting::NOTHING;
 use crate::counts::Counts;

@@ -1,14 +1,9 @@
 // A conversation, from its words to its end.
 ghost use Rattle.std.specs.Prelude.{◌≡◌, ◌≤◌, ℕ, List, Some, map};
-ghost use Rattle.smk_inputs.specs.Image.{texts_image};
-ghost use Rattle.smk_model.specs.FaultTexts.{IsSaid};
-ghost use Rattle.smk_model.specs.TalkWords.{talk_source};
-ghost use Rattle.smk_model.specs.Words.{Demo};
+ghost use Rattle.smk_inputs.specs.{Image.texts_image, Collecting.IsSayable};
+ghost use Rattle.smk_model.specs.{FaultTexts.IsSaid, TalkWords.talk_source, Words.Demo};
 ghost use Rattle.smk_outside.specs.Outside.{Rose};
-ghost use Rattle.smk_inputs.specs.Collecting.{IsSayable};
-ghost use Rattle.smk_top.specs.Looking.{LooksBehindReading};
-ghost use Rattle.smk_top.specs.Statuses.{IsStartFault};
-ghost use Rattle.smk_top.specs.TalkEndings.{BeginsTalk, ConverseEnds, SaysReady, SaysTalkFault, SaysTalkEnd, TalkWorks, is_called};
+ghost use Rattle.smk_top.specs.{Looking.LooksBehindReading, Statuses.IsStartFault, TalkEndings.{BeginsTalk, ConverseEnds, SaysReady, SaysTalkFault, SaysTalkEnd, TalkWorks, is_called}};
 
 use crate::program::{say_fault, say_no_memory};
 use crate::starting::{Started, start};

@@ -1,7 +1,4 @@
-ghost use Rattle.smk_top.specs.Completeness.{Completeness, TalkCompleteness};
-ghost use Rattle.smk_top.specs.EndingsTold.{EndsAsTold};
-ghost use Rattle.smk_top.specs.TalkExamples.{TalksHold};
-ghost use Rattle.smk_top.specs.TalkLaws.{LinesAreOne};
+ghost use Rattle.smk_top.specs.{Completeness.{Completeness, TalkCompleteness}, EndingsTold.EndsAsTold, TalkExamples.TalksHold, TalkLaws.LinesAreOne};
 
 /// Where a run has a report and nothing outside fails, exactly the report is appended and the status is its own, unless memory is wanting. So it is over files that tell what they hold, and of a demo over any.
 #[tactic(auto, using(crate::proofs::Completes::completes))]

@@ -1,14 +1,10 @@
 // What a conversation's own lines come to. Each kind of line has one function, and `tell_own` is the one place that knows which kinds there are.
 ghost use Rattle.std.specs.Prelude.{◌≡◌, ◌≤◌, ◌+◌, false, IfOk, OnOk, OnErr};
-ghost use Rattle.smk_base.specs.CatalogImage.{catalog_image};
-ghost use Rattle.smk_base.specs.declared.reply.ProfileReply.{ProfileReply};
-ghost use Rattle.smk_model.specs.OwnAnswers.{own_answered, brief_profile_answered};
-ghost use Rattle.smk_model.specs.Profiles.{AreDependencies, is_profile_refused};
+ghost use Rattle.smk_base.specs.{CatalogImage.catalog_image, declared.reply.ProfileReply.ProfileReply};
+ghost use Rattle.smk_model.specs.{OwnAnswers.{own_answered, brief_profile_answered}, Profiles.{AreDependencies, is_profile_refused}};
 ghost use Rattle.smk_session.specs.Sessions.{state_of};
 ghost use Rattle.smk_inputs.specs.Loaded.{said_of};
-ghost use Rattle.smk_own.specs.Answering.{IsOwnAnswer};
-ghost use Rattle.smk_own.specs.Image.{own_image};
-ghost use Rattle.smk_own.specs.Keeping.{KeepsOwn};
+ghost use Rattle.smk_own.specs.{Answering.IsOwnAnswer, Image.own_image, Keeping.KeepsOwn};
 ghost use Rattle.smk_profile.specs.Briefs.{group_sizes};
 
 use crate::stand::Stand;

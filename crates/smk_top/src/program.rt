@@ -1,22 +1,9 @@
 ghost use Rattle.std.specs.Prelude.{◌≡◌, ◌≤◌, ◌+◌, ℕ, List, Some, map};
-ghost use Rattle.smk_base.specs.CatalogImage.{catalog_image};
-ghost use Rattle.smk_base.specs.Marks.{after_marks};
-ghost use Rattle.smk_model.specs.Lines.{lines};
-ghost use Rattle.smk_model.specs.Profiles.{AreDependencies};
-ghost use Rattle.smk_model.specs.FaultTexts.{IsSaid};
-ghost use Rattle.smk_model.specs.Outcome.{run_looks};
-ghost use Rattle.smk_model.specs.Readings.{Reading, AreReadingsOf};
-ghost use Rattle.smk_model.specs.Reports.{Report};
-ghost use Rattle.smk_model.specs.Words.{Demo, words_of};
+ghost use Rattle.smk_base.specs.{CatalogImage.catalog_image, Marks.after_marks};
+ghost use Rattle.smk_model.specs.{Lines.lines, Profiles.AreDependencies, FaultTexts.IsSaid, Outcome.run_looks, Readings.{Reading, AreReadingsOf}, Reports.Report, Words.{Demo, words_of}};
 ghost use Rattle.smk_outside.specs.Outside.{Rose};
-ghost use Rattle.smk_inputs.specs.Added.{BringTables};
-ghost use Rattle.smk_inputs.specs.Image.{texts_image};
-ghost use Rattle.smk_inputs.specs.Loaded.{inputs_with};
-ghost use Rattle.smk_inputs.specs.Collecting.{IsSayable};
-ghost use Rattle.smk_top.specs.Counting.{counts_of};
-ghost use Rattle.smk_top.specs.Endings.{RunEnds, Works, Reports, SaysFault, SaysMemory};
-ghost use Rattle.smk_top.specs.Looking.{LooksBehindReading, RunLooks};
-ghost use Rattle.smk_top.specs.Statuses.{IsReadingFault, status_of_fault, status_of_report};
+ghost use Rattle.smk_inputs.specs.{Added.BringTables, Image.texts_image, Loaded.inputs_with, Collecting.IsSayable};
+ghost use Rattle.smk_top.specs.{Counting.counts_of, Endings.{RunEnds, Works, Reports, SaysFault, SaysMemory}, Looking.{LooksBehindReading, RunLooks}, Statuses.{IsReadingFault, status_of_fault, status_of_report}};
 
 use crate::counts::Counts;
 use crate::reporting::write_report;

@@ -1,24 +1,14 @@
 // The report of a run, text by text.
 ghost use Rattle.std.specs.Prelude.{◌≡◌, ◌≤◌, ◌<◌, ◌+◌, [], length, List, IfSome, IfOk};
-ghost use Rattle.smk_base.specs.CatalogImage.{catalog_image};
-ghost use Rattle.smk_base.specs.Marks.{after_marks};
-ghost use Rattle.smk_model.specs.Lines.{lines};
-ghost use Rattle.smk_model.specs.Outcome.{appended_at};
-ghost use Rattle.smk_model.specs.Profiles.{AreDependencies};
+ghost use Rattle.smk_base.specs.{CatalogImage.catalog_image, Marks.after_marks};
+ghost use Rattle.smk_model.specs.{Lines.lines, Outcome.appended_at, Profiles.AreDependencies, Readings.AreReadingsOf, Selection.each_rows, Session.view_at};
 ghost use Rattle.smk_model.specs.Readings as readings;
-ghost use Rattle.smk_model.specs.Readings.{AreReadingsOf};
 ghost use Rattle.smk_model.specs.Reports as reports;
-ghost use Rattle.smk_model.specs.Selection.{each_rows};
-ghost use Rattle.smk_model.specs.Session.{view_at};
 ghost use Rattle.smk_model.specs.ViewTexts as view_texts;
 ghost use Rattle.smk_outside.specs.Outside.{Rose};
 ghost use Rattle.smk_session.specs.Sessions.{state_of, workbook_of};
-ghost use Rattle.smk_inputs.specs.Added.{BeginsWith, BringTables, tables_left};
-ghost use Rattle.smk_inputs.specs.LineLimits.{KeepsReading};
-ghost use Rattle.smk_inputs.specs.Image.{reading_image};
-ghost use Rattle.smk_inputs.specs.Loaded.{said_of};
-ghost use Rattle.smk_top.specs.Counting.{counts_told, counts_of, text_counted};
-ghost use Rattle.smk_top.specs.Writing.{Puts, PutsPieces};
+ghost use Rattle.smk_inputs.specs.{Added.{BeginsWith, BringTables, tables_left}, LineLimits.KeepsReading, Image.reading_image, Loaded.said_of};
+ghost use Rattle.smk_top.specs.{Counting.{counts_told, counts_of, text_counted}, Writing.{Puts, PutsPieces}};
 
 use crate::answering::{LineTold, tell_line};
 use crate::counting::{NOTHING, together};

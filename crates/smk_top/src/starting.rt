@@ -1,18 +1,9 @@
 // A session, from what a run reads.
 ghost use Rattle.std.specs.Prelude.{◌≡◌, ◌≤◌, ◌+◌, [], List, Err, map, slice_index_or, IfOk};
-ghost use Rattle.smk_base.specs.CatalogImage.{catalog_image};
-ghost use Rattle.smk_base.specs.Marks.{after_marks};
-ghost use Rattle.smk_base.specs.Rels.{Relation};
-ghost use Rattle.smk_base.specs.declared.book.catalog.Catalog.{Catalog as CatalogShape};
-ghost use Rattle.smk_model.specs.Lines.{lines};
-ghost use Rattle.smk_model.specs.Looks.{start_looks};
-ghost use Rattle.smk_model.specs.Profiles.{AreDependencies};
-ghost use Rattle.smk_model.specs.Opening.{first_view_fault};
-ghost use Rattle.smk_session.specs.Opened.{IsStartFault, workbook_image};
-ghost use Rattle.smk_session.specs.Sessions.{workbook_of};
-ghost use Rattle.smk_inputs.specs.Added.{BringTables};
-ghost use Rattle.smk_inputs.specs.Loaded.{workbook_read, script_bytes};
-ghost use Rattle.smk_inputs.specs.Collecting.{Starts, IsSayable};
+ghost use Rattle.smk_base.specs.{CatalogImage.catalog_image, Marks.after_marks, Rels.Relation, declared.book.catalog.Catalog.Catalog as CatalogShape};
+ghost use Rattle.smk_model.specs.{Lines.lines, Looks.start_looks, Profiles.AreDependencies, Opening.first_view_fault};
+ghost use Rattle.smk_session.specs.{Opened.{IsStartFault, workbook_image}, Sessions.workbook_of};
+ghost use Rattle.smk_inputs.specs.{Added.BringTables, Loaded.{workbook_read, script_bytes}, Collecting.{Starts, IsSayable}};
 ghost use Rattle.smk_top.specs.declared.starting.Started.{Started as StartedShape};
 
 use smk_base::{Catalog, Fault, ListOf, TableInfo, Text, ViewInfo};

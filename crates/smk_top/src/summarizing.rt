@@ -1,23 +1,12 @@
 // The run of a demo, of whose report only a summary is written.
 ghost use Rattle.std.specs.Prelude.{◌≡◌, ◌≤◌, ◌<◌, ◌+◌, [], List, None, length, map, IfOk};
-ghost use Rattle.smk_base.specs.CatalogImage.{catalog_image};
-ghost use Rattle.smk_base.specs.Marks.{after_marks};
-ghost use Rattle.smk_model.specs.Demo.{summary, summary_of};
-ghost use Rattle.smk_model.specs.Lines.{lines};
-ghost use Rattle.smk_model.specs.Opening.{first_view_fault};
+ghost use Rattle.smk_base.specs.{CatalogImage.catalog_image, Marks.after_marks};
+ghost use Rattle.smk_model.specs.{Demo.{summary, summary_of}, Lines.lines, Opening.first_view_fault, Profiles.AreDependencies, Readings.{Reading, AreReadingsOf}, Reports.{script_told, size_of_view}, Selection.each_rows, Session.view_at};
 ghost use Rattle.smk_model.specs.Outcome as outcomes;
-ghost use Rattle.smk_model.specs.Profiles.{AreDependencies};
-ghost use Rattle.smk_model.specs.Readings.{Reading, AreReadingsOf};
-ghost use Rattle.smk_model.specs.Reports.{script_told, size_of_view};
-ghost use Rattle.smk_model.specs.Selection.{each_rows};
-ghost use Rattle.smk_model.specs.Session.{view_at};
 ghost use Rattle.smk_outside.specs.Outside.{Rose};
 ghost use Rattle.smk_session.specs.Sessions.{workbook_of};
-ghost use Rattle.smk_inputs.specs.Added.{BringTables};
-ghost use Rattle.smk_inputs.specs.Loaded.{inputs_with};
-ghost use Rattle.smk_inputs.specs.Collecting.{IsSayable};
-ghost use Rattle.smk_top.specs.Endings.{Reports};
-ghost use Rattle.smk_top.specs.Writing.{PutsPieces};
+ghost use Rattle.smk_inputs.specs.{Added.BringTables, Loaded.inputs_with, Collecting.IsSayable};
+ghost use Rattle.smk_top.specs.{Endings.Reports, Writing.PutsPieces};
 
 use crate::counts::Counts;
 use crate::nowhere::Nowhere;

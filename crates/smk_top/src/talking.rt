@@ -1,25 +1,12 @@
 // A conversation over a session, line by line.
-ghost use Rattle.std.specs.Prelude.{◌≡◌, ◌≤◌, ◌<◌, ◌+◌, ◌&&◌, ◌||◌, ℕ, Bool, true, false, List, [], ◌∷◌, Option, Ok, length, IfOk, OnErr};
-ghost use Rattle.std.specs.Option.{option_to_list};
+ghost use Rattle.std.specs.{Prelude.{◌≡◌, ◌≤◌, ◌<◌, ◌+◌, ◌&&◌, ◌||◌, ℕ, Bool, true, false, List, [], ◌∷◌, Option, Ok, length, IfOk, OnErr}, Option.option_to_list};
 ghost use Rattle.smk_base.specs.CatalogImage.{catalog_image};
-ghost use Rattle.smk_model.specs.Catalogs.{each_table_kinds};
-ghost use Rattle.smk_model.specs.Conversation.{asks_append, line_limit, opening_block, opening_texts, text_read, unbrought_text};
-ghost use Rattle.smk_model.specs.FaultTexts.{IsSaid};
-ghost use Rattle.smk_model.specs.Outcome.{Held, appended_at};
+ghost use Rattle.smk_model.specs.{Catalogs.each_table_kinds, Conversation.{asks_append, line_limit, opening_block, opening_texts, text_read, unbrought_text}, FaultTexts.IsSaid, Outcome.{Held, appended_at}, Profiles.AreDependencies, Readings.IsReading, Reports.next_rows, Selection.{each_kinds, each_rows}, TalkStarts.BringsBy};
 ghost use Rattle.smk_model.specs.OwnLines as owns;
-ghost use Rattle.smk_model.specs.Profiles.{AreDependencies};
-ghost use Rattle.smk_model.specs.Readings.{IsReading};
-ghost use Rattle.smk_model.specs.Reports.{next_rows};
-ghost use Rattle.smk_model.specs.Selection.{each_kinds, each_rows};
-ghost use Rattle.smk_model.specs.TalkStarts.{BringsBy};
-ghost use Rattle.smk_outside.specs.Outside.{Rose};
-ghost use Rattle.smk_outside.specs.Turning.{ReplyGives};
+ghost use Rattle.smk_outside.specs.{Outside.Rose, Turning.ReplyGives};
 ghost use Rattle.smk_session.specs.Sessions.{state_of, workbook_of};
-ghost use Rattle.smk_own.specs.Image.{own_reading_image};
-ghost use Rattle.smk_own.specs.Keeping.{KeepsOwnReading};
-ghost use Rattle.smk_inputs.specs.LineLimits.{KeepsReading};
-ghost use Rattle.smk_inputs.specs.Image.{reading_image};
-ghost use Rattle.smk_inputs.specs.Loaded.{said_of};
+ghost use Rattle.smk_own.specs.{Image.own_reading_image, Keeping.KeepsOwnReading};
+ghost use Rattle.smk_inputs.specs.{LineLimits.KeepsReading, Image.reading_image, Loaded.said_of};
 ghost use Rattle.smk_top.specs.Talking.{AnswersLine, SaysFew, TurnTaken, Talked, talk_at, words_bytes};
 
 use crate::answering::{LineTold, tell_line, unread_line};

@@ -1,34 +1,11 @@
 -- The steps of an `ask` line that stand make a plan over one leaf that fits its kinds.
-use Rattle.std.proofs.Common.{◌≡◌, ◌∙◌, ◌+◌, ◌<◌, ◌≤◌, ℕ, List, [], ◌∷◌, ◌++◌, length, map, get_or, Result, Ok, Err, refl, sym, ap, subst, arith, All}
+use Rattle.std.proofs.{Common.{◌≡◌, ◌∙◌, ◌+◌, ◌<◌, ◌≤◌, ℕ, List, [], ◌∷◌, ◌++◌, length, map, get_or, Result, Ok, Err, refl, sym, ap, subst, arith, All}, lemmas.List.{length-map, get_or-map}, lemmas.List.Elements.{All-head, All-tail}}
 use Rattle.std.specs.Prelude.{IfOk}
-use Rattle.std.proofs.lemmas.List.{length-map, get_or-map}
-use Rattle.std.proofs.lemmas.List.Elements.{All-head, All-tail}
-use Rattle.smk_base.specs.declared.book.col_decl.ColDecl.{ColDecl}
-use Rattle.smk_base.specs.declared.book.catalog.Column.{Column}
-use Rattle.smk_base.specs.declared.book.catalog.TableInfo.{TableInfo}
-use Rattle.smk_base.specs.declared.book.tree.AskStep.{AskStep}
-use Rattle.smk_base.specs.declared.book.type_fault.TypeFault.{TypeFault}
-use Rattle.smk_base.specs.PlanImage.{unary_of}
-use Rattle.smk_base.specs.Plans.{Expr, Leaf, Apply, Combine}
-use Rattle.smk_base.specs.Trees.{AskStepImage, StepImage, SelectNode, ProjectNode, DistinctNode, GroupNode}
-use Rattle.smk_base.specs.TreeImage.{ask_step_image}
-use Rattle.smk_base.specs.declared.book.limits.TheConstants.{NODE_LIMIT}
-use Rattle.smk_model.specs.Asks.{AskPlan, asked_plan, chain, scan_of, step_after, typed_steps}
-use Rattle.smk_model.specs.Catalogs.{each_table_kinds}
-use Rattle.smk_model.specs.Limits.{KeepsAskStep, KeepsStep}
-use Rattle.smk_model.specs.Names.{Typed, in_turn, column_kinds}
-use Rattle.smk_model.specs.Plain.{leaves}
-use Rattle.smk_model.specs.Selection.{PlanFits, leaf_kinds, nodes, plan_kinds}
-use Rattle.smk_model.specs.TypedSteps.{TypedPlan, typed_pred, typed_items, typed_group}
-use Rattle.smk_model.specs.Typing.{column_of, typed_step}
-use Rattle.smk_model.proofs.Asks.{chain_nodes}
-use Rattle.smk_typing.specs.Answers.{Fails, Finds}
-use Rattle.smk_typing.specs.Images.{steps_image}
-use Rattle.smk_typing.specs.declared.steps.TypedSteps.{TypedSteps}
-use Rattle.smk_typing.specs.Steps.{IsChain, asked_after}
-use Rattle.smk_typing.proofs.PlansFit.{Stands, scan_stands, stepped_stands}
-use Rattle.smk_model.proofs.Rules.{then_same}
-use Rattle.smk_typing.proofs.Results.{made_of, ok_keeps, ok_same}
+use Rattle.smk_base.specs.{declared.book.col_decl.ColDecl.ColDecl, declared.book.catalog.Column.Column, declared.book.catalog.TableInfo.TableInfo, declared.book.tree.AskStep.AskStep, declared.book.type_fault.TypeFault.TypeFault, PlanImage.unary_of, Plans.{Expr, Leaf, Apply, Combine}, Trees.{AskStepImage, StepImage, SelectNode, ProjectNode, DistinctNode, GroupNode}, TreeImage.ask_step_image, declared.book.limits.TheConstants.NODE_LIMIT}
+use Rattle.smk_model.specs.{Asks.{AskPlan, asked_plan, chain, scan_of, step_after, typed_steps}, Catalogs.each_table_kinds, Limits.{KeepsAskStep, KeepsStep}, Names.{Typed, in_turn, column_kinds}, Plain.leaves, Selection.{PlanFits, leaf_kinds, nodes, plan_kinds}, TypedSteps.{TypedPlan, typed_pred, typed_items, typed_group}, Typing.{column_of, typed_step}}
+use Rattle.smk_model.proofs.{Asks.chain_nodes, Rules.then_same}
+use Rattle.smk_typing.specs.{Answers.{Fails, Finds}, Images.steps_image, declared.steps.TypedSteps.TypedSteps, Steps.{IsChain, asked_after}}
+use Rattle.smk_typing.proofs.{PlansFit.{Stands, scan_stands, stepped_stands}, Results.{made_of, ok_keeps, ok_same}}
 
 abbrev Keeps : AskStepImage → Type 0
 Keeps step = KeepsAskStep step.what

@@ -1,20 +1,9 @@
 -- A book statement by statement.
-use Rattle.std.proofs.Common.{◌≡◌, ◌∙◌, ◌+◌, ◌<◌, ◌≤◌, ℕ, suc, Bool, List, ◌∷◌, map, drop, length, get_or, Ok, refl, sym, ap, subst, arith}
+use Rattle.std.proofs.{Common.{◌≡◌, ◌∙◌, ◌+◌, ◌<◌, ◌≤◌, ℕ, suc, Bool, List, ◌∷◌, map, drop, length, get_or, Ok, refl, sym, ap, subst, arith}, lemmas.List.{drop_more, at_drop_all}, lemmas.List.Sums.sum_by-cons}
 use Rattle.std.specs.Prelude.{count_by}
-use Rattle.std.proofs.lemmas.List.{drop_more, at_drop_all}
-use Rattle.std.proofs.lemmas.List.Sums.{sum_by-cons}
-use Rattle.smk_base.specs.CatalogImage.{CatalogImage}
-use Rattle.smk_base.specs.TreeImage.{stmt_image}
-use Rattle.smk_base.specs.Trees.{StmtImage}
-use Rattle.smk_base.specs.declared.book.tree.Stmt.{Stmt}
-use Rattle.smk_base.specs.declared.book.type_fault.TypeFault.{TypeFault}
-use Rattle.smk_base.specs.declared.book.limits.TheConstants.{TABLE_LIMIT, VIEW_LIMIT}
-use Rattle.smk_model.specs.Expanded.{HasNoDependency, IsNoDependency}
-use Rattle.smk_model.specs.Limits.{KeepsLimits, KeepsStmt, is_table, is_view}
-use Rattle.smk_model.specs.Names.{in_turn}
-use Rattle.smk_model.specs.Typing.{types, stmt_after, nothing_declared}
-use Rattle.smk_typing.specs.Answers.{Fails}
-use Rattle.smk_typing.specs.Rest.{IsBefore, one_if}
+use Rattle.smk_base.specs.{CatalogImage.CatalogImage, TreeImage.stmt_image, Trees.StmtImage, declared.book.tree.Stmt.Stmt, declared.book.type_fault.TypeFault.TypeFault, declared.book.limits.TheConstants.{TABLE_LIMIT, VIEW_LIMIT}}
+use Rattle.smk_model.specs.{Expanded.{HasNoDependency, IsNoDependency}, Limits.{KeepsLimits, KeepsStmt, is_table, is_view}, Names.in_turn, Typing.{types, stmt_after, nothing_declared}}
+use Rattle.smk_typing.specs.{Answers.Fails, Rest.{IsBefore, one_if}}
 use Rattle.smk_typing.proofs.CatalogsFit.{stmt_kept, nothing_typed}
 
 -- before the first statement

@@ -1,44 +1,12 @@
 -- What the statements of a book declare is there and fits.
-use Rattle.std.proofs.Common.{◌≡◌, ◌∙◌, ◌+◌, ◌<◌, ℕ, Bool, true, false, not, List, [], ◌∷◌, ◌++◌, length, map, get_or, Option, Some, None, Ok, refl, sym, ap, subst, arith, All, nat_eq}
+use Rattle.std.proofs.{Common.{◌≡◌, ◌∙◌, ◌+◌, ◌<◌, ℕ, Bool, true, false, not, List, [], ◌∷◌, ◌++◌, length, map, get_or, Option, Some, None, Ok, refl, sym, ap, subst, arith, All, nat_eq}, lemmas.List.{length-map, length_push, map-append, append-nil, get_or_append_left}, lemmas.List.Elements.{All-push, All-nil, All-weaker}}
 use Rattle.std.specs.List.{list_any}
-use Rattle.std.proofs.lemmas.List.{length-map, length_push, map-append, append-nil, get_or_append_left}
-use Rattle.std.proofs.lemmas.List.Elements.{All-push, All-nil, All-weaker}
-use Rattle.smk_base.specs.declared.value.Kind.{Kind}
-use Rattle.smk_base.specs.declared.value.Value.{Value}
+use Rattle.smk_base.specs.{declared.value.Kind.Kind, declared.value.Value.Value, Rels.Fits, declared.book.tree.Word.Word, declared.book.tree.Lit.Lit, declared.book.tree.Decl.Decl, declared.book.tree.Extra.Extra, declared.book.col_decl.ColDecl.ColDecl, declared.book.catalog.Column.Column, declared.book.catalog.TableInfo.TableInfo, declared.book.catalog.Back.Back, declared.book.catalog.BackExtra.BackExtra, declared.book.catalog.Fwd.Fwd, declared.book.catalog.LinkInfo.LinkInfo, declared.book.type_fault.TypeFault.TheVariants.{UnknownView, DuplicateName, KindMismatch, SelfLink, RepeatedDeclaration}, Plans.{Expr, Leaf, Apply, Combine}, Trees.{TreeImage, StmtImage, TableNode, ViewNode, BackNode, FwdNode, LinkNode, DependsNode}, CatalogImage.{CatalogImage, ViewImage}}
 use Rattle.smk_base.specs.declared.value.Value.TheVariants as values
-use Rattle.smk_base.specs.Rels.{Fits}
-use Rattle.smk_base.specs.declared.book.tree.Word.{Word}
-use Rattle.smk_base.specs.declared.book.tree.Lit.{Lit}
-use Rattle.smk_base.specs.declared.book.tree.Decl.{Decl}
-use Rattle.smk_base.specs.declared.book.tree.Extra.{Extra}
 use Rattle.smk_base.specs.declared.book.tree.Extra.TheVariants as extras
-use Rattle.smk_base.specs.declared.book.col_decl.ColDecl.{ColDecl}
-use Rattle.smk_base.specs.declared.book.catalog.Column.{Column}
-use Rattle.smk_base.specs.declared.book.catalog.TableInfo.{TableInfo}
-use Rattle.smk_base.specs.declared.book.catalog.Back.{Back}
-use Rattle.smk_base.specs.declared.book.catalog.BackExtra.{BackExtra}
-use Rattle.smk_base.specs.declared.book.catalog.Fwd.{Fwd}
-use Rattle.smk_base.specs.declared.book.catalog.LinkInfo.{LinkInfo}
-use Rattle.smk_base.specs.declared.book.type_fault.TypeFault.TheVariants.{UnknownView, DuplicateName, KindMismatch, SelfLink, RepeatedDeclaration}
-use Rattle.smk_base.specs.Plans.{Expr, Leaf, Apply, Combine}
-use Rattle.smk_base.specs.Trees.{TreeImage, StmtImage, TableNode, ViewNode, BackNode, FwdNode, LinkNode, DependsNode}
-use Rattle.smk_base.specs.CatalogImage.{CatalogImage, ViewImage}
-use Rattle.smk_model.specs.Names.{in_turn, same_name, is_taken, column_named, column_kinds, same_sort}
-use Rattle.smk_model.specs.Kinds.{AreAlike, kind_of}
-use Rattle.smk_model.specs.Tables.{IsBase, IsBaseColumn}
-use Rattle.smk_model.specs.Plain.{leaves}
-use Rattle.smk_model.specs.Selection.{ScansFit, PlanFits, leaf_kinds, plan_kinds}
-use Rattle.smk_model.specs.Expanded.{IsNoDependency}
-use Rattle.smk_model.specs.Limits.{KeepsStmt, KeepsDecls, KeepsPlan, IsInRange, DefaultInRange, is_table, is_view}
-use Rattle.smk_model.specs.TypedSteps.{TypedPlan, typed_group}
-use Rattle.smk_model.specs.Typing.{stmt_after, nothing_declared, columns_of, info_at, no_table, table_by_word, view_by_word, typed_plan, declared_kind, declared_column, decl_after, table_after, view_of, view_after, typed_extra, same_back, back_after, same_fwd, fwd_after, same_link, linked_to, all_links, to_after, link_after}
-use Rattle.smk_model.specs.Catalogs.{table_kinds, each_table_kinds, ViewFits, ExtraFits, BackFits, FwdFits, LinkFits, IsTyped}
+use Rattle.smk_model.specs.{Names.{in_turn, same_name, is_taken, column_named, column_kinds, same_sort}, Kinds.{AreAlike, kind_of}, Tables.{IsBase, IsBaseColumn}, Plain.leaves, Selection.{ScansFit, PlanFits, leaf_kinds, plan_kinds}, Expanded.IsNoDependency, Limits.{KeepsStmt, KeepsDecls, KeepsPlan, IsInRange, DefaultInRange, is_table, is_view}, TypedSteps.{TypedPlan, typed_group}, Typing.{stmt_after, nothing_declared, columns_of, info_at, no_table, table_by_word, view_by_word, typed_plan, declared_kind, declared_column, decl_after, table_after, view_of, view_after, typed_extra, same_back, back_after, same_fwd, fwd_after, same_link, linked_to, all_links, to_after, link_after}, Catalogs.{table_kinds, each_table_kinds, ViewFits, ExtraFits, BackFits, FwdFits, LinkFits, IsTyped}}
 use Rattle.smk_typing.specs.Rest.{one_if}
-use Rattle.smk_typing.proofs.Results.{made_of, unless_ok, ok_keeps, in_turn_keeps}
-use Rattle.smk_typing.proofs.StepsFit.{named_is, kinds_long, alike}
-use Rattle.smk_typing.proofs.ListsFit.{group_stands}
-use Rattle.smk_typing.proofs.PlansFit.{plan_stands, table_is}
-use Rattle.smk_typing.proofs.Lookups.{named_within}
+use Rattle.smk_typing.proofs.{Results.{made_of, unless_ok, ok_keeps, in_turn_keeps}, StepsFit.{named_is, kinds_long, alike}, ListsFit.group_stands, PlansFit.{plan_stands, table_is}, Lookups.named_within}
 
 -- more tables
 

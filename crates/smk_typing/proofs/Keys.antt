@@ -1,27 +1,9 @@
 -- Declarations by their keys.
-use Rattle.std.proofs.Common.{◌≡◌, ◌∙◌, ◌<◌, ◌≤◌, ℕ, Bool, ◌&&◌, nat_eq, false, Ok, List, [], ◌∷◌, ◌++◌, map, length, refl, sym, ap, arith, length-append, append-nil, append_assoc}
+use Rattle.std.proofs.{Common.{◌≡◌, ◌∙◌, ◌<◌, ◌≤◌, ℕ, Bool, ◌&&◌, nat_eq, false, Ok, List, [], ◌∷◌, ◌++◌, map, length, refl, sym, ap, arith, length-append, append-nil, append_assoc}, lemmas.List.map-append, lemmas.List.Elements.All-push, lemmas.Grind.flat_map-append}
 use Rattle.std.specs.List.{list_any}
-use Rattle.std.proofs.lemmas.List.{map-append}
-use Rattle.std.proofs.lemmas.List.Elements.{All-push}
-use Rattle.std.proofs.lemmas.Grind.{flat_map-append}
-use Rattle.smk_base.specs.declared.book.catalog.TableInfo.{TableInfo}
-use Rattle.smk_base.specs.declared.book.catalog.ViewInfo.{ViewInfo}
-use Rattle.smk_base.specs.declared.book.catalog.Back.{Back}
-use Rattle.smk_base.specs.declared.book.catalog.BackExtra.{BackExtra}
-use Rattle.smk_base.specs.declared.book.catalog.BackExtra.TheVariants.{Plain, By, Grouped}
-use Rattle.smk_base.specs.declared.book.catalog.Fwd.{Fwd}
-use Rattle.smk_base.specs.declared.book.catalog.LinkInfo.{LinkInfo}
-use Rattle.smk_base.specs.declared.book.tree.Word.{Word}
-use Rattle.smk_base.specs.declared.book.type_fault.TypeFault.TheVariants.{RepeatedDeclaration}
-use Rattle.smk_base.specs.CatalogImage.{view_image}
-use Rattle.smk_base.specs.declared.book.limits.TheConstants.{TABLE_LIMIT}
-use Rattle.smk_base.specs.declared.rel.TheConstants.{COLUMN_LIMIT}
-use Rattle.smk_model.specs.Names.{unless}
-use Rattle.smk_model.specs.Typing.{Link, same_form, same_back, same_fwd, same_link, all_links, linked_to, view_by_word, to_after}
-use Rattle.smk_typing.specs.declared.draft.form.Form.{Form}
-use Rattle.smk_typing.specs.contracts.draft.form.FormPartialEq.TheImpl.{ghosts}
-use Rattle.smk_typing.specs.Drafts.{over}
-use Rattle.smk_typing.specs.Keys.{AreTables, form_of, back_key, fwd_key, link_key}
+use Rattle.smk_base.specs.{declared.book.catalog.TableInfo.TableInfo, declared.book.catalog.ViewInfo.ViewInfo, declared.book.catalog.Back.Back, declared.book.catalog.BackExtra.BackExtra, declared.book.catalog.BackExtra.TheVariants.{Plain, By, Grouped}, declared.book.catalog.Fwd.Fwd, declared.book.catalog.LinkInfo.LinkInfo, declared.book.tree.Word.Word, declared.book.type_fault.TypeFault.TheVariants.RepeatedDeclaration, CatalogImage.view_image, declared.book.limits.TheConstants.TABLE_LIMIT, declared.rel.TheConstants.COLUMN_LIMIT}
+use Rattle.smk_model.specs.{Names.unless, Typing.{Link, same_form, same_back, same_fwd, same_link, all_links, linked_to, view_by_word, to_after}}
+use Rattle.smk_typing.specs.{declared.draft.form.Form.Form, contracts.draft.form.FormPartialEq.TheImpl.ghosts, Drafts.over, Keys.{AreTables, form_of, back_key, fwd_key, link_key}}
 
 -- tables and views
 

@@ -1,31 +1,14 @@
 -- The lists of a step that stands fit the kinds of the columns that come to it, and the step's columns have its kinds.
-use Rattle.std.proofs.Common.{◌≡◌, ◌∙◌, ◌+◌, ◌<◌, ◌≤◌, ℕ, false, List, [], ◌∷◌, ◌++◌, length, map, Ok, refl, sym, ap, subst, arith, All, nat_eq}
-use Rattle.std.specs.Prelude.{nat_lt}
-use Rattle.std.specs.List.{list_any}
-use Rattle.std.proofs.lemmas.List.{length-map, length-append, map-append, append_assoc, append-nil}
-use Rattle.std.proofs.lemmas.List.Elements.{All-push, All-nil}
-use Rattle.smk_base.specs.declared.value.Kind.{Kind}
+use Rattle.std.proofs.{Common.{◌≡◌, ◌∙◌, ◌+◌, ◌<◌, ◌≤◌, ℕ, false, List, [], ◌∷◌, ◌++◌, length, map, Ok, refl, sym, ap, subst, arith, All, nat_eq}, lemmas.List.{length-map, length-append, map-append, append_assoc, append-nil}, lemmas.List.Elements.{All-push, All-nil}}
+use Rattle.std.specs.{Prelude.nat_lt, List.list_any}
+use Rattle.smk_base.specs.{declared.value.Kind.Kind, declared.book.tree.Word.Word, declared.book.tree.ItemTree.ItemTree, declared.book.tree.AggTree.AggTree, declared.book.tree.AggWhat.AggWhat, declared.book.plan.Item.Item, declared.book.plan.Agg.Agg, declared.book.catalog.Column.Column, declared.book.type_fault.TypeFault.TheVariants.{KindMismatch, DuplicateName, SumTooDeep, EmptyList, RowTooWide}, Rels.kind_in, declared.rel.TheConstants.COLUMN_LIMIT}
 use Rattle.smk_base.specs.declared.value.Kind.TheVariants as kinds
-use Rattle.smk_base.specs.declared.book.tree.Word.{Word}
-use Rattle.smk_base.specs.declared.book.tree.ItemTree.{ItemTree}
 use Rattle.smk_base.specs.declared.book.tree.ItemTree.TheVariants as item_trees
-use Rattle.smk_base.specs.declared.book.tree.AggTree.{AggTree}
-use Rattle.smk_base.specs.declared.book.tree.AggWhat.{AggWhat}
 use Rattle.smk_base.specs.declared.book.tree.AggWhat.TheVariants as agg_trees
-use Rattle.smk_base.specs.declared.book.plan.Item.{Item}
 use Rattle.smk_base.specs.declared.book.plan.Item.TheVariants as items
-use Rattle.smk_base.specs.declared.book.plan.Agg.{Agg}
 use Rattle.smk_base.specs.declared.book.plan.Agg.TheVariants as aggs
-use Rattle.smk_base.specs.declared.book.catalog.Column.{Column}
-use Rattle.smk_base.specs.declared.book.type_fault.TypeFault.TheVariants.{KindMismatch, DuplicateName, SumTooDeep, EmptyList, RowTooWide}
-use Rattle.smk_base.specs.Rels.{kind_in}
-use Rattle.smk_base.specs.declared.rel.TheConstants.{COLUMN_LIMIT}
-use Rattle.smk_model.specs.Names.{in_turn, column_named, has_name, column_kinds, is_text}
-use Rattle.smk_model.specs.Kinds.{IsInt, ItemFits, AggFits, kind_of_item, kind_of_agg, ItemsFit, GroupFits}
-use Rattle.smk_model.specs.Limits.{Divides, KeepsItems}
-use Rattle.smk_model.specs.TypedSteps.{named, item_name, typed_item, item_after, typed_items, key_after, typed_sum, typed_agg, agg_after, TypedGroup, typed_group}
-use Rattle.smk_typing.proofs.Results.{made_of, unless_ok, ok_keeps, in_turn_keeps, in_turn_long}
-use Rattle.smk_typing.proofs.StepsFit.{named_is, kinds_long}
+use Rattle.smk_model.specs.{Names.{in_turn, column_named, has_name, column_kinds, is_text}, Kinds.{IsInt, ItemFits, AggFits, kind_of_item, kind_of_agg, ItemsFit, GroupFits}, Limits.{Divides, KeepsItems}, TypedSteps.{named, item_name, typed_item, item_after, typed_items, key_after, typed_sum, typed_agg, agg_after, TypedGroup, typed_group}}
+use Rattle.smk_typing.proofs.{Results.{made_of, unless_ok, ok_keeps, in_turn_keeps, in_turn_long}, StepsFit.{named_is, kinds_long}}
 
 -- items
 

@@ -1,12 +1,7 @@
 -- Columns, tables and views by their names.
-use Rattle.std.proofs.Common.{◌≡◌, ◌<◌, ℕ, List, [], ◌∷◌, length, Bool, Option, Some, None, Ok, Err, position, get_or, map, ap, refl, arith}
+use Rattle.std.proofs.{Common.{◌≡◌, ◌<◌, ℕ, List, [], ◌∷◌, length, Bool, Option, Some, None, Ok, Err, position, get_or, map, ap, refl, arith}, lemmas.List.{get_or_default, length-map}, lemmas.List.Quantifiers.position-Some}
 use Rattle.std.specs.Prelude.{ok_or}
-use Rattle.std.proofs.lemmas.List.{get_or_default, length-map}
-use Rattle.std.proofs.lemmas.List.Quantifiers.{position-Some}
-use Rattle.smk_base.specs.declared.book.tree.Word.{Word}
-use Rattle.smk_base.specs.declared.book.catalog.Column.{Column}
-use Rattle.smk_base.specs.declared.book.type_fault.TypeFault.{TypeFault}
-use Rattle.smk_base.specs.declared.book.type_fault.TypeFault.TheVariants.{UnknownColumn}
+use Rattle.smk_base.specs.{declared.book.tree.Word.Word, declared.book.catalog.Column.Column, declared.book.type_fault.TypeFault.TypeFault, declared.book.type_fault.TypeFault.TheVariants.UnknownColumn}
 use Rattle.smk_model.specs.Names.{Typed, column_named, has_name, same_name, place_of}
 
 pub column_found : (columns : List Column) (word : Word) (c : ℕ) (any : Column) → position (has_name word.name) columns ≡ Some c → column_named columns word ≡ Ok (c, (get_or columns c any).kind)

@@ -1,11 +1,7 @@
 -- The needs among the first tables of a book.
-use Rattle.std.proofs.Common.{◌≡◌, ◌<◌, ℕ, List, map, sym, subst, All}
+use Rattle.std.proofs.{Common.{◌≡◌, ◌<◌, ℕ, List, map, sym, subst, All}, lemmas.List.Elements.{All-map, All-filter}}
 use Rattle.std.specs.List.{filter}
-use Rattle.std.proofs.lemmas.List.Elements.{All-map, All-filter}
-use Rattle.smk_base.specs.Places.{upto}
-use Rattle.smk_base.specs.Needs.{is_needed}
-use Rattle.smk_base.specs.declared.book.need.Needed.{Needed}
-use Rattle.smk_base.specs.CatalogImage.{CatalogImage}
+use Rattle.smk_base.specs.{Places.upto, Needs.is_needed, declared.book.need.Needed.Needed, CatalogImage.CatalogImage}
 use Rattle.smk_model.specs.Workload.{needed_at}
 use Rattle.smk_base.proofs.Places.{upto_below}
 

@@ -1,34 +1,10 @@
 -- A plan that stands scans tables that are there and fits their kinds, and its columns have its kinds.
-use Rattle.std.proofs.Common.{◌≡◌, ◌∙◌, ◌+◌, ◌<◌, ◌≤◌, ℕ, true, not, List, [], ◌∷◌, ◌++◌, length, map, drop, get_or, Ok, refl, sym, ap, subst, arith, All, nat_eq}
-use Rattle.std.specs.Prelude.{nat_lt}
-use Rattle.std.specs.List.{AllZip, list_all, zip}
-use Rattle.std.proofs.Math.Seq.{drop-append_seam}
-use Rattle.std.proofs.lemmas.Bool.{and_parts, not-false}
-use Rattle.std.proofs.lemmas.List.{length-map, map-append, append_assoc, get_or-map}
-use Rattle.std.proofs.lemmas.List.Elements.{All-push, All-nil}
-use Rattle.smk_base.specs.declared.value.Kind.{Kind}
-use Rattle.smk_base.specs.declared.book.tree.Word.{Word}
-use Rattle.smk_base.specs.declared.book.tree.PairTree.{PairTree}
-use Rattle.smk_base.specs.declared.book.catalog.Column.{Column}
-use Rattle.smk_base.specs.declared.book.catalog.TableInfo.{TableInfo}
-use Rattle.smk_base.specs.declared.book.type_fault.TypeFault.TheVariants.{KindMismatch, DuplicateName, RowTooWide, UnionShape, UnknownTable}
-use Rattle.smk_base.specs.Plans.{Formula, Expr, Leaf, Apply, Combine, Unary, Selection, Projection, Distinction, Grouping, Binary, Equijoin, ThetaJoin, CrossProduct, BagUnion, SetUnion}
-use Rattle.smk_base.specs.Trees.{PredImage, TreeImage, ScanNode, StepNode, StepImage, SelectNode, ProjectNode, DistinctNode, GroupNode, JoinNode, ThetaNode, ProductNode, UnionAllNode, UnionNode}
-use Rattle.smk_base.specs.Rels.{kind_in}
-use Rattle.smk_base.specs.declared.rel.TheConstants.{COLUMN_LIMIT}
-use Rattle.smk_model.specs.Names.{in_turn, column_named, column_kinds, same_sort}
-use Rattle.smk_model.specs.Kinds.{AreAlike, FormulaFits, PairFits, Fits1, Fits2, FewTogether, kinds1, kinds2, wider, wider_kinds}
-use Rattle.smk_model.specs.Plain.{leaves, width}
-use Rattle.smk_model.specs.Selection.{ScansFit, PlanFits, leaf_kinds, plan_kinds, nodes}
-use Rattle.smk_model.specs.Limits.{KeepsTree, KeepsStep}
+use Rattle.std.proofs.{Common.{◌≡◌, ◌∙◌, ◌+◌, ◌<◌, ◌≤◌, ℕ, true, not, List, [], ◌∷◌, ◌++◌, length, map, drop, get_or, Ok, refl, sym, ap, subst, arith, All, nat_eq}, Math.Seq.drop-append_seam, lemmas.Bool.{and_parts, not-false}, lemmas.List.{length-map, map-append, append_assoc, get_or-map}, lemmas.List.Elements.{All-push, All-nil}}
+use Rattle.std.specs.{Prelude.nat_lt, List.{AllZip, list_all, zip}}
+use Rattle.smk_base.specs.{declared.value.Kind.Kind, declared.book.tree.Word.Word, declared.book.tree.PairTree.PairTree, declared.book.catalog.Column.Column, declared.book.catalog.TableInfo.TableInfo, declared.book.type_fault.TypeFault.TheVariants.{KindMismatch, DuplicateName, RowTooWide, UnionShape, UnknownTable}, Plans.{Formula, Expr, Leaf, Apply, Combine, Unary, Selection, Projection, Distinction, Grouping, Binary, Equijoin, ThetaJoin, CrossProduct, BagUnion, SetUnion}, Trees.{PredImage, TreeImage, ScanNode, StepNode, StepImage, SelectNode, ProjectNode, DistinctNode, GroupNode, JoinNode, ThetaNode, ProductNode, UnionAllNode, UnionNode}, Rels.kind_in, declared.rel.TheConstants.COLUMN_LIMIT}
+use Rattle.smk_model.specs.{Names.{in_turn, column_named, column_kinds, same_sort}, Kinds.{AreAlike, FormulaFits, PairFits, Fits1, Fits2, FewTogether, kinds1, kinds2, wider, wider_kinds}, Plain.{leaves, width}, Selection.{ScansFit, PlanFits, leaf_kinds, plan_kinds, nodes}, Limits.{KeepsTree, KeepsStep}, TypedSteps.{TypedPlan, typed_pred, typed_items, typed_group, pair_after, share_a_name, joined, same_shape, united_column, united, united_plan}, Typing.{table_by_word, info_at, no_table, columns_of, typed_plan, typed_step}, Catalogs.{table_kinds, each_table_kinds}}
 use Rattle.smk_model.specs.Limits as limits
-use Rattle.smk_model.specs.TypedSteps.{TypedPlan, typed_pred, typed_items, typed_group, pair_after, share_a_name, joined, same_shape, united_column, united, united_plan}
-use Rattle.smk_model.specs.Typing.{table_by_word, info_at, no_table, columns_of, typed_plan, typed_step}
-use Rattle.smk_model.specs.Catalogs.{table_kinds, each_table_kinds}
-use Rattle.smk_typing.proofs.Results.{made_of, unless_ok, ok_keeps, in_turn_keeps}
-use Rattle.smk_typing.proofs.StepsFit.{named_is, kinds_long, alike, pred_fits}
-use Rattle.smk_typing.proofs.ListsFit.{items_stand, group_stands}
-use Rattle.smk_typing.proofs.Lookups.{named_within}
+use Rattle.smk_typing.proofs.{Results.{made_of, unless_ok, ok_keeps, in_turn_keeps}, StepsFit.{named_is, kinds_long, alike, pred_fits}, ListsFit.{items_stand, group_stands}, Lookups.named_within}
 
 -- joins and unions
 

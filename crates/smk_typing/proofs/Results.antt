@@ -1,9 +1,7 @@
 -- What a rule that gave a result was made of.
 use Rattle.std.proofs.Common.{◌≡◌, ◌+◌, ◌≤◌, ℕ, suc, List, [], ◌∷◌, length, Ok, Err, refl, sym, ap, subst, arith, All}
 use Rattle.std.specs.Prelude.{OnOk}
-use Rattle.smk_base.specs.declared.book.catalog.Column.{Column}
-use Rattle.smk_base.specs.declared.book.type_fault.TypeFault.{TypeFault}
-use Rattle.smk_base.specs.declared.rel.TheConstants.{COLUMN_LIMIT}
+use Rattle.smk_base.specs.{declared.book.catalog.Column.Column, declared.book.type_fault.TypeFault.TypeFault, declared.rel.TheConstants.COLUMN_LIMIT}
 use Rattle.smk_model.specs.Names.{Typed, ◌>>=◌, in_turn}
 pub use Rattle.smk_model.proofs.Rules.{made_of, ok_same, unless_ok}
 

@@ -1,24 +1,12 @@
 -- A step that stands fits the kinds of the columns that come to it.
-use Rattle.std.proofs.Common.{◌≡◌, ◌<◌, ℕ, false, not, List, [], length, Option, Some, None, Ok, position, refl, sym, subst, arith}
+use Rattle.std.proofs.{Common.{◌≡◌, ◌<◌, ℕ, false, not, List, [], length, Option, Some, None, Ok, position, refl, sym, subst, arith}, lemmas.List.{length-map, get_or-map}}
 use Rattle.std.specs.Prelude.{ok_or, option_map}
-use Rattle.std.proofs.lemmas.List.{length-map, get_or-map}
-use Rattle.smk_base.specs.declared.value.Kind.{Kind}
+use Rattle.smk_base.specs.{declared.value.Kind.Kind, declared.book.tree.Word.Word, declared.book.tree.Term.Term, declared.book.plan.Operand.Operand, declared.book.catalog.Column.Column, declared.book.type_fault.TypeFault.TheVariants.{UnknownColumn, KindMismatch}, Plans.{Formula, Comparison}, Trees.{PredImage, CompareNode, AndNode, OrNode, NotNode}, Rels.kind_in}
 use Rattle.smk_base.specs.declared.value.Kind.TheVariants as kinds
-use Rattle.smk_base.specs.declared.book.tree.Word.{Word}
-use Rattle.smk_base.specs.declared.book.tree.Term.{Term}
 use Rattle.smk_base.specs.declared.book.tree.Term.TheVariants as terms
-use Rattle.smk_base.specs.declared.book.plan.Operand.{Operand}
 use Rattle.smk_base.specs.declared.book.plan.Operand.TheVariants as operands
-use Rattle.smk_base.specs.declared.book.catalog.Column.{Column}
-use Rattle.smk_base.specs.declared.book.type_fault.TypeFault.TheVariants.{UnknownColumn, KindMismatch}
-use Rattle.smk_base.specs.Plans.{Formula, Comparison}
-use Rattle.smk_base.specs.Trees.{PredImage, CompareNode, AndNode, OrNode, NotNode}
-use Rattle.smk_base.specs.Rels.{kind_in}
-use Rattle.smk_model.specs.Names.{column_named, column_at, has_name, column_kinds, same_sort}
-use Rattle.smk_model.specs.Kinds.{AreAlike, kind_of, FormulaFits, OperandFits}
-use Rattle.smk_model.specs.TypedSteps.{typed_term, typed_pred, term_place}
-use Rattle.smk_typing.proofs.Results.{made_of, unless_ok, ok_keeps}
-use Rattle.smk_typing.proofs.Lookups.{place_within}
+use Rattle.smk_model.specs.{Names.{column_named, column_at, has_name, column_kinds, same_sort}, Kinds.{AreAlike, kind_of, FormulaFits, OperandFits}, TypedSteps.{typed_term, typed_pred, term_place}}
+use Rattle.smk_typing.proofs.{Results.{made_of, unless_ok, ok_keeps}, Lookups.place_within}
 
 pub kinds_long : (columns : List Column) → length (column_kinds columns) ≡ length columns
 kinds_long columns = length-map columns (λ column. column.kind)

@@ -1,10 +1,8 @@
 -- A list whose members are taken in turn, member by member.
-use Rattle.std.proofs.Common.{◌≡◌, ◌∙◌, ◌+◌, ◌<◌, ◌≤◌, ℕ, List, ◌∷◌, length, drop, get_or, Ok, refl, sym, ap}
-use Rattle.std.proofs.lemmas.List.{drop_more, at_drop_all}
+use Rattle.std.proofs.{Common.{◌≡◌, ◌∙◌, ◌+◌, ◌<◌, ◌≤◌, ℕ, List, ◌∷◌, length, drop, get_or, Ok, refl, sym, ap}, lemmas.List.{drop_more, at_drop_all}}
 use Rattle.smk_base.specs.declared.book.type_fault.TypeFault.{TypeFault}
 use Rattle.smk_model.specs.Names.{Typed, in_turn}
-use Rattle.smk_typing.specs.Answers.{Fails}
-use Rattle.smk_typing.specs.Turns.{Remains}
+use Rattle.smk_typing.specs.{Answers.Fails, Turns.Remains}
 
 -- what is left begins with the member at this place
 turn_is : {A X : Type 0} (rule : A → X → Typed A) (start : A) (xs : List X) (made : A) (i : ℕ) (x : X) → Remains rule start xs made i → i < length xs → x ≡ get_or xs i x → in_turn rule start xs ≡ in_turn rule made (x ∷ drop (i + 1) xs)

@@ -1,7 +1,5 @@
 -- The columns of a union, place by place.
-use Rattle.std.proofs.Common.{◌≡◌, ◌<◌, ◌≤◌, ◌+◌, ◌∙◌, ℕ, List, [], ◌∷◌, ◌++◌, map, length, take, get_or, ap, arith}
-use Rattle.std.proofs.lemmas.List.{take_more, take_all, map-append}
-use Rattle.std.proofs.lemmas.Slice.Zip.{get_or-zip, length-zip}
+use Rattle.std.proofs.{Common.{◌≡◌, ◌<◌, ◌≤◌, ◌+◌, ◌∙◌, ℕ, List, [], ◌∷◌, ◌++◌, map, length, take, get_or, ap, arith}, lemmas.List.{take_more, take_all, map-append}, lemmas.Slice.Zip.{get_or-zip, length-zip}}
 use Rattle.std.specs.List.{zip}
 use Rattle.smk_base.specs.declared.book.catalog.Column.{Column}
 use Rattle.smk_model.specs.TypedSteps.{united_column}

@@ -1,7 +1,6 @@
 -- What a call answers that works out what a rule of typing gives.
 use Rattle.std.specs.Prelude.{◌≡◌, ◌≢◌, Result, Err, Ok, MatchResult}
-use Rattle.smk_base.specs.declared.book.type_fault.TypeFault.{TypeFault}
-use Rattle.smk_base.specs.declared.book.type_fault.TypeFault.TheVariants.{NoMemory}
+use Rattle.smk_base.specs.{declared.book.type_fault.TypeFault.TypeFault, declared.book.type_fault.TypeFault.TheVariants.NoMemory}
 use Rattle.smk_model.specs.Names.{Typed}
 
 -- the fault is the rule's, unless memory ran out

@@ -1,13 +1,7 @@
 -- A draft as the definitions see it.
 use Rattle.std.specs.Prelude.{ℕ, List, [], ◌∷◌, ◌++◌, map, Ok}
-use Rattle.smk_base.specs.declared.book.catalog.TableInfo.{TableInfo}
-use Rattle.smk_base.specs.declared.book.catalog.ViewInfo.{ViewInfo}
-use Rattle.smk_base.specs.declared.book.catalog.LinkInfo.{LinkInfo}
-use Rattle.smk_base.specs.declared.book.tree.Word.{Word}
-use Rattle.smk_base.specs.CatalogImage.{CatalogImage, ViewImage, view_image}
-use Rattle.smk_base.specs.Trees.{TreeImage}
-use Rattle.smk_model.specs.Names.{Typed, ◌>>=◌, in_turn}
-use Rattle.smk_model.specs.Typing.{typed_plan, view_of, to_after}
+use Rattle.smk_base.specs.{declared.book.catalog.TableInfo.TableInfo, declared.book.catalog.ViewInfo.ViewInfo, declared.book.catalog.LinkInfo.LinkInfo, declared.book.tree.Word.Word, CatalogImage.{CatalogImage, ViewImage, view_image}, Trees.TreeImage}
+use Rattle.smk_model.specs.{Names.{Typed, ◌>>=◌, in_turn}, Typing.{typed_plan, view_of, to_after}}
 use Rattle.smk_typing.specs.declared.draft.Draft.{Draft}
 
 -- the catalog of a draft

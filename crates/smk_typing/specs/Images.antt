@@ -1,17 +1,8 @@
 -- Typed parts as the definitions see them.
-use Rattle.std.specs.Prelude.{List, [], ◌∷◌, ◌++◌, map, Ok}
-use Rattle.std.specs.List.{list_any}
-use Rattle.smk_base.specs.declared.value.Kind.{Kind}
-use Rattle.smk_base.specs.declared.book.tree.Word.{Word}
-use Rattle.smk_base.specs.declared.book.catalog.Column.{Column}
-use Rattle.smk_base.specs.declared.book.type_fault.TypeFault.TheVariants.{DuplicateName}
-use Rattle.smk_base.specs.PlanImage.{expr_of, unary_of}
-use Rattle.smk_model.specs.Asks.{AskPlan, chain}
-use Rattle.smk_model.specs.Names.{Typed as Found, unless, has_name}
-use Rattle.smk_model.specs.TypedSteps.{TypedPlan, TypedGroup, named}
-use Rattle.smk_typing.specs.declared.plan.typed.Typed.{Typed}
-use Rattle.smk_typing.specs.declared.plan.typed.TypedGrouping.{TypedGrouping}
-use Rattle.smk_typing.specs.declared.steps.TypedSteps.{TypedSteps}
+use Rattle.std.specs.{Prelude.{List, [], ◌∷◌, ◌++◌, map, Ok}, List.list_any}
+use Rattle.smk_base.specs.{declared.value.Kind.Kind, declared.book.tree.Word.Word, declared.book.catalog.Column.Column, declared.book.type_fault.TypeFault.TheVariants.DuplicateName, PlanImage.{expr_of, unary_of}}
+use Rattle.smk_model.specs.{Asks.{AskPlan, chain}, Names.{Typed as Found, unless, has_name}, TypedSteps.{TypedPlan, TypedGroup, named}}
+use Rattle.smk_typing.specs.{declared.plan.typed.Typed.Typed, declared.plan.typed.TypedGrouping.TypedGrouping, declared.steps.TypedSteps.TypedSteps}
 
 abbrev pub plan_of : Typed → TypedPlan
 plan_of typed = record { plan = expr_of typed.plan; columns = typed.columns }

@@ -1,15 +1,9 @@
 -- What makes two declarations the same, and what a book keeps of its tables.
 use Rattle.std.specs.Prelude.{◌≤◌, ℕ, List, length, All}
-use Rattle.smk_base.specs.declared.book.catalog.TableInfo.{TableInfo}
-use Rattle.smk_base.specs.declared.book.catalog.Back.{Back}
-use Rattle.smk_base.specs.declared.book.catalog.Fwd.{Fwd}
-use Rattle.smk_base.specs.declared.book.catalog.BackExtra.{BackExtra}
+use Rattle.smk_base.specs.{declared.book.catalog.TableInfo.TableInfo, declared.book.catalog.Back.Back, declared.book.catalog.Fwd.Fwd, declared.book.catalog.BackExtra.BackExtra, declared.book.limits.TheConstants.TABLE_LIMIT, declared.rel.TheConstants.COLUMN_LIMIT}
 use Rattle.smk_base.specs.declared.book.catalog.BackExtra.TheVariants as extras
-use Rattle.smk_base.specs.declared.book.limits.TheConstants.{TABLE_LIMIT}
-use Rattle.smk_base.specs.declared.rel.TheConstants.{COLUMN_LIMIT}
 use Rattle.smk_model.specs.Typing.{Link}
-use Rattle.smk_typing.specs.declared.draft.form.Form.{Form}
-use Rattle.smk_typing.specs.declared.draft.form.Form.TheVariants.{Plain, By, Grouped}
+use Rattle.smk_typing.specs.{declared.draft.form.Form.Form, declared.draft.form.Form.TheVariants.{Plain, By, Grouped}}
 
 -- at most 16 tables, of at most 16 columns each
 abbrev pub AreTables : List TableInfo → Type 0

@@ -1,13 +1,7 @@
 -- What a book still has to type after its first statements.
 use Rattle.std.specs.Prelude.{◌≡◌, ℕ, ◌+◌, ◌≤◌, Bool, cond, List, length, count_by, All}
-use Rattle.smk_base.specs.Trees.{StmtImage}
-use Rattle.smk_base.specs.CatalogImage.{CatalogImage}
-use Rattle.smk_base.specs.declared.book.limits.TheConstants.{TABLE_LIMIT, VIEW_LIMIT}
-use Rattle.smk_model.specs.Names.{in_turn}
-use Rattle.smk_model.specs.Expanded.{HasNoDependency}
-use Rattle.smk_model.specs.Limits.{KeepsStmt, is_table, is_view}
-use Rattle.smk_model.specs.Typing.{types, stmt_after}
-use Rattle.smk_model.specs.Catalogs.{IsTyped}
+use Rattle.smk_base.specs.{Trees.StmtImage, CatalogImage.CatalogImage, declared.book.limits.TheConstants.{TABLE_LIMIT, VIEW_LIMIT}}
+use Rattle.smk_model.specs.{Names.in_turn, Expanded.HasNoDependency, Limits.{KeepsStmt, is_table, is_view}, Typing.{types, stmt_after}, Catalogs.IsTyped}
 
 abbrev pub one_if : Bool → ℕ
 one_if test = cond test 1 0

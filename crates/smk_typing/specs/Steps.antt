@@ -1,11 +1,7 @@
 -- What the calls say that type the steps of an `ask` line.
 use Rattle.std.specs.Prelude.{◌≡◌}
-use Rattle.smk_base.specs.Plans.{Expr, Leaf, Apply, Combine}
-use Rattle.smk_base.specs.TreeImage.{ask_step_image}
-use Rattle.smk_base.specs.declared.book.tree.AskStep.{AskStep}
-use Rattle.smk_model.specs.Asks.{step_after}
-use Rattle.smk_model.specs.Names.{Typed}
-use Rattle.smk_model.specs.TypedSteps.{TypedPlan}
+use Rattle.smk_base.specs.{Plans.{Expr, Leaf, Apply, Combine}, TreeImage.ask_step_image, declared.book.tree.AskStep.AskStep}
+use Rattle.smk_model.specs.{Asks.step_after, Names.Typed, TypedSteps.TypedPlan}
 
 -- one more step over a typed plan
 abbrev pub asked_after : TypedPlan → AskStep → Typed TypedPlan

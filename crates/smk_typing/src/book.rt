@@ -1,12 +1,7 @@
 ghost use Rattle.std.specs.Prelude.{◌≡◌, map, OnOk};
-ghost use Rattle.smk_base.specs.CatalogImage.{catalog_image};
-ghost use Rattle.smk_base.specs.TreeImage.{book_image, stmt_image};
-ghost use Rattle.smk_model.specs.Catalogs.{IsTyped};
-ghost use Rattle.smk_model.specs.Expanded.{HasNoDependency};
-ghost use Rattle.smk_model.specs.Limits.{KeepsLimits};
-ghost use Rattle.smk_model.specs.Typing.{nothing_declared, types};
-ghost use Rattle.smk_typing.specs.Answers.{Finds};
-ghost use Rattle.smk_typing.specs.Drafts.{draft_image};
+ghost use Rattle.smk_base.specs.{CatalogImage.catalog_image, TreeImage.{book_image, stmt_image}};
+ghost use Rattle.smk_model.specs.{Catalogs.IsTyped, Expanded.HasNoDependency, Limits.KeepsLimits, Typing.{nothing_declared, types}};
+ghost use Rattle.smk_typing.specs.{Answers.Finds, Drafts.draft_image};
 
 pub(crate) mod declared;
 pub(crate) mod links;

@@ -1,12 +1,8 @@
 ghost use Rattle.std.specs.Prelude.{◌≡◌, ◌<◌, ◌≤◌, length, map, IfOk};
-ghost use Rattle.smk_base.specs.CatalogImage.{catalog_image, view_image};
-ghost use Rattle.smk_base.specs.declared.book.limits.TheConstants.{VIEW_LIMIT};
-ghost use Rattle.smk_base.specs.declared.rel.TheConstants.{COLUMN_LIMIT};
+ghost use Rattle.smk_base.specs.{CatalogImage.{catalog_image, view_image}, declared.book.limits.TheConstants.VIEW_LIMIT, declared.rel.TheConstants.COLUMN_LIMIT};
 ghost use Rattle.smk_model.specs.Catalogs.{IsWithinLimits};
 ghost use Rattle.smk_model.specs.Typing as typing;
-ghost use Rattle.smk_typing.specs.Answers.{Finds};
-ghost use Rattle.smk_typing.specs.Drafts.{draft_image};
-ghost use Rattle.smk_typing.specs.Keys.{AreTables, back_key, fwd_key};
+ghost use Rattle.smk_typing.specs.{Answers.Finds, Drafts.draft_image, Keys.{AreTables, back_key, fwd_key}};
 
 pub(crate) mod form;
 pub(crate) mod indexed;

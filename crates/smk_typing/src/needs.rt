@@ -1,7 +1,5 @@
-ghost use Rattle.std.specs.Prelude.{◌≡◌, ◌<◌, length, All, IfOk};
-ghost use Rattle.std.specs.List.{list_any};
-ghost use Rattle.smk_base.specs.CatalogImage.{catalog_image};
-ghost use Rattle.smk_base.specs.Places.{has};
+ghost use Rattle.std.specs.{Prelude.{◌≡◌, ◌<◌, length, All, IfOk}, List.list_any};
+ghost use Rattle.smk_base.specs.{CatalogImage.catalog_image, Places.has};
 ghost use Rattle.smk_model.specs.Workload.{is_back, is_link, is_fwd, is_linked, declares_back, declares_fwd, needed_at, needs};
 
 use crate::book::typed_book::TypedBook;

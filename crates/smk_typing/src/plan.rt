@@ -1,14 +1,9 @@
 ghost use Rattle.std.specs.Prelude.{◌≡◌, ◌≤◌, cond, length, Ok, IfOk, OnOk};
-ghost use Rattle.smk_base.specs.Plans.{Apply, Combine};
-ghost use Rattle.smk_base.specs.PlanImage.{expr_of, unary_of, binary_of};
-ghost use Rattle.smk_base.specs.Trees.{ScanNode};
-ghost use Rattle.smk_base.specs.TreeImage.{pred_image, tree_image, step_image};
-ghost use Rattle.smk_base.specs.declared.rel.TheConstants.{COLUMN_LIMIT};
-ghost use Rattle.smk_model.specs.Limits.{KeepsTree, KeepsStep, KeepsItems};
+ghost use Rattle.smk_base.specs.{Plans.{Apply, Combine}, PlanImage.{expr_of, unary_of, binary_of}, Trees.ScanNode, TreeImage.{pred_image, tree_image, step_image}, declared.rel.TheConstants.COLUMN_LIMIT};
+ghost use Rattle.smk_model.specs.Limits.{KeepsTree, KeepsStep};
 ghost use Rattle.smk_model.specs.TypedSteps as steps;
 ghost use Rattle.smk_model.specs.Typing as typing;
-ghost use Rattle.smk_typing.specs.Answers.{Finds};
-ghost use Rattle.smk_typing.specs.Images.{plan_of};
+ghost use Rattle.smk_typing.specs.{Answers.Finds, Images.plan_of};
 
 pub(crate) mod columns;
 pub(crate) mod lists;

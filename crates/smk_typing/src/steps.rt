@@ -1,16 +1,7 @@
 ghost use Rattle.std.specs.Prelude.{◌≡◌, ◌≤◌, [], ◌∷◌, map, length, All, Ok, IfOk};
-ghost use Rattle.smk_base.specs.PlanImage.{expr_of, unary_of};
-ghost use Rattle.smk_base.specs.TreeImage.{ask_step_image};
-ghost use Rattle.smk_base.specs.declared.book.limits.TheConstants.{NODE_LIMIT};
-ghost use Rattle.smk_base.specs.declared.rel.TheConstants.{COLUMN_LIMIT};
-ghost use Rattle.smk_model.specs.Asks.{asked_plan, chain, typed_steps};
-ghost use Rattle.smk_model.specs.Limits.{KeepsAskStep, KeepsSteps};
-ghost use Rattle.smk_model.specs.Names.{in_turn, column_kinds};
-ghost use Rattle.smk_model.specs.Selection.{PlanFits, plan_kinds};
-ghost use Rattle.smk_model.specs.Typing.{column_of};
-ghost use Rattle.smk_typing.specs.Answers.{Finds};
-ghost use Rattle.smk_typing.specs.Images.{plan_of, steps_image};
-ghost use Rattle.smk_typing.specs.Steps.{IsChain, asked_after};
+ghost use Rattle.smk_base.specs.{PlanImage.{expr_of, unary_of}, TreeImage.ask_step_image, declared.book.limits.TheConstants.NODE_LIMIT, declared.rel.TheConstants.COLUMN_LIMIT};
+ghost use Rattle.smk_model.specs.{Asks.{asked_plan, chain, typed_steps}, Limits.{KeepsAskStep, KeepsSteps}, Names.{in_turn, column_kinds}, Selection.{PlanFits, plan_kinds}, Typing.column_of};
+ghost use Rattle.smk_typing.specs.{Answers.Finds, Images.{plan_of, steps_image}, Steps.{IsChain, asked_after}};
 
 use crate::book::declared::names_and_kinds;
 use crate::draft::columns_of;

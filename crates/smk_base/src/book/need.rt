@@ -20,8 +20,7 @@ pub struct Need {
 
 impl Model for Need {
     ghost use Rattle.std.specs.Prelude.{List};
-    ghost use Rattle.smk_base.specs.declared.book.need.Needed.{Needed};
-    ghost use Rattle.smk_base.specs.Needs.{IsNeed};
+    ghost use Rattle.smk_base.specs.{declared.book.need.Needed.Needed, Needs.IsNeed};
 
     ghost Value = { List Needed };
 

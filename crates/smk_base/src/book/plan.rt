@@ -1,6 +1,5 @@
 ghost use Rattle.std.specs.Prelude.{◌≡◌, Ok, IfOk};
-ghost use Rattle.smk_base.specs.Aggregates.{moved_to, over_parts, read_by};
-ghost use Rattle.smk_base.specs.PlanImage.{binary_of, formula_of, unary_of};
+ghost use Rattle.smk_base.specs.{Aggregates.{moved_to, over_parts, read_by}, PlanImage.{binary_of, formula_of, unary_of}};
 
 use crate::list::ListOf;
 use crate::value::Value;

@@ -13,8 +13,7 @@ pub struct Picks {
 
 impl Model for Picks {
     ghost use Rattle.std.specs.Prelude.{List};
-    ghost use Rattle.smk_base.specs.declared.list.table_rids.Pick.{Pick};
-    ghost use Rattle.smk_base.specs.Picks.{ArePicks};
+    ghost use Rattle.smk_base.specs.{declared.list.table_rids.Pick.Pick, Picks.ArePicks};
 
     ghost Value = { List Pick };
 

@@ -1,7 +1,5 @@
 ghost use Rattle.std.specs.Prelude.{◌≡◌, ◌<◌, ◌≤◌, ◌∷◌, ◌++◌, [], length, position, take, IfOk, IfSome, OnOk, OnErr, IsOk, slice_index_or, vec_len, vec_capacity};
-ghost use Rattle.smk_base.specs.Dicts.{AreTexts, code_in, code_or_last, text_eq, texts_of, with_text};
-ghost use Rattle.smk_base.specs.declared.rel.dict.TheConstants.{FEW};
-ghost use Rattle.smk_base.specs.declared.rel.TheConstants.{ROW_LIMIT};
+ghost use Rattle.smk_base.specs.{Dicts.{AreTexts, code_in, code_or_last, text_eq, texts_of, with_text}, declared.rel.dict.TheConstants.FEW, declared.rel.TheConstants.ROW_LIMIT};
 
 use crate::list::Text;
 use crate::rel::hashed::{Hashed, are_same};
@@ -27,8 +25,7 @@ pub struct Dict {
 }
 
 impl Model for Dict {
-    ghost use Rattle.smk_base.specs.Dicts.{DictImage, IsDict};
-    ghost use Rattle.smk_base.specs.HeldTexts.{dict_held};
+    ghost use Rattle.smk_base.specs.{Dicts.{DictImage, IsDict}, HeldTexts.dict_held};
 
     ghost Value = { DictImage };
 

@@ -1,9 +1,6 @@
 //! Loops over the columns of a relation.
 ghost use Rattle.std.specs.Prelude.{◌≡◌, ℕ, ◌<◌, ◌≤◌, ◌+◌, true, [], ◌∷◌, ◌++◌, length, map, take, All, IfOk, OnOk, OnErr, slice_index, slice_index_or};
-ghost use Rattle.smk_base.specs.Cells.{value_of_cell, cell_in};
-ghost use Rattle.smk_base.specs.Rels.{IsColumn, IsWider, Fits, kind_in, value_in};
-ghost use Rattle.smk_base.specs.Columns.{IsColumnOf, IsReady};
-ghost use Rattle.smk_base.specs.Relations.{column_in, AreMade, AreLonger};
+ghost use Rattle.smk_base.specs.{Cells.{value_of_cell, cell_in}, Rels.{IsColumn, IsWider, Fits, kind_in, value_in}, Columns.{IsColumnOf, IsReady}, Relations.{column_in, AreMade, AreLonger}};
 
 use crate::rel::ROW_LIMIT;
 use crate::rel::rel_column::RelColumn;

@@ -1,10 +1,7 @@
-ghost use Rattle.std.specs.Prelude.{◌≡◌, ◌<◌, ◌≤◌, ◌+◌, ◌*◌, [], length, take, Some, IfOk, IfSome, OnOk, OnErr, IsOk, slice_index_or};
+ghost use Rattle.std.specs.{Prelude.{◌≡◌, ◌<◌, ◌≤◌, ◌+◌, ◌*◌, [], length, take, Some, IfOk, IfSome, OnOk, OnErr, IsOk, slice_index_or}, Cmp.Lexicographic.{bytes_decides, nat_list_eq_equiv}, Cmp.{on_equiv, partial_equiv_from_equiv}};
 ghost use Rattle.std.proofs.Common.{ap};
-ghost use Rattle.std.specs.Cmp.Lexicographic.{bytes_decides, nat_list_eq_equiv};
-ghost use Rattle.std.specs.Cmp.{on_equiv, partial_equiv_from_equiv};
 ghost use Rattle.std.specs.Hash as fed;
-ghost use Rattle.smk_base.specs.Dicts.{AreTexts, IsDict, code_in, code_or_last, text_eq, texts_of, with_text};
-ghost use Rattle.smk_base.specs.declared.rel.TheConstants.{ROW_LIMIT};
+ghost use Rattle.smk_base.specs.{Dicts.{AreTexts, IsDict, code_in, code_or_last, text_eq, texts_of, with_text}, declared.rel.TheConstants.ROW_LIMIT};
 
 use crate::list::Text;
 use crate::seeded::Seeded;

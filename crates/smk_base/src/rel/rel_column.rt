@@ -1,9 +1,5 @@
 ghost use Rattle.std.specs.Prelude.{◌≡◌, ◌≢◌, ◌<◌, ◌≤◌, ◌≤ℤ◌, ◌+◌, true, [], ◌∷◌, ◌++◌, length, map, take, All, IfOk, OnOk, OnErr, pos};
-ghost use Rattle.smk_base.specs.Cells.{value_of_cell};
-ghost use Rattle.smk_base.specs.Columns.{IsColumnOf, IsReady};
-ghost use Rattle.smk_base.specs.Holds.{held};
-ghost use Rattle.smk_base.specs.IntColumns.{numbers_of};
-ghost use Rattle.smk_base.specs.Rels.{IsColumn, IsWider, Fits, value_in, bin_of};
+ghost use Rattle.smk_base.specs.{Cells.value_of_cell, Columns.{IsColumnOf, IsReady}, Holds.held, IntColumns.numbers_of, Rels.{IsColumn, IsWider, Fits, value_in, bin_of}};
 ghost use Rattle.smk_base.specs.declared.value.Kind.TheVariants as kinds;
 ghost use Rattle.smk_base.specs.declared.value.Value.TheVariants as values;
 
@@ -35,8 +31,7 @@ impl Model for RelColumn {
 
     ghost Value = { ColumnImage };
 
-    ghost use Rattle.smk_base.specs.Columns.{IsColumnOf};
-    ghost use Rattle.smk_base.specs.Holds.{held};
+    ghost use Rattle.smk_base.specs.{Columns.IsColumnOf, Holds.held};
 
     ghost view = { λ a. held a.hold };
 

@@ -1,7 +1,5 @@
 ghost use Rattle.std.specs.Prelude.{◌≡◌, ℕ, ◌<◌, ◌≤◌, ◌+◌, [], ◌∷◌, ◌++◌, length, map, take, All, Some, IfOk, IfSome, IsSome, OnOk, OnErr, IsOk};
-ghost use Rattle.smk_base.specs.Dicts.{code_or_last};
-ghost use Rattle.smk_base.specs.NextTexts.{next_text};
-ghost use Rattle.smk_base.specs.TextColumns.{text_firsts, text_in, AreAdded, AreRecoded};
+ghost use Rattle.smk_base.specs.{Dicts.code_or_last, NextTexts.next_text, TextColumns.{text_firsts, text_in, AreAdded, AreRecoded}};
 
 use crate::list::Text;
 use crate::rel::ROW_LIMIT;

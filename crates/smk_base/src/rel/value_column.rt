@@ -1,14 +1,7 @@
-ghost use Rattle.std.specs.Prelude.{◌≡◌, ◌≢◌, ◌<◌, ◌≤◌, ◌≤ℤ◌, ◌+◌, true, [], ◌∷◌, ◌++◌, length, map, take, All, Some, IfOk, OnOk, OnErr, slice_index_or, vec_len, vec_capacity, FitsSigned, pos};
-ghost use Rattle.std.specs.Int.{w64, int_div_euclid};
-ghost use Rattle.smk_base.specs.Cells.{value_of_cell};
-ghost use Rattle.smk_base.specs.IntColumns.{numbers_of};
-ghost use Rattle.smk_base.specs.NextTexts.{next_text};
-ghost use Rattle.smk_base.specs.TextColumns.{text_firsts};
-ghost use Rattle.smk_base.specs.Rels.{AreBinsFrom, IsColumn, IsWider, IsWithin, Fits, value_in, text_of, number_of, bin_of};
+ghost use Rattle.std.specs.{Prelude.{◌≡◌, ◌≢◌, ◌<◌, ◌≤◌, ◌≤ℤ◌, ◌+◌, true, [], ◌∷◌, ◌++◌, length, map, take, All, Some, IfOk, OnOk, OnErr, slice_index_or, vec_len, vec_capacity, FitsSigned, pos}, Int.{w64, int_div_euclid}};
+ghost use Rattle.smk_base.specs.{Cells.value_of_cell, IntColumns.numbers_of, NextTexts.next_text, TextColumns.text_firsts, Rels.{AreBinsFrom, IsColumn, IsWider, IsWithin, Fits, value_in, text_of, number_of, bin_of}, Columns.{IsColumnOf, IsReady}, Stores.{kind_in_store, cells_in, column_of}};
 ghost use Rattle.smk_base.specs.declared.value.Kind.TheVariants as kinds;
 ghost use Rattle.smk_base.specs.declared.value.Value.TheVariants as values;
-ghost use Rattle.smk_base.specs.Columns.{IsColumnOf, IsReady};
-ghost use Rattle.smk_base.specs.Stores.{kind_in_store, cells_in, column_of};
 
 use crate::rel::ROW_LIMIT;
 use crate::rel::text_column::{Next, TextColumn};
@@ -47,8 +40,7 @@ impl Model for ValueColumn {
 
     ghost Value = { ColumnImage };
 
-    ghost use Rattle.smk_base.specs.Columns.{IsColumnOf};
-    ghost use Rattle.smk_base.specs.Stores.{column_of, cells_in};
+    ghost use Rattle.smk_base.specs.{Columns.IsColumnOf, Stores.{column_of, cells_in}};
 
     ghost view = { λ a. column_of a.store };
 

@@ -1,8 +1,7 @@
 //! Groupings: the group of each row by its key.
 
 ghost use Rattle.std.specs.Prelude.{◌≡◌, ◌<◌, ◌≤◌, ◌+◌, ◌++◌, IfOk, OnOk, All, length, map, slice_index};
-ghost use Rattle.smk_base.specs.declared.rel.TheConstants.{COLUMN_LIMIT, ROW_LIMIT};
-ghost use Rattle.smk_base.specs.declared.workers.TheConstants.{WORKER_LIMIT};
+ghost use Rattle.smk_base.specs.{declared.rel.TheConstants.{COLUMN_LIMIT, ROW_LIMIT}, declared.workers.TheConstants.WORKER_LIMIT};
 ghost use Rattle.smk_model.specs.Plain.{key_of};
 ghost use Rattle.smk_keys.specs.Classes.{classes_of};
 ghost use Rattle.smk_jobs.specs.Cuts.{AreParts, cut_at};

@@ -1,9 +1,8 @@
 //! Groupings by one column of texts. The codes of its texts come in the order in which the texts come first, so they are the classes, and a text may come first only where its code is greater than all before it.
 
 ghost use Rattle.std.specs.Prelude.{◌≡◌, ◌<◌, ◌≤◌, ◌+◌, ◌∷◌, [], IfOk, All, length, map};
-ghost use Rattle.smk_base.specs.Rels.{kind_in};
+ghost use Rattle.smk_base.specs.{Rels.kind_in, declared.workers.TheConstants.WORKER_LIMIT};
 ghost use Rattle.smk_base.specs.declared.value.Kind.TheVariants as kinds;
-ghost use Rattle.smk_base.specs.declared.workers.TheConstants.{WORKER_LIMIT};
 ghost use Rattle.smk_keys.specs.Classes.{classes_of};
 ghost use Rattle.smk_model.specs.Plain.{key_of};
 ghost use Rattle.smk_jobs.specs.Cuts.{AreParts, cut_at};

@@ -1,16 +1,8 @@
-ghost use Rattle.std.specs.Prelude.{◌≡◌, ℕ, pos, ◌<◌, ◌≤◌, ◌++◌, Bool, false, IfOk, OnOk, All, filter, length, map, slice_index, slice_index_or};
-ghost use Rattle.std.specs.Ordering.{int_cmp};
-ghost use Rattle.std.specs.declared.cmp.Ordering.TheVariants.{Less, Equal, Greater};
-ghost use Rattle.smk_base.specs.Cells.{value_of_cell};
-ghost use Rattle.smk_base.specs.PlanImage.{formula_of};
-ghost use Rattle.smk_base.specs.Plans.{Comparison};
+ghost use Rattle.std.specs.{Prelude.{◌≡◌, ℕ, pos, ◌<◌, ◌≤◌, ◌++◌, Bool, false, IfOk, OnOk, All, filter, length, map, slice_index, slice_index_or}, Ordering.int_cmp, declared.cmp.Ordering.TheVariants.{Less, Equal, Greater}};
+ghost use Rattle.smk_base.specs.{Cells.value_of_cell, PlanImage.formula_of, Plans.Comparison, declared.book.plan.CmpOp.CmpOp};
 ghost use Rattle.smk_base.specs.declared.book.plan.Operand.TheVariants as operands;
-ghost use Rattle.smk_base.specs.declared.book.plan.CmpOp.{CmpOp};
 ghost use Rattle.smk_base.specs.declared.value.Value.TheVariants as values;
-ghost use Rattle.smk_model.specs.Kinds.{FormulaFits};
-ghost use Rattle.smk_model.specs.Lineage.{row_at};
-ghost use Rattle.smk_model.specs.Plain.{meets_together};
-ghost use Rattle.smk_model.specs.Values.{holds, meets, value_cmp};
+ghost use Rattle.smk_model.specs.{Kinds.FormulaFits, Lineage.row_at, Plain.meets_together, Values.{holds, meets, value_cmp}};
 ghost use Rattle.smk_body.specs.Halves.{meeting_below};
 
 use crate::comparisons::{cell_of_both, compare, meets_at, meets_together_at, says, turned};

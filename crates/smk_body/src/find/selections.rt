@@ -1,10 +1,8 @@
 //! Selections: the places of the rows that meet a predicate.
 
 ghost use Rattle.std.specs.Prelude.{◌≡◌, ◌<◌, ◌≤◌, ◌+◌, IfOk, length};
-ghost use Rattle.smk_base.specs.PlanImage.{formula_of};
-ghost use Rattle.smk_base.specs.declared.workers.TheConstants.{WORKER_LIMIT};
-ghost use Rattle.smk_model.specs.Kinds.{FormulaFits};
-ghost use Rattle.smk_model.specs.Lineage.{meeting};
+ghost use Rattle.smk_base.specs.{PlanImage.formula_of, declared.workers.TheConstants.WORKER_LIMIT};
+ghost use Rattle.smk_model.specs.{Kinds.FormulaFits, Lineage.meeting};
 ghost use Rattle.smk_jobs.specs.Cuts.{AreParts, cut_at};
 ghost use Rattle.smk_body.specs.Cuts.{HasPlaces};
 

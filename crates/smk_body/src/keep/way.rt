@@ -1,8 +1,7 @@
 ghost use Rattle.std.specs.Prelude.{◌≡◌, ◌+◌, ◌≤◌, IfOk};
 ghost use Rattle.smk_base.specs.declared.rel.TheConstants.{ROW_LIMIT};
 ghost use Rattle.smk_model.specs.Ways.{Own, Sources, Targets, back_of, fwd_of};
-ghost use Rattle.smk_body.specs.Bounds.{AreBelow, AreTurned, stretch};
-ghost use Rattle.smk_body.specs.Locals.{side_of};
+ghost use Rattle.smk_body.specs.{Bounds.{AreBelow, AreTurned, stretch}, Locals.side_of};
 
 use crate::keep::lists::{given_lists_if, own_side, side_of_stretch, turned_lists_unless};
 use crate::keep::local::Side;

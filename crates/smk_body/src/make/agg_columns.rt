@@ -1,15 +1,7 @@
 ghost use Rattle.std.specs.Prelude.{◌≡◌, ◌<◌, ◌≤◌, [], ◌∷◌, pos, IfOk, IfSome, All, length, map};
-ghost use Rattle.smk_base.specs.Places.{upto};
-ghost use Rattle.smk_base.specs.Plans.{Grouping};
-ghost use Rattle.smk_base.specs.Rels.{kind_in};
-ghost use Rattle.smk_base.specs.declared.value.Kind.TheVariants.{Int};
-ghost use Rattle.smk_base.specs.declared.book.plan.Agg.TheVariants.{Sum};
-ghost use Rattle.smk_base.specs.declared.rel.TheConstants.{ROW_LIMIT};
+ghost use Rattle.smk_base.specs.{Places.upto, Plans.Grouping, Rels.kind_in, declared.value.Kind.TheVariants.Int, declared.book.plan.Agg.TheVariants.Sum, declared.rel.TheConstants.ROW_LIMIT};
 ghost use Rattle.smk_base.specs.declared.value.Value.TheVariants as values;
-ghost use Rattle.smk_model.specs.Values.{value_at};
-ghost use Rattle.smk_model.specs.Plain.{combined, key_of, step1};
-ghost use Rattle.smk_model.specs.Lineage.{row_at};
-ghost use Rattle.smk_model.specs.Kinds.{AggFits, GroupFits, IsSummed, kind_of_agg, kinds1, summed};
+ghost use Rattle.smk_model.specs.{Values.value_at, Plain.{combined, key_of, step1}, Lineage.row_at, Kinds.{AggFits, GroupFits, IsSummed, kind_of_agg, kinds1, summed}};
 ghost use Rattle.smk_keys.specs.Classes.{classes_of};
 ghost use Rattle.smk_body.specs.Halves.{AreNumbered, better, class_places, class_sizes, class_values};
 

@@ -1,13 +1,8 @@
 ghost use Rattle.std.specs.Prelude.{◌≡◌, ◌<◌, ◌≤◌, pos, IfOk, All, length, map, slice_index_or, vec_len};
-ghost use Rattle.smk_base.specs.Places.{upto};
-ghost use Rattle.smk_base.specs.Rels.{IsWithin, kind_in};
-ghost use Rattle.smk_model.specs.Values.{value_at};
-ghost use Rattle.smk_model.specs.Plain.{number_of, total};
-ghost use Rattle.smk_model.specs.Lineage.{row_at};
-ghost use Rattle.smk_model.specs.Kinds.{IsSummed};
+ghost use Rattle.smk_base.specs.{Places.upto, Rels.{IsWithin, kind_in}, declared.rel.TheConstants.ROW_LIMIT};
+ghost use Rattle.smk_model.specs.{Values.value_at, Plain.{number_of, total}, Lineage.row_at, Kinds.IsSummed};
 ghost use Rattle.smk_body.specs.Halves.{AreNumbered, best_place, bests_of, class_places, improves_on};
 ghost use Rattle.smk_base.specs.declared.value.Value.TheVariants as values;
-ghost use Rattle.smk_base.specs.declared.rel.TheConstants.{ROW_LIMIT};
 
 use crate::comparisons::compare;
 use smk_base::{Ints, Kind, Rel};

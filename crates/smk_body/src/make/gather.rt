@@ -1,9 +1,7 @@
 //! The rows of a step: the values in columns at places, where the crew has several parts: the columns at the same time, and of a column of texts the rows.
 
-ghost use Rattle.std.specs.Prelude.{◌≡◌, ◌<◌, ◌≤◌, Ok, All, IfOk, length};
-ghost use Rattle.std.specs.Thread.{IsSync};
-ghost use Rattle.smk_base.specs.Rels.{rows_at};
-ghost use Rattle.smk_base.specs.declared.rel.TheConstants.{ROW_LIMIT};
+ghost use Rattle.std.specs.{Prelude.{◌≡◌, ◌<◌, ◌≤◌, Ok, All, IfOk, length}, Thread.IsSync};
+ghost use Rattle.smk_base.specs.{Rels.rows_at, declared.rel.TheConstants.ROW_LIMIT};
 ghost use Rattle.smk_body.specs.Parts.{ArePlacesOf, columns_of};
 
 use smk_base::{Kind, Rel, numbers_below};

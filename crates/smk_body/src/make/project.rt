@@ -1,7 +1,6 @@
 ghost use Rattle.std.specs.Prelude.{◌≡◌, [], ◌∷◌, IfOk, map};
 ghost use Rattle.smk_base.specs.Plans.{Projection};
-ghost use Rattle.smk_model.specs.Plain.{item_at, step1};
-ghost use Rattle.smk_model.specs.Kinds.{ItemFits, ItemsFit, kind_of_item, kinds1};
+ghost use Rattle.smk_model.specs.{Plain.{item_at, step1}, Kinds.{ItemFits, ItemsFit, kind_of_item, kinds1}};
 
 use smk_base::{Item, Rel};
 use std::alloc::{AllocError, Global};

@@ -1,16 +1,10 @@
 //! The rows of a grouping, from the groups of its rows, and beside them the places of each group.
 
-ghost use Rattle.std.specs.Prelude.{◌≡◌, ◌<◌, IfOk, Some, length, map};
-ghost use Rattle.std.specs.Thread.{IsSync};
-ghost use Rattle.smk_base.specs.Places.{inverted};
-ghost use Rattle.smk_base.specs.Plans.{Grouping};
+ghost use Rattle.std.specs.{Prelude.{◌≡◌, ◌<◌, IfOk, Some, length, map}, Thread.IsSync};
+ghost use Rattle.smk_base.specs.{Places.inverted, Plans.Grouping};
 ghost use Rattle.smk_keys.specs.Classes.{classes_of};
-ghost use Rattle.smk_model.specs.Kinds.{GroupFits, kinds1};
-ghost use Rattle.smk_model.specs.Locals.{singles};
-ghost use Rattle.smk_model.specs.Plain.{key_of, step1};
-ghost use Rattle.smk_body.specs.Bounds.{IsPartition};
-ghost use Rattle.smk_body.specs.Locals.{wanted};
-ghost use Rattle.smk_body.specs.Parts.{AreAggsOf, ArePlacesOf, aggregates_of, columns_of};
+ghost use Rattle.smk_model.specs.{Kinds.{GroupFits, kinds1}, Locals.singles, Plain.{key_of, step1}};
+ghost use Rattle.smk_body.specs.{Bounds.IsPartition, Locals.wanted, Parts.{AreAggsOf, ArePlacesOf, aggregates_of, columns_of}};
 
 use crate::keep::lists::{counted, sized_lists, turned_lists_if};
 use crate::make::agg_columns::{agg_column, group_rows, sized_group_rows};

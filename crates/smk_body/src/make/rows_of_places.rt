@@ -1,13 +1,8 @@
 //! The rows of a step at places, and beside them lists of the places.
 
-ghost use Rattle.std.specs.Prelude.{◌≡◌, ◌<◌, ◌≤◌, All, IfOk, length};
-ghost use Rattle.std.specs.Bool.{OnTrue};
-ghost use Rattle.std.specs.Thread.{IsSync};
-ghost use Rattle.smk_base.specs.Places.{IsPlaces, inverted};
-ghost use Rattle.smk_base.specs.Rels.{rows_at};
-ghost use Rattle.smk_base.specs.declared.rel.TheConstants.{ROW_LIMIT};
-ghost use Rattle.smk_body.specs.Bounds.{AreBelow};
-ghost use Rattle.smk_body.specs.Locals.{wanted};
+ghost use Rattle.std.specs.{Prelude.{◌≡◌, ◌<◌, ◌≤◌, All, IfOk, length}, Bool.OnTrue, Thread.IsSync};
+ghost use Rattle.smk_base.specs.{Places.{IsPlaces, inverted}, Rels.rows_at, declared.rel.TheConstants.ROW_LIMIT};
+ghost use Rattle.smk_body.specs.{Bounds.AreBelow, Locals.wanted};
 ghost use Rattle.smk_model.specs.Locals.{singles};
 
 use crate::keep::lists::{lists_if, marked_lists_if};

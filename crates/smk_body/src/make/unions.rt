@@ -1,7 +1,5 @@
-ghost use Rattle.std.specs.Prelude.{◌≡◌, ◌<◌, ◌≤◌, ◌+◌, ◌-◌, ◌++◌, IfOk, IfErr, All, length, map, take, slice_index};
-ghost use Rattle.std.specs.List.{AllZip};
-ghost use Rattle.smk_model.specs.Plain.{firsts};
-ghost use Rattle.smk_model.specs.Kinds.{AreAlike, wider_kinds};
+ghost use Rattle.std.specs.{Prelude.{◌≡◌, ◌<◌, ◌≤◌, ◌+◌, ◌-◌, ◌++◌, IfOk, IfErr, All, length, map, take, slice_index}, List.AllZip};
+ghost use Rattle.smk_model.specs.{Plain.firsts, Kinds.{AreAlike, wider_kinds}};
 ghost use Rattle.smk_keys.specs.Classes.{classes_of};
 ghost use Rattle.smk_body.specs.declared.fault.OpFault.TheVariants.{Rows};
 

@@ -1,7 +1,6 @@
 //! Laws of the lists of one step. Each is an empty function whose contract is the law.
 
-ghost use Rattle.smk_model.specs.LocalLaws.{AddsNoRows, Cut, LocalsAre};
-ghost use Rattle.smk_model.specs.Ways.{LineageOfWays};
+ghost use Rattle.smk_model.specs.{LocalLaws.{AddsNoRows, Cut, LocalsAre}, Ways.LineageOfWays};
 
 /// The lists of each step, in the form in which a loop makes them: one place a row that passes, the places of each key, the places that the nested loop of a join matches.
 pub fn locals_are()

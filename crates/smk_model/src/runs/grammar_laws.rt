@@ -1,9 +1,6 @@
 ghost use Rattle.std.specs.Prelude.{◌≡◌, List};
-ghost use Rattle.smk_base.specs.Trees.{AnyLineImage, StmtImage};
-ghost use Rattle.smk_base.specs.declared.book.tree.Line.{Line};
-ghost use Rattle.smk_model.specs.Tokens.{Token};
-ghost use Rattle.smk_model.specs.Spelled.{AreStmts, IsWholeAnyLine, IsWholeLine};
-ghost use Rattle.smk_model.specs.GrammarLaws.{FaultlessAsksKeepLimits, FaultlessHaveTrees, FaultlessKeepLimits, FaultsStay, TextsAreRead, UnexpectedLeaves};
+ghost use Rattle.smk_base.specs.{Trees.{AnyLineImage, StmtImage}, declared.book.tree.Line.Line};
+ghost use Rattle.smk_model.specs.{Tokens.Token, Spelled.{AreStmts, IsWholeAnyLine, IsWholeLine}, GrammarLaws.{FaultlessAsksKeepLimits, FaultlessHaveTrees, FaultlessKeepLimits, FaultsStay, TextsAreRead, UnexpectedLeaves}};
 
 /// No tokens are two books.
 pub fn one_book()

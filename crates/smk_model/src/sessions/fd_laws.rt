@@ -1,7 +1,6 @@
 //! Laws of functional dependencies. Each is an empty function whose contract is the law.
 
-ghost use Rattle.smk_model.specs.DependencyLaws.{DependenciesShown};
-ghost use Rattle.smk_model.specs.ProfileLaws.{DependenciesAnswered, ProfilesFit};
+ghost use Rattle.smk_model.specs.{DependencyLaws.DependenciesShown, ProfileLaws.{DependenciesAnswered, ProfilesFit}};
 
 /// The view of a dependency has one row for each key that violates it, in order, which begins with that key and comes from the rows with that key.
 pub fn fd_law()

@@ -1,8 +1,5 @@
-ghost use Rattle.std.specs.Prelude.{◌≡◌, ◌+◌, ◌≤◌, ◌⊎◌, [], List, Option, Some, take, length, is_some, IfOk, IsErr, IsErrOf, IsTrue, nat_eq};
-ghost use Rattle.std.specs.List.{list_any};
-ghost use Rattle.std.specs.Option.{option_map, option_copied};
-ghost use Rattle.smk_outside.specs.Outside.{Rose, IsMissing, IsFrontOf};
-ghost use Rattle.smk_outside.specs.MemFiles.{held_of, contents_of, fails_next, after_read};
+ghost use Rattle.std.specs.{Prelude.{◌≡◌, ◌+◌, ◌≤◌, ◌⊎◌, [], Option, Some, take, length, IfOk, IsErr, IsErrOf, IsTrue, nat_eq}, List.list_any, Option.option_copied};
+ghost use Rattle.smk_outside.specs.{Outside.{Rose, IsMissing, IsFrontOf}, MemFiles.{held_of, contents_of, fails_next, after_read}};
 
 use crate::files::Files;
 use smk_base::{FilesFault, Text};

@@ -1,5 +1,5 @@
 ghost use Rattle.std.specs.Prelude.{◌≡◌, ◌+◌, ◌≤◌, ◌⊎◌, None, take, length, IfOk, OnOk, IfSome, IsErr, IsErrOf, OnErr, MatchResult};
-ghost use Rattle.smk_outside.specs.Outside.{Rose, IsMissing, IsFrontOf, next_count};
+ghost use Rattle.smk_outside.specs.Outside.{Rose, next_count};
 
 use crate::files::Files;
 use smk_base::FilesFault;

@@ -1,8 +1,5 @@
-ghost use Rattle.std.specs.Prelude.{◌≡◌, ◌≤◌, min, [], Some, length, take, unwrap_or, nat_eq, is_ok, IfOk, OnOk, OnErr};
-ghost use Rattle.std.specs.List.{find};
-ghost use Rattle.std.specs.Option.{option_map};
-ghost use Rattle.smk_outside.specs.Outside.{Rose, Appends, AppendsPart};
-ghost use Rattle.smk_outside.specs.MemSink.{after_put, takes_all};
+ghost use Rattle.std.specs.{Prelude.{◌≡◌, ◌≤◌, min, [], Some, length, take, unwrap_or, nat_eq, is_ok, IfOk, OnOk, OnErr}, List.find, Option.option_map};
+ghost use Rattle.smk_outside.specs.{Outside.{Rose, Appends, AppendsPart}, MemSink.{after_put, takes_all}};
 
 use crate::sink::{Failed, Sink};
 use std::alloc::{AllocError, Global};

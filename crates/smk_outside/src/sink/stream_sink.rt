@@ -1,7 +1,6 @@
 ghost use Rattle.std.specs.Prelude.{◌≡◌, ◌≤◌, None, OnOk, OnErr};
 ghost use Rattle.std.specs.Io.KnownBytes as known;
-ghost use Rattle.smk_outside.specs.Outside.{Rose, next_count};
-ghost use Rattle.smk_outside.specs.StreamSink.{AppendsKnownPart};
+ghost use Rattle.smk_outside.specs.{Outside.{Rose, next_count}, StreamSink.AppendsKnownPart};
 
 use crate::sink::{Failed, Sink};
 use std::io::{Stderr, Stdout, Write};

@@ -1,10 +1,5 @@
-ghost use Rattle.std.specs.Prelude.{◌≡◌, ◌≤◌, ◌<◌, [], ◌∷◌, ◌++◌, vec_len, vec_capacity, OnOk, OnErr, IsErrOf, IsErr, IsTrue, IfOk, length, nat_eq};
-ghost use Rattle.std.specs.List.{list_any, find};
-ghost use Rattle.std.specs.Option.{option_map};
-ghost use Rattle.smk_outside.specs.Hearing.{Gives};
-ghost use Rattle.smk_outside.specs.MemTalk.{told_of, fails_to_hear, fails_to_say};
-ghost use Rattle.smk_outside.specs.Saying.{Says, SaysFront};
-ghost use Rattle.smk_outside.specs.Outside.{Rose};
+ghost use Rattle.std.specs.Prelude.{◌≡◌, ◌≤◌, ◌<◌, [], ◌∷◌, ◌++◌, vec_len, vec_capacity, OnOk, OnErr, IsErrOf, IsErr, IsTrue, IfOk, length};
+ghost use Rattle.smk_outside.specs.{Hearing.Gives, MemTalk.{told_of, fails_to_hear, fails_to_say}, Saying.{Says, SaysFront}, Outside.Rose};
 
 use crate::files::mem_files::has_number;
 use crate::sink::Failed;

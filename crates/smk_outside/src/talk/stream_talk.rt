@@ -1,11 +1,6 @@
-ghost use Rattle.std.specs.Prelude.{◌≡◌, ◌≢◌, ◌≤◌, ◌<◌, ◌+◌, ◌-◌, [], ◌∷◌, ◌++◌, All, OnOk, OnErr, OnSome, IfOk, IsErrOf, Ok, Err, length, take, drop, vec_len};
-ghost use Rattle.std.specs.Io.BufRead.{strip_last};
+ghost use Rattle.std.specs.{Prelude.{◌≡◌, ◌≢◌, ◌≤◌, ◌<◌, ◌+◌, ◌-◌, [], ◌∷◌, ◌++◌, All, OnOk, OnErr, OnSome, IfOk, IsErrOf, Ok, Err, length, take, drop, vec_len}, Io.BufRead.strip_last};
 ghost use Rattle.std.specs.Io.KnownBytes as known;
-ghost use Rattle.smk_outside.specs.Hearing.{Gives};
-ghost use Rattle.smk_outside.specs.Saying.{Says, SaysFront};
-ghost use Rattle.smk_outside.specs.StreamSink.{AppendsKnownPart};
-ghost use Rattle.smk_outside.specs.StreamTalk.{told_by, HearsBytes, IsShort, IsHeard, TakesFront, SomeTaken};
-ghost use Rattle.smk_outside.specs.Outside.{Rose};
+ghost use Rattle.smk_outside.specs.{Hearing.Gives, Saying.{Says, SaysFront}, StreamSink.AppendsKnownPart, StreamTalk.{told_by, HearsBytes, IsShort, IsHeard, TakesFront, SomeTaken}, Outside.Rose};
 
 use crate::sink::Failed;
 use crate::sink::stream_sink::write_all_of;

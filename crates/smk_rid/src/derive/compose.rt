@@ -1,9 +1,6 @@
-ghost use Rattle.std.specs.Prelude.{◌≡◌, ◌<◌, ◌≤◌, ◌+◌, ◌∷◌, ◌++◌, [], length, slice_index_or, IfOk, IfErr, OnOk};
-ghost use Rattle.std.specs.List.{All, flat_map};
-ghost use Rattle.smk_base.specs.Places.{IsPlaces, composed, list_at, members_at, pairs_of, upto};
-ghost use Rattle.smk_rid.specs.Maps.{IsMap, IsSingle};
-ghost use Rattle.smk_rid.specs.Packing.{one_of};
-ghost use Rattle.smk_rid.specs.declared.fault.RidFault.TheVariants.{Pairs};
+ghost use Rattle.std.specs.{Prelude.{◌≡◌, ◌<◌, ◌≤◌, ◌+◌, ◌∷◌, ◌++◌, [], length, slice_index_or, IfOk, IfErr, OnOk}, List.{All, flat_map}};
+ghost use Rattle.smk_base.specs.Places.{IsPlaces, composed, members_at, pairs_of, upto};
+ghost use Rattle.smk_rid.specs.{Maps.{IsMap, IsSingle}, Packing.one_of, declared.fault.RidFault.TheVariants.Pairs};
 
 use crate::derive::distinct::{count_at, is_dense, make_set, marked_at, set_of};
 use crate::fault::RidFault;

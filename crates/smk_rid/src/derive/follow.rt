@@ -1,7 +1,5 @@
-ghost use Rattle.std.specs.Prelude.{◌≡◌, ◌+◌, ◌<◌, ◌≤◌, ◌++◌, length, map, take, IfOk, OnOk};
-ghost use Rattle.std.specs.List.{All};
-ghost use Rattle.smk_base.specs.Places.{Lists, pairs_of, followed};
-ghost use Rattle.smk_rid.specs.Maps.{IsMap, IsSingle};
+ghost use Rattle.std.specs.{Prelude.{◌≡◌, ◌+◌, ◌<◌, ◌≤◌, ◌++◌, length, map, IfOk, OnOk}, List.All};
+ghost use Rattle.smk_base.specs.Places.{pairs_of, followed};
 ghost use Rattle.smk_rid.specs.Packing.{one_of};
 
 use crate::hold::array::{NONE, RidArray};

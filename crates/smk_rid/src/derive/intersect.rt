@@ -1,10 +1,7 @@
 //! What two ascending lists of rids have in common.
 
-ghost use Rattle.std.specs.Prelude.{◌≡◌, ◌≢◌, ◌<◌, ◌≤◌, ℕ, length, slice_index, All, IfOk};
-ghost use Rattle.std.specs.Bool.{OnTrue, OnFalse};
-ghost use Rattle.std.specs.List.{filter};
-ghost use Rattle.smk_base.specs.Picks.{IsAscending};
-ghost use Rattle.smk_base.specs.Places.{has};
+ghost use Rattle.std.specs.{Prelude.{◌≡◌, ◌≢◌, ◌<◌, ◌≤◌, ℕ, length, slice_index, All, IfOk}, Bool.{OnTrue, OnFalse}, List.filter};
+ghost use Rattle.smk_base.specs.{Picks.IsAscending, Places.has};
 
 use crate::derive::distinct::marks_of;
 use smk_base::Rids;

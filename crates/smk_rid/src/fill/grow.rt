@@ -1,6 +1,5 @@
-ghost use Rattle.std.specs.Prelude.{◌≡◌, ◌<◌, ◌≤◌, [], length, IfOk, OnOk, OnErr};
-ghost use Rattle.std.specs.List.{All};
-ghost use Rattle.smk_base.specs.Places.{list_at, empty_lists, pairs_of};
+ghost use Rattle.std.specs.{Prelude.{◌≡◌, ◌<◌, ◌≤◌, [], length, IfOk, OnOk, OnErr}, List.All};
+ghost use Rattle.smk_base.specs.Places.{list_at, pairs_of};
 ghost use Rattle.smk_rid.specs.Maps.{with_list, with_rid_at};
 
 use crate::hold::packed::Packed;

@@ -18,9 +18,7 @@ pub struct RidMarks {
 impl Model for RidMarks {
     ghost use Rattle.std.specs.Prelude.{◌≤◌, length, map};
     ghost use Rattle.smk_base.specs.Places.{Lists};
-    ghost use Rattle.smk_rid.specs.declared.map.TheConstants.{PAIR_LIMIT};
-    ghost use Rattle.smk_rid.specs.Grow.{IsGrown};
-    ghost use Rattle.smk_rid.specs.Packing.{one_of};
+    ghost use Rattle.smk_rid.specs.{declared.map.TheConstants.PAIR_LIMIT, Grow.IsGrown, Packing.one_of};
 
     ghost Value = { Lists };
 

@@ -1,10 +1,7 @@
-ghost use Rattle.std.specs.Prelude.{◌≡◌, ◌<◌, ◌≤◌, ◌↔◌, ◌+◌, ◌∷◌, ◌++◌, ℕ, [], length, map, nat_lt, take, slice_index_or, IfOk, IsTrue, OnOk, vec_capacity, vec_len};
-ghost use Rattle.std.specs.List.{All, AllPairs, filter, flat_map, list_any};
+ghost use Rattle.std.specs.{Prelude.{◌≡◌, ◌<◌, ◌≤◌, ◌↔◌, ◌+◌, ◌∷◌, ◌++◌, ℕ, [], length, map, nat_lt, take, slice_index_or, IfOk, IsTrue, OnOk, vec_capacity, vec_len}, List.{All, AllPairs, filter, flat_map, list_any}};
 ghost use Rattle.std.proofs.Math.ListN.{replicate};
 ghost use Rattle.smk_base.specs.Places.{has, pairs_of, upto};
-ghost use Rattle.smk_rid.specs.Forms.{lists_in};
-ghost use Rattle.smk_rid.specs.Maps.{IsSingle};
-ghost use Rattle.smk_rid.specs.Packing.{one_of};
+ghost use Rattle.smk_rid.specs.{Forms.lists_in, Maps.IsSingle, Packing.one_of};
 
 use crate::hold::code::{
     are_own, count_before, keep_at, number_at, put_at, put_numbers, put_rising,

@@ -1,5 +1,4 @@
-ghost use Rattle.std.specs.Prelude.{◌≡◌, ◌<◌, ◌≤◌, ◌↔◌, ◌+◌, ◌∷◌, ◌++◌, ℕ, [], if◌then◌else◌, ◌==◌, length, map, nat_lt, slice_index_or, take, vec_capacity, vec_len, IsTrue, OnOk};
-ghost use Rattle.std.specs.List.{All, AllPairs, filter, flat_map, list_any};
+ghost use Rattle.std.specs.{Prelude.{◌≡◌, ◌<◌, ◌≤◌, ◌↔◌, ◌+◌, ◌∷◌, ◌++◌, ℕ, [], if◌then◌else◌, ◌==◌, length, map, nat_lt, slice_index_or, take, vec_capacity, vec_len, IsTrue, OnOk}, List.{All, AllPairs, filter, flat_map, list_any}};
 ghost use Rattle.smk_base.specs.Places.{has, pairs_of, upto};
 ghost use Rattle.smk_rid.specs.Packing.{one_of};
 

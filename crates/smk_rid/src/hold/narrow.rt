@@ -1,5 +1,4 @@
-ghost use Rattle.std.specs.Prelude.{◌≡◌, ◌<◌, ◌≤◌, [], ◌∷◌, length, map, slice_index_or, IfOk};
-ghost use Rattle.std.specs.List.{All};
+ghost use Rattle.std.specs.{Prelude.{◌≡◌, ◌<◌, ◌≤◌, [], ◌∷◌, length, map, slice_index_or, IfOk}, List.All};
 ghost use Rattle.smk_base.specs.Places.{upto};
 ghost use Rattle.smk_rid.specs.Packing.{one_of};
 
@@ -17,8 +16,7 @@ pub struct Narrow<C: Code> {
 }
 
 impl<C: Code> Model for Narrow<C> {
-    ghost use Rattle.std.specs.Prelude.{◌≡◌, ◌<◌, List, ℕ, length, map};
-    ghost use Rattle.std.specs.List.{All};
+    ghost use Rattle.std.specs.{Prelude.{◌≡◌, ◌<◌, List, ℕ, length, map}, List.All};
     ghost use Rattle.smk_base.specs.Places.{upto};
     ghost use Rattle.smk_rid.specs.Packing.{one_of};
 

@@ -1,8 +1,6 @@
-ghost use Rattle.std.specs.Prelude.{◌≡◌, ◌<◌, ◌≤◌, ◌+◌, ◌↔◌, [], ◌∷◌, ◌++◌, length, map, take, slice_index_or, IfOk, IfErr, OnOk, IsTrue, nat_lt, if◌then◌else◌, slice_index, slice_range, vec_len, vec_capacity};
-ghost use Rattle.std.specs.List.{All, concat, filter, flat_map};
+ghost use Rattle.std.specs.{Prelude.{◌≡◌, ◌<◌, ◌≤◌, ◌+◌, ◌↔◌, [], ◌∷◌, ◌++◌, length, map, take, slice_index_or, IfOk, IfErr, OnOk, IsTrue, nat_lt, if◌then◌else◌, slice_index, slice_range, vec_len, vec_capacity}, List.{All, concat, filter, flat_map}};
 ghost use Rattle.smk_base.specs.Places.{pairs_of};
-ghost use Rattle.smk_rid.specs.Maps.{IsSingle};
-ghost use Rattle.smk_rid.specs.declared.fault.RidFault.TheVariants.{Pairs};
+ghost use Rattle.smk_rid.specs.{Maps.IsSingle, declared.fault.RidFault.TheVariants.Pairs};
 
 use crate::fault::RidFault;
 use crate::hold::array::{NONE, RidArray};

@@ -1,17 +1,11 @@
 // The answers to backward queries: rows, those of them with a value, and the groups of them.
-ghost use Rattle.std.specs.Prelude.{◌≡◌, ◌<◌, ◌≤◌, ◌+◌, Ok, nat_eq, length, IfOk, IfSome, MatchResult};
-ghost use Rattle.std.specs.List.{list_all};
-ghost use Rattle.smk_base.specs.CatalogImage.{catalog_image};
-ghost use Rattle.smk_base.specs.Places.{IsPlaces};
+ghost use Rattle.std.specs.{Prelude.{◌≡◌, ◌<◌, ◌≤◌, ◌+◌, Ok, nat_eq, length, IfOk, IfSome, MatchResult}, List.list_all};
+ghost use Rattle.smk_base.specs.{CatalogImage.catalog_image, Places.IsPlaces};
 ghost use Rattle.smk_base.specs.declared.book.tree.Then.TheVariants as thens;
 ghost use Rattle.smk_model.specs.Replies as replies;
-ghost use Rattle.smk_model.specs.ReplyTexts.{AsksRows};
-ghost use Rattle.smk_model.specs.Typing.{info_at};
+ghost use Rattle.smk_model.specs.{ReplyTexts.AsksRows, Typing.info_at};
 ghost use Rattle.smk_model.specs.Workload as workload;
-ghost use Rattle.smk_session.specs.Answers.{Gives, Turns, BacksFit, IsLent, book_of, looks_of_asked};
-ghost use Rattle.smk_session.specs.Extras.{split_place, cubes_place};
-ghost use Rattle.smk_session.specs.BackAnswers.{IsPairNamed, SplitsFit, CubesFit, split_asked, cubes_asked, one_asked, sort_asked, with_value_asked, rids_by, rows_by, grouped_by};
-ghost use Rattle.smk_session.specs.Told.{HasNoLists};
+ghost use Rattle.smk_session.specs.{Answers.{Gives, Turns, BacksFit, IsLent, book_of, looks_of_asked}, Extras.{split_place, cubes_place}, BackAnswers.{IsPairNamed, SplitsFit, CubesFit, split_asked, cubes_asked, one_asked, sort_asked, with_value_asked, rids_by, rows_by, grouped_by}, Told.HasNoLists};
 
 use crate::answer::lineage::back_map;
 use crate::answer::marks::{check_marks, marked_members};

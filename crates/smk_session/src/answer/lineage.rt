@@ -1,7 +1,6 @@
 // The lineage that a line asks for.
 ghost use Rattle.std.specs.Prelude.{◌≡◌, Ok, MatchResult};
-ghost use Rattle.smk_session.specs.Answers.{Turns};
-ghost use Rattle.smk_session.specs.Kept.{kept_back, kept_fwd};
+ghost use Rattle.smk_session.specs.{Answers.Turns, Kept.{kept_back, kept_fwd}};
 
 use crate::answer::no_answer::Turned;
 use crate::start::kept::{back_kept, fwd_kept};

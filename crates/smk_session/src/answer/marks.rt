@@ -1,13 +1,13 @@
 // The rows that a line marks, and the members of their lists.
 ghost use Rattle.std.specs.Prelude.{◌≡◌, length, IfOk};
-ghost use Rattle.smk_base.specs.Places.{IsPlaces, upto};
+ghost use Rattle.smk_base.specs.Places.{IsPlaces};
 ghost use Rattle.smk_model.specs.Replies as replies;
 ghost use Rattle.smk_session.specs.Answers.{Gives, members_asked, within_asked};
 
 use crate::answer::no_answer::Turned;
 use smk_base::{Marks, Refusal, Rids};
 use smk_rid::RidMap;
-use std::alloc::{AllocError, Global};
+use std::alloc::Global;
 
 // The first number as written that is not below the number of rows.
 fn first_outside(marks: &Marks, rows: u32) -> Option<u32>

@@ -1,13 +1,9 @@
 // The rows that brushes select for a view.
-ghost use Rattle.std.specs.Prelude.{◌≡◌, ◌<◌, ℕ, length, slice_index_or, All, IfOk, IfNone, IfSome, OnOk};
-ghost use Rattle.std.specs.Bool.{OnTrue, OnFalse};
-ghost use Rattle.smk_base.specs.CatalogImage.{catalog_image};
-ghost use Rattle.smk_base.specs.Picks.{IsAscending};
-ghost use Rattle.smk_session.specs.Answers.{AreAlike, AreOn, IsChoice, IsLent, book_of, state_at, brushed_of, chosen_by, narrowed_by, picks_brushed, rids_or_all, selected_by, state_lent};
-ghost use Rattle.smk_session.specs.Behind.{RidsFit};
+ghost use Rattle.std.specs.{Prelude.{◌≡◌, ◌<◌, ℕ, length, slice_index_or, All, IfOk, IfNone, IfSome, OnOk}, Bool.{OnTrue, OnFalse}};
+ghost use Rattle.smk_base.specs.{CatalogImage.catalog_image, Picks.IsAscending};
+ghost use Rattle.smk_session.specs.{Answers.{AreAlike, AreOn, IsChoice, IsLent, book_of, state_at, brushed_of, chosen_by, narrowed_by, picks_brushed, rids_or_all, selected_by, state_lent}, Behind.RidsFit, Sessions.BrushFits};
 ghost use Rattle.smk_model.specs.Session.{rows_of_table};
 ghost use Rattle.smk_session.specs.Answers as answers;
-ghost use Rattle.smk_session.specs.Sessions.{BrushFits};
 
 use crate::brush::links::concerns;
 use crate::lent::Lent;

@@ -1,19 +1,11 @@
 // The views that follow a brush, made anew under other brushes.
-ghost use Rattle.std.specs.Prelude.{◌≡◌, ◌<◌, ◌≤◌, ◌+◌, ◌++◌, ◌∷◌, [], ℕ, List, Ok, None, Some, Option, true, false, cond, length, All, IfOk, IfErr, IfSome, IfNone, MatchResult, OnOk};
-ghost use Rattle.smk_base.specs.Places.{members_at};
-ghost use Rattle.smk_base.specs.PlanImage.{expr_of};
-ghost use Rattle.smk_model.specs.Composed.{forwards};
-ghost use Rattle.smk_model.specs.LineageLaws.{selected_table};
-ghost use Rattle.smk_model.specs.Looks.{looks_of_linked};
+ghost use Rattle.std.specs.{Prelude.{◌≡◌, ◌<◌, ◌≤◌, ◌+◌, ◌++◌, ◌∷◌, [], ℕ, List, Ok, None, Some, Option, true, false, cond, length, All, IfOk, IfErr, IfSome, IfNone, MatchResult, OnOk}, List.{list_any, sum_by}};
+ghost use Rattle.smk_base.specs.{Places.members_at, PlanImage.expr_of, declared.reply.Linked.Linked as LinkedImage};
+ghost use Rattle.smk_model.specs.{Composed.forwards, LineageLaws.selected_table, Looks.looks_of_linked, Workload.declares_fwd};
 ghost use Rattle.smk_model.specs.Replies as replies;
 ghost use Rattle.smk_model.specs.Session as sessions;
-ghost use Rattle.smk_model.specs.Workload.{declares_fwd};
-ghost use Rattle.smk_base.specs.declared.reply.Linked.{Linked as LinkedImage};
-ghost use Rattle.std.specs.List.{list_any, sum_by};
 ghost use Rattle.smk_compose.specs.declared.fault.EvalFault.TheVariants as faults;
-ghost use Rattle.smk_session.specs.Answers.{Turns, rids_or_all, content_at};
-ghost use Rattle.smk_session.specs.Refreshed.{all_told, AreChoices, AreFollowed, FollowsAs, IsBrushed, IsFetched, IsKept, IsReady, IsRefresh, IsSource, Names, book_at, contents_at, groups_table, linked_at, looks_now, marks_next, marks_told, state_next, views_of};
-ghost use Rattle.smk_session.specs.Sessions.{follows};
+ghost use Rattle.smk_session.specs.{Answers.{Turns, rids_or_all}, Refreshed.{all_told, AreChoices, AreFollowed, FollowsAs, IsBrushed, IsFetched, IsKept, IsReady, IsRefresh, IsSource, Names, book_at, contents_at, groups_table, linked_at, looks_now, marks_next, marks_told, state_next, views_of}, Sessions.follows};
 
 use crate::answer::no_answer::Turned;
 use crate::brush::choices::{Choice, choose, picks};

@@ -1,6 +1,5 @@
 // Lists of brushes in force, with one more or one less.
-ghost use Rattle.std.specs.Prelude.{◌≡◌, cond, map, IfOk};
-ghost use Rattle.std.specs.List.{list_any};
+ghost use Rattle.std.specs.{Prelude.{◌≡◌, cond, map, IfOk}, List.list_any};
 ghost use Rattle.smk_model.specs.Session as sessions;
 
 use crate::turn::Brushes;

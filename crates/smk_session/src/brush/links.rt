@@ -1,8 +1,6 @@
 // The links of a book, and what follows a brush.
-ghost use Rattle.std.specs.Prelude.{◌≡◌, ◌&&◌, IfOk};
-ghost use Rattle.std.specs.List.{list_any};
-ghost use Rattle.smk_base.specs.Places.{has};
-ghost use Rattle.smk_base.specs.CatalogImage.{catalog_image};
+ghost use Rattle.std.specs.{Prelude.{◌≡◌, ◌&&◌, IfOk}, List.list_any};
+ghost use Rattle.smk_base.specs.{Places.has, CatalogImage.catalog_image};
 ghost use Rattle.smk_model.specs.Session as sessions;
 ghost use Rattle.smk_model.specs.Workload as workload;
 ghost use Rattle.smk_session.specs.Sessions as kept;

@@ -1,8 +1,6 @@
 //! The lineage that is kept of a view.
 
-ghost use Rattle.std.specs.Prelude.{◌≡◌, option_map};
-ghost use Rattle.std.specs.List.{find};
-ghost use Rattle.std.specs.Option.{option_and_then};
+ghost use Rattle.std.specs.{Prelude.{◌≡◌, option_map}, List.find, Option.option_and_then};
 ghost use Rattle.smk_session.specs.Kept.{is_of_table};
 
 use smk_compose::{KeptMap, Run};

@@ -1,13 +1,7 @@
 // What is made for the backward declarations of a book that ask for more than rows.
-ghost use Rattle.std.specs.Prelude.{◌≡◌, ◌<◌, ◌≤◌, ◌+◌, ◌++◌, true, length, All, IfOk, IfSome, IfNone, None, OnOk};
-ghost use Rattle.std.specs.List.{filter_map, sum_by};
-ghost use Rattle.std.specs.Option.{option_to_list};
-ghost use Rattle.smk_model.specs.Catalogs.{table_kinds};
-ghost use Rattle.smk_model.specs.Kinds.{GroupFits};
-ghost use Rattle.smk_model.specs.Typing.{info_at};
-ghost use Rattle.smk_session.specs.Extras.{backs_of, table_of, split_on, cubes_on, split_in, cubes_in};
-ghost use Rattle.smk_session.specs.Making.{AreNow, IsOpened, IsDeclared, IsAsked, MakesAs, book_in, declared_in, is_wanted, split_wanted, cubes_wanted, looks_wanted};
-ghost use Rattle.smk_session.specs.Opened.{opened, workbook_image};
+ghost use Rattle.std.specs.{Prelude.{◌≡◌, ◌<◌, ◌≤◌, ◌+◌, ◌++◌, true, length, All, IfOk, IfSome, IfNone, None, OnOk}, List.{filter_map, sum_by}, Option.option_to_list};
+ghost use Rattle.smk_model.specs.{Catalogs.table_kinds, Kinds.GroupFits, Typing.info_at};
+ghost use Rattle.smk_session.specs.{Extras.{backs_of, table_of, split_on, cubes_on, split_in, cubes_in}, Making.{AreNow, IsOpened, IsDeclared, IsAsked, MakesAs, book_in, declared_in, is_wanted, split_wanted, cubes_wanted, looks_wanted}, Opened.{opened, workbook_image}};
 
 use crate::start::abreast::are_few;
 use crate::start::extras::Extras;

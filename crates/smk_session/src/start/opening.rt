@@ -1,17 +1,9 @@
 // The views of a book over its tables, with the lineage that its declared queries need.
-ghost use Rattle.std.specs.Prelude.{◌≡◌, ◌<◌, ◌≤◌, ◌+◌, None, Option, length, map, option_map, All, IfOk, IfErr, OnOk, IsTrue};
-ghost use Rattle.std.specs.List.{sum_by};
-ghost use Rattle.smk_base.specs.CatalogImage.{catalog_image, view_image};
-ghost use Rattle.smk_base.specs.Places.{upto};
-ghost use Rattle.smk_model.specs.Catalogs.{IsCatalog, ViewFits, each_table_kinds};
-ghost use Rattle.smk_model.specs.Looks.{looks_of_view};
-ghost use Rattle.smk_model.specs.NodeFaults.{NodeFault};
-ghost use Rattle.smk_model.specs.Opening.{view_fault, first_view_fault};
-ghost use Rattle.smk_model.specs.Selection.{each_kinds};
-ghost use Rattle.smk_model.specs.Session.{view_at};
+ghost use Rattle.std.specs.{Prelude.{◌≡◌, ◌<◌, ◌≤◌, ◌+◌, None, Option, length, map, option_map, All, IfOk, IfErr, OnOk, IsTrue}, List.sum_by};
+ghost use Rattle.smk_base.specs.{CatalogImage.{catalog_image, view_image}, Places.upto};
+ghost use Rattle.smk_model.specs.{Catalogs.{IsCatalog, ViewFits, each_table_kinds}, Looks.looks_of_view, NodeFaults.NodeFault, Opening.{view_fault, first_view_fault}, Selection.each_kinds, Session.view_at};
 ghost use Rattle.smk_compose.specs.Through.{IsFirst};
-ghost use Rattle.smk_session.specs.Openings.{CanOpen, OpensAs, faults_of, views_of};
-ghost use Rattle.smk_session.specs.Opened.{AreOpened, IsStartFault, fault_in, opened, workbook_image};
+ghost use Rattle.smk_session.specs.{Openings.{CanOpen, OpensAs, faults_of, views_of}, Opened.{AreOpened, IsStartFault, fault_in, opened, workbook_image}};
 
 use crate::start::abreast::{share_of, views_at_once};
 use crate::start::fault::StartFault;

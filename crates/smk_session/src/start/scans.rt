@@ -1,10 +1,7 @@
 // Which views scan a table.
 ghost use Rattle.std.specs.Prelude.{◌≡◌, ◌<◌, length};
-ghost use Rattle.smk_base.specs.CatalogImage.{catalog_image};
-ghost use Rattle.smk_base.specs.PlanImage.{expr_of};
-ghost use Rattle.smk_base.specs.Places.{has};
-ghost use Rattle.smk_model.specs.Appends.{scans};
-ghost use Rattle.smk_model.specs.Plain.{leaves};
+ghost use Rattle.smk_base.specs.{CatalogImage.catalog_image, PlanImage.expr_of, Places.has};
+ghost use Rattle.smk_model.specs.{Appends.scans, Plain.leaves};
 
 use crate::start::opening::view_of;
 use smk_base::Plan;

@@ -1,7 +1,5 @@
-ghost use Rattle.std.specs.Prelude.{◌≡◌, ◌+◌, ◌≤◌, [], length, Ok, IfOk, OnOk};
-ghost use Rattle.std.specs.List.{list_any};
-ghost use Rattle.smk_base.specs.declared.book.catalog.BackExtra.TheVariants.{Grouped};
-ghost use Rattle.smk_base.specs.declared.rel.TheConstants.{COLUMN_LIMIT};
+ghost use Rattle.std.specs.{Prelude.{◌≡◌, ◌+◌, ◌≤◌, [], length, Ok, IfOk, OnOk}, List.list_any};
+ghost use Rattle.smk_base.specs.{declared.book.catalog.BackExtra.TheVariants.Grouped, declared.rel.TheConstants.COLUMN_LIMIT};
 ghost use Rattle.smk_model.specs.Names.{in_turn, same_name, names_of, column_kinds};
 ghost use Rattle.smk_model.specs.Typing as typing;
 ghost use Rattle.smk_typing.specs.Answers.{Finds};

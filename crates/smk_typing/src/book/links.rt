@@ -1,10 +1,7 @@
 ghost use Rattle.std.specs.Prelude.{◌≡◌, ◌++◌, [], map, IfOk, OnOk};
-ghost use Rattle.smk_model.specs.Names.{in_turn};
+ghost use Rattle.smk_model.specs.{Names.in_turn, Typing.{all_links, linked_to}};
 ghost use Rattle.smk_model.specs.Typing as typing;
-ghost use Rattle.smk_model.specs.Typing.{all_links, linked_to};
-ghost use Rattle.smk_typing.specs.Answers.{Finds};
-ghost use Rattle.smk_typing.specs.Drafts.{over, links_after};
-ghost use Rattle.smk_typing.specs.Keys.{link_key};
+ghost use Rattle.smk_typing.specs.{Answers.Finds, Drafts.{over, links_after}, Keys.link_key};
 
 use crate::draft::indexed::Indexed;
 use crate::draft::view_by_word;

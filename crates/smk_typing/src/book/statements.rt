@@ -1,17 +1,9 @@
 ghost use Rattle.std.specs.Prelude.{◌≡◌, ◌+◌, ◌<◌, ◌≤◌, [], length, IfOk, Ok};
-ghost use Rattle.smk_base.specs.CatalogImage.{view_image};
-ghost use Rattle.smk_base.specs.PlanImage.{expr_of};
-ghost use Rattle.smk_base.specs.TreeImage.{stmt_image, tree_image};
-ghost use Rattle.smk_base.specs.declared.book.limits.TheConstants.{TABLE_LIMIT, VIEW_LIMIT};
-ghost use Rattle.smk_base.specs.declared.rel.TheConstants.{COLUMN_LIMIT};
-ghost use Rattle.smk_model.specs.Expanded.{IsNoDependency};
-ghost use Rattle.smk_model.specs.Limits.{KeepsStmt, KeepsTree, is_table, is_view};
-ghost use Rattle.smk_model.specs.Names.{in_turn, names_of, column_kinds};
+ghost use Rattle.smk_base.specs.{CatalogImage.view_image, PlanImage.expr_of, TreeImage.{stmt_image, tree_image}, declared.book.limits.TheConstants.{TABLE_LIMIT, VIEW_LIMIT}, declared.rel.TheConstants.COLUMN_LIMIT};
+ghost use Rattle.smk_model.specs.{Expanded.IsNoDependency, Limits.{KeepsStmt, KeepsTree, is_table, is_view}, Names.{in_turn, names_of, column_kinds}};
 ghost use Rattle.smk_model.specs.Typing as typing;
-ghost use Rattle.smk_typing.specs.Answers.{Finds};
-ghost use Rattle.smk_typing.specs.Drafts.{draft_image};
+ghost use Rattle.smk_typing.specs.{Answers.Finds, Drafts.draft_image, Rest.one_if};
 ghost use Rattle.smk_typing.specs.Drafts as drafts;
-ghost use Rattle.smk_typing.specs.Rest.{one_if};
 
 use crate::book::declared::{declared, names_and_kinds, typed_extra};
 use crate::book::links::Links;

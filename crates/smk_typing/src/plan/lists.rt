@@ -1,8 +1,7 @@
 ghost use Rattle.std.specs.Prelude.{◌≡◌, ◌≤◌, ◌+◌, [], length, OnOk, IfOk};
 ghost use Rattle.smk_model.specs.Names.{in_turn};
 ghost use Rattle.smk_model.specs.TypedSteps as steps;
-ghost use Rattle.smk_typing.specs.Answers.{Finds};
-ghost use Rattle.smk_typing.specs.Images.{group_of, part_after};
+ghost use Rattle.smk_typing.specs.{Answers.Finds, Images.{group_of, part_after}};
 
 use crate::plan::columns::{column_named, has_column, is_same_sort};
 use crate::plan::typed::TypedGrouping;

@@ -1,9 +1,5 @@
 ghost use Rattle.std.specs.Prelude.{◌≤◌, cond, length, Ok};
-ghost use Rattle.smk_base.specs.PlanImage.{formula_of};
-ghost use Rattle.smk_base.specs.Plans.{Conjunction, Disjunction};
-ghost use Rattle.smk_base.specs.TreeImage.{pred_image};
-ghost use Rattle.smk_base.specs.Trees.{CompareNode};
-ghost use Rattle.smk_base.specs.declared.rel.TheConstants.{COLUMN_LIMIT};
+ghost use Rattle.smk_base.specs.{PlanImage.formula_of, Plans.{Conjunction, Disjunction}, TreeImage.pred_image, Trees.CompareNode, declared.rel.TheConstants.COLUMN_LIMIT};
 ghost use Rattle.smk_model.specs.TypedSteps as steps;
 ghost use Rattle.smk_typing.specs.Answers.{Finds};
 

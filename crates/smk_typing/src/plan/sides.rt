@@ -1,8 +1,6 @@
-ghost use Rattle.std.specs.Prelude.{◌≡◌, ◌≤◌, ◌++◌, length, map, IfOk, OnOk, Ok};
-ghost use Rattle.std.specs.List.{list_any, list_all, zip};
-ghost use Rattle.smk_model.specs.Names.{same_sort};
+ghost use Rattle.std.specs.{Prelude.{◌≡◌, ◌≤◌, ◌++◌, length, map, IfOk, OnOk, Ok}, List.{list_all, zip}};
+ghost use Rattle.smk_model.specs.{Names.same_sort, TypedSteps.united_column};
 ghost use Rattle.smk_model.specs.TypedSteps as steps;
-ghost use Rattle.smk_model.specs.TypedSteps.{united_column};
 ghost use Rattle.smk_typing.specs.Answers.{Finds};
 
 use crate::plan::columns::{has_column, is_same_sort};

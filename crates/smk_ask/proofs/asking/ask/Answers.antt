@@ -1,7 +1,6 @@
 use Rattle.std.proofs.Common.{◌≡◌, ◌∙◌, Result, Ok, Err, ap, subst, sym}
 use Rattle.std.specs.Prelude.{IfOk}
-use Rattle.smk_base.specs.CatalogImage.{catalog_image}
-use Rattle.smk_base.specs.TreeImage.{ask_image}
+use Rattle.smk_base.specs.{CatalogImage.catalog_image, TreeImage.ask_image}
 use Rattle.smk_model.specs.Catalogs.{IsCatalog}
 use Rattle.smk_model.proofs.AsksFit.{asked_backs_fit, asks_fit}
 use Rattle.smk_session.specs.Sessions.{SessionImage, state_of}

@@ -1,8 +1,5 @@
-use Rattle.std.proofs.Common.{◌≡◌, ◌+◌, ◌*◌, drop, get_or, sym, ◌∙◌, arith}
-use Rattle.std.proofs.lemmas.List.{at_drop_more}
-use Rattle.std.specs.Char.{digit_value}
-use Rattle.std.specs.Str.Parse.{digits_value, digits_value_after}
-use Rattle.std.proofs.lemmas.Grind.{common_steps}
+use Rattle.std.proofs.{Common.{◌≡◌, ◌+◌, ◌*◌, drop, get_or, sym, ◌∙◌, arith}, lemmas.List.at_drop_more, lemmas.Grind.common_steps}
+use Rattle.std.specs.{Char.digit_value, Str.Parse.{digits_value, digits_value_after}}
 use Rattle.smk_base.proofs.IntNumerals.{le-digits_value_after}
 use Rattle.smk_base.proofs.read.read_digits.Goals as goal
 

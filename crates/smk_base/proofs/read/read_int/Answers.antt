@@ -1,5 +1,4 @@
-use Rattle.std.proofs.Common.{◌≡◌, ◌∙◌, sym, ap, Some, to_z, of_z, w64}
-use Rattle.std.proofs.Math.Facts.{to_z-of_z}
+use Rattle.std.proofs.{Common.{◌≡◌, ◌∙◌, sym, ap, Some, to_z, of_z, w64}, Math.Facts.to_z-of_z}
 use Rattle.smk_base.proofs.IntNumerals.{int_of-numeral, IsIntText-int_of, some_says, none_says}
 use Rattle.smk_base.proofs.read.read_int.Goals as goal
 

@@ -1,5 +1,4 @@
-use Rattle.std.proofs.Common.{arith}
-use Rattle.std.proofs.lemmas.Grind.{common_steps}
+use Rattle.std.proofs.{Common.arith, lemmas.Grind.common_steps}
 use Rattle.smk_base.proofs.read.without_mark.Goals as goal
 
 pub loop-rest-preserved : goal.loop-rest-preserved

@@ -1,5 +1,4 @@
-use Rattle.std.proofs.Common.{arith, ◌∙◌, ◌+◌, ℕ, ap}
-use Rattle.std.proofs.lemmas.Grind.{common_steps}
+use Rattle.std.proofs.{Common.{arith, ◌∙◌, ◌+◌, ℕ, ap}, lemmas.Grind.common_steps}
 use Rattle.smk_base.specs.Cells.{value_of_cell}
 use Rattle.smk_base.proofs.Loops.{images_next}
 use Rattle.smk_base.proofs.rel.cells_of.Goals as goal

@@ -1,7 +1,5 @@
 use Rattle.std.proofs.Common.{◌∙◌, ap}
-use Rattle.smk_base.specs.PlanImage.{expr_of, unary_of}
-use Rattle.smk_base.specs.Plans.{Apply}
-use Rattle.smk_base.specs.declared.book.plan.Op1.{Op1}
+use Rattle.smk_base.specs.{PlanImage.{expr_of, unary_of}, Plans.Apply, declared.book.plan.Op1.Op1}
 use Rattle.smk_chain.proofs.chains.grouping_of.Goals as goal
 
 pub returns-in-Group : goal.returns-in-Group

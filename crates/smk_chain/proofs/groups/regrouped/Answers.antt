@@ -1,12 +1,6 @@
-use Rattle.std.proofs.Common.{◌≡◌, ◌∙◌, ℕ, List, length, map, sym, ap, subst, arith, All}
-use Rattle.std.proofs.lemmas.List.{length-append, length-map}
-use Rattle.smk_base.specs.Places.{upto}
-use Rattle.smk_base.specs.Plans.{Grouping}
-use Rattle.smk_base.specs.Rels.{RowFits, kind_in}
-use Rattle.smk_base.specs.declared.book.plan.Agg.{Agg}
-use Rattle.smk_base.specs.declared.value.Kind.{Kind}
-use Rattle.smk_model.specs.Plain.{step1}
-use Rattle.smk_model.specs.Kinds.{kind_of_agg}
+use Rattle.std.proofs.{Common.{◌≡◌, ◌∙◌, ℕ, List, length, map, sym, ap, subst, arith, All}, lemmas.List.{length-append, length-map}}
+use Rattle.smk_base.specs.{Places.upto, Plans.Grouping, Rels.{RowFits, kind_in}, declared.book.plan.Agg.Agg, declared.value.Kind.Kind}
+use Rattle.smk_model.specs.{Plain.step1, Kinds.kind_of_agg}
 use Rattle.smk_base.proofs.Places.{length_upto}
 use Rattle.smk_body.proofs.Besides.{related}
 use Rattle.smk_chain.specs.Runs.{joint_groups}

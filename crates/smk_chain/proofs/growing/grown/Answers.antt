@@ -1,8 +1,7 @@
 use Rattle.std.proofs.Common.{◌≡◌, length, subst, IfOk}
 use Rattle.smk_base.specs.PlanImage.{expr_of}
 use Rattle.smk_compose.specs.declared.kept_maps.Run.{Run}
-use Rattle.smk_chain.proofs.Joining.{scans_below}
-use Rattle.smk_chain.proofs.Running.{runs_of, chain_joins, chain_gives, group_goals}
+use Rattle.smk_chain.proofs.{Joining.scans_below, Running.{runs_of, chain_joins, chain_gives, group_goals}}
 use Rattle.smk_chain.proofs.growing.grown.Goals as goal
 
 pub bounds-tables-scanned : goal.bounds-tables-scanned

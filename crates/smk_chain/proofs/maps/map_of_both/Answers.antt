@@ -1,11 +1,7 @@
-use Rattle.std.proofs.Common.{arith, ◌≡◌, ◌∙◌, ◌<◌, ℕ, List, false, nat_eq, [], length, get_or, ap, sym, refl, subst, inl, inr, IfOk}
-use Rattle.std.proofs.lemmas.Bool.{cases_Bool, eq-eqb, eqb-true}
-use Rattle.std.proofs.lemmas.List.{get_or-map, get_or_default}
+use Rattle.std.proofs.{Common.{arith, ◌≡◌, ◌∙◌, ◌<◌, ℕ, List, false, nat_eq, [], length, get_or, ap, sym, refl, subst, inl, inr, IfOk}, lemmas.Bool.{cases_Bool, eq-eqb, eqb-true}, lemmas.List.{get_or-map, get_or_default}}
 use Rattle.smk_base.specs.Rels.{Relation}
-use Rattle.smk_model.specs.Selection.{each_rows}
-use Rattle.smk_model.specs.Composed.{table_at}
-use Rattle.smk_compose.specs.declared.kept_maps.KeptMap.{KeptMap}
-use Rattle.smk_compose.specs.Through.{map_at, no_map, no_need}
+use Rattle.smk_model.specs.{Selection.each_rows, Composed.table_at}
+use Rattle.smk_compose.specs.{declared.kept_maps.KeptMap.KeptMap, Through.{map_at, no_map, no_need}}
 use Rattle.smk_chain.specs.Parts.{both_maps, joint_map_at}
 use Rattle.smk_chain.proofs.maps.map_of_both.Goals as goal
 

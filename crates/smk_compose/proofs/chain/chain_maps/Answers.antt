@@ -1,5 +1,4 @@
-use Rattle.std.proofs.Common.{arith}
-use Rattle.std.proofs.lemmas.Grind.{common_steps}
+use Rattle.std.proofs.{Common.arith, lemmas.Grind.common_steps}
 use Rattle.smk_compose.proofs.Owns.{composed_own, own_composed}
 use Rattle.smk_compose.proofs.chain.chain_maps.Goals as goal
 

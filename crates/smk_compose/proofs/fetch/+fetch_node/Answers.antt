@@ -1,5 +1,4 @@
-use Rattle.std.proofs.Common.{arith}
-use Rattle.std.proofs.lemmas.Grind.{common_steps}
+use Rattle.std.proofs.{Common.arith, lemmas.Grind.common_steps}
 use Rattle.smk_compose.proofs.Lists.{map_two, rows_two}
 use Rattle.smk_compose.proofs.fetch.+fetch_node.Goals as goal
 

@@ -1,8 +1,6 @@
-use Rattle.std.proofs.Common.{◌≡◌, ◌∙◌, ◌<◌, ℕ, List, Some, All, length, nat_eq, sym, ap, subst, eqb-true, arith}
+use Rattle.std.proofs.{Common.{◌≡◌, ◌∙◌, ◌<◌, ℕ, List, Some, All, length, nat_eq, sym, ap, subst, eqb-true, arith}, lemmas.Grind.common_steps}
 use Rattle.std.specs.List.{find}
-use Rattle.std.proofs.lemmas.Grind.{common_steps}
-use Rattle.smk_base.specs.declared.list.table_rids.Pick.{Pick}
-use Rattle.smk_base.specs.Picks.{IsAscending}
+use Rattle.smk_base.specs.{declared.list.table_rids.Pick.Pick, Picks.IsAscending}
 use Rattle.smk_model.specs.Selection.{PickFits, each_rows}
 use Rattle.smk_compose.proofs.Lists.{found, found_passes, rids_inside, leaf_found, leaf_whole, leaf_rows}
 use Rattle.smk_compose.proofs.fetch.fetch_leaf.Goals as goal

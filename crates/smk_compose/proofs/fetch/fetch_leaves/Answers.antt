@@ -1,5 +1,4 @@
-use Rattle.std.proofs.Common.{arith}
-use Rattle.std.proofs.lemmas.Grind.{common_steps}
+use Rattle.std.proofs.{Common.arith, lemmas.Grind.common_steps}
 use Rattle.smk_compose.proofs.Lists.{over_rows, over_kinds, over_long}
 use Rattle.smk_compose.proofs.fetch.fetch_leaves.Goals as goal
 

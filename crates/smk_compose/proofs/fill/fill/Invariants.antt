@@ -1,6 +1,5 @@
 use Rattle.std.proofs.Common.{◌≡◌, ◌<◌, ◌≤◌, ℕ, length, slice_index_or}
-use Rattle.smk_model.specs.Selection.{each_rows}
-use Rattle.smk_model.specs.Composed.{table_at}
+use Rattle.smk_model.specs.{Selection.each_rows, Composed.table_at}
 use Rattle.smk_compose.specs.Through.{filled, map_at, no_need}
 use Rattle.smk_compose.proofs.fill.fill.Given as goal
 

@@ -1,10 +1,6 @@
-use Rattle.std.proofs.Common.{◌≡◌, ◌∙◌, ◌<◌, ◌+◌, length, drop, slice_set, sym, ap, arith}
-use Rattle.std.proofs.lemmas.List.{length-set, get_or_default}
-use Rattle.smk_compose.specs.Through.{together, together_all, has_heavy, map_at, no_map}
-use Rattle.smk_compose.specs.declared.kept_maps.KeptMap.{KeptMap}
-use Rattle.smk_compose.proofs.Finds.{heavy_here, light_next, made_next, none_heavy, all_made}
-use Rattle.smk_compose.proofs.Togethers.{together_long}
-use Rattle.smk_compose.proofs.Aheads.{ahead_meets, ahead_next, meet_here, set_behind}
+use Rattle.std.proofs.{Common.{◌≡◌, ◌∙◌, ◌<◌, ◌+◌, length, drop, slice_set, sym, ap, arith}, lemmas.List.{length-set, get_or_default}}
+use Rattle.smk_compose.specs.{Through.{together, together_all, has_heavy, map_at, no_map}, declared.kept_maps.KeptMap.KeptMap}
+use Rattle.smk_compose.proofs.{Finds.{heavy_here, light_next, made_next, none_heavy, all_made}, Togethers.together_long, Aheads.{ahead_meets, ahead_next, meet_here, set_behind}}
 use Rattle.smk_compose.proofs.pass.meet_all.Goals as goal
 
 pub meet_at-requires-clause-meets : goal.meet_at-requires-clause-meets

@@ -1,6 +1,4 @@
-use Rattle.std.proofs.Common.{◌∙◌, sym, arith}
-use Rattle.std.proofs.lemmas.Result.{err_from_is_err_and, on_ok_weaker}
-use Rattle.std.proofs.lemmas.Grind.{common_steps}
+use Rattle.std.proofs.{Common.{◌∙◌, sym, arith}, lemmas.Result.{err_from_is_err_and, on_ok_weaker}, lemmas.Grind.common_steps}
 use Rattle.smk_compose.specs.Through.{through, map_at}
 use Rattle.smk_compose.proofs.Chains.{left_heavy_maps, right_heavy_maps, met_at}
 use Rattle.smk_compose.proofs.pass.meet_at.Goals as goal

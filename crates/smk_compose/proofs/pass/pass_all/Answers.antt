@@ -1,10 +1,6 @@
-use Rattle.std.proofs.Common.{◌≡◌, ◌∙◌, ◌<◌, ◌+◌, length, map, drop, slice_set, sym, ap, arith}
-use Rattle.std.proofs.lemmas.List.{length-map, length-set, get_or_default}
-use Rattle.std.proofs.lemmas.Grind.{common_steps}
-use Rattle.smk_compose.specs.Through.{through, has_heavy, map_at, no_map}
-use Rattle.smk_compose.specs.declared.kept_maps.KeptMap.{KeptMap}
-use Rattle.smk_compose.proofs.Finds.{heavy_here, light_next, made_next}
-use Rattle.smk_compose.proofs.Aheads.{ahead_passes, ahead_next, pass_here, set_behind}
+use Rattle.std.proofs.{Common.{◌≡◌, ◌∙◌, ◌<◌, ◌+◌, length, map, drop, slice_set, sym, ap, arith}, lemmas.List.{length-map, length-set, get_or_default}, lemmas.Grind.common_steps}
+use Rattle.smk_compose.specs.{Through.{through, has_heavy, map_at, no_map}, declared.kept_maps.KeptMap.KeptMap}
+use Rattle.smk_compose.proofs.{Finds.{heavy_here, light_next, made_next}, Aheads.{ahead_passes, ahead_next, pass_here, set_behind}}
 use Rattle.smk_compose.proofs.pass.pass_all.Goals as goal
 
 pub pass_at-requires-clause-passes : goal.pass_at-requires-clause-passes

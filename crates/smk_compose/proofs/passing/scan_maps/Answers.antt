@@ -1,5 +1,4 @@
-use Rattle.std.proofs.Common.{arith}
-use Rattle.std.proofs.lemmas.Grind.{common_steps}
+use Rattle.std.proofs.{Common.arith, lemmas.Grind.common_steps}
 use Rattle.smk_compose.proofs.passing.scan_maps.Goals as goal
 
 pub loop-n-preserved : goal.loop-n-preserved

@@ -1,19 +1,8 @@
-use Rattle.std.proofs.Common.{◌≡◌, ◌∙◌, ◌<◌, ℕ, List, length, map, get_or, Option, sym, ap, subst, arith}
-use Rattle.std.proofs.lemmas.Result.{err_from_is_err_and}
-use Rattle.smk_base.specs.PlanImage.{expr_of}
-use Rattle.smk_base.specs.Rels.{Relation}
-use Rattle.smk_base.specs.declared.book.need.Needed.{Needed}
-use Rattle.smk_model.specs.Values.{Row}
-use Rattle.smk_model.specs.Plain.{eval, whole}
-use Rattle.smk_model.specs.Composed.{table_at, rows_over}
-use Rattle.smk_model.specs.Selection.{each_rows, plan_kinds, PlanFits}
-use Rattle.smk_model.specs.NodeFaults.{NodeFault, first_fault_from, first_fault, asked_of}
-use Rattle.smk_compose.specs.KeptMaps.{held_at}
-use Rattle.smk_compose.specs.Through.{IsFirst, filled, map_at, no_need}
-use Rattle.smk_compose.specs.declared.fault.RunFault.{RunFault}
-use Rattle.smk_compose.specs.Walk.{AreDirected}
-use Rattle.smk_compose.proofs.Bridge.{kept_whole}
-use Rattle.smk_compose.proofs.Walks.{whole_leaves, whole_long}
+use Rattle.std.proofs.{Common.{◌≡◌, ◌∙◌, ◌<◌, ℕ, List, length, map, get_or, Option, sym, ap, subst, arith}, lemmas.Result.err_from_is_err_and}
+use Rattle.smk_base.specs.{PlanImage.expr_of, Rels.Relation, declared.book.need.Needed.Needed}
+use Rattle.smk_model.specs.{Values.Row, Plain.{eval, whole}, Composed.{table_at, rows_over}, Selection.{each_rows, plan_kinds, PlanFits}, NodeFaults.{NodeFault, first_fault_from, first_fault, asked_of}}
+use Rattle.smk_compose.specs.{KeptMaps.held_at, Through.{IsFirst, filled, map_at, no_need}, declared.fault.RunFault.RunFault, Walk.AreDirected}
+use Rattle.smk_compose.proofs.{Bridge.kept_whole, Walks.{whole_leaves, whole_long}}
 use Rattle.smk_compose.proofs.run.run_leaves.Goals as goal
 
 pub walk_all-requires-clause-enough : goal.walk_all-requires-clause-enough

@@ -1,10 +1,7 @@
-use Rattle.std.proofs.Common.{◌≡◌, ◌∙◌, List, map, sym, ap, subst, arith, Option}
-use Rattle.std.proofs.lemmas.Grind.{common_steps}
+use Rattle.std.proofs.{Common.{◌≡◌, ◌∙◌, List, map, sym, ap, subst, arith, Option}, lemmas.Grind.common_steps}
 use Rattle.smk_base.specs.PlanImage.{unary_of}
-use Rattle.smk_model.specs.Plain.{step1}
-use Rattle.smk_model.specs.NodeFaults.{NodeFault}
-use Rattle.smk_compose.specs.Through.{through, side1, pairs_fault, IsFirst, want_of}
-use Rattle.smk_compose.specs.declared.kept_maps.KeptMap.{KeptMap}
+use Rattle.smk_model.specs.{Plain.step1, NodeFaults.NodeFault}
+use Rattle.smk_compose.specs.{Through.{through, side1, pairs_fault, IsFirst, want_of}, declared.kept_maps.KeptMap.KeptMap}
 use Rattle.smk_compose.proofs.Wants.{one_maps, few_fault, one_few}
 use Rattle.smk_compose.proofs.step.run_one.Goals as goal
 

@@ -1,12 +1,8 @@
-use Rattle.std.proofs.Common.{◌≡◌, ◌∙◌, List, Option, sym, ap, subst, arith}
-use Rattle.std.proofs.lemmas.Grind.{common_steps}
+use Rattle.std.proofs.{Common.{◌≡◌, ◌∙◌, List, Option, sym, ap, subst, arith}, lemmas.Grind.common_steps}
 use Rattle.smk_base.specs.PlanImage.{binary_of}
-use Rattle.smk_model.specs.Plain.{step2}
-use Rattle.smk_model.specs.NodeFaults.{NodeFault}
-use Rattle.smk_compose.specs.Through.{together_all, side_left, side_right, right_of, want_of, pairs_fault, IsFirst}
-use Rattle.smk_compose.specs.declared.kept_maps.KeptMap.{KeptMap}
-use Rattle.smk_compose.proofs.Wants.{few_fault}
-use Rattle.smk_compose.proofs.Togethers.{two_maps, lists_same}
+use Rattle.smk_model.specs.{Plain.step2, NodeFaults.NodeFault}
+use Rattle.smk_compose.specs.{Through.{together_all, side_left, side_right, right_of, want_of, pairs_fault, IsFirst}, declared.kept_maps.KeptMap.KeptMap}
+use Rattle.smk_compose.proofs.{Wants.few_fault, Togethers.{two_maps, lists_same}}
 use Rattle.smk_compose.proofs.step.run_two.Goals as goal
 
 pub returns-in_ok-at_columns-in-Ok-met-clause-kept : goal.returns-in_ok-at_columns-in-Ok-met-clause-kept

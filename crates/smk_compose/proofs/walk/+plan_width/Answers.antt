@@ -1,14 +1,8 @@
-use Rattle.std.proofs.Common.{◌≡◌, ◌∙◌, List, drop, sym, ap, subst}
-use Rattle.std.proofs.lemmas.List.{drop-drop}
-use Rattle.smk_base.specs.PlanImage.{binary_of, expr_of, unary_of}
-use Rattle.smk_base.specs.Plans.{Expr, Apply, Combine}
-use Rattle.smk_base.specs.declared.value.Kind.{Kind}
-use Rattle.smk_model.specs.Values.{Row}
-use Rattle.smk_model.specs.Plain.{width}
-use Rattle.smk_model.specs.Selection.{each_kinds, each_rows}
+use Rattle.std.proofs.{Common.{◌≡◌, ◌∙◌, List, drop, sym, ap, subst}, lemmas.List.drop-drop}
+use Rattle.smk_base.specs.{PlanImage.{binary_of, expr_of, unary_of}, Plans.{Expr, Apply, Combine}, declared.value.Kind.Kind}
+use Rattle.smk_model.specs.{Values.Row, Plain.width, Selection.{each_kinds, each_rows}}
 use Rattle.smk_compose.specs.Walk.{IsWidth}
-use Rattle.smk_compose.proofs.Walks.{combine_same}
-use Rattle.smk_compose.proofs.Wide.{one_width, two_width}
+use Rattle.smk_compose.proofs.{Walks.combine_same, Wide.{one_width, two_width}}
 use Rattle.smk_compose.proofs.walk.+plan_width.Goals as goal
 
 pub returns-in-Scan-clause-is : goal.returns-in-Scan-clause-is

@@ -1,15 +1,8 @@
-use Rattle.std.proofs.Common.{◌≡◌, ◌∙◌, ◌+◌, ◌<◌, ℕ, List, All, Option, sym, ap, subst, arith}
-use Rattle.std.proofs.lemmas.Result.{err_from_is_err_and}
-use Rattle.smk_base.specs.PlanImage.{binary_of, expr_of, unary_of}
-use Rattle.smk_base.specs.Plans.{Expr, Apply, Combine}
-use Rattle.smk_model.specs.Plain.{width}
-use Rattle.smk_model.specs.Selection.{each_rows, each_kinds, nodes, PlanFits}
-use Rattle.smk_model.specs.NodeFaults.{NodeFault, asked_of, last_node_fault, first_fault_from}
-use Rattle.smk_compose.specs.Through.{IsFirst}
-use Rattle.smk_compose.specs.Walk.{WholeWhereNeeded}
-use Rattle.smk_compose.specs.declared.fault.RunFault.{RunFault}
-use Rattle.smk_compose.proofs.Bridge.{whole_left}
-use Rattle.smk_compose.proofs.Walks.{IsOne, IsTwo, leaf_walked, is_one, one_passes, one_walked, one_fault, is_two, two_meet, two_walked, two_fault, combine_same, fits_right, needed_right, width_right, fault_right, first_of_right}
+use Rattle.std.proofs.{Common.{◌≡◌, ◌∙◌, ◌+◌, ◌<◌, ℕ, List, All, Option, sym, ap, subst, arith}, lemmas.Result.err_from_is_err_and}
+use Rattle.smk_base.specs.{PlanImage.{binary_of, expr_of, unary_of}, Plans.{Expr, Apply, Combine}}
+use Rattle.smk_model.specs.{Plain.width, Selection.{each_rows, each_kinds, nodes, PlanFits}, NodeFaults.{NodeFault, asked_of, last_node_fault, first_fault_from}}
+use Rattle.smk_compose.specs.{Through.IsFirst, Walk.WholeWhereNeeded, declared.fault.RunFault.RunFault}
+use Rattle.smk_compose.proofs.{Bridge.whole_left, Walks.{IsOne, IsTwo, leaf_walked, is_one, one_passes, one_walked, one_fault, is_two, two_meet, two_walked, two_fault, combine_same, fits_right, needed_right, width_right, fault_right, first_of_right}}
 use Rattle.smk_compose.proofs.walk.+walk.Given as given
 use Rattle.smk_compose.proofs.walk.+walk.Goals as goal
 

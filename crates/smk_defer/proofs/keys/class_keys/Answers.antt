@@ -1,7 +1,6 @@
 use Rattle.std.proofs.Common.{◌≡◌, ◌∙◌, map, ap, arith}
 use Rattle.smk_keys.specs.Classes.{ClassesImage}
-use Rattle.smk_model.specs.Plain.{firsts, key_of}
-use Rattle.smk_model.specs.Classes.{first_places}
+use Rattle.smk_model.specs.{Plain.{firsts, key_of}, Classes.first_places}
 use Rattle.smk_defer.proofs.Keyed.{firsts_twice, keys_first, firsts_within, firsts_few}
 use Rattle.smk_defer.proofs.keys.class_keys.Goals as goal
 

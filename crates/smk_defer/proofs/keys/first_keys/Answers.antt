@@ -1,9 +1,6 @@
-use Rattle.std.proofs.Common.{◌<◌, ◌∙◌, List, length, map, ap, arith, refl}
-use Rattle.std.proofs.lemmas.List.Elements.{All-weaker}
-use Rattle.smk_base.specs.Places.{upto}
-use Rattle.smk_base.specs.Rels.{picked}
-use Rattle.smk_model.specs.Values.{Row}
-use Rattle.smk_model.specs.Plain.{firsts}
+use Rattle.std.proofs.{Common.{◌<◌, ◌∙◌, List, length, map, ap, arith, refl}, lemmas.List.Elements.All-weaker}
+use Rattle.smk_base.specs.{Places.upto, Rels.picked}
+use Rattle.smk_model.specs.{Values.Row, Plain.firsts}
 use Rattle.smk_base.proofs.Places.{length_upto, upto_below}
 use Rattle.smk_defer.proofs.Keyed.{all_rows}
 use Rattle.smk_defer.proofs.keys.first_keys.Goals as goal

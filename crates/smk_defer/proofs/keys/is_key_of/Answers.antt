@@ -1,5 +1,4 @@
-use Rattle.std.proofs.Common.{arith}
-use Rattle.std.proofs.lemmas.Grind.{common_steps}
+use Rattle.std.proofs.{Common.arith, lemmas.Grind.common_steps}
 use Rattle.smk_defer.proofs.keys.is_key_of.Goals as goal
 
 pub loop-k-preserved : goal.loop-k-preserved

@@ -1,8 +1,6 @@
-use Rattle.std.proofs.Common.{◌≡◌, ◌∙◌, ◌++◌, ◌∷◌, [], ℕ, List, map, sym, ap, arith, get_or}
-use Rattle.std.proofs.lemmas.List.{get_or_read, map_more, take_all}
+use Rattle.std.proofs.{Common.{◌≡◌, ◌∙◌, ◌++◌, ◌∷◌, [], ℕ, List, map, sym, ap, arith, get_or}, lemmas.List.{get_or_read, map_more, take_all}}
 use Rattle.smk_keys.specs.Classes.{ClassesImage}
-use Rattle.smk_model.specs.Plain.{firsts, key_of}
-use Rattle.smk_model.specs.Classes.{places_in, classes}
+use Rattle.smk_model.specs.{Plain.{firsts, key_of}, Classes.{places_in, classes}}
 use Rattle.smk_defer.proofs.Keyed.{keys_first, firsts_within, firsts_few, by_class, class_within}
 use Rattle.smk_defer.proofs.keys.key_places.Goals as goal
 

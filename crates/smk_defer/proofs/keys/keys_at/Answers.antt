@@ -1,6 +1,4 @@
-use Rattle.std.proofs.Common.{◌≤◌, length, map, take, ap, arith}
-use Rattle.std.proofs.lemmas.List.{length-map, length-take-le}
-use Rattle.std.proofs.lemmas.Grind.{common_steps}
+use Rattle.std.proofs.{Common.{◌≤◌, length, map, take, ap, arith}, lemmas.List.{length-map, length-take-le}, lemmas.Grind.common_steps}
 use Rattle.smk_base.specs.Rels.{picked, row_in, rows_at}
 use Rattle.smk_model.proofs.Sizes.{firsts_short}
 use Rattle.smk_defer.proofs.keys.keys_at.Goals as goal

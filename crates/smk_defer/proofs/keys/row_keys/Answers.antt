@@ -1,7 +1,6 @@
 use Rattle.std.proofs.Common.{◌≡◌, IfOk, List, ap, subst}
 use Rattle.smk_base.specs.Places.{upto}
-use Rattle.smk_model.specs.Values.{Row}
-use Rattle.smk_model.specs.Plain.{firsts}
+use Rattle.smk_model.specs.{Values.Row, Plain.firsts}
 use Rattle.smk_defer.proofs.Keyed.{whole_rows}
 use Rattle.smk_defer.proofs.keys.row_keys.Goals as goal
 

@@ -1,5 +1,4 @@
-use Rattle.std.proofs.Common.{arith}
-use Rattle.std.proofs.lemmas.Grind.{common_steps}
+use Rattle.std.proofs.{Common.arith, lemmas.Grind.common_steps}
 use Rattle.smk_demo.proofs.Records.{flight_parts}
 use Rattle.smk_demo.proofs.tables.add_flight.Goals as goal
 

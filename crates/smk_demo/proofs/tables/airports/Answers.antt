@@ -1,8 +1,6 @@
 use Rattle.std.proofs.Common.{◌∙◌, ◌++◌, ap, sym, codes}
-use Rattle.smk_model.specs.Texts.{record_line}
-use Rattle.smk_model.specs.Demo.{airport, airport_header}
-use Rattle.smk_demo.proofs.DemoTexts.{airport_header_line}
-use Rattle.smk_demo.proofs.Records.{records_more}
+use Rattle.smk_model.specs.{Texts.record_line, Demo.{airport, airport_header}}
+use Rattle.smk_demo.proofs.{DemoTexts.airport_header_line, Records.records_more}
 use Rattle.smk_demo.proofs.tables.airports.Goals as goal
 
 pub loop-i-init : goal.loop-i-init

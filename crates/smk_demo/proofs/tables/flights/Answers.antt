@@ -1,9 +1,6 @@
-use Rattle.std.proofs.Common.{◌∙◌, ◌++◌, ap, sym, codes, arith}
-use Rattle.std.proofs.lemmas.Grind.{common_steps}
-use Rattle.smk_model.specs.Texts.{record_line}
-use Rattle.smk_model.specs.Demo.{flight, flight_header}
-use Rattle.smk_demo.proofs.DemoTexts.{flight_header_line}
-use Rattle.smk_demo.proofs.Records.{records_more}
+use Rattle.std.proofs.{Common.{◌∙◌, ◌++◌, ap, sym, codes, arith}, lemmas.Grind.common_steps}
+use Rattle.smk_model.specs.{Texts.record_line, Demo.{flight, flight_header}}
+use Rattle.smk_demo.proofs.{DemoTexts.flight_header_line, Records.records_more}
 use Rattle.smk_demo.proofs.tables.flights.Goals as goal
 
 pub loop-i-init : goal.loop-i-init

@@ -1,13 +1,8 @@
 use Rattle.std.proofs.Common.{◌∙◌, ◌≤◌, ◌+◌, ap, length, arith}
-use Rattle.smk_base.specs.CatalogImage.{catalog_image}
-use Rattle.smk_base.specs.declared.book.catalog.Catalog.{Catalog}
-use Rattle.smk_base.specs.declared.book.catalog.ViewInfo.{ViewInfo}
+use Rattle.smk_base.specs.{CatalogImage.catalog_image, declared.book.catalog.Catalog.Catalog, declared.book.catalog.ViewInfo.ViewInfo}
 use Rattle.smk_session.proofs.Starts.{views_more}
-use Rattle.smk_grow.specs.Grown.{rows_of}
-use Rattle.smk_grow.specs.Renewals.{book_of}
-use Rattle.smk_grow.specs.Renewed.{apart_view, looks_apart}
-use Rattle.smk_grow.proofs.Folds.{looks_below, looks_upto}
-use Rattle.smk_grow.proofs.Kept.{views_count}
+use Rattle.smk_grow.specs.{Grown.rows_of, Renewals.book_of, Renewed.{apart_view, looks_apart}}
+use Rattle.smk_grow.proofs.{Folds.{looks_below, looks_upto}, Kept.views_count}
 use Rattle.smk_grow.proofs.apart.each_apart.Goals as goal
 
 pub returns-in_err-view_apart-clause-looks : goal.returns-in_err-view_apart-clause-looks

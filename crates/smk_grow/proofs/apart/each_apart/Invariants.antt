@@ -1,10 +1,7 @@
 use Rattle.std.proofs.Common.{◌≡◌, ◌≤◌, ◌+◌, map, length}
 use Rattle.std.specs.List.{sum_by}
-use Rattle.smk_base.specs.CatalogImage.{catalog_image}
-use Rattle.smk_base.specs.Places.{upto}
-use Rattle.smk_grow.specs.Grown.{rows_of}
-use Rattle.smk_grow.specs.Renewals.{book_of}
-use Rattle.smk_grow.specs.Renewed.{apart_view, looks_apart}
+use Rattle.smk_base.specs.{CatalogImage.catalog_image, Places.upto}
+use Rattle.smk_grow.specs.{Grown.rows_of, Renewals.book_of, Renewed.{apart_view, looks_apart}}
 use Rattle.smk_grow.proofs.apart.each_apart.Given as goal
 
 abbrev pub invariant-loop-v : goal.invariant-loop-v

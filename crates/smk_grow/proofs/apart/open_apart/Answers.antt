@@ -1,11 +1,9 @@
-use Rattle.std.proofs.Common.{◌≡◌, ◌∙◌, ◌<◌, List, ap, length, arith, sym}
-use Rattle.std.proofs.lemmas.List.{with_items_is}
+use Rattle.std.proofs.{Common.{◌≡◌, ◌∙◌, ◌<◌, List, ap, length, arith, sym}, lemmas.List.with_items_is}
 use Rattle.smk_base.specs.Rels.{Relation}
 use Rattle.smk_model.specs.Selection.{each_kinds}
 use Rattle.smk_compose.specs.Fetched.{table_of}
 use Rattle.smk_session.specs.Parts.{parts_image}
-use Rattle.smk_grow.proofs.Grown.{at_table, kinds_set, long_set, rows_set, set_back}
-use Rattle.smk_grow.proofs.Images.{with_tables}
+use Rattle.smk_grow.proofs.{Grown.{at_table, kinds_set, long_set, rows_set, set_back}, Images.with_tables}
 use Rattle.smk_grow.proofs.apart.open_apart.Goals as goal
 
 pub each_apart-views-requires-clause-renewal : goal.each_apart-views-requires-clause-renewal

@@ -2,8 +2,7 @@ use Rattle.std.proofs.Common.{◌≡◌, ◌∙◌, ◌≤◌, ◌<◌, ◌+◌,
 use Rattle.smk_base.specs.CatalogImage.{catalog_image}
 use Rattle.smk_model.specs.Appends.{append_looks_at}
 use Rattle.smk_compose.specs.Fetched.{table_of}
-use Rattle.smk_session.specs.Parts.{parts_image}
-use Rattle.smk_session.specs.Sessions.{IsSession, SessionImage, state_of, workbook_of}
+use Rattle.smk_session.specs.{Parts.parts_image, Sessions.{IsSession, SessionImage, state_of, workbook_of}}
 use Rattle.smk_grow.specs.Told.{told_text}
 use Rattle.smk_grow.proofs.Told.{kinds_at, table_below, told_keeps, told_state}
 use Rattle.smk_grow.proofs.appending.append_at.Goals as goal

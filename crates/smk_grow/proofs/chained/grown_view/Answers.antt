@@ -1,10 +1,8 @@
 use Rattle.std.proofs.Common.{◌<◌, ◌≤◌, ℕ, All, subst, sym}
-use Rattle.smk_base.specs.PlanImage.{expr_of}
-use Rattle.smk_base.specs.declared.book.need.Needed.{Needed}
+use Rattle.smk_base.specs.{PlanImage.expr_of, declared.book.need.Needed.Needed}
 use Rattle.smk_model.specs.Selection.{ScansFit, each_rows}
 use Rattle.smk_session.proofs.OpenedViews.{tables_long}
-use Rattle.smk_grow.proofs.ChainRuns.{before_is, behind_is, chain_fits, chain_grows, chain_of, chain_long, opened_is}
-use Rattle.smk_grow.proofs.Lengthened.{told_same}
+use Rattle.smk_grow.proofs.{ChainRuns.{before_is, behind_is, chain_fits, chain_grows, chain_of, chain_long, opened_is}, Lengthened.told_same}
 use Rattle.smk_grow.proofs.chained.grown_view.Goals as goal
 
 pub grown-requires-clause-growing : goal.grown-requires-clause-growing

@@ -1,9 +1,8 @@
 use Rattle.std.proofs.Common.{◌<◌, length, arith}
 use Rattle.smk_session.specs.Making.{book_in, cubes_wanted, split_wanted}
 use Rattle.smk_grow.specs.Renewed.{cubes_again, split_again}
-use Rattle.smk_grow.proofs.Spread.{by_asks, grouped_asks, plain_asks, put_more, put_none}
+use Rattle.smk_grow.proofs.{Spread.{by_asks, grouped_asks, plain_asks, put_more, put_none}, extras.spread.Goals.{in-Plain, in-By+in_ok-put_next-in-By, in-Grouped+in_ok-put_next-in-Grouped}}
 use Rattle.smk_grow.proofs.extras.spread.Goals as goal
-use Rattle.smk_grow.proofs.extras.spread.Goals.{in-Plain, in-By+in_ok-put_next-in-By, in-Grouped+in_ok-put_next-in-Grouped}
 
 pub loop-declared-preserved : goal.loop-declared-preserved
 loop-declared-preserved c =

@@ -1,8 +1,6 @@
-use Rattle.std.proofs.Common.{◌≡◌, ◌≤◌, ◌∙◌, List, None, Option, ap, arith, length, map, subst, sym}
+use Rattle.std.proofs.{Common.{◌≡◌, ◌≤◌, ◌∙◌, List, None, Option, ap, arith, length, map, subst, sym}, lemmas.List.with_items_is}
 use Rattle.std.specs.Vec.{with_items}
-use Rattle.std.proofs.lemmas.List.{with_items_is}
-use Rattle.smk_base.specs.Places.{upto}
-use Rattle.smk_base.specs.Rels.{Relation}
+use Rattle.smk_base.specs.{Places.upto, Rels.Relation}
 use Rattle.smk_skip.specs.Splits.{SplitImage}
 use Rattle.smk_session.specs.Parts.{parts_image}
 use Rattle.smk_grow.specs.Renewed.{replaced}

@@ -1,14 +1,10 @@
-use Rattle.std.proofs.Common.{◌≡◌, ◌∙◌, ◌<◌, List, ap, arith, length}
+use Rattle.std.proofs.{Common.{◌≡◌, ◌∙◌, ◌<◌, List, ap, arith, length}, lemmas.List.with_items_is}
 use Rattle.std.specs.Vec.{with_items}
-use Rattle.std.proofs.lemmas.List.{with_items_is}
-use Rattle.smk_base.specs.CatalogImage.{catalog_image}
-use Rattle.smk_base.specs.Rels.{Relation}
+use Rattle.smk_base.specs.{CatalogImage.catalog_image, Rels.Relation}
 use Rattle.smk_session.specs.Parts.{parts_image}
 use Rattle.smk_session.proofs.OpenedViews.{views_long}
-use Rattle.smk_grow.specs.Grown.{longer_tables, rows_of}
-use Rattle.smk_grow.specs.Renewed.{moved_views}
-use Rattle.smk_grow.proofs.Grown.{at_is, long_with}
-use Rattle.smk_grow.proofs.Lengthened.{lengthened_parts}
+use Rattle.smk_grow.specs.{Grown.{longer_tables, rows_of}, Renewed.moved_views}
+use Rattle.smk_grow.proofs.{Grown.{at_is, long_with}, Lengthened.lengthened_parts}
 use Rattle.smk_grow.proofs.growing.lengthen_parts.Goals as goal
 
 pub move_views-requires : goal.move_views-requires

@@ -1,12 +1,8 @@
 use Rattle.std.proofs.Common.{◌≤◌, ◌+◌, List, length, subst}
 use Rattle.std.specs.List.{sum_by}
-use Rattle.smk_base.specs.Places.{upto}
-use Rattle.smk_base.specs.Rels.{Relation}
-use Rattle.smk_model.specs.Appends.{scanning}
-use Rattle.smk_model.specs.Opening.{first_some, view_fault}
-use Rattle.smk_session.specs.Parts.{parts_image}
-use Rattle.smk_session.specs.Opened.{IsStartFault, workbook_image}
-use Rattle.smk_session.specs.Sessions.{workbook_of}
+use Rattle.smk_base.specs.{Places.upto, Rels.Relation}
+use Rattle.smk_model.specs.{Appends.scanning, Opening.{first_some, view_fault}}
+use Rattle.smk_session.specs.{Parts.parts_image, Opened.{IsStartFault, workbook_image}, Sessions.workbook_of}
 use Rattle.smk_grow.specs.Renewed.{looks_again, looks_of_declared}
 use Rattle.smk_grow.proofs.Told.{after_refusal, told_committed}
 use Rattle.smk_grow.proofs.growing.renew_parts.Goals as goal

@@ -1,15 +1,9 @@
-use Rattle.std.proofs.Common.{◌∙◌, List, ap, arith, length}
+use Rattle.std.proofs.{Common.{◌∙◌, List, ap, arith, length}, lemmas.List.with_items_is}
 use Rattle.std.specs.Vec.{with_items}
-use Rattle.std.proofs.lemmas.List.{with_items_is}
-use Rattle.smk_base.specs.CatalogImage.{catalog_image}
-use Rattle.smk_base.specs.Rels.{Relation}
-use Rattle.smk_session.specs.Parts.{parts_image}
-use Rattle.smk_session.specs.Opened.{workbook_image}
-use Rattle.smk_session.specs.Sessions.{workbook_of}
-use Rattle.smk_grow.specs.Grown.{first_tables}
-use Rattle.smk_grow.specs.Renewed.{kept_view, moved_views}
-use Rattle.smk_grow.proofs.Kept.{long_views}
-use Rattle.smk_grow.proofs.Lengthened.{shortened_parts}
+use Rattle.smk_base.specs.{CatalogImage.catalog_image, Rels.Relation}
+use Rattle.smk_session.specs.{Parts.parts_image, Opened.workbook_image, Sessions.workbook_of}
+use Rattle.smk_grow.specs.{Grown.first_tables, Renewed.{kept_view, moved_views}}
+use Rattle.smk_grow.proofs.{Kept.long_views, Lengthened.shortened_parts}
 use Rattle.smk_grow.proofs.growing.shorten_parts.Goals as goal
 
 pub move_views-requires : goal.move_views-requires

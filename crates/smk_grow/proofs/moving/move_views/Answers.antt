@@ -1,7 +1,5 @@
 use Rattle.std.proofs.Common.{◌∙◌, ◌≤◌, ap, length, arith}
-use Rattle.smk_base.specs.CatalogImage.{catalog_image}
-use Rattle.smk_base.specs.declared.book.catalog.Catalog.{Catalog}
-use Rattle.smk_base.specs.declared.book.catalog.ViewInfo.{ViewInfo}
+use Rattle.smk_base.specs.{CatalogImage.catalog_image, declared.book.catalog.Catalog.Catalog, declared.book.catalog.ViewInfo.ViewInfo}
 use Rattle.smk_grow.proofs.Moved.{moved_all}
 use Rattle.smk_grow.proofs.moving.move_views.Goals as goal
 

@@ -1,9 +1,7 @@
-use Rattle.std.proofs.Common.{◌<◌, ◌∙◌, ℕ, subst, All}
-use Rattle.std.proofs.lemmas.List.{length-map}
+use Rattle.std.proofs.{Common.{◌<◌, ◌∙◌, ℕ, subst, All}, lemmas.List.length-map}
 use Rattle.smk_base.specs.CatalogImage.{view_image}
 use Rattle.smk_grow.specs.Renewals.{book_of, first_book}
-use Rattle.smk_grow.proofs.Kept.{now_opened}
-use Rattle.smk_grow.proofs.Told.{scanning_known}
+use Rattle.smk_grow.proofs.{Kept.now_opened, Told.scanning_known}
 use Rattle.smk_grow.proofs.renewing.fresh_text.Goals as goal
 
 pub added_now-requires-clause-scanning : goal.added_now-requires-clause-scanning

@@ -1,6 +1,4 @@
-use Rattle.std.proofs.Common.{◌≡◌, ℕ, ◌<◌, ◌+◌, ◌∙◌, ◌++◌, ◌∷◌, [], length, ap, sym, arith}
-use Rattle.std.proofs.lemmas.List.{length_push}
-use Rattle.std.proofs.lemmas.Grind.{common_steps}
+use Rattle.std.proofs.{Common.{◌≡◌, ℕ, ◌<◌, ◌+◌, ◌∙◌, ◌++◌, ◌∷◌, [], length, ap, sym, arith}, lemmas.List.length_push, lemmas.Grind.common_steps}
 use Rattle.smk_grow.specs.Renewed.{put_at, replaced}
 use Rattle.smk_grow.proofs.Replaced.{long_put, replaced_last}
 use Rattle.smk_grow.proofs.replacing.replace.Goals as goal

@@ -1,8 +1,7 @@
 use Rattle.std.proofs.Common.{◌≡◌, ◌++◌, take}
 use Rattle.std.specs.List.{flat_map}
 use Rattle.smk_base.specs.CatalogImage.{catalog_image}
-use Rattle.smk_model.specs.Session.{view_at}
-use Rattle.smk_model.specs.ViewTexts.{text_of_view}
+use Rattle.smk_model.specs.{Session.view_at, ViewTexts.text_of_view}
 use Rattle.smk_session.specs.Sessions.{workbook_of}
 use Rattle.smk_grow.proofs.said.with_views.Given as goal
 

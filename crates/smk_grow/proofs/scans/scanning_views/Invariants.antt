@@ -1,6 +1,5 @@
 use Rattle.std.proofs.Common.{◌≡◌}
-use Rattle.smk_base.specs.CatalogImage.{catalog_image}
-use Rattle.smk_base.specs.Places.{places}
+use Rattle.smk_base.specs.{CatalogImage.catalog_image, Places.places}
 use Rattle.smk_model.specs.Appends.{scans}
 use Rattle.smk_grow.proofs.scans.scanning_views.Given as goal
 

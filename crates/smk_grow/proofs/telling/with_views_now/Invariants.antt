@@ -1,7 +1,6 @@
 use Rattle.std.proofs.Common.{◌≡◌, ◌++◌, take}
 use Rattle.std.specs.List.{flat_map}
-use Rattle.smk_model.specs.Session.{view_at}
-use Rattle.smk_model.specs.ViewTexts.{text_of_view}
+use Rattle.smk_model.specs.{Session.view_at, ViewTexts.text_of_view}
 use Rattle.smk_session.specs.Making.{book_in}
 use Rattle.smk_grow.proofs.telling.with_views_now.Given as goal
 

@@ -1,12 +1,8 @@
-use Rattle.std.proofs.Common.{◌∙◌, ◌<◌, ◌≤◌, ◌+◌, ap, length, arith}
-use Rattle.std.proofs.lemmas.Result.{err_from_is_err_and}
-use Rattle.smk_base.specs.declared.book.catalog.Catalog.{Catalog}
-use Rattle.smk_base.specs.declared.book.catalog.ViewInfo.{ViewInfo}
+use Rattle.std.proofs.{Common.{◌∙◌, ◌<◌, ◌≤◌, ◌+◌, ap, length, arith}, lemmas.Result.err_from_is_err_and}
+use Rattle.smk_base.specs.{declared.book.catalog.Catalog.Catalog, declared.book.catalog.ViewInfo.ViewInfo}
 use Rattle.smk_session.proofs.Starts.{fault_first, none_more, views_more}
-use Rattle.smk_grow.specs.Renewals.{book_of, first_book, last_book}
-use Rattle.smk_grow.specs.Renewed.{apart_view, fresh_view, kept_view, scan_fault, looks_again}
-use Rattle.smk_grow.proofs.Folds.{looks_below, looks_upto}
-use Rattle.smk_grow.proofs.Kept.{at_view, long_views, views_count}
+use Rattle.smk_grow.specs.{Renewals.{book_of, first_book, last_book}, Renewed.{apart_view, fresh_view, kept_view, scan_fault, looks_again}}
+use Rattle.smk_grow.proofs.{Folds.{looks_below, looks_upto}, Kept.{at_view, long_views, views_count}}
 use Rattle.smk_grow.proofs.views.each_fresh.Goals as goal
 
 pub one_fresh-requires-clause-old : goal.one_fresh-requires-clause-old

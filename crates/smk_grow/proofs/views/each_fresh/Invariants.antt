@@ -2,8 +2,7 @@ use Rattle.std.proofs.Common.{◌≡◌, ◌≤◌, ◌+◌, map, None}
 use Rattle.std.specs.List.{sum_by}
 use Rattle.smk_base.specs.Places.{upto}
 use Rattle.smk_model.specs.Opening.{first_some}
-use Rattle.smk_grow.specs.Renewals.{book_of}
-use Rattle.smk_grow.specs.Renewed.{fresh_view, scan_fault, looks_again}
+use Rattle.smk_grow.specs.{Renewals.book_of, Renewed.{fresh_view, scan_fault, looks_again}}
 use Rattle.smk_grow.proofs.views.each_fresh.Given as goal
 
 abbrev pub invariant-loop-v : goal.invariant-loop-v

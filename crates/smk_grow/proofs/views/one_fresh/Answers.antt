@@ -1,8 +1,6 @@
 use Rattle.std.proofs.Common.{◌≡◌, ◌∙◌, Some}
-use Rattle.smk_grow.specs.Renewals.{book_of, first_book, last_book}
-use Rattle.smk_grow.specs.Renewed.{apart_view}
-use Rattle.smk_grow.proofs.Fresh.{chain_no_fault, scan_kept, some_apart}
-use Rattle.smk_grow.proofs.Renewed.{chains_scan}
+use Rattle.smk_grow.specs.{Renewals.{book_of, first_book, last_book}, Renewed.apart_view}
+use Rattle.smk_grow.proofs.{Fresh.{chain_no_fault, scan_kept, some_apart}, Renewed.chains_scan}
 use Rattle.smk_grow.proofs.views.one_fresh.Goals as goal
 
 pub returns-in-Ok-clause-none : goal.returns-in-Ok-clause-none

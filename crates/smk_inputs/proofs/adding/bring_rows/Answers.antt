@@ -1,15 +1,10 @@
-use Rattle.std.proofs.Common.{◌∙◌, Option, None, Err, Ok, Some, [], ◌∷◌, ap, sym, subst, refl}
-use Rattle.std.proofs.lemmas.Result.{err_from_is_err_and}
-use Rattle.std.specs.Prelude.{is_some}
-use Rattle.std.specs.Option.{option_to_list}
-use Rattle.smk_base.specs.CatalogImage.{catalog_image}
-use Rattle.smk_base.specs.declared.book.catalog.TableInfo.{TableInfo}
-use Rattle.smk_model.specs.Catalogs.{each_table_kinds}
-use Rattle.smk_model.specs.Outcome.{filed}
+use Rattle.std.proofs.{Common.{◌∙◌, Option, None, Err, Ok, Some, [], ◌∷◌, ap, sym, subst, refl}, lemmas.Result.err_from_is_err_and}
+use Rattle.std.specs.{Prelude.is_some, Option.option_to_list}
+use Rattle.smk_base.specs.{CatalogImage.catalog_image, declared.book.catalog.TableInfo.TableInfo}
+use Rattle.smk_model.specs.{Catalogs.each_table_kinds, Outcome.filed}
 use Rattle.smk_outside.specs.Outside.{Rose}
 use Rattle.smk_inputs.specs.Collecting.{Loads}
-use Rattle.smk_inputs.proofs.AddedReads.{rows_brought, one_loaded, one_stops, none_loaded}
-use Rattle.smk_inputs.proofs.NamedTables.{appended_found, appended_nowhere}
+use Rattle.smk_inputs.proofs.{AddedReads.{rows_brought, one_loaded, one_stops, none_loaded}, NamedTables.{appended_found, appended_nowhere}}
 use Rattle.smk_inputs.proofs.adding.bring_rows.Goals as goal
 
 pub returns-in_err-rows-in-Some-clause-read : goal.returns-in_err-rows-in-Some-clause-read

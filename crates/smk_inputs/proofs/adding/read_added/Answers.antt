@@ -1,8 +1,6 @@
-use Rattle.std.proofs.Common.{◌∙◌, refl, arith, deque_items}
-use Rattle.std.proofs.lemmas.Result.{err_from_is_err_and}
+use Rattle.std.proofs.{Common.{◌∙◌, refl, arith, deque_items}, lemmas.Result.err_from_is_err_and}
 use Rattle.smk_outside.specs.Outside.{Rose}
-use Rattle.smk_inputs.proofs.Stops.{rose_within}
-use Rattle.smk_inputs.proofs.AddedReads.{pass_begins, pass_on, pass_stops, pass_ends}
+use Rattle.smk_inputs.proofs.{Stops.rose_within, AddedReads.{pass_begins, pass_on, pass_stops, pass_ends}}
 use Rattle.smk_inputs.proofs.adding.read_added.Goals as goal
 
 pub loop-span-init : goal.loop-span-init

@@ -1,14 +1,9 @@
-use Rattle.std.proofs.Common.{refl, arith, ap, sym, subst}
+use Rattle.std.proofs.{Common.{refl, arith, ap, sym, subst}, lemmas.Result.err_from_is_err_and}
 use Rattle.std.specs.Option.{option_copied}
-use Rattle.std.proofs.lemmas.Result.{err_from_is_err_and}
-use Rattle.smk_base.specs.CatalogImage.{catalog_image}
-use Rattle.smk_base.specs.Marks.{after_marks}
-use Rattle.smk_base.specs.declared.book.catalog.Catalog.{Catalog}
+use Rattle.smk_base.specs.{CatalogImage.catalog_image, Marks.after_marks, declared.book.catalog.Catalog.Catalog}
 use Rattle.smk_model.specs.Lines.{lines}
-use Rattle.smk_inputs.specs.Added.{BringTables}
+use Rattle.smk_inputs.specs.{Added.BringTables, Loaded.{book_said, script_bytes, inputs_with, with_rest}, declared.collecting.Rest.Rest}
 use Rattle.smk_outside.specs.Outside.{Rose}
-use Rattle.smk_inputs.specs.Loaded.{book_said, script_bytes, inputs_with, with_rest}
-use Rattle.smk_inputs.specs.declared.collecting.Rest.{Rest}
 use Rattle.smk_inputs.proofs.Stops.{rose_within, book_stops, opened_as, rest_stops, then_all}
 use Rattle.smk_inputs.proofs.collecting.read_all.Goals as goal
 

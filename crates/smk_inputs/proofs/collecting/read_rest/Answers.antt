@@ -1,18 +1,10 @@
-use Rattle.std.proofs.Common.{◌∙◌, List, refl, ap, sym, subst, arith, deque_items, Vec, Global, ℕ, Ok, Err}
+use Rattle.std.proofs.{Common.{◌∙◌, List, refl, ap, sym, subst, arith, deque_items, Vec, Global, ℕ, Ok, Err}, lemmas.Result.err_from_is_err_and}
 use Rattle.std.specs.Option.{option_copied}
-use Rattle.std.proofs.lemmas.Result.{err_from_is_err_and}
-use Rattle.smk_base.specs.CatalogImage.{CatalogImage, catalog_image}
-use Rattle.smk_base.specs.Marks.{after_marks}
-use Rattle.smk_base.specs.Rels.{Relation}
+use Rattle.smk_base.specs.{CatalogImage.{CatalogImage, catalog_image}, Marks.after_marks, Rels.Relation}
 use Rattle.smk_outside.specs.Outside.{Rose}
-use Rattle.smk_model.specs.Lines.{lines}
-use Rattle.smk_model.specs.Readings.{AreReadings}
-use Rattle.smk_model.specs.Reports.{BookSaid}
-use Rattle.smk_model.specs.Selection.{each_rows}
+use Rattle.smk_model.specs.{Lines.lines, Readings.AreReadings, Reports.BookSaid, Selection.each_rows}
 use Rattle.smk_model.proofs.SomeOutcome.{some_reading}
-use Rattle.smk_inputs.specs.Added.{BringTables}
-use Rattle.smk_inputs.specs.Loaded.{with_rest}
-use Rattle.smk_inputs.specs.declared.collecting.Rest.{Rest}
+use Rattle.smk_inputs.specs.{Added.BringTables, Loaded.with_rest, declared.collecting.Rest.Rest}
 use Rattle.smk_inputs.proofs.Stops.{rose_within, tables_stop, script_stops, added_stop, added_of, all_read}
 use Rattle.smk_inputs.proofs.collecting.read_rest.Goals as goal
 

@@ -1,10 +1,8 @@
-use Rattle.std.proofs.Common.{◌∙◌, Vec, Global, arith}
-use Rattle.std.proofs.lemmas.Result.{err_from_is_err_and}
+use Rattle.std.proofs.{Common.{◌∙◌, Vec, Global, arith}, lemmas.Result.err_from_is_err_and}
 use Rattle.smk_base.specs.Rels.{Relation}
 use Rattle.smk_model.specs.Selection.{each_rows}
 use Rattle.smk_outside.specs.Outside.{Rose}
-use Rattle.smk_inputs.proofs.Stops.{rose_within}
-use Rattle.smk_inputs.proofs.TableLoads.{loaded_next, stopped_here, rows_more, kinds_next, reads_held}
+use Rattle.smk_inputs.proofs.{Stops.rose_within, TableLoads.{loaded_next, stopped_here, rows_more, kinds_next, reads_held}}
 use Rattle.smk_inputs.proofs.loading.load_all.Goals as goal
 
 pub returns-in_err-load-clause-read : goal.returns-in_err-load-clause-read

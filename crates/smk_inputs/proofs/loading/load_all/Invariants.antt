@@ -1,7 +1,6 @@
 use Rattle.std.proofs.Common.{◌≡◌, ◌≤◌, take, Ok, Vec, Global}
 use Rattle.smk_base.specs.Rels.{Relation}
-use Rattle.smk_model.specs.Catalogs.{each_table_kinds}
-use Rattle.smk_model.specs.Selection.{each_rows, each_kinds}
+use Rattle.smk_model.specs.{Catalogs.each_table_kinds, Selection.{each_rows, each_kinds}}
 use Rattle.smk_inputs.specs.Collecting.{Loads}
 use Rattle.smk_inputs.proofs.loading.load_all.Given as goal
 

@@ -1,5 +1,4 @@
-use Rattle.smk_base.specs.CatalogImage.{catalog_image}
-use Rattle.smk_base.specs.TreeImage.{book_image}
+use Rattle.smk_base.specs.{CatalogImage.catalog_image, TreeImage.book_image}
 use Rattle.smk_inputs.proofs.FileReads.{expanded_keeps, expanded_none, expanded_shown}
 use Rattle.smk_inputs.proofs.opening.checked.Goals as goal
 

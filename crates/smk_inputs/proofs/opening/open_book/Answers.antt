@@ -1,5 +1,4 @@
-use Rattle.std.proofs.Common.{ℕ, Vec, Global}
-use Rattle.std.proofs.lemmas.Result.{err_from_is_err_and}
+use Rattle.std.proofs.{Common.{ℕ, Vec, Global}, lemmas.Result.err_from_is_err_and}
 use Rattle.smk_model.specs.Outcome.{BookSays}
 use Rattle.smk_outside.specs.Outside.{Rose}
 use Rattle.smk_inputs.specs.Loaded.{book_said}

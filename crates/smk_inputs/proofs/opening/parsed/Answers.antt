@@ -1,5 +1,4 @@
-use Rattle.std.proofs.Common.{arith}
-use Rattle.std.proofs.lemmas.Grind.{common_steps}
+use Rattle.std.proofs.{Common.arith, lemmas.Grind.common_steps}
 use Rattle.smk_inputs.proofs.FileReads.{spelt, keeps_limits, misspelt}
 use Rattle.smk_inputs.proofs.opening.parsed.Goals as goal
 

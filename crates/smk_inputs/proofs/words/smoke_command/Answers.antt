@@ -1,6 +1,5 @@
 use Rattle.std.proofs.Common.{rules, ap₂, codes, true, ◌≡◌, ◌∙◌}
-use Rattle.clap.specs.Words.{app_of, new_app, with_rule}
-use Rattle.clap.specs.Simple.{on_top}
+use Rattle.clap.specs.{Words.{app_of, new_app, with_rule}, Simple.on_top}
 use Rattle.smk_inputs.proofs.words.smoke_command.Goals as goal
 
 pub returns : goal.returns

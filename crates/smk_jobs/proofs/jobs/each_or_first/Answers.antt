@@ -1,6 +1,5 @@
-use Rattle.std.proofs.Common.{alloc_error}
+use Rattle.std.proofs.{Common.alloc_error, lemmas.Result.err_from_is_err_and}
 use Rattle.smk_jobs.proofs.InOrder.{all_back, group_more, group_told}
-use Rattle.std.proofs.lemmas.Result.{err_from_is_err_and}
 use Rattle.smk_jobs.specs.contracts.jobs.each_or_first.F-Fn.{words}
 use Rattle.smk_jobs.proofs.jobs.each_or_first.Goals as goal
 

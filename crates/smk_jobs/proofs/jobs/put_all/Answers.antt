@@ -1,7 +1,4 @@
-use Rattle.std.proofs.Common.{arith, rules, length, inl, ◌++◌, ◌∷◌, []}
-use Rattle.std.proofs.lemmas.List.{length_push, append_assoc}
-use Rattle.std.proofs.lemmas.Iterator.Consumers.{YieldsList-turn}
-use Rattle.std.proofs.lemmas.Iterator.Adapters.{YieldsList-from_vec}
+use Rattle.std.proofs.{Common.{arith, rules, length, inl, ◌++◌, ◌∷◌, []}, lemmas.List.{length_push, append_assoc}, lemmas.Iterator.Consumers.YieldsList-turn, lemmas.Iterator.Adapters.YieldsList-from_vec}
 use Rattle.smk_jobs.proofs.InOrder.{value_more, fault_here}
 use Rattle.smk_jobs.proofs.jobs.put_all.Goals as goal
 

@@ -1,6 +1,5 @@
-use Rattle.std.proofs.Common.{◌<◌, Ok, ℕ, length, ap, arith, subst}
+use Rattle.std.proofs.{Common.{◌<◌, Ok, ℕ, length, ap, arith, subst}, lemmas.Result.IfOk-weaker}
 use Rattle.std.specs.List.{AllZip}
-use Rattle.std.proofs.lemmas.Result.{IfOk-weaker}
 use Rattle.smk_base.proofs.Places.{length_upto, get_or_upto}
 use Rattle.smk_jobs.specs.Cuts.{AreParts}
 use Rattle.smk_jobs.specs.contracts.parts.in_parts.F-Fn.{words}

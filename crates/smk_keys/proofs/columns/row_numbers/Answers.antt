@@ -1,7 +1,5 @@
-use Rattle.std.proofs.Common.{◌-◌, get_or, take, arith}
+use Rattle.std.proofs.{Common.{◌-◌, get_or, take, arith}, lemmas.List.take_more, lemmas.Grind.common_steps}
 use Rattle.std.specs.List.{slice_range}
-use Rattle.std.proofs.lemmas.List.{take_more}
-use Rattle.std.proofs.lemmas.Grind.{common_steps}
 use Rattle.smk_keys.proofs.Rowed.{AreNumbers-more, AreNumbers-zeros, length-range}
 use Rattle.smk_keys.proofs.columns.row_numbers.Goals as goal
 

@@ -1,5 +1,4 @@
-use Rattle.std.proofs.Common.{arith}
-use Rattle.std.proofs.lemmas.List.{get_or_read}
+use Rattle.std.proofs.{Common.arith, lemmas.List.get_or_read}
 use Rattle.smk_keys.proofs.Coded.{IsCoded-none, IsCoded-next, AreNumbers-coded}
 use Rattle.smk_keys.proofs.hashed.numbers_in.Goals as goal
 

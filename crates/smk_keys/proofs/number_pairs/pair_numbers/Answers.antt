@@ -1,10 +1,6 @@
-use Rattle.std.proofs.Common.{◌≡◌, ◌∙◌, ℕ, List, arith, rules, subst}
+use Rattle.std.proofs.{Common.{◌≡◌, ◌∙◌, ℕ, List, arith, rules, subst}, lemmas.Iterator.{YieldsList-from_map, YieldsList-from_slice, YieldsList-from_zip, items_from_collect}, lemmas.List.map-id, lemmas.Result.{IfOk-at_ok, IfOk-weaker}, lemmas.Grind.common_steps}
 use Rattle.std.specs.List.{zip}
-use Rattle.std.proofs.lemmas.Iterator.{YieldsList-from_map, YieldsList-from_slice, YieldsList-from_zip, items_from_collect}
-use Rattle.std.proofs.lemmas.List.{map-id}
-use Rattle.std.proofs.lemmas.Result.{IfOk-at_ok, IfOk-weaker}
 use Rattle.smk_keys.specs.Numbers.{AreNumbers}
-use Rattle.std.proofs.lemmas.Grind.{common_steps}
 use Rattle.smk_keys.proofs.Paired.{AreNumbers-places, AreNumbers-right}
 use Rattle.smk_keys.proofs.number_pairs.pair_numbers.Goals as goal
 

@@ -1,6 +1,4 @@
-use Rattle.std.proofs.Common.{◌≡◌, ◌+◌, ◌*◌, ◌∷◌, [], arith, get_or, inl, inr, ◌∙◌}
-use Rattle.std.proofs.lemmas.Bool.{cases_lt}
-use Rattle.std.proofs.lemmas.List.{get_or_append_left, get_or_push, length_push}
+use Rattle.std.proofs.{Common.{◌≡◌, ◌+◌, ◌*◌, ◌∷◌, [], arith, get_or, inl, inr, ◌∙◌}, lemmas.Bool.cases_lt, lemmas.List.{get_or_append_left, get_or_push, length_push}}
 use Rattle.smk_keys.proofs.number_pairs.table_places.Goals as goal
 
 pub loop-i-preserved : goal.loop-i-preserved

@@ -1,8 +1,5 @@
-use Rattle.std.proofs.Common.{arith, rules, ◌≡◌, ◌∷◌, [], map}
-use Rattle.std.proofs.lemmas.Grind.{common_steps}
-use Rattle.smk_base.specs.PlanImage.{expr_of}
-use Rattle.smk_base.specs.Plans.{Apply, Projection}
-use Rattle.smk_base.specs.Rels.{bin_of, kind_in, value_in}
+use Rattle.std.proofs.{Common.{arith, rules, ◌≡◌, ◌∷◌, [], map}, lemmas.Grind.common_steps}
+use Rattle.smk_base.specs.{PlanImage.expr_of, Plans.{Apply, Projection}, Rels.{bin_of, kind_in, value_in}}
 use Rattle.smk_body.proofs.Besides.{relation}
 use Rattle.smk_marks.proofs.Binned.{binned}
 use Rattle.smk_marks.proofs.columns.+chain_column.Goals as goal

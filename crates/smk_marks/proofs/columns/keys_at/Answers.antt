@@ -1,5 +1,4 @@
-use Rattle.std.proofs.Common.{◌∙◌, ◌<◌, ℕ, All, ap, arith, length, map, subst, sym}
-use Rattle.std.proofs.lemmas.List.{length-map}
+use Rattle.std.proofs.{Common.{◌∙◌, ◌<◌, ℕ, All, ap, arith, length, map, subst, sym}, lemmas.List.length-map}
 use Rattle.smk_base.specs.Rels.{Relation, kind_in, picked}
 use Rattle.smk_model.specs.Lineage.{sub}
 use Rattle.smk_base.proofs.Places.{length_upto}

@@ -1,12 +1,6 @@
-use Rattle.std.proofs.Common.{◌≡◌, ◌∙◌, ◌∷◌, [], ℕ, List, Some, length, map, ap, sym, subst, arith}
-use Rattle.std.proofs.lemmas.List.{length-map}
-use Rattle.smk_base.specs.PlanImage.{expr_of}
-use Rattle.smk_base.specs.Rels.{Relation, kind_in}
-use Rattle.smk_base.specs.Aggregates.{read_by}
-use Rattle.smk_base.specs.declared.book.plan.Agg.{Agg}
-use Rattle.smk_base.specs.declared.value.Kind.{Kind}
-use Rattle.smk_model.specs.Kinds.{AggFits, kind_of_agg}
-use Rattle.smk_model.specs.Selection.{plan_kinds}
+use Rattle.std.proofs.{Common.{◌≡◌, ◌∙◌, ◌∷◌, [], ℕ, List, Some, length, map, ap, sym, subst, arith}, lemmas.List.length-map}
+use Rattle.smk_base.specs.{PlanImage.expr_of, Rels.{Relation, kind_in}, Aggregates.read_by, declared.book.plan.Agg.Agg, declared.value.Kind.Kind}
+use Rattle.smk_model.specs.{Kinds.{AggFits, kind_of_agg}, Selection.plan_kinds}
 use Rattle.smk_model.proofs.Aggregates.{kind_of_moved, moved_fits}
 use Rattle.smk_base.proofs.Places.{map_map}
 use Rattle.smk_body.specs.Halves.{AreNumbered, class_values}

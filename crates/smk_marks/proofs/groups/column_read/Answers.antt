@@ -1,9 +1,5 @@
-use Rattle.std.proofs.Common.{◌≡◌, ◌∙◌, ◌∷◌, [], ℕ, Some, sym, ap}
-use Rattle.std.proofs.lemmas.Option.{none-some}
-use Rattle.std.proofs.lemmas.Result.{IfOk-weaker}
-use Rattle.smk_base.specs.Aggregates.{read_by}
-use Rattle.smk_base.specs.PlanImage.{expr_of}
-use Rattle.smk_base.specs.Rels.{Relation}
+use Rattle.std.proofs.{Common.{◌≡◌, ◌∙◌, ◌∷◌, [], ℕ, Some, sym, ap}, lemmas.Option.none-some, lemmas.Result.IfOk-weaker}
+use Rattle.smk_base.specs.{Aggregates.read_by, PlanImage.expr_of, Rels.Relation}
 use Rattle.smk_model.specs.Selection.{plan_kinds}
 use Rattle.smk_model.proofs.Aggregates.{column_there}
 use Rattle.smk_marks.specs.Views.{chain_values}

@@ -1,15 +1,7 @@
-use Rattle.std.proofs.Common.{◌≡◌, ◌∙◌, ◌<◌, ◌+◌, ◌++◌, ◌∷◌, [], ℕ, List, length, map, take, ap, sym, subst, arith, get_or, append_assoc, nat_eq}
-use Rattle.std.proofs.lemmas.List.{length-append, length-map, length-take-le, map_more, take_all}
-use Rattle.smk_base.specs.PlanImage.{expr_of}
-use Rattle.smk_base.specs.Places.{upto}
-use Rattle.smk_base.specs.Rels.{Relation, beside_rows, kind_in}
-use Rattle.smk_base.specs.declared.book.plan.Agg.{Agg}
-use Rattle.smk_base.specs.declared.book.plan.Agg.TheVariants.{Count}
+use Rattle.std.proofs.{Common.{◌≡◌, ◌∙◌, ◌<◌, ◌+◌, ◌++◌, ◌∷◌, [], ℕ, List, length, map, take, ap, sym, subst, arith, get_or, append_assoc, nat_eq}, lemmas.List.{length-append, length-map, length-take-le, map_more, take_all}}
+use Rattle.smk_base.specs.{PlanImage.expr_of, Places.upto, Rels.{Relation, beside_rows, kind_in}, declared.book.plan.Agg.Agg, declared.book.plan.Agg.TheVariants.Count}
 use Rattle.smk_keys.specs.Classes.{ClassesImage, first_items}
-use Rattle.smk_model.specs.Kinds.{kind_of_agg}
-use Rattle.smk_model.specs.Lineage.{row_at}
-use Rattle.smk_model.specs.Plain.{aggregate}
-use Rattle.smk_model.specs.Selection.{plan_kinds}
+use Rattle.smk_model.specs.{Kinds.kind_of_agg, Lineage.row_at, Plain.aggregate, Selection.plan_kinds}
 use Rattle.smk_base.proofs.Places.{length_upto}
 use Rattle.smk_body.specs.Halves.{AreNumbered}
 use Rattle.smk_body.proofs.Besides.{column_more, relation, related}

@@ -1,12 +1,7 @@
 use Rattle.std.proofs.Common.{◌≡◌, ◌++◌, [], ◌∷◌, length, map, take, nat_eq}
-use Rattle.smk_base.specs.PlanImage.{expr_of}
-use Rattle.smk_base.specs.Places.{upto}
-use Rattle.smk_base.specs.Rels.{kind_in}
+use Rattle.smk_base.specs.{PlanImage.expr_of, Places.upto, Rels.kind_in}
 use Rattle.smk_keys.specs.Classes.{first_items}
-use Rattle.smk_model.specs.Kinds.{kind_of_agg}
-use Rattle.smk_model.specs.Lineage.{row_at}
-use Rattle.smk_model.specs.Plain.{aggregate}
-use Rattle.smk_model.specs.Selection.{plan_kinds}
+use Rattle.smk_model.specs.{Kinds.kind_of_agg, Lineage.row_at, Plain.aggregate, Selection.plan_kinds}
 use Rattle.smk_marks.specs.Marks.{made, with_mark}
 use Rattle.smk_marks.proofs.groups.groups.Given as goal
 

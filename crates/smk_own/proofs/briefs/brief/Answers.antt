@@ -1,8 +1,6 @@
 use Rattle.std.proofs.Common.{sym, ◌∙◌, ap}
-use Rattle.smk_base.specs.CatalogImage.{catalog_image}
-use Rattle.smk_base.specs.declared.book.catalog.Catalog.{Catalog}
-use Rattle.smk_model.specs.OwnTexts.{brief_text, unlisted}
-use Rattle.smk_model.specs.Replies.{is_refused, reply}
+use Rattle.smk_base.specs.{CatalogImage.catalog_image, declared.book.catalog.Catalog.Catalog}
+use Rattle.smk_model.specs.{OwnTexts.{brief_text, unlisted}, Replies.{is_refused, reply}}
 use Rattle.smk_model.proofs.RepliesFit.{replies_fit}
 use Rattle.smk_session.specs.Sessions.{state_of}
 use Rattle.smk_own.proofs.Unlisted.{unlisted_fits, unlisted_twice, unlisted_refused}

@@ -1,12 +1,7 @@
 use Rattle.std.specs.Prelude.{◌<◌, length, slice_index_or}
-use Rattle.std.proofs.Common.{ap, sym, ◌∙◌, subst}
-use Rattle.std.proofs.lemmas.List.{get_or_read}
-use Rattle.smk_base.specs.CatalogImage.{catalog_image}
-use Rattle.smk_base.specs.TreeImage.{ask_image}
-use Rattle.smk_base.specs.declared.book.catalog.Catalog.{Catalog}
-use Rattle.smk_model.specs.AskTexts.{IsAskReplyTo}
-use Rattle.smk_model.specs.Replies.{rows_at_rids}
-use Rattle.smk_model.specs.Typing.{info_at, no_table}
+use Rattle.std.proofs.{Common.{ap, sym, ◌∙◌, subst}, lemmas.List.get_or_read}
+use Rattle.smk_base.specs.{CatalogImage.catalog_image, TreeImage.ask_image, declared.book.catalog.Catalog.Catalog}
+use Rattle.smk_model.specs.{AskTexts.IsAskReplyTo, Replies.rows_at_rids, Typing.{info_at, no_table}}
 use Rattle.smk_session.specs.Sessions.{state_of}
 use Rattle.smk_own.proofs.Parts.{if_ok, over_is, over_stands}
 use Rattle.smk_own.proofs.narrowing.asked_over.Goals as goal

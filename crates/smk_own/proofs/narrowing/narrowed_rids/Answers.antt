@@ -1,11 +1,8 @@
 use Rattle.std.specs.Prelude.{length}
 use Rattle.std.proofs.Common.{ap, sym, ◌∙◌, subst}
-use Rattle.smk_base.specs.CatalogImage.{catalog_image}
-use Rattle.smk_base.specs.Places.{has}
+use Rattle.smk_base.specs.{CatalogImage.catalog_image, Places.has}
 use Rattle.smk_model.specs.Session.{rows_of_table, selected_for}
-use Rattle.smk_session.specs.Answers.{rids_or_all}
-use Rattle.smk_session.specs.Behind.{RidsFit}
-use Rattle.smk_session.specs.Sessions.{state_of}
+use Rattle.smk_session.specs.{Answers.rids_or_all, Behind.RidsFit, Sessions.state_of}
 use Rattle.smk_own.proofs.Parts.{if_ok, filtered_fit, none_chosen}
 use Rattle.smk_own.proofs.narrowing.narrowed_rids.Goals as goal
 

@@ -1,10 +1,7 @@
 use Rattle.std.specs.Prelude.{length, map, Some}
 use Rattle.std.proofs.Common.{ap, sym, subst, arith}
-use Rattle.smk_model.specs.ReplyTexts.{names_of_table}
-use Rattle.smk_model.specs.Session.{rows_of_table}
-use Rattle.smk_model.specs.Typing.{info_at}
-use Rattle.smk_session.specs.Behind.{RidsFit}
-use Rattle.smk_session.specs.Sessions.{state_of}
+use Rattle.smk_model.specs.{ReplyTexts.names_of_table, Session.rows_of_table, Typing.info_at}
+use Rattle.smk_session.specs.{Behind.RidsFit, Sessions.state_of}
 use Rattle.smk_own.specs.Image.{part_image}
 use Rattle.smk_own.proofs.Parts.{if_ok, few_fit, part_fits, placed_said}
 use Rattle.smk_own.proofs.narrowing.placed_text.Goals as goal

@@ -1,12 +1,7 @@
 use Rattle.std.specs.Prelude.{IsSome, length}
-use Rattle.std.proofs.Common.{sym, ◌∙◌, ap, subst}
-use Rattle.std.proofs.lemmas.Bool.{false≢true}
-use Rattle.smk_base.specs.CatalogImage.{catalog_image}
-use Rattle.smk_base.specs.declared.book.catalog.Catalog.{Catalog}
-use Rattle.smk_base.specs.declared.reply.Reply.{Reply}
-use Rattle.smk_model.specs.Replies.{reply}
-use Rattle.smk_model.specs.Session.{State}
-use Rattle.smk_model.specs.ReplyTexts.{names_of_view, view_named}
+use Rattle.std.proofs.{Common.{sym, ◌∙◌, ap, subst}, lemmas.Bool.false≢true}
+use Rattle.smk_base.specs.{CatalogImage.catalog_image, declared.book.catalog.Catalog.Catalog, declared.reply.Reply.Reply}
+use Rattle.smk_model.specs.{Replies.reply, Session.State, ReplyTexts.{names_of_view, view_named}}
 use Rattle.smk_session.specs.Sessions.{state_of}
 use Rattle.smk_own.proofs.Parts.{shown_fits}
 use Rattle.smk_own.proofs.narrowing.show_part.Goals as goal

@@ -1,8 +1,6 @@
 use Rattle.std.proofs.Common.{Some, ℕ, List, Bool, cond, ap, sym, ◌∙◌, subst}
-use Rattle.smk_model.specs.OwnLines.{IsOwnReading, without_lead, alone, not_alone}
-use Rattle.smk_model.specs.Tokens.{HasNoToken}
-use Rattle.smk_own.specs.Image.{own_reading_image}
-use Rattle.smk_own.specs.Leads.{lead_image}
+use Rattle.smk_model.specs.{OwnLines.{IsOwnReading, without_lead, alone, not_alone}, Tokens.HasNoToken}
+use Rattle.smk_own.specs.{Image.own_reading_image, Leads.lead_image}
 use Rattle.smk_own.proofs.OwnReads.{kept_if_ok}
 use Rattle.smk_own.proofs.reading.read_own.Goals as goal
 

@@ -1,13 +1,10 @@
 use Rattle.std.specs.Prelude.{length}
-use Rattle.std.proofs.Common.{sym, ◌∙◌, ap}
-use Rattle.std.proofs.lemmas.List.{length-map}
-use Rattle.smk_base.specs.CatalogImage.{catalog_image, view_image}
-use Rattle.smk_base.specs.declared.book.catalog.Catalog.{Catalog}
+use Rattle.std.proofs.{Common.{sym, ◌∙◌, ap}, lemmas.List.length-map}
+use Rattle.smk_base.specs.{CatalogImage.{catalog_image, view_image}, declared.book.catalog.Catalog.Catalog}
 use Rattle.smk_model.specs.Session.{first_content, rows_of_table}
 use Rattle.smk_report.specs.Schemas.{schema_over}
 use Rattle.smk_session.specs.Sessions.{state_of}
-use Rattle.smk_own.proofs.Parts.{if_ok}
-use Rattle.smk_own.proofs.Tallies.{counted_long, counted_schema}
+use Rattle.smk_own.proofs.{Parts.if_ok, Tallies.{counted_long, counted_schema}}
 use Rattle.smk_own.proofs.schemas.schema.Goals as goal
 
 pub schema_text-requires-clause-tables : goal.schema_text-requires-clause-tables

@@ -1,6 +1,5 @@
 use Rattle.std.proofs.Common.{◌≡◌, length, map}
-use Rattle.smk_base.specs.CatalogImage.{catalog_image}
-use Rattle.smk_base.specs.Places.{upto}
+use Rattle.smk_base.specs.{CatalogImage.catalog_image, Places.upto}
 use Rattle.smk_model.specs.Session.{first_content}
 use Rattle.smk_session.specs.Sessions.{state_of}
 use Rattle.smk_own.proofs.schemas.view_rows.Given as goal

@@ -2,13 +2,8 @@ use Rattle.std.specs.Prelude.{length, map, codes, ◌∷◌, slice_index_or, Som
 use Rattle.std.proofs.Common.{ap, sym, ◌∙◌, subst, arith}
 use Rattle.smk_base.specs.Places.{upto}
 use Rattle.smk_base.proofs.Places.{length_upto}
-use Rattle.smk_model.specs.Lineage.{sub}
-use Rattle.smk_model.specs.ReplyTexts.{names_of_table}
-use Rattle.smk_model.specs.Session.{rows_of_table}
-use Rattle.smk_model.specs.Texts.{rows_text}
-use Rattle.smk_model.specs.Typing.{info_at}
-use Rattle.smk_session.specs.Behind.{RidsFit}
-use Rattle.smk_session.specs.Sessions.{state_of}
+use Rattle.smk_model.specs.{Lineage.sub, ReplyTexts.names_of_table, Session.rows_of_table, Texts.rows_text, Typing.info_at}
+use Rattle.smk_session.specs.{Behind.RidsFit, Sessions.state_of}
 use Rattle.smk_own.specs.Image.{part_image}
 use Rattle.smk_own.proofs.Parts.{if_ok, all_fit, part_fits, placed_said, all_part}
 use Rattle.smk_own.proofs.selecting.all_text.Goals as goal

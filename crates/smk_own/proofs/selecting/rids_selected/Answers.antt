@@ -2,8 +2,7 @@ use Rattle.std.specs.Prelude.{length}
 use Rattle.std.proofs.Common.{ap, sym, ◌∙◌, subst}
 use Rattle.smk_base.specs.Places.{upto}
 use Rattle.smk_model.specs.Session.{rows_of_table}
-use Rattle.smk_session.specs.Behind.{RidsFit}
-use Rattle.smk_session.specs.Sessions.{state_of}
+use Rattle.smk_session.specs.{Behind.RidsFit, Sessions.state_of}
 use Rattle.smk_own.proofs.Parts.{all_fit}
 use Rattle.smk_own.proofs.selecting.rids_selected.Goals as goal
 

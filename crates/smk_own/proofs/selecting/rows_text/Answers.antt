@@ -1,18 +1,11 @@
 use Rattle.std.specs.Prelude.{length, Some}
 use Rattle.std.proofs.Common.{ap, sym, ◌∙◌, refl, false}
-use Rattle.smk_base.specs.CatalogImage.{catalog_image}
-use Rattle.smk_base.specs.Places.{upto}
-use Rattle.smk_model.specs.OwnTexts.{placed_text, selected_words}
-use Rattle.smk_model.specs.Replies.{rows_at_rids}
-use Rattle.smk_model.specs.ReplyTexts.{names_of_table}
-use Rattle.smk_model.specs.Session.{rows_of_table}
-use Rattle.smk_model.specs.Typing.{info_at}
-use Rattle.smk_session.specs.Answers.{rids_or_all}
-use Rattle.smk_session.specs.Sessions.{state_of}
+use Rattle.smk_base.specs.{CatalogImage.catalog_image, Places.upto}
+use Rattle.smk_model.specs.{OwnTexts.{placed_text, selected_words}, Replies.rows_at_rids, ReplyTexts.names_of_table, Session.rows_of_table, Typing.info_at}
+use Rattle.smk_session.specs.{Answers.rids_or_all, Sessions.state_of}
 use Rattle.smk_own.specs.Image.{part_image}
-use Rattle.smk_own.proofs.Selects.{rows_told}
+use Rattle.smk_own.proofs.{Selects.rows_told, selecting.rows_text.Goals.{in-Some+in_ok-text-in-Some, in-None+in_ok-text-in-None}}
 use Rattle.smk_own.proofs.selecting.rows_text.Goals as goal
-use Rattle.smk_own.proofs.selecting.rows_text.Goals.{in-Some+in_ok-text-in-Some, in-None+in_ok-text-in-None}
 
 pub returns-clause-told : goal.returns-clause-told
 returns-clause-told g c =

@@ -1,14 +1,9 @@
 use Rattle.std.specs.Prelude.{◌<◌, length, slice_index_or}
-use Rattle.std.proofs.Common.{ap, sym, ◌∙◌, subst, refl, arith, true, false}
-use Rattle.std.proofs.lemmas.List.{get_or_read}
-use Rattle.smk_base.specs.CatalogImage.{catalog_image}
-use Rattle.smk_base.specs.TreeImage.{ask_step_image}
-use Rattle.smk_base.specs.declared.book.catalog.Catalog.{Catalog}
+use Rattle.std.proofs.{Common.{ap, sym, ◌∙◌, subst, refl, arith, true, false}, lemmas.List.get_or_read}
+use Rattle.smk_base.specs.{CatalogImage.catalog_image, TreeImage.ask_step_image, declared.book.catalog.Catalog.Catalog}
 use Rattle.smk_base.specs.declared.reply.AskRefusal.TheVariants as refusals
 use Rattle.smk_base.specs.declared.reply.AskReply.TheVariants as answers
-use Rattle.smk_model.specs.OwnTexts.{numbered_text, selected_words}
-use Rattle.smk_model.specs.Replies.{rows_at_rids}
-use Rattle.smk_model.specs.Typing.{info_at, no_table}
+use Rattle.smk_model.specs.{OwnTexts.{numbered_text, selected_words}, Replies.rows_at_rids, Typing.{info_at, no_table}}
 use Rattle.smk_session.specs.Sessions.{state_of}
 use Rattle.smk_own.specs.Image.{part_image}
 use Rattle.smk_own.proofs.Selects.{steps_told, steps_looks}

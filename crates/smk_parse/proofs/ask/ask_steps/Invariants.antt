@@ -1,5 +1,5 @@
 use Rattle.std.proofs.Common.{◌≡◌, length, map}
-use Rattle.smk_parse.specs.{Vocabulary.APiped, Vocabulary.ask_step_image, Vocabulary.reads, Reads.before}
+use Rattle.smk_parse.specs.{Vocabulary.{APiped, ask_step_image, reads}, Reads.before}
 use Rattle.smk_parse.proofs.ask.ask_steps.Given as goal
 
 abbrev pub invariant-steps : goal.invariant-steps

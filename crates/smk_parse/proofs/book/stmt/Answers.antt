@@ -1,7 +1,6 @@
 use Rattle.std.proofs.Common.{◌∙◌, ap, nat_lt, refl, sym, subst}
-use Rattle.smk_base.specs.declared.book.limits.TheConstants.{LINEAGE_LIMIT}
+use Rattle.smk_base.specs.{declared.book.limits.TheConstants.LINEAGE_LIMIT, declared.fault.Many.TheVariants.{Tables, Views, Lineages, Links}}
 use Rattle.smk_base.specs.declared.book.token.TokenKind.TheVariants as kinds
-use Rattle.smk_base.specs.declared.fault.Many.TheVariants.{Tables, Views, Lineages, Links}
 use Rattle.smk_model.specs.TokenReadings.{Fine, within}
 use Rattle.smk_model.proofs.InTurn.{only}
 use Rattle.smk_parse.{specs.Vocabulary.stmt_image, specs.Vocabulary.table_rule, specs.Vocabulary.view_rule, specs.Vocabulary.link_rule, specs.Vocabulary.depends_rule, specs.Vocabulary.ALineage, specs.Vocabulary.Reads, specs.Vocabulary.Gives, specs.Vocabulary.no_counts, specs.Vocabulary.runs, specs.Reads.Answers, proofs.Steps.stmt_answers}

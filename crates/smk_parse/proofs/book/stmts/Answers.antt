@@ -1,5 +1,4 @@
-use Rattle.std.proofs.{Common.arith, Common.sym, lemmas.Grind.common_steps}
-use Rattle.std.proofs.lemmas.List.{map_push}
+use Rattle.std.proofs.{Common.{arith, sym}, lemmas.Grind.common_steps, lemmas.List.map_push}
 use Rattle.smk_parse.proofs.Steps.{before_push, stmts_done}
 use Rattle.smk_parse.proofs.book.stmts.Goals as goal
 

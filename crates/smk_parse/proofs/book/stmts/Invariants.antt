@@ -1,5 +1,5 @@
 use Rattle.std.proofs.Common.{◌≡◌, length, map}
-use Rattle.smk_parse.specs.{Vocabulary.stmt_image, Vocabulary.AStmts, Vocabulary.no_tally, Vocabulary.reads, Reads.tally_of, Reads.before}
+use Rattle.smk_parse.specs.{Vocabulary.{stmt_image, AStmts, no_tally, reads}, Reads.{tally_of, before}}
 use Rattle.smk_parse.proofs.book.stmts.Given as goal
 
 abbrev pub invariant-stmts : goal.invariant-stmts

@@ -1,6 +1,5 @@
-use Rattle.std.proofs.Common.{◌≡◌, sym, subst, rules, arith}
+use Rattle.std.proofs.{Common.{◌≡◌, sym, subst, rules, arith}, lemmas.{Int.ints, Grind.common_steps, Result.err_from_is_err_and}}
 use Rattle.std.specs.Prelude.{Ok}
-use Rattle.std.proofs.lemmas.{Int.ints, Grind.common_steps, Result.err_from_is_err_and}
 use mir.{Val.to_z, Val.of_z, Syntax.w64}
 use Rattle.smk_base.specs.declared.book.tree.ItemTree.TheVariants as items
 use Rattle.smk_parse.{specs.Vocabulary.OutputItem, specs.Vocabulary.One, specs.Vocabulary.reads, proofs.Steps.in_order}

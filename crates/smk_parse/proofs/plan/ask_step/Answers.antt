@@ -1,6 +1,5 @@
 use Rattle.std.specs.Prelude.{Ok}
-use Rattle.std.proofs.Common.{◌∙◌, ap, sym}
-use Rattle.std.proofs.lemmas.Result.{err_from_is_err_and}
+use Rattle.std.proofs.{Common.{◌∙◌, ap, sym}, lemmas.Result.err_from_is_err_and}
 use Rattle.smk_model.proofs.InTurn.{then}
 use Rattle.smk_parse.{specs.Vocabulary.head_of, proofs.Steps.asked_reads, proofs.Steps.asked_of}
 use Rattle.smk_parse.proofs.plan.ask_step.Goals as goal

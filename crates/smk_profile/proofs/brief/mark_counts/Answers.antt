@@ -1,17 +1,9 @@
-use Rattle.std.proofs.Common.{◌≡◌, ◌∙◌, ◌<◌, List, ℕ, ap, arith, length, slice_index_or, subst, sym, take_all}
-use Rattle.std.proofs.lemmas.Grind.{common_steps}
-use Rattle.std.proofs.lemmas.List.{length-map}
-use Rattle.smk_base.specs.CatalogImage.{catalog_image}
-use Rattle.smk_base.specs.Rels.{Relation}
-use Rattle.smk_base.specs.declared.reply.Reply.TheVariants.{Back}
-use Rattle.smk_model.specs.Profiles.{mark_line, shown_by}
-use Rattle.smk_model.specs.Replies.{reply}
-use Rattle.smk_model.specs.Typing.{info_at}
+use Rattle.std.proofs.{Common.{◌≡◌, ◌∙◌, ◌<◌, List, ℕ, ap, arith, length, slice_index_or, subst, sym, take_all}, lemmas.Grind.common_steps, lemmas.List.length-map}
+use Rattle.smk_base.specs.{CatalogImage.catalog_image, Rels.Relation, declared.reply.Reply.TheVariants.Back}
+use Rattle.smk_model.specs.{Profiles.{mark_line, shown_by}, Replies.reply, Typing.info_at}
 use Rattle.smk_session.specs.Sessions.{state_of}
-use Rattle.smk_profile.specs.Briefs.{size_of}
-use Rattle.smk_profile.specs.Marked.{IsAnsweredByRows}
-use Rattle.smk_profile.proofs.Counts.{sizes, sizes_more}
-use Rattle.smk_profile.proofs.Marked.{answered, wanted, wanted_number}
+use Rattle.smk_profile.specs.{Briefs.size_of, Marked.IsAnsweredByRows}
+use Rattle.smk_profile.proofs.{Counts.{sizes, sizes_more}, Marked.{answered, wanted, wanted_number}}
 use Rattle.smk_profile.proofs.brief.mark_counts.Goals as goal
 
 pub mark_count-requires : goal.mark_count-requires

@@ -1,6 +1,5 @@
 use Rattle.std.proofs.Common.{◌∙◌, length, ap, refl, arith}
-use Rattle.smk_base.specs.CatalogImage.{catalog_image}
-use Rattle.smk_base.specs.Rels.{Relation}
+use Rattle.smk_base.specs.{CatalogImage.catalog_image, Rels.Relation}
 use Rattle.smk_session.specs.Sessions.{state_of}
 use Rattle.smk_profile.proofs.Marked.{Meets, answered_in, begins, ends, has_marks, marked_with, on_in, stops_in, wanted_number, within}
 use Rattle.smk_profile.proofs.marks.mark_groups.Goals as goal

@@ -1,7 +1,6 @@
 use Rattle.std.proofs.Common.{◌≡◌}
 use Rattle.smk_base.specs.CatalogImage.{catalog_image}
-use Rattle.smk_model.specs.Profiles.{shown_by}
-use Rattle.smk_model.specs.Typing.{info_at}
+use Rattle.smk_model.specs.{Profiles.shown_by, Typing.info_at}
 use Rattle.smk_session.specs.Sessions.{state_of}
 use Rattle.smk_profile.specs.Marked.{IsMarkLine}
 use Rattle.smk_profile.proofs.Marked.{Marked, wanted}

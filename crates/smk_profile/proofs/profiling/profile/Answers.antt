@@ -1,6 +1,5 @@
 use Rattle.std.proofs.Common.{◌≡◌, ◌∙◌, Some, subst, sym}
-use Rattle.smk_base.specs.CatalogImage.{catalog_image, view_place}
-use Rattle.smk_base.specs.declared.book.catalog.Catalog.{Catalog}
+use Rattle.smk_base.specs.{CatalogImage.{catalog_image, view_place}, declared.book.catalog.Catalog.Catalog}
 use Rattle.smk_model.proofs.ProfilesFit.{shown}
 use Rattle.smk_profile.proofs.profiling.profile.Goals as goal
 

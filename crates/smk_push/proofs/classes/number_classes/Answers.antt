@@ -1,8 +1,6 @@
-use Rattle.std.proofs.Common.{◌≡◌, ◌∙◌, ◌<◌, ℕ, List, length, get_or, refl, sym, subst, arith, rules}
-use Rattle.std.proofs.lemmas.Bool.{false≢true}
-use Rattle.smk_push.proofs.Found.{IsFound-none, IsFound-again, IsFound-anew, IsFound-all, firsts_below}
+use Rattle.std.proofs.{Common.{◌≡◌, ◌∙◌, ◌<◌, ℕ, List, length, get_or, refl, sym, subst, arith, rules}, lemmas.Bool.false≢true}
+use Rattle.smk_push.proofs.{Found.{IsFound-none, IsFound-again, IsFound-anew, IsFound-all, firsts_below}, classes.number_classes.Goals.{then-is_class, else-is_class+in_ok-push}}
 use Rattle.smk_push.proofs.classes.number_classes.Goals as goal
-use Rattle.smk_push.proofs.classes.number_classes.Goals.{then-is_class, else-is_class+in_ok-push}
 
 pub loop-i-init : goal.loop-i-init
 loop-i-init c = (rw (c.in_ok-of.ensures.items, c.new-firsts.ensures.items) (IsFound-none c.args.numbers.now (length c.args.table.now) c.args.table.now refl), c.in_ok-of.ensures.capacity)

@@ -1,5 +1,4 @@
-use Rattle.std.proofs.Common.{◌≡◌, ◌∙◌, length, map, ap, arith, subst, get_or, IfOk}
-use Rattle.std.proofs.lemmas.List.{length-map}
+use Rattle.std.proofs.{Common.{◌≡◌, ◌∙◌, length, map, ap, arith, subst, get_or, IfOk}, lemmas.List.length-map}
 use Rattle.smk_base.specs.Rels.{Relation, row_in}
 use Rattle.smk_push.proofs.Rows.{cube_made, firsts_inside, numbered_at}
 use Rattle.smk_push.proofs.group.group_at.Goals as goal

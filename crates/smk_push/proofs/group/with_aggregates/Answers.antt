@@ -1,11 +1,6 @@
-use Rattle.std.proofs.Common.{◌≡◌, ◌∙◌, ◌+◌, ◌++◌, ◌∷◌, [], ℕ, List, length, map, take, get_or, ap, sym, arith, append_assoc}
-use Rattle.std.proofs.lemmas.List.{map_more, length-map, length-append, length-take-le, take_all}
-use Rattle.smk_base.specs.declared.book.plan.Agg.TheVariants.{Count}
-use Rattle.smk_base.specs.declared.book.plan.Agg.{Agg}
-use Rattle.smk_base.specs.Places.{upto}
-use Rattle.smk_base.specs.Rels.{Relation, beside_rows, row_in, rows_at}
-use Rattle.smk_model.specs.Plain.{aggregate}
-use Rattle.smk_model.specs.Kinds.{kind_of_agg}
+use Rattle.std.proofs.{Common.{◌≡◌, ◌∙◌, ◌+◌, ◌++◌, ◌∷◌, [], ℕ, List, length, map, take, get_or, ap, sym, arith, append_assoc}, lemmas.List.{map_more, length-map, length-append, length-take-le, take_all}}
+use Rattle.smk_base.specs.{declared.book.plan.Agg.TheVariants.Count, declared.book.plan.Agg.Agg, Places.upto, Rels.{Relation, beside_rows, row_in, rows_at}}
+use Rattle.smk_model.specs.{Plain.aggregate, Kinds.kind_of_agg}
 use Rattle.smk_model.proofs.Directions.{length_each}
 use Rattle.smk_body.specs.Halves.{class_places}
 use Rattle.smk_body.proofs.Besides.{column_more, related, relation}

@@ -1,9 +1,7 @@
 use Rattle.std.proofs.Common.{◌≡◌, ◌++◌, length, map, take}
-use Rattle.smk_base.specs.Places.{upto}
-use Rattle.smk_base.specs.Rels.{row_in, rows_at}
+use Rattle.smk_base.specs.{Places.upto, Rels.{row_in, rows_at}}
 use Rattle.smk_body.specs.Halves.{class_places}
-use Rattle.smk_model.specs.Kinds.{kind_of_agg}
-use Rattle.smk_model.specs.Plain.{aggregate}
+use Rattle.smk_model.specs.{Kinds.kind_of_agg, Plain.aggregate}
 use Rattle.smk_push.proofs.group.with_aggregates.Given as goal
 
 abbrev pub invariant-loop-agg : goal.invariant-loop-agg

@@ -1,5 +1,4 @@
-use Rattle.std.proofs.Common.{◌≡◌, ◌∙◌, length, ap}
-use Rattle.std.proofs.lemmas.List.{length-map}
+use Rattle.std.proofs.{Common.{◌≡◌, ◌∙◌, length, ap}, lemmas.List.length-map}
 use Rattle.smk_base.specs.Rels.{Relation, kind_in}
 use Rattle.smk_base.proofs.Places.{upto_below}
 use Rattle.smk_push.proofs.Rows.{cube_same, is_input}

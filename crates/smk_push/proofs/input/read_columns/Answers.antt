@@ -1,13 +1,9 @@
 use Rattle.std.proofs.Common.{◌≡◌, ◌∙◌, ◌∷◌, ◌++◌, [], ℕ, Some, List, length, map, get_or, ap, sym, rules, arith}
-use Rattle.smk_base.specs.declared.book.plan.Agg.{Agg}
-use Rattle.smk_base.specs.declared.book.plan.Agg.TheVariants.{Count}
-use Rattle.smk_base.specs.Aggregates.{moved_to, read_by}
-use Rattle.smk_base.specs.Rels.{kind_in, picked}
+use Rattle.smk_base.specs.{declared.book.plan.Agg.Agg, declared.book.plan.Agg.TheVariants.Count, Aggregates.{moved_to, read_by}, Rels.{kind_in, picked}}
 use Rattle.smk_body.proofs.Besides.{relation}
 use Rattle.smk_model.proofs.Aggregates.{column_there}
-use Rattle.smk_push.proofs.Read.{AreRead-all, IsRead-column, IsRead-count}
+use Rattle.smk_push.proofs.{Read.{AreRead-all, IsRead-column, IsRead-count}, input.read_columns.Goals.{in-Some+in_ok-push-2, in_default}}
 use Rattle.smk_push.proofs.input.read_columns.Goals as goal
-use Rattle.smk_push.proofs.input.read_columns.Goals.{in-Some+in_ok-push-2, in_default}
 
 pub loop-agg-preserved : goal.loop-agg-preserved
 loop-agg-preserved c =

@@ -1,6 +1,4 @@
-use Rattle.std.proofs.Common.{◌≡◌, ◌∙◌, ◌≤◌, ◌<◌, ◌+◌, ◌-◌, ◌∷◌, ℕ, length, decimal, drop, ap, arith}
-use Rattle.std.proofs.lemmas.Fmt.{length-decimal-le}
-use Rattle.std.proofs.lemmas.List.{drop-set}
+use Rattle.std.proofs.{Common.{◌≡◌, ◌∙◌, ◌≤◌, ◌<◌, ◌+◌, ◌-◌, ◌∷◌, ℕ, length, decimal, drop, ap, arith}, lemmas.Fmt.length-decimal-le, lemmas.List.drop-set}
 use Rattle.smk_report.proofs.lines.put_number.Goals as goal
 
 short : (n : ℕ) → n < 4294967296 → length (decimal n) ≤ 10

@@ -1,5 +1,4 @@
-use Rattle.std.proofs.Common.{arith}
-use Rattle.std.proofs.lemmas.Grind.{common_steps}
+use Rattle.std.proofs.{Common.arith, lemmas.Grind.common_steps}
 use Rattle.smk_report.proofs.linked.with_linked.Goals as goal
 
 pub loop-view-preserved : goal.loop-view-preserved

@@ -1,6 +1,5 @@
 use Rattle.std.proofs.Common.{◌≡◌, drop, nat_eq}
-use Rattle.std.specs.List.{list_any}
-use Rattle.std.specs.Cmp.Lexicographic.{pointwise}
+use Rattle.std.specs.{List.list_any, Cmp.Lexicographic.pointwise}
 use Rattle.smk_report.proofs.names.is_among.Given as goal
 
 abbrev pub invariant-loop-entry : goal.invariant-loop-entry

@@ -1,9 +1,7 @@
-use Rattle.std.proofs.Common.{◌≡◌, ◌∙◌, ℕ, List, [], ◌+◌, ◌-◌, ◌++◌, ap, drop, Vec, Global}
-use Rattle.std.proofs.lemmas.Result.{IfOk-weaker}
+use Rattle.std.proofs.{Common.{◌≡◌, ◌∙◌, ℕ, List, [], ◌+◌, ◌-◌, ◌++◌, ap, drop, Vec, Global}, lemmas.Result.IfOk-weaker}
 use Rattle.smk_jobs.specs.Cuts.{cut_at}
 use Rattle.smk_model.specs.Texts.{row_lines_to}
-use Rattle.smk_report.specs.Pages.{Says}
-use Rattle.smk_report.specs.PieceTexts.{IsPiece, number_in}
+use Rattle.smk_report.specs.{Pages.Says, PieceTexts.{IsPiece, number_in}}
 use Rattle.smk_report.proofs.PieceTexts.{piece_added}
 use Rattle.smk_report.proofs.pieces.piece_text.Goals as goal
 

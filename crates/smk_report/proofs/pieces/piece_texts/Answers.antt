@@ -1,6 +1,5 @@
-use Rattle.std.proofs.Common.{◌<◌, Vec, Global, ℕ, length, ap, ◌∙◌, arith, subst}
+use Rattle.std.proofs.{Common.{◌<◌, Vec, Global, ℕ, length, ap, ◌∙◌, arith, subst}, lemmas.Result.IfOk-weaker}
 use Rattle.std.specs.List.{AllZip, range_with_len}
-use Rattle.std.proofs.lemmas.Result.{IfOk-weaker}
 use Rattle.smk_base.proofs.Places.{length_upto, get_or_upto, upto_range}
 use Rattle.smk_report.specs.PieceTexts.{IsPiece, number_in}
 use Rattle.smk_report.proofs.pieces.piece_texts.Goals as goal

@@ -1,6 +1,5 @@
-use Rattle.std.proofs.Common.{◌≡◌, ℕ, Vec, Global, length, arith, rules}
+use Rattle.std.proofs.{Common.{◌≡◌, ℕ, Vec, Global, length, arith, rules}, lemmas.Grind.common_steps}
 use Rattle.std.specs.List.{flat_map}
-use Rattle.std.proofs.lemmas.Grind.{common_steps}
 use Rattle.smk_model.specs.Texts.{row_lines_to}
 use Rattle.smk_report.specs.PieceTexts.{number_in}
 use Rattle.smk_report.proofs.PieceTexts.{pieces_joined}

@@ -1,5 +1,4 @@
-use Rattle.std.proofs.Common.{arith}
-use Rattle.std.proofs.lemmas.Grind.{common_steps}
+use Rattle.std.proofs.{Common.arith, lemmas.Grind.common_steps}
 use Rattle.smk_report.proofs.FullViews.{full_view}
 use Rattle.smk_report.proofs.refusals.refusal_text.Goals as goal
 

@@ -1,11 +1,7 @@
-use Rattle.std.proofs.Common.{◌≡◌, ◌∙◌, ◌++◌, ℕ, Vec, Global, arith, sym}
-use Rattle.std.proofs.lemmas.Grind.{common_steps}
-use Rattle.std.proofs.lemmas.Result.{IfOk-weaker}
+use Rattle.std.proofs.{Common.{◌≡◌, ◌∙◌, ◌++◌, ℕ, Vec, Global, arith, sym}, lemmas.Grind.common_steps, lemmas.Result.IfOk-weaker}
 use Rattle.std.specs.List.{flat_map}
-use Rattle.smk_base.specs.CatalogImage.{catalog_image}
-use Rattle.smk_base.specs.declared.reply.Reply.{Reply}
-use Rattle.smk_model.specs.OwnTexts.{brief_text, brushed_rids, unlisted}
-use Rattle.smk_model.specs.ReplyTexts.{linked_rows_text}
+use Rattle.smk_base.specs.{CatalogImage.catalog_image, declared.reply.Reply.Reply}
+use Rattle.smk_model.specs.{OwnTexts.{brief_text, brushed_rids, unlisted}, ReplyTexts.linked_rows_text}
 use Rattle.smk_report.proofs.Briefs.{brief_same}
 use Rattle.smk_report.proofs.replies.brief_text.Goals as goal
 

@@ -1,9 +1,6 @@
-use Rattle.std.proofs.Common.{ℕ, codes, ◌∷◌, [], arith}
-use Rattle.std.proofs.lemmas.Grind.{common_steps}
-use Rattle.std.proofs.lemmas.Result.{on_ok_weaker}
+use Rattle.std.proofs.{Common.{ℕ, codes, ◌∷◌, [], arith}, lemmas.Grind.common_steps, lemmas.Result.on_ok_weaker}
 use Rattle.smk_base.specs.CatalogImage.{catalog_image}
-use Rattle.smk_model.specs.Session.{view_at}
-use Rattle.smk_model.specs.Typing.{info_at}
+use Rattle.smk_model.specs.{Session.view_at, Typing.info_at}
 use Rattle.smk_report.proofs.Numbers.{line_ends}
 use Rattle.smk_report.proofs.schema.add_link.Goals as goal
 

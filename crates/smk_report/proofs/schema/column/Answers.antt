@@ -1,5 +1,4 @@
-use Rattle.std.proofs.Common.{◌∷◌, [], List, ℕ, ap₂}
-use Rattle.std.proofs.lemmas.Result.{on_ok_weaker}
+use Rattle.std.proofs.{Common.{◌∷◌, [], List, ℕ, ap₂}, lemmas.Result.on_ok_weaker}
 use Rattle.smk_report.proofs.PageTexts.{says_same}
 use Rattle.smk_report.proofs.schema.column.Goals as goal
 

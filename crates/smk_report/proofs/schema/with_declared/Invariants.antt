@@ -1,7 +1,6 @@
 use Rattle.std.proofs.Common.{map, take}
 use Rattle.std.specs.List.{flat_map}
-use Rattle.smk_model.specs.OwnTexts.{column_record}
-use Rattle.smk_model.specs.Typing.{column_of}
+use Rattle.smk_model.specs.{OwnTexts.column_record, Typing.column_of}
 use Rattle.smk_report.specs.Pages.{Adds}
 use Rattle.smk_report.proofs.schema.with_declared.Given as goal
 

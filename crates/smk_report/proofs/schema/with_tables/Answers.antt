@@ -1,8 +1,6 @@
-use Rattle.std.proofs.Common.{◌≡◌, ℕ, ap, ◌∙◌, slice_index_or}
-use Rattle.std.proofs.lemmas.List.{get_or_read}
+use Rattle.std.proofs.{Common.{◌≡◌, ℕ, ap, ◌∙◌, slice_index_or}, lemmas.List.get_or_read}
 use Rattle.smk_base.specs.declared.book.catalog.TableInfo.{TableInfo}
-use Rattle.smk_model.specs.OwnTexts.{table_info_text}
-use Rattle.smk_model.specs.Typing.{info_at, no_table}
+use Rattle.smk_model.specs.{OwnTexts.table_info_text, Typing.{info_at, no_table}}
 use Rattle.smk_report.proofs.Parts.{text_more}
 use Rattle.smk_report.proofs.schema.with_tables.Goals as goal
 

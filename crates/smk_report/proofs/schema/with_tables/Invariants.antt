@@ -1,8 +1,7 @@
 use Rattle.std.proofs.Common.{◌≡◌, ◌++◌, slice_index_or}
 use Rattle.std.specs.List.{flat_map}
 use Rattle.smk_base.specs.Places.{upto}
-use Rattle.smk_model.specs.OwnTexts.{table_info_text}
-use Rattle.smk_model.specs.Typing.{info_at}
+use Rattle.smk_model.specs.{OwnTexts.table_info_text, Typing.info_at}
 use Rattle.smk_report.proofs.schema.with_tables.Given as goal
 
 abbrev pub invariant-loop-t : goal.invariant-loop-t

@@ -1,14 +1,7 @@
-use Rattle.std.proofs.Common.{◌≡◌, ℕ, List, [], ◌∷◌, ◌++◌, map, add-one, slice_index_or, ◌∙◌, ap, ap₂, subst, arith, length, append_assoc, codes, Vec, Global}
-use Rattle.std.proofs.lemmas.Grind.{common_steps}
-use Rattle.std.proofs.lemmas.List.{map-append}
-use Rattle.std.proofs.lemmas.Result.{IfOk-weaker}
+use Rattle.std.proofs.{Common.{◌≡◌, ℕ, List, [], ◌∷◌, ◌++◌, map, add-one, slice_index_or, ◌∙◌, ap, ap₂, subst, arith, length, append_assoc, codes, Vec, Global}, lemmas.Grind.common_steps, lemmas.List.map-append, lemmas.Result.IfOk-weaker}
 use Rattle.std.specs.List.{flat_map}
-use Rattle.smk_base.specs.Places.{upto}
-use Rattle.smk_base.specs.declared.book.catalog.Column.{Column}
-use Rattle.smk_base.specs.declared.value.Kind.{Kind}
-use Rattle.smk_base.specs.declared.value.Kind.TheVariants.{Text}
-use Rattle.smk_model.specs.OwnTexts.{column_record, columns_text, columns_of_view, kind_word}
-use Rattle.smk_model.specs.Texts.{record_line}
+use Rattle.smk_base.specs.{Places.upto, declared.book.catalog.Column.Column, declared.value.Kind.Kind, declared.value.Kind.TheVariants.Text}
+use Rattle.smk_model.specs.{OwnTexts.{column_record, columns_text, columns_of_view, kind_word}, Texts.record_line}
 use Rattle.smk_report.specs.Pages.{Says}
 use Rattle.smk_report.proofs.Parts.{adds_pushed}
 use Rattle.smk_report.proofs.schema.with_view_columns.Goals as goal

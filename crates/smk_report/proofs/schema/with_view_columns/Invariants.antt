@@ -1,7 +1,6 @@
 use Rattle.std.proofs.Common.{[], map, slice_index_or}
 use Rattle.std.specs.List.{flat_map}
-use Rattle.smk_base.specs.Places.{upto}
-use Rattle.smk_base.specs.declared.value.Kind.TheVariants.{Text}
+use Rattle.smk_base.specs.{Places.upto, declared.value.Kind.TheVariants.Text}
 use Rattle.smk_model.specs.OwnTexts.{column_record}
 use Rattle.smk_report.specs.Pages.{Adds}
 use Rattle.smk_report.proofs.schema.with_view_columns.Given as goal

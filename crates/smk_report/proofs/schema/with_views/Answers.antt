@@ -1,5 +1,4 @@
-use Rattle.std.proofs.Common.{◌≡◌, ◌<◌, ℕ, length, map, ap, sym, subst, arith, slice_index_or}
-use Rattle.std.proofs.lemmas.Grind.{common_steps}
+use Rattle.std.proofs.{Common.{◌≡◌, ◌<◌, ℕ, length, map, ap, sym, subst, arith, slice_index_or}, lemmas.Grind.common_steps}
 use Rattle.smk_base.specs.CatalogImage.{ViewImage, catalog_image, view_image}
 use Rattle.smk_model.specs.Session.{no_view, view_at}
 use Rattle.smk_report.specs.Schemas.{view_over}

@@ -1,7 +1,6 @@
 use Rattle.std.proofs.Common.{◌≡◌, ◌++◌, slice_index_or}
 use Rattle.std.specs.List.{flat_map}
-use Rattle.smk_base.specs.CatalogImage.{catalog_image}
-use Rattle.smk_base.specs.Places.{upto}
+use Rattle.smk_base.specs.{CatalogImage.catalog_image, Places.upto}
 use Rattle.smk_model.specs.Session.{view_at}
 use Rattle.smk_report.specs.Schemas.{view_over}
 use Rattle.smk_report.proofs.schema.with_views.Given as goal

@@ -1,5 +1,4 @@
-use Rattle.std.proofs.Common.{◌∙◌, ℕ, List, ◌++◌, ◌∷◌, [], take, take_all, sym, ap, arith}
-use Rattle.std.proofs.lemmas.Result.{on_ok_weaker}
+use Rattle.std.proofs.{Common.{◌∙◌, ℕ, List, ◌++◌, ◌∷◌, [], take, take_all, sym, ap, arith}, lemmas.Result.on_ok_weaker}
 use Rattle.smk_report.proofs.PageTexts.{item_more, says_same}
 use Rattle.smk_report.proofs.texts.header.Goals as goal
 

@@ -1,8 +1,6 @@
-use Rattle.std.proofs.Common.{◌+◌, [], drop, sym}
-use Rattle.std.proofs.lemmas.List.{get_or-drop}
+use Rattle.std.proofs.{Common.{◌+◌, [], drop, sym}, lemmas.List.get_or-drop}
 use Rattle.smk_report.specs.PieceTexts.{number_in}
-use Rattle.smk_report.proofs.PageTexts.{adds_none}
-use Rattle.smk_report.proofs.Parts.{lines_added}
+use Rattle.smk_report.proofs.{PageTexts.adds_none, Parts.lines_added}
 use Rattle.smk_report.proofs.texts.numbered_lines.Goals as goal
 
 pub loop-k-init : goal.loop-k-init

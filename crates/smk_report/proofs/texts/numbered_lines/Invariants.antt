@@ -1,7 +1,6 @@
 use Rattle.std.proofs.Common.{ℕ, ◌+◌, drop}
 use Rattle.smk_model.specs.Texts.{row_lines_to}
-use Rattle.smk_report.specs.Pages.{Adds}
-use Rattle.smk_report.specs.PieceTexts.{number_in}
+use Rattle.smk_report.specs.{Pages.Adds, PieceTexts.number_in}
 use Rattle.smk_report.proofs.texts.numbered_lines.Given as goal
 
 abbrev pub invariant-loop-k : goal.invariant-loop-k

@@ -1,10 +1,7 @@
-use Rattle.std.proofs.Common.{◌≡◌, ◌∙◌, ◌<◌, ℕ, List, ◌++◌, ◌∷◌, [], length, map, take, sym, ap, arith, decimal}
-use Rattle.std.proofs.lemmas.Result.{on_ok_weaker}
-use Rattle.smk_base.specs.declared.value.Value.{Value}
-use Rattle.smk_base.specs.Rels.{row_in}
+use Rattle.std.proofs.{Common.{◌≡◌, ◌∙◌, ◌<◌, ℕ, List, ◌++◌, ◌∷◌, [], length, map, take, sym, ap, arith, decimal}, lemmas.Result.on_ok_weaker}
+use Rattle.smk_base.specs.{declared.value.Value.Value, Rels.row_in}
 use Rattle.smk_model.specs.Texts.{value_text}
-use Rattle.smk_report.proofs.PageTexts.{says_same}
-use Rattle.smk_report.proofs.Parts.{row_width, values_more, values_all}
+use Rattle.smk_report.proofs.{PageTexts.says_same, Parts.{row_width, values_more, values_all}}
 use Rattle.smk_report.proofs.texts.row.Goals as goal
 
 pub loop-c-init : goal.loop-c-init

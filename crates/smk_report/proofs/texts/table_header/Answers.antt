@@ -1,8 +1,6 @@
-use Rattle.std.proofs.Common.{◌∙◌, ℕ, List, ◌++◌, ◌∷◌, [], map, take, take_all, sym, ap, arith, codes}
-use Rattle.std.proofs.lemmas.Result.{on_ok_weaker}
+use Rattle.std.proofs.{Common.{◌∙◌, ℕ, List, ◌++◌, ◌∷◌, [], map, take, take_all, sym, ap, arith, codes}, lemmas.Result.on_ok_weaker}
 use Rattle.smk_base.specs.declared.book.col_decl.ColDecl.{ColDecl}
-use Rattle.smk_report.proofs.PageTexts.{says_same}
-use Rattle.smk_report.proofs.Parts.{mapped_more}
+use Rattle.smk_report.proofs.{PageTexts.says_same, Parts.mapped_more}
 use Rattle.smk_report.proofs.texts.table_header.Goals as goal
 
 pub loop-column-init : goal.loop-column-init

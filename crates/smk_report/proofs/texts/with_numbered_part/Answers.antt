@@ -1,6 +1,4 @@
-use Rattle.std.proofs.Common.{◌≡◌, ◌∙◌, ◌≤◌, ◌+◌, ◌++◌, ◌∷◌, [], ℕ, List, Vec, Global, ap, sym, arith, codes, length, drop, take}
-use Rattle.std.proofs.lemmas.List.{length-drop}
-use Rattle.std.proofs.lemmas.Result.{IfOk-weaker}
+use Rattle.std.proofs.{Common.{◌≡◌, ◌∙◌, ◌≤◌, ◌+◌, ◌++◌, ◌∷◌, [], ℕ, List, Vec, Global, ap, sym, arith, codes, length, drop, take}, lemmas.List.length-drop, lemmas.Result.IfOk-weaker}
 use Rattle.smk_model.specs.Texts.{record_line, row_lines, row_lines_to}
 use Rattle.smk_report.specs.Pages.{Says}
 use Rattle.smk_report.proofs.Parts.{part_lines}

@@ -1,5 +1,4 @@
-use Rattle.std.proofs.Common.{◌≡◌, ◌∙◌, ◌++◌, ◌+◌, [], ℕ, List, Vec, Global, ap, slice_index_or}
-use Rattle.std.proofs.lemmas.Result.{IfOk-weaker}
+use Rattle.std.proofs.{Common.{◌≡◌, ◌∙◌, ◌++◌, ◌+◌, [], ℕ, List, Vec, Global, ap, slice_index_or}, lemmas.Result.IfOk-weaker}
 use Rattle.smk_model.specs.Texts.{row_lines, row_lines_to}
 use Rattle.smk_report.specs.Pages.{Says}
 use Rattle.smk_report.proofs.Parts.{whole_lines}

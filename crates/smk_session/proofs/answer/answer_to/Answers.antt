@@ -1,7 +1,6 @@
 use Rattle.std.proofs.Common.{◌∙◌, Ok, ap, sym}
 use Rattle.smk_base.specs.declared.reply.Reply.TheVariants as shapes
-use Rattle.smk_model.specs.Replies.{answer_to}
-use Rattle.smk_model.specs.Session.{State}
+use Rattle.smk_model.specs.{Replies.answer_to, Session.State}
 use Rattle.smk_session.specs.Answers.{book_of, state_lent}
 use Rattle.smk_session.proofs.Told.{cleared_listed}
 use Rattle.smk_session.proofs.answer.answer_to.Goals as goal

@@ -1,7 +1,6 @@
 use Rattle.std.proofs.Common.{rules, ◌≤◌, ◌+◌, subst}
 use Rattle.smk_base.specs.declared.reply.Reply.{Reply}
-use Rattle.smk_model.specs.Replies.{Asked}
-use Rattle.smk_model.specs.ReplyTexts.{AsksRows}
+use Rattle.smk_model.specs.{Replies.Asked, ReplyTexts.AsksRows}
 use Rattle.smk_session.specs.Answers.{Gives, looks_of_asked}
 use Rattle.smk_session.proofs.BackAnswers.{answered_is, backs_fit, cubes_fit, grouped_is, rows_named, splits_fit}
 use Rattle.smk_session.proofs.answer.back.Goals as goal

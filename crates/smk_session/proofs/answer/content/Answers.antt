@@ -1,9 +1,7 @@
-use Rattle.std.proofs.Common.{ap, arith, get_or, Option}
-use Rattle.std.proofs.lemmas.Grind.{common_steps}
+use Rattle.std.proofs.{Common.{ap, arith, get_or, Option}, lemmas.Grind.common_steps}
 use Rattle.smk_base.specs.Rels.{Relation}
 use Rattle.smk_compose.specs.declared.kept_maps.Run.{Run}
-use Rattle.smk_session.proofs.OpenedViews.{views_long}
-use Rattle.smk_session.proofs.Shown.{contents_long, shown_first, shown_kept}
+use Rattle.smk_session.proofs.{OpenedViews.views_long, Shown.{contents_long, shown_first, shown_kept}}
 use Rattle.smk_session.proofs.answer.content.Goals as goal
 
 pub bounds-held-v : goal.bounds-held-v

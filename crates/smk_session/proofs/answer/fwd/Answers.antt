@@ -3,8 +3,7 @@ use Rattle.smk_base.specs.declared.reply.Reply.{Reply}
 use Rattle.smk_compose.specs.declared.kept_maps.Run.{Run}
 use Rattle.smk_model.specs.Replies.{Asked}
 use Rattle.smk_session.specs.Answers.{Gives}
-use Rattle.smk_session.proofs.OpenedViews.{views_long}
-use Rattle.smk_session.proofs.Opened.{named_fwd_is}
+use Rattle.smk_session.proofs.{OpenedViews.views_long, Opened.named_fwd_is}
 use Rattle.smk_session.proofs.answer.fwd.Goals as goal
 
 pub bounds-held-v : goal.bounds-held-v

@@ -1,7 +1,6 @@
 use Rattle.std.proofs.Common.{◌≡◌, ◌∙◌, ℕ, ap, sym, Ok}
 use Rattle.smk_base.specs.declared.reply.Reply.TheVariants as replies
-use Rattle.smk_model.specs.Names.{◌>>=◌}
-use Rattle.smk_model.specs.Replies.{Asked, content_of}
+use Rattle.smk_model.specs.{Names.◌>>=◌, Replies.{Asked, content_of}}
 use Rattle.smk_session.specs.Answers.{book_of, state_lent}
 use Rattle.smk_session.proofs.answer.show.Goals as goal
 

@@ -1,16 +1,9 @@
-use Rattle.std.proofs.Common.{◌≡◌, ◌≤◌, ◌+◌, ◌∙◌, List, All, Ok, ap, map, refl, subst, sym}
-use Rattle.std.proofs.lemmas.Result.{err_from_is_err_and}
+use Rattle.std.proofs.{Common.{◌≡◌, ◌≤◌, ◌+◌, ◌∙◌, List, All, Ok, ap, map, refl, subst, sym}, lemmas.Result.err_from_is_err_and}
 use Rattle.smk_base.specs.declared.brush.BrushOn.{BrushOn}
 use Rattle.smk_base.specs.declared.reply.Reply.TheVariants as replies
-use Rattle.smk_model.specs.Looks.{looks_of_linked}
-use Rattle.smk_model.specs.Replies.{all_linked, brush_of}
-use Rattle.smk_model.specs.Session.{linked}
-use Rattle.smk_session.specs.Answers.{Turns, book_of, content_at, state_at, state_lent}
-use Rattle.smk_session.specs.Sessions.{BrushFits}
-use Rattle.smk_session.specs.declared.brush.refresh.Refresh.{Refresh}
-use Rattle.smk_session.proofs.Brushed.{refreshes, brush_told, brush_turned, brush_looks, brush_change}
-use Rattle.smk_session.proofs.Told.{brush_listed, told_turned, told_views}
-use Rattle.smk_session.proofs.Shown.{with_fits}
+use Rattle.smk_model.specs.{Looks.looks_of_linked, Replies.{all_linked, brush_of}, Session.linked}
+use Rattle.smk_session.specs.{Answers.{Turns, book_of, content_at, state_at, state_lent}, Sessions.BrushFits, declared.brush.refresh.Refresh.Refresh}
+use Rattle.smk_session.proofs.{Brushed.{refreshes, brush_told, brush_turned, brush_looks, brush_change}, Told.{brush_listed, told_turned, told_views}, Shown.with_fits}
 use Rattle.smk_session.proofs.brush.brush.Goals as goal
 
 pub follow-requires-clause-refresh : goal.follow-requires-clause-refresh

@@ -1,11 +1,7 @@
-use Rattle.std.proofs.Common.{◌≡◌, ℕ, arith, length, map, refl, [], subst}
-use Rattle.std.proofs.lemmas.List.{length-map}
-use Rattle.smk_base.specs.CatalogImage.{view_image}
-use Rattle.smk_base.specs.Places.{upto}
+use Rattle.std.proofs.{Common.{◌≡◌, ℕ, arith, length, map, refl, [], subst}, lemmas.List.length-map}
+use Rattle.smk_base.specs.{CatalogImage.view_image, Places.upto}
 use Rattle.smk_session.specs.Answers.{book_of, content_at, state_at}
-use Rattle.smk_session.proofs.Brushed.{none_change}
-use Rattle.smk_session.proofs.Shown.{contents_long}
-use Rattle.smk_session.proofs.Starts.{views_more}
+use Rattle.smk_session.proofs.{Brushed.none_change, Shown.contents_long, Starts.views_more}
 use Rattle.smk_session.proofs.brush.clear.Goals as goal
 
 pub overflow_cast-view-end : goal.overflow_cast-view-end

@@ -1,16 +1,9 @@
-use Rattle.std.proofs.Common.{◌≡◌, ◌≤◌, ◌+◌, ◌∙◌, List, All, Ok, ap, map, refl, subst, sym}
-use Rattle.std.proofs.lemmas.Result.{err_from_is_err_and}
+use Rattle.std.proofs.{Common.{◌≡◌, ◌≤◌, ◌+◌, ◌∙◌, List, All, Ok, ap, map, refl, subst, sym}, lemmas.Result.err_from_is_err_and}
 use Rattle.smk_base.specs.declared.brush.BrushOn.{BrushOn}
 use Rattle.smk_base.specs.declared.reply.Reply.TheVariants as replies
-use Rattle.smk_model.specs.Looks.{looks_of_linked}
-use Rattle.smk_model.specs.Replies.{all_linked, linked_pair}
-use Rattle.smk_model.specs.Session.{linked}
-use Rattle.smk_session.specs.Answers.{Turns, book_of, content_at, state_at, state_lent}
-use Rattle.smk_session.specs.Sessions.{BrushFits}
-use Rattle.smk_session.specs.declared.brush.refresh.Refresh.{Refresh}
-use Rattle.smk_session.proofs.Brushed.{refreshes, clear_told, clear_turned, clear_looks, clear_change}
-use Rattle.smk_session.proofs.Told.{clear_listed, told_turned, told_views}
-use Rattle.smk_session.proofs.Shown.{kept_fit}
+use Rattle.smk_model.specs.{Looks.looks_of_linked, Replies.{all_linked, linked_pair}, Session.linked}
+use Rattle.smk_session.specs.{Answers.{Turns, book_of, content_at, state_at, state_lent}, Sessions.BrushFits, declared.brush.refresh.Refresh.Refresh}
+use Rattle.smk_session.proofs.{Brushed.{refreshes, clear_told, clear_turned, clear_looks, clear_change}, Told.{clear_listed, told_turned, told_views}, Shown.kept_fit}
 use Rattle.smk_session.proofs.brush.clear_one.Goals as goal
 
 pub follow-requires-clause-refresh : goal.follow-requires-clause-refresh

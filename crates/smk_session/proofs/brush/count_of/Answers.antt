@@ -3,8 +3,7 @@ use Rattle.smk_base.specs.Rels.{Relation}
 use Rattle.smk_compose.proofs.Lists.{few_rids}
 use Rattle.smk_model.specs.Session.{rows_of_table}
 use Rattle.smk_session.specs.Opened.{state_over}
-use Rattle.smk_session.proofs.OpenedViews.{table_is}
-use Rattle.smk_session.proofs.Rids.{rids_ascend, rids_low}
+use Rattle.smk_session.proofs.{OpenedViews.table_is, Rids.{rids_ascend, rids_low}}
 use Rattle.smk_session.proofs.brush.count_of.Goals as goal
 
 pub overflow_cast-result : goal.overflow_cast-result

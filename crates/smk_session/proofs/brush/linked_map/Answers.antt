@@ -1,7 +1,6 @@
 use Rattle.std.proofs.Common.{ap, arith, get_or}
 use Rattle.smk_compose.specs.declared.kept_maps.Run.{Run}
-use Rattle.smk_session.proofs.Brushed.{linked_told}
-use Rattle.smk_session.proofs.OpenedViews.{views_long}
+use Rattle.smk_session.proofs.{Brushed.linked_told, OpenedViews.views_long}
 use Rattle.smk_session.proofs.brush.linked_map.Goals as goal
 
 pub bounds-held-v : goal.bounds-held-v

@@ -1,7 +1,6 @@
 use Rattle.std.proofs.Common.{◌∙◌, List, ℕ, IfOk, ap, subst}
 use Rattle.smk_base.specs.Places.{IsPlaces, Lists}
-use Rattle.smk_model.specs.Replies.{Asked}
-use Rattle.smk_model.specs.Session.{view_at}
+use Rattle.smk_model.specs.{Replies.Asked, Session.view_at}
 use Rattle.smk_session.specs.Answers.{Gives, book_of, members_asked, state_lent}
 use Rattle.smk_session.proofs.Marked.{backs_asked}
 use Rattle.smk_session.proofs.brush.rids_of.Goals as goal

@@ -1,7 +1,6 @@
 use Rattle.std.proofs.Common.{refl}
 use Rattle.smk_session.specs.Opened.{workbook_image}
-use Rattle.smk_session.proofs.Declared.{just_opened}
-use Rattle.smk_session.proofs.Starts.{start_whole, start_within}
+use Rattle.smk_session.proofs.{Declared.just_opened, Starts.{start_whole, start_within}}
 use Rattle.smk_session.proofs.start.begin.Goals as goal
 
 pub returns-in_err-views-clause-looks : goal.returns-in_err-views-clause-looks

@@ -1,9 +1,7 @@
-use Rattle.std.proofs.Common.{◌≡◌, ◌∙◌, ◌++◌, ◌∷◌, [], List, length, ap, sym}
-use Rattle.std.proofs.lemmas.List.{length-set}
+use Rattle.std.proofs.{Common.{◌≡◌, ◌∙◌, ◌++◌, ◌∷◌, [], List, length, ap, sym}, lemmas.List.length-set}
 use Rattle.smk_base.specs.Rels.{Relation}
 use Rattle.std.specs.Prelude.{Option}
-use Rattle.smk_session.specs.Answers.{placed}
-use Rattle.smk_session.specs.declared.turn.Content.{Content}
+use Rattle.smk_session.specs.{Answers.placed, declared.turn.Content.Content}
 use Rattle.smk_session.proofs.InForce.{placed_last, still_known}
 use Rattle.smk_session.proofs.turn.place.Goals as goal
 

@@ -1,6 +1,5 @@
 use Rattle.std.proofs.Common.{◌≡◌, ◌<◌, length, vec_len, All}
-use Rattle.smk_session.specs.Answers.{placed}
-use Rattle.smk_session.specs.declared.turn.Content.{Content}
+use Rattle.smk_session.specs.{Answers.placed, declared.turn.Content.Content}
 use Rattle.smk_session.proofs.turn.place.Given as goal
 
 -- with those that are left the contents come to the same

@@ -1,7 +1,5 @@
-use Rattle.std.proofs.Common.{◌∙◌, ◌<◌, ◌++◌, take, length, sym, ap, arith}
+use Rattle.std.proofs.{Common.{◌∙◌, ◌<◌, ◌++◌, take, length, sym, ap, arith}, lemmas.List.Elements.All-append, lemmas.Grind.common_steps}
 use Rattle.std.specs.List.{concat}
-use Rattle.std.proofs.lemmas.List.Elements.{All-append}
-use Rattle.std.proofs.lemmas.Grind.{common_steps}
 use Rattle.smk_skip.proofs.Orders.{concat_more}
 use Rattle.smk_skip.proofs.order.in_order.Goals as goal
 

@@ -1,5 +1,4 @@
-use Rattle.std.proofs.Common.{ltb, rules}
-use Rattle.std.proofs.lemmas.List.Sorted.{IsPartitionPoint-from_clause}
+use Rattle.std.proofs.{Common.{ltb, rules}, lemmas.List.Sorted.IsPartitionPoint-from_clause}
 use Rattle.smk_skip.proofs.Stretches.{parted_at, cut_from}
 use Rattle.smk_skip.proofs.runs.before.Goals as goal
 

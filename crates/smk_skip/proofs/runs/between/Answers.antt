@@ -1,5 +1,4 @@
-use Rattle.std.proofs.Common.{arith}
-use Rattle.std.proofs.lemmas.Grind.{common_steps}
+use Rattle.std.proofs.{Common.arith, lemmas.Grind.common_steps}
 use Rattle.smk_skip.proofs.Stretches.{cuts_ordered, between_is}
 use Rattle.smk_skip.proofs.runs.between.Goals as goal
 

@@ -1,11 +1,7 @@
-use Rattle.std.proofs.Common.{◌≡◌, ◌∙◌, ◌<◌, ℕ, ap, arith}
+use Rattle.std.proofs.{Common.{◌≡◌, ◌∙◌, ◌<◌, ℕ, ap, arith}, lemmas.List.take_all, lemmas.List.Filters.dedup_is, lemmas.Grind.common_steps}
 use Rattle.std.specs.List.{flat_map, All}
-use Rattle.std.proofs.lemmas.List.{take_all}
-use Rattle.std.proofs.lemmas.List.Filters.{dedup_is}
-use Rattle.std.proofs.lemmas.Grind.{common_steps}
 use Rattle.smk_base.specs.Places.{has, places, list_at}
-use Rattle.smk_rid.proofs.Sets.{set_rises}
-use Rattle.smk_rid.proofs.Rising.{set_of_sorted}
+use Rattle.smk_rid.proofs.{Sets.set_rises, Rising.set_of_sorted}
 use Rattle.smk_skip.specs.Parts.{run}
 use Rattle.smk_skip.proofs.Stretches.{run_below, all_below}
 use Rattle.smk_skip.proofs.runs.joined_runs.Goals as goal

@@ -1,10 +1,8 @@
-use Rattle.std.proofs.Common.{◌≡◌, ◌∙◌, ℕ, List, length, ap, arith, filter, refl}
+use Rattle.std.proofs.{Common.{◌≡◌, ◌∙◌, ℕ, List, length, ap, arith, filter, refl}, lemmas.Grind.common_steps}
 use Rattle.std.specs.List.{concat}
-use Rattle.std.proofs.lemmas.Grind.{common_steps}
 use Rattle.smk_base.specs.Places.{Lists, places, inverted}
 use Rattle.smk_model.specs.Locals.{singles}
-use Rattle.smk_skip.proofs.Orders.{once}
-use Rattle.smk_skip.proofs.Valued.{are_valued}
+use Rattle.smk_skip.proofs.{Orders.once, Valued.are_valued}
 use Rattle.smk_skip.proofs.values.parted.Goals as goal
 
 pub values_at-requires-clause-within : goal.values_at-requires-clause-within

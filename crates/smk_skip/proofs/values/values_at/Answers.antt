@@ -1,11 +1,7 @@
-use Rattle.std.proofs.Common.{◌≡◌, ◌∙◌, ◌<◌, ◌++◌, ◌∷◌, [], List, cond, take, length, sym, ap, arith, get_or, false}
+use Rattle.std.proofs.{Common.{◌≡◌, ◌∙◌, ◌<◌, ◌++◌, ◌∷◌, [], List, cond, take, length, sym, ap, arith, get_or, false}, lemmas.List.map_more, lemmas.Grind.common_steps}
 use Rattle.std.specs.List.{list_any}
-use Rattle.std.proofs.lemmas.List.{map_more}
-use Rattle.std.proofs.lemmas.Grind.{common_steps}
-use Rattle.smk_base.specs.declared.value.Value.{Value}
-use Rattle.smk_base.specs.Values.{value_eq}
-use Rattle.smk_model.specs.Values.{value_at}
-use Rattle.smk_model.specs.Lineage.{row_at}
+use Rattle.smk_base.specs.{declared.value.Value.Value, Values.value_eq}
+use Rattle.smk_model.specs.{Values.value_at, Lineage.row_at}
 use Rattle.smk_skip.specs.Parts.{values_in}
 use Rattle.smk_skip.proofs.Valued.{value_new}
 use Rattle.smk_skip.proofs.values.values_at.Goals as goal

@@ -1,7 +1,5 @@
-use Rattle.std.proofs.Common.{◌∙◌, ◌∷◌, [], map, ap, sym}
-use Rattle.std.proofs.lemmas.List.{map-append}
-use Rattle.smk_base.specs.PlanImage.{unary_of}
-use Rattle.smk_base.specs.Plans.{Apply}
+use Rattle.std.proofs.{Common.{◌∙◌, ◌∷◌, [], map, ap, sym}, lemmas.List.map-append}
+use Rattle.smk_base.specs.{PlanImage.unary_of, Plans.Apply}
 use Rattle.smk_model.specs.Asks.{chain}
 use Rattle.smk_model.proofs.Asks.{chain_more}
 use Rattle.smk_steps.proofs.chained.put_each.Goals as goal

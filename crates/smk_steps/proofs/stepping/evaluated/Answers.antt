@@ -1,5 +1,4 @@
-use Rattle.std.proofs.Common.{map, arith}
-use Rattle.std.proofs.lemmas.List.{length-map}
+use Rattle.std.proofs.{Common.{map, arith}, lemmas.List.length-map}
 use Rattle.smk_base.specs.PlanImage.{unary_of}
 use Rattle.smk_model.proofs.Asks.{chain_nodes, chain_width, chains_are_small}
 use Rattle.smk_steps.proofs.stepping.evaluated.Goals as goal

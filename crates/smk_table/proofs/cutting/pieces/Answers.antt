@@ -1,6 +1,4 @@
-use Rattle.std.proofs.Common.{◌≡◌, ◌∙◌, length, ap, arith, false}
-use Rattle.std.proofs.lemmas.List.{length_push}
-use Rattle.std.proofs.lemmas.Grind.{common_steps}
+use Rattle.std.proofs.{Common.{◌≡◌, ◌∙◌, length, ap, arith, false}, lemmas.List.length_push, lemmas.Grind.common_steps}
 use Rattle.smk_base.specs.Marks.{begins_with_mark}
 use Rattle.smk_table.proofs.PieceSteps.{piece_read, unmarked_take}
 use Rattle.smk_table.proofs.cutting.pieces.Goals as goal

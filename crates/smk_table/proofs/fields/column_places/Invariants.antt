@@ -1,7 +1,6 @@
 use Rattle.std.proofs.Common.{◌≡◌, ◌++◌, drop, Ok, vec_len}
 use Rattle.csv.specs.Records.{fields_of}
-use Rattle.smk_model.specs.Names.{◌>>=◌}
-use Rattle.smk_model.specs.Tables.{all_or_first, numbered, header_place}
+use Rattle.smk_model.specs.{Names.◌>>=◌, Tables.{all_or_first, numbered, header_place}}
 use Rattle.smk_table.proofs.fields.column_places.Given as goal
 
 abbrev pub invariant-loop-c : goal.invariant-loop-c

@@ -1,5 +1,4 @@
-use Rattle.std.proofs.Common.{arith}
-use Rattle.std.proofs.lemmas.Grind.{common_steps}
+use Rattle.std.proofs.{Common.arith, lemmas.Grind.common_steps}
 use Rattle.smk_table.proofs.fields.push_value.Goals as goal
 
 pub push_int-requires-clause-fits : goal.push_int-requires-clause-fits

@@ -1,7 +1,6 @@
 use Rattle.std.proofs.Common.{◌≡◌, ◌++◌, drop, length, Ok}
 use Rattle.csv.specs.Records.{fields_of}
-use Rattle.smk_model.specs.Names.{◌>>=◌}
-use Rattle.smk_model.specs.Tables.{all_or_first, numbered, cell_value}
+use Rattle.smk_model.specs.{Names.◌>>=◌, Tables.{all_or_first, numbered, cell_value}}
 use Rattle.smk_table.proofs.fields.push_values.Given as goal
 
 abbrev pub invariant-loop-c : goal.invariant-loop-c

@@ -1,5 +1,4 @@
-use Rattle.std.proofs.Common.{◌∙◌, ◌+◌, ℕ, [], ap}
-use Rattle.std.proofs.lemmas.List.{get_or_read}
+use Rattle.std.proofs.{Common.{◌∙◌, ◌+◌, ℕ, [], ap}, lemmas.List.get_or_read}
 use Rattle.smk_base.specs.Rels.{Relation}
 use Rattle.smk_base.proofs.Loops.{mapped_next}
 use Rattle.smk_table.specs.Joined.{columns_of}

@@ -1,14 +1,7 @@
-use Rattle.std.proofs.Common.{◌≡◌, ◌∙◌, ◌<◌, ◌++◌, ◌∷◌, [], List, length, get_or, Ok, IfOk, ap, sym, subst, arith, inl, inr}
-use Rattle.std.proofs.lemmas.List.{length_push, length-append, append-nil}
-use Rattle.std.proofs.lemmas.List.Concat.{flat_map-append}
-use Rattle.std.proofs.lemmas.List.Elements.{All-push}
-use Rattle.std.proofs.lemmas.Iterator.Consumers.{YieldsList-turn}
-use Rattle.std.proofs.lemmas.Iterator.Adapters.{YieldsList-from_vec}
-use Rattle.smk_base.specs.declared.value.Value.{Value}
-use Rattle.smk_base.specs.Rels.{Relation, IsRelation}
+use Rattle.std.proofs.{Common.{◌≡◌, ◌∙◌, ◌<◌, ◌++◌, ◌∷◌, [], List, length, get_or, Ok, IfOk, ap, sym, subst, arith, inl, inr}, lemmas.List.{length_push, length-append, append-nil}, lemmas.List.Concat.flat_map-append, lemmas.List.Elements.All-push, lemmas.Iterator.Consumers.YieldsList-turn, lemmas.Iterator.Adapters.YieldsList-from_vec}
+use Rattle.smk_base.specs.{declared.value.Value.Value, Rels.{Relation, IsRelation}}
 use Rattle.smk_model.specs.Tables.{declared_kinds}
-use Rattle.smk_table.specs.Pieces.{Gives}
-use Rattle.smk_table.specs.Joined.{end_to_end}
+use Rattle.smk_table.specs.{Pieces.Gives, Joined.end_to_end}
 use Rattle.smk_table.proofs.Joins.{join_step, join_fault}
 use Rattle.smk_table.proofs.joining.join_parts.Goals as goal
 

@@ -1,11 +1,9 @@
 use Rattle.std.proofs.Common.{◌≡◌, ◌≤◌, List, length, drop, All}
 use Rattle.std.specs.Prelude.{vec_len, vec_capacity}
-use Rattle.smk_base.specs.declared.rel.TheConstants.{ROW_LIMIT}
-use Rattle.smk_base.specs.Rels.{IsRelation}
+use Rattle.smk_base.specs.{declared.rel.TheConstants.ROW_LIMIT, Rels.IsRelation}
 use Rattle.smk_model.specs.Tables.{declared_kinds}
-use Rattle.smk_table.specs.Pieces.{Part, parts_behind, GivesAll}
+use Rattle.smk_table.specs.{Pieces.{Part, parts_behind, GivesAll}, Joined.end_to_end}
 use Rattle.smk_table.proofs.Joins.{all_behind}
-use Rattle.smk_table.specs.Joined.{end_to_end}
 use Rattle.smk_table.proofs.joining.join_parts.Given as goal
 
 abbrev pub invariant-loop-part : goal.invariant-loop-part

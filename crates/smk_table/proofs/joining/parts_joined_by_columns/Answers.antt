@@ -1,7 +1,4 @@
-use Rattle.std.proofs.Common.{◌≡◌, ◌∙◌, ◌<◌, [], IfOk, length, get_or, ap, sym, subst, arith}
-use Rattle.std.proofs.lemmas.List.{length_push}
-use Rattle.std.proofs.lemmas.Iterator.Consumers.{YieldsList-turn, YieldsList-end}
-use Rattle.std.proofs.lemmas.Iterator.Adapters.{YieldsList-from_vec}
+use Rattle.std.proofs.{Common.{◌≡◌, ◌∙◌, ◌<◌, [], IfOk, length, get_or, ap, sym, subst, arith}, lemmas.List.length_push, lemmas.Iterator.Consumers.{YieldsList-turn, YieldsList-end}, lemmas.Iterator.Adapters.YieldsList-from_vec}
 use Rattle.smk_base.specs.Rels.{Relation}
 use Rattle.smk_table.specs.Joined.{end_to_end}
 use Rattle.smk_table.proofs.Parts.{AreParts-columns, columns_end_to_end, column_is, columns_beside, beside_fits, all_columns}

@@ -1,10 +1,8 @@
 use Rattle.std.proofs.Common.{◌≡◌, map, flat_map, inl, inr}
 use Rattle.csv.specs.Reading.{records, default_config}
 use Rattle.smk_base.specs.Marks.{after_marks}
-use Rattle.smk_table.specs.Cuts.{read_of}
-use Rattle.smk_table.specs.Pieces.{parts_of, parts_behind}
-use Rattle.smk_table.proofs.Joins.{gives_rows, gives_fault}
-use Rattle.smk_table.proofs.PieceRows.{table_of_headed, table_of_unheaded}
+use Rattle.smk_table.specs.{Cuts.read_of, Pieces.{parts_of, parts_behind}}
+use Rattle.smk_table.proofs.{Joins.{gives_rows, gives_fault}, PieceRows.{table_of_headed, table_of_unheaded}}
 use Rattle.smk_table.proofs.pieces.read_table_in_pieces.Goals as goal
 
 pub returns-in-Ok-Some-clause-rows : goal.returns-in-Ok-Some-clause-rows

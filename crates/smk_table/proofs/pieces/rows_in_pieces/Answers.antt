@@ -1,6 +1,5 @@
 use Rattle.std.proofs.Common.{map}
-use Rattle.smk_table.specs.Cuts.{read_of}
-use Rattle.smk_table.specs.Pieces.{parts_of}
+use Rattle.smk_table.specs.{Cuts.read_of, Pieces.parts_of}
 use Rattle.smk_table.proofs.Joins.{gives_all, all_kinds}
 use Rattle.smk_table.proofs.pieces.rows_in_pieces.Goals as goal
 

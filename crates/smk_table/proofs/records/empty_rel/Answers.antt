@@ -1,5 +1,4 @@
-use Rattle.std.proofs.Common.{◌≡◌, length, take, arith}
-use Rattle.std.proofs.lemmas.Grind.{common_steps}
+use Rattle.std.proofs.{Common.{◌≡◌, length, take, arith}, lemmas.Grind.common_steps}
 use Rattle.smk_model.specs.Tables.{declared_kinds}
 use Rattle.smk_table.proofs.TableRows.{kinds_columns}
 use Rattle.smk_table.proofs.records.empty_rel.Goals as goal

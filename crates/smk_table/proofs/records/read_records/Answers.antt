@@ -1,5 +1,4 @@
-use Rattle.std.proofs.Common.{arith}
-use Rattle.std.proofs.lemmas.Grind.{common_steps}
+use Rattle.std.proofs.{Common.arith, lemmas.Grind.common_steps}
 use Rattle.smk_table.proofs.TableRows.{kinds_base}
 use Rattle.smk_table.proofs.records.read_records.Goals as goal
 

@@ -1,9 +1,6 @@
-use Rattle.std.proofs.Common.{◌≡◌, ◌∙◌, ◌+◌, ◌++◌, ◌∷◌, [], Ok, length, sym, ap, arith}
-use Rattle.std.proofs.lemmas.List.{length_push}
-use Rattle.std.proofs.lemmas.Grind.{common_steps}
+use Rattle.std.proofs.{Common.{◌≡◌, ◌∙◌, ◌+◌, ◌++◌, ◌∷◌, [], Ok, length, sym, ap, arith}, lemmas.List.length_push, lemmas.Grind.common_steps}
 use Rattle.csv.specs.Records.{fields_of}
-use Rattle.smk_model.specs.Names.{◌>>=◌}
-use Rattle.smk_model.specs.Tables.{record_row, all_or_first, numbered}
+use Rattle.smk_model.specs.{Names.◌>>=◌, Tables.{record_row, all_or_first, numbered}}
 use Rattle.smk_table.specs.CsvReader.{records_left}
 use Rattle.smk_table.proofs.TableRows.{made_from, all_or_first-step, behind}
 use Rattle.smk_table.proofs.records.read_rows.Goals as goal

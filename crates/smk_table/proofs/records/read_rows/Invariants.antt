@@ -1,6 +1,5 @@
 use Rattle.std.proofs.Common.{◌≡◌, ◌≤◌, ◌+◌, ◌++◌, [], length, Ok}
-use Rattle.smk_model.specs.Names.{◌>>=◌}
-use Rattle.smk_model.specs.Tables.{all_or_first, numbered, record_row, declared_kinds}
+use Rattle.smk_model.specs.{Names.◌>>=◌, Tables.{all_or_first, numbered, record_row, declared_kinds}}
 use Rattle.smk_base.specs.declared.rel.TheConstants.{ROW_LIMIT}
 use Rattle.smk_table.specs.CsvReader.{IsBetween, records_left}
 use Rattle.smk_table.proofs.records.read_rows.Given as goal

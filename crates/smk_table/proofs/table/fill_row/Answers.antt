@@ -1,5 +1,4 @@
-use Rattle.std.proofs.Common.{◌∙◌, ◌<◌, ◌++◌, ◌∷◌, [], length, take, sym, ap, arith}
-use Rattle.std.proofs.lemmas.List.{take_more, take_all}
+use Rattle.std.proofs.{Common.{◌∙◌, ◌<◌, ◌++◌, ◌∷◌, [], length, take, sym, ap, arith}, lemmas.List.{take_more, take_all}}
 use Rattle.smk_base.specs.Rels.{row_in}
 use Rattle.smk_table.proofs.TableRows.{row_long}
 use Rattle.smk_table.proofs.table.fill_row.Goals as goal

@@ -1,5 +1,4 @@
-use Rattle.std.proofs.Common.{◌<◌, ◌+◌, List, ℕ, All, Bool, sym, subst, arith}
-use Rattle.std.proofs.lemmas.Grind.{common_steps}
+use Rattle.std.proofs.{Common.{◌<◌, ◌+◌, List, ℕ, All, Bool, sym, subst, arith}, lemmas.Grind.common_steps}
 use Rattle.smk_base.specs.PlanImage.{binary_of}
 use Rattle.smk_base.proofs.Places.{few_places, places_below}
 use Rattle.smk_table.specs.Wanted as wanted

@@ -1,6 +1,5 @@
 use Rattle.std.proofs.Common.{◌≡◌, ◌+◌}
-use Rattle.smk_base.specs.Places.{places}
-use Rattle.smk_base.specs.PlanImage.{binary_of}
+use Rattle.smk_base.specs.{Places.places, PlanImage.binary_of}
 use Rattle.smk_table.specs.Wanted as wanted
 use Rattle.smk_table.proofs.wanted.read_from.Given as goal
 

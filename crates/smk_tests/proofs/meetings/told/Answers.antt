@@ -1,8 +1,6 @@
 use Rattle.std.proofs.Common.{sym, subst}
-use Rattle.smk_base.specs.CatalogImage.{catalog_image}
-use Rattle.smk_base.specs.declared.reply.Reply.{Reply}
-use Rattle.smk_model.specs.ReplyTexts.{IsReplyTo}
-use Rattle.smk_model.specs.Session.{State}
+use Rattle.smk_base.specs.{CatalogImage.catalog_image, declared.reply.Reply.Reply}
+use Rattle.smk_model.specs.{ReplyTexts.IsReplyTo, Session.State}
 use Rattle.smk_model.proofs.RepliesFit.{replies_fit}
 use Rattle.smk_session.specs.Sessions.{state_of}
 use Rattle.smk_tests.proofs.meetings.told.Goals as goal

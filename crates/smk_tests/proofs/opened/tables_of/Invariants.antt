@@ -1,6 +1,5 @@
 use Rattle.std.proofs.Common.{◌≡◌, take}
-use Rattle.smk_model.specs.Catalogs.{each_table_kinds}
-use Rattle.smk_model.specs.Selection.{each_kinds}
+use Rattle.smk_model.specs.{Catalogs.each_table_kinds, Selection.each_kinds}
 use Rattle.smk_tests.proofs.opened.tables_of.Given as goal
 
 abbrev pub invariant-loop-i : goal.invariant-loop-i

@@ -1,6 +1,5 @@
 use Rattle.std.proofs.Common.{◌∙◌, ap}
-use Rattle.smk_base.specs.CatalogImage.{catalog_image, table_place}
-use Rattle.smk_base.specs.declared.book.catalog.Catalog.{Catalog}
+use Rattle.smk_base.specs.{CatalogImage.{catalog_image, table_place}, declared.book.catalog.Catalog.Catalog}
 use Rattle.smk_inputs.proofs.LinesBring.{named_begins, first_taken, taken_is, never_none}
 use Rattle.smk_top.proofs.answering.answer_append.Goals as goal
 

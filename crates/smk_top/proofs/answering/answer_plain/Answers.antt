@@ -1,8 +1,6 @@
 use Rattle.std.proofs.Common.{◌∙◌, ap}
-use Rattle.smk_base.specs.CatalogImage.{catalog_image}
-use Rattle.smk_base.specs.declared.reply.Reply.{Reply}
-use Rattle.smk_model.specs.Replies.{is_refused}
-use Rattle.smk_model.specs.Session.{State}
+use Rattle.smk_base.specs.{CatalogImage.catalog_image, declared.reply.Reply.Reply}
+use Rattle.smk_model.specs.{Replies.is_refused, Session.State}
 use Rattle.smk_session.specs.Sessions.{state_of}
 use Rattle.smk_top.proofs.ReplyFits.{told_fits, told_text}
 use Rattle.smk_top.proofs.answering.answer_plain.Goals as goal

@@ -1,18 +1,12 @@
-use Rattle.std.proofs.Common.{ℕ, List, refl, ap, subst, ◌∙◌, inr, arith}
-use Rattle.std.proofs.lemmas.Result.{err_from_is_err_and}
-use Rattle.smk_model.specs.Conversation.{opening_texts}
-use Rattle.smk_model.specs.Session.{Workbook}
+use Rattle.std.proofs.{Common.{ℕ, List, refl, ap, subst, ◌∙◌, inr, arith}, lemmas.Result.err_from_is_err_and}
+use Rattle.smk_model.specs.{Conversation.opening_texts, Session.Workbook}
 use Rattle.smk_model.proofs.SomeOutcome.{some_reading}
 use Rattle.smk_outside.specs.Outside.{Rose}
 use Rattle.smk_base.specs.declared.brush.BrushOn.{BrushOn}
-use Rattle.smk_session.specs.Opened.{state_over}
-use Rattle.smk_session.specs.Sessions.{state_of, workbook_of}
+use Rattle.smk_session.specs.{Opened.state_over, Sessions.{state_of, workbook_of}}
 use Rattle.smk_inputs.specs.Loaded.{inputs_with, script_bytes, workbook_read}
-use Rattle.smk_top.specs.declared.starting.Started.{Started}
-use Rattle.smk_top.specs.declared.talking.TalkEnd.{TalkEnd}
-use Rattle.smk_top.specs.Talking.{SaysFew}
-use Rattle.smk_top.proofs.TalkEndings.{reading_stops, book_read, starting_stops, starts_later, talks_over}
-use Rattle.smk_top.proofs.Endings.{looks_at_nothing}
+use Rattle.smk_top.specs.{declared.starting.Started.Started, declared.talking.TalkEnd.TalkEnd, Talking.SaysFew}
+use Rattle.smk_top.proofs.{TalkEndings.{reading_stops, book_read, starting_stops, starts_later, talks_over}, Endings.looks_at_nothing}
 use Rattle.smk_top.proofs.conversing.begin.Goals as goal
 
 pub returns-in_err-inputs-clause-begins : goal.returns-in_err-inputs-clause-begins

@@ -1,6 +1,5 @@
 use Rattle.std.proofs.Common.{ℕ, List, ap, sym, subst}
-use Rattle.smk_model.specs.Readings.{AreReadingsOf}
-use Rattle.smk_model.specs.Selection.{each_rows}
+use Rattle.smk_model.specs.{Readings.AreReadingsOf, Selection.each_rows}
 use Rattle.smk_model.proofs.SomeOutcome.{some_reading}
 use Rattle.smk_inputs.specs.Loaded.{inputs_with}
 use Rattle.smk_top.proofs.Endings.{report_written, sayable_pieces}

@@ -1,7 +1,6 @@
 use Rattle.std.proofs.Common.{◌∙◌, ℕ, List, map, option_map, ap, Bor}
 use Rattle.smk_outside.specs.Outside.{Rose}
-use Rattle.smk_inputs.specs.declared.called.RunWords.{RunWords}
-use Rattle.smk_inputs.specs.Image.{texts_image}
+use Rattle.smk_inputs.specs.{declared.called.RunWords.RunWords, Image.texts_image}
 use Rattle.smk_inputs.proofs.Stops.{texts_asked}
 use Rattle.smk_top.proofs.Endings.{usage_stops}
 use Rattle.smk_top.proofs.program.work.Goals as goal

@@ -1,14 +1,9 @@
-use Rattle.std.proofs.Common.{◌≡◌, ◌∙◌, ℕ, List, Option, Some, ap, sym, inr}
+use Rattle.std.proofs.{Common.{◌≡◌, ◌∙◌, ℕ, List, Option, Some, ap, sym, inr}, lemmas.Result.err_from_is_err_and}
 use Rattle.std.specs.Option.{option_copied}
-use Rattle.std.proofs.lemmas.Result.{err_from_is_err_and}
 use Rattle.smk_outside.specs.Outside.{Rose}
-use Rattle.smk_model.specs.Demo.{summary_of}
-use Rattle.smk_model.specs.Reports.{Report}
-use Rattle.smk_model.specs.Words.{Files, Demo, words_of}
+use Rattle.smk_model.specs.{Demo.summary_of, Reports.Report, Words.{Files, Demo, words_of}}
 use Rattle.smk_model.proofs.SomeOutcome.{some_reading}
-use Rattle.smk_inputs.specs.declared.called.RunTexts.{RunTexts}
-use Rattle.smk_inputs.specs.Image.{texts_image}
-use Rattle.smk_inputs.specs.Loaded.{script_bytes, inputs_with}
+use Rattle.smk_inputs.specs.{declared.called.RunTexts.RunTexts, Image.texts_image, Loaded.{script_bytes, inputs_with}}
 use Rattle.smk_top.specs.declared.counts.Counts.{Counts}
 use Rattle.smk_top.proofs.Endings.{files_stop, files_read, demo_stops, demo_read, files_write, demo_writes, reports, reports_later, looks_at_nothing}
 use Rattle.smk_top.proofs.program.work_on.Goals as goal

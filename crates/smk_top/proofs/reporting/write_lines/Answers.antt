@@ -1,20 +1,12 @@
-use Rattle.std.proofs.Common.{◌∙◌, ℕ, List, drop, ap, refl, arith, subst, sym}
-use Rattle.std.proofs.lemmas.Result.{err_from_is_err_and}
-use Rattle.smk_base.specs.CatalogImage.{catalog_image}
-use Rattle.smk_base.specs.Marks.{after_marks}
-use Rattle.smk_base.specs.declared.book.catalog.Catalog.{Catalog}
-use Rattle.smk_model.specs.Profiles.{AreDependencies}
-use Rattle.smk_model.specs.Lines.{lines}
-use Rattle.smk_model.specs.Selection.{each_rows}
+use Rattle.std.proofs.{Common.{◌∙◌, ℕ, List, drop, ap, refl, arith, subst, sym}, lemmas.Result.err_from_is_err_and}
+use Rattle.smk_base.specs.{CatalogImage.catalog_image, Marks.after_marks, declared.book.catalog.Catalog.Catalog}
+use Rattle.smk_model.specs.{Profiles.AreDependencies, Lines.lines, Selection.each_rows}
 use Rattle.smk_outside.specs.Outside.{Rose}
 use Rattle.smk_session.specs.Sessions.{SessionImage}
-use Rattle.smk_inputs.specs.Added.{BringTables}
-use Rattle.smk_inputs.specs.Loaded.{said_of}
+use Rattle.smk_inputs.specs.{Added.BringTables, Loaded.said_of}
 use Rattle.smk_top.specs.declared.counts.Counts.{Counts}
-use Rattle.smk_inputs.proofs.Stops.{rose_within}
-use Rattle.smk_inputs.proofs.LinesBring.{rows_behind, line_begins, lines_go_on}
-use Rattle.smk_top.proofs.Appending.{wants_stop}
-use Rattle.smk_top.proofs.Walks.{readings_of_text, walk_begins, walk_on, walk_wants, walk_stops, walk_ends}
+use Rattle.smk_inputs.proofs.{Stops.rose_within, LinesBring.{rows_behind, line_begins, lines_go_on}}
+use Rattle.smk_top.proofs.{Appending.wants_stop, Walks.{readings_of_text, walk_begins, walk_on, walk_wants, walk_stops, walk_ends}}
 use Rattle.smk_top.proofs.reporting.write_lines.Goals as goal
 
 pub loop-span-init : goal.loop-span-init

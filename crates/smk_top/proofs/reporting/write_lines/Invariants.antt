@@ -1,10 +1,8 @@
 use Rattle.std.proofs.Common.{◌≡◌, ◌≤◌, ◌-◌, length, drop}
 use Rattle.smk_base.specs.CatalogImage.{catalog_image}
-use Rattle.smk_model.specs.Lines.{lines}
-use Rattle.smk_model.specs.Selection.{each_rows}
+use Rattle.smk_model.specs.{Lines.lines, Selection.each_rows}
 use Rattle.smk_session.specs.Sessions.{state_of}
-use Rattle.smk_inputs.specs.Added.{BringTables}
-use Rattle.smk_inputs.specs.Loaded.{said_of}
+use Rattle.smk_inputs.specs.{Added.BringTables, Loaded.said_of}
 use Rattle.smk_top.proofs.Walks.{Walks}
 use Rattle.smk_top.proofs.reporting.write_lines.Given as goal
 

@@ -1,9 +1,6 @@
-use Rattle.std.proofs.Common.{Err, refl, arith}
-use Rattle.std.proofs.lemmas.Result.{err_from_is_err_and}
+use Rattle.std.proofs.{Common.{Err, refl, arith}, lemmas.Result.err_from_is_err_and}
 use Rattle.smk_outside.specs.Outside.{Rose}
-use Rattle.smk_model.specs.Reports.{script_told}
-use Rattle.smk_model.specs.Selection.{each_rows}
-use Rattle.smk_model.specs.ViewTexts.{views_text}
+use Rattle.smk_model.specs.{Reports.script_told, Selection.each_rows, ViewTexts.views_text}
 use Rattle.smk_session.specs.Sessions.{workbook_of}
 use Rattle.smk_top.specs.declared.counts.Counts.{Counts}
 use Rattle.smk_inputs.proofs.Stops.{rose_within}

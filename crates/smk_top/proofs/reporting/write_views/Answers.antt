@@ -1,13 +1,7 @@
-use Rattle.std.proofs.Common.{◌∙◌, ◌<◌, ap, length, refl, arith}
-use Rattle.std.proofs.lemmas.List.{length-map}
-use Rattle.std.proofs.lemmas.Result.{err_from_is_err_and}
-use Rattle.std.proofs.lemmas.Grind.{common_steps}
-use Rattle.smk_base.specs.CatalogImage.{catalog_image, view_image}
-use Rattle.smk_base.specs.declared.book.catalog.Catalog.{Catalog}
-use Rattle.smk_base.specs.declared.book.catalog.ViewInfo.{ViewInfo}
+use Rattle.std.proofs.{Common.{◌∙◌, ◌<◌, ap, length, refl, arith}, lemmas.List.length-map, lemmas.Result.err_from_is_err_and, lemmas.Grind.common_steps}
+use Rattle.smk_base.specs.{CatalogImage.{catalog_image, view_image}, declared.book.catalog.Catalog.Catalog, declared.book.catalog.ViewInfo.ViewInfo}
 use Rattle.smk_outside.specs.Outside.{Rose}
-use Rattle.smk_model.specs.ViewTexts.{text_of_view}
-use Rattle.smk_model.specs.Session.{no_view}
+use Rattle.smk_model.specs.{ViewTexts.text_of_view, Session.no_view}
 use Rattle.smk_session.specs.Sessions.{workbook_of}
 use Rattle.smk_top.specs.declared.counts.Counts.{Counts}
 use Rattle.smk_inputs.proofs.Stops.{rose_within}

@@ -1,13 +1,7 @@
-use Rattle.std.proofs.Common.{◌∙◌, ap, map, sym, subst, arith}
-use Rattle.std.proofs.lemmas.Grind.{common_steps}
-use Rattle.smk_base.specs.CatalogImage.{catalog_image}
-use Rattle.smk_base.specs.Marks.{after_marks}
-use Rattle.smk_base.specs.declared.book.catalog.Catalog.{Catalog}
-use Rattle.smk_model.specs.Lines.{lines}
+use Rattle.std.proofs.{Common.{◌∙◌, ap, map, sym, subst, arith}, lemmas.Grind.common_steps}
+use Rattle.smk_base.specs.{CatalogImage.catalog_image, Marks.after_marks, declared.book.catalog.Catalog.Catalog, declared.book.catalog.TableInfo.TableInfo, declared.book.catalog.ViewInfo.ViewInfo}
+use Rattle.smk_model.specs.{Lines.lines, Profiles.AreDependencies}
 use Rattle.smk_inputs.specs.Added.{BringTables}
-use Rattle.smk_model.specs.Profiles.{AreDependencies}
-use Rattle.smk_base.specs.declared.book.catalog.TableInfo.{TableInfo}
-use Rattle.smk_base.specs.declared.book.catalog.ViewInfo.{ViewInfo}
 use Rattle.smk_top.proofs.starting.start.Goals as goal
 
 pub returns-in-Err-clause-starts : goal.returns-in-Err-clause-starts

@@ -1,5 +1,4 @@
-use Rattle.std.proofs.Common.{◌∙◌}
-use Rattle.std.proofs.lemmas.Result.{err_from_is_err_and}
+use Rattle.std.proofs.{Common.◌∙◌, lemmas.Result.err_from_is_err_and}
 use Rattle.smk_top.specs.declared.counts.Counts.{Counts}
 use Rattle.smk_top.proofs.Appending.{none_written, put_stops}
 use Rattle.smk_top.proofs.summarizing.put_summary.Goals as goal

@@ -1,11 +1,9 @@
-use Rattle.std.proofs.Common.{None, Err, inl}
-use Rattle.std.proofs.lemmas.Result.{err_from_is_err_and}
+use Rattle.std.proofs.{Common.{None, Err, inl}, lemmas.Result.err_from_is_err_and}
 use Rattle.smk_outside.specs.Outside.{Rose}
 use Rattle.smk_model.specs.Demo.{summary_of}
 use Rattle.smk_model.proofs.SomeOutcome.{some_reading}
 use Rattle.smk_top.specs.declared.counts.Counts.{Counts}
-use Rattle.smk_top.proofs.Appending.{appends_none}
-use Rattle.smk_top.proofs.Endings.{sayable_pieces, measured_stops, summary_written}
+use Rattle.smk_top.proofs.{Appending.appends_none, Endings.{sayable_pieces, measured_stops, summary_written}}
 use Rattle.smk_top.proofs.summarizing.write_summary.Goals as goal
 
 pub returns-in_err-sizes-clause-works : goal.returns-in_err-sizes-clause-works

@@ -1,8 +1,6 @@
 use Rattle.std.proofs.Common.{refl, ap, ◌∙◌, inr, arith}
-use Rattle.std.specs.Prelude.{◌||◌, nat_lt}
-use Rattle.std.specs.Option.{option_to_list}
-use Rattle.smk_model.specs.Reports.{next_rows}
-use Rattle.smk_model.specs.Selection.{each_rows}
+use Rattle.std.specs.{Prelude.{◌||◌, nat_lt}, Option.option_to_list}
+use Rattle.smk_model.specs.{Reports.next_rows, Selection.each_rows}
 use Rattle.smk_session.specs.Sessions.{SessionImage, state_of}
 use Rattle.smk_inputs.specs.Image.{reading_image}
 use Rattle.smk_top.specs.declared.counts.Counts.{Counts}

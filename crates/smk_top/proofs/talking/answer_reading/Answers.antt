@@ -1,13 +1,10 @@
-use Rattle.std.proofs.Common.{[], ◌≡◌, false, refl, sym, ◌∙◌, inl, arith}
+use Rattle.std.proofs.{Common.{[], ◌≡◌, false, refl, sym, ◌∙◌, inl, arith}, lemmas.Bool.{and_left, and_right}}
 use Rattle.std.specs.Prelude.{◌&&◌}
 use Rattle.smk_base.specs.CatalogImage.{catalog_image}
-use Rattle.smk_model.specs.Outcome.{appended_at}
+use Rattle.smk_model.specs.{Outcome.appended_at, Conversation.asks_append}
 use Rattle.smk_inputs.specs.Image.{reading_image}
-use Rattle.smk_model.specs.Conversation.{asks_append}
-use Rattle.smk_top.proofs.TalkLines.{brought_rows, refused, unbrought, forgone}
-use Rattle.smk_top.proofs.talking.answer_reading.Goals.{else-manner-via-then-manner+else-appends, else-manner-via-else-manner}
+use Rattle.smk_top.proofs.{TalkLines.{brought_rows, refused, unbrought, forgone}, talking.answer_reading.Goals.{else-manner-via-then-manner+else-appends, else-manner-via-else-manner}}
 use Rattle.smk_top.proofs.talking.answer_reading.Goals as goal
-use Rattle.std.proofs.lemmas.Bool.{and_left, and_right}
 
 pub returns-then-appends-clause-answer : goal.returns-then-appends-clause-answer
 returns-then-appends-clause-answer g c bytes short plain reads =

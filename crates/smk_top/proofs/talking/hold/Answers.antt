@@ -1,10 +1,7 @@
 use Rattle.std.proofs.Common.{◌≡◌, Some, false, refl, arith}
 use Rattle.smk_model.specs.Conversation.{opening_block}
 use Rattle.smk_outside.proofs.Telling.{Rose-after}
-use Rattle.smk_outside.specs.Outside.{Rose}
-use Rattle.smk_outside.specs.Turning.{ReplyGives}
-use Rattle.smk_outside.specs.declared.talk.ending.Ending.{Ending}
-use Rattle.smk_outside.specs.declared.talk.ending.Ending.TheVariants.{Ended, Unheard, Unsaid, Outlasted}
+use Rattle.smk_outside.specs.{Outside.Rose, Turning.ReplyGives, declared.talk.ending.Ending.Ending, declared.talk.ending.Ending.TheVariants.{Ended, Unheard, Unsaid, Outlasted}}
 use Rattle.smk_top.specs.Talking.{Talked, talk_at}
 use Rattle.smk_top.proofs.TalkStretches.{breaks_off, begun_talk, talked_unread}
 use Rattle.smk_session.specs.Sessions.{state_of, workbook_of}

@@ -1,10 +1,6 @@
-use Rattle.std.proofs.Common.{◌∙◌, ◌<◌, [], ◌∷◌, ap, sym, length, arith}
-use Rattle.std.proofs.lemmas.List.{length-map}
-use Rattle.smk_base.specs.CatalogImage.{catalog_image, view_image}
-use Rattle.smk_base.specs.declared.book.catalog.Catalog.{Catalog}
-use Rattle.smk_base.specs.declared.book.catalog.ViewInfo.{ViewInfo}
-use Rattle.smk_model.specs.Session.{no_view}
-use Rattle.smk_model.specs.ViewTexts.{text_of_view, view_texts}
+use Rattle.std.proofs.{Common.{◌∙◌, ◌<◌, [], ◌∷◌, ap, sym, length, arith}, lemmas.List.length-map}
+use Rattle.smk_base.specs.{CatalogImage.{catalog_image, view_image}, declared.book.catalog.Catalog.Catalog, declared.book.catalog.ViewInfo.ViewInfo}
+use Rattle.smk_model.specs.{Session.no_view, ViewTexts.{text_of_view, view_texts}}
 use Rattle.smk_session.specs.Sessions.{workbook_of}
 use Rattle.smk_outside.proofs.Telling.{Rose-after, Says-trans, SaysFront-after}
 use Rattle.smk_top.proofs.Openings.{all_said, next_said, next_broken}

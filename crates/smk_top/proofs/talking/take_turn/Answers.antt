@@ -1,7 +1,6 @@
 use Rattle.std.proofs.Common.{Err, refl, ap, arith}
 use Rattle.smk_outside.proofs.Telling.{Rose-after}
-use Rattle.smk_top.proofs.TalkLines.{too_long, forgone_before}
-use Rattle.smk_top.proofs.TalkStretches.{turn_taken, no_line, no_hearing}
+use Rattle.smk_top.proofs.{TalkLines.{too_long, forgone_before}, TalkStretches.{turn_taken, no_line, no_hearing}}
 use Rattle.smk_session.specs.Sessions.{state_of}
 use Rattle.smk_top.proofs.talking.take_turn.Goals as goal
 

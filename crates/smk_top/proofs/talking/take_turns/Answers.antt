@@ -1,8 +1,7 @@
 use Rattle.std.proofs.Common.{[], refl, ◌∙◌, arith}
 use Rattle.smk_outside.proofs.Telling.{Rose-after}
 use Rattle.smk_top.specs.Talking.{talk_at}
-use Rattle.smk_top.proofs.TalkEndings.{says_nothing}
-use Rattle.smk_top.proofs.TalkStretches.{begins, one_more, last_one}
+use Rattle.smk_top.proofs.{TalkEndings.says_nothing, TalkStretches.{begins, one_more, last_one}}
 use Rattle.smk_session.specs.Sessions.{state_of}
 use Rattle.smk_inputs.specs.Loaded.{said_of}
 use Rattle.smk_top.proofs.talking.take_turns.Goals as goal

@@ -1,8 +1,5 @@
-use Rattle.std.proofs.Common.{map, arith}
-use Rattle.std.proofs.lemmas.List.{length-map}
-use Rattle.std.proofs.lemmas.Result.{err_from_is_err_and}
-use Rattle.smk_base.specs.CatalogImage.{view_image}
-use Rattle.smk_base.specs.TreeImage.{stmt_image}
+use Rattle.std.proofs.{Common.{map, arith}, lemmas.List.length-map, lemmas.Result.err_from_is_err_and}
+use Rattle.smk_base.specs.{CatalogImage.view_image, TreeImage.stmt_image}
 use Rattle.smk_typing.proofs.Books.{at_first, at_next, next_kept, next_replaced, next_fails, rest_at, next_tables, next_views, at_last}
 use Rattle.smk_typing.proofs.book.add_each.Goals as goal
 

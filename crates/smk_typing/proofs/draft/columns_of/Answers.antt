@@ -1,6 +1,4 @@
-use Rattle.std.proofs.Common.{arith, refl}
-use Rattle.std.proofs.lemmas.Grind.{common_steps}
-use Rattle.std.proofs.lemmas.List.{take_all}
+use Rattle.std.proofs.{Common.{arith, refl}, lemmas.Grind.common_steps, lemmas.List.take_all}
 use Rattle.smk_typing.proofs.draft.columns_of.Goals as goal
 
 pub loop-col-preserved : goal.loop-col-preserved

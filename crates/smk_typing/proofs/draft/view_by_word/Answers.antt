@@ -1,5 +1,4 @@
-use Rattle.std.proofs.Common.{arith}
-use Rattle.std.proofs.lemmas.Grind.{common_steps}
+use Rattle.std.proofs.{Common.arith, lemmas.Grind.common_steps}
 use Rattle.smk_typing.proofs.Keys.{view_names}
 use Rattle.smk_typing.proofs.draft.view_by_word.Goals as goal
 

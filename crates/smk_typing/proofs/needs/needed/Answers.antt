@@ -1,5 +1,4 @@
-use Rattle.std.proofs.Common.{arith}
-use Rattle.std.proofs.lemmas.Grind.{common_steps}
+use Rattle.std.proofs.{Common.arith, lemmas.Grind.common_steps}
 use Rattle.smk_typing.proofs.NeedsBelow.{needs_below}
 use Rattle.smk_typing.proofs.needs.needed.Goals as goal
 

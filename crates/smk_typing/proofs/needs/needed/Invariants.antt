@@ -1,8 +1,6 @@
 use Rattle.std.proofs.Common.{◌≡◌, map}
 use Rattle.std.specs.List.{filter}
-use Rattle.smk_base.specs.Places.{upto}
-use Rattle.smk_base.specs.Needs.{is_needed}
-use Rattle.smk_base.specs.CatalogImage.{catalog_image}
+use Rattle.smk_base.specs.{Places.upto, Needs.is_needed, CatalogImage.catalog_image}
 use Rattle.smk_model.specs.Workload.{needed_at}
 use Rattle.smk_typing.proofs.needs.needed.Given as goal
 

@@ -1,9 +1,6 @@
 use Rattle.std.proofs.Common.{◌≡◌, ◌∙◌, refl, Ok, ap}
-use Rattle.smk_base.specs.declared.book.plan.Plan.{Plan}
-use Rattle.smk_base.specs.PlanImage.{expr_of, binary_of}
-use Rattle.smk_base.specs.Plans.{Combine}
-use Rattle.smk_model.specs.Names.{Typed}
-use Rattle.smk_model.specs.TypedSteps.{TypedPlan}
+use Rattle.smk_base.specs.{declared.book.plan.Plan.Plan, PlanImage.{expr_of, binary_of}, Plans.Combine}
+use Rattle.smk_model.specs.{Names.Typed, TypedSteps.TypedPlan}
 use Rattle.smk_typing.proofs.Results.{ok_never, ok_same}
 use Rattle.smk_typing.proofs.plan.combine.Goals as goal
 

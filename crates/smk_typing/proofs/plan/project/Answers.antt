@@ -1,6 +1,5 @@
 use Rattle.std.proofs.Common.{◌≤◌, List, length, sym, subst, arith}
-use Rattle.smk_base.specs.declared.book.catalog.Column.{Column}
-use Rattle.smk_base.specs.declared.rel.TheConstants.{COLUMN_LIMIT}
+use Rattle.smk_base.specs.{declared.book.catalog.Column.Column, declared.rel.TheConstants.COLUMN_LIMIT}
 use Rattle.smk_typing.proofs.Results.{as_narrow}
 use Rattle.smk_typing.proofs.plan.project.Goals as goal
 

@@ -1,8 +1,6 @@
 use Rattle.std.proofs.Common.{List, Ok, ap}
-use Rattle.smk_base.specs.declared.book.catalog.Column.{Column}
-use Rattle.smk_base.specs.Plans.{Leaf}
-use Rattle.smk_model.specs.Names.{Typed}
-use Rattle.smk_model.specs.TypedSteps.{TypedPlan}
+use Rattle.smk_base.specs.{declared.book.catalog.Column.Column, Plans.Leaf}
+use Rattle.smk_model.specs.{Names.Typed, TypedSteps.TypedPlan}
 use Rattle.smk_typing.proofs.Results.{ok_same}
 use Rattle.smk_typing.proofs.plan.put_scan.Goals as goal
 

@@ -1,5 +1,4 @@
-use Rattle.std.proofs.Common.{◌≡◌, ◌∷◌, [], map, refl}
-use Rattle.std.proofs.lemmas.List.{map-append}
+use Rattle.std.proofs.{Common.{◌≡◌, ◌∷◌, [], map, refl}, lemmas.List.map-append}
 use Rattle.smk_base.specs.PlanImage.{expr_of, unary_of}
 use Rattle.smk_model.specs.Asks.{chain}
 use Rattle.smk_model.proofs.Asks.{chain_more}

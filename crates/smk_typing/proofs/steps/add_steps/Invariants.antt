@@ -1,8 +1,6 @@
 use Rattle.std.proofs.Common.{◌≤◌, length}
 use Rattle.smk_base.specs.declared.rel.TheConstants.{COLUMN_LIMIT}
-use Rattle.smk_typing.specs.Images.{plan_of}
-use Rattle.smk_typing.specs.Steps.{asked_after}
-use Rattle.smk_typing.specs.Turns.{Remains}
+use Rattle.smk_typing.specs.{Images.plan_of, Steps.asked_after, Turns.Remains}
 use Rattle.smk_typing.proofs.steps.add_steps.Given as goal
 
 abbrev pub invariant-loop-step : goal.invariant-loop-step

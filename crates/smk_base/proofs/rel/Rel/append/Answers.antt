@@ -1,8 +1,6 @@
 use Rattle.std.proofs.Common.{ap, ◌∙◌}
 use Rattle.smk_base.specs.Rels.{Relation}
-use Rattle.smk_base.proofs.Pushed.{AreMade-first}
-use Rattle.smk_base.proofs.Rows.{length-rows_of, AreColumns-made}
-use Rattle.smk_base.proofs.Relating.{made-append, made-copy, wider-long, wider-at}
+use Rattle.smk_base.proofs.{Pushed.AreMade-first, Rows.{length-rows_of, AreColumns-made}, Relating.{made-append, made-copy, wider-long, wider-at}}
 use Rattle.smk_base.proofs.rel.Rel.append.Goals as goal
 
 pub append_each-requires-clause-few : goal.append_each-requires-clause-few

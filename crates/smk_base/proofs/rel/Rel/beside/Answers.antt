@@ -1,8 +1,6 @@
-use Rattle.std.proofs.Common.{◌≡◌, ◌≤◌, ◌+◌, ◌∙◌, sym, subst, arith, length}
-use Rattle.std.proofs.lemmas.List.{length-map}
+use Rattle.std.proofs.{Common.{◌≡◌, ◌≤◌, ◌+◌, ◌∙◌, sym, subst, arith, length}, lemmas.List.length-map}
 use Rattle.smk_base.specs.Relations.{AreColumns}
-use Rattle.smk_base.proofs.Rows.{length-rows_of}
-use Rattle.smk_base.proofs.Relating.{relation-beside-same, AreColumns-beside}
+use Rattle.smk_base.proofs.{Rows.length-rows_of, Relating.{relation-beside-same, AreColumns-beside}}
 use Rattle.smk_base.proofs.rel.Rel.beside.Goals as goal
 
 pub invariant_of-result : goal.invariant_of-result

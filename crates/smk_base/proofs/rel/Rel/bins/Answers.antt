@@ -1,9 +1,5 @@
-use Rattle.std.proofs.Common.{◌≡◌, ◌∙◌, ap, subst, rules, map, to_z, of_z, w64, IfOk, arith}
-use Rattle.std.proofs.lemmas.List.{length-map, get_or_read}
-use Rattle.std.proofs.lemmas.Grind.{common_steps}
-use Rattle.smk_base.specs.Images.{ColumnImage}
-use Rattle.smk_base.specs.Rels.{Relation, bin_of}
-use Rattle.smk_base.specs.Relations.{column_in}
+use Rattle.std.proofs.{Common.{◌≡◌, ◌∙◌, ap, subst, rules, map, to_z, of_z, w64, IfOk, arith}, lemmas.List.{length-map, get_or_read}, lemmas.Grind.common_steps}
+use Rattle.smk_base.specs.{Images.ColumnImage, Rels.{Relation, bin_of}, Relations.column_in}
 use Rattle.smk_base.proofs.Relating.{one-bins}
 use Rattle.smk_base.proofs.rel.Rel.bins.Goals as goal
 

@@ -1,14 +1,7 @@
-use Rattle.std.proofs.Common.{◌≡◌, ◌∙◌, ap, sym}
-use Rattle.std.proofs.lemmas.List.{length-map, get_or_read}
-use Rattle.smk_base.specs.Cells.{value_of_cell}
-use Rattle.smk_base.specs.Rels.{value_in, row_in}
-use Rattle.smk_base.proofs.RelRows.{Fits-value_in}
-use Rattle.smk_base.specs.Images.{ColumnImage}
-use Rattle.smk_base.specs.Relations.{column_in, kinds_of, rows_of}
-use Rattle.smk_base.proofs.Rows.{length-rows_of, value_in-rows_of, IsRelation-columns}
-use Rattle.smk_base.proofs.Relating.{long-at}
+use Rattle.std.proofs.{Common.{◌≡◌, ◌∙◌, ap, sym}, lemmas.List.{length-map, get_or_read}}
+use Rattle.smk_base.specs.{Cells.value_of_cell, Rels.{value_in, row_in}, Images.ColumnImage, Relations.{column_in, kinds_of, rows_of}}
+use Rattle.smk_base.proofs.{RelRows.Fits-value_in, Rows.{length-rows_of, value_in-rows_of, IsRelation-columns}, Relating.long-at, rel.Rel.cell.Goals.After-cell}
 use Rattle.smk_base.proofs.rel.Rel.cell.Goals as goal
-use Rattle.smk_base.proofs.rel.Rel.cell.Goals.{After-cell}
 
 pub cell-requires : goal.cell-requires
 cell-requires c =

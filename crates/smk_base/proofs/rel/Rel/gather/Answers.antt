@@ -1,5 +1,4 @@
-use Rattle.smk_base.proofs.Rows.{length-rows_of}
-use Rattle.smk_base.proofs.Relating.{made-gather}
+use Rattle.smk_base.proofs.{Rows.length-rows_of, Relating.made-gather}
 use Rattle.smk_base.proofs.rel.Rel.gather.Goals as goal
 
 pub gather_each-requires-clause-within : goal.gather_each-requires-clause-within

@@ -1,7 +1,5 @@
-use Rattle.std.proofs.Common.{◌≡◌, ◌∙◌, ap, sym}
-use Rattle.std.proofs.lemmas.List.{length-map, get_or_read}
-use Rattle.smk_base.specs.Images.{ColumnImage}
-use Rattle.smk_base.specs.Relations.{column_in}
+use Rattle.std.proofs.{Common.{◌≡◌, ◌∙◌, ap, sym}, lemmas.List.{length-map, get_or_read}}
+use Rattle.smk_base.specs.{Images.ColumnImage, Relations.column_in}
 use Rattle.smk_base.proofs.Relating.{column_values-rows_of}
 use Rattle.smk_base.proofs.rel.Rel.ints.Goals as goal
 

@@ -1,11 +1,7 @@
 use Rattle.std.proofs.Common.{[], length, arith}
-use Rattle.smk_base.specs.Rels.{kind_in}
-use Rattle.smk_base.specs.Relations.{AreMade}
-use Rattle.smk_base.proofs.Made.{AreMade-through}
-use Rattle.smk_base.proofs.Rows.{AreColumns-made}
-use Rattle.smk_base.proofs.Relating.{made-new}
+use Rattle.smk_base.specs.{Rels.kind_in, Relations.AreMade}
+use Rattle.smk_base.proofs.{Made.AreMade-through, Rows.AreColumns-made, Relating.made-new, rel.Rel.new.Goals.In_ok-owned_each}
 use Rattle.smk_base.proofs.rel.Rel.new.Goals as goal
-use Rattle.smk_base.proofs.rel.Rel.new.Goals.{In_ok-owned_each}
 
 pub owned_each-requires : goal.owned_each-requires
 owned_each-requires c = c.in_ok-begun_columns.ensures.each

@@ -1,6 +1,4 @@
-use Rattle.std.proofs.Common.{arith}
-use Rattle.std.proofs.lemmas.List.{length-map}
-use Rattle.std.proofs.lemmas.Grind.{common_steps}
+use Rattle.std.proofs.{Common.arith, lemmas.List.length-map, lemmas.Grind.common_steps}
 use Rattle.smk_base.proofs.Relating.{made-pick}
 use Rattle.smk_base.proofs.rel.Rel.pick_columns.Goals as goal
 

@@ -1,12 +1,7 @@
 use Rattle.std.proofs.Common.{◌≡◌, ◌<◌, ◌+◌, ◌∙◌, ap, sym, arith, rules, length, map, ◌++◌, ◌∷◌, []}
-use Rattle.smk_base.specs.Cells.{value_of_cell}
-use Rattle.smk_base.specs.Rels.{Relation, RowFits, value_in}
-use Rattle.smk_base.specs.Relations.{column_in, kinds_of, rows_of, relation_of}
-use Rattle.smk_base.proofs.Pushed.{value_in-cells, long_cells, cells_fit, AreMade-alike}
-use Rattle.smk_base.proofs.Rows.{length-rows_of, AreColumns-made}
-use Rattle.smk_base.proofs.Relating.{made-copy, made-push}
+use Rattle.smk_base.specs.{Cells.value_of_cell, Rels.{Relation, RowFits, value_in}, Relations.{column_in, kinds_of, rows_of, relation_of}}
+use Rattle.smk_base.proofs.{Pushed.{value_in-cells, long_cells, cells_fit, AreMade-alike}, Rows.{length-rows_of, AreColumns-made}, Relating.{made-copy, made-push}, rel.Rel.push_cells.Goals.After-self-1}
 use Rattle.smk_base.proofs.rel.Rel.push_cells.Goals as goal
-use Rattle.smk_base.proofs.rel.Rel.push_cells.Goals.{After-self-1}
 
 pub make_each_ready-requires-clause-long : goal.make_each_ready-requires-clause-long
 make_each_ready-requires-clause-long c =

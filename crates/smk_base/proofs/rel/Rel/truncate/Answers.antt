@@ -1,7 +1,6 @@
 use Rattle.std.proofs.Common.{ap, ◌∙◌, arith, rules}
 use Rattle.smk_base.specs.Rels.{Relation}
-use Rattle.smk_base.proofs.Relating.{long-at, made-copy, made-first}
-use Rattle.smk_base.proofs.Rows.{length-rows_of, AreColumns-made}
+use Rattle.smk_base.proofs.{Relating.{long-at, made-copy, made-first}, Rows.{length-rows_of, AreColumns-made}}
 use Rattle.smk_base.proofs.rel.Rel.truncate.Goals as goal
 
 pub returns-in_err-own_each-clause-kinds : goal.returns-in_err-own_each-clause-kinds

@@ -1,6 +1,4 @@
-use Rattle.std.proofs.Common.{◌≡◌, ◌<◌, ◌∙◌, rules, arith, length, inl, inr}
-use Rattle.std.proofs.lemmas.Bool.{cases_eq}
-use Rattle.std.proofs.lemmas.List.{get_or_read, get_or-set_same, get_or-set_other}
+use Rattle.std.proofs.{Common.{◌≡◌, ◌<◌, ◌∙◌, rules, arith, length, inl, inr}, lemmas.Bool.cases_eq, lemmas.List.{get_or_read, get_or-set_same, get_or-set_other}}
 use Rattle.smk_base.specs.Relations.{column_in}
 use Rattle.smk_base.proofs.Pushed.{IsChanged-none, IsChanged-more, AreMade-changed, AreLonger-stopped}
 use Rattle.smk_base.proofs.rel.each_column.append_each.Goals as goal

@@ -1,5 +1,4 @@
-use Rattle.std.proofs.Common.{◌∙◌, ◌+◌, ℕ, ap, arith}
-use Rattle.std.proofs.lemmas.List.{get_or_default}
+use Rattle.std.proofs.{Common.{◌∙◌, ◌+◌, ℕ, ap, arith}, lemmas.List.get_or_default}
 use Rattle.smk_base.specs.declared.value.Kind.TheVariants as kinds
 use Rattle.smk_base.proofs.Made.{AreMade_none, AreMade_push}
 use Rattle.smk_base.proofs.rel.each_column.begun_columns.Goals as goal

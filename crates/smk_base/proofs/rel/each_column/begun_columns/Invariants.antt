@@ -1,7 +1,6 @@
 use Rattle.std.proofs.Common.{[], ◌≡◌, ◌≤◌, length}
 use Rattle.std.specs.Prelude.{vec_len, vec_capacity}
-use Rattle.smk_base.specs.Rels.{kind_in}
-use Rattle.smk_base.specs.Relations.{AreMade}
+use Rattle.smk_base.specs.{Rels.kind_in, Relations.AreMade}
 use Rattle.smk_base.proofs.rel.each_column.begun_columns.Given as goal
 
 abbrev pub invariant-loop-kind : goal.invariant-loop-kind

@@ -1,8 +1,6 @@
-use Rattle.std.proofs.Common.{◌≡◌, ◌≢◌, ◌<◌, ◌∙◌, arith, length, get_or, ◌+◌, ℕ, ap}
-use Rattle.std.proofs.lemmas.List.{get_or_read, get_or_default, length-set, get_or-set_other}
+use Rattle.std.proofs.{Common.{◌≡◌, ◌≢◌, ◌<◌, ◌∙◌, arith, length, get_or, ◌+◌, ℕ, ap}, lemmas.List.{get_or_read, get_or_default, length-set, get_or-set_other}}
 use Rattle.smk_base.specs.declared.value.Kind.TheVariants as kinds
-use Rattle.smk_base.specs.Rels.{kind_in}
-use Rattle.smk_base.specs.Relations.{column_in}
+use Rattle.smk_base.specs.{Rels.kind_in, Relations.column_in}
 use Rattle.smk_base.proofs.Made.{AreMade_push}
 use Rattle.smk_base.proofs.rel.each_column.each_with_kind.Goals as goal
 

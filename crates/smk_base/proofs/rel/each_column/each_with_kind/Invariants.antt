@@ -1,7 +1,6 @@
 use Rattle.std.proofs.Common.{◌≡◌, ◌≤◌, ℕ, length}
 use Rattle.std.specs.Prelude.{vec_len, vec_capacity}
-use Rattle.smk_base.specs.Rels.{kind_in}
-use Rattle.smk_base.specs.Relations.{AreMade, column_in}
+use Rattle.smk_base.specs.{Rels.kind_in, Relations.{AreMade, column_in}}
 use Rattle.smk_base.proofs.rel.each_column.each_with_kind.Given as goal
 
 abbrev pub invariant-loop-c : goal.invariant-loop-c

@@ -1,8 +1,5 @@
-use Rattle.std.proofs.Common.{◌≡◌, ◌∙◌, ap, map, ◌+◌, ℕ, arith}
-use Rattle.std.proofs.lemmas.List.{get_or_read}
-use Rattle.smk_base.specs.Rels.{value_in}
-use Rattle.smk_base.specs.Images.{ColumnImage}
-use Rattle.smk_base.specs.Relations.{column_in}
+use Rattle.std.proofs.{Common.{◌≡◌, ◌∙◌, ap, map, ◌+◌, ℕ, arith}, lemmas.List.get_or_read}
+use Rattle.smk_base.specs.{Rels.value_in, Images.ColumnImage, Relations.column_in}
 use Rattle.smk_base.proofs.Made.{AreMade_none, AreMade_push}
 use Rattle.smk_base.proofs.rel.each_column.gather_each.Goals as goal
 

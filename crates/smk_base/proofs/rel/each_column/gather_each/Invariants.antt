@@ -1,7 +1,6 @@
 use Rattle.std.proofs.Common.{map, length, ◌≡◌, ◌≤◌}
 use Rattle.std.specs.Prelude.{vec_len, vec_capacity}
-use Rattle.smk_base.specs.Rels.{value_in}
-use Rattle.smk_base.specs.Relations.{AreMade, column_in}
+use Rattle.smk_base.specs.{Rels.value_in, Relations.{AreMade, column_in}}
 use Rattle.smk_base.proofs.rel.each_column.gather_each.Given as goal
 
 abbrev pub invariant-loop-column : goal.invariant-loop-column

@@ -1,6 +1,4 @@
-use Rattle.std.proofs.Common.{◌≡◌, ◌<◌, arith, rules, inl, inr, length}
-use Rattle.std.proofs.lemmas.Bool.{cases_eq}
-use Rattle.std.proofs.lemmas.List.{get_or_read, get_or-set_same, get_or-set_other}
+use Rattle.std.proofs.{Common.{◌≡◌, ◌<◌, arith, rules, inl, inr, length}, lemmas.Bool.cases_eq, lemmas.List.{get_or_read, get_or-set_same, get_or-set_other}}
 use Rattle.smk_base.specs.Relations.{column_in}
 use Rattle.smk_base.proofs.Made.{AreMade_set}
 use Rattle.smk_base.proofs.rel.each_column.make_each_ready.Goals as goal

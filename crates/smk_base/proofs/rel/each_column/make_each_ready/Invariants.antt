@@ -1,7 +1,5 @@
 use Rattle.std.proofs.Common.{◌<◌, ℕ, length}
-use Rattle.smk_base.specs.Cells.{value_of_cell, cell_in}
-use Rattle.smk_base.specs.Columns.{IsReady}
-use Rattle.smk_base.specs.Relations.{AreMade, column_in}
+use Rattle.smk_base.specs.{Cells.{value_of_cell, cell_in}, Columns.IsReady, Relations.{AreMade, column_in}}
 use Rattle.smk_base.proofs.rel.each_column.make_each_ready.Given as goal
 
 abbrev pub invariant-loop-c : goal.invariant-loop-c

@@ -1,6 +1,4 @@
-use Rattle.std.proofs.Common.{◌<◌, length, rules, arith, inl, inr}
-use Rattle.std.proofs.lemmas.Bool.{cases_eq}
-use Rattle.std.proofs.lemmas.List.{get_or-set_same, get_or-set_other}
+use Rattle.std.proofs.{Common.{◌<◌, length, rules, arith, inl, inr}, lemmas.Bool.cases_eq, lemmas.List.{get_or-set_same, get_or-set_other}}
 use Rattle.smk_base.proofs.Made.{AreMade_set}
 use Rattle.smk_base.proofs.rel.each_column.own_each.Goals as goal
 

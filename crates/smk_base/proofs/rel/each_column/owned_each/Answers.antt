@@ -1,8 +1,5 @@
-use Rattle.std.proofs.Common.{◌≡◌, ◌≢◌, ◌<◌, ◌∙◌, ap, arith, length, ◌+◌, ℕ}
-use Rattle.std.proofs.lemmas.List.{get_or_read, length-set, get_or-set_other}
-use Rattle.smk_base.specs.Images.{ColumnImage}
-use Rattle.smk_base.specs.Columns.{IsColumnOf}
-use Rattle.smk_base.specs.Relations.{column_in}
+use Rattle.std.proofs.{Common.{◌≡◌, ◌≢◌, ◌<◌, ◌∙◌, ap, arith, length, ◌+◌, ℕ}, lemmas.List.{get_or_read, length-set, get_or-set_other}}
+use Rattle.smk_base.specs.{Images.ColumnImage, Columns.IsColumnOf, Relations.column_in}
 use Rattle.smk_base.proofs.Made.{AreMade_push}
 use Rattle.smk_base.proofs.rel.each_column.owned_each.Goals as goal
 

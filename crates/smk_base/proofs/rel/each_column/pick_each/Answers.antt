@@ -1,10 +1,6 @@
-use Rattle.std.proofs.Common.{◌≡◌, ◌<◌, ◌∙◌, ap, get_or, length, ◌+◌, ℕ, arith}
-use Rattle.std.proofs.lemmas.List.{get_or_read}
-use Rattle.smk_base.specs.Images.{ColumnImage}
-use Rattle.smk_base.specs.Columns.{IsColumnOf}
-use Rattle.smk_base.specs.Relations.{column_in}
-use Rattle.smk_base.proofs.Kept.{IsColumnOf-same}
-use Rattle.smk_base.proofs.Made.{AreMade_none, AreMade_push}
+use Rattle.std.proofs.{Common.{◌≡◌, ◌<◌, ◌∙◌, ap, get_or, length, ◌+◌, ℕ, arith}, lemmas.List.get_or_read}
+use Rattle.smk_base.specs.{Images.ColumnImage, Columns.IsColumnOf, Relations.column_in}
+use Rattle.smk_base.proofs.{Kept.IsColumnOf-same, Made.{AreMade_none, AreMade_push}}
 use Rattle.smk_base.proofs.rel.each_column.pick_each.Goals as goal
 
 pub loop-c-preserved : goal.loop-c-preserved

@@ -1,5 +1,4 @@
-use Rattle.std.proofs.Common.{◌≡◌, ◌<◌, ◌∙◌, rules, arith, length}
-use Rattle.std.proofs.lemmas.List.{get_or_read}
+use Rattle.std.proofs.{Common.{◌≡◌, ◌<◌, ◌∙◌, rules, arith, length}, lemmas.List.get_or_read}
 use Rattle.smk_base.specs.Relations.{column_in}
 use Rattle.smk_base.proofs.Pushed.{IsChanged-none, IsChanged-more, AreMade-changed}
 use Rattle.smk_base.proofs.rel.each_column.push_each.Goals as goal

@@ -1,6 +1,5 @@
 use Rattle.std.proofs.Common.{◌+◌, ◌++◌, ◌∷◌, []}
-use Rattle.smk_base.specs.Cells.{value_of_cell, cell_in}
-use Rattle.smk_base.specs.Relations.{column_in}
+use Rattle.smk_base.specs.{Cells.{value_of_cell, cell_in}, Relations.column_in}
 use Rattle.smk_base.proofs.Pushed.{IsChanged}
 use Rattle.smk_base.proofs.rel.each_column.push_each.Given as goal
 

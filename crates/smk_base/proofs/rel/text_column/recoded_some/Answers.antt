@@ -1,7 +1,5 @@
-use Rattle.std.proofs.Common.{◌≡◌, ◌∙◌, ◌+◌, ◌<◌, ℕ, ap, length, take, arith, rules}
-use Rattle.std.proofs.lemmas.List.{length-take-le}
-use Rattle.smk_base.proofs.Recoding.{few_firsts_from}
-use Rattle.smk_base.proofs.Appended.{AreAdded-more, texts_before}
+use Rattle.std.proofs.{Common.{◌≡◌, ◌∙◌, ◌+◌, ◌<◌, ℕ, ap, length, take, arith, rules}, lemmas.List.length-take-le}
+use Rattle.smk_base.proofs.{Recoding.few_firsts_from, Appended.{AreAdded-more, texts_before}}
 use Rattle.smk_base.proofs.rel.text_column.recoded_some.Goals as goal
 
 pub add_bytes-requires : goal.add_bytes-requires

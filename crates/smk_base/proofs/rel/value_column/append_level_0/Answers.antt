@@ -1,5 +1,4 @@
-use Rattle.std.proofs.Common.{pos, rules, arith, ◌∙◌, ◌+◌, ℕ, ap}
-use Rattle.std.proofs.lemmas.Grind.{common_steps}
+use Rattle.std.proofs.{Common.{pos, rules, arith, ◌∙◌, ◌+◌, ℕ, ap}, lemmas.Grind.common_steps}
 use Rattle.smk_base.proofs.Loops.{taken_next}
 use Rattle.smk_base.proofs.rel.value_column.append_level_0.Goals as goal
 

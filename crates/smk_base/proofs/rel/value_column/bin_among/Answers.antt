@@ -1,8 +1,5 @@
-use Rattle.std.proofs.Common.{rules, ◌≡◌, ◌∙◌, ◌<◌, length, get_or, sym, ap, pos, to_z, of_z, w64, arith, ◌+ℤ◌}
-use Rattle.std.specs.Prelude.{◌≤ℤ◌}
-use Rattle.std.specs.Int.{int_div_euclid}
-use Rattle.std.proofs.lemmas.Bool.{ltb-true}
-use Rattle.std.proofs.lemmas.Int.{ints}
+use Rattle.std.proofs.{Common.{rules, ◌≡◌, ◌∙◌, ◌<◌, length, get_or, sym, ap, pos, to_z, of_z, w64, arith, ◌+ℤ◌}, lemmas.Bool.ltb-true, lemmas.Int.ints}
+use Rattle.std.specs.{Prelude.◌≤ℤ◌, Int.int_div_euclid}
 use Rattle.smk_base.proofs.Bins.{above-is}
 use Rattle.smk_base.proofs.rel.value_column.bin_among.Goals as goal
 

@@ -1,5 +1,4 @@
-use Rattle.std.proofs.Common.{rules, ◌∙◌, ℕ, ◌+◌, ap}
-use Rattle.std.proofs.lemmas.List.{length_push}
+use Rattle.std.proofs.{Common.{rules, ◌∙◌, ℕ, ◌+◌, ap}, lemmas.List.length_push}
 use Rattle.smk_base.proofs.Bins.{bins-next}
 use Rattle.smk_base.proofs.rel.value_column.bins_from.Goals as goal
 

@@ -1,5 +1,4 @@
-use Rattle.std.proofs.Common.{arith, [], pos}
-use Rattle.std.proofs.lemmas.Grind.{common_steps}
+use Rattle.std.proofs.{Common.{arith, [], pos}, lemmas.Grind.common_steps}
 use Rattle.smk_base.specs.declared.value.Value.TheVariants as values
 use Rattle.smk_base.proofs.Kept.{map-gather}
 use Rattle.smk_base.proofs.rel.value_column.gathered.Goals as goal

@@ -1,5 +1,4 @@
-use Rattle.std.proofs.Common.{◌<◌, ◌∙◌, ℕ, ap, length, map, get_or, ◌+◌, arith}
-use Rattle.std.proofs.lemmas.List.{get_or_read, take_all}
+use Rattle.std.proofs.{Common.{◌<◌, ◌∙◌, ℕ, ap, length, map, get_or, ◌+◌, arith}, lemmas.List.{get_or_read, take_all}}
 use Rattle.smk_base.proofs.Loops.{mapped_next}
 use Rattle.smk_base.proofs.rel.value_column.items_at.Goals as goal
 

@@ -1,6 +1,5 @@
-use Rattle.std.proofs.Common.{ℤ, pos, rules, to_z, of_z, w64, arith, ◌∙◌, ◌+◌, ℕ, ap}
+use Rattle.std.proofs.{Common.{ℤ, pos, rules, to_z, of_z, w64, arith, ◌∙◌, ◌+◌, ℕ, ap}, lemmas.Grind.common_steps}
 use Rattle.std.specs.Int.{int_div_euclid}
-use Rattle.std.proofs.lemmas.Grind.{common_steps}
 use Rattle.smk_base.proofs.Loops.{mapped_next}
 use Rattle.smk_base.proofs.rel.value_column.small_bins.Goals as goal
 

@@ -1,6 +1,5 @@
 use Rattle.std.proofs.Common.{◌≡◌, take, map, ◌≤◌, length}
-use Rattle.std.specs.Int.{int_div_euclid}
-use Rattle.std.specs.Prelude.{vec_len, vec_capacity}
+use Rattle.std.specs.{Int.int_div_euclid, Prelude.{vec_len, vec_capacity}}
 use Rattle.smk_base.proofs.rel.value_column.small_bins.Given as goal
 
 abbrev pub invariant-loop-number : goal.invariant-loop-number

@@ -1,9 +1,5 @@
 use Rattle.std.proofs.Common.{◌∙◌, All, ap, map, subst, sym}
-use Rattle.smk_base.specs.Images.{ColumnImage}
-use Rattle.smk_base.specs.Rels.{Fits}
-use Rattle.smk_base.specs.Stores.{cells_in}
-use Rattle.smk_base.specs.declared.rel.value_column.Store.{Store}
-use Rattle.smk_base.specs.declared.value.Kind.{Kind}
+use Rattle.smk_base.specs.{Images.ColumnImage, Rels.Fits, Stores.cells_in, declared.rel.value_column.Store.Store, declared.value.Kind.Kind}
 use Rattle.smk_base.specs.declared.value.Value.TheVariants as values
 use Rattle.smk_base.proofs.Kept.{no_texts}
 use Rattle.smk_base.proofs.rel.value_column.store_with_kind.Goals as goal

@@ -1,5 +1,4 @@
-use Rattle.std.proofs.Common.{ℕ, ℤ, List, sym}
-use Rattle.std.proofs.lemmas.List.{take-map}
+use Rattle.std.proofs.{Common.{ℕ, ℤ, List, sym}, lemmas.List.take-map}
 use Rattle.smk_base.specs.declared.value.Value.TheVariants as values
 use Rattle.smk_base.proofs.rel.value_column.truncate_store.Goals as goal
 

@@ -1,5 +1,4 @@
-use Rattle.std.proofs.Common.{◌≡◌, ◌∙◌, ◌<◌, List, ℕ, All, length, map, get_or, ap, sym, subst, arith}
-use Rattle.std.proofs.lemmas.List.{length-map}
+use Rattle.std.proofs.{Common.{◌≡◌, ◌∙◌, ◌<◌, List, ℕ, All, length, map, get_or, ap, sym, subst, arith}, lemmas.List.length-map}
 use Rattle.smk_base.specs.Rels.{Relation, row_in}
 use Rattle.smk_keys.specs.Classes.{ClassesImage, classes_of}
 use Rattle.smk_model.specs.Plain.{key_of}

@@ -1,6 +1,4 @@
-use Rattle.std.proofs.Common.{◌≡◌, ap, length, map, subst, arith, take}
-use Rattle.std.proofs.lemmas.List.{take_all}
-use Rattle.std.proofs.lemmas.Grind.{common_steps}
+use Rattle.std.proofs.{Common.{◌≡◌, ap, length, map, subst, arith, take}, lemmas.List.take_all, lemmas.Grind.common_steps}
 use Rattle.smk_model.specs.Plain.{key_of}
 use Rattle.smk_body.specs.Renumbered.{StandFor, numbers_from}
 use Rattle.smk_jobs.proofs.Cutting.{cut_end}

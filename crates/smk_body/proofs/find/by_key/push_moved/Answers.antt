@@ -1,5 +1,4 @@
-use Rattle.std.proofs.Common.{arith}
-use Rattle.std.proofs.lemmas.Grind.{common_steps}
+use Rattle.std.proofs.{Common.arith, lemmas.Grind.common_steps}
 use Rattle.smk_body.proofs.find.by_key.push_moved.Goals as goal
 
 pub loop-number-preserved : goal.loop-number-preserved

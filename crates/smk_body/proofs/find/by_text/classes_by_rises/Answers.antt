@@ -1,16 +1,12 @@
-use Rattle.std.proofs.Common.{◌≡◌, ◌∙◌, ◌<◌, ◌+◌, ℕ, List, length, get_or, ap, subst, arith}
+use Rattle.std.proofs.{Common.{◌≡◌, ◌∙◌, ◌<◌, ◌+◌, ℕ, List, length, get_or, ap, subst, arith}, lemmas.List.get_or_default}
 use Rattle.std.specs.List.{All}
-use Rattle.std.proofs.lemmas.List.{get_or_default}
-use Rattle.smk_base.specs.Rels.{AreCodesOf, column_texts, column_values}
-use Rattle.smk_base.specs.TextColumns.{text_firsts}
-use Rattle.smk_keys.specs.Classes.{ClassesImage}
-use Rattle.smk_keys.specs.Orders.{IsInOrder}
+use Rattle.smk_base.specs.{Rels.{AreCodesOf, column_texts, column_values}, TextColumns.text_firsts}
+use Rattle.smk_keys.specs.{Classes.ClassesImage, Orders.IsInOrder}
 use Rattle.smk_jobs.specs.Cuts.{cut_at}
 use Rattle.smk_body.specs.Rises.{codes_of}
 use Rattle.smk_jobs.proofs.Cutting.{cut_end, cut_within}
-use Rattle.smk_body.proofs.Rising.{long, part_rises, rise_known, rise_new, text_classes-are}
+use Rattle.smk_body.proofs.{Rising.{long, part_rises, rise_known, rise_new, text_classes-are}, find.by_text.classes_by_rises.Goals.{then-codes-place+in_ok-push, else-codes-place}}
 use Rattle.smk_body.proofs.find.by_text.classes_by_rises.Goals as goal
-use Rattle.smk_body.proofs.find.by_text.classes_by_rises.Goals.{then-codes-place+in_ok-push, else-codes-place}
 
 pub bounds-codes-place : goal.bounds-codes-place
 bounds-codes-place c =

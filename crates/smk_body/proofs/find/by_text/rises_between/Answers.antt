@@ -1,9 +1,6 @@
-use Rattle.std.proofs.Common.{◌≡◌, ℕ, ◌<◌, ◌≤◌, ◌-◌, ◌++◌, ◌∷◌, [], length, get_or, ap, arith, rules, inl, inr}
-use Rattle.std.proofs.lemmas.Bool.{cases_lt}
-use Rattle.std.proofs.lemmas.List.{get_or_push, length_push}
-use Rattle.smk_body.proofs.Rising.{rises_kept, rises_more}
+use Rattle.std.proofs.{Common.{◌≡◌, ℕ, ◌<◌, ◌≤◌, ◌-◌, ◌++◌, ◌∷◌, [], length, get_or, ap, arith, rules, inl, inr}, lemmas.Bool.cases_lt, lemmas.List.{get_or_push, length_push}}
+use Rattle.smk_body.proofs.{Rising.{rises_kept, rises_more}, find.by_text.rises_between.Goals.{then-code-next+in_ok-push, else-code-next}}
 use Rattle.smk_body.proofs.find.by_text.rises_between.Goals as goal
-use Rattle.smk_body.proofs.find.by_text.rises_between.Goals.{then-code-next+in_ok-push, else-code-next}
 
 pub loop-place-preserved : goal.loop-place-preserved
 loop-place-preserved c =

@@ -1,8 +1,5 @@
-use Rattle.std.proofs.Common.{◌≡◌, ◌∙◌, List, ℕ, length, map, ap, All, IfOk, subst}
-use Rattle.std.proofs.lemmas.List.Elements.{All-weaker}
-use Rattle.std.proofs.lemmas.Slice.Zip.{AllZip-long}
-use Rattle.smk_base.specs.Places.{upto}
-use Rattle.smk_base.specs.Rels.{Fits, RowFits, picked}
+use Rattle.std.proofs.{Common.{◌≡◌, ◌∙◌, List, ℕ, length, map, ap, All, IfOk, subst}, lemmas.List.Elements.All-weaker, lemmas.Slice.Zip.AllZip-long}
+use Rattle.smk_base.specs.{Places.upto, Rels.{Fits, RowFits, picked}}
 use Rattle.smk_keys.specs.Classes.{classes_of, ClassesImage}
 use Rattle.smk_model.specs.Values.{Row}
 use Rattle.smk_base.proofs.Places.{upto_below}

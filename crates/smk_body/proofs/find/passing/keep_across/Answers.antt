@@ -1,9 +1,5 @@
-use Rattle.std.proofs.Common.{◌≡◌, ◌∙◌, [], length, sym}
-use Rattle.std.proofs.lemmas.List.Elements.{filter_agree}
-use Rattle.std.proofs.lemmas.Result.{IfOk-equal}
-use Rattle.std.proofs.lemmas.Slice.Zip.{AllZip-long}
-use Rattle.smk_base.specs.Cells.{value_of_cell}
-use Rattle.smk_base.specs.Rels.{Fits}
+use Rattle.std.proofs.{Common.{◌≡◌, ◌∙◌, [], length, sym}, lemmas.List.Elements.filter_agree, lemmas.Result.IfOk-equal, lemmas.Slice.Zip.AllZip-long}
+use Rattle.smk_base.specs.{Cells.value_of_cell, Rels.Fits}
 use Rattle.smk_model.specs.Lineage.{row_at}
 use Rattle.smk_body.proofs.Comparing.{across, turned_across, turned_says}
 use Rattle.smk_body.proofs.find.passing.keep_across.Goals as goal

@@ -1,16 +1,9 @@
 use Rattle.std.proofs.Common.{◌≡◌, ◌∙◌, ℕ, ℤ, pos, Bool, List, false, map, filter, get_or, ap, subst, rules, to_z, of_z}
-use Rattle.std.specs.Int.{w128}
-use Rattle.std.specs.Ordering.{int_cmp}
-use Rattle.smk_base.specs.Cells.{value_of_cell}
-use Rattle.smk_base.specs.Plans.{Comparison}
-use Rattle.smk_base.specs.Rels.{column_texts, kind_in}
-use Rattle.smk_base.specs.TextColumns.{text_firsts}
-use Rattle.smk_base.specs.declared.book.plan.Operand.TheVariants.{Lit}
-use Rattle.smk_base.specs.declared.value.Value.{Value}
+use Rattle.std.specs.{Int.w128, Ordering.int_cmp}
+use Rattle.smk_base.specs.{Cells.value_of_cell, Plans.Comparison, Rels.{column_texts, kind_in}, TextColumns.text_firsts, declared.book.plan.Operand.TheVariants.Lit, declared.value.Value.Value}
 use Rattle.smk_base.specs.declared.value.Kind.TheVariants as kinds
 use Rattle.smk_base.specs.declared.value.Value.TheVariants as values
-use Rattle.smk_model.specs.Values.{holds, meets, value_cmp}
-use Rattle.smk_model.specs.Lineage.{row_at}
+use Rattle.smk_model.specs.{Values.{holds, meets, value_cmp}, Lineage.row_at}
 use Rattle.smk_body.proofs.Comparing.{codes_kept, ints_kept, kind_is}
 use Rattle.smk_body.proofs.find.passing.keep_standing.Goals as goal
 

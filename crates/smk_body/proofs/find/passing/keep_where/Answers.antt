@@ -1,9 +1,5 @@
-use Rattle.std.proofs.Common.{◌≡◌, ◌∙◌, ◌+◌, ◌<◌, ℕ, Bool, All, true, false, length, take, slice_set, get_or, ap, sym, subst, arith}
-use Rattle.std.proofs.lemmas.List.{length-set, drop-set-lt}
-use Rattle.std.proofs.lemmas.List.Elements.{All-get_or}
-use Rattle.std.proofs.lemmas.List.Filters.{FiltersInPlace}
-use Rattle.smk_body.proofs.Comparing.{next_same, rest_same, front_kept, front_left}
-use Rattle.smk_body.proofs.find.passing.keep_where.Goals.{then-test, else-test}
+use Rattle.std.proofs.{Common.{◌≡◌, ◌∙◌, ◌+◌, ◌<◌, ℕ, Bool, All, true, false, length, take, slice_set, get_or, ap, sym, subst, arith}, lemmas.List.{length-set, drop-set-lt}, lemmas.List.Elements.All-get_or, lemmas.List.Filters.FiltersInPlace}
+use Rattle.smk_body.proofs.{Comparing.{next_same, rest_same, front_kept, front_left}, find.passing.keep_where.Goals.{then-test, else-test}}
 use Rattle.smk_body.proofs.find.passing.keep_where.Goals as goal
 
 pub test-requires : goal.test-requires

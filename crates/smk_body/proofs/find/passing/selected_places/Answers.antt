@@ -1,10 +1,7 @@
-use Rattle.std.proofs.Common.{◌≡◌, ◌∙◌, ◌-◌, ℕ, All, filter, ap, refl, subst, sym, length, ◌<◌}
-use Rattle.std.proofs.lemmas.Iterator.{YieldsList-from_range, items_from_collect}
-use Rattle.std.proofs.lemmas.Result.{IfOk-at_ok}
+use Rattle.std.proofs.{Common.{◌≡◌, ◌∙◌, ◌-◌, ℕ, All, filter, ap, refl, subst, sym, length, ◌<◌}, lemmas.Iterator.{YieldsList-from_range, items_from_collect}, lemmas.Result.IfOk-at_ok}
 use Rattle.std.specs.List.{range_with_len}
 use Rattle.smk_base.specs.PlanImage.{formula_of}
-use Rattle.smk_model.specs.Values.{meets}
-use Rattle.smk_model.specs.Lineage.{row_at}
+use Rattle.smk_model.specs.{Values.meets, Lineage.row_at}
 use Rattle.smk_body.proofs.Comparing.{kept_behind, range_within}
 use Rattle.smk_body.proofs.find.passing.selected_places.Goals as goal
 

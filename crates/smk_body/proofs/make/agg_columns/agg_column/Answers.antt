@@ -2,8 +2,7 @@ use Rattle.std.proofs.Common.{◌≡◌, ◌∷◌, [], List, length, subst, IfO
 use Rattle.smk_base.specs.Rels.{kind_in}
 use Rattle.smk_base.specs.declared.value.Kind.TheVariants as kinds
 use Rattle.smk_model.specs.Values.{Row}
-use Rattle.smk_body.proofs.Aggregating.{counted_rows, least_rows, greatest_rows}
-use Rattle.smk_body.proofs.Besides.{relation}
+use Rattle.smk_body.proofs.{Aggregating.{counted_rows, least_rows, greatest_rows}, Besides.relation}
 use Rattle.smk_body.proofs.make.agg_columns.agg_column.Goals as goal
 
 pub returns-in-Count : goal.returns-in-Count

@@ -1,12 +1,9 @@
-use Rattle.std.proofs.Common.{◌∙◌, ◌∷◌, ◌<◌, [], ℕ, List, length, map, ap, refl, arith, get_or, ◌≡◌, IfOk, subst}
-use Rattle.std.proofs.lemmas.List.Elements.{All-cons, All-nil}
+use Rattle.std.proofs.{Common.{◌∙◌, ◌∷◌, ◌<◌, [], ℕ, List, length, map, ap, refl, arith, get_or, ◌≡◌, IfOk, subst}, lemmas.List.Elements.{All-cons, All-nil}}
 use Rattle.smk_base.specs.Rels.{Relation, picked, rows_at}
-use Rattle.smk_model.specs.Values.{value_at}
-use Rattle.smk_model.specs.Lineage.{row_at}
+use Rattle.smk_model.specs.{Values.value_at, Lineage.row_at}
 use Rattle.smk_model.proofs.Directions.{length_each}
 use Rattle.smk_body.specs.Halves.{best_place, class_places}
-use Rattle.smk_body.proofs.Aggregating.{best_rows}
-use Rattle.smk_body.proofs.Besides.{related}
+use Rattle.smk_body.proofs.{Aggregating.best_rows, Besides.related}
 use Rattle.smk_body.proofs.make.agg_columns.best_column.Goals as goal
 
 pub columns_at-requires : goal.columns_at-requires

@@ -3,8 +3,7 @@ use Rattle.smk_base.specs.declared.value.Kind.TheVariants as kinds
 use Rattle.smk_base.specs.declared.value.Value.TheVariants as values
 use Rattle.smk_model.proofs.Directions.{length_each}
 use Rattle.smk_body.specs.Halves.{class_places, class_sizes}
-use Rattle.smk_body.proofs.Besides.{relation}
-use Rattle.smk_body.proofs.Folding.{sizes_are}
+use Rattle.smk_body.proofs.{Besides.relation, Folding.sizes_are}
 use Rattle.smk_body.proofs.make.agg_columns.count_column.Goals as goal
 
 pub of_counts-requires-clause-few : goal.of_counts-requires-clause-few

@@ -1,19 +1,10 @@
-use Rattle.std.proofs.Common.{◌≡◌, ◌∙◌, ◌+◌, ◌++◌, ◌∷◌, [], ℕ, List, length, map, take, ap, sym, arith, get_or, append_assoc}
-use Rattle.std.proofs.lemmas.List.{map_more, length-map, length-append, length-take-le, take_all, append-nil}
-use Rattle.smk_base.specs.declared.book.plan.Agg.TheVariants.{Count}
-use Rattle.smk_base.specs.declared.book.plan.Agg.{Agg}
-use Rattle.smk_base.specs.Places.{upto}
-use Rattle.smk_base.specs.Rels.{Relation, kind_in, picked, rows_at, beside_rows}
+use Rattle.std.proofs.{Common.{◌≡◌, ◌∙◌, ◌+◌, ◌++◌, ◌∷◌, [], ℕ, List, length, map, take, ap, sym, arith, get_or, append_assoc}, lemmas.List.{map_more, length-map, length-append, length-take-le, take_all, append-nil}}
+use Rattle.smk_base.specs.{declared.book.plan.Agg.TheVariants.Count, declared.book.plan.Agg.Agg, Places.upto, Rels.{Relation, kind_in, picked, rows_at, beside_rows}}
 use Rattle.smk_keys.specs.Classes.{ClassesImage}
-use Rattle.smk_model.specs.Plain.{aggregate, key_of}
-use Rattle.smk_model.specs.Lineage.{row_at, sub}
-use Rattle.smk_model.specs.Kinds.{kind_of_agg}
+use Rattle.smk_model.specs.{Plain.{aggregate, key_of}, Lineage.{row_at, sub}, Kinds.kind_of_agg}
 use Rattle.smk_model.proofs.Directions.{length_each}
 use Rattle.smk_body.specs.Halves.{class_places}
-use Rattle.smk_body.proofs.Classing.{rows_numbered}
-use Rattle.smk_body.proofs.Aggregating.{keys_at_firsts, groups_are}
-use Rattle.smk_body.proofs.Besides.{column_more, related}
-use Rattle.smk_body.proofs.Parting.{first_places_are}
+use Rattle.smk_body.proofs.{Classing.rows_numbered, Aggregating.{keys_at_firsts, groups_are}, Besides.{column_more, related}, Parting.first_places_are}
 use Rattle.smk_body.proofs.make.agg_columns.sized_group_rows.Goals as goal
 
 pub columns_at-requires : goal.columns_at-requires

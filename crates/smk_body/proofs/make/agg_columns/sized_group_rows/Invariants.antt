@@ -1,9 +1,6 @@
 use Rattle.std.proofs.Common.{◌≡◌, ◌++◌, length, map, take, get_or}
-use Rattle.smk_base.specs.Places.{upto}
-use Rattle.smk_base.specs.Rels.{kind_in}
-use Rattle.smk_model.specs.Plain.{aggregate, key_of}
-use Rattle.smk_model.specs.Lineage.{row_at, sub}
-use Rattle.smk_model.specs.Kinds.{kind_of_agg}
+use Rattle.smk_base.specs.{Places.upto, Rels.kind_in}
+use Rattle.smk_model.specs.{Plain.{aggregate, key_of}, Lineage.{row_at, sub}, Kinds.kind_of_agg}
 use Rattle.smk_body.specs.Halves.{class_places}
 use Rattle.smk_body.proofs.make.agg_columns.sized_group_rows.Given as goal
 

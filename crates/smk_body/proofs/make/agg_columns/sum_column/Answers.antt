@@ -1,9 +1,7 @@
 use Rattle.std.proofs.Common.{◌≡◌, ◌∙◌, ◌∷◌, [], suc, ℤ, length, map, ap, refl, arith}
-use Rattle.smk_base.specs.Rels.{kind_in}
+use Rattle.smk_base.specs.{Rels.kind_in, declared.value.Kind.Kind}
 use Rattle.smk_base.specs.declared.value.Value.TheVariants as values
-use Rattle.smk_base.specs.declared.value.Kind.{Kind}
-use Rattle.smk_body.proofs.Aggregating.{summed_rows, sums_within, level_of, sums_is, level_up}
-use Rattle.smk_body.proofs.Besides.{related, relation}
+use Rattle.smk_body.proofs.{Aggregating.{summed_rows, sums_within, level_of, sums_is, level_up}, Besides.{related, relation}}
 use Rattle.smk_body.proofs.make.agg_columns.sum_column.Goals as goal
 
 pub overflow_cast-count : goal.overflow_cast-count

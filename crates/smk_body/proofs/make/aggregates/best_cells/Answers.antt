@@ -1,13 +1,11 @@
 use Rattle.std.proofs.Common.{◌≡◌, ◌∙◌, ◌<◌, ℕ, length, map, ap, sym, arith, get_or, cond, set, Vec, Global}
 use Rattle.smk_base.specs.Places.{upto}
-use Rattle.smk_model.specs.Values.{value_at}
-use Rattle.smk_model.specs.Lineage.{row_at}
+use Rattle.smk_model.specs.{Values.value_at, Lineage.row_at}
 use Rattle.smk_base.proofs.Places.{map_upto}
 use Rattle.smk_model.proofs.Directions.{length_each}
 use Rattle.smk_body.specs.Halves.{best_place, class_places}
-use Rattle.smk_body.proofs.Folding.{best_step, best_there, bests_below, class_known, kept}
+use Rattle.smk_body.proofs.{Folding.{best_step, best_there, bests_below, class_known, kept}, make.aggregates.best_cells.Goals.{then-improves, else-improves}}
 use Rattle.smk_body.proofs.make.aggregates.best_cells.Goals as goal
-use Rattle.smk_body.proofs.make.aggregates.best_cells.Goals.{then-improves, else-improves}
 
 pub loop-i-init : goal.loop-i-init
 loop-i-init c = c.in_ok-best.ensures.items ∙ c.firsts.ensures ∙ sym (map_upto c.args.classes.now.firsts 0)

@@ -1,7 +1,6 @@
 use Rattle.std.proofs.Common.{◌≡◌, length, map, get_or}
 use Rattle.smk_base.specs.Places.{upto}
-use Rattle.smk_model.specs.Values.{value_at}
-use Rattle.smk_model.specs.Lineage.{row_at}
+use Rattle.smk_model.specs.{Values.value_at, Lineage.row_at}
 use Rattle.smk_body.specs.Halves.{best_place, class_places}
 use Rattle.smk_body.proofs.make.aggregates.best_cells.Given as goal
 

@@ -1,9 +1,7 @@
 use Rattle.std.proofs.Common.{◌≡◌, ℕ, List, length, subst, IfOk, pos, get_or, arith, All, ◌<◌}
 use Rattle.smk_base.specs.declared.value.Value.TheVariants as values
-use Rattle.smk_model.specs.Values.{value_at}
-use Rattle.smk_model.specs.Lineage.{row_at}
-use Rattle.smk_body.proofs.Folding.{bests_agree}
-use Rattle.smk_body.proofs.Aggregating.{ints_long, value_is}
+use Rattle.smk_model.specs.{Values.value_at, Lineage.row_at}
+use Rattle.smk_body.proofs.{Folding.bests_agree, Aggregating.{ints_long, value_is}}
 use Rattle.smk_body.proofs.make.aggregates.best_places.Goals as goal
 
 pub returns-in-Small-clause-places : goal.returns-in-Small-clause-places

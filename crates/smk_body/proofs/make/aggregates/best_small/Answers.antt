@@ -3,9 +3,8 @@ use Rattle.smk_base.specs.declared.value.Value.TheVariants as values
 use Rattle.smk_base.proofs.Places.{map_upto}
 use Rattle.smk_model.proofs.Directions.{length_each}
 use Rattle.smk_body.specs.Halves.{best_place, class_places, improves_on}
-use Rattle.smk_body.proofs.Folding.{best_step, best_there, bests_below, kept}
+use Rattle.smk_body.proofs.{Folding.{best_step, best_there, bests_below, kept}, make.aggregates.best_small.Goals.{then-beats, else-beats}}
 use Rattle.smk_body.proofs.make.aggregates.best_small.Goals as goal
-use Rattle.smk_body.proofs.make.aggregates.best_small.Goals.{then-beats, else-beats}
 
 pub loop-i-init : goal.loop-i-init
 loop-i-init c = c.in_ok-best.ensures.items ∙ c.firsts.ensures ∙ sym (map_upto c.args.classes.now.firsts 0)

@@ -1,5 +1,4 @@
-use Rattle.std.proofs.Common.{◌≡◌, ◌∙◌, pos, arith, get_or, rules, to_z, of_z, to_z-of_z, w64, ap, length}
-use Rattle.std.proofs.lemmas.List.{get_or_default}
+use Rattle.std.proofs.{Common.{◌≡◌, ◌∙◌, pos, arith, get_or, rules, to_z, of_z, to_z-of_z, w64, ap, length}, lemmas.List.get_or_default}
 use Rattle.smk_body.proofs.Folding.{constant, sum_step, SumStep, sum_over}
 use Rattle.smk_model.proofs.Directions.{length_each}
 use Rattle.smk_body.specs.Halves.{class_places}

@@ -1,5 +1,4 @@
-use Rattle.std.proofs.Common.{◌≡◌, ℤ, List, subst, IfOk, arith}
-use Rattle.std.proofs.lemmas.Grind.{common_steps}
+use Rattle.std.proofs.{Common.{◌≡◌, ℤ, List, subst, IfOk, arith}, lemmas.Grind.common_steps}
 use Rattle.smk_body.proofs.Aggregating.{ints_low, sums_are}
 use Rattle.smk_body.proofs.make.aggregates.sums.Goals as goal
 

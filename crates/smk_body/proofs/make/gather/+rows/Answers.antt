@@ -1,5 +1,4 @@
-use Rattle.std.proofs.Common.{◌≡◌, ◌∙◌, ap, map, rules, ◌++◌}
-use Rattle.std.proofs.lemmas.Result.{IfOk-at_ok, IfOk-weaker}
+use Rattle.std.proofs.{Common.{◌≡◌, ◌∙◌, ap, map, rules, ◌++◌}, lemmas.Result.{IfOk-at_ok, IfOk-weaker}}
 use Rattle.smk_base.specs.Rels.{Relation, kind_in}
 use Rattle.smk_body.specs.Parts.{columns_of}
 use Rattle.smk_body.proofs.Parting.{rows_behind, same_wider, lower_places, upper_places, rows_few}

@@ -1,11 +1,6 @@
-use Rattle.std.proofs.Common.{◌≡◌, ◌∙◌, ◌+◌, ◌++◌, ◌∷◌, [], map, take, length, ap, sym, arith, get_or}
-use Rattle.std.proofs.lemmas.List.{map_more, length-map, length-take-le}
-use Rattle.std.proofs.lemmas.Grind.{common_steps}
-use Rattle.smk_base.specs.declared.book.plan.Item.TheVariants.{Col}
-use Rattle.smk_base.specs.Rels.{Relation, beside_rows}
-use Rattle.smk_model.specs.Values.{Row}
-use Rattle.smk_model.specs.Plain.{image, item_at}
-use Rattle.smk_model.specs.Kinds.{kind_of_item}
+use Rattle.std.proofs.{Common.{◌≡◌, ◌∙◌, ◌+◌, ◌++◌, ◌∷◌, [], map, take, length, ap, sym, arith, get_or}, lemmas.List.{map_more, length-map, length-take-le}, lemmas.Grind.common_steps}
+use Rattle.smk_base.specs.{declared.book.plan.Item.TheVariants.Col, Rels.{Relation, beside_rows}}
+use Rattle.smk_model.specs.{Values.Row, Plain.{image, item_at}, Kinds.kind_of_item}
 use Rattle.smk_body.proofs.Besides.{column_more, related}
 use Rattle.smk_body.proofs.make.project.images.Goals as goal
 

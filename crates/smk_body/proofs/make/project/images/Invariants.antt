@@ -1,6 +1,5 @@
 use Rattle.std.proofs.Common.{◌≡◌, map, take}
-use Rattle.smk_model.specs.Plain.{image}
-use Rattle.smk_model.specs.Kinds.{kind_of_item}
+use Rattle.smk_model.specs.{Plain.image, Kinds.kind_of_item}
 use Rattle.smk_body.proofs.make.project.images.Given as goal
 
 abbrev pub invariant-loop-item : goal.invariant-loop-item

@@ -1,5 +1,4 @@
-use Rattle.std.proofs.Common.{◌≡◌, [], IfOk, arith, subst}
-use Rattle.std.proofs.lemmas.List.{nil_from_length}
+use Rattle.std.proofs.{Common.{◌≡◌, [], IfOk, arith, subst}, lemmas.List.nil_from_length}
 use Rattle.smk_base.specs.Rels.{Relation}
 use Rattle.smk_body.proofs.Parting.{first_places_are, no_aggregates}
 use Rattle.smk_body.proofs.make.rows_of_groups.few_columns.Goals as goal

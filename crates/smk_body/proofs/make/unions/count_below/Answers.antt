@@ -1,6 +1,4 @@
-use Rattle.std.proofs.Common.{◌<◌, take, arith, get_or}
-use Rattle.std.proofs.lemmas.List.{take_more}
-use Rattle.std.proofs.lemmas.List.Elements.{All-push}
+use Rattle.std.proofs.{Common.{◌<◌, take, arith, get_or}, lemmas.List.take_more, lemmas.List.Elements.All-push}
 use Rattle.smk_body.proofs.make.unions.count_below.Goals as goal
 
 pub loop-k-preserved : goal.loop-k-preserved

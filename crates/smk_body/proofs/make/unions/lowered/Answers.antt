@@ -1,5 +1,4 @@
-use Rattle.std.proofs.Common.{◌∙◌, ◌-◌, ◌++◌, ◌∷◌, [], ℕ, List, map, take, ap, sym, get_or}
-use Rattle.std.proofs.lemmas.List.{map_push, take_more, take_all}
+use Rattle.std.proofs.{Common.{◌∙◌, ◌-◌, ◌++◌, ◌∷◌, [], ℕ, List, map, take, ap, sym, get_or}, lemmas.List.{map_push, take_more, take_all}}
 use Rattle.smk_body.proofs.make.unions.lowered.Goals as goal
 
 pub loop-i-preserved : goal.loop-i-preserved

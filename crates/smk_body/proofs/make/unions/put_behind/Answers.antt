@@ -1,12 +1,7 @@
-use Rattle.std.proofs.Common.{◌∙◌, ap, arith, ◌≡◌, ◌++◌, length}
-use Rattle.std.proofs.lemmas.Grind.{common_steps}
-use Rattle.std.proofs.lemmas.Result.{IfOk-weaker}
-use Rattle.std.proofs.lemmas.List.Elements.{All-weaker}
+use Rattle.std.proofs.{Common.{◌∙◌, ap, arith, ◌≡◌, ◌++◌, length}, lemmas.Grind.common_steps, lemmas.Result.IfOk-weaker, lemmas.List.Elements.All-weaker}
 use Rattle.smk_base.specs.Rels.{Relation, RowFits}
-use Rattle.smk_body.proofs.Fitting.{length-wider_kinds, wider_columns}
-use Rattle.smk_body.proofs.Uniting.{left_wider, right_wider, row_wider}
+use Rattle.smk_body.proofs.{Fitting.{length-wider_kinds, wider_columns}, Uniting.{left_wider, right_wider, row_wider}, Besides.relation}
 use Rattle.smk_model.specs.Kinds.{wider_kinds}
-use Rattle.smk_body.proofs.Besides.{relation}
 use Rattle.smk_body.proofs.make.unions.put_behind.Goals as goal
 
 pub with_kinds-requires-clause-low_levels : goal.with_kinds-requires-clause-low_levels

@@ -1,11 +1,7 @@
-use Rattle.std.proofs.Common.{◌≡◌, ◌∙◌, ◌++◌, List, ℕ, length, map, ap, arith}
-use Rattle.std.proofs.lemmas.Grind.{common_steps}
-use Rattle.smk_base.specs.Places.{upto}
-use Rattle.smk_base.specs.Rels.{picked}
+use Rattle.std.proofs.{Common.{◌≡◌, ◌∙◌, ◌++◌, List, ℕ, length, map, ap, arith}, lemmas.Grind.common_steps}
+use Rattle.smk_base.specs.{Places.upto, Rels.picked}
 use Rattle.smk_keys.specs.Classes.{ClassesImage, classes_of}
-use Rattle.smk_body.proofs.Classing.{length_firsts}
-use Rattle.smk_body.proofs.Partnering.{alike_all}
-use Rattle.smk_body.proofs.Uniting.{all_columns_of}
+use Rattle.smk_body.proofs.{Classing.length_firsts, Partnering.alike_all, Uniting.all_columns_of}
 use Rattle.smk_body.proofs.make.unions.union_classes.Goals as goal
 
 pub of_both-requires : goal.of_both-requires

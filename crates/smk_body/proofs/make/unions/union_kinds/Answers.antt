@@ -1,7 +1,4 @@
-use Rattle.std.proofs.Common.{◌∙◌, ◌<◌, length, arith}
-use Rattle.std.proofs.lemmas.List.{take_more, take_all}
-use Rattle.std.proofs.lemmas.Grind.{common_steps}
-use Rattle.std.proofs.lemmas.Slice.Zip.{AllZip-long}
+use Rattle.std.proofs.{Common.{◌∙◌, ◌<◌, length, arith}, lemmas.List.{take_more, take_all}, lemmas.Grind.common_steps, lemmas.Slice.Zip.AllZip-long}
 use Rattle.smk_base.specs.declared.value.Kind.TheVariants as kinds
 use Rattle.smk_model.specs.Kinds.{wider_kinds, AreAlike}
 use Rattle.smk_body.proofs.Fitting.{length-wider_kinds, kind_in-wider_kinds}

@@ -1,15 +1,9 @@
-use Rattle.std.proofs.Common.{◌≡◌, ◌∙◌, ◌<◌, ◌≤◌, ◌++◌, ◌-◌, List, ℕ, length, map, take, drop, ap, sym, All, subst, get_or, arith}
-use Rattle.std.proofs.lemmas.Grind.{common_steps}
-use Rattle.std.proofs.lemmas.List.{length-take-le}
-use Rattle.std.proofs.lemmas.Result.{IfOk-weaker}
+use Rattle.std.proofs.{Common.{◌≡◌, ◌∙◌, ◌<◌, ◌≤◌, ◌++◌, ◌-◌, List, ℕ, length, map, take, drop, ap, sym, All, subst, get_or, arith}, lemmas.Grind.common_steps, lemmas.List.length-take-le, lemmas.Result.IfOk-weaker}
 use Rattle.smk_base.specs.Rels.{Relation, rows_at}
 use Rattle.smk_keys.specs.Classes.{ClassesImage}
-use Rattle.smk_model.specs.Classes.{first_places}
+use Rattle.smk_model.specs.{Classes.first_places, Plain.firsts, Kinds.wider_kinds}
 use Rattle.smk_model.proofs.Classes.{first_keys, first_below}
-use Rattle.smk_body.proofs.Classing.{rest_of}
-use Rattle.smk_body.proofs.Uniting.{sub_split, first_high, right_within}
-use Rattle.smk_model.specs.Plain.{firsts}
-use Rattle.smk_model.specs.Kinds.{wider_kinds}
+use Rattle.smk_body.proofs.{Classing.rest_of, Uniting.{sub_split, first_high, right_within}}
 use Rattle.smk_body.proofs.make.unions.union_rows.Goals as goal
 
 pub lowered-requires : goal.lowered-requires

@@ -1,6 +1,5 @@
 use Rattle.std.proofs.Common.{◌≡◌, drop, nat_eq}
-use Rattle.std.specs.List.{find}
-use Rattle.std.specs.Option.{option_map}
+use Rattle.std.specs.{List.find, Option.option_map}
 use Rattle.smk_outside.proofs.sink.mem_sink.planned_failure.Given as goal
 
 abbrev pub invariant-loop-number : goal.invariant-loop-number

@@ -1,8 +1,6 @@
-use Rattle.std.proofs.Common.{◌≡◌, ◌≢◌, ◌<◌, ◌≤◌, ◌-◌, inl, inr, length, take, subst, ◌∙◌, rules, arith, take-take, eq-eqb}
-use Rattle.std.proofs.lemmas.List.Elements.{All-take}
+use Rattle.std.proofs.{Common.{◌≡◌, ◌≢◌, ◌<◌, ◌≤◌, ◌-◌, inl, inr, length, take, subst, ◌∙◌, rules, arith, take-take, eq-eqb}, lemmas.List.Elements.All-take}
 use Rattle.std.specs.Io.BufRead.{FillKeeps, DropsConsumable}
-use Rattle.smk_outside.proofs.Reading.{part_taken, HasNoEnd}
-use Rattle.smk_outside.proofs.talk.stream_talk.take_some.Goals.{then-end-eq0, else-end-eq0}
+use Rattle.smk_outside.proofs.{Reading.{part_taken, HasNoEnd}, talk.stream_talk.take_some.Goals.{then-end-eq0, else-end-eq0}}
 use Rattle.smk_outside.proofs.talk.stream_talk.take_some.Goals as goal
 
 pub returns-clause-some : goal.returns-clause-some

@@ -1,5 +1,4 @@
-use Rattle.std.proofs.Common.{◌≡◌, ◌∙◌, ◌<◌, ◌++◌, All, length, drop, slice_index_or, [], ap, refl, subst, arith}
-use Rattle.std.proofs.lemmas.List.{length-append, length-drop, length-take-le}
+use Rattle.std.proofs.{Common.{◌≡◌, ◌∙◌, ◌<◌, ◌++◌, All, length, drop, slice_index_or, [], ap, refl, subst, arith}, lemmas.List.{length-append, length-drop, length-take-le}}
 use Rattle.smk_push.specs.Cubes.{cube_of}
 use Rattle.smk_push.proofs.Rows.{few_in_set, one_more}
 use Rattle.smk_push.proofs.cubes.Cubes.of_rows.Goals as goal

@@ -1,6 +1,5 @@
-use Rattle.std.proofs.Common.{◌≡◌, true}
+use Rattle.std.proofs.{Common.{◌≡◌, true}, lemmas.Result.on_ok_weaker}
 use Rattle.std.specs.Prelude.{is_ok}
-use Rattle.std.proofs.lemmas.Result.{on_ok_weaker}
 use Rattle.smk_report.proofs.PageTexts.{field_more, ok_gives}
 use Rattle.smk_report.proofs.page.Page.field.Goals as goal
 

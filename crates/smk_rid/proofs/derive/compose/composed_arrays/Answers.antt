@@ -1,15 +1,8 @@
-use Rattle.std.proofs.Common.{arith, ◌≡◌, ◌∙◌, ◌<◌, ◌≤◌, ◌+◌, ◌∷◌, ◌++◌, [], ℕ, length, take, map, get_or, ap, sym, inl, inr}
+use Rattle.std.proofs.{Common.{arith, ◌≡◌, ◌∙◌, ◌<◌, ◌≤◌, ◌+◌, ◌∷◌, ◌++◌, [], ℕ, length, take, map, get_or, ap, sym, inl, inr}, lemmas.Bool.{cases_eq, eq-eqb, ne_eqb}, lemmas.List.{length_push, take_all, map_more}, lemmas.List.Sums.sum_by_more, lemmas.Grind.common_steps}
 use Rattle.std.specs.List.{flat_map}
-use Rattle.std.proofs.lemmas.Bool.{cases_eq, eq-eqb, ne_eqb}
-use Rattle.std.proofs.lemmas.List.{length_push, take_all, map_more}
-use Rattle.std.proofs.lemmas.List.Sums.{sum_by_more}
-use Rattle.std.proofs.lemmas.Grind.{common_steps}
 use Rattle.smk_base.specs.Places.{Lists, members_at, list_at, pairs_of}
 use Rattle.smk_rid.specs.Packing.{one_of}
-use Rattle.smk_rid.proofs.Sets.{is_below}
-use Rattle.smk_rid.proofs.Arrays.{single-ones_of}
-use Rattle.smk_rid.proofs.Joins.{IsMap-composed}
-use Rattle.smk_rid.proofs.Through.{members_single, ones_push, pairs_push}
+use Rattle.smk_rid.proofs.{Sets.is_below, Arrays.single-ones_of, Joins.IsMap-composed, Through.{members_single, ones_push, pairs_push}}
 use Rattle.smk_rid.proofs.derive.compose.composed_arrays.Goals as goal
 
 pub number_through-rid-requires : goal.number_through-rid-requires

@@ -1,10 +1,6 @@
-use Rattle.std.proofs.Common.{arith, ◌≡◌, ◌∙◌, ◌<◌, ◌≤◌, [], length, take, map, get_or, ap, sym}
-use Rattle.std.proofs.lemmas.List.{take_all}
-use Rattle.std.proofs.lemmas.Result.{err_from_is_err_and}
-use Rattle.std.proofs.lemmas.Grind.{common_steps}
+use Rattle.std.proofs.{Common.{arith, ◌≡◌, ◌∙◌, ◌<◌, ◌≤◌, [], length, take, map, get_or, ap, sym}, lemmas.List.take_all, lemmas.Result.err_from_is_err_and, lemmas.Grind.common_steps}
 use Rattle.smk_base.specs.Places.{members_at, pairs_of}
-use Rattle.smk_rid.proofs.Sets.{sum_over}
-use Rattle.smk_rid.proofs.Joins.{IsMap-composed}
+use Rattle.smk_rid.proofs.{Sets.sum_over, Joins.IsMap-composed}
 use Rattle.smk_rid.proofs.derive.compose.composed_lists.Goals as goal
 
 pub returns-in_err-put_members-clause-many : goal.returns-in_err-put_members-clause-many

@@ -1,8 +1,7 @@
 use Rattle.std.proofs.Common.{arith, ◌≡◌, ◌∙◌, ◌++◌, List, ℕ, ap}
 use Rattle.std.specs.List.{flat_map}
 use Rattle.smk_base.specs.Places.{has, places, list_at}
-use Rattle.smk_rid.proofs.Joins.{members_is}
-use Rattle.smk_rid.proofs.Through.{flat_below, members_single}
+use Rattle.smk_rid.proofs.{Joins.members_is, Through.{flat_below, members_single}}
 use Rattle.smk_rid.proofs.derive.compose.gather_lists.Goals as goal
 
 pub make_set-requires : goal.make_set-requires

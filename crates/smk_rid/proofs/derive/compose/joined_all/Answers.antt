@@ -1,8 +1,6 @@
 use Rattle.std.proofs.Common.{arith, ◌∙◌, ap, length, sym}
 use Rattle.smk_base.specs.Places.{upto}
-use Rattle.smk_rid.proofs.Joins.{flat_all, members_is}
-use Rattle.smk_rid.proofs.Packs.{length-concat}
-use Rattle.smk_rid.proofs.Through.{all_below}
+use Rattle.smk_rid.proofs.{Joins.{flat_all, members_is}, Packs.length-concat, Through.all_below}
 use Rattle.smk_rid.proofs.derive.compose.joined_all.Goals as goal
 
 pub returns-in-Some-default : goal.returns-in-Some-default

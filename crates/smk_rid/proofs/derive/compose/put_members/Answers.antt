@@ -1,5 +1,4 @@
-use Rattle.std.proofs.Common.{arith, ◌≡◌, ◌∙◌, ◌<◌, ◌+◌, length, ap}
-use Rattle.std.proofs.lemmas.Result.{IfErr-weaker}
+use Rattle.std.proofs.{Common.{arith, ◌≡◌, ◌∙◌, ◌<◌, ◌+◌, length, ap}, lemmas.Result.IfErr-weaker}
 use Rattle.smk_base.specs.Places.{members_at, pairs_of}
 use Rattle.smk_rid.specs.declared.fault.RidFault.TheVariants.{Pairs}
 use Rattle.smk_rid.proofs.Joins.{members_one}

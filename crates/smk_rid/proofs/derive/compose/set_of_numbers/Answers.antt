@@ -1,8 +1,7 @@
 use Rattle.std.proofs.Common.{arith, ◌∙◌, ◌≡◌, ◌<◌, ℕ, List, ap, length, subst, sym}
 use Rattle.std.specs.List.{All, flat_map}
 use Rattle.smk_base.specs.Places.{Lists, has, list_at, places, upto}
-use Rattle.smk_rid.proofs.Joins.{members_is}
-use Rattle.smk_rid.proofs.Through.{all_below}
+use Rattle.smk_rid.proofs.{Joins.members_is, Through.all_below}
 use Rattle.smk_rid.proofs.derive.compose.set_of_numbers.Goals as goal
 
 pub make_set-requires : goal.make_set-requires

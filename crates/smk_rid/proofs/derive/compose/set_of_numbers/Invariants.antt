@@ -1,6 +1,5 @@
 use Rattle.std.proofs.Common.{◌≡◌, ◌≤◌, [], get_or, vec_len}
-use Rattle.std.specs.Prelude.{vec_capacity}
-use Rattle.std.specs.List.{flat_map}
+use Rattle.std.specs.{Prelude.vec_capacity, List.flat_map}
 use Rattle.smk_base.specs.Places.{upto}
 use Rattle.smk_rid.proofs.derive.compose.set_of_numbers.Given as goal
 

@@ -1,5 +1,4 @@
-use Rattle.std.proofs.Common.{arith, ◌+◌, [], length, map, take, ap}
-use Rattle.std.proofs.lemmas.List.Sums.{sum_by_more_le, sum_by-append}
+use Rattle.std.proofs.{Common.{arith, ◌+◌, [], length, map, take, ap}, lemmas.List.Sums.{sum_by_more_le, sum_by-append}}
 use Rattle.smk_base.specs.Places.{pairs_of}
 use Rattle.smk_rid.proofs.Following.{pairs_moved}
 use Rattle.smk_rid.proofs.derive.follow.put_moved_lists.Goals as goal

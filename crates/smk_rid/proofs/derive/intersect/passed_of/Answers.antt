@@ -1,10 +1,8 @@
-use Rattle.std.proofs.Common.{◌≡◌, ◌∙◌, ◌<◌, ◌+◌, ◌++◌, ◌∷◌, [], ℕ, get_or, length, take, refl, arith}
+use Rattle.std.proofs.{Common.{◌≡◌, ◌∙◌, ◌<◌, ◌+◌, ◌++◌, ◌∷◌, [], ℕ, get_or, length, take, refl, arith}, lemmas.Grind.common_steps}
 use Rattle.std.specs.List.{filter}
-use Rattle.std.proofs.lemmas.Grind.{common_steps}
 use Rattle.smk_base.specs.Places.{has}
-use Rattle.smk_rid.proofs.Intersecting.{common_more, common_same, less_here, passed_next}
+use Rattle.smk_rid.proofs.{Intersecting.{common_more, common_same, less_here, passed_next}, derive.intersect.passed_of.Goals.{then-is_at+in_ok-push, else-is_at}}
 use Rattle.smk_rid.proofs.derive.intersect.passed_of.Goals as goal
-use Rattle.smk_rid.proofs.derive.intersect.passed_of.Goals.{then-is_at+in_ok-push, else-is_at}
 
 pub loop-rid-preserved : goal.loop-rid-preserved
 loop-rid-preserved c =

@@ -1,6 +1,4 @@
-use Rattle.std.proofs.Common.{arith, ◌∙◌, ◌<◌, ◌≡◌, ℕ, List, eqb, length, map}
-use Rattle.std.proofs.lemmas.Bool.{and_from, eq-eqb}
-use Rattle.std.proofs.lemmas.List.{length-map}
+use Rattle.std.proofs.{Common.{arith, ◌∙◌, ◌<◌, ◌≡◌, ℕ, List, eqb, length, map}, lemmas.Bool.{and_from, eq-eqb}, lemmas.List.length-map}
 use Rattle.smk_rid.specs.Packing.{one_of}
 use Rattle.smk_rid.proofs.Owns.{own_is, own_at, own_more, one_back}
 use Rattle.smk_rid.proofs.hold.code.are_own.Goals as goal

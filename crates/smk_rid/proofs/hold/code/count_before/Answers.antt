@@ -1,10 +1,8 @@
-use Rattle.std.proofs.Common.{arith, ◌≡◌, ◌+◌, ℕ, List, length, map, take, ap}
-use Rattle.std.proofs.lemmas.List.Sums.{sum_by-take-le}
+use Rattle.std.proofs.{Common.{arith, ◌≡◌, ◌+◌, ℕ, List, length, map, take, ap}, lemmas.List.Sums.sum_by-take-le}
 use Rattle.smk_base.specs.Places.{pairs_of}
 use Rattle.smk_rid.specs.Packing.{one_of}
-use Rattle.smk_rid.proofs.Codes.{one_none, one_some, pairs_more}
+use Rattle.smk_rid.proofs.{Codes.{one_none, one_some, pairs_more}, hold.code.count_before.Goals.{then-number, else-number}}
 use Rattle.smk_rid.proofs.hold.code.count_before.Goals as goal
-use Rattle.smk_rid.proofs.hold.code.count_before.Goals.{then-number, else-number}
 
 pub overflow_add-count : goal.overflow_add-count
 overflow_add-count g c =

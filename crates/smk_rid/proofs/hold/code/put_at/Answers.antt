@@ -1,9 +1,7 @@
-use Rattle.std.proofs.Common.{arith, ◌≡◌, ◌∙◌, ◌<◌, [], ◌∷◌, ℕ, List, length, get_or, map, sym}
-use Rattle.std.proofs.lemmas.List.{append-nil}
+use Rattle.std.proofs.{Common.{arith, ◌≡◌, ◌∙◌, ◌<◌, [], ◌∷◌, ℕ, List, length, get_or, map, sym}, lemmas.List.append-nil}
 use Rattle.smk_rid.specs.Packing.{one_of}
-use Rattle.smk_rid.proofs.Codes.{at_code, one_none, one_some, put_more}
+use Rattle.smk_rid.proofs.{Codes.{at_code, one_none, one_some, put_more}, hold.code.put_at.Goals.{then-rid, else-rid}}
 use Rattle.smk_rid.proofs.hold.code.put_at.Goals as goal
-use Rattle.smk_rid.proofs.hold.code.put_at.Goals.{then-rid, else-rid}
 
 pub loop-p-preserved : goal.loop-p-preserved
 loop-p-preserved g c =

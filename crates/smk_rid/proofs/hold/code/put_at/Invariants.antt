@@ -1,6 +1,5 @@
 use Rattle.std.proofs.Common.{◌≡◌, ◌≤◌, ◌+◌, ◌++◌, [], length, map, take, get_or, vec_len}
-use Rattle.std.specs.Prelude.{vec_capacity}
-use Rattle.std.specs.List.{flat_map}
+use Rattle.std.specs.{Prelude.vec_capacity, List.flat_map}
 use Rattle.smk_rid.specs.Packing.{one_of}
 use Rattle.smk_rid.proofs.hold.code.put_at.Given as goal
 

@@ -1,6 +1,5 @@
 use Rattle.std.proofs.Common.{◌≡◌, ◌≤◌, [], map, take, get_or, vec_len}
-use Rattle.std.specs.Prelude.{vec_capacity}
-use Rattle.std.specs.List.{list_any}
+use Rattle.std.specs.{Prelude.vec_capacity, List.list_any}
 use Rattle.smk_base.specs.Places.{has}
 use Rattle.smk_rid.specs.Packing.{one_of}
 use Rattle.smk_rid.proofs.Gathered.{IsGathered}

@@ -1,6 +1,5 @@
-use Rattle.std.proofs.Common.{arith, ◌<◌, [], List, ℕ, subst}
+use Rattle.std.proofs.{Common.{arith, ◌<◌, [], List, ℕ, subst}, lemmas.List.{length-map, get_or-map}}
 use Rattle.std.specs.List.{All}
-use Rattle.std.proofs.lemmas.List.{length-map, get_or-map}
 use Rattle.smk_rid.specs.Packing.{one_of}
 use Rattle.smk_rid.proofs.hold.narrow.codes_of.Goals as goal
 

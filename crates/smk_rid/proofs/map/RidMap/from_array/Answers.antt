@@ -1,7 +1,5 @@
-use Rattle.std.proofs.Common.{◌≡◌, ◌∙◌, take, map, ap, arith}
+use Rattle.std.proofs.{Common.{◌≡◌, ◌∙◌, take, map, ap, arith}, lemmas.List.take_all, lemmas.Grind.common_steps}
 use Rattle.std.specs.Option.{option_to_list}
-use Rattle.std.proofs.lemmas.List.{take_all}
-use Rattle.std.proofs.lemmas.Grind.{common_steps}
 use Rattle.smk_rid.proofs.Arrays.{IsMap-array_lists, single-options}
 use Rattle.smk_rid.proofs.map.RidMap.from_array.Goals as goal
 

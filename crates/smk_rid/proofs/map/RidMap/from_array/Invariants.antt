@@ -1,6 +1,5 @@
 use Rattle.std.proofs.Common.{◌≡◌, ◌≤◌, length, map, take}
-use Rattle.std.specs.Prelude.{vec_capacity}
-use Rattle.std.specs.Option.{option_to_list}
+use Rattle.std.specs.{Prelude.vec_capacity, Option.option_to_list}
 use Rattle.smk_base.specs.Places.{pairs_of}
 use Rattle.smk_rid.specs.Packing.{one_of}
 use Rattle.smk_rid.proofs.map.RidMap.from_array.Given as goal

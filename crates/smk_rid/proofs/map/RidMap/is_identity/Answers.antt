@@ -1,5 +1,4 @@
-use Rattle.std.proofs.Common.{length, sym, ap, subst}
-use Rattle.std.proofs.lemmas.Bool.{false≢true}
+use Rattle.std.proofs.{Common.{length, sym, ap, subst}, lemmas.Bool.false≢true}
 use Rattle.smk_base.specs.Places.{Lists}
 use Rattle.smk_rid.specs.Maps.{IsSingle}
 use Rattle.smk_rid.proofs.Arrays.{single-own}

@@ -1,6 +1,5 @@
 use Rattle.std.proofs.Common.{◌≡◌, ◌∙◌, ◌<◌, ℕ, List, All, length, ap, sym, subst}
-use Rattle.smk_base.specs.Places.{upto}
-use Rattle.smk_base.specs.declared.book.tree.Marks.{Marks}
+use Rattle.smk_base.specs.{Places.upto, declared.book.tree.Marks.Marks}
 use Rattle.smk_base.specs.declared.book.tree.Marks.TheVariants as markings
 use Rattle.smk_base.proofs.Places.{upto_below}
 use Rattle.smk_session.specs.Answers.{within_asked}

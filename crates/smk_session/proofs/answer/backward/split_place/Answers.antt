@@ -1,8 +1,6 @@
-use Rattle.std.proofs.Common.{◌∙◌, ap, sym}
-use Rattle.std.proofs.lemmas.Bool.{eq-eqb, and_from}
+use Rattle.std.proofs.{Common.{◌∙◌, ap, sym}, lemmas.Bool.{eq-eqb, and_from}}
 use Rattle.smk_base.specs.declared.book.catalog.Back.{Back}
-use Rattle.smk_model.specs.Replies.{is_by, is_split}
-use Rattle.smk_model.specs.Workload.{is_back}
+use Rattle.smk_model.specs.{Replies.{is_by, is_split}, Workload.is_back}
 use Rattle.smk_session.specs.Extras.{asks_split}
 use Rattle.smk_session.proofs.Declared.{place_found}
 use Rattle.smk_session.proofs.answer.backward.split_place.Goals as goal

@@ -1,6 +1,4 @@
-use Rattle.std.proofs.Common.{◌≡◌, ℕ, nat_le, ap, sym, ◌∙◌, Bor, option_map, find, rules, tests}
-use Rattle.std.proofs.lemmas.Iterator.{YieldsList-from_slice}
-use Rattle.std.proofs.lemmas.Iterator.Search.{find_from_yields_List}
+use Rattle.std.proofs.{Common.{◌≡◌, ℕ, nat_le, ap, sym, ◌∙◌, Bor, option_map, find, rules, tests}, lemmas.Iterator.YieldsList-from_slice, lemmas.Iterator.Search.find_from_yields_List}
 use Rattle.smk_session.proofs.answer.marks.first_outside.Goals as goal
 
 pub returns-in-Some : goal.returns-in-Some

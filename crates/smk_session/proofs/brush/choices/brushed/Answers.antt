@@ -1,11 +1,8 @@
 use Rattle.std.proofs.Common.{◌≡◌, ◌∙◌, ◌<◌, ℕ, true, List, length, ap, sym, subst, Option, Some}
-use Rattle.smk_base.specs.CatalogImage.{catalog_image}
-use Rattle.smk_base.specs.Picks.{IsAscending}
-use Rattle.smk_base.specs.declared.brush.BrushOn.{BrushOn}
+use Rattle.smk_base.specs.{CatalogImage.catalog_image, Picks.IsAscending, declared.brush.BrushOn.BrushOn}
 use Rattle.smk_session.specs.Answers.{counts, narrowed_by}
-use Rattle.smk_session.proofs.Selected.{chosen_more, chosen_same, narrowed_ascends, on_table}
+use Rattle.smk_session.proofs.{Selected.{chosen_more, chosen_same, narrowed_ascends, on_table}, brush.choices.brushed.Goals.{then-counts+in_ok-narrowed, else-counts}}
 use Rattle.smk_session.proofs.brush.choices.brushed.Goals as goal
-use Rattle.smk_session.proofs.brush.choices.brushed.Goals.{then-counts+in_ok-narrowed, else-counts}
 
 pub loop-brush-preserved : goal.loop-brush-preserved
 loop-brush-preserved c =

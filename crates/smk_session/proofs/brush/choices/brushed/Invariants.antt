@@ -1,6 +1,5 @@
 use Rattle.std.proofs.Common.{◌≡◌, ℕ, IfSome, take}
-use Rattle.smk_base.specs.CatalogImage.{catalog_image}
-use Rattle.smk_base.specs.Picks.{IsAscending}
+use Rattle.smk_base.specs.{CatalogImage.catalog_image, Picks.IsAscending}
 use Rattle.smk_session.specs.Answers.{AreOn, chosen_by, counts}
 use Rattle.smk_session.proofs.brush.choices.brushed.Given as goal
 

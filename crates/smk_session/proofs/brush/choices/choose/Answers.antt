@@ -1,5 +1,4 @@
-use Rattle.std.proofs.Common.{All, subst, sym}
-use Rattle.std.proofs.lemmas.List.Elements.{All-push}
+use Rattle.std.proofs.{Common.{All, subst, sym}, lemmas.List.Elements.All-push}
 use Rattle.smk_base.specs.CatalogImage.{catalog_image}
 use Rattle.smk_session.specs.Answers.{IsChoice}
 use Rattle.smk_session.proofs.brush.choices.choose.Goals as goal

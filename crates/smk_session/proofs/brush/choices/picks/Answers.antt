@@ -1,12 +1,8 @@
-use Rattle.std.proofs.Common.{◌≡◌, ◌∙◌, ◌++◌, ◌∷◌, ◌+◌, [], subst, sym, List, arith}
-use Rattle.std.proofs.lemmas.Grind.{common_steps}
-use Rattle.smk_base.specs.Picks.{ArePicks}
-use Rattle.smk_base.specs.declared.list.table_rids.Pick.{Pick}
+use Rattle.std.proofs.{Common.{◌≡◌, ◌∙◌, ◌++◌, ◌∷◌, ◌+◌, [], subst, sym, List, arith}, lemmas.Grind.common_steps}
+use Rattle.smk_base.specs.{Picks.ArePicks, declared.list.table_rids.Pick.Pick}
 use Rattle.smk_session.specs.Answers.{picks_brushed, state_at, book_of}
-use Rattle.smk_session.proofs.Followers.{pick_more, pick_none, rids_rise}
-use Rattle.smk_session.proofs.Selected.{are_picks}
+use Rattle.smk_session.proofs.{Followers.{pick_more, pick_none, rids_rise}, Selected.are_picks, brush.choices.picks.Goals.{in-Some+in_ok-push, in_default}}
 use Rattle.smk_session.proofs.brush.choices.picks.Goals as goal
-use Rattle.smk_session.proofs.brush.choices.picks.Goals.{in-Some+in_ok-push, in_default}
 
 pub brushed-requires : goal.brushed-requires
 brushed-requires c = rids_rise c.args.held.now.catalog.now c.args.held.now.tables.now c.args.brushes.now c.requires.fit

@@ -1,10 +1,7 @@
-use Rattle.std.proofs.Common.{◌≡◌, ◌∙◌, All, ap, arith, sym, subst, take, get_or}
-use Rattle.std.proofs.lemmas.List.{get_or_default, take_all, take_more}
-use Rattle.std.proofs.lemmas.List.Elements.{All-push}
+use Rattle.std.proofs.{Common.{◌≡◌, ◌∙◌, All, ap, arith, sym, subst, take, get_or}, lemmas.List.{get_or_default, take_all, take_more}, lemmas.List.Elements.All-push}
 use Rattle.smk_base.specs.CatalogImage.{catalog_image}
 use Rattle.smk_model.specs.Session.{concerns}
-use Rattle.smk_session.specs.Answers.{AreAlike, brushed_of}
-use Rattle.smk_session.specs.declared.brush.choices.Choice.{Choice}
+use Rattle.smk_session.specs.{Answers.{AreAlike, brushed_of}, declared.brush.choices.Choice.Choice}
 use Rattle.smk_session.proofs.Selected.{chosen_alike}
 use Rattle.smk_session.proofs.brush.choices.place_of.Goals as goal
 

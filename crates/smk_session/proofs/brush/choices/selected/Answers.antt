@@ -1,8 +1,6 @@
-use Rattle.std.proofs.Common.{◌≡◌, ℕ, IfSome, length}
-use Rattle.std.proofs.lemmas.Result.{IfOk-weaker}
+use Rattle.std.proofs.{Common.{◌≡◌, ℕ, IfSome, length}, lemmas.Result.IfOk-weaker}
 use Rattle.smk_model.specs.Session.{rows_of_table}
-use Rattle.smk_session.specs.Answers.{AreOn, book_of, chosen_by, counts, rids_or_all, selected_by, state_lent}
-use Rattle.smk_session.specs.Behind.{RidsFit}
+use Rattle.smk_session.specs.{Answers.{AreOn, book_of, chosen_by, counts, rids_or_all, selected_by, state_lent}, Behind.RidsFit}
 use Rattle.smk_session.proofs.Followers.{rids_rise, selected_is}
 use Rattle.smk_session.proofs.brush.choices.selected.Goals as goal
 

@@ -1,8 +1,6 @@
 use Rattle.std.proofs.Common.{ap, arith, get_or}
 use Rattle.smk_compose.specs.declared.kept_maps.Run.{Run}
-use Rattle.smk_session.proofs.Declared.{told_none, told_some}
-use Rattle.smk_session.proofs.Followers.{declared_fwd}
-use Rattle.smk_session.proofs.OpenedViews.{views_long}
+use Rattle.smk_session.proofs.{Declared.{told_none, told_some}, Followers.declared_fwd, OpenedViews.views_long}
 use Rattle.smk_session.proofs.brush.following.declared_map.Goals as goal
 
 pub bounds-held-w : goal.bounds-held-w

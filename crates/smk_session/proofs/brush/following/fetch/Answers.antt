@@ -1,5 +1,4 @@
-use Rattle.std.proofs.Common.{All, subst, sym}
-use Rattle.std.proofs.lemmas.List.Elements.{All-push}
+use Rattle.std.proofs.{Common.{All, subst, sym}, lemmas.List.Elements.All-push}
 use Rattle.smk_session.specs.Refreshed.{IsFetched}
 use Rattle.smk_session.proofs.Followers.{rids_rise}
 use Rattle.smk_session.proofs.brush.following.fetch.Goals as goal

@@ -1,9 +1,7 @@
 use Rattle.std.proofs.Common.{◌∙◌, ap, arith, length}
-use Rattle.smk_marks.specs.Marks.{marks_at}
-use Rattle.smk_marks.specs.Views.{rows_reached}
+use Rattle.smk_marks.specs.{Marks.marks_at, Views.rows_reached}
 use Rattle.smk_marks.proofs.Looks.{looks_few}
-use Rattle.smk_session.proofs.KeptViews.{full_shown, fwd_long, reached_by_chosen, rids_few, rids_inside, rids_looks, rids_ready, rids_shown, table_there, whole_shown}
-use Rattle.smk_session.proofs.brush.following.fetch_marks.Goals.{in_default-via-in-Some+else-as_slice-rows, in_default-via-in_default}
+use Rattle.smk_session.proofs.{KeptViews.{full_shown, fwd_long, reached_by_chosen, rids_few, rids_inside, rids_looks, rids_ready, rids_shown, table_there, whole_shown}, brush.following.fetch_marks.Goals.{in_default-via-in-Some+else-as_slice-rows, in_default-via-in_default}}
 use Rattle.smk_session.proofs.brush.following.fetch_marks.Goals as goal
 
 pub bounds-refresh-refresh : goal.bounds-refresh-refresh

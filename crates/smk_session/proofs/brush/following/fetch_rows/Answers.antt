@@ -1,8 +1,6 @@
-use Rattle.std.proofs.Common.{◌∙◌, ◌≤◌, ◌+◌, List, ap, subst, arith}
-use Rattle.std.proofs.lemmas.Grind.{common_steps}
+use Rattle.std.proofs.{Common.{◌∙◌, ◌≤◌, ◌+◌, List, ap, subst, arith}, lemmas.Grind.common_steps}
 use Rattle.smk_base.specs.CatalogImage.{ViewImage}
-use Rattle.smk_model.specs.Values.{Row}
-use Rattle.smk_model.specs.Selection.{rows_in}
+use Rattle.smk_model.specs.{Values.Row, Selection.rows_in}
 use Rattle.smk_session.proofs.Followers.{leaves_fit, leaves_over, picks_known, view_kinds}
 use Rattle.smk_session.proofs.brush.following.fetch_rows.Goals as goal
 

@@ -1,9 +1,7 @@
-use Rattle.std.proofs.Common.{[], append-nil}
-use Rattle.std.proofs.lemmas.Result.{err_from_is_err_and}
+use Rattle.std.proofs.{Common.{[], append-nil}, lemmas.Result.err_from_is_err_and}
 use Rattle.smk_jobs.proofs.InOrder.{all_back, all_front}
 use Rattle.smk_session.specs.Refreshed.{IsFetched, looks_now}
-use Rattle.smk_session.proofs.Linked.{looks_next, looks_so_far}
-use Rattle.smk_session.proofs.Refreshing.{next_waits, refused_due}
+use Rattle.smk_session.proofs.{Linked.{looks_next, looks_so_far}, Refreshing.{next_waits, refused_due}}
 use Rattle.smk_session.proofs.brush.following.follow_by.Goals as goal
 
 pub put_each-requires-clause-fetched : goal.put_each-requires-clause-fetched

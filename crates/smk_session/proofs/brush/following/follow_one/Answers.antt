@@ -1,7 +1,5 @@
 use Rattle.std.proofs.Common.{Err, refl}
-use Rattle.smk_model.specs.Replies.{content_of}
-use Rattle.smk_model.specs.Selection.{first_full}
-use Rattle.smk_model.specs.Session.{leaves_now, view_at}
+use Rattle.smk_model.specs.{Replies.content_of, Selection.first_full, Session.{leaves_now, view_at}}
 use Rattle.smk_session.specs.Refreshed.{book_at, marks_told, state_next}
 use Rattle.smk_session.proofs.Refreshing.{source_made}
 use Rattle.smk_session.proofs.brush.following.follow_one.Goals as goal

@@ -1,6 +1,5 @@
 use Rattle.std.proofs.Common.{◌∙◌, ap, arith, get_or, refl, sym}
-use Rattle.smk_session.proofs.KeptViews.{view_kept}
-use Rattle.smk_session.proofs.OpenedViews.{views_long}
+use Rattle.smk_session.proofs.{KeptViews.view_kept, OpenedViews.views_long}
 use Rattle.smk_session.proofs.brush.following.kept_view.Goals as goal
 
 pub bounds-held-w : goal.bounds-held-w

@@ -1,8 +1,6 @@
-use Rattle.std.proofs.Common.{◌≡◌, length}
-use Rattle.std.proofs.lemmas.Result.{IfOk-weaker}
+use Rattle.std.proofs.{Common.{◌≡◌, length}, lemmas.Result.IfOk-weaker}
 use Rattle.smk_base.specs.Places.{members_at}
-use Rattle.smk_session.specs.Answers.{rids_or_all}
-use Rattle.smk_session.specs.Refreshed.{marks_next}
+use Rattle.smk_session.specs.{Answers.rids_or_all, Refreshed.marks_next}
 use Rattle.smk_session.proofs.Followers.{chosen_inside, chosen_there, marks_reached}
 use Rattle.smk_session.proofs.brush.following.marks_now.Goals as goal
 

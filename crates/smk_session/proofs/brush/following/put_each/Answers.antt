@@ -1,9 +1,4 @@
-use Rattle.std.proofs.Common.{◌∙◌, ◌++◌, ◌∷◌, [], Ok, map, sym, ap, arith}
-use Rattle.std.proofs.Crossing.{crosses}
-use Rattle.std.proofs.lemmas.Iterator.Adapters.{YieldsList-from_vec}
-use Rattle.std.proofs.lemmas.Iterator.Consumers.{YieldsList-end}
-use Rattle.std.proofs.lemmas.List.{map-id}
-use Rattle.std.proofs.lemmas.Result.{err_from_is_err_and}
+use Rattle.std.proofs.{Common.{◌∙◌, ◌++◌, ◌∷◌, [], Ok, map, sym, ap, arith}, Crossing.crosses, lemmas.Iterator.Adapters.YieldsList-from_vec, lemmas.Iterator.Consumers.YieldsList-end, lemmas.List.map-id, lemmas.Result.err_from_is_err_and}
 use mir.Syntax.{Sym}
 use denote.Builtin.{u32}
 use denote.Exit.{no}

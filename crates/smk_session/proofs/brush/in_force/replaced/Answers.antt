@@ -1,5 +1,4 @@
-use Rattle.std.proofs.Common.{arith}
-use Rattle.std.proofs.lemmas.Grind.{common_steps}
+use Rattle.std.proofs.{Common.arith, lemmas.Grind.common_steps}
 use Rattle.smk_session.proofs.brush.in_force.replaced.Goals as goal
 
 pub loop-old-preserved : goal.loop-old-preserved

@@ -1,5 +1,4 @@
-use Rattle.std.proofs.Common.{arith}
-use Rattle.std.proofs.lemmas.Grind.{common_steps}
+use Rattle.std.proofs.{Common.arith, lemmas.Grind.common_steps}
 use Rattle.smk_session.proofs.InForce.{none_replaced}
 use Rattle.smk_session.proofs.brush.in_force.with_brush.Goals as goal
 

@@ -1,7 +1,6 @@
 use Rattle.std.proofs.Common.{◌≡◌, ◌<◌, ap, subst, arith, length}
 use Rattle.smk_compose.specs.declared.kept_maps.Run.{Run}
-use Rattle.smk_session.specs.Opened.{opened, workbook_image}
-use Rattle.smk_session.specs.Sessions.{SessionImage, workbook_of}
+use Rattle.smk_session.specs.{Opened.{opened, workbook_image}, Sessions.{SessionImage, workbook_of}}
 use Rattle.smk_session.proofs.OpenedViews.{views_long, run_is}
 use Rattle.smk_session.proofs.session.Session.first.Goals as goal
 

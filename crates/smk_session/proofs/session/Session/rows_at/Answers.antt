@@ -1,9 +1,6 @@
-use Rattle.std.proofs.Common.{◌≡◌, ◌∙◌, ◌<◌, ℕ, List, ap, arith, length, subst}
-use Rattle.std.proofs.lemmas.Result.{IfOk-weaker}
-use Rattle.smk_base.specs.CatalogImage.{catalog_image}
-use Rattle.smk_base.specs.Rels.{Relation}
-use Rattle.smk_model.specs.Lineage.{sub}
-use Rattle.smk_model.specs.Replies.{rows_at_rids}
+use Rattle.std.proofs.{Common.{◌≡◌, ◌∙◌, ◌<◌, ℕ, List, ap, arith, length, subst}, lemmas.Result.IfOk-weaker}
+use Rattle.smk_base.specs.{CatalogImage.catalog_image, Rels.Relation}
+use Rattle.smk_model.specs.{Lineage.sub, Replies.rows_at_rids}
 use Rattle.smk_session.specs.Sessions.{SessionImage, state_of}
 use Rattle.smk_session.proofs.OpenedViews.{table_is}
 use Rattle.smk_session.proofs.session.Session.rows_at.Goals as goal

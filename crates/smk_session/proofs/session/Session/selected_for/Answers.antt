@@ -2,8 +2,7 @@ use Rattle.std.proofs.Common.{◌≡◌, IfOk, length, subst}
 use Rattle.smk_base.specs.CatalogImage.{CatalogImage}
 use Rattle.smk_model.specs.Session as sessions
 use Rattle.smk_model.specs.Session.{State, rows_of_table}
-use Rattle.smk_session.specs.Answers.{book_of, rids_or_all}
-use Rattle.smk_session.specs.Sessions.{state_of}
+use Rattle.smk_session.specs.{Answers.{book_of, rids_or_all}, Sessions.state_of}
 use Rattle.smk_session.proofs.session.Session.selected_for.Goals as goal
 
 pub returns-clause-selected : goal.returns-clause-selected

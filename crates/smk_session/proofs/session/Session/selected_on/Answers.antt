@@ -1,6 +1,5 @@
 use Rattle.std.proofs.Common.{◌≡◌, IfOk, length, subst}
-use Rattle.smk_model.specs.OwnAnswers.{selected_on}
-use Rattle.smk_model.specs.Session.{State, rows_of_table}
+use Rattle.smk_model.specs.{OwnAnswers.selected_on, Session.{State, rows_of_table}}
 use Rattle.smk_session.specs.Answers.{rids_or_all}
 use Rattle.smk_session.proofs.session.Session.selected_on.Goals as goal
 

@@ -1,8 +1,6 @@
-use Rattle.std.proofs.Common.{◌≡◌, ◌≤◌, ◌+◌, List, None, subst}
-use Rattle.std.proofs.lemmas.Result.{err_from_is_err_and}
+use Rattle.std.proofs.{Common.{◌≡◌, ◌≤◌, ◌+◌, List, None, subst}, lemmas.Result.err_from_is_err_and}
 use Rattle.smk_base.specs.Rels.{Relation}
-use Rattle.smk_model.specs.Looks.{start_looks}
-use Rattle.smk_model.specs.Opening.{first_view_fault}
+use Rattle.smk_model.specs.{Looks.start_looks, Opening.first_view_fault}
 use Rattle.smk_session.specs.Opened.{IsStartFault, workbook_image}
 use Rattle.smk_session.proofs.Shown.{session_begun}
 use Rattle.smk_session.proofs.session.Session.start.Goals as goal

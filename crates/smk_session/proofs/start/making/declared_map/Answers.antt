@@ -1,5 +1,4 @@
-use Rattle.std.proofs.Common.{arith}
-use Rattle.std.proofs.lemmas.List.{length-map}
+use Rattle.std.proofs.{Common.arith, lemmas.List.length-map}
 use Rattle.smk_base.specs.CatalogImage.{view_image}
 use Rattle.smk_session.proofs.Declared.{declared_kept, told_none, told_some}
 use Rattle.smk_session.proofs.start.making.declared_map.Goals as goal

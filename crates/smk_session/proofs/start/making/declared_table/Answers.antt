@@ -1,5 +1,4 @@
-use Rattle.std.proofs.Common.{[], ap, get_or, arith}
-use Rattle.std.proofs.lemmas.Grind.{common_steps}
+use Rattle.std.proofs.{Common.{[], ap, get_or, arith}, lemmas.Grind.common_steps}
 use Rattle.smk_base.specs.Rels.{Relation}
 use Rattle.smk_session.proofs.OpenedViews.{table_is}
 use Rattle.smk_session.proofs.start.making.declared_table.Goals as goal

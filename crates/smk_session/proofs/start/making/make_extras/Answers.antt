@@ -1,13 +1,10 @@
-use Rattle.std.proofs.Common.{◌∙◌, ◌<◌, ◌++◌, All, length, take, ap, arith}
+use Rattle.std.proofs.{Common.{◌∙◌, ◌<◌, ◌++◌, All, length, take, ap, arith}, lemmas.List.Elements.All-push}
 use Rattle.std.specs.List.{filter_map}
-use Rattle.std.proofs.lemmas.List.Elements.{All-push}
 use Rattle.smk_base.specs.declared.book.catalog.Catalog.{Catalog}
 use Rattle.smk_jobs.proofs.InOrder.{all_back, all_front}
-use Rattle.smk_session.specs.Extras.{split_in, cubes_in}
-use Rattle.smk_session.specs.Making.{IsAsked, book_in, cubes_wanted, declared_in, is_wanted, looks_wanted, split_wanted}
-use Rattle.smk_session.proofs.Declared.{kept_due, kept_none, kept_waiting, looks_next, looks_within, want_kept}
+use Rattle.smk_session.specs.{Extras.{split_in, cubes_in}, Making.{IsAsked, book_in, cubes_wanted, declared_in, is_wanted, looks_wanted, split_wanted}}
+use Rattle.smk_session.proofs.{Declared.{kept_due, kept_none, kept_waiting, looks_next, looks_within, want_kept}, start.making.make_extras.Goals.{in-Some+in_ok-push, in_default}}
 use Rattle.smk_session.proofs.start.making.make_extras.Goals as goal
-use Rattle.smk_session.proofs.start.making.make_extras.Goals.{in-Some+in_ok-push, in_default}
 
 pub returns-in_err-asked-clause-looks : goal.returns-in_err-asked-clause-looks
 returns-in_err-asked-clause-looks g c =

@@ -1,7 +1,6 @@
 use Rattle.std.proofs.Common.{◌≡◌, ◌≤◌, ◌+◌, ◌++◌, All, take}
 use Rattle.std.specs.List.{filter_map, sum_by}
-use Rattle.smk_session.specs.Extras.{split_in, cubes_in}
-use Rattle.smk_session.specs.Making.{IsAsked, book_in, cubes_wanted, declared_in, looks_wanted, split_wanted}
+use Rattle.smk_session.specs.{Extras.{split_in, cubes_in}, Making.{IsAsked, book_in, cubes_wanted, declared_in, looks_wanted, split_wanted}}
 use Rattle.smk_session.proofs.start.making.make_extras.Given as goal
 
 abbrev pub invariant-loop-declared : goal.invariant-loop-declared

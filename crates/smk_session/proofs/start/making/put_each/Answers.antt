@@ -1,9 +1,5 @@
-use Rattle.std.proofs.Common.{length, arith}
-use Rattle.std.proofs.lemmas.List.{length_push}
-use Rattle.std.proofs.lemmas.Iterator.Consumers.{YieldsList-turn, YieldsList-end}
-use Rattle.std.proofs.lemmas.Iterator.Adapters.{YieldsList-from_vec}
-use Rattle.smk_session.specs.Extras.{split_in, cubes_in}
-use Rattle.smk_session.specs.Making.{book_in}
+use Rattle.std.proofs.{Common.{length, arith}, lemmas.List.length_push, lemmas.Iterator.Consumers.{YieldsList-turn, YieldsList-end}, lemmas.Iterator.Adapters.YieldsList-from_vec}
+use Rattle.smk_session.specs.{Extras.{split_in, cubes_in}, Making.book_in}
 use Rattle.smk_session.proofs.Declared.{made_at, kept_put, kept_all}
 use Rattle.smk_session.proofs.start.making.put_each.Goals as goal
 

@@ -1,7 +1,6 @@
 use Rattle.std.proofs.Common.{◌≡◌, ◌++◌, length, take}
 use Rattle.std.specs.List.{filter_map}
-use Rattle.smk_session.specs.Extras.{split_in, cubes_in}
-use Rattle.smk_session.specs.Making.{book_in, declared_in}
+use Rattle.smk_session.specs.{Extras.{split_in, cubes_in}, Making.{book_in, declared_in}}
 use Rattle.smk_session.proofs.start.making.put_each.Given as goal
 
 abbrev pub invariant-loop-one : goal.invariant-loop-one

@@ -1,17 +1,9 @@
-use Rattle.std.proofs.Common.{◌≤◌, ◌∙◌, ◌<◌, ◌+◌, All, ap, sym, subst, length, arith}
-use Rattle.std.proofs.lemmas.List.{length-map}
-use Rattle.std.proofs.lemmas.List.Elements.{All-push}
-use Rattle.std.proofs.lemmas.Result.{err_from_is_err_and}
-use Rattle.std.proofs.lemmas.Grind.{common_steps}
-use Rattle.smk_base.specs.CatalogImage.{view_image}
-use Rattle.smk_base.specs.declared.book.catalog.Catalog.{Catalog}
-use Rattle.smk_base.specs.declared.book.catalog.ViewInfo.{ViewInfo}
+use Rattle.std.proofs.{Common.{◌≤◌, ◌∙◌, ◌<◌, ◌+◌, All, ap, sym, subst, length, arith}, lemmas.List.length-map, lemmas.List.Elements.All-push, lemmas.Result.err_from_is_err_and, lemmas.Grind.common_steps}
+use Rattle.smk_base.specs.{CatalogImage.view_image, declared.book.catalog.Catalog.Catalog, declared.book.catalog.ViewInfo.ViewInfo}
 use Rattle.smk_model.specs.Looks.{looks_of_view}
 use Rattle.smk_jobs.proofs.InOrder.{all_back, all_front}
-use Rattle.smk_session.specs.Openings.{CanOpen}
-use Rattle.smk_session.specs.Opened.{workbook_image}
-use Rattle.smk_session.proofs.AtOnce.{fault_due, none_due, none_more, opened_due, opened_more}
-use Rattle.smk_session.proofs.Starts.{looks_more, looks_within}
+use Rattle.smk_session.specs.{Openings.CanOpen, Opened.workbook_image}
+use Rattle.smk_session.proofs.{AtOnce.{fault_due, none_due, none_more, opened_due, opened_more}, Starts.{looks_more, looks_within}}
 use Rattle.smk_session.proofs.start.opening.open_by.Goals as goal
 
 pub open_each-requires-clause-stocked : goal.open_each-requires-clause-stocked

@@ -1,10 +1,8 @@
 use Rattle.std.proofs.Common.{◌≡◌, ◌≤◌, ◌+◌, ◌++◌, All, map, take}
 use Rattle.std.specs.List.{sum_by}
 use Rattle.smk_base.specs.Places.{upto}
-use Rattle.smk_model.specs.Looks.{looks_of_view}
-use Rattle.smk_model.specs.Opening.{first_some, view_fault}
-use Rattle.smk_session.specs.Openings.{CanOpen, faults_of, views_of}
-use Rattle.smk_session.specs.Opened.{opened, workbook_image}
+use Rattle.smk_model.specs.{Looks.looks_of_view, Opening.{first_some, view_fault}}
+use Rattle.smk_session.specs.{Openings.{CanOpen, faults_of, views_of}, Opened.{opened, workbook_image}}
 use Rattle.smk_session.proofs.start.opening.open_by.Given as goal
 
 abbrev pub invariant-loop-v : goal.invariant-loop-v

@@ -1,13 +1,8 @@
-use Rattle.std.proofs.Common.{◌≡◌, ◌⊎◌, None, map}
+use Rattle.std.proofs.{Common.{◌≡◌, ◌⊎◌, None, map}, lemmas.Result.{IfOk-weaker, IfErr-weaker}}
 use Rattle.std.specs.List.{AllZip}
-use Rattle.std.proofs.lemmas.Result.{IfOk-weaker, IfErr-weaker}
 use Rattle.smk_jobs.specs.Jobs.{FirstFault}
 use Rattle.smk_compose.specs.declared.kept_maps.Run.{Run}
-use Rattle.smk_session.specs.Openings.{Opens, OpensAs, faults_of, views_of}
-use Rattle.smk_session.specs.Opened.{IsStartFault, opened, workbook_image}
-use Rattle.smk_session.specs.declared.start.fault.StartFault.{StartFault}
-use Rattle.smk_session.specs.declared.start.fault.StartFault.TheVariants.{NoMemory}
-use Rattle.smk_session.specs.declared.start.opening.Stocked.{Stocked}
+use Rattle.smk_session.specs.{Openings.{Opens, OpensAs, faults_of, views_of}, Opened.{IsStartFault, opened, workbook_image}, declared.start.fault.StartFault.StartFault, declared.start.fault.StartFault.TheVariants.NoMemory, declared.start.opening.Stocked.Stocked}
 use Rattle.smk_session.proofs.AtOnce.{fault_among, runs_are}
 use Rattle.smk_session.proofs.start.opening.open_each.Goals as goal
 

@@ -1,10 +1,6 @@
 use Rattle.std.proofs.Common.{◌<◌, ◌∙◌, ℕ, All, ap, sym, subst}
-use Rattle.smk_base.specs.CatalogImage.{ViewImage, catalog_image}
-use Rattle.smk_base.specs.declared.book.catalog.Catalog.{Catalog}
-use Rattle.smk_base.specs.declared.book.need.Needed.{Needed}
-use Rattle.smk_model.specs.Plain.{whole}
-use Rattle.smk_model.specs.Selection.{each_kinds, each_rows, leaf_kinds}
-use Rattle.smk_model.specs.Session.{view_at}
+use Rattle.smk_base.specs.{CatalogImage.{ViewImage, catalog_image}, declared.book.catalog.Catalog.Catalog, declared.book.need.Needed.Needed}
+use Rattle.smk_model.specs.{Plain.whole, Selection.{each_kinds, each_rows, leaf_kinds}, Session.view_at}
 use Rattle.smk_session.proofs.OpenedViews.{tables_long}
 use Rattle.smk_session.proofs.start.opening.open_with.Goals as goal
 

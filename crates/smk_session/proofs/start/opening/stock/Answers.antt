@@ -1,12 +1,6 @@
-use Rattle.std.proofs.Common.{◌∙◌, List, All, ap, sym, subst}
-use Rattle.std.proofs.lemmas.List.Elements.{All-nil}
-use Rattle.smk_base.specs.CatalogImage.{ViewImage, catalog_image}
-use Rattle.smk_base.specs.declared.book.catalog.Catalog.{Catalog}
-use Rattle.smk_base.specs.declared.list.table_rids.Pick.{Pick}
-use Rattle.smk_base.specs.PlanImage.{expr_of}
-use Rattle.smk_model.specs.Plain.{whole}
-use Rattle.smk_model.specs.Selection.{PickFits, each_kinds, each_rows, leaf_kinds, over}
-use Rattle.smk_model.specs.Session.{view_at}
+use Rattle.std.proofs.{Common.{◌∙◌, List, All, ap, sym, subst}, lemmas.List.Elements.All-nil}
+use Rattle.smk_base.specs.{CatalogImage.{ViewImage, catalog_image}, declared.book.catalog.Catalog.Catalog, declared.list.table_rids.Pick.Pick, PlanImage.expr_of}
+use Rattle.smk_model.specs.{Plain.whole, Selection.{PickFits, each_kinds, each_rows, leaf_kinds, over}, Session.view_at}
 use Rattle.smk_session.proofs.start.opening.stock.Goals as goal
 
 pub fetch_leaves-requires-clause-picks : goal.fetch_leaves-requires-clause-picks

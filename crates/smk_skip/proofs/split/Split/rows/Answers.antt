@@ -1,13 +1,8 @@
-use Rattle.std.proofs.Common.{◌≡◌, ◌∙◌, pos, sym, subst, arith}
-use Rattle.std.proofs.lemmas.Grind.{common_steps}
-use Rattle.smk_base.specs.Values.{value_eq}
+use Rattle.std.proofs.{Common.{◌≡◌, ◌∙◌, pos, sym, subst, arith}, lemmas.Grind.common_steps, lemmas.Result.IfOk-weaker}
+use Rattle.smk_base.specs.{Values.value_eq, declared.value.Value.TheVariants.Int, Places.{IsPlaces, has, places, list_at}}
 use Rattle.smk_base.proofs.Places.{no_place}
-use Rattle.std.proofs.lemmas.Result.{IfOk-weaker}
-use Rattle.smk_base.specs.declared.value.Value.TheVariants.{Int}
 use Rattle.std.specs.List.{flat_map}
-use Rattle.smk_base.specs.Places.{IsPlaces, has, places, list_at}
-use Rattle.smk_skip.specs.Parts.{run}
-use Rattle.smk_skip.specs.Splits.{SplitImage, members_with}
+use Rattle.smk_skip.specs.{Parts.run, Splits.{SplitImage, members_with}}
 use Rattle.smk_skip.proofs.Members.{members_run, members_set, none_found, position_none, stretch_within}
 use Rattle.smk_skip.proofs.split.Split.rows.Goals as goal
 

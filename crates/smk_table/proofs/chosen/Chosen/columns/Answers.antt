@@ -1,6 +1,4 @@
-use Rattle.std.proofs.Common.{◌∙◌, List, ℕ, Some, sym, ap, arith}
-use Rattle.std.proofs.lemmas.Result.{IfOk-weaker}
-use Rattle.std.proofs.lemmas.Grind.{common_steps}
+use Rattle.std.proofs.{Common.{◌∙◌, List, ℕ, Some, sym, ap, arith}, lemmas.Result.IfOk-weaker, lemmas.Grind.common_steps}
 use Rattle.smk_table.proofs.Choices.{columns_chosen}
 use Rattle.smk_table.proofs.chosen.Chosen.columns.Goals as goal
 

@@ -1,5 +1,4 @@
-use Rattle.std.proofs.Common.{arith}
-use Rattle.std.proofs.lemmas.Grind.{common_steps}
+use Rattle.std.proofs.{Common.arith, lemmas.Grind.common_steps}
 use Rattle.smk_table.proofs.Choices.{rows_at_long}
 use Rattle.smk_table.proofs.chosen.Chosen.len.Goals as goal
 

@@ -1,8 +1,6 @@
 use Rattle.std.proofs.Common.{◌≡◌, ◌++◌, [], map}
 use Rattle.smk_model.specs.Typing.{to_after, all_links, linked_to}
-use Rattle.smk_typing.specs.Drafts.{over}
-use Rattle.smk_typing.specs.Keys.{link_key}
-use Rattle.smk_typing.specs.Turns.{Remains}
+use Rattle.smk_typing.specs.{Drafts.over, Keys.link_key, Turns.Remains}
 use Rattle.smk_typing.proofs.book.links.add_each.Given as goal
 
 abbrev pub invariant-loop-word : goal.invariant-loop-word

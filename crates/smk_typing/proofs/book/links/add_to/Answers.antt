@@ -1,6 +1,4 @@
-use Rattle.std.proofs.Common.{◌≡◌, ◌∙◌, sym, true, false, nat_eq, arith, refl}
-use Rattle.std.proofs.lemmas.Bool.Decides.{nat_tests}
-use Rattle.std.proofs.lemmas.Grind.{common_steps}
+use Rattle.std.proofs.{Common.{◌≡◌, ◌∙◌, sym, true, false, nat_eq, arith, refl}, lemmas.Bool.Decides.nat_tests, lemmas.Grind.common_steps}
 use Rattle.smk_typing.proofs.Keys.{to_after_is}
 use Rattle.smk_typing.proofs.book.links.add_to.Goals as goal
 

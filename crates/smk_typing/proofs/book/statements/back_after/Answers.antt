@@ -1,5 +1,4 @@
-use Rattle.std.proofs.Common.{refl}
-use Rattle.std.proofs.lemmas.Result.{err_from_is_err_and}
+use Rattle.std.proofs.{Common.refl, lemmas.Result.err_from_is_err_and}
 use Rattle.smk_typing.proofs.book.statements.back_after.Goals as goal
 
 pub returns-in_err-view : goal.returns-in_err-view

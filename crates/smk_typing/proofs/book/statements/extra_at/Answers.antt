@@ -1,5 +1,4 @@
-use Rattle.std.proofs.Common.{◌≡◌, ◌∙◌, sym}
-use Rattle.std.proofs.lemmas.Result.{err_from_is_err_and}
+use Rattle.std.proofs.{Common.{◌≡◌, ◌∙◌, sym}, lemmas.Result.err_from_is_err_and}
 use Rattle.smk_model.specs.Typing.{columns_of, info_at}
 use Rattle.smk_typing.proofs.Results.{ok_never, ok_same}
 use Rattle.smk_typing.proofs.book.statements.extra_at.Goals as goal

@@ -1,8 +1,6 @@
-use Rattle.std.proofs.Common.{◌∙◌, [], List, Ok, ap, sym, refl}
-use Rattle.std.proofs.lemmas.Result.{err_from_is_err_and}
+use Rattle.std.proofs.{Common.{◌∙◌, [], List, Ok, ap, sym, refl}, lemmas.Result.err_from_is_err_and}
 use Rattle.smk_base.specs.declared.book.catalog.LinkInfo.{LinkInfo}
-use Rattle.smk_model.specs.Names.{in_turn}
-use Rattle.smk_model.specs.Typing.{to_after}
+use Rattle.smk_model.specs.{Names.in_turn, Typing.to_after}
 use Rattle.smk_typing.specs.Drafts.{draft_image}
 use Rattle.smk_typing.proofs.Results.{first_fails, made_of, ok_same}
 use Rattle.smk_typing.proofs.book.statements.link_after.Goals as goal

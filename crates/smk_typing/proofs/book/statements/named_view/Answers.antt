@@ -1,5 +1,4 @@
-use Rattle.std.proofs.Common.{arith}
-use Rattle.std.proofs.lemmas.Grind.{common_steps}
+use Rattle.std.proofs.{Common.arith, lemmas.Grind.common_steps}
 use Rattle.smk_typing.proofs.Results.{ok_never}
 use Rattle.smk_typing.proofs.book.statements.named_view.Goals as goal
 

@@ -1,5 +1,4 @@
-use Rattle.std.proofs.Common.{◌∙◌, ◌++◌, ◌∷◌, [], List, Ok, ap, sym, refl, arith}
-use Rattle.std.proofs.lemmas.Result.{err_from_is_err_and}
+use Rattle.std.proofs.{Common.{◌∙◌, ◌++◌, ◌∷◌, [], List, Ok, ap, sym, refl, arith}, lemmas.Result.err_from_is_err_and}
 use Rattle.smk_base.specs.declared.book.catalog.TableInfo.{TableInfo}
 use Rattle.smk_typing.specs.Drafts.{draft_image}
 use Rattle.smk_typing.proofs.Keys.{tables_push}

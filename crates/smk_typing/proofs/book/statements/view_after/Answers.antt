@@ -1,13 +1,8 @@
-use Rattle.std.proofs.Common.{◌∙◌, ◌++◌, ◌∷◌, [], List, Ok, map, sym, ap, refl, arith, length-append}
-use Rattle.std.proofs.lemmas.List.{map-append}
-use Rattle.std.proofs.lemmas.Result.{err_from_is_err_and}
-use Rattle.smk_base.specs.CatalogImage.{ViewImage, view_image}
-use Rattle.smk_base.specs.TreeImage.{tree_image}
-use Rattle.smk_model.specs.Names.{is_taken}
-use Rattle.smk_model.specs.Typing.{typed_plan}
+use Rattle.std.proofs.{Common.{◌∙◌, ◌++◌, ◌∷◌, [], List, Ok, map, sym, ap, refl, arith, length-append}, lemmas.List.map-append, lemmas.Result.err_from_is_err_and}
+use Rattle.smk_base.specs.{CatalogImage.{ViewImage, view_image}, TreeImage.tree_image}
+use Rattle.smk_model.specs.{Names.is_taken, Typing.typed_plan}
 use Rattle.smk_typing.specs.Drafts.{draft_image}
-use Rattle.smk_typing.proofs.Keys.{view_names}
-use Rattle.smk_typing.proofs.Results.{first_fails, made_of, ok_same}
+use Rattle.smk_typing.proofs.{Keys.view_names, Results.{first_fails, made_of, ok_same}}
 use Rattle.smk_typing.proofs.book.statements.view_after.Goals as goal
 
 pub push-requires-clause-own : goal.push-requires-clause-own

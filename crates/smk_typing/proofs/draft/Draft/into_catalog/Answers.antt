@@ -1,5 +1,4 @@
-use Rattle.std.proofs.Common.{arith, refl}
-use Rattle.std.proofs.lemmas.List.{length-map}
+use Rattle.std.proofs.{Common.{arith, refl}, lemmas.List.length-map}
 use Rattle.smk_base.specs.CatalogImage.{view_image}
 use Rattle.smk_typing.proofs.draft.Draft.into_catalog.Goals as goal
 

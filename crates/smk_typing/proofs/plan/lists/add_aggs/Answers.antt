@@ -1,5 +1,4 @@
-use Rattle.std.proofs.Common.{refl}
-use Rattle.std.proofs.lemmas.Result.{err_from_is_err_and}
+use Rattle.std.proofs.{Common.refl, lemmas.Result.err_from_is_err_and}
 use Rattle.smk_model.specs.TypedSteps.{agg_after}
 use Rattle.smk_typing.proofs.Turns.{turn_more, turn_fails, turn_ends}
 use Rattle.smk_typing.proofs.plan.lists.add_aggs.Goals as goal

@@ -1,7 +1,5 @@
 use Rattle.std.proofs.Common.{Ok, ap, refl}
-use Rattle.smk_base.specs.declared.book.plan.Pred.{Pred}
-use Rattle.smk_base.specs.PlanImage.{formula_of}
-use Rattle.smk_base.specs.Plans.{Formula, Negation}
+use Rattle.smk_base.specs.{declared.book.plan.Pred.Pred, PlanImage.formula_of, Plans.{Formula, Negation}}
 use Rattle.smk_model.specs.Names.{Typed}
 use Rattle.smk_typing.proofs.Results.{ok_same}
 use Rattle.smk_typing.proofs.plan.predicate.+typed_pred.Goals as goal

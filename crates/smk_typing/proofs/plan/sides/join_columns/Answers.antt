@@ -1,5 +1,4 @@
-use Rattle.std.proofs.Common.{arith}
-use Rattle.std.proofs.lemmas.Grind.{common_steps}
+use Rattle.std.proofs.{Common.arith, lemmas.Grind.common_steps}
 use Rattle.smk_typing.proofs.plan.sides.join_columns.Goals as goal
 
 pub returns-clause-width : goal.returns-clause-width

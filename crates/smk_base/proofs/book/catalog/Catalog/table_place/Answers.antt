@@ -1,6 +1,5 @@
 use Rattle.std.proofs.Common.{◌≡◌, ◌∙◌, Bool, true, false, get_or, ap, sym, arith, rules, tests, position}
-use Rattle.smk_base.specs.Dicts.{text_eq}
-use Rattle.smk_base.specs.declared.book.catalog.TableInfo.{TableInfo}
+use Rattle.smk_base.specs.{Dicts.text_eq, declared.book.catalog.TableInfo.TableInfo}
 use Rattle.smk_base.proofs.Search.{place_next, place_found, place_missing}
 use Rattle.smk_base.proofs.book.catalog.Catalog.table_place.Goals as goal
 

@@ -1,7 +1,6 @@
 use Rattle.std.proofs.Common.{◌≡◌, ◌+◌, Bool, drop}
 use Rattle.std.specs.List.{position_or_len}
-use Rattle.smk_base.specs.Dicts.{text_eq}
-use Rattle.smk_base.specs.declared.book.catalog.TableInfo.{TableInfo}
+use Rattle.smk_base.specs.{Dicts.text_eq, declared.book.catalog.TableInfo.TableInfo}
 use Rattle.smk_base.proofs.book.catalog.Catalog.table_place.Given as goal
 
 abbrev pub invariant-loop-t : goal.invariant-loop-t

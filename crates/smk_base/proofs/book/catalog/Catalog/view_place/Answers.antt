@@ -1,9 +1,6 @@
 use Rattle.std.proofs.Common.{◌≡◌, ◌∙◌, Bool, true, false, get_or, ap, sym, arith, rules, tests, position}
-use Rattle.smk_base.specs.Dicts.{text_eq}
-use Rattle.smk_base.specs.CatalogImage.{ViewImage, view_image}
-use Rattle.smk_base.specs.declared.book.catalog.ViewInfo.{ViewInfo}
-use Rattle.smk_base.proofs.Search.{place_next, place_found, place_missing}
-use Rattle.smk_base.proofs.Texts.{position-map}
+use Rattle.smk_base.specs.{Dicts.text_eq, CatalogImage.{ViewImage, view_image}, declared.book.catalog.ViewInfo.ViewInfo}
+use Rattle.smk_base.proofs.{Search.{place_next, place_found, place_missing}, Texts.position-map}
 use Rattle.smk_base.proofs.book.catalog.Catalog.view_place.Goals as goal
 
 pub loop-v-preserved : goal.loop-v-preserved

@@ -1,6 +1,5 @@
 use Rattle.std.proofs.Common.{◌<◌, List, All, sym, subst}
-use Rattle.smk_base.specs.Needs.{IsNeed}
-use Rattle.smk_base.specs.declared.book.need.Needed.{Needed}
+use Rattle.smk_base.specs.{Needs.IsNeed, declared.book.need.Needed.Needed}
 use Rattle.smk_base.proofs.Ascents.{need_more}
 use Rattle.smk_base.proofs.book.need.Need.push.Goals as goal
 

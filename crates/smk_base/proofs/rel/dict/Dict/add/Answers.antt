@@ -1,12 +1,8 @@
-use Rattle.std.proofs.Common.{◌≡◌, ◌∙◌, ◌++◌, ◌∷◌, [], Some, false, ap, sym, subst, refl, length, arith}
+use Rattle.std.proofs.{Common.{◌≡◌, ◌∙◌, ◌++◌, ◌∷◌, [], Some, false, ap, sym, subst, refl, length, arith}, lemmas.List.{map_push, length_push, length-map}}
 use Rattle.std.specs.List.{list_any}
-use Rattle.std.proofs.lemmas.List.{map_push, length_push, length-map}
-use Rattle.smk_base.specs.Dicts.{AreTexts, code_in, text_eq, texts_of, with_text}
-use Rattle.smk_base.specs.HeldTexts.{dict_held}
-use Rattle.smk_base.proofs.Codes.{absent, none_at, with_text-known}
-use Rattle.smk_base.proofs.Recoding.{AreTexts-push}
+use Rattle.smk_base.specs.{Dicts.{AreTexts, code_in, text_eq, texts_of, with_text}, HeldTexts.dict_held}
+use Rattle.smk_base.proofs.{Codes.{absent, none_at, with_text-known}, Recoding.AreTexts-push, rel.dict.Dict.add.Goals.After-len-in-None}
 use Rattle.smk_base.proofs.rel.dict.Dict.add.Goals as goal
-use Rattle.smk_base.proofs.rel.dict.Dict.add.Goals.{After-len-in-None}
 
 new : (c : After-len-in-None) → list_any (text_eq c.args.text) (texts_of c.in-Few.list.items) ≡ false
 new c = absent (texts_of c.in-Few.list.items) c.args.text (rw (← c.as_slice.ensures.value, ← c.as_slice-in-Few.ensures) (sym c.place_of.ensures ∙ c.in-None.is))

@@ -1,6 +1,5 @@
 use Rattle.std.proofs.Common.{◌≡◌, ◌∙◌, Some, ap, sym}
-use Rattle.smk_base.specs.Dicts.{code_in, texts_of, with_text}
-use Rattle.smk_base.specs.HeldTexts.{dict_held}
+use Rattle.smk_base.specs.{Dicts.{code_in, texts_of, with_text}, HeldTexts.dict_held}
 use Rattle.smk_base.proofs.Codes.{with_text-known}
 use Rattle.smk_base.proofs.rel.dict.Dict.add_bytes.Goals as goal
 

@@ -1,11 +1,7 @@
-use Rattle.std.proofs.Common.{◌≡◌, ◌≤◌, ◌∙◌, ap, sym, subst, length, take, arith}
-use Rattle.std.proofs.lemmas.List.{take-map, length-take}
-use Rattle.smk_base.specs.Dicts.{AreTexts, IsDict, texts_of}
-use Rattle.smk_base.specs.declared.rel.TheConstants.{ROW_LIMIT}
-use Rattle.smk_base.specs.HeldTexts.{dict_held}
-use Rattle.smk_base.proofs.Recoding.{AreTexts-take}
+use Rattle.std.proofs.{Common.{◌≡◌, ◌≤◌, ◌∙◌, ap, sym, subst, length, take, arith}, lemmas.List.{take-map, length-take}}
+use Rattle.smk_base.specs.{Dicts.{AreTexts, IsDict, texts_of}, declared.rel.TheConstants.ROW_LIMIT, HeldTexts.dict_held}
+use Rattle.smk_base.proofs.{Recoding.AreTexts-take, rel.dict.Dict.truncate.Goals.{in-Few, in-Many}}
 use Rattle.smk_base.proofs.rel.dict.Dict.truncate.Goals as goal
-use Rattle.smk_base.proofs.rel.dict.Dict.truncate.Goals.{in-Few, in-Many}
 
 pub invariant_of-self : goal.invariant_of-self
 invariant_of-self c = elim c.match-self.branch [

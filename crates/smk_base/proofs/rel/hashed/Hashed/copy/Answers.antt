@@ -1,8 +1,7 @@
 use Rattle.std.proofs.Common.{◌≡◌, sym, subst}
 use Rattle.smk_base.specs.Dicts.{AreTexts, kept_texts}
-use Rattle.smk_base.proofs.Texts.{items_alike, map_alike}
+use Rattle.smk_base.proofs.{Texts.{items_alike, map_alike}, rel.hashed.Hashed.copy.Goals.In_ok-from_slice}
 use Rattle.smk_base.proofs.rel.hashed.Hashed.copy.Goals as goal
-use Rattle.smk_base.proofs.rel.hashed.Hashed.copy.Goals.{In_ok-from_slice}
 
 alike : (c : In_ok-from_slice) → kept_texts c.in_ok-clone.field-0.keys ≡ kept_texts c.self.inside.texts.keys
 alike c = map_alike (λ v. v.items) (λ v w. items_alike v.items w.items) _ _ c.in_ok-clone.ensures.cases

@@ -1,5 +1,4 @@
-use Rattle.std.proofs.Common.{◌≡◌, ◌∙◌, ap, sym, arith, get_or, take, []}
-use Rattle.std.proofs.lemmas.List.{length-map, length-take, take_all, get_or-map}
+use Rattle.std.proofs.{Common.{◌≡◌, ◌∙◌, ap, sym, arith, get_or, take, []}, lemmas.List.{length-map, length-take, take_all, get_or-map}}
 use Rattle.smk_base.specs.Dicts.{texts_of, with_text}
 use Rattle.smk_base.proofs.Codes.{with_text-next}
 use Rattle.smk_base.proofs.rel.hashed.Hashed.of_texts.Goals as goal

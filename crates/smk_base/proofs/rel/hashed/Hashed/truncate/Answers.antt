@@ -1,5 +1,4 @@
-use Rattle.std.proofs.Common.{sym, arith}
-use Rattle.std.proofs.lemmas.List.{take-map, length-take}
+use Rattle.std.proofs.{Common.{sym, arith}, lemmas.List.{take-map, length-take}}
 use Rattle.smk_base.specs.Dicts.{text_eq, kept_texts}
 use Rattle.smk_base.proofs.Texts.{distinct-map}
 use Rattle.smk_base.proofs.rel.hashed.Hashed.truncate.Goals as goal

@@ -1,9 +1,6 @@
 use Rattle.std.proofs.Common.{◌∙◌, ap}
-use Rattle.smk_base.specs.Rels.{Relation}
-use Rattle.smk_base.specs.Builders.{RowsBegun}
-use Rattle.smk_base.proofs.Rows.{AreColumns-made}
-use Rattle.smk_base.proofs.Relating.{made-copy}
-use Rattle.smk_base.proofs.Building.{each-ended}
+use Rattle.smk_base.specs.{Rels.Relation, Builders.RowsBegun}
+use Rattle.smk_base.proofs.{Rows.AreColumns-made, Relating.made-copy, Building.each-ended}
 use Rattle.smk_base.proofs.rel.rel_builder.RelBuilder.finish.Goals as goal
 
 pub owned_each-requires : goal.owned_each-requires

@@ -1,6 +1,5 @@
-use Rattle.std.proofs.Common.{◌≡◌, ℤ, length, ◌∷◌, ◌++◌, [], ◌∙◌, ap, subst, sym, rules, arith, to_z, of_z}
+use Rattle.std.proofs.{Common.{◌≡◌, ℤ, length, ◌∷◌, ◌++◌, [], ◌∙◌, ap, subst, sym, rules, arith, to_z, of_z}, Math.Facts.to_z-of_z}
 use Rattle.std.specs.Int.{w64}
-use Rattle.std.proofs.Math.Facts.{to_z-of_z}
 use Rattle.smk_base.specs.Rels.{Fits, kind_in}
 use Rattle.smk_base.specs.declared.value.Value.TheVariants as values
 use Rattle.smk_base.proofs.Building.{next-at, next_room, next_kind, next_pushed, next_kept, below-at}

@@ -1,8 +1,6 @@
-use Rattle.std.proofs.Common.{◌≡◌, ◌++◌, map, take, get_or, arith}
-use Rattle.std.proofs.lemmas.List.{length-map, take_all}
+use Rattle.std.proofs.{Common.{◌≡◌, ◌++◌, map, take, get_or, arith}, lemmas.List.{length-map, take_all}}
 use Rattle.smk_base.specs.TextColumns.{text_in}
-use Rattle.smk_base.proofs.Recoding.{dict_short}
-use Rattle.smk_base.proofs.Appended.{AreCodes-join}
+use Rattle.smk_base.proofs.{Recoding.dict_short, Appended.AreCodes-join}
 use Rattle.smk_base.proofs.rel.text_column.TextColumn.append.Goals as goal
 
 pub recoded_whole-requires : goal.recoded_whole-requires

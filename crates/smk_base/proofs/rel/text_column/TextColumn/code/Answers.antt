@@ -1,5 +1,4 @@
-use Rattle.std.proofs.Common.{◌∙◌}
-use Rattle.std.proofs.lemmas.List.{length-map}
+use Rattle.std.proofs.{Common.◌∙◌, lemmas.List.length-map}
 use Rattle.smk_base.proofs.Recoding.{code-is}
 use Rattle.smk_base.proofs.rel.text_column.TextColumn.code.Goals as goal
 

@@ -1,5 +1,4 @@
-use Rattle.std.proofs.Common.{arith}
-use Rattle.std.proofs.lemmas.List.{length-map}
+use Rattle.std.proofs.{Common.arith, lemmas.List.length-map}
 use Rattle.smk_base.proofs.Recoding.{dict_short, AreCodes-add, texts_at_add}
 use Rattle.smk_base.proofs.rel.text_column.TextColumn.push_hashed.Goals as goal
 

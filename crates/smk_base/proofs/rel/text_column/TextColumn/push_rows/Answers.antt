@@ -1,6 +1,4 @@
-use Rattle.std.proofs.Common.{◌≡◌, ◌<◌, [], ◌∙◌, ◌++◌, ap, sym, subst, length, take, drop, get_or, rules, arith}
-use Rattle.std.proofs.lemmas.List.{get_or-map, get_or_read, length-map, take_at}
-use Rattle.std.proofs.lemmas.Grind.{common_steps}
+use Rattle.std.proofs.{Common.{◌≡◌, ◌<◌, [], ◌∙◌, ◌++◌, ap, sym, subst, length, take, drop, get_or, rules, arith}, lemmas.List.{get_or-map, get_or_read, length-map, take_at}, lemmas.Grind.common_steps}
 use Rattle.smk_base.specs.TextColumns.{TextImage, text_in, text_firsts, texts_at, AreRecoded}
 use Rattle.smk_base.proofs.Loops.{appended_next}
 use Rattle.smk_base.proofs.rel.text_column.TextColumn.push_rows.Goals as goal

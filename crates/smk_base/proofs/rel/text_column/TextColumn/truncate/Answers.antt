@@ -1,5 +1,4 @@
-use Rattle.std.proofs.Common.{arith}
-use Rattle.std.proofs.lemmas.List.{length-map}
+use Rattle.std.proofs.{Common.arith, lemmas.List.length-map}
 use Rattle.smk_base.proofs.Recoding.{AreCodes-first}
 use Rattle.smk_base.proofs.rel.text_column.TextColumn.truncate.Goals as goal
 

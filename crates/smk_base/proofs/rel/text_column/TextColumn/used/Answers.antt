@@ -1,5 +1,4 @@
-use Rattle.std.proofs.Common.{arith, length, max, ◌≡◌, ◌+◌, ◌<◌, rules, inl, inr}
-use Rattle.std.proofs.lemmas.Bool.{cases_eq}
+use Rattle.std.proofs.{Common.{arith, length, max, ◌≡◌, ◌+◌, ◌<◌, rules, inl, inr}, lemmas.Bool.cases_eq}
 use Rattle.smk_base.proofs.Recoding.{few_firsts, firsts_next}
 use Rattle.smk_base.proofs.rel.text_column.TextColumn.used.Goals as goal
 

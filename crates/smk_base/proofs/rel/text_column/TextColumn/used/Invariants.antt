@@ -1,6 +1,5 @@
 use Rattle.std.proofs.Common.{◌≡◌, ◌<◌, ◌≤◌, ℕ, length, take}
-use Rattle.smk_base.specs.Dicts.{code_or_last}
-use Rattle.smk_base.specs.TextColumns.{text_in, text_firsts}
+use Rattle.smk_base.specs.{Dicts.code_or_last, TextColumns.{text_in, text_firsts}}
 use Rattle.smk_base.proofs.rel.text_column.TextColumn.used.Given as goal
 
 abbrev pub invariant-loop-i : goal.invariant-loop-i

@@ -1,9 +1,7 @@
 use Rattle.std.proofs.Common.{◌+◌, length}
-use Rattle.smk_base.specs.Columns.{IsColumnOf}
-use Rattle.smk_base.specs.Stores.{column_of}
-use Rattle.smk_base.proofs.Kept.{IsColumnOf-append}
+use Rattle.smk_base.specs.{Columns.IsColumnOf, Stores.column_of}
+use Rattle.smk_base.proofs.{Kept.IsColumnOf-append, rel.value_column.ValueColumn.append.Goals.In_ok-append_store}
 use Rattle.smk_base.proofs.rel.value_column.ValueColumn.append.Goals as goal
-use Rattle.smk_base.proofs.rel.value_column.ValueColumn.append.Goals.{In_ok-append_store}
 
 kept : (c : In_ok-append_store) → IsColumnOf (length c.args.self.now.cells + length c.args.other.now.cells) (column_of c.append_store.new.store)
 kept c =

@@ -1,9 +1,7 @@
 use Rattle.std.proofs.Common.{◌≡◌, rules, length, to_z, of_z, w64}
-use Rattle.smk_base.specs.Columns.{IsColumnOf}
-use Rattle.smk_base.specs.Stores.{column_of, cells_in}
-use Rattle.smk_base.proofs.Kept.{IsColumnOf-bins}
+use Rattle.smk_base.specs.{Columns.IsColumnOf, Stores.{column_of, cells_in}}
+use Rattle.smk_base.proofs.{Kept.IsColumnOf-bins, rel.value_column.ValueColumn.bins.Goals.In_ok-binned}
 use Rattle.smk_base.proofs.rel.value_column.ValueColumn.bins.Goals as goal
-use Rattle.smk_base.proofs.rel.value_column.ValueColumn.bins.Goals.{In_ok-binned}
 
 kept : (c : In_ok-binned) → IsColumnOf (length (cells_in c.self.inside.store)) (column_of c.in_ok-binned.field-0)
 kept c =

@@ -1,5 +1,4 @@
-use Rattle.std.proofs.Common.{arith}
-use Rattle.std.proofs.lemmas.Grind.{common_steps}
+use Rattle.std.proofs.{Common.arith, lemmas.Grind.common_steps}
 use Rattle.smk_base.proofs.rel.value_column.ValueColumn.cell.Goals as goal
 
 pub text-requires : goal.text-requires

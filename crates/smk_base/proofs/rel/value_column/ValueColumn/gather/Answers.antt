@@ -1,9 +1,7 @@
 use Rattle.std.proofs.Common.{length}
-use Rattle.smk_base.specs.Columns.{IsColumnOf}
-use Rattle.smk_base.specs.Stores.{column_of}
-use Rattle.smk_base.proofs.Kept.{IsColumnOf-gather}
+use Rattle.smk_base.specs.{Columns.IsColumnOf, Stores.column_of}
+use Rattle.smk_base.proofs.{Kept.IsColumnOf-gather, rel.value_column.ValueColumn.gather.Goals.In_ok-gathered}
 use Rattle.smk_base.proofs.rel.value_column.ValueColumn.gather.Goals as goal
-use Rattle.smk_base.proofs.rel.value_column.ValueColumn.gather.Goals.{In_ok-gathered}
 
 kept : (c : In_ok-gathered) → IsColumnOf (length c.args.places.now) (column_of c.in_ok-gathered.field-0)
 kept c =

@@ -1,11 +1,8 @@
-use Rattle.std.proofs.Common.{◌≡◌, pos, map, refl, rules, arith, ◌∙◌, ◌+◌, ℕ, ap, sym, All, ◌<◌}
-use Rattle.std.proofs.lemmas.List.{take_all, length-map}
-use Rattle.std.proofs.lemmas.List.Elements.{All-from_get_or, All-map, All-weaker}
+use Rattle.std.proofs.{Common.{◌≡◌, pos, map, refl, rules, arith, ◌∙◌, ◌+◌, ℕ, ap, sym, All, ◌<◌}, lemmas.List.{take_all, length-map}, lemmas.List.Elements.{All-from_get_or, All-map, All-weaker}}
 use Rattle.smk_base.specs.Rels.{Fits, IsWithin}
 use Rattle.smk_base.specs.declared.value.Kind.TheVariants as kinds
 use Rattle.smk_base.specs.declared.value.Value.TheVariants as values
-use Rattle.smk_base.proofs.Kept.{IsColumnOf-ints, Within-wider, counts_within}
-use Rattle.smk_base.proofs.Loops.{mapped_next}
+use Rattle.smk_base.proofs.{Kept.{IsColumnOf-ints, Within-wider, counts_within}, Loops.mapped_next}
 use Rattle.smk_base.proofs.rel.value_column.ValueColumn.of_counts.Goals as goal
 
 pub loop-count-preserved : goal.loop-count-preserved

@@ -1,10 +1,8 @@
 use Rattle.std.proofs.Common.{◌≡◌, rules, length}
 use Rattle.std.specs.Vec.{vec_len}
-use Rattle.smk_base.specs.Columns.{IsColumnOf}
-use Rattle.smk_base.specs.Stores.{column_of}
-use Rattle.smk_base.proofs.Kept.{IsColumnOf-ints}
+use Rattle.smk_base.specs.{Columns.IsColumnOf, Stores.column_of}
+use Rattle.smk_base.proofs.{Kept.IsColumnOf-ints, rel.value_column.ValueColumn.of_ints.Goals.In_ok-stored}
 use Rattle.smk_base.proofs.rel.value_column.ValueColumn.of_ints.Goals as goal
-use Rattle.smk_base.proofs.rel.value_column.ValueColumn.of_ints.Goals.{In_ok-stored}
 
 kept : (c : In_ok-stored) → IsColumnOf (vec_len c.args.numbers) (column_of c.in_ok-stored.field-0)
 kept c =

@@ -1,9 +1,7 @@
 use Rattle.std.proofs.Common.{◌+◌, length}
-use Rattle.smk_base.specs.Columns.{IsColumnOf}
-use Rattle.smk_base.specs.Stores.{column_of, cells_in}
-use Rattle.smk_base.proofs.Kept.{IsColumnOf-push}
+use Rattle.smk_base.specs.{Columns.IsColumnOf, Stores.{column_of, cells_in}}
+use Rattle.smk_base.proofs.{Kept.IsColumnOf-push, rel.value_column.ValueColumn.push.Goals.After-put}
 use Rattle.smk_base.proofs.rel.value_column.ValueColumn.push.Goals as goal
-use Rattle.smk_base.proofs.rel.value_column.ValueColumn.push.Goals.{After-put}
 
 kept : (c : After-put) → IsColumnOf (length (cells_in c.self.inside.store) + 1) (column_of c.put.new.store)
 kept c =

@@ -1,10 +1,7 @@
-use Rattle.std.proofs.Common.{◌≡◌, ◌+◌, length, to_z, of_z, w64}
-use Rattle.std.proofs.Math.Facts.{to_z-of_z}
-use Rattle.smk_base.specs.Columns.{IsColumnOf}
-use Rattle.smk_base.specs.Stores.{column_of, cells_in}
-use Rattle.smk_base.proofs.Kept.{IsColumnOf-same, IsColumnOf-push}
+use Rattle.std.proofs.{Common.{◌≡◌, ◌+◌, length, to_z, of_z, w64}, Math.Facts.to_z-of_z}
+use Rattle.smk_base.specs.{Columns.IsColumnOf, Stores.{column_of, cells_in}}
+use Rattle.smk_base.proofs.{Kept.{IsColumnOf-same, IsColumnOf-push}, rel.value_column.ValueColumn.push_int.Goals.In_ok-push_number}
 use Rattle.smk_base.proofs.rel.value_column.ValueColumn.push_int.Goals as goal
-use Rattle.smk_base.proofs.rel.value_column.ValueColumn.push_int.Goals.{In_ok-push_number}
 
 pub invariant_of-self : goal.invariant_of-self
 invariant_of-self c =

@@ -1,10 +1,7 @@
 use Rattle.std.proofs.Common.{All, length, sym, subst}
-use Rattle.smk_base.specs.Rels.{Fits, IsColumn}
-use Rattle.smk_base.specs.Columns.{IsColumnOf}
-use Rattle.smk_base.specs.Stores.{column_of, cells_in}
-use Rattle.smk_base.proofs.Kept.{IsColumnOf-with_kind}
+use Rattle.smk_base.specs.{Rels.{Fits, IsColumn}, Columns.IsColumnOf, Stores.{column_of, cells_in}}
+use Rattle.smk_base.proofs.{Kept.IsColumnOf-with_kind, rel.value_column.ValueColumn.with_kind.Goals.In_ok-store_with_kind}
 use Rattle.smk_base.proofs.rel.value_column.ValueColumn.with_kind.Goals as goal
-use Rattle.smk_base.proofs.rel.value_column.ValueColumn.with_kind.Goals.{In_ok-store_with_kind}
 
 kept : (c : In_ok-store_with_kind) → IsColumnOf (length (cells_in c.self.inside.store)) (column_of c.in_ok-store_with_kind.field-0)
 kept c =

@@ -1,8 +1,7 @@
 use Rattle.std.proofs.Common.{◌≡◌, ◌∙◌, ap, sym}
 use Rattle.smk_base.specs.Places.{inverted}
 use Rattle.smk_model.specs.Locals.{singles}
-use Rattle.smk_body.specs.Bounds.{way_of}
-use Rattle.smk_body.specs.Locals.{wanted}
+use Rattle.smk_body.specs.{Bounds.way_of, Locals.wanted}
 use Rattle.smk_body.proofs.Siding.{by_targets}
 use Rattle.smk_body.proofs.keep.way.Way.into_side.Goals as goal
 

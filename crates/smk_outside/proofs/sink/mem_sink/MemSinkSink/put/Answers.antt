@@ -1,5 +1,4 @@
-use Rattle.std.proofs.Common.{rules, arith}
-use Rattle.std.proofs.lemmas.Grind.{common_steps}
+use Rattle.std.proofs.{Common.{rules, arith}, lemmas.Grind.common_steps}
 use Rattle.smk_outside.proofs.Parts.{appends_front}
 use Rattle.smk_outside.proofs.sink.mem_sink.MemSinkSink.put.Goals as goal
 

@@ -1,6 +1,5 @@
 use Rattle.std.proofs.Common.{◌≡◌, ℕ, List, Option, None, IsTrue, true, false, nat_eq, sym, ap, ◌∙◌, subst}
-use Rattle.std.specs.List.{find}
-use Rattle.std.specs.Option.{option_map, is_some}
+use Rattle.std.specs.{List.find, Option.{option_map, is_some}}
 use Rattle.smk_outside.specs.MemTalk.{StoredTalk, fails_to_say}
 use Rattle.smk_outside.proofs.talk.mem_talk.MemTalkTalk.say.Goals as goal
 

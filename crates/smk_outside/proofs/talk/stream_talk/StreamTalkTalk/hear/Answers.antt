@@ -1,6 +1,5 @@
 use Rattle.std.proofs.Common.{subst}
-use Rattle.smk_outside.specs.Hearing.{Gives}
-use Rattle.smk_outside.specs.StreamTalk.{CountedStreams, told_by}
+use Rattle.smk_outside.specs.{Hearing.Gives, StreamTalk.{CountedStreams, told_by}}
 use Rattle.smk_outside.proofs.Reading.{gives_from}
 use Rattle.smk_outside.proofs.talk.stream_talk.StreamTalkTalk.hear.Goals as goal
 

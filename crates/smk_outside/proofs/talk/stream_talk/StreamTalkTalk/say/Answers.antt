@@ -1,6 +1,5 @@
 use Rattle.std.proofs.Common.{[], ◌∷◌, subst}
-use Rattle.smk_outside.specs.Saying.{SaysFront}
-use Rattle.smk_outside.specs.StreamTalk.{CountedStreams, told_by}
+use Rattle.smk_outside.specs.{Saying.SaysFront, StreamTalk.{CountedStreams, told_by}}
 use Rattle.smk_outside.proofs.Reading.{front_from}
 use Rattle.smk_outside.proofs.talk.stream_talk.StreamTalkTalk.say.Goals as goal
 

@@ -1,6 +1,4 @@
-use Rattle.std.proofs.Common.{arith, ◌≡◌, ◌++◌, ◌∷◌, [], List, ℕ, length, ap}
-use Rattle.std.proofs.lemmas.Grind.{common_steps}
-use Rattle.std.proofs.lemmas.List.Sums.{sum_by_push}
+use Rattle.std.proofs.{Common.{arith, ◌≡◌, ◌++◌, ◌∷◌, [], List, ℕ, length, ap}, lemmas.Grind.common_steps, lemmas.List.Sums.sum_by_push}
 use Rattle.smk_base.specs.Places.{Lists}
 use Rattle.smk_rid.proofs.Joins.{IsMap-more}
 use Rattle.smk_rid.proofs.fill.grow.RidGrow.more.Goals as goal

@@ -1,6 +1,4 @@
-use Rattle.std.proofs.Common.{arith, ◌≡◌, ◌∙◌, ℕ, [], List, length, map, sym, ap}
-use Rattle.std.proofs.lemmas.List.{length-replicate}
-use Rattle.std.proofs.Math.ListN.{replicate}
+use Rattle.std.proofs.{Common.{arith, ◌≡◌, ◌∙◌, ℕ, [], List, length, map, sym, ap}, lemmas.List.length-replicate, Math.ListN.replicate}
 use Rattle.smk_base.specs.Places.{Lists}
 use Rattle.smk_rid.specs.Packing.{one_of}
 use Rattle.smk_rid.proofs.Arrays.{ones-replicate, pairs-replicate, IsMap-empty_lists}

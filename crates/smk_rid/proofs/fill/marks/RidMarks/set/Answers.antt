@@ -1,11 +1,8 @@
-use Rattle.std.proofs.Common.{arith, ◌≡◌, ◌∙◌, ◌<◌, ◌≤◌, set, [], ℕ, List, length, map, ap}
+use Rattle.std.proofs.{Common.{arith, ◌≡◌, ◌∙◌, ◌<◌, ◌≤◌, set, [], ℕ, List, length, map, ap}, lemmas.List.{length-map, length-set}}
 use Rattle.std.specs.List.{All}
-use Rattle.std.proofs.lemmas.List.{length-map, length-set}
 use Rattle.smk_base.specs.Places.{Lists, pairs_of, list_at}
-use Rattle.smk_rid.specs.Maps.{with_rid_at}
-use Rattle.smk_rid.specs.Packing.{one_of}
-use Rattle.smk_rid.proofs.Arrays.{ones-set, pairs_single, single-ones_of}
-use Rattle.smk_rid.proofs.Joins.{IsMap-add, pairs-add}
+use Rattle.smk_rid.specs.{Maps.with_rid_at, Packing.one_of}
+use Rattle.smk_rid.proofs.{Arrays.{ones-set, pairs_single, single-ones_of}, Joins.{IsMap-add, pairs-add}}
 use Rattle.smk_rid.proofs.fill.marks.RidMarks.set.Goals as goal
 
 pub invariant_of-self : goal.invariant_of-self

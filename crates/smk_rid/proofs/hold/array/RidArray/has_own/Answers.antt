@@ -1,5 +1,4 @@
-use Rattle.std.proofs.Common.{◌≡◌, ◌∙◌, [], sym, ap}
-use Rattle.std.proofs.Math.ListN.{replicate}
+use Rattle.std.proofs.{Common.{◌≡◌, ◌∙◌, [], sym, ap}, Math.ListN.replicate}
 use Rattle.smk_rid.specs.Forms.{lists_in}
 use Rattle.smk_rid.proofs.Owns.{own_none}
 use Rattle.smk_rid.proofs.hold.array.RidArray.has_own.Goals as goal

@@ -1,6 +1,4 @@
-use Rattle.std.proofs.Common.{◌≡◌, ◌∙◌, [], sym, ap}
-use Rattle.std.proofs.Math.ListN.{replicate}
-use Rattle.std.proofs.lemmas.List.{append-nil}
+use Rattle.std.proofs.{Common.{◌≡◌, ◌∙◌, [], sym, ap}, Math.ListN.replicate, lemmas.List.append-nil}
 use Rattle.smk_rid.specs.Forms.{lists_in}
 use Rattle.smk_rid.proofs.Codes.{keep_none}
 use Rattle.smk_rid.proofs.hold.array.RidArray.keep_at.Goals as goal

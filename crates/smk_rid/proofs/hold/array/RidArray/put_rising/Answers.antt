@@ -1,9 +1,7 @@
-use Rattle.std.proofs.Common.{◌≡◌, ◌∙◌, [], ℕ, List, get_or, sym, ap}
-use Rattle.std.proofs.Math.ListN.{replicate}
+use Rattle.std.proofs.{Common.{◌≡◌, ◌∙◌, [], ℕ, List, get_or, sym, ap}, Math.ListN.replicate}
 use Rattle.smk_base.specs.Places.{has}
 use Rattle.smk_rid.specs.Forms.{lists_in}
-use Rattle.smk_rid.proofs.Codes.{put_none}
-use Rattle.smk_rid.proofs.Joins.{has-flat_map}
+use Rattle.smk_rid.proofs.{Codes.put_none, Joins.has-flat_map}
 use Rattle.smk_rid.proofs.hold.array.RidArray.put_rising.Goals as goal
 
 pub returns-in-Empty-clause-same : goal.returns-in-Empty-clause-same

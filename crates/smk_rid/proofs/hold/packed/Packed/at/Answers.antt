@@ -1,5 +1,4 @@
-use Rattle.std.proofs.Common.{arith, ◌∙◌, ◌+◌, length, ap, subst}
-use Rattle.std.proofs.lemmas.List.{get_or_read}
+use Rattle.std.proofs.{Common.{arith, ◌∙◌, ◌+◌, length, ap, subst}, lemmas.List.get_or_read}
 use Rattle.smk_rid.specs.Packing.{IsPacking}
 use Rattle.smk_rid.proofs.Packs.{length_at, end_at, part_is}
 use Rattle.smk_rid.proofs.hold.packed.Packed.at.Goals as goal

@@ -1,6 +1,4 @@
-use Rattle.std.proofs.Common.{arith, ◌≡◌, ◌∙◌, ◌<◌, ◌+◌, [], length, take, map, get_or, ap, subst, inl, inr}
-use Rattle.std.proofs.lemmas.Bool.{cases_eq}
-use Rattle.std.proofs.lemmas.List.{get_or_read, get_or-set_same, get_or-set_other, length-set}
+use Rattle.std.proofs.{Common.{arith, ◌≡◌, ◌∙◌, ◌<◌, ◌+◌, [], length, take, map, get_or, ap, subst, inl, inr}, lemmas.Bool.cases_eq, lemmas.List.{get_or_read, get_or-set_same, get_or-set_other, length-set}}
 use Rattle.smk_rid.specs.Packing.{one_of, IsPacking}
 use Rattle.smk_rid.proofs.Packs.{end_at, first_is, array_is}
 use Rattle.smk_rid.proofs.hold.packed.Packed.into_array.Goals as goal

@@ -1,6 +1,4 @@
-use Rattle.std.proofs.Common.{arith, ◌<◌, ◌+◌, [], length, subst, refl}
-use Rattle.std.proofs.lemmas.Bool.{false≢true}
-use Rattle.std.proofs.lemmas.List.{get_or_read}
+use Rattle.std.proofs.{Common.{arith, ◌<◌, ◌+◌, [], length, subst, refl}, lemmas.Bool.false≢true, lemmas.List.get_or_read}
 use Rattle.smk_rid.specs.Packing.{IsPacking}
 use Rattle.smk_rid.proofs.Packs.{length_at, single_from_steps}
 use Rattle.smk_rid.proofs.hold.packed.Packed.is_single.Goals as goal

@@ -1,6 +1,5 @@
 use Rattle.std.proofs.Common.{◌≡◌, ◌≤◌, ◌+◌, ◌++◌, [], length, take, get_or, nat_lt, vec_len}
-use Rattle.std.specs.Prelude.{vec_capacity}
-use Rattle.std.specs.List.{filter}
+use Rattle.std.specs.{Prelude.vec_capacity, List.filter}
 use Rattle.smk_rid.proofs.hold.packed.Packed.keep_at.Given as goal
 
 abbrev pub invariant-loop-p : goal.invariant-loop-p

@@ -1,5 +1,4 @@
-use Rattle.std.proofs.Common.{arith, ◌∙◌, ℕ, List, ◌+◌, ◌++◌, ◌∷◌, [], map, ap, subst}
-use Rattle.std.proofs.lemmas.List.{length-map}
+use Rattle.std.proofs.{Common.{arith, ◌∙◌, ℕ, List, ◌+◌, ◌++◌, ◌∷◌, [], map, ap, subst}, lemmas.List.length-map}
 use Rattle.smk_rid.specs.Packing.{IsPacking}
 use Rattle.smk_rid.proofs.Packs.{packed_put}
 use Rattle.smk_rid.proofs.hold.packed.Packed.put_moved.Goals as goal

@@ -1,5 +1,4 @@
-use Rattle.std.proofs.Common.{arith}
-use Rattle.std.proofs.lemmas.Grind.{common_steps}
+use Rattle.std.proofs.{Common.arith, lemmas.Grind.common_steps}
 use Rattle.smk_typing.proofs.draft.indexed.Indexed.place_of.Goals as goal
 
 pub returns-clause-within : goal.returns-clause-within

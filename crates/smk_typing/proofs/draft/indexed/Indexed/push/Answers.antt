@@ -1,5 +1,4 @@
-use Rattle.std.proofs.Common.{◌∙◌, ◌++◌, ◌∷◌, [], ap, arith}
-use Rattle.std.proofs.lemmas.Grind.{common_steps}
+use Rattle.std.proofs.{Common.{◌∙◌, ◌++◌, ◌∷◌, [], ap, arith}, lemmas.Grind.common_steps}
 use Rattle.smk_typing.proofs.draft.indexed.Indexed.push.Goals as goal
 
 pub invariant_of-self-2 : goal.invariant_of-self-2
