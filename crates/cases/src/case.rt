@@ -51,7 +51,7 @@ fn status_of(case: &[Section<'_>]) -> Option<u8> {
     None
 }
 
-/// The bytes of all sections of a part, one behind the other.
+/// The bytes of all sections of a part, one after the other.
 pub fn bytes_of(alloc: Global, sections: &[Section<'_>], wanted: Part<'_>) -> Result<Vec<u8>> {
     let mut bytes = Vec::new(alloc);
     for section in sections {
@@ -177,7 +177,7 @@ pub fn files_of<'a>(
     Ok(MemFiles::new(files, reads_of(alloc, case)?))
 }
 
-/// The files of a case, where that of a name is cut behind so many bytes.
+/// The files of a case, where that of a name is cut after so many bytes.
 pub fn cut_files_of<'a>(
     alloc: Global,
     shared: &[Section<'a>],

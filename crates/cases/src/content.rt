@@ -124,7 +124,7 @@ fn after(escape: Escape, byte: u8) -> Escape {
     }
 }
 
-// What the byte behind a backslash makes.
+// What the byte after a backslash makes.
 fn escaped(byte: u8) -> Escape {
     match byte {
         b'x' => Escape::Hex,

@@ -6,7 +6,7 @@ use anyhow::Result;
 use std::thread::Threads;
 
 /// Holds a conversation in place of a run that came to this, over the run's book and the lines of its script, where the archive or the case asks for it and the
-/// run's report is whole. The texts that it says, without the empty lines behind them, have to be the report. It tells how many conversations it held.
+/// run's report is whole. The texts that it says, without the empty lines after them, have to be the report. It tells how many conversations it held.
 pub fn converse_run<R: Threads + Sync + Print + AllocGlobal>(
     system: HostRuntime,
     rt: &R,

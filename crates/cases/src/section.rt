@@ -78,7 +78,7 @@ pub fn sections<'a>(alloc: Global, text: &'a str) -> Result<Vec<Section<'a>>> {
     Ok(read)
 }
 
-// The head behind its first dashes.
+// The head after its first dashes.
 fn head_of(line: &str) -> Option<Head<'_>> {
     let head = line.strip_suffix(" --")?;
     let (word, rest) = head.split_once(' ').unwrap_or((head, ""));
@@ -106,7 +106,7 @@ fn head_of(line: &str) -> Option<Head<'_>> {
     }
 }
 
-// The failure behind `fails`: `read K`, `hear K`, `say K after N`, `out K after N` or `err K after N`.
+// The failure after `fails`: `read K`, `hear K`, `say K after N`, `out K after N` or `err K after N`.
 fn failure_of(failure: &str) -> Option<Head<'_>> {
     let (what, rest) = failure.split_once(' ')?;
     let part = match what {

@@ -131,7 +131,7 @@ fn heard_in(line: &[u8]) -> Option<&[u8]> {
     }
 }
 
-// What happened in a conversation, as a `talk` has it: what was said as it stands, and behind a `>` each line that was heard.
+// What happened in a conversation, as a `talk` has it: what was said as it stands, and after a `>` each line that was heard.
 fn transcript_of(alloc: Global, events: &[Event]) -> Result<Vec<u8>, AllocError> {
     let mut bytes = Vec::new(alloc);
     for event in events {

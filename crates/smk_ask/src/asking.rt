@@ -88,9 +88,9 @@ fn told_over<R: Threads + Sync>(
     }
 }
 
-/// The answer to an `ask` line: what its steps make of the rows that the marks came from, and the names of their columns. The line is refused where its `back` line is, and else where its steps don't stand.
+/// The answer to an `ask` line: what its steps make of the rows that the marks came from, and the names of their columns. The line is refused if its `back` line is, or else if its steps aren't well typed.
 ///
-/// The session stays as it is, after an error too. Each row that the marks came from is one look, also where the steps are refused. The gate is handed on to the answer of the `back` line.
+/// The session stays as it is, after an error too. Each row that the marks came from is one look, even if the steps are refused. The gate is handed on to the answer of the `back` line.
 pub fn ask<R: Threads + Sync, G: Gate + Sync, L: Ledger>(
     rt: &R,
     alloc: Global,

@@ -1,4 +1,4 @@
-//! Steps over the rows of a backward answer, and the text of what they come to.
+//! Steps over the rows of a backward answer, and the text of what they make.
 #![tactic(auto)]
 
 mod asking;

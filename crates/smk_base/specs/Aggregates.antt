@@ -1,4 +1,4 @@
--- The column that an aggregate reads, and the aggregates over other columns that stand for it.
+-- Which column an aggregate reads, and how it is computed from partial results.
 use Rattle.std.specs.Prelude.{ℕ, Option, Some, None}
 use Rattle.smk_base.specs.{declared.book.plan.Agg.Agg, declared.book.plan.Agg.TheVariants.{Count, Sum, Min, Max}}
 
@@ -9,14 +9,14 @@ read_by (Sum c) = Some c
 read_by (Min c) = Some c
 read_by (Max c) = Some c
 
--- the same aggregate over another column
+-- this aggregate, with another column to read
 abbrev pub moved_to : ℕ → Agg → Agg
 moved_to column Count = Count
 moved_to column (Sum c) = Sum column
 moved_to column (Min c) = Min column
 moved_to column (Max c) = Max column
 
--- the aggregate over parts that is in a column of their groupings, taken once more: it is that over all rows, since each of these is a distributive aggregate (Gray and others, Data Cube, 1997); counts are summed
+-- the aggregate that combines partial results in a column: applied to the results over the parts, it gives the result over all rows, since each aggregate here is distributive (Gray and others, Data Cube, 1997). Counts are summed
 abbrev pub over_parts : ℕ → Agg → Agg
 over_parts column Count = Sum column
 over_parts column (Sum c) = Sum column

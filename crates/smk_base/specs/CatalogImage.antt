@@ -1,4 +1,4 @@
--- A checked book as the definitions see it: plans without where they lie in memory.
+-- A checked book as plain data, with no pointers.
 use Rattle.std.specs.Prelude.{ℕ, List, map, Option, position}
 use Rattle.smk_base.specs.{declared.value.Kind.Kind, declared.book.catalog.Catalog.Catalog, declared.book.catalog.TableInfo.TableInfo, declared.book.catalog.ViewInfo.ViewInfo, declared.book.catalog.Back.Back, declared.book.catalog.Fwd.Fwd, declared.book.catalog.LinkInfo.LinkInfo, Dicts.text_eq, Plans.Expr, PlanImage.expr_of}
 
@@ -29,7 +29,7 @@ catalog_image catalog = record {
   links = catalog.links;
 }
 
--- the number of the view, and of the table, with this name
+-- the number of the view with this name, and that of the table
 abbrev pub view_place : CatalogImage → List ℕ → Option ℕ
 view_place catalog name = position (λ view. text_eq view.name name) catalog.views
 

@@ -21,12 +21,12 @@ pub record IsIntText (bytes : List ℕ) (n : ℤ) : Type 0 where
   pub value : n ≡ signed_digits_value 10 numeral
   pub small : FitsSigned w64 n
 
--- the bytes after the blanks at their front
+-- the bytes without the blanks that they begin with
 abbrev pub after_blanks : List ℕ → List ℕ
 after_blanks [] = []
 after_blanks (c ∷ cs) = if is_blank c then after_blanks cs else c ∷ cs
 
--- the bytes before the blanks at their end
+-- the bytes without the blanks that they end with
 abbrev pub before_blanks : List ℕ → List ℕ
 before_blanks [] = []
 before_blanks (c ∷ cs) = if list_all is_blank (c ∷ cs) then [] else c ∷ before_blanks cs

@@ -1,4 +1,4 @@
--- The text that a column of texts takes next.
+-- The text that a column can take next without memory.
 use Rattle.std.specs.Prelude.{ℕ, List, Option, Some, None, slice_get, nat_lt, if◌then◌else◌}
 use Rattle.smk_base.specs.{declared.rel.text_column.Next.Next, declared.rel.text_column.Next.TheVariants.{Nothing, Known, New}}
 

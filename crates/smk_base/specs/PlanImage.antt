@@ -1,7 +1,7 @@
--- Predicates, steps and plans as the definitions see them.
+-- From declared predicates, steps and plans to the plain data that definitions read.
 use Rattle.smk_base.specs.{Plans.{Formula, Comparison, Conjunction, Disjunction, Negation, Unary, Selection, Projection, Distinction, Grouping, Binary, Equijoin, ThetaJoin, CrossProduct, BagUnion, SetUnion, Expr, Leaf, Apply, Combine}, declared.book.plan.Pred.{Pred, And', Or', Not'}, declared.book.plan.Pred.TheVariants.Cmp, declared.book.plan.Op1.Op1, declared.book.plan.Op1.TheVariants.{Select, Project, Distinct, Group}, declared.book.plan.Op2.Op2, declared.book.plan.Op2.TheVariants.{Join, Theta, Product, UnionAll, Union}, declared.book.plan.Plan.{Plan, One', Two'}, declared.book.plan.Plan.TheVariants.Scan}
 
--- each without where it lies in memory
+-- each without its pointers
 abbrev pub formula_of : Pred → Formula
 formula_of (Cmp col op operand) = Comparison col op operand
 formula_of (And' p left q right) = Conjunction (formula_of left) (formula_of right)

@@ -1,4 +1,4 @@
--- Predicates, steps and plans without where they lie in memory: the data that the definitions of meaning are over.
+-- Predicates, steps and plans as plain data, with no pointers: the definitions of what a plan means read these.
 use Rattle.std.specs.Prelude.{ℕ, List}
 use Rattle.smk_base.specs.{declared.book.plan.CmpOp.CmpOp, declared.book.plan.Operand.Operand, declared.book.plan.Item.Item, declared.book.plan.Agg.Agg}
 
@@ -16,7 +16,7 @@ pub data Unary : Type 0 where
   Distinction : List Item → Unary
   Grouping : List ℕ → List Agg → Unary
 
--- a step with two inputs: rows of both sides beside each other where they are equal in every pair of columns, where they meet a formula together, or always; or the rows of both sides, all of them or each once
+-- a step with two inputs: an equijoin on pairs of columns, a join on a formula, the product, the union that keeps repeats, or the union without them
 pub data Binary : Type 0 where
   Equijoin : List (ℕ × ℕ) → Binary
   ThetaJoin : Formula → Binary
@@ -24,7 +24,7 @@ pub data Binary : Type 0 where
   BagUnion : Binary
   SetUnion : Binary
 
--- a plan, as an expression over the tables with these numbers
+-- a plan: an expression of relational algebra whose leaves are tables, by number
 pub data Expr : Type 0 where
   Leaf : ℕ → Expr
   Apply : Unary → Expr → Expr

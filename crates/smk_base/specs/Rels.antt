@@ -4,7 +4,7 @@ use Rattle.smk_base.specs.{declared.value.Kind.Kind, declared.value.Value.Value,
 use Rattle.smk_base.specs.declared.value.Kind.TheVariants as kinds
 use Rattle.smk_base.specs.declared.value.Value.TheVariants as values
 
--- kinds and rows
+-- a relation: the kind of each column, and the rows
 pub record Relation : Type 0 where
   pub kinds : List Kind
   pub rows : List (List Value)
@@ -66,11 +66,11 @@ abbrev pub number_of : Value → ℤ
 number_of (values.Int n) = n
 number_of (values.Text t) = pos 0
 
--- the number of the bin of this width that has a value
+-- the number of the bin, of this width, that a value falls into: the quotient rounded down
 abbrev pub bin_of : ℤ → Value → Value
 bin_of width value = values.Int (int_div_euclid (number_of value) width)
 
--- the bins of this width that have the numbers from the least on
+-- whether these are the bins of least, least + 1, and so on
 abbrev pub AreBinsFrom : ℤ → ℤ → List ℤ → Type 0
 AreBinsFrom least width bins = (k : ℕ) → k < length bins → slice_index_or bins k (pos 0) ≡ int_div_euclid (least +ℤ pos k) width
 
@@ -82,12 +82,12 @@ rows_at rows places = map (row_in rows) places
 abbrev pub picked : List ℕ → List Value → List Value
 picked cols row = map (value_in row) cols
 
--- each row with the one at the same place behind it
+-- each row followed by the other's row at the same place
 abbrev pub beside_rows : List (List Value) → List (List Value) → List (List Value)
 beside_rows (left ∷ lefts) (right ∷ rights) = (left ++ right) ∷ beside_rows lefts rights
 beside_rows _ _ = []
 
--- whether each value that fits the right kind fits the left one
+-- whether the left kind takes every value that the right one takes
 abbrev pub IsWider : Kind → Kind → Type 0
 IsWider (kinds.Int a) (kinds.Int b) = b ≤ a
 IsWider kinds.Text kinds.Text = Unit {0}

@@ -20,7 +20,7 @@ text_firsts texts = first_items text_eq texts
 abbrev pub texts_at : List (List ℕ) → List ℕ → List (List ℕ)
 texts_at dict codes = map (text_in dict) codes
 
--- codes within a dictionary that has their texts at their first occurrences
+-- codes into a dictionary that has the texts in the order of their first occurrences
 pub record AreCodes (dict : List (List ℕ)) (codes : List ℕ) : Type 0 where
   pub few : length codes ≤ ROW_LIMIT
   pub within : All (λ code. code < length dict) codes

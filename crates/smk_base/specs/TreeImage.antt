@@ -1,4 +1,4 @@
--- Predicates, steps, plans, statements, books and lines as the definitions see them.
+-- From declared syntax trees to the plain data that definitions read.
 use Rattle.std.specs.Prelude.{List, map}
 use Rattle.smk_base.specs.{Trees.{PredImage, CompareNode, AndNode, OrNode, NotNode, TreeImage, ScanNode, StepNode, StepImage, SelectNode, ProjectNode, DistinctNode, GroupNode, JoinNode, ThetaNode, ProductNode, UnionAllNode, UnionNode, StmtImage, TableNode, ViewNode, BackNode, FwdNode, LinkNode, DependsNode, AskStepImage, AskImage, AnyLineImage, PlainLine, AskedLine, ProfiledLine, AppendedLine}, declared.book.tree.PredTree.{PredTree, And', Or', Not'}, declared.book.tree.PredTree.TheVariants.Cmp, declared.book.tree.Tree.{Tree, Step'}, declared.book.tree.Tree.TheVariants.Scan, declared.book.tree.StepTree.{StepTree, Join', Theta', Product', UnionAll', Union'}, declared.book.tree.StepTree.TheVariants.{Select, Project, Distinct, Group}, declared.book.tree.Stmt.Stmt, declared.book.tree.Stmt.TheVariants.{Table, View, Back, Fwd, Link, Depends}, declared.book.tree.Book.Book, declared.book.tree.AskStep.AskStep, declared.book.tree.AskLine.AskLine, declared.book.tree.AnyLine.AnyLine, declared.book.tree.AnyLine.TheVariants.{Plain, Ask, Profile, Append}}
 

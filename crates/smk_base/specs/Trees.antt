@@ -1,4 +1,4 @@
--- Books and lines as they are written, without where they lie in memory: the data that the definitions of the grammar and of the typing are over. Parts that hold no box stand as they are declared.
+-- Syntax trees of books and lines as plain data, with no pointers: the definitions of the grammar and of typing read these. Parts without a pointer stand as they are declared.
 use Rattle.std.specs.Prelude.{ℕ, List}
 use Rattle.smk_base.specs.{declared.book.plan.CmpOp.CmpOp, declared.book.tree.Word.Word, declared.book.tree.Decl.Decl, declared.book.tree.Extra.Extra, declared.book.tree.ItemTree.ItemTree, declared.book.tree.AggTree.AggTree, declared.book.tree.PairTree.PairTree, declared.book.tree.Term.Term, declared.book.tree.Marks.Marks, declared.book.tree.Line.Line}
 

@@ -15,7 +15,7 @@ value_same (Int a) (Int b) = (λ e. ap Int ((signed_Decides a b).0 e), λ e. (si
 value_same (Text a) (Text b) = (λ e. ap Text ((slice_eq-Decides unsigned_Decides a b (pointwise nat_eq a b) refl).0 e), λ e. (slice_eq-Decides unsigned_Decides a b (pointwise nat_eq a b) refl).1 (cc))
 value_same _ _ = (λ e. absurd (true≢false (sym e)), λ e. absurd (cc))
 
--- what a value feeds a hasher: its variant, then its content
+-- what a value writes into a hasher: its variant, then its content
 abbrev pub value_fed : Value → fed.HashWrites
 value_fed (Int a) = fed.u8 0 ++ fed.i128 a
 value_fed (Text a) = fed.u8 1 ++ fed.slice fed.u8 a

@@ -46,14 +46,14 @@ impl<T> ListOf<T> {
         }
     }
 
-    /// The list of a vector's items. It takes no memory.
+    /// The list of a vector's items.
     pub fn from_vec(items: Vec<T>) -> ListOf<T>
         ensures { result ≡ items.items }
     {
         ListOf { items }
     }
 
-    /// The vector of the members. It takes no memory.
+    /// The vector of the members.
     pub fn into_vec(self) -> Vec<T>
         ensures { result.items ≡ self }
     {
@@ -61,7 +61,7 @@ impl<T> ListOf<T> {
         items
     }
 
-    /// The members. It takes no memory.
+    /// The members.
     pub fn as_slice(&self) -> &[T]
         ensures { result.now ≡ self.now }
     {

@@ -5,7 +5,7 @@ ghost use Rattle.smk_base.specs.{Ints.{after_blanks, before_blanks, int_of, is_b
 // A number from here on takes no further digit in the range of i64.
 const LEAST_FULL: u64 = 1_000_000_000_000_000_000;
 
-/// The int that the bytes write: spaces or tabs, an optional plus or minus, one or more digits, spaces or tabs, of a value in the range of i64. None exactly where they write none. It takes no memory.
+/// The int that the bytes write: spaces or tabs, an optional plus or minus, one or more digits, spaces or tabs, of a value in the range of i64. None exactly where they write none.
 pub fn read_int(bytes: &[u8]) -> Option<i64>
     ensures value { result ≡ int_of bytes.now }
     ensures some { IfSome result (λ n. IsIntText bytes.now n) }
@@ -86,7 +86,7 @@ fn with_sign(is_negative: bool, size: u64) -> Option<i64>
     }
 }
 
-/// The bytes after every byte order mark at their front. It takes no memory.
+/// The bytes after every byte order mark at their front.
 pub fn without_mark(bytes: &[u8]) -> &[u8]
     ensures rest { result.now ≡ after_marks bytes.now }
     ensures none_left { IsFalse (begins_with_mark result.now) }

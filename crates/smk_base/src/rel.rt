@@ -75,12 +75,12 @@ impl Rel {
         }
     }
 
-    /// The seed of the hashes by which values and keys of these rows are found. It takes no memory.
+    /// The seed of the hashes by which values and keys of these rows are found.
     pub fn seed(&self) -> u64 {
         self.seed
     }
 
-    /// The number of rows. It takes no memory.
+    /// The number of rows.
     pub fn len(&self) -> u32
         ensures count { result ≡ length self.now.rows }
         ensures keeps { IsRelation self.now }
@@ -88,7 +88,7 @@ impl Rel {
         self.count
     }
 
-    /// The number of columns. It takes no memory.
+    /// The number of columns.
     pub fn width(&self) -> u32
         ensures count { result ≡ length self.now.kinds }
         ensures few { result ≤ COLUMN_LIMIT }
@@ -97,7 +97,7 @@ impl Rel {
         self.columns.len() as u32
     }
 
-    /// The kind of column c. It takes no memory.
+    /// The kind of column c.
     pub fn kind(&self, c: u32) -> Kind
         requires { c < length self.now.kinds }
         ensures kind { result ≡ kind_in self.now.kinds c }
@@ -106,7 +106,7 @@ impl Rel {
         self.columns[c as usize].kind()
     }
 
-    /// The value in column c of row i. It takes no memory.
+    /// The value in column c of row i.
     pub fn cell(&self, i: u32, c: u32) -> CellRef<'_>
         requires row { i < length self.now.rows }
         requires column { c < length self.now.kinds }
@@ -125,7 +125,7 @@ impl Rel {
         self.columns[c as usize].texts()
     }
 
-    /// The texts of column c, each at its first occurrence. It takes no memory.
+    /// The texts of column c, each at its first occurrence.
     pub fn dict(&self, c: u32) -> &Dict
         requires column { c < length self.now.kinds }
         requires text { kind_in self.now.kinds c ≡ kinds.Text }
@@ -134,7 +134,7 @@ impl Rel {
         self.texts(c).dict()
     }
 
-    /// The code of the text in column c of row i. It takes no memory.
+    /// The code of the text in column c of row i.
     pub fn code(&self, i: u32, c: u32) -> u32
         requires row { i < length self.now.rows }
         requires column { c < length self.now.kinds }
@@ -146,7 +146,7 @@ impl Rel {
         self.texts(c).code(i)
     }
 
-    /// The codes of the texts in column c, row by row: equal ones exactly where the texts are equal. It takes no memory.
+    /// The codes of the texts in column c, row by row: equal ones exactly where the texts are equal.
     pub fn codes(&self, c: u32) -> &[u32]
         requires column { c < length self.now.kinds }
         requires text { kind_in self.now.kinds c ≡ kinds.Text }
@@ -158,7 +158,7 @@ impl Rel {
         self.texts(c).codes()
     }
 
-    /// The numbers in column c, row by row. It takes no memory.
+    /// The numbers in column c, row by row.
     pub fn ints(&self, c: u32) -> Ints<'_>
         requires column { c < length self.now.kinds }
         requires int { kind_in self.now.kinds c ≢ kinds.Text }

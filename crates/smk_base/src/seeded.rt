@@ -14,7 +14,7 @@ pub struct KeyHasher {
 }
 
 impl Seeded {
-    /// The hashers of a seed. It takes no memory.
+    /// The hashers of a seed.
     pub fn new(seed: u64) -> Seeded {
         let mut state = FoldHasher::default();
         state.write_u64(seed);

@@ -57,7 +57,7 @@ impl Value {
 }
 
 impl Value {
-    /// The value where it lies. It takes no memory.
+    /// The value where it lies.
     pub fn as_cell(&self) -> CellRef<'_>
         ensures { value_of_cell result ≡ self.now }
     {
@@ -69,7 +69,7 @@ impl Value {
 }
 
 impl<'a> CellRef<'a> {
-    /// The same int or text as a value of its own.
+    /// A copy of the int or text, as a value of its own.
     pub fn to_value(self, alloc: Global) -> Result<Value, AllocError>
         ensures { IfOk result (λ value. value ≡ value_of_cell self.entry) }
     {

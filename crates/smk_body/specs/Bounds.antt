@@ -1,4 +1,4 @@
--- The way that is held, and the bounds that it keeps.
+-- A way as it is held, and its bounds.
 use Rattle.std.specs.Prelude.{◌≡◌, ℕ, ◌<◌, ◌≤◌, ◌+◌, List, All, length, map, Option, IfSome}
 use Rattle.smk_base.specs.{declared.rel.TheConstants.ROW_LIMIT, Places.{Lists, inverted, upto}}
 use Rattle.smk_model.specs.{Locals.singles, Ways.{Way, Own, Sources, Targets}}
@@ -26,7 +26,7 @@ pub record IsPartition (groups : ClassesImage) : Type 0 where
   pub few : length groups.of ≤ ROW_LIMIT
   pub numbered : AreNumbered (length groups.of) groups
 
--- that these are the lists that go against such numbers, where they are made
+-- these are the lists of such numbers in the other direction, if they are made
 abbrev pub AreTurned : ℕ → List ℕ → Option Lists → Type 0
 AreTurned bound of made = IfSome made (λ lists. lists ≡ inverted (singles of bound))
 

@@ -4,11 +4,11 @@ use Rattle.smk_base.specs.{Places.upto, Plans.Formula, declared.rel.TheConstants
 use Rattle.smk_model.specs.{Values.Row, Lineage.{lefts_of, rights_of}}
 use Rattle.smk_body.specs.Halves.{PlacePairs, meeting_below, pairs_below}
 
--- that these are the places from one up to another whose rows meet a formula: behind those below the first they are those below the second
+-- these are the places from one up to another whose rows meet a formula: after those below the first, they complete those below the second
 abbrev pub HasPlaces : Formula → List Row → ℕ → ℕ → List ℕ → Type 0
 HasPlaces formula L from to places = meeting_below formula L from ++ places ≡ meeting_below formula L to
 
--- that these are the pairs of the left places from one up to another, in the same way
+-- these are the pairs of the left places from one up to another, in the same sense
 pub record HasPairs (partners_of : ℕ → List ℕ) (from to : ℕ) (made : PlacePairs) : Type 0 where
   pub lefts : lefts_of (pairs_below partners_of from) ++ made.lefts ≡ lefts_of (pairs_below partners_of to)
   pub rights : rights_of (pairs_below partners_of from) ++ made.rights ≡ rights_of (pairs_below partners_of to)
@@ -17,6 +17,6 @@ pub record HasPairs (partners_of : ℕ → List ℕ) (from to : ℕ) (made : Pla
 abbrev pub count_between : (ℕ → List ℕ) → ℕ → ℕ → ℕ
 count_between partners_of from to = min (ROW_LIMIT + 1) (length (pairs_below partners_of to) - length (pairs_below partners_of from))
 
--- that what f counts over n parts is more than 1,048,576 exactly where the number of rows is
+-- the counts of n parts add up to more than 1,048,576 exactly if the number of rows is more
 abbrev pub CountRows : (ℕ → ℕ) → ℕ → ℕ → Type 0
 CountRows f n rows = (ROW_LIMIT < sum_by f (upto n)) ↔ (ROW_LIMIT < rows)

@@ -34,7 +34,7 @@ pub record AreWithin (m n : ℕ) (pairs : PlacePairs) : Type 0 where
   pub lefts : All (λ i. i < m) pairs.lefts
   pub rights : All (λ j. j < n) pairs.rights
 
--- of n places the numbers of their classes, and for each class the first of its places
+-- the numbers of the classes of n places, and for each class the first of its places
 pub record AreNumbered (n : ℕ) (classes : ClassesImage) : Type 0 where
   pub long : length classes.of ≡ n
   pub few : length classes.firsts ≤ n
@@ -43,7 +43,7 @@ pub record AreNumbered (n : ℕ) (classes : ClassesImage) : Type 0 where
   pub first : (p : ℕ) → p < length classes.firsts → slice_index classes.of (slice_index classes.firsts p) ≡ p
   pub none : (p i : ℕ) → p < length classes.firsts → i < slice_index classes.firsts p → slice_index classes.of i ≢ p
 
--- the places, of the first n, that have class p
+-- the places among the first n that are in class p
 abbrev pub class_places : List ℕ → ℕ → ℕ → List ℕ
 class_places of n p = places (λ i. nat_eq (slice_index of i) p) n
 

@@ -4,7 +4,7 @@ use Rattle.smk_base.specs.{Places.Lists, Plans.{Unary, Binary}, declared.book.pl
 use Rattle.smk_model.specs.{Values.Row, Locals.{back1, fwd1, back_left, fwd_left, back_right, fwd_right}}
 use Rattle.smk_body.specs.{declared.keep.local.Side.Side, declared.keep.local.Local.Local, declared.keep.local.Want.Want}
 
--- lists where they are wanted
+-- lists if they are wanted
 abbrev pub wanted : Bool → Lists → Option Lists
 wanted true lists = Some lists
 wanted false lists = None

@@ -1,4 +1,4 @@
--- What a step has made of its inputs: its rows, and how the rows of each side and these belong together.
+-- What a step has made of its inputs: its rows, and how they belong together with the rows of each side.
 use Rattle.std.specs.Prelude.{◌≡◌}
 use Rattle.smk_base.specs.{Plans.{Unary, Binary}, Rels.Relation}
 use Rattle.smk_model.specs.{Kinds.{kinds1, kinds2}, Plain.{step1, step2}, Ways.{way, left_way, right_way}}

@@ -1,4 +1,4 @@
--- Columns of rows, and aggregates of classes, of which each may be made beside the others.
+-- Columns of rows, and aggregates of classes, each of which may be made in parallel with the others.
 use Rattle.std.specs.Prelude.{ℕ, ◌<◌, ◌≤◌, List, length, map, All}
 use Rattle.smk_base.specs.{declared.rel.TheConstants.{COLUMN_LIMIT, ROW_LIMIT}, declared.book.plan.Agg.Agg, Places.upto, Rels.{Relation, kind_in, picked, rows_at}}
 use Rattle.smk_keys.specs.Classes.{ClassesImage}

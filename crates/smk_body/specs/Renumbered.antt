@@ -1,13 +1,13 @@
--- Numbers of rows that are numbered part by part, before equal keys of several parts have one number.
+-- Rows numbered part by part, before equal keys of different parts have one number.
 use Rattle.std.specs.Prelude.{◌≡◌, ℕ, ◌<◌, ◌≤◌, ◌+◌, List, [], ◌∷◌, ◌++◌, length, map, slice_index, slice_range, sum_by}
 use Rattle.smk_keys.specs.Classes.{ClassesImage, classes_of}
 use Rattle.smk_model.specs.{Values.Row, Plain.key_of, Lineage.row_at}
 
--- that these are the classes of the keys of the rows from one place up to another
+-- these are the classes of the keys of the rows from one place up to another
 abbrev pub HasKeys : List ℕ → List Row → ℕ → ℕ → ClassesImage → Type 0
 HasKeys keys L from to classes = classes ≡ classes_of (map (key_of keys) (slice_range L from to))
 
--- numbers of the first n keys, in the order in which they come, and for each number the place where it comes first: there stands a key equal to each that has the number
+-- numbers of the first n keys, in the order in which they come, and for each number its first place: the key there equals every key with this number
 pub record StandFor (keys : List Row) (n : ℕ) (firsts of : List ℕ) : Type 0 where
   pub long : length of ≡ n
   pub few : length firsts ≤ n
@@ -21,7 +21,7 @@ pub record StandFor (keys : List Row) (n : ℕ) (firsts of : List ℕ) : Type 0 
 abbrev pub key_total : List ClassesImage → ℕ
 key_total = sum_by (λ part. length part.firsts)
 
--- the numbers of the rows of these parts, one part behind the other: the classes of each, more by the first number and by the keys of the parts before it
+-- the numbers of the rows of these parts, one part after the other: each class, plus the first number and the keys of the parts before it
 abbrev pub numbers_from : ℕ → List ClassesImage → List ℕ
 numbers_from base [] = []
 numbers_from base (part ∷ parts) = map (λ x. base + x) part.of ++ numbers_from (base + length part.firsts) parts

@@ -30,14 +30,14 @@ pub trait OpBody: Crew {
     // What a body promises of what it keeps of a step with one input, beyond its meaning. One that says nothing promises nothing.
     ghost leaves1: { Self → Unary → Relation → Dir → Self.Pending → Type 0 } = { λ _ _ _ _ _. Unit {0} };
 
-    // The same of a step with two inputs.
+    // What it promises for a step with two inputs.
     ghost leaves2: { Self → Binary → Relation → Relation → Want → Self.Pending → Type 0 } = { λ _ _ _ _ _ _. Unit {0} };
 
-    /// Whether lineage may be wanted of this body. It takes no memory.
+    /// Whether this body can be asked for lineage.
     fn captures(&self) -> bool
         ensures { result ≡ may_capture self.now };
 
-    /// A step over its input: its rows, and the wanted lineage as what is pending. Lineage may be wanted only where the body captures.
+    /// A step over its input: its rows, and the wanted lineage, still pending. Lineage may be wanted only if the body captures.
     final fn apply1<R: Threads + Sync>(
         &self,
         rt: &R,
@@ -113,7 +113,7 @@ pub trait OpBody: Crew {
     ) -> Result<Local, AllocError>
         ensures { IfOk result (λ local. local ≡ meaning self.now pending) };
 
-    /// Whether of the wanted lists those that go against the way of a side are made with the rows, before the body keeps anything. That is a matter of speed alone. It takes no memory.
+    /// Whether the wanted lists that run against the way of a side are made with the rows, before the body keeps anything. This only matters for speed.
     fn lists_at_once(&self) -> bool;
 
     /// What is kept of a step with one input, and its rows as they are.

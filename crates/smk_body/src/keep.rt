@@ -23,7 +23,7 @@ pub fn lineage1(alloc: Global, way: Way, want: Dir) -> Result<Local, AllocError>
     Ok(Local::of_one(way.into_side(alloc, want)?))
 }
 
-/// The same of a step with two inputs.
+/// The wanted lineage of a step with two inputs, from its ways.
 #[tactic(auto, using(crate::proofs::Standing::lineage2))]
 pub fn lineage2(alloc: Global, left: Way, right: Way, want: Want) -> Result<Local, AllocError>
     ensures { IfOk result (λ local. (op : Binary) (L R : List Row) → left ≡ ways.left_way op L R → right ≡ ways.right_way op L R → local ≡ local2 op L R want) }
@@ -33,7 +33,7 @@ pub fn lineage2(alloc: Global, left: Way, right: Way, want: Want) -> Result<Loca
     Ok(Local::of_both(left, right))
 }
 
-/// A side of which no list is wanted. It takes no memory.
+/// A side of which no list is wanted.
 pub fn no_side() -> Side
     ensures { (want : Dir) (back fwd : Lists) → IsTrue (is_nothing want) → result ≡ side_of want back fwd }
 {

@@ -6,7 +6,7 @@ use Rattle.smk_model.specs.{Values.Row, Composed.table_at, Locals.singles, NodeF
 use Rattle.smk_body.specs.Locals.{wanted}
 use Rattle.smk_compose.specs.{declared.kept_maps.KeptMap.KeptMap, KeptMaps.NeedFits, Through.{chained, Chains, is_heavy, map_at, no_need}}
 
--- the lists of both, the second behind the first, where there are two
+-- the lists of both, one after the other, if there are two
 abbrev pub followed_maps : Option Lists → Option Lists → Option Lists
 followed_maps (Some a) (Some b) = Some (followed a b)
 followed_maps _ _ = None
@@ -15,7 +15,7 @@ followed_maps _ _ = None
 abbrev pub class_lists : ClassesImage → Lists
 class_lists classes = singles classes.of (length classes.firsts)
 
--- lists as they are, and where they are those of groups, by the classes of these
+-- lists as they are; those of groups by the classes of these
 abbrev pub by_classes : Option ClassesImage → Needed → Option Lists → Option Lists → KeptMap
 by_classes None need back fwd = record { table = need.table; back = back; fwd = fwd }
 by_classes (Some classes) need back fwd = record {
@@ -49,7 +49,7 @@ pub record AreSmall (a b : Lists) : Type 0 where
   pub bound : a.bound + b.bound < 4294967296
   pub few : pairs_of a.lists + pairs_of b.lists ≤ pair_limit
 
--- what `followed_maps` asks
+-- what `followed_maps` requires
 abbrev pub Follows : Option Lists → Option Lists → Type 0
 Follows (Some a) (Some b) = AreSmall a b
 Follows _ _ = Unit {0}
@@ -68,13 +68,13 @@ abbrev pub AreRegrouped : Option ClassesImage → Needed → Option Lists → Op
 AreRegrouped None need back fwd = Unit {0}
 AreRegrouped (Some classes) need back fwd = IsRegrouped classes need back fwd
 
--- what `both_maps` asks
+-- what `both_maps` requires
 pub record MapsFit (groups : Option ClassesImage) (need : Needed) (old new : KeptMap) : Type 0 where
   pub back : Follows old.back new.back
   pub fwd : Follows old.fwd new.fwd
   pub regrouped : AreRegrouped groups need (followed_maps old.back new.back) (followed_maps old.fwd new.fwd)
 
--- the needed tables are among so many, each has a map of the old rows and one of the new rows, and those of the table that is scanned fit
+-- the needed tables are among so many; each has a map of the old rows and one of the new rows, and those of the scanned table fit
 pub record AreMaps (groups : Option ClassesImage) (scanned count : ℕ) (need : List Needed) (old new : List KeptMap) : Type 0 where
   pub known : NeedFits count need
   pub old_long : length old ≡ length need

@@ -10,7 +10,7 @@ pub(crate) struct LastGrouping<'a> {
     pub aggs: &'a Aggs,
 }
 
-/// The grouping in which a plan ends. It takes no memory.
+/// The grouping in which a plan ends.
 pub(crate) fn grouping_of(plan: &Plan) -> Option<LastGrouping<'_>>
     ensures { EndsIn (expr_of plan.now) result }
 {

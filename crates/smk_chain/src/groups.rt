@@ -1,4 +1,4 @@
-//! The groups of two parts after each other, put together: each key once, by first occurrence, with its aggregates over both.
+//! The groups of two parts, put together: each key once, by first occurrence, with its aggregates over both.
 
 ghost use Rattle.std.specs.Prelude.{◌≡◌, ◌+◌, ◌<◌, ◌≤◌, All, IfOk, length};
 ghost use Rattle.smk_base.specs.{Rels.RowFits, declared.rel.TheConstants.COLUMN_LIMIT};

@@ -13,7 +13,7 @@ use smk_marks::scanned_table;
 use smk_table::Table;
 use std::alloc::{AllocError, Global};
 
-/// What a growing chain gives of its longer table, from what it gave of the old rows and what it gives of the new rows alone: its rows, and the needed lineage. The tables have the new rows already, behind the first `len` rows of the chain's table. After want of memory both parts are as they were.
+/// What a growing chain gives over its longer table, from what it gave for the old rows and what it gives for the new rows alone: its rows, and the needed lineage. The tables have the new rows already, after the first `len` rows of the chain's table. After an error both parts are as they were.
 ///
 /// A row of a last grouping keeps its place and has its aggregates over all rows; groups of new keys come last. Lists have the new rids at their ends.
 pub fn grown(
@@ -48,7 +48,7 @@ pub fn grown(
     }
 }
 
-// A chain without a grouping: the new rows stand behind the old ones.
+// A chain without a grouping: the new rows come after the old ones.
 fn grown_chain(
     alloc: Global,
     traced: &ChainTables<'_>,
@@ -100,7 +100,7 @@ fn grown_groups(
     )
 }
 
-// The rows of both, the new ones behind the old ones.
+// The rows of both, the new ones after the old ones.
 fn rows_of_both(alloc: Global, old: &Rel, new: &Rel) -> Result<Rel, AllocError>
     requires kinds { new.now.kinds ≡ old.now.kinds }
     requires few { length old.now.rows + length new.now.rows ≤ ROW_LIMIT }

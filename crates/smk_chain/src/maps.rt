@@ -72,7 +72,7 @@ fn map_of_both(
     }
 }
 
-// The same map, narrowed.
+// A map with its lists narrowed.
 fn narrowed(alloc: Global, map: KeptMap) -> Result<KeptMap, AllocError>
     ensures { IfOk result (λ made. made ≡ map) }
 {
@@ -124,7 +124,7 @@ fn scanned_map(
     }
 }
 
-// The lists of both, the second behind the first, where there are two.
+// The lists of both, one after the other, if there are two.
 fn lists_of_both(
     alloc: Global,
     old: &Option<RidMap>,

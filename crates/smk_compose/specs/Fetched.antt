@@ -1,4 +1,4 @@
--- The Rel of a leaf.
+-- The rows and kinds of a leaf.
 use Rattle.std.specs.Prelude.{ℕ, List, [], slice_index_or}
 use Rattle.smk_base.specs.{Rels.Relation, declared.list.table_rids.Pick.Pick}
 use Rattle.smk_model.specs.Selection.{picked, kept_rows}

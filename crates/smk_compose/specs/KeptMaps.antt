@@ -13,7 +13,7 @@ NeedFits n need = All (λ needed. needed.table < n) need
 abbrev pub kept_at : Expr → List (List Row) → Needed → KeptMap
 kept_at plan tables need = record { table = need.table; back = wanted need.dir.back (backs plan tables need.table); fwd = wanted need.dir.fwd (forwards plan tables need.table) }
 
--- the same, where the plan scans the table
+-- these lists, but none if the plan doesn't scan the table
 abbrev pub held_at : Expr → List (List Row) → Needed → KeptMap
 held_at plan tables need = record {
   table = need.table;

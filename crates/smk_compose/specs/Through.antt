@@ -15,7 +15,7 @@ map_at maps i = slice_index_or maps i no_map
 abbrev pub no_need : Needed
 no_need = record { table = 0; dir = record { back = false; fwd = false } }
 
--- two maps composed, where there are two
+-- two maps composed, if there are two
 abbrev pub chained : Option Lists → Option Lists → Option Lists
 chained (Some a) (Some b) = Some (composed a b)
 chained _ _ = None
@@ -26,14 +26,14 @@ merged_if_both (Some a) (Some b) = Some (merged a b)
 merged_if_both (Some a) None = Some a
 merged_if_both None b = b
 
--- the map that two maps composed are
+-- the composition of two maps, by how it was made
 abbrev pub chain_of : Composed → Option Lists → Option Lists → Option Lists
 chain_of chains.Nothing first second = None
 chain_of chains.First first second = first
 chain_of chains.Second first second = second
 chain_of (chains.Made m) first second = Some m
 
--- what `chained` and `merged_if_both` ask of their maps
+-- what `chained` and `merged_if_both` require of their maps
 abbrev pub Chains : Option Lists → Option Lists → Type 0
 Chains (Some a) (Some b) = a.bound ≡ length b.lists
 Chains _ _ = Unit {0}
@@ -54,7 +54,7 @@ has_heavy k = is_heavy k.back || is_heavy k.fwd
 abbrev pub through : Side → KeptMap → KeptMap
 through side k = record { table = k.table; back = chained side.back k.back; fwd = chained k.fwd side.fwd }
 
--- the maps of one table by both inputs
+-- the maps of one table, from both inputs
 abbrev pub merged_maps : KeptMap → KeptMap → KeptMap
 merged_maps l r = record { table = l.table; back = merged_if_both l.back r.back; fwd = merged_if_both l.fwd r.fwd }
 
@@ -84,12 +84,12 @@ side_or_none None = record { back = None; fwd = None }
 abbrev pub right_of : Local → Side
 right_of local = side_or_none local.right
 
--- what `through` asks
+-- what `through` requires
 pub record Passes (side : Side) (k : KeptMap) : Type 0 where
   pub back : Chains side.back k.back
   pub fwd : Chains k.fwd side.fwd
 
--- what `merged_maps` and `together` ask
+-- what `merged_maps` and `together` require
 pub record Matches (l r : KeptMap) : Type 0 where
   pub back : CanMerge l.back r.back
   pub fwd : CanMerge l.fwd r.fwd
@@ -109,12 +109,12 @@ has_fwd k = is_some k.fwd
 abbrev pub want_of : List KeptMap → Dir
 want_of maps = record { back = list_any has_back maps; fwd = list_any has_fwd maps }
 
--- the lists of a step that later maps need stay as they were
+-- the lists of a step that later maps need are as they were
 pub record Serves (old new : Side) (later : List KeptMap) : Type 0 where
   pub back : list_any has_back later ≡ true → new.back ≡ old.back
   pub fwd : list_any has_fwd later ≡ true → new.fwd ≡ old.fwd
 
--- from the i-th on the maps are still those of an input, and the lists of the step that they need are there
+-- from the i-th on, the maps are still those of an input, and the lists of the step that they need are there
 pub record IsAhead (first : Side) (below : List KeptMap) (side : Side) (maps : List KeptMap) (i : ℕ) : Type 0 where
   pub long : length maps ≡ length below
   pub rest : drop i maps ≡ drop i below

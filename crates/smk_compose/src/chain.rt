@@ -52,7 +52,7 @@ fn chain_maps(alloc: Global, a: &RidMap, b: &RidMap) -> Result<Composed, RidFaul
     }
 }
 
-/// Takes the backward map of a table through a step. The step's list is handed on where that is the map, unless it serves a later table too.
+/// Takes the backward map of a table through a step. The step's list is handed on if it is the map, unless it serves a later table too.
 pub(crate) fn pass_back(
     alloc: Global,
     step: &mut Option<RidMap>,
@@ -144,7 +144,7 @@ fn lent(
     }
 }
 
-/// Makes the map by the left input the one by both: the two merged, or the one that there is.
+/// Makes the map from the left input that from both: the two merged, or the one that there is.
 pub(crate) fn merge_if_both(
     alloc: Global,
     left: &mut Option<RidMap>,

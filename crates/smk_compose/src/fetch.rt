@@ -11,7 +11,7 @@ use smk_table::{Chosen, Table};
 use std::alloc::{AllocError, Global};
 use std::sync::ledger::Ledger;
 
-/// The rows of a plan's leaves, one Rel per leaf, left to right: the picked rows of a table that is picked, by ascending rid, else the whole table. Each row is one look, also where it wants memory.
+/// The rows of a plan's leaves, one Rel per leaf, left to right: the picked rows of a table that is picked, by ascending rid, else the whole table. Each row is one look, even if memory runs out.
 #[tactic(auto, using(crate::proofs::Lists::over_rows, crate::proofs::Lists::over_kinds, crate::proofs::Lists::over_long))]
 pub fn fetch_leaves<L: Ledger>(
     alloc: Global,
@@ -33,7 +33,7 @@ pub fn fetch_leaves<L: Ledger>(
 }
 
 #[tactic(auto, using(crate::proofs::Lists::map_two, crate::proofs::Lists::rows_two))]
-// Puts the leaves of a plan behind those that are there.
+// Puts the leaves of a plan after those that are there.
 fn fetch_node<L: Ledger>(
     alloc: Global,
     plan: &Plan,

@@ -63,7 +63,7 @@ fn fill_map(
     narrow(alloc, map)
 }
 
-/// The same lists, narrowed, where there are lists. After an error the map is of no use.
+/// Narrows the lists, if there are any. After an error the map is of no use.
 pub fn narrow(alloc: Global, map: &mut Option<RidMap>) -> Result<(), AllocError>
     ensures { OnOk result (map.new ≡ map.old) }
 {

@@ -43,7 +43,7 @@ impl Leaves {
         Ok(leaves)
     }
 
-    /// Puts the Rel of one more leaf last. On an error the Rel is dropped.
+    /// Appends the Rel of one more leaf. On an error the Rel is dropped.
     pub fn push(&mut self, rel: Rel) -> Result<(), AllocError>
         ensures pushed { OnOk result (self.new ≡ self.old ++ rel ∷ []) }
         ensures kept { OnErr result (self.new ≡ self.old) }
@@ -51,7 +51,7 @@ impl Leaves {
         self.push_chosen(Chosen::of_rel(rel))
     }
 
-    /// Puts the chosen rows of one more leaf last. On an error they are dropped.
+    /// Appends the chosen rows of one more leaf. On an error they are dropped.
     pub(crate) fn push_chosen(&mut self, leaf: Chosen) -> Result<(), AllocError>
         ensures pushed { OnOk result (self.new ≡ self.old ++ leaf ∷ []) }
         ensures kept { OnErr result (self.new ≡ self.old) }
@@ -60,7 +60,7 @@ impl Leaves {
         Ok(())
     }
 
-    /// Takes the first one out. It takes no memory.
+    /// Takes the first one out.
     pub(crate) fn take_first(&mut self) -> Chosen
         requires { 0 < length self.old }
         ensures { self.old ≡ result ∷ self.new }
@@ -71,7 +71,7 @@ impl Leaves {
         }
     }
 
-    /// The number of columns of the k-th one. It takes no memory.
+    /// The number of columns of the k-th one.
     pub(crate) fn width_at(&self, k: usize) -> u32
         requires { k < length self.now }
         ensures is { (table : ℕ) → IsWidth (Leaf table) (drop k (each_kinds self.now)) (drop k (each_rows self.now)) result }

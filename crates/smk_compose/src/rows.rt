@@ -8,7 +8,7 @@ use smk_table::{Chosen, Table};
 use std::alloc::{AllocError, Global};
 use std::sync::ledger::Ledger;
 
-/// The rows of a table at these rids, one look each, also where it wants memory.
+/// The rows of a table at these rids, one look each, even if memory runs out.
 pub fn fetch_rids<L: Ledger>(
     alloc: Global,
     table: &Table,
@@ -24,7 +24,7 @@ pub fn fetch_rids<L: Ledger>(
     table.gather(alloc, rids, steps)
 }
 
-/// The same rows, to be gathered later, one look each at once, also where it wants memory.
+/// These rows, to be gathered later; each is one look at once, even if memory runs out.
 pub(crate) fn choose_rids<L: Ledger>(
     alloc: Global,
     table: &Table,

@@ -21,7 +21,7 @@ use std::thread::Threads;
 
 /// A plan over whole tables: its rows, and exactly the needed lineage, in the order of need. A needed table that the plan doesn't scan has empty lists.
 ///
-/// It is refused exactly where some node has too many rows, or too many pairs with a needed table, at the first such node in post-order, and there at its rows and then at the first such table. Each row of a leaf is at most one look, also where it is refused.
+/// It is refused exactly if some node has too many rows, or too many pairs with a needed table, at the first such node in post-order, and there at its rows and then at the first such table. Each row of a leaf is at most one look, even if it is refused.
 #[tactic(auto, using(crate::proofs::Walks::over_whole))]
 pub fn run_plan<R: Threads + Sync, B: OpBody + Sync, L: Ledger>(
     rt: &R,

@@ -14,7 +14,7 @@ use smk_table::{Chosen, Table, narrow_one, narrow_two};
 use std::alloc::{AllocError, Global};
 use std::thread::Threads;
 
-/// The tables that a plan is over, and what lineage to them is needed.
+/// The tables of a plan, and what lineage to them is needed.
 #[derive(Clone, Copy)]
 pub(crate) struct Traced<'a> {
     pub(crate) tables: &'a [Table],
@@ -47,7 +47,7 @@ pub(crate) fn walk_all<R: Threads + Sync, B: OpBody + Sync>(
     walk(work, plan, cols.as_slice(), traced, &mut rest, &mut number)
 }
 
-// These columns of a plan over the first of these leaves, which it takes out, with the needed lineage to the tables that it scans. Of each leaf no columns are gathered but those that the plan reads for them. The nodes are numbered from `number` on, which then is the number behind them.
+// These columns of a plan over the first of these leaves, which it takes out, with the needed lineage to the tables that it scans. Of each leaf no columns are gathered but those that the plan reads for them. The nodes are numbered from `number` on, which then is the number after them.
 fn walk<R: Threads + Sync, B: OpBody + Sync>(
     work: &Work<'_, R, B>,
     plan: &Plan,
@@ -99,7 +99,7 @@ fn walk<R: Threads + Sync, B: OpBody + Sync>(
     }
 }
 
-// The number of columns of a plan over the leaves from the k-th on, and the number of the leaf behind these. It takes no memory.
+// The number of columns of a plan over the leaves from the k-th on, and the number of the leaf after these.
 fn plan_width(plan: &Plan, leaves: &Leaves, k: usize) -> (u32, usize)
     requires enough { k + width (expr_of plan.now) ≤ length leaves.now }
     requires fits { PlanFits (expr_of plan.now) (drop k (each_kinds leaves.now)) }

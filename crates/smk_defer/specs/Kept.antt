@@ -11,13 +11,13 @@ keys1 (Distinction items) L = firsts (map (image items) L)
 keys1 (Grouping keys aggs) L = firsts (map (key_of keys) L)
 keys1 _ L = []
 
--- the same of a step with two inputs: of an equijoin the right rows' values in its pairs, of a set union its rows
+-- the distinct keys of a step with two inputs: for an equijoin the right rows' values in its pairs, for a set union its rows
 abbrev pub keys2 : Binary → List Row → List Row → List Row
 keys2 (Equijoin pairs) L R = firsts (map (key_of (right_columns_of pairs)) R)
 keys2 SetUnion L R = firsts (L ++ R)
 keys2 _ L R = []
 
--- whether a step fits the kinds of its inputs, of which the right one is there exactly where it has two
+-- whether a step fits the kinds of its inputs; the right one is there exactly if the step has two
 abbrev pub StepFits : KeptOp → Relation → Option Relation → Type 0
 StepFits (One op) left None = Fits1 (unary_of op) left.kinds
 StepFits (Two op) left (Some right) = Fits2 (binary_of op) left.kinds right.kinds

@@ -12,7 +12,7 @@ use smk_body::right_columns;
 use smk_keys::{Classes, KeyTable};
 use std::alloc::{AllocError, Global};
 
-/// The keys of a step with one input: those of a grouping stand first in its rows.
+/// The keys of a step with one input: those of a grouping are the first columns of its rows.
 #[tactic(auto, using(crate::proofs::Keyed::firsts_twice, crate::proofs::Keyed::group_first, crate::proofs::Keyed::keys_within))]
 pub(crate) fn distinct1(
     alloc: Global,

@@ -33,7 +33,7 @@ pub(crate) fn row_keys(alloc: Global, rel: &Rel) -> Result<KeyTable, AllocError>
     first_keys(alloc, rel, rel.width())
 }
 
-/// The same of so many columns of the rows, the first ones.
+/// The first `count` columns of the rows as keys, each at its first occurrence.
 pub(crate) fn first_keys(alloc: Global, rel: &Rel, count: u32) -> Result<KeyTable, AllocError>
     requires { count ≤ length rel.now.kinds }
     ensures { IfOk result (λ made. made ≡ firsts (map (picked (upto count)) rel.now.rows)) }
@@ -95,7 +95,7 @@ pub(crate) fn key_way(
     Ok(Way::targets(places, keys.len(), None))
 }
 
-/// The same, where the rows are the keys.
+/// This way, if the rows are the keys.
 pub(crate) fn row_way(alloc: Global, rel: &Rel, keys: &KeyTable) -> Result<Way, AllocError>
     requires { All (λ p. p < length keys.now) (places_in keys.now rel.now.rows) }
     ensures { IfOk result (λ it. it ≡ Targets (places_in keys.now rel.now.rows) (length keys.now)) }

@@ -5,7 +5,7 @@ use itoa::Buffer;
 use smk_base::{Size, Sizes};
 use std::alloc::{AllocError, Global};
 
-// Writes words and a number behind a text. After an error the text is of no use.
+// Writes words and a number at the end of a text. After an error the text is of no use.
 fn add_count(text: &mut Vec<u8>, words: &[u8], number: u64) -> Result<(), AllocError>
     ensures { OnOk result (text.new.items ≡ text.old.items ++ words.now ++ decimal number) }
 {
@@ -15,7 +15,7 @@ fn add_count(text: &mut Vec<u8>, words: &[u8], number: u64) -> Result<(), AllocE
     Ok(())
 }
 
-// Writes the line of a view behind a text. After an error the text is of no use.
+// Writes the line of a view at the end of a text. After an error the text is of no use.
 fn add_size(text: &mut Vec<u8>, view: &Size) -> Result<(), AllocError>
     ensures { OnOk result (text.new.items ≡ text.old.items ++ size_line view.now) }
 {
@@ -26,7 +26,7 @@ fn add_size(text: &mut Vec<u8>, view: &Size) -> Result<(), AllocError>
     Ok(())
 }
 
-/// The summary of the report of a demo: the number of the demo, the views with the numbers of their rows, how many lines have a reply and how many of these are refused, and how many bytes the report has.
+/// The summary of the report of a demo: the number of flights, the views with the numbers of their rows, how many lines have a reply and how many of these are refused, and how many bytes the report has.
 pub fn summary_text(
     alloc: Global,
     n: u32,

@@ -37,7 +37,7 @@ fn delay(i: u32) -> i32
 }
 
 #[tactic(auto, using(crate::proofs::Records::flight_parts))]
-// Writes the record of flight i behind a text. After an error the text is of no use.
+// Writes the record of flight i at the end of a text. After an error the text is of no use.
 fn add_flight(text: &mut Vec<u8>, i: u32) -> Result<(), AllocError>
     requires { i < 200000 }
     ensures { OnOk result (text.new.items ≡ text.old.items ++ record_line (definitions.flight i)) }
@@ -68,7 +68,7 @@ pub fn flights(alloc: Global, n: u32) -> Result<Text, AllocError>
 }
 
 #[tactic(auto, using(crate::proofs::Records::airport_parts))]
-// Writes the record of airport i behind a text. After an error the text is of no use.
+// Writes the record of airport i at the end of a text. After an error the text is of no use.
 fn add_airport(text: &mut Vec<u8>, i: u32) -> Result<(), AllocError>
     requires { i < 40 }
     ensures { OnOk result (text.new.items ≡ text.old.items ++ record_line (definitions.airport i)) }

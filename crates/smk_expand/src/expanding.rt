@@ -41,7 +41,7 @@ fn most(alloc: Global, at: u64) -> Result<Word, AllocError>
     Ok(Word { name, at })
 }
 
-// Puts an aggregate last.
+// Appends an aggregate.
 fn put_agg(aggs: &mut AggTrees, name: Word, what: AggWhat) -> Result<(), AllocError>
     ensures { OnOk result (aggs.new ≡ aggs.old ++ record { name = name; what = what } ∷ []) }
 {
@@ -126,7 +126,7 @@ fn back(alloc: Global, at: u64, view: &Word, table: &Word) -> Result<Stmt, Alloc
     })
 }
 
-// Puts last what stands in the place of a dependency, and its name.
+// Appends what replaces a dependency, and its name.
 fn put_dependency(
     alloc: Global,
     made: &mut Expanded,
@@ -147,7 +147,7 @@ fn put_dependency(
     Ok(())
 }
 
-// Puts last what stands in the place of a statement, and its name where it is a dependency.
+// Appends what replaces a statement, and its name if it is a dependency.
 fn put_in_place(alloc: Global, made: &mut Expanded, stmt: Stmt) -> Result<(), AllocError>
     ensures stmts { OnOk result (map stmt_image made.new.book.stmts ≡ map stmt_image made.old.book.stmts ++ books.in_its_place (stmt_image stmt)) }
     ensures fds { OnOk result (made.new.fds ≡ made.old.fds ++ books.dependency_name (stmt_image stmt)) }
@@ -167,7 +167,7 @@ fn put_in_place(alloc: Global, made: &mut Expanded, stmt: Stmt) -> Result<(), Al
     }
 }
 
-// Puts last what stands in the places of statements, and the names of the dependencies.
+// Appends what replaces statements, and the names of the dependencies.
 fn put_each(alloc: Global, made: &mut Expanded, stmts: Vec<Stmt>) -> Result<(), AllocError>
     requires none { map stmt_image made.old.book.stmts ≡ [] }
     requires no_name { made.old.fds ≡ [] }
@@ -180,7 +180,7 @@ fn put_each(alloc: Global, made: &mut Expanded, stmts: Vec<Stmt>) -> Result<(), 
     Ok(())
 }
 
-/// The book with each dependency replaced, in its place, by the view of its violations, `scan T | group keys {least = min c, most = max c} | where least != most`, and a plain `lineage back` of this to the table. The words of the statement keep their places, and those that it doesn't have are at the place of `fd`.
+/// The book with each dependency replaced, in its place, by the view of its violations, `scan T | group keys {least = min c, most = max c} | where least != most`, and a plain `lineage back` from this view to the table. The words of the statement keep their places, and those that it doesn't have are at the place of `fd`.
 pub fn expand(alloc: Global, book: Book) -> Result<Expanded, AllocError>
     ensures book { IfOk result (λ made. book_image made.book ≡ books.expanded (book_image book)) }
     ensures fds { IfOk result (λ made. made.fds ≡ books.dependency_names (book_image book)) }

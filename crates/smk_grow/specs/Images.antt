@@ -5,21 +5,21 @@ use Rattle.smk_model.specs.{Appends.{is_too_long, longer_fault, refusal_of}, Ope
 use Rattle.smk_session.specs.{Extras.{splits_of, all_cubes}, Opened.{opened_views, workbook_image}, Sessions.{SessionImage, state_of, workbook_of}}
 use Rattle.smk_grow.specs.{Grown.{longer_tables, first_tables}, Renewed.kept_views}
 
--- with more rows behind those of a table: the views that scan it are still those before, the others over the longer table
+-- with more rows at the end of a table: the views that scan it are still those before, the others are over the longer table
 abbrev pub lengthened : ℕ → List Row → SessionImage → SessionImage
 lengthened t more session = record session {
   tables = longer_tables session.tables t more;
   views = kept_views t (workbook_of session) (workbook_image session.catalog (longer_tables session.tables t more));
 }
 
--- with only the first rows of a table, and all views over these
+-- with only the first rows of a table, and all views over them
 abbrev pub shortened : ℕ → ℕ → SessionImage → SessionImage
 shortened t len session = record session {
   tables = first_tables session.tables t len;
   views = opened_views (workbook_image session.catalog (first_tables session.tables t len));
 }
 
--- with everything made of its tables, and no brush in force
+-- with everything made anew from its tables, and no brush
 abbrev pub renewed : SessionImage → SessionImage
 renewed session = record session {
   views = opened_views (workbook_of session);
@@ -29,17 +29,17 @@ renewed session = record session {
   contents = map (λ (w : ℕ). None) (upto (length session.contents));
 }
 
--- the answer, unless a view has a node that is too big
+-- the answer, or the refusal if a view has a node that is too big
 abbrev pub told_unless : Option ViewFault → ℕ → List ℕ → AppendReply
 told_unless (Some found) rows views = Refused (refusal_of found)
 told_unless None rows views = Added rows views
 
--- a session whose table is longer already: as it was before, where a view has such a node, and else made anew
+-- a session whose table is longer already: as it was before if a view has such a node, else made anew
 abbrev pub renewed_unless : Option ViewFault → ℕ → ℕ → SessionImage → SessionImage
 renewed_unless (Some found) t len session = shortened t len session
 renewed_unless None t len session = renewed session
 
--- the same of a session whose table gets more rows
+-- a session whose table gets more rows: it stays if a view has such a node, else it is made anew
 abbrev pub grown_unless : Option ViewFault → ℕ → List Row → SessionImage → SessionImage
 grown_unless (Some found) t more session = session
 grown_unless None t more session = renewed (lengthened t more session)

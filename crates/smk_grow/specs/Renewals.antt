@@ -1,4 +1,4 @@
--- What the calls say that make views, splits and groupings over a longer table.
+-- What is so of the calls that make views, splits and groupings over a longer table.
 use Rattle.std.specs.{Prelude.{◌≡◌, ◌<◌, ◌≤◌, ℕ, List, length, map}, List.filter_map}
 use Rattle.smk_base.specs.Places.{upto}
 use Rattle.smk_model.specs.{Appends.scanning, Catalogs.each_table_kinds, Selection.{each_kinds, row_limit}, Session.Workbook, Values.Row}
@@ -12,7 +12,7 @@ pub record IsRenewal (renewal : Renewal) : Type 0 where
   pub within : renewal.len ≤ length (rows_of renewal.tables.now renewal.table)
   pub few : length (rows_of renewal.tables.now renewal.table) ≤ row_limit
 
--- the book over the tables, over those with only the old rows of the one, and over those with only the rows behind them
+-- the book over the tables, over those with only the old rows of the one, and over those with only its new rows
 abbrev pub book_of : Renewal → Workbook
 book_of renewal = workbook_image renewal.book.now renewal.tables.now
 
@@ -22,21 +22,21 @@ first_book renewal = workbook_image renewal.book.now (first_tables renewal.table
 abbrev pub last_book : Renewal → Workbook
 last_book renewal = workbook_image renewal.book.now (last_tables renewal.tables.now renewal.table renewal.len)
 
--- what takes the place of what is kept over the tables without the new rows, and the views that scan the table
+-- what replaces what is kept over the tables without the new rows, and the views that scan the table
 pub record IsFresh (t : ℕ) (book : Workbook) (fresh : Fresh) : Type 0 where
   pub views : fresh.views.items ≡ map (fresh_view t book) (upto (length book.catalog.views))
   pub splits : fresh.extras.splits.items ≡ filter_map (fresh_split t book) book.catalog.backs
   pub cubes : fresh.extras.cubes.items ≡ filter_map (fresh_cubes t book) book.catalog.backs
   pub scanning : fresh.scanning ≡ scanning book.catalog t
 
--- a session before and after rows are put behind the so many of a table, of which nothing is made anew yet
+-- a session before and after rows are added to a table with so many; nothing is made anew yet
 pub record IsLengthened (session parts : SessionImage) (t len : ℕ) (more : List Row) : Type 0 where
   pub keeps : IsSession session
   pub same : parts ≡ lengthened t more session
   pub long : len ≡ length (rows_of session.tables t)
   pub low : t < length session.tables
 
--- a session whose table is longer already: but for the views that don't scan it, what it keeps is still that of the table with only so many rows
+-- a session whose table is longer already: except for the views that don't scan it, it still keeps what it kept for the table with only so many rows
 pub record IsGrown (session : SessionImage) (t len : ℕ) : Type 0 where
   pub views_are : session.views ≡ kept_views t (workbook_image session.catalog (first_tables session.tables t len)) (workbook_of session)
   pub extras : AreExtras session.catalog (first_tables session.tables t len) session.splits session.cubes

@@ -17,7 +17,7 @@ use std::mem::swap;
 use std::sync::ledger::Ledger;
 use std::thread::Threads;
 
-// What is wanting where a view that is never too big isn't made.
+// The error of a view that is never too big and still isn't made.
 fn wanting(fault: StartFault) -> AllocError
     requires { fault ≡ faults.NoMemory }
 {
@@ -27,7 +27,7 @@ fn wanting(fault: StartFault) -> AllocError
     }
 }
 
-// A view over tables, if it is a growing chain on one of them. Such a chain is never too big, so that only memory can be wanting.
+// A view over tables, if it is a growing chain on one of them. Such a chain is never too big, so that only memory can run out.
 fn view_apart<R: Threads + Sync, G: Gate + Sync, L: Ledger>(
     work: &Work<'_, R, Workers<'_, G>>,
     renewal: &Renewal<'_>,
@@ -67,7 +67,7 @@ fn each_apart<R: Threads + Sync, G: Gate + Sync, L: Ledger>(
     Ok(views)
 }
 
-// The views of a session that are growing chains on a table, over tables in which only new rows stand for it. The session and the new rows are as before.
+// The views of a session that are growing chains on a table, over tables with only the new rows in its place. The session and the new rows are as before.
 pub(crate) fn open_apart<R: Threads + Sync, G: Gate + Sync, L: Ledger>(
     work: &Work<'_, R, Workers<'_, G>>,
     parts: &mut Parts,

@@ -40,7 +40,7 @@ fn append_at<R: Threads + Sync, G: Gate + Sync, L: Ledger>(
     (Session::from_parts(parts), told)
 }
 
-// The same by the table's name, with the text of what is added where `said` is that name.
+// What is appended to a table by its name, with the text of what is added if `said` is that name.
 fn append_by_name<R: Threads + Sync, G: Gate + Sync, L: Ledger>(
     work: &Work<'_, R, Workers<'_, G>>,
     session: Session,
@@ -70,9 +70,9 @@ fn append_by_name<R: Threads + Sync, G: Gate + Sync, L: Ledger>(
     }
 }
 
-/// The answer to a line that appends these rows to the table of this name, and the session after it: that of a start over the longer table, in which no brush is in force. After a refusal and after an error the session is as it was, brushes included, and the rows are dropped.
+/// The answer to a line that appends these rows to the table with this name, and the session after it: that of a start over the longer table, with no brush in force. After a refusal and after an error the session is as it was, brushes included, and the rows are dropped.
 ///
-/// A view that is a growing chain on the table is looked at by its new rows alone; every other view that scans the table is made anew, by all rows of its leaves, and so are the declared splits and groupings of such views and those to the table, by all rows of their table.
+/// A view that is a growing chain on the table looks only at its new rows; every other view that scans the table is evaluated again, over all rows of its leaves, and so are the declared splits and groupings of such views and those to the table, over all rows of their table.
 pub fn append<R: Threads + Sync, G: Gate + Sync, L: Ledger>(
     rt: &R,
     alloc: Global,
@@ -124,7 +124,7 @@ fn whole_text(
     }
 }
 
-/// What `append` gives, with the text of the answer, as `append_text` has it, which is made before the session changes. So after an error the session is as it was, also where memory is wanting for the text. With several workers the text of a view with many rows is written in pieces, in threads.
+/// What `append` gives, with the text of the answer, as `append_text` has it, which is made before the session changes. So after an error the session is as it was, even if memory runs out for the text. With several workers the text of a view with many rows is written in pieces, in threads.
 pub fn append_told<R: Threads + Sync, G: Gate + Sync, L: Ledger>(
     rt: &R,
     alloc: Global,

@@ -9,7 +9,7 @@ use smk_session::{Opened, view_of};
 use smk_typing::needed;
 use std::alloc::{AllocError, Global};
 
-// The view over the longer table, from what it was over the first rows and what it is over those behind them alone.
+// The view over the longer table, from what it was over the first rows and what it is over those after them alone.
 pub(crate) fn grown_view(
     alloc: Global,
     renewal: &Renewal<'_>,

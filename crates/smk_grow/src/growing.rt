@@ -1,4 +1,4 @@
-// Rows behind those of a table, and what is kept made anew.
+// Rows added to a table, and what depends on them made again.
 ghost use Rattle.std.specs.{Prelude.{◌≡◌, ◌<◌, ◌≤◌, ◌+◌, Some, length, map, option_map, IfOk, OnOk, OnErr}, List.sum_by};
 ghost use Rattle.smk_base.specs.{CatalogImage.catalog_image, Places.upto};
 ghost use Rattle.smk_model.specs.{Appends.{append_looks_at, looks_of_longer, longer_fault, scanning, turn_at}, Opening.{first_some, view_fault}};
@@ -21,7 +21,7 @@ use std::alloc::{AllocError, Global};
 use std::sync::ledger::Ledger;
 use std::thread::Threads;
 
-// Puts rows behind those of a table. After an error all tables are as they were.
+// Adds rows at the end of a table. After an error all tables are as they were.
 fn lengthen(alloc: Global, tables: &mut [Table], table: u32, more: Table) -> Result<(), AllocError>
     requires table { table < length tables.old }
     requires kinds { more.kinds ≡ (table_of tables.old table).kinds }
@@ -32,7 +32,7 @@ fn lengthen(alloc: Global, tables: &mut [Table], table: u32, more: Table) -> Res
     tables[table as usize].absorb(alloc, more)
 }
 
-// The same for a session, with the views moved that don't scan the table. Gives how many rows the table had.
+// Adds rows to a table of a session, and moves the views that don't scan it. Gives how many rows the table had.
 fn lengthen_parts(
     alloc: Global,
     parts: &mut Parts,
@@ -53,7 +53,7 @@ fn lengthen_parts(
     Ok(len)
 }
 
-// Leaves the first rows of a table. It takes no memory.
+// Leaves the first rows of a table.
 fn shorten(tables: &mut [Table], table: u32, len: u32)
     requires table { table < length tables.old }
     requires len { len ≤ length (rows_of tables.old table) }
@@ -62,7 +62,7 @@ fn shorten(tables: &mut [Table], table: u32, len: u32)
     tables[table as usize].cut(len);
 }
 
-// The same for a session, with the views moved back that don't scan the table.
+// Leaves the first rows of a session's table, and moves the views back that don't scan it.
 fn shorten_parts(alloc: Global, parts: &mut Parts, table: u32, len: u32)
     requires { IsGrown (parts_image parts.old) table len }
     ensures { parts_image parts.new ≡ shortened table len (parts_image parts.old) }
@@ -71,7 +71,7 @@ fn shorten_parts(alloc: Global, parts: &mut Parts, table: u32, len: u32)
     move_views(alloc, &parts.book, parts.views.as_mut_slice(), table, len);
 }
 
-// Puts what was made anew in the places of what was kept, and takes all brushes out of force. It takes no memory.
+// Replaces what was kept by what was made again, and ends all brushes.
 fn commit(parts: &mut Parts, table: u32, len: u32, fresh: Fresh) -> Rids
     requires grown { IsGrown (parts_image parts.old) table len }
     requires fresh { IsFresh table (workbook_of (parts_image parts.old)) fresh }
@@ -91,7 +91,7 @@ fn commit(parts: &mut Parts, table: u32, len: u32, fresh: Fresh) -> Rids
     scanning
 }
 
-// What a session keeps, made anew over a table that has been lengthened, with the text of what is added where the table's name is given. After a refusal and an error the table is cut to so many rows, and all views are those over these.
+// What a session keeps, made again over a table that has been lengthened, with the text of what is added if the table's name is given. After a refusal and an error the table is cut to so many rows, and all views are over these.
 fn renew_parts<R: Threads + Sync, G: Gate + Sync, L: Ledger>(
     work: &Work<'_, R, Workers<'_, G>>,
     parts: &mut Parts,

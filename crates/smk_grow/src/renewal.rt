@@ -13,7 +13,7 @@ pub(crate) struct Renewal<'a> {
     pub(crate) mode: Mode,
 }
 
-// Rows that stand behind those of a table: the table and how many rows it had, how many they are, and its name where the text of that is wanted.
+// Rows added to a table: the table and how many rows it had, how many they are, and its name if the text of that is wanted.
 #[derive(Drop)]
 pub(crate) struct Append<'a> {
     pub(crate) table: u32,

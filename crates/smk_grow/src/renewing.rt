@@ -26,7 +26,7 @@ pub(crate) struct Fresh {
     pub(crate) scanning: Rids,
 }
 
-// What takes the places of splits and groupings, once the views are made, with these.
+// What replaces splits and groupings, once the views are made, with these.
 fn with_extras<R: Threads + Sync, G: Gate + Sync, L: Ledger>(
     work: &Work<'_, R, Workers<'_, G>>,
     renewal: &Renewal<'_>,
@@ -56,7 +56,7 @@ fn with_extras<R: Threads + Sync, G: Gate + Sync, L: Ledger>(
     })
 }
 
-// All that takes the place of what was made over the tables without the new rows, or the first view that scans the table and is too big.
+// All that replaces what was made over the tables without the new rows, or the first view that scans the table and is too big.
 fn renew<R: Threads + Sync, G: Gate + Sync, L: Ledger>(
     work: &Work<'_, R, Workers<'_, G>>,
     renewal: &Renewal<'_>,
@@ -81,7 +81,7 @@ fn renew<R: Threads + Sync, G: Gate + Sync, L: Ledger>(
     }
 }
 
-// The text of what is added, where the table's name is given, by what takes the places of the views.
+// The text of what is added if the table's name is given, by what replaces the views.
 fn fresh_text<R: Threads + Sync, G: Gate + Sync>(
     work: &Work<'_, R, Workers<'_, G>>,
     renewal: &Renewal<'_>,
@@ -110,7 +110,7 @@ fn fresh_text<R: Threads + Sync, G: Gate + Sync>(
     }
 }
 
-// The same as `renew`, and the text of what is added, where the table's name is given.
+// What `renew` gives, and the text of what is added if the table's name is given.
 pub(crate) fn renew_told<R: Threads + Sync, G: Gate + Sync, L: Ledger>(
     work: &Work<'_, R, Workers<'_, G>>,
     renewal: &Renewal<'_>,

@@ -1,4 +1,4 @@
-// Puts what was made anew in the places of what was kept. None of it takes memory.
+// Replaces what was kept by what was made again. None of it takes memory.
 ghost use Rattle.std.specs.Prelude.{◌≡◌, ◌<◌, ◌≤◌, ℕ, [], length, map, None};
 ghost use Rattle.smk_base.specs.Places.{upto};
 ghost use Rattle.smk_grow.specs.Renewed.{put_at, replaced};

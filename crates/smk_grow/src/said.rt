@@ -10,7 +10,7 @@ use smk_report::{line_around, line_of, view_text};
 use smk_session::Session;
 use std::alloc::{AllocError, Global};
 
-// A text with that of a view behind it.
+// A text followed by that of a view.
 fn with_view(
     alloc: Global,
     front: Vec<u8>,
@@ -27,7 +27,7 @@ fn with_view(
     Ok(text)
 }
 
-// A text with those of some views behind it.
+// A text followed by those of some views.
 fn with_views(
     alloc: Global,
     front: Vec<u8>,
@@ -134,7 +134,7 @@ pub(crate) fn refused_text(
     }
 }
 
-/// The text of an answer to a line that appends to the table of this name: how many rows were appended, and the texts of the views that scan the table, as the session has them after it; or why it is refused.
+/// The text of an answer to a line that appends to the table with this name: how many rows were appended, and the texts of the views that scan the table, as the session has them after it; or why it is refused.
 pub fn append_text(
     alloc: Global,
     session: &Session,

@@ -13,7 +13,7 @@ use smk_session::{Opening, Workers, view_now, view_of};
 use std::alloc::AllocError;
 use std::thread::Threads;
 
-// A text with that of a view behind it, as the view is now.
+// A text followed by that of a view, as the view is now.
 fn with_view_now<R: Threads + Sync, G: Gate + Sync>(
     work: &Work<'_, R, Workers<'_, G>>,
     front: Vec<u8>,
@@ -33,7 +33,7 @@ fn with_view_now<R: Threads + Sync, G: Gate + Sync>(
     Ok(text)
 }
 
-// A text with those of some views behind it.
+// A text followed by those of some views.
 fn with_views_now<R: Threads + Sync, G: Gate + Sync>(
     work: &Work<'_, R, Workers<'_, G>>,
     front: Vec<u8>,

@@ -16,7 +16,7 @@ pub record BeginsWith (info : TableInfo) (added : List Relation) : Type 0 where
   pub is : added ≡ first ∷ rest
   pub kinds : first.kinds ≡ table_kinds info
 
--- what is left of the tables behind a line: all but the first, where the line takes that
+-- the tables that are left after a line: all but the first if the line takes it
 abbrev pub tables_left : Bool → List Relation → List Relation
 tables_left true added = drop 1 added
 tables_left false added = added

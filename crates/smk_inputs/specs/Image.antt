@@ -17,11 +17,11 @@ abbrev pub texts_image : RunTexts → calls.TextSource
 texts_image (Files book script) = calls.Files book script
 texts_image (Demo flights) = calls.Demo flights.count
 
--- what a run is called for
+-- what the words of a run ask for
 abbrev pub invocation_image : RunWords → Invocation
 invocation_image words = record { settings = settings_image words.settings; texts = texts_image words.texts }
 
--- what a conversation is called for
+-- what the words of a conversation ask for
 abbrev pub talk_image : TalkWords → TalkCall
 talk_image words = record { settings = settings_image words.settings; texts = texts_image words.texts; read_only = words.read_only; brief = words.brief }
 

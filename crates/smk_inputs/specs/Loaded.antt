@@ -6,7 +6,7 @@ use Rattle.smk_model.specs.{Reports.BookSaid, Readings.Reading, Session.Workbook
 use Rattle.smk_session.specs.Opened.{workbook_image}
 use Rattle.smk_inputs.specs.{declared.inputs.Inputs.Inputs, declared.collecting.Rest.Rest, declared.opening.OpenedBook.OpenedBook}
 
--- what a checked book says with the names of its dependencies, and so a book that was opened
+-- what a checked book says with the names of its dependencies, and what an opened book says
 abbrev pub said_of : Catalog → List (List ℕ) → BookSaid
 said_of book fds = record { catalog = catalog_image book; fds = fds }
 

@@ -46,7 +46,7 @@ fn bring_rows<R: Threads + Sync, F: Files, G: Gate + Sync>(
     }
 }
 
-/// The table that a line brings, if it brings one. Only where it appends to a table of the book a file is read.
+/// The table that a line brings, if it brings one. A file is read only if the line appends to a table of the book.
 pub fn bring<R: Threads + Sync, F: Files, G: Gate + Sync>(
     engine: &Engine<'_, R, G>,
     settings: Settings,
@@ -73,7 +73,7 @@ pub fn bring<R: Threads + Sync, F: Files, G: Gate + Sync>(
     }
 }
 
-// Puts the table that a line brings behind those of the lines before it.
+// Puts the table that a line brings after those of the lines before it.
 fn keep(added: &mut VecDeque<Table>, brought: Option<Table>) -> Result<(), Stop>
     ensures kept { OnOk result (added.new.items ≡ added.old.items ++ option_to_list brought) }
     ensures wants { IfErr result (λ stop. stop ≡ exhausted) }

@@ -15,20 +15,20 @@ pub struct Flights {
 /// Where the texts of a run come from.
 #[derive(Drop)]
 pub enum RunTexts {
-    /// The book's file, and the script's where there is one.
+    /// The book's file, and the script's if there is one.
     Files { book: Text, script: Option<Text> },
     /// The demo of so many flights.
     Demo(Flights),
 }
 
-/// What a run is called for: how it works, and where its texts come from.
+/// What the words of a run ask for: how it works, and where its texts come from.
 #[derive(Drop)]
 pub struct RunWords {
     pub settings: Settings,
     pub texts: RunTexts,
 }
 
-/// What a conversation is called for: how it works, where its texts come from, which is without a script, whether nothing may be appended, and whether the schema is said first in place of all views.
+/// What the words of a conversation ask for: how it works, where its texts come from (without a script), whether nothing may be appended, and whether the schema is said first in place of all views.
 #[derive(Drop)]
 pub struct TalkWords {
     pub settings: Settings,

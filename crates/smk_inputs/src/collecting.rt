@@ -60,7 +60,7 @@ fn read_rest<R: Threads + Sync, F: Files, G: Gate + Sync>(
     })
 }
 
-/// What is read of the book and the script of these names, or why that stops.
+/// What is read of the book and the script with these names, or why that stops.
 pub fn read_all<R: Threads + Sync, F: Files, G: Gate + Sync>(
     engine: &Engine<'_, R, G>,
     settings: Settings,

@@ -2,7 +2,7 @@ use smk_outside::Gate;
 use std::alloc::Global;
 use std::thread::Threads;
 
-/// What every call is given that reads tables, evaluates or answers: what starts threads, what they take memory of, and the gate that each piece of the work passes.
+/// What every call that reads tables, evaluates or answers is given: what starts threads, what they take memory from, and the gate that each piece of the work passes.
 #[derive(Drop)]
 pub struct Engine<'a, R: Threads + Sync, G: Gate + Sync> {
     pub rt: &'a R,

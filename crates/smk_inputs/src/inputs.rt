@@ -6,7 +6,7 @@ use smk_table::Table;
 use smk_typing::TypedBook;
 use std::collections::VecDeque;
 
-/// What a run reads: its book and the names of its dependencies, the book's tables, the bytes of its script, of which there are none where it has no script, and the tables of the files that the lines of the script append, line by line.
+/// What a run reads: its book and the names of its dependencies, the book's tables, the bytes of its script (none if it has no script), and the tables of the files that the lines of the script append, line by line.
 #[derive(Drop)]
 pub struct Inputs {
     pub book: TypedBook,

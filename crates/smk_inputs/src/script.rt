@@ -36,7 +36,7 @@ pub fn reading_of(alloc: Global, text: &[u8]) -> Result<Reading, AllocError>
     }
 }
 
-/// The bytes of a run's script, and none where the run has no script.
+/// The bytes of a run's script; none if the run has no script.
 pub fn open_script<F: Files>(
     alloc: Global,
     files: &mut F,

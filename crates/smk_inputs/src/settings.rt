@@ -3,7 +3,7 @@ ghost use Rattle.smk_base.specs.declared.workers.TheConstants.{WORKER_LIMIT};
 
 use smk_session::Mode;
 
-/// What options say of how a run works. What it writes doesn't depend on it.
+/// How a run works, by its options. What it writes doesn't depend on it.
 #[derive(Clone, Copy)]
 pub struct Settings {
     pub mode: Mode,

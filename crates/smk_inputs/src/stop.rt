@@ -11,7 +11,7 @@ pub enum Stop {
     At(Fault),
     /// `out` failed.
     Unwritten,
-    /// Memory was wanting.
+    /// Memory ran out.
     Exhausted,
 }
 

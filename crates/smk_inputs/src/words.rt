@@ -230,7 +230,7 @@ fn called_for(alloc: Global, matches: &ArgMatches<'_>) -> Result<Option<RunWords
     }
 }
 
-/// What the words of a run call it for, or none where they are not those of a run.
+/// What the words of a run ask for; None if they aren't those of a run.
 pub fn read_words(alloc: Global, words: &[&str]) -> Result<Option<RunWords>, AllocError>
     ensures { IfOk result (λ found. option_map invocation_image found ≡ calls.invocation_of (map (λ w. w.now) words.entry.now)) }
 {
@@ -265,7 +265,7 @@ fn called_to_talk(alloc: Global, matches: &ArgMatches<'_>) -> Result<Option<Talk
     }
 }
 
-/// What the words of a conversation call it for, or none where they are not those of one.
+/// What the words of a conversation ask for; None if they aren't those of one.
 pub fn read_talk_words(alloc: Global, words: &[&str]) -> Result<Option<TalkWords>, AllocError>
     ensures { IfOk result (λ found. option_map talk_image found ≡ talks.talk_call_of (map (λ w. w.now) words.entry.now)) }
 {

@@ -8,7 +8,7 @@ use std::thread::Threads;
 
 /// Into how many parts the work of a step is cut, and who is told where each begins. One that says nothing has one part and tells nobody.
 pub trait Crew {
-    /// How many parts. It takes no memory.
+    /// How many parts.
     fn parts(&self) -> u32
         ensures some { 0 < result }
         ensures few { result ≤ WORKER_LIMIT }
@@ -16,7 +16,7 @@ pub trait Crew {
         1
     }
 
-    /// Part `p` begins, in whatever thread. It takes no memory.
+    /// Part `p` begins, in whatever thread.
     fn arrive(&self, _p: u32) {}
 }
 
@@ -32,7 +32,7 @@ pub struct Work<'a, R: Threads + Sync, C: Crew + Sync> {
 pub const LEAST_ROWS: usize = 4096;
 
 impl<'a, R: Threads + Sync, C: Crew + Sync> Work<'a, R, C> {
-    /// Whether so many rows are made in this thread alone. It takes no memory.
+    /// Whether so many rows are made in this thread alone.
     pub fn is_alone(&self, rows: usize) -> bool
         ensures { rows < LEAST_ROWS → result ≡ true }
     {

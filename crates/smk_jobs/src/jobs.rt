@@ -72,7 +72,7 @@ pub fn due<J: Drop>(alloc: Global, most: u32, waiting: &mut Vec<J>) -> Vec<J>
     }
 }
 
-/// Does each job by a call of `f`: the values in the jobs' order, or the first fault in that order, or what want of memory gives.
+/// Does each job by a call of `f`: the values in the jobs' order, or the first fault in that order, or the fault for a lack of memory.
 ///
 /// Its clauses say that and no more. When the jobs run is tested and not proved: they are cut into groups of `most`, the last of what is left. The jobs of a group may run at once, each in a thread of its own; a job that is alone in its group runs in this thread. A group is done to its end, and none begins after one with a fault.
 pub fn each_or_first<

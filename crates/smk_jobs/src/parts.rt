@@ -11,7 +11,7 @@ use std::alloc::{AllocError, Global};
 use std::marker::{Send, Sync};
 use std::thread::Threads;
 
-/// Where part p of so many begins among n rows; the last ends where one more would begin. It takes no memory.
+/// Where part p of so many begins among n rows; the last ends where one more would begin.
 #[tactic(auto, using(crate::proofs::Cutting::product_small))]
 pub fn cut_place(workers: u32, n: u32, p: u32) -> u32
     requires some { 0 < workers }
@@ -23,7 +23,7 @@ pub fn cut_place(workers: u32, n: u32, p: u32) -> u32
     p * n / workers
 }
 
-/// From which row up to which part p goes. It takes no memory.
+/// From which row up to which part p goes.
 #[tactic(auto, using(crate::proofs::Cutting::cut_grows, crate::proofs::Cutting::cut_within))]
 pub fn cut_range(workers: u32, n: u32, p: u32) -> (u32, u32)
     requires few { workers ≤ WORKER_LIMIT }
@@ -37,7 +37,7 @@ pub fn cut_range(workers: u32, n: u32, p: u32) -> (u32, u32)
     (cut_place(workers, n, p), cut_place(workers, n, p + 1))
 }
 
-/// What each of so many parts makes, all at once, or want of memory where one of them wanted it.
+/// What each of so many parts makes, all at once, or an error if one of them ran out of memory.
 pub fn in_parts<
     R: Threads + Sync,
     C: Crew + Sync,
@@ -51,7 +51,7 @@ pub fn in_parts<
     each_or_first(work.rt, work.alloc, u32::MAX, parts, part)
 }
 
-/// Whether the rows that the parts have counted are more than a step may have. It takes no memory.
+/// Whether the rows that the parts have counted are more than a step may have.
 pub fn are_too_many(counts: &[u32]) -> bool
     ensures many { OnTrue result (ROW_LIMIT < sum counts.now) }
     ensures few { OnFalse result (sum counts.now ≤ ROW_LIMIT) }

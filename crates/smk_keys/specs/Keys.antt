@@ -6,15 +6,15 @@ use Rattle.smk_base.specs.{declared.value.Value.Value, Values.value_eq}
 abbrev pub key_eq : List Value → List Value → Bool
 key_eq = pointwise value_eq
 
--- the place of a key, none where it isn't there
+-- the place of a key, or None if it isn't there
 abbrev pub place_of : List (List Value) → List Value → Option ℕ
 place_of keys key = position (key_eq key) keys
 
--- the place that a key has once it is there: its own, or behind the last
+-- the place that a key has once it is there: its own, or after the last
 abbrev pub place_or_last : List (List Value) → List Value → ℕ
 place_or_last keys key = position_or_len (key_eq key) keys
 
--- the keys with this one: as they are where it is there, else with it last
+-- the keys with this one: as they are if it is there, else with it at the end
 abbrev pub with_key : List (List Value) → List Value → List (List Value)
 with_key keys key = if list_any (key_eq key) keys then keys else keys ++ key ∷ []
 

@@ -7,7 +7,7 @@ use crate::hashed::hashed_numbers;
 use crate::numbers::{Numbers, table_limit};
 use std::alloc::{AllocError, Global};
 
-/// Numbers of the pairs that lie at the same places: the right ones where the left are all the same, else as in a table with a row for each left number where that has few places, and else in the order in which they come, found by the hashes of a seed.
+/// Numbers of the pairs at the same places: the right ones if the left are all the same; else as in a table with a row for each left number if that has few places; else in the order in which they come, found by the hashes of a seed.
 pub(crate) fn pair_numbers(
     alloc: Global,
     seed: u64,

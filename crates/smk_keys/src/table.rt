@@ -33,7 +33,7 @@ impl KeyTable {
         KeyTable::seeded(alloc, 0)
     }
 
-    /// No key, of which more are found by the hashes of a seed. It takes no memory.
+    /// No key; more are found by the hashes of a seed. It takes no memory.
     pub fn seeded(alloc: Global, seed: u64) -> KeyTable
         ensures { result ≡ [] }
     {
@@ -61,7 +61,7 @@ impl KeyTable {
         }
     }
 
-    /// The place of a key, None exactly where it isn't there.
+    /// The place of a key, None exactly if it isn't there.
     pub fn find(&self, key: &Row) -> Option<u32>
         ensures { result ≡ place_of self.now key.now }
     {
@@ -71,7 +71,7 @@ impl KeyTable {
         }
     }
 
-    /// The place of a key, which goes last where it isn't there. After an error the table is as before.
+    /// The place of a key, which is added at the end if it isn't there. After an error the table is as before.
     pub fn find_or_add(&mut self, key: Row) -> Result<u32, AllocError>
         requires { length self.old < 2 * ROW_LIMIT }
         ensures place { IfOk result (λ place. place ≡ place_or_last self.old key) }

@@ -1,10 +1,10 @@
--- What is made of what is kept of a view, and what the view's plan gives.
+-- What is made from what is kept of a view, and what the view's plan gives.
 use Rattle.std.specs.Prelude.{◌≡◌, ◌≤◌, ℕ, true, List, [], ◌∷◌, length}
 use Rattle.smk_base.specs.{PlanImage.expr_of, Rels.Relation, declared.rel.TheConstants.ROW_LIMIT}
 use Rattle.smk_model.specs.{Composed.{rows_over, table_at}, Lineage.sub, LineageLaws.selected_table, Plain.eval, Selection.{PlanFits, plan_kinds}, Values.Row, Growth.is_chain}
 use Rattle.smk_marks.specs.{MarkLaws.{AreRids, marks_of}, Marks.marks_at, Views.{CanGroup, grouped_by_marks, plan_of, rows_reached}, declared.reached.Reached.Reached, declared.view.KeptView.KeptView}
 
--- what is kept of a view is what it gives of these tables, the chain's one among them
+-- what is kept of a view is what it gives over these tables, which have the chain's table among them
 pub record IsKeptOf (view : KeptView) (table : Relation) (tables : List (List Row)) : Type 0 where
   pub chain : is_chain (expr_of view.plan.chain.now) ≡ true
   pub fits : PlanFits (plan_of view.plan) (table.kinds ∷ [])

@@ -1,4 +1,4 @@
--- Laws of groups by marks: of a grouping over a chain, the forward lists of its first content say which rows of its table pass and which of them have equal keys.
+-- Laws of groups by marks: for a grouping over a chain, the forward lists of its first content say which rows of its table pass, and which of these have equal keys.
 use Rattle.std.specs.{Prelude.{◌≡◌, ℕ, pos, ◌<◌, nat_eq, true, List, [], ◌∷◌, ◌≤◌, length, map, All, None, Some}, List.{filter, list_all}}
 use Rattle.smk_base.specs.{Places.Lists, declared.book.plan.Agg.Agg, declared.list.table_rids.Pick.Pick, declared.book.plan.Agg.TheVariants.{Count, Sum}, declared.book.plan.CmpOp.TheVariants.Ne, declared.book.plan.Operand.TheVariants.Lit, declared.value.Value.Value, declared.value.Value.TheVariants.{Int, Text}, Plans.{Comparison, Selection, Grouping, Expr, Leaf, Apply}}
 use Rattle.smk_model.specs.{Values.Row, Growth.is_chain, Plain.{key_of, eval, leaves}, Lineage.{row_at, sub}, Composed.{table_at, rows_over, forwards}, LineageLaws.selected_table, Selection.{picked, over, first_full, row_limit}}
@@ -8,7 +8,7 @@ use Rattle.smk_marks.specs.Marks.{reads_none, made, passes, kept, marks_at, mark
 -- a chain is one selection, and one image of each row that is left
 pub record ChainPicks : Type 0 where
   pub scans : (plan : Expr) → is_chain plan ≡ true → leaves plan ≡ selected_table plan ∷ []
-  -- so its rows where some rids of its table are picked are over these alone
+  -- so if some rids of its table are picked, its rows are over these alone
   pub over_picked : (plan : Expr) (tables : List (List Row)) (picks : List Pick) (S : List ℕ) → is_chain plan ≡ true → picked picks (selected_table plan) ≡ Some S
       → over plan tables picks ≡ sub (table_at tables (selected_table plan)) S ∷ []
   pub rows : (plan : Expr) (L : List Row) → is_chain plan ≡ true → eval plan (L ∷ []) ≡ map (made plan) (filter (passes plan) L)
@@ -22,7 +22,7 @@ marks_of keys aggs input tables = forwards (Apply (Grouping keys aggs) input) ta
 abbrev pub input_at : Expr → List (List Row) → List ℕ → List Row
 input_at input tables S = eval input (sub (table_at tables (selected_table input)) S ∷ [])
 
--- that these are places of the table of a chain
+-- these are places of the table of a chain
 abbrev pub AreRids : Expr → List (List Row) → List ℕ → Type 0
 AreRids input tables S = All (λ s. s < length (table_at tables (selected_table input))) S
 
@@ -45,7 +45,7 @@ pub record GroupMarks : Type 0 where
       → eval (Apply (Grouping keys aggs) input) (sub (table_at tables (selected_table input)) S ∷ [])
       ≡ marked_groups (length keys) aggs (rows_over (Apply (Grouping keys aggs) input) tables) (marks_at (marks_of keys aggs input tables) S) (input_at input tables S)
 
--- a grouping over a chain has no more rows at any node than its table has: it isn't refused where this has few
+-- a grouping over a chain has no more rows at any node than its table has, so it isn't refused if that has few
 abbrev pub NeverFull : Type 0
 NeverFull = (keys : List ℕ) (aggs : List Agg) (input : Expr) (rows : List Row) → is_chain input ≡ true → length rows ≤ row_limit → first_full (Apply (Grouping keys aggs) input) (rows ∷ []) ≡ None
 
@@ -54,7 +54,7 @@ abbrev pub CountsAlone : Type 0
 CountsAlone = (k : ℕ) (aggs : List Agg) (content : List Row) (marks : List ℕ) (rows others : List Row) → list_all reads_none aggs ≡ true → length rows ≡ length others
     → marked_groups k aggs content marks rows ≡ marked_groups k aggs content marks others
 
--- groups by marks worked by hand: number and sum by key of the rows whose int is not 2; of the rows at 1, 2 and 4 one falls out, and c comes before a
+-- groups by marks, worked by hand: number and sum by key of the rows whose int is not 2; of the rows at 1, 2 and 4 one falls out, and c comes before a
 abbrev pub int : ℕ → Value
 int n = Int (pos n)
 

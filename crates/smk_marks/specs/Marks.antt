@@ -1,4 +1,4 @@
--- Groups of selected rows by the marks that the rows reach: which rows a chain keeps, what it makes of each, and the grouping of what it makes by marks in place of keys.
+-- Groups of selected rows by the marks that they reach: which rows a chain keeps, what it makes of each, and the grouping of these by marks in place of keys.
 use Rattle.std.specs.{Prelude.{ℕ, pos, Bool, ◌&&◌, true, is_none, nat_eq, nat_lt, List, [], ◌∷◌, ◌++◌, length, map, take, slice_index_or}, List.{flat_map, filter}}
 use Rattle.smk_base.specs.{Aggregates.read_by, Places.{Lists, list_at, places}, declared.value.Value.TheVariants.Int, declared.book.plan.Agg.Agg, Plans.{Selection, Projection, Expr, Leaf, Apply, Combine}}
 use Rattle.smk_model.specs.{Values.{Row, meets}, Plain.{image, aggregate}, Lineage.{row_at, sub}}
@@ -11,7 +11,7 @@ made (Apply (Projection items) input) row = image items (made input row)
 made (Combine op left right) row = made left row
 made (Apply _ input) row = made input row
 
--- whether a row meets every formula of a chain, each of what the chain has made of it by then
+-- whether a row meets every formula of a chain, as what the chain has made of it by then
 abbrev pub passes : Expr → Row → Bool
 passes (Leaf table) row = true
 passes (Apply (Selection formula) input) row = passes input row && meets formula (made input row)

@@ -1,4 +1,4 @@
--- What is kept of a view that is a grouping over a chain, and the groups that are made of what chosen rows of its table reach.
+-- What is kept of a view that is a grouping over a chain, and the groups that chosen rows of its table reach.
 use Rattle.std.specs.{Prelude.{◌≡◌, ◌<◌, ◌≤◌, ◌+◌, ℕ, Bool, true, false, cond, List, [], ◌∷◌, ◌++◌, length, map, Option, Some, None, All}, List.list_all}
 use Rattle.smk_base.specs.{Aggregates.read_by, PlanImage.expr_of, Places.upto, Plans.{Grouping, Expr, Apply}, Rels.{Relation, kind_in}, declared.book.plan.Agg.Agg, declared.rel.TheConstants.ROW_LIMIT, declared.value.Kind.Kind, declared.value.Kind.TheVariants.Int}
 use Rattle.smk_model.specs.{Growth.is_chain, Kinds.{AggFits, kind_of_agg}, Lineage.sub, Selection.{PlanFits, plan_kinds}, Values.value_at}
@@ -41,7 +41,7 @@ groups_of view marks rows = record {
   rows = marked_groups (length view.plan.keys.now) view.plan.aggs.now view.content.now.rows marks (map (made (expr_of view.plan.chain.now)) rows.rows);
 }
 
--- the rows that are there, and else rows of the marks alone
+-- the rows that are there, else rows of the marks alone
 abbrev pub rows_read : List ℕ → Option Relation → Relation
 rows_read marks (Some rows) = rows
 rows_read marks None = record { kinds = Int 0 ∷ []; rows = map mark_row marks }

@@ -72,7 +72,7 @@ fn groups(
     Ok(made)
 }
 
-/// The content of a view over chosen rows of its table, by what these rows reach of what is kept of it.
+/// The content of a view over chosen rows of its table, from what these rows reach in what is kept of it.
 pub fn content_by_marks(
     alloc: Global,
     view: &KeptView<'_>,

@@ -4,7 +4,7 @@ ghost use Rattle.smk_model.specs.{LineageLaws.selected_table, Growth.{is_chain, 
 
 use smk_base::{Op1, Plan};
 
-/// Whether a plan is a growing chain: a scan, then selections and projections, then at most one grouping. It takes no memory.
+/// Whether a plan is a growing chain: a scan, then selections and projections, then at most one grouping.
 pub fn is_growing(plan: &Plan) -> bool
     ensures { result ≡ is_growing (expr_of plan.now) }
 {
@@ -36,7 +36,7 @@ fn is_chain(plan: &Plan) -> bool
     }
 }
 
-/// The table that a growing chain scans. It takes no memory.
+/// The table that a growing chain scans.
 pub fn scanned_table(plan: &Plan) -> u32
     ensures { result ≡ selected_table (expr_of plan.now) }
 {

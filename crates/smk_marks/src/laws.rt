@@ -6,7 +6,7 @@ pub fn chain_picks()
     ensures { ChainPicks }
 {}
 
-/// Of a grouping over such a chain, the forward lists of the first content say which rows of any selection pass and which of them have equal keys.
+/// For a grouping over such a chain, the forward lists of the first content say which rows of any selection pass and which of them have equal keys.
 #[tactic(auto, using(crate::proofs::ByMarks::group_marks))]
 pub fn group_marks()
     ensures { GroupMarks }
@@ -18,13 +18,13 @@ pub fn counts_alone()
     ensures { CountsAlone }
 {}
 
-/// A grouping over a chain isn't refused where its table has at most 1,048,576 rows.
+/// A grouping over a chain isn't refused if its table has at most 1,048,576 rows.
 #[tactic(auto, using(crate::proofs::Small::never_full))]
 pub fn never_full()
     ensures { NeverFull }
 {}
 
-/// The groups that are made of what is kept of a view, and of what some rids reach there, are what the view's plan gives of the rows at these rids.
+/// The groups that are made from what is kept of a view, and from what some rids reach there, are what the view's plan gives for the rows at these rids.
 #[tactic(auto, using(crate::proofs::Kept::kept_marks))]
 pub fn kept_marks()
     ensures { KeptMarks }

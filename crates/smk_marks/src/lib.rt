@@ -1,4 +1,4 @@
-//! The content of a view that is a grouping over a chain, over a selection of its table's rows, by the marks that its kept forward lineage has: no key is made anew.
+//! The content of a view that is a grouping over a chain, over a selection of its table's rows, by the marks in its kept forward lineage: no key is made again.
 #![tactic(auto)]
 
 mod columns;

@@ -11,14 +11,14 @@ use smk_table::{Chosen, Table};
 use std::alloc::{AllocError, Global};
 use std::sync::ledger::Ledger;
 
-/// The marks that chosen rows of a view's table reach, and these rows, which are there where an aggregate reads a column.
+/// The marks that chosen rows of a view's table reach, and these rows, which are there if an aggregate reads a column.
 #[derive(Drop)]
 pub struct Reached {
     pub marks: Rids,
     pub rows: Option<Chosen>,
 }
 
-/// What the rows at these rids reach of a view. It is at most one look for each row that reaches a mark, and none where all aggregates are counts.
+/// What the rows at these rids reach in a view. It is at most one look for each row that reaches a mark, and none if all aggregates are counts.
 pub fn reach<L: Ledger>(
     alloc: Global,
     view: &KeptView<'_>,
@@ -79,7 +79,7 @@ fn reads_none(agg: Agg) -> bool
     agg.column().is_none()
 }
 
-// The marks that the rids reach, those of each rid behind those of the one before.
+// The marks that the rids reach, those of each rid after those of the one before.
 fn marks_reached(alloc: Global, forward: &RidMap, chosen: &[u32]) -> Result<Rids, AllocError>
     requires { All (λ rid. rid < length forward.now.lists) chosen.now }
     ensures { IfOk result (λ marks. marks ≡ marks_at forward.now chosen.now) }

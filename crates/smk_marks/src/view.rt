@@ -14,7 +14,7 @@ pub struct GroupedChain<'a> {
     pub aggs: &'a Aggs,
 }
 
-/// Such a plan, and what is kept of it: the rows that it gives of the whole table, and the forward lineage from the table to them.
+/// Such a plan, and what is kept of it: the rows that it gives over the whole table, and the forward lineage from the table to them.
 #[derive(Clone, Copy)]
 pub struct KeptView<'a> {
     pub plan: GroupedChain<'a>,
@@ -22,7 +22,7 @@ pub struct KeptView<'a> {
     pub forward: &'a RidMap,
 }
 
-/// The grouping in which a plan ends and its input, exactly where that is a chain. It takes no memory.
+/// The grouping in which a plan ends and its input, exactly if that is a chain.
 pub fn grouped_chain(plan: &Plan) -> Option<GroupedChain<'_>>
     ensures ends { IfSome result (EndsInGroups (expr_of plan.now)) }
     ensures none { IfNone result (ends_in_groups (expr_of plan.now) ≡ false) }

@@ -21,7 +21,7 @@ abbrev pub append_text : Workbook → List ℕ → AppendReply → List ℕ
 append_text book table (Added rows views) = added_text book table rows views
 append_text book table (Refused refusal) = append_refusal_text book.catalog table refusal
 
--- the views and the table that an answer has by number are there
+-- the views and the table that an answer names by number are in the catalog
 abbrev pub IsRefusalIn : CatalogImage → AppendRefusal → Type 0
 IsRefusalIn catalog (ViewRows view node) = view < length catalog.views
 IsRefusalIn catalog (ViewPairs view node to) = (view < length catalog.views) × (to < length catalog.tables)

@@ -1,17 +1,17 @@
--- What an `append` line comes to: the rows of a file behind those of a table, and every view over the longer table; or why the line is refused.
+-- The answer to an `append` line: the rows of a file are added at the end of a table, and each view that scans the table is shown over the longer table; or the line is refused.
 use Rattle.std.specs.{Prelude.{ℕ, ◌+◌, Bool, true, false, ◌||◌, cond, nat_eq, nat_lt, set, List, [], ◌++◌, length, Option, Some, None}, List.{filter, sum_by}}
 use Rattle.smk_base.specs.{CatalogImage.{CatalogImage, table_place}, Places.{places, has}, declared.book.catalog.Back.Back, declared.reply.AppendReply.AppendReply, declared.reply.AppendReply.TheVariants.{Added, Refused}, declared.reply.AppendRefusal.AppendRefusal, declared.reply.AppendRefusal.TheVariants.{UnknownTable, TableRows, ViewRows, ViewPairs}}
 use Rattle.smk_model.specs.{Values.Row, Plain.{leaves, whole, table_at}, Growth.is_growing, Looks.looks_of_back, NodeFaults.{NodeFault, FullRows, FullPairs}, Opening.{ViewFault, view_fault, first_some}, Selection.{row_limit, rows_in}, Session.{Workbook, State, view_at}}
 
--- the rows of every table, with more behind those of one
+-- the rows of every table, with more at the end of one
 abbrev pub longer : List (List Row) → ℕ → List Row → List (List Row)
 longer tables t more = set tables t (table_at tables t ++ more)
 
--- a book over the longer table
+-- the book with the longer table
 abbrev pub longer_book : CatalogImage → State → ℕ → List Row → Workbook
 longer_book catalog state t more = record { catalog = catalog; tables = longer state.tables t more }
 
--- the state with the longer table, in which no brush is in force
+-- the state with the longer table and no brush
 abbrev pub longer_state : State → ℕ → List Row → State
 longer_state state t more = record { tables = longer state.tables t more; brushes = [] }
 
@@ -22,7 +22,7 @@ scans catalog t v = has (leaves (view_at catalog v).plan) t
 abbrev pub scanning : CatalogImage → ℕ → List ℕ
 scanning catalog t = places (scans catalog t) (length catalog.views)
 
--- the first of these views that has a node that is too big over the longer table
+-- the first of these views with a fault over the longer table, and the refusal for it
 abbrev pub longer_fault : CatalogImage → State → ℕ → List Row → Option ViewFault
 longer_fault catalog state t more = first_some (view_fault (longer_book catalog state t more)) (scanning catalog t)
 
@@ -42,16 +42,16 @@ pub record Turn : Type 0 where
 abbrev pub refused_turn : State → AppendRefusal → Turn
 refused_turn state refusal = record { reply = Refused refusal; next = state }
 
--- the rows are appended, unless a view has a node that is too big then
+-- the rows are appended, unless there is such a view
 abbrev pub turn_unless : CatalogImage → State → ℕ → List Row → Option ViewFault → Turn
 turn_unless catalog state t more (Some found) = refused_turn state (refusal_of found)
 turn_unless catalog state t more None = record { reply = Added (length more) (scanning catalog t); next = longer_state state t more }
 
--- whether old and new rows together are more than a table may have
+-- whether the table would have too many rows
 abbrev pub is_too_long : State → ℕ → List Row → Bool
 is_too_long state t more = nat_lt row_limit (length (table_at state.tables t) + length more)
 
--- the answer for the table with this number, if there is one
+-- the answer for the table with this number, or for an unknown table
 abbrev pub turn_at : CatalogImage → State → List Row → Option ℕ → Turn
 turn_at catalog state more None = refused_turn state UnknownTable
 turn_at catalog state more (Some t) = cond (is_too_long state t more) (refused_turn state TableRows) (turn_unless catalog state t more (longer_fault catalog state t more))
@@ -60,15 +60,15 @@ turn_at catalog state more (Some t) = cond (is_too_long state t more) (refused_t
 abbrev pub append_turn : CatalogImage → State → List ℕ → List Row → Turn
 append_turn catalog state table more = turn_at catalog state more (table_place catalog table)
 
--- a view that scans the table is looked at by its new rows alone where its plan is a growing chain, and else by all rows of its leaves
+-- the looks for a view that scans the table: one for each new row if it is a growing chain, else one for each row of its leaves
 abbrev pub looks_of_scan : CatalogImage → State → ℕ → List Row → ℕ → ℕ
 looks_of_scan catalog state t more v = cond (is_growing (view_at catalog v).plan) (length more) (rows_in (whole (view_at catalog v).plan (longer state.tables t more)))
 
--- whether a backward declaration is of a view that scans the table, or to it
+-- whether a backward declaration is of a view that scans the table, or goes to the table
 abbrev pub depends_on : CatalogImage → ℕ → Back → Bool
 depends_on catalog t declared = scans catalog t declared.view || nat_eq declared.table t
 
--- what depends on the table is made again: views, and what such declarations keep besides the rows
+-- the looks for all these views, and for the splits and groupings of these declarations
 abbrev pub looks_of_longer : CatalogImage → State → ℕ → List Row → ℕ
 looks_of_longer catalog state t more =
     sum_by (looks_of_scan catalog state t more) (scanning catalog t) + sum_by (looks_of_back (longer_book catalog state t more)) (filter (depends_on catalog t) catalog.backs)
@@ -77,7 +77,7 @@ abbrev pub append_looks_at : CatalogImage → State → List Row → Option ℕ 
 append_looks_at catalog state more None = 0
 append_looks_at catalog state more (Some t) = cond (is_too_long state t more) 0 (looks_of_longer catalog state t more)
 
--- the most looks of a line that appends these rows, also where it is refused for a view
+-- the most looks for a line that appends these rows, even if it is refused for a view
 abbrev pub append_looks : CatalogImage → State → List ℕ → List Row → ℕ
 append_looks catalog state table more = append_looks_at catalog state more (table_place catalog table)
 

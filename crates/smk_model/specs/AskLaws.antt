@@ -7,7 +7,7 @@ use Rattle.smk_model.specs.{Values.Row, Asks.{ask_reply, back_line, chain}, AskT
 abbrev pub ChainsAddNoRows : Type 0
 ChainsAddNoRows = (ops : List Unary) (rows : List Row) → All (λ node. length node ≤ length rows) (node_rows (chain ops) (rows ∷ []))
 
--- so none of its nodes has too many where its leaf has not
+-- so no node of a chain has too many rows unless its leaf has
 abbrev pub ChainsAreSmall : Type 0
 ChainsAreSmall = (ops : List Unary) (rows : List Row) → length rows ≤ row_limit → first_full (chain ops) (rows ∷ []) ≡ None
 
@@ -19,6 +19,6 @@ pub record BacksFit (catalog : CatalogImage) (state : State) (asked : AskImage) 
 abbrev pub AskedBacksFit : Type 0
 AskedBacksFit = (catalog : CatalogImage) (state : State) (asked : AskImage) → IsCatalog catalog → BacksFit catalog state asked
 
--- over a checked book every answer to an `ask` line is one to that line
+-- over a checked book every answer to an `ask` line fits that line
 abbrev pub AsksFit : Type 0
 AsksFit = (catalog : CatalogImage) (state : State) (asked : AskImage) → IsCatalog catalog → IsAskReplyTo asked (ask_reply catalog state asked)

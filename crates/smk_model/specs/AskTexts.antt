@@ -11,18 +11,18 @@ pub record AreBackRows (catalog : CatalogImage) (asked : AskImage) (rows : Relat
   pub kinds : rows.kinds ≡ column_kinds (columns_named catalog asked.table)
   pub few : length (columns_named catalog asked.table) ≤ COLUMN_LIMIT
 
--- whether a reply is one to the `back` line within an `ask` line: rows of the table, or a refusal that names nothing of a catalog
+-- whether a reply fits the `back` line within an `ask` line: rows of the table, or a refusal that names nothing of a catalog
 abbrev pub IsBackReply : CatalogImage → AskImage → Reply → Type 0
 IsBackReply catalog asked (replies.Back rids rows) = AreBackRows catalog asked rows
 IsBackReply catalog asked (replies.Refused refusal) = IsRefusalOf nothing_declared (back_line asked) refusal
 IsBackReply catalog asked _ = ⊥
 
--- whether an `ask` line can be refused so: as its `back` line can, or for a fault of its steps
+-- whether an `ask` line can be refused for this reason: one of its `back` line, or a fault of its steps
 abbrev pub IsAskRefusalOf : AskImage → AskRefusal → Type 0
 IsAskRefusalOf asked (Back refusal) = IsRefusalOf nothing_declared (back_line asked) refusal
 IsAskRefusalOf asked (Steps at fault) = fault ≢ NoMemory
 
--- whether an answer is one to an `ask` line: its rows have a value for each name printed over them, or the line can be refused so
+-- whether an answer fits an `ask` line: its rows have a value for each name printed over them, or the line can be refused for its reason
 abbrev pub IsAskReplyTo : AskImage → AskReply → Type 0
 IsAskReplyTo asked (answers.Rows names rel) = length names ≡ length rel.kinds
 IsAskReplyTo asked (answers.Refused refusal) = IsAskRefusalOf asked refusal

@@ -1,4 +1,4 @@
--- What an `ask` line comes to: steps over the rows that the marks of a view came from.
+-- The answer to an `ask` line: steps over the rows that the marks of a view came from.
 use Rattle.std.specs.Prelude.{ℕ, Bool, true, false, List, [], ◌∷◌, Option, Some, None, Ok, Err}
 use Rattle.smk_base.specs.{CatalogImage.CatalogImage, Plans.{Unary, Expr, Leaf, Apply}, Trees.{AskStepImage, AskImage}, declared.value.Kind.Kind, declared.book.catalog.Column.Column, declared.book.catalog.TableInfo.TableInfo, declared.book.tree.Line.Line, declared.reply.Reply.Reply, declared.reply.AskReply.AskReply}
 use Rattle.smk_base.specs.declared.book.tree.Line.TheVariants as lines
@@ -17,15 +17,15 @@ chain_onto plan (op ∷ ops) = chain_onto (Apply op plan) ops
 abbrev pub chain : List Unary → Expr
 chain ops = chain_onto (Leaf 0) ops
 
--- one more step over a typed plan, at its place
+-- one more step over a typed plan
 abbrev pub step_after : TypedPlan → AskStepImage → Typed TypedPlan
 step_after typed step = typed_step [] step.what step.at typed
 
--- the scan of these columns
+-- a scan with these columns
 abbrev pub scan_of : List Column → TypedPlan
 scan_of columns = record { plan = Leaf 0; columns = columns }
 
--- typed steps: the plan that they make over its one leaf, and the names and the kinds of its columns
+-- typed steps: a plan over one leaf, with the names and the kinds of its columns
 pub record AskPlan : Type 0 where
   pub plan : Expr
   pub names : List (List ℕ)
@@ -34,11 +34,11 @@ pub record AskPlan : Type 0 where
 abbrev pub asked_plan : TypedPlan → AskPlan
 asked_plan typed = record { plan = typed.plan; names = names_of typed.columns; kinds = column_kinds typed.columns }
 
--- steps over these columns, by the rules for the steps of a view over a scan, or the first fault
+-- steps over these columns, typed as those of a view, or their first fault
 abbrev pub typed_steps : List Column → List AskStepImage → Typed AskPlan
 typed_steps columns steps = in_turn step_after (scan_of columns) steps >>= λ typed. Ok (asked_plan typed)
 
--- the columns of a table by its name
+-- the columns of the table with this name; none where there is no such table
 abbrev pub columns_found : Option TableInfo → List Column
 columns_found None = []
 columns_found (Some table) = columns_of table
@@ -50,12 +50,12 @@ columns_named catalog table = columns_found (table_named catalog table)
 abbrev pub back_line : AskImage → Line
 back_line asked = lines.Back asked.view asked.marks asked.table thens.Plain
 
--- what typed steps make of some rows, or why they don't stand
+-- what typed steps make of these rows, or the fault of the steps
 abbrev pub steps_reply : Typed AskPlan → List Row → AskReply
 steps_reply (Ok typed) rows = answers.Rows typed.names (record { kinds = typed.kinds; rows = eval typed.plan (rows ∷ []) })
 steps_reply (Err fault) rows = answers.Refused (refusals.Steps (type_place fault) fault)
 
--- the answer to an `ask` line by the reply to its `back` line, which is rows with their rids or a refusal and nothing else
+-- the answer to an `ask` line, from the reply to its `back` line: rows with their rids, or a refusal
 abbrev pub ask_over : CatalogImage → AskImage → Reply → AskReply
 ask_over catalog asked (replies.Back rids rows) = steps_reply (typed_steps (columns_named catalog asked.table) asked.steps) rows.rows
 ask_over catalog asked (replies.Refused refusal) = answers.Refused (refusals.Back refusal)
@@ -65,7 +65,7 @@ ask_over catalog asked _ = answers.Rows [] (record { kinds = []; rows = [] })
 abbrev pub ask_reply : CatalogImage → State → AskImage → AskReply
 ask_reply catalog state asked = ask_over catalog asked (reply catalog state (back_line asked)).0
 
--- one look for each row of the backward answer, also where the steps don't fit
+-- one look for each row of the backward answer, even if the steps have a fault
 abbrev pub ask_looks : CatalogImage → State → AskImage → ℕ
 ask_looks catalog state asked = line_looks catalog state (back_line asked)
 

@@ -1,4 +1,4 @@
--- What every checked book keeps.
+-- What is so of every checked book.
 use Rattle.std.specs.Prelude.{◌≡◌, ◌≤◌, ◌<◌, ℕ, List, map, length, All}
 use Rattle.smk_base.specs.{declared.value.Kind.Kind, declared.book.catalog.TableInfo.TableInfo, declared.book.catalog.Back.Back, declared.book.catalog.BackExtra.BackExtra, declared.book.catalog.BackExtra.TheVariants.{Plain, By, Grouped}, declared.book.catalog.Fwd.Fwd, declared.book.catalog.LinkInfo.LinkInfo, declared.book.plan.Agg.Agg, declared.book.limits.TheConstants.{TABLE_LIMIT, VIEW_LIMIT, NODE_LIMIT}, declared.rel.TheConstants.COLUMN_LIMIT, Plans.Grouping, CatalogImage.{CatalogImage, ViewImage}}
 use Rattle.smk_model.specs.{Names.column_kinds, Kinds.{GroupFits, kinds1}, Tables.IsBaseColumn, Typing.{columns_of, info_at}, Selection.{ScansFit, PlanFits, leaf_kinds, plan_kinds, nodes}}

@@ -1,4 +1,4 @@
--- Laws of classes of keys, and what rows that are gathered in bulk give of a step.
+-- Laws of classes of equal keys, and of steps whose rows are gathered in bulk.
 use Rattle.std.specs.{Prelude.{◌≡◌, ℕ, ◌+◌, ◌<◌, true, not, List, ◌++◌, length, map, take, slice_index_or, nat_eq}, List.{list_any, filter, All}}
 use Rattle.smk_base.specs.{Plans.{Formula, Selection, Distinction, Grouping, Binary, SetUnion}, Rels.beside_rows, declared.book.plan.Item.Item, declared.book.plan.Agg.Agg}
 use Rattle.smk_model.specs.{Values.Row, Plain.{row_eq, image, key_of, aggregate, firsts, is_join, joins, step1, step2}, Lineage.{upto, places, row_at, sub, meeting, matching, lefts_of, rights_of}, Classes.{classes, first_places, new_places}}
@@ -22,17 +22,17 @@ pub record ClassesAre : Type 0 where
   -- of two lists after each other, those of the first, and then the new ones of the second
   pub first_of_two : (L R : List Row) → first_places (L ++ R) ≡ first_places L ++ map (λ j. length L + j) (new_places L R)
 
--- a step's rows from rows that are gathered, put beside each other and in classes
+-- the rows of each step, as rows that are gathered, put side by side, or taken class by class
 pub record Bulk : Type 0 where
   -- the rows that meet the formula, gathered
   pub selection : (formula : Formula) (L : List Row) → step1 (Selection formula) L ≡ sub L (meeting formula L)
-  -- the left rows of the matching pairs, gathered, beside the right rows, gathered
+  -- the left rows of the matching pairs, gathered, and beside them the right rows
   pub join : (op : Binary) (L R : List Row) → is_join op ≡ true → step2 op L R ≡ beside_rows (sub L (lefts_of (matching (joins op) L R))) (sub R (rights_of (matching (joins op) L R)))
   -- the images at the first places of their classes, gathered
   pub distinction : (items : List Item) (L : List Row) → step1 (Distinction items) L ≡ sub (map (image items) L) (first_places (map (image items) L))
   -- the keys of the rows at the first places of the keys' classes
   pub keys : (keys : List ℕ) (L : List Row) → firsts (map (key_of keys) L) ≡ map (key_of keys) (sub L (first_places (map (key_of keys) L)))
-  -- they stand before the aggregates over the rows of each key, which are the rows of each class
+  -- then come the aggregates over the rows of each key, which are the rows of each class
   pub grouping : (keys : List ℕ) (aggs : List Agg) (L : List Row)
       → step1 (Grouping keys aggs) L ≡ beside_rows (firsts (map (key_of keys) L)) (map (λ key. map (aggregate (filter (λ row. row_eq key (key_of keys row)) L)) aggs) (firsts (map (key_of keys) L)))
   pub members : (f : Row → Row) (L : List Row) (p : ℕ) → p < length (firsts (map f L))

@@ -24,7 +24,7 @@ pub record ForwardsCompose : Type 0 where
   pub two : (op : Binary) (left right : Expr) (tables : List (List Row)) (table : ℕ)
       → forwards (Combine op left right) tables table ≡ merged (composed (forwards left tables table) (fwd_left op (rows_over left tables) (rows_over right tables))) (composed (forwards right tables table) (fwd_right op (rows_over left tables) (rows_over right tables)))
 
--- what the lists say of a plan
+-- what is so of the lists of a plan
 pub record ListsStand : Type 0 where
   -- as many lists as rows, and as rids, each ascending, without repeats and in range
   pub backs_long : (plan : Expr) (tables : List (List Row)) (table : ℕ) → length (backs plan tables table).lists ≡ length (rows_over plan tables)

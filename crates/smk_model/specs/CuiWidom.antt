@@ -18,7 +18,7 @@ pub record CuiWidom1 (step : List Row → List Row) (L : List Row) (o : ℕ) (A 
   pub gives : Gives1 step L o A
   pub maximal : (A' : List ℕ) → IsPlaces (length L) A' → Holds A' A → Gives1 step L o A' → A' ≡ A
 
--- the rows at A and B give exactly the output row at o, and each of them in place of its list's gives something
+-- the rows at A and B give exactly the output row at o; one row of A with all of B gives something, and so does one row of B with all of A
 pub record Gives2 (step : List Row → List Row → List Row) (L R : List Row) (o : ℕ) (A B : List ℕ) : Type 0 where
   pub exact : step (sub L A) (sub R B) ≡ row_at (step L R) o ∷ []
   pub each_left : (a : ℕ) → has A a ≡ true → step (sub L (a ∷ [])) (sub R B) ≢ []

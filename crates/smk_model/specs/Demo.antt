@@ -1,4 +1,4 @@
--- The demo: the book, the files and the script that stand for a number, and the summary of their report.
+-- The demo of a number of flights: its book, files and script, and the summary of its report.
 use Rattle.std.specs.{Prelude.{ℕ, ◌*◌, ◌/◌, ◌%◌, pos, ◌-ℤ◌, List, [], ◌∷◌, ◌++◌, length, map, codes, decimal}, List.flat_map, Fmt.signed_decimal}
 use Rattle.smk_base.specs.{Places.upto, declared.demo.Demo.Demo, declared.demo.DemoFile.DemoFile, declared.size.Size.Size, declared.demo.TheConstants.{DEMO_BOOK, DEMO_SCRIPT}}
 use Rattle.smk_model.specs.{Texts.{line, record_line}, Reports.Report}
@@ -59,7 +59,7 @@ demo_of n = record { book = DEMO_BOOK.now; files = demo_files n; script = DEMO_S
 abbrev pub size_line : Size → List ℕ
 size_line size = line (codes "view " ∷ size.name ∷ codes " " ∷ decimal size.rows ∷ [])
 
--- the summary of a report: the number of the demo; the views with the numbers of their rows; how many lines have a reply, and how many of these are refused; how many bytes the report has
+-- the summary of a report: the number of flights; each view with its number of rows; how many lines have a reply, and how many of these are refused; how many bytes the report has
 abbrev pub summary : ℕ → List Size → ℕ → ℕ → ℕ → List ℕ
 summary n sizes replies refused report =
     line (codes "demo " ∷ decimal n ∷ [])

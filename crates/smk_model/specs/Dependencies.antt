@@ -27,7 +27,7 @@ values_with rows keys c key = map (λ row. value_at row c) (rows_with rows keys 
 abbrev pub violated : List Row → List ℕ → ℕ → List Row
 violated rows keys c = filter (λ key. differ (values_with rows keys c key)) (firsts (map (key_of keys) rows))
 
--- each of these with its rids
+-- each violated key with its rids
 abbrev pub violations : List Row → List ℕ → ℕ → List Violation
 violations rows keys c = map (λ key. record { key = key; rids = rids_with rows keys key }) (violated rows keys c)
 
@@ -42,7 +42,7 @@ abbrev pub violation_row : List Row → List ℕ → ℕ → Violation → Row
 violation_row rows keys c violation =
     violation.key ++ aggregate (rows_with rows keys violation.key) (Min c) ∷ aggregate (rows_with rows keys violation.key) (Max c) ∷ []
 
--- the least and the greatest value of a column, and the test that they differ, behind so many keys
+-- the least and the greatest value of a column, and the test that they differ, after so many keys
 abbrev pub extremes : ℕ → List Agg
 extremes c = Min c ∷ Max c ∷ []
 
@@ -62,7 +62,7 @@ pub record Dependency : Type 0 where
 abbrev pub plan_of : Dependency → Expr
 plan_of dependency = dependency_plan dependency.table dependency.keys dependency.col
 
--- the dependency that a plan shows; of a plan that shows none it is of no account
+-- the dependency that a plan shows; a plan that shows none gets a placeholder
 abbrev pub no_dependency : Dependency
 no_dependency = record { table = 0; keys = []; col = 0 }
 

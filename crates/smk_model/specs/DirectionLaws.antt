@@ -39,7 +39,7 @@ pub record OneEach : Type 0 where
   pub grouping : (keys : List ℕ) (aggs : List Agg) (L : List Row) → HasTargets (classes (map (key_of keys) L)) (length (firsts (map (key_of keys) L))) (back1 (Grouping keys aggs) L) (fwd1 (Grouping keys aggs) L)
   pub union_left : (L R : List Row) → HasTargets (places_in (firsts (L ++ R)) L) (length (firsts (L ++ R))) (back_left SetUnion L R) (fwd_left SetUnion L R)
   pub union_right : (L R : List Row) → HasTargets (places_in (firsts (L ++ R)) R) (length (firsts (L ++ R))) (back_right SetUnion L R) (fwd_right SetUnion L R)
-  -- the left rows come first, the right ones behind them
+  -- the left rows come first, the right ones after them
   pub union_all_left : (L R : List Row) → HasTargets (upto (length L)) (length L + length R) (back_left BagUnion L R) (fwd_left BagUnion L R)
   pub union_all_right : (L R : List Row) → HasTargets (map (λ j. length L + j) (upto (length R))) (length L + length R) (back_right BagUnion L R) (fwd_right BagUnion L R)
 

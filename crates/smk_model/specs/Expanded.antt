@@ -1,4 +1,4 @@
--- The book that is typed and answered: the statements that stand in the place of each dependency.
+-- The book that is typed and answered: each dependency is replaced by other statements.
 use Rattle.std.specs.{Prelude.{ℕ, List, [], ◌∷◌, All, codes}, List.flat_map}
 use Rattle.smk_base.specs.{declared.book.plan.CmpOp.TheVariants.Ne, declared.book.tree.Word.Word, declared.book.tree.AggTree.AggTree, declared.book.tree.AggWhat.TheVariants.{Min, Max}, Trees.{TreeImage, ScanNode, StepNode, StepImage, SelectNode, GroupNode, CompareNode, StmtImage, TableNode, ViewNode, BackNode, FwdNode, LinkNode, DependsNode}}
 use Rattle.smk_base.specs.declared.book.tree.Extra.TheVariants as extras
@@ -23,7 +23,7 @@ abbrev pub violations_tree : ℕ → Word → List Word → Word → TreeImage
 violations_tree at table keys col =
     StepNode at (StepNode at (ScanNode table) (GroupNode keys (bounds at col))) (bounds_differ at)
 
--- what stands in the place of a statement: for a dependency its view and a plain backward declaration of this to the table, else the statement itself
+-- what a statement is replaced by: a dependency by its view and a plain backward declaration from that view to the table, any other by itself
 abbrev pub in_its_place : StmtImage → List StmtImage
 in_its_place (TableNode name file decls) = TableNode name file decls ∷ []
 in_its_place (ViewNode name tree) = ViewNode name tree ∷ []
@@ -44,7 +44,7 @@ dependency_name _ = []
 abbrev pub dependency_names : List StmtImage → List (List ℕ)
 dependency_names book = flat_map dependency_name book
 
--- a statement that is none of a dependency, and a book without one
+-- a statement that is no dependency, and a book without dependencies
 abbrev pub IsNoDependency : StmtImage → Type 0
 IsNoDependency (DependsNode at name table keys col) = ⊥
 IsNoDependency _ = Unit {0}

@@ -7,7 +7,7 @@ use Rattle.smk_base.specs.declared.fault.TableFault.TheVariants as table
 use Rattle.smk_base.specs.declared.book.type_fault.TypeFault.TheVariants as types
 use Rattle.smk_model.specs.{Lines.place_of, ShownNames.shown, Texts.line}
 
--- whether the text of a fault of a table names a column, and a fault of this kind has a line
+-- whether a fault of a table has this line, which names a column or none
 abbrev pub NamesColumn : TableFault → Option (List ℕ) → Type 0
 NamesColumn table.NoHeader column = IsNone column
 NamesColumn (table.Ragged nth) column = IsNone column
@@ -15,7 +15,7 @@ NamesColumn table.TooManyRows column = ⊥
 NamesColumn table.NoMemory column = ⊥
 NamesColumn _ column = IsSome column
 
--- whether a fault is said by this line. Want of memory has a text of its own, too many rows of a table are said as such, and a column is named exactly where a table's fault is one of a column
+-- whether a fault is said by this line. Lack of memory and too many rows of a table have texts of their own, and a column is named exactly if a table's fault is about a column
 abbrev pub IsSaid : Fault → Type 0
 IsSaid (Book fault) = fault ≢ book.NoMemory
 IsSaid (Types fault) = fault ≢ types.NoMemory
@@ -71,7 +71,7 @@ type_place (types.RepeatedDeclaration at) = at
 type_place (types.RowTooWide at) = at
 type_place types.NoMemory = 0
 
--- the words for a fault of a table's file, with the name of the column where it is one of a column
+-- the words for a fault of a table's file, with the name of the column that it is about, if any
 abbrev pub table_words : TableFault → List ℕ → List (List ℕ)
 table_words table.NoHeader column = codes "no header" ∷ []
 table_words (table.MissingColumn col) column = codes "missing column " ∷ shown column ∷ []

@@ -4,7 +4,7 @@ use Rattle.smk_base.specs.{declared.book.token.TokenKind.TheVariants.End, declar
 use Rattle.smk_model.specs.{Tokens.{Token, tokens}, Spelled.{AreStmts, IsWholeLine, IsWholeAnyLine}, Limits.{KeepsLimits, KeepsAsk}, TokenReadings.{book_fault, line_fault, any_fault, token_fault}}
 
 -- The tokens leave the grammar at this place: what stands before the token there has no fault and begins a text, and no text goes on with a token of its kind.
--- Other faults are none of this. A token that can't be read, and a number outside i64, are faulty whatever stands before them. With one thing too many texts of the grammar go on, and so they do with another number where one is out of range.
+-- Other faults are different. A token that can't be read, and a number outside i64, are faults whatever comes before them. With one thing too many, texts of the grammar do go on, and so they do with another number where one is out of range.
 pub record LeavesGrammar {T : Type 0} (Spells : List Token → T → Type 0) (fault_of : List Token → Option BookFault) (ts : List Token) (at : ℕ) : Type 0 where
   pub before : List Token
   pub token : Token
@@ -49,7 +49,7 @@ IsAt place (TooMany at what) = at ≡ place
 IsAt place (BadNumber at) = at ≡ place
 IsAt place NoMemory = ⊥
 
--- the tokens have this fault at one of them, none before it, and would have it with any other tokens behind that one
+-- the tokens have this fault at one of them and none before it, and would have it with any other tokens after that one
 pub record Stays (fault_of : List Token → Option BookFault) (ts : List Token) (f : BookFault) : Type 0 where
   pub before : List Token
   pub faulty : Token

@@ -1,18 +1,18 @@
--- Laws of tables that grow. Of a growing chain the old rows and lists and those of the new rows alone, put together, are those of all rows; a plan that doesn't scan the table stays as it is.
+-- Laws of tables that grow. For a growing chain, the old rows and lists, followed by those of the new rows alone, are those of all rows. A plan that doesn't scan the table stays as it is.
 use Rattle.std.specs.{Prelude.{◌≡◌, ℕ, ◌≤◌, true, false, List, [], ◌∷◌, ◌++◌, length, nat_eq, None}, List.{flat_map, All}}
 use Rattle.smk_base.specs.{Places.{has, composed, followed}, declared.book.need.Needed.Needed, declared.book.plan.Agg.Agg, Plans.{Unary, Grouping, Expr, Apply}}
 use Rattle.smk_model.specs.{Values.Row, Plain.{step1, leaves, whole}, Annotated.pairs, Locals.{back1, fwd1}, Composed.{table_at, rows_over, backs, forwards}, Selection.row_limit, NodeFaults.{asked_of, first_fault}, LineageLaws.selected_table, LocalLaws.together, Growth.{is_chain, is_growing, regrouping}}
 
--- a grouping of parts after each other is the regrouping of the groupings of the parts
+-- a grouping of parts, one after the other, is the regrouping of the groupings of the parts
 pub record GroupsRegroup : Type 0 where
   pub parts : (keys : List ℕ) (aggs : List Agg) (parts : List (List Row)) → step1 (Grouping keys aggs) (together parts) ≡ step1 (regrouping keys aggs) (flat_map (step1 (Grouping keys aggs)) parts)
   pub two : (keys : List ℕ) (aggs : List Agg) (L M : List Row) → step1 (Grouping keys aggs) (L ++ M) ≡ step1 (regrouping keys aggs) (step1 (Grouping keys aggs) L ++ step1 (Grouping keys aggs) M)
 
--- that a table has its old rows and behind them new ones; of the other tables nothing is said
+-- a table has its old rows, and new ones after them; nothing is said of the other tables
 abbrev pub HasGrown : ℕ → List (List Row) → List (List Row) → List (List Row) → Type 0
 HasGrown table old new grown = table_at grown table ≡ table_at old table ++ table_at new table
 
--- what a chain gives of the grown table
+-- what a chain gives over the grown table
 pub record ChainGrows : Type 0 where
   pub rows : (plan : Expr) (old new grown : List (List Row)) → is_chain plan ≡ true → HasGrown (selected_table plan) old new grown
       → rows_over plan grown ≡ rows_over plan old ++ rows_over plan new
@@ -21,11 +21,11 @@ pub record ChainGrows : Type 0 where
   pub forwards : (plan : Expr) (old new grown : List (List Row)) → is_chain plan ≡ true → HasGrown (selected_table plan) old new grown
       → forwards plan grown (selected_table plan) ≡ followed (forwards plan old (selected_table plan)) (forwards plan new (selected_table plan))
 
--- the rows of a plan over the old table, and behind them those over the new rows
+-- the rows of a plan over the old table, followed by those over the new rows
 abbrev pub both_rows : Expr → List (List Row) → List (List Row) → List Row
 both_rows plan old new = rows_over plan old ++ rows_over plan new
 
--- what a grouping over a chain gives of the grown table: what the regrouping gives of both
+-- what a grouping over a chain gives over the grown table: what the regrouping gives over both
 pub record GroupGrows : Type 0 where
   pub rows : (keys : List ℕ) (aggs : List Agg) (input : Expr) (old new grown : List (List Row)) → is_chain input ≡ true → HasGrown (selected_table input) old new grown
       → rows_over (Apply (Grouping keys aggs) input) grown ≡ step1 (regrouping keys aggs) (both_rows (Apply (Grouping keys aggs) input) old new)
@@ -47,17 +47,17 @@ pub record GrowingIsThin : Type 0 where
   pub pairs : (plan : Expr) (tables : List (List Row)) → is_growing plan ≡ true
       → pairs plan (whole plan tables) (selected_table plan) (length (table_at tables (selected_table plan))) ≤ length (table_at tables (selected_table plan))
 
--- so none of its nodes has too many rows or pairs where its table has not too many rows, whatever tables are asked for
+-- so if its table hasn't too many rows, no node has too many rows or pairs, whichever tables are needed
 abbrev pub GrowingNeverFull : Type 0
 GrowingNeverFull = (plan : Expr) (tables : List (List Row)) (need : List Needed) → is_growing plan ≡ true → length (table_at tables (selected_table plan)) ≤ row_limit → first_fault plan (whole plan tables) (asked_of tables need) ≡ None
 
--- that tables and others are the same at every leaf of a plan
+-- two lists of tables are the same at every leaf of a plan
 abbrev pub AgreeAtLeaves : Expr → List (List Row) → List (List Row) → Type 0
 AgreeAtLeaves plan A B = (table : ℕ) → has (leaves plan) table ≡ true → table_at A table ≡ table_at B table
 
--- what a plan gives of tables is what it gives of others that are the same at its leaves
+-- a plan gives the same over tables that are the same at its leaves
 pub record UnscannedStays : Type 0 where
-  -- so it is where only a table that it doesn't scan is another
+  -- tables are the same there if they differ only in one that the plan doesn't scan
   pub other : (plan : Expr) (table : ℕ) (A B : List (List Row)) → has (leaves plan) table ≡ false → ((u : ℕ) → nat_eq u table ≡ false → table_at A u ≡ table_at B u) → AgreeAtLeaves plan A B
   pub tables : (plan : Expr) (A B : List (List Row)) → AgreeAtLeaves plan A B → whole plan A ≡ whole plan B
   pub rows : (plan : Expr) (A B : List (List Row)) → AgreeAtLeaves plan A B → rows_over plan A ≡ rows_over plan B

@@ -1,8 +1,8 @@
--- What may be said in a conversation.
+-- What you can say in a conversation.
 use Rattle.std.specs.{Prelude.{ℕ, List, [], ◌∷◌, codes}, List.concat}
 use Rattle.smk_model.specs.Texts.{line}
 
--- each form of line, and an example of it behind a sign at which a comment begins
+-- each form of line, and an example of it in a comment
 abbrev pub help_text : List ℕ
 help_text = concat (
     line (codes "show VIEW  # show by_region" ∷ [])

@@ -1,4 +1,4 @@
--- When a step fits the kinds of its inputs, and the kinds of its output. Columns are numbers here, so the rules on their names have no part in it.
+-- When a step fits the kinds of its inputs, and the kinds of its output. Columns are numbers here, so the rules about their names play no part.
 use Rattle.std.specs.{Prelude.{ℕ, ◌+◌, ◌<◌, ◌≤◌, pos, ◌≤ℤ◌, List, [], ◌∷◌, ◌++◌, length, map, All}, List.AllZip}
 use Rattle.smk_base.specs.{declared.value.Value.Value, declared.value.Kind.Kind, declared.value.Kind.TheVariants.{Int, Text}, declared.book.plan.Operand.Operand, declared.book.plan.Item.Item, declared.book.plan.Agg.Agg, declared.book.plan.Agg.TheVariants.{Count, Sum, Min, Max}, declared.rel.TheConstants.COLUMN_LIMIT, Plans.{Formula, Comparison, Conjunction, Disjunction, Negation, Unary, Selection, Projection, Distinction, Grouping, Binary, Equijoin, ThetaJoin, CrossProduct, BagUnion, SetUnion}, Rels.kind_in}
 use Rattle.smk_base.specs.declared.value.Value.TheVariants as values
@@ -33,12 +33,12 @@ FormulaFits kinds (Conjunction a b) = FormulaFits kinds a × FormulaFits kinds b
 FormulaFits kinds (Disjunction a b) = FormulaFits kinds a × FormulaFits kinds b
 FormulaFits kinds (Negation a) = FormulaFits kinds a
 
--- a bin stands on an int and divides by at least 1
+-- a bin is of an int and divides by at least 1
 abbrev pub ItemFits : List Kind → Item → Type 0
 ItemFits kinds (items.Col c) = c < length kinds
 ItemFits kinds (items.Bin c w) = (c < length kinds) × IsInt (kind_in kinds c) × (pos 1 ≤ℤ w)
 
--- a sum stands on an int of level at most 2
+-- a sum is of an int of level at most 2
 abbrev pub AggFits : List Kind → Agg → Type 0
 AggFits kinds Count = Unit {0}
 AggFits kinds (Sum c) = (c < length kinds) × IsSummed (kind_in kinds c)

@@ -1,4 +1,4 @@
--- The grammar as a table: for each symbol and the kind of the token that begins it, what is read behind that token and the tree that comes of it; and what a symbol gives that is nothing. Each rule stands above its lines.
+-- The grammar as a table: for each symbol and the kind of its first token, what is read after that token and the tree that it makes; and what a symbol gives when it is left out. Each rule is above its lines.
 use Rattle.std.specs.Prelude.{ℕ, ℤ, pos, negsuc, ◌+◌, Bool, true, false, cond, List, [], ◌∷◌, Option, Some, None}
 use Rattle.smk_base.specs.{declared.book.token.TokenKind.TokenKind, declared.book.plan.CmpOp.CmpOp, declared.book.tree.Word.Word, declared.book.tree.Lit.Lit, declared.book.tree.AggTree.AggTree, declared.book.tree.AggWhat.AggWhat, declared.book.tree.Extra.Extra, declared.book.tree.ItemTree.ItemTree, declared.book.tree.Term.Term, declared.book.tree.Marks.Marks, declared.book.tree.Then.Then, declared.book.tree.Line.Line, Trees.{PredImage, CompareNode, AndNode, OrNode, NotNode, TreeImage, ScanNode, StepNode, StepImage, SelectNode, ProjectNode, DistinctNode, GroupNode, JoinNode, ThetaNode, ProductNode, UnionAllNode, UnionNode, StmtImage, AskStepImage, TableNode, ViewNode, BackNode, FwdNode, LinkNode, DependsNode, AnyLineImage, PlainLine, AskedLine, ProfiledLine, AppendedLine}}
 use Rattle.smk_base.specs.declared.book.token.TokenKind.TheVariants as kinds
@@ -30,7 +30,7 @@ file next = Reads (AToken kinds.Str) (λ t. next (string_value t.text))
 abbrev pub ends : {A : Type 0} → A → Rule A
 ends x = sign kinds.End (Gives x)
 
--- what is read behind a token of one kind, behind a name, and behind a column
+-- what is read after a token of one kind, after a name, and after a column
 abbrev pub if_sign : {A : Type 0} → TokenKind → (Token → Rule A) → TokenKind → Opening A
 if_sign wanted rule kind = cond (same_kind wanted kind) (Some rule) None
 
@@ -166,7 +166,7 @@ abbrev pub joint : TokenKind → TokenKind
 joint kinds.On = kinds.On
 joint _ = kinds.To
 
--- NAME, and behind a keyword another NAME
+-- NAME, a keyword, and another NAME
 abbrev pub names_rule : TokenKind → TokenKind → Opening (Word × Word)
 names_rule between kind = if_name (λ w. sign (joint between) (Reads AName (λ z. Gives (w, z)))) kind
 
@@ -231,7 +231,7 @@ then_rule kinds.Where = Some (λ t. Reads ALineColumn (λ w. sign kinds.Equal (R
 then_rule kinds.Group = Some (λ t. Gives thens.Grouped)
 then_rule _ = None
 
--- NAME marks, and behind a keyword another NAME
+-- NAME marks, a keyword, and another NAME
 abbrev pub marked_rule : TokenKind → TokenKind → Opening (Word × Marks × Word)
 marked_rule between kind = if_name (λ w. Reads AMarks (λ m. sign (joint between) (Reads ALineName (λ z. Gives (w, m, z))))) kind
 
@@ -259,14 +259,14 @@ any_rule kinds.Fd = Some (λ t. Reads ALineName (λ w. Gives (ProfiledLine w.nam
 any_rule kinds.Append = Some (λ t. append_rule)
 any_rule kind = onward (line_rule kind) (λ l. Gives (PlainLine l))
 
--- the steps behind a bar, one or more
+-- the steps after a bar, one or more
 abbrev pub asked_rule : TokenKind → Opening AskStepImage
 asked_rule kind = with_place (λ at s. record { at = at; what = s }) (one_input kind)
 
 abbrev pub piped_rule : TokenKind → Opening (List AskStepImage)
 piped_rule kind = onward (asked_rule kind) (λ s. Reads AskSteps (λ ss. Gives (s ∷ ss)))
 
--- what is read behind the token that begins a symbol
+-- what is read after the first token of a symbol
 abbrev pub rule_of : (symbol : Symbol) → TokenKind → Opening (Tree symbol)
 rule_of (AToken wanted) kind = if_sign wanted Gives kind
 rule_of (ANames between) kind = names_rule between kind
@@ -316,7 +316,7 @@ rule_of APiped kind = piped_rule kind
 -- NAME ('|' step)*, up to the end: a table, and steps over its rows
 rule_of ASelected kind = if_name (λ w. Reads AskSteps (λ ss. ends (w.name, ss))) kind
 
--- what a symbol gives that is nothing
+-- what a symbol gives when it is left out
 abbrev pub if_nothing : (symbol : Symbol) → Option (Tree symbol)
 if_nothing ADefault = Some None
 if_nothing AKeys = Some []

@@ -1,4 +1,4 @@
--- Of the limits and ranges that a book and an `ask` line of the grammar keep, those that typing rests on.
+-- The limits and ranges of a book and of an `ask` line that typing relies on.
 use Rattle.std.specs.{Prelude.{◌≡◌, ℕ, ◌+◌, ◌≤◌, pos, ◌≤ℤ◌, FitsSigned, Bool, true, false, count_by, List, [], length, All, Option, Some, None}, Int.w64}
 use Rattle.smk_base.specs.{declared.value.Value.Value, declared.book.tree.Lit.Lit, declared.book.tree.Decl.Decl, declared.book.tree.ItemTree.ItemTree, declared.book.tree.ItemTree.TheVariants.{Col, Bin}, Trees.{TreeImage, ScanNode, StepNode, StepImage, SelectNode, ProjectNode, DistinctNode, GroupNode, JoinNode, ThetaNode, ProductNode, UnionAllNode, UnionNode, StmtImage, TableNode, ViewNode, DependsNode, AskStepImage, AskImage}, declared.book.tree.Marks.Marks, declared.book.limits.TheConstants.{TABLE_LIMIT, VIEW_LIMIT, NODE_LIMIT}, declared.rel.TheConstants.COLUMN_LIMIT}
 use Rattle.smk_base.specs.declared.value.Value.TheVariants as values

@@ -41,7 +41,7 @@ from1 (Projection items) L o = o ∷ []
 from1 (Distinction items) L o = places (λ i. row_eq (row_at (firsts (map (image items) L)) o) (image items (row_at L i))) (length L)
 from1 (Grouping keys aggs) L o = places (λ i. row_eq (row_at (firsts (map (key_of keys) L)) o) (key_of keys (row_at L i))) (length L)
 
--- the same in the left and in the right input
+-- the places in the left input, and in the right one, that output row o of a step comes from
 abbrev pub from_left : Binary → List Row → List Row → ℕ → List ℕ
 from_left (Equijoin pairs) L R o = (match_at (agree pairs) L R o).0 ∷ []
 from_left (ThetaJoin formula) L R o = (match_at (meets_together formula) L R o).0 ∷ []

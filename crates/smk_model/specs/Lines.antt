@@ -13,7 +13,7 @@ without_cr (b ∷ c ∷ bs) = b ∷ without_cr (c ∷ bs)
 abbrev pub first_line : List ℕ → List ℕ
 first_line bytes = take_while no_line_end bytes
 
--- the lines of the bytes: cut behind each line feed; the line feed and one carriage return before it, or at the end, are no part of a line. passed are the bytes of the line so far
+-- the lines of the bytes, after the bytes that are passed of the first line
 abbrev pub lines_after : List ℕ → List ℕ → List (List ℕ)
 lines_after passed [] = cut passed
   where
@@ -22,6 +22,7 @@ lines_after passed [] = cut passed
     cut (b ∷ bs) = without_cr (b ∷ bs) ∷ []
 lines_after passed (b ∷ bs) = if b == 10 then without_cr passed ∷ lines_after [] bs else lines_after (passed ++ b ∷ []) bs
 
+-- the lines of the bytes, each up to a line feed; the line feed, and one carriage return before it or at the end, are no part of the line
 abbrev pub lines : List ℕ → List (List ℕ)
 lines script = lines_after [] script
 

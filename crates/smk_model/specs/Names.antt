@@ -8,7 +8,7 @@ pub use Rattle.smk_base.specs.Widths.{same_sort}
 abbrev pub Typed : Type 0 → Type 0
 Typed A = Result A TypeFault
 
--- one step after another: the first fault is the fault
+-- one step after another, up to the first fault
 infixl 10 ◌>>=◌
 abbrev pub ◌>>=◌ : {A B E : Type 0} → Result A E → (A → Result B E) → Result B E
 (Ok a) >>= next = next a
@@ -18,7 +18,7 @@ abbrev pub ◌>>=◌ : {A B E : Type 0} → Result A E → (A → Result B E) �
 abbrev pub unless : {A : Type 0} → Bool → TypeFault → Typed A → Typed A
 unless wrong fault result = cond wrong (Err fault) result
 
--- the members of a list in turn from the left, each over what those before it gave
+-- the members of a list from left to right, each over the result so far
 abbrev pub in_turn : {A X : Type 0} → (A → X → Typed A) → A → List X → Typed A
 in_turn rule made [] = Ok made
 in_turn rule made (x ∷ xs) = rule made x >>= λ more. in_turn rule more xs

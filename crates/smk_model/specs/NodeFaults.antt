@@ -1,9 +1,9 @@
--- The first fault of a plan's nodes: too many rows, or too many pairs with a table that is asked for.
+-- The first fault of a plan's nodes: too many rows, or too many pairs with a table that is needed.
 use Rattle.std.specs.{Prelude.{◌≡◌, ℕ, ◌+◌, Bool, cond, nat_lt, List, [], ◌∷◌, ◌++◌, length, map, drop, Option, Some, None, option_map}, List.{find, filter}, Option.option_or}
 use Rattle.smk_base.specs.{Plans.{Expr, Leaf, Apply, Combine}, declared.book.need.Needed.Needed}
 use Rattle.smk_model.specs.{Values.Row, Plain.{width, eval, table_at}, Annotated.pairs, Selection.{nodes, is_full, first_full}}
 
--- a node by its number, and there a table
+-- too many rows at a node, or too many pairs there with a table, each by its number
 pub data NodeFault : Type 0 where
   FullRows : ℕ → NodeFault
   FullPairs : ℕ → ℕ → NodeFault
@@ -12,7 +12,7 @@ pub data NodeFault : Type 0 where
 abbrev pub pair_limit : ℕ
 pair_limit = 16777216
 
--- a table that is asked for, and the number of its rows
+-- a table that is needed, and the number of its rows
 abbrev pub AskedTable : Type 0
 AskedTable = ℕ × ℕ
 
@@ -61,6 +61,6 @@ first_of (x ∷ xs) = Some x
 abbrev pub FirstOfAll : Type 0
 FirstOfAll = (plan : Expr) (E : List (List Row)) (asked : List AskedTable) → first_fault plan E asked ≡ first_of (all_faults plan E asked 0)
 
--- where no table is asked for, it is the first node with too many rows
+-- where no table is needed, it is the first node with too many rows
 abbrev pub NothingAsked : Type 0
 NothingAsked = (plan : Expr) (E : List (List Row)) → first_fault plan E [] ≡ option_map FullRows (first_full plan E)

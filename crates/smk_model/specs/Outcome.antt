@@ -12,7 +12,7 @@ Held = List ℕ → Option (List ℕ)
 abbrev pub file_limit : ℕ
 file_limit = 67108864
 
--- the bytes of a file that can be read and isn't too long
+-- the bytes of a file, unless it can't be read or is too long
 abbrev pub kept_short : List ℕ → List ℕ → Result (List ℕ) Fault
 kept_short name bytes = cond (nat_lt file_limit (length bytes)) (Err (FileLong name)) (Ok bytes)
 
@@ -32,12 +32,12 @@ said_or_fault fds (Err fault) = Err (Types fault)
 abbrev pub statements_say : List StmtImage → Result BookSaid Fault
 statements_say stmts = said_or_fault (dependency_names stmts) (types (expanded stmts))
 
--- what the bytes of a book's file say, after every byte order mark at its front
+-- what the bytes of a book's file say, without the byte order marks at its start
 pub data BookSays (bytes : List ℕ) : Result BookSaid Fault → Type 0 where
   unparsed : {fault : Fault} → Parses (after_marks bytes) (Err fault) → BookSays bytes (Err fault)
   parsed : {stmts : List StmtImage} {answer : Result BookSaid Fault} → Parses (after_marks bytes) (Ok stmts) → statements_say stmts ≡ answer → BookSays bytes answer
 
--- one reading of a file after its bytes, or the fault that it has no bytes
+-- what a file says, by its bytes, or the file's fault
 pub data FileSays {A : Type 0} (held : Held) (name : List ℕ) (says : List ℕ → Result A Fault → Type 0) : Result A Fault → Type 0 where
   unread : {fault : Fault} → file_bytes held name ≡ Err fault → FileSays held name says (Err fault)
   read : {bytes : List ℕ} {answer : Result A Fault} → file_bytes held name ≡ Ok bytes → says bytes answer → FileSays held name says answer
@@ -52,14 +52,14 @@ no_column = record { name = []; kind = Text; def = None }
 abbrev pub column_name : List ColDecl → ℕ → List ℕ
 column_name cols c = (slice_index_or cols c no_column).name
 
--- the name of the column that a fault of a table is one of
+-- the name of the column that a table's fault is about, if any
 abbrev pub faulty_column : List ColDecl → TableFault → Option (List ℕ)
 faulty_column cols (table_faults.MissingColumn c) = Some (column_name cols c)
 faulty_column cols (table_faults.RepeatedColumn c) = Some (column_name cols c)
 faulty_column cols (table_faults.BadInt nth c) = Some (column_name cols c)
 faulty_column cols _ = None
 
--- the fault of a run that a fault of a table is
+-- a table's fault as a fault of the run
 abbrev pub fault_of_table : TableInfo → TableFault → Fault
 fault_of_table table table_faults.TooManyRows = TableRows table.name
 fault_of_table table fault = Table table.name (faulty_column table.cols fault) fault
@@ -68,7 +68,7 @@ abbrev pub or_table_fault : TableInfo → Result (List Row) TableFault → Resul
 or_table_fault table (Ok rows) = Ok rows
 or_table_fault table (Err fault) = Err (fault_of_table table fault)
 
--- the rows of a table, by its file
+-- the rows of a table, from its file, or the first fault
 abbrev pub load : Held → TableInfo → Result (List Row) Fault
 load held table = file_bytes held table.file >>= λ bytes. or_table_fault table (table_of table.cols bytes)
 
@@ -76,20 +76,20 @@ load held table = file_bytes held table.file >>= λ bytes. or_table_fault table 
 abbrev pub load_all : Held → List TableInfo → Result (List (List Row)) Fault
 load_all held tables = all_or_first (map (load held) tables)
 
--- the readings of the bytes of a script's file; every script has some
+-- what each line of a script says; a script's bytes are never at fault
 pub data ScriptSays (bytes : List ℕ) : Result (List Reading) Fault → Type 0 where
   lines_read : {readings : List Reading} → AreReadingsOf bytes readings → ScriptSays bytes (Ok readings)
 
--- the readings of a run's script; a run without one has none
+-- what each line of a run's script says; without a script there are no lines
 pub data OpensScript (held : Held) : Option (List ℕ) → Result (List Reading) Fault → Type 0 where
   no_script : OpensScript held None (Ok [])
   a_script : {name : List ℕ} {answer : Result (List Reading) Fault} → FileSays held name ScriptSays answer → OpensScript held (Some name) answer
 
--- a table of a book, whose rows are those of another file
+-- a table of a book, with another file
 abbrev pub filed : List ℕ → TableInfo → TableInfo
 filed file table = record { name = table.name; file = file; cols = table.cols }
 
--- the table that a line appends to, with the file of the line, where the book has the table
+-- the table that a line appends to, with the line's file, if the book has the table
 abbrev pub appended_by : CatalogImage → AnyLineImage → Option TableInfo
 appended_by catalog (AppendedLine table file) = option_map (filed file) (table_named catalog table)
 appended_by catalog _ = None
@@ -98,18 +98,18 @@ abbrev pub appended_at : CatalogImage → Reading → Option TableInfo
 appended_at catalog (Asks asked) = appended_by catalog asked
 appended_at catalog _ = None
 
--- those of all lines, line by line
+-- these tables, line by line
 abbrev pub appended : CatalogImage → List Reading → List TableInfo
 appended catalog readings = filter_map (appended_at catalog) readings
 
--- a run's workbook, the names of its book's dependencies, its readings, and the rows that its lines bring, in the order of the lines
+-- what a run reads: its workbook, the names of the dependencies, what its lines say, and the rows that they append
 pub record Inputs : Type 0 where
   pub book : Workbook
   pub fds : List (List ℕ)
   pub readings : List Reading
   pub added : List (List Row)
 
--- what is read under these names of a book and a script, or the first fault: the book; the tables in the book's order; the script; the files that its lines append, line by line
+-- what is read of the book and the script with these names, or the first fault, in this order: the book; the tables in the book's order; the script; the files that its lines append
 pub data ReadsFiles (held : Held) (book : List ℕ) (script : Option (List ℕ)) : Result Inputs Fault → Type 0 where
   no_book : {fault : Fault} → OpensBook held book (Err fault) → ReadsFiles held book script (Err fault)
   no_tables : {said : BookSaid} {fault : Fault} → OpensBook held book (Ok said) → load_all held said.catalog.tables ≡ Err fault → ReadsFiles held book script (Err fault)
@@ -121,18 +121,18 @@ pub data ReadsFiles (held : Held) (book : List ℕ) (script : Option (List ℕ))
       → load_all held said.catalog.tables ≡ Ok tables → OpensScript held script (Ok readings) → load_all held (appended said.catalog readings) ≡ Ok added
       → ReadsFiles held book script (Ok (record { book = record { catalog = said.catalog; tables = tables }; fds = said.fds; readings = readings; added = added }))
 
--- the bytes of the first of these files with a name
+-- the bytes of the first file with this name
 abbrev pub file_named : List DemoFile → Held
 file_named files name = option_map (λ (file : DemoFile). file.bytes) (find (λ file. pointwise nat_eq file.name name) files)
 
--- the bytes of a text of a demo by its name, as of a file
+-- the bytes of a demo's text with this name, as if it were a file
 abbrev pub text_named : DemoTexts → Held
 text_named texts name =
     cond (pointwise nat_eq name DEMO_BOOK_NAME.now) (Some texts.book)
     (cond (pointwise nat_eq name DEMO_SCRIPT_NAME.now) (Some texts.script)
     (file_named texts.files name))
 
--- where a run finds its texts, and under which names: in the files; a demo, in its own texts
+-- where a run finds its texts, and under which names: in files, or in the demo
 abbrev pub source_of : TextSource → Held → Held
 source_of (Files book script) held = held
 source_of (Demo n) held = text_named (demo_of n)
@@ -150,7 +150,7 @@ pub data ReadsInputs (words : List (List ℕ)) (held : Held) : Result Inputs Fau
   unusable : words_of words ≡ None → ReadsInputs words held (Err Usage)
   usable : {ws : TextSource} {answer : Result Inputs Fault} → words_of words ≡ Some ws → ReadsFiles (source_of ws held) (book_of ws) (script_of ws) answer → ReadsInputs words held answer
 
--- the report of what was read, unless a node of a view has too many rows, or too many pairs with a table that the view needs
+-- the report of what was read, or the first fault of a view
 abbrev pub unless_view_fault : Inputs → Option ViewFault → Result Report Fault
 unless_view_fault given (Some found) = Err (fault_named given.book.catalog found)
 unless_view_fault given None = Ok (report_of given.book given.fds given.added given.readings)
@@ -158,7 +158,7 @@ unless_view_fault given None = Ok (report_of given.book given.fds given.added gi
 abbrev pub reported : Inputs → Result Report Fault
 reported given = unless_view_fault given (first_view_fault given.book)
 
--- the most looks of a run that reads this
+-- the most looks of a run with these inputs
 abbrev pub run_looks : Inputs → ℕ
 run_looks given = start_looks given.book + (script_told given.book given.fds given.added given.readings).looks
 
@@ -167,7 +167,7 @@ pub data Outcome (words : List (List ℕ)) (held : Held) : Result Report Fault �
   unreadable : {fault : Fault} → ReadsInputs words held (Err fault) → Outcome words held (Err fault)
   read : {inputs : Inputs} {answer : Result Report Fault} → ReadsInputs words held (Ok inputs) → reported inputs ≡ answer → Outcome words held answer
 
--- what a run writes of its report: its text; a demo, the summary
+-- what a run writes of its report: the text, or the summary of a demo
 abbrev pub written_for : Option TextSource → Report → List ℕ
 written_for (Some (Files book script)) report = report.text
 written_for (Some (Demo n)) report = summary_of n report
@@ -176,7 +176,7 @@ written_for None report = []
 abbrev pub written_of : List (List ℕ) → Report → List ℕ
 written_of words report = written_for (words_of words) report
 
--- a file that is read where no fault was met before
+-- a file that a run reads: nothing that is read before it has a fault
 pub data IsAskedFor (held : Held) (book : List ℕ) (script : Option (List ℕ)) : List ℕ → Type 0 where
   the_book : IsAskedFor held book script book
   a_table : {said : BookSaid} {tables : List (List Row)} (before : List TableInfo) (table : TableInfo) (behind : List TableInfo) → OpensBook held book (Ok said)
@@ -187,12 +187,12 @@ pub data IsAskedFor (held : Held) (book : List ℕ) (script : Option (List ℕ))
       → load_all held said.catalog.tables ≡ Ok tables → OpensScript held script (Ok readings)
       → appended said.catalog readings ≡ before ++ table ∷ behind → load_all held before ≡ Ok added → IsAskedFor held book script table.file
 
--- a fault that a read may say since it failed: that a file can't be read which is read where no fault was met before
+-- the fault of a read that failed: such a file can't be read
 abbrev pub NamesAsked : Held → List ℕ → Option (List ℕ) → Fault → Type 0
 NamesAsked held book script (Unread file) = IsAskedFor held book script file
 NamesAsked held book script _ = ⊥
 
--- the same for the files of a run; a demo reads none
+-- such a fault of a run; a demo reads no file
 abbrev pub NamesRead : Option TextSource → Held → Fault → Type 0
 NamesRead (Some (Files book script)) held fault = NamesAsked held book script fault
 NamesRead _ held fault = ⊥
@@ -201,13 +201,13 @@ NamesRead _ held fault = ⊥
 abbrev pub nothing_held : Held
 nothing_held name = None
 
--- what is so of a run by what its files hold: where they don't tell it, only a rest of it is known; a run that reads no file doesn't depend on it
+-- what is known of a run, by what the files hold: where they don't tell, only `rest` is known; a run that reads no file doesn't depend on them
 abbrev pub WhereTold : Option Held → Option TextSource → Type 0 → (Held → Type 0) → Type 0
 WhereTold (Some held) words rest is = is held
 WhereTold None (Some (Files book script)) rest is = rest
 WhereTold None _ rest is = is nothing_held
 
--- what is left of the cause of a fault where the files don't tell what they hold
+-- what is known of a fault where the files don't tell what they hold: it isn't one of usage, and an unread file is a failed read
 abbrev pub UntoldCause : Type 0 → Fault → Type 0
 UntoldCause rose Usage = ⊥
 UntoldCause rose (Unread file) = rose
@@ -217,6 +217,6 @@ UntoldCause rose _ = ⊤
 abbrev pub HasCause : List (List ℕ) → Option Held → Type 0 → Fault → Type 0
 HasCause words held rose fault = WhereTold held (words_of words) (UntoldCause rose fault) (λ held. Outcome words held (Err fault) ⊎ (rose × NamesRead (words_of words) held fault))
 
--- a report of the run: its outcome
+-- this report is the run's outcome
 abbrev pub IsReport : List (List ℕ) → Option Held → Report → Type 0
 IsReport words held report = WhereTold held (words_of words) ⊤ (λ held. Outcome words held (Ok report))

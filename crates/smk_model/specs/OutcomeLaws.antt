@@ -19,7 +19,7 @@ OneOutcome = (words : List (List ℕ)) (held : Held) (a b : Result Report Fault)
 abbrev pub FaultlessTextsSpell : Type 0
 FaultlessTextsSpell = (text : List ℕ) → book_fault (tokens text) ≡ None → (ss : List StmtImage) × AreStmts (tokens text) ss
 
--- every line says something
+-- every script has a list of readings
 abbrev pub SomeReading : Type 0
 SomeReading = (bytes : List ℕ) → (readings : List Reading) × AreReadingsOf bytes readings
 

@@ -1,24 +1,24 @@
--- What a conversation's own lines leave as it is, and where they come to what a line of a script does.
+-- What own lines don't change, and when they are answered as a script's line is.
 use Rattle.std.specs.{Prelude.{◌≡◌, ◌≤◌, ℕ, Bool, true, false, nat_eq, List, [], ◌∷◌, length, Option, Some, None, Ok}, List.list_any}
 use Rattle.smk_base.specs.{CatalogImage.{CatalogImage, table_place}, Places.upto, Trees.{AskStepImage, AskImage, PlainLine, AskedLine, ProfiledLine}, declared.brush.BrushOn.BrushOn, declared.book.tree.Line.Line, declared.reply.AskReply.AskReply, declared.reply.Reply.Reply}
 use Rattle.smk_base.specs.declared.reply.AskReply.TheVariants as answers
 use Rattle.smk_base.specs.declared.reply.Reply.TheVariants as replies
 use Rattle.smk_model.specs.{Asks.{back_line, ask_over}, Catalogs.table_kinds, Limits.KeepsSteps, OwnAnswers.{narrowed_reply, own_answered, selected_ask, selected_reply}, OwnLines.{RowsPart, OwnLine, Selected, Narrowed, NarrowedAsk, Brief, BriefProfile, OwnReading, IsOwnReading, has_rows, has_rows_behind, is_own, first_dot}, Spelled.AreSelected, TokenReadings.selected_fault, Readings.{Reading, Unread, IsReading}, Replies.{known_pair, reply}, ReplyTexts.{view_in, table_in}, Reports.{BookSaid, answered}, Session.{State, concerns, rows_of_table}, Tokens.tokens, Typing.info_at}
 
--- each text has one own reading; one that begins with a dot is no line of a script, which isn't read at the dot; and the steps of one without a fault keep their limits
+-- each text has one own reading; one that begins with a dot is no line of a script, and is wrong there at the dot; steps without a fault keep their limits
 pub record OwnLinesAreRead : Type 0 where
   pub some : (text : List ℕ) → (own : OwnReading) × IsOwnReading text own
   pub one : (text : List ℕ) (a b : OwnReading) → IsOwnReading text a → IsOwnReading text b → a ≡ b
   pub apart : (text : List ℕ) (reading : Reading) → is_own text ≡ true → IsReading text reading → reading ≡ Unread (first_dot text)
   pub limits : (text table : List ℕ) (steps : List AskStepImage) → AreSelected (tokens text) table steps → selected_fault (tokens text) ≡ None → KeepsSteps steps
 
--- whether an own line is a line that is answered without its lists
+-- whether an own line is one after `.brief`
 abbrev pub is_brief : OwnLine → Bool
 is_brief (Brief asked) = true
 is_brief (BriefProfile view) = true
 is_brief _ = false
 
--- an own line leaves the state, and one that is answered without its lists leaves it where the line does by itself; it is refused where the line is, and so is one whose rows are narrowed
+-- an own line doesn't change the state, except that after `.brief` a line changes it as it does by itself; after `.part`, `.now` or `.brief` a line is refused exactly if it is refused by itself
 pub record OwnLinesStay : Type 0 where
   pub stays : (said : BookSaid) (state : State) (own : OwnLine) → is_brief own ≡ false → (own_answered said state own).next ≡ state
   pub moves : (said : BookSaid) (state : State) (asked : Line) → (own_answered said state (Brief asked)).next ≡ (answered said state [] (PlainLine asked)).next
@@ -32,7 +32,7 @@ pub record OwnLinesStay : Type 0 where
 abbrev pub IsUnbrushed : CatalogImage → State → Line → Type 0
 IsUnbrushed catalog state asked = (v t : ℕ) → known_pair catalog (view_in asked) (table_in asked) ≡ Ok (v, t) → list_any (concerns catalog v t) state.brushes ≡ false
 
--- where none does, a line over the rows that are selected now is that line by itself
+-- if none does, a line after `.now` is answered as that line by itself
 pub record NowIsPlain : Type 0 where
   pub reply : (catalog : CatalogImage) (state : State) (asked : Line) → has_rows_behind asked ≡ true → IsUnbrushed catalog state asked → narrowed_reply catalog state true asked ≡ (reply catalog state asked).0
   pub back : (said : BookSaid) (state : State) (asked : Line) → has_rows_behind asked ≡ true → IsUnbrushed said.catalog state asked
@@ -63,7 +63,7 @@ selected_rows catalog state table (step ∷ steps) = ask_rows (ask_over catalog 
 abbrev pub part_to : ℕ → Option RowsPart
 part_to below = Some (record { from = 0; below = below })
 
--- where an answer has no more rows, that part is all of it, with the same looks; and all of it is what the line comes to by itself
+-- if an answer has no more rows, that part is the whole answer, with the same looks; and the whole answer is that to the line by itself
 pub record WholePartIsPlain : Type 0 where
   pub line : (said : BookSaid) (state : State) (now : Bool) (asked : Line) (below : ℕ) → has_rows asked ≡ true → reply_rows (narrowed_reply said.catalog state now asked) ≤ below
       → own_answered said state (Narrowed (part_to below) now asked) ≡ own_answered said state (Narrowed None now asked)

@@ -5,22 +5,26 @@ use Rattle.smk_base.specs.declared.book.tree.Line.TheVariants as lines
 use Rattle.smk_base.specs.declared.book.tree.Then.TheVariants as thens
 use Rattle.smk_model.specs.{Tokens.{tokens, is_gap, HasNoToken}, Spelled.AreSelected, TokenReadings.selected_fault, Lines.place_of, Readings.{Reading, Nothing, Asks, Unread, IsReading}}
 
--- which rows of an answer are printed: those numbered from one number on and below another
+-- which rows of an answer are printed: those from one number on and below another
 pub record RowsPart : Type 0 where
   pub from : ℕ
   pub below : ℕ
 
--- An own line: what there is, and what may be said; the rows of a table that all brushes select, through steps; a line of a script whose rows are narrowed to those selected for its view now, to a part in print, or to both;
--- and a line of a script, or an `fd` line, that is answered without its lists
+-- an own line: the schema, the help, or one of these:
 pub data OwnLine : Type 0 where
   Schema Help : OwnLine
+  -- the rows of a table that all brushes select, or steps over them
   Selected : Option RowsPart → List ℕ → List AskStepImage → OwnLine
+  -- a line with only a part of its rows, or only those selected now for its view on its table, or both
   Narrowed : Option RowsPart → Bool → Line → OwnLine
+  -- an `ask` line, narrowed in the same way
   NarrowedAsk : Option RowsPart → Bool → AskImage → OwnLine
+  -- a change of brushes, answered without lists of rids and marks
   Brief : Line → OwnLine
+  -- an `fd` line, answered without rows
   BriefProfile : List ℕ → OwnLine
 
--- whether a line has rows of which a part can be printed, and whether it has all the rows that marks came from, which can be narrowed to those selected now
+-- whether a part of a line's rows can be printed; and whether they are all the rows behind marks, which can be narrowed to those selected now
 abbrev pub has_rows : Line → Bool
 has_rows (lines.Show view) = true
 has_rows (lines.Back view marks table thens.Plain) = true
@@ -38,7 +42,7 @@ moves_brushes lines.Clear = true
 moves_brushes (lines.ClearOne view table) = true
 moves_brushes _ = false
 
--- the own line that a line of a script becomes behind such words, where it is of a form that may stand there
+-- the own line that a script's line becomes after `.part` or `.now`, and after `.brief`, if it may come there
 abbrev pub if_may : Bool → OwnLine → Option OwnLine
 if_may may own = cond may (Some own) None
 
@@ -52,7 +56,7 @@ brief (PlainLine asked) = if_may (moves_brushes asked) (Brief asked)
 brief (ProfiledLine view) = Some (BriefProfile view)
 brief _ = None
 
--- the bytes behind the blanks at the front, the first word there, which ends before a blank, and the bytes behind that
+-- the bytes after the blanks at the start; the first word there, up to a blank; and the bytes after it
 abbrev pub past_blanks : List ℕ → List ℕ
 past_blanks text = drop (length (take_while is_gap text)) text
 
@@ -65,7 +69,7 @@ first_word text = take_while is_solid (past_blanks text)
 abbrev pub past_word : List ℕ → List ℕ
 past_word text = drop (length (first_word text)) (past_blanks text)
 
--- whether a line is an own line: its first byte behind blanks is a dot; and the place of that byte
+-- whether a line is an own line: its first byte after blanks is a dot; and the place of that byte
 abbrev pub begins_with_dot : List ℕ → Bool
 begins_with_dot [] = false
 begins_with_dot (b ∷ bs) = b == 46
@@ -76,7 +80,7 @@ is_own text = begins_with_dot (past_blanks text)
 abbrev pub first_dot : List ℕ → ℕ
 first_dot text = length (take_while is_gap text)
 
--- the number from 0 to 4,294,967,295 that a word writes by digits, with a minus before them or none
+-- the number from 0 to 4,294,967,295 that a word writes, without a plus
 abbrev pub begins_with_plus : List ℕ → Bool
 begins_with_plus [] = false
 begins_with_plus (b ∷ bs) = b == 43
@@ -88,13 +92,13 @@ in_range _ = None
 abbrev pub bound_of : List ℕ → Option ℕ
 bound_of text = if begins_with_plus text then None else in_range (int_of text)
 
--- what an own line begins with: a word that is the whole line; words that stand before a table and steps; or words that stand before a line of a script, with the own line that it becomes
+-- the first words of an own line: the whole line; words before a table and steps; or words before a script's line, with the own line that it becomes
 pub data Lead : Type 0 where
   WholeLine : OwnLine → Lead
   BeforeTable : Option RowsPart → Lead
   BeforeLine : (AnyLineImage → Option OwnLine) → Lead
 
--- `.selected` or `.now`, with a part that was named before them or none; other words begin a line of a script
+-- `.selected` or `.now`, after `.part` or without it; after `.part`, other words begin a script's line
 abbrev pub narrowing : Option RowsPart → List ℕ → Option (Lead × List ℕ) → Option (Lead × List ℕ)
 narrowing part text other =
     if bytes_eq (first_word text) (codes ".selected") then Some (BeforeTable part, past_word text)
@@ -104,12 +108,12 @@ narrowing part text other =
 abbrev pub narrowing_to : RowsPart → List ℕ → Option (Lead × List ℕ)
 narrowing_to part text = narrowing (Some part) text (Some (BeforeLine (narrowed (Some part) false), text))
 
--- a part by its two numbers, and what stands behind them
+-- the two numbers of `.part`, and what comes after them
 abbrev pub parting : Option ℕ → Option ℕ → List ℕ → Option (Lead × List ℕ)
 parting (Some from) (Some below) text = narrowing_to (record { from = from; below = below }) text
 parting _ _ text = None
 
--- what a line begins with, and the bytes behind that
+-- the first words of a line, and the bytes after them
 abbrev pub lead_of : List ℕ → Option (Lead × List ℕ)
 lead_of text =
     if bytes_eq (first_word text) (codes ".schema") then Some (WholeLine Schema, past_word text)
@@ -118,7 +122,7 @@ lead_of text =
     else (if bytes_eq (first_word text) (codes ".part") then parting (bound_of (first_word (past_word text))) (bound_of (first_word (past_word (past_word text)))) (past_word (past_word (past_word text)))
     else narrowing None text None)))
 
--- the bytes at the end of a line, with blanks in place of those before them, so that each place is one of the line
+-- the rest of a line, with blanks for the bytes before it, so that its places are those of the line
 abbrev pub in_place : List ℕ → List ℕ → List ℕ
 in_place text rest = map (λ b. 32) (take (length text - length rest) text) ++ rest
 
@@ -127,18 +131,18 @@ pub data OwnReading : Type 0 where
   Owns : OwnLine → OwnReading
   Misses : ℕ → OwnReading
 
--- what is wrong before a line of a script, or with its form, is wrong at the first dot
+-- a script's line that may not come there is wrong at the first dot
 abbrev pub or_first_dot : List ℕ → Option OwnLine → OwnReading
 or_first_dot text (Some own) = Owns own
 or_first_dot text None = Misses (first_dot text)
 
--- what a line of a script makes of the words before it; where it isn't read by itself, or is missing, it isn't read at the same place
+-- an own line, by the reading of the script's line in it; a missing line is wrong at the end
 abbrev pub before_line : List ℕ → (AnyLineImage → Option OwnLine) → Reading → OwnReading
 before_line text becomes Nothing = Misses (length text)
 before_line text becomes (Asks asked) = or_first_dot text (becomes asked)
 before_line text becomes (Unread at) = Misses at
 
--- own = "." "schema" | "." "help" | [ "." "part" INT INT ] "." "selected" NAME ( "|" ask_step )* | [ "." "part" INT INT ] [ "." "now" ] line, with one of the two | "." "brief" line
+-- own = "." "schema" | "." "help" | [ "." "part" INT INT ] "." "selected" NAME ( "|" ask_step )* | [ "." "part" INT INT ] [ "." "now" ] line, with at least one of the two | "." "brief" line
 pub data IsOwnReading (text : List ℕ) : OwnReading → Type 0 where
   without_lead : lead_of text ≡ None → IsOwnReading text (Misses (first_dot text))
   alone : {own : OwnLine} {rest : List ℕ} → lead_of text ≡ Some (WholeLine own, rest) → HasNoToken rest → IsOwnReading text (Owns own)

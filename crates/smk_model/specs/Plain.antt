@@ -8,7 +8,7 @@ use Rattle.smk_model.specs.Values.{Row, value_at, value_cmp, bin, meets}
 abbrev pub row_eq : Row → Row → Bool
 row_eq = pointwise value_eq
 
--- an output column of a projection, at a row
+-- the value of an output column, from an input row
 abbrev pub item_at : Row → Item → Value
 item_at row (Col c) = value_at row c
 item_at row (Bin c w) = Int (bin (number_of (value_at row c)) w)
@@ -21,7 +21,7 @@ image items row = map (item_at row) items
 abbrev pub key_of : List ℕ → Row → Row
 key_of keys row = picked keys row
 
--- the members, each at its first occurrence
+-- the rows without repeats, each at its first occurrence
 abbrev pub add_first : List Row → Row → List Row
 add_first found row = with_item row_eq found row
 
@@ -35,7 +35,7 @@ lesser a b = cond (is_lt (value_cmp b a)) b a
 abbrev pub greater : Value → Value → Value
 greater a b = cond (is_gt (value_cmp b a)) b a
 
--- the values combined from the left, of at least one; no group is empty
+-- the values, combined from left to right; no group is empty
 abbrev pub combined : (Value → Value → Value) → List Value → Value
 combined f [] = Int (pos 0)
 combined f (v ∷ vs) = fold f v vs
@@ -68,7 +68,7 @@ meets_together formula l r = meets formula (l ++ r)
 abbrev pub always : Row → Row → Bool
 always l r = true
 
--- for each left row in order, each right row in order that passes the test with it: the left row followed by the right row
+-- for each left row, each right row that passes the test with it, both in order: the left row followed by the right one
 abbrev pub nested : (Row → Row → Bool) → List Row → List Row → List Row
 nested test L R = flat_map (λ l. map (λ r. l ++ r) (filter (test l) R)) L
 
@@ -85,7 +85,7 @@ joins (ThetaJoin formula) = meets_together formula
 joins CrossProduct = always
 joins _ = λ l r. false
 
--- one step over its input, or over its two inputs
+-- the output rows of a step, over one input and over two
 abbrev pub step1 : Unary → List Row → List Row
 step1 (Selection formula) L = filter (meets formula) L
 step1 (Projection items) L = map (image items) L
@@ -109,7 +109,7 @@ leaves (Combine op left right) = leaves left ++ leaves right
 abbrev pub width : Expr → ℕ
 width plan = length (leaves plan)
 
--- the rows of a plan whose leaves have the lists of E from the k-th on
+-- the rows of a plan; its leaves are numbered from k on, and leaf i has the rows E[i]
 abbrev pub eval_from : Expr → List (List Row) → ℕ → List Row
 eval_from (Leaf table) E k = slice_index_or E k []
 eval_from (Apply op input) E k = step1 op (eval_from input E k)

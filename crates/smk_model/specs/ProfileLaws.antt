@@ -14,6 +14,6 @@ pub record MarksAreViolations (catalog : CatalogImage) (state : State) (view : L
 abbrev pub DependenciesAnswered : Type 0
 DependenciesAnswered = (catalog : CatalogImage) (state : State) (view : List ℕ) (v : ℕ) → view_place catalog view ≡ Some v → ShowsDependency catalog v → MarksAreViolations catalog state view v
 
--- every answer to an `fd` line is one over the catalog: its text can be written
+-- every answer to an `fd` line names a table of the catalog, so its text can be written
 abbrev pub ProfilesFit : Type 0
 ProfilesFit = (catalog : CatalogImage) (state : State) (names : List (List ℕ)) (view : List ℕ) → AreDependencies catalog names → IsProfileReply catalog (profile_reply catalog state names view)

@@ -38,16 +38,16 @@ abbrev pub profile_text : CatalogImage → List ℕ → ProfileReply → List �
 profile_text catalog view (Found table groups) = found_text view (map (λ column. column.name) (info_at catalog.tables table).cols) groups
 profile_text catalog view (Refused refusal) = profile_refusal_text view refusal
 
--- rows that are as many as their rids
+-- as many rows as rids
 abbrev pub IsPlaced : Group → Type 0
 IsPlaced group = length group.rids ≡ length group.rows.rows
 
--- rows of a table that the catalog has, key by key
+-- groups of rows of a table that the catalog has
 pub record AreFound (catalog : CatalogImage) (table : ℕ) (groups : List Group) : Type 0 where
   pub known : table < length catalog.tables
   pub placed : All IsPlaced groups
 
--- whether an answer is one over the catalog
+-- whether an answer names a table of the catalog, with as many rows as rids in each group
 abbrev pub IsProfileReply : CatalogImage → ProfileReply → Type 0
 IsProfileReply catalog (Found table groups) = AreFound catalog table groups
 IsProfileReply catalog (Refused refusal) = Unit {0}

@@ -1,4 +1,4 @@
--- What an `fd` line comes to: for each key that violates a dependency the rows with that key.
+-- The answer to an `fd` line: for each key that violates a dependency, the rows with that key.
 use Rattle.std.specs.{Prelude.{◌≡◌, ℕ, Bool, true, false, cond, List, [], ◌∷◌, length, map, Option, Some, None, IfSome, All}, List.sum_by}
 use Rattle.smk_base.specs.{CatalogImage.{CatalogImage, view_place, table_place}, declared.reply.Group.Group, declared.reply.ProfileReply.ProfileReply, declared.reply.ProfileReply.TheVariants.{Found, Refused}, declared.reply.ProfileRefusal.TheVariants.{UnknownView, NotProfile}, declared.book.tree.Line.Line}
 use Rattle.smk_base.specs.declared.book.tree.Line.TheVariants as lines
@@ -10,7 +10,7 @@ use Rattle.smk_model.specs.{Dependencies.{Dependency, Violation, violations, dep
 abbrev pub shown_by : CatalogImage → ℕ → Dependency
 shown_by catalog v = dependency_of (view_at catalog v).plan
 
--- what violates a dependency
+-- the violations of a dependency
 abbrev pub violations_of : State → Dependency → List Violation
 violations_of state shown = violations (rows_of_table state shown.table) shown.keys shown.col
 
@@ -21,7 +21,7 @@ group_of catalog state t violation = record { rids = violation.rids; rows = rows
 abbrev pub groups_of : CatalogImage → State → Dependency → List Group
 groups_of catalog state shown = map (group_of catalog state shown.table) (violations_of state shown)
 
--- the answer to an `fd` line where the view has this number, if there is one; the names are those of the views of dependencies
+-- the answer to an `fd` line for the view with this number, or for an unknown view; `names` are those of the book's dependencies
 abbrev pub profile_at : CatalogImage → State → List (List ℕ) → List ℕ → Option ℕ → ProfileReply
 profile_at catalog state names view None = Refused UnknownView
 profile_at catalog state names view (Some v) =
@@ -53,7 +53,7 @@ pub record ShowsDependency (catalog : CatalogImage) (v : ℕ) : Type 0 where
   pub declared : declares_back catalog v (shown_by catalog v).table ≡ true
   pub named : table_place catalog (info_at catalog.tables (shown_by catalog v).table).name ≡ Some (shown_by catalog v).table
 
--- each of these names that a view has is that of one that shows a dependency
+-- each view with one of these names shows a dependency
 abbrev pub AreDependencies : CatalogImage → List (List ℕ) → Type 0
 AreDependencies catalog names = All (λ name. IfSome (view_place catalog name) (ShowsDependency catalog)) names
 

@@ -1,4 +1,4 @@
--- What a session answers to a line: one walk, from a state and a line to the reply and the next state.
+-- What a session answers to a line: from a state and a line, the reply and the next state.
 use Rattle.std.specs.{Prelude.{ℕ, Bool, true, false, cond, ◌&&◌, nat_eq, nat_le, List, [], ◌∷◌, length, map, position, Option, Some, None, ok_or, option_map, Result, Ok, Err}, List.{find, filter, list_any, list_all}, Option.option_or}
 use Rattle.smk_base.specs.{Places.upto, Plans.Grouping, Rels.Relation, Values.value_eq, CatalogImage.{CatalogImage, view_place, table_place}, declared.brush.BrushOn.BrushOn, declared.book.catalog.Back.Back, declared.book.catalog.BackExtra.BackExtra, declared.book.plan.Agg.Agg, declared.book.tree.Line.Line, declared.book.tree.Marks.Marks, declared.book.tree.Then.Then, declared.reply.Linked.Linked, declared.reply.Reply.Reply, declared.reply.Refusal.Refusal, declared.reply.Refusal.TheVariants.{UnknownView, UnknownTable, Undeclared, NoRow, NoSplit, ValueKind, NoGroup, NotLinked, RowsLimit, ManyMarks}, declared.value.Kind.Kind, declared.value.Value.Value}
 use Rattle.smk_base.specs.declared.book.catalog.BackExtra.TheVariants as extras
@@ -10,15 +10,15 @@ use Rattle.smk_base.specs.declared.value.Kind.TheVariants as kinds
 use Rattle.smk_base.specs.declared.value.Value.TheVariants as values
 use Rattle.smk_model.specs.{Values.{Row, value_at}, Names.{◌>>=◌, same_name, column_at}, Plain.{step1, whole}, Lineage.{sub, row_at}, Annotated.{back, fwd}, Selection.first_full, Tables.all_or_first, Typing.{info_at, columns_of}, Catalogs.table_kinds, Workload.{is_back, is_link, declares_back, declares_fwd}, Session.{State, view_at, rows_of_table, first_content, linked, selected_for, leaves_now, content, with_brush, without_brush, under}}
 
--- what is asked for, or why the line is refused
+-- an answer, or why the line is refused
 abbrev pub Asked : Type 0 → Type 0
 Asked A = Result A Refusal
 
--- what is asked for where the condition holds, and else the refusal
+-- the answer if the condition holds, else the refusal
 abbrev pub provided : {A : Type 0} → Bool → Refusal → Asked A → Asked A
 provided holds refusal asked = cond holds asked (Err refusal)
 
--- the numbers that a line writes, and the places among n that it marks
+-- the numbers in a line, and which of n rows it marks
 abbrev pub written : Marks → List ℕ
 written markings.All = []
 written (markings.Listed marks) = marks
@@ -27,11 +27,11 @@ abbrev pub marked : Marks → ℕ → List ℕ
 marked markings.All n = upto n
 marked (markings.Listed marks) n = marks
 
--- the first number as written that is not below n
+-- the first of the numbers that is not below n
 abbrev pub first_outside : List ℕ → ℕ → Option ℕ
 first_outside marks n = find (nat_le n) marks
 
--- the answer, unless a number is no row of so many
+-- the answer, unless a number is none of so many rows
 abbrev pub unless_row : {A : Type 0} → Option ℕ → ℕ → Asked A → Asked A
 unless_row (Some row) n asked = Err (NoRow row n)
 unless_row None n asked = asked
@@ -39,7 +39,7 @@ unless_row None n asked = asked
 abbrev pub unless_outside : {A : Type 0} → Marks → ℕ → Asked A → Asked A
 unless_outside marks n asked = unless_row (first_outside (written marks) n) n asked
 
--- the view and the table of these names
+-- the view and the table with these names
 abbrev pub known_view : CatalogImage → List ℕ → Asked ℕ
 known_view catalog view = ok_or (view_place catalog view) UnknownView
 
@@ -66,7 +66,7 @@ marks_fwd catalog state v t S =
     let plan = (view_at catalog v).plan in
     fwd plan (whole plan state.tables) S t
 
--- the rids that the marks of a view select of a table
+-- the rids of a table behind the marks of a view, unless there is no such mark
 abbrev pub rids_of : CatalogImage → State → ℕ → ℕ → Marks → Asked (List ℕ)
 rids_of catalog state v t marks =
     let n = length (first_content catalog state v) in
@@ -124,7 +124,7 @@ is_of_sort _ _ = false
 abbrev pub is_of_column : CatalogImage → ℕ → ℕ → Value → Bool
 is_of_column catalog t c value = is_of_sort (column_at (columns_of (info_at catalog.tables t)) c).kind value
 
--- those of the rids whose row has the value in the column
+-- the rids whose row has this value in the column
 abbrev pub with_value : List Row → ℕ → Value → List ℕ → List ℕ
 with_value rows c value rids = filter (λ rid. value_eq (value_at (row_at rows rid) c) value) rids
 
@@ -137,7 +137,7 @@ abbrev pub is_one : Marks → Bool
 is_one (markings.Listed (mark ∷ more)) = list_all (nat_eq mark) more
 is_one _ = false
 
--- the answer to a declared backward query: rows with their rids, those of them with a value, or a declared grouping of them
+-- the answer to a declared backward query: rows with their rids, those with a value, or their declared grouping
 abbrev pub back_reply : CatalogImage → State → ℕ → ℕ → Marks → Then → Asked Reply
 back_reply catalog state v t marks thens.Plain =
     rids_of catalog state v t marks >>= λ rids. Ok (rows_reply catalog state t rids)
@@ -168,7 +168,7 @@ named_fwd catalog state table rows view =
     known_pair catalog view table >>= λ p.
     provided (declares_fwd catalog p.0 p.1) Undeclared (fwd_reply catalog state p.0 p.1 rows)
 
--- a view and a table between which there is a link
+-- a view and a table with a link of the view on the table
 abbrev pub linked_pair : CatalogImage → List ℕ → List ℕ → Asked (ℕ × ℕ)
 linked_pair catalog view table =
     known_pair catalog view table >>= λ p.
@@ -181,7 +181,7 @@ brush_of catalog state view marks table =
     rids_of catalog state p.0 p.1 marks >>= λ rids.
     Ok (record { view = p.0; table = p.1; rids = rids })
 
--- a linked view in a state: the marks that the rows selected for it on the table reach, and its content, unless a node has too many rows
+-- a linked view in a state: the marks that the rows selected for it on the table reach, and its content, or the refusal for a node with too many rows
 abbrev pub unless_full : Option ℕ → Linked → Asked Linked
 unless_full (Some node) view = Err (RowsLimit view.view node)
 unless_full None view = Ok view
@@ -195,7 +195,7 @@ linked_now catalog state t w =
 abbrev pub all_linked : CatalogImage → State → ℕ → ℕ → Asked (List Linked)
 all_linked catalog state v t = all_or_first (map (linked_now catalog state t) (linked catalog v t))
 
--- the state under a new brush, and under one brush less
+-- the state with a new brush, and without a brush
 abbrev pub brushed : State → BrushOn → State
 brushed state brush = under state (with_brush brush state.brushes)
 
@@ -228,7 +228,7 @@ abbrev pub or_refused : State → Asked (Reply × State) → Reply × State
 or_refused state (Ok turn) = turn
 or_refused state (Err refusal) = (replies.Refused refusal, state)
 
--- what is asked for by a line
+-- the answer to a line and the next state, or why the line is refused
 abbrev pub answer_to : CatalogImage → State → Line → Asked (Reply × State)
 answer_to catalog state (lines.Show view) = staying state (named_view catalog state view)
 answer_to catalog state (lines.Back view marks table then) = staying state (named_back catalog state view marks table then)

@@ -19,6 +19,6 @@ pub record MarksStay : Type 0 where
   pub fwd : (catalog : CatalogImage) (state : State) (brushes : List BrushOn) (table : List ℕ) (rows : Marks) (view : List ℕ)
       → (reply catalog (under state brushes) (lines.Fwd table rows view)).0 ≡ (reply catalog state (lines.Fwd table rows view)).0
 
--- over a checked book every reply is one to its line
+-- over a checked book every reply fits its line
 abbrev pub RepliesFit : Type 0
 RepliesFit = (catalog : CatalogImage) (state : State) (asked : Line) → IsCatalog catalog → IsReplyTo catalog asked (reply catalog state asked).0

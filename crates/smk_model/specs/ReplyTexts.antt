@@ -23,7 +23,7 @@ abbrev pub names_of_table : Option TableInfo → List (List ℕ)
 names_of_table None = []
 names_of_table (Some table) = map (λ column. column.name) table.cols
 
--- the view and the table that a line names; there are none in `clear`, and no table in `show`
+-- the view and the table that a line names; `clear` names none, `show` no table
 abbrev pub view_in : Line → List ℕ
 view_in (lines.Show view) = view
 view_in (lines.Back view marks table then) = view
@@ -48,7 +48,7 @@ abbrev pub column_in : Line → List ℕ
 column_in (lines.Back view marks table then) = column_of then
 column_in _ = []
 
--- a query as a line asks it
+-- a query, in the words of its line
 abbrev pub query_words : Line → List (List ℕ)
 query_words (lines.Back view marks table then) = codes "back " ∷ view ∷ codes " to " ∷ table ∷ []
 query_words (lines.Fwd table rows view) = codes "fwd " ∷ table ∷ codes " to " ∷ view ∷ []
@@ -66,28 +66,28 @@ abbrev pub names_of_grouping : Option asked_for.Grouped → List (List ℕ)
 names_of_grouping None = []
 names_of_grouping (Some grouped) = grouped.names
 
--- a content of a view, where the catalog has the view and it has as many columns
+-- a content of a view: the catalog has the view, with as many columns
 pub record IsContent (catalog : CatalogImage) (view : List ℕ) (rel : Relation) : Type 0 where
   pub known : IsSome (view_named catalog view)
   pub named : length (names_of_view (view_named catalog view)) ≡ length rel.kinds
 
--- rows of a table with their rids, where the catalog has the table and it has as many columns
+-- rows of a table with their rids: the catalog has the table, with as many columns
 pub record AreRowsOf (catalog : CatalogImage) (table : List ℕ) (rids : List ℕ) (rel : Relation) : Type 0 where
   pub known : IsSome (table_named catalog table)
   pub named : length (names_of_table (table_named catalog table)) ≡ length rel.kinds
   pub placed : length rids ≡ length rel.rows
 
--- groups, where the catalog declares the grouping and it has as many columns
+-- groups: the catalog declares the grouping, with as many columns
 pub record AreGroupsOf (catalog : CatalogImage) (view table : List ℕ) (rel : Relation) : Type 0 where
   pub known : IsSome (grouping_named catalog view table)
   pub named : length (names_of_grouping (grouping_named catalog view table)) ≡ length rel.kinds
 
--- a linked view, where the catalog has the view and it has as many columns
+-- a linked view: the catalog has the view, with as many columns
 pub record IsLinkedIn (catalog : CatalogImage) (linked : Linked) : Type 0 where
   pub known : linked.view < length catalog.views
   pub named : length (view_at catalog linked.view).names ≡ length linked.rel.kinds
 
--- whether a `back` line asks for rows, and not for a grouping
+-- whether a `back` line asks for rows, for a grouping, or for rows with a value
 abbrev pub AsksRows : Then → Type 0
 AsksRows thens.Grouped = ⊥
 AsksRows _ = ⊤
@@ -100,7 +100,7 @@ abbrev pub AsksValue : Then → Type 0
 AsksValue (thens.Matching column value) = ⊤
 AsksValue _ = ⊥
 
--- whether a refusal of a change of brushes is one that its text can say: a view with too many rows is one of the catalog
+-- whether a change of brushes can be refused for this reason; a view with too many rows is one of the catalog
 abbrev pub IsRefusalOfChange : CatalogImage → Refusal → Type 0
 IsRefusalOfChange catalog refusals.UnknownView = ⊤
 IsRefusalOfChange catalog refusals.UnknownTable = ⊤
@@ -109,7 +109,7 @@ IsRefusalOfChange catalog (refusals.NoRow row rows) = ⊤
 IsRefusalOfChange catalog (refusals.RowsLimit view node) = view < length catalog.views
 IsRefusalOfChange catalog _ = ⊥
 
--- whether a line can be refused so
+-- whether a line can be refused for this reason
 abbrev pub IsRefusalOf : CatalogImage → Line → Refusal → Type 0
 IsRefusalOf catalog (lines.Show view) refusals.UnknownView = ⊤
 IsRefusalOf catalog (lines.Back view marks table then) refusals.UnknownView = ⊤
@@ -128,7 +128,7 @@ IsRefusalOf catalog (lines.Brush view marks table) refusal = IsRefusalOfChange c
 IsRefusalOf catalog (lines.ClearOne view table) refusal = IsRefusalOfChange catalog refusal
 IsRefusalOf catalog _ _ = ⊥
 
--- whether a reply is one to a line: it is of a kind that the line has, what its text looks up stands in the catalog, its rows have a value for each name printed over them, and rows that are printed with rids are as many as these
+-- whether a reply fits a line: it is of the line's kind, the catalog has what its text names, its rows have a value for each name printed over them, and there are as many rids as rows
 abbrev pub IsReplyTo : CatalogImage → Line → Reply → Type 0
 IsReplyTo catalog (lines.Show view) (View rel) = IsContent catalog view rel
 IsReplyTo catalog (lines.Back view marks table then) (Back rids rows) = AsksRows then × AreRowsOf catalog table rids rows
@@ -176,7 +176,7 @@ linked_text catalog linked =
     ++ numbers_line (codes "marks") linked.marks
     ++ linked_rows_text catalog linked
 
--- the end of a brush; the linked views follow
+-- the first line of the reply to the end of a brush
 abbrev pub cleared_line : List ℕ → List ℕ → List ℕ
 cleared_line view table = line (codes "cleared " ∷ view ∷ codes " on " ∷ table ∷ [])
 

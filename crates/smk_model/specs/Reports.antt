@@ -3,12 +3,12 @@ use Rattle.std.specs.Prelude.{ℕ, ◌+◌, Bool, true, false, ◌||◌, cond, n
 use Rattle.smk_base.specs.{CatalogImage.{CatalogImage, ViewImage, table_place}, declared.book.tree.Line.Line, Trees.{AskImage, AnyLineImage, PlainLine, AskedLine, ProfiledLine, AppendedLine}, declared.size.Size.Size}
 use Rattle.smk_model.specs.{Values.Row, Texts.bad_line_text, ViewTexts.{view_rows, views_text}, ReplyTexts.reply_text, Readings.{Reading, Nothing, Asks, Unread}, Session.{Workbook, State, first_state}, Replies.{reply, is_refused}, Looks.line_looks, Asks.{ask_reply, ask_looks, is_ask_refused}, AskTexts.ask_text, Profiles.{profile_reply, profile_looks, is_profile_refused}, ProfileTexts.profile_text, Appends.{Turn, append_turn, append_looks, is_append_refused}, AppendTexts.append_text}
 
--- what a book says: its catalog, and the names of its dependencies in order, which are those of the views that show them
+-- what a book says: its catalog, and the names of its dependencies in order, which are also the names of their views
 pub record BookSaid : Type 0 where
   pub catalog : CatalogImage
   pub fds : List (List ℕ)
 
--- what lines come to: their texts, how many have a reply, how many of these are refusals, how many aren't in the grammar, and the most looks at base rows that they take
+-- what a report has of some lines: their texts; how many have a reply, how many of these are refusals, and how many lines aren't in the grammar; and the most looks at base rows
 pub record LinesTold : Type 0 where
   pub text : List ℕ
   pub replies : ℕ
@@ -16,7 +16,7 @@ pub record LinesTold : Type 0 where
   pub unread : ℕ
   pub looks : ℕ
 
--- lines that come to nothing, and those of one part after those of another
+-- no lines, and some lines followed by others
 abbrev pub nothing_told : LinesTold
 nothing_told = record { text = []; replies = 0; refused = 0; unread = 0; looks = 0 }
 
@@ -29,14 +29,14 @@ followed_by a b = record {
   looks = a.looks + b.looks;
 }
 
--- what a line comes to: its text, whether it is refused, the most looks at base rows that it takes, and the state after it
+-- the answer to a line: its text, whether it is a refusal, the most looks at base rows that it takes, and the next state
 pub record Answered : Type 0 where
   pub text : List ℕ
   pub refused : Bool
   pub looks : ℕ
   pub next : State
 
--- each kind of line
+-- the answer to each kind of line
 abbrev pub plain_answered : CatalogImage → State → Line → Answered
 plain_answered catalog state asked = record {
   text = reply_text catalog asked (reply catalog state asked).0;
@@ -72,14 +72,14 @@ turn_answered catalog table turn looks = record {
 abbrev pub append_answered : CatalogImage → State → List ℕ → List Row → Answered
 append_answered catalog state table more = turn_answered catalog table (append_turn catalog state table more) (append_looks catalog state table more)
 
--- a line of any kind; one that appends brings the rows of its file
+-- the answer to a line of any kind; `more` are the rows of the file that it appends
 abbrev pub answered : BookSaid → State → List Row → AnyLineImage → Answered
 answered said state more (PlainLine asked) = plain_answered said.catalog state asked
 answered said state more (AskedLine asked) = ask_answered said.catalog state asked
 answered said state more (ProfiledLine view) = profile_answered said state view
 answered said state more (AppendedLine table file) = append_answered said.catalog state table more
 
--- what is told of a line that is answered
+-- what the report has of a line that is answered
 abbrev pub answer_told : Answered → LinesTold
 answer_told line = record { text = line.text; replies = 1; refused = cond line.refused 1 0; unread = 0; looks = line.looks }
 
@@ -92,7 +92,7 @@ abbrev pub brings_rows : CatalogImage → Reading → Bool
 brings_rows catalog (Asks asked) = appends catalog asked
 brings_rows catalog _ = false
 
--- of the rows that lines bring, in the order of the lines: those of the next line that brings any, and those that are left behind a line
+-- of the rows that lines bring, in order: those of the next such line, and those left after it
 abbrev pub next_rows : List (List Row) → List Row
 next_rows [] = []
 next_rows (rows ∷ more) = rows
@@ -102,7 +102,7 @@ rows_left true (rows ∷ more) = more
 rows_left true [] = []
 rows_left false added = added
 
--- what the line with a number comes to in a state, and the state after it; a line that says nothing has no text
+-- what the report has of the line with this number, and the state after it; a line that says nothing has no text
 abbrev pub line_told : BookSaid → State → ℕ → List Row → Reading → LinesTold
 line_told said state number more Nothing = nothing_told
 line_told said state number more (Asks asked) = answer_told (answered said state more asked)
@@ -112,18 +112,18 @@ abbrev pub state_after : BookSaid → State → List Row → Reading → State
 state_after said state more (Asks asked) = (answered said state more asked).next
 state_after said state more _ = state
 
--- the walk over the lines from a state on, numbered from a number on, with the rows that they bring
+-- what the report has of lines, from a state and a number on, with the rows that they bring
 abbrev pub lines_told : BookSaid → State → ℕ → List (List Row) → List Reading → LinesTold
 lines_told said state number added [] = nothing_told
 lines_told said state number added (reading ∷ readings) =
     followed_by (line_told said state number (next_rows added) reading)
     (lines_told said (state_after said state (next_rows added) reading) (number + 1) (rows_left (brings_rows said.catalog reading) added) readings)
 
--- lines are numbered from 1, and the first meets no brush and the tables as they were read; the names are those of the book's dependencies
+-- a script's lines are numbered from 1, and begin with the tables as read and no brush
 abbrev pub script_told : Workbook → List (List ℕ) → List (List Row) → List Reading → LinesTold
 script_told book fds added readings = lines_told (record { catalog = book.catalog; fds = fds }) (first_state book) 1 added readings
 
--- what a run writes, and what is told of it
+-- what a run writes, and what is counted in it
 pub record Report : Type 0 where
   pub sizes : List Size
   pub replies : ℕ
@@ -131,11 +131,11 @@ pub record Report : Type 0 where
   pub unread : ℕ
   pub text : List ℕ
 
--- how many rows a view has as it is first evaluated
+-- how many rows a view has over the tables as read
 abbrev pub size_of_view : Workbook → ViewImage → Size
 size_of_view book view = record { name = view.name; rows = length (view_rows book view) }
 
--- the report of what the lines come to
+-- the report of a book and its lines
 abbrev pub report_told : Workbook → LinesTold → Report
 report_told book told = record {
   sizes = map (size_of_view book) book.catalog.views;

@@ -1,9 +1,9 @@
--- What a text is read as: what is still to be read, and what each of it gives.
+-- The symbols of the grammar, what each of them gives, and what a rule is.
 use Rattle.std.specs.Prelude.{ℕ, ℤ, List, Option, Some, None, Bool}
 use Rattle.smk_base.specs.{declared.book.token.TokenKind.TokenKind, declared.book.plan.CmpOp.CmpOp, declared.book.tree.Word.Word, declared.book.tree.Lit.Lit, declared.book.tree.Decl.Decl, declared.book.tree.Extra.Extra, declared.book.tree.ItemTree.ItemTree, declared.book.tree.AggTree.AggTree, declared.book.tree.AggWhat.AggWhat, declared.book.tree.PairTree.PairTree, declared.book.tree.Term.Term, declared.book.tree.Marks.Marks, declared.book.tree.Then.Then, declared.book.tree.Line.Line, Trees.{PredImage, TreeImage, StepImage, StmtImage, AskStepImage, AnyLineImage}}
 use Rattle.smk_model.specs.Tokens.{Token}
 
--- the statements so far
+-- how many statements of each kind there are so far
 pub record Tally : Type 0 where
   pub tables : ℕ
   pub views : ℕ
@@ -23,7 +23,7 @@ pub record Configuration : Type 0 where
   pub rest : List Token
   pub counts : PlanCounts
 
--- what a list with commas is of
+-- what the members of a list with commas are
 pub data Member : Type 0 where
   Declaration OutputItem KeyColumn Aggregation ColumnPair LinkedView Mark : Member
 
@@ -36,7 +36,7 @@ MemberTree ColumnPair = PairTree
 MemberTree LinkedView = Word
 MemberTree Mark = ℕ
 
--- what may be still to be read. The number of a member is its place in the list, that of a source, a step or a predicate is its depth, and that of a lineage the place of its keyword
+-- the symbols of the grammar. The number of a member is its place in the list, that of a source, a step or a predicate is its depth, and that of a lineage the place of its keyword
 pub data Symbol : Type 0 where
   AToken ANames AMarked : TokenKind → Symbol
   AName ALineName AColumn ALineColumn ALiteral AWidth AType ADefault AWhat AKeys AnAggs AnOn AnOp ATerm : Symbol
@@ -51,7 +51,7 @@ pub data Symbol : Type 0 where
   ALineage : ℕ → Symbol
   AnExtra AMarks AThen ACleared ALine AWholeLine AnyLine AWholeAnyLine AnAskStep AskSteps APiped ASelected : Symbol
 
--- what each of it gives
+-- what each symbol gives
 abbrev pub Tree : Symbol → Type 0
 Tree (AToken kind) = Token
 Tree (ANames between) = Word × Word
@@ -100,21 +100,21 @@ Tree AskSteps = List AskStepImage
 Tree APiped = List AskStepImage
 Tree ASelected = List ℕ × List AskStepImage
 
--- one symbol after the other, and what is made of what they give
+-- a rule: one symbol after the other, and what is made of what they give
 pub data Rule (A : Type 0) : Type 0 where
   Gives : A → Rule A
   Reads : (symbol : Symbol) → (Tree symbol → Rule A) → Rule A
 
--- a rule, and behind it another that goes on with what it gives
+-- a rule, and after it another that goes on with what it gives
 abbrev pub behind : {A B : Type 0} → Rule A → (A → Rule B) → Rule B
 behind (Gives a) next = next a
 behind (Reads symbol rest) next = Reads symbol (λ tree. behind (rest tree) next)
 
--- what is read behind the token that begins a symbol, where one does
+-- what is read after the first token of a symbol, if a symbol may begin with it
 abbrev pub Opening : Type 0 → Type 0
 Opening A = Option (Token → Rule A)
 
--- the same with another rule behind it
+-- such an opening, with another rule after it
 abbrev pub onward : {A B : Type 0} → Opening A → (A → Rule B) → Opening B
 onward (Some rule) next = Some (λ t. behind (rule t) next)
 onward None next = None

@@ -3,11 +3,11 @@ use Rattle.std.specs.{Prelude.{ℕ, ◌+◌, ◌<◌, Bool, nat_eq, nat_lt, List
 use Rattle.smk_base.specs.{declared.value.Kind.Kind, declared.list.table_rids.Pick.Pick, Rels.Relation, Plans.{Expr, Leaf, Apply, Combine}}
 use Rattle.smk_model.specs.{Values.Row, Plain.{leaves, width, eval, table_at}, Lineage.sub, Kinds.{Fits1, Fits2, kinds1, kinds2}}
 
--- the rows of each of these
+-- the rows of each relation
 abbrev pub each_rows : List Relation → List (List Row)
 each_rows rels = map (λ rel. rel.rows) rels
 
--- the kinds of each of these
+-- the kinds of each relation
 abbrev pub each_kinds : List Relation → List (List Kind)
 each_kinds rels = map (λ rel. rel.kinds) rels
 
@@ -52,7 +52,7 @@ plan_kinds (Leaf table) K = slice_index_or K 0 []
 plan_kinds (Apply op input) K = kinds1 op (plan_kinds input K)
 plan_kinds (Combine op left right) K = kinds2 op (plan_kinds left K) (plan_kinds right (drop (width left) K))
 
--- whether every step of a plan fits the kinds that come to it from its leaves
+-- whether every step of a plan fits the kinds of its inputs, from those of the leaves on
 abbrev pub PlanFits : Expr → List (List Kind) → Type 0
 PlanFits (Leaf table) K = Unit {0}
 PlanFits (Apply op input) K = PlanFits input K × Fits1 op (plan_kinds input K)

@@ -1,4 +1,4 @@
--- What a session stands at: the rows of the tables and the brushes in force, and what each view shows there.
+-- The state of a session: the rows of the tables and the brushes in force; and what each view shows.
 use Rattle.std.specs.{Prelude.{ℕ, Bool, not, cond, ◌&&◌, nat_eq, List, [], ◌∷◌, ◌++◌, length, map, slice_index_or}, List.{list_all, list_any, filter, flat_map}}
 use Rattle.smk_base.specs.{Places.{places, has, upto}, Plans.Leaf, CatalogImage.{CatalogImage, ViewImage}, declared.brush.BrushOn.BrushOn, declared.list.table_rids.Pick.Pick}
 use Rattle.smk_model.specs.{Values.Row, Plain.{table_at, rows_over, eval}, Selection.over, Workload.is_link}
@@ -28,7 +28,7 @@ view_at catalog v = slice_index_or catalog.views v no_view
 abbrev pub rows_of_table : State → ℕ → List Row
 rows_of_table state t = table_at state.tables t
 
--- the rows of a view as it is first evaluated; a mark is the place of one of them
+-- the rows of a view over whole tables; a mark is the place of one of them
 abbrev pub first_content : CatalogImage → State → ℕ → List Row
 first_content catalog state v = rows_over (view_at catalog v).plan state.tables
 
@@ -40,7 +40,7 @@ linked catalog v t = flat_map (λ link. link.to) (filter (is_link v t) catalog.l
 abbrev pub concerns : CatalogImage → ℕ → ℕ → BrushOn → Bool
 concerns catalog w t brush = nat_eq brush.table t && has (linked catalog brush.view t) w
 
--- the rids of a table that are selected for a view: those that every brush has which concerns them; without such a brush all
+-- the rids of a table selected for a view: those in every brush that concerns them, or all if there is none
 abbrev pub selected_for : CatalogImage → State → ℕ → ℕ → List ℕ
 selected_for catalog state w t =
     places (λ rid. list_all (λ brush. has brush.rids rid) (filter (concerns catalog w t) state.brushes)) (length (rows_of_table state t))
@@ -61,17 +61,17 @@ content catalog state w = eval (view_at catalog w).plan (leaves_now catalog stat
 abbrev pub is_brush : ℕ → ℕ → BrushOn → Bool
 is_brush v t brush = nat_eq brush.view v && nat_eq brush.table t
 
--- a brush in place of the one of its view and table, or put last where there is none
+-- a brush in place of the one with its view and table, or at the end if there is none
 abbrev pub with_brush : BrushOn → List BrushOn → List BrushOn
 with_brush brush brushes =
     cond (list_any (is_brush brush.view brush.table) brushes)
     (map (λ old. cond (is_brush brush.view brush.table old) brush old) brushes)
     (brushes ++ brush ∷ [])
 
--- the brushes without that of a view and a table
+-- the brushes without the one of a view and a table
 abbrev pub without_brush : ℕ → ℕ → List BrushOn → List BrushOn
 without_brush v t brushes = filter (λ brush. not (is_brush v t brush)) brushes
 
--- the same rows under other brushes
+-- the state with other brushes
 abbrev pub under : State → List BrushOn → State
 under state brushes = record { tables = state.tables; brushes = brushes }

@@ -4,7 +4,7 @@ use Rattle.smk_base.specs.{declared.book.tree.Line.Line, Trees.{StmtImage, AskSt
 use Rattle.smk_model.specs.{Tokens.Token, Rules.{Symbol, AStmts, AWholeLine, AWholeAnyLine, ASelected, Tree, Rule, Gives, Reads}, LanguageTable.{rule_of, if_nothing}, TokenReadings.{in_range, no_tally}}
 
 mutual
-  -- the tokens from the first list up to the second spell the tree of the symbol: the first of them begins it, and those behind that follow the rule; or the symbol is nothing
+  -- the tokens from the first list up to the second spell the tree of the symbol: the first of them begins it, and the others follow the rule; or the symbol is left out
   pub data Spells : (symbol : Symbol) → List Token → List Token → Tree symbol → Type 0 where
     begun : {symbol : Symbol} {t : Token} {a b : List Token} {rule : Token → Rule (Tree symbol)} {tree : Tree symbol} → rule_of symbol t.kind ≡ Some rule → in_range symbol t ≡ true → Follows symbol (rule t) a b tree → Spells symbol (t ∷ a) b tree
     nothing : {symbol : Symbol} {a : List Token} {tree : Tree symbol} → if_nothing symbol ≡ Some tree → Spells symbol a a tree
@@ -14,7 +14,7 @@ mutual
     given : {symbol : Symbol} {a : List Token} {tree : Tree symbol} → Follows symbol (Gives tree) a a tree
     read : {symbol inner : Symbol} {rest : Tree inner → Rule (Tree symbol)} {a b c : List Token} {first : Tree inner} {tree : Tree symbol} → Spells inner a b first → Follows symbol (rest first) b c tree → Follows symbol (Reads inner rest) a c tree
 
--- the tokens spell the tree, whatever is behind: of a book, a line, a line of any kind, and a table with steps
+-- tokens that spell a tree, whatever comes after them: of a book, a line, a line of any kind, and a table with steps
 pub record Says (symbol : Symbol) (ts : List Token) (tree : Tree symbol) : Type 0 where
   pub behind : List Token
   pub spells : Spells symbol ts behind tree

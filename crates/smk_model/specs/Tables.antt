@@ -1,4 +1,4 @@
--- The table of the bytes of a file: the records that csv reads, the header, then each record in order, or the first fault.
+-- The rows of a table's file: the records that csv reads, first the header, then each record in order, or the first fault.
 use Rattle.std.specs.{Prelude.{◌≡◌, ℕ, ◌+◌, ◌≤◌, ◌==◌, List, [], ◌∷◌, length, map, slice_index_or, All, Option, Some, None, unwrap_or, IfSome, Result, Ok, Err, if◌then◌else◌, nat_eq}, List.list_all, Option.{ok_or, option_map}, Cmp.Lexicographic.pointwise}
 use Rattle.csv.specs.Reading.{records, default_config}
 use Rattle.smk_base.specs.{declared.value.Kind.Kind, declared.value.Value.Value, declared.book.col_decl.ColDecl.ColDecl, declared.fault.TableFault.TableFault, declared.rel.TheConstants.COLUMN_LIMIT, Rels.Fits, Ints.{is_blank, int_of}, Marks.after_marks}
@@ -48,26 +48,26 @@ abbrev pub field_value : Kind → Option Value → List ℕ → Option Value
 field_value (kinds.Int level) def field = int_field_value def field
 field_value kinds.Text def field = Some (text_value def field)
 
--- the value of declared column c in record n, whose field stands at a place
+-- the value of declared column c in record n
 abbrev pub cell_value : List ℕ → ℕ → List (List ℕ) → ℕ → ColDecl → Result Value TableFault
 cell_value places n record_fields c decl =
     ok_or (field_value decl.kind decl.def (slice_index_or record_fields (slice_index_or places c 0) [])) (faults.BadInt n c)
 
--- the row of record n, counted from 1 behind the header
+-- the row of record n, counted from 1 after the header
 abbrev pub record_row : List ColDecl → List ℕ → ℕ → ℕ → List (List ℕ) → Result (List Value) TableFault
 record_row cols places width n fields =
     if n == 1048577 then Err faults.TooManyRows
     else if length fields == width then all_or_first (numbered (cell_value places n fields) 0 cols)
     else Err (faults.Ragged n)
 
--- the rows of all the records, of which the first is the header
+-- the rows of all records; the first record is the header
 abbrev pub table_of_records : List ColDecl → List (List (List ℕ)) → Result (List (List Value)) TableFault
 table_of_records cols [] = Err faults.NoHeader
 table_of_records cols (header ∷ rest) =
     all_or_first (numbered (header_place header) 0 cols) >>= λ places.
     all_or_first (numbered (record_row cols places (length header)) 1 rest)
 
--- the rows of the bytes of a file, after every byte order mark at its front
+-- the rows of the bytes of a file, without the byte order marks at its start
 unfoldable pub table_of : List ColDecl → List ℕ → Result (List (List Value)) TableFault
 table_of cols bytes = table_of_records cols (records default_config (after_marks bytes))
 

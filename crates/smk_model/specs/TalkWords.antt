@@ -1,4 +1,4 @@
--- The words of a conversation: what clap takes, by its own rule for this command, and what it is asked for.
+-- The words of a conversation: what clap takes by this command's rules, and what they ask for.
 use Rattle.std.specs.{Prelude.{ℕ, Bool, true, false, List, Option, Some, None, option_map, codes}, Str.bytes_eq}
 use Rattle.clap.specs.{Words.{App, Rule, new_app, new_rule, with_rule, fault_of}, Simple.on_top, declared.builder.action.ArgAction.TheVariants.SetTrue}
 use Rattle.smk_model.specs.Words.{Settings, TextSource, Values, mode_rule, workers_rule, demo_rule, settings_in, texts_named, value_given_to, where_taken}
@@ -7,7 +7,7 @@ use Rattle.smk_model.specs.Words.{Settings, TextSource, Values, mode_rule, worke
 abbrev pub read_only_rule : Rule
 read_only_rule = record (new_rule (codes "read-only")) { long = Some (codes "read-only"); action = Some SetTrue }
 
--- the option `--brief`, which has none either
+-- the option `--brief`, which has no value either
 abbrev pub brief_rule : Rule
 brief_rule = record (new_rule (codes "brief")) { long = Some (codes "brief"); action = Some SetTrue }
 
@@ -20,7 +20,7 @@ abbrev pub is_set : Option (List ℕ) → Bool
 is_set (Some text) = bytes_eq text (codes "true")
 is_set None = false
 
--- what a conversation is called for: how it works, where its texts come from, whether nothing may be appended, and whether the schema is said first in place of all views
+-- what the words ask for: how the conversation works, where its texts come from, whether nothing may be appended, and whether the schema comes first in place of the views
 pub record TalkCall : Type 0 where
   pub settings : Settings
   pub texts : TextSource
@@ -35,7 +35,7 @@ called_to_talk read_only brief _ _ = None
 abbrev pub talk_call_in : Values → Option TalkCall
 talk_call_in values = called_to_talk (is_set (values (codes "read-only"))) (is_set (values (codes "brief"))) (settings_in values) (texts_named (values (codes "demo")) (values (codes "book")) None)
 
--- what the words call a conversation for: none exactly where clap doesn't take them, and so too where the mode isn't known, or where both of a book and a demo are given or none of them
+-- what the words ask for, unless clap doesn't take them, the mode is unknown, or they don't give exactly one of a book and a demo
 abbrev pub talk_call_of : List (List ℕ) → Option TalkCall
 talk_call_of words = where_taken (fault_of talk_app words) (talk_call_in (value_given_to talk_app words))
 

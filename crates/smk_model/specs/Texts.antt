@@ -28,7 +28,7 @@ row_lines number rows = row_lines_to number rows (length rows)
 abbrev pub rows_text : List (List ℕ) → ℕ → List (List ℕ) → (ℕ → ℕ) → List Row → List ℕ
 rows_text words count columns number rows = line (words ++ decimal count ∷ []) ++ record_line columns ++ row_lines number rows
 
--- what stands before the number of rows of a view, of a backward answer and of an answer to steps over one
+-- what comes before the number of rows: of a view, of a backward answer, and of an answer to steps over one
 abbrev pub view_words : List ℕ → List (List ℕ)
 view_words name = codes "view " ∷ name ∷ codes " " ∷ []
 
@@ -64,7 +64,7 @@ abbrev pub fwd_text : List ℕ → List ℕ → List ℕ → List ℕ
 fwd_text table view marks =
     line (codes "fwd " ∷ table ∷ codes " to " ∷ view ∷ codes " " ∷ decimal (length marks) ∷ []) ++ numbers_line (codes "marks") marks
 
--- how many rids a brush selects
+-- the first line of the reply to a brush: how many rids it selects
 abbrev pub brush_heading : List ℕ → List ℕ → ℕ → List ℕ
 brush_heading view table count = line (codes "brush " ∷ view ∷ codes " on " ∷ table ∷ codes " " ∷ decimal count ∷ [])
 
@@ -76,10 +76,10 @@ brush_text view table rids = brush_heading view table (length rids) ++ numbers_l
 abbrev pub no_row_text : ℕ → ℕ → List ℕ
 no_row_text row rows = line (codes "refused no row " ∷ decimal row ∷ codes " of " ∷ decimal rows ∷ [])
 
--- a line of a script that isn't in the grammar: its number, and the place of its first wrong token
+-- the text of a script's line that isn't in the grammar: its number, and the place of its first wrong token
 abbrev pub bad_line_text : ℕ → ℕ → List ℕ
 bad_line_text number at = line (codes "line " ∷ decimal number ∷ codes " not read at byte " ∷ decimal at ∷ [])
 
--- the line that says that memory was wanting
+-- the line that says that memory ran out
 abbrev pub no_memory_text : List ℕ
 no_memory_text = line (codes "smoke: no memory" ∷ [])

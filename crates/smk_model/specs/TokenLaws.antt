@@ -2,7 +2,7 @@
 use Rattle.std.specs.Prelude.{◌≡◌, ℕ, suc, ◌≤◌, List, ◌∷◌, Option, Some, None, false}
 use Rattle.smk_model.specs.Tokens.{string_len}
 
--- so many bytes, behind a quote, close a text in quotes: a quote closes it, and before that stand bytes but a quote and a line feed, and pairs of quotes
+-- so many bytes after a quote close a text in quotes: the last is a quote, and before it come pairs of quotes and bytes other than a quote and a line feed
 pub data ClosesString : ℕ → List ℕ → Type 0 where
   closing : {b : ℕ} {bs : List ℕ} → b ≡ 34 → ClosesString 1 (b ∷ bs)
   one_byte : {n b : ℕ} {bs : List ℕ} → (b ≡ 34 → ⊥) → (b ≡ 10 → ⊥) → ClosesString n bs → ClosesString (suc n) (b ∷ bs)

@@ -44,7 +44,7 @@ in_range (Listed member) t = member_in_range member t
 in_range AMarks t = marks_in_range t t.kind
 in_range _ t = true
 
--- what is counted behind a token, unless it begins one thing too many
+-- what is counted after a token, or what there is one too many of
 pub data Count : Type 0 where
   Fine : PlanCounts → Count
   Above : Many → Count
@@ -120,7 +120,7 @@ limits (APred d) c t = prim_count d c t t.kind
 limits (AStmts y) c t = stmt_count y t.kind
 limits _ c t = Fine c
 
--- what a token does: it is taken, with these counts, and this is read behind it; or the symbol is nothing here; or it is a fault
+-- what a token does: it is taken, with these counts, and this rule is read after it; or the symbol is left out here; or the token is a fault
 pub data Move (A : Type 0) : Type 0 where
   Takes : PlanCounts → Rule A → Move A
   Skips : A → Move A
@@ -142,7 +142,7 @@ opened t ranged count empty None = or_nothing t empty
 abbrev pub move_of : Counting → (symbol : Symbol) → PlanCounts → Token → Move (Tree symbol)
 move_of counting symbol c t = opened t (in_range symbol t) (counting symbol c t) (if_nothing symbol) (rule_of symbol t.kind)
 
--- how a rule goes on at a token: what it reads is nothing up to the first symbol that isn't, or all of it
+-- how a rule goes on at a token: its symbols are left out, up to the first that can't be
 abbrev pub goes_on : {A B : Type 0} → Move B → (B → Rule A) → (B → Move A) → Move A
 goes_on (Takes c rule) rest next = Takes c (behind rule rest)
 goes_on (Skips tree) rest next = next tree
@@ -152,7 +152,7 @@ abbrev pub settle : {A : Type 0} → Counting → Rule A → PlanCounts → Toke
 settle counting (Gives x) c t = Skips x
 settle counting (Reads symbol rest) c t = goes_on (move_of counting symbol c t) rest (λ tree. settle counting (rest tree) c t)
 
--- what comes of a rule over tokens: what it gives, with the tokens behind and the counts; what is still to be read behind the last token; or the first fault
+-- the outcome of a rule over tokens: what it gives, with the tokens that are left and the counts; what is still to be read after the last token; or the first fault
 pub data Outcome (A : Type 0) : Type 0 where
   Ended : A → Configuration → Outcome A
   Open : Rule A → PlanCounts → Outcome A
@@ -168,7 +168,7 @@ through counting (Gives x) c ts = Ended x (record { rest = ts; counts = c })
 through counting (Reads symbol rest) c [] = Open (Reads symbol rest) c
 through counting (Reads symbol rest) c (t ∷ ts) = after (settle counting (Reads symbol rest) c t) t ts c (λ d rule. through counting rule d ts)
 
--- what is read, with the state behind it, or the first fault; a reader always has a token in hand, so that nothing is left open
+-- what is read, with the tokens and counts after it, or the first fault; a reader always has a token in hand, so nothing stays open
 abbrev pub Reading : Type 0 → Type 0
 Reading A = Result (A × Configuration) BookFault
 
@@ -189,7 +189,7 @@ fault_in (Ended x a) = None
 fault_in (Open rule c) = None
 fault_in (Failed fault) = Some fault
 
--- the first fault of the tokens of a symbol: of a book, of a line, of a line of any kind, and of a table with steps
+-- the first fault of the tokens of a symbol: of a book, a line, a line of any kind, and a table with steps
 abbrev pub fault_of : Symbol → List Token → Option BookFault
 fault_of symbol ts = fault_in (through limits (Reads symbol Gives) no_counts ts)
 

@@ -8,20 +8,23 @@ pub record Token : Type 0 where
   pub kind : TokenKind
   pub text : List ℕ
 
--- what stands between tokens and means nothing: space, tab, line feed, carriage return
+-- a byte that may be between tokens and means nothing: space, tab, line feed, carriage return
 abbrev pub is_gap : ℕ → Bool
 is_gap b = b == 32 || b == 9 || b == 10 || b == 13
 
+-- a letter or an underscore
 abbrev pub is_letter : ℕ → Bool
 is_letter b = is_ascii_alphabetic b || b == 95
 
+-- a letter, an underscore or a digit
 abbrev pub is_word_byte : ℕ → Bool
 is_word_byte b = is_letter b || is_ascii_digit b
 
+-- any byte but a line feed
 abbrev pub no_line_end : ℕ → Bool
 no_line_end b = not (b == 10)
 
--- what may stand between backquotes
+-- what may be between backquotes
 abbrev pub is_quoted_byte : ℕ → Bool
 is_quoted_byte b = not (b == 96) && not (b == 10)
 
@@ -59,7 +62,7 @@ abbrev pub int_value : List ℕ → ℤ
 int_value [] = pos 0
 int_value (b ∷ bs) = if b == 45 then neg_ℤ (pos (digits_value 0 bs)) else pos (digits_value 0 (b ∷ bs))
 
--- how far the longest text between quotes goes, with its last quote, of which n bytes are passed. A pair of quotes stands for one; the first of a pair may also be the last quote, which is kept in case that no later one closes the text
+-- the length of the longest text between quotes, with its last quote, of which n bytes are passed. A pair of quotes is one quote; the first of a pair may also be the last quote, and is kept in case no later one closes the text
 abbrev pub string_len : Option ℕ → Bool → ℕ → List ℕ → Option ℕ
 string_len kept true n [] = Some n
 string_len kept false n [] = kept
@@ -79,7 +82,7 @@ inner text = take (length text - 2) (drop 1 text)
 abbrev pub string_value : List ℕ → List ℕ
 string_value text = undoubled false (inner text)
 
--- what stands at the front of a text: what means nothing, or a token, with its length
+-- the start of a text: something that means nothing, or a token, with its length
 pub data Front : Type 0 where
   Between : ℕ → Front
   Begins : TokenKind → ℕ → Front
@@ -93,7 +96,7 @@ abbrev pub quoted_front : ℕ → List ℕ → Front
 quoted_front n [] = Begins Bad 0
 quoted_front n (b ∷ bs) = if b == 96 && nat_lt 0 n then Begins Quoted (n + 2) else Begins Bad 0
 
--- one kind, or where = follows another of two bytes
+-- a token of one byte, or of two where = follows
 abbrev pub or_equal : TokenKind → TokenKind → List ℕ → Front
 or_equal short long [] = Begins short 1
 or_equal short long (b ∷ bs) = if b == 61 then Begins long 2 else Begins short 1
@@ -103,7 +106,7 @@ abbrev pub unequal_front : List ℕ → Front
 unequal_front [] = Begins Bad 0
 unequal_front (b ∷ bs) = if b == 61 then Begins NotEqual 2 else Begins Bad 0
 
--- a minus sign means nothing without a digit; n is the number of digits behind it
+-- a minus sign means nothing without a digit; n is the number of digits after it
 abbrev pub minus_front : List ℕ → ℕ → Front
 minus_front bs n = if n == 0 then Begins Bad 0 else Begins (number_kind true (digits_value 0 (take n bs))) (n + 1)
 
@@ -149,12 +152,12 @@ is_more Bad = false
 is_more Huge = false
 is_more _ = true
 
--- the token, and behind it the others where it isn't the last
+-- the token, and after it the others unless it is the last
 abbrev pub put : Front → ℕ → List ℕ → (ℕ → List Token) → List Token
 put (Between n) at bs more = more (n - 1)
 put (Begins kind n) at bs more = record { at = at; kind = kind; text = take n bs } ∷ (if is_more kind then more (n - 1) else [])
 
--- the tokens of the bytes from a place on, where the first ones are passed already
+-- the tokens of the bytes from a place on; the first bytes are passed already
 abbrev pub tokens_from : ℕ → ℕ → List ℕ → List Token
 tokens_from passed at [] = record { at = at; kind = End; text = [] } ∷ []
 tokens_from (suc passed) at (b ∷ bs) = tokens_from passed (at + 1) bs
@@ -172,6 +175,6 @@ abbrev pub tail_of : List Token → List Token
 tail_of [] = []
 tail_of (t ∷ ts) = ts
 
--- a text without a token: only what means nothing stands before its end
+-- a text without a token: everything before its end means nothing
 abbrev pub HasNoToken : List ℕ → Type 0
 HasNoToken text = (head_of (tokens text)).kind ≡ End

@@ -1,4 +1,4 @@
--- When a step of a plan stands over the columns that come to it, what it means there, and the columns that it hands on.
+-- When a step of a plan is well typed over the columns of its input, its plan, and its output columns.
 use Rattle.std.specs.{Prelude.{ℕ, ◌+◌, Bool, not, ◌&&◌, nat_eq, nat_lt, List, [], ◌∷◌, ◌++◌, length, map, Ok, Err}, List.{list_any, list_all, zip}}
 use Rattle.smk_base.specs.{declared.value.Kind.Kind, declared.book.tree.Word.Word, declared.book.tree.Term.Term, declared.book.tree.ItemTree.ItemTree, declared.book.tree.AggTree.AggTree, declared.book.tree.AggWhat.AggWhat, declared.book.tree.PairTree.PairTree, declared.book.plan.Operand.Operand, declared.book.plan.Item.Item, declared.book.plan.Agg.Agg, declared.book.catalog.Column.Column, declared.book.type_fault.TypeFault.TheVariants.{KindMismatch, DuplicateName, SumTooDeep, UnionShape, EmptyList, RowTooWide}, declared.rel.TheConstants.COLUMN_LIMIT, Plans.{Formula, Comparison, Conjunction, Disjunction, Negation, Selection, Projection, Distinction, Grouping, Binary, Equijoin, ThetaJoin, CrossProduct, Expr, Apply, Combine}, Trees.{PredImage, CompareNode, AndNode, OrNode, NotNode}}
 use Rattle.smk_base.specs.declared.value.Kind.TheVariants as kinds
@@ -47,7 +47,7 @@ abbrev pub item_name : ItemTree → Word
 item_name (item_trees.Col col name) = name
 item_name (item_trees.Bin col width name) = name
 
--- an item with its kind: its column is known, and `bin` stands on an int
+-- an item with its kind: its column is known, and `bin` is of an int
 abbrev pub typed_item : List Column → ItemTree → Typed (Item × Kind)
 typed_item columns (item_trees.Col col name) = do
   found ← column_named columns col
@@ -56,7 +56,7 @@ typed_item columns (item_trees.Bin col width name) = do
   found ← column_named columns col
   unless (is_text found.1) (KindMismatch col.at) (Ok (items.Bin found.0 width, found.1))
 
--- one more item of a list: it stands, and its name is new in the list
+-- one more item of a list: it is well typed, and its name is new in the list
 abbrev pub item_after : List Column → List Item × List Column → ItemTree → Typed (List Item × List Column)
 item_after columns made tree = do
   item ← typed_item columns tree
@@ -79,7 +79,7 @@ abbrev pub typed_sum : Word → ℕ → Kind → Typed (Agg × Kind)
 typed_sum word c kinds.Text = Err (KindMismatch word.at)
 typed_sum word c (kinds.Int level) = unless (nat_lt 2 level) (SumTooDeep word.at) (Ok (aggs.Sum c, kinds.Int (level + 1)))
 
--- an aggregate with its kind: its column is known, and the sum stands
+-- an aggregate with its kind: its column is known, and a sum is well typed
 abbrev pub typed_agg : List Column → AggWhat → Typed (Agg × Kind)
 typed_agg columns agg_trees.Count = Ok (aggs.Count, kinds.Int 0)
 typed_agg columns (agg_trees.Sum word) = do
@@ -92,7 +92,7 @@ typed_agg columns (agg_trees.Max word) = do
   found ← column_named columns word
   Ok (aggs.Max found.0, found.1)
 
--- one more aggregate: it stands, and its name is new among the keys and the earlier aggregates
+-- one more aggregate: it is well typed, and its name is new among the keys and the earlier aggregates
 abbrev pub agg_after : List Column → List Agg × List Column → AggTree → Typed (List Agg × List Column)
 agg_after columns made tree = do
   agg ← typed_agg columns tree.what
@@ -125,11 +125,11 @@ pair_after lefts rights made pair = do
   right ← column_named rights pair.right
   unless (not (same_sort left.1 right.1)) (KindMismatch pair.right.at) (Ok (made ++ (left.0, right.0) ∷ []))
 
--- whether a name stands on both sides
+-- whether a name is on both sides
 abbrev pub share_a_name : List Column → List Column → Bool
 share_a_name lefts rights = list_any (λ left. list_any (has_name left.name) rights) lefts
 
--- the columns of both sides, at the place of `join`, `theta` or `product`: no name stands on both sides, and there are at most 16
+-- the columns of both sides, at the place of `join`, `theta` or `product`: no name is on both sides, and there are at most 16
 abbrev pub joined : ℕ → List Column → List Column → Typed (List Column)
 joined at lefts rights =
     unless (share_a_name lefts rights) (DuplicateName at)
@@ -149,7 +149,7 @@ united at lefts rights =
     unless (not (same_shape lefts rights)) (UnionShape at)
     (Ok (map united_column (zip lefts rights)))
 
--- a plan and the columns that it hands on
+-- a plan and its output columns
 pub record TypedPlan : Type 0 where
   pub plan : Expr
   pub columns : List Column
@@ -181,7 +181,7 @@ joined_plan at trees left right = do
   columns ← joined at left.columns right.columns
   Ok (record { plan = Combine (Equijoin pairs) left.plan right.plan; columns = columns })
 
--- a theta join, at the place of `theta`: the columns of both sides stand, then the predicate over the left ones followed by the right ones
+-- a theta join, at the place of `theta`: the columns of both sides, then the predicate over the left ones followed by the right ones
 abbrev pub theta_plan : ℕ → PredImage → TypedPlan → TypedPlan → Typed TypedPlan
 theta_plan at tree left right = do
   columns ← joined at left.columns right.columns

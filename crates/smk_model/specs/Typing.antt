@@ -28,7 +28,7 @@ table_by_word tables word = ok_or (place_of word.name (map (λ table. table.name
 abbrev pub view_by_word : List ViewImage → Word → Typed ℕ
 view_by_word views word = ok_or (place_of word.name (map (λ view. view.name) views)) (UnknownView word.at)
 
--- a plan over tables, and a step at its place over a typed input: the input first, then the second source, then the lists, then the step as a whole
+-- a plan over tables, and a step over a typed input; faults come in this order: the input, the second source, the lists, the step as a whole
 abbrev mutual
   pub typed_plan : List TableInfo → TreeImage → Typed TypedPlan
   typed_plan tables (ScanNode word) = table_by_word tables word >>= λ t. Ok (record { plan = Leaf t; columns = columns_of (info_at tables t) })
@@ -63,7 +63,7 @@ decl_after cols decl =
     unless (list_any (λ col. same_name decl.name.name col.name) cols) (DuplicateName decl.name.at)
     (declared_column decl decl.def >>= λ col. Ok (cols ++ col ∷ []))
 
--- one more table: its name is new among tables, and its columns stand
+-- one more table: its name is new among tables, and its columns are well typed
 abbrev pub table_after : CatalogImage → Word → List ℕ → List Decl → Typed CatalogImage
 table_after catalog name file decls =
     unless (is_taken name.name (map (λ table. table.name) catalog.tables)) (DuplicateName name.at)
@@ -73,13 +73,13 @@ table_after catalog name file decls =
 abbrev pub view_of : Word → TypedPlan → ViewImage
 view_of name typed = record { name = name.name; plan = typed.plan; names = names_of typed.columns; kinds = column_kinds typed.columns }
 
--- one more view: its name is new among views, and its plan stands
+-- one more view: its name is new among views, and its plan is well typed
 abbrev pub view_after : CatalogImage → Word → TreeImage → Typed CatalogImage
 view_after catalog name tree =
     unless (is_taken name.name (map (λ view. view.name) catalog.views)) (DuplicateName name.at)
     (typed_plan catalog.tables tree >>= λ typed. Ok (record catalog { views = catalog.views ++ view_of name typed ∷ [] }))
 
--- what a backward declaration asks for over the columns of its table: with `by` the column is known, with `group` the grouping stands
+-- what a backward declaration asks for over the columns of its table: with `by` the column is known, with `group` the grouping is well typed
 abbrev pub typed_extra : List Column → Extra → Typed BackExtra
 typed_extra columns extras.Plain = Ok back_extras.Plain
 typed_extra columns (extras.By word) = column_named columns word >>= λ found. Ok (back_extras.By found.0)
@@ -159,7 +159,7 @@ link_after catalog view table words = do
   to ← in_turn (to_after catalog v t) [] words
   Ok (record catalog { links = catalog.links ++ record { view = v; table = t; to = to } ∷ [] })
 
--- one more dependency: the view of its violations, and a plain backward declaration of this to the table
+-- one more dependency: the view of its violations, and a plain backward declaration from it to the table
 abbrev pub depends_after : CatalogImage → ℕ → Word → Word → List Word → Word → Typed CatalogImage
 depends_after catalog at name table keys col = view_after catalog name (violations_tree at table keys col) >>= λ more. back_after more at name table extras.Plain
 

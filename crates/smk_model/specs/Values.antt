@@ -6,14 +6,14 @@ use Rattle.smk_base.specs.{declared.value.Value.Value, declared.value.Value.TheV
 abbrev pub Row : Type 0
 Row = List Value
 
--- value order: ints by number; texts by their first differing byte, a proper prefix being less; an int before a text, which no typed comparison meets
+-- value order: ints by number; texts byte by byte, a proper prefix being less; ints before texts, though no typed comparison has both
 abbrev pub value_cmp : Value → Value → Ordering
 value_cmp (Int a) (Int b) = int_cmp a b
 value_cmp (Text a) (Text b) = slice_cmp nat_cmp a b
 value_cmp (Int a) (Text b) = Less
 value_cmp (Text a) (Int b) = Greater
 
--- the greatest whole q with q times w at most v, for a w of at least 1: the law bin_is_floor says so
+-- the greatest whole q with q times w at most v, for w at least 1 (the law bin_is_floor)
 abbrev pub bin : ℤ → ℤ → ℤ
 bin v w = int_div_euclid v w
 

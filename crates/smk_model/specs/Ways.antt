@@ -3,7 +3,7 @@ use Rattle.std.specs.Prelude.{◌≡◌, ℕ, ◌+◌, List, ◌++◌, length, m
 use Rattle.smk_base.specs.{Places.{Lists, inverted, own_lists, upto}, Plans.{Unary, Selection, Projection, Distinction, Grouping, Binary, BagUnion, SetUnion}}
 use Rattle.smk_model.specs.{Values.Row, Plain.{image, key_of, firsts, joins}, Lineage.{meeting, matching, lefts_of, rights_of}, Locals.{singles, back1, fwd1, back_left, fwd_left, back_right, fwd_right}, Classes.{places_in, classes}}
 
--- of so many rows each its own, the source of each output row among so many, or the target of each input row among so many
+-- each of so many rows its own; the source of each output row, among so many; or the target of each input row, among so many
 pub data Way : Type 0 where
   Own : ℕ → Way
   Sources : List ℕ → ℕ → Way
@@ -31,7 +31,7 @@ way (Projection items) L = Own (length L)
 way (Distinction items) L = reaches (map (image items) L)
 way (Grouping keys aggs) L = reaches (map (key_of keys) L)
 
--- the ways of the two sides of a step: the left rows of a union of all rows come first, the right ones behind them
+-- the ways of the two sides of a step: the left rows of a union of all rows come first, the right ones after them
 abbrev pub left_way : Binary → List Row → List Row → Way
 left_way BagUnion L R = Targets (upto (length L)) (length L + length R)
 left_way SetUnion L R = Targets (places_in (firsts (L ++ R)) L) (length (firsts (L ++ R)))

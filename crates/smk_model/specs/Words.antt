@@ -1,4 +1,4 @@
--- The words of a run: what clap takes, by its own rule for this command, and what it is asked for.
+-- The words of a run: what clap takes by this command's rules, and what they ask for.
 use Rattle.std.specs.{Prelude.{ℕ, ◌+◌, ℤ, pos, negsuc, true, ◌&&◌, nat_lt, cond, List, [], ◌∷◌, Option, Some, None, option_map, option_and_then, codes}, Str.bytes_eq}
 use Rattle.clap.specs.{Words.{App, Rule, new_app, new_rule, with_rule, matches_of, first_of, fault_of}, Simple.on_top, Kinds.Kinds}
 use Rattle.clap.specs.declared.builder.value_parser.ValueParser.TheVariants as parsers
@@ -9,21 +9,21 @@ pub data Mode : Type 0 where
   Inject : Mode
   Defer : Mode
 
--- what options say of how a run works; its outcome doesn't depend on it
+-- how a run works, by its options; its outcome doesn't depend on it
 pub record Settings : Type 0 where
   pub mode : Mode
   pub workers : ℕ
 
--- where the texts of a run come from: the file of the book, and that of the script where there is one; or the demo of so many flights
+-- where the texts of a run come from: the file of the book, and that of the script if there is one; or the demo of so many flights
 pub data TextSource : Type 0 where
   Files : List ℕ → Option (List ℕ) → TextSource
   Demo : ℕ → TextSource
 
--- the option `--mode`, which is inject where it isn't there
+-- the option `--mode`; without it the mode is inject
 abbrev pub mode_rule : Rule
 mode_rule = record (new_rule (codes "mode")) { long = Some (codes "mode"); defaults = codes "inject" ∷ [] }
 
--- the option `--workers` with a number of them, which is one where it isn't there
+-- the option `--workers` with a number; without it there is one worker
 abbrev pub workers_rule : Rule
 workers_rule = record (new_rule (codes "workers")) { long = Some (codes "workers"); parser = Some (parsers.Signed (pos 1) (pos WORKER_LIMIT)); defaults = codes "1" ∷ [] }
 
@@ -39,18 +39,18 @@ demo_rule = record (new_rule (codes "demo")) { long = Some (codes "demo"); parse
 abbrev pub smoke_app : App
 smoke_app = with_rule (with_rule (with_rule (with_rule (with_rule (on_top (λ s. record s { no_binary_name = true }) (new_app (codes "smoke"))) mode_rule) workers_rule) demo_rule) (new_rule (codes "book"))) (new_rule (codes "script"))
 
--- a value for options and places, by their names
+-- the values of options and places, by their names
 abbrev pub Values : Type 0
 Values = List ℕ → Option (List ℕ)
 
--- those that clap gives where it takes the words for a command
+-- the values that clap finds in the words for a command
 abbrev pub value_given_to : App → List (List ℕ) → Values
 value_given_to app words name = first_of name (matches_of app words)
 
 abbrev pub value_given : List (List ℕ) → Values
 value_given words = value_given_to smoke_app words
 
--- the mode of a name
+-- the mode with this name
 abbrev pub mode_named : List ℕ → Option Mode
 mode_named text = cond (bytes_eq text (codes "inject")) (Some Inject) (cond (bytes_eq text (codes "defer")) (Some Defer) None)
 
@@ -63,7 +63,7 @@ abbrev pub settings_with : Option Mode → Option ℕ → Option Settings
 settings_with (Some mode) (Some workers) = Some (record { mode = mode; workers = workers })
 settings_with _ _ = None
 
--- the settings that these values ask for, unless the mode is none of those that are known
+-- the settings in these values, unless the mode is unknown
 abbrev pub settings_in : Values → Option Settings
 settings_in values = settings_with (option_and_then mode_named (values (codes "mode"))) (option_and_then workers_counted (option_and_then int_of (values (codes "workers"))))
 
@@ -72,7 +72,7 @@ abbrev pub demo_sized : ℤ → Option TextSource
 demo_sized (pos n) = cond (nat_lt 0 n && nat_lt n (most_flights + 1)) (Some (Demo n)) None
 demo_sized (negsuc n) = None
 
--- the texts that are asked for by the values of `--demo`, of the book and of the script: those of a demo or those of files, of which exactly one is given
+-- the texts that the values of `--demo`, of the book and of the script name: either a demo or files
 abbrev pub texts_named : Option (List ℕ) → Option (List ℕ) → Option (List ℕ) → Option TextSource
 texts_named None (Some book) script = Some (Files book script)
 texts_named (Some number) None script = option_and_then demo_sized (int_of number)
@@ -81,7 +81,7 @@ texts_named _ _ script = None
 abbrev pub texts_in : Values → Option TextSource
 texts_in values = texts_named (values (codes "demo")) (values (codes "book")) (values (codes "script"))
 
--- what a run is called for
+-- what the words of a run ask for: how it works, and where its texts come from
 pub record Invocation : Type 0 where
   pub settings : Settings
   pub texts : TextSource
@@ -93,12 +93,12 @@ called _ _ = None
 abbrev pub invocation_in : Values → Option Invocation
 invocation_in values = called (settings_in values) (texts_in values)
 
--- something where clap has no kind of error, that is where it takes the words
+-- something, if clap takes the words and finds no error
 abbrev pub where_taken : {A : Type 0} → Kinds → Option A → Option A
 where_taken [] found = found
 where_taken (kind ∷ kinds) found = None
 
--- what the words of a run call it for: none exactly where clap doesn't take them, and so too where they ask for help, where the mode isn't known, or where both of a book and a demo are given or none of them
+-- what the words of a run ask for, unless clap doesn't take them, they ask for help, the mode is unknown, or they don't give exactly one of a book and a demo
 abbrev pub invocation_of : List (List ℕ) → Option Invocation
 invocation_of words = where_taken (fault_of smoke_app words) (invocation_in (value_given words))
 

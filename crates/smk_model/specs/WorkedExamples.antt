@@ -133,7 +133,7 @@ pub record ReadmeHolds : Type 0 where
 abbrev pub plain_settings : Settings
 plain_settings = record { mode = Inject; workers = 1 }
 
--- what words call for; those that call for nothing are refused whatever the files hold
+-- what words ask for; words that ask for nothing are refused, whatever the files hold
 pub record WordsHold : Type 0 where
   pub book : invocation_of (codes "book.smk" ∷ []) ≡ Some (record { settings = plain_settings; texts = Files (codes "book.smk") None })
   pub demo : invocation_of (codes "--demo" ∷ codes "5" ∷ []) ≡ Some (record { settings = plain_settings; texts = Demo 5 })
@@ -149,7 +149,7 @@ marked_columns =
     ∷ record { name = codes "t"; kind = kinds.Text; def = Some (Text (codes "none")) }
     ∷ []
 
--- a file with a byte order mark, in which the columns stand in another order
+-- a file with a byte order mark, and with the columns in another order
 abbrev pub marked_bytes : List ℕ
 marked_bytes = 0xEF ∷ 0xBB ∷ 0xBF ∷ codes "\"a, \"\"b\"\"\",n,t\r\nx,+007,\r\n\"y,\r\n\"\"z\"\"\", ,w\r\n"
 

@@ -1,4 +1,4 @@
-//! Laws of runs: what is read, what comes of it, and small runs worked by hand.
+//! Laws of runs: what is read, its outcome, and small runs worked by hand.
 
 pub mod example_laws;
 pub mod grammar_laws;

@@ -1,4 +1,4 @@
-//! Laws of sessions: what lines are answered, and what they change.
+//! Laws of sessions: how lines are answered, and what they change.
 
 pub mod append_laws;
 pub mod ask_laws;

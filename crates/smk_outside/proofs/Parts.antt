@@ -3,7 +3,7 @@ use Rattle.std.proofs.{Common.{◌≡◌, ◌-◌, ℕ, List, ◌++◌, Option, 
 use Rattle.std.specs.Io.KnownBytes as known
 use Rattle.smk_outside.specs.Outside.{AppendsPart}
 
--- a front of the bytes is some of them
+-- first bytes are some of the bytes
 pub appends_front : (before after bytes front : List ℕ) (n : ℕ) → front ≡ take n bytes → after ≡ before ++ front → AppendsPart (Some before) (Some after) bytes
 appends_front before after bytes front n is e = (front, (drop n bytes, sym (take-append-drop n bytes) ∙ ap (λ l. l ++ drop n bytes) (sym is)), e)
 

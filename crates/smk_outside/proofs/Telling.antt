@@ -59,7 +59,7 @@ TakesBy-unheard a b = none_taken a.left
 pub take_front : (n : ℕ) (bytes : List ℕ) → IsPrefix (take n bytes) bytes
 take_front n bytes = (drop n bytes, sym (take-append-drop n bytes))
 
--- a front of texts is one of more texts
+-- what some texts begin with, more texts begin with too
 pub front_more : (xs ys : List (List ℕ)) (es : List Event) → AreFront xs es → AreFront (xs ++ ys) es
 front_more xs ys es (parts, is, (rest, joined)) =
     (parts, is, (rest ++ concat ys, concat-append xs ys ∙ ap (λ l. l ++ concat ys) joined ∙ append_assoc (concat parts) rest (concat ys)))

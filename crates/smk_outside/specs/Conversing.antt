@@ -59,7 +59,7 @@ pub record Conversation {S T : Type 0} (rules : Rules S T) (Fits : S → T → T
 abbrev pub AnyFits : {S T : Type 0} → S → T → Type 0
 AnyFits state turn = ⊤
 
--- what a conversation says, put together: the opening, and then the texts of its turns in order; if it breaks off, a front of this
+-- what a conversation says, put together: the opening, and then the texts of its turns in order; if it breaks off, only the beginning of this
 pub record SaysAll (S T : Type 0) : Type 0 where
   pub whole : (rules : Rules S T) (first : S) (opening : List (List ℕ)) (ending : Ending) (turns : List T) (events : List Event)
       → (ending ≡ Unsaid → ⊥) → Talks rules AnyFits first opening ending turns events → said_in events ≡ concat (opening ++ texts_of rules first turns)

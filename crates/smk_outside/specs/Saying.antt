@@ -6,10 +6,10 @@ use Rattle.smk_outside.specs.{declared.talk.event.Event.Event, Outside.IsPrefix,
 abbrev pub Says : Told → Told → List (List ℕ) → Type 0
 Says before after texts = Adds before after (says texts) × Takes before after []
 
--- only something was said in these events, and it is a front of the texts
+-- nothing but `say` happened in these events, and the texts begin with what was said
 abbrev pub AreFront : List (List ℕ) → List Event → Type 0
 AreFront texts events = (parts : List (List ℕ)) × (events ≡ says parts) × IsPrefix (concat parts) (concat texts)
 
--- a front of these texts was said
+-- something was said that these texts begin with
 abbrev pub SaysFront : Told → Told → List (List ℕ) → Type 0
 SaysFront before after texts = (events : List Event) × AreFront texts events × Adds before after events × Takes before after []

@@ -59,14 +59,14 @@ IsHeard limit line (Line heard) = (line ≢ []) × (heard.items ≡ without_end 
 IsHeard limit line Long = (line ≢ []) × (limit < length (without_end line))
 IsHeard limit line End = line ≡ []
 
--- these bytes were taken: up to the first LF or the end; or as many as are wanted, without an LF; or fewer, as memory was wanting
+-- these bytes were taken: up to the first LF or the end; or as many as were asked for, without an LF; or fewer, for lack of memory
 abbrev pub TakesFront : ℕ → Option (List ℕ) → Option (List ℕ) → List ℕ → Result Bool TalkFault → Type 0
 TakesFront most before after line (Ok true) = IfSome before (λ bytes. (line ≡ take_through 10 bytes) × (after ≡ Some (later_lines bytes)))
 TakesFront most before after line (Ok false) = All (λ x. x ≢ 10) line × (most ≤ length line) × known.Consumes before after line
 TakesFront most before after line (Err NoMemory) = All (λ x. x ≢ 10) line × known.Consumes before after line × IfSome before (λ bytes. bytes ≢ [])
 TakesFront most before after line (Err Failed) = ⊤
 
--- these bytes were taken: up to the first LF or the end, or some without an LF, or none, as memory was wanting for some
+-- these bytes were taken: up to the first LF or the end, or some without an LF, or none, for lack of memory
 abbrev pub AreTaken : Option (List ℕ) → Option (List ℕ) → List ℕ → Result Bool TalkFault → Type 0
 AreTaken before after bytes (Ok true) = known.Consumes before after bytes × StopsAt bytes 10 × IsEmptyOrEndsWith bytes 10 × (length bytes ≡ 0 → OnSome before (known.IsAtEnd after))
 AreTaken before after bytes (Ok false) = known.Consumes before after bytes × All (λ x. x ≢ 10) bytes

@@ -1,4 +1,4 @@
--- What one turn of a conversation comes to, for the body of a loop that makes them.
+-- What one turn of a conversation does, for the body of a loop that makes them.
 use Rattle.std.specs.Prelude.{◌≡◌, ℕ, List, [], length, Option, Some, None}
 use Rattle.smk_outside.specs.{declared.talk.ending.Ending.Ending, declared.talk.ending.Ending.TheVariants.{Unsaid, Outlasted}, Told.Told, Saying.{Says, SaysFront}, Conversing.{Rules, Stretch, Cause}}
 

@@ -1,6 +1,6 @@
 /// What is told where pieces of work that may run at the same time begin. It changes nothing that a contract sees.
 pub trait Gate {
-    /// Piece `piece` begins. It takes no memory.
+    /// Piece `piece` begins.
     fn arrive(&self, piece: u32);
 }
 

@@ -7,7 +7,7 @@ use Rattle.smk_own.specs.{declared.own_line.Part.Part, declared.own_line.OwnLine
 abbrev pub part_image : Option Part → Option owns.RowsPart
 part_image part = option_map (λ p. record { from = p.from; below = p.below }) part
 
--- from which number on, and how many, of so many members a part has
+-- where a part begins among so many members, and how many it has
 abbrev pub span_of : Option owns.RowsPart → ℕ → ℕ × ℕ
 span_of None count = (0, count)
 span_of (Some part) count = (min part.from count, min part.below count - min part.from count)

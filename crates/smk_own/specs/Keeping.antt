@@ -2,7 +2,7 @@
 use Rattle.std.specs.Prelude.{◌≡◌, cond, true}
 use Rattle.smk_model.specs.{Limits.{KeepsAsk, KeepsSteps}, OwnLines.{OwnLine, Selected, Narrowed, NarrowedAsk, Brief, OwnReading, Owns, has_rows, has_rows_behind, moves_brushes}}
 
--- steps keep their limits, and a line of a script is of a form that may stand behind its words
+-- steps keep their limits, and a script's line is of a form that may come after its words
 abbrev pub KeepsOwn : OwnLine → Type 0
 KeepsOwn (Selected part table steps) = KeepsSteps steps
 KeepsOwn (Narrowed part now asked) = cond now (has_rows_behind asked) (has_rows asked) ≡ true

@@ -1,10 +1,10 @@
--- What own lines begin with, as the definitions see it.
+-- The first words of own lines, as the definitions see them.
 use Rattle.std.specs.Prelude.{Option}
 use Rattle.smk_base.specs.Trees.{AnyLineImage}
 use Rattle.smk_model.specs.OwnLines as owns
 use Rattle.smk_own.specs.{Image.part_image, declared.reading.Lead.Lead, declared.reading.Lead.TheVariants.{Schema, Help, Selected, Before}, declared.reading.Words.Words, declared.reading.Words.TheVariants.{Narrowed, Brief}}
 
--- the own line that a line of a script becomes behind such words
+-- the own line that a script's line becomes after such words
 abbrev pub line_behind : Words → AnyLineImage → Option owns.OwnLine
 line_behind (Narrowed part now) = owns.narrowed (part_image part) now
 line_behind Brief = owns.brief

@@ -1,4 +1,4 @@
-/// What an own line comes to: its text, and whether it is refused.
+/// The answer to an own line: its text, and whether it is refused.
 #[derive(Drop)]
 pub struct OwnAnswer {
     pub text: Vec<u8>,

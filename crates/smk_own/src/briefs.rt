@@ -14,7 +14,7 @@ use std::alloc::{AllocError, Global};
 use std::sync::ledger::Ledger;
 use std::thread::Threads;
 
-/// What a line that changes brushes comes to without its lists: its first line and the contents of the linked views, and the session in the next state, which is that of the line by itself. No list of rids or of marks is made for the text. After an error the session is as it was.
+/// The answer to a line that changes brushes, without its lists: its first line and the contents of the linked views, and the session in the next state, which is that of the line by itself. No list of rids or of marks is made for the text. After an error the session is as it was.
 pub fn brief<R: Threads + Sync, G: Gate + Sync, L: Ledger>(
     rt: &R,
     alloc: Global,
@@ -32,7 +32,7 @@ pub fn brief<R: Threads + Sync, G: Gate + Sync, L: Ledger>(
 {
     let turn = session.turn_briefly(rt, alloc, line, gate, steps)?;
     let text = brief_text(alloc, session.catalog(), line, &turn.reply, turn.count)?;
-    // Nothing wants memory any more.
+    // From here on nothing takes memory.
     let reply = session.take(turn);
     let refused = has_refused(&reply);
     Ok(OwnAnswer { text, refused })

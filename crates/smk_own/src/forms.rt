@@ -1,7 +1,7 @@
 ghost use Rattle.std.specs.Prelude.{◌≡◌};
 ghost use Rattle.smk_model.specs.Help.{help_text};
 
-// Each form of line, and an example of it behind a sign at which a comment begins.
+// Each form of line, and an example of it in a comment.
 const HELP: &[u8] = b"show VIEW  # show by_region
 back VIEW MARKS to TABLE [where COLUMN = VALUE | group]  # back by_region 0,2 to sales where amount = 30
 fwd TABLE RIDS to VIEW  # fwd sales 0,2 to big
@@ -18,7 +18,7 @@ append TABLE FILE  # append sales \"more.csv\"
 .help
 ";
 
-/// What may be said: each form of line, and an example of it. It takes no memory.
+/// What you can say: each form of line, and an example of it.
 pub fn help() -> &'static [u8]
     ensures { result.now ≡ help_text }
 {

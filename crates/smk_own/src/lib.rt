@@ -1,4 +1,4 @@
-//! A conversation's own lines, which begin with a dot: how they are read, and what they come to over a session.
+//! A conversation's own lines, which begin with a dot: how they are read, and how a session answers them.
 #![tactic(auto)]
 
 mod answer;

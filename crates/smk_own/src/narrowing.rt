@@ -44,7 +44,7 @@ fn refused(text: Vec<u8>) -> OwnAnswer
     }
 }
 
-/// A part of numbered rows, under a heading that has the number of all.
+/// A part of numbered rows; the heading counts all rows.
 pub(crate) fn numbered_text(
     alloc: Global,
     part: Option<Part>,
@@ -124,7 +124,7 @@ fn narrowed_rids(
     }
 }
 
-/// Rows of a table with these rids, under words and how many rows there are in all. They are looked at, and no others.
+/// Rows of a table with these rids, under a heading of words and how many rows there are in all. Only these rows are looked at.
 pub(crate) fn printed_text<L: Ledger>(
     alloc: Global,
     session: &Session,
@@ -145,7 +145,7 @@ pub(crate) fn printed_text<L: Ledger>(
     with_placed_rows(alloc, front, columns, printed, &rows)
 }
 
-/// A part of rows with their rids, under a heading that has the number of all.
+/// A part of rows with their rids; the heading counts all rows.
 pub(crate) fn placed_text<L: Ledger>(
     alloc: Global,
     session: &Session,
@@ -194,7 +194,7 @@ fn back_text<L: Ledger>(
     placed_text(alloc, session, part, &words, number, rids.as_slice(), steps)
 }
 
-/// What a `show` line, or a `back` line for rows, comes to over the rows that are selected now for its view, and with a part of its rows in print. The session stays as it is. Each row of a table that is printed is one look, whatever the marks reach.
+/// The answer to a `show` line, or to a `back` line for rows, over the rows that are selected now for its view, or with only a part of its rows printed. The session stays as it is. Each row of a table that is printed is one look, whatever the marks reach.
 pub fn narrowed<R: Threads + Sync, G: Gate + Sync, L: Ledger>(
     rt: &R,
     alloc: Global,
@@ -287,7 +287,7 @@ fn asked_over<R: Threads + Sync, L: Ledger>(
     stepped(rt, alloc, columns, &line.steps, rows)
 }
 
-/// What an `ask` line comes to over the rows that are selected now for its view, and with a part of its rows in print. The session stays as it is. Each row that the steps go over is one look, also where they are refused.
+/// The answer to an `ask` line, over the rows that are selected now for its view, or with only a part of its rows printed. The session stays as it is. Each row that the steps go over is one look, even if they are refused.
 pub fn narrowed_ask<R: Threads + Sync, L: Ledger>(
     rt: &R,
     alloc: Global,

@@ -1,7 +1,7 @@
 // Own lines as they are read.
 use smk_base::{AskLine, AskSteps, Line, Text};
 
-/// Which rows of an answer are printed: those numbered from one number on and below another.
+/// Which rows of an answer are printed: those from one number on and below another.
 #[derive(Clone, Copy, Drop)]
 pub struct Part {
     pub from: u32,
@@ -11,9 +11,9 @@ pub struct Part {
 /// An own line of a conversation.
 #[derive(Drop)]
 pub enum OwnLine {
-    /// What there is.
+    /// The schema.
     Schema,
-    /// What may be said.
+    /// What you can say.
     Help,
     /// The rows of a table that every brush on it selects, through steps, and the part of the answer that is printed.
     Selected {
@@ -27,7 +27,7 @@ pub enum OwnLine {
         now: bool,
         line: Line,
     },
-    /// The same of an `ask` line.
+    /// An `ask` line, with the same two choices.
     NarrowedAsk {
         part: Option<Part>,
         now: bool,

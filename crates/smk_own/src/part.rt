@@ -5,7 +5,7 @@ ghost use Rattle.smk_own.specs.Image.{part_image, span_of};
 
 use crate::own_line::Part;
 
-/// From which number on, and how many, of so many members a part has.
+/// Where a part begins among so many members, and how many it has.
 pub(crate) fn span(part: Option<Part>, count: u32) -> (u32, u32)
     ensures is { result ≡ span_of (part_image part) count }
     ensures within { result.0 + result.1 ≤ count }
@@ -20,7 +20,7 @@ pub(crate) fn span(part: Option<Part>, count: u32) -> (u32, u32)
     }
 }
 
-/// The members that a part has.
+/// The members in a part.
 pub(crate) fn part_of(part: Option<Part>, members: &[u32]) -> &[u32]
     requires { length members.now < 2 ^ 32 }
     ensures { result.now ≡ texts.part_of (part_image part) members.now }

@@ -30,7 +30,7 @@ fn is_gap(b: u8) -> bool
     b == b' ' || b == b'\t' || b == b'\n' || b == b'\r'
 }
 
-// How many blanks stand first.
+// How many blanks come first.
 fn gap_len(text: &[u8]) -> usize
     ensures is { result ≡ length (take_while tokens.is_gap text.now) }
     ensures within { result ≤ length text.now }
@@ -38,7 +38,7 @@ fn gap_len(text: &[u8]) -> usize
     text.iter().take_while(|b| is_gap(**b)).count()
 }
 
-// How many bytes stand before the first blank.
+// How many bytes come before the first blank.
 fn solid_len(text: &[u8]) -> usize
     ensures is { result ≡ length (take_while owns.is_solid text.now) }
     ensures within { result ≤ length text.now }
@@ -46,14 +46,14 @@ fn solid_len(text: &[u8]) -> usize
     text.iter().take_while(|b| !is_gap(**b)).count()
 }
 
-// The bytes behind the blanks that stand first.
+// The bytes after the blanks at the start.
 fn past_blanks(text: &[u8]) -> &[u8]
     ensures { result.now ≡ owns.past_blanks text.now }
 {
     &text[gap_len(text)..]
 }
 
-// The first word, and the bytes behind it.
+// The first word, and the bytes after it.
 fn next_word(text: &[u8]) -> (&[u8], &[u8])
     ensures word { result.0.now ≡ owns.first_word text.now }
     ensures rest { result.1.now ≡ owns.past_word text.now }
@@ -61,7 +61,7 @@ fn next_word(text: &[u8]) -> (&[u8], &[u8])
     past_blanks(text).split_at(solid_len(past_blanks(text)))
 }
 
-/// Whether a line is an own line: its first byte behind blanks is a dot. It takes no memory.
+/// Whether a line is an own line: its first byte after blanks is a dot.
 pub fn is_own(text: &[u8]) -> bool
     ensures { result ≡ owns.is_own text.now }
 {
@@ -78,7 +78,7 @@ fn bound_of(word: &[u8]) -> Option<u32>
     u32::try_from(read_int(word)?).ok()
 }
 
-// Words that stand before a line of a script.
+// Words before a line of a script.
 #[derive(Clone, Copy, Drop)]
 enum Words {
     Narrowed(Option<Part>, bool),
@@ -94,7 +94,7 @@ enum Lead {
     Before(Words),
 }
 
-// `.selected` or `.now`, and the bytes behind it.
+// `.selected` or `.now`, and the bytes after it.
 fn narrowing(part: Option<Part>, text: &[u8]) -> Option<(Lead, &[u8])>
     ensures { option_map (λ led. (lead_image led.0, led.1.now)) result ≡ owns.narrowing (part_image part) text.now None }
 {
@@ -124,7 +124,7 @@ fn parting(text: &[u8]) -> Option<(Lead, &[u8])>
     }
 }
 
-// What a line begins with, and the bytes behind that.
+// The first words of a line, and the bytes after them.
 fn lead_of(text: &[u8]) -> Option<(Lead, &[u8])>
     ensures { option_map (λ led. (lead_image led.0, led.1.now)) result ≡ owns.lead_of text.now }
 {
@@ -180,7 +180,7 @@ fn is_blank(alloc: Global, text: &[u8]) -> Result<bool, AllocError>
     }
 }
 
-// A table and steps behind `.selected`.
+// A table and steps after `.selected`.
 fn before_table(
     alloc: Global,
     text: &[u8],
@@ -274,7 +274,7 @@ fn briefly(line: AnyLine) -> Option<OwnLine>
     }
 }
 
-// The own line that a line of any kind becomes behind such words.
+// The own line that a line of any kind becomes after such words.
 fn becomes(words: Words, line: AnyLine) -> Option<OwnLine>
     ensures { option_map own_image result ≡ line_behind words (any_image line) }
 {
@@ -284,7 +284,7 @@ fn becomes(words: Words, line: AnyLine) -> Option<OwnLine>
     }
 }
 
-// A line of a script behind words.
+// A line of a script after words.
 fn before_line(
     alloc: Global,
     text: &[u8],
@@ -303,7 +303,7 @@ fn before_line(
     }
 }
 
-/// What an own line says, or the place at which it isn't read: that of its first dot if what is wrong stands before a line of a script, or is the form of that line, and else that at which this line isn't read.
+/// What an own line says, or the place at which it isn't read: its first dot if the fault comes before the script's line in it, or is the form of that line; else the place at which that line isn't read.
 pub fn read_own(alloc: Global, text: &[u8]) -> Result<OwnReading, AllocError>
     ensures says { IfOk result (λ own. owns.IsOwnReading text.now (own_reading_image own)) }
     ensures kept { IfOk result (λ own. KeepsOwnReading (own_reading_image own)) }

@@ -31,7 +31,7 @@ fn view_rows(alloc: Global, session: &Session) -> Result<Vec<u32>, AllocError>
     Ok(counts)
 }
 
-/// What there is, over a book whose dependencies have these names: the tables with their rows and columns, the views with those of their first contents, in which marks are places, and the declarations. It makes no look.
+/// The schema of a book whose dependencies have these names: the tables with their rows and columns, the views with as many rows as they have marks, and the declarations. It makes no look.
 pub fn schema(alloc: Global, session: &Session, fds: &Names) -> Result<Vec<u8>, AllocError>
     ensures { IfOk result (λ text. text.items ≡ schema_said (record { catalog = catalog_image session.now.catalog; fds = fds.now }) (state_of session.now)) }
 {

@@ -128,7 +128,7 @@ fn steps_text<R: Threads + Sync, L: Ledger>(
     }
 }
 
-/// The rows of a table that every brush on it selects, with their rids, or what steps make of them, with a part of them in print. The session stays as it is. Each row that is printed is one look, or that the steps go over, also where they are refused.
+/// The rows of a table that every brush on it selects, with their rids, or what steps make of them; a part of them may be printed. The session stays as it is. Each row that is printed, or that the steps go over, is one look, even if they are refused.
 pub fn selected<R: Threads + Sync, L: Ledger>(
     rt: &R,
     alloc: Global,

@@ -28,7 +28,7 @@ impl<'g, G: Gate + Sync, B: OpBody> Model for Pieces<'g, G, B> {
 }
 
 impl<'g, G: Gate + Sync, B: OpBody> Pieces<'g, G, B> {
-    /// A body of so many parts around another. It takes no memory.
+    /// A body of so many parts around another.
     pub fn new(inner: B, gate: &'g G, workers: u32) -> Pieces<'g, G, B>
         requires some { 0 < workers }
         requires few { workers ≤ WORKER_LIMIT }

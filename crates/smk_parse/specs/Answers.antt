@@ -4,12 +4,12 @@ use Rattle.smk_parse.specs.Vocabulary.{BookFault, Book, LineFault, Line, BadToke
 use Rattle.smk_base.specs.{declared.book.tree.AnyLine.AnyLine, declared.book.tree.AskStep.AskStep}
 use Rattle.smk_base.specs.declared.fault.LineFault.TheVariants as line_faults
 
--- a line's fault by that of its reader: it isn't a line, or memory ran out
+-- a line's fault, by that of its reader: it isn't a line, or memory ran out
 abbrev pub as_line_fault : BookFault → LineFault
 as_line_fault NoMemory = line_faults.NoMemory
 as_line_fault fault = line_faults.NotALine (place_of fault)
 
--- a line, which its tree spells and which has this fault or none: it is nothing where it has no token, is a line with its tree where it has no fault, and else is not a line at the place of its fault; or memory ran out
+-- the answer for a line: nothing if it has no token, its tree if it has no fault, else the place of its first fault; or memory ran out
 abbrev pub IsAnswer : {Tree : Type 0} → (Tree → Type 0) → Option BookFault → List ℕ → Result (Option Tree) LineFault → Type 0
 IsAnswer Spells fault text (Ok None) = HasNoToken text
 IsAnswer Spells fault text (Ok (Some line)) = (HasNoToken text → ⊥) × Spells line × (fault ≡ None)
@@ -24,7 +24,7 @@ IsLineAnswer text answer = IsAnswer (IsWholeLine (tokens text)) (line_fault (tok
 abbrev pub IsAnyAnswer : List ℕ → Result (Option AnyLine) LineFault → Type 0
 IsAnyAnswer text answer = IsAnswer (λ line. IsWholeAnyLine (tokens text) (any_image line)) (any_fault (tokens text)) text answer
 
--- a text in the grammar without a fault is a book with its tree, and another has its first fault; or memory ran out
+-- the answer for a book: its tree if the text is in the grammar without a fault, else the first fault; or memory ran out
 abbrev pub IsBookAnswer : List ℕ → Result Book BookFault → Type 0
 IsBookAnswer text (Ok book) = AreStmts (tokens text) (book_image book) × (book_fault (tokens text) ≡ None)
 IsBookAnswer text (Err NoMemory) = Unit {0}
@@ -33,7 +33,7 @@ IsBookAnswer text (Err (Unexpected at)) = book_fault (tokens text) ≡ Some (Une
 IsBookAnswer text (Err (TooMany at what)) = book_fault (tokens text) ≡ Some (TooMany at what)
 IsBookAnswer text (Err (BadNumber at)) = book_fault (tokens text) ≡ Some (BadNumber at)
 
--- a table and the steps over its rows, which the text spells without a fault, or the place of its first fault; or memory ran out
+-- the answer for a table and steps over its rows: both if the text spells them without a fault, else the place of its first fault; or memory ran out
 abbrev pub IsSelectedAnswer : List ℕ → Result (List ℕ × List AskStep) LineFault → Type 0
 IsSelectedAnswer text (Ok read) = AreSelected (tokens text) read.0 (map ask_step_image read.1) × (selected_fault (tokens text) ≡ None)
 IsSelectedAnswer text (Err (line_faults.NotALine at)) = (f : BookFault) × ((selected_fault (tokens text) ≡ Some f) × (place_of f ≡ at))

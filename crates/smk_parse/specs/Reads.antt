@@ -1,4 +1,4 @@
--- What a reader of a symbol answers.
+-- The answers of the readers of symbols.
 use Rattle.std.specs.Prelude.{◌≡◌, ◌<◌, ℕ, Bool, true, false, List, [], ◌∷◌, ◌++◌, length, Option, Some, None, Result, Ok, Err}
 use Rattle.smk_parse.specs.{Vocabulary.{BookFault, NoMemory, TokenKind, Word, Token, token_fault, head_of, inner, Configuration, Member, MemberTree, Symbol, Tree, Rule, One, More, Listed, AStmts, StmtImage, Reading, reads, runs}, declared.book.Tally.Tally}
 use Rattle.smk_base.specs.declared.book.token.TokenKind.TheVariants as kinds
@@ -9,7 +9,7 @@ abbrev pub is_memory : BookFault → Bool
 is_memory NoMemory = true
 is_memory _ = false
 
--- what was read, with the state behind it, or its fault; or memory ran out
+-- what was read, with the state after it, or its fault; or memory ran out
 abbrev pub Answers : {A X : Type 0} → Reading A → (X → A) → Configuration → Result X BookFault → Type 0
 Answers reading image b (Ok x) = reading ≡ Ok (image x, b)
 Answers reading image b (Err f) = is_memory f ≡ false → reading ≡ Err f
@@ -21,12 +21,12 @@ IsRead symbol image a b answer = Answers (reads symbol a) image b answer
 abbrev pub IsRun : {A X : Type 0} → Rule A → (X → A) → Configuration → Configuration → Result X BookFault → Type 0
 IsRun rule image a b answer = Answers (runs rule a) image b answer
 
--- a rule, where there is one, and else a wrong token
+-- a rule if there is one, else a wrong token
 abbrev pub ran : {A : Type 0} → Option (Rule A) → Configuration → Reading A
 ran (Some rule) a = runs rule a
 ran None a = Err (token_fault (head_of a.rest))
 
--- a symbol, by a reader who gives nothing
+-- a symbol, by a reader that gives nothing
 abbrev pub IsPassed : (symbol : Symbol) → Tree symbol → Configuration → Configuration → Result (Unit {0}) BookFault → Type 0
 IsPassed symbol x a b answer = Answers (reads symbol a) (λ u. x) b answer
 
@@ -49,12 +49,12 @@ abbrev pub before : {A : Type 0} → List A → Reading (List A) → Reading (Li
 before xs (Ok p) = Ok (xs ++ p.0, p.1)
 before xs (Err f) = Err f
 
--- a statement, with the statements behind it, which are shorter
+-- a statement, with the statements after it, which are shorter
 abbrev pub StmtReads : {X : Type 0} → (X → StmtImage) → Tally → Tally → Configuration → Configuration → Result X BookFault → Type 0
 StmtReads image t u a b (Ok x) = (reads (AStmts (tally_of t)) a ≡ before (image x ∷ []) (reads (AStmts (tally_of u)) b)) × (length b.rest < length a.rest)
 StmtReads image t u a b (Err f) = is_memory f ≡ false → reads (AStmts (tally_of t)) a ≡ Err f
 
--- a member of a list and the list that it stands in, by their symbols
+-- a member of a list and its list, by their symbols
 pub data MemberRule : Type 0 → Type 1 where
   of : (member : Member) → MemberRule (MemberTree member)
 

@@ -5,17 +5,17 @@ use Rattle.smk_base.specs.declared.book.token.TokenKind.TheVariants.{Number}
 use Rattle.smk_parse.specs.declared.front.Front as code
 use Rattle.smk_parse.specs.declared.front.Front.TheVariants as fronts
 
--- what stands at the front of a text
+-- what a text starts with
 abbrev pub front_of : code.Front → Front
 front_of (fronts.Between n) = Between n
 front_of (fronts.Begins kind n) = Begins kind n
 
--- how far it goes: only the end and what can't be read have no bytes
+-- how long it is: only the end and what can't be read have no bytes
 abbrev pub Within : code.Front → ℕ → Type 0
 Within (fronts.Between n) len = (0 < n) × (n ≤ len)
 Within (fronts.Begins kind n) len = (n ≤ len) × (is_more kind ≡ true → 0 < n)
 
--- the token in hand, of this many bytes at the front of bs, and those behind it
+-- the token in hand, the first bytes of bs, and the tokens after it
 abbrev pub left_at : TokenKind → ℕ → ℕ → List ℕ → List Token
 left_at kind at n bs = record { at = at; kind = kind; text = take n bs } ∷ cond (is_more kind) (tokens_from 0 (at + n) (drop n bs)) []
 
@@ -30,7 +30,7 @@ pub record Advances (c : PlanCounts) (a b : Configuration) : Type 0 where
   pub first : a.rest ≡ head_of a.rest ∷ b.rest
   pub counted : b.counts ≡ c
 
--- the script from this place on has this line first, and behind it the lines from the next place on, which is behind the first line feed, or the end of the script
+-- from this place on, the script has this line first, and then the lines from the next place on, which is after the first line feed, or the end of the script
 pub record Cuts (script : List ℕ) (from : ℕ) (span : LineSpan) : Type 0 where
   pub starts : span.start ≡ from
   pub ordered : span.start ≤ span.end

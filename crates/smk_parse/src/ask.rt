@@ -27,7 +27,7 @@ fn ask_steps(alloc: Global, reader: &mut Reader) -> Result<AskSteps, BookFault>
     }
 }
 
-/// Steps of an `ask` line, each behind a bar; there may be none.
+/// Steps of an `ask` line, each after a bar; there may be none.
 fn piped_steps(alloc: Global, reader: &mut Reader) -> Result<AskSteps, BookFault>
     ensures { IsRead AskSteps (λ steps. map ask_step_image steps) reader.old reader.new result }
 {
@@ -50,7 +50,7 @@ fn whole_selected(alloc: Global, reader: &mut Reader) -> Result<(Text, AskSteps)
     Ok((table, steps))
 }
 
-/// An `ask` line behind its keyword.
+/// An `ask` line after its keyword.
 fn ask_line(alloc: Global, reader: &mut Reader) -> Result<AnyLine, BookFault>
     ensures { IsRun ask_rule any_image reader.old reader.new result }
 {
@@ -66,7 +66,7 @@ fn ask_line(alloc: Global, reader: &mut Reader) -> Result<AnyLine, BookFault>
     }))
 }
 
-/// An `append` line behind its keyword.
+/// An `append` line after its keyword.
 fn append_line(alloc: Global, reader: &mut Reader) -> Result<AnyLine, BookFault>
     ensures { IsRun append_rule any_image reader.old reader.new result }
 {
@@ -108,7 +108,7 @@ fn whole_any_line(alloc: Global, reader: &mut Reader) -> Result<AnyLine, BookFau
     Ok(line)
 }
 
-/// The line of a script, of any kind, as a tree: None where it has no token, and the place of its first fault where it isn't a line.
+/// The line of a script, of any kind, as a tree: None if it has no token, and the place of its first fault if it isn't a line.
 pub fn parse_any(alloc: Global, line: &[u8]) -> Result<Option<AnyLine>, LineFault>
     ensures { IsAnyAnswer line.now result }
 {
@@ -122,7 +122,7 @@ pub fn parse_any(alloc: Global, line: &[u8]) -> Result<Option<AnyLine>, LineFaul
     }
 }
 
-/// A table and the steps over its rows that a text spells, or the place of its first fault where it doesn't.
+/// A table and the steps over its rows that a text spells, or the place of its first fault.
 pub fn parse_selected(alloc: Global, text: &[u8]) -> Result<(Text, AskSteps), LineFault>
     ensures { IsSelectedAnswer text.now result }
 {

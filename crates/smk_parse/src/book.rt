@@ -23,7 +23,7 @@ pub struct Tally {
     pub links: u32,
 }
 
-/// A table statement behind its keyword.
+/// A table statement after its keyword.
 fn table_stmt(alloc: Global, reader: &mut Reader) -> Result<Stmt, BookFault>
     ensures { IsRun table_rule stmt_image reader.old reader.new result }
 {
@@ -37,7 +37,7 @@ fn table_stmt(alloc: Global, reader: &mut Reader) -> Result<Stmt, BookFault>
     Ok(Stmt::Table { name, file, cols })
 }
 
-/// A view statement behind its keyword.
+/// A view statement after its keyword.
 fn view_stmt(alloc: Global, reader: &mut Reader) -> Result<Stmt, BookFault>
     ensures { IsRun view_rule stmt_image reader.old reader.new result }
 {
@@ -67,7 +67,7 @@ fn extra(alloc: Global, reader: &mut Reader) -> Result<Extra, BookFault>
     }
 }
 
-/// A name, and behind this keyword another name.
+/// A name, this keyword, and another name.
 fn names(alloc: Global, reader: &mut Reader, between: TokenKind) -> Result<(Word, Word), BookFault>
     requires { joint between ≡ between }
     ensures { IsRead (ANames between) (λ names. names) reader.old reader.new result }
@@ -78,7 +78,7 @@ fn names(alloc: Global, reader: &mut Reader, between: TokenKind) -> Result<(Word
     Ok((first, second))
 }
 
-/// A lineage declaration behind `lineage`, which stands at this place.
+/// A lineage declaration after `lineage`, which is at this place.
 fn lineage_stmt(alloc: Global, reader: &mut Reader, at: u64) -> Result<Stmt, BookFault>
     ensures { IsRead (ALineage at) stmt_image reader.old reader.new result }
 {
@@ -103,7 +103,7 @@ fn lineage_stmt(alloc: Global, reader: &mut Reader, at: u64) -> Result<Stmt, Boo
     }
 }
 
-/// A link statement behind its keyword.
+/// A link statement after its keyword.
 fn link_stmt(alloc: Global, reader: &mut Reader) -> Result<Stmt, BookFault>
     ensures { IsRun link_rule stmt_image reader.old reader.new result }
 {
@@ -113,7 +113,7 @@ fn link_stmt(alloc: Global, reader: &mut Reader) -> Result<Stmt, BookFault>
     Ok(Stmt::Link { view, table, to })
 }
 
-/// A dependency behind `fd`, which stands at this place.
+/// A dependency after `fd`, which is at this place.
 fn depends_stmt(alloc: Global, reader: &mut Reader, at: u64) -> Result<Stmt, BookFault>
     ensures { IsRun (depends_rule at) stmt_image reader.old reader.new result }
 {

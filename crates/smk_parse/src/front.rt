@@ -4,7 +4,7 @@ ghost use Rattle.smk_base.specs.declared.book.token.TokenKind.TheVariants.{Name}
 
 use smk_base::{KEYWORDS, TokenKind};
 
-/// What stands at the front of a text: bytes that mean nothing, or a token, with their number.
+/// What a text starts with: bytes that mean nothing, or a token, with their number.
 #[derive(Clone, Copy)]
 pub enum Front {
     Between(usize),
@@ -14,7 +14,7 @@ pub enum Front {
 /// One more than the greatest size of a number.
 const BEYOND: u128 = 9_223_372_036_854_775_809;
 
-/// The number of the digits, where it isn't beyond every number.
+/// The number of the digits, unless it is beyond every number.
 #[tactic(auto, using(crate::proofs::Texts::one_digit))]
 fn size(digits: &[u8]) -> u128
     ensures { result ≡ min (digits_value 0 digits.now) 9223372036854775809 }
@@ -50,7 +50,7 @@ pub fn int_of(text: &[u8]) -> i64
     }
 }
 
-/// The number of bytes at the front that a word may have.
+/// The number of bytes at the start that a word may have.
 fn word_len(bytes: &[u8]) -> usize
     ensures is { result ≡ length (take_while is_word_byte bytes.now) }
     ensures within { result ≤ length bytes.now }
@@ -61,7 +61,7 @@ fn word_len(bytes: &[u8]) -> usize
         .count()
 }
 
-/// The number of digits at the front.
+/// The number of digits at the start.
 fn digits_len(bytes: &[u8]) -> usize
     ensures is { result ≡ length (take_while is_ascii_digit bytes.now) }
     ensures within { result ≤ length bytes.now }
@@ -100,7 +100,7 @@ fn kind_among(table: &[(&[u8], TokenKind)], word: &[u8]) -> TokenKind
     TokenKind::Name
 }
 
-/// How far a text between quotes goes, behind its first quote.
+/// How far a text between quotes goes, after its first quote.
 fn string_end(bytes: &[u8]) -> Option<usize>
     ensures is { result ≡ string_len None false 0 bytes.now }
     ensures within { IfSome result (λ n. n ≤ length bytes.now) }
@@ -123,7 +123,7 @@ fn string_end(bytes: &[u8]) -> Option<usize>
     if closed { Some(bytes.len()) } else { kept }
 }
 
-/// A name between backquotes, behind its first backquote.
+/// A name between backquotes, after its first backquote.
 fn quoted_begins(rest: &[u8]) -> Front
     ensures is { front_of result ≡ quoted_front (length (take_while is_quoted_byte rest.now)) (drop (length (take_while is_quoted_byte rest.now)) rest.now) }
     ensures within { Within result (length rest.now + 1) }
@@ -135,7 +135,7 @@ fn quoted_begins(rest: &[u8]) -> Front
     }
 }
 
-/// One kind, or where `=` follows the other.
+/// One kind, or the other if `=` follows.
 fn equal_or(short: TokenKind, long: TokenKind, rest: &[u8]) -> Front
     ensures is { front_of result ≡ or_equal short long rest.now }
     ensures within { Within result (length rest.now + 1) }
@@ -146,7 +146,7 @@ fn equal_or(short: TokenKind, long: TokenKind, rest: &[u8]) -> Front
     }
 }
 
-/// What begins with a `!`, from the bytes behind it.
+/// What begins with a `!`, from the bytes after it.
 fn unequal_begins(rest: &[u8]) -> Front
     ensures is { front_of result ≡ unequal_front rest.now }
     ensures within { Within result (length rest.now + 1) }
@@ -157,7 +157,7 @@ fn unequal_begins(rest: &[u8]) -> Front
     }
 }
 
-/// What begins with a minus sign, from the bytes behind it.
+/// What begins with a minus sign, from the bytes after it.
 fn minus_begins(rest: &[u8]) -> Front
     ensures is { front_of result ≡ minus_front rest.now (length (take_while is_ascii_digit rest.now)) }
     ensures within { Within result (length rest.now + 1) }
@@ -169,7 +169,7 @@ fn minus_begins(rest: &[u8]) -> Front
     Front::Begins(kind_of_number(true, &rest[..len]), len + 1)
 }
 
-/// What stands at the front of the bytes.
+/// What the bytes start with.
 pub fn front_at(bytes: &[u8]) -> Front
     ensures is { front_of result ≡ front bytes.now }
     ensures within { Within result (length bytes.now) }

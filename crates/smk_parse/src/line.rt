@@ -82,7 +82,7 @@ fn cleared(alloc: Global, reader: &mut Reader) -> Result<Line, BookFault>
     }
 }
 
-/// A name, marks, and behind this keyword another name.
+/// A name, marks, this keyword, and another name.
 pub fn marked(
     alloc: Global,
     reader: &mut Reader,
@@ -178,7 +178,7 @@ pub fn as_line_fault(fault: BookFault) -> LineFault
     }
 }
 
-/// The line of a script as a tree: None where it has no token, and the place of its first fault where it isn't a line.
+/// The line of a script as a tree: None if it has no token, and the place of its first fault if it isn't a line.
 pub fn parse_line(alloc: Global, line: &[u8]) -> Result<Option<Line>, LineFault>
     ensures { IsLineAnswer line.now result }
 {

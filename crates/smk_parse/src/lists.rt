@@ -14,14 +14,14 @@ use smk_base::{
 };
 use std::alloc::Global;
 
-/// What may stand between commas.
+/// What may be between commas.
 pub trait Member {
     type Tree: Drop;
 
-    /// The rule of the grammar that a member goes by.
+    /// The grammar's rule for a member.
     ghost rule: { MemberRule Self.Tree };
 
-    /// A member, of which so many stand before.
+    /// A member, after so many others.
     fn read(alloc: Global, reader: &mut Reader, before: usize) -> Result<Self::Tree, BookFault>
         ensures { Answers (reads_one rule before reader.old) (λ tree. tree) reader.new result };
 }

@@ -43,7 +43,7 @@ fn is_step(kind: TokenKind) -> bool
     )
 }
 
-/// A table behind its keyword.
+/// A table after its keyword.
 fn scan(alloc: Global, reader: &mut Reader) -> Result<Box<Tree>, BookFault>
     requires { (head_of reader.old.rest).kind ≡ kinds.Scan }
     ensures { (depth : ℕ) → IsRead (ASource depth) (λ tree. tree_image tree.value) reader.old reader.new result }

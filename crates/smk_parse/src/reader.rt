@@ -29,7 +29,7 @@ impl<'t> Model for Reader<'t> {
 }
 
 impl<'t> Reader<'t> {
-    /// The text from the first token behind a place on, with these counts.
+    /// The text from the first token after a place on, with these counts.
     fn behind(text: &'t [u8], from: usize, nodes: u32, compares: u32) -> Reader<'t>
         requires { from ≤ length text.now }
         ensures { result ≡ record { rest = tokens_from 0 from (drop from text.now); counts = record { nodes = nodes; compares = compares } } }

@@ -16,7 +16,7 @@ fn kept_len(line: &[u8]) -> usize
     }
 }
 
-/// The line of a script that begins at this place, without its line feed and without one carriage return before it. None at the end of the script. It takes no memory.
+/// The line of a script that begins at this place, without its line feed and without one carriage return before it. None at the end of the script.
 pub fn line_at(script: &[u8], from: usize) -> Option<LineSpan>
     requires { from ≤ length script.now }
     ensures none { IfNone result (from ≡ length script.now) }

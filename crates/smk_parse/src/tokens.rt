@@ -7,7 +7,7 @@ use crate::reader::Reader;
 use smk_base::{BookFault, COLUMN_LIMIT, Lit, Many, NAME_LIMIT, Text, TokenKind, Value, Word};
 use std::alloc::Global;
 
-/// The fault at a token that may not stand here.
+/// The fault at a token that may not be here.
 #[tactic(auto)]
 pub fn wrong(reader: &Reader) -> BookFault
     ensures { result ≡ token_fault (head_of reader.now.rest) }
@@ -177,7 +177,7 @@ pub fn column(alloc: Global, reader: &mut Reader) -> Result<Word, BookFault>
     take_column(alloc, reader)
 }
 
-/// The column that begins a member of a list, of which so many stand before.
+/// The column that begins a member of a list, after so many others.
 pub fn first_column(alloc: Global, reader: &mut Reader, before: usize) -> Result<Word, BookFault>
     ensures { IsRead (AFirst before) (λ word. word) reader.old reader.new result }
 {

@@ -6,7 +6,7 @@ use smk_jobs::Crew;
 use std::alloc::{AllocError, Global};
 use std::thread::Threads;
 
-/// The plain body: rows alone. No lineage may be wanted of it.
+/// The plain body: only rows. It can't be asked for lineage.
 #[derive(Drop)]
 pub struct Plain;
 

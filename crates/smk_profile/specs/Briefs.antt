@@ -1,4 +1,4 @@
--- What an answer to an `fd` line has without its rows.
+-- An answer to an `fd` line without its rows.
 use Rattle.std.specs.{Prelude.{ℕ, List, [], ◌∷◌, ◌++◌, length, map, slice_index_or, codes, decimal}, List.flat_map}
 use Rattle.smk_base.specs.{declared.reply.Group.Group, declared.reply.ProfileReply.ProfileReply}
 use Rattle.smk_base.specs.declared.reply.ProfileReply.TheVariants as whole

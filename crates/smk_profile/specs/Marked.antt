@@ -1,4 +1,4 @@
--- What the lines for the marks of a view are answered.
+-- The answers to the lines for the marks of a view.
 use Rattle.std.specs.Prelude.{◌≡◌, ℕ, List, [], ◌∷◌}
 use Rattle.smk_base.specs.{CatalogImage.CatalogImage, declared.reply.Reply.Reply, declared.reply.Reply.TheVariants.Back, declared.book.tree.Line.Line}
 use Rattle.smk_base.specs.declared.book.tree.Line.TheVariants as lines
@@ -20,7 +20,7 @@ abbrev pub HasMarks : Line → Type 0
 HasMarks (lines.Back view (markings.Listed marks) table then) = Unit {0}
 HasMarks _ = ⊥
 
--- such a line with one mark in the place of its marks
+-- such a line, with one mark in place of its marks
 abbrev pub with_mark : Line → ℕ → Line
 with_mark (lines.Back view (markings.Listed marks) table then) mark = lines.Back view (markings.Listed (mark ∷ [])) table then
 with_mark line mark = line

@@ -85,7 +85,7 @@ fn mark_group<R: Threads + Sync, G: Gate + Sync, L: Ledger>(
     }
 }
 
-/// The rows that each mark of the view of a dependency came from, in the order of the marks, by the `back` lines for them: the line for one of them, in which each mark is put in turn. The session stays as it is.
+/// The rows that each mark of the view of a dependency came from, in the order of the marks, by the `back` lines for them: the line for one of them, with each mark put in it in turn. The session stays as it is.
 pub(crate) fn mark_groups<R: Threads + Sync, G: Gate + Sync, L: Ledger>(
     work: &Work<'_, R, Workers<'_, G>>,
     session: &mut Session,

@@ -79,9 +79,9 @@ fn found<R: Threads + Sync, G: Gate + Sync, L: Ledger>(
     })
 }
 
-/// The answer to an `fd` line: the table of the dependency whose view has this name, and for each key that violates it the rows with that key and their rids. The line is refused where no view has the name, and else where it isn't one of `fds`, the views of the book's dependencies.
+/// The answer to an `fd` line: the table of the dependency whose view has this name, and for each key that violates it the rows with that key and their rids. The line is refused if no view has the name, or else if it isn't one of `fds`, the views of the book's dependencies.
 ///
-/// It asks for the rows of each mark of the view by a `back` line. The session stays as it is, after an error too. Each row that is answered is one look. The gate is handed on to the answers of the `back` lines.
+/// It asks for the rows of each mark of the view by a `back` line. The session stays as it is, after an error too. Each row in the answer is one look. The gate is handed on to the answers of the `back` lines.
 pub fn profile<R: Threads + Sync, G: Gate + Sync, L: Ledger>(
     rt: &R,
     alloc: Global,

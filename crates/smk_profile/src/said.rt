@@ -9,7 +9,7 @@ use smk_base::{Catalog, ColDecls, Group, ProfileRefusal, ProfileReply, Text};
 use smk_report::{add_line_around, line_around, line_of, with_numbered_rows, with_table_header};
 use std::alloc::{AllocError, Global};
 
-// Writes the line of a mark behind a text: the mark, and how many rows it has. After an error the text is of no use.
+// Writes the line of a mark at the end of a text: the mark, and how many rows it has. After an error the text is of no use.
 pub(crate) fn add_mark(text: &mut Vec<u8>, mark: u64, rows: u64) -> Result<(), AllocError>
     ensures { OnOk result (text.new.items ≡ text.old.items ++ line (codes "mark " ∷ decimal mark ∷ codes " " ∷ decimal rows ∷ [])) }
 {
@@ -22,7 +22,7 @@ pub(crate) fn add_mark(text: &mut Vec<u8>, mark: u64, rows: u64) -> Result<(), A
     )
 }
 
-// A text with the rows of a mark behind it.
+// A text followed by the rows of a mark.
 fn with_mark(alloc: Global, front: Vec<u8>, mark: u64, group: &Group) -> Result<Vec<u8>, AllocError>
     requires { texts.IsPlaced group.now }
     ensures { IfOk result (λ text. text.items ≡ front.items ++ texts.mark_text mark group.now) }
@@ -32,7 +32,7 @@ fn with_mark(alloc: Global, front: Vec<u8>, mark: u64, group: &Group) -> Result<
     with_numbered_rows(alloc, text, group.rids.as_slice(), &group.rows)
 }
 
-// A text with the rows of all marks behind it.
+// A text followed by the rows of all marks.
 fn with_marks(alloc: Global, front: Vec<u8>, groups: &[Group]) -> Result<Vec<u8>, AllocError>
     requires { All texts.IsPlaced groups.now }
     ensures { IfOk result (λ text. text.items ≡ front.items ++ texts.mark_texts_to groups.now (length groups.now)) }

@@ -28,7 +28,7 @@ impl Model for Cubes {
 }
 
 impl Cubes {
-    /// For each list of a map to the rows of this table the grouping of the rows at its rids, in their order. It is at most one look for each row of the table, also where it wants memory.
+    /// For each list of a map to the rows of this table, the grouping of the rows at its rids, in their order. It is at most one look for each row of the table, even if memory runs out.
     pub fn build<L: Ledger>(
         alloc: Global,
         map: &RidMap,
@@ -70,7 +70,7 @@ impl Cubes {
         Ok(Cubes { groups })
     }
 
-    /// The groups of a mark. It takes no memory and looks at nothing.
+    /// The groups of a mark. It makes no look.
     pub fn groups(&self, mark: u32) -> &Rel
         requires { mark < length self.now }
         ensures { result.now ≡ cube_at self.now mark }

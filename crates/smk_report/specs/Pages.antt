@@ -1,4 +1,4 @@
--- A page: a text, and behind it the record that is being written.
+-- A page: a text, and after it the record that is being written.
 use Rattle.std.specs.{Prelude.{◌≡◌, ◌==◌, ◌||◌, ◌&&◌, ◌-◌, ◌^◌, ℕ, true, not, min, List, [], ◌∷◌, ◌++◌, length, Vec}, declared.alloc.Global.Global}
 use Rattle.csv.specs.{Writing.{default_writer, fields_written, has_written, is_blank, row_body, writer_pending, with_flexible, writer_setup, writer_under}, declared.writer.Writer.Writer, declared.writer.WriterBuilder.WriterBuilder}
 use Rattle.smk_report.specs.declared.page.Page.{Page}
@@ -11,7 +11,7 @@ page_writer = with_flexible default_writer true
 abbrev pub written_by : Writer (Vec ℕ Global) → List ℕ
 written_by w = (writer_under w).items ++ writer_pending w
 
--- the page has this text and, behind it, a record that has these fields so far
+-- the page has this text, and after it a record with these fields so far
 pub record Says (page : Page) (text : List ℕ) (fields : List (List ℕ)) : Type 0 where
   pub setup : writer_setup page.writer ≡ page_writer
   pub written : written_by page.writer ≡ text ++ row_body page_writer fields
@@ -22,6 +22,6 @@ pub record Says (page : Page) (text : List ℕ) (fields : List (List ℕ)) : Typ
 abbrev pub AddsField : Page → Page → List ℕ → Type 0
 AddsField old new field = (text : List ℕ) (fields : List (List ℕ)) → Says old text fields → Says new text (fields ++ field ∷ [])
 
--- between records, the text has these bytes more
+-- between records: the text has these bytes more
 abbrev pub Adds : Page → Page → List ℕ → Type 0
 Adds old new bytes = (text : List ℕ) → Says old text [] → Says new (text ++ bytes) []

@@ -1,9 +1,9 @@
--- What there is, by how many rows tables and views have.
+-- The schema, by how many rows the tables and views have.
 use Rattle.std.specs.{Prelude.{ℕ, List, ◌++◌, length, slice_index_or}, List.flat_map}
 use Rattle.smk_base.specs.{CatalogImage.{CatalogImage, ViewImage}, Places.upto}
 use Rattle.smk_model.specs.{OwnTexts.{table_info_text, view_info_text, declarations_text, schema_line}, Session.view_at, Typing.info_at}
 
--- the texts with these numbers of rows in the places of tables and of views
+-- the schema's texts, with these numbers of rows for the tables and for the views
 abbrev pub tables_over : CatalogImage → List ℕ → List ℕ
 tables_over catalog rows = flat_map (λ t. table_info_text (info_at catalog.tables t) (slice_index_or rows t 0)) (upto (length catalog.tables))
 

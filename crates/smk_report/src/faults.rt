@@ -53,7 +53,7 @@ fn book_text(alloc: Global, fault: BookFault) -> Result<Vec<u8>, AllocError>
     }
 }
 
-/// The words for a fault of typing, and its place. Want of memory has neither. It takes no memory.
+/// The words for a fault of typing, and its place. `NoMemory` has neither.
 pub fn type_words(fault: TypeFault) -> (&'static [u8], u64)
     ensures words { result.0.now ≡ texts.type_words fault }
     ensures place { result.1 ≡ texts.type_place fault }
@@ -150,7 +150,7 @@ fn table_text(
     table_line(alloc, table.as_slice(), name.as_slice(), fault)
 }
 
-/// The line that says a fault. Want of memory has a text of its own, and a table with too many rows is said by `TableRows`.
+/// The line that says a fault. Lack of memory has a text of its own, and a table with too many rows is said by `TableRows`.
 pub fn fault_text(alloc: Global, fault: &Fault) -> Result<Vec<u8>, AllocError>
     requires { texts.IsSaid fault.now }
     ensures { IfOk result (λ text. text.items ≡ texts.fault_text fault.now) }

@@ -4,13 +4,13 @@ ghost use Rattle.smk_model.specs.Texts as texts;
 use itoa::{Buffer, write_digits};
 use std::alloc::{AllocError, Global};
 
-// How many bytes the room has for so many numbers, each of at most ten digits behind a space.
+// How many bytes the room has for so many numbers, each of at most ten digits after a space.
 const ROOM_BYTES: usize = 2046;
 
-// How many numbers are written into a room before these are put behind a text.
+// How many numbers are written into a room before these are put at the end of a text.
 const ROOM_NUMBERS: usize = 186;
 
-/// Writes parts behind a text, one after the other. After an error the text is of no use.
+/// Writes parts at the end of a text, one after the other. After an error the text is of no use.
 #[tactic(auto, using(crate::proofs::Parts::joined_more))]
 pub fn add_parts(text: &mut Vec<u8>, parts: &[&[u8]]) -> Result<(), AllocError>
     ensures { OnOk result (text.new.items ≡ text.old.items ++ flat_map (λ part. part) (map (λ part. part.now) parts.now)) }
@@ -21,7 +21,7 @@ pub fn add_parts(text: &mut Vec<u8>, parts: &[&[u8]]) -> Result<(), AllocError>
     Ok(())
 }
 
-/// Writes a line behind a text: its parts, one after the other, and a line feed. After an error the text is of no use.
+/// Writes a line at the end of a text: its parts, one after the other, and a line feed. After an error the text is of no use.
 pub fn add_line(text: &mut Vec<u8>, parts: &[&[u8]]) -> Result<(), AllocError>
     ensures { OnOk result (text.new.items ≡ text.old.items ++ texts.line (map (λ part. part.now) parts.now)) }
 {
@@ -39,7 +39,7 @@ pub fn line_of(alloc: Global, parts: &[&[u8]]) -> Result<Vec<u8>, AllocError>
     Ok(text)
 }
 
-/// A line alone that speaks of two names.
+/// A line alone that names two things.
 pub fn pair_text(
     alloc: Global,
     first: &[u8],
@@ -52,7 +52,7 @@ pub fn pair_text(
     line_of(alloc, &[first, from, between, to])
 }
 
-/// Writes a line behind a text: parts, a number in decimal, and further parts. After an error the text is of no use.
+/// Writes a line at the end of a text: parts, a number in decimal, and further parts. After an error the text is of no use.
 pub fn add_line_around(
     text: &mut Vec<u8>,
     before: &[&[u8]],
@@ -95,7 +95,7 @@ fn put_number(room: &mut [u8], number: u32, end: usize) -> usize
     start - 1
 }
 
-// Writes numbers into a room, each behind a space, so that they end where the room does. It tells where they begin.
+// Writes numbers into a room, each after a space, so that they end where the room does. It tells where they begin.
 fn put_numbers(room: &mut [u8], numbers: &[u32]) -> usize
     requires { 11 * length numbers.now ≤ length room.old }
     ensures within { result ≤ length room.new }
@@ -111,7 +111,7 @@ fn put_numbers(room: &mut [u8], numbers: &[u32]) -> usize
     from
 }
 
-// Writes a line of numbers behind a text: a word, and each number after a space. After an error the text is of no use.
+// Writes a line of numbers at the end of a text: a word, and each number after a space. After an error the text is of no use.
 fn add_numbers(text: &mut Vec<u8>, word: &[u8], numbers: &[u32]) -> Result<(), AllocError>
     ensures { OnOk result (text.new.items ≡ text.old.items ++ texts.numbers_line word.now numbers.now) }
 {
@@ -128,7 +128,7 @@ fn add_numbers(text: &mut Vec<u8>, word: &[u8], numbers: &[u32]) -> Result<(), A
     Ok(())
 }
 
-/// Writes behind a text a line of parts and of how many numbers there are, and then the line of the numbers. After an error the text is of no use.
+/// Writes at the end of a text a line of parts and of how many numbers there are, and then the line of the numbers. After an error the text is of no use.
 pub fn add_counted(
     text: &mut Vec<u8>,
     parts: &[&[u8]],

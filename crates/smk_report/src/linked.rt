@@ -9,7 +9,7 @@ use crate::texts::with_rows;
 use smk_base::{Catalog, Linked};
 use std::alloc::{AllocError, Global};
 
-// A text with the content of a linked view behind it.
+// A text followed by the content of a linked view.
 fn with_content(
     alloc: Global,
     catalog: &Catalog,
@@ -30,7 +30,7 @@ fn with_content(
     with_rows(alloc, text, &view.names, &linked.rel)
 }
 
-// A text with the text of a linked view behind it: its marks, and its content.
+// A text followed by the text of a linked view: its marks, and its content.
 fn with_one(
     alloc: Global,
     catalog: &Catalog,
@@ -51,7 +51,7 @@ fn with_one(
     with_content(alloc, catalog, text, linked)
 }
 
-/// A text with the contents of linked views behind it, without their marks.
+/// A text followed by the contents of linked views, without their marks.
 pub fn with_contents(
     alloc: Global,
     catalog: &Catalog,
@@ -68,7 +68,7 @@ pub fn with_contents(
     Ok(text)
 }
 
-/// A text with the texts of linked views behind it.
+/// A text followed by the texts of linked views.
 pub fn with_linked(
     alloc: Global,
     catalog: &Catalog,

@@ -7,7 +7,7 @@ ghost use Rattle.smk_model.specs.Session as session;
 
 use smk_base::{Back, BackExtra, Catalog, ColNames, TableInfo, Text, ViewInfo};
 
-/// The view of this name.
+/// The view with this name.
 pub fn view_named<'c>(catalog: &'c Catalog, name: &Text) -> Option<&'c ViewInfo>
     ensures { option_map view_image (option_copied result) ≡ texts.view_named (catalog_image catalog.now) name.now }
 {
@@ -19,7 +19,7 @@ pub fn view_named<'c>(catalog: &'c Catalog, name: &Text) -> Option<&'c ViewInfo>
     None
 }
 
-/// The table of this name.
+/// The table with this name.
 pub fn table_named<'c>(catalog: &'c Catalog, name: &Text) -> Option<&'c TableInfo>
     ensures { option_copied result ≡ texts.table_named (catalog_image catalog.now) name.now }
 {
@@ -31,7 +31,7 @@ pub fn table_named<'c>(catalog: &'c Catalog, name: &Text) -> Option<&'c TableInf
     None
 }
 
-/// The view of this number.
+/// The view with this number.
 pub fn view_at(catalog: &Catalog, view: u32) -> &ViewInfo
     requires { view < length catalog.now.views }
     ensures { view_image result.now ≡ session.view_at (catalog_image catalog.now) view }

@@ -61,7 +61,7 @@ fn is_plain_name(bytes: &[u8]) -> bool
     is_word(bytes) && !is_keyword(bytes)
 }
 
-/// A name as a book writes it: between backquotes where it needs them.
+/// A name as a book writes it: between backquotes if it needs them.
 pub fn shown(alloc: Global, name: &[u8]) -> Result<Vec<u8>, AllocError>
     ensures { IfOk result (λ text. text.items ≡ names.shown name.now) }
 {

@@ -5,7 +5,7 @@ use itoa::Buffer;
 use smk_base::CellRef;
 use std::alloc::AllocError;
 
-// What csv says of a write into a text. It can fail for want of memory alone, since records may have any length.
+// What csv says of a write into a text. It can only fail for lack of memory, since records may have any length.
 fn told(written: Result<(), Error>) -> Result<(), AllocError>
     ensures { OnOk result (is_ok written ≡ true) }
 {
@@ -15,7 +15,7 @@ fn told(written: Result<(), Error>) -> Result<(), AllocError>
     }
 }
 
-/// A text with records behind it, which csv's writer writes. After an error it is of no use.
+/// A text followed by records, which csv's writer writes. After an error it is of no use.
 #[derive(Drop)]
 pub struct Page {
     writer: Writer<Vec<u8>>,

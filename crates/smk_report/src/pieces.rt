@@ -82,7 +82,7 @@ fn total_len(texts: &[Vec<u8>]) -> usize {
     total
 }
 
-// Writes texts behind a text, one after the other, and lets go of each. After an error the text is of no use.
+// Writes texts at the end of a text, one after the other, and lets go of each. After an error the text is of no use.
 fn add_texts(text: &mut Vec<u8>, pieces: Vec<Vec<u8>>) -> Result<(), AllocError>
     ensures { OnOk result (text.new.items ≡ text.old.items ++ flat_map (λ piece. piece.items) pieces.items) }
 {
@@ -113,7 +113,7 @@ fn with_pieces<R: Threads + Sync>(
     Ok(text)
 }
 
-/// The text of a view as `view_text` has it. The records of many rows are written in threads: in at most `workers` pieces, which are then put behind one another, so that the text and its pieces are held at once.
+/// The text of a view as `view_text` has it. The records of many rows are written in threads, in at most `workers` pieces, which are then joined, so that the text and its pieces are held at once.
 pub fn view_text_in_pieces<R: Threads + Sync>(
     rt: &R,
     alloc: Global,

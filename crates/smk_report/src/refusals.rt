@@ -196,7 +196,7 @@ fn back_refusal_text(
     }
 }
 
-/// The line of steps that don't stand.
+/// The line of steps that aren't well typed.
 pub fn steps_refusal_text(alloc: Global, at: u64, fault: TypeFault) -> Result<Vec<u8>, AllocError>
     ensures { IfOk result (λ text. text.items ≡ line (codes "refused steps: " ∷ type_words fault ∷ codes " at byte " ∷ decimal at ∷ [])) }
 {

@@ -122,7 +122,7 @@ fn brush_heading(
     )
 }
 
-/// The text of a reply to a line that changes brushes, without rids and marks: its first line, where a brush selects so many rids, and the contents of the linked views. The lists of the reply aren't read.
+/// The text of a reply to a line that changes brushes, without rids and marks: its first line, with the number of rids that a brush selects, and the contents of the linked views. The lists of the reply aren't read.
 pub fn brief_text(
     alloc: Global,
     cat: &Catalog,

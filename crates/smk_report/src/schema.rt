@@ -1,4 +1,4 @@
-// The text of what there is: tables and views with their rows and columns, and the declarations of a book.
+// The text of the schema: tables and views with their rows and columns, and the declarations of a book.
 ghost use Rattle.std.specs.{Prelude.{◌≡◌, ◌<◌, ◌++◌, ◌∷◌, [], All, length, map, codes, IfOk, OnOk}, List.flat_map};
 ghost use Rattle.smk_base.specs.CatalogImage.{catalog_image};
 ghost use Rattle.smk_model.specs.{Catalogs.{BackFits, FwdFits, LinkFits, IsCatalog}, Session.view_at as session_view_at, Typing.column_of};
@@ -47,7 +47,7 @@ fn columns_page(front: Vec<u8>) -> Result<Page, AllocError>
     Ok(page)
 }
 
-// A text with the records of the columns that a table declares behind it.
+// A text followed by the records of the columns that a table declares.
 fn with_declared(front: Vec<u8>, columns: &ColDecls) -> Result<Vec<u8>, AllocError>
     ensures { IfOk result (λ text. text.items ≡ front.items ++ texts.columns_text (map column_of columns.now)) }
 {
@@ -58,7 +58,7 @@ fn with_declared(front: Vec<u8>, columns: &ColDecls) -> Result<Vec<u8>, AllocErr
     page.finish()
 }
 
-// A text with the records of the columns of a view behind it.
+// A text followed by the records of the columns of a view.
 fn with_view_columns(front: Vec<u8>, view: &ViewInfo) -> Result<Vec<u8>, AllocError>
     requires { length view.now.names ≡ length view.now.kinds }
     ensures { IfOk result (λ text. text.items ≡ front.items ++ texts.columns_text (texts.columns_of_view view.now.names view.now.kinds)) }
@@ -72,7 +72,7 @@ fn with_view_columns(front: Vec<u8>, view: &ViewInfo) -> Result<Vec<u8>, AllocEr
     page.finish()
 }
 
-// A text with a table behind it.
+// A text followed by a table.
 fn with_table(front: Vec<u8>, table: &TableInfo, rows: u32) -> Result<Vec<u8>, AllocError>
     ensures { IfOk result (λ text. text.items ≡ front.items ++ texts.table_info_text table.now rows) }
 {
@@ -86,7 +86,7 @@ fn with_table(front: Vec<u8>, table: &TableInfo, rows: u32) -> Result<Vec<u8>, A
     with_declared(text, &table.cols)
 }
 
-// A text with a view behind it.
+// A text followed by a view.
 fn with_view(front: Vec<u8>, view: &ViewInfo, rows: u32) -> Result<Vec<u8>, AllocError>
     requires { length view.now.names ≡ length view.now.kinds }
     ensures { IfOk result (λ text. text.items ≡ front.items ++ texts.view_info_text view.now.name view.now.names view.now.kinds rows) }
@@ -101,7 +101,7 @@ fn with_view(front: Vec<u8>, view: &ViewInfo, rows: u32) -> Result<Vec<u8>, Allo
     with_view_columns(text, view)
 }
 
-// A text with the tables behind it, which have so many rows.
+// A text followed by the tables, which have so many rows.
 fn with_tables(front: Vec<u8>, catalog: &Catalog, rows: &[u32]) -> Result<Vec<u8>, AllocError>
     requires { length rows.now ≡ length catalog.now.tables }
     ensures { IfOk result (λ text. text.items ≡ front.items ++ schemas.tables_over (catalog_image catalog.now) rows.now) }
@@ -114,7 +114,7 @@ fn with_tables(front: Vec<u8>, catalog: &Catalog, rows: &[u32]) -> Result<Vec<u8
     Ok(text)
 }
 
-// A text with the views behind it, which have so many rows.
+// A text followed by the views, which have so many rows.
 fn with_views(front: Vec<u8>, catalog: &Catalog, rows: &[u32]) -> Result<Vec<u8>, AllocError>
     requires checked { IsCatalog (catalog_image catalog.now) }
     requires long { length rows.now ≡ length catalog.now.views }
@@ -128,7 +128,7 @@ fn with_views(front: Vec<u8>, catalog: &Catalog, rows: &[u32]) -> Result<Vec<u8>
     Ok(text)
 }
 
-// Writes the line of a backward declaration behind a text. After an error the text is of no use.
+// Writes the line of a backward declaration at the end of a text. After an error the text is of no use.
 fn add_back(
     alloc: Global,
     text: &mut Vec<u8>,
@@ -159,7 +159,7 @@ fn add_back(
     }
 }
 
-// Writes the line of a forward declaration behind a text. After an error the text is of no use.
+// Writes the line of a forward declaration at the end of a text. After an error the text is of no use.
 fn add_fwd(text: &mut Vec<u8>, catalog: &Catalog, declared: &Fwd) -> Result<(), AllocError>
     requires { FwdFits (length catalog.now.tables) (length catalog.now.views) declared.now }
     ensures { OnOk result (text.new.items ≡ text.old.items ++ texts.fwd_schema (catalog_image catalog.now) declared.now) }
@@ -171,7 +171,7 @@ fn add_fwd(text: &mut Vec<u8>, catalog: &Catalog, declared: &Fwd) -> Result<(), 
     add_line(text, &[b"fwd ", table, b" to ", view])
 }
 
-// Writes the names of views behind a text, each behind a space. After an error the text is of no use.
+// Writes the names of views at the end of a text, each after a space. After an error the text is of no use.
 fn add_names(text: &mut Vec<u8>, catalog: &Catalog, views: &[u32]) -> Result<(), AllocError>
     requires { All (λ w. w < length catalog.now.views) views.now }
     ensures { OnOk result (text.new.items ≡ text.old.items ++ flat_map (λ w. codes " " ++ (session_view_at (catalog_image catalog.now) w).name) views.now) }
@@ -182,7 +182,7 @@ fn add_names(text: &mut Vec<u8>, catalog: &Catalog, views: &[u32]) -> Result<(),
     Ok(())
 }
 
-// Writes the line of a link behind a text. After an error the text is of no use.
+// Writes the line of a link at the end of a text. After an error the text is of no use.
 fn add_link(text: &mut Vec<u8>, catalog: &Catalog, link: &LinkInfo) -> Result<(), AllocError>
     requires { LinkFits (length catalog.now.tables) (length catalog.now.views) link.now }
     ensures { OnOk result (text.new.items ≡ text.old.items ++ texts.link_schema (catalog_image catalog.now) link.now) }
@@ -196,7 +196,7 @@ fn add_link(text: &mut Vec<u8>, catalog: &Catalog, link: &LinkInfo) -> Result<()
     add_line(text, &[])
 }
 
-// Writes the lines of all declarations behind a text, and those of the dependencies of these names. After an error the text is of no use.
+// Writes the lines of all declarations at the end of a text, and those of the dependencies of these names. After an error the text is of no use.
 fn add_declarations(
     alloc: Global,
     text: &mut Vec<u8>,
@@ -221,7 +221,7 @@ fn add_declarations(
     Ok(())
 }
 
-/// The text of what there is: the tables and the views, which have so many rows, with their columns, and then the declarations by kind, each in the book's order.
+/// The text of the schema: the tables and the views, which have so many rows, with their columns, and then the declarations by kind, each kind in the book's order.
 pub fn schema_text(
     alloc: Global,
     catalog: &Catalog,

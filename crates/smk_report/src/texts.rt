@@ -47,7 +47,7 @@ fn number_of(rids: Option<&[u32]>, i: u32) -> u32
     }
 }
 
-/// Writes the records of so many rows from a place on, with the rids at their places where rids are given, and else with their places.
+/// Writes the records of so many rows from a place on, with their rids if rids are given, else with their places.
 pub fn numbered_lines(
     page: &mut Page,
     rids: Option<&[u32]>,
@@ -78,7 +78,7 @@ pub fn page_for(front: Vec<u8>, width: u32, rows: u32) -> Result<Page, AllocErro
     Ok(Page::new(text))
 }
 
-/// A text with the record of the names of columns behind it.
+/// A text followed by the record of the names of columns.
 pub fn with_header(front: Vec<u8>, columns: &ListOf<Text>) -> Result<Vec<u8>, AllocError>
     ensures { IfOk result (λ text. text.items ≡ front.items ++ texts.record_line (codes "row" ∷ columns.now)) }
 {
@@ -87,7 +87,7 @@ pub fn with_header(front: Vec<u8>, columns: &ListOf<Text>) -> Result<Vec<u8>, Al
     page.finish()
 }
 
-/// A text with the records of the names of columns and of rows with their places behind it.
+/// A text followed by the records of the names of columns and of rows with their places.
 pub fn with_rows(
     alloc: Global,
     front: Vec<u8>,
@@ -100,7 +100,7 @@ pub fn with_rows(
     with_numbered_part(alloc, front, columns, rel, 0, rel.len())
 }
 
-/// A text with the records of the names of columns and of so many rows from a place on, with their places, behind it.
+/// A text followed by the records of the names of columns and of so many rows from a place on, with their places.
 pub fn with_numbered_part(
     alloc: Global,
     front: Vec<u8>,
@@ -151,7 +151,7 @@ fn table_header(page: &mut Page, columns: &ColDecls) -> Result<(), AllocError>
     page.end()
 }
 
-/// A text with the record of the names of the columns that a table declares behind it.
+/// A text followed by the record of the names of the columns that a table declares.
 pub fn with_table_header(
     alloc: Global,
     front: Vec<u8>,
@@ -164,7 +164,7 @@ pub fn with_table_header(
     page.finish()
 }
 
-/// A text with the records of rows with these numbers behind it.
+/// A text followed by the records of rows with these numbers.
 pub fn with_numbered_rows(
     alloc: Global,
     front: Vec<u8>,
@@ -179,7 +179,7 @@ pub fn with_numbered_rows(
     page.finish()
 }
 
-/// A text with the records of the names of the columns that a table declares, and of rows with these numbers, behind it.
+/// A text followed by the records of the names of the columns that a table declares, and of rows with these numbers.
 pub fn with_placed_rows(
     alloc: Global,
     front: Vec<u8>,
@@ -250,7 +250,7 @@ pub fn bad_line_text(alloc: Global, number: u64, at: u64) -> Result<Vec<u8>, All
     )
 }
 
-/// The line that says that memory was wanting. It takes no memory.
+/// The line that says that memory ran out.
 pub fn no_memory_text() -> &'static [u8]
     ensures { result.now ≡ texts.no_memory_text }
 {

@@ -1,4 +1,4 @@
--- What the type of growing lists keeps.
+-- The invariant of growing lists.
 use Rattle.std.specs.Prelude.{◌≡◌, ℕ}
 use Rattle.smk_base.specs.Places.{Lists, pairs_of}
 use Rattle.smk_rid.specs.Maps.{IsMap}

@@ -1,4 +1,4 @@
--- What the type of a rid map keeps of its lists, and the lists that its calls make.
+-- The invariant of a rid map, and the lists that its calls make.
 use Rattle.std.specs.{Prelude.{ℕ, ◌<◌, ◌≤◌, ◌||◌, Bool, if◌then◌else◌, List, [], ◌∷◌, ◌++◌, length, map, slice_index_or, slice_set, Option}, List.{All, sum_by}, Option.option_to_list}
 use Rattle.smk_base.specs.Places.{Lists, IsPlaces, pairs_of, places, has, upto, list_at}
 use Rattle.smk_rid.specs.declared.map.TheConstants.{PAIR_LIMIT}
@@ -13,7 +13,7 @@ pub record IsMap (m : Lists) : Type 0 where
 abbrev pub IsSingle : List (List ℕ) → Type 0
 IsSingle lists = All (λ l. length l ≤ 1) lists
 
--- for each optional rid the list of it alone, or an empty list
+-- for each optional rid the list of only that rid, or an empty list
 abbrev pub array_lists : List (Option ℕ) → ℕ → Lists
 array_lists of bound = record { lists = map option_to_list of; bound = bound }
 
@@ -25,11 +25,11 @@ both A B n = places (λ r. has A r || has B r) n
 abbrev pub merge_at : Lists → Lists → ℕ → List ℕ
 merge_at a b i = both (list_at a i) (list_at b i) a.bound
 
--- with one more list, the last
+-- with one more list at the end
 abbrev pub with_list : Lists → List ℕ → Lists
 with_list m list = record { lists = m.lists ++ list ∷ []; bound = m.bound }
 
--- with one more rid, the last of the list i
+-- with one more rid at the end of the list i
 abbrev pub with_rid_at : Lists → ℕ → ℕ → Lists
 with_rid_at m i rid = record { lists = slice_set m.lists i (list_at m i ++ rid ∷ []); bound = m.bound }
 

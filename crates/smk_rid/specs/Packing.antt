@@ -3,7 +3,7 @@ use Rattle.std.specs.{Prelude.{◌≡◌, ◌==◌, ℕ, ◌≤◌, ◌+◌, ◌
 use Rattle.smk_base.specs.Places.{upto, pairs_of}
 use Rattle.smk_rid.specs.{declared.hold.array.TheConstants.NONE, declared.map.TheConstants.PAIR_LIMIT}
 
--- what one number of a rid array stands for: the list of that rid alone, or an empty list
+-- what one number of a rid array stands for: the list of only that rid, or an empty list
 abbrev pub one_of : ℕ → List ℕ
 one_of r = if r == NONE then [] else r ∷ []
 

@@ -1,4 +1,4 @@
-//! How the lists of a map are held: in arrays as narrow as their rids, or packed behind one another.
+//! How the lists of a map are held: in arrays as narrow as their rids, or packed one after the other.
 
 pub(crate) mod array;
 mod code;

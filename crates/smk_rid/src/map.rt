@@ -118,7 +118,7 @@ impl RidMap {
         self.pairs
     }
 
-    /// The same lists, in less room where there is a way: those of at most one rid take one byte each at a bound of up to 255, and two at one of up to 65,535, if they are at least twice as many as the bound.
+    /// These lists, in less room if there is a way: those of at most one rid take one byte each at a bound of up to 255, and two at one of up to 65,535, if they are at least twice as many as the bound.
     pub fn narrowed(self, alloc: Global) -> Result<RidMap, AllocError>
         ensures { IfOk result (λ made. made ≡ self) }
     {
@@ -165,7 +165,7 @@ impl RidMap {
         self.storage.at(i as usize)
     }
 
-    /// Puts the rids of the lists at these places last, those of each place behind those of the one before. After an error the Vec is of no use.
+    /// Appends the rids of the lists at these places, place by place. After an error the Vec is of no use.
     pub fn put_at(&self, rids: &mut Vec<u32>, places: &[u32]) -> Result<(), AllocError>
         requires { All (λ p. p < length self.now.lists) places.now }
         ensures { OnOk result (rids.new.items ≡ rids.old.items ++ flat_map (list_at self.now) places.now) }
@@ -193,7 +193,7 @@ impl RidMap {
         Ok(kept)
     }
 
-    /// How many rids the lists before i have. It is read off, but for an array with empty lists, where the rids before i are counted.
+    /// How many rids the lists before i have. It is read off, except in an array with empty lists, where the rids before i are counted.
     pub fn start(&self, i: u32) -> u32
         requires { i ≤ length self.now.lists }
         ensures { result ≡ pairs_of (take i self.now.lists) }
@@ -210,7 +210,7 @@ impl RidMap {
         }
     }
 
-    /// All lists one after the other, unless none has two rids or more.
+    /// All lists one after the other; None if none has two rids or more.
     pub fn packed(&self) -> Option<&[u32]>
         ensures none { IsTrue (is_none result) ↔ IsSingle self.now.lists }
         ensures all { IfSome result (λ rids. rids.now ≡ concat self.now.lists) }

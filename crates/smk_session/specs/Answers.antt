@@ -1,4 +1,4 @@
--- What a call says that works out what a line asks for, and what is asked of the lineage that is kept.
+-- What is so of the calls that work out an answer, and the answers from the lineage that is kept.
 use Rattle.std.specs.{Prelude.{◌≡◌, ◌<◌, ℕ, Result, Ok, Err, MatchResult, Bool, cond, false, List, [], ◌∷◌, nat_eq, length, map, set, Option, Some, None, All}, List.{filter, list_all, list_any}}
 use Rattle.smk_base.specs.{CatalogImage.{CatalogImage, catalog_image}, Places.{IsPlaces, Lists, has, members_at, places, upto}, Rels.Relation, declared.brush.BrushOn.BrushOn, declared.book.catalog.Catalog.Catalog, declared.list.table_rids.Pick.Pick, declared.book.tree.Marks.Marks, declared.reply.Reply.Reply, declared.reply.Refusal.Refusal}
 use Rattle.smk_base.specs.declared.reply.Reply.TheVariants as replies
@@ -6,15 +6,15 @@ use Rattle.smk_model.specs.{Lineage.sub, Looks.looks_of_rows, Names.◌>>=◌, R
 use Rattle.smk_compose.specs.declared.kept_maps.KeptMap.{KeptMap}
 use Rattle.smk_session.specs.{Opened.{AreExtras, AreOpened, state_over}, Kept.{kept_back, kept_fwd}, Sessions.{AreInForce, content_kept}, declared.brush.choices.Choice.Choice, declared.lent.Lent.Lent, declared.turn.Change.Change, declared.turn.Content.Content, declared.answer.no_answer.Turned.Turned, declared.answer.no_answer.Turned.TheVariants.Refused}
 
--- the refusal is that of what is asked for, unless memory is wanting
+-- a refusal is the right one; where memory ran out, nothing is said
 abbrev pub Turns : {A : Type 0} → Turned → Asked A → Type 0
 Turns turned asked = (refusal : Refusal) → turned ≡ Refused refusal → asked ≡ Err refusal
 
--- what is given is what is asked for
+-- what is given is the answer, or a refusal is the right one
 abbrev pub Gives : {A : Type 0} → Result A Turned → Asked A → Type 0
 Gives result asked = MatchResult result (λ given. asked ≡ Ok given) (λ turned. Turns turned asked)
 
--- nothing, unless a number is no row of so many
+-- nothing, or the refusal of a number that is none of so many rows
 abbrev pub within_asked : Marks → ℕ → Asked (Unit {0})
 within_asked marks n = unless_outside marks n (Ok tt)
 
@@ -26,11 +26,11 @@ members_asked map marks = unless_outside marks (length map.lists) (Ok (members_a
 abbrev pub rows_told : Relation → List ℕ → Reply
 rows_told table rids = replies.Back rids (record { kinds = table.kinds; rows = sub table.rows rids })
 
--- the answers by what is kept
+-- the answer to a forward query, from what is kept
 abbrev pub fwd_by : List KeptMap → ℕ → Marks → Asked Reply
 fwd_by kept t rows = kept_fwd kept t >>= λ map. members_asked map rows >>= λ marks. Ok (replies.Fwd marks)
 
--- the looks of what is asked for
+-- the looks for an answer
 abbrev pub looks_of_asked : Asked Reply → ℕ
 looks_of_asked (Ok reply) = looks_of_rows reply
 looks_of_asked (Err refusal) = 0
@@ -39,7 +39,7 @@ looks_of_asked (Err refusal) = 0
 abbrev pub BacksFit : List KeptMap → ℕ → ℕ → Type 0
 BacksFit kept table rows = (map : Lists) → kept_back kept table ≡ Ok map → map.bound ≡ rows
 
--- what a line reads of a session is what every session keeps
+-- what a session lends to a line is right: its views, its splits and groups, its brushes and contents
 pub record IsLent (held : Lent) : Type 0 where
   pub opened : AreOpened held.catalog.now held.tables.now held.views.now
   pub extras : AreExtras held.catalog.now held.tables.now held.splits.now held.cubes.now
@@ -60,7 +60,7 @@ abbrev pub next_of : State → Option Change → State
 next_of state None = state
 next_of state (Some change) = under state change.brushes
 
--- contents with these in the place of those of their views
+-- the contents, with these in place of those of their views
 abbrev pub placed : List Content → List (Option Relation) → List (Option Relation)
 placed [] contents = contents
 placed (content ∷ more) contents = set (placed more contents) content.view content.rel
@@ -69,7 +69,7 @@ placed (content ∷ more) contents = set (placed more contents) content.view con
 abbrev pub content_at : CatalogImage → State → ℕ → Content
 content_at catalog state w = record { view = w; rel = content_kept catalog state w }
 
--- a change comes with a reply that is no refusal, and leaves what every session keeps
+-- a change comes with a reply that is no refusal, and the brushes and contents after it are right
 pub record ChangesOver (catalog : Catalog) (tables : List Relation) (contents : List (Option Relation)) (reply : Reply) (change : Change) : Type 0 where
   pub answered : is_refused reply ≡ false
   pub known : All (λ content. content.view < length contents) change.contents
@@ -82,20 +82,20 @@ Changes held reply change = ChangesOver held.catalog.now held.tables.now held.co
 abbrev pub AreOn : ℕ → ℕ → List BrushOn → Type 0
 AreOn t n brushes = All (λ brush. brush.table ≡ t → IsPlaces n brush.rids) brushes
 
--- the rids among n that all brushes have which pass a test, where there is one
+-- the rids among n that all the brushes that pass a test have; None if no brush passes
 abbrev pub chosen_by : (BrushOn → Bool) → List BrushOn → ℕ → Option (List ℕ)
 chosen_by test brushes n = cond (list_any test brushes) (Some (places (λ rid. list_all (λ brush. has brush.rids rid) (filter test brushes)) n)) None
 
--- whether a brush counts on a table: for a view those that concern it, and for none all
+-- whether a brush counts on a table: for a view it must concern the view; without a view any brush on the table does
 abbrev pub counts : CatalogImage → Option ℕ → ℕ → BrushOn → Bool
 counts catalog (Some w) t brush = concerns catalog w t brush
 counts catalog None t brush = nat_eq brush.table t
 
--- the rids of a table that the brushes select which count
+-- the rids of a table that all the brushes that count have
 abbrev pub selected_by : CatalogImage → State → Option ℕ → ℕ → List ℕ
 selected_by catalog state view t = places (λ rid. list_all (λ brush. has brush.rids rid) (filter (counts catalog view t) state.brushes)) (length (rows_of_table state t))
 
--- the rids among n that brushes select for a view on a table, where one concerns it
+-- the rids among n that brushes select for a view on a table; None if no brush concerns it
 abbrev pub brushed_of : CatalogImage → List BrushOn → ℕ → ℕ → ℕ → Option (List ℕ)
 brushed_of catalog brushes w t n = chosen_by (concerns catalog w t) brushes n
 
@@ -107,7 +107,7 @@ AreAlike catalog brushes t w other = All (λ brush. concerns catalog w t brush �
 abbrev pub IsChoice : CatalogImage → List BrushOn → ℕ → Choice → Type 0
 IsChoice catalog brushes t choice = (n : ℕ) → AreOn t n brushes → choice.rids ≡ brushed_of catalog brushes choice.view t n
 
--- those that are left of the rids chosen so far under one more brush
+-- the rids that are left of those chosen so far, with one more brush
 abbrev pub narrowed_by : Option (List ℕ) → List ℕ → List ℕ
 narrowed_by (Some chosen) rids = filter (has rids) chosen
 narrowed_by None rids = rids
@@ -117,7 +117,7 @@ abbrev pub rids_or_all : Option (List ℕ) → ℕ → List ℕ
 rids_or_all (Some rids) n = rids
 rids_or_all None n = upto n
 
--- the picks of those of the first n tables that some brush concerns
+-- the picks of a view, of those of the first n tables on which some brush concerns it
 abbrev pub pick_for : CatalogImage → State → ℕ → ℕ → Pick
 pick_for catalog state w t = record { table = t; rids = selected_for catalog state w t }
 

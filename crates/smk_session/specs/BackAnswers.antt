@@ -1,4 +1,4 @@
--- What the calls say that work out the parts of a backward answer.
+-- What is so of the calls that work out the parts of a backward answer.
 use Rattle.std.specs.{Prelude.{◌≡◌, ◌<◌, ℕ, nat_eq, Option, List, ◌∷◌, length, slice_get, slice_index_or, ok_or, Ok, Err, option_map}, List.list_all}
 use Rattle.smk_base.specs.{CatalogImage.{CatalogImage, catalog_image}, Places.Lists, Rels.Relation, declared.reply.Reply.Reply, declared.reply.Refusal.TheVariants.{ManyMarks, NoGroup, NoSplit, ValueKind}, declared.book.tree.Marks.Marks, declared.book.tree.Then.Then, declared.value.Value.Value}
 use Rattle.smk_base.specs.declared.reply.Reply.TheVariants as replies
@@ -25,22 +25,22 @@ pub record IsPairNamed (held : Lent) (view table : List ℕ) (pair : Pair) : Typ
   pub catalog : pair.catalog.now ≡ held.catalog.now
   pub fits : IsPairOf held.tables.now held.views.now pair
 
--- a column with the split that is kept by it: the splits stand in the order of their declarations
+-- a column with its split; the splits are kept in the order of their declarations
 abbrev pub split_kept : Pair → ℕ → Option (ℕ × SplitImage)
 split_kept pair c = option_map (λ split. (c, split)) (slice_get pair.splits.now (split_place pair.view pair.table c pair.catalog.now.backs))
 
--- the same of the column of this name, and the groups that are kept
+-- the column with this name, with its split; and the groups that are kept
 abbrev pub split_asked : Pair → List ℕ → Asked (ℕ × SplitImage)
 split_asked pair name = ok_or (column_place (catalog_image pair.catalog.now) pair.table name) NoSplit >>= λ c. ok_or (split_kept pair c) NoSplit
 
 abbrev pub cubes_asked : Pair → Asked (List Relation)
 cubes_asked pair = ok_or (slice_get pair.cubes.now (cubes_place pair.view pair.table pair.catalog.now.backs)) NoGroup
 
--- nothing, unless a value is of another sort than the column
+-- nothing, or the refusal of a value of another sort than the column's
 abbrev pub sort_asked : CatalogImage → ℕ → ℕ → Value → Asked (Unit {0})
 sort_asked catalog t c value = provided (is_of_column catalog t c value) ValueKind (Ok tt)
 
--- the members with a value of the lists at the marked places
+-- the members, of the lists at the marked places, that have this value
 abbrev pub with_value_asked : SplitImage → Marks → Value → Asked (List ℕ)
 with_value_asked split marks value = unless_outside marks (length split.map.lists) (Ok (members_with split (marked marks (length split.map.lists)) value))
 
@@ -49,7 +49,7 @@ abbrev pub one_asked : Marks → Asked ℕ
 one_asked (markings.Listed (mark ∷ more)) = provided (list_all (nat_eq mark) more) ManyMarks (Ok mark)
 one_asked _ = Err ManyMarks
 
--- the answers by what is kept
+-- the rids, the rows and the groups of an answer, from what is kept
 abbrev pub rids_by : Pair → Marks → Then → Asked (List ℕ)
 rids_by pair marks (thens.Matching name value) =
     kept_back pair.run.now.kept pair.table >>= λ map.
@@ -69,7 +69,7 @@ grouped_by pair marks =
     within_asked marks (length map.lists) >>= λ within.
     Ok (replies.Grouped (cube_at kept mark))
 
--- the split that is kept is one of the lists that are kept, and there are groups for each of them
+-- the split that is kept is of the lists that are kept, and there are groups for each of these lists
 abbrev pub SplitsFit : Pair → Type 0
 SplitsFit pair = (map : Lists) (name : List ℕ) (found : ℕ × SplitImage) → kept_back pair.run.now.kept pair.table ≡ Ok map → split_asked pair name ≡ Ok found → found.1.map ≡ map
 

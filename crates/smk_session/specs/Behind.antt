@@ -1,4 +1,4 @@
--- What a call says that works out which rows a `back` line asks for, without looking at them.
+-- What is so of the call that works out which rows a `back` line asks for, without a look at them.
 use Rattle.std.specs.Prelude.{◌≡◌, ◌<◌, ℕ, List, [], Result, Ok, length, All, MatchResult}
 use Rattle.smk_base.specs.{CatalogImage.CatalogImage, Picks.IsAscending, Rels.Relation, declared.book.catalog.Catalog.Catalog, declared.book.tree.Line.Line, declared.reply.Refusal.Refusal}
 use Rattle.smk_base.specs.declared.reply.Reply.TheVariants as replies
@@ -10,7 +10,7 @@ pub record IsBehind (catalog : CatalogImage) (state : State) (asked : Line) (fou
   pub pair : known_pair catalog (view_in asked) (table_in asked) ≡ Ok (found.view, found.table)
   pub reply : (reply catalog state asked).0 ≡ rows_reply catalog state found.table found.rids
 
--- the reply is a refusal, unless memory is wanting
+-- the reply is this refusal; where memory ran out, nothing is said
 abbrev pub IsRefusedAs : CatalogImage → State → Line → Turned → Type 0
 IsRefusedAs catalog state asked turned = (refusal : Refusal) → turned ≡ Refused refusal → (reply catalog state asked).0 ≡ replies.Refused refusal
 

@@ -14,7 +14,7 @@ backs_of book v t = backs (view_at book.catalog v).plan book.tables t
 abbrev pub table_of : Workbook → ℕ → Relation
 table_of book t = record { kinds = table_kinds (info_at book.catalog.tables t); rows = table_at book.tables t }
 
--- these lists split by a column of the table
+-- these lists, split by a column of the table
 abbrev pub split_on : Workbook → ℕ → ℕ → ℕ → SplitImage
 split_on book v t c = record { map = backs_of book v t; rows = (table_of book t).rows; col = c }
 
@@ -22,7 +22,7 @@ split_on book v t c = record { map = backs_of book v t; rows = (table_of book t)
 abbrev pub cubes_on : Workbook → ℕ → ℕ → List ℕ → List Agg → List Relation
 cubes_on book v t keys aggs = cubes_of (backs_of book v t) (table_of book t) keys aggs
 
--- the split, and the groups, that are asked for besides the rows
+-- the split, and the groups, that a declaration asks for besides the rows
 abbrev pub split_for : Workbook → ℕ → ℕ → BackExtra → Option SplitImage
 split_for book v t (extras.By column) = Some (split_on book v t column)
 split_for book v t _ = None
@@ -31,7 +31,7 @@ abbrev pub cubes_for : Workbook → ℕ → ℕ → BackExtra → Option (List R
 cubes_for book v t (extras.Grouped keys aggs names kinds) = Some (cubes_on book v t keys aggs)
 cubes_for book v t _ = None
 
--- those of a declaration
+-- the same, from the declaration itself
 abbrev pub split_in : Workbook → Back → Option SplitImage
 split_in book declared = split_for book declared.view declared.table declared.extra
 
@@ -58,6 +58,6 @@ asks_groups _ = false
 abbrev pub split_place : ℕ → ℕ → ℕ → List Back → ℕ
 split_place v t c declarations = position_or_len (is_split v t c) (filter (λ (declared : Back). asks_split declared.extra) declarations)
 
--- the same of the first grouping of a view's backward query
+-- the place of the first grouping of a view's backward query among the groupings of these declarations, or how many there are where there is none
 abbrev pub cubes_place : ℕ → ℕ → List Back → ℕ
 cubes_place v t declarations = position_or_len (is_back v t) (filter (λ (declared : Back). asks_groups declared.extra) declarations)

@@ -1,4 +1,4 @@
--- What the calls say that make what declarations ask for besides the rows.
+-- What is so of the calls that make what declarations ask for besides the rows.
 use Rattle.std.specs.{Prelude.{◌≡◌, ◌<◌, ℕ, Bool, true, cond, List, Option, Some, None, Result, IfOk, get_or, length, map}, declared.alloc.AllocError.AllocError}
 use Rattle.smk_base.specs.{CatalogImage.{CatalogImage, catalog_image}, Rels.Relation, declared.book.catalog.Back.Back, declared.book.catalog.Catalog.Catalog}
 use Rattle.smk_model.specs.{Appends.depends_on, Catalogs.{BackFits, each_table_kinds}, Looks.looks_of_back, Selection.each_kinds, Session.Workbook, Workload.declares_back}
@@ -9,12 +9,12 @@ use Rattle.smk_skip.specs.Splits.{SplitImage}
 abbrev pub book_in : Opening → Workbook
 book_in opening = workbook_image opening.book.now opening.tables.now
 
--- the value, or the fresh one that takes its place
+-- the fresh value if there is one, else the old one
 abbrev pub newer : {A : Type 0} → Option A → A → A
 newer (Some fresh) old = fresh
 newer None old = old
 
--- the tables have the kinds of a checked book, and with what takes their places the views are what they mean
+-- the tables have the kinds of a checked book, and each view, or the fresh one in its place, is what it means
 pub record AreNow (catalog : Catalog) (tables : List Relation) (views : List Run) (fresh : List (Option Run)) : Type 0 where
   pub kinds : each_kinds tables ≡ each_table_kinds catalog.tables
   pub long : length views ≡ length catalog.views
@@ -45,7 +45,7 @@ MakesAs book asked made = IfOk made (IsMadeFor book asked)
 abbrev pub declared_in : List ExtraAsked → List Back
 declared_in all = map (λ (asked : ExtraAsked). asked.declared.now) all
 
--- whether what a declaration asks for besides the rows is made: always, or where it depends on the table that has grown
+-- whether what a declaration asks for besides the rows is made: always, or if it depends on the table that has grown
 abbrev pub is_wanted : CatalogImage → Option ℕ → Back → Bool
 is_wanted catalog None declared = true
 is_wanted catalog (Some t) declared = depends_on catalog t declared

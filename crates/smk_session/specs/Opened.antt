@@ -1,4 +1,4 @@
--- What is made of a book over its tables before a line is answered.
+-- What is made of a book and its tables before any line is answered.
 use Rattle.std.specs.Prelude.{◌≡◌, ℕ, List, length, map, Option, Some}
 use Rattle.smk_base.specs.{CatalogImage.catalog_image, Places.upto, Rels.Relation, declared.brush.BrushOn.BrushOn, declared.book.catalog.Catalog.Catalog}
 use Rattle.smk_model.specs.{Catalogs.{IsCatalog, each_table_kinds}, NodeFaults.{NodeFault, FullRows, FullPairs}, Opening.ViewFault, Plain.rows_over, Selection.{each_kinds, each_rows}, Session.{Workbook, State, view_at}, Workload.needs}
@@ -10,7 +10,7 @@ use Rattle.smk_session.specs.{Extras.{splits_of, all_cubes}, declared.start.faul
 abbrev pub workbook_image : Catalog → List Relation → Workbook
 workbook_image catalog tables = record { catalog = catalog_image catalog; tables = each_rows tables }
 
--- the rows of these tables under these brushes, which is what a session stands at
+-- the state of a session: the rows of these tables, and these brushes
 abbrev pub state_over : List Relation → List BrushOn → State
 state_over tables brushes = record { tables = each_rows tables; brushes = brushes }
 
@@ -30,7 +30,7 @@ pub record AreOpened (catalog : Catalog) (tables : List Relation) (views : List 
   pub kinds : each_kinds tables ≡ each_table_kinds catalog.tables
   pub views_are : views ≡ opened_views (workbook_image catalog tables)
 
--- what is kept for the declarations that ask for more than rows is what they mean over the tables
+-- the splits and groups that are kept are what the declarations mean over the tables
 pub record AreExtras (catalog : Catalog) (tables : List Relation) (splits : List SplitImage) (cubes : List (List Relation)) : Type 0 where
   pub splits_are : splits ≡ splits_of (workbook_image catalog tables)
   pub cubes_are : cubes ≡ all_cubes (workbook_image catalog tables)

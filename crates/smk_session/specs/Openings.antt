@@ -1,4 +1,4 @@
--- What the calls say that open views.
+-- What is so of the calls that open views.
 use Rattle.std.specs.Prelude.{◌≡◌, ◌<◌, ℕ, List, Option, Result, MatchResult, None, length, map}
 use Rattle.smk_base.specs.{CatalogImage.catalog_image, Rels.Relation, declared.book.catalog.Catalog.Catalog}
 use Rattle.smk_model.specs.{Catalogs.each_table_kinds, Opening.{ViewFault, first_some, view_fault}, Plain.whole, Selection.{each_kinds, each_rows, leaf_kinds}, Session.{Workbook, view_at}}
@@ -12,7 +12,7 @@ pub record CanOpen (catalog : Catalog) (tables : List Relation) (stocked : Stock
   pub rows : each_rows stocked.leaves ≡ whole (view_at (catalog_image catalog) stocked.view).plan (each_rows tables)
   pub kinds : each_kinds stocked.leaves ≡ leaf_kinds (view_at (catalog_image catalog) stocked.view).plan (each_kinds tables)
 
--- it is opened as its first content with its lineage, or refused for the first of its nodes that is too big
+-- it is opened with its first content and its lineage, or refused for the first of its nodes that is too big
 pub record Opens (book : Workbook) (v : ℕ) (made : Run) : Type 0 where
   pub run : made ≡ opened book v
   pub none : view_fault book v ≡ None

@@ -1,4 +1,4 @@
--- What callers see of a session, and what every session keeps.
+-- What callers see of a session, and what is so of every session.
 use Rattle.std.specs.{Prelude.{◌≡◌, ◌<◌, ◌≤◌, ℕ, Bool, cond, List, [], length, map, Option, Some, None, All}, List.{list_any, IsDistinct}}
 use Rattle.smk_base.specs.{CatalogImage.{CatalogImage, catalog_image}, Places.{IsPlaces, has, upto}, Rels.Relation, declared.brush.BrushOn.BrushOn, declared.book.catalog.Catalog.Catalog, declared.workers.TheConstants.WORKER_LIMIT}
 use Rattle.smk_model.specs.{Replies.content_of, Session.{Workbook, State, is_brush, linked, rows_of_table}}
@@ -6,7 +6,7 @@ use Rattle.smk_compose.specs.declared.kept_maps.Run.{Run}
 use Rattle.smk_skip.specs.Splits.{SplitImage}
 use Rattle.smk_session.specs.{Opened.{AreOpened, AreExtras, workbook_image, state_over}, declared.start.mode.Mode.Mode}
 
--- its book, the tables, for each view the first content with the lineage that is kept, the splits and the groups that are made for the declarations that ask for more than rows, the brushes in force, for each view the content that is kept under them beside the first one, the mode of capture and the number of workers
+-- its book, the tables, for each view the first content and the lineage that is kept, the splits and groups of declarations, the brushes in force, for each view the content that is kept under them besides the first one, the mode of capture and the number of workers
 pub record SessionImage : Type 0 where
   pub catalog : Catalog
   pub tables : List Relation
@@ -28,7 +28,7 @@ state_of session = state_over session.tables session.brushes
 abbrev pub follows : CatalogImage → ℕ → BrushOn → Bool
 follows catalog w brush = has (linked catalog brush.view brush.table) w
 
--- the content that is kept of a view beside its first one: that under the brushes in force, exactly where it follows one of them
+-- the content that is kept of a view besides its first one: the content now, exactly if it follows a brush in force
 abbrev pub content_kept : CatalogImage → State → ℕ → Option Relation
 content_kept catalog state w = cond (list_any (follows catalog w) state.brushes) (Some (content_of catalog state w)) None
 
@@ -45,13 +45,13 @@ pub record BrushFits (catalog : Catalog) (tables : List Relation) (brush : Brush
 abbrev pub same_pair : BrushOn → BrushOn → Bool
 same_pair a b = is_brush a.view a.table b
 
--- the brushes fit, no two are of one pair, and what is kept beside the first contents is what the views show under them
+-- the brushes fit, no two are of one pair, and what is kept besides the first contents is what the views show under them
 pub record AreInForce (catalog : Catalog) (tables : List Relation) (brushes : List BrushOn) (contents : List (Option Relation)) : Type 0 where
   pub brushes_fit : All (BrushFits catalog tables) brushes
   pub one_a_pair : IsDistinct same_pair brushes
   pub contents_are : contents ≡ contents_kept (catalog_image catalog) (state_over tables brushes)
 
--- the views are opened, what the declarations ask for is made, the brushes are in force, and there are a few workers
+-- the views are opened, what the declarations ask for is made, the brushes are in force, and the number of workers is in range
 pub record IsSession (session : SessionImage) : Type 0 where
   pub opened : AreOpened session.catalog session.tables session.views
   pub extras : AreExtras session.catalog session.tables session.splits session.cubes

@@ -29,7 +29,7 @@ use std::alloc::Global;
 use std::sync::ledger::Ledger;
 use std::thread::Threads;
 
-/// Whether a reply is a refusal. It takes no memory.
+/// Whether a reply is a refusal.
 pub fn has_refused(reply: &Reply) -> bool
     ensures { result ≡ replies.is_refused reply.now }
 {

@@ -2,7 +2,7 @@
 
 ghost use Rattle.smk_session.specs.SessionLaws.{NothingKept};
 
-/// While no brush is in force, nothing is kept beside the first contents.
+/// With no brush in force, nothing is kept besides the first contents.
 pub fn nothing_kept()
     ensures { NothingKept }
 {}

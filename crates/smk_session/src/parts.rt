@@ -21,7 +21,7 @@ pub struct Parts {
     pub cubes: Vec<Cubes>,
     /// The brushes in force, at most one for each pair of a view and a table.
     pub brushes: Vec<BrushOn>,
-    /// For each view the content under the brushes in force, where it follows one of them.
+    /// For each view the content under the brushes in force, if it follows one of them.
     pub now: Vec<Option<Rel>>,
     /// When lineage is made.
     pub mode: Mode,

@@ -59,7 +59,7 @@ impl Model for Session {
 }
 
 impl Session {
-    /// A session of this book over these tables, or the first view with a node that is too big. Each row of a leaf is at most one look, and so is each row of the table of a declared split or grouping, also where it is refused.
+    /// A session of this book over these tables, or the first view with a node that is too big. Each row of a leaf is at most one look, and so is each row of the table of a declared split or grouping, even if the session is refused.
     ///
     /// No brush is in force. Lineage is captured by the body of `mode`, all in this thread with one worker, and above that in pieces of rows that may run at the same time; piece p passes the gate with p. With several workers two views or more over many rows are opened at the same time, once the rows of all are fetched: each passes the gate with its number, and has its share of the workers. There are at most 64 workers. On a fault the book and the tables are dropped.
     pub fn start<R: Threads + Sync, G: Gate + Sync, L: Ledger>(
@@ -109,7 +109,7 @@ impl Session {
         })
     }
 
-    /// The session that has exactly these parts. It takes no memory and makes no look.
+    /// The session that has exactly these parts. It makes no look.
     pub fn from_parts(parts: Parts) -> Session
         requires keeps { IsSession (parts_image parts) }
         ensures session { result ≡ parts_image parts }
@@ -138,7 +138,7 @@ impl Session {
         }
     }
 
-    /// The parts of the session, which are what every session keeps. It takes no memory and makes no look.
+    /// The parts of the session; what is so of every session is so of them. It makes no look.
     pub fn into_parts(self) -> Parts
         ensures parts { parts_image result ≡ self }
         ensures keeps { IsSession self }
@@ -167,7 +167,7 @@ impl Session {
         }
     }
 
-    /// The first content of the view with this number. It takes no memory.
+    /// The first content of the view with this number.
     pub fn first(&self, view: u32) -> &Rel
         requires { view < length self.now.catalog.views }
         ensures rows { result.now ≡ (opened (workbook_of self.now) view).rel }
@@ -175,7 +175,7 @@ impl Session {
         &self.views[view as usize].rel
     }
 
-    /// The book. It takes no memory.
+    /// The book.
     pub fn catalog(&self) -> &Catalog
         ensures book { result.now ≡ self.now.catalog }
         ensures checked { IsCatalog (catalog_image self.now.catalog) }
@@ -183,7 +183,7 @@ impl Session {
         self.book.catalog()
     }
 
-    /// Who does its work, at this gate. It takes no memory.
+    /// Who does its work, at this gate.
     pub fn crew<'g, G: Gate + Sync>(&self, gate: &'g G) -> Workers<'g, G>
         ensures gate { result.gate.now ≡ gate.now }
         ensures workers { result.workers ≡ self.now.workers }
@@ -213,7 +213,7 @@ impl Session {
         }
     }
 
-    /// The number of rows of the table with this number. It takes no memory and makes no look.
+    /// The number of rows of the table with this number. It makes no look.
     pub fn table_len(&self, table: u32) -> u32
         requires { table < length self.now.catalog.tables }
         ensures { result ≡ length (rows_of_table (state_of self.now) table) }
@@ -243,7 +243,7 @@ impl Session {
         rids_behind(alloc, &self.lent(), &asked)
     }
 
-    /// The rids of a table that are selected now for a view, ascending: those that every brush has which concerns it. There are none where no brush does, which selects all. It makes no look.
+    /// The rids of a table that are selected now for a view, ascending: those in every brush that concerns it. None if no brush concerns it: then all rows are selected. It makes no look.
     pub fn selected_for(
         &self,
         alloc: Global,
@@ -257,7 +257,7 @@ impl Session {
         selected(alloc, &self.lent(), Some(view), table)
     }
 
-    /// The rids of a table that every brush on it has, ascending. There are none where no brush is on it, which selects all. It makes no look.
+    /// The rids of a table that every brush on it has, ascending. None if no brush is on it: then all rows are selected. It makes no look.
     pub fn selected_on(&self, alloc: Global, table: u32) -> Result<Option<Rids>, AllocError>
         requires { table < length self.now.catalog.tables }
         ensures selected { IfOk result (λ rids. rids_or_all rids (length (rows_of_table (state_of self.now) table)) ≡ selected_on (state_of self.now) table) }
@@ -282,7 +282,7 @@ impl Session {
         fetch_rids(alloc, &self.tables[table as usize], rids, steps)
     }
 
-    /// What a line is answered, and what it changes, which is nothing where it is refused. The session stays as it is. Rows of a table that are answered are one look each, those without the value that is asked for and those of a grouping none, and so are the rows that are selected for the views that follow a brush. With several workers two views or more that follow are made anew at the same time, once the rows of all are selected: the i-th of them, from 0, passes the gate with i; one alone is made in pieces, as by `start`.
+    /// The answer to a line, and what it changes, which is nothing if it is refused. The session stays as it is. Each row of a table in the answer is one look, but none is made for rows without the value that is asked for, nor for groups of a declared grouping; each row that is selected for a view that follows a brush is one look, too. With several workers two views or more that follow are evaluated at the same time, once the rows of all are selected: the i-th of them, from 0, passes the gate with i; one alone is made in pieces, as by `start`.
     pub fn turn<R: Threads + Sync, G: Gate + Sync, L: Ledger>(
         &self,
         rt: &R,
@@ -298,7 +298,7 @@ impl Session {
         self.turn_told(rt, alloc, line, true, gate, steps)
     }
 
-    /// The same as `turn`, but that the reply to a brush has no rids, and that to a brush or to the end of one no marks of the linked views. None of these lists is made for the reply.
+    /// Like `turn`, but the reply to a brush has no rids, and that to a brush or to the end of one has no marks of the linked views. None of these lists is made for the reply.
     pub fn turn_briefly<R: Threads + Sync, G: Gate + Sync, L: Ledger>(
         &self,
         rt: &R,
@@ -315,7 +315,7 @@ impl Session {
         self.turn_told(rt, alloc, line, false, gate, steps)
     }
 
-    // What a line is answered, with the lists of the reply to a brush or without them, and what it changes.
+    // The answer to a line, with the lists of the reply to a brush or without them, and what it changes.
     fn turn_told<R: Threads + Sync, G: Gate + Sync, L: Ledger>(
         &self,
         rt: &R,
@@ -348,7 +348,7 @@ impl Session {
         }
     }
 
-    /// Takes a turn: puts what it changes in force, and gives its reply. It takes no memory and makes no look. After the turn of a line that is refused, and after one that leaves the state, the session is as it was.
+    /// Takes a turn: puts what it changes in force, and gives its reply. It makes no look. After the turn of a line that is refused, and after one that doesn't change the state, the session is as it was.
     pub fn take(&mut self, turn: Turn) -> Reply
         requires fits { IsTurnOf self.old turn }
         ensures reply { result ≡ turn.reply }
@@ -375,7 +375,7 @@ impl Session {
         }
     }
 
-    /// The reply to a line, after which the brushes in force are those of the next state. Rows of a table that are answered are one look each, those without the value that is asked for and those of a grouping none, and so are the rows that are selected for the views that follow a brush. With several workers two views or more that follow are made anew at the same time, once the rows of all are selected: the i-th of them, from 0, passes the gate with i; one alone is made in pieces, as by `start`. After an error, after a line that is refused, and after one that leaves the state, the session is as it was.
+    /// The reply to a line, after which the brushes in force are those of the next state. The looks and the work are those of `turn`. After an error, after a line that is refused, and after one that doesn't change the state, the session is as it was.
     pub fn answer<R: Threads + Sync, G: Gate + Sync, L: Ledger>(
         &mut self,
         rt: &R,

@@ -37,7 +37,7 @@ struct Beside {
     contents: Vec<Option<Rel>>,
 }
 
-/// The views as they are first evaluated, and what is kept beside them.
+/// The first contents of the views, and what is kept besides them.
 #[derive(Drop)]
 pub struct Begun {
     pub views: Vec<Run>,

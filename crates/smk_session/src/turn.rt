@@ -3,12 +3,12 @@ ghost use Rattle.smk_session.specs.Answers.{placed};
 
 use smk_base::{BrushOn, ListOf, Rel, Reply};
 
-/// What a line is answered, how many rids the brush selects that it makes, if it makes one, and what it changes: what takes the place of the brushes and of contents, where the line changes them.
+/// The answer to a line; how many rids its brush selects, if it makes one; and what it changes: the brushes and contents that replace the old ones, if it changes them.
 #[derive(Drop)]
 pub struct Turn {
     /// The reply to the line.
     pub reply: Reply,
-    /// The number of the rids of the brush, also where the reply is without them.
+    /// The number of the rids of the brush, even if the reply is without them.
     pub count: u32,
     pub(crate) change: Option<Change>,
 }
@@ -42,7 +42,7 @@ fn put(contents: &mut [Option<Rel>], content: Content)
     contents[view as usize] = rel;
 }
 
-// Puts contents in the place of those of their views. It takes no memory.
+// Puts contents in place of those of their views.
 pub(crate) fn place(contents: &mut [Option<Rel>], fresh: Contents)
     requires { All (λ content. content.view < length contents.old) fresh }
     ensures { contents.new ≡ placed fresh contents.old }

@@ -1,4 +1,4 @@
--- What the type of a split keeps: the rids of a table in the order of their values, and each list of the map as places in that order.
+-- The invariant of a split: the rids of a table in the order of their values, and each list of the map as places in that order.
 use Rattle.std.specs.{Prelude.{◌≡◌, ℕ, ◌+◌, ◌-◌, ◌<◌, ◌≤◌, ◌&&◌, true, nat_le, nat_lt, List, length, map, slice_index}, List.{filter, list_any, concat}}
 use Rattle.smk_base.specs.{Places.{Lists, upto, places, has}, Values.value_eq, declared.rel.TheConstants.ROW_LIMIT, declared.value.Value.Value}
 use Rattle.smk_model.specs.{Values.{Row, value_at}, Lineage.row_at, Replies.with_value}
@@ -24,7 +24,7 @@ ranks order list = places (λ k. has list (slice_index order k)) (length order)
 abbrev pub ranked : List ℕ → Lists → Lists
 ranked order m = record { lists = map (ranks order) m.lists; bound = length order }
 
--- those of the places in an order that lie in a stretch from start on, as the rids that the stretch has there
+-- those of the places in an order that lie in a stretch from `start` on, as the rids that the stretch has there
 abbrev pub run : ℕ → List ℕ → List ℕ → List ℕ
 run start rids at_places = map (λ k. slice_index rids (k - start)) (filter (λ k. nat_le start k && nat_lt k (start + length rids)) at_places)
 

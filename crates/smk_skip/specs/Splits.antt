@@ -9,6 +9,6 @@ pub record SplitImage : Type 0 where
   pub rows : List Row
   pub col : ℕ
 
--- those of the members of the lists at these marks whose row has the value in the column
+-- the members of the lists at these marks whose row has the value in the column
 abbrev pub members_with : SplitImage → List ℕ → Value → List ℕ
 members_with split marks value = with_value split.rows split.col value (members_at split.map marks)

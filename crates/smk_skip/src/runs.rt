@@ -1,4 +1,4 @@
-//! What a split answers: the rids of a stretch of its order that some lists of places reach.
+//! The answers of a split: the rids of a stretch of its order that some lists of places reach.
 ghost use Rattle.std.specs.{Prelude.{◌≡◌, ◌+◌, ◌<◌, ◌≤◌, ◌&&◌, ◌++◌, nat_le, nat_lt, length, All, IfOk, OnOk}, List.{filter, flat_map, AllPairs}, List.Sorted.IsPartitionPoint};
 ghost use Rattle.smk_base.specs.{Places.{places, has, list_at}, declared.rel.TheConstants.ROW_LIMIT};
 ghost use Rattle.smk_skip.specs.Parts.{run};
@@ -30,7 +30,7 @@ pub(crate) fn joined_runs(
     Ok(Rids::from_vec(made))
 }
 
-// Puts the rids of a stretch last that these ascending places reach.
+// Appends the rids of a stretch that these ascending places reach.
 fn put_run(made: &mut Vec<u32>, places: &[u32], start: u32, rids: &[u32]) -> Result<(), AllocError>
     requires rises { AllPairs (λ j k. j < k) places.now }
     requires within { start + length rids.now ≤ ROW_LIMIT }

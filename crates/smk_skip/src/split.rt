@@ -39,7 +39,7 @@ impl Model for Split {
 }
 
 impl Split {
-    /// The lists of a map to the rows of this table, split by a column. It is at most one look for each row of the table, also where it wants memory.
+    /// The lists of a map to the rows of this table, split by a column. It is at most one look for each row of the table, even if memory runs out.
     pub fn build<L: Ledger>(
         alloc: Global,
         map: &RidMap,
@@ -76,7 +76,7 @@ impl Split {
         })
     }
 
-    /// The rids that the lists at these marks have and whose row has this value in the column, ascending without repeats. Nothing is looked at.
+    /// The rids in the lists at these marks whose row has this value in the column, ascending without repeats. It makes no look.
     pub fn rows(&self, alloc: Global, marks: &[u32], v: &Value) -> Result<Rids, AllocError>
         requires { All (λ mark. mark < length self.now.map.lists) marks.now }
         ensures rids { IfOk result (λ rids. rids ≡ members_with self.now marks.now v.now) }

@@ -54,7 +54,7 @@ fn values_at(
     Ok(values)
 }
 
-/// The place of a value among the values, none where it isn't there.
+/// The place of a value among the values, None if it isn't there.
 pub(crate) fn place_of(values: &IndexSet<Value, Seeded>, v: &Value) -> Option<usize>
     ensures { result ≡ position (value_eq v.now) values.now.keys }
 {

@@ -84,7 +84,7 @@ fn told_of<R: Threads + Sync>(
     }
 }
 
-/// What steps make of rows of a table with these columns, and the names of their columns, or the refusal of steps that don't stand. It makes no look.
+/// What steps make of rows of a table with these columns, and the names of their columns, or the refusal of steps that aren't well typed. It makes no look.
 pub fn stepped<R: Threads + Sync>(
     rt: &R,
     alloc: Global,
@@ -106,7 +106,7 @@ pub fn stepped<R: Threads + Sync>(
     }
 }
 
-// The refusal of steps for a fault, which want of memory is not.
+// The refusal of steps for a fault; lack of memory isn't one.
 fn refused(fault: TypeFault) -> Result<AskReply, AllocError>
     ensures told { IfOk result (λ told. told ≡ steps_reply (Err fault) []) }
     ensures place { OnOk result (fault ≢ NoMemory) }

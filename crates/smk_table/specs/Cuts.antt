@@ -10,7 +10,7 @@ unfoldable pub state_after : State → List ℕ → State
 state_after s [] = s
 state_after s (c ∷ text) = state_after (step default_config s c).0 text
 
--- a text behind which a record may begin
+-- a text after which a record may begin
 abbrev pub IsWhole : List ℕ → Type 0
 IsWhole text = is_start (state_after st.StartRecord text) ≡ true
 

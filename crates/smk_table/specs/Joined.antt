@@ -6,11 +6,11 @@ use Rattle.smk_base.specs.{declared.rel.TheConstants.ROW_LIMIT, Rels.{Relation, 
 abbrev pub columns_of : List ℕ → Relation → Relation
 columns_of cols rel = record { kinds = map (kind_in rel.kinds) cols; rows = map (picked cols) rel.rows }
 
--- the rows of parts one behind the other, of the kinds of the first
+-- the rows of parts, one part after the other, with the kinds of the first
 abbrev pub end_to_end : List Relation → Relation
 end_to_end parts = record { kinds = (slice_index_or parts 0 (record { kinds = []; rows = [] })).kinds; rows = flat_map (λ part. part.rows) parts }
 
--- one part or more, all of the same kinds, whose rows are few
+-- one or more parts, all of the same kinds, with few rows together
 pub record AreParts (parts : List Relation) : Type 0 where
   pub some : 0 < length parts
   pub kinds : All (λ part. part.kinds ≡ (end_to_end parts).kinds) parts

@@ -1,4 +1,4 @@
--- The columns that a plan reads where some of its columns are wanted, and its steps over these alone.
+-- The columns that a plan reads if only some of its columns are wanted, and its steps over these alone.
 use Rattle.std.specs.{Prelude.{◌≡◌, ℕ, ◌+◌, Bool, true, false, ◌||◌, nat_eq, List, ◌++◌, length, map, All}, List.list_any}
 use Rattle.smk_base.specs.{Places.{has, places}, Plans.{Formula, Comparison, Conjunction, Disjunction, Negation, Unary, Selection, Projection, Distinction, Grouping, Binary, Equijoin, ThetaJoin, CrossProduct, BagUnion, SetUnion}, declared.book.plan.Operand.Operand}
 use Rattle.smk_base.specs.declared.book.plan.Operand.TheVariants as operands
@@ -16,7 +16,7 @@ in_formula c (Conjunction a b) = in_formula c a || in_formula c b
 in_formula c (Disjunction a b) = in_formula c a || in_formula c b
 in_formula c (Negation a) = in_formula c a
 
--- the same over these columns alone
+-- a comparison's right side or a formula, over these columns alone
 abbrev pub operand_among : List ℕ → Operand → Operand
 operand_among cols (operands.Col c) = operands.Col (place_of cols c)
 operand_among cols (operands.Lit v) = operands.Lit v
@@ -27,18 +27,18 @@ formula_among cols (Conjunction a b) = Conjunction (formula_among cols a) (formu
 formula_among cols (Disjunction a b) = Disjunction (formula_among cols a) (formula_among cols b)
 formula_among cols (Negation a) = Negation (formula_among cols a)
 
--- whether a step reads a column of its input where these of its own are wanted
+-- whether a step reads a column of its input if these of its own are wanted
 abbrev pub is_read : Unary → List ℕ → ℕ → Bool
 is_read (Selection formula) cols c = has cols c || in_formula c formula
 is_read (Projection items) cols c = list_any (is_of c) items
 is_read (Distinction items) cols c = list_any (is_of c) items
 is_read (Grouping keys aggs) cols c = has keys c || list_any (reads c) aggs
 
--- the columns that it reads of n
+-- the columns that it reads, of n
 abbrev pub below : Unary → List ℕ → ℕ → List ℕ
 below op cols n = places (is_read op cols) n
 
--- the step over these columns of its input alone, and where the wanted ones then are
+-- the step over these columns of its input alone, and where the wanted columns are then
 abbrev pub among1 : Unary → List ℕ → Unary
 among1 (Selection formula) cols = Selection (formula_among cols formula)
 among1 (Projection items) cols = Projection (map (item_among cols) items)
@@ -51,7 +51,7 @@ after1 (Projection items) read cols = cols
 after1 (Distinction items) read cols = cols
 after1 (Grouping keys aggs) read cols = cols
 
--- whether a step with two inputs, of which the left one has w columns, reads a column of both behind each other; a union reads all
+-- whether a step with two inputs reads a column of both, one after the other, where the left one has w columns; a union reads all
 abbrev pub is_met : Binary → ℕ → List ℕ → ℕ → Bool
 is_met (Equijoin pairs) w cols c = has cols c || list_any (is_paired w c) pairs
 is_met (ThetaJoin formula) w cols c = has cols c || in_formula c formula
@@ -66,7 +66,7 @@ below_left op cols w = places (is_met op w cols) w
 abbrev pub below_right : Binary → List ℕ → ℕ → ℕ → List ℕ
 below_right op cols w n = places (λ c. is_met op w cols (w + c)) n
 
--- the step over these columns of both inputs alone, and where the wanted ones then are
+-- the step over these columns of both inputs alone, and where the wanted columns are then
 abbrev pub among2 : Binary → ℕ → List ℕ → List ℕ → Binary
 among2 (Equijoin pairs) w cl cr = Equijoin (map (pair_among cl cr) pairs)
 among2 (ThetaJoin formula) w cl cr = ThetaJoin (formula_among (cl ++ behind w cr) formula)

@@ -25,7 +25,7 @@ pub(crate) fn is_in_aggs(aggs: &[Agg], c: u32) -> bool
     aggs.iter().any(|agg| is_read(*agg, c))
 }
 
-// Whether an output column stands on a column.
+// Whether an output column is made of a column.
 fn is_under(item: Item, c: u32) -> bool
     ensures { result ≡ is_of c item }
 {
@@ -133,7 +133,7 @@ fn is_behind(right: u32, width: u32, c: u32) -> bool
     c >= width && c - width == right
 }
 
-/// Columns of the left side, and those of the right side behind the left width.
+/// Columns of the left side, and those of the right side, moved up by the left width.
 pub(crate) fn both_columns(
     alloc: Global,
     lefts: &[u32],

@@ -5,7 +5,7 @@ use smk_base::{Rel, Rids};
 use std::alloc::{AllocError, Global};
 use std::marker::Model;
 
-/// Rows of a table that are chosen and not gathered yet: the table's columns, which it shares, and the rids of some rows or none where it has all of them. Each row was counted as a look when it was chosen. Contracts see the kinds and the list of the chosen rows.
+/// Rows of a table that are chosen and not gathered yet: the table's columns, which it shares, and the rids of some rows, or None if it has all of them. Each row was counted as a look when it was chosen. Contracts see the kinds and the list of the chosen rows.
 #[derive(Drop)]
 pub struct Chosen {
     rel: Rel,
@@ -24,7 +24,7 @@ impl Model for Chosen {
 }
 
 impl Chosen {
-    /// All rows of a Rel. It takes no memory.
+    /// All rows of a Rel.
     pub fn of_rel(rel: Rel) -> Chosen
         ensures { result ≡ rel }
     {
@@ -51,7 +51,7 @@ impl Chosen {
     }
 
     #[tactic(auto, using(crate::proofs::Choices::rows_at_long))]
-    /// The number of rows. It takes no memory.
+    /// The number of rows.
     pub fn len(&self) -> u32
         ensures count { result ≡ length self.now.rows }
         ensures few { result ≤ ROW_LIMIT }
@@ -62,7 +62,7 @@ impl Chosen {
         }
     }
 
-    /// The number of columns. It takes no memory.
+    /// The number of columns.
     pub fn width(&self) -> u32
         ensures count { result ≡ length self.now.kinds }
         ensures few { result ≤ COLUMN_LIMIT }
@@ -71,7 +71,7 @@ impl Chosen {
         self.rel.width()
     }
 
-    /// The same rows, whose table's values copies share: a column that is picked is then counted, and no value of it is copied.
+    /// These rows, with the table's values shared by copies: a column that is picked is then counted, and no value of it is copied.
     pub fn shared(self, alloc: Global) -> Result<Chosen, AllocError>
         ensures { IfOk result (λ chosen. chosen ≡ self) }
     {

@@ -19,7 +19,7 @@ pub(crate) fn reader_of(alloc: Global, text: &[u8]) -> Reader<&[u8]>
         .from_reader(alloc, text)
 }
 
-/// Reads the next record into `row`, whose room serves all of them, and says whether there is one. A slice can always be read, so an error is want of memory.
+/// Reads the next record into `row`, whose room serves all of them, and says whether there is one. A slice can always be read, so the only error is that memory ran out.
 pub(crate) fn next_record(
     reader: &mut Reader<&[u8]>,
     row: &mut ByteRecord,

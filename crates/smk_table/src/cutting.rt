@@ -34,7 +34,7 @@ fn is_marked(text: &[u8]) -> bool
     matches!(text, [0xEF, 0xBB, 0xBF, ..])
 }
 
-// How many bytes of a text, `size` and those up to the end of a line, may be read by themselves, with at least `least` bytes behind them.
+// How many bytes of a text, `size` and those up to the end of a line, may be read by themselves, with at least `least` bytes after them.
 fn next_cut(text: &[u8], size: usize, least: usize) -> Option<usize>
     requires { 0 < size }
     ensures within { IfSome result (λ n. n ≤ length text.now) }
@@ -55,7 +55,7 @@ fn next_cut(text: &[u8], size: usize, least: usize) -> Option<usize>
     }
 }
 
-/// The pieces of a text, at most `count` and each of at least `least` bytes where there are two, which may be read each by itself. Behind the last cut before a quote or a byte order mark at the front of a line there is one piece.
+/// The pieces of a text, at most `count`, and each of at least `least` bytes if there are two; each can be read by itself. After the last cut before a quote, or before a byte order mark at the start of a line, there is one piece.
 pub(crate) fn pieces<'a>(
     alloc: Global,
     text: &'a [u8],

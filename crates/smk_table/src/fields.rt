@@ -81,7 +81,7 @@ fn text_in<'a>(def: &'a Option<Value>, field: &'a [u8]) -> &'a [u8]
     }
 }
 
-/// Puts the value of a field of record number nth in declared column col last, if it has one.
+/// Appends the value of a field of record number nth in declared column col, if it has one.
 fn push_value(
     rel: &mut RelBuilder,
     decl: &ColDecl,
@@ -113,7 +113,7 @@ fn push_value(
     }
 }
 
-/// Puts the values of record number nth in the declared columns, whose fields stand at these places, last.
+/// Appends the values of record number nth in the declared columns, whose fields are at these places.
 fn push_values(
     rel: &mut RelBuilder,
     cols: &ColDecls,
@@ -138,7 +138,7 @@ fn push_values(
     Ok(())
 }
 
-/// Puts the row of record number nth, counted from 1 behind a header of this width, last.
+/// Appends the row of record number nth, counted from 1 after a header of this width.
 pub(crate) fn push_record(
     rel: &mut RelBuilder,
     cols: &ColDecls,

@@ -1,4 +1,4 @@
-// The rows of pieces of a text, put behind one another.
+// The rows of pieces of a text, put one after the other.
 ghost use Rattle.std.specs.Prelude.{◌≡◌, ◌≢◌, ◌<◌, ◌≤◌, ◌+◌, ◌∷◌, ◌++◌, ℕ, List, [], length, map, slice_index_or, All, IfOk, Ok, Err};
 ghost use Rattle.smk_base.specs.{declared.book.col_decl.ColDecl.ColDecl, declared.rel.TheConstants.{COLUMN_LIMIT, ROW_LIMIT}, declared.fault.TableFault.TheVariants.NoMemory, Rels.IsRelation};
 ghost use Rattle.smk_model.specs.Tables.{declared_kinds};
@@ -70,7 +70,7 @@ fn by_columns(alloc: Global, parts: Vec<Rel>) -> Result<(Vec<Rel>, Vec<Vec<Rel>>
     Ok((columns_of_each(alloc, parts.as_slice(), &[])?, made))
 }
 
-// These rows and behind them those of a part of the same kinds. Where there is no row yet the part's columns become the whole's.
+// These rows and after them those of a part of the same kinds. Where there is no row yet the part's columns become the whole's.
 fn followed_by_part(alloc: Global, whole: Rel, part: Rel) -> Result<Rel, AllocError>
     requires kinds { part.kinds ≡ whole.kinds }
     requires few { length whole.rows + length part.rows ≤ ROW_LIMIT }
@@ -82,7 +82,7 @@ fn followed_by_part(alloc: Global, whole: Rel, part: Rel) -> Result<Rel, AllocEr
     whole.followed_by(alloc, &part)
 }
 
-// The parts one behind the other.
+// The parts one after the other.
 fn parts_joined(alloc: Global, parts: Vec<Rel>) -> Result<Rel, AllocError>
     requires { AreParts parts.items }
     ensures { IfOk result (λ made. made ≡ end_to_end parts.items) }
@@ -94,7 +94,7 @@ fn parts_joined(alloc: Global, parts: Vec<Rel>) -> Result<Rel, AllocError>
     Ok(whole)
 }
 
-// The parts of each column one behind the other, in threads.
+// The parts of each column one after the other, in threads.
 fn columns_joined<R: Threads + Sync>(
     rt: &R,
     alloc: Global,
@@ -107,7 +107,7 @@ fn columns_joined<R: Threads + Sync>(
     map_vec(rt, columns, &|parts| parts_joined(alloc, parts))
 }
 
-// The parts one behind the other, column by column. A part's column is let go as soon as it is there.
+// The parts one after the other, column by column. A part's column is let go as soon as it is there.
 fn parts_joined_by_columns<R: Threads + Sync>(
     rt: &R,
     alloc: Global,

@@ -17,7 +17,7 @@ use smk_outside::Gate;
 use std::alloc::{AllocError, Global};
 use std::thread::{Threads, map_indices};
 
-// What a header says: at which places the declared columns stand, and how many fields it has. With it goes the seed of the hashes by which values are found.
+// What a header says: the places of the declared columns, and how many fields it has. With it goes the seed of the hashes by which values are found.
 #[derive(Drop)]
 struct Header {
     places: Vec<usize>,
@@ -71,7 +71,7 @@ fn header_of(
     header_left(alloc, seed, &mut reader, &mut row, cols)
 }
 
-// The rows of the records of a piece of a text, each with its number in the piece, behind the header where the piece has it.
+// The rows of the records of a piece of a text, each with its number in the piece, after the header where the piece has it.
 fn read_piece(
     alloc: Global,
     text: &[u8],
@@ -181,7 +181,7 @@ fn table_in_pieces<R: Threads + Sync, G: Gate + Sync>(
     }
 }
 
-/// Reads the bytes of a CSV file as `read_table` does, with the same answer. The bytes are cut into at most `workers` pieces of at least `least` bytes each, which are read in threads. The values are found by the hashes of the seed. Before the first quote each line feed ends a record, so they are cut there; what is behind stays in one piece. Where there are two pieces or more each passes the gate.
+/// Reads the bytes of a CSV file as `read_table` does, with the same answer. The bytes are cut into at most `workers` pieces of at least `least` bytes each, which are read in threads. Values are found by the hashes of the seed. Before the first quote each line feed ends a record, so cuts are made there; what comes after it stays in one piece. If there are two pieces or more, each passes the gate.
 pub fn read_table_in_pieces<R: Threads + Sync, G: Gate + Sync>(
     rt: &R,
     alloc: Global,

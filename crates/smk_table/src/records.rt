@@ -10,7 +10,7 @@ use csv::{ByteRecord, Reader};
 use smk_base::{ColDecls, Kind, ROW_LIMIT, RelBuilder, TableFault, without_mark};
 use std::alloc::{AllocError, Global};
 
-/// Reads the bytes of a CSV file as the table of the declared columns: byte order marks at the front are dropped, the first record names the columns, and each further one is a row. The answer is the first fault in order where there is one, or want of memory.
+/// Reads the bytes of a CSV file as the table of the declared columns: byte order marks at the start are dropped, the first record names the columns, and each further one is a row. An error is the first fault in order, or that memory ran out.
 pub fn read_table(alloc: Global, bytes: &[u8], cols: &ColDecls) -> Result<Table, TableFault>
     requires { AreColumns cols.now }
     ensures rows { IfOk result (λ table. table_of cols.now bytes.now ≡ Ok table.rows) }
@@ -20,7 +20,7 @@ pub fn read_table(alloc: Global, bytes: &[u8], cols: &ColDecls) -> Result<Table,
     read_seeded(alloc, 0, bytes, cols)
 }
 
-/// The same, where the values are found by the hashes of a seed.
+/// The same table; `seed` is that of the hashes by which values are found.
 pub(crate) fn read_seeded(
     alloc: Global,
     seed: u64,
@@ -61,7 +61,7 @@ fn read_records(
     Ok(Table::of_rel(rel.finish(alloc)?.shared(alloc)?))
 }
 
-/// No row of the kinds of the declared columns, whose values are found by the hashes of a seed.
+/// No rows, of the kinds of the declared columns; values are found by the hashes of a seed.
 pub(crate) fn empty_rel(alloc: Global, seed: u64, cols: &ColDecls) -> Result<RelBuilder, AllocError>
     requires { AreColumns cols.now }
     ensures { IfOk result (λ rel. rel ≡ record { kinds = declared_kinds cols.now; rows = []; begun = [] }) }
@@ -73,7 +73,7 @@ pub(crate) fn empty_rel(alloc: Global, seed: u64, cols: &ColDecls) -> Result<Rel
     RelBuilder::new(alloc, &kinds[..cols.as_slice().len()], seed)
 }
 
-/// Puts the rows of all the records that are left behind no row.
+/// Fills an empty relation with the rows of all the records that are left.
 pub(crate) fn read_rows(
     reader: &mut Reader<&[u8]>,
     row: &mut ByteRecord,

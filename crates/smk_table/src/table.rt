@@ -14,7 +14,7 @@ use std::sync::ledger::Ledger;
 #[derive(Drop)]
 pub struct Table {
     rel: Rel,
-    // How many rows are the table's: more may lie behind them once it was cut, since answers that are still held can share the columns.
+    // How many rows are the table's: more may lie after them once it was cut, since answers that are still held can share the columns.
     shown: u32,
 }
 
@@ -42,7 +42,7 @@ impl Table {
         Table { rel, shown }
     }
 
-    /// The number of rows. It takes no memory and makes no look.
+    /// The number of rows. It makes no look.
     pub fn len(&self) -> u32
         ensures count { result ≡ length self.now.rows }
         ensures keeps { IsRelation self.now }
@@ -52,7 +52,7 @@ impl Table {
         self.shown
     }
 
-    /// The number of columns. It takes no memory and makes no look.
+    /// The number of columns. It makes no look.
     pub fn width(&self) -> u32
         ensures count { result ≡ length self.now.kinds }
         ensures few { result ≤ COLUMN_LIMIT }
@@ -60,7 +60,7 @@ impl Table {
         self.rel.width()
     }
 
-    /// The kind of column c. It takes no memory and makes no look.
+    /// The kind of column c. It makes no look.
     pub fn kind(&self, c: u32) -> Kind
         requires { c < length self.now.kinds }
         ensures kind { result ≡ kind_in self.now.kinds c }
@@ -69,7 +69,7 @@ impl Table {
         self.rel.kind(c)
     }
 
-    /// Makes `into` the row at a rid, whatever it held before. It is one look, also where it wants memory, and `into` is then empty.
+    /// Makes `into` the row at a rid, whatever it held before. It is one look, even if memory runs out; `into` is then empty.
     pub fn fetch<L: Ledger>(
         &self,
         alloc: Global,
@@ -91,7 +91,7 @@ impl Table {
         filled
     }
 
-    /// The rows at these rids, in this order. It is one look for each, also where it wants memory.
+    /// The rows at these rids, in this order. Each is one look, even if memory runs out.
     pub fn gather<L: Ledger>(
         &self,
         alloc: Global,
@@ -107,7 +107,7 @@ impl Table {
         self.rel.gather(alloc, rids)
     }
 
-    /// All rows. It is one look for each, also where it wants memory.
+    /// All rows. Each is one look, even if memory runs out.
     pub fn whole<L: Ledger>(&self, alloc: Global, steps: &mut Steps<L>) -> Result<Rel, AllocError>
         ensures rows { IfOk result (λ rel. rel ≡ self.now) }
         ensures looks { steps.new ≡ steps.old + length self.now.rows }
@@ -116,7 +116,7 @@ impl Table {
         first_of(alloc, &self.rel, self.shown)
     }
 
-    /// The rows at these rids, in this order, to be gathered later. It is one look for each, at once and also where it wants memory.
+    /// The rows at these rids, in this order, to be gathered later. Each is one look, at once and even if memory runs out.
     pub fn choose<L: Ledger>(
         &self,
         alloc: Global,
@@ -133,7 +133,7 @@ impl Table {
         Chosen::at_rids(alloc, &self.rel, rids)
     }
 
-    /// All rows, to be gathered later. It is one look for each, at once and also where it wants memory.
+    /// All rows, to be gathered later. Each is one look, at once and even if memory runs out.
     pub fn choose_all<L: Ledger>(
         &self,
         alloc: Global,
@@ -146,7 +146,7 @@ impl Table {
         Ok(Chosen::of_rel(first_of(alloc, &self.rel, self.shown)?))
     }
 
-    /// The value of a column at a rid. It is one look and takes no memory.
+    /// The value of a column at a rid. It is one look.
     pub fn cell<L: Ledger>(&self, rid: u32, col: u32, steps: &mut Steps<L>) -> CellRef<'_>
         requires row { rid < length self.now.rows }
         requires column { col < length self.now.kinds }
@@ -158,7 +158,7 @@ impl Table {
         self.rel.cell(rid, col)
     }
 
-    /// Puts the rows of another table of these kinds last. It makes no look, and takes memory for the new rows alone where nobody else holds the columns. After an error the table is as before.
+    /// Appends the rows of another table of these kinds. It makes no look, and takes memory only for the new rows if nobody else holds the columns. After an error the table is as before.
     pub fn absorb(&mut self, alloc: Global, more: Table) -> Result<(), AllocError>
         requires kinds { more.kinds ≡ self.old.kinds }
         requires few { length self.old.rows + length more.rows ≤ ROW_LIMIT }
@@ -170,7 +170,7 @@ impl Table {
         self.append(alloc, &rows)
     }
 
-    // Puts rows of these kinds last. After an error the table is as before.
+    // Appends rows of these kinds. After an error the table is as before.
     fn append(&mut self, alloc: Global, rows: &Rel) -> Result<(), AllocError>
         requires kinds { rows.now.kinds ≡ self.old.kinds }
         requires few { length self.old.rows + length rows.now.rows ≤ ROW_LIMIT }
@@ -185,7 +185,7 @@ impl Table {
         Ok(())
     }
 
-    /// Keeps the first rows. It takes no memory and makes no look.
+    /// Keeps the first rows. It makes no look.
     pub fn cut(&mut self, len: u32)
         requires { len ≤ length self.old.rows }
         ensures { self.new ≡ record { kinds = self.old.kinds; rows = take len self.old.rows } }
@@ -206,7 +206,7 @@ fn first_of(alloc: Global, rel: &Rel, count: u32) -> Result<Rel, AllocError>
     rel.gather(alloc, places.as_slice())
 }
 
-/// Puts the values of a row behind those of an empty one.
+/// Appends the values of a row to those of an empty one.
 fn fill_row(alloc: Global, rel: &Rel, row: u32, into: &mut Row) -> Result<(), AllocError>
     requires place { row < length rel.now.rows }
     requires empty { into.old ≡ [] }

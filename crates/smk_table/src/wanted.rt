@@ -1,4 +1,4 @@
-//! What a step reads of its inputs where some of its columns are wanted, and the step over these columns alone.
+//! What a step reads of its inputs if some of its columns are wanted, and the step over these columns alone.
 
 ghost use Rattle.std.specs.Prelude.{◌≡◌, ◌<◌, ◌≤◌, ◌+◌, length, All, IfOk};
 ghost use Rattle.smk_base.specs.{PlanImage.{binary_of, unary_of}, Places.places, declared.rel.TheConstants.COLUMN_LIMIT};
@@ -11,17 +11,17 @@ use crate::among::{
 use smk_base::{Keys, Op1, Op2};
 use std::alloc::{AllocError, Global};
 
-/// A step with one input over the columns that it reads where some of its own are wanted.
+/// A step with one input over the columns that it reads if some of its own are wanted.
 #[derive(Drop)]
 pub struct NarrowedOne {
     pub op: Op1,
     /// The columns that it reads, ascending.
     pub read: Keys,
-    /// Where the wanted ones are among those that it makes of these.
+    /// Where the wanted columns are among those that it makes of these.
     pub after: Keys,
 }
 
-/// The same of a step with two inputs.
+/// A step with two inputs over the columns that it reads if some of its own are wanted.
 #[derive(Drop)]
 pub struct NarrowedTwo {
     pub op: Op2,
@@ -30,7 +30,7 @@ pub struct NarrowedTwo {
     pub after: Keys,
 }
 
-/// A step over what it reads of its input, which has so many columns, where these of its own are wanted.
+/// A step over what it reads of its input, which has so many columns, if these of its own are wanted.
 pub fn narrow_one(
     alloc: Global,
     op: &Op1,
@@ -55,7 +55,7 @@ pub fn narrow_one(
     })
 }
 
-/// A step over what it reads of its inputs, which have so many columns each, where these of its own are wanted.
+/// A step over what it reads of its inputs, which have so many columns each, if these of its own are wanted.
 pub fn narrow_two(
     alloc: Global,
     op: &Op2,
@@ -115,7 +115,7 @@ fn is_read(op: &Op1, cols: &[u32], c: u32) -> bool
     }
 }
 
-// The columns that it reads of those of both inputs behind each other, of which the left one has a width: of so many from one on, counted from that one.
+// The columns that it reads of those of both inputs one after the other, of which the left one has a width: of so many from one on, counted from that one.
 fn read_from(
     alloc: Global,
     op: &Op2,

@@ -1,5 +1,5 @@
 -- What callers see of a body that counts.
 
--- the body within: a cell's count is nothing that a clause can name
+-- the body within; no clause can name the count of a cell
 pub record CountedImage (B : Type 0) : Type 0 where
   pub inner : B

@@ -124,7 +124,7 @@ impl<B: OpBody> OpBody for Counted<B> {
     }
 }
 
-/// A step without lineage by the body without steps. That it wants memory is what that body promises, handed on by the one that counts.
+/// A step without lineage by the body without steps. It always runs out of memory, as that body promises; the body that counts hands this on.
 pub fn refused_step<R: Threads + Sync>(
     rt: &R,
     alloc: Global,

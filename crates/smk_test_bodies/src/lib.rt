@@ -1,4 +1,4 @@
-//! Bodies for tests of what calls a body: one that counts what it keeps, and one that wants memory at each step. And a gate at which parts meet.
+//! Bodies for tests of what calls a body: one that counts what it keeps, and one that runs out of memory at each step. And a gate at which parts meet.
 #![tactic(auto)]
 
 mod counted;

@@ -42,7 +42,7 @@ back by_region 4 to sales
 
 const MARK: &str = "refused unknown view answers\n";
 
-// What is answered behind two appends is what is answered over the joined files.
+// What is answered after two appends is what is answered over the joined files.
 #[test]
 fn two_appends_are_one_start_over_the_joined_files(rt: HostRuntime) -> Result<(), Fail> {
     let appends = "append sales \"second.csv\"\nappend sales \"third.csv\"\n";

@@ -146,7 +146,7 @@ pub(crate) fn ran<R: Threads + Sync + AllocGlobal, B: OpBody + Sync>(
     counted::<R, B, Brand>(rt, system, body, opened, view, need, Blank::new(1))
 }
 
-/// The cells of a relation, each with a space behind it, a row a line.
+/// The cells of a relation, each with a space after it, a row a line.
 pub(crate) fn rows_shown(alloc: Global, rel: &Rel) -> Result<String, Fail> {
     let mut text = String::new(alloc);
     for i in 0..rel.len() {

@@ -5,7 +5,7 @@ use Rattle.smk_model.specs.{Conversation.{line_of, talk_said}, Reports.Report, O
 use Rattle.smk_outside.specs.{Outside.{Appends, Rose}, Told.{Told, AreAll}, declared.talk.ending.Ending.Ending}
 use Rattle.smk_top.specs.{declared.status.Status.Status, declared.status.Status.TheVariants.NoMemory, Statuses.status_of_report, Endings.RunEnds, TalkEndings.{Converses, ConverseEnds, IsUnopened, turns_of, report_by}}
 
--- where no count of faults rose in a run, what the run writes of this report is appended whole and nothing is said, and the status is the report's; or memory was wanting
+-- if no count of faults rises in a run, what it writes of this report is written whole, nothing is said on `err`, and the status is the report's; or memory ran out
 abbrev pub WritesWhole : List (List ℕ) → Option Held → Report → Type 0
 WritesWhole words held report = (files files_after outs outs_after errs errs_after : ℕ) (out_before out_after err_before err_after : Option (List ℕ)) (status : Status)
     → RunEnds words held (Rose files files_after) (Rose outs outs_after) (Rose errs errs_after) out_before out_after err_before err_after status
@@ -26,7 +26,7 @@ pub record AnswersAll (words : List (List ℕ)) (held : Option Held) (given : In
   pub answered : known.Appends before.said after.said (concat (talk_said talk.call.brief given.book given.fds (turns_of talk)))
   pub ends : status ≡ status_of_report (report_by talk)
 
--- where no count of faults rose in a conversation, all its lines were answered over these inputs, and nothing is said on `err`; or memory was wanting before anything was said, or behind the first few texts of the opening
+-- if no count of faults rises in a conversation, all its lines are answered over these inputs, and nothing is said on `err`; or memory ran out before anything was said, or after the first few texts of the opening
 abbrev pub TalksWhole : List (List ℕ) → Option Held → Inputs → Type 0
 TalksWhole words held given = (files files_after talks talks_after errs errs_after looks looks_after : ℕ) (before after : Told) (err_before err_after : Option (List ℕ)) (status : Status)
     → ConverseEnds words held files files_after (Rose talks talks_after) (Rose errs errs_after) before after looks looks_after err_before err_after status

@@ -1,4 +1,4 @@
--- Counts: of two parts together, of a text that no line says, of what lines come to, and of a report.
+-- Counts: of two parts together, of a text that belongs to no line, of lines, and of a report.
 use Rattle.std.specs.Prelude.{ℕ, ◌+◌, List, length}
 use Rattle.smk_model.specs.Reports.{LinesTold, Report}
 use Rattle.smk_top.specs.declared.counts.Counts.{Counts}

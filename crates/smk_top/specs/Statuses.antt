@@ -29,7 +29,7 @@ status_of_fault (faults.Table table column fault) = BadTable
 status_of_fault (faults.Unread file) = ReadFault
 status_of_fault _ = Limit
 
--- the words, the book, a table or a file are at fault, which is met before any row is looked at
+-- the words, the book, a table or a file has a fault; such a fault is found before any look at a row
 abbrev pub IsReadingFault : Status → Type 0
 IsReadingFault Usage = ⊤
 IsReadingFault BadBook = ⊤
@@ -37,7 +37,7 @@ IsReadingFault BadTable = ⊤
 IsReadingFault ReadFault = ⊤
 IsReadingFault _ = ⊥
 
--- the same but for a file, whose status is also that of a line that can't be heard
+-- such a fault, but not of a file: its status is also that of a line that can't be heard
 abbrev pub IsStartFault : Status → Type 0
 IsStartFault ReadFault = ⊥
 IsStartFault status = IsReadingFault status

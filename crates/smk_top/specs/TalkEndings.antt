@@ -6,13 +6,13 @@ use Rattle.smk_outside.specs.{Conversing.Conversation, Outside.{IsPrefix, Rose, 
 use Rattle.smk_inputs.specs.{Image.talk_image, declared.called.TalkWords.TalkWords, declared.stop.Stop.Stop, declared.stop.Stop.TheVariants.{At, Unwritten, Exhausted}}
 use Rattle.smk_top.specs.{Endings.SaysMemory, Looking.LooksBehind, Statuses.{status_of_report, status_of_fault}, Talking.{talk_rules, SaysFew, Talked}, declared.talking.TalkEnd.TalkEnd, declared.status.Status.Status, declared.status.Status.TheVariants.{Done, DoneWithRefusals, ReadFault, WriteFault, NoMemory}}
 
--- the book that a conversation is held over, with the names of its dependencies
+-- the book of a conversation, with the names of its dependencies
 abbrev pub said_by : Inputs → BookSaid
 said_by given = record { catalog = given.book.catalog; fds = given.fds }
 
--- A conversation of these words over these files, by the counts of faults of the files before and after it, and by whether that of the object rose in it: what is said first is the text of each view, or the schema where it is asked for, and then an empty line; each line is then heard, and answered before the next one is heard.
--- Each turn is one that fits the state that the turns before it left, also behind lines that were refused or that memory was wanting for. As many lines at most are refused by reads that failed as the count of faults shows.
--- Looks are at most those of the start and those of the lines.
+-- A conversation of these words over these files. First the text of each view is said, or the schema if asked for, and then an empty line. Each line is then heard, and answered before the next one is heard.
+-- Each turn fits the state after the turns before it, also after lines that were refused or for which memory ran out. At most as many lines are refused for failed reads as the count of faults shows.
+-- There are at most the looks of the start and those of the lines.
 pub record Converses (words : List (List ℕ)) (held : Option Held) (files_before files_after : ℕ) (talk_rose : Type 0) (before after : Told) (looks_before looks_after : ℕ) (ending : Ending) : Type 0 where
   pub call : TalkCall
   pub asked : talk_call_of words ≡ Some call
@@ -30,7 +30,7 @@ turns_of talk = talk.talked.talk.turns
 abbrev pub report_by : {words : List (List ℕ)} {held : Option Held} {files_before files_after : ℕ} {talk_rose : Type 0} {before after : Told} {looks_before looks_after : ℕ} {ending : Ending} → Converses words held files_before files_after talk_rose before after looks_before looks_after ending → Report
 report_by talk = talk_report talk.given.book talk.given.fds (turns_of talk)
 
--- nothing was heard or said, and looks are at most those of a start over what was read
+-- nothing was heard or said, and there are at most the looks of a start with what was read
 abbrev pub IsTalkRead : List (List ℕ) → Option Held → Inputs → Type 0
 IsTalkRead words held given = WhereTold held (talk_source words) ⊤ (λ held. ReadsTalk words held (Ok given))
 
@@ -38,7 +38,7 @@ pub record IsSilent (words : List (List ℕ)) (held : Option Held) (before after
   pub silent : Says before after []
   pub looks : (looks_after ≡ looks_before) ⊎ ((given : Inputs) × IsTalkRead words held given × (looks_after ≤ looks_before + start_looks given.book))
 
--- a conversation starts, and the first few of the texts of its opening were said, each of them whole; no line was heard, and looks are at most those of the start
+-- a conversation starts and says the first few texts of its opening, each whole; no line was heard, and there are at most the looks of the start
 pub record IsCutShort (words : List (List ℕ)) (held : Option Held) (before after : Told) (looks_before looks_after : ℕ) : Type 0 where
   pub call : TalkCall
   pub asked : talk_call_of words ≡ Some call
@@ -47,65 +47,66 @@ pub record IsCutShort (words : List (List ℕ)) (held : Option Held) (before aft
   pub few : SaysFew (opening_texts call.brief given.book given.fds) before after
   pub looks : looks_after ≤ looks_before + start_looks given.book
 
--- what was said before the first line, where memory was wanting there: nothing, or the first few texts
+-- memory ran out before the first line: nothing was said, or the first few texts
 abbrev pub IsUnopened : List (List ℕ) → Option Held → Told → Told → ℕ → ℕ → Type 0
 IsUnopened words held before after looks_before looks_after = IsSilent words held before after looks_before looks_after ⊎ IsCutShort words held before after looks_before looks_after
 
--- the ending of a conversation, and what is said of it on `err`
+-- how a conversation may end, and what `err` says of it
 pub data TalkEnds (words : List (List ℕ)) (held : Option Held) (files_before files_after : ℕ) (talk_rose err_rose : Type 0) (before after : Told) (looks_before looks_after : ℕ) : Status → List ℕ → Type 0 where
-  -- no line comes any more
+  -- no more lines come
   ended : (talk : Converses words held files_before files_after talk_rose before after looks_before looks_after Ended) → TalkEnds words held files_before files_after talk_rose err_rose before after looks_before looks_after (status_of_report (report_by talk)) []
   -- as many lines were answered as can be counted
   outlasted : (talk : Converses words held files_before files_after talk_rose before after looks_before looks_after Outlasted) → TalkEnds words held files_before files_after talk_rose err_rose before after looks_before looks_after (status_of_report (report_by talk)) []
-  -- no line could be heard, since the object failed, and this is said
+  -- no line can be heard, since the object failed; `err` says so
   unheard : Converses words held files_before files_after talk_rose before after looks_before looks_after Unheard → TalkEnds words held files_before files_after talk_rose err_rose before after looks_before looks_after ReadFault unheard_text
-  -- a text could not be said whole, since the object failed
+  -- a text wasn't said whole, since the object failed
   unsaid : Converses words held files_before files_after talk_rose before after looks_before looks_after Unsaid → TalkEnds words held files_before files_after talk_rose err_rose before after looks_before looks_after WriteFault []
-  -- a fault before the first line is said; no look was made where it is one of what is read
+  -- a fault before the first line, which `err` says; no look was made if it is a fault of what is read
   faulted : (fault : Fault) → HasTalkCause words held (Rose files_before files_after) fault → IsSilent words held before after looks_before looks_after → LooksBehind fault looks_before looks_after
       → TalkEnds words held files_before files_after talk_rose err_rose before after looks_before looks_after (status_of_fault fault) (talk_fault_text fault)
-  -- memory was wanting before anything was said, and this is said
+  -- memory ran out before anything was said; `err` says so
   exhausted : IsSilent words held before after looks_before looks_after → TalkEnds words held files_before files_after talk_rose err_rose before after looks_before looks_after NoMemory no_memory_text
-  -- memory was wanting for the next text of the opening, and this is said likewise
+  -- memory ran out for the next text of the opening; `err` says so
   cut_short : IsCutShort words held before after looks_before looks_after → TalkEnds words held files_before files_after talk_rose err_rose before after looks_before looks_after NoMemory no_memory_text
-  -- that no line could be heard could not be said whole, since `err` failed
+  -- no line can be heard, and `err` failed while saying so
   unheard_unsaid : (part : List ℕ) → Converses words held files_before files_after talk_rose before after looks_before looks_after Unheard → IsPrefix part unheard_text → err_rose
       → TalkEnds words held files_before files_after talk_rose err_rose before after looks_before looks_after WriteFault part
-  -- a fault before the first line could not be said whole
+  -- a fault before the first line, and `err` failed while saying it
   fault_unsaid : (fault : Fault) (part : List ℕ) → HasTalkCause words held (Rose files_before files_after) fault → IsSilent words held before after looks_before looks_after → LooksBehind fault looks_before looks_after → IsPrefix part (talk_fault_text fault) → err_rose
       → TalkEnds words held files_before files_after talk_rose err_rose before after looks_before looks_after WriteFault part
-  -- that memory was wanting could not be said whole
+  -- memory ran out before anything was said, and `err` failed while saying so
   memory_unsaid : (part : List ℕ) → IsSilent words held before after looks_before looks_after → IsPrefix part no_memory_text → err_rose
       → TalkEnds words held files_before files_after talk_rose err_rose before after looks_before looks_after WriteFault part
+  -- memory ran out for the next text of the opening, and `err` failed while saying so
   cut_unsaid : (part : List ℕ) → IsCutShort words held before after looks_before looks_after → IsPrefix part no_memory_text → err_rose
       → TalkEnds words held files_before files_after talk_rose err_rose before after looks_before looks_after WriteFault part
 
--- the same, by what `err` tells before and after
+-- how a conversation may end, by what `err` tells of itself before and after it
 abbrev pub ConverseEnds : List (List ℕ) → Option Held → ℕ → ℕ → Type 0 → Type 0 → Told → Told → ℕ → ℕ → Option (List ℕ) → Option (List ℕ) → Status → Type 0
 ConverseEnds words held files_before files_after talk_rose err_rose before after looks_before looks_after err_before err_after status =
     (said : List ℕ) × Appends err_before err_after said × TalkEnds words held files_before files_after talk_rose err_rose before after looks_before looks_after status said
 
--- the steps of a conversation's start, and what they come to
+-- the steps of a conversation's start, and their results
 
--- words call for this
+-- these words ask for this
 abbrev pub is_called : List (List ℕ) → TalkWords → Type 0
 is_called words call = talk_call_of words ≡ Some (talk_image call)
 
--- what the files hold of the book of this name
+-- what is read of the book with this name, if the files tell what they hold
 abbrev pub ReadsBook : Option Held → List ℕ → Inputs → Type 0
 ReadsBook (Some held) book given = ReadsFiles held book None (Ok given)
 ReadsBook None book given = ⊤
 
--- looks are at most those of a start over what was read
+-- there are at most the looks of a start with what was read
 abbrev pub StartLooks : Option Held → List ℕ → ℕ → ℕ → Type 0
 StartLooks held book before after = (after ≡ before) ⊎ ((given : Inputs) × ReadsBook held book given × (after ≤ before + start_looks given.book))
 
--- why it doesn't start: what is read has a fault, or a view has, or a read failed
+-- why a conversation doesn't start: what is read has a fault, or a view has one, or a read failed
 abbrev pub FailsToStart : Option Held → Type 0 → List ℕ → Fault → Type 0
 FailsToStart None rose book fault = UntoldCause rose fault
 FailsToStart (Some held) rose book fault = (ReadsFiles held book None (Err fault) ⊎ ((given : Inputs) × ReadsFiles held book None (Ok given) × (started given ≡ Err fault))) ⊎ (rose × NamesAsked held book None fault)
 
--- a conversation over the book of this name
+-- a conversation over the book with this name
 pub record TalksOver (held : Option Held) (files_before files_after : ℕ) (talk_rose : Type 0) (book : List ℕ) (read_only brief : Bool) (before after : Told) (looks_before looks_after : ℕ) (end : TalkEnd) : Type 0 where
   pub given : Inputs
   pub reads : ReadsBook held book given
@@ -116,7 +117,7 @@ pub record Silent (held : Option Held) (book : List ℕ) (before after : Told) (
   pub same : after ≡ before
   pub looks : StartLooks held book looks_before looks_after
 
--- the first few texts of its opening
+-- the first few texts of its opening were said
 pub record FewOver (held : Option Held) (book : List ℕ) (brief : Bool) (before after : Told) (looks_before looks_after : ℕ) : Type 0 where
   pub given : Inputs
   pub reads : ReadsBook held book given
@@ -130,7 +131,7 @@ BeginsTalk held files_before files_after talk_rose book read_only brief before a
 BeginsTalk held files_before files_after talk_rose book read_only brief before after looks_before looks_after (Err Unwritten) = ⊥
 BeginsTalk held files_before files_after talk_rose book read_only brief before after looks_before looks_after (Err Exhausted) = Silent held book before after looks_before looks_after ⊎ FewOver held book brief before after looks_before looks_after
 
--- the same by the words
+-- a conversation by its words
 pub record TalksFor (words : List (List ℕ)) (held : Option Held) (files_before files_after : ℕ) (talk_rose : Type 0) (before after : Told) (looks_before looks_after : ℕ) (end : TalkEnd) : Type 0 where
   pub talk : Converses words held files_before files_after talk_rose before after looks_before looks_after end.ending
   pub down : end.down ≡ is_turned_down (report_by talk)
@@ -141,12 +142,12 @@ TalkWorks words held files_before files_after talk_rose before after looks_befor
 TalkWorks words held files_before files_after talk_rose before after looks_before looks_after (Err Unwritten) = ⊥
 TalkWorks words held files_before files_after talk_rose before after looks_before looks_after (Err Exhausted) = IsUnopened words held before after looks_before looks_after
 
--- a text is said, or a part of it where `err` failed
+-- `err` says a text, or only a part of it since it failed
 abbrev pub SaysReady : List ℕ → Status → Type 0 → Option (List ℕ) → Option (List ℕ) → Status → Type 0
 SaysReady text status rose before after told =
     (said : List ℕ) × Appends before after said × (((told ≡ status) × (said ≡ text)) ⊎ ((told ≡ WriteFault) × IsPrefix said text × rose))
 
--- the same for a fault of the start; or memory was wanting for its line
+-- `err` says a fault of the start; or memory ran out for its line
 abbrev pub SaysTalkFault : Fault → Type 0 → Option (List ℕ) → Option (List ℕ) → Status → Type 0
 SaysTalkFault fault rose before after status = SaysReady (talk_fault_text fault) (status_of_fault fault) rose before after status ⊎ SaysMemory rose before after status
 

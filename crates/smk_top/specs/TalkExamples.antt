@@ -21,7 +21,7 @@ talk_lines long = line_shown ∷ line_appended ∷ long ∷ line_left ∷ []
 abbrev pub view_said : List Event → List Event
 view_said more = Said (codes "view by_region 3\nrow,region,n,total\n0,north,2,40\n1,south,1,20\n2,east,1,5\n") ∷ Said (codes "\n") ∷ more
 
--- what follows on the first two lines and the answer to the first of them
+-- what comes after the first two lines and the answer to the first
 abbrev pub answers_said : List ℕ → List Event
 answers_said long =
     Said (codes "append sales 4\nview by_region 3\nrow,region,n,total\n0,north,4,80\n1,south,2,40\n2,east,2,10\n") ∷ Said (codes "\n")
@@ -29,7 +29,7 @@ answers_said long =
     ∷ Heard line_left ∷ Said (codes "line 4 not read at byte 8\n") ∷ Said (codes "\n")
     ∷ End ∷ []
 
--- each line is heard behind the answer to the one before it; and the same with the second heard before the first is answered
+-- each line is heard after the answer to the one before it; and the same events, but the second line is heard before the first is answered
 abbrev pub answered_first : List ℕ → List Event
 answered_first long = view_said (Heard line_shown ∷ view_said (Heard line_appended ∷ answers_said long))
 
@@ -43,7 +43,7 @@ told_first long = record { history = Some []; left = Some (talk_lines long); sai
 abbrev pub told_last : List Event → Told
 told_last events = record { history = Some events; left = Some []; said = Some (said_in events) }
 
--- where a line is longer than one may be, these are a conversation of README's words and files, in which nothing fails, no look is needed and nothing is said on `err`; no line is heard ahead, whatever fails and however it ends
+-- if the third line is too long, these events are a conversation of README's words and files, in which nothing fails, no look is needed and nothing is said on `err`; no line is heard ahead, whatever fails and however it ends
 pub record TalksHold : Type 0 where
   pub talks : (long : List ℕ) → line_limit < length long
       → ConverseEnds (readme_book_name ∷ []) (Some readme_files) 0 0 (Rose 0 0) (Rose 0 0) (told_first long) (told_last (answered_first long)) 0 0 (Some []) (Some []) DoneWithRefusals

@@ -59,7 +59,7 @@ fn answer_plain<R: Threads + Sync, G: Gate + Sync, L: Ledger>(
         line,
         &turn.reply,
     )?;
-    // Nothing wants memory any more.
+    // From here on nothing takes memory.
     let reply = session.take(turn);
     let refused = has_refused(&reply);
     Ok(Answered { text, refused })
@@ -253,7 +253,7 @@ fn answer_line<R: Threads + Sync, G: Gate + Sync, L: Ledger>(
     }
 }
 
-/// What a line of a script comes to: its text and its counts.
+/// The answer to a line of a script: its text and its counts.
 #[derive(Drop)]
 pub struct LineTold {
     pub text: Vec<u8>,
@@ -289,7 +289,7 @@ pub fn unread_line(alloc: Global, number: u64, at: u64) -> Result<LineTold, Allo
     Ok(LineTold { text, counts })
 }
 
-/// What the line that comes next and says this comes to, and the session in the next state. A line that appends rows takes the first of these tables. After an error the session is as it was.
+/// The answer to the next line, which says this, and the session in the next state. A line that appends rows takes the first of these tables. After an error the session is as it was.
 pub fn tell_line<R: Threads + Sync, G: Gate + Sync, L: Ledger>(
     engine: &Engine<'_, R, G>,
     stand: Stand<'_>,

@@ -26,7 +26,7 @@ const USAGE: &[u8] =
 // What is said where no line can be heard.
 const UNHEARD: &[u8] = b"smoke_live: cannot read standard input\n";
 
-// A conversation over the book of a file, by how it is called for.
+// A conversation over the book of a file, as the words ask for it.
 fn begin<R: Threads + Sync, F: Files, T: Talk, G: Gate + Sync, L: Ledger>(
     engine: &Engine<'_, R, G>,
     call: &TalkWords,
@@ -55,7 +55,7 @@ fn begin<R: Threads + Sync, F: Files, T: Talk, G: Gate + Sync, L: Ledger>(
     Ok(hold(engine, &manner, files, talk, session, steps)?)
 }
 
-// The conversation that is called for.
+// The conversation that the words ask for.
 fn talk_on<R: Threads + Sync, F: Files, T: Talk, G: Gate + Sync, L: Ledger>(
     engine: &Engine<'_, R, G>,
     call: &TalkWords,
@@ -106,7 +106,7 @@ fn talk_for<R: Threads + Sync, F: Files, T: Talk, G: Gate + Sync, L: Ledger>(
     }
 }
 
-// Says a text that stands ready, and tells the status behind it.
+// Says a text that is made already, and gives the status after it.
 fn say_ready<E: Sink>(err: &mut E, text: &[u8], status: Status) -> Status
     ensures said { SaysReady text.now status (Rose (E.faults err.old) (E.faults err.new)) (E.written err.old) (E.written err.new) result }
     ensures later { E.faults err.old ≤ E.faults err.new }
@@ -148,16 +148,15 @@ fn say_end<E: Sink>(end: TalkEnd, err: &mut E) -> Status
 }
 
 /// A conversation with Smoke. Its `words` are those after the program's name: a book's file name, or `--demo` with a number of flights; `--mode`
-/// and `--workers` as of a run; `--read-only`, by which nothing may be appended, and no line's file is read; and `--brief`, by which the schema is
-/// said first in place of the views.
+/// and `--workers` as for a run; `--read-only`: nothing may be appended, and no line's file is read; and `--brief`: the schema is said first in
+/// place of the views.
 ///
 /// It reads the book and the book's tables from `files`, evaluates the views, and says the text of each, or the schema, to `talk`, and then an empty
-/// line. Then it hears a line from there, says what a run's report has for that line, or what it comes to where it is one of the conversation's
-/// own, says an empty line, and hears the next one, up to the end of the lines. A line that appends has its file read as it is heard. No line ends
-/// the conversation: where its file has a fault, where nothing may be appended, where memory was wanting or where the line is too long, it is
-/// refused, and the session is as it was. Where there is a fault before the first line, nothing is said to `talk`, and one line is written to
-/// `err`; where memory is wanting before it, so is one, and the texts of some views may have been said, each of them whole. How it may end is
-/// `ConverseEnds`.
+/// line. Then it hears a line from there, says what a run's report has for that line, or the answer to one of the conversation's own lines, says an
+/// empty line, and hears the next one, up to the end of the lines. The file of a line that appends is read as the line is heard. No line ends the
+/// conversation: if its file has a fault, if nothing may be appended, if memory ran out or if the line is too long, it is refused, and the session
+/// is as it was. If there is a fault before the first line, nothing is said to `talk`, and one line is written to `err`. If memory runs out before
+/// it, one line is written to `err`, too, and the texts of some views may have been said, each of them whole. How it may end is `ConverseEnds`.
 pub fn converse<R: Threads + Sync, F: Files, T: Talk, E: Sink, G: Gate + Sync, L: Ledger>(
     rt: &R,
     alloc: Global,

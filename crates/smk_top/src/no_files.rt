@@ -5,7 +5,7 @@ use smk_base::FilesFault;
 use smk_outside::Files;
 use std::alloc::Global;
 
-/// Files where nothing is to be read: they hold nothing, which they tell.
+/// Files for a run that reads none: they hold nothing, and tell it.
 #[derive(Drop)]
 pub struct NoFiles;
 

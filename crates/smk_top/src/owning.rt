@@ -91,7 +91,7 @@ fn answer_own_line<R: Threads + Sync, G: Gate + Sync, L: Ledger>(
     }
 }
 
-/// What an own line comes to, and the session in the next state. After an error the session is as it was.
+/// The answer to an own line, and the session in the next state. After an error the session is as it was.
 pub fn tell_own<R: Threads + Sync, G: Gate + Sync, L: Ledger>(
     engine: &Engine<'_, R, G>,
     stand: Stand<'_>,

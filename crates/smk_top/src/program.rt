@@ -45,7 +45,7 @@ fn status_of_counts(counts: Counts) -> Status
     }
 }
 
-/// Says that memory was wanting.
+/// Says that memory ran out.
 pub fn say_no_memory<E: Sink>(err: &mut E) -> Status
     ensures said { SaysMemory (Rose (E.faults err.old) (E.faults err.new)) (E.written err.old) (E.written err.new) result }
     ensures later { E.faults err.old ≤ E.faults err.new }
@@ -91,7 +91,7 @@ fn report<R: Threads + Sync, G: Gate + Sync, O: Sink, L: Ledger>(
     write_report(engine, settings, started, out, steps)
 }
 
-// Reads what a run is called for, and writes the report, or a demo's summary. It tells the counts of the report's lines.
+// Reads what the words of a run ask for, and writes the report, or a demo's summary. It tells the counts of the report's lines.
 fn work_on<R: Threads + Sync, F: Files, O: Sink, G: Gate + Sync, L: Ledger>(
     engine: &Engine<'_, R, G>,
     call: &RunWords,
@@ -147,17 +147,17 @@ fn work<R: Threads + Sync, F: Files, O: Sink, G: Gate + Sync, L: Ledger>(
     }
 }
 
-/// A run of Smoke. Its `words` are those after the program's name: a book's file name, and a script's where there is one, or `--demo` with a
-/// number of flights; and `--mode`, which says when lineage is made, and `--workers`, which says into how many pieces the work is cut that may
-/// run at the same time, from 1 to 64. Neither changes anything of what is written. Each piece passes the gate.
+/// A run of Smoke. Its `words` are those after the program's name: a book's file name, and a script's if there is one, or `--demo` with a number
+/// of flights; `--mode`: when lineage is made; and `--workers`, from 1 to 64: how many pieces of the work may run at the same time. Neither
+/// changes what is written. Each piece passes the gate.
 ///
-/// It reads the book, the book's tables, the script and the files that its lines append from `files`, evaluates the views, and writes to `out`
-/// the text of each view and then of the reply to each line of the script; where there is a fault, it writes nothing to `out` and one line to `err`. With `--demo` no file is
-/// read: texts that it makes stand in their place, and of the report a summary is written. How it may end is `RunEnds`: what is written is the
-/// report of the words and of what the files hold, in which each view is its plan's plain meaning, each declared backward and forward answer
-/// is what the annotated meaning relates, exactly the undeclared queries are refused as undeclared, and a view that a brush is linked to is
-/// its plan's plain meaning over the rows that the brushes in force select for it. Any other ending has its cause. Only want of memory has
-/// none. `completeness` says when the report is whole.
+/// It reads the book, the book's tables, the script and the files that its lines append from `files`, evaluates the views, and writes to `out` the
+/// text of each view and then of the reply to each line of the script. If there is a fault, it writes nothing to `out` and one line to `err`. With
+/// `--demo` no file is read: it makes texts in their place, and writes a summary of the report. How it may end is `RunEnds`: what is written is the
+/// report of the words and of what the files hold. In it each view is its plan's plain meaning, each declared backward and forward answer is what
+/// the annotated meaning relates, exactly the undeclared queries are refused as undeclared, and a view that a brush is linked to is its plan's plain
+/// meaning over the rows that the brushes in force select for it. Any other ending has its cause; only running out of memory has none.
+/// `completeness` says when the report is whole.
 pub fn run<R: Threads + Sync, F: Files, O: Sink, E: Sink, G: Gate + Sync, L: Ledger>(
     rt: &R,
     alloc: Global,

@@ -1,7 +1,7 @@
 use smk_base::Names;
 use smk_session::Session;
 
-/// Where the lines of a script or of a conversation stand: the session that the next one is answered by, the names of its book's dependencies, and how many lines came before it.
+/// The state between two lines of a script or of a conversation: the session that answers the next one, the names of its book's dependencies, and how many lines came before it.
 #[derive(Drop)]
 pub struct Stand<'a> {
     pub session: Session,

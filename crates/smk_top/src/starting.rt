@@ -95,7 +95,7 @@ fn stop_of(alloc: Global, names: BookNames, fault: StartFault) -> Stop
     }
 }
 
-/// A session that begins over what was read, with the rest of that; or the first view with a node that is too big. The names that a fault says are copied before, since the book is dropped with it.
+/// A session that begins with what was read, and the rest of that; or the first view with a node that is too big. The names that a fault says are copied before, since the book is dropped with it.
 pub fn start<R: Threads + Sync, G: Gate + Sync, L: Ledger>(
     engine: &Engine<'_, R, G>,
     inputs: Inputs,

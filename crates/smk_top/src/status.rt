@@ -9,9 +9,9 @@ pub enum Status {
     DoneWithRefusals = 1,
     /// The words are not those of a run.
     Usage = 2,
-    /// The book isn't one that is read.
+    /// The book has a fault.
     BadBook = 3,
-    /// A table's content is refused.
+    /// The content of a table's file has a fault.
     BadTable = 4,
     /// A limit is passed.
     Limit = 5,
@@ -19,7 +19,7 @@ pub enum Status {
     ReadFault = 6,
     /// The report, or the line that says a fault, can't be written.
     WriteFault = 7,
-    /// Memory was wanting.
+    /// Memory ran out.
     NoMemory = 8,
 }
 

@@ -45,7 +45,7 @@ pub struct Manner<'a> {
     pub brief: bool,
 }
 
-// What is said of a line: a text that was made for it, or one that stands ready.
+// What is said of a line: a text that was made for it, or a fixed one.
 #[derive(Drop)]
 enum Words {
     Made(Vec<u8>),
@@ -71,7 +71,7 @@ struct Said {
     down: bool,
 }
 
-// A refusal that stands ready.
+// A refusal with a fixed text.
 fn refusal(text: &'static [u8]) -> Said
     ensures words { words_bytes result.words ≡ text.now }
     ensures down { result.down ≡ true }
@@ -92,7 +92,7 @@ fn appends(reading: &Reading) -> bool
     }
 }
 
-// The refusal of a line whose file has this fault: what a run says of it, behind another word.
+// The refusal of a line whose file has this fault: what a run says of it, with another first word.
 fn unbrought(alloc: Global, fault: &Fault) -> Result<Said, AllocError>
     requires { IsSaid fault.now }
     ensures words { IfOk result (λ said. words_bytes said.words ≡ unbrought_text fault.now) }
@@ -193,7 +193,7 @@ fn answer_reading<R: Threads + Sync, F: Files, G: Gate + Sync, L: Ledger>(
     }
 }
 
-// The bytes of a line as they are read, behind so many lines.
+// The bytes of a line as they are read, after so many lines.
 fn text_heard(heard: u64, bytes: &[u8]) -> &[u8]
     ensures { result.now ≡ text_read heard bytes.now }
 {
@@ -245,7 +245,7 @@ fn answer_own<R: Threads + Sync, G: Gate + Sync, L: Ledger>(
     }
 }
 
-// What is said of a line with these bytes, behind so many lines, and the session after it.
+// What is said of a line with these bytes, after so many lines, and the session after it.
 fn answer_bytes<R: Threads + Sync, F: Files, G: Gate + Sync, L: Ledger>(
     engine: &Engine<'_, R, G>,
     manner: &Manner<'_>,
@@ -275,7 +275,7 @@ fn answer_bytes<R: Threads + Sync, F: Files, G: Gate + Sync, L: Ledger>(
     }
 }
 
-// Says a text and an empty line behind it. It tells whether the conversation ends by this.
+// Says a text and an empty line after it. It tells whether the conversation ends by this.
 fn say_block<T: Talk>(talk: &mut T, text: &[u8]) -> Option<Ending>
     ensures gives { ReplyGives (Rose (T.faults talk.old) (T.faults talk.new)) (T.told talk.old) (T.told talk.new) (text.now ∷ (10 ∷ []) ∷ []) result }
     ensures later { T.faults talk.old ≤ T.faults talk.new }
@@ -298,7 +298,7 @@ struct Taken {
     down: bool,
 }
 
-// Says a refusal that stands ready, after which the session is as it was.
+// Says a refusal with a fixed text; the session is then as it was.
 fn say_ready<T: Talk>(talk: &mut T, session: Session, text: &'static [u8]) -> Taken
     ensures gives { ReplyGives (Rose (T.faults talk.old) (T.faults talk.new)) (T.told talk.old) (T.told talk.new) (text.now ∷ (10 ∷ []) ∷ []) result.ending }
     ensures session { result.session ≡ session }
@@ -370,7 +370,7 @@ fn either(a: bool, b: bool) -> bool
     if a { true } else { b }
 }
 
-/// How a conversation ended, and whether a line of it was refused or not read.
+/// How a conversation ended, and whether a line of it was refused or unread.
 #[derive(Drop)]
 pub struct TalkEnd {
     pub ending: Ending,
@@ -443,7 +443,7 @@ fn say_opening<R: Threads + Sync, T: Talk, G: Gate + Sync>(
     })
 }
 
-/// A conversation with a session that begins: it says its opening, and then hears lines and answers each before it hears the next. Behind each text it says an empty line, and in the opening one behind all its texts. Where nothing may be appended, no line reads a file. It errs only in the opening.
+/// A conversation with a session that begins: it says its opening, and then hears lines and answers each before it hears the next. After each text it says an empty line, and after the opening only one. If nothing may be appended, no line reads a file. It errs only in the opening.
 pub fn hold<R: Threads + Sync, F: Files, T: Talk, G: Gate + Sync, L: Ledger>(
     engine: &Engine<'_, R, G>,
     manner: &Manner<'_>,

@@ -14,7 +14,7 @@ typed_view tables name tree = do
   typed ← typed_plan tables tree
   Ok (view_of name typed)
 
--- a catalog of these views and links, which are all that one more link asks for
+-- a catalog of only these views and links, which is all that one more link needs
 abbrev pub over : List ViewInfo → List LinkInfo → CatalogImage
 over views links = record { tables = []; views = map view_image views; backs = []; fwds = []; links = links }
 

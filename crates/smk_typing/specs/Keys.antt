@@ -1,4 +1,4 @@
--- What makes two declarations the same, and what a book keeps of its tables.
+-- What makes two declarations the same, and the limits of a book's tables.
 use Rattle.std.specs.Prelude.{◌≤◌, ℕ, List, length, All}
 use Rattle.smk_base.specs.{declared.book.catalog.TableInfo.TableInfo, declared.book.catalog.Back.Back, declared.book.catalog.Fwd.Fwd, declared.book.catalog.BackExtra.BackExtra, declared.book.limits.TheConstants.TABLE_LIMIT, declared.rel.TheConstants.COLUMN_LIMIT}
 use Rattle.smk_base.specs.declared.book.catalog.BackExtra.TheVariants as extras

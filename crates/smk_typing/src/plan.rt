@@ -55,7 +55,7 @@ fn taken(plan: &mut Plan) -> Plan
     mem::replace(plan, Plan::Scan(0))
 }
 
-/// Puts a step over a plan, whose columns are those that it hands on. On an error the plan is lost.
+/// Puts a step over a plan; these are its output columns. On an error the plan is lost.
 fn apply(alloc: Global, op: Op1, typed: &mut Typed) -> Result<(), TypeFault>
     ensures plan { Finds result (Ok (record { plan = Apply (unary_of op) (expr_of typed.old.plan); columns = typed.old.columns })) (λ _. plan_of typed.new) }
     ensures columns { OnOk result (typed.new.columns ≡ typed.old.columns) }
@@ -80,7 +80,7 @@ fn over_two(op: Op2, inputs: (Box<Plan>, Box<Plan>)) -> Plan
     Plan::Two(op, left, right)
 }
 
-/// Puts a step over a plan and a right one; the columns are those that it hands on. On an error the plans are lost.
+/// Puts a step over a plan and a right one; these are its output columns. On an error the plans are lost.
 fn combine(alloc: Global, op: Op2, left: &mut Typed, right: &mut Typed) -> Result<(), TypeFault>
     ensures plan { Finds result (Ok (record { plan = Combine (binary_of op) (expr_of left.old.plan) (expr_of right.old.plan); columns = left.old.columns })) (λ _. plan_of left.new) }
     ensures columns { OnOk result (left.new.columns ≡ left.old.columns) }
@@ -235,7 +235,7 @@ pub fn blank(alloc: Global) -> Typed
     }
 }
 
-/// Puts a plan over the tables so far in place of what is there. Its nodes and its parentheses are few, so the recursion is shallow.
+/// Puts a plan over the tables so far in place of what is there. It has few nodes and parentheses, so the recursion is shallow.
 #[cycle(plan)]
 pub fn put_plan(
     alloc: Global,

@@ -99,7 +99,7 @@ fn with_ops(
     }
 }
 
-// Puts the steps of a chain behind each other, the one at its leaf first. It has few steps, so the recursion is shallow.
+// Puts the steps of a chain one after the other, the one at its leaf first. It has few steps, so the recursion is shallow.
 fn put_ops(plan: Plan, ops: &mut Ops) -> Result<(), TypeFault>
     requires chain { IsChain (expr_of plan) }
     requires none { ops.old ≡ [] }

@@ -17,7 +17,7 @@ pub struct Catalog {
 }
 
 impl Catalog {
-    /// The number of the view of this name, of the first one if there were several. It takes no memory.
+    /// The number of the view of this name, of the first one if there were several.
     pub fn view_place(&self, name: &Text) -> Option<usize>
         ensures place { result ≡ images.view_place (images.catalog_image self.now) name.now }
         ensures within { IfSome result (λ v. v < length self.now.views) }
@@ -31,7 +31,7 @@ impl Catalog {
         None
     }
 
-    /// The number of the table of this name, of the first one if there were several. It takes no memory.
+    /// The number of the table of this name, of the first one if there were several.
     pub fn table_place(&self, name: &Text) -> Option<usize>
         ensures place { result ≡ images.table_place (images.catalog_image self.now) name.now }
         ensures within { IfSome result (λ t. t < length self.now.tables) }

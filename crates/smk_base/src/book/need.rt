@@ -39,7 +39,7 @@ impl Need {
         }
     }
 
-    /// What is needed, table by table. It takes no memory.
+    /// What is needed, table by table.
     pub fn as_slice(&self) -> &[Needed]
         ensures needed { result.now ≡ self.now }
         ensures keeps { IsNeed self.now }

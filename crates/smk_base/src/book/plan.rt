@@ -110,7 +110,7 @@ impl Agg {
         }
     }
 
-    /// The same over another column.
+    /// This aggregate over another column.
     pub fn over(self, column: u32) -> Agg
         ensures { result ≡ moved_to column self }
     {

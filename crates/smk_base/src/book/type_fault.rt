@@ -21,7 +21,7 @@ pub enum TypeFault {
     EmptyList { at: u64 },
     /// A view that is linked to itself.
     SelfLink { at: u64 },
-    /// The same query is declared before.
+    /// This query was declared before.
     RepeatedDeclaration { at: u64 },
     /// More than 16 columns.
     RowTooWide { at: u64 },

@@ -32,7 +32,7 @@ impl Picks {
         }
     }
 
-    /// The picks. It takes no memory.
+    /// The picks.
     pub fn as_slice(&self) -> &[Pick]
         ensures picks { result.now ≡ self.now }
         ensures keeps { ArePicks self.now }

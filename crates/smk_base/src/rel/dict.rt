@@ -45,12 +45,12 @@ impl Dict {
         }
     }
 
-    /// The seed. It takes no memory.
+    /// The seed.
     pub fn seed(&self) -> u64 {
         self.seed
     }
 
-    /// How many texts there are. It takes no memory.
+    /// How many texts there are.
     pub fn len(&self) -> u32
         ensures count { result ≡ length self.now.texts }
         ensures distinct { AreTexts self.now.texts }
@@ -62,7 +62,7 @@ impl Dict {
         }
     }
 
-    /// The text with this code. It takes no memory.
+    /// The text with this code.
     pub fn text(&self, i: u32) -> &[u8]
         requires { i < length self.now.texts }
         ensures { result.now ≡ slice_index_or self.now.texts i [] }
@@ -73,14 +73,14 @@ impl Dict {
         }
     }
 
-    /// The code of a text, None exactly where it isn't there. It takes no memory.
+    /// The code of a text, None exactly where it isn't there.
     pub fn code_of(&self, text: &Text) -> Option<u32>
         ensures { result ≡ code_in self.now.texts text.now }
     {
         self.code_of_bytes(text.as_slice())
     }
 
-    /// The code of a text, None exactly where it isn't there. It takes no memory.
+    /// The code of a text, None exactly where it isn't there.
     pub fn code_of_bytes(&self, text: &[u8]) -> Option<u32>
         ensures { result ≡ code_in self.now.texts text.now }
     {
@@ -90,7 +90,7 @@ impl Dict {
         }
     }
 
-    /// The code of a text that is found without its hash, if it is. It takes no memory.
+    /// The code of a text that is found without its hash, if it is.
     #[inline(always)]
     pub(crate) fn code_without_hash(&self, text: &[u8]) -> Option<u32>
         ensures { IfSome result (λ code. code_in self.now.texts text.now ≡ Some code) }

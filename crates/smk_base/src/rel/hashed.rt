@@ -111,7 +111,7 @@ impl Hashed {
         Ok(made)
     }
 
-    /// How many texts there are. It takes no memory.
+    /// How many texts there are.
     pub fn len(&self) -> u32
         ensures count { result ≡ length self.now.texts }
         ensures distinct { AreTexts self.now.texts }
@@ -120,7 +120,7 @@ impl Hashed {
         self.texts.len() as u32
     }
 
-    /// The text with this code. It takes no memory.
+    /// The text with this code.
     pub fn text(&self, i: u32) -> &[u8]
         requires { i < length self.now.texts }
         ensures { result.now ≡ slice_index_or self.now.texts i [] }
@@ -128,7 +128,7 @@ impl Hashed {
         self.texts[i as usize].as_slice()
     }
 
-    /// The code of a text, None exactly where it isn't there. It takes no memory.
+    /// The code of a text, None exactly where it isn't there.
     pub fn code_of_bytes(&self, text: &[u8]) -> Option<u32>
         ensures { result ≡ code_in self.now.texts text.now }
     {
@@ -148,7 +148,7 @@ impl Hashed {
         }
     }
 
-    /// The code at the seat of a text, if it is the text's. It takes no memory.
+    /// The code at the seat of a text, if it is the text's.
     #[inline(always)]
     pub fn seated(&self, text: &[u8]) -> Option<u32>
         ensures { IfSome result (λ code. code_in self.now.texts text.now ≡ Some code) }
@@ -186,7 +186,7 @@ impl Hashed {
         self.put(kept)
     }
 
-    // The same, of a text as it is kept.
+    // The code of a text that was made to be kept, which goes last where it isn't there.
     fn put(&mut self, text: Kept) -> Result<u32, AllocError>
         requires { length self.old.texts < ROW_LIMIT }
         ensures code { IfOk result (λ code. code ≡ code_or_last self.old.texts text.items) }
@@ -218,7 +218,7 @@ impl Hashed {
         Ok(code)
     }
 
-    // The same, by the hash of the text: a short one is hashed once, and a long one that is known takes no memory.
+    // Adds a text by its hash: a short one is hashed once, and a long one that is known takes no memory.
     fn add_unseated(&mut self, text: &[u8]) -> Result<u32, AllocError>
         requires { length self.old.texts < ROW_LIMIT }
         ensures code { IfOk result (λ code. code ≡ code_or_last self.old.texts text.now) }
@@ -276,7 +276,7 @@ pub(crate) fn are_same(a: &[u8], b: &[u8]) -> bool
     true
 }
 
-// The same of long ones.
+// Whether two texts of more than 16 bytes are equal.
 #[inline(never)]
 fn are_same_long(a: &[u8], b: &[u8]) -> bool
     ensures { result ≡ text_eq a.now b.now }

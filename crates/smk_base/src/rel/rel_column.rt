@@ -38,7 +38,7 @@ impl Model for RelColumn {
     ghost invariant = { λ a. IsColumnOf (length (held a.hold).cells) (held a.hold) };
 }
 
-// The same values where copies may share them, or, where memory is wanting, as they were.
+// The same values where copies may share them, or, if there is no memory, as they were.
 fn share_hold(alloc: Global, hold: Hold) -> Hold
     ensures kind { (held result).kind ≡ (held hold).kind }
     ensures cells { (held result).cells ≡ (held hold).cells }
@@ -52,7 +52,7 @@ fn share_hold(alloc: Global, hold: Hold) -> Hold
     }
 }
 
-// The same values where they lie alone: a copy of them where others hold them too. Where memory is wanting they lie as they did.
+// The same values where they lie alone: a copy of them where others hold them too. If there is no memory they lie as they did.
 fn own_hold(alloc: Global, hold: Hold) -> Hold
     ensures kind { (held result).kind ≡ (held hold).kind }
     ensures cells { (held result).cells ≡ (held hold).cells }
@@ -127,7 +127,7 @@ impl RelColumn {
         }
     }
 
-    /// The kind. It takes no memory.
+    /// The kind.
     pub fn kind(&self) -> Kind
         ensures kind { result ≡ self.now.kind }
         ensures low { IsColumn result }
@@ -135,7 +135,7 @@ impl RelColumn {
         self.values().kind()
     }
 
-    /// The value of row i. It takes no memory.
+    /// The value of row i.
     pub fn cell(&self, i: u32) -> CellRef<'_>
         requires { i < length self.now.cells }
         ensures { value_of_cell result ≡ value_in self.now.cells i }
@@ -143,7 +143,7 @@ impl RelColumn {
         self.values().cell(i)
     }
 
-    /// The texts of a column of texts. It takes no memory.
+    /// The texts of a column of texts.
     pub fn texts(&self) -> &TextColumn
         requires { self.now.kind ≡ kinds.Text }
         ensures { self.now.cells ≡ map values.Text result.now.texts }
@@ -151,7 +151,7 @@ impl RelColumn {
         self.values().texts()
     }
 
-    /// The numbers of a column of ints. It takes no memory.
+    /// The numbers of a column of ints.
     pub fn ints(&self) -> Ints<'_>
         requires { self.now.kind ≢ kinds.Text }
         ensures { map values.Int (numbers_of result) ≡ self.now.cells }
@@ -233,7 +233,7 @@ impl RelColumn {
         }
     }
 
-    /// Keeps the first rows, which are all of them where others may hold the values too. It takes no memory.
+    /// Keeps the first rows, which are all of them where others may hold the values too.
     pub fn truncate(&mut self, len: u32)
         requires within { len ≤ length self.old.cells }
         requires own { len < length self.old.cells → self.old.own ≡ true }

@@ -50,7 +50,7 @@ impl TextColumn {
         }
     }
 
-    /// The number of rows. It takes no memory.
+    /// The number of rows.
     pub fn len(&self) -> u32
         ensures count { result ≡ length self.now.texts }
         ensures few { result ≤ ROW_LIMIT }
@@ -58,7 +58,7 @@ impl TextColumn {
         self.codes.len() as u32
     }
 
-    /// The text of row i. It takes no memory.
+    /// The text of row i.
     pub fn text(&self, i: u32) -> &[u8]
         requires { i < length self.now.texts }
         ensures { result.now ≡ text_in self.now.texts i }
@@ -66,7 +66,7 @@ impl TextColumn {
         self.dict.text(self.codes[i as usize])
     }
 
-    /// The code of the text of row i. It takes no memory.
+    /// The code of the text of row i.
     pub fn code(&self, i: u32) -> u32
         requires { i < length self.now.texts }
         ensures code { result ≡ code_or_last (text_firsts self.now.texts) (text_in self.now.texts i) }
@@ -76,14 +76,14 @@ impl TextColumn {
         self.codes[i as usize]
     }
 
-    /// The column's texts, each at its first occurrence. It takes no memory.
+    /// The column's texts, each at its first occurrence.
     pub fn dict(&self) -> &Dict
         ensures { result.now.texts ≡ text_firsts self.now.texts }
     {
         &self.dict
     }
 
-    /// The code of each row's text. It takes no memory.
+    /// The code of each row's text.
     pub fn codes(&self) -> &[u32]
         ensures codes { result.now ≡ map (code_or_last (text_firsts self.now.texts)) self.now.texts }
         ensures within { All (λ code. code < length (text_firsts self.now.texts)) result.now }
@@ -155,7 +155,7 @@ impl TextColumn {
         }
     }
 
-    // The same of a text that is found by its hash, or is new.
+    // Puts a text last that is found by its hash, or is new.
     #[inline(never)]
     fn push_hashed(&mut self, text: &[u8]) -> Result<(), AllocError>
         requires { length self.old.texts < ROW_LIMIT }
@@ -235,7 +235,7 @@ impl TextColumn {
         Ok(())
     }
 
-    // The same, where each text of the other's dictionary is found once.
+    // Puts the texts of these rows of another column last, where each text of its dictionary is found once.
     fn push_rows(
         &mut self,
         alloc: Global,
@@ -268,7 +268,7 @@ impl TextColumn {
         Ok(())
     }
 
-    /// Keeps the first rows. It takes no memory.
+    /// Keeps the first rows.
     pub fn truncate(&mut self, len: u32)
         ensures { self.new.texts ≡ take len self.old.texts }
     {
@@ -318,7 +318,7 @@ fn recoded_whole(alloc: Global, dict: &mut Dict, other: &Dict) -> Result<Vec<u32
     recoded
 }
 
-// The same. After an error some texts may have gone last.
+// Recodes as `recoded_whole`, but after an error some texts may have gone last.
 fn recoded_some(alloc: Global, dict: &mut Dict, other: &Dict) -> Result<Vec<u32>, AllocError>
     requires { length dict.old.texts + length other.now.texts ≤ ROW_LIMIT }
     ensures added { IfOk result (λ made. AreAdded dict.old.texts other.now.texts dict.new.texts made.items) }

@@ -58,7 +58,7 @@ impl ValueColumn {
         ValueColumn::seeded(alloc, kind, 0)
     }
 
-    /// The same, where many texts are found by the hashes of a seed.
+    /// No row of this kind, where many texts are found by the hashes of a seed.
     pub fn seeded(alloc: Global, kind: Kind, seed: u64) -> ValueColumn
         requires { IsColumn kind }
         ensures kind { result.kind ≡ kind }
@@ -73,7 +73,7 @@ impl ValueColumn {
         ValueColumn { store }
     }
 
-    /// The kind. It takes no memory.
+    /// The kind.
     pub fn kind(&self) -> Kind
         ensures kind { result ≡ self.now.kind }
         ensures low { IsColumn result }
@@ -85,7 +85,7 @@ impl ValueColumn {
         }
     }
 
-    /// The value of row i. It takes no memory.
+    /// The value of row i.
     pub fn cell(&self, i: u32) -> CellRef<'_>
         requires { i < length self.now.cells }
         ensures { value_of_cell result ≡ value_in self.now.cells i }
@@ -97,7 +97,7 @@ impl ValueColumn {
         }
     }
 
-    /// The texts of a column of texts. It takes no memory.
+    /// The texts of a column of texts.
     pub fn texts(&self) -> &TextColumn
         requires { self.now.kind ≡ kinds.Text }
         ensures { self.now.cells ≡ map values.Text result.now.texts }
@@ -108,7 +108,7 @@ impl ValueColumn {
         }
     }
 
-    /// The numbers of a column of ints. It takes no memory.
+    /// The numbers of a column of ints.
     pub fn ints(&self) -> Ints<'_>
         requires { self.now.kind ≢ kinds.Text }
         ensures { map values.Int (numbers_of result) ≡ self.now.cells }
@@ -202,7 +202,7 @@ impl ValueColumn {
         Ok(())
     }
 
-    /// Keeps the first rows. It takes no memory.
+    /// Keeps the first rows.
     pub fn truncate(&mut self, len: u32)
         requires { len ≤ length self.old.cells }
         ensures kind { self.new.kind ≡ self.old.kind }

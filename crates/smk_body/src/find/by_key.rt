@@ -104,7 +104,7 @@ fn all_classes<R: Threads + Sync, C: Crew + Sync>(
     Ok(Classes::of_parts(of, firsts))
 }
 
-// The place of the first row of each key of each part, one part behind the other.
+// The place of the first row of each key of each part, one part after the other.
 fn first_places(
     alloc: Global,
     rel: &Rel,
@@ -127,7 +127,7 @@ fn first_places(
     Ok(places)
 }
 
-// Puts numbers last, each more by another.
+// Appends numbers, each more by another.
 fn push_moved(numbers: &mut Vec<u32>, by: u32, more: &[u32]) -> Result<(), AllocError>
     requires { All (λ number. by + number < 4294967296) more.now }
     ensures { OnOk result (numbers.new.items ≡ numbers.old.items ++ map (λ number. by + number) more.now) }
@@ -138,7 +138,7 @@ fn push_moved(numbers: &mut Vec<u32>, by: u32, more: &[u32]) -> Result<(), Alloc
     Ok(())
 }
 
-// For each row of these parts the entry that a table has for its key, whose keys are numbered one part behind the other.
+// For each row of these parts the entry that a table has for its key, whose keys are numbered one part after the other.
 fn renumbered(
     alloc: Global,
     parts: &[Classes],
@@ -158,7 +158,7 @@ fn renumbered(
     Ok(of)
 }
 
-// Puts the entry last that a table has for each of these classes, numbered from one number on.
+// Appends the entry that a table has for each of these classes, numbered from one number on.
 fn push_entries(
     of: &mut Vec<u32>,
     table: &[u32],

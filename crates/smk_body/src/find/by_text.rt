@@ -15,7 +15,7 @@ use std::alloc::{AllocError, Global};
 use std::marker::Sync;
 use std::thread::Threads;
 
-/// Whether these keys are one column of texts alone. It takes no memory.
+/// Whether these keys are one column of texts alone.
 pub(crate) fn is_text_key(rel: &Rel, keys: &[u32]) -> bool
     requires { All (λ c. c < length rel.now.kinds) keys.now }
     ensures { result ≡ is_text_key_of rel.now.kinds keys.now }

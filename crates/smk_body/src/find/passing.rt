@@ -10,7 +10,7 @@ use smk_base::{CellRef, CmpOp, Dict, Ints, Operand, Pred, Rel};
 use std::alloc::{AllocError, Global};
 use std::cmp::Ordering;
 
-/// The places of the rows that meet a predicate, from one place up to another: behind those below the first they are those below the second.
+/// The places of the rows that meet a predicate, from one place up to another: after those below the first, they complete those below the second.
 pub fn selected_places(
     alloc: Global,
     rel: &Rel,
@@ -56,7 +56,7 @@ fn keep_meeting(
     }
 }
 
-/// Keeps the places whose rows, behind a left row, meet a predicate: a comparison of columns of both sides is one with the left value.
+/// Keeps the places whose rows, after a left row, meet a predicate: a comparison of columns of both sides is one with the left value.
 pub(crate) fn keep_beside(
     alloc: Global,
     left: &Rel,
@@ -87,7 +87,7 @@ pub(crate) fn keep_beside(
     }
 }
 
-// The same of two columns that are compared.
+// Keeps the places where two columns, one of each side, compare so.
 fn keep_across(
     alloc: Global,
     left: &Rel,
@@ -125,7 +125,7 @@ fn keep_across(
     Ok(())
 }
 
-// The same of a column that is compared with a value, so that the comparison is read once. Texts are compared once each, where the column has no more of them than there are places.
+// Keeps the places where a column compares so with a value; the comparison is read once. Each text is compared once, if the column has no more texts than there are places.
 fn keep_standing(
     alloc: Global,
     rel: &Rel,
@@ -161,7 +161,7 @@ fn keep_standing(
     Ok(())
 }
 
-// Keeps the places of the small ints that stand so to an int.
+// Keeps the places of the small ints that compare so with an int.
 fn keep_ints(items: &[i64], op: CmpOp, n: i128, places: &mut Vec<u32>)
     requires { All (λ i. i < length items.now) places.old.items }
     ensures { places.new.items ≡ filter (λ i. holds op (int_cmp (slice_index_or items.now i (pos 0)) n)) places.old.items }
@@ -175,7 +175,7 @@ fn keep_ints(items: &[i64], op: CmpOp, n: i128, places: &mut Vec<u32>)
     );
 }
 
-// Keeps the places of the codes of texts that are told to stand so.
+// Keeps the places of the codes of texts that are marked.
 fn keep_codes(codes: &[u32], standing: &[bool], places: &mut Vec<u32>)
     requires codes { All (λ code. code < length standing.now) codes.now }
     requires places { All (λ i. i < length codes.now) places.old.items }
@@ -187,7 +187,7 @@ fn keep_codes(codes: &[u32], standing: &[bool], places: &mut Vec<u32>)
     );
 }
 
-// Whether each text of a column stands so to a value.
+// Whether each text of a column compares so with a value.
 fn texts_standing(
     alloc: Global,
     dict: &Dict,
@@ -203,7 +203,7 @@ fn texts_standing(
     Ok(standing)
 }
 
-// Keeps the places that a test lets through. Each is written to the front, where the next one overwrites it unless it is let through, so that no branch hangs on the test.
+// Keeps the places that pass a test. Each is written at the end of those kept, and the next one overwrites it unless it passes, so that no branch depends on the test.
 fn keep_where<F: Fn(u32) -> bool>(places: &mut Vec<u32>, test: &F)
     requires { All (F.pre test.now) places.old.items }
     ensures { (f : ℕ → Bool) → All (λ i. (told : Bool) → F.post test.now i told → told ≡ f i) places.old.items → places.new.items ≡ filter f places.old.items }

@@ -30,7 +30,7 @@ const NONE: Dir = Dir {
 };
 
 impl Want {
-    /// Nothing. It takes no memory.
+    /// Nothing.
     pub fn none() -> Want
         ensures { result ≡ record { left = record { back = false; fwd = false }; right = record { back = false; fwd = false } } }
     {
@@ -40,7 +40,7 @@ impl Want {
         }
     }
 
-    /// This of the left side, and nothing of the right one. It takes no memory.
+    /// This of the left side, nothing of the right one.
     pub fn of_left(left: Dir) -> Want
         ensures { result ≡ record { left = left; right = record { back = false; fwd = false } } }
     {
@@ -49,14 +49,14 @@ impl Want {
 }
 
 impl Local {
-    /// The lineage of a step whose only side this is. It takes no memory.
+    /// The lineage of a step whose only side this is.
     pub fn of_one(left: Side) -> Local
         ensures { result ≡ record { left = left; right = None } }
     {
         Local { left, right: None }
     }
 
-    /// The lineage of a step with these sides. It takes no memory.
+    /// The lineage of a step with these sides.
     pub fn of_both(left: Side, right: Side) -> Local
         ensures { result ≡ record { left = left; right = Some right } }
     {

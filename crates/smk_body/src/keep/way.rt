@@ -59,7 +59,7 @@ impl Way {
         }
     }
 
-    /// Each input row reaches one of so many output rows. The same of the backward lists.
+    /// Each input row reaches one of so many output rows. The backward lists may be given with it.
     pub fn targets(of: Vec<u32>, outputs: u32, back: Option<RidMap>) -> Way
         requires below { AreBelow outputs of.items }
         requires turned { AreTurned outputs of.items back }
@@ -81,7 +81,7 @@ impl Way {
         }
     }
 
-    /// The wanted lists of the side. Those of one row each lie in the memory of the sources or of the targets.
+    /// The wanted lists of the side. Lists of one row each use the memory of the sources or of the targets.
     pub fn into_side(self, alloc: Global, want: Dir) -> Result<Side, AllocError>
         ensures { IfOk result (λ side. side ≡ side_of want (back_of self) (fwd_of self)) }
     {

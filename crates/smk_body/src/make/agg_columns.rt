@@ -28,7 +28,7 @@ pub fn group_rows(
     sized_group_rows(alloc, rel, classes, None, keys, aggs)
 }
 
-/// The same, with the sizes of the classes where they are known.
+/// These rows, with the sizes of the classes if they are known.
 pub(crate) fn sized_group_rows(
     alloc: Global,
     rel: &Rel,

@@ -130,7 +130,7 @@ fn beats(n: i64, other: i64, greatest: bool) -> bool
     if greatest { other < n } else { n < other }
 }
 
-// The same of any column, cell by cell.
+// These places for any column, cell by cell.
 fn best_cells(
     alloc: Global,
     rel: &Rel,

@@ -58,7 +58,7 @@ fn gathered_columns<R: Threads + Sync, C: Crew + Sync>(
     left.beside(right)
 }
 
-// The same of a part of the columns: in one thread, or, of one column of texts, by the whole crew.
+// One part of the columns: in one thread, or a single column of texts by the whole crew.
 fn part_at<R: Threads + Sync, C: Crew + Sync>(
     work: &Work<'_, R, C>,
     rel: &Rel,
@@ -75,7 +75,7 @@ fn part_at<R: Threads + Sync, C: Crew + Sync>(
     }
 }
 
-// The same of any columns, by so many workers. The places are halved as long as there are workers for both halves, and many places.
+// Any columns, by so many workers. The places are halved as long as there are workers for both halves, and many places.
 #[cycle(rows)]
 fn rows_in_halves<R: Threads + Sync, C: Crew + Sync>(
     work: &Work<'_, R, C>,
@@ -106,7 +106,7 @@ fn rows_in_halves<R: Threads + Sync, C: Crew + Sync>(
     left.followed_by(work.alloc, &right)
 }
 
-/// Both values, or want of memory where one of the two wanted it.
+/// Both values, or the error if either has one.
 pub(crate) fn both_of<A: Drop, B: Drop>(
     first: Result<A, AllocError>,
     second: Result<B, AllocError>,

@@ -40,7 +40,7 @@ pub(crate) fn grouped_and_turned<R: Threads + Sync, C: Crew + Sync>(
     grouped_beside(work, rel, groups, keys, aggs, asked)
 }
 
-// The same in this thread alone.
+// The rows and the places in this thread alone.
 fn grouped_alone(
     alloc: Global,
     rel: &Rel,
@@ -65,7 +65,7 @@ fn grouped_alone(
     Ok((rows, lists))
 }
 
-// The same, where the lists are wanted: the sizes of the groups are counted once, for the rows and for the lists.
+// The rows with the places: the sizes of the groups are counted once, for both.
 fn sized_and_turned(
     alloc: Global,
     rel: &Rel,
@@ -171,7 +171,7 @@ fn agg_columns<R: Threads + Sync, C: Crew + Sync>(
     left.beside(right)
 }
 
-// The same of one aggregate or none.
+// The aggregates where there is one or none.
 fn few_columns(alloc: Global, rel: &Rel, groups: &Classes, aggs: &[Agg]) -> Result<Rel, AllocError>
     requires aggs { AreAggsOf rel.now groups.now aggs.now }
     requires few { length aggs.now < 2 }

@@ -72,7 +72,7 @@ pub(crate) fn union_rows(
     put_behind(alloc, lefts, &rights)
 }
 
-// How many places at the front are below a bound.
+// How many of the first places are below a bound.
 fn count_below(places: &[u32], bound: u32) -> usize
     ensures within { result ≤ length places.now }
     ensures below { All (λ i. i < bound) (take result places.now) }

@@ -2,7 +2,7 @@
 
 ghost use Rattle.smk_model.specs.ClassLaws.{Bulk, ClassesAre};
 
-/// The class of a key is the place of its key among the first occurrences, and a class's first place is where its key first stands.
+/// The class of a key is the place of its key among the first occurrences, and a class's first place is where its key first comes.
 #[tactic(auto, using(crate::proofs::Classes::classes_are))]
 pub fn classes_are()
     ensures { ClassesAre }

@@ -8,7 +8,7 @@ pub fn inverses()
     ensures { Inverses }
 {}
 
-/// The rows of a selection, of a projection and of a join each come from one place on a side, and those of a projection, a distinction, a grouping and a union each reach one place: the lists are these places, one by one, and in the other direction the same inverted.
+/// The rows of a selection, of a projection and of a join each come from one place on a side, and those of a projection, a distinction, a grouping and a union each reach one place: the lists are these places, one by one, and in the other direction these lists inverted.
 #[tactic(auto, using(crate::proofs::OneEach::one_each))]
 pub fn one_each()
     ensures { OneEach }

@@ -8,7 +8,7 @@ pub fn first_of_all()
     ensures { FirstOfAll }
 {}
 
-/// Where no table is asked for, the first fault of a plan's nodes is the first node with too many rows.
+/// If no table is needed, the first fault of a plan's nodes is the first node with too many rows.
 #[tactic(auto, using(crate::proofs::NodeFaults::nothing_is_asked))]
 pub fn nothing_asked()
     ensures { NothingAsked }

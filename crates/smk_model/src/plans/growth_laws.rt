@@ -8,13 +8,13 @@ pub fn groups_regroup()
     ensures { GroupsRegroup }
 {}
 
-/// What a chain of selections and projections over a scan gives of a grown table is what it gives of the old rows and, behind it, of the new ones.
+/// What a chain of selections and projections over a scan gives for a grown table is what it gives for the old rows followed by what it gives for the new ones.
 #[tactic(auto, using(crate::proofs::Grows::chain_grows))]
 pub fn chain_grows()
     ensures { ChainGrows }
 {}
 
-/// What a grouping over such a chain gives of a grown table is what the regrouping gives of the groups of the old rows and, behind them, of the new ones.
+/// What a grouping over such a chain gives for a grown table is what the regrouping gives for the groups of the old rows followed by those of the new ones.
 #[tactic(auto, using(crate::proofs::Grows::group_grows))]
 pub fn group_grows()
     ensures { GroupGrows }
@@ -26,7 +26,7 @@ pub fn growing_is_thin()
     ensures { GrowingIsThin }
 {}
 
-/// No node of a growing chain has too many rows or pairs where its table has not too many rows.
+/// No node of a growing chain has too many rows or pairs if its table hasn't too many rows.
 #[tactic(auto, using(crate::proofs::NeverFull::growing_never_full))]
 pub fn growing_never_full()
     ensures { GrowingNeverFull }

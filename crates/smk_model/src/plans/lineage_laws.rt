@@ -17,12 +17,12 @@ pub fn step_by_step()
     ensures { StepByStep }
 {}
 
-/// `bin` of v and w, for a w of at least 1, is the greatest whole number that w times stays within v.
+/// `bin` of v and w, for a w of at least 1, is the greatest whole number that times w is at most v.
 pub fn bin_is_floor()
     ensures { BinIsFloor }
 {}
 
-/// The places that an output row of a step comes from meet Cui and Widom's conditions, for every step: their rows give exactly that row, each of them alone gives something, and no other places that hold them do so.
+/// The places that an output row of a step comes from satisfy Cui and Widom's conditions, for every step: their rows give exactly that row, each of them alone gives something, and no other places that hold them do so.
 pub fn cui_widom()
     ensures { CuiWidom }
 {}

@@ -2,7 +2,7 @@
 
 ghost use Rattle.smk_model.specs.{LocalLaws.{AddsNoRows, Cut, LocalsAre}, Ways.LineageOfWays};
 
-/// The lists of each step, in the form in which a loop makes them: one place a row that passes, the places of each key, the places that the nested loop of a join matches.
+/// The lists of each step, in the form in which a loop makes them: one place for each row that passes, the places of each key, the pairs of a join's nested loop.
 pub fn locals_are()
     ensures { LocalsAre }
 {}
@@ -13,7 +13,7 @@ pub fn lineage_of_ways()
     ensures { LineageOfWays }
 {}
 
-/// What a selection, a join and a grouping give of a list, they give of its consecutive parts, put after each other.
+/// What a selection, a join and a grouping give for a list, they give for its consecutive parts, one after the other.
 pub fn cut()
     ensures { Cut }
 {}

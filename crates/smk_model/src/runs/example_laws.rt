@@ -14,7 +14,7 @@ pub fn readme_holds()
     ensures { ReadmeHolds }
 {}
 
-/// What words call a run and a conversation for: a book, a demo, a mode that isn't known, a book to which nothing may be appended.
+/// What the words of a run and of a conversation ask for: a book, a demo, an unknown mode, a book to which nothing may be appended.
 #[tactic(auto, using(crate::proofs::WorkedExamples::words))]
 pub fn words_hold()
     ensures { WordsHold }
@@ -26,7 +26,7 @@ pub fn tables_hold()
     ensures { TablesHold }
 {}
 
-/// The tokens of texts in quotes: closed, open, and open behind a pair of quotes.
+/// The tokens of texts in quotes: closed, open, and open after a pair of quotes.
 #[tactic(auto, using(crate::proofs::WorkedExamples::strings_hold))]
 pub fn strings_hold()
     ensures { StringsHold }

@@ -17,13 +17,13 @@ pub fn one_any_line()
     ensures { (a : List Token) → (l : AnyLineImage) → (u : AnyLineImage) → IsWholeAnyLine a l → IsWholeAnyLine a u → l ≡ u }
 {}
 
-/// A text's first fault is `Unexpected` at a token exactly if what stands before the token has no fault and begins a text of the grammar, and what ends there with a token of its kind begins none: for books, for lines without steps and for lines of any kind.
+/// A text's first fault is `Unexpected` at a token exactly if what comes before the token has no fault and begins a text of the grammar, and what ends there with a token of its kind begins none: for books, for lines without steps and for lines of any kind.
 #[tactic(auto, using(crate::proofs::OutOfGrammar::unexpected_leaves))]
 pub fn unexpected_leaves()
     ensures { UnexpectedLeaves }
 {}
 
-/// No text of the grammar has a wrong token: a book and a line of any kind have no fault but where they pass a limit, and a line without steps has none.
+/// No text of the grammar has a wrong token: a book and a line of any kind have a fault only if they pass a limit, and a line without steps has none.
 #[tactic(auto, using(crate::proofs::TextsRead::texts_are_read))]
 pub fn texts_are_read()
     ensures { TextsAreRead }

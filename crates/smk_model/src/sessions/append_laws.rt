@@ -2,7 +2,7 @@
 
 ghost use Rattle.smk_model.specs.AppendLaws.{AppendsFit, RefusedAppendsStay, AppendsBeginAnew};
 
-/// Every answer to an `append` line is one over the catalog: its text can be written.
+/// Every answer to an `append` line names only views and tables of the catalog, so its text can be written.
 #[tactic(auto, using(crate::proofs::Appends::appends_fit))]
 pub fn appends_fit()
     ensures { AppendsFit }
@@ -14,7 +14,7 @@ pub fn refused_appends_stay()
     ensures { RefusedAppendsStay }
 {}
 
-/// Behind appended rows a session stands as one that begins with the longer table.
+/// After appended rows a session is one that begins with the longer table.
 #[tactic(auto, using(crate::proofs::Appends::appends_begin_anew))]
 pub fn appends_begin_anew()
     ensures { AppendsBeginAnew }

@@ -17,7 +17,7 @@ pub fn asked_backs_fit()
     ensures { AskedBacksFit }
 {}
 
-/// Over a checked book every answer to an `ask` line is one to its line: its text can be written.
+/// Over a checked book every answer to an `ask` line fits its line: its text can be written.
 pub fn asks_fit()
     ensures { AsksFit }
 {}

@@ -8,7 +8,7 @@ pub fn talks_as_reported()
     ensures { TalksAsReported }
 {}
 
-/// Words and files have one start of a conversation, and it is over the workbook of a run over the same book.
+/// Words and files have one start of a conversation, and its workbook is that of a run over the same book.
 #[tactic(auto, using(crate::proofs::TalkStarts::one_talk_start))]
 pub fn one_talk_start()
     ensures { OneTalkStart }

@@ -13,7 +13,7 @@ pub fn dependencies_answered()
     ensures { DependenciesAnswered }
 {}
 
-/// Every answer to an `fd` line is one over the catalog: its text can be written.
+/// Every answer to an `fd` line names a table of the catalog, so its text can be written.
 #[tactic(auto, using(crate::proofs::ProfilesFit::profiles_fit))]
 pub fn profiles_fit()
     ensures { ProfilesFit }

@@ -8,13 +8,13 @@ pub fn own_lines_are_read()
     ensures { OwnLinesAreRead }
 {}
 
-/// An own line leaves the session, or leaves it where the line does by itself, and is refused where that is.
+/// An own line doesn't change the session, or changes it as the line by itself does, and is refused exactly if that line is.
 #[tactic(auto, using(crate::proofs::OwnLines::own_lines_stay))]
 pub fn own_lines_stay()
     ensures { OwnLinesStay }
 {}
 
-/// Where no brush concerns its view on its table, a line over the rows that are selected now is that line by itself.
+/// If no brush concerns its view on its table, a line over the rows that are selected now is that line by itself.
 #[tactic(auto, using(crate::proofs::OwnLines::now_is_plain))]
 pub fn now_is_plain()
     ensures { NowIsPlain }
@@ -26,7 +26,7 @@ pub fn all_are_selected()
     ensures { AllAreSelected }
 {}
 
-/// A part that leaves out no row is all of an answer, and all of it is what the line comes to by itself.
+/// A part that leaves out no row is the whole answer, and the whole answer is that to the line by itself.
 #[tactic(auto, using(crate::proofs::OwnLines::whole_part_is_plain))]
 pub fn whole_part_is_plain()
     ensures { WholePartIsPlain }

@@ -17,7 +17,7 @@ pub fn marks_stay()
     ensures { MarksStay }
 {}
 
-/// Over a checked book every reply is one to its line: its text can be written.
+/// Over a checked book every reply fits its line: its text can be written.
 pub fn replies_fit()
     ensures { RepliesFit }
 {}

@@ -25,7 +25,7 @@ impl Model for MemFiles {
 
 impl MemFiles {
     /// Files with these names and bytes, of which the first of a name counts. Calls of `read` are numbered from 0,
-    /// and those with a number of `fails` fail, unless the name isn't there. It takes no memory.
+    /// and those with a number of `fails` fail, unless the name isn't there.
     pub fn new(files: Vec<(Text, Text)>, fails: Vec<u32>) -> MemFiles
         ensures files { result.files ≡ files.items }
         ensures fails { result.fails ≡ fails.items }

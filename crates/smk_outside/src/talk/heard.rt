@@ -14,6 +14,6 @@ pub enum Heard {
 pub enum TalkFault {
     /// The object failed.
     Failed,
-    /// A line came, and memory was wanting for it. It was taken and let go.
+    /// A line came, but there was no memory for it. It was taken and dropped.
     NoMemory,
 }

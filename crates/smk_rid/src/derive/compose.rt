@@ -136,7 +136,7 @@ fn joined_all(alloc: Global, map: &RidMap) -> Result<Vec<u32>, AllocError>
     }
 }
 
-// Puts the rids of the lists at these places last, as one list, unless there are too many pairs then. The memory of `rids` is used again for each list that is made of several.
+// Appends the rids of the lists at these places, as one list, unless there are too many pairs then. The memory of `rids` is used again for each list that is made of several.
 fn put_members(
     alloc: Global,
     made: &mut Packed,

@@ -8,7 +8,7 @@ use crate::map::{PAIR_LIMIT, RidMap};
 use std::alloc::{AllocError, Global};
 
 impl RidMap {
-    /// These lists, and behind them those of the other, whose rids are moved behind this bound.
+    /// These lists, followed by those of the other, whose rids are moved up by this bound.
     pub fn followed_by(&self, alloc: Global, other: &RidMap) -> Result<RidMap, AllocError>
         requires lists { length self.now.lists + length other.now.lists < 4294967296 }
         requires bound { self.now.bound + other.now.bound < 4294967296 }
@@ -31,7 +31,7 @@ impl RidMap {
     }
 }
 
-// The lists of an array, and behind them those of another with their rids moved.
+// The lists of an array, and after them those of another with their rids moved.
 fn followed_arrays(
     alloc: Global,
     first: &RidArray,
@@ -58,7 +58,7 @@ fn moved(number: u32, by: u32) -> u32
     if number == NONE { NONE } else { by + number }
 }
 
-// The lists of a map, and behind them those of another with their rids moved, packed.
+// The lists of a map, and after them those of another with their rids moved, packed.
 fn followed_lists(
     alloc: Global,
     first: &RidMap,
@@ -77,7 +77,7 @@ fn followed_lists(
     Ok(made)
 }
 
-// Puts the lists of a map last.
+// Appends the lists of a map.
 fn put_lists_of(made: &mut Packed, map: &RidMap) -> Result<(), AllocError>
     requires few { pairs_of made.old + pairs_of map.now.lists ≤ PAIR_LIMIT }
     ensures { OnOk result (made.new ≡ made.old ++ map.now.lists) }
@@ -88,7 +88,7 @@ fn put_lists_of(made: &mut Packed, map: &RidMap) -> Result<(), AllocError>
     Ok(())
 }
 
-// Puts the lists of a map last, their rids moved.
+// Appends the lists of a map, their rids moved.
 fn put_moved_lists(made: &mut Packed, of: &RidMap, by: u32) -> Result<(), AllocError>
     requires bound { by + of.now.bound < 4294967296 }
     requires few { pairs_of made.old + pairs_of of.now.lists ≤ PAIR_LIMIT }

@@ -110,7 +110,7 @@ fn kept_of(alloc: Global, ones: &[u32], others: &[u32]) -> Result<Rids, AllocErr
     }
 }
 
-/// The rids that both ascending lists have: those of the shorter that the longer has, since many of the longer are passed at a time.
+/// The rids that both ascending lists have: those of the shorter that are in the longer, of which many are skipped at a time.
 pub fn intersection(alloc: Global, ones: &[u32], others: &[u32]) -> Result<Rids, AllocError>
     requires ones { IsAscending ones.now }
     requires others { IsAscending others.now }

@@ -39,7 +39,7 @@ impl RidGrow {
         }
     }
 
-    /// Puts an empty list last.
+    /// Appends an empty list.
     pub fn more(&mut self) -> Result<(), AllocError>
         requires { length self.old.lists < 4294967295 }
         ensures put { OnOk result (self.new ≡ with_list self.old []) }
@@ -50,7 +50,7 @@ impl RidGrow {
         Ok(())
     }
 
-    /// Puts a rid last in a list.
+    /// Appends a rid to a list.
     pub fn add(&mut self, i: u32, rid: u32) -> Result<(), AllocError>
         requires place { i < length self.old.lists }
         requires below { rid < self.old.bound }

@@ -58,7 +58,7 @@ impl RidArray {
         }
     }
 
-    /// The same lists, in fewer bytes each where rids below this bound allow it and the numbers below it take less than that saves.
+    /// These lists, in fewer bytes each if rids below this bound allow it and the numbers below the bound take less than that saves.
     pub fn narrowed(self, alloc: Global, bound: u32) -> Result<RidArray, AllocError>
         requires { All (All (λ rid. rid < bound)) self }
         ensures { IfOk result (λ made. made ≡ self) }
@@ -134,7 +134,7 @@ impl RidArray {
         }
     }
 
-    /// Puts the numbers that stand for the lists last.
+    /// Appends the numbers that stand for the lists.
     pub fn put_numbers(&self, numbers: &mut Vec<u32>) -> Result<(), AllocError>
         ensures numbers { OnOk result (map one_of numbers.new.items ≡ map one_of numbers.old.items ++ self.now) }
         ensures room { vec_capacity numbers.old ≤ vec_capacity numbers.new }
@@ -150,7 +150,7 @@ impl RidArray {
         }
     }
 
-    /// Puts the rids of the lists at these places last. There is room for them.
+    /// Appends the rids of the lists at these places. There is room for them.
     pub fn put_at(&self, rids: &mut Vec<u32>, places: &[u32])
         requires within { All (λ p. p < length self.now) places.now }
         requires room { vec_len rids.old + length places.now ≤ vec_capacity rids.old }
@@ -164,7 +164,7 @@ impl RidArray {
         }
     }
 
-    /// Puts the rids of the lists at these places into an empty Vec, but none that stands last there already. It tells whether they rise.
+    /// Puts the rids of the lists at these places into an empty Vec, but none that equals the last one there. It tells whether they rise.
     pub fn put_rising(&self, rids: &mut Vec<u32>, places: &[u32]) -> bool
         requires none { rids.old.items ≡ [] }
         requires within { All (λ p. p < length self.now) places.now }
@@ -180,7 +180,7 @@ impl RidArray {
         }
     }
 
-    /// Puts those of these places last whose lists aren't empty. There is room for them.
+    /// Appends those of these places whose lists aren't empty. There is room for them.
     pub fn keep_at(&self, kept: &mut Vec<u32>, places: &[u32])
         requires within { All (λ p. p < length self.now) places.now }
         requires room { vec_len kept.old + length places.now ≤ vec_capacity kept.old }
@@ -242,7 +242,7 @@ fn part_at(rids: &[u32], i: usize) -> &[u32]
     &rids[i..end]
 }
 
-// Puts NONE last so many times.
+// Appends NONE so many times.
 fn put_none(len: usize, numbers: &mut Vec<u32>) -> Result<(), AllocError>
     ensures numbers { OnOk result (map one_of numbers.new.items ≡ map one_of numbers.old.items ++ replicate len []) }
     ensures room { vec_capacity numbers.old ≤ vec_capacity numbers.new }

@@ -80,7 +80,7 @@ impl Code for u32 {
     }
 }
 
-/// Puts the numbers of codes last.
+/// Appends the numbers of codes.
 pub fn put_numbers<C: Code>(codes: &[C], numbers: &mut Vec<u32>) -> Result<(), AllocError>
     ensures numbers { OnOk result (numbers.new.items ≡ numbers.old.items ++ map C.number_of codes.now) }
     ensures room { vec_capacity numbers.old ≤ vec_capacity numbers.new }
@@ -115,7 +115,7 @@ pub fn count_before<C: Code>(codes: &[C], i: usize) -> u32
     count
 }
 
-/// Puts the rids of the codes at these places last. There is room for them.
+/// Appends the rids of the codes at these places. There is room for them.
 pub fn put_at<C: Code>(codes: &[C], rids: &mut Vec<u32>, places: &[u32])
     requires within { All (λ p. p < length codes.now) places.now }
     requires room { vec_len rids.old + length places.now ≤ vec_capacity rids.old }
@@ -129,7 +129,7 @@ pub fn put_at<C: Code>(codes: &[C], rids: &mut Vec<u32>, places: &[u32])
     }
 }
 
-/// Puts the rids of the codes at these places into an empty Vec, but none that stands last there already. It tells whether they rise.
+/// Puts the rids of the codes at these places into an empty Vec, but none that equals the last one there. It tells whether they rise.
 pub fn put_rising<C: Code>(codes: &[C], rids: &mut Vec<u32>, places: &[u32]) -> bool
     requires none { rids.old.items ≡ [] }
     requires within { All (λ p. p < length codes.now) places.now }
@@ -163,7 +163,7 @@ pub fn are_own<C: Code>(codes: &[C]) -> bool
     own
 }
 
-/// Puts those of these places last whose codes stand for a rid. There is room for them.
+/// Appends those of these places whose codes stand for a rid. There is room for them.
 pub fn keep_at<C: Code>(codes: &[C], kept: &mut Vec<u32>, places: &[u32])
     requires within { All (λ p. p < length codes.now) places.now }
     requires room { vec_len kept.old + length places.now ≤ vec_capacity kept.old }

@@ -80,7 +80,7 @@ impl Packed {
         between(self.rids.as_slice(), self.starts[i], self.starts[i + 1])
     }
 
-    /// Puts the rids of the lists at these places last.
+    /// Appends the rids of the lists at these places.
     pub fn put_at(&self, rids: &mut Vec<u32>, places: &[u32]) -> Result<(), AllocError>
         requires { All (λ p. p < length self.now) places.now }
         ensures { OnOk result (rids.new.items ≡ rids.old.items ++ flat_map (λ p. slice_index_or self.now p []) places.now) }
@@ -91,7 +91,7 @@ impl Packed {
         Ok(())
     }
 
-    /// Puts those of these places last whose lists aren't empty. There is room for them.
+    /// Appends those of these places whose lists aren't empty. There is room for them.
     pub fn keep_at(&self, kept: &mut Vec<u32>, places: &[u32])
         requires within { All (λ p. p < length self.now) places.now }
         requires room { vec_len kept.old + length places.now ≤ vec_capacity kept.old }
@@ -119,7 +119,7 @@ impl Packed {
         self.rids.as_slice()
     }
 
-    /// Puts one list last.
+    /// Appends one list.
     pub fn put(&mut self, list: &[u32]) -> Result<(), AllocError>
         requires { pairs_of self.old + length list.now ≤ PAIR_LIMIT }
         ensures put { IfOk result (λ _. self.new ≡ self.old ++ list.now ∷ []) }
@@ -131,7 +131,7 @@ impl Packed {
         Ok(())
     }
 
-    /// Puts one list last, its rids moved up by a number.
+    /// Appends one list, its rids moved up by a number.
     pub fn put_moved(&mut self, list: &[u32], by: u32) -> Result<(), AllocError>
         requires few { pairs_of self.old + length list.now ≤ PAIR_LIMIT }
         requires below { All (λ rid. by + rid < 4294967296) list.now }
@@ -145,7 +145,7 @@ impl Packed {
         Ok(())
     }
 
-    /// Puts one list last, unless there are too many pairs then.
+    /// Appends one list, unless there are too many pairs then.
     pub fn put_within(&mut self, list: &[u32]) -> Result<(), RidFault>
         ensures put { OnOk result (self.new ≡ self.old ++ list.now ∷ []) }
         ensures few { OnOk result (pairs_of self.old + length list.now ≤ PAIR_LIMIT) }
@@ -170,7 +170,7 @@ impl Packed {
         true
     }
 
-    /// The same lists as an array, in the memory of the offsets.
+    /// These lists as an array, in the memory of the offsets.
     pub fn into_array(self) -> RidArray
         requires single { IsSingle self }
         requires below { All (All (λ rid. rid < NONE)) self }
@@ -185,7 +185,7 @@ impl Packed {
     }
 }
 
-// Puts these rids last, moved up by a number. There is room for them.
+// Appends these rids, moved up by a number. There is room for them.
 fn push_moved(rids: &mut Vec<u32>, list: &[u32], by: u32)
     requires room { vec_len rids.old + length list.now ≤ vec_capacity rids.old }
     requires below { All (λ rid. by + rid < 4294967296) list.now }

@@ -99,7 +99,7 @@ fn is_back(declared: &Back, v: usize, t: usize) -> bool
     declared.view as usize == v && declared.table as usize == t
 }
 
-// How many splits stand before that of a view's backward query by a column, or how many there are.
+// How many splits come before that of a view's backward query by a column, or how many there are.
 fn split_place(declarations: &[Back], v: usize, t: usize, c: usize) -> usize
     ensures { result ≡ split_place v t c declarations.now }
 {
@@ -115,7 +115,7 @@ fn split_place(declarations: &[Back], v: usize, t: usize, c: usize) -> usize
     place
 }
 
-// How many groupings stand before the first of a view's backward query, or how many there are.
+// How many groupings come before the first of a view's backward query, or how many there are.
 fn cubes_place(declarations: &[Back], v: usize, t: usize) -> usize
     ensures { result ≡ cubes_place v t declarations.now }
 {

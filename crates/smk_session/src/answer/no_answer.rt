@@ -4,12 +4,12 @@ ghost use Rattle.smk_session.specs.declared.answer.no_answer.Turned.TheVariants 
 use smk_base::Refusal;
 use std::alloc::AllocError;
 
-/// Why a line has no answer: it is refused, or memory is wanting.
+/// Why a line has no answer: it is refused, or memory ran out.
 #[derive(Drop)]
 pub enum Turned {
     /// The line is refused.
     Refused(Refusal),
-    /// Memory is wanting.
+    /// Memory ran out.
     Exhausted,
 }
 

@@ -11,7 +11,7 @@ use smk_base::{BrushOn, Catalog, Pick, Picks, Rids};
 use smk_rid::intersection;
 use std::alloc::{AllocError, Global};
 
-// The rids that are left of those chosen so far under one more brush.
+// The rids that are left of those chosen so far, with one more brush.
 fn narrowed(alloc: Global, chosen: Option<Rids>, rids: &Rids) -> Result<Rids, AllocError>
     requires chosen { IfSome chosen IsAscending }
     requires rids { IsAscending rids.now }
@@ -23,7 +23,7 @@ fn narrowed(alloc: Global, chosen: Option<Rids>, rids: &Rids) -> Result<Rids, Al
     }
 }
 
-// Whether a brush counts on a table: for a view those that concern it, and for none all.
+// Whether a brush counts on a table: for a view it must concern the view; without a view any brush on the table does.
 fn counts(catalog: &Catalog, view: Option<u32>, t: u32, brush: &BrushOn) -> bool
     ensures { result ≡ answers.counts (catalog_image catalog.now) view t brush.now }
 {
@@ -33,7 +33,7 @@ fn counts(catalog: &Catalog, view: Option<u32>, t: u32, brush: &BrushOn) -> bool
     }
 }
 
-// The rids of a table that the brushes select which count for a view, or for none: none where no brush does.
+// The rids of a table that all the brushes that count have; None if no brush counts.
 pub(crate) fn brushed(
     alloc: Global,
     catalog: &Catalog,
@@ -53,7 +53,7 @@ pub(crate) fn brushed(
     Ok(chosen)
 }
 
-// The same of the brushes in force.
+// These rids, for the brushes in force.
 pub(crate) fn selected(
     alloc: Global,
     held: &Lent<'_>,
@@ -82,7 +82,7 @@ fn are_alike(catalog: &Catalog, brushes: &[BrushOn], t: u32, w: u32, other: u32)
     brushes.iter().all(|brush| concerns(catalog, w, t, brush) == concerns(catalog, other, t, brush))
 }
 
-// Where the rids stand that brushes select for a view: as those of a view that the same brushes concern.
+// Where the rids are that brushes select for a view: with those of a view that the same brushes concern.
 fn place_of(
     catalog: &Catalog,
     brushes: &[BrushOn],
@@ -103,7 +103,7 @@ fn place_of(
     None
 }
 
-// Puts the rids last that brushes select of a table for a view, unless they stand there for a view that the same brushes concern. It tells where they stand.
+// Appends the rids that brushes select of a table for a view, unless they are there for a view that the same brushes concern. It tells where they are.
 pub(crate) fn choose(
     alloc: Global,
     catalog: &Catalog,

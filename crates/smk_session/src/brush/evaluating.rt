@@ -1,4 +1,4 @@
-// Views, made anew from what is fetched for them.
+// Views, evaluated again from what is fetched for them.
 ghost use Rattle.std.specs.Prelude.{◌≡◌, IfOk, IfSome};
 ghost use Rattle.smk_base.specs.PlanImage.{expr_of};
 ghost use Rattle.smk_marks.specs.Views.{CanGroup};

@@ -1,4 +1,4 @@
-// The views that follow a brush, made anew under other brushes.
+// The views that follow a brush, evaluated again under other brushes.
 ghost use Rattle.std.specs.{Prelude.{◌≡◌, ◌<◌, ◌≤◌, ◌+◌, ◌++◌, ◌∷◌, [], ℕ, List, Ok, None, Some, Option, true, false, cond, length, All, IfOk, IfErr, IfSome, IfNone, MatchResult, OnOk}, List.{list_any, sum_by}};
 ghost use Rattle.smk_base.specs.{Places.members_at, PlanImage.expr_of, declared.reply.Linked.Linked as LinkedImage};
 ghost use Rattle.smk_model.specs.{Composed.forwards, LineageLaws.selected_table, Looks.looks_of_linked, Workload.declares_fwd};
@@ -75,7 +75,7 @@ fn marks_now(
     reached(alloc, map, chosen)
 }
 
-// The same where marks are wanted, and else none.
+// These marks if they are wanted, else none.
 fn marks_wanted(
     alloc: Global,
     refresh: &Refresh<'_>,
@@ -252,7 +252,7 @@ fn to_keep(alloc: Global, refresh: &Refresh<'_>, shown: &Linked) -> Result<Conte
     })
 }
 
-// A view made anew over what is fetched for it, with what is kept of it. No lineage is captured. A view that is made beside others passes the gate first.
+// A view evaluated again over what is fetched for it, with what is kept of it. No lineage is captured. A view that is made beside others passes the gate first.
 #[tactic(auto, using(crate::proofs::Refreshing::source_made))]
 fn follow_one<R: Threads + Sync, G: Gate + Sync>(
     work: &Work<'_, R, Workers<'_, G>>,

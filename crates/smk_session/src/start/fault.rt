@@ -1,6 +1,6 @@
 use std::alloc::{AllocError, AllocFailed};
 
-/// Why there is no session: the first view, by its number, and there the first node in post-order that is too big; or want of memory.
+/// Why there is no session: the first view, by its number, and there the first node in post-order that is too big; or memory ran out.
 #[derive(Drop, Clone, Copy)]
 pub enum StartFault {
     /// The node has too many rows.

@@ -16,7 +16,7 @@ fn kept_of(run: &Run, table: usize) -> Option<&KeptMap>
         .find(|kept| kept.table as usize == table)
 }
 
-/// The backward lineage to a table, where it is kept. It takes no memory.
+/// The backward lineage to a table, if it is kept.
 pub fn back_kept(run: &Run, table: usize) -> Option<&RidMap>
     ensures { option_map (λ map. map.now) result ≡ option_and_then (λ kept. kept.back) (find (is_of_table table) run.now.kept) }
 {
@@ -29,7 +29,7 @@ pub fn back_kept(run: &Run, table: usize) -> Option<&RidMap>
     }
 }
 
-/// The forward lineage from a table, where it is kept. It takes no memory.
+/// The forward lineage from a table, if it is kept.
 pub fn fwd_kept(run: &Run, table: usize) -> Option<&RidMap>
     ensures { option_map (λ map. map.now) result ≡ option_and_then (λ kept. kept.fwd) (find (is_of_table table) run.now.kept) }
 {

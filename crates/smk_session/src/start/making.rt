@@ -20,7 +20,7 @@ use std::alloc::{AllocError, Global};
 use std::sync::ledger::Ledger;
 use std::thread::Threads;
 
-/// A book over its tables; its views, and what takes the places of those that were made before a table grew; and the number of that table, if one has grown.
+/// A book over its tables; its views, and what replaces those that were made before a table grew; and the number of that table, if one has grown.
 #[derive(Drop)]
 pub struct Opening<'a> {
     pub book: &'a TypedBook,
@@ -44,7 +44,7 @@ struct SplitOrCubes {
     cubes: Option<Cubes>,
 }
 
-/// A view as it is now. It takes no memory.
+/// A view as it is now.
 pub fn view_now<'a>(opening: &'a Opening<'_>, v: u32) -> &'a Run
     requires opened { IsOpened opening.now }
     requires view { v < length opening.now.book.now.views }
@@ -56,7 +56,7 @@ pub fn view_now<'a>(opening: &'a Opening<'_>, v: u32) -> &'a Run
     }
 }
 
-/// Whether what a declaration asks for besides the rows is made: always, or where the declaration depends on the table that has grown. It takes no memory.
+/// Whether what a declaration asks for besides the rows is made: always, or if the declaration depends on the table that has grown.
 pub fn wants(opening: &Opening<'_>, declared: &Back) -> bool
     requires declared { IsDeclared opening.now.book.now declared.now }
     ensures { result ≡ is_wanted (book_in opening.now).catalog opening.now.grown declared.now }

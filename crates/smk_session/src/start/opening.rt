@@ -37,7 +37,7 @@ fn at_view(view: u32, fault: RunFault) -> StartFault
     }
 }
 
-/// The view with this number. It takes no memory.
+/// The view with this number.
 pub fn view_of(catalog: &Catalog, v: u32) -> &ViewInfo
     requires checked { IsCatalog (catalog_image catalog.now) }
     requires view { v < length catalog.now.views }
@@ -126,7 +126,7 @@ pub(crate) fn open_stocked<R: Threads + Sync, G: Gate + Sync>(
     }
 }
 
-/// The view with this number: its first content, and exactly the lineage that is needed for it; or its first node that is too big. Each row of a leaf is at most one look, also where it is refused.
+/// The view with this number: its first content, and exactly the lineage that is needed for it; or its first node that is too big. Each row of a leaf is at most one look, even if the view is refused.
 ///
 /// Lineage is captured by the body of `mode`, all in this thread with one worker, and above that in pieces of rows that may run at the same time; piece p passes the gate with p.
 pub fn open_view<R: Threads + Sync, G: Gate + Sync, L: Ledger>(

@@ -18,7 +18,7 @@ fn plan_scans(plan: &Plan, table: u32) -> bool
     }
 }
 
-/// Whether a view scans a table. It takes no memory.
+/// Whether a view scans a table.
 pub fn view_scans(book: &TypedBook, table: u32, v: u32) -> bool
     requires { v < length book.now.views }
     ensures { result ≡ scans (catalog_image book.now) table v }

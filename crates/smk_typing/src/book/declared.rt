@@ -57,7 +57,7 @@ fn is_declared(cols: &[ColDecl], word: &Word) -> bool
     cols.iter().any(|col| word.name == col.name)
 }
 
-/// Puts a declared column last.
+/// Appends a declared column.
 fn add_decl(alloc: Global, cols: &mut ColDecls, decl: &Decl) -> Result<(), TypeFault>
     ensures after { Finds result (typing.decl_after cols.old decl.now) (λ _. cols.new) }
     ensures longer { OnOk result (length cols.new ≡ length cols.old + 1) }
@@ -82,7 +82,7 @@ pub fn declared(alloc: Global, decls: &[Decl]) -> Result<ColDecls, TypeFault>
     Ok(cols)
 }
 
-/// Puts the names and the kinds of columns last. On an error some of them are put.
+/// Appends the names and the kinds of columns. On an error some of them are appended.
 fn add_names_and_kinds(
     alloc: Global,
     columns: &[Column],

@@ -10,7 +10,7 @@ use smk_base::{LinkInfo, LinkInfos, Rids, TypeFault, ViewInfo, Word};
 use std::alloc::Global;
 use std::marker::Model;
 
-/// The links so far. What each of them links stands in a hashed set beside them. Contracts see the links.
+/// The links so far. What each of them links is in a hashed set beside them. Contracts see the links.
 #[derive(Drop)]
 pub struct Links {
     infos: LinkInfos,
@@ -48,7 +48,7 @@ impl Links {
         }
     }
 
-    /// The list alone. It takes no memory.
+    /// The list alone.
     pub fn into_list(self) -> LinkInfos
         ensures { result ≡ self }
     {
@@ -83,7 +83,7 @@ impl Links {
     }
 }
 
-/// Puts a linked view last.
+/// Appends a linked view.
 fn add_to(
     views: &Indexed<ViewInfo>,
     links: &[LinkInfo],
@@ -109,7 +109,7 @@ fn add_to(
     Ok(())
 }
 
-/// Puts the linked views of a link. On an error some of them are put.
+/// Appends the linked views of a link. On an error some of them are appended.
 fn add_each(
     views: &Indexed<ViewInfo>,
     links: &[LinkInfo],
@@ -129,7 +129,7 @@ fn add_each(
     Ok(())
 }
 
-/// Puts a link of a view on a table to other views last.
+/// Appends a link of a view on a table to other views.
 fn add_link(
     alloc: Global,
     views: &Indexed<ViewInfo>,

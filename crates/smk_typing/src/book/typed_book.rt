@@ -37,7 +37,7 @@ impl TypedBook {
         TypedBook { catalog }
     }
 
-    /// The tables, views, declared queries and links of the book, within the limits, where every number names something and every kind is right. It takes no memory.
+    /// The tables, views, declared queries and links of the book, within the limits, where every number names something and every kind is right.
     pub fn catalog(&self) -> &Catalog
         ensures value { result.now ≡ self.now }
         ensures checked { IsCatalog (catalog_image self.now) }

@@ -16,7 +16,7 @@ pub trait Keyed {
     ghost kept: { List Self → Type 0 } = { λ _. Unit {0} };
 }
 
-/// A list in the order of declaration. The keys of its members stand in a hashed set beside it, so that no look-up goes over the list. Contracts see the list.
+/// A list in the order of declaration. The keys of its members are in a hashed set beside it, so that no look-up goes over the list. Contracts see the list.
 #[derive(Drop)]
 pub struct Indexed<T: Keyed> {
     list: Vec<T>,
@@ -60,7 +60,7 @@ impl<T: Keyed> Indexed<T> {
         self.keys.get_index_of(key)
     }
 
-    /// The members. It takes no memory.
+    /// The members.
     pub fn as_slice(&self) -> &[T]
         ensures members { result.now ≡ self.now }
         ensures kept { T.kept self.now }
@@ -68,7 +68,7 @@ impl<T: Keyed> Indexed<T> {
         self.list.as_slice()
     }
 
-    /// The list alone. It takes no memory.
+    /// The list alone.
     pub fn into_list(self) -> ListOf<T>
         ensures members { result ≡ self }
         ensures kept { T.kept self }
@@ -79,7 +79,7 @@ impl<T: Keyed> Indexed<T> {
 }
 
 impl<T: Keyed + Drop> Indexed<T> {
-    /// Puts a member last, whose key is new. On an error the list is as it was.
+    /// Appends a member whose key is new. On an error the list is as it was.
     pub fn push(&mut self, key: T::Key, member: T) -> Result<(), AllocError>
         requires own { key ≡ T.key_of member }
         requires fresh { list_any (T.Key.eq key) (map T.key_of self.old) ≡ false }

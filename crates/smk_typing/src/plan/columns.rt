@@ -8,7 +8,7 @@ ghost use Rattle.smk_typing.specs.Answers.{Finds};
 use smk_base::{Column, Kind, Operand, Term, Text, TypeFault, Value, Word};
 use std::alloc::Global;
 
-/// The place of the column with this name. A row has at most 16 columns, so they are gone through in order.
+/// The place of the column with this name. A row has at most 16 columns, so they are searched in order.
 fn place_of(columns: &[Column], word: &Word) -> Option<usize>
     ensures { result ≡ position (names.has_name word.now.name) columns.now }
 {

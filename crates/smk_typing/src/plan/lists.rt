@@ -11,7 +11,7 @@ use smk_base::{
 };
 use std::alloc::Global;
 
-/// Puts a part of a list and its column last, under a new name.
+/// Appends a part of a list and its column, under a new name.
 fn add_named<T: Copy + Drop>(
     alloc: Global,
     parts: &mut ListOf<T>,
@@ -68,7 +68,7 @@ fn typed_item(columns: &[Column], tree: &ItemTree) -> Result<(Item, Kind), TypeF
     }
 }
 
-/// Puts items last, and the columns that they make. On an error some of them are put.
+/// Appends items, and the columns that they make. On an error some of them are appended.
 fn add_items(
     alloc: Global,
     columns: &[Column],
@@ -109,7 +109,7 @@ pub fn typed_items(
     }
 }
 
-/// Puts keys last, and the columns that they make. On an error some of them are put.
+/// Appends keys, and the columns that they make. On an error some of them are appended.
 fn add_keys(
     alloc: Global,
     columns: &[Column],
@@ -164,7 +164,7 @@ fn typed_agg(columns: &[Column], what: &AggWhat) -> Result<(Agg, Kind), TypeFaul
     }
 }
 
-/// Puts aggregates last, and their columns behind those of the keys. On an error some of them are put.
+/// Appends aggregates, and their columns after those of the keys. On an error some of them are appended.
 fn add_aggs(
     alloc: Global,
     columns: &[Column],
@@ -182,7 +182,7 @@ fn add_aggs(
     Ok(())
 }
 
-/// Whether a grouping of this width stands as a whole, at the place of `group`.
+/// Whether a grouping of this width is well typed as a whole, at the place of `group`.
 fn whole_group(at: u64, group: &TypedGrouping) -> Result<(), TypeFault>
     ensures group { Finds result (steps.whole_group at group.now.keys group.now.aggs group.now.columns) (λ _. group_of group.now) }
     ensures width { OnOk result (length group.now.columns ≤ COLUMN_LIMIT) }
@@ -242,7 +242,7 @@ pub fn typed_group(
     }
 }
 
-/// Puts a pair of a join last.
+/// Appends a pair of a join.
 fn add_pair(
     lefts: &[Column],
     rights: &[Column],

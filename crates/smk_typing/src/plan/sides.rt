@@ -9,7 +9,7 @@ use smk_base::{COLUMN_LIMIT, Column, Columns, TypeFault};
 use std::alloc::Global;
 use std::mem;
 
-/// Whether a name stands on both sides. A row has at most 16 columns.
+/// Whether a name is on both sides. A row has at most 16 columns.
 fn share_a_name(lefts: &[Column], rights: &[Column]) -> bool
     ensures { result ≡ steps.share_a_name lefts.now rights.now }
 {
@@ -23,7 +23,7 @@ fn taken(alloc: Global, columns: &mut Columns) -> Vec<Column>
     mem::replace(columns, Columns::new(alloc)).into_vec()
 }
 
-/// Puts the right columns behind the left ones.
+/// Appends the right columns to the left ones.
 fn append(alloc: Global, lefts: &mut Columns, rights: &mut Columns) -> Result<(), TypeFault>
     ensures columns { Finds result (Ok (lefts.old ++ rights.old)) (λ _. lefts.new) }
 {
@@ -33,7 +33,7 @@ fn append(alloc: Global, lefts: &mut Columns, rights: &mut Columns) -> Result<()
     Ok(())
 }
 
-/// Puts the right columns behind the left ones, at the place of `join`, `theta` or `product`.
+/// Appends the right columns to the left ones, at the place of `join`, `theta` or `product`.
 pub fn join_columns(
     alloc: Global,
     at: u64,

@@ -1,6 +1,6 @@
 use smk_base::{Aggs, Columns, Keys, Plan};
 
-/// A plan and the columns that it hands on.
+/// A plan and its output columns.
 #[derive(Drop)]
 pub struct Typed {
     pub plan: Plan,
