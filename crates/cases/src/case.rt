@@ -4,7 +4,7 @@ use smk_base::Text;
 use smk_outside::MemFiles;
 use std::alloc::{AllocError, Global};
 
-/// What a run or a conversation comes to. Of a conversation `out` is what happened in it.
+/// How a run or a conversation ended. For a conversation `out` is what happened in it.
 #[derive(Drop)]
 pub struct Ending {
     pub status: u8,

@@ -6,7 +6,7 @@ use anyhow::Result;
 use std::io;
 use std::thread::Threads;
 
-/// Runs a case with these words and with every proper front of each file that it cuts.
+/// Runs a case with these words, once for each shorter start of each file that it cuts.
 pub fn run_cuts<'a, R: Threads + Sync + Print + AllocGlobal>(
     system: HostRuntime,
     rt: &R,
@@ -24,7 +24,7 @@ pub fn run_cuts<'a, R: Threads + Sync + Print + AllocGlobal>(
     Ok(())
 }
 
-// Runs a case with these words and with every proper front of a file.
+// Runs a case with these words, once for each shorter start of a file.
 fn run_fronts<'a, R: Threads + Sync + Print + AllocGlobal>(
     system: HostRuntime,
     rt: &R,

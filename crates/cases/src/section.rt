@@ -42,13 +42,13 @@ pub enum Head<'a> {
     FailingHear(u32),
     /// The put of this number to `out` or `err`, or the text of this number that is said, fails after so many bytes.
     FailingPut(Part<'a>, u32, u64),
-    /// Each run is made with every proper front of a file, too.
+    /// Each run is made with each shorter start of a file, too.
     Cut(Cut<'a>),
-    /// Each run with one of these numbers of workers that comes to a whole report is held as a conversation, too.
+    /// Each run with one of these numbers of workers that writes a whole report is held as a conversation, too.
     Conversed(&'a str),
 }
 
-/// The name of a file that is cut, and the statuses of which the run of each of its fronts has one, with blanks between them.
+/// The name of a file that is cut, and the statuses that the runs over its shorter starts may have, with blanks between them.
 #[derive(Clone, Copy)]
 pub struct Cut<'a> {
     pub file: &'a str,

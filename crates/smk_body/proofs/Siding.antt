@@ -1,10 +1,10 @@
 -- The lineage of a side from what the first half of a step found.
-use Rattle.std.proofs.{Common.{◌≡◌, ◌∙◌, ◌<◌, ◌≤◌, ◌+◌, ◌-◌, ℕ, List, ◌++◌, length, map, take, drop, refl, sym, ap, arith, All, subst, zero-add, Option, None, Some, []}, Math.ListN.replicate, lemmas.List.{map-append, map-id, length-map, length-replicate, get_or_default}, lemmas.List.Elements.{All-take, All-drop}, Math.Seq.{take-append_seam, drop-append_seam}}
-use Rattle.smk_base.specs.{Places.{Lists, upto, own_lists, inverted, IsPlaces}, declared.book.plan.Dir.Dir, declared.book.plan.Item.Item}
+use Rattle.std.proofs.{Common.{◌≡◌, ◌∙◌, ◌<◌, ◌≤◌, ◌+◌, ◌-◌, ℕ, List, ◌++◌, length, map, take, drop, refl, sym, ap, arith, All, subst, zero-add, Option, None, Some, []}, lemmas.List.{map-append, map-id, length-map, get_or_default}, lemmas.List.Elements.{All-take, All-drop}, Math.Seq.{take-append_seam, drop-append_seam}}
+use Rattle.smk_base.specs.{Places.{Lists, upto, own_lists, inverted, IsPlaces}, declared.book.plan.Dir.Dir}
 use Rattle.smk_rid.proofs.Rising.{rising_is}
 use Rattle.smk_model.specs.{Values.Row, Plain.firsts, Locals.singles, Classes.{places_in, classes}, Ways.{Way, Targets, IsOf, back_of, fwd_of}}
 use Rattle.smk_base.proofs.Places.{get_or_map_upto}
-use Rattle.smk_model.proofs.{OneEach.one_each, Directions.length_each, Parts.map_agree, Classes.{place_in, classes_are}}
+use Rattle.smk_model.proofs.{Ways.lineage_of_ways, Directions.length_each, Parts.map_agree, Classes.{place_in, classes_are}}
 use Rattle.smk_body.specs.{Locals.{side_of, wanted}, declared.keep.local.Side.Side, declared.keep.local.Local.Local}
 use Rattle.smk_body.proofs.Classing.{length_of, rest_of}
 
@@ -77,7 +77,4 @@ stretch_set from len n h = rising_is n (map (λ i. from + i) (upto len)) (λ i j
 
 -- all places in order are the same both ways
 pub all_turned : (of : List ℕ) (n : ℕ) → of ≡ upto n → inverted (singles of n) ≡ own_lists n
-all_turned of n e =
-    let rows : List Row = replicate n [] in
-    let none : List Item = [] in
-    rw e (subst (λ (k : ℕ). inverted (singles (upto k) k) ≡ own_lists k) (length-replicate n (let row : Row = [] in row)) (sym (one_each.projected none rows).backward ∙ (one_each.projection none rows).backward))
+all_turned of n e = rw e (lineage_of_ways.own n)

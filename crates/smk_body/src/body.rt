@@ -70,7 +70,7 @@ pub trait OpBody: Crew {
         self.keep1(alloc, op, input, made, want)
     }
 
-    /// A step over its two inputs, likewise. It is refused for `Rows` exactly where it has more than 1,048,576 rows.
+    /// A step over its two inputs, likewise. It is refused for `Rows` exactly if it has more than 1,048,576 rows.
     final fn apply2<R: Threads + Sync>(
         &self,
         rt: &R,

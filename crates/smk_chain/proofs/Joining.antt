@@ -2,9 +2,9 @@
 use Rattle.std.proofs.{Common.{◌≡◌, ◌∙◌, ℕ, ◌+◌, ◌<◌, ◌≤◌, Bool, true, false, cond, List, [], ◌∷◌, ◌++◌, length, map, take, drop, refl, sym, ap, subst, arith, get_or, nat_eq, Option, Some, None, inl, inr}, lemmas.Bool.{cases_Bool, eqb-true, le-ltb}, lemmas.List.{length-map, length-append, get_or-map, get_or-set_same, take-append-drop}}
 use Rattle.smk_base.specs.{Places.{Lists, upto, pairs_of, has, inverted, composed, followed}, declared.book.plan.Agg.Agg, declared.book.need.Needed.Needed, Plans.{Grouping, Expr, Leaf, Apply, Combine}}
 use Rattle.smk_keys.specs.Classes.{ClassesImage}
-use Rattle.smk_model.specs.{Values.Row, Plain.{key_of, firsts, leaves, step1}, Composed.{table_at, rows_over, backs, forwards}, Locals.{singles, back1, fwd1}, Classes.classes, LineageLaws.selected_table, DirectionLaws.HasTargets, Selection.ScansFit, Growth.{is_chain, is_growing, regrouping, all_over_parts}, GrowthLaws.{HasGrown, both_rows}}
+use Rattle.smk_model.specs.{Values.Row, Plain.{key_of, firsts, leaves, step1}, Composed.{table_at, rows_over, backs, forwards}, Locals.{singles, back1, fwd1}, Classes.classes, LineageLaws.selected_table, Selection.ScansFit, Ways.{IsOf, reaches}, Growth.{is_chain, is_growing, regrouping}, GrowthLaws.{HasGrown, both_rows}}
 use Rattle.smk_base.proofs.Places.{map_map, map_upto, map_upto_agree}
-use Rattle.smk_model.proofs.{Composed.lists_stand, Counts.pairs_forward, OneEach.one_each, Grows.{chain_grows, group_grows}, Thin.growing_is_thin}
+use Rattle.smk_model.proofs.{Composed.lists_stand, Counts.pairs_forward, Ways.lineage_of_ways, Grows.{chain_grows, group_grows}, Thin.growing_is_thin}
 use Rattle.smk_body.specs.{Locals.wanted, Halves.AreNumbered}
 use Rattle.smk_body.proofs.Classing.{are_numbered, length_firsts}
 use Rattle.smk_compose.specs.{declared.kept_maps.KeptMap.KeptMap, KeptMaps.kept_at, Through.{chained, Chains, is_heavy, map_at, no_map, no_need}}
@@ -153,8 +153,8 @@ module _ (keys : List ℕ) (aggs : List Agg) (input : Expr) (tables : List (List
   numbered : AreNumbered (length both) groups
   numbered = subst (λ n. AreNumbered n groups) (length-map both (key_of (upto (length keys)))) (are_numbered keys_both)
 
-  targets : HasTargets (classes keys_both) (length (firsts keys_both)) (back1 (regrouping keys aggs) both) (fwd1 (regrouping keys aggs) both)
-  targets = one_each.grouping (upto (length keys)) (all_over_parts (length keys) aggs) both
+  targets : IsOf (reaches keys_both) (back1 (regrouping keys aggs) both) (fwd1 (regrouping keys aggs) both)
+  targets = lineage_of_ways.one (regrouping keys aggs) both
 
   forward_is : class_lists groups ≡ fwd1 (regrouping keys aggs) both
   forward_is = ap (singles (classes keys_both)) (length_firsts keys_both) ∙ sym targets.forward

@@ -1,5 +1,5 @@
 -- A step that gives its lists in the directions in which its inputs have maps does for them what all its lists would do.
-use Rattle.std.proofs.{Common.{◌≡◌, ◌∙◌, ◌<◌, ◌≤◌, ℕ, suc, Bool, true, false, List, [], ◌∷◌, length, map, get_or, Option, Some, is_some, refl, ap, arith, inl, inr}, lemmas.Bool.cases_Bool, lemmas.List.Folds.list_any_at}
+use Rattle.std.proofs.{Common.{◌≡◌, ◌∙◌, ◌<◌, ◌≤◌, ℕ, suc, Bool, true, false, List, [], ◌∷◌, length, map, get_or, Option, Some, is_some, refl, sym, ap, arith, inl, inr}, lemmas.Bool.cases_Bool, lemmas.List.Folds.list_any_at}
 use Rattle.smk_base.specs.{Places.Lists, declared.book.plan.Dir.Dir, Plans.Unary}
 use Rattle.smk_model.specs.{Values.Row, Plain.step1, Locals.{back1, fwd1}, Selection.is_full}
 use Rattle.smk_model.proofs.Sizes.{adds_no_rows}
@@ -55,8 +55,14 @@ few_fault node rows maps few = elim (cases_Bool (is_full rows)) [
   | inr e ↦ rw e refl
 ]
 
-pub one_few : (op : Unary) (L : List Row) → length L ≤ 1048576 → length (step1 op L) ≤ 1048576
+one_few : (op : Unary) (L : List Row) → length L ≤ 1048576 → length (step1 op L) ≤ 1048576
 one_few op L few = omega (arith, few, adds_no_rows op L)
+
+-- the fault of a step with one input is that of its maps by the lineage that is wanted
+pub one_fault_is : (op : Unary) (L : List Row) {below maps : List KeptMap} {want : Dir} {m : Local} (node : ℕ) → want ≡ want_of below → m ≡ local1 op L want → maps ≡ below → length L ≤ 1048576
+    → pairs_fault node (map (through m.left) maps) ≡ node_fault node (step1 op L) (map (through (side1 op L)) below)
+one_fault_is op L {below} {maps} {want} {m} node asked is same few =
+    ap (λ (l : List KeptMap). pairs_fault node (map (through m.left) l)) same ∙ ap (pairs_fault node) (one_maps op L below want m asked is) ∙ sym (few_fault node (step1 op L) (map (through (side1 op L)) below) (one_few op L few))
 
 pub chained_back : (maps : List KeptMap) (B : Lists) (i : ℕ) (d : KeptMap) → i < length maps → chained (wanted (want_of maps).back B) (get_or maps i d).back ≡ chained (Some B) (get_or maps i d).back
 chained_back maps B i d low = first_wanted (want_of maps).back B (get_or maps i d).back (back_wants maps i d low)

@@ -96,7 +96,7 @@ pub(crate) fn pass_fwd(
     Ok(())
 }
 
-// A map in the place of another.
+// A map in place of another.
 pub(crate) fn put(map: &mut Option<RidMap>, made: Option<RidMap>)
     ensures { map.new ≡ made }
 {

@@ -13,7 +13,7 @@ use smk_jobs::Work;
 use std::alloc::Global;
 use std::thread::Threads;
 
-/// The rows of a plan over one Rel for each of its leaves, its steps carried out by a body. It makes no look. It is refused for `Rows` exactly where some node has more than 1,048,576 rows, at the first such node in post-order.
+/// The rows of a plan over one Rel for each of its leaves, its steps carried out by a body. It makes no look. It is refused for `Rows` exactly if some node has more than 1,048,576 rows, at the first such node in post-order.
 #[tactic(auto, using(crate::proofs::Walks::unasked_few, crate::proofs::Walks::unasked_many, crate::proofs::Walks::unasked_pairs))]
 pub fn eval_leaves<R: Threads + Sync, B: OpBody + Sync>(
     rt: &R,

@@ -141,7 +141,7 @@ impl Walked {
     }
 }
 
-// Each row's own list, where it is wanted.
+// Each row's own list, if it is wanted.
 fn own_map(alloc: Global, is_wanted: bool, len: u32) -> Result<Option<RidMap>, AllocError>
     requires { len ≤ ROW_LIMIT }
     ensures { IfOk result (λ made. made ≡ wanted is_wanted (own_lists len)) }

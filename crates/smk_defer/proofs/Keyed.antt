@@ -1,7 +1,7 @@
 -- Keys of rows, and their places among first occurrences.
 use Rattle.std.proofs.{Common.{◌≡◌, ◌∙◌, ◌<◌, ◌≤◌, ◌+◌, ℕ, true, None, Some, List, [], ◌∷◌, ◌++◌, not, length, map, refl, sym, ap, subst, arith, All, get_or, nat_eq, inl, inr}, lemmas.List.{get_or-map, length-append, length-map, same_lists}, lemmas.List.Elements.{All-map, All-weaker}, lemmas.List.Sums.{passes_at_first, prefix_len-le-length}, lemmas.Map.Made.AllPairs-from_IsDistinct, lemmas.Slice.Zip.AllZip-long, lemmas.Bool.{cases_Bool, cases_lt, eq-eqb, lt-ltb, ne_eqb, false≢true}}
 use Rattle.smk_base.specs.{Places.upto, Plans.Grouping, declared.book.plan.Agg.Agg, declared.value.Kind.Kind, Rels.{Fits, RowFits, kind_in, picked, rows_at}}
-use Rattle.smk_keys.specs.Keys.{AreKeys, place_of, with_key}
+use Rattle.smk_keys.specs.{Classes.{ClassesImage, classes_of}, Keys.{AreKeys, place_of, with_key}}
 use Rattle.smk_model.specs.{Values.Row, Kinds.{kind_of_agg, kinds1}, Plain.{row_eq, key_of, add_first, firsts, step1}, Lineage.row_at, Classes.{places_in, classes, first_places}}
 use Rattle.smk_base.proofs.Places.{map_upto}
 use Rattle.smk_model.proofs.{Firsts.{row_same, row_is, holds, holds_at, fold_append, add_firsts}, Classes.{place_in, found_below, found_at, same_place, first_below, classes_are}, Bulk.bulk, Regroups.group_keys}
@@ -86,11 +86,15 @@ by_class keys rows =
     ∙ ap (place_in keys) (at.at i low)
     ∙ sym (get_or-map (place_in keys) rows i [] d low))
 
--- each class has a place in the table of the classes' keys
-pub class_within : (keys rows : List Row) (of table : List ℕ) (i : ℕ) → of ≡ classes rows → table ≡ places_in keys (firsts rows) → i < length of → get_or of i 0 < length table
-class_within keys rows of table i e f h =
-    let low : i < length rows = omega (arith, h, ap length e, length-map rows (place_in (firsts rows))) in
-    omega (arith, ap (λ (z : List ℕ). get_or z i 0) e, (classes_are.stand rows).below i low, ap length f, length-map (firsts rows) (place_in keys))
+-- the places of the keys of classes, and each class is one of the table
+pub found_first : (cols : List ℕ) (rows keys : List Row) (m : ClassesImage) (A table : List ℕ) → m ≡ classes_of (map (picked cols) rows) → A ≡ m.firsts → table ≡ places_in keys (map (picked cols) (rows_at rows A)) → table ≡ places_in keys (firsts (map (key_of cols) rows))
+found_first cols rows keys m A table is first e = e ∙ ap (places_in keys) (keys_first cols rows A (first ∙ ap (λ (z : ClassesImage). z.firsts) is))
+
+pub classes_within : (keys rows : List Row) (of table : List ℕ) → of ≡ classes rows → table ≡ places_in keys (firsts rows) → All (λ r. r < length table) of
+classes_within keys rows of table e f = rw (e, f) (subst (λ n. All (λ r. r < n) (classes rows)) (sym (length-map (firsts rows) (place_in keys))) (classes_below rows))
+
+pub length_places : (keys : List Row) (cols : List ℕ) (rows : List Row) (items : List ℕ) → items ≡ places_in keys (map (picked cols) rows) → length items ≡ length rows
+length_places keys cols rows items e = ap length e ∙ length-map (map (picked cols) rows) (place_in keys) ∙ length-map rows (picked cols)
 
 -- of two keys, the second of which is there, the places are the same exactly where the keys are
 pub place_test : (keys : List Row) (a b : Row) → holds keys b ≡ true → nat_eq (place_in keys a) (place_in keys b) ≡ row_eq a b

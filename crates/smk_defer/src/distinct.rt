@@ -9,7 +9,7 @@ ghost use Rattle.smk_defer.specs.Kept.{keys1, keys2};
 use crate::keys::{class_keys, first_keys, row_keys};
 use smk_base::{Op1, Op2, Rel};
 use smk_body::right_columns;
-use smk_keys::{Classes, KeyTable};
+use smk_keys::KeyTable;
 use std::alloc::{AllocError, Global};
 
 /// The keys of a step with one input: those of a grouping are the first columns of its rows.
@@ -61,6 +61,5 @@ fn right_keys(alloc: Global, right: &Rel, pairs: &[(u32, u32)]) -> Result<KeyTab
     ensures { IfOk result (λ made. made ≡ firsts (map (key_of (right_columns_of pairs.now)) right.now.rows)) }
 {
     let cols = right_columns(alloc, pairs)?;
-    let classes = Classes::of_rows(alloc, right, cols.as_slice())?;
-    class_keys(alloc, right, cols.as_slice(), &classes)
+    class_keys(alloc, right, cols.as_slice())
 }

@@ -20,7 +20,7 @@ pub struct Kept {
     /// The distinct keys of the step by first occurrence: the images of a distinct, the keys of a group, the rows of a union, and for an equijoin the right rows' values in its pairs. Any other step has none.
     pub keys: KeyTable,
     pub left: Rel,
-    /// The right input, exactly where the step has two.
+    /// The right input, exactly if the step has two.
     pub right: Option<Rel>,
     pub want: Want,
     /// The number of rows of the step.

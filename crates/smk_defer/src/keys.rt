@@ -2,26 +2,21 @@
 
 ghost use Rattle.std.specs.{Prelude.{◌≡◌, ◌<◌, ◌≤◌, All, IfOk, length, map}, Bool.OnTrue};
 ghost use Rattle.smk_base.specs.{Cells.value_of_cell, Places.upto, Rels.{picked, row_in, rows_at}, declared.rel.TheConstants.ROW_LIMIT};
-ghost use Rattle.smk_keys.specs.{Classes.classes_of, Keys.place_or_last};
+ghost use Rattle.smk_keys.specs.Keys.{place_or_last};
 ghost use Rattle.smk_model.specs.{Classes.places_in, Plain.firsts, Ways.Targets};
 
-use smk_base::{CellRef, Rel, Row, Value, numbers_below};
+use smk_base::{CellRef, Rel, Row, Value, numbers_at, numbers_below};
 use smk_body::Way;
 use smk_keys::{Classes, KeyTable};
 use std::alloc::{AllocError, Global};
 
 /// The keys of rows in these columns, each at its first occurrence, from the classes of the keys.
-pub(crate) fn class_keys(
-    alloc: Global,
-    rel: &Rel,
-    cols: &[u32],
-    classes: &Classes,
-) -> Result<KeyTable, AllocError>
-    requires columns { All (λ c. c < length rel.now.kinds) cols.now }
-    requires classes { classes.now ≡ classes_of (map (picked cols.now) rel.now.rows) }
+pub(crate) fn class_keys(alloc: Global, rel: &Rel, cols: &[u32]) -> Result<KeyTable, AllocError>
+    requires { All (λ c. c < length rel.now.kinds) cols.now }
     ensures { IfOk result (λ made. made ≡ firsts (map (picked cols.now) rel.now.rows)) }
 {
     let _rows = rel.len();
+    let classes = Classes::of_rows(alloc, rel, cols)?;
     let made = keys_at(alloc, rel, cols, classes.firsts())?;
     Ok(made)
 }
@@ -58,7 +53,7 @@ fn keys_at(alloc: Global, rel: &Rel, cols: &[u32], places: &[u32]) -> Result<Key
     Ok(made)
 }
 
-/// For each row the place of its key among these keys, and their number where it isn't there. Rows with equal keys are put into classes first, so that a key is looked up once for all of them.
+/// For each row the place of its key among these keys, and their number if it isn't there. Rows with equal keys are put into classes first, so that a key is looked up once for all of them.
 pub(crate) fn key_places(
     alloc: Global,
     rel: &Rel,
@@ -72,11 +67,7 @@ pub(crate) fn key_places(
     let _rows = rel.len();
     let classes = Classes::of_rows(alloc, rel, cols)?;
     let table = found_at(alloc, rel, cols, classes.firsts(), keys)?;
-    let of = classes.of();
-    let mut made = Vec::with_capacity(alloc, of.len())?;
-    for class in of {
-        made.push(table[*class as usize])?;
-    }
+    let made = numbers_at(alloc, table.as_slice(), classes.of())?;
     Ok(made)
 }
 
@@ -104,7 +95,7 @@ pub(crate) fn row_way(alloc: Global, rel: &Rel, keys: &KeyTable) -> Result<Way, 
     key_way(alloc, rel, cols.as_slice(), keys)
 }
 
-// For each of these places the place of its row's key among the keys, and their number where it isn't there.
+// For each of these places the place of its row's key among the keys, and their number if it isn't there.
 fn found_at(
     alloc: Global,
     rel: &Rel,
@@ -124,7 +115,7 @@ fn found_at(
     Ok(made)
 }
 
-// The place of the key of row i among the keys, and their number where it isn't there. The keys are mostly those of the same rows in their order, so where it is expected it is compared first: that makes no key, and hashes none.
+// The place of the key of row i among the keys, and their number if it isn't there. The keys are mostly those of the same rows in their order, so where it is expected it is compared first: that makes no key, and hashes none.
 fn place_of_key(
     alloc: Global,
     rel: &Rel,
@@ -174,7 +165,7 @@ fn is_value_of(value: &Value, cell: CellRef) -> bool
     }
 }
 
-// The place of a key, and the number of keys where it isn't there.
+// The place of a key, and the number of keys if it isn't there.
 fn place_or_len(keys: &KeyTable, key: &Row) -> u32
     ensures { result ≡ place_or_last keys.now key.now }
 {

@@ -49,7 +49,7 @@ fn view_apart<R: Threads + Sync, G: Gate + Sync, L: Ledger>(
     }
 }
 
-// All views over tables that are growing chains on one of them, each in the place of its view.
+// All views over tables that are growing chains on one of them, each at the place of its view.
 fn each_apart<R: Threads + Sync, G: Gate + Sync, L: Ledger>(
     work: &Work<'_, R, Workers<'_, G>>,
     renewal: &Renewal<'_>,

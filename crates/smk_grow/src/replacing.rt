@@ -5,7 +5,7 @@ ghost use Rattle.smk_grow.specs.Renewed.{put_at, replaced};
 
 use smk_base::{BrushOn, Rel};
 
-// Puts a value in the place of the one there, if there is one to put.
+// Puts a value in place of the one there, if there is one to put.
 fn put<T: Drop>(olds: &mut [T], place: usize, fresh: Option<T>)
     requires { place < length olds.old }
     ensures { olds.new ≡ put_at olds.old place fresh }
@@ -16,7 +16,7 @@ fn put<T: Drop>(olds: &mut [T], place: usize, fresh: Option<T>)
     }
 }
 
-// Puts fresh values in the places of those for which there is one.
+// Replaces values by fresh ones, if there are any.
 pub(crate) fn replace<T: Drop>(olds: &mut [T], fresh: Vec<Option<T>>)
     requires { length fresh.items ≤ length olds.old }
     ensures { olds.new ≡ replaced fresh.items olds.old }

@@ -65,7 +65,7 @@ fn one_fresh<R: Threads + Sync, G: Gate + Sync, L: Ledger>(
     }
 }
 
-// What takes the places of the views over the tables without the new rows, each in the place of its view; or the first that scans the table and is too big.
+// What replaces the views over the tables without the new rows, each at the place of its view; or the first that scans the table and is too big.
 pub(crate) fn each_fresh<R: Threads + Sync, G: Gate + Sync, L: Ledger>(
     work: &Work<'_, R, Workers<'_, G>>,
     renewal: &Renewal<'_>,

@@ -1,4 +1,4 @@
-// The texts of a demo in the place of files.
+// The texts of a demo in place of files.
 ghost use Rattle.std.specs.{Prelude.{◌≡◌, ◌+◌, Some, take}, Option.option_copied};
 ghost use Rattle.smk_model.specs.Outcome.{file_named, text_named};
 

@@ -1,7 +1,7 @@
 -- Numbers that stand for items.
 use Rattle.std.specs.Prelude.{◌≡◌, ℕ, ◌<◌, List, length, slice_index, slice_index_or, All}
 
--- numbers below a count that are equal exactly where the items are
+-- numbers below a count that are equal exactly if the items are
 pub record AreNumbers {X : Type 0} (none : X) (items : List X) (count : ℕ) (numbers : List ℕ) : Type 0 where
   pub long : length numbers ≡ length items
   pub below : All (λ number. number < count) numbers

@@ -34,7 +34,7 @@ pub record GroupMarks : Type 0 where
   -- so the grouping's input is what the projections make of these
   pub rows : (keys : List ℕ) (aggs : List Agg) (input : Expr) (tables : List (List Row)) (S : List ℕ) → is_chain input ≡ true → AreRids input tables S
       → input_at input tables S ≡ map (made input) (sub (table_at tables (selected_table input)) (kept (marks_of keys aggs input tables) S))
-  -- the marks are numbers of the keys: below the number of first groups, and equal exactly where the keys are
+  -- the marks are numbers of the keys: below the number of first groups, and equal exactly if the keys are
   pub numbers : (keys : List ℕ) (aggs : List Agg) (input : Expr) (tables : List (List Row)) (S : List ℕ) → is_chain input ≡ true → AreRids input tables S
       → AreNumbers [] (map (key_of keys) (input_at input tables S)) (length (rows_over (Apply (Grouping keys aggs) input) tables)) (marks_at (marks_of keys aggs input tables) S)
   -- so the classes of the marks are those of the keys

@@ -4,7 +4,7 @@ use Rattle.std.specs.List.{list_any}
 use Rattle.smk_base.specs.Plans.{Binary, Expr, Leaf, Apply, Combine}
 use Rattle.smk_model.specs.{Values.Row, Plain.{step1, step2, leaves, width, eval_from, whole}, Lineage.{upto, row_at, from1, from_left, from_right}, Annotated.{Marked, no_mark, mark_at, ann_from, reaches, relates}, Composed.{table_at, rows_over}, LineageLaws.united}
 use Rattle.smk_base.proofs.Places.{get_or_map_upto, has_upto, has_below}
-use Rattle.smk_model.proofs.{Anys.{and_false, any_same, any_agree, any_and, any_or_and, any_swap}, Annotated.step_by_step, Ranges.{from1_below, left_below, right_below}}
+use Rattle.smk_model.proofs.{Anys.{and_false, any_same, any_agree, any_and, any_or_and, any_swap}, Annotated.step_by_step, CuiWidom.{from1_below, left_below, right_below}}
 
 -- the rows over whole tables
 abbrev pub rows_in : Expr → List (List Row) → List Row

@@ -4,7 +4,7 @@ use Rattle.std.specs.List.{list_any, sum_by, All}
 use Rattle.smk_base.specs.{Plans.{Expr, Leaf, Apply, Combine}, Places.{Lists, IsPlaces, list_at, own_lists, empty_lists, members_at, composed, merged, inverted}}
 use Rattle.smk_model.specs.{Values.Row, Plain.{step1, step2, leaves, whole}, Lineage.{upto, places, has, from1, from_left, from_right}, Annotated.{mark_at, ann, reaches, relates}, Locals.{fwd_lists, back1, fwd1, back_left, fwd_left, back_right, fwd_right}, Composed.{table_at, rows_over, backs, forwards}, ComposedLaws.{BacksCompose, ForwardsCompose, ListsStand}}
 use Rattle.smk_base.proofs.Places.{map_map, same_below, length_upto, get_or_map_upto, map_upto_agree, upto_below, places_below, places_false, places_own, has_places, places_are, nat_eq-sym}
-use Rattle.smk_model.proofs.{Anys.{any_same, any_below, any_false, any_swap, or_false}, Ranges.{from1_below, left_below, right_below}, Comes.{rows_in, comes, rows_whole, relates_comes}}
+use Rattle.smk_model.proofs.{Anys.{any_same, any_below, any_false, any_swap, or_false}, CuiWidom.{from1_below, left_below, right_below}, Comes.{rows_in, comes, rows_whole, relates_comes}}
 
 -- lists of places by a test of two numbers
 

@@ -4,7 +4,7 @@ use Rattle.std.specs.List.{flat_map, filter, All}
 use Rattle.smk_base.specs.{declared.book.plan.Item.Item, declared.book.plan.Agg.Agg, Plans.{Formula, Unary, Selection, Projection, Distinction, Grouping, Binary, Equijoin, ThetaJoin, CrossProduct, BagUnion, SetUnion}}
 use Rattle.smk_model.specs.{Values.{Row, meets}, Plain.{row_eq, image, key_of, aggregate, firsts, grouped, agree, meets_together, always, nested, step1, step2}, Lineage.{upto, places, has, row_at, sub, matching, match_at, from1, from_left, from_right}, CuiWidom.{CuiWidom1, CuiWidom2}, LineageLaws.CuiWidom}
 use Rattle.smk_base.proofs.Places.{at_places, upto_below, places_below, places_are, single, has_single, single_has, one_place, no_place}
-use Rattle.smk_model.proofs.{Annotated.nested_is, Firsts.{only_passing, row_same, holds, holds_here, holds_single, holds_place, holds_left, holds_right, holds_some, holds_at, firsts_holds, firsts_from, once, sub_key, keys_once, all_of_key}}
+use Rattle.smk_model.proofs.{Annotated.nested_is, Firsts.{only_passing, row_same, holds, holds_here, holds_single, holds_place, holds_left, holds_right, holds_some, holds_at, firsts_holds, firsts_from, once, sub_key, keys_once, all_of_key}, QueryAnswers.all_below}
 
 -- selection
 
@@ -234,3 +234,13 @@ of_two SetUnion L R o h = of_union L R o h
 
 pub cui_widom : CuiWidom
 cui_widom = record { one = of_one; two = of_two }
+
+-- so they are in range
+pub from1_below : (op : Unary) (L : List Row) (o : ℕ) → o < length (step1 op L) → All (λ r. r < length L) (from1 op L o)
+from1_below op L o h = all_below (length L) (from1 op L o) (of_one op L o h).places
+
+pub left_below : (op : Binary) (L R : List Row) (o : ℕ) → o < length (step2 op L R) → All (λ r. r < length L) (from_left op L R o)
+left_below op L R o h = all_below (length L) (from_left op L R o) (of_two op L R o h).places_left
+
+pub right_below : (op : Binary) (L R : List Row) (o : ℕ) → o < length (step2 op L R) → All (λ r. r < length R) (from_right op L R o)
+right_below op L R o h = all_below (length R) (from_right op L R o) (of_two op L R o h).places_right

@@ -9,7 +9,7 @@ pub length_each : {X : Type 0} (f : ℕ → X) (n : ℕ) → length (map f (upto
 length_each f n = length-map (upto n) f ∙ length_upto n
 
 -- lists that a function makes, inverted
-turned : (f : ℕ → List ℕ) (m n : ℕ) → inverted (record { lists = map f (upto m); bound = n }) ≡ record { lists = map (λ r. places (λ i. has (f i) r) m) (upto n); bound = m }
+pub turned : (f : ℕ → List ℕ) (m n : ℕ) → inverted (record { lists = map f (upto m); bound = n }) ≡ record { lists = map (λ r. places (λ i. has (f i) r) m) (upto n); bound = m }
 turned f m n =
     let lists = map f (upto m) in
     let each : map (λ r. places (λ i. has (get_or lists i []) r) (length lists)) (upto n) ≡ map (λ r. places (λ i. has (f i) r) m) (upto n) =

@@ -4,7 +4,7 @@ use Rattle.std.specs.List.{list_any, filter, All}
 use Rattle.smk_base.specs.{Places.{composed, followed}, declared.book.plan.Item.Item, declared.book.plan.Agg.Agg, Plans.{Formula, Unary, Selection, Projection, Grouping, Expr, Leaf, Apply}}
 use Rattle.smk_model.specs.{Values.{Row, meets}, Plain.{row_eq, image, key_of, firsts, grouped, step1}, Lineage.{upto, places, row_at, meeting, from1}, Locals.{back1, fwd1}, Composed.{table_at, rows_over, backs, forwards}, LineageLaws.selected_table, Growth.{is_chain, regrouping}, GrowthLaws.{HasGrown, ChainGrows, GroupGrows, both_rows}}
 use Rattle.smk_base.proofs.{Places.{map_map, same_below, places_below, places_false}, Texts.list_any-map}
-use Rattle.smk_model.proofs.{Anys.{any_same, any_below, any_false, or_false, and_false}, CuiWidom.length_selected, Ranges.from1_below, Locals.at_each, Parts.places_add, Comes.{rows_in, comes, rows_whole}, Composed.{lists_by, bounded, lists_agree, compose_by, forward_by, backs_by, forwards_by}, Keyed.{at_key, by_keys, key_again}, Regroups.{both_keys, groups_regroup, regrouped_two}}
+use Rattle.smk_model.proofs.{Anys.{any_same, any_below, any_false, or_false, and_false}, CuiWidom.{length_selected, from1_below}, Locals.at_each, Parts.places_add, Comes.{rows_in, comes, rows_whole}, Composed.{lists_by, bounded, lists_agree, compose_by, forward_by, backs_by, forwards_by}, Keyed.{at_key, by_keys, key_again}, Regroups.{both_keys, groups_regroup, regrouped_two}}
 
 -- whether a test of two numbers is one below k and n, another one behind k and n, and holds nowhere else
 pub record AreBlocks (f g h : ℕ → ℕ → Bool) (k n k' n' : ℕ) : Type 0 where

@@ -3,7 +3,6 @@ pub mod Annotated
 pub mod Floors
 pub mod Firsts
 pub mod CuiWidom
-pub mod Ranges
 pub mod Anys
 pub mod Comes
 pub mod Composed
@@ -13,7 +12,6 @@ pub mod RepliesFit
 pub mod Locals
 pub mod Directions
 pub mod Classes
-pub mod OneEach
 pub mod Ways
 pub mod Bulk
 pub mod Counts

@@ -1,13 +1,9 @@
 -- The number of rows of a step with one input.
-use Rattle.std.proofs.{Common.{◌+◌, ◌≤◌, Bool, List, [], ◌∷◌, length, map, arith, inl, inr}, lemmas.List.{length-append, length-map}, lemmas.Bool.cases_Bool}
-use Rattle.std.specs.List.{filter, fold}
+use Rattle.std.proofs.{Common.{◌+◌, ◌≤◌, List, [], ◌∷◌, length, map, arith, inl, inr}, lemmas.List.{length-append, length-map}, lemmas.List.Sums.{length-filter, count_by-le-length}, lemmas.Bool.cases_Bool}
+use Rattle.std.specs.List.{fold}
 use Rattle.smk_base.specs.Plans.{Selection, Projection, Distinction, Grouping}
 use Rattle.smk_model.specs.{Values.{Row, meets}, Plain.{image, key_of, add_first, firsts, grouped}, LocalLaws.AddsNoRows}
 use Rattle.smk_model.proofs.Firsts.{holds}
-
-filter_short : (f : Row → Bool) (L : List Row) → length (filter f L) ≤ length L
-filter_short f [] = omega arith
-filter_short f (x ∷ xs) = elim (cases_Bool (f x)) [ inl p ↦ rw p (omega (arith, filter_short f xs)) | inr p ↦ rw p (omega (arith, filter_short f xs)) ]
 
 add_short : (found : List Row) (x : Row) → length (add_first found x) ≤ length found + 1
 add_short found x = elim (cases_Bool (holds found x)) [ inl p ↦ rw p (omega arith) | inr p ↦ rw p (omega (arith, length-append found (x ∷ []))) ]
@@ -20,7 +16,7 @@ pub firsts_short : (xs : List Row) → length (firsts xs) ≤ length xs
 firsts_short xs = omega (arith, fold_short [] xs)
 
 pub adds_no_rows : AddsNoRows
-adds_no_rows (Selection formula) L = filter_short (meets formula) L
+adds_no_rows (Selection formula) L = omega (arith, length-filter (meets formula) L, count_by-le-length (meets formula) L)
 adds_no_rows (Projection items) L = omega (arith, length-map L (image items))
 adds_no_rows (Distinction items) L = omega (arith, firsts_short (map (image items) L), length-map L (image items))
 adds_no_rows (Grouping keys aggs) L =

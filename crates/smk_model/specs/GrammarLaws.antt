@@ -15,7 +15,7 @@ pub record LeavesGrammar {T : Type 0} (Spells : List Token → T → Type 0) (fa
   pub begins : (more : List Token) × (tree : T) × Spells (before ++ more) tree
   pub none : (text : List ℕ) (more : List Token) (tree : T) → Spells (before ++ record { at = token.at; kind = token.kind; text = text } ∷ more) tree → ⊥
 
--- the first fault of a text is an unexpected token exactly where its tokens leave the grammar
+-- the first fault of a text is an unexpected token exactly if its tokens leave the grammar
 pub record IsUnexpected {T : Type 0} (Spells : List Token → T → Type 0) (fault_of : List Token → Option BookFault) : Type 0 where
   pub leaves : (text : List ℕ) (at : ℕ) → fault_of (tokens text) ≡ Some (Unexpected at) → LeavesGrammar Spells fault_of (tokens text) at
   pub unexpected : (text : List ℕ) (at : ℕ) → LeavesGrammar Spells fault_of (tokens text) at → fault_of (tokens text) ≡ Some (Unexpected at)

@@ -51,3 +51,5 @@ pub record LineageOfWays : Type 0 where
   pub one : (op : Unary) (L : List Row) → IsOf (way op L) (back1 op L) (fwd1 op L)
   pub left : (op : Binary) (L R : List Row) → IsOf (left_way op L R) (back_left op L R) (fwd_left op L R)
   pub right : (op : Binary) (L R : List Row) → IsOf (right_way op L R) (back_right op L R) (fwd_right op L R)
+  -- where each row is its own, it is its own source and its own target
+  pub own : (n : ℕ) → inverted (own_lists n) ≡ own_lists n

@@ -4,7 +4,7 @@ pub use crate::plans::class_laws::{bulk, classes_are};
 pub use crate::plans::composed_laws::{
     backs_compose, forwards_compose, leaves_split, lists_stand, merged_has_both,
 };
-pub use crate::plans::direction_laws::{inverses, one_each, pairs_forward};
+pub use crate::plans::direction_laws::{inverses, pairs_forward};
 pub use crate::plans::fault_laws::{first_of_all, nothing_asked};
 pub use crate::plans::growth_laws::{
     chain_grows, group_grows, groups_regroup, growing_is_thin, growing_never_full, unscanned_stays,

@@ -233,7 +233,7 @@ pub fn narrowed<R: Threads + Sync, G: Gate + Sync, L: Ledger>(
     }
 }
 
-// A part of what the steps of an `ask` line come to, or the line's refusal.
+// A part of the answer of an `ask` line's steps, or the line's refusal.
 fn stepped_text(
     alloc: Global,
     part: Option<Part>,

@@ -44,7 +44,7 @@ pub(crate) fn mark_line(
     })
 }
 
-// Puts another mark in the place of that of a `back` line. After an error the line has none.
+// Puts another mark in place of that of a `back` line. After an error the line has none.
 fn put_mark(line: &mut Line, mark: u32) -> Result<(), AllocError>
     requires { HasMarks line.old }
     ensures { OnOk result (line.new ≡ with_mark line.old mark) }

@@ -8,7 +8,7 @@ use Rattle.smk_compose.specs.declared.kept_maps.KeptMap.{KeptMap}
 abbrev pub is_of_table : ℕ → KeptMap → Bool
 is_of_table table kept = nat_eq kept.table table
 
--- its backward and its forward lists, which are kept exactly where the query is declared
+-- its backward and its forward lists, which are kept exactly if the query is declared
 abbrev pub kept_back : List KeptMap → ℕ → Asked Lists
 kept_back kept table = ok_or (option_and_then (λ k. k.back) (find (is_of_table table) kept)) Undeclared
 

@@ -103,7 +103,7 @@ fn count_of(held: &Lent<'_>, brush: &BrushOn) -> u32
     brush.rids.as_slice().len() as u32
 }
 
-// Its rids where they are wanted, and else none.
+// Its rids if they are wanted, and else none.
 fn rids_told(alloc: Global, brush: &BrushOn, listed: bool) -> Result<Rids, AllocError>
     ensures { IfOk result (λ rids. rids ≡ cond listed brush.now.rids []) }
 {
@@ -114,7 +114,7 @@ fn rids_told(alloc: Global, brush: &BrushOn, listed: bool) -> Result<Rids, Alloc
     }
 }
 
-// A brush: it comes into force, in place of that of its view and table. Its reply has the lists of rids and of marks where they are wanted.
+// A brush: it comes into force, in place of that of its view and table. Its reply has the lists of rids and of marks if they are wanted.
 pub(crate) fn brush<R: Threads + Sync, G: Gate + Sync, L: Ledger>(
     work: &Work<'_, R, Workers<'_, G>>,
     held: &Lent<'_>,

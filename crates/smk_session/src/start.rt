@@ -30,7 +30,7 @@ use std::alloc::AllocError;
 use std::sync::ledger::Ledger;
 use std::thread::Threads;
 
-// What is kept beside the views.
+// What is kept besides the views.
 #[derive(Drop)]
 struct Beside {
     extras: Extras,
@@ -45,7 +45,7 @@ pub struct Begun {
     pub contents: Vec<Option<Rel>>,
 }
 
-// What is kept beside these views, while no brush is in force.
+// What is kept besides these views, with no brush in force.
 fn keep_beside<R: Threads + Sync, G: Gate + Sync, L: Ledger>(
     work: &Work<'_, R, Workers<'_, G>>,
     opened: &Opening<'_>,

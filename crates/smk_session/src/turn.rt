@@ -20,7 +20,7 @@ pub(crate) struct Change {
     pub(crate) contents: Contents,
 }
 
-// What is kept of a view beside its first content.
+// What is kept of a view besides its first content.
 #[derive(Drop)]
 pub(crate) struct Content {
     pub(crate) view: u32,
@@ -33,7 +33,7 @@ pub(crate) type Brushes = ListOf<BrushOn>;
 // What is kept of some views.
 pub(crate) type Contents = ListOf<Content>;
 
-// Puts a content in the place of that of its view.
+// Puts a content in place of that of its view.
 fn put(contents: &mut [Option<Rel>], content: Content)
     requires { content.view < length contents.old }
     ensures { contents.new ≡ set contents.old content.view content.rel }

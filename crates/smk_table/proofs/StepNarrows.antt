@@ -5,11 +5,11 @@ use Rattle.smk_base.specs.{Places.{Lists, has, upto, places}, Plans.{Formula, Co
 use Rattle.smk_base.specs.declared.value.Kind.TheVariants as kinds
 use Rattle.smk_base.specs.declared.book.plan.Item.TheVariants as items
 use Rattle.smk_base.specs.declared.book.plan.Operand.TheVariants as operands
-use Rattle.smk_model.specs.{Values.{Row, meets, operand_at, value_cmp, holds}, Plain.{agree, meets_together, always, nested, image, key_of, firsts, step1, step2}, Kinds.{AreAlike, ItemFits, ItemsFit, OperandFits, FormulaFits, PairFits, JoinFits, Fits1, Fits2, FewTogether, kinds1, kinds2}, Lineage.{row_at, meeting, matching, from1}, Locals.{back_lists, fwd_lists, back1, fwd1, back_left, fwd_left, back_right, fwd_right}}
+use Rattle.smk_model.specs.{Values.{Row, meets, operand_at, value_cmp, holds}, Plain.{agree, meets_together, always, nested, image, key_of, firsts, step1, step2}, Kinds.{AreAlike, ItemFits, ItemsFit, OperandFits, FormulaFits, PairFits, JoinFits, Fits1, Fits2, FewTogether, kinds1, kinds2}, Lineage.{row_at, meeting, matching, lefts_of, rights_of}, Locals.{back_lists, back1, fwd1, back_left, fwd_left, back_right, fwd_right}, Ways.{Way, Own, Sources, back_of, fwd_of, reaches, way, left_way, right_way, IsOf}}
 use Rattle.smk_base.proofs.Places.{filter_map, map_map, same_below, places_below, few_places, map_upto}
-use Rattle.smk_model.proofs.{Parts.places_add, Bulk.bulk}
+use Rattle.smk_model.proofs.{Parts.places_add, Bulk.bulk, Directions.length_each, Ways.lineage_of_ways}
 use Rattle.smk_table.specs.{Named.{is_of, place_of, item_among, pair_among, behind, is_paired}, Wanted.{AreWide, in_operand, in_formula, operand_among, formula_among, is_read, below, among1, after1, is_met, below_left, below_right, among2, after2}}
-use Rattle.smk_table.proofs.{Narrows.{HasItem, each_agrees, each_fits, value_there, kind_there, long_there, images_there, item_kinds, items_fit, keys_there, group_rows, group_kinds, group_fits, has_passing, has_keys, has_aggs}, JoinNarrows.{SameTest, read_behind, nested_there, matching_there, same_back, same_fwd, by_keys, keyed_from}}
+use Rattle.smk_table.proofs.{Narrows.{HasItem, each_agrees, each_fits, value_there, kind_there, long_there, images_there, item_kinds, items_fit, keys_there, group_rows, group_kinds, group_fits, has_passing, has_keys, has_aggs}, JoinNarrows.{SameTest, read_behind, nested_there, matching_there}}
 
 -- columns among others
 
@@ -90,24 +90,24 @@ pub record Narrows1 (op new : Unary) (ks js : List Kind) (L M : List Row) (after
   pub back : back1 new M ≡ back1 op L
   pub fwd : fwd1 new M ≡ fwd1 op L
 
-back_same : (op new : Unary) (L M : List Row) → length (step1 new M) ≡ length (step1 op L) → length M ≡ length L → ((o : ℕ) → from1 new M o ≡ from1 op L o) → back1 new M ≡ back1 op L
-back_same op new L M long count from = same_back (from1 new M) (from1 op L) (length (step1 new M)) (length M) from ∙ ap₂ (λ a b. back_lists (from1 op L) a b) long count
+-- by the same way a side has the same lists, and so the step as many rows
+same_lists : {w v : Way} {a b c d : Lists} → w ≡ v → IsOf w a b → IsOf v c d → (a ≡ c) × (b ≡ d)
+same_lists e is was = (is.backward ∙ ap back_of e ∙ sym was.backward, is.forward ∙ ap fwd_of e ∙ sym was.forward)
 
-fwd_same : (op new : Unary) (L M : List Row) → length (step1 new M) ≡ length (step1 op L) → length M ≡ length L → ((o : ℕ) → from1 new M o ≡ from1 op L o) → fwd1 new M ≡ fwd1 op L
-fwd_same op new L M long count from = same_fwd (from1 new M) (from1 op L) (length (step1 new M)) (length M) from ∙ ap₂ (λ a b. fwd_lists (from1 op L) a b) long count
+same_count : (f g : ℕ → List ℕ) (m n k l : ℕ) → back_lists f m k ≡ back_lists g n l → m ≡ n
+same_count f g m n k l e = sym (length_each f m) ∙ ap (λ (a : Lists). length a.lists) e ∙ length_each g n
+
+by_way : (op new : Unary) (ks js : List Kind) (L M : List Row) (after cols : List ℕ) → Fits1 new js → map (kind_in (kinds1 new js)) after ≡ map (kind_in (kinds1 op ks)) cols → All (λ c. c < length (kinds1 new js)) after
+    → map (picked after) (step1 new M) ≡ map (picked cols) (step1 op L) → way new M ≡ way op L → Narrows1 op new ks js L M after cols
+by_way op new ks js L M after cols fits kinds inside rows e =
+    let lists = same_lists e (lineage_of_ways.one new M) (lineage_of_ways.one op L) in
+    record { fits = fits; kinds = kinds; inside = inside; rows = rows; long = same_count _ _ _ _ _ _ lists.0; back = lists.0; fwd = lists.1 }
 
 -- a step that makes all its columns anew
-remade : (op new : Unary) (ks js : List Kind) (L M : List Row) (cols : List ℕ) → Fits1 new js → kinds1 new js ≡ kinds1 op ks → step1 new M ≡ step1 op L → length M ≡ length L → ((o : ℕ) → from1 new M o ≡ from1 op L o)
-    → All (λ c. c < length (kinds1 op ks)) cols → Narrows1 op new ks js L M cols cols
-remade op new ks js L M cols fits kinds rows count from inside = record {
-  fits = fits;
-  kinds = ap (λ (z : List Kind). map (kind_in z) cols) kinds;
-  inside = subst (λ (z : List Kind). All (λ c. c < length z) cols) (sym kinds) inside;
-  rows = ap (map (picked cols)) rows;
-  long = ap length rows;
-  back = back_same op new L M (ap length rows) count from;
-  fwd = fwd_same op new L M (ap length rows) count from;
-}
+remade : (op new : Unary) (ks js : List Kind) (L M : List Row) (cols : List ℕ) → Fits1 new js → kinds1 new js ≡ kinds1 op ks → step1 new M ≡ step1 op L → way new M ≡ way op L → All (λ c. c < length (kinds1 op ks)) cols
+    → Narrows1 op new ks js L M cols cols
+remade op new ks js L M cols fits kinds rows e inside =
+    by_way op new ks js L M cols cols fits (ap (λ (z : List Kind). map (kind_in z) cols) kinds) (subst (λ (z : List Kind). All (λ c. c < length z) cols) (sym kinds) inside) (ap (map (picked cols)) rows) e
 
 selected : (formula : Formula) (ks : List Kind) (L : List Row) (cols : List ℕ) → FormulaFits ks formula → All (λ c. c < length ks) cols
     → let read = below (Selection formula) cols (length ks) in Narrows1 (Selection formula) (among1 (Selection formula) read) ks (map (kind_in ks) read) L (map (picked read) L) (map (place_of read) cols) cols
@@ -122,19 +122,10 @@ selected formula ks L cols fits inside =
     let kept = filter (meets formula) L in
     let met : filter test M ≡ map (picked read) kept = filter_map test (picked read) L ∙ ap (map (picked read)) (filter_agree (λ row. test (picked read row)) (meets formula) (λ row. meets_there read formula row has_f) L) in
     let count = length-map L (picked read) in
-    let long : length (filter test M) ≡ length kept = ap length met ∙ length-map kept (picked read) in
     let same : meeting (formula_among read formula) M ≡ meeting formula L = ap (places (λ i. test (row_at M i))) count
     ∙ same_below (λ i. test (row_at M i)) (λ i. meets formula (row_at L i)) (length L) (λ i h. ap test (get_or-map (picked read) L i [] [] h) ∙ meets_there read formula (row_at L i) has_f) in
-    let from : (o : ℕ) → from1 new M o ≡ from1 op L o = λ o. ap (λ (A : List ℕ). get_or A o 0 ∷ []) same in
-    record {
-      fits = formula_fits read ks formula has_f fits;
-      kinds = kinds_there read cols ks has_c;
-      inside = inside_there read cols ks has_c;
-      rows = ap (map (picked (map (place_of read) cols))) met ∙ keys_there read cols kept has_c;
-      long = long;
-      back = back_same op new L M long count from;
-      fwd = fwd_same op new L M long count from;
-    }
+    by_way op new ks (map (kind_in ks) read) L M (map (place_of read) cols) cols (formula_fits read ks formula has_f fits) (kinds_there read cols ks has_c) (inside_there read cols ks has_c)
+    (ap (map (picked (map (place_of read) cols))) met ∙ keys_there read cols kept has_c) (ap₂ Sources same count)
 
 pub one_narrows : (op : Unary) (ks : List Kind) (L : List Row) (cols : List ℕ) → Fits1 op ks → All (λ c. c < length (kinds1 op ks)) cols
     → let read = below op cols (length ks) in Narrows1 op (among1 op read) ks (map (kind_in ks) read) L (map (picked read) L) (after1 op read cols) cols
@@ -143,25 +134,19 @@ one_narrows (Projection of) ks L cols fits inside =
     let read = below (Projection of) cols (length ks) in
     let has_i = items_has of ks fits in
     remade (Projection of) (among1 (Projection of) read) ks (map (kind_in ks) read) L (map (picked read) L) cols
-    (items_fit read ks of has_i fits) (item_kinds read ks of has_i) (images_there read of L has_i) (length-map L (picked read)) (λ o. refl) inside
+    (items_fit read ks of has_i fits) (item_kinds read ks of has_i) (images_there read of L has_i) (ap Own (length-map L (picked read))) inside
 one_narrows (Distinction of) ks L cols fits inside =
     let read = below (Distinction of) cols (length ks) in
     let has_i = items_has of ks fits in
-    let M = map (picked read) L in
-    let of' = map (item_among read) of in
     let images = images_there read of L has_i in
-    remade (Distinction of) (Distinction of') ks (map (kind_in ks) read) L M cols
-    (items_fit read ks of has_i fits) (item_kinds read ks of has_i) (ap firsts images) (length-map L (picked read))
-    (λ o. keyed_from (image of') M o ∙ ap (λ K. by_keys K o) images ∙ sym (keyed_from (image of) L o)) inside
+    remade (Distinction of) (among1 (Distinction of) read) ks (map (kind_in ks) read) L (map (picked read) L) cols
+    (items_fit read ks of has_i fits) (item_kinds read ks of has_i) (ap firsts images) (ap reaches images) inside
 one_narrows (Grouping keys aggs) ks L cols fits inside =
     let read = below (Grouping keys aggs) cols (length ks) in
     let has_k = has_keys keys aggs ks fits in
     let has_a = has_aggs keys aggs ks fits in
-    let M = map (picked read) L in
-    let keys' = map (place_of read) keys in
-    remade (Grouping keys aggs) (among1 (Grouping keys aggs) read) ks (map (kind_in ks) read) L M cols
-    (group_fits read keys aggs ks has_k has_a fits) (group_kinds read keys aggs ks has_k has_a) (group_rows read keys aggs L has_k has_a) (length-map L (picked read))
-    (λ o. keyed_from (key_of keys') M o ∙ ap (λ K. by_keys K o) (keys_there read keys L has_k) ∙ sym (keyed_from (key_of keys) L o)) inside
+    remade (Grouping keys aggs) (among1 (Grouping keys aggs) read) ks (map (kind_in ks) read) L (map (picked read) L) cols
+    (group_fits read keys aggs ks has_k has_a fits) (group_kinds read keys aggs ks has_k has_a) (group_rows read keys aggs L has_k has_a) (ap reaches (keys_there read keys L has_k)) inside
 
 -- a step with two inputs
 
@@ -204,36 +189,21 @@ few_read t ls rs few =
     let cr = places (λ c. t (length ls + c)) (length rs) in
     omega (arith, few, length-map cl (kind_in ls), length-map cr (kind_in rs), few_places t (length ls), few_places (λ c. t (length ls + c)) (length rs))
 
--- what the places of a join say, and how many there are
-abbrev Sources : Type 0
-Sources = (ℕ × ℕ → ℕ) → List (ℕ × ℕ) → ℕ → ℕ → Lists
-
-abbrev sources_back : Sources
-sources_back side ps outputs inputs = back_lists (λ o. side (get_or ps o (0, 0)) ∷ []) outputs inputs
-
-abbrev sources_fwd : Sources
-sources_fwd side ps outputs inputs = fwd_lists (λ o. side (get_or ps o (0, 0)) ∷ []) outputs inputs
-
-same_sources : (f : Sources) (side : ℕ × ℕ → ℕ) (ps qs : List (ℕ × ℕ)) (a b m n : ℕ) → ps ≡ qs → a ≡ b → m ≡ n → f side ps a m ≡ f side qs b n
-same_sources f side ps qs a b m n p q r = rw (p, q, r) refl
-
 -- a step that puts the pairs of a test beside each other
 pub record IsNested (op : Binary) (test : Row → Row → Bool) : Type 0 where
   pub rows : (L R : List Row) → step2 op L R ≡ nested test L R
-  pub left_back : (L R : List Row) → back_left op L R ≡ sources_back (λ p. p.0) (matching test L R) (length (step2 op L R)) (length L)
-  pub left_fwd : (L R : List Row) → fwd_left op L R ≡ sources_fwd (λ p. p.0) (matching test L R) (length (step2 op L R)) (length L)
-  pub right_back : (L R : List Row) → back_right op L R ≡ sources_back (λ p. p.1) (matching test L R) (length (step2 op L R)) (length R)
-  pub right_fwd : (L R : List Row) → fwd_right op L R ≡ sources_fwd (λ p. p.1) (matching test L R) (length (step2 op L R)) (length R)
+  pub left : (L R : List Row) → left_way op L R ≡ Sources (lefts_of (matching test L R)) (length L)
+  pub right : (L R : List Row) → right_way op L R ≡ Sources (rights_of (matching test L R)) (length R)
   pub kinds : (ls rs : List Kind) → kinds2 op ls rs ≡ ls ++ rs
 
 nests_pairs : (pairs : List (ℕ × ℕ)) → IsNested (Equijoin pairs) (agree pairs)
-nests_pairs pairs = record { rows = λ L R. refl; left_back = λ L R. refl; left_fwd = λ L R. refl; right_back = λ L R. refl; right_fwd = λ L R. refl; kinds = λ ls rs. refl }
+nests_pairs pairs = record { rows = λ L R. refl; left = λ L R. refl; right = λ L R. refl; kinds = λ ls rs. refl }
 
 nests_formula : (formula : Formula) → IsNested (ThetaJoin formula) (meets_together formula)
-nests_formula formula = record { rows = λ L R. refl; left_back = λ L R. refl; left_fwd = λ L R. refl; right_back = λ L R. refl; right_fwd = λ L R. refl; kinds = λ ls rs. refl }
+nests_formula formula = record { rows = λ L R. refl; left = λ L R. refl; right = λ L R. refl; kinds = λ ls rs. refl }
 
 nests_all : IsNested CrossProduct always
-nests_all = record { rows = λ L R. refl; left_back = λ L R. refl; left_fwd = λ L R. refl; right_back = λ L R. refl; right_fwd = λ L R. refl; kinds = λ ls rs. refl }
+nests_all = record { rows = λ L R. refl; left = λ L R. refl; right = λ L R. refl; kinds = λ ls rs. refl }
 
 joined : (op new : Binary) (test test' : Row → Row → Bool) (t : ℕ → Bool) (ls rs : List Kind) (L R : List Row) (cols : List ℕ) → IsNested op test → IsNested new test' → AreWide (length ls) L
     → All (λ c. c < length (kinds2 op ls rs)) cols → ((c : ℕ) → has cols c ≡ true → t c ≡ true)
@@ -252,25 +222,18 @@ joined op new test test' t ls rs L R cols is is' wide inside wanted fits same =
     let kinds : kinds2 new (map (kind_in ls) cl) (map (kind_in rs) cr) ≡ map (kind_in (ls ++ rs)) both = is'.kinds (map (kind_in ls) cl) (map (kind_in rs) cr) ∙ sym (read_behind _ ls rs w cl cr refl low) in
     let made : step2 new M N ≡ map (picked both) (step2 op L R) = is'.rows M N ∙ nested_there test test' cl cr w L R same low wide ∙ ap (map (picked both)) (sym (is.rows L R)) in
     let met = matching_there test test' cl cr w L R same wide in
-    let long : length (step2 new M N) ≡ length (step2 op L R) = ap length made ∙ length-map (step2 op L R) (picked both) in
-    let first = λ (p : ℕ × ℕ). p.0 in
-    let second = λ (p : ℕ × ℕ). p.1 in
-    let a = length (step2 new M N) in
-    let b = length (step2 op L R) in
-    let ps = matching test' M N in
-    let qs = matching test L R in
-    let count_l = length-map L (picked cl) in
-    let count_r = length-map R (picked cr) in
+    let lefts = same_lists (is'.left M N ∙ ap₂ (λ (ps : List (ℕ × ℕ)) n. Sources (lefts_of ps) n) met (length-map L (picked cl)) ∙ sym (is.left L R)) (lineage_of_ways.left new M N) (lineage_of_ways.left op L R) in
+    let rights = same_lists (is'.right M N ∙ ap₂ (λ (ps : List (ℕ × ℕ)) n. Sources (rights_of ps) n) met (length-map R (picked cr)) ∙ sym (is.right L R)) (lineage_of_ways.right new M N) (lineage_of_ways.right op L R) in
     record {
       fits = fits;
       kinds = rw (kinds, is.kinds ls rs) (kinds_there both cols (ls ++ rs) has_c);
       inside = rw kinds (inside_there both cols (ls ++ rs) has_c);
       rows = rw made (keys_there both cols (step2 op L R) has_c);
-      long = long;
-      left_back = is'.left_back M N ∙ same_sources sources_back first ps qs a b (length M) (length L) met long count_l ∙ sym (is.left_back L R);
-      left_fwd = is'.left_fwd M N ∙ same_sources sources_fwd first ps qs a b (length M) (length L) met long count_l ∙ sym (is.left_fwd L R);
-      right_back = is'.right_back M N ∙ same_sources sources_back second ps qs a b (length N) (length R) met long count_r ∙ sym (is.right_back L R);
-      right_fwd = is'.right_fwd M N ∙ same_sources sources_fwd second ps qs a b (length N) (length R) met long count_r ∙ sym (is.right_fwd L R);
+      long = same_count _ _ _ _ _ _ lefts.0;
+      left_back = lefts.0;
+      left_fwd = lefts.1;
+      right_back = rights.0;
+      right_fwd = rights.1;
     }
 
 -- a union reads all columns

@@ -96,7 +96,7 @@ fn one_item_among(item: Item, cols: &[u32]) -> Item
 }
 
 #[tactic(auto, using(crate::proofs::Narrows::place_found, crate::proofs::Narrows::place_missing))]
-// The place of a column among these, or 0 where it isn't there.
+// The place of a column among these, or 0 if it isn't there.
 fn place_among(cols: &[u32], c: u32) -> u32
     requires { length cols.now ≤ 32 }
     ensures { result ≡ place_of cols.now c }

@@ -6,7 +6,7 @@ use smk_jobs::Crew;
 use std::alloc::{AllocError, Global};
 use std::thread::Threads;
 
-/// A body whose steps always want memory. It promises that none leaves anything pending.
+/// A body whose steps always run out of memory. It promises that none leaves anything pending.
 #[derive(Drop)]
 pub struct NoSteps;
 

@@ -115,7 +115,7 @@ fn came_to_pieces<R: Threads + Sync + AllocGlobal>(
     Ok(gate.came())
 }
 
-// How often a body is asked whose selection and join want memory once their rows are made, in two pieces that come to a gate.
+// How often a body is called whose selection and join run out of memory once their rows are made, in two pieces that pass a gate.
 fn calls_without_steps<R: Threads + Sync + AllocGlobal>(
     rt: &R,
     system: HostRuntime,

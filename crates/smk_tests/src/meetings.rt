@@ -102,7 +102,7 @@ fn told<R: Threads + Sync, L: Ledger>(
     Ok((text, gate.came()))
 }
 
-// The text of the answer to a line by a session of a book over the shop's tables, and who came to its gate. After want of memory it is asked again, at a gate of
+// The text of the answer to a line by a session of a book over the shop's tables, and who came to its gate. If memory runs out it is asked again, at a gate of
 // its own. The book is given by its bytes, since a call with a text can't choose the ledger.
 fn told_in_two<R: Threads + Sync, L: Ledger>(
     system: HostRuntime,

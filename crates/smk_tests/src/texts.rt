@@ -3,7 +3,7 @@ use smk_parse::parse_line;
 use smk_report::no_memory_text;
 use std::test::Fail;
 
-// A run reads lines of further kinds, too, which are none of these. And memory is never wanting on purpose.
+// A run reads lines of further kinds, too, which are none of these. And memory never runs out on purpose.
 #[test]
 fn a_line_is_read_by_itself_and_want_of_memory_has_its_text(rt: HostRuntime) -> Result<(), Fail> {
     let alloc = rt.alloc();

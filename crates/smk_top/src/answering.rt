@@ -1,4 +1,4 @@
-// What the lines of a script come to. Each kind of line has one function here, and `answer_line` is the one place that knows which kinds there are.
+// The answers to the lines of a script. Each kind of line has one function here, and `answer_line` is the one place that knows which kinds there are.
 ghost use Rattle.std.specs.Prelude.{◌≡◌, ◌≤◌, ◌<◌, ◌+◌, ℕ, List, Some, None, cond, is_some, length, IfSome, IfOk, OnOk, OnErr};
 ghost use Rattle.smk_base.specs.{CatalogImage.{catalog_image, table_place}, TreeImage.{any_image, ask_image}};
 ghost use Rattle.smk_model.specs.Appends as appends;
@@ -29,7 +29,7 @@ use std::collections::VecDeque;
 use std::sync::ledger::Ledger;
 use std::thread::Threads;
 
-// What a line of the grammar comes to: its text, and whether it is refused.
+// The answer to a line of the grammar: its text, and whether it is refused.
 #[derive(Drop)]
 pub(crate) struct Answered {
     pub(crate) text: Vec<u8>,
@@ -216,7 +216,7 @@ fn answer_append<R: Threads + Sync, G: Gate + Sync, L: Ledger>(
     }
 }
 
-// What a line of any kind comes to, over a book whose dependencies have these names, and the session in the next state. A line that appends rows takes the first of these tables. After an error the session is as it was.
+// The answer to a line of any kind, over a book whose dependencies have these names, and the session in the next state. A line that appends rows takes the first of these tables. After an error the session is as it was.
 fn answer_line<R: Threads + Sync, G: Gate + Sync, L: Ledger>(
     engine: &Engine<'_, R, G>,
     session: Session,

@@ -1,4 +1,4 @@
-// What a conversation's own lines come to. Each kind of line has one function, and `tell_own` is the one place that knows which kinds there are.
+// The answers to a conversation's own lines. Each kind of line has one function, and `tell_own` is the one place that knows which kinds there are.
 ghost use Rattle.std.specs.Prelude.{◌≡◌, ◌≤◌, ◌+◌, false, IfOk, OnOk, OnErr};
 ghost use Rattle.smk_base.specs.{CatalogImage.catalog_image, declared.reply.ProfileReply.ProfileReply};
 ghost use Rattle.smk_model.specs.{OwnAnswers.{own_answered, brief_profile_answered}, Profiles.{AreDependencies, is_profile_refused}};
@@ -55,7 +55,7 @@ fn answer_brief_profile(
     Ok(OwnAnswer { text, refused })
 }
 
-// What an own line comes to, and what it changes of the session.
+// The answer to an own line, and what it changes in the session.
 fn answer_own_line<R: Threads + Sync, G: Gate + Sync, L: Ledger>(
     engine: &Engine<'_, R, G>,
     session: &mut Session,

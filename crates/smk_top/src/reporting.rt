@@ -100,7 +100,7 @@ fn write_views<R: Threads + Sync, O: Sink>(
     Ok(counts)
 }
 
-// Writes the text of the line that comes next and says this, if it has one, and lets go of what it says. It tells the counts beside the session.
+// Writes the text of the next line, which says this, if it has a text, and lets go of what it says. It gives the counts and the session.
 fn write_line<R: Threads + Sync, G: Gate + Sync, O: Sink, L: Ledger>(
     engine: &Engine<'_, R, G>,
     stand: Stand<'_>,

@@ -9,8 +9,9 @@ ghost use Rattle.smk_body.specs.Renumbered.{HasKeys, StandFor, key_total, number
 
 use crate::find::by_text::{is_text_key, text_classes};
 use crate::find::classes::row_classes;
+use crate::find::stretches::in_stretches;
 use smk_base::Rel;
-use smk_jobs::{Crew, Work, cut_place, cut_range, in_parts};
+use smk_jobs::{Crew, Work, cut_place};
 use smk_keys::Classes;
 use std::alloc::{AllocError, Global};
 use std::marker::Sync;
@@ -26,6 +27,7 @@ pub fn found_groups<R: Threads + Sync, C: Crew + Sync>(
     requires few_keys { length keys.now ≤ COLUMN_LIMIT }
     ensures { IfOk result (λ classes. classes ≡ classes_of (map (key_of keys.now) rel.now.rows)) }
 {
+    let rows = rel.len();
     let workers = work.crew.parts();
     if workers == 1 {
         work.crew.arrive(0);
@@ -34,45 +36,14 @@ pub fn found_groups<R: Threads + Sync, C: Crew + Sync>(
     if is_text_key(rel, keys) {
         return text_classes(work, rel, keys[0], workers);
     }
-    let parts = parts_classed(work, rel, keys, workers)?;
-    all_classes(work, rel, keys, workers, parts.as_slice())
-}
-
-// The classes of the keys of each part, in threads.
-fn parts_classed<R: Threads + Sync, C: Crew + Sync>(
-    work: &Work<'_, R, C>,
-    rel: &Rel,
-    keys: &[u32],
-    workers: u32,
-) -> Result<Vec<Classes>, AllocError>
-    requires keys { All (λ c. c < length rel.now.kinds) keys.now }
-    requires few { workers ≤ WORKER_LIMIT }
-    ensures { IfOk result (λ made. AreParts (λ p. HasKeys keys.now rel.now.rows (cut_at workers (length rel.now.rows) p) (cut_at workers (length rel.now.rows) (p + 1))) workers made.items) }
-{
-    in_parts(
+    let parts = in_stretches(
         work,
         workers,
-        &|p| part_classed(work.crew, work.alloc, rel, keys, workers, p),
-    )
-}
-
-// The classes of the keys of part p, in whatever thread.
-fn part_classed<C: Crew>(
-    crew: &C,
-    alloc: Global,
-    rel: &Rel,
-    keys: &[u32],
-    workers: u32,
-    p: u32,
-) -> Result<Classes, AllocError>
-    requires keys { All (λ c. c < length rel.now.kinds) keys.now }
-    requires few { workers ≤ WORKER_LIMIT }
-    requires part { p < workers }
-    ensures { IfOk result (HasKeys keys.now rel.now.rows (cut_at workers (length rel.now.rows) p) (cut_at workers (length rel.now.rows) (p + 1))) }
-{
-    crew.arrive(p);
-    let (from, to) = cut_range(workers, rel.len(), p);
-    Classes::of_rows_between(alloc, rel, keys, from, to)
+        rows,
+        true,
+        &|_, from, to| Classes::of_rows_between(work.alloc, rel, keys, from, to),
+    )?;
+    all_classes(work, rel, keys, workers, parts.as_slice())
 }
 
 // The classes of the keys of all rows, from those of the parts: a key that several parts have is one class, and the classes come in the order of the rows.

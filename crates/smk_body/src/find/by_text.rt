@@ -8,8 +8,9 @@ ghost use Rattle.smk_model.specs.Plain.{key_of};
 ghost use Rattle.smk_jobs.specs.Cuts.{AreParts, cut_at};
 ghost use Rattle.smk_body.specs.Rises.{AreRises, codes_of, is_text_key as is_text_key_of};
 
+use crate::find::stretches::in_stretches;
 use smk_base::{Kind, Rel};
-use smk_jobs::{Crew, Work, cut_range, in_parts};
+use smk_jobs::{Crew, Work};
 use smk_keys::Classes;
 use std::alloc::{AllocError, Global};
 use std::marker::Sync;
@@ -42,47 +43,16 @@ pub(crate) fn text_classes<R: Threads + Sync, C: Crew + Sync>(
     requires few { workers ≤ WORKER_LIMIT }
     ensures { IfOk result (λ classes. classes ≡ classes_of (map (key_of (c ∷ [])) rel.now.rows)) }
 {
-    let parts = parts_risen(work, rel, c, workers)?;
-    classes_by_rises(work.alloc, rel, c, workers, parts.as_slice())
-}
-
-// The rises of each part, in threads.
-fn parts_risen<R: Threads + Sync, C: Crew + Sync>(
-    work: &Work<'_, R, C>,
-    rel: &Rel,
-    c: u32,
-    workers: u32,
-) -> Result<Vec<Vec<u32>>, AllocError>
-    requires column { c < length rel.now.kinds }
-    requires text { kind_in rel.now.kinds c ≡ kinds.Text }
-    requires few { workers ≤ WORKER_LIMIT }
-    ensures { IfOk result (λ made. AreParts (λ p v. AreRises (codes_of rel.now.rows c) (cut_at workers (length rel.now.rows) p) (cut_at workers (length rel.now.rows) (p + 1)) v.items) workers made.items) }
-{
-    in_parts(
+    let rows = rel.len();
+    let codes = rel.codes(c);
+    let parts = in_stretches(
         work,
         workers,
-        &|p| part_risen(work.crew, work.alloc, rel, c, workers, p),
-    )
-}
-
-// The rises of part p, in whatever thread.
-fn part_risen<C: Crew>(
-    crew: &C,
-    alloc: Global,
-    rel: &Rel,
-    c: u32,
-    workers: u32,
-    p: u32,
-) -> Result<Vec<u32>, AllocError>
-    requires column { c < length rel.now.kinds }
-    requires text { kind_in rel.now.kinds c ≡ kinds.Text }
-    requires few { workers ≤ WORKER_LIMIT }
-    requires part { p < workers }
-    ensures { IfOk result (λ v. AreRises (codes_of rel.now.rows c) (cut_at workers (length rel.now.rows) p) (cut_at workers (length rel.now.rows) (p + 1)) v.items) }
-{
-    crew.arrive(p);
-    let (from, to) = cut_range(workers, rel.len(), p);
-    rises_between(alloc, rel.codes(c), from, to)
+        rows,
+        true,
+        &|_, from, to| rises_between(work.alloc, codes, from, to),
+    )?;
+    classes_by_rises(work.alloc, rel, c, workers, parts.as_slice())
 }
 
 // The places, from one up to another, where a code is greater than all before it from there.

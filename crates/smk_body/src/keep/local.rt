@@ -17,7 +17,7 @@ pub struct Side {
     pub fwd: Option<RidMap>,
 }
 
-/// The lineage of one step. It has a right side exactly where the step has two inputs.
+/// The lineage of one step. It has a right side exactly if the step has two inputs.
 #[derive(Drop)]
 pub struct Local {
     pub left: Side,

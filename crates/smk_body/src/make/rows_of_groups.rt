@@ -17,7 +17,7 @@ use std::alloc::{AllocError, Global};
 use std::marker::Sync;
 use std::thread::{Threads, join};
 
-/// The rows of a grouping, and the places of each group where they are wanted. One aggregate or none over few groups isn't worth a thread.
+/// The rows of a grouping, and the places of each group if they are wanted. One aggregate or none over few groups isn't worth a thread.
 pub(crate) fn grouped_and_turned<R: Threads + Sync, C: Crew + Sync>(
     work: &Work<'_, R, C>,
     rel: &Rel,

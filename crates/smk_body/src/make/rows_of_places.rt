@@ -14,7 +14,7 @@ use std::alloc::AllocError;
 use std::marker::Sync;
 use std::thread::{Threads, join};
 
-/// The rows at these places, which are a set, and the forward lists of these where they are wanted.
+/// The rows at these places, which are a set, and the forward lists of these if they are wanted.
 pub(crate) fn placed_and_turned<R: Threads + Sync, C: Crew + Sync>(
     work: &Work<'_, R, C>,
     rel: &Rel,
@@ -34,7 +34,7 @@ pub(crate) fn placed_and_turned<R: Threads + Sync, C: Crew + Sync>(
     gathered_and_turned(work, rel, places, true, asked)
 }
 
-/// The rows at these places, and the turned lists of the places where they are wanted, at the same time. It is told where no place comes twice.
+/// The rows at these places, and the turned lists of the places if they are wanted, at the same time. It is told where no place comes twice.
 pub(crate) fn gathered_and_turned<R: Threads + Sync, C: Crew + Sync>(
     work: &Work<'_, R, C>,
     rel: &Rel,

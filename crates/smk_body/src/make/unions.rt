@@ -33,7 +33,7 @@ fn put_behind(alloc: Global, left: Rel, right: &Rel) -> Result<Rel, AllocError>
     wide.followed_by(alloc, right)
 }
 
-/// The rows of both sides, left first, in classes of equal ones. It is refused for `Rows` exactly where there are more than 1,048,576 classes.
+/// The rows of both sides, left first, in classes of equal ones. It is refused for `Rows` exactly if there are more than 1,048,576 classes.
 pub(crate) fn union_classes(alloc: Global, left: &Rel, right: &Rel) -> Result<Classes, OpFault>
     requires { AllZip AreAlike left.now.kinds right.now.kinds }
     ensures classes { IfOk result (λ made. made ≡ classes_of (left.now.rows ++ right.now.rows)) }

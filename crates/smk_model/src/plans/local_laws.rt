@@ -7,7 +7,7 @@ pub fn locals_are()
     ensures { LocalsAre }
 {}
 
-/// The lineage of each side of each step is that of the way in which its rows and those of the step belong together: each is its own, each output row comes from one input row, or each input row reaches one output row.
+/// The lineage of each side of each step is that of the way in which its rows and those of the step belong together: each is its own, each output row comes from one input row, or each input row reaches one output row. Where each is its own, the two directions are one.
 #[tactic(auto, using(crate::proofs::Ways::lineage_of_ways))]
 pub fn lineage_of_ways()
     ensures { LineageOfWays }

@@ -131,7 +131,7 @@ fn cubes_place(declarations: &[Back], v: usize, t: usize) -> usize
     place
 }
 
-// The column of this name, and the split by it. It is kept exactly where it is declared.
+// The column of this name, and the split by it. It is kept exactly if it is declared.
 fn split_named<'a>(pair: &'a Pair<'_>, name: &Text) -> Result<(usize, &'a Split), Turned>
     requires { pair.now.table < length pair.now.catalog.now.tables }
     ensures gives { MatchResult result (λ found. split_asked pair.now name.now ≡ Ok (found.0, found.1.now)) (λ turned. Turns turned (split_asked pair.now name.now)) }
@@ -152,7 +152,7 @@ fn split_named<'a>(pair: &'a Pair<'_>, name: &Text) -> Result<(usize, &'a Split)
     }
 }
 
-// The declared groups. They are kept exactly where a grouping is declared.
+// The declared groups. They are kept exactly if a grouping is declared.
 fn cubes_declared<'a>(pair: &'a Pair<'_>) -> Result<&'a Cubes, Turned>
     ensures { MatchResult result (λ cubes. cubes_asked pair.now ≡ Ok cubes.now) (λ turned. Turns turned (cubes_asked pair.now)) }
 {

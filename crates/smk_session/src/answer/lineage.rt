@@ -8,7 +8,7 @@ use smk_base::Refusal;
 use smk_compose::Run;
 use smk_rid::RidMap;
 
-// The backward lineage to a table. It is kept exactly where the query is declared.
+// The backward lineage to a table. It is kept exactly if the query is declared.
 pub(crate) fn back_map(run: &Run, table: usize) -> Result<&RidMap, Turned>
     ensures { MatchResult result (λ map. kept_back run.now.kept table ≡ Ok map.now) (λ turned. Turns turned (kept_back run.now.kept table)) }
 {
@@ -18,7 +18,7 @@ pub(crate) fn back_map(run: &Run, table: usize) -> Result<&RidMap, Turned>
     }
 }
 
-// The forward lineage from a table. It is kept exactly where the query is declared.
+// The forward lineage from a table. It is kept exactly if the query is declared.
 pub(crate) fn fwd_map(run: &Run, table: usize) -> Result<&RidMap, Turned>
     ensures { MatchResult result (λ map. kept_fwd run.now.kept table ≡ Ok map.now) (λ turned. Turns turned (kept_fwd run.now.kept table)) }
 {

@@ -105,7 +105,7 @@ fn at_node(view: u32, fault: EvalFault) -> Turned
     }
 }
 
-// What is kept of a view, exactly where it is a grouping over a chain of the table.
+// What is kept of a view, exactly if it is a grouping over a chain of the table.
 fn kept_view<'a>(refresh: &Refresh<'a>, w: u32) -> Option<KeptView<'a>>
     requires refresh { IsRefresh refresh.now }
     requires view { w < length refresh.now.held.now.catalog.now.views }

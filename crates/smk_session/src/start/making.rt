@@ -183,7 +183,7 @@ fn make(
     }
 }
 
-// Puts last what a declaration asks for besides the rows.
+// Appends what a declaration asks for besides the rows.
 fn put_made(extras: &mut Extras, made: SplitOrCubes) -> Result<(), AllocError>
     ensures splits { OnOk result (extras.new.splits.items ≡ extras.old.splits.items ++ option_to_list made.split) }
     ensures cubes { OnOk result (extras.new.cubes.items ≡ extras.old.cubes.items ++ option_to_list made.cubes) }
@@ -198,7 +198,7 @@ fn put_made(extras: &mut Extras, made: SplitOrCubes) -> Result<(), AllocError>
     Ok(())
 }
 
-// Puts last what these declarations ask for besides the rows, in their order. So many are made at once.
+// Appends what these declarations ask for besides the rows, in their order. So many are made at once.
 fn put_each<R: Threads + Sync>(
     rt: &R,
     alloc: Global,

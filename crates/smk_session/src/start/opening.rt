@@ -252,7 +252,7 @@ pub(crate) fn open_views<R: Threads + Sync, G: Gate + Sync, L: Ledger>(
     open_by(&share, most, mode, book, tables, steps)
 }
 
-// No content is kept beside the first ones of so many views.
+// No content besides the first ones of so many views.
 pub(crate) fn no_contents(alloc: Global, count: usize) -> Result<Vec<Option<Rel>>, AllocError>
     ensures { IfOk result (λ contents. contents.items ≡ map (λ w. None) (upto count)) }
 {

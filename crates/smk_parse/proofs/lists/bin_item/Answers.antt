@@ -10,19 +10,19 @@ returns c =
     let low = c.in_ok-width.ensures.low in
     let high = c.in_ok-width.ensures.high in
     let e : to_z w64 (of_z w64 c.in_ok-width.width) ≡ c.in_ok-width.width = first_of (search rules, omega (arith, ints), grind (arith, common_steps)) in
-    subst (λ n. reads (One OutputItem c.args.before) c.args.reader.now ≡ Ok (items.Bin c.in_ok-col.col n c.in_ok-name.name, c.column-2.new.reader)) (sym e) (grind (arith, common_steps, in_order))
+    subst (λ n. reads (One OutputItem c.args.before) c.args.reader.now ≡ Ok (items.Bin c.in_ok-col.col n c.in_ok-name.name, c.column-2.new.reader)) (sym e) (grind (arith, in_order))
 
 pub returns-in_err-expect : goal.returns-in_err-expect
-returns-in_err-expect c = grind (arith, common_steps, in_order)
+returns-in_err-expect c = grind (arith, in_order)
 
 pub returns-in_err-col : goal.returns-in_err-col
-returns-in_err-col c = grind (arith, common_steps, in_order)
+returns-in_err-col c = grind (arith, in_order)
 
 pub returns-in_err-expect-2 : goal.returns-in_err-expect-2
-returns-in_err-expect-2 c = grind (arith, common_steps, in_order)
+returns-in_err-expect-2 c = grind (arith, in_order)
 
 pub returns-in_err-width : goal.returns-in_err-width
-returns-in_err-width c = grind (arith, common_steps, in_order)
+returns-in_err-width c = grind (arith, in_order)
 
 pub returns-in_err-expect-3 : goal.returns-in_err-expect-3
 returns-in_err-expect-3 c =
