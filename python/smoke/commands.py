@@ -1,9 +1,9 @@
 """The commands of `python3 -m smoke`. Each ends with a status: 0, 1 where something is wrong with what it was given, 2 for wrong words."""
 import argparse
-import csv
 import os
 import sys
 
+from smoke import wishes
 from smoke.address import without_password
 from smoke.faults import SmokeError, harmless
 from smoke.language import Unwritable
@@ -26,48 +26,17 @@ def book(words):
     path = words.file
     if words.sep not in (None, ","):
         path = beside(words.file)
-        make(words.file, path, separator=separator_of(words.sep))
+        make(words.file, path, separator=wishes.separator_of(words.sep))
         print(f"{path} is the file made ready, with commas", file=sys.stderr)
-    found = books.found_in(path, listed(words.columns), words.name)
+    found = books.found_in(path, wishes.listed(words.columns), words.name)
     sys.stdout.flush()
     sys.stdout.buffer.write(found.text)
     return 0
 
 
-def pairs(given, what):
-    """A dict of words NAME=VALUE."""
-    made = {}
-    for text in given or ():
-        name, equal, value = text.rpartition("=")
-        if not equal:
-            raise Wrong(f"{text!r} is no {what}: write NAME=VALUE")
-        made[name] = value
-    return made
-
-
-class Wrong(SmokeError):
-    """Words that make no command."""
-
-
-def listed(given):
-    """The names in words NAME,NAME."""
-    return [name for text in given for name in next(csv.reader([text]))] if given else None
-
-
-def separator_of(given):
-    return {"tab": "\t", "\\t": "\t"}.get(given, given)
-
-
 def prepare(words):
     from smoke import prepare as preparing
-    scale = pairs(words.scale, "scale")
-    if not all(value.isascii() and value.isdigit() and int(value) <= 18 for value in scale.values()):
-        raise Wrong("a scale is a number of decimal places, from 0 to 18")
-    done = preparing.prepare(
-        words.source, words.target, separator=separator_of(words.sep), encoding=words.encoding, skip=words.skip, header=listed(words.header),
-        decimal=words.decimal, order=words.order, dates=words.dates, scale={name: int(value) for name, value in scale.items()},
-        leave_out=words.leave_out or [], text=listed(words.text) or [], kept=listed(words.columns), rename=pairs(words.rename, "new name"),
-        empty=listed(words.empty) or [], sort=words.sort, trim=words.trim, pad=words.pad, quotes=not words.plain_quotes, spread=words.spread)
+    done = preparing.prepare(words.source, words.target, **wishes.of(words))
     for said in done.did:
         print(harmless(f"- {said}"))
     print(f"{done.file}: {done.rows:,} records, and {done.file}.json")
@@ -81,7 +50,7 @@ def ask(words):
     if words.csv:
         frame = answers[-1]
         if not hasattr(frame, "to_csv"):
-            raise Wrong("the answer to the last line has no rows: --csv is for show, back, ask and .selected")
+            raise wishes.Wrong("the answer to the last line has no rows: --csv is for show, back, ask and .selected")
         return saved(words.csv, lambda path: frame.to_csv(path, words.places))
     sys.stdout.flush()
     sys.stdout.buffer.write(b"\n".join(answers))
@@ -138,24 +107,7 @@ def parser():
     command = commands.add_parser("prepare", help="make a file ready: commas, UTF-8, ints for decimals and dates")
     command.add_argument("source", metavar="IN.csv")
     command.add_argument("target", metavar="OUT.csv")
-    command.add_argument("--sep", help="what stands between the fields, tab for a tab; else it is found")
-    command.add_argument("--encoding", help="such as utf-16 or cp1252; else it is found")
-    command.add_argument("--skip", type=int, default=0, metavar="N", help="leave out the first N lines")
-    command.add_argument("--header", action="append", metavar="NAME,..", help="put this header in front of a file that has none")
-    command.add_argument("--decimal", choices=[".", ","], help="the sign before decimals; else it is found")
-    command.add_argument("--order", choices=["ymd", "dmy", "mdy"], help="the order of year, month and day; else it is found")
-    command.add_argument("--dates", choices=["int", "text"], default="int", help="what a day is written as: 20261031, or 2026-10-31")
-    command.add_argument("--scale", action="append", metavar="NAME=N", help="round a column to N decimal places, and write it as an int")
-    command.add_argument("--leave-out", action="append", metavar="RULE", help="leave out records: totals, or COLUMN=VALUE")
-    command.add_argument("--text", action="append", metavar="NAME,..", help="leave these columns as they are")
-    command.add_argument("--columns", action="append", metavar="NAME,..", help="write these columns alone")
-    command.add_argument("--rename", action="append", metavar="OLD=NEW", help="give a column another name")
-    command.add_argument("--empty", action="append", metavar="TEXT,..", help="take these texts for no value")
-    command.add_argument("--sort", metavar="NAME", help="sort the records by a column, as ints where it has ints")
-    command.add_argument("--trim", action="store_true", help="drop spaces around fields")
-    command.add_argument("--pad", action="store_true", help="fill up records with too few fields")
-    command.add_argument("--plain-quotes", action="store_true", help="take quotes for plain characters")
-    command.add_argument("--spread", action="store_true", help="take fields over several lines for what they are")
+    wishes.add_words(command)
     command.set_defaults(work=prepare)
     command = commands.add_parser("ask", help="ask a book, and print the answers, or write the last as a CSV file")
     command.add_argument("book", metavar="BOOK")
@@ -193,7 +145,7 @@ def main(given):
         return status
     except SmokeError as fault:
         print(harmless(without_password(str(fault))), file=sys.stderr)
-        return 2 if isinstance(fault, Wrong) else 1
+        return 2 if isinstance(fault, wishes.Wrong) else 1
     except (Unwritable, ValueError) as fault:
         print(harmless(without_password(str(fault))), file=sys.stderr)
     except BrokenPipeError:

@@ -4,6 +4,7 @@ import math
 import os
 import random
 import re
+import unicodedata
 from dataclasses import dataclass, field
 
 from smoke import language, tables
@@ -251,8 +252,9 @@ def nameable(header):
 
 
 def plain(text, front):
-    """Letters, digits and _ of a text, as a name that begins with a letter: the front is put before it where it doesn't."""
-    letters = "".join(letter if letter.isascii() and letter.isalnum() else "_" for letter in text.lower())
+    """Letters, digits and _ of a text, accents aside, as a name that begins with a letter: the front is put before it where it doesn't."""
+    letters = (letter for letter in unicodedata.normalize("NFKD", text.lower()) if not unicodedata.combining(letter))
+    letters = "".join(letter if letter.isascii() and letter.isalnum() else "_" for letter in letters)
     while "__" in letters:
         letters = letters.replace("__", "_")
     letters = letters.strip("_")

@@ -21,6 +21,7 @@ from smoke.readings import MOST_PLACES, SIMPLE, Number, Reading, moment
 
 TOTAL = re.compile(r"\s*(grand\s+|sub)?(totals?|sum|summe|gesamt(summe)?|zwischensumme|insgesamt|somme|totale|totaal|suma)\b", re.I)
 NOTHING = {"n/a", "na", "#n/a", "null", "none", "nan", "-", "--", ".", "?", "k.a.", "nil", "#div/0!", "#value!", "\u2013", "\u2014"}
+NUMERIC = re.compile(r"[-+]?[.,]?\d")
 SEPARATORS = ",;\t|"
 SHOWN = {",": "commas", ";": "semicolons", "\t": "tabs", "|": "bars", ":": "colons", " ": "spaces"}
 END = "\0end of the file\0"
@@ -133,6 +134,10 @@ class Source:
             did.append(f"between the fields were {SHOWN.get(self.separator, repr(self.separator))}, and are commas now")
         if wishes.skip:
             did.append(f"left out the first {wishes.skip} lines")
+        elif wishes.header is None and wishes.quotes and (above := lines_above(front, self.separator)):
+            title = front[0].strip().strip(self.separator + '"')[:60]
+            did.append(f"left out {above} line{'s' if above > 1 else ''} above the header: {title}")
+            self.skipped += above
 
     def lines(self):
         try:
@@ -178,6 +183,24 @@ def separator_of(front):
             if worth > most:
                 best, most = separator, worth
     return best
+
+
+def lines_above(front, separator):
+    """How many of a file's first lines are titles above its header: those before the first record with more than half as many fields as most
+    have, if all its fields are different names. Empty fields at the end of a record don't count."""
+    rows, found, above = csv.reader(front, delimiter=separator), [], 0
+    for row in rows:
+        fields = [field.strip() for field in row]
+        while fields and not fields[-1]:
+            fields.pop()
+        if fields:
+            found.append((above, fields))
+        above = rows.line_num
+    lengths = [len(fields) for _, fields in found]
+    usual = max(lengths, key=lambda length: (lengths.count(length), length), default=0)
+    above, header = next(((above, fields) for above, fields in found[:20] if 2 * len(fields) > usual), (0, []))
+    are_names = all(field and not NUMERIC.match(field) for field in header) and len(set(header)) == len(header)
+    return above if header and header is not found[0][1] and are_names else 0
 
 
 # Columns
@@ -345,9 +368,11 @@ class Work:
             if len(row) < wanted and self.wishes.pad:
                 row = row + [""] * (wanted - len(row))
             if len(row) != wanted:
+                sought = tables.ragged_hint(row, None, wanted, self.source.separator)
                 wrong.append(TableError(self.source.table, self.source.path, f"record {number} has a wrong number of fields", number, line,
-                                        hint=f"It has {len(row)}, and the header {wanted}. {tables.ragged_hint(row, None, wanted)}"
-                                             + " Short records are filled up by --pad." * (len(row) < wanted)))
+                                        hint=f"It has {len(row)}, and the header {wanted}. {sought}"
+                                             + " Short records are filled up by --pad." * (len(row) < wanted)
+                                             + " Lines above the header are left out by --skip." * (number == 1 and len(row) > wanted)))
                 if len(wrong) == 5:
                     break
                 continue
@@ -384,18 +409,20 @@ class Work:
         self.rules = [rule_of(text, self.names) for text in wishes.leave_out]
         readings = [Reading() for _ in self.names]
         strange = [dict() for _ in self.names]
-        totals = []
+        totals, spaced = [], set()
         for line, row in rows:
             if any(rule(row) for rule in self.rules):
                 self.left.append(line)
                 continue
             if is_total(row):
                 totals.append(line)
-            for reading, odd, field in zip(readings, strange, row):
+            for name, reading, odd, field in zip(self.names, readings, strange, row):
                 if field in reading.seen:
                     reading.filled += 1
                     continue
                 stripped = field.strip()
+                if len(stripped) < len(field):
+                    spaced.add(name)
                 if len(stripped) < 9 and stripped.lower() in NOTHING:
                     odd[stripped] = odd.get(stripped, 0) + 1
                 else:
@@ -419,6 +446,8 @@ class Work:
                 self.marks.append(set())
             if way.said:
                 self.did.append(way.said)
+            if way.write is same and name in spaced:
+                self.did.append(f"{name}: kept spaces around fields, by which they differ: --trim drops them")
             self.ways.append(way)
 
     def sign(self, readings):

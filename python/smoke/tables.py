@@ -9,6 +9,7 @@ from smoke import records as recording
 from smoke.faults import FileError, LimitError, TableError
 
 INT = re.compile(r"[ \t]*([+-]?[0-9]+)[ \t]*\Z")
+CALLED = {";": "semicolon", "\t": "tab", "|": "bar"}  # what stands between fields where it is no comma
 SPLIT = "Split the table, or keep only what you need in it."
 
 
@@ -120,7 +121,7 @@ def header_hint(name, header, found):
         if field.strip(" \t\u00a0\ufeff").lower() == name.lower():
             return f"The header has {field!r}. Names are compared byte for byte: case and spaces matter."
     if len(header) == 1:
-        for separator, called in ((";", "semicolon"), ("\t", "tab"), ("|", "bar")):
+        for separator, called in CALLED.items():
             if separator in header[0]:
                 return f"The fields of this file seem to have a {called} between them: `python3 -m smoke prepare` makes commas of them."
     if any("\x00" in field for field in header):
@@ -134,13 +135,14 @@ def nearest(name, names):
     return found[0] if found else ""
 
 
-def ragged_hint(row, before, wanted):
+def ragged_hint(row, before, wanted, separator=","):
     for fields in (row, before or ()):
         if any("\n" in field or "\r" in field for field in fields):
             return "A field with line ends is in it or before it: look for a quote that isn't closed."
+    sign = "comma" if separator == "," else CALLED.get(separator, separator)
     if len(row) > wanted:
-        return "Look for a comma that isn't in quotes."
-    return "Look for a comma that is missing, or for a line end that isn't in quotes."
+        return f"Look for a {sign} that isn't in quotes."
+    return f"Look for a {sign} that is missing, or for a line end that isn't in quotes."
 
 
 def int_hint(column, field):

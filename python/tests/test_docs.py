@@ -5,6 +5,7 @@ import io
 import os
 import pathlib
 import re
+import shutil
 import subprocess
 import tempfile
 import unittest
@@ -58,6 +59,28 @@ class Pages(unittest.TestCase):
                 self.assertEqual((after, done.stdout), ("text", wanted), body)
                 count += 1
         self.assertGreaterEqual(count, 4)
+
+
+class Programs(unittest.TestCase):
+    """The tutorial's blocks that start the two programs in a folder of an example."""
+
+    def test_programs(self):
+        for name in ("smoke", "smoke_live"):
+            running.need(name)
+        found = [body for kind, body in blocks("docs/TUTORIAL.md") if kind == "sh" and "../../bin/" in body]
+        said = (archives.EXAMPLES / "bikes" / "talk.txt").read_text().splitlines(True)
+        heard = "".join(line[2:] for line in said if line.startswith("> "))
+        wanted = [((archives.EXAMPLES / "audit" / "report.txt").read_text(), 0), ("".join(line for line in said if not line.startswith("> ")), 1)]
+        self.assertEqual(len(found), len(wanted))
+        with tempfile.TemporaryDirectory(prefix="smoke-") as folder:
+            shutil.copytree(archives.EXAMPLES, os.path.join(folder, "examples"))
+            os.mkdir(os.path.join(folder, "bin"))
+            for name in ("smoke", "smoke_live"):
+                os.symlink(program.find(name), os.path.join(folder, "bin", name))
+            for body, (text, status) in zip(found, wanted):
+                with self.subTest(body=body):
+                    done = subprocess.run(["bash", "-ec", body], cwd=folder, input=heard, capture_output=True, text=True)
+                    self.assertEqual((done.stdout, done.stderr, done.returncode), (text, "", status))
 
 
 # Of each command of a recipe: the file that it is given, and the one that it makes.

@@ -49,6 +49,27 @@ class Prepared(unittest.TestCase):
         rows, _ = self.ready("a,b\nx,1\nTotal,1\ny,2\n", leave_out=["a=Total", "b=2"])
         self.assertEqual(rows, [["a", "b"], ["x", "1"]])
 
+    def test_spaces_around_fields_are_told(self):
+        rows, done = self.ready("town,n\nBonn,1\nBonn , 2\n")
+        self.assertEqual(rows[2], ["Bonn ", "2"])
+        self.assertEqual(done.did, ["town: kept spaces around fields, by which they differ: --trim drops them"])
+        rows, done = self.ready("town,n\nBonn,1\nBonn , 2\n", trim=True)
+        self.assertEqual((rows[2], done.did), (["Bonn", "2"], []))
+
+    def test_titles_above_the_header(self):
+        """They are left out where the first record of names tells which lines they are, and else the file is refused as before."""
+        rows = "Ort;Betrag;Tag;Art\nBonn;1,50;03.03.2026;\n;2,00;14.03.2026;bar\n"
+        for titles, count in (("Sales 2026;;;\n", 1), ("\nSales 2026\n\nfrom;2026\n;;;\n", 5)):
+            found, done = self.ready(titles + rows)
+            self.assertEqual(found, [["Ort", "Betrag", "Tag", "Art"], ["Bonn", "150", "20260303", ""], ["", "200", "20260314", "bar"]])
+            self.assertIn(f"left out {count} line", "\n".join(done.did))
+        for text in ("a\n1,2\n3,4\n", "a;b\n1;2;3\n4;5;6\n", "Sales\n1,2,3\n4,5,6\n", "Sales\na,b,a\n4,5,6\n"):
+            with self.subTest(text=text), self.assertRaises(TableError) as fault:
+                self.ready(text)
+            self.assertIn("--skip", str(fault.exception))
+        self.assertEqual(self.ready("a,,\n1,,\n")[0], [["a"], ["1"]])
+        self.assertEqual(self.ready("\n\na,b\n1,2\n")[1].did, [])
+
     def test_separators(self):
         for separator in ",;\t|":
             rows, done = self.ready(separator.join("abc") + "\n" + separator.join(["1", "x y", "3"]) + "\n")

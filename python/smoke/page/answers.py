@@ -23,10 +23,10 @@ class Wrong(SmokeError):
 
 
 class Answers:
-    """The answers over one engine."""
+    """The answers over one engine. `gaps` says that the book was found in a file, where a default of ints stands for empty fields alone."""
 
-    def __init__(self, engine, title):
-        self.engine, self.title = engine, title
+    def __init__(self, engine, title, gaps=False):
+        self.engine, self.title, self.gaps = engine, title, gaps
         self.charts, self._starts = {}, 0
         engine.ask(self._renew)
 
@@ -36,7 +36,7 @@ class Answers:
         if self._starts == engine.starts:
             return
         engine.bring({})
-        self.shown = shown.of_tables(session.catalog, session.folder)
+        self.shown = shown.of_tables(session.catalog, session.folder, self.gaps)
         backs = [*((back.view, back.table) for back in schema.backs), *((link.view, link.table) for link in schema.links)]
         self.backs = {view: list(dict.fromkeys(table for of, table in backs if of == view)) for view in schema.views}
         forwards = [*((forward.table, forward.view) for forward in schema.fwds), *((link.table, view) for link in schema.links for view in link.to)]

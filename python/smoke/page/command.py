@@ -8,7 +8,7 @@ import sys
 import tempfile
 import threading
 
-from smoke import books, prepare, program
+from smoke import books, prepare, program, wishes
 from smoke.faults import FileError, SmokeError, harmless
 from smoke.page.answers import Answers
 from smoke.page.engine import Engine
@@ -30,6 +30,7 @@ def add_words(commands):
     command.add_argument("--folder", help="from which the tables' files are looked up; without it, the book's")
     command.add_argument("--on", metavar="postgresql://..", help="ask a database in which the book is loaded; its answers aren't proved")
     command.add_argument("--schema", default="smoke", metavar="NAME", help="the schema of that database, smoke without it")
+    wishes.add_words(command.add_argument_group("how a CSV file is made ready"))
     command.set_defaults(work=page)
 
 
@@ -44,18 +45,19 @@ def page(words):
     threading.Thread(target=server.serve_forever, daemon=True).start()
     engine, made = None, tempfile.TemporaryDirectory(prefix="smoke-")
     try:
-        server.loading = "building the program"
-        path = None if words.on else built()
         file = pathlib.Path(words.file or BIKES).absolute()
         server.loading = f"reading {file.name}"
         book, folder = book_of(words, made.name)
+        server.loading = "building the program"
+        path = None if words.on else built()
+        server.loading = f"reading {file.name}"
         title = file.parent.name if file.name == "book.smk" else file.name
         if words.on:
             engine = Engine(lambda: connect(words.on, folder, read_only=True, timeout=TIMEOUT, book=book, schema=words.schema))
             title += ", answered by a database, not proved"
         else:
             engine = Engine(lambda: connect(book, folder, workers=min(4, os.cpu_count() or 1), read_only=True, program=path))
-        server.answers = Answers(engine, title)
+        server.answers = Answers(engine, title, gaps=bool(words.file) and not words.file.endswith(".smk"))
         threading.Event().wait()
     except KeyboardInterrupt:
         return 0
@@ -83,14 +85,14 @@ def built():
 
 def book_of(words, made):
     """The book to show, a path or a books.Book, and the folder of its tables' files. `made` is a folder for files that are made."""
-    if words.file is None:
-        return BIKES, None
-    if words.file.endswith(".smk"):
-        return words.file, words.folder
+    if words.file is None or words.file.endswith(".smk"):
+        if wishes.are_there(words):
+            raise wishes.Wrong("a book is shown as it is: these words are for a CSV file")
+        return words.file or BIKES, words.file and words.folder
     kept = words.keep if words.keep not in (None, "-") else None
     source = pathlib.Path(words.file).absolute()
-    found, path = found_for(source, pathlib.Path(prepare.beside(source) if kept else os.path.join(made, source.name)),
-                            lambda path: os.path.relpath(path, pathlib.Path(kept).absolute().parent) if kept else path.name)
+    target = pathlib.Path(prepare.beside(source) if kept else os.path.join(made, source.name))
+    found, path = found_for(source, target, lambda path: os.path.relpath(path, pathlib.Path(kept).absolute().parent) if kept else path.name, words)
     if kept:
         found.save(kept)
         print(f"{kept} is the book", flush=True)
@@ -100,27 +102,31 @@ def book_of(words, made):
     return found, str(path.parent)
 
 
-def found_for(source, target, shown):
-    """A Book for a CSV file, and the file that it is over: the source, or the target that is made of it, where it is small or can't be read as it
-    is. `shown` gives a file's name in the book."""
+def found_for(source, target, shown, words):
+    """A Book for a CSV file, and the file that it is over: the source, or the target that is made of it, where something is asked for, or it is
+    small or can't be read as it is. `shown` gives a file's name in the book."""
     try:
         is_large = source.stat().st_size > READY
     except OSError as fault:
         raise FileError(str(source), fault.strerror) from None
-    if is_large:
+    asked = wishes.are_there(words)
+    if is_large and not asked:
         with contextlib.suppress(SmokeError):
             return books.found_in(str(source), shown=shown(source)), source
-    path = ready(source, target)
+    try:
+        path = ready(source, target, asked, wishes.of(words))
+    except SmokeError:
+        if not asked:
+            with contextlib.suppress(SmokeError):
+                return books.found_in(str(source), shown=shown(source)), source
+        raise
     return books.found_in(str(path), shown=shown(path)), path
 
 
-def ready(source, target):
-    """The file to read: the source, or the target, which is made of it where that changes something. What is done is printed."""
-    try:
-        done = prepare.prepare(str(source), str(target))
-    except SmokeError:
-        return source  # what is wrong with it is told where it is looked at
-    if not done.did:
+def ready(source, target, asked, wanted):
+    """The file to read: the source, or the target, which is made of it where that is asked or changes something. What is done is printed."""
+    done = prepare.prepare(str(source), str(target), **wanted)
+    if not done.did and not asked:
         for path in (target, target.with_name(target.name + ".json")):
             path.unlink()
         return source

@@ -12,17 +12,20 @@ MOST_SCALE = 18
 @dataclass(frozen=True)
 class Shown:
     """How a column is written: `scale` is the number of decimal places in its ints, `unit` a text, `day` whether its ints are days such as
-    20261031, and `width` that of its bins, or None."""
+    20261031, and `width` that of its bins, or None; `gap` is the int that stands for an empty field, or None."""
 
     scale: int = 0
     unit: str = ""
     day: bool = False
     width: int | None = None
+    gap: int | None = None
 
     def text(self, value):
         """The text of an int or a str."""
         if isinstance(value, str):
             return value
+        if value == self.gap:
+            return ""
         if self.width is None:
             return self._day(value) if self.day else scaled(value, self.scale)
         low = value * self.width
@@ -53,12 +56,13 @@ def grouped(text):
     return (f"{int(whole):,}" if len(whole.lstrip("-")) > 4 else whole) + point + places
 
 
-def of_tables(catalog, folder):
-    """How each column of each table is written: a dict of dicts of Shown."""
+def of_tables(catalog, folder, gaps=False):
+    """How each column of each table is written: a dict of dicts of Shown. `gaps` says that a default of ints stands for empty fields alone."""
     made = {}
     for table in catalog.tables.values():
         notes = notes_beside(os.path.join(folder, table.file))
-        made[table.name] = {column.name: shown_by(notes.get(column.name)) if column.kind == "int" else PLAIN for column in table.columns}
+        made[table.name] = {column.name: replace(shown_by(notes.get(column.name)), gap=column.default if gaps else None)
+                            if column.kind == "int" else PLAIN for column in table.columns}
     return made
 
 
@@ -98,7 +102,7 @@ def of_steps(columns, steps):
 
 def of_step(step, before):
     if step.kind in ("project", "distinct"):
-        return {item.name.name: replace(before[item.column.name], width=item.width) if item.width else before[item.column.name]
+        return {item.name.name: replace(before[item.column.name], width=item.width, gap=None) if item.width else before[item.column.name]
                 for item in step.items}
     if step.kind == "group":
         return {key.name: before[key.name] for key in step.keys} | {
@@ -109,7 +113,7 @@ def of_step(step, before):
 def of_aggregate(aggregate, before):
     if aggregate.what == "count":
         return PLAIN
-    column = before[aggregate.column.name]
+    column = replace(before[aggregate.column.name], gap=None)
     if aggregate.what == "sum":
         return PLAIN if column.width or column.day else column
     return column

@@ -552,6 +552,39 @@ class Starts(unittest.TestCase):
             with Server("kept.smk", folder=folder.path) as server:
                 self.assertEqual(server.ask("/start")[1]["tables"][0]["rows"], "3")
 
+    def test_a_file_as_it_is_asked_for(self):
+        """The page takes the words of `prepare`, and with a book none of them."""
+        with Folder(sales_csv="Sales 2026;;\nOrt;Betrag;Art\nBonn;1,50;bar\nAachen;2;\nSumme;3,50;\n") as folder:
+            for words, rows in (((), 3), (("--leave-out", "totals"), 2), (("--leave-out", "totals", "--columns", "Betrag"), 2)):
+                with Server("sales.csv", *words, folder=folder.path) as server:
+                    told = server.ask("/start")[1]
+                    self.assertEqual(told["tables"][0]["rows"], str(rows))
+                    self.assertEqual("by_ort" in [chart["view"] for chart in told["charts"]], "--columns" not in words)
+            for words, part in ((("sales.csv", "--columns", "Preis"), "Preis"), (("--trim",), "book"), (("book.smk", "--pad"), "book")):
+                server = Server(*words, folder=folder.path)
+                self.assertIn(server.process.wait(LIMIT), (1, 2))
+                self.assertIn(part, server.close()[1])
+
+    def test_an_empty_field_is_shown_as_one(self):
+        """Of a CSV file, also in a column of ints, but not what steps make of its default. A book's own default is shown as it is."""
+        book = 'table t from "t.csv" (a int default 0)\nview g = scan t | group a {n = count}\nlineage back g to t\n'
+        with Folder(sales_csv="town,discount\nBonn,2.5\nBonn,\nAachen,5.0\n", book_smk=book, t_csv="a,b\n,1\n") as folder:
+            for words, table, rows in ((("sales.csv",), "sales", [["Bonn", "2.5"], ["Bonn", ""], ["Aachen", "5.0"]]), (("book.smk",), "t", [["0"]])):
+                with Server(*words, folder=folder.path) as server:
+                    data = server.ask("/start")[1]["data"]
+                    records = server.ask("/records", data=data, brushes={}, of={"table": table})[1]
+                    self.assertEqual(records["rows"], rows)
+                    if table == "sales":
+                        steps = "group {least = min discount, total = sum discount}"
+                        asked = server.ask("/records", data=data, brushes={}, of={"table": table}, steps=steps)[1]
+                        self.assertEqual(asked["rows"], [["-0.1", "7.4"]])
+
+    def test_a_file_is_looked_at_before_the_program_is_built(self):
+        with Folder() as folder:
+            server = Server("none.csv", folder=folder.path, programs=folder.path)
+            self.assertEqual(server.process.wait(LIMIT), 1)
+            self.assertIn("none.csv", server.close()[1])
+
     def test_faults_are_told_and_no_traceback(self):
         with Folder(book_smk='table t from "t.csv" (k text)\nview g = scan t | group j {n = count}\n', t_csv="k\na\n", empty_csv="",
                     lone_smk='table t from "none.csv" (k text)\n') as folder:
