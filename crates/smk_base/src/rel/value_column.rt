@@ -489,11 +489,8 @@ fn wide_bins(alloc: Global, ints: &[i128], width: i64) -> Result<Vec<i128>, Allo
     requires { pos 1 ≤ℤ width }
     ensures { IfOk result (λ made. made.items ≡ map (λ n. int_div_euclid n width) ints.now) }
 {
-    let mut made = Vec::with_capacity(alloc, ints.len())?;
-    for number in ints {
-        made.push_reserved(number.div_euclid(width as i128));
-    }
-    Ok(made)
+    let width = width as i128;
+    ints.iter().map(|n| n.div_euclid(width)).collect(alloc)
 }
 
 // The items at these places, in this order.
