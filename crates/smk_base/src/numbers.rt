@@ -9,11 +9,7 @@ use std::alloc::{AllocError, Global};
 pub fn numbers_below(alloc: Global, bound: u32) -> Result<Vec<u32>, AllocError>
     ensures { IfOk result (λ numbers. numbers.items ≡ upto bound) }
 {
-    let mut numbers = Vec::with_capacity(alloc, bound as usize)?;
-    for i in 0..bound {
-        numbers.push_reserved(i);
-    }
-    Ok(numbers)
+    (0..bound).collect(alloc)
 }
 
 /// The numbers at these places.
